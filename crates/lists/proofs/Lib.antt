@@ -1,0 +1,4 @@
+pub mod TestLaws
+pub mod AnyLaws
+pub mod AnyOrder
+pub mod EntryLaws

@@ -1,0 +1,11 @@
+-- Lists, for contracts and proofs: searches by a test, and entries of a flat list.
+--
+-- A test is a function to Bool, so that definitions compute. A search is the disjunction of the tests in list order. Every scan of the
+-- router is one of the two searches below, so the laws of a scan (../proofs/AnyLaws.antt) are proved once.
+-- A list of places, macros or edges is handed over flat, some numbers an entry; how entries follow each other in it is proved once too,
+-- for every width (../proofs/EntryLaws.antt).
+--
+--   any f xs        some entry of xs passes f
+--   anyTwo f xs     two entries at different positions pass f, the earlier one as its first argument
+--   NoTwo f xs      no entry passes f together with one after it, in words
+pub mod Any

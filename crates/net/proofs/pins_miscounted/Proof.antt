@@ -1,0 +1,15 @@
+use Rattle.net.proofs.pins_miscounted.Statement.{statement}
+use Rattle.net.proofs.pins_miscounted.Tie as tie
+use Rattle.net.proofs.pins_miscounted.Reads as reads
+use Rattle.net.proofs.pins_miscounted.Lts as lts
+
+-- src/lib.rt:52:1
+returns : tie.Need-returns
+returns c = ?
+
+-- src/lib.rt:52:1
+returns-2 : tie.Need-returns-2
+returns-2 c = ?
+
+pub pins-miscounted-spec : {M : Type 1} → statement M
+pins-miscounted-spec = tie.close (tie.spec returns returns-2)

@@ -1,0 +1,23 @@
+-- Answers in document 01's terms.
+use Prim.Native.Nat.{ℕ}
+use Rattle.net.specs.declared.Refusal.{Refusal}
+use Rattle.net.specs.declared.Refusal.the-variants.{Blocks, Sums, Layout, PinList, MacroList, Range, Sides, SamePlace, Overlap, PinInside, Space}
+
+-- "A refusal is its number alone"; otherwise the answer has a value.
+pub data Told (A : Type 0) : Type 0 where
+  refused : ℕ → Told A
+  given : A → Told A
+
+-- the document's number of each refusal
+unfoldable pub number : Refusal → ℕ
+number Blocks = 1
+number Sums = 2
+number Layout = 3
+number PinList = 11
+number MacroList = 12
+number Range = 13
+number Sides = 14
+number SamePlace = 15
+number Overlap = 16
+number PinInside = 17
+number Space = 21

@@ -1,0 +1,16 @@
+-- The net: its bounds, its check, and what "allowed" means.
+--
+-- Definitions speak document 01's numbers; the code speaks enums, and `number` and `told` translate. A check goes through its tests in
+-- the document's order, each over the whole net.
+--
+--   Bounds     pinBound, macroBound, coordinateBound     64, 64 and 1,000,000
+--   Answer     Told A                                    an answer in the document's terms: refused with a number, or given a value
+--              number f                                  the document's number of a refusal
+--   Check      pinsMiscounted .. pinInside               the tests, 11 to 17
+--              checked pins macros                       the first number that applies, or m and k
+--              told r                                    what the code's answer says
+--   Allowed    Allowed ps ms                             an allowed net in words, for the theory above
+pub mod Bounds
+pub mod Answer
+pub mod Check
+pub mod WorkedNets

@@ -1,0 +1,204 @@
+// The net: its bounds and its check.
+use plane::Macro;
+use plane::Place;
+ghost use mathlib.Core.Path.{_≡_};
+ghost use mathlib.Core.Bool.{_||_};
+ghost use Prim.Native.Nat.{_+_, _*_, _≤_};
+ghost use lib.ListN.{length, drop};
+ghost use Rattle.lists.specs.Any.{any, anyTwo};
+ghost use Rattle.plane.specs.Place.{samePlace};
+ghost use Rattle.plane.specs.Macro.{interiorsMeet};
+ghost use Rattle.plane.specs.Flat.{placesOf, macrosOf, placeAt};
+ghost use Rattle.net.specs.Check.{
+    pinsMiscounted, macrosMiscounted, outOfRange, notUpright, insideAny, checked, told,
+};
+
+// A net by its numbers of pins and of macros. Its bounds are named here.
+pub struct Net {
+    pub pins: usize,
+    pub macros: usize,
+}
+
+impl Net {
+    pub const PINS: usize = 64;
+
+    pub const MACROS: usize = 64;
+
+    // A coordinate lies between this and its negative.
+    pub const COORDINATE: i32 = 1000000;
+}
+
+// Why an operation refuses; `number` in specs/Answer.antt has document 01's number of each.
+pub enum Refusal {
+    Blocks,
+    Sums,
+    Layout,
+    PinList,
+    MacroList,
+    Range,
+    Sides,
+    SamePlace,
+    Overlap,
+    PinInside,
+    Space,
+}
+
+// The answer of the check.
+pub enum Checked {
+    Allowed(Net),
+    Refused(Refusal),
+}
+
+fn pins_miscounted(pins: &[i32]) -> bool
+    ensures { λ r. ⌜ r ≡ pinsMiscounted (now (pins .entry)) ⌝ }
+{
+    let m = pins.len() / 2;
+    pins.len() % 2 != 0 || m == 0 || Net::PINS < m
+}
+
+fn macros_miscounted(macros: &[i32]) -> bool
+    ensures { λ r. ⌜ r ≡ macrosMiscounted (now (macros .entry)) ⌝ }
+{
+    let k = macros.len() / 4;
+    macros.len() % 4 != 0 || Net::MACROS < k
+}
+
+fn is_out_of_range(z: i32) -> bool
+    ensures { λ r. ⌜ r ≡ outOfRange z ⌝ }
+{
+    z < -Net::COORDINATE || Net::COORDINATE < z
+}
+
+fn any_out_of_range(numbers: &[i32]) -> bool
+    ensures { λ r. ⌜ r ≡ any outOfRange (now (numbers .entry)) ⌝ }
+{
+    let mut i = 0;
+    while i < numbers.len() {
+        if is_out_of_range(numbers[i]) {
+            return true;
+        }
+        i += 1;
+    }
+    false
+}
+
+fn is_not_upright(m: Macro) -> bool
+    ensures { λ r. ⌜ r ≡ notUpright m ⌝ }
+{
+    m.right <= m.left || m.top <= m.bottom
+}
+
+fn any_not_upright(macros: &[i32]) -> bool
+    ensures { λ r. ⌜ r ≡ any notUpright (macrosOf (now (macros .entry))) ⌝ }
+{
+    let k = macros.len() / 4;
+    let mut i = 0;
+    while i < k {
+        if is_not_upright(plane::macro_at(macros, i)) {
+            return true;
+        }
+        i += 1;
+    }
+    false
+}
+
+// Whether p is among the pins from the one numbered `from` on.
+fn is_among(p: Place, pins: &[i32], from: usize) -> bool
+    ensures { λ r. ⌜ r ≡ any (samePlace p) (drop from (placesOf (now (pins .entry)))) ⌝ }
+{
+    let m = pins.len() / 2;
+    let mut j = from;
+    while j < m {
+        if plane::is_same_place(p, plane::place_at(pins, j)) {
+            return true;
+        }
+        j += 1;
+    }
+    false
+}
+
+fn any_same_place(pins: &[i32]) -> bool
+    ensures { λ r. ⌜ r ≡ anyTwo samePlace (placesOf (now (pins .entry))) ⌝ }
+{
+    let m = pins.len() / 2;
+    let mut i = 0;
+    while i < m {
+        if is_among(plane::place_at(pins, i), pins, i + 1) {
+            return true;
+        }
+        i += 1;
+    }
+    false
+}
+
+// Whether two macros' interiors meet. The search for an overlap ends at the first pair found.
+fn any_overlap(macros: &[i32]) -> bool
+    ensures { λ r. ⌜ r ≡ anyTwo interiorsMeet (macrosOf (now (macros .entry))) ⌝ }
+{
+    let k = macros.len() / 4;
+    let mut found = false;
+    let mut i = 0;
+    'search: while i < k {
+        let m = plane::macro_at(macros, i);
+        let mut j = i + 1;
+        while j < k {
+            if plane::interiors_meet(m, plane::macro_at(macros, j)) {
+                found = true;
+                break 'search;
+            }
+            j += 1;
+        }
+        i += 1;
+    }
+    found
+}
+
+// Whether a pin lies in an interior: the box of a pin and itself meets it.
+fn any_pin_inside(pins: &[i32], macros: &[i32]) -> bool
+    ensures { λ r. ⌜ r ≡ any (insideAny (macrosOf (now (macros .entry)))) (placesOf (now (pins .entry))) ⌝ }
+{
+    let m = pins.len() / 2;
+    let mut i = 0;
+    while i < m {
+        let p = plane::place_at(pins, i);
+        if !plane::is_clear(p, p, macros) {
+            return true;
+        }
+        i += 1;
+    }
+    false
+}
+
+// Check a net: the first refusal that applies, each test over the whole net before the next begins.
+pub fn check(pins: &[i32], macros: &[i32]) -> Checked
+    ensures { λ r. ⌜ told r ≡ checked (now (pins .entry)) (now (macros .entry)) ⌝ }
+{
+    if pins_miscounted(pins) {
+        return Checked::Refused(Refusal::PinList);
+    }
+    if macros_miscounted(macros) {
+        return Checked::Refused(Refusal::MacroList);
+    }
+    if any_out_of_range(pins) {
+        return Checked::Refused(Refusal::Range);
+    }
+    if any_out_of_range(macros) {
+        return Checked::Refused(Refusal::Range);
+    }
+    if any_not_upright(macros) {
+        return Checked::Refused(Refusal::Sides);
+    }
+    if any_same_place(pins) {
+        return Checked::Refused(Refusal::SamePlace);
+    }
+    if any_overlap(macros) {
+        return Checked::Refused(Refusal::Overlap);
+    }
+    if any_pin_inside(pins, macros) {
+        return Checked::Refused(Refusal::PinInside);
+    }
+    Checked::Allowed(Net {
+        pins: pins.len() / 2,
+        macros: macros.len() / 4,
+    })
+}

@@ -1,0 +1,4 @@
+pub mod Fits
+pub mod DistanceLaws
+pub mod FlatLaws
+pub mod MacroLaws

@@ -1,0 +1,48 @@
+-- `plane::box_meets` meets its contract. Assumes nothing.
+use borrow.Author.Needs.{needs}
+use mathlib.Core.Path.{_≡_, refl, _∙_, subst, sym}
+use mathlib.Core.Bool.{true, false}
+use lib.IntN.{ℤ}
+use mir.Syntax.{w32}
+use mir.Val.{SFits}
+use mir.ValLaws.{toZ-ofZ}
+use Rattle.plane.specs.Macro.{spanMeets, meets}
+use Rattle.plane.proofs.box_meets.Statement.{statement}
+use Rattle.plane.proofs.box_meets.Tie as tie
+
+span-meets-requires : tie.Need-span-meets-requires
+span-meets-requires c κs = search needs
+
+span-meets-requires-2 : tie.Need-span-meets-requires-2
+span-meets-requires-2 c κs = search needs
+
+-- every field fits an i32
+module _ (s : tie.Start) where
+  of-a : SFits w32 (s .args .a .x) × SFits w32 (s .args .a .y)
+  of-a = (search needs, search needs)
+
+  of-b : SFits w32 (s .args .b .x) × SFits w32 (s .args .b .y)
+  of-b = (search needs, search needs)
+
+  of-m : (SFits w32 (s .args .m .left) × SFits w32 (s .args .m .right)) × (SFits w32 (s .args .m .bottom) × SFits w32 (s .args .m .top))
+  of-m = ((search needs, search needs), (search needs, search needs))
+
+across : (c : tie.After-span-meets) → c .span-meets .result ≡ spanMeets (c .before .before .before .before .before .args .a .x) (c .before .before .before .before .before .args .b .x) (c .before .before .before .before .before .args .m .left) (c .before .before .before .before .before .args .m .right)
+across c =
+    let s = c .before .before .before .before .before in
+    rw (toZ-ofZ w32 _ (of-a s .0), toZ-ofZ w32 _ (of-b s .0), toZ-ofZ w32 _ (of-m s .0 .0), toZ-ofZ w32 _ (of-m s .0 .1)) at (c .span-meets .ensures)
+
+returns : tie.Need-returns
+unfolding meets
+returns c =
+    let d = c .before .before .before .before .before .before in
+    let s = d .before .before .before .before .before in
+    let u : c .span-meets2 .result ≡ spanMeets (s .args .a .y) (s .args .b .y) (s .args .m .bottom) (s .args .m .top) = rw (toZ-ofZ w32 _ (of-a s .1), toZ-ofZ w32 _ (of-b s .1), toZ-ofZ w32 _ (of-m s .1 .0), toZ-ofZ w32 _ (of-m s .1 .1)) at (c .span-meets2 .ensures) in
+    rw (← across d, c .before .before .before .before .before .if1 .taken) u
+
+returns-2 : tie.Need-returns-2
+unfolding meets
+returns-2 c = rw (← across (c .before), c .if1 .left) refl
+
+pub box-meets-spec : {M : Type 1} → statement M
+box-meets-spec = tie.close (tie.spec span-meets-requires span-meets-requires-2 returns returns-2)

@@ -1,0 +1,46 @@
+-- Places and macros in flat lists of numbers: two numbers a place, four a macro.
+use mathlib.Core.List.{List, [], _∷_}
+use Prim.Native.Nat.{ℕ, _+_, _*_}
+use lib.IntN.{ℤ, pos}
+use lib.ListN.{getD}
+use Rattle.plane.specs.declared.Place.{Place}
+use Rattle.plane.specs.declared.Macro.{Macro}
+use Rattle.plane.specs.Place.{place}
+use Rattle.plane.specs.Macro.{macro}
+
+-- the places that a flat list holds; a number left over at its end is no place
+unfoldable pub placesOf : List ℤ → List Place
+placesOf [] = []
+placesOf (x ∷ []) = []
+placesOf (x ∷ (y ∷ rest)) = place x y ∷ placesOf rest
+
+-- the macros that a flat list holds; up to three numbers left over at its end are no macro
+unfoldable pub macrosOf : List ℤ → List Macro
+macrosOf [] = []
+macrosOf (l ∷ []) = []
+macrosOf (l ∷ (b ∷ [])) = []
+macrosOf (l ∷ (b ∷ (r ∷ []))) = []
+macrosOf (l ∷ (b ∷ (r ∷ (t ∷ rest)))) = macro l b r t ∷ macrosOf rest
+
+-- the place that begins at the number k of a flat list, and the i-th place
+abbrev pub placeFrom : List ℤ → ℕ → Place
+placeFrom s k = place (getD s k (pos 0)) (getD s (k + 1) (pos 0))
+
+abbrev pub placeAt : List ℤ → ℕ → Place
+placeAt s i = placeFrom s (i * 2)
+
+-- the macro that begins at the number k of a flat list, and the i-th macro
+abbrev pub macroFrom : List ℤ → ℕ → Macro
+macroFrom s k = macro (getD s k (pos 0)) (getD s (k + 1) (pos 0)) (getD s (k + 2) (pos 0)) (getD s (k + 3) (pos 0))
+
+abbrev pub macroAt : List ℤ → ℕ → Macro
+macroAt s i = macroFrom s (i * 4)
+
+-- entries as a flat list
+unfoldable pub flatPlaces : List Place → List ℤ
+flatPlaces [] = []
+flatPlaces (p ∷ ps) = p .x ∷ (p .y ∷ flatPlaces ps)
+
+unfoldable pub flatMacros : List Macro → List ℤ
+flatMacros [] = []
+flatMacros (m ∷ ms) = m .left ∷ (m .bottom ∷ (m .right ∷ (m .top ∷ flatMacros ms)))

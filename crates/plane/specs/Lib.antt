@@ -1,0 +1,18 @@
+-- The plane: places, macros, and what is clear.
+--
+-- A place and a macro are the code's own structs, so that code and definition share one type; their coordinates are whole numbers.
+-- Every definition is a test or a number that computes. Lengths are naturals: a distance is never negative.
+--
+--   Place      place x y           before a b, samePlace a b     the order of places, and equality as a test
+--   Distance   apart a b           distance a b                  how far two numbers and two places lie apart
+--   Middle     middle a b c        middlePlace a b u             the middle of three numbers, and of three places by axis
+--   Macro      macro l b r t       inside p m                    a place in a macro's interior
+--              meets a b m         interiorsMeet m n             a closed box, or another interior, meets a macro's interior
+--              clear a b ms                                      the box of two places meets no interior of ms
+--   Flat       placesOf, macrosOf  placeAt, macroAt              the entries that a flat list holds, all of them and the i-th
+--              flatPlaces, flatMacros                            entries as a flat list
+pub mod Place
+pub mod Distance
+pub mod Middle
+pub mod Macro
+pub mod Flat

@@ -1,0 +1,171 @@
+// The plane: places, macros and what is clear.
+//
+// Coordinates are i32 and any value is taken; differences and sums of them are worked out in 64 bits, where none can overflow.
+ghost use mathlib.Core.Path.{_≡_};
+ghost use Prim.Native.Nat.{_+_, _*_, _≤_, _^_, _<_};
+ghost use lib.IntN.{pos, _-ℤ_, natAbs};
+ghost use lib.ListN.{length, set};
+ghost use Rattle.plane.specs.Place.{before, samePlace};
+ghost use Rattle.plane.specs.Distance.{apart, distance};
+ghost use Rattle.plane.specs.Middle.{middle, middlePlace};
+ghost use Rattle.plane.specs.Macro.{spanMeets, meets, openSpansMeet, interiorsMeet, clear};
+ghost use Rattle.plane.specs.Flat.{macrosOf, macroAt, placeAt};
+ghost use Rattle.signed.specs.Order.{minZ, maxZ};
+ghost use Rattle.signed.specs.Sides.{down};
+
+// A place of the plane.
+pub struct Place {
+    pub x: i32,
+    pub y: i32,
+}
+
+// An upright rectangle.
+pub struct Macro {
+    pub left: i32,
+    pub bottom: i32,
+    pub right: i32,
+    pub top: i32,
+}
+
+fn smaller(a: i32, b: i32) -> i32
+    ensures { λ r. ⌜ r ≡ minZ a b ⌝ }
+{
+    if a <= b { a } else { b }
+}
+
+fn greater(a: i32, b: i32) -> i32
+    ensures { λ r. ⌜ r ≡ maxZ a b ⌝ }
+{
+    if a <= b { b } else { a }
+}
+
+fn difference(a: i32, b: i32) -> i64
+    ensures { λ r. ⌜ r ≡ a -ℤ b ⌝ }
+{
+    a as i64 - b as i64
+}
+
+fn absolute(d: i64) -> i64
+    requires { ⌜ down d < 2 ^ 63 ⌝ }
+    ensures { λ r. ⌜ r ≡ pos (natAbs d) ⌝ }
+{
+    if d < 0 { -d } else { d }
+}
+
+// How far a and b lie apart.
+fn gap(a: i32, b: i32) -> i64
+    ensures { λ r. ⌜ r ≡ pos (apart a b) ⌝ }
+{
+    absolute(difference(a, b))
+}
+
+fn median(a: i32, b: i32, c: i32) -> i32
+    ensures { λ r. ⌜ r ≡ middle a b c ⌝ }
+{
+    greater(smaller(a, b), smaller(greater(a, b), c))
+}
+
+// The order of places: by x, then by y.
+pub fn is_before(a: Place, b: Place) -> bool
+    ensures { λ r. ⌜ r ≡ before a b ⌝ }
+{
+    if a.x < b.x {
+        return true;
+    }
+    if b.x < a.x {
+        return false;
+    }
+    a.y < b.y
+}
+
+pub fn is_same_place(a: Place, b: Place) -> bool
+    ensures { λ r. ⌜ r ≡ samePlace a b ⌝ }
+{
+    a.x == b.x && a.y == b.y
+}
+
+pub fn distance(a: Place, b: Place) -> i64
+    ensures { λ r. ⌜ r ≡ pos (distance a b) ⌝ }
+{
+    gap(a.x, b.x) + gap(a.y, b.y)
+}
+
+// The place in the middle of three, axis by axis.
+pub fn middle_place(a: Place, b: Place, u: Place) -> Place
+    ensures { λ r. ⌜ r ≡ middlePlace a b u ⌝ }
+{
+    Place {
+        x: median(a.x, b.x, u.x),
+        y: median(a.y, b.y, u.y),
+    }
+}
+
+// The closed span of a and b meets the open one between from and to.
+fn span_meets(a: i32, b: i32, from: i32, to: i32) -> bool
+    ensures { λ r. ⌜ r ≡ spanMeets a b from to ⌝ }
+{
+    smaller(a, b) < to && from < greater(a, b)
+}
+
+// The closed box of a and b meets the interior of m.
+pub fn box_meets(a: Place, b: Place, m: Macro) -> bool
+    ensures { λ r. ⌜ r ≡ meets a b m ⌝ }
+{
+    span_meets(a.x, b.x, m.left, m.right) && span_meets(a.y, b.y, m.bottom, m.top)
+}
+
+// The open spans from a to b and from c to d meet.
+fn open_spans_meet(a: i32, b: i32, c: i32, d: i32) -> bool
+    ensures { λ r. ⌜ r ≡ openSpansMeet a b c d ⌝ }
+{
+    greater(a, c) < smaller(b, d)
+}
+
+// The interiors of m and n meet.
+pub fn interiors_meet(m: Macro, n: Macro) -> bool
+    ensures { λ r. ⌜ r ≡ interiorsMeet m n ⌝ }
+{
+    open_spans_meet(m.left, m.right, n.left, n.right)
+        && open_spans_meet(m.bottom, m.top, n.bottom, n.top)
+}
+
+// The i-th place of a flat list.
+pub fn place_at(places: &[i32], i: usize) -> Place
+    requires { ⌜ i * 2 + 2 ≤ length (now places) ⌝ }
+    ensures { λ r. ⌜ r ≡ placeAt (now (places .entry)) i ⌝ }
+{
+    let k = i * 2;
+    Place {
+        x: places[k],
+        y: places[k + 1],
+    }
+}
+
+// The i-th macro of a flat list.
+pub fn macro_at(macros: &[i32], i: usize) -> Macro
+    requires { ⌜ i * 4 + 4 ≤ length (now macros) ⌝ }
+    ensures { λ r. ⌜ r ≡ macroAt (now (macros .entry)) i ⌝ }
+{
+    let k = i * 4;
+    Macro {
+        left: macros[k],
+        bottom: macros[k + 1],
+        right: macros[k + 2],
+        top: macros[k + 3],
+    }
+}
+
+// The box of a and b meets no macro's interior.
+pub fn is_clear(a: Place, b: Place, macros: &[i32]) -> bool
+    ensures { λ r. ⌜ r ≡ clear a b (macrosOf (now (macros .entry))) ⌝ }
+{
+    let k = macros.len() / 4;
+    let mut i = 0;
+    while i < k {
+        if box_meets(a, b, macro_at(macros, i)) {
+            return false;
+        }
+        i += 1;
+    }
+    true
+}

@@ -1,0 +1,45 @@
+-- The smaller and the greater of two numbers as one equation of naturals each (`omega` splits once for each `min` and `max`, and at most
+-- six times), and equality as a test.
+-- Assumes nothing.
+use mathlib.Core.Path.{_≡_, refl, ap}
+use mathlib.Core.Bool.{Bool, true, false}
+use Prim.Native.Nat.{ℕ, _+_, min, max}
+use native.Mathlib.Omega.{arith}
+use borrow.Author.Tests.{eqb-true, eq-eqb}
+use lib.IntN.{ℤ, pos, negsuc}
+use lib.Signed.{leZ}
+use Rattle.signed.specs.Order.{eqZ, minZ, maxZ}
+use Rattle.signed.specs.Sides.{up, down}
+use Rattle.signed.proofs.SideLaws.{signed}
+
+abbrev IsMax : ℤ → ℤ → ℤ → Type 0
+IsMax a b m = up m + (down a + down b) ≡ max (up a + down b) (up b + down a) + down m
+
+abbrev IsMin : ℤ → ℤ → ℤ → Type 0
+IsMin a b m = up m + (down a + down b) ≡ min (up a + down b) (up b + down a) + down m
+
+pub max-sides : (a b : ℤ) → IsMax a b (maxZ a b)
+unfolding maxZ
+max-sides a b = at (leZ a b) refl
+  where
+    at : (t : Bool) → leZ a b ≡ t → IsMax a b (elim t [ true ↦ b | false ↦ a ])
+    at true e = omega signed
+    at false e = omega signed
+
+pub min-sides : (a b : ℤ) → IsMin a b (minZ a b)
+unfolding minZ
+min-sides a b = at (leZ a b) refl
+  where
+    at : (t : Bool) → leZ a b ≡ t → IsMin a b (elim t [ true ↦ a | false ↦ b ])
+    at true e = omega signed
+    at false e = omega signed
+
+pub eqZ-true : (a b : ℤ) → eqZ a b ≡ true → a ≡ b
+eqZ-true (pos a) (pos b) e = ap pos (eqb-true a b e)
+eqZ-true (pos a) (negsuc b) e = absurd (let z : _≡_ {A = ℕ} 0 1 = cc in let f : ⊥ = omega arith in f)
+eqZ-true (negsuc a) (pos b) e = absurd (let z : _≡_ {A = ℕ} 0 1 = cc in let f : ⊥ = omega arith in f)
+eqZ-true (negsuc a) (negsuc b) e = ap negsuc (eqb-true a b e)
+
+pub eqZ-refl : (a : ℤ) → eqZ a a ≡ true
+eqZ-refl (pos a) = eq-eqb a a refl
+eqZ-refl (negsuc a) = eq-eqb a a refl

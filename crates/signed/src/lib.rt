@@ -1,0 +1,1 @@
+// Laws by which proofs read signed numbers. There is no code here.
