@@ -1,7 +1,7 @@
 -- A scan of a list for an entry that passes a test: what is found, what is passed over, the end; and what it means that none passes.
 -- The position of a scan is the list that is left, `drop i xs`.
 -- Assumes nothing.
-use mathlib.Core.Path.{_≡_, refl, sym, ap, _∙_}
+use mathlib.Core.Path.{_≡_, refl, ap₂}
 use mathlib.Core.Bool.{Bool, true, false, _||_}
 use mathlib.Core.List.{List, [], _∷_, List·Memᴰ, List·Memᴰ·head, List·Memᴰ·tail, List·Memᴰ·cases-cons}
 use Rattle.lists.specs.Any.{any, anyTwo, NoTwo}
@@ -58,3 +58,9 @@ pub none-two : {A : Type 0} (f : A → A → Bool) (xs : List A) → NoTwo f xs 
 unfolding anyTwo
 none-two f [] h = refl
 none-two f (y ∷ ys) h = or-neither (any (f y) ys) (anyTwo f ys) (none-any (f y) ys (h .0)) (none-two f ys (h .1))
+
+-- tests that agree find the same
+pub any-agree : {A : Type 0} (f g : A → Bool) → ((x : A) → f x ≡ g x) → (xs : List A) → any f xs ≡ any g xs
+unfolding any
+any-agree f g h [] = refl
+any-agree f g h (x ∷ xs) = ap₂ _||_ (h x) (any-agree f g h xs)

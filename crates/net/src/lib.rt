@@ -53,20 +53,20 @@ fn pins_miscounted(pins: &[i32]) -> bool
     ensures { λ r. ⌜ r ≡ pinsMiscounted (now (pins .entry)) ⌝ }
 {
     let m = pins.len() / 2;
-    pins.len() % 2 != 0 || m == 0 || Net::PINS < m
+    (pins.len() % 2 != 0) | ((m == 0) | (Net::PINS < m))
 }
 
 fn macros_miscounted(macros: &[i32]) -> bool
     ensures { λ r. ⌜ r ≡ macrosMiscounted (now (macros .entry)) ⌝ }
 {
     let k = macros.len() / 4;
-    macros.len() % 4 != 0 || Net::MACROS < k
+    (macros.len() % 4 != 0) | (Net::MACROS < k)
 }
 
 fn is_out_of_range(z: i32) -> bool
     ensures { λ r. ⌜ r ≡ outOfRange z ⌝ }
 {
-    z < -Net::COORDINATE || Net::COORDINATE < z
+    (z < -Net::COORDINATE) | (Net::COORDINATE < z)
 }
 
 fn any_out_of_range(numbers: &[i32]) -> bool
@@ -85,7 +85,7 @@ fn any_out_of_range(numbers: &[i32]) -> bool
 fn is_not_upright(m: Macro) -> bool
     ensures { λ r. ⌜ r ≡ notUpright m ⌝ }
 {
-    m.right <= m.left || m.top <= m.bottom
+    !(m.left < m.right) | !(m.bottom < m.top)
 }
 
 fn any_not_upright(macros: &[i32]) -> bool

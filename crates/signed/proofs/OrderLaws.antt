@@ -43,3 +43,12 @@ eqZ-true (negsuc a) (negsuc b) e = ap negsuc (eqb-true a b e)
 pub eqZ-refl : (a : ℤ) → eqZ a a ≡ true
 eqZ-refl (pos a) = eq-eqb a a refl
 eqZ-refl (negsuc a) = eq-eqb a a refl
+
+-- of a number and itself
+pub min-self : (a : ℤ) → minZ a a ≡ a
+unfolding minZ
+min-self a = elim (leZ a a) as (λ t. elim t [ true ↦ a | false ↦ a ] ≡ a) [ true ↦ refl | false ↦ refl ]
+
+pub max-self : (a : ℤ) → maxZ a a ≡ a
+unfolding maxZ
+max-self a = elim (leZ a a) as (λ t. elim t [ true ↦ a | false ↦ a ] ≡ a) [ true ↦ refl | false ↦ refl ]

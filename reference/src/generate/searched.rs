@@ -22,17 +22,25 @@ pub fn dropped(random: &mut Random) -> Lists {
     find(random, |random| nets::tiny(random, 8), |s| s.dropped > 0)
 }
 
-/// m rounds are done and a further gain is still there: few pins among many macros.
+/// m rounds are done and a further gain is still there: ways that zigzag over many small macros
+/// gain at every bend, and there are few pins to count rounds by.
 pub fn bound_ends(random: &mut Random) -> Lists {
-    find(random, few_pins, |s| s.bound_ended)
+    find(random, few_pins_far_apart, |s| s.bound_ended)
 }
 
-fn few_pins(random: &mut Random) -> Lists {
+fn few_pins_far_apart(random: &mut Random) -> Lists {
+    let (width, height) = (random.between(1_000, 4_000), 400);
     let mut draft = Draft::default();
-    let tries = random.between(2, 5);
-    draft.pins_between(random, tries, 0, 30);
-    draft.macros_between(random, 60, (0, 30), 8);
-    draft.lists()
+    draft.pin(0, random.between(0, height));
+    draft.pin(width, random.between(0, height));
+    for _ in 0..random.between(0, 2) {
+        draft.pin(random.between(0, width), random.between(0, height));
+    }
+    for _ in 0..random.between(20, 40) {
+        let (x, y) = (random.between(0, width), random.between(0, height));
+        draft.macro_box(x, y, x + random.between(1, 3), y + random.between(1, 3));
+    }
+    draft.turned(random)
 }
 
 /// Draws nets until one is refined in the way asked for.

@@ -1,47 +1,57 @@
+-- `net::any_not_upright` meets its contract. The loop's invariant: the macros that are left decide. The measure is how many they are.
+-- Assumes nothing.
+use mathlib.Core.Path.{_≡_, refl, sym, ap, _∙_}
+use Prim.Native.Nat.{_≤_, _-_}
+use native.Mathlib.Omega.{arith}
+use lib.ListN.{drop}
+use denote.Ref.{now}
+use Rattle.lists.specs.Any.{any}
+use Rattle.lists.proofs.AnyLaws.{any-hit, any-miss, any-end}
+use Rattle.plane.specs.Flat.{macrosOf, macroAt}
+use Rattle.plane.proofs.FlatLaws.{macros-next, macros-end}
+use Rattle.net.specs.Check.{notUpright}
 use Rattle.net.proofs.any_not_upright.Statement.{statement}
 use Rattle.net.proofs.any_not_upright.Tie as tie
-use Rattle.net.proofs.any_not_upright.Reads as reads
-use Rattle.net.proofs.any_not_upright.Lts as lts
-use Rattle.net.proofs.is_not_upright.Reads as is-not-upright-reads
-use Rattle.plane.proofs.macro_at.Reads as macro-at-reads
 
 abbrev Inv-loop : tie.InvT-loop
-Inv-loop macros k i₀ i = ?
+Inv-loop macros k i₀ i = (i ≤ k) × (any notUpright (macrosOf macros) ≡ any notUpright (drop i (macrosOf macros)))
 
 abbrev μ-loop : tie.MeasureT-loop
-μ-loop macros k i₀ i = ?
+μ-loop macros k i₀ i = k - i
 
--- src/lib.rt:96:5
 loop-holds : tie.Need-loop-holds Inv-loop μ-loop
-loop-holds c = ?
+loop-holds c = (omega arith, refl)
 
--- src/lib.rt:97:27
 macro-at-requires : tie.Need-macro-at-requires Inv-loop μ-loop
-macro-at-requires c κs = ?
+macro-at-requires c κs = omega arith
 
--- src/lib.rt:97:12
 is-not-upright-requires : tie.Need-is-not-upright-requires Inv-loop μ-loop
-is-not-upright-requires c κs = ?
+is-not-upright-requires c κs = tt
 
--- src/lib.rt:98:13
+-- what the call says, of the list
+told : (c : tie.After-is-not-upright Inv-loop μ-loop) → c .is-not-upright .result ≡ notUpright (macroAt (now (c .before .before .before .before .args .macros)) (c .before .before .before .loop .i))
+told c = c .is-not-upright .ensures ∙ ap notUpright (c .before .macro-at .ensures)
+
 returns : tie.Need-returns Inv-loop μ-loop
-returns c = ?
+returns c =
+    let l = c .before .before .before .before in
+    sym (l .loop .inv .1 ∙ any-hit notUpright _ _ _ (macros-next (now (l .before .args .macros)) (l .loop .i) (omega arith)) (sym (told (c .before)) ∙ c .if1 .taken))
 
--- src/lib.rt:100:9
 add-i : tie.Need-add-i Inv-loop μ-loop
-add-i c = ?
+add-i c = omega arith
 
--- src/lib.rt:96:5
 loop-less : tie.Need-loop-less Inv-loop μ-loop
-loop-less c = ?
+loop-less c = omega arith
 
--- src/lib.rt:96:5
 loop-again : tie.Need-loop-again Inv-loop μ-loop
-loop-again c = ?
+loop-again c =
+    let l = c .before .before .before .before in
+    (omega arith, l .loop .inv .1 ∙ any-miss notUpright _ _ _ (macros-next (now (l .before .args .macros)) (l .loop .i) (omega arith)) (sym (told (c .before)) ∙ c .if1 .left))
 
--- src/lib.rt:91:1
 returns-2 : tie.Need-returns-2 Inv-loop μ-loop
-returns-2 c = ?
+returns-2 c =
+    let l = c .before in
+    sym (l .loop .inv .1 ∙ any-end notUpright _ (macros-end (now (l .before .args .macros)) (l .loop .i) (omega arith)))
 
 pub any-not-upright-spec : {M : Type 1} → statement M
 any-not-upright-spec =

@@ -1,51 +1,76 @@
+-- `net::any_out_of_range` meets its contract. The loop's invariant: the numbers that are left decide. The measure is how many they are.
+-- Assumes nothing.
+use borrow.Author.Needs.{needs}
+use mathlib.Core.Path.{_≡_, refl, sym, ap, _∙_}
+use mathlib.Core.List.{List, _∷_}
+use Prim.Native.Nat.{ℕ, _≤_, _<_, _-_, _+_}
+use native.Mathlib.Numerals.{add-one}
+use native.Mathlib.Omega.{arith}
+use lib.IntN.{ℤ, pos}
+use lib.ListN.{length, drop, getD, drop-of-length-le}
+use lib.Seq.{drop-cons}
+use denote.Ref.{now}
+use mir.Syntax.{w32}
+use mir.Val.{SFits}
+use mir.ValLaws.{toZ-ofZ}
+use Rattle.lists.specs.Any.{any}
+use Rattle.lists.proofs.AnyLaws.{any-hit, any-miss, any-end}
+use Rattle.net.specs.Check.{outOfRange}
 use Rattle.net.proofs.any_out_of_range.Statement.{statement}
 use Rattle.net.proofs.any_out_of_range.Tie as tie
-use Rattle.net.proofs.any_out_of_range.Reads as reads
-use Rattle.net.proofs.any_out_of_range.Lts as lts
-use Rattle.net.proofs.is_out_of_range.Reads as is-out-of-range-reads
 
 abbrev Inv-loop : tie.InvT-loop
-Inv-loop numbers i₀ i = ?
+Inv-loop numbers i₀ i = (i ≤ length numbers) × (any outOfRange numbers ≡ any outOfRange (drop i numbers))
 
 abbrev μ-loop : tie.MeasureT-loop
-μ-loop numbers i₀ i = ?
+μ-loop numbers i₀ i = length numbers - i
 
--- src/lib.rt:76:5
 loop-holds : tie.Need-loop-holds Inv-loop μ-loop
-loop-holds c = ?
+loop-holds c = (omega arith, refl)
 
--- src/lib.rt:77:28
 mul-is-out-of-range : tie.Need-mul-is-out-of-range Inv-loop μ-loop
-mul-is-out-of-range c = ?
+mul-is-out-of-range c = omega arith
 
--- src/lib.rt:77:28
 shared-slice-copy-out-is-out-of-range :
     tie.Need-shared-slice-copy-out-is-out-of-range Inv-loop μ-loop
-shared-slice-copy-out-is-out-of-range c = ?
+shared-slice-copy-out-is-out-of-range c = omega arith
 
--- src/lib.rt:77:12
 is-out-of-range-requires : tie.Need-is-out-of-range-requires Inv-loop μ-loop
-is-out-of-range-requires c κs = ?
+is-out-of-range-requires c κs = tt
 
--- src/lib.rt:78:13
+-- the next number of a scan
+next : (s : List ℤ) (i : ℕ) → i < length s → drop i s ≡ getD s i (pos 0) ∷ drop (i + 1) s
+next s i h = rw add-one (drop-cons s i (pos 0) h)
+
+-- what the call says, of the list
+told : (c : tie.After-is-out-of-range Inv-loop μ-loop) → c .is-out-of-range .result ≡ outOfRange (getD (now (c .before .before .before .before .args .numbers)) (c .before .before .before .loop .i) (pos 0))
+told c =
+    let n = getD (now (c .before .before .before .before .args .numbers)) (c .before .before .before .loop .i) (pos 0) in
+    let f : SFits w32 n = search needs in
+    c .is-out-of-range .ensures ∙ ap outOfRange (toZ-ofZ w32 n f)
+
 returns : tie.Need-returns Inv-loop μ-loop
-returns c = ?
+returns c =
+    let l = c .before .before .before .before in
+    sym (l .loop .inv .1 ∙ any-hit outOfRange _ _ _ (next (now (l .before .args .numbers)) (l .loop .i) (omega arith)) (sym (told (c .before)) ∙ c .if1 .taken))
 
--- src/lib.rt:80:9
 add-i : tie.Need-add-i Inv-loop μ-loop
-add-i c = ?
+add-i c = omega arith
 
--- src/lib.rt:76:5
 loop-less : tie.Need-loop-less Inv-loop μ-loop
-loop-less c = ?
+loop-less c = omega arith
 
--- src/lib.rt:76:5
 loop-again : tie.Need-loop-again Inv-loop μ-loop
-loop-again c = ?
+loop-again c =
+    let l = c .before .before .before .before in
+    (omega arith, l .loop .inv .1 ∙ any-miss outOfRange _ _ _ (next (now (l .before .args .numbers)) (l .loop .i) (omega arith)) (sym (told (c .before)) ∙ c .if1 .left))
 
--- src/lib.rt:72:1
 returns-2 : tie.Need-returns-2 Inv-loop μ-loop
-returns-2 c = ?
+returns-2 c =
+    let l = c .before in
+    let s = now (l .before .args .numbers) in
+    let e : length s ≤ l .loop .i = omega arith in
+    sym (l .loop .inv .1 ∙ any-end outOfRange _ (drop-of-length-le s e))
 
 pub any-out-of-range-spec : {M : Type 1} → statement M
 any-out-of-range-spec =

@@ -1,77 +1,95 @@
+-- `net::any_overlap` meets its contract. The outer loop's invariant: the macros from the i-th on decide. The inner loop's: those from the
+-- j-th on decide whether the i-th meets a later one.
+-- Assumes nothing.
+use mathlib.Core.Path.{_≡_, refl, sym, ap, _∙_}
+use mathlib.Core.Bool.{true, false}
+use Prim.Native.Nat.{_≤_, _-_, _+_}
+use native.Mathlib.Omega.{arith}
+use lib.ListN.{drop}
+use denote.Ref.{now}
+use Rattle.lists.specs.Any.{any, anyTwo}
+use Rattle.lists.proofs.AnyLaws.{any-hit, any-miss, any-end, two-hit, two-miss, two-end}
+use Rattle.plane.specs.declared.Macro.{Macro}
+use Rattle.plane.specs.Macro.{interiorsMeet}
+use Rattle.plane.specs.Flat.{macrosOf, macroAt}
+use Rattle.plane.proofs.FlatLaws.{macros-next, macros-end}
 use Rattle.net.proofs.any_overlap.Statement.{statement}
 use Rattle.net.proofs.any_overlap.Tie as tie
-use Rattle.net.proofs.any_overlap.Reads as reads
-use Rattle.net.proofs.any_overlap.Lts as lts
-use Rattle.plane.proofs.interiors_meet.Reads as interiors-meet-reads
-use Rattle.plane.proofs.macro_at.Reads as macro-at-reads
 
 abbrev Inv-loop : tie.InvT-loop
-Inv-loop macros k found₀ i m j₀ found j = ?
+Inv-loop macros k found₀ i m j₀ found j =
+    (j ≤ k) × (found ≡ false) × (any (interiorsMeet m) (drop (i + 1) (macrosOf macros)) ≡ any (interiorsMeet m) (drop j (macrosOf macros)))
 
 abbrev μ-loop : tie.MeasureT-loop
-μ-loop macros k found₀ i m j₀ found j = ?
+μ-loop macros k found₀ i m j₀ found j = k - j
 
 abbrev Inv-search : tie.InvT-search
-Inv-search macros k found₀ i₀ found i = ?
+Inv-search macros k found₀ i₀ found i =
+    (i ≤ k) × (found ≡ false) × (anyTwo interiorsMeet (macrosOf macros) ≡ anyTwo interiorsMeet (drop i (macrosOf macros)))
 
 abbrev μ-search : tie.MeasureT-search
-μ-search macros k found₀ i₀ found i = ?
+μ-search macros k found₀ i₀ found i = k - i
 
--- src/lib.rt:141:5
 search-holds : tie.Need-search-holds Inv-loop μ-loop Inv-search μ-search
-search-holds c = ?
+search-holds c = (omega arith, refl, refl)
 
--- src/lib.rt:142:13
 macro-at-requires : tie.Need-macro-at-requires Inv-loop μ-loop Inv-search μ-search
-macro-at-requires c κs = ?
+macro-at-requires c κs = omega arith
 
--- src/lib.rt:143:21
 add-j : tie.Need-add-j Inv-loop μ-loop Inv-search μ-search
-add-j c = ?
+add-j c = omega arith
 
--- src/lib.rt:144:9
 loop-holds : tie.Need-loop-holds Inv-loop μ-loop Inv-search μ-search
-loop-holds c = ?
+loop-holds c = (omega arith, c .before .before .search .inv .1, refl)
 
--- src/lib.rt:145:41
 macro-at-requires-2 : tie.Need-macro-at-requires-2 Inv-loop μ-loop Inv-search μ-search
-macro-at-requires-2 c κs = ?
+macro-at-requires-2 c κs = omega arith
 
--- src/lib.rt:145:16
 interiors-meet-requires : tie.Need-interiors-meet-requires Inv-loop μ-loop Inv-search μ-search
-interiors-meet-requires c κs = ?
+interiors-meet-requires c κs = tt
 
--- src/lib.rt:149:13
+-- what the test of a pair says, of the list
+told : (c : tie.After-interiors-meet Inv-loop μ-loop Inv-search μ-search) → c .interiors-meet .result ≡ interiorsMeet (c .before .before .before .before .macro-at .result) (macroAt (now (c .before .before .before .before .before .before .before .args .macros)) (c .before .before .before .loop .j))
+told c = c .interiors-meet .ensures ∙ ap (interiorsMeet (c .before .before .before .before .macro-at .result)) (c .before .macro-at2 .ensures)
+
 add-j-2 : tie.Need-add-j-2 Inv-loop μ-loop Inv-search μ-search
-add-j-2 c = ?
+add-j-2 c = omega arith
 
--- src/lib.rt:144:9
 loop-less : tie.Need-loop-less Inv-loop μ-loop Inv-search μ-search
-loop-less c = ?
+loop-less c = omega arith
 
--- src/lib.rt:144:9
 loop-again : tie.Need-loop-again Inv-loop μ-loop Inv-search μ-search
-loop-again c = ?
+loop-again c =
+    let l = c .before .before .before .before in
+    let s = now (l .before .before .before .before .args .macros) in
+    (omega arith, l .loop .inv .1, l .loop .inv .2 ∙ any-miss (interiorsMeet (l .before .macro-at .result)) _ _ _ (macros-next s (l .loop .j) (omega arith)) (sym (told (c .before)) ∙ c .if1 .left))
 
--- src/lib.rt:151:9
 add-i : tie.Need-add-i Inv-loop μ-loop Inv-search μ-search
-add-i c = ?
+add-i c = omega arith
 
--- src/lib.rt:141:5
 search-less : tie.Need-search-less Inv-loop μ-loop Inv-search μ-search
-search-less c = ?
+search-less c = omega arith
 
--- src/lib.rt:141:5
 search-again : tie.Need-search-again Inv-loop μ-loop Inv-search μ-search
-search-again c = ?
+search-again c =
+    let l = c .before in
+    let o = l .before .before .before in
+    let s = now (o .before .args .macros) in
+    let none : any (interiorsMeet (macroAt s (o .search .i))) (drop (o .search .i + 1) (macrosOf s)) ≡ false = rw (← l .before .macro-at .ensures) (l .loop .inv .2 ∙ any-end (interiorsMeet (l .before .macro-at .result)) _ (macros-end s (l .loop .j) (omega arith))) in
+    (omega arith, l .loop .inv .1, o .search .inv .2 ∙ two-miss interiorsMeet _ _ _ (macros-next s (o .search .i) (omega arith)) none)
 
--- src/lib.rt:135:1
 returns : tie.Need-returns Inv-loop μ-loop Inv-search μ-search
-returns c = ?
+returns c =
+    let o = c .before in
+    o .search .inv .1 ∙ sym (o .search .inv .2 ∙ two-end interiorsMeet _ (macros-end (now (o .before .args .macros)) (o .search .i) (omega arith)))
 
--- src/lib.rt:135:1
 returns-2 : tie.Need-returns-2 Inv-loop μ-loop Inv-search μ-search
-returns-2 c = ?
+returns-2 c =
+    let l = c .before .before .before .before in
+    let o = l .before .before .before in
+    let s = now (o .before .args .macros) in
+    let some : any (interiorsMeet (macroAt s (o .search .i))) (drop (o .search .i + 1) (macrosOf s)) ≡ true = rw (← l .before .macro-at .ensures) (l .loop .inv .2 ∙ any-hit (interiorsMeet (l .before .macro-at .result)) _ _ _ (macros-next s (l .loop .j) (omega arith)) (sym (told (c .before)) ∙ c .if1 .taken)) in
+    sym (o .search .inv .2 ∙ two-hit interiorsMeet _ _ _ (macros-next s (o .search .i) (omega arith)) some)
 
 pub any-overlap-spec : {M : Type 1} → statement M
 any-overlap-spec =

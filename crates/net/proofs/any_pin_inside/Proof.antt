@@ -1,47 +1,65 @@
+-- `net::any_pin_inside` meets its contract. The loop's invariant: the pins that are left decide. The measure is how many they are.
+-- Assumes nothing.
+use mathlib.Core.Path.{_≡_, refl, sym, ap, _∙_}
+use mathlib.Core.Bool.{not}
+use Prim.Native.Nat.{_≤_, _-_}
+use native.Mathlib.Omega.{arith}
+use lib.ListN.{drop}
+use denote.Ref.{now}
+use Rattle.lists.specs.Any.{any}
+use Rattle.lists.proofs.AnyLaws.{any-hit, any-miss, any-end}
+use Rattle.plane.specs.declared.Place.{Place}
+use Rattle.plane.specs.Macro.{clear}
+use Rattle.plane.specs.Flat.{placesOf, macrosOf, placeAt}
+use Rattle.plane.proofs.FlatLaws.{places-next, places-end}
+use Rattle.plane.proofs.MacroLaws.{clear-of-itself}
+use Rattle.net.specs.Check.{insideAny}
 use Rattle.net.proofs.any_pin_inside.Statement.{statement}
 use Rattle.net.proofs.any_pin_inside.Tie as tie
-use Rattle.net.proofs.any_pin_inside.Reads as reads
-use Rattle.net.proofs.any_pin_inside.Lts as lts
-use Rattle.plane.proofs.is_clear.Reads as is-clear-reads
-use Rattle.plane.proofs.place_at.Reads as place-at-reads
 
 abbrev Inv-loop : tie.InvT-loop
-Inv-loop pins macros m i₀ i = ?
+Inv-loop pins macros m i₀ i =
+    (i ≤ m) × (any (insideAny (macrosOf macros)) (placesOf pins) ≡ any (insideAny (macrosOf macros)) (drop i (placesOf pins)))
 
 abbrev μ-loop : tie.MeasureT-loop
-μ-loop pins macros m i₀ i = ?
+μ-loop pins macros m i₀ i = m - i
 
--- src/lib.rt:162:5
 loop-holds : tie.Need-loop-holds Inv-loop μ-loop
-loop-holds c = ?
+loop-holds c = (omega arith, refl)
 
--- src/lib.rt:163:13
 place-at-requires : tie.Need-place-at-requires Inv-loop μ-loop
-place-at-requires c κs = ?
+place-at-requires c κs = omega arith
 
--- src/lib.rt:164:13
 is-clear-requires : tie.Need-is-clear-requires Inv-loop μ-loop
-is-clear-requires c κs = ?
+is-clear-requires c κs = tt
 
--- src/lib.rt:165:13
+-- what the call says, of the lists
+told : (c : tie.After-is-clear Inv-loop μ-loop) → not (c .is-clear .result) ≡ insideAny (macrosOf (now (c .before .before .before .before .args .macros))) (placeAt (now (c .before .before .before .before .args .pins)) (c .before .before .before .loop .i))
+unfolding insideAny
+told c =
+    let ms = macrosOf (now (c .before .before .before .before .args .macros)) in
+    ap not (c .is-clear .ensures) ∙ ap (λ (p : Place). not (clear p p ms)) (c .before .place-at .ensures) ∙ clear-of-itself _ ms
+
 returns : tie.Need-returns Inv-loop μ-loop
-returns c = ?
+returns c =
+    let l = c .before .before .before .before in
+    sym (l .loop .inv .1 ∙ any-hit (insideAny _) _ _ _ (places-next (now (l .before .args .pins)) (l .loop .i) (omega arith)) (sym (told (c .before)) ∙ c .if1 .taken))
 
--- src/lib.rt:167:9
 add-i : tie.Need-add-i Inv-loop μ-loop
-add-i c = ?
+add-i c = omega arith
 
--- src/lib.rt:162:5
 loop-less : tie.Need-loop-less Inv-loop μ-loop
-loop-less c = ?
+loop-less c = omega arith
 
--- src/lib.rt:162:5
 loop-again : tie.Need-loop-again Inv-loop μ-loop
-loop-again c = ?
+loop-again c =
+    let l = c .before .before .before .before in
+    (omega arith, l .loop .inv .1 ∙ any-miss (insideAny _) _ _ _ (places-next (now (l .before .args .pins)) (l .loop .i) (omega arith)) (sym (told (c .before)) ∙ c .if1 .left))
 
--- src/lib.rt:157:1
 returns-2 : tie.Need-returns-2 Inv-loop μ-loop
-returns-2 c = ?
+returns-2 c =
+    let l = c .before in
+    sym (l .loop .inv .1 ∙ any-end (insideAny _) _ (places-end (now (l .before .args .pins)) (l .loop .i) (omega arith)))
 
 pub any-pin-inside-spec : {M : Type 1} → statement M
 any-pin-inside-spec =

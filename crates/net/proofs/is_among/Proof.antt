@@ -1,47 +1,57 @@
+-- `net::is_among` meets its contract. The loop's invariant: the pins that are left decide. The measure is how many they are.
+-- Assumes nothing.
+use mathlib.Core.Path.{_≡_, refl, sym, ap, _∙_}
+use Prim.Native.Nat.{_≤_, _-_}
+use native.Mathlib.Omega.{arith}
+use lib.ListN.{drop}
+use denote.Ref.{now}
+use Rattle.lists.specs.Any.{any}
+use Rattle.lists.proofs.AnyLaws.{any-hit, any-miss, any-end}
+use Rattle.plane.specs.Place.{samePlace}
+use Rattle.plane.specs.Flat.{placesOf, placeAt}
+use Rattle.plane.proofs.FlatLaws.{places-next, places-end}
 use Rattle.net.proofs.is_among.Statement.{statement}
 use Rattle.net.proofs.is_among.Tie as tie
-use Rattle.net.proofs.is_among.Reads as reads
-use Rattle.net.proofs.is_among.Lts as lts
-use Rattle.plane.proofs.is_same_place.Reads as is-same-place-reads
-use Rattle.plane.proofs.place_at.Reads as place-at-reads
 
 abbrev Inv-loop : tie.InvT-loop
-Inv-loop p pins from m j₀ j = ?
+Inv-loop p pins from m j₀ j = any (samePlace p) (drop from (placesOf pins)) ≡ any (samePlace p) (drop j (placesOf pins))
 
 abbrev μ-loop : tie.MeasureT-loop
-μ-loop p pins from m j₀ j = ?
+μ-loop p pins from m j₀ j = m - j
 
--- src/lib.rt:111:5
 loop-holds : tie.Need-loop-holds Inv-loop μ-loop
-loop-holds c = ?
+loop-holds c = refl
 
--- src/lib.rt:112:36
 place-at-requires : tie.Need-place-at-requires Inv-loop μ-loop
-place-at-requires c κs = ?
+place-at-requires c κs = omega arith
 
--- src/lib.rt:112:12
 is-same-place-requires : tie.Need-is-same-place-requires Inv-loop μ-loop
-is-same-place-requires c κs = ?
+is-same-place-requires c κs = tt
 
--- src/lib.rt:113:13
+-- what the call says, of the list
+told : (c : tie.After-is-same-place Inv-loop μ-loop) → c .is-same-place .result ≡ samePlace (c .before .before .before .before .args .p) (placeAt (now (c .before .before .before .before .args .pins)) (c .before .before .before .loop .j))
+told c = c .is-same-place .ensures ∙ ap (samePlace (c .before .before .before .before .args .p)) (c .before .place-at .ensures)
+
 returns : tie.Need-returns Inv-loop μ-loop
-returns c = ?
+returns c =
+    let l = c .before .before .before .before in
+    sym (l .loop .inv ∙ any-hit (samePlace (l .before .args .p)) _ _ _ (places-next (now (l .before .args .pins)) (l .loop .j) (omega arith)) (sym (told (c .before)) ∙ c .if1 .taken))
 
--- src/lib.rt:115:9
 add-j : tie.Need-add-j Inv-loop μ-loop
-add-j c = ?
+add-j c = omega arith
 
--- src/lib.rt:111:5
 loop-less : tie.Need-loop-less Inv-loop μ-loop
-loop-less c = ?
+loop-less c = omega arith
 
--- src/lib.rt:111:5
 loop-again : tie.Need-loop-again Inv-loop μ-loop
-loop-again c = ?
+loop-again c =
+    let l = c .before .before .before .before in
+    l .loop .inv ∙ any-miss (samePlace (l .before .args .p)) _ _ _ (places-next (now (l .before .args .pins)) (l .loop .j) (omega arith)) (sym (told (c .before)) ∙ c .if1 .left)
 
--- src/lib.rt:106:1
 returns-2 : tie.Need-returns-2 Inv-loop μ-loop
-returns-2 c = ?
+returns-2 c =
+    let l = c .before in
+    sym (l .loop .inv ∙ any-end (samePlace (l .before .args .p)) _ (places-end (now (l .before .args .pins)) (l .loop .j) (omega arith)))
 
 pub is-among-spec : {M : Type 1} → statement M
 is-among-spec =

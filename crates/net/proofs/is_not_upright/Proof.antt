@@ -1,15 +1,22 @@
+-- `net::is_not_upright` meets its contract: its tests are those of the definition.
+-- Assumes nothing.
+use borrow.Author.Needs.{needs}
+use mathlib.Core.Path.{refl}
+use mir.Syntax.{w32}
+use mir.ValLaws.{toZ-ofZ}
+use Rattle.plane.proofs.Fits.{MacroFits}
+use Rattle.net.specs.Check.{notUpright}
 use Rattle.net.proofs.is_not_upright.Statement.{statement}
 use Rattle.net.proofs.is_not_upright.Tie as tie
-use Rattle.net.proofs.is_not_upright.Reads as reads
-use Rattle.net.proofs.is_not_upright.Lts as lts
 
--- src/lib.rt:85:1
+of-m : (s : tie.Start) → MacroFits (s .args .m)
+of-m s = record { left = search needs; bottom = search needs; right = search needs; top = search needs }
+
 returns : tie.Need-returns
-returns c = ?
-
--- src/lib.rt:85:1
-returns-2 : tie.Need-returns-2
-returns-2 c = ?
+unfolding notUpright
+returns c =
+    let s = c .before .before .before .before in
+    rw (toZ-ofZ w32 _ (of-m s .left), toZ-ofZ w32 _ (of-m s .right), toZ-ofZ w32 _ (of-m s .bottom), toZ-ofZ w32 _ (of-m s .top)) refl
 
 pub is-not-upright-spec : {M : Type 1} → statement M
-is-not-upright-spec = tie.close (tie.spec returns returns-2)
+is-not-upright-spec = tie.close (tie.spec returns)

@@ -1,20 +1,19 @@
+-- `net::is_out_of_range` meets its contract: its tests are those of the definition.
+-- Assumes nothing.
 use borrow.Author.Needs.{needs}
+use mathlib.Core.Path.{refl}
+use mir.Syntax.{w32}
+use mir.ValLaws.{toZ-ofZ}
+use Rattle.net.specs.Check.{outOfRange}
 use Rattle.net.proofs.is_out_of_range.Statement.{statement}
 use Rattle.net.proofs.is_out_of_range.Tie as tie
-use Rattle.net.proofs.is_out_of_range.Reads as reads
-use Rattle.net.proofs.is_out_of_range.Lts as lts
 
--- src/lib.rt:69:9
-sub-if1 : tie.Need-sub-if1
-sub-if1 c = search needs
+sub-result : tie.Need-sub-result
+sub-result c = search needs
 
--- src/lib.rt:66:1
 returns : tie.Need-returns
-returns c = ?
-
--- src/lib.rt:66:1
-returns-2 : tie.Need-returns-2
-returns-2 c = ?
+unfolding outOfRange
+returns c = rw (toZ-ofZ w32 _ (c .fits .z)) refl
 
 pub is-out-of-range-spec : {M : Type 1} → statement M
-is-out-of-range-spec = tie.close (tie.spec sub-if1 returns returns-2)
+is-out-of-range-spec = tie.close (tie.spec sub-result returns)

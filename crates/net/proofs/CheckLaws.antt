@@ -1,0 +1,89 @@
+-- The check a test at a time: past the tests before it, a test that applies gives its number; past all of them the net is allowed.
+-- Assumes nothing.
+use mathlib.Core.Path.{_≡_, refl}
+use mathlib.Core.Bool.{true, false}
+use mathlib.Core.List.{List}
+use lib.IntN.{ℤ}
+use Rattle.lists.specs.Any.{any, anyTwo}
+use Rattle.plane.specs.Place.{samePlace}
+use Rattle.plane.specs.Macro.{interiorsMeet}
+use Rattle.plane.specs.Flat.{placesOf, macrosOf}
+use Rattle.net.specs.Answer.{refused, given}
+use Rattle.net.specs.Check.{pinCount, macroCount, pinsMiscounted, macrosMiscounted, outOfRange, notUpright, insideAny, checked}
+
+module _ (pins macros : List ℤ) where
+  -- no number up to the one named applies; 13 is tested list by list
+  pub record Past11 : Type 0 where
+    pub passed : pinsMiscounted pins ≡ false
+
+  pub record Past12 : Type 0 where
+    pub past : Past11
+    pub passed : macrosMiscounted macros ≡ false
+
+  pub record Past13-pins : Type 0 where
+    pub past : Past12
+    pub passed : any outOfRange pins ≡ false
+
+  pub record Past13 : Type 0 where
+    pub past : Past13-pins
+    pub passed : any outOfRange macros ≡ false
+
+  pub record Past14 : Type 0 where
+    pub past : Past13
+    pub passed : any notUpright (macrosOf macros) ≡ false
+
+  pub record Past15 : Type 0 where
+    pub past : Past14
+    pub passed : anyTwo samePlace (placesOf pins) ≡ false
+
+  pub record Past16 : Type 0 where
+    pub past : Past15
+    pub passed : anyTwo interiorsMeet (macrosOf macros) ≡ false
+
+  pub record Past17 : Type 0 where
+    pub past : Past16
+    pub passed : any (insideAny (macrosOf macros)) (placesOf pins) ≡ false
+
+  pub refuse-11 : pinsMiscounted pins ≡ true → checked pins macros ≡ refused 11
+  unfolding checked
+  refuse-11 e = rw e refl
+
+  pub refuse-12 : Past11 → macrosMiscounted macros ≡ true → checked pins macros ≡ refused 12
+  unfolding checked
+  refuse-12 p e = rw (p .passed, e) refl
+
+  pub refuse-13-pins : Past12 → any outOfRange pins ≡ true → checked pins macros ≡ refused 13
+  unfolding checked
+  refuse-13-pins p e = rw (p .past .passed, p .passed, e) refl
+
+  pub refuse-13 : Past13-pins → any outOfRange macros ≡ true → checked pins macros ≡ refused 13
+  unfolding checked
+  refuse-13 p e = rw (p .past .past .passed, p .past .passed, p .passed, e) refl
+
+  pub refuse-14 : Past13 → any notUpright (macrosOf macros) ≡ true → checked pins macros ≡ refused 14
+  unfolding checked
+  refuse-14 p e = rw (p .past .past .past .passed, p .past .past .passed, p .past .passed, p .passed, e) refl
+
+  pub refuse-15 : Past14 → anyTwo samePlace (placesOf pins) ≡ true → checked pins macros ≡ refused 15
+  unfolding checked
+  refuse-15 p e =
+      let q = p .past in
+      rw (q .past .past .past .passed, q .past .past .passed, q .past .passed, q .passed, p .passed, e) refl
+
+  pub refuse-16 : Past15 → anyTwo interiorsMeet (macrosOf macros) ≡ true → checked pins macros ≡ refused 16
+  unfolding checked
+  refuse-16 p e =
+      let q = p .past .past in
+      rw (q .past .past .past .passed, q .past .past .passed, q .past .passed, q .passed, p .past .passed, p .passed, e) refl
+
+  pub refuse-17 : Past16 → any (insideAny (macrosOf macros)) (placesOf pins) ≡ true → checked pins macros ≡ refused 17
+  unfolding checked
+  refuse-17 p e =
+      let q = p .past .past .past in
+      rw (q .past .past .past .passed, q .past .past .passed, q .past .passed, q .passed, p .past .past .passed, p .past .passed, p .passed, e) refl
+
+  pub allow : Past17 → checked pins macros ≡ given (pinCount pins, macroCount macros)
+  unfolding checked
+  allow p =
+      let q = p .past .past .past .past in
+      rw (q .past .past .past .passed, q .past .past .passed, q .past .passed, q .passed, p .past .past .past .passed, p .past .past .passed, p .past .passed, p .passed) refl

@@ -1,0 +1,148 @@
+-- `net::check` meets its contract: a test that applies is the first, since the ones before it did not; each step keeps what was passed.
+-- Assumes nothing.
+use borrow.Author.Needs.{needs}
+use mathlib.Core.Path.{sym, _∙_}
+use mathlib.Core.List.{List}
+use lib.IntN.{ℤ}
+use denote.Ref.{now}
+use Rattle.net.specs.Answer.{number}
+use Rattle.net.specs.Check.{told}
+use Rattle.net.proofs.CheckLaws.{Past11, Past12, Past13-pins, Past13, Past14, Past15, Past16, Past17, refuse-11, refuse-12, refuse-13-pins, refuse-13, refuse-14, refuse-15, refuse-16, refuse-17, allow}
+use Rattle.net.proofs.check.Statement.{statement}
+use Rattle.net.proofs.check.Tie as tie
+
+abbrev pins-of : tie.Start → List ℤ
+pins-of s = now (s .args .pins)
+
+abbrev macros-of : tie.Start → List ℤ
+macros-of s = now (s .args .macros)
+
+abbrev start1 : tie.Else1 → tie.Start
+start1 c = c .before .before
+
+abbrev start2 : tie.Else2 → tie.Start
+start2 c = start1 (c .before .before)
+
+abbrev start3 : tie.Else3 → tie.Start
+start3 c = start2 (c .before .before)
+
+abbrev start4 : tie.Else4 → tie.Start
+start4 c = start3 (c .before .before)
+
+abbrev start5 : tie.Else5 → tie.Start
+start5 c = start4 (c .before .before)
+
+abbrev start6 : tie.Else6 → tie.Start
+start6 c = start5 (c .before .before)
+
+abbrev start7 : tie.Else7 → tie.Start
+start7 c = start6 (c .before .before)
+
+abbrev start8 : tie.Else8 → tie.Start
+start8 c = start7 (c .before .before)
+
+past1 : (c : tie.Else1) → Past11 (pins-of (start1 c)) (macros-of (start1 c))
+past1 c = record { passed = sym (c .before .pins-miscounted .ensures) ∙ c .if1 .left }
+
+past2 : (c : tie.Else2) → Past12 (pins-of (start2 c)) (macros-of (start2 c))
+past2 c = record { past = past1 (c .before .before); passed = sym (c .before .macros-miscounted .ensures) ∙ c .if2 .left }
+
+past3 : (c : tie.Else3) → Past13-pins (pins-of (start3 c)) (macros-of (start3 c))
+past3 c = record { past = past2 (c .before .before); passed = sym (c .before .any-out-of-range .ensures) ∙ c .if3 .left }
+
+past4 : (c : tie.Else4) → Past13 (pins-of (start4 c)) (macros-of (start4 c))
+past4 c = record { past = past3 (c .before .before); passed = sym (c .before .any-out-of-range2 .ensures) ∙ c .if4 .left }
+
+past5 : (c : tie.Else5) → Past14 (pins-of (start5 c)) (macros-of (start5 c))
+past5 c = record { past = past4 (c .before .before); passed = sym (c .before .any-not-upright .ensures) ∙ c .if5 .left }
+
+past6 : (c : tie.Else6) → Past15 (pins-of (start6 c)) (macros-of (start6 c))
+past6 c = record { past = past5 (c .before .before); passed = sym (c .before .any-same-place .ensures) ∙ c .if6 .left }
+
+past7 : (c : tie.Else7) → Past16 (pins-of (start7 c)) (macros-of (start7 c))
+past7 c = record { past = past6 (c .before .before); passed = sym (c .before .any-overlap .ensures) ∙ c .if7 .left }
+
+past8 : (c : tie.Else8) → Past17 (pins-of (start8 c)) (macros-of (start8 c))
+past8 c = record { past = past7 (c .before .before); passed = sym (c .before .any-pin-inside .ensures) ∙ c .if8 .left }
+
+pins-miscounted-requires : tie.Need-pins-miscounted-requires
+pins-miscounted-requires c κs = search needs
+
+returns : tie.Need-returns
+unfolding told number
+returns c = sym (refuse-11 _ _ (sym (c .before .pins-miscounted .ensures) ∙ c .if1 .taken))
+
+macros-miscounted-requires : tie.Need-macros-miscounted-requires
+macros-miscounted-requires c κs = search needs
+
+returns-2 : tie.Need-returns-2
+unfolding told number
+returns-2 c = sym (refuse-12 _ _ (past1 (c .before .before)) (sym (c .before .macros-miscounted .ensures) ∙ c .if2 .taken))
+
+any-out-of-range-requires : tie.Need-any-out-of-range-requires
+any-out-of-range-requires c κs = search needs
+
+returns-3 : tie.Need-returns-3
+unfolding told number
+returns-3 c = sym (refuse-13-pins _ _ (past2 (c .before .before)) (sym (c .before .any-out-of-range .ensures) ∙ c .if3 .taken))
+
+any-out-of-range-requires-2 : tie.Need-any-out-of-range-requires-2
+any-out-of-range-requires-2 c κs = search needs
+
+returns-4 : tie.Need-returns-4
+unfolding told number
+returns-4 c = sym (refuse-13 _ _ (past3 (c .before .before)) (sym (c .before .any-out-of-range2 .ensures) ∙ c .if4 .taken))
+
+any-not-upright-requires : tie.Need-any-not-upright-requires
+any-not-upright-requires c κs = search needs
+
+returns-5 : tie.Need-returns-5
+unfolding told number
+returns-5 c = sym (refuse-14 _ _ (past4 (c .before .before)) (sym (c .before .any-not-upright .ensures) ∙ c .if5 .taken))
+
+any-same-place-requires : tie.Need-any-same-place-requires
+any-same-place-requires c κs = search needs
+
+returns-6 : tie.Need-returns-6
+unfolding told number
+returns-6 c = sym (refuse-15 _ _ (past5 (c .before .before)) (sym (c .before .any-same-place .ensures) ∙ c .if6 .taken))
+
+any-overlap-requires : tie.Need-any-overlap-requires
+any-overlap-requires c κs = search needs
+
+returns-7 : tie.Need-returns-7
+unfolding told number
+returns-7 c = sym (refuse-16 _ _ (past6 (c .before .before)) (sym (c .before .any-overlap .ensures) ∙ c .if7 .taken))
+
+any-pin-inside-requires : tie.Need-any-pin-inside-requires
+any-pin-inside-requires c κs = search needs
+
+returns-8 : tie.Need-returns-8
+unfolding told number
+returns-8 c = sym (refuse-17 _ _ (past7 (c .before .before)) (sym (c .before .any-pin-inside .ensures) ∙ c .if8 .taken))
+
+returns-9 : tie.Need-returns-9
+unfolding told
+returns-9 c = sym (allow _ _ (past8 c))
+
+pub check-spec : {M : Type 1} → statement M
+check-spec =
+    tie.close
+    (tie.spec
+    pins-miscounted-requires
+    returns
+    macros-miscounted-requires
+    returns-2
+    any-out-of-range-requires
+    returns-3
+    any-out-of-range-requires-2
+    returns-4
+    any-not-upright-requires
+    returns-5
+    any-same-place-requires
+    returns-6
+    any-overlap-requires
+    returns-7
+    any-pin-inside-requires
+    returns-8
+    returns-9)
