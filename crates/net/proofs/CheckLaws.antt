@@ -8,7 +8,7 @@ use Rattle.lists.specs.Any.{any, anyTwo}
 use Rattle.plane.specs.Place.{samePlace}
 use Rattle.plane.specs.Macro.{interiorsMeet}
 use Rattle.plane.specs.Flat.{placesOf, macrosOf}
-use Rattle.net.specs.Answer.{refused, given}
+use Rattle.lent.specs.Told.{refused, given}
 use Rattle.net.specs.Check.{pinCount, macroCount, pinsMiscounted, macrosMiscounted, outOfRange, notUpright, insideAny, checked}
 
 module _ (pins macros : List ℤ) where

@@ -7,7 +7,7 @@ use Rattle.signed.specs.Order.{minZ, maxZ}
 use Rattle.plane.specs.Place.{samePlace}
 use Rattle.plane.specs.Macro.{inside, openSpansMeet, interiorsMeet}
 use Rattle.plane.specs.Flat.{placesOf, macrosOf}
-use Rattle.net.specs.Answer.{Told, refused, given}
+use Rattle.lent.specs.Told.{Told, refused, given}
 use Rattle.net.specs.Check.{pinsMiscounted, macrosMiscounted, outOfRange, notUpright, insideAny, checked}
 use Rattle.net.specs.WorkedNets.{Lists, onePin, noPin, aroundOne, threePins, sharedSide, onSides, overlapping, onBoundary, inInterior, twiceInInterior, noWidth}
 

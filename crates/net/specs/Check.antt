@@ -13,7 +13,8 @@ use Rattle.plane.specs.Place.{samePlace}
 use Rattle.plane.specs.Macro.{inside, interiorsMeet}
 use Rattle.plane.specs.Flat.{placesOf, macrosOf}
 use Rattle.net.specs.Bounds.{pinBound, macroBound, coordinateBound}
-use Rattle.net.specs.Answer.{Told, refused, given, number}
+use Rattle.lent.specs.Told.{Told, refused, given}
+use Rattle.net.specs.Answer.{number}
 use Rattle.net.specs.declared.Checked.{Checked}
 use Rattle.net.specs.declared.Checked.the-variants.{Allowed, Refused}
 

@@ -4,8 +4,7 @@
 -- the document's order, each over the whole net.
 --
 --   Bounds     pinBound, macroBound, coordinateBound     64, 64 and 1,000,000
---   Answer     Told A                                    an answer in the document's terms: refused with a number, or given a value
---              number f                                  the document's number of a refusal
+--   Answer     number f                                  the document's number of a refusal
 --   Check      pinsMiscounted .. pinInside               the tests, 11 to 17
 --              checked pins macros                       the first number that applies, or m and k
 --              told r                                    what the code's answer says

@@ -4,13 +4,21 @@ use plane::Place;
 ghost use mathlib.Core.Path.{_≡_};
 ghost use mathlib.Core.Bool.{_||_};
 ghost use Prim.Native.Nat.{_+_, _*_, _≤_};
+ghost use lib.IntN.{pos};
 ghost use lib.ListN.{length, drop};
 ghost use Rattle.lists.specs.Any.{any, anyTwo};
 ghost use Rattle.plane.specs.Place.{samePlace};
 ghost use Rattle.plane.specs.Macro.{interiorsMeet};
 ghost use Rattle.plane.specs.Flat.{placesOf, macrosOf, placeAt};
+ghost use Rattle.net.specs.Answer.{number};
 ghost use Rattle.net.specs.Check.{
-    pinsMiscounted, macrosMiscounted, outOfRange, notUpright, insideAny, checked, told,
+  pinsMiscounted,
+  macrosMiscounted,
+  outOfRange,
+  notUpright,
+  insideAny,
+  checked,
+  told,
 };
 
 // A net by its numbers of pins and of macros. Its bounds are named here.
@@ -41,6 +49,26 @@ pub enum Refusal {
     Overlap,
     PinInside,
     Space,
+}
+
+impl Refusal {
+    pub fn number(self) -> i32
+        ensures { λ r. ⌜ r ≡ pos (number self) ⌝ }
+    {
+        match self {
+            Refusal::Blocks => 1,
+            Refusal::Sums => 2,
+            Refusal::Layout => 3,
+            Refusal::PinList => 11,
+            Refusal::MacroList => 12,
+            Refusal::Range => 13,
+            Refusal::Sides => 14,
+            Refusal::SamePlace => 15,
+            Refusal::Overlap => 16,
+            Refusal::PinInside => 17,
+            Refusal::Space => 21,
+        }
+    }
 }
 
 // The answer of the check.

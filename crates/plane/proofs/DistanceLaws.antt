@@ -91,8 +91,8 @@ apart-through s a b h =
     by (leZ a b)
     (λ e. ordered-through s a b (omega (signed, h .0, min-sides a b)) (omega (signed, h .1, max-sides a b)))
     (λ e.
-        let r = ordered-through s b a (omega (signed, h .0, min-sides a b)) (omega (signed, h .1, max-sides a b)) in
-        omega (signed, r, apart-comm a b))
+    let r = ordered-through s b a (omega (signed, h .0, min-sides a b)) (omega (signed, h .1, max-sides a b)) in
+    omega (signed, r, apart-comm a b))
 
 -- the triangle
 pub apart-triangle : (a b c : ℤ) → apart a c ≤ apart a b + apart b c

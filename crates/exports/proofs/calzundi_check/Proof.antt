@@ -1,0 +1,44 @@
+-- `exports::calzundi_check` meets its contract: each arm passes on what the router's answer says.
+-- Assumes nothing.
+use borrow.Author.Needs.{needs}
+use mathlib.Core.Path.{_≡_, sym, ap, _∙_}
+use lib.IntN.{pos}
+use mir.Syntax.{w32}
+use mir.ValLaws.{toZ-ofZ}
+use Rattle.lent.specs.Told.{code}
+use Rattle.net.specs.declared.Checked.{Checked}
+use Rattle.net.specs.Check.{told}
+use Rattle.exports.proofs.calzundi_check.Statement.{statement}
+use Rattle.exports.proofs.calzundi_check.Tie as tie
+
+check-requires : tie.Need-check-requires
+check-requires c κs = search needs
+
+enum-told : tie.Need-enum-told
+enum-told c = search needs
+
+enum-known-answer : tie.Need-enum-known-answer
+enum-known-answer c = search needs
+
+number-requires : tie.Need-number-requires
+number-requires c κs = search needs
+
+returns : tie.Need-returns
+unfolding code told
+returns c =
+    ap (λ (r : Checked). pos (code (told r))) (sym (c .enum-told .given .1))
+    ∙ ap (λ t. pos (code t)) (c .before .before .check .ensures)
+
+returns-2 : tie.Need-returns-2
+unfolding code told
+returns-2 c =
+    let k = c .before .before .before .before in
+    toZ-ofZ w32 _ (search needs)
+    ∙ c .number .ensures
+    ∙ ap (λ (r : Checked). pos (code (told r))) (sym (c .before .before .answer .given .1))
+    ∙ ap (λ t. pos (code t)) (k .check .ensures)
+
+pub calzundi-check-spec : {M : Type 1} → statement M
+calzundi-check-spec =
+    tie.close
+    (tie.spec check-requires enum-told enum-known-answer number-requires returns returns-2)

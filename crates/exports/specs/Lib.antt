@@ -1,0 +1,1 @@
+-- The exported functions cite the definitions of the crates below.

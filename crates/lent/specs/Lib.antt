@@ -1,0 +1,10 @@
+-- Answers, and lent space after them.
+--
+-- Every published operation answers in one of two ways, and says of each lent list what it then holds:
+--
+--   Told A             an answer: refused with document 01's number, or given a value
+--   over xs lent       xs, then what stood there
+--   after t xs lent    what a lent list holds after the answer t: xs over what stood there, or all of what stood there
+--   code t             the answer as one number: 0 for success, or the refusal's
+pub mod Told
+pub mod Over

@@ -1,0 +1,12 @@
+-- Answers in document 01's terms.
+use Prim.Native.Nat.{ℕ}
+
+-- "A refusal is its number alone"; otherwise the answer has a value.
+pub data Told (A : Type 0) : Type 0 where
+  refused : ℕ → Told A
+  given : A → Told A
+
+-- the answer as one number: 0 for success, or the refusal's
+unfoldable pub code : {A : Type 0} → Told A → ℕ
+code (refused n) = n
+code (given a) = 0

@@ -1,0 +1,1 @@
+-- The published operations cite the definitions of the crates below; there are none of their own yet.
