@@ -1,2 +1,5 @@
 pub mod CheckLaws
+pub mod RangeLaws
+pub mod AllowedLaws
+pub mod CheckOrder
 pub mod WorkedChecks

@@ -12,4 +12,5 @@
 pub mod Bounds
 pub mod Answer
 pub mod Check
+pub mod Allowed
 pub mod WorkedNets

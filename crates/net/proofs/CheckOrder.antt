@@ -1,0 +1,98 @@
+-- The check gives the same answer for every order of the entries, whatever the lists: a list that is not whole is refused by its length,
+-- and the tests of a whole one are searches of its entries.
+-- Assumes nothing.
+use mathlib.Core.Path.{_≡_, refl, sym, ap, ap₂, _∙_}
+use mathlib.Core.Bool.{Bool, true, false, _||_}
+use mathlib.Core.List.{List, Perm}
+use Prim.Native.Nat.{ℕ, _%_, _*_}
+use lib.IntN.{ℤ}
+use lib.ListN.{length}
+use Rattle.lists.specs.Any.{any, anyTwo}
+use Rattle.lists.proofs.TestLaws.{by}
+use Rattle.lists.proofs.AnyLaws.{any-agree}
+use Rattle.lists.proofs.AnyOrder.{any-perm, two-perm, length-perm}
+use Rattle.plane.specs.declared.Place.{Place}
+use Rattle.plane.specs.declared.Macro.{Macro}
+use Rattle.plane.specs.Place.{samePlace}
+use Rattle.plane.specs.Macro.{inside, interiorsMeet}
+use Rattle.plane.specs.Flat.{placesOf, macrosOf, flatPlaces, flatMacros}
+use Rattle.plane.proofs.PlaceLaws.{same-comm}
+use Rattle.plane.proofs.MacroLaws.{interiors-comm}
+use Rattle.plane.proofs.FlatLaws.{places-flat, macros-flat, length-flat-places, length-flat-macros}
+use Rattle.net.specs.Check.{pinsMiscounted, macrosMiscounted, outOfRange, notUpright, insideAny, checked}
+use Rattle.net.proofs.RangeLaws.{placeOut, macroOut, range-of-places, range-of-macros}
+use Rattle.net.proofs.CheckLaws.{Past11, refuse-11, refuse-12}
+use Rattle.net.proofs.AllowedLaws.{whole-pairs, whole-fours}
+
+-- the same entries in another order; numbers left over past the last whole entry may be others
+pub record SamePins (pins pins′ : List ℤ) : Type 0 where
+  pub many : length pins ≡ length pins′
+  pub order : Perm (placesOf pins) (placesOf pins′)
+
+pub record SameMacros (macros macros′ : List ℤ) : Type 0 where
+  pub many : length macros ≡ length macros′
+  pub order : Perm (macrosOf macros) (macrosOf macros′)
+
+inside-perm : (ms ns : List Macro) → Perm ms ns → (p : Place) → insideAny ms p ≡ insideAny ns p
+unfolding insideAny
+inside-perm ms ns q p = any-perm (inside p) ms ns q
+
+module _ (pins pins′ macros macros′ : List ℤ) (p : SamePins pins pins′) (q : SameMacros macros macros′) where
+  pins-counted : pinsMiscounted pins ≡ pinsMiscounted pins′
+  unfolding pinsMiscounted
+  pins-counted = rw (p .many) refl
+
+  macros-counted : macrosMiscounted macros ≡ macrosMiscounted macros′
+  unfolding macrosMiscounted
+  macros-counted = rw (q .many) refl
+
+  -- of whole lists
+  ranges : length pins % 2 ≡ 0 → length macros % 4 ≡ 0 → (any outOfRange pins || any outOfRange macros) ≡ (any outOfRange pins′ || any outOfRange macros′)
+  ranges e f =
+      ap₂ _||_
+      (range-of-places pins e ∙ any-perm placeOut _ _ (p .order) ∙ sym (range-of-places pins′ (rw (p .many) at e)))
+      (range-of-macros macros f ∙ any-perm macroOut _ _ (q .order) ∙ sym (range-of-macros macros′ (rw (q .many) at f)))
+
+  insides : any (insideAny (macrosOf macros)) (placesOf pins) ≡ any (insideAny (macrosOf macros′)) (placesOf pins′)
+  insides =
+      any-perm (insideAny (macrosOf macros)) _ _ (p .order)
+      ∙ any-agree (insideAny (macrosOf macros)) (insideAny (macrosOf macros′)) (inside-perm _ _ (q .order)) (placesOf pins′)
+
+  whole-order : length pins % 2 ≡ 0 → length macros % 4 ≡ 0 → checked pins macros ≡ checked pins′ macros′
+  unfolding checked
+  whole-order e f =
+      rw
+      (
+        pins-counted,
+        macros-counted,
+        ranges e f,
+        any-perm notUpright _ _ (q .order),
+        two-perm samePlace same-comm _ _ (p .order),
+        two-perm interiorsMeet interiors-comm _ _ (q .order),
+        insides,
+        p .many,
+        q .many,
+      )
+      refl
+
+  pub check-order : checked pins macros ≡ checked pins′ macros′
+  check-order =
+      by (pinsMiscounted pins) (λ e. refuse-11 pins macros e ∙ sym (refuse-11 pins′ macros′ (sym pins-counted ∙ e))) λ e.
+      by (macrosMiscounted macros)
+      (λ f. refuse-12 pins macros (record { passed = e }) f ∙ sym (refuse-12 pins′ macros′ (record { passed = sym pins-counted ∙ e }) (sym macros-counted ∙ f)))
+      λ f.
+      whole-order (whole-pairs pins e .0) (whole-fours macros f .0)
+
+-- of lists of places and macros
+pub check-reordered : (ps ps′ : List Place) (ms ms′ : List Macro) → Perm ps ps′ → Perm ms ms′
+    → checked (flatPlaces ps) (flatMacros ms) ≡ checked (flatPlaces ps′) (flatMacros ms′)
+check-reordered ps ps′ ms ms′ p q =
+    check-order (flatPlaces ps) (flatPlaces ps′) (flatMacros ms) (flatMacros ms′)
+    (record {
+      many = length-flat-places ps ∙ ap (λ (n : ℕ). n * 2) (length-perm ps ps′ p) ∙ sym (length-flat-places ps′);
+      order = rw (places-flat ps, places-flat ps′) p;
+    })
+    (record {
+      many = length-flat-macros ms ∙ ap (λ (n : ℕ). n * 4) (length-perm ms ms′ q) ∙ sym (length-flat-macros ms′);
+      order = rw (macros-flat ms, macros-flat ms′) q;
+    })
