@@ -57,8 +57,7 @@ module _ (s : List ℤ) where
   unfolding pinsMiscounted
   whole-pairs e =
       let r = or-none (not (eqb (length s % 2) 0)) (eqb (pinCount s) 0 || ltb pinBound (pinCount s)) e in
-      let q = or-none (eqb (pinCount s) 0) (ltb pinBound (pinCount s)) (r .1) in
-      (
+      let q = or-none (eqb (pinCount s) 0) (ltb pinBound (pinCount s)) (r .1) in (
         eqb-true (length s % 2) 0 (not-false (eqb (length s % 2) 0) (r .0)),
         by (ltb (pinCount s) 1) (λ h. absurd (eqb-false (pinCount s) 0 (q .0) (omega (arith, ltb-true (pinCount s) 1 h)))) (λ h. ltb-false (pinCount s) 1 h),
         ltb-false pinBound (pinCount s) (q .1),
@@ -119,8 +118,7 @@ module _ (pins macros : List ℤ) where
       let m = whole-pairs pins (p13 .past .past .past .passed) in
       let k = whole-fours macros (p13 .past .past .passed) in
       let in-pins = any-none placeOut (placesOf pins) (sym (range-of-places pins (m .0)) ∙ p13 .past .passed) in
-      let in-macros = any-none macroOut (macrosOf macros) (sym (range-of-macros macros (k .0)) ∙ p13 .passed) in
-      (
+      let in-macros = any-none macroOut (macrosOf macros) (sym (range-of-macros macros (k .0)) ∙ p13 .passed) in (
         record { pairs = m .0; fours = k .0 },
         record {
           some-pin = rw (length-places pins) (m .1);

@@ -61,8 +61,7 @@ module _ (pins pins′ macros macros′ : List ℤ) (p : SamePins pins pins′) 
   whole-order : length pins % 2 ≡ 0 → length macros % 4 ≡ 0 → checked pins macros ≡ checked pins′ macros′
   unfolding checked
   whole-order e f =
-      rw
-      (
+      rw (
         pins-counted,
         macros-counted,
         ranges e f,
