@@ -1,3 +1,4 @@
+pub mod NumberLaws
 pub mod CheckLaws
 pub mod RangeLaws
 pub mod AllowedLaws

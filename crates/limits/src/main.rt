@@ -1,0 +1,71 @@
+// Checks nets at the bounds of document 01 and one past them, and writes each answer on a line of its own.
+use net::Checked;
+ghost use mathlib.Core.Path.{_≡_};
+ghost use Prim.Native.Nat.{_≤_};
+ghost use lib.ListN.{length};
+
+// The answer on a line: `allowed`, or `refused` and the number.
+fn say(answer: Checked) {
+    match answer {
+        Checked::Allowed(_) => {
+            io::write_all(1, b"allowed\n");
+        }
+        Checked::Refused(refusal) => {
+            io::write_all(1, b"refused ");
+            io::print_decimal(1, refusal.number() as u64);
+            io::write_all(1, b"\n");
+        }
+    }
+}
+
+// 0, 1, 2 and so on: read as pins, places on a diagonal; read as macros, squares along it that do not touch.
+fn counted_up() -> [i32; 260]
+    ensures { λ r. ⌜ 260 ≡ length r ⌝ }
+{
+    let mut numbers = [0i32; 260];
+    let mut i: usize = 0;
+    while i < 260 {
+        numbers[i] = i as i32;
+        i += 1;
+    }
+    numbers
+}
+
+fn coordinates() {
+    io::write_all(1, b"coordinates 1000000 and -1000000: ");
+    say(router::check(
+        &[1000000, -1000000],
+        &[-1000000, -1000000, 1000000, 1000000],
+    ));
+    io::write_all(1, b"coordinate 1000001: ");
+    say(router::check(&[0, 1000001], &[0i32; 0]));
+    io::write_all(1, b"coordinate -1000001: ");
+    say(router::check(&[0, 0], &[-1000001, 0, 1, 1]));
+}
+
+// The first n numbers as pins.
+fn pins(numbers: &[i32], n: usize)
+    requires { ⌜ n ≤ length (now numbers) ⌝ }
+{
+    say(router::check(&numbers[..n], &[0i32; 0]));
+}
+
+// The first n numbers as macros.
+fn macros(numbers: &[i32], n: usize)
+    requires { ⌜ n ≤ length (now numbers) ⌝ }
+{
+    say(router::check(&[0, 0], &numbers[..n]));
+}
+
+fn main() {
+    coordinates();
+    let numbers = counted_up();
+    io::write_all(1, b"64 pins: ");
+    pins(&numbers, 128);
+    io::write_all(1, b"65 pins: ");
+    pins(&numbers, 130);
+    io::write_all(1, b"64 macros: ");
+    macros(&numbers, 256);
+    io::write_all(1, b"65 macros: ");
+    macros(&numbers, 260);
+}
