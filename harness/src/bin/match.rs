@@ -1,0 +1,42 @@
+//! `match SECONDS [SEED]`: matches the proved router with the second program for a while, and stops at the first difference.
+
+use std::process::ExitCode;
+use std::time::{Duration, Instant};
+
+use harness::matching::case;
+
+const HELP: &str = "match SECONDS [SEED]: matches the proved router with the second program on random lists for some seconds, from a seed on (0).
+It prints how many were matched, or the first difference with its seed and its net.";
+
+fn main() -> ExitCode {
+    let words: Vec<String> = std::env::args().skip(1).collect();
+    let numbers: Option<Vec<u64>> = words.iter().map(|word| word.parse().ok()).collect();
+    let (seconds, first) = match numbers.as_deref() {
+        Some(&[seconds]) => (seconds, 0),
+        Some(&[seconds, first]) => (seconds, first),
+        _ => {
+            eprintln!("{HELP}");
+            return ExitCode::from(2);
+        }
+    };
+    let start = Instant::now();
+    let mut said = start;
+    let mut seed = first;
+    while start.elapsed() < Duration::from_secs(seconds) {
+        if let Err(difference) = case(seed).check() {
+            println!("{difference}");
+            return ExitCode::from(1);
+        }
+        seed = seed.wrapping_add(1);
+        if said.elapsed() > Duration::from_secs(10) {
+            said = Instant::now();
+            eprintln!(
+                "{} s: {} matched",
+                start.elapsed().as_secs(),
+                seed.wrapping_sub(first)
+            );
+        }
+    }
+    println!("{} matched, from seed {first} on", seed.wrapping_sub(first));
+    ExitCode::SUCCESS
+}
