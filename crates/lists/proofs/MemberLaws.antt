@@ -122,6 +122,11 @@ module _ {A B : Type 0} (f : A → B) where
   map-append [] m = refl
   map-append (x ∷ l) m = ap (λ (k : List B). f x ∷ k) (map-append l m)
 
+  pub getD-map : (l : List A) (i : ℕ) (d : A) (c : B) → i < length l → getD (map f l) i c ≡ f (getD l i d)
+  getD-map [] i d c h = absurd (let z : ⊥ = omega arith in z)
+  getD-map (x ∷ l) zero d c h = refl
+  getD-map (x ∷ l) (suc i) d c h = getD-map l i d c (omega arith)
+
   -- a map under which different entries stay different
   pub map-once : (l : List A) → ((x y : A) → x ∈ l → y ∈ l → f x ≡ f y → x ≡ y) → Once l → Once (map f l)
   map-once [] h o = tt
@@ -181,6 +186,14 @@ module _ {A : Type 0} (f : A → Bool) where
       by (f x)
       (λ h. rw (those, h) (omega (arith, those-split l)))
       (λ h. rw (those, h) (omega (arith, those-split l)))
+
+pub those-map : {A B : Type 0} (g : A → B) (f : B → Bool) (l : List A) → those f (map g l) ≡ map g (those (λ x. f (g x)) l)
+unfolding those
+those-map g f [] = refl
+those-map g f (x ∷ l) =
+    by (f (g x))
+    (λ h. rw (those, h) (ap (λ (k : List _). g x ∷ k) (those-map g f l)))
+    (λ h. rw (those, h) (those-map g f l))
 
 -- a test that lets fewer pass
 module _ {A : Type 0} (f g : A → Bool) where
