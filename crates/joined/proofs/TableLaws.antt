@@ -3,7 +3,7 @@
 -- Assumes nothing.
 use mathlib.Core.Path.{_≡_, refl, sym, ap, ap₂, _∙_}
 use mathlib.Core.Bool.{Bool, true, false}
-use mathlib.Core.List.{List, [], _∷_, map, reverse, reverseAux}
+use mathlib.Core.List.{List, [], _∷_, map, reverse, reverseAux, reverse-reverse}
 use Prim.Native.Nat.{ℕ, zero, suc, _≤_, _<_}
 use native.Mathlib.Decide.{ℕ-discrete}
 use native.Mathlib.Omega.{arith}
@@ -14,8 +14,8 @@ use Rattle.lists.specs.Member.{_∈_, here, there}
 use Rattle.lists.proofs.TestLaws.{by}
 use Rattle.lists.proofs.MemberLaws.{getD-map}
 use Rattle.joined.specs.Labels.{renamed, merge, labels}
-use Rattle.joined.specs.Keep.{keep}
-use Rattle.joined.specs.Table.{changed, kept}
+use Rattle.joined.specs.Keep.{keep, kept}
+use Rattle.joined.specs.Table.{changed, keptBy}
 use Rattle.joined.proofs.LabelLaws.{renamed-hit, renamed-miss, labelled, joined-same, same-joined}
 use Rattle.joined.proofs.KeepLaws.{Keeps, dropped, taken, keeps, keep-none}
 
@@ -78,8 +78,8 @@ module _ {B : Type 0} (ends : B → ℕ × ℕ) (n : ℕ) where
     )
 
   pass : (L : List B) → Below L → (t : List ℕ) (M : List B) → Holds t M →
-      keep ℕ-discrete ends (reverseAux L M) ≡ reverseAux (kept ends L t) (keep ℕ-discrete ends M)
-  unfolding kept
+      keep ℕ-discrete ends (reverseAux L M) ≡ reverseAux (keptBy ends L t) (keep ℕ-discrete ends M)
+  unfolding keptBy
   pass [] s t M h = refl
   pass (e ∷ L) s t M h =
       let i = s e (here refl) in
@@ -89,16 +89,19 @@ module _ {B : Type 0} (ends : B → ℕ × ℕ) (n : ℕ) where
       by (eqb p q)
       (λ k.
       let r = same-label e (i .0) (i .1) t M h (eqb-true p q k) in
-      rw (kept, k) (pass L left t (e ∷ M) (holds-same e (i .0) (i .1) t M h r) ∙ ap (reverseAux (kept ends L t)) r))
+      rw (keptBy, k) (pass L left t (e ∷ M) (holds-same e (i .0) (i .1) t M h r) ∙ ap (reverseAux (keptBy ends L t)) r))
       (λ k.
       let r = other-label e (i .0) (i .1) t M h (eqb-false p q k) in
       let u = map (changed p q) t in
-      rw (kept, k) (pass L left u (e ∷ M) (holds-merged e (i .0) (i .1) t M h r) ∙ ap (reverseAux (kept ends L u)) r))
+      rw (keptBy, k) (pass L left u (e ∷ M) (holds-merged e (i .0) (i .1) t M h r) ∙ ap (reverseAux (keptBy ends L u)) r))
 
   -- from a table in which each number is its own label
   pub table-keeps : (L : List B) → Below L → (t : List ℕ) → n ≤ length t → ((x : ℕ) → x < n → getD t x 0 ≡ x) →
-      keep ℕ-discrete ends (reverse L) ≡ reverse (kept ends L t)
-  unfolding labels
+      keptBy ends L t ≡ kept ℕ-discrete ends L
+  unfolding labels kept
   table-keeps L s t room own =
+      let turned : keep ℕ-discrete ends (reverse L) ≡ reverse (keptBy ends L t) =
       pass L s t [] (room, λ x l. own x l ∙ rw (keep-none ℕ-discrete ends) refl)
-      ∙ ap (reverseAux (kept ends L t)) (keep-none ℕ-discrete ends)
+      ∙ ap (reverseAux (keptBy ends L t)) (keep-none ℕ-discrete ends)
+      in
+      sym (reverse-reverse (keptBy ends L t)) ∙ ap reverse (sym turned)

@@ -1,13 +1,22 @@
 -- Points joined by a list of pairs, each pair read either way.
 use mathlib.Core.Path.{_≡_}
-use mathlib.Core.Logic.{_⊎_}
+use mathlib.Core.Logic.{_⊎_, inl, inr}
 use mathlib.Core.List.{List}
-use Rattle.lists.specs.Member.{_∈_}
+use Rattle.lists.specs.Member.{_∈_, rest}
 
 module _ {A : Type 0} where
   -- a pair of the list, read one way or the other
   abbrev pub Link : List (A × A) → A → A → Type 0
   Link L x y = ((x, y) ∈ L) ⊎ ((y, x) ∈ L)
+
+  -- all pairs but the one of a link
+  unfoldable pub others : {L : List (A × A)} {x y : A} → Link L x y → List (A × A)
+  others (inl m) = rest m
+  others (inr m) = rest m
+
+  -- x and y are a and b, in this order or the other
+  abbrev pub Alike : A → A → A → A → Type 0
+  Alike x y a b = ((x ≡ a) × (y ≡ b)) ⊎ ((x ≡ b) × (y ≡ a))
 
   -- two points are one, or link after link leads from the first to the second
   pub data Joined (L : List (A × A)) : A → A → Type 0 where

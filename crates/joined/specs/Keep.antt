@@ -1,6 +1,6 @@
 -- Items offered in an order, each with a pair of points: those that are kept, and those up to a weight.
 use mathlib.Core.Bool.{Bool, true, false, not}
-use mathlib.Core.List.{List, [], _∷_, map}
+use mathlib.Core.List.{List, [], _∷_, map, reverse}
 use Prim.Native.Nat.{ℕ, _≤_}
 use lib.Dec.{ltb}
 use Rattle.lists.specs.Member.{_∈_, Once, those}
@@ -8,7 +8,7 @@ use Rattle.joined.specs.Joined.{Joined, Joins, Inside}
 use Rattle.joined.specs.Labels.{equal, labels}
 
 -- "One is kept when its two roots are not yet joined by bridges kept before."
--- The item at the head of the list is offered last, so that what is offered before it is the rest of the list.
+-- Here the item at the head of the list is offered last, so that what is offered before it is the rest of the list.
 unfoldable pub keep : {A B : Type 0} → Discrete A → (B → A × A) → List B → List B
 keep same ends [] = []
 keep same ends (e ∷ L) =
@@ -16,16 +16,20 @@ keep same ends (e ∷ L) =
     let label = labels same (map ends before) in
     elim (equal same (label (ends e .0)) (label (ends e .1))) [ true ↦ before | false ↦ e ∷ before ]
 
-module _ {B : Type 0} (weight : B → ℕ) where
-  -- "Bridges are taken by path length": read from the head no weight is followed by a greater one
-  abbrev pub Falling : List B → Type 0
-  Falling [] = Unit {0}
-  Falling (e ∷ L) = ((d : B) → d ∈ L → weight d ≤ weight e) × Falling L
+-- the items kept, in the order kept, when the item at the head of the list is offered first
+unfoldable pub kept : {A B : Type 0} → Discrete A → (B → A × A) → List B → List B
+kept same ends L = reverse (keep same ends (reverse L))
 
-  -- the same, read from the other end
+module _ {B : Type 0} (weight : B → ℕ) where
+  -- "Bridges are taken by path length"
   abbrev pub Rising : List B → Type 0
   Rising [] = Unit {0}
   Rising (e ∷ L) = ((d : B) → d ∈ L → weight e ≤ weight d) × Rising L
+
+  -- the same, read from the other end
+  abbrev pub Falling : List B → Type 0
+  Falling [] = Unit {0}
+  Falling (e ∷ L) = ((d : B) → d ∈ L → weight d ≤ weight e) × Falling L
 
   -- the items above weight t, and those up to it
   unfoldable pub heavy : ℕ → List B → List B
@@ -42,7 +46,7 @@ module _ {A B : Type 0} (ends : B → A × A) (weight : B → ℕ) where
     pub stands : some ∈ X
     pub inside : Inside X (map ends L)
     pub joins : Joins X (map ends L)
-    pub falling : Falling weight L
+    pub rising : Rising weight L
 
   -- what is asked of a path with the given ends and length, that the items may be compared with it: those that are no longer join its ends
   abbrev pub Dominated : List B → A × A → ℕ → Type 0

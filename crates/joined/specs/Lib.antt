@@ -18,5 +18,8 @@
 pub mod Joined
 pub mod Labels
 pub mod Tree
+pub mod Way
+pub mod OneTree
 pub mod Keep
+pub mod Chain
 pub mod Table

@@ -11,9 +11,9 @@ changed a b x = elim (eqb x b) [ true ↦ a | false ↦ x ]
 
 -- The item at the head of the list is offered first. It is kept where its ends have different labels, and then the label of its second
 -- end becomes that of its first, throughout the table.
-unfoldable pub kept : {B : Type 0} → (B → ℕ × ℕ) → List B → List ℕ → List B
-kept ends [] t = []
-kept ends (e ∷ L) t =
+unfoldable pub keptBy : {B : Type 0} → (B → ℕ × ℕ) → List B → List ℕ → List B
+keptBy ends [] t = []
+keptBy ends (e ∷ L) t =
     let p = getD t (ends e .0) 0 in
     let q = getD t (ends e .1) 0 in
-    elim (eqb p q) [ true ↦ kept ends L t | false ↦ e ∷ kept ends L (map (changed p q) t) ]
+    elim (eqb p q) [ true ↦ keptBy ends L t | false ↦ e ∷ keptBy ends L (map (changed p q) t) ]

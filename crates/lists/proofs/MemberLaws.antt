@@ -115,6 +115,12 @@ module _ {A B : Type 0} (f : A → B) where
       further : {y : B} → Source l y → Source (x ∷ l) y
       further s = record { entry = s .entry; stands = there (s .stands); is = s .is }
 
+  -- a position struck out before or after
+  pub map-rest : {x : A} {l : List A} (m : x ∈ l) → rest (in-map m) ≡ map f (rest m)
+  unfolding rest in-map
+  map-rest (here e) = refl
+  map-rest (there {x = y} m) = ap (λ (k : List B). f y ∷ k) (map-rest m)
+
   pub map-among : (l m : List A) → Among l m → Among (map f l) (map f m)
   map-among l m h y i = let s = of-map l i in Memᴰ·cast (s .is) (in-map (h (s .entry) (s .stands)))
 
