@@ -1,0 +1,13 @@
+pub mod JoinedLaws
+pub mod LabelLaws
+pub mod CountLaws
+pub mod OtherLaws
+pub mod TreeLaws
+pub mod WayLaws
+pub mod OnlyWay
+pub mod OneTreeLaws
+pub mod KeepLaws
+pub mod TableLaws
+pub mod ShortestLaws
+pub mod ChainLaws
+pub mod Ours
