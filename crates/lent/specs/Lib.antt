@@ -8,3 +8,4 @@
 --   code t             the answer as one number: 0 for success, or the refusal's
 pub mod Told
 pub mod Over
+pub mod Entries

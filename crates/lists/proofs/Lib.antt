@@ -4,6 +4,7 @@ pub mod AnyOrder
 pub mod EntryLaws
 pub mod MemberLaws
 pub mod SortedLaws
+pub mod CarryLaws
 pub mod OrderLaws
 pub mod LeastLaws
 pub mod TotalLaws

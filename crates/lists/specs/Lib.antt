@@ -25,10 +25,12 @@
 --   sorted before l   the entries of l in order, each once
 --   Ascending before l    each entry comes before all that follow it
 --   position before l a   where a stands in the ascending list l, counted from 0
+--   carry, carryAll   sorted insertion as a program does it, from the front
 --   Least le l        an entry of l that is `le` each entry
 --   total l, most l   the sum and the greatest of a list of numbers
 pub mod Any
 pub mod Member
 pub mod Sorted
+pub mod Carry
 pub mod Least
 pub mod Total

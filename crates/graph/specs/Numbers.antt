@@ -1,0 +1,17 @@
+-- A place and an edge as the numbers that are given: "Both are given in order, an edge as four numbers."
+use mathlib.Core.List.{List, [], _∷_}
+use Prim.Native.Nat.{ℕ, _+_}
+use lib.IntN.{ℤ, pos}
+use lib.ListN.{getD}
+use Rattle.plane.specs.declared.Place.{Place}
+use Rattle.plane.specs.Flat.{placeFrom}
+
+abbrev pub placeNumbers : Place → List ℤ
+placeNumbers p = p .x ∷ (p .y ∷ [])
+
+abbrev pub edgeNumbers : Place × Place → List ℤ
+edgeNumbers e = e .0 .x ∷ (e .0 .y ∷ (e .1 .x ∷ (e .1 .y ∷ [])))
+
+-- the edge that begins at the number k of a flat list
+abbrev pub edgeFrom : List ℤ → ℕ → Place × Place
+edgeFrom s k = (placeFrom s k, placeFrom s (k + 2))

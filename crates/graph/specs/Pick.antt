@@ -1,0 +1,39 @@
+-- Quadrants and picks.
+use mathlib.Core.Bool.{Bool, true, false, cond, _&&_}
+use mathlib.Core.List.{List, [], _∷_}
+use Prim.Native.Nat.{ℕ}
+use lib.Dec.{ltb}
+use lib.Signed.{ltZ, leZ}
+use Rattle.plane.specs.declared.Place.{Place}
+use Rattle.plane.specs.declared.Macro.{Macro}
+use Rattle.plane.specs.Distance.{distance}
+use Rattle.plane.specs.Macro.{clear}
+use Rattle.graph.specs.declared.Quadrant.{Quadrant}
+use Rattle.graph.specs.declared.Quadrant.the-variants.{First, Second, Third, Fourth}
+use Rattle.graph.specs.declared.Pick.{Pick}
+use Rattle.graph.specs.declared.Pick.the-variants.{At, Nothing}
+
+-- "First: x greater, y not less. Second: x not greater, y greater. Third: x less, y not greater. Fourth: x not less, y less."
+unfoldable pub within : Quadrant → Place → Place → Bool
+within First u v = ltZ (u .x) (v .x) && leZ (u .y) (v .y)
+within Second u v = leZ (v .x) (u .x) && ltZ (u .y) (v .y)
+within Third u v = ltZ (v .x) (u .x) && leZ (v .y) (u .y)
+within Fourth u v = leZ (u .x) (v .x) && ltZ (v .y) (u .y)
+
+-- v is nearer to u than what was picked so far; anything is nearer than nothing
+unfoldable pub nearer : Place → Place → Pick → Bool
+nearer u v Nothing = true
+nearer u v (At w) = ltb (distance u v) (distance u w)
+
+-- the pick so far with one vertex more, which takes its place where it is in the quadrant, nearer, and clear
+unfoldable pub better : List Macro → Quadrant → Place → Pick → Place → Pick
+better ms q u best v = cond (within q u v && (nearer u v best && clear u v ms)) (At v) best
+
+unfoldable pub pickFrom : List Macro → Quadrant → Place → Pick → List Place → Pick
+pickFrom ms q u best [] = best
+pickFrom ms q u best (v ∷ vs) = pickFrom ms q u (better ms q u best v) vs
+
+-- "In each quadrant u picks the clear vertex at the smallest distance, the smallest place on a tie, or none." The vertices come in order, so
+-- the first of the nearest stays.
+unfoldable pub pick : List Macro → Quadrant → Place → List Place → Pick
+pick ms q u vs = pickFrom ms q u Nothing vs

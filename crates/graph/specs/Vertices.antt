@@ -1,0 +1,15 @@
+-- "Vertices: all pins and all macro corners; equal places are one vertex."
+use mathlib.Core.List.{List, [], _∷_, _++_}
+use Rattle.lists.specs.Sorted.{sorted}
+use Rattle.plane.specs.declared.Place.{Place}
+use Rattle.plane.specs.declared.Macro.{Macro}
+use Rattle.plane.specs.Place.{place, before}
+
+unfoldable pub corners : List Macro → List Place
+corners [] = []
+corners (m ∷ ms) =
+    place (m .left) (m .bottom)
+    ∷ (place (m .left) (m .top) ∷ (place (m .right) (m .bottom) ∷ (place (m .right) (m .top) ∷ corners ms)))
+
+unfoldable pub vertices : List Place → List Macro → List Place
+vertices pins macros = sorted before (pins ++ corners macros)
