@@ -1,0 +1,56 @@
+//! Seeded nets, lists and files to match two routers on. Each is a pure function of seed and kind.
+//!
+//! `Kind` names allowed nets, `Hostile` pairs of lists to be refused, `Damage` net files that are
+//! not as they should be.
+
+mod damaged;
+mod draft;
+mod hostile;
+mod nets;
+mod permuted;
+mod searched;
+mod walls;
+
+pub use damaged::{damaged, Damage};
+pub use hostile::{hostile, refusal, Hostile};
+pub use nets::{net, Kind};
+pub use permuted::permuted;
+
+/// An enum of kinds, each with a name for the command line and a line on what it gives. A macro,
+/// so that no kind can be left out of the list of all of them.
+macro_rules! kinds {
+    ($(#[$doc:meta])* $enum:ident { $($kind:ident $name:literal $about:literal,)+ }) => {
+        $(#[$doc])*
+        #[derive(Clone, Copy, Debug, PartialEq, Eq)]
+        pub enum $enum {
+            $(#[doc = $about] $kind,)+
+        }
+
+        impl $enum {
+            /// Every kind.
+            pub const ALL: &'static [$enum] = &[$($enum::$kind,)+];
+
+            /// The kind's name.
+            pub fn name(self) -> &'static str {
+                match self { $($enum::$kind => $name,)+ }
+            }
+
+            /// What the kind gives.
+            pub fn about(self) -> &'static str {
+                match self { $($enum::$kind => $about,)+ }
+            }
+
+            /// The kind of a name.
+            pub fn named(name: &str) -> Option<$enum> {
+                $enum::ALL.iter().copied().find(|kind| kind.name() == name)
+            }
+
+            /// A generator for this kind and seed, so that kinds do not repeat each other.
+            fn random(self, seed: u64) -> $crate::random::Random {
+                let own = $crate::random::Random::new(self as u64).bits();
+                $crate::random::Random::new(seed ^ own)
+            }
+        }
+    };
+}
+use kinds;

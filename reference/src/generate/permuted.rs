@@ -1,0 +1,19 @@
+//! The same net with its lists in another order.
+
+use crate::lists::Lists;
+use crate::random::Random;
+
+/// The entries of both lists in another order; lists must be whole entries.
+pub fn permuted(lists: &Lists, seed: u64) -> Lists {
+    let mut random = Random::new(seed);
+    Lists {
+        pins: shuffled(&lists.pins, 2, &mut random),
+        macros: shuffled(&lists.macros, 4, &mut random),
+    }
+}
+
+fn shuffled(list: &[i32], width: usize, random: &mut Random) -> Vec<i32> {
+    let mut entries: Vec<&[i32]> = list.chunks(width).collect();
+    random.shuffle(&mut entries);
+    entries.concat()
+}

@@ -1,0 +1,95 @@
+//! Nets on which something rare happens while refining, found by trying.
+
+use super::draft::Draft;
+use super::nets;
+use crate::lists::Lists;
+use crate::net::check;
+use crate::random::Random;
+use crate::refined::{refined, Statistics};
+
+/// At least three rounds gain.
+pub fn rounds(random: &mut Random) -> Lists {
+    find(random, |random| nets::tiny(random, 8), |s| s.rounds >= 3)
+}
+
+/// At least one point is pruned.
+pub fn pruned(random: &mut Random) -> Lists {
+    find(random, |random| nets::tiny(random, 8), |s| s.pruned > 0)
+}
+
+/// At least one candidate is dropped.
+pub fn dropped(random: &mut Random) -> Lists {
+    find(random, |random| nets::tiny(random, 8), |s| s.dropped > 0)
+}
+
+/// A dropped candidate would have won a round. On random nets that is too rare to wait for, so
+/// entries are added to a net known for it, and the whole is stretched and moved, which changes no
+/// order and no comparison of lengths.
+pub fn dropped_wins(random: &mut Random) -> Lists {
+    let lists = find(random, about_a_dropped_winner, |s| s.dropped_would_win);
+    let stretch = random.choose(&[1, 2, 30_000]);
+    let (right, up) = (random.between(-999, 999), random.between(-999, 999));
+    let moved = |list: &[i32]| {
+        let axes = [right, up].into_iter().cycle();
+        list.iter()
+            .zip(axes)
+            .map(|(c, by)| c * stretch + by)
+            .collect()
+    };
+    Lists {
+        pins: moved(&lists.pins),
+        macros: moved(&lists.macros),
+    }
+}
+
+/// Two macros that touch, with a pin just below the seam: the edge from (2, 11) to (4, 10) and the
+/// corner (9, 11) would win with s = (4, 11), which is a corner on the seam.
+fn about_a_dropped_winner(random: &mut Random) -> Lists {
+    let mut draft = Draft::default();
+    for (x, y) in [(0, 9), (2, 11), (3, 18), (4, 10), (9, 15), (13, 11)] {
+        draft.pin(x, y);
+    }
+    draft.macro_box(0, 11, 4, 18);
+    draft.macro_box(4, 11, 9, 18);
+    let tries = random.between(0, 4);
+    draft.macros_between(random, tries, (-10, 30), 8);
+    let tries = random.between(0, 4);
+    draft.pins_between(random, tries, -10, 30);
+    draft.lists()
+}
+
+/// m rounds are done and a further gain is still there: ways that zigzag over many small macros
+/// gain at every bend, and there are few pins to count rounds by.
+pub fn bound_ends(random: &mut Random) -> Lists {
+    find(random, few_pins_far_apart, |s| s.bound_ended)
+}
+
+fn few_pins_far_apart(random: &mut Random) -> Lists {
+    let (width, height) = random.choose(&[(1_000, 400), (4_000, 1_000)]);
+    let mut draft = Draft::default();
+    draft.pin(0, random.between(0, height));
+    draft.pin(width, random.between(0, height));
+    for _ in 0..random.choose(&[0, 0, 0, 1, 2]) {
+        draft.pin(random.between(0, width), random.between(0, height));
+    }
+    for _ in 0..random.between(20, 32) {
+        let (x, y) = (random.between(0, width), random.between(0, height));
+        draft.macro_box(x, y, x + random.between(1, 3), y + random.between(1, 3));
+    }
+    draft.turned(random)
+}
+
+/// Draws nets until one is refined in the way asked for.
+fn find(
+    random: &mut Random,
+    draw: impl Fn(&mut Random) -> Lists,
+    wanted: impl Fn(&Statistics) -> bool,
+) -> Lists {
+    loop {
+        let lists = draw(random);
+        let net = check(&lists.pins, &lists.macros).expect("drawn nets are allowed");
+        if wanted(&refined(&net).statistics) {
+            return lists;
+        }
+    }
+}

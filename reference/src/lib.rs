@@ -1,0 +1,21 @@
+//! The second program: document 01's router by the plainest means, written from the document
+//! alone, so that a difference with the proved router points at a mistake in one of the two.
+//!
+//! Data goes one way: lists, net, graph, terminal tree, refined tree, wires. `operations` is what
+//! the two programs are matched by; `generate` makes the nets, lists and files to match them on.
+
+pub mod answers;
+pub mod edge;
+pub mod generate;
+pub mod graph;
+pub mod lists;
+pub mod net;
+pub mod netfile;
+pub mod operations;
+pub mod random;
+pub mod refined;
+pub mod route;
+pub mod terminal;
+pub mod text;
+pub mod tree;
+pub mod wires;

@@ -1,0 +1,169 @@
+//! The net and the die: places, macros, and the check of two raw lists.
+
+/// "A pin is a place (x, y)." "Places are ordered by x, then by y": the derived order compares
+/// the fields from the top. Held in 64 bits so that no difference or sum can overflow.
+#[derive(Clone, Copy, Debug, PartialEq, Eq, PartialOrd, Ord)]
+pub struct Place {
+    pub x: i64,
+    pub y: i64,
+}
+
+impl Place {
+    /// "The distance of two places is |difference in x| + |difference in y|."
+    pub fn distance(self, other: Place) -> i64 {
+        (self.x - other.x).abs() + (self.y - other.y).abs()
+    }
+}
+
+/// "A macro is an upright rectangle given as left, bottom, right, top."
+#[derive(Clone, Copy, Debug, PartialEq, Eq)]
+pub struct Macro {
+    pub left: i64,
+    pub bottom: i64,
+    pub right: i64,
+    pub top: i64,
+}
+
+impl Macro {
+    /// "A macro's interior is every point of the plane with left < x < right and
+    /// bottom < y < top."
+    pub fn holds(&self, place: Place) -> bool {
+        self.left < place.x && place.x < self.right && self.bottom < place.y && place.y < self.top
+    }
+
+    /// "A closed upright box meets it exactly when the box's least x < right, greatest x > left,
+    /// least y < top and greatest y > bottom." The box is given by two opposite corners.
+    pub fn meets_box(&self, one: Place, other: Place) -> bool {
+        one.x.min(other.x) < self.right
+            && one.x.max(other.x) > self.left
+            && one.y.min(other.y) < self.top
+            && one.y.max(other.y) > self.bottom
+    }
+
+    /// "Two interiors meet exactly when the greater left < the smaller right and the greater
+    /// bottom < the smaller top."
+    pub fn meets(&self, other: &Macro) -> bool {
+        self.left.max(other.left) < self.right.min(other.right)
+            && self.bottom.max(other.bottom) < self.top.min(other.top)
+    }
+
+    /// The four corners, which the graph has among its vertices.
+    pub fn corners(&self) -> [Place; 4] {
+        [
+            (self.left, self.bottom),
+            (self.left, self.top),
+            (self.right, self.bottom),
+            (self.right, self.top),
+        ]
+        .map(|(x, y)| Place { x, y })
+    }
+}
+
+/// "A net is a list of pins and a list of macros", in list order; an allowed one, since only the
+/// check makes it.
+#[derive(Clone, Debug, PartialEq, Eq)]
+pub struct Net {
+    pins: Vec<Place>,
+    macros: Vec<Macro>,
+}
+
+impl Net {
+    /// "There are 1 to 64 pins and 0 to 64 macros."
+    pub const PINS: usize = 64;
+    pub const MACROS: usize = 64;
+    /// "Coordinates are signed whole numbers from −1,000,000 to 1,000,000."
+    pub const COORDINATE: i32 = 1_000_000;
+
+    pub fn pins(&self) -> &[Place] {
+        &self.pins
+    }
+
+    pub fn macros(&self) -> &[Macro] {
+        &self.macros
+    }
+
+    /// "Write m for pins."
+    pub fn m(&self) -> usize {
+        self.pins.len()
+    }
+
+    /// "k for macros."
+    pub fn k(&self) -> usize {
+        self.macros.len()
+    }
+
+    /// "n = m + 4k", also where places coincide.
+    pub fn n(&self) -> usize {
+        self.m() + 4 * self.k()
+    }
+}
+
+/// "Check a net." The refusals in their order; each test covers the whole net before the next
+/// begins. "A net is allowed when no number of this check applies."
+pub fn check(pins: &[i32], macros: &[i32]) -> Result<Net, u32> {
+    if !pins.len().is_multiple_of(2) || pins.is_empty() || pins.len() / 2 > Net::PINS {
+        return Err(11);
+    }
+    if !macros.len().is_multiple_of(4) || macros.len() / 4 > Net::MACROS {
+        return Err(12);
+    }
+    let range = -Net::COORDINATE..=Net::COORDINATE;
+    if pins.iter().chain(macros).any(|c| !range.contains(c)) {
+        return Err(13);
+    }
+    let net = Net {
+        pins: pins_of(pins),
+        macros: macros_of(macros),
+    };
+    if net
+        .macros
+        .iter()
+        .any(|m| m.left >= m.right || m.bottom >= m.top)
+    {
+        return Err(14);
+    }
+    if any_pair(&net.pins, |one, other| one == other) {
+        return Err(15);
+    }
+    if any_pair(&net.macros, Macro::meets) {
+        return Err(16);
+    }
+    if net
+        .macros
+        .iter()
+        .any(|m| net.pins.iter().any(|&pin| m.holds(pin)))
+    {
+        return Err(17);
+    }
+    Ok(net)
+}
+
+/// The pins of a list of whole pairs.
+fn pins_of(list: &[i32]) -> Vec<Place> {
+    list.chunks_exact(2)
+        .map(|pair| Place {
+            x: i64::from(pair[0]),
+            y: i64::from(pair[1]),
+        })
+        .collect()
+}
+
+/// The macros of a list of whole fours.
+fn macros_of(list: &[i32]) -> Vec<Macro> {
+    list.chunks_exact(4)
+        .map(|four| Macro {
+            left: i64::from(four[0]),
+            bottom: i64::from(four[1]),
+            right: i64::from(four[2]),
+            top: i64::from(four[3]),
+        })
+        .collect()
+}
+
+/// Whether two entries at different positions of a list stand in a relation, which is the same
+/// both ways. "The search for an overlap ends at the first pair found."
+fn any_pair<T>(list: &[T], related: impl Fn(&T, &T) -> bool) -> bool {
+    list.iter()
+        .enumerate()
+        .any(|(number, one)| list[..number].iter().any(|other| related(one, other)))
+}

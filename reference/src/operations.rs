@@ -1,0 +1,125 @@
+//! "Refusal by operation": each operation with lent space as given. "A refusal is its number
+//! alone; nothing lent is altered." On success space past the answer is unaltered; so every
+//! operation works its answer out whole and only then writes it.
+
+use crate::edge::Edge;
+use crate::graph;
+use crate::lists::Lists;
+use crate::net::{self, Net, Place};
+use crate::netfile;
+use crate::refined;
+use crate::terminal;
+use crate::wires;
+
+/// "Check a net." 11 to 17.
+pub fn check(pins: &[i32], macros: &[i32]) -> Result<(), u32> {
+    net::check(pins, macros).map(|_| ())
+}
+
+/// "Graph. 11 to 17, then 21: fewer than 2n numbers lent for vertices or 16n for edges. Both are
+/// given in order, an edge as four numbers." How many vertices and edges.
+pub fn graph(
+    pins: &[i32],
+    macros: &[i32],
+    vertices: &mut [i32],
+    edges: &mut [i32],
+) -> Result<(usize, usize), u32> {
+    let net = net::check(pins, macros)?;
+    if vertices.len() < 2 * net.n() || edges.len() < 16 * net.n() {
+        return Err(21);
+    }
+    let graph = graph::graph(&net);
+    lay(vertices, graph.vertices.iter().flat_map(|&v| numbers(v)));
+    lay(edges, graph.edges.iter().flat_map(|&e| edge_numbers(e)));
+    Ok((graph.vertices.len(), graph.edges.len()))
+}
+
+/// "Terminal tree. 11 to 17, then 21: fewer than 5m numbers lent. Each path in the order kept: its
+/// bridge (four numbers) and its length, with the total." How many paths, and the total.
+pub fn terminal_tree(pins: &[i32], macros: &[i32], paths: &mut [i64]) -> Result<(usize, i64), u32> {
+    let net = net::check(pins, macros)?;
+    if paths.len() < 5 * net.m() {
+        return Err(21);
+    }
+    let terminal = terminal::terminal(&net);
+    let of_path = |path: &terminal::Path| {
+        let [a, b, c, d] = edge_numbers(path.bridge).map(i64::from);
+        [a, b, c, d, path.length]
+    };
+    lay(paths, terminal.paths.iter().flat_map(of_path));
+    Ok((terminal.paths.len(), terminal.total))
+}
+
+/// "Refined tree. 11 to 17, then 21: fewer than 4(n + m) numbers lent. Edges in order, with their
+/// total." How many edges, and the total.
+pub fn refined_tree(pins: &[i32], macros: &[i32], edges: &mut [i32]) -> Result<(usize, i64), u32> {
+    let net = net::check(pins, macros)?;
+    if edges.len() < 4 * (net.n() + net.m()) {
+        return Err(21);
+    }
+    let refined = refined::refined(&net);
+    lay(edges, refined.edges.iter().flat_map(|&e| edge_numbers(e)));
+    Ok((refined.edges.len(), refined.total))
+}
+
+/// "Wires. 11 to 17, then 21: fewer than 8(n + m) numbers lent." How many wires.
+pub fn wires(pins: &[i32], macros: &[i32], wires: &mut [i32]) -> Result<usize, u32> {
+    let net = net::check(pins, macros)?;
+    if wires.len() < 8 * (net.n() + net.m()) {
+        return Err(21);
+    }
+    let answer = wires::wires(&refined::refined(&net).edges);
+    let of_wire = |wire: &wires::Wire| [numbers(wire.start), numbers(wire.end)].concat();
+    lay(wires, answer.iter().flat_map(of_wire));
+    Ok(answer.len())
+}
+
+/// "Write a net file. 11 to 17, then 21: lent space below the file's bytes." How many bytes.
+pub fn write_file(pins: &[i32], macros: &[i32], bytes: &mut [u8]) -> Result<usize, u32> {
+    net::check(pins, macros)?;
+    let file = netfile::write(&Lists {
+        pins: pins.to_vec(),
+        macros: macros.to_vec(),
+    });
+    if bytes.len() < file.len() {
+        return Err(21);
+    }
+    let length = file.len();
+    lay(bytes, file.into_iter());
+    Ok(length)
+}
+
+/// "Read a net file. 21 first: fewer than 128 numbers lent for pins or 256 for macros", 1, 2, 3,
+/// "then 11 to 17". m and k.
+pub fn read_file(
+    bytes: &[u8],
+    pins: &mut [i32],
+    macros: &mut [i32],
+) -> Result<(usize, usize), u32> {
+    if pins.len() < 2 * Net::PINS || macros.len() < 4 * Net::MACROS {
+        return Err(21);
+    }
+    let lists = netfile::read(bytes)?;
+    let net = net::check(&lists.pins, &lists.macros)?;
+    lay(pins, lists.pins.into_iter());
+    lay(macros, lists.macros.into_iter());
+    Ok((net.m(), net.k()))
+}
+
+/// Writes an answer at the front of a lent space that is long enough for it.
+fn lay<T>(lent: &mut [T], answer: impl Iterator<Item = T>) {
+    for (position, number) in answer.enumerate() {
+        lent[position] = number;
+    }
+}
+
+/// A place of an allowed net, or between two of them, as two lent numbers.
+fn numbers(place: Place) -> [i32; 2] {
+    [place.x, place.y].map(|c| i32::try_from(c).expect("places are in range"))
+}
+
+/// "An edge as four numbers."
+fn edge_numbers(edge: Edge) -> [i32; 4] {
+    let ([a, b], [c, d]) = (numbers(edge.first()), numbers(edge.second()));
+    [a, b, c, d]
+}

@@ -1,0 +1,77 @@
+//! A text form for the two lists, one entry a line: `pin x y` and `macro left bottom right top`.
+//! Blank lines are allowed, and `#` makes the rest of its line a comment.
+
+use std::fmt;
+
+use crate::lists::Lists;
+
+/// A line that is no entry, and what is wrong with it. Lines count from 1.
+#[derive(Clone, Debug, PartialEq, Eq)]
+pub struct BadLine {
+    pub line: usize,
+    pub wrong: String,
+}
+
+impl fmt::Display for BadLine {
+    fn fmt(&self, f: &mut fmt::Formatter) -> fmt::Result {
+        write!(f, "line {}: {}", self.line, self.wrong)
+    }
+}
+
+/// The lists that a text gives. Any 32-bit numbers and any count of lines pass, so that refused
+/// nets can be written too.
+pub fn parse(text: &str) -> Result<Lists, BadLine> {
+    let mut lists = Lists::default();
+    for (number, line) in text.lines().enumerate() {
+        entry(line, &mut lists).map_err(|wrong| BadLine {
+            line: number + 1,
+            wrong,
+        })?;
+    }
+    Ok(lists)
+}
+
+/// Adds one line's entry to its list.
+fn entry(line: &str, lists: &mut Lists) -> Result<(), String> {
+    let said = line.split('#').next().unwrap_or("");
+    let mut words = said.split_whitespace();
+    let Some(kind) = words.next() else {
+        return Ok(());
+    };
+    let (list, names): (&mut Vec<i32>, &[&str]) = match kind {
+        "pin" => (&mut lists.pins, &["x", "y"]),
+        "macro" => (&mut lists.macros, &["left", "bottom", "right", "top"]),
+        other => return Err(format!("'{other}' is neither 'pin' nor 'macro'")),
+    };
+    for name in names {
+        let word = words
+            .next()
+            .ok_or_else(|| format!("a {kind} needs a number for {name}"))?;
+        let number = word
+            .parse()
+            .map_err(|_| format!("'{word}' for {name} is no whole number of 32 bits"))?;
+        list.push(number);
+    }
+    match words.next() {
+        Some(extra) => Err(format!("'{extra}' stands after the end of the {kind}")),
+        None => Ok(()),
+    }
+}
+
+/// The text of two lists, which parses back to them. Numbers left over in a list that is not
+/// whole entries have no line of their own; a comment names them.
+pub fn print(lists: &Lists) -> String {
+    let mut text = String::new();
+    for (kind, list, width) in [("pin", &lists.pins, 2), ("macro", &lists.macros, 4)] {
+        for chunk in list.chunks(width) {
+            let numbers: Vec<String> = chunk.iter().map(i32::to_string).collect();
+            let start = if chunk.len() == width {
+                ""
+            } else {
+                "# left over: "
+            };
+            text.push_str(&format!("{start}{kind} {}\n", numbers.join(" ")));
+        }
+    }
+    text
+}

@@ -1,0 +1,217 @@
+//! The net file: layout word by word, round trips, damaged files.
+
+mod common;
+
+use reference::generate::{damaged, hostile, Damage, Hostile};
+use reference::lists::Lists;
+use reference::net::check;
+use reference::netfile::{blocks_of, bytes_of, read, seal, sums, write, Block};
+use reference::operations::read_file;
+
+/// What the operation answers for bytes, with space enough lent.
+fn answer(bytes: &[u8]) -> Result<(usize, usize), u32> {
+    read_file(bytes, &mut [0; 128], &mut [0; 256])
+}
+
+fn head(m: u32, k: u32) -> Block {
+    let mut block = [0; 128];
+    block[0] = 1;
+    block[4] = m;
+    block[5] = k;
+    seal(&mut block);
+    block
+}
+
+#[test]
+fn words_of_a_small_file() {
+    let bytes = write(&Lists {
+        pins: vec![1, -2, 300, 4],
+        macros: vec![5, 6, 7, 8],
+    });
+    assert_eq!(bytes.len(), 3 * 512);
+    assert_eq!(bytes[..8], [1, 0, 0, 0, 0, 0, 0, 0]);
+    assert_eq!(bytes[512 + 20..512 + 28], [254, 255, 255, 255, 44, 1, 0, 0]);
+    let blocks = blocks_of(&bytes);
+    assert_eq!(blocks[0][..8], [1, 0, 0, 0, 2, 1, 0, 0]);
+    assert_eq!(blocks[1][..9], [2, 1, 2, 0, 1, u32::MAX - 1, 300, 4, 0]);
+    assert_eq!(blocks[2][..9], [3, 2, 1, 0, 5, 6, 7, 8, 0]);
+    // The head has 1 in word 0, 2 in word 4 and 1 in word 5; a word in place i is in 126 − i of
+    // the running sums.
+    assert_eq!(blocks[0][126..], [4, 126 + 2 * 122 + 121]);
+    // −2 and 300 wrap around 2^32.
+    assert_eq!(blocks[1][126], 2 + 1 + 2 + 1 + 298 + 4);
+}
+
+#[test]
+fn sums_wrap() {
+    let block = [u32::MAX; 128];
+    let triangle = 126 * 127 / 2;
+    assert_eq!(
+        sums(&block),
+        (0u32.wrapping_sub(126), 0u32.wrapping_sub(triangle))
+    );
+}
+
+/// 64 pins are blocks of 60 and 4, 64 macros of 30, 30 and 4: "the longest file is 6 blocks".
+#[test]
+fn the_longest_file() {
+    let file = write(&Lists {
+        pins: (0..128).collect(),
+        macros: (0..256).collect(),
+    });
+    let blocks = blocks_of(&file);
+    let fronts: Vec<&[u32]> = blocks.iter().map(|block| &block[..3]).collect();
+    let expected = [
+        [1, 0, 0],
+        [2, 1, 60],
+        [2, 2, 4],
+        [3, 3, 30],
+        [3, 4, 30],
+        [3, 5, 4],
+    ];
+    assert_eq!(fronts, expected);
+}
+
+#[test]
+fn files_read_back() {
+    for (name, lists) in common::nets(20) {
+        let bytes = write(&lists);
+        assert_eq!(read(&bytes), Ok(lists.clone()), "{name}");
+        assert_eq!(bytes_of(&blocks_of(&bytes)), bytes, "{name}");
+        let counts = (lists.pins.len() / 2, lists.macros.len() / 4);
+        assert_eq!(answer(&bytes), Ok(counts), "{name}");
+    }
+}
+
+#[test]
+fn lengths_come_first() {
+    for blocks in [0, 7, 8, 100] {
+        assert_eq!(answer(&vec![1; 512 * blocks]), Err(1));
+    }
+    for length in [1, 511, 513, 3071, 3073] {
+        assert_eq!(answer(&vec![0; length]), Err(1));
+    }
+}
+
+/// A sum wrong in the last block goes before a layout wrong in the first.
+#[test]
+fn sums_come_before_the_layout() {
+    let mut blocks = blocks_of(&write(&Lists {
+        pins: vec![1, 1],
+        macros: vec![],
+    }));
+    blocks[0][0] = 9;
+    seal(&mut blocks[0]);
+    assert_eq!(answer(&bytes_of(&blocks)), Err(3));
+    blocks[1][127] ^= 1;
+    assert_eq!(answer(&bytes_of(&blocks)), Err(2));
+}
+
+#[test]
+fn a_head_alone() {
+    assert_eq!(answer(&bytes_of(&[head(0, 0)])), Err(11));
+    for (m, k) in [
+        (1, 0),
+        (0, 1),
+        (u32::MAX, 0),
+        (0, u32::MAX),
+        (u32::MAX, u32::MAX),
+    ] {
+        assert_eq!(answer(&bytes_of(&[head(m, k)])), Err(3));
+    }
+}
+
+/// Every word of every block, changed with the sums right, makes another net or a refusal, and
+/// all words but the entries' make it 3.
+#[test]
+fn every_word_counts() {
+    let lists = Lists {
+        pins: vec![0, 0, 9, 9],
+        macros: vec![1, 1, 2, 2],
+    };
+    let blocks = blocks_of(&write(&lists));
+    let entries = [4..4, 4..8, 4..8];
+    for (number, block) in blocks.iter().enumerate() {
+        for word in 0..126 {
+            let mut changed = *block;
+            changed[word] ^= 2;
+            seal(&mut changed);
+            let mut file = blocks.clone();
+            file[number] = changed;
+            match read(&bytes_of(&file)) {
+                Ok(read) => assert!(entries[number].contains(&word) && read != lists),
+                Err(refusal) => {
+                    assert_eq!(refusal, 3);
+                    assert!(!entries[number].contains(&word));
+                }
+            }
+        }
+    }
+}
+
+/// The refusals that a kind of damage may lead to; 0 stands for a file that is still right.
+fn outcomes(kind: Damage) -> &'static [u32] {
+    match kind {
+        Damage::WordChanged => &[0, 3, 13, 14, 15, 16, 17],
+        Damage::SumWrong | Damage::BitFlipped | Damage::WordsExchanged => &[2],
+        Damage::BlocksSwapped => &[0, 3],
+        Damage::BlockDoubled | Damage::Cut | Damage::AllZero => &[1, 3],
+        Damage::BlockMissing | Damage::RandomWords => &[3],
+        Damage::TooLong => &[1],
+        Damage::CountsAbove => &[11, 12],
+        Damage::HeadCounts => &[0, 3, 11],
+        Damage::AllOnes | Damage::RandomBytes => &[1, 2],
+        Damage::NetRefused => &[13, 14, 15, 16, 17],
+    }
+}
+
+/// Each kind of damage leads to what it names and, over many seeds, to each of it.
+#[test]
+fn damage_leads_to_what_it_names() {
+    for &kind in Damage::ALL {
+        let mut seen = Vec::new();
+        for seed in 0..1_500 {
+            let outcome = match answer(&damaged(kind, seed)) {
+                Ok(_) => 0,
+                Err(refusal) => refusal,
+            };
+            if !seen.contains(&outcome) {
+                seen.push(outcome);
+            }
+        }
+        seen.sort();
+        assert_eq!(seen, outcomes(kind), "{}", kind.name());
+    }
+}
+
+/// A file that is read is, byte for byte, the one that its lists are written to.
+#[test]
+fn only_written_files_are_read() {
+    let mut right = 0;
+    for &kind in Damage::ALL {
+        for seed in 0..300 {
+            let bytes = damaged(kind, seed);
+            if let Ok(lists) = read(&bytes) {
+                assert_eq!(write(&lists), bytes, "{} {seed}", kind.name());
+                right += 1;
+            }
+        }
+    }
+    assert!(right > 100, "only {right} files were read");
+}
+
+/// A file of a refused net is refused with the net's own number.
+#[test]
+fn the_net_is_checked_last() {
+    for kind in [
+        Hostile::JustOutOfRange,
+        Hostile::Overlap,
+        Hostile::PinInside,
+    ] {
+        for seed in 0..50 {
+            let lists = hostile(kind, seed);
+            let refusal = check(&lists.pins, &lists.macros).unwrap_err();
+            assert_eq!(answer(&write(&lists)), Err(refusal));
+        }
+    }
+}
