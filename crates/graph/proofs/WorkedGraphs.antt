@@ -12,13 +12,13 @@ use Rattle.plane.specs.Distance.{apart, distance}
 use Rattle.plane.specs.Macro.{spanMeets, meets, clear}
 use Rattle.plane.specs.Flat.{placesOf, macrosOf}
 use Rattle.net.specs.WorkedNets.{Lists, onePin, aroundOne, threePins, sharedSide, onSides, onBoundary}
-use Rattle.graph.specs.Vertices.{corners, vertices}
+use Rattle.graph.specs.Vertices.{cornersOf, corners, vertices}
 use Rattle.graph.specs.Pick.{within, nearer, better, pickFrom, pick}
 use Rattle.graph.specs.Edges.{edgeOf, beforeEdge, edgeOfPick, picksOf, allPicks, edges}
 
 -- the edges of a net; to unfold this is to unfold all that it rests on
 unfoldable pub graphOf : Lists → List (Place × Place)
-unfolding any put sorted firstThen minZ maxZ before apart distance spanMeets meets clear placesOf macrosOf corners vertices within nearer better pickFrom pick edgeOf beforeEdge edgeOfPick picksOf allPicks edges
+unfolding any put sorted firstThen minZ maxZ before apart distance spanMeets meets clear placesOf macrosOf cornersOf corners vertices within nearer better pickFrom pick edgeOf beforeEdge edgeOfPick picksOf allPicks edges
 graphOf net = edges (macrosOf (net .macros)) (vertices (placesOf (net .pins)) (macrosOf (net .macros)))
 
 -- an edge by its four numbers

@@ -7,8 +7,8 @@ use Rattle.plane.specs.declared.Macro.{Macro}
 use Rattle.plane.specs.Place.{before}
 use Rattle.graph.specs.declared.Quadrant.{Quadrant}
 use Rattle.graph.specs.declared.Quadrant.the-variants.{First, Second, Third, Fourth}
-use Rattle.graph.specs.declared.Pick.{Pick}
-use Rattle.graph.specs.declared.Pick.the-variants.{At, Nothing}
+use Rattle.graph.specs.declared.Picked.{Picked}
+use Rattle.graph.specs.declared.Picked.the-variants.{At, Nothing}
 use Rattle.graph.specs.Pick.{pick}
 
 -- "An edge is written smaller place first"
@@ -20,7 +20,7 @@ unfoldable pub beforeEdge : Place × Place → Place × Place → Bool
 beforeEdge = firstThen before before
 
 -- the edge of a pick, or none
-unfoldable pub edgeOfPick : Place → Pick → List (Place × Place)
+unfoldable pub edgeOfPick : Place → Picked → List (Place × Place)
 edgeOfPick u Nothing = []
 edgeOfPick u (At v) = edgeOf u v ∷ []
 

@@ -10,8 +10,8 @@ use Rattle.plane.specs.Distance.{distance}
 use Rattle.plane.specs.Macro.{clear}
 use Rattle.graph.specs.declared.Quadrant.{Quadrant}
 use Rattle.graph.specs.declared.Quadrant.the-variants.{First, Second, Third, Fourth}
-use Rattle.graph.specs.declared.Pick.{Pick}
-use Rattle.graph.specs.declared.Pick.the-variants.{At, Nothing}
+use Rattle.graph.specs.declared.Picked.{Picked}
+use Rattle.graph.specs.declared.Picked.the-variants.{At, Nothing}
 
 -- "First: x greater, y not less. Second: x not greater, y greater. Third: x less, y not greater. Fourth: x not less, y less."
 unfoldable pub within : Quadrant → Place → Place → Bool
@@ -21,19 +21,19 @@ within Third u v = ltZ (v .x) (u .x) && leZ (v .y) (u .y)
 within Fourth u v = leZ (u .x) (v .x) && ltZ (v .y) (u .y)
 
 -- v is nearer to u than what was picked so far; anything is nearer than nothing
-unfoldable pub nearer : Place → Place → Pick → Bool
+unfoldable pub nearer : Place → Place → Picked → Bool
 nearer u v Nothing = true
 nearer u v (At w) = ltb (distance u v) (distance u w)
 
 -- the pick so far with one vertex more, which takes its place where it is in the quadrant, nearer, and clear
-unfoldable pub better : List Macro → Quadrant → Place → Pick → Place → Pick
+unfoldable pub better : List Macro → Quadrant → Place → Picked → Place → Picked
 better ms q u best v = cond (within q u v && (nearer u v best && clear u v ms)) (At v) best
 
-unfoldable pub pickFrom : List Macro → Quadrant → Place → Pick → List Place → Pick
+unfoldable pub pickFrom : List Macro → Quadrant → Place → Picked → List Place → Picked
 pickFrom ms q u best [] = best
 pickFrom ms q u best (v ∷ vs) = pickFrom ms q u (better ms q u best v) vs
 
 -- "In each quadrant u picks the clear vertex at the smallest distance, the smallest place on a tie, or none." The vertices come in order, so
 -- the first of the nearest stays.
-unfoldable pub pick : List Macro → Quadrant → Place → List Place → Pick
+unfoldable pub pick : List Macro → Quadrant → Place → List Place → Picked
 pick ms q u vs = pickFrom ms q u Nothing vs

@@ -1,2 +1,4 @@
 pub mod OverLaws
 pub mod EntryTable
+pub mod CarryTable
+pub mod InsertedLaws

@@ -9,3 +9,4 @@
 pub mod Told
 pub mod Over
 pub mod Entries
+pub mod Inserted
