@@ -1,1 +1,5 @@
+pub mod OrderLaws
+pub mod GraphSteps
+pub mod PickSteps
+pub mod WidthLaws
 pub mod WorkedGraphs

@@ -1,6 +1,7 @@
 pub mod TestLaws
 pub mod AnyLaws
 pub mod AnyOrder
+pub mod ScanLaws
 pub mod EntryLaws
 pub mod MemberLaws
 pub mod SortedLaws
