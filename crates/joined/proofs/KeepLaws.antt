@@ -2,7 +2,7 @@
 -- is kept of the light ones. By cases of one item: its ends are joined by what was kept before it, or not.
 -- Assumes nothing.
 use mathlib.Core.Path.{_≡_, refl, sym, ap, _∙_}
-use mathlib.Core.Bool.{Bool, true, false, not}
+use mathlib.Core.Bool.{not}
 use mathlib.Core.Logic.{_⊎_, inl, inr}
 use mathlib.Core.List.{List, [], _∷_, map, reverse, reverseAux, List·Memᴰ·cases-cons}
 use Prim.Native.Nat.{ℕ, _+_, _≤_, _<_}
@@ -14,7 +14,7 @@ use lib.ListN.{length, length-map}
 use Rattle.lists.specs.Member.{_∈_, here, there, Among, those}
 use Rattle.lists.proofs.TestLaws.{by, either, not-true}
 use Rattle.lists.proofs.MemberLaws.{those-hit, those-miss, those-none, in-those, of-those, those-all, those-split, those-map}
-use Rattle.lists.proofs.TotalLaws.{above}
+use Rattle.lists.specs.Total.{above}
 use Rattle.joined.specs.Joined.{Joined}
 use Rattle.joined.specs.Labels.{equal, labels}
 use Rattle.joined.specs.Tree.{Forest}

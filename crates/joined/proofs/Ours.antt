@@ -2,12 +2,11 @@
 -- leads from each pin to each other, and its longest path is no longer than the longest path of any chain.
 -- The paths compared with are any things with ends and a cost whose ends are joined by offered ones that cost no more.
 -- Assumes nothing.
-use mathlib.Core.Path.{_≡_, refl, sym, ap, _∙_}
+use mathlib.Core.Path.{_≡_, sym, ap, _∙_}
 use mathlib.Core.List.{List, map}
 use Prim.Native.Nat.{ℕ, suc, _≤_}
-use native.Mathlib.Omega.{arith}
 use lib.ListN.{length, length-map}
-use Rattle.lists.specs.Member.{_∈_, Among}
+use Rattle.lists.specs.Member.{_∈_}
 use Rattle.lists.specs.Total.{total, most}
 use Rattle.lists.proofs.TotalLaws.{le-most, most-le}
 use Rattle.joined.specs.Joined.{Joined}

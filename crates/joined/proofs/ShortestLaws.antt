@@ -2,17 +2,17 @@
 -- For every t the kept items up to t, with the paths above t, still join all points: so there are no more kept items above t than paths
 -- above t. That holds at every height, so the sums compare layer by layer.
 -- Assumes nothing.
-use mathlib.Core.Path.{_≡_, refl, sym, ap, _∙_}
-use mathlib.Core.Logic.{_⊎_, inl, inr}
-use mathlib.Core.List.{List, [], _∷_, _++_, map, reverse, Memᴰ·append-left, Memᴰ·append-right}
-use Prim.Native.Nat.{ℕ, suc, _+_, _≤_, _<_}
+use mathlib.Core.Path.{sym, _∙_}
+use mathlib.Core.Logic.{inl}
+use mathlib.Core.List.{List, _++_, map, reverse, Memᴰ·append-left, Memᴰ·append-right}
+use Prim.Native.Nat.{ℕ, _≤_}
 use native.Mathlib.Decide.{decLe}
 use native.Mathlib.Omega.{arith}
-use lib.ListN.{length, length-map, length-append, length-reverse}
+use lib.ListN.{length-map, length-append, length-reverse}
 use Rattle.lists.specs.Member.{_∈_, Among}
-use Rattle.lists.specs.Total.{total}
+use Rattle.lists.specs.Total.{total, above}
 use Rattle.lists.proofs.MemberLaws.{in-map, of-map, map-among, in-reverse, of-reverse}
-use Rattle.lists.proofs.TotalLaws.{above, total-le, total-reverse}
+use Rattle.lists.proofs.TotalLaws.{total-le, total-reverse}
 use Rattle.joined.specs.Joined.{Joined, Joins}
 use Rattle.joined.specs.Tree.{Tree}
 use Rattle.joined.specs.Keep.{keep, kept, heavy, light, Offered, Dominated}

@@ -1,5 +1,5 @@
 -- Items offered in an order, each with a pair of points: those that are kept, and those up to a weight.
-use mathlib.Core.Bool.{Bool, true, false, not}
+use mathlib.Core.Bool.{true, false, not}
 use mathlib.Core.List.{List, [], _∷_, map, reverse}
 use Prim.Native.Nat.{ℕ, _≤_}
 use lib.Dec.{ltb}

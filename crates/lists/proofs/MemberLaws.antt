@@ -4,7 +4,8 @@
 use mathlib.Core.Path.{_≡_, refl, sym, ap, _∙_}
 use mathlib.Core.Bool.{Bool, true, false, not}
 use mathlib.Core.Logic.{_⊎_, inl, inr}
-use mathlib.Core.List.{List, [], _∷_, _++_, map, reverse, reverseAux, List·Memᴰ·cases-cons, Memᴰ·cast, Memᴰ·append-right}
+use mathlib.Core.List.{List, [], _∷_, _++_, map, reverse, reverseAux, List·Memᴰ·cases-cons, List·Memᴰ·append-cases}
+use mathlib.Core.List.{Memᴰ·cast, Memᴰ·append-right}
 use Prim.Native.Nat.{ℕ, zero, suc, _+_, _≤_, _<_}
 use native.Mathlib.Omega.{arith}
 use lib.ListN.{length, getD}
@@ -57,6 +58,13 @@ module _ {A : Type 0} where
   pub once-apart : (l m : List A) → Once (l ++ m) → (x : A) → x ∈ l → x ∈ m → ⊥
   once-apart (y ∷ l) m o x (here e) k = o .0 (Memᴰ·append-right l (Memᴰ·cast (sym e) k))
   once-apart (y ∷ l) m o x (there i) k = once-apart l m (o .1) x i k
+
+  pub once-end : (l : List A) (x : A) → Once l → (x ∈ l → ⊥) → Once (l ++ (x ∷ []))
+  once-end [] x o n = (λ i. elim i [ ], tt)
+  once-end (y ∷ l) x o n = (λ i. either (o .0) last (List·Memᴰ·append-cases l i), once-end l x (o .1) (λ i. n (there i)))
+    where
+      last : y ∈ (x ∷ []) → ⊥
+      last i = either (λ e. n (here (sym e))) (λ k. elim k [ ]) (List·Memᴰ·cases-cons i)
 
   -- The list turned round
 

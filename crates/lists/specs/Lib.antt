@@ -27,6 +27,7 @@
 --   position before l a   where a stands in the ascending list l, counted from 0
 --   Least le l        an entry of l that is `le` each entry
 --   total l, most l   the sum and the greatest of a list of numbers
+--   above t l         how many numbers of a list are above t
 pub mod Any
 pub mod Member
 pub mod Sorted
