@@ -15,6 +15,7 @@ pub mod TableLaws
 pub mod ShortestLaws
 pub mod ChainLaws
 pub mod Ours
+pub mod Worked
 -- The refiner
 pub mod GraftLaws
 pub mod TowardLaws
