@@ -7,7 +7,8 @@ use mathlib.Core.Logic.{inl, inr}
 use mathlib.Core.List.{List, [], _∷_, map, List·Memᴰ·cases-cons, Memᴰ·cast}
 use Rattle.lists.specs.Member.{_∈_, here, there, Among, Once, rest}
 use Rattle.lists.proofs.TestLaws.{either}
-use Rattle.lists.proofs.MemberLaws.{rest-or, in-map, of-map, map-rest}
+use Rattle.lists.proofs.MemberLaws.{rest-or}
+use Rattle.lists.proofs.MapLaws.{in-map, of-map, map-rest}
 use Rattle.joined.specs.Joined.{Link, Joined, stay, Joins}
 use Rattle.joined.specs.Tree.{Cuts}
 use Rattle.joined.specs.Way.{Way, stop, go, Free, On, NoStepTwice}

@@ -10,6 +10,7 @@ pub mod WayLaws
 pub mod OnlyWay
 pub mod OneTreeLaws
 -- Kruskal's choice
+pub mod LightLaws
 pub mod KeepLaws
 pub mod TableLaws
 pub mod ShortestLaws
@@ -19,5 +20,6 @@ pub mod Worked
 -- The refiner
 pub mod GraftLaws
 pub mod TowardLaws
+pub mod LaidLaws
 pub mod ExchangeLaws
 pub mod PruneLaws

@@ -10,10 +10,11 @@ use Rattle.lists.specs.Member.{_∈_}
 use Rattle.lists.specs.Total.{total, most}
 use Rattle.lists.proofs.TotalLaws.{le-most, most-le}
 use Rattle.joined.specs.Joined.{Joined}
-use Rattle.joined.specs.Keep.{kept, light, Offered, Dominated}
+use Rattle.joined.specs.Keep.{kept, Offered, Dominated}
+use Rattle.joined.specs.Light.{light}
 use Rattle.joined.specs.Chain.{Chain, Joining, OurWay}
 use Rattle.joined.proofs.TreeLaws.{tree-cuts}
-use Rattle.joined.proofs.KeepLaws.{of-light}
+use Rattle.joined.proofs.LightLaws.{of-light}
 use Rattle.joined.proofs.ShortestLaws.{kept-tree, path-kept, shortest}
 use Rattle.joined.proofs.ChainLaws.{chain-through, joining-joins, joins-joining, joined-our-way, our-way-only}
 

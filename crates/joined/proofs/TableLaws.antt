@@ -11,7 +11,7 @@ use lib.Dec.{eqb}
 use lib.ListN.{length, length-map, getD}
 use Rattle.lists.specs.Member.{here, there}
 use Rattle.lists.proofs.TestLaws.{by}
-use Rattle.lists.proofs.MemberLaws.{getD-map}
+use Rattle.lists.proofs.MapLaws.{getD-map}
 use Rattle.joined.specs.Labels.{renamed, merge, labels}
 use Rattle.joined.specs.Keep.{keep, kept}
 use Rattle.joined.specs.Table.{changed, keptBy, Below}

@@ -3,6 +3,8 @@ pub mod AnyLaws
 pub mod AnyOrder
 pub mod EntryLaws
 pub mod MemberLaws
+pub mod MapLaws
+pub mod ThoseLaws
 pub mod SortedLaws
 pub mod OrderLaws
 pub mod LeastLaws
