@@ -6,6 +6,7 @@ pub mod MemberLaws
 pub mod MapLaws
 pub mod ThoseLaws
 pub mod SortedLaws
+pub mod SortedOrder
 pub mod OrderLaws
 pub mod LeastLaws
 pub mod TotalLaws

@@ -1,7 +1,7 @@
 -- The image of a list under a map: what stands in it and where that comes from, positions and repeats carried over.
 -- Assumes nothing.
 use mathlib.Core.Path.{_≡_, refl, ap}
-use mathlib.Core.List.{List, [], _∷_, _++_, map, List·Memᴰ·cases-cons, Memᴰ·cast}
+use mathlib.Core.List.{List, [], _∷_, map, List·Memᴰ·cases-cons, Memᴰ·cast}
 use Prim.Native.Nat.{ℕ, zero, suc, _<_}
 use native.Mathlib.Omega.{arith}
 use lib.ListN.{length, getD}
@@ -34,10 +34,6 @@ module _ {A B : Type 0} (f : A → B) where
 
   pub map-among : (l m : List A) → Among l m → Among (map f l) (map f m)
   map-among l m h y i = let s = of-map l i in Memᴰ·cast (s .is) (in-map (h (s .entry) (s .stands)))
-
-  pub map-append : (l m : List A) → map f (l ++ m) ≡ map f l ++ map f m
-  map-append [] m = refl
-  map-append (x ∷ l) m = ap (λ (k : List B). f x ∷ k) (map-append l m)
 
   pub getD-map : (l : List A) (i : ℕ) (d : A) (c : B) → i < length l → getD (map f l) i c ≡ f (getD l i d)
   getD-map [] i d c h = absurd (let z : ⊥ = omega arith in z)
