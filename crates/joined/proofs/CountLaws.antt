@@ -1,15 +1,16 @@
 -- Two counts: to join all points takes at least one pair fewer than there are points, and a forest has at most so many pairs. Both by
 -- contracting the first pair: its second end is renamed to the first, which takes one point and one pair away.
 -- Assumes nothing.
-use mathlib.Core.Path.{_≡_, refl, sym, ap, _∙_}
-use mathlib.Core.Logic.{_⊎_, inl, inr}
+use mathlib.Core.Path.{_≡_, refl, sym, _∙_}
+use mathlib.Core.Logic.{inl, inr}
 use mathlib.Core.List.{List, [], _∷_, map, Memᴰ·cast}
 use Prim.Native.Nat.{ℕ, zero, suc, _≤_}
 use native.Mathlib.Omega.{arith}
 use lib.ListN.{length, length-map}
 use Rattle.lists.specs.Member.{_∈_, here, there, Once, rest}
 use Rattle.lists.proofs.TestLaws.{either}
-use Rattle.lists.proofs.MemberLaws.{length-rest, rest-or, rest-in, rest-once, rest-gone, in-map, of-map, Source, is-in}
+use Rattle.lists.proofs.MemberLaws.{length-rest, rest-or, rest-in, rest-once, rest-gone, is-in}
+use Rattle.lists.proofs.MapLaws.{in-map, of-map}
 use Rattle.joined.specs.Joined.{Joined, stay, step, Joins, Inside, Across, beside, forwards, backwards}
 use Rattle.joined.specs.Labels.{renamed}
 use Rattle.joined.specs.Tree.{Forest}

@@ -2,12 +2,12 @@
 -- same at both ends of each pair is the same on joined points, and one pair less leaves three cases, each by one use of it.
 -- Assumes nothing.
 use mathlib.Core.Path.{_≡_, refl, sym, ap, _∙_}
-use mathlib.Core.Logic.{_⊎_, inl, inr}
-use mathlib.Core.List.{List, [], _∷_, Memᴰ·cast}
+use mathlib.Core.Logic.{inl, inr}
+use mathlib.Core.List.{List, [], _∷_, List·Memᴰ·cases-cons, Memᴰ·cast}
 use Rattle.lists.specs.Member.{_∈_, here, there, Among, rest}
 use Rattle.lists.proofs.TestLaws.{either}
 use Rattle.lists.proofs.MemberLaws.{rest-or}
-use Rattle.joined.specs.Joined.{Link, Joined, stay, step, Joins, Inside, Across, beside, forwards, backwards}
+use Rattle.joined.specs.Joined.{Link, Joined, stay, step, Inside, Across, beside, forwards, backwards}
 
 -- the two parts of equal pairs
 module _ {A B : Type 0} {a c : A} {b d : B} (e : _≡_ {A = A × B} (a, b) (c, d)) where
@@ -81,6 +81,13 @@ module _ {A : Type 0} where
   joined-inside s (stay e) i = Memᴰ·cast (sym e) i
   joined-inside s (step (inl m) j) i = joined-inside s j (s _ _ m .1)
   joined-inside s (step (inr m) j) i = joined-inside s j (s _ _ m .0)
+
+  -- a point counted once more than needed
+  pub inside-known : {X : List A} {L : List (A × A)} {x : A} → x ∈ X → Inside (x ∷ X) L → Inside X L
+  inside-known {X} {x = x} i s a b m = let h = s a b m in (known (h .0), known (h .1))
+    where
+      known : {y : A} → y ∈ (x ∷ X) → y ∈ X
+      known k = either (λ e. Memᴰ·cast e i) (λ j. j) (List·Memᴰ·cases-cons k)
 
 -- One pair less
 

@@ -2,14 +2,14 @@
 -- label up for its first end's, so the points of both labels have one label then, and it is joined with them over that pair.
 -- Assumes nothing.
 use mathlib.Core.Path.{_≡_, refl, sym, ap, _∙_}
-use mathlib.Core.Bool.{Bool, true, false}
-use mathlib.Core.Logic.{_⊎_, inl, inr}
+use mathlib.Core.Bool.{true, false}
+use mathlib.Core.Logic.{inr}
 use mathlib.Core.List.{List, [], _∷_, List·Memᴰ·cases-cons}
-use Rattle.lists.specs.Member.{_∈_, here, there}
+use Rattle.lists.specs.Member.{_∈_, here}
 use Rattle.lists.proofs.TestLaws.{differ, either}
 use Rattle.joined.specs.Joined.{Joined, stay, step}
 use Rattle.joined.specs.Labels.{equal, renamed, merge, labels, Labels}
-use Rattle.joined.proofs.JoinedLaws.{one, cast, then, back, constant, older, firsts, seconds}
+use Rattle.joined.proofs.JoinedLaws.{cast, then, back, constant, older, firsts, seconds}
 
 -- Tests of equality, and renaming
 

@@ -2,15 +2,14 @@
 -- once, is a tree by the count. Forth by the only loop-free way; back because a pair that the others join would be a second way.
 -- Assumes nothing.
 use mathlib.Core.Path.{_≡_, refl, sym, ap, _∙_}
-use mathlib.Core.Logic.{_⊎_, inl, inr}
+use mathlib.Core.Logic.{inl, inr}
 use mathlib.Core.List.{List, [], _∷_, List·Memᴰ·eq-of-singleton}
 use Prim.Native.Nat.{ℕ}
 use native.Mathlib.Omega.{arith}
 use lib.ListN.{length}
-use Rattle.lists.specs.Member.{_∈_, here, there, Among, Once, rest}
-use Rattle.lists.proofs.TestLaws.{either}
+use Rattle.lists.specs.Member.{_∈_, Among, Once, rest}
 use Rattle.lists.proofs.MemberLaws.{rest-in}
-use Rattle.joined.specs.Joined.{Link, others, Joined, stay, Joins, Inside}
+use Rattle.joined.specs.Joined.{others, Joined, stay, Joins, Inside}
 use Rattle.joined.specs.Tree.{Tree, Cuts}
 use Rattle.joined.specs.Way.{Way, stop, go, Free}
 use Rattle.joined.specs.OneTree.{Point, OneWay, OneTree, Simple}

@@ -2,11 +2,10 @@
 -- come back, so that the pairs other than the first step of one join its two ends. And a way with no step twice is loop-free: coming
 -- back to a point, it would join the ends of its step from there without that step.
 -- Assumes nothing.
-use mathlib.Core.Path.{_≡_, refl, sym, ap₂, _∙_}
-use mathlib.Core.Logic.{_⊎_, inl, inr}
+use mathlib.Core.Path.{_≡_, refl, sym, ap₂}
+use mathlib.Core.Logic.{inl, inr}
 use mathlib.Core.List.{List, [], _∷_, Memᴰ·cast}
 use Rattle.lists.specs.Member.{_∈_, here, there, Once}
-use Rattle.lists.proofs.TestLaws.{either}
 use Rattle.lists.proofs.MemberLaws.{once-head}
 use Rattle.joined.specs.Joined.{Link, others, Alike, Joined, stay, step}
 use Rattle.joined.specs.Tree.{Cuts}

@@ -1,10 +1,10 @@
 -- A link and all other pairs: each link of the list is that one, read either way, or one of the others. A position is struck out, as in
 -- the laws of `rest`.
 -- Assumes nothing.
-use mathlib.Core.Path.{_≡_, refl, sym, _∙_}
+use mathlib.Core.Path.{_≡_, sym, _∙_}
 use mathlib.Core.Logic.{_⊎_, inl, inr}
 use mathlib.Core.List.{List, Memᴰ·cast}
-use Prim.Native.Nat.{ℕ, suc}
+use Prim.Native.Nat.{suc}
 use lib.ListN.{length}
 use Rattle.lists.specs.Member.{_∈_, Among}
 use Rattle.lists.proofs.TestLaws.{either}

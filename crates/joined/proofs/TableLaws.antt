@@ -1,21 +1,20 @@
 -- What a pass over the items keeps by a table of labels is what the theory keeps. After each item the table holds, at every number, the
 -- label that the items kept so far give it.
 -- Assumes nothing.
-use mathlib.Core.Path.{_≡_, refl, sym, ap, ap₂, _∙_}
-use mathlib.Core.Bool.{Bool, true, false}
+use mathlib.Core.Path.{_≡_, refl, sym, ap, _∙_}
 use mathlib.Core.List.{List, [], _∷_, map, reverse, reverseAux, reverse-reverse}
-use Prim.Native.Nat.{ℕ, zero, suc, _≤_, _<_}
+use Prim.Native.Nat.{ℕ, _≤_, _<_}
 use native.Mathlib.Decide.{ℕ-discrete}
 use native.Mathlib.Omega.{arith}
 use borrow.Author.Tests.{eqb-true, eqb-false}
 use lib.Dec.{eqb}
 use lib.ListN.{length, length-map, getD}
-use Rattle.lists.specs.Member.{_∈_, here, there}
+use Rattle.lists.specs.Member.{here, there}
 use Rattle.lists.proofs.TestLaws.{by}
-use Rattle.lists.proofs.MemberLaws.{getD-map}
+use Rattle.lists.proofs.MapLaws.{getD-map}
 use Rattle.joined.specs.Labels.{renamed, merge, labels}
 use Rattle.joined.specs.Keep.{keep, kept}
-use Rattle.joined.specs.Table.{changed, keptBy}
+use Rattle.joined.specs.Table.{changed, keptBy, Below}
 use Rattle.joined.proofs.LabelLaws.{renamed-hit, renamed-miss, labelled, joined-same, same-joined}
 use Rattle.joined.proofs.KeepLaws.{Keeps, dropped, taken, keeps, keep-none}
 
@@ -27,10 +26,6 @@ changed-renamed a b x =
     (λ e. rw (changed, e) (sym (renamed-miss ℕ-discrete a b x (eqb-false x b e))))
 
 module _ {B : Type 0} (ends : B → ℕ × ℕ) (n : ℕ) where
-  -- both ends are numbers below n
-  abbrev pub Below : List B → Type 0
-  Below L = (e : B) → e ∈ L → (ends e .0 < n) × (ends e .1 < n)
-
   -- the label of a number by the items kept of those offered so far
   abbrev label : List B → ℕ → ℕ
   label M = labels ℕ-discrete (map ends (keep ℕ-discrete ends M))
@@ -77,13 +72,13 @@ module _ {B : Type 0} (ends : B → ℕ × ℕ) (n : ℕ) where
           ∙ ap (λ (K : List B). labels ℕ-discrete (map ends K) x) (sym r),
     )
 
-  pass : (L : List B) → Below L → (t : List ℕ) (M : List B) → Holds t M →
+  pass : (L : List B) → Below ends n L → (t : List ℕ) (M : List B) → Holds t M →
       keep ℕ-discrete ends (reverseAux L M) ≡ reverseAux (keptBy ends L t) (keep ℕ-discrete ends M)
   unfolding keptBy
   pass [] s t M h = refl
   pass (e ∷ L) s t M h =
       let i = s e (here refl) in
-      let left : Below L = λ d m. s d (there m) in
+      let left : Below ends n L = λ d m. s d (there m) in
       let p = getD t (ends e .0) 0 in
       let q = getD t (ends e .1) 0 in
       by (eqb p q)
@@ -96,12 +91,14 @@ module _ {B : Type 0} (ends : B → ℕ × ℕ) (n : ℕ) where
       rw (keptBy, k) (pass L left u (e ∷ M) (holds-merged e (i .0) (i .1) t M h r) ∙ ap (reverseAux (keptBy ends L u)) r))
 
   -- from a table in which each number is its own label
-  pub table-keeps : (L : List B) → Below L → (t : List ℕ) → n ≤ length t → ((x : ℕ) → x < n → getD t x 0 ≡ x) →
-      keptBy ends L t ≡ kept ℕ-discrete ends L
-  unfolding labels kept
-  table-keeps L s t room own =
-      let turned : keep ℕ-discrete ends (reverse L) ≡ reverse (keptBy ends L t) =
-      pass L s t [] (room, λ x l. own x l ∙ rw (keep-none ℕ-discrete ends) refl)
-      ∙ ap (reverseAux (keptBy ends L t)) (keep-none ℕ-discrete ends)
-      in
-      sym (reverse-reverse (keptBy ends L t)) ∙ ap reverse (sym turned)
+  module _ (L : List B) (s : Below ends n L) (t : List ℕ) (room : n ≤ length t) (own : (x : ℕ) → x < n → getD t x 0 ≡ x) where
+    starts : Holds t []
+    unfolding labels
+    starts = (room, λ x l. own x l ∙ rw (keep-none ℕ-discrete ends) refl)
+
+    turned : keep ℕ-discrete ends (reverse L) ≡ reverse (keptBy ends L t)
+    turned = pass L s t [] starts ∙ ap (reverseAux (keptBy ends L t)) (keep-none ℕ-discrete ends)
+
+    pub table-keeps : keptBy ends L t ≡ kept ℕ-discrete ends L
+    unfolding kept
+    table-keeps = sym (reverse-reverse (keptBy ends L t)) ∙ ap reverse (sym turned)

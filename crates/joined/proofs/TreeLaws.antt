@@ -1,15 +1,13 @@
 -- Trees: every pair is a cut, so a tree is a forest; and a forest that joins all points is a tree. By the two counts.
 -- Assumes nothing.
-use mathlib.Core.Path.{_≡_, refl, sym, ap, _∙_}
-use mathlib.Core.Logic.{_⊎_, inl, inr}
+use mathlib.Core.Path.{_≡_, refl, ap, _∙_}
 use mathlib.Core.List.{List, [], _∷_}
-use Prim.Native.Nat.{ℕ, suc}
+use Prim.Native.Nat.{suc}
 use native.Mathlib.Omega.{arith}
 use lib.ListN.{length}
 use Rattle.lists.specs.Member.{_∈_, here, there, Once, rest}
-use Rattle.lists.proofs.TestLaws.{either}
 use Rattle.lists.proofs.MemberLaws.{length-rest}
-use Rattle.joined.specs.Joined.{Link, Joined, stay, Joins, Inside}
+use Rattle.joined.specs.Joined.{Link, Joins, Inside}
 use Rattle.joined.specs.Tree.{Tree, Forest, Cuts}
 use Rattle.joined.proofs.JoinedLaws.{one, through, older, around}
 use Rattle.joined.proofs.CountLaws.{enough, at-most}

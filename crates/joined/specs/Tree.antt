@@ -1,7 +1,7 @@
 -- Trees and forests as lists of pairs.
 use mathlib.Core.Path.{_≡_}
 use mathlib.Core.List.{List, [], _∷_}
-use Prim.Native.Nat.{ℕ, suc}
+use Prim.Native.Nat.{suc}
 use lib.ListN.{length}
 use Rattle.lists.specs.Member.{_∈_, Once, rest}
 use Rattle.joined.specs.Joined.{Joined, Joins}

@@ -4,8 +4,11 @@ pub mod AnyOrder
 pub mod ScanLaws
 pub mod EntryLaws
 pub mod MemberLaws
+pub mod MapLaws
+pub mod ThoseLaws
 pub mod SortedLaws
 pub mod CarryLaws
+pub mod SortedOrder
 pub mod OrderLaws
 pub mod LeastLaws
 pub mod TotalLaws

@@ -1,16 +1,15 @@
 -- Sums: one position taken out, a list turned round, a part without repeats; and sums compared layer by layer, where at every height one
 -- list has no more entries above it than the other.
 -- Assumes nothing.
-use mathlib.Core.Path.{_≡_, refl, sym, ap, _∙_}
-use mathlib.Core.Bool.{Bool, true, false}
-use mathlib.Core.List.{List, [], _∷_, _++_, map, reverse, reverseAux, List·Memᴰ·cases-cons, Memᴰ·cast}
-use Prim.Native.Nat.{ℕ, zero, suc, _+_, _≤_, _<_, min, max}
+use mathlib.Core.Path.{_≡_, refl, sym, ap}
+use mathlib.Core.List.{List, [], _∷_, map, reverse, reverseAux, List·Memᴰ·cases-cons, Memᴰ·cast}
+use Prim.Native.Nat.{ℕ, zero, suc, _+_, _≤_, min, max}
 use native.Mathlib.Omega.{arith}
 use borrow.Author.Tests.{ltb-true, ltb-false}
 use lib.Dec.{ltb}
-use lib.ListN.{length}
-use Rattle.lists.specs.Member.{_∈_, here, there, Among, Once, rest, those}
-use Rattle.lists.specs.Total.{total, most}
+use Rattle.lists.specs.Member.{_∈_, here, there, Among, Once, rest}
+use Rattle.lists.specs.Those.{those}
+use Rattle.lists.specs.Total.{total, most, above}
 use Rattle.lists.proofs.TestLaws.{by, either}
 use Rattle.lists.proofs.MemberLaws.{rest-or}
 
@@ -51,10 +50,6 @@ module _ {B : Type 0} (w : B → ℕ) where
   most-le (e ∷ l) t h = omega (arith, h e (here refl), most-le l t (λ d m. h d (there m)))
 
 -- Layer by layer
-
--- how many numbers are above t
-unfoldable pub above : ℕ → List ℕ → ℕ
-above t l = length (those (ltb t) l)
 
 -- the sum of what each number has below height t
 capped : ℕ → List ℕ → ℕ

@@ -28,8 +28,10 @@
 --   carry, carryAll   sorted insertion as a program does it, from the front
 --   Least le l        an entry of l that is `le` each entry
 --   total l, most l   the sum and the greatest of a list of numbers
+--   above t l         how many numbers of a list are above t
 pub mod Any
 pub mod Member
+pub mod Those
 pub mod Sorted
 pub mod Carry
 pub mod Least
