@@ -8,3 +8,6 @@ pub mod CarryLaws
 pub mod OrderLaws
 pub mod LeastLaws
 pub mod TotalLaws
+pub mod EachLaws
+pub mod PermLaws
+pub mod TwoLaws
