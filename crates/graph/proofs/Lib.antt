@@ -1,1 +1,2 @@
 pub mod WorkedGraphs
+pub mod QuadrantLaws
