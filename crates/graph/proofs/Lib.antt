@@ -1,2 +1,4 @@
 pub mod WorkedGraphs
 pub mod QuadrantLaws
+pub mod VertexLaws
+pub mod PickLaws
