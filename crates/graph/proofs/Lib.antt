@@ -2,3 +2,4 @@ pub mod WorkedGraphs
 pub mod QuadrantLaws
 pub mod VertexLaws
 pub mod PickLaws
+pub mod EdgeLaws
