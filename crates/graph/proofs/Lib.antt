@@ -3,3 +3,5 @@ pub mod QuadrantLaws
 pub mod VertexLaws
 pub mod PickLaws
 pub mod EdgeLaws
+pub mod OutsideLaws
+pub mod AheadLaws

@@ -11,3 +11,4 @@ pub mod TotalLaws
 pub mod EachLaws
 pub mod PermLaws
 pub mod TwoLaws
+pub mod LeastOf
