@@ -5,3 +5,4 @@ pub mod PickLaws
 pub mod EdgeLaws
 pub mod OutsideLaws
 pub mod AheadLaws
+pub mod Connected
