@@ -6,3 +6,5 @@ pub mod EdgeLaws
 pub mod OutsideLaws
 pub mod AheadLaws
 pub mod Connected
+pub mod GraphOrder
+pub mod GraphBounds
