@@ -3,3 +3,12 @@ pub mod GraphSteps
 pub mod PickSteps
 pub mod WidthLaws
 pub mod WorkedGraphs
+pub mod QuadrantLaws
+pub mod VertexLaws
+pub mod PickLaws
+pub mod EdgeLaws
+pub mod OutsideLaws
+pub mod AheadLaws
+pub mod Connected
+pub mod GraphOrder
+pub mod GraphBounds

@@ -12,3 +12,7 @@ pub mod SortedOrder
 pub mod OrderLaws
 pub mod LeastLaws
 pub mod TotalLaws
+pub mod EachLaws
+pub mod PermLaws
+pub mod TwoLaws
+pub mod LeastOf

@@ -4,3 +4,5 @@ pub mod RangeLaws
 pub mod AllowedLaws
 pub mod CheckOrder
 pub mod WorkedChecks
+pub mod RangeBounds
+pub mod ApartLaws

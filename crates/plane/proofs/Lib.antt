@@ -6,3 +6,5 @@ pub mod FlatLaws
 pub mod MacroLaws
 pub mod BoxLaws
 pub mod WorkedDistances
+pub mod PlaceOrder
+pub mod MeetLaws

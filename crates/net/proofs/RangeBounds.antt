@@ -1,0 +1,44 @@
+-- A coordinate in range lies within a million of zero on either side, so two places in range are at most 4,000,000 apart.
+-- Assumes nothing.
+use mathlib.Core.Path.{_≡_, refl}
+use mathlib.Core.Bool.{false}
+use Prim.Native.Nat.{ℕ, _+_, _≤_}
+use lib.IntN.{ℤ, pos, negℤ}
+use lib.Signed.{ltZ}
+use Rattle.lists.proofs.TestLaws.{or-none}
+use Rattle.signed.specs.Sides.{up, down}
+use Rattle.signed.proofs.SideLaws.{ltZ-false, up-pos, down-pos, one-side, signed}
+use Rattle.plane.specs.declared.Place.{Place}
+use Rattle.plane.specs.Distance.{apart, distance}
+use Rattle.plane.proofs.DistanceLaws.{apart-sides}
+use Rattle.net.specs.Bounds.{coordinateBound}
+use Rattle.net.specs.Check.{outOfRange}
+use Rattle.net.specs.Allowed.{PlaceInRange}
+
+-- "Coordinates are signed whole numbers from −1,000,000 to 1,000,000"
+pub record Near (z : ℤ) : Type 0 where
+  pub above : up z ≤ 1000000
+  pub below : down z ≤ 1000000
+
+least-sides : (up (negℤ (pos coordinateBound)) ≡ 0) × (down (negℤ (pos coordinateBound)) ≡ 1000000)
+unfolding up down
+least-sides = (refl, refl)
+
+pub in-range-near : (z : ℤ) → outOfRange z ≡ false → Near z
+unfolding outOfRange
+in-range-near z e =
+    let r = or-none (ltZ z (negℤ (pos coordinateBound))) (ltZ (pos coordinateBound) z) e in
+    let low = ltZ-false z (negℤ (pos coordinateBound)) (r .0) in
+    let high = ltZ-false (pos coordinateBound) z (r .1) in
+    record {
+      above = omega (signed, high, one-side z, up-pos coordinateBound, down-pos coordinateBound);
+      below = omega (signed, low, one-side z, least-sides);
+    }
+
+apart-near : (a b : ℤ) → Near a → Near b → apart a b ≤ 2000000
+apart-near a b m n = omega (signed, apart-sides a b)
+
+pub distance-in-range : (a b : Place) → PlaceInRange a → PlaceInRange b → distance a b ≤ 4000000
+unfolding distance
+distance-in-range a b r s =
+    omega (signed, apart-near _ _ (in-range-near _ (r .x)) (in-range-near _ (s .x)), apart-near _ _ (in-range-near _ (r .y)) (in-range-near _ (s .y)))
