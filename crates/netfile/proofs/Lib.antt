@@ -1,0 +1,5 @@
+pub mod WordLaws
+pub mod SumLaws
+pub mod BlockLaws
+pub mod LayoutLaws
+pub mod WriteLaws
