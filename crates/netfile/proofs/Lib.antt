@@ -3,3 +3,5 @@ pub mod SumLaws
 pub mod BlockLaws
 pub mod LayoutLaws
 pub mod WriteLaws
+pub mod ReadLaws
+pub mod AnswerLaws

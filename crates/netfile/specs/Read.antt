@@ -1,7 +1,8 @@
 -- Read a net file: document 01, "Read a net file".
+use mathlib.Core.Path.{_≡_}
 use mathlib.Core.Bool.{Bool, true, false, not, cond, _&&_, _||_}
 use mathlib.Core.List.{List, [], _∷_}
-use Prim.Native.Nat.{ℕ, zero, suc, _+_, _*_, _/_, _%_}
+use Prim.Native.Nat.{ℕ, zero, suc, _+_, _*_, _/_, _%_, _≤_}
 use lib.Dec.{eqb, ltb}
 use lib.IntN.{ℤ}
 use lib.ListN.{length, take, drop, getD}
@@ -58,19 +59,24 @@ sameNumbers (x ∷ xs) (y ∷ ys) = eqb x y && sameNumbers xs ys
 unfoldable pub countsWrong : List ℕ → Bool
 countsWrong bytes = not (eqb (length bytes / 512) (1 + blocksFor (headCount 4 bytes * 2) + blocksFor (headCount 5 bytes * 4)))
 
--- "3: anything else in the layout": the file is not the one that the layout makes of the lists that it holds
-unfoldable pub layoutWrong : List ℕ → Bool
-layoutWrong bytes = countsWrong bytes || not (sameNumbers bytes (fileBytes (pinsIn bytes) (macrosIn bytes)))
+-- a file of as many bytes as n numbers of pins and k of macros take, within 6 blocks; the code's own condition
+pub record Sized (bytes : List ℕ) (n k : ℕ) : Type 0 where
+  pub few : length bytes ≤ 3072
+  pub fit : length bytes ≡ (1 + blocksFor n + blocksFor k) * 512
+
+-- "3: anything else in the layout": the file is not the one that the layout makes of the lists that it holds. "Then 11 to 17."
+unfoldable pub laidOut : List ℕ → List ℤ → List ℤ → Told (ℕ × ℕ)
+laidOut bytes pins macros = cond (sameNumbers bytes (fileBytes pins macros)) (checked pins macros) (refused 3)
 
 -- "21 first: fewer than 128 numbers lent for pins or 256 for macros."
 unfoldable pub roomShort : ℕ → ℕ → Bool
 roomShort pinRoom macroRoom = ltb pinRoom (pinBound * 2) || ltb macroRoom (macroBound * 4)
 
--- the answer of a read into `pinRoom` and `macroRoom` lent numbers: "Then 11 to 17." "m and k for a read"
+-- the answer of a read into `pinRoom` and `macroRoom` lent numbers: "m and k for a read"
 unfoldable pub readFile : List ℕ → ℕ → ℕ → Told (ℕ × ℕ)
 readFile bytes pinRoom macroRoom =
     cond (roomShort pinRoom macroRoom) (refused 21)
     (cond (blocksMiscounted bytes) (refused 1)
     (cond (sumsWrong bytes) (refused 2)
-    (cond (layoutWrong bytes) (refused 3)
-    (checked (pinsIn bytes) (macrosIn bytes)))))
+    (cond (countsWrong bytes) (refused 3)
+    (laidOut bytes (pinsIn bytes) (macrosIn bytes)))))
