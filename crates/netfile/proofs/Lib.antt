@@ -5,3 +5,5 @@ pub mod LayoutLaws
 pub mod WriteLaws
 pub mod ReadLaws
 pub mod AnswerLaws
+pub mod FileLaws
+pub mod RoundTrip
