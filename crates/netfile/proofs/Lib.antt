@@ -7,3 +7,4 @@ pub mod ReadLaws
 pub mod AnswerLaws
 pub mod FileLaws
 pub mod RoundTrip
+pub mod WorkedFiles
