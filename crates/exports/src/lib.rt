@@ -1,9 +1,15 @@
 // The router's operations for C: the static library. A slice passes as a pointer and a length.
 use net::Checked;
+use netfile::Written;
 ghost use mathlib.Core.Path.{_≡_};
 ghost use lib.IntN.{pos};
+ghost use lib.ListN.{length};
 ghost use Rattle.lent.specs.Told.{code};
+ghost use Rattle.lent.specs.Over.{after, valueAfter};
 ghost use Rattle.net.specs.Check.{checked};
+ghost use Rattle.netfile.specs.Layout.{fileBytes};
+ghost use Rattle.netfile.specs.Write.{written};
+ghost use Rattle.netfile.specs.Read.{pinsIn, macrosIn, readFile};
 
 // 0 for an allowed net, or the number of the refusal.
 #[no_mangle]
@@ -13,6 +19,54 @@ pub extern "C" fn calzundi_check(pins: &[i32], macros: &[i32]) -> i32
     let answer = router::check(pins, macros);
     match answer {
         Checked::Allowed(_) => 0,
+        Checked::Refused(refusal) => refusal.number(),
+    }
+}
+
+// 0 and the number of bytes given, or the number of the refusal.
+#[no_mangle]
+pub extern "C" fn calzundi_write_file(
+    pins: &[i32],
+    macros: &[i32],
+    bytes: &mut [u8],
+    given: &mut usize,
+) -> i32
+    ensures answer { λ r. ⌜ r ≡ pos (code (written (now (pins .entry)) (now (macros .entry)) (length (now (bytes .entry))))) ⌝ }
+    ensures lent { λ _. ⌜ now (bytes .exit) ≡ after (written (now (pins .entry)) (now (macros .entry)) (length (now (bytes .entry)))) (fileBytes (now (pins .entry)) (now (macros .entry))) (now (bytes .entry)) ⌝ }
+    ensures given { λ _. ⌜ now (given .exit) ≡ valueAfter (λ n. n) (written (now (pins .entry)) (now (macros .entry)) (length (now (bytes .entry)))) (now (given .entry)) ⌝ }
+{
+    let answer = router::write_file(pins, macros, &mut *bytes);
+    match answer {
+        Written::Bytes(n) => {
+            *given = n;
+            0
+        }
+        Written::Refused(refusal) => refusal.number(),
+    }
+}
+
+// 0 and the numbers of pins and macros, or the number of the refusal.
+#[no_mangle]
+pub extern "C" fn calzundi_read_file(
+    bytes: &[u8],
+    pins: &mut [i32],
+    macros: &mut [i32],
+    m: &mut usize,
+    k: &mut usize,
+) -> i32
+    ensures answer { λ r. ⌜ r ≡ pos (code (readFile (now (bytes .entry)) (length (now (pins .entry))) (length (now (macros .entry))))) ⌝ }
+    ensures pins { λ _. ⌜ now (pins .exit) ≡ after (readFile (now (bytes .entry)) (length (now (pins .entry))) (length (now (macros .entry)))) (pinsIn (now (bytes .entry))) (now (pins .entry)) ⌝ }
+    ensures macros { λ _. ⌜ now (macros .exit) ≡ after (readFile (now (bytes .entry)) (length (now (pins .entry))) (length (now (macros .entry)))) (macrosIn (now (bytes .entry))) (now (macros .entry)) ⌝ }
+    ensures m { λ _. ⌜ now (m .exit) ≡ valueAfter (λ net. net .0) (readFile (now (bytes .entry)) (length (now (pins .entry))) (length (now (macros .entry)))) (now (m .entry)) ⌝ }
+    ensures k { λ _. ⌜ now (k .exit) ≡ valueAfter (λ net. net .1) (readFile (now (bytes .entry)) (length (now (pins .entry))) (length (now (macros .entry)))) (now (k .entry)) ⌝ }
+{
+    let answer = router::read_file(bytes, &mut *pins, &mut *macros);
+    match answer {
+        Checked::Allowed(net) => {
+            *m = net.pins;
+            *k = net.macros;
+            0
+        }
         Checked::Refused(refusal) => refusal.number(),
     }
 }

@@ -5,6 +5,7 @@
 --   Told A             an answer: refused with document 01's number, or given a value
 --   over xs lent       xs, then what stood there
 --   after t xs lent    what a lent list holds after the answer t: xs over what stood there, or all of what stood there
+--   valueAfter f t v   what one lent value holds after the answer t: what t gives, through f, or what stood there
 --   code t             the answer as one number: 0 for success, or the refusal's
 pub mod Told
 pub mod Over

@@ -11,3 +11,8 @@ over xs lent = xs ++ drop (length xs) lent
 unfoldable pub after : {A X : Type 0} → Told A → List X → List X → List X
 after (refused n) xs lent = lent
 after (given a) xs lent = over xs lent
+
+-- the same for one lent value, which the answer gives through f
+unfoldable pub valueAfter : {A X : Type 0} → (A → X) → Told A → X → X
+valueAfter f (refused n) lent = lent
+valueAfter f (given a) lent = f a

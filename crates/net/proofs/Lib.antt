@@ -6,3 +6,4 @@ pub mod CheckOrder
 pub mod WorkedChecks
 pub mod RangeBounds
 pub mod ApartLaws
+pub mod PassedLaws

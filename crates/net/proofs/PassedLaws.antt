@@ -1,0 +1,93 @@
+-- What an allowed net has passed: every test, and so whole entries and numbers of them within the bounds.
+-- Assumes nothing.
+use mathlib.Core.Path.{_≡_, sym, _∙_}
+use mathlib.Core.Bool.{false}
+use mathlib.Core.List.{List}
+use Prim.Native.Nat.{ℕ, _/_, _%_, _≤_}
+use native.Mathlib.Omega.{arith}
+use borrow.Author.Tests.{eqb-true, eqb-false, ltb-false, not-false}
+use lib.IntN.{ℤ}
+use lib.ListN.{length}
+use Rattle.lent.specs.Told.{refused, given}
+use Rattle.lent.proofs.AfterLaws.{told-apart}
+use Rattle.lists.specs.Any.{any, anyTwo}
+use Rattle.lists.proofs.TestLaws.{by, or-none}
+use Rattle.plane.specs.Place.{samePlace}
+use Rattle.plane.specs.Macro.{interiorsMeet}
+use Rattle.plane.specs.Flat.{placesOf, macrosOf}
+use Rattle.net.specs.Bounds.{pinBound, macroBound}
+use Rattle.net.specs.Check.{pinCount, macroCount, pinsMiscounted, macrosMiscounted, outOfRange, notUpright, insideAny, checked}
+use Rattle.net.proofs.CheckLaws.{Past11, Past12, Past13-pins, Past13, Past14, Past15, Past16, Past17, refuse-11, refuse-12, refuse-13-pins, refuse-13, refuse-14, refuse-15, refuse-16, refuse-17}
+
+module _ (pins macros : List ℤ) (net : ℕ × ℕ) (allowed : checked pins macros ≡ given net) where
+  -- a refusal is no allowance
+  apart : {C : Type 0} (n : ℕ) → checked pins macros ≡ refused n → C
+  apart n e = told-apart n net (sym e ∙ allowed)
+
+  past-11 : Past11 pins macros
+  past-11 = by (pinsMiscounted pins) (λ e. apart 11 (refuse-11 pins macros e)) (λ e. record { passed = e })
+
+  past-12 : Past12 pins macros
+  past-12 = by (macrosMiscounted macros) (λ e. apart 12 (refuse-12 pins macros past-11 e)) (λ e. record { past = past-11; passed = e })
+
+  past-13-pins : Past13-pins pins macros
+  past-13-pins = by (any outOfRange pins) (λ e. apart 13 (refuse-13-pins pins macros past-12 e)) (λ e. record { past = past-12; passed = e })
+
+  past-13 : Past13 pins macros
+  past-13 =
+      by (any outOfRange macros)
+      (λ e. apart 13 (refuse-13 pins macros past-13-pins e))
+      (λ e. record { past = past-13-pins; passed = e })
+
+  past-14 : Past14 pins macros
+  past-14 =
+      by (any notUpright (macrosOf macros))
+      (λ e. apart 14 (refuse-14 pins macros past-13 e))
+      (λ e. record { past = past-13; passed = e })
+
+  past-15 : Past15 pins macros
+  past-15 =
+      by (anyTwo samePlace (placesOf pins))
+      (λ e. apart 15 (refuse-15 pins macros past-14 e))
+      (λ e. record { past = past-14; passed = e })
+
+  past-16 : Past16 pins macros
+  past-16 =
+      by (anyTwo interiorsMeet (macrosOf macros))
+      (λ e. apart 16 (refuse-16 pins macros past-15 e))
+      (λ e. record { past = past-15; passed = e })
+
+  -- an allowed net has passed every test
+  pub passed-all : Past17 pins macros
+  passed-all =
+      by (any (insideAny (macrosOf macros)) (placesOf pins))
+      (λ e. apart 17 (refuse-17 pins macros past-16 e))
+      (λ e. record { past = past-16; passed = e })
+
+-- lists of whole entries, within the bounds
+pub record PinsCounted (pins : List ℤ) : Type 0 where
+  pub whole : length pins % 2 ≡ 0
+  pub some : 1 ≤ pinCount pins
+  pub few : pinCount pins ≤ pinBound
+
+pub record MacrosCounted (macros : List ℤ) : Type 0 where
+  pub whole : length macros % 4 ≡ 0
+  pub few : macroCount macros ≤ macroBound
+
+pub pins-counted : (pins : List ℤ) → pinsMiscounted pins ≡ false → PinsCounted pins
+unfolding pinsMiscounted
+pins-counted pins e =
+    let r = or-none _ _ e in
+    let s = or-none _ _ (r .1) in
+    let n : length pins / 2 ≡ 0 → ⊥ = eqb-false (length pins / 2) 0 (s .0) in
+    record {
+      whole = eqb-true (length pins % 2) 0 (not-false _ (r .0));
+      some = omega (arith, n);
+      few = ltb-false 64 (length pins / 2) (s .1);
+    }
+
+pub macros-counted : (macros : List ℤ) → macrosMiscounted macros ≡ false → MacrosCounted macros
+unfolding macrosMiscounted
+macros-counted macros e =
+    let r = or-none _ _ e in
+    record { whole = eqb-true (length macros % 4) 0 (not-false _ (r .0)); few = ltb-false 64 (length macros / 4) (r .1) }

@@ -1,0 +1,125 @@
+-- The answer of a read by its cases, each past the ones before it, and what the lists of a file are in the code's terms.
+-- Assumes nothing.
+use mathlib.Core.Path.{_≡_, refl, sym, ap, ap₂, _∙_}
+use mathlib.Core.Bool.{true, false}
+use mathlib.Core.List.{List}
+use Prim.Native.Nat.{ℕ, _+_, _*_, _/_, _%_, _≤_}
+use native.Mathlib.Omega.{arith}
+use borrow.Author.Tests.{eqb-true, eqb-false, ltb-false, not-false}
+use lib.IntN.{ℤ}
+use lib.ListN.{length}
+use Rattle.lists.proofs.TestLaws.{by, or-none}
+use Rattle.lent.specs.Told.{Told, refused, given}
+use Rattle.lent.specs.Over.{after}
+use Rattle.lent.proofs.AfterLaws.{after-refused, told-apart}
+use Rattle.net.specs.Check.{checked}
+use Rattle.net.proofs.PassedLaws.{passed-all, pins-counted, macros-counted}
+use Rattle.netfile.specs.Layout.{blocksFor, fileBytes}
+use Rattle.netfile.specs.Read.{blocksMiscounted, sumsWrong, headCount, numbersIn, pinsIn, macrosIn, sameNumbers, countsWrong, Sized, laidOut, roomShort, readFile}
+use Rattle.netfile.proofs.ReadLaws.{length-numbers}
+
+-- The lists of a file
+
+pub pins-taken : (bytes : List ℕ) (m : ℕ) → m ≡ headCount 4 bytes → numbersIn bytes 1 0 (m * 2) ≡ pinsIn bytes
+unfolding pinsIn
+pins-taken bytes m e = ap (λ (n : ℕ). numbersIn bytes 1 0 (n * 2)) e
+
+pub macros-taken : (bytes : List ℕ) (m k b : ℕ) → m ≡ headCount 4 bytes → k ≡ headCount 5 bytes → b ≡ blocksFor (m * 2)
+    → numbersIn bytes (1 + b) 0 (k * 4) ≡ macrosIn bytes
+unfolding macrosIn
+macros-taken bytes m k b e f g =
+    ap₂ (λ (i n : ℕ). numbersIn bytes (1 + i) 0 (n * 4)) (g ∙ ap (λ (n : ℕ). blocksFor (n * 2)) e) f
+
+pub length-pins-in : (bytes : List ℕ) → length (pinsIn bytes) ≡ headCount 4 bytes * 2
+unfolding pinsIn
+length-pins-in bytes = length-numbers bytes 1 0 (headCount 4 bytes * 2)
+
+pub length-macros-in : (bytes : List ℕ) → length (macrosIn bytes) ≡ headCount 5 bytes * 4
+unfolding macrosIn
+length-macros-in bytes = length-numbers bytes _ 0 (headCount 5 bytes * 4)
+
+-- Tests passed
+
+-- 1 to 6 whole blocks
+pub record BlocksCounted (bytes : List ℕ) : Type 0 where
+  pub whole : length bytes % 512 ≡ 0
+  pub some : 1 ≤ length bytes / 512
+  pub few : length bytes / 512 ≤ 6
+
+pub blocks-counted : (bytes : List ℕ) → blocksMiscounted bytes ≡ false → BlocksCounted bytes
+unfolding blocksMiscounted
+blocks-counted bytes e =
+    let r = or-none _ _ e in
+    let s = or-none _ _ (r .1) in
+    let n : length bytes / 512 ≡ 0 → ⊥ = eqb-false (length bytes / 512) 0 (s .0) in
+    record {
+      whole = eqb-true (length bytes % 512) 0 (not-false _ (r .0));
+      some = omega (arith, n);
+      few = ltb-false 6 (length bytes / 512) (s .1);
+    }
+
+pub sized-by-head : (bytes : List ℕ) → BlocksCounted bytes → countsWrong bytes ≡ false → Sized bytes (headCount 4 bytes * 2) (headCount 5 bytes * 4)
+unfolding countsWrong
+sized-by-head bytes b e =
+    let n = eqb-true (length bytes / 512) _ (not-false _ e) in
+    record { few = omega (arith, b .whole, b .few); fit = omega (arith, b .whole, n) }
+
+room-enough : (p q : ℕ) → roomShort p q ≡ false → (128 ≤ p) × (256 ≤ q)
+unfolding roomShort
+room-enough p q e =
+    let r = or-none _ _ e in
+    (ltb-false p 128 (r .0), ltb-false q 256 (r .1))
+
+-- The answer
+
+module _ (bytes : List ℕ) (pins macros : List ℤ) where
+  pub laid-out : sameNumbers bytes (fileBytes pins macros) ≡ true → laidOut bytes pins macros ≡ checked pins macros
+  unfolding laidOut
+  laid-out e = rw e refl
+
+  pub laid-wrong : sameNumbers bytes (fileBytes pins macros) ≡ false → laidOut bytes pins macros ≡ refused 3
+  unfolding laidOut
+  laid-wrong e = rw e refl
+
+  -- an accepted file is the one that the layout makes of its lists, and these are allowed
+  pub laid-same : (net : ℕ × ℕ) → laidOut bytes pins macros ≡ given net → sameNumbers bytes (fileBytes pins macros) ≡ true
+  laid-same net e = by (sameNumbers bytes (fileBytes pins macros)) (λ h. h) (λ h. told-apart 3 net (sym (laid-wrong h) ∙ e))
+
+  pub laid-allowed : (net : ℕ × ℕ) → laidOut bytes pins macros ≡ given net → checked pins macros ≡ given net
+  laid-allowed net e = sym (laid-out (laid-same net e)) ∙ e
+
+-- the lists of an accepted file fit where the largest net does
+pub lists-fit : (bytes : List ℕ) (p q : ℕ) (net : ℕ × ℕ) → laidOut bytes (pinsIn bytes) (macrosIn bytes) ≡ given net → roomShort p q ≡ false
+    → (headCount 4 bytes * 2 ≤ p) × (headCount 5 bytes * 4 ≤ q)
+lists-fit bytes p q net e f =
+    let a = passed-all (pinsIn bytes) (macrosIn bytes) net (laid-allowed bytes (pinsIn bytes) (macrosIn bytes) net e) .past .past .past .past .past .past in
+    let m = pins-counted (pinsIn bytes) (a .past .passed) in
+    let k = macros-counted (macrosIn bytes) (a .passed) in
+    let r = room-enough p q f in
+    (omega (arith, m .few, length-pins-in bytes, r .0), omega (arith, k .few, length-macros-in bytes, r .1))
+
+module _ (bytes : List ℕ) (p q : ℕ) where
+  pub refuse-21 : roomShort p q ≡ true → readFile bytes p q ≡ refused 21
+  unfolding readFile
+  refuse-21 e = rw e refl
+
+  pub refuse-1 : roomShort p q ≡ false → blocksMiscounted bytes ≡ true → readFile bytes p q ≡ refused 1
+  unfolding readFile
+  refuse-1 r e = rw (r, e) refl
+
+  pub refuse-2 : roomShort p q ≡ false → blocksMiscounted bytes ≡ false → sumsWrong bytes ≡ true → readFile bytes p q ≡ refused 2
+  unfolding readFile
+  refuse-2 r b e = rw (r, b, e) refl
+
+  pub refuse-3 : roomShort p q ≡ false → blocksMiscounted bytes ≡ false → sumsWrong bytes ≡ false → countsWrong bytes ≡ true → readFile bytes p q ≡ refused 3
+  unfolding readFile
+  refuse-3 r b s e = rw (r, b, s, e) refl
+
+  pub read-on : roomShort p q ≡ false → blocksMiscounted bytes ≡ false → sumsWrong bytes ≡ false → countsWrong bytes ≡ false
+      → readFile bytes p q ≡ laidOut bytes (pinsIn bytes) (macrosIn bytes)
+  unfolding readFile
+  read-on r b s e = rw (r, b, s, e) refl
+
+-- a refusal's number, and both lent lists as they were
+pub unaltered : (t : Told (ℕ × ℕ)) (ps ms p q : List ℤ) (n : ℕ) → t ≡ refused n → (refused n ≡ t) × ((p ≡ after t ps p) × (q ≡ after t ms q))
+unaltered t ps ms p q n e = (sym e, (after-refused t ps p n e, after-refused t ms q n e))

@@ -1,0 +1,10 @@
+pub mod WordLaws
+pub mod SumLaws
+pub mod BlockLaws
+pub mod LayoutLaws
+pub mod WriteLaws
+pub mod ReadLaws
+pub mod AnswerLaws
+pub mod FileLaws
+pub mod RoundTrip
+pub mod WorkedFiles

@@ -1,0 +1,191 @@
+-- Reading a file piece by piece: its words, its blocks, the numbers of a list, and the comparison of two lists.
+-- Assumes nothing.
+use mathlib.Core.Path.{_≡_, refl, sym, ap, ap₂, _∙_}
+use mathlib.Core.Bool.{Bool, true, false, not, cond, _&&_}
+use mathlib.Core.List.{List, [], _∷_, _++_, append-nil}
+use Prim.Native.Nat.{ℕ, zero, suc, _+_, _*_, _-_, _/_, _%_, _≤_, _<_}
+use native.Mathlib.Numerals.{add-one}
+use native.Mathlib.Nat.{add-assoc, add-zero, suc-add, add-suc}
+use native.Mathlib.Omega.{arith}
+use borrow.Author.Tests.{eqb-true, eq-eqb}
+use lib.Dec.{eqb}
+use lib.IntN.{ℤ}
+use lib.ListN.{length, take, drop, getD, set, replicate, drop-of-length-le, length-take, length-drop}
+use lib.Seq.{getD-drop, drop-drop, drop-cons}
+use Rattle.lists.proofs.EntryLaws.{entry-next, entry-end}
+use Rattle.lists.proofs.TestLaws.{and-left, and-right, differ}
+use Rattle.lent.specs.Over.{over}
+use Rattle.lent.proofs.OverLaws.{length-over, over-more, take-over}
+use Rattle.netfile.specs.Words.{wordsOf, wordFrom}
+use Rattle.netfile.specs.Layout.{blocksFor}
+use Rattle.netfile.specs.Read.{blocksOf, numberIn, numbersIn, sameNumbers, Sized}
+use Rattle.netfile.proofs.SumLaws.{word-more}
+
+-- Words
+
+words-step : (s : List ℕ) → 4 ≤ length s → wordsOf s ≡ wordFrom s 0 ∷ wordsOf (drop 4 s)
+unfolding wordsOf
+words-step [] h = absurd (let f : ⊥ = omega arith in f)
+words-step (a ∷ []) h = absurd (let f : ⊥ = omega arith in f)
+words-step (a ∷ (b ∷ [])) h = absurd (let f : ⊥ = omega arith in f)
+words-step (a ∷ (b ∷ (c ∷ []))) h = absurd (let f : ⊥ = omega arith in f)
+words-step (a ∷ (b ∷ (c ∷ (d ∷ s)))) h = refl
+
+words-short : (s : List ℕ) → length s < 4 → wordsOf s ≡ []
+unfolding wordsOf
+words-short [] h = refl
+words-short (a ∷ []) h = refl
+words-short (a ∷ (b ∷ [])) h = refl
+words-short (a ∷ (b ∷ (c ∷ []))) h = refl
+words-short (a ∷ (b ∷ (c ∷ (d ∷ s)))) h = absurd (let f : ⊥ = omega arith in f)
+
+byte-past : (s : List ℕ) (i k : ℕ) → getD (drop 4 s) (i + k) 0 ≡ getD s (4 + i + k) 0
+byte-past s i k = getD-drop 4 s (i + k) 0 ∙ ap (λ (n : ℕ). getD s n 0) (sym (add-assoc 4 i k))
+
+word-past : (s : List ℕ) (i : ℕ) → wordFrom (drop 4 s) i ≡ wordFrom s (4 + i)
+word-past s i =
+    ap₂ (λ (a b : ℕ). a + b)
+    (ap₂ (λ (a b : ℕ). a + b)
+    (ap₂ (λ (a b : ℕ). a + b * 256) (getD-drop 4 s i 0) (byte-past s i 1))
+    (ap (λ (a : ℕ). a * 65536) (byte-past s i 2)))
+    (ap (λ (a : ℕ). a * 16777216) (byte-past s i 3))
+
+words-next : (s : List ℕ) (i : ℕ) → i * 4 + 4 ≤ length s → drop i (wordsOf s) ≡ wordFrom s (i * 4) ∷ drop (i + 1) (wordsOf s)
+words-next = entry-next 4 wordsOf wordFrom words-step words-short word-past
+
+-- the i-th word
+pub word-is : (s : List ℕ) (i : ℕ) → i * 4 + 4 ≤ length s → getD (wordsOf s) i 0 ≡ wordFrom s (i * 4)
+word-is s i h =
+    sym (getD-drop i (wordsOf s) 0 0 ∙ ap (λ (n : ℕ). getD (wordsOf s) n 0) (add-zero i))
+    ∙ ap (λ (l : List ℕ). getD l 0 0) (words-next s i h)
+
+pub length-words-of : (s : List ℕ) → length (wordsOf s) ≡ length s / 4
+unfolding wordsOf
+length-words-of [] = refl
+length-words-of (a ∷ []) = refl
+length-words-of (a ∷ (b ∷ [])) = refl
+length-words-of (a ∷ (b ∷ (c ∷ []))) = refl
+length-words-of (a ∷ (b ∷ (c ∷ (d ∷ s)))) = omega (arith, length-words-of s)
+
+-- Blocks
+
+-- one word more of a block that is read into zeros
+module _ (s : List ℕ) (b i : ℕ) (whole : b * 512 + 512 ≤ length s) (less : i < 128) where
+  left-long : 128 ≤ length (drop (b * 128) (wordsOf s))
+  left-long = simp length-drop (omega (arith, length-words-of s))
+
+  pub read-more : set (over (take i (drop (b * 128) (wordsOf s))) (replicate 128 0)) i (wordFrom s ((b * 128 + i) * 4))
+      ≡ over (take (i + 1) (drop (b * 128) (wordsOf s))) (replicate 128 0)
+  read-more =
+      let l = drop (b * 128) (wordsOf s) in
+      let e : length (take i l) ≡ i = length-take i l ∙ omega (arith, left-long) in
+      let v : getD l i 0 ≡ wordFrom s ((b * 128 + i) * 4) = getD-drop (b * 128) (wordsOf s) i 0 ∙ word-is s (b * 128 + i) (omega arith) in
+      ap (set (over (take i l) (replicate 128 0)) i) (sym v)
+      ∙ over-more (take i l) (replicate 128 0) i (getD l i 0) e less
+      ∙ ap (λ (ws : List ℕ). over ws (replicate 128 0)) (sym (word-more l i (omega (arith, left-long))))
+
+-- a list over one of its length
+pub over-full : {X : Type 0} (xs lent : List X) → length lent ≤ length xs → over xs lent ≡ xs
+unfolding over
+over-full xs lent h = ap (λ (l : _). xs ++ l) (drop-of-length-le lent h) ∙ append-nil xs
+
+pub block-full : (s : List ℕ) (b : ℕ) → b * 512 + 512 ≤ length s → length (take 128 (drop (b * 128) (wordsOf s))) ≡ 128
+block-full s b h = length-take 128 (drop (b * 128) (wordsOf s)) ∙ omega (arith, length-drop (b * 128) (wordsOf s), length-words-of s)
+
+-- the blocks that are left
+module _ (n b : ℕ) (words : List ℕ) where
+  pub blocks-next : b < n → blocksOf (n - b) (drop (b * 128) words) ≡ take 128 (drop (b * 128) words) ∷ blocksOf (n - (b + 1)) (drop ((b + 1) * 128) words)
+  unfolding blocksOf
+  blocks-next h =
+      let e : n - b ≡ suc (n - (b + 1)) = omega arith in
+      let d : b * 128 + 128 ≡ (b + 1) * 128 = omega arith in
+      ap (λ (k : ℕ). blocksOf k (drop (b * 128) words)) e
+      ∙ ap (λ (l : List ℕ). take 128 (drop (b * 128) words) ∷ blocksOf (n - (b + 1)) l) (drop-drop 128 (b * 128) words ∙ ap (λ (k : ℕ). drop k words) d)
+
+  pub blocks-end : n ≤ b → blocksOf (n - b) (drop (b * 128) words) ≡ []
+  unfolding blocksOf
+  blocks-end h = ap (λ (k : ℕ). blocksOf k (drop (b * 128) words)) (let e : n - b ≡ 0 = omega arith in e)
+
+-- Numbers of a list
+
+pub length-numbers : (bytes : List ℕ) (b j n : ℕ) → length (numbersIn bytes b j n) ≡ n
+unfolding numbersIn
+length-numbers bytes b j zero = refl
+length-numbers bytes b j (suc n) = ap suc (length-numbers bytes b (suc j) n)
+
+numbers-snoc : (bytes : List ℕ) (b j n : ℕ) → numbersIn bytes b j (n + 1) ≡ numbersIn bytes b j n ++ (numberIn bytes b (j + n) ∷ [])
+unfolding numbersIn
+numbers-snoc bytes b j zero = ap (λ (k : ℕ). numberIn bytes b k ∷ []) (sym (add-zero j))
+numbers-snoc bytes b j (suc n) =
+    let e : suc j + n ≡ j + suc n = omega arith in
+    ap (numbersIn bytes b j) (suc-add n 1)
+    ∙ ap (λ (l : List ℤ). numberIn bytes b j ∷ l) (numbers-snoc bytes b (suc j) n ∙ ap (λ (k : ℕ). numbersIn bytes b (suc j) n ++ (numberIn bytes b k ∷ [])) e)
+
+-- one number more, stored behind those before it
+pub numbers-more : (bytes : List ℕ) (b j : ℕ) (lent : List ℤ) → j < length lent
+    → set (over (numbersIn bytes b 0 j) lent) j (numberIn bytes b j) ≡ over (numbersIn bytes b 0 (j + 1)) lent
+numbers-more bytes b j lent h =
+    let e : 0 + j ≡ j = omega arith in
+    over-more (numbersIn bytes b 0 j) lent j (numberIn bytes b j) (length-numbers bytes b 0 j) h
+    ∙ ap (λ (l : List ℤ). over l lent) (sym (numbers-snoc bytes b 0 j ∙ ap (λ (k : ℕ). numbersIn bytes b 0 j ++ (numberIn bytes b k ∷ [])) e))
+
+-- Comparison
+
+pub same-true : (xs ys : List ℕ) → sameNumbers xs ys ≡ true → xs ≡ ys
+unfolding sameNumbers
+same-true [] [] e = refl
+same-true [] (y ∷ ys) e = differ refl (sym e)
+same-true (x ∷ xs) [] e = differ refl (sym e)
+same-true (x ∷ xs) (y ∷ ys) e =
+    ap₂ (λ (a : ℕ) (l : List ℕ). a ∷ l) (eqb-true x y (and-left (eqb x y) (sameNumbers xs ys) e)) (same-true xs ys (and-right (eqb x y) (sameNumbers xs ys) e))
+
+pub same-refl : (xs : List ℕ) → sameNumbers xs xs ≡ true
+unfolding sameNumbers
+same-refl [] = refl
+same-refl (x ∷ xs) = rw (eq-eqb x x refl) (same-refl xs)
+
+-- two lists of one length, from the place i on
+module _ (xs ys : List ℕ) (i : ℕ) (same-length : length xs ≡ length ys) where
+  at-next : i < length xs → sameNumbers (drop i xs) (drop i ys) ≡ (eqb (getD xs i 0) (getD ys i 0) && sameNumbers (drop (i + 1) xs) (drop (i + 1) ys))
+  unfolding sameNumbers
+  at-next h =
+      let p : drop i xs ≡ getD xs i 0 ∷ drop (i + 1) xs = rw add-one (drop-cons xs i 0 h) in
+      let q : drop i ys ≡ getD ys i 0 ∷ drop (i + 1) ys = rw add-one (drop-cons ys i 0 (omega arith)) in
+      ap₂ sameNumbers p q
+
+  pub same-pass : i < length xs → eqb (getD xs i 0) (getD ys i 0) ≡ true → sameNumbers (drop i xs) (drop i ys) ≡ sameNumbers (drop (i + 1) xs) (drop (i + 1) ys)
+  same-pass h e = at-next h ∙ rw e refl
+
+  pub same-stop : i < length xs → eqb (getD xs i 0) (getD ys i 0) ≡ false → sameNumbers (drop i xs) (drop i ys) ≡ false
+  same-stop h e = at-next h ∙ rw e refl
+
+  pub same-end : length xs ≤ i → sameNumbers (drop i xs) (drop i ys) ≡ true
+  unfolding sameNumbers
+  same-end h =
+      let g : length ys ≤ i = omega arith in
+      ap₂ sameNumbers (drop-of-length-le xs h) (drop-of-length-le ys g)
+
+-- Parts of a table
+
+-- the first n entries of a table that xs was written into
+pub part-of-over : {X : Type 0} (xs l lent : List X) (n : ℕ) → l ≡ over xs lent → length xs ≡ n → take (n - 0) l ≡ xs
+part-of-over xs l lent n e f =
+    let k : n - 0 ≡ length xs = omega arith in
+    ap₂ take k e ∙ take-over xs lent
+
+-- and the table is as long as it was
+pub over-long : {X : Type 0} (xs l lent : List X) (n : ℕ) → l ≡ over xs lent → length xs ≤ n → length lent ≡ n → length l ≡ n
+over-long xs l lent n e h f = ap length e ∙ length-over xs lent (omega arith) ∙ f
+
+-- what five blocks hold
+module _ (bytes : List ℕ) (n k : ℕ) (sized : Sized bytes n k) where
+  pub pins-few : n ≤ 600
+  unfolding blocksFor
+  pins-few = omega (arith, sized .few, sized .fit)
+
+  pub macros-few : k ≤ 600
+  unfolding blocksFor
+  macros-few = omega (arith, sized .few, sized .fit)
+
+  pub blocks-few : 1 + blocksFor n + blocksFor k ≤ 6
+  blocks-few = omega (arith, sized .few, sized .fit)

@@ -1,0 +1,212 @@
+-- The net file both ways: reading what was written gives the same lists in the same order; each accepted file is what the writer makes of
+-- the lists read; two different nets have different files. The first by the places of words and numbers, the second by definition, the
+-- third from the first.
+-- Assumes nothing.
+use mathlib.Core.Path.{_≡_, refl, sym, ap, ap₂, _∙_}
+use mathlib.Core.Bool.{true, false, not, _||_}
+use mathlib.Core.List.{List, [], _∷_, _++_, append-nil, append-assoc}
+use Prim.Native.Nat.{ℕ, suc, _+_, _*_, _/_, _%_, _≤_, _<_}
+use native.Mathlib.Omega.{arith}
+use borrow.Author.Tests.{eq-eqb, ne-eqb, le-ltb}
+use lib.Dec.{eqb, ltb}
+use lib.IntN.{ℤ, pos, negsuc}
+use lib.Signed.{ltZ}
+use lib.ListN.{length, getD, length-append}
+use mir.Syntax.{w32}
+use mir.Val.{SFits}
+use Rattle.lists.specs.Any.{any}
+use Rattle.lists.proofs.TestLaws.{by, or-none}
+use Rattle.signed.specs.Sides.{up, down}
+use Rattle.signed.proofs.SideLaws.{signed, one-side, to-sfits}
+use Rattle.lent.specs.Over.{over}
+use Rattle.lent.specs.Told.{refused, given}
+use Rattle.lent.proofs.AfterLaws.{told-apart}
+use Rattle.net.specs.Check.{pinCount, macroCount, outOfRange, checked}
+use Rattle.net.proofs.PassedLaws.{PinsCounted, MacrosCounted, passed-all, pins-counted, macros-counted}
+use Rattle.netfile.specs.Words.{wordsOf}
+use Rattle.netfile.specs.Sums.{sealed, wrongSums}
+use Rattle.netfile.specs.Layout.{block, headBlock, blocksFor, listBlocks, fileWords, fileBytes}
+use Rattle.netfile.specs.Read.{blocksMiscounted, blocksOf, sumsWrong, headCount, numbersIn, pinsIn, macrosIn, sameNumbers, countsWrong, laidOut, roomShort, readFile}
+use Rattle.netfile.proofs.LayoutLaws.{length-head, length-list-blocks, length-file}
+use Rattle.netfile.proofs.ReadLaws.{same-true, same-refl}
+use Rattle.netfile.proofs.AnswerLaws.{laid-out, laid-same, laid-allowed, refuse-21, refuse-1, refuse-2, refuse-3, read-on}
+use Rattle.netfile.proofs.FileLaws.{Small, Fit, words-bytes, small-append, small-block, small-list-blocks, pass-head, pass-list, list-read}
+
+-- Coordinates in range fit 32 bits
+
+in-range-fits : (z : ℤ) → outOfRange z ≡ false → SFits w32 z
+unfolding outOfRange up down
+in-range-fits z e =
+    let r = or-none (ltZ z (negsuc 999999)) (ltZ (pos 1000000) z) e in
+    let a : ltZ z (negsuc 999999) ≡ false = r .0 in
+    let b : ltZ (pos 1000000) z ≡ false = r .1 in
+    to-sfits w32 z (omega (signed, one-side z)) (omega (signed, one-side z))
+
+all-fit : (zs : List ℤ) → any outOfRange zs ≡ false → Fit zs
+unfolding any
+all-fit [] e = tt
+all-fit (z ∷ zs) e =
+    let r = or-none (outOfRange z) (any outOfRange zs) e in
+    (in-range-fits z (r .0), all-fit zs (r .1))
+
+no-blocks : any wrongSums (blocksOf 0 []) ≡ false
+unfolding any blocksOf
+no-blocks = refl
+
+-- The file of an allowed net, read
+
+module _ (pins macros : List ℤ) (net : ℕ × ℕ) (allowed : checked pins macros ≡ given net) where
+  pins-ok : PinsCounted pins
+  pins-ok = pins-counted pins (passed-all pins macros net allowed .past .past .past .past .past .past .past .passed)
+
+  macros-ok : MacrosCounted macros
+  macros-ok = macros-counted macros (passed-all pins macros net allowed .past .past .past .past .past .past .passed)
+
+  pins-fit : Fit pins
+  pins-fit = all-fit pins (passed-all pins macros net allowed .past .past .past .past .past .passed)
+
+  macros-fit : Fit macros
+  macros-fit = all-fit macros (passed-all pins macros net allowed .past .past .past .past .passed)
+
+  pin-blocks : blocksFor (length pins) ≤ 2
+  unfolding blocksFor
+  pin-blocks = omega (arith, pins-ok .whole, pins-ok .few)
+
+  macro-blocks : blocksFor (length macros) ≤ 3
+  unfolding blocksFor
+  macro-blocks = omega (arith, macros-ok .whole, macros-ok .few)
+
+  small-head : Small (headBlock (length pins / 2) (length macros / 4))
+  unfolding headBlock
+  small-head =
+      small-block 1 0 0 _ (omega arith) (omega arith) (omega arith)
+      (omega (arith, pins-ok .few), (omega (arith, macros-ok .few), tt))
+
+  small-file : Small (fileWords pins macros)
+  unfolding fileWords
+  small-file =
+      small-append (headBlock _ _) _ small-head
+      (small-append (listBlocks 2 2 1 (blocksFor (length pins)) pins) _
+      (small-list-blocks 2 2 1 (blocksFor (length pins)) pins (omega arith) (omega (arith, pin-blocks)) pins-fit)
+      (small-list-blocks 3 4 (1 + blocksFor (length pins)) (blocksFor (length macros)) macros (omega arith) (omega (arith, pin-blocks, macro-blocks)) macros-fit))
+
+  words-read : wordsOf (fileBytes pins macros) ≡ fileWords pins macros
+  unfolding fileBytes
+  words-read = words-bytes (fileWords pins macros) small-file
+
+  pin-count-read : headCount 4 (fileBytes pins macros) ≡ length pins / 2
+  unfolding headCount fileWords headBlock block sealed over
+  pin-count-read = ap (λ (ws : List ℕ). getD ws 4 0) words-read
+
+  macro-count-read : headCount 5 (fileBytes pins macros) ≡ length macros / 4
+  unfolding headCount fileWords headBlock block sealed over
+  macro-count-read = ap (λ (ws : List ℕ). getD ws 5 0) words-read
+
+  pin-numbers : headCount 4 (fileBytes pins macros) * 2 ≡ length pins
+  pin-numbers = omega (arith, pin-count-read, pins-ok .whole)
+
+  macro-numbers : headCount 5 (fileBytes pins macros) * 4 ≡ length macros
+  macro-numbers = omega (arith, macro-count-read, macros-ok .whole)
+
+  enough : (n : ℕ) → n ≤ blocksFor n * 120
+  unfolding blocksFor
+  enough n = omega arith
+
+  pins-read : pinsIn (fileBytes pins macros) ≡ pins
+  unfolding pinsIn fileWords
+  pins-read =
+      ap (numbersIn (fileBytes pins macros) 1 0) pin-numbers
+      ∙ list-read (fileBytes pins macros) (headBlock (length pins / 2) (length macros / 4)) _ 2 2 1 1 (blocksFor (length pins)) pins
+      words-read (length-head _ _) (enough (length pins)) pins-fit
+
+  macros-read : macrosIn (fileBytes pins macros) ≡ macros
+  unfolding macrosIn fileWords
+  macros-read =
+      let h = headBlock (length pins / 2) (length macros / 4) in
+      let n = blocksFor (length pins) in
+      let p = listBlocks 2 2 1 n pins in
+      let q = listBlocks 3 4 (1 + n) (blocksFor (length macros)) macros in
+      let w : wordsOf (fileBytes pins macros) ≡ (h ++ p) ++ (q ++ []) =
+      words-read ∙ sym (append-assoc h p q) ∙ ap (λ (l : List ℕ). (h ++ p) ++ l) (sym (append-nil q))
+      in
+      let l : length (h ++ p) ≡ (1 + n) * 128 = length-append h p ∙ omega (arith, length-head (length pins / 2) (length macros / 4), length-list-blocks 2 2 1 n pins) in
+      ap₂ (λ (b k : ℕ). numbersIn (fileBytes pins macros) (1 + blocksFor b) 0 k) pin-numbers macro-numbers
+      ∙ list-read (fileBytes pins macros) (h ++ p) [] 3 4 (1 + n) (1 + n) (blocksFor (length macros)) macros w l (enough (length macros)) macros-fit
+
+  blocks-right : blocksMiscounted (fileBytes pins macros) ≡ false
+  unfolding blocksMiscounted
+  blocks-right =
+      let n = length-file pins macros in
+      let a : length (fileBytes pins macros) % 512 ≡ 0 = omega (arith, n) in
+      let b : length (fileBytes pins macros) / 512 ≡ 0 → ⊥ = λ e. omega (arith, n, e) in
+      let c : length (fileBytes pins macros) / 512 ≤ 6 = omega (arith, n, pin-blocks, macro-blocks) in
+      rw (eq-eqb _ 0 a, ne-eqb _ 0 b, le-ltb 6 _ c) refl
+
+  sums-right : sumsWrong (fileBytes pins macros) ≡ false
+  unfolding sumsWrong fileWords
+  sums-right =
+      let n = blocksFor (length pins) in
+      let k = blocksFor (length macros) in
+      let q = listBlocks 3 4 (1 + n) k macros in
+      let e : length (fileBytes pins macros) / 512 ≡ suc (n + (k + 0)) = omega (arith, length-file pins macros) in
+      ap₂ (λ (i : ℕ) (ws : List ℕ). any wrongSums (blocksOf i ws)) e words-read
+      ∙ pass-head (length pins / 2) (length macros / 4) (n + (k + 0)) _
+      ∙ pass-list 2 2 1 n (k + 0) pins q
+      ∙ ap (λ (ws : List ℕ). any wrongSums (blocksOf (k + 0) ws)) (sym (append-nil q))
+      ∙ pass-list 3 4 (1 + n) k 0 macros []
+      ∙ no-blocks
+
+  counts-right : countsWrong (fileBytes pins macros) ≡ false
+  unfolding countsWrong
+  counts-right =
+      let e : length (fileBytes pins macros) / 512 ≡ 1 + blocksFor (length pins) + blocksFor (length macros) = omega (arith, length-file pins macros) in
+      rw (pin-numbers, macro-numbers, eq-eqb _ _ e) refl
+
+-- Theorems
+
+-- what a read of the file of two lists gives: the same lists in the same order, and their numbers
+pub record ReadBack (pins macros : List ℤ) (net : ℕ × ℕ) : Type 0 where
+  pub pins-back : pinsIn (fileBytes pins macros) ≡ pins
+  pub macros-back : macrosIn (fileBytes pins macros) ≡ macros
+  pub answer : (p q : ℕ) → roomShort p q ≡ false → readFile (fileBytes pins macros) p q ≡ given net
+
+-- reading what was written gives the same lists in the same order
+pub read-written : (pins macros : List ℤ) (net : ℕ × ℕ) → checked pins macros ≡ given net → ReadBack pins macros net
+read-written pins macros net e =
+    let f = fileBytes pins macros in
+    let p = pins-read pins macros net e in
+    let m = macros-read pins macros net e in
+    record {
+      pins-back = p;
+      macros-back = m;
+      answer = λ a b r.
+          read-on f a b r (blocks-right pins macros net e) (sums-right pins macros net e) (counts-right pins macros net e)
+          ∙ ap₂ (laidOut f) p m
+          ∙ laid-out f pins macros (same-refl f)
+          ∙ e;
+    }
+
+-- an accepted file is what the writer makes of the lists read, and these are an allowed net
+pub record Ours (bytes : List ℕ) (net : ℕ × ℕ) : Type 0 where
+  pub file : bytes ≡ fileBytes (pinsIn bytes) (macrosIn bytes)
+  pub lists : checked (pinsIn bytes) (macrosIn bytes) ≡ given net
+
+pub accepted-is-ours : (bytes : List ℕ) (p q : ℕ) (net : ℕ × ℕ) → readFile bytes p q ≡ given net → Ours bytes net
+accepted-is-ours bytes p q net e =
+    by (roomShort p q) (λ t. told-apart 21 net (sym (refuse-21 bytes p q t) ∙ e)) (λ r.
+    by (blocksMiscounted bytes) (λ t. told-apart 1 net (sym (refuse-1 bytes p q r t) ∙ e)) (λ b.
+    by (sumsWrong bytes) (λ t. told-apart 2 net (sym (refuse-2 bytes p q r b t) ∙ e)) (λ s.
+    by (countsWrong bytes) (λ t. told-apart 3 net (sym (refuse-3 bytes p q r b s t) ∙ e)) (λ c.
+    let l = sym (read-on bytes p q r b s c) ∙ e in
+    record {
+      file = same-true bytes _ (laid-same bytes (pinsIn bytes) (macrosIn bytes) net l);
+      lists = laid-allowed bytes (pinsIn bytes) (macrosIn bytes) net l;
+    }))))
+
+-- two allowed nets with one file are one net
+pub same-file : (pins macros pins′ macros′ : List ℤ) (net net′ : ℕ × ℕ) → checked pins macros ≡ given net → checked pins′ macros′ ≡ given net′
+    → fileBytes pins macros ≡ fileBytes pins′ macros′ → (pins ≡ pins′) × (macros ≡ macros′)
+same-file pins macros pins′ macros′ net net′ e e′ f =
+    let a = read-written pins macros net e in
+    let b = read-written pins′ macros′ net′ e′ in
+    (sym (a .pins-back) ∙ ap pinsIn f ∙ b .pins-back, sym (a .macros-back) ∙ ap macrosIn f ∙ b .macros-back)

@@ -1,0 +1,79 @@
+-- `netfile::block_at` meets its contract. The loop's invariant: the table is the words passed, over zeros. The measure is what is left.
+-- Assumes nothing.
+use mathlib.Core.Path.{_≡_, refl, sym, ap, ap₂, _∙_}
+use mathlib.Core.List.{List}
+use Prim.Native.Nat.{ℕ, _≤_, _<_, _-_, _+_, _*_, _/_, _%_}
+use native.Mathlib.Omega.{arith}
+use lib.ListN.{length, take, drop, getD, set, replicate}
+use denote.Ref.{now}
+use Rattle.lent.specs.Over.{over}
+use Rattle.netfile.specs.Words.{wordsOf}
+use Rattle.netfile.proofs.ReadLaws.{read-more, over-full, block-full}
+use Rattle.netfile.proofs.block_at.Statement.{statement}
+use Rattle.netfile.proofs.block_at.Tie as tie
+
+abbrev Inv-loop : tie.InvT-loop
+Inv-loop bytes b t₀ i₀ t i = (i ≤ 128) × (t ≡ over (take i (drop (b * 128) (wordsOf bytes))) (replicate 128 0))
+
+abbrev μ-loop : tie.MeasureT-loop
+μ-loop bytes b t₀ i₀ t i = 128 - i
+
+loop-holds : tie.Need-loop-holds Inv-loop μ-loop
+unfolding over
+loop-holds c = (omega arith, refl)
+
+mul-word-at : tie.Need-mul-word-at Inv-loop μ-loop
+mul-word-at c = omega arith
+
+add-word-at : tie.Need-add-word-at Inv-loop μ-loop
+add-word-at c = omega arith
+
+word-at-requires : tie.Need-word-at-requires Inv-loop μ-loop
+word-at-requires c κs = omega arith
+
+mul-t : tie.Need-mul-t Inv-loop μ-loop
+mul-t c = omega arith
+
+array-write-t : tie.Need-array-write-t Inv-loop μ-loop
+array-write-t c = omega arith
+
+add-i : tie.Need-add-i Inv-loop μ-loop
+add-i c = omega arith
+
+loop-less : tie.Need-loop-less Inv-loop μ-loop
+loop-less c = omega arith
+
+loop-again : tie.Need-loop-again Inv-loop μ-loop
+loop-again c =
+    let l = c .before .before in
+    let s = l .before .before in
+    let i = l .loop .i in (
+      omega arith,
+      ap₂ (λ (t : List ℕ) (v : ℕ). set t i v) (l .loop .inv .1) (c .word-at .ensures)
+          ∙ read-more (now (s .args .bytes)) (s .args .b) i (s .pre) (omega arith),
+    )
+
+returns : tie.Need-returns Inv-loop μ-loop
+returns c =
+    let l = c .before in
+    let s = l .before .before in
+    let e : l .loop .i ≡ 128 = omega arith in
+    let w = take 128 (drop (s .args .b * 128) (wordsOf (now (s .args .bytes)))) in
+    rw e at (l .loop .inv .1) ∙ over-full w (replicate 128 0) (omega (arith, block-full (now (s .args .bytes)) (s .args .b) (s .pre)))
+
+pub block-at-spec : {M : Type 1} → statement M
+block-at-spec =
+    tie.close
+    (tie.spec
+    Inv-loop
+    μ-loop
+    loop-holds
+    mul-word-at
+    add-word-at
+    word-at-requires
+    mul-t
+    array-write-t
+    add-i
+    loop-less
+    loop-again
+    returns)

@@ -1,0 +1,32 @@
+-- `netfile::has_wrong_sums` meets its contract: its tests are those of the definition.
+-- Assumes nothing.
+use mathlib.Core.Path.{_≡_, refl, sym, ap, ap₂, _∙_}
+use mathlib.Core.Bool.{not, _||_}
+use lib.Dec.{eqb}
+use Prim.Native.Nat.{ℕ, _≤_, _<_, _-_, _+_, _*_, _/_, _%_}
+use native.Mathlib.Omega.{arith}
+use lib.ListN.{length, take, drop, getD, set, replicate}
+use denote.Ref.{now}
+use Rattle.netfile.specs.Sums.{wrongSums}
+use borrow.Author.Needs.{needs}
+use Rattle.netfile.proofs.has_wrong_sums.Statement.{statement}
+use Rattle.netfile.proofs.has_wrong_sums.Tie as tie
+
+sums-of-requires : tie.Need-sums-of-requires
+sums-of-requires c κs = search needs
+
+array-read-result : tie.Need-array-read-result
+array-read-result c = search needs
+
+array-read-result-2 : tie.Need-array-read-result-2
+array-read-result-2 c = search needs
+
+returns : tie.Need-returns
+unfolding wrongSums
+returns c =
+    let b = c .before .before .before .before .args .t1 in
+    ap₂ (λ (p q : ℕ). not (eqb (getD b 126 0) p) || not (eqb (getD b 127 0) q)) (c .before .before .sums-of .ensures .0) (c .before .before .sums-of .ensures .1)
+
+pub has-wrong-sums-spec : {M : Type 1} → statement M
+has-wrong-sums-spec =
+    tie.close (tie.spec sums-of-requires array-read-result array-read-result-2 returns)

@@ -1,0 +1,26 @@
+-- `netfile::head_count` meets its contract: a word of the head is one of the file's words.
+-- Assumes nothing.
+use mathlib.Core.Path.{_≡_, refl, sym, ap, ap₂, _∙_}
+use mathlib.Core.List.{List}
+use Prim.Native.Nat.{ℕ, _≤_, _<_, _-_, _+_, _*_, _/_, _%_}
+use native.Mathlib.Omega.{arith}
+use lib.ListN.{length, take, drop, getD, set, replicate}
+use denote.Ref.{now}
+use Rattle.netfile.specs.Read.{headCount}
+use Rattle.netfile.proofs.ReadLaws.{word-is}
+use borrow.Author.Needs.{needs}
+use Rattle.netfile.proofs.head_count.Statement.{statement}
+use Rattle.netfile.proofs.head_count.Tie as tie
+
+word-at-requires : tie.Need-word-at-requires
+word-at-requires c κs = search needs
+
+cast-result : tie.Need-cast-result
+cast-result c = search needs
+
+returns : tie.Need-returns
+unfolding headCount
+returns c = (c .word-at .ensures ∙ sym (word-is (now (c .before .before .args .bytes)) (c .before .before .args .i) (c .before .before .pre)), omega arith)
+
+pub head-count-spec : {M : Type 1} → statement M
+head-count-spec = tie.close (tie.spec word-at-requires cast-result returns)

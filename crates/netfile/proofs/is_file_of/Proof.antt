@@ -1,0 +1,54 @@
+-- `netfile::is_file_of` meets its contract: the file of the two lists is laid out over zeros, and compared as far as it reaches.
+-- Assumes nothing.
+use mathlib.Core.Path.{_≡_, ap, sym, _∙_}
+use native.Mathlib.Omega.{arith}
+use lib.ListN.{length, replicate}
+use denote.Ref.{now}
+use Rattle.netfile.specs.Layout.{blocksFor, fileBytes}
+use Rattle.netfile.specs.Read.{sameNumbers}
+use Rattle.netfile.proofs.LayoutLaws.{length-file}
+use Rattle.netfile.proofs.ReadLaws.{part-of-over, pins-few, macros-few}
+use borrow.Author.Needs.{needs}
+use Rattle.netfile.proofs.is_file_of.Statement.{statement}
+use Rattle.netfile.proofs.is_file_of.Tie as tie
+
+slice-aggregate-put-file : tie.Need-slice-aggregate-put-file
+slice-aggregate-put-file c = search needs
+
+put-file-requires : tie.Need-put-file-requires
+put-file-requires c κs =
+    let s = c .before .before in
+    let b = now (s .args .bytes) in
+    ((omega (arith, pins-few b _ _ (s .pre)), omega (arith, macros-few b _ _ (s .pre))), omega (arith, s .pre .few, s .pre .fit))
+
+sub-same-bytes : tie.Need-sub-same-bytes
+sub-same-bytes c = search needs
+
+part-same-bytes-start : tie.Need-part-same-bytes-start
+part-same-bytes-start c = search needs
+
+part-same-bytes-end : tie.Need-part-same-bytes-end
+part-same-bytes-end c = search needs
+
+same-bytes-requires : tie.Need-same-bytes-requires
+same-bytes-requires c κs = search needs
+
+returns : tie.Need-returns
+returns c =
+    let s = c .before .before .before .before .before .before .before in
+    let b = now (s .args .bytes) in
+    let f = fileBytes (now (s .args .pins)) (now (s .args .macros)) in
+    c .same-bytes .ensures
+    ∙ ap (sameNumbers b) (part-of-over f _ (replicate 3072 0) (length b) (c .before .before .before .before .put-file .ensures) (length-file _ _ ∙ sym (s .pre .fit)))
+
+pub is-file-of-spec : {M : Type 1} → statement M
+is-file-of-spec =
+    tie.close
+    (tie.spec
+    slice-aggregate-put-file
+    put-file-requires
+    sub-same-bytes
+    part-same-bytes-start
+    part-same-bytes-end
+    same-bytes-requires
+    returns)

@@ -1,0 +1,55 @@
+-- `netfile::number_in` meets its contract: the word at the number's place, as a coordinate.
+-- Assumes nothing.
+use mathlib.Core.Path.{_≡_, refl, sym, ap, ap₂, _∙_}
+use mathlib.Core.List.{List}
+use Prim.Native.Nat.{ℕ, _≤_, _<_, _-_, _+_, _*_, _/_, _%_}
+use native.Mathlib.Omega.{arith}
+use lib.ListN.{length, take, drop, getD, set, replicate}
+use denote.Ref.{now}
+use mir.Syntax.{w32}
+use mir.ValLaws.{toZ-ofZ}
+use Rattle.netfile.specs.Words.{coordinate}
+use Rattle.netfile.specs.Read.{numberIn}
+use Rattle.netfile.proofs.ReadLaws.{word-is}
+use borrow.Author.Needs.{needs}
+use Rattle.netfile.proofs.number_in.Statement.{statement}
+use Rattle.netfile.proofs.number_in.Tie as tie
+
+add-word-at : tie.Need-add-word-at
+add-word-at c = search needs
+
+mul-word-at : tie.Need-mul-word-at
+mul-word-at c = search needs
+
+add-word-at-2 : tie.Need-add-word-at-2
+add-word-at-2 c = search needs
+
+add-word-at-3 : tie.Need-add-word-at-3
+add-word-at-3 c = search needs
+
+word-at-requires : tie.Need-word-at-requires
+word-at-requires c κs = search needs
+
+coordinate-of-requires : tie.Need-coordinate-of-requires
+coordinate-of-requires c κs = search needs
+
+returns : tie.Need-returns
+unfolding numberIn
+returns c =
+    let s = c .before .before .before in
+    let b = now (s .args .bytes) in
+    toZ-ofZ w32 _ (search needs)
+    ∙ c .coordinate-of .ensures
+    ∙ ap coordinate (c .before .word-at .ensures ∙ sym (word-is b ((s .args .b + s .args .j / 120) * 128 + (4 + s .args .j % 120)) (omega arith)))
+
+pub number-in-spec : {M : Type 1} → statement M
+number-in-spec =
+    tie.close
+    (tie.spec
+    add-word-at
+    mul-word-at
+    add-word-at-2
+    add-word-at-3
+    word-at-requires
+    coordinate-of-requires
+    returns)

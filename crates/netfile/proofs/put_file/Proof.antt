@@ -1,0 +1,66 @@
+-- `netfile::put_file` meets its contract: head, pins and macros are laid out one behind the other.
+-- Assumes nothing.
+use mathlib.Core.Path.{_≡_, ap, ap₂, _∙_}
+use mathlib.Core.List.{List}
+use Prim.Native.Nat.{ℕ, _+_, _*_, _/_}
+use native.Mathlib.Omega.{arith}
+use lib.ListN.{length}
+use lib.Seq.{sets}
+use denote.Ref.{now}
+use Rattle.netfile.specs.Words.{bytesOf}
+use Rattle.netfile.specs.Layout.{headBlock, blocksFor, listBlocks}
+use Rattle.netfile.proofs.LayoutLaws.{file-laid}
+use borrow.Author.Needs.{needs}
+use Rattle.netfile.proofs.put_file.Statement.{statement}
+use Rattle.netfile.proofs.put_file.Tie as tie
+
+blocks-for-requires : tie.Need-blocks-for-requires
+blocks-for-requires c κs = search needs
+
+add-first : tie.Need-add-first
+add-first c = search needs
+
+head-block-requires : tie.Need-head-block-requires
+head-block-requires c κs = search needs
+
+put-block-requires : tie.Need-put-block-requires
+put-block-requires c κs = search needs
+
+put-list-requires : tie.Need-put-list-requires
+put-list-requires c κs = search needs
+
+put-list-requires-2 : tie.Need-put-list-requires-2
+unfolding blocksFor
+put-list-requires-2 c κs = ((omega arith, omega arith), (omega arith, omega arith))
+
+same-length : tie.Need-same-length
+same-length c = search needs
+
+returns : tie.Need-returns
+returns c =
+    let r = c .before .before in
+    let q = r .before .before .before .before in
+    let h = q .before .before .before .before in
+    let s = h .before .before .before .before .before in
+    let p = now (s .args .pins) in
+    let m = now (s .args .macros) in
+    r .put-list2 .ensures
+    ∙ ap₂ (λ (l : List ℕ) (n : ℕ). sets l (n * 512) (bytesOf (listBlocks 3 4 n (blocksFor (length m)) m)))
+    (q .put-list .ensures
+    ∙ ap (λ (l : List ℕ). sets l 512 (bytesOf (listBlocks 2 2 1 (blocksFor (length p)) p)))
+    (h .put-block .ensures ∙ ap (λ (b : List ℕ). sets (now (s .args .bytes)) 0 (bytesOf b)) (h .before .head-block .ensures)))
+    (ap (λ (n : ℕ). 1 + n) (h .before .before .before .blocks-for .ensures))
+    ∙ file-laid (now (s .args .bytes)) p m (omega arith)
+
+pub put-file-spec : {M : Type 1} → statement M
+put-file-spec =
+    tie.close
+    (tie.spec
+    blocks-for-requires
+    add-first
+    head-block-requires
+    put-block-requires
+    put-list-requires
+    put-list-requires-2
+    same-length
+    returns)

@@ -1,0 +1,94 @@
+-- `netfile::put_list` meets its contract. The loop's invariant: the first j blocks of the list are laid out. The measure is how many
+-- blocks are left.
+-- Assumes nothing.
+use mathlib.Core.Path.{_≡_, refl, sym, ap, ap₂, _∙_}
+use mathlib.Core.List.{List}
+use Prim.Native.Nat.{ℕ, _≤_, _<_, _-_, _+_, _*_}
+use native.Mathlib.Omega.{arith}
+use lib.ListN.{length, take, drop}
+use lib.Seq.{sets, length-sets}
+use denote.Ref.{now}
+use Rattle.netfile.specs.Words.{bytesOf}
+use Rattle.netfile.specs.Layout.{listBlock, blocksFor, listBlocks}
+use Rattle.netfile.proofs.LayoutLaws.{length-next-block, list-more}
+use Rattle.netfile.proofs.put_list.Statement.{statement}
+use Rattle.netfile.proofs.put_list.Tie as tie
+
+abbrev Inv-loop : tie.InvT-loop
+Inv-loop bytes₀ kind w first numbers count j₀ bytes j =
+    (j ≤ count) × ((length bytes ≡ length bytes₀) × (bytes ≡ sets bytes₀ (first * 512) (bytesOf (listBlocks kind w first j numbers))))
+
+abbrev μ-loop : tie.MeasureT-loop
+μ-loop bytes₀ kind w first numbers count j₀ bytes j = count - j
+
+blocks-for-requires : tie.Need-blocks-for-requires Inv-loop μ-loop
+blocks-for-requires c κs = omega arith
+
+loop-holds : tie.Need-loop-holds Inv-loop μ-loop
+unfolding bytesOf listBlocks
+loop-holds c = (omega arith, (refl, refl))
+
+add-number : tie.Need-add-number Inv-loop μ-loop
+add-number c = omega arith
+
+mul-next-block : tie.Need-mul-next-block Inv-loop μ-loop
+unfolding blocksFor
+mul-next-block c = omega arith
+
+next-block-requires : tie.Need-next-block-requires Inv-loop μ-loop
+unfolding blocksFor
+next-block-requires c κs = ((omega arith, omega arith), omega arith)
+
+put-block-requires : tie.Need-put-block-requires Inv-loop μ-loop
+put-block-requires c κs =
+    let l = c .before .before .before in
+    let a = l .before .before .before .args in
+    (ap length (c .next-block .ensures) ∙ length-next-block (a .kind) (a .w) (a .first + l .loop .j) (drop (l .loop .j * 120) (now (a .numbers))), omega arith)
+
+add-j : tie.Need-add-j Inv-loop μ-loop
+add-j c = omega arith
+
+loop-less : tie.Need-loop-less Inv-loop μ-loop
+loop-less c = omega arith
+
+loop-again : tie.Need-loop-again Inv-loop μ-loop
+loop-again c =
+    let p = c .before .before in
+    let l = p .before .before .before .before in
+    let a = l .before .before .before .args in
+    let j = l .loop .j in
+    let b =
+    p .put-block .ensures
+    ∙ ap₂ (λ (bs ws : List ℕ). sets bs ((a .first + j) * 512) (bytesOf ws)) (l .loop .inv .1 .1) (p .before .next-block .ensures)
+    ∙ list-more (now (a .bytes)) (a .kind) (a .w) (a .first) j (now (a .numbers))
+    in
+    (omega arith, (ap length b ∙ length-sets (now (a .bytes)) (a .first * 512) (bytesOf (listBlocks (a .kind) (a .w) (a .first) (j + 1) (now (a .numbers)))), b))
+
+same-length : tie.Need-same-length Inv-loop μ-loop
+same-length c = c .before .loop .inv .1 .0
+
+returns : tie.Need-returns Inv-loop μ-loop
+returns c =
+    let l = c .before in
+    let a = l .before .before .before .args in
+    let e : l .loop .j ≡ blocksFor (length (now (a .numbers))) = omega arith in
+    l .loop .inv .1 .1
+    ∙ ap (λ (n : ℕ). sets (now (a .bytes)) (a .first * 512) (bytesOf (listBlocks (a .kind) (a .w) (a .first) n (now (a .numbers))))) e
+
+pub put-list-spec : {M : Type 1} → statement M
+put-list-spec =
+    tie.close
+    (tie.spec
+    Inv-loop
+    μ-loop
+    blocks-for-requires
+    loop-holds
+    add-number
+    mul-next-block
+    next-block-requires
+    put-block-requires
+    add-j
+    loop-less
+    loop-again
+    same-length
+    returns)

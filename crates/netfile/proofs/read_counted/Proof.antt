@@ -1,0 +1,79 @@
+-- `netfile::read_counted` meets its contract: the lists are taken only after every refusal has been ruled out.
+-- Assumes nothing.
+use mathlib.Core.Path.{_≡_, sym, ap, _∙_}
+use mathlib.Core.List.{List}
+use Prim.Native.Nat.{ℕ}
+use lib.ListN.{length}
+use denote.Ref.{now}
+use Rattle.lent.specs.Told.{given}
+use Rattle.lent.proofs.AfterLaws.{after-given}
+use Rattle.net.specs.Answer.{number}
+use Rattle.net.specs.Check.{told}
+use Rattle.netfile.specs.Read.{pinsIn, macrosIn, laidOut}
+use Rattle.netfile.proofs.AnswerLaws.{lists-fit, unaltered}
+use borrow.Author.Needs.{needs}
+use Rattle.netfile.proofs.read_counted.Statement.{statement}
+use Rattle.netfile.proofs.read_counted.Tie as tie
+
+-- the answer for the file, where it is accepted
+accepted : (c : tie.After-answer) → laidOut (now (c .before .before .before .before .args .bytes)) (pinsIn (now (c .before .before .before .before .args .bytes))) (macrosIn (now (c .before .before .before .before .args .bytes)))
+    ≡ given (c .answer .given .0 .0 .pins, c .answer .given .0 .0 .macros)
+unfolding told
+accepted c = sym (c .before .before .check-file .ensures) ∙ ap told (c .answer .given .1)
+
+check-file-requires : tie.Need-check-file-requires
+check-file-requires c κs = search needs
+
+enum-known-answer : tie.Need-enum-known-answer
+enum-known-answer c = search needs
+
+take-lists-requires : tie.Need-take-lists-requires
+take-lists-requires c κs =
+    let k = c .before .before .before in
+    let s = k .before .before .before .before in
+    (s .pre .0, lists-fit (now (s .args .bytes)) (length (now (s .args .pins))) (length (now (s .args .macros))) _ (accepted k) (s .pre .1))
+
+enum-known-answer-2 : tie.Need-enum-known-answer-2
+enum-known-answer-2 c = search needs
+
+same-length : tie.Need-same-length
+same-length c = search needs
+
+same-length-2 : tie.Need-same-length-2
+same-length-2 c = search needs
+
+returns : tie.Need-returns
+unfolding told
+returns c =
+    let l = c .before .before in
+    let k = l .before .before .before .before in
+    let s = k .before .before .before .before in
+    let b = now (s .args .bytes) in
+    let e = accepted k in (
+      sym e,
+      (
+        l .take-lists .ensures .0 ∙ after-given _ (pinsIn b) (now (s .args .pins)) _ e,
+        l .take-lists .ensures .1 ∙ after-given _ (macrosIn b) (now (s .args .macros)) _ e,
+      ),
+    )
+
+returns-2 : tie.Need-returns-2
+unfolding told
+returns-2 c =
+    let k = c .before .before .before in
+    let s = k .before .before in
+    let b = now (s .args .bytes) in
+    unaltered _ (pinsIn b) (macrosIn b) (now (s .args .pins)) (now (s .args .macros)) _ (sym (k .check-file .ensures) ∙ ap told (c .before .answer2 .given .1))
+
+pub read-counted-spec : {M : Type 1} → statement M
+read-counted-spec =
+    tie.close
+    (tie.spec
+    check-file-requires
+    enum-known-answer
+    take-lists-requires
+    enum-known-answer-2
+    same-length
+    same-length-2
+    returns
+    returns-2)

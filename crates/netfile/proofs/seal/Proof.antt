@@ -1,0 +1,30 @@
+-- `netfile::seal` meets its contract: its two stores are the last two words.
+-- Assumes nothing.
+use mathlib.Core.Path.{_≡_, ap₂, _∙_}
+use mathlib.Core.List.{List, [], _∷_, _++_}
+use Prim.Native.Nat.{ℕ}
+use lib.ListN.{take, set}
+use Rattle.netfile.specs.Sums.{sealed}
+use Rattle.netfile.proofs.BlockLaws.{last-two}
+use borrow.Author.Needs.{needs}
+use Rattle.netfile.proofs.seal.Statement.{statement}
+use Rattle.netfile.proofs.seal.Tie as tie
+
+sums-of-requires : tie.Need-sums-of-requires
+sums-of-requires c κs = search needs
+
+array-write-t : tie.Need-array-write-t
+array-write-t c = search needs
+
+array-write-t-2 : tie.Need-array-write-t-2
+array-write-t-2 c = search needs
+
+returns : tie.Need-returns
+unfolding sealed
+returns c =
+    let ws = c .before .before .args .t1 in
+    last-two ws _ _ (c .before .before .pre)
+    ∙ ap₂ (λ (a b : ℕ). take 126 ws ++ (a ∷ (b ∷ []))) (c .sums-of .ensures .0) (c .sums-of .ensures .1)
+
+pub seal-spec : {M : Type 1} → statement M
+seal-spec = tie.close (tie.spec sums-of-requires array-write-t array-write-t-2 returns)

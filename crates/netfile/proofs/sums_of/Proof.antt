@@ -1,0 +1,72 @@
+-- `netfile::sums_of` meets its contract. The loop's invariant: the two sums are those of the words passed. The measure is what is left.
+-- Assumes nothing.
+use borrow.Author.Needs.{needs}
+use mathlib.Core.Path.{_≡_, refl, sym, ap, ap₂, _∙_}
+use Prim.Native.Nat.{ℕ, _≤_, _<_, _-_, _+_, _%_}
+use native.Mathlib.Omega.{arith}
+use lib.ListN.{length, take, getD}
+use denote.Ref.{now}
+use Rattle.netfile.specs.Sums.{total, runningSums, plainSum, sumOfSums}
+use Rattle.netfile.proofs.SumLaws.{plain-more, sums-more, word-more}
+use Rattle.netfile.proofs.sums_of.Statement.{statement}
+use Rattle.netfile.proofs.sums_of.Tie as tie
+
+abbrev Inv-loop : tie.InvT-loop
+Inv-loop block plain₀ running₀ i₀ plain running i =
+    (i ≤ 126) × ((plain ≡ plainSum (take i block)) × (running ≡ sumOfSums (take i block)))
+
+abbrev μ-loop : tie.MeasureT-loop
+μ-loop block plain₀ running₀ i₀ plain running i = 126 - i
+
+loop-holds : tie.Need-loop-holds Inv-loop μ-loop
+unfolding total runningSums plainSum sumOfSums
+loop-holds c = (omega arith, (refl, refl))
+
+mul-wrapping-add-u32 : tie.Need-mul-wrapping-add-u32 Inv-loop μ-loop
+mul-wrapping-add-u32 c = omega arith
+
+element-copy-out-wrapping-add-u32 : tie.Need-element-copy-out-wrapping-add-u32 Inv-loop μ-loop
+element-copy-out-wrapping-add-u32 c = omega arith
+
+wrapping-add-u32-requires : tie.Need-wrapping-add-u32-requires Inv-loop μ-loop
+wrapping-add-u32-requires c κs = tt
+
+wrapping-add-u32-requires-2 : tie.Need-wrapping-add-u32-requires-2 Inv-loop μ-loop
+wrapping-add-u32-requires-2 c κs = tt
+
+add-i : tie.Need-add-i Inv-loop μ-loop
+add-i c = omega arith
+
+loop-less : tie.Need-loop-less Inv-loop μ-loop
+loop-less c = omega arith
+
+loop-again : tie.Need-loop-again Inv-loop μ-loop
+loop-again c =
+    let l = c .before .before .before .before in
+    let ws = now (l .before .args .block) in
+    let m = word-more ws (l .loop .i) (omega arith) in
+    let p = c .before .wrapping-add-u32 .ensures ∙ ap (λ (s : ℕ). (s + getD ws (l .loop .i) 0) % 4294967296) (l .loop .inv .1 .0) ∙ plain-more ws (l .loop .i) _ m in (
+      omega arith,
+      (p, c .wrapping-add-u322 .ensures ∙ ap₂ (λ (s t : ℕ). (s + t) % 4294967296) (l .loop .inv .1 .1) p ∙ sums-more ws (l .loop .i) _ m),
+    )
+
+returns : tie.Need-returns Inv-loop μ-loop
+returns c =
+    let e : c .before .loop .i ≡ 126 = omega arith in
+    (rw e at (c .before .loop .inv .1 .0), rw e at (c .before .loop .inv .1 .1))
+
+pub sums-of-spec : {M : Type 1} → statement M
+sums-of-spec =
+    tie.close
+    (tie.spec
+    Inv-loop
+    μ-loop
+    loop-holds
+    mul-wrapping-add-u32
+    element-copy-out-wrapping-add-u32
+    wrapping-add-u32-requires
+    wrapping-add-u32-requires-2
+    add-i
+    loop-less
+    loop-again
+    returns)

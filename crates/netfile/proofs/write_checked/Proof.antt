@@ -1,0 +1,75 @@
+-- `netfile::write_checked` meets its contract: the file's bytes are its blocks, 512 each; where they fit they are laid out.
+-- Assumes nothing.
+use mathlib.Core.Path.{_≡_, sym, ap, _∙_}
+use Prim.Native.Nat.{_+_, _*_}
+use native.Mathlib.Omega.{arith}
+use lib.ListN.{length}
+use denote.Ref.{now}
+use Rattle.lent.specs.Told.{given}
+use Rattle.lent.proofs.AfterLaws.{after-refused, after-given}
+use Rattle.net.specs.Answer.{number}
+use Rattle.netfile.specs.Layout.{blocksFor, fileBytes}
+use Rattle.netfile.specs.Write.{fitted, toldBytes}
+use Rattle.netfile.proofs.LayoutLaws.{length-file}
+use Rattle.netfile.proofs.WriteLaws.{fitted-short, fitted-given}
+use borrow.Author.Needs.{needs}
+use Rattle.netfile.proofs.write_checked.Statement.{statement}
+use Rattle.netfile.proofs.write_checked.Tie as tie
+
+blocks-for-requires : tie.Need-blocks-for-requires
+blocks-for-requires c κs = search needs
+
+add-n : tie.Need-add-n
+unfolding blocksFor
+add-n c = omega arith
+
+blocks-for-requires-2 : tie.Need-blocks-for-requires-2
+blocks-for-requires-2 c κs = search needs
+
+add-n-2 : tie.Need-add-n-2
+unfolding blocksFor
+add-n-2 c = omega arith
+
+mul-n : tie.Need-mul-n
+unfolding blocksFor
+mul-n c = omega arith
+
+returns : tie.Need-returns
+unfolding toldBytes number
+returns c =
+    let a = c .before .before .before .before .args in
+    let f = fileBytes (now (a .pins)) (now (a .macros)) in
+    let e = fitted-short (length f) (length (now (a .bytes))) (omega (arith, length-file (now (a .pins)) (now (a .macros)))) in
+    (sym e, after-refused _ f (now (a .bytes)) 21 e)
+
+put-file-requires : tie.Need-put-file-requires
+put-file-requires c κs = search needs
+
+same-length : tie.Need-same-length
+same-length c = search needs
+
+returns-2 : tie.Need-returns-2
+unfolding toldBytes
+returns-2 c =
+    let p = c .before .before in
+    let s = p .before .before .before .before .before .before in
+    let b = now (s .args .bytes) in
+    let f = fileBytes (now (s .args .pins)) (now (s .args .macros)) in
+    let n = length-file (now (s .args .pins)) (now (s .args .macros)) in
+    let e : (1 + p .before .before .before .before .blocks-for .result + p .before .before .before .blocks-for2 .result) * 512 ≡ length f = omega (arith, n) in
+    let g = fitted-given (length f) (length b) (omega (arith, n)) in
+    (ap given e ∙ sym g, p .put-file .ensures ∙ after-given _ f b (length f) g)
+
+pub write-checked-spec : {M : Type 1} → statement M
+write-checked-spec =
+    tie.close
+    (tie.spec
+    blocks-for-requires
+    add-n
+    blocks-for-requires-2
+    add-n-2
+    mul-n
+    returns
+    put-file-requires
+    same-length
+    returns-2)

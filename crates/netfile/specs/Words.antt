@@ -1,0 +1,35 @@
+-- Bytes, words and coordinates.
+use mathlib.Core.Bool.{true, false}
+use mathlib.Core.List.{List, [], _∷_, _++_}
+use Prim.Native.Nat.{ℕ, suc, _+_, _*_, _-_, _/_, _%_}
+use lib.Dec.{ltb}
+use lib.IntN.{ℤ, pos, negsuc}
+use lib.ListN.{getD}
+
+-- "words of 32 bits, low byte first"; up to three bytes left over at the end are no word
+unfoldable pub wordsOf : List ℕ → List ℕ
+wordsOf [] = []
+wordsOf (a ∷ []) = []
+wordsOf (a ∷ (b ∷ [])) = []
+wordsOf (a ∷ (b ∷ (c ∷ []))) = []
+wordsOf (a ∷ (b ∷ (c ∷ (d ∷ rest)))) = (a + b * 256 + c * 65536 + d * 16777216) ∷ wordsOf rest
+
+-- the word that begins at the byte k
+abbrev pub wordFrom : List ℕ → ℕ → ℕ
+wordFrom bytes k = getD bytes k 0 + getD bytes (k + 1) 0 * 256 + getD bytes (k + 2) 0 * 65536 + getD bytes (k + 3) 0 * 16777216
+
+-- the bytes of words, low byte first
+unfoldable pub bytesOfWord : ℕ → List ℕ
+bytesOfWord w = w % 256 ∷ (w / 256 % 256 ∷ (w / 65536 % 256 ∷ (w / 16777216 % 256 ∷ [])))
+
+unfoldable pub bytesOf : List ℕ → List ℕ
+bytesOf [] = []
+bytesOf (w ∷ ws) = bytesOfWord w ++ bytesOf ws
+
+-- "Coordinates are two's complement."
+unfoldable pub wordOf : ℤ → ℕ
+wordOf (pos n) = n
+wordOf (negsuc n) = 4294967296 - suc n
+
+unfoldable pub coordinate : ℕ → ℤ
+coordinate w = elim (ltb w 2147483648) [ true ↦ pos w | false ↦ negsuc (4294967296 - suc w) ]
