@@ -4,9 +4,10 @@ use mathlib.Core.Path.{_≡_}
 use mathlib.Core.Bool.{Bool, true}
 use mathlib.Core.Logic.{_⊎_, inl, inr}
 use mathlib.Core.List.{List}
-use Rattle.lists.specs.Member.{_∈_, those}
+use Rattle.lists.specs.Member.{_∈_}
+use Rattle.lists.specs.Those.{those}
 use Rattle.lists.proofs.TestLaws.{either}
-use Rattle.lists.proofs.MemberLaws.{in-those, of-those}
+use Rattle.lists.proofs.ThoseLaws.{in-those, of-those}
 use Rattle.lists.proofs.LeastLaws.{least}
 
 pub record LeastOf {A : Type 0} (ok : A → Bool) (le : A → A → Type 0) (l : List A) : Type 0 where
