@@ -6,7 +6,6 @@ use mathlib.Core.Path.{_≡_}
 use mathlib.Core.Bool.{Bool, true, _&&_}
 use mathlib.Core.Logic.{_⊎_, inl, inr}
 use mathlib.Core.List.{List}
-use Prim.Native.Nat.{_+_, _≤_, _<_}
 use lib.IntN.{ℤ}
 use lib.Signed.{ltZ, leZ}
 use Rattle.lists.specs.Member.{_∈_}
@@ -22,7 +21,7 @@ use Rattle.plane.proofs.MeetLaws.{Hits, hits-up, hits-down, hits-meets, clear-o
 use Rattle.net.specs.Allowed.{Allowed}
 use Rattle.net.proofs.ApartLaws.{sides-in-order, overlap-one}
 use Rattle.graph.specs.Vertices.{cornersOf, vertices}
-use Rattle.graph.proofs.QuadrantLaws.{InFirst, InFourth, Ahead, compare, first-ahead, fourth-ahead, ahead-in}
+use Rattle.graph.proofs.QuadrantLaws.{InFirst, InFourth, Ahead, compare, first-ahead, fourth-ahead}
 use Rattle.graph.proofs.VertexLaws.{lower-left, upper-left, lower-right, upper-right, corner-vertex}
 use Rattle.graph.proofs.OutsideLaws.{vertex-outside}
 
@@ -77,24 +76,17 @@ pub record ClearAhead (ps : List Place) (ms : List Macro) (u : Place) : Type 0 w
   pub is-clear : clear u to ms ≡ true
 
 module _ {ps : List Place} {ms : List Macro} (a : Allowed ps ms) (u : Place) (at : u ∈ vertices ps ms) where
+  found : (v : Place) → v ∈ vertices ps ms → Ahead u v → ((m : Macro) → m ∈ ms → meets u v m ≡ true → ⊥) → ClearAhead ps ms u
+  found v i h free = record { to = v; stands = i; ahead = h; is-clear = clear-of u v ms free }
+
   -- up to the right, or down to the right or straight down, where no macro meets the box
   rising : (v : Place) → v ∈ vertices ps ms → InFirst u v → ((m : Macro) → m ∈ ms → Hits (u .x) (u .y) (v .x) (v .y) m → ⊥)
       → ClearAhead ps ms u
-  rising v i f free = record {
-    to = v;
-    stands = i;
-    ahead = first-ahead u v f;
-    is-clear = clear-of u v ms (λ m k h. free m k (hits-up u v m (omega signed) (f .along) h));
-  }
+  rising v i f free = found v i (first-ahead u v f) (λ m k h. free m k (hits-up u v m (omega signed) (f .along) h))
 
   sinking : (v : Place) → v ∈ vertices ps ms → InFourth u v → ((m : Macro) → m ∈ ms → Hits (u .x) (v .y) (v .x) (u .y) m → ⊥)
       → ClearAhead ps ms u
-  sinking v i f free = record {
-    to = v;
-    stands = i;
-    ahead = fourth-ahead u v f;
-    is-clear = clear-of u v ms (λ m k h. free m k (hits-down u v m (f .across) (omega signed) h));
-  }
+  sinking v i f free = found v i (fourth-ahead u v f) (λ m k h. free m k (hits-down u v m (f .across) (omega signed) h))
 
   corner : (m : Macro) → m ∈ ms → (c : Place) → c ∈ cornersOf m → c ∈ vertices ps ms
   corner m i c j = corner-vertex ps ms i j

@@ -1,17 +1,17 @@
 -- Edges: an edge joins u and v exactly when one of them picks the other; what holds of each edge; edges are ascending, and at most four
 -- a vertex. The sorted list holds the edge of each pick of each vertex, and an edge's two ends tell which pair of places it is of.
 -- Assumes nothing.
-use mathlib.Core.Path.{_≡_, refl, sym, ap, _∙_}
-use mathlib.Core.Bool.{Bool, true, false}
+use mathlib.Core.Path.{_≡_, refl, _∙_}
+use mathlib.Core.Bool.{true, false}
 use mathlib.Core.Logic.{_⊎_, inl, inr}
-use mathlib.Core.List.{List, [], _∷_, _++_, List·Memᴰ·cases-cons, List·Memᴰ·append-cases, Memᴰ·append-left, Memᴰ·append-right}
-use Prim.Native.Nat.{ℕ, _+_, _*_, _≤_}
+use mathlib.Core.List.{List, [], _∷_, _++_, List·Memᴰ·append-cases, Memᴰ·cast, Memᴰ·append-left, Memᴰ·append-right}
+use Prim.Native.Nat.{_*_, _≤_}
 use native.Mathlib.Omega.{arith}
 use lib.ListN.{length, length-append}
 use Rattle.lists.specs.Member.{_∈_, here, there, Once}
-use Rattle.lists.specs.Sorted.{Order, Ascending, firstThen}
-use Rattle.lists.proofs.TestLaws.{by, differ, either}
-use Rattle.lists.proofs.EachLaws.{Piece, of-each, in-each, length-each}
+use Rattle.lists.specs.Sorted.{Order, Ascending}
+use Rattle.lists.proofs.TestLaws.{by, either}
+use Rattle.lists.proofs.EachLaws.{of-each, in-each, length-each}
 use Rattle.lists.proofs.OrderLaws.{pair-order}
 use Rattle.lists.proofs.SortedLaws.{of-sorted, in-sorted, length-sorted, sorted-ascending, ascending-once}
 use Rattle.lists.proofs.PermLaws.{before-differs}
@@ -32,7 +32,7 @@ use Rattle.graph.specs.declared.Picked.the-variants.{At, Nothing}
 use Rattle.graph.specs.Pick.{pick}
 use Rattle.graph.specs.Edges.{edgeOf, beforeEdge, edgeOfPick, picksOf, allPicks, edges}
 use Rattle.graph.proofs.QuadrantLaws.{within-differs}
-use Rattle.graph.proofs.PickLaws.{PicksAt, pick-at}
+use Rattle.graph.proofs.PickLaws.{pick-at}
 
 -- The order of edges, and the edge of two places
 
@@ -105,18 +105,21 @@ module _ (ms : List Macro) (vs : List Place) where
   unfolding allPicks
   more u us = refl
 
-  -- the edges are those of the picks
+  -- e is an edge exactly when it is the edge of a pick
   pub of-edges : {e : Place × Place} → e ∈ edges ms vs → OfPick e
   unfolding edges
   of-edges m =
       let p = of-each (picksOf ms vs) (allPicks ms vs) none more vs (of-sorted beforeEdge (allPicks ms vs vs) _ m) in
       of-picks (p .entry) (p .stands) (p .holds)
 
-  pub in-edges : {u v : Place} → PickedBy u v → edgeOf u v ∈ edges ms vs
+  pub pick-edge : {u v : Place} → PickedBy u v → edgeOf u v ∈ edges ms vs
   unfolding edges
-  in-edges {u} {v} p =
+  pick-edge {u} {v} p =
       in-sorted beforeEdge edge-order (allPicks ms vs vs) _
       (in-each (picksOf ms vs) (allPicks ms vs) none more vs (p .stands) (in-picks (p .quadrant) u v (p .picks)))
+
+  pub in-edges : {e : Place × Place} → OfPick e → e ∈ edges ms vs
+  in-edges r = Memᴰ·cast (r .is) (pick-edge (r .picked))
 
   same-ends : {u v a b : Place} → u ≡ a → v ≡ b → PickedBy a b → PickedBy u v
   same-ends e f p = rw (e, f) p
@@ -136,7 +139,7 @@ module _ (ms : List Macro) (vs : List Place) where
 
   picked-joins : (u v : Place) → PickedBy u v → Link (edges ms vs) u v
   picked-joins u v p =
-      edge-cases (λ x. x ∈ edges ms vs → Link (edges ms vs) u v) u v (λ b m. inl m) (λ b m. inr m) (in-edges p)
+      edge-cases (λ x. x ∈ edges ms vs → Link (edges ms vs) u v) u v (λ b m. inl m) (λ b m. inr m) (pick-edge p)
 
   pub picked-link : (u v : Place) → PickedBy u v ⊎ PickedBy v u → Link (edges ms vs) u v
   picked-link u v (inl p) = picked-joins u v p

@@ -2,7 +2,7 @@
 -- vertices and 1,280 edges.
 -- Assumes nothing.
 use mathlib.Core.List.{List}
-use Prim.Native.Nat.{ℕ, _≤_}
+use Prim.Native.Nat.{_≤_}
 use native.Mathlib.Omega.{arith}
 use lib.ListN.{length}
 use Rattle.lists.specs.Member.{_∈_}
@@ -16,7 +16,7 @@ use Rattle.net.proofs.RangeBounds.{distance-in-range}
 use Rattle.graph.specs.Vertices.{cornersOf, vertices}
 use Rattle.graph.specs.Edges.{edges}
 use Rattle.graph.proofs.VertexLaws.{at-corner, of-vertices, vertices-ascending, length-vertices}
-use Rattle.graph.proofs.EdgeLaws.{Edge, edge-of, length-edges}
+use Rattle.graph.proofs.EdgeLaws.{edge-of, length-edges}
 
 module _ {ps : List Place} {ms : List Macro} (a : Allowed ps ms) where
   corner-in-range : (c : Place) → Piece cornersOf ms c → PlaceInRange c

@@ -21,7 +21,7 @@ use Rattle.graph.specs.declared.Quadrant.{Quadrant}
 use Rattle.graph.specs.declared.Quadrant.the-variants.{First, Second, Third, Fourth}
 use Rattle.graph.specs.Vertices.{corners, vertices}
 use Rattle.graph.specs.Pick.{pick}
-use Rattle.graph.specs.Edges.{beforeEdge, edgeOfPick, picksOf, allPicks, edges}
+use Rattle.graph.specs.Edges.{beforeEdge, picksOf, allPicks, edges}
 use Rattle.graph.proofs.VertexLaws.{corners-among}
 use Rattle.graph.proofs.PickLaws.{pick-agree}
 

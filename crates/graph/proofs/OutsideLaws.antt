@@ -1,14 +1,12 @@
 -- In an allowed net no vertex is in a macro's interior: a pin by the check, and a corner because the macro around it would overlap the
 -- corner's own.
 -- Assumes nothing.
-use mathlib.Core.Path.{_≡_}
 use mathlib.Core.List.{List}
-use Prim.Native.Nat.{_+_, _≤_, _<_}
 use lib.IntN.{ℤ}
 use Rattle.lists.specs.Member.{_∈_}
 use Rattle.lists.proofs.TestLaws.{either}
 use Rattle.lists.proofs.EachLaws.{Piece}
-use Rattle.signed.specs.Sides.{Lt, Le}
+use Rattle.signed.specs.Sides.{Le}
 use Rattle.signed.proofs.SideLaws.{signed}
 use Rattle.plane.specs.declared.Place.{Place}
 use Rattle.plane.specs.declared.Macro.{Macro}

@@ -2,13 +2,13 @@
 -- sentence holds of the vertices seen so far and the best among them, and the next vertex comes after all of those, so on a tie the best
 -- stays.
 -- Assumes nothing.
-use mathlib.Core.Path.{_≡_, refl, sym, ap, ap₂, _∙_}
-use mathlib.Core.Bool.{Bool, true, false, cond, _&&_}
+use mathlib.Core.Path.{_≡_, refl, sym, ap}
+use mathlib.Core.Bool.{Bool, true, false, _&&_}
 use mathlib.Core.Logic.{_⊎_, inl, inr}
 use mathlib.Core.List.{List, [], _∷_, reverse, reverseAux, List·Memᴰ·cases-cons}
-use Prim.Native.Nat.{ℕ, _≤_, _<_}
+use Prim.Native.Nat.{_≤_, _<_}
 use native.Mathlib.Omega.{arith}
-use borrow.Author.Tests.{ltb-true, ltb-false, lt-ltb}
+use borrow.Author.Tests.{ltb-true, ltb-false}
 use lib.Dec.{ltb}
 use Rattle.lists.specs.Member.{_∈_, here, there, Among}
 use Rattle.lists.specs.Sorted.{Ascending}
@@ -78,7 +78,11 @@ module _ (ms : List Macro) (q : Quadrant) (u : Place) where
   taken seen best v h e = record {
     stands = here refl;
     fit = offered-fit best v e;
-    least = λ w m f. either (λ k. inr (ap (distance u) (sym k), inl (sym k))) (λ i. inl (nearest best h (offered-nearer best v e) w i f)) (List·Memᴰ·cases-cons m);
+    least = λ w m f.
+        either
+        (λ k. inr (ap (distance u) (sym k), inl (sym k)))
+        (λ i. inl (nearest best h (offered-nearer best v e) w i f))
+        (List·Memᴰ·cases-cons m);
   }
     where
       nearest : (best : Picked) → Picks seen best → nearer u v best ≡ true → (w : Place) → w ∈ seen → Fit w → distance u v < distance u w

@@ -1,12 +1,12 @@
 -- The same entries in another order: each list holds what the other one holds. An order of entries tells any two of them apart, so two
 -- lists of them are equal in one way at most; that is what lets a fact about some permutation prove an equation of lists.
 -- Assumes nothing.
-use mathlib.Core.Path.{_≡_, refl, sym, _∙_}
-use mathlib.Core.Bool.{Bool, true, false}
+use mathlib.Core.Path.{_≡_, sym, _∙_}
+use mathlib.Core.Bool.{Bool, true}
 use mathlib.Core.HLevel.{hedberg}
-use mathlib.Core.List.{List, [], _∷_, _++_, List·isSet, List·Memᴰ·cases-cons, List·Memᴰ·append-cases, Memᴰ·append-left, Memᴰ·append-right}
+use mathlib.Core.List.{List, _++_, List·isSet, List·Memᴰ·cases-cons, List·Memᴰ·append-cases, Memᴰ·append-left, Memᴰ·append-right}
 use mathlib.Core.List.{List·Permᴰ, List·Permᴰ·nil, List·Permᴰ·cons, List·Permᴰ·swap, List·Permᴰ·trans}
-use Rattle.lists.specs.Member.{_∈_, here, there, Among}
+use Rattle.lists.specs.Member.{here, there, Among}
 use Rattle.lists.specs.Sorted.{Order}
 use Rattle.lists.proofs.TestLaws.{by, differ, either}
 

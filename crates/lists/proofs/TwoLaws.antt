@@ -1,7 +1,7 @@
 -- Where no two entries pass a test that does not care which of them comes first, two entries that pass it are one.
 -- Assumes nothing.
 use mathlib.Core.Path.{_≡_, sym, _∙_}
-use mathlib.Core.Bool.{Bool, true, false}
+use mathlib.Core.Bool.{Bool, true}
 use mathlib.Core.List.{List, _∷_}
 use Rattle.lists.specs.Any.{NoTwo}
 use Rattle.lists.specs.Member.{_∈_, here, there}

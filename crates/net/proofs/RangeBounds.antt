@@ -2,7 +2,7 @@
 -- Assumes nothing.
 use mathlib.Core.Path.{_≡_, refl}
 use mathlib.Core.Bool.{false}
-use Prim.Native.Nat.{ℕ, _+_, _≤_}
+use Prim.Native.Nat.{_≤_}
 use lib.IntN.{ℤ, pos, negℤ}
 use lib.Signed.{ltZ}
 use Rattle.lists.proofs.TestLaws.{or-none}

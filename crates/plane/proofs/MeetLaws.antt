@@ -1,10 +1,9 @@
 -- What a box meets and what overlaps, as inequalities with no `min` and no `max`, so that `omega` need not split: for two places whose
 -- order on both axes is known, for two macros that are upright, and for a place and a macro.
 -- Assumes nothing.
-use mathlib.Core.Path.{_≡_, refl, sym}
-use mathlib.Core.Bool.{Bool, true, false, _&&_}
+use mathlib.Core.Path.{_≡_, sym}
+use mathlib.Core.Bool.{true}
 use mathlib.Core.List.{List}
-use Prim.Native.Nat.{ℕ, _+_, _≤_, _<_}
 use lib.IntN.{ℤ}
 use lib.Signed.{ltZ}
 use Rattle.lists.specs.Member.{_∈_}
