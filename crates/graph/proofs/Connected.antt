@@ -9,9 +9,10 @@ use Prim.Native.Nat.{ℕ, zero, suc, _<_}
 use native.Mathlib.Omega.{arith}
 use lib.IntN.{ℤ}
 use lib.ListN.{length}
-use Rattle.lists.specs.Member.{_∈_, those}
+use Rattle.lists.specs.Member.{_∈_}
+use Rattle.lists.specs.Those.{those}
 use Rattle.lists.proofs.TestLaws.{by, differ, either, or-neither}
-use Rattle.lists.proofs.MemberLaws.{those-lt}
+use Rattle.lists.proofs.ThoseLaws.{those-lt}
 use Rattle.lent.specs.Told.{given}
 use Rattle.joined.specs.Joined.{Link, Joined, stay, step, Joins}
 use Rattle.joined.proofs.JoinedLaws.{then, back, cast}

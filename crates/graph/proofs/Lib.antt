@@ -1,4 +1,3 @@
-pub mod OrderLaws
 pub mod GraphSteps
 pub mod PickSteps
 pub mod WidthLaws

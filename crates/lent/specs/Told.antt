@@ -10,3 +10,8 @@ pub data Told (A : Type 0) : Type 0 where
 unfoldable pub code : {A : Type 0} → Told A → ℕ
 code (refused n) = n
 code (given a) = 0
+
+-- the next answer, once the first is given: its refusals come first
+unfoldable pub onlyIf : {A B : Type 0} → Told A → Told B → Told B
+onlyIf (refused n) next = refused n
+onlyIf (given a) next = next

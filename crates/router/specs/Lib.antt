@@ -1,1 +1,6 @@
--- The published operations cite the definitions of the crates below; there are none of their own yet.
+-- What the published operations answer, where the crates below do not say it already.
+--
+--   Graph      verticesOf, edgesOf                  the vertices and edges of two flat lists
+--              graphed pins macros v e              the answer of a graph into so many lent numbers
+--              toldGraph r                          what the code's answer says
+pub mod Graph

@@ -2,20 +2,66 @@
 //
 // A contract says the answer, in document 01's terms, as an equation with its definition, and what each lent list then holds.
 use net::Checked;
+use net::Refusal;
 use netfile::Written;
 ghost use mathlib.Core.Path.{_≡_};
+ghost use Prim.Native.Nat.{_≤_};
 ghost use lib.ListN.{length};
 ghost use Rattle.lent.specs.Over.{after};
-ghost use Rattle.net.specs.Check.{checked, told};
+ghost use Rattle.lent.specs.Entries.{flat};
+ghost use Rattle.net.specs.Check.{pinCount, macroCount, checked, told};
+ghost use Rattle.graph.specs.Numbers.{placeNumbers, edgeNumbers};
 ghost use Rattle.netfile.specs.Layout.{fileBytes};
 ghost use Rattle.netfile.specs.Write.{written, toldBytes};
 ghost use Rattle.netfile.specs.Read.{pinsIn, macrosIn, readFile};
+ghost use Rattle.router.specs.Graph.{verticesOf, edgesOf, graphGiven, graphed, toldGraph};
+
+// The answer of a graph: how many vertices and how many edges were given.
+pub enum Graphed {
+    Given(usize, usize),
+    Refused(Refusal),
+}
 
 // Check a net: allowed, with its numbers of pins and macros, or the first of the refusals 11 to 17 that applies.
 pub fn check(pins: &[i32], macros: &[i32]) -> Checked
     ensures { λ r. ⌜ told r ≡ checked (now (pins .entry)) (now (macros .entry)) ⌝ }
 {
     net::check(pins, macros)
+}
+
+// Graph: the vertices and the edges of the spanning graph, in order, or 11 to 17, then 21 where fewer than 2n numbers are lent for
+// vertices or 16n for edges.
+pub fn graph(pins: &[i32], macros: &[i32], vertices: &mut [i32], edges: &mut [i32]) -> Graphed
+    ensures answer { λ r. ⌜ toldGraph r ≡ graphed (now (pins .entry)) (now (macros .entry)) (length (now (vertices .entry))) (length (now (edges .entry))) ⌝ }
+    ensures vertices { λ _. ⌜ now (vertices .exit) ≡ after (graphed (now (pins .entry)) (now (macros .entry)) (length (now (vertices .entry))) (length (now (edges .entry)))) (flat placeNumbers (verticesOf (now (pins .entry)) (now (macros .entry)))) (now (vertices .entry)) ⌝ }
+    ensures edges { λ _. ⌜ now (edges .exit) ≡ after (graphed (now (pins .entry)) (now (macros .entry)) (length (now (vertices .entry))) (length (now (edges .entry)))) (flat edgeNumbers (edgesOf (now (pins .entry)) (now (macros .entry)))) (now (edges .entry)) ⌝ }
+{
+    let answer = net::check(pins, macros);
+    match answer {
+        Checked::Allowed(_) => graph_of_allowed(pins, macros, &mut *vertices, &mut *edges),
+        Checked::Refused(refusal) => Graphed::Refused(refusal),
+    }
+}
+
+// The graph once the check has passed.
+fn graph_of_allowed(
+    pins: &[i32],
+    macros: &[i32],
+    vertices: &mut [i32],
+    edges: &mut [i32],
+) -> Graphed
+    requires { ⌜ (pinCount (now pins) ≤ 64) × (macroCount (now macros) ≤ 64) ⌝ }
+    ensures answer { λ r. ⌜ toldGraph r ≡ graphGiven (now (pins .entry)) (now (macros .entry)) (length (now (vertices .entry))) (length (now (edges .entry))) ⌝ }
+    ensures vertices { λ _. ⌜ now (vertices .exit) ≡ after (graphGiven (now (pins .entry)) (now (macros .entry)) (length (now (vertices .entry))) (length (now (edges .entry)))) (flat placeNumbers (verticesOf (now (pins .entry)) (now (macros .entry)))) (now (vertices .entry)) ⌝ }
+    ensures edges { λ _. ⌜ now (edges .exit) ≡ after (graphGiven (now (pins .entry)) (now (macros .entry)) (length (now (vertices .entry))) (length (now (edges .entry)))) (flat edgeNumbers (edgesOf (now (pins .entry)) (now (macros .entry)))) (now (edges .entry)) ⌝ }
+{
+    let n = pins.len() / 2 + macros.len() / 4 * 4;
+    if (vertices.len() < n * 2) | (edges.len() < n * 16) {
+        return Graphed::Refused(Refusal::Space);
+    }
+    let v = graph::vertices(pins, macros, &mut *vertices);
+    let e = graph::edges(macros, &vertices[..v * 2], &mut *edges);
+    Graphed::Given(v, e)
 }
 
 // Write a net file: its number of bytes, or 11 to 17, then 21 where fewer bytes are lent than the file has.

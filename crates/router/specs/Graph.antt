@@ -1,0 +1,45 @@
+-- The graph: document 01, "Graph".
+use mathlib.Core.Bool.{Bool, cond, _||_}
+use mathlib.Core.List.{List}
+use Prim.Native.Nat.{ℕ, _+_, _*_}
+use lib.Dec.{ltb}
+use lib.IntN.{ℤ}
+use lib.ListN.{length}
+use Rattle.lent.specs.Told.{Told, refused, given, onlyIf}
+use Rattle.plane.specs.declared.Place.{Place}
+use Rattle.plane.specs.Flat.{placesOf, macrosOf}
+use Rattle.net.specs.Answer.{number}
+use Rattle.net.specs.Check.{pinCount, macroCount, checked}
+use Rattle.graph.specs.Vertices.{vertices}
+use Rattle.graph.specs.Edges.{edges}
+use Rattle.router.specs.declared.Graphed.{Graphed}
+use Rattle.router.specs.declared.Graphed.the-variants.{Given, Refused}
+
+unfoldable pub verticesOf : List ℤ → List ℤ → List Place
+verticesOf pins macros = vertices (placesOf pins) (macrosOf macros)
+
+unfoldable pub edgesOf : List ℤ → List ℤ → List (Place × Place)
+edgesOf pins macros = edges (macrosOf macros) (verticesOf pins macros)
+
+-- "n = m + 4k"
+abbrev pub pointCount : List ℤ → List ℤ → ℕ
+pointCount pins macros = pinCount pins + macroCount macros * 4
+
+-- "21: fewer than 2n numbers lent for vertices or 16n for edges."
+unfoldable pub graphRoomShort : ℕ → ℕ → ℕ → Bool
+graphRoomShort n vertexRoom edgeRoom = ltb vertexRoom (n * 2) || ltb edgeRoom (n * 16)
+
+-- "Both are given in order, an edge as four numbers": how many vertices and how many edges
+unfoldable pub graphGiven : List ℤ → List ℤ → ℕ → ℕ → Told (ℕ × ℕ)
+graphGiven pins macros vertexRoom edgeRoom =
+    cond (graphRoomShort (pointCount pins macros) vertexRoom edgeRoom) (refused 21)
+    (given (length (verticesOf pins macros), length (edgesOf pins macros)))
+
+-- "11 to 17, then 21"
+unfoldable pub graphed : List ℤ → List ℤ → ℕ → ℕ → Told (ℕ × ℕ)
+graphed pins macros vertexRoom edgeRoom = onlyIf (checked pins macros) (graphGiven pins macros vertexRoom edgeRoom)
+
+-- what the code's answer says
+unfoldable pub toldGraph : Graphed → Told (ℕ × ℕ)
+toldGraph (Given v e) = given (v, e)
+toldGraph (Refused f) = refused (number f)
