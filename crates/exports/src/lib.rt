@@ -1,12 +1,16 @@
 // The router's operations for C: the static library. A slice passes as a pointer and a length.
 use net::Checked;
 use netfile::Written;
+use router::Graphed;
 ghost use mathlib.Core.Path.{_≡_};
 ghost use lib.IntN.{pos};
 ghost use lib.ListN.{length};
 ghost use Rattle.lent.specs.Told.{code};
 ghost use Rattle.lent.specs.Over.{after, valueAfter};
+ghost use Rattle.lent.specs.Entries.{flat};
 ghost use Rattle.net.specs.Check.{checked};
+ghost use Rattle.graph.specs.Numbers.{placeNumbers, edgeNumbers};
+ghost use Rattle.router.specs.Graph.{verticesOf, edgesOf, graphed};
 ghost use Rattle.netfile.specs.Layout.{fileBytes};
 ghost use Rattle.netfile.specs.Write.{written};
 ghost use Rattle.netfile.specs.Read.{pinsIn, macrosIn, readFile};
@@ -20,6 +24,33 @@ pub extern "C" fn calzundi_check(pins: &[i32], macros: &[i32]) -> i32
     match answer {
         Checked::Allowed(_) => 0,
         Checked::Refused(refusal) => refusal.number(),
+    }
+}
+
+// 0 and the numbers of vertices and edges given, or the number of the refusal.
+#[no_mangle]
+pub extern "C" fn calzundi_graph(
+    pins: &[i32],
+    macros: &[i32],
+    vertices: &mut [i32],
+    edges: &mut [i32],
+    v: &mut usize,
+    e: &mut usize,
+) -> i32
+    ensures answer { λ r. ⌜ r ≡ pos (code (graphed (now (pins .entry)) (now (macros .entry)) (length (now (vertices .entry))) (length (now (edges .entry))))) ⌝ }
+    ensures vertices { λ _. ⌜ now (vertices .exit) ≡ after (graphed (now (pins .entry)) (now (macros .entry)) (length (now (vertices .entry))) (length (now (edges .entry)))) (flat placeNumbers (verticesOf (now (pins .entry)) (now (macros .entry)))) (now (vertices .entry)) ⌝ }
+    ensures edges { λ _. ⌜ now (edges .exit) ≡ after (graphed (now (pins .entry)) (now (macros .entry)) (length (now (vertices .entry))) (length (now (edges .entry)))) (flat edgeNumbers (edgesOf (now (pins .entry)) (now (macros .entry)))) (now (edges .entry)) ⌝ }
+    ensures v { λ _. ⌜ now (v .exit) ≡ valueAfter (λ counts. counts .0) (graphed (now (pins .entry)) (now (macros .entry)) (length (now (vertices .entry))) (length (now (edges .entry)))) (now (v .entry)) ⌝ }
+    ensures e { λ _. ⌜ now (e .exit) ≡ valueAfter (λ counts. counts .1) (graphed (now (pins .entry)) (now (macros .entry)) (length (now (vertices .entry))) (length (now (edges .entry)))) (now (e .entry)) ⌝ }
+{
+    let answer = router::graph(pins, macros, &mut *vertices, &mut *edges);
+    match answer {
+        Graphed::Given(vertex_count, edge_count) => {
+            *v = vertex_count;
+            *e = edge_count;
+            0
+        }
+        Graphed::Refused(refusal) => refusal.number(),
     }
 }
 

@@ -1,0 +1,92 @@
+-- `exports::calzundi_graph` meets its contract: each arm passes on what the router's answer says, and its two counts.
+-- Assumes nothing.
+use mathlib.Core.Path.{_≡_, sym, ap, _∙_}
+use Prim.Native.Nat.{ℕ}
+use lib.IntN.{pos}
+use denote.Ref.{now}
+use mir.Syntax.{w32}
+use mir.ValLaws.{toZ-ofZ}
+use Rattle.lent.specs.Told.{Told, code}
+use Rattle.lent.specs.Over.{valueAfter}
+use Rattle.router.specs.Graph.{toldGraph}
+use borrow.Author.Needs.{needs}
+use Rattle.exports.proofs.calzundi_graph.Statement.{statement}
+use Rattle.exports.proofs.calzundi_graph.Tie as tie
+
+graph-requires : tie.Need-graph-requires
+graph-requires c κs = search needs
+
+enum-known-answer : tie.Need-enum-known-answer
+enum-known-answer c = search needs
+
+enum-known-answer-2 : tie.Need-enum-known-answer-2
+enum-known-answer-2 c = search needs
+
+number-requires : tie.Need-number-requires
+number-requires c κs = search needs
+
+same-length : tie.Need-same-length
+same-length c = search needs
+
+same-length-2 : tie.Need-same-length-2
+same-length-2 c = search needs
+
+returns : tie.Need-returns
+unfolding code valueAfter toldGraph
+returns c =
+    let d = c .before .before .before .before .before in
+    let s = d .before .before .before in
+    let e = sym (ap toldGraph (c .before .answer .given .1)) ∙ d .graph .ensures .0 in (
+      ap (λ (t : Told (ℕ × ℕ)). pos (code t)) e,
+      (
+        d .graph .ensures .1 .0,
+        (
+          d .graph .ensures .1 .1,
+          (
+            ap (λ (t : Told (ℕ × ℕ)). valueAfter (λ counts. counts .0) t (now (s .args .v))) e,
+            ap (λ (t : Told (ℕ × ℕ)). valueAfter (λ counts. counts .1) t (now (s .args .e))) e,
+          ),
+        ),
+      ),
+    )
+
+same-length-3 : tie.Need-same-length-3
+same-length-3 c = search needs
+
+same-length-4 : tie.Need-same-length-4
+same-length-4 c = search needs
+
+returns-2 : tie.Need-returns-2
+unfolding code valueAfter toldGraph
+returns-2 c =
+    let a = c .before .before in
+    let d = a .before .before .before .before in
+    let s = d .before .before .before in
+    let e = sym (ap toldGraph (a .answer2 .given .1)) ∙ d .graph .ensures .0 in (
+      toZ-ofZ w32 _ (search needs) ∙ c .number .ensures ∙ ap (λ (t : Told (ℕ × ℕ)). pos (code t)) e,
+      (
+        d .graph .ensures .1 .0,
+        (
+          d .graph .ensures .1 .1,
+          (
+            ap (λ (t : Told (ℕ × ℕ)). valueAfter (λ counts. counts .0) t (now (s .args .v))) e,
+            ap (λ (t : Told (ℕ × ℕ)). valueAfter (λ counts. counts .1) t (now (s .args .e))) e,
+          ),
+        ),
+      ),
+    )
+
+pub calzundi-graph-spec : {M : Type 1} → statement M
+calzundi-graph-spec =
+    tie.close
+    (tie.spec
+    graph-requires
+    enum-known-answer
+    enum-known-answer-2
+    number-requires
+    same-length
+    same-length-2
+    returns
+    same-length-3
+    same-length-4
+    returns-2)
