@@ -3,12 +3,11 @@
 -- third from the first.
 -- Assumes nothing.
 use mathlib.Core.Path.{_≡_, refl, sym, ap, ap₂, _∙_}
-use mathlib.Core.Bool.{true, false, not, _||_}
+use mathlib.Core.Bool.{false}
 use mathlib.Core.List.{List, [], _∷_, _++_, append-nil, append-assoc}
-use Prim.Native.Nat.{ℕ, suc, _+_, _*_, _/_, _%_, _≤_, _<_}
+use Prim.Native.Nat.{ℕ, suc, _+_, _*_, _/_, _%_, _≤_}
 use native.Mathlib.Omega.{arith}
 use borrow.Author.Tests.{eq-eqb, ne-eqb, le-ltb}
-use lib.Dec.{eqb, ltb}
 use lib.IntN.{ℤ, pos, negsuc}
 use lib.Signed.{ltZ}
 use lib.ListN.{length, getD, length-append}
@@ -19,14 +18,14 @@ use Rattle.lists.proofs.TestLaws.{by, or-none}
 use Rattle.signed.specs.Sides.{up, down}
 use Rattle.signed.proofs.SideLaws.{signed, one-side, to-sfits}
 use Rattle.lent.specs.Over.{over}
-use Rattle.lent.specs.Told.{refused, given}
+use Rattle.lent.specs.Told.{given}
 use Rattle.lent.proofs.AfterLaws.{told-apart}
-use Rattle.net.specs.Check.{pinCount, macroCount, outOfRange, checked}
+use Rattle.net.specs.Check.{outOfRange, checked}
 use Rattle.net.proofs.PassedLaws.{PinsCounted, MacrosCounted, passed-all, pins-counted, macros-counted}
 use Rattle.netfile.specs.Words.{wordsOf}
 use Rattle.netfile.specs.Sums.{sealed, wrongSums}
 use Rattle.netfile.specs.Layout.{block, headBlock, blocksFor, listBlocks, fileWords, fileBytes}
-use Rattle.netfile.specs.Read.{blocksMiscounted, blocksOf, sumsWrong, headCount, numbersIn, pinsIn, macrosIn, sameNumbers, countsWrong, laidOut, roomShort, readFile}
+use Rattle.netfile.specs.Read.{blocksMiscounted, blocksOf, sumsWrong, headCount, numbersIn, pinsIn, macrosIn, countsWrong, laidOut, roomShort, readFile}
 use Rattle.netfile.proofs.LayoutLaws.{length-head, length-list-blocks, length-file}
 use Rattle.netfile.proofs.ReadLaws.{same-true, same-refl}
 use Rattle.netfile.proofs.AnswerLaws.{laid-out, laid-same, laid-allowed, refuse-21, refuse-1, refuse-2, refuse-3, read-on}
@@ -129,7 +128,9 @@ module _ (pins macros : List ℤ) (net : ℕ × ℕ) (allowed : checked pins mac
       let w : wordsOf (fileBytes pins macros) ≡ (h ++ p) ++ (q ++ []) =
       words-read ∙ sym (append-assoc h p q) ∙ ap (λ (l : List ℕ). (h ++ p) ++ l) (sym (append-nil q))
       in
-      let l : length (h ++ p) ≡ (1 + n) * 128 = length-append h p ∙ omega (arith, length-head (length pins / 2) (length macros / 4), length-list-blocks 2 2 1 n pins) in
+      let l : length (h ++ p) ≡ (1 + n) * 128 =
+      length-append h p ∙ omega (arith, length-head (length pins / 2) (length macros / 4), length-list-blocks 2 2 1 n pins)
+      in
       ap₂ (λ (b k : ℕ). numbersIn (fileBytes pins macros) (1 + blocksFor b) 0 k) pin-numbers macro-numbers
       ∙ list-read (fileBytes pins macros) (h ++ p) [] 3 4 (1 + n) (1 + n) (blocksFor (length macros)) macros w l (enough (length macros)) macros-fit
 
@@ -185,6 +186,11 @@ read-written pins macros net e =
           ∙ laid-out f pins macros (same-refl f)
           ∙ e;
     }
+
+-- "The longest file is 6 blocks."
+pub longest-file : (pins macros : List ℤ) (net : ℕ × ℕ) → checked pins macros ≡ given net → length (fileBytes pins macros) ≤ 6 * 512
+longest-file pins macros net e =
+    omega (arith, length-file pins macros, pin-blocks pins macros net e, macro-blocks pins macros net e)
 
 -- an accepted file is what the writer makes of the lists read, and these are an allowed net
 pub record Ours (bytes : List ℕ) (net : ℕ × ℕ) : Type 0 where
