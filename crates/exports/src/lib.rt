@@ -63,8 +63,11 @@ pub extern "C" fn calzundi_write_file(
     given: &mut usize,
 ) -> i32
     ensures answer { λ r. ⌜ r ≡ pos (code (written (now (pins .entry)) (now (macros .entry)) (length (now (bytes .entry))))) ⌝ }
-    ensures lent { λ _. ⌜ now (bytes .exit) ≡ after (written (now (pins .entry)) (now (macros .entry)) (length (now (bytes .entry)))) (fileBytes (now (pins .entry)) (now (macros .entry))) (now (bytes .entry)) ⌝ }
-    ensures given { λ _. ⌜ now (given .exit) ≡ valueAfter (λ n. n) (written (now (pins .entry)) (now (macros .entry)) (length (now (bytes .entry)))) (now (given .entry)) ⌝ }
+    ensures lent { λ _. ⌜ now (bytes .exit)
+        ≡ after (written (now (pins .entry)) (now (macros .entry)) (length (now (bytes .entry))))
+        (fileBytes (now (pins .entry)) (now (macros .entry))) (now (bytes .entry)) ⌝ }
+    ensures given { λ _. ⌜ now (given .exit)
+        ≡ valueAfter (λ n. n) (written (now (pins .entry)) (now (macros .entry)) (length (now (bytes .entry)))) (now (given .entry)) ⌝ }
 {
     let answer = router::write_file(pins, macros, &mut *bytes);
     match answer {
@@ -86,10 +89,16 @@ pub extern "C" fn calzundi_read_file(
     k: &mut usize,
 ) -> i32
     ensures answer { λ r. ⌜ r ≡ pos (code (readFile (now (bytes .entry)) (length (now (pins .entry))) (length (now (macros .entry))))) ⌝ }
-    ensures pins { λ _. ⌜ now (pins .exit) ≡ after (readFile (now (bytes .entry)) (length (now (pins .entry))) (length (now (macros .entry)))) (pinsIn (now (bytes .entry))) (now (pins .entry)) ⌝ }
-    ensures macros { λ _. ⌜ now (macros .exit) ≡ after (readFile (now (bytes .entry)) (length (now (pins .entry))) (length (now (macros .entry)))) (macrosIn (now (bytes .entry))) (now (macros .entry)) ⌝ }
-    ensures m { λ _. ⌜ now (m .exit) ≡ valueAfter (λ net. net .0) (readFile (now (bytes .entry)) (length (now (pins .entry))) (length (now (macros .entry)))) (now (m .entry)) ⌝ }
-    ensures k { λ _. ⌜ now (k .exit) ≡ valueAfter (λ net. net .1) (readFile (now (bytes .entry)) (length (now (pins .entry))) (length (now (macros .entry)))) (now (k .entry)) ⌝ }
+    ensures pins { λ _. ⌜ now (pins .exit)
+        ≡ after (readFile (now (bytes .entry)) (length (now (pins .entry))) (length (now (macros .entry))))
+        (pinsIn (now (bytes .entry))) (now (pins .entry)) ⌝ }
+    ensures macros { λ _. ⌜ now (macros .exit)
+        ≡ after (readFile (now (bytes .entry)) (length (now (pins .entry))) (length (now (macros .entry))))
+        (macrosIn (now (bytes .entry))) (now (macros .entry)) ⌝ }
+    ensures m { λ _. ⌜ now (m .exit)
+        ≡ valueAfter (λ net. net .0) (readFile (now (bytes .entry)) (length (now (pins .entry))) (length (now (macros .entry)))) (now (m .entry)) ⌝ }
+    ensures k { λ _. ⌜ now (k .exit)
+        ≡ valueAfter (λ net. net .1) (readFile (now (bytes .entry)) (length (now (pins .entry))) (length (now (macros .entry)))) (now (k .entry)) ⌝ }
 {
     let answer = router::read_file(bytes, &mut *pins, &mut *macros);
     match answer {

@@ -1,6 +1,6 @@
 -- Lent space after an answer, by the answer: as it was after a refusal, the list over what stood there otherwise.
 -- Assumes nothing.
-use mathlib.Core.Path.{_≡_, refl, sym, ap}
+use mathlib.Core.Path.{_≡_, sym, ap}
 use mathlib.Core.List.{List}
 use Prim.Native.Nat.{ℕ}
 use native.Mathlib.Omega.{arith}

@@ -111,7 +111,8 @@ module _ (bytes : List ℕ) (p q : ℕ) where
   unfolding readFile
   refuse-2 r b e = rw (r, b, e) refl
 
-  pub refuse-3 : roomShort p q ≡ false → blocksMiscounted bytes ≡ false → sumsWrong bytes ≡ false → countsWrong bytes ≡ true → readFile bytes p q ≡ refused 3
+  pub refuse-3 : roomShort p q ≡ false → blocksMiscounted bytes ≡ false → sumsWrong bytes ≡ false → countsWrong bytes ≡ true
+      → readFile bytes p q ≡ refused 3
   unfolding readFile
   refuse-3 r b s e = rw (r, b, s, e) refl
 

@@ -1,13 +1,13 @@
 -- A block in the making: entries stored one after the other over zeros, the two sums behind them, and its words laid out as bytes.
 -- Assumes nothing.
-use mathlib.Core.Path.{_≡_, refl, sym, ap, ap₂, _∙_}
+use mathlib.Core.Path.{_≡_, refl, sym, ap, _∙_}
 use mathlib.Core.List.{List, [], _∷_, _++_, map, append-nil, append-assoc, map-append}
 use Prim.Native.Nat.{ℕ, zero, suc, _+_, _*_, _≤_, _<_}
 use native.Mathlib.Numerals.{add-one}
 use native.Mathlib.Nat.{add-suc, suc-add, add-zero}
 use native.Mathlib.Omega.{arith}
 use lib.IntN.{ℤ, pos}
-use lib.ListN.{length, take, drop, getD, set, replicate, drop-of-length-le, length-map, length-take}
+use lib.ListN.{length, take, getD, set, replicate, drop-of-length-le, length-map, length-take}
 use lib.Seq.{sets, sets-eq, take-suc}
 use Rattle.lent.specs.Over.{over}
 use Rattle.lent.proofs.OverLaws.{over-more}

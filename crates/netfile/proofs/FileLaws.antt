@@ -1,13 +1,13 @@
 -- The file of two lists, read: its bytes give back its words, each block's sums are right, and each number stands at its place.
 -- Assumes nothing.
 use mathlib.Core.Path.{_≡_, refl, sym, ap, ap₂, _∙_}
-use mathlib.Core.Bool.{Bool, true, false, not, _||_}
+use mathlib.Core.Bool.{false}
 use mathlib.Core.List.{List, [], _∷_, _++_, map, append-assoc}
 use Prim.Native.Nat.{ℕ, zero, suc, _+_, _*_, _-_, _/_, _%_, _≤_, _<_}
 use native.Mathlib.Nat.{div-le-self, suc-add, zero-add}
 use native.Mathlib.Omega.{arith}
 use borrow.Author.Tests.{eq-eqb, ltb-true, ltb-false}
-use lib.Dec.{eqb, ltb}
+use lib.Dec.{ltb}
 use lib.IntN.{ℤ, pos}
 use lib.ListN.{length, take, drop, getD, replicate, length-append, length-map, length-take, length-drop, drop-of-length-le, List·getD-append, List·getD-map}
 use lib.Seq.{getD-append-add, getD-append-seam, getD-take, getD-drop, drop-cons, take-at, drop-at}
@@ -19,10 +19,10 @@ use Rattle.lent.specs.Over.{over}
 use Rattle.lent.proofs.OverLaws.{length-over}
 use Rattle.netfile.specs.Words.{wordsOf, bytesOfWord, bytesOf, wordOf, coordinate}
 use Rattle.netfile.specs.Sums.{plainSum, sumOfSums, sealed, wrongSums}
-use Rattle.netfile.specs.Layout.{block, headBlock, listBlock, blocksFor, listBlocks, fileWords, fileBytes}
-use Rattle.netfile.specs.Read.{blocksOf, headCount, numberIn, numbersIn}
+use Rattle.netfile.specs.Layout.{block, headBlock, listBlock, listBlocks}
+use Rattle.netfile.specs.Read.{blocksOf, numberIn, numbersIn}
 use Rattle.netfile.proofs.WordLaws.{word-small, coordinate-word}
-use Rattle.netfile.proofs.LayoutLaws.{length-block, length-head, length-next-block, length-list-blocks}
+use Rattle.netfile.proofs.LayoutLaws.{length-head, length-next-block, length-list-blocks}
 
 -- Words of 32 bits
 
@@ -104,7 +104,8 @@ small-list-blocks kind w number zero zs h i f = tt
 small-list-blocks kind w number (suc n) zs h i f =
     let t = take 120 zs in
     small-append (listBlock kind w number t) _
-    (small-block kind number (length t / w) (map wordOf t) h (omega arith) (omega (arith, div-le-self (length t) w, length-take 120 zs)) (small-words t (fit-take 120 zs f)))
+    (small-block kind number (length t / w) (map wordOf t) h (omega arith) (omega (arith, div-le-self (length t) w, length-take 120 zs))
+    (small-words t (fit-take 120 zs f)))
     (small-list-blocks kind w (suc number) n (drop 120 zs) h (omega arith) (fit-drop 120 zs f))
 
 -- Sums
@@ -117,9 +118,10 @@ right-block kind number count entries h =
     let v = over ws (replicate 126 0) in
     let e : length v ≡ 126 = length-over ws (replicate 126 0) (omega arith) in
     let t : take 126 (v ++ (plainSum v ∷ (sumOfSums v ∷ []))) ≡ v = take-at v _ 126 e in
-    let p : getD (v ++ (plainSum v ∷ (sumOfSums v ∷ []))) 126 0 ≡ plainSum v = ap (λ (n : ℕ). getD (v ++ (plainSum v ∷ (sumOfSums v ∷ []))) n 0) (sym e) ∙ getD-append-seam v _ _ 0 in
+    let s = v ++ (plainSum v ∷ (sumOfSums v ∷ [])) in
+    let p : getD s 126 0 ≡ plainSum v = ap (λ (n : ℕ). getD s n 0) (sym e) ∙ getD-append-seam v _ _ 0 in
     let i : 127 ≡ length v + 1 = omega arith in
-    let q : getD (v ++ (plainSum v ∷ (sumOfSums v ∷ []))) 127 0 ≡ sumOfSums v = ap (λ (n : ℕ). getD (v ++ (plainSum v ∷ (sumOfSums v ∷ []))) n 0) i ∙ getD-append-add v _ 1 0 in
+    let q : getD s 127 0 ≡ sumOfSums v = ap (λ (n : ℕ). getD s n 0) i ∙ getD-append-add v _ 1 0 in
     rw (t, p, q, eq-eqb (plainSum v) (plainSum v) refl, eq-eqb (sumOfSums v) (sumOfSums v) refl) refl
 
 -- a right block is passed over
@@ -153,7 +155,8 @@ pass-list kind w number (suc n) k zs rest =
 -- Numbers at their places
 
 -- the word of the number j in a block
-block-entry : (kind number count : ℕ) (zs : List ℤ) (j : ℕ) → j < length zs → getD (block kind number count (map wordOf zs)) (4 + j) 0 ≡ wordOf (getD zs j (pos 0))
+block-entry : (kind number count : ℕ) (zs : List ℤ) (j : ℕ) → j < length zs
+    → getD (block kind number count (map wordOf zs)) (4 + j) 0 ≡ wordOf (getD zs j (pos 0))
 unfolding block sealed over wordOf
 block-entry kind number count zs j h =
     let n : 4 + j ≡ suc (suc (suc (suc j))) = omega arith in

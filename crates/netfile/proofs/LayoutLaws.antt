@@ -2,7 +2,7 @@
 -- Assumes nothing.
 use mathlib.Core.Path.{_≡_, refl, sym, ap, ap₂, _∙_}
 use mathlib.Core.List.{List, [], _∷_, _++_, map, append-nil, append-assoc}
-use Prim.Native.Nat.{ℕ, zero, suc, _+_, _*_, _/_, _≤_, _<_}
+use Prim.Native.Nat.{ℕ, zero, suc, _+_, _*_, _/_, _≤_}
 use native.Mathlib.Nat.{add-zero, zero-add, suc-add}
 use native.Mathlib.Omega.{arith}
 use lib.IntN.{ℤ}
@@ -78,7 +78,8 @@ blocks-more kind w number (suc n) numbers =
     (drop-drop (n * 120) 120 numbers ∙ ap (λ (k : ℕ). drop k numbers) d)
 
 -- words laid out behind others
-pub words-after : (l vs ws : List ℕ) (k n : ℕ) → length vs * 4 ≡ n → sets (sets l k (bytesOf vs)) (k + n) (bytesOf ws) ≡ sets l k (bytesOf (vs ++ ws))
+pub words-after : (l vs ws : List ℕ) (k n : ℕ) → length vs * 4 ≡ n
+    → sets (sets l k (bytesOf vs)) (k + n) (bytesOf ws) ≡ sets l k (bytesOf (vs ++ ws))
 words-after l vs ws k n e =
     ap (λ (i : ℕ). sets (sets l k (bytesOf vs)) (k + i) (bytesOf ws)) (sym e ∙ sym (length-bytes vs))
     ∙ sets-after (bytesOf vs) (bytesOf ws) l k
@@ -86,7 +87,8 @@ words-after l vs ws k n e =
 
 -- the next block of a list, laid out behind those before it
 pub list-more : (l : List ℕ) (kind w first j : ℕ) (numbers : List ℤ)
-    → sets (sets l (first * 512) (bytesOf (listBlocks kind w first j numbers))) ((first + j) * 512) (bytesOf (listBlock kind w (first + j) (take 120 (drop (j * 120) numbers))))
+    → sets (sets l (first * 512) (bytesOf (listBlocks kind w first j numbers))) ((first + j) * 512)
+    (bytesOf (listBlock kind w (first + j) (take 120 (drop (j * 120) numbers))))
     ≡ sets l (first * 512) (bytesOf (listBlocks kind w first (j + 1) numbers))
 list-more l kind w first j numbers =
     let b = listBlock kind w (first + j) (take 120 (drop (j * 120) numbers)) in

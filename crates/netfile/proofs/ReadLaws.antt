@@ -1,18 +1,18 @@
 -- Reading a file piece by piece: its words, its blocks, the numbers of a list, and the comparison of two lists.
 -- Assumes nothing.
 use mathlib.Core.Path.{_≡_, refl, sym, ap, ap₂, _∙_}
-use mathlib.Core.Bool.{Bool, true, false, not, cond, _&&_}
+use mathlib.Core.Bool.{true, false, _&&_}
 use mathlib.Core.List.{List, [], _∷_, _++_, append-nil}
-use Prim.Native.Nat.{ℕ, zero, suc, _+_, _*_, _-_, _/_, _%_, _≤_, _<_}
+use Prim.Native.Nat.{ℕ, zero, suc, _+_, _*_, _-_, _/_, _≤_, _<_}
 use native.Mathlib.Numerals.{add-one}
-use native.Mathlib.Nat.{add-assoc, add-zero, suc-add, add-suc}
+use native.Mathlib.Nat.{add-assoc, add-zero, suc-add}
 use native.Mathlib.Omega.{arith}
 use borrow.Author.Tests.{eqb-true, eq-eqb}
 use lib.Dec.{eqb}
 use lib.IntN.{ℤ}
 use lib.ListN.{length, take, drop, getD, set, replicate, drop-of-length-le, length-take, length-drop}
 use lib.Seq.{getD-drop, drop-drop, drop-cons}
-use Rattle.lists.proofs.EntryLaws.{entry-next, entry-end}
+use Rattle.lists.proofs.EntryLaws.{entry-next}
 use Rattle.lists.proofs.TestLaws.{and-left, and-right, differ}
 use Rattle.lent.specs.Over.{over}
 use Rattle.lent.proofs.OverLaws.{length-over, over-more, take-over}
@@ -94,13 +94,15 @@ block-full s b h = length-take 128 (drop (b * 128) (wordsOf s)) ∙ omega (arith
 
 -- the blocks that are left
 module _ (n b : ℕ) (words : List ℕ) where
-  pub blocks-next : b < n → blocksOf (n - b) (drop (b * 128) words) ≡ take 128 (drop (b * 128) words) ∷ blocksOf (n - (b + 1)) (drop ((b + 1) * 128) words)
+  pub blocks-next : b < n
+      → blocksOf (n - b) (drop (b * 128) words) ≡ take 128 (drop (b * 128) words) ∷ blocksOf (n - (b + 1)) (drop ((b + 1) * 128) words)
   unfolding blocksOf
   blocks-next h =
       let e : n - b ≡ suc (n - (b + 1)) = omega arith in
       let d : b * 128 + 128 ≡ (b + 1) * 128 = omega arith in
       ap (λ (k : ℕ). blocksOf k (drop (b * 128) words)) e
-      ∙ ap (λ (l : List ℕ). take 128 (drop (b * 128) words) ∷ blocksOf (n - (b + 1)) l) (drop-drop 128 (b * 128) words ∙ ap (λ (k : ℕ). drop k words) d)
+      ∙ ap (λ (l : List ℕ). take 128 (drop (b * 128) words) ∷ blocksOf (n - (b + 1)) l)
+      (drop-drop 128 (b * 128) words ∙ ap (λ (k : ℕ). drop k words) d)
 
   pub blocks-end : n ≤ b → blocksOf (n - b) (drop (b * 128) words) ≡ []
   unfolding blocksOf
@@ -119,7 +121,8 @@ numbers-snoc bytes b j zero = ap (λ (k : ℕ). numberIn bytes b k ∷ []) (sym 
 numbers-snoc bytes b j (suc n) =
     let e : suc j + n ≡ j + suc n = omega arith in
     ap (numbersIn bytes b j) (suc-add n 1)
-    ∙ ap (λ (l : List ℤ). numberIn bytes b j ∷ l) (numbers-snoc bytes b (suc j) n ∙ ap (λ (k : ℕ). numbersIn bytes b (suc j) n ++ (numberIn bytes b k ∷ [])) e)
+    ∙ ap (λ (l : List ℤ). numberIn bytes b j ∷ l)
+    (numbers-snoc bytes b (suc j) n ∙ ap (λ (k : ℕ). numbersIn bytes b (suc j) n ++ (numberIn bytes b k ∷ [])) e)
 
 -- one number more, stored behind those before it
 pub numbers-more : (bytes : List ℕ) (b j : ℕ) (lent : List ℤ) → j < length lent
@@ -137,7 +140,8 @@ same-true [] [] e = refl
 same-true [] (y ∷ ys) e = differ refl (sym e)
 same-true (x ∷ xs) [] e = differ refl (sym e)
 same-true (x ∷ xs) (y ∷ ys) e =
-    ap₂ (λ (a : ℕ) (l : List ℕ). a ∷ l) (eqb-true x y (and-left (eqb x y) (sameNumbers xs ys) e)) (same-true xs ys (and-right (eqb x y) (sameNumbers xs ys) e))
+    ap₂ (λ (a : ℕ) (l : List ℕ). a ∷ l) (eqb-true x y (and-left (eqb x y) (sameNumbers xs ys) e))
+    (same-true xs ys (and-right (eqb x y) (sameNumbers xs ys) e))
 
 pub same-refl : (xs : List ℕ) → sameNumbers xs xs ≡ true
 unfolding sameNumbers
@@ -153,7 +157,8 @@ module _ (xs ys : List ℕ) (i : ℕ) (same-length : length xs ≡ length ys) wh
       let q : drop i ys ≡ getD ys i 0 ∷ drop (i + 1) ys = rw add-one (drop-cons ys i 0 (omega arith)) in
       ap₂ sameNumbers p q
 
-  pub same-pass : i < length xs → eqb (getD xs i 0) (getD ys i 0) ≡ true → sameNumbers (drop i xs) (drop i ys) ≡ sameNumbers (drop (i + 1) xs) (drop (i + 1) ys)
+  pub same-pass : i < length xs → eqb (getD xs i 0) (getD ys i 0) ≡ true
+      → sameNumbers (drop i xs) (drop i ys) ≡ sameNumbers (drop (i + 1) xs) (drop (i + 1) ys)
   same-pass h e = at-next h ∙ rw e refl
 
   pub same-stop : i < length xs → eqb (getD xs i 0) (getD ys i 0) ≡ false → sameNumbers (drop i xs) (drop i ys) ≡ false

@@ -3,12 +3,11 @@
 -- third from the first.
 -- Assumes nothing.
 use mathlib.Core.Path.{_≡_, refl, sym, ap, ap₂, _∙_}
-use mathlib.Core.Bool.{true, false, not, _||_}
+use mathlib.Core.Bool.{false}
 use mathlib.Core.List.{List, [], _∷_, _++_, append-nil, append-assoc}
-use Prim.Native.Nat.{ℕ, suc, _+_, _*_, _/_, _%_, _≤_, _<_}
+use Prim.Native.Nat.{ℕ, suc, _+_, _*_, _/_, _%_, _≤_}
 use native.Mathlib.Omega.{arith}
 use borrow.Author.Tests.{eq-eqb, ne-eqb, le-ltb}
-use lib.Dec.{eqb, ltb}
 use lib.IntN.{ℤ, pos, negsuc}
 use lib.Signed.{ltZ}
 use lib.ListN.{length, getD, length-append}
@@ -19,14 +18,14 @@ use Rattle.lists.proofs.TestLaws.{by, or-none}
 use Rattle.signed.specs.Sides.{up, down}
 use Rattle.signed.proofs.SideLaws.{signed, one-side, to-sfits}
 use Rattle.lent.specs.Over.{over}
-use Rattle.lent.specs.Told.{refused, given}
+use Rattle.lent.specs.Told.{given}
 use Rattle.lent.proofs.AfterLaws.{told-apart}
-use Rattle.net.specs.Check.{pinCount, macroCount, outOfRange, checked}
+use Rattle.net.specs.Check.{outOfRange, checked}
 use Rattle.net.proofs.PassedLaws.{PinsCounted, MacrosCounted, passed-all, pins-counted, macros-counted}
 use Rattle.netfile.specs.Words.{wordsOf}
 use Rattle.netfile.specs.Sums.{sealed, wrongSums}
 use Rattle.netfile.specs.Layout.{block, headBlock, blocksFor, listBlocks, fileWords, fileBytes}
-use Rattle.netfile.specs.Read.{blocksMiscounted, blocksOf, sumsWrong, headCount, numbersIn, pinsIn, macrosIn, sameNumbers, countsWrong, laidOut, roomShort, readFile}
+use Rattle.netfile.specs.Read.{blocksMiscounted, blocksOf, sumsWrong, headCount, numbersIn, pinsIn, macrosIn, countsWrong, laidOut, roomShort, readFile}
 use Rattle.netfile.proofs.LayoutLaws.{length-head, length-list-blocks, length-file}
 use Rattle.netfile.proofs.ReadLaws.{same-true, same-refl}
 use Rattle.netfile.proofs.AnswerLaws.{laid-out, laid-same, laid-allowed, refuse-21, refuse-1, refuse-2, refuse-3, read-on}
@@ -53,7 +52,13 @@ no-blocks : any wrongSums (blocksOf 0 []) ≡ false
 unfolding any blocksOf
 no-blocks = refl
 
--- The file of an allowed net, read
+-- lists of whole entries that six blocks hold, of numbers that 32 bits hold; every allowed net is one
+pub record InSixBlocks (pins macros : List ℤ) : Type 0 where
+  pub whole-pins : length pins % 2 ≡ 0
+  pub whole-macros : length macros % 4 ≡ 0
+  pub pins-fit : Fit pins
+  pub macros-fit : Fit macros
+  pub blocks : 1 + blocksFor (length pins) + blocksFor (length macros) ≤ 6
 
 module _ (pins macros : List ℤ) (net : ℕ × ℕ) (allowed : checked pins macros ≡ given net) where
   pins-ok : PinsCounted pins
@@ -61,12 +66,6 @@ module _ (pins macros : List ℤ) (net : ℕ × ℕ) (allowed : checked pins mac
 
   macros-ok : MacrosCounted macros
   macros-ok = macros-counted macros (passed-all pins macros net allowed .past .past .past .past .past .past .passed)
-
-  pins-fit : Fit pins
-  pins-fit = all-fit pins (passed-all pins macros net allowed .past .past .past .past .past .passed)
-
-  macros-fit : Fit macros
-  macros-fit = all-fit macros (passed-all pins macros net allowed .past .past .past .past .passed)
 
   pin-blocks : blocksFor (length pins) ≤ 2
   unfolding blocksFor
@@ -76,19 +75,39 @@ module _ (pins macros : List ℤ) (net : ℕ × ℕ) (allowed : checked pins mac
   unfolding blocksFor
   macro-blocks = omega (arith, macros-ok .whole, macros-ok .few)
 
+  pub allowed-in-six : InSixBlocks pins macros
+  allowed-in-six = record {
+    whole-pins = pins-ok .whole;
+    whole-macros = macros-ok .whole;
+    pins-fit = all-fit pins (passed-all pins macros net allowed .past .past .past .past .past .passed);
+    macros-fit = all-fit macros (passed-all pins macros net allowed .past .past .past .past .passed);
+    blocks = omega (arith, pin-blocks, macro-blocks);
+  }
+
+-- The file of two such lists, read
+
+module _ (pins macros : List ℤ) (lists : InSixBlocks pins macros) where
+  pins-few : length pins ≤ 600
+  unfolding blocksFor
+  pins-few = omega (arith, lists .blocks)
+
+  macros-few : length macros ≤ 600
+  unfolding blocksFor
+  macros-few = omega (arith, lists .blocks)
+
   small-head : Small (headBlock (length pins / 2) (length macros / 4))
   unfolding headBlock
   small-head =
       small-block 1 0 0 _ (omega arith) (omega arith) (omega arith)
-      (omega (arith, pins-ok .few), (omega (arith, macros-ok .few), tt))
+      (omega (arith, pins-few), (omega (arith, macros-few), tt))
 
   small-file : Small (fileWords pins macros)
   unfolding fileWords
   small-file =
       small-append (headBlock _ _) _ small-head
       (small-append (listBlocks 2 2 1 (blocksFor (length pins)) pins) _
-      (small-list-blocks 2 2 1 (blocksFor (length pins)) pins (omega arith) (omega (arith, pin-blocks)) pins-fit)
-      (small-list-blocks 3 4 (1 + blocksFor (length pins)) (blocksFor (length macros)) macros (omega arith) (omega (arith, pin-blocks, macro-blocks)) macros-fit))
+      (small-list-blocks 2 2 1 (blocksFor (length pins)) pins (omega arith) (omega (arith, lists .blocks)) (lists .pins-fit))
+      (small-list-blocks 3 4 (1 + blocksFor (length pins)) (blocksFor (length macros)) macros (omega arith) (omega (arith, lists .blocks)) (lists .macros-fit)))
 
   words-read : wordsOf (fileBytes pins macros) ≡ fileWords pins macros
   unfolding fileBytes
@@ -103,10 +122,10 @@ module _ (pins macros : List ℤ) (net : ℕ × ℕ) (allowed : checked pins mac
   macro-count-read = ap (λ (ws : List ℕ). getD ws 5 0) words-read
 
   pin-numbers : headCount 4 (fileBytes pins macros) * 2 ≡ length pins
-  pin-numbers = omega (arith, pin-count-read, pins-ok .whole)
+  pin-numbers = omega (arith, pin-count-read, lists .whole-pins)
 
   macro-numbers : headCount 5 (fileBytes pins macros) * 4 ≡ length macros
-  macro-numbers = omega (arith, macro-count-read, macros-ok .whole)
+  macro-numbers = omega (arith, macro-count-read, lists .whole-macros)
 
   enough : (n : ℕ) → n ≤ blocksFor n * 120
   unfolding blocksFor
@@ -117,7 +136,7 @@ module _ (pins macros : List ℤ) (net : ℕ × ℕ) (allowed : checked pins mac
   pins-read =
       ap (numbersIn (fileBytes pins macros) 1 0) pin-numbers
       ∙ list-read (fileBytes pins macros) (headBlock (length pins / 2) (length macros / 4)) _ 2 2 1 1 (blocksFor (length pins)) pins
-      words-read (length-head _ _) (enough (length pins)) pins-fit
+      words-read (length-head _ _) (enough (length pins)) (lists .pins-fit)
 
   macros-read : macrosIn (fileBytes pins macros) ≡ macros
   unfolding macrosIn fileWords
@@ -129,9 +148,11 @@ module _ (pins macros : List ℤ) (net : ℕ × ℕ) (allowed : checked pins mac
       let w : wordsOf (fileBytes pins macros) ≡ (h ++ p) ++ (q ++ []) =
       words-read ∙ sym (append-assoc h p q) ∙ ap (λ (l : List ℕ). (h ++ p) ++ l) (sym (append-nil q))
       in
-      let l : length (h ++ p) ≡ (1 + n) * 128 = length-append h p ∙ omega (arith, length-head (length pins / 2) (length macros / 4), length-list-blocks 2 2 1 n pins) in
+      let l : length (h ++ p) ≡ (1 + n) * 128 =
+      length-append h p ∙ omega (arith, length-head (length pins / 2) (length macros / 4), length-list-blocks 2 2 1 n pins)
+      in
       ap₂ (λ (b k : ℕ). numbersIn (fileBytes pins macros) (1 + blocksFor b) 0 k) pin-numbers macro-numbers
-      ∙ list-read (fileBytes pins macros) (h ++ p) [] 3 4 (1 + n) (1 + n) (blocksFor (length macros)) macros w l (enough (length macros)) macros-fit
+      ∙ list-read (fileBytes pins macros) (h ++ p) [] 3 4 (1 + n) (1 + n) (blocksFor (length macros)) macros w l (enough (length macros)) (lists .macros-fit)
 
   blocks-right : blocksMiscounted (fileBytes pins macros) ≡ false
   unfolding blocksMiscounted
@@ -139,7 +160,7 @@ module _ (pins macros : List ℤ) (net : ℕ × ℕ) (allowed : checked pins mac
       let n = length-file pins macros in
       let a : length (fileBytes pins macros) % 512 ≡ 0 = omega (arith, n) in
       let b : length (fileBytes pins macros) / 512 ≡ 0 → ⊥ = λ e. omega (arith, n, e) in
-      let c : length (fileBytes pins macros) / 512 ≤ 6 = omega (arith, n, pin-blocks, macro-blocks) in
+      let c : length (fileBytes pins macros) / 512 ≤ 6 = omega (arith, n, lists .blocks) in
       rw (eq-eqb _ 0 a, ne-eqb _ 0 b, le-ltb 6 _ c) refl
 
   sums-right : sumsWrong (fileBytes pins macros) ≡ false
@@ -164,27 +185,35 @@ module _ (pins macros : List ℤ) (net : ℕ × ℕ) (allowed : checked pins mac
 
 -- Theorems
 
--- what a read of the file of two lists gives: the same lists in the same order, and their numbers
-pub record ReadBack (pins macros : List ℤ) (net : ℕ × ℕ) : Type 0 where
+-- what a read of the file of two lists gives: the same lists in the same order, and the answer of their check
+pub record ReadBack (pins macros : List ℤ) : Type 0 where
   pub pins-back : pinsIn (fileBytes pins macros) ≡ pins
   pub macros-back : macrosIn (fileBytes pins macros) ≡ macros
-  pub answer : (p q : ℕ) → roomShort p q ≡ false → readFile (fileBytes pins macros) p q ≡ given net
+  pub answer : (p q : ℕ) → roomShort p q ≡ false → readFile (fileBytes pins macros) p q ≡ checked pins macros
 
--- reading what was written gives the same lists in the same order
-pub read-written : (pins macros : List ℤ) (net : ℕ × ℕ) → checked pins macros ≡ given net → ReadBack pins macros net
-read-written pins macros net e =
+-- reading what was laid out gives the same lists in the same order, also where they are more than a net may have: 11 or 12, not 3
+pub read-laid : (pins macros : List ℤ) → InSixBlocks pins macros → ReadBack pins macros
+read-laid pins macros l =
     let f = fileBytes pins macros in
-    let p = pins-read pins macros net e in
-    let m = macros-read pins macros net e in
+    let p = pins-read pins macros l in
+    let m = macros-read pins macros l in
     record {
       pins-back = p;
       macros-back = m;
       answer = λ a b r.
-          read-on f a b r (blocks-right pins macros net e) (sums-right pins macros net e) (counts-right pins macros net e)
+          read-on f a b r (blocks-right pins macros l) (sums-right pins macros l) (counts-right pins macros l)
           ∙ ap₂ (laidOut f) p m
-          ∙ laid-out f pins macros (same-refl f)
-          ∙ e;
+          ∙ laid-out f pins macros (same-refl f);
     }
+
+-- reading what was written gives the same lists in the same order
+pub read-written : (pins macros : List ℤ) (net : ℕ × ℕ) → checked pins macros ≡ given net → ReadBack pins macros
+read-written pins macros net e = read-laid pins macros (allowed-in-six pins macros net e)
+
+-- "The longest file is 6 blocks."
+pub longest-file : (pins macros : List ℤ) (net : ℕ × ℕ) → checked pins macros ≡ given net → length (fileBytes pins macros) ≤ 6 * 512
+longest-file pins macros net e =
+    omega (arith, length-file pins macros, allowed-in-six pins macros net e .blocks)
 
 -- an accepted file is what the writer makes of the lists read, and these are an allowed net
 pub record Ours (bytes : List ℕ) (net : ℕ × ℕ) : Type 0 where

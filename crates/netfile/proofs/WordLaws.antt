@@ -2,18 +2,18 @@
 -- Assumes nothing.
 use mathlib.Core.Path.{_≡_, refl, sym, ap, _∙_}
 use mathlib.Core.Bool.{true, false}
-use Prim.Native.Nat.{ℕ, suc, _+_, _^_, _<_, _≤_}
+use Prim.Native.Nat.{ℕ, _+_, _<_, _≤_}
 use native.Mathlib.Omega.{arith}
 use borrow.Author.Tests.{ltb-true, ltb-false, lt-ltb, le-ltb}
 use lib.Dec.{ltb}
-use lib.IntN.{ℤ, pos, negsuc, natAbs, _+ℤ_, _-ℤ_}
+use lib.IntN.{ℤ, pos, negsuc, _+ℤ_, _-ℤ_}
 use lib.Signed.{ltZ}
 use mir.Syntax.{w32, w64}
 use mir.Val.{SFits, toZ, ofZ}
 use mir.ValLaws.{toZ-ofZ}
 use Rattle.lists.proofs.TestLaws.{by, differ}
 use Rattle.signed.specs.Sides.{up, down}
-use Rattle.signed.proofs.SideLaws.{signed, add-sides, sub-sides, one-side, eq-of, of-sfits, to-sfits}
+use Rattle.signed.proofs.SideLaws.{add-sides, sub-sides, one-side, eq-of}
 use Rattle.signed.proofs.Bits.{wide-is, widen}
 use Rattle.netfile.specs.Words.{wordOf, coordinate}
 

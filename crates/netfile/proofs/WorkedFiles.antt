@@ -4,7 +4,6 @@ use mathlib.Core.Path.{_≡_, refl}
 use mathlib.Core.List.{List, [], _∷_, _++_}
 use Prim.Native.Nat.{ℕ, _*_, _+_}
 use lib.ListN.{take, drop, set}
-use Rattle.lists.specs.Any.{any}
 use Rattle.lent.specs.Told.{Told, refused, given}
 use Rattle.lent.specs.Over.{over}
 use Rattle.net.specs.WorkedNets.{Lists, aroundOne}

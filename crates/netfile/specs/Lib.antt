@@ -15,11 +15,15 @@
 --            headBlock m k, listBlock               the head, and a block of entries
 --            blocksFor n, listBlocks                how many blocks n numbers take, and the blocks of a list
 --            fileWords pins macros, fileBytes       the whole file
---   Write    written pins macros room               the answer of a write into so many lent bytes
+--   Write    fitted needed room                     21, or the number of bytes
+--            written pins macros room               the answer of a write into so many lent bytes
 --            toldBytes r                            what the code's answer says
---   Read     blocksMiscounted, sumsWrong            refusals 1 and 2
+--   Read     roomShort p q                          refusal 21
+--            blocksMiscounted, sumsWrong            refusals 1 and 2
+--            numberIn bytes b j                     the number j of the list whose blocks begin at the block b
 --            pinsIn bytes, macrosIn bytes           the lists that a file holds
---            countsWrong, layoutWrong               refusal 3
+--            countsWrong bytes                      refusal 3 for the head's counts
+--            laidOut bytes pins macros              refusal 3 for anything else, or the answer of the check
 --            readFile bytes pinRoom macroRoom       the answer of a read into so many lent numbers
 pub mod Words
 pub mod Sums

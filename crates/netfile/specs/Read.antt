@@ -6,7 +6,7 @@ use Prim.Native.Nat.{ℕ, zero, suc, _+_, _*_, _/_, _%_, _≤_}
 use lib.Dec.{eqb, ltb}
 use lib.IntN.{ℤ}
 use lib.ListN.{length, take, drop, getD}
-use Rattle.lent.specs.Told.{Told, refused, given}
+use Rattle.lent.specs.Told.{Told, refused}
 use Rattle.lists.specs.Any.{any}
 use Rattle.net.specs.Bounds.{pinBound, macroBound}
 use Rattle.net.specs.Check.{checked}

@@ -1,6 +1,8 @@
 // The net file, both ways.
 //
-// A block is a table of 128 words, made and sealed in one place; writer and reader share its sums.
+// A block is 512 bytes, 128 words of 32 bits: four words that say what it is, then up to 120 numbers, zeros, and two sums. A table of its
+// 128 words is made and sealed in one place, and the reader sums it by the same function. The reader takes the lists out of a file into
+// tables of its own, writes the file of these lists beside it, and compares.
 use net::Checked;
 use net::Net;
 use net::Refusal;
@@ -181,8 +183,11 @@ fn next_block(kind: u32, w: usize, number: usize, numbers: &[i32], from: usize) 
 
 // The blocks of a list, from the one numbered `first` on.
 fn put_list(bytes: &mut [u8], kind: u32, w: usize, first: usize, numbers: &[i32])
-    requires { ⌜ ((0 < w) × (first ≤ 500)) × ((length (now numbers) ≤ 1000) × ((first + blocksFor (length (now numbers))) * 512 ≤ length (now bytes))) ⌝ }
-    ensures { λ _. ⌜ now (bytes .exit) ≡ sets (now (bytes .entry)) (first * 512) (bytesOf (listBlocks kind w first (blocksFor (length (now (numbers .entry)))) (now (numbers .entry)))) ⌝ }
+    requires { ⌜ ((0 < w) × (first ≤ 500)) × ((length (now numbers) ≤ 1000)
+        × ((first + blocksFor (length (now numbers))) * 512 ≤ length (now bytes))) ⌝ }
+    ensures { λ _. ⌜ now (bytes .exit)
+        ≡ sets (now (bytes .entry)) (first * 512) (bytesOf (listBlocks kind w first (blocksFor (length (now (numbers .entry))))
+        (now (numbers .entry)))) ⌝ }
 {
     let count = blocks_for(numbers.len());
     let mut j = 0;
@@ -199,7 +204,8 @@ fn put_list(bytes: &mut [u8], kind: u32, w: usize, first: usize, numbers: &[i32]
 
 // The file of two lists, from the first lent byte on.
 fn put_file(bytes: &mut [u8], pins: &[i32], macros: &[i32])
-    requires { ⌜ ((length (now pins) ≤ 1000) × (length (now macros) ≤ 1000)) × ((1 + blocksFor (length (now pins)) + blocksFor (length (now macros))) * 512 ≤ length (now bytes)) ⌝ }
+    requires { ⌜ ((length (now pins) ≤ 1000) × (length (now macros) ≤ 1000))
+        × ((1 + blocksFor (length (now pins)) + blocksFor (length (now macros))) * 512 ≤ length (now bytes)) ⌝ }
     ensures { λ _. ⌜ now (bytes .exit) ≡ over (fileBytes (now (pins .entry)) (now (macros .entry))) (now (bytes .entry)) ⌝ }
 {
     let first = 1 + blocks_for(pins.len());
@@ -212,7 +218,9 @@ fn put_file(bytes: &mut [u8], pins: &[i32], macros: &[i32])
 fn write_checked(pins: &[i32], macros: &[i32], bytes: &mut [u8]) -> Written
     requires { ⌜ (length (now pins) ≤ 1000) × (length (now macros) ≤ 1000) ⌝ }
     ensures answer { λ r. ⌜ toldBytes r ≡ fitted (length (fileBytes (now (pins .entry)) (now (macros .entry)))) (length (now (bytes .entry))) ⌝ }
-    ensures lent { λ _. ⌜ now (bytes .exit) ≡ after (fitted (length (fileBytes (now (pins .entry)) (now (macros .entry)))) (length (now (bytes .entry)))) (fileBytes (now (pins .entry)) (now (macros .entry))) (now (bytes .entry)) ⌝ }
+    ensures lent { λ _. ⌜ now (bytes .exit)
+        ≡ after (fitted (length (fileBytes (now (pins .entry)) (now (macros .entry)))) (length (now (bytes .entry))))
+        (fileBytes (now (pins .entry)) (now (macros .entry))) (now (bytes .entry)) ⌝ }
 {
     let n = (1 + blocks_for(pins.len()) + blocks_for(macros.len())) * 512;
     if bytes.len() < n {
@@ -225,7 +233,9 @@ fn write_checked(pins: &[i32], macros: &[i32], bytes: &mut [u8]) -> Written
 // Write a net file: 11 to 17, then 21 where the lent bytes are fewer than the file's.
 pub fn write(pins: &[i32], macros: &[i32], bytes: &mut [u8]) -> Written
     ensures answer { λ r. ⌜ toldBytes r ≡ written (now (pins .entry)) (now (macros .entry)) (length (now (bytes .entry))) ⌝ }
-    ensures lent { λ _. ⌜ now (bytes .exit) ≡ after (written (now (pins .entry)) (now (macros .entry)) (length (now (bytes .entry)))) (fileBytes (now (pins .entry)) (now (macros .entry))) (now (bytes .entry)) ⌝ }
+    ensures lent { λ _. ⌜ now (bytes .exit)
+        ≡ after (written (now (pins .entry)) (now (macros .entry)) (length (now (bytes .entry))))
+        (fileBytes (now (pins .entry)) (now (macros .entry))) (now (bytes .entry)) ⌝ }
 {
     let answer = net::check(pins, macros);
     match answer {
@@ -321,12 +331,12 @@ fn same_bytes(a: &[u8], b: &[u8]) -> bool
     requires { ⌜ length (now a) ≡ length (now b) ⌝ }
     ensures { λ r. ⌜ r ≡ sameNumbers (now (a .entry)) (now (b .entry)) ⌝ }
 {
-    let mut i = 0;
-    while i < a.len() {
-        if a[i] != b[i] {
+    let mut at = 0;
+    while at < a.len() {
+        if a[at] != b[at] {
             return false;
         }
-        i += 1;
+        at += 1;
     }
     true
 }
@@ -369,7 +379,8 @@ fn check_file(bytes: &[u8]) -> Checked
 
 // The lists of a checked file, into the lent numbers.
 fn take_lists(bytes: &[u8], pins: &mut [i32], macros: &mut [i32])
-    requires { ⌜ (Sized (now bytes) (headCount 4 (now bytes) * 2) (headCount 5 (now bytes) * 4)) × ((headCount 4 (now bytes) * 2 ≤ length (now pins)) × (headCount 5 (now bytes) * 4 ≤ length (now macros))) ⌝ }
+    requires { ⌜ (Sized (now bytes) (headCount 4 (now bytes) * 2) (headCount 5 (now bytes) * 4))
+        × ((headCount 4 (now bytes) * 2 ≤ length (now pins)) × (headCount 5 (now bytes) * 4 ≤ length (now macros))) ⌝ }
     ensures pins { λ _. ⌜ now (pins .exit) ≡ over (pinsIn (now (bytes .entry))) (now (pins .entry)) ⌝ }
     ensures macros { λ _. ⌜ now (macros .exit) ≡ over (macrosIn (now (bytes .entry))) (now (macros .entry)) ⌝ }
 {
@@ -381,10 +392,15 @@ fn take_lists(bytes: &[u8], pins: &mut [i32], macros: &mut [i32])
 
 // Read a file whose head's counts fit its blocks, into room for the largest net.
 fn read_counted(bytes: &[u8], pins: &mut [i32], macros: &mut [i32]) -> Checked
-    requires { ⌜ (Sized (now bytes) (headCount 4 (now bytes) * 2) (headCount 5 (now bytes) * 4)) × (roomShort (length (now pins)) (length (now macros)) ≡ false) ⌝ }
+    requires { ⌜ (Sized (now bytes) (headCount 4 (now bytes) * 2) (headCount 5 (now bytes) * 4))
+        × (roomShort (length (now pins)) (length (now macros)) ≡ false) ⌝ }
     ensures answer { λ r. ⌜ told r ≡ laidOut (now (bytes .entry)) (pinsIn (now (bytes .entry))) (macrosIn (now (bytes .entry))) ⌝ }
-    ensures pins { λ _. ⌜ now (pins .exit) ≡ after (laidOut (now (bytes .entry)) (pinsIn (now (bytes .entry))) (macrosIn (now (bytes .entry)))) (pinsIn (now (bytes .entry))) (now (pins .entry)) ⌝ }
-    ensures macros { λ _. ⌜ now (macros .exit) ≡ after (laidOut (now (bytes .entry)) (pinsIn (now (bytes .entry))) (macrosIn (now (bytes .entry)))) (macrosIn (now (bytes .entry))) (now (macros .entry)) ⌝ }
+    ensures pins { λ _. ⌜ now (pins .exit)
+        ≡ after (laidOut (now (bytes .entry)) (pinsIn (now (bytes .entry))) (macrosIn (now (bytes .entry))))
+        (pinsIn (now (bytes .entry))) (now (pins .entry)) ⌝ }
+    ensures macros { λ _. ⌜ now (macros .exit)
+        ≡ after (laidOut (now (bytes .entry)) (pinsIn (now (bytes .entry))) (macrosIn (now (bytes .entry))))
+        (macrosIn (now (bytes .entry))) (now (macros .entry)) ⌝ }
 {
     let answer = check_file(bytes);
     match answer {
@@ -406,8 +422,12 @@ fn room_short(pins: &[i32], macros: &[i32]) -> bool
 // Read a net file: 21 where less than the largest net is lent, 1 to 3 for the file, then 11 to 17 for its lists.
 pub fn read(bytes: &[u8], pins: &mut [i32], macros: &mut [i32]) -> Checked
     ensures answer { λ r. ⌜ told r ≡ readFile (now (bytes .entry)) (length (now (pins .entry))) (length (now (macros .entry))) ⌝ }
-    ensures pins { λ _. ⌜ now (pins .exit) ≡ after (readFile (now (bytes .entry)) (length (now (pins .entry))) (length (now (macros .entry)))) (pinsIn (now (bytes .entry))) (now (pins .entry)) ⌝ }
-    ensures macros { λ _. ⌜ now (macros .exit) ≡ after (readFile (now (bytes .entry)) (length (now (pins .entry))) (length (now (macros .entry)))) (macrosIn (now (bytes .entry))) (now (macros .entry)) ⌝ }
+    ensures pins { λ _. ⌜ now (pins .exit)
+        ≡ after (readFile (now (bytes .entry)) (length (now (pins .entry))) (length (now (macros .entry))))
+        (pinsIn (now (bytes .entry))) (now (pins .entry)) ⌝ }
+    ensures macros { λ _. ⌜ now (macros .exit)
+        ≡ after (readFile (now (bytes .entry)) (length (now (pins .entry))) (length (now (macros .entry))))
+        (macrosIn (now (bytes .entry))) (now (macros .entry)) ⌝ }
 {
     if room_short(&*pins, &*macros) {
         return Checked::Refused(Refusal::Space);

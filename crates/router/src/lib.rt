@@ -67,7 +67,9 @@ fn graph_of_allowed(
 // Write a net file: its number of bytes, or 11 to 17, then 21 where fewer bytes are lent than the file has.
 pub fn write_file(pins: &[i32], macros: &[i32], bytes: &mut [u8]) -> Written
     ensures answer { λ r. ⌜ toldBytes r ≡ written (now (pins .entry)) (now (macros .entry)) (length (now (bytes .entry))) ⌝ }
-    ensures lent { λ _. ⌜ now (bytes .exit) ≡ after (written (now (pins .entry)) (now (macros .entry)) (length (now (bytes .entry)))) (fileBytes (now (pins .entry)) (now (macros .entry))) (now (bytes .entry)) ⌝ }
+    ensures lent { λ _. ⌜ now (bytes .exit)
+        ≡ after (written (now (pins .entry)) (now (macros .entry)) (length (now (bytes .entry))))
+        (fileBytes (now (pins .entry)) (now (macros .entry))) (now (bytes .entry)) ⌝ }
 {
     netfile::write(pins, macros, &mut *bytes)
 }
@@ -76,8 +78,12 @@ pub fn write_file(pins: &[i32], macros: &[i32], bytes: &mut [u8]) -> Written
 // lists.
 pub fn read_file(bytes: &[u8], pins: &mut [i32], macros: &mut [i32]) -> Checked
     ensures answer { λ r. ⌜ told r ≡ readFile (now (bytes .entry)) (length (now (pins .entry))) (length (now (macros .entry))) ⌝ }
-    ensures pins { λ _. ⌜ now (pins .exit) ≡ after (readFile (now (bytes .entry)) (length (now (pins .entry))) (length (now (macros .entry)))) (pinsIn (now (bytes .entry))) (now (pins .entry)) ⌝ }
-    ensures macros { λ _. ⌜ now (macros .exit) ≡ after (readFile (now (bytes .entry)) (length (now (pins .entry))) (length (now (macros .entry)))) (macrosIn (now (bytes .entry))) (now (macros .entry)) ⌝ }
+    ensures pins { λ _. ⌜ now (pins .exit)
+        ≡ after (readFile (now (bytes .entry)) (length (now (pins .entry))) (length (now (macros .entry))))
+        (pinsIn (now (bytes .entry))) (now (pins .entry)) ⌝ }
+    ensures macros { λ _. ⌜ now (macros .exit)
+        ≡ after (readFile (now (bytes .entry)) (length (now (pins .entry))) (length (now (macros .entry))))
+        (macrosIn (now (bytes .entry))) (now (macros .entry)) ⌝ }
 {
     netfile::read(bytes, &mut *pins, &mut *macros)
 }

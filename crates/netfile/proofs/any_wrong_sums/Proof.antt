@@ -1,8 +1,7 @@
 -- `netfile::any_wrong_sums` meets its contract. The loop's invariant: the blocks that are left decide. The measure is their number.
 -- Assumes nothing.
 use mathlib.Core.Path.{_≡_, sym, ap, _∙_}
-use mathlib.Core.List.{List}
-use Prim.Native.Nat.{ℕ, _≤_, _-_, _+_, _*_, _/_}
+use Prim.Native.Nat.{ℕ, _≤_, _-_, _*_, _/_}
 use native.Mathlib.Omega.{arith}
 use lib.ListN.{length, take, drop}
 use denote.Ref.{now}
@@ -37,7 +36,8 @@ has-wrong-sums-requires c κs =
     ap length (c .block-at .ensures) ∙ block-full (now (l .before .before .args .bytes)) (l .loop .b) (omega arith)
 
 -- what the calls say, of the words
-met : (c : tie.After-has-wrong-sums Inv-loop μ-loop) → c .has-wrong-sums .result ≡ wrongSums (take 128 (drop (c .before .before .before .loop .b * 128) (wordsOf (now (c .before .before .before .before .before .args .bytes)))))
+met : (c : tie.After-has-wrong-sums Inv-loop μ-loop) → c .has-wrong-sums .result
+    ≡ wrongSums (take 128 (drop (c .before .before .before .loop .b * 128) (wordsOf (now (c .before .before .before .before .before .args .bytes)))))
 met c = c .has-wrong-sums .ensures ∙ ap wrongSums (c .before .block-at .ensures)
 
 returns : tie.Need-returns Inv-loop μ-loop

@@ -1,10 +1,10 @@
 -- `netfile::block_at` meets its contract. The loop's invariant: the table is the words passed, over zeros. The measure is what is left.
 -- Assumes nothing.
-use mathlib.Core.Path.{_≡_, refl, sym, ap, ap₂, _∙_}
+use mathlib.Core.Path.{_≡_, refl, ap₂, _∙_}
 use mathlib.Core.List.{List}
-use Prim.Native.Nat.{ℕ, _≤_, _<_, _-_, _+_, _*_, _/_, _%_}
+use Prim.Native.Nat.{ℕ, _≤_, _-_, _*_}
 use native.Mathlib.Omega.{arith}
-use lib.ListN.{length, take, drop, getD, set, replicate}
+use lib.ListN.{take, drop, set, replicate}
 use denote.Ref.{now}
 use Rattle.lent.specs.Over.{over}
 use Rattle.netfile.specs.Words.{wordsOf}

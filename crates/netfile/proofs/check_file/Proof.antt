@@ -7,7 +7,7 @@ use native.Mathlib.Omega.{arith}
 use lib.IntN.{ℤ, pos}
 use lib.ListN.{length, take, replicate}
 use denote.Ref.{now}
-use Rattle.netfile.specs.Read.{numbersIn, pinsIn, macrosIn, Sized, laidOut}
+use Rattle.netfile.specs.Read.{numbersIn, Sized, laidOut}
 use Rattle.netfile.proofs.ReadLaws.{length-numbers, part-of-over, over-long, pins-few, macros-few, blocks-few}
 use Rattle.netfile.proofs.AnswerLaws.{pins-taken, macros-taken}
 use borrow.Author.Needs.{needs}
@@ -39,8 +39,10 @@ pins-part : (c : tie.After-take-numbers) → take (c .before .before .before .he
     ≡ numbersIn (now (c .before .before .before .before .before .args .bytes)) 1 0 (c .before .before .before .head-count .result * 2)
 pins-part c = part-of-over _ _ zeros _ (c .take-numbers .ensures) (length-numbers _ 1 0 _)
 
-macros-part : (c : tie.After-take-numbers2) → take (c .before .before .before .before .before .before .head-count2 .result * 4 - 0) (c .take-numbers2 .last .1 .1 .1 .0)
-    ≡ numbersIn (now (c .before .before .before .before .before .before .before .before .before .args .bytes)) (1 + c .before .before .blocks-for .result) 0 (c .before .before .before .before .before .before .head-count2 .result * 4)
+macros-part : (c : tie.After-take-numbers2)
+    → take (c .before .before .before .before .before .before .head-count2 .result * 4 - 0) (c .take-numbers2 .last .1 .1 .1 .0)
+    ≡ numbersIn (now (c .before .before .before .before .before .before .before .before .before .args .bytes)) (1 + c .before .before .blocks-for .result) 0
+    (c .before .before .before .before .before .before .head-count2 .result * 4)
 macros-part c = part-of-over _ _ zeros _ (c .take-numbers2 .ensures) (length-numbers _ _ 0 _)
 
 head-count-requires : tie.Need-head-count-requires

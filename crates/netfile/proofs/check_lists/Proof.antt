@@ -1,7 +1,6 @@
 -- `netfile::check_lists` meets its contract: the comparison decides between the check and 3.
 -- Assumes nothing.
-use mathlib.Core.Path.{_≡_, sym, _∙_}
-use denote.Ref.{now}
+use mathlib.Core.Path.{sym, _∙_}
 use Rattle.net.specs.Answer.{number}
 use Rattle.net.specs.Check.{told}
 use Rattle.netfile.proofs.AnswerLaws.{laid-out, laid-wrong}

@@ -1,12 +1,11 @@
 -- `netfile::coordinate_of` meets its contract: a word below 2^31 is its own coordinate, another one is lowered by 2^32.
 -- Assumes nothing.
 use borrow.Author.Needs.{needs}
-use mathlib.Core.Path.{_≡_, sym, _∙_}
+use mathlib.Core.Path.{sym, _∙_}
 use native.Mathlib.Omega.{arith}
 use Prim.Native.Nat.{_<_}
 use mir.Syntax.{w32}
 use mir.ValLaws.{toZ-ofZ}
-use Rattle.netfile.specs.Words.{coordinate}
 use Rattle.netfile.proofs.WordLaws.{coordinate-is, coordinate-fits, lowered-fits, lowered-back}
 use Rattle.netfile.proofs.coordinate_of.Statement.{statement}
 use Rattle.netfile.proofs.coordinate_of.Tie as tie

@@ -1,14 +1,14 @@
 -- `netfile::counts_wrong` meets its contract: its test is that of the definition; the counts have 32 bits, the sums 64.
 -- Assumes nothing.
-use mathlib.Core.Path.{_≡_, refl, sym, ap, ap₂, _∙_}
+use mathlib.Core.Path.{ap, ap₂, _∙_}
 use mathlib.Core.Bool.{not}
 use lib.Dec.{eqb}
-use Prim.Native.Nat.{ℕ, _≤_, _<_, _-_, _+_, _*_, _/_, _%_}
+use Prim.Native.Nat.{ℕ, _-_, _+_, _*_, _/_}
 use native.Mathlib.Omega.{arith}
-use lib.ListN.{length, take, drop, getD, set, replicate}
+use lib.ListN.{length}
 use denote.Ref.{now}
 use Rattle.netfile.specs.Layout.{blocksFor}
-use Rattle.netfile.specs.Read.{headCount, countsWrong}
+use Rattle.netfile.specs.Read.{countsWrong}
 use borrow.Author.Needs.{needs}
 use Rattle.netfile.proofs.counts_wrong.Statement.{statement}
 use Rattle.netfile.proofs.counts_wrong.Tie as tie

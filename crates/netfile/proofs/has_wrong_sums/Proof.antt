@@ -1,12 +1,10 @@
 -- `netfile::has_wrong_sums` meets its contract: its tests are those of the definition.
 -- Assumes nothing.
-use mathlib.Core.Path.{_≡_, refl, sym, ap, ap₂, _∙_}
+use mathlib.Core.Path.{ap₂}
 use mathlib.Core.Bool.{not, _||_}
 use lib.Dec.{eqb}
-use Prim.Native.Nat.{ℕ, _≤_, _<_, _-_, _+_, _*_, _/_, _%_}
-use native.Mathlib.Omega.{arith}
-use lib.ListN.{length, take, drop, getD, set, replicate}
-use denote.Ref.{now}
+use Prim.Native.Nat.{ℕ, _-_}
+use lib.ListN.{getD}
 use Rattle.netfile.specs.Sums.{wrongSums}
 use borrow.Author.Needs.{needs}
 use Rattle.netfile.proofs.has_wrong_sums.Statement.{statement}
@@ -25,7 +23,8 @@ returns : tie.Need-returns
 unfolding wrongSums
 returns c =
     let b = c .before .before .before .before .args .t1 in
-    ap₂ (λ (p q : ℕ). not (eqb (getD b 126 0) p) || not (eqb (getD b 127 0) q)) (c .before .before .sums-of .ensures .0) (c .before .before .sums-of .ensures .1)
+    ap₂ (λ (p q : ℕ). not (eqb (getD b 126 0) p) || not (eqb (getD b 127 0) q))
+    (c .before .before .sums-of .ensures .0) (c .before .before .sums-of .ensures .1)
 
 pub has-wrong-sums-spec : {M : Type 1} → statement M
 has-wrong-sums-spec =

@@ -1,6 +1,5 @@
 -- `netfile::head_block` meets its contract: its stores into zeros give the definition's words.
 -- Assumes nothing.
-use mathlib.Core.Path.{_≡_, refl, _∙_}
 use Rattle.lent.specs.Over.{over}
 use Rattle.netfile.specs.Layout.{block, headBlock}
 use borrow.Author.Needs.{needs}

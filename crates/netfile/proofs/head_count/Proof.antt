@@ -1,10 +1,8 @@
 -- `netfile::head_count` meets its contract: a word of the head is one of the file's words.
 -- Assumes nothing.
-use mathlib.Core.Path.{_≡_, refl, sym, ap, ap₂, _∙_}
-use mathlib.Core.List.{List}
-use Prim.Native.Nat.{ℕ, _≤_, _<_, _-_, _+_, _*_, _/_, _%_}
+use mathlib.Core.Path.{sym, _∙_}
+use Prim.Native.Nat.{_-_}
 use native.Mathlib.Omega.{arith}
-use lib.ListN.{length, take, drop, getD, set, replicate}
 use denote.Ref.{now}
 use Rattle.netfile.specs.Read.{headCount}
 use Rattle.netfile.proofs.ReadLaws.{word-is}

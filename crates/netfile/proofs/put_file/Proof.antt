@@ -1,14 +1,14 @@
 -- `netfile::put_file` meets its contract: head, pins and macros are laid out one behind the other.
 -- Assumes nothing.
-use mathlib.Core.Path.{_≡_, ap, ap₂, _∙_}
+use mathlib.Core.Path.{ap, ap₂, _∙_}
 use mathlib.Core.List.{List}
-use Prim.Native.Nat.{ℕ, _+_, _*_, _/_}
+use Prim.Native.Nat.{ℕ, _+_, _*_}
 use native.Mathlib.Omega.{arith}
 use lib.ListN.{length}
 use lib.Seq.{sets}
 use denote.Ref.{now}
 use Rattle.netfile.specs.Words.{bytesOf}
-use Rattle.netfile.specs.Layout.{headBlock, blocksFor, listBlocks}
+use Rattle.netfile.specs.Layout.{blocksFor, listBlocks}
 use Rattle.netfile.proofs.LayoutLaws.{file-laid}
 use borrow.Author.Needs.{needs}
 use Rattle.netfile.proofs.put_file.Statement.{statement}

@@ -1,15 +1,15 @@
 -- `netfile::put_list` meets its contract. The loop's invariant: the first j blocks of the list are laid out. The measure is how many
 -- blocks are left.
 -- Assumes nothing.
-use mathlib.Core.Path.{_≡_, refl, sym, ap, ap₂, _∙_}
+use mathlib.Core.Path.{_≡_, refl, ap, ap₂, _∙_}
 use mathlib.Core.List.{List}
-use Prim.Native.Nat.{ℕ, _≤_, _<_, _-_, _+_, _*_}
+use Prim.Native.Nat.{ℕ, _≤_, _-_, _+_, _*_}
 use native.Mathlib.Omega.{arith}
-use lib.ListN.{length, take, drop}
+use lib.ListN.{length, drop}
 use lib.Seq.{sets, length-sets}
 use denote.Ref.{now}
 use Rattle.netfile.specs.Words.{bytesOf}
-use Rattle.netfile.specs.Layout.{listBlock, blocksFor, listBlocks}
+use Rattle.netfile.specs.Layout.{blocksFor, listBlocks}
 use Rattle.netfile.proofs.LayoutLaws.{length-next-block, list-more}
 use Rattle.netfile.proofs.put_list.Statement.{statement}
 use Rattle.netfile.proofs.put_list.Tie as tie
@@ -42,8 +42,11 @@ next-block-requires c κs = ((omega arith, omega arith), omega arith)
 put-block-requires : tie.Need-put-block-requires Inv-loop μ-loop
 put-block-requires c κs =
     let l = c .before .before .before in
-    let a = l .before .before .before .args in
-    (ap length (c .next-block .ensures) ∙ length-next-block (a .kind) (a .w) (a .first + l .loop .j) (drop (l .loop .j * 120) (now (a .numbers))), omega arith)
+    let a = l .before .before .before .args in (
+      ap length (c .next-block .ensures)
+          ∙ length-next-block (a .kind) (a .w) (a .first + l .loop .j) (drop (l .loop .j * 120) (now (a .numbers))),
+      omega arith,
+    )
 
 add-j : tie.Need-add-j Inv-loop μ-loop
 add-j c = omega arith
@@ -62,7 +65,8 @@ loop-again c =
     ∙ ap₂ (λ (bs ws : List ℕ). sets bs ((a .first + j) * 512) (bytesOf ws)) (l .loop .inv .1 .1) (p .before .next-block .ensures)
     ∙ list-more (now (a .bytes)) (a .kind) (a .w) (a .first) j (now (a .numbers))
     in
-    (omega arith, (ap length b ∙ length-sets (now (a .bytes)) (a .first * 512) (bytesOf (listBlocks (a .kind) (a .w) (a .first) (j + 1) (now (a .numbers)))), b))
+    let k = listBlocks (a .kind) (a .w) (a .first) (j + 1) (now (a .numbers)) in
+    (omega arith, (ap length b ∙ length-sets (now (a .bytes)) (a .first * 512) (bytesOf k), b))
 
 same-length : tie.Need-same-length Inv-loop μ-loop
 same-length c = c .before .loop .inv .1 .0

@@ -1,13 +1,11 @@
 -- `netfile::read_counted` meets its contract: the lists are taken only after every refusal has been ruled out.
 -- Assumes nothing.
 use mathlib.Core.Path.{_≡_, sym, ap, _∙_}
-use mathlib.Core.List.{List}
-use Prim.Native.Nat.{ℕ}
 use lib.ListN.{length}
 use denote.Ref.{now}
-use Rattle.lent.specs.Told.{given}
+use Prim.Native.Nat.{ℕ}
+use Rattle.lent.specs.Told.{Told, given}
 use Rattle.lent.proofs.AfterLaws.{after-given}
-use Rattle.net.specs.Answer.{number}
 use Rattle.net.specs.Check.{told}
 use Rattle.netfile.specs.Read.{pinsIn, macrosIn, laidOut}
 use Rattle.netfile.proofs.AnswerLaws.{lists-fit, unaltered}
@@ -16,7 +14,10 @@ use Rattle.netfile.proofs.read_counted.Statement.{statement}
 use Rattle.netfile.proofs.read_counted.Tie as tie
 
 -- the answer for the file, where it is accepted
-accepted : (c : tie.After-answer) → laidOut (now (c .before .before .before .before .args .bytes)) (pinsIn (now (c .before .before .before .before .args .bytes))) (macrosIn (now (c .before .before .before .before .args .bytes)))
+abbrev answer-of : tie.Start → Told (ℕ × ℕ)
+answer-of s = laidOut (now (s .args .bytes)) (pinsIn (now (s .args .bytes))) (macrosIn (now (s .args .bytes)))
+
+accepted : (c : tie.After-answer) → answer-of (c .before .before .before .before)
     ≡ given (c .answer .given .0 .0 .pins, c .answer .given .0 .0 .macros)
 unfolding told
 accepted c = sym (c .before .before .check-file .ensures) ∙ ap told (c .answer .given .1)
@@ -63,7 +64,8 @@ returns-2 c =
     let k = c .before .before .before in
     let s = k .before .before in
     let b = now (s .args .bytes) in
-    unaltered _ (pinsIn b) (macrosIn b) (now (s .args .pins)) (now (s .args .macros)) _ (sym (k .check-file .ensures) ∙ ap told (c .before .answer2 .given .1))
+    unaltered _ (pinsIn b) (macrosIn b) (now (s .args .pins)) (now (s .args .macros)) _
+    (sym (k .check-file .ensures) ∙ ap told (c .before .answer2 .given .1))
 
 pub read-counted-spec : {M : Type 1} → statement M
 read-counted-spec =

@@ -1,22 +1,20 @@
 -- `netfile::same_bytes` meets its contract. The loop's invariant: the bytes that are left decide. The measure is how many they are.
 -- Assumes nothing.
-use mathlib.Core.Path.{_≡_, refl, sym, ap, ap₂, _∙_}
-use mathlib.Core.List.{List}
-use Prim.Native.Nat.{ℕ, _≤_, _<_, _-_, _+_, _*_, _/_, _%_}
+use mathlib.Core.Path.{_≡_, refl, sym, _∙_}
+use Prim.Native.Nat.{_≤_, _-_}
 use native.Mathlib.Omega.{arith}
 use borrow.Author.Tests.{eq-eqb, ne-eqb}
-use lib.ListN.{length, take, drop, getD, set, replicate}
-use denote.Ref.{now}
+use lib.ListN.{length, drop}
 use Rattle.netfile.specs.Read.{sameNumbers}
 use Rattle.netfile.proofs.ReadLaws.{same-pass, same-stop, same-end}
 use Rattle.netfile.proofs.same_bytes.Statement.{statement}
 use Rattle.netfile.proofs.same_bytes.Tie as tie
 
 abbrev Inv-loop : tie.InvT-loop
-Inv-loop a b i₀ i = (i ≤ length a) × (sameNumbers a b ≡ sameNumbers (drop i a) (drop i b))
+Inv-loop a b at₀ at = (at ≤ length a) × (sameNumbers a b ≡ sameNumbers (drop at a) (drop at b))
 
 abbrev μ-loop : tie.MeasureT-loop
-μ-loop a b i₀ i = length a - i
+μ-loop a b at₀ at = length a - at
 
 loop-holds : tie.Need-loop-holds Inv-loop μ-loop
 loop-holds c = (omega arith, refl)
@@ -30,10 +28,10 @@ shared-slice-read-if1-2 c = omega arith
 returns : tie.Need-returns Inv-loop μ-loop
 returns c =
     let l = c .before .before .before .before in
-    sym (l .loop .inv .1 ∙ same-stop _ _ (l .loop .i) (l .before .pre) (omega arith) (ne-eqb _ _ (c .if1 .taken)))
+    sym (l .loop .inv .1 ∙ same-stop _ _ (l .loop .at) (l .before .pre) (omega arith) (ne-eqb _ _ (c .if1 .taken)))
 
-add-i : tie.Need-add-i Inv-loop μ-loop
-add-i c = omega arith
+add-at : tie.Need-add-at Inv-loop μ-loop
+add-at c = omega arith
 
 loop-less : tie.Need-loop-less Inv-loop μ-loop
 loop-less c = omega arith
@@ -41,12 +39,12 @@ loop-less c = omega arith
 loop-again : tie.Need-loop-again Inv-loop μ-loop
 loop-again c =
     let l = c .before .before .before .before in
-    (omega arith, l .loop .inv .1 ∙ same-pass _ _ (l .loop .i) (l .before .pre) (omega arith) (eq-eqb _ _ (c .if1 .left)))
+    (omega arith, l .loop .inv .1 ∙ same-pass _ _ (l .loop .at) (l .before .pre) (omega arith) (eq-eqb _ _ (c .if1 .left)))
 
 returns-2 : tie.Need-returns-2 Inv-loop μ-loop
 returns-2 c =
     let l = c .before in
-    sym (l .loop .inv .1 ∙ same-end _ _ (l .loop .i) (l .before .pre) (omega arith))
+    sym (l .loop .inv .1 ∙ same-end _ _ (l .loop .at) (l .before .pre) (omega arith))
 
 pub same-bytes-spec : {M : Type 1} → statement M
 same-bytes-spec =
@@ -58,7 +56,7 @@ same-bytes-spec =
     shared-slice-read-if1
     shared-slice-read-if1-2
     returns
-    add-i
+    add-at
     loop-less
     loop-again
     returns-2)

@@ -1,9 +1,9 @@
 -- `netfile::seal` meets its contract: its two stores are the last two words.
 -- Assumes nothing.
-use mathlib.Core.Path.{_≡_, ap₂, _∙_}
-use mathlib.Core.List.{List, [], _∷_, _++_}
+use mathlib.Core.Path.{ap₂, _∙_}
+use mathlib.Core.List.{[], _∷_, _++_}
 use Prim.Native.Nat.{ℕ}
-use lib.ListN.{take, set}
+use lib.ListN.{take}
 use Rattle.netfile.specs.Sums.{sealed}
 use Rattle.netfile.proofs.BlockLaws.{last-two}
 use borrow.Author.Needs.{needs}

@@ -1,10 +1,9 @@
 -- `netfile::sums_of` meets its contract. The loop's invariant: the two sums are those of the words passed. The measure is what is left.
 -- Assumes nothing.
-use borrow.Author.Needs.{needs}
-use mathlib.Core.Path.{_≡_, refl, sym, ap, ap₂, _∙_}
-use Prim.Native.Nat.{ℕ, _≤_, _<_, _-_, _+_, _%_}
+use mathlib.Core.Path.{_≡_, refl, ap, ap₂, _∙_}
+use Prim.Native.Nat.{ℕ, _≤_, _-_, _+_, _%_}
 use native.Mathlib.Omega.{arith}
-use lib.ListN.{length, take, getD}
+use lib.ListN.{take, getD}
 use denote.Ref.{now}
 use Rattle.netfile.specs.Sums.{total, runningSums, plainSum, sumOfSums}
 use Rattle.netfile.proofs.SumLaws.{plain-more, sums-more, word-more}
@@ -45,7 +44,11 @@ loop-again c =
     let l = c .before .before .before .before in
     let ws = now (l .before .args .block) in
     let m = word-more ws (l .loop .i) (omega arith) in
-    let p = c .before .wrapping-add-u32 .ensures ∙ ap (λ (s : ℕ). (s + getD ws (l .loop .i) 0) % 4294967296) (l .loop .inv .1 .0) ∙ plain-more ws (l .loop .i) _ m in (
+    let p =
+    c .before .wrapping-add-u32 .ensures
+    ∙ ap (λ (s : ℕ). (s + getD ws (l .loop .i) 0) % 4294967296) (l .loop .inv .1 .0)
+    ∙ plain-more ws (l .loop .i) _ m
+    in (
       omega arith,
       (p, c .wrapping-add-u322 .ensures ∙ ap₂ (λ (s t : ℕ). (s + t) % 4294967296) (l .loop .inv .1 .1) p ∙ sums-more ws (l .loop .i) _ m),
     )

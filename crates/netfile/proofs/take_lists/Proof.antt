@@ -1,11 +1,10 @@
 -- `netfile::take_lists` meets its contract: the numbers taken are those of the file's two lists.
 -- Assumes nothing.
-use mathlib.Core.Path.{_≡_, ap, _∙_}
+use mathlib.Core.Path.{ap, _∙_}
 use mathlib.Core.List.{List}
 use Prim.Native.Nat.{_*_}
 use native.Mathlib.Omega.{arith}
 use lib.IntN.{ℤ}
-use lib.ListN.{length}
 use denote.Ref.{now}
 use Rattle.lent.specs.Over.{over}
 use Rattle.netfile.specs.Read.{Sized}

@@ -2,9 +2,9 @@
 -- many are left.
 -- Assumes nothing.
 use borrow.Author.Needs.{needs}
-use mathlib.Core.Path.{_≡_, refl, ap, ap₂, _∙_}
+use mathlib.Core.Path.{_≡_, refl, ap₂, _∙_}
 use mathlib.Core.List.{List}
-use Prim.Native.Nat.{_≤_, _-_, _+_}
+use Prim.Native.Nat.{_≤_, _-_}
 use native.Mathlib.Omega.{arith}
 use lib.IntN.{ℤ}
 use lib.ListN.{length, set, length-set}
@@ -13,7 +13,7 @@ use mir.Syntax.{w32}
 use mir.ValLaws.{toZ-ofZ}
 use Rattle.lent.specs.Over.{over}
 use Rattle.netfile.specs.Layout.{blocksFor}
-use Rattle.netfile.specs.Read.{numberIn, numbersIn}
+use Rattle.netfile.specs.Read.{numbersIn}
 use Rattle.netfile.proofs.ReadLaws.{numbers-more}
 use Rattle.netfile.proofs.take_numbers.Statement.{statement}
 use Rattle.netfile.proofs.take_numbers.Tie as tie

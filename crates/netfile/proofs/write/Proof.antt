@@ -1,17 +1,13 @@
 -- `netfile::write` meets its contract: what the check refuses is refused, and a checked net is written.
 -- Assumes nothing.
 use mathlib.Core.Path.{_≡_, sym, ap, _∙_}
-use mathlib.Core.List.{List}
 use Prim.Native.Nat.{ℕ}
 use native.Mathlib.Omega.{arith}
-use lib.IntN.{ℤ}
 use lib.ListN.{length}
 use denote.Ref.{now}
-use Rattle.lent.specs.Told.{Told, refused, given}
+use Rattle.lent.specs.Told.{Told, given}
 use Rattle.lent.specs.Over.{after}
 use Rattle.lent.proofs.AfterLaws.{after-refused}
-use Rattle.net.specs.declared.Checked.{Checked}
-use Rattle.net.specs.Answer.{number}
 use Rattle.net.specs.Check.{checked, told}
 use Rattle.net.proofs.PassedLaws.{passed-all, pins-counted, macros-counted}
 use Rattle.netfile.specs.Layout.{fileBytes}
@@ -22,7 +18,11 @@ use Rattle.netfile.proofs.write.Statement.{statement}
 use Rattle.netfile.proofs.write.Tie as tie
 
 -- the answer of the check, where the net is allowed
-allowed : (c : tie.After-enum-told) → checked (now (c .before .before .before .before .args .pins)) (now (c .before .before .before .before .args .macros)) ≡ given (c .enum-told .given .0 .0 .pins, c .enum-told .given .0 .0 .macros)
+abbrev checked-of : tie.Start → Told (ℕ × ℕ)
+checked-of s = checked (now (s .args .pins)) (now (s .args .macros))
+
+allowed : (c : tie.After-enum-told) → checked-of (c .before .before .before .before)
+    ≡ given (c .enum-told .given .0 .0 .pins, c .enum-told .given .0 .0 .macros)
 unfolding told
 allowed c = sym (c .before .before .check .ensures) ∙ ap told (c .enum-told .given .1)
 

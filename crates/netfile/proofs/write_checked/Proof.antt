@@ -9,7 +9,7 @@ use Rattle.lent.specs.Told.{given}
 use Rattle.lent.proofs.AfterLaws.{after-refused, after-given}
 use Rattle.net.specs.Answer.{number}
 use Rattle.netfile.specs.Layout.{blocksFor, fileBytes}
-use Rattle.netfile.specs.Write.{fitted, toldBytes}
+use Rattle.netfile.specs.Write.{toldBytes}
 use Rattle.netfile.proofs.LayoutLaws.{length-file}
 use Rattle.netfile.proofs.WriteLaws.{fitted-short, fitted-given}
 use borrow.Author.Needs.{needs}
@@ -56,7 +56,8 @@ returns-2 c =
     let b = now (s .args .bytes) in
     let f = fileBytes (now (s .args .pins)) (now (s .args .macros)) in
     let n = length-file (now (s .args .pins)) (now (s .args .macros)) in
-    let e : (1 + p .before .before .before .before .blocks-for .result + p .before .before .before .blocks-for2 .result) * 512 ≡ length f = omega (arith, n) in
+    let k = p .before .before .before in
+    let e : (1 + k .before .blocks-for .result + k .blocks-for2 .result) * 512 ≡ length f = omega (arith, n) in
     let g = fitted-given (length f) (length b) (omega (arith, n)) in
     (ap given e ∙ sym g, p .put-file .ensures ∙ after-given _ f b (length f) g)
 
