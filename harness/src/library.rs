@@ -1,5 +1,5 @@
-//! Safe calls of the static library. A slice passes as a pointer and a length; every length and every content is taken, so there is
-//! nothing to test before a call.
+//! Safe calls of the static library. A slice passes as a pointer and a length, a count as a pointer; every length and every content is
+//! taken, so there is nothing to test before a call. A refusal leaves counts as they were.
 
 extern "C" {
     fn calzundi_check(
@@ -8,18 +8,127 @@ extern "C" {
         macros: *const i32,
         macros_len: usize,
     ) -> i32;
+
+    fn calzundi_graph(
+        pins: *const i32,
+        pins_len: usize,
+        macros: *const i32,
+        macros_len: usize,
+        vertices: *mut i32,
+        vertices_len: usize,
+        edges: *mut i32,
+        edges_len: usize,
+        vertex_count: *mut usize,
+        edge_count: *mut usize,
+    ) -> i32;
+
+    fn calzundi_write_file(
+        pins: *const i32,
+        pins_len: usize,
+        macros: *const i32,
+        macros_len: usize,
+        bytes: *mut u8,
+        bytes_len: usize,
+        given: *mut usize,
+    ) -> i32;
+
+    fn calzundi_read_file(
+        bytes: *const u8,
+        bytes_len: usize,
+        pins: *mut i32,
+        pins_len: usize,
+        macros: *mut i32,
+        macros_len: usize,
+        m: *mut usize,
+        k: *mut usize,
+    ) -> i32;
 }
 
-/// "A refusal is its number alone": 0 is success.
-fn answer(code: i32) -> Result<(), u32> {
-    match code {
-        0 => Ok(()),
-        number => Err(number.unsigned_abs()),
+/// What stands in a count before a call: a refusal must leave it.
+const UNTOUCHED: usize = 0x5eed_5eed;
+
+/// "A refusal is its number alone": 0 is success. A refusal that touched a count is no answer.
+fn answer<A>(code: i32, counts: &[usize], given: A) -> Result<A, u32> {
+    if code == 0 {
+        return Ok(given);
     }
+    assert!(
+        counts.iter().all(|&count| count == UNTOUCHED),
+        "refusal {code} touched a count"
+    );
+    Err(code.unsigned_abs())
 }
 
 /// "Check a net."
 pub fn check(pins: &[i32], macros: &[i32]) -> Result<(), u32> {
     // SAFETY: the library reads the two slices and keeps neither.
-    answer(unsafe { calzundi_check(pins.as_ptr(), pins.len(), macros.as_ptr(), macros.len()) })
+    let code = unsafe { calzundi_check(pins.as_ptr(), pins.len(), macros.as_ptr(), macros.len()) };
+    answer(code, &[], ())
+}
+
+/// "Graph": how many vertices and edges were given.
+pub fn graph(
+    pins: &[i32],
+    macros: &[i32],
+    vertices: &mut [i32],
+    edges: &mut [i32],
+) -> Result<(usize, usize), u32> {
+    let (mut v, mut e) = (UNTOUCHED, UNTOUCHED);
+    // SAFETY: the slices do not overlap, since two of them are borrowed mutably, and the library keeps none.
+    let code = unsafe {
+        calzundi_graph(
+            pins.as_ptr(),
+            pins.len(),
+            macros.as_ptr(),
+            macros.len(),
+            vertices.as_mut_ptr(),
+            vertices.len(),
+            edges.as_mut_ptr(),
+            edges.len(),
+            &mut v,
+            &mut e,
+        )
+    };
+    answer(code, &[v, e], (v, e))
+}
+
+/// "Write a net file": how many bytes were given.
+pub fn write_file(pins: &[i32], macros: &[i32], bytes: &mut [u8]) -> Result<usize, u32> {
+    let mut given = UNTOUCHED;
+    // SAFETY: as for `graph`.
+    let code = unsafe {
+        calzundi_write_file(
+            pins.as_ptr(),
+            pins.len(),
+            macros.as_ptr(),
+            macros.len(),
+            bytes.as_mut_ptr(),
+            bytes.len(),
+            &mut given,
+        )
+    };
+    answer(code, &[given], given)
+}
+
+/// "Read a net file": m and k.
+pub fn read_file(
+    bytes: &[u8],
+    pins: &mut [i32],
+    macros: &mut [i32],
+) -> Result<(usize, usize), u32> {
+    let (mut m, mut k) = (UNTOUCHED, UNTOUCHED);
+    // SAFETY: as for `graph`.
+    let code = unsafe {
+        calzundi_read_file(
+            bytes.as_ptr(),
+            bytes.len(),
+            pins.as_mut_ptr(),
+            pins.len(),
+            macros.as_mut_ptr(),
+            macros.len(),
+            &mut m,
+            &mut k,
+        )
+    };
+    answer(code, &[m, k], (m, k))
 }

@@ -1,9 +1,10 @@
-//! Both programs on the same seeded input.
+//! Both programs on the same seeded input, with the same lent space: answers and every lent number must agree.
 
 use std::fmt::{self, Debug};
 
-use reference::generate::{hostile, net, permuted, Hostile, Kind};
+use reference::generate::{damaged, hostile, net, permuted, Damage, Hostile, Kind};
 use reference::lists::Lists;
+use reference::random::Random;
 use reference::{operations, text};
 
 use crate::library;
@@ -14,23 +15,30 @@ pub struct Difference {
     operation: &'static str,
     kind: &'static str,
     seed: u64,
-    net: String,
+    input: String,
     ours: String,
     theirs: String,
 }
 
 impl fmt::Display for Difference {
     fn fmt(&self, f: &mut fmt::Formatter) -> fmt::Result {
-        writeln!(
-            f,
-            "{} differs on kind {} with seed {}",
-            self.operation, self.kind, self.seed
-        )?;
-        writeln!(f, "the proved router: {}", self.ours)?;
-        writeln!(f, "the second program: {}", self.theirs)?;
-        write!(f, "{}", self.net)
+        let Difference {
+            operation,
+            kind,
+            seed,
+            input,
+            ours,
+            theirs,
+        } = self;
+        writeln!(f, "{operation} differs on kind {kind} with seed {seed}")?;
+        writeln!(f, "the proved router:  {ours}")?;
+        writeln!(f, "the second program: {theirs}")?;
+        write!(f, "{input}")
     }
 }
+
+/// Nothing where both programs say the same, or what they differ in.
+pub type Matched = Result<(), Box<Difference>>;
 
 /// Lists of some kind, named.
 pub struct Case {
@@ -43,27 +51,28 @@ pub struct Case {
 fn is_searched(kind: &Kind) -> bool {
     matches!(
         kind,
-        Kind::Rounds | Kind::Pruned | Kind::Dropped | Kind::BoundEnds
+        Kind::Rounds | Kind::Pruned | Kind::Dropped | Kind::BoundEnds | Kind::DroppedWins
     )
 }
 
-/// The case of a seed: allowed nets and hostile lists of every kind in turn, allowed ones in another order of their entries.
-pub fn case(seed: u64) -> Case {
+/// An allowed net of each kind in turn, its entries in another order.
+pub fn allowed(seed: u64) -> Case {
     let kinds: Vec<Kind> = Kind::ALL
         .iter()
         .copied()
         .filter(|kind| !is_searched(kind))
         .collect();
-    let turn = seed as usize % (kinds.len() + Hostile::ALL.len());
-    if let Some(&kind) = kinds.get(turn) {
-        let lists = permuted(&net(kind, seed), seed);
-        return Case {
-            kind: kind.name(),
-            seed,
-            lists,
-        };
+    let kind = kinds[seed as usize % kinds.len()];
+    Case {
+        kind: kind.name(),
+        seed,
+        lists: permuted(&net(kind, seed), seed),
     }
-    let kind = Hostile::ALL[turn - kinds.len()];
+}
+
+/// Lists to be refused, of each kind in turn.
+pub fn refused(seed: u64) -> Case {
+    let kind = Hostile::ALL[seed as usize % Hostile::ALL.len()];
     Case {
         kind: kind.name(),
         seed,
@@ -71,14 +80,65 @@ pub fn case(seed: u64) -> Case {
     }
 }
 
+/// Allowed nets and hostile lists by turns.
+pub fn any(seed: u64) -> Case {
+    if seed % 2 == 0 {
+        allowed(seed / 2)
+    } else {
+        refused(seed / 2)
+    }
+}
+
+/// A damaged net file of each kind in turn.
+pub struct File {
+    pub kind: &'static str,
+    pub seed: u64,
+    pub bytes: Vec<u8>,
+}
+
+pub fn file(seed: u64) -> File {
+    let kind = Damage::ALL[seed as usize % Damage::ALL.len()];
+    File {
+        kind: kind.name(),
+        seed,
+        bytes: damaged(kind, seed),
+    }
+}
+
+/// Lent space with a guard behind what is lent: one short of what is asked for, exact, or longer. The numbers in it are random, so that a
+/// number that was not written shows.
+struct Lent<T> {
+    numbers: Vec<T>,
+    lent: usize,
+}
+
+const GUARD: usize = 9;
+
+impl<T: Copy> Lent<T> {
+    fn new(random: &mut Random, asked: usize, number: impl Fn(u64) -> T) -> Lent<T> {
+        let lent = match random.below(4) {
+            0 => asked.saturating_sub(1),
+            1 => asked + 1 + random.below(40),
+            _ => asked,
+        };
+        let numbers = (0..lent + GUARD).map(|_| number(random.bits())).collect();
+        Lent { numbers, lent }
+    }
+
+    /// The part that is lent; the guard stays behind.
+    fn part(&mut self) -> &mut [T] {
+        &mut self.numbers[..self.lent]
+    }
+}
+
+/// What a call answered and left in lent space, as text that can be compared and read.
+fn said<A: Debug, S: Debug>(answer: A, spaces: &[S]) -> String {
+    format!("{answer:?} {spaces:?}")
+}
+
 impl Case {
     /// Nothing where the two answers are equal.
-    fn same<A: Debug + PartialEq>(
-        &self,
-        operation: &'static str,
-        ours: A,
-        theirs: A,
-    ) -> Result<(), Box<Difference>> {
+    fn same(&self, operation: &'static str, ours: String, theirs: String) -> Matched {
         if ours == theirs {
             return Ok(());
         }
@@ -86,19 +146,95 @@ impl Case {
             operation,
             kind: self.kind,
             seed: self.seed,
-            net: text::print(&self.lists),
-            ours: format!("{ours:?}"),
-            theirs: format!("{theirs:?}"),
+            input: text::print(&self.lists),
+            ours,
+            theirs,
         }))
     }
 
+    /// n = m + 4k, as the lists have it, whole or not.
+    fn points(&self) -> usize {
+        self.lists.pins.len() / 2 + self.lists.macros.len() / 4 * 4
+    }
+
     /// "Check a net."
-    pub fn check(&self) -> Result<(), Box<Difference>> {
+    pub fn check(&self) -> Matched {
         let Lists { pins, macros } = &self.lists;
         self.same(
             "check",
-            library::check(pins, macros),
-            operations::check(pins, macros),
+            format!("{:?}", library::check(pins, macros)),
+            format!("{:?}", operations::check(pins, macros)),
         )
+    }
+
+    /// "Graph."
+    pub fn graph(&self) -> Matched {
+        let Lists { pins, macros } = &self.lists;
+        let both =
+            |call: fn(&[i32], &[i32], &mut [i32], &mut [i32]) -> Result<(usize, usize), u32>| {
+                let random = &mut Random::new(self.seed);
+                let mut vertices = Lent::new(random, self.points() * 2, |bits| bits as i32);
+                let mut edges = Lent::new(random, self.points() * 16, |bits| bits as i32);
+                let answer = call(pins, macros, vertices.part(), edges.part());
+                said(answer, &[vertices.numbers, edges.numbers])
+            };
+        self.same("graph", both(library::graph), both(operations::graph))
+    }
+
+    /// "Write a net file."
+    pub fn write_file(&self) -> Matched {
+        let Lists { pins, macros } = &self.lists;
+        let blocks = 1 + pins.len().div_ceil(120) + macros.len().div_ceil(120);
+        let both = |call: fn(&[i32], &[i32], &mut [u8]) -> Result<usize, u32>| {
+            let random = &mut Random::new(self.seed);
+            let mut bytes = Lent::new(random, blocks * 512, |bits| bits as u8);
+            let answer = call(pins, macros, bytes.part());
+            said(answer, &[bytes.numbers])
+        };
+        self.same(
+            "write a net file",
+            both(library::write_file),
+            both(operations::write_file),
+        )
+    }
+
+    /// "Read a net file", of the file that the second program writes of the lists.
+    pub fn read_back(&self) -> Matched {
+        let mut bytes = vec![0; 6 * 512];
+        let Lists { pins, macros } = &self.lists;
+        match operations::write_file(pins, macros, &mut bytes) {
+            Ok(length) => File {
+                kind: self.kind,
+                seed: self.seed,
+                bytes: bytes[..length].to_vec(),
+            }
+            .read_file(),
+            Err(_) => Ok(()),
+        }
+    }
+}
+
+impl File {
+    /// "Read a net file."
+    pub fn read_file(&self) -> Matched {
+        let both = |call: fn(&[u8], &mut [i32], &mut [i32]) -> Result<(usize, usize), u32>| {
+            let random = &mut Random::new(self.seed);
+            let mut pins = Lent::new(random, 128, |bits| bits as i32);
+            let mut macros = Lent::new(random, 256, |bits| bits as i32);
+            let answer = call(&self.bytes, pins.part(), macros.part());
+            said(answer, &[pins.numbers, macros.numbers])
+        };
+        let (ours, theirs) = (both(library::read_file), both(operations::read_file));
+        if ours == theirs {
+            return Ok(());
+        }
+        Err(Box::new(Difference {
+            operation: "read a net file",
+            kind: self.kind,
+            seed: self.seed,
+            input: format!("{} bytes: {:?}", self.bytes.len(), self.bytes),
+            ours,
+            theirs,
+        }))
     }
 }

@@ -1,11 +1,14 @@
-//! The proved router and the second program give the same answers.
+//! The proved router and the second program give the same answers and leave the same lent space.
 
 use harness::library;
-use harness::matching::case;
+use harness::matching::{allowed, any, file, refused, File, Matched};
+use reference::generate::{net, Kind};
+use reference::lists::Lists;
+use reference::netfile::{self, BLOCK_BYTES};
 use reference::operations;
 
-/// Panics with the difference as text.
-fn matched(result: Result<(), Box<harness::matching::Difference>>) {
+/// Stops at a difference and prints it.
+fn matched(result: Matched) {
     if let Err(difference) = result {
         panic!("{difference}");
     }
@@ -14,26 +17,26 @@ fn matched(result: Result<(), Box<harness::matching::Difference>>) {
 #[test]
 fn check_on_a_hundred_thousand_lists() {
     for seed in 0..100_000 {
-        matched(case(seed).check());
+        matched(any(seed).check());
     }
 }
 
-/// Both answers must have been met often, or the match above says little.
+/// Every answer must have been met often, or the match above says little.
 #[test]
 fn the_lists_meet_every_answer() {
     let mut met = [0; 18];
     for seed in 0..2_000 {
-        let lists = case(seed).lists;
+        let lists = any(seed).lists;
         match operations::check(&lists.pins, &lists.macros) {
             Ok(()) => met[0] += 1,
             Err(number) => met[number as usize] += 1,
         }
     }
     for number in [0, 11, 12, 13, 14, 15, 16, 17] {
+        let times = met[number];
         assert!(
-            met[number] >= 20,
-            "answer {number} was met {} times in 2,000 lists",
-            met[number]
+            times >= 20,
+            "answer {number} was met {times} times in 2,000 lists"
         );
     }
 }
@@ -54,11 +57,129 @@ fn check_on_every_short_length() {
         for pins in 0..140 {
             for macros in [0, 1, 2, 3, 4, 7, 8, 255, 256, 257, 260] {
                 let (pins, macros) = (vec![value; pins], vec![value; macros]);
-                assert_eq!(
+                let (ours, theirs) = (
                     library::check(&pins, &macros),
-                    operations::check(&pins, &macros)
+                    operations::check(&pins, &macros),
+                );
+                assert_eq!(
+                    ours,
+                    theirs,
+                    "{} and {} times {value}",
+                    pins.len(),
+                    macros.len()
                 );
             }
+        }
+    }
+}
+
+/// Nets of every kind up to 64 pins and 64 macros, with lent space short, exact and long.
+#[test]
+fn graph_on_twenty_thousand_nets() {
+    for seed in 0..20_000 {
+        matched(allowed(seed).graph());
+    }
+}
+
+#[test]
+fn graph_on_refused_lists() {
+    for seed in 0..5_000 {
+        matched(refused(seed).graph());
+    }
+}
+
+#[test]
+fn write_a_file_on_twenty_thousand_nets() {
+    for seed in 0..20_000 {
+        matched(allowed(seed).write_file());
+    }
+    for seed in 0..5_000 {
+        matched(refused(seed).write_file());
+    }
+}
+
+#[test]
+fn read_a_file_of_twenty_thousand_nets() {
+    for seed in 0..20_000 {
+        matched(allowed(seed).read_back());
+    }
+}
+
+#[test]
+fn read_a_hundred_thousand_damaged_files() {
+    for seed in 0..100_000 {
+        matched(file(seed).read_file());
+    }
+}
+
+/// The bytes of a file that begins as a right one, cut or filled up to a length.
+fn cut(bytes: &[u8], length: usize) -> File {
+    let mut bytes = bytes.to_vec();
+    bytes.resize(length, 0);
+    File {
+        kind: "cut at a length",
+        seed: length as u64,
+        bytes,
+    }
+}
+
+#[test]
+fn read_a_file_cut_at_every_length() {
+    for kind in [Kind::OnePin, Kind::Largest] {
+        let bytes = netfile::write(&net(kind, 1));
+        for length in 0..=3_600 {
+            matched(cut(&bytes, length).read_file());
+        }
+    }
+}
+
+/// Each word of a small file changed, with the sums put right again: by one bit, to zero, to all ones.
+#[test]
+fn read_a_file_with_each_word_changed() {
+    let lists = Lists {
+        pins: vec![3, -4, 5, 6],
+        macros: vec![-9, -9, -7, -6],
+    };
+    let bytes = netfile::write(&lists);
+    for at in 0..bytes.len() / 4 {
+        for change in [
+            |word: u32| word ^ 1,
+            |word| word ^ 0x8000_0000,
+            |_| 0,
+            |_| u32::MAX,
+        ] {
+            let mut blocks = netfile::blocks_of(&bytes);
+            let (block, word) = (at / 128, at % 128);
+            blocks[block][word] = change(blocks[block][word]);
+            if word < 126 {
+                netfile::seal(&mut blocks[block]);
+            }
+            let bytes = netfile::bytes_of(&blocks);
+            matched(
+                File {
+                    kind: "a word changed",
+                    seed: at as u64,
+                    bytes,
+                }
+                .read_file(),
+            );
+        }
+    }
+}
+
+#[test]
+fn read_blocks_of_zeros_and_ones() {
+    for fill in [0u8, 0xff] {
+        for blocks in 0..=7 {
+            let bytes = vec![fill; blocks * BLOCK_BYTES];
+            matched(
+                File {
+                    kind: "one byte over and over",
+                    seed: blocks as u64,
+                    bytes,
+                }
+                .read_file(),
+            );
         }
     }
 }

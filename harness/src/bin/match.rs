@@ -3,10 +3,20 @@
 use std::process::ExitCode;
 use std::time::{Duration, Instant};
 
-use harness::matching::case;
+use harness::matching::{any, file, Matched};
 
 const HELP: &str = "match SECONDS [SEED]: matches the proved router with the second program on random lists for some seconds, from a seed on (0).
 It prints how many were matched, or the first difference with its seed and its net.";
+
+/// Every operation on the input of one seed.
+fn all(seed: u64) -> Matched {
+    let case = any(seed);
+    case.check()?;
+    case.graph()?;
+    case.write_file()?;
+    case.read_back()?;
+    file(seed).read_file()
+}
 
 fn main() -> ExitCode {
     let words: Vec<String> = std::env::args().skip(1).collect();
@@ -23,7 +33,7 @@ fn main() -> ExitCode {
     let mut said = start;
     let mut seed = first;
     while start.elapsed() < Duration::from_secs(seconds) {
-        if let Err(difference) = case(seed).check() {
+        if let Err(difference) = all(seed) {
             println!("{difference}");
             return ExitCode::from(1);
         }
