@@ -14,6 +14,53 @@ fn example(name: &str) -> Lists {
     text::parse(&said).unwrap_or_else(|bad| panic!("{}: {bad}", file.display()))
 }
 
+/// The allowed ones, which have a net file too.
+const ALLOWED: [&str; 6] = [
+    "one-pin",
+    "around-one",
+    "three-pins",
+    "shared-side",
+    "on-sides",
+    "on-boundary",
+];
+
+/// The bytes of an example net file.
+fn example_file(name: &str) -> Vec<u8> {
+    let file = Path::new(env!("CARGO_MANIFEST_DIR")).join(format!("../examples/files/{name}.net"));
+    std::fs::read(&file).unwrap_or_else(|error| panic!("{}: {error}", file.display()))
+}
+
+/// The proved router reads the net that is in the text, and writes the same file of it.
+#[test]
+fn files_of_the_worked_nets() {
+    for name in ALLOWED {
+        let (lists, bytes) = (example(name), example_file(name));
+        let (mut pins, mut macros) = (vec![0; 128], vec![0; 256]);
+        let (m, k) = library::read_file(&bytes, &mut pins, &mut macros).expect(name);
+        assert_eq!(pins[..2 * m], lists.pins, "{name}");
+        assert_eq!(macros[..4 * k], lists.macros, "{name}");
+        let mut written = vec![0; bytes.len()];
+        assert_eq!(
+            library::write_file(&lists.pins, &lists.macros, &mut written),
+            Ok(bytes.len()),
+            "{name}"
+        );
+        assert_eq!(written, bytes, "{name}");
+    }
+}
+
+/// "eight graph edges"
+#[test]
+fn graph_of_the_second_worked_net() {
+    let Lists { pins, macros } = example("around-one");
+    let (mut vertices, mut edges) = (vec![0; 12], vec![0; 96]);
+    assert_eq!(
+        library::graph(&pins, &macros, &mut vertices, &mut edges),
+        Ok((6, 8))
+    );
+    assert_eq!(edges[..4], [0, 0, 4, -2]);
+}
+
 #[test]
 fn check_of_the_worked_nets() {
     let answers = [
