@@ -45,6 +45,7 @@ struct Sums {
     running: u32,
 }
 
+// A byte as a word.
 fn wide(b: u8) -> u32
     ensures { λ r. ⌜ (r ≡ b) × (r < 256) ⌝ }
 {
@@ -63,6 +64,7 @@ fn word_at(bytes: &[u8], i: usize) -> u32
         + wide(bytes[k + 3]) * 16777216
 }
 
+// A word stored as the i-th, low byte first.
 fn put_word(bytes: &mut [u8], i: usize, w: u32)
     requires { ⌜ i * 4 + 4 ≤ length (now bytes) ⌝ }
     ensures { λ _. ⌜ now (bytes .exit) ≡ sets (now (bytes .entry)) (i * 4) (bytesOfWord w) ⌝ }
@@ -122,6 +124,7 @@ fn seal(block: [u32; 128]) -> [u32; 128]
     t
 }
 
+// The head of a file of m pins and k macros.
 fn head_block(m: usize, k: usize) -> [u32; 128]
     requires { ⌜ (m ≤ 1000) × (k ≤ 1000) ⌝ }
     ensures { λ r. ⌜ r ≡ headBlock m k ⌝ }
@@ -150,6 +153,7 @@ fn list_block(kind: u32, w: usize, number: usize, numbers: &[i32]) -> [u32; 128]
     seal(t)
 }
 
+// A block's words stored as the block of that number.
 fn put_block(bytes: &mut [u8], number: usize, block: [u32; 128])
     requires { ⌜ (length block ≡ 128) × (number * 512 + 512 ≤ length (now bytes)) ⌝ }
     ensures { λ _. ⌜ now (bytes .exit) ≡ sets (now (bytes .entry)) (number * 512) (bytesOf block) ⌝ }
@@ -266,6 +270,7 @@ fn block_at(bytes: &[u8], b: usize) -> [u32; 128]
     t
 }
 
+// A block's word 126 or 127 is wrong.
 fn has_wrong_sums(block: [u32; 128]) -> bool
     requires { ⌜ length block ≡ 128 ⌝ }
     ensures { λ r. ⌜ r ≡ wrongSums block ⌝ }
@@ -274,6 +279,7 @@ fn has_wrong_sums(block: [u32; 128]) -> bool
     (block[126] != s.plain) | (block[127] != s.running)
 }
 
+// So it is in some block.
 fn any_wrong_sums(bytes: &[u8]) -> bool
     ensures { λ r. ⌜ r ≡ sumsWrong (now (bytes .entry)) ⌝ }
 {
@@ -327,6 +333,7 @@ fn take_numbers(bytes: &[u8], b: usize, n: usize, numbers: &mut [i32])
     }
 }
 
+// Two slices of one length hold the same bytes.
 fn same_bytes(a: &[u8], b: &[u8]) -> bool
     requires { ⌜ length (now a) ≡ length (now b) ⌝ }
     ensures { λ r. ⌜ r ≡ sameNumbers (now (a .entry)) (now (b .entry)) ⌝ }
