@@ -2,3 +2,8 @@ pub mod TestLaws
 pub mod AnyLaws
 pub mod AnyOrder
 pub mod EntryLaws
+pub mod MemberLaws
+pub mod SortedLaws
+pub mod OrderLaws
+pub mod LeastLaws
+pub mod TotalLaws

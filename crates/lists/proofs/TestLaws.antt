@@ -19,6 +19,10 @@ pub either {ℓ κ μ} : {A : Type ℓ} {B : Type κ} {C : Type μ} → (A → C
 either f g (inl a) = f a
 either f g (inr b) = g b
 
+pub not-true : (p : Bool) → not p ≡ true → p ≡ false
+not-true true e = sym e
+not-true false e = refl
+
 pub and-left : (p q : Bool) → (p && q) ≡ true → p ≡ true
 and-left true q e = refl
 and-left false q e = e

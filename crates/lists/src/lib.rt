@@ -1,1 +1,1 @@
-// Searches of lists by a test, for contracts and proofs. There is no code here.
+// Searches, membership, sorted lists and sums, for contracts and proofs. There is no code here.

@@ -1,0 +1,53 @@
+-- Items offered in an order, each with a pair of points: those that are kept, and those up to a weight.
+use mathlib.Core.Bool.{true, false, not}
+use mathlib.Core.List.{List, [], _∷_, map, reverse}
+use Prim.Native.Nat.{ℕ, _≤_}
+use lib.Dec.{ltb}
+use Rattle.lists.specs.Member.{_∈_, Once, those}
+use Rattle.joined.specs.Joined.{Joined, Joins, Inside}
+use Rattle.joined.specs.Labels.{equal, labels}
+
+-- "One is kept when its two roots are not yet joined by bridges kept before."
+-- Here the item at the head of the list is offered last, so that what is offered before it is the rest of the list.
+unfoldable pub keep : {A B : Type 0} → Discrete A → (B → A × A) → List B → List B
+keep same ends [] = []
+keep same ends (e ∷ L) =
+    let before = keep same ends L in
+    let label = labels same (map ends before) in
+    elim (equal same (label (ends e .0)) (label (ends e .1))) [ true ↦ before | false ↦ e ∷ before ]
+
+-- the items kept, in the order kept, when the item at the head of the list is offered first
+unfoldable pub kept : {A B : Type 0} → Discrete A → (B → A × A) → List B → List B
+kept same ends L = reverse (keep same ends (reverse L))
+
+module _ {B : Type 0} (weight : B → ℕ) where
+  -- "Bridges are taken by path length"
+  abbrev pub Rising : List B → Type 0
+  Rising [] = Unit {0}
+  Rising (e ∷ L) = ((d : B) → d ∈ L → weight e ≤ weight d) × Rising L
+
+  -- the same, read from the other end
+  abbrev pub Falling : List B → Type 0
+  Falling [] = Unit {0}
+  Falling (e ∷ L) = ((d : B) → d ∈ L → weight d ≤ weight e) × Falling L
+
+  -- the items above weight t, and those up to it
+  unfoldable pub heavy : ℕ → List B → List B
+  heavy t L = those (λ e. ltb t (weight e)) L
+
+  unfoldable pub light : ℕ → List B → List B
+  light t L = those (λ e. not (ltb t (weight e))) L
+
+module _ {A B : Type 0} (ends : B → A × A) (weight : B → ℕ) where
+  -- what is asked of the items that are offered to join the points X: they join them, and the lighter comes first
+  pub record Offered (X : List A) (L : List B) : Type 0 where
+    pub once : Once X
+    pub some : A
+    pub stands : some ∈ X
+    pub inside : Inside X (map ends L)
+    pub joins : Joins X (map ends L)
+    pub rising : Rising weight L
+
+  -- what is asked of a path with the given ends and length, that the items may be compared with it: those that are no longer join its ends
+  abbrev pub Dominated : List B → A × A → ℕ → Type 0
+  Dominated L e t = Joined (map ends (light weight t L)) (e .0) (e .1)
