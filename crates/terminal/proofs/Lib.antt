@@ -1,0 +1,3 @@
+pub mod EdgeLaws
+pub mod LabelLaws
+pub mod WorkedTrees

@@ -1,0 +1,43 @@
+-- `terminal::relax_all` meets its contract. The loop's invariant: the edges that are left, from the present labels, give what all give.
+-- The measure is how many they are.
+-- Assumes nothing.
+use mathlib.Core.Path.{_≡_}
+use Prim.Native.Nat.{ℕ, _≤_, _<_, _-_}
+use native.Mathlib.Omega.{arith}
+use Rattle.terminal.specs.Edges.{graph, from}
+use Rattle.terminal.specs.Labels.{labels}
+use Rattle.terminal.proofs.EdgeLaws.{all-left, from-next, from-end}
+use Rattle.terminal.proofs.LabelLaws.{Passing, pass-none, pass-more, pass-end}
+use Rattle.terminal.proofs.relax_all.Statement.{statement}
+use Rattle.terminal.proofs.relax_all.Tie as tie
+
+abbrev Inv-loop : tie.InvT-loop
+Inv-loop ea eb el e far₀ root₀ moved₀ k₀ far root moved k = (k ≤ e) × Passing (graph ea eb el e) (from 0 e) (labels far₀ root₀) (from k (e - k)) (labels far root) moved
+
+abbrev μ-loop : tie.MeasureT-loop
+μ-loop ea eb el e far₀ root₀ moved₀ k₀ far root moved k = e - k
+
+loop-holds : tie.Need-loop-holds Inv-loop μ-loop
+loop-holds c = (omega arith, rw (all-left (c .args .e)) (pass-none _ _ _ (c .pre .1)))
+
+relax-edge-requires : tie.Need-relax-edge-requires Inv-loop μ-loop
+relax-edge-requires c κs = (c .before .before .before .before .pre .0, (c .before .before .loop-test .taken, c .before .before .before .loop .inv .1 .low))
+
+add-k : tie.Need-add-k Inv-loop μ-loop
+add-k c = omega arith
+
+loop-less : tie.Need-loop-less Inv-loop μ-loop
+loop-less c = omega arith
+
+loop-again : tie.Need-loop-again Inv-loop μ-loop
+loop-again c =
+    let l = c .before .before .before .before in
+    (omega arith, pass-more _ _ _ _ _ _ (l .loop .inv .1) _ _ _ _ (from-next _ _ (c .before .before .before .loop-test .taken)) (c .relax-edge .ensures))
+
+returns : tie.Need-returns Inv-loop μ-loop
+returns c = pass-end _ _ _ _ _ _ (c .before .loop .inv .1) (from-end _ _ (c .loop-test .left))
+
+pub relax-all-spec : {M : Type 1} → statement M
+relax-all-spec =
+    tie.close
+    (tie.spec Inv-loop μ-loop loop-holds relax-edge-requires add-k loop-less loop-again returns)

@@ -1,0 +1,23 @@
+-- The kept bridges, and the terminal tree as a whole.
+use mathlib.Core.List.{List, map}
+use Prim.Native.Nat.{ℕ}
+use Rattle.lists.specs.Total.{total}
+use Rattle.joined.specs.Table.{keptBy}
+use Rattle.terminal.specs.Bounds.{pointBound}
+use Rattle.terminal.specs.Edges.{Graph, from}
+use Rattle.terminal.specs.Labels.{Labels, labelled}
+use Rattle.terminal.specs.Parents.{Parents, parented}
+use Rattle.terminal.specs.Bridges.{rootsOf, pathLength, bridges}
+
+-- "One is kept when its two roots are not yet joined by bridges kept before." Pins have the same group when they are joined; at first each
+-- vertex is its own group.
+unfoldable pub kept : Graph → Labels → Parents → List ℕ
+kept g t p = keptBy (rootsOf g t) (bridges g t p) (from 0 pointBound)
+
+-- "for each kept path its own length, every edge of it counted"
+unfoldable pub keptLengths : Graph → Labels → Parents → List ℕ
+keptLengths g t p = map (pathLength g t p) (kept g t p)
+
+-- "and for the total their sum"
+unfoldable pub keptTotal : Graph → Labels → Parents → ℕ
+keptTotal g t p = total (keptLengths g t p)

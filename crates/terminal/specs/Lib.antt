@@ -1,0 +1,6 @@
+pub mod Bounds
+pub mod Edges
+pub mod Labels
+pub mod Parents
+pub mod Bridges
+pub mod Kept

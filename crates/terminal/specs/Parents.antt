@@ -1,0 +1,89 @@
+-- Parents, and the way to the root.
+--
+-- "Its parent, where it is no pin, is the smallest neighbour with the same root through which a shortest way to that root runs."
+-- Through w a shortest way of v runs when w has v's root and w's distance with the edge between them is v's distance. Pins have no parent:
+-- none of their neighbours is nearer.
+use mathlib.Core.Path.{_≡_}
+use mathlib.Core.Bool.{Bool, true, false, _&&_}
+use mathlib.Core.List.{List, [], _∷_, map}
+use Prim.Native.Nat.{ℕ, zero, suc, _+_, _<_}
+use lib.Dec.{ltb, eqb}
+use lib.ListN.{getD, replicate}
+use Rattle.lists.specs.Total.{total}
+use Rattle.terminal.specs.declared.Step.{Step}
+use Rattle.terminal.specs.Bounds.{pointBound, edgeBound}
+use Rattle.terminal.specs.Edges.{Graph, one, two, len, from, filled}
+use Rattle.terminal.specs.Labels.{Labels, far, root}
+
+-- the step to a vertex over an edge
+abbrev pub step : ℕ → ℕ → Step
+step w k = record { to = w; via = k }
+
+-- no step: its vertex and its edge are none
+abbrev pub none : Step
+none = step pointBound edgeBound
+
+-- w has v's root, and a shortest way of v runs through w, over an edge of length d
+unfoldable pub leads : Labels → ℕ → ℕ → ℕ → Bool
+leads t w v d = eqb (root t w) (root t v) && eqb (far t w + d) (far t v)
+
+-- the step to w over edge k, where that leads and w is smaller
+unfoldable pub nearer : Graph → Labels → ℕ → ℕ → ℕ → Step → Step
+nearer g t v w k best = elim (leads t w v (len g k) && ltb w (best .to)) [ true ↦ step w k | false ↦ best ]
+
+-- the same for the other end of edge k, where v is an end of it
+unfoldable pub through : Graph → Labels → ℕ → ℕ → Step → Step
+through g t v k best =
+    elim (eqb v (one g k)) [
+      | true ↦ nearer g t v (two g k) k best
+      | false ↦ elim (eqb v (two g k)) [ true ↦ nearer g t v (one g k) k best | false ↦ best ]
+    ]
+
+unfoldable pub parentAmong : Graph → Labels → ℕ → List ℕ → Step → Step
+parentAmong g t v [] best = best
+parentAmong g t v (k ∷ ks) best = parentAmong g t v ks (through g t v k best)
+
+-- the step from v to its parent
+unfoldable pub parent : Graph → Labels → ℕ → Step
+parent g t v = parentAmong g t v (from 0 (g .count)) none
+
+-- for each vertex the parent, and the edge to it
+pub record Parents : Type 0 where
+  pub ups : List ℕ
+  pub vias : List ℕ
+
+abbrev pub parents : List ℕ → List ℕ → Parents
+parents u o = record { ups = u; vias = o }
+
+abbrev pub up : Parents → ℕ → ℕ
+up p v = getD (p .ups) v 0
+
+abbrev pub via : Parents → ℕ → ℕ
+via p v = getD (p .vias) v 0
+
+abbrev pub orphans : Parents
+orphans = parents (replicate pointBound pointBound) (replicate pointBound edgeBound)
+
+-- the parents of the vertices below n
+unfoldable pub parented : Graph → ℕ → Labels → Parents
+parented g n t =
+    parents
+    (filled (λ v. parent g t v .to) 0 n (orphans .ups))
+    (filled (λ v. parent g t v .via) 0 n (orphans .vias))
+
+-- "A vertex's way to its root follows parents until the root": the edges on it, n at most
+unfoldable pub wayOf : Parents → ℕ → ℕ → List ℕ
+wayOf p zero v = []
+wayOf p (suc n) v = elim (ltb (up p v) pointBound) [ true ↦ via p v ∷ wayOf p n (up p v) | false ↦ [] ]
+
+-- the distance falls with each step, so there are no more steps than it
+unfoldable pub way : Labels → Parents → ℕ → List ℕ
+way t p v = wayOf p (far t v) v
+
+unfoldable pub wayLength : Graph → Labels → Parents → ℕ → ℕ
+wayLength g t p v = total (map (len g) (way t p v))
+
+-- What the recursion along parents leans on: a step goes to a vertex, over an edge of the graph, and the distance falls by its length
+pub record Falls (g : Graph) (t : Labels) (p : Parents) : Type 0 where
+  pub edge : (v : ℕ) → v < pointBound → up p v < pointBound → via p v < g .count
+  pub falls : (v : ℕ) → v < pointBound → up p v < pointBound → far t (up p v) + len g (via p v) ≡ far t v
