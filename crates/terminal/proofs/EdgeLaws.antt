@@ -1,10 +1,12 @@
 -- Numbers and entries read one after the other, tables filled upwards, and bounds that a store keeps.
 -- Assumes nothing.
 use mathlib.Core.Path.{_≡_, refl, sym, ap, _∙_}
-use mathlib.Core.List.{List, [], _∷_}
+use mathlib.Core.List.{List, [], _∷_, List·Memᴰ·cases-cons}
 use Prim.Native.Nat.{ℕ, zero, suc, _+_, _-_, _≤_, _<_}
 use native.Mathlib.Omega.{arith}
 use native.Mathlib.Numerals.{add-one}
+use borrow.Author.Tests.{eqb-true, eqb-false, ltb-true, ltb-false}
+use lib.Dec.{eqb, ltb}
 use lib.ListN.{length, getD, set, replicate, length-set}
 use lib.Seq.{getD-set-same, getD-set-other}
 use Rattle.lists.specs.Member.{_∈_, here, there}
@@ -38,6 +40,23 @@ module _ (k n : ℕ) where
 pub all-left : (n : ℕ) → n - 0 ≡ n
 all-left n = omega arith
 
+pub of-from : (k n j : ℕ) → j ∈ from k n → (k ≤ j) × (j < k + n)
+unfolding from
+of-from k zero j m = elim m [ ]
+of-from k (suc n) j m =
+    either (λ e. (omega arith, omega arith)) (λ i. let r = of-from (suc k) n j i in (omega arith, omega arith)) (List·Memᴰ·cases-cons m)
+
+pub below-from : (n j : ℕ) → j ∈ from 0 n → j < n
+below-from n j m = omega (arith, of-from 0 n j m .1)
+
+pub in-from : (k n j : ℕ) → k ≤ j → j < k + n → j ∈ from k n
+unfolding from
+in-from k zero j h i = absurd (let z : ⊥ = omega arith in z)
+in-from k (suc n) j h i =
+    by (eqb j k)
+    (λ e. here (eqb-true j k e))
+    (λ e. let d = eqb-false j k e in there (in-from (suc k) n j (omega (arith, d)) (omega arith)))
+
 -- Tables filled upwards
 
 -- one more store
@@ -58,28 +77,34 @@ unfolding filled
 length-filled f i zero xs = refl
 length-filled f i (suc n) xs = length-filled f (suc i) n (set xs i (f i)) ∙ length-set xs i (f i)
 
-pub filled-before : (f : ℕ → ℕ) (i n : ℕ) (xs : List ℕ) (k : ℕ) → k < i → getD (filled f i n xs) k 0 ≡ getD xs k 0
+filled-before : (f : ℕ → ℕ) (i n : ℕ) (xs : List ℕ) (k : ℕ) → k < i → getD (filled f i n xs) k 0 ≡ getD xs k 0
 unfolding filled
 filled-before f i zero xs k h = refl
 filled-before f i (suc n) xs k h =
     filled-before f (suc i) n (set xs i (f i)) k (omega arith) ∙ getD-set-other xs i k (f i) 0 (λ e. omega arith)
 
-pub filled-past : (f : ℕ → ℕ) (i n : ℕ) (xs : List ℕ) (k : ℕ) → i + n ≤ k → getD (filled f i n xs) k 0 ≡ getD xs k 0
+filled-past : (f : ℕ → ℕ) (i n : ℕ) (xs : List ℕ) (k : ℕ) → i + n ≤ k → getD (filled f i n xs) k 0 ≡ getD xs k 0
 unfolding filled
 filled-past f i zero xs k h = refl
 filled-past f i (suc n) xs k h =
     filled-past f (suc i) n (set xs i (f i)) k (omega arith) ∙ getD-set-other xs i k (f i) 0 (λ e. omega arith)
 
-pub filled-at : (f : ℕ → ℕ) (i n : ℕ) (xs : List ℕ) (j : ℕ) → i + n ≤ length xs → j < n → getD (filled f i n xs) (i + j) 0 ≡ f (i + j)
+filled-at : (f : ℕ → ℕ) (i n : ℕ) (xs : List ℕ) (j : ℕ) → i + n ≤ length xs → i ≤ j → j < i + n → getD (filled f i n xs) j 0 ≡ f j
 unfolding filled
-filled-at f i zero xs j r h = absurd (let z : ⊥ = omega arith in z)
-filled-at f i (suc n) xs zero r h =
-    let e : i + 0 ≡ i = omega arith in
-    rw e (filled-before f (suc i) n (set xs i (f i)) i (omega arith) ∙ getD-set-same xs i (f i) 0 (omega arith))
-filled-at f i (suc n) xs (suc j) r h =
-    let e : i + suc j ≡ suc i + j = omega arith in
-    let l = length-set xs i (f i) in
-    rw e (filled-at f (suc i) n (set xs i (f i)) j (omega arith) (omega arith))
+filled-at f i zero xs j r h k = absurd (let z : ⊥ = omega arith in z)
+filled-at f i (suc n) xs j r h k =
+    by (ltb i j)
+    (λ e. filled-at f (suc i) n (set xs i (f i)) j (omega (arith, length-set xs i (f i))) (omega (arith, ltb-true i j e)) (omega arith))
+    (λ e.
+    let q : j ≡ i = omega (arith, ltb-false i j e) in
+    rw q (filled-before f (suc i) n (set xs i (f i)) i (omega arith) ∙ getD-set-same xs i (f i) 0 (omega arith)))
+
+module _ (f : ℕ → ℕ) (n : ℕ) (xs : List ℕ) (j : ℕ) where
+  pub filled-here : n ≤ length xs → j < n → getD (filled f 0 n xs) j 0 ≡ f j
+  filled-here r h = filled-at f 0 n xs j (omega arith) (omega arith) (omega arith)
+
+  pub filled-beyond : n ≤ j → getD (filled f 0 n xs) j 0 ≡ getD xs j 0
+  filled-beyond h = filled-past f 0 n xs j (omega arith)
 
 -- Bounds of all entries, the default past the end included
 
@@ -100,3 +125,8 @@ below-replicate b n x h = record { below = at n }
     at zero i = omega arith
     at (suc m) zero = h
     at (suc m) (suc i) = at m i
+
+pub below-filled : (b : ℕ) (f : ℕ → ℕ) (i n m : ℕ) (xs : List ℕ) → i + n ≤ m → ((k : ℕ) → k < m → f k < b) → Below b xs → Below b (filled f i n xs)
+unfolding filled
+below-filled b f i zero m xs l h s = s
+below-filled b f i (suc n) m xs l h s = below-filled b f (suc i) n m (set xs i (f i)) (omega arith) h (below-set b xs i (f i) (h i (omega arith)) s)

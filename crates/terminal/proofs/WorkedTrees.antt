@@ -10,9 +10,9 @@ use Rattle.lists.specs.Total.{total}
 use Rattle.joined.specs.Table.{changed, keptBy}
 use Rattle.terminal.specs.Edges.{Graph, graph, from, filled}
 use Rattle.terminal.specs.Labels.{Labels, better, gains, offer, relaxEdge, moves, relax, changes, settled, starts, labelled}
-use Rattle.terminal.specs.Parents.{leads, nearer, through, parentAmong, parent, parented, wayOf, way, wayLength}
+use Rattle.terminal.specs.Parents.{leads, nearer, through, parentAmong, parent, adopted, parented, wayOf, way, wayLength}
 use Rattle.terminal.specs.Bridges.{sameRoot, path, pathLength, weights, earlier, bridgesFrom, bridges}
-use Rattle.terminal.specs.Kept.{kept, keptLengths, keptTotal}
+use Rattle.terminal.specs.Kept.{kept, keptLengths, terminal}
 
 -- the labels and the parents of a graph of n vertices, those of the vertices alone
 pub record Forest : Type 0 where
@@ -22,7 +22,7 @@ pub record Forest : Type 0 where
   pub edge : List ℕ
 
 unfoldable pub forest : Graph → ℕ → List ℕ → Forest
-unfolding labelled settled changes moves relax relaxEdge offer gains better starts parented parent parentAmong through nearer leads filled from
+unfolding labelled settled changes moves relax relaxEdge offer gains better starts parented adopted parent parentAmong through nearer leads filled from
 forest g n pins =
     let t = labelled g n pins in
     let p = parented g n t in
@@ -36,12 +36,11 @@ pub record Tree : Type 0 where
 
 unfoldable pub tree : Graph → ℕ → List ℕ → Tree
 unfolding
-    labelled settled changes moves relax relaxEdge offer gains better starts parented parent parentAmong through nearer leads filled from
-    wayOf way sameRoot path pathLength weights earlier firstThen put sorted those bridgesFrom bridges keptBy changed kept keptLengths keptTotal total
+    labelled settled changes moves relax relaxEdge offer gains better starts parented adopted parent parentAmong through nearer leads filled from
+    wayOf way sameRoot path pathLength weights earlier firstThen put sorted those bridgesFrom bridges keptBy changed kept keptLengths total terminal
 tree g n pins =
-    let t = labelled g n pins in
-    let p = parented g n t in
-    record { kept = kept g t p; lengths = keptLengths g t p; total = keptTotal g t p }
+    let r = terminal g n pins in
+    record { kept = r .bridges; lengths = r .lengths; total = r .total }
 
 -- "Pins (0, 0), (10, 0), macro 4, −2, 6, 3: eight graph edges; one path, bridge (4, −2)–(6, −2), length 14"
 unfoldable pub aroundOne : Graph

@@ -19,3 +19,7 @@ lengthBound = 4000000
 -- the distance of a vertex that no pin has reached: above every length of a way
 abbrev pub unreached : ℕ
 unreached = 1099511627776
+
+-- above every path's length, whatever the graph
+abbrev pub pathBound : ℕ
+pathBound = 4398046511104

@@ -1,7 +1,9 @@
 -- The graph as tables: a vertex is its number in the order of places, and edge k has two ends and a length.
+use mathlib.Core.Path.{_≡_}
 use mathlib.Core.List.{List, [], _∷_}
 use Prim.Native.Nat.{ℕ, zero, suc, _≤_, _<_}
-use lib.ListN.{getD, set}
+use lib.ListN.{length, getD, set}
+use Rattle.lent.specs.Over.{over}
 use Rattle.terminal.specs.Bounds.{pointBound, edgeBound, lengthBound}
 
 -- the ends of the edges, smaller ones and greater ones, their lengths, and how many edges there are
@@ -55,3 +57,8 @@ pub record Below (n : ℕ) (xs : List ℕ) : Type 0 where
 -- the first m entries are numbers below n
 pub record Pins (xs : List ℕ) (m n : ℕ) : Type 0 where
   pub inside : (i : ℕ) → i < m → getD xs i 0 < n
+
+-- a lent table holds xs over what stood there, n of them
+pub record Listed (xs lent table : List ℕ) (n : ℕ) : Type 0 where
+  pub count : n ≡ length xs
+  pub table-is : table ≡ over xs lent

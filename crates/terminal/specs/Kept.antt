@@ -18,6 +18,17 @@ kept g t p = keptBy (rootsOf g t) (bridges g t p) (from 0 pointBound)
 unfoldable pub keptLengths : Graph → Labels → Parents → List ℕ
 keptLengths g t p = map (pathLength g t p) (kept g t p)
 
--- "and for the total their sum"
-unfoldable pub keptTotal : Graph → Labels → Parents → ℕ
-keptTotal g t p = total (keptLengths g t p)
+-- The labels, the parents, the kept bridges with the lengths of their paths, "and for the total their sum"
+pub record Terminal : Type 0 where
+  pub labels : Labels
+  pub parents : Parents
+  pub bridges : List ℕ
+  pub lengths : List ℕ
+  pub total : ℕ
+
+-- the terminal tree of a graph of n vertices with these pins
+unfoldable pub terminal : Graph → ℕ → List ℕ → Terminal
+terminal g n pins =
+    let t = labelled g n pins in
+    let p = parented g n t in
+    record { labels = t; parents = p; bridges = kept g t p; lengths = keptLengths g t p; total = total (keptLengths g t p) }

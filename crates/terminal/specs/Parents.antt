@@ -27,16 +27,16 @@ none = step pointBound edgeBound
 unfoldable pub leads : Labels → ℕ → ℕ → ℕ → Bool
 leads t w v d = eqb (root t w) (root t v) && eqb (far t w + d) (far t v)
 
--- the step to w over edge k, where that leads and w is smaller
-unfoldable pub nearer : Graph → Labels → ℕ → ℕ → ℕ → Step → Step
-nearer g t v w k best = elim (leads t w v (len g k) && ltb w (best .to)) [ true ↦ step w k | false ↦ best ]
+-- the step from v to w over edge k of length d, where that leads and w is smaller
+unfoldable pub nearer : Labels → ℕ → ℕ → ℕ → ℕ → Step → Step
+nearer t v w k d best = elim (leads t w v d && ltb w (best .to)) [ true ↦ step w k | false ↦ best ]
 
 -- the same for the other end of edge k, where v is an end of it
 unfoldable pub through : Graph → Labels → ℕ → ℕ → Step → Step
 through g t v k best =
     elim (eqb v (one g k)) [
-      | true ↦ nearer g t v (two g k) k best
-      | false ↦ elim (eqb v (two g k)) [ true ↦ nearer g t v (one g k) k best | false ↦ best ]
+      | true ↦ nearer t v (two g k) k (len g k) best
+      | false ↦ elim (eqb v (two g k)) [ true ↦ nearer t v (one g k) k (len g k) best | false ↦ best ]
     ]
 
 unfoldable pub parentAmong : Graph → Labels → ℕ → List ℕ → Step → Step
@@ -64,12 +64,12 @@ via p v = getD (p .vias) v 0
 abbrev pub orphans : Parents
 orphans = parents (replicate pointBound pointBound) (replicate pointBound edgeBound)
 
--- the parents of the vertices below n
+-- the vertices below n get their parents
+unfoldable pub adopted : Graph → ℕ → Labels → Parents → Parents
+adopted g n t p = parents (filled (λ v. parent g t v .to) 0 n (p .ups)) (filled (λ v. parent g t v .via) 0 n (p .vias))
+
 unfoldable pub parented : Graph → ℕ → Labels → Parents
-parented g n t =
-    parents
-    (filled (λ v. parent g t v .to) 0 n (orphans .ups))
-    (filled (λ v. parent g t v .via) 0 n (orphans .vias))
+parented g n t = adopted g n t orphans
 
 -- "A vertex's way to its root follows parents until the root": the edges on it, n at most
 unfoldable pub wayOf : Parents → ℕ → ℕ → List ℕ
