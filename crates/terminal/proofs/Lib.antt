@@ -4,4 +4,5 @@ pub mod ParentLaws
 pub mod WayLaws
 pub mod BridgeLaws
 pub mod KeptLaws
+pub mod WholeLaws
 pub mod WorkedTrees

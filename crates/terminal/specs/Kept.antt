@@ -11,12 +11,12 @@ use Rattle.terminal.specs.Bridges.{rootsOf, pathLength, bridges}
 
 -- "One is kept when its two roots are not yet joined by bridges kept before." Pins have the same group when they are joined; at first each
 -- vertex is its own group.
-unfoldable pub kept : Graph → Labels → Parents → List ℕ
-kept g t p = keptBy (rootsOf g t) (bridges g t p) (from 0 pointBound)
+unfoldable pub keptBridges : Graph → Labels → Parents → List ℕ
+keptBridges g t p = keptBy (rootsOf g t) (bridges g t p) (from 0 pointBound)
 
 -- "for each kept path its own length, every edge of it counted"
 unfoldable pub keptLengths : Graph → Labels → Parents → List ℕ
-keptLengths g t p = map (pathLength g t p) (kept g t p)
+keptLengths g t p = map (pathLength g t p) (keptBridges g t p)
 
 -- The labels, the parents, the kept bridges with the lengths of their paths, "and for the total their sum"
 pub record Terminal : Type 0 where
@@ -31,4 +31,4 @@ unfoldable pub terminal : Graph → ℕ → List ℕ → Terminal
 terminal g n pins =
     let t = labelled g n pins in
     let p = parented g n t in
-    record { labels = t; parents = p; bridges = kept g t p; lengths = keptLengths g t p; total = total (keptLengths g t p) }
+    record { labels = t; parents = p; bridges = keptBridges g t p; lengths = keptLengths g t p; total = total (keptLengths g t p) }
