@@ -5,4 +5,5 @@ pub mod WayLaws
 pub mod BridgeLaws
 pub mod KeptLaws
 pub mod WholeLaws
+pub mod Offers
 pub mod WorkedTrees

@@ -31,3 +31,4 @@ pub mod Labels
 pub mod Parents
 pub mod Bridges
 pub mod Kept
+pub mod Setting
