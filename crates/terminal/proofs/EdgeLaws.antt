@@ -40,6 +40,11 @@ module _ (k n : ℕ) where
 pub all-left : (n : ℕ) → n - 0 ≡ n
 all-left n = omega arith
 
+pub length-from : (k n : ℕ) → length (from k n) ≡ n
+unfolding from
+length-from k zero = refl
+length-from k (suc n) = ap suc (length-from (suc k) n)
+
 pub of-from : (k n j : ℕ) → j ∈ from k n → (k ≤ j) × (j < k + n)
 unfolding from
 of-from k zero j m = elim m [ ]

@@ -6,4 +6,5 @@ pub mod BridgeLaws
 pub mod KeptLaws
 pub mod WholeLaws
 pub mod Offers
+pub mod Nearest
 pub mod WorkedTrees
