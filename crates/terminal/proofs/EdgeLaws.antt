@@ -45,6 +45,12 @@ unfolding from
 length-from k zero = refl
 length-from k (suc n) = ap suc (length-from (suc k) n)
 
+pub getD-from : (k n j : ℕ) → j < n → getD (from k n) j 0 ≡ k + j
+unfolding from
+getD-from k zero j h = absurd (let z : ⊥ = omega arith in z)
+getD-from k (suc n) zero h = omega arith
+getD-from k (suc n) (suc j) h = omega (arith, getD-from (suc k) n j (omega arith))
+
 pub of-from : (k n j : ℕ) → j ∈ from k n → (k ≤ j) × (j < k + n)
 unfolding from
 of-from k zero j m = elim m [ ]

@@ -7,4 +7,6 @@ pub mod KeptLaws
 pub mod WholeLaws
 pub mod Offers
 pub mod Nearest
+pub mod Homeward
+pub mod OurTree
 pub mod WorkedTrees

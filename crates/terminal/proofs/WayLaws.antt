@@ -19,15 +19,15 @@ use Rattle.terminal.specs.Parents.{Parents, up, via, wayOf, way, wayLeng
 use Rattle.terminal.specs.Bridges.{path, pathLength}
 
 module _ (p : Parents) (n v : ℕ) where
-  way-stop : pointBound ≤ up p v → wayOf p (suc n) v ≡ []
+  pub way-stop : pointBound ≤ up p v → wayOf p (suc n) v ≡ []
   unfolding wayOf
   way-stop h = rw (wayOf, le-ltb (up p v) pointBound h) refl
 
-  way-go : up p v < pointBound → wayOf p (suc n) v ≡ via p v ∷ wayOf p n (up p v)
+  pub way-go : up p v < pointBound → wayOf p (suc n) v ≡ via p v ∷ wayOf p n (up p v)
   unfolding wayOf
   way-go h = rw (wayOf, lt-ltb (up p v) pointBound h) refl
 
-way-none : (p : Parents) (n v : ℕ) → pointBound ≤ up p v → wayOf p n v ≡ []
+pub way-none : (p : Parents) (n v : ℕ) → pointBound ≤ up p v → wayOf p n v ≡ []
 unfolding wayOf
 way-none p zero v h = refl
 way-none p (suc n) v h = way-stop p n v h
