@@ -3,7 +3,7 @@
 -- scan finds a parent; along parents the distance falls, so a way is loop-free, has no pin but its last vertex, and is as long as the
 -- distance.
 -- Assumes nothing.
-use mathlib.Core.Path.{_≡_, refl, sym, ap, _∙_, subst}
+use mathlib.Core.Path.{_≡_, refl, sym, ap, ap₂, _∙_, subst}
 use mathlib.Core.Bool.{Bool, true, false}
 use mathlib.Core.Logic.{_⊎_, inl, inr}
 use mathlib.Core.List.{List, [], _∷_, map, List·Memᴰ·cases-cons}
@@ -18,16 +18,17 @@ use Rattle.lists.proofs.TestLaws.{either}
 use Rattle.lists.proofs.MemberLaws.{is-in}
 use Rattle.joined.specs.Joined.{Link, Alike}
 use Rattle.joined.specs.Way.{Way, stop, go, long}
+use Rattle.joined.proofs.WayLaws.{way-more}
 use Rattle.terminal.specs.declared.Step.{Step}
 use Rattle.terminal.specs.Bounds.{pointBound}
 use Rattle.terminal.specs.Edges.{Graph, one, two, len, from}
 use Rattle.terminal.specs.Labels.{Labels, far, root, labelled}
 use Rattle.terminal.specs.Parents.{none, parent, Parents, up, via, parented, wayOf, way, wayLength}
-use Rattle.terminal.specs.Setting.{pairs, Setting, Whole}
+use Rattle.terminal.specs.Setting.{ends, pairs, Setting, Whole}
 use Rattle.terminal.proofs.EdgeLaws.{below-from, in-from}
 use Rattle.terminal.proofs.ParentLaws.{Candidate, Found, parent-found, parented-up, parented-via}
 use Rattle.terminal.proofs.WayLaws.{way-go, way-none}
-use Rattle.terminal.proofs.Nearest.{fits, Joint, joint, edge-link, edge-long, link-in, best, closed, Reached, reached, all-reached}
+use Rattle.terminal.proofs.Nearest.{fits, edges-among, joint, edge-link, edge-long, link-in, best, closed, Reached, reached, all-reached}
 
 -- the vertices after v on its way, n at most
 unfoldable pub climb : Parents → ℕ → ℕ → List ℕ
@@ -221,7 +222,8 @@ module _ {g : Graph} {n : ℕ} {d : ℕ → ℕ → ℕ} {pins : List ℕ} (s : 
 
   -- ps are the vertices after v on its way to its root, and es the edges
   pub record Home (v : ℕ) (ps es : List ℕ) : Type 0 where
-    pub way : Way (pairs g) v ps (root T v)
+    pub along : Way (map (ends g) es) v ps (root T v)
+    pub inside : (k : ℕ) → k ∈ es → k < g .count
     pub length-is : long d v ps ≡ far T v
     pub edges-are : total (map (len g) es) ≡ far T v
     pub falling : Falling v ps
@@ -232,7 +234,8 @@ module _ {g : Graph} {n : ℕ} {d : ℕ → ℕ → ℕ} {pins : List ℕ} (s : 
   at-pin v m =
       let l = pin-label v m in
       record {
-        way = stop (sym (l .1));
+        along = stop (sym (l .1));
+        inside = λ k i. elim i [ ];
         length-is = sym (l .0);
         edges-are = sym (l .0);
         falling = tt;
@@ -240,19 +243,26 @@ module _ {g : Graph} {n : ℕ} {d : ℕ → ℕ → ℕ} {pins : List ℕ} (s : 
       }
 
   one-up : (v : ℕ) (ps es : List ℕ) → Parent v → Home (up P v) ps es → Home v (up P v ∷ ps) (via P v ∷ es)
-  unfolding long total
+  unfolding long total ends
   one-up v ps es p r =
       let o = p .is in
       let i = link-in s v (up P v) (o .link) in
       let c = i .some in
       let e = edge-long s v (up P v) (via P v) (p .edge) (p .ends-are) in
       record {
-        way = go (o .link) (subst (λ (z : ℕ). Way (pairs g) (up P v) ps z) (o .same-root) (r .way));
+        along =
+            go (first-link (p .ends-are))
+            (way-more (λ q m. there m) (subst (λ (z : ℕ). Way (map (ends g) es) (up P v) ps z) (o .same-root) (r .along)));
+        inside = λ k m. either (λ q. rw q (p .edge)) (λ q. r .inside k q) (List·Memᴰ·cases-cons m);
         length-is = omega (arith, r .length-is, o .nearer);
         edges-are = omega (arith, r .edges-are, o .nearer);
         falling = (omega (arith, o .nearer), r .falling);
         alike = λ z m. either (λ q. ap (root T) q) (λ q. r .alike z q ∙ o .same-root) (List·Memᴰ·cases-cons m);
       }
+    where
+      first-link : Alike v (up P v) (one g (via P v)) (two g (via P v)) → Link (map (ends g) (via P v ∷ es)) v (up P v)
+      first-link (inl e) = inl (here (ap₂ (λ (a b : ℕ). (a, b)) (e .0) (e .1)))
+      first-link (inr e) = inr (here (ap₂ (λ (a b : ℕ). (a, b)) (e .1) (e .0)))
 
   home : (k v : ℕ) → v < n → far T v ≤ k → Home v (climb P k v) (wayOf P k v)
   home zero v h l = at (is-in ℕ-discrete v pins)
@@ -283,6 +293,10 @@ module _ {g : Graph} {n : ℕ} {d : ℕ → ℕ → ℕ} {pins : List ℕ} (s : 
   pub way-home : (v : ℕ) → v < n → Home v (wayPoints v) (way T P v)
   unfolding way
   way-home v h = home (far T v) v h (omega arith)
+
+  -- it runs along edges of the graph
+  pub way-runs : (v : ℕ) → v < n → Way (pairs g) v (wayPoints v) (root T v)
+  way-runs v h = let r = way-home v h in way-more (edges-among s (way T P v) (r .inside)) (r .along)
 
   pub way-once : (v : ℕ) → v < n → Once (v ∷ wayPoints v)
   way-once v h = falling-once v (wayPoints v) (way-home v h .falling)

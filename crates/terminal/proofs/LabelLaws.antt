@@ -11,7 +11,7 @@ use lib.ListN.{getD, set, replicate}
 use borrow.Author.Tests.{ltb-true, ltb-false}
 use Rattle.lists.proofs.TestLaws.{by, differ, or-none}
 use Rattle.terminal.specs.Bounds.{pointBound, unreached}
-use Rattle.terminal.specs.Edges.{Graph, one, two, len, from, entries, Pins, Below}
+use Rattle.terminal.specs.Edges.{Graph, one, two, len, from, entries, FirstBelow, Below}
 use Rattle.terminal.specs.Labels.{
   Labels,
   labels,
@@ -121,7 +121,7 @@ fine-unlabelled = record {
   rooted = below-replicate _ pointBound _ (omega arith);
 }
 
-fine-pins : (pins : List ℕ) (i n m : ℕ) (t : Labels) → i + n ≤ m → Pins pins m pointBound → Fine t → Fine (starts (entries pins i n) t)
+fine-pins : (pins : List ℕ) (i n m : ℕ) (t : Labels) → i + n ≤ m → FirstBelow pins m pointBound → Fine t → Fine (starts (entries pins i n) t)
 unfolding starts entries
 fine-pins pins i zero m t h s f = f
 fine-pins pins i (suc n) m t h s f =
@@ -130,7 +130,7 @@ fine-pins pins i (suc n) m t h s f =
       rooted = below-set _ (t .roots) _ _ (s .inside i (omega arith)) (f .rooted);
     })
 
-pub fine-starts : (pins : List ℕ) (m : ℕ) (t t′ : Labels) → t′ ≡ starts (entries pins 0 m) t → Pins pins m pointBound → Fine t → Fine t′
+pub fine-starts : (pins : List ℕ) (m : ℕ) (t t′ : Labels) → t′ ≡ starts (entries pins 0 m) t → FirstBelow pins m pointBound → Fine t → Fine t′
 fine-starts pins m t t′ e s f = rw e (fine-pins pins 0 m m t (omega arith) s f)
 
 -- A pass over edges
@@ -209,7 +209,7 @@ module _ (g : Graph) (ks : List ℕ) where
     unfolding settled
     settle-end e = sym (rw e refl) ∙ s .table
 
--- Pins, one after the other
+-- FirstBelow, one after the other
 
 pub start-more : (pins : List ℕ) (i m : ℕ) (fars roots : List ℕ) (all : Labels) → starts (entries pins i (m - i)) (labels fars roots) ≡ all → i < m →
     starts (entries pins (i + 1) (m - (i + 1))) (labels (set fars (getD pins i 0) 0) (set roots (getD pins i 0) (getD pins i 0))) ≡ all

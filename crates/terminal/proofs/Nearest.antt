@@ -4,7 +4,7 @@
 -- Assumes nothing.
 use mathlib.Core.Path.{_≡_, refl, sym, ap, ap₂, _∙_, subst}
 use mathlib.Core.Logic.{_⊎_, inl, inr}
-use mathlib.Core.List.{List, [], _∷_, List·Memᴰ·cases-cons, Memᴰ·cast}
+use mathlib.Core.List.{List, [], _∷_, map, List·Memᴰ·cases-cons}
 use Prim.Native.Nat.{ℕ, zero, suc, _+_, _*_, _≤_, _<_}
 use native.Mathlib.Decide.{ℕ-discrete, decLe}
 use native.Mathlib.Omega.{arith}
@@ -12,7 +12,7 @@ use lib.ListN.{length, getD, set, replicate, length-set, length-replicate, getD-
 use lib.Seq.{getD-set-same, getD-set-other}
 use Rattle.lists.specs.Member.{_∈_, here, there, Among, Once}
 use Rattle.lists.proofs.TestLaws.{either}
-use Rattle.lists.proofs.MemberLaws.{in-map, of-map, once-length, is-in}
+use Rattle.lists.proofs.MemberLaws.{in-map, of-map, map-among, once-length, is-in}
 use Rattle.joined.specs.Joined.{Link, Alike, Joined}
 use Rattle.joined.specs.Way.{Way, stop, go, Free, long}
 use Rattle.joined.proofs.JoinedLaws.{firsts, seconds}
@@ -116,6 +116,10 @@ module _ {g : Graph} {n : ℕ} {d : ℕ → ℕ → ℕ} {pins : List ℕ} (s : 
   edge-pair : (k : ℕ) → k < g .count → (one g k, two g k) ∈ pairs g
   unfolding ends
   edge-pair k h = in-map (ends g) (in-from 0 (g .count) k (omega arith) (omega arith))
+
+  -- some of the edges
+  pub edges-among : (ks : List ℕ) → ((k : ℕ) → k ∈ ks → k < g .count) → Among (map (ends g) ks) (pairs g)
+  edges-among ks h = map-among (ends g) ks (from 0 (g .count)) (λ k m. (let i = h k m in in-from 0 (g .count) k (omega arith) (omega arith)))
 
   pub edge-link : (x y k : ℕ) → k < g .count → Alike x y (one g k) (two g k) → Link (pairs g) x y
   edge-link x y k h (inl e) = inl (rw (e .0, e .1) (edge-pair k h))

@@ -5,7 +5,7 @@
 use mathlib.Core.Path.{_≡_, refl, sym, ap, ap₂, _∙_, subst}
 use mathlib.Core.Bool.{Bool, true, false, not}
 use mathlib.Core.Logic.{_⊎_, inl, inr}
-use mathlib.Core.List.{List, [], _∷_, map, List·Memᴰ·cases-cons, Memᴰ·cast}
+use mathlib.Core.List.{List, [], _∷_, map, List·Memᴰ·cases-cons, List·Memᴰ·append-cases, Memᴰ·cast, Memᴰ·append-left, Memᴰ·append-right}
 use Prim.Native.Nat.{ℕ, zero, suc, _+_, _≤_, _<_}
 use native.Mathlib.Decide.{ℕ-discrete}
 use native.Mathlib.Omega.{arith}
@@ -23,7 +23,7 @@ use Rattle.joined.specs.Way.{Way, stop, go, long, turned}
 use Rattle.joined.specs.Keep.{Rising, light, Offered, Dominated, kept}
 use Rattle.joined.specs.Chain.{Chain, Joining, OurWay}
 use Rattle.joined.proofs.JoinedLaws.{turn, one as one-link, then, back, cast, between, firsts, seconds, more}
-use Rattle.joined.proofs.WayLaws.{joined-way, turned-way, turned-long, turned-once, of-turned-way}
+use Rattle.joined.proofs.WayLaws.{joined-way, way-more, turned-way, turned-long, turned-once, of-turned-way}
 use Rattle.joined.proofs.KeepLaws.{in-light, of-light}
 use Rattle.joined.proofs.TableLaws.{table-keeps}
 use Rattle.joined.proofs.Ours.{ours-count, ours-joining, our-way, our-way-one, no-shorter, no-longer}
@@ -31,14 +31,14 @@ use Rattle.terminal.specs.Bounds.{pointBound}
 use Rattle.terminal.specs.Edges.{Graph, one, two, len, from}
 use Rattle.terminal.specs.Labels.{Labels, far, root, labelled}
 use Rattle.terminal.specs.Parents.{Parents, parented, way}
-use Rattle.terminal.specs.Bridges.{sameRoot, rootsOf, pathLength, weights, earlier, bridgesFrom, bridges}
+use Rattle.terminal.specs.Bridges.{sameRoot, rootsOf, path as pathEdges, pathLength, weights, earlier, bridgesFrom, bridges}
 use Rattle.terminal.specs.Kept.{keptBridges, keptLengths, terminal}
-use Rattle.terminal.specs.Setting.{pairs, Setting, Whole, TerminalPath, endsOf, lengthOf}
+use Rattle.terminal.specs.Setting.{ends, pairs, Setting, Whole, TerminalPath, endsOf, lengthOf}
 use Rattle.terminal.proofs.EdgeLaws.{in-from, getD-from, length-from}
 use Rattle.terminal.proofs.WayLaws.{path-parts}
 use Rattle.terminal.proofs.BridgeLaws.{earlier-le, earlier-order, of-bridges, bridges-ascending}
 use Rattle.terminal.proofs.WholeLaws.{of-kept, weights-at}
-use Rattle.terminal.proofs.Nearest.{fits, joint, edge-link, edge-long, link-in, best, closed}
+use Rattle.terminal.proofs.Nearest.{fits, edges-among, joint, edge-link, edge-long, link-in, best, closed}
 use Rattle.terminal.proofs.Homeward.{pin-label, root-pin, wayPoints, Home, way-home, way-once, way-length}
 
 module _ {g : Graph} {n : ℕ} {d : ℕ → ℕ → ℕ} {pins : List ℕ} (s : Setting g n d pins) (whole : Whole g n pins) where
@@ -63,6 +63,8 @@ module _ {g : Graph} {n : ℕ} {d : ℕ → ℕ → ℕ} {pins : List ℕ} (s : 
     pub path : TerminalPath g pins
     pub start-is : path .start ≡ root T (one g k)
     pub finish-is : path .finish ≡ root T (two g k)
+    -- it runs along the edges that make up its length
+    pub along : Way (map (ends g) (pathEdges g T P k)) (path .start) (path .points) (path .finish)
     pub length-is : lengthOf d path ≡ weight k
 
   bridge-roots : (k : ℕ) → sameRoot g T k ≡ false → root T (one g k) ≡ root T (two g k) → ⊥
@@ -70,14 +72,14 @@ module _ {g : Graph} {n : ℕ} {d : ℕ → ℕ → ℕ} {pins : List ℕ} (s : 
   bridge-roots k e = eqb-false _ _ e
 
   pub stands : (k : ℕ) → k < g .count → sameRoot g T k ≡ false → Stands k
-  unfolding long
+  unfolding long pathEdges ends
   stands k h e = record {
     path = record {
       start = root T u;
       finish = root T v;
       points = turned u (wayPoints s whole u) (v ∷ wayPoints s whole v);
-      way = turned-way (hu .way) (go l (hv .way));
-      once = turned-once (hu .way) (v ∷ wayPoints s whole v) ou (λ m. ne (hv .alike u m), ov) apart;
+      way = way-more (edges-among s (pathEdges g T P k) inside) run;
+      once = turned-once (hu .along) (v ∷ wayPoints s whole v) ou (λ m. ne (hv .alike u m), ov) apart;
       start-pin = root-pin s whole u iu;
       finish-pin = root-pin s whole v iv;
       apart = ne;
@@ -86,10 +88,11 @@ module _ {g : Graph} {n : ℕ} {d : ℕ → ℕ → ℕ} {pins : List ℕ} (s : 
     };
     start-is = refl;
     finish-is = refl;
+    along = run;
     length-is =
         omega (
           arith,
-          turned-long d (s .even) (hu .way) (v ∷ wayPoints s whole v),
+          turned-long d (s .even) (hu .along) (v ∷ wayPoints s whole v),
           hu .length-is,
           hv .length-is,
           path-is k h,
@@ -115,8 +118,20 @@ module _ {g : Graph} {n : ℕ} {d : ℕ → ℕ → ℕ} {pins : List ℕ} (s : 
       hv : Home s whole v (wayPoints s whole v) (way T P v)
       hv = way-home s whole v iv
 
-      l : Link (pairs g) u v
-      l = edge-link s u v k h (inl (refl, refl))
+      inside : (j : ℕ) → j ∈ pathEdges g T P k → j < g .count
+      inside j m =
+          either (λ i. hu .inside j i) (λ i. either (λ q. rw q h) (λ r. hv .inside j r) (List·Memᴰ·cases-cons i))
+          (List·Memᴰ·append-cases (way T P u) m)
+
+      bridge : (u, v) ∈ map (ends g) (pathEdges g T P k)
+      bridge = in-map (ends g) (Memᴰ·append-right (way T P u) (here refl))
+
+      run : Way (map (ends g) (pathEdges g T P k)) (root T u) (turned u (wayPoints s whole u) (v ∷ wayPoints s whole v)) (root T v)
+      run =
+          turned-way
+          (way-more (map-among (ends g) (way T P u) (pathEdges g T P k) (λ j m. Memᴰ·append-left (k ∷ way T P v) m)) (hu .along))
+          (go (inl bridge)
+          (way-more (map-among (ends g) (way T P v) (pathEdges g T P k) (λ j m. Memᴰ·append-right (way T P u) (there m))) (hv .along)))
 
       ne : root T u ≡ root T v → ⊥
       ne = bridge-roots k e

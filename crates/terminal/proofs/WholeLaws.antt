@@ -12,7 +12,7 @@ use Rattle.lists.proofs.TestLaws.{by, either}
 use Rattle.lists.specs.Total.{total}
 use Rattle.joined.specs.Table.{keptBy}
 use Rattle.terminal.specs.Bounds.{pointBound, edgeBound, pathBound}
-use Rattle.terminal.specs.Edges.{Graph, from, filled, entries, Fits, Below, Pins, Listed}
+use Rattle.terminal.specs.Edges.{Graph, from, filled, entries, Fits, Below, FirstBelow, Listed}
 use Rattle.terminal.specs.Labels.{Labels, settled, starts, unlabelled, labelled, Low}
 use Rattle.terminal.specs.Parents.{Parents, orphans, adopted, parented, Falls}
 use Rattle.terminal.specs.Bridges.{sameRoot, rootsOf, pathLength, weights, bridgesFrom, bridges}
@@ -72,7 +72,7 @@ module _ (g : Graph) (t : Labels) (p : Parents) where
         (below-filled (pathBound + 1) (pathLength g t p) 0 (g .count) (g .count) (replicate edgeBound 0) (omega arith)
         (λ k h. (let b = path-low g t p fits f l k h in omega arith)) (below-replicate (pathBound + 1) edgeBound 0 (omega arith)))
 
-    pub ordered : Pins order n (g .count)
+    pub ordered : FirstBelow order n (g .count)
     ordered = record { inside = λ i h. (let r = of-bridges g t w 0 (g .count) _ (entry-listed _ _ order n sorted i h) in omega (arith, r .1)) }
 
     module _ (group : List ℕ) (numbered : group ≡ filled (λ k. k) 0 pointBound (replicate pointBound 0)) (lent table : List ℕ) (count : ℕ)
@@ -85,7 +85,7 @@ module _ (g : Graph) (t : Labels) (p : Parents) where
       pub kept-listed : Listed (keptBridges g t p) lent table count
       kept-listed = rw (← kept-is) taken
 
-      pub kept-inside : Pins table count edgeBound
+      pub kept-inside : FirstBelow table count edgeBound
       kept-inside = record {
         inside = λ i h. (let r = of-kept _ (entry-listed _ _ table count kept-listed i h) in omega (arith, r .0, fits .count));
       }
@@ -103,7 +103,7 @@ module _ (g : Graph) (t : Labels) (p : Parents) where
       lengths-listed lent′ long sum a b = (rw (← lengths-is) a, b ∙ ap total lengths-is)
 
 -- Labels and parents that the code made are bounded, and distances fall along parents
-module _ (g : Graph) (n m : ℕ) (pins : List ℕ) (t : Labels) (p : Parents) (fits : Fits g) (small : n ≤ pointBound) (inside : Pins pins m pointBound)
+module _ (g : Graph) (n m : ℕ) (pins : List ℕ) (t : Labels) (p : Parents) (fits : Fits g) (small : n ≤ pointBound) (inside : FirstBelow pins m pointBound)
     (t-is : t ≡ labelled g n (entries pins 0 m)) (p-is : p ≡ parented g n (labelled g n (entries pins 0 m))) where
   pub made-fine : Fine t
   unfolding labelled

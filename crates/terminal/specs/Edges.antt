@@ -55,7 +55,7 @@ pub record Below (n : ℕ) (xs : List ℕ) : Type 0 where
   pub below : (i : ℕ) → getD xs i 0 < n
 
 -- the first m entries are numbers below n
-pub record Pins (xs : List ℕ) (m n : ℕ) : Type 0 where
+pub record FirstBelow (xs : List ℕ) (m n : ℕ) : Type 0 where
   pub inside : (i : ℕ) → i < m → getD xs i 0 < n
 
 -- a lent table holds xs over what stood there, n of them

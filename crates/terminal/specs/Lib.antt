@@ -13,7 +13,7 @@
 --              one g k, two g k, len g k            the ends of edge k and its length
 --              from k n, entries xs k n             n numbers, or n entries of a table, from k on
 --              filled f i n xs                      the table xs with f k at each number k from i on, n of them
---              Fits, Pins, Below                    what the code asks of tables
+--              Fits, FirstBelow, Below                    what the code asks of tables
 --              Listed xs lent table n               a lent table holds xs over what stood there, and n is how many
 --   Labels     labels f r, far t v, root t v        for each vertex the distance to its root, and the root
 --              labelled g n pins                    the labels of a graph of n vertices, by relaxation until nothing changes
