@@ -4,10 +4,11 @@
 -- Assumes nothing.
 use mathlib.Core.Path.{_≡_, refl, sym, ap, ap₂, _∙_, subst}
 use mathlib.Core.Logic.{inl, inr}
-use mathlib.Core.List.{List, [], _∷_, map, List·Memᴰ·cases-cons, Memᴰ·cast}
+use mathlib.Core.List.{List, [], _∷_, map, List·Memᴰ·cases-cons, List·Memᴰ·eq-of-singleton, Memᴰ·cast}
 use Rattle.lists.specs.Member.{_∈_, here, there, Among, Once, rest}
 use Rattle.lists.proofs.TestLaws.{either}
-use Rattle.lists.proofs.MemberLaws.{rest-or, in-map, of-map, map-rest}
+use Rattle.lists.proofs.MemberLaws.{rest-or}
+use Rattle.lists.proofs.MapLaws.{in-map, of-map, map-rest}
 use Rattle.joined.specs.Joined.{Link, Joined, stay, Joins}
 use Rattle.joined.specs.Tree.{Cuts}
 use Rattle.joined.specs.Way.{Way, stop, go, Free, On, NoStepTwice}
@@ -35,6 +36,10 @@ module _ {A B : Type 0} (ends : B → A × A) where
       at : Dec (x ≡ y) → Joined (map ends J) x y
       at (yes e) = stay e
       at (no n) = leads-joined (h x y i k n)
+
+  -- "for one pin the empty set is a joining"
+  pub lone-joining : (pin : A) → Joining ends (pin ∷ []) []
+  lone-joining pin x y i k n = absurd (n (List·Memᴰ·eq-of-singleton i ∙ sym (List·Memᴰ·eq-of-singleton k)))
 
   -- the path of a link
   pub record Path (J : List B) (x y : A) : Type 0 where

@@ -9,7 +9,8 @@ use native.Mathlib.Omega.{arith}
 use lib.ListN.{length, length-map}
 use Rattle.lists.specs.Member.{_∈_, here, there, Once, rest}
 use Rattle.lists.proofs.TestLaws.{either}
-use Rattle.lists.proofs.MemberLaws.{length-rest, rest-or, rest-in, rest-once, rest-gone, in-map, of-map, is-in}
+use Rattle.lists.proofs.MemberLaws.{length-rest, rest-or, rest-in, rest-once, rest-gone, is-in}
+use Rattle.lists.proofs.MapLaws.{in-map, of-map}
 use Rattle.joined.specs.Joined.{Joined, stay, step, Joins, Inside, Across, beside, forwards, backwards}
 use Rattle.joined.specs.Labels.{renamed}
 use Rattle.joined.specs.Tree.{Forest}

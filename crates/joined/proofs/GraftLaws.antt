@@ -9,7 +9,7 @@ use native.Mathlib.Omega.{arith}
 use lib.ListN.{length-map, length-append}
 use Rattle.lists.specs.Member.{_∈_}
 use Rattle.lists.proofs.TestLaws.{either}
-use Rattle.lists.proofs.MemberLaws.{in-map, of-map}
+use Rattle.lists.proofs.MapLaws.{in-map, of-map}
 use Rattle.joined.specs.Joined.{Joined, stay, step, Inside}
 use Rattle.joined.specs.Tree.{Tree}
 use Rattle.joined.specs.Graft.{grown, rooted, Hangs}

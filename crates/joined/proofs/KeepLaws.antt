@@ -2,24 +2,20 @@
 -- is kept of the light ones. By cases of one item: its ends are joined by what was kept before it, or not.
 -- Assumes nothing.
 use mathlib.Core.Path.{_≡_, refl, sym, ap, _∙_}
-use mathlib.Core.Bool.{not}
 use mathlib.Core.Logic.{_⊎_, inl, inr}
-use mathlib.Core.List.{List, [], _∷_, map, reverse, reverseAux, List·Memᴰ·cases-cons}
-use Prim.Native.Nat.{ℕ, _+_, _≤_, _<_}
+use mathlib.Core.List.{List, [], _∷_, map, List·Memᴰ·cases-cons}
+use Prim.Native.Nat.{ℕ, _≤_, _<_}
 use native.Mathlib.Decide.{decLe}
 use native.Mathlib.Omega.{arith}
-use borrow.Author.Tests.{ltb-false, lt-ltb, le-ltb}
-use lib.Dec.{ltb}
-use lib.ListN.{length, length-map}
-use Rattle.lists.specs.Member.{_∈_, here, there, Among, those}
-use Rattle.lists.proofs.TestLaws.{by, either, not-true}
-use Rattle.lists.proofs.MemberLaws.{those-hit, those-miss, those-none, in-those, of-those, those-all, those-split, those-map}
-use Rattle.lists.specs.Total.{above}
+use Rattle.lists.specs.Member.{_∈_, here, there, Among}
+use Rattle.lists.proofs.TestLaws.{by, either}
 use Rattle.joined.specs.Joined.{Joined}
 use Rattle.joined.specs.Labels.{equal, labels}
 use Rattle.joined.specs.Tree.{Forest}
-use Rattle.joined.specs.Keep.{keep, Falling, Rising, heavy, light}
+use Rattle.joined.specs.Keep.{keep}
+use Rattle.joined.specs.Light.{Falling, light}
 use Rattle.joined.proofs.JoinedLaws.{one, older, through, between, firsts, seconds}
+use Rattle.joined.proofs.LightLaws.{light-all, light-miss, light-none}
 use Rattle.joined.proofs.LabelLaws.{equal-true, equal-false, labelled, joined-same, same-joined}
 
 -- What is kept
@@ -74,48 +70,6 @@ module _ {A B : Type 0} (same : Discrete A) (ends : B → A × A) where
   pub keep-joined : (L : List B) {x y : A} → Joined (map ends L) x y → Joined (map ends (keep same ends L)) x y
   keep-joined L j = through (keep-pairs L) j
 
--- Light and heavy items
-
-module _ {B : Type 0} (weight : B → ℕ) (t : ℕ) where
-  pub of-light : (L : List B) {d : B} → d ∈ light weight t L → (d ∈ L) × (weight d ≤ t)
-  unfolding light
-  of-light L {d} m =
-      let r = of-those (λ e. not (ltb t (weight e))) L m in
-      (r .0, ltb-false t (weight d) (not-true (ltb t (weight d)) (r .1)))
-
-  pub in-light : (L : List B) {d : B} → d ∈ L → weight d ≤ t → d ∈ light weight t L
-  unfolding light
-  in-light L {d} m h = in-those (λ e. not (ltb t (weight e))) L m (ap not (le-ltb t (weight d) h))
-
-  pub in-heavy : (L : List B) {d : B} → d ∈ L → t < weight d → d ∈ heavy weight t L
-  unfolding heavy
-  in-heavy L {d} m h = in-those (λ e. ltb t (weight e)) L m (lt-ltb t (weight d) h)
-
-  pub light-all : (L : List B) → ((d : B) → d ∈ L → weight d ≤ t) → light weight t L ≡ L
-  unfolding light
-  light-all L h = those-all (λ e. not (ltb t (weight e))) L (λ d m. ap not (le-ltb t (weight d) (h d m)))
-
-  pub light-hit : (e : B) (L : List B) → weight e ≤ t → light weight t (e ∷ L) ≡ e ∷ light weight t L
-  unfolding light
-  light-hit e L h = those-hit (λ d. not (ltb t (weight d))) e L (ap not (le-ltb t (weight e) h))
-
-  pub light-miss : (e : B) (L : List B) → t < weight e → light weight t (e ∷ L) ≡ light weight t L
-  unfolding light
-  light-miss e L h = those-miss (λ d. not (ltb t (weight d))) e L (ap not (lt-ltb t (weight e) h))
-
-  pub light-none : light weight t [] ≡ []
-  unfolding light
-  light-none = those-none (λ d. not (ltb t (weight d)))
-
-  pub length-split : (L : List B) → length (heavy weight t L) + length (light weight t L) ≡ length L
-  unfolding heavy light
-  length-split L = those-split (λ e. ltb t (weight e)) L
-
-  -- the numbers above t among the weights
-  pub length-heavy : (L : List B) → above t (map weight L) ≡ length (heavy weight t L)
-  unfolding above heavy
-  length-heavy L = ap length (those-map weight (ltb t) L) ∙ length-map (those (λ e. ltb t (weight e)) L) weight
-
 -- what is kept of the light ones are the light ones of what is kept
 module _ {A B : Type 0} (same : Discrete A) (ends : B → A × A) (weight : B → ℕ) (t : ℕ) where
   pub keep-light : (L : List B) → Falling weight L → light weight t (keep same ends L) ≡ keep same ends (light weight t L)
@@ -136,16 +90,3 @@ module _ {A B : Type 0} (same : Discrete A) (ends : B → A × A) (weight : B �
       at ih (yes k) =
           light-all weight t (keep same ends (e ∷ L)) (λ d m. light-each k d (keep-among same ends (e ∷ L) d m))
           ∙ ap (keep same ends) (sym (light-all weight t (e ∷ L) (light-each k)))
-
--- A list turned round
-
-module _ {B : Type 0} (weight : B → ℕ) where
-  falling-turned : (L M : List B) → Rising weight L → Falling weight M → ((c d : B) → c ∈ M → d ∈ L → weight c ≤ weight d) →
-      Falling weight (reverseAux L M)
-  falling-turned [] M u v h = v
-  falling-turned (e ∷ L) M u v h =
-      falling-turned L (e ∷ M) (u .1) (λ d m. h d e m (here refl), v)
-      (λ c d m i. either (λ k. rw k (u .0 d i)) (λ k. h c d k (there i)) (List·Memᴰ·cases-cons m))
-
-  pub falling-reverse : (L : List B) → Rising weight L → Falling weight (reverse L)
-  falling-reverse L u = falling-turned L [] u tt (λ c d m i. elim m [ ])

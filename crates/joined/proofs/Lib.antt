@@ -10,13 +10,16 @@ pub mod WayLaws
 pub mod OnlyWay
 pub mod OneTreeLaws
 -- Kruskal's choice
+pub mod LightLaws
 pub mod KeepLaws
 pub mod TableLaws
 pub mod ShortestLaws
 pub mod ChainLaws
 pub mod Ours
+pub mod Worked
 -- The refiner
 pub mod GraftLaws
 pub mod TowardLaws
+pub mod LaidLaws
 pub mod ExchangeLaws
 pub mod PruneLaws

@@ -10,10 +10,11 @@ use Rattle.lists.specs.Member.{_∈_}
 use Rattle.lists.specs.Total.{total, most}
 use Rattle.lists.proofs.TotalLaws.{le-most, most-le}
 use Rattle.joined.specs.Joined.{Joined}
-use Rattle.joined.specs.Keep.{kept, light, Offered, Dominated}
+use Rattle.joined.specs.Keep.{kept, Offered, Dominated}
+use Rattle.joined.specs.Light.{light}
 use Rattle.joined.specs.Chain.{Chain, Joining, OurWay}
 use Rattle.joined.proofs.TreeLaws.{tree-cuts}
-use Rattle.joined.proofs.KeepLaws.{of-light}
+use Rattle.joined.proofs.LightLaws.{of-light}
 use Rattle.joined.proofs.ShortestLaws.{kept-tree, path-kept, shortest}
 use Rattle.joined.proofs.ChainLaws.{chain-through, joining-joins, joins-joining, joined-our-way, our-way-only}
 
@@ -52,10 +53,10 @@ module _ {A B : Type 0} (same : Discrete A) (ends : B → A × A) (weight : B �
         joined : Joined (map ends (light weight t ours)) x y
         joined = chain-through span c (λ d m. path-kept same ends weight o span cost dominated t d (le-most cost cs d m))
 
+        wider : {ds : List B} → OurWay ends (light weight t ours) x y ds → OurWay ends ours x y ds
+        wider v = record { chain = v .chain; among = λ d m. of-light weight t ours (v .among d m) .0; once = v .once }
+
         at : (ds : List B) × OurWay ends (light weight t ours) x y ds → most (map weight bs) ≤ t
         at (ds, v) =
-            let w : OurWay ends ours x y ds =
-            record { chain = v .chain; among = λ d m. of-light weight t ours (v .among d m) .0; once = v .once }
-            in
-            let e : bs ≡ ds = our-way-one u w in
+            let e : bs ≡ ds = our-way-one u (wider v) in
             rw e (most-le weight ds t (λ d m. of-light weight t ours (v .among d m) .1))

@@ -11,16 +11,19 @@ use native.Mathlib.Omega.{arith}
 use lib.ListN.{length-map, length-append, length-reverse}
 use Rattle.lists.specs.Member.{_∈_, Among}
 use Rattle.lists.specs.Total.{total, above}
-use Rattle.lists.proofs.MemberLaws.{in-map, of-map, map-among, in-reverse, of-reverse}
+use Rattle.lists.proofs.MemberLaws.{in-reverse, of-reverse}
+use Rattle.lists.proofs.MapLaws.{in-map, of-map, map-among}
 use Rattle.lists.proofs.TotalLaws.{total-le, total-reverse}
 use Rattle.joined.specs.Joined.{Joined, Joins}
 use Rattle.joined.specs.Tree.{Tree}
-use Rattle.joined.specs.Keep.{keep, kept, heavy, light, Offered, Dominated}
+use Rattle.joined.specs.Keep.{keep, kept, Offered, Dominated}
+use Rattle.joined.specs.Light.{heavy, light}
 use Rattle.joined.proofs.JoinedLaws.{one, more, through, between, firsts, seconds}
 use Rattle.joined.proofs.CountLaws.{enough}
 use Rattle.joined.proofs.TreeLaws.{forest-tree, tree-linked}
-use Rattle.joined.proofs.KeepLaws.{keep-among, keep-forest, keep-joined, keep-light, of-light, in-light, in-heavy}
-use Rattle.joined.proofs.KeepLaws.{length-split, length-heavy, falling-reverse}
+use Rattle.joined.proofs.KeepLaws.{keep-among, keep-forest, keep-joined, keep-light}
+use Rattle.joined.proofs.LightLaws.{of-light, in-light, in-heavy}
+use Rattle.joined.proofs.LightLaws.{length-split, length-heavy, falling-reverse}
 
 module _ {A B : Type 0} (same : Discrete A) (ends : B → A × A) (weight : B → ℕ) {X : List A} {L : List B} (o : Offered ends weight X L) where
   -- what is offered and what is kept, the last first

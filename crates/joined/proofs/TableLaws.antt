@@ -11,7 +11,7 @@ use lib.Dec.{eqb}
 use lib.ListN.{length, length-map, getD}
 use Rattle.lists.specs.Member.{here, there}
 use Rattle.lists.proofs.TestLaws.{by}
-use Rattle.lists.proofs.MemberLaws.{getD-map}
+use Rattle.lists.proofs.MapLaws.{getD-map}
 use Rattle.joined.specs.Labels.{renamed, merge, labels}
 use Rattle.joined.specs.Keep.{keep, kept}
 use Rattle.joined.specs.Table.{changed, keptBy, Below}
@@ -91,12 +91,14 @@ module _ {B : Type 0} (ends : B → ℕ × ℕ) (n : ℕ) where
       rw (keptBy, k) (pass L left u (e ∷ M) (holds-merged e (i .0) (i .1) t M h r) ∙ ap (reverseAux (keptBy ends L u)) r))
 
   -- from a table in which each number is its own label
-  pub table-keeps : (L : List B) → Below ends n L → (t : List ℕ) → n ≤ length t → ((x : ℕ) → x < n → getD t x 0 ≡ x) →
-      keptBy ends L t ≡ kept ℕ-discrete ends L
-  unfolding labels kept
-  table-keeps L s t room own =
-      let turned : keep ℕ-discrete ends (reverse L) ≡ reverse (keptBy ends L t) =
-      pass L s t [] (room, λ x l. own x l ∙ rw (keep-none ℕ-discrete ends) refl)
-      ∙ ap (reverseAux (keptBy ends L t)) (keep-none ℕ-discrete ends)
-      in
-      sym (reverse-reverse (keptBy ends L t)) ∙ ap reverse (sym turned)
+  module _ (L : List B) (s : Below ends n L) (t : List ℕ) (room : n ≤ length t) (own : (x : ℕ) → x < n → getD t x 0 ≡ x) where
+    starts : Holds t []
+    unfolding labels
+    starts = (room, λ x l. own x l ∙ rw (keep-none ℕ-discrete ends) refl)
+
+    turned : keep ℕ-discrete ends (reverse L) ≡ reverse (keptBy ends L t)
+    turned = pass L s t [] starts ∙ ap (reverseAux (keptBy ends L t)) (keep-none ℕ-discrete ends)
+
+    pub table-keeps : keptBy ends L t ≡ kept ℕ-discrete ends L
+    unfolding kept
+    table-keeps = sym (reverse-reverse (keptBy ends L t)) ∙ ap reverse (sym turned)

@@ -50,7 +50,7 @@
 --   turned x ps qs            a way turned round, in front of points that follow its start
 --   Simple T                  no pair twice and none with equal ends
 --   Cost d, lengths d T       what is asked of a length between points; the sum over pairs
--- LABELS AND KEEPING (Labels.antt, Keep.antt, Table.antt)
+-- LABELS AND KEEPING (Labels.antt, Light.antt, Keep.antt, Table.antt)
 --   renamed same a b x        a for b, and any other x for itself
 --   labels same L x           the label of x by the pairs of L
 --   Labels L f                f labels points as L joins them
@@ -69,6 +69,7 @@ pub mod Way
 pub mod OneTree
 pub mod Cost
 pub mod Labels
+pub mod Light
 pub mod Keep
 pub mod Table
 pub mod Chain

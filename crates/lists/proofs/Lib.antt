@@ -3,7 +3,10 @@ pub mod AnyLaws
 pub mod AnyOrder
 pub mod EntryLaws
 pub mod MemberLaws
+pub mod MapLaws
+pub mod ThoseLaws
 pub mod SortedLaws
+pub mod SortedOrder
 pub mod OrderLaws
 pub mod LeastLaws
 pub mod TotalLaws

@@ -7,7 +7,8 @@ use Prim.Native.Nat.{ℕ, zero, suc, _+_, _≤_, min, max}
 use native.Mathlib.Omega.{arith}
 use borrow.Author.Tests.{ltb-true, ltb-false}
 use lib.Dec.{ltb}
-use Rattle.lists.specs.Member.{_∈_, here, there, Among, Once, rest, those}
+use Rattle.lists.specs.Member.{_∈_, here, there, Among, Once, rest}
+use Rattle.lists.specs.Those.{those}
 use Rattle.lists.specs.Total.{total, most, above}
 use Rattle.lists.proofs.TestLaws.{by, either}
 use Rattle.lists.proofs.MemberLaws.{rest-or}

@@ -30,6 +30,7 @@
 --   above t l         how many numbers of a list are above t
 pub mod Any
 pub mod Member
+pub mod Those
 pub mod Sorted
 pub mod Least
 pub mod Total

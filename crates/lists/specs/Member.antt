@@ -1,5 +1,4 @@
 -- Membership by position, and lists without repeats.
-use mathlib.Core.Bool.{Bool, true, false}
 use mathlib.Core.List.{List, [], _∷_, List·Memᴰ}
 pub use mathlib.Core.List.{List·Memᴰ·head as here, List·Memᴰ·tail as there}
 
@@ -22,8 +21,3 @@ module _ {A : Type 0} where
   unfoldable pub rest : {x : A} {l : List A} → x ∈ l → List A
   rest (here {xs = l} e) = l
   rest (there {x = y} m) = y ∷ rest m
-
-  -- the entries that pass a test
-  unfoldable pub those : (A → Bool) → List A → List A
-  those f [] = []
-  those f (x ∷ l) = elim (f x) [ true ↦ x ∷ those f l | false ↦ those f l ]

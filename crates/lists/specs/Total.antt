@@ -3,7 +3,7 @@ use mathlib.Core.List.{List, [], _∷_}
 use Prim.Native.Nat.{ℕ, _+_, max}
 use lib.Dec.{ltb}
 use lib.ListN.{length}
-use Rattle.lists.specs.Member.{those}
+use Rattle.lists.specs.Those.{those}
 
 unfoldable pub total : List ℕ → ℕ
 total [] = 0

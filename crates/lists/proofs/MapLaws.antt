@@ -1,0 +1,49 @@
+-- The image of a list under a map: what stands in it and where that comes from, positions and repeats carried over.
+-- Assumes nothing.
+use mathlib.Core.Path.{_≡_, refl, ap}
+use mathlib.Core.List.{List, [], _∷_, map, List·Memᴰ·cases-cons, Memᴰ·cast}
+use Prim.Native.Nat.{ℕ, zero, suc, _<_}
+use native.Mathlib.Omega.{arith}
+use lib.ListN.{length, getD}
+use Rattle.lists.specs.Member.{_∈_, here, there, Among, Once, rest}
+use Rattle.lists.proofs.TestLaws.{either}
+
+module _ {A B : Type 0} (f : A → B) where
+  pub in-map : {x : A} {l : List A} → x ∈ l → f x ∈ map f l
+  in-map (here e) = here (ap f e)
+  in-map (there m) = there (in-map m)
+
+  -- where an entry of the image comes from
+  pub record Source (l : List A) (y : B) : Type 0 where
+    pub entry : A
+    pub stands : entry ∈ l
+    pub is : y ≡ f entry
+
+  pub of-map : (l : List A) {y : B} → y ∈ map f l → Source l y
+  of-map [] m = elim m [ ]
+  of-map (x ∷ l) m = either (λ e. record { entry = x; stands = here refl; is = e }) (λ i. further (of-map l i)) (List·Memᴰ·cases-cons m)
+    where
+      further : {y : B} → Source l y → Source (x ∷ l) y
+      further s = record { entry = s .entry; stands = there (s .stands); is = s .is }
+
+  -- a position struck out before or after
+  pub map-rest : {x : A} {l : List A} (m : x ∈ l) → rest (in-map m) ≡ map f (rest m)
+  unfolding rest in-map
+  map-rest (here e) = refl
+  map-rest (there {x = y} m) = ap (λ (k : List B). f y ∷ k) (map-rest m)
+
+  pub map-among : (l m : List A) → Among l m → Among (map f l) (map f m)
+  map-among l m h y i = let s = of-map l i in Memᴰ·cast (s .is) (in-map (h (s .entry) (s .stands)))
+
+  pub getD-map : (l : List A) (i : ℕ) (d : A) (c : B) → i < length l → getD (map f l) i c ≡ f (getD l i d)
+  getD-map [] i d c h = absurd (let z : ⊥ = omega arith in z)
+  getD-map (x ∷ l) zero d c h = refl
+  getD-map (x ∷ l) (suc i) d c h = getD-map l i d c (omega arith)
+
+  -- a map under which different entries stay different
+  pub map-once : (l : List A) → ((x y : A) → x ∈ l → y ∈ l → f x ≡ f y → x ≡ y) → Once l → Once (map f l)
+  map-once [] h o = tt
+  map-once (x ∷ l) h o = (λ m. twice (of-map l m), map-once l (λ y z i k. h y z (there i) (there k)) (o .1))
+    where
+      twice : Source l (f x) → ⊥
+      twice s = o .0 (Memᴰ·cast (h x (s .entry) (here refl) (there (s .stands)) (s .is)) (s .stands))
