@@ -12,7 +12,8 @@ use lib.ListN.{length, getD, set, replicate, length-set, length-replicate, getD-
 use lib.Seq.{getD-set-same, getD-set-other}
 use Rattle.lists.specs.Member.{_∈_, here, there, Among, Once}
 use Rattle.lists.proofs.TestLaws.{either}
-use Rattle.lists.proofs.MemberLaws.{in-map, of-map, map-among, once-length, is-in}
+use Rattle.lists.proofs.MemberLaws.{once-length, is-in}
+use Rattle.lists.proofs.MapLaws.{in-map, of-map, map-among}
 use Rattle.joined.specs.Joined.{Link, Alike, Joined}
 use Rattle.joined.specs.Way.{Way, stop, go, Free, long}
 use Rattle.joined.proofs.JoinedLaws.{firsts, seconds}

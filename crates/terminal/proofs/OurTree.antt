@@ -16,16 +16,20 @@ use Rattle.lists.specs.Member.{_∈_, here, there, Among, Once}
 use Rattle.lists.specs.Sorted.{firstThen, Ascending}
 use Rattle.lists.specs.Total.{total, most}
 use Rattle.lists.proofs.TestLaws.{by, differ, either}
-use Rattle.lists.proofs.MemberLaws.{in-map, of-map, in-those, map-among}
+use Rattle.lists.proofs.MapLaws.{in-map, of-map, map-among}
+use Rattle.lists.proofs.ThoseLaws.{in-those}
 use Rattle.lists.proofs.SortedLaws.{in-sorted}
 use Rattle.joined.specs.Joined.{Link, Joined, stay, step, Alike, Joins, Inside}
 use Rattle.joined.specs.Way.{Way, stop, go, long, turned}
-use Rattle.joined.specs.Keep.{Rising, light, Offered, Dominated, kept}
+use Rattle.joined.specs.Tree.{Tree}
+use Rattle.joined.specs.Light.{Rising, light}
+use Rattle.joined.specs.Keep.{Offered, Dominated, kept}
 use Rattle.joined.specs.Chain.{Chain, Joining, OurWay}
 use Rattle.joined.proofs.JoinedLaws.{turn, one as one-link, then, back, cast, between, firsts, seconds, more}
 use Rattle.joined.proofs.WayLaws.{joined-way, way-more, turned-way, turned-long, turned-once, of-turned-way}
-use Rattle.joined.proofs.KeepLaws.{in-light, of-light}
+use Rattle.joined.proofs.LightLaws.{in-light, of-light}
 use Rattle.joined.proofs.TableLaws.{table-keeps}
+use Rattle.joined.proofs.ShortestLaws.{kept-tree}
 use Rattle.joined.proofs.Ours.{ours-count, ours-joining, our-way, our-way-one, no-shorter, no-longer}
 use Rattle.terminal.specs.Bounds.{pointBound}
 use Rattle.terminal.specs.Edges.{Graph, one, two, len, from}
@@ -261,6 +265,10 @@ module _ {g : Graph} {n : ℕ} {d : ℕ → ℕ → ℕ} {pins : List ℕ} (s : 
   -- "The terminal tree is the m − 1 kept paths."
   pub kept-count : suc (length K) ≡ length pins
   kept-count = rw kept-is (ours-count ℕ-discrete (rootsOf g T) weight offered)
+
+  -- a tree over the pins
+  pub ours-tree : Tree pins (map (rootsOf g T) K)
+  ours-tree = rw kept-is (kept-tree ℕ-discrete (rootsOf g T) weight offered)
 
   -- they are a joining
   pub kept-joining : Joining (rootsOf g T) pins K

@@ -11,7 +11,6 @@ use lib.ListN.{getD}
 use borrow.Author.Tests.{ltb-true, ltb-false, lt-ltb, le-ltb}
 use Rattle.lists.specs.Total.{total}
 use Rattle.lists.proofs.TestLaws.{by}
-use Rattle.lists.proofs.MemberLaws.{map-append}
 use Rattle.terminal.specs.Bounds.{pointBound, pathBound}
 use Rattle.terminal.specs.Edges.{Graph, one, two, len, Fits}
 use Rattle.terminal.specs.Labels.{Labels, far, Low}
@@ -85,19 +84,16 @@ module _ (g : Graph) (t : Labels) (p : Parents) (fits : Fits g) (f : Falls g t p
   pub way-low : (v : ℕ) → v < pointBound → wayLength g t p v ≤ far t v
   way-low v h = low-to (far t v) v (omega arith) h
 
-total-append : (l m : List ℕ) → total (l ++ m) ≡ total l + total m
+total-map : (f : ℕ → ℕ) (l m : List ℕ) → total (map f (l ++ m)) ≡ total (map f l) + total (map f m)
 unfolding total
-total-append [] m = omega arith
-total-append (x ∷ l) m = omega (arith, total-append l m)
+total-map f [] m = omega arith
+total-map f (x ∷ l) m = omega (arith, total-map f l m)
 
 -- a path is a way, the bridge and a way
 pub path-parts : (g : Graph) (t : Labels) (p : Parents) (k : ℕ) →
     pathLength g t p k ≡ wayLength g t p (one g k) + len g k + wayLength g t p (two g k)
 unfolding pathLength path wayLength total
-path-parts g t p k =
-    let w = way t p (one g k) in
-    let s = map (len g) (k ∷ way t p (two g k)) in
-    ap total (map-append (len g) w (k ∷ way t p (two g k))) ∙ total-append (map (len g) w) s ∙ omega arith
+path-parts g t p k = omega (arith, total-map (len g) (way t p (one g k)) (k ∷ way t p (two g k)))
 
 pub path-low : (g : Graph) (t : Labels) (p : Parents) → Fits g → Falls g t p → Low (t .fars) → (k : ℕ) → k < g .count → pathLength g t p k ≤ pathBound
 path-low g t p fits f l k h =

@@ -4,8 +4,8 @@ use mathlib.Core.Path.{_≡_, refl}
 use mathlib.Core.List.{List, [], _∷_}
 use Prim.Native.Nat.{ℕ}
 use lib.ListN.{take}
-use Rattle.lists.specs.Member.{those}
 use Rattle.lists.specs.Sorted.{firstThen, put, sorted}
+use Rattle.lists.specs.Those.{those}
 use Rattle.lists.specs.Total.{total}
 use Rattle.joined.specs.Table.{changed, keptBy}
 use Rattle.terminal.specs.Edges.{Graph, graph, from, filled}
