@@ -4,7 +4,7 @@
 -- distance.
 -- Assumes nothing.
 use mathlib.Core.Path.{_≡_, refl, sym, ap, ap₂, _∙_, subst}
-use mathlib.Core.Bool.{Bool, true, false}
+use mathlib.Core.Bool.{true, false}
 use mathlib.Core.Logic.{_⊎_, inl, inr}
 use mathlib.Core.List.{List, [], _∷_, map, List·Memᴰ·cases-cons}
 use Prim.Native.Nat.{ℕ, zero, suc, _+_, _≤_, _<_}
@@ -91,7 +91,8 @@ module _ {g : Graph} {n : ℕ} {d : ℕ → ℕ → ℕ} {pins : List ℕ} (s : 
     pub same-root : root T w ≡ root T v
 
   -- the next vertex of a shortest way
-  onward-of : (v w : ℕ) (ps : List ℕ) → Link (pairs g) v w → Way (pairs g) w ps (root T v) → root T v ∈ pins → d v w + long d w ps ≡ far T v → Onward v w
+  onward-of : (v w : ℕ) (ps : List ℕ) → Link (pairs g) v w → Way (pairs g) w ps (root T v) → root T v ∈ pins →
+      d v w + long d w ps ≡ far T v → Onward v w
   onward-of v w ps l y m e =
       let i = link-in s v w l in
       let b = best s (i .far-in) y m in

@@ -1,17 +1,17 @@
 -- Offers, passes and the rounds of passes: one more edge, one more pass, the end. A loop's position is what is left to do from the present
 -- labels. Offers never raise a distance, so one bound is kept.
 -- Assumes nothing.
-use mathlib.Core.Path.{_≡_, refl, sym, ap, ap₂, _∙_}
+use mathlib.Core.Path.{_≡_, refl, sym, ap, _∙_}
 use mathlib.Core.Bool.{Bool, true, false, _||_}
 use mathlib.Core.List.{List, [], _∷_}
 use Prim.Native.Nat.{ℕ, zero, suc, _+_, _-_, _≤_, _<_}
 use native.Mathlib.Omega.{arith}
 use lib.Dec.{ltb}
-use lib.ListN.{getD, set, replicate}
+use lib.ListN.{getD, set}
 use borrow.Author.Tests.{ltb-true, ltb-false}
 use Rattle.lists.proofs.TestLaws.{by, differ, or-none}
 use Rattle.terminal.specs.Bounds.{pointBound, unreached}
-use Rattle.terminal.specs.Edges.{Graph, one, two, len, from, entries, FirstBelow, Below}
+use Rattle.terminal.specs.Edges.{Graph, one, two, len, entries, FirstBelow, Below}
 use Rattle.terminal.specs.Labels.{
   Labels,
   labels,

@@ -3,28 +3,28 @@
 -- are vertices; and every label below `unreached` is that of a way, since an edge is at least 1 long.
 -- Assumes nothing.
 use mathlib.Core.Path.{_≡_, refl, sym, ap, ap₂, _∙_, subst}
-use mathlib.Core.Logic.{_⊎_, inl, inr}
+use mathlib.Core.Logic.{inl, inr}
 use mathlib.Core.List.{List, [], _∷_, map, List·Memᴰ·cases-cons}
 use Prim.Native.Nat.{ℕ, zero, suc, _+_, _*_, _≤_, _<_}
 use native.Mathlib.Decide.{ℕ-discrete, decLe}
 use native.Mathlib.Omega.{arith}
-use lib.ListN.{length, getD, set, replicate, length-set, length-replicate, getD-replicate}
+use lib.ListN.{length, getD, set, length-set, length-replicate, getD-replicate}
 use lib.Seq.{getD-set-same, getD-set-other}
 use Rattle.lists.specs.Member.{_∈_, here, there, Among, Once}
 use Rattle.lists.proofs.TestLaws.{either}
 use Rattle.lists.proofs.MemberLaws.{once-length, is-in}
 use Rattle.lists.proofs.MapLaws.{in-map, of-map, map-among}
-use Rattle.joined.specs.Joined.{Link, Alike, Joined}
-use Rattle.joined.specs.Way.{Way, stop, go, Free, long}
+use Rattle.joined.specs.Joined.{Link, Alike}
+use Rattle.joined.specs.Way.{Way, stop, go, long}
 use Rattle.joined.proofs.JoinedLaws.{firsts, seconds}
 use Rattle.joined.proofs.WayLaws.{loop-free, joined-way}
 use Rattle.terminal.specs.Bounds.{pointBound, lengthBound, unreached}
 use Rattle.terminal.specs.Edges.{Graph, one, two, len, from, Fits}
-use Rattle.terminal.specs.Labels.{Labels, labels, far, root, offer, relaxEdge, relax, settled, starts, unlabelled, labelled}
+use Rattle.terminal.specs.Labels.{Labels, labels, far, root, offer, relaxEdge, relax, starts, unlabelled, labelled}
 use Rattle.terminal.specs.Setting.{ends, pairs, Setting, Whole}
 use Rattle.terminal.proofs.EdgeLaws.{in-from, below-from, length-from}
-use Rattle.terminal.proofs.Offers.{Lex, lex-same, lex-then, lex-more, Best, Sized, sized-offer, After, kept, taken, after-offer, sized-edge}
-use Rattle.terminal.proofs.Offers.{Within, sized-relax, relax-meets, rounds, settled-rounds, sized-rounds, rounds-falls}
+use Rattle.terminal.proofs.Offers.{lex-same, lex-then, lex-more, Best, Sized, sized-offer, After, kept, taken, after-offer, sized-edge}
+use Rattle.terminal.proofs.Offers.{Within, relax-meets, rounds, settled-rounds, sized-rounds, rounds-falls}
 
 -- Labels before the first pass
 

@@ -2,30 +2,29 @@
 -- chain of terminal paths has a shorter longest path than our way. A walk between pins goes from root to root: each of its links joins two
 -- vertices of one root, or is a bridge whose path is no longer than the walk. The rest is Kruskal's choice, proved in `joined`.
 -- Assumes nothing.
-use mathlib.Core.Path.{_≡_, refl, sym, ap, ap₂, _∙_, subst}
-use mathlib.Core.Bool.{Bool, true, false, not}
-use mathlib.Core.Logic.{_⊎_, inl, inr}
+use mathlib.Core.Path.{_≡_, refl, sym, ap, _∙_}
+use mathlib.Core.Bool.{false, not}
+use mathlib.Core.Logic.{inl, inr}
 use mathlib.Core.List.{List, [], _∷_, map, List·Memᴰ·cases-cons, List·Memᴰ·append-cases, Memᴰ·cast, Memᴰ·append-left, Memᴰ·append-right}
-use Prim.Native.Nat.{ℕ, zero, suc, _+_, _≤_, _<_}
+use Prim.Native.Nat.{ℕ, suc, _+_, _≤_, _<_}
 use native.Mathlib.Decide.{ℕ-discrete}
 use native.Mathlib.Omega.{arith}
-use borrow.Author.Tests.{eqb-true, eqb-false, ne-eqb, ltb-true, ltb-false}
-use lib.Dec.{eqb, ltb}
-use lib.ListN.{length, getD}
-use Rattle.lists.specs.Member.{_∈_, here, there, Among, Once}
-use Rattle.lists.specs.Sorted.{firstThen, Ascending}
+use borrow.Author.Tests.{eqb-true, eqb-false}
+use lib.ListN.{length}
+use Rattle.lists.specs.Member.{_∈_, here, there, Once}
+use Rattle.lists.specs.Sorted.{Ascending}
 use Rattle.lists.specs.Total.{total, most}
-use Rattle.lists.proofs.TestLaws.{by, differ, either}
+use Rattle.lists.proofs.TestLaws.{by, either}
 use Rattle.lists.proofs.MapLaws.{in-map, of-map, map-among}
 use Rattle.lists.proofs.ThoseLaws.{in-those}
 use Rattle.lists.proofs.SortedLaws.{in-sorted}
-use Rattle.joined.specs.Joined.{Link, Joined, stay, step, Alike, Joins, Inside}
+use Rattle.joined.specs.Joined.{Link, Joined, stay, Alike}
 use Rattle.joined.specs.Way.{Way, stop, go, long, turned}
 use Rattle.joined.specs.Tree.{Tree}
 use Rattle.joined.specs.Light.{Rising, light}
 use Rattle.joined.specs.Keep.{Offered, Dominated, kept}
 use Rattle.joined.specs.Chain.{Chain, Joining, OurWay}
-use Rattle.joined.proofs.JoinedLaws.{turn, one as one-link, then, back, cast, between, firsts, seconds, more}
+use Rattle.joined.proofs.JoinedLaws.{turn, one as one-link, then, back, between, firsts, seconds, more}
 use Rattle.joined.proofs.WayLaws.{joined-way, way-more, turned-way, turned-long, turned-once, of-turned-way}
 use Rattle.joined.proofs.LightLaws.{in-light, of-light}
 use Rattle.joined.proofs.TableLaws.{table-keeps}
@@ -42,7 +41,7 @@ use Rattle.terminal.proofs.EdgeLaws.{in-from, getD-from, length-from}
 use Rattle.terminal.proofs.WayLaws.{path-parts}
 use Rattle.terminal.proofs.BridgeLaws.{earlier-le, earlier-order, of-bridges, bridges-ascending}
 use Rattle.terminal.proofs.WholeLaws.{of-kept, weights-at}
-use Rattle.terminal.proofs.Nearest.{fits, edges-among, joint, edge-link, edge-long, link-in, best, closed}
+use Rattle.terminal.proofs.Nearest.{fits, edges-among, joint, edge-long, link-in, best, closed}
 use Rattle.terminal.proofs.Homeward.{pin-label, root-pin, wayPoints, Home, way-home, way-once, way-length}
 
 module _ {g : Graph} {n : ℕ} {d : ℕ → ℕ → ℕ} {pins : List ℕ} (s : Setting g n d pins) (whole : Whole g n pins) where

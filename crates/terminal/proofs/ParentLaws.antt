@@ -4,10 +4,10 @@ use mathlib.Core.Path.{_≡_, refl, sym, ap, ap₂, _∙_}
 use mathlib.Core.Bool.{Bool, true, false, _&&_}
 use mathlib.Core.Logic.{_⊎_, inl, inr}
 use mathlib.Core.List.{List, [], _∷_, List·Memᴰ·cases-cons, List·Memᴰ·eq-of-singleton}
-use Prim.Native.Nat.{ℕ, zero, suc, _+_, _-_, _≤_, _<_}
+use Prim.Native.Nat.{ℕ, _+_, _-_, _≤_, _<_}
 use native.Mathlib.Omega.{arith}
 use lib.Dec.{ltb, eqb}
-use lib.ListN.{getD, set, length-replicate, getD-replicate}
+use lib.ListN.{set, length-replicate, getD-replicate}
 use borrow.Author.Tests.{eq-eqb, ne-eqb, eqb-true, eqb-false, ltb-true, ltb-false}
 use Rattle.lists.specs.Member.{_∈_, here, there}
 use Rattle.lists.proofs.TestLaws.{by, either, and-left, and-right}
@@ -16,7 +16,8 @@ use Rattle.terminal.specs.declared.Step.{Step}
 use Rattle.terminal.specs.Bounds.{pointBound, edgeBound}
 use Rattle.terminal.specs.Edges.{Graph, one, two, len, from, filled, Fits}
 use Rattle.terminal.specs.Labels.{Labels, far, root}
-use Rattle.terminal.specs.Parents.{step, none, leads, nearer, through, parentAmong, parent, Parents, parents, up, via, orphans, adopted, parented, Falls}
+use Rattle.terminal.specs.Parents.{step, none, leads, nearer, through, parentAmong, parent}
+use Rattle.terminal.specs.Parents.{Parents, parents, up, via, orphans, adopted, parented, Falls}
 use Rattle.terminal.proofs.EdgeLaws.{below-from, fill-more, fill-end, fill-all, filled-here, filled-beyond}
 
 module _ (t : Labels) (v w k d : ℕ) (best : Step) (m : Bool) (is : m ≡ leads t w v d) where
@@ -169,7 +170,8 @@ module _ (g : Graph) (t : Labels) (v : ℕ) where
       }
     where
       first : parentAmong g t v ks (through g t v k best) ≡ through g t v k best →
-          (through g t v k best ≡ best) ⊎ ((through g t v k best .via ∈ (k ∷ [])) × Candidate (through g t v k best .to) (through g t v k best .via)) →
+          (through g t v k best ≡ best)
+          ⊎ ((through g t v k best .via ∈ (k ∷ [])) × Candidate (through g t v k best .to) (through g t v k best .via)) →
           (parentAmong g t v ks (through g t v k best) ≡ best)
           ⊎ ((parentAmong g t v ks (through g t v k best) .via ∈ (k ∷ ks))
           × Candidate (parentAmong g t v ks (through g t v k best) .to) (parentAmong g t v ks (through g t v k best) .via))

@@ -1,12 +1,12 @@
 -- The stages one after the other are the terminal tree: what each table holds, from what each call gives.
 -- Assumes nothing.
-use mathlib.Core.Path.{_≡_, refl, sym, ap, ap₂, _∙_}
-use mathlib.Core.Bool.{Bool, true, false}
+use mathlib.Core.Path.{_≡_, refl, ap, ap₂, _∙_}
+use mathlib.Core.Bool.{false}
 use mathlib.Core.List.{List, [], _∷_, map, List·Memᴰ·cases-cons}
-use Prim.Native.Nat.{ℕ, suc, _+_, _≤_, _<_}
+use Prim.Native.Nat.{ℕ, _+_, _≤_, _<_}
 use native.Mathlib.Omega.{arith}
 use lib.Dec.{eqb}
-use lib.ListN.{length, getD, replicate, length-replicate}
+use lib.ListN.{getD, replicate, length-replicate}
 use Rattle.lists.specs.Member.{_∈_, here, there, Among}
 use Rattle.lists.proofs.TestLaws.{by, either}
 use Rattle.lists.specs.Total.{total}
@@ -29,7 +29,9 @@ pub staged : (g : Graph) (n : ℕ) (pins : List ℕ) (t₀ t₁ t₂ : Labels) (
     t₂ ≡ settled n g (from 0 (g .count)) t₁ → p₁ ≡ adopted g n t₂ p₀ → (t₂ ≡ labelled g n pins) × (p₁ ≡ parented g n (labelled g n pins))
 unfolding labelled parented
 staged g n pins t₀ t₁ t₂ p₀ p₁ a b c d f =
-    let e : t₂ ≡ settled n g (from 0 (g .count)) (starts pins unlabelled) = d ∙ ap (λ (t : Labels). settled n g (from 0 (g .count)) t) (c ∙ ap (starts pins) a) in
+    let e : t₂ ≡ settled n g (from 0 (g .count)) (starts pins unlabelled) =
+    d ∙ ap (settled n g (from 0 (g .count))) (c ∙ ap (starts pins) a)
+    in
     (e, f ∙ ap₂ (λ (t : Labels) (p : Parents). adopted g n t p) e b)
 
 -- what is kept was offered
@@ -80,7 +82,9 @@ module _ (g : Graph) (t : Labels) (p : Parents) where
       kept-is : keptBy (rootsOf g t) (entries order 0 n) group ≡ keptBridges g t p
       unfolding keptBridges bridges weights
       kept-is =
-          ap₂ (keptBy (rootsOf g t)) (read-listed _ _ order n sorted ∙ ap (λ (v : List ℕ). bridgesFrom g t v 0 (g .count)) weighed) (numbered ∙ own-groups)
+          ap₂ (keptBy (rootsOf g t))
+          (read-listed _ _ order n sorted ∙ ap (λ (v : List ℕ). bridgesFrom g t v 0 (g .count)) weighed)
+          (numbered ∙ own-groups)
 
       pub kept-listed : Listed (keptBridges g t p) lent table count
       kept-listed = rw (← kept-is) taken
@@ -103,7 +107,8 @@ module _ (g : Graph) (t : Labels) (p : Parents) where
       lengths-listed lent′ long sum a b = (rw (← lengths-is) a, b ∙ ap total lengths-is)
 
 -- Labels and parents that the code made are bounded, and distances fall along parents
-module _ (g : Graph) (n m : ℕ) (pins : List ℕ) (t : Labels) (p : Parents) (fits : Fits g) (small : n ≤ pointBound) (inside : FirstBelow pins m pointBound)
+module _ (g : Graph) (n m : ℕ) (pins : List ℕ) (t : Labels) (p : Parents)
+    (fits : Fits g) (small : n ≤ pointBound) (inside : FirstBelow pins m pointBound)
     (t-is : t ≡ labelled g n (entries pins 0 m)) (p-is : p ≡ parented g n (labelled g n (entries pins 0 m))) where
   pub made-fine : Fine t
   unfolding labelled
@@ -115,7 +120,8 @@ module _ (g : Graph) (n m : ℕ) (pins : List ℕ) (t : Labels) (p : Parents) (f
   made-falls = rw (p-is, t-is) (falls-parented g n (labelled g n (entries pins 0 m)) small fits)
 
 -- the whole from its two halves
-module _ (g : Graph) (n : ℕ) (pins : List ℕ) (t : Labels) (p : Parents) (t-is : t ≡ labelled g n pins) (p-is : p ≡ parented g n (labelled g n pins)) where
+module _ (g : Graph) (n : ℕ) (pins : List ℕ) (t : Labels) (p : Parents)
+    (t-is : t ≡ labelled g n pins) (p-is : p ≡ parented g n (labelled g n pins)) where
   pub whole : (lent table lent′ long : List ℕ) (count sum : ℕ) → Listed (keptBridges g t p) lent table count →
       Listed (keptLengths g t p) lent′ long count × (sum ≡ total (keptLengths g t p)) →
       (t ≡ terminal g n pins .labels)

@@ -9,8 +9,8 @@ use Rattle.lists.specs.Those.{those}
 use Rattle.lists.specs.Total.{total}
 use Rattle.joined.specs.Table.{changed, keptBy}
 use Rattle.terminal.specs.Edges.{Graph, graph, from, filled}
-use Rattle.terminal.specs.Labels.{Labels, better, gains, offer, relaxEdge, moves, relax, changes, settled, starts, labelled}
-use Rattle.terminal.specs.Parents.{leads, nearer, through, parentAmong, parent, adopted, parented, wayOf, way, wayLength}
+use Rattle.terminal.specs.Labels.{better, gains, offer, relaxEdge, moves, relax, changes, settled, starts, labelled}
+use Rattle.terminal.specs.Parents.{leads, nearer, through, parentAmong, parent, adopted, parented, wayOf, way}
 use Rattle.terminal.specs.Bridges.{sameRoot, path, pathLength, weights, earlier, bridgesFrom, bridges}
 use Rattle.terminal.specs.Kept.{keptBridges, keptLengths, terminal}
 
@@ -22,7 +22,9 @@ pub record Forest : Type 0 where
   pub edge : List ℕ
 
 unfoldable pub forest : Graph → ℕ → List ℕ → Forest
-unfolding labelled settled changes moves relax relaxEdge offer gains better starts parented adopted parent parentAmong through nearer leads filled from
+unfolding
+    labelled settled changes moves relax relaxEdge offer gains better starts
+    parented adopted parent parentAmong through nearer leads filled from
 forest g n pins =
     let t = labelled g n pins in
     let p = parented g n t in
@@ -37,7 +39,8 @@ pub record Tree : Type 0 where
 unfoldable pub tree : Graph → ℕ → List ℕ → Tree
 unfolding
     labelled settled changes moves relax relaxEdge offer gains better starts parented adopted parent parentAmong through nearer leads filled from
-    wayOf way sameRoot path pathLength weights earlier firstThen put sorted those bridgesFrom bridges keptBy changed keptBridges keptLengths total terminal
+    wayOf way sameRoot path pathLength weights earlier firstThen put sorted those bridgesFrom bridges
+    keptBy changed keptBridges keptLengths total terminal
 tree g n pins =
     let r = terminal g n pins in
     record { kept = r .bridges; lengths = r .lengths; total = r .total }

@@ -1,7 +1,7 @@
 -- `terminal::adopt` meets its contract. The loop's invariant: filling in the parents that are left gives what filling in all gives.
 -- The measure is how many they are.
 -- Assumes nothing.
-use Prim.Native.Nat.{ℕ, _≤_, _<_, _-_}
+use Prim.Native.Nat.{_≤_, _-_}
 use native.Mathlib.Omega.{arith}
 use Rattle.terminal.specs.Edges.{graph}
 use Rattle.terminal.specs.Labels.{labels}

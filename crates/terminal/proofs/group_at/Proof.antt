@@ -1,6 +1,5 @@
 -- `terminal::group_at` meets its contract: the code is the definition, and each entry is a number of a vertex.
 -- Assumes nothing.
-use mathlib.Core.Path.{refl}
 use native.Mathlib.Omega.{arith}
 use lib.ListN.{getD}
 use borrow.Author.Needs.{needs}

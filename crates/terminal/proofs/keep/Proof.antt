@@ -2,7 +2,7 @@
 -- from the present groups it is what all give. The measure is how many are left.
 -- Assumes nothing.
 use mathlib.Core.Path.{_≡_}
-use Prim.Native.Nat.{ℕ, _+_, _≤_, _<_, _-_}
+use Prim.Native.Nat.{_≤_, _<_, _-_}
 use native.Mathlib.Omega.{arith}
 use lib.ListN.{length}
 use denote.Ref.{now}
@@ -16,7 +16,10 @@ use Rattle.terminal.proofs.keep.Statement.{statement}
 use Rattle.terminal.proofs.keep.Tie as tie
 
 abbrev Inv-loop : tie.InvT-loop
-Inv-loop ea eb el e far root order n group₀ kept₀ count₀ i₀ group kept count i = ((i ≤ n) × (count ≤ i)) × ((length group ≡ pointBound) × Keeping (rootsOf (graph ea eb el e) (labels far root)) (entries order 0 n) group₀ (entries order i (n - i)) group kept₀ kept count)
+Inv-loop ea eb el e far root order n group₀ kept₀ count₀ i₀ group kept count i =
+    ((i ≤ n) × (count ≤ i))
+    × ((length group ≡ pointBound)
+    × Keeping (rootsOf (graph ea eb el e) (labels far root)) (entries order 0 n) group₀ (entries order i (n - i)) group kept₀ kept count)
 
 abbrev μ-loop : tie.MeasureT-loop
 μ-loop ea eb el e far root order n group₀ kept₀ count₀ i₀ group kept count i = n - i

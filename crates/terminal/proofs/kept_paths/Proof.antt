@@ -1,6 +1,6 @@
 -- `terminal::kept_paths` meets its contract: its calls are the definitions' stages, and each leaves what the next one asks.
 -- Assumes nothing.
-use mathlib.Core.Path.{_≡_, refl, sym, ap, _∙_}
+use mathlib.Core.Path.{refl, ap, _∙_}
 use native.Mathlib.Omega.{arith}
 use lib.ListN.{length}
 use Rattle.terminal.specs.Bounds.{pointBound, edgeBound}
@@ -11,7 +11,9 @@ use Rattle.terminal.proofs.kept_paths.Statement.{statement}
 use Rattle.terminal.proofs.kept_paths.Tie as tie
 
 weigh-requires : tie.Need-weigh-requires
-weigh-requires c κs = search needs
+weigh-requires c κs =
+    let s = c .before in
+    (s .pre .1 .0, (s .pre .0 .0, s .pre .0 .1 .0))
 
 sort-bridges-requires : tie.Need-sort-bridges-requires
 sort-bridges-requires c κs = (c .before .before .before .before .pre .0 .0, (below-replicate edgeBound edgeBound 0 (omega arith), refl))
@@ -22,22 +24,23 @@ number-requires c κs = search needs
 keep-requires : tie.Need-keep-requires
 keep-requires c κs =
     let s = c .before .before .before .before .before .before .before .before .before .before in
-    let o = c .before .before .before .before .before .sort-bridges in (
-      (s .pre .0 .0, (s .pre .0 .1 .1, omega (arith, o .ensures .1, s .pre .0 .0 .count))),
-      (ordered _ _ _ (s .pre .0 .0) _ _ _ (c .before .before .before .before .before .before .before .before .weigh .ensures) (o .ensures .0), (ap length (c .before .before .before .number .ensures) ∙ length-filled _ 0 pointBound _, s .pre .1 .1 .0)),
+    let fits = s .pre .0 .0 in
+    let w = c .before .before .before .before .before .before .before .before .weigh .ensures in
+    let o = c .before .before .before .before .before .sort-bridges .ensures in
+    let n = c .before .before .before .number .ensures in (
+      (fits, (s .pre .0 .1 .1, omega (arith, o .1, fits .count))),
+      (ordered _ _ _ fits _ _ _ w (o .0), (ap length n ∙ length-filled _ 0 pointBound _, s .pre .1 .1 .0)),
     )
 
 measure-requires : tie.Need-measure-requires
 measure-requires c κs =
     let s = c .before .before .before .before .before .before .before .before .before .before .before .before .before .before in
     let fits = s .pre .0 .0 in
-    let k = c .before .before .before .keep .ensures in
+    let w = c .before .before .before .before .before .before .before .before .before .before .before .before .weigh .ensures in
     let o = c .before .before .before .before .before .before .before .before .before .sort-bridges .ensures in
-    let w = c .before .before .before .before .before .before .before .before .before .before .before .before .weigh .ensures in (
-      (
-        omega (arith, k .1, o .1, fits .count),
-        (kept-inside _ _ _ fits _ _ _ w (o .0) _ (c .before .before .before .before .before .before .before .number .ensures) _ _ _ (k .0), s .pre .1 .1 .1),
-      ),
+    let n = c .before .before .before .before .before .before .before .number .ensures in
+    let k = c .before .before .before .keep .ensures in (
+      (omega (arith, k .1, o .1, fits .count), (kept-inside _ _ _ fits _ _ _ w (o .0) _ n _ _ _ (k .0), s .pre .1 .1 .1)),
       light _ _ _ fits _ _ _ w (o .0) (s .pre .1 .0) (s .pre .0 .1 .0),
     )
 

@@ -2,7 +2,7 @@
 -- the rest. The measure is how many are left.
 -- Assumes nothing.
 use mathlib.Core.Path.{_≡_}
-use Prim.Native.Nat.{ℕ, _*_, _+_, _≤_, _<_, _-_}
+use Prim.Native.Nat.{_≤_, _<_, _-_}
 use native.Mathlib.Omega.{arith}
 use lib.ListN.{length, getD}
 use denote.Ref.{now}
@@ -14,7 +14,8 @@ use Rattle.terminal.proofs.measure.Statement.{statement}
 use Rattle.terminal.proofs.measure.Tie as tie
 
 abbrev Inv-loop : tie.InvT-loop
-Inv-loop w kept n long₀ sum₀ i₀ long sum i = (i ≤ n) × Measuring (λ k. getD w k 0) pathBound (entries kept 0 n) (entries kept i (n - i)) long₀ long i sum
+Inv-loop w kept n long₀ sum₀ i₀ long sum i =
+    (i ≤ n) × Measuring (λ k. getD w k 0) pathBound (entries kept 0 n) (entries kept i (n - i)) long₀ long i sum
 
 abbrev μ-loop : tie.MeasureT-loop
 μ-loop w kept n long₀ sum₀ i₀ long sum i = n - i

@@ -2,7 +2,7 @@
 -- The measure is how many they are.
 -- Assumes nothing.
 use mathlib.Core.Path.{_≡_, refl}
-use Prim.Native.Nat.{ℕ, _≤_, _<_, _-_}
+use Prim.Native.Nat.{_≤_, _-_}
 use native.Mathlib.Omega.{arith}
 use Rattle.terminal.specs.Bounds.{pointBound}
 use Rattle.terminal.specs.Edges.{filled}

@@ -2,7 +2,7 @@
 -- The measure is how many they are.
 -- Assumes nothing.
 use mathlib.Core.Path.{_≡_, refl}
-use Prim.Native.Nat.{ℕ, _≤_, _<_, _-_}
+use Prim.Native.Nat.{_≤_, _-_}
 use native.Mathlib.Omega.{arith}
 use Rattle.terminal.specs.Edges.{graph, from}
 use Rattle.terminal.specs.Labels.{labels}
@@ -13,7 +13,9 @@ use Rattle.terminal.proofs.parent_of.Statement.{statement}
 use Rattle.terminal.proofs.parent_of.Tie as tie
 
 abbrev Inv-loop : tie.InvT-loop
-Inv-loop ea eb el e far root v best₀ k₀ best k = (k ≤ e) × (parentAmong (graph ea eb el e) (labels far root) v (from k (e - k)) best ≡ parent (graph ea eb el e) (labels far root) v)
+Inv-loop ea eb el e far root v best₀ k₀ best k =
+    (k ≤ e)
+    × (parentAmong (graph ea eb el e) (labels far root) v (from k (e - k)) best ≡ parent (graph ea eb el e) (labels far root) v)
 
 abbrev μ-loop : tie.MeasureT-loop
 μ-loop ea eb el e far root v best₀ k₀ best k = e - k

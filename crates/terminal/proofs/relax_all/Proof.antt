@@ -1,8 +1,7 @@
 -- `terminal::relax_all` meets its contract. The loop's invariant: the edges that are left, from the present labels, give what all give.
 -- The measure is how many they are.
 -- Assumes nothing.
-use mathlib.Core.Path.{_≡_}
-use Prim.Native.Nat.{ℕ, _≤_, _<_, _-_}
+use Prim.Native.Nat.{_≤_, _-_}
 use native.Mathlib.Omega.{arith}
 use Rattle.terminal.specs.Edges.{graph, from}
 use Rattle.terminal.specs.Labels.{labels}
@@ -12,7 +11,8 @@ use Rattle.terminal.proofs.relax_all.Statement.{statement}
 use Rattle.terminal.proofs.relax_all.Tie as tie
 
 abbrev Inv-loop : tie.InvT-loop
-Inv-loop ea eb el e far₀ root₀ moved₀ k₀ far root moved k = (k ≤ e) × Passing (graph ea eb el e) (from 0 e) (labels far₀ root₀) (from k (e - k)) (labels far root) moved
+Inv-loop ea eb el e far₀ root₀ moved₀ k₀ far root moved k =
+    (k ≤ e) × Passing (graph ea eb el e) (from 0 e) (labels far₀ root₀) (from k (e - k)) (labels far root) moved
 
 abbrev μ-loop : tie.MeasureT-loop
 μ-loop ea eb el e far₀ root₀ moved₀ k₀ far root moved k = e - k
@@ -21,7 +21,9 @@ loop-holds : tie.Need-loop-holds Inv-loop μ-loop
 loop-holds c = (omega arith, rw (all-left (c .args .e)) (pass-none _ _ _ (c .pre .1)))
 
 relax-edge-requires : tie.Need-relax-edge-requires Inv-loop μ-loop
-relax-edge-requires c κs = (c .before .before .before .before .pre .0, (c .before .before .loop-test .taken, c .before .before .before .loop .inv .1 .low))
+relax-edge-requires c κs =
+    let l = c .before .before .before in
+    (l .before .pre .0, (c .before .before .loop-test .taken, l .loop .inv .1 .low))
 
 add-k : tie.Need-add-k Inv-loop μ-loop
 add-k c = omega arith
@@ -32,7 +34,8 @@ loop-less c = omega arith
 loop-again : tie.Need-loop-again Inv-loop μ-loop
 loop-again c =
     let l = c .before .before .before .before in
-    (omega arith, pass-more _ _ _ _ _ _ (l .loop .inv .1) _ _ _ _ (from-next _ _ (c .before .before .before .loop-test .taken)) (c .relax-edge .ensures))
+    let h = c .before .before .before .loop-test .taken in
+    (omega arith, pass-more _ _ _ _ _ _ (l .loop .inv .1) _ _ _ _ (from-next _ _ h) (c .relax-edge .ensures))
 
 returns : tie.Need-returns Inv-loop μ-loop
 returns c = pass-end _ _ _ _ _ _ (c .before .loop .inv .1) (from-end _ _ (c .loop-test .left))

@@ -1,8 +1,8 @@
 -- `terminal::settle` meets its contract. The loop's invariant: the passes that are left, from the present labels, give what all give.
 -- The measure is how many they are. A pass that changes nothing ends it, since it and all after it leave the labels as they are.
 -- Assumes nothing.
-use mathlib.Core.Path.{_≡_, sym, _∙_}
-use Prim.Native.Nat.{ℕ, _≤_, _<_, _-_}
+use mathlib.Core.Path.{sym, _∙_}
+use Prim.Native.Nat.{_≤_, _-_}
 use native.Mathlib.Omega.{arith}
 use borrow.Author.Tests.{not-true, not-false}
 use Rattle.terminal.specs.Edges.{graph, from}
@@ -30,7 +30,8 @@ returns : tie.Need-returns Inv-loop μ-loop
 returns c =
     let l = c .before .before .before .before .before in
     let call = c .before .relax-all .ensures in
-    settle-stop _ _ _ _ _ _ (l .loop .inv .1) _ _ (one-less _ _ (c .before .before .before .before .loop-test .taken)) (sym (call .0) ∙ not-true _ (c .if1 .taken)) (call .1)
+    let h = c .before .before .before .before .loop-test .taken in
+    settle-stop _ _ _ _ _ _ (l .loop .inv .1) _ _ (one-less _ _ h) (sym (call .0) ∙ not-true _ (c .if1 .taken)) (call .1)
 
 add-i : tie.Need-add-i Inv-loop μ-loop
 add-i c = omega arith
@@ -42,7 +43,8 @@ loop-again : tie.Need-loop-again Inv-loop μ-loop
 loop-again c =
     let l = c .before .before .before .before .before in
     let call = c .before .relax-all .ensures in
-    (omega arith, settle-more _ _ _ _ _ _ (l .loop .inv .1) _ _ (one-less _ _ (c .before .before .before .before .loop-test .taken)) (sym (call .0) ∙ not-false _ (c .if1 .left)) (call .1))
+    let h = c .before .before .before .before .loop-test .taken in
+    (omega arith, settle-more _ _ _ _ _ _ (l .loop .inv .1) _ _ (one-less _ _ h) (sym (call .0) ∙ not-false _ (c .if1 .left)) (call .1))
 
 returns-2 : tie.Need-returns-2 Inv-loop μ-loop
 returns-2 c = settle-end _ _ _ _ _ _ (c .before .loop .inv .1) (none-left _ _ (c .loop-test .left))

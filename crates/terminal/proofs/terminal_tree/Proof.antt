@@ -1,12 +1,13 @@
 -- `terminal::terminal_tree` meets its contract: it is the forest and what is kept by it.
 -- Assumes nothing.
 use Rattle.terminal.proofs.WholeLaws.{made-fine, made-falls, whole}
-use borrow.Author.Needs.{needs}
 use Rattle.terminal.proofs.terminal_tree.Statement.{statement}
 use Rattle.terminal.proofs.terminal_tree.Tie as tie
 
 forest-requires : tie.Need-forest-requires
-forest-requires c κs = search needs
+forest-requires c κs =
+    let s = c .before .before .before .before in
+    (s .pre .0, s .pre .1 .0)
 
 kept-paths-requires : tie.Need-kept-paths-requires
 kept-paths-requires c κs =
