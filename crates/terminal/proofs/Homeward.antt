@@ -265,6 +265,9 @@ module _ {g : Graph} {n : ℕ} {d : ℕ → ℕ → ℕ} {pins : List ℕ} (s : 
       first-link (inl e) = inl (here (ap₂ (λ (a b : ℕ). (a, b)) (e .0) (e .1)))
       first-link (inr e) = inr (here (ap₂ (λ (a b : ℕ). (a, b)) (e .1) (e .0)))
 
+  lower : (k v : ℕ) → far T v ≤ suc k → Parent v → far T (up P v) ≤ k
+  lower k v l p = let c = link-in s v (up P v) (p .is .link) .some in omega (arith, p .is .nearer)
+
   home : (k v : ℕ) → v < n → far T v ≤ k → Home v (climb P k v) (wayOf P k v)
   home zero v h l = at (is-in ℕ-discrete v pins)
     where
@@ -273,11 +276,8 @@ module _ {g : Graph} {n : ℕ} {d : ℕ → ℕ → ℕ} {pins : List ℕ} (s : 
           let u : pointBound ≤ up P v = omega (arith, pin-parent v m) in
           rw (climb-none P zero v u, way-none P zero v u) (at-pin v m)
       at (no m) = absurd (let z : ⊥ = omega (arith, far-off v h m) in z)
-  home (suc k) v h l = at (λ p. home k (up P v) (p .inside) (lower p)) (is-in ℕ-discrete v pins)
+  home (suc k) v h l = at (λ p. home k (up P v) (p .inside) (lower k v l p)) (is-in ℕ-discrete v pins)
     where
-      lower : Parent v → far T (up P v) ≤ k
-      lower p = let c = link-in s v (up P v) (p .is .link) .some in omega (arith, p .is .nearer)
-
       at : (Parent v → Home (up P v) (climb P k (up P v)) (wayOf P k (up P v))) → Dec (v ∈ pins) → Home v (climb P (suc k) v) (wayOf P (suc k) v)
       at up-home (yes m) =
           let u : pointBound ≤ up P v = omega (arith, pin-parent v m) in
@@ -286,6 +286,29 @@ module _ {g : Graph} {n : ℕ} {d : ℕ → ℕ → ℕ} {pins : List ℕ} (s : 
           let p = parent-is v h m in
           let u : up P v < pointBound = omega (arith, p .inside, s .vertices) in
           rw (climb-go P k v u, way-go P k v u) (one-up v _ _ p (up-home p))
+
+  -- a way goes on, from each of its vertices, with that vertex's parent
+  goes-on : (k v : ℕ) → v < n → far T v ≤ k → (z : ℕ) → z ∈ (v ∷ climb P k v) → (z ∈ pins → ⊥) → up P z ∈ climb P k v
+  unfolding climb
+  goes-on zero v h l z m o =
+      either
+      (λ e. absurd (let f = far-off v h (λ i. o (rw e i)) in let y : ⊥ = omega arith in y))
+      (λ i. elim i [ ])
+      (List·Memᴰ·cases-cons m)
+  goes-on (suc k) v h l z m o =
+      at (λ p i. goes-on k (up P v) (p .inside) (lower k v l p) z i o) (is-in ℕ-discrete v pins) (List·Memᴰ·cases-cons m)
+    where
+      at : (Parent v → z ∈ (up P v ∷ climb P k (up P v)) → up P z ∈ climb P k (up P v)) → Dec (v ∈ pins) →
+          (z ≡ v) ⊎ (z ∈ climb P (suc k) v) → up P z ∈ climb P (suc k) v
+      at next (yes i) (inl e) = absurd (o (rw e i))
+      at next (yes i) (inr j) =
+          let u : pointBound ≤ up P v = omega (arith, pin-parent v i) in
+          elim (rw (climb-none P (suc k) v u) at j) [ ]
+      at next (no i) c =
+          let p = parent-is v h i in
+          let u : up P v < pointBound = omega (arith, p .inside, s .vertices) in
+          rw (climb-go P k v u)
+          (either (λ e. here (ap (up P) e)) (λ j. there (next p (rw (climb-go P k v u) at j))) c)
 
   -- the vertices after v on its way
   abbrev pub wayPoints : ℕ → List ℕ
@@ -301,6 +324,13 @@ module _ {g : Graph} {n : ℕ} {d : ℕ → ℕ → ℕ} {pins : List ℕ} (s : 
 
   pub way-once : (v : ℕ) → v < n → Once (v ∷ wayPoints v)
   way-once v h = falling-once v (wayPoints v) (way-home v h .falling)
+
+  -- no vertex on it but the root is a pin
+  pub way-pin : (v : ℕ) → v < n → (z : ℕ) → z ∈ (v ∷ wayPoints v) → z ∈ pins → z ≡ root T v
+  way-pin v h z m p = sym (pin-label z p .1) ∙ way-home v h .alike z m
+
+  pub way-goes-on : (v : ℕ) → v < n → (z : ℕ) → z ∈ (v ∷ wayPoints v) → (z ∈ pins → ⊥) → up P z ∈ wayPoints v
+  way-goes-on v h z m o = goes-on (far T v) v h (omega arith) z m o
 
   pub way-length : (v : ℕ) → v < n → wayLength g T P v ≡ far T v
   unfolding wayLength

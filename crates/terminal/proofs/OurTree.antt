@@ -42,7 +42,7 @@ use Rattle.terminal.proofs.WayLaws.{path-parts}
 use Rattle.terminal.proofs.BridgeLaws.{earlier-le, earlier-order, of-bridges, bridges-ascending}
 use Rattle.terminal.proofs.WholeLaws.{of-kept, weights-at}
 use Rattle.terminal.proofs.Nearest.{fits, edges-among, joint, edge-long, link-in, best, closed}
-use Rattle.terminal.proofs.Homeward.{pin-label, root-pin, wayPoints, Home, way-home, way-once, way-length}
+use Rattle.terminal.proofs.Homeward.{pin-label, root-pin, wayPoints, Home, way-home, way-once, way-pin, way-length}
 
 module _ {g : Graph} {n : ℕ} {d : ℕ → ℕ → ℕ} {pins : List ℕ} (s : Setting g n d pins) (whole : Whole g n pins) where
   abbrev T : Labels
@@ -86,7 +86,9 @@ module _ {g : Graph} {n : ℕ} {d : ℕ → ℕ → ℕ} {pins : List ℕ} (s : 
       start-pin = root-pin s whole u iu;
       finish-pin = root-pin s whole v iv;
       apart = ne;
-      inner = λ z m p. either (λ q. inl q) (λ i. either (λ j. inl (own u z p (hu .alike z j))) (λ j. inr (own v z p (hv .alike z j)))
+      inner = λ z m p.
+          either (λ q. inl q)
+          (λ i. either (λ j. inl (way-pin s whole u iu z j p)) (λ j. inr (way-pin s whole v iv z j p))
           (of-turned-way u (wayPoints s whole u) (v ∷ wayPoints s whole v) z i)) (List·Memᴰ·cases-cons m);
     };
     start-is = refl;
@@ -148,9 +150,6 @@ module _ {g : Graph} {n : ℕ} {d : ℕ → ℕ → ℕ} {pins : List ℕ} (s : 
       apart : (z : ℕ) → z ∈ wayPoints s whole u → z ∈ (u ∷ (v ∷ wayPoints s whole v)) → ⊥
       apart z i m =
           either (λ q. ou .0 (Memᴰ·cast (sym q) i)) (λ q. ne (sym (hu .alike z (there i)) ∙ hv .alike z q)) (List·Memᴰ·cases-cons m)
-
-      own : (w z : ℕ) → z ∈ pins → root T z ≡ root T w → z ≡ root T w
-      own w z p q = sym (pin-label s whole z p .1) ∙ q
 
   -- Bridges of a list
 
