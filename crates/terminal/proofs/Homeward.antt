@@ -314,13 +314,13 @@ module _ {g : Graph} {n : ℕ} {d : ℕ → ℕ → ℕ} {pins : List ℕ} (s : 
   abbrev pub wayPoints : ℕ → List ℕ
   wayPoints v = climb P (far T v) v
 
-  pub way-home : (v : ℕ) → v < n → Home v (wayPoints v) (way T P v)
+  pub way-home : (v : ℕ) → v < n → Home v (wayPoints v) (way (T .fars) P v)
   unfolding way
   way-home v h = home (far T v) v h (omega arith)
 
   -- it runs along edges of the graph
   pub way-runs : (v : ℕ) → v < n → Way (pairs g) v (wayPoints v) (root T v)
-  way-runs v h = let r = way-home v h in way-more (edges-among s (way T P v) (r .inside)) (r .along)
+  way-runs v h = let r = way-home v h in way-more (edges-among s (way (T .fars) P v) (r .inside)) (r .along)
 
   pub way-once : (v : ℕ) → v < n → Once (v ∷ wayPoints v)
   way-once v h = falling-once v (wayPoints v) (way-home v h .falling)
@@ -332,6 +332,6 @@ module _ {g : Graph} {n : ℕ} {d : ℕ → ℕ → ℕ} {pins : List ℕ} (s : 
   pub way-goes-on : (v : ℕ) → v < n → (z : ℕ) → z ∈ (v ∷ wayPoints v) → (z ∈ pins → ⊥) → up P z ∈ wayPoints v
   way-goes-on v h z m o = goes-on (far T v) v h (omega arith) z m o
 
-  pub way-length : (v : ℕ) → v < n → wayLength g T P v ≡ far T v
+  pub way-length : (v : ℕ) → v < n → wayLength (g .lengths) (T .fars) P v ≡ far T v
   unfolding wayLength
   way-length v h = way-home v h .edges-are

@@ -49,12 +49,10 @@ better-le f r g s e =
     (λ h. by (ltb g f) (λ i. differ refl (sym (rw (better, h, i) at e))) (λ i. omega (arith, ltb-false g f i)))
 
 -- an edge's two offers
-pub both-ways : (g : Graph) (k : ℕ) (t t′ t″ : Labels) (p q : Bool) →
-    (p ≡ gains (one g k) (two g k) (len g k) t) × (t′ ≡ offer (one g k) (two g k) (len g k) t) →
-    (q ≡ gains (two g k) (one g k) (len g k) t′) × (t″ ≡ offer (two g k) (one g k) (len g k) t′) →
-    ((p || q) ≡ moves g k t) × (t″ ≡ relaxEdge g k t)
-unfolding moves relaxEdge
-both-ways g k t t′ t″ p q h i = (rw (h .0, i .0, h .1) refl, i .1 ∙ ap (offer (two g k) (one g k) (len g k)) (h .1))
+pub both-ways : (a b d : ℕ) (t t′ t″ : Labels) (p q : Bool) → (p ≡ gains a b d t) × (t′ ≡ offer a b d t) →
+    (q ≡ gains b a d t′) × (t″ ≡ offer b a d t′) →
+    ((p || q) ≡ (gains a b d t || gains b a d (offer a b d t))) × (t″ ≡ offer b a d (offer a b d t))
+both-ways a b d t t′ t″ p q h i = (rw (h .0, i .0, h .1) refl, i .1 ∙ ap (offer b a d) (h .1))
 
 -- Bounds of labels
 

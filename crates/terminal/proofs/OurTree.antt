@@ -34,7 +34,7 @@ use Rattle.terminal.specs.Bounds.{pointBound}
 use Rattle.terminal.specs.Edges.{Graph, one, two, len, from}
 use Rattle.terminal.specs.Labels.{Labels, far, root, labelled}
 use Rattle.terminal.specs.Parents.{Parents, parented, way}
-use Rattle.terminal.specs.Bridges.{sameRoot, rootsOf, path as pathEdges, pathLength, weights, earlier, bridgesFrom, bridges}
+use Rattle.terminal.specs.Bridges.{oneRoot, sameRoot, rootsOf, path as pathEdges, pathLength, weights, earlier, bridgesFrom, bridges}
 use Rattle.terminal.specs.Kept.{keptBridges, keptLengths, terminal}
 use Rattle.terminal.specs.Setting.{ends, pairs, Setting, Whole, TerminalPath, endsOf, lengthOf}
 use Rattle.terminal.proofs.EdgeLaws.{in-from, getD-from, length-from}
@@ -52,14 +52,14 @@ module _ {g : Graph} {n : ℕ} {d : ℕ → ℕ → ℕ} {pins : List ℕ} (s : 
   P = parented g n (labelled g n pins)
 
   abbrev weight : ℕ → ℕ
-  weight = pathLength g (labelled g n pins) (parented g n (labelled g n pins))
+  weight = pathLength g (labelled g n pins .fars) (parented g n (labelled g n pins))
 
   -- The path of a bridge
 
   -- a path is as long as the two distances and the bridge
   pub path-is : (k : ℕ) → k < g .count → weight k ≡ far T (one g k) + len g k + far T (two g k)
   path-is k h =
-      omega (arith, path-parts g T P k, way-length s whole (one g k) (s .one-in k h), way-length s whole (two g k) (s .two-in k h))
+      omega (arith, path-parts g (T .fars) P k, way-length s whole (one g k) (s .one-in k h), way-length s whole (two g k) (s .two-in k h))
 
   -- "root, way, bridge, way, root"
   pub record Stands (k : ℕ) : Type 0 where
@@ -67,11 +67,11 @@ module _ {g : Graph} {n : ℕ} {d : ℕ → ℕ → ℕ} {pins : List ℕ} (s : 
     pub start-is : path .start ≡ root T (one g k)
     pub finish-is : path .finish ≡ root T (two g k)
     -- it runs along the edges that make up its length
-    pub along : Way (map (ends g) (pathEdges g T P k)) (path .start) (path .points) (path .finish)
+    pub along : Way (map (ends g) (pathEdges g (T .fars) P k)) (path .start) (path .points) (path .finish)
     pub length-is : lengthOf d path ≡ weight k
 
   bridge-roots : (k : ℕ) → sameRoot g T k ≡ false → root T (one g k) ≡ root T (two g k) → ⊥
-  unfolding sameRoot
+  unfolding oneRoot
   bridge-roots k e = eqb-false _ _ e
 
   pub stands : (k : ℕ) → k < g .count → sameRoot g T k ≡ false → Stands k
@@ -81,7 +81,7 @@ module _ {g : Graph} {n : ℕ} {d : ℕ → ℕ → ℕ} {pins : List ℕ} (s : 
       start = root T u;
       finish = root T v;
       points = turned u (wayPoints s whole u) (v ∷ wayPoints s whole v);
-      way = way-more (edges-among s (pathEdges g T P k) inside) run;
+      way = way-more (edges-among s (pathEdges g (T .fars) P k) inside) run;
       once = turned-once (hu .along) (v ∷ wayPoints s whole v) ou (λ m. ne (hv .alike u m), ov) apart;
       start-pin = root-pin s whole u iu;
       finish-pin = root-pin s whole v iv;
@@ -117,26 +117,32 @@ module _ {g : Graph} {n : ℕ} {d : ℕ → ℕ → ℕ} {pins : List ℕ} (s : 
       iv : v < n
       iv = s .two-in k h
 
-      hu : Home s whole u (wayPoints s whole u) (way T P u)
+      wu : List ℕ
+      wu = way (T .fars) P u
+
+      wv : List ℕ
+      wv = way (T .fars) P v
+
+      hu : Home s whole u (wayPoints s whole u) wu
       hu = way-home s whole u iu
 
-      hv : Home s whole v (wayPoints s whole v) (way T P v)
+      hv : Home s whole v (wayPoints s whole v) wv
       hv = way-home s whole v iv
 
-      inside : (j : ℕ) → j ∈ pathEdges g T P k → j < g .count
+      inside : (j : ℕ) → j ∈ pathEdges g (T .fars) P k → j < g .count
       inside j m =
           either (λ i. hu .inside j i) (λ i. either (λ q. rw q h) (λ r. hv .inside j r) (List·Memᴰ·cases-cons i))
-          (List·Memᴰ·append-cases (way T P u) m)
+          (List·Memᴰ·append-cases wu m)
 
-      bridge : (u, v) ∈ map (ends g) (pathEdges g T P k)
-      bridge = in-map (ends g) (Memᴰ·append-right (way T P u) (here refl))
+      bridge : (u, v) ∈ map (ends g) (pathEdges g (T .fars) P k)
+      bridge = in-map (ends g) (Memᴰ·append-right wu (here refl))
 
-      run : Way (map (ends g) (pathEdges g T P k)) (root T u) (turned u (wayPoints s whole u) (v ∷ wayPoints s whole v)) (root T v)
+      run : Way (map (ends g) (pathEdges g (T .fars) P k)) (root T u) (turned u (wayPoints s whole u) (v ∷ wayPoints s whole v)) (root T v)
       run =
           turned-way
-          (way-more (map-among (ends g) (way T P u) (pathEdges g T P k) (λ j m. Memᴰ·append-left (k ∷ way T P v) m)) (hu .along))
+          (way-more (map-among (ends g) wu (pathEdges g (T .fars) P k) (λ j m. Memᴰ·append-left (k ∷ wv) m)) (hu .along))
           (go (inl bridge)
-          (way-more (map-among (ends g) (way T P v) (pathEdges g T P k) (λ j m. Memᴰ·append-right (way T P u) (there m))) (hv .along)))
+          (way-more (map-among (ends g) wv (pathEdges g (T .fars) P k) (λ j m. Memᴰ·append-right wu (there m))) (hv .along)))
 
       ne : root T u ≡ root T v → ⊥
       ne = bridge-roots k e
@@ -158,23 +164,23 @@ module _ {g : Graph} {n : ℕ} {d : ℕ → ℕ → ℕ} {pins : List ℕ} (s : 
 
   of-L : (k : ℕ) → k ∈ L → (k < g .count) × (sameRoot g T k ≡ false)
   unfolding bridges
-  of-L k m = let r = of-bridges g T (weights g T P) 0 (g .count) k m in (omega (arith, r .1), r .2)
+  of-L k m = let r = of-bridges (sameRoot g T) (weights g (T .fars) P) 0 (g .count) k m in (omega (arith, r .1), r .2)
 
   in-L : (k : ℕ) → k < g .count → sameRoot g T k ≡ false → k ∈ L
   unfolding bridges bridgesFrom
   in-L k h e =
-      in-sorted (earlier (weights g T P)) (earlier-order (weights g T P)) _ k
+      in-sorted (earlier (weights g (T .fars) P)) (earlier-order (weights g (T .fars) P)) _ k
       (in-those (λ j. not (sameRoot g T j)) (from 0 (g .count)) (in-from 0 (g .count) k (omega arith) (omega arith)) (ap not e))
 
-  L-ascending : Ascending (earlier (weights g T P)) L
+  L-ascending : Ascending (earlier (weights g (T .fars) P)) L
   unfolding bridges
-  L-ascending = bridges-ascending g T (weights g T P) 0 (g .count)
+  L-ascending = bridges-ascending (sameRoot g T) (weights g (T .fars) P) 0 (g .count)
 
   -- Domination
 
   -- the roots of two linked vertices are joined by bridges whose paths are no longer than way, link and way
   across : (t x y : ℕ) → Link (pairs g) x y → far T x + d x y + far T y ≤ t → Joined (map (rootsOf g T) (light weight t L)) (root T x) (root T y)
-  unfolding sameRoot
+  unfolding oneRoot
   across t x y l h = let j = joint s x y l in at (j .edge) (j .inside) (j .measured) (j .ends-are)
     where
       forth : (k : ℕ) → k < g .count → weight k ≤ t → Joined (map (rootsOf g T) (light weight t L)) (root T (one g k)) (root T (two g k))
@@ -209,11 +215,11 @@ module _ {g : Graph} {n : ℕ} {d : ℕ → ℕ → ℕ} {pins : List ℕ} (s : 
 
   -- The bridges join the pins, and lighter ones come first
 
-  rising : (ks : List ℕ) → Ascending (earlier (weights g T P)) ks → ((k : ℕ) → k ∈ ks → k < g .count) → Rising weight ks
+  rising : (ks : List ℕ) → Ascending (earlier (weights g (T .fars) P)) ks → ((k : ℕ) → k ∈ ks → k < g .count) → Rising weight ks
   rising [] a h = tt
   rising (k ∷ ks) a h = (
     λ j m.
-        (let e = earlier-le (weights g T P) k j (a .0 j m) in
+        (let e = earlier-le (weights g (T .fars) P) k j (a .0 j m) in
         omega (arith, e, weights-at g T P (fits s) k (h k (here refl)), weights-at g T P (fits s) j (h j (there m)))),
     rising ks (a .1) (λ j m. h j (there m)),
   )

@@ -29,18 +29,18 @@ module _ (t : Labels) (v w k d : ℕ) (best : Step) (m : Bool) (is : m ≡ leads
   unfolding nearer
   nearer-no h = let e : (leads t w v d && ltb w (best .to)) ≡ false = rw (← is) h in rw (nearer, e) refl
 
-module _ (g : Graph) (t : Labels) (v k : ℕ) (best : Step) where
-  pub through-one : (r : Step) → v ≡ one g k → r ≡ nearer t v (two g k) k (len g k) best → r ≡ through g t v k best
+module _ (t : Labels) (v a b k d : ℕ) (best : Step) where
+  pub through-one : (r : Step) → v ≡ a → r ≡ nearer t v b k d best → r ≡ through t v a b k d best
   unfolding through
-  through-one r e h = rw (through, eq-eqb v (one g k) e) h
+  through-one r e h = rw (through, eq-eqb v a e) h
 
-  pub through-two : (r : Step) → (v ≡ one g k → ⊥) → v ≡ two g k → r ≡ nearer t v (one g k) k (len g k) best → r ≡ through g t v k best
+  pub through-two : (r : Step) → (v ≡ a → ⊥) → v ≡ b → r ≡ nearer t v a k d best → r ≡ through t v a b k d best
   unfolding through
-  through-two r n e h = rw (through, ne-eqb v (one g k) n, eq-eqb v (two g k) e) h
+  through-two r n e h = rw (through, ne-eqb v a n, eq-eqb v b e) h
 
-  pub through-none : (v ≡ one g k → ⊥) → (v ≡ two g k → ⊥) → best ≡ through g t v k best
+  pub through-none : (v ≡ a → ⊥) → (v ≡ b → ⊥) → best ≡ through t v a b k d best
   unfolding through
-  through-none n o = rw (through, ne-eqb v (one g k) n, ne-eqb v (two g k) o) refl
+  through-none n o = rw (through, ne-eqb v a n, ne-eqb v b o) refl
 
 module _ (g : Graph) (t : Labels) (v : ℕ) where
   pub scan-none : (e : ℕ) → g .count ≡ e → parentAmong g t v (from 0 e) none ≡ parent g t v
@@ -48,7 +48,7 @@ module _ (g : Graph) (t : Labels) (v : ℕ) where
   scan-none e h = rw (← h) refl
 
   pub scan-more : (left : List ℕ) (k : ℕ) (ks : List ℕ) (best next all : Step) → parentAmong g t v left best ≡ all → left ≡ k ∷ ks →
-      next ≡ through g t v k best → parentAmong g t v ks next ≡ all
+      next ≡ through t v (one g k) (two g k) k (len g k) best → parentAmong g t v ks next ≡ all
   unfolding parentAmong
   scan-more left k ks best next all p q r = rw r (ap (λ (l : List ℕ). parentAmong g t v l best) (sym q) ∙ p)
 
@@ -107,6 +107,9 @@ module _ (g : Graph) (t : Labels) (v : ℕ) where
     pub least : (k : ℕ) → k ∈ ks → (w : ℕ) → Candidate w k → r .to ≤ w
     pub is : (r ≡ best) ⊎ ((r .via ∈ ks) × Candidate (r .to) (r .via))
 
+  abbrev over : ℕ → Step → Step
+  over k best = through t v (one g k) (two g k) k (len g k) best
+
   none-found : (k : ℕ) (best : Step) → ((w : ℕ) → Candidate w k → ⊥) → Found (k ∷ []) best best
   none-found k best h = record {
     low = omega arith;
@@ -139,7 +142,7 @@ module _ (g : Graph) (t : Labels) (v : ℕ) where
         is = inl refl;
       }))
 
-  through-found : (k : ℕ) (best : Step) → 1 ≤ len g k → Found (k ∷ []) best (through g t v k best)
+  through-found : (k : ℕ) (best : Step) → 1 ≤ len g k → Found (k ∷ []) best (over k best)
   unfolding through
   through-found k best some =
       by (eqb v (one g k))
@@ -161,7 +164,7 @@ module _ (g : Graph) (t : Labels) (v : ℕ) where
   scan-found [] h best = record { low = omega arith; least = λ k m. elim m [ ]; is = inl refl }
   scan-found (k ∷ ks) h best =
       let a = through-found k best (h k (here refl)) in
-      let b = scan-found ks (λ j m. h j (there m)) (through g t v k best) in
+      let b = scan-found ks (λ j m. h j (there m)) (over k best) in
       record {
         low = omega (arith, a .low, b .low);
         least = λ j m w c.
@@ -169,12 +172,12 @@ module _ (g : Graph) (t : Labels) (v : ℕ) where
         is = either (λ e. first e (a .is)) (λ c. inr (there (c .0), c .1)) (b .is);
       }
     where
-      first : parentAmong g t v ks (through g t v k best) ≡ through g t v k best →
-          (through g t v k best ≡ best)
-          ⊎ ((through g t v k best .via ∈ (k ∷ [])) × Candidate (through g t v k best .to) (through g t v k best .via)) →
-          (parentAmong g t v ks (through g t v k best) ≡ best)
-          ⊎ ((parentAmong g t v ks (through g t v k best) .via ∈ (k ∷ ks))
-          × Candidate (parentAmong g t v ks (through g t v k best) .to) (parentAmong g t v ks (through g t v k best) .via))
+      first : parentAmong g t v ks (over k best) ≡ over k best →
+          (over k best ≡ best)
+          ⊎ ((over k best .via ∈ (k ∷ [])) × Candidate (over k best .to) (over k best .via)) →
+          (parentAmong g t v ks (over k best) ≡ best)
+          ⊎ ((parentAmong g t v ks (over k best) .via ∈ (k ∷ ks))
+          × Candidate (parentAmong g t v ks (over k best) .to) (parentAmong g t v ks (over k best) .via))
       first e (inl f) = inl (e ∙ f)
       first e (inr c) = inr (rw e (here (List·Memᴰ·eq-of-singleton (c .0)), c .1))
 
@@ -202,17 +205,19 @@ module _ (g : Graph) (n : ℕ) (t : Labels) (small : n ≤ pointBound) where
   pub has-parent : (v : ℕ) → v < pointBound → up (parented g n t) v < pointBound → v < n
   has-parent v h u = by (ltb v n) (λ e. ltb-true v n e) (λ e. absurd (let z : ⊥ = omega (arith, past-none v (ltb-false v n e) h) in z))
 
-  pub falls-parented : Fits g → Falls g t (parented g n t)
-  falls-parented fits = record { edge = λ v h u. at v h u .0; falls = λ v h u. at v h u .1 }
+  pub falls-parented : Fits g → Falls (g .lengths) (t .fars) (parented g n t)
+  falls-parented fits = record { edge = λ v h u. step-is v h u .0; some = λ v h u. step-is v h u .1; falls = λ v h u. step-is v h u .2 }
     where
-      at : (v : ℕ) → v < pointBound → up (parented g n t) v < pointBound →
-          (via (parented g n t) v < g .count) × (far t (up (parented g n t) v) + len g (via (parented g n t) v) ≡ far t v)
-      at v h u =
+      step-is : (v : ℕ) → v < pointBound → up (parented g n t) v < pointBound →
+          (via (parented g n t) v < edgeBound)
+          × (1 ≤ len g (via (parented g n t) v))
+          × (far t (up (parented g n t) v) + len g (via (parented g n t) v) ≡ far t v)
+      step-is v h u =
           let i = has-parent v h u in
           let a = parented-up v i in
           let b = parented-via v i in
           rw (a, b)
           (either
           (λ e. absurd (let z : parent g t v .to ≡ pointBound = ap (λ (s : Step). s .to) e in let y : ⊥ = omega (arith, a) in y))
-          (λ c. (below-from (g .count) _ (c .0), c .1 .1 .0))
+          (λ c. let k = below-from (g .count) _ (c .0) in (omega (arith, k, fits .count), fits .some _ k, c .1 .1 .0))
           (parent-found g t v fits .is))

@@ -6,12 +6,13 @@ use mathlib.Core.List.{List, [], _∷_, _++_, map}
 use Prim.Native.Nat.{ℕ, zero, suc, _+_, _-_, _≤_, _<_}
 use native.Mathlib.Omega.{arith}
 use lib.Dec.{ltb}
+use lib.ListN.{getD}
 use borrow.Author.Tests.{ltb-true, ltb-false, lt-ltb, le-ltb}
 use Rattle.lists.specs.Total.{total}
 use Rattle.lists.proofs.TestLaws.{by}
 use Rattle.terminal.specs.Bounds.{pointBound, pathBound}
 use Rattle.terminal.specs.Edges.{Graph, one, two, len, Fits}
-use Rattle.terminal.specs.Labels.{Labels, far, Low}
+use Rattle.terminal.specs.Labels.{Low}
 use Rattle.terminal.specs.Parents.{Parents, up, via, wayOf, way, wayLength, Falls}
 use Rattle.terminal.specs.Bridges.{path, pathLength}
 
@@ -29,23 +30,26 @@ unfolding wayOf
 way-none p zero v h = refl
 way-none p (suc n) v h = way-stop p n v h
 
-pub root-way : (g : Graph) (t : Labels) (p : Parents) (v : ℕ) → pointBound ≤ up p v → wayLength g t p v ≡ 0
+pub root-way : (lengths fars : List ℕ) (p : Parents) (v : ℕ) → pointBound ≤ up p v → wayLength lengths fars p v ≡ 0
 unfolding wayLength way total
-root-way g t p v h = rw (way-none p (far t v) v h) refl
+root-way lengths fars p v h = rw (way-none p (getD fars v 0) v h) refl
 
-module _ (g : Graph) (t : Labels) (p : Parents) (fits : Fits g) (f : Falls g t p) where
+module _ (lengths fars : List ℕ) (p : Parents) (f : Falls lengths fars p) where
+  abbrev away : ℕ → ℕ
+  away v = getD fars v 0
+
   -- a step makes the distance smaller
-  pub nearer-by : (v : ℕ) → v < pointBound → up p v < pointBound → far t (up p v) < far t v
-  nearer-by v h u = omega (arith, f .falls v h u, fits .some _ (f .edge v h u))
+  pub nearer-by : (v : ℕ) → v < pointBound → up p v < pointBound → getD fars (up p v) 0 < getD fars v 0
+  nearer-by v h u = omega (arith, f .falls v h u, f .some v h u)
 
   -- a vertex at no distance has no parent
-  at-root : (v : ℕ) → v < pointBound → far t v ≤ 0 → pointBound ≤ up p v
+  at-root : (v : ℕ) → v < pointBound → away v ≤ 0 → pointBound ≤ up p v
   at-root v h a =
       by (ltb (up p v) pointBound)
       (λ e. absurd (let z : ⊥ = omega (arith, nearer-by v h (ltb-true _ _ e)) in z))
       (λ e. ltb-false _ _ e)
 
-  pub enough : (n m v : ℕ) → v < pointBound → far t v ≤ n → far t v ≤ m → wayOf p n v ≡ wayOf p m v
+  pub enough : (n m v : ℕ) → v < pointBound → getD fars v 0 ≤ n → getD fars v 0 ≤ m → wayOf p n v ≡ wayOf p m v
   enough zero m v h a b = let u = at-root v h a in way-none p zero v u ∙ sym (way-none p m v u)
   enough (suc n) zero v h a b = let u = at-root v h b in way-none p (suc n) v u ∙ sym (way-none p zero v u)
   enough (suc n) (suc m) v h a b =
@@ -56,31 +60,32 @@ module _ (g : Graph) (t : Labels) (p : Parents) (fits : Fits g) (f : Falls g t p
       way-go p n v u ∙ ap (λ (r : List ℕ). via p v ∷ r) (enough n m (up p v) u (omega arith) (omega arith)) ∙ sym (way-go p m v u))
       (λ e. let u = ltb-false _ _ e in way-stop p n v u ∙ sym (way-stop p m v u))
 
-  pub way-step : (v : ℕ) → v < pointBound → up p v < pointBound → way t p v ≡ via p v ∷ way t p (up p v)
+  pub way-step : (v : ℕ) → v < pointBound → up p v < pointBound → way fars p v ≡ via p v ∷ way fars p (up p v)
   unfolding way
   way-step v h u =
       let l = nearer-by v h u in
-      let e : far t v ≡ suc (far t v - 1) = omega arith in
+      let e : away v ≡ suc (away v - 1) = omega arith in
       ap (λ (n : ℕ). wayOf p n v) e
-      ∙ way-go p (far t v - 1) v u
-      ∙ ap (λ (r : List ℕ). via p v ∷ r) (enough (far t v - 1) (far t (up p v)) (up p v) u (omega arith) (omega arith))
+      ∙ way-go p (away v - 1) v u
+      ∙ ap (λ (r : List ℕ). via p v ∷ r) (enough (away v - 1) (away (up p v)) (up p v) u (omega arith) (omega arith))
 
-  pub step-length : (v : ℕ) → v < pointBound → up p v < pointBound → wayLength g t p v ≡ len g (via p v) + wayLength g t p (up p v)
+  pub step-length : (v : ℕ) → v < pointBound → up p v < pointBound →
+      wayLength lengths fars p v ≡ getD lengths (via p v) 0 + wayLength lengths fars p (up p v)
   unfolding wayLength total
   step-length v h u = rw (way-step v h u) refl
 
   -- no longer than the distance
-  low-to : (n v : ℕ) → far t v ≤ n → v < pointBound → wayLength g t p v ≤ far t v
-  low-to zero v a h = omega (arith, root-way g t p v (at-root v h a))
+  low-to : (n v : ℕ) → away v ≤ n → v < pointBound → wayLength lengths fars p v ≤ away v
+  low-to zero v a h = omega (arith, root-way lengths fars p v (at-root v h a))
   low-to (suc n) v a h =
       by (ltb (up p v) pointBound)
       (λ e.
       let u = ltb-true _ _ e in
       omega (arith, low-to n (up p v) (omega (arith, nearer-by v h u)) u, step-length v h u, f .falls v h u))
-      (λ e. omega (arith, root-way g t p v (ltb-false _ _ e)))
+      (λ e. omega (arith, root-way lengths fars p v (ltb-false _ _ e)))
 
-  pub way-low : (v : ℕ) → v < pointBound → wayLength g t p v ≤ far t v
-  way-low v h = low-to (far t v) v (omega arith) h
+  pub way-low : (v : ℕ) → v < pointBound → wayLength lengths fars p v ≤ getD fars v 0
+  way-low v h = low-to (away v) v (omega arith) h
 
 total-map : (f : ℕ → ℕ) (l m : List ℕ) → total (map f (l ++ m)) ≡ total (map f l) + total (map f m)
 unfolding total
@@ -88,18 +93,19 @@ total-map f [] m = omega arith
 total-map f (x ∷ l) m = omega (arith, total-map f l m)
 
 -- a path is a way, the bridge and a way
-pub path-parts : (g : Graph) (t : Labels) (p : Parents) (k : ℕ) →
-    pathLength g t p k ≡ wayLength g t p (one g k) + len g k + wayLength g t p (two g k)
+pub path-parts : (g : Graph) (fars : List ℕ) (p : Parents) (k : ℕ) →
+    pathLength g fars p k ≡ wayLength (g .lengths) fars p (one g k) + len g k + wayLength (g .lengths) fars p (two g k)
 unfolding pathLength path wayLength total
-path-parts g t p k = omega (arith, total-map (len g) (way t p (one g k)) (k ∷ way t p (two g k)))
+path-parts g fars p k = omega (arith, total-map (len g) (way fars p (one g k)) (k ∷ way fars p (two g k)))
 
-pub path-low : (g : Graph) (t : Labels) (p : Parents) → Fits g → Falls g t p → Low (t .fars) → (k : ℕ) → k < g .count → pathLength g t p k ≤ pathBound
-path-low g t p fits f l k h =
+pub path-low : (g : Graph) (fars : List ℕ) (p : Parents) → Fits g → Falls (g .lengths) fars p → Low fars → (k : ℕ) → k < g .count →
+    pathLength g fars p k ≤ pathBound
+path-low g fars p fits f l k h =
     omega (
       arith,
-      path-parts g t p k,
-      way-low g t p fits f (one g k) (fits .one-in k h),
-      way-low g t p fits f (two g k) (fits .two-in k h),
+      path-parts g fars p k,
+      way-low (g .lengths) fars p f (one g k) (fits .one-in k h),
+      way-low (g .lengths) fars p f (two g k) (fits .two-in k h),
       fits .short k h,
       l .low (one g k),
       l .low (two g k),

@@ -12,7 +12,7 @@ use Rattle.lists.proofs.TestLaws.{by, either}
 use Rattle.lists.specs.Total.{total}
 use Rattle.joined.specs.Table.{keptBy}
 use Rattle.terminal.specs.Bounds.{pointBound, edgeBound, pathBound}
-use Rattle.terminal.specs.Edges.{Graph, from, filled, entries, Fits, Below, FirstBelow, Listed}
+use Rattle.terminal.specs.Edges.{Graph, from, filled, entries, Fits, Below, FirstBelow, Ends, Named, Listed}
 use Rattle.terminal.specs.Labels.{Labels, settled, starts, unlabelled, labelled, Low}
 use Rattle.terminal.specs.Parents.{Parents, orphans, adopted, parented, Falls}
 use Rattle.terminal.specs.Bridges.{sameRoot, rootsOf, pathLength, weights, bridgesFrom, bridges}
@@ -51,31 +51,41 @@ own-groups : filled (λ k. k) 0 pointBound (replicate pointBound 0) ≡ from 0 p
 unfolding filled from
 own-groups = refl
 
+pub ends-of : (g : Graph) → Fits g → Ends (g .ones) (g .twos) (g .count)
+ends-of g f = record { count = f .count; one-in = f .one-in; two-in = f .two-in }
+
 module _ (g : Graph) (t : Labels) (p : Parents) where
   pub of-kept : (k : ℕ) → k ∈ keptBridges g t p → (k < g .count) × (sameRoot g t k ≡ false)
   unfolding keptBridges bridges
   of-kept k m =
-      let r = of-bridges g t (weights g t p) 0 (g .count) k (kept-among (rootsOf g t) _ _ k m) in
+      let r = of-bridges (sameRoot g t) (weights g (t .fars) p) 0 (g .count) k (kept-among (rootsOf g t) _ _ k m) in
       (omega (arith, r .1), r .2)
 
   -- the table of lengths holds them
-  pub weights-at : Fits g → (k : ℕ) → k < g .count → getD (weights g t p) k 0 ≡ pathLength g t p k
+  pub weights-at : Fits g → (k : ℕ) → k < g .count → getD (weights g (t .fars) p) k 0 ≡ pathLength g (t .fars) p k
   unfolding weights
   weights-at fits k h =
-      filled-here (pathLength g t p) (g .count) (replicate edgeBound 0) k (omega (arith, fits .count, length-replicate {A = ℕ} edgeBound 0)) h
+      filled-here (pathLength g (t .fars) p) (g .count) (replicate edgeBound 0) k (omega (arith, fits .count, length-replicate {A = ℕ} edgeBound 0)) h
 
   -- the tables that the stages leave
   module _ (fits : Fits g) (w order : List ℕ) (n : ℕ)
-      (weighed : w ≡ filled (pathLength g t p) 0 (g .count) (replicate edgeBound 0))
-      (sorted : Listed (bridgesFrom g t w 0 (g .count)) (replicate edgeBound 0) order n) where
-    pub light : Falls g t p → Low (t .fars) → Below (pathBound + 1) w
+      (weighed : w ≡ filled (pathLength g (t .fars) p) 0 (g .count) (replicate edgeBound 0))
+      (sorted : Listed (bridgesFrom (sameRoot g t) w 0 (g .count)) (replicate edgeBound 0) order n) where
+    pub light : Falls (g .lengths) (t .fars) p → Low (t .fars) → Below (pathBound + 1) w
     light f l =
         rw weighed
-        (below-filled (pathBound + 1) (pathLength g t p) 0 (g .count) (g .count) (replicate edgeBound 0) (omega arith)
-        (λ k h. (let b = path-low g t p fits f l k h in omega arith)) (below-replicate (pathBound + 1) edgeBound 0 (omega arith)))
+        (below-filled (pathBound + 1) (pathLength g (t .fars) p) 0 (g .count) (g .count) (replicate edgeBound 0) (omega arith)
+        (λ k h. (let b = path-low g (t .fars) p fits f l k h in omega arith)) (below-replicate (pathBound + 1) edgeBound 0 (omega arith)))
 
-    pub ordered : FirstBelow order n (g .count)
-    ordered = record { inside = λ i h. (let r = of-bridges g t w 0 (g .count) _ (entry-listed _ _ order n sorted i h) in omega (arith, r .1)) }
+    pub ordered : Named (g .ones) (g .twos) order n
+    ordered = record {
+      edge = λ i h. (let k = listed i h in omega (arith, fits .count));
+      one-in = λ i h. fits .one-in _ (listed i h);
+      two-in = λ i h. fits .two-in _ (listed i h);
+    }
+      where
+        listed : (i : ℕ) → i < n → getD order i 0 < g .count
+        listed i h = let r = of-bridges (sameRoot g t) w 0 (g .count) _ (entry-listed _ _ order n sorted i h) in omega (arith, r .1)
 
     module _ (group : List ℕ) (numbered : group ≡ filled (λ k. k) 0 pointBound (replicate pointBound 0)) (lent table : List ℕ) (count : ℕ)
         (taken : Listed (keptBy (rootsOf g t) (entries order 0 n) group) lent table count) where
@@ -83,7 +93,7 @@ module _ (g : Graph) (t : Labels) (p : Parents) where
       unfolding keptBridges bridges weights
       kept-is =
           ap₂ (keptBy (rootsOf g t))
-          (read-listed _ _ order n sorted ∙ ap (λ (v : List ℕ). bridgesFrom g t v 0 (g .count)) weighed)
+          (read-listed _ _ order n sorted ∙ ap (λ (v : List ℕ). bridgesFrom (sameRoot g t) v 0 (g .count)) weighed)
           (numbered ∙ own-groups)
 
       pub kept-listed : Listed (keptBridges g t p) lent table count
@@ -98,7 +108,7 @@ module _ (g : Graph) (t : Labels) (p : Parents) where
       unfolding keptLengths weights
       lengths-is =
           ap (map (λ k. getD w k 0)) (read-listed _ _ table count kept-listed)
-          ∙ map-agree (λ k. getD w k 0) (pathLength g t p) (keptBridges g t p)
+          ∙ map-agree (λ k. getD w k 0) (pathLength g (t .fars) p) (keptBridges g t p)
           (λ k m. ap (λ (v : List ℕ). getD v k 0) weighed ∙ weights-at fits k (of-kept k m .0))
 
       pub lengths-listed : (lent′ long : List ℕ) (sum : ℕ) → Listed (map (λ k. getD w k 0) (entries table 0 count)) lent′ long count →
@@ -116,7 +126,7 @@ module _ (g : Graph) (n m : ℕ) (pins : List ℕ) (t : Labels) (p : Parents)
       fine-settled n g (from 0 (g .count)) (starts (entries pins 0 m) unlabelled) t t-is
       (fine-starts pins m unlabelled (starts (entries pins 0 m) unlabelled) refl inside fine-unlabelled)
 
-  pub made-falls : Falls g t p
+  pub made-falls : Falls (g .lengths) (t .fars) p
   made-falls = rw (p-is, t-is) (falls-parented g n (labelled g n (entries pins 0 m)) small fits)
 
 -- the whole from its two halves

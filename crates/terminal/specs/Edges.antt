@@ -50,6 +50,18 @@ pub record Fits (g : Graph) : Type 0 where
   pub some : (k : ℕ) → k < g .count → 1 ≤ len g k
   pub short : (k : ℕ) → k < g .count → len g k ≤ lengthBound
 
+-- the ends of e edges are vertices
+pub record Ends (ones twos : List ℕ) (e : ℕ) : Type 0 where
+  pub count : e ≤ edgeBound
+  pub one-in : (k : ℕ) → k < e → getD ones k 0 < pointBound
+  pub two-in : (k : ℕ) → k < e → getD twos k 0 < pointBound
+
+-- the first n entries of a table are edges whose ends are vertices
+pub record Named (ones twos order : List ℕ) (n : ℕ) : Type 0 where
+  pub edge : (i : ℕ) → i < n → getD order i 0 < edgeBound
+  pub one-in : (i : ℕ) → i < n → getD ones (getD order i 0) 0 < pointBound
+  pub two-in : (i : ℕ) → i < n → getD twos (getD order i 0) 0 < pointBound
+
 -- every entry is below n
 pub record Below (n : ℕ) (xs : List ℕ) : Type 0 where
   pub below : (i : ℕ) → getD xs i 0 < n

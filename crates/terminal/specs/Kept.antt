@@ -16,7 +16,7 @@ keptBridges g t p = keptBy (rootsOf g t) (bridges g t p) (from 0 pointBound)
 
 -- "for each kept path its own length, every edge of it counted"
 unfoldable pub keptLengths : Graph → Labels → Parents → List ℕ
-keptLengths g t p = map (pathLength g t p) (keptBridges g t p)
+keptLengths g t p = map (pathLength g (t .fars) p) (keptBridges g t p)
 
 -- The labels, the parents, the kept bridges with the lengths of their paths, "and for the total their sum"
 pub record Terminal : Type 0 where

@@ -13,15 +13,15 @@
 --              one g k, two g k, len g k            the ends of edge k and its length
 --              from k n, entries xs k n             n numbers, or n entries of a table, from k on
 --              filled f i n xs                      the table xs with f k at each number k from i on, n of them
---              Fits, FirstBelow, Below                    what the code asks of tables
+--              Fits, Ends, Named, FirstBelow, Below                    what the code asks of tables
 --              Listed xs lent table n               a lent table holds xs over what stood there, and n is how many
 --   Labels     labels f r, far t v, root t v        for each vertex the distance to its root, and the root
 --              labelled g n pins                    the labels of a graph of n vertices, by relaxation until nothing changes
 --   Parents    parent g t v                         the step from v to its parent: the vertex, and the edge to it
 --              parented g n t, up p v, via p v      the table of these steps, read
---              way t p v, wayLength g t p v         the edges on v's way to its root, and the sum of their lengths
+--              way fars p v, wayLength ..           the edges on v's way to its root, and the sum of their lengths
 --   Bridges    sameRoot g t k, rootsOf g t k        whether edge k is no bridge, and the two pins that it joins
---              path g t p k, pathLength g t p k     the edges on the path that it stands for, and the sum of their lengths
+--              path g fars p k, pathLength ..       the edges on the path that it stands for, and the sum of their lengths
 --              bridges g t p                        the bridges by path length, ties by number
 --   Kept       keptBridges g t p, keptLengths       the kept ones in the order kept, and the lengths of their paths
 --              terminal g n pins                    all of it, with the total

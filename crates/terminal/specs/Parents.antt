@@ -6,7 +6,7 @@
 use mathlib.Core.Path.{_≡_}
 use mathlib.Core.Bool.{Bool, true, false, _&&_}
 use mathlib.Core.List.{List, [], _∷_, map}
-use Prim.Native.Nat.{ℕ, zero, suc, _+_, _<_}
+use Prim.Native.Nat.{ℕ, zero, suc, _+_, _≤_, _<_}
 use lib.Dec.{ltb, eqb}
 use lib.ListN.{getD, replicate}
 use Rattle.lists.specs.Total.{total}
@@ -31,17 +31,14 @@ leads t w v d = eqb (root t w) (root t v) && eqb (far t w + d) (far t v)
 unfoldable pub nearer : Labels → ℕ → ℕ → ℕ → ℕ → Step → Step
 nearer t v w k d best = elim (leads t w v d && ltb w (best .to)) [ true ↦ step w k | false ↦ best ]
 
--- the same for the other end of edge k, where v is an end of it
-unfoldable pub through : Graph → Labels → ℕ → ℕ → Step → Step
-through g t v k best =
-    elim (eqb v (one g k)) [
-      | true ↦ nearer t v (two g k) k (len g k) best
-      | false ↦ elim (eqb v (two g k)) [ true ↦ nearer t v (one g k) k (len g k) best | false ↦ best ]
-    ]
+-- the same for the other end of edge k, which joins a and b, where v is an end of it
+unfoldable pub through : Labels → ℕ → ℕ → ℕ → ℕ → ℕ → Step → Step
+through t v a b k d best =
+    elim (eqb v a) [ true ↦ nearer t v b k d best | false ↦ elim (eqb v b) [ true ↦ nearer t v a k d best | false ↦ best ] ]
 
 unfoldable pub parentAmong : Graph → Labels → ℕ → List ℕ → Step → Step
 parentAmong g t v [] best = best
-parentAmong g t v (k ∷ ks) best = parentAmong g t v ks (through g t v k best)
+parentAmong g t v (k ∷ ks) best = parentAmong g t v ks (through t v (one g k) (two g k) k (len g k) best)
 
 -- the step from v to its parent
 unfoldable pub parent : Graph → Labels → ℕ → Step
@@ -77,13 +74,14 @@ wayOf p zero v = []
 wayOf p (suc n) v = elim (ltb (up p v) pointBound) [ true ↦ via p v ∷ wayOf p n (up p v) | false ↦ [] ]
 
 -- the distance falls with each step, so there are no more steps than it
-unfoldable pub way : Labels → Parents → ℕ → List ℕ
-way t p v = wayOf p (far t v) v
+unfoldable pub way : List ℕ → Parents → ℕ → List ℕ
+way fars p v = wayOf p (getD fars v 0) v
 
-unfoldable pub wayLength : Graph → Labels → Parents → ℕ → ℕ
-wayLength g t p v = total (map (len g) (way t p v))
+unfoldable pub wayLength : List ℕ → List ℕ → Parents → ℕ → ℕ
+wayLength lengths fars p v = total (map (λ k. getD lengths k 0) (way fars p v))
 
--- What the recursion along parents leans on: a step goes to a vertex, over an edge of the graph, and the distance falls by its length
-pub record Falls (g : Graph) (t : Labels) (p : Parents) : Type 0 where
-  pub edge : (v : ℕ) → v < pointBound → up p v < pointBound → via p v < g .count
-  pub falls : (v : ℕ) → v < pointBound → up p v < pointBound → far t (up p v) + len g (via p v) ≡ far t v
+-- What the recursion along parents leans on: a step goes over an edge, and the distance falls by its length, which is not 0
+pub record Falls (lengths fars : List ℕ) (p : Parents) : Type 0 where
+  pub edge : (v : ℕ) → v < pointBound → up p v < pointBound → via p v < edgeBound
+  pub some : (v : ℕ) → v < pointBound → up p v < pointBound → 1 ≤ getD lengths (via p v) 0
+  pub falls : (v : ℕ) → v < pointBound → up p v < pointBound → getD fars (up p v) 0 + getD lengths (via p v) 0 ≡ getD fars v 0

@@ -13,16 +13,16 @@ use Rattle.terminal.proofs.+way_length.Lts-way_length as way-length-lts
 use Rattle.terminal.proofs.+way_length.{statement}
 use Rattle.terminal.proofs.+way_length.Tie.{close}
 
-abbrev μ-way-length : Measures 7 way-length-kinds.ps ℕ
-μ-way-length κs a = getD (a .1 .1 .1 .1 .0 .now) (a .1 .1 .1 .1 .1 .1 .1 .1 .0) 0
+abbrev μ-way-length : Measures 4 way-length-kinds.ps ℕ
+μ-way-length κs a = getD (a .1 .0 .now) (a .1 .1 .1 .1 .0) 0
 
-abbrev way-length-at : ℕ → In 7 way-length-kinds.ps
+abbrev way-length-at : ℕ → In 4 way-length-kinds.ps
 way-length-at t =
-    and 7 way-length-kinds.ps (is 7 way-length-kinds.ps μ-way-length t) way-length.Pre
+    and 4 way-length-kinds.ps (is 4 way-length-kinds.ps μ-way-length t) way-length.Pre
 
-abbrev way-length-below : ℕ → In 7 way-length-kinds.ps
+abbrev way-length-below : ℕ → In 4 way-length-kinds.ps
 way-length-below t =
-    and 7 way-length-kinds.ps (falls 7 way-length-kinds.ps _<_ μ-way-length t) way-length.Pre
+    and 4 way-length-kinds.ps (falls 4 way-length-kinds.ps _<_ μ-way-length t) way-length.Pre
 
 way-length-mul-u :
     (t : ℕ) →
@@ -60,9 +60,7 @@ way-length-mul-d-2 :
     way-length.Post
 way-length-mul-d-2 t c =
     let s = c .before .before .before in
-    let f = s .pre .1 in
-    let k = f .0 .0 .edge _ (f .0 .1) (c .before .if1 .taken) in
-    omega (arith, k, f .1 .0 .count)
+    omega (arith, s .pre .1 .0 .edge _ (s .pre .1 .1 .1) (c .before .if1 .taken))
 
 way-length-element-copy-out-d-2 : (t : ℕ) → way-length-lts.Need-element-copy-out-d-2 (
   way-length-below t,
@@ -70,9 +68,7 @@ way-length-element-copy-out-d-2 : (t : ℕ) → way-length-lts.Need-element-copy
 ) (way-length-at t) way-length.Post
 way-length-element-copy-out-d-2 t c =
     let s = c .before .before .before in
-    let f = s .pre .1 in
-    let k = f .0 .0 .edge _ (f .0 .1) (c .before .if1 .taken) in
-    omega (arith, k, f .1 .0 .count)
+    s .pre .1 .0 .edge _ (s .pre .1 .1 .1) (c .before .if1 .taken)
 
 way-length-way-length-requires : (t : ℕ) → way-length-lts.Need-way-length-requires (
   way-length-below t,
@@ -80,10 +76,10 @@ way-length-way-length-requires : (t : ℕ) → way-length-lts.Need-way-length-re
 ) (way-length-at t) way-length.Post
 way-length-way-length-requires t c κs =
     let s = c .before .before .before .before in
-    let f = s .pre .1 in
+    let f = s .pre .1 .0 in
     let u = c .before .before .if1 .taken in
-    let l = nearer-by _ _ _ (f .1 .0) (f .0 .0) _ (f .0 .1) u in
-    (omega (arith, l, s .pre .0), ((f .0 .0, u), f .1))
+    let l = nearer-by _ _ _ f _ (s .pre .1 .1 .1) u in
+    (omega (arith, l, s .pre .0), (f, (s .pre .1 .1 .0, u)))
 
 way-length-add-result : (t : ℕ) → way-length-lts.Need-add-result (
   way-length-below t,
@@ -91,9 +87,9 @@ way-length-add-result : (t : ℕ) → way-length-lts.Need-add-result (
 ) (way-length-at t) way-length.Post
 way-length-add-result t c =
     let s = c .before .before .before .before .before in
-    let f = s .pre .1 in
+    let f = s .pre .1 .0 in
     let u = c .before .before .before .if1 .taken in
-    omega (arith, c .way-length .ensures .1, f .0 .0 .falls _ (f .0 .1) u, f .1 .1 .low (s .args .v))
+    omega (arith, c .way-length .ensures .1, f .falls _ (s .pre .1 .1 .1) u, s .pre .1 .1 .0 .low (s .args .v))
 
 way-length-returns :
     (t : ℕ) →
@@ -103,10 +99,10 @@ way-length-returns :
     way-length.Post
 way-length-returns t c =
     let s = c .before .before .before .before .before in
-    let f = s .pre .1 in
+    let f = s .pre .1 .0 in
     let u = c .before .before .before .if1 .taken in
-    let e = step-length _ _ _ (f .1 .0) (f .0 .0) _ (f .0 .1) u in
-    (omega (arith, e, c .way-length .ensures .0), omega (arith, c .way-length .ensures .1, f .0 .0 .falls _ (f .0 .1) u))
+    let e = step-length _ _ _ f _ (s .pre .1 .1 .1) u in
+    (omega (arith, e, c .way-length .ensures .0), omega (arith, c .way-length .ensures .1, f .falls _ (s .pre .1 .1 .1) u))
 
 way-length-returns-2 : (t : ℕ) → way-length-lts.Need-returns-2 (
   way-length-below t,

@@ -7,25 +7,24 @@ use native.Mathlib.Omega.{arith}
 use lib.ListN.{length}
 use denote.Ref.{now}
 use Rattle.terminal.specs.Bounds.{pointBound}
-use Rattle.terminal.specs.Edges.{graph, entries}
-use Rattle.terminal.specs.Labels.{labels}
-use Rattle.terminal.specs.Bridges.{rootsOf}
+use Rattle.terminal.specs.Edges.{entries}
+use Rattle.terminal.specs.Bridges.{rootsIn}
 use Rattle.terminal.proofs.EdgeLaws.{all-left, entries-next, entries-end}
 use Rattle.terminal.proofs.KeptLaws.{Keeping, keep-none, keep-pass, keep-more, keep-end, merged-length}
 use Rattle.terminal.proofs.keep.Statement.{statement}
 use Rattle.terminal.proofs.keep.Tie as tie
 
 abbrev Inv-loop : tie.InvT-loop
-Inv-loop ea eb el e far root order n group₀ kept₀ count₀ i₀ group kept count i =
+Inv-loop ea eb root order n group₀ kept₀ count₀ i₀ group kept count i =
     ((i ≤ n) × (count ≤ i))
     × ((length group ≡ pointBound)
-    × Keeping (rootsOf (graph ea eb el e) (labels far root)) (entries order 0 n) group₀ (entries order i (n - i)) group kept₀ kept count)
+    × Keeping (rootsIn ea eb root) (entries order 0 n) group₀ (entries order i (n - i)) group kept₀ kept count)
 
 abbrev μ-loop : tie.MeasureT-loop
-μ-loop ea eb el e far root order n group₀ kept₀ count₀ i₀ group kept count i = n - i
+μ-loop ea eb root order n group₀ kept₀ count₀ i₀ group kept count i = n - i
 
 loop-holds : tie.Need-loop-holds Inv-loop μ-loop
-loop-holds c = ((omega arith, omega arith), (c .pre .1 .1 .0, rw (all-left (c .args .n)) (keep-none _ _ _ _)))
+loop-holds c = ((omega arith, omega arith), (c .pre .1 .0, rw (all-left (c .args .n)) (keep-none _ _ _ _)))
 
 mul-k : tie.Need-mul-k Inv-loop μ-loop
 mul-k c = omega arith
@@ -38,17 +37,17 @@ add-i c = omega arith
 
 group-at-requires : tie.Need-group-at-requires Inv-loop μ-loop
 group-at-requires c κs =
-    let l = c .before .before .before in
-    let s = l .before in
-    let k = s .pre .1 .0 .inside _ (c .before .before .loop-test .taken) in
-    (omega (arith, k, s .pre .0 .0 .count), (s .pre .0 .0 .one-in _ k, s .pre .0 .1 .0))
+    let s = c .before .before .before .before in
+    let f = s .pre .0 .0 in
+    let h = c .before .before .loop-test .taken in
+    (f .edge _ h, (f .one-in _ h, s .pre .0 .1 .0))
 
 group-at-requires-2 : tie.Need-group-at-requires-2 Inv-loop μ-loop
 group-at-requires-2 c κs =
-    let l = c .before .before .before .before .before in
-    let s = l .before in
-    let k = s .pre .1 .0 .inside _ (c .before .before .before .before .loop-test .taken) in
-    (omega (arith, k, s .pre .0 .0 .count), (s .pre .0 .0 .two-in _ k, s .pre .0 .1 .0))
+    let s = c .before .before .before .before .before .before in
+    let f = s .pre .0 .0 in
+    let h = c .before .before .before .before .loop-test .taken in
+    (f .edge _ h, (f .two-in _ h, s .pre .0 .1 .0))
 
 merge-requires : tie.Need-merge-requires Inv-loop μ-loop
 merge-requires c κs = c .before .before .before .before .before .before .before .before .loop .inv .1 .0
@@ -72,7 +71,7 @@ loop-again c =
     let one = c .before .before .before .before .before .group-at in
     let two = c .before .before .before .group-at2 in
     let h : l .loop .i < s .args .n = c .before .before .before .before .before .before .before .before .loop-test .taken in
-    let room : l .loop .count < length (now (s .args .kept)) = omega (arith, s .pre .1 .1 .1, s .pre .0 .1 .1) in (
+    let room : l .loop .count < length (now (s .args .kept)) = omega (arith, s .pre .1 .1, s .pre .0 .1 .1) in (
       (omega arith, omega arith),
       (
         merged-length (one .result) (two .result) _ (l .loop .group) _ (c .merge .ensures) (l .loop .inv .1 .0),

@@ -5,7 +5,7 @@ use native.Mathlib.Omega.{arith}
 use lib.ListN.{length}
 use Rattle.terminal.specs.Bounds.{pointBound, edgeBound}
 use Rattle.terminal.proofs.EdgeLaws.{below-replicate, length-filled}
-use Rattle.terminal.proofs.WholeLaws.{light, ordered, kept-listed, kept-inside, lengths-listed}
+use Rattle.terminal.proofs.WholeLaws.{ends-of, light, ordered, kept-listed, kept-inside, lengths-listed}
 use borrow.Author.Needs.{needs}
 use Rattle.terminal.proofs.kept_paths.Statement.{statement}
 use Rattle.terminal.proofs.kept_paths.Tie as tie
@@ -13,10 +13,10 @@ use Rattle.terminal.proofs.kept_paths.Tie as tie
 weigh-requires : tie.Need-weigh-requires
 weigh-requires c κs =
     let s = c .before in
-    (s .pre .1 .0, (s .pre .0 .0, s .pre .0 .1 .0))
+    ((s .pre .1 .0, s .pre .0 .1 .0), s .pre .0 .0)
 
 sort-bridges-requires : tie.Need-sort-bridges-requires
-sort-bridges-requires c κs = (c .before .before .before .before .pre .0 .0, (below-replicate edgeBound edgeBound 0 (omega arith), refl))
+sort-bridges-requires c κs = (ends-of _ (c .before .before .before .before .pre .0 .0), (below-replicate edgeBound edgeBound 0 (omega arith), refl))
 
 number-requires : tie.Need-number-requires
 number-requires c κs = search needs
@@ -28,8 +28,8 @@ keep-requires c κs =
     let w = c .before .before .before .before .before .before .before .before .weigh .ensures in
     let o = c .before .before .before .before .before .sort-bridges .ensures in
     let n = c .before .before .before .number .ensures in (
-      (fits, (s .pre .0 .1 .1, omega (arith, o .1, fits .count))),
-      (ordered _ _ _ fits _ _ _ w (o .0), (ap length n ∙ length-filled _ 0 pointBound _, s .pre .1 .1 .0)),
+      (ordered _ _ _ fits _ _ _ w (o .0), (s .pre .0 .1 .1, omega (arith, o .1, fits .count))),
+      (ap length n ∙ length-filled _ 0 pointBound _, s .pre .1 .1 .0),
     )
 
 measure-requires : tie.Need-measure-requires

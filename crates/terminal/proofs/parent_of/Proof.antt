@@ -13,8 +13,7 @@ use Rattle.terminal.proofs.parent_of.Statement.{statement}
 use Rattle.terminal.proofs.parent_of.Tie as tie
 
 abbrev Inv-loop : tie.InvT-loop
-Inv-loop ea eb el e far root v best₀ k₀ best k =
-    (k ≤ e)
+Inv-loop ea eb el e far root v best₀ k₀ best k = (k ≤ e)
     × (parentAmong (graph ea eb el e) (labels far root) v (from k (e - k)) best ≡ parent (graph ea eb el e) (labels far root) v)
 
 abbrev μ-loop : tie.MeasureT-loop
@@ -23,10 +22,30 @@ abbrev μ-loop : tie.MeasureT-loop
 loop-holds : tie.Need-loop-holds Inv-loop μ-loop
 loop-holds c = (omega arith, rw (all-left (c .args .e)) (scan-none _ _ _ _ refl))
 
+mul-through : tie.Need-mul-through Inv-loop μ-loop
+mul-through c = omega arith
+
+element-copy-out-through : tie.Need-element-copy-out-through Inv-loop μ-loop
+element-copy-out-through c = omega arith
+
+mul-through-2 : tie.Need-mul-through-2 Inv-loop μ-loop
+mul-through-2 c = omega arith
+
+element-copy-out-through-2 : tie.Need-element-copy-out-through-2 Inv-loop μ-loop
+element-copy-out-through-2 c = omega arith
+
+mul-through-3 : tie.Need-mul-through-3 Inv-loop μ-loop
+mul-through-3 c = omega arith
+
+element-copy-out-through-3 : tie.Need-element-copy-out-through-3 Inv-loop μ-loop
+element-copy-out-through-3 c = omega arith
+
 through-requires : tie.Need-through-requires Inv-loop μ-loop
 through-requires c κs =
-    let s = c .before .before in
-    ((s .pre .0, c .loop-test .taken), s .pre .1)
+    let s = c .before .before .before .before .before in
+    let f = s .pre .0 in
+    let h = c .before .before .before .loop-test .taken in
+    ((s .pre .1 .1, (f .one-in _ h, f .two-in _ h)), (s .pre .1 .0, f .short _ h))
 
 add-k : tie.Need-add-k Inv-loop μ-loop
 add-k c = omega arith
@@ -36,8 +55,9 @@ loop-less c = omega arith
 
 loop-again : tie.Need-loop-again Inv-loop μ-loop
 loop-again c =
-    let l = c .before .before in
-    (omega arith, scan-more _ _ _ _ _ _ _ _ _ (l .loop .inv .1) (from-next _ _ (c .before .loop-test .taken)) (c .through .ensures))
+    let l = c .before .before .before .before .before in
+    let h = c .before .before .before .before .loop-test .taken in
+    (omega arith, scan-more _ _ _ _ _ _ _ _ _ (l .loop .inv .1) (from-next _ _ h) (c .through .ensures))
 
 returns : tie.Need-returns Inv-loop μ-loop
 returns c = scan-end _ _ _ _ _ _ (c .before .loop .inv .1) (from-end _ _ (c .loop-test .left))
@@ -45,4 +65,18 @@ returns c = scan-end _ _ _ _ _ _ (c .before .loop .inv .1) (from-end _ _ (c .loo
 pub parent-of-spec : {M : Type 1} → statement M
 parent-of-spec =
     tie.close
-    (tie.spec Inv-loop μ-loop loop-holds through-requires add-k loop-less loop-again returns)
+    (tie.spec
+    Inv-loop
+    μ-loop
+    loop-holds
+    mul-through
+    element-copy-out-through
+    mul-through-2
+    element-copy-out-through-2
+    mul-through-3
+    element-copy-out-through-3
+    through-requires
+    add-k
+    loop-less
+    loop-again
+    returns)
