@@ -1,0 +1,12 @@
+pub mod EdgeLaws
+pub mod LabelLaws
+pub mod ParentLaws
+pub mod WayLaws
+pub mod BridgeLaws
+pub mod KeptLaws
+pub mod WholeLaws
+pub mod Offers
+pub mod Nearest
+pub mod Homeward
+pub mod OurTree
+pub mod WorkedTrees

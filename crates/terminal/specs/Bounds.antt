@@ -1,0 +1,25 @@
+-- The bounds of the router's own tables: here for the definitions, and as constants for the code. The proofs fail where the two differ.
+use Prim.Native.Nat.{ℕ}
+
+-- "tables of up to 320 points and 1,280 edges are the router's own"
+abbrev pub pointBound : ℕ
+pointBound = 320
+
+abbrev pub edgeBound : ℕ
+edgeBound = 1280
+
+-- "There are 1 to 64 pins"
+abbrev pub pinBound : ℕ
+pinBound = 64
+
+-- the length of an edge at most: the distance of two places of the die
+abbrev pub lengthBound : ℕ
+lengthBound = 4000000
+
+-- the distance of a vertex that no pin has reached: above every length of a way
+abbrev pub unreached : ℕ
+unreached = 1099511627776
+
+-- above every path's length, whatever the graph
+abbrev pub pathBound : ℕ
+pathBound = 4398046511104

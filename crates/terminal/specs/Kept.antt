@@ -1,0 +1,34 @@
+-- The kept bridges, and the terminal tree as a whole.
+use mathlib.Core.List.{List, map}
+use Prim.Native.Nat.{ℕ}
+use Rattle.lists.specs.Total.{total}
+use Rattle.joined.specs.Table.{keptBy}
+use Rattle.terminal.specs.Bounds.{pointBound}
+use Rattle.terminal.specs.Edges.{Graph, from}
+use Rattle.terminal.specs.Labels.{Labels, labelled}
+use Rattle.terminal.specs.Parents.{Parents, parented}
+use Rattle.terminal.specs.Bridges.{rootsOf, pathLength, bridges}
+
+-- "One is kept when its two roots are not yet joined by bridges kept before." Pins have the same group when they are joined; at first each
+-- vertex is its own group.
+unfoldable pub keptBridges : Graph → Labels → Parents → List ℕ
+keptBridges g t p = keptBy (rootsOf g t) (bridges g t p) (from 0 pointBound)
+
+-- "for each kept path its own length, every edge of it counted"
+unfoldable pub keptLengths : Graph → Labels → Parents → List ℕ
+keptLengths g t p = map (pathLength g (t .fars) p) (keptBridges g t p)
+
+-- The labels, the parents, the kept bridges with the lengths of their paths, "and for the total their sum"
+pub record Terminal : Type 0 where
+  pub labels : Labels
+  pub parents : Parents
+  pub bridges : List ℕ
+  pub lengths : List ℕ
+  pub total : ℕ
+
+-- the terminal tree of a graph of n vertices with these pins
+unfoldable pub terminal : Graph → ℕ → List ℕ → Terminal
+terminal g n pins =
+    let t = labelled g n pins in
+    let p = parented g n t in
+    record { labels = t; parents = p; bridges = keptBridges g t p; lengths = keptLengths g t p; total = total (keptLengths g t p) }

@@ -1,0 +1,36 @@
+-- The terminal tree on tables of vertex numbers.
+--
+-- A vertex is its number in the order of places, and an edge its number in the order of edges: so the order of numbers is the order of
+-- places, and every tie is settled by the smaller number. A graph is three tables, the two ends of each edge and its length. Labels,
+-- parents and path lengths are tables too, by vertex or by edge. The definitions are ways of computing on these tables, the same that the
+-- code goes; what they say in the words of document 01 is proved beside them, in ../proofs: that labels are nearest pins (Nearest), that
+-- parents are the smallest neighbours on shortest ways and lead to the root (Homeward), that kept bridges stand for terminal paths, join
+-- the pins, and do so with the least length (OurTree).
+--
+--   Bounds     pointBound, edgeBound, pinBound      320, 1,280 and 64
+--              unreached                            the distance of a vertex that no pin has reached
+--   Edges      graph ea eb el e                     a graph by its tables
+--              one g k, two g k, len g k            the ends of edge k and its length
+--              from k n, entries xs k n             n numbers, or n entries of a table, from k on
+--              filled f i n xs                      the table xs with f k at each number k from i on, n of them
+--              Fits, Ends, Named, FirstBelow, Below                    what the code asks of tables
+--              Listed xs lent table n               a lent table holds xs over what stood there, and n is how many
+--   Labels     labels f r, far t v, root t v        for each vertex the distance to its root, and the root
+--              labelled g n pins                    the labels of a graph of n vertices, by relaxation until nothing changes
+--   Parents    parent g t v                         the step from v to its parent: the vertex, and the edge to it
+--              parented g n t, up p v, via p v      the table of these steps, read
+--              way fars p v, wayLength ..           the edges on v's way to its root, and the sum of their lengths
+--   Bridges    sameRoot g t k, rootsOf g t k        whether edge k is no bridge, and the two pins that it joins
+--              path g fars p k, pathLength ..       the edges on the path that it stands for, and the sum of their lengths
+--              bridges g t p                        the bridges by path length, ties by number
+--   Kept       keptBridges g t p, keptLengths       the kept ones in the order kept, and the lengths of their paths
+--              terminal g n pins                    all of it, with the total
+--   Setting    Setting g n d pins, Whole g n pins   what the theorems suppose: lengths by d, vertices below n; joined, with a pin
+--              TerminalPath g pins                  "a loop-free path of the graph whose two ends are different pins .."
+pub mod Bounds
+pub mod Edges
+pub mod Labels
+pub mod Parents
+pub mod Bridges
+pub mod Kept
+pub mod Setting
