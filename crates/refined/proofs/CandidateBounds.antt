@@ -44,8 +44,10 @@ module _ (pts : List ℤ) (e n : ℕ) (ms : List Macro) (keys el top : List ℕ)
 
   fine-offers : (k : ℕ) (c : Best) → k < e → Fine el e n c → Fine el e n (offers pts n ms keys el top k c)
   unfolding offers
-  fine-offers k c h f = turns-below (offer pts n ms el top (firstEnd (getD keys k 0)) (secondEnd (getD keys k 0)) k) (Fine el e n) n (λ j t i q. fine-offer _ _ k h j t i q) n 0 c (omega arith) f
+  fine-offers k c h f = turns-below (offer pts n ms el top (firstEnd (getD keys k 0)) (secondEnd (getD keys k 0)) k) (Fine el e n) n
+      (λ j t i q. fine-offer _ _ k h j t i q) n 0 c (omega arith) f
 
   pub fine-search : Fine el e n (search pts n ms keys e el top)
   unfolding search
-  fine-search = turns-below (offers pts n ms keys el top) (Fine el e n) e (λ j t i q. fine-offers j t i q) e 0 (best 0 0 0 0) (omega arith) (λ g. absurd (let z : ⊥ = omega arith in z))
+  fine-search = turns-below (offers pts n ms keys el top) (Fine el e n) e (λ j t i q. fine-offers j t i q) e 0 (best 0 0 0 0) (omega arith)
+      (λ g. absurd (let z : ⊥ = omega arith in z))

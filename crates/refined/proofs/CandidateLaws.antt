@@ -34,7 +34,8 @@ pub record Spots (pts : List ℤ) (a b u : ℕ) (p q r s : Place) (d : ℕ) : Ty
   pub far : d ≡ distance s r
 
 module _ (pts : List ℤ) (n : ℕ) (ms : List Macro) (a b k u l x : ℕ) (c : Best) where
-  named : (p q r s : Place) (d : ℕ) → Spots pts a b u p q r s d → weighed pts n ms a b k u l x c ≡ chosen (ltb (c .gain + d) x && allowed pts n ms a b u s) (best (x - d) k u l) c
+  named : (p q r s : Place) (d : ℕ) → Spots pts a b u p q r s d
+      → weighed pts n ms a b k u l x c ≡ chosen (ltb (c .gain + d) x && allowed pts n ms a b u s) (best (x - d) k u l) c
   unfolding weighed
   named p q r s d h = rw (h .far, h .mid, h .one, h .two, h .three) refl
 

@@ -44,7 +44,8 @@ pub push-is : (i : ℕ) (p r : List ℤ) (q v : Place) → v ≡ placeAt p i →
 unfolding push
 push-is i p r q v e f = rw (e, f) refl
 
-pub opened-is : (pts : List ℤ) (n p : ℕ) (s : Place) (r z : List ℤ) (q : Place) → hand r q ≡ turns push p (n - p) (hand pts s) → z ≡ setPoint r n q → z ≡ opened pts n p s
+pub opened-is : (pts : List ℤ) (n p : ℕ) (s : Place) (r z : List ℤ) (q : Place) → hand r q ≡ turns push p (n - p) (hand pts s) → z ≡ setPoint r n q
+    → z ≡ opened pts n p s
 unfolding opened closing
 opened-is pts n p s r z q e f = f ∙ ap (closing n) e
 

@@ -25,7 +25,8 @@ pub distance-fits : (a b : Place) → SFits w32 (a .x) → SFits w32 (a .y) → 
 unfolding distance
 distance-fits a b f g h i = omega (arith, apart-fits (a .x) (b .x) f h, apart-fits (a .y) (b .y) g i)
 
-pub length-is : (pts : List ℤ) (keys : List ℕ) (k d : ℕ) (p q : Place) → p ≡ placeAt pts (firstEnd (getD keys k 0)) → q ≡ placeAt pts (secondEnd (getD keys k 0)) → d ≡ distance p q → d ≡ edgeLength pts keys k
+pub length-is : (pts : List ℤ) (keys : List ℕ) (k d : ℕ) (p q : Place) → p ≡ placeAt pts (firstEnd (getD keys k 0))
+    → q ≡ placeAt pts (secondEnd (getD keys k 0)) → d ≡ distance p q → d ≡ edgeLength pts keys k
 unfolding edgeLength
 length-is pts keys k d p q e f g = rw (g, e, f) refl
 
@@ -61,7 +62,8 @@ pub shorter-no : (w : List ℕ) (k l : ℕ) → wins w k l ≡ false → k ≡ s
 unfolding shorter
 shorter-no w k l e = rw (shorter, e) refl
 
-pub spread-is : (el : List ℕ) (v p k w x y z z′ : ℕ) (t : List ℕ) → y ≡ getD t (key p w) 0 → x ≡ longer el y k → z ≡ x → z′ ≡ x → set (set t (key v w) z) (key w v) z′ ≡ spread el v p k w t
+pub spread-is : (el : List ℕ) (v p k w x y z z′ : ℕ) (t : List ℕ) → y ≡ getD t (key p w) 0 → x ≡ longer el y k → z ≡ x → z′ ≡ x
+    → set (set t (key v w) z) (key w v) z′ ≡ spread el v p k w t
 unfolding spread
 spread-is el v p k w x y z z′ t d e f g = rw (f, g, e, d) refl
 
@@ -100,11 +102,13 @@ module _ (el : List ℕ) (n a b k : ℕ) (s t : List ℕ) where
   unfolding attach
   attach-none e = rw (attach, eq-eqb _ _ e) refl
 
-  pub attach-one : (getD s a 0 ≡ getD s b 0 → ⊥) → getD s a 0 ≡ 0 → (u : List ℕ) → u ≡ spreads el n a b k t → reach (set s a 1) u ≡ attach el n a b k (reach s t)
+  pub attach-one : (getD s a 0 ≡ getD s b 0 → ⊥) → getD s a 0 ≡ 0 → (u : List ℕ) → u ≡ spreads el n a b k t
+      → reach (set s a 1) u ≡ attach el n a b k (reach s t)
   unfolding attach hang
   attach-one d e u h = rw (h, attach, ne-eqb _ _ d, eq-eqb _ _ e) refl
 
-  pub attach-two : (getD s a 0 ≡ getD s b 0 → ⊥) → (getD s a 0 ≡ 0 → ⊥) → (u : List ℕ) → u ≡ spreads el n b a k t → reach (set s b 1) u ≡ attach el n a b k (reach s t)
+  pub attach-two : (getD s a 0 ≡ getD s b 0 → ⊥) → (getD s a 0 ≡ 0 → ⊥) → (u : List ℕ) → u ≡ spreads el n b a k t
+      → reach (set s b 1) u ≡ attach el n a b k (reach s t)
   unfolding attach hang
   attach-two d e u h = rw (h, attach, ne-eqb _ _ d, ne-eqb _ _ e) refl
 
@@ -113,16 +117,20 @@ unfolding attach hang
 small-attach el n a b k r h s =
     by (eqb (getD (r .seen) a 0) (getD (r .seen) b 0))
     (λ e. rw (attach, e) s)
-    (λ e. by (eqb (getD (r .seen) a 0) 0) (λ f. rw (attach, e, f) (small-spreads el n a b k (r .top) h s)) (λ f. rw (attach, e, f) (small-spreads el n b a k (r .top) h s)))
+    (λ e. by (eqb (getD (r .seen) a 0) 0) (λ f. rw (attach, e, f) (small-spreads el n a b k (r .top) h s))
+    (λ f. rw (attach, e, f) (small-spreads el n b a k (r .top) h s)))
 
-pub small-attached : (el : List ℕ) (n a b k : ℕ) (s t s′ t′ : List ℕ) → reach s′ t′ ≡ attach el n a b k (reach s t) → k < pointBound → Small pointBound t → Small pointBound t′
+pub small-attached : (el : List ℕ) (n a b k : ℕ) (s t s′ t′ : List ℕ) → reach s′ t′ ≡ attach el n a b k (reach s t) → k < pointBound
+    → Small pointBound t → Small pointBound t′
 small-attached el n a b k s t s′ t′ e h q = rw (ap (λ (r : Reach). r .top) e) (small-attach el n a b k (reach s t) h q)
 
 pub pass-is : (keys el : List ℕ) (n k : ℕ) (r : Reach) → attach el n (firstEnd (getD keys k 0)) (secondEnd (getD keys k 0)) k r ≡ pass keys el n k r
 unfolding pass
 pass-is keys el n k r = refl
 
-pub small-passed : (keys el : List ℕ) (n e : ℕ) (s t s′ t′ : List ℕ) → reach s′ t′ ≡ turns (pass keys el n) 0 e (reach s t) → e ≤ pointBound → Small pointBound t → Small pointBound t′
+pub small-passed : (keys el : List ℕ) (n e : ℕ) (s t s′ t′ : List ℕ) → reach s′ t′ ≡ turns (pass keys el n) 0 e (reach s t) → e ≤ pointBound
+    → Small pointBound t → Small pointBound t′
 unfolding pass
 small-passed keys el n e s t s′ t′ q h i =
-    rw (ap (λ (r : Reach). r .top) q) (turns-below (pass keys el n) (λ r. Small pointBound (r .top)) pointBound (λ j r b k. small-attach el n _ _ j r b k) e 0 (reach s t) (omega arith) i)
+    rw (ap (λ (r : Reach). r .top) q) (turns-below (pass keys el n) (λ r. Small pointBound (r .top)) pointBound
+    (λ j r b k. small-attach el n _ _ j r b k) e 0 (reach s t) (omega arith) i)

@@ -48,7 +48,9 @@ low-replicate (suc n) (suc i) = low-replicate n i
 pub low-zeros : (n : ℕ) → Low 0 (replicate n 0)
 low-zeros n = record { low = low-replicate n }
 
-pub count-is : (ks : List ℕ) (i : ℕ) (d : List ℕ) → (set (set d (firstEnd (getD ks i 0)) (getD d (firstEnd (getD ks i 0)) 0 + 1)) (secondEnd (getD ks i 0)) (getD (set d (firstEnd (getD ks i 0)) (getD d (firstEnd (getD ks i 0)) 0 + 1)) (secondEnd (getD ks i 0)) 0 + 1)) ≡ countEnds ks i d
+pub count-is : (ks : List ℕ) (i : ℕ) (d : List ℕ) → (set (set d (firstEnd (getD ks i 0)) (getD d (firstEnd (getD ks i 0)) 0 + 1))
+    (secondEnd (getD ks i 0)) (getD (set d (firstEnd (getD ks i 0)) (getD d (firstEnd (getD ks i 0)) 0 + 1))
+    (secondEnd (getD ks i 0)) 0 + 1)) ≡ countEnds ks i d
 unfolding countEnds
 count-is ks i d = refl
 
@@ -56,11 +58,13 @@ pub loose-is : (pin d : List ℕ) (v : ℕ) → (eqb (getD pin v 0) 0 && eqb (ge
 unfolding loose
 loose-is pin d v = refl
 
-pub loose-edge-is : (pin d ks : List ℕ) (i : ℕ) (p q : Bool) → p ≡ loose pin d (firstEnd (getD ks i 0)) → q ≡ loose pin d (secondEnd (getD ks i 0)) → (p || q) ≡ looseEdge pin d ks i
+pub loose-edge-is : (pin d ks : List ℕ) (i : ℕ) (p q : Bool) → p ≡ loose pin d (firstEnd (getD ks i 0)) → q ≡ loose pin d (secondEnd (getD ks i 0))
+    → (p || q) ≡ looseEdge pin d ks i
 unfolding looseEdge
 loose-edge-is pin d ks i p q e f = rw (e, f) refl
 
-pub first-loose-is : (pin ks d : List ℕ) (e r : ℕ) → d ≡ turns (countEnds ks) 0 e (replicate pointBound 0) → r ≡ seek (looseEdge pin d ks) 0 e → r ≡ firstLoose pin ks e
+pub first-loose-is : (pin ks d : List ℕ) (e r : ℕ) → d ≡ turns (countEnds ks) 0 e (replicate pointBound 0) → r ≡ seek (looseEdge pin d ks) 0 e
+    → r ≡ firstLoose pin ks e
 unfolding firstLoose
 first-loose-is pin ks d e r p q = rw p at q
 
@@ -101,11 +105,13 @@ module _ (pins : List Place) (pts : List ℤ) (i : ℕ) (t : List ℕ) (p : Plac
   unfolding mark markOf
   mark-none h = rw (← e, h) refl
 
-pub pruned-is : (pins : List Place) (pts : List ℤ) (n : ℕ) (ks : List ℕ) (e : ℕ) (pin : List ℕ) (r : Row) → pin ≡ turns (mark pins pts) 0 n (replicate pointBound 0) → r ≡ prune pin ks e → r ≡ pruned pins (tree pts n ks e) .edges
+pub pruned-is : (pins : List Place) (pts : List ℤ) (n : ℕ) (ks : List ℕ) (e : ℕ) (pin : List ℕ) (r : Row)
+    → pin ≡ turns (mark pins pts) 0 n (replicate pointBound 0) → r ≡ prune pin ks e → r ≡ pruned pins (tree pts n ks e) .edges
 unfolding pruned marks
 pruned-is pins pts n ks e pin r f g = rw f at g
 
-pub answer-is : (ms : List Macro) (pins : List Place) (t : Tree) (pts : List ℤ) (n : ℕ) (ks : List ℕ) (e : ℕ) (ls : List ℕ) (f m : ℕ) → length pins ≡ m → tree pts n ks e ≡ rounds ms m t → row ls f ≡ pruned pins (tree pts n ks e) .edges → tree pts n ls f ≡ refined ms pins t
+pub answer-is : (ms : List Macro) (pins : List Place) (t : Tree) (pts : List ℤ) (n : ℕ) (ks : List ℕ) (e : ℕ) (ls : List ℕ) (f m : ℕ)
+    → length pins ≡ m → tree pts n ks e ≡ rounds ms m t → row ls f ≡ pruned pins (tree pts n ks e) .edges → tree pts n ls f ≡ refined ms pins t
 unfolding refined pruned
 answer-is ms pins t pts n ks e ls f m l h g =
     ap (λ (r : Row). record { points = pts; count = n; edges = r }) g

@@ -69,7 +69,8 @@ within-closed n k m xs w = turns-keep shift (Within n) (m - k) k xs (λ j t q. w
 within-dropped : (n m k l : ℕ) (xs : List ℕ) → Within n xs → Within n (dropTwo m k l xs)
 unfolding dropTwo
 within-dropped n m k l xs w =
-    by (ltb k l) (λ t. rw (dropTwo, t) (within-closed n k m _ (within-closed n l (m + 1) xs w))) (λ t. rw (dropTwo, t) (within-closed n l m _ (within-closed n k (m + 1) xs w)))
+    by (ltb k l) (λ t. rw (dropTwo, t) (within-closed n k m _ (within-closed n l (m + 1) xs w)))
+    (λ t. rw (dropTwo, t) (within-closed n l m _ (within-closed n k (m + 1) xs w)))
 
 bump-in : (n p i : ℕ) → i < n → bump p i < n + 1
 unfolding bump
@@ -81,7 +82,8 @@ past (y ∷ ys) i zero x h = absurd (let z : ⊥ = omega arith in z)
 past (y ∷ ys) zero (suc j) x h = refl
 past (y ∷ ys) (suc i) (suc j) x h = past ys i j x (omega arith)
 
-within-bumped : (n p : ℕ) → n < pointBound → (c i : ℕ) (xs : List ℕ) → Within (n + 1) xs → ((j : ℕ) → i ≤ j → In n (getD xs j 0)) → Within (n + 1) (turns (bumpAt p) i c xs)
+within-bumped : (n p : ℕ) → n < pointBound → (c i : ℕ) (xs : List ℕ) → Within (n + 1) xs → ((j : ℕ) → i ≤ j → In n (getD xs j 0))
+    → Within (n + 1) (turns (bumpAt p) i c xs)
 unfolding turns bumpAt
 within-bumped n p l zero i xs w h = w
 within-bumped n p l (suc c) i xs w h =
@@ -93,13 +95,15 @@ within-bumped n p l (suc c) i xs w h =
 within-more : (n : ℕ) (xs : List ℕ) → Within n xs → Within (n + 1) xs
 within-more n xs w = record { ends = λ i. (omega (arith, w .ends i .0), omega (arith, w .ends i .1)) }
 
-module _ (pts : List ℤ) (n : ℕ) (ks : List ℕ) (e p a b u : ℕ) (s : Place) (l : n < pointBound) (hp : p ≤ n) (ha : a < n) (hb : b < n) (hu : u < n) (w : Within n ks) where
+module _ (pts : List ℤ) (n : ℕ) (ks : List ℕ) (e p a b u : ℕ) (s : Place) (l : n < pointBound) (hp : p ≤ n) (ha : a < n) (hb : b < n) (hu : u < n)
+    (w : Within n ks) where
   pub within-joined : Within (laidAt pts n ks e p a b u s .count) (laidAt pts n ks e p a b u s .edges .keys)
   unfolding laidAt stands
   within-joined =
       by (ltb p n && samePlace s (placeAt pts p))
       (λ t. rw (laidAt, t) (within-lay3 n p a b u (row ks e) (ltb-true p n (and-left _ _ t)) ha hb hu (omega arith) w))
-      (λ t. rw (laidAt, t) (within-lay3 (n + 1) p _ _ _ (row (turns (bumpAt p) 0 e ks) e) (omega arith) (bump-in n p a ha) (bump-in n p b hb) (bump-in n p u hu) (omega arith) (within-bumped n p l e 0 ks (within-more n ks w) (λ j _. w .ends j))))
+      (λ t. rw (laidAt, t) (within-lay3 (n + 1) p _ _ _ (row (turns (bumpAt p) 0 e ks) e) (omega arith) (bump-in n p a ha) (bump-in n p b hb)
+      (bump-in n p u hu) (omega arith) (within-bumped n p l e 0 ks (within-more n ks w) (λ j _. w .ends j))))
 
 seek-le : (t : ℕ → Bool) (n i : ℕ) → seek t i n ≤ i + n
 unfolding seek
@@ -110,13 +114,15 @@ rank-le : (pts : List ℤ) (n : ℕ) (s : Place) → rank pts n s ≤ n
 unfolding rank
 rank-le pts n s = omega (arith, seek-le (later pts s) n 0)
 
-pub within-exchange : (c : Best) (pts : List ℤ) (n : ℕ) (ks : List ℕ) (e : ℕ) → n < pointBound → c .point < n → Within n ks → Within (exchange c pts n ks e .count) (exchange c pts n ks e .edges .keys)
+pub within-exchange : (c : Best) (pts : List ℤ) (n : ℕ) (ks : List ℕ) (e : ℕ) → n < pointBound → c .point < n → Within n ks
+    → Within (exchange c pts n ks e .count) (exchange c pts n ks e .edges .keys)
 unfolding exchange
 within-exchange c pts n ks e l h w =
     let q = w .ends (c .edge) in
     within-joined pts n _ _ _ _ _ _ _ l (rank-le pts n _) (q .0) (q .1) h (within-dropped n _ _ _ ks w)
 
-pub within-after : (c : Best) (pts qts : List ℤ) (n m : ℕ) (ks ls : List ℕ) (e f : ℕ) → tree qts m ls f ≡ exchange c pts n ks e → n < pointBound → c .point < n → Within n ks → Within m ls
+pub within-after : (c : Best) (pts qts : List ℤ) (n m : ℕ) (ks ls : List ℕ) (e f : ℕ) → tree qts m ls f ≡ exchange c pts n ks e → n < pointBound
+    → c .point < n → Within n ks → Within m ls
 within-after c pts qts n m ks ls e f q l h w =
     rw (ap (λ (t : Tree). t .count) q, ap (λ (t : Tree). t .edges .keys) q) (within-exchange c pts n ks e l h w)
 
@@ -135,9 +141,11 @@ cut-in : (pts : List ℤ) (ks : List ℕ) (e l : ℕ) → 0 < getD (lengths pts 
 unfolding lengths
 cut-in pts ks e l h =
     by (ltb l e) (λ t. ltb-true l e t)
-    (λ t. absurd (let g : e ≤ l = ltb-false l e t in let z : getD (turns (measure pts ks) 0 e (replicate pointBound 0)) l 0 ≡ 0 = measured-past pts ks l e 0 _ (omega arith) ∙ zeros-at pointBound l in let y : ⊥ = omega arith in y))
+    (λ t. absurd (let g : e ≤ l = ltb-false l e t in let z : getD (turns (measure pts ks) 0 e
+    (replicate pointBound 0)) l 0 ≡ 0 = measured-past pts ks l e 0 _ (omega arith) ∙ zeros-at pointBound l in let y : ⊥ = omega arith in y))
 
-pub fine-found : (ms : List Macro) (pts : List ℤ) (n : ℕ) (ks : List ℕ) (e : ℕ) (c : Best) → c ≡ found ms pts n ks e → (c .gain ≡ 0 → ⊥) → ((c .edge < e) × (c .cut < e)) × ((c .cut ≡ c .edge → ⊥) × (c .point < n))
+pub fine-found : (ms : List Macro) (pts : List ℤ) (n : ℕ) (ks : List ℕ) (e : ℕ) (c : Best) → c ≡ found ms pts n ks e → (c .gain ≡ 0 → ⊥)
+    → ((c .edge < e) × (c .cut < e)) × ((c .cut ≡ c .edge → ⊥) × (c .point < n))
 unfolding found
 fine-found ms pts n ks e c q g =
     let f = fine-search pts e n ms ks (lengths pts ks e) _ in
@@ -148,7 +156,8 @@ fine-found ms pts n ks e c q g =
 pub within-small : (n : ℕ) (ks : List ℕ) → n ≤ pointBound → Within n ks → Small pairBound ks
 within-small n ks h w = record { small = λ i. omega (arith, w .ends i .0, w .ends i .1) }
 
-module _ (ms : List Macro) (pts : List ℤ) (n : ℕ) (ks : List ℕ) (e k : ℕ) (all : Tree) (c : Best) (h : rounds ms k (tree pts n ks e) ≡ all) (q : c ≡ found ms pts n ks e) where
+module _ (ms : List Macro) (pts : List ℤ) (n : ℕ) (ks : List ℕ) (e k : ℕ) (all : Tree) (c : Best) (h : rounds ms k (tree pts n ks e) ≡ all)
+    (q : c ≡ found ms pts n ks e) where
   pub rounds-stop : (less : ℕ) → k ≡ suc less → c .gain ≡ 0 → tree pts n ks e ≡ all
   unfolding rounds
   rounds-stop less i g = sym (rw (i, rounds, eq-eqb _ _ (rw q at g)) refl) ∙ h
@@ -178,7 +187,8 @@ pruned-within n pin ks (suc e) w =
     by (eqb (firstLoose pin ks (suc e)) (suc e)) (λ t. rw (prune, t) w)
     (λ t. rw (prune, t) (pruned-within n pin (closed (firstLoose pin ks (suc e)) e ks) e (within-closed n (firstLoose pin ks (suc e)) e ks w)))
 
-pub after-pruning : (pins : List Place) (pts : List ℤ) (n : ℕ) (ks : List ℕ) (e k : ℕ) (ls : List ℕ) (f : ℕ) → row ls f ≡ pruned pins (tree pts n ks e) .edges → Within k ks → (f ≤ e) × Within k ls
+pub after-pruning : (pins : List Place) (pts : List ℤ) (n : ℕ) (ks : List ℕ) (e k : ℕ) (ls : List ℕ) (f : ℕ)
+    → row ls f ≡ pruned pins (tree pts n ks e) .edges → Within k ks → (f ≤ e) × Within k ls
 unfolding pruned
 after-pruning pins pts n ks e k ls f h w = (
   rw (ap (λ (r : Row). r .size) h) (pruned-few (marks pins pts n) ks e),

@@ -16,9 +16,11 @@ use Rattle.plane.specs.Macro.{macro, spanMeets, meets, clear}
 use Rattle.plane.specs.Flat.{placeAt, flatPlaces}
 use Rattle.refined.specs.Turns.{turns, seek}
 use Rattle.refined.specs.Table.{key, firstEnd, secondEnd, Tree, tree}
-use Rattle.refined.specs.Longest.{edgeLength, measure, lengths, wins, longer, shorter, spread, spreads, hang, attach, pass, reached, start, longest, cutOf}
+use Rattle.refined.specs.Longest.{edgeLength, measure, lengths, wins, longer, shorter}
+use Rattle.refined.specs.Longest.{spread, spreads, hang, attach, pass, reached, start, longest, cutOf}
 use Rattle.refined.specs.Candidate.{sees, taken, dropped, allowed, weighed, offer, offers, search, found}
-use Rattle.refined.specs.Exchange.{shift, closed, dropTwo, later, rank, stands, push, closing, opened, bump, bumpAt, carrying, lay, lay3, laidAt, exchange}
+use Rattle.refined.specs.Exchange.{shift, closed, dropTwo, later, rank, stands, push, closing, opened}
+use Rattle.refined.specs.Exchange.{bump, bumpAt, carrying, lay, lay3, laidAt, exchange}
 use Rattle.refined.specs.Prune.{markOf, mark, marks, countEnds, loose, looseEdge, firstLoose, prune}
 use Rattle.refined.specs.Refined.{rounds, pruned, refined, addLength, metal}
 

@@ -232,7 +232,8 @@ fn pass(
 )
     requires { ⌜ (e ≤ pointBound) × (n ≤ pointBound) ⌝ }
     requires { ⌜ (Small pairBound (now keys)) × (Small pointBound (now top)) ⌝ }
-    ensures { λ _. ⌜ reach (now (seen .exit)) (now (top .exit)) ≡ turns (pass (now (keys .entry)) (now (el .entry)) n) 0 e (reach (now (seen .entry)) (now (top .entry))) ⌝ }
+    ensures { λ _. ⌜ reach (now (seen .exit)) (now (top .exit))
+        ≡ turns (pass (now (keys .entry)) (now (el .entry)) n) 0 e (reach (now (seen .entry)) (now (top .entry))) ⌝ }
 {
     let mut k = 0;
     while k < e {
@@ -252,7 +253,8 @@ fn reached(
 )
     requires { ⌜ (e ≤ pointBound) × (n ≤ pointBound) ⌝ }
     requires { ⌜ (Small pairBound (now keys)) × (Small pointBound (now top)) ⌝ }
-    ensures { λ _. ⌜ reach (now (seen .exit)) (now (top .exit)) ≡ reached (now (keys .entry)) (now (el .entry)) e n (reach (now (seen .entry)) (now (top .entry))) ⌝ }
+    ensures { λ _. ⌜ reach (now (seen .exit)) (now (top .exit))
+        ≡ reached (now (keys .entry)) (now (el .entry)) e n (reach (now (seen .entry)) (now (top .entry))) ⌝ }
 {
     let mut i = 0;
     while i < e {
@@ -618,7 +620,8 @@ fn lay_at(
 ) -> Size
     requires { ⌜ ((n < pointBound) × (e + 2 < pointBound)) × ((p ≤ n) × ((a < pointBound) × ((b < pointBound) × (u < pointBound)))) ⌝ }
     requires { ⌜ Small pairBound (now keys) ⌝ }
-    ensures { λ r. ⌜ (tree (now (pts .exit)) (r .points) (now (keys .exit)) (r .edges) ≡ laidAt (now (pts .entry)) n (now (keys .entry)) e p a b u s) × ((r .points ≤ n + 1) × (r .edges ≤ e + 3)) ⌝ }
+    ensures { λ r. ⌜ (tree (now (pts .exit)) (r .points) (now (keys .exit)) (r .edges) ≡ laidAt (now (pts .entry)) n (now (keys .entry)) e p a b u s)
+        × ((r .points ≤ n + 1) × (r .edges ≤ e + 3)) ⌝ }
 {
     if stands(&*pts, n, p, s) {
         let f = lay_three(&mut *keys, e, p, a, b, u);
@@ -645,7 +648,8 @@ fn exchange(
 ) -> Size
     requires { ⌜ ((n < pointBound) × (e < pointBound)) × (((c .edge < e) × (c .cut < e)) × ((c .cut ≡ c .edge → ⊥) × (c .point < n))) ⌝ }
     requires { ⌜ Small pairBound (now keys) ⌝ }
-    ensures { λ r. ⌜ (tree (now (pts .exit)) (r .points) (now (keys .exit)) (r .edges) ≡ exchange c (now (pts .entry)) n (now (keys .entry)) e) × ((r .points ≤ n + 1) × (r .edges ≤ e + 1)) ⌝ }
+    ensures { λ r. ⌜ (tree (now (pts .exit)) (r .points) (now (keys .exit)) (r .edges) ≡ exchange c (now (pts .entry)) n (now (keys .entry)) e)
+        × ((r .points ≤ n + 1) × (r .edges ≤ e + 1)) ⌝ }
 {
     let k = c.edge;
     let l = c.cut;
@@ -670,7 +674,9 @@ pub fn rounds(
     m: usize,
 ) -> Size
     requires { ⌜ ((n + m ≤ pointBound) × (e + m ≤ pointBound)) × (Within n (now keys)) ⌝ }
-    ensures { λ r. ⌜ (tree (now (pts .exit)) (r .points) (now (keys .exit)) (r .edges) ≡ rounds (macrosOf (now (macros .entry))) m (tree (now (pts .entry)) n (now (keys .entry)) e)) × (((r .points ≤ n + m) × (r .edges ≤ e + m)) × (Within (r .points) (now (keys .exit)))) ⌝ }
+    ensures { λ r. ⌜ (tree (now (pts .exit)) (r .points) (now (keys .exit)) (r .edges)
+        ≡ rounds (macrosOf (now (macros .entry))) m (tree (now (pts .entry)) n (now (keys .entry)) e))
+        × (((r .points ≤ n + m) × (r .edges ≤ e + m)) × (Within (r .points) (now (keys .exit)))) ⌝ }
 {
     let mut z = Size {
         points: n,
@@ -853,7 +859,8 @@ pub fn refine(
     e: usize,
 ) -> Refined
     requires { ⌜ ((n + length (now pins) / 2 ≤ pointBound) × (e + length (now pins) / 2 ≤ pointBound)) × (Within n (now keys)) ⌝ }
-    ensures { λ r. ⌜ Answer (macrosOf (now (macros .entry))) (placesOf (now (pins .entry))) (tree (now (pts .entry)) n (now (keys .entry)) e) (now (pts .exit)) (now (keys .exit)) r ⌝ }
+    ensures { λ r. ⌜ Answer (macrosOf (now (macros .entry))) (placesOf (now (pins .entry)))
+        (tree (now (pts .entry)) n (now (keys .entry)) e) (now (pts .exit)) (now (keys .exit)) r ⌝ }
 {
     let m = pins.len() / 2;
     let z = rounds(&mut *pts, n, macros, &mut *keys, e, m);

@@ -63,7 +63,11 @@ add-deg-2 : tie.Need-add-deg-2
 add-deg-2 c =
     let s = c .before .before .before .before in
     let q = s .pre .1 .0 .small (s .args .i) in
-    omega (arith, low-step 1000 (now (s .args .deg)) (getD (now (s .args .keys)) (s .args .i) 0 / pointBound) (s .pre .1 .1) .low (getD (now (s .args .keys)) (s .args .i) 0 % pointBound))
+    omega (
+      arith,
+      low-step 1000 (now (s .args .deg)) (getD (now (s .args .keys)) (s .args .i) 0 / pointBound) (s .pre .1 .1) .low
+          (getD (now (s .args .keys)) (s .args .i) 0 % pointBound),
+    )
 
 mul-deg-4 : tie.Need-mul-deg-4
 mul-deg-4 c = search needs

@@ -37,7 +37,11 @@ wide-requires-2 : tie.Need-wide-requires-2
 wide-requires-2 c κs = search needs
 
 shorter-requires : tie.Need-shorter-requires
-shorter-requires c κs = (rw (c .before .before .wide .ensures) (c .before .before .before .before .pre .1 .small _), rw (c .wide2 .ensures) (c .before .before .before .before .pre .1 .small _))
+shorter-requires c κs = (
+  rw (c .before .before .wide .ensures) (c .before .before .before .before .pre .1 .small _),
+  rw (c .wide2 .ensures)
+      (c .before .before .before .before .pre .1 .small _),
+)
 
 returns : tie.Need-returns
 unfolding cutOf

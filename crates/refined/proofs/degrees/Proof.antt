@@ -1,5 +1,5 @@
--- `refined::degrees` meets its contract. The loop's invariant: the edges that are left decide, and no count is above twice those passed. The measure is how many they are.
--- Assumes nothing.
+-- `refined::degrees` meets its contract. The loop's invariant: the edges that are left decide, and no count is above twice those passed.
+-- The measure is how many they are. Assumes nothing.
 use mathlib.Core.Path.{_≡_}
 use Prim.Native.Nat.{_≤_, _-_, _*_}
 use native.Mathlib.Omega.{arith}
@@ -33,8 +33,14 @@ loop-less c = omega arith
 
 loop-again : tie.Need-loop-again Inv-loop μ-loop
 loop-again c =
-    let l = c .before .before .before in
-    (omega arith, (low-count _ _ _ _ _ _ (c .count-ends .ensures) (l .loop .inv .1 .0) (omega arith), turns-next _ _ _ _ _ _ (l .loop .inv .1 .1) (omega arith) (c .count-ends .ensures)))
+    let l = c .before .before .before in (
+      omega arith,
+      (
+        low-count _ _ _ _ _ _ (c .count-ends .ensures) (l .loop .inv .1 .0) (omega arith),
+        turns-next _ _ _ _ _ _ (l .loop .inv .1 .1)
+            (omega arith) (c .count-ends .ensures),
+      ),
+    )
 
 returns : tie.Need-returns Inv-loop μ-loop
 returns c = turns-end _ _ _ _ _ (c .before .loop .inv .1 .1) (omega arith)

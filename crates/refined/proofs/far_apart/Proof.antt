@@ -19,7 +19,11 @@ is : (c : tie.After-distance) → toZ w64 (ofZ w64 (c .distance .result)) ≡ po
 is c = toZ-ofZ w64 _ (record { sfits = c .distance .ok }) ∙ c .distance .ensures
 
 cast-result : tie.Need-cast-result
-cast-result c = (rw (is c) tt, rw (toZ-ofZ w64 _ (record { sfits = c .distance .ok })) (fits-natAbs {w = w64} {z = c .distance .result} tt (record { sfits = c .distance .ok })))
+cast-result c = (
+  rw (is c) tt,
+  rw (toZ-ofZ w64 _ (record { sfits = c .distance .ok }))
+      (fits-natAbs {w = w64} {z = c .distance .result} tt (record { sfits = c .distance .ok })),
+)
 
 returns : tie.Need-returns
 returns c =

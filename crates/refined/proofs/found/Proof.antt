@@ -22,11 +22,18 @@ reached-requires c κs =
 
 search-requires : tie.Need-search-requires
 search-requires c κs =
-    let s = c .before .before .before .before .before .before .before .before in
-    (s .pre .0, (s .pre .1, small-reached _ _ _ _ _ _ _ _ (c .before .before .reached .ensures) (s .pre .0 .0) (small-all pointBound pairBound noEdge (omega arith) (omega arith))))
+    let s = c .before .before .before .before .before .before .before .before in (
+      s .pre .0,
+      (
+        s .pre .1,
+        small-reached _ _ _ _ _ _ _ _ (c .before .before .reached .ensures) (s .pre .0 .0)
+            (small-all pointBound pairBound noEdge (omega arith) (omega arith)),
+      ),
+    )
 
 returns : tie.Need-returns
-returns c = found-is _ _ _ _ _ _ _ _ _ (c .before .before .before .before .before .before .before .lengths .ensures) (c .before .before .before .reached .ensures) (c .search .ensures)
+returns c = found-is _ _ _ _ _ _ _ _ _ (c .before .before .before .before .before .before .before .lengths .ensures)
+    (c .before .before .before .reached .ensures) (c .search .ensures)
 
 pub found-spec : {M : Type 1} → statement M
 found-spec =

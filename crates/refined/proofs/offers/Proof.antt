@@ -11,7 +11,8 @@ use Rattle.refined.proofs.offers.Statement.{statement}
 use Rattle.refined.proofs.offers.Tie as tie
 
 abbrev Inv-loop : tie.InvT-loop
-Inv-loop pts n macros keys el top k a b found₀ u₀ found u = (u ≤ n) × (turns (offer pts n (macrosOf macros) el top a b k) u (n - u) found ≡ turns (offer pts n (macrosOf macros) el top a b k) 0 n found₀)
+Inv-loop pts n macros keys el top k a b found₀ u₀ found u = (u ≤ n) × (turns (offer pts n (macrosOf macros) el top a b k) u (n - u) found ≡ turns
+    (offer pts n (macrosOf macros) el top a b k) 0 n found₀)
 
 abbrev μ-loop : tie.MeasureT-loop
 μ-loop pts n macros keys el top k a b found₀ u₀ found u = n - u

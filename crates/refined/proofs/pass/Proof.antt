@@ -1,5 +1,5 @@
--- `refined::pass` meets its contract. The loop's invariant: the edges that are left decide, and every entry is the number of an edge. The measure is how many they are.
--- Assumes nothing.
+-- `refined::pass` meets its contract. The loop's invariant: the edges that are left decide, and every entry is the number of an edge.
+-- The measure is how many they are. Assumes nothing.
 use mathlib.Core.Path.{_≡_, _∙_}
 use Prim.Native.Nat.{_≤_, _<_, _-_}
 use native.Mathlib.Omega.{arith}
@@ -12,7 +12,8 @@ use Rattle.refined.proofs.pass.Statement.{statement}
 use Rattle.refined.proofs.pass.Tie as tie
 
 abbrev Inv-loop : tie.InvT-loop
-Inv-loop keys el e n seen₀ top₀ k₀ seen top k = (k ≤ e) × (Small pointBound top × (turns (pass keys el n) k (e - k) (reach seen top) ≡ turns (pass keys el n) 0 e (reach seen₀ top₀)))
+Inv-loop keys el e n seen₀ top₀ k₀ seen top k = (k ≤ e) × (Small pointBound top ×
+    (turns (pass keys el n) k (e - k) (reach seen top) ≡ turns (pass keys el n) 0 e (reach seen₀ top₀)))
 
 abbrev μ-loop : tie.MeasureT-loop
 μ-loop keys el e n seen₀ top₀ k₀ seen top k = e - k
@@ -41,8 +42,14 @@ loop-less c = omega arith
 loop-again : tie.Need-loop-again Inv-loop μ-loop
 loop-again c =
     let l = c .before .before .before .before .before in
-    let h : l .loop .k < l .before .args .e = omega arith in
-    (omega arith, (small-attached _ _ _ _ _ _ _ _ _ (c .attach .ensures) (omega arith) (l .loop .inv .1 .0), turns-next _ _ _ _ _ _ (l .loop .inv .1 .1) h (c .attach .ensures ∙ pass-is _ _ _ _ _)))
+    let h : l .loop .k < l .before .args .e = omega arith in (
+      omega arith,
+      (
+        small-attached _ _ _ _ _ _ _ _ _ (c .attach .ensures) (omega arith) (l .loop .inv .1 .0),
+        turns-next _ _ _ _ _ _
+            (l .loop .inv .1 .1) h (c .attach .ensures ∙ pass-is _ _ _ _ _),
+      ),
+    )
 
 returns : tie.Need-returns Inv-loop μ-loop
 returns c = turns-end _ _ _ _ _ (c .before .loop .inv .1 .1) (omega arith)

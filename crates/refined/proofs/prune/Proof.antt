@@ -43,8 +43,14 @@ loop-less c = omega arith
 
 loop-again : tie.Need-loop-again Inv-loop μ-loop
 loop-again c =
-    let l = c .before .before .before .before .before .before in
-    (omega arith, (rw (c .remove .ensures) (small-closed _ _ _ _ (l .loop .inv .1 .0)), prune-more _ _ _ _ _ (l .loop .inv .1 .1) (c .before .before .before .first-loose .ensures .0) (omega arith) (c .before .before .if1 .left) _ (c .remove .ensures)))
+    let l = c .before .before .before .before .before .before in (
+      omega arith,
+      (
+        rw (c .remove .ensures) (small-closed _ _ _ _ (l .loop .inv .1 .0)),
+        prune-more _ _ _ _ _ (l .loop .inv .1 .1)
+            (c .before .before .before .first-loose .ensures .0) (omega arith) (c .before .before .if1 .left) _ (c .remove .ensures),
+      ),
+    )
 
 returns-2 : tie.Need-returns-2 Inv-loop μ-loop
 returns-2 c = prune-end _ _ _ _ (c .before .loop .inv .1 .1) (omega arith)

@@ -1,5 +1,5 @@
--- `refined::reached` meets its contract. The loop's invariant: the passes that are left decide, and every entry is the number of an edge. The measure is how many they are.
--- Assumes nothing.
+-- `refined::reached` meets its contract. The loop's invariant: the passes that are left decide, and every entry is the number of an edge.
+-- The measure is how many they are. Assumes nothing.
 use mathlib.Core.Path.{_≡_}
 use Prim.Native.Nat.{ℕ, _≤_, _<_, _-_}
 use native.Mathlib.Omega.{arith}
@@ -12,7 +12,9 @@ use Rattle.refined.proofs.reached.Statement.{statement}
 use Rattle.refined.proofs.reached.Tie as tie
 
 abbrev Inv-loop : tie.InvT-loop
-Inv-loop keys el e n seen₀ top₀ i₀ seen top i = (i ≤ e) × (Small pointBound top × (turns (λ (_ : ℕ) (q : Reach). turns (pass keys el n) 0 e q) i (e - i) (reach seen top) ≡ turns (λ (_ : ℕ) (q : Reach). turns (pass keys el n) 0 e q) 0 e (reach seen₀ top₀)))
+Inv-loop keys el e n seen₀ top₀ i₀ seen top i = (i ≤ e) × (Small pointBound top ×
+    (turns (λ (_ : ℕ) (q : Reach). turns (pass keys el n) 0 e q) i (e - i) (reach seen top) ≡ turns
+    (λ (_ : ℕ) (q : Reach). turns (pass keys el n) 0 e q) 0 e (reach seen₀ top₀)))
 
 abbrev μ-loop : tie.MeasureT-loop
 μ-loop keys el e n seen₀ top₀ i₀ seen top i = e - i
@@ -34,8 +36,14 @@ loop-less c = omega arith
 loop-again : tie.Need-loop-again Inv-loop μ-loop
 loop-again c =
     let l = c .before .before .before .before in
-    let h : l .loop .i < l .before .args .e = omega arith in
-    (omega arith, (small-passed _ _ _ _ _ _ _ _ (c .pass .ensures) (l .before .pre .0 .0) (l .loop .inv .1 .0), turns-next _ _ _ _ _ _ (l .loop .inv .1 .1) h (c .pass .ensures)))
+    let h : l .loop .i < l .before .args .e = omega arith in (
+      omega arith,
+      (
+        small-passed _ _ _ _ _ _ _ _ (c .pass .ensures) (l .before .pre .0 .0) (l .loop .inv .1 .0),
+        turns-next _ _ _ _ _ _
+            (l .loop .inv .1 .1) h (c .pass .ensures),
+      ),
+    )
 
 returns : tie.Need-returns Inv-loop μ-loop
 unfolding reached

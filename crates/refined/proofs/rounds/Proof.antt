@@ -1,5 +1,5 @@
--- `refined::rounds` meets its contract. The loop's invariant: the rounds that are left decide; each adds at most one point and one edge. The measure is how many they are.
--- Assumes nothing.
+-- `refined::rounds` meets its contract. The loop's invariant: the rounds that are left decide; each adds at most one point and one edge.
+-- The measure is how many they are. Assumes nothing.
 use mathlib.Core.Path.{_≡_, refl}
 use Prim.Native.Nat.{_≤_, _-_, _+_}
 use native.Mathlib.Omega.{arith}
@@ -11,7 +11,8 @@ use Rattle.refined.proofs.rounds.Statement.{statement}
 use Rattle.refined.proofs.rounds.Tie as tie
 
 abbrev Inv-loop : tie.InvT-loop
-Inv-loop pts₀ n macros keys₀ e m z₀ r₀ pts keys z r = ((r ≤ m) × ((z .points ≤ n + r) × (z .edges ≤ e + r))) × (Within (z .points) keys × (rounds (macrosOf macros) (m - r) (tree pts (z .points) keys (z .edges)) ≡ rounds (macrosOf macros) m (tree pts₀ n keys₀ e)))
+Inv-loop pts₀ n macros keys₀ e m z₀ r₀ pts keys z r = ((r ≤ m) × ((z .points ≤ n + r) × (z .edges ≤ e + r))) ×
+    (Within (z .points) keys × (rounds (macrosOf macros) (m - r) (tree pts (z .points) keys (z .edges)) ≡ rounds (macrosOf macros) m (tree pts₀ n keys₀ e)))
 
 abbrev μ-loop : tie.MeasureT-loop
 μ-loop pts₀ n macros keys₀ e m z₀ r₀ pts keys z r = m - r
@@ -29,7 +30,8 @@ found-requires c κs =
 returns : tie.Need-returns Inv-loop μ-loop
 returns c =
     let l = c .before .before .before .before .before .before in (
-      rounds-stop _ _ _ _ _ _ _ _ (l .loop .inv .1 .1) (c .before .before .found .ensures) (l .before .args .m - (l .loop .r + 1)) (omega arith) (c .if1 .taken),
+      rounds-stop _ _ _ _ _ _ _ _ (l .loop .inv .1 .1) (c .before .before .found .ensures) (l .before .args .m - (l .loop .r + 1)) (omega arith)
+          (c .if1 .taken),
       ((omega arith, omega arith), l .loop .inv .1 .0),
     )
 
@@ -49,8 +51,15 @@ loop-again : tie.Need-loop-again Inv-loop μ-loop
 loop-again c =
     let l = c .before .before .before .before .before .before .before .before .before in
     let f = fine-found _ _ _ _ _ _ (c .before .before .before .before .before .found .ensures) (c .before .before .before .if1 .left) in
-    let x = c .exchange .ensures in
-    ((omega arith, (omega (arith, x .1 .0), omega (arith, x .1 .1))), (within-after _ _ _ _ _ _ _ _ _ (x .0) (omega arith) (f .1 .1) (l .loop .inv .1 .0), rounds-more _ _ _ _ _ _ _ _ (l .loop .inv .1 .1) (c .before .before .before .before .before .found .ensures) _ (omega arith) (c .before .before .before .if1 .left) _ (x .0)))
+    let x = c .exchange .ensures in (
+      (omega arith, (omega (arith, x .1 .0), omega (arith, x .1 .1))),
+      (
+        within-after _ _ _ _ _ _ _ _ _ (x .0) (omega arith) (f .1 .1)
+            (l .loop .inv .1 .0),
+        rounds-more _ _ _ _ _ _ _ _ (l .loop .inv .1 .1) (c .before .before .before .before .before .found .ensures) _
+            (omega arith) (c .before .before .before .if1 .left) _ (x .0),
+      ),
+    )
 
 returns-2 : tie.Need-returns-2 Inv-loop μ-loop
 returns-2 c =

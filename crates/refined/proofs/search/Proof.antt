@@ -11,7 +11,8 @@ use Rattle.refined.proofs.search.Statement.{statement}
 use Rattle.refined.proofs.search.Tie as tie
 
 abbrev Inv-loop : tie.InvT-loop
-Inv-loop pts n macros keys e el top found₀ k₀ found k = (k ≤ e) × (turns (offers pts n (macrosOf macros) keys el top) k (e - k) found ≡ turns (offers pts n (macrosOf macros) keys el top) 0 e (best 0 0 0 0))
+Inv-loop pts n macros keys e el top found₀ k₀ found k = (k ≤ e) × (turns (offers pts n (macrosOf macros) keys el top) k (e - k) found ≡ turns
+    (offers pts n (macrosOf macros) keys el top) 0 e (best 0 0 0 0))
 
 abbrev μ-loop : tie.MeasureT-loop
 μ-loop pts n macros keys e el top found₀ k₀ found k = e - k

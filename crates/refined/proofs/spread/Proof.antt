@@ -54,7 +54,8 @@ element-write-top-2 : tie.Need-element-write-top-2
 element-write-top-2 c = search needs
 
 returns : tie.Need-returns
-returns c = spread-is _ _ _ _ _ _ _ _ _ _ (c .before .before .before .wide .ensures) (c .before .before .longer .ensures .0) (c .before .narrow .ensures) (c .narrow2 .ensures)
+returns c = spread-is _ _ _ _ _ _ _ _ _ _ (c .before .before .before .wide .ensures) (c .before .before .longer .ensures .0)
+    (c .before .narrow .ensures) (c .narrow2 .ensures)
 
 pub spread-spec : {M : Type 1} → statement M
 spread-spec =

@@ -1,5 +1,5 @@
--- `refined::spreads` meets its contract. The loop's invariant: the points that are left decide, and every entry is the number of an edge. The measure is how many they are.
--- Assumes nothing.
+-- `refined::spreads` meets its contract. The loop's invariant: the points that are left decide, and every entry is the number of an edge.
+-- The measure is how many they are. Assumes nothing.
 use mathlib.Core.Path.{_≡_}
 use Prim.Native.Nat.{_≤_, _<_, _-_}
 use native.Mathlib.Omega.{arith}
@@ -34,8 +34,14 @@ loop-less c = omega arith
 loop-again : tie.Need-loop-again Inv-loop μ-loop
 loop-again c =
     let l = c .before .before .before in
-    let h : l .loop .w < l .before .args .n = omega arith in
-    (omega arith, (rw (c .spread .ensures) (small-spread _ _ _ _ _ _ _ (omega arith) (l .loop .inv .1 .0)), turns-next _ _ _ _ _ _ (l .loop .inv .1 .1) h (c .spread .ensures)))
+    let h : l .loop .w < l .before .args .n = omega arith in (
+      omega arith,
+      (
+        rw (c .spread .ensures) (small-spread _ _ _ _ _ _ _ (omega arith) (l .loop .inv .1 .0)),
+        turns-next _ _ _ _ _ _
+            (l .loop .inv .1 .1) h (c .spread .ensures),
+      ),
+    )
 
 mul-top : tie.Need-mul-top Inv-loop μ-loop
 mul-top c = omega arith
