@@ -8,3 +8,7 @@ pub mod RoundLaws
 pub mod PruneLaws
 pub mod WithinLaws
 pub mod WorkedTrees
+pub mod SumLaws
+pub mod OpenedLaws
+pub mod ListingLaws
+pub mod AfterLaws

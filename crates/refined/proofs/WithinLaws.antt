@@ -105,12 +105,12 @@ module _ (pts : List ℤ) (n : ℕ) (ks : List ℕ) (e p a b u : ℕ) (s : Place
       (λ t. rw (laidAt, t) (within-lay3 (n + 1) p _ _ _ (row (turns (bumpAt p) 0 e ks) e) (omega arith) (bump-in n p a ha) (bump-in n p b hb)
       (bump-in n p u hu) (omega arith) (within-bumped n p l e 0 ks (within-more n ks w) (λ j _. w .ends j))))
 
-seek-le : (t : ℕ → Bool) (n i : ℕ) → seek t i n ≤ i + n
+pub seek-le : (t : ℕ → Bool) (n i : ℕ) → seek t i n ≤ i + n
 unfolding seek
 seek-le t zero i = omega arith
 seek-le t (suc n) i = by (t i) (λ e. rw (seek, e) (omega arith)) (λ e. rw (seek, e) (omega (arith, seek-le t n (suc i))))
 
-rank-le : (pts : List ℤ) (n : ℕ) (s : Place) → rank pts n s ≤ n
+pub rank-le : (pts : List ℤ) (n : ℕ) (s : Place) → rank pts n s ≤ n
 unfolding rank
 rank-le pts n s = omega (arith, seek-le (later pts s) n 0)
 

@@ -38,3 +38,5 @@ pub mod Candidate
 pub mod Exchange
 pub mod Prune
 pub mod Refined
+pub mod Sum
+pub mod Places
