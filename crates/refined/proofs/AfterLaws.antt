@@ -1,0 +1,167 @@
+-- One exchange on the tables, read as places: the points are as they were, and s; the edges are those of before without (a, b) and L, and
+-- those from s. All by sums over the table, whichever numbers moved on.
+-- Assumes nothing.
+use mathlib.Core.Path.{_≡_, refl, sym, ap, ap₂, _∙_}
+use mathlib.Core.Bool.{Bool, true, false}
+use mathlib.Core.Logic.{_⊎_, inl, inr}
+use mathlib.Core.List.{List, [], _∷_, Memᴰ·cast}
+use Prim.Native.Nat.{ℕ, zero, suc, _+_, _-_, _*_, _/_, _%_, _≤_, _<_}
+use native.Mathlib.Omega.{arith}
+use lib.Dec.{ltb, eqb}
+use lib.IntN.{ℤ}
+use lib.ListN.{length, getD}
+use borrow.Author.Tests.{ltb-true, ltb-false, eqb-true, eqb-false}
+use Rattle.lists.specs.Member.{_∈_}
+use Rattle.lists.proofs.TestLaws.{by, either}
+use Rattle.plane.specs.declared.Place.{Place}
+use Rattle.plane.specs.Distance.{distance}
+use Rattle.plane.specs.Flat.{placeAt}
+use Rattle.plane.proofs.DistanceLaws.{distance-comm, distance-self}
+use Rattle.joined.specs.Joined.{Link, Alike, Joined, stay}
+use Rattle.joined.proofs.JoinedLaws.{one as one-link}
+use Rattle.refined.specs.Table.{pointBound, key, firstEnd, secondEnd, Tree, In, Within}
+use Rattle.refined.specs.Sum.{below, over}
+use Rattle.refined.specs.Exchange.{dropTwo}
+use Rattle.refined.specs.Places.{listing, endsOf, edgesOf}
+use Rattle.refined.proofs.SumLaws.{below-at, below-some, one, one-same, one-some, one-not, in-table, of-table, between, over-dropped}
+use Rattle.refined.proofs.ListingLaws.{in-listing, of-listing}
+
+-- what the edge of two points adds
+pub between-some : (g : ℕ → ℕ) (p a : ℕ) → 0 < between g p a → (0 < g (key p a)) ⊎ (0 < g (key a p))
+unfolding between
+between-some g p a h =
+    by (ltb p a) (λ t. inl (rw (between, t) at h))
+    (λ t. by (ltb a p) (λ s. inr (rw (between, t, s) at h)) (λ s. absurd (let z : 0 < 0 = rw (between, t, s) at h in let y : ⊥ = omega arith in y)))
+
+pub between-is : (g : ℕ → ℕ) (p a : ℕ) → (p ≡ a → ⊥) → (between g p a ≡ g (key p a)) ⊎ (between g p a ≡ g (key a p))
+unfolding between
+between-is g p a n =
+    by (ltb p a) (λ t. inl (rw (between, t) refl))
+    (λ t.
+    by (ltb a p) (λ s. inr (rw (between, t, s) refl))
+    (λ s. absurd (n (let e : p ≡ a = omega (arith, ltb-false p a t, ltb-false a p s) in e))))
+
+pub between-less : (g : ℕ → ℕ) (p a : ℕ) → ltb p a ≡ true → between g p a ≡ g (key p a)
+unfolding between
+between-less g p a t = rw (between, t) refl
+
+pub between-more : (g : ℕ → ℕ) (p a : ℕ) → ltb p a ≡ false → ltb a p ≡ true → between g p a ≡ g (key a p)
+unfolding between
+between-more g p a t s = rw (between, t, s) refl
+
+pub between-none : (g : ℕ → ℕ) (p a : ℕ) → p ≡ a → between g p a ≡ 0
+unfolding between
+between-none g p a e =
+    by (ltb p a) (λ t. absurd (let z : ⊥ = omega (arith, ltb-true p a t) in z))
+    (λ t. by (ltb a p) (λ s. absurd (let z : ⊥ = omega (arith, ltb-true a p s) in z)) (λ s. rw (between, t, s) refl))
+
+-- the tables after an exchange: point i has the number m i, s the number p; the edges k and l are gone
+pub record After (pts : List ℤ) (n : ℕ) (ks : List ℕ) (e k l a b u p : ℕ) (s : Place) (m : ℕ → ℕ) (t : Tree) : Type 0 where
+  pub old : (i : ℕ) → i < n → placeAt (t .points) (m i) ≡ placeAt pts i
+  pub new : placeAt (t .points) p ≡ s
+  pub low : (i : ℕ) → i < n → m i < pointBound
+  pub lowest : p < pointBound
+  pub sums : (g : ℕ → ℕ) → over g (t .edges .keys) (t .edges .size)
+      ≡ between g p (m u) + (between g p (m b) + (between g p (m a) + over (λ j. g (key (m (firstEnd j)) (m (secondEnd j)))) (dropTwo e k l ks) e))
+
+first-of : (x y : ℕ) → y < pointBound → firstEnd (key x y) ≡ x
+first-of x y h = omega arith
+
+second-of : (x y : ℕ) → y < pointBound → secondEnd (key x y) ≡ y
+second-of x y h = omega arith
+
+module _ {pts : List ℤ} {n : ℕ} {ks : List ℕ} {e k l a b u p : ℕ} {s : Place} {m : ℕ → ℕ} {t : Tree}
+    (after : After pts n ks e k l a b u p s m t) (w : Within n ks) (hk : k < suc (suc e)) (hl : l < suc (suc e)) (kl : k ≡ l → ⊥)
+    (ha : a < n) (hb : b < n) (hu : u < n) where
+  abbrev T : List (Place × Place)
+  T = edgesOf pts ks (suc (suc e))
+
+  abbrev U : List (Place × Place)
+  U = edgesOf (t .points) (t .edges .keys) (t .edges .size)
+
+  abbrev moved : ℕ → ℕ
+  moved j = key (m (firstEnd j)) (m (secondEnd j))
+
+  -- the ends of an edge under its new number
+  moved-ends : (j : ℕ) → In n j → endsOf (t .points) (moved j) ≡ endsOf pts j
+  moved-ends j i =
+      ap₂ (λ (x y : Place). (x, y))
+      (ap (placeAt (t .points)) (first-of (m (firstEnd j)) (m (secondEnd j)) (after .low _ (i .1))) ∙ after .old _ (i .0))
+      (ap (placeAt (t .points)) (second-of (m (firstEnd j)) (m (secondEnd j)) (after .low _ (i .1))) ∙ after .old _ (i .1))
+
+  -- an edge whose key has a part in the sums is there
+  there-is : (j : ℕ) (x y : Place) → 0 < over (one j) (t .edges .keys) (t .edges .size) → endsOf (t .points) j ≡ (x, y) → (x, y) ∈ U
+  there-is j x y h f =
+      let r = in-table j (t .edges .keys) (t .edges .size) h in
+      Memᴰ·cast (sym f ∙ ap (endsOf (t .points)) (sym (r .1 .1))) (in-listing (λ i. endsOf (t .points) (getD (t .edges .keys) i 0)) (t .edges .size) (r .0) (r .1 .0))
+
+  -- an edge that is neither k nor l is still there
+  left : (i : ℕ) → i < suc (suc e) → (getD ks i 0 ≡ getD ks k 0 → ⊥) → (getD ks i 0 ≡ getD ks l 0 → ⊥) → endsOf pts (getD ks i 0) ∈ U
+  left i h nk nl =
+      let j = getD ks i 0 in
+      let d = over-dropped (one j) e k l ks hk hl kl in
+      let some : 0 < over (one j) (dropTwo e k l ks) e
+      = omega (arith, d, of-table ks (suc (suc e)) i h, one-not j (getD ks k 0) (λ q. nk (sym q)), one-not j (getD ks l 0) (λ q. nl (sym q))) in
+      let r = in-table j (dropTwo e k l ks) e some in
+      let v : one (moved j) (moved (getD (dropTwo e k l ks) (r .0) 0)) ≡ 1 = ap (λ (q : ℕ). one (moved j) (moved q)) (r .1 .1) ∙ one-same (moved j) in
+      let x = below-at (λ q. one (moved j) (moved (getD (dropTwo e k l ks) q 0))) e (r .0) (r .1 .0) in
+      there-is (moved j) _ _ (omega (arith, after .sums (one (moved j)), v, x)) (moved-ends j (w .ends i))
+
+  abbrev Sorted : Place → Place → Type 0
+  Sorted x y = ((x, y) ≡ endsOf pts (getD ks k 0)) ⊎ (((x, y) ≡ endsOf pts (getD ks l 0)) ⊎ ((x, y) ∈ U))
+
+  sorted : (x y : Place) → (x, y) ∈ T → Sorted x y
+  sorted x y i = at (of-listing (λ j. endsOf pts (getD ks j 0)) (suc (suc e)) (x, y) i)
+    where
+      at : (j : ℕ) × ((j < suc (suc e)) × ((x, y) ≡ endsOf pts (getD ks j 0))) → Sorted x y
+      at r =
+          let j = getD ks (r .0) 0 in
+          by (eqb j (getD ks k 0))
+          (λ q. inl (r .1 .1 ∙ ap (endsOf pts) (eqb-true _ _ q)))
+          (λ q.
+          by (eqb j (getD ks l 0))
+          (λ v. inr (inl (r .1 .1 ∙ ap (endsOf pts) (eqb-true _ _ v))))
+          (λ v. inr (inr (Memᴰ·cast (r .1 .1) (left (r .0) (r .1 .0) (eqb-false _ _ q) (eqb-false _ _ v))))))
+
+  -- each link is the edge k, or l, or still there
+  pub still : (x y : Place) → Link T x y → Alike x y (endsOf pts (getD ks k 0) .0) (endsOf pts (getD ks k 0) .1)
+      ⊎ (Alike x y (endsOf pts (getD ks l 0) .0) (endsOf pts (getD ks l 0) .1) ⊎ Link U x y)
+  still x y (inl i) =
+      either (λ q. inl (inl (ap (λ (z : Place × Place). z .0) q, ap (λ (z : Place × Place). z .1) q)))
+      (either (λ q. inr (inl (inl (ap (λ (z : Place × Place). z .0) q, ap (λ (z : Place × Place). z .1) q)))) (λ q. inr (inr (inl q))))
+      (sorted x y i)
+  still x y (inr i) =
+      either (λ q. inl (inr (ap (λ (z : Place × Place). z .1) q, ap (λ (z : Place × Place). z .0) q)))
+      (either (λ q. inr (inl (inr (ap (λ (z : Place × Place). z .1) q, ap (λ (z : Place × Place). z .0) q)))) (λ q. inr (inr (inr q))))
+      (sorted y x i)
+
+  ends : (c d : ℕ) (x y : Place) → d < pointBound → placeAt (t .points) c ≡ x → placeAt (t .points) d ≡ y → endsOf (t .points) (key c d) ≡ (x, y)
+  ends c d x y h f g =
+      ap₂ (λ (v z : Place). (v, z)) (ap (placeAt (t .points)) (first-of c d h) ∙ f) (ap (placeAt (t .points)) (second-of c d h) ∙ g)
+
+  -- s is joined with a point to which an edge is laid
+  laid : (x : ℕ) → x < n → ((g : ℕ → ℕ) → between g p (m x) ≤ over g (t .edges .keys) (t .edges .size)) → Joined U s (placeAt pts x)
+  laid x h part =
+      by (ltb p (m x))
+      (λ q.
+      let j = key p (m x) in
+      let v : between (one j) p (m x) ≡ one j j = between-less (one j) p (m x) q in
+      one-link (inl (there-is j s (placeAt pts x) (omega (arith, part (one j), v, one-same j)) (ends p (m x) s (placeAt pts x) (after .low x h) (after .new) (after .old x h)))))
+      (λ q.
+      by (ltb (m x) p)
+      (λ r.
+      let j = key (m x) p in
+      let v : between (one j) p (m x) ≡ one j j = between-more (one j) p (m x) q r in
+      one-link (inr (there-is j (placeAt pts x) s (omega (arith, part (one j), v, one-same j)) (ends (m x) p (placeAt pts x) s (after .lowest) (after .old x h) (after .new)))))
+      (λ r.
+      let v : p ≡ m x = omega (arith, ltb-false p (m x) q, ltb-false (m x) p r) in
+      stay (sym (after .new) ∙ ap (placeAt (t .points)) v ∙ after .old x h)))
+
+  pub to-a : Joined U s (placeAt pts a)
+  to-a = laid a ha (λ g. omega (arith, after .sums g))
+
+  pub to-b : Joined U s (placeAt pts b)
+  to-b = laid b hb (λ g. omega (arith, after .sums g))
+
+  pub to-u : Joined U s (placeAt pts u)
+  to-u = laid u hu (λ g. omega (arith, after .sums g))

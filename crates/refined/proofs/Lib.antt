@@ -1,0 +1,14 @@
+pub mod TurnLaws
+pub mod LongestLaws
+pub mod SortedTable
+pub mod CandidateLaws
+pub mod CandidateBounds
+pub mod ExchangeLaws
+pub mod RoundLaws
+pub mod PruneLaws
+pub mod WithinLaws
+pub mod WorkedTrees
+pub mod SumLaws
+pub mod OpenedLaws
+pub mod ListingLaws
+pub mod AfterLaws

@@ -1,0 +1,42 @@
+-- The refined tree: document 01, "Refined tree".
+--
+-- WHICH REPRESENTATION, AND WHY. The points of the tree are a table in the order of places, and a point is its number there. An edge is one
+-- number, the key of its ends, and the edges are a table in the order of keys, so an edge is its position. Then the order of numbers is the
+-- order of places and of edges, every tie is settled by scanning upwards and giving way only to what is strictly better, and code and
+-- definition share their tables. A new point opens a gap in the table and moves the numbers behind it on by one.
+-- L is asked for every edge with every point. One table a round answers all: the longest edge on the way between every two points, filled by
+-- hanging one point after the other on those that are reached.
+-- Definitions are state machines on whole tables, what stands past their end included, so that contracts speak of every number lent.
+--
+--   Turns      turns f i n s               the state s after f at the n numbers from i on
+--              seek t i n                  the first of these numbers that passes t
+--   Table      pointBound                  how many points a tree may have, n + m = 384
+--              key a b, firstEnd, secondEnd    the number of an edge, and its ends
+--              Row, Tree                   the edges with how many they are; the points with theirs, and the edges
+--              Small, Low, Within          bounds of a table's entries
+--   Longest    edgeLength, lengths         the length of an edge; of all
+--              wins, longer, shorter       the longer edge, the smaller on a tie
+--              longest                     the table of the longest edge between every two points
+--              cutOf                       L for an edge and a point
+--   Candidate  middleOf                    s
+--              sees, dropped, allowed      what a candidate must be
+--              weighed, offer, search      the best candidate so far with one more; the one that a round takes
+--              found                       the same from the tables of a tree
+--   Exchange   closed, dropTwo             edges taken out
+--              rank, opened, bump          where s belongs; the points with s put in; numbers moved on
+--              lay, lay3, laidAt           edges laid, except any of length zero
+--              exchange                    what a round does with its candidate
+--   Prune      marks                       which points are pins
+--              loose, prune                no pin and a single edge; what is left when all such points are gone
+--   Refined    rounds, pruned, refined     at most m rounds, then pruning
+--              metal                       the sum of edge lengths
+--              Answer                      what the tables and the answer hold when a tree is refined
+pub mod Turns
+pub mod Table
+pub mod Longest
+pub mod Candidate
+pub mod Exchange
+pub mod Prune
+pub mod Refined
+pub mod Sum
+pub mod Places

@@ -1,0 +1,54 @@
+-- The tables of a tree: its points, and its edges by the numbers of their ends.
+use Prim.Native.Nat.{ℕ, _+_, _*_, _/_, _%_, _≤_, _<_}
+use mathlib.Core.List.{List}
+use lib.IntN.{ℤ}
+use lib.ListN.{getD}
+
+-- "one for the points of the refined tree, at most n + m = 384"
+abbrev pub pointBound : ℕ
+pointBound = 384
+
+-- keys of edges, and entries of a table of all pairs of points, are below this
+abbrev pub pairBound : ℕ
+pairBound = 147456
+
+-- "An edge is written smaller place first": the edge of points a and b, a before b, is the number `key a b`. Numbers of points are in the
+-- order of places, so keys are in the order of edges.
+abbrev pub key : ℕ → ℕ → ℕ
+key a b = a * 384 + b
+
+abbrev pub firstEnd : ℕ → ℕ
+firstEnd k = k / 384
+
+abbrev pub secondEnd : ℕ → ℕ
+secondEnd k = k % 384
+
+-- a table of edges and how many there are
+pub record Row : Type 0 where
+  pub keys : List ℕ
+  pub size : ℕ
+
+abbrev pub row : List ℕ → ℕ → Row
+row ks e = record { keys = ks; size = e }
+
+-- the tree: the places of its points, in order, two numbers each, and how many there are; its edges, in order
+pub record Tree : Type 0 where
+  pub points : List ℤ
+  pub count : ℕ
+  pub edges : Row
+
+abbrev pub tree : List ℤ → ℕ → List ℕ → ℕ → Tree
+tree p n ks e = record { points = p; count = n; edges = row ks e }
+
+-- entries of a table are below a number, are at most a number, have both ends below a number
+pub record Small (n : ℕ) (xs : List ℕ) : Type 0 where
+  pub small : (i : ℕ) → getD xs i 0 < n
+
+pub record Low (n : ℕ) (xs : List ℕ) : Type 0 where
+  pub low : (i : ℕ) → getD xs i 0 ≤ n
+
+abbrev pub In : ℕ → ℕ → Type 0
+In n k = (firstEnd k < n) × (secondEnd k < n)
+
+pub record Within (n : ℕ) (ks : List ℕ) : Type 0 where
+  pub ends : (i : ℕ) → In n (getD ks i 0)
