@@ -22,7 +22,7 @@ use Rattle.plane.proofs.FlatLaws.{places-flat, macros-flat, length-flat-places,
 use Rattle.net.specs.Check.{pinsMiscounted, macrosMiscounted, outOfRange, notUpright, insideAny, checked}
 use Rattle.net.proofs.RangeLaws.{placeOut, macroOut, range-of-places, range-of-macros}
 use Rattle.net.proofs.CheckLaws.{Past11, refuse-11, refuse-12}
-use Rattle.net.proofs.AllowedLaws.{whole-pairs, whole-fours}
+use Rattle.net.proofs.PassedLaws.{pins-counted, macros-counted}
 
 -- the same entries in another order; numbers left over past the last whole entry may be others
 pub record SamePins (pins pins′ : List ℤ) : Type 0 where
@@ -38,13 +38,13 @@ unfolding insideAny
 inside-perm ms ns q p = any-perm (inside p) ms ns q
 
 module _ (pins pins′ macros macros′ : List ℤ) (p : SamePins pins pins′) (q : SameMacros macros macros′) where
-  pins-counted : pinsMiscounted pins ≡ pinsMiscounted pins′
+  same-pin-count : pinsMiscounted pins ≡ pinsMiscounted pins′
   unfolding pinsMiscounted
-  pins-counted = rw (p .many) refl
+  same-pin-count = rw (p .many) refl
 
-  macros-counted : macrosMiscounted macros ≡ macrosMiscounted macros′
+  same-macro-count : macrosMiscounted macros ≡ macrosMiscounted macros′
   unfolding macrosMiscounted
-  macros-counted = rw (q .many) refl
+  same-macro-count = rw (q .many) refl
 
   -- of whole lists
   ranges : length pins % 2 ≡ 0 → length macros % 4 ≡ 0 → (any outOfRange pins || any outOfRange macros) ≡ (any outOfRange pins′ || any outOfRange macros′)
@@ -62,8 +62,8 @@ module _ (pins pins′ macros macros′ : List ℤ) (p : SamePins pins pins′) 
   unfolding checked
   whole-order e f =
       rw (
-        pins-counted,
-        macros-counted,
+        same-pin-count,
+        same-macro-count,
         ranges e f,
         any-perm notUpright _ _ (q .order),
         two-perm samePlace same-comm _ _ (p .order),
@@ -76,11 +76,11 @@ module _ (pins pins′ macros macros′ : List ℤ) (p : SamePins pins pins′) 
 
   pub check-order : checked pins macros ≡ checked pins′ macros′
   check-order =
-      by (pinsMiscounted pins) (λ e. refuse-11 pins macros e ∙ sym (refuse-11 pins′ macros′ (sym pins-counted ∙ e))) λ e.
+      by (pinsMiscounted pins) (λ e. refuse-11 pins macros e ∙ sym (refuse-11 pins′ macros′ (sym same-pin-count ∙ e))) λ e.
       by (macrosMiscounted macros)
-      (λ f. refuse-12 pins macros (record { passed = e }) f ∙ sym (refuse-12 pins′ macros′ (record { passed = sym pins-counted ∙ e }) (sym macros-counted ∙ f)))
+      (λ f. refuse-12 pins macros (record { passed = e }) f ∙ sym (refuse-12 pins′ macros′ (record { passed = sym same-pin-count ∙ e }) (sym same-macro-count ∙ f)))
       λ f.
-      whole-order (whole-pairs pins e .0) (whole-fours macros f .0)
+      whole-order (pins-counted pins e .whole) (macros-counted macros f .whole)
 
 -- of lists of places and macros
 pub check-reordered : (ps ps′ : List Place) (ms ms′ : List Macro) → Perm ps ps′ → Perm ms ms′

@@ -1,9 +1,9 @@
 pub mod NumberLaws
 pub mod CheckLaws
+pub mod PassedLaws
 pub mod RangeLaws
 pub mod AllowedLaws
 pub mod CheckOrder
-pub mod WorkedChecks
 pub mod RangeBounds
 pub mod ApartLaws
-pub mod PassedLaws
+pub mod WorkedChecks
