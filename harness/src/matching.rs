@@ -105,7 +105,7 @@ pub fn file(seed: u64) -> File {
     }
 }
 
-/// Lent space with a guard behind what is lent: one short of what is asked for, exact, or longer. The numbers in it are random, so that a
+/// Lent space with a guard behind what is lent: none, one short of what is asked for, exact, or longer. The numbers in it are random, so that a
 /// number that was not written shows.
 struct Lent<T> {
     numbers: Vec<T>,
@@ -116,9 +116,10 @@ const GUARD: usize = 9;
 
 impl<T: Copy> Lent<T> {
     fn new(random: &mut Random, asked: usize, number: impl Fn(u64) -> T) -> Lent<T> {
-        let lent = match random.below(4) {
-            0 => asked.saturating_sub(1),
-            1 => asked + 1 + random.below(40),
+        let lent = match random.below(16) {
+            0 => 0,
+            1..=4 => asked.saturating_sub(1),
+            5..=8 => asked + 1 + random.below(40),
             _ => asked,
         };
         let numbers = (0..lent + GUARD).map(|_| number(random.bits())).collect();

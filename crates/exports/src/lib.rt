@@ -1,4 +1,5 @@
-// The router's operations for C: the static library. A slice passes as a pointer and a length.
+// The router's operations for C: the static library. A slice passes as a pointer and a length. The caller sees to it that each pointer has
+// that length behind it, and that what is lent to be written overlaps nothing else that is handed over.
 use net::Checked;
 use netfile::Written;
 use router::Graphed;

@@ -5,7 +5,7 @@
 --
 --   Bounds     pinBound, macroBound, coordinateBound     64, 64 and 1,000,000
 --   Answer     number f                                  the document's number of a refusal
---   Check      pinsMiscounted .. pinInside               the tests, 11 to 17
+--   Check      pinsMiscounted .. insideAny               the tests, 11 to 17
 --              checked pins macros                       the first number that applies, or m and k
 --              told r                                    what the code's answer says
 --   Allowed    Allowed ps ms                             an allowed net in words, for the theory above

@@ -6,10 +6,10 @@ use Prim.Native.Nat.{ℕ, _≤_, _<_}
 use borrow.Author.Tests.{lt-ltb, le-ltb}
 use lib.IntN.{ℤ}
 use lib.ListN.{length}
-use Rattle.lent.specs.Told.{Told, refused, given}
+use Rattle.lent.specs.Told.{Told, refused, given, onlyIf}
 use Rattle.net.specs.Check.{checked}
 use Rattle.netfile.specs.Layout.{fileBytes}
-use Rattle.netfile.specs.Write.{fitted, checkedFirst, written}
+use Rattle.netfile.specs.Write.{fitted, written}
 
 pub fitted-short : (needed room : ℕ) → room < needed → fitted needed room ≡ refused 21
 unfolding fitted
@@ -21,9 +21,9 @@ fitted-given needed room h = rw (le-ltb room needed h) refl
 
 module _ (pins macros : List ℤ) (room : ℕ) where
   pub written-refused : (n : ℕ) → checked pins macros ≡ refused n → written pins macros room ≡ refused n
-  unfolding written checkedFirst
-  written-refused n e = ap (λ (t : Told (ℕ × ℕ)). checkedFirst t (fitted (length (fileBytes pins macros)) room)) e
+  unfolding written onlyIf
+  written-refused n e = ap (λ (t : Told (ℕ × ℕ)). onlyIf t (fitted (length (fileBytes pins macros)) room)) e
 
   pub written-allowed : (net : ℕ × ℕ) → checked pins macros ≡ given net → written pins macros room ≡ fitted (length (fileBytes pins macros)) room
-  unfolding written checkedFirst
-  written-allowed net e = ap (λ (t : Told (ℕ × ℕ)). checkedFirst t (fitted (length (fileBytes pins macros)) room)) e
+  unfolding written onlyIf
+  written-allowed net e = ap (λ (t : Told (ℕ × ℕ)). onlyIf t (fitted (length (fileBytes pins macros)) room)) e

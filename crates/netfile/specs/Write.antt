@@ -5,7 +5,7 @@ use Prim.Native.Nat.{ℕ}
 use lib.Dec.{ltb}
 use lib.IntN.{ℤ}
 use lib.ListN.{length}
-use Rattle.lent.specs.Told.{Told, refused, given}
+use Rattle.lent.specs.Told.{Told, refused, given, onlyIf}
 use Rattle.net.specs.Answer.{number}
 use Rattle.net.specs.Check.{checked}
 use Rattle.netfile.specs.Layout.{fileBytes}
@@ -16,14 +16,9 @@ use Rattle.netfile.specs.declared.Written.the-variants.{Bytes, Refused}
 unfoldable pub fitted : ℕ → ℕ → Told ℕ
 fitted needed room = cond (ltb room needed) (refused 21) (given needed)
 
--- "11 to 17, then 21", by the answer of the check
-unfoldable pub checkedFirst : Told (ℕ × ℕ) → Told ℕ → Told ℕ
-checkedFirst (refused n) next = refused n
-checkedFirst (given net) next = next
-
--- the answer of a write into `room` lent bytes
+-- "11 to 17, then 21": the answer of a write into `room` lent bytes
 unfoldable pub written : List ℤ → List ℤ → ℕ → Told ℕ
-written pins macros room = checkedFirst (checked pins macros) (fitted (length (fileBytes pins macros)) room)
+written pins macros room = onlyIf (checked pins macros) (fitted (length (fileBytes pins macros)) room)
 
 -- what the code's answer says
 unfoldable pub toldBytes : Written → Told ℕ

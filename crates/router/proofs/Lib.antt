@@ -1,1 +1,2 @@
 pub mod GraphAnswer
+pub mod GraphSame

@@ -9,6 +9,7 @@ ghost use Prim.Native.Nat.{_≤_};
 ghost use lib.ListN.{length};
 ghost use Rattle.lent.specs.Over.{after};
 ghost use Rattle.lent.specs.Entries.{flat};
+ghost use Rattle.net.specs.Bounds.{pinBound, macroBound};
 ghost use Rattle.net.specs.Check.{pinCount, macroCount, checked, told};
 ghost use Rattle.graph.specs.Numbers.{placeNumbers, edgeNumbers};
 ghost use Rattle.netfile.specs.Layout.{fileBytes};
@@ -50,7 +51,7 @@ fn graph_of_allowed(
     vertices: &mut [i32],
     edges: &mut [i32],
 ) -> Graphed
-    requires { ⌜ (pinCount (now pins) ≤ 64) × (macroCount (now macros) ≤ 64) ⌝ }
+    requires { ⌜ (pinCount (now pins) ≤ pinBound) × (macroCount (now macros) ≤ macroBound) ⌝ }
     ensures answer { λ r. ⌜ toldGraph r ≡ graphGiven (now (pins .entry)) (now (macros .entry)) (length (now (vertices .entry))) (length (now (edges .entry))) ⌝ }
     ensures vertices { λ _. ⌜ now (vertices .exit) ≡ after (graphGiven (now (pins .entry)) (now (macros .entry)) (length (now (vertices .entry))) (length (now (edges .entry)))) (flat placeNumbers (verticesOf (now (pins .entry)) (now (macros .entry)))) (now (vertices .entry)) ⌝ }
     ensures edges { λ _. ⌜ now (edges .exit) ≡ after (graphGiven (now (pins .entry)) (now (macros .entry)) (length (now (vertices .entry))) (length (now (edges .entry)))) (flat edgeNumbers (edgesOf (now (pins .entry)) (now (macros .entry)))) (now (edges .entry)) ⌝ }

@@ -1,4 +1,4 @@
-//! `bench OPERATION PROGRAM PINS MACROS TIMES`: runs one operation of one program on a net of a size, for an instruction count from outside.
+//! `bench OPERATION PROGRAM SIZE TIMES`: runs one operation of one program on a net of a size, for an instruction count from outside.
 //! The script `bench` beside the README runs it under callgrind for both programs and prints the ratio.
 
 use std::process::ExitCode;
