@@ -12,3 +12,4 @@ pub mod SumLaws
 pub mod OpenedLaws
 pub mod ListingLaws
 pub mod AfterLaws
+pub mod ExchangeSound

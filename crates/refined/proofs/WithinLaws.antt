@@ -66,13 +66,13 @@ within-closed : (n k m : ℕ) (xs : List ℕ) → Within n xs → Within n (clos
 unfolding closed shift
 within-closed n k m xs w = turns-keep shift (Within n) (m - k) k xs (λ j t q. within-set n t j _ (q .ends (suc j)) q) w
 
-within-dropped : (n m k l : ℕ) (xs : List ℕ) → Within n xs → Within n (dropTwo m k l xs)
+pub within-dropped : (n m k l : ℕ) (xs : List ℕ) → Within n xs → Within n (dropTwo m k l xs)
 unfolding dropTwo
 within-dropped n m k l xs w =
     by (ltb k l) (λ t. rw (dropTwo, t) (within-closed n k m _ (within-closed n l (m + 1) xs w)))
     (λ t. rw (dropTwo, t) (within-closed n l m _ (within-closed n k (m + 1) xs w)))
 
-bump-in : (n p i : ℕ) → i < n → bump p i < n + 1
+pub bump-in : (n p i : ℕ) → i < n → bump p i < n + 1
 unfolding bump
 bump-in n p i h = by (ltb i p) (λ t. rw (bump, t) (omega arith)) (λ t. rw (bump, t) (omega arith))
 
