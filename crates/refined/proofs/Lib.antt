@@ -13,3 +13,4 @@ pub mod OpenedLaws
 pub mod ListingLaws
 pub mod AfterLaws
 pub mod ExchangeSound
+pub mod PruneSound

@@ -62,7 +62,7 @@ within-lay3 : (n p a b u : ℕ) (r : Row) → p < n → a < n → b < n → u < 
 unfolding lay3
 within-lay3 n p a b u r h i j k l w = within-lay n p u _ h k l (within-lay n p b _ h j l (within-lay n p a r h i l w))
 
-within-closed : (n k m : ℕ) (xs : List ℕ) → Within n xs → Within n (closed k m xs)
+pub within-closed : (n k m : ℕ) (xs : List ℕ) → Within n xs → Within n (closed k m xs)
 unfolding closed shift
 within-closed n k m xs w = turns-keep shift (Within n) (m - k) k xs (λ j t q. within-set n t j _ (q .ends (suc j)) q) w
 
