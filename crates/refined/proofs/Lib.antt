@@ -14,3 +14,7 @@ pub mod ListingLaws
 pub mod AfterLaws
 pub mod ExchangeSound
 pub mod PruneSound
+pub mod ReadingLaws
+pub mod WinsLaws
+pub mod LongestSound
+pub mod ReachedLaws
