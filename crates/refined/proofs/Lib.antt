@@ -18,3 +18,6 @@ pub mod ReadingLaws
 pub mod WinsLaws
 pub mod LongestSound
 pub mod ReachedLaws
+pub mod AloneLaws
+pub mod CutLaws
+pub mod WinnerLaws

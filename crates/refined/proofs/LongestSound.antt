@@ -44,7 +44,7 @@ steps-end z c d (stop e) m = either (λ q. inr (firsts q ∙ e, seconds q)) (λ 
 steps-end z c d (go k w) m =
     either (λ q. inl (here q)) (λ i. either (λ j. inl (there j)) inr (steps-end z c d w i)) (List·Memᴰ·cases-cons m)
 
-steps-old : (x z c d : Place) (ps : List Place) → (c, d) ∈ steps x ps → (c, d) ∈ steps x (ps ++ (z ∷ []))
+pub steps-old : (x z c d : Place) (ps : List Place) → (c, d) ∈ steps x ps → (c, d) ∈ steps x (ps ++ (z ∷ []))
 unfolding steps
 steps-old x z c d [] m = elim m [ ]
 steps-old x z c d (y ∷ ps) m = either here (λ i. there (steps-old y z c d ps i)) (List·Memᴰ·cases-cons m)

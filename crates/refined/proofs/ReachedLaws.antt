@@ -42,6 +42,9 @@ zero-entry zero i = refl
 zero-entry (suc m) zero = refl
 zero-entry (suc m) (suc i) = zero-entry m i
 
+abbrev zeros : List ℕ
+zeros = replicate pointBound 0
+
 same-length : (m x : ℕ) → length (replicate m x) ≡ m
 same-length zero x = refl
 same-length (suc m) x = ap suc (same-length m x)
@@ -171,3 +174,71 @@ module _ (pts : List ℤ) (n : ℕ) (ks : List ℕ) (e : ℕ) (el : List ℕ) (o
       let two = reaches e 0 r g (omega arith) (q .0) (omega arith) (omega (arith, q .1 .0)) (inr (subst (λ (t : ℕ). Has r t) at s)) in
       along ps c (suc i) (sweep 0 r) (sweep-good r g) (firstEnd (getD ks (q .0) 0)) y (f .0) hy (two .0)
       (subst (λ (t : Place). Way (edgesOf pts ks e) t ps (placeAt pts y)) (ap (λ (t : Place × Place). t .0) (q .1 .1)) v) (omega arith)
+
+  -- All points
+
+  begin : 0 < n → Fine start
+  unfolding start steps
+  begin h = record {
+    room = length-set zeros 0 1 ∙ same-length pointBound 0;
+    sized = same-length pairBound noEdge;
+    marks = λ i. by (eqb 0 i) (λ q. inr (ap (λ (j : ℕ). getD (set zeros 0 1) j 0) (sym (eqb-true 0 i q)))) (λ q. inl (other zeros 0 i 1 (eqb-false 0 i q) ∙ zero-entry pointBound i));
+    known = λ x y s q. subst (λ (i : ℕ). Known pts n ks e el start i y) (sym (only x (s .1))) (subst (λ (i : ℕ). Known pts n ks e el start 0 i) (sym (only y (q .1))) first);
+    even = λ x y s q. ap₂ (λ (i j : ℕ). getD (start .top) (key i j) 0) (only x (s .1) ∙ sym (only y (q .1))) (only y (q .1) ∙ sym (only x (s .1)));
+  }
+    where
+      only : (i : ℕ) → Has start i → i ≡ 0
+      only i s =
+          by (eqb 0 i) (λ q. sym (eqb-true 0 i q))
+          (λ q. absurd (let z : getD (set zeros 0 1) i 0 ≡ 0 = other zeros 0 i 1 (eqb-false 0 i q) ∙ zero-entry pointBound i in let y : ⊥ = omega (arith, s, z) in y))
+
+      first : Known pts n ks e el start 0 0
+      first = record {
+        points = [];
+        way = stop refl;
+        once = (λ m. elim m [ ], tt);
+        seen = λ z m. either (λ q. (0, ((h, refl), q))) (λ i. elim i [ ]) (List·Memᴰ·cases-cons m);
+        top = record { is = inl (refl, same-entry pairBound noEdge 0 (omega arith)); best = λ j hj c d m f. elim m [ ] };
+      }
+
+  module _ (whole : joined.Tree (pointsOf pts n) (edgesOf pts ks e)) where
+    points-of : (x : Place) (ps : List Place) (y : Place) → x ∈ pointsOf pts n → Way (edgesOf pts ks e) x ps y → Among (x ∷ ps) (pointsOf pts n)
+    points-of x ps y i (stop q) z m = either (λ q. Memᴰ·cast q i) (λ j. elim j [ ]) (List·Memᴰ·cases-cons m)
+    points-of x (v ∷ ps) y i (go l t) z m = either (λ q. Memᴰ·cast q i) (λ j. points-of v ps y (next l) t z j) (List·Memᴰ·cases-cons m)
+      where
+        next : Link (edgesOf pts ks e) x v → v ∈ pointsOf pts n
+        next (inl j) =
+            let q = of-listing (λ j. endsOf pts (getD ks j 0)) e (x, v) j in
+            Memᴰ·cast (ap (λ (t : Place × Place). t .1) (q .1 .1)) (in-listing (placeAt pts) n _ (w .ends (q .0) .1))
+        next (inr j) =
+            let q = of-listing (λ j. endsOf pts (getD ks j 0)) e (v, x) j in
+            Memᴰ·cast (ap (λ (t : Place × Place). t .0) (q .1 .1)) (in-listing (placeAt pts) n _ (w .ends (q .0) .0))
+
+    size : suc e ≡ n
+    size = ap suc (sym (listing-length _ e)) ∙ whole .size ∙ listing-length (placeAt pts) n
+
+    abbrev pub last : Reach
+    last = reached ks el e n start
+
+    pub last-good : Fine last
+    unfolding reached
+    last-good = turns-keep sweep Fine e 0 start (λ j t q. sweep-good t q) (begin (omega (arith, size)))
+
+    begin-has : Has start 0
+    unfolding start
+    begin-has = refl
+
+    pub last-seen : (y : ℕ) → y < n → Has last y
+    unfolding reached
+    last-seen y h =
+        let x : placeAt pts 0 ∈ pointsOf pts n = in-listing (placeAt pts) n 0 (omega (arith, size)) in
+        let f = joined-free same-place (whole .joins (placeAt pts 0) (placeAt pts y) x (in-listing (placeAt pts) n y h)) in
+        let l = once-length (placeAt pts 0 ∷ f .points) (pointsOf pts n) (f .once) (points-of _ _ _ x (f .way)) in
+        let z = listing-length (placeAt pts) n in
+        along (f .points) e 0 start (begin (omega (arith, size))) 0 y (omega (arith, size)) h (begin-has) (f .way) (omega (arith, l, z, size))
+
+    pub all-known : (v y : ℕ) → v < n → y < n → Known pts n ks e el last v y
+    all-known v y h l = last-good .known v y (h, last-seen v h) (l, last-seen y l)
+
+    pub all-even : (v y : ℕ) → v < n → y < n → getD (last .top) (key v y) 0 ≡ getD (last .top) (key y v) 0
+    all-even v y h l = last-good .even v y (h, last-seen v h) (l, last-seen y l)
