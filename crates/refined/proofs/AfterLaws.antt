@@ -1,7 +1,7 @@
 -- One exchange on the tables, read as places: the points are as they were, and s; the edges are those of before without (a, b) and L, and
 -- those from s. All by sums over the table, whichever numbers moved on.
 -- Assumes nothing.
-use mathlib.Core.Path.{_≡_, refl, sym, ap, ap₂, _∙_}
+use mathlib.Core.Path.{_≡_, refl, sym, ap, ap₂, _∙_, subst}
 use mathlib.Core.Bool.{Bool, true, false}
 use mathlib.Core.Logic.{_⊎_, inl, inr}
 use mathlib.Core.List.{List, [], _∷_, Memᴰ·cast}
@@ -14,16 +14,20 @@ use borrow.Author.Tests.{ltb-true, ltb-false, eqb-true, eqb-false}
 use Rattle.lists.specs.Member.{_∈_}
 use Rattle.lists.proofs.TestLaws.{by, either}
 use Rattle.plane.specs.declared.Place.{Place}
+use Rattle.plane.specs.declared.Macro.{Macro}
 use Rattle.plane.specs.Distance.{distance}
+use Rattle.plane.specs.Macro.{clear}
 use Rattle.plane.specs.Flat.{placeAt}
 use Rattle.plane.proofs.DistanceLaws.{distance-comm, distance-self}
+use Rattle.plane.proofs.MacroLaws.{clear-comm}
 use Rattle.joined.specs.Joined.{Link, Alike, Joined, stay}
 use Rattle.joined.proofs.JoinedLaws.{one as one-link}
 use Rattle.refined.specs.Table.{pointBound, key, firstEnd, secondEnd, Tree, In, Within}
 use Rattle.refined.specs.Sum.{below, over}
 use Rattle.refined.specs.Exchange.{dropTwo}
-use Rattle.refined.specs.Places.{listing, endsOf, edgesOf}
-use Rattle.refined.proofs.SumLaws.{below-at, below-some, one, one-same, one-some, one-not, in-table, of-table, between, over-dropped}
+use Rattle.refined.specs.Places.{listing, endsOf, edgesOf, keyLength}
+use Rattle.refined.proofs.SumLaws.{below-same, below-at, below-some, one, one-same, one-some, one-not, in-table, of-table, between, over-dropped}
+use Rattle.refined.proofs.WithinLaws.{within-dropped}
 use Rattle.refined.proofs.ListingLaws.{in-listing, of-listing}
 
 -- what the edge of two points adds
@@ -165,3 +169,81 @@ module _ {pts : List ℤ} {n : ℕ} {ks : List ℕ} {e k l a b u p : ℕ} {s : P
 
   pub to-u : Joined U s (placeAt pts u)
   to-u = laid u hu (λ g. omega (arith, after .sums g))
+
+  -- an edge of the key j is one from s, or was there
+  data Origin (j : ℕ) : Type 0 where
+    from-s : (x : ℕ) → x < n → (x ≡ a) ⊎ ((x ≡ b) ⊎ (x ≡ u)) → endsOf (t .points) j ≡ (s, placeAt pts x) → Origin j
+    to-s : (x : ℕ) → x < n → (x ≡ a) ⊎ ((x ≡ b) ⊎ (x ≡ u)) → endsOf (t .points) j ≡ (placeAt pts x, s) → Origin j
+    was : (i : ℕ) → i < suc (suc e) → endsOf (t .points) j ≡ endsOf pts (getD ks i 0) → Origin j
+
+  from-part : (j x : ℕ) → x < n → (x ≡ a) ⊎ ((x ≡ b) ⊎ (x ≡ u)) → 0 < between (one j) p (m x) → Origin j
+  from-part j x h which some =
+      either
+      (λ q. from-s x h which (ap (endsOf (t .points)) (sym (one-some j (key p (m x)) q)) ∙ ends p (m x) s (placeAt pts x) (after .low x h) (after .new) (after .old x h)))
+      (λ q. to-s x h which (ap (endsOf (t .points)) (sym (one-some j (key (m x) p) q)) ∙ ends (m x) p (placeAt pts x) s (after .lowest) (after .old x h) (after .new)))
+      (between-some (one j) p (m x) some)
+
+  from-left : (j : ℕ) → 0 < over (λ q. one j (moved q)) (dropTwo e k l ks) e → Origin j
+  from-left j some =
+      let r = below-some _ e some in
+      let q = getD (dropTwo e k l ks) (r .0) 0 in
+      let d = over-dropped (one q) e k l ks hk hl kl in
+      let o = in-table q ks (suc (suc e)) (omega (arith, d, of-table (dropTwo e k l ks) e (r .0) (r .1 .0))) in
+      was (o .0) (o .1 .0)
+      (ap (endsOf (t .points)) (sym (one-some j (moved q) (r .1 .1)))
+      ∙ moved-ends q (within-dropped n e k l ks w .ends (r .0))
+      ∙ ap (endsOf pts) (sym (o .1 .1)))
+
+  origin : (i : ℕ) → i < t .edges .size → Origin (getD (t .edges .keys) i 0)
+  origin i h =
+      let j = getD (t .edges .keys) i 0 in
+      let all = after .sums (one j) in
+      let some = of-table (t .edges .keys) (t .edges .size) i h in
+      by (ltb 0 (between (one j) p (m u))) (λ q. from-part j u hu (inr (inr refl)) (ltb-true _ _ q)) λ q.
+      by (ltb 0 (between (one j) p (m b))) (λ v. from-part j b hb (inr (inl refl)) (ltb-true _ _ v)) λ v.
+      by (ltb 0 (between (one j) p (m a))) (λ z. from-part j a ha (inl refl) (ltb-true _ _ z)) λ z.
+      from-left j (omega (arith, all, some, ltb-false 0 (between (one j) p (m u)) q, ltb-false 0 (between (one j) p (m b)) v, ltb-false 0 (between (one j) p (m a)) z))
+
+  -- every edge is clear, where those of before and those from s are
+  module _ (ms : List Macro) (sa : clear s (placeAt pts a) ms ≡ true) (sb : clear s (placeAt pts b) ms ≡ true) (su : clear s (placeAt pts u) ms ≡ true)
+      (free : (i : ℕ) → i < suc (suc e) → clear (endsOf pts (getD ks i 0) .0) (endsOf pts (getD ks i 0) .1) ms ≡ true) where
+    s-clear : (x : ℕ) → (x ≡ a) ⊎ ((x ≡ b) ⊎ (x ≡ u)) → clear s (placeAt pts x) ms ≡ true
+    s-clear x (inl q) = ap (λ (y : ℕ). clear s (placeAt pts y) ms) q ∙ sa
+    s-clear x (inr (inl q)) = ap (λ (y : ℕ). clear s (placeAt pts y) ms) q ∙ sb
+    s-clear x (inr (inr q)) = ap (λ (y : ℕ). clear s (placeAt pts y) ms) q ∙ su
+
+    abbrev Clear : Place × Place → Type 0
+    Clear z = clear (z .0) (z .1) ms ≡ true
+
+    clear-at : (j : ℕ) → Origin j → Clear (endsOf (t .points) j)
+    clear-at j (from-s x h which q) = subst Clear (sym q) (s-clear x which)
+    clear-at j (to-s x h which q) = subst Clear (sym q) (clear-comm (placeAt pts x) s ms ∙ s-clear x which)
+    clear-at j (was i h q) = subst Clear (sym q) (free i h)
+
+    pub after-clear : (i : ℕ) → i < t .edges .size → Clear (endsOf (t .points) (getD (t .edges .keys) i 0))
+    after-clear i h = clear-at _ (origin i h)
+
+  -- the lengths
+  length-part : (x : ℕ) → x < n → between (keyLength (t .points)) p (m x) ≡ distance s (placeAt pts x)
+  length-part x h =
+      by (ltb p (m x))
+      (λ q.
+      between-less (keyLength (t .points)) p (m x) q
+      ∙ ap (λ (z : Place × Place). distance (z .0) (z .1)) (ends p (m x) s (placeAt pts x) (after .low x h) (after .new) (after .old x h)))
+      (λ q.
+      by (ltb (m x) p)
+      (λ r.
+      between-more (keyLength (t .points)) p (m x) q r
+      ∙ ap (λ (z : Place × Place). distance (z .0) (z .1)) (ends (m x) p (placeAt pts x) s (after .lowest) (after .old x h) (after .new))
+      ∙ distance-comm (placeAt pts x) s)
+      (λ r.
+      let v : p ≡ m x = omega (arith, ltb-false p (m x) q, ltb-false (m x) p r) in
+      let o : s ≡ placeAt pts x = sym (after .new) ∙ ap (placeAt (t .points)) v ∙ after .old x h in
+      between-none (keyLength (t .points)) p (m x) v ∙ sym (ap (λ (z : Place). distance s z) (sym o) ∙ distance-self s)))
+
+  pub after-lengths : over (keyLength (t .points)) (t .edges .keys) (t .edges .size) + (keyLength pts (getD ks k 0) + keyLength pts (getD ks l 0))
+      ≡ over (keyLength pts) ks (suc (suc e)) + (distance s (placeAt pts u) + (distance s (placeAt pts b) + distance s (placeAt pts a)))
+  after-lengths =
+      let same : over (λ j. keyLength (t .points) (moved j)) (dropTwo e k l ks) e ≡ over (keyLength pts) (dropTwo e k l ks) e
+      = below-same _ _ e (λ i h. ap (λ (z : Place × Place). distance (z .0) (z .1)) (moved-ends _ (within-dropped n e k l ks w .ends i))) in
+      omega (arith, after .sums (keyLength (t .points)), over-dropped (keyLength pts) e k l ks hk hl kl, same, length-part a ha, length-part b hb, length-part u hu)

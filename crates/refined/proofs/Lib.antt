@@ -12,3 +12,12 @@ pub mod SumLaws
 pub mod OpenedLaws
 pub mod ListingLaws
 pub mod AfterLaws
+pub mod ExchangeSound
+pub mod PruneSound
+pub mod ReadingLaws
+pub mod WinsLaws
+pub mod LongestSound
+pub mod ReachedLaws
+pub mod AloneLaws
+pub mod CutLaws
+pub mod WinnerLaws

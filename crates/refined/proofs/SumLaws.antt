@@ -45,7 +45,7 @@ below-some f (suc n) h = by (ltb 0 (f n)) (λ t. (n, (omega arith, ltb-true 0 (f
     further r = (r .0, (omega (arith, r .1 .0), r .1 .1))
 
 -- the same from the front
-unfoldable from : (ℕ → ℕ) → ℕ → ℕ → ℕ
+unfoldable pub from : (ℕ → ℕ) → ℕ → ℕ → ℕ
 from f i zero = 0
 from f i (suc n) = f i + from f (suc i) n
 
@@ -57,7 +57,7 @@ from-last f (suc n) i =
     let r : from f (suc i) (suc n) ≡ f (i + suc n) + from f (suc i) n = rw z at (from-last f n (suc i)) in
     omega (arith, r)
 
-from-below : (f : ℕ → ℕ) (n : ℕ) → from f 0 n ≡ below f n
+pub from-below : (f : ℕ → ℕ) (n : ℕ) → from f 0 n ≡ below f n
 unfolding from below
 from-below f zero = refl
 from-below f (suc n) = let z : 0 + n ≡ n = omega arith in let r : from f 0 (suc n) ≡ f n + from f 0 n = rw z at (from-last f n 0) in omega (arith, r, from-below f n)

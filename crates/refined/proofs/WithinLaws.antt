@@ -62,21 +62,21 @@ within-lay3 : (n p a b u : ℕ) (r : Row) → p < n → a < n → b < n → u < 
 unfolding lay3
 within-lay3 n p a b u r h i j k l w = within-lay n p u _ h k l (within-lay n p b _ h j l (within-lay n p a r h i l w))
 
-within-closed : (n k m : ℕ) (xs : List ℕ) → Within n xs → Within n (closed k m xs)
+pub within-closed : (n k m : ℕ) (xs : List ℕ) → Within n xs → Within n (closed k m xs)
 unfolding closed shift
 within-closed n k m xs w = turns-keep shift (Within n) (m - k) k xs (λ j t q. within-set n t j _ (q .ends (suc j)) q) w
 
-within-dropped : (n m k l : ℕ) (xs : List ℕ) → Within n xs → Within n (dropTwo m k l xs)
+pub within-dropped : (n m k l : ℕ) (xs : List ℕ) → Within n xs → Within n (dropTwo m k l xs)
 unfolding dropTwo
 within-dropped n m k l xs w =
     by (ltb k l) (λ t. rw (dropTwo, t) (within-closed n k m _ (within-closed n l (m + 1) xs w)))
     (λ t. rw (dropTwo, t) (within-closed n l m _ (within-closed n k (m + 1) xs w)))
 
-bump-in : (n p i : ℕ) → i < n → bump p i < n + 1
+pub bump-in : (n p i : ℕ) → i < n → bump p i < n + 1
 unfolding bump
 bump-in n p i h = by (ltb i p) (λ t. rw (bump, t) (omega arith)) (λ t. rw (bump, t) (omega arith))
 
-past : (xs : List ℕ) (i j x : ℕ) → i < j → getD (set xs i x) j 0 ≡ getD xs j 0
+pub past : (xs : List ℕ) (i j x : ℕ) → i < j → getD (set xs i x) j 0 ≡ getD xs j 0
 past [] i j x h = refl
 past (y ∷ ys) i zero x h = absurd (let z : ⊥ = omega arith in z)
 past (y ∷ ys) zero (suc j) x h = refl
@@ -127,12 +127,12 @@ within-after c pts qts n m ks ls e f q l h w =
     rw (ap (λ (t : Tree). t .count) q, ap (λ (t : Tree). t .edges .keys) q) (within-exchange c pts n ks e l h w)
 
 -- past the edges no length stands
-measured-past : (pts : List ℤ) (ks : List ℕ) (j c i : ℕ) (el : List ℕ) → i + c ≤ j → getD (turns (measure pts ks) i c el) j 0 ≡ getD el j 0
+pub measured-past : (pts : List ℤ) (ks : List ℕ) (j c i : ℕ) (el : List ℕ) → i + c ≤ j → getD (turns (measure pts ks) i c el) j 0 ≡ getD el j 0
 unfolding turns measure
 measured-past pts ks j zero i el h = refl
 measured-past pts ks j (suc c) i el h = measured-past pts ks j c (suc i) _ (omega arith) ∙ past el i j _ (omega arith)
 
-zeros-at : (n i : ℕ) → _≡_ {A = ℕ} (getD (replicate n 0) i 0) 0
+pub zeros-at : (n i : ℕ) → _≡_ {A = ℕ} (getD (replicate n 0) i 0) 0
 zeros-at zero i = refl
 zeros-at (suc n) zero = refl
 zeros-at (suc n) (suc i) = zeros-at n i

@@ -1,11 +1,11 @@
 -- A tree's tables read as places: its points, its edges as pairs of them, and what is kept of them from the start to the end.
 use mathlib.Core.Path.{_≡_}
-use mathlib.Core.Bool.{true}
+use mathlib.Core.Bool.{true, false}
 use mathlib.Core.List.{List, [], _∷_}
 use Prim.Native.Nat.{ℕ, zero, suc, _≤_, _<_}
 use lib.IntN.{ℤ}
 use lib.ListN.{length, getD}
-use Rattle.lists.specs.Member.{Among}
+use Rattle.lists.specs.Member.{_∈_, Among}
 use Rattle.plane.specs.declared.Place.{Place}
 use Rattle.plane.specs.declared.Macro.{Macro}
 use Rattle.plane.specs.Place.{before}
@@ -13,6 +13,9 @@ use Rattle.plane.specs.Distance.{distance}
 use Rattle.plane.specs.Macro.{clear}
 use Rattle.plane.specs.Flat.{placeAt}
 use Rattle.joined.specs.Tree as joined
+use Rattle.joined.specs.Joined.{Alike}
+use Rattle.joined.specs.Exchange.{Toward, steps}
+use Rattle.refined.specs.Candidate.{middleOf, sees, dropped}
 use Rattle.refined.specs.Table.{pointBound, firstEnd, secondEnd, Tree, Within}
 
 -- the first n of a sequence, the last of them first
@@ -23,6 +26,10 @@ listing f (suc n) = f n ∷ listing f n
 -- the ends of the edge of a key
 abbrev pub endsOf : List ℤ → ℕ → Place × Place
 endsOf pts k = (placeAt pts (firstEnd k), placeAt pts (secondEnd k))
+
+-- its length
+abbrev pub keyLength : List ℤ → ℕ → ℕ
+keyLength pts k = distance (endsOf pts k .0) (endsOf pts k .1)
 
 abbrev pub pointsOf : List ℤ → ℕ → List Place
 pointsOf pts n = listing (placeAt pts) n
@@ -41,3 +48,20 @@ pub record Sound (ms : List Macro) (pins : List Place) (t : Tree) : Type 0 where
   pub whole : joined.Tree (pointsOf (t .points) (t .count)) (edgesOf (t .points) (t .edges .keys) (t .edges .size))
   pub free : (i : ℕ) → i < t .edges .size → clear (endsOf (t .points) (getD (t .edges .keys) i 0) .0) (endsOf (t .points) (getD (t .edges .keys) i 0) .1) ms ≡ true
   pub pinned : Among pins (pointsOf (t .points) (t .count))
+
+-- what is known of a candidate that a round takes: edge and L are two edges, u is a third point that sees the edge, the candidate is not
+-- dropped, and L is a step of the way from u to the edge
+pub record Taken (ms : List Macro) (pts : List ℤ) (n : ℕ) (ks : List ℕ) (e k l u : ℕ) : Type 0 where
+  pub edge : k < e
+  pub cut : l < e
+  pub two : k ≡ l → ⊥
+  pub point : u < n
+  pub notFirst : u ≡ firstEnd (getD ks k 0) → ⊥
+  pub notSecond : u ≡ secondEnd (getD ks k 0) → ⊥
+  pub seen : sees ms (placeAt pts (firstEnd (getD ks k 0))) (placeAt pts (secondEnd (getD ks k 0))) (placeAt pts u) ≡ true
+  pub kept : dropped pts n (firstEnd (getD ks k 0)) (secondEnd (getD ks k 0)) u (middleOf pts (firstEnd (getD ks k 0)) (secondEnd (getD ks k 0)) u) ≡ false
+  pub toward : Toward (edgesOf pts ks e) (placeAt pts u) (placeAt pts (firstEnd (getD ks k 0))) (placeAt pts (secondEnd (getD ks k 0)))
+  pub one : Place
+  pub other : Place
+  pub on : (one, other) ∈ steps (placeAt pts u) (toward .free .points)
+  pub longest : Alike one other (placeAt pts (firstEnd (getD ks l 0))) (placeAt pts (secondEnd (getD ks l 0)))
