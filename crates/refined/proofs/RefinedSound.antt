@@ -20,18 +20,18 @@ use Rattle.plane.specs.Macro.{clear}
 use Rattle.plane.specs.Flat.{placeAt}
 use Rattle.plane.proofs.PlaceLaws.{same-refl}
 use Rattle.joined.specs.Joined.{Inside}
-use Rattle.joined.specs.OneTree.{OneTree}
 use Rattle.joined.proofs.OneTreeLaws.{tree-one}
 use Rattle.refined.specs.Turns.{turns}
 use Rattle.refined.specs.Table.{pointBound, firstEnd, secondEnd, Row, Tree}
 use Rattle.refined.specs.Prune.{markOf, mark, marks, prune}
 use Rattle.refined.specs.Refined.{rounds, pruned, refined}
+use Rattle.refined.specs.Promise.{metalOf, Promise}
 use Rattle.refined.specs.Places.{listing, endsOf, pointsOf, edgesOf, keyLength, Sound}
 use Rattle.refined.proofs.SumLaws.{other, here}
 use Rattle.refined.proofs.ListingLaws.{in-listing, of-listing}
 use Rattle.refined.proofs.ExchangeSound.{same-place}
 use Rattle.refined.proofs.PruneSound.{Whole, prune-whole, pruned-was, pruned-over}
-use Rattle.refined.proofs.RoundSound.{metalOf, Kept, rounds-kept}
+use Rattle.refined.proofs.RoundSound.{Kept, rounds-kept}
 
 -- The marks of pins
 
@@ -68,15 +68,6 @@ unmarked pins pts n few v h e m =
     (λ t. differ (same-refl (placeAt pts v)) (any-none (samePlace (placeAt pts v)) pins t (placeAt pts v) m))
 
 -- The refined tree
-
--- what is promised of the tree r that refines the tree t
-pub record Promise (ms : List Macro) (pins : List Place) (t r : Tree) : Type 0 where
-  -- "exactly one loop-free way along its edges leads from each point to each other one"
-  pub one : OneTree pins (edgesOf (r .points) (r .edges .keys) (r .edges .size))
-  -- "the two ends of each edge are clear of each other"
-  pub free : (i : ℕ) → i < r .edges .size → clear (endsOf (r .points) (getD (r .edges .keys) i 0) .0) (endsOf (r .points) (getD (r .edges .keys) i 0) .1) ms ≡ true
-  pub total : metalOf r ≤ metalOf t
-  pub points : r .count ≤ t .count + length pins
 
 pub refined-promise : (ms : List Macro) (pins : List Place) (t : Tree) → Sound ms pins t → t .count + length pins ≤ pointBound →
     length (t .points) ≡ pointBound * 2 → length (t .edges .keys) ≡ pointBound → Promise ms pins t (refined ms pins t)

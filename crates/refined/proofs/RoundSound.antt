@@ -18,11 +18,12 @@ use Rattle.plane.specs.Flat.{placeAt}
 use Rattle.refined.specs.declared.Best.{Best}
 use Rattle.refined.specs.Turns.{turns}
 use Rattle.refined.specs.Table.{pointBound, firstEnd, secondEnd, Row, row, Tree, tree}
-use Rattle.refined.specs.Longest.{lengths, longest, start, reached, cutOf}
+use Rattle.refined.specs.Longest.{edgeLength, lengths, longest, start, reached, cutOf}
 use Rattle.refined.specs.Candidate.{middleOf, found}
 use Rattle.refined.specs.Exchange.{dropTwo, rank, stands, opened, bump, bumpAt, lay, lay3, laidAt, exchange}
-use Rattle.refined.specs.Refined.{rounds}
+use Rattle.refined.specs.Refined.{rounds, addLength, metal}
 use Rattle.refined.specs.Sum.{below, over}
+use Rattle.refined.specs.Promise.{metalOf}
 use Rattle.refined.specs.Places.{listing, pointsOf, edgesOf, endsOf, keyLength, Sound, Taken}
 use Rattle.refined.proofs.SumLaws.{length-lay, length-bumps, length-dropped}
 use Rattle.refined.proofs.OpenedLaws.{opened-length}
@@ -30,10 +31,6 @@ use Rattle.refined.proofs.ListingLaws.{listing-length}
 use Rattle.refined.proofs.ExchangeSound.{laid-sound, laid-lengths}
 use Rattle.refined.proofs.CutLaws.{Is, cut-is, the-way}
 use Rattle.refined.proofs.WinnerLaws.{Winner, found-wins, length-at, no-length}
-
--- how long all edges are together
-abbrev pub metalOf : Tree → ℕ
-metalOf t = over (keyLength (t .points)) (t .edges .keys) (t .edges .size)
 
 -- what m rounds keep
 pub record Kept (ms : List Macro) (pins : List Place) (t r : Tree) (m : ℕ) : Type 0 where
@@ -162,3 +159,21 @@ rounds-kept ms pins (suc m) t sound few room rooms =
     let next = exchange c (t .points) (t .count) (t .edges .keys) (t .edges .size) in
     rw (rounds, q)
     (kept-then m one (rounds-kept ms pins m next (one .sound) (omega (arith, one .points)) (one .places ∙ room) (one .rows ∙ rooms))))
+
+-- the sum that the contract speaks of is this one
+sum-last : (pts : List ℤ) (ks : List ℕ) (c i s : ℕ) → turns (addLength pts ks) i (suc c) s ≡ keyLength pts (getD ks (i + c) 0) + turns (addLength pts ks) i c s
+unfolding turns addLength edgeLength
+sum-last pts ks zero i s = let z : i + 0 ≡ i = omega arith in rw z (omega arith)
+sum-last pts ks (suc c) i s = let z : i + suc c ≡ suc i + c = omega arith in rw z (sum-last pts ks c (suc i) (s + keyLength pts (getD ks i 0)))
+
+summed : (pts : List ℤ) (ks : List ℕ) (c : ℕ) → turns (addLength pts ks) 0 c 0 ≡ over (keyLength pts) ks c
+unfolding turns below
+summed pts ks zero = refl
+summed pts ks (suc c) =
+    let z : 0 + c ≡ c = omega arith in
+    let r : turns (addLength pts ks) 0 (suc c) 0 ≡ keyLength pts (getD ks c 0) + turns (addLength pts ks) 0 c 0 = rw z at (sum-last pts ks c 0 0) in
+    r ∙ ap (λ (x : ℕ). keyLength pts (getD ks c 0) + x) (summed pts ks c)
+
+pub metal-of : (pts : List ℤ) (n : ℕ) (ks : List ℕ) (e : ℕ) → metal pts ks e ≡ metalOf (tree pts n ks e)
+unfolding metal
+metal-of pts n ks e = summed pts ks e
