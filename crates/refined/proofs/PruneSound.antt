@@ -31,7 +31,8 @@ use Rattle.refined.specs.Prune.{countEnds, loose, looseEdge, firstLoose,
 use Rattle.refined.specs.Sum.{below, over}
 use Rattle.refined.specs.Places.{listing, endsOf, pointsOf, edgesOf, InOrder}
 use Rattle.refined.proofs.WithinLaws.{seek-le, within-closed}
-use Rattle.refined.proofs.SumLaws.{below-at, from, from-below, other, here, one, one-same, one-not, one-some, in-table, of-table, over-closed, closed-at, skip}
+use Rattle.refined.proofs.SumLaws.{below-at, from, from-below, other, here, one, one-same}
+use Rattle.refined.proofs.SumLaws.{one-not, one-some, in-table, of-table, over-closed, closed-at, skip}
 use Rattle.refined.proofs.OpenedLaws.{seek-hit}
 use Rattle.refined.proofs.ListingLaws.{listing-length, in-listing, of-listing}
 use Rattle.refined.proofs.ExchangeSound.{same-place}
@@ -113,32 +114,64 @@ module _ (pts : List ℤ) (n : ℕ) (o : InOrder pts n) (few : n ≤ pointBound)
           by (eqb j (getD ks i 0)) (λ t. inl (r .1 .1 ∙ ap (endsOf pts) (eqb-true _ _ t)))
           (λ t.
           let d = over-closed (one j) i e ks hi in
-          let f = in-table j (closed i e ks) e (omega (arith, d, of-table ks (suc e) (r .0) (r .1 .0), one-not j (getD ks i 0) (λ q. eqb-false _ _ t (sym q)))) in
+          let f = in-table j (closed i e ks) e (omega (
+            arith,
+            d,
+            of-table ks (suc e) (r .0) (r .1 .0),
+            one-not j (getD ks i 0)
+                (λ q. eqb-false _ _ t (sym q)),
+          )) in
           inr (Memᴰ·cast (r .1 .1 ∙ ap (endsOf pts) (sym (f .1 .1))) (in-listing (λ q. endsOf pts (getD (closed i e ks) q 0)) e (f .0) (f .1 .0))))
 
   -- the edge i joins v and another point, and no other edge has v
-  module _ (v z : ℕ) (hv : v < n) (ends : ((v ≡ firstEnd (getD ks i 0)) × (z ≡ secondEnd (getD ks i 0))) ⊎ ((v ≡ secondEnd (getD ks i 0)) × (z ≡ firstEnd (getD ks i 0))))
+  module _ (v z : ℕ) (hv : v < n) (ends : ((v ≡ firstEnd (getD ks i 0)) × (z ≡ secondEnd (getD ks i 0))) ⊎
+      ((v ≡ secondEnd (getD ks i 0)) × (z ≡ firstEnd (getD ks i 0))))
       (single : over (endCount v) ks (suc e) ≡ 1) where
     still : (c d : Place) → Link T c d → Alike c d (placeAt pts v) (placeAt pts z) ⊎ Link U c d
     still c d (inl m) = either (λ q. inl (forth ends q)) (λ q. inr (inl q)) (kept c d m)
       where
         forth : ((v ≡ firstEnd (getD ks i 0)) × (z ≡ secondEnd (getD ks i 0))) ⊎ ((v ≡ secondEnd (getD ks i 0)) × (z ≡ firstEnd (getD ks i 0))) →
             (c, d) ≡ endsOf pts (getD ks i 0) → Alike c d (placeAt pts v) (placeAt pts z)
-        forth (inl h) q = inl (ap (λ (x : Place × Place). x .0) q ∙ ap (placeAt pts) (sym (h .0)), ap (λ (x : Place × Place). x .1) q ∙ ap (placeAt pts) (sym (h .1)))
-        forth (inr h) q = inr (ap (λ (x : Place × Place). x .0) q ∙ ap (placeAt pts) (sym (h .1)), ap (λ (x : Place × Place). x .1) q ∙ ap (placeAt pts) (sym (h .0)))
+        forth (inl h) q = inl (
+          ap (λ (x : Place × Place). x .0) q ∙ ap (placeAt pts) (sym (h .0)),
+          ap (λ (x : Place × Place). x .1) q ∙ ap
+              (placeAt pts) (sym (h .1)),
+        )
+        forth (inr h) q = inr (
+          ap (λ (x : Place × Place). x .0) q ∙ ap (placeAt pts) (sym (h .1)),
+          ap (λ (x : Place × Place). x .1) q ∙ ap
+              (placeAt pts) (sym (h .0)),
+        )
     still c d (inr m) = either (λ q. inl (forth ends q)) (λ q. inr (inr q)) (kept d c m)
       where
         forth : ((v ≡ firstEnd (getD ks i 0)) × (z ≡ secondEnd (getD ks i 0))) ⊎ ((v ≡ secondEnd (getD ks i 0)) × (z ≡ firstEnd (getD ks i 0))) →
             (d, c) ≡ endsOf pts (getD ks i 0) → Alike c d (placeAt pts v) (placeAt pts z)
-        forth (inl h) q = inr (ap (λ (x : Place × Place). x .1) q ∙ ap (placeAt pts) (sym (h .1)), ap (λ (x : Place × Place). x .0) q ∙ ap (placeAt pts) (sym (h .0)))
-        forth (inr h) q = inl (ap (λ (x : Place × Place). x .1) q ∙ ap (placeAt pts) (sym (h .0)), ap (λ (x : Place × Place). x .0) q ∙ ap (placeAt pts) (sym (h .1)))
+        forth (inl h) q = inr (
+          ap (λ (x : Place × Place). x .1) q ∙ ap (placeAt pts) (sym (h .1)),
+          ap (λ (x : Place × Place). x .0) q ∙ ap
+              (placeAt pts) (sym (h .0)),
+        )
+        forth (inr h) q = inl (
+          ap (λ (x : Place × Place). x .1) q ∙ ap (placeAt pts) (sym (h .0)),
+          ap (λ (x : Place × Place). x .0) q ∙ ap
+              (placeAt pts) (sym (h .1)),
+        )
 
-    own : ((v ≡ firstEnd (getD ks i 0)) × (z ≡ secondEnd (getD ks i 0))) ⊎ ((v ≡ secondEnd (getD ks i 0)) × (z ≡ firstEnd (getD ks i 0))) → 0 < endCount v (getD ks i 0)
+    own : ((v ≡ firstEnd (getD ks i 0)) × (z ≡ secondEnd (getD ks i 0))) ⊎ ((v ≡ secondEnd (getD ks i 0)) × (z ≡ firstEnd (getD ks i 0)))
+        → 0 < endCount v (getD ks i 0)
     own (inl h) = let q : one v (firstEnd (getD ks i 0)) ≡ 1 = ap (one v) (sym (h .0)) ∙ one-same v in omega (arith, q)
     own (inr h) = let q : one v (secondEnd (getD ks i 0)) ≡ 1 = ap (one v) (sym (h .0)) ∙ one-same v in omega (arith, q)
 
     no-end : (j : ℕ) → j < e → 0 < endCount v (getD (closed i e ks) j 0) → ⊥
-    no-end j h c = let d = over-closed (endCount v) i e ks hi in omega (arith, d, single, own ends, below-at (λ q. endCount v (getD (closed i e ks) q 0)) e j h, c)
+    no-end j h c = let d = over-closed (endCount v) i e ks hi in omega (
+      arith,
+      d,
+      single,
+      own ends,
+      below-at
+          (λ q. endCount v (getD (closed i e ks) q 0)) e j h,
+      c,
+    )
 
     gone : (y : Place) → Link U (placeAt pts v) y → ⊥
     gone y (inl m) =

@@ -77,7 +77,8 @@ refined-promise ms pins t sound few room rooms =
     let k = rounds-kept ms pins (length pins) t sound few room rooms in
     let pin = marks pins (r .points) (r .count) in
     let least : r .count ≤ pointBound = omega (arith, k .points) in
-    let whole = prune-whole (r .points) (r .count) (k .sound .ordered) least pins pin (unmarked pins (r .points) (r .count) least) (r .edges .size) (r .edges .keys)
+    let whole = prune-whole (r .points) (r .count) (k .sound .ordered) least pins pin (unmarked pins (r .points) (r .count) least) (r .edges .size)
+    (r .edges .keys)
     (k .sound .within) (held r (k .sound)) in
     record {
       one = tree-one same-place (whole .tree) (whole .inside) pins (whole .pinned);

@@ -64,13 +64,15 @@ module _ (pts : List ℤ) (n : ℕ) (ks : List ℕ) (e p a b u : ℕ) (s : Place
 -- One round
 
 module _ (ms : List Macro) (pins : List Place) (pts : List ℤ) (n : ℕ) (ks : List ℕ) (e : ℕ) (sound : Sound ms pins (tree pts n ks (suc e)))
-    (few : n < pointBound) (g k u l : ℕ) (win : Winner ms pts n ks (suc e) (lengths pts ks (suc e)) (longest ks (lengths pts ks (suc e)) (suc e) n) g k u l) where
+    (few : n < pointBound) (g k u l : ℕ) (win : Winner ms pts n ks (suc e) (lengths pts ks (suc e))
+    (longest ks (lengths pts ks (suc e)) (suc e) n) g k u l) where
   pub sized : suc (suc e) ≡ n
   sized = ap suc (sym (listing-length _ (suc e))) ∙ sound .whole .size ∙ listing-length (placeAt pts) n
 
   abbrev Cut : ℕ → Type 0
   Cut x =
-      Is pts n ks e (lengths pts ks (suc e)) (sound .ordered) (omega arith) (omega (arith, sized)) (no-length pts ks (suc e) (omega (arith, sized))) (sound .within)
+      Is pts n ks e (lengths pts ks (suc e)) (sound .ordered) (omega arith) (omega (arith, sized)) (no-length pts ks (suc e) (omega (arith, sized)))
+      (sound .within)
       (sound .whole) k u (win .edge) (win .point) (win .notFirst) (win .notSecond) x
 
   -- L is the longest edge on the way
@@ -92,7 +94,8 @@ module _ (ms : List Macro) (pins : List Place) (pts : List ℤ) (n : ℕ) (ks : 
     seen = win .seen;
     kept = win .kept;
     toward =
-        the-way pts n ks e (lengths pts ks (suc e)) (sound .ordered) (omega arith) (omega (arith, sized)) (no-length pts ks (suc e) (omega (arith, sized))) (sound .within)
+        the-way pts n ks e (lengths pts ks (suc e)) (sound .ordered) (omega arith) (omega (arith, sized))
+        (no-length pts ks (suc e) (omega (arith, sized))) (sound .within)
         (sound .whole) k u (win .edge) (win .point) (win .notFirst) (win .notSecond);
     one = cut-longest .1 .1 .0;
     other = cut-longest .1 .1 .1 .0;
@@ -106,7 +109,8 @@ module _ (ms : List Macro) (pins : List Place) (pts : List ℤ) (n : ℕ) (ks : 
   Won e c = Winner ms pts n ks e (lengths pts ks e) (longest ks (lengths pts ks e) e n) (c .gain) (c .edge) (c .point) (c .cut)
 
   exchange-laid : (c : Best) (e : ℕ) → exchange c pts n ks (suc (suc e))
-      ≡ laidAt pts n (dropTwo e (c .edge) (c .cut) ks) e (rank pts n (middleOf pts (firstEnd (getD ks (c .edge) 0)) (secondEnd (getD ks (c .edge) 0)) (c .point)))
+      ≡ laidAt pts n (dropTwo e (c .edge) (c .cut) ks) e (rank pts n (middleOf pts (firstEnd (getD ks (c .edge) 0)) (secondEnd (getD ks (c .edge) 0))
+      (c .point)))
       (firstEnd (getD ks (c .edge) 0)) (secondEnd (getD ks (c .edge) 0)) (c .point)
       (middleOf pts (firstEnd (getD ks (c .edge) 0)) (secondEnd (getD ks (c .edge) 0)) (c .point))
   unfolding exchange

@@ -21,6 +21,7 @@ pub record Promise (ms : List Macro) (pins : List Place) (t r : Tree) : Type 0 w
   -- "exactly one loop-free way along its edges leads from each point to each other one"
   pub one : OneTree pins (edgesOf (r .points) (r .edges .keys) (r .edges .size))
   -- "the two ends of each edge are clear of each other"
-  pub free : (i : ℕ) → i < r .edges .size → clear (endsOf (r .points) (getD (r .edges .keys) i 0) .0) (endsOf (r .points) (getD (r .edges .keys) i 0) .1) ms ≡ true
+  pub free : (i : ℕ) → i < r .edges .size → clear (endsOf (r .points) (getD (r .edges .keys) i 0) .0)
+      (endsOf (r .points) (getD (r .edges .keys) i 0) .1) ms ≡ true
   pub total : metalOf r ≤ metalOf t
   pub points : r .count ≤ t .count + length pins
