@@ -259,4 +259,5 @@ module _ {pts : List ℤ} {n : ℕ} {ks : List ℕ} {e k l a b u p : ℕ} {s : P
   after-lengths =
       let same : over (λ j. keyLength (t .points) (moved j)) (dropTwo e k l ks) e ≡ over (keyLength pts) (dropTwo e k l ks) e
       = below-same _ _ e (λ i h. ap (λ (z : Place × Place). distance (z .0) (z .1)) (moved-ends _ (within-dropped n e k l ks w .ends i))) in
-      omega (arith, after .sums (keyLength (t .points)), over-dropped (keyLength pts) e k l ks hk hl kl, same, length-part a ha, length-part b hb, length-part u hu)
+      let dropped = over-dropped (keyLength pts) e k l ks hk hl kl in
+      omega (arith, after .sums (keyLength (t .points)), dropped, same, length-part a ha, length-part b hb, length-part u hu)
