@@ -97,7 +97,8 @@ module _ {pts : List ℤ} {n : ℕ} {ks : List ℕ} {e k l a b u p : ℕ} {s : P
   there-is : (j : ℕ) (x y : Place) → 0 < over (one j) (t .edges .keys) (t .edges .size) → endsOf (t .points) j ≡ (x, y) → (x, y) ∈ U
   there-is j x y h f =
       let r = in-table j (t .edges .keys) (t .edges .size) h in
-      Memᴰ·cast (sym f ∙ ap (endsOf (t .points)) (sym (r .1 .1))) (in-listing (λ i. endsOf (t .points) (getD (t .edges .keys) i 0)) (t .edges .size) (r .0) (r .1 .0))
+      Memᴰ·cast (sym f ∙ ap (endsOf (t .points)) (sym (r .1 .1))) (in-listing (λ i. endsOf (t .points) (getD (t .edges .keys) i 0)) (t .edges .size)
+      (r .0) (r .1 .0))
 
   -- an edge that is neither k nor l is still there
   left : (i : ℕ) → i < suc (suc e) → (getD ks i 0 ≡ getD ks k 0 → ⊥) → (getD ks i 0 ≡ getD ks l 0 → ⊥) → endsOf pts (getD ks i 0) ∈ U
@@ -150,13 +151,15 @@ module _ {pts : List ℤ} {n : ℕ} {ks : List ℕ} {e k l a b u p : ℕ} {s : P
       (λ q.
       let j = key p (m x) in
       let v : between (one j) p (m x) ≡ one j j = between-less (one j) p (m x) q in
-      one-link (inl (there-is j s (placeAt pts x) (omega (arith, part (one j), v, one-same j)) (ends p (m x) s (placeAt pts x) (after .low x h) (after .new) (after .old x h)))))
+      one-link (inl (there-is j s (placeAt pts x) (omega (arith, part (one j), v, one-same j))
+      (ends p (m x) s (placeAt pts x) (after .low x h) (after .new) (after .old x h)))))
       (λ q.
       by (ltb (m x) p)
       (λ r.
       let j = key (m x) p in
       let v : between (one j) p (m x) ≡ one j j = between-more (one j) p (m x) q r in
-      one-link (inr (there-is j (placeAt pts x) s (omega (arith, part (one j), v, one-same j)) (ends (m x) p (placeAt pts x) s (after .lowest) (after .old x h) (after .new)))))
+      one-link (inr (there-is j (placeAt pts x) s (omega (arith, part (one j), v, one-same j))
+      (ends (m x) p (placeAt pts x) s (after .lowest) (after .old x h) (after .new)))))
       (λ r.
       let v : p ≡ m x = omega (arith, ltb-false p (m x) q, ltb-false (m x) p r) in
       stay (sym (after .new) ∙ ap (placeAt (t .points)) v ∙ after .old x h)))
@@ -179,8 +182,10 @@ module _ {pts : List ℤ} {n : ℕ} {ks : List ℕ} {e k l a b u p : ℕ} {s : P
   from-part : (j x : ℕ) → x < n → (x ≡ a) ⊎ ((x ≡ b) ⊎ (x ≡ u)) → 0 < between (one j) p (m x) → Origin j
   from-part j x h which some =
       either
-      (λ q. from-s x h which (ap (endsOf (t .points)) (sym (one-some j (key p (m x)) q)) ∙ ends p (m x) s (placeAt pts x) (after .low x h) (after .new) (after .old x h)))
-      (λ q. to-s x h which (ap (endsOf (t .points)) (sym (one-some j (key (m x) p) q)) ∙ ends (m x) p (placeAt pts x) s (after .lowest) (after .old x h) (after .new)))
+      (λ q. from-s x h which (ap (endsOf (t .points)) (sym (one-some j (key p (m x)) q)) ∙ ends p (m x) s (placeAt pts x) (after .low x h)
+      (after .new) (after .old x h)))
+      (λ q. to-s x h which (ap (endsOf (t .points)) (sym (one-some j (key (m x) p) q)) ∙ ends (m x) p (placeAt pts x) s (after .lowest)
+      (after .old x h) (after .new)))
       (between-some (one j) p (m x) some)
 
   from-left : (j : ℕ) → 0 < over (λ q. one j (moved q)) (dropTwo e k l ks) e → Origin j
@@ -202,7 +207,15 @@ module _ {pts : List ℤ} {n : ℕ} {ks : List ℕ} {e k l a b u p : ℕ} {s : P
       by (ltb 0 (between (one j) p (m u))) (λ q. from-part j u hu (inr (inr refl)) (ltb-true _ _ q)) λ q.
       by (ltb 0 (between (one j) p (m b))) (λ v. from-part j b hb (inr (inl refl)) (ltb-true _ _ v)) λ v.
       by (ltb 0 (between (one j) p (m a))) (λ z. from-part j a ha (inl refl) (ltb-true _ _ z)) λ z.
-      from-left j (omega (arith, all, some, ltb-false 0 (between (one j) p (m u)) q, ltb-false 0 (between (one j) p (m b)) v, ltb-false 0 (between (one j) p (m a)) z))
+      from-left j (omega (
+        arith,
+        all,
+        some,
+        ltb-false 0 (between (one j) p (m u)) q,
+        ltb-false 0 (between (one j) p (m b)) v,
+        ltb-false 0
+            (between (one j) p (m a)) z,
+      ))
 
   -- every edge is clear, where those of before and those from s are
   module _ (ms : List Macro) (sa : clear s (placeAt pts a) ms ≡ true) (sb : clear s (placeAt pts b) ms ≡ true) (su : clear s (placeAt pts u) ms ≡ true)
@@ -246,4 +259,5 @@ module _ {pts : List ℤ} {n : ℕ} {ks : List ℕ} {e k l a b u p : ℕ} {s : P
   after-lengths =
       let same : over (λ j. keyLength (t .points) (moved j)) (dropTwo e k l ks) e ≡ over (keyLength pts) (dropTwo e k l ks) e
       = below-same _ _ e (λ i h. ap (λ (z : Place × Place). distance (z .0) (z .1)) (moved-ends _ (within-dropped n e k l ks w .ends i))) in
-      omega (arith, after .sums (keyLength (t .points)), over-dropped (keyLength pts) e k l ks hk hl kl, same, length-part a ha, length-part b hb, length-part u hu)
+      let dropped = over-dropped (keyLength pts) e k l ks hk hl kl in
+      omega (arith, after .sums (keyLength (t .points)), dropped, same, length-part a ha, length-part b hb, length-part u hu)

@@ -51,9 +51,17 @@ module _ (pts : List ℤ) (n : ℕ) (ks : List ℕ) (e : ℕ) (whole : joined.Tr
       by (eqb j i) (λ t. sym (eqb-true j i t))
       (λ t.
       let other : j ≡ i → ⊥ = eqb-false j i t in
-      let all : Joins (pointsOf pts n) (U i) = λ x y a b. through (λ v z m. at other v z (of-listing (λ q. endsOf pts (getD ks q 0)) (suc e) (v, z) m)) (whole .joins x y a b) in
+      let all : Joins (pointsOf pts n) (U i) = λ x y a b. through (λ v z m. at other v z
+      (of-listing (λ q. endsOf pts (getD ks q 0)) (suc e) (v, z) m)) (whole .joins x y a b) in
       let few = enough same-place (whole .once) all in
-      absurd (let z : ⊥ = omega (arith, few, whole .size, listing-length (λ q. endsOf pts (getD ks q 0)) (suc e), listing-length (λ q. endsOf pts (getD (closed i e ks) q 0)) e) in z))
+      absurd (let z : ⊥ = omega (
+        arith,
+        few,
+        whole .size,
+        listing-length (λ q. endsOf pts (getD ks q 0)) (suc e),
+        listing-length
+            (λ q. endsOf pts (getD (closed i e ks) q 0)) e,
+      ) in z))
     where
       at : (j ≡ i → ⊥) → (v z : Place) → (q : ℕ) × ((q < suc e) × ((v, z) ≡ endsOf pts (getD ks q 0))) → Joined (U i) v z
       at other v z r =

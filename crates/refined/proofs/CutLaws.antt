@@ -44,7 +44,8 @@ module _ (pts : List ℤ) (n : ℕ) (ks : List ℕ) (e : ℕ) (el : List ℕ) (o
   know : (v y : ℕ) → v < n → y < n → Known pts n ks (suc e) el (reached ks el (suc e) n start) v y
   know = all-known pts n ks (suc e) el o few fewer none (alone pts n ks e whole) w whole
 
-  same-way : (v y : ℕ) (hv : v < n) (hy : y < n) (ps : List Place) → Way T (placeAt pts v) ps (placeAt pts y) → Once (placeAt pts v ∷ ps) → know v y hv hy .points ≡ ps
+  same-way : (v y : ℕ) (hv : v < n) (hy : y < n) (ps : List Place) → Way T (placeAt pts v) ps (placeAt pts y) → Once (placeAt pts v ∷ ps)
+      → know v y hv hy .points ≡ ps
   same-way v y hv hy ps t q = only-way (tree-cuts same-place whole) same-place (know v y hv hy .way) t (know v y hv hy .once) q
 
   -- the longest edge on the way between two points
@@ -79,7 +80,8 @@ module _ (pts : List ℤ) (n : ℕ) (ks : List ℕ) (e : ℕ) (el : List ℕ) (o
     -- the longest on the way to the near point y, where the far one is z
     module _ (y z : ℕ) (hy : y < n) (hz : z < n) (uy : u ≡ y → ⊥) (near : the-way .near ≡ placeAt pts y) (far : the-way .far ≡ placeAt pts z) where
       near-top : Top pts n ks (suc e) el (getD top (key y u) 0) (placeAt pts u) (the-way .free .points)
-      near-top = way-longest u y hu hy (the-way .free .points) (subst (λ (q : Place). Way T (placeAt pts u) (the-way .free .points) q) near (the-way .free .way)) (the-way .free .once)
+      near-top = way-longest u y hu hy (the-way .free .points) (subst (λ (q : Place). Way T (placeAt pts u) (the-way .free .points) q) near
+          (the-way .free .way)) (the-way .free .once)
 
       far-top : Top pts n ks (suc e) el (getD top (key z u) 0) (placeAt pts u) (the-way .free .points ++ (the-way .far ∷ []))
       far-top =
@@ -87,8 +89,10 @@ module _ (pts : List ℤ) (n : ℕ) (ks : List ℕ) (e : ℕ) (el : List ℕ) (o
           (subst (λ (q : Place). Way T (placeAt pts u) (the-way .free .points ++ (the-way .far ∷ [])) q) far (far-way (inl edge) the-way)) (far-once the-way)
 
       -- the way has a step
-      pub near-is : (getD top (key y u) 0 < suc e) × ((c : Place) × ((d : Place) × (((c, d) ∈ steps (placeAt pts u) (the-way .free .points)) × Ends pts n ks (suc e) el (getD top (key y u) 0) c d)))
-      near-is = either (λ q. absurd (uy (order-same pts n u y o hu hy (at (the-way .free .points) (q .0) (the-way .free .way) ∙ near)))) (λ q. q) (near-top .is)
+      pub near-is : (getD top (key y u) 0 < suc e) × ((c : Place) × ((d : Place) ×
+          (((c, d) ∈ steps (placeAt pts u) (the-way .free .points)) × Ends pts n ks (suc e) el (getD top (key y u) 0) c d)))
+      near-is = either (λ q. absurd (uy (order-same pts n u y o hu hy (at (the-way .free .points) (q .0) (the-way .free .way) ∙ near)))) (λ q. q)
+          (near-top .is)
         where
           at : (ps : List Place) → ps ≡ [] → Way T (placeAt pts u) ps (the-way .near) → placeAt pts u ≡ the-way .near
           at [] q (stop f) = f
@@ -98,7 +102,8 @@ module _ (pts : List ℤ) (n : ℕ) (ks : List ℕ) (e : ℕ) (el : List ℕ) (o
       pub near-under : Under el (getD top (key y u) 0) (getD top (key z u) 0)
       near-under =
           let r = near-is in
-          far-top .best (getD top (key y u) 0) (r .0) (r .1 .0) (r .1 .1 .0) (steps-old (placeAt pts u) (the-way .far) _ _ (the-way .free .points) (r .1 .1 .1 .0)) (r .1 .1 .1 .1)
+          far-top .best (getD top (key y u) 0) (r .0) (r .1 .0) (r .1 .1 .0)
+          (steps-old (placeAt pts u) (the-way .far) _ _ (the-way .free .points) (r .1 .1 .1 .0)) (r .1 .1 .1 .1)
 
     -- L
     abbrev cut : ℕ

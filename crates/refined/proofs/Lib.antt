@@ -21,3 +21,5 @@ pub mod ReachedLaws
 pub mod AloneLaws
 pub mod CutLaws
 pub mod WinnerLaws
+pub mod RoundSound
+pub mod RefinedSound

@@ -98,7 +98,8 @@ module _ (pts : List ℤ) (n : ℕ) (ks : List ℕ) (e : ℕ) (el : List ℕ) wh
     top-front x k a b ps h g t = record {
       is =
           by (wins el x k)
-          (λ q. rw (← longer-yes el x k q) (either (λ z. absurd (not-none k x h (z .1) q)) (λ z. inr (z .0, (z .1 .0, (z .1 .1 .0, (there (z .1 .1 .1 .0), z .1 .1 .1 .1))))) (t .is)))
+          (λ q. rw (← longer-yes el x k q) (either (λ z. absurd (not-none k x h (z .1) q))
+          (λ z. inr (z .0, (z .1 .0, (z .1 .1 .0, (there (z .1 .1 .1 .0), z .1 .1 .1 .1))))) (t .is)))
           (λ q. rw (← longer-no el x k q) (inr (h, (a, (b, (here refl, g))))));
       best =
           λ j hj c d m f.
@@ -115,7 +116,20 @@ module _ (pts : List ℤ) (n : ℕ) (ks : List ℕ) (e : ℕ) (el : List ℕ) wh
           by (wins el x k)
           (λ q.
           rw (← longer-yes el x k q)
-          (either (λ y. absurd (not-none k x h (y .1) q)) (λ y. inr (y .0, (y .1 .0, (y .1 .1 .0, (steps-old a z _ _ ps (y .1 .1 .1 .0), y .1 .1 .1 .1))))) (t .is)))
+          (either (λ y. absurd (not-none k x h (y .1) q)) (λ y. inr (
+            y .0,
+            (
+              y .1 .0,
+              (
+                y .1 .1 .0,
+                (
+                  steps-old a z _ _ ps
+                      (y .1 .1 .1 .0),
+                  y .1 .1 .1 .1,
+                ),
+              ),
+            ),
+          )) (t .is)))
           (λ q. rw (← longer-no el x k q) (inr (h, (b, (z, (steps-last z w, g))))));
       best =
           λ j hj c d m f.
@@ -229,11 +243,13 @@ module _ (pts : List ℤ) (n : ℕ) (ks : List ℕ) (e : ℕ) (el : List ℕ) wh
       hung = record {
         room = length-set (r .seen) v 1 ∙ good .room;
         sized = spreads-length el v p k (omega arith) n (r .top) few (good .sized) apart;
-        marks = λ i. by (eqb v i) (λ q. inr (ap (λ (j : ℕ). getD (after .seen) j 0) (sym (eqb-true v i q)) ∙ now-seen .1)) (λ q. either (λ z. inl (other (r .seen) v i 1 (eqb-false v i q) ∙ z)) (λ z. inr (other (r .seen) v i 1 (eqb-false v i q) ∙ z)) (good .marks i));
+        marks = λ i. by (eqb v i) (λ q. inr (ap (λ (j : ℕ). getD (after .seen) j 0) (sym (eqb-true v i q)) ∙ now-seen .1))
+            (λ q. either (λ z. inl (other (r .seen) v i 1 (eqb-false v i q) ∙ z)) (λ z. inr (other (r .seen) v i 1 (eqb-false v i q) ∙ z)) (good .marks i));
         known =
             λ x y s q.
             either
-            (λ a. either (λ b. subst (λ (i : ℕ). Known after i y) (sym a) (subst (λ (i : ℕ). Known after v i) (sym b) v-alone)) (λ b. subst (λ (i : ℕ). Known after i y) (sym a) (v-first y b)) (was-seen y q))
+            (λ a. either (λ b. subst (λ (i : ℕ). Known after i y) (sym a) (subst (λ (i : ℕ). Known after v i) (sym b) v-alone))
+            (λ b. subst (λ (i : ℕ). Known after i y) (sym a) (v-first y b)) (was-seen y q))
             (λ a. either (λ b. subst (λ (i : ℕ). Known after x i) (sym b) (v-last x a)) (λ b. neither x y a b) (was-seen y q))
             (was-seen x s);
         even =

@@ -69,7 +69,18 @@ pushed-high (suc c) i h j r l m =
     pushed-high c (suc i) (push i h) j room k (omega arith) ∙ place-other (h .pts) i j (h .held) (λ e. let y : ⊥ = omega arith in y))
     (λ t. let e : j ≡ i = omega (arith, ltb-false i j t) in rw e (pushed-first c (suc i) (push i h) (omega arith))))
 
+pushed-length : (c i : ℕ) (h : Hand) → length (turns push i c h .pts) ≡ length (h .pts)
+unfolding turns push
+pushed-length zero i h = refl
+pushed-length (suc c) i h = pushed-length c (suc i) (push i h) ∙ length-point (h .pts) i (h .held)
+
 -- The points with s put in
+
+pub opened-length : (pts : List ℤ) (n p : ℕ) (s : Place) → length (opened pts n p s) ≡ length pts
+unfolding opened closing
+opened-length pts n p s =
+    let h = turns push p (n - p) (hand pts s) in
+    length-point (h .pts) n (h .held) ∙ pushed-length (n - p) p (hand pts s)
 
 module _ (pts : List ℤ) (n p : ℕ) (s : Place) (hp : p ≤ n) (room : n * 2 + 2 ≤ length pts) where
   whole : p + (n - p) ≡ n

@@ -23,6 +23,8 @@ use Rattle.plane.specs.Flat.{placeAt}
 use Rattle.plane.proofs.PlaceLaws.{same-refl, before-irrefl}
 use Rattle.joined.specs.Joined.{Link, Alike, Inside}
 use Rattle.joined.specs.Tree as joined
+use Rattle.joined.proofs.JoinedLaws.{firsts, seconds}
+use Rattle.joined.proofs.OtherLaws.{alike-sym, alike-trans}
 use Rattle.joined.proofs.PruneLaws.{prune-tree, prune-inside}
 use Rattle.refined.specs.Turns.{turns, seek}
 use Rattle.refined.specs.Table.{pointBound, firstEnd, secondEnd, Row, Within}
@@ -31,7 +33,8 @@ use Rattle.refined.specs.Prune.{countEnds, loose, looseEdge, firstLoose,
 use Rattle.refined.specs.Sum.{below, over}
 use Rattle.refined.specs.Places.{listing, endsOf, pointsOf, edgesOf, InOrder}
 use Rattle.refined.proofs.WithinLaws.{seek-le, within-closed}
-use Rattle.refined.proofs.SumLaws.{below-at, from, from-below, other, here, one, one-same, one-not, one-some, in-table, of-table, over-closed, closed-at, skip}
+use Rattle.refined.proofs.SumLaws.{below-at, from, from-below, other, here, one, one-same}
+use Rattle.refined.proofs.SumLaws.{one-not, one-some, in-table, of-table, over-closed, closed-at, skip}
 use Rattle.refined.proofs.OpenedLaws.{seek-hit}
 use Rattle.refined.proofs.ListingLaws.{listing-length, in-listing, of-listing}
 use Rattle.refined.proofs.ExchangeSound.{same-place}
@@ -113,32 +116,49 @@ module _ (pts : List ℤ) (n : ℕ) (o : InOrder pts n) (few : n ≤ pointBound)
           by (eqb j (getD ks i 0)) (λ t. inl (r .1 .1 ∙ ap (endsOf pts) (eqb-true _ _ t)))
           (λ t.
           let d = over-closed (one j) i e ks hi in
-          let f = in-table j (closed i e ks) e (omega (arith, d, of-table ks (suc e) (r .0) (r .1 .0), one-not j (getD ks i 0) (λ q. eqb-false _ _ t (sym q)))) in
+          let f = in-table j (closed i e ks) e (omega (
+            arith,
+            d,
+            of-table ks (suc e) (r .0) (r .1 .0),
+            one-not j (getD ks i 0)
+                (λ q. eqb-false _ _ t (sym q)),
+          )) in
           inr (Memᴰ·cast (r .1 .1 ∙ ap (endsOf pts) (sym (f .1 .1))) (in-listing (λ q. endsOf pts (getD (closed i e ks) q 0)) e (f .0) (f .1 .0))))
 
   -- the edge i joins v and another point, and no other edge has v
-  module _ (v z : ℕ) (hv : v < n) (ends : ((v ≡ firstEnd (getD ks i 0)) × (z ≡ secondEnd (getD ks i 0))) ⊎ ((v ≡ secondEnd (getD ks i 0)) × (z ≡ firstEnd (getD ks i 0))))
+  module _ (v z : ℕ) (hv : v < n) (ends : Alike v z (firstEnd (getD ks i 0)) (secondEnd (getD ks i 0)))
       (single : over (endCount v) ks (suc e) ≡ 1) where
-    still : (c d : Place) → Link T c d → Alike c d (placeAt pts v) (placeAt pts z) ⊎ Link U c d
-    still c d (inl m) = either (λ q. inl (forth ends q)) (λ q. inr (inl q)) (kept c d m)
-      where
-        forth : ((v ≡ firstEnd (getD ks i 0)) × (z ≡ secondEnd (getD ks i 0))) ⊎ ((v ≡ secondEnd (getD ks i 0)) × (z ≡ firstEnd (getD ks i 0))) →
-            (c, d) ≡ endsOf pts (getD ks i 0) → Alike c d (placeAt pts v) (placeAt pts z)
-        forth (inl h) q = inl (ap (λ (x : Place × Place). x .0) q ∙ ap (placeAt pts) (sym (h .0)), ap (λ (x : Place × Place). x .1) q ∙ ap (placeAt pts) (sym (h .1)))
-        forth (inr h) q = inr (ap (λ (x : Place × Place). x .0) q ∙ ap (placeAt pts) (sym (h .1)), ap (λ (x : Place × Place). x .1) q ∙ ap (placeAt pts) (sym (h .0)))
-    still c d (inr m) = either (λ q. inl (forth ends q)) (λ q. inr (inr q)) (kept d c m)
-      where
-        forth : ((v ≡ firstEnd (getD ks i 0)) × (z ≡ secondEnd (getD ks i 0))) ⊎ ((v ≡ secondEnd (getD ks i 0)) × (z ≡ firstEnd (getD ks i 0))) →
-            (d, c) ≡ endsOf pts (getD ks i 0) → Alike c d (placeAt pts v) (placeAt pts z)
-        forth (inl h) q = inr (ap (λ (x : Place × Place). x .1) q ∙ ap (placeAt pts) (sym (h .1)), ap (λ (x : Place × Place). x .0) q ∙ ap (placeAt pts) (sym (h .0)))
-        forth (inr h) q = inl (ap (λ (x : Place × Place). x .1) q ∙ ap (placeAt pts) (sym (h .0)), ap (λ (x : Place × Place). x .0) q ∙ ap (placeAt pts) (sym (h .1)))
+    placed : Alike v z (firstEnd (getD ks i 0)) (secondEnd (getD ks i 0))
+        → Alike (placeAt pts v) (placeAt pts z) (placeAt pts (firstEnd (getD ks i 0))) (placeAt pts (secondEnd (getD ks i 0)))
+    placed (inl h) = inl (ap (placeAt pts) (h .0), ap (placeAt pts) (h .1))
+    placed (inr h) = inr (ap (placeAt pts) (h .0), ap (placeAt pts) (h .1))
 
-    own : ((v ≡ firstEnd (getD ks i 0)) × (z ≡ secondEnd (getD ks i 0))) ⊎ ((v ≡ secondEnd (getD ks i 0)) × (z ≡ firstEnd (getD ks i 0))) → 0 < endCount v (getD ks i 0)
+    is-edge : (c d : Place) → (c, d) ≡ endsOf pts (getD ks i 0) → Alike c d (placeAt pts v) (placeAt pts z)
+    is-edge c d q = alike-trans (inl (firsts q, seconds q)) (alike-sym (placed ends))
+
+    swapped : {c d x y : Place} → Alike c d x y → Alike d c x y
+    swapped (inl h) = inr (h .1, h .0)
+    swapped (inr h) = inl (h .1, h .0)
+
+    still : (c d : Place) → Link T c d → Alike c d (placeAt pts v) (placeAt pts z) ⊎ Link U c d
+    still c d (inl m) = either (λ q. inl (is-edge c d q)) (λ q. inr (inl q)) (kept c d m)
+    still c d (inr m) = either (λ q. inl (swapped (is-edge d c q))) (λ q. inr (inr q)) (kept d c m)
+
+    own : Alike v z (firstEnd (getD ks i 0)) (secondEnd (getD ks i 0))
+        → 0 < endCount v (getD ks i 0)
     own (inl h) = let q : one v (firstEnd (getD ks i 0)) ≡ 1 = ap (one v) (sym (h .0)) ∙ one-same v in omega (arith, q)
     own (inr h) = let q : one v (secondEnd (getD ks i 0)) ≡ 1 = ap (one v) (sym (h .0)) ∙ one-same v in omega (arith, q)
 
     no-end : (j : ℕ) → j < e → 0 < endCount v (getD (closed i e ks) j 0) → ⊥
-    no-end j h c = let d = over-closed (endCount v) i e ks hi in omega (arith, d, single, own ends, below-at (λ q. endCount v (getD (closed i e ks) q 0)) e j h, c)
+    no-end j h c = let d = over-closed (endCount v) i e ks hi in omega (
+      arith,
+      d,
+      single,
+      own ends,
+      below-at
+          (λ q. endCount v (getD (closed i e ks) q 0)) e j h,
+      c,
+    )
 
     gone : (y : Place) → Link U (placeAt pts v) y → ⊥
     gone y (inl m) =
@@ -215,7 +235,7 @@ module _ (pts : List ℤ) (n : ℕ) (o : InOrder pts n) (few : n ≤ pointBound)
 
   -- the point v of the edge i goes
   goes : (ks : List ℕ) → Within n ks → (e i : ℕ) → i ≤ e → (v z : ℕ) →
-      ((v ≡ firstEnd (getD ks i 0)) × (z ≡ secondEnd (getD ks i 0))) ⊎ ((v ≡ secondEnd (getD ks i 0)) × (z ≡ firstEnd (getD ks i 0))) →
+      Alike v z (firstEnd (getD ks i 0)) (secondEnd (getD ks i 0)) →
       loose pin (turns (countEnds ks) 0 (suc e) (replicate pointBound 0)) v ≡ true → Held ks (suc e) → Held (closed i e ks) e
   unfolding loose
   goes ks w e i hi v z ends is whole =
@@ -230,14 +250,14 @@ module _ (pts : List ℤ) (n : ℕ) (o : InOrder pts n) (few : n ≤ pointBound)
         pinned = λ y m. either (λ q. absurd (marked v hv free (Memᴰ·cast (sym q) m))) (λ r. r) (rest-or x (whole .pinned y m));
       }
     where
-      low : ((v ≡ firstEnd (getD ks i 0)) × (z ≡ secondEnd (getD ks i 0))) ⊎ ((v ≡ secondEnd (getD ks i 0)) × (z ≡ firstEnd (getD ks i 0))) → v < n
+      low : Alike v z (firstEnd (getD ks i 0)) (secondEnd (getD ks i 0)) → v < n
       low (inl h) = omega (arith, h .0, w .ends i .0)
       low (inr h) = omega (arith, h .0, w .ends i .1)
 
       edge : endsOf pts (getD ks i 0) ∈ edgesOf pts ks (suc e)
       edge = in-listing (λ j. endsOf pts (getD ks j 0)) (suc e) i (omega arith)
 
-      stands : ((v ≡ firstEnd (getD ks i 0)) × (z ≡ secondEnd (getD ks i 0))) ⊎ ((v ≡ secondEnd (getD ks i 0)) × (z ≡ firstEnd (getD ks i 0))) →
+      stands : Alike v z (firstEnd (getD ks i 0)) (secondEnd (getD ks i 0)) →
           placeAt pts v ∈ whole .points
       stands (inl h) = Memᴰ·cast (ap (placeAt pts) (h .0)) (whole .inside _ _ edge .0)
       stands (inr h) = Memᴰ·cast (ap (placeAt pts) (h .0)) (whole .inside _ _ edge .1)

@@ -140,7 +140,8 @@ module _ (pts : List ℤ) (n : ℕ) (ks : List ℕ) (e : ℕ) (el : List ℕ) (o
       (λ t.
       let q : i ≡ j = omega (arith, ltb-false i j t) in
       let two = pass-both i (omega arith) r g (subst (λ (y : ℕ). Has r (firstEnd (getD ks y 0)) ⊎ Has r (secondEnd (getD ks y 0))) (sym q) s) in
-      subst (λ (y : ℕ). Has (turns (pass ks el n) (suc i) c next) (firstEnd (getD ks y 0)) × Has (turns (pass ks el n) (suc i) c next) (secondEnd (getD ks y 0))) q
+      subst (λ (y : ℕ). Has (turns (pass ks el n) (suc i) c next) (firstEnd (getD ks y 0)) × Has (turns (pass ks el n) (suc i) c next)
+      (secondEnd (getD ks y 0))) q
       (keeps c (suc i) next good (omega arith) _ (two .0), keeps c (suc i) next good (omega arith) _ (two .1)))
 
   abbrev sweep : ℕ → Reach → Reach
@@ -182,15 +183,18 @@ module _ (pts : List ℤ) (n : ℕ) (ks : List ℕ) (e : ℕ) (el : List ℕ) (o
   begin h = record {
     room = length-set zeros 0 1 ∙ same-length pointBound 0;
     sized = same-length pairBound noEdge;
-    marks = λ i. by (eqb 0 i) (λ q. inr (ap (λ (j : ℕ). getD (set zeros 0 1) j 0) (sym (eqb-true 0 i q)))) (λ q. inl (other zeros 0 i 1 (eqb-false 0 i q) ∙ zero-entry pointBound i));
-    known = λ x y s q. subst (λ (i : ℕ). Known pts n ks e el start i y) (sym (only x (s .1))) (subst (λ (i : ℕ). Known pts n ks e el start 0 i) (sym (only y (q .1))) first);
+    marks = λ i. by (eqb 0 i) (λ q. inr (ap (λ (j : ℕ). getD (set zeros 0 1) j 0) (sym (eqb-true 0 i q))))
+        (λ q. inl (other zeros 0 i 1 (eqb-false 0 i q) ∙ zero-entry pointBound i));
+    known = λ x y s q. subst (λ (i : ℕ). Known pts n ks e el start i y) (sym (only x (s .1)))
+        (subst (λ (i : ℕ). Known pts n ks e el start 0 i) (sym (only y (q .1))) first);
     even = λ x y s q. ap₂ (λ (i j : ℕ). getD (start .top) (key i j) 0) (only x (s .1) ∙ sym (only y (q .1))) (only y (q .1) ∙ sym (only x (s .1)));
   }
     where
       only : (i : ℕ) → Has start i → i ≡ 0
       only i s =
           by (eqb 0 i) (λ q. sym (eqb-true 0 i q))
-          (λ q. absurd (let z : getD (set zeros 0 1) i 0 ≡ 0 = other zeros 0 i 1 (eqb-false 0 i q) ∙ zero-entry pointBound i in let y : ⊥ = omega (arith, s, z) in y))
+          (λ q. absurd (let z : getD (set zeros 0 1) i 0 ≡ 0 = other zeros 0 i 1 (eqb-false 0 i q) ∙ zero-entry pointBound i in let y : ⊥ = omega
+          (arith, s, z) in y))
 
       first : Known pts n ks e el start 0 0
       first = record {

@@ -32,17 +32,20 @@ low-part a b c d h i e = omega arith
 
 module _ (el : List ℕ) (v p k : ℕ) (hv : v < pointBound) where
   -- ways middlePlace other points stay
-  still : (w : ℕ) (t : List ℕ) (x y : ℕ) → w < pointBound → y < pointBound → (v ≡ x → ⊥) → (v ≡ y → ⊥) → getD (spread el v p k w t) (key x y) 0 ≡ getD t (key x y) 0
+  still : (w : ℕ) (t : List ℕ) (x y : ℕ) → w < pointBound → y < pointBound → (v ≡ x → ⊥) → (v ≡ y → ⊥)
+      → getD (spread el v p k w t) (key x y) 0 ≡ getD t (key x y) 0
   unfolding spread
   still w t x y hw hy nx ny =
       let z = longer el (getD t (key p w) 0) k in
       other (set t (key v w) z) (key w v) (key x y) z (λ e. ny (low-part w v x y hv hy e)) ∙ other t (key v w) (key x y) z (apart v w x y hw hy nx)
 
-  pub untouched : (n : ℕ) (t : List ℕ) (x y : ℕ) → n ≤ pointBound → y < pointBound → (v ≡ x → ⊥) → (v ≡ y → ⊥) → getD (spreads el n v p k t) (key x y) 0 ≡ getD t (key x y) 0
+  pub untouched : (n : ℕ) (t : List ℕ) (x y : ℕ) → n ≤ pointBound → y < pointBound → (v ≡ x → ⊥) → (v ≡ y → ⊥)
+      → getD (spreads el n v p k t) (key x y) 0 ≡ getD t (key x y) 0
   unfolding spreads
   untouched n t x y h hy nx ny =
       other (turns (spread el v p k) 0 n t) (key v v) (key x y) noEdge (apart v v x y hv hy nx)
-      ∙ turns-below (spread el v p k) (λ s. getD s (key x y) 0 ≡ getD t (key x y) 0) pointBound (λ w s hw q. still w s x y hw hy nx ny ∙ q) n 0 t (omega arith) refl
+      ∙ turns-below (spread el v p k) (λ s. getD s (key x y) 0 ≡ getD t (key x y) 0) pointBound (λ w s hw q. still w s x y hw hy nx ny ∙ q) n 0 t
+      (omega arith) refl
 
   -- the row of v: as from p, or the new edge
   -- once a turn has written v's entry for y, later turns leave it
@@ -55,7 +58,8 @@ module _ (el : List ℕ) (v p k : ℕ) (hv : v < pointBound) where
       ∙ other (set t (key v i) x) (key i v) (key v y) x (λ e. ny (low-part i v v y hv (omega arith) e))
       ∙ other t (key v i) (key v y) x (λ e. let q : i ≡ y = low-part v i v y (omega arith) (omega arith) e in let z : ⊥ = omega arith in z)
 
-  pub row-of : (n i : ℕ) (t : List ℕ) (y : ℕ) → i + n ≤ pointBound → length t ≡ pairBound → (v ≡ p → ⊥) → (v ≡ y → ⊥) → i ≤ y → y < i + n → getD (turns (spread el v p k) i n t) (key v y) 0 ≡ longer el (getD t (key p y) 0) k
+  pub row-of : (n i : ℕ) (t : List ℕ) (y : ℕ) → i + n ≤ pointBound → length t ≡ pairBound → (v ≡ p → ⊥) → (v ≡ y → ⊥) → i ≤ y → y < i + n
+      → getD (turns (spread el v p k) i n t) (key v y) 0 ≡ longer el (getD t (key p y) 0) k
   unfolding turns spread
   row-of zero i t y b l np ny h g = absurd (let z : ⊥ = omega arith in z)
   row-of (suc n) i t y b l np ny h g = pick (λ j. row-of n (suc i) next y (omega arith) (sized ∙ l) np ny (omega arith) (omega arith)) (decLe y i)
@@ -69,7 +73,8 @@ module _ (el : List ℕ) (v p k : ℕ) (hv : v < pointBound) where
       sized : length next ≡ length t
       sized = length-set (set t (key v i) x) (key i v) x ∙ length-set t (key v i) x
 
-      pick : (i < y → getD (turns (spread el v p k) (suc i) n next) (key v y) 0 ≡ longer el (getD next (key p y) 0) k) → Dec (y ≤ i) → getD (turns (spread el v p k) (suc i) n next) (key v y) 0 ≡ longer el (getD t (key p y) 0) k
+      pick : (i < y → getD (turns (spread el v p k) (suc i) n next) (key v y) 0 ≡ longer el (getD next (key p y) 0) k) → Dec (y ≤ i)
+          → getD (turns (spread el v p k) (suc i) n next) (key v y) 0 ≡ longer el (getD t (key p y) 0) k
       pick ih (yes d) =
           let e : i ≡ y = omega arith in
           settled n (suc i) next y (omega arith) (omega arith) ny
@@ -78,7 +83,8 @@ module _ (el : List ℕ) (v p k : ℕ) (hv : v < pointBound) where
       pick ih (no d) =
           let j : i < y = omega arith in
           ih j
-          ∙ ap (λ (z : ℕ). longer el z k) (other (set t (key v i) x) (key i v) (key p y) x (λ f. ny (low-part i v p y hv (omega arith) f)) ∙ other t (key v i) (key p y) x (apart v i p y (omega arith) (omega arith) np))
+          ∙ ap (λ (z : ℕ). longer el z k) (other (set t (key v i) x) (key i v) (key p y) x (λ f. ny (low-part i v p y hv (omega arith) f)) ∙ other t
+          (key v i) (key p y) x (apart v i p y (omega arith) (omega arith) np))
 
   -- the column of v, in the same way
   settled-column : (n i : ℕ) (t : List ℕ) (y : ℕ) → i + n ≤ pointBound → y < i → (v ≡ y → ⊥) →

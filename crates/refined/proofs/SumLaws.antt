@@ -60,7 +60,8 @@ from-last f (suc n) i =
 pub from-below : (f : ℕ → ℕ) (n : ℕ) → from f 0 n ≡ below f n
 unfolding from below
 from-below f zero = refl
-from-below f (suc n) = let z : 0 + n ≡ n = omega arith in let r : from f 0 (suc n) ≡ f n + from f 0 n = rw z at (from-last f n 0) in omega (arith, r, from-below f n)
+from-below f (suc n) = let z : 0 + n ≡ n = omega arith in let r : from f 0 (suc n) ≡ f n + from f 0 n = rw z at (from-last f n 0) in omega
+    (arith, r, from-below f n)
 
 from-same : (f g : ℕ → ℕ) (n i : ℕ) → ((j : ℕ) → i ≤ j → f j ≡ g j) → from f i n ≡ from g i n
 unfolding from
@@ -166,7 +167,8 @@ from-carrying g (suc n) i q xs h =
     (λ t. rw (carrying, t) (swapped (from-carrying g n (suc i) (getD xs i 0) (set xs i q) (rw (length-set xs i q) (omega arith)))))
     (λ t. rw (carrying, t) (stayed (from-carrying g n (suc i) q xs (omega arith))))
   where
-    swapped : from (λ j. g (getD (carrying (suc i) n (getD xs i 0) (set xs i q)) j 0)) (suc i) (suc n) ≡ g (getD xs i 0) + from (λ j. g (getD (set xs i q) j 0)) (suc i) n
+    swapped : from (λ j. g (getD (carrying (suc i) n (getD xs i 0) (set xs i q)) j 0)) (suc i) (suc n) ≡ g (getD xs i 0) + from
+        (λ j. g (getD (set xs i q) j 0)) (suc i) n
         → from (λ j. g (getD (carrying (suc i) n (getD xs i 0) (set xs i q)) j 0)) i (suc (suc n)) ≡ g q + from (λ j. g (getD xs j 0)) i (suc n)
     swapped b =
         let x = getD xs i 0 in
@@ -199,7 +201,8 @@ over-lay g p a r h =
     (λ t. rw (lay, between, t) (ap (over g (carrying 0 (r .size) (key p a) (r .keys))) (add-one (r .size)) ∙ over-carrying g (r .size) (key p a) (r .keys) h))
     (λ t.
     by (ltb a p)
-    (λ s. rw (lay, between, t, s) (ap (over g (carrying 0 (r .size) (key a p) (r .keys))) (add-one (r .size)) ∙ over-carrying g (r .size) (key a p) (r .keys) h))
+    (λ s. rw (lay, between, t, s) (ap (over g (carrying 0 (r .size) (key a p) (r .keys))) (add-one (r .size)) ∙ over-carrying g (r .size) (key a p)
+    (r .keys) h))
     (λ s. rw (lay, between, t, s) (omega arith)))
 
 length-carrying : (i n q : ℕ) (xs : List ℕ) → length (carrying i n q xs) ≡ length xs

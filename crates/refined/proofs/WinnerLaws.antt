@@ -81,7 +81,8 @@ module _ (ms : List Macro) (pts : List ℤ) (n : ℕ) (ks : List ℕ) (e : ℕ) 
       (λ g. absurd (let z : ⊥ = omega arith in z))
 
 pub found-wins : (ms : List Macro) (pts : List ℤ) (n : ℕ) (ks : List ℕ) (e : ℕ) → 0 < found ms pts n ks e .gain →
-    Winner ms pts n ks e (lengths pts ks e) (longest ks (lengths pts ks e) e n) (found ms pts n ks e .gain) (found ms pts n ks e .edge) (found ms pts n ks e .point)
+    Winner ms pts n ks e (lengths pts ks e) (longest ks (lengths pts ks e) e n) (found ms pts n ks e .gain) (found ms pts n ks e .edge)
+    (found ms pts n ks e .point)
     (found ms pts n ks e .cut)
 unfolding found
 found-wins ms pts n ks e h = search-wins ms pts n ks e (lengths pts ks e) (longest ks (lengths pts ks e) e n) h
@@ -102,7 +103,8 @@ measured-at pts ks (suc c) i el j b h l =
   where
     before : (c i : ℕ) (el : List ℕ) (j : ℕ) → j < i → getD (turns (measure pts ks) i c el) j 0 ≡ getD el j 0
     before zero i el j h = refl
-    before (suc c) i el j h = before c (suc i) (set el i (edgeLength pts ks i)) j (omega arith) ∙ other el i j (edgeLength pts ks i) (λ q. let z : ⊥ = omega arith in z)
+    before (suc c) i el j h = before c (suc i) (set el i (edgeLength pts ks i)) j (omega arith)
+        ∙ other el i j (edgeLength pts ks i) (λ q. let z : ⊥ = omega arith in z)
 
 zeros-length : (m : ℕ) → length (replicate {A = ℕ} m 0) ≡ m
 zeros-length zero = refl

@@ -31,6 +31,18 @@
 --   Refined    rounds, pruned, refined     at most m rounds, then pruning
 --              metal                       the sum of edge lengths
 --              Answer                      what the tables and the answer hold when a tree is refined
+--   Sum        over g xs n                 the sum of g over the first n entries of a table
+--   Places     pointsOf, edgesOf           the points and the edges of a tree as places
+--              Sound                       a tree over its points in order, with all pins and every edge clear
+--              Taken                       what is known of a candidate that a round takes
+--   Promise    metalOf, Promise            the sum of edge lengths; what is promised of a refined tree
+--
+-- THE THEOREMS, in the order of their proof.
+--   CutLaws        cut-is              `cutOf` is the longest edge, the smallest on a tie, of the way to whichever end is met first
+--   ExchangeSound  laid-sound          a round keeps `Sound`;  laid-lengths: the total falls by the gain
+--   RoundSound     rounds-kept         so do the rounds, each with at most one point more;  metal-of: the contract's sum is `metalOf`
+--   PruneSound     prune-whole         pruning keeps a tree with all pins;  pruned-over: it raises no sum
+--   RefinedSound   refined-promise     the refined tree of a sound tree keeps `Promise`
 pub mod Turns
 pub mod Table
 pub mod Longest
@@ -40,3 +52,4 @@ pub mod Prune
 pub mod Refined
 pub mod Sum
 pub mod Places
+pub mod Promise

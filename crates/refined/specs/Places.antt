@@ -46,7 +46,8 @@ pub record Sound (ms : List Macro) (pins : List Place) (t : Tree) : Type 0 where
   pub ordered : InOrder (t .points) (t .count)
   pub within : Within (t .count) (t .edges .keys)
   pub whole : joined.Tree (pointsOf (t .points) (t .count)) (edgesOf (t .points) (t .edges .keys) (t .edges .size))
-  pub free : (i : ℕ) → i < t .edges .size → clear (endsOf (t .points) (getD (t .edges .keys) i 0) .0) (endsOf (t .points) (getD (t .edges .keys) i 0) .1) ms ≡ true
+  pub free : (i : ℕ) → i < t .edges .size → clear (endsOf (t .points) (getD (t .edges .keys) i 0) .0)
+      (endsOf (t .points) (getD (t .edges .keys) i 0) .1) ms ≡ true
   pub pinned : Among pins (pointsOf (t .points) (t .count))
 
 -- what is known of a candidate that a round takes: edge and L are two edges, u is a third point that sees the edge, the candidate is not

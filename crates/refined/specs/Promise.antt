@@ -1,0 +1,27 @@
+-- What is promised of a refined tree, in document 01's words.
+use mathlib.Core.Path.{_≡_}
+use mathlib.Core.Bool.{true}
+use mathlib.Core.List.{List}
+use Prim.Native.Nat.{ℕ, _+_, _≤_, _<_}
+use lib.ListN.{length, getD}
+use Rattle.plane.specs.declared.Place.{Place}
+use Rattle.plane.specs.declared.Macro.{Macro}
+use Rattle.plane.specs.Macro.{clear}
+use Rattle.joined.specs.OneTree.{OneTree}
+use Rattle.refined.specs.Table.{Tree}
+use Rattle.refined.specs.Sum.{over}
+use Rattle.refined.specs.Places.{endsOf, edgesOf, keyLength}
+
+-- "Metal to lay is the sum of edge lengths"
+abbrev pub metalOf : Tree → ℕ
+metalOf t = over (keyLength (t .points)) (t .edges .keys) (t .edges .size)
+
+-- what is promised of the tree r that refines the tree t
+pub record Promise (ms : List Macro) (pins : List Place) (t r : Tree) : Type 0 where
+  -- "exactly one loop-free way along its edges leads from each point to each other one"
+  pub one : OneTree pins (edgesOf (r .points) (r .edges .keys) (r .edges .size))
+  -- "the two ends of each edge are clear of each other"
+  pub free : (i : ℕ) → i < r .edges .size → clear (endsOf (r .points) (getD (r .edges .keys) i 0) .0)
+      (endsOf (r .points) (getD (r .edges .keys) i 0) .1) ms ≡ true
+  pub total : metalOf r ≤ metalOf t
+  pub points : r .count ≤ t .count + length pins
