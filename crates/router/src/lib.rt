@@ -1,4 +1,5 @@
-// The published operations of the router. Each takes any lists and any lent space and answers; none has a `requires`.
+// The published operations of the router, each a `pub fn`. Each takes any lists and any lent space and answers, with nothing asked of the
+// caller. A private function that goes on with an allowed net may ask for what the check has shown.
 //
 // A contract says the answer, in document 01's terms, as an equation with its definition, and what each lent list then holds.
 use net::Checked;
