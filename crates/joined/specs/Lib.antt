@@ -24,7 +24,8 @@
 -- WHAT IS ASKED, each in one record or name: `Discrete A`, where two points must be told apart; `Cost d`; `Offered` and `Dominated`, what
 -- Kruskal's choice needs of the bridges; `Hangs`, what the union of the kept paths must look like.
 --
--- IN THE DOCUMENT'S WORDS (Chain.antt, OneTree.antt, Keep.antt, Exchange.antt)
+-- IN THE DOCUMENT'S WORDS (Path.antt, Chain.antt, OneTree.antt, Keep.antt, Exchange.antt)
+--   TerminalPath L pins       a loop-free path along L between different pins, with no pin inside
 --   Chain ends x bs y         a chain of the paths bs leads from x to y
 --   Joining ends pins J       a chain of paths of J leads from each pin to each other
 --   OurWay ends K x y bs      bs is the chain of kept paths from x to y with no path twice
@@ -72,6 +73,7 @@ pub mod Labels
 pub mod Light
 pub mod Keep
 pub mod Table
+pub mod Path
 pub mod Chain
 pub mod Exchange
 pub mod Graft

@@ -34,6 +34,15 @@ impl Net {
 
     // A coordinate lies between this and its negative.
     pub const COORDINATE: i32 = 1000000;
+
+    // Points of the graph: the pins and four corners of each macro.
+    pub const POINTS: usize = 320;
+
+    // Edges of the graph: each point picks at most four.
+    pub const EDGES: usize = 1280;
+
+    // Points of the refined tree: each round brings at most one more.
+    pub const TREE_POINTS: usize = 384;
 }
 
 // Why an operation refuses; `number` in specs/Answer.antt has document 01's number of each.

@@ -23,6 +23,7 @@ use Rattle.joined.specs.Way.{Way, stop, go, long, turned}
 use Rattle.joined.specs.Tree.{Tree}
 use Rattle.joined.specs.Light.{Rising, light}
 use Rattle.joined.specs.Keep.{Offered, Dominated, kept}
+use Rattle.joined.specs.Path.{TerminalPath, endsOf, lengthOf}
 use Rattle.joined.specs.Chain.{Chain, Joining, OurWay}
 use Rattle.joined.proofs.JoinedLaws.{turn, one as one-link, then, back, between, firsts, seconds, more}
 use Rattle.joined.proofs.WayLaws.{joined-way, way-more, turned-way, turned-long, turned-once, of-turned-way}
@@ -36,7 +37,7 @@ use Rattle.terminal.specs.Labels.{Labels, far, root, labelled}
 use Rattle.terminal.specs.Parents.{Parents, parented, way}
 use Rattle.terminal.specs.Bridges.{oneRoot, sameRoot, rootsOf, path as pathEdges, pathLength, weights, earlier, bridgesFrom, bridges}
 use Rattle.terminal.specs.Kept.{keptBridges, keptLengths, terminal}
-use Rattle.terminal.specs.Setting.{ends, pairs, Setting, Whole, TerminalPath, endsOf, lengthOf}
+use Rattle.terminal.specs.Setting.{ends, pairs, Setting, Whole}
 use Rattle.terminal.proofs.EdgeLaws.{in-from, getD-from, length-from}
 use Rattle.terminal.proofs.WayLaws.{path-parts}
 use Rattle.terminal.proofs.BridgeLaws.{earlier-le, earlier-order, of-bridges, bridges-ascending}
@@ -63,7 +64,7 @@ module _ {g : Graph} {n : ℕ} {d : ℕ → ℕ → ℕ} {pins : List ℕ} (s : 
 
   -- "root, way, bridge, way, root"
   pub record Stands (k : ℕ) : Type 0 where
-    pub path : TerminalPath g pins
+    pub path : TerminalPath (pairs g) pins
     pub start-is : path .start ≡ root T (one g k)
     pub finish-is : path .finish ≡ root T (two g k)
     -- it runs along the edges that make up its length
@@ -285,11 +286,11 @@ module _ {g : Graph} {n : ℕ} {d : ℕ → ℕ → ℕ} {pins : List ℕ} (s : 
   pub way-only : {x y : ℕ} {js ks : List ℕ} → OurWay (rootsOf g T) K x y js → OurWay (rootsOf g T) K x y ks → js ≡ ks
   way-only u v = our-way-one ℕ-discrete (rootsOf g T) weight offered (rw kept-is at u) (rw kept-is at v)
 
-  terminal-dominated : (c : TerminalPath g pins) → Dominated (rootsOf g T) weight L (endsOf c) (lengthOf d c)
+  terminal-dominated : (c : TerminalPath (pairs g) pins) → Dominated (rootsOf g T) weight L (endsOf c) (lengthOf d c)
   terminal-dominated c = dominated (c .way) (c .start-pin) (c .finish-pin)
 
   -- no joining is shorter than the total that we give, every path counted in full
-  pub none-shorter : (J : List (TerminalPath g pins)) → Joining endsOf pins J → terminal g n pins .total ≤ total (map (lengthOf d) J)
+  pub none-shorter : (J : List (TerminalPath (pairs g) pins)) → Joining endsOf pins J → terminal g n pins .total ≤ total (map (lengthOf d) J)
   unfolding terminal keptLengths
   none-shorter J h =
       let r = no-shorter ℕ-discrete (rootsOf g T) weight offered endsOf (lengthOf d) terminal-dominated J h in
@@ -297,7 +298,7 @@ module _ {g : Graph} {n : ℕ} {d : ℕ → ℕ → ℕ} {pins : List ℕ} (s : 
       omega arith
 
   -- between two different pins, the longest path of a chain of terminal paths is at least as long as the longest on our way
-  pub none-lower : {x y : ℕ} → (x ≡ y → ⊥) → {ks : List ℕ} → OurWay (rootsOf g T) K x y ks → {cs : List (TerminalPath g pins)} → Chain endsOf x cs y →
+  pub none-lower : {x y : ℕ} → (x ≡ y → ⊥) → {ks : List ℕ} → OurWay (rootsOf g T) K x y ks → {cs : List (TerminalPath (pairs g) pins)} → Chain endsOf x cs y →
       most (map weight ks) ≤ most (map (lengthOf d) cs)
   none-lower e u c =
       no-longer ℕ-discrete (rootsOf g T) weight offered endsOf (lengthOf d) terminal-dominated e (rw kept-is at u) c

@@ -1,16 +1,17 @@
--- The bounds of the router's own tables: here for the definitions, and as constants for the code. The proofs fail where the two differ.
+-- The bounds of the router's own tables, those of `Net`; and numbers that no length reaches.
 use Prim.Native.Nat.{ℕ}
+use Rattle.net.specs.Bounds as net
 
 -- "tables of up to 320 points and 1,280 edges are the router's own"
 abbrev pub pointBound : ℕ
-pointBound = 320
+pointBound = net.pointBound
 
 abbrev pub edgeBound : ℕ
-edgeBound = 1280
+edgeBound = net.edgeBound
 
 -- "There are 1 to 64 pins"
 abbrev pub pinBound : ℕ
-pinBound = 64
+pinBound = net.pinBound
 
 -- the length of an edge at most: the distance of two places of the die
 abbrev pub lengthBound : ℕ

@@ -26,7 +26,6 @@
 --   Kept       keptBridges g t p, keptLengths       the kept ones in the order kept, and the lengths of their paths
 --              terminal g n pins                    all of it, with the total
 --   Setting    Setting g n d pins, Whole g n pins   what the theorems suppose: lengths by d, vertices below n; joined, with a pin
---              TerminalPath g pins                  "a loop-free path of the graph whose two ends are different pins .."
 pub mod Bounds
 pub mod Edges
 pub mod Labels

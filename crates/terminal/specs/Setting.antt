@@ -1,11 +1,9 @@
--- What the theorems suppose of a graph with pins, and terminal paths in document 01's words.
+-- What the theorems suppose of a graph with pins.
 use mathlib.Core.Path.{_≡_}
-use mathlib.Core.Logic.{_⊎_}
-use mathlib.Core.List.{List, _∷_, map}
+use mathlib.Core.List.{List, map}
 use Prim.Native.Nat.{ℕ, _≤_, _<_}
 use Rattle.lists.specs.Member.{_∈_, Once}
 use Rattle.joined.specs.Joined.{Joined}
-use Rattle.joined.specs.Way.{Way, long}
 use Rattle.terminal.specs.Bounds.{pointBound, edgeBound, lengthBound}
 use Rattle.terminal.specs.Edges.{Graph, one, two, len, from}
 
@@ -34,24 +32,3 @@ pub record Whole (g : Graph) (n : ℕ) (pins : List ℕ) : Type 0 where
   pub pin : ℕ
   pub is-pin : pin ∈ pins
   pub once : Once pins
-
--- "A terminal path is a loop-free path of the graph whose two ends are different pins and whose inner vertices are no pins"
-pub record TerminalPath (g : Graph) (pins : List ℕ) : Type 0 where
-  pub start : ℕ
-  pub finish : ℕ
-  -- the vertices on it after the first one
-  pub points : List ℕ
-  pub way : Way (pairs g) start points finish
-  pub once : Once (start ∷ points)
-  pub start-pin : start ∈ pins
-  pub finish-pin : finish ∈ pins
-  pub apart : start ≡ finish → ⊥
-  pub inner : (v : ℕ) → v ∈ (start ∷ points) → v ∈ pins → (v ≡ start) ⊎ (v ≡ finish)
-
-module _ {g : Graph} {pins : List ℕ} where
-  abbrev pub endsOf : TerminalPath g pins → ℕ × ℕ
-  endsOf c = (c .start, c .finish)
-
-  -- the sum over its edges
-  abbrev pub lengthOf : (ℕ → ℕ → ℕ) → TerminalPath g pins → ℕ
-  lengthOf d c = long d (c .start) (c .points)

@@ -1,0 +1,28 @@
+-- Terminal paths: document 01, "Terminal tree". The graph is a list of pairs of points, and some of the points are pins.
+use mathlib.Core.Path.{_≡_}
+use mathlib.Core.Logic.{_⊎_}
+use mathlib.Core.List.{List, _∷_}
+use Prim.Native.Nat.{ℕ}
+use Rattle.lists.specs.Member.{_∈_, Once}
+use Rattle.joined.specs.Way.{Way, long}
+
+-- "A terminal path is a loop-free path of the graph whose two ends are different pins and whose inner vertices are no pins"
+pub record TerminalPath {A : Type 0} (L : List (A × A)) (pins : List A) : Type 0 where
+  pub start : A
+  pub finish : A
+  -- the points on it after the first one
+  pub points : List A
+  pub way : Way L start points finish
+  pub once : Once (start ∷ points)
+  pub start-pin : start ∈ pins
+  pub finish-pin : finish ∈ pins
+  pub apart : start ≡ finish → ⊥
+  pub inner : (v : A) → v ∈ (start ∷ points) → v ∈ pins → (v ≡ start) ⊎ (v ≡ finish)
+
+module _ {A : Type 0} {L : List (A × A)} {pins : List A} where
+  abbrev pub endsOf : TerminalPath L pins → A × A
+  endsOf c = (c .start, c .finish)
+
+  -- the sum over its edges
+  abbrev pub lengthOf : (A → A → ℕ) → TerminalPath L pins → ℕ
+  lengthOf d c = long d (c .start) (c .points)
