@@ -1,0 +1,16 @@
+-- Places by their numbers, and back: the one room where the graph of places meets the tables of the terminal tree.
+--
+-- Vertices are in order, so that the number of a vertex is how many come before it: the order of numbers is the order of places, and the
+-- order of edge numbers the order of edges. Everything is a function of the vertices, the edges and the pins in order, so that the order of
+-- a net's lists is forgotten before the first number is given.
+--
+--   Number     numberOf vs p, vertexAt vs i         the number of a vertex; the vertex of a number
+--              edgeAt es k                          the edge of a number
+--              numbered vs es                       the graph by numbers, in the router's tables
+--              pinNumbers vs ps                     the pins by numbers, in order
+--   Tree       treeOf ps ms                         the terminal tree of a net, by numbers
+--              bridgesOf, lengthsOf, totalOf        its kept bridges as edges, the lengths of their paths, their sum
+--              pathsOf ps ms, pathNumbers           bridge and length of each kept path; the five numbers that are given for it
+--              rootOf ps ms v, rootsOf ps ms b      the root of a vertex; the two pins that a bridge's path joins
+pub mod Number
+pub mod Tree
