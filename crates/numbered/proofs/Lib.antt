@@ -1,2 +1,4 @@
 pub mod NumberLaws
 pub mod SettingOf
+pub mod CrossingLaws
+pub mod BestJoiningLaws

@@ -12,5 +12,10 @@
 --              bridgesOf, lengthsOf, totalOf        its kept bridges as edges, the lengths of their paths, their sum
 --              pathsOf ps ms, pathNumbers           bridge and length of each kept path; the five numbers that are given for it
 --              rootOf ps ms v, rootsOf ps ms b      the root of a vertex; the two pins that a bridge's path joins
+--   Demand     Kept, keptEnds ps ms k               a kept path, bridge and length; the two pins that it joins
+--              PathOf ps ms                         a terminal path of the net's graph
+--              Stands ps ms b l                     the bridge b stands for a terminal path of length l
+--              BestJoining ps ms                    the kept paths are a joining, and none is shorter or has a shorter longest path
 pub mod Number
 pub mod Tree
+pub mod Demand
