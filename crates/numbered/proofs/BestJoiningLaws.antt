@@ -2,17 +2,18 @@
 -- our paths and our way from numbers to places, the joinings and chains that they are compared with from places to numbers.
 -- Assumes nothing.
 use mathlib.Core.Path.{_≡_, refl, sym, ap, ap₂, _∙_, subst}
-use mathlib.Core.List.{List, map}
+use mathlib.Core.List.{List, _∷_, map}
 use Prim.Native.Nat.{ℕ, suc, _≤_}
 use native.Mathlib.Omega.{arith}
 use lib.ListN.{length, length-map}
 use Rattle.lists.specs.Member.{_∈_}
 use Rattle.lists.specs.Total.{total, most}
 use Rattle.lists.proofs.MapLaws.{in-map, map-then, map-undone, mapIn, mapIn-then}
+use Rattle.joined.specs.Way.{turned}
 use Rattle.joined.specs.Path.{TerminalPath, endsOf, lengthOf}
 use Rattle.joined.specs.Chain.{Chain, Joining, OurWay}
 use Rattle.joined.proofs.ChainLaws.{joining-joins, joins-joining}
-use Rattle.joined.proofs.CarriedLaws.{same-point, path-carried, start-carried, finish-carried, step-carried}
+use Rattle.joined.proofs.CarriedLaws.{turned-carried, same-point, path-carried, start-carried, finish-carried, points-carried, step-carried}
 use Rattle.joined.proofs.CarriedLaws.{Follows, chain-carried, joining-carried, our-way-carried, chain-ends}
 use Rattle.plane.specs.declared.Place.{Place}
 use Rattle.plane.specs.declared.Macro.{Macro}
@@ -20,6 +21,7 @@ use Rattle.plane.specs.Distance.{distance}
 use Rattle.plane.proofs.PlaceOrder.{place-same}
 use Rattle.net.specs.Allowed.{Allowed}
 use Rattle.graph.specs.Vertices.{vertices}
+use Rattle.terminal.specs.Edges.{one, two}
 use Rattle.terminal.specs.Bridges.{rootsOf as rootsBy}
 use Rattle.terminal.specs.Kept.{terminal, keptLengths}
 use Rattle.terminal.specs.Setting.{pairs}
@@ -27,11 +29,13 @@ use Rattle.terminal.proofs.WholeLaws.{of-kept}
 use Rattle.terminal.proofs.OurTree.{kept-stands, kept-joining, way-between, way-only, none-shorter, none-lower}
 use Rattle.numbered.specs.Number.{numberOf, vertexAt, edgeAt}
 use Rattle.numbered.specs.Tree.{spanning, treeOf, bridgesOf, lengthsOf, pathsOf, totalOf, rootsOf}
+use Rattle.numbered.specs.Roots.{WayUp}
 use Rattle.numbered.specs.Demand.{Kept, PathOf, keptEnds, Stands, BestJoining}
-use Rattle.numbered.proofs.SettingOf.{between-numbers, one-vertex, two-vertex, setting, whole, paths-count}
+use Rattle.numbered.proofs.SettingOf.{between-numbers, edge-in, one-vertex, two-vertex, setting, whole, paths-count}
 use Rattle.numbered.proofs.CrossingLaws.{G, pins, T, P, to-places, to-numbers, length-by-places, length-by-numbers}
 use Rattle.numbered.proofs.CrossingLaws.{kept, weight, given, bridgeNumber, number-given, given-in, of-given, given-follows}
 use Rattle.numbered.proofs.CrossingLaws.{number-in, given-number, number-follows}
+use Rattle.numbered.proofs.RootLaws.{wayPlaces, way-up}
 
 module _ {ps : List Place} {ms : List Macro} (a : Allowed ps ms) where
   -- What is given for a kept path
@@ -63,6 +67,15 @@ module _ {ps : List Place} {ms : List Macro} (a : Allowed ps ms) where
         path = path-carried (to-places a) (s .path);
         start-is = start-carried (to-places a) (s .path) ∙ ap (vertexAt (vertices ps ms)) (s .start-is) ∙ sym (f .0);
         finish-is = finish-carried (to-places a) (s .path) ∙ ap (vertexAt (vertices ps ms)) (s .finish-is) ∙ sym (f .1);
+        is-edge = edge-in a k h;
+        first-way = wayPlaces a (one (G a) k);
+        first-up = subst (λ (u : Place). WayUp ps ms u (wayPlaces a (one (G a) k))) (one-vertex a k h) (way-up a _ (setting a .one-in k h));
+        second-way = wayPlaces a (two (G a) k);
+        second-up = subst (λ (u : Place). WayUp ps ms u (wayPlaces a (two (G a) k))) (two-vertex a k h) (way-up a _ (setting a .two-in k h));
+        points-are =
+            points-carried (to-places a) (s .path) ∙ ap (map (vertexAt (vertices ps ms))) (s .points-are)
+            ∙ turned-carried (vertexAt (vertices ps ms)) (one (G a) k) _ _
+            ∙ ap₂ (λ (u v : Place). turned u (wayPlaces a (one (G a) k)) (v ∷ wayPlaces a (two (G a) k))) (one-vertex a k h) (two-vertex a k h);
         over-bridge = rw (sym (one-vertex a k h), sym (two-vertex a k h)) (step-carried (to-places a) (s .path) _ _ (s .over-bridge));
         length-is = sym (length-by-places a (s .path)) ∙ s .length-is;
       }

@@ -10,9 +10,10 @@ use Rattle.lists.specs.Member.{_∈_}
 use Rattle.lists.specs.Sorted.{position}
 use Rattle.lists.proofs.MapLaws.{Source, in-map, of-map}
 use Rattle.lists.proofs.SortedLaws.{position-at}
+use Rattle.joined.specs.Way.{Way, long}
 use Rattle.joined.specs.Path.{TerminalPath, lengthOf}
 use Rattle.joined.proofs.JoinedLaws.{firsts, seconds}
-use Rattle.joined.proofs.CarriedLaws.{Carries, path-carried, length-carried, Follows}
+use Rattle.joined.proofs.CarriedLaws.{Carries, way-carried, long-carried, path-carried, length-carried, Follows}
 use Rattle.plane.specs.declared.Place.{Place}
 use Rattle.plane.specs.declared.Macro.{Macro}
 use Rattle.plane.specs.Distance.{distance}
@@ -97,15 +98,46 @@ module _ {ps : List Place} {ms : List Macro} (a : Allowed ps ms) where
     pin-back = pin-place;
   }
 
+  -- Ways and their lengths
+
+  pub way-places : {i j : ℕ} {qs : List ℕ} → Way (pairs G) i qs j →
+      Way (spanning ps ms) (vertexAt (vertices ps ms) i) (map (vertexAt (vertices ps ms)) qs) (vertexAt (vertices ps ms) j)
+  way-places w = way-carried (vertexAt vs) edge-places w
+
+  pub way-numbers : {u v : Place} {qs : List Place} → Way (spanning ps ms) u qs v →
+      Way (pairs G) (numberOf (vertices ps ms) u) (map (numberOf (vertices ps ms)) qs) (numberOf (vertices ps ms) v)
+  way-numbers w = way-carried (numberOf vs) (edge-numbers a) w
+
+  pub long-places : {i j : ℕ} {qs : List ℕ} → Way (pairs G) i qs j →
+      long (between-numbers a) i qs ≡ long distance (vertexAt (vertices ps ms) i) (map (vertexAt (vertices ps ms)) qs)
+  long-places w = long-carried to-places (between-numbers a) distance (λ i j h k. refl) w
+
+  pub between-is : (u v : Place) → u ∈ vertices ps ms → v ∈ vertices ps ms →
+      distance u v ≡ between-numbers a (numberOf (vertices ps ms) u) (numberOf (vertices ps ms) v)
+  between-is u v i k =
+      sym (ap₂ distance (vertex-of-number vs (vertices-ascending ps ms) u i) (vertex-of-number vs (vertices-ascending ps ms) v k))
+
+  pub long-numbers : {u v : Place} {qs : List Place} → Way (spanning ps ms) u qs v →
+      long distance u qs ≡ long (between-numbers a) (numberOf (vertices ps ms) u) (map (numberOf (vertices ps ms)) qs)
+  long-numbers w = long-carried to-numbers distance (between-numbers a) between-is w
+
   pub length-by-places : (t : TerminalPath (pairs G) pins) → lengthOf (between-numbers a) t ≡ lengthOf distance (path-carried to-places t)
   length-by-places t = length-carried to-places (between-numbers a) distance (λ i j h k. refl) t
 
   pub length-by-numbers : (t : PathOf ps ms) → lengthOf distance t ≡ lengthOf (between-numbers a) (path-carried to-numbers t)
-  length-by-numbers t = length-carried to-numbers distance (between-numbers a) measured t
-    where
-      measured : (u v : Place) → u ∈ vs → v ∈ vs → distance u v ≡ between-numbers a (numberOf vs u) (numberOf vs v)
-      measured u v i k =
-          sym (ap₂ distance (vertex-of-number vs (vertices-ascending ps ms) u i) (vertex-of-number vs (vertices-ascending ps ms) v k))
+  length-by-numbers t = length-carried to-numbers distance (between-numbers a) between-is t
+
+  -- Roots
+
+  pub root-by-number : (v : Place) → rootOf ps ms v ≡ vertexAt (vertices ps ms) (root T (numberOf (vertices ps ms) v))
+  unfolding rootOf treeOf terminal
+  root-by-number v = refl
+
+  pub root-below : (i : ℕ) → i < length (vertices ps ms) → root T i < length (vertices ps ms)
+  root-below i h = setting a .pins-in _ (root-pin (setting a) (whole a) i h)
+
+  pub root-number : (i : ℕ) → i < length (vertices ps ms) → numberOf (vertices ps ms) (vertexAt (vertices ps ms) (root T i)) ≡ root T i
+  root-number i h = number-of-vertex vs (vertices-ascending ps ms) (root T i) (root-below i h)
 
   -- Kept paths
 
@@ -140,10 +172,6 @@ module _ {ps : List Place} {ms : List Macro} (a : Allowed ps ms) where
   of-given b m = of-map given kept (rw paths-are at m)
 
   -- its ends are roots
-  root-by-number : (v : Place) → rootOf ps ms v ≡ vertexAt vs (root T (numberOf vs v))
-  unfolding rootOf treeOf terminal
-  root-by-number v = refl
-
   pub given-follows : (k : ℕ) → k ∈ kept → Follows (vertexAt (vertices ps ms)) given (rootsBy G T) (keptEnds ps ms) k
   unfolding rootsOf
   given-follows k m = (
@@ -161,16 +189,11 @@ module _ {ps : List Place} {ms : List Macro} (a : Allowed ps ms) where
       let s = of-given b m in
       ap given (ap bridgeNumber (s .is) ∙ number-given (s .entry) (s .stands)) ∙ sym (s .is)
 
-  -- a root by its number
-  root-below : (i : ℕ) → i < length vs → numberOf vs (vertexAt vs (root T i)) ≡ root T i
-  root-below i h =
-      number-of-vertex vs (vertices-ascending ps ms) (root T i) (setting a .pins-in _ (root-pin (setting a) (whole a) i h))
-
   pub number-follows : (b : Kept) → b ∈ pathsOf ps ms →
       Follows (numberOf (vertices ps ms)) bridgeNumber (keptEnds ps ms) (rootsBy G T) b
   number-follows b m = (
-    sym (root-below _ (setting a .one-in _ h)) ∙ ap (numberOf vs) (sym (f .0) ∙ ap (λ (c : Kept). keptEnds ps ms c .0) e),
-    sym (root-below _ (setting a .two-in _ h)) ∙ ap (numberOf vs) (sym (f .1) ∙ ap (λ (c : Kept). keptEnds ps ms c .1) e),
+    sym (root-number _ (setting a .one-in _ h)) ∙ ap (numberOf vs) (sym (f .0) ∙ ap (λ (c : Kept). keptEnds ps ms c .0) e),
+    sym (root-number _ (setting a .two-in _ h)) ∙ ap (numberOf vs) (sym (f .1) ∙ ap (λ (c : Kept). keptEnds ps ms c .1) e),
   )
     where
       k : ℕ

@@ -1,4 +1,5 @@
 pub mod NumberLaws
 pub mod SettingOf
 pub mod CrossingLaws
+pub mod RootLaws
 pub mod BestJoiningLaws

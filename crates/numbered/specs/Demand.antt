@@ -3,18 +3,19 @@
 -- Terminal paths, chains, joinings and our way are those of `joined` (specs/Path.antt, specs/Chain.antt), put to the spanning graph and the
 -- pins of a net. A kept path is what is given for it, its bridge and its length (`pathsOf`); its ends are the roots of the bridge's ends.
 use mathlib.Core.Path.{_≡_}
-use mathlib.Core.List.{List, map}
+use mathlib.Core.List.{List, _∷_, map}
 use Prim.Native.Nat.{ℕ, suc, _≤_}
 use lib.ListN.{length}
 use Rattle.lists.specs.Member.{_∈_}
 use Rattle.lists.specs.Total.{total, most}
-use Rattle.joined.specs.Way.{On}
+use Rattle.joined.specs.Way.{On, turned}
 use Rattle.joined.specs.Path.{TerminalPath, endsOf, lengthOf}
 use Rattle.joined.specs.Chain.{Chain, Joining, OurWay}
 use Rattle.plane.specs.declared.Place.{Place}
 use Rattle.plane.specs.declared.Macro.{Macro}
 use Rattle.plane.specs.Distance.{distance}
 use Rattle.numbered.specs.Tree.{spanning, pathsOf, totalOf, rootOf, rootsOf}
+use Rattle.numbered.specs.Roots.{WayUp}
 
 -- a kept path as it is given: its bridge and its length
 abbrev pub Kept : Type 0
@@ -34,6 +35,13 @@ module _ (ps : List Place) (ms : List Macro) where
     pub path : PathOf
     pub start-is : path .start ≡ rootOf ps ms (b .0)
     pub finish-is : path .finish ≡ rootOf ps ms (b .1)
+    -- from one root down the way of b's first end, over b, and up the way of its second end to the other root
+    pub is-edge : b ∈ spanning ps ms
+    pub first-way : List Place
+    pub first-up : WayUp ps ms (b .0) first-way
+    pub second-way : List Place
+    pub second-up : WayUp ps ms (b .1) second-way
+    pub points-are : path .points ≡ turned (b .0) first-way (b .1 ∷ second-way)
     pub over-bridge : On (b .0) (b .1) (path .start) (path .points)
     pub length-is : lengthOf distance path ≡ l
 
