@@ -21,5 +21,6 @@ pub mod ReachedLaws
 pub mod AloneLaws
 pub mod CutLaws
 pub mod WinnerLaws
+pub mod RankedLaws
 pub mod RoundSound
 pub mod RefinedSound
