@@ -52,7 +52,12 @@ module _ (part : Edge → List Edge) (give : List Edge → List Edge) (pts : Lis
 
   pub giving-none : Giving lent 0 0
   unfolding flat
-  giving-none = record { done = []; counted = refl; written = sym (over-none lent); goal = let n : e - 0 ≡ e = omega arith in ap (λ (m : ℕ). give (edgesFrom pts ks 0 m)) n }
+  giving-none = record {
+    done = [];
+    counted = refl;
+    written = sym (over-none lent);
+    goal = let n : e - 0 ≡ e = omega arith in ap (λ (m : ℕ). give (edgesFrom pts ks 0 m)) n;
+  }
 
   module _ {table : List ℤ} {count k : ℕ} (g : Giving table count k) where
     pub giving-more : ((x : Edge) (l : List Edge) → give (x ∷ l) ≡ part x ++ give l) → k < e → (x : Edge) → x ≡ endsOf pts (getD ks k 0)

@@ -12,6 +12,7 @@ use Rattle.lent.specs.Entries.{flat}
 use Rattle.lent.proofs.EntryTable.{flat-append}
 use Rattle.graph.specs.Numbers.{edgeNumbers}
 use Rattle.lists.proofs.TestLaws.{by}
+use Rattle.lists.proofs.EachLaws.{length-each}
 use Rattle.plane.specs.declared.Place.{Place}
 use Rattle.plane.specs.Place.{samePlace}
 use Rattle.wires.specs.Wires.{drawn, bend, wiresOfEdge, wires}
@@ -48,9 +49,7 @@ edge-few e =
 
 -- at most two wires an edge
 pub wires-few : (es : List (Place × Place)) → length (wires es) ≤ 2 * length es
-wires-few [] = rw wires-none (omega arith)
-wires-few (e ∷ es) =
-    rw (wires-more e es) (omega (arith, length-append (wiresOfEdge e) (wires es), edge-few e, wires-few es))
+wires-few es = length-each wiresOfEdge wires wires-none wires-more 2 edge-few es
 
 -- two wires given one behind the other: how many there are then, and the table
 module _ (a b c : Place) (at : c ≡ bend a b) (i j r : ℕ) (t u v : List ℤ) where

@@ -58,7 +58,8 @@ loop-again c =
       omega arith,
       d .put-edge .kept .0 ∙ l .loop .inv .1,
       giving-more itself all _ _ _ _ (l .loop .inv .2) (λ x m. refl) (omega arith) _
-          (ap₂ (λ (x y : Place). (x, y)) (a .point-at .ensures) (b .point-at2 .ensures)) (omega (arith, l .before .pre .1 .1)) _ _ (d .put-edge .ensures) refl,
+          (ap₂ (λ (x y : Place). (x, y)) (a .point-at .ensures) (b .point-at2 .ensures)) (omega (arith, l .before .pre .1 .1)) _ _
+          (d .put-edge .ensures) refl,
     )
 
 same-length : tie.Need-same-length Inv-loop μ-loop
