@@ -21,7 +21,12 @@
 --              PathOf ps ms                         a terminal path of the net's graph
 --              Stands ps ms b l                     the bridge b stands for a terminal path of length l
 --              BestJoining ps ms                    the kept paths are a joining, and none is shorter or has a shorter longest path
+--   Tables     tables .., Fresh                     the tables that are lent for it, and what is asked of them
+--              Worked ps ms lent t r                what they hold once the tree is worked out
+--              pathsIn es kept long n               the kept paths as the tables have them
+--              Givable                              what is asked to give them
 pub mod Number
 pub mod Tree
 pub mod Roots
 pub mod Demand
+pub mod Tables
