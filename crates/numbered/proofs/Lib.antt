@@ -6,4 +6,5 @@ pub mod SettingOf
 pub mod CrossingLaws
 pub mod RootLaws
 pub mod BestJoiningLaws
+pub mod BridgeLaws
 pub mod WorkLaws
