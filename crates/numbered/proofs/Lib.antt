@@ -4,3 +4,6 @@ pub mod EdgeTables
 pub mod GiveLaws
 pub mod SettingOf
 pub mod WorkLaws
+pub mod PathLaws
+pub mod TreeOrder
+pub mod WorkedPaths
