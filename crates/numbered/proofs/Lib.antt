@@ -8,3 +8,6 @@ pub mod RootLaws
 pub mod BestJoiningLaws
 pub mod BridgeLaws
 pub mod WorkLaws
+pub mod PathLaws
+pub mod TreeOrder
+pub mod WorkedPaths
