@@ -1,0 +1,3 @@
+pub mod StandsLaws
+pub mod UnionTree
+pub mod WorkedUnions
