@@ -1,3 +1,5 @@
 pub mod StandsLaws
+pub mod MarkLaws
+pub mod StartLaws
 pub mod UnionTree
 pub mod WorkedUnions

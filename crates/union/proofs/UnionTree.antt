@@ -3,13 +3,13 @@
 -- than points; and each edge is on a kept path, where its length is counted.
 -- Assumes nothing.
 use mathlib.Core.Path.{_≡_, refl, sym, ap, ap₂, _∙_, subst}
-use mathlib.Core.Bool.{Bool, true, false, not}
+use mathlib.Core.Bool.{false, not}
 use mathlib.Core.Logic.{_⊎_, inl, inr}
 use mathlib.Core.List.{List, [], _∷_, _++_, map, List·Memᴰ·cases-cons, List·Memᴰ·append-cases, Memᴰ·cast, Memᴰ·append-left, Memᴰ·append-right}
 use Prim.Native.Nat.{ℕ, zero, suc, _+_, _≤_, _<_}
 use native.Mathlib.Decide.{ℕ-discrete}
 use native.Mathlib.Omega.{arith}
-use borrow.Author.Tests.{eqb-false, eq-eqb}
+use borrow.Author.Tests.{eqb-false}
 use lib.ListN.{length, length-append, length-map}
 use Rattle.lists.specs.Member.{_∈_, here, there, Among, Once}
 use Rattle.lists.specs.Those.{those}
@@ -27,7 +27,6 @@ use Rattle.joined.specs.Graft.{grown, rooted, Hangs}
 use Rattle.joined.proofs.JoinedLaws.{one as one-link, through, between, firsts, seconds}
 use Rattle.joined.proofs.TreeLaws.{tree-forest}
 use Rattle.joined.proofs.GraftLaws.{grown-tree}
-use Rattle.terminal.specs.Bounds.{pointBound}
 use Rattle.terminal.specs.Edges.{Graph, one, two, len, from}
 use Rattle.terminal.specs.Labels.{Labels, far, root, labelled}
 use Rattle.terminal.specs.Parents.{Parents, up, via, parented, way, Falls}
@@ -38,7 +37,7 @@ use Rattle.terminal.proofs.EdgeLaws.{below-from, in-from}
 use Rattle.terminal.proofs.ParentLaws.{falls-parented}
 use Rattle.terminal.proofs.WayLaws.{way-none, way-step, nearer-by}
 use Rattle.terminal.proofs.WholeLaws.{of-kept}
-use Rattle.terminal.proofs.Nearest.{fits, link-in}
+use Rattle.terminal.proofs.Nearest.{fits}
 use Rattle.terminal.proofs.Homeward.{pin-label, root-pin, far-off, Parent, parent-is, pin-parent, way-home}
 use Rattle.terminal.proofs.OurTree.{kept-count, ours-tree}
 use Rattle.union.specs.Union.{stands, bothEnds, keptEdges, unionEdges, unionPoints}
@@ -227,9 +226,11 @@ module _ {g : Graph} {n : ℕ} {d : ℕ → ℕ → ℕ} {pins : List ℕ} (s : 
   of-points : (v : ℕ) → v ∈ W → (v < n) × ((v ∈ pins) ⊎ EndOf v)
   unfolding unionPoints
   of-points v m =
-      let r = of-those (λ w. stands w (pins ++ Ends)) (from 0 n) m in
-      (below-from n v (r .0), either inl (λ i. inr (ended (of-flat (bothEnds (g .ones) (g .twos)) E i)))
-      (List·Memᴰ·append-cases pins (of-stands v (pins ++ Ends) (r .1))))
+      let r = of-those (λ w. stands w (pins ++ Ends)) (from 0 n) m in (
+        below-from n v (r .0),
+        either inl (λ i. inr (ended (of-flat (bothEnds (g .ones) (g .twos)) E i)))
+            (List·Memᴰ·append-cases pins (of-stands v (pins ++ Ends) (r .1))),
+      )
     where
       ended : Piece (bothEnds (g .ones) (g .twos)) E v → EndOf v
       ended p = record {

@@ -13,13 +13,11 @@ use Rattle.signed.specs.Order.{minZ, maxZ}
 use Rattle.lent.specs.Over.{over}
 use Rattle.lent.specs.Entries.{flat}
 use Rattle.joined.specs.Table.{changed, keptBy}
-use Rattle.plane.specs.declared.Place.{Place}
-use Rattle.plane.specs.declared.Macro.{Macro}
-use Rattle.plane.specs.Place.{place, before}
+use Rattle.plane.specs.Place.{before}
 use Rattle.plane.specs.Distance.{apart, distance}
 use Rattle.plane.specs.Macro.{spanMeets, meets, clear}
 use Rattle.plane.specs.Flat.{placesOf, macrosOf}
-use Rattle.net.specs.WorkedNets.{Lists, onePin, aroundOne, threePins, sharedSide, onSides}
+use Rattle.net.specs.WorkedNets.{Lists, onePin, aroundOne, threePins}
 use Rattle.graph.specs.Vertices.{cornersOf, corners, vertices}
 use Rattle.graph.specs.Pick.{within, nearer as nearerPlace, better as betterPick, pickFrom, pick}
 use Rattle.graph.specs.Edges.{edgeOf, beforeEdge, edgeOfPick, picksOf, allPicks, edges}
@@ -30,7 +28,7 @@ use Rattle.terminal.specs.Bridges.{oneRoot, path, pathLength, weights, earlier,
 use Rattle.terminal.specs.Kept.{keptBridges, keptLengths, terminal}
 use Rattle.numbered.specs.Number.{numbered, pinNumbers}
 use Rattle.numbered.specs.Tree.{treeOf}
-use Rattle.refined.specs.Table.{key, firstEnd, secondEnd, Tree}
+use Rattle.refined.specs.Table.{key, Tree}
 use Rattle.union.specs.Union.{stands, keptEdges, unionEdges, unionPoints, startOf, unionOf}
 
 -- a tree's points and edges, without the zeros behind them

@@ -12,7 +12,12 @@
 --              unionEdges, unionPoints .. n pins    the union's edges and points, in order, each once
 --              startOf .. places n pins             the same as the refiner's tables
 --              unionOf ps ms                        that of a net
+--   Marks      marked l t, isMarked t k             a table with the numbers of a list marked, as the code makes it and reads it
+--              marks t n                            the marked ones of n numbers, in order
+--              Ranked t n ranks                     a table of how many marked numbers come before each
+--              Startable                            what the code asks of the tables of a terminal tree
 --
 -- THE THEOREMS
 --   UnionTree   union-tree       the union is one tree over its points;  union-total: it is no longer than the kept paths
 pub mod Union
+pub mod Marks
