@@ -12,5 +12,10 @@
 --              bridgesOf, lengthsOf, totalOf        its kept bridges as edges, the lengths of their paths, their sum
 --              pathsOf ps ms, pathNumbers           bridge and length of each kept path; the five numbers that are given for it
 --              rootOf ps ms v, rootsOf ps ms b      the root of a vertex; the two pins that a bridge's path joins
+--   Tables     tables .., Fresh                     the tables that are lent for it, and what is asked of them
+--              Worked ps ms lent t r                what they hold once the tree is worked out
+--              pathsIn es kept long n               the kept paths as the tables have them
+--              Givable                              what is asked to give them
 pub mod Number
 pub mod Tree
+pub mod Tables
