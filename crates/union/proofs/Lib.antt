@@ -3,3 +3,5 @@ pub mod MarkLaws
 pub mod StartLaws
 pub mod UnionTree
 pub mod WorkedUnions
+pub mod PlacedLaws
+pub mod UnionSound

@@ -239,6 +239,9 @@ module _ {g : Graph} {n : ℕ} {d : ℕ → ℕ → ℕ} {pins : List ℕ} (s : 
         is = either inl (λ i. inr (either (λ e. e) (λ q. elim q [ ]) (List·Memᴰ·cases-cons i))) (List·Memᴰ·cases-cons (p .holds));
       }
 
+  pub edge-inside : (k : ℕ) → k ∈ E → k < g .count
+  edge-inside k m = of-union k m .inside
+
   pub point-inside : (v : ℕ) → v ∈ W → v < n
   point-inside v m = of-points v m .0
 

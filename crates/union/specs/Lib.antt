@@ -19,5 +19,7 @@
 --
 -- THE THEOREMS
 --   UnionTree   union-tree       the union is one tree over its points;  union-total: it is no longer than the kept paths
+--   UnionSound  union-sound      the union of an allowed net is `Sound`, as the refiner wants it;  union-metal: its sum of edge lengths is at
+--                                most the terminal total;  union-promise: so the refined tree of the net keeps `Promise`
 pub mod Union
 pub mod Marks
