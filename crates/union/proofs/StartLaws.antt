@@ -78,9 +78,9 @@ those-agree f h (k ∷ l) a =
     (λ e. those-hit f k l (a k (here refl) ∙ e) ∙ ap (λ (r : List ℕ). k ∷ r) ih ∙ sym (those-hit h k l e))
     (λ e. those-miss f k l (a k (here refl) ∙ e) ∙ ih ∙ sym (those-miss h k l e))
 
-map-agree : (f h : ℕ → ℕ) (l : List ℕ) → ((k : ℕ) → k ∈ l → f k ≡ h k) → map f l ≡ map h l
+pub map-agree : {A B : Type 0} (f h : A → B) (l : List A) → ((k : A) → k ∈ l → f k ≡ h k) → map f l ≡ map h l
 map-agree f h [] a = refl
-map-agree f h (k ∷ l) a = ap₂ (λ (x : ℕ) (r : List ℕ). x ∷ r) (a k (here refl)) (map-agree f h l (λ j m. a j (there m)))
+map-agree f h (k ∷ l) a = ap₂ (λ (x : _) (r : List _). x ∷ r) (a k (here refl)) (map-agree f h l (λ j m. a j (there m)))
 
 -- Ranks
 

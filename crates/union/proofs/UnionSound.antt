@@ -119,9 +119,12 @@ module _ {ps : List Place} {ms : List Macro} (a : Allowed ps ms) where
   unfolding treeOf terminal
   pin-at = pin-point (setting a) (whole a)
 
-  point-below : (v : ℕ) → v ∈ W → v < n
+  -- points are vertices
+  pub union-below : (v : ℕ) →
+      v ∈ unionPoints (graphOf ps ms) (treeOf ps ms .labels .fars) (treeOf ps ms .parents) (treeOf ps ms .bridges) (length (vertices ps ms))
+      (pinNumbers (vertices ps ms) ps) → v < length (vertices ps ms)
   unfolding treeOf terminal
-  point-below v m = point-inside (setting a) (whole a) v m
+  union-below v m = point-inside (setting a) (whole a) v m
 
   edge-below : (k : ℕ) → k ∈ E → k < g .count
   unfolding treeOf terminal
@@ -142,33 +145,34 @@ module _ {ps : List Place} {ms : List Macro} (a : Allowed ps ms) where
   room : length W ≤ pointBound
   room = omega (arith, few-points, few-vertices a)
 
-  less : length E ≤ pointBound
-  less = omega (arith, room, number-size)
+  -- the refiner's tables have room for the edges
+  pub union-less : length (unionEdges (graphOf ps ms) (treeOf ps ms .labels .fars) (treeOf ps ms .parents) (treeOf ps ms .bridges)) ≤ pointBound
+  union-less = omega (arith, room, number-size)
 
   -- By places
 
   abbrev points : List ℤ
-  points = pointTable at g W E points-ascending room less one-at two-at
+  points = pointTable at g W E points-ascending room union-less one-at two-at
 
   abbrev keys : List ℕ
-  keys = edgeTable at g W E points-ascending room less one-at two-at
+  keys = edgeTable at g W E points-ascending room union-less one-at two-at
 
   point : (i : ℕ) → i < length W → placeAt points i ≡ at (getD W i 0)
-  point = point-at at g W E points-ascending room less one-at two-at
+  point = point-at at g W E points-ascending room union-less one-at two-at
 
   first : (i : ℕ) → i < length E → endsOf points (getD keys i 0) .0 ≡ at (one g (getD E i 0))
-  first = first-at at g W E points-ascending room less one-at two-at
+  first = first-at at g W E points-ascending room union-less one-at two-at
 
   second : (i : ℕ) → i < length E → endsOf points (getD keys i 0) .1 ≡ at (two g (getD E i 0))
-  second = second-at at g W E points-ascending room less one-at two-at
+  second = second-at at g W E points-ascending room union-less one-at two-at
 
   ordered : InOrder points (length W)
   ordered i j e f =
       let u = getD W i 0 in
       let v = getD W j 0 in
       let l : u < v = ascending-at W points-ascending i j e f in
-      let x = point-below u (getD-in W i 0 (omega arith)) in
-      let y = point-below v (getD-in W j 0 f) in
+      let x = union-below u (getD-in W i 0 (omega arith)) in
+      let y = union-below v (getD-in W j 0 f) in
       rw (point i (omega arith), point j f) (vertex-order vs (vertices-ascending ps ms) u v x y ∙ lt-ltb u v l)
 
   edge-of : (k : ℕ) → k ∈ E → (i : ℕ) × (i < length E) × (getD E i 0 ≡ k)
@@ -222,7 +226,7 @@ module _ {ps : List Place} {ms : List Macro} (a : Allowed ps ms) where
       let i = pin-at v (pin-number-in vs ps p m) in
       let q = position ltb W v in
       Memᴰ·cast
-      (sym (point-of at g W E points-ascending room less one-at two-at v i ∙ vertex-of-number vs (vertices-ascending ps ms) p (pin-vertex ps ms m)))
+      (sym (point-of at g W E points-ascending room union-less one-at two-at v i ∙ vertex-of-number vs (vertices-ascending ps ms) p (pin-vertex ps ms m)))
       (in-listing (placeAt points) (length W) q (position-small ltb number-order W points-ascending v i))
 
   -- the union is a tree over its points in order, with all pins, every edge clear
@@ -230,7 +234,7 @@ module _ {ps : List Place} {ms : List Macro} (a : Allowed ps ms) where
   unfolding unionOf startOf
   union-sound = record {
     ordered = ordered;
-    within = keys-within at g W E points-ascending room less one-at two-at (omega (arith, number-size));
+    within = keys-within at g W E points-ascending room union-less one-at two-at (omega (arith, number-size));
     whole = place-tree;
     free = edge-free;
     pinned = pin-stands;
@@ -255,11 +259,11 @@ module _ {ps : List Place} {ms : List Macro} (a : Allowed ps ms) where
 
   pub union-points : length (unionOf ps ms .points) ≡ pointBound * 2
   unfolding unionOf startOf
-  union-points = points-length at g W E points-ascending room less one-at two-at
+  union-points = points-length at g W E points-ascending room union-less one-at two-at
 
   pub union-keys : length (unionOf ps ms .edges .keys) ≡ pointBound
   unfolding unionOf startOf
-  union-keys = edges-length at g W E points-ascending room less one-at two-at
+  union-keys = edges-length at g W E points-ascending room union-less one-at two-at
 
   -- so what is promised of a refined tree holds of the net's
   pub union-promise : Promise ms ps (unionOf ps ms) (refined ms ps (unionOf ps ms))

@@ -21,5 +21,7 @@
 --   UnionTree   union-tree       the union is one tree over its points;  union-total: it is no longer than the kept paths
 --   UnionSound  union-sound      the union of an allowed net is `Sound`, as the refiner wants it;  union-metal: its sum of edge lengths is at
 --                                most the terminal total;  union-promise: so the refined tree of the net keeps `Promise`
+--   WorkedStart worked-startable, worked-start    from the terminal tree's tables of a net the code makes its union;  refinable: which is
+--                                what the refiner asks for
 pub mod Union
 pub mod Marks
