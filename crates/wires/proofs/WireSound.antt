@@ -2,13 +2,12 @@
 -- edge. So wires of edges with clear ends enter no interior, and they are the edges' metal.
 -- Assumes nothing.
 use mathlib.Core.Path.{_≡_, refl, sym, ap, ap₂, _∙_, subst}
-use mathlib.Core.Bool.{Bool, true, false}
+use mathlib.Core.Bool.{true}
 use mathlib.Core.Logic.{_⊎_, inl, inr}
-use mathlib.Core.List.{List, [], _∷_, _++_, append-nil, List·Memᴰ·append-cases, List·Memᴰ·eq-of-singleton, Memᴰ·cast}
-use Prim.Native.Nat.{ℕ, _+_, _*_, _≤_}
+use mathlib.Core.List.{List, [], _∷_, _++_, append-nil, List·Memᴰ·append-cases, List·Memᴰ·eq-of-singleton}
+use Prim.Native.Nat.{_+_}
 use native.Mathlib.Omega.{arith}
 use lib.IntN.{ℤ}
-use lib.ListN.{length}
 use lib.Signed.{ltZ}
 use Rattle.lists.specs.Member.{_∈_}
 use Rattle.lists.specs.Total.{total}
@@ -16,10 +15,8 @@ use Rattle.lists.proofs.TestLaws.{either}
 use Rattle.lists.proofs.EachLaws.{of-each}
 use Rattle.signed.proofs.SideLaws.{lt-ltZ}
 use Rattle.plane.specs.declared.Place.{Place}
-use Rattle.plane.specs.declared.Macro.{Macro}
 use Rattle.plane.specs.Place.{place, before}
 use Rattle.plane.specs.Distance.{distance}
-use Rattle.plane.specs.Macro.{clear}
 use Rattle.plane.proofs.PlaceLaws.{before-true}
 use Rattle.plane.proofs.DistanceLaws.{distance-comm, distance-self}
 use Rattle.plane.proofs.BoxLaws.{InBox, first-in-box, last-in-box, clear-within, distance-through}
