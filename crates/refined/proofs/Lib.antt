@@ -24,3 +24,4 @@ pub mod WinnerLaws
 pub mod RankedLaws
 pub mod RoundSound
 pub mod RefinedSound
+pub mod RefinedOrder
