@@ -1,11 +1,10 @@
 -- Edges stay smaller place first and in order: where some are taken out, where numbers move on, where edges are laid. That no edge is there
 -- twice is no matter of the tables: they are a tree.
 -- Assumes nothing.
-use mathlib.Core.Path.{_≡_, refl, sym, ap, ap₂, _∙_, subst}
-use mathlib.Core.Bool.{Bool, true, false}
+use mathlib.Core.Path.{_≡_, sym, ap, _∙_, subst}
 use mathlib.Core.Logic.{inl}
 use mathlib.Core.List.{List, [], _∷_, Memᴰ·cast}
-use Prim.Native.Nat.{ℕ, zero, suc, _+_, _-_, _*_, _/_, _%_, _≤_, _<_}
+use Prim.Native.Nat.{ℕ, zero, suc, _+_, _≤_, _<_}
 use native.Mathlib.Omega.{arith}
 use native.Mathlib.Numerals.{add-one}
 use lib.Dec.{ltb, eqb}
@@ -21,7 +20,7 @@ use Rattle.joined.proofs.JoinedLaws.{one as one-link}
 use Rattle.joined.proofs.TreeLaws.{tree-cuts, cuts-forest}
 use Rattle.refined.specs.Turns.{turns}
 use Rattle.refined.specs.Table.{pointBound, key, firstEnd, secondEnd, Row, row, Tree, Within}
-use Rattle.refined.specs.Exchange.{closed, dropTwo, stands, opened, bump, bumpAt, carrying, lay, lay3, laidAt}
+use Rattle.refined.specs.Exchange.{closed, dropTwo, stands, bump, bumpAt, carrying, lay, lay3, laidAt}
 use Rattle.refined.specs.Prune.{firstLoose, prune}
 use Rattle.refined.specs.Places.{listing, endsOf, edgesOf, Ranked, Sound}
 use Rattle.refined.proofs.ExchangeLaws.{bump-lt, bump-ge}

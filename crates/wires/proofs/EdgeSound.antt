@@ -1,11 +1,11 @@
 -- The edges of a refined tree as they are given: one tree with all pins, every edge clear, smaller place first and in order, and their sum is
 -- the refiner's total. What the refiner promises is said of the same edges read from the other end.
 -- Assumes nothing.
-use mathlib.Core.Path.{_≡_, refl, sym, ap, ap₂, _∙_, subst}
-use mathlib.Core.Bool.{Bool, true, false}
-use mathlib.Core.Logic.{_⊎_, inl, inr}
-use mathlib.Core.List.{List, [], _∷_, reverse, reverseAux, List·Memᴰ·cases-cons}
-use Prim.Native.Nat.{ℕ, zero, suc, _+_, _*_, _/_, _%_, _≤_, _<_}
+use mathlib.Core.Path.{_≡_, refl, sym, ap, _∙_, subst}
+use mathlib.Core.Bool.{true, false}
+use mathlib.Core.Logic.{inl, inr}
+use mathlib.Core.List.{List, reverse, reverseAux, List·Memᴰ·cases-cons}
+use Prim.Native.Nat.{ℕ, zero, suc, _+_, _*_, _≤_, _<_}
 use native.Mathlib.Omega.{arith}
 use lib.Dec.{ltb}
 use lib.IntN.{ℤ}
@@ -29,14 +29,16 @@ use Rattle.joined.proofs.WayLaws.{way-more}
 use Rattle.graph.specs.Edges.{beforeEdge}
 use Rattle.refined.specs.declared.Refined.{Refined}
 use Rattle.refined.specs.Table.{pointBound, firstEnd, secondEnd, In, Within, Tree, tree}
-use Rattle.refined.specs.Places.{listing, endsOf, edgesOf, keyLength, InOrder, Ranked, Sound}
-use Rattle.refined.specs.Refined.{refined, metal, Answer}
+use Rattle.refined.specs.Places.{listing, endsOf, edgesOf, InOrder, Ranked, Sound}
+use Rattle.refined.specs.Refined.{metal, Answer}
 use Rattle.refined.specs.Promise.{metalOf, Promise, Tabled}
 use Rattle.refined.proofs.ListingLaws.{listing-lengths}
 use Rattle.refined.proofs.RoundSound.{metal-of}
 use Rattle.refined.proofs.RefinedSound.{refined-promise, refined-tabled}
 use Rattle.wires.specs.Edges.{edgesFrom, tableEdges, treeEdges}
+use Rattle.wires.specs.Wires.{wires}
 use Rattle.wires.specs.Promise.{Given}
+use Rattle.wires.proofs.WireSound.{wired}
 
 -- The edges of the tables
 
@@ -175,3 +177,8 @@ given-edges ms pins t sound few room rooms ranked pts ks r answer =
     (subst (Promise ms pins t) (sym (answer .whole)) (refined-promise ms pins t sound few room rooms))
     (subst (Tabled pins t) (sym (answer .whole)) (refined-tabled ms pins t sound few room rooms ranked))
     (r .total) (answer .sum)
+
+-- the wires of the edges given are clear and, together, as long as the total says
+pub given-wires : {ms : List Macro} {pins : List Place} {t : Tree} {es : List (Place × Place)} {total : ℕ} → Given ms pins t es total
+    → ((w : Place × Place) → w ∈ wires es → clear (w .0) (w .1) ms ≡ true) × (lengths distance (wires es) ≡ total)
+given-wires {ms} {es = es} g = (wired es .free ms (g .free), wired es .long ∙ sym (g .sum))

@@ -1,10 +1,11 @@
 -- The wires of an edge and of edges: how they are given, and that there are at most two an edge.
 -- Assumes nothing.
-use mathlib.Core.Path.{_≡_, refl, sym, ap, ap₂, _∙_}
-use mathlib.Core.Bool.{Bool, true, false}
+use mathlib.Core.Path.{_≡_, refl, sym, ap, _∙_}
 use mathlib.Core.List.{List, [], _∷_, _++_}
-use Prim.Native.Nat.{ℕ, zero, suc, _+_, _*_, _≤_}
+use Prim.Native.Nat.{ℕ, _+_, _*_, _≤_}
 use native.Mathlib.Omega.{arith}
+use borrow.Author.Tests.{eqb-true, eqb-false, eq-eqb, ne-eqb}
+use lib.Dec.{eqb}
 use lib.IntN.{ℤ}
 use lib.ListN.{length, length-append}
 use lib.Seq.{sets}
@@ -14,20 +15,30 @@ use Rattle.graph.specs.Numbers.{edgeNumbers}
 use Rattle.lists.proofs.TestLaws.{by}
 use Rattle.lists.proofs.EachLaws.{length-each}
 use Rattle.plane.specs.declared.Place.{Place}
-use Rattle.plane.specs.Place.{samePlace}
+use Rattle.plane.specs.Distance.{distance}
+use Rattle.plane.proofs.DistanceLaws.{distance-none, distance-self}
 use Rattle.wires.specs.Wires.{drawn, bend, wiresOfEdge, wires}
 use Rattle.wires.proofs.GivenLaws.{sets-append, edges-long}
 
-pub drawn-none : (a b : Place) → samePlace a b ≡ true → drawn a b ≡ []
+pub drawn-none : (a b : Place) → distance a b ≡ 0 → drawn a b ≡ []
 unfolding drawn
-drawn-none a b t = rw (drawn, t) refl
+drawn-none a b e = rw (drawn, eq-eqb _ _ e) refl
 
-pub drawn-one : (a b : Place) → samePlace a b ≡ false → drawn a b ≡ (a, b) ∷ []
+pub drawn-one : (a b : Place) → (distance a b ≡ 0 → ⊥) → drawn a b ≡ (a, b) ∷ []
 unfolding drawn
-drawn-one a b t = rw (drawn, t) refl
+drawn-one a b n = rw (drawn, ne-eqb _ _ n) refl
+
+-- there is a wire, or none is needed
+pub drawn-cases : {C : Type 0} (a b : Place) → (a ≡ b → drawn a b ≡ [] → C) → ((a ≡ b → ⊥) → drawn a b ≡ (a, b) ∷ [] → C) → C
+drawn-cases a b f g =
+    by (eqb (distance a b) 0)
+    (λ t. let e : distance a b ≡ 0 = eqb-true _ _ t in f (distance-none a b e) (drawn-none a b e))
+    (λ t.
+    let n : distance a b ≡ 0 → ⊥ = eqb-false _ _ t in
+    g (λ e. n (ap (distance a) (sym e) ∙ distance-self a)) (drawn-one a b n))
 
 pub drawn-few : (a b : Place) → length (drawn a b) ≤ 1
-drawn-few a b = by (samePlace a b) (λ t. rw (drawn-none a b t) (omega arith)) (λ t. rw (drawn-one a b t) (omega arith))
+drawn-few a b = drawn-cases a b (λ e d. rw d (omega arith)) (λ n d. rw d (omega arith))
 
 pub wires-none : wires [] ≡ []
 unfolding wires

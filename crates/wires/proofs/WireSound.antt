@@ -2,56 +2,45 @@
 -- edge. So wires of edges with clear ends enter no interior, and they are the edges' metal.
 -- Assumes nothing.
 use mathlib.Core.Path.{_≡_, refl, sym, ap, ap₂, _∙_, subst}
-use mathlib.Core.Bool.{Bool, true, false}
+use mathlib.Core.Bool.{true}
 use mathlib.Core.Logic.{_⊎_, inl, inr}
-use mathlib.Core.List.{List, [], _∷_, _++_, append-nil, List·Memᴰ·append-cases, List·Memᴰ·eq-of-singleton, Memᴰ·cast}
-use Prim.Native.Nat.{ℕ, _+_, _*_, _≤_}
+use mathlib.Core.List.{List, [], _∷_, _++_, append-nil, List·Memᴰ·append-cases, List·Memᴰ·eq-of-singleton}
+use Prim.Native.Nat.{_+_}
 use native.Mathlib.Omega.{arith}
 use lib.IntN.{ℤ}
-use lib.ListN.{length}
 use lib.Signed.{ltZ}
 use Rattle.lists.specs.Member.{_∈_}
 use Rattle.lists.specs.Total.{total}
-use Rattle.lists.proofs.TestLaws.{by, differ, either}
+use Rattle.lists.proofs.TestLaws.{either}
 use Rattle.lists.proofs.EachLaws.{of-each}
 use Rattle.signed.proofs.SideLaws.{lt-ltZ}
 use Rattle.plane.specs.declared.Place.{Place}
-use Rattle.plane.specs.declared.Macro.{Macro}
-use Rattle.plane.specs.Place.{place, before, samePlace}
+use Rattle.plane.specs.Place.{place, before}
 use Rattle.plane.specs.Distance.{distance}
-use Rattle.plane.specs.Macro.{clear}
-use Rattle.plane.proofs.PlaceLaws.{same-true, same-refl, before-true}
+use Rattle.plane.proofs.PlaceLaws.{before-true}
 use Rattle.plane.proofs.DistanceLaws.{distance-comm, distance-self}
 use Rattle.plane.proofs.BoxLaws.{InBox, first-in-box, last-in-box, clear-within, distance-through}
 use Rattle.joined.specs.Cost.{lengths}
 use Rattle.joined.proofs.CostLaws.{lengths-append}
 use Rattle.wires.specs.Wires.{drawn, bend, wiresOfEdge, wires}
 use Rattle.wires.specs.Promise.{Horizontal, Vertical, Leads, EdgeWires, Wired}
-use Rattle.wires.proofs.WireLaws.{drawn-none, drawn-one, drawn-few, edge-wires, wires-none, wires-more, wires-few}
+use Rattle.wires.proofs.WireLaws.{drawn-cases, drawn-few, edge-wires, wires-none, wires-more, wires-few}
 
 -- One wire, or none
 
 of-drawn : (a b : Place) (w : Place × Place) → w ∈ drawn a b → (w ≡ (a, b)) × (a ≡ b → ⊥)
 of-drawn a b w i =
-    by (samePlace a b)
-    (λ t. elim (subst (λ (l : List (Place × Place)). w ∈ l) (drawn-none a b t) i) [ ])
-    (λ t. (
-      List·Memᴰ·eq-of-singleton (subst (λ (l : List (Place × Place)). w ∈ l) (drawn-one a b t) i),
-      λ e. differ (ap (samePlace a) (sym e) ∙ same-refl a) t,
-    ))
+    drawn-cases a b (λ e d. elim (subst (λ (l : List (Place × Place)). w ∈ l) d i) [ ])
+    (λ n d. (List·Memᴰ·eq-of-singleton (subst (λ (l : List (Place × Place)). w ∈ l) d i), n))
 
 drawn-leads : (a b c : Place) (ws : List (Place × Place)) → Leads b ws c → Leads a (drawn a b ++ ws) c
 drawn-leads a b c ws h =
-    by (samePlace a b)
-    (λ t. rw (drawn-none a b t) (subst (λ (d : Place). Leads d ws c) (sym (same-true a b t)) h))
-    (λ t. rw (drawn-one a b t) (refl, h))
+    drawn-cases a b (λ e d. rw d (subst (λ (x : Place). Leads x ws c) (sym e) h)) (λ n d. rw d (refl, h))
 
 drawn-long : (a b : Place) → lengths distance (drawn a b) ≡ distance a b
 unfolding lengths total
 drawn-long a b =
-    by (samePlace a b)
-    (λ t. rw (drawn-none a b t) (sym (ap (distance a) (sym (same-true a b t)) ∙ distance-self a)))
-    (λ t. rw (drawn-one a b t) (omega arith))
+    drawn-cases a b (λ e d. rw d (sym (ap (distance a) (sym e) ∙ distance-self a))) (λ n d. rw d (omega arith))
 
 -- The wires of an edge
 

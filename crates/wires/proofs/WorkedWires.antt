@@ -1,18 +1,19 @@
 -- Wires of worked edges, as the numbers that are given, by computing the definitions.
 -- Assumes nothing.
 use mathlib.Core.Path.{_≡_, refl}
-use mathlib.Core.List.{List, [], _∷_, _++_}
+use mathlib.Core.List.{List, [], _∷_}
 use Prim.Native.Nat.{ℕ}
 use lib.IntN.{ℤ, pos, negsuc}
 use Rattle.lent.specs.Entries.{flat}
 use Rattle.plane.specs.declared.Place.{Place}
-use Rattle.plane.specs.Place.{place, samePlace}
+use Rattle.plane.specs.Place.{place}
+use Rattle.plane.specs.Distance.{apart, distance}
 use Rattle.graph.specs.Numbers.{edgeNumbers}
 use Rattle.wires.specs.Wires.{drawn, wiresOfEdge, wires}
 
 -- to unfold this is to unfold all that it rests on
 unfoldable pub given : List (Place × Place) → List ℤ
-unfolding samePlace flat drawn wiresOfEdge wires
+unfolding apart distance flat drawn wiresOfEdge wires
 given es = flat edgeNumbers (wires es)
 
 abbrev at : ℕ → ℕ → Place

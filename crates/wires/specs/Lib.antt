@@ -16,6 +16,7 @@
 -- THE THEOREMS
 --   WireSound      edge-wired              the wires of every edge keep `EdgeWires`;  wired: those of edges keep `Wired`
 --   EdgeSound      given-edges             the edges of a refined tree, with the refiner's total, keep `Given`
+--                  given-wires             their wires are clear and, together, as long as the total says
 pub mod Edges
 pub mod Wires
 pub mod Promise

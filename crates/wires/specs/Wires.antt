@@ -1,12 +1,14 @@
 -- Wires: document 01, "Wires".
 use mathlib.Core.Bool.{true, false}
 use mathlib.Core.List.{List, [], _∷_, _++_}
+use lib.Dec.{eqb}
 use Rattle.plane.specs.declared.Place.{Place}
-use Rattle.plane.specs.Place.{place, samePlace}
+use Rattle.plane.specs.Place.{place}
+use Rattle.plane.specs.Distance.{distance}
 
 -- "one of length zero is left out"
 unfoldable pub drawn : Place → Place → List (Place × Place)
-drawn a b = elim (samePlace a b) [ true ↦ [] | false ↦ (a, b) ∷ [] ]
+drawn a b = elim (eqb (distance a b) 0) [ true ↦ [] | false ↦ (a, b) ∷ [] ]
 
 -- where the horizontal wire from a ends and the vertical one to b begins
 abbrev pub bend : Place → Place → Place

@@ -41,7 +41,7 @@ fn put_wire(table: &mut [i32], i: usize, a: Place, b: Place) -> usize
     ensures { λ r. ⌜ r ≡ i + length (drawn a b) ⌝ }
     ensures { λ _. ⌜ now (table .exit) ≡ sets (now (table .entry)) (i * 4) (flat edgeNumbers (drawn a b)) ⌝ }
 {
-    if plane::is_same_place(a, b) {
+    if refined::far_apart(a, b) == 0 {
         return i;
     }
     graph::put_edge(&mut *table, i, a, b);
