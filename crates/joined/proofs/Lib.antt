@@ -17,6 +17,8 @@ pub mod ShortestLaws
 pub mod ChainLaws
 pub mod Ours
 pub mod Worked
+-- Another kind of points
+pub mod CarriedLaws
 -- The refiner
 pub mod GraftLaws
 pub mod TowardLaws

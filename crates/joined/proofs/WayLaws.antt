@@ -1,6 +1,6 @@
 -- Ways: joined points have one, a way is cut at one of its points, and loops are cut out of it without making it longer.
 -- Assumes nothing.
-use mathlib.Core.Path.{_≡_, refl, sym, _∙_}
+use mathlib.Core.Path.{_≡_, refl, sym, _∙_, subst}
 use mathlib.Core.Logic.{_⊎_, inl, inr}
 use mathlib.Core.List.{List, [], _∷_, List·Memᴰ·cases-cons, Memᴰ·cast}
 use Prim.Native.Nat.{ℕ, _+_, _≤_}
@@ -9,7 +9,7 @@ use Rattle.lists.specs.Member.{_∈_, here, there, Among, Once}
 use Rattle.lists.proofs.TestLaws.{either}
 use Rattle.lists.proofs.MemberLaws.{once-head, is-in}
 use Rattle.joined.specs.Joined.{Link, Joined, stay, step}
-use Rattle.joined.specs.Way.{Way, stop, go, Free, long, turned}
+use Rattle.joined.specs.Way.{Way, stop, go, Free, long, On, turned}
 use Rattle.joined.proofs.JoinedLaws.{turn, then}
 
 module _ {A : Type 0} where
@@ -124,6 +124,12 @@ module _ {A : Type 0} where
     unfolding turned long
     turned-long d even (stop e) qs = rw e (omega arith)
     turned-long d even {x} (go {y = y} l w) qs = omega (arith, turned-long d even w (x ∷ qs), even x y)
+
+    -- what follows its start is still on it
+    pub turned-on : {x y : A} {ps : List A} → Way L x ps y → (qs : List A) (a b : A) → On a b x qs → On a b y (turned x ps qs)
+    unfolding turned
+    turned-on (stop e) qs a b o = subst (λ (z : A). On a b z qs) e o
+    turned-on (go {x = x} l w) qs a b o = turned-on w (x ∷ qs) a b (inr o)
 
     -- two loop-free ways from a point that share no other point
     pub turned-once : {x y : A} {ps : List A} → Way L x ps y → (qs : List A) → Once (x ∷ ps) → Once (x ∷ qs) →

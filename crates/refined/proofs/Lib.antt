@@ -23,3 +23,4 @@ pub mod CutLaws
 pub mod WinnerLaws
 pub mod RoundSound
 pub mod RefinedSound
+pub mod RefinedOrder

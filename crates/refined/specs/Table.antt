@@ -3,25 +3,26 @@ use Prim.Native.Nat.{ℕ, _+_, _*_, _/_, _%_, _≤_, _<_}
 use mathlib.Core.List.{List}
 use lib.IntN.{ℤ}
 use lib.ListN.{getD}
+use Rattle.net.specs.Bounds.{treeBound}
 
 -- "one for the points of the refined tree, at most n + m = 384"
 abbrev pub pointBound : ℕ
-pointBound = 384
+pointBound = treeBound
 
 -- keys of edges, and entries of a table of all pairs of points, are below this
 abbrev pub pairBound : ℕ
-pairBound = 147456
+pairBound = pointBound * pointBound
 
 -- "An edge is written smaller place first": the edge of points a and b, a before b, is the number `key a b`. Numbers of points are in the
 -- order of places, so keys are in the order of edges.
 abbrev pub key : ℕ → ℕ → ℕ
-key a b = a * 384 + b
+key a b = a * pointBound + b
 
 abbrev pub firstEnd : ℕ → ℕ
-firstEnd k = k / 384
+firstEnd k = k / pointBound
 
 abbrev pub secondEnd : ℕ → ℕ
-secondEnd k = k % 384
+secondEnd k = k % pointBound
 
 -- a table of edges and how many there are
 pub record Row : Type 0 where

@@ -2,6 +2,7 @@
 //
 // A point is its number in the table of points, which is in the order of places; an edge is the key of its ends' numbers, in a table in the
 // order of edges. So every tie is settled by scanning upwards and giving way only to what is strictly better.
+use net::Net;
 use plane::Place;
 ghost use mathlib.Core.Path.{_≡_};
 ghost use Prim.Native.Nat.{_+_, _*_, _/_, _≤_, _<_};
@@ -48,7 +49,7 @@ ghost use Rattle.refined.specs.Prune.{countEnds, loose, looseEdge, first
 ghost use Rattle.refined.specs.Refined.{rounds, pruned, metal, Answer};
 
 // Points of a refined tree, at most n + m; the numbers of their places; all pairs of them.
-pub const POINTS: usize = 384;
+pub const POINTS: usize = Net::TREE_POINTS;
 
 pub const NUMBERS: usize = POINTS * 2;
 

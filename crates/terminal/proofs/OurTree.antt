@@ -19,14 +19,14 @@ use Rattle.lists.proofs.MapLaws.{in-map, of-map, map-among}
 use Rattle.lists.proofs.ThoseLaws.{in-those}
 use Rattle.lists.proofs.SortedLaws.{in-sorted}
 use Rattle.joined.specs.Joined.{Link, Joined, stay, Alike}
-use Rattle.joined.specs.Way.{Way, stop, go, long, turned}
+use Rattle.joined.specs.Way.{Way, stop, go, long, On, turned}
 use Rattle.joined.specs.Tree.{Tree}
 use Rattle.joined.specs.Light.{Rising, light}
 use Rattle.joined.specs.Keep.{Offered, Dominated, kept}
 use Rattle.joined.specs.Path.{TerminalPath, endsOf, lengthOf}
 use Rattle.joined.specs.Chain.{Chain, Joining, OurWay}
 use Rattle.joined.proofs.JoinedLaws.{turn, one as one-link, then, back, between, firsts, seconds, more}
-use Rattle.joined.proofs.WayLaws.{joined-way, way-more, turned-way, turned-long, turned-once, of-turned-way}
+use Rattle.joined.proofs.WayLaws.{joined-way, way-more, turned-way, turned-long, turned-on, turned-once, of-turned-way}
 use Rattle.joined.proofs.LightLaws.{in-light, of-light}
 use Rattle.joined.proofs.TableLaws.{table-keeps}
 use Rattle.joined.proofs.ShortestLaws.{kept-tree}
@@ -69,6 +69,7 @@ module _ {g : Graph} {n : ℕ} {d : ℕ → ℕ → ℕ} {pins : List ℕ} (s : 
     pub finish-is : path .finish ≡ root T (two g k)
     -- it runs along the edges that make up its length
     pub along : Way (map (ends g) (pathEdges g (T .fars) P k)) (path .start) (path .points) (path .finish)
+    pub over-bridge : On (one g k) (two g k) (path .start) (path .points)
     pub length-is : lengthOf d path ≡ weight k
 
   bridge-roots : (k : ℕ) → sameRoot g T k ≡ false → root T (one g k) ≡ root T (two g k) → ⊥
@@ -95,6 +96,7 @@ module _ {g : Graph} {n : ℕ} {d : ℕ → ℕ → ℕ} {pins : List ℕ} (s : 
     start-is = refl;
     finish-is = refl;
     along = run;
+    over-bridge = turned-on (hu .along) (v ∷ wayPoints s whole v) u v (inl (inl (refl, refl)));
     length-is =
         omega (
           arith,
