@@ -6,6 +6,7 @@
 
 pub mod answers;
 pub mod edge;
+pub mod exhaustive;
 pub mod generate;
 pub mod graph;
 pub mod lists;

@@ -105,13 +105,7 @@ fn put(bytes: &[u8]) -> Result<(), Failure> {
 
 /// The lists of the text form on standard input.
 fn lists() -> Result<Lists, Failure> {
-    let bytes = input()?;
-    let text = std::str::from_utf8(&bytes).map_err(|error| {
-        let before = &bytes[..error.valid_up_to()];
-        let line = 1 + before.iter().filter(|&&byte| byte == b'\n').count();
-        Failure::Input(format!("line {line}: not UTF-8 text"))
-    })?;
-    text::parse(text).map_err(|bad| Failure::Input(bad.to_string()))
+    text::parse_bytes(&input()?).map_err(|bad| Failure::Input(bad.to_string()))
 }
 
 /// The answer for an allowed net in text form.

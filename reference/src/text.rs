@@ -31,6 +31,18 @@ pub fn parse(text: &str) -> Result<Lists, BadLine> {
     Ok(lists)
 }
 
+/// The lists that the bytes of a text give.
+pub fn parse_bytes(bytes: &[u8]) -> Result<Lists, BadLine> {
+    let text = std::str::from_utf8(bytes).map_err(|error| {
+        let before = &bytes[..error.valid_up_to()];
+        BadLine {
+            line: 1 + before.iter().filter(|&&byte| byte == b'\n').count(),
+            wrong: "not UTF-8 text".into(),
+        }
+    })?;
+    parse(text)
+}
+
 /// Adds one line's entry to its list.
 fn entry(line: &str, lists: &mut Lists) -> Result<(), String> {
     let said = line.split('#').next().unwrap_or("");

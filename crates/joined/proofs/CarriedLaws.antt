@@ -10,7 +10,7 @@ use Rattle.lists.specs.Member.{_∈_, here, there, Among}
 use Rattle.lists.proofs.TestLaws.{either}
 use Rattle.lists.proofs.MapLaws.{of-map, map-once}
 use Rattle.joined.specs.Joined.{Link, Alike}
-use Rattle.joined.specs.Way.{Way, stop, go, long, On}
+use Rattle.joined.specs.Way.{Way, stop, go, long, On, turned}
 use Rattle.joined.specs.Path.{TerminalPath, lengthOf}
 use Rattle.joined.specs.Chain.{Reads, Chain, last, next, Leads, Joining, OurWay}
 use Rattle.joined.proofs.OtherLaws.{alike-trans, alike-first, alike-second, alike-sym}
@@ -26,6 +26,11 @@ module _ {A B : Type 0} (f : A → B) where
   on-carried a b x [] o = o
   on-carried a b x (y ∷ ps) (inl e) = inl (alike-carried e)
   on-carried a b x (y ∷ ps) (inr o) = inr (on-carried a b y ps o)
+
+  pub turned-carried : (x : A) (ps qs : List A) → map f (turned x ps qs) ≡ turned (f x) (map f ps) (map f qs)
+  unfolding turned
+  turned-carried x [] qs = refl
+  turned-carried x (y ∷ ps) qs = turned-carried y ps (x ∷ qs)
 
   module _ {L : List (A × A)} {M : List (B × B)} (pair : (a b : A) → (a, b) ∈ L → (f a, f b) ∈ M) where
     pub link-carried : {x y : A} → Link L x y → Link M (f x) (f y)
@@ -99,6 +104,10 @@ module _ {A B : Type 0} {f : A → B} {g : B → A} {X : A → Type 0} {L : List
   pub finish-carried : (t : TerminalPath L pins) → path-carried t .finish ≡ f (t .finish)
   unfolding path-carried
   finish-carried t = refl
+
+  pub points-carried : (t : TerminalPath L pins) → path-carried t .points ≡ map f (t .points)
+  unfolding path-carried
+  points-carried t = refl
 
   pub step-carried : (t : TerminalPath L pins) (a b : A) → On a b (t .start) (t .points) →
       On (f a) (f b) (path-carried t .start) (path-carried t .points)

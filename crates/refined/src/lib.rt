@@ -81,7 +81,7 @@ pub struct Refined {
 
 // Tables
 
-fn point_at(pts: &[i32; NUMBERS], i: usize) -> Place
+pub fn point_at(pts: &[i32; NUMBERS], i: usize) -> Place
     requires { ⌜ i < pointBound ⌝ }
     ensures { λ r. ⌜ r ≡ placeAt (now (pts .entry)) i ⌝ }
 {

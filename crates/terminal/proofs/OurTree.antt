@@ -67,6 +67,7 @@ module _ {g : Graph} {n : ℕ} {d : ℕ → ℕ → ℕ} {pins : List ℕ} (s : 
     pub path : TerminalPath (pairs g) pins
     pub start-is : path .start ≡ root T (one g k)
     pub finish-is : path .finish ≡ root T (two g k)
+    pub points-are : path .points ≡ turned (one g k) (wayPoints s whole (one g k)) (two g k ∷ wayPoints s whole (two g k))
     -- it runs along the edges that make up its length
     pub along : Way (map (ends g) (pathEdges g (T .fars) P k)) (path .start) (path .points) (path .finish)
     pub over-bridge : On (one g k) (two g k) (path .start) (path .points)
@@ -95,6 +96,7 @@ module _ {g : Graph} {n : ℕ} {d : ℕ → ℕ → ℕ} {pins : List ℕ} (s : 
     };
     start-is = refl;
     finish-is = refl;
+    points-are = refl;
     along = run;
     over-bridge = turned-on (hu .along) (v ∷ wayPoints s whole v) u v (inl (inl (refl, refl)));
     length-is =
@@ -300,7 +302,7 @@ module _ {g : Graph} {n : ℕ} {d : ℕ → ℕ → ℕ} {pins : List ℕ} (s : 
       omega arith
 
   -- between two different pins, the longest path of a chain of terminal paths is at least as long as the longest on our way
-  pub none-lower : {x y : ℕ} → (x ≡ y → ⊥) → {ks : List ℕ} → OurWay (rootsOf g T) K x y ks → {cs : List (TerminalPath (pairs g) pins)} → Chain endsOf x cs y →
-      most (map weight ks) ≤ most (map (lengthOf d) cs)
+  pub none-lower : {x y : ℕ} → (x ≡ y → ⊥) → {ks : List ℕ} → OurWay (rootsOf g T) K x y ks →
+      {cs : List (TerminalPath (pairs g) pins)} → Chain endsOf x cs y → most (map weight ks) ≤ most (map (lengthOf d) cs)
   none-lower e u c =
       no-longer ℕ-discrete (rootsOf g T) weight offered endsOf (lengthOf d) terminal-dominated e (rw kept-is at u) c

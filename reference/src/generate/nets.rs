@@ -31,6 +31,7 @@ kinds! {
         Dropped "dropped" "at least one candidate is dropped",
         DroppedWins "dropped-wins" "a dropped candidate would have won a round",
         BoundEnds "bound-ends" "m rounds are done and a further gain is still there",
+        Small "small" "at most five pins and three macros, so that every path can be tried",
     }
 }
 
@@ -60,6 +61,7 @@ pub fn net(kind: Kind, seed: u64) -> Lists {
         Kind::Dropped => searched::dropped(random),
         Kind::DroppedWins => searched::dropped_wins(random),
         Kind::BoundEnds => searched::bound_ends(random),
+        Kind::Small => small(random),
     }
 }
 
@@ -71,6 +73,25 @@ pub fn tiny(random: &mut Random, high: i32) -> Lists {
     draft.macros_between(random, tries, (0, high), 3);
     let tries = random.between(0, high + 3);
     draft.pins_between(random, tries, 0, high);
+    draft.lists()
+}
+
+/// Two to five pins where room is left for them, among up to three macros.
+fn small(random: &mut Random) -> Lists {
+    let high = random.choose(&[3, 6, 12, 100]);
+    let mut draft = Draft::default();
+    let tries = random.between(0, 3);
+    draft.macros_between(random, tries, (0, high), high);
+    if !draft.macros.is_empty() {
+        let tries = random.between(0, 2);
+        draft.pins_on_sides(random, tries);
+    }
+    let pins = random.between(2, 5) as usize;
+    for _ in 0..40 {
+        if draft.pins.len() < pins {
+            draft.pins_between(random, 1, -1, high + 1);
+        }
+    }
     draft.lists()
 }
 

@@ -1,0 +1,96 @@
+//! The library from C: the header, the example, and that the header's bounds are those of the second program.
+
+use std::fs;
+use std::path::{Path, PathBuf};
+use std::process::{Command, Output};
+
+use reference::net::Net;
+use reference::netfile::{BLOCKS, BLOCK_BYTES};
+
+const STRICT: [&str; 6] = [
+    "-std=c99",
+    "-Wall",
+    "-Wextra",
+    "-Wpedantic",
+    "-Wconversion",
+    "-Werror",
+];
+
+fn root() -> PathBuf {
+    Path::new(env!("CARGO_MANIFEST_DIR")).join("..")
+}
+
+/// Runs a command that must succeed.
+fn run(command: &mut Command) -> Output {
+    let output = command
+        .output()
+        .unwrap_or_else(|error| panic!("{command:?}: {error}"));
+    let wrong = String::from_utf8_lossy(&output.stderr);
+    assert!(output.status.success(), "{command:?}: {wrong}");
+    output
+}
+
+/// gcc in the repository's root, with the header in reach and no warning let pass.
+fn gcc() -> Command {
+    let mut command = Command::new("gcc");
+    command.current_dir(root()).args(STRICT).arg("-Iinclude");
+    command
+}
+
+/// What a small C program that includes the header prints; it calls nothing of the library.
+fn printed(name: &str, body: &str) -> String {
+    let folder = Path::new(env!("CARGO_TARGET_TMPDIR"));
+    let (source, program) = (folder.join(format!("{name}.c")), folder.join(name));
+    let text = format!("#include <stdio.h>\n#include \"calzundi.h\"\nint main(void)\n{{\n{body}    return 0;\n}}\n");
+    fs::write(&source, text).unwrap();
+    run(gcc().arg(&source).arg("-o").arg(&program));
+    let output = run(&mut Command::new(&program));
+    String::from_utf8(output.stdout).unwrap()
+}
+
+#[test]
+fn the_header_and_the_example_are_strict_c() {
+    run(gcc().args(["-fsyntax-only", "-x", "c", "include/calzundi.h"]));
+    run(gcc().args(["-fsyntax-only", "examples/third_net.c"]));
+}
+
+/// "The three bounds (64 pins, 64 macros, one million)", and what follows from them.
+#[test]
+fn the_header_has_the_bounds() {
+    let names = [
+        ("CALZUNDI_PINS", Net::PINS),
+        ("CALZUNDI_MACROS", Net::MACROS),
+        ("CALZUNDI_COORDINATE", Net::COORDINATE as usize),
+        ("CALZUNDI_BLOCK_BYTES", BLOCK_BYTES),
+        ("CALZUNDI_LONGEST_FILE", BLOCKS * BLOCK_BYTES),
+        ("CALZUNDI_READ_PIN_NUMBERS", 128),
+        ("CALZUNDI_READ_MACRO_NUMBERS", 256),
+        ("sizeof(calzundi_length)", 8),
+    ];
+    let lines = names.map(|(name, _)| format!("    printf(\"%d\\n\", (int)({name}));\n"));
+    let expected = names.map(|(_, number)| format!("{number}\n"));
+    assert_eq!(printed("bounds", &lines.concat()), expected.concat());
+}
+
+/// Document 01's space for each operation, also where m and k are given as sums.
+#[test]
+fn the_header_works_out_what_to_lend() {
+    let (mut lines, mut expected) = (String::new(), String::new());
+    for (m, k) in [(1, 0), (3, 0), (2, 1), (60, 30), (61, 31), (64, 64)] {
+        let n = m + 4 * k;
+        let blocks = 1 + usize::div_ceil(m, 60) + usize::div_ceil(k, 30);
+        let (sum_m, sum_k) = (format!("1 + {}", m - 1), format!("0 + {k}"));
+        for (name, number) in [
+            (format!("VERTEX_NUMBERS({sum_m}, {sum_k})"), 2 * n),
+            (format!("EDGE_NUMBERS({sum_m}, {sum_k})"), 16 * n),
+            (format!("PATH_NUMBERS({sum_m})"), 5 * m),
+            (format!("TREE_NUMBERS({sum_m}, {sum_k})"), 4 * (n + m)),
+            (format!("WIRE_NUMBERS({sum_m}, {sum_k})"), 8 * (n + m)),
+            (format!("FILE_BYTES({sum_m}, {sum_k})"), 512 * blocks),
+        ] {
+            lines += &format!("    printf(\"%d\\n\", CALZUNDI_{name});\n");
+            expected += &format!("{number}\n");
+        }
+    }
+    assert_eq!(printed("sizes", &lines), expected);
+}

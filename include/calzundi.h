@@ -1,0 +1,170 @@
+/*
+ * calzundi.h: the tree router as a static library, for C and C++ on x86-64.
+ *
+ * Link target/staticlib/libexports.a, which `rt staticlib exports` makes once every function in it is proved. The library keeps no
+ * state, allocates nothing and prints nothing; calls from several threads do not disturb each other.
+ *
+ *
+ * A net
+ *
+ * A net is two lists of 32-bit numbers: `pins`, two numbers for each of its m pins (x, y), and `macros`, four for each of its k macros
+ * (left, bottom, right, top). Any two lists of any length may be handed over. A list is a pointer and the count of numbers behind it, not
+ * of entries: three pins are six numbers. Write n for m + 4k.
+ *
+ *
+ * What is lent
+ *
+ * Answers go to space that the caller lends, again a pointer and a count of numbers. Each operation below says how much it asks for; the
+ * macros CALZUNDI_..._NUMBERS work it out. More may be lent. Counts and totals go through a pointer each.
+ *
+ *
+ * Answers
+ *
+ * Every operation returns 0, or the number of a refusal, the first of those listed for it that applies. The answer of an allowed net is
+ * the same for every order of its lists; only a net file keeps that order.
+ *
+ *   0          The answer stands at the front of each lent space, and the counts say how many entries it has (not how many numbers).
+ *              Lent space past the answer is as it was.
+ *   a refusal  Nothing lent is altered, counts and totals included.
+ *
+ *
+ * What the caller sees to
+ *
+ * Each pointer is not null, aligned for its type and has its count behind it; for a list of none, the address of anything will do, since
+ * it is not followed. What is lent to be written, counts and totals included, overlaps nothing else that is handed over.
+ */
+#ifndef CALZUNDI_H
+#define CALZUNDI_H
+
+#include <stddef.h>
+#include <stdint.h>
+
+#ifdef __cplusplus
+extern "C" {
+#endif
+
+/* A net has 1 to 64 pins and 0 to 64 macros, with coordinates from -1,000,000 to 1,000,000. */
+#define CALZUNDI_PINS 64
+#define CALZUNDI_MACROS 64
+#define CALZUNDI_COORDINATE 1000000
+
+/* Numbers to lend for a net of m pins and k macros: n = m + 4k, and then for each operation. */
+#define CALZUNDI_POINTS(m, k) ((m) + 4 * (k))
+#define CALZUNDI_VERTEX_NUMBERS(m, k) (2 * CALZUNDI_POINTS(m, k))
+#define CALZUNDI_EDGE_NUMBERS(m, k) (16 * CALZUNDI_POINTS(m, k))
+#define CALZUNDI_PATH_NUMBERS(m) (5 * (m))
+#define CALZUNDI_TREE_NUMBERS(m, k) (4 * (CALZUNDI_POINTS(m, k) + (m)))
+#define CALZUNDI_WIRE_NUMBERS(m, k) (8 * (CALZUNDI_POINTS(m, k) + (m)))
+
+/* A net file is 1 to 6 blocks of 512 bytes: a head, a block for each 60 pins begun and one for each 30 macros begun. */
+#define CALZUNDI_BLOCK_BYTES 512
+#define CALZUNDI_FILE_BYTES(m, k) (CALZUNDI_BLOCK_BYTES * (1 + ((m) + 59) / 60 + ((k) + 29) / 30))
+#define CALZUNDI_LONGEST_FILE CALZUNDI_FILE_BYTES(CALZUNDI_PINS, CALZUNDI_MACROS)
+
+/* Numbers to lend for reading any net file. */
+#define CALZUNDI_READ_PIN_NUMBERS (2 * CALZUNDI_PINS)
+#define CALZUNDI_READ_MACRO_NUMBERS (4 * CALZUNDI_MACROS)
+
+/* The numbers of refusals. */
+enum calzundi_refusal {
+    CALZUNDI_LENGTH = 1,            /* the file is not 1 to 6 whole blocks */
+    CALZUNDI_SUMS = 2,              /* a block's word 126 or 127 is wrong */
+    CALZUNDI_LAYOUT = 3,            /* anything else in the file's layout, the head's counts against the blocks included */
+    CALZUNDI_PIN_LIST = 11,         /* the pin list isn't whole pairs, or m is 0 or above 64 */
+    CALZUNDI_MACRO_LIST = 12,       /* the macro list isn't whole fours, or k is above 64 */
+    CALZUNDI_OUT_OF_RANGE = 13,     /* a coordinate is out of range */
+    CALZUNDI_FLAT_MACRO = 14,       /* a macro's left is not below its right, or its bottom not below its top */
+    CALZUNDI_PIN_TWICE = 15,        /* two pins are at one place */
+    CALZUNDI_MACROS_OVERLAP = 16,   /* two macros' interiors meet; touching is allowed */
+    CALZUNDI_PIN_IN_INTERIOR = 17,  /* a pin is in a macro's interior; on its boundary is allowed */
+    CALZUNDI_SPACE = 21             /* too little space is lent */
+};
+
+/* Lengths, totals and the numbers lent for the terminal tree are 64 bits wide. */
+typedef int64_t calzundi_length;
+
+/*
+ * Check a net: 0 where it is allowed.
+ *
+ * Refusals: 11 to 17, in this order, each for the whole net before the next.
+ */
+int32_t calzundi_check(const int32_t *pins, size_t pin_numbers, const int32_t *macros, size_t macro_numbers);
+
+/*
+ * Graph: the spanning graph's vertices and edges, each in order.
+ *
+ * vertices      lent, at least CALZUNDI_VERTEX_NUMBERS(m, k); a vertex is two numbers, x and y
+ * edges         lent, at least CALZUNDI_EDGE_NUMBERS(m, k); an edge is four, its smaller place first
+ * vertex_count  how many vertices were given
+ * edge_count    how many edges were given
+ *
+ * Refusals: 11 to 17, then 21.
+ */
+int32_t calzundi_graph(const int32_t *pins, size_t pin_numbers, const int32_t *macros, size_t macro_numbers, int32_t *vertices,
+                       size_t vertex_numbers, int32_t *edges, size_t edge_numbers, size_t *vertex_count, size_t *edge_count);
+
+/*
+ * Terminal tree: the m - 1 terminal paths that join all pins, in the order kept.
+ *
+ * paths  lent, at least CALZUNDI_PATH_NUMBERS(m) of 64 bits; a path is five, the four of its bridge and its length
+ * count  how many paths were given
+ * total  the sum of their lengths
+ *
+ * Refusals: 11 to 17, then 21.
+ */
+int32_t calzundi_terminal_tree(const int32_t *pins, size_t pin_numbers, const int32_t *macros, size_t macro_numbers, int64_t *paths,
+                               size_t path_numbers, size_t *count, calzundi_length *total);
+
+/*
+ * Refined tree: its edges in order.
+ *
+ * edges  lent, at least CALZUNDI_TREE_NUMBERS(m, k); an edge is four numbers, its smaller place first
+ * count  how many edges were given
+ * total  the sum of their lengths, the metal to lay
+ *
+ * Refusals: 11 to 17, then 21.
+ */
+int32_t calzundi_refined_tree(const int32_t *pins, size_t pin_numbers, const int32_t *macros, size_t macro_numbers, int32_t *edges,
+                              size_t edge_numbers, size_t *count, calzundi_length *total);
+
+/*
+ * Wires: the refined tree as it is drawn. Each edge, in order, gives a horizontal wire from its smaller place and then a vertical one to
+ * its larger place; one of length zero is left out.
+ *
+ * wires  lent, at least CALZUNDI_WIRE_NUMBERS(m, k); a wire is four numbers, its start and its end as drawn
+ * count  how many wires were given
+ *
+ * Refusals: 11 to 17, then 21.
+ */
+int32_t calzundi_wires(const int32_t *pins, size_t pin_numbers, const int32_t *macros, size_t macro_numbers, int32_t *wires,
+                       size_t wire_numbers, size_t *count);
+
+/*
+ * Write a net file, which keeps the order of both lists.
+ *
+ * bytes  lent, at least CALZUNDI_FILE_BYTES(m, k)
+ * given  how many bytes the file has
+ *
+ * Refusals: 11 to 17, then 21.
+ */
+int32_t calzundi_write_file(const int32_t *pins, size_t pin_numbers, const int32_t *macros, size_t macro_numbers, uint8_t *bytes,
+                            size_t byte_count, size_t *given);
+
+/*
+ * Read a net file: the two lists in the order in which they were written. Every file that is accepted holds an allowed net, and is the
+ * one that calzundi_write_file makes of it.
+ *
+ * pins    lent, at least CALZUNDI_READ_PIN_NUMBERS, whatever the file
+ * macros  lent, at least CALZUNDI_READ_MACRO_NUMBERS, whatever the file
+ * m, k    how many pins and macros were given
+ *
+ * Refusals: 21 first, then 1, 2, 3, then 11 to 17.
+ */
+int32_t calzundi_read_file(const uint8_t *bytes, size_t byte_count, int32_t *pins, size_t pin_numbers, int32_t *macros,
+                           size_t macro_numbers, size_t *m, size_t *k);
+
+#ifdef __cplusplus
+}
+#endif
+
+#endif

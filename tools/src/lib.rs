@@ -1,0 +1,10 @@
+//! What the programs `pack`, `unpack` and `draw` are made of. Net files are written and read by the proved router; the text form is the
+//! second program's.
+
+pub mod command;
+pub mod labels;
+pub mod netfile;
+pub mod picture;
+pub mod refusal;
+pub mod routed;
+pub mod svg;
