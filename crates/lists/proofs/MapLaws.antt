@@ -1,7 +1,7 @@
 -- The image of a list under a map: what stands in it and where that comes from, positions and repeats carried over.
 -- Assumes nothing.
 use mathlib.Core.Path.{_≡_, refl, ap, ap₂}
-use mathlib.Core.List.{List, [], _∷_, map, List·Memᴰ·cases-cons, Memᴰ·cast}
+use mathlib.Core.List.{List, [], _∷_, map, reverse, reverseAux, List·Memᴰ·cases-cons, Memᴰ·cast}
 use Prim.Native.Nat.{ℕ, zero, suc, _<_}
 use native.Mathlib.Omega.{arith}
 use lib.ListN.{length, getD}
@@ -47,6 +47,16 @@ module _ {A B : Type 0} (f : A → B) where
     where
       twice : Source l (f x) → ⊥
       twice s = o .0 (Memᴰ·cast (h x (s .entry) (here refl) (there (s .stands)) (s .is)) (s .stands))
+
+-- The list turned round
+
+module _ {A B : Type 0} (f : A → B) where
+  map-turned : (l m : List A) → map f (reverseAux l m) ≡ reverseAux (map f l) (map f m)
+  map-turned [] m = refl
+  map-turned (x ∷ l) m = map-turned l (x ∷ m)
+
+  pub map-reverse : (l : List A) → map f (reverse l) ≡ reverse (map f l)
+  map-reverse l = map-turned l []
 
 -- Two maps, one after the other
 

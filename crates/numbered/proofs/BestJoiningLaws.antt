@@ -2,8 +2,9 @@
 -- our paths and our way from numbers to places, the joinings and chains that they are compared with from places to numbers.
 -- Assumes nothing.
 use mathlib.Core.Path.{_≡_, refl, sym, ap, ap₂, _∙_, subst}
+use mathlib.Core.Bool.{false}
 use mathlib.Core.List.{List, _∷_, map}
-use Prim.Native.Nat.{ℕ, suc, _≤_}
+use Prim.Native.Nat.{ℕ, suc, _≤_, _<_}
 use native.Mathlib.Omega.{arith}
 use lib.ListN.{length, length-map}
 use Rattle.lists.specs.Member.{_∈_}
@@ -22,18 +23,18 @@ use Rattle.plane.proofs.PlaceOrder.{place-same}
 use Rattle.net.specs.Allowed.{Allowed}
 use Rattle.graph.specs.Vertices.{vertices}
 use Rattle.terminal.specs.Edges.{one, two}
-use Rattle.terminal.specs.Bridges.{rootsOf as rootsBy}
+use Rattle.terminal.specs.Bridges.{sameRoot, rootsOf as rootsBy}
 use Rattle.terminal.specs.Kept.{terminal, keptLengths}
 use Rattle.terminal.specs.Setting.{pairs}
 use Rattle.terminal.proofs.WholeLaws.{of-kept}
-use Rattle.terminal.proofs.OurTree.{kept-stands, kept-joining, way-between, way-only, none-shorter, none-lower}
+use Rattle.terminal.proofs.OurTree.{stands, kept-joining, way-between, way-only, none-shorter, none-lower}
 use Rattle.numbered.specs.Number.{numberOf, vertexAt, edgeAt}
 use Rattle.numbered.specs.Tree.{spanning, treeOf, bridgesOf, lengthsOf, pathsOf, totalOf, rootsOf}
 use Rattle.numbered.specs.Roots.{WayUp}
 use Rattle.numbered.specs.Demand.{Kept, PathOf, keptEnds, Stands, BestJoining}
 use Rattle.numbered.proofs.SettingOf.{between-numbers, edge-in, one-vertex, two-vertex, setting, whole, paths-count}
 use Rattle.numbered.proofs.CrossingLaws.{G, pins, T, P, to-places, to-numbers, length-by-places, length-by-numbers}
-use Rattle.numbered.proofs.CrossingLaws.{kept, weight, given, bridgeNumber, number-given, given-in, of-given, given-follows}
+use Rattle.numbered.proofs.CrossingLaws.{kept, weight, given, bridgeNumber, kept-below, number-given, given-in, of-given, given-follows}
 use Rattle.numbered.proofs.CrossingLaws.{number-in, given-number, number-follows}
 use Rattle.numbered.proofs.RootLaws.{wayPlaces, way-up}
 
@@ -56,13 +57,12 @@ module _ {ps : List Place} {ms : List Macro} (a : Allowed ps ms) where
   unfolding treeOf terminal
   paths-sum = ap total (sym paths-lengths)
 
-  -- the path that it stands for
-  stand : (k : ℕ) → k ∈ kept a → Stands ps ms (edgeAt (spanning ps ms) k) (weight a k)
+  -- the path that a bridge stands for
+  pub bridge-stands : (k : ℕ) → k < G a .count → sameRoot (G a) (T a) k ≡ false → Stands ps ms (edgeAt (spanning ps ms) k) (weight a k)
   unfolding rootsOf
-  stand k m =
-      let s = kept-stands (setting a) (whole a) k m in
-      let h = of-kept (G a) (T a) (P a) k m .0 in
-      let f = given-follows a k m in
+  bridge-stands k h e =
+      let s = stands (setting a) (whole a) k h e in
+      let f = given-follows a k h in
       record {
         path = path-carried (to-places a) (s .path);
         start-is = start-carried (to-places a) (s .path) ∙ ap (vertexAt (vertices ps ms)) (s .start-is) ∙ sym (f .0);
@@ -83,13 +83,17 @@ module _ {ps : List Place} {ms : List Macro} (a : Allowed ps ms) where
   pub paths-stand : (k : Kept) → k ∈ pathsOf ps ms → Stands ps ms (k .0) (k .1)
   paths-stand k m =
       let s = of-given a k m in
-      subst (λ (b : Kept). Stands ps ms (b .0) (b .1)) (sym (s .is)) (stand (s .entry) (s .stands))
+      let r = of-kept (G a) (T a) (P a) (s .entry) (s .stands) in
+      subst (λ (b : Kept). Stands ps ms (b .0) (b .1)) (sym (s .is)) (bridge-stands (s .entry) (r .0) (r .1))
 
   -- Our joining
 
+  kept-follows : (k : ℕ) → k ∈ kept a → Follows (vertexAt (vertices ps ms)) (given a) (rootsBy (G a) (T a)) (keptEnds ps ms) k
+  kept-follows k m = given-follows a k (kept-below a k m)
+
   pub paths-joining : Joining (keptEnds ps ms) ps (pathsOf ps ms)
   paths-joining =
-      joining-carried (vertexAt (vertices ps ms)) (given a) (rootsBy (G a) (T a)) (keptEnds ps ms) (given-in a) (given-follows a)
+      joining-carried (vertexAt (vertices ps ms)) (given a) (rootsBy (G a) (T a)) (keptEnds ps ms) (given-in a) kept-follows
       (numberOf (vertices ps ms)) (to-places a .pin-back) (λ q m. to-numbers a .undone q (to-numbers a .pin-in q m))
       (kept-joining (setting a) (whole a))
 
@@ -139,7 +143,7 @@ module _ {ps : List Place} {ms : List Macro} (a : Allowed ps ms) where
       let r =
       way-between (setting a) (whole a) (numberOf vs x) (numberOf vs y) (to-numbers a .pin x i) (to-numbers a .pin y k) (number-apart x y i k n)
       in
-      let o = our-way-carried (vertexAt vs) (given a) (rootsBy (G a) (T a)) (keptEnds ps ms) (given-in a) (given-follows a) single (r .1) in
+      let o = our-way-carried (vertexAt vs) (given a) (rootsBy (G a) (T a)) (keptEnds ps ms) (given-in a) kept-follows single (r .1) in
       (map (given a) (r .0), rw (to-numbers a .undone x (to-numbers a .pin-in x i), to-numbers a .undone y (to-numbers a .pin-in y k)) at o)
     where
       vs : List Place

@@ -158,11 +158,14 @@ module _ {ps : List Place} {ms : List Macro} (a : Allowed ps ms) where
   unfolding pathsOf treeOf terminal
   paths-are = refl
 
-  pub kept-below : (k : ℕ) → k ∈ kept → k < length (spanning ps ms)
-  kept-below k m = let r = of-kept G T P k m .0 in rw (count-of vs es) at r
+  pub kept-below : (k : ℕ) → k ∈ kept → k < G .count
+  kept-below k m = of-kept G T P k m .0
+
+  pub edge-below : (k : ℕ) → k < G .count → k < length (spanning ps ms)
+  edge-below k h = rw (count-of vs es) at h
 
   pub number-given : (k : ℕ) → k ∈ kept → bridgeNumber (given k) ≡ k
-  number-given k m = position-at beforeEdge edge-order es (edges-ascending ms vs) k _ (kept-below k m)
+  number-given k m = position-at beforeEdge edge-order es (edges-ascending ms vs) k _ (edge-below k (kept-below k m))
 
   pub given-in : (k : ℕ) → k ∈ kept → given k ∈ pathsOf ps ms
   given-in k m = rw paths-are (in-map given m)
@@ -172,11 +175,11 @@ module _ {ps : List Place} {ms : List Macro} (a : Allowed ps ms) where
   of-given b m = of-map given kept (rw paths-are at m)
 
   -- its ends are roots
-  pub given-follows : (k : ℕ) → k ∈ kept → Follows (vertexAt (vertices ps ms)) given (rootsBy G T) (keptEnds ps ms) k
+  pub given-follows : (k : ℕ) → k < G .count → Follows (vertexAt (vertices ps ms)) given (rootsBy G T) (keptEnds ps ms) k
   unfolding rootsOf
-  given-follows k m = (
-    root-by-number _ ∙ ap (λ (i : ℕ). vertexAt vs (root T i)) (sym (one-of vs es k (kept-below k m))),
-    root-by-number _ ∙ ap (λ (i : ℕ). vertexAt vs (root T i)) (sym (two-of vs es k (kept-below k m))),
+  given-follows k h = (
+    root-by-number _ ∙ ap (λ (i : ℕ). vertexAt vs (root T i)) (sym (one-of vs es k (edge-below k h))),
+    root-by-number _ ∙ ap (λ (i : ℕ). vertexAt vs (root T i)) (sym (two-of vs es k (edge-below k h))),
   )
 
   pub number-in : (b : Kept) → b ∈ pathsOf ps ms → bridgeNumber b ∈ kept
@@ -202,8 +205,8 @@ module _ {ps : List Place} {ms : List Macro} (a : Allowed ps ms) where
       e : given k ≡ b
       e = given-number b m
 
-      f : Follows (vertexAt vs) given (rootsBy G T) (keptEnds ps ms) k
-      f = given-follows k (number-in b m)
-
       h : k < G .count
-      h = of-kept G T P k (number-in b m) .0
+      h = kept-below k (number-in b m)
+
+      f : Follows (vertexAt vs) given (rootsBy G T) (keptEnds ps ms) k
+      f = given-follows k h

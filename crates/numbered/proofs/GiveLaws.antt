@@ -49,7 +49,7 @@ module _ (es : List ℤ) (kept long : List ℕ) where
       ap (map (pathAt es kept long)) (ap (from 0) (add-one i) ∙ from-more 0 i ∙ ap (λ (j : ℕ). from 0 i ++ (j ∷ [])) e)
       ∙ map-append (pathAt es kept long) (from 0 i) (i ∷ [])
 
-  pub paths-count : (n : ℕ) → length (pathsIn es kept long n) ≡ n
+  paths-count : (n : ℕ) → length (pathsIn es kept long n) ≡ n
   unfolding pathsIn
   paths-count n = length-map (from 0 n) (pathAt es kept long) ∙ length-from 0 n
 
@@ -70,7 +70,8 @@ module _ (es : List ℤ) (kept long : List ℕ) where
         let read : ((a, b), d) ≡ pathAt es kept long i =
         ap₂ (λ (q : Place × Place) (m : ℕ). (q, m))
         (ap₂ (λ (u v : Place). (u, v)) (f ∙ ap (placeFrom es) e) (g ∙ ap (placeFrom es) n)) h in
-        let done : length (flat pathNumbers (pathsIn es kept long i)) ≡ i * 5 = five (pathsIn es kept long i) ∙ ap (λ (m : ℕ). m * 5) (paths-count i) in
+        let done : length (flat pathNumbers (pathsIn es kept long i)) ≡ i * 5 =
+        five (pathsIn es kept long i) ∙ ap (λ (m : ℕ). m * 5) (paths-count i) in
         s
         ∙ ap₂ (λ (l : List ℤ) (q : (Place × Place) × ℕ). sets l (i * 5) (pathNumbers q)) p read
         ∙ flat-more pathNumbers (pathsIn es kept long i) (pathAt es kept long i) lent (i * 5) done room

@@ -6,4 +6,8 @@ pub mod SettingOf
 pub mod CrossingLaws
 pub mod RootLaws
 pub mod BestJoiningLaws
+pub mod BridgeLaws
 pub mod WorkLaws
+pub mod PathLaws
+pub mod TreeOrder
+pub mod WorkedPaths

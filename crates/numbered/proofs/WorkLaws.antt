@@ -84,13 +84,15 @@ module _ {ps : List Place} {ms : List Macro} {lent : Tables} {points links : Lis
   vertices-fit =
       let f = length-flat placeNumbers placeFrom 2 place-width (vertices ps ms) in
       let small : length (flat placeNumbers (vertices ps ms)) ≤ length (lent .points) = omega (arith, f, few-vertices a, fresh .points) in
-      omega (arith, ap length (c .vertices-are), length-over (flat placeNumbers (vertices ps ms)) (lent .points) small, f, c .vertex-count, few-vertices a, fresh .points)
+      let long = length-over (flat placeNumbers (vertices ps ms)) (lent .points) small in
+      omega (arith, ap length (c .vertices-are), long, f, c .vertex-count, few-vertices a, fresh .points)
 
   pub edges-fit : e * 4 ≤ length links
   edges-fit =
       let f = length-flat edgeNumbers edgeFrom 4 edge-width (spanning ps ms) in
       let small : length (flat edgeNumbers (spanning ps ms)) ≤ length (lent .links) = omega (arith, f, few-edges a, fresh .links) in
-      omega (arith, ap length (c .edges-are), length-over (flat edgeNumbers (spanning ps ms)) (lent .links) small, f, c .edge-count, few-edges a, fresh .links)
+      let long = length-over (flat edgeNumbers (spanning ps ms)) (lent .links) small in
+      omega (arith, ap length (c .edges-are), long, f, c .edge-count, few-edges a, fresh .links)
 
   pub few-links : e ≤ edgeBound
   few-links = omega (arith, c .edge-count, few-edges a)

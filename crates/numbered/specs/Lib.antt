@@ -21,6 +21,8 @@
 --              PathOf ps ms                         a terminal path of the net's graph
 --              Stands ps ms b l                     the bridge b stands for a terminal path of length l
 --              BestJoining ps ms                    the kept paths are a joining, and none is shorter or has a shorter longest path
+--   Bridges    takenBefore j k                      by path length, ties by the order of edges
+--              KeptBridges ps ms                    the bridges in this order, and the given paths are those that are kept of them
 --   Tables     tables .., Fresh                     the tables that are lent for it, and what is asked of them
 --              Worked ps ms lent t r                what they hold once the tree is worked out
 --              pathsIn es kept long n               the kept paths as the tables have them
@@ -29,4 +31,5 @@ pub mod Number
 pub mod Tree
 pub mod Roots
 pub mod Demand
+pub mod Bridges
 pub mod Tables

@@ -30,7 +30,8 @@ is-before-requires c κs = tt
 
 -- what the test says of the vertex that was read
 test : (d : tie.After-is-before Inv-loop μ-loop)
-    → before (placeAt (now (d .before .before .before .before .args .vertices)) (d .before .before .before .loop .i)) (d .before .before .before .before .args .p)
+    → before (placeAt (now (d .before .before .before .before .args .vertices)) (d .before .before .before .loop .i))
+    (d .before .before .before .before .args .p)
     ≡ d .is-before .result
 test d =
     let q = d .before .before .before .before .args .p in

@@ -51,7 +51,8 @@ loop-again c =
     let more : l .loop .i < length (entries placeFrom 2 (now (a .places)) (a .m)) = omega (arith, place-entries (now (a .places)) (a .m), h) in
     let room : l .loop .i < length (now (a .numbers)) = omega (arith, l .before .pre, h) in
     let read = c .before .place-at .ensures ∙ sym (entry-at placeFrom 2 (now (a .places)) (a .m) (l .loop .i) (place (pos 0) (pos 0)) h) in
-    (omega arith, fill-more (l .loop .inv .1) _ _ more room (c .number-of .ensures ∙ ap (numberOf (entries placeFrom 2 (now (a .vertices)) (a .n))) read))
+    let same = ap (numberOf (entries placeFrom 2 (now (a .vertices)) (a .n))) read in
+    (omega arith, fill-more (l .loop .inv .1) _ _ more room (c .number-of .ensures ∙ same))
 
 returns : tie.Need-returns Inv-loop μ-loop
 returns c =

@@ -85,10 +85,14 @@ returns c =
     let four = c .before .wide4 in
     let five = c .signed in
     let a = c .before .before .before .before .before .before .before .before .before .args in
-    let e1 : toZ w64 (ofZ w64 (one .result)) ≡ a .a .x = toZ-ofZ w64 _ (record { sfits = one .ok }) ∙ one .ensures ∙ toZ-ofZ w32 (a .a .x) (search needs) in
-    let e2 : toZ w64 (ofZ w64 (two .result)) ≡ a .a .y = toZ-ofZ w64 _ (record { sfits = two .ok }) ∙ two .ensures ∙ toZ-ofZ w32 (a .a .y) (search needs) in
-    let e3 : toZ w64 (ofZ w64 (three .result)) ≡ a .b .x = toZ-ofZ w64 _ (record { sfits = three .ok }) ∙ three .ensures ∙ toZ-ofZ w32 (a .b .x) (search needs) in
-    let e4 : toZ w64 (ofZ w64 (four .result)) ≡ a .b .y = toZ-ofZ w64 _ (record { sfits = four .ok }) ∙ four .ensures ∙ toZ-ofZ w32 (a .b .y) (search needs) in
+    let e1 : toZ w64 (ofZ w64 (one .result)) ≡ a .a .x =
+    toZ-ofZ w64 _ (record { sfits = one .ok }) ∙ one .ensures ∙ toZ-ofZ w32 (a .a .x) (search needs) in
+    let e2 : toZ w64 (ofZ w64 (two .result)) ≡ a .a .y =
+    toZ-ofZ w64 _ (record { sfits = two .ok }) ∙ two .ensures ∙ toZ-ofZ w32 (a .a .y) (search needs) in
+    let e3 : toZ w64 (ofZ w64 (three .result)) ≡ a .b .x =
+    toZ-ofZ w64 _ (record { sfits = three .ok }) ∙ three .ensures ∙ toZ-ofZ w32 (a .b .x) (search needs) in
+    let e4 : toZ w64 (ofZ w64 (four .result)) ≡ a .b .y =
+    toZ-ofZ w64 _ (record { sfits = four .ok }) ∙ four .ensures ∙ toZ-ofZ w32 (a .b .y) (search needs) in
     let e5 : toZ w64 (ofZ w64 (five .result)) ≡ pos (a .d) = toZ-ofZ w64 _ (record { sfits = five .ok }) ∙ five .ensures in
     five-stored (now (a .paths)) (a .i * 5) _ _ _ _ _ e1 e2 e3 e4 e5
 

@@ -1,0 +1,7 @@
+pub mod StandsLaws
+pub mod MarkLaws
+pub mod StartLaws
+pub mod UnionTree
+pub mod WorkedUnions
+pub mod PlacedLaws
+pub mod UnionSound
