@@ -337,6 +337,11 @@ module _ {ps : List Place} {ms : List Macro} (a : Allowed ps ms) where
       omega (arith, e, number-total)
 
   -- a round may bring a point, and there are as many rounds as pins
+  -- its points are vertices
+  pub union-few : unionOf ps ms .count ≤ length (vertices ps ms)
+  unfolding unionOf startOf
+  union-few = few-points
+
   pub union-room : unionOf ps ms .count + length ps ≤ pointBound
   unfolding unionOf startOf
   union-room = omega (arith, few-points, few-vertices a, a .few-pins)
