@@ -1,0 +1,135 @@
+-- Document 01's nets marked ●, together, as one table of the definitions: what every operation answers, and what it gives.
+-- Assumes nothing.
+use mathlib.Core.Path.{_≡_, refl}
+use mathlib.Core.List.{List, [], _∷_}
+use Prim.Native.Nat.{ℕ}
+use lib.IntN.{ℤ, pos, negsuc}
+use Rattle.lent.specs.Told.{Told, refused, given, onlyIf}
+use Rattle.plane.specs.declared.Place.{Place}
+use Rattle.plane.specs.Place.{place}
+use Rattle.joined.specs.Cost.{lengths}
+use Rattle.net.specs.WorkedNets.{Lists, onePin, noPin, aroundOne, threePins, sharedSide, onSides, overlapping, onBoundary, inInterior, twiceInInterior, noWidth}
+use Rattle.net.specs.Check.{checked}
+use Rattle.net.proofs.WorkedChecks.{answer}
+use Rattle.numbered.proofs.WorkedPaths.{treeIn}
+use Rattle.union.proofs.WorkedUnions.{union}
+use Rattle.refined.proofs.WorkedTrees.{refinedOf as worked}
+use Rattle.wires.specs.Edges.{edgesFrom}
+use Rattle.wires.proofs.WorkedWires.{given as wired-given}
+use Rattle.router.specs.Graph.{verticesOf, edgesOf, graphRoomShort, graphGiven, graphed}
+use Rattle.router.specs.Room.{ifRoom}
+use Rattle.router.specs.Terminal.{pathsOf, pathsTotal, terminalGiven, terminalTree}
+use Rattle.router.specs.Refined.{refinedOf, edgesIn, metalIn, laidOf, refinedGiven, refinedTree, wiresOf, wiresGiven, wired}
+
+-- what the operations answer when the space of the largest net is lent
+pub record Answers : Type 0 where
+  pub check : Told (ℕ × ℕ)
+  pub graph : Told (ℕ × ℕ)
+  pub terminal : Told (ℕ × ℤ)
+  pub refined : Told (ℕ × ℤ)
+  pub wires : Told ℕ
+
+-- to unfold this is to unfold all that it rests on
+unfoldable pub answers : Lists → Answers
+unfolding answer treeIn union worked wired-given onlyIf lengths edgesFrom verticesOf edgesOf graphRoomShort graphGiven graphed ifRoom pathsOf pathsTotal terminalGiven terminalTree refinedOf edgesIn metalIn refinedGiven refinedTree wiresGiven wired
+answers net = record {
+  check = checked (net .pins) (net .macros);
+  graph = graphed (net .pins) (net .macros) 640 5120;
+  terminal = terminalTree (net .pins) (net .macros) 320;
+  refined = refinedTree (net .pins) (net .macros) 1536;
+  wires = wired (net .pins) (net .macros) 3072;
+}
+
+-- what a tree's operations give
+pub record Trees : Type 0 where
+  pub paths : List ((Place × Place) × ℕ)
+  pub edges : List (Place × Place)
+  pub wires : List (Place × Place)
+
+unfoldable pub trees : Lists → Trees
+unfolding answers
+trees net = record { paths = pathsOf (net .pins) (net .macros); edges = laidOf (net .pins) (net .macros); wires = wiresOf (net .pins) (net .macros) }
+
+-- every operation refuses with the same number
+abbrev none : ℕ → Answers
+none n = record { check = refused n; graph = refused n; terminal = refused n; refined = refused n; wires = refused n }
+
+abbrev edge : ℤ → ℤ → ℤ → ℤ → Place × Place
+edge a b c d = (place a b, place c d)
+
+pub record Table : Type 0 where
+  -- "One pin (5, 5): no edges, totals 0 and 0. No pin: 11."
+  pub one-pin : answers onePin ≡ record {
+    check = given (1, 0);
+    graph = given (1, 0);
+    terminal = given (0, pos 0);
+    refined = given (0, pos 0);
+    wires = given 0;
+  }
+  pub no-pin : answers noPin ≡ none 11
+  -- "Pins (0, 0), (10, 0), macro 4, −2, 6, 3: eight graph edges; one path, bridge (4, −2)–(6, −2), length 14; refined 14."
+  pub around-one : answers aroundOne ≡ record {
+    check = given (2, 1);
+    graph = given (6, 8);
+    terminal = given (1, pos 14);
+    refined = given (3, pos 14);
+    wires = given 5;
+  }
+  pub around-one-path : trees aroundOne .paths ≡ (edge (pos 4) (negsuc 1) (pos 6) (negsuc 1), 14) ∷ []
+  -- "Pins (0, 0), (4, 0), (2, 3): terminal 9, refined 7."
+  pub three-pins : answers threePins ≡ record {
+    check = given (3, 0);
+    graph = given (3, 3);
+    terminal = given (2, pos 9);
+    refined = given (3, pos 7);
+    wires = given 3;
+  }
+  pub three-pins-trees : trees threePins ≡ record {
+    paths = (edge (pos 0) (pos 0) (pos 4) (pos 0), 4) ∷ (edge (pos 0) (pos 0) (pos 2) (pos 3), 5) ∷ [];
+    edges = edge (pos 0) (pos 0) (pos 2) (pos 0) ∷ edge (pos 2) (pos 0) (pos 2) (pos 3) ∷ edge (pos 2) (pos 0) (pos 4) (pos 0) ∷ [];
+    wires = edge (pos 0) (pos 0) (pos 2) (pos 0) ∷ edge (pos 2) (pos 0) (pos 2) (pos 3) ∷ edge (pos 2) (pos 0) (pos 4) (pos 0) ∷ [];
+  }
+  -- "Pins (2, −1), (2, 3), macros 0, 0, 2, 2 and 2, 0, 4, 2: allowed; both totals 4, along the shared side."
+  pub shared-side : answers sharedSide ≡ record {
+    check = given (2, 2);
+    graph = given (8, 13);
+    terminal = given (1, pos 4);
+    refined = given (3, pos 4);
+    wires = given 3;
+  }
+  -- "Pins (0, 1), (1, 1), macro 0, 0, 1, 2: one path, bridge (0, 0)–(1, 0); both totals 3."
+  pub on-sides : answers onSides ≡ record {
+    check = given (2, 1);
+    graph = given (6, 6);
+    terminal = given (1, pos 3);
+    refined = given (3, pos 3);
+    wires = given 3;
+  }
+  pub on-sides-path : trees onSides .paths ≡ (edge (pos 0) (pos 0) (pos 1) (pos 0), 3) ∷ []
+  -- "Macros 0, 0, 2, 2 and 1, 1, 3, 3 with pin (9, 9): 16."
+  pub overlap : answers overlapping ≡ none 16
+  -- "Macro 4, −2, 6, 3 with pin (4, 0): allowed; with pin (5, 0): 17; with pin (5, 0) twice: 15."
+  pub on-boundary : answers onBoundary .check ≡ given (1, 1)
+  pub in-interior : answers inInterior ≡ none 17
+  pub twice : answers twiceInInterior ≡ none 15
+  -- "Macro 3, 0, 3, 5 with pin (9, 9): 14."
+  pub no-width : answers noWidth ≡ none 14
+
+pub worked-nets : Table
+unfolding trees
+worked-nets = record {
+  one-pin = refl;
+  no-pin = refl;
+  around-one = refl;
+  around-one-path = refl;
+  three-pins = refl;
+  three-pins-trees = refl;
+  shared-side = refl;
+  on-sides = refl;
+  on-sides-path = refl;
+  overlap = refl;
+  on-boundary = refl;
+  in-interior = refl;
+  twice = refl;
+  no-width = refl;
+}
