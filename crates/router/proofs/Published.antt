@@ -49,7 +49,7 @@ joined pins macros {net} g =
       graph =
           λ v e h k.
           graphed-allowed pins macros v e net g
-              ∙ graph-fits pins macros v e (or-neither (le-ltb v (pointCount pins macros * 2) h) (le-ltb e (pointCount pins macros * 16) k));
+              ∙ graph-fits pins macros v e (or-neither _ _ (le-ltb v (pointCount pins macros * 2) h) (le-ltb e (pointCount pins macros * 16) k));
       terminal =
           λ room h.
           only-given t (terminalGiven pins macros room) net g
