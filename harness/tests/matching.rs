@@ -1,7 +1,7 @@
 //! The proved router and the second program give the same answers and leave the same lent space.
 
 use harness::library;
-use harness::matching::{allowed, any, file, refused, File, Matched};
+use harness::matching::{allowed, any, file, refused, routed, File, Matched};
 use reference::generate::{net, Kind};
 use reference::lists::Lists;
 use reference::netfile::{self, BLOCK_BYTES};
@@ -85,6 +85,21 @@ fn graph_on_twenty_thousand_nets() {
 fn graph_on_refused_lists() {
     for seed in 0..5_000 {
         matched(refused(seed).graph());
+    }
+}
+
+/// Nets of every kind, each also with its lists in another order, with lent space exact, longer, too short and none.
+#[test]
+fn terminal_tree_on_twenty_thousand_nets() {
+    for seed in 0..20_000 {
+        matched(routed(seed).terminal_tree());
+    }
+}
+
+#[test]
+fn terminal_tree_on_refused_lists() {
+    for seed in 0..5_000 {
+        matched(refused(seed).terminal_tree());
     }
 }
 

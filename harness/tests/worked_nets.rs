@@ -81,3 +81,61 @@ fn check_of_the_worked_nets() {
         assert_eq!(library::check(&pins, &macros), answer, "{name}");
     }
 }
+
+/// The terminal tree's paths, and their total, in the space that document 01 names.
+fn terminal(pins: &[i32], macros: &[i32]) -> Result<(Vec<i64>, i64), u32> {
+    let mut paths = vec![0; 5 * (pins.len() / 2)];
+    let (count, total) = library::terminal_tree(pins, macros, &mut paths)?;
+    paths.truncate(5 * count);
+    Ok((paths, total))
+}
+
+/// The bridges, lengths and totals that the document names.
+#[test]
+fn terminal_trees_of_the_worked_nets() {
+    let answers: [(&str, &[i64], i64); 6] = [
+        ("one-pin", &[], 0),
+        ("around-one", &[4, -2, 6, -2, 14], 14),
+        ("three-pins", &[0, 0, 4, 0, 4, 0, 0, 2, 3, 5], 9),
+        ("shared-side", &[2, 0, 2, 2, 4], 4),
+        ("on-sides", &[0, 0, 1, 0, 3], 3),
+        ("on-boundary", &[], 0),
+    ];
+    for (name, paths, total) in answers {
+        let Lists { pins, macros } = example(name);
+        assert_eq!(
+            terminal(&pins, &macros),
+            Ok((paths.to_vec(), total)),
+            "{name}"
+        );
+    }
+    for (name, number) in [
+        ("no-pin", 11),
+        ("overlapping", 16),
+        ("in-interior", 17),
+        ("twice-in-interior", 15),
+        ("no-width", 14),
+    ] {
+        let Lists { pins, macros } = example(name);
+        assert_eq!(terminal(&pins, &macros), Err(number), "{name}");
+    }
+}
+
+/// "Coordinate 1,000,000 passes, 1,000,001 is 13; 64 pins pass, 65 are 11; 64 macros pass, 65 are 12."
+#[test]
+fn terminal_trees_at_the_bounds() {
+    let total = |pins: &[i32], macros: &[i32]| terminal(pins, macros).map(|(_, total)| total);
+    let ends = [-1_000_000, -1_000_000, 1_000_000, 1_000_000];
+    assert_eq!(total(&ends, &[]), Ok(4_000_000));
+    assert_eq!(total(&[0, 0, 1_000_001, 0], &[]), Err(13));
+    let pins = |count: i32| (0..count).flat_map(|i| [i, 0]).collect::<Vec<i32>>();
+    let macros = |count: i32| {
+        (0..count)
+            .flat_map(|i| [i, 0, i + 1, 1])
+            .collect::<Vec<i32>>()
+    };
+    assert_eq!(total(&pins(64), &[]), Ok(63));
+    assert_eq!(total(&pins(65), &[]), Err(11));
+    assert_eq!(total(&[0, 0, 64, 1], &macros(64)), Ok(65));
+    assert_eq!(total(&[0, 0], &macros(65)), Err(12));
+}
