@@ -3,6 +3,7 @@
 use net::Checked;
 use netfile::Written;
 use router::Graphed;
+use router::Tree;
 ghost use mathlib.Core.Path.{_≡_};
 ghost use lib.IntN.{pos};
 ghost use lib.ListN.{length};
@@ -11,7 +12,9 @@ ghost use Rattle.lent.specs.Over.{after, valueAfter};
 ghost use Rattle.lent.specs.Entries.{flat};
 ghost use Rattle.net.specs.Check.{checked};
 ghost use Rattle.graph.specs.Numbers.{placeNumbers, edgeNumbers};
+ghost use Rattle.numbered.specs.Tree.{pathNumbers};
 ghost use Rattle.router.specs.Graph.{verticesOf, edgesOf, graphed};
+ghost use Rattle.router.specs.Terminal.{pathsOf, terminalTree};
 ghost use Rattle.netfile.specs.Layout.{fileBytes};
 ghost use Rattle.netfile.specs.Write.{written};
 ghost use Rattle.netfile.specs.Read.{pinsIn, macrosIn, readFile};
@@ -52,6 +55,35 @@ pub extern "C" fn calzundi_graph(
             0
         }
         Graphed::Refused(refusal) => refusal.number(),
+    }
+}
+
+// 0, the number of paths given and their total, or the number of the refusal.
+#[no_mangle]
+pub extern "C" fn calzundi_terminal_tree(
+    pins: &[i32],
+    macros: &[i32],
+    paths: &mut [i64],
+    count: &mut usize,
+    total: &mut i64,
+) -> i32
+    ensures answer { λ r. ⌜ r ≡ pos (code (terminalTree (now (pins .entry)) (now (macros .entry)) (length (now (paths .entry))))) ⌝ }
+    ensures paths { λ _. ⌜ now (paths .exit)
+        ≡ after (terminalTree (now (pins .entry)) (now (macros .entry)) (length (now (paths .entry))))
+        (flat pathNumbers (pathsOf (now (pins .entry)) (now (macros .entry)))) (now (paths .entry)) ⌝ }
+    ensures count { λ _. ⌜ now (count .exit)
+        ≡ valueAfter (λ tree. tree .0) (terminalTree (now (pins .entry)) (now (macros .entry)) (length (now (paths .entry)))) (now (count .entry)) ⌝ }
+    ensures total { λ _. ⌜ now (total .exit)
+        ≡ valueAfter (λ tree. tree .1) (terminalTree (now (pins .entry)) (now (macros .entry)) (length (now (paths .entry)))) (now (total .entry)) ⌝ }
+{
+    let answer = router::terminal_tree(pins, macros, &mut *paths);
+    match answer {
+        Tree::Given(given, sum) => {
+            *count = given;
+            *total = sum;
+            0
+        }
+        Tree::Refused(refusal) => refusal.number(),
     }
 }
 

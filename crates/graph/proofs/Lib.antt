@@ -1,6 +1,7 @@
 pub mod GraphSteps
 pub mod PickSteps
 pub mod WidthLaws
+pub mod ReadBack
 pub mod WorkedGraphs
 pub mod QuadrantLaws
 pub mod VertexLaws

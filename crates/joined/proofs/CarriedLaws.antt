@@ -1,18 +1,22 @@
--- What a map of points carries over: ways with their lengths, terminal paths, chains, joinings and our way. Links go to links, so ways to
--- ways; where the map is undone on the points in question, different points stay different, so loop-free stays loop-free and a path that
--- stands once stands once. The same laws lead from numbers to places and back.
+-- What a map of points carries over: ways with their lengths, terminal paths, chains, joinings, our way and what is kept. Links go to links,
+-- so ways to ways and joined to joined; where the map is undone on the points in question, different points stay different, so loop-free
+-- stays loop-free, and a path that stands once stands once. The same laws lead from numbers to places and back.
 -- Assumes nothing.
 use mathlib.Core.Path.{_≡_, refl, sym, ap, ap₂, _∙_, subst}
 use mathlib.Core.Logic.{_⊎_, inl, inr}
-use mathlib.Core.List.{List, [], _∷_, map, Memᴰ·cast}
+use mathlib.Core.List.{List, [], _∷_, map, reverse, Memᴰ·cast}
 use Prim.Native.Nat.{ℕ, _+_}
 use Rattle.lists.specs.Member.{_∈_, here, there, Among}
 use Rattle.lists.proofs.TestLaws.{either}
-use Rattle.lists.proofs.MapLaws.{of-map, map-once}
-use Rattle.joined.specs.Joined.{Link, Alike}
-use Rattle.joined.specs.Way.{Way, stop, go, long, On}
+use Rattle.lists.proofs.MemberLaws.{of-reverse}
+use Rattle.lists.proofs.MapLaws.{in-map, of-map, map-once, map-reverse}
+use Rattle.joined.specs.Joined.{Link, Alike, Joined}
+use Rattle.joined.specs.Way.{Way, stop, go, long, On, turned}
 use Rattle.joined.specs.Path.{TerminalPath, lengthOf}
 use Rattle.joined.specs.Chain.{Reads, Chain, last, next, Leads, Joining, OurWay}
+use Rattle.joined.specs.Keep.{keep, kept}
+use Rattle.joined.proofs.JoinedLaws.{one, between, carried, firsts, seconds}
+use Rattle.joined.proofs.KeepLaws.{Keeps, dropped, taken, keeps, keep-none, keep-among}
 use Rattle.joined.proofs.OtherLaws.{alike-trans, alike-first, alike-second, alike-sym}
 
 -- Links and ways
@@ -26,6 +30,11 @@ module _ {A B : Type 0} (f : A → B) where
   on-carried a b x [] o = o
   on-carried a b x (y ∷ ps) (inl e) = inl (alike-carried e)
   on-carried a b x (y ∷ ps) (inr o) = inr (on-carried a b y ps o)
+
+  pub turned-carried : (x : A) (ps qs : List A) → map f (turned x ps qs) ≡ turned (f x) (map f ps) (map f qs)
+  unfolding turned
+  turned-carried x [] qs = refl
+  turned-carried x (y ∷ ps) qs = turned-carried y ps (x ∷ qs)
 
   module _ {L : List (A × A)} {M : List (B × B)} (pair : (a b : A) → (a, b) ∈ L → (f a, f b) ∈ M) where
     pub link-carried : {x y : A} → Link L x y → Link M (f x) (f y)
@@ -100,6 +109,10 @@ module _ {A B : Type 0} {f : A → B} {g : B → A} {X : A → Type 0} {L : List
   unfolding path-carried
   finish-carried t = refl
 
+  pub points-carried : (t : TerminalPath L pins) → path-carried t .points ≡ map f (t .points)
+  unfolding path-carried
+  points-carried t = refl
+
   pub step-carried : (t : TerminalPath L pins) (a b : A) → On a b (t .start) (t .points) →
       On (f a) (f b) (path-carried t .start) (path-carried t .points)
   unfolding path-carried
@@ -160,3 +173,68 @@ chain-ends ends (last r) h = let e = h _ (here refl) in (alike-first (alike-sym 
 chain-ends ends (next r c) h =
     let e = h _ (here refl) in
     (alike-first (alike-sym r) (e .0) (e .1), chain-ends ends c (λ b m. h b (there m)) .1)
+
+-- What is kept
+
+module _ {A B C D : Type 0} (same : Discrete A) (alike : Discrete C) (f : A → C) (g : C → A) (h : B → D)
+    (ends : B → A × A) (span : D → C × C) where
+  -- the ends of h b are those of b, carried over, and g undoes that
+  abbrev pub Matches : B → Type 0
+  Matches b = Follows f h ends span b × ((g (f (ends b .0)) ≡ ends b .0) × (g (f (ends b .1)) ≡ ends b .1))
+
+  module _ (K : List B) (match : (b : B) → b ∈ K → Matches b) where
+    joined-forth : {x y : A} → Joined (map ends K) x y → Joined (map span (map h K)) (f x) (f y)
+    joined-forth j = carried f pair j
+      where
+        pair : (a b : A) → (a, b) ∈ map ends K → Joined (map span (map h K)) (f a) (f b)
+        pair a b m =
+            let s = of-map ends K m in
+            let e = match (s .entry) (s .stands) .0 in
+            between (ap f (firsts (s .is)) ∙ sym (e .0)) (ap f (seconds (s .is)) ∙ sym (e .1)) (one (inl (in-map span (in-map h (s .stands)))))
+
+    joined-back : {u v : C} → Joined (map span (map h K)) u v → Joined (map ends K) (g u) (g v)
+    joined-back j = carried g pair j
+      where
+        pair : (u v : C) → (u, v) ∈ map span (map h K) → Joined (map ends K) (g u) (g v)
+        pair u v m =
+            let r = of-map span (map h K) m in
+            let s = of-map h K (r .stands) in
+            let e = match (s .entry) (s .stands) in
+            between
+            (ap g (firsts (r .is) ∙ ap (λ (d : D). span d .0) (s .is) ∙ e .0 .0) ∙ e .1 .0)
+            (ap g (seconds (r .is) ∙ ap (λ (d : D). span d .1) (s .is) ∙ e .0 .1) ∙ e .1 .1)
+            (one (inl (in-map ends (s .stands))))
+
+  keep-carried : (L : List B) → ((b : B) → b ∈ L → Matches b) → map h (keep same ends L) ≡ keep alike span (map h L)
+  keep-carried [] match = ap (map h) (keep-none same ends) ∙ sym (keep-none alike span)
+  keep-carried (e ∷ L) match = at (keep-carried L (λ b m. match b (there m))) (keeps same ends e L) (keeps alike span (h e) (map h L))
+    where
+      Kept : List B
+      Kept = keep same ends L
+
+      inner : (b : B) → b ∈ Kept → Matches b
+      inner b m = match b (there (keep-among same ends L b m))
+
+      own : Matches e
+      own = match e (here refl)
+
+      forth : Joined (map ends Kept) (ends e .0) (ends e .1) → Joined (map span (map h Kept)) (span (h e) .0) (span (h e) .1)
+      forth j = between (own .0 .0) (own .0 .1) (joined-forth Kept inner j)
+
+      back-again : Joined (map span (map h Kept)) (span (h e) .0) (span (h e) .1) → Joined (map ends Kept) (ends e .0) (ends e .1)
+      back-again j =
+          between (sym (ap g (own .0 .0) ∙ own .1 .0)) (sym (ap g (own .0 .1) ∙ own .1 .1)) (joined-back Kept inner j)
+
+      at : map h Kept ≡ keep alike span (map h L) → Keeps same ends e L → Keeps alike span (h e) (map h L) →
+          map h (keep same ends (e ∷ L)) ≡ keep alike span (h e ∷ map h L)
+      at ih (dropped j r) (dropped i q) = ap (map h) r ∙ ih ∙ sym q
+      at ih (taken j r) (taken i q) = ap (map h) r ∙ ap (λ (l : List D). h e ∷ l) ih ∙ sym q
+      at ih (dropped j r) (taken i q) = absurd (i (rw (sym ih) (forth j)))
+      at ih (taken j r) (dropped i q) = absurd (j (back-again (rw (sym ih) at i)))
+
+  -- what is kept of the items carried over is what was kept, carried over
+  pub kept-carried : (L : List B) → ((b : B) → b ∈ L → Matches b) → map h (kept same ends L) ≡ kept alike span (map h L)
+  unfolding kept
+  kept-carried L match =
+      map-reverse h (keep same ends (reverse L))
+      ∙ ap reverse (keep-carried (reverse L) (λ b m. match b (of-reverse L b m)) ∙ ap (keep alike span) (map-reverse h L))

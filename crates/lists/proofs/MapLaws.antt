@@ -1,7 +1,7 @@
 -- The image of a list under a map: what stands in it and where that comes from, positions and repeats carried over.
 -- Assumes nothing.
-use mathlib.Core.Path.{_≡_, refl, ap}
-use mathlib.Core.List.{List, [], _∷_, map, List·Memᴰ·cases-cons, Memᴰ·cast}
+use mathlib.Core.Path.{_≡_, refl, ap, ap₂}
+use mathlib.Core.List.{List, [], _∷_, map, reverse, reverseAux, List·Memᴰ·cases-cons, Memᴰ·cast}
 use Prim.Native.Nat.{ℕ, zero, suc, _<_}
 use native.Mathlib.Omega.{arith}
 use lib.ListN.{length, getD}
@@ -47,3 +47,39 @@ module _ {A B : Type 0} (f : A → B) where
     where
       twice : Source l (f x) → ⊥
       twice s = o .0 (Memᴰ·cast (h x (s .entry) (here refl) (there (s .stands)) (s .is)) (s .stands))
+
+-- The list turned round
+
+module _ {A B : Type 0} (f : A → B) where
+  map-turned : (l m : List A) → map f (reverseAux l m) ≡ reverseAux (map f l) (map f m)
+  map-turned [] m = refl
+  map-turned (x ∷ l) m = map-turned l (x ∷ m)
+
+  pub map-reverse : (l : List A) → map f (reverse l) ≡ reverse (map f l)
+  map-reverse l = map-turned l []
+
+-- Two maps, one after the other
+
+module _ {A B C : Type 0} (f : A → B) (h : B → C) (k : A → C) where
+  pub map-then : (l : List A) → ((x : A) → x ∈ l → h (f x) ≡ k x) → map h (map f l) ≡ map k l
+  map-then [] e = refl
+  map-then (x ∷ l) e = ap₂ (λ (y : C) (m : List C). y ∷ m) (e x (here refl)) (map-then l (λ y m. e y (there m)))
+
+-- the second undoes the first on the entries
+pub map-undone : {A B : Type 0} (f : A → B) (h : B → A) (l : List A) → ((x : A) → x ∈ l → h (f x) ≡ x) → map h (map f l) ≡ l
+map-undone f h [] e = refl
+map-undone {A} f h (x ∷ l) e = ap₂ (λ (y : A) (m : List A). y ∷ m) (e x (here refl)) (map-undone f h l (λ y m. e y (there m)))
+
+-- A map that is given for the entries alone
+
+module _ {A B : Type 0} where
+  unfoldable pub mapIn : (l : List A) → ((x : A) → x ∈ l → B) → List B
+  mapIn [] f = []
+  mapIn (x ∷ l) f = f x (here refl) ∷ mapIn l (λ y m. f y (there m))
+
+  pub mapIn-then : {C : Type 0} (h : B → C) (k : A → C) (l : List A) (f : (x : A) → x ∈ l → B) →
+      ((x : A) (m : x ∈ l) → h (f x m) ≡ k x) → map h (mapIn l f) ≡ map k l
+  unfolding mapIn
+  mapIn-then h k [] f e = refl
+  mapIn-then {C} h k (x ∷ l) f e =
+      ap₂ (λ (y : C) (m : List C). y ∷ m) (e x (here refl)) (mapIn-then h k l (λ y m. f y (there m)) (λ y m. e y (there m)))

@@ -1,2 +1,13 @@
 pub mod NumberLaws
+pub mod FillLaws
+pub mod EdgeTables
+pub mod GiveLaws
 pub mod SettingOf
+pub mod CrossingLaws
+pub mod RootLaws
+pub mod BestJoiningLaws
+pub mod BridgeLaws
+pub mod WorkLaws
+pub mod PathLaws
+pub mod TreeOrder
+pub mod WorkedPaths

@@ -27,7 +27,7 @@ use Rattle.terminal.specs.Edges.{one, two, len}
 use Rattle.numbered.specs.Number.{numberOf, vertexAt, edgeAt, table, numbered, pinNumbers}
 
 -- an earlier entry of an ascending list comes before a later one
-ascending-at : {A : Type 0} (test : A → A → Bool) (l : List A) → Ascending test l → (i j : ℕ) (d : A) → i < j → j < length l
+pub ascending-at : {A : Type 0} (test : A → A → Bool) (l : List A) → Ascending test l → (i j : ℕ) (d : A) → i < j → j < length l
     → test (getD l i d) (getD l j d) ≡ true
 ascending-at test [] h i j d e f = absurd (let z : ⊥ = omega arith in z)
 ascending-at test (a ∷ l) h i zero d e f = absurd (let z : ⊥ = omega arith in z)

@@ -3,7 +3,7 @@
 -- Assumes nothing.
 use mathlib.Core.Path.{_≡_, refl, sym, ap, ap₂, _∙_}
 use mathlib.Core.Logic.{inl}
-use mathlib.Core.List.{List, [], _∷_}
+use mathlib.Core.List.{List, [], _∷_, Memᴰ·cast}
 use Prim.Native.Nat.{ℕ, suc, _≤_, _<_}
 use native.Mathlib.Omega.{arith}
 use lib.ListN.{length}
@@ -97,24 +97,26 @@ module _ {ps : List Place} {ms : List Macro} (a : Allowed ps ms) where
   }
 
   -- an edge of places is an edge of their numbers
-  edge-joined : (u v : Place) → (u, v) ∈ es → Joined (pairs (graphOf ps ms)) (numberOf vs u) (numberOf vs v)
+  pub edge-numbers : (u v : Place) → (u, v) ∈ spanning ps ms →
+      (numberOf (vertices ps ms) u, numberOf (vertices ps ms) v) ∈ pairs (graphOf ps ms)
   unfolding ends
-  edge-joined u v m =
+  edge-numbers u v m =
       let k = position beforeEdge es (u, v) in
       let small : k < length es = position-small beforeEdge edge-order es (edges-ascending ms vs) (u, v) m in
       let is : edgeAt es k ≡ (u, v) = at-position beforeEdge edge-order es (edges-ascending ms vs) (u, v) _ m in
       let counted : k < graphOf ps ms .count = rw (count-of vs es) small in
-      between
+      Memᴰ·cast
+      (ap₂ (λ (i j : ℕ). (i, j))
       (sym (one-of vs es k small ∙ ap (λ (e : Place × Place). numberOf vs (e .0)) is))
-      (sym (two-of vs es k small ∙ ap (λ (e : Place × Place). numberOf vs (e .1)) is))
-      (one-link (inl (in-map (ends (graphOf ps ms)) (in-from 0 (graphOf ps ms .count) k (omega arith) (omega arith)))))
+      (sym (two-of vs es k small ∙ ap (λ (e : Place × Place). numberOf vs (e .1)) is)))
+      (in-map (ends (graphOf ps ms)) (in-from 0 (graphOf ps ms .count) k (omega arith) (omega arith)))
 
   joins : (x y : ℕ) → x < length vs → y < length vs → Joined (pairs (graphOf ps ms)) x y
   joins x y i j =
       between
       (sym (number-of-vertex vs (vertices-ascending ps ms) x i))
       (sym (number-of-vertex vs (vertices-ascending ps ms) y j))
-      (carried (numberOf vs) edge-joined (connected a _ _ (vertex-in vs x i) (vertex-in vs y j)))
+      (carried (numberOf vs) (λ u v m. one-link (inl (edge-numbers u v m))) (connected a _ _ (vertex-in vs x i) (vertex-in vs y j)))
 
   -- a first pin
   first-pin : (l : List Place) → 1 ≤ length l → (p : Place) × (p ∈ l)

@@ -12,5 +12,24 @@
 --              bridgesOf, lengthsOf, totalOf        its kept bridges as edges, the lengths of their paths, their sum
 --              pathsOf ps ms, pathNumbers           bridge and length of each kept path; the five numbers that are given for it
 --              rootOf ps ms v, rootsOf ps ms b      the root of a vertex; the two pins that a bridge's path joins
+--   Roots      farOf ps ms v, parentOf ps ms v      how far a vertex is from its root; its parent
+--              NearestRoot ps ms v                  the root is the nearest pin, the smallest on a tie
+--              Through, SmallestParent ps ms v      the parent is the smallest neighbour on a shortest way to the root
+--              WayUp ps ms v qs                     qs are the places after v on its way to its root
+--              HomeWay ps ms v                      such a way, loop-free to the root
+--   Demand     Kept, keptEnds ps ms k               a kept path, bridge and length; the two pins that it joins
+--              PathOf ps ms                         a terminal path of the net's graph
+--              Stands ps ms b l                     the bridge b stands for a terminal path of length l
+--              BestJoining ps ms                    the kept paths are a joining, and none is shorter or has a shorter longest path
+--   Bridges    takenBefore j k                      by path length, ties by the order of edges
+--              KeptBridges ps ms                    the bridges in this order, and the given paths are those that are kept of them
+--   Tables     tables .., Fresh                     the tables that are lent for it, and what is asked of them
+--              Worked ps ms lent t r                what they hold once the tree is worked out
+--              pathsIn es kept long n               the kept paths as the tables have them
+--              Givable                              what is asked to give them
 pub mod Number
 pub mod Tree
+pub mod Roots
+pub mod Demand
+pub mod Bridges
+pub mod Tables

@@ -68,10 +68,10 @@ pub record After (pts : List ℤ) (n : ℕ) (ks : List ℕ) (e k l a b u p : ℕ
   pub sums : (g : ℕ → ℕ) → over g (t .edges .keys) (t .edges .size)
       ≡ between g p (m u) + (between g p (m b) + (between g p (m a) + over (λ j. g (key (m (firstEnd j)) (m (secondEnd j)))) (dropTwo e k l ks) e))
 
-first-of : (x y : ℕ) → y < pointBound → firstEnd (key x y) ≡ x
+pub first-of : (x y : ℕ) → y < pointBound → firstEnd (key x y) ≡ x
 first-of x y h = omega arith
 
-second-of : (x y : ℕ) → y < pointBound → secondEnd (key x y) ≡ y
+pub second-of : (x y : ℕ) → y < pointBound → secondEnd (key x y) ≡ y
 second-of x y h = omega arith
 
 module _ {pts : List ℤ} {n : ℕ} {ks : List ℕ} {e k l a b u p : ℕ} {s : Place} {m : ℕ → ℕ} {t : Tree}

@@ -21,6 +21,7 @@ pub mod ReachedLaws
 pub mod AloneLaws
 pub mod CutLaws
 pub mod WinnerLaws
+pub mod RankedLaws
 pub mod RoundSound
 pub mod RefinedSound
 pub mod RefinedOrder

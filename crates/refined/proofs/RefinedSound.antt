@@ -1,4 +1,5 @@
 -- The refined tree of a tree with clear edges holds all pins as one tree, enters no macro's interior, and has no more metal to lay.
+-- Its edges are in order where those of the tree are.
 -- Assumes nothing.
 use mathlib.Core.Path.{_≡_, refl, sym, ap, _∙_, subst}
 use mathlib.Core.Bool.{Bool, true, false}
@@ -25,11 +26,13 @@ use Rattle.refined.specs.Turns.{turns}
 use Rattle.refined.specs.Table.{pointBound, firstEnd, secondEnd, Row, Tree}
 use Rattle.refined.specs.Prune.{markOf, mark, marks, prune}
 use Rattle.refined.specs.Refined.{rounds, pruned, refined}
-use Rattle.refined.specs.Promise.{metalOf, Promise}
-use Rattle.refined.specs.Places.{listing, endsOf, pointsOf, edgesOf, keyLength, Sound}
+use Rattle.refined.specs.Promise.{metalOf, Promise, Tabled}
+use Rattle.refined.specs.Places.{listing, endsOf, pointsOf, edgesOf, keyLength, Ranked, Sound}
 use Rattle.refined.proofs.SumLaws.{other, here}
-use Rattle.refined.proofs.ListingLaws.{in-listing, of-listing}
+use Rattle.refined.proofs.ListingLaws.{listing-length, in-listing, of-listing}
 use Rattle.refined.proofs.ExchangeSound.{same-place}
+use Rattle.refined.proofs.WithinLaws.{pruned-few, pruned-within}
+use Rattle.refined.proofs.RankedLaws.{prune-ranked}
 use Rattle.refined.proofs.PruneSound.{Whole, prune-whole, pruned-was, pruned-over}
 use Rattle.refined.proofs.RoundSound.{Kept, rounds-kept}
 
@@ -101,4 +104,30 @@ refined-promise ms pins t sound few room rooms =
             Memᴰ·cast (ap (λ (z : Place × Place). z .1) (q .1 .1)) (in-listing (placeAt (r .points)) (r .count) _ (s .within .ends (q .0) .1)),
           );
       pinned = s .pinned;
+    }
+
+-- Its edges in order
+
+pub refined-tabled : (ms : List Macro) (pins : List Place) (t : Tree) → Sound ms pins t → t .count + length pins ≤ pointBound →
+    length (t .points) ≡ pointBound * 2 → length (t .edges .keys) ≡ pointBound → Ranked (t .edges .keys) (t .edges .size) →
+    Tabled pins t (refined ms pins t)
+unfolding refined pruned
+refined-tabled ms pins t sound few room rooms ranked =
+    let r = rounds ms (length pins) t in
+    let k = rounds-kept ms pins (length pins) t sound few room rooms in
+    let pin = marks pins (r .points) (r .count) in
+    let edges = listing-length (λ j. endsOf (r .points) (getD (r .edges .keys) j 0)) (r .edges .size) in
+    record {
+      ordered = k .sound .ordered;
+      within = pruned-within (r .count) pin (r .edges .keys) (r .edges .size) (k .sound .within);
+      ranked = prune-ranked pin (r .edges .size) (r .edges .keys) (k .ranked ranked);
+      few =
+          omega (
+            arith,
+            pruned-few pin (r .edges .keys) (r .edges .size),
+            k .sound .whole .size,
+            edges,
+            listing-length (placeAt (r .points)) (r .count),
+            k .points,
+          );
     }

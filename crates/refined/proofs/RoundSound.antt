@@ -1,5 +1,5 @@
--- The rounds keep a tree over its points in order, with all pins and every edge clear; each adds at most one point, and the total falls by
--- each gain.
+-- The rounds keep a tree over its points in order, with all pins, every edge clear and the edges in order; each adds at most one point, and
+-- the total falls by each gain.
 -- Assumes nothing.
 use mathlib.Core.Path.{_≡_, refl, sym, ap, ap₂, _∙_, subst}
 use mathlib.Core.Bool.{Bool, true, false}
@@ -24,10 +24,12 @@ use Rattle.refined.specs.Exchange.{dropTwo, rank, stands, opened, bump, 
 use Rattle.refined.specs.Refined.{rounds, addLength, metal}
 use Rattle.refined.specs.Sum.{below, over}
 use Rattle.refined.specs.Promise.{metalOf}
-use Rattle.refined.specs.Places.{listing, pointsOf, edgesOf, endsOf, keyLength, Sound, Taken}
+use Rattle.refined.specs.Places.{listing, pointsOf, edgesOf, endsOf, keyLength, Ranked, Sound, Taken}
 use Rattle.refined.proofs.SumLaws.{length-lay, length-bumps, length-dropped}
 use Rattle.refined.proofs.OpenedLaws.{opened-length}
 use Rattle.refined.proofs.ListingLaws.{listing-length}
+use Rattle.refined.proofs.WithinLaws.{rank-le, within-dropped}
+use Rattle.refined.proofs.RankedLaws.{dropped-ranked, laid-level, ranked-of}
 use Rattle.refined.proofs.ExchangeSound.{laid-sound, laid-lengths}
 use Rattle.refined.proofs.CutLaws.{Is, cut-is, the-way}
 use Rattle.refined.proofs.WinnerLaws.{Winner, found-wins, length-at, no-length}
@@ -39,6 +41,7 @@ pub record Kept (ms : List Macro) (pins : List Place) (t r : Tree) (m : ℕ) : T
   pub points : r .count ≤ t .count + m
   pub places : length (r .points) ≡ length (t .points)
   pub rows : length (r .edges .keys) ≡ length (t .edges .keys)
+  pub ranked : Ranked (t .edges .keys) (t .edges .size) → Ranked (r .edges .keys) (r .edges .size)
 
 -- The size of the tables
 
@@ -135,6 +138,14 @@ module _ (ms : List Macro) (pins : List Place) (pts : List ℤ) (n : ℕ) (ks : 
         points = laid-count pts n left e (rank pts n m) (firstEnd k) (secondEnd k) (c .point) m;
         places = laid-places pts n left e (rank pts n m) (firstEnd k) (secondEnd k) (c .point) m;
         rows = laid-rows pts n left e (rank pts n m) (firstEnd k) (secondEnd k) (c .point) m ∙ length-dropped e (c .edge) (c .cut) ks;
+        ranked =
+            λ r.
+            ranked-of (laidAt pts n left e (rank pts n m) (firstEnd k) (secondEnd k) (c .point) m)
+            (laid-sound ms pins pts n ks e (c .edge) (c .cut) (c .point) sound t few (omega arith) (omega (arith, s)))
+            (laid-level pts n left e (rank pts n m) (firstEnd k) (secondEnd k) (c .point) m few
+            (rw (length-dropped e (c .edge) (c .cut) ks) (omega (arith, s))) (rank-le pts n m)
+            (sound .within .ends (c .edge) .0) (sound .within .ends (c .edge) .1) (win .point)
+            (within-dropped n e (c .edge) (c .cut) ks (sound .within)) (dropped-ranked e (c .edge) (c .cut) ks r));
       })
 
 -- The rounds
@@ -146,16 +157,17 @@ kept-then m a b = record {
   points = omega (arith, a .points, b .points);
   places = b .places ∙ a .places;
   rows = b .rows ∙ a .rows;
+  ranked = λ r. b .ranked (a .ranked r);
 }
 
 pub rounds-kept : (ms : List Macro) (pins : List Place) (m : ℕ) (t : Tree) → Sound ms pins t → t .count + m ≤ pointBound →
     length (t .points) ≡ pointBound * 2 → length (t .edges .keys) ≡ pointBound → Kept ms pins t (rounds ms m t) m
 unfolding rounds
-rounds-kept ms pins zero t sound few room rooms = record { sound = sound; total = omega arith; points = omega arith; places = refl; rows = refl }
+rounds-kept ms pins zero t sound few room rooms = record { sound = sound; total = omega arith; points = omega arith; places = refl; rows = refl; ranked = λ r. r }
 rounds-kept ms pins (suc m) t sound few room rooms =
     let c = found ms (t .points) (t .count) (t .edges .keys) (t .edges .size) in
     by (eqb (c .gain) 0)
-    (λ q. rw (rounds, q) (record { sound = sound; total = omega arith; points = omega arith; places = refl; rows = refl }))
+    (λ q. rw (rounds, q) (record { sound = sound; total = omega arith; points = omega arith; places = refl; rows = refl; ranked = λ r. r }))
     (λ q.
     let some : c .gain ≡ 0 → ⊥ = eqb-false _ _ q in
     let win = found-wins ms (t .points) (t .count) (t .edges .keys) (t .edges .size) (omega arith) in

@@ -273,7 +273,7 @@ bumps-low p zero i xs j h = refl
 bumps-low p (suc n) i xs j h =
     bumps-low p n (suc i) _ j (omega arith) ∙ other xs i j (bumpKey p (getD xs i 0)) (λ e. let z : ⊥ = omega arith in z)
 
-bumps-at : (p n i : ℕ) (xs : List ℕ) (j : ℕ) → i + n ≤ length xs → i ≤ j → j < i + n → getD (turns (bumpAt p) i n xs) j 0 ≡ bumpKey p (getD xs j 0)
+pub bumps-at : (p n i : ℕ) (xs : List ℕ) (j : ℕ) → i + n ≤ length xs → i ≤ j → j < i + n → getD (turns (bumpAt p) i n xs) j 0 ≡ bumpKey p (getD xs j 0)
 unfolding turns bumpAt
 bumps-at p zero i xs j b h l = absurd (let z : ⊥ = omega arith in z)
 bumps-at p (suc n) i xs j b h l =

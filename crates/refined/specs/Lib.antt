@@ -33,16 +33,19 @@
 --              Answer                      what the tables and the answer hold when a tree is refined
 --   Sum        over g xs n                 the sum of g over the first n entries of a table
 --   Places     pointsOf, edgesOf           the points and the edges of a tree as places
+--              Ranked                      edges smaller place first, in order
 --              Sound                       a tree over its points in order, with all pins and every edge clear
 --              Taken                       what is known of a candidate that a round takes
 --   Promise    metalOf, Promise            the sum of edge lengths; what is promised of a refined tree
+--              Tabled                      what is promised of its tables: edges in order
 --
 -- THE THEOREMS, in the order of their proof.
 --   CutLaws        cut-is              `cutOf` is the longest edge, the smallest on a tie, of the way to whichever end is met first
 --   ExchangeSound  laid-sound          a round keeps `Sound`;  laid-lengths: the total falls by the gain
+--   RankedLaws     laid-level          edges stay smaller place first and in order;  ranked-of: each once, since they are a tree
 --   RoundSound     rounds-kept         so do the rounds, each with at most one point more;  metal-of: the contract's sum is `metalOf`
 --   PruneSound     prune-whole         pruning keeps a tree with all pins;  pruned-over: it raises no sum
---   RefinedSound   refined-promise     the refined tree of a sound tree keeps `Promise`
+--   RefinedSound   refined-promise     the refined tree of a sound tree keeps `Promise`;  refined-tabled: and `Tabled`, where the tree's edges are in order
 pub mod Turns
 pub mod Table
 pub mod Longest

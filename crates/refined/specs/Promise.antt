@@ -8,9 +8,9 @@ use Rattle.plane.specs.declared.Place.{Place}
 use Rattle.plane.specs.declared.Macro.{Macro}
 use Rattle.plane.specs.Macro.{clear}
 use Rattle.joined.specs.OneTree.{OneTree}
-use Rattle.refined.specs.Table.{Tree}
+use Rattle.refined.specs.Table.{Tree, Within}
 use Rattle.refined.specs.Sum.{over}
-use Rattle.refined.specs.Places.{endsOf, edgesOf, keyLength}
+use Rattle.refined.specs.Places.{endsOf, edgesOf, keyLength, InOrder, Ranked}
 
 -- "Metal to lay is the sum of edge lengths"
 abbrev pub metalOf : Tree → ℕ
@@ -25,3 +25,10 @@ pub record Promise (ms : List Macro) (pins : List Place) (t r : Tree) : Type 0 w
       (endsOf (r .points) (getD (r .edges .keys) i 0) .1) ms ≡ true
   pub total : metalOf r ≤ metalOf t
   pub points : r .count ≤ t .count + length pins
+
+-- what is promised of its tables: "Edges in order", and fewer of them than the points that there can be
+pub record Tabled (pins : List Place) (t r : Tree) : Type 0 where
+  pub ordered : InOrder (r .points) (r .count)
+  pub within : Within (r .count) (r .edges .keys)
+  pub ranked : Ranked (r .edges .keys) (r .edges .size)
+  pub few : r .edges .size < t .count + length pins

@@ -81,7 +81,8 @@ pub struct Refined {
 
 // Tables
 
-fn point_at(pts: &[i32; NUMBERS], i: usize) -> Place
+// The place of point i.
+pub fn point_at(pts: &[i32; NUMBERS], i: usize) -> Place
     requires { ⌜ i < pointBound ⌝ }
     ensures { λ r. ⌜ r ≡ placeAt (now (pts .entry)) i ⌝ }
 {
@@ -101,7 +102,8 @@ fn put_point(pts: &mut [i32; NUMBERS], i: usize, p: Place)
     pts[i * 2 + 1] = y;
 }
 
-fn far_apart(a: Place, b: Place) -> u64
+// The distance of two places.
+pub fn far_apart(a: Place, b: Place) -> u64
     ensures { λ r. ⌜ (r ≡ distance a b) × (r < lengthBound) ⌝ }
 {
     plane::distance(a, b) as u64

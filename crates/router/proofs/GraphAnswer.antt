@@ -1,27 +1,20 @@
--- The answer of a graph by its cases, and what its tables hold.
+-- The answer of a graph by its cases.
 -- Assumes nothing.
-use mathlib.Core.Path.{_≡_, refl, sym, ap, ap₂, _∙_}
+use mathlib.Core.Path.{_≡_, refl}
 use mathlib.Core.Bool.{true, false, _||_}
-use mathlib.Core.List.{List, [], _∷_}
-use Prim.Native.Nat.{ℕ, _+_, _*_, _≤_}
+use mathlib.Core.List.{List}
+use Prim.Native.Nat.{ℕ, _*_, _≤_}
 use native.Mathlib.Omega.{arith}
 use borrow.Author.Tests.{ltb-false}
 use lib.Dec.{ltb}
 use lib.IntN.{ℤ}
-use lib.ListN.{length, take}
+use lib.ListN.{length}
 use Rattle.lists.proofs.TestLaws.{or-none}
 use Rattle.lent.specs.Told.{refused, given, onlyIf}
-use Rattle.lent.specs.Over.{over}
-use Rattle.lent.specs.Entries.{flat}
-use Rattle.lent.proofs.OverLaws.{take-over}
-use Rattle.lent.proofs.EntryTable.{length-flat}
-use Rattle.plane.specs.declared.Place.{Place}
-use Rattle.plane.specs.Flat.{placesOf, macrosOf, placeFrom, flatPlaces}
-use Rattle.plane.proofs.FlatLaws.{length-places, length-macros, places-flat}
+use Rattle.plane.specs.Flat.{placesOf, macrosOf}
+use Rattle.plane.proofs.FlatLaws.{length-places, length-macros}
 use Rattle.net.specs.Check.{checked}
-use Rattle.graph.specs.Numbers.{placeNumbers}
 use Rattle.graph.proofs.VertexLaws.{length-vertices}
-use Rattle.graph.proofs.WidthLaws.{place-width}
 use Rattle.router.specs.Graph.{verticesOf, edgesOf, pointCount, graphRoomShort, graphGiven, graphed}
 
 module _ (pins macros : List ℤ) (v e : ℕ) where
@@ -54,16 +47,3 @@ pub vertices-few : (pins macros : List ℤ) → length (verticesOf pins macros) 
 unfolding verticesOf
 vertices-few pins macros =
     omega (arith, length-vertices (placesOf pins) (macrosOf macros), length-places pins, length-macros macros)
-
--- places in a flat list, either way of saying it
-flat-places : (ps : List Place) → flat placeNumbers ps ≡ flatPlaces ps
-unfolding flat flatPlaces
-flat-places [] = refl
-flat-places (p ∷ ps) = ap (λ (l : List ℤ). p .x ∷ (p .y ∷ l)) (flat-places ps)
-
--- the vertices are read back from the front of the table
-pub vertices-back : (vs : List Place) (lent table : List ℤ) (n : ℕ) → table ≡ over (flat placeNumbers vs) lent → n ≡ length vs
-    → placesOf (take (n * 2) table) ≡ vs
-vertices-back vs lent table n t e =
-    let long : n * 2 ≡ length (flat placeNumbers vs) = ap (λ (k : ℕ). k * 2) e ∙ sym (length-flat placeNumbers placeFrom 2 place-width vs) in
-    ap placesOf (ap₂ take long t ∙ take-over (flat placeNumbers vs) lent ∙ flat-places vs) ∙ places-flat vs

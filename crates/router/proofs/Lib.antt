@@ -1,2 +1,3 @@
 pub mod GraphAnswer
 pub mod GraphSame
+pub mod TerminalAnswer

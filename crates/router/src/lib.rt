@@ -5,22 +5,37 @@
 use net::Checked;
 use net::Refusal;
 use netfile::Written;
+use numbered::EDGE_NUMBERS;
+use numbered::EDGES;
+use numbered::PINS;
+use numbered::POINTS;
+use numbered::VERTEX_NUMBERS;
 ghost use mathlib.Core.Path.{_≡_};
 ghost use Prim.Native.Nat.{_≤_};
 ghost use lib.ListN.{length};
 ghost use Rattle.lent.specs.Over.{after};
 ghost use Rattle.lent.specs.Entries.{flat};
+ghost use Rattle.plane.specs.Flat.{placesOf, macrosOf};
+ghost use Rattle.net.specs.Allowed.{Allowed};
 ghost use Rattle.net.specs.Bounds.{pinBound, macroBound};
 ghost use Rattle.net.specs.Check.{pinCount, macroCount, checked, told};
 ghost use Rattle.graph.specs.Numbers.{placeNumbers, edgeNumbers};
+ghost use Rattle.numbered.specs.Tree.{pathNumbers};
 ghost use Rattle.netfile.specs.Layout.{fileBytes};
 ghost use Rattle.netfile.specs.Write.{written, toldBytes};
 ghost use Rattle.netfile.specs.Read.{pinsIn, macrosIn, readFile};
 ghost use Rattle.router.specs.Graph.{verticesOf, edgesOf, graphGiven, graphed, toldGraph};
+ghost use Rattle.router.specs.Terminal.{pathsOf, terminalGiven, terminalTree, toldTree};
 
 // The answer of a graph: how many vertices and how many edges were given.
 pub enum Graphed {
     Given(usize, usize),
+    Refused(Refusal),
+}
+
+// The answer of a terminal tree or of a refined tree: how many paths or edges were given, and their total.
+pub enum Tree {
+    Given(usize, i64),
     Refused(Refusal),
 }
 
@@ -64,6 +79,65 @@ fn graph_of_allowed(
     let v = graph::vertices(pins, macros, &mut *vertices);
     let e = graph::edges(macros, &vertices[..v * 2], &mut *edges);
     Graphed::Given(v, e)
+}
+
+// Terminal tree: each kept path's bridge and length in the order kept, how many there are and their total, or 11 to 17, then 21 where
+// fewer than 5m numbers are lent. That these paths are a joining, that none is shorter, and that no chain has a lower longest path, is
+// `best-joining` in numbered/proofs.
+pub fn terminal_tree(pins: &[i32], macros: &[i32], paths: &mut [i64]) -> Tree
+    ensures answer { λ r. ⌜ toldTree r ≡ terminalTree (now (pins .entry)) (now (macros .entry)) (length (now (paths .entry))) ⌝ }
+    ensures paths { λ _. ⌜ now (paths .exit)
+        ≡ after (terminalTree (now (pins .entry)) (now (macros .entry)) (length (now (paths .entry))))
+        (flat pathNumbers (pathsOf (now (pins .entry)) (now (macros .entry)))) (now (paths .entry)) ⌝ }
+{
+    let answer = net::check(pins, macros);
+    match answer {
+        Checked::Allowed(_) => terminal_of_allowed(pins, macros, &mut *paths),
+        Checked::Refused(refusal) => Tree::Refused(refusal),
+    }
+}
+
+// The terminal tree once the check has passed.
+fn terminal_of_allowed(pins: &[i32], macros: &[i32], paths: &mut [i64]) -> Tree
+    requires { ⌜ Allowed (placesOf (now pins)) (macrosOf (now macros)) ⌝ }
+    ensures answer { λ r. ⌜ toldTree r ≡ terminalGiven (now (pins .entry)) (now (macros .entry)) (length (now (paths .entry))) ⌝ }
+    ensures paths { λ _. ⌜ now (paths .exit)
+        ≡ after (terminalGiven (now (pins .entry)) (now (macros .entry)) (length (now (paths .entry))))
+        (flat pathNumbers (pathsOf (now (pins .entry)) (now (macros .entry)))) (now (paths .entry)) ⌝ }
+{
+    if paths.len() < pins.len() / 2 * 5 {
+        return Tree::Refused(Refusal::Space);
+    }
+    let mut vertices = [0i32; VERTEX_NUMBERS];
+    let mut edges = [0i32; EDGE_NUMBERS];
+    let mut ea = [0usize; EDGES];
+    let mut eb = [0usize; EDGES];
+    let mut el = [0u64; EDGES];
+    let mut pin = [0usize; PINS];
+    let mut far = [terminal::UNREACHED; POINTS];
+    let mut root = [0usize; POINTS];
+    let mut up = [POINTS; POINTS];
+    let mut via = [EDGES; POINTS];
+    let mut kept = [0usize; EDGES];
+    let mut long = [0u64; EDGES];
+    let tree = numbered::terminal_tree(
+        pins,
+        macros,
+        &mut vertices,
+        &mut edges,
+        &mut ea,
+        &mut eb,
+        &mut el,
+        &mut pin,
+        &mut far,
+        &mut root,
+        &mut up,
+        &mut via,
+        &mut kept,
+        &mut long,
+    );
+    numbered::give_paths(&edges, &kept, &long, tree.kept, &mut *paths);
+    Tree::Given(tree.kept, tree.total as i64)
 }
 
 // Write a net file: its number of bytes, or 11 to 17, then 21 where fewer bytes are lent than the file has.

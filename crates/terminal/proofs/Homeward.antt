@@ -287,6 +287,26 @@ module _ {g : Graph} {n : ℕ} {d : ℕ → ℕ → ℕ} {pins : List ℕ} (s : 
           let u : up P v < pointBound = omega (arith, p .inside, s .vertices) in
           rw (climb-go P k v u, way-go P k v u) (one-up v _ _ p (up-home p))
 
+  -- "A vertex's way to its root follows parents until the root"
+  pub data Upward : ℕ → List ℕ → Type 0 where
+    arrived : {v : ℕ} → v ∈ pins → Upward v []
+    onto : {v : ℕ} {ps : List ℕ} → (v ∈ pins → ⊥) → Upward (up P v) ps → Upward v (up P v ∷ ps)
+
+  climbs : (k v : ℕ) → v < n → far T v ≤ k → Upward v (climb P k v)
+  climbs zero v h l = at (is-in ℕ-discrete v pins)
+    where
+      at : Dec (v ∈ pins) → Upward v (climb P zero v)
+      at (yes m) = let u : pointBound ≤ up P v = omega (arith, pin-parent v m) in rw (climb-none P zero v u) (arrived m)
+      at (no m) = absurd (let z : ⊥ = omega (arith, far-off v h m) in z)
+  climbs (suc k) v h l = at (λ p. climbs k (up P v) (p .inside) (lower k v l p)) (is-in ℕ-discrete v pins)
+    where
+      at : (Parent v → Upward (up P v) (climb P k (up P v))) → Dec (v ∈ pins) → Upward v (climb P (suc k) v)
+      at above (yes m) = let u : pointBound ≤ up P v = omega (arith, pin-parent v m) in rw (climb-none P (suc k) v u) (arrived m)
+      at above (no m) =
+          let p = parent-is v h m in
+          let u : up P v < pointBound = omega (arith, p .inside, s .vertices) in
+          rw (climb-go P k v u) (onto m (above p))
+
   -- a way goes on, from each of its vertices, with that vertex's parent
   goes-on : (k v : ℕ) → v < n → far T v ≤ k → (z : ℕ) → z ∈ (v ∷ climb P k v) → (z ∈ pins → ⊥) → up P z ∈ climb P k v
   unfolding climb
@@ -317,6 +337,9 @@ module _ {g : Graph} {n : ℕ} {d : ℕ → ℕ → ℕ} {pins : List ℕ} (s : 
   pub way-home : (v : ℕ) → v < n → Home v (wayPoints v) (way (T .fars) P v)
   unfolding way
   way-home v h = home (far T v) v h (omega arith)
+
+  pub way-upward : (v : ℕ) → v < n → Upward v (wayPoints v)
+  way-upward v h = climbs (far T v) v h (omega arith)
 
   -- it runs along edges of the graph
   pub way-runs : (v : ℕ) → v < n → Way (pairs g) v (wayPoints v) (root T v)

@@ -67,6 +67,7 @@ module _ {g : Graph} {n : ℕ} {d : ℕ → ℕ → ℕ} {pins : List ℕ} (s : 
     pub path : TerminalPath (pairs g) pins
     pub start-is : path .start ≡ root T (one g k)
     pub finish-is : path .finish ≡ root T (two g k)
+    pub points-are : path .points ≡ turned (one g k) (wayPoints s whole (one g k)) (two g k ∷ wayPoints s whole (two g k))
     -- it runs along the edges that make up its length
     pub along : Way (map (ends g) (pathEdges g (T .fars) P k)) (path .start) (path .points) (path .finish)
     pub over-bridge : On (one g k) (two g k) (path .start) (path .points)
@@ -95,6 +96,7 @@ module _ {g : Graph} {n : ℕ} {d : ℕ → ℕ → ℕ} {pins : List ℕ} (s : 
     };
     start-is = refl;
     finish-is = refl;
+    points-are = refl;
     along = run;
     over-bridge = turned-on (hu .along) (v ∷ wayPoints s whole v) u v (inl (inl (refl, refl)));
     length-is =
@@ -165,19 +167,19 @@ module _ {g : Graph} {n : ℕ} {d : ℕ → ℕ → ℕ} {pins : List ℕ} (s : 
   abbrev L : List ℕ
   L = bridges g (labelled g n pins) (parented g n (labelled g n pins))
 
-  of-L : (k : ℕ) → k ∈ L → (k < g .count) × (sameRoot g T k ≡ false)
+  pub bridge-is : (k : ℕ) → k ∈ L → (k < g .count) × (sameRoot g T k ≡ false)
   unfolding bridges
-  of-L k m = let r = of-bridges (sameRoot g T) (weights g (T .fars) P) 0 (g .count) k m in (omega (arith, r .1), r .2)
+  bridge-is k m = let r = of-bridges (sameRoot g T) (weights g (T .fars) P) 0 (g .count) k m in (omega (arith, r .1), r .2)
 
-  in-L : (k : ℕ) → k < g .count → sameRoot g T k ≡ false → k ∈ L
+  pub is-bridge : (k : ℕ) → k < g .count → sameRoot g T k ≡ false → k ∈ L
   unfolding bridges bridgesFrom
-  in-L k h e =
+  is-bridge k h e =
       in-sorted (earlier (weights g (T .fars) P)) (earlier-order (weights g (T .fars) P)) _ k
       (in-those (λ j. not (sameRoot g T j)) (from 0 (g .count)) (in-from 0 (g .count) k (omega arith) (omega arith)) (ap not e))
 
-  L-ascending : Ascending (earlier (weights g (T .fars) P)) L
+  pub bridges-in-order : Ascending (earlier (weights g (T .fars) P)) L
   unfolding bridges
-  L-ascending = bridges-ascending (sameRoot g T) (weights g (T .fars) P) 0 (g .count)
+  bridges-in-order = bridges-ascending (sameRoot g T) (weights g (T .fars) P) 0 (g .count)
 
   -- Domination
 
@@ -190,7 +192,7 @@ module _ {g : Graph} {n : ℕ} {d : ℕ → ℕ → ℕ} {pins : List ℕ} (s : 
       forth k i w =
           by (sameRoot g T k)
           (λ e. stay (eqb-true _ _ e))
-          (λ e. one-link (inl (in-map (rootsOf g T) (in-light weight t L (in-L k i e) w))))
+          (λ e. one-link (inl (in-map (rootsOf g T) (in-light weight t L (is-bridge k i e) w))))
 
       at : (k : ℕ) → k < g .count → d x y ≡ len g k → Alike x y (one g k) (two g k) →
           Joined (map (rootsOf g T) (light weight t L)) (root T x) (root T y)
@@ -234,7 +236,7 @@ module _ {g : Graph} {n : ℕ} {d : ℕ → ℕ → ℕ} {pins : List ℕ} (s : 
     stands = whole .is-pin;
     inside = λ a b m.
         (let r = of-map (rootsOf g T) L m in
-        let h = of-L (r .entry) (r .stands) .0 in
+        let h = bridge-is (r .entry) (r .stands) .0 in
         (rw (firsts (r .is)) (root-pin s whole _ (s .one-in (r .entry) h)), rw (seconds (r .is)) (root-pin s whole _ (s .two-in (r .entry) h))));
     joins = λ x y i k. joined x y i k;
     rising = ascending-rising;
@@ -247,19 +249,19 @@ module _ {g : Graph} {n : ℕ} {d : ℕ → ℕ → ℕ} {pins : List ℕ} (s : 
           more (map-among (rootsOf g T) (light weight t L) L (λ j m. of-light weight t L m .0)) (dominated (w .1) i k)
 
       ascending-rising : Rising weight L
-      ascending-rising = rising L L-ascending (λ k m. of-L k m .0)
+      ascending-rising = rising L bridges-in-order (λ k m. bridge-is k m .0)
 
   -- The kept ones
 
   abbrev K : List ℕ
   K = keptBridges g (labelled g n pins) (parented g n (labelled g n pins))
 
-  kept-is : K ≡ kept ℕ-discrete (rootsOf g T) L
+  pub kept-is : K ≡ kept ℕ-discrete (rootsOf g T) L
   unfolding keptBridges
   kept-is =
       table-keeps (rootsOf g T) pointBound L
       (λ k m.
-      (let h = of-L k m .0 in (
+      (let h = bridge-is k m .0 in (
         omega (arith, s .pins-in _ (root-pin s whole _ (s .one-in k h)), s .vertices),
         omega (arith, s .pins-in _ (root-pin s whole _ (s .two-in k h)), s .vertices),
       )))
@@ -300,7 +302,7 @@ module _ {g : Graph} {n : ℕ} {d : ℕ → ℕ → ℕ} {pins : List ℕ} (s : 
       omega arith
 
   -- between two different pins, the longest path of a chain of terminal paths is at least as long as the longest on our way
-  pub none-lower : {x y : ℕ} → (x ≡ y → ⊥) → {ks : List ℕ} → OurWay (rootsOf g T) K x y ks → {cs : List (TerminalPath (pairs g) pins)} → Chain endsOf x cs y →
-      most (map weight ks) ≤ most (map (lengthOf d) cs)
+  pub none-lower : {x y : ℕ} → (x ≡ y → ⊥) → {ks : List ℕ} → OurWay (rootsOf g T) K x y ks →
+      {cs : List (TerminalPath (pairs g) pins)} → Chain endsOf x cs y → most (map weight ks) ≤ most (map (lengthOf d) cs)
   none-lower e u c =
       no-longer ℕ-discrete (rootsOf g T) weight offered endsOf (lengthOf d) terminal-dominated e (rw kept-is at u) c

@@ -16,8 +16,9 @@ use Rattle.plane.specs.Flat.{placesOf, macrosOf}
 use Rattle.net.specs.Answer.{number}
 use Rattle.graph.specs.Edges.{edges}
 use Rattle.graph.specs.Numbers.{placeNumbers, edgeNumbers}
+use Rattle.graph.proofs.ReadBack.{vertices-back}
 use Rattle.router.specs.Graph.{verticesOf, edgesOf, pointCount, graphGiven, toldGraph}
-use Rattle.router.proofs.GraphAnswer.{graph-short, graph-fits, graph-room, vertices-few, vertices-back}
+use Rattle.router.proofs.GraphAnswer.{graph-short, graph-fits, graph-room, vertices-few}
 use borrow.Author.Needs.{needs}
 use Rattle.router.proofs.graph_of_allowed.Statement.{statement}
 use Rattle.router.proofs.graph_of_allowed.Tie as tie

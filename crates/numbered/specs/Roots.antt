@@ -1,0 +1,62 @@
+-- Roots, parents and ways, said of places: document 01, "Terminal tree". The tables give each vertex a distance, a root and a parent; these
+-- are the sentences that say which.
+use mathlib.Core.Path.{_≡_}
+use mathlib.Core.Bool.{false}
+use mathlib.Core.List.{List, [], _∷_}
+use Prim.Native.Nat.{ℕ, _+_, _≤_}
+use Rattle.lists.specs.Member.{_∈_, Once}
+use Rattle.joined.specs.Joined.{Link}
+use Rattle.joined.specs.Way.{Way, long}
+use Rattle.plane.specs.declared.Place.{Place}
+use Rattle.plane.specs.declared.Macro.{Macro}
+use Rattle.plane.specs.Place.{before}
+use Rattle.plane.specs.Distance.{distance}
+use Rattle.graph.specs.Vertices.{vertices}
+use Rattle.terminal.specs.Labels.{far}
+use Rattle.terminal.specs.Parents.{up}
+use Rattle.numbered.specs.Number.{numberOf, vertexAt}
+use Rattle.numbered.specs.Tree.{spanning, treeOf, rootOf}
+
+module _ (ps : List Place) (ms : List Macro) where
+  -- how far a vertex is from its root along the graph, and its parent
+  unfoldable pub farOf : Place → ℕ
+  farOf v = far (treeOf ps ms .labels) (numberOf (vertices ps ms) v)
+
+  unfoldable pub parentOf : Place → Place
+  parentOf v = vertexAt (vertices ps ms) (up (treeOf ps ms .parents) (numberOf (vertices ps ms) v))
+
+  -- "The root of a vertex is its nearest pin along the graph, the smallest on a tie."
+  pub record NearestRoot (v : Place) : Type 0 where
+    pub is-pin : rootOf ps ms v ∈ ps
+    pub points : List Place
+    pub walk : Way (spanning ps ms) v points (rootOf ps ms v)
+    pub walk-long : long distance v points ≡ farOf v
+    pub nearest : (p : Place) (qs : List Place) → p ∈ ps → Way (spanning ps ms) v qs p → farOf v ≤ long distance v qs
+    pub smallest : (p : Place) (qs : List Place) → p ∈ ps → Way (spanning ps ms) v qs p → long distance v qs ≡ farOf v →
+        before p (rootOf ps ms v) ≡ false
+
+  -- w is a "neighbour with the same root through which a shortest way to that root runs"
+  pub record Through (v w : Place) : Type 0 where
+    pub link : Link (spanning ps ms) v w
+    pub same-root : rootOf ps ms w ≡ rootOf ps ms v
+    pub points : List Place
+    pub way : Way (spanning ps ms) w points (rootOf ps ms v)
+    pub shortest : distance v w + long distance w points ≡ farOf v
+
+  -- "Its parent, where it is no pin, is the smallest neighbour with the same root through which a shortest way to that root runs."
+  pub record SmallestParent (v : Place) : Type 0 where
+    pub through : Through v (parentOf v)
+    pub smallest : (w : Place) → Through v w → before w (parentOf v) ≡ false
+
+  -- "A vertex's way to its root follows parents until the root": the places after it on its way
+  pub data WayUp : Place → List Place → Type 0 where
+    arrived : {v : Place} → v ∈ ps → WayUp v []
+    upward : {v : Place} {qs : List Place} → (v ∈ ps → ⊥) → WayUp (parentOf v) qs → WayUp v (parentOf v ∷ qs)
+
+  -- such a way: it leads to the root, loop-free and as long as the vertex is far from it
+  pub record HomeWay (v : Place) : Type 0 where
+    pub points : List Place
+    pub up : WayUp v points
+    pub way : Way (spanning ps ms) v points (rootOf ps ms v)
+    pub once : Once (v ∷ points)
+    pub long-is : long distance v points ≡ farOf v

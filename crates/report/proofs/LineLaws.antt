@@ -1,0 +1,75 @@
+-- Pieces that make up the line of an edge, the lines of a list of edges and the header; a text put from the buffer's first byte on.
+-- Assumes nothing.
+use mathlib.Core.Path.{_≡_, refl, sym, ap, ap₂, _∙_}
+use mathlib.Core.List.{List, [], _∷_, _++_, append-assoc, append-nil}
+use Prim.Native.Nat.{ℕ, zero, suc, _+_, _*_, _≤_}
+use native.Mathlib.Numerals.{add-one}
+use native.Mathlib.Omega.{arith}
+use lib.IntN.{ℤ, pos}
+use lib.ListN.{length, drop}
+use lib.Seq.{sets-eq}
+use Rattle.lent.specs.Over.{over}
+use Rattle.lent.specs.Entries.{flat, entriesFrom, entries}
+use Rattle.lent.proofs.EntryTable.{flat-append}
+use Rattle.plane.specs.declared.Place.{Place}
+use Rattle.plane.specs.Distance.{distance}
+use Rattle.plane.specs.Flat.{placeFrom, placeAt}
+use Rattle.graph.specs.Numbers.{edgeFrom}
+use Rattle.report.specs.Text.{decimal, whole, line, space, newline, edgeLine, header, pinsWord, macrosWord, terminalWord, refinedWord}
+use Rattle.report.specs.Put.{Put}
+
+-- a number with the byte behind it, and a place
+abbrev pub number : ℤ → ℕ → List ℕ
+number z behind = whole z ++ (behind ∷ [])
+
+abbrev pub places : Place → List ℕ
+places p = number (p .x) space ++ number (p .y) space
+
+pub edge-line : (a b : Place) → (places a ++ places b) ++ number (pos (distance a b)) newline ≡ edgeLine (a, b)
+unfolding edgeLine line
+edge-line a b = simp append-assoc
+
+regrouped : (a b c d e f g h i : List ℕ)
+    → ((((a ++ b) ++ (c ++ d)) ++ (e ++ f)) ++ (g ++ h)) ++ i ≡ a ++ (b ++ (c ++ (d ++ (e ++ (f ++ (g ++ (h ++ i)))))))
+regrouped a b c d e f g h i = simp append-assoc
+
+pub header-line : (m k : ℕ) (t r : ℤ)
+    → ((((pinsWord ++ decimal m) ++ (macrosWord ++ decimal k)) ++ (terminalWord ++ whole t)) ++ (refinedWord ++ whole r)) ++ (newline ∷ [])
+    ≡ header m k t r
+unfolding header
+header-line m k t r = regrouped pinsWord (decimal m) macrosWord (decimal k) terminalWord (whole t) refinedWord (whole r) (newline ∷ [])
+
+-- one edge more
+entries-last : (s : List ℤ) (k n : ℕ) → entriesFrom edgeFrom 4 s k n ++ (edgeFrom s (k + n * 4) ∷ []) ≡ entriesFrom edgeFrom 4 s k (suc n)
+unfolding entriesFrom
+entries-last s k zero = ap (λ (j : ℕ). edgeFrom s j ∷ []) (omega arith)
+entries-last s k (suc n) =
+    ap (λ (l : List (Place × Place)). edgeFrom s k ∷ l)
+    (ap (λ (j : ℕ). entriesFrom edgeFrom 4 s (k + 4) n ++ (edgeFrom s j ∷ [])) (omega arith) ∙ entries-last s (k + 4) n)
+
+same-edge : (s : List ℤ) (i : ℕ) → (placeAt s (i * 2), placeAt s (i * 2 + 1)) ≡ edgeFrom s (0 + i * 4)
+same-edge s i =
+    let e : i * 2 * 2 ≡ 0 + i * 4 = omega arith in
+    let f : (i * 2 + 1) * 2 ≡ 0 + i * 4 + 2 = omega arith in
+    ap₂ (λ (j k : ℕ). (placeFrom s j, placeFrom s k)) e f
+
+pub lines-more : (s : List ℤ) (i : ℕ)
+    → flat edgeLine (entries edgeFrom 4 s i) ++ edgeLine (placeAt s (i * 2), placeAt s (i * 2 + 1)) ≡ flat edgeLine (entries edgeFrom 4 s (i + 1))
+unfolding flat
+lines-more s i =
+    ap (λ (l : List ℕ). flat edgeLine (entries edgeFrom 4 s i) ++ l)
+    (ap edgeLine (same-edge s i) ∙ sym (append-nil (edgeLine (edgeFrom s (0 + i * 4)))))
+    ∙ sym (flat-append edgeLine (entries edgeFrom 4 s i) (edgeFrom s (0 + i * 4) ∷ []))
+    ∙ ap (flat edgeLine) (entries-last s 0 i ∙ ap (entriesFrom edgeFrom 4 s 0) (sym (add-one i)))
+
+-- no line yet
+pub no-lines : (o : List ℕ) (at : ℕ) (s : List ℤ) → Put o at (flat edgeLine (entries edgeFrom 4 s 0)) o at
+unfolding flat entriesFrom
+no-lines o at s = record { holds = refl; moves = omega arith }
+
+-- a text put from the first byte on
+pub put-over : {o p x : List ℕ} {b : ℕ} → length x ≤ length o → Put o 0 x p b → p ≡ over x o
+unfolding over
+put-over {o} {p} {x} {b} h f =
+    let e : 0 + length x ≡ length x = omega arith in
+    f .holds ∙ sets-eq x o 0 (omega arith) ∙ ap (λ (n : ℕ). x ++ drop n o) e

@@ -1,0 +1,58 @@
+-- The text of document 01's third worked net, and of a refusal, by computing the definitions.
+-- Assumes nothing.
+use mathlib.Core.Path.{_≡_, refl}
+use mathlib.Core.List.{List, [], _∷_, _++_}
+use Prim.Native.Nat.{ℕ}
+use lib.IntN.{ℤ, pos, negsuc}
+use Rattle.lent.specs.Entries.{flat}
+use Rattle.plane.specs.declared.Place.{Place}
+use Rattle.plane.specs.Place.{place}
+use Rattle.plane.specs.Distance.{apart, distance}
+use Rattle.report.specs.Text.{digitsIn, decimal, whole, line, edgeLine, header, treeText, refusedText}
+use Rattle.report.specs.Text.{newline, pinsWord, macrosWord, terminalWord, refinedWord, refusedWord}
+
+-- the text of a tree; to unfold this is to unfold all that it rests on
+unfoldable pub shown : ℕ → ℕ → ℤ → ℤ → List (Place × Place) → List ℕ
+unfolding flat apart distance digitsIn decimal whole line edgeLine header treeText
+shown m k terminal refined edges = treeText m k terminal refined edges
+
+unfoldable pub shownRefused : ℤ → List ℕ
+unfolding digitsIn decimal whole line refusedText
+shownRefused n = refusedText n
+
+-- "pins 3 macros 0 terminal 9 refined 7", "0 0 2 0 2", "2 0 2 3 3", "2 0 4 0 2", a line each
+abbrev threeLines : List ℕ
+threeLines =
+    pinsWord ++ (51 ∷ (macrosWord ++ (48 ∷ (terminalWord ++ (57 ∷ (refinedWord ++ (55 ∷ (newline
+    ∷ (48 ∷ (32 ∷ (48 ∷ (32 ∷ (50 ∷ (32 ∷ (48 ∷ (32 ∷ (50 ∷ (newline
+    ∷ (50 ∷ (32 ∷ (48 ∷ (32 ∷ (50 ∷ (32 ∷ (51 ∷ (32 ∷ (51 ∷ (newline
+    ∷ (50 ∷ (32 ∷ (48 ∷ (32 ∷ (52 ∷ (32 ∷ (48 ∷ (32 ∷ (50 ∷ (newline ∷ []))))))))))))))))))))))))))))))))))))))
+
+-- "-1000000 0 -999990 1000000 1000010"
+abbrev farLine : List ℕ
+farLine =
+    45 ∷ (49 ∷ (48 ∷ (48 ∷ (48 ∷ (48 ∷ (48 ∷ (48 ∷ (32 ∷ (48 ∷ (32
+    ∷ (45 ∷ (57 ∷ (57 ∷ (57 ∷ (57 ∷ (57 ∷ (48 ∷ (32
+    ∷ (49 ∷ (48 ∷ (48 ∷ (48 ∷ (48 ∷ (48 ∷ (48 ∷ (32
+    ∷ (49 ∷ (48 ∷ (48 ∷ (48 ∷ (48 ∷ (49 ∷ (48 ∷ (newline ∷ []))))))))))))))))))))))))))))))))))
+
+pub record Table : Type 0 where
+  pub three-pins : shown 3 0 (pos 9) (pos 7) (
+      (place (pos 0) (pos 0), place (pos 2) (pos 0))
+      ∷ ((place (pos 2) (pos 0), place (pos 2) (pos 3))
+      ∷ ((place (pos 2) (pos 0), place (pos 4) (pos 0)) ∷ []))
+      ) ≡ threeLines
+  pub no-edges : shown 1 64 (pos 0) (pos 0) []
+      ≡ pinsWord ++ (49 ∷ (macrosWord ++ (54 ∷ (52 ∷ (terminalWord ++ (48 ∷ (refinedWord ++ (48 ∷ (newline ∷ [])))))))))
+  pub far : shown 0 0 (pos 0) (pos 0) ((place (negsuc 999999) (pos 0), place (negsuc 999989) (pos 1000000)) ∷ [])
+      ≡ shown 0 0 (pos 0) (pos 0) [] ++ farLine
+  pub eleven : shownRefused (pos 11) ≡ refusedWord ++ (49 ∷ (49 ∷ (newline ∷ [])))
+
+pub worked-texts : Table
+unfolding shown shownRefused
+worked-texts = record {
+  three-pins = refl;
+  no-edges = refl;
+  far = refl;
+  eleven = refl;
+}

@@ -1,0 +1,92 @@
+-- `report::put_edges` meets its contract. The loop's invariant: the lines of the edges passed are put. The measure is how many are left.
+-- Assumes nothing.
+use mathlib.Core.Path.{_≡_, refl, ap, ap₂, _∙_}
+use Prim.Native.Nat.{ℕ, _≤_, _-_, _+_, _*_}
+use native.Mathlib.Omega.{arith}
+use lib.ListN.{length}
+use denote.Ref.{now}
+use Rattle.lent.specs.Entries.{flat, entries}
+use Rattle.plane.specs.declared.Place.{Place}
+use Rattle.graph.specs.Numbers.{edgeFrom}
+use Rattle.report.specs.Text.{edgeLine}
+use Rattle.report.specs.Put.{Put}
+use Rattle.report.proofs.PutLaws.{put-then, put-as}
+use Rattle.report.proofs.LineLaws.{lines-more, no-lines}
+use Rattle.report.proofs.put_edges.Statement.{statement}
+use Rattle.report.proofs.put_edges.Tie as tie
+
+abbrev Inv-loop : tie.InvT-loop
+Inv-loop out₀ at edges count next₀ i₀ out next i =
+    ((i ≤ count) × (length out ≡ length out₀)) × ((next ≤ at + i * 105) × Put out₀ at (flat edgeLine (entries edgeFrom 4 edges i)) out next)
+
+abbrev μ-loop : tie.MeasureT-loop
+μ-loop out₀ at edges count next₀ i₀ out next i = count - i
+
+loop-holds : tie.Need-loop-holds Inv-loop μ-loop
+loop-holds c = ((omega arith, refl), (omega arith, no-lines _ _ _))
+
+mul-place-at : tie.Need-mul-place-at Inv-loop μ-loop
+mul-place-at c = omega arith
+
+place-at-requires : tie.Need-place-at-requires Inv-loop μ-loop
+place-at-requires c κs = omega arith
+
+mul-place-at-2 : tie.Need-mul-place-at-2 Inv-loop μ-loop
+mul-place-at-2 c = omega arith
+
+add-place-at : tie.Need-add-place-at Inv-loop μ-loop
+add-place-at c = omega arith
+
+place-at-requires-2 : tie.Need-place-at-requires-2 Inv-loop μ-loop
+place-at-requires-2 c κs = omega arith
+
+put-edge-requires : tie.Need-put-edge-requires Inv-loop μ-loop
+put-edge-requires c κs = omega arith
+
+add-i : tie.Need-add-i Inv-loop μ-loop
+add-i c = omega arith
+
+loop-less : tie.Need-loop-less Inv-loop μ-loop
+loop-less c = omega arith
+
+loop-again : tie.Need-loop-again Inv-loop μ-loop
+loop-again c =
+    let e = c .before .before in
+    let q = e .before .before in
+    let p = q .before in
+    let l = p .before .before in
+    let a = l .before .before .args in
+    let line =
+    put-as (ap₂ (λ (u v : Place). edgeLine (u, v)) (p .place-at .ensures) (q .place-at2 .ensures)) (e .put-edge .ensures .0)
+    in
+    let text = put-as (lines-more (now (a .edges)) (l .loop .i)) (put-then (l .loop .inv .1 .1) line) in
+    ((omega arith, e .put-edge .kept .0 ∙ l .loop .inv .0 .1), (omega (arith, e .put-edge .ensures .1, l .loop .inv .1 .0), text))
+
+same-length : tie.Need-same-length Inv-loop μ-loop
+same-length c = c .before .loop .inv .0 .1
+
+returns : tie.Need-returns Inv-loop μ-loop
+returns c =
+    let l = c .before in
+    let a = l .before .before .args in
+    let e : l .loop .i ≡ a .count = omega arith in
+    (put-as (ap (λ (n : ℕ). flat edgeLine (entries edgeFrom 4 (now (a .edges)) n)) e) (l .loop .inv .1 .1), omega (arith, l .loop .inv .1 .0))
+
+pub put-edges-spec : {M : Type 1} → statement M
+put-edges-spec =
+    tie.close
+    (tie.spec
+    Inv-loop
+    μ-loop
+    loop-holds
+    mul-place-at
+    place-at-requires
+    mul-place-at-2
+    add-place-at
+    place-at-requires-2
+    put-edge-requires
+    add-i
+    loop-less
+    loop-again
+    same-length
+    returns)

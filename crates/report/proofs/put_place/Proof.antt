@@ -1,0 +1,37 @@
+-- `report::put_place` meets its contract: two numbers, each with a space behind it.
+-- Assumes nothing.
+use native.Mathlib.Omega.{arith}
+use mir.Syntax.{w32}
+use mir.ValLaws.{toZ-ofZ}
+use Rattle.plane.proofs.Fits.{PlaceFits}
+use Rattle.report.proofs.PutLaws.{put-then}
+use borrow.Author.Needs.{needs}
+use Rattle.report.proofs.put_place.Statement.{statement}
+use Rattle.report.proofs.put_place.Tie as tie
+
+fit : (s : tie.Start) → PlaceFits (s .args .p)
+fit s = record { x = search needs; y = search needs }
+
+put-coordinate-requires : tie.Need-put-coordinate-requires
+put-coordinate-requires c κs = search needs
+
+put-coordinate-requires-2 : tie.Need-put-coordinate-requires-2
+put-coordinate-requires-2 c κs = search needs
+
+same-length : tie.Need-same-length
+same-length c = search needs
+
+returns : tie.Need-returns
+returns c =
+    let q = c .before .before in
+    let p = q .before .before .before .before .before in
+    let s = p .before .before .before .before in (
+      put-then
+          (rw (toZ-ofZ w32 _ (fit s .x)) at (p .put-coordinate .ensures .0))
+          (rw (toZ-ofZ w32 _ (fit s .y)) at (q .put-coordinate2 .ensures .0)),
+      omega (arith, p .put-coordinate .ensures .1, q .put-coordinate2 .ensures .1),
+    )
+
+pub put-place-spec : {M : Type 1} → statement M
+put-place-spec =
+    tie.close (tie.spec put-coordinate-requires put-coordinate-requires-2 same-length returns)

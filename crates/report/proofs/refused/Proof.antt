@@ -1,0 +1,48 @@
+-- `report::refused` meets its contract: the word, the number and the line's end.
+-- Assumes nothing.
+use mathlib.Core.Path.{ap}
+use native.Mathlib.Omega.{arith}
+use lib.IntN.{ℤ}
+use Rattle.signed.proofs.Bits.{cast-wide, wide-is}
+use Rattle.report.specs.Text.{newline, line, refusedText}
+use Rattle.report.proofs.PutLaws.{put-then, put-as}
+use Rattle.report.proofs.LineLaws.{number, put-over}
+use borrow.Author.Needs.{needs}
+use Rattle.report.proofs.refused.Statement.{statement}
+use Rattle.report.proofs.refused.Tie as tie
+
+slice-aggregate-put-bytes : tie.Need-slice-aggregate-put-bytes
+slice-aggregate-put-bytes c = search needs
+
+put-bytes-requires : tie.Need-put-bytes-requires
+put-bytes-requires c κs = search needs
+
+cast-put-number : tie.Need-cast-put-number
+cast-put-number c = cast-wide _ (c .before .before .before .before .before .before .before .fits .n)
+
+put-number-requires : tie.Need-put-number-requires
+put-number-requires c κs = search needs
+
+same-length : tie.Need-same-length
+same-length c = search needs
+
+returns : tie.Need-returns
+unfolding refusedText line
+returns c =
+    let d = c .before .before in
+    let w = d .before .before .before .before in
+    let s = w .before .before .before .before in
+    let n = put-as (ap (λ (z : ℤ). number z newline) (wide-is _ (s .fits .n))) (d .put-number .ensures .0) in
+    let t = put-then (w .put-bytes .ensures) n in
+    (put-over (omega (arith, w .put-bytes .ensures .moves, d .put-number .ensures .1, t .moves)) t, omega (arith, t .moves))
+
+pub refused-spec : {M : Type 1} → statement M
+refused-spec =
+    tie.close
+    (tie.spec
+    slice-aggregate-put-bytes
+    put-bytes-requires
+    cast-put-number
+    put-number-requires
+    same-length
+    returns)

@@ -1,0 +1,11 @@
+-- Text put into a buffer piece by piece.
+use mathlib.Core.Path.{_≡_}
+use mathlib.Core.List.{List}
+use Prim.Native.Nat.{ℕ, _+_}
+use lib.ListN.{length}
+use lib.Seq.{sets}
+
+-- `piece` put into a buffer from the byte `at` on: what the buffer then holds, and which byte is next
+pub record Put (buffer : List ℕ) (at : ℕ) (piece : List ℕ) (later : List ℕ) (next : ℕ) : Type 0 where
+  pub holds : later ≡ sets buffer at piece
+  pub moves : next ≡ at + length piece

@@ -1,0 +1,201 @@
+// The text that the program `route` prints, put into a lent buffer piece by piece: each function takes the byte at which its piece begins
+// and gives the one after it. A number takes at most 20 bytes, and with what stands behind it 21; a line of five numbers at most 105.
+use plane::Place;
+ghost use mathlib.Core.Path.{_≡_};
+ghost use mathlib.Core.List.{[], _∷_, _++_};
+ghost use Prim.Native.Nat.{_+_, _*_, _≤_};
+ghost use lib.IntN.{natAbs};
+ghost use lib.ListN.{length};
+ghost use Rattle.lent.specs.Over.{over};
+ghost use Rattle.lent.specs.Entries.{flat, entries};
+ghost use Rattle.graph.specs.Numbers.{edgeFrom};
+ghost use Rattle.report.specs.Text.{decimal, whole, space, edgeLine, header, treeText, refusedText};
+ghost use Rattle.report.specs.Put.{Put};
+
+// Pieces
+
+fn put_byte(out: &mut [u8], at: usize, b: u8) -> usize
+    requires { ⌜ at + 1 ≤ length (now out) ⌝ }
+    ensures { λ r. ⌜ Put (now (out .entry)) at (b ∷ []) (now (out .exit)) r ⌝ }
+{
+    out[at] = b;
+    at + 1
+}
+
+fn put_bytes(out: &mut [u8], at: usize, bytes: &[u8]) -> usize
+    requires { ⌜ at + length (now bytes) ≤ length (now out) ⌝ }
+    ensures { λ r. ⌜ Put (now (out .entry)) at (now (bytes .entry)) (now (out .exit)) r ⌝ }
+{
+    let mut i = 0;
+    while i < bytes.len() {
+        out[at + i] = bytes[i];
+        i += 1;
+    }
+    at + i
+}
+
+// The digit of a number below ten.
+fn digit(n: u64) -> u8
+    requires { ⌜ n ≤ 9 ⌝ }
+    ensures { λ r. ⌜ r ≡ 48 + n ⌝ }
+{
+    48 + n as u8
+}
+
+// A natural number: the digits of its tenth, and then its last one.
+fn put_decimal(out: &mut [u8], at: usize, n: u64) -> usize
+    requires { ⌜ at + length (decimal n) ≤ length (now out) ⌝ }
+    ensures { λ r. ⌜ Put (now (out .entry)) at (decimal n) (now (out .exit)) r ⌝ }
+{
+    if n < 10 {
+        return put_byte(&mut *out, at, digit(n));
+    }
+    let last = put_decimal(&mut *out, at, n / 10);
+    put_byte(&mut *out, last, digit(n % 10))
+}
+
+// How far a number lies from zero; the least i64 has no negative, so one more than it is turned round.
+fn magnitude(z: i64) -> u64
+    ensures { λ r. ⌜ r ≡ natAbs z ⌝ }
+{
+    if z < 0 {
+        return (-(z + 1)) as u64 + 1;
+    }
+    z as u64
+}
+
+// A whole number, with a minus sign where it is below zero.
+fn put_whole(out: &mut [u8], at: usize, z: i64) -> usize
+    requires { ⌜ at + 20 ≤ length (now out) ⌝ }
+    ensures put { λ r. ⌜ Put (now (out .entry)) at (whole z) (now (out .exit)) r ⌝ }
+    ensures within { λ r. ⌜ r ≤ at + 20 ⌝ }
+{
+    let size = magnitude(z);
+    if z < 0 {
+        let next = put_byte(&mut *out, at, b'-');
+        return put_decimal(&mut *out, next, size);
+    }
+    put_decimal(&mut *out, at, size)
+}
+
+// Lines
+
+// A number and the byte behind it.
+fn put_number(out: &mut [u8], at: usize, z: i64, behind: u8) -> usize
+    requires { ⌜ at + 21 ≤ length (now out) ⌝ }
+    ensures put { λ r. ⌜ Put (now (out .entry)) at (whole z ++ (behind ∷ [])) (now (out .exit)) r ⌝ }
+    ensures within { λ r. ⌜ r ≤ at + 21 ⌝ }
+{
+    let next = put_whole(&mut *out, at, z);
+    put_byte(&mut *out, next, behind)
+}
+
+fn put_coordinate(out: &mut [u8], at: usize, z: i32) -> usize
+    requires { ⌜ at + 21 ≤ length (now out) ⌝ }
+    ensures put { λ r. ⌜ Put (now (out .entry)) at (whole z ++ (space ∷ [])) (now (out .exit)) r ⌝ }
+    ensures within { λ r. ⌜ r ≤ at + 21 ⌝ }
+{
+    put_number(&mut *out, at, z as i64, b' ')
+}
+
+fn put_place(out: &mut [u8], at: usize, p: Place) -> usize
+    requires { ⌜ at + 42 ≤ length (now out) ⌝ }
+    ensures put { λ r. ⌜ Put (now (out .entry)) at (whole (p .x) ++ (space ∷ []) ++ (whole (p .y) ++ (space ∷ []))) (now (out .exit)) r ⌝ }
+    ensures within { λ r. ⌜ r ≤ at + 42 ⌝ }
+{
+    let next = put_coordinate(&mut *out, at, p.x);
+    put_coordinate(&mut *out, next, p.y)
+}
+
+// The line of an edge: its places and its length.
+fn put_edge(out: &mut [u8], at: usize, a: Place, b: Place) -> usize
+    requires { ⌜ at + 105 ≤ length (now out) ⌝ }
+    ensures put { λ r. ⌜ Put (now (out .entry)) at (edgeLine (a, b)) (now (out .exit)) r ⌝ }
+    ensures within { λ r. ⌜ r ≤ at + 105 ⌝ }
+{
+    let second = put_place(&mut *out, at, a);
+    let third = put_place(&mut *out, second, b);
+    put_number(&mut *out, third, plane::distance(a, b), b'\n')
+}
+
+// The lines of the first `count` edges of a flat list.
+fn put_edges(out: &mut [u8], at: usize, edges: &[i32], count: usize) -> usize
+    requires { ⌜ (at + count * 105 ≤ length (now out)) × (count * 4 ≤ length (now edges)) ⌝ }
+    ensures put { λ r. ⌜ Put (now (out .entry)) at (flat edgeLine (entries edgeFrom 4 (now (edges .entry)) count)) (now (out .exit)) r ⌝ }
+    ensures within { λ r. ⌜ r ≤ at + count * 105 ⌝ }
+{
+    let mut next = at;
+    let mut i = 0;
+    while i < count {
+        let a = plane::place_at(edges, i * 2);
+        let b = plane::place_at(edges, i * 2 + 1);
+        next = put_edge(&mut *out, next, a, b);
+        i += 1;
+    }
+    next
+}
+
+// The header
+
+// A word and a count.
+fn put_count(out: &mut [u8], at: usize, word: &[u8], n: usize) -> usize
+    requires { ⌜ at + (length (now word) + 20) ≤ length (now out) ⌝ }
+    ensures put { λ r. ⌜ Put (now (out .entry)) at (now (word .entry) ++ decimal n) (now (out .exit)) r ⌝ }
+    ensures within { λ r. ⌜ r ≤ at + (length (now (word .entry)) + 20) ⌝ }
+{
+    let next = put_bytes(&mut *out, at, word);
+    put_decimal(&mut *out, next, n as u64)
+}
+
+// A word and a total.
+fn put_total(out: &mut [u8], at: usize, word: &[u8], z: i64) -> usize
+    requires { ⌜ at + (length (now word) + 20) ≤ length (now out) ⌝ }
+    ensures put { λ r. ⌜ Put (now (out .entry)) at (now (word .entry) ++ whole z) (now (out .exit)) r ⌝ }
+    ensures within { λ r. ⌜ r ≤ at + (length (now (word .entry)) + 20) ⌝ }
+{
+    let next = put_bytes(&mut *out, at, word);
+    put_whole(&mut *out, next, z)
+}
+
+fn put_header(out: &mut [u8], m: usize, k: usize, terminal: i64, refined: i64) -> usize
+    requires { ⌜ 120 ≤ length (now out) ⌝ }
+    ensures put { λ r. ⌜ Put (now (out .entry)) 0 (header m k terminal refined) (now (out .exit)) r ⌝ }
+    ensures within { λ r. ⌜ r ≤ 120 ⌝ }
+{
+    let first = put_count(&mut *out, 0, b"pins ", m);
+    let second = put_count(&mut *out, first, b" macros ", k);
+    let third = put_total(&mut *out, second, b" terminal ", terminal);
+    let fourth = put_total(&mut *out, third, b" refined ", refined);
+    put_byte(&mut *out, fourth, b'\n')
+}
+
+// Texts
+
+// The text of a net of m pins and k macros, its totals, and the first `count` edges of a flat list; how many bytes it has.
+pub fn tree(
+    m: usize,
+    k: usize,
+    terminal: i64,
+    refined: i64,
+    edges: &[i32],
+    count: usize,
+    out: &mut [u8],
+) -> usize
+    requires { ⌜ (120 + count * 105 ≤ length (now out)) × (count * 4 ≤ length (now edges)) ⌝ }
+    ensures text { λ _. ⌜ now (out .exit)
+        ≡ over (treeText m k terminal refined (entries edgeFrom 4 (now (edges .entry)) count)) (now (out .entry)) ⌝ }
+    ensures bytes { λ r. ⌜ r ≡ length (treeText m k terminal refined (entries edgeFrom 4 (now (edges .entry)) count)) ⌝ }
+{
+    let next = put_header(&mut *out, m, k, terminal, refined);
+    put_edges(&mut *out, next, edges, count)
+}
+
+// The text of a refusal; how many bytes it has.
+pub fn refused(n: i32, out: &mut [u8]) -> usize
+    requires { ⌜ 29 ≤ length (now out) ⌝ }
+    ensures text { λ _. ⌜ now (out .exit) ≡ over (refusedText n) (now (out .entry)) ⌝ }
+    ensures bytes { λ r. ⌜ r ≡ length (refusedText n) ⌝ }
+{
+    let next = put_bytes(&mut *out, 0, b"refused ");
+    put_number(&mut *out, next, n as i64, b'\n')
+}

@@ -1,0 +1,38 @@
+-- The terminal tree: document 01, "Terminal tree" among the operations.
+-- What it is, and what is promised of it, stands in `numbered` (specs/Tree.antt, specs/Demand.antt).
+use mathlib.Core.Bool.{cond}
+use mathlib.Core.List.{List}
+use Prim.Native.Nat.{ℕ, _*_}
+use lib.Dec.{ltb}
+use lib.IntN.{ℤ, pos}
+use lib.ListN.{length}
+use Rattle.lent.specs.Told.{Told, refused, given, onlyIf}
+use Rattle.plane.specs.declared.Place.{Place}
+use Rattle.plane.specs.Flat.{placesOf, macrosOf}
+use Rattle.net.specs.Answer.{number}
+use Rattle.net.specs.Check.{pinCount, checked}
+use Rattle.numbered.specs.Tree as numbered
+use Rattle.router.specs.declared.Tree.{Tree}
+use Rattle.router.specs.declared.Tree.the-variants.{Given, Refused}
+
+-- "Each path in the order kept: its bridge (four numbers) and its length"
+unfoldable pub pathsOf : List ℤ → List ℤ → List ((Place × Place) × ℕ)
+pathsOf pins macros = numbered.pathsOf (placesOf pins) (macrosOf macros)
+
+-- "with the total"
+unfoldable pub pathsTotal : List ℤ → List ℤ → ℕ
+pathsTotal pins macros = numbered.totalOf (placesOf pins) (macrosOf macros)
+
+-- "21: fewer than 5m numbers lent"; otherwise how many paths, and their total
+unfoldable pub terminalGiven : List ℤ → List ℤ → ℕ → Told (ℕ × ℤ)
+terminalGiven pins macros room =
+    cond (ltb room (pinCount pins * 5)) (refused 21) (given (length (pathsOf pins macros), pos (pathsTotal pins macros)))
+
+-- "11 to 17, then 21"
+unfoldable pub terminalTree : List ℤ → List ℤ → ℕ → Told (ℕ × ℤ)
+terminalTree pins macros room = onlyIf (checked pins macros) (terminalGiven pins macros room)
+
+-- what the code's answer says: of a terminal tree the paths and their total, of a refined tree the edges and theirs
+unfoldable pub toldTree : Tree → Told (ℕ × ℤ)
+toldTree (Given n total) = given (n, total)
+toldTree (Refused f) = refused (number f)

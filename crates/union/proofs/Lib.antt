@@ -1,0 +1,8 @@
+pub mod StandsLaws
+pub mod MarkLaws
+pub mod StartLaws
+pub mod UnionTree
+pub mod WorkedUnions
+pub mod PlacedLaws
+pub mod UnionSound
+pub mod WorkedStart

@@ -1,0 +1,270 @@
+-- The union of the kept paths of an allowed net is a sound start for the refiner: one tree over its points in order, with all pins and every
+-- edge clear; it has no more metal to lay than the terminal tree, and leaves room for a point a round.
+-- Assumes nothing.
+use mathlib.Core.Path.{_≡_, refl, sym, ap, ap₂, _∙_}
+use mathlib.Core.Bool.{Bool, true}
+use mathlib.Core.Logic.{inl}
+use mathlib.Core.List.{List, _++_, map, Memᴰ·cast}
+use Prim.Native.Nat.{ℕ, suc, _+_, _*_, _≤_, _<_}
+use native.Mathlib.Omega.{arith}
+use lib.Dec.{ltb}
+use borrow.Author.Tests.{lt-ltb, ltb-true}
+use lib.IntN.{ℤ}
+use lib.ListN.{length, getD}
+use Rattle.lists.specs.Member.{_∈_, Among}
+use Rattle.lists.specs.Sorted.{Ascending, position}
+use Rattle.lists.specs.Those.{those}
+use Rattle.lists.specs.Total.{total}
+use Rattle.lists.proofs.MemberLaws.{getD-in}
+use Rattle.lists.proofs.MapLaws.{of-map}
+use Rattle.lists.proofs.OrderLaws.{number-order}
+use Rattle.lists.proofs.PermLaws.{before-differs}
+use Rattle.lists.proofs.SortedLaws.{position-small, at-position}
+use Rattle.lists.proofs.ThoseLaws.{those-split}
+use Rattle.lent.specs.Entries.{flat}
+use Rattle.joined.specs.Joined.{Joined}
+use Rattle.joined.specs.Tree as joined
+use Rattle.joined.proofs.JoinedLaws.{one as one-link, between, carried, firsts, seconds}
+use Rattle.plane.specs.declared.Place.{Place}
+use Rattle.plane.specs.declared.Macro.{Macro}
+use Rattle.plane.specs.Place.{before}
+use Rattle.plane.specs.Distance.{distance}
+use Rattle.plane.specs.Macro.{clear}
+use Rattle.plane.specs.Flat.{placeAt}
+use Rattle.plane.proofs.PlaceOrder.{place-order}
+use Rattle.net.specs.Allowed.{Allowed}
+use Rattle.graph.specs.Vertices.{vertices}
+use Rattle.graph.proofs.VertexLaws.{pin-vertex, vertices-ascending}
+use Rattle.graph.proofs.GraphBounds.{few-vertices}
+use Rattle.terminal.specs.Edges.{Graph, one, two, len, from}
+use Rattle.terminal.specs.Labels.{labelled}
+use Rattle.terminal.specs.Parents.{parented}
+use Rattle.terminal.specs.Kept.{keptBridges, terminal}
+use Rattle.terminal.specs.Setting.{ends}
+use Rattle.terminal.proofs.EdgeLaws.{length-from}
+use Rattle.numbered.specs.Number.{numberOf, vertexAt, pinNumbers}
+use Rattle.numbered.specs.Tree.{graphOf, treeOf, totalOf}
+use Rattle.numbered.proofs.NumberLaws.{vertex-order, vertex-of-number, pin-number-in}
+use Rattle.numbered.proofs.SettingOf.{setting, whole, edge-at, one-vertex, two-vertex}
+use Rattle.refined.specs.Table.{pointBound, Tree}
+use Rattle.refined.specs.Places.{listing, endsOf, pointsOf, edgesOf, keyLength, InOrder, Sound}
+use Rattle.refined.specs.Promise.{metalOf, Promise}
+use Rattle.refined.specs.Refined.{refined}
+use Rattle.refined.specs.Sum.{below}
+use Rattle.refined.proofs.ListingLaws.{listing-length, in-listing, of-listing, listing-once}
+use Rattle.refined.proofs.SumLaws.{below-same}
+use Rattle.refined.proofs.RefinedSound.{refined-promise}
+use Rattle.union.specs.Union.{stands, bothEnds, keptEdges, unionEdges, unionPoints, startOf, unionOf}
+use Rattle.union.proofs.StandsLaws.{ascending-at, picked-ascending}
+use Rattle.union.proofs.UnionTree.{pin-point, first-point, second-point, point-inside, edge-inside, union-size, union-tree, union-total}
+use Rattle.union.proofs.PlacedLaws.{
+  pointTable,
+  edgeTable,
+  points-length,
+  edges-length,
+  point-at,
+  point-of,
+  first-at,
+  second-at,
+  keys-within,
+  below-total,
+}
+
+module _ {ps : List Place} {ms : List Macro} (a : Allowed ps ms) where
+  abbrev vs : List Place
+  vs = vertices ps ms
+
+  abbrev g : Graph
+  g = graphOf ps ms
+
+  abbrev n : ℕ
+  n = length (vertices ps ms)
+
+  abbrev pins : List ℕ
+  pins = pinNumbers (vertices ps ms) ps
+
+  abbrev E : List ℕ
+  E = unionEdges (graphOf ps ms) (treeOf ps ms .labels .fars) (treeOf ps ms .parents) (treeOf ps ms .bridges)
+
+  abbrev W : List ℕ
+  W = unionPoints (graphOf ps ms) (treeOf ps ms .labels .fars) (treeOf ps ms .parents) (treeOf ps ms .bridges) (length (vertices ps ms))
+      (pinNumbers (vertices ps ms) ps)
+
+  abbrev at : ℕ → Place
+  at v = vertexAt (vertices ps ms) v
+
+  -- By numbers
+
+  number-tree : joined.Tree W (map (ends g) E)
+  unfolding treeOf terminal
+  number-tree = union-tree (setting a) (whole a)
+
+  number-size : suc (length E) ≡ length W
+  unfolding treeOf terminal
+  number-size = union-size (setting a) (whole a)
+
+  number-total : total (map (len g) E) ≤ totalOf ps ms
+  unfolding treeOf terminal
+  number-total = union-total (setting a) (whole a)
+
+  one-at : (k : ℕ) → k ∈ E → one g k ∈ W
+  unfolding treeOf terminal
+  one-at k m = first-point (setting a) (whole a) k m
+
+  two-at : (k : ℕ) → k ∈ E → two g k ∈ W
+  unfolding treeOf terminal
+  two-at k m = second-point (setting a) (whole a) k m
+
+  pin-at : Among pins W
+  unfolding treeOf terminal
+  pin-at = pin-point (setting a) (whole a)
+
+  -- points are vertices
+  pub union-below : (v : ℕ) →
+      v ∈ unionPoints (graphOf ps ms) (treeOf ps ms .labels .fars) (treeOf ps ms .parents) (treeOf ps ms .bridges) (length (vertices ps ms))
+      (pinNumbers (vertices ps ms) ps) → v < length (vertices ps ms)
+  unfolding treeOf terminal
+  union-below v m = point-inside (setting a) (whole a) v m
+
+  edge-below : (k : ℕ) → k ∈ E → k < g .count
+  unfolding treeOf terminal
+  edge-below k m = edge-inside (setting a) (whole a) k m
+
+  points-ascending : Ascending ltb W
+  unfolding unionPoints
+  points-ascending = picked-ascending (λ v. stands v (pins ++ flat (bothEnds (g .ones) (g .twos)) E)) n
+
+  edges-ascending : Ascending ltb E
+  unfolding unionEdges
+  edges-ascending = picked-ascending (λ k. stands k (keptEdges g (treeOf ps ms .labels .fars) (treeOf ps ms .parents) (treeOf ps ms .bridges))) (g .count)
+
+  few-points : length W ≤ n
+  unfolding unionPoints
+  few-points = omega (arith, those-split (λ v. stands v (pins ++ flat (bothEnds (g .ones) (g .twos)) E)) (from 0 n), length-from 0 n)
+
+  room : length W ≤ pointBound
+  room = omega (arith, few-points, few-vertices a)
+
+  -- the refiner's tables have room for the edges
+  pub union-less : length (unionEdges (graphOf ps ms) (treeOf ps ms .labels .fars) (treeOf ps ms .parents) (treeOf ps ms .bridges)) ≤ pointBound
+  union-less = omega (arith, room, number-size)
+
+  -- By places
+
+  abbrev points : List ℤ
+  points = pointTable at g W E points-ascending room union-less one-at two-at
+
+  abbrev keys : List ℕ
+  keys = edgeTable at g W E points-ascending room union-less one-at two-at
+
+  point : (i : ℕ) → i < length W → placeAt points i ≡ at (getD W i 0)
+  point = point-at at g W E points-ascending room union-less one-at two-at
+
+  first : (i : ℕ) → i < length E → endsOf points (getD keys i 0) .0 ≡ at (one g (getD E i 0))
+  first = first-at at g W E points-ascending room union-less one-at two-at
+
+  second : (i : ℕ) → i < length E → endsOf points (getD keys i 0) .1 ≡ at (two g (getD E i 0))
+  second = second-at at g W E points-ascending room union-less one-at two-at
+
+  ordered : InOrder points (length W)
+  ordered i j e f =
+      let u = getD W i 0 in
+      let v = getD W j 0 in
+      let l : u < v = ascending-at W points-ascending i j e f in
+      let x = union-below u (getD-in W i 0 (omega arith)) in
+      let y = union-below v (getD-in W j 0 f) in
+      rw (point i (omega arith), point j f) (vertex-order vs (vertices-ascending ps ms) u v x y ∙ lt-ltb u v l)
+
+  edge-of : (k : ℕ) → k ∈ E → (i : ℕ) × (i < length E) × (getD E i 0 ≡ k)
+  edge-of k m = (position ltb E k, position-small ltb number-order E edges-ascending k m, at-position ltb number-order E edges-ascending k 0 m)
+
+  abbrev links : List (Place × Place)
+  links = edgesOf points keys (length E)
+
+  linked : (u v : ℕ) → (u, v) ∈ map (ends g) E → Joined links (at u) (at v)
+  unfolding ends
+  linked u v m =
+      let r = of-map (ends g) E m in
+      let i = edge-of (r .entry) (r .stands) in
+      between
+      (ap at (firsts (r .is)) ∙ ap (λ (k : ℕ). at (one g k)) (sym (i .2)) ∙ sym (first (i .0) (i .1)))
+      (ap at (seconds (r .is)) ∙ ap (λ (k : ℕ). at (two g k)) (sym (i .2)) ∙ sym (second (i .0) (i .1)))
+      (one-link (inl (in-listing (λ j. endsOf points (getD keys j 0)) (length E) (i .0) (i .1))))
+
+  place-tree : joined.Tree (pointsOf points (length W)) links
+  place-tree = record {
+    once = listing-once (placeAt points) (length W) (λ i j e f q. before-differs place-order _ _ (ordered i j e f) q);
+    joins =
+        λ x y i j.
+        let u = of-listing (placeAt points) (length W) x i in
+        let v = of-listing (placeAt points) (length W) y j in
+        between (u .1 .1 ∙ point (u .0) (u .1 .0)) (v .1 .1 ∙ point (v .0) (v .1 .0))
+        (carried at linked (number-tree .joins _ _ (getD-in W (u .0) 0 (u .1 .0)) (getD-in W (v .0) 0 (v .1 .0))));
+    size =
+        omega (
+          arith,
+          listing-length (placeAt points) (length W),
+          listing-length (λ j. endsOf points (getD keys j 0)) (length E),
+          number-size,
+        );
+  }
+
+  edge-free : (i : ℕ) → i < length E → clear (endsOf points (getD keys i 0) .0) (endsOf points (getD keys i 0) .1) ms ≡ true
+  edge-free i h =
+      let k = getD E i 0 in
+      let c = edge-below k (getD-in E i 0 h) in
+      rw (first i h, second i h, one-vertex a k c, two-vertex a k c) (edge-at a k c .is-clear)
+
+  edge-long : (i : ℕ) → i < length E → keyLength points (getD keys i 0) ≡ len g (getD E i 0)
+  edge-long i h =
+      let k = getD E i 0 in
+      ap₂ distance (first i h) (second i h) ∙ setting a .measured k (edge-below k (getD-in E i 0 h))
+
+  pin-stands : Among ps (pointsOf points (length W))
+  pin-stands p m =
+      let v = numberOf vs p in
+      let i = pin-at v (pin-number-in vs ps p m) in
+      let q = position ltb W v in
+      Memᴰ·cast
+      (sym (point-of at g W E points-ascending room union-less one-at two-at v i ∙ vertex-of-number vs (vertices-ascending ps ms) p (pin-vertex ps ms m)))
+      (in-listing (placeAt points) (length W) q (position-small ltb number-order W points-ascending v i))
+
+  -- the union is a tree over its points in order, with all pins, every edge clear
+  pub union-sound : Sound ms ps (unionOf ps ms)
+  unfolding unionOf startOf
+  union-sound = record {
+    ordered = ordered;
+    within = keys-within at g W E points-ascending room union-less one-at two-at (omega (arith, number-size));
+    whole = place-tree;
+    free = edge-free;
+    pinned = pin-stands;
+  }
+
+  -- it has no more metal than the kept paths
+  pub union-metal : metalOf (unionOf ps ms) ≤ totalOf ps ms
+  unfolding unionOf startOf
+  union-metal =
+      let e : below (λ i. keyLength points (getD keys i 0)) (length E) ≡ total (map (len g) E) =
+      below-same (λ i. keyLength points (getD keys i 0)) (λ i. len g (getD E i 0)) (length E) edge-long ∙ below-total (len g) E in
+      omega (arith, e, number-total)
+
+  -- a round may bring a point, and there are as many rounds as pins
+  pub union-room : unionOf ps ms .count + length ps ≤ pointBound
+  unfolding unionOf startOf
+  union-room = omega (arith, few-points, few-vertices a, a .few-pins)
+
+  pub union-size-is : suc (unionOf ps ms .edges .size) ≡ unionOf ps ms .count
+  unfolding unionOf startOf
+  union-size-is = number-size
+
+  pub union-points : length (unionOf ps ms .points) ≡ pointBound * 2
+  unfolding unionOf startOf
+  union-points = points-length at g W E points-ascending room union-less one-at two-at
+
+  pub union-keys : length (unionOf ps ms .edges .keys) ≡ pointBound
+  unfolding unionOf startOf
+  union-keys = edges-length at g W E points-ascending room union-less one-at two-at
+
+  -- so what is promised of a refined tree holds of the net's
+  pub union-promise : Promise ms ps (unionOf ps ms) (refined ms ps (unionOf ps ms))
+  union-promise = refined-promise ms ps (unionOf ps ms) union-sound union-room union-points union-keys

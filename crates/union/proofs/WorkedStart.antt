@@ -1,0 +1,97 @@
+-- The tables of an allowed net's terminal tree are what `union::start` asks for, what it makes of them is the net's union, and that is what
+-- `refined::refine` asks for.
+-- Assumes nothing.
+use mathlib.Core.Path.{_≡_, refl, sym, ap, ap₂, _∙_, subst}
+use mathlib.Core.List.{List, [], _∷_, map}
+use Prim.Native.Nat.{ℕ, suc, _+_, _≤_, _<_}
+use native.Mathlib.Omega.{arith}
+use lib.IntN.{ℤ}
+use lib.ListN.{length, getD}
+use Rattle.lists.specs.Member.{_∈_, here, there}
+use Rattle.plane.specs.declared.Place.{Place}
+use Rattle.plane.specs.declared.Macro.{Macro}
+use Rattle.plane.specs.Flat.{placeAt}
+use Rattle.net.specs.Allowed.{Allowed}
+use Rattle.graph.specs.Vertices.{vertices}
+use Rattle.graph.proofs.GraphBounds.{few-vertices}
+use Rattle.terminal.specs.Bounds.{pointBound, edgeBound}
+use Rattle.terminal.specs.Edges.{Graph, graph, entries, FirstBelow, Listed}
+use Rattle.terminal.specs.Labels.{Labels, labelled}
+use Rattle.terminal.specs.Parents.{Parents, parents, parented}
+use Rattle.terminal.specs.Kept.{terminal}
+use Rattle.terminal.proofs.KeptLaws.{read-listed, entry-listed}
+use Rattle.terminal.proofs.Nearest.{fits}
+use Rattle.terminal.proofs.ParentLaws.{falls-parented}
+use Rattle.terminal.proofs.WholeLaws.{of-kept}
+use Rattle.numbered.specs.declared.Tree.{Tree}
+use Rattle.numbered.specs.Number.{vertexAt, pinNumbers}
+use Rattle.numbered.specs.Tree.{graphOf, treeOf}
+use Rattle.numbered.specs.Tables.{Tables, Worked}
+use Rattle.numbered.proofs.SettingOf.{setting, paths-count}
+use Rattle.refined.specs.Table.{tree, Within, Tree as Table}
+use Rattle.refined.specs.Table as refined
+use Rattle.union.specs.Union.{unionEdges, unionPoints, startOf, unionOf}
+use Rattle.union.specs.Marks.{Startable}
+use Rattle.union.proofs.StartLaws.{map-agree}
+use Rattle.union.proofs.PlacedLaws.{place-at}
+use Rattle.union.proofs.UnionSound.{union-less, union-below, union-sound, union-room, union-size-is}
+
+-- the start depends on the places of the union's points alone
+start-agree : (g : Graph) (fars : List ℕ) (p : Parents) (ks : List ℕ) (f h : ℕ → Place) (n : ℕ) (pins : List ℕ) →
+    ((v : ℕ) → v ∈ unionPoints g fars p ks n pins → f v ≡ h v) → startOf g fars p ks f n pins ≡ startOf g fars p ks h n pins
+unfolding startOf
+start-agree g fars p ks f h n pins a = rw (map-agree f h (unionPoints g fars p ks n pins) a) refl
+
+module _ {ps : List Place} {ms : List Macro} (a : Allowed ps ms) {lent t : Tables} {r : Tree} (w : Worked ps ms lent t r) where
+  abbrev g : Graph
+  g = graphOf ps ms
+
+  abbrev n : ℕ
+  n = length (vertices ps ms)
+
+  startable : Startable g n (t .pins) (r .pins) (treeOf ps ms .labels .fars) (treeOf ps ms .parents) (t .kept) (r .kept)
+  unfolding treeOf terminal
+  startable =
+      let s = setting a in
+      record {
+        fits = fits s;
+        falls = falls-parented g n (labelled g n (pinNumbers (vertices ps ms) ps)) (few-vertices a) (fits s);
+        vertices = few-vertices a;
+        one-in = s .one-in;
+        two-in = s .two-in;
+        pins-few = omega (arith, w .pin-count, a .few-pins);
+        pins-in = record { inside = λ i h. omega (arith, few-vertices a, s .pins-in _ (entry-listed _ _ _ _ (w .pins-are) i h)) };
+        kept-few = omega (arith, w .bridges-are .count, paths-count a, a .few-pins);
+        kept-in = record { inside = λ i h. of-kept _ _ _ _ (entry-listed _ _ _ _ (w .bridges-are) i h) .0 };
+        room = rw (read-listed _ _ _ _ (w .bridges-are)) (union-less a);
+      }
+
+  far-is : t .fars ≡ treeOf ps ms .labels .fars
+  far-is = ap (λ (l : Labels). l .fars) (w .labels-are)
+
+  pub worked-startable : Startable (graph (t .ones) (t .twos) (t .spans) (r .edges)) (r .points) (t .pins) (r .pins) (t .fars)
+      (parents (t .ups) (t .vias)) (t .kept) (r .kept)
+  worked-startable = rw (w .graph-is, w .vertex-count, far-is, w .parents-are) startable
+
+  pub worked-start : startOf (graph (t .ones) (t .twos) (t .spans) (r .edges)) (t .fars) (parents (t .ups) (t .vias))
+      (entries (t .kept) 0 (r .kept)) (placeAt (t .points)) (r .points) (entries (t .pins) 0 (r .pins))
+      ≡ unionOf ps ms
+  unfolding unionOf
+  worked-start =
+      rw (w .graph-is, w .vertex-count, far-is, w .parents-are, read-listed _ _ _ _ (w .bridges-are), read-listed _ _ _ _ (w .pins-are))
+      (start-agree g (treeOf ps ms .labels .fars) (treeOf ps ms .parents) (treeOf ps ms .bridges) (placeAt (t .points)) (vertexAt (vertices ps ms)) n
+      (pinNumbers (vertices ps ms) ps)
+      (λ v m.
+      ap (λ (l : List ℤ). placeAt l v) (w .vertices-are) ∙ place-at (vertices ps ms) (lent .points) v (union-below a v m)))
+
+-- what the refiner asks of the tables that hold the union
+pub refinable : {ps : List Place} {ms : List Macro} → Allowed ps ms → (pts : List ℤ) (points : ℕ) (keys : List ℕ) (edges : ℕ) →
+    tree pts points keys edges ≡ unionOf ps ms →
+    ((points + length ps ≤ refined.pointBound) × (edges + length ps ≤ refined.pointBound)) × Within points keys
+refinable {ps} a pts points keys edges e =
+    let n : points ≡ unionOf _ _ .count = ap (λ (t : Table). t .count) e in
+    let m : edges ≡ unionOf _ _ .edges .size = ap (λ (t : Table). t .edges .size) e in
+    let k : keys ≡ unionOf _ _ .edges .keys = ap (λ (t : Table). t .edges .keys) e in (
+      (omega (arith, n, union-room a), omega (arith, n, m, union-room a, union-size-is a)),
+      rw (n, k) (union-sound a .within),
+    )

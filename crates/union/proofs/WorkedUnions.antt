@@ -1,0 +1,58 @@
+-- The unions of the kept paths of document 01's worked nets, by computing the definitions.
+-- Assumes nothing.
+use mathlib.Core.Path.{_≡_, refl}
+use mathlib.Core.List.{List, [], _∷_}
+use Prim.Native.Nat.{ℕ, _*_}
+use lib.IntN.{ℤ, pos, negsuc}
+use lib.ListN.{take}
+use Rattle.lists.specs.Any.{any}
+use Rattle.lists.specs.Sorted.{put, sorted, firstThen, position}
+use Rattle.lists.specs.Those.{those}
+use Rattle.lists.specs.Total.{total}
+use Rattle.signed.specs.Order.{minZ, maxZ}
+use Rattle.lent.specs.Over.{over}
+use Rattle.lent.specs.Entries.{flat}
+use Rattle.joined.specs.Table.{changed, keptBy}
+use Rattle.plane.specs.Place.{before}
+use Rattle.plane.specs.Distance.{apart, distance}
+use Rattle.plane.specs.Macro.{spanMeets, meets, clear}
+use Rattle.plane.specs.Flat.{placesOf, macrosOf}
+use Rattle.net.specs.WorkedNets.{Lists, onePin, aroundOne, threePins}
+use Rattle.graph.specs.Vertices.{cornersOf, corners, vertices}
+use Rattle.graph.specs.Pick.{within, nearer as nearerPlace, better as betterPick, pickFrom, pick}
+use Rattle.graph.specs.Edges.{edgeOf, beforeEdge, edgeOfPick, picksOf, allPicks, edges}
+use Rattle.terminal.specs.Edges.{from, filled}
+use Rattle.terminal.specs.Labels.{better, gains, offer, relaxEdge, moves, relax, changes, settled, starts, labelled}
+use Rattle.terminal.specs.Parents.{leads, nearer, through, parentAmong, parent, adopted, parented, wayOf, way}
+use Rattle.terminal.specs.Bridges.{oneRoot, path, pathLength, weights, earlier, bridgesFrom, bridges}
+use Rattle.terminal.specs.Kept.{keptBridges, keptLengths, terminal}
+use Rattle.numbered.specs.Number.{numbered, pinNumbers}
+use Rattle.numbered.specs.Tree.{treeOf}
+use Rattle.refined.specs.Table.{key, Tree}
+use Rattle.union.specs.Union.{stands, keptEdges, unionEdges, unionPoints, startOf, unionOf}
+
+-- a tree's points and edges, without the zeros behind them
+unfoldable shown : Tree → List ℤ × List ℕ
+shown t = (take (t .count * 2) (t .points), take (t .edges .size) (t .edges .keys))
+
+-- the union of a net; to unfold this is to unfold all that it rests on
+unfoldable pub union : Lists → List ℤ × List ℕ
+unfolding any put sorted firstThen position those total minZ maxZ over flat changed keptBy before apart distance spanMeets meets clear placesOf macrosOf cornersOf corners vertices within nearerPlace betterPick pickFrom pick edgeOf beforeEdge edgeOfPick picksOf allPicks edges from filled better gains offer relaxEdge moves relax changes settled starts labelled leads nearer through parentAmong parent adopted parented wayOf way oneRoot path pathLength weights earlier bridgesFrom bridges keptBridges keptLengths terminal numbered pinNumbers treeOf stands keptEdges unionEdges unionPoints startOf unionOf shown
+union net = shown (unionOf (placesOf (net .pins)) (macrosOf (net .macros)))
+
+pub record Table : Type 0 where
+  -- "One pin (5, 5): no edges": its one point is the pin
+  pub one-pin : union onePin ≡ (pos 5 ∷ pos 5 ∷ [], [])
+  pub three-pins : union threePins ≡ (pos 0 ∷ pos 0 ∷ pos 2 ∷ pos 3 ∷ pos 4 ∷ pos 0 ∷ [], key 0 1 ∷ key 0 2 ∷ [])
+  -- along the bottom of the macro; the two corners at its top are no points
+  pub around-one :
+      union aroundOne
+      ≡ (pos 0 ∷ pos 0 ∷ pos 4 ∷ negsuc 1 ∷ pos 6 ∷ negsuc 1 ∷ pos 10 ∷ pos 0 ∷ [], key 0 1 ∷ key 1 2 ∷ key 2 3 ∷ [])
+
+pub worked : Table
+unfolding union
+worked = record {
+  one-pin = refl;
+  three-pins = refl;
+  around-one = refl;
+}

@@ -1,0 +1,5 @@
+pub mod GivenLaws
+pub mod WireLaws
+pub mod WorkedWires
+pub mod WireSound
+pub mod EdgeSound
