@@ -33,6 +33,27 @@ extern "C" {
         total: *mut Total,
     ) -> i32;
 
+    fn calzundi_refined_tree(
+        pins: *const i32,
+        pins_len: usize,
+        macros: *const i32,
+        macros_len: usize,
+        edges: *mut i32,
+        edges_len: usize,
+        count: *mut usize,
+        total: *mut Total,
+    ) -> i32;
+
+    fn calzundi_wires(
+        pins: *const i32,
+        pins_len: usize,
+        macros: *const i32,
+        macros_len: usize,
+        wires: *mut i32,
+        wires_len: usize,
+        count: *mut usize,
+    ) -> i32;
+
     fn calzundi_write_file(
         pins: *const i32,
         pins_len: usize,
@@ -55,7 +76,7 @@ extern "C" {
     ) -> i32;
 }
 
-/// The total of a tree, as wide as the library writes them.
+/// The totals of both trees, as wide as the library writes them.
 type Total = i64;
 
 /// What stands in a count and in a total before a call: a refusal must leave it.
@@ -133,6 +154,43 @@ pub fn terminal_tree(pins: &[i32], macros: &[i32], paths: &mut [i64]) -> Result<
         )
     };
     with_total(code, count, total)
+}
+
+/// "Refined tree": how many edges were given, and their total.
+pub fn refined_tree(pins: &[i32], macros: &[i32], edges: &mut [i32]) -> Result<(usize, i64), u32> {
+    let (mut count, mut total) = (UNTOUCHED, UNTOUCHED_TOTAL);
+    // SAFETY: as for `graph`.
+    let code = unsafe {
+        calzundi_refined_tree(
+            pins.as_ptr(),
+            pins.len(),
+            macros.as_ptr(),
+            macros.len(),
+            edges.as_mut_ptr(),
+            edges.len(),
+            &mut count,
+            &mut total,
+        )
+    };
+    with_total(code, count, total)
+}
+
+/// "Wires": how many were given.
+pub fn wires(pins: &[i32], macros: &[i32], wires: &mut [i32]) -> Result<usize, u32> {
+    let mut count = UNTOUCHED;
+    // SAFETY: as for `graph`.
+    let code = unsafe {
+        calzundi_wires(
+            pins.as_ptr(),
+            pins.len(),
+            macros.as_ptr(),
+            macros.len(),
+            wires.as_mut_ptr(),
+            wires.len(),
+            &mut count,
+        )
+    };
+    answer(code, &[count], count)
 }
 
 /// "Write a net file": how many bytes were given.

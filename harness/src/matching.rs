@@ -265,6 +265,26 @@ impl Case {
         )
     }
 
+    /// "Refined tree."
+    pub fn refined_tree(&self) -> Matched {
+        self.one_space(
+            "refined tree",
+            4 * (self.points() + self.lists.pins.len() / 2),
+            |bits| bits as i32,
+            [library::refined_tree, operations::refined_tree],
+        )
+    }
+
+    /// "Wires."
+    pub fn wires(&self) -> Matched {
+        self.one_space(
+            "wires",
+            8 * (self.points() + self.lists.pins.len() / 2),
+            |bits| bits as i32,
+            [library::wires, operations::wires],
+        )
+    }
+
     /// "Write a net file."
     pub fn write_file(&self) -> Matched {
         let Lists { pins, macros } = &self.lists;

@@ -8,7 +8,7 @@ use reference::generate::{net, Kind};
 use reference::lists::Lists;
 use reference::operations;
 
-const HELP: &str = "bench graph|terminal|nothing proved|second SIZE TIMES: one operation of one program on a net of SIZE pins and SIZE macros.";
+const HELP: &str = "bench graph|terminal|refined|nothing proved|second SIZE TIMES: one operation of one program on a net of SIZE pins and SIZE macros.";
 
 /// The first SIZE pins and SIZE macros of a largest net: still allowed, since taking entries away breaks no rule.
 fn sized(size: usize) -> Lists {
@@ -44,6 +44,14 @@ fn run(operation: &str, program: &str, Lists { pins, macros }: &Lists) -> Option
                 operations::terminal_tree
             };
             call(pins, macros, &mut vec![0; 5 * m]).map(|(paths, _)| paths)
+        }
+        "refined" => {
+            let call = if is_proved {
+                library::refined_tree
+            } else {
+                operations::refined_tree
+            };
+            call(pins, macros, &mut vec![0; 4 * (n + m)]).map(|(edges, _)| edges)
         }
         "nothing" => Ok(0),
         _ => return None,

@@ -18,6 +18,8 @@ fn all(seed: u64) -> Matched {
     file(seed).read_file()?;
     for case in [case, routed(seed)] {
         case.terminal_tree()?;
+        case.refined_tree()?;
+        case.wires()?;
     }
     Ok(())
 }
