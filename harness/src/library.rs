@@ -22,6 +22,38 @@ extern "C" {
         edge_count: *mut usize,
     ) -> i32;
 
+    fn calzundi_terminal_tree(
+        pins: *const i32,
+        pins_len: usize,
+        macros: *const i32,
+        macros_len: usize,
+        paths: *mut i64,
+        paths_len: usize,
+        count: *mut usize,
+        total: *mut Total,
+    ) -> i32;
+
+    fn calzundi_refined_tree(
+        pins: *const i32,
+        pins_len: usize,
+        macros: *const i32,
+        macros_len: usize,
+        edges: *mut i32,
+        edges_len: usize,
+        count: *mut usize,
+        total: *mut Total,
+    ) -> i32;
+
+    fn calzundi_wires(
+        pins: *const i32,
+        pins_len: usize,
+        macros: *const i32,
+        macros_len: usize,
+        wires: *mut i32,
+        wires_len: usize,
+        count: *mut usize,
+    ) -> i32;
+
     fn calzundi_write_file(
         pins: *const i32,
         pins_len: usize,
@@ -44,8 +76,12 @@ extern "C" {
     ) -> i32;
 }
 
-/// What stands in a count before a call: a refusal must leave it.
+/// The totals of both trees, as wide as the library writes them.
+type Total = i64;
+
+/// What stands in a count and in a total before a call: a refusal must leave it.
 const UNTOUCHED: usize = 0x5eed_5eed;
+const UNTOUCHED_TOTAL: Total = UNTOUCHED as Total;
 
 /// "A refusal is its number alone": 0 is success. A refusal that touched a count is no answer.
 fn answer<A>(code: i32, counts: &[usize], given: A) -> Result<A, u32> {
@@ -90,6 +126,71 @@ pub fn graph(
         )
     };
     answer(code, &[v, e], (v, e))
+}
+
+/// As `answer`, where a total goes with the count.
+fn with_total(code: i32, count: usize, total: Total) -> Result<(usize, i64), u32> {
+    assert!(
+        code == 0 || total == UNTOUCHED_TOTAL,
+        "refusal {code} touched the total"
+    );
+    answer(code, &[count], (count, total))
+}
+
+/// "Terminal tree": how many paths were given, and their total.
+pub fn terminal_tree(pins: &[i32], macros: &[i32], paths: &mut [i64]) -> Result<(usize, i64), u32> {
+    let (mut count, mut total) = (UNTOUCHED, UNTOUCHED_TOTAL);
+    // SAFETY: as for `graph`.
+    let code = unsafe {
+        calzundi_terminal_tree(
+            pins.as_ptr(),
+            pins.len(),
+            macros.as_ptr(),
+            macros.len(),
+            paths.as_mut_ptr(),
+            paths.len(),
+            &mut count,
+            &mut total,
+        )
+    };
+    with_total(code, count, total)
+}
+
+/// "Refined tree": how many edges were given, and their total.
+pub fn refined_tree(pins: &[i32], macros: &[i32], edges: &mut [i32]) -> Result<(usize, i64), u32> {
+    let (mut count, mut total) = (UNTOUCHED, UNTOUCHED_TOTAL);
+    // SAFETY: as for `graph`.
+    let code = unsafe {
+        calzundi_refined_tree(
+            pins.as_ptr(),
+            pins.len(),
+            macros.as_ptr(),
+            macros.len(),
+            edges.as_mut_ptr(),
+            edges.len(),
+            &mut count,
+            &mut total,
+        )
+    };
+    with_total(code, count, total)
+}
+
+/// "Wires": how many were given.
+pub fn wires(pins: &[i32], macros: &[i32], wires: &mut [i32]) -> Result<usize, u32> {
+    let mut count = UNTOUCHED;
+    // SAFETY: as for `graph`.
+    let code = unsafe {
+        calzundi_wires(
+            pins.as_ptr(),
+            pins.len(),
+            macros.as_ptr(),
+            macros.len(),
+            wires.as_mut_ptr(),
+            wires.len(),
+            &mut count,
+        )
+    };
+    answer(code, &[count], count)
 }
 
 /// "Write a net file": how many bytes were given.

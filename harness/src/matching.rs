@@ -70,6 +70,37 @@ pub fn allowed(seed: u64) -> Case {
     }
 }
 
+/// Kinds that take a tenth of a second to make or to route.
+fn is_slow(kind: &Kind) -> bool {
+    matches!(
+        kind,
+        Kind::Largest | Kind::LargestMaze | Kind::Pruned | Kind::BoundEnds
+    )
+}
+
+/// An allowed net of every kind in turn, those included that are found by search; of the slow kinds in one turn of sixteen, with one of
+/// the others instead.
+pub fn routed(seed: u64) -> Case {
+    let (turn, number) = (
+        seed as usize / Kind::ALL.len(),
+        seed as usize % Kind::ALL.len(),
+    );
+    let quick: Vec<Kind> = Kind::ALL
+        .iter()
+        .copied()
+        .filter(|kind| !is_slow(kind))
+        .collect();
+    let kind = match Kind::ALL[number] {
+        kind if is_slow(&kind) && turn % 16 != 0 => quick[turn % quick.len()],
+        kind => kind,
+    };
+    Case {
+        kind: kind.name(),
+        seed,
+        lists: net(kind, seed),
+    }
+}
+
 /// Lists to be refused, of each kind in turn.
 pub fn refused(seed: u64) -> Case {
     let kind = Hostile::ALL[seed as usize % Hostile::ALL.len()];
@@ -115,6 +146,12 @@ struct Lent<T> {
 const GUARD: usize = 9;
 
 impl<T: Copy> Lent<T> {
+    /// So many numbers, and the guard.
+    fn of(random: &mut Random, lent: usize, number: impl Fn(u64) -> T) -> Lent<T> {
+        let numbers = (0..lent + GUARD).map(|_| number(random.bits())).collect();
+        Lent { numbers, lent }
+    }
+
     fn new(random: &mut Random, asked: usize, number: impl Fn(u64) -> T) -> Lent<T> {
         let lent = match random.below(16) {
             0 => 0,
@@ -122,8 +159,7 @@ impl<T: Copy> Lent<T> {
             5..=8 => asked + 1 + random.below(40),
             _ => asked,
         };
-        let numbers = (0..lent + GUARD).map(|_| number(random.bits())).collect();
-        Lent { numbers, lent }
+        Lent::of(random, lent, number)
     }
 
     /// The part that is lent; the guard stays behind.
@@ -131,6 +167,9 @@ impl<T: Copy> Lent<T> {
         &mut self.numbers[..self.lent]
     }
 }
+
+/// An operation on two lists with one lent space.
+type OneSpace<T, A> = fn(&[i32], &[i32], &mut [T]) -> Result<A, u32>;
 
 /// What a call answered and left in lent space, as text that can be compared and read.
 fn said<A: Debug, S: Debug>(answer: A, spaces: &[S]) -> String {
@@ -180,6 +219,70 @@ impl Case {
                 said(answer, &[vertices.numbers, edges.numbers])
             };
         self.same("graph", both(library::graph), both(operations::graph))
+    }
+
+    /// The same net with the entries of both lists in another order.
+    fn turned(&self) -> Case {
+        Case {
+            lists: permuted(&self.lists, !self.seed),
+            ..*self
+        }
+    }
+
+    /// An operation with one lent space, exact or longer, then too little or none: both programs on the lists, and the proved one once more
+    /// with the lists in another order, which must not change its answer.
+    fn one_space<T: Copy + Debug, A: Debug>(
+        &self,
+        operation: &'static str,
+        asked: usize,
+        number: fn(u64) -> T,
+        [ours, theirs]: [OneSpace<T, A>; 2],
+    ) -> Matched {
+        let random = &mut Random::new(self.seed);
+        let longer = random.choose(&[0, 0, 1, 40]);
+        let short = random.choose(&[0, asked / 2, asked.saturating_sub(1)]);
+        let turned = self.turned();
+        for lent in [asked + longer, short] {
+            let answer = |call: OneSpace<T, A>, Lists { pins, macros }: &Lists| {
+                let mut space = Lent::of(&mut Random::new(self.seed), lent, number);
+                let answer = call(pins, macros, space.part());
+                said(answer, &[space.numbers])
+            };
+            let expected = answer(theirs, &self.lists);
+            self.same(operation, answer(ours, &self.lists), expected.clone())?;
+            turned.same(operation, answer(ours, &turned.lists), expected)?;
+        }
+        Ok(())
+    }
+
+    /// "Terminal tree."
+    pub fn terminal_tree(&self) -> Matched {
+        self.one_space(
+            "terminal tree",
+            5 * (self.lists.pins.len() / 2),
+            |bits| bits as i64,
+            [library::terminal_tree, operations::terminal_tree],
+        )
+    }
+
+    /// "Refined tree."
+    pub fn refined_tree(&self) -> Matched {
+        self.one_space(
+            "refined tree",
+            4 * (self.points() + self.lists.pins.len() / 2),
+            |bits| bits as i32,
+            [library::refined_tree, operations::refined_tree],
+        )
+    }
+
+    /// "Wires."
+    pub fn wires(&self) -> Matched {
+        self.one_space(
+            "wires",
+            8 * (self.points() + self.lists.pins.len() / 2),
+            |bits| bits as i32,
+            [library::wires, operations::wires],
+        )
     }
 
     /// "Write a net file."

@@ -6,6 +6,7 @@ use std::process::{Command, Output};
 
 use reference::net::Net;
 use reference::netfile::{BLOCKS, BLOCK_BYTES};
+use reference::route::route;
 
 const STRICT: [&str; 6] = [
     "-std=c99",
@@ -52,6 +53,22 @@ fn printed(name: &str, body: &str) -> String {
 fn the_header_and_the_example_are_strict_c() {
     run(gcc().args(["-fsyntax-only", "-x", "c", "include/calzundi.h"]));
     run(gcc().args(["-fsyntax-only", "examples/third_net.c"]));
+}
+
+/// The example with the static library prints what the second program does for the third worked net.
+#[test]
+fn the_example_routes_the_third_net() {
+    let program = Path::new(env!("CARGO_TARGET_TMPDIR")).join("third_net");
+    run(gcc()
+        .args([
+            "examples/third_net.c",
+            "target/staticlib/libexports.a",
+            "-o",
+        ])
+        .arg(&program));
+    let output = run(&mut Command::new(&program));
+    let file = fs::read(root().join("examples/files/three-pins.net")).unwrap();
+    assert_eq!(String::from_utf8(output.stdout).unwrap(), route(&file));
 }
 
 /// "The three bounds (64 pins, 64 macros, one million)", and what follows from them.

@@ -1,11 +1,15 @@
 //! The proved router and the second program give the same answers and leave the same lent space.
 
+use std::io::Write;
+
 use harness::library;
-use harness::matching::{allowed, any, file, refused, File, Matched};
+use harness::matching::{allowed, any, file, refused, routed, Case, File, Matched};
 use reference::generate::{net, Kind};
 use reference::lists::Lists;
+use reference::net::check;
 use reference::netfile::{self, BLOCK_BYTES};
 use reference::operations;
+use reference::refined::{refined, Statistics};
 
 /// Stops at a difference and prints it.
 fn matched(result: Matched) {
@@ -86,6 +90,94 @@ fn graph_on_refused_lists() {
     for seed in 0..5_000 {
         matched(refused(seed).graph());
     }
+}
+
+/// Nets of every kind, each also with its lists in another order, with lent space exact, longer, too short and none.
+#[test]
+fn terminal_tree_on_twenty_thousand_nets() {
+    for seed in 0..20_000 {
+        matched(routed(seed).terminal_tree());
+    }
+}
+
+#[test]
+fn trees_and_wires_on_refused_lists() {
+    for seed in 0..5_000 {
+        let case = refused(seed);
+        matched(case.terminal_tree());
+        matched(case.refined_tree());
+        matched(case.wires());
+    }
+}
+
+#[test]
+fn wires_on_five_thousand_nets() {
+    for seed in 0..5_000 {
+        matched(routed(seed).wires());
+    }
+}
+
+/// The refined tree, and what the second program saw while it refined: every sentence of document 01 on rounds must have been met, or the
+/// match says little.
+#[test]
+fn refined_tree_on_five_thousand_nets() {
+    let mut met = [0; 9];
+    for seed in 0..5_000 {
+        let case = routed(seed);
+        matched(case.refined_tree());
+        for (times, now) in met.iter_mut().zip(events(&case)) {
+            *times += now;
+        }
+    }
+    let mut said = "refined trees of 5000 nets:".to_string();
+    for (event, times) in EVENTS.iter().zip(met) {
+        said += &format!("\n    {times:>6} {event}");
+    }
+    // Past the capture of what a test prints, so that the counts are in the gate's log.
+    writeln!(std::io::stderr(), "{said}").unwrap();
+    for (event, times) in EVENTS.iter().zip(met) {
+        assert!(times > 0, "never met: {event}");
+    }
+}
+
+/// What can happen while a net is refined.
+const EVENTS: [&str; 9] = [
+    "rounds",
+    "nets where the bound of m rounds ended the rounds",
+    "nets with something pruned",
+    "points pruned",
+    "rounds with s equal to a",
+    "rounds with s equal to b",
+    "rounds with s equal to u",
+    "candidates dropped",
+    "nets where a dropped candidate would have won",
+];
+
+/// How often each of them happened.
+fn events(case: &Case) -> [usize; 9] {
+    let Lists { pins, macros } = &case.lists;
+    let net = check(pins, macros).expect("routed nets are allowed");
+    let Statistics {
+        rounds,
+        bound_ended,
+        pruned,
+        s_at_a,
+        s_at_b,
+        s_at_u,
+        dropped,
+        dropped_would_win,
+    } = refined(&net).statistics;
+    [
+        rounds,
+        bound_ended.into(),
+        (pruned > 0).into(),
+        pruned,
+        s_at_a,
+        s_at_b,
+        s_at_u,
+        dropped,
+        dropped_would_win.into(),
+    ]
 }
 
 #[test]

@@ -81,3 +81,120 @@ fn check_of_the_worked_nets() {
         assert_eq!(library::check(&pins, &macros), answer, "{name}");
     }
 }
+
+/// The paths of the terminal tree with its total, and the edges of the refined tree with its total and its wires.
+#[derive(Debug, PartialEq)]
+struct Trees {
+    paths: Vec<i64>,
+    terminal: i64,
+    edges: Vec<i32>,
+    refined: i64,
+    wires: Vec<i32>,
+}
+
+/// All three operations in the space that document 01 names; they must agree on a refusal.
+fn trees(pins: &[i32], macros: &[i32]) -> Result<Trees, u32> {
+    let (m, n) = (pins.len() / 2, pins.len() / 2 + macros.len());
+    let mut paths = vec![0; 5 * m];
+    let (mut edges, mut wires) = (vec![0; 4 * (n + m)], vec![0; 8 * (n + m)]);
+    let terminal = library::terminal_tree(pins, macros, &mut paths);
+    let refined = library::refined_tree(pins, macros, &mut edges);
+    let drawn = library::wires(pins, macros, &mut wires);
+    assert_eq!(terminal.err(), refined.err());
+    assert_eq!(terminal.err(), drawn.err());
+    let ((paths_given, terminal), (edges_given, refined)) = (terminal?, refined?);
+    paths.truncate(5 * paths_given);
+    edges.truncate(4 * edges_given);
+    wires.truncate(4 * drawn?);
+    Ok(Trees {
+        paths,
+        terminal,
+        edges,
+        refined,
+        wires,
+    })
+}
+
+/// "Pins (0, 0), (4, 0), (2, 3): terminal 9, refined 7", and the tree that the program prints.
+#[test]
+fn trees_of_the_third_worked_net() {
+    let Lists { pins, macros } = example("three-pins");
+    let expected = Trees {
+        paths: vec![0, 0, 4, 0, 4, 0, 0, 2, 3, 5],
+        terminal: 9,
+        edges: vec![0, 0, 2, 0, 2, 0, 2, 3, 2, 0, 4, 0],
+        refined: 7,
+        wires: vec![0, 0, 2, 0, 2, 0, 2, 3, 2, 0, 4, 0],
+    };
+    assert_eq!(trees(&pins, &macros), Ok(expected));
+}
+
+/// The bridges, lengths and totals that the document names.
+#[test]
+fn trees_of_the_worked_nets() {
+    let answers: [(&str, &[i64], i64, i64); 6] = [
+        ("one-pin", &[], 0, 0),
+        ("around-one", &[4, -2, 6, -2, 14], 14, 14),
+        ("shared-side", &[2, 0, 2, 2, 4], 4, 4),
+        ("on-sides", &[0, 0, 1, 0, 3], 3, 3),
+        ("on-boundary", &[], 0, 0),
+        ("three-pins", &[0, 0, 4, 0, 4, 0, 0, 2, 3, 5], 9, 7),
+    ];
+    for (name, paths, terminal, refined) in answers {
+        let Lists { pins, macros } = example(name);
+        let laid = trees(&pins, &macros).expect(name);
+        assert_eq!(laid.paths, paths, "{name}");
+        assert_eq!((laid.terminal, laid.refined), (terminal, refined), "{name}");
+    }
+    let Lists { pins, macros } = example("one-pin");
+    let alone = trees(&pins, &macros).unwrap();
+    assert_eq!((alone.edges, alone.wires), (vec![], vec![]));
+}
+
+#[test]
+fn refusals_of_the_worked_nets() {
+    for (name, number) in [
+        ("no-pin", 11),
+        ("overlapping", 16),
+        ("in-interior", 17),
+        ("twice-in-interior", 15),
+        ("no-width", 14),
+    ] {
+        let Lists { pins, macros } = example(name);
+        assert_eq!(trees(&pins, &macros), Err(number), "{name}");
+    }
+}
+
+/// "Coordinate 1,000,000 passes, 1,000,001 is 13; 64 pins pass, 65 are 11; 64 macros pass, 65 are 12."
+#[test]
+fn trees_at_the_bounds() {
+    let ends = [-1_000_000, -1_000_000, 1_000_000, 1_000_000];
+    let laid = trees(&ends, &[]).unwrap();
+    assert_eq!((laid.terminal, laid.refined), (4_000_000, 4_000_000));
+    assert_eq!(
+        laid.wires[..4],
+        [-1_000_000, -1_000_000, 1_000_000, -1_000_000]
+    );
+    assert_eq!(trees(&[0, 0, 1_000_001, 0], &[]), Err(13));
+    let pins = |count: i32| (0..count).flat_map(|i| [i, 0]).collect::<Vec<i32>>();
+    let macros = |count: i32| {
+        (0..count)
+            .flat_map(|i| [i, 0, i + 1, 1])
+            .collect::<Vec<i32>>()
+    };
+    let laid = trees(&pins(64), &[]).unwrap();
+    assert_eq!((laid.terminal, laid.refined), (63, 63));
+    assert_eq!(trees(&pins(65), &[]), Err(11));
+    let laid = trees(&[0, 0, 64, 1], &macros(64)).unwrap();
+    assert_eq!((laid.terminal, laid.refined), (65, 65));
+    assert_eq!(trees(&[0, 0], &macros(65)), Err(12));
+}
+
+/// A dropped candidate would have won: the net of docs/DECISIONS.md.
+#[test]
+fn a_dropped_candidate_changes_the_tree() {
+    let pins = [0, 9, 2, 11, 3, 18, 4, 10, 9, 15, 13, 11];
+    let laid = trees(&pins, &[0, 11, 4, 18, 4, 11, 9, 18]).unwrap();
+    assert_eq!(laid.edges[..8], [0, 9, 2, 10, 2, 10, 2, 11]);
+    assert_eq!((laid.edges.len(), laid.refined), (40, 29));
+}

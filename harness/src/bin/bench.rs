@@ -8,7 +8,7 @@ use reference::generate::{net, Kind};
 use reference::lists::Lists;
 use reference::operations;
 
-const HELP: &str = "bench graph|nothing proved|second SIZE TIMES: one operation of one program on a net of SIZE pins and SIZE macros.";
+const HELP: &str = "bench graph|terminal|refined|nothing proved|second SIZE TIMES: one operation of one program on a net of SIZE pins and SIZE macros.";
 
 /// The first SIZE pins and SIZE macros of a largest net: still allowed, since taking entries away breaks no rule.
 fn sized(size: usize) -> Lists {
@@ -19,17 +19,44 @@ fn sized(size: usize) -> Lists {
     }
 }
 
-fn run(operation: &str, program: &str, lists: &Lists) -> Option<u64> {
-    let points = lists.pins.len() / 2 + lists.macros.len();
-    let (mut vertices, mut edges) = (vec![0; 2 * points], vec![0; 16 * points]);
-    let call = match (operation, program) {
-        ("graph", "proved") => library::graph,
-        ("graph", "second") => operations::graph,
-        ("nothing", _) => return Some(0),
+/// Runs an operation of a program once: how many entries it gave, or none where there is no such operation or program.
+fn run(operation: &str, program: &str, Lists { pins, macros }: &Lists) -> Option<u64> {
+    let (m, n) = (pins.len() / 2, pins.len() / 2 + macros.len());
+    let is_proved = match program {
+        "proved" => true,
+        "second" => false,
         _ => return None,
     };
-    let (v, e) = call(&lists.pins, &lists.macros, &mut vertices, &mut edges).ok()?;
-    Some((v + e) as u64)
+    let entries = match operation {
+        "graph" => {
+            let call = if is_proved {
+                library::graph
+            } else {
+                operations::graph
+            };
+            let (mut vertices, mut edges) = (vec![0; 2 * n], vec![0; 16 * n]);
+            call(pins, macros, &mut vertices, &mut edges).map(|(v, e)| v + e)
+        }
+        "terminal" => {
+            let call = if is_proved {
+                library::terminal_tree
+            } else {
+                operations::terminal_tree
+            };
+            call(pins, macros, &mut vec![0; 5 * m]).map(|(paths, _)| paths)
+        }
+        "refined" => {
+            let call = if is_proved {
+                library::refined_tree
+            } else {
+                operations::refined_tree
+            };
+            call(pins, macros, &mut vec![0; 4 * (n + m)]).map(|(edges, _)| edges)
+        }
+        "nothing" => Ok(0),
+        _ => return None,
+    };
+    Some(entries.expect("the net is allowed, and the space is what is asked for") as u64)
 }
 
 fn main() -> ExitCode {
