@@ -33,9 +33,9 @@ copy-more o xs at i h =
     ∙ ap (sets o at) (sym (ap (λ (n : ℕ). take n xs) (add-one i) ∙ take-suc xs i 0 h))
 
 -- a text put from the first byte on
-pub put-filled : {o p x : List ℕ} {b : ℕ} → length x ≤ length o → Put o 0 x p b → Filled x o p b
+pub put-filled : {o p x : List ℕ} {b : ℕ} → Put o 0 x p b → length x ≤ length o → Filled x o p b
 unfolding over
-put-filled {o} {p} {x} {b} h f =
+put-filled {o} {p} {x} {b} f h =
     let e : 0 + length x ≡ length x = omega arith in
     let l : b ≡ length x = f .moves ∙ e in
     let t : p ≡ over x o = f .holds ∙ sets-eq x o 0 (omega arith) ∙ ap (λ (n : ℕ). x ++ drop n o) e in

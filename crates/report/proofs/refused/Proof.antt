@@ -34,7 +34,8 @@ returns c =
     let s = w .before .before .before .before in
     let n = put-as (ap (λ (z : ℤ). number z newline) (wide-is _ (s .fits .n))) (d .put-number .ensures .0) in
     let t = put-then (w .put-bytes .ensures) n in
-    put-filled (omega (arith, w .put-bytes .ensures .moves, d .put-number .ensures .1, t .moves)) t
+    let text = put-filled t (omega (arith, w .put-bytes .ensures .moves, d .put-number .ensures .1, t .moves)) in
+    text
 
 pub refused-spec : {M : Type 1} → statement M
 refused-spec =

@@ -26,7 +26,8 @@ returns c =
     let s = h .before .before .before in
     let header = rw (toZ-ofZ w64 _ (s .fits .terminal), toZ-ofZ w64 _ (s .fits .refined)) at (h .put-header .ensures .0) in
     let t = put-then header (l .put-edges .ensures .0) in
-    put-filled (omega (arith, t .moves, l .put-edges .ensures .1, h .put-header .ensures .1)) t
+    let text = put-filled t (omega (arith, t .moves, l .put-edges .ensures .1, h .put-header .ensures .1)) in
+    text
 
 pub tree-spec : {M : Type 1} → statement M
 tree-spec = tie.close (tie.spec put-header-requires put-edges-requires same-length returns)
