@@ -1,4 +1,5 @@
 pub mod LineLaws
 pub mod PutLaws
+pub mod RouteLaws
 pub mod TextLaws
 pub mod WorkedTexts

@@ -1,14 +1,11 @@
--- Pieces that make up the line of an edge, the lines of a list of edges and the header; a text put from the buffer's first byte on.
+-- Pieces that make up the line of an edge, the lines of a list of edges and the header.
 -- Assumes nothing.
 use mathlib.Core.Path.{_≡_, refl, sym, ap, ap₂, _∙_}
 use mathlib.Core.List.{List, [], _∷_, _++_, append-assoc, append-nil}
-use Prim.Native.Nat.{ℕ, zero, suc, _+_, _*_, _≤_}
+use Prim.Native.Nat.{ℕ, zero, suc, _+_, _*_}
 use native.Mathlib.Numerals.{add-one}
 use native.Mathlib.Omega.{arith}
 use lib.IntN.{ℤ, pos}
-use lib.ListN.{length, drop}
-use lib.Seq.{sets-eq}
-use Rattle.lent.specs.Over.{over}
 use Rattle.lent.specs.Entries.{flat, entriesFrom, entries}
 use Rattle.lent.proofs.EntryTable.{flat-append}
 use Rattle.plane.specs.declared.Place.{Place}
@@ -66,10 +63,3 @@ lines-more s i =
 pub no-lines : (o : List ℕ) (at : ℕ) (s : List ℤ) → Put o at (flat edgeLine (entries edgeFrom 4 s 0)) o at
 unfolding flat entriesFrom
 no-lines o at s = record { holds = refl; moves = omega arith }
-
--- a text put from the first byte on
-pub put-over : {o p x : List ℕ} {b : ℕ} → length x ≤ length o → Put o 0 x p b → p ≡ over x o
-unfolding over
-put-over {o} {p} {x} {b} h f =
-    let e : 0 + length x ≡ length x = omega arith in
-    f .holds ∙ sets-eq x o 0 (omega arith) ∙ ap (λ (n : ℕ). x ++ drop n o) e

@@ -1,14 +1,16 @@
--- Pieces put one behind the other are one piece put.
+-- Pieces put one behind the other are one piece put; a text put from the first byte on fills the front of the buffer.
 -- Assumes nothing.
 use mathlib.Core.Path.{_≡_, sym, ap, ap₂, _∙_}
 use mathlib.Core.List.{List, [], _∷_, _++_}
-use Prim.Native.Nat.{ℕ, _+_, _<_}
+use Prim.Native.Nat.{ℕ, _+_, _≤_, _<_}
 use native.Mathlib.Numerals.{add-one}
 use native.Mathlib.Omega.{arith}
-use lib.ListN.{length, take, getD, set, length-append, length-take}
-use lib.Seq.{sets, take-suc}
+use lib.ListN.{length, take, drop, getD, set, length-append, length-take}
+use lib.Seq.{sets, sets-eq, take-suc}
+use Rattle.lent.specs.Over.{over}
+use Rattle.lent.proofs.OverLaws.{take-over}
 use Rattle.netfile.proofs.BlockLaws.{sets-after}
-use Rattle.report.specs.Put.{Put}
+use Rattle.report.specs.Put.{Put, Filled}
 
 module _ {o p q : List ℕ} {at b c : ℕ} {x y : List ℕ} where
   pub put-then : Put o at x p b → Put p b y q c → Put o at (x ++ y) q c
@@ -29,3 +31,22 @@ copy-more o xs at i h =
     ap (λ (n : ℕ). set (sets o at (take i xs)) (at + n) (getD xs i 0)) (omega (arith, e))
     ∙ sets-after (take i xs) (getD xs i 0 ∷ []) o at
     ∙ ap (sets o at) (sym (ap (λ (n : ℕ). take n xs) (add-one i) ∙ take-suc xs i 0 h))
+
+-- a text put from the first byte on
+pub put-filled : {o p x : List ℕ} {b : ℕ} → Put o 0 x p b → length x ≤ length o → Filled x o p b
+unfolding over
+put-filled {o} {p} {x} {b} f h =
+    let e : 0 + length x ≡ length x = omega arith in
+    let l : b ≡ length x = f .moves ∙ e in
+    let t : p ≡ over x o = f .holds ∙ sets-eq x o 0 (omega arith) ∙ ap (λ (n : ℕ). x ++ drop n o) e in
+    record { begins = rw (t, l) (take-over x o); holds = t; long = l }
+
+-- the same text by another name
+pub filled-as : {o p x y : List ℕ} {b : ℕ} → x ≡ y → Filled x o p b → Filled y o p b
+filled-as {o} {p} {x} {y} {b} e f = rw e at f
+
+-- a text that fills the front of a buffer is a part of it
+pub filled-part : {o p x : List ℕ} {b : ℕ} → Filled x o p b → (b ≤ length p) × (b ≡ length (take b p))
+unfolding over
+filled-part {o} {p} {x} {b} f =
+    (omega (arith, f .long, ap length (f .holds), length-append x (drop (length x) o)), f .long ∙ sym (ap length (f .begins)))

@@ -1,16 +1,22 @@
 // The text that the program `route` prints, put into a lent buffer piece by piece: each function takes the byte at which its piece begins
 // and gives the one after it. A number takes at most 20 bytes, and with what stands behind it 21; a line of five numbers at most 105.
+use net::Checked;
+use net::Net;
 use plane::Place;
+use router::Tree;
 ghost use mathlib.Core.Path.{_≡_};
 ghost use mathlib.Core.List.{[], _∷_, _++_};
 ghost use Prim.Native.Nat.{_+_, _*_, _≤_};
-ghost use lib.IntN.{natAbs};
+ghost use lib.IntN.{pos, natAbs};
 ghost use lib.ListN.{length};
-ghost use Rattle.lent.specs.Over.{over};
+ghost use Rattle.lent.specs.Told.{given};
 ghost use Rattle.lent.specs.Entries.{flat, entries};
+ghost use Rattle.net.specs.Check.{pinCount, macroCount, checked};
 ghost use Rattle.graph.specs.Numbers.{edgeFrom};
+ghost use Rattle.router.specs.Refined.{laidOf, laidTotal};
+ghost use Rattle.report.specs.Route.{treesText, routeText};
 ghost use Rattle.report.specs.Text.{decimal, whole, space, edgeLine, header, treeText, refusedText};
-ghost use Rattle.report.specs.Put.{Put};
+ghost use Rattle.report.specs.Put.{Put, Filled};
 
 // Pieces
 
@@ -182,9 +188,7 @@ pub fn tree(
     out: &mut [u8],
 ) -> usize
     requires { ⌜ (120 + count * 105 ≤ length (now out)) × (count * 4 ≤ length (now edges)) ⌝ }
-    ensures text { λ _. ⌜ now (out .exit)
-        ≡ over (treeText m k terminal refined (entries edgeFrom 4 (now (edges .entry)) count)) (now (out .entry)) ⌝ }
-    ensures bytes { λ r. ⌜ r ≡ length (treeText m k terminal refined (entries edgeFrom 4 (now (edges .entry)) count)) ⌝ }
+    ensures { λ r. ⌜ Filled (treeText m k terminal refined (entries edgeFrom 4 (now (edges .entry)) count)) (now (out .entry)) (now (out .exit)) r ⌝ }
 {
     let next = put_header(&mut *out, m, k, terminal, refined);
     put_edges(&mut *out, next, edges, count)
@@ -193,9 +197,76 @@ pub fn tree(
 // The text of a refusal; how many bytes it has.
 pub fn refused(n: i32, out: &mut [u8]) -> usize
     requires { ⌜ 29 ≤ length (now out) ⌝ }
-    ensures text { λ _. ⌜ now (out .exit) ≡ over (refusedText n) (now (out .entry)) ⌝ }
-    ensures bytes { λ r. ⌜ r ≡ length (refusedText n) ⌝ }
+    ensures { λ r. ⌜ Filled (refusedText n) (now (out .entry)) (now (out .exit)) r ⌝ }
 {
     let next = put_bytes(&mut *out, 0, b"refused ");
     put_number(&mut *out, next, n as i64, b'\n')
+}
+
+// A file's text
+
+const PIN_NUMBERS: usize = Net::PINS * 2;
+
+const MACRO_NUMBERS: usize = Net::MACROS * 4;
+
+const PATH_NUMBERS: usize = Net::PINS * 5;
+
+const EDGE_NUMBERS: usize = Net::TREE_POINTS * 4;
+
+// Bytes for the longest text: a header, and a line for each edge.
+pub const TEXT: usize = 120 + Net::TREE_POINTS * 105;
+
+// The text of an allowed net whose terminal tree has the total `terminal`; how many bytes it has. With room for the largest tree no allowed
+// net is refused, here or for the terminal tree.
+fn refined_text(pins: &[i32], macros: &[i32], terminal: i64, out: &mut [u8; TEXT]) -> usize
+    requires { ⌜ checked (now pins) (now macros) ≡ given (pinCount (now pins), macroCount (now macros)) ⌝ }
+    ensures { λ r. ⌜ Filled (treeText (pinCount (now (pins .entry))) (macroCount (now (macros .entry))) terminal
+        (pos (laidTotal (now (pins .entry)) (now (macros .entry)))) (laidOf (now (pins .entry)) (now (macros .entry))))
+        (now (out .entry)) (now (out .exit)) r ⌝ }
+{
+    let mut edges = [0i32; EDGE_NUMBERS];
+    let answer = router::refined_tree(pins, macros, &mut edges);
+    match answer {
+        Tree::Given(count, total) => tree(
+            pins.len() / 2,
+            macros.len() / 4,
+            terminal,
+            total,
+            &edges,
+            count,
+            out,
+        ),
+        Tree::Refused(refusal) => refused(refusal.number(), out),
+    }
+}
+
+// The text of an allowed net; how many bytes it has.
+fn trees_text(pins: &[i32], macros: &[i32], out: &mut [u8; TEXT]) -> usize
+    requires { ⌜ checked (now pins) (now macros) ≡ given (pinCount (now pins), macroCount (now macros)) ⌝ }
+    ensures { λ r. ⌜ Filled (treesText (pinCount (now (pins .entry))) (macroCount (now (macros .entry))) (now (pins .entry)) (now (macros .entry)))
+        (now (out .entry)) (now (out .exit)) r ⌝ }
+{
+    let mut paths = [0i64; PATH_NUMBERS];
+    let answer = router::terminal_tree(pins, macros, &mut paths);
+    match answer {
+        Tree::Given(_, total) => refined_text(pins, macros, total, out),
+        Tree::Refused(refusal) => refused(refusal.number(), out),
+    }
+}
+
+// The text that `route` prints for a file; how many bytes it has.
+pub fn route(file: &[u8], out: &mut [u8; TEXT]) -> usize
+    ensures { λ r. ⌜ Filled (routeText (now (file .entry))) (now (out .entry)) (now (out .exit)) r ⌝ }
+{
+    let mut pins = [0i32; PIN_NUMBERS];
+    let mut macros = [0i32; MACRO_NUMBERS];
+    let answer = router::read_file(file, &mut pins, &mut macros);
+    match answer {
+        Checked::Allowed(net) => {
+            let m = net.pins * 2;
+            let k = net.macros * 4;
+            trees_text(&pins[..m], &macros[..k], out)
+        }
+        Checked::Refused(refusal) => refused(refusal.number(), out),
+    }
 }

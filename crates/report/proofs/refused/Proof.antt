@@ -5,8 +5,8 @@ use native.Mathlib.Omega.{arith}
 use lib.IntN.{ℤ}
 use Rattle.signed.proofs.Bits.{cast-wide, wide-is}
 use Rattle.report.specs.Text.{newline, line, refusedText}
-use Rattle.report.proofs.PutLaws.{put-then, put-as}
-use Rattle.report.proofs.LineLaws.{number, put-over}
+use Rattle.report.proofs.PutLaws.{put-then, put-as, put-filled}
+use Rattle.report.proofs.LineLaws.{number}
 use borrow.Author.Needs.{needs}
 use Rattle.report.proofs.refused.Statement.{statement}
 use Rattle.report.proofs.refused.Tie as tie
@@ -34,7 +34,8 @@ returns c =
     let s = w .before .before .before .before in
     let n = put-as (ap (λ (z : ℤ). number z newline) (wide-is _ (s .fits .n))) (d .put-number .ensures .0) in
     let t = put-then (w .put-bytes .ensures) n in
-    (put-over (omega (arith, w .put-bytes .ensures .moves, d .put-number .ensures .1, t .moves)) t, omega (arith, t .moves))
+    let text = put-filled t (omega (arith, w .put-bytes .ensures .moves, d .put-number .ensures .1, t .moves)) in
+    text
 
 pub refused-spec : {M : Type 1} → statement M
 refused-spec =

@@ -4,8 +4,7 @@ use native.Mathlib.Omega.{arith}
 use mir.Syntax.{w64}
 use mir.ValLaws.{toZ-ofZ}
 use Rattle.report.specs.Text.{treeText}
-use Rattle.report.proofs.PutLaws.{put-then}
-use Rattle.report.proofs.LineLaws.{put-over}
+use Rattle.report.proofs.PutLaws.{put-then, put-filled}
 use borrow.Author.Needs.{needs}
 use Rattle.report.proofs.tree.Statement.{statement}
 use Rattle.report.proofs.tree.Tie as tie
@@ -27,7 +26,8 @@ returns c =
     let s = h .before .before .before in
     let header = rw (toZ-ofZ w64 _ (s .fits .terminal), toZ-ofZ w64 _ (s .fits .refined)) at (h .put-header .ensures .0) in
     let t = put-then header (l .put-edges .ensures .0) in
-    (put-over (omega (arith, t .moves, l .put-edges .ensures .1, h .put-header .ensures .1)) t, omega (arith, t .moves))
+    let text = put-filled t (omega (arith, t .moves, l .put-edges .ensures .1, h .put-header .ensures .1)) in
+    text
 
 pub tree-spec : {M : Type 1} → statement M
 tree-spec = tie.close (tie.spec put-header-requires put-edges-requires same-length returns)

@@ -1,0 +1,113 @@
+-- The lists of an accepted file are an allowed net, which the router's own tables hold: both trees are given, and the buffer is long enough.
+-- Assumes nothing.
+use mathlib.Core.Path.{_≡_, refl, sym, ap, ap₂, _∙_}
+use mathlib.Core.List.{List}
+use Prim.Native.Nat.{ℕ, _+_, _*_, _≤_}
+use native.Mathlib.Omega.{arith}
+use lib.IntN.{ℤ, pos}
+use lib.ListN.{length, take, drop, length-append}
+use Rattle.lent.specs.Told.{Told, refused, given}
+use Rattle.lent.specs.Over.{over}
+use Rattle.lent.specs.Entries.{flat, entries}
+use Rattle.lent.proofs.OverLaws.{take-over}
+use Rattle.lent.proofs.EntryTable.{length-flat, entries-over}
+use Rattle.plane.specs.declared.Place.{Place}
+use Rattle.net.specs.Bounds.{pinBound, macroBound, treeBound}
+use Rattle.net.specs.Check.{pinCount, macroCount, checked}
+use Rattle.net.proofs.PassedLaws.{passed-all, pins-counted, macros-counted}
+use Rattle.net.proofs.CheckLaws.{allow}
+use Rattle.graph.specs.Numbers.{edgeNumbers, edgeFrom}
+use Rattle.graph.proofs.WidthLaws.{edge-width}
+use Rattle.netfile.specs.Read.{pinsIn, macrosIn, readFile}
+use Rattle.netfile.proofs.RoundTrip.{accepted-is-ours}
+use Rattle.router.specs.Graph.{pointCount}
+use Rattle.router.specs.Terminal.{pathsOf, pathsTotal, terminalGiven, terminalTree}
+use Rattle.router.specs.Refined.{laidOf, laidTotal, refinedGiven, refinedTree}
+use Rattle.router.proofs.AnswerLaws.{only-given, room-enough}
+use Rattle.report.specs.Text.{treeText, refusedText}
+use Rattle.report.specs.Route.{treesText, answerText, routeText}
+
+-- what an answer gives is one thing, part by part
+pub same-given : {A : Type 0} (a b : A) → given a ≡ given b → a ≡ b
+same-given a b e = cc
+
+pub same-parts : {A B : Type 0} (a c : A) (b d : B) → _≡_ {A = Told (A × B)} (given (a, b)) (given (c, d)) → (a ≡ c) × (b ≡ d)
+same-parts {A} {B} a c b d e =
+    let f = same-given {A = A × B} (a, b) (c, d) e in
+    (ap (λ (v : A × B). v .0) f, ap (λ (v : A × B). v .1) f)
+
+-- the counts of an allowed net
+pub record Counted (pins macros : List ℤ) : Type 0 where
+  pub allowed : checked pins macros ≡ given (pinCount pins, macroCount macros)
+  pub pin-numbers : pinCount pins * 2 ≡ length pins
+  pub macro-numbers : macroCount macros * 4 ≡ length macros
+  pub few-pins : pinCount pins ≤ pinBound
+  pub few-macros : macroCount macros ≤ macroBound
+
+module _ (pins macros : List ℤ) where
+  pub counted : (net : ℕ × ℕ) → checked pins macros ≡ given net → Counted pins macros
+  counted net e =
+      let past = passed-all pins macros net e in
+      let p = pins-counted pins (past .past .past .past .past .past .past .past .passed) in
+      let m = macros-counted macros (past .past .past .past .past .past .past .passed) in
+      record {
+        allowed = allow pins macros past;
+        pin-numbers = omega (arith, p .whole);
+        macro-numbers = omega (arith, m .whole);
+        few-pins = p .few;
+        few-macros = m .few;
+      }
+
+  module _ (c : Counted pins macros) where
+    pub terminal-given : terminalTree pins macros (pinBound * 5) ≡ given (length (pathsOf pins macros), pos (pathsTotal pins macros))
+    unfolding terminalTree terminalGiven
+    terminal-given =
+        only-given (checked pins macros) (terminalGiven pins macros (pinBound * 5)) _ (c .allowed)
+        ∙ room-enough (pinCount pins * 5) (pinBound * 5) _ (omega (arith, c .few-pins))
+
+    pub refined-given : refinedTree pins macros (treeBound * 4) ≡ given (length (laidOf pins macros), pos (laidTotal pins macros))
+    unfolding refinedTree refinedGiven
+    refined-given =
+        only-given (checked pins macros) (refinedGiven pins macros (treeBound * 4)) _ (c .allowed)
+        ∙ room-enough ((pointCount pins macros + pinCount pins) * 4) (treeBound * 4) _ (omega (arith, c .few-pins, c .few-macros))
+
+-- the edges given, read back from the table that they were given in
+module _ (es : List (Place × Place)) (lent table : List ℤ) (n : ℕ) (t : table ≡ over (flat edgeNumbers es) lent) (e : n ≡ length es) where
+  pub edges-fit : n * 4 ≤ length table
+  unfolding over
+  edges-fit =
+      omega (
+        arith,
+        e,
+        ap length t,
+        length-append (flat edgeNumbers es) (drop (length (flat edgeNumbers es)) lent),
+        length-flat edgeNumbers edgeFrom 4 edge-width es,
+      )
+
+  pub edges-back : entries edgeFrom 4 table n ≡ es
+  edges-back = rw t (entries-over edgeNumbers edgeFrom 4 edge-width es lent n (sym e))
+
+-- a list at the front of a table
+pub front : (xs lent table : List ℤ) (n : ℕ) → table ≡ over xs lent → n ≡ length xs → take n table ≡ xs
+front xs lent table n t e = rw (t, e) (take-over xs lent)
+
+-- an accepted file
+module _ (file : List ℕ) (net : ℕ × ℕ) (given-net : readFile file (pinBound * 2) (macroBound * 4) ≡ given net) where
+  pub lists : Counted (pinsIn file) (macrosIn file)
+  lists = counted (pinsIn file) (macrosIn file) net (accepted-is-ours file (pinBound * 2) (macroBound * 4) net given-net .lists)
+
+  pub net-is : net ≡ (pinCount (pinsIn file), macroCount (macrosIn file))
+  net-is = same-given _ _ (sym (accepted-is-ours file (pinBound * 2) (macroBound * 4) net given-net .lists) ∙ lists .allowed)
+
+  pub route-given : treesText (pinCount (pinsIn file)) (macroCount (macrosIn file)) (pinsIn file) (macrosIn file) ≡ routeText file
+  unfolding routeText answerText
+  route-given = rw given-net (ap (λ (v : ℕ × ℕ). treesText (v .0) (v .1) (pinsIn file) (macrosIn file)) (sym net-is))
+
+pub route-refused : (file : List ℕ) (n : ℕ) → readFile file (pinBound * 2) (macroBound * 4) ≡ refused n → refusedText (pos n) ≡ routeText file
+unfolding routeText answerText
+route-refused file n e = rw e refl
+
+-- texts of the same numbers
+pub same-text : (m k : ℕ) {t t′ r r′ : ℤ} {es es′ : List (Place × Place)} → t ≡ t′ → r ≡ r′ → es ≡ es′ → treeText m k t r es ≡ treeText m k t′ r′ es′
+same-text m k {t} {t′} {r} {r′} {es} {es′} e f g =
+    ap (λ (z : ℤ). treeText m k z r es) e ∙ ap₂ (λ (z : ℤ) (l : List (Place × Place)). treeText m k t′ z l) f g

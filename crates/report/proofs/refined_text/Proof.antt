@@ -1,0 +1,113 @@
+-- `report::refined_text` meets its contract: the refined tree of an allowed net is given, and its edges are read back
+-- from the table that they were given in.
+-- Assumes nothing.
+use mathlib.Core.Path.{_≡_, sym, ap, _∙_}
+use native.Mathlib.Omega.{arith}
+use Prim.Native.Nat.{_*_}
+use lib.IntN.{pos}
+use lib.ListN.{length, replicate}
+use mir.Syntax.{w64}
+use mir.Val.{SFits}
+use mir.ValLaws.{toZ-ofZ}
+use denote.Ref.{now}
+use Rattle.lent.specs.Told.{given}
+use Rattle.lent.specs.Over.{over}
+use Rattle.lent.specs.Entries.{flat}
+use Rattle.lent.proofs.AfterLaws.{after-given, told-apart}
+use Rattle.net.specs.Bounds.{treeBound}
+use Rattle.graph.specs.Numbers.{edgeNumbers}
+use Rattle.router.specs.Terminal.{toldTree}
+use Rattle.router.specs.Refined.{laidOf, laidTotal}
+use Rattle.report.proofs.PutLaws.{filled-as}
+use Rattle.report.proofs.RouteLaws.{same-parts, Counted, counted, refined-given, edges-fit, edges-back, same-text}
+use borrow.Author.Needs.{needs}
+use Rattle.report.proofs.refined_text.Statement.{statement}
+use Rattle.report.proofs.refined_text.Tie as tie
+
+net : (s : tie.Start) → Counted (now (s .args .pins)) (now (s .args .macros))
+net s = counted _ _ _ (s .pre)
+
+-- the answer, and the table of edges
+answer : (c : tie.After-refined-tree) → toldTree (c .refined-tree .result)
+    ≡ given (
+      length (laidOf (now (c .before .before .args .pins)) (now (c .before .before .args .macros))),
+      pos (laidTotal (now (c .before .before .args .pins)) (now (c .before .before .args .macros))),
+    )
+answer c = c .refined-tree .ensures .0 ∙ refined-given _ _ (net (c .before .before))
+
+table : (c : tie.After-refined-tree) → c .refined-tree .last .1 .1 .0
+    ≡ over (flat edgeNumbers (laidOf (now (c .before .before .args .pins)) (now (c .before .before .args .macros))))
+    (replicate (treeBound * 4) (pos 0))
+table c = c .refined-tree .ensures .1 ∙ sym (after-given _ _ _ _ (refined-given _ _ (net (c .before .before))))
+
+abbrev start : tie.After-answer → tie.Start
+start c = c .before .before .before .before .before
+
+-- how many edges were given, and their total
+given-is : (c : tie.After-answer) →
+    (c .answer .given .0 .0 ≡ length (laidOf (now (start c .args .pins)) (now (start c .args .macros))))
+    × (c .answer .given .0 .1 .0 ≡ pos (laidTotal (now (start c .args .pins)) (now (start c .args .macros))))
+unfolding toldTree
+given-is c = same-parts _ _ _ _ (sym (ap toldTree (c .answer .given .1)) ∙ answer (c .before .before .before))
+
+fits : (c : tie.After-known-told) → SFits w64 (c .before .answer .given .0 .1 .0)
+fits c = search needs
+
+slice-aggregate-refined-tree : tie.Need-slice-aggregate-refined-tree
+slice-aggregate-refined-tree c = search needs
+
+refined-tree-requires : tie.Need-refined-tree-requires
+refined-tree-requires c κs = search needs
+
+enum-known-answer : tie.Need-enum-known-answer
+enum-known-answer c = search needs
+
+slice-aggregate-tree : tie.Need-slice-aggregate-tree
+slice-aggregate-tree c = search needs
+
+tree-requires : tie.Need-tree-requires
+tree-requires c κs =
+    let a = c .before .before .before in
+    let r = a .before .before .before in
+    let f = edges-fit _ _ _ (a .answer .given .0 .0) (table r) (given-is a .0) in
+    (omega (arith, f, r .refined-tree .kept .1 .1 .0), f)
+
+enum-known-answer-2 : tie.Need-enum-known-answer-2
+enum-known-answer-2 c = search needs
+
+number-requires : tie.Need-number-requires
+number-requires c κs = search needs
+
+refused-requires : tie.Need-refused-requires
+refused-requires c κs = search needs
+
+returns : tie.Need-returns
+returns c =
+    let a = c .before .before .before .before in
+    let r = a .before .before .before in
+    let s = r .before .before in
+    filled-as
+    (same-text _ _ (toZ-ofZ w64 _ (s .fits .terminal))
+    (toZ-ofZ w64 _ (fits (c .before .before .before)) ∙ given-is a .1) (edges-back _ _ _ _ (table r) (given-is a .0)))
+    (c .tree .ensures)
+
+returns-2 : tie.Need-returns-2
+unfolding toldTree
+returns-2 c =
+    let a = c .before .before .before .before in
+    told-apart _ _ (sym (ap toldTree (a .answer2 .given .1)) ∙ answer (a .before .before .before))
+
+pub refined-text-spec : {M : Type 1} → statement M
+refined-text-spec =
+    tie.close
+    (tie.spec
+    slice-aggregate-refined-tree
+    refined-tree-requires
+    enum-known-answer
+    slice-aggregate-tree
+    tree-requires
+    enum-known-answer-2
+    number-requires
+    refused-requires
+    returns
+    returns-2)

@@ -1,0 +1,139 @@
+-- `report::route` meets its contract: the lists of an accepted file are an allowed net, and stand at the front of
+-- the tables that they were read into.
+-- Assumes nothing.
+use mathlib.Core.Path.{_≡_, sym, ap, ap₂, _∙_}
+use mathlib.Core.List.{List}
+use Prim.Native.Nat.{ℕ, _*_}
+use native.Mathlib.Omega.{arith}
+use lib.IntN.{ℤ}
+use lib.ListN.{length, take}
+use mir.Syntax.{w32}
+use mir.ValLaws.{toZ-ofZ}
+use denote.Ref.{now}
+use Rattle.lent.specs.Told.{given}
+use Rattle.lent.proofs.AfterLaws.{after-given}
+use Rattle.net.specs.Bounds.{pinBound, macroBound}
+use Rattle.net.specs.Check.{pinCount, macroCount, told}
+use Rattle.netfile.specs.Read.{pinsIn, macrosIn, readFile}
+use Rattle.report.specs.Text.{refusedText}
+use Rattle.report.specs.Route.{treesText}
+use Rattle.report.proofs.PutLaws.{filled-as}
+use Rattle.report.proofs.RouteLaws.{Counted, lists, net-is, front, route-given, route-refused}
+use borrow.Author.Needs.{needs}
+use Rattle.report.proofs.route.Statement.{statement}
+use Rattle.report.proofs.route.Tie as tie
+
+abbrev start : tie.After-answer → tie.Start
+start c = c .before .before .before .before .before .before .before .before
+
+-- the answer of the read, and the lists that it took
+read : (c : tie.After-answer) → readFile (now (start c .args .file)) (pinBound * 2) (macroBound * 4)
+    ≡ given (c .answer .given .0 .0 .pins, c .answer .given .0 .0 .macros)
+unfolding told
+read c = sym (c .before .before .before .before .read-file .ensures .0) ∙ ap told (c .answer .given .1)
+
+net : (c : tie.After-answer) → Counted (pinsIn (now (start c .args .file))) (macrosIn (now (start c .args .file)))
+net c = lists _ _ (read c)
+
+pin-numbers : (c : tie.After-answer) → c .answer .given .0 .0 .pins * 2 ≡ length (pinsIn (now (start c .args .file)))
+pin-numbers c = omega (arith, ap (λ (v : ℕ × ℕ). v .0) (net-is _ _ (read c)), net c .pin-numbers)
+
+macro-numbers : (c : tie.After-answer) → c .answer .given .0 .0 .macros * 4 ≡ length (macrosIn (now (start c .args .file)))
+macro-numbers c = omega (arith, ap (λ (v : ℕ × ℕ). v .1) (net-is _ _ (read c)), net c .macro-numbers)
+
+pin-list : (c : tie.After-answer) → take (c .answer .given .0 .0 .pins * 2) (c .before .before .before .before .read-file .last .1 .0)
+    ≡ pinsIn (now (start c .args .file))
+pin-list c =
+    front _ _ _ _ (c .before .before .before .before .read-file .ensures .1 .0 ∙ sym (after-given _ _ _ _ (read c))) (pin-numbers c)
+
+macro-list : (c : tie.After-answer) → take (c .answer .given .0 .0 .macros * 4) (c .before .before .before .before .read-file .last .1 .1 .0)
+    ≡ macrosIn (now (start c .args .file))
+macro-list c =
+    front _ _ _ _ (c .before .before .before .before .read-file .ensures .1 .1 ∙ sym (after-given _ _ _ _ (read c))) (macro-numbers c)
+
+slice-aggregate-read-file : tie.Need-slice-aggregate-read-file
+slice-aggregate-read-file c = search needs
+
+slice-aggregate-read-file-2 : tie.Need-slice-aggregate-read-file-2
+slice-aggregate-read-file-2 c = search needs
+
+read-file-requires : tie.Need-read-file-requires
+read-file-requires c κs = search needs
+
+enum-known-answer : tie.Need-enum-known-answer
+enum-known-answer c = search needs
+
+mul-m : tie.Need-mul-m
+mul-m c =
+    let a = c .before .before in
+    omega (arith, pin-numbers a, net a .pin-numbers, net a .few-pins)
+
+mul-k : tie.Need-mul-k
+mul-k c =
+    let a = c .before .before .before in
+    omega (arith, macro-numbers a, net a .macro-numbers, net a .few-macros)
+
+array-share-prefix-pins : tie.Need-array-share-prefix-pins
+array-share-prefix-pins c =
+    let a = c .before .before .before in
+    omega (arith, pin-numbers a, net a .pin-numbers, net a .few-pins, a .before .before .before .before .read-file .kept .1 .0)
+
+slice-aggregate-trees-text : tie.Need-slice-aggregate-trees-text
+slice-aggregate-trees-text c = let a = c .before .before .before .before in pin-numbers a ∙ sym (ap length (pin-list a))
+
+array-share-prefix-macros : tie.Need-array-share-prefix-macros
+array-share-prefix-macros c =
+    let a = c .before .before .before .before in
+    omega (arith, macro-numbers a, net a .macro-numbers, net a .few-macros, a .before .before .before .before .read-file .kept .1 .1 .0)
+
+slice-aggregate-trees-text-2 : tie.Need-slice-aggregate-trees-text-2
+slice-aggregate-trees-text-2 c = let a = c .before .before .before .before .before in macro-numbers a ∙ sym (ap length (macro-list a))
+
+trees-text-requires : tie.Need-trees-text-requires
+trees-text-requires c κs = let a = c .before .before .before .before .before .before in rw (pin-list a, macro-list a) (net a .allowed)
+
+enum-known-answer-2 : tie.Need-enum-known-answer-2
+enum-known-answer-2 c = search needs
+
+number-requires : tie.Need-number-requires
+number-requires c κs = search needs
+
+refused-requires : tie.Need-refused-requires
+refused-requires c κs = search needs
+
+returns : tie.Need-returns
+returns c =
+    let a = c .before .before .before .before .before .before .before in
+    filled-as
+    (ap₂ (λ (p m : List ℤ). treesText (pinCount p) (macroCount m) p m) (pin-list a) (macro-list a) ∙ route-given _ _ (read a))
+    (c .trees-text .ensures)
+
+returns-2 : tie.Need-returns-2
+unfolding told
+returns-2 c =
+    let n = c .before .before in
+    let a = n .before .before in
+    let r = a .before .before .before .before in
+    let e = toZ-ofZ w32 _ (search needs) ∙ n .number .ensures in
+    filled-as (ap refusedText e ∙ route-refused _ _ (sym (r .read-file .ensures .0) ∙ ap told (a .answer2 .given .1))) (c .refused .ensures)
+
+pub route-spec : {M : Type 1} → statement M
+route-spec =
+    tie.close
+    (tie.spec
+    slice-aggregate-read-file
+    slice-aggregate-read-file-2
+    read-file-requires
+    enum-known-answer
+    mul-m
+    mul-k
+    array-share-prefix-pins
+    slice-aggregate-trees-text
+    array-share-prefix-macros
+    slice-aggregate-trees-text-2
+    trees-text-requires
+    enum-known-answer-2
+    number-requires
+    refused-requires
+    returns
+    returns-2)

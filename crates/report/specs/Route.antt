@@ -1,0 +1,23 @@
+-- What the program `route` prints for a file: document 01, end of "Nets to try".
+use mathlib.Core.List.{List}
+use Prim.Native.Nat.{ℕ, _*_}
+use lib.IntN.{ℤ, pos}
+use Rattle.lent.specs.Told.{Told, refused, given}
+use Rattle.net.specs.Bounds.{pinBound, macroBound}
+use Rattle.netfile.specs.Read.{pinsIn, macrosIn, readFile}
+use Rattle.router.specs.Terminal.{pathsTotal}
+use Rattle.router.specs.Refined.{laidOf, laidTotal}
+use Rattle.report.specs.Text.{treeText, refusedText}
+
+-- the text of the trees of two flat lists that hold m pins and k macros
+unfoldable pub treesText : ℕ → ℕ → List ℤ → List ℤ → List ℕ
+treesText m k pins macros = treeText m k (pos (pathsTotal pins macros)) (pos (laidTotal pins macros)) (laidOf pins macros)
+
+-- the text by the answer of a read that takes these lists: "A refusal prints one line"
+unfoldable pub answerText : Told (ℕ × ℕ) → List ℤ → List ℤ → List ℕ
+answerText (refused n) pins macros = refusedText (pos n)
+answerText (given net) pins macros = treesText (net .0) (net .1) pins macros
+
+-- "The program `route` reads a net file from standard input."
+unfoldable pub routeText : List ℕ → List ℕ
+routeText file = answerText (readFile file (pinBound * 2) (macroBound * 4)) (pinsIn file) (macrosIn file)

@@ -1,0 +1,1 @@
+-- This program has no definitions of its own.
