@@ -188,6 +188,7 @@ module _ {ps : List Place} {ms : List Macro} (a : Allowed ps ms) where
     sum = paths-sum;
     joining = paths-joining;
     ours = ours;
+    ours-are = refl;
     ours-ends = ours-ends;
     ours-lengths = ours-lengths;
     ours-joining = ours-joining;

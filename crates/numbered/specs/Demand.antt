@@ -8,6 +8,7 @@ use Prim.Native.Nat.{ℕ, suc, _≤_}
 use lib.ListN.{length}
 use Rattle.lists.specs.Member.{_∈_}
 use Rattle.lists.specs.Total.{total, most}
+use Rattle.lists.proofs.MapLaws.{mapIn}
 use Rattle.joined.specs.Way.{On, turned}
 use Rattle.joined.specs.Path.{TerminalPath, endsOf, lengthOf}
 use Rattle.joined.specs.Chain.{Chain, Joining, OurWay}
@@ -54,6 +55,7 @@ module _ (ps : List Place) (ms : List Macro) where
     -- "Our terminal paths are a joining": the kept bridges with their lengths, and the paths that they stand for
     pub joining : Joining keptEnds ps (pathsOf ps ms)
     pub ours : List PathOf
+    pub ours-are : ours ≡ mapIn (pathsOf ps ms) (λ k m. stands k m .path)
     pub ours-ends : map endsOf ours ≡ map keptEnds (pathsOf ps ms)
     pub ours-lengths : map (lengthOf distance) ours ≡ map (λ k. k .1) (pathsOf ps ms)
     pub ours-joining : Joining endsOf ps ours

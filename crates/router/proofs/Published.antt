@@ -49,19 +49,19 @@ joined pins macros {net} g =
       graph =
           λ v e h k.
           graphed-allowed pins macros v e net g
-              ∙ graph-fits pins macros v e (or-neither _ _ (le-ltb v (pointCount pins macros * 2) h) (le-ltb e (pointCount pins macros * 16) k));
+          ∙ graph-fits pins macros v e (or-neither _ _ (le-ltb v (pointCount pins macros * 2) h) (le-ltb e (pointCount pins macros * 16) k));
       terminal =
           λ room h.
           only-given t (terminalGiven pins macros room) net g
-              ∙ room-enough {A = ℕ × ℤ} (pinCount pins * 5) room (length (pathsOf pins macros), pos (pathsTotal pins macros)) h;
+          ∙ room-enough {A = ℕ × ℤ} (pinCount pins * 5) room (length (pathsOf pins macros), pos (pathsTotal pins macros)) h;
       refined =
           λ room h.
           only-given t (refinedGiven pins macros room) net g
-              ∙ room-enough {A = ℕ × ℤ} ((pointCount pins macros + pinCount pins) * 4) room (length (laidOf pins macros), pos (laidTotal pins macros)) h;
+          ∙ room-enough {A = ℕ × ℤ} ((pointCount pins macros + pinCount pins) * 4) room (length (laidOf pins macros), pos (laidTotal pins macros)) h;
       wires =
           λ room h.
           only-given t (wiresGiven pins macros room) net g
-              ∙ room-enough ((pointCount pins macros + pinCount pins) * 8) room (length (wiresOf pins macros)) h;
+          ∙ room-enough ((pointCount pins macros + pinCount pins) * 8) room (length (wiresOf pins macros)) h;
       connected = published-joins pins macros g;
       best = best-joining a;
       tree = refined-tree a;

@@ -43,7 +43,7 @@ module _ {ps : List Place} {ms : List Macro} (a : Allowed ps ms) where
       promised-edges ms ps (unionOf ps ms) r (union-promise a) (union-tabled a) (lengths distance (treeEdges r))
       (edges-metal (r .points) (r .edges .keys) (r .edges .size))
 
-  -- "The refined tree holds all pins as one tree, enters no macro's interior, and its length is at most our joining's."
+  -- it holds all pins as one tree, enters no macro's interior, and its total is at most that of our joining
   pub refined-tree : RefinedTree ps ms
   refined-tree = record {
     one = given .one;

@@ -1,4 +1,4 @@
--- Lent space that is too short: the last refusal of every operation that lends one list.
+-- Lent space that is too short: the last refusal of the operations that give a tree or its wires.
 use mathlib.Core.Bool.{cond}
 use Prim.Native.Nat.{ℕ}
 use lib.Dec.{ltb}
