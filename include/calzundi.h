@@ -31,7 +31,8 @@
  * What the caller sees to
  *
  * Each pointer is not null, aligned for its type and has its count behind it; for a list of none, the address of anything will do, since
- * it is not followed. What is lent to be written, counts and totals included, overlaps nothing else that is handed over.
+ * it is not followed. What is lent to be written, counts and totals included, overlaps nothing else that is handed over. The router's
+ * tables are local: a call has 512 KiB of stack to itself, which was measured and is not proved.
  */
 #ifndef CALZUNDI_H
 #define CALZUNDI_H

@@ -4,6 +4,7 @@ use net::Checked;
 use netfile::Written;
 use router::Graphed;
 use router::Tree;
+use router::Wired;
 ghost use mathlib.Core.Path.{_≡_};
 ghost use lib.IntN.{pos};
 ghost use lib.ListN.{length};
@@ -15,6 +16,7 @@ ghost use Rattle.graph.specs.Numbers.{placeNumbers, edgeNumbers};
 ghost use Rattle.numbered.specs.Tree.{pathNumbers};
 ghost use Rattle.router.specs.Graph.{verticesOf, edgesOf, graphed};
 ghost use Rattle.router.specs.Terminal.{pathsOf, terminalTree};
+ghost use Rattle.router.specs.Refined.{laidOf, refinedTree, wiresOf, wired};
 ghost use Rattle.netfile.specs.Layout.{fileBytes};
 ghost use Rattle.netfile.specs.Write.{written};
 ghost use Rattle.netfile.specs.Read.{pinsIn, macrosIn, readFile};
@@ -84,6 +86,60 @@ pub extern "C" fn calzundi_terminal_tree(
             0
         }
         Tree::Refused(refusal) => refusal.number(),
+    }
+}
+
+// 0, the number of edges given and their total, or the number of the refusal.
+#[no_mangle]
+pub extern "C" fn calzundi_refined_tree(
+    pins: &[i32],
+    macros: &[i32],
+    edges: &mut [i32],
+    count: &mut usize,
+    total: &mut i64,
+) -> i32
+    ensures answer { λ r. ⌜ r ≡ pos (code (refinedTree (now (pins .entry)) (now (macros .entry)) (length (now (edges .entry))))) ⌝ }
+    ensures edges { λ _. ⌜ now (edges .exit)
+        ≡ after (refinedTree (now (pins .entry)) (now (macros .entry)) (length (now (edges .entry))))
+        (flat edgeNumbers (laidOf (now (pins .entry)) (now (macros .entry)))) (now (edges .entry)) ⌝ }
+    ensures count { λ _. ⌜ now (count .exit)
+        ≡ valueAfter (λ tree. tree .0) (refinedTree (now (pins .entry)) (now (macros .entry)) (length (now (edges .entry)))) (now (count .entry)) ⌝ }
+    ensures total { λ _. ⌜ now (total .exit)
+        ≡ valueAfter (λ tree. tree .1) (refinedTree (now (pins .entry)) (now (macros .entry)) (length (now (edges .entry)))) (now (total .entry)) ⌝ }
+{
+    let answer = router::refined_tree(pins, macros, &mut *edges);
+    match answer {
+        Tree::Given(given, sum) => {
+            *count = given;
+            *total = sum;
+            0
+        }
+        Tree::Refused(refusal) => refusal.number(),
+    }
+}
+
+// 0 and the number of wires given, or the number of the refusal.
+#[no_mangle]
+pub extern "C" fn calzundi_wires(
+    pins: &[i32],
+    macros: &[i32],
+    wires: &mut [i32],
+    count: &mut usize,
+) -> i32
+    ensures answer { λ r. ⌜ r ≡ pos (code (wired (now (pins .entry)) (now (macros .entry)) (length (now (wires .entry))))) ⌝ }
+    ensures wires { λ _. ⌜ now (wires .exit)
+        ≡ after (wired (now (pins .entry)) (now (macros .entry)) (length (now (wires .entry))))
+        (flat edgeNumbers (wiresOf (now (pins .entry)) (now (macros .entry)))) (now (wires .entry)) ⌝ }
+    ensures count { λ _. ⌜ now (count .exit)
+        ≡ valueAfter (λ n. n) (wired (now (pins .entry)) (now (macros .entry)) (length (now (wires .entry)))) (now (count .entry)) ⌝ }
+{
+    let answer = router::wires(pins, macros, &mut *wires);
+    match answer {
+        Wired::Given(given) => {
+            *count = given;
+            0
+        }
+        Wired::Refused(refusal) => refusal.number(),
     }
 }
 

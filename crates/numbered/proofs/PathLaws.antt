@@ -6,7 +6,7 @@ use mathlib.Core.List.{List, [], _∷_, _++_, map, append-nil}
 use Prim.Native.Nat.{ℕ, suc, _+_, _*_, _≤_, _<_}
 use native.Mathlib.Nat.{suc-mul}
 use native.Mathlib.Omega.{arith}
-use lib.IntN.{ℤ, pos}
+use lib.IntN.{pos}
 use lib.ListN.{length, getD, length-map}
 use lib.Seq.{drop-nil, ext-getD}
 use Rattle.lists.specs.Member.{_∈_, here, there}
@@ -14,18 +14,14 @@ use Rattle.lists.specs.Total.{total}
 use Rattle.lists.proofs.MemberLaws.{getD-in}
 use Rattle.lists.proofs.MapLaws.{of-map, getD-map}
 use Rattle.lent.specs.Over.{over}
-use Rattle.lent.specs.Entries.{flat, entries}
-use Rattle.lent.proofs.OverLaws.{length-over}
-use Rattle.lent.proofs.EntryTable.{length-flat, entries-over}
 use Rattle.plane.specs.declared.Place.{Place}
 use Rattle.plane.specs.declared.Macro.{Macro}
 use Rattle.plane.specs.Place.{place}
 use Rattle.net.specs.Allowed.{Allowed}
 use Rattle.graph.specs.Vertices.{vertices}
-use Rattle.graph.specs.Numbers.{edgeNumbers, edgeFrom}
+use Rattle.graph.specs.Numbers.{edgeFrom}
 use Rattle.graph.proofs.VertexLaws.{pin-vertex, vertices-ascending}
 use Rattle.graph.proofs.GraphBounds.{few-vertices, few-edges}
-use Rattle.graph.proofs.WidthLaws.{edge-width}
 use Rattle.terminal.specs.Bounds.{pointBound, pinBound, pathBound}
 use Rattle.terminal.specs.Edges.{from, entries as entriesIn, FirstBelow, Listed}
 use Rattle.terminal.specs.Labels.{labelled}
@@ -44,6 +40,7 @@ use Rattle.numbered.specs.Tables.{Tables, Fresh, Worked, pathAt, pathsIn
 use Rattle.numbered.proofs.NumberLaws.{getD-over, count-of, pin-small}
 use Rattle.numbered.proofs.FillLaws.{entry-at}
 use Rattle.numbered.proofs.SettingOf.{setting, paths-count}
+use Rattle.numbered.proofs.WorkLaws.{worked-charted, edges-in, links-long}
 
 -- The paths of a net
 
@@ -151,15 +148,10 @@ module _ {ps : List Place} {ms : List Macro} (a : Allowed ps ms) where
     pub kept-fewer : suc (r .kept) ≡ length ps
     kept-fewer = ap suc (w .bridges-are .count) ∙ paths-count a
 
-    edges-in : entries edgeFrom 4 (t .links) (r .edges) ≡ spanning ps ms
-    edges-in =
-        ap (λ (l : List ℤ). entries edgeFrom 4 l (r .edges)) (w .edges-are)
-        ∙ entries-over edgeNumbers edgeFrom 4 edge-width (spanning ps ms) (lent .links) (r .edges) (sym (w .edge-count))
-
     edge-read : (k : ℕ) → k < length (spanning ps ms) → edgeFrom (t .links) (k * 4) ≡ edgeAt (spanning ps ms) k
     edge-read k h =
         sym (entry-at edgeFrom 4 (t .links) (r .edges) k (place (pos 0) (pos 0), place (pos 0) (pos 0)) (omega (arith, h, w .edge-count)))
-        ∙ ap (λ (es : List (Place × Place)). edgeAt es k) edges-in
+        ∙ ap (λ (es : List (Place × Place)). edgeAt es k) (edges-in a fresh (worked-charted w))
 
     -- the i-th kept path
     at : (i : ℕ) → i < length (treeOf ps ms .bridges)
@@ -198,12 +190,8 @@ module _ {ps : List Place} {ms : List Macro} (a : Allowed ps ms) where
 
     pub worked-givable : (room : ℕ) → length ps * 5 ≤ room → Givable (t .links) (t .kept) (t .longs) (r .kept) room
     worked-givable room h =
-        let f = length-flat edgeNumbers edgeFrom 4 edge-width (spanning ps ms) in
-        let small : length (flat edgeNumbers (spanning ps ms)) ≤ length (lent .links) = omega (arith, f, few-edges a, fresh .links) in
-        let same : length (t .links) ≡ length (lent .links) =
-        ap length (w .edges-are) ∙ length-over (flat edgeNumbers (spanning ps ms)) (lent .links) small in
         record {
-          edges-known = same ∙ fresh .links;
+          edges-known = links-long a fresh (worked-charted w) ∙ fresh .links;
           few = omega (arith, kept-fewer, a .few-pins);
           bridge = λ i k.
               (let b = bridge-inside ps ms _ (entry-listed _ _ (t .kept) (r .kept) (w .bridges-are) i k) in omega (arith, b, few-edges a));

@@ -29,6 +29,7 @@ use Rattle.terminal.specs.Parents.{parents}
 use Rattle.terminal.specs.Kept.{Terminal, terminal}
 use Rattle.terminal.proofs.KeptLaws.{read-listed, entry-listed}
 use Rattle.terminal.proofs.Nearest.{fits}
+use Rattle.numbered.specs.declared.Tree.{Tree}
 use Rattle.numbered.specs.Number.{numberOf, numbered, pinNumbers}
 use Rattle.numbered.specs.Tree.{spanning, graphOf, treeOf}
 use Rattle.numbered.specs.Tables.{Tables, tables, Fresh, Worked}
@@ -68,6 +69,16 @@ pub record Charted (ps : List Place) (ms : List Macro) (lent : Tables) (points l
   pub vertices-are : points ≡ over (flat placeNumbers (vertices ps ms)) (lent .points)
   pub edges-are : links ≡ over (flat edgeNumbers (spanning ps ms)) (lent .links)
 
+-- what is worked out is charted
+pub worked-charted : {ps : List Place} {ms : List Macro} {lent t : Tables} {r : Tree} → Worked ps ms lent t r
+    → Charted ps ms lent (t .points) (t .links) (r .points) (r .edges)
+worked-charted w = record {
+  vertex-count = w .vertex-count;
+  edge-count = w .edge-count;
+  vertices-are = w .vertices-are;
+  edges-are = w .edges-are;
+}
+
 module _ {ps : List Place} {ms : List Macro} {lent : Tables} {points links : List ℤ} {n e : ℕ} (a : Allowed ps ms) (fresh : Fresh lent)
     (c : Charted ps ms lent points links n e) where
   vertices-in : entries placeFrom 2 points n ≡ vertices ps ms
@@ -75,7 +86,7 @@ module _ {ps : List Place} {ms : List Macro} {lent : Tables} {points links : Lis
       ap (λ (l : List ℤ). entries placeFrom 2 l n) (c .vertices-are)
       ∙ entries-over placeNumbers placeFrom 2 place-width (vertices ps ms) (lent .points) n (sym (c .vertex-count))
 
-  edges-in : entries edgeFrom 4 links e ≡ spanning ps ms
+  pub edges-in : entries edgeFrom 4 links e ≡ spanning ps ms
   edges-in =
       ap (λ (l : List ℤ). entries edgeFrom 4 l e) (c .edges-are)
       ∙ entries-over edgeNumbers edgeFrom 4 edge-width (spanning ps ms) (lent .links) e (sym (c .edge-count))
@@ -84,15 +95,17 @@ module _ {ps : List Place} {ms : List Macro} {lent : Tables} {points links : Lis
   vertices-fit =
       let f = length-flat placeNumbers placeFrom 2 place-width (vertices ps ms) in
       let small : length (flat placeNumbers (vertices ps ms)) ≤ length (lent .points) = omega (arith, f, few-vertices a, fresh .points) in
-      let long = length-over (flat placeNumbers (vertices ps ms)) (lent .points) small in
-      omega (arith, ap length (c .vertices-are), long, f, c .vertex-count, few-vertices a, fresh .points)
+      let same : length points ≡ length (lent .points) =
+      ap length (c .vertices-are) ∙ length-over (flat placeNumbers (vertices ps ms)) (lent .points) small in
+      omega (arith, same, c .vertex-count, few-vertices a, fresh .points)
+
+  pub links-long : length links ≡ length (lent .links)
+  links-long =
+      let f = length-flat edgeNumbers edgeFrom 4 edge-width (spanning ps ms) in
+      ap length (c .edges-are) ∙ length-over (flat edgeNumbers (spanning ps ms)) (lent .links) (omega (arith, f, few-edges a, fresh .links))
 
   pub edges-fit : e * 4 ≤ length links
-  edges-fit =
-      let f = length-flat edgeNumbers edgeFrom 4 edge-width (spanning ps ms) in
-      let small : length (flat edgeNumbers (spanning ps ms)) ≤ length (lent .links) = omega (arith, f, few-edges a, fresh .links) in
-      let long = length-over (flat edgeNumbers (spanning ps ms)) (lent .links) small in
-      omega (arith, ap length (c .edges-are), long, f, c .edge-count, few-edges a, fresh .links)
+  edges-fit = omega (arith, links-long, c .edge-count, few-edges a, fresh .links)
 
   pub few-links : e ≤ edgeBound
   few-links = omega (arith, c .edge-count, few-edges a)

@@ -1,3 +1,5 @@
 pub mod GraphAnswer
 pub mod GraphSame
-pub mod TerminalAnswer
+pub mod AnswerLaws
+pub mod FreshTables
+pub mod RefinedLaws

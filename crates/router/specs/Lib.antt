@@ -3,8 +3,17 @@
 --   Graph      verticesOf, edgesOf                  the vertices and edges of two flat lists
 --              graphed pins macros v e              the answer of a graph into so many lent numbers
 --              toldGraph r                          what the code's answer says
+--   Room       ifRoom need room a                   what is given, or 21 where fewer numbers are lent than are needed
 --   Terminal   pathsOf, pathsTotal                  the kept paths of two flat lists, bridge and length, and their total
 --              terminalTree pins macros r           the answer of a terminal tree into r lent numbers
 --              toldTree r                           what the code's answer says
+--   Refined    refinedOf, edgesIn, metalIn ps ms    the refined tree of a net: its tables, its edges in order, the sum of their lengths
+--              laidOf, laidTotal, wiresOf           the edges, their total and the wires of two flat lists
+--              refinedTree, wired pins macros r     the answers of a refined tree and of wires into r lent numbers
+--              toldWires r                          what the code's answer says
+--   Demand     RefinedTree ps ms                    mission demand 3, its last sentence, and what is promised of the wires
 pub mod Graph
+pub mod Room
 pub mod Terminal
+pub mod Refined
+pub mod Demand

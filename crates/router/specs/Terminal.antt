@@ -1,9 +1,7 @@
 -- The terminal tree: document 01, "Terminal tree" among the operations.
 -- What it is, and what is promised of it, stands in `numbered` (specs/Tree.antt, specs/Demand.antt).
-use mathlib.Core.Bool.{cond}
 use mathlib.Core.List.{List}
 use Prim.Native.Nat.{ℕ, _*_}
-use lib.Dec.{ltb}
 use lib.IntN.{ℤ, pos}
 use lib.ListN.{length}
 use Rattle.lent.specs.Told.{Told, refused, given, onlyIf}
@@ -12,6 +10,7 @@ use Rattle.plane.specs.Flat.{placesOf, macrosOf}
 use Rattle.net.specs.Answer.{number}
 use Rattle.net.specs.Check.{pinCount, checked}
 use Rattle.numbered.specs.Tree as numbered
+use Rattle.router.specs.Room.{ifRoom}
 use Rattle.router.specs.declared.Tree.{Tree}
 use Rattle.router.specs.declared.Tree.the-variants.{Given, Refused}
 
@@ -25,8 +24,7 @@ pathsTotal pins macros = numbered.totalOf (placesOf pins) (macrosOf macros)
 
 -- "21: fewer than 5m numbers lent"; otherwise how many paths, and their total
 unfoldable pub terminalGiven : List ℤ → List ℤ → ℕ → Told (ℕ × ℤ)
-terminalGiven pins macros room =
-    cond (ltb room (pinCount pins * 5)) (refused 21) (given (length (pathsOf pins macros), pos (pathsTotal pins macros)))
+terminalGiven pins macros room = ifRoom (pinCount pins * 5) room (length (pathsOf pins macros), pos (pathsTotal pins macros))
 
 -- "11 to 17, then 21"
 unfoldable pub terminalTree : List ℤ → List ℤ → ℕ → Told (ℕ × ℤ)

@@ -10,22 +10,27 @@ use numbered::EDGES;
 use numbered::PINS;
 use numbered::POINTS;
 use numbered::VERTEX_NUMBERS;
+use refined::Refined;
 ghost use mathlib.Core.Path.{_≡_};
-ghost use Prim.Native.Nat.{_≤_};
-ghost use lib.ListN.{length};
+ghost use Prim.Native.Nat.{_*_, _≤_};
+ghost use lib.IntN.{pos};
+ghost use lib.ListN.{length, replicate};
 ghost use Rattle.lent.specs.Over.{after};
 ghost use Rattle.lent.specs.Entries.{flat};
 ghost use Rattle.plane.specs.Flat.{placesOf, macrosOf};
 ghost use Rattle.net.specs.Allowed.{Allowed};
-ghost use Rattle.net.specs.Bounds.{pinBound, macroBound};
+ghost use Rattle.net.specs.Bounds.{pinBound, macroBound, treeBound};
 ghost use Rattle.net.specs.Check.{pinCount, macroCount, checked, told};
 ghost use Rattle.graph.specs.Numbers.{placeNumbers, edgeNumbers};
 ghost use Rattle.numbered.specs.Tree.{pathNumbers};
+ghost use Rattle.refined.specs.Refined.{Answer};
+ghost use Rattle.union.specs.Union.{unionOf};
 ghost use Rattle.netfile.specs.Layout.{fileBytes};
 ghost use Rattle.netfile.specs.Write.{written, toldBytes};
 ghost use Rattle.netfile.specs.Read.{pinsIn, macrosIn, readFile};
 ghost use Rattle.router.specs.Graph.{verticesOf, edgesOf, graphGiven, graphed, toldGraph};
 ghost use Rattle.router.specs.Terminal.{pathsOf, terminalGiven, terminalTree, toldTree};
+ghost use Rattle.router.specs.Refined.{laidOf, refinedGiven, refinedTree, wiresOf, wiresGiven, wired, toldWires};
 
 // The answer of a graph: how many vertices and how many edges were given.
 pub enum Graphed {
@@ -36,6 +41,12 @@ pub enum Graphed {
 // The answer of a terminal tree or of a refined tree: how many paths or edges were given, and their total.
 pub enum Tree {
     Given(usize, i64),
+    Refused(Refusal),
+}
+
+// The answer of wires: how many were given.
+pub enum Wired {
+    Given(usize),
     Refused(Refusal),
 }
 
@@ -138,6 +149,143 @@ fn terminal_of_allowed(pins: &[i32], macros: &[i32], paths: &mut [i64]) -> Tree
     );
     numbered::give_paths(&edges, &kept, &long, tree.kept, &mut *paths);
     Tree::Given(tree.kept, tree.total as i64)
+}
+
+// Refined tree: its edges in order, how many there are and their total, or 11 to 17, then 21 where fewer than 4(n + m) numbers are lent.
+// That they hold all pins as one tree, enter no interior and are no longer than the terminal tree is `refined-tree` in proofs/.
+pub fn refined_tree(pins: &[i32], macros: &[i32], edges: &mut [i32]) -> Tree
+    ensures answer { λ r. ⌜ toldTree r ≡ refinedTree (now (pins .entry)) (now (macros .entry)) (length (now (edges .entry))) ⌝ }
+    ensures edges { λ _. ⌜ now (edges .exit)
+        ≡ after (refinedTree (now (pins .entry)) (now (macros .entry)) (length (now (edges .entry))))
+        (flat edgeNumbers (laidOf (now (pins .entry)) (now (macros .entry)))) (now (edges .entry)) ⌝ }
+{
+    let answer = net::check(pins, macros);
+    match answer {
+        Checked::Allowed(_) => refined_of_allowed(pins, macros, &mut *edges),
+        Checked::Refused(refusal) => Tree::Refused(refusal),
+    }
+}
+
+// The refined tree once the check has passed.
+fn refined_of_allowed(pins: &[i32], macros: &[i32], edges: &mut [i32]) -> Tree
+    requires { ⌜ Allowed (placesOf (now pins)) (macrosOf (now macros)) ⌝ }
+    ensures answer { λ r. ⌜ toldTree r ≡ refinedGiven (now (pins .entry)) (now (macros .entry)) (length (now (edges .entry))) ⌝ }
+    ensures edges { λ _. ⌜ now (edges .exit)
+        ≡ after (refinedGiven (now (pins .entry)) (now (macros .entry)) (length (now (edges .entry))))
+        (flat edgeNumbers (laidOf (now (pins .entry)) (now (macros .entry)))) (now (edges .entry)) ⌝ }
+{
+    let m = pins.len() / 2;
+    let n = m + macros.len() / 4 * 4;
+    if edges.len() < (n + m) * 4 {
+        return Tree::Refused(Refusal::Space);
+    }
+    let mut points = [0i32; refined::NUMBERS];
+    let mut keys = [0usize; refined::POINTS];
+    let tree = refine_allowed(pins, macros, &mut points, &mut keys);
+    wires::give_edges(&points, &keys, tree.edges, &mut *edges);
+    Tree::Given(tree.edges, tree.total as i64)
+}
+
+// Wires: those of the refined tree's edges, in order, and how many there are, or 11 to 17, then 21 where fewer than 8(n + m) numbers are
+// lent.
+pub fn wires(pins: &[i32], macros: &[i32], wires: &mut [i32]) -> Wired
+    ensures answer { λ r. ⌜ toldWires r ≡ wired (now (pins .entry)) (now (macros .entry)) (length (now (wires .entry))) ⌝ }
+    ensures wires { λ _. ⌜ now (wires .exit)
+        ≡ after (wired (now (pins .entry)) (now (macros .entry)) (length (now (wires .entry))))
+        (flat edgeNumbers (wiresOf (now (pins .entry)) (now (macros .entry)))) (now (wires .entry)) ⌝ }
+{
+    let answer = net::check(pins, macros);
+    match answer {
+        Checked::Allowed(_) => wires_of_allowed(pins, macros, &mut *wires),
+        Checked::Refused(refusal) => Wired::Refused(refusal),
+    }
+}
+
+// The wires once the check has passed.
+fn wires_of_allowed(pins: &[i32], macros: &[i32], wires: &mut [i32]) -> Wired
+    requires { ⌜ Allowed (placesOf (now pins)) (macrosOf (now macros)) ⌝ }
+    ensures answer { λ r. ⌜ toldWires r ≡ wiresGiven (now (pins .entry)) (now (macros .entry)) (length (now (wires .entry))) ⌝ }
+    ensures wires { λ _. ⌜ now (wires .exit)
+        ≡ after (wiresGiven (now (pins .entry)) (now (macros .entry)) (length (now (wires .entry))))
+        (flat edgeNumbers (wiresOf (now (pins .entry)) (now (macros .entry)))) (now (wires .entry)) ⌝ }
+{
+    let m = pins.len() / 2;
+    let n = m + macros.len() / 4 * 4;
+    if wires.len() < (n + m) * 8 {
+        return Wired::Refused(Refusal::Space);
+    }
+    let mut points = [0i32; refined::NUMBERS];
+    let mut keys = [0usize; refined::POINTS];
+    let tree = refine_allowed(pins, macros, &mut points, &mut keys);
+    let count = wires::give_wires(&points, &keys, tree.edges, &mut *wires);
+    Wired::Given(count)
+}
+
+// The refined tree of an allowed net, in tables that are fresh.
+fn refine_allowed(
+    pins: &[i32],
+    macros: &[i32],
+    points: &mut [i32; refined::NUMBERS],
+    keys: &mut [usize; refined::POINTS],
+) -> Refined
+    requires { ⌜ Allowed (placesOf (now pins)) (macrosOf (now macros)) ⌝ }
+    requires { ⌜ (now points ≡ replicate (treeBound * 2) (pos 0)) × (now keys ≡ replicate treeBound 0) ⌝ }
+    ensures { λ r. ⌜ Answer (macrosOf (now (macros .entry))) (placesOf (now (pins .entry)))
+        (unionOf (placesOf (now (pins .entry))) (macrosOf (now (macros .entry)))) (now (points .exit)) (now (keys .exit)) r ⌝ }
+{
+    let mut vertices = [0i32; VERTEX_NUMBERS];
+    let mut edges = [0i32; EDGE_NUMBERS];
+    let mut ea = [0usize; EDGES];
+    let mut eb = [0usize; EDGES];
+    let mut el = [0u64; EDGES];
+    let mut pin = [0usize; PINS];
+    let mut far = [terminal::UNREACHED; POINTS];
+    let mut root = [0usize; POINTS];
+    let mut up = [POINTS; POINTS];
+    let mut via = [EDGES; POINTS];
+    let mut kept = [0usize; EDGES];
+    let mut long = [0u64; EDGES];
+    let tree = numbered::terminal_tree(
+        pins,
+        macros,
+        &mut vertices,
+        &mut edges,
+        &mut ea,
+        &mut eb,
+        &mut el,
+        &mut pin,
+        &mut far,
+        &mut root,
+        &mut up,
+        &mut via,
+        &mut kept,
+        &mut long,
+    );
+    let start = union::start(
+        &vertices,
+        tree.points,
+        &ea,
+        &eb,
+        &el,
+        tree.edges,
+        &pin,
+        tree.pins,
+        &far,
+        &up,
+        &via,
+        &kept,
+        tree.kept,
+        &mut *points,
+        &mut *keys,
+    );
+    refined::refine(
+        pins,
+        macros,
+        &mut *points,
+        start.points,
+        &mut *keys,
+        start.edges,
+    )
 }
 
 // Write a net file: its number of bytes, or 11 to 17, then 21 where fewer bytes are lent than the file has.

@@ -5,4 +5,5 @@ pub mod UnionTree
 pub mod WorkedUnions
 pub mod PlacedLaws
 pub mod UnionSound
+pub mod UnionOrder
 pub mod WorkedStart

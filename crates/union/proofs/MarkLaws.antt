@@ -29,7 +29,7 @@ use Rattle.terminal.proofs.EdgeLaws.{from-next, from-end, entries-next, entries
 use Rattle.terminal.proofs.WayLaws.{way-none, way-step}
 use Rattle.refined.specs.Exchange.{setPoint}
 use Rattle.union.specs.Union.{bothEnds}
-use Rattle.union.specs.Marks.{marked, isMarked, marks, Ranked}
+use Rattle.union.specs.Marks.{marked, isMarked, marks, Ranking}
 
 pub marked-append : (l m t : List ℕ) → marked (l ++ m) t ≡ marked m (marked l t)
 unfolding marked
@@ -168,7 +168,7 @@ pub record Placing (places : ℕ → Place) (t : List ℕ) (lent : List ℤ) (i 
   pub written : pts ≡ over (flat placeNumbers (map places (marks t i))) lent
   pub room : length ranks ≡ pointBound
   pub small : Below pointBound ranks
-  pub ranked : Ranked t i ranks
+  pub ranked : Ranking t i ranks
 
 module _ (places : ℕ → Place) (t : List ℕ) (lent : List ℤ) where
   pub place-none : (ranks : List ℕ) → length ranks ≡ pointBound → Below pointBound ranks → Placing places t lent 0 0 lent ranks

@@ -1,8 +1,8 @@
 -- The refiner's tables of points and edges read back as places: a point is the place of its vertex, an edge has the places of its ends.
 -- Assumes nothing.
-use mathlib.Core.Path.{_≡_, refl, sym, ap, ap₂, _∙_, subst}
+use mathlib.Core.Path.{_≡_, refl, sym, ap, _∙_}
 use mathlib.Core.List.{List, [], _∷_, map}
-use Prim.Native.Nat.{ℕ, zero, suc, _+_, _-_, _*_, _/_, _%_, _≤_, _<_}
+use Prim.Native.Nat.{ℕ, zero, suc, _+_, _-_, _*_, _≤_, _<_}
 use native.Mathlib.Omega.{arith}
 use borrow.Author.Tests.{ltb-true, ltb-false}
 use lib.Dec.{ltb}
@@ -27,7 +27,7 @@ use Rattle.plane.specs.Flat.{placeFrom, placeAt}
 use Rattle.graph.specs.Numbers.{placeNumbers}
 use Rattle.graph.proofs.WidthLaws.{place-width}
 use Rattle.terminal.specs.Edges.{Graph, one, two}
-use Rattle.numbered.proofs.NumberLaws.{getD-over}
+use Rattle.numbered.proofs.NumberLaws.{getD-over, ascending-at}
 use Rattle.numbered.proofs.FillLaws.{entry-at}
 use Rattle.refined.specs.Table.{pointBound, key, firstEnd, secondEnd, In, Within}
 use Rattle.refined.specs.Sum.{below}
@@ -97,14 +97,33 @@ module _ (places : ℕ → Place) (g : Graph) (W E : List ℕ) (ascending : Asce
   point-at i h =
       place-at (map places W) (replicate (pointBound * 2) (pos 0)) i (omega (arith, length-map W places)) ∙ getD-map places W i 0 _ h
 
-  small : (v : ℕ) → v ∈ W → position ltb W v < length W
+  pub small : (v : ℕ) → v ∈ W → position ltb W v < length W
   small v m = position-small ltb number-order W ascending v m
+
+  -- the order of points is that of their vertices
+  pub position-rises : (u v : ℕ) → u ∈ W → v ∈ W → u < v → position ltb W u < position ltb W v
+  position-rises u v i j l =
+      let x = position ltb W u in
+      let y = position ltb W v in
+      let p : getD W x 0 ≡ u = at-position ltb number-order W ascending u 0 i in
+      let q : getD W y 0 ≡ v = at-position ltb number-order W ascending v 0 j in
+      by (ltb x y)
+      (λ t. ltb-true x y t)
+      (λ t.
+      by (ltb y x)
+      (λ s.
+      let c = ltb-true (getD W y 0) (getD W x 0) (ascending-at ltb W ascending y x 0 (ltb-true y x s) (small u i)) in
+      absurd (let z : ⊥ = omega (arith, p, q) in z))
+      (λ s.
+      let e : x ≡ y = omega (arith, ltb-false x y t, ltb-false y x s) in
+      let c : getD W x 0 ≡ getD W y 0 = ap (λ (k : ℕ). getD W k 0) e in
+      absurd (let z : ⊥ = omega (arith, p, q) in z)))
 
   pub point-of : (v : ℕ) → v ∈ W → placeAt pointTable (position ltb W v) ≡ places v
   point-of v m = point-at (position ltb W v) (small v m) ∙ ap places (at-position ltb number-order W ascending v 0 m)
 
   -- edges
-  key-at : (i : ℕ) → i < length E → getD edgeTable i 0 ≡ keyIn W (one g (getD E i 0)) (two g (getD E i 0))
+  pub key-at : (i : ℕ) → i < length E → getD edgeTable i 0 ≡ keyIn W (one g (getD E i 0)) (two g (getD E i 0))
   key-at i h =
       getD-over (map (λ k. keyIn W (one g k) (two g k)) E) (replicate pointBound 0) i 0 (omega (arith, length-map E (λ k. keyIn W (one g k) (two g k))))
       ∙ getD-map (λ k. keyIn W (one g k) (two g k)) E i 0 0 h

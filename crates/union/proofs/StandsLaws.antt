@@ -1,13 +1,13 @@
--- Numbers that stand in a list, lists of pieces one after the other, and two lists without repeats put together.
+-- Numbers that stand in a list, lists of pieces one after the other, two lists without repeats put together, and numbers taken upwards by a
+-- test.
 -- Assumes nothing.
 use mathlib.Core.Path.{_≡_, refl, sym, _∙_}
 use mathlib.Core.Bool.{Bool, true}
 use mathlib.Core.List.{List, [], _∷_, _++_, map, List·Memᴰ·cases-cons, List·Memᴰ·append-cases}
-use Prim.Native.Nat.{ℕ, zero, suc, _+_, _<_}
+use Prim.Native.Nat.{ℕ, zero, suc, _+_}
 use native.Mathlib.Omega.{arith}
-use borrow.Author.Tests.{eqb-true, eqb-false, lt-ltb, ltb-true}
+use borrow.Author.Tests.{eqb-true, eqb-false, lt-ltb}
 use lib.Dec.{eqb, ltb}
-use lib.ListN.{length, getD}
 use Rattle.lists.specs.Member.{_∈_, here, there, Once}
 use Rattle.lists.specs.Sorted.{Ascending}
 use Rattle.lists.specs.Those.{those}
@@ -15,7 +15,6 @@ use Rattle.lists.specs.Total.{total}
 use Rattle.lists.proofs.TestLaws.{by, differ, either}
 use Rattle.lists.proofs.AnyLaws.{any-hit, any-miss, any-end}
 use Rattle.lists.proofs.EachLaws.{Piece, of-each, in-each}
-use Rattle.lists.proofs.MemberLaws.{getD-in}
 use Rattle.lists.proofs.OrderLaws.{number-order}
 use Rattle.lists.proofs.SortedLaws.{ascending-once}
 use Rattle.lists.proofs.ThoseLaws.{those-hit, those-miss, those-none, of-those}
@@ -74,13 +73,6 @@ once-join (x ∷ l) m o p h =
     (λ i. either (o .0) (λ k. h x (here refl) k) (List·Memᴰ·append-cases l i), once-join l m (o .1) p (λ y i k. h y (there i) k))
 
 -- Ascending numbers
-
--- an earlier number is smaller than a later one
-pub ascending-at : (l : List ℕ) → Ascending ltb l → (i j : ℕ) → i < j → j < length l → getD l i 0 < getD l j 0
-ascending-at [] h i j e f = absurd (let z : ⊥ = omega arith in z)
-ascending-at (x ∷ l) h i zero e f = absurd (let z : ⊥ = omega arith in z)
-ascending-at (x ∷ l) h zero (suc j) e f = ltb-true x (getD l j 0) (h .0 (getD l j 0) (getD-in l j 0 (omega arith)))
-ascending-at (x ∷ l) h (suc i) (suc j) e f = ascending-at l (h .1) i j (omega arith) (omega arith)
 
 -- numbers one after the other ascend, and so do those that pass a test
 from-ascending : (k n : ℕ) → Ascending ltb (from k n)

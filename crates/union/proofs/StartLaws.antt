@@ -30,7 +30,7 @@ use Rattle.terminal.proofs.EdgeLaws.{below-from, from-next}
 use Rattle.refined.specs.Table.{key, tree}
 use Rattle.refined.specs.Table as refined
 use Rattle.union.specs.Union.{stands, bothEnds, keyIn, keptEdges, unionEdges, unionPoints, startOf}
-use Rattle.union.specs.Marks.{marked, isMarked, marks, Ranked}
+use Rattle.union.specs.Marks.{marked, isMarked, marks, Ranking}
 use Rattle.union.proofs.StandsLaws.{in-stands, picked-ascending, in-flat}
 use Rattle.union.proofs.MarkLaws.{marked-append, from-parts, those-append, marks-room}
 
@@ -136,7 +136,7 @@ module _ (g : Graph) (fars : List ℕ) (p : Parents) (ks : List ℕ) (n : ℕ) (
       (λ v m. fresh-read pointBound all at all-marked v (let h = below-from n v m in omega arith))
 
   module _ (one-in : (k : ℕ) → k < g .count → one g k < n) (two-in : (k : ℕ) → k < g .count → two g k < n)
-      (ranks : List ℕ) (ranked : Ranked at n ranks) where
+      (ranks : List ℕ) (ranked : Ranking at n ranks) where
     -- the rank of an end of an edge
     rank-of : (v : ℕ) → v < n → v ∈ all → getD ranks v 0 ≡ position ltb (unionPoints g fars p ks n pins) v
     rank-of v h m =

@@ -1,9 +1,9 @@
 -- The union of the kept paths of an allowed net is a sound start for the refiner: one tree over its points in order, with all pins and every
--- edge clear; it has no more metal to lay than the terminal tree, and leaves room for a point a round.
+-- edge clear and in order; it has no more metal to lay than the terminal tree, and leaves room for a point a round.
 -- Assumes nothing.
 use mathlib.Core.Path.{_≡_, refl, sym, ap, ap₂, _∙_}
-use mathlib.Core.Bool.{Bool, true}
-use mathlib.Core.Logic.{inl}
+use mathlib.Core.Bool.{true}
+use mathlib.Core.Logic.{_⊎_, inl, inr}
 use mathlib.Core.List.{List, _++_, map, Memᴰ·cast}
 use Prim.Native.Nat.{ℕ, suc, _+_, _*_, _≤_, _<_}
 use native.Mathlib.Omega.{arith}
@@ -12,9 +12,9 @@ use borrow.Author.Tests.{lt-ltb, ltb-true}
 use lib.IntN.{ℤ}
 use lib.ListN.{length, getD}
 use Rattle.lists.specs.Member.{_∈_, Among}
-use Rattle.lists.specs.Sorted.{Ascending, position}
-use Rattle.lists.specs.Those.{those}
+use Rattle.lists.specs.Sorted.{Ascending, position, firstThen}
 use Rattle.lists.specs.Total.{total}
+use Rattle.lists.proofs.TestLaws.{by, differ, either}
 use Rattle.lists.proofs.MemberLaws.{getD-in}
 use Rattle.lists.proofs.MapLaws.{of-map}
 use Rattle.lists.proofs.OrderLaws.{number-order}
@@ -34,28 +34,28 @@ use Rattle.plane.specs.Flat.{placeAt}
 use Rattle.plane.proofs.PlaceOrder.{place-order}
 use Rattle.net.specs.Allowed.{Allowed}
 use Rattle.graph.specs.Vertices.{vertices}
+use Rattle.graph.specs.Edges.{beforeEdge}
+use Rattle.graph.proofs.EdgeLaws.{edges-ascending}
 use Rattle.graph.proofs.VertexLaws.{pin-vertex, vertices-ascending}
 use Rattle.graph.proofs.GraphBounds.{few-vertices}
 use Rattle.terminal.specs.Edges.{Graph, one, two, len, from}
-use Rattle.terminal.specs.Labels.{labelled}
-use Rattle.terminal.specs.Parents.{parented}
-use Rattle.terminal.specs.Kept.{keptBridges, terminal}
+use Rattle.terminal.specs.Kept.{terminal}
 use Rattle.terminal.specs.Setting.{ends}
 use Rattle.terminal.proofs.EdgeLaws.{length-from}
-use Rattle.numbered.specs.Number.{numberOf, vertexAt, pinNumbers}
-use Rattle.numbered.specs.Tree.{graphOf, treeOf, totalOf}
-use Rattle.numbered.proofs.NumberLaws.{vertex-order, vertex-of-number, pin-number-in}
+use Rattle.numbered.specs.Number.{edgeAt, numberOf, vertexAt, pinNumbers}
+use Rattle.numbered.specs.Tree.{spanning, graphOf, treeOf, totalOf}
+use Rattle.numbered.proofs.NumberLaws.{ascending-at, count-of, one-of, vertex-order, vertex-of-number, pin-number-in}
 use Rattle.numbered.proofs.SettingOf.{setting, whole, edge-at, one-vertex, two-vertex}
-use Rattle.refined.specs.Table.{pointBound, Tree}
-use Rattle.refined.specs.Places.{listing, endsOf, pointsOf, edgesOf, keyLength, InOrder, Sound}
-use Rattle.refined.specs.Promise.{metalOf, Promise}
+use Rattle.refined.specs.Table.{key, firstEnd, secondEnd, pointBound, Tree}
+use Rattle.refined.specs.Places.{endsOf, pointsOf, edgesOf, keyLength, InOrder, Ranked, Sound}
+use Rattle.refined.specs.Promise.{metalOf, Promise, Tabled}
 use Rattle.refined.specs.Refined.{refined}
 use Rattle.refined.specs.Sum.{below}
 use Rattle.refined.proofs.ListingLaws.{listing-length, in-listing, of-listing, listing-once}
 use Rattle.refined.proofs.SumLaws.{below-same}
-use Rattle.refined.proofs.RefinedSound.{refined-promise}
+use Rattle.refined.proofs.RefinedSound.{refined-promise, refined-tabled}
 use Rattle.union.specs.Union.{stands, bothEnds, keptEdges, unionEdges, unionPoints, startOf, unionOf}
-use Rattle.union.proofs.StandsLaws.{ascending-at, picked-ascending}
+use Rattle.union.proofs.StandsLaws.{picked-ascending}
 use Rattle.union.proofs.UnionTree.{pin-point, first-point, second-point, point-inside, edge-inside, union-size, union-tree, union-total}
 use Rattle.union.proofs.PlacedLaws.{
   pointTable,
@@ -63,6 +63,8 @@ use Rattle.union.proofs.PlacedLaws.{
   points-length,
   edges-length,
   point-at,
+  key-at,
+  position-rises,
   point-of,
   first-at,
   second-at,
@@ -134,9 +136,9 @@ module _ {ps : List Place} {ms : List Macro} (a : Allowed ps ms) where
   unfolding unionPoints
   points-ascending = picked-ascending (λ v. stands v (pins ++ flat (bothEnds (g .ones) (g .twos)) E)) n
 
-  edges-ascending : Ascending ltb E
+  union-ascending : Ascending ltb E
   unfolding unionEdges
-  edges-ascending = picked-ascending (λ k. stands k (keptEdges g (treeOf ps ms .labels .fars) (treeOf ps ms .parents) (treeOf ps ms .bridges))) (g .count)
+  union-ascending = picked-ascending (λ k. stands k (keptEdges g (treeOf ps ms .labels .fars) (treeOf ps ms .parents) (treeOf ps ms .bridges))) (g .count)
 
   few-points : length W ≤ n
   unfolding unionPoints
@@ -170,13 +172,13 @@ module _ {ps : List Place} {ms : List Macro} (a : Allowed ps ms) where
   ordered i j e f =
       let u = getD W i 0 in
       let v = getD W j 0 in
-      let l : u < v = ascending-at W points-ascending i j e f in
+      let l : u < v = ltb-true u v (ascending-at ltb W points-ascending i j 0 e f) in
       let x = union-below u (getD-in W i 0 (omega arith)) in
       let y = union-below v (getD-in W j 0 f) in
       rw (point i (omega arith), point j f) (vertex-order vs (vertices-ascending ps ms) u v x y ∙ lt-ltb u v l)
 
   edge-of : (k : ℕ) → k ∈ E → (i : ℕ) × (i < length E) × (getD E i 0 ≡ k)
-  edge-of k m = (position ltb E k, position-small ltb number-order E edges-ascending k m, at-position ltb number-order E edges-ascending k 0 m)
+  edge-of k m = (position ltb E k, position-small ltb number-order E union-ascending k m, at-position ltb number-order E union-ascending k 0 m)
 
   abbrev links : List (Place × Place)
   links = edgesOf points keys (length E)
@@ -240,6 +242,92 @@ module _ {ps : List Place} {ms : List Macro} (a : Allowed ps ms) where
     pinned = pin-stands;
   }
 
+  -- Its edges in order
+
+  -- the ends of an edge of the union, by numbers and by places
+  module _ (k : ℕ) (m : k ∈ E) where
+    c : k < g .count
+    c = edge-below k m
+
+    upward : one g k < two g k
+    upward =
+        ltb-true (one g k) (two g k)
+        (sym (vertex-order vs (vertices-ascending ps ms) (one g k) (two g k) (setting a .one-in k c) (setting a .two-in k c))
+        ∙ ap₂ before (one-vertex a k c) (two-vertex a k c) ∙ edge-at a k c .smaller-first)
+
+  edge-cases : (e f : Place × Place) → beforeEdge e f ≡ true → (before (e .0) (f .0) ≡ true) ⊎ ((e .0 ≡ f .0) × (before (e .1) (f .1) ≡ true))
+  unfolding beforeEdge firstThen
+  edge-cases e f h =
+      by (before (e .0) (f .0)) inl
+      (λ p. by (before (f .0) (e .0))
+      (λ q. differ (rw (beforeEdge, firstThen, p, q) at h) refl)
+      (λ q. inr (place-order .tie (e .0) (f .0) p q, rw (beforeEdge, firstThen, p, q) at h)))
+
+  -- a later edge has a greater first end, or the same and a greater second one
+  later : (k l : ℕ) → k ∈ E → l ∈ E → k < l → (one g k < one g l) ⊎ ((one g k ≡ one g l) × (two g k < two g l))
+  later k l i j h =
+      let x = edge-below k i in
+      let y = edge-below l j in
+      let b = ascending-at beforeEdge (spanning ps ms) (edges-ascending ms vs) k l _ h (rw (count-of vs (spanning ps ms)) at y) in
+      either
+      (λ e. inl
+      (ltb-true (one g k) (one g l)
+      (sym (vertex-order vs (vertices-ascending ps ms) (one g k) (one g l) (setting a .one-in k x) (setting a .one-in l y))
+      ∙ ap₂ before (one-vertex a k x) (one-vertex a l y) ∙ e)))
+      (λ e. inr (
+        one-of vs (spanning ps ms) k (rw (count-of vs (spanning ps ms)) at x)
+            ∙ ap (numberOf vs) (e .0)
+            ∙ sym (one-of vs (spanning ps ms) l (rw (count-of vs (spanning ps ms)) at y)),
+        ltb-true (two g k) (two g l)
+            (sym (vertex-order vs (vertices-ascending ps ms) (two g k) (two g l) (setting a .two-in k x) (setting a .two-in l y))
+            ∙ ap₂ before (two-vertex a k x) (two-vertex a l y) ∙ e .1),
+      ))
+      (edge-cases (edgeAt (spanning ps ms) k) (edgeAt (spanning ps ms) l) b)
+
+  rank : ℕ → ℕ
+  rank v = position ltb W v
+
+  rank-small : (v : ℕ) → v ∈ W → rank v < pointBound
+  unfolding rank
+  rank-small v m = omega (arith, position-small ltb number-order W points-ascending v m, room)
+
+  key-is : (i : ℕ) → i < length E → getD keys i 0 ≡ key (rank (one g (getD E i 0))) (rank (two g (getD E i 0)))
+  unfolding rank
+  key-is = key-at at g W E points-ascending room union-less one-at two-at
+
+  rises : (u v : ℕ) → u ∈ W → v ∈ W → u < v → rank u < rank v
+  unfolding rank
+  rises = position-rises at g W E points-ascending room union-less one-at two-at
+
+  -- "An edge is written smaller place first; edges are ordered by first place, then second"
+  pub union-ranked : Ranked (unionOf ps ms .edges .keys) (unionOf ps ms .edges .size)
+  unfolding unionOf startOf
+  union-ranked = record { upward = over; rising = after }
+    where
+      over : (i : ℕ) → i < length E → firstEnd (getD keys i 0) < secondEnd (getD keys i 0)
+      over i h =
+          let k = getD E i 0 in
+          let m = getD-in E i 0 h in
+          let s = rank-small (two g k) (two-at k m) in
+          let r = rises (one g k) (two g k) (one-at k m) (two-at k m) (upward k m) in
+          rw (key-is i h) (omega arith)
+
+      after : (i j : ℕ) → i < j → j < length E → getD keys i 0 < getD keys j 0
+      after i j e h =
+          let k = getD E i 0 in
+          let l = getD E j 0 in
+          let m = getD-in E i 0 (omega arith) in
+          let q = getD-in E j 0 h in
+          let s = rank-small (two g k) (two-at k m) in
+          rw (key-is i (omega arith), key-is j h)
+          (either
+          (λ b. let r = rises (one g k) (one g l) (one-at k m) (one-at l q) b in omega arith)
+          (λ b.
+          let r = rises (two g k) (two g l) (two-at k m) (two-at l q) (b .1) in
+          let z : rank (one g k) ≡ rank (one g l) = ap rank (b .0) in
+          omega arith)
+          (later k l m q (ltb-true k l (ascending-at ltb E union-ascending i j 0 e h))))
+
   -- it has no more metal than the kept paths
   pub union-metal : metalOf (unionOf ps ms) ≤ totalOf ps ms
   unfolding unionOf startOf
@@ -249,6 +337,11 @@ module _ {ps : List Place} {ms : List Macro} (a : Allowed ps ms) where
       omega (arith, e, number-total)
 
   -- a round may bring a point, and there are as many rounds as pins
+  -- its points are vertices
+  pub union-few : unionOf ps ms .count ≤ length (vertices ps ms)
+  unfolding unionOf startOf
+  union-few = few-points
+
   pub union-room : unionOf ps ms .count + length ps ≤ pointBound
   unfolding unionOf startOf
   union-room = omega (arith, few-points, few-vertices a, a .few-pins)
@@ -268,3 +361,6 @@ module _ {ps : List Place} {ms : List Macro} (a : Allowed ps ms) where
   -- so what is promised of a refined tree holds of the net's
   pub union-promise : Promise ms ps (unionOf ps ms) (refined ms ps (unionOf ps ms))
   union-promise = refined-promise ms ps (unionOf ps ms) union-sound union-room union-points union-keys
+
+  pub union-tabled : Tabled ps (unionOf ps ms) (refined ms ps (unionOf ps ms))
+  union-tabled = refined-tabled ms ps (unionOf ps ms) union-sound union-room union-points union-keys union-ranked

@@ -1,23 +1,23 @@
 -- The tables of an allowed net's terminal tree are what `union::start` asks for, what it makes of them is the net's union, and that is what
 -- `refined::refine` asks for.
 -- Assumes nothing.
-use mathlib.Core.Path.{_≡_, refl, sym, ap, ap₂, _∙_, subst}
-use mathlib.Core.List.{List, [], _∷_, map}
-use Prim.Native.Nat.{ℕ, suc, _+_, _≤_, _<_}
+use mathlib.Core.Path.{_≡_, refl, ap, _∙_}
+use mathlib.Core.List.{List}
+use Prim.Native.Nat.{ℕ, _+_, _≤_}
 use native.Mathlib.Omega.{arith}
 use lib.IntN.{ℤ}
-use lib.ListN.{length, getD}
-use Rattle.lists.specs.Member.{_∈_, here, there}
+use lib.ListN.{length}
+use Rattle.lists.specs.Member.{_∈_}
 use Rattle.plane.specs.declared.Place.{Place}
 use Rattle.plane.specs.declared.Macro.{Macro}
 use Rattle.plane.specs.Flat.{placeAt}
 use Rattle.net.specs.Allowed.{Allowed}
 use Rattle.graph.specs.Vertices.{vertices}
 use Rattle.graph.proofs.GraphBounds.{few-vertices}
-use Rattle.terminal.specs.Bounds.{pointBound, edgeBound}
-use Rattle.terminal.specs.Edges.{Graph, graph, entries, FirstBelow, Listed}
+use Rattle.terminal.specs.Bounds.{pointBound}
+use Rattle.terminal.specs.Edges.{Graph, graph, entries}
 use Rattle.terminal.specs.Labels.{Labels, labelled}
-use Rattle.terminal.specs.Parents.{Parents, parents, parented}
+use Rattle.terminal.specs.Parents.{Parents, parents}
 use Rattle.terminal.specs.Kept.{terminal}
 use Rattle.terminal.proofs.KeptLaws.{read-listed, entry-listed}
 use Rattle.terminal.proofs.Nearest.{fits}
@@ -30,7 +30,7 @@ use Rattle.numbered.specs.Tables.{Tables, Worked}
 use Rattle.numbered.proofs.SettingOf.{setting, paths-count}
 use Rattle.refined.specs.Table.{tree, Within, Tree as Table}
 use Rattle.refined.specs.Table as refined
-use Rattle.union.specs.Union.{unionEdges, unionPoints, startOf, unionOf}
+use Rattle.union.specs.Union.{unionPoints, startOf, unionOf}
 use Rattle.union.specs.Marks.{Startable}
 use Rattle.union.proofs.StartLaws.{map-agree}
 use Rattle.union.proofs.PlacedLaws.{place-at}

@@ -21,7 +21,7 @@ use Rattle.net.specs.WorkedNets.{Lists, onePin, aroundOne, threePins}
 use Rattle.graph.specs.Vertices.{cornersOf, corners, vertices}
 use Rattle.graph.specs.Pick.{within, nearer as nearerPlace, better as betterPick, pickFrom, pick}
 use Rattle.graph.specs.Edges.{edgeOf, beforeEdge, edgeOfPick, picksOf, allPicks, edges}
-use Rattle.terminal.specs.Edges.{from, filled}
+use Rattle.terminal.specs.Edges.{Graph, graph, from, filled}
 use Rattle.terminal.specs.Labels.{better, gains, offer, relaxEdge, moves, relax, changes, settled, starts, labelled}
 use Rattle.terminal.specs.Parents.{leads, nearer, through, parentAmong, parent, adopted, parented, wayOf, way}
 use Rattle.terminal.specs.Bridges.{oneRoot, path, pathLength, weights, earlier, bridgesFrom, bridges}
@@ -40,6 +40,22 @@ unfoldable pub union : Lists → List ℤ × List ℕ
 unfolding any put sorted firstThen position those total minZ maxZ over flat changed keptBy before apart distance spanMeets meets clear placesOf macrosOf cornersOf corners vertices within nearerPlace betterPick pickFrom pick edgeOf beforeEdge edgeOfPick picksOf allPicks edges from filled better gains offer relaxEdge moves relax changes settled starts labelled leads nearer through parentAmong parent adopted parented wayOf way oneRoot path pathLength weights earlier bridgesFrom bridges keptBridges keptLengths terminal numbered pinNumbers treeOf stands keptEdges unionEdges unionPoints startOf unionOf shown
 union net = shown (unionOf (placesOf (net .pins)) (macrosOf (net .macros)))
 
+-- A graph whose kept paths share an edge: the pins 0, 2 and 3 hang on the vertex 1, 1 away from pin 0 and 5 from the others. The tree's
+-- two paths both go over edge 0.
+star : Graph
+star = graph (0 ∷ 1 ∷ 1 ∷ []) (1 ∷ 2 ∷ 3 ∷ []) (1 ∷ 5 ∷ 5 ∷ []) 3
+
+-- its kept paths' edges one path after the other, those of the union, and its points
+unfoldable pub shared : List ℕ × List ℕ × List ℕ
+unfolding star any put sorted firstThen those total flat changed keptBy from filled better gains offer relaxEdge moves relax changes settled starts labelled leads nearer through parentAmong parent adopted parented wayOf way oneRoot path pathLength weights earlier bridgesFrom bridges keptBridges keptLengths terminal stands keptEdges unionEdges unionPoints
+shared =
+    let pins : List ℕ = 0 ∷ 2 ∷ 3 ∷ [] in
+    let t = terminal star 4 pins in (
+      keptEdges star (t .labels .fars) (t .parents) (t .bridges),
+      unionEdges star (t .labels .fars) (t .parents) (t .bridges),
+      unionPoints star (t .labels .fars) (t .parents) (t .bridges) 4 pins,
+    )
+
 pub record Table : Type 0 where
   -- "One pin (5, 5): no edges": its one point is the pin
   pub one-pin : union onePin ≡ (pos 5 ∷ pos 5 ∷ [], [])
@@ -48,11 +64,14 @@ pub record Table : Type 0 where
   pub around-one :
       union aroundOne
       ≡ (pos 0 ∷ pos 0 ∷ pos 4 ∷ negsuc 1 ∷ pos 6 ∷ negsuc 1 ∷ pos 10 ∷ pos 0 ∷ [], key 0 1 ∷ key 1 2 ∷ key 2 3 ∷ [])
+  -- "each edge once": edge 0 is on both kept paths
+  pub shared-edge : shared ≡ (0 ∷ 1 ∷ 0 ∷ 2 ∷ [], 0 ∷ 1 ∷ 2 ∷ [], 0 ∷ 1 ∷ 2 ∷ 3 ∷ [])
 
 pub worked : Table
-unfolding union
+unfolding union shared
 worked = record {
   one-pin = refl;
   three-pins = refl;
   around-one = refl;
+  shared-edge = refl;
 }

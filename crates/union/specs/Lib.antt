@@ -14,14 +14,16 @@
 --              unionOf ps ms                        that of a net
 --   Marks      marked l t, isMarked t k             a table with the numbers of a list marked, as the code makes it and reads it
 --              marks t n                            the marked ones of n numbers, in order
---              Ranked t n ranks                     a table of how many marked numbers come before each
+--              Ranking t n ranks                    a table of how many marked numbers come before each
 --              Startable                            what the code asks of the tables of a terminal tree
 --
--- THE THEOREMS
---   UnionTree   union-tree       the union is one tree over its points;  union-total: it is no longer than the kept paths
---   UnionSound  union-sound      the union of an allowed net is `Sound`, as the refiner wants it;  union-metal: its sum of edge lengths is at
---                                most the terminal total;  union-promise: so the refined tree of the net keeps `Promise`
---   WorkedStart worked-startable, worked-start    from the terminal tree's tables of a net the code makes its union;  refinable: which is
---                                what the refiner asks for
+-- THE THEOREMS, in the order of their proof.
+--   UnionTree    union-tree        the union is one tree over its points;  union-total: it is no longer than the kept paths
+--   UnionSound   union-sound       that of an allowed net is `Sound`, as the refiner wants it;  union-ranked: its edges are in order
+--                union-metal       its sum of edge lengths is at most the terminal total;  union-room: rounds find room for their points
+--                union-promise     so the refined tree of the net keeps `Promise`;  union-tabled: and `Tabled`
+--   UnionOrder   union-order       it is the same for every order of pins and macros
+--   WorkedStart  worked-startable  the tables of a net's terminal tree are what the code asks for;  worked-start: it makes the net's union
+--                refinable         which is what the refiner asks for
 pub mod Union
 pub mod Marks

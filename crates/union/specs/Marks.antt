@@ -25,7 +25,7 @@ unfoldable pub marks : List ℕ → ℕ → List ℕ
 marks t n = those (isMarked t) (from 0 n)
 
 -- the table `ranks` has, for each marked one of n numbers, how many marked ones come before it
-pub record Ranked (t : List ℕ) (n : ℕ) (ranks : List ℕ) : Type 0 where
+pub record Ranking (t : List ℕ) (n : ℕ) (ranks : List ℕ) : Type 0 where
   pub rank : (v : ℕ) → v < n → isMarked t v ≡ true → getD ranks v 0 ≡ length (marks t v)
 
 -- What the code asks of the tables of a terminal tree: vertices below n are the ends of edges, the pins and the kept bridges are numbers of

@@ -20,7 +20,7 @@ ghost use Rattle.refined.specs.Table.{tree, key};
 ghost use Rattle.refined.specs.Table as refined;
 ghost use Rattle.refined.specs.Exchange.{setPoint};
 ghost use Rattle.union.specs.Union.{bothEnds, keptEdges, startOf};
-ghost use Rattle.union.specs.Marks.{marked, marks, Ranked, Startable};
+ghost use Rattle.union.specs.Marks.{marked, marks, Ranking, Startable};
 
 // The bounds of the tables are the net's.
 pub const POINTS: usize = Net::POINTS;
@@ -178,7 +178,7 @@ fn put_points(
     ensures { λ r. ⌜ r ≡ length (marks (now (at .entry)) n) ⌝ }
     ensures { λ r. ⌜ now (pts .exit) ≡ over (flat placeNumbers (map (placeAt (now (vertices .entry))) (marks (now (at .entry)) n)))
         (now (pts .entry)) ⌝ }
-    ensures { λ r. ⌜ (Ranked (now (at .entry)) n (now (rank .exit))) × (Below pointBound (now (rank .exit))) ⌝ }
+    ensures { λ r. ⌜ (Ranking (now (at .entry)) n (now (rank .exit))) × (Below pointBound (now (rank .exit))) ⌝ }
 {
     let mut c = 0;
     let mut v = 0;

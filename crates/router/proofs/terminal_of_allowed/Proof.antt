@@ -5,7 +5,7 @@ use mathlib.Core.List.{List}
 use Prim.Native.Nat.{ℕ, suc, _*_, _≤_}
 use native.Mathlib.Omega.{arith}
 use lib.IntN.{ℤ, pos}
-use lib.ListN.{length, replicate}
+use lib.ListN.{length}
 use mir.Syntax.{w64}
 use mir.Val.{toZ}
 use mir.ValLaws.{toZ-pos}
@@ -18,12 +18,12 @@ use Rattle.plane.specs.declared.Place.{Place}
 use Rattle.plane.specs.Flat.{placesOf}
 use Rattle.plane.proofs.FlatLaws.{length-places}
 use Rattle.net.specs.Answer.{number}
-use Rattle.terminal.specs.Bounds.{pointBound, edgeBound, pinBound, unreached}
+use Rattle.net.specs.Check.{pinCount}
 use Rattle.numbered.specs.Tree.{pathNumbers}
-use Rattle.numbered.specs.Tables.{tables, Fresh}
 use Rattle.numbered.proofs.PathLaws.{total-small, paths-one-fewer, kept-fewer, worked-paths, worked-givable}
-use Rattle.router.specs.Terminal.{pathsOf, pathsTotal, toldTree}
-use Rattle.router.proofs.TerminalAnswer.{terminal-short, terminal-fits}
+use Rattle.router.specs.Terminal.{pathsOf, pathsTotal, terminalGiven, toldTree}
+use Rattle.router.proofs.AnswerLaws.{room-short, room-enough}
+use Rattle.router.proofs.FreshTables.{fresh}
 use borrow.Author.Needs.{needs}
 use Rattle.router.proofs.terminal_of_allowed.Statement.{statement}
 use Rattle.router.proofs.terminal_of_allowed.Tie as tie
@@ -32,29 +32,11 @@ mul-if1 : tie.Need-mul-if1
 mul-if1 c = search needs
 
 returns : tie.Need-returns
-unfolding toldTree number
+unfolding terminalGiven toldTree number
 returns c =
     let a = c .before .args in
-    let e = terminal-short (now (a .pins)) (now (a .macros)) (length (now (a .paths))) (c .if1 .taken) in
+    let e = room-short (pinCount (now (a .pins)) * 5) (length (now (a .paths))) _ (c .if1 .taken) in
     (sym e, after-refused _ (flat pathNumbers (pathsOf (now (a .pins)) (now (a .macros)))) (now (a .paths)) _ e)
-
--- the tables that are lent
-fresh : Fresh
-    (tables (replicate (pointBound * 2) (pos 0)) (replicate (edgeBound * 4) (pos 0)) (replicate edgeBound 0) (replicate edgeBound 0)
-    (replicate edgeBound 0) (replicate pinBound 0) (replicate pointBound unreached) (replicate pointBound 0)
-    (replicate pointBound pointBound) (replicate pointBound edgeBound) (replicate edgeBound 0) (replicate edgeBound 0))
-fresh = record {
-  points = refl;
-  links = refl;
-  ones = refl;
-  twos = refl;
-  spans = refl;
-  pins = refl;
-  no-label = refl;
-  no-parent = refl;
-  kept = refl;
-  longs = refl;
-}
 
 terminal-tree-requires : tie.Need-terminal-tree-requires
 terminal-tree-requires c κs = (c .before .before .before .before .before .before .before .before .before .before .before .before .before .pre, fresh)
@@ -78,14 +60,15 @@ same-length : tie.Need-same-length
 same-length c = search needs
 
 returns-2 : tie.Need-returns-2
-unfolding toldTree pathsTotal pathsOf
+unfolding terminalGiven toldTree pathsTotal pathsOf
 returns-2 c =
     let d = c .before .before .before .before .before .before .before in
     let s = d .before .before .before .before .before .before .before .before .before .before .before .before .before .before in
     let a = s .args in
     let w = d .terminal-tree .ensures in
     let paths = worked-paths (s .pre) fresh w in
-    let e = terminal-fits (now (a .pins)) (now (a .macros)) (length (now (a .paths))) (d .before .before .before .before .before .before .before .before .before .before .before .before .before .if1 .left) in
+    let e = room-enough {A = ℕ × ℤ} (pinCount (now (a .pins)) * 5) (length (now (a .paths)))
+    (length (pathsOf (now (a .pins)) (now (a .macros))), pos (pathsTotal (now (a .pins)) (now (a .macros)))) (d .before .before .before .before .before .before .before .before .before .before .before .before .before .if1 .left) in
     let many : d .terminal-tree .result .kept ≡ length (pathsOf (now (a .pins)) (now (a .macros))) = omega (arith, kept-fewer (s .pre) fresh w, paths-one-fewer (s .pre)) in
     let sum : toZ w64 (d .terminal-tree .result .total) ≡ pos (pathsTotal (now (a .pins)) (now (a .macros))) =
     toZ-pos w64 (d .terminal-tree .result .total) (omega (arith, w .total-is, total-small (s .pre))) ∙ ap pos (w .total-is) in (

@@ -12,8 +12,8 @@ use Rattle.lent.proofs.AfterLaws.{after-refused}
 use Rattle.net.specs.Check.{checked, told}
 use Rattle.net.proofs.AllowedLaws.{given-allowed}
 use Rattle.numbered.specs.Tree.{pathNumbers}
-use Rattle.router.specs.Terminal.{pathsOf, toldTree}
-use Rattle.router.proofs.TerminalAnswer.{terminal-refused, terminal-allowed}
+use Rattle.router.specs.Terminal.{pathsOf, terminalGiven, terminalTree, toldTree}
+use Rattle.router.proofs.AnswerLaws.{only-refused, only-given}
 use borrow.Author.Needs.{needs}
 use Rattle.router.proofs.terminal_tree.Statement.{statement}
 use Rattle.router.proofs.terminal_tree.Tie as tie
@@ -41,20 +41,23 @@ same-length : tie.Need-same-length
 same-length c = search needs
 
 returns : tie.Need-returns
+unfolding terminalTree
 returns c =
     let r = c .before in
     let a = r .before .before .before .before .before .args in
-    let e = sym (terminal-allowed (now (a .pins)) (now (a .macros)) (length (now (a .paths))) _ (allowed (r .before .before))) in (
+    let given-is = terminalGiven (now (a .pins)) (now (a .macros)) (length (now (a .paths))) in
+    let e = sym (only-given (checked (now (a .pins)) (now (a .macros))) given-is _ (allowed (r .before .before))) in (
       r .terminal-of-allowed .ensures .0 ∙ e,
       r .terminal-of-allowed .ensures .1 ∙ ap (λ (t : Told (ℕ × ℤ)). after t (flat pathNumbers (pathsOf (now (a .pins)) (now (a .macros)))) (now (a .paths))) e,
     )
 
 returns-2 : tie.Need-returns-2
-unfolding toldTree told
+unfolding terminalTree toldTree told
 returns-2 c =
     let s = c .before .before .before in
     let a = s .before .args in
-    let e = terminal-refused (now (a .pins)) (now (a .macros)) (length (now (a .paths))) _ (sym (s .check .ensures) ∙ ap told (c .before .answer .given .1)) in
+    let given-is = terminalGiven (now (a .pins)) (now (a .macros)) (length (now (a .paths))) in
+    let e = only-refused (checked (now (a .pins)) (now (a .macros))) given-is _ (sym (s .check .ensures) ∙ ap told (c .before .answer .given .1)) in
     (sym e, after-refused _ (flat pathNumbers (pathsOf (now (a .pins)) (now (a .macros)))) (now (a .paths)) _ e)
 
 pub terminal-tree-spec : {M : Type 1} → statement M

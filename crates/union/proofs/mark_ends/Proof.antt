@@ -76,8 +76,9 @@ loop-less-2 c = omega arith
 loop-again-2 : tie.Need-loop-again-2 Inv-loop μ-loop
 loop-again-2 c =
     let l = c .before .before .before in
+    let h = c .before .before .loop-test .taken in
     let a = l .before .args in
-    (omega arith, ends-miss (a .ea .now) (a .eb .now) (isMarked (a .on .now)) _ _ _ _ (l .loop .inv .1) (c .before .before .loop-test .taken) (le-ltb 0 _ (c .if1 .left)))
+    (omega arith, ends-miss (a .ea .now) (a .eb .now) (isMarked (a .on .now)) _ _ _ _ (l .loop .inv .1) h (le-ltb 0 _ (c .if1 .left)))
 
 returns : tie.Need-returns Inv-loop μ-loop
 returns c =

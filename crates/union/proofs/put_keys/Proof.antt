@@ -4,7 +4,8 @@
 use mathlib.Core.Path.{_≡_}
 use Prim.Native.Nat.{_≤_, _<_, _-_}
 use native.Mathlib.Omega.{arith}
-use lib.ListN.{getD}
+use lib.ListN.{length, getD}
+use denote.Ref.{now}
 use borrow.Author.Tests.{lt-ltb}
 use Rattle.refined.specs.Table.{key}
 use Rattle.union.proofs.MarkLaws.{marks-room, Keying, key-none, key-pass, key-more}
@@ -70,7 +71,8 @@ loop-less c = omega arith
 loop-again : tie.Need-loop-again Inv-loop μ-loop
 loop-again c =
     let l = c .before .before .before .before .before .before in
-    (omega arith, rw (c .key-of .ensures) (key-more _ _ _ _ _ _ (l .loop .inv .1) (c .before .before .before .if1 .taken) (omega (arith, room c, l .before .pre .1 .1))))
+    let r : l .loop .c < length (now (l .before .args .keys)) = omega (arith, room c, l .before .pre .1 .1) in
+    (omega arith, rw (c .key-of .ensures) (key-more _ _ _ _ _ _ (l .loop .inv .1) (c .before .before .before .if1 .taken) r))
 
 loop-less-2 : tie.Need-loop-less-2 Inv-loop μ-loop
 loop-less-2 c = omega arith

@@ -1,0 +1,78 @@
+-- `exports::calzundi_refined_tree` meets its contract: each arm passes on what the router's answer says, its count and its total.
+-- Assumes nothing.
+use mathlib.Core.Path.{_≡_, sym, ap, _∙_}
+use Prim.Native.Nat.{ℕ}
+use lib.IntN.{ℤ, pos}
+use denote.Ref.{now}
+use mir.Syntax.{w32, w64}
+use mir.ValLaws.{toZ-ofZ}
+use Rattle.lent.specs.Told.{Told, code}
+use Rattle.lent.specs.Over.{valueAfter}
+use Rattle.router.specs.Terminal.{toldTree}
+use borrow.Author.Needs.{needs}
+use Rattle.exports.proofs.calzundi_refined_tree.Statement.{statement}
+use Rattle.exports.proofs.calzundi_refined_tree.Tie as tie
+
+refined-tree-requires : tie.Need-refined-tree-requires
+refined-tree-requires c κs = search needs
+
+enum-known-answer : tie.Need-enum-known-answer
+enum-known-answer c = search needs
+
+enum-known-answer-2 : tie.Need-enum-known-answer-2
+enum-known-answer-2 c = search needs
+
+number-requires : tie.Need-number-requires
+number-requires c κs = search needs
+
+same-length : tie.Need-same-length
+same-length c = search needs
+
+returns : tie.Need-returns
+unfolding code valueAfter toldTree
+returns c =
+    let d = c .before .before .before .before in
+    let s = d .before .before in
+    let e = sym (ap toldTree (c .before .answer .given .1)) ∙ d .refined-tree .ensures .0 in (
+      ap (λ (t : Told (ℕ × ℤ)). pos (code t)) e,
+      (
+        d .refined-tree .ensures .1,
+        (
+          ap (λ (t : Told (ℕ × ℤ)). valueAfter (λ tree. tree .0) t (now (s .args .count))) e,
+          toZ-ofZ w64 _ (search needs) ∙ ap (λ (t : Told (ℕ × ℤ)). valueAfter (λ tree. tree .1) t (now (s .args .total))) e,
+        ),
+      ),
+    )
+
+same-length-2 : tie.Need-same-length-2
+same-length-2 c = search needs
+
+returns-2 : tie.Need-returns-2
+unfolding code valueAfter toldTree
+returns-2 c =
+    let a = c .before .before in
+    let d = a .before .before .before in
+    let s = d .before .before in
+    let e = sym (ap toldTree (a .answer2 .given .1)) ∙ d .refined-tree .ensures .0 in (
+      toZ-ofZ w32 _ (search needs) ∙ c .number .ensures ∙ ap (λ (t : Told (ℕ × ℤ)). pos (code t)) e,
+      (
+        d .refined-tree .ensures .1,
+        (
+          ap (λ (t : Told (ℕ × ℤ)). valueAfter (λ tree. tree .0) t (now (s .args .count))) e,
+          ap (λ (t : Told (ℕ × ℤ)). valueAfter (λ tree. tree .1) t (now (s .args .total))) e,
+        ),
+      ),
+    )
+
+pub calzundi-refined-tree-spec : {M : Type 1} → statement M
+calzundi-refined-tree-spec =
+    tie.close
+    (tie.spec
+    refined-tree-requires
+    enum-known-answer
+    enum-known-answer-2
+    number-requires
+    same-length
+    returns
+    same-length-2
+    returns-2)

@@ -1,0 +1,71 @@
+-- The refined tree and its wires: document 01, "Refined tree" and "Wires" among the operations.
+use mathlib.Core.List.{List}
+use Prim.Native.Nat.{ℕ, _+_, _*_}
+use lib.IntN.{ℤ, pos}
+use lib.ListN.{length}
+use Rattle.lent.specs.Told.{Told, refused, given, onlyIf}
+use Rattle.plane.specs.declared.Place.{Place}
+use Rattle.plane.specs.declared.Macro.{Macro}
+use Rattle.plane.specs.Distance.{distance}
+use Rattle.plane.specs.Flat.{placesOf, macrosOf}
+use Rattle.net.specs.Answer.{number}
+use Rattle.net.specs.Check.{pinCount, checked}
+use Rattle.joined.specs.Cost.{lengths}
+use Rattle.refined.specs.Table as table
+use Rattle.refined.specs.Refined.{refined}
+use Rattle.union.specs.Union.{unionOf}
+use Rattle.wires.specs.Edges.{treeEdges}
+use Rattle.wires.specs.Wires.{wires}
+use Rattle.router.specs.Room.{ifRoom}
+use Rattle.router.specs.Graph.{pointCount}
+use Rattle.router.specs.declared.Wired.{Wired}
+use Rattle.router.specs.declared.Wired.the-variants.{Given, Refused}
+
+-- The tree of a net
+
+-- "Start with the union of the kept paths", then rounds, then pruning
+unfoldable pub refinedOf : List Place → List Macro → table.Tree
+refinedOf ps ms = refined ms ps (unionOf ps ms)
+
+-- its edges, in order
+unfoldable pub edgesIn : List Place → List Macro → List (Place × Place)
+edgesIn ps ms = treeEdges (refinedOf ps ms)
+
+-- "Metal to lay is the sum of edge lengths"
+unfoldable pub metalIn : List Place → List Macro → ℕ
+metalIn ps ms = lengths distance (edgesIn ps ms)
+
+-- The operations
+
+-- "Edges in order, with their total."
+abbrev pub laidOf : List ℤ → List ℤ → List (Place × Place)
+laidOf pins macros = edgesIn (placesOf pins) (macrosOf macros)
+
+abbrev pub laidTotal : List ℤ → List ℤ → ℕ
+laidTotal pins macros = metalIn (placesOf pins) (macrosOf macros)
+
+-- "21: fewer than 4(n + m) numbers lent"
+unfoldable pub refinedGiven : List ℤ → List ℤ → ℕ → Told (ℕ × ℤ)
+refinedGiven pins macros room =
+    ifRoom ((pointCount pins macros + pinCount pins) * 4) room (length (laidOf pins macros), pos (laidTotal pins macros))
+
+-- "11 to 17, then 21"
+unfoldable pub refinedTree : List ℤ → List ℤ → ℕ → Told (ℕ × ℤ)
+refinedTree pins macros room = onlyIf (checked pins macros) (refinedGiven pins macros room)
+
+-- "The refined tree's edges, in order. Each edge gives a horizontal wire from its smaller place and then a vertical one"
+abbrev pub wiresOf : List ℤ → List ℤ → List (Place × Place)
+wiresOf pins macros = wires (laidOf pins macros)
+
+-- "21: fewer than 8(n + m) numbers lent"
+unfoldable pub wiresGiven : List ℤ → List ℤ → ℕ → Told ℕ
+wiresGiven pins macros room = ifRoom ((pointCount pins macros + pinCount pins) * 8) room (length (wiresOf pins macros))
+
+-- "11 to 17, then 21"
+unfoldable pub wired : List ℤ → List ℤ → ℕ → Told ℕ
+wired pins macros room = onlyIf (checked pins macros) (wiresGiven pins macros room)
+
+-- what the code's answer says
+unfoldable pub toldWires : Wired → Told ℕ
+toldWires (Given n) = given n
+toldWires (Refused f) = refused (number f)

@@ -1,0 +1,49 @@
+//! How much stack a call takes, as the header says it: the tables of the router are local, so a caller with small stacks wants to know.
+
+use std::thread;
+
+use harness::library;
+use harness::matching::routed;
+use reference::generate::{net, Kind};
+use reference::lists::Lists;
+
+/// "A call takes at most 512 KiB of stack."
+const STACK: usize = 512 * 1024;
+
+/// Every operation on a net, with the space that it asks for.
+fn call_all(Lists { pins, macros }: &Lists) {
+    let (m, n) = (pins.len() / 2, pins.len() / 2 + macros.len());
+    let mut numbers = vec![0; 16 * n];
+    library::check(pins, macros).unwrap();
+    library::graph(pins, macros, &mut vec![0; 2 * n], &mut numbers).unwrap();
+    library::terminal_tree(pins, macros, &mut vec![0; 5 * m]).unwrap();
+    library::refined_tree(pins, macros, &mut numbers).unwrap();
+    library::wires(pins, macros, &mut numbers).unwrap();
+    let mut bytes = vec![0; 3_072];
+    let given = library::write_file(pins, macros, &mut bytes).unwrap();
+    let (mut pins, mut macros) = (vec![0; 128], vec![0; 256]);
+    library::read_file(&bytes[..given], &mut pins, &mut macros).unwrap();
+}
+
+/// Pins at both ends of a row of 64 macros: ways of more than a hundred vertices.
+fn long_ways() -> Lists {
+    Lists {
+        pins: vec![0, 1, 400, 1],
+        macros: (0..64).flat_map(|i| [3 + 6 * i, 0, 6 + 6 * i, 2]).collect(),
+    }
+}
+
+/// A stack overflow would end the test, and with it the gate.
+#[test]
+fn half_a_mebibyte_is_enough() {
+    let nets = (0..300).map(|seed| routed(seed).lists);
+    let largest = [
+        net(Kind::Largest, 1),
+        net(Kind::LargestMaze, 1),
+        long_ways(),
+    ];
+    let nets: Vec<Lists> = nets.chain(largest).collect();
+    let run = move || nets.iter().for_each(call_all);
+    let small = thread::Builder::new().stack_size(STACK).spawn(run);
+    small.unwrap().join().unwrap();
+}
