@@ -91,7 +91,7 @@ pub fn routed(seed: u64) -> Case {
         .filter(|kind| !is_slow(kind))
         .collect();
     let kind = match Kind::ALL[number] {
-        kind if is_slow(&kind) && turn % 16 != 0 => quick[turn % quick.len()],
+        kind if is_slow(&kind) && !turn.is_multiple_of(16) => quick[turn % quick.len()],
         kind => kind,
     };
     Case {
@@ -113,7 +113,7 @@ pub fn refused(seed: u64) -> Case {
 
 /// Allowed nets and hostile lists by turns.
 pub fn any(seed: u64) -> Case {
-    if seed % 2 == 0 {
+    if seed.is_multiple_of(2) {
         allowed(seed / 2)
     } else {
         refused(seed / 2)
@@ -168,8 +168,10 @@ impl<T: Copy> Lent<T> {
     }
 }
 
-/// An operation on two lists with one lent space.
+/// An operation on two lists with one lent space, one with two, and the reading of a file.
 type OneSpace<T, A> = fn(&[i32], &[i32], &mut [T]) -> Result<A, u32>;
+type TwoSpaces = fn(&[i32], &[i32], &mut [i32], &mut [i32]) -> Result<(usize, usize), u32>;
+type Reading = fn(&[u8], &mut [i32], &mut [i32]) -> Result<(usize, usize), u32>;
 
 /// What a call answered and left in lent space, as text that can be compared and read.
 fn said<A: Debug, S: Debug>(answer: A, spaces: &[S]) -> String {
@@ -210,14 +212,13 @@ impl Case {
     /// "Graph."
     pub fn graph(&self) -> Matched {
         let Lists { pins, macros } = &self.lists;
-        let both =
-            |call: fn(&[i32], &[i32], &mut [i32], &mut [i32]) -> Result<(usize, usize), u32>| {
-                let random = &mut Random::new(self.seed);
-                let mut vertices = Lent::new(random, self.points() * 2, |bits| bits as i32);
-                let mut edges = Lent::new(random, self.points() * 16, |bits| bits as i32);
-                let answer = call(pins, macros, vertices.part(), edges.part());
-                said(answer, &[vertices.numbers, edges.numbers])
-            };
+        let both = |call: TwoSpaces| {
+            let random = &mut Random::new(self.seed);
+            let mut vertices = Lent::new(random, self.points() * 2, |bits| bits as i32);
+            let mut edges = Lent::new(random, self.points() * 16, |bits| bits as i32);
+            let answer = call(pins, macros, vertices.part(), edges.part());
+            said(answer, &[vertices.numbers, edges.numbers])
+        };
         self.same("graph", both(library::graph), both(operations::graph))
     }
 
@@ -289,7 +290,7 @@ impl Case {
     pub fn write_file(&self) -> Matched {
         let Lists { pins, macros } = &self.lists;
         let blocks = 1 + pins.len().div_ceil(120) + macros.len().div_ceil(120);
-        let both = |call: fn(&[i32], &[i32], &mut [u8]) -> Result<usize, u32>| {
+        let both = |call: OneSpace<u8, usize>| {
             let random = &mut Random::new(self.seed);
             let mut bytes = Lent::new(random, blocks * 512, |bits| bits as u8);
             let answer = call(pins, macros, bytes.part());
@@ -321,7 +322,7 @@ impl Case {
 impl File {
     /// "Read a net file."
     pub fn read_file(&self) -> Matched {
-        let both = |call: fn(&[u8], &mut [i32], &mut [i32]) -> Result<(usize, usize), u32>| {
+        let both = |call: Reading| {
             let random = &mut Random::new(self.seed);
             let mut pins = Lent::new(random, 128, |bits| bits as i32);
             let mut macros = Lent::new(random, 256, |bits| bits as i32);

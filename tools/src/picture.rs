@@ -82,7 +82,7 @@ impl Scene {
         let corners: Vec<Place> = corners.collect();
         let all: Vec<Place> = [&pins[..], &others, &corners].concat();
         let labelled = pins.iter().chain(&others).copied();
-        let widest = labelled.map(|p| label_width(p)).fold(0.0, f64::max);
+        let widest = labelled.map(label_width).fold(0.0, f64::max);
         let (mut frame, stretched) = frame(&all, pins.len() + others.len(), widest);
         let caption = caption(routed, stretched);
         let longest = caption.iter().map(|line| line.len()).max().unwrap_or(0) as f64;
