@@ -25,3 +25,4 @@ pub mod RankedLaws
 pub mod RoundSound
 pub mod RefinedSound
 pub mod RefinedOrder
+pub mod LeftLaws

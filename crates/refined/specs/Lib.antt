@@ -38,6 +38,7 @@
 --              Taken                       what is known of a candidate that a round takes
 --   Promise    metalOf, Promise            the sum of edge lengths; what is promised of a refined tree
 --              Tabled                      what is promised of its tables: edges in order
+--   Sentences  NoneLeft                    every point with an edge is a pin or has two
 --
 -- THE THEOREMS, in the order of their proof.
 --   CutLaws        cut-is              `cutOf` is the longest edge, the smallest on a tie, of the way to whichever end is met first
@@ -46,6 +47,7 @@
 --   RoundSound     rounds-kept         so do the rounds, each with at most one point more;  metal-of: the contract's sum is `metalOf`
 --   PruneSound     prune-whole         pruning keeps a tree with all pins;  pruned-over: it raises no sum
 --   RefinedSound   refined-promise     the refined tree of a sound tree keeps `Promise`;  refined-tabled: and `Tabled`, where the tree's edges are in order
+--   LeftLaws       none-loose          pruning ends with none left to go;  refined-left: `NoneLeft` of the refined tree
 pub mod Turns
 pub mod Table
 pub mod Longest
@@ -56,3 +58,4 @@ pub mod Refined
 pub mod Sum
 pub mod Places
 pub mod Promise
+pub mod Sentences
