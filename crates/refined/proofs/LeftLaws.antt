@@ -1,8 +1,8 @@
 -- "until none is left": after pruning no edge has a point that is no pin and has a single edge. A run of the pruning ends with no such edge
 -- or takes one away, and there are as many runs as edges. So a point of the tree that is no pin and has an edge has two.
 -- Assumes nothing.
-use mathlib.Core.Path.{_≡_, refl, sym, ap, _∙_, subst}
-use mathlib.Core.Bool.{Bool, true, false, _&&_, _||_}
+use mathlib.Core.Path.{_≡_, sym, ap, _∙_, subst}
+use mathlib.Core.Bool.{true, false}
 use mathlib.Core.Logic.{_⊎_, inl, inr}
 use mathlib.Core.List.{List}
 use Prim.Native.Nat.{ℕ, zero, suc, _+_, _*_, _≤_, _<_}
@@ -11,7 +11,6 @@ use lib.Dec.{ltb, eqb}
 use lib.IntN.{ℤ}
 use lib.ListN.{length, getD, replicate}
 use borrow.Author.Tests.{ltb-true, ltb-false, eqb-true, eqb-false, eq-eqb}
-use Rattle.lists.specs.Any.{any}
 use Rattle.lists.specs.Member.{_∈_}
 use Rattle.lists.proofs.TestLaws.{by, differ, either, and-both, or-none}
 use Rattle.lists.proofs.AnyLaws.{none-any}
@@ -21,14 +20,14 @@ use Rattle.plane.specs.Place.{samePlace}
 use Rattle.plane.specs.Flat.{placeAt}
 use Rattle.plane.proofs.PlaceLaws.{same-true}
 use Rattle.joined.proofs.OneTreeLaws.{tree-simple}
-use Rattle.refined.specs.Turns.{turns, seek}
-use Rattle.refined.specs.Table.{pointBound, firstEnd, secondEnd, Row, row, Tree, Within}
+use Rattle.refined.specs.Turns.{turns}
+use Rattle.refined.specs.Table.{pointBound, firstEnd, secondEnd, Tree, Within}
 use Rattle.refined.specs.Exchange.{closed}
 use Rattle.refined.specs.Prune.{markOf, mark, marks, countEnds, loose, looseEdge, firstLoose, prune}
 use Rattle.refined.specs.Refined.{rounds, pruned, refined}
 use Rattle.refined.specs.Sum.{below, over}
-use Rattle.refined.specs.Places.{endsOf, edgesOf, Sound}
-use Rattle.refined.specs.Sentences.{EndOf, NoneLeft}
+use Rattle.refined.specs.Places.{endsOf, Sound}
+use Rattle.refined.specs.Sentences.{NoneLeft}
 use Rattle.refined.proofs.SumLaws.{below-at, below-some, one, one-same, one-some, one-not}
 use Rattle.refined.proofs.OpenedLaws.{seek-before}
 use Rattle.refined.proofs.WithinLaws.{seek-le, pruned-within}

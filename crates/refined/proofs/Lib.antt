@@ -25,4 +25,6 @@ pub mod RankedLaws
 pub mod RoundSound
 pub mod RefinedSound
 pub mod RefinedOrder
+pub mod CutSound
+pub mod TakesLaws
 pub mod LeftLaws

@@ -38,7 +38,10 @@
 --              Taken                       what is known of a candidate that a round takes
 --   Promise    metalOf, Promise            the sum of edge lengths; what is promised of a refined tree
 --              Tabled                      what is promised of its tables: edges in order
---   Sentences  NoneLeft                    every point with an edge is a pin or has two
+--   Sentences  CandidateOf                 an edge and a point are a candidate
+--              LongestOn, CutAt            the longest edge on a way; L of an edge and a point
+--              Gains, Takes                a candidate with its L and its gain; the candidate that a round takes
+--              NoneLeft                    every point with an edge is a pin or has two
 --
 -- THE THEOREMS, in the order of their proof.
 --   CutLaws        cut-is              `cutOf` is the longest edge, the smallest on a tie, of the way to whichever end is met first
@@ -47,6 +50,9 @@
 --   RoundSound     rounds-kept         so do the rounds, each with at most one point more;  metal-of: the contract's sum is `metalOf`
 --   PruneSound     prune-whole         pruning keeps a tree with all pins;  pruned-over: it raises no sum
 --   RefinedSound   refined-promise     the refined tree of a sound tree keeps `Promise`;  refined-tabled: and `Tabled`, where the tree's edges are in order
+--   CutSound       cut-at              in a sound tree `cutOf` is `CutAt`;  cut-one: it alone is;  cut-another: it is another edge than (a, b)
+--                  offer-plain         so that test turns no candidate away
+--   TakesLaws      found-takes         in a sound tree `found` is the candidate that a round takes: `Takes`
 --   LeftLaws       none-loose          pruning ends with none left to go;  refined-left: `NoneLeft` of the refined tree
 pub mod Turns
 pub mod Table
