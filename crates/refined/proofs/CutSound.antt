@@ -26,7 +26,7 @@ use Rattle.refined.specs.Table.{pointBound, firstEnd, secondEnd, Tree, t
 use Rattle.refined.specs.Longest.{lengths, longest, cutOf}
 use Rattle.refined.specs.Candidate.{chosen, weighed, offer}
 use Rattle.refined.specs.Places.{endsOf, edgesOf, Sound}
-use Rattle.refined.specs.Sentences.{keyAt, endA, endB, longAt, EndOf, StepOf, LongestOn, CutAt}
+use Rattle.refined.specs.Sentences.{keyAt, endA, endB, longAt, EndOf, StepOf, LongestOn, CutAt, cutIn, Cuts}
 use Rattle.refined.proofs.WinsLaws.{Under}
 use Rattle.refined.proofs.ListingLaws.{listing-length, in-listing}
 use Rattle.refined.proofs.ExchangeSound.{same-place}
@@ -46,12 +46,6 @@ tree-size ms pins t sound =
     ap suc (sym (listing-length (λ j. endsOf (t .points) (getD (t .edges .keys) j 0)) (t .edges .size))) ∙ sound .whole .size
     ∙ listing-length (placeAt (t .points)) (t .count)
 
--- L as it is worked out
-abbrev pub workedCut : Tree → ℕ → ℕ → ℕ
-workedCut t k u =
-    let el = lengths (t .points) (t .edges .keys) (t .edges .size) in
-    cutOf el (longest (t .edges .keys) el (t .edges .size) (t .count)) (firstEnd (keyAt t k)) (secondEnd (keyAt t k)) u
-
 module _ (ms : List Macro) (pins : List Place) (pts : List ℤ) (n : ℕ) (ks : List ℕ) (e : ℕ) (sound : Sound ms pins (tree pts n ks (suc e)))
     (few : n ≤ pointBound) (k u : ℕ) (hk : k < suc e) (hu : u < n) (third : EndOf (tree pts n ks (suc e)) u k → ⊥) where
   sized : suc (suc e) ≡ n
@@ -65,7 +59,7 @@ module _ (ms : List Macro) (pins : List Place) (pts : List ℤ) (n : ℕ) (ks : 
       Is pts n ks e el (sound .ordered) few (omega (arith, sized)) (no-length pts ks (suc e) (omega (arith, sized))) (sound .within) (sound .whole) k u
       hk hu (λ q. third (inl q)) (λ q. third (inr q)) x
 
-  worked-is : Here (workedCut (tree pts n ks (suc e)) k u)
+  worked-is : Here (cutIn (tree pts n ks (suc e)) k u)
   unfolding longest
   worked-is =
       cut-is pts n ks e el (sound .ordered) few (omega (arith, sized)) (no-length pts ks (suc e) (omega (arith, sized))) (sound .within) (sound .whole)
@@ -92,17 +86,17 @@ module _ (ms : List Macro) (pins : List Place) (pts : List ℤ) (n : ℕ) (ks : 
       under : (j : ℕ) → StepOf (tree pts n ks (suc e)) (placeAt pts u) (way .free .points) j → Under el j x
       under j s = h .0 .best j (s .edge) (s .one) (s .other) (s .on) (s .ends)
 
-  cut-some : CutAt (tree pts n ks (suc e)) k u (workedCut (tree pts n ks (suc e)) k u)
-  cut-some = of-is (workedCut (tree pts n ks (suc e)) k u) worked-is
+  cut-some : CutAt (tree pts n ks (suc e)) k u (cutIn (tree pts n ks (suc e)) k u)
+  cut-some = of-is (cutIn (tree pts n ks (suc e)) k u) worked-is
 
 at-size : (ms : List Macro) (pins : List Place) (pts : List ℤ) (n : ℕ) (ks : List ℕ) (e : ℕ) → Sound ms pins (tree pts n ks e) → n ≤ pointBound →
-    (k u : ℕ) → k < e → u < n → (EndOf (tree pts n ks e) u k → ⊥) → CutAt (tree pts n ks e) k u (workedCut (tree pts n ks e) k u)
+    (k u : ℕ) → k < e → u < n → (EndOf (tree pts n ks e) u k → ⊥) → CutAt (tree pts n ks e) k u (cutIn (tree pts n ks e) k u)
 at-size ms pins pts n ks zero sound few k u hk hu third = absurd (let z : ⊥ = omega arith in z)
 at-size ms pins pts n ks (suc e) sound few k u hk hu third = cut-some ms pins pts n ks e sound few k u hk hu third
 
 module _ (ms : List Macro) (pins : List Place) (t : Tree) (sound : Sound ms pins t) (few : t .count ≤ pointBound) where
   -- the edge that is worked out is L
-  pub cut-at : (k u : ℕ) → k < t .edges .size → u < t .count → (EndOf t u k → ⊥) → CutAt t k u (workedCut t k u)
+  pub cut-at : (k u : ℕ) → k < t .edges .size → u < t .count → (EndOf t u k → ⊥) → CutAt t k u (cutIn t k u)
   cut-at k u hk hu third = at-size ms pins (t .points) (t .count) (t .edges .keys) (t .edges .size) sound few k u hk hu third
 
   -- no two edges are L
@@ -123,6 +117,12 @@ module _ (ms : List Macro) (pins : List Place) (t : Tree) (sound : Sound ms pins
       let s = c .longest .step in
       step-other (c .way) (s .on) (subst (λ (j : ℕ). Alike (s .one) (s .other) (endA t j) (endB t j)) q (s .ends))
 
+  pub tree-cut : Cuts t
+  tree-cut = record {
+    cut = cut-at;
+    another = λ k u hk hu third. cut-another k u (cutIn t k u) (cut-at k u hk hu third);
+  }
+
   -- so the test of it turns no candidate away: without it an offer is the same
   pub offer-plain : (k u : ℕ) (c : Best) → k < t .edges .size → u < t .count →
       let el = lengths (t .points) (t .edges .keys) (t .edges .size) in
@@ -130,10 +130,10 @@ module _ (ms : List Macro) (pins : List Place) (t : Tree) (sound : Sound ms pins
       let a = firstEnd (keyAt t k) in
       let b = secondEnd (keyAt t k) in
       offer (t .points) (t .count) ms el top a b k u c
-      ≡ chosen (eqb u a || eqb u b) c (weighed (t .points) (t .count) ms a b k u (workedCut t k u) (getD el (workedCut t k u) 0) c)
+      ≡ chosen (eqb u a || eqb u b) c (weighed (t .points) (t .count) ms a b k u (cutIn t k u) (getD el (cutIn t k u) 0) c)
   unfolding offer
   offer-plain k u c hk hu =
       by (eqb u (firstEnd (keyAt t k))) (λ p. rw p refl) λ p.
       by (eqb u (secondEnd (keyAt t k))) (λ q. rw (p, q) refl) λ q.
       let third : EndOf t u k → ⊥ = either (eqb-false _ _ p) (eqb-false _ _ q) in
-      rw (p, q, ne-eqb (workedCut t k u) k (cut-another k u (workedCut t k u) (cut-at k u hk hu third))) refl
+      rw (p, q, ne-eqb (cutIn t k u) k (cut-another k u (cutIn t k u) (cut-at k u hk hu third))) refl

@@ -27,4 +27,5 @@ pub mod RefinedSound
 pub mod RefinedOrder
 pub mod CutSound
 pub mod TakesLaws
+pub mod RoundsTake
 pub mod LeftLaws

@@ -26,10 +26,10 @@ use Rattle.refined.specs.Table.{pointBound, firstEnd, secondEnd, Tree, t
 use Rattle.refined.specs.Longest.{lengths, longest, cutOf}
 use Rattle.refined.specs.Candidate.{best, middleOf, sees, taken, dropped, allowed, weighed, offer, offers, search, found}
 use Rattle.refined.specs.Places.{Sound}
-use Rattle.refined.specs.Sentences.{keyAt, endA, endB, longAt, EndOf, middleAt, CutAt, Gains, Takes}
+use Rattle.refined.specs.Sentences.{keyAt, endA, endB, longAt, EndOf, middleAt, CutAt, cutIn, Gains, Takes}
 use Rattle.refined.proofs.OpenedLaws.{seek-before, seek-hit}
 use Rattle.refined.proofs.WinnerLaws.{Winner, found-wins, length-at}
-use Rattle.refined.proofs.CutSound.{tree-size, workedCut, cut-at, cut-one, cut-another}
+use Rattle.refined.proofs.CutSound.{tree-size, cut-at, cut-one, cut-another}
 
 -- The first of the greatest
 
@@ -199,7 +199,7 @@ module _ (ms : List Macro) (pins : List Place) (t : Tree) (sound : Sound ms pins
         notSecond = λ q. c .third (inr q);
         two = cut-another ms pins t sound few k u l (h .cut);
         cut =
-            cut-one ms pins t sound few k u l (workedCut t k u) (c .edge) (h .cut)
+            cut-one ms pins t sound few k u l (cutIn t k u) (c .edge) (h .cut)
             (cut-at ms pins t sound few k u (c .edge) (c .point) (c .third));
         seen = one-sees ms (endA t k) (endB t k) (placeAt (t .points) u) (c .seen);
         kept =

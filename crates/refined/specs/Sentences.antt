@@ -4,11 +4,12 @@ use mathlib.Core.Path.{_≡_}
 use mathlib.Core.Bool.{true}
 use mathlib.Core.Logic.{_⊎_}
 use mathlib.Core.List.{List}
-use Prim.Native.Nat.{ℕ, _+_, _≤_, _<_}
+use Prim.Native.Nat.{ℕ, suc, _+_, _≤_, _<_}
 use lib.ListN.{getD}
 use Rattle.lists.specs.Member.{_∈_}
 use Rattle.plane.specs.declared.Place.{Place}
 use Rattle.plane.specs.declared.Macro.{Macro}
+use Rattle.plane.specs.Place.{before}
 use Rattle.plane.specs.Distance.{distance}
 use Rattle.plane.specs.Macro.{clear}
 use Rattle.plane.specs.Flat.{placeAt}
@@ -16,7 +17,10 @@ use Rattle.joined.specs.Joined.{Alike}
 use Rattle.joined.specs.Exchange.{Toward, steps}
 use Rattle.refined.specs.declared.Best.{Best}
 use Rattle.refined.specs.Table.{firstEnd, secondEnd, Tree}
-use Rattle.refined.specs.Candidate.{middleOf}
+use Rattle.refined.specs.Longest.{lengths, longest, cutOf}
+use Rattle.refined.specs.Candidate.{middleOf, found}
+use Rattle.refined.specs.Exchange.{exchange}
+use Rattle.refined.specs.Refined.{rounds}
 use Rattle.refined.specs.Places.{endsOf, edgesOf, keyLength}
 
 -- the key of the edge k, and its ends a and b
@@ -70,6 +74,17 @@ pub record CutAt (t : Tree) (k u l : ℕ) : Type 0 where
   pub way : Toward (edgesOf (t .points) (t .edges .keys) (t .edges .size)) (placeAt (t .points) u) (endA t k) (endB t k)
   pub longest : LongestOn t (placeAt (t .points) u) (way .free .points) l
 
+-- L as it is worked out
+abbrev pub cutIn : Tree → ℕ → ℕ → ℕ
+cutIn t k u =
+    let el = lengths (t .points) (t .edges .keys) (t .edges .size) in
+    cutOf el (longest (t .edges .keys) el (t .edges .size) (t .count)) (firstEnd (keyAt t k)) (secondEnd (keyAt t k)) u
+
+-- it is L, and another edge than (a, b)
+pub record Cuts (t : Tree) : Type 0 where
+  pub cut : (k u : ℕ) → k < t .edges .size → u < t .count → (EndOf t u k → ⊥) → CutAt t k u (cutIn t k u)
+  pub another : (k u : ℕ) → k < t .edges .size → u < t .count → (EndOf t u k → ⊥) → cutIn t k u ≡ k → ⊥
+
 -- the candidate of the edge k and the point u has the edge l as its L and the gain g, above zero
 pub record Gains (ms : List Macro) (t : Tree) (k u l g : ℕ) : Type 0 where
   pub candidate : CandidateOf ms t k u
@@ -85,6 +100,28 @@ pub record Takes (ms : List Macro) (t : Tree) (c : Best) : Type 0 where
   pub smallest : (k u l g : ℕ) → Gains ms t k u l g → g ≡ c .gain → (c .edge ≤ k) × (k ≤ c .edge → c .point ≤ u)
   -- "the first one with no gain above zero is the last": with gain 0 there is none
   pub none : c .gain ≡ 0 → (k u l g : ℕ) → Gains ms t k u l g → ⊥
+
+-- the candidate that is found in a tree, and the tree with that candidate's exchange made
+abbrev pub foundIn : List Macro → Tree → Best
+foundIn ms t = found ms (t .points) (t .count) (t .edges .keys) (t .edges .size)
+
+abbrev pub exchanged : List Macro → Tree → Tree
+exchanged ms t = exchange (foundIn ms t) (t .points) (t .count) (t .edges .keys) (t .edges .size)
+
+-- the order of numbers is the order of edges, "by first place, then second", and of places: the smallest is that with the smallest number
+pub record Numbered (t : Tree) : Type 0 where
+  pub edges : (i j : ℕ) → i < j → j < t .edges .size →
+      (before (endA t i) (endA t j) ≡ true) ⊎ ((endA t i ≡ endA t j) × (before (endB t i) (endB t j) ≡ true))
+  pub places : (u v : ℕ) → u < v → v < t .count → before (placeAt (t .points) u) (placeAt (t .points) v) ≡ true
+
+-- m rounds from the tree t: the round after i rounds starts with their tree
+pub record RoundsTake (ms : List Macro) (t : Tree) (m : ℕ) : Type 0 where
+  pub cuts : (i : ℕ) → i < m → Cuts (rounds ms i t)
+  pub takes : (i : ℕ) → i < m → Takes ms (rounds ms i t) (foundIn ms (rounds ms i t))
+  pub numbered : (i : ℕ) → i < m → Numbered (rounds ms i t)
+  pub next : (i : ℕ) → i < m → 0 < foundIn ms (rounds ms i t) .gain → rounds ms (suc i) t ≡ exchanged ms (rounds ms i t)
+  -- "There are at most m rounds; the first one with no gain above zero is the last."
+  pub last : (i : ℕ) → i < m → foundIn ms (rounds ms i t) .gain ≡ 0 → rounds ms m t ≡ rounds ms i t
 
 -- "Then any point that is no pin and has a single edge goes, with that edge, until none is left.": a point with an edge that is no pin has
 -- another edge too
