@@ -25,3 +25,7 @@ pub mod RankedLaws
 pub mod RoundSound
 pub mod RefinedSound
 pub mod RefinedOrder
+pub mod CutSound
+pub mod TakesLaws
+pub mod RoundsTake
+pub mod LeftLaws

@@ -44,7 +44,7 @@ marks-low pins pts zero i t j h = refl
 marks-low pins pts (suc c) i t j h =
     marks-low pins pts c (suc i) _ j (omega arith) ∙ other t i j (markOf (any (samePlace (placeAt pts i)) pins)) (λ q. let z : ⊥ = omega arith in z)
 
-marks-at : (pins : List Place) (pts : List ℤ) (c i : ℕ) (t : List ℕ) (j : ℕ) → i + c ≤ length t → i ≤ j → j < i + c →
+pub marks-at : (pins : List Place) (pts : List ℤ) (c i : ℕ) (t : List ℕ) (j : ℕ) → i + c ≤ length t → i ≤ j → j < i + c →
     getD (turns (mark pins pts) i c t) j 0 ≡ markOf (any (samePlace (placeAt pts j)) pins)
 unfolding turns mark
 marks-at pins pts zero i t j b h l = absurd (let z : ⊥ = omega arith in z)
@@ -56,7 +56,7 @@ marks-at pins pts (suc c) i t j b h l =
     let e : j ≡ i = omega (arith, ltb-false i j q) in
     marks-low pins pts c (suc i) (set t i x) j (omega arith) ∙ rw e (here t i x (omega arith)))
 
-zeros-length : (m : ℕ) → length (replicate {A = ℕ} m 0) ≡ m
+pub zeros-length : (m : ℕ) → length (replicate {A = ℕ} m 0) ≡ m
 zeros-length zero = refl
 zeros-length (suc m) = ap suc (zeros-length m)
 

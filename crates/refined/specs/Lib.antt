@@ -38,6 +38,11 @@
 --              Taken                       what is known of a candidate that a round takes
 --   Promise    metalOf, Promise            the sum of edge lengths; what is promised of a refined tree
 --              Tabled                      what is promised of its tables: edges in order
+--   Sentences  CandidateOf                 an edge and a point are a candidate
+--              LongestOn, CutAt, Cuts      the longest edge on a way; L of an edge and a point; L is worked out as `CutAt` says
+--              Gains, Takes                a candidate with its L and its gain; the candidate that a round takes
+--              RoundsTake, Numbered        the same of every round; edges and points are numbered in their order
+--              NoneLeft                    every point with an edge is a pin or has two
 --
 -- THE THEOREMS, in the order of their proof.
 --   CutLaws        cut-is              `cutOf` is the longest edge, the smallest on a tie, of the way to whichever end is met first
@@ -46,6 +51,11 @@
 --   RoundSound     rounds-kept         so do the rounds, each with at most one point more;  metal-of: the contract's sum is `metalOf`
 --   PruneSound     prune-whole         pruning keeps a tree with all pins;  pruned-over: it raises no sum
 --   RefinedSound   refined-promise     the refined tree of a sound tree keeps `Promise`;  refined-tabled: and `Tabled`, where the tree's edges are in order
+--   CutSound       cut-at              in a sound tree `cutOf` is `CutAt`;  cut-one: it alone is;  cut-another: it is another edge than (a, b)
+--                  offer-plain         so that test turns no candidate away
+--   TakesLaws      found-takes         in a sound tree `found` is the candidate that a round takes: `Takes`
+--   RoundsTake     found-only          it alone is;  rounds-take: so it is in every round: `RoundsTake`
+--   LeftLaws       none-loose          pruning ends with none left to go;  refined-left: `NoneLeft` of the refined tree
 pub mod Turns
 pub mod Table
 pub mod Longest
@@ -56,3 +66,4 @@ pub mod Refined
 pub mod Sum
 pub mod Places
 pub mod Promise
+pub mod Sentences

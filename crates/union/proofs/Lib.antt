@@ -7,3 +7,4 @@ pub mod PlacedLaws
 pub mod UnionSound
 pub mod UnionOrder
 pub mod WorkedStart
+pub mod UnionSentences

@@ -22,6 +22,7 @@
 --   UnionSound   union-sound       that of an allowed net is `Sound`, as the refiner wants it;  union-ranked: its edges are in order
 --                union-metal       its sum of edge lengths is at most the terminal total;  union-room: rounds find room for their points
 --                union-promise     so the refined tree of the net keeps `Promise`;  union-tabled: and `Tabled`
+--   UnionSentences   union-takes   each round of the net takes the candidate that document 01 says;  union-left: pruning leaves none
 --   UnionOrder   union-order       it is the same for every order of pins and macros
 --   WorkedStart  worked-startable  the tables of a net's terminal tree are what the code asks for;  worked-start: it makes the net's union
 --                refinable         which is what the refiner asks for
