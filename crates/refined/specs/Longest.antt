@@ -4,7 +4,7 @@
 -- the way from v to a reached w is that edge and the way from p to w.
 use mathlib.Core.Bool.{Bool, true, false}
 use mathlib.Core.List.{List}
-use Prim.Native.Nat.{ℕ, _^_}
+use Prim.Native.Nat.{ℕ, _-_, _^_}
 use lib.Dec.{ltb, eqb}
 use lib.IntN.{ℤ}
 use lib.ListN.{getD, set, replicate}
@@ -44,7 +44,7 @@ shorter el k l = elim (wins el k l) [ true ↦ l | false ↦ k ]
 
 -- no edge: the last number, which no edge of a tree has; its length is 0
 abbrev pub noEdge : ℕ
-noEdge = 383
+noEdge = pointBound - 1
 
 -- v hangs on p by edge k: the longest edge on the way from v to w, and back
 unfoldable pub spread : List ℕ → ℕ → ℕ → ℕ → ℕ → List ℕ → List ℕ

@@ -56,7 +56,7 @@ pub const NUMBERS: usize = POINTS * 2;
 pub const PAIRS: usize = POINTS * POINTS;
 
 // The number that stands for no edge.
-const NONE: u16 = 383;
+const NONE: u16 = (POINTS - 1) as u16;
 
 // A candidate: its gain, the edge (a, b), the point u and the edge L, by their numbers. With gain 0 there is none.
 pub struct Best {
@@ -538,7 +538,7 @@ fn open(pts: &mut [i32; NUMBERS], n: usize, p: usize, s: Place)
 
 fn bump(p: usize, i: usize) -> usize
     requires { ⌜ i < pointBound ⌝ }
-    ensures { λ r. ⌜ (r ≡ bump p i) × (r < 385) ⌝ }
+    ensures { λ r. ⌜ (r ≡ bump p i) × (r ≤ pointBound) ⌝ }
 {
     if i < p {
         return i;
@@ -586,7 +586,7 @@ fn insert(keys: &mut [usize; POINTS], e: usize, key: usize)
 }
 
 fn lay(keys: &mut [usize; POINTS], e: usize, p: usize, a: usize) -> usize
-    requires { ⌜ (e < pointBound) × ((p < 385) × (a < 385)) ⌝ }
+    requires { ⌜ (e < pointBound) × ((p ≤ pointBound) × (a ≤ pointBound)) ⌝ }
     ensures { λ r. ⌜ (row (now (keys .exit)) r ≡ lay p a (row (now (keys .entry)) e)) × (r ≤ e + 1) ⌝ }
 {
     if p < a {
@@ -601,7 +601,7 @@ fn lay(keys: &mut [usize; POINTS], e: usize, p: usize, a: usize) -> usize
 }
 
 fn lay_three(keys: &mut [usize; POINTS], e: usize, p: usize, a: usize, b: usize, u: usize) -> usize
-    requires { ⌜ (e + 2 < pointBound) × (((p < 385) × (a < 385)) × ((b < 385) × (u < 385))) ⌝ }
+    requires { ⌜ (e + 2 < pointBound) × (((p ≤ pointBound) × (a ≤ pointBound)) × ((b ≤ pointBound) × (u ≤ pointBound))) ⌝ }
     ensures { λ r. ⌜ (row (now (keys .exit)) r ≡ lay3 p a b u (row (now (keys .entry)) e)) × (r ≤ e + 3) ⌝ }
 {
     let f = lay(&mut *keys, e, p, a);
