@@ -77,24 +77,24 @@ second-of x y h = omega arith
 module _ {pts : List ℤ} {n : ℕ} {ks : List ℕ} {e k l a b u p : ℕ} {s : Place} {m : ℕ → ℕ} {t : Tree}
     (after : After pts n ks e k l a b u p s m t) (w : Within n ks) (hk : k < suc (suc e)) (hl : l < suc (suc e)) (kl : k ≡ l → ⊥)
     (ha : a < n) (hb : b < n) (hu : u < n) where
-  abbrev T : List (Place × Place)
+  abbrev pub T : List (Place × Place)
   T = edgesOf pts ks (suc (suc e))
 
-  abbrev U : List (Place × Place)
+  abbrev pub U : List (Place × Place)
   U = edgesOf (t .points) (t .edges .keys) (t .edges .size)
 
-  abbrev moved : ℕ → ℕ
+  abbrev pub moved : ℕ → ℕ
   moved j = key (m (firstEnd j)) (m (secondEnd j))
 
   -- the ends of an edge under its new number
-  moved-ends : (j : ℕ) → In n j → endsOf (t .points) (moved j) ≡ endsOf pts j
+  pub moved-ends : (j : ℕ) → In n j → endsOf (t .points) (moved j) ≡ endsOf pts j
   moved-ends j i =
       ap₂ (λ (x y : Place). (x, y))
       (ap (placeAt (t .points)) (first-of (m (firstEnd j)) (m (secondEnd j)) (after .low _ (i .1))) ∙ after .old _ (i .0))
       (ap (placeAt (t .points)) (second-of (m (firstEnd j)) (m (secondEnd j)) (after .low _ (i .1))) ∙ after .old _ (i .1))
 
   -- an edge whose key has a part in the sums is there
-  there-is : (j : ℕ) (x y : Place) → 0 < over (one j) (t .edges .keys) (t .edges .size) → endsOf (t .points) j ≡ (x, y) → (x, y) ∈ U
+  pub there-is : (j : ℕ) (x y : Place) → 0 < over (one j) (t .edges .keys) (t .edges .size) → endsOf (t .points) j ≡ (x, y) → (x, y) ∈ U
   there-is j x y h f =
       let r = in-table j (t .edges .keys) (t .edges .size) h in
       Memᴰ·cast (sym f ∙ ap (endsOf (t .points)) (sym (r .1 .1))) (in-listing (λ i. endsOf (t .points) (getD (t .edges .keys) i 0)) (t .edges .size)
@@ -112,10 +112,10 @@ module _ {pts : List ℤ} {n : ℕ} {ks : List ℕ} {e k l a b u p : ℕ} {s : P
       let x = below-at (λ q. one (moved j) (moved (getD (dropTwo e k l ks) q 0))) e (r .0) (r .1 .0) in
       there-is (moved j) _ _ (omega (arith, after .sums (one (moved j)), v, x)) (moved-ends j (w .ends i))
 
-  abbrev Sorted : Place → Place → Type 0
+  abbrev pub Sorted : Place → Place → Type 0
   Sorted x y = ((x, y) ≡ endsOf pts (getD ks k 0)) ⊎ (((x, y) ≡ endsOf pts (getD ks l 0)) ⊎ ((x, y) ∈ U))
 
-  sorted : (x y : Place) → (x, y) ∈ T → Sorted x y
+  pub sorted : (x y : Place) → (x, y) ∈ T → Sorted x y
   sorted x y i = at (of-listing (λ j. endsOf pts (getD ks j 0)) (suc (suc e)) (x, y) i)
     where
       at : (j : ℕ) × ((j < suc (suc e)) × ((x, y) ≡ endsOf pts (getD ks j 0))) → Sorted x y
@@ -140,7 +140,7 @@ module _ {pts : List ℤ} {n : ℕ} {ks : List ℕ} {e k l a b u p : ℕ} {s : P
       (either (λ q. inr (inl (inr (ap (λ (z : Place × Place). z .1) q, ap (λ (z : Place × Place). z .0) q)))) (λ q. inr (inr (inr q))))
       (sorted y x i)
 
-  ends : (c d : ℕ) (x y : Place) → d < pointBound → placeAt (t .points) c ≡ x → placeAt (t .points) d ≡ y → endsOf (t .points) (key c d) ≡ (x, y)
+  pub ends : (c d : ℕ) (x y : Place) → d < pointBound → placeAt (t .points) c ≡ x → placeAt (t .points) d ≡ y → endsOf (t .points) (key c d) ≡ (x, y)
   ends c d x y h f g =
       ap₂ (λ (v z : Place). (v, z)) (ap (placeAt (t .points)) (first-of c d h) ∙ f) (ap (placeAt (t .points)) (second-of c d h) ∙ g)
 
@@ -174,12 +174,12 @@ module _ {pts : List ℤ} {n : ℕ} {ks : List ℕ} {e k l a b u p : ℕ} {s : P
   to-u = laid u hu (λ g. omega (arith, after .sums g))
 
   -- an edge of the key j is one from s, or was there
-  data Origin (j : ℕ) : Type 0 where
+  pub data Origin (j : ℕ) : Type 0 where
     from-s : (x : ℕ) → x < n → (x ≡ a) ⊎ ((x ≡ b) ⊎ (x ≡ u)) → endsOf (t .points) j ≡ (s, placeAt pts x) → Origin j
     to-s : (x : ℕ) → x < n → (x ≡ a) ⊎ ((x ≡ b) ⊎ (x ≡ u)) → endsOf (t .points) j ≡ (placeAt pts x, s) → Origin j
     was : (i : ℕ) → i < suc (suc e) → endsOf (t .points) j ≡ endsOf pts (getD ks i 0) → Origin j
 
-  from-part : (j x : ℕ) → x < n → (x ≡ a) ⊎ ((x ≡ b) ⊎ (x ≡ u)) → 0 < between (one j) p (m x) → Origin j
+  pub from-part : (j x : ℕ) → x < n → (x ≡ a) ⊎ ((x ≡ b) ⊎ (x ≡ u)) → 0 < between (one j) p (m x) → Origin j
   from-part j x h which some =
       either
       (λ q. from-s x h which (ap (endsOf (t .points)) (sym (one-some j (key p (m x)) q)) ∙ ends p (m x) s (placeAt pts x) (after .low x h)

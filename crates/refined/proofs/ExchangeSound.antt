@@ -326,3 +326,8 @@ module _ (ms : List Macro) (pins : List Place) (pts : List ℤ) (n : ℕ) (ks : 
       ≡ over (keyLength pts) ks (suc (suc e)) + distance s (placeAt pts u)
   unfolding laidAt
   laid-lengths = by (stands pts n p s) (λ t. rw (laidAt, t) (through-s (stood t))) (λ t. rw (laidAt, t) (through-s (put t)))
+
+  -- the tables after the exchange, whichever numbers moved on
+  pub laid-after : (m : ℕ → ℕ) × After pts n ks e k l a b u p s m result
+  unfolding laidAt
+  laid-after = by (stands pts n p s) (λ t. rw (laidAt, t) (λ i. i, stood t)) (λ t. rw (laidAt, t) (bump p, put t))

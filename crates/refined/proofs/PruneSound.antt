@@ -101,13 +101,13 @@ order-same pts n i j o h l e =
 -- One point goes
 
 module _ (pts : List ℤ) (n : ℕ) (o : InOrder pts n) (few : n ≤ pointBound) (ks : List ℕ) (w : Within n ks) (e i : ℕ) (hi : i ≤ e) where
-  abbrev T : List (Place × Place)
+  abbrev pub T : List (Place × Place)
   T = edgesOf pts ks (suc e)
 
-  abbrev U : List (Place × Place)
+  abbrev pub U : List (Place × Place)
   U = edgesOf pts (closed i e ks) e
 
-  kept : (x y : Place) → (x, y) ∈ T → ((x, y) ≡ endsOf pts (getD ks i 0)) ⊎ ((x, y) ∈ U)
+  pub kept : (x y : Place) → (x, y) ∈ T → ((x, y) ≡ endsOf pts (getD ks i 0)) ⊎ ((x, y) ∈ U)
   kept x y m = at (of-listing (λ j. endsOf pts (getD ks j 0)) (suc e) (x, y) m)
     where
       at : (j : ℕ) × ((j < suc e) × ((x, y) ≡ endsOf pts (getD ks j 0))) → ((x, y) ≡ endsOf pts (getD ks i 0)) ⊎ ((x, y) ∈ U)
@@ -160,7 +160,7 @@ module _ (pts : List ℤ) (n : ℕ) (o : InOrder pts n) (few : n ≤ pointBound)
       c,
     )
 
-    gone : (y : Place) → Link U (placeAt pts v) y → ⊥
+    pub gone : (y : Place) → Link U (placeAt pts v) y → ⊥
     gone y (inl m) =
         let r = of-listing (λ j. endsOf pts (getD (closed i e ks) j 0)) e (placeAt pts v, y) m in
         let g = within-closed n i e ks w .ends (r .0) in
@@ -190,7 +190,7 @@ pub record Whole (pts : List ℤ) (pins : List Place) (r : Row) : Type 0 where
   pub inside : Inside points (edgesOf pts (r .keys) (r .size))
   pub pinned : Among pins points
 
-skip-in : (k i n : ℕ) → i < n → skip k i < suc n
+pub skip-in : (k i n : ℕ) → i < n → skip k i < suc n
 unfolding skip
 skip-in k i n h = by (ltb i k) (λ t. rw (skip, t) (omega arith)) (λ t. rw (skip, t) (omega arith))
 
@@ -207,11 +207,11 @@ pruned-was pin (suc e) ks j h =
     let r = pruned-was pin e (closed i e ks) j (rw (prune, t) at h) in
     (skip i (r .0), (skip-in i (r .0) e (r .1 .0), rw (prune, t) (r .1 .1 ∙ closed-at i e ks (r .0) (r .1 .0)))))
 
-first-le : (pin ks : List ℕ) (e : ℕ) → firstLoose pin ks e ≤ e
+pub first-le : (pin ks : List ℕ) (e : ℕ) → firstLoose pin ks e ≤ e
 unfolding firstLoose
 first-le pin ks e = omega (arith, seek-le (looseEdge pin (turns (countEnds ks) 0 e (replicate pointBound 0)) ks) e 0)
 
-first-hit : (pin ks : List ℕ) (e : ℕ) → firstLoose pin ks e < e →
+pub first-hit : (pin ks : List ℕ) (e : ℕ) → firstLoose pin ks e < e →
     looseEdge pin (turns (countEnds ks) 0 e (replicate pointBound 0)) ks (firstLoose pin ks e) ≡ true
 unfolding firstLoose
 first-hit pin ks e h = seek-hit (looseEdge pin (turns (countEnds ks) 0 e (replicate pointBound 0)) ks) e 0 (omega arith)

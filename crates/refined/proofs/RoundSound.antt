@@ -108,10 +108,10 @@ module _ (ms : List Macro) (pins : List Place) (pts : List ℤ) (n : ℕ) (ks : 
 
 module _ (ms : List Macro) (pins : List Place) (pts : List ℤ) (n : ℕ) (ks : List ℕ) (few : n < pointBound) (room : length pts ≡ pointBound * 2)
     (rooms : length ks ≡ pointBound) where
-  abbrev Won : ℕ → Best → Type 0
+  abbrev pub Won : ℕ → Best → Type 0
   Won e c = Winner ms pts n ks e (lengths pts ks e) (longest ks (lengths pts ks e) e n) (c .gain) (c .edge) (c .point) (c .cut)
 
-  exchange-laid : (c : Best) (e : ℕ) → exchange c pts n ks (suc (suc e))
+  pub exchange-laid : (c : Best) (e : ℕ) → exchange c pts n ks (suc (suc e))
       ≡ laidAt pts n (dropTwo e (c .edge) (c .cut) ks) e (rank pts n (middleOf pts (firstEnd (getD ks (c .edge) 0)) (secondEnd (getD ks (c .edge) 0))
       (c .point)))
       (firstEnd (getD ks (c .edge) 0)) (secondEnd (getD ks (c .edge) 0)) (c .point)
@@ -119,7 +119,7 @@ module _ (ms : List Macro) (pins : List Place) (pts : List ℤ) (n : ℕ) (ks : 
   unfolding exchange
   exchange-laid c e = let z : suc (suc e) - 2 ≡ e = omega arith in rw z refl
 
-  round-kept : (c : Best) (e : ℕ) → Sound ms pins (tree pts n ks e) → Won e c → Kept ms pins (tree pts n ks e) (exchange c pts n ks e) 1
+  pub round-kept : (c : Best) (e : ℕ) → Sound ms pins (tree pts n ks e) → Won e c → Kept ms pins (tree pts n ks e) (exchange c pts n ks e) 1
   round-kept c zero sound win = absurd (let z : ⊥ = omega (arith, win .edge) in z)
   round-kept c (suc zero) sound win =
       let t = taken ms pins pts n ks 0 sound few (c .gain) (c .edge) (c .point) (c .cut) win in

@@ -74,12 +74,12 @@ module _ (ms : List Macro) where
   unfolding rounds
   one-some t q = rw (rounds, ne-eqb (foundIn ms t .gain) 0 q) refl
 
-  rounds-none : (i : ℕ) (t : Tree) → foundIn ms t .gain ≡ 0 → rounds ms i t ≡ t
+  pub rounds-none : (i : ℕ) (t : Tree) → foundIn ms t .gain ≡ 0 → rounds ms i t ≡ t
   unfolding rounds
   rounds-none zero t q = refl
   rounds-none (suc i) t q = rw (rounds, eq-eqb (foundIn ms t .gain) 0 q) refl
 
-  rounds-some : (i : ℕ) (t : Tree) → (foundIn ms t .gain ≡ 0 → ⊥) → rounds ms (suc i) t ≡ rounds ms i (exchanged ms t)
+  pub rounds-some : (i : ℕ) (t : Tree) → (foundIn ms t .gain ≡ 0 → ⊥) → rounds ms (suc i) t ≡ rounds ms i (exchanged ms t)
   unfolding rounds
   rounds-some i t q = rw (rounds, ne-eqb (foundIn ms t .gain) 0 q) refl
 

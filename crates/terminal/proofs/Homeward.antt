@@ -17,7 +17,8 @@ use Rattle.lists.specs.Total.{total}
 use Rattle.lists.proofs.TestLaws.{either}
 use Rattle.lists.proofs.MemberLaws.{is-in}
 use Rattle.joined.specs.Joined.{Link, Alike}
-use Rattle.joined.specs.Way.{Way, stop, go, long}
+use Rattle.joined.specs.Way.{Way, stop, go, long, On}
+use Rattle.joined.proofs.OtherLaws.{alike-sym}
 use Rattle.joined.proofs.WayLaws.{way-more}
 use Rattle.terminal.specs.declared.Step.{Step}
 use Rattle.terminal.specs.Bounds.{pointBound}
@@ -228,6 +229,8 @@ module _ {g : Graph} {n : ℕ} {d : ℕ → ℕ → ℕ} {pins : List ℕ} (s : 
     pub length-is : long d v ps ≡ far T v
     pub edges-are : total (map (len g) es) ≡ far T v
     pub falling : Falling v ps
+    -- each edge is a step
+    pub each : (k : ℕ) → k ∈ es → On (one g k) (two g k) v ps
     pub alike : (z : ℕ) → z ∈ (v ∷ ps) → root T z ≡ root T v
 
   at-pin : (v : ℕ) → v ∈ pins → Home v [] []
@@ -240,6 +243,7 @@ module _ {g : Graph} {n : ℕ} {d : ℕ → ℕ → ℕ} {pins : List ℕ} (s : 
         length-is = sym (l .0);
         edges-are = sym (l .0);
         falling = tt;
+        each = λ k i. elim i [ ];
         alike = λ z i. either (λ k. ap (root T) k) (λ j. elim j [ ]) (List·Memᴰ·cases-cons i);
       }
 
@@ -258,6 +262,10 @@ module _ {g : Graph} {n : ℕ} {d : ℕ → ℕ → ℕ} {pins : List ℕ} (s : 
         length-is = omega (arith, r .length-is, o .nearer);
         edges-are = omega (arith, r .edges-are, o .nearer);
         falling = (omega (arith, o .nearer), r .falling);
+        each =
+            λ k m.
+            either (λ q. inl (subst (λ (j : ℕ). Alike (one g j) (two g j) v (up P v)) (sym q) (alike-sym (p .ends-are)))) (λ q. inr (r .each k q))
+            (List·Memᴰ·cases-cons m);
         alike = λ z m. either (λ q. ap (root T) q) (λ q. r .alike z q ∙ o .same-root) (List·Memᴰ·cases-cons m);
       }
     where

@@ -26,7 +26,7 @@ use Rattle.joined.specs.Keep.{Offered, Dominated, kept}
 use Rattle.joined.specs.Path.{TerminalPath, endsOf, lengthOf}
 use Rattle.joined.specs.Chain.{Chain, Joining, OurWay}
 use Rattle.joined.proofs.JoinedLaws.{turn, one as one-link, then, back, between, firsts, seconds, more}
-use Rattle.joined.proofs.WayLaws.{joined-way, way-more, turned-way, turned-long, turned-on, turned-once, of-turned-way}
+use Rattle.joined.proofs.WayLaws.{joined-way, way-more, turned-way, turned-long, turned-on, turned-back, turned-once, of-turned-way}
 use Rattle.joined.proofs.LightLaws.{in-light, of-light}
 use Rattle.joined.proofs.TableLaws.{table-keeps}
 use Rattle.joined.proofs.ShortestLaws.{kept-tree}
@@ -70,6 +70,7 @@ module _ {g : Graph} {n : ℕ} {d : ℕ → ℕ → ℕ} {pins : List ℕ} (s : 
     pub points-are : path .points ≡ turned (one g k) (wayPoints s whole (one g k)) (two g k ∷ wayPoints s whole (two g k))
     -- it runs along the edges that make up its length
     pub along : Way (map (ends g) (pathEdges g (T .fars) P k)) (path .start) (path .points) (path .finish)
+    pub each : (j : ℕ) → j ∈ pathEdges g (T .fars) P k → On (one g j) (two g j) (path .start) (path .points)
     pub over-bridge : On (one g k) (two g k) (path .start) (path .points)
     pub length-is : lengthOf d path ≡ weight k
 
@@ -98,6 +99,7 @@ module _ {g : Graph} {n : ℕ} {d : ℕ → ℕ → ℕ} {pins : List ℕ} (s : 
     finish-is = refl;
     points-are = refl;
     along = run;
+    each = steps;
     over-bridge = turned-on (hu .along) (v ∷ wayPoints s whole v) u v (inl (inl (refl, refl)));
     length-is =
         omega (
@@ -148,6 +150,13 @@ module _ {g : Graph} {n : ℕ} {d : ℕ → ℕ → ℕ} {pins : List ℕ} (s : 
           (way-more (map-among (ends g) wu (pathEdges g (T .fars) P k) (λ j m. Memᴰ·append-left (k ∷ wv) m)) (hu .along))
           (go (inl bridge)
           (way-more (map-among (ends g) wv (pathEdges g (T .fars) P k) (λ j m. Memᴰ·append-right wu (there m))) (hv .along)))
+
+      steps : (j : ℕ) → j ∈ pathEdges g (T .fars) P k → On (one g j) (two g j) (root T u) (turned u (wayPoints s whole u) (v ∷ wayPoints s whole v))
+      steps j m =
+          either (λ i. turned-back (hu .along) (v ∷ wayPoints s whole v) (one g j) (two g j) (hu .each j i))
+          (λ i. turned-on (hu .along) (v ∷ wayPoints s whole v) (one g j) (two g j)
+          (either (λ q. inl (inl (ap (one g) q, ap (two g) q))) (λ r. inr (hv .each j r)) (List·Memᴰ·cases-cons i)))
+          (List·Memᴰ·append-cases wu m)
 
       ne : root T u ≡ root T v → ⊥
       ne = bridge-roots k e

@@ -364,3 +364,26 @@ module _ {ps : List Place} {ms : List Macro} (a : Allowed ps ms) where
 
   pub union-tabled : Tabled ps (unionOf ps ms) (refined ms ps (unionOf ps ms))
   union-tabled = refined-tabled ms ps (unionOf ps ms) union-sound union-room union-points union-keys union-ranked
+
+  -- its edges are those of the graph that stand in the union
+  abbrev pub unionList : List ℕ
+  unionList = unionEdges (graphOf ps ms) (treeOf ps ms .labels .fars) (treeOf ps ms .parents) (treeOf ps ms .bridges)
+
+  edge-is : (i : ℕ) → i < length E → endsOf points (getD keys i 0) ≡ edgeAt (spanning ps ms) (getD E i 0)
+  edge-is i h =
+      let c = edge-below (getD E i 0) (getD-in E i 0 h) in
+      ap₂ (λ (x y : Place). (x, y)) (first i h ∙ one-vertex a (getD E i 0) c) (second i h ∙ two-vertex a (getD E i 0) c)
+
+  pub union-edge : (e : Place × Place) → e ∈ edgesOf (unionOf ps ms .points) (unionOf ps ms .edges .keys) (unionOf ps ms .edges .size) →
+      (k : ℕ) × ((k ∈ unionList) × (e ≡ edgeAt (spanning ps ms) k))
+  unfolding unionOf startOf
+  union-edge e m =
+      let r = of-listing (λ j. endsOf points (getD keys j 0)) (length E) e m in
+      (getD E (r .0) 0, (getD-in E (r .0) 0 (r .1 .0), r .1 .1 ∙ edge-is (r .0) (r .1 .0)))
+
+  pub union-has : (k : ℕ) → k ∈ unionList → edgeAt (spanning ps ms) k ∈ edgesOf (unionOf ps ms .points) (unionOf ps ms .edges .keys) (unionOf ps ms .edges .size)
+  unfolding unionOf startOf
+  union-has k m =
+      let i = edge-of k m in
+      Memᴰ·cast (ap (edgeAt (spanning ps ms)) (sym (i .2)) ∙ sym (edge-is (i .0) (i .1)))
+      (in-listing (λ j. endsOf points (getD keys j 0)) (length E) (i .0) (i .1))
