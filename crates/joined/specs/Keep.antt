@@ -20,6 +20,15 @@ keep same ends (e ∷ L) =
 unfoldable pub kept : {A B : Type 0} → Discrete A → (B → A × A) → List B → List B
 kept same ends L = reverse (keep same ends (reverse L))
 
+-- The same as a relation, with nothing that computes: where `before` are kept already, of the items `offered`, one after another, `chosen`
+-- are kept. An item is kept exactly when its ends are not joined by those kept before it.
+pub data Keeping {A B : Type 0} (ends : B → A × A) : List B → List B → List B → Type 0 where
+  over : {before : List B} → Keeping ends before [] []
+  takes : {e : B} {before offered chosen : List B} → (Joined (map ends before) (ends e .0) (ends e .1) → ⊥) →
+      Keeping ends (e ∷ before) offered chosen → Keeping ends before (e ∷ offered) (e ∷ chosen)
+  leaves : {e : B} {before offered chosen : List B} → Joined (map ends before) (ends e .0) (ends e .1) →
+      Keeping ends before offered chosen → Keeping ends before (e ∷ offered) chosen
+
 module _ {A B : Type 0} (ends : B → A × A) (weight : B → ℕ) where
   -- what is asked of the items that are offered to join the points X: they join them, and the lighter comes first
   pub record Offered (X : List A) (L : List B) : Type 0 where

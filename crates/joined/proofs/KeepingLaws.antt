@@ -1,0 +1,51 @@
+-- Which items are kept, as a relation: it has one solution, the items that `kept` gives. The table of labels is followed from the front;
+-- by `keeps` each item is taken or left as the relation says.
+-- Assumes nothing.
+use mathlib.Core.Path.{_≡_, refl, sym, ap, _∙_, subst}
+use mathlib.Core.List.{List, [], _∷_, map, reverse, reverseAux}
+use Rattle.joined.specs.Joined.{Joined}
+use Rattle.joined.specs.Keep.{keep, kept, Keeping, over, takes, leaves}
+use Rattle.joined.proofs.KeepLaws.{Keeps, dropped, taken, keeps, keep-none}
+
+module _ {A B : Type 0} (ends : B → A × A) where
+  pub keeping-only : {before offered k l : List B} → Keeping ends before offered k → Keeping ends before offered l → k ≡ l
+  keeping-only over over = refl
+  keeping-only (takes {e = e} n r) (takes m s) = ap (λ (l : List B). e ∷ l) (keeping-only r s)
+  keeping-only (takes n r) (leaves j s) = absurd (n j)
+  keeping-only (leaves j r) (takes n s) = absurd (n j)
+  keeping-only (leaves j r) (leaves i s) = keeping-only r s
+
+  module _ (same : Discrete A) where
+    -- what is kept of L after P, and that the tables keep just that; P is read from its end
+    record After (P L : List B) : Type 0 where
+      chosen : List B
+      keeping : Keeping ends (keep same ends P) L chosen
+      is : keep same ends (reverseAux L P) ≡ reverseAux chosen (keep same ends P)
+
+    after : (L P : List B) → After P L
+    after [] P = record { chosen = []; keeping = over; is = refl }
+    after (e ∷ L) P = at (keeps same ends e P) (after L (e ∷ P))
+      where
+        at : Keeps same ends e P → After (e ∷ P) L → After P (e ∷ L)
+        at (dropped j r) a = record {
+          chosen = a .chosen;
+          keeping = leaves j (subst (λ (l : List B). Keeping ends l L (a .chosen)) r (a .keeping));
+          is = a .is ∙ ap (reverseAux (a .chosen)) r;
+        }
+        at (taken n r) a = record {
+          chosen = e ∷ a .chosen;
+          keeping = takes n (subst (λ (l : List B). Keeping ends l L (a .chosen)) r (a .keeping));
+          is = a .is ∙ ap (reverseAux (a .chosen)) r;
+        }
+
+    turned-back : (l m : List B) → reverse (reverseAux l m) ≡ reverseAux m l
+    turned-back [] m = refl
+    turned-back (x ∷ l) m = turned-back l (x ∷ m)
+
+    pub keeping-kept : (L : List B) → Keeping ends [] L (kept same ends L)
+    unfolding kept
+    keeping-kept L =
+        let a = after L [] in
+        let e : keep same ends (reverse L) ≡ reverse (a .chosen) = a .is ∙ ap (reverseAux (a .chosen)) (keep-none same ends) in
+        subst (Keeping ends [] L) (sym (ap reverse e ∙ turned-back (a .chosen) []))
+        (subst (λ (l : List B). Keeping ends l L (a .chosen)) (keep-none same ends) (a .keeping))

@@ -1,0 +1,5 @@
+pub mod Edges
+pub mod Spanning
+pub mod Terminal
+pub mod Refined
+pub mod Trees
