@@ -1,4 +1,4 @@
--- "This graph joins all its vertices for every allowed net." From a vertex with another one ahead of it some vertex ahead is clear, so it
+-- G7: the graph of every allowed net joins all its vertices. From a vertex with another one ahead of it some vertex ahead is clear, so it
 -- picks one ahead: edges lead on to a vertex that has none ahead, since at each of them fewer vertices are. There is one such vertex only.
 -- Assumes nothing.
 use mathlib.Core.Path.{_≡_, refl}
@@ -36,7 +36,7 @@ use Rattle.graph.proofs.PickLaws.{Fit, pick-at, pick-nothing}
 use Rattle.graph.proofs.EdgeLaws.{picked-link}
 use Rattle.graph.proofs.AheadLaws.{ClearAhead, clear-ahead, lowest}
 
--- "ahead" as a test
+-- being ahead, as a test
 later : Place → Place → Bool
 later u v = within First u v || within Fourth u v
 
@@ -127,7 +127,7 @@ module _ {ps : List Place} {ms : List Macro} (a : Allowed ps ms) where
           (λ h. absurd (t .none (s .last) (s .stands) (later-of _ _ h)))
           (ahead-total (s .last) (t .last) n)
 
-  -- "This graph joins all its vertices for every allowed net."
+  -- G7: the graph of every allowed net joins all its vertices
   pub connected : Joins (vertices ps ms) (edges ms (vertices ps ms))
   connected u v i k =
       let s = to-last u i in

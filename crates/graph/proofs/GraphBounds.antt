@@ -37,7 +37,7 @@ module _ {ps : List Place} {ms : List Macro} (a : Allowed ps ms) where
       let r = edge-of ms (vertices ps ms) (vertices-ascending ps ms) e m in
       distance-in-range (e .0) (e .1) (vertex-in-range _ (r .first)) (vertex-in-range _ (r .second))
 
-  -- "tables of up to 320 points and 1,280 edges"
+  -- N23: at most 320 points and 1,280 edges
   pub few-vertices : length (vertices ps ms) ≤ 320
   few-vertices = omega (arith, length-vertices ps ms, a .few-pins, a .few-macros)
 

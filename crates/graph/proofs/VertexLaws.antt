@@ -74,7 +74,7 @@ four m = omega arith
 -- Vertices
 
 module _ (ps : List Place) (ms : List Macro) where
-  -- "Vertices: all pins and all macro corners"
+  -- G1: pins and corners of macros, and nothing else
   pub pin-vertex : {p : Place} → p ∈ ps → p ∈ vertices ps ms
   unfolding vertices
   pin-vertex i = in-sorted before place-order (ps ++ corners ms) _ (Memᴰ·append-left (corners ms) i)
@@ -87,12 +87,12 @@ module _ (ps : List Place) (ms : List Macro) where
   unfolding vertices
   of-vertices i = either inl (λ k. inr (of-corners ms k)) (List·Memᴰ·append-cases ps (of-sorted before (ps ++ corners ms) _ i))
 
-  -- "equal places are one vertex", and they are in order
+  -- G1: equal places are one vertex, and they are in order
   pub vertices-ascending : Ascending before (vertices ps ms)
   unfolding vertices
   vertices-ascending = sorted-ascending before place-order (ps ++ corners ms)
 
-  -- "n = m + 4k"
+  -- N7: at most n of them
   pub length-vertices : length (vertices ps ms) ≤ length ps + 4 * length ms
   unfolding vertices
   length-vertices =

@@ -1,4 +1,4 @@
--- The graphs of document 01's worked nets, by computing the definitions.
+-- The graphs of the worked nets E1 to E6 and E8, by computing the definitions.
 -- Assumes nothing.
 use mathlib.Core.Path.{_≡_, refl}
 use mathlib.Core.List.{List, [], _∷_}
@@ -26,9 +26,9 @@ abbrev edge : ℤ → ℤ → ℤ → ℤ → Place × Place
 edge a b c d = (place a b, place c d)
 
 pub record Table : Type 0 where
-  -- "One pin (5, 5): no edges"
+  -- E1: one pin, no edge
   pub one-pin : graphOf onePin ≡ []
-  -- "eight graph edges"
+  -- E3: eight edges
   pub around-one :
       graphOf aroundOne
       ≡ edge (pos 0) (pos 0) (pos 4) (negsuc 1)

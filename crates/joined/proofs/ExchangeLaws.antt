@@ -173,7 +173,7 @@ module _ {A : Type 0} {T : List (A × A)} {a b u : A} (edge : Link T a b) (w : T
           left-inside : (c, d) ∈ left → (c ∈ (s ∷ X)) × (d ∈ (s ∷ X))
           left-inside i = let g = h c d (left-among (c, d) i) in (there (g .0), there (g .1))
 
-    -- "The gain is the length of L less the distance of s and u", where s lies between a and b
+    -- R9, R14: what is laid is shorter by the gain, where s lies between a and b
     pub exchange-lengths : (d : A → A → ℕ) → Cost d → d s a + d s b ≡ d a b → lengths d after + d p q ≡ lengths d T + d s u
     unfolding total
     exchange-lengths d c h =

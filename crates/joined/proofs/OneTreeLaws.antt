@@ -1,5 +1,5 @@
--- A tree by the count of its pairs is one tree in the document's words, and one tree in the document's words, whose edges are listed each
--- once, is a tree by the count. Forth by the only loop-free way; back because a pair that the others join would be a second way.
+-- A tree by the count of its pairs is one tree as R20 has it, and one tree as R20 has it, whose edges are listed each once, is a tree by
+-- the count. Forth by the only loop-free way; back because a pair that the others join would be a second way.
 -- Assumes nothing.
 use mathlib.Core.Path.{_≡_, refl, sym, ap, _∙_}
 use mathlib.Core.Logic.{inl, inr}

@@ -7,7 +7,7 @@ use Rattle.joined.specs.Joined.{Joined, Joins, Inside}
 use Rattle.joined.specs.Labels.{equal, labels}
 use Rattle.joined.specs.Light.{Rising, light}
 
--- "One is kept when its two roots are not yet joined by bridges kept before."
+-- T13: a bridge is kept where those kept before it do not join its two roots.
 -- Here the item at the head of the list is offered last, so that what is offered before it is the rest of the list.
 unfoldable pub keep : {A B : Type 0} → Discrete A → (B → A × A) → List B → List B
 keep same ends [] = []

@@ -15,7 +15,7 @@ use Rattle.net.specs.Bounds.{coordinateBound}
 use Rattle.net.specs.Check.{outOfRange}
 use Rattle.net.specs.Allowed.{PlaceInRange}
 
--- "Coordinates are signed whole numbers from −1,000,000 to 1,000,000"
+-- N4: a coordinate is at most 1,000,000 from 0
 pub record Near (z : ℤ) : Type 0 where
   pub above : up z ≤ 1000000
   pub below : down z ≤ 1000000

@@ -1,4 +1,4 @@
--- The check of document 01's worked nets marked ●, by computing the definition.
+-- The check of the worked nets E1 to E11, by computing the definition.
 -- Assumes nothing.
 use mathlib.Core.Path.{_≡_, refl}
 use Prim.Native.Nat.{ℕ}

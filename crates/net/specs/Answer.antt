@@ -1,4 +1,4 @@
--- Document 01's number of each refusal.
+-- The number of each refusal: rules C1 to C21.
 use Prim.Native.Nat.{ℕ}
 use Rattle.net.specs.declared.Refusal.{Refusal}
 use Rattle.net.specs.declared.Refusal.the-variants.{Blocks, Sums, Layout, PinList, MacroList, Range, Sides, SamePlace, Overlap, PinInside, Space}

@@ -45,7 +45,7 @@ impl Net {
     pub const TREE_POINTS: usize = 384;
 }
 
-// Why an operation refuses; `number` in specs/Answer.antt has document 01's number of each.
+// Why an operation refuses; `number` in specs/Answer.antt has the number of each (C1 to C21).
 pub enum Refusal {
     Blocks,
     Sums,

@@ -210,7 +210,7 @@ read-laid pins macros l =
 pub read-written : (pins macros : List ℤ) (net : ℕ × ℕ) → checked pins macros ≡ given net → ReadBack pins macros
 read-written pins macros net e = read-laid pins macros (allowed-in-six pins macros net e)
 
--- "The longest file is 6 blocks."
+-- F16: no file is longer than 6 blocks
 pub longest-file : (pins macros : List ℤ) (net : ℕ × ℕ) → checked pins macros ≡ given net → length (fileBytes pins macros) ≤ 6 * 512
 longest-file pins macros net e =
     omega (arith, length-file pins macros, allowed-in-six pins macros net e .blocks)

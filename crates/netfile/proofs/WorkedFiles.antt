@@ -31,7 +31,7 @@ abbrev onePinIn : ℕ → ℕ → ℕ → List ℕ
 onePinIn kind number count = block kind number count (5 ∷ (5 ∷ []))
 
 pub record Table : Type 0 where
-  -- "Pins (0, 0), (10, 0), macro 4, −2, 6, 3": the three blocks, and a read of them
+  -- the net of E3: the three blocks, and a read of them
   pub head : shown (words aroundOne) 0 ≡ 1 ∷ (0 ∷ (0 ∷ (0 ∷ (2 ∷ (1 ∷ (0 ∷ (0 ∷ (4 ∷ (491 ∷ [])))))))))
   pub pins : shown (words aroundOne) 1 ≡ 2 ∷ (1 ∷ (2 ∷ (0 ∷ (0 ∷ (0 ∷ (10 ∷ (0 ∷ (15 ∷ (1825 ∷ [])))))))))
   pub macros : shown (words aroundOne) 2 ≡ 3 ∷ (2 ∷ (1 ∷ (0 ∷ (4 ∷ (4294967294 ∷ (6 ∷ (3 ∷ (17 ∷ (2075 ∷ [])))))))))

@@ -165,7 +165,7 @@ module _ {ps : List Place} {ms : List Macro} (a : Allowed ps ms) where
   pub way-up : (i : ℕ) → i < length (vertices ps ms) → WayUp ps ms (vertexAt (vertices ps ms) i) (wayPlaces i)
   way-up i h = up-places i h (way-upward (setting a) (whole a) i h)
 
-  -- "A vertex's way to its root follows parents until the root"
+  -- T8: a way goes from parent to parent and ends at the root
   pub way-home : (v : Place) → v ∈ vertices ps ms → HomeWay ps ms v
   way-home v i = record {
     points = wayPlaces (numberOf vs v);

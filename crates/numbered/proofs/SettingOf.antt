@@ -133,7 +133,7 @@ module _ {ps : List Place} {ms : List Macro} (a : Allowed ps ms) where
         once = pins-once vs ps (vertices-ascending ps ms) pin-in;
       }
 
-  -- "The terminal tree is the m − 1 kept paths."
+  -- T14: m − 1 paths are kept
   pub paths-count : suc (length (treeOf ps ms .bridges)) ≡ length ps
   unfolding treeOf terminal
   paths-count = kept-count setting whole ∙ pins-count vs ps (a .pins-apart)

@@ -1,4 +1,4 @@
--- What the mission demands of the terminal tree (demand 3, its first sentences), said of places, pins and edges.
+-- What the mission demands of the terminal tree (D3b to D3d), said of places, pins and edges.
 --
 -- Terminal paths, chains, joinings and our way are those of `joined` (specs/Path.antt, specs/Chain.antt), put to the spanning graph and the
 -- pins of a net. A kept path is what is given for it, its bridge and its length (`pathsOf`); its ends are the roots of the bridge's ends.
@@ -31,7 +31,7 @@ module _ (ps : List Place) (ms : List Macro) where
   abbrev pub keptEnds : Kept → Place × Place
   keptEnds k = rootsOf ps ms (k .0)
 
-  -- A bridge b "stands for the path root, way, bridge, way, root": a terminal path of length l, "every edge of it counted".
+  -- T10: the path that a bridge b stands for, from root to root over both ways, is a terminal path; T4: its length l counts every edge.
   pub record Stands (b : Place × Place) (l : ℕ) : Type 0 where
     pub path : PathOf
     pub start-is : path .start ≡ rootOf ps ms (b .0)
@@ -47,25 +47,24 @@ module _ (ps : List Place) (ms : List Macro) where
     pub length-is : lengthOf distance path ≡ l
 
   pub record BestJoining : Type 0 where
-    -- "The terminal tree is the m − 1 kept paths."
+    -- T14: m − 1 paths are kept
     pub count : suc (length (pathsOf ps ms)) ≡ length ps
-    -- "for each kept path its own length, every edge of it counted, and for the total their sum"
+    -- T15, T16: each kept path has its own length, every edge counted, and the total is their sum
     pub stands : (k : Kept) → k ∈ pathsOf ps ms → Stands (k .0) (k .1)
     pub sum : totalOf ps ms ≡ total (map (λ k. k .1) (pathsOf ps ms))
-    -- "Our terminal paths are a joining": the kept bridges with their lengths, and the paths that they stand for
+    -- D3b: our paths are a joining, as the kept bridges with their lengths, and as the paths that they stand for
     pub joining : Joining keptEnds ps (pathsOf ps ms)
     pub ours : List PathOf
     pub ours-are : ours ≡ mapIn (pathsOf ps ms) (λ k m. stands k m .path)
     pub ours-ends : map endsOf ours ≡ map keptEnds (pathsOf ps ms)
     pub ours-lengths : map (lengthOf distance) ours ≡ map (λ k. k .1) (pathsOf ps ms)
     pub ours-joining : Joining endsOf ps ours
-    -- "Every joining has at least the length that we report, every path counted in full."
+    -- D3c: no joining is shorter than the total that we report, each path counted in full
     pub shortest : (J : List PathOf) → Joining endsOf ps J → totalOf ps ms ≤ total (map (lengthOf distance) J)
-    -- "Our way between two pins is the chain of kept paths with no path twice": there is one, and only one.
+    -- T20: our way, the chain of kept paths that repeats none: there is one, and only one
     pub way : (x y : Place) → x ∈ ps → y ∈ ps → (x ≡ y → ⊥) → (w : List Kept) × OurWay keptEnds (pathsOf ps ms) x y w
     pub only : {x y : Place} {v w : List Kept} →
         OurWay keptEnds (pathsOf ps ms) x y v → OurWay keptEnds (pathsOf ps ms) x y w → v ≡ w
-    -- "Between any two different pins, the longest path of every chain of terminal paths of that graph is at least as long as the longest on
-    -- our way."
+    -- D3d: no chain of terminal paths has a longest path that is shorter than the longest on our way
     pub lowest : {x y : Place} → (x ≡ y → ⊥) → {w : List Kept} → OurWay keptEnds (pathsOf ps ms) x y w →
         {cs : List PathOf} → Chain endsOf x cs y → most (map (λ k. k .1) w) ≤ most (map (lengthOf distance) cs)

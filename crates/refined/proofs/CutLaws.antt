@@ -1,5 +1,5 @@
--- "Let L be the longest edge (smallest on a tie) on the tree way from u to whichever of a and b it meets first": `cutOf` is that edge. The
--- way to the far end is the way to the near end and the edge, so its longest edge is at least as long, and the shorter of the two is L.
+-- R8: `cutOf` is L, the longest edge on the way from u to the nearer end of (a, b). The way to the far end is the way to the near end and
+-- the edge, so its longest edge is at least as long, and the shorter of the two is L.
 -- Assumes nothing.
 use mathlib.Core.Path.{_≡_, refl, sym, ap, ap₂, _∙_, subst}
 use mathlib.Core.Bool.{true, false}

@@ -1,6 +1,5 @@
--- "Let L be the longest edge (smallest on a tie) on the tree way from u to whichever of a and b it meets first": in a tree `cutOf` is that
--- edge, it alone is, and it is another edge than (a, b), since the way does not go on over that edge. So the test that L is another edge than
--- (a, b) turns no candidate away.
+-- R8: in a tree `cutOf` is L, the longest edge on the way from u to the nearer end of (a, b). It alone is, and it is another edge than
+-- (a, b), since the way does not go on over that edge. So the test that L is another edge than (a, b) turns no candidate away.
 -- Assumes nothing.
 use mathlib.Core.Path.{_≡_, refl, sym, ap, _∙_, subst}
 use mathlib.Core.Bool.{_||_}

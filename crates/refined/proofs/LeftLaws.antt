@@ -1,5 +1,5 @@
--- "until none is left": after pruning no edge has a point that is no pin and has a single edge. A run of the pruning ends with no such edge
--- or takes one away, and there are as many runs as edges. So a point of the tree that is no pin and has an edge has two.
+-- R16, its end: after pruning no edge has a point that is no pin and has a single edge. A run of the pruning ends with no such edge or
+-- takes one away, and there are as many runs as edges. So a point of the tree that is no pin and has an edge has two.
 -- Assumes nothing.
 use mathlib.Core.Path.{_≡_, sym, ap, _∙_, subst}
 use mathlib.Core.Bool.{true, false}
@@ -126,7 +126,7 @@ no-pin pins pts n few v h d =
     none : (x : Place) → x ∈ pins → samePlace (placeAt pts v) x ≡ false
     none x m = by (samePlace (placeAt pts v) x) (λ t. absurd (d (subst (λ (y : Place). y ∈ pins) (sym (same-true _ _ t)) m))) (λ t. t)
 
--- "until none is left", of a tree over its points
+-- R16, its end, of a tree over its points
 pub pruned-left : (ms : List Macro) (pins : List Place) (t : Tree) → Sound ms pins t → t .count ≤ pointBound → NoneLeft pins (pruned pins t)
 unfolding pruned
 pruned-left ms pins t sound few = record {

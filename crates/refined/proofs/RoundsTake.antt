@@ -1,5 +1,5 @@
 -- What a round takes, said of every round: each starts with the tree that those before it left, which is sound, with its edges in order. Only
--- one candidate makes the sentence true.
+-- one candidate makes R10 true.
 -- Assumes nothing.
 use mathlib.Core.Path.{_≡_, refl, sym, ap, _∙_, subst}
 use mathlib.Core.Bool.{true}

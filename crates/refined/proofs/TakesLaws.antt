@@ -1,6 +1,6 @@
--- "A round takes the candidate with the greatest gain above zero, then smallest (a, b), then smallest u." The search is followed from the
--- front: the sentence holds of the candidates that were offered so far, and the next one comes after all of those, so on a tie the best stays.
--- In a tree the candidates that the search weighs are those of the document.
+-- R10: a round takes the greatest gain above zero, of several the smallest edge, then the smallest point. The search is followed from the
+-- front: the rule holds of the candidates that were offered so far, and the next one comes after all of those, so on a tie the best stays.
+-- In a tree the candidates that the search weighs are those of R3.
 -- Assumes nothing.
 use mathlib.Core.Path.{_≡_, refl, sym, ap, _∙_, subst}
 use mathlib.Core.Bool.{true, false, not, _&&_, _||_}
@@ -132,9 +132,9 @@ module _ (ms : List Macro) (pts : List ℤ) (n : ℕ) (ks : List ℕ) (e : ℕ) 
     most = λ g k u l p win a b. absurd (let z : ⊥ = omega (arith, b (omega arith)) in z);
   })
 
--- The candidates of the document
+-- The candidates of R3
 
--- "s is the place of a tree point other than a, b and u"
+-- R6: a point other than a, b and u stands at s
 module _ (pts : List ℤ) (n a b u : ℕ) (s : Place) where
   abbrev Other : ℕ → Type 0
   Other i = ((i ≡ a → ⊥) × ((i ≡ b → ⊥) × (i ≡ u → ⊥))) × (s ≡ placeAt pts i)
@@ -169,7 +169,7 @@ module _ (pts : List ℤ) (n a b u : ℕ) (s : Place) where
   dropped-not t i h q =
       differ (taken-yes i q) (seek-before (taken pts a b u s) n 0 i (omega arith) (omega (arith, ltb-false (seek (taken pts a b u s) 0 n) n t)))
 
--- "clear of a or of b"
+-- R3: u is clear of a or of b
 sees-one : (ms : List Macro) (a b u : Place) → sees ms a b u ≡ true → (clear u a ms ≡ true) ⊎ (clear u b ms ≡ true)
 unfolding sees
 sees-one ms a b u t = by (clear u a ms) inl (λ f. inr (rw f at t))
@@ -242,7 +242,7 @@ module _ (ms : List Macro) (pins : List Place) (t : Tree) (sound : Sound ms pins
       .most g k u l (h .above) (gains-won k u l g h) (omega (arith, h .candidate .edge))
       (λ q. absurd (let z : ⊥ = omega (arith, h .candidate .edge) in z))
 
-  -- the sentence holds of the candidate that is found
+  -- R10 holds of the candidate that is found
   pub found-takes : Takes ms t here
   found-takes = record {
     taken =

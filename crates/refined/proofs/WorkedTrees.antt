@@ -53,9 +53,9 @@ abbrev at : ℕ → ℕ → Place
 at x y = place (pos x) (pos y)
 
 pub record Table : Type 0 where
-  -- "One pin (5, 5): no edges, totals 0 and 0."
+  -- E1: no edge, total 0
   pub one-pin : refinedOf [] (at 5 5 ∷ []) (at 5 5 ∷ []) [] ≡ ([], 0)
-  -- "Pins (0, 0), (4, 0), (2, 3): terminal 9, refined 7."
+  -- E4: total 7
   pub three-pins :
       refinedOf [] (at 0 0 ∷ at 4 0 ∷ at 2 3 ∷ []) (at 0 0 ∷ at 2 3 ∷ at 4 0 ∷ []) (key 0 1 ∷ key 0 2 ∷ [])
       ≡ ((at 0 0, at 2 0) ∷ (at 2 0, at 2 3) ∷ (at 2 0, at 4 0) ∷ [], 7)

@@ -1,4 +1,4 @@
--- The refined tree: document 01, "Refined tree".
+-- The refined tree: rules R1 to R22.
 --
 -- WHICH REPRESENTATION, AND WHY. The points of the tree are a table in the order of places, and a point is its number there. An edge is one
 -- number, the key of its ends, and the edges are a table in the order of keys, so an edge is its position. Then the order of numbers is the

@@ -41,8 +41,8 @@ edgesOf pts ks e = listing (λ i. endsOf pts (getD ks i 0)) e
 abbrev pub InOrder : List ℤ → ℕ → Type 0
 InOrder pts n = (i j : ℕ) → i < j → j < n → before (placeAt pts i) (placeAt pts j) ≡ true
 
--- "An edge is written smaller place first; edges are ordered by first place, then second": the numbers of points are in the order of places,
--- so keys have the smaller number first and rise, each edge once
+-- N16, the smaller place first and edges in order: the numbers of points are in the order of places, so keys have the smaller number first
+-- and rise, each edge once
 pub record Ranked (ks : List ℕ) (e : ℕ) : Type 0 where
   pub upward : (i : ℕ) → i < e → firstEnd (getD ks i 0) < secondEnd (getD ks i 0)
   pub rising : (i j : ℕ) → i < j → j < e → getD ks i 0 < getD ks j 0

@@ -1,5 +1,5 @@
--- "The same for every order of the lists": check, graph, terminal tree, refined tree and wires, their answers and all that they give, for
--- every permutation of the pins and of the macros.
+-- D2b, the same for every order of the lists: check, graph, terminal tree, refined tree and wires, their answers and all that they give,
+-- for every permutation of the pins and of the macros.
 -- Assumes nothing.
 use mathlib.Core.Path.{_≡_, refl, ap, ap₂, _∙_}
 use mathlib.Core.List.{List}

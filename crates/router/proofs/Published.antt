@@ -1,6 +1,6 @@
--- What the mission demands, of the published answers: each allowed net is joined, given the space that it names; what is given is what
--- document 01's sentences say of roots, parents, bridges, rounds and pruning; it is the best joining (demand 3, its first sentences), and a
--- refined tree that holds all pins, enters no interior and is no longer (its last).
+-- What the mission demands, of the published answers: each allowed net is joined, given the space that it names (D1b); what is given is
+-- what the rules say of roots, parents, bridges, rounds and pruning; it is the best joining (D3b to D3d), and a refined tree that holds all
+-- pins, enters no interior and is no longer (D3e to D3g).
 -- Assumes nothing.
 use mathlib.Core.Path.{_≡_, _∙_}
 use mathlib.Core.Bool.{false, _||_}
@@ -37,7 +37,7 @@ use Rattle.router.proofs.GraphSame.{published-joins}
 use Rattle.router.proofs.RefinedLaws.{refined-tree}
 
 pub record Joined (pins macros : List ℤ) : Type 0 where
-  -- "Each net that document 01 allows is joined", given the space that document 01 names
+  -- D1b: each allowed net is joined, given the space that the operation asks for
   pub graph : (v e : ℕ) → pointCount pins macros * 2 ≤ v → pointCount pins macros * 16 ≤ e
       → graphed pins macros v e ≡ given (length (verticesOf pins macros), length (edgesOf pins macros))
   pub terminal : (room : ℕ) → pinCount pins * 5 ≤ room → terminalTree pins macros room ≡ given (length (pathsOf pins macros), pos (pathsTotal pins macros))
@@ -46,12 +46,12 @@ pub record Joined (pins macros : List ℤ) : Type 0 where
   pub wires : (room : ℕ) → (pointCount pins macros + pinCount pins) * 8 ≤ room → wired pins macros room ≡ given (length (wiresOf pins macros))
   -- the graph joins all its vertices
   pub connected : Joins (verticesOf pins macros) (edgesOf pins macros)
-  -- the terminal tree in document 01's words: roots, parents, ways, and the bridges of which the paths are kept
+  -- the terminal tree by rules T6 to T14: roots, parents, ways, and the bridges of which the paths are kept
   pub roots : (v : Place) → v ∈ verticesOf pins macros → NearestRoot (placesOf pins) (macrosOf macros) v
   pub parents : (v : Place) → v ∈ verticesOf pins macros → (v ∈ placesOf pins → ⊥) → SmallestParent (placesOf pins) (macrosOf macros) v
   pub ways : (v : Place) → v ∈ verticesOf pins macros → HomeWay (placesOf pins) (macrosOf macros) v
   pub bridges : KeptBridges (placesOf pins) (macrosOf macros)
-  -- the refined tree in document 01's words: what each round takes, that the first without gain is the last, and that pruning leaves none
+  -- the refined tree by rules R10 to R16: what each round takes, that the first without gain is the last, and that pruning leaves none
   pub rounds : RoundsTake (macrosOf macros) (unionOf (placesOf pins) (macrosOf macros)) (length (placesOf pins))
   pub pruned : NoneLeft (placesOf pins) (refinedOf (placesOf pins) (macrosOf macros))
   -- mission demand 3

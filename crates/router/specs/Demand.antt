@@ -1,4 +1,4 @@
--- Mission demand 3, its last sentence, of the refined tree that is given; and what is promised of the wires.
+-- D3e to D3g, of the refined tree that is given; and what is promised of the wires.
 use mathlib.Core.Path.{_≡_}
 use mathlib.Core.Bool.{true}
 use mathlib.Core.Logic.{_⊎_}
@@ -21,12 +21,11 @@ use Rattle.wires.specs.Promise.{Horizontal, Vertical, EdgeWires}
 use Rattle.router.specs.Refined.{edgesIn, metalIn}
 
 pub record RefinedTree (ps : List Place) (ms : List Macro) : Type 0 where
-  -- "The refined tree holds all pins as one tree": "with the pins and the ends of its edges as points, exactly one loop-free way along its
-  -- edges leads from each point to each other one"
+  -- D3e, R20: all pins are held as one tree, one loop-free way from each point to each other one
   pub one : OneTree ps (edgesIn ps ms)
-  -- "It enters no macro's interior when the two ends of each edge are clear of each other"
+  -- D3f, R21: no interior is entered, as the ends of each edge are clear of each other
   pub clear-edges : (e : Place × Place) → e ∈ edgesIn ps ms → clear (e .0) (e .1) ms ≡ true
-  -- "An edge is written smaller place first; edges are ordered by first place, then second."
+  -- N16: each edge has its smaller place first, and edges are in order
   pub smaller-first : (e : Place × Place) → e ∈ edgesIn ps ms → before (e .0) (e .1) ≡ true
   pub in-order : Ascending beforeEdge (edgesIn ps ms)
   -- the total given is the sum over the edges given, and at most the total that the terminal tree's call gives

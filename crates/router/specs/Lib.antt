@@ -11,7 +11,7 @@
 --              laidOf, laidTotal, wiresOf           the edges, their total and the wires of two flat lists
 --              refinedTree, wired pins macros r     the answers of a refined tree and of wires into r lent numbers
 --              toldWires r                          what the code's answer says
---   Demand     RefinedTree ps ms                    mission demand 3, its last sentence, and what is promised of the wires
+--   Demand     RefinedTree ps ms                    D3e to D3g, and what is promised of the wires
 pub mod Graph
 pub mod Room
 pub mod Terminal

@@ -1,7 +1,7 @@
 // The published operations of the router, each a `pub fn`. Each takes any lists and any lent space and answers, with nothing asked of the
 // caller. A private function that goes on with an allowed net may ask for what the check has shown.
 //
-// A contract says the answer, in document 01's terms, as an equation with its definition, and what each lent list then holds.
+// A contract says the answer, as the rules have it, as an equation with its definition, and what each lent list then holds.
 use net::Checked;
 use net::Refusal;
 use netfile::Written;
@@ -94,7 +94,7 @@ fn graph_of_allowed(
 
 // Terminal tree: each kept path's bridge and length in the order kept, how many there are and their total, or 11 to 17, then 21 where
 // fewer than 5m numbers are lent. That these paths are a joining, that none is shorter, and that no chain has a lower longest path, is
-// `joined` in proofs/Published.antt; so is that roots, parents, ways, bridges and kept paths are document 01's.
+// `joined` in proofs/Published.antt; so is that roots, parents, ways, bridges and kept paths are those of rules T6 to T14.
 pub fn terminal_tree(pins: &[i32], macros: &[i32], paths: &mut [i64]) -> Tree
     ensures answer { λ r. ⌜ toldTree r ≡ terminalTree (now (pins .entry)) (now (macros .entry)) (length (now (paths .entry))) ⌝ }
     ensures paths { λ _. ⌜ now (paths .exit)
@@ -152,8 +152,8 @@ fn terminal_of_allowed(pins: &[i32], macros: &[i32], paths: &mut [i64]) -> Tree
 }
 
 // Refined tree: its edges in order, how many there are and their total, or 11 to 17, then 21 where fewer than 4(n + m) numbers are lent.
-// That they hold all pins as one tree, enter no interior and are no longer than the terminal tree is `joined` in proofs/Published.antt; so is
-// that each round takes what document 01 says, and that pruning leaves none.
+// That they hold all pins as one tree, enter no interior and are no longer than the terminal tree is `joined` in proofs/Published.antt; so
+// is that each round takes what R10 says, and that pruning leaves none.
 pub fn refined_tree(pins: &[i32], macros: &[i32], edges: &mut [i32]) -> Tree
     ensures answer { λ r. ⌜ toldTree r ≡ refinedTree (now (pins .entry)) (now (macros .entry)) (length (now (edges .entry))) ⌝ }
     ensures edges { λ _. ⌜ now (edges .exit)

@@ -1,7 +1,6 @@
--- "Its parent, where it is no pin, is the smallest neighbour with the same root through which a shortest way to that root runs. A vertex's
--- way to its root follows parents until the root." The next vertex of a shortest way has the same root and is nearer by the link, so the
--- scan finds a parent; along parents the distance falls, so a way is loop-free, has no pin but its last vertex, and is as long as the
--- distance.
+-- T7, T8: the parent is the smallest neighbour on a shortest way to the root, and the way goes from parent to parent. The next vertex of a
+-- shortest way has the same root and is nearer by the link, so the scan finds a parent; along parents the distance falls, so a way is
+-- loop-free, has no pin but its last vertex, and is as long as the distance.
 -- Assumes nothing.
 use mathlib.Core.Path.{_≡_, refl, sym, ap, ap₂, _∙_, subst}
 use mathlib.Core.Bool.{true, false}
@@ -168,7 +167,7 @@ module _ {g : Graph} {n : ℕ} {d : ℕ → ℕ → ℕ} {pins : List ℕ} (s : 
             ends-are = rw (a, b) (c .1 .0);
           }
 
-  -- "neighbour with the same root through which a shortest way to that root runs"
+  -- T7: w is a neighbour with the same root, and a shortest way to that root goes on from it
   pub record Through (v w : ℕ) : Type 0 where
     pub link : Link (pairs g) v w
     pub same-root : root T w ≡ root T v
@@ -190,7 +189,7 @@ module _ {g : Graph} {n : ℕ} {d : ℕ → ℕ → ℕ} {pins : List ℕ} (s : 
         shortest = omega (arith, r .long-is, o .nearer);
       }
 
-  -- the parent in document 01's words
+  -- T7: the parent is the smallest of these
   pub parent-through : (v : ℕ) → v < n → (v ∈ pins → ⊥) → Through v (up P v) × ((w : ℕ) → Through v w → up P v ≤ w)
   parent-through v h m =
       let p = parent-is v h m in
@@ -295,7 +294,7 @@ module _ {g : Graph} {n : ℕ} {d : ℕ → ℕ → ℕ} {pins : List ℕ} (s : 
           let u : up P v < pointBound = omega (arith, p .inside, s .vertices) in
           rw (climb-go P k v u, way-go P k v u) (one-up v _ _ p (up-home p))
 
-  -- "A vertex's way to its root follows parents until the root"
+  -- T8: a way goes from parent to parent and ends at the root
   pub data Upward : ℕ → List ℕ → Type 0 where
     arrived : {v : ℕ} → v ∈ pins → Upward v []
     onto : {v : ℕ} {ps : List ℕ} → (v ∈ pins → ⊥) → Upward (up P v) ps → Upward v (up P v ∷ ps)

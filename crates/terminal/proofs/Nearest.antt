@@ -1,6 +1,6 @@
--- "The root of a vertex is its nearest pin along the graph, the smallest on a tie": a label is the least length of a way to a pin, and the
--- smallest pin at that length. No way of at most k links is better than the label after k passes; a loop-free way has fewer links than there
--- are vertices; and every label below `unreached` is that of a way, since an edge is at least 1 long.
+-- T6: the root is the nearest pin along the graph. A label is the least length of a way to a pin, and the smallest pin at that length. No
+-- way of at most k links is better than the label after k passes; a loop-free way has fewer links than there are vertices; and every label
+-- below `unreached` is that of a way, since an edge is at least 1 long.
 -- Assumes nothing.
 use mathlib.Core.Path.{_≡_, refl, sym, ap, ap₂, _∙_, subst}
 use mathlib.Core.Logic.{inl, inr}
@@ -334,7 +334,7 @@ module _ {g : Graph} {n : ℕ} {d : ℕ → ℕ → ℕ} {pins : List ℕ} (s : 
         s .vertices,
       )
 
-  -- "The root of a vertex is its nearest pin along the graph, the smallest on a tie."
+  -- T6: the root is the nearest pin along the graph, of several the smallest
   pub record NearestPin (v f r : ℕ) : Type 0 where
     pub is-reached : Reached v f r
     pub nearest : (p : ℕ) (ps : List ℕ) → p ∈ pins → Way (pairs g) v ps p → f ≤ long d v ps

@@ -62,7 +62,7 @@ module _ {g : Graph} {n : ℕ} {d : ℕ → ℕ → ℕ} {pins : List ℕ} (s : 
   path-is k h =
       omega (arith, path-parts g (T .fars) P k, way-length s whole (one g k) (s .one-in k h), way-length s whole (two g k) (s .two-in k h))
 
-  -- "root, way, bridge, way, root"
+  -- T10: from root to root, over both ways and the bridge
   pub record Stands (k : ℕ) : Type 0 where
     pub path : TerminalPath (pairs g) pins
     pub start-is : path .start ≡ root T (one g k)
@@ -280,7 +280,7 @@ module _ {g : Graph} {n : ℕ} {d : ℕ → ℕ → ℕ} {pins : List ℕ} (s : 
   pub kept-stands : (k : ℕ) → k ∈ K → Stands k
   kept-stands k m = let r = of-kept g T P k m in stands k (r .0) (r .1)
 
-  -- "The terminal tree is the m − 1 kept paths."
+  -- T14: m − 1 paths are kept
   pub kept-count : suc (length K) ≡ length pins
   kept-count = rw kept-is (ours-count ℕ-discrete (rootsOf g T) weight offered)
 
@@ -292,7 +292,7 @@ module _ {g : Graph} {n : ℕ} {d : ℕ → ℕ → ℕ} {pins : List ℕ} (s : 
   pub kept-joining : Joining (rootsOf g T) pins K
   kept-joining = rw kept-is (ours-joining ℕ-discrete (rootsOf g T) weight offered)
 
-  -- "Our way between two pins is the chain of kept paths with no path twice": there is one, and only one
+  -- T20: our way, the chain of kept paths that repeats none: there is one, and only one
   pub way-between : (x y : ℕ) → x ∈ pins → y ∈ pins → (x ≡ y → ⊥) → (ks : List ℕ) × OurWay (rootsOf g T) K x y ks
   way-between x y i k e = rw kept-is (our-way ℕ-discrete (rootsOf g T) weight offered x y i k e)
 

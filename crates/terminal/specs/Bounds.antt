@@ -2,14 +2,14 @@
 use Prim.Native.Nat.{ℕ}
 use Rattle.net.specs.Bounds as net
 
--- "tables of up to 320 points and 1,280 edges are the router's own"
+-- N23: at most 320 points and 1,280 edges
 abbrev pub pointBound : ℕ
 pointBound = net.pointBound
 
 abbrev pub edgeBound : ℕ
 edgeBound = net.edgeBound
 
--- "There are 1 to 64 pins"
+-- N5: at most 64 pins
 abbrev pub pinBound : ℕ
 pinBound = net.pinBound
 

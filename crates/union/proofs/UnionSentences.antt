@@ -1,5 +1,5 @@
--- What document 01 says of the rounds and of pruning, of an allowed net's refined tree: each round takes the candidate with the greatest gain,
--- then the smallest edge, then the smallest point, and no point that is no pin is left with a single edge.
+-- R10 and R16 of an allowed net's refined tree: each round takes the candidate with the greatest gain, then the smallest edge, then the
+-- smallest point, and no point that is no pin is left with a single edge.
 -- Assumes nothing.
 use mathlib.Core.List.{List}
 use lib.ListN.{length}

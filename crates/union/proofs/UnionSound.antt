@@ -299,7 +299,7 @@ module _ {ps : List Place} {ms : List Macro} (a : Allowed ps ms) where
   unfolding rank
   rises = position-rises at g W E points-ascending room union-less one-at two-at
 
-  -- "An edge is written smaller place first; edges are ordered by first place, then second"
+  -- N16: the smaller place comes first, and edges are in order
   pub union-ranked : Ranked (unionOf ps ms .edges .keys) (unionOf ps ms .edges .size)
   unfolding unionOf startOf
   union-ranked = record { upward = over; rising = after }

@@ -1,4 +1,4 @@
--- The unions of the kept paths of document 01's worked nets, by computing the definitions.
+-- The unions of the kept paths of worked nets, by computing the definitions.
 -- Assumes nothing.
 use mathlib.Core.Path.{_≡_, refl}
 use mathlib.Core.List.{List, [], _∷_}
@@ -57,14 +57,14 @@ shared =
     )
 
 pub record Table : Type 0 where
-  -- "One pin (5, 5): no edges": its one point is the pin
+  -- E1: no edges; its one point is the pin
   pub one-pin : union onePin ≡ (pos 5 ∷ pos 5 ∷ [], [])
   pub three-pins : union threePins ≡ (pos 0 ∷ pos 0 ∷ pos 2 ∷ pos 3 ∷ pos 4 ∷ pos 0 ∷ [], key 0 1 ∷ key 0 2 ∷ [])
   -- along the bottom of the macro; the two corners at its top are no points
   pub around-one :
       union aroundOne
       ≡ (pos 0 ∷ pos 0 ∷ pos 4 ∷ negsuc 1 ∷ pos 6 ∷ negsuc 1 ∷ pos 10 ∷ pos 0 ∷ [], key 0 1 ∷ key 1 2 ∷ key 2 3 ∷ [])
-  -- "each edge once": edge 0 is on both kept paths
+  -- R1, each edge once: edge 0 is on both kept paths
   pub shared-edge : shared ≡ (0 ∷ 1 ∷ 0 ∷ 2 ∷ [], 0 ∷ 1 ∷ 2 ∷ [], 0 ∷ 1 ∷ 2 ∷ 3 ∷ [])
 
 pub worked : Table
