@@ -1,0 +1,4 @@
+-- Numbers, spans of one axis, and points
+pub mod ScaleLaws
+pub mod SpanLaws
+pub mod InteriorLaws

@@ -1,0 +1,14 @@
+-- The rules' interiors and boxes as sets of points, fractions included.
+--
+-- The product's tests (crates/plane, specs/Macro.antt) are inequalities between whole numbers. The rules speak of
+-- points. Here are the points; ../proofs/InteriorLaws.antt shows that each test passes exactly when there is a point of
+-- the kind that the rule names.
+--
+-- A point is two whole numbers over a common denominator. So no theory of fractions is needed: z < n / d is z · d < n.
+--
+--   Point, Same q r            a point with fractions; two ways to write one point
+--   pointOf p d                a place as a point over d
+--   Interior m q, Box a b q    q lies in the interior of m, and in the closed upright box of a and b
+--   Some d S, Common d S T     some point over d lies in S, and in both S and T
+--   Upright m                  left below right, and bottom below top
+pub mod Interior
