@@ -2,7 +2,9 @@
 -- by `keeps` each item is taken or left as the relation says.
 -- Assumes nothing.
 use mathlib.Core.Path.{_≡_, refl, sym, ap, _∙_, subst}
-use mathlib.Core.List.{List, [], _∷_, map, reverse, reverseAux}
+use mathlib.Core.List.{List, [], _∷_, map, reverse, reverseAux, List·Memᴰ·cases-cons}
+use Rattle.lists.specs.Member.{here, there, Among, Once}
+use Rattle.lists.proofs.TestLaws.{either}
 use Rattle.joined.specs.Joined.{Joined}
 use Rattle.joined.specs.Keep.{keep, kept, Keeping, over, takes, leaves}
 use Rattle.joined.proofs.KeepLaws.{Keeps, dropped, taken, keeps, keep-none}
@@ -14,6 +16,17 @@ module _ {A B : Type 0} (ends : B → A × A) where
   keeping-only (takes n r) (leaves j s) = absurd (n j)
   keeping-only (leaves j r) (takes n s) = absurd (n j)
   keeping-only (leaves j r) (leaves i s) = keeping-only r s
+
+  -- what is kept was offered, and nothing is kept twice that was offered once
+  pub keeping-among : {before offered chosen : List B} → Keeping ends before offered chosen → Among chosen offered
+  keeping-among over d m = m
+  keeping-among (takes n r) d m = either (λ e. here e) (λ i. there (keeping-among r d i)) (List·Memᴰ·cases-cons m)
+  keeping-among (leaves j r) d m = there (keeping-among r d m)
+
+  pub keeping-once : {before offered chosen : List B} → Keeping ends before offered chosen → Once offered → Once chosen
+  keeping-once over o = tt
+  keeping-once (takes n r) o = (λ m. o .0 (keeping-among r _ m), keeping-once r (o .1))
+  keeping-once (leaves j r) o = keeping-once r (o .1)
 
   module _ (same : Discrete A) where
     -- what is kept of L after P, and that the tables keep just that; P is read from its end

@@ -114,7 +114,7 @@ module _ (vs : List Place) (es : List (Place × Place)) where
 -- The pins by numbers
 
 -- pins at different places stand once each
-apart-once : (ps : List Place) → NoTwo samePlace ps → Once ps
+pub apart-once : (ps : List Place) → NoTwo samePlace ps → Once ps
 apart-once [] n = tt
 apart-once (p ∷ ps) n = (λ m. differ (same-refl p) (n .0 p m), apart-once ps (n .1))
 

@@ -1,6 +1,19 @@
+-- Interiors as points
+pub mod ScaleLaws
+pub mod SpanLaws
+pub mod InteriorLaws
+-- One solution
 pub mod EdgeLaws
 pub mod SpanningOnly
 pub mod TerminalOnly
 pub mod RoundOnly
 pub mod PrunesOnly
+-- Every order
 pub mod TreesOrder
+-- Ours
+pub mod SpanningOurs
+pub mod GainOurs
+pub mod RoundOurs
+pub mod PrunesOurs
+pub mod RefinesOurs
+pub mod RefinesTree

@@ -9,7 +9,7 @@ use Rattle.plane.specs.declared.Macro.{Macro}
 use Rattle.plane.specs.Place.{before}
 use Rattle.plane.proofs.PlaceOrder.{place-order}
 use Rattle.rules.specs.Edges.{Edge, edgeBefore}
-use Rattle.rules.specs.Spanning.{Joining, Spanning}
+use Rattle.rules.specs.Spanning.{Neighbours, Spanning}
 use Rattle.rules.proofs.EdgeLaws.{edge-order}
 
 module _ {ps : List Place} {ms : List Macro} {vs ws : List Place} {es fs : List Edge}
@@ -20,11 +20,11 @@ module _ {ps : List Place} {ms : List Macro} {vs ws : List Place} {es fs : List 
       (λ v i. t .vertices v .1 (s .vertices v .0 i)) (λ v i. s .vertices v .1 (t .vertices v .0 i))
 
   -- what one list of the vertices makes an edge, the other does
-  to : (u v : Place) → Joining ms vs u v → Joining ms ws u v
-  to u v = subst (λ (l : List Place). Joining ms vs u v → Joining ms l u v) vertices-one (λ j. j)
+  to : (u v : Place) → Neighbours ms vs u v → Neighbours ms ws u v
+  to u v = subst (λ (l : List Place). Neighbours ms vs u v → Neighbours ms l u v) vertices-one (λ j. j)
 
-  from : (u v : Place) → Joining ms ws u v → Joining ms vs u v
-  from u v = subst (λ (l : List Place). Joining ms l u v → Joining ms vs u v) vertices-one (λ j. j)
+  from : (u v : Place) → Neighbours ms ws u v → Neighbours ms vs u v
+  from u v = subst (λ (l : List Place). Neighbours ms l u v → Neighbours ms vs u v) vertices-one (λ j. j)
 
   pub edges-one : es ≡ fs
   edges-one =

@@ -13,7 +13,7 @@ use Rattle.plane.specs.declared.Macro.{Macro}
 use Rattle.plane.specs.Macro.{clear}
 use Rattle.joined.specs.OneTree.{Point}
 use Rattle.rules.specs.Edges.{Edge, Same}
-use Rattle.rules.specs.Spanning.{CornerOf, Vertex, Quadrant, May, Picks, Joining, Spanning}
+use Rattle.rules.specs.Spanning.{CornerOf, Vertex, Quadrant, May, Picks, Neighbours, Spanning}
 use Rattle.rules.specs.Terminal.{Path, Root, Through, Parent, Up, arrived, upward, Bridge, Terminal}
 use Rattle.rules.specs.Refined.{Gain, Round, Rounds, Loose, Strips, same, strip, Refines, Refined}
 use Rattle.rules.specs.Trees.{Trees}
@@ -56,8 +56,8 @@ module _ {ps qs : List Place} {ms ns : List Macro} {vs : List Place} (h : Alike 
     smallest = λ w x. p .smallest w (may-in (turned h) x);
   }
 
-  joining-in : {u v : Place} → Joining ms vs u v → Joining ns vs u v
-  joining-in j = record {
+  neighbours-in : {u v : Place} → Neighbours ms vs u v → Neighbours ns vs u v
+  neighbours-in j = record {
     smaller = j .smaller;
     one = j .one;
     other = j .other;
@@ -69,7 +69,7 @@ pub spanning-in : {ps qs : List Place} {ms ns : List Macro} {vs : List Place} {e
 spanning-in h s = record {
   vertices = λ v. (λ i. vertex-in h v (s .vertices v .0 i), λ x. s .vertices v .1 (vertex-in (turned h) v x));
   vertices-in-order = s .vertices-in-order;
-  edges = λ u v. (λ i. joining-in h (s .edges u v .0 i), λ x. s .edges u v .1 (joining-in (turned h) x));
+  edges = λ u v. (λ i. neighbours-in h (s .edges u v .0 i), λ x. s .edges u v .1 (neighbours-in (turned h) x));
   edges-in-order = s .edges-in-order;
 }
 

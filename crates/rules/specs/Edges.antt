@@ -23,7 +23,3 @@ edgeLength e = distance (e .0) (e .1)
 -- the same edges, in whatever order and however often
 abbrev pub Same : List Edge → List Edge → Type 0
 Same T U = Among T U × Among U T
-
--- one sentence exactly when another
-abbrev pub Exactly : Type 0 → Type 0 → Type 0
-Exactly A B = (A → B) × (B → A)

@@ -1,3 +1,4 @@
+pub mod Interior
 pub mod Edges
 pub mod Spanning
 pub mod Terminal

@@ -1,7 +1,7 @@
 -- The refined tree: from the union of the kept paths by rounds and pruning, in places and edges alone. A list of edges is read as a set.
 use mathlib.Core.Path.{_≡_}
 use mathlib.Core.Bool.{true, false}
-use mathlib.Core.Logic.{_⊎_}
+use mathlib.Core.Logic.{_⊎_, _↔_}
 use mathlib.Core.List.{List}
 use Prim.Native.Nat.{ℕ, zero, suc, _+_, _≤_, _<_}
 use lib.ListN.{length}
@@ -17,7 +17,7 @@ use Rattle.plane.specs.Place.{before}
 use Rattle.plane.specs.Distance.{distance}
 use Rattle.plane.specs.Middle.{middlePlace}
 use Rattle.plane.specs.Macro.{clear}
-use Rattle.rules.specs.Edges.{Edge, edgeBefore, edgeLength, Same, Exactly}
+use Rattle.rules.specs.Edges.{Edge, edgeBefore, edgeLength, Same}
 use Rattle.rules.specs.Terminal.{Path}
 
 -- The start
@@ -31,7 +31,7 @@ pub record OnSome (ks : List Path) (e : Edge) : Type 0 where
 
 -- T is the union of the paths
 abbrev pub Union : List Path → List Edge → Type 0
-Union ks T = (e : Edge) → Exactly (e ∈ T) (OnSome ks e)
+Union ks T = (e : Edge) → (e ∈ T) ↔ OnSome ks e
 
 -- Candidates. The points of a tree are the pins and the ends of its edges (`Point`).
 
@@ -97,7 +97,7 @@ pub record Round (ps : List Place) (ms : List Macro) (T U : List Edge) : Type 0 
   pub l : Edge
   pub g : ℕ
   pub takes : Takes ps ms T a b u l g
-  pub edges : (e : Edge) → Exactly (e ∈ U) (After T a b u l e)
+  pub edges : (e : Edge) → (e ∈ U) ↔ After T a b u l e
 
 -- no candidate has a gain above zero
 abbrev pub NoGain : List Place → List Macro → List Edge → Type 0
@@ -124,7 +124,7 @@ pub record Loose (ps : List Place) (T : List Edge) (v : Place) (e : Edge) : Type
 pub data Strips (ps : List Place) : List Edge → List Edge → Type 0 where
   same : {T U : List Edge} → Same T U → Strips ps T U
   strip : {T U R : List Edge} (v : Place) (e : Edge) → Loose ps T v e →
-      ((f : Edge) → Exactly (f ∈ U) ((f ∈ T) × (f ≡ e → ⊥))) → Strips ps U R → Strips ps T R
+      ((f : Edge) → (f ∈ U) ↔ ((f ∈ T) × (f ≡ e → ⊥))) → Strips ps U R → Strips ps T R
 
 -- until there is none
 pub record Prunes (ps : List Place) (T R : List Edge) : Type 0 where

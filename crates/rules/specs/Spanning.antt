@@ -1,7 +1,7 @@
 -- The spanning graph of a net: which vertices and which edges it has.
 use mathlib.Core.Path.{_≡_}
 use mathlib.Core.Bool.{true, false}
-use mathlib.Core.Logic.{_⊎_}
+use mathlib.Core.Logic.{_⊎_, _↔_}
 use mathlib.Core.List.{List}
 use Prim.Native.Nat.{_≤_}
 use lib.Signed.{ltZ, leZ}
@@ -12,7 +12,7 @@ use Rattle.plane.specs.declared.Macro.{Macro}
 use Rattle.plane.specs.Place.{before}
 use Rattle.plane.specs.Distance.{distance}
 use Rattle.plane.specs.Macro.{clear}
-use Rattle.rules.specs.Edges.{Edge, edgeBefore, Exactly}
+use Rattle.rules.specs.Edges.{Edge, edgeBefore}
 
 -- v is one of the four corners of m
 abbrev pub CornerOf : Macro → Place → Type 0
@@ -51,7 +51,7 @@ module _ (ms : List Macro) (vs : List Place) where
     pub smallest : (w : Place) → May quadrant u w → distance u w ≡ distance u v → before w v ≡ false
 
   -- u and v are joined by an edge, written smaller place first: one vertex picks the other
-  pub record Joining (u v : Place) : Type 0 where
+  pub record Neighbours (u v : Place) : Type 0 where
     pub smaller : before u v ≡ true
     pub one : u ∈ vs
     pub other : v ∈ vs
@@ -59,7 +59,7 @@ module _ (ms : List Macro) (vs : List Place) where
 
 -- vs are the vertices and es the edges of the net's graph, both in order, so each once
 pub record Spanning (ps : List Place) (ms : List Macro) (vs : List Place) (es : List Edge) : Type 0 where
-  pub vertices : (v : Place) → Exactly (v ∈ vs) (Vertex ps ms v)
+  pub vertices : (v : Place) → (v ∈ vs) ↔ Vertex ps ms v
   pub vertices-in-order : Ascending before vs
-  pub edges : (u v : Place) → Exactly ((u, v) ∈ es) (Joining ms vs u v)
+  pub edges : (u v : Place) → ((u, v) ∈ es) ↔ Neighbours ms vs u v
   pub edges-in-order : Ascending edgeBefore es
