@@ -1,5 +1,4 @@
 pub mod GraphAnswer
-pub mod GraphSame
 pub mod AnswerLaws
 pub mod FreshTables
 pub mod RefinedLaws

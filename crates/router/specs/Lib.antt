@@ -16,4 +16,5 @@ pub mod Graph
 pub mod Room
 pub mod Terminal
 pub mod Refined
-pub mod Demand
+pub mod Published
+pub mod EveryOrder

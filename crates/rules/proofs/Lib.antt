@@ -12,8 +12,14 @@ pub mod PrunesOnly
 pub mod TreesOrder
 -- Ours
 pub mod SpanningOurs
+pub mod MapInLaws
+pub mod TerminalOurs
+pub mod BestLaws
 pub mod GainOurs
 pub mod RoundOurs
 pub mod PrunesOurs
 pub mod RefinesOurs
 pub mod RefinesTree
+pub mod StartOurs
+pub mod RefinedOurs
+pub mod TreesOurs

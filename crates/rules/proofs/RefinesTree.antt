@@ -1,4 +1,5 @@
--- Each round of every solution starts with one tree, whose points are the pins and the ends of its edges.
+-- Each round of every solution starts with one tree, whose points are the pins and the ends of its edges: the tables hold the same edges, and
+-- they are sound.
 -- Assumes nothing.
 use mathlib.Core.Path.{_≡_}
 use mathlib.Core.Logic.{inl, inr}
@@ -22,7 +23,7 @@ use Rattle.refined.specs.Places.{pointsOf, Sound}
 use Rattle.refined.specs.Sentences.{foundIn, exchanged}
 use Rattle.refined.proofs.ListingLaws.{in-listing}
 use Rattle.rules.specs.Edges.{Edge, Same}
-use Rattle.rules.specs.Refined.{Rounds}
+use Rattle.rules.specs.Refined.{Rounds, TreesThrough}
 use Rattle.rules.proofs.EdgeLaws.{same-turn}
 use Rattle.rules.proofs.RoundOnly.{point-same, gain-same, round-only}
 use Rattle.rules.proofs.GainOurs.{edgesIn, edge-of}
@@ -47,14 +48,8 @@ sound-tree {ms} {ps} t s = tree-one place-same (s .whole) inside ps (s .pinned)
           Memᴰ·cast (seconds (r .1 .1)) (in-listing (placeAt (t .points)) (t .count) _ (s .within .ends (r .0) .1)),
         )
 
--- the edges before each round, and those at the end, are one tree
-abbrev pub Trees : (ps : List Place) (ms : List Macro) (m : ℕ) (T U : List Edge) → Rounds ps ms m T U → Type 0
-Trees ps ms zero T U r = OneTree ps T
-Trees ps ms (suc m) T U (inl r) = OneTree ps T
-Trees ps ms (suc m) T U (inr (X, (r, more))) = OneTree ps T × Trees ps ms m X U more
-
 pub rounds-trees : {ms : List Macro} {ps : List Place} (m : ℕ) (t : Tree) → Fit ms ps m t → (T U : List Edge) → Same (edgesIn t) T →
-    (r : Rounds ps ms m T U) → Trees ps ms m T U r
+    (r : Rounds ps ms m T U) → TreesThrough ps ms m T U r
 rounds-trees {ms} {ps} zero t fit T U h r = one-tree-same ps h (sound-tree t (fit .sound))
 rounds-trees {ms} {ps} (suc m) t fit T U h (inl r) = one-tree-same ps h (sound-tree t (fit .sound))
 rounds-trees {ms} {ps} (suc m) t fit T U h (inr (X, (r, more))) = (

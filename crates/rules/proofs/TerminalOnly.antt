@@ -26,7 +26,7 @@ path-same j k e s p f =
     ∙ ap₂ (λ (l : List Place) (y : Place). record { bridge = k .bridge; start = k .start; points = l; finish = y }) p f
 
 -- by length, then by bridge
-weight-order : Order (firstThen ltb edgeBefore)
+pub weight-order : Order (firstThen ltb edgeBefore)
 weight-order = pair-order ltb edgeBefore number-order edge-order
 
 module _ {G : List Edge} {ps : List Place} where

@@ -8,15 +8,15 @@ use Rattle.plane.specs.declared.Place.{Place}
 use Rattle.plane.specs.Place.{before}
 use Rattle.plane.specs.Distance.{distance}
 
--- an edge is a pair of places
+-- N16: an edge is a pair of places
 abbrev pub Edge : Type 0
 Edge = Place × Place
 
--- edges are in order by their first places, then by their second
+-- N16: edges are in order by their first places, then by their second
 abbrev pub edgeBefore : Edge → Edge → Bool
 edgeBefore = firstThen before before
 
--- an edge is as long as its ends are apart
+-- G6: an edge is as long as its ends are apart
 abbrev pub edgeLength : Edge → ℕ
 edgeLength e = distance (e .0) (e .1)
 

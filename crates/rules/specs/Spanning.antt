@@ -14,22 +14,22 @@ use Rattle.plane.specs.Distance.{distance}
 use Rattle.plane.specs.Macro.{clear}
 use Rattle.rules.specs.Edges.{Edge, edgeBefore}
 
--- v is one of the four corners of m
+-- N3: v is one of the four corners of m
 abbrev pub CornerOf : Macro → Place → Type 0
 CornerOf m v = ((v .x ≡ m .left) ⊎ (v .x ≡ m .right)) × ((v .y ≡ m .bottom) ⊎ (v .y ≡ m .top))
 
--- the vertices are the pins and the macros' corners
+-- G1: the vertices are the pins and the macros' corners
 abbrev pub Vertex : List Place → List Macro → Place → Type 0
 Vertex ps ms v = (v ∈ ps) ⊎ ((m : Macro) × ((m ∈ ms) × CornerOf m v))
 
--- the four quadrants of a vertex, from the upper right one to the left
+-- G2: the four quadrants of a vertex, from the upper right one round to the left
 pub data Quadrant : Type 0 where
   first : Quadrant
   second : Quadrant
   third : Quadrant
   fourth : Quadrant
 
--- v lies in this quadrant of u
+-- G2: v lies in this quadrant of u
 abbrev pub Lies : Quadrant → Place → Place → Type 0
 Lies first u v = (ltZ (u .x) (v .x) ≡ true) × (leZ (u .y) (v .y) ≡ true)
 Lies second u v = (leZ (v .x) (u .x) ≡ true) × (ltZ (u .y) (v .y) ≡ true)
@@ -37,27 +37,27 @@ Lies third u v = (ltZ (v .x) (u .x) ≡ true) × (leZ (v .y) (u .y) ≡ true)
 Lies fourth u v = (leZ (u .x) (v .x) ≡ true) × (ltZ (v .y) (u .y) ≡ true)
 
 module _ (ms : List Macro) (vs : List Place) where
-  -- u may pick v in the quadrant q: a vertex that lies there and is clear of u
+  -- G4: u may pick v in the quadrant q: a vertex that lies there and is clear of u
   pub record May (q : Quadrant) (u v : Place) : Type 0 where
     pub vertex : v ∈ vs
     pub lies : Lies q u v
     pub seen : clear u v ms ≡ true
 
-  -- u picks v: in some quadrant the nearest that it may, and of those the smallest place
+  -- G4: u picks v: in some quadrant the nearest that it may, and of those the smallest place
   pub record Picks (u v : Place) : Type 0 where
     pub quadrant : Quadrant
     pub may : May quadrant u v
     pub nearest : (w : Place) → May quadrant u w → distance u v ≤ distance u w
     pub smallest : (w : Place) → May quadrant u w → distance u w ≡ distance u v → before w v ≡ false
 
-  -- u and v are joined by an edge, written smaller place first: one vertex picks the other
+  -- G5: u and v are joined by an edge, written smaller place first (N16): one vertex picks the other
   pub record Neighbours (u v : Place) : Type 0 where
     pub smaller : before u v ≡ true
     pub one : u ∈ vs
     pub other : v ∈ vs
     pub picked : Picks u v ⊎ Picks v u
 
--- vs are the vertices and es the edges of the net's graph, both in order, so each once
+-- G1, G5: vs are the vertices and es the edges of the net's graph, both in order, so each once
 pub record Spanning (ps : List Place) (ms : List Macro) (vs : List Place) (es : List Edge) : Type 0 where
   pub vertices : (v : Place) → (v ∈ vs) ↔ Vertex ps ms v
   pub vertices-in-order : Ascending before vs

@@ -1,4 +1,5 @@
 -- The terminal tree of a net: roots, parents, ways, bridges and kept paths, over the edges G of a graph and the pins ps.
+-- That the paths are terminal paths (T2), a joining and none shorter, is D3 and stands in Demand.antt.
 use mathlib.Core.Path.{_≡_}
 use mathlib.Core.Bool.{Bool, false}
 use mathlib.Core.List.{List, [], _∷_}
@@ -27,22 +28,22 @@ pub record Path : Type 0 where
 abbrev pub pathEnds : Path → Place × Place
 pathEnds k = (k .start, k .finish)
 
--- its length: every edge of it counted
+-- T4: its length, every edge of it counted
 abbrev pub pathLength : Path → ℕ
 pathLength k = long distance (k .start) (k .points)
 
--- what is given for a path: its bridge and its length
+-- C64: what is given for a path: its bridge and its length
 abbrev pub givenFor : Path → Edge × ℕ
 givenFor k = (k .bridge, pathLength k)
 
--- the shorter path is taken first, and of equal ones the one with the smaller bridge
+-- T11, T12: the shorter path is taken first, and of equal ones the one with the smaller bridge
 abbrev pub takenFirst : Path → Path → Bool
 takenFirst j k = firstThen ltb edgeBefore (pathLength j, j .bridge) (pathLength k, k .bridge)
 
 module _ (G : List Edge) (ps : List Place) where
   -- Roots, parents and ways
 
-  -- p is the root of v: the nearest pin along the graph, and of those the smallest
+  -- T6: p is the root of v: the nearest pin along the graph, and of those the smallest
   pub record Root (v p : Place) : Type 0 where
     pub pin : p ∈ ps
     pub points : List Place
@@ -51,7 +52,7 @@ module _ (G : List Edge) (ps : List Place) where
     pub smallest : (q : Place) (qs : List Place) → q ∈ ps → Way G v qs q → long distance v qs ≡ long distance v points →
         before q p ≡ false
 
-  -- w is a neighbour of v with the same root, and a shortest way from v to that root goes over it
+  -- T7: w is a neighbour of v with the same root, and a shortest way from v to that root goes over it
   pub record Through (v w : Place) : Type 0 where
     pub link : Link G v w
     pub root : Place
@@ -61,19 +62,19 @@ module _ (G : List Edge) (ps : List Place) where
     pub way : Way G w points root
     pub shortest : (qs : List Place) → Way G v qs root → distance v w + long distance w points ≤ long distance v qs
 
-  -- p is the parent of v: the smallest such neighbour
+  -- T7: p is the parent of v: the smallest such neighbour
   pub record Parent (v p : Place) : Type 0 where
     pub through : Through v p
     pub smallest : (w : Place) → Through v w → before w p ≡ false
 
-  -- the places after v on its way to its root: parent after parent, until a pin
+  -- T8: the places after v on its way to its root: parent after parent, until a pin
   pub data Up : Place → List Place → Type 0 where
     arrived : {v : Place} → v ∈ ps → Up v []
     upward : {v p : Place} {qs : List Place} → (v ∈ ps → ⊥) → Parent v p → Up p qs → Up v (p ∷ qs)
 
   -- Bridges
 
-  -- k is the path of a bridge: an edge between vertices of different roots; from one root down the way of the first end, over the
+  -- T9, T10: k is the path of a bridge: an edge between vertices of different roots; from one root down the way of the first end, over the
   -- bridge, and up the way of the second end to the other root
   pub record Bridge (k : Path) : Type 0 where
     pub edge : k .bridge ∈ G
@@ -86,7 +87,7 @@ module _ (G : List Edge) (ps : List Place) where
     pub second-up : Up (k .bridge .1) second
     pub points-are : k .points ≡ turned (k .bridge .0) first (k .bridge .1 ∷ second)
 
-  -- ks are the paths of the terminal tree, in the order kept: each bridge is offered in its turn, and kept exactly when its two roots
+  -- T13, T14: ks are the paths of the terminal tree, in the order kept: each bridge is offered in its turn, and kept exactly when its two roots
   -- are not joined by those kept before
   pub record Terminal (ks : List Path) : Type 0 where
     pub offered : List Path

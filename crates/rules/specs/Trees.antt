@@ -1,4 +1,5 @@
 -- The trees of a net, all together: what a buyer must believe is this file and the three that it names.
+use mathlib.Core.Path.{_≡_}
 use mathlib.Core.List.{List}
 use Rattle.plane.specs.declared.Place.{Place}
 use Rattle.plane.specs.declared.Macro.{Macro}
@@ -12,3 +13,10 @@ pub record Trees (ps : List Place) (ms : List Macro) (vs : List Place) (es : Lis
   pub spanning : Spanning ps ms vs es
   pub terminal : Terminal es ps ks
   pub refined : Refined ps ms ks rs
+
+-- two such fours of lists are the same
+pub record Equal (vs ws : List Place) (es fs : List Edge) (ks js : List Path) (rs qs : List Edge) : Type 0 where
+  pub vertices : vs ≡ ws
+  pub edges : es ≡ fs
+  pub paths : ks ≡ js
+  pub refined : rs ≡ qs
