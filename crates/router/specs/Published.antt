@@ -41,7 +41,7 @@ pub record Promised (pins macros : List ℤ) : Type 0 where
   -- D2a: what is given are the trees of the rules, and there are no others
   pub kept : List Path
   pub trees : Trees (placesOf pins) (macrosOf macros) (verticesOf pins macros) (edgesOf pins macros) kept (laidOf pins macros)
-  pub only : {vs : List Place} {es rs : List Edge} {ks : List Path} → Trees (placesOf pins) (macrosOf macros) vs es ks rs
+  pub only : {vs : List Place} {es : List Edge} {ks : List Path} {rs : List Edge} → Trees (placesOf pins) (macrosOf macros) vs es ks rs
       → Equal vs (verticesOf pins macros) es (edgesOf pins macros) ks kept rs (laidOf pins macros)
   -- T14 to T16: each kept path is given by its bridge and its length, and the total is their sum
   pub paths : pathsOf pins macros ≡ map givenFor kept

@@ -101,7 +101,7 @@ module _ {ps : List Place} {ms : List Macro} (a : Allowed ps ms) where
   best-joining = record {
     count = count;
     terminal = terminal-as;
-    once = keeping-once pathEnds (terminal-ours a .keeps) (turn-once _ (terminal-ours a .in-turn));
+    once = keeping-once pathEnds (terminal-ours a .keeps) (turn-once (terminal-ours a .offered) (terminal-ours a .in-turn));
     joining = joins-joining pathEnds place-same joins;
     shortest = λ js j. subst (λ (t : ℕ). t ≤ total (map (lengthOf distance) js)) paths-total (no-shorter-joining a js j);
     way = λ x y i k n. joined-our-way pathEnds place-same ks n (joins x y i k);

@@ -106,9 +106,9 @@ module _ (ms : List Macro) (vs : List Place) (ascending : Ascending before vs) w
   preferred-of : (u v w : Place) → distance u v ≤ distance u w → (distance u w ≡ distance u v → before w v ≡ false) → Preferred u v w
   preferred-of u v w n s =
       by (ltb (distance u v) (distance u w))
-      (λ h. inl (ltb-true _ _ h))
+      (λ h. inl (ltb-true (distance u v) (distance u w) h))
       (λ h.
-      let e : distance u w ≡ distance u v = omega (arith, ltb-false _ _ h) in
+      let e : distance u w ≡ distance u v = omega (arith, n, ltb-false (distance u v) (distance u w) h) in
       inr (sym e, by (before v w) inr (λ k. inl (place-order .tie v w k (s e)))))
 
   picks-of : (u v : Place) → PickedBy ms vs u v → Picks ms vs u v

@@ -99,14 +99,14 @@ module _ {ps : List Place} {ms : List Macro} (a : Allowed ps ms) where
 
   -- Bridges
 
-  kb : KeptBridges ps ms
+  pub kb : KeptBridges ps ms
   kb = kept-bridges a
 
   -- a bridge with its path
   abbrev pathFor : (k : Kept) → Stands ps ms (k .0) (k .1) → Path
   pathFor k s = record { bridge = k .0; start = s .path .start; points = s .path .points; finish = s .path .finish }
 
-  unfoldable offered : List Path
+  unfoldable pub offered : List Path
   offered = mapIn (kb .offered) (λ k m. pathFor k (kb .stands k m))
 
   offered-given : map givenFor offered ≡ kb .offered

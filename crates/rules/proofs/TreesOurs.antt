@@ -28,7 +28,7 @@ module _ {ps : List Place} {ms : List Macro} (a : Allowed ps ms) where
   trees-ours = record { spanning = graph-ours ps ms; terminal = terminal-ours a; refined = refined-ours a }
 
   -- and there are no others
-  pub trees-only : {vs : List Place} {es rs : List Edge} {ks : List Path} → Trees ps ms vs es ks rs →
+  pub trees-only : {vs : List Place} {es : List Edge} {ks : List Path} {rs : List Edge} → Trees ps ms vs es ks rs →
       Equal vs (vertices ps ms) es (spanning ps ms) ks (ourPaths a) rs ours
   trees-only {ks = ks} {rs = rs} t =
       let g = graph-only ps ms (t .spanning) in
