@@ -7,22 +7,17 @@ use mathlib.Core.Logic.{inl, inr}
 use mathlib.Core.List.{List}
 use Prim.Native.Nat.{ℕ, zero, suc, _<_}
 use native.Mathlib.Omega.{arith}
-use lib.IntN.{ℤ}
 use lib.ListN.{length}
 use Rattle.lists.specs.Member.{_∈_}
 use Rattle.lists.specs.Those.{those}
 use Rattle.lists.proofs.TestLaws.{by, differ, either, or-neither}
 use Rattle.lists.proofs.ThoseLaws.{those-lt}
-use Rattle.lent.specs.Told.{given}
 use Rattle.joined.specs.Joined.{Link, Joined, stay, step, Joins}
 use Rattle.joined.proofs.JoinedLaws.{then, back, cast}
 use Rattle.plane.specs.declared.Place.{Place}
 use Rattle.plane.specs.declared.Macro.{Macro}
-use Rattle.plane.specs.Flat.{placesOf, macrosOf}
 use Rattle.plane.proofs.PlaceOrder.{place-same}
 use Rattle.net.specs.Allowed.{Allowed}
-use Rattle.net.specs.Check.{checked}
-use Rattle.net.proofs.AllowedLaws.{given-allowed}
 use Rattle.graph.specs.declared.Quadrant.{Quadrant}
 use Rattle.graph.specs.declared.Quadrant.the-variants.{First, Fourth}
 use Rattle.graph.specs.declared.Picked.{Picked}
@@ -133,8 +128,3 @@ module _ {ps : List Place} {ms : List Macro} (a : Allowed ps ms) where
       let s = to-last u i in
       let t = to-last v k in
       then (s .joined) (cast (one-last u v s t) (back (t .joined)))
-
--- whatever lists the check takes
-pub given-connected : (pins macros : List ℤ) {n : ℕ × ℕ} → checked pins macros ≡ given n
-    → Joins (vertices (placesOf pins) (macrosOf macros)) (edges (macrosOf macros) (vertices (placesOf pins) (macrosOf macros)))
-given-connected pins macros g = connected (given-allowed pins macros g .1)

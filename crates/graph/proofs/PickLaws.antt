@@ -153,14 +153,3 @@ module _ (ms : List Macro) (q : Quadrant) (u : Place) where
 
   pub pick-nothing : (vs : List Place) → Ascending before vs → pick ms q u vs ≡ Nothing → (w : Place) → w ∈ vs → Fit w → ⊥
   pick-nothing vs a e = rw e at (pick-is vs a)
-
--- of the macros a pick asks only what is clear
-module _ (ms ns : List Macro) (q : Quadrant) (u : Place) (agree : (v : Place) → clear u v ms ≡ clear u v ns) where
-  scan-agree : (vs : List Place) (best : Picked) → pickFrom ms q u best vs ≡ pickFrom ns q u best vs
-  unfolding pickFrom better
-  scan-agree [] best = refl
-  scan-agree (v ∷ vs) best = rw (agree v) (scan-agree vs (better ns q u best v))
-
-  pub pick-agree : (vs : List Place) → pick ms q u vs ≡ pick ns q u vs
-  unfolding pick
-  pick-agree vs = scan-agree vs Nothing

@@ -7,10 +7,10 @@ use mathlib.Core.List.{List, [], _∷_, _++_, List·Memᴰ·append-cases, Memᴰ
 use Prim.Native.Nat.{_+_, _*_, _≤_}
 use native.Mathlib.Omega.{arith}
 use lib.ListN.{length, length-append}
-use Rattle.lists.specs.Member.{_∈_, here, there, Among}
+use Rattle.lists.specs.Member.{_∈_, here, there}
 use Rattle.lists.specs.Sorted.{Ascending}
 use Rattle.lists.proofs.TestLaws.{either}
-use Rattle.lists.proofs.EachLaws.{Piece, of-each, in-each, each-among, length-each}
+use Rattle.lists.proofs.EachLaws.{Piece, of-each, in-each, length-each}
 use Rattle.lists.proofs.SortedLaws.{of-sorted, in-sorted, length-sorted, sorted-ascending}
 use Rattle.plane.specs.declared.Place.{Place}
 use Rattle.plane.specs.declared.Macro.{Macro}
@@ -63,9 +63,6 @@ of-corners = of-each cornersOf corners none more
 
 pub in-corners : (ms : List Macro) {m : Macro} {c : Place} → m ∈ ms → c ∈ cornersOf m → c ∈ corners ms
 in-corners = in-each cornersOf corners none more
-
-pub corners-among : (ms ns : List Macro) → Among ms ns → Among (corners ms) (corners ns)
-corners-among = each-among cornersOf corners none more
 
 four : (m : Macro) → length (cornersOf m) ≤ 4
 unfolding cornersOf

@@ -5,7 +5,6 @@ use Rattle.lists.specs.Sorted.{sorted, firstThen}
 use Rattle.plane.specs.declared.Place.{Place}
 use Rattle.plane.specs.declared.Macro.{Macro}
 use Rattle.plane.specs.Place.{before}
-use Rattle.graph.specs.declared.Quadrant.{Quadrant}
 use Rattle.graph.specs.declared.Quadrant.the-variants.{First, Second, Third, Fourth}
 use Rattle.graph.specs.declared.Picked.{Picked}
 use Rattle.graph.specs.declared.Picked.the-variants.{At, Nothing}

@@ -1,7 +1,6 @@
 -- Quadrants and picks.
-use mathlib.Core.Bool.{Bool, true, false, cond, _&&_}
+use mathlib.Core.Bool.{Bool, true, cond, _&&_}
 use mathlib.Core.List.{List, [], _∷_}
-use Prim.Native.Nat.{ℕ}
 use lib.Dec.{ltb}
 use lib.Signed.{ltZ, leZ}
 use Rattle.plane.specs.declared.Place.{Place}

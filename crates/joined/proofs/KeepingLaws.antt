@@ -2,10 +2,9 @@
 -- by `keeps` each item is taken or left as the relation says.
 -- Assumes nothing.
 use mathlib.Core.Path.{_≡_, refl, sym, ap, _∙_, subst}
-use mathlib.Core.List.{List, [], _∷_, map, reverse, reverseAux, List·Memᴰ·cases-cons}
+use mathlib.Core.List.{List, [], _∷_, reverse, reverseAux, List·Memᴰ·cases-cons}
 use Rattle.lists.specs.Member.{here, there, Among, Once}
 use Rattle.lists.proofs.TestLaws.{either}
-use Rattle.joined.specs.Joined.{Joined}
 use Rattle.joined.specs.Keep.{keep, kept, Keeping, over, takes, leaves}
 use Rattle.joined.proofs.KeepLaws.{Keeps, dropped, taken, keeps, keep-none}
 

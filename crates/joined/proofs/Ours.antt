@@ -6,7 +6,6 @@ use mathlib.Core.Path.{_≡_, sym, ap, _∙_}
 use mathlib.Core.List.{List, map}
 use Prim.Native.Nat.{ℕ, suc, _≤_}
 use lib.ListN.{length, length-map}
-use Rattle.lists.specs.Member.{_∈_}
 use Rattle.lists.specs.Total.{total, most}
 use Rattle.lists.proofs.TotalLaws.{le-most, most-le}
 use Rattle.joined.specs.Joined.{Joined}
@@ -30,10 +29,7 @@ module _ {A B : Type 0} (same : Discrete A) (ends : B → A × A) (weight : B �
   pub ours-joining : Joining ends pins ours
   ours-joining = joins-joining ends same (kept-tree same ends weight o .joins)
 
-  pub our-way : (x y : A) → x ∈ pins → y ∈ pins → (x ≡ y → ⊥) → (bs : List B) × OurWay ends ours x y bs
-  our-way x y i k n = joined-our-way ends same ours n (kept-tree same ends weight o .joins x y i k)
-
-  pub our-way-one : {x y : A} {bs cs : List B} → OurWay ends ours x y bs → OurWay ends ours x y cs → bs ≡ cs
+  our-way-one : {x y : A} {bs cs : List B} → OurWay ends ours x y bs → OurWay ends ours x y cs → bs ≡ cs
   our-way-one u v = our-way-only ends ours (tree-cuts same (kept-tree same ends weight o)) same u v
 
   module _ {C : Type 0} (span : C → A × A) (cost : C → ℕ) (dominated : (c : C) → Dominated ends weight L (span c) (cost c)) where

@@ -31,6 +31,7 @@
 --   OurWay ends K x y bs      bs is the chain of kept paths from x to y that repeats none
 --   OneWay, OneTree pins T    exactly one loop-free way along T; such a way from each point, pin or end of an edge, to each other
 --   kept same ends L          the items of L that are kept, each offered after those before it
+--   Keeping ends bs L ks      the same as a relation: after bs, of the items L those of ks are kept
 --   Toward T u a b            the tree way from u to the one of a and b that comes first
 --   steps x ps                the edges of a way, of which the refiner's L is one
 --   laid same s l             the pairs from s to the points of l, none of length zero

@@ -28,7 +28,7 @@ use Rattle.terminal.proofs.Nearest.{fits}
 use Rattle.terminal.proofs.OurTree.{bridge-is, is-bridge, bridges-in-order, kept-is}
 use Rattle.numbered.specs.Number.{numberOf, vertexAt, edgeAt}
 use Rattle.numbered.specs.Tree.{spanning, pathsOf, rootOf, rootsOf}
-use Rattle.numbered.specs.Demand.{Kept, keptEnds, Stands}
+use Rattle.numbered.specs.Stands.{Kept, keptEnds, Stands}
 use Rattle.numbered.specs.Bridges.{takenBefore, KeptBridges}
 use Rattle.numbered.proofs.NumberLaws.{ascending-at, count-of}
 use Rattle.numbered.proofs.SettingOf.{setting, whole}

@@ -34,7 +34,7 @@ use Rattle.terminal.proofs.Nearest.{link-in}
 use Rattle.terminal.proofs.Homeward.{root-pin}
 use Rattle.numbered.specs.Number.{numberOf, vertexAt, edgeAt, pinNumbers}
 use Rattle.numbered.specs.Tree.{spanning, graphOf, treeOf, pathsOf, rootOf, rootsOf}
-use Rattle.numbered.specs.Demand.{Kept, PathOf, keptEnds}
+use Rattle.numbered.specs.Stands.{Kept, PathOf, keptEnds}
 use Rattle.numbered.proofs.NumberLaws.{vertex-of-number, number-of-vertex, count-of, one-of, two-of}
 use Rattle.numbered.proofs.NumberLaws.{pin-number-in, of-pin-numbers}
 use Rattle.numbered.proofs.SettingOf.{between-numbers, edge-in, one-vertex, two-vertex, setting, whole, edge-numbers}

@@ -12,7 +12,7 @@ use Rattle.plane.specs.declared.Place.{Place}
 use Rattle.plane.specs.declared.Macro.{Macro}
 use Rattle.graph.specs.Edges.{beforeEdge}
 use Rattle.numbered.specs.Tree.{spanning, pathsOf, rootOf}
-use Rattle.numbered.specs.Demand.{Kept, keptEnds, Stands}
+use Rattle.numbered.specs.Stands.{Kept, keptEnds, Stands}
 
 -- by path length, ties by the order of edges
 unfoldable pub takenBefore : Kept → Kept → Bool

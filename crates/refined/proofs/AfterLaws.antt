@@ -2,14 +2,14 @@
 -- those from s. All by sums over the table, whichever numbers moved on.
 -- Assumes nothing.
 use mathlib.Core.Path.{_≡_, refl, sym, ap, ap₂, _∙_, subst}
-use mathlib.Core.Bool.{Bool, true, false}
+use mathlib.Core.Bool.{true, false}
 use mathlib.Core.Logic.{_⊎_, inl, inr}
-use mathlib.Core.List.{List, [], _∷_, Memᴰ·cast}
-use Prim.Native.Nat.{ℕ, zero, suc, _+_, _-_, _*_, _/_, _%_, _≤_, _<_}
+use mathlib.Core.List.{List, [], Memᴰ·cast}
+use Prim.Native.Nat.{ℕ, suc, _+_, _≤_, _<_}
 use native.Mathlib.Omega.{arith}
 use lib.Dec.{ltb, eqb}
 use lib.IntN.{ℤ}
-use lib.ListN.{length, getD}
+use lib.ListN.{getD}
 use borrow.Author.Tests.{ltb-true, ltb-false, eqb-true, eqb-false}
 use Rattle.lists.specs.Member.{_∈_}
 use Rattle.lists.proofs.TestLaws.{by, either}
@@ -23,9 +23,9 @@ use Rattle.plane.proofs.MacroLaws.{clear-comm}
 use Rattle.joined.specs.Joined.{Link, Alike, Joined, stay}
 use Rattle.joined.proofs.JoinedLaws.{one as one-link}
 use Rattle.refined.specs.Table.{pointBound, key, firstEnd, secondEnd, Tree, In, Within}
-use Rattle.refined.specs.Sum.{below, over}
+use Rattle.refined.specs.Sum.{over}
 use Rattle.refined.specs.Exchange.{dropTwo}
-use Rattle.refined.specs.Places.{listing, endsOf, edgesOf, keyLength}
+use Rattle.refined.specs.Places.{endsOf, edgesOf, keyLength}
 use Rattle.refined.proofs.SumLaws.{below-same, below-at, below-some, one, one-same, one-some, one-not, in-table, of-table, between, over-dropped}
 use Rattle.refined.proofs.WithinLaws.{within-dropped}
 use Rattle.refined.proofs.ListingLaws.{in-listing, of-listing}

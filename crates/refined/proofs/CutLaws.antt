@@ -1,11 +1,10 @@
 -- R8: `cutOf` is L, the longest edge on the way from u to the nearer end of (a, b). The way to the far end is the way to the near end and
 -- the edge, so its longest edge is at least as long, and the shorter of the two is L.
 -- Assumes nothing.
-use mathlib.Core.Path.{_≡_, refl, sym, ap, ap₂, _∙_, subst}
-use mathlib.Core.Bool.{true, false}
-use mathlib.Core.Logic.{_⊎_, inl, inr}
+use mathlib.Core.Path.{_≡_, ap, _∙_, subst}
+use mathlib.Core.Logic.{inl, inr}
 use mathlib.Core.List.{List, [], _∷_, _++_}
-use Prim.Native.Nat.{ℕ, zero, suc, _+_, _-_, _*_, _/_, _%_, _≤_, _<_}
+use Prim.Native.Nat.{ℕ, suc, _+_, _≤_, _<_}
 use native.Mathlib.Omega.{arith}
 use lib.IntN.{ℤ}
 use lib.ListN.{length, getD}
@@ -13,17 +12,17 @@ use Rattle.lists.specs.Member.{_∈_, Once}
 use Rattle.lists.proofs.TestLaws.{by, either}
 use Rattle.plane.specs.declared.Place.{Place}
 use Rattle.plane.specs.Flat.{placeAt}
-use Rattle.joined.specs.Joined.{Link, Alike}
+use Rattle.joined.specs.Joined.{Alike}
 use Rattle.joined.specs.Tree as joined
-use Rattle.joined.specs.Way.{Way, stop, go}
+use Rattle.joined.specs.Way.{Way, stop}
 use Rattle.joined.specs.Exchange.{Toward, steps}
 use Rattle.joined.proofs.TowardLaws.{toward, far-way, far-once}
 use Rattle.joined.proofs.TreeLaws.{tree-cuts}
 use Rattle.joined.proofs.OneTreeLaws.{tree-simple}
 use Rattle.joined.proofs.OnlyWay.{only-way}
 use Rattle.refined.specs.Table.{pointBound, key, firstEnd, secondEnd, Within}
-use Rattle.refined.specs.Longest.{wins, shorter, noEdge, longest, start, reached, cutOf}
-use Rattle.refined.specs.Places.{listing, endsOf, pointsOf, edgesOf, InOrder}
+use Rattle.refined.specs.Longest.{wins, shorter, noEdge, start, reached, cutOf}
+use Rattle.refined.specs.Places.{endsOf, pointsOf, edgesOf, InOrder}
 use Rattle.refined.proofs.LongestLaws.{shorter-yes, shorter-no}
 use Rattle.refined.proofs.WinsLaws.{Under, wins-under, wins-not, under-same}
 use Rattle.refined.proofs.ListingLaws.{in-listing}

@@ -22,10 +22,10 @@ use Rattle.joined.proofs.TowardLaws.{toward-only}
 use Rattle.joined.proofs.ExchangeLaws.{step-other}
 use Rattle.refined.specs.declared.Best.{Best}
 use Rattle.refined.specs.Table.{pointBound, firstEnd, secondEnd, Tree, tree}
-use Rattle.refined.specs.Longest.{lengths, longest, cutOf}
+use Rattle.refined.specs.Longest.{lengths, longest}
 use Rattle.refined.specs.Candidate.{chosen, weighed, offer}
 use Rattle.refined.specs.Places.{endsOf, edgesOf, Sound}
-use Rattle.refined.specs.Sentences.{keyAt, endA, endB, longAt, EndOf, StepOf, LongestOn, CutAt, cutIn, Cuts}
+use Rattle.refined.specs.Sentences.{keyAt, endA, endB, longAt, EndOf, StepOf, LongestOn, CutAt, cutIn}
 use Rattle.refined.proofs.WinsLaws.{Under}
 use Rattle.refined.proofs.ListingLaws.{listing-length, in-listing}
 use Rattle.refined.proofs.ExchangeSound.{same-place}
@@ -115,12 +115,6 @@ module _ (ms : List Macro) (pins : List Place) (t : Tree) (sound : Sound ms pins
   cut-another k u l c q =
       let s = c .longest .step in
       step-other (c .way) (s .on) (subst (λ (j : ℕ). Alike (s .one) (s .other) (endA t j) (endB t j)) q (s .ends))
-
-  pub tree-cut : Cuts t
-  tree-cut = record {
-    cut = cut-at;
-    another = λ k u hk hu third. cut-another k u (cutIn t k u) (cut-at k u hk hu third);
-  }
 
   -- so the test of it turns no candidate away: without it an offer is the same
   pub offer-plain : (k u : ℕ) (c : Best) → k < t .edges .size → u < t .count →

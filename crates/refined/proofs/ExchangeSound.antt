@@ -1,18 +1,18 @@
 -- One round keeps a tree over its points in order, with all pins and every edge clear: by the exchange of the theory of joined points, with s
 -- a new point, or one of a, b and u where it stands already.
 -- Assumes nothing.
-use mathlib.Core.Path.{_≡_, refl, sym, ap, ap₂, _∙_, subst}
-use mathlib.Core.Bool.{Bool, true, false, not, _&&_, _||_}
+use mathlib.Core.Path.{_≡_, refl, sym, ap, _∙_}
+use mathlib.Core.Bool.{true, false, _||_}
 use mathlib.Core.Logic.{_⊎_, inl, inr}
-use mathlib.Core.List.{List, [], _∷_, Memᴰ·cast}
-use Prim.Native.Nat.{ℕ, zero, suc, _+_, _-_, _*_, _/_, _%_, _≤_, _<_}
+use mathlib.Core.List.{List, [], Memᴰ·cast}
+use Prim.Native.Nat.{ℕ, suc, _+_, _-_, _*_, _≤_, _<_}
 use native.Mathlib.Omega.{arith}
 use lib.Dec.{ltb, eqb}
 use lib.IntN.{ℤ}
 use lib.ListN.{length, getD}
-use borrow.Author.Tests.{ltb-true, ltb-false, lt-ltb, eqb-true, eqb-false}
-use Rattle.lists.specs.Member.{_∈_, Among, Once}
-use Rattle.lists.proofs.TestLaws.{by, differ, either, and-left, and-right, and-both}
+use borrow.Author.Tests.{ltb-true, ltb-false, eqb-true, eqb-false}
+use Rattle.lists.specs.Member.{_∈_, Once}
+use Rattle.lists.proofs.TestLaws.{by, differ, either, and-left, and-right}
 use Rattle.plane.specs.declared.Place.{Place}
 use Rattle.plane.specs.declared.Macro.{Macro}
 use Rattle.plane.specs.Place.{before, samePlace}
@@ -26,15 +26,14 @@ use Rattle.joined.specs.Joined.{Link, Alike}
 use Rattle.joined.specs.Tree as joined
 use Rattle.joined.proofs.OtherLaws.{alike-sym, alike-trans}
 use Rattle.joined.proofs.ExchangeLaws.{exchange-tree}
-use Rattle.joined.proofs.TreeLaws.{tree-cuts}
 use Rattle.joined.proofs.OneTreeLaws.{tree-simple}
 use Rattle.refined.specs.Turns.{turns, seek}
-use Rattle.refined.specs.Table.{pointBound, key, firstEnd, secondEnd, Row, row, Tree, tree, Within}
+use Rattle.refined.specs.Table.{pointBound, key, firstEnd, secondEnd, row, Tree, tree, Within}
 use Rattle.refined.specs.Candidate.{middleOf, sees, taken, dropped}
 use Rattle.refined.specs.Exchange.{dropTwo, rank, stands, opened, bump, bumpAt, lay3, laidAt}
-use Rattle.refined.specs.Sum.{below, over}
-use Rattle.refined.specs.Places.{listing, endsOf, pointsOf, edgesOf, keyLength, InOrder, Sound, Taken}
-use Rattle.refined.proofs.WithinLaws.{seek-le, rank-le, bump-in, within-dropped, within-joined}
+use Rattle.refined.specs.Sum.{over}
+use Rattle.refined.specs.Places.{endsOf, pointsOf, edgesOf, keyLength, InOrder, Sound, Taken}
+use Rattle.refined.proofs.WithinLaws.{rank-le, bump-in, within-dropped, within-joined}
 use Rattle.refined.proofs.ExchangeLaws.{bump-lt, bump-ge}
 use Rattle.refined.proofs.SumLaws.{below-same, below-one, between, over-lay3, over-bumped, length-bumps, length-dropped}
 use Rattle.refined.proofs.OpenedLaws.{seek-before, opened-low, opened-new, opened-past, opened-bump, opened-order}

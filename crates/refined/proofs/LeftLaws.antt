@@ -5,11 +5,11 @@ use mathlib.Core.Path.{_≡_, sym, ap, _∙_, subst}
 use mathlib.Core.Bool.{true, false}
 use mathlib.Core.Logic.{_⊎_, inl, inr}
 use mathlib.Core.List.{List}
-use Prim.Native.Nat.{ℕ, zero, suc, _+_, _*_, _≤_, _<_}
+use Prim.Native.Nat.{ℕ, zero, suc, _≤_, _<_}
 use native.Mathlib.Omega.{arith}
 use lib.Dec.{ltb, eqb}
 use lib.IntN.{ℤ}
-use lib.ListN.{length, getD, replicate}
+use lib.ListN.{getD, replicate}
 use borrow.Author.Tests.{ltb-true, ltb-false, eqb-true, eqb-false, eq-eqb}
 use Rattle.lists.specs.Member.{_∈_}
 use Rattle.lists.proofs.TestLaws.{by, differ, either, and-both, or-none}
@@ -23,8 +23,8 @@ use Rattle.joined.proofs.OneTreeLaws.{tree-simple}
 use Rattle.refined.specs.Turns.{turns}
 use Rattle.refined.specs.Table.{pointBound, firstEnd, secondEnd, Tree, Within}
 use Rattle.refined.specs.Exchange.{closed}
-use Rattle.refined.specs.Prune.{markOf, mark, marks, countEnds, loose, looseEdge, firstLoose, prune}
-use Rattle.refined.specs.Refined.{rounds, pruned, refined}
+use Rattle.refined.specs.Prune.{markOf, marks, countEnds, loose, looseEdge, firstLoose, prune}
+use Rattle.refined.specs.Refined.{pruned}
 use Rattle.refined.specs.Sum.{below, over}
 use Rattle.refined.specs.Places.{endsOf, Sound}
 use Rattle.refined.specs.Sentences.{NoneLeft}
@@ -34,7 +34,6 @@ use Rattle.refined.proofs.WithinLaws.{seek-le, pruned-within}
 use Rattle.refined.proofs.ListingLaws.{in-listing}
 use Rattle.refined.proofs.ExchangeSound.{same-place}
 use Rattle.refined.proofs.PruneSound.{endCount, degree, pruned-was}
-use Rattle.refined.proofs.RoundSound.{rounds-kept}
 use Rattle.refined.proofs.RefinedSound.{marks-at, zeros-length}
 
 first-none : (pin ks : List ℕ) → firstLoose pin ks 0 ≡ 0
@@ -159,11 +158,3 @@ pruned-left ms pins t sound few = record {
         let p : firstEnd k ≡ secondEnd k = ap firstEnd (sym (r .1 .1)) ∙ q ∙ ap secondEnd (r .1 .1) in
         tree-simple same-place (sound .whole) .apart (placeAt (t .points) (firstEnd k)) (placeAt (t .points) (secondEnd k))
         (in-listing (λ j. endsOf (t .points) (getD (t .edges .keys) j 0)) (t .edges .size) (r .0) (r .1 .0)) (ap (placeAt (t .points)) p)
-
--- and of the refined tree of a tree
-pub refined-left : (ms : List Macro) (pins : List Place) (t : Tree) → Sound ms pins t → t .count + length pins ≤ pointBound →
-    length (t .points) ≡ pointBound * 2 → length (t .edges .keys) ≡ pointBound → NoneLeft pins (refined ms pins t)
-unfolding refined
-refined-left ms pins t sound few room rooms =
-    let k = rounds-kept ms pins (length pins) t sound few room rooms in
-    pruned-left ms pins (rounds ms (length pins) t) (k .sound) (omega (arith, k .points))

@@ -1,40 +1,37 @@
 -- Pruning keeps a tree with all pins: the point that goes is no pin, and by the count of its edges no other edge has it. No edge is added, so
 -- the total is not raised.
 -- Assumes nothing.
-use mathlib.Core.Path.{_≡_, refl, sym, ap, ap₂, _∙_, subst}
-use mathlib.Core.Bool.{Bool, true, false, _&&_, _||_}
+use mathlib.Core.Path.{_≡_, refl, sym, ap, _∙_}
+use mathlib.Core.Bool.{true}
 use mathlib.Core.Logic.{_⊎_, inl, inr}
-use mathlib.Core.List.{List, [], _∷_, Memᴰ·cast}
-use Prim.Native.Nat.{ℕ, zero, suc, _+_, _-_, _*_, _/_, _%_, _≤_, _<_}
+use mathlib.Core.List.{List, [], Memᴰ·cast}
+use Prim.Native.Nat.{ℕ, zero, suc, _+_, _≤_, _<_}
 use native.Mathlib.Omega.{arith}
-use native.Mathlib.Numerals.{add-one}
 use lib.Dec.{ltb, eqb}
 use lib.IntN.{ℤ}
 use lib.ListN.{length, getD, set, length-set, replicate}
 use borrow.Author.Tests.{ltb-true, ltb-false, eqb-true, eqb-false}
-use Rattle.lists.specs.Any.{any}
 use Rattle.lists.specs.Member.{_∈_, Among, rest}
-use Rattle.lists.proofs.TestLaws.{by, differ, either, and-left, and-right, or-none}
-use Rattle.lists.proofs.AnyLaws.{any-none}
+use Rattle.lists.proofs.TestLaws.{by, differ, either, and-left, and-right}
 use Rattle.lists.proofs.MemberLaws.{rest-or}
 use Rattle.plane.specs.declared.Place.{Place}
-use Rattle.plane.specs.Place.{before, samePlace}
+use Rattle.plane.specs.Place.{before}
 use Rattle.plane.specs.Flat.{placeAt}
-use Rattle.plane.proofs.PlaceLaws.{same-refl, before-irrefl}
+use Rattle.plane.proofs.PlaceLaws.{before-irrefl}
 use Rattle.joined.specs.Joined.{Link, Alike, Inside}
 use Rattle.joined.specs.Tree as joined
 use Rattle.joined.proofs.JoinedLaws.{firsts, seconds}
 use Rattle.joined.proofs.OtherLaws.{alike-sym, alike-trans}
 use Rattle.joined.proofs.PruneLaws.{prune-tree, prune-inside}
-use Rattle.refined.specs.Turns.{turns, seek}
+use Rattle.refined.specs.Turns.{turns}
 use Rattle.refined.specs.Table.{pointBound, firstEnd, secondEnd, Row, Within}
 use Rattle.refined.specs.Exchange.{closed}
 use Rattle.refined.specs.Prune.{countEnds, loose, looseEdge, firstLoose, prune}
-use Rattle.refined.specs.Sum.{below, over}
-use Rattle.refined.specs.Places.{listing, endsOf, pointsOf, edgesOf, InOrder}
+use Rattle.refined.specs.Sum.{over}
+use Rattle.refined.specs.Places.{endsOf, edgesOf, InOrder}
 use Rattle.refined.proofs.WithinLaws.{seek-le, within-closed}
 use Rattle.refined.proofs.SumLaws.{below-at, from, from-below, other, here, one, one-same}
-use Rattle.refined.proofs.SumLaws.{one-not, one-some, in-table, of-table, over-closed, closed-at, skip}
+use Rattle.refined.proofs.SumLaws.{one-not, in-table, of-table, over-closed, closed-at, skip}
 use Rattle.refined.proofs.OpenedLaws.{seek-hit}
 use Rattle.refined.proofs.ListingLaws.{listing-length, in-listing, of-listing}
 use Rattle.refined.proofs.ExchangeSound.{same-place}

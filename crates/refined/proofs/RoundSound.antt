@@ -1,30 +1,28 @@
 -- The rounds keep a tree over its points in order, with all pins, every edge clear and the edges in order; each adds at most one point, and
 -- the total falls by each gain.
 -- Assumes nothing.
-use mathlib.Core.Path.{_≡_, refl, sym, ap, ap₂, _∙_, subst}
-use mathlib.Core.Bool.{Bool, true, false}
-use mathlib.Core.List.{List, [], _∷_}
-use Prim.Native.Nat.{ℕ, zero, suc, _+_, _-_, _*_, _/_, _%_, _≤_, _<_}
+use mathlib.Core.Path.{_≡_, refl, sym, ap, _∙_, subst}
+use mathlib.Core.List.{List, []}
+use Prim.Native.Nat.{ℕ, zero, suc, _+_, _-_, _*_, _≤_, _<_}
 use native.Mathlib.Omega.{arith}
-use lib.Dec.{ltb, eqb}
+use lib.Dec.{eqb}
 use lib.IntN.{ℤ}
 use lib.ListN.{length, getD}
-use borrow.Author.Tests.{eqb-true, eqb-false}
+use borrow.Author.Tests.{eqb-false}
 use Rattle.lists.proofs.TestLaws.{by}
 use Rattle.plane.specs.declared.Place.{Place}
 use Rattle.plane.specs.declared.Macro.{Macro}
-use Rattle.plane.specs.Distance.{distance}
 use Rattle.plane.specs.Flat.{placeAt}
 use Rattle.refined.specs.declared.Best.{Best}
 use Rattle.refined.specs.Turns.{turns}
 use Rattle.refined.specs.Table.{pointBound, firstEnd, secondEnd, Row, row, Tree, tree}
-use Rattle.refined.specs.Longest.{edgeLength, lengths, longest, start, reached, cutOf}
+use Rattle.refined.specs.Longest.{edgeLength, lengths, longest}
 use Rattle.refined.specs.Candidate.{middleOf, found}
-use Rattle.refined.specs.Exchange.{dropTwo, rank, stands, opened, bump, bumpAt, lay, lay3, laidAt, exchange}
+use Rattle.refined.specs.Exchange.{dropTwo, rank, stands, bump, bumpAt, lay, lay3, laidAt, exchange}
 use Rattle.refined.specs.Refined.{rounds, addLength, metal}
 use Rattle.refined.specs.Sum.{below, over}
 use Rattle.refined.specs.Promise.{metalOf}
-use Rattle.refined.specs.Places.{listing, pointsOf, edgesOf, endsOf, keyLength, Ranked, Sound, Taken}
+use Rattle.refined.specs.Places.{keyLength, Ranked, Sound, Taken}
 use Rattle.refined.proofs.SumLaws.{length-lay, length-bumps, length-dropped}
 use Rattle.refined.proofs.OpenedLaws.{opened-length}
 use Rattle.refined.proofs.ListingLaws.{listing-length}

@@ -22,7 +22,7 @@ use Rattle.plane.specs.Flat.{placeAt}
 use Rattle.plane.proofs.PlaceLaws.{same-true, same-refl}
 use Rattle.refined.specs.declared.Best.{Best}
 use Rattle.refined.specs.Turns.{turns, seek}
-use Rattle.refined.specs.Table.{pointBound, firstEnd, secondEnd, Tree, tree}
+use Rattle.refined.specs.Table.{pointBound, firstEnd, secondEnd, Tree}
 use Rattle.refined.specs.Longest.{lengths, longest, cutOf}
 use Rattle.refined.specs.Candidate.{best, middleOf, sees, taken, dropped, allowed, weighed, offer, offers, search, found}
 use Rattle.refined.specs.Places.{Sound}

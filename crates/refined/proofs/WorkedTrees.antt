@@ -2,9 +2,9 @@
 -- Assumes nothing.
 use mathlib.Core.Path.{_≡_, refl}
 use mathlib.Core.List.{List, [], _∷_}
-use Prim.Native.Nat.{ℕ, zero, suc, _+_, _*_}
-use lib.IntN.{ℤ, pos, negsuc}
-use lib.ListN.{take, length, getD}
+use Prim.Native.Nat.{ℕ, zero, suc}
+use lib.IntN.{ℤ, pos}
+use lib.ListN.{length}
 use Rattle.lists.specs.Any.{any}
 use Rattle.signed.specs.Order.{minZ, maxZ}
 use Rattle.plane.specs.declared.Place.{Place}
@@ -15,7 +15,7 @@ use Rattle.plane.specs.Middle.{middle, middlePlace}
 use Rattle.plane.specs.Macro.{macro, spanMeets, meets, clear}
 use Rattle.plane.specs.Flat.{placeAt, flatPlaces}
 use Rattle.refined.specs.Turns.{turns, seek}
-use Rattle.refined.specs.Table.{key, firstEnd, secondEnd, Tree, tree}
+use Rattle.refined.specs.Table.{key, firstEnd, secondEnd, tree}
 use Rattle.refined.specs.Longest.{edgeLength, measure, lengths, wins, longer, shorter}
 use Rattle.refined.specs.Longest.{spread, spreads, hang, attach, pass, reached, start, longest, cutOf}
 use Rattle.refined.specs.Candidate.{sees, taken, dropped, allowed, weighed, offer, offers, search, found}

@@ -39,9 +39,9 @@
 --   Promise    metalOf, Promise            the sum of edge lengths; what is promised of a refined tree
 --              Tabled                      what is promised of its tables: edges in order
 --   Sentences  CandidateOf                 an edge and a point are a candidate
---              LongestOn, CutAt, Cuts      the longest edge on a way; L of an edge and a point; L is worked out as `CutAt` says
+--              LongestOn, CutAt            the longest edge on a way; L of an edge and a point
 --              Gains, Takes                a candidate with its L and its gain; the candidate that a round takes
---              RoundsTake, Numbered        the same of every round; edges and points are numbered in their order
+--              Numbered                    edges and points are numbered in their order
 --              NoneLeft                    every point with an edge is a pin or has two
 --
 -- THE THEOREMS, in the order of their proof.
@@ -54,8 +54,8 @@
 --   CutSound       cut-at              in a sound tree `cutOf` is `CutAt`;  cut-one: it alone is;  cut-another: it is another edge than (a, b)
 --                  offer-plain         so that test turns no candidate away
 --   TakesLaws      found-takes         in a sound tree `found` is the candidate that a round takes: `Takes`
---   RoundsTake     found-only          it alone is;  rounds-take: so it is in every round: `RoundsTake`
---   LeftLaws       none-loose          pruning ends with none left to go;  refined-left: `NoneLeft` of the refined tree
+--   RoundSteps     rounds-none, -some  rounds one by one;  numbered: the order of numbers is that of edges and of places
+--   LeftLaws       none-loose          pruning ends with none left to go;  pruned-left: `NoneLeft` of what is left
 pub mod Turns
 pub mod Table
 pub mod Longest

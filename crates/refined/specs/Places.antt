@@ -2,9 +2,9 @@
 use mathlib.Core.Path.{_≡_}
 use mathlib.Core.Bool.{true, false}
 use mathlib.Core.List.{List, [], _∷_}
-use Prim.Native.Nat.{ℕ, zero, suc, _≤_, _<_}
+use Prim.Native.Nat.{ℕ, zero, suc, _<_}
 use lib.IntN.{ℤ}
-use lib.ListN.{length, getD}
+use lib.ListN.{getD}
 use Rattle.lists.specs.Member.{_∈_, Among}
 use Rattle.plane.specs.declared.Place.{Place}
 use Rattle.plane.specs.declared.Macro.{Macro}
@@ -16,7 +16,7 @@ use Rattle.joined.specs.Tree as joined
 use Rattle.joined.specs.Joined.{Alike}
 use Rattle.joined.specs.Exchange.{Toward, steps}
 use Rattle.refined.specs.Candidate.{middleOf, sees, dropped}
-use Rattle.refined.specs.Table.{pointBound, firstEnd, secondEnd, Tree, Within}
+use Rattle.refined.specs.Table.{firstEnd, secondEnd, Tree, Within}
 
 -- the first n of a sequence, the last of them first
 unfoldable pub listing : {A : Type 0} → (ℕ → A) → ℕ → List A

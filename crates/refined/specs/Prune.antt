@@ -39,7 +39,7 @@ loose pin d v = eqb (getD pin v 0) 0 && eqb (getD d v 0) 1
 unfoldable pub looseEdge : List ℕ → List ℕ → List ℕ → ℕ → Bool
 looseEdge pin d ks i = loose pin d (firstEnd (getD ks i 0)) || loose pin d (secondEnd (getD ks i 0))
 
--- R17: the first edge with such a point
+-- of all orders, which leave the same edges (R17), this one: the first edge with such a point
 unfoldable pub firstLoose : List ℕ → List ℕ → ℕ → ℕ
 firstLoose pin ks e = seek (looseEdge pin (turns (countEnds ks) 0 e (replicate pointBound 0)) ks) 0 e
 

@@ -4,7 +4,7 @@ use mathlib.Core.Path.{_≡_}
 use mathlib.Core.Bool.{true}
 use mathlib.Core.Logic.{_⊎_}
 use mathlib.Core.List.{List}
-use Prim.Native.Nat.{ℕ, suc, _+_, _≤_, _<_}
+use Prim.Native.Nat.{ℕ, _+_, _≤_, _<_}
 use lib.ListN.{getD}
 use Rattle.lists.specs.Member.{_∈_}
 use Rattle.plane.specs.declared.Place.{Place}
@@ -20,7 +20,6 @@ use Rattle.refined.specs.Table.{firstEnd, secondEnd, Tree}
 use Rattle.refined.specs.Longest.{lengths, longest, cutOf}
 use Rattle.refined.specs.Candidate.{middleOf, found}
 use Rattle.refined.specs.Exchange.{exchange}
-use Rattle.refined.specs.Refined.{rounds}
 use Rattle.refined.specs.Places.{endsOf, edgesOf, keyLength}
 
 -- the key of the edge k, and its ends a and b
@@ -80,11 +79,6 @@ cutIn t k u =
     let el = lengths (t .points) (t .edges .keys) (t .edges .size) in
     cutOf el (longest (t .edges .keys) el (t .edges .size) (t .count)) (firstEnd (keyAt t k)) (secondEnd (keyAt t k)) u
 
--- it is L, and another edge than (a, b)
-pub record Cuts (t : Tree) : Type 0 where
-  pub cut : (k u : ℕ) → k < t .edges .size → u < t .count → (EndOf t u k → ⊥) → CutAt t k u (cutIn t k u)
-  pub another : (k u : ℕ) → k < t .edges .size → u < t .count → (EndOf t u k → ⊥) → cutIn t k u ≡ k → ⊥
-
 -- the candidate of the edge k and the point u has the edge l as its L and the gain g, above zero
 pub record Gains (ms : List Macro) (t : Tree) (k u l g : ℕ) : Type 0 where
   pub candidate : CandidateOf ms t k u
@@ -113,15 +107,6 @@ pub record Numbered (t : Tree) : Type 0 where
   pub edges : (i j : ℕ) → i < j → j < t .edges .size →
       (before (endA t i) (endA t j) ≡ true) ⊎ ((endA t i ≡ endA t j) × (before (endB t i) (endB t j) ≡ true))
   pub places : (u v : ℕ) → u < v → v < t .count → before (placeAt (t .points) u) (placeAt (t .points) v) ≡ true
-
--- m rounds from the tree t: the round after i rounds starts with their tree
-pub record RoundsTake (ms : List Macro) (t : Tree) (m : ℕ) : Type 0 where
-  pub cuts : (i : ℕ) → i < m → Cuts (rounds ms i t)
-  pub takes : (i : ℕ) → i < m → Takes ms (rounds ms i t) (foundIn ms (rounds ms i t))
-  pub numbered : (i : ℕ) → i < m → Numbered (rounds ms i t)
-  pub next : (i : ℕ) → i < m → 0 < foundIn ms (rounds ms i t) .gain → rounds ms (suc i) t ≡ exchanged ms (rounds ms i t)
-  -- R15: at most m rounds, and the first that finds no gain is the last
-  pub last : (i : ℕ) → i < m → foundIn ms (rounds ms i t) .gain ≡ 0 → rounds ms m t ≡ rounds ms i t
 
 -- R16, its end: a point with an edge that is no pin has another edge too
 pub record NoneLeft (pins : List Place) (t : Tree) : Type 0 where

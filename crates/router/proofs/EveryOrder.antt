@@ -31,7 +31,7 @@ use Rattle.numbered.specs.Tree.{pathNumbers}
 use Rattle.numbered.proofs.BestJoiningLaws.{paths-sum}
 use Rattle.wires.specs.Wires.{wires}
 use Rattle.rules.specs.Edges.{Edge, edgeBefore}
-use Rattle.rules.specs.Terminal.{Path, givenFor}
+use Rattle.rules.specs.Terminal.{givenFor}
 use Rattle.rules.proofs.EdgeLaws.{edge-order}
 use Rattle.rules.proofs.TreesOrder.{Alike}
 use Rattle.rules.proofs.TerminalOurs.{paths-given}
@@ -40,7 +40,7 @@ use Rattle.router.specs.Graph.{verticesOf, edgesOf, pointCount, graphRoo
 use Rattle.router.specs.Room.{ifRoom}
 use Rattle.router.specs.Terminal.{pathsOf, pathsTotal, terminalGiven, terminalTree}
 use Rattle.router.specs.Refined.{refinedOf, edgesIn, metalIn, laidOf, laidTotal, refinedGiven, refinedTree}
-use Rattle.router.specs.Refined.{wiresOf, wiresGiven, wired}
+use Rattle.router.specs.Refined.{wiresGiven, wired}
 use Rattle.router.specs.EveryOrder.{SameForBoth}
 use Rattle.router.proofs.AnswerLaws.{only-refused}
 

@@ -8,7 +8,7 @@ use lib.IntN.{ℤ, pos}
 use lib.ListN.{length}
 use Rattle.lists.proofs.TestLaws.{or-neither}
 use Rattle.lent.specs.Told.{given}
-use Rattle.plane.specs.Flat.{placesOf, macrosOf}
+use Rattle.plane.specs.Flat.{macrosOf}
 use Rattle.net.specs.Check.{pinCount, checked}
 use Rattle.net.proofs.AllowedLaws.{given-allowed}
 use Rattle.graph.proofs.Connected.{connected}

@@ -4,7 +4,6 @@
 use mathlib.Core.Path.{_≡_, refl, sym, ap, ap₂, _∙_, subst}
 use mathlib.Core.List.{List, [], _∷_, map}
 use Prim.Native.Nat.{ℕ, suc, _≤_}
-use native.Mathlib.Omega.{arith}
 use lib.ListN.{length, length-map}
 use Rattle.lists.specs.Member.{_∈_, Once}
 use Rattle.lists.specs.Sorted.{Ascending}
@@ -12,9 +11,9 @@ use Rattle.lists.specs.Total.{total, most}
 use Rattle.lists.proofs.TestLaws.{differ}
 use Rattle.lists.proofs.MapLaws.{in-map, map-then}
 use Rattle.joined.specs.Joined.{Joins}
-use Rattle.joined.specs.Tree.{Tree, Cuts}
+use Rattle.joined.specs.Tree.{Cuts}
 use Rattle.joined.specs.Path.{TerminalPath, endsOf, lengthOf}
-use Rattle.joined.specs.Chain.{Chain, Joining, OurWay}
+use Rattle.joined.specs.Chain.{Chain, OurWay}
 use Rattle.joined.proofs.TreeLaws.{tree-cuts}
 use Rattle.joined.proofs.ChainLaws.{joining-joins, joins-joining, joined-our-way, our-way-only}
 use Rattle.joined.proofs.KeepingLaws.{keeping-once}
@@ -25,10 +24,9 @@ use Rattle.plane.specs.Distance.{distance}
 use Rattle.plane.proofs.PlaceOrder.{place-same}
 use Rattle.net.specs.Allowed.{Allowed}
 use Rattle.numbered.specs.Tree.{spanning, pathsOf, totalOf, rootsOf}
-use Rattle.numbered.specs.Demand.{Kept, keptEnds}
+use Rattle.numbered.specs.Stands.{Kept, keptEnds}
 use Rattle.numbered.proofs.NumberLaws.{apart-once}
 use Rattle.numbered.proofs.BestJoiningLaws.{paths-length, paths-sum, paths-joining, no-shorter-joining, no-lower-chain}
-use Rattle.rules.specs.Edges.{Edge}
 use Rattle.rules.specs.Terminal.{Path, pathEnds, pathLength, givenFor, takenFirst}
 use Rattle.rules.specs.Demand.{TerminalAs, BestJoining}
 use Rattle.rules.proofs.TerminalOnly.{weight-order, bridge-only}

@@ -10,9 +10,6 @@ use Rattle.rules.specs.Edges.{Edge, edgeBefore, Same}
 pub edge-order : Order edgeBefore
 edge-order = pair-order before before place-order place-order
 
-pub same-self : {T : List Edge} → Same T T
-same-self = (λ e m. m, λ e m. m)
-
 pub same-turn : {T U : List Edge} → Same T U → Same U T
 same-turn h = (h .1, h .0)
 

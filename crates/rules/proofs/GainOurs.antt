@@ -25,7 +25,7 @@ use Rattle.refined.specs.Places.{endsOf, edgesOf, Ranked, Sound}
 use Rattle.refined.specs.Sentences as tables
 use Rattle.refined.proofs.ListingLaws.{in-listing, of-listing}
 use Rattle.refined.proofs.PruneSound.{order-same}
-use Rattle.refined.proofs.RoundsTake.{numbered}
+use Rattle.refined.proofs.RoundSteps.{numbered}
 use Rattle.rules.specs.Edges.{Edge, edgeBefore, edgeLength}
 use Rattle.rules.specs.Refined.{Step, Longest, Gain}
 use Rattle.rules.proofs.EdgeLaws.{edge-order}

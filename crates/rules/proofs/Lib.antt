@@ -12,7 +12,6 @@ pub mod PrunesOnly
 pub mod TreesOrder
 -- Ours
 pub mod SpanningOurs
-pub mod MapInLaws
 pub mod TerminalOurs
 pub mod BestLaws
 pub mod GainOurs

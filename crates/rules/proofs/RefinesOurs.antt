@@ -8,9 +8,7 @@ use native.Mathlib.Omega.{arith}
 use lib.Dec.{eqb}
 use lib.ListN.{length}
 use borrow.Author.Tests.{eqb-true, eqb-false}
-use Rattle.lists.specs.Sorted.{Ascending}
 use Rattle.lists.proofs.TestLaws.{by}
-use Rattle.lists.proofs.SortedLaws.{ascending-same}
 use Rattle.plane.specs.declared.Place.{Place}
 use Rattle.plane.specs.declared.Macro.{Macro}
 use Rattle.joined.proofs.TreeLaws.{tree-cuts}
@@ -21,11 +19,11 @@ use Rattle.refined.specs.Places.{Ranked, Sound}
 use Rattle.refined.specs.Sentences.{foundIn, exchanged}
 use Rattle.refined.proofs.WinnerLaws.{found-wins}
 use Rattle.refined.proofs.RoundSound.{Kept, round-kept, rounds-kept}
-use Rattle.refined.proofs.RoundsTake.{rounds-none, rounds-some}
+use Rattle.refined.proofs.RoundSteps.{rounds-none, rounds-some}
 use Rattle.refined.proofs.TakesLaws.{found-takes}
-use Rattle.rules.specs.Edges.{Edge, edgeBefore, Same}
+use Rattle.rules.specs.Edges.{Edge, Same}
 use Rattle.rules.specs.Refined.{Round, NoGain, Rounds, Prunes, Refines}
-use Rattle.rules.proofs.EdgeLaws.{edge-order, same-turn, same-then}
+use Rattle.rules.proofs.EdgeLaws.{same-turn, same-then}
 use Rattle.rules.proofs.RoundOnly.{gain-same, round-only}
 use Rattle.rules.proofs.PrunesOnly.{prunes-only}
 use Rattle.rules.proofs.GainOurs.{edgesIn, gain-of}
@@ -127,10 +125,3 @@ module _ {ms : List Macro} {ps : List Place} where
     -- and every solution has its edges
     pub refines-only : (T R : List Edge) → Same (edgesIn t) T → Refines ps ms T R → Same (edgesIn (tables.refined ms ps t)) R
     refines-only T R h r = prunes-only (rounds-only (length ps) t fit T (r .rounded) h (r .rounds)) prunes (r .prunes)
-
-    -- so two solutions, their edges in order, are equal
-    pub refines-one : (T R Q : List Edge) → Same (edgesIn t) T → Refines ps ms T R → Refines ps ms T Q → Ascending edgeBefore R →
-        Ascending edgeBefore Q → R ≡ Q
-    refines-one T R Q h r q a b =
-        let s = same-then (same-turn (refines-only T R h r)) (refines-only T Q h q) in
-        ascending-same edgeBefore edge-order R Q a b (s .0) (s .1)

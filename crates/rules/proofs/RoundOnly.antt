@@ -16,7 +16,7 @@ use Rattle.joined.specs.OneTree.{Point}
 use Rattle.joined.specs.Tree.{Cuts}
 use Rattle.joined.proofs.WayLaws.{way-more}
 use Rattle.joined.proofs.TowardLaws.{toward-only}
-use Rattle.rules.specs.Edges.{Edge, edgeBefore, Same}
+use Rattle.rules.specs.Edges.{Edge, Same}
 use Rattle.rules.specs.Refined.{Step, Longest, Cut, Gain, Takes, After, Round}
 use Rattle.rules.proofs.EdgeLaws.{edge-order, same-turn}
 

@@ -1,7 +1,7 @@
 -- The spanning graph has one solution: its vertices and its edges are said by what stands in them, and an ascending list is determined by
 -- that.
 -- Assumes nothing.
-use mathlib.Core.Path.{_≡_, sym, subst}
+use mathlib.Core.Path.{_≡_, subst}
 use mathlib.Core.List.{List}
 use Rattle.lists.proofs.SortedLaws.{ascending-same}
 use Rattle.plane.specs.declared.Place.{Place}

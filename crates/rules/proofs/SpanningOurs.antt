@@ -3,7 +3,7 @@
 -- Assumes nothing.
 use mathlib.Core.Path.{_≡_, refl, sym, ap₂}
 use mathlib.Core.Bool.{true, false}
-use mathlib.Core.Logic.{_⊎_, inl, inr}
+use mathlib.Core.Logic.{inl, inr}
 use mathlib.Core.List.{List, Memᴰ·cast}
 use Prim.Native.Nat.{_≤_}
 use native.Mathlib.Omega.{arith}
@@ -29,7 +29,7 @@ use Rattle.graph.proofs.VertexLaws.{lower-left, upper-left, lower-right, upper-
 use Rattle.graph.proofs.VertexLaws.{of-vertices, vertices-ascending}
 use Rattle.graph.proofs.PickLaws.{Fit, Preferred, PicksAt, pick-at, pick-only}
 use Rattle.graph.proofs.EdgeLaws.{PickedBy, link-picked, picked-link, edges-ascending, edge-of}
-use Rattle.rules.specs.Edges.{Edge, edgeBefore}
+use Rattle.rules.specs.Edges.{Edge}
 use Rattle.rules.specs.Spanning.{CornerOf, Vertex, Quadrant, first, second, third, fourth, Lies, May, Picks, Neighbours, Spanning}
 use Rattle.rules.proofs.SpanningOnly.{vertices-one, edges-one}
 

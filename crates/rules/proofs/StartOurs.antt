@@ -6,7 +6,7 @@ use mathlib.Core.Bool.{true}
 use mathlib.Core.Logic.{inl, inr, _↔_}
 use mathlib.Core.List.{List, [], _∷_, map, List·Memᴰ·cases-cons, List·Memᴰ·append-cases, Memᴰ·cast}
 use Prim.Native.Nat.{ℕ, _<_}
-use Rattle.lists.specs.Member.{_∈_, here, there}
+use Rattle.lists.specs.Member.{_∈_}
 use Rattle.lists.proofs.TestLaws.{differ, either}
 use Rattle.lists.proofs.MapLaws.{in-map, of-map}
 use Rattle.joined.specs.Joined.{Link, Alike}
@@ -28,9 +28,9 @@ use Rattle.terminal.specs.Setting.{ends}
 use Rattle.terminal.proofs.WholeLaws.{of-kept}
 use Rattle.terminal.proofs.OurTree as numbers
 use Rattle.numbered.specs.Number.{vertexAt, edgeAt}
-use Rattle.numbered.specs.Tree.{spanning, treeOf, pathsOf, rootsOf}
+use Rattle.numbered.specs.Tree.{spanning, treeOf, rootsOf}
 use Rattle.numbered.specs.Roots.{WayUp, arrived, upward, parentOf}
-use Rattle.numbered.specs.Demand.{Kept, Stands}
+use Rattle.numbered.specs.Stands.{Kept, Stands}
 use Rattle.numbered.proofs.SettingOf.{one-vertex, two-vertex, setting, whole}
 use Rattle.numbered.proofs.CrossingLaws.{G, T, P, kept, weight, given, kept-below, given-in, of-given, given-follows}
 use Rattle.numbered.proofs.RootLaws.{wayPlaces, way-up}

@@ -1,14 +1,14 @@
 -- The terminal tree that is worked out is the one of the rules: roots, parents and ways by the tables are those by places, each bridge with
 -- its path is offered in its turn, and what the tables keep is what is kept.
 -- Assumes nothing.
-use mathlib.Core.Path.{_≡_, refl, sym, ap, ap₂, _∙_, subst}
+use mathlib.Core.Path.{_≡_, refl, sym, ap, _∙_, subst}
 use mathlib.Core.Logic.{inl, inr}
-use mathlib.Core.List.{List, [], _∷_, map, Memᴰ·cast}
+use mathlib.Core.List.{List, [], _∷_, map}
 use Prim.Native.Nat.{ℕ}
 use native.Mathlib.Omega.{arith}
 use Rattle.lists.specs.Member.{_∈_}
 use Rattle.lists.specs.Sorted.{Ascending}
-use Rattle.lists.proofs.MapLaws.{in-map, mapIn, mapIn-then}
+use Rattle.lists.proofs.MapLaws.{in-map, mapIn, mapIn-then, mapIn-of, mapIn-has}
 use Rattle.joined.specs.Joined.{Link}
 use Rattle.joined.specs.Way.{Way, go, long}
 use Rattle.joined.specs.Keep.{kept, Keeping}
@@ -22,7 +22,7 @@ use Rattle.graph.specs.Vertices.{vertices}
 use Rattle.graph.specs.Edges.{beforeEdge}
 use Rattle.numbered.specs.Tree.{spanning, pathsOf, rootOf, rootsOf}
 use Rattle.numbered.specs.Roots as tables
-use Rattle.numbered.specs.Demand.{Kept, keptEnds, Stands}
+use Rattle.numbered.specs.Stands.{Kept, keptEnds, Stands}
 use Rattle.numbered.specs.Bridges.{takenBefore, KeptBridges}
 use Rattle.numbered.proofs.CrossingLaws.{to-numbers}
 use Rattle.numbered.proofs.RootLaws.{nearest-root, smallest-parent}
@@ -30,7 +30,6 @@ use Rattle.numbered.proofs.BridgeLaws.{kept-bridges}
 use Rattle.rules.specs.Edges.{Edge}
 use Rattle.rules.specs.Terminal.{Path, pathEnds, givenFor, takenFirst}
 use Rattle.rules.specs.Terminal.{Root, Through, Parent, Up, arrived, upward, Bridge, Terminal}
-use Rattle.rules.proofs.MapInLaws.{mapIn-of, mapIn-has}
 use Rattle.rules.proofs.TerminalOnly.{root-only, terminal-one}
 
 module _ {ps : List Place} {ms : List Macro} (a : Allowed ps ms) where

@@ -2,20 +2,20 @@
 -- macros have and what is clear, and of nothing else of the two lists. So a solution for one order is one for every other.
 -- Assumes nothing.
 use mathlib.Core.Path.{_≡_, sym, _∙_, subst}
-use mathlib.Core.Logic.{_⊎_, inl, inr}
+use mathlib.Core.Logic.{inl, inr}
 use mathlib.Core.List.{List}
 use Prim.Native.Nat.{ℕ, zero, suc}
 use lib.ListN.{length}
-use Rattle.lists.specs.Member.{_∈_, Among}
+use Rattle.lists.specs.Member.{Among}
 use Rattle.lists.proofs.TestLaws.{either}
 use Rattle.plane.specs.declared.Place.{Place}
 use Rattle.plane.specs.declared.Macro.{Macro}
 use Rattle.plane.specs.Macro.{clear}
 use Rattle.joined.specs.OneTree.{Point}
-use Rattle.rules.specs.Edges.{Edge, Same}
-use Rattle.rules.specs.Spanning.{CornerOf, Vertex, Quadrant, May, Picks, Neighbours, Spanning}
+use Rattle.rules.specs.Edges.{Edge}
+use Rattle.rules.specs.Spanning.{Vertex, Quadrant, May, Picks, Neighbours, Spanning}
 use Rattle.rules.specs.Terminal.{Path, Root, Through, Parent, Up, arrived, upward, Bridge, Terminal}
-use Rattle.rules.specs.Refined.{Gain, Round, Rounds, Loose, Strips, same, strip, Refines, Refined}
+use Rattle.rules.specs.Refined.{Gain, Round, Rounds, Loose, Strips, same, strip, Refines}
 use Rattle.rules.specs.Trees.{Trees}
 
 -- the same pins, as many; the same macros, and so the same places clear of each other

@@ -3,7 +3,7 @@
 use mathlib.Core.Path.{_≡_}
 use mathlib.Core.Bool.{true}
 use mathlib.Core.List.{List, map}
-use Prim.Native.Nat.{ℕ, suc, _+_, _*_, _≤_, _<_}
+use Prim.Native.Nat.{suc, _+_, _*_, _≤_, _<_}
 use lib.ListN.{length}
 use Rattle.lists.specs.Member.{_∈_, Once}
 use Rattle.lists.specs.Total.{total, most}

@@ -30,7 +30,7 @@ use Rattle.joined.proofs.WayLaws.{joined-way, way-more, turned-way, turned-long
 use Rattle.joined.proofs.LightLaws.{in-light, of-light}
 use Rattle.joined.proofs.TableLaws.{table-keeps}
 use Rattle.joined.proofs.ShortestLaws.{kept-tree}
-use Rattle.joined.proofs.Ours.{ours-count, ours-joining, our-way, our-way-one, no-shorter, no-longer}
+use Rattle.joined.proofs.Ours.{ours-count, ours-joining, no-shorter, no-longer}
 use Rattle.terminal.specs.Bounds.{pointBound}
 use Rattle.terminal.specs.Edges.{Graph, one, two, len, from}
 use Rattle.terminal.specs.Labels.{Labels, far, root, labelled}
@@ -291,13 +291,6 @@ module _ {g : Graph} {n : ℕ} {d : ℕ → ℕ → ℕ} {pins : List ℕ} (s : 
   -- they are a joining
   pub kept-joining : Joining (rootsOf g T) pins K
   kept-joining = rw kept-is (ours-joining ℕ-discrete (rootsOf g T) weight offered)
-
-  -- T20: our way, the chain of kept paths that repeats none: there is one, and only one
-  pub way-between : (x y : ℕ) → x ∈ pins → y ∈ pins → (x ≡ y → ⊥) → (ks : List ℕ) × OurWay (rootsOf g T) K x y ks
-  way-between x y i k e = rw kept-is (our-way ℕ-discrete (rootsOf g T) weight offered x y i k e)
-
-  pub way-only : {x y : ℕ} {js ks : List ℕ} → OurWay (rootsOf g T) K x y js → OurWay (rootsOf g T) K x y ks → js ≡ ks
-  way-only u v = our-way-one ℕ-discrete (rootsOf g T) weight offered (rw kept-is at u) (rw kept-is at v)
 
   terminal-dominated : (c : TerminalPath (pairs g) pins) → Dominated (rootsOf g T) weight L (endsOf c) (lengthOf d c)
   terminal-dominated c = dominated (c .way) (c .start-pin) (c .finish-pin)

@@ -36,9 +36,7 @@ use Rattle.refined.proofs.ListingLaws.{listing-lengths}
 use Rattle.refined.proofs.RoundSound.{metal-of}
 use Rattle.refined.proofs.RefinedSound.{refined-promise, refined-tabled}
 use Rattle.wires.specs.Edges.{edgesFrom, tableEdges, treeEdges}
-use Rattle.wires.specs.Wires.{wires}
 use Rattle.wires.specs.Promise.{Given}
-use Rattle.wires.proofs.WireSound.{wired}
 
 -- The edges of the tables
 
@@ -177,8 +175,3 @@ given-edges ms pins t sound few room rooms ranked pts ks r answer =
     (subst (Promise ms pins t) (sym (answer .whole)) (refined-promise ms pins t sound few room rooms))
     (subst (Tabled pins t) (sym (answer .whole)) (refined-tabled ms pins t sound few room rooms ranked))
     (r .total) (answer .sum)
-
--- the wires of the edges given are clear and, together, as long as the total says
-pub given-wires : {ms : List Macro} {pins : List Place} {t : Tree} {es : List (Place × Place)} {total : ℕ} → Given ms pins t es total
-    → ((w : Place × Place) → w ∈ wires es → clear (w .0) (w .1) ms ≡ true) × (lengths distance (wires es) ≡ total)
-given-wires {ms} {es = es} g = (wired es .free ms (g .free), wired es .long ∙ sym (g .sum))
