@@ -1,6 +1,6 @@
 -- The layout of a net file: document 01, "Net file".
 use mathlib.Core.List.{List, [], _∷_, _++_, map}
-use Prim.Native.Nat.{ℕ, zero, suc, _+_, _/_}
+use Prim.Native.Nat.{ℕ, zero, suc, _+_, _*_, _/_}
 use lib.IntN.{ℤ}
 use lib.ListN.{length, take, drop, replicate}
 use Rattle.lent.specs.Over.{over}
@@ -42,6 +42,10 @@ fileWords pins macros =
     headBlock (pinCount pins) (macroCount macros)
     ++ (listBlocks 2 2 1 (blocksFor (length pins)) pins
     ++ listBlocks 3 4 (1 + blocksFor (length pins)) (blocksFor (length macros)) macros)
+
+-- bytes of the longest file: "1 to 6 whole blocks", each of 512 bytes
+abbrev pub fileBound : ℕ
+fileBound = 6 * 512
 
 -- the file of two flat lists
 unfoldable pub fileBytes : List ℤ → List ℤ → List ℕ

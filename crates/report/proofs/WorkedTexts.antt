@@ -21,7 +21,7 @@ unfolding digitsIn decimal whole line refusedText
 shownRefused n = refusedText n
 
 -- "pins 3 macros 0 terminal 9 refined 7", "0 0 2 0 2", "2 0 2 3 3", "2 0 4 0 2", a line each
-abbrev threeLines : List ℕ
+abbrev pub threeLines : List ℕ
 threeLines =
     pinsWord ++ (51 ∷ (macrosWord ++ (48 ∷ (terminalWord ++ (57 ∷ (refinedWord ++ (55 ∷ (newline
     ∷ (48 ∷ (32 ∷ (48 ∷ (32 ∷ (50 ∷ (32 ∷ (48 ∷ (32 ∷ (50 ∷ (newline
