@@ -24,7 +24,7 @@ use Rattle.net.specs.Check.{outOfRange, checked}
 use Rattle.net.proofs.PassedLaws.{PinsCounted, MacrosCounted, passed-all, pins-counted, macros-counted}
 use Rattle.netfile.specs.Words.{wordsOf}
 use Rattle.netfile.specs.Sums.{sealed, wrongSums}
-use Rattle.netfile.specs.Layout.{block, headBlock, blocksFor, listBlocks, fileWords, fileBytes}
+use Rattle.netfile.specs.Layout.{block, headBlock, blocksFor, listBlocks, fileWords, fileBound, fileBytes}
 use Rattle.netfile.specs.Read.{blocksMiscounted, blocksOf, sumsWrong, headCount, numbersIn, pinsIn, macrosIn, countsWrong, laidOut, roomShort, readFile}
 use Rattle.netfile.proofs.LayoutLaws.{length-head, length-list-blocks, length-file}
 use Rattle.netfile.proofs.ReadLaws.{same-true, same-refl}
@@ -211,7 +211,7 @@ pub read-written : (pins macros : List ℤ) (net : ℕ × ℕ) → checked pins 
 read-written pins macros net e = read-laid pins macros (allowed-in-six pins macros net e)
 
 -- F16: no file is longer than 6 blocks
-pub longest-file : (pins macros : List ℤ) (net : ℕ × ℕ) → checked pins macros ≡ given net → length (fileBytes pins macros) ≤ 6 * 512
+pub longest-file : (pins macros : List ℤ) (net : ℕ × ℕ) → checked pins macros ≡ given net → length (fileBytes pins macros) ≤ fileBound
 longest-file pins macros net e =
     omega (arith, length-file pins macros, allowed-in-six pins macros net e .blocks)
 

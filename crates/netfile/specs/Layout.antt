@@ -1,6 +1,6 @@
 -- The layout of a net file: rules F2 to F16.
 use mathlib.Core.List.{List, [], _∷_, _++_, map}
-use Prim.Native.Nat.{ℕ, zero, suc, _+_, _/_}
+use Prim.Native.Nat.{ℕ, zero, suc, _+_, _*_, _/_}
 use lib.IntN.{ℤ}
 use lib.ListN.{length, take, drop, replicate}
 use Rattle.lent.specs.Over.{over}
@@ -40,6 +40,10 @@ fileWords pins macros =
     headBlock (pinCount pins) (macroCount macros)
     ++ (listBlocks 2 2 1 (blocksFor (length pins)) pins
     ++ listBlocks 3 4 (1 + blocksFor (length pins)) (blocksFor (length macros)) macros)
+
+-- F16: bytes of the longest file, 6 blocks of 512
+abbrev pub fileBound : ℕ
+fileBound = 6 * 512
 
 -- the file of two flat lists
 unfoldable pub fileBytes : List ℤ → List ℤ → List ℕ

@@ -12,7 +12,7 @@ use Rattle.net.specs.Bounds.{pinBound, macroBound}
 use Rattle.net.specs.Check.{checked}
 use Rattle.netfile.specs.Words.{wordsOf, coordinate}
 use Rattle.netfile.specs.Sums.{wrongSums}
-use Rattle.netfile.specs.Layout.{perBlock, blocksFor, fileBytes}
+use Rattle.netfile.specs.Layout.{perBlock, blocksFor, fileBound, fileBytes}
 
 -- C1: the length is not that of 1 to 6 blocks
 unfoldable pub blocksMiscounted : List ℕ → Bool
@@ -61,7 +61,7 @@ countsWrong bytes = not (eqb (length bytes / 512) (1 + blocksFor (headCount 4 by
 
 -- a file of as many bytes as n numbers of pins and k of macros take, within 6 blocks; the code's own condition
 pub record Sized (bytes : List ℕ) (n k : ℕ) : Type 0 where
-  pub few : length bytes ≤ 3072
+  pub few : length bytes ≤ fileBound
   pub fit : length bytes ≡ (1 + blocksFor n + blocksFor k) * 512
 
 -- C3: the file is not the one that the layout makes of the lists that it holds. C73: after that, the net's own refusals.

@@ -33,6 +33,9 @@ ghost use Rattle.netfile.specs.Read.{
   readFile,
 };
 
+// Bytes of the longest file: six blocks.
+pub const LONGEST: usize = 6 * 512;
+
 // The answer of a write.
 pub enum Written {
     Bytes(usize),
@@ -353,7 +356,7 @@ fn is_file_of(bytes: &[u8], pins: &[i32], macros: &[i32]) -> bool
     requires { ⌜ Sized (now bytes) (length (now pins)) (length (now macros)) ⌝ }
     ensures { λ r. ⌜ r ≡ sameNumbers (now (bytes .entry)) (fileBytes (now (pins .entry)) (now (macros .entry))) ⌝ }
 {
-    let mut file = [0u8; 3072];
+    let mut file = [0u8; LONGEST];
     put_file(&mut file, pins, macros);
     let n = bytes.len();
     same_bytes(bytes, &file[0..n])

@@ -20,8 +20,8 @@ unfoldable pub shownRefused : ℤ → List ℕ
 unfolding digitsIn decimal whole line refusedText
 shownRefused n = refusedText n
 
--- E15: the header and the lines of three edges
-abbrev threeLines : List ℕ
+-- E15: the header and the lines of three edges, "pins 3 macros 0 terminal 9 refined 7", "0 0 2 0 2", "2 0 2 3 3", "2 0 4 0 2"
+abbrev pub threeLines : List ℕ
 threeLines =
     pinsWord ++ (51 ∷ (macrosWord ++ (48 ∷ (terminalWord ++ (57 ∷ (refinedWord ++ (55 ∷ (newline
     ∷ (48 ∷ (32 ∷ (48 ∷ (32 ∷ (50 ∷ (32 ∷ (48 ∷ (32 ∷ (50 ∷ (newline

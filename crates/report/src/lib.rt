@@ -213,6 +213,10 @@ const PATH_NUMBERS: usize = Net::PINS * 5;
 
 const EDGE_NUMBERS: usize = Net::TREE_POINTS * 4;
 
+// Bytes to read of a file: one more than the longest has, so that a longer one is refused as such. No text depends on what follows
+// (proofs/CutLaws.antt).
+pub const FILE: usize = netfile::LONGEST + 1;
+
 // Bytes for the longest text: a header, and a line for each edge.
 pub const TEXT: usize = 120 + Net::TREE_POINTS * 105;
 
