@@ -17,6 +17,7 @@ use Rattle.lists.proofs.PermLaws.{perm-among, order-lists-set}
 use Rattle.lent.specs.Told.{Told, refused, given, onlyIf}
 use Rattle.lent.specs.Over.{after}
 use Rattle.lent.specs.Entries.{flat}
+use Rattle.lent.proofs.AfterLaws.{after-refused}
 use Rattle.joined.specs.Cost.{lengths}
 use Rattle.plane.specs.Distance.{distance}
 use Rattle.plane.specs.Flat.{placesOf, macrosOf}
@@ -43,11 +44,6 @@ use Rattle.router.specs.Refined.{refinedOf, edgesIn, metalIn, laidOf, la
 use Rattle.router.specs.Refined.{wiresGiven, wired}
 use Rattle.router.specs.EveryOrder.{SameForBoth}
 use Rattle.router.proofs.AnswerLaws.{only-refused}
-
--- a refused call leaves what was lent
-after-refused : {A X : Type 0} (t : Told A) (n : ℕ) (xs lent : List X) → t ≡ refused n → after t xs lent ≡ lent
-unfolding after
-after-refused t n xs lent r = rw r refl
 
 -- bridges with lengths, in an order
 given-order : Order (firstThen edgeBefore ltb)
@@ -77,7 +73,7 @@ module _ (pins pins′ macros macros′ : List ℤ) (p : SamePins pins pins′) 
     untouched : {A X : Type 0} (x y : Told A) (xs ys lent : List X) →
         after (onlyIf (checked pins macros) x) xs lent ≡ after (onlyIf (checked pins′ macros′) y) ys lent
     untouched x y xs ys lent =
-        after-refused _ n xs lent (only-refused _ x n r) ∙ sym (after-refused _ n ys lent (only-refused _ y n (sym same-check ∙ r)))
+        sym (after-refused _ xs lent n (only-refused _ x n r)) ∙ after-refused _ ys lent n (only-refused _ y n (sym same-check ∙ r))
 
     refused-both : SameForBoth pins pins′ macros macros′
     unfolding graphed terminalTree refinedTree wired

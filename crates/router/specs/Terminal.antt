@@ -1,5 +1,5 @@
 -- The terminal tree among the operations: rules C63 and C64.
--- What it is, and what is promised of it, stands in `numbered` (specs/Tree.antt, specs/Demand.antt).
+-- How it is worked out stands in `numbered` (specs/Tree.antt), what it is in `rules` (specs/Terminal.antt).
 use mathlib.Core.List.{List}
 use Prim.Native.Nat.{ℕ, _*_}
 use lib.IntN.{ℤ, pos}

@@ -93,8 +93,8 @@ fn graph_of_allowed(
 }
 
 // Terminal tree: each kept path's bridge and length in the order kept, how many there are and their total, or 11 to 17, then 21 where
-// fewer than 5m numbers are lent. That these paths are a joining, that none is shorter, and that no chain has a lower longest path, is
-// `joined` in proofs/Published.antt; so is that roots, parents, ways, bridges and kept paths are those of rules T6 to T14.
+// fewer than 5m numbers are lent. What these paths are, that no joining is shorter and no chain has a lower longest path: `Promised`
+// (specs/Published.antt).
 pub fn terminal_tree(pins: &[i32], macros: &[i32], paths: &mut [i64]) -> Tree
     ensures answer { λ r. ⌜ toldTree r ≡ terminalTree (now (pins .entry)) (now (macros .entry)) (length (now (paths .entry))) ⌝ }
     ensures paths { λ _. ⌜ now (paths .exit)
@@ -152,8 +152,7 @@ fn terminal_of_allowed(pins: &[i32], macros: &[i32], paths: &mut [i64]) -> Tree
 }
 
 // Refined tree: its edges in order, how many there are and their total, or 11 to 17, then 21 where fewer than 4(n + m) numbers are lent.
-// That they hold all pins as one tree, enter no interior and are no longer than the terminal tree is `joined` in proofs/Published.antt; so
-// is that each round takes what R10 says, and that pruning leaves none.
+// Which edges they are, and that they hold all pins as one tree, enter no interior and are no longer than the terminal tree: `Promised`.
 pub fn refined_tree(pins: &[i32], macros: &[i32], edges: &mut [i32]) -> Tree
     ensures answer { λ r. ⌜ toldTree r ≡ refinedTree (now (pins .entry)) (now (macros .entry)) (length (now (edges .entry))) ⌝ }
     ensures edges { λ _. ⌜ now (edges .exit)
@@ -188,7 +187,7 @@ fn refined_of_allowed(pins: &[i32], macros: &[i32], edges: &mut [i32]) -> Tree
 }
 
 // Wires: those of the refined tree's edges, in order, and how many there are, or 11 to 17, then 21 where fewer than 8(n + m) numbers are
-// lent. That each is along one axis, in its edge's box and clear is `joined` too.
+// lent. That each is along one axis, in its edge's box and clear: `Promised`.
 pub fn wires(pins: &[i32], macros: &[i32], wires: &mut [i32]) -> Wired
     ensures answer { λ r. ⌜ toldWires r ≡ wired (now (pins .entry)) (now (macros .entry)) (length (now (wires .entry))) ⌝ }
     ensures wires { λ _. ⌜ now (wires .exit)
