@@ -35,6 +35,18 @@ mul-if1 c = search needs
 mul-if1-2 : tie.Need-mul-if1-2
 mul-if1-2 c = search needs
 
+returns : tie.Need-returns
+unfolding toldGraph number
+returns c =
+    let a = c .before .args in
+    let e = graph-short (now (a .pins)) (now (a .macros)) (length (now (a .vertices))) (length (now (a .edges))) (c .if1 .taken) in (
+      sym e,
+      (
+        after-refused _ (flat placeNumbers (verticesOf (now (a .pins)) (now (a .macros)))) (now (a .vertices)) _ e,
+        after-refused _ (flat edgeNumbers (edgesOf (now (a .pins)) (now (a .macros)))) (now (a .edges)) _ e,
+      ),
+    )
+
 -- the room that is there, and how many vertices there are
 room : (c : tie.Else1) → (pointCount (now (c .before .args .pins)) (now (c .before .args .macros)) * 2 ≤ length (now (c .before .args .vertices))) × (pointCount (now (c .before .args .pins)) (now (c .before .args .macros)) * 16 ≤ length (now (c .before .args .edges)))
 room c = graph-room (now (c .before .args .pins)) (now (c .before .args .macros)) (length (now (c .before .args .vertices))) (length (now (c .before .args .edges))) (c .if1 .left)
@@ -47,18 +59,6 @@ few d =
 
 fits : (d : tie.After-vertices) → d .vertices .result * 2 ≤ length (d .vertices .last .1 .1 .0)
 fits d = omega (arith, few d, room (d .before .before), d .vertices .kept .1 .1 .0)
-
-returns : tie.Need-returns
-unfolding toldGraph number
-returns c =
-    let a = c .before .args in
-    let e = graph-short (now (a .pins)) (now (a .macros)) (length (now (a .vertices))) (length (now (a .edges))) (c .if1 .taken) in (
-      sym e,
-      (
-        after-refused _ (flat placeNumbers (verticesOf (now (a .pins)) (now (a .macros)))) (now (a .vertices)) _ e,
-        after-refused _ (flat edgeNumbers (edgesOf (now (a .pins)) (now (a .macros)))) (now (a .edges)) _ e,
-      ),
-    )
 
 vertices-requires : tie.Need-vertices-requires
 vertices-requires c κs = omega (arith, room (c .before))

@@ -57,7 +57,7 @@ give-edges-requires c κs =
     let s = d .before .before .before .before in
     let a = s .args in
     let few = answer-few (s .pre) (d .refine-allowed .ensures) in (
-      d .refine-allowed .ensures .few .1,
+      omega (arith, d .refine-allowed .ensures .few .1),
       (
         answer-small (s .pre) (d .refine-allowed .ensures),
         omega (arith, few, length-places (now (a .pins)), length-macros (now (a .macros)), d .before .before .before .if1 .left),
