@@ -1,5 +1,6 @@
 pub mod GraphAnswer
 pub mod AnswerLaws
+pub mod CallLaws
 pub mod FreshTables
 pub mod RefinedLaws
 pub mod EveryOrder

@@ -33,10 +33,10 @@ unfolding code valueAfter toldTree
 returns c =
     let d = c .before .before .before .before in
     let s = d .before .before in
-    let e = sym (ap toldTree (c .before .answer .given .1)) ∙ d .refined-tree .ensures .0 in (
+    let e = sym (ap toldTree (c .before .answer .given .1)) ∙ d .refined-tree .ensures .answer in (
       ap (λ (t : Told (ℕ × ℤ)). pos (code t)) e,
       (
-        d .refined-tree .ensures .1,
+        d .refined-tree .ensures .list,
         (
           ap (λ (t : Told (ℕ × ℤ)). valueAfter (λ tree. tree .0) t (now (s .args .count))) e,
           toZ-ofZ w64 _ (search needs) ∙ ap (λ (t : Told (ℕ × ℤ)). valueAfter (λ tree. tree .1) t (now (s .args .total))) e,
@@ -53,10 +53,10 @@ returns-2 c =
     let a = c .before .before in
     let d = a .before .before .before in
     let s = d .before .before in
-    let e = sym (ap toldTree (a .answer2 .given .1)) ∙ d .refined-tree .ensures .0 in (
+    let e = sym (ap toldTree (a .answer2 .given .1)) ∙ d .refined-tree .ensures .answer in (
       toZ-ofZ w32 _ (search needs) ∙ c .number .ensures ∙ ap (λ (t : Told (ℕ × ℤ)). pos (code t)) e,
       (
-        d .refined-tree .ensures .1,
+        d .refined-tree .ensures .list,
         (
           ap (λ (t : Told (ℕ × ℤ)). valueAfter (λ tree. tree .0) t (now (s .args .count))) e,
           ap (λ (t : Told (ℕ × ℤ)). valueAfter (λ tree. tree .1) t (now (s .args .total))) e,

@@ -1,8 +1,8 @@
--- `router::terminal_of_allowed` meets its contract: where there is room, the paths given are those of the net's terminal tree.
+-- `router::allowed::terminal_tree` meets its contract: where there is room, the paths given are those of the net's terminal tree.
 -- Assumes nothing.
-use mathlib.Core.Path.{_≡_, refl, sym, ap, ap₂, _∙_}
+use mathlib.Core.Path.{_≡_, refl, ap, ap₂, _∙_}
 use mathlib.Core.List.{List}
-use Prim.Native.Nat.{ℕ, suc, _*_, _≤_}
+use Prim.Native.Nat.{ℕ, _*_, _≤_}
 use native.Mathlib.Omega.{arith}
 use lib.IntN.{ℤ, pos}
 use lib.ListN.{length}
@@ -13,7 +13,6 @@ use denote.Ref.{now}
 use Rattle.lent.specs.Told.{given}
 use Rattle.lent.specs.Over.{over}
 use Rattle.lent.specs.Entries.{flat}
-use Rattle.lent.proofs.AfterLaws.{after-refused, after-given}
 use Rattle.plane.specs.declared.Place.{Place}
 use Rattle.plane.specs.Flat.{placesOf}
 use Rattle.plane.proofs.FlatLaws.{length-places}
@@ -24,9 +23,10 @@ use Rattle.numbered.proofs.PathLaws.{total-small, paths-one-fewer, kept-fewer, 
 use Rattle.router.specs.Terminal.{pathsOf, pathsTotal, terminalGiven, toldTree}
 use Rattle.router.proofs.AnswerLaws.{room-short, room-enough}
 use Rattle.router.proofs.FreshTables.{fresh}
+use Rattle.router.proofs.CallLaws.{gives-refused, gives-given}
 use borrow.Author.Needs.{needs}
-use Rattle.router.proofs.terminal_of_allowed.Statement.{statement}
-use Rattle.router.proofs.terminal_of_allowed.Tie as tie
+use Rattle.router.proofs.allowed.terminal_tree.Statement.{statement}
+use Rattle.router.proofs.allowed.terminal_tree.Tie as tie
 
 mul-if1 : tie.Need-mul-if1
 mul-if1 c = search needs
@@ -35,8 +35,7 @@ returns : tie.Need-returns
 unfolding terminalGiven toldTree number
 returns c =
     let a = c .before .args in
-    let e = room-short (pinCount (now (a .pins)) * 5) (length (now (a .paths))) _ (c .if1 .taken) in
-    (sym e, after-refused _ (flat pathNumbers (pathsOf (now (a .pins)) (now (a .macros)))) (now (a .paths)) _ e)
+    gives-refused refl (room-short (pinCount (now (a .pins)) * 5) (length (now (a .paths))) _ (c .if1 .taken))
 
 terminal-tree-requires : tie.Need-terminal-tree-requires
 terminal-tree-requires c κs = (c .before .before .before .before .before .before .before .before .before .before .before .before .before .pre, fresh)
@@ -67,19 +66,19 @@ returns-2 c =
     let a = s .args in
     let w = d .terminal-tree .ensures in
     let paths = worked-paths (s .pre) fresh w in
-    let e = room-enough {A = ℕ × ℤ} (pinCount (now (a .pins)) * 5) (length (now (a .paths)))
-    (length (pathsOf (now (a .pins)) (now (a .macros))), pos (pathsTotal (now (a .pins)) (now (a .macros)))) (d .before .before .before .before .before .before .before .before .before .before .before .before .before .if1 .left) in
-    let many : d .terminal-tree .result .kept ≡ length (pathsOf (now (a .pins)) (now (a .macros))) = omega (arith, kept-fewer (s .pre) fresh w, paths-one-fewer (s .pre)) in
+    let given-is : ℕ × ℤ = (length (pathsOf (now (a .pins)) (now (a .macros))), pos (pathsTotal (now (a .pins)) (now (a .macros)))) in
+    let enough = d .before .before .before .before .before .before .before .before .before .before .before .before .before .if1 .left in
+    let many : d .terminal-tree .result .kept ≡ length (pathsOf (now (a .pins)) (now (a .macros)))
+    = omega (arith, kept-fewer (s .pre) fresh w, paths-one-fewer (s .pre)) in
     let sum : toZ w64 (d .terminal-tree .result .total) ≡ pos (pathsTotal (now (a .pins)) (now (a .macros))) =
-    toZ-pos w64 (d .terminal-tree .result .total) (omega (arith, w .total-is, total-small (s .pre))) ∙ ap pos (w .total-is) in (
-      ap₂ (λ (n : ℕ) (z : ℤ). given (n, z)) many sum ∙ sym e,
-      c .before .before .give-paths .ensures
-          ∙ ap (λ (ps : List ((Place × Place) × ℕ)). over (flat pathNumbers ps) (now (a .paths))) paths
-          ∙ after-given _ (flat pathNumbers (pathsOf (now (a .pins)) (now (a .macros)))) (now (a .paths)) _ e,
-    )
+    toZ-pos w64 (d .terminal-tree .result .total) (omega (arith, w .total-is, total-small (s .pre))) ∙ ap pos (w .total-is) in
+    gives-given
+    (ap₂ (λ (n : ℕ) (z : ℤ). given (n, z)) many sum)
+    (room-enough {A = ℕ × ℤ} (pinCount (now (a .pins)) * 5) (length (now (a .paths))) given-is enough)
+    (c .before .before .give-paths .ensures ∙ ap (λ (ps : List ((Place × Place) × ℕ)). over (flat pathNumbers ps) (now (a .paths))) paths)
 
-pub terminal-of-allowed-spec : {M : Type 1} → statement M
-terminal-of-allowed-spec =
+pub terminal-tree-spec : {M : Type 1} → statement M
+terminal-tree-spec =
     tie.close
     (tie.spec
     mul-if1

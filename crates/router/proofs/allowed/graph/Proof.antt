@@ -1,27 +1,27 @@
--- `router::graph_of_allowed` meets its contract: where there is room, the tables hold the vertices, and the edges of just those vertices.
+-- `router::allowed::graph` meets its contract: where there is room, the tables hold the vertices, and the edges of just those vertices.
 -- Assumes nothing.
-use mathlib.Core.Path.{_≡_, sym, ap, ap₂, _∙_}
+use mathlib.Core.Path.{_≡_, refl, sym, ap, ap₂, _∙_}
 use mathlib.Core.List.{List}
 use Prim.Native.Nat.{ℕ, _*_, _≤_}
 use native.Mathlib.Omega.{arith}
 use lib.ListN.{length, take}
 use lib.Seq.{length-take-le}
 use denote.Ref.{now}
-use Rattle.lent.specs.Told.{Told, given}
-use Rattle.lent.specs.Over.{over, after}
+use Rattle.lent.specs.Told.{given}
+use Rattle.lent.specs.Over.{over}
 use Rattle.lent.specs.Entries.{flat}
-use Rattle.lent.proofs.AfterLaws.{after-refused, after-given}
 use Rattle.plane.specs.declared.Place.{Place}
 use Rattle.plane.specs.Flat.{placesOf, macrosOf}
 use Rattle.net.specs.Answer.{number}
 use Rattle.graph.specs.Edges.{edges}
-use Rattle.graph.specs.Numbers.{placeNumbers, edgeNumbers}
+use Rattle.graph.specs.Numbers.{edgeNumbers}
 use Rattle.graph.proofs.ReadBack.{vertices-back}
-use Rattle.router.specs.Graph.{verticesOf, edgesOf, pointCount, graphGiven, toldGraph}
+use Rattle.router.specs.Graph.{verticesOf, edgesOf, pointCount, toldGraph}
 use Rattle.router.proofs.GraphAnswer.{graph-short, graph-fits, graph-room, vertices-few}
+use Rattle.router.proofs.CallLaws.{two-refused, two-given}
 use borrow.Author.Needs.{needs}
-use Rattle.router.proofs.graph_of_allowed.Statement.{statement}
-use Rattle.router.proofs.graph_of_allowed.Tie as tie
+use Rattle.router.proofs.allowed.graph.Statement.{statement}
+use Rattle.router.proofs.allowed.graph.Tie as tie
 
 mul-n : tie.Need-mul-n
 mul-n c = search needs
@@ -39,13 +39,7 @@ returns : tie.Need-returns
 unfolding toldGraph number
 returns c =
     let a = c .before .args in
-    let e = graph-short (now (a .pins)) (now (a .macros)) (length (now (a .vertices))) (length (now (a .edges))) (c .if1 .taken) in (
-      sym e,
-      (
-        after-refused _ (flat placeNumbers (verticesOf (now (a .pins)) (now (a .macros)))) (now (a .vertices)) _ e,
-        after-refused _ (flat edgeNumbers (edgesOf (now (a .pins)) (now (a .macros)))) (now (a .edges)) _ e,
-      ),
-    )
+    two-refused refl (graph-short (now (a .pins)) (now (a .macros)) (length (now (a .vertices))) (length (now (a .edges))) (c .if1 .taken))
 
 -- the room that is there, and how many vertices there are
 room : (c : tie.Else1) → (pointCount (now (c .before .args .pins)) (now (c .before .args .macros)) * 2 ≤ length (now (c .before .args .vertices))) × (pointCount (now (c .before .args .pins)) (now (c .before .args .macros)) * 16 ≤ length (now (c .before .args .edges)))
@@ -93,20 +87,18 @@ returns-2 c =
     let d = c .before .before .before .before .before in
     let a = d .before .before .before .args in
     let vs = verticesOf (now (a .pins)) (now (a .macros)) in
-    let e = graph-fits (now (a .pins)) (now (a .macros)) (length (now (a .vertices))) (length (now (a .edges))) (d .before .before .if1 .left) in
-    let back : placesOf (take (d .vertices .result * 2) (d .vertices .last .1 .1 .0)) ≡ vs = vertices-back vs (now (a .vertices)) _ _ (d .vertices .ensures .1) (d .vertices .ensures .0) in
-    let these : edges (macrosOf (now (a .macros))) (placesOf (take (d .vertices .result * 2) (d .vertices .last .1 .1 .0))) ≡ edgesOf (now (a .pins)) (now (a .macros)) = ap (edges (macrosOf (now (a .macros)))) back in (
-      ap₂ (λ (v w : ℕ). given (v, w)) (d .vertices .ensures .0) (c .before .edges .ensures .0 ∙ ap length these) ∙ sym e,
-      (
-        d .vertices .ensures .1 ∙ after-given _ (flat placeNumbers vs) (now (a .vertices)) _ e,
-        c .before .edges .ensures .1
-            ∙ ap (λ (es : List (Place × Place)). over (flat edgeNumbers es) (now (a .edges))) these
-            ∙ after-given _ (flat edgeNumbers (edgesOf (now (a .pins)) (now (a .macros)))) (now (a .edges)) _ e,
-      ),
-    )
+    let seen = take (d .vertices .result * 2) (d .vertices .last .1 .1 .0) in
+    let back : placesOf seen ≡ vs = vertices-back vs (now (a .vertices)) _ _ (d .vertices .ensures .1) (d .vertices .ensures .0) in
+    let these : edges (macrosOf (now (a .macros))) (placesOf seen) ≡ edgesOf (now (a .pins)) (now (a .macros))
+    = ap (edges (macrosOf (now (a .macros)))) back in
+    two-given
+    (ap₂ (λ (v w : ℕ). given (v, w)) (d .vertices .ensures .0) (c .before .edges .ensures .0 ∙ ap length these))
+    (graph-fits (now (a .pins)) (now (a .macros)) (length (now (a .vertices))) (length (now (a .edges))) (d .before .before .if1 .left))
+    (d .vertices .ensures .1)
+    (c .before .edges .ensures .1 ∙ ap (λ (es : List (Place × Place)). over (flat edgeNumbers es) (now (a .edges))) these)
 
-pub graph-of-allowed-spec : {M : Type 1} → statement M
-graph-of-allowed-spec =
+pub graph-spec : {M : Type 1} → statement M
+graph-spec =
     tie.close
     (tie.spec
     mul-n

@@ -1,4 +1,4 @@
--- `router::refine_allowed` meets its contract: the union of the kept paths that the tables hold is what the refiner goes on from.
+-- `router::allowed::refine` meets its contract: the union of the kept paths that the tables hold is what the refiner goes on from.
 -- Assumes nothing.
 use mathlib.Core.Path.{_≡_, _∙_, subst}
 use native.Mathlib.Omega.{arith}
@@ -10,9 +10,8 @@ use Rattle.refined.specs.Refined.{Answer}
 use Rattle.union.specs.Union.{unionOf}
 use Rattle.union.proofs.WorkedStart.{worked-startable, worked-start, refinable}
 use Rattle.router.proofs.FreshTables.{fresh}
-use borrow.Author.Needs.{needs}
-use Rattle.router.proofs.refine_allowed.Statement.{statement}
-use Rattle.router.proofs.refine_allowed.Tie as tie
+use Rattle.router.proofs.allowed.refine.Statement.{statement}
+use Rattle.router.proofs.allowed.refine.Tie as tie
 
 terminal-tree-requires : tie.Need-terminal-tree-requires
 terminal-tree-requires c κs = (c .before .before .before .before .before .before .before .before .before .before .before .before .pre .0, fresh)
@@ -45,5 +44,5 @@ returns c =
     let a = u .before .before .before .before .before .before .before .before .before .before .before .before .before .before .before .before .before .before .before .before .before .before .before .before .before .args in
     subst (λ (t : Tree). Answer (macrosOf (now (a .macros))) (placesOf (now (a .pins))) t (c .refine .last .1 .1 .0) (c .refine .last .1 .1 .1 .1 .0) (c .refine .result)) (union-is u) (c .refine .ensures)
 
-pub refine-allowed-spec : {M : Type 1} → statement M
-refine-allowed-spec = tie.close (tie.spec terminal-tree-requires start-requires refine-requires returns)
+pub refine-spec : {M : Type 1} → statement M
+refine-spec = tie.close (tie.spec terminal-tree-requires start-requires refine-requires returns)
