@@ -22,3 +22,5 @@ pub mod RefinesTree
 pub mod StartOurs
 pub mod RefinedOurs
 pub mod TreesOurs
+-- Wrong trees
+pub mod WrongTrees
