@@ -2,29 +2,18 @@
 
 use std::fs::File;
 use std::io::Write;
-use std::path::{Path, PathBuf};
+use std::path::Path;
 use std::process::{Command, Output, Stdio};
 use std::thread;
 use std::time::{Duration, Instant};
 
 use harness::matching::{file, routed};
+use harness::program::path as program;
 use reference::generate::{net, Kind};
 use reference::lists::Lists;
 use reference::netfile;
 use reference::route::route;
 use reference::text;
-
-/// Where the prover puts the program; CALZUNDI_ROUTE names another place.
-fn program() -> PathBuf {
-    let made = Path::new(env!("CARGO_MANIFEST_DIR")).join("../target/bin/route");
-    let path = std::env::var_os("CALZUNDI_ROUTE").map_or(made, PathBuf::from);
-    let name = path.display();
-    assert!(
-        path.exists(),
-        "{name} is not there: `rt check route` makes it"
-    );
-    path
-}
 
 fn command() -> Command {
     let mut command = Command::new(program());
