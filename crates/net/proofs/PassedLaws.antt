@@ -83,11 +83,11 @@ pins-counted pins e =
     record {
       whole = eqb-true (length pins % 2) 0 (not-false _ (r .0));
       some = omega (arith, n);
-      few = ltb-false 64 (length pins / 2) (s .1);
+      few = ltb-false pinBound (length pins / 2) (s .1);
     }
 
 pub macros-counted : (macros : List ℤ) → macrosMiscounted macros ≡ false → MacrosCounted macros
 unfolding macrosMiscounted
 macros-counted macros e =
     let r = or-none _ _ e in
-    record { whole = eqb-true (length macros % 4) 0 (not-false _ (r .0)); few = ltb-false 64 (length macros / 4) (r .1) }
+    record { whole = eqb-true (length macros % 4) 0 (not-false _ (r .0)); few = ltb-false macroBound (length macros / 4) (r .1) }

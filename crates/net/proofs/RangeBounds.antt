@@ -2,7 +2,7 @@
 -- Assumes nothing.
 use mathlib.Core.Path.{_≡_, refl}
 use mathlib.Core.Bool.{false}
-use Prim.Native.Nat.{_≤_}
+use Prim.Native.Nat.{_*_, _≤_}
 use lib.IntN.{ℤ, pos, negℤ}
 use lib.Signed.{ltZ}
 use Rattle.lists.proofs.TestLaws.{or-none}
@@ -17,10 +17,10 @@ use Rattle.net.specs.Allowed.{PlaceInRange}
 
 -- N4: a coordinate is at most 1,000,000 from 0
 pub record Near (z : ℤ) : Type 0 where
-  pub above : up z ≤ 1000000
-  pub below : down z ≤ 1000000
+  pub above : up z ≤ coordinateBound
+  pub below : down z ≤ coordinateBound
 
-least-sides : (up (negℤ (pos coordinateBound)) ≡ 0) × (down (negℤ (pos coordinateBound)) ≡ 1000000)
+least-sides : (up (negℤ (pos coordinateBound)) ≡ 0) × (down (negℤ (pos coordinateBound)) ≡ coordinateBound)
 unfolding up down
 least-sides = (refl, refl)
 
@@ -38,7 +38,7 @@ in-range-near z e =
 apart-near : (a b : ℤ) → Near a → Near b → apart a b ≤ 2000000
 apart-near a b m n = omega (signed, apart-sides a b)
 
-pub distance-in-range : (a b : Place) → PlaceInRange a → PlaceInRange b → distance a b ≤ 4000000
+pub distance-in-range : (a b : Place) → PlaceInRange a → PlaceInRange b → distance a b ≤ coordinateBound * 4
 unfolding distance
 distance-in-range a b r s =
     omega (signed, apart-near _ _ (in-range-near _ (r .x)) (in-range-near _ (s .x)), apart-near _ _ (in-range-near _ (r .y)) (in-range-near _ (s .y)))

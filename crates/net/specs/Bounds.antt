@@ -1,6 +1,6 @@
 -- N6: the net's bounds, named here once for the definitions, and as constants of `Net` for the code. The proofs of the check and of the
 -- code on tables fail where the two differ.
-use Prim.Native.Nat.{ℕ}
+use Prim.Native.Nat.{ℕ, _+_, _*_}
 
 -- N5: from 1 pin to 64, and up to 64 macros
 abbrev pub pinBound : ℕ
@@ -13,12 +13,13 @@ macroBound = 64
 abbrev pub coordinateBound : ℕ
 coordinateBound = 1000000
 
--- N7, N23, N24: at most n = 320 points and 1,280 edges of the graph, and n + m = 384 points of the refined tree
+-- N7, N23, N24: what follows from them. The points of a graph are the pins and four corners a macro (320), each picks at most four
+-- (1,280), and refining brings at most one point a round (384).
 abbrev pub pointBound : ℕ
-pointBound = 320
+pointBound = pinBound + macroBound * 4
 
 abbrev pub edgeBound : ℕ
-edgeBound = 1280
+edgeBound = pointBound * 4
 
 abbrev pub treeBound : ℕ
-treeBound = 384
+treeBound = pointBound + pinBound

@@ -1,7 +1,7 @@
 -- Distance: absolute values worked out across zero, and the four properties of a cost of two places (the same both ways, 0 exactly at
 -- equal places, additive through a place between, the triangle).
 -- Assumes nothing.
-use mathlib.Core.Path.{_≡_, refl, sym, ap, ap₂, _∙_}
+use mathlib.Core.Path.{_≡_, ap₂}
 use mathlib.Core.Bool.{true, false}
 use Prim.Native.Nat.{ℕ, _+_, _-_, _^_, _≤_, _<_, min, max}
 use lib.IntN.{ℤ, pos, _-ℤ_, natAbs}
@@ -10,10 +10,10 @@ use mir.Syntax.{w32, w64}
 use mir.Val.{SFits}
 use Rattle.lists.proofs.TestLaws.{by}
 use Rattle.signed.specs.Sides.{up, down, Le}
-use Rattle.signed.specs.Order.{minZ, maxZ}
 use Rattle.signed.proofs.SideLaws.{one-side, of-sfits, to-sfits, sub-sides, abs-sides, up-pos, down-pos, eq-of, signed}
 use Rattle.signed.proofs.OrderLaws.{min-sides, max-sides}
 use Rattle.plane.specs.declared.Place.{Place}
+use Rattle.plane.specs.Box.{Between}
 use Rattle.plane.specs.Distance.{apart, distance}
 
 -- the absolute value of a number below zero and of one that is not
@@ -76,10 +76,6 @@ apart-covers a b = omega (signed, apart-sides a b)
 
 apart-covered : (a b : ℤ) (n : ℕ) → up a + down b ≤ up b + down a + n → up b + down a ≤ up a + down b + n → apart a b ≤ n
 apart-covered a b n h k = omega (signed, apart-sides a b)
-
--- s between a and b
-abbrev pub Between : ℤ → ℤ → ℤ → Type 0
-Between s a b = Le (minZ a b) s × Le s (maxZ a b)
 
 -- additive through a number between
 ordered-through : (s a b : ℤ) → Le a s → Le s b → apart s a + apart s b ≡ apart a b

@@ -1,9 +1,8 @@
 -- The middle of three numbers lies between each two of them and is one of them, in whatever order they are named.
 -- Assumes nothing.
 use mathlib.Core.Path.{_≡_, ap₂}
-use mathlib.Core.Bool.{true, false}
 use mathlib.Core.Logic.{_⊎_, inl, inr}
-use Prim.Native.Nat.{ℕ, _+_, min, max}
+use Prim.Native.Nat.{_+_, min, max}
 use lib.IntN.{ℤ}
 use lib.Signed.{leZ}
 use Rattle.lists.proofs.TestLaws.{by}
@@ -12,7 +11,7 @@ use Rattle.signed.specs.Order.{minZ, maxZ}
 use Rattle.signed.proofs.SideLaws.{eq-of, signed}
 use Rattle.signed.proofs.OrderLaws.{min-sides, max-sides, min-comm, max-comm}
 use Rattle.plane.specs.Middle.{middle}
-use Rattle.plane.proofs.DistanceLaws.{Between}
+use Rattle.plane.specs.Box.{Between}
 
 -- what omega needs of `middle`
 pub middle-sides : (a b c : ℤ)

@@ -117,6 +117,20 @@ module _ (ms : List Macro) (pins : List Place) (pts : List ℤ) (n : ℕ) (ks : 
   unfolding exchange
   exchange-laid c e = let z : suc (suc e) - 2 ≡ e = omega arith in rw z refl
 
+  -- R14: the sum of the edges falls by the gain
+  pub round-falls : (c : Best) (e : ℕ) → Sound ms pins (tree pts n ks e) → Won e c →
+      metalOf (exchange c pts n ks e) + c .gain ≡ metalOf (tree pts n ks e)
+  round-falls c zero sound win = absurd (let z : ⊥ = omega (arith, win .edge) in z)
+  round-falls c (suc zero) sound win =
+      let t = taken ms pins pts n ks 0 sound few (c .gain) (c .edge) (c .point) (c .cut) win in
+      absurd (win .two (let z : c .cut ≡ c .edge = omega (arith, t .edge, t .cut) in z))
+  round-falls c (suc (suc e)) sound win =
+      let t = taken ms pins pts n ks (suc e) sound few (c .gain) (c .edge) (c .point) (c .cut) win in
+      let s = sized ms pins pts n ks (suc e) sound few (c .gain) (c .edge) (c .point) (c .cut) win in
+      let l = laid-lengths ms pins pts n ks e (c .edge) (c .cut) (c .point) sound t few (omega arith) (omega (arith, s)) in
+      let at = length-at pts ks (suc (suc e)) (c .cut) (omega (arith, s)) (t .cut) in
+      rw (exchange-laid c e) (omega (arith, l, at, win .gained))
+
   pub round-kept : (c : Best) (e : ℕ) → Sound ms pins (tree pts n ks e) → Won e c → Kept ms pins (tree pts n ks e) (exchange c pts n ks e) 1
   round-kept c zero sound win = absurd (let z : ⊥ = omega (arith, win .edge) in z)
   round-kept c (suc zero) sound win =

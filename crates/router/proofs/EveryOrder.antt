@@ -26,7 +26,8 @@ use Rattle.plane.proofs.MacroLaws.{clear-perm}
 use Rattle.net.specs.Allowed.{Allowed}
 use Rattle.net.specs.Check.{pinCount, checked}
 use Rattle.net.proofs.AllowedLaws.{given-allowed}
-use Rattle.net.proofs.CheckOrder.{SamePins, SameMacros, check-order}
+use Rattle.net.specs.Order.{SamePins, SameMacros}
+use Rattle.net.proofs.CheckOrder.{check-order}
 use Rattle.graph.specs.Numbers.{placeNumbers, edgeNumbers}
 use Rattle.numbered.specs.Tree.{pathNumbers}
 use Rattle.numbered.proofs.BestJoiningLaws.{paths-sum}
@@ -34,7 +35,7 @@ use Rattle.wires.specs.Wires.{wires}
 use Rattle.rules.specs.Edges.{Edge, edgeBefore}
 use Rattle.rules.specs.Terminal.{givenFor}
 use Rattle.rules.proofs.EdgeLaws.{edge-order}
-use Rattle.rules.proofs.TreesOrder.{Alike}
+use Rattle.rules.proofs.TreesOrder.{SameNet}
 use Rattle.rules.proofs.TerminalOurs.{paths-given}
 use Rattle.rules.proofs.TreesOurs.{trees-same}
 use Rattle.router.specs.Graph.{verticesOf, edgesOf, pointCount, graphRoomShort, graphGiven, graphed}
@@ -101,7 +102,7 @@ module _ (pins pins′ macros macros′ : List ℤ) (p : SamePins pins pins′) 
 
     -- by the rules the two nets are alike
     alike : List·Permᴰ (placesOf pins) (placesOf pins′) → List·Permᴰ (macrosOf macros) (macrosOf macros′) →
-        Alike (placesOf pins) (placesOf pins′) (macrosOf macros) (macrosOf macros′)
+        SameNet (placesOf pins) (placesOf pins′) (macrosOf macros) (macrosOf macros′)
     alike d e = record {
       to = perm-among d;
       from = perm-among (Permᴰ·symm d);

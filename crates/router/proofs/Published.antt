@@ -1,21 +1,26 @@
 -- What is promised of an allowed net, from the check alone.
 -- Assumes nothing.
-use mathlib.Core.Path.{_≡_, refl, sym, _∙_}
-use mathlib.Core.List.{List}
+use mathlib.Core.Path.{_≡_, refl, sym, ap, _∙_}
+use mathlib.Core.List.{List, [], _∷_, _++_}
 use Prim.Native.Nat.{ℕ, _+_, _*_}
+use native.Mathlib.Omega.{arith}
 use borrow.Author.Tests.{le-ltb}
 use lib.IntN.{ℤ, pos}
 use lib.ListN.{length}
 use Rattle.lists.proofs.TestLaws.{or-neither}
 use Rattle.lent.specs.Told.{given}
+use Rattle.lent.specs.Entries.{flat}
 use Rattle.plane.specs.Flat.{macrosOf}
 use Rattle.net.specs.Check.{pinCount, checked}
 use Rattle.net.proofs.AllowedLaws.{given-allowed}
 use Rattle.graph.proofs.Connected.{connected}
+use Rattle.wires.specs.Wires.{wiresOfEdge, wires}
 use Rattle.wires.proofs.WireSound.{edge-wired, wired as wired-laws}
 use Rattle.rules.proofs.TerminalOurs.{ourPaths, paths-given}
 use Rattle.rules.proofs.BestLaws.{paths-total, best-joining}
-use Rattle.rules.proofs.RefinedOurs.{between-trees, refined-tree}
+use Rattle.rules.specs.Edges.{Edge}
+use Rattle.rules.proofs.InteriorLaws.{clear-points}
+use Rattle.rules.proofs.RefinedOurs.{between-trees, falls-between, refined-tree}
 use Rattle.rules.proofs.TreesOurs.{trees-ours, trees-only}
 use Rattle.router.specs.Graph.{verticesOf, edgesOf, pointCount}
 use Rattle.router.specs.Terminal.{pathsOf, pathsTotal, terminalGiven, terminalTree}
@@ -24,6 +29,11 @@ use Rattle.router.specs.Refined.{wiresOf, wiresGiven, wired}
 use Rattle.router.specs.Published.{Promised}
 use Rattle.router.proofs.AnswerLaws.{only-given, room-enough}
 use Rattle.router.proofs.GraphAnswer.{graphed-allowed, graph-fits}
+
+wires-flat : (es : List Edge) → wires es ≡ flat wiresOfEdge es
+unfolding wires flat
+wires-flat [] = refl
+wires-flat (e ∷ es) = ap (λ (l : List Edge). wiresOfEdge e ++ l) (wires-flat es)
 
 pub promised : (pins macros : List ℤ) {net : ℕ × ℕ} → checked pins macros ≡ given net → Promised pins macros
 unfolding verticesOf edgesOf pathsOf pathsTotal refinedOf edgesIn metalIn terminalTree terminalGiven refinedTree refinedGiven wired wiresGiven
@@ -58,7 +68,11 @@ promised pins macros {net} g =
       connected = connected a;
       best = best-joining a;
       tree = refined-tree a;
+      no-longer = omega (arith, refined-tree a .no-longer, paths-total a);
+      outside = λ e i. clear-points (e .0) (e .1) (macrosOf macros) (a .upright) .0 (refined-tree a .clear-edges e i);
       between = λ {rs} r. between-trees a rs r;
+      falls = λ {rs} r. falls-between a rs r;
+      wires-of-edges = wires-flat (laidOf pins macros);
       edge-wires = λ e m. edge-wired e;
       wires-straight = laws .axis;
       wires-clear = laws .free (macrosOf macros) (refined-tree a .clear-edges);

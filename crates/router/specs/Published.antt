@@ -10,9 +10,11 @@ use lib.ListN.{length}
 use Rattle.lists.specs.Member.{_∈_}
 use Rattle.lists.specs.Total.{total}
 use Rattle.lent.specs.Told.{given}
+use Rattle.lent.specs.Entries.{flat}
 use Rattle.joined.specs.Joined.{Joins}
 use Rattle.joined.specs.Cost.{lengths}
 use Rattle.plane.specs.declared.Place.{Place}
+use Rattle.plane.specs.declared.Macro.{Macro}
 use Rattle.plane.specs.Distance.{distance}
 use Rattle.plane.specs.Macro.{clear}
 use Rattle.plane.specs.Flat.{placesOf, macrosOf}
@@ -21,7 +23,8 @@ use Rattle.wires.specs.Wires.{wiresOfEdge}
 use Rattle.wires.specs.Promise.{Horizontal, Vertical, EdgeWires}
 use Rattle.rules.specs.Edges.{Edge}
 use Rattle.rules.specs.Terminal.{Path, givenFor, pathLength}
-use Rattle.rules.specs.Refined.{Refined, TreesThrough}
+use Rattle.rules.specs.Interior.{PlanePoint, Interior, Box}
+use Rattle.rules.specs.Refined.{Refined, TreesThrough, FallsThrough}
 use Rattle.rules.specs.Trees.{Trees, Equal}
 use Rattle.rules.specs.Demand.{BestJoining, RefinedTree}
 use Rattle.router.specs.Graph.{verticesOf, edgesOf, pointCount, graphed}
@@ -53,10 +56,19 @@ pub record Promised (pins macros : List ℤ) : Type 0 where
   -- D3, of the kept paths and of the refined tree
   pub best : BestJoining (edgesOf pins macros) (placesOf pins) kept
   pub tree : RefinedTree (placesOf pins) (macrosOf macros) kept (laidOf pins macros)
-  -- R20: every tree on the way there is one tree as well
+  -- D3g in the numbers reported
+  pub no-longer : laidTotal pins macros ≤ pathsTotal pins macros
+  -- D3f with points: none with fractions either lies in an edge's box and in an interior
+  pub outside : (e : Edge) → e ∈ laidOf pins macros → (m : Macro) → m ∈ macrosOf macros → (q : PlanePoint) →
+      Box (e .0) (e .1) q → Interior m q → ⊥
+  -- R20: every tree on the way there is one tree as well;  R14, D2f: each exchange is for a tree shorter by the gain
   pub between : {rs : List Edge} (r : Refined (placesOf pins) (macrosOf macros) kept rs)
       → TreesThrough (placesOf pins) (macrosOf macros) (length (placesOf pins)) (r .start) (r .refines .rounded) (r .refines .rounds)
-  -- D2c, W1 to W4: an edge's wires lead from its smaller place to its larger one in the edge's box, first across and then up
+  pub falls : {rs : List Edge} (r : Refined (placesOf pins) (macrosOf macros) kept rs)
+      → FallsThrough (placesOf pins) (macrosOf macros) (length (placesOf pins)) (r .start) (r .refines .rounded) (r .refines .rounds)
+  -- W1: the wires are those of the edges, edge after edge
+  pub wires-of-edges : wiresOf pins macros ≡ flat wiresOfEdge (laidOf pins macros)
+  -- D2c, W2 to W4: an edge's wires lead from its smaller place to its larger one in the edge's box, first across and then up
   pub edge-wires : (e : Edge) → e ∈ laidOf pins macros → EdgeWires e (wiresOfEdge e)
   pub wires-straight : (w : Edge) → w ∈ wiresOf pins macros → Horizontal w ⊎ Vertical w
   -- R21: no wire meets an interior;  R22: together they are the metal to lay

@@ -21,19 +21,19 @@ use Rattle.plane.specs.declared.Macro.{Macro}
 use Rattle.plane.specs.Macro.{inside, spanMeets, meets, openSpansMeet, interiorsMeet, clear}
 use Rattle.plane.proofs.MeetLaws.{clear-of}
 use Rattle.net.specs.Allowed.{Upright}
-use Rattle.rules.specs.Interior.{Point, Same, pointOf, Interior, Box, Some, Common}
+use Rattle.rules.specs.Interior.{PlanePoint, SamePoint, pointOf, Interior, Box, Some, Common}
 use Rattle.rules.proofs.ScaleLaws.{times-times, times-swap}
 use Rattle.rules.proofs.SpanLaws.{closed-open, open-open, open-order, span-middle}
 use Rattle.rules.proofs.SpanLaws.{closed-open-share, open-open-share, whole-open, same-open, same-closed}
 
 -- the point (x / 2, y / 2)
-abbrev halves : ℤ → ℤ → Point
+abbrev halves : ℤ → ℤ → PlanePoint
 halves x y = record { x = x; y = y; over = 2; positive = omega arith }
 
 -- A box and an interior
 
 -- a point of whatever denominator in both: the test passes
-pub box-meets-any : (a b : Place) (m : Macro) (q : Point) → Box a b q → Interior m q → meets a b m ≡ true
+pub box-meets-any : (a b : Place) (m : Macro) (q : PlanePoint) → Box a b q → Interior m q → meets a b m ≡ true
 unfolding meets
 box-meets-any a b m q i o =
     and-both _ _
@@ -57,7 +57,7 @@ box-meets a b m u = (
 
 -- Two interiors
 
-pub interiors-meet-any : (m n : Macro) (q : Point) → Interior m q → Interior n q → interiorsMeet m n ≡ true
+pub interiors-meet-any : (m n : Macro) (q : PlanePoint) → Interior m q → Interior n q → interiorsMeet m n ≡ true
 unfolding interiorsMeet
 interiors-meet-any m n q i j =
     and-both _ _
@@ -90,7 +90,7 @@ not-empty m u = record {
 }
 
 -- a macro whose interior holds any point is upright
-pub holds-upright : (m : Macro) (q : Point) → Interior m q → Upright m
+pub holds-upright : (m : Macro) (q : PlanePoint) → Interior m q → Upright m
 holds-upright m q i = record { across = open-order _ _ _ _ (i .across); along = open-order _ _ _ _ (i .along) }
 
 -- in a macro one unit wide lies no place: its interior is all fractions
@@ -124,7 +124,7 @@ clear-halves a b ms u h = clear-of a b ms (λ m i e. h m i (box-meets a b m (u m
 
 -- two places are clear of each other exactly when no point at all lies in their box and in the interior of a macro
 pub clear-points : (a b : Place) (ms : List Macro) → ((m : Macro) → m ∈ ms → Upright m)
-    → (clear a b ms ≡ true) ↔ ((m : Macro) → m ∈ ms → (q : Point) → Box a b q → Interior m q → ⊥)
+    → (clear a b ms ≡ true) ↔ ((m : Macro) → m ∈ ms → (q : PlanePoint) → Box a b q → Interior m q → ⊥)
 unfolding clear
 clear-points a b ms u = (
   (λ h m i q k o. differ (box-meets-any a b m q k o) (any-none (meets a b) ms (not-true _ h) m i)),
@@ -134,8 +134,8 @@ clear-points a b ms u = (
 -- One point over two denominators
 
 -- the set holds a point in whatever way it is written
-abbrev pub Respects : (Point → Type 0) → Type 0
-Respects S = (q r : Point) → Same q r → S q → S r
+abbrev pub Respects : (PlanePoint → Type 0) → Type 0
+Respects S = (q r : PlanePoint) → SamePoint q r → S q → S r
 
 pub same-interior : (m : Macro) → Respects (Interior m)
 same-interior m q r s i = record {
@@ -150,7 +150,7 @@ same-box a b q r s i = record {
 }
 
 -- a point over k times its denominator
-abbrev finer : (q : Point) (k : ℕ) → 1 ≤ k → Point
+abbrev finer : (q : PlanePoint) (k : ℕ) → 1 ≤ k → PlanePoint
 finer q k h = record {
   x = q .x *ℤ pos k;
   y = q .y *ℤ pos k;
@@ -158,13 +158,13 @@ finer q k h = record {
   positive = one-le-mul (q .positive) h;
 }
 
-finer-same : (q : Point) (k : ℕ) (h : 1 ≤ k) → Same q (finer q k h)
+finer-same : (q : PlanePoint) (k : ℕ) (h : 1 ≤ k) → SamePoint q (finer q k h)
 finer-same q k h = record {
   across = sym (times-swap (q .x) k (q .over) ∙ times-times (q .x) (q .over) k);
   along = sym (times-swap (q .y) k (q .over) ∙ times-times (q .y) (q .over) k);
 }
 
-common-finer : (S T : Point → Type 0) → Respects S → Respects T → (d k : ℕ) → 1 ≤ k → Common d S T → Common (d * k) S T
+common-finer : (S T : PlanePoint → Type 0) → Respects S → Respects T → (d k : ℕ) → 1 ≤ k → Common d S T → Common (d * k) S T
 common-finer S T s t d k h c =
     let e = finer-same (c .point) k h in record {
       point = finer (c .point) k h;

@@ -19,6 +19,7 @@ pub mod RoundOurs
 pub mod PrunesOurs
 pub mod RefinesOurs
 pub mod RefinesTree
+pub mod RefinesFall
 pub mod StartOurs
 pub mod RefinedOurs
 pub mod TreesOurs

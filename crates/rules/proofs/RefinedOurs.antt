@@ -25,30 +25,17 @@ use Rattle.union.proofs.UnionSound.{union-few, union-metal}
 use Rattle.wires.specs.Edges.{treeEdges}
 use Rattle.wires.proofs.EdgeSound.{edges-reversed, edges-metal, promised-edges}
 use Rattle.rules.specs.Edges.{Edge, edgeBefore, Same}
-use Rattle.rules.specs.Refined.{Refined, TreesThrough}
+use Rattle.rules.specs.Refined.{Refined, TreesThrough, FallsThrough}
 use Rattle.rules.specs.Demand.{RefinedTree}
 use Rattle.rules.proofs.EdgeLaws.{edge-order, same-turn, same-then}
 use Rattle.rules.proofs.PrunesOnly.{prunes-same}
 use Rattle.rules.proofs.GainOurs.{edgesIn}
 use Rattle.rules.proofs.RefinesOurs.{Fit, refines-ours, refines-only}
 use Rattle.rules.proofs.RefinesTree.{rounds-trees}
+use Rattle.rules.proofs.RefinesFall.{tree-metal, edges-same, rounds-fall}
 use Rattle.rules.proofs.TerminalOurs.{ourPaths}
 use Rattle.rules.proofs.BestLaws.{paths-total}
 use Rattle.rules.proofs.StartOurs.{start-ours, start-only}
-
--- the edges of a tree from either end
-edges-same : (t : Tree) → Same (edgesIn t) (treeEdges t)
-edges-same t = (
-  λ x i. of-reverse (treeEdges t) x (subst (λ (l : List Edge). x ∈ l) (sym reversed) i),
-  λ x i. subst (λ (l : List Edge). x ∈ l) reversed (in-reverse (treeEdges t) x i),
-)
-  where
-    reversed : reverse (treeEdges t) ≡ edgesIn t
-    reversed = edges-reversed (t .points) (t .edges .keys) (t .edges .size)
-
--- the sum of a tree's edges, either way of saying it
-tree-metal : (t : Tree) → lengths distance (treeEdges t) ≡ metalOf t
-tree-metal t = edges-metal (t .points) (t .edges .keys) (t .edges .size) ∙ metal-of (t .points) (t .count) (t .edges .keys) (t .edges .size)
 
 module _ {ps : List Place} {ms : List Macro} (a : Allowed ps ms) where
   abbrev ourTree : Tree
@@ -91,6 +78,12 @@ module _ {ps : List Place} {ms : List Macro} (a : Allowed ps ms) where
   between-trees rs r =
       rounds-trees (length ps) (unionOf ps ms) fit (r .start) (r .refines .rounded) (start-is (r .start) r refl) (r .refines .rounds)
 
+  -- and each round makes it shorter by its gain
+  pub falls-between : (rs : List Edge) (r : Refined ps ms (ourPaths a) rs) →
+      FallsThrough ps ms (length ps) (r .start) (r .refines .rounded) (r .refines .rounds)
+  falls-between rs r =
+      rounds-fall (length ps) (unionOf ps ms) fit (r .start) (r .refines .rounded) (start-is (r .start) r refl) (r .refines .rounds)
+
   -- D3, its last sentence
   pub refined-tree : RefinedTree ps ms (ourPaths a) (treeEdges ourTree)
   refined-tree =
@@ -100,6 +93,7 @@ module _ {ps : List Place} {ms : List Macro} (a : Allowed ps ms) where
         one = g .one;
         clear-edges = g .free;
         smaller-first = g .smaller;
+        in-order = in-order;
         no-longer = omega (arith, g .less, tree-metal (unionOf ps ms), union-metal a, paths-total a);
         few = omega (arith, g .few, union-few a, length-vertices ps ms);
       }

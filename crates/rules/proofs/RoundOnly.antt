@@ -77,7 +77,7 @@ pub cut-only : {T : List Edge} → Cuts T → {a b u : Place} {k l : Edge} → (
 cut-only {T} cuts {u = u} {k = k} m p q =
     longest-one (subst (λ (ps : List Place). Longest T u ps k) (toward-only place-same cuts (inl m) (p .way) (q .way) .1) (p .longest)) (q .longest)
 
-takes-same : {ps : List Place} {ms : List Macro} {T U : List Edge} → Same T U → {a b u : Place} {l : Edge} {g : ℕ} → Takes ps ms T a b u l g →
+pub takes-same : {ps : List Place} {ms : List Macro} {T U : List Edge} → Same T U → {a b u : Place} {l : Edge} {g : ℕ} → Takes ps ms T a b u l g →
     Takes ps ms U a b u l g
 takes-same h x = record {
   taken = gain-same h (x .taken);
@@ -88,7 +88,7 @@ takes-same h x = record {
 
 module _ {ps : List Place} {ms : List Macro} {T : List Edge} (cuts : Cuts T) {a b u c d v : Place} {l k : Edge} {g f : ℕ}
     (x : Takes ps ms T a b u l g) (y : Takes ps ms T c d v k f) where
-  gains-one : f ≡ g
+  pub gains-one : f ≡ g
   gains-one = let p = x .greatest c d v k f (y .taken) in let q = y .greatest a b u l g (x .taken) in omega arith
 
   edges-one : _≡_ {A = Edge} (c, d) (a, b)

@@ -1,7 +1,7 @@
 -- The graph that is worked out is the spanning graph, and the only one. A pick that the scan finds is a pick by the rule and back
 -- (`pick-at`, `pick-only`); so are the edges, which are those of picks.
 -- Assumes nothing.
-use mathlib.Core.Path.{_≡_, refl, sym, ap₂}
+use mathlib.Core.Path.{_≡_, refl, sym, ap, ap₂, _∙_, subst}
 use mathlib.Core.Bool.{true, false}
 use mathlib.Core.Logic.{inl, inr}
 use mathlib.Core.List.{List, Memᴰ·cast}
@@ -25,6 +25,7 @@ use Rattle.graph.specs.declared.Picked.the-variants.{At}
 use Rattle.graph.specs.Pick.{within}
 use Rattle.graph.specs.Vertices.{cornersOf, vertices as ourVertices}
 use Rattle.graph.specs.Edges.{beforeEdge, edges as ourEdges}
+use Rattle.graph.proofs.QuadrantLaws.{one-quadrant}
 use Rattle.graph.proofs.VertexLaws.{lower-left, upper-left, lower-right, upper-right, at-corner, pin-vertex, corner-vertex}
 use Rattle.graph.proofs.VertexLaws.{of-vertices, vertices-ascending}
 use Rattle.graph.proofs.PickLaws.{Fit, Preferred, PicksAt, pick-at, pick-only}
@@ -78,13 +79,38 @@ within-lies second u v e = (and-left _ (ltZ (u .y) (v .y)) e, and-right (leZ (v 
 within-lies third u v e = (and-left _ (leZ (v .y) (u .y)) e, and-right (ltZ (v .x) (u .x)) _ e)
 within-lies fourth u v e = (and-left _ (ltZ (v .y) (u .y)) e, and-right (leZ (u .x) (v .x)) _ e)
 
--- every quadrant of the code is one of the rule's
-decoded : (q : code.Quadrant) → (r : Quadrant) × (q ≡ coded r)
-unfolding coded
-decoded First = (first, refl)
-decoded Second = (second, refl)
-decoded Third = (third, refl)
-decoded Fourth = (fourth, refl)
+-- every quadrant of the code is one of the rule's, and only one
+uncoded : code.Quadrant → Quadrant
+uncoded First = first
+uncoded Second = second
+uncoded Third = third
+uncoded Fourth = fourth
+
+decoded : (q : code.Quadrant) → q ≡ coded (uncoded q)
+unfolding coded uncoded
+decoded First = refl
+decoded Second = refl
+decoded Third = refl
+decoded Fourth = refl
+
+encoded : (q : Quadrant) → q ≡ uncoded (coded q)
+unfolding coded uncoded
+encoded first = refl
+encoded second = refl
+encoded third = refl
+encoded fourth = refl
+
+-- G3: each other place lies in exactly one quadrant
+pub lies-one : (u v : Place) → (u ≡ v → ⊥) → (q : Quadrant) × (Lies q u v × ((r : Quadrant) → Lies r u v → r ≡ q))
+lies-one u v n =
+    let o = one-quadrant u v n in (
+      uncoded (o .quadrant),
+      (
+        within-lies (uncoded (o .quadrant)) u v
+            (subst (λ (z : code.Quadrant). within z u v ≡ true) (decoded (o .quadrant)) (o .holds)),
+        λ r h. encoded r ∙ ap uncoded (o .alone (coded r) (lies-within r u v h)),
+      ),
+    )
 
 -- Picks
 
@@ -113,13 +139,14 @@ module _ (ms : List Macro) (vs : List Place) (ascending : Ascending before vs) w
 
   picks-of : (u v : Place) → PickedBy ms vs u v → Picks ms vs u v
   picks-of u v p =
-      let d = decoded (p .quadrant) in
-      let r : PicksAt ms (coded (d .0)) u vs v = rw (d .1) at (pick-at ms (p .quadrant) u vs ascending v (p .picks)) in
+      let q = uncoded (p .quadrant) in
+      let r : PicksAt ms (coded q) u vs v
+      = subst (λ (z : code.Quadrant). PicksAt ms z u vs v) (decoded (p .quadrant)) (pick-at ms (p .quadrant) u vs ascending v (p .picks)) in
       record {
-        quadrant = d .0;
-        may = fit-may (d .0) u v (r .stands) (r .fit);
-        nearest = λ w x. near-of u v w (r .least w (x .vertex) (may-fit (d .0) u w x));
-        smallest = λ w x. small-of u v w (r .least w (x .vertex) (may-fit (d .0) u w x));
+        quadrant = q;
+        may = fit-may q u v (r .stands) (r .fit);
+        nearest = λ w x. near-of u v w (r .least w (x .vertex) (may-fit q u w x));
+        smallest = λ w x. small-of u v w (r .least w (x .vertex) (may-fit q u w x));
       }
 
   of-picks : (u v : Place) → u ∈ vs → Picks ms vs u v → PickedBy ms vs u v

@@ -19,7 +19,7 @@ use Rattle.rules.specs.Refined.{Gain, Round, Rounds, Loose, Strips, same
 use Rattle.rules.specs.Trees.{Trees}
 
 -- the same pins, as many; the same macros, and so the same places clear of each other
-pub record Alike (ps qs : List Place) (ms ns : List Macro) : Type 0 where
+pub record SameNet (ps qs : List Place) (ms ns : List Macro) : Type 0 where
   pub to : Among ps qs
   pub from : Among qs ps
   pub count : length ps ≡ length qs
@@ -27,7 +27,7 @@ pub record Alike (ps qs : List Place) (ms ns : List Macro) : Type 0 where
   pub macros-from : Among ns ms
   pub clears : (x y : Place) → clear x y ms ≡ clear x y ns
 
-pub turned : {ps qs : List Place} {ms ns : List Macro} → Alike ps qs ms ns → Alike qs ps ns ms
+pub turned : {ps qs : List Place} {ms ns : List Macro} → SameNet ps qs ms ns → SameNet qs ps ns ms
 turned h = record {
   to = h .from;
   from = h .to;
@@ -39,15 +39,15 @@ turned h = record {
 
 -- The graph
 
-vertex-in : {ps qs : List Place} {ms ns : List Macro} → Alike ps qs ms ns → (v : Place) → Vertex ps ms v → Vertex qs ns v
+vertex-in : {ps qs : List Place} {ms ns : List Macro} → SameNet ps qs ms ns → (v : Place) → Vertex ps ms v → Vertex qs ns v
 vertex-in h v (inl m) = inl (h .to v m)
 vertex-in h v (inr (m, (i, c))) = inr (m, (h .macros-to m i, c))
 
 module _ {ps qs : List Place} {ms ns : List Macro} {vs : List Place} where
-  may-in : Alike ps qs ms ns → {q : Quadrant} {u v : Place} → May ms vs q u v → May ns vs q u v
+  may-in : SameNet ps qs ms ns → {q : Quadrant} {u v : Place} → May ms vs q u v → May ns vs q u v
   may-in h {u = u} {v = v} x = record { vertex = x .vertex; lies = x .lies; seen = sym (h .clears u v) ∙ x .seen }
 
-module _ {ps qs : List Place} {ms ns : List Macro} {vs : List Place} (h : Alike ps qs ms ns) where
+module _ {ps qs : List Place} {ms ns : List Macro} {vs : List Place} (h : SameNet ps qs ms ns) where
   picks-in : {u v : Place} → Picks ms vs u v → Picks ns vs u v
   picks-in p = record {
     quadrant = p .quadrant;
@@ -64,7 +64,7 @@ module _ {ps qs : List Place} {ms ns : List Macro} {vs : List Place} (h : Alike 
     picked = either (λ p. inl (picks-in p)) (λ p. inr (picks-in p)) (j .picked);
   }
 
-pub spanning-in : {ps qs : List Place} {ms ns : List Macro} {vs : List Place} {es : List Edge} → Alike ps qs ms ns →
+pub spanning-in : {ps qs : List Place} {ms ns : List Macro} {vs : List Place} {es : List Edge} → SameNet ps qs ms ns →
     Spanning ps ms vs es → Spanning qs ns vs es
 spanning-in h s = record {
   vertices = λ v. (λ i. vertex-in h v (s .vertices v .0 i), λ x. s .vertices v .1 (vertex-in (turned h) v x));
@@ -132,7 +132,7 @@ point-in : {ps qs : List Place} {T : List Edge} → Among ps qs → (v : Place) 
 point-in h v (inl m) = inl (h v m)
 point-in h v (inr l) = inr l
 
-gain-in : {ps qs : List Place} {ms ns : List Macro} {T : List Edge} → Alike ps qs ms ns → (a b u : Place) (l : Edge) (g : ℕ) →
+gain-in : {ps qs : List Place} {ms ns : List Macro} {T : List Edge} → SameNet ps qs ms ns → (a b u : Place) (l : Edge) (g : ℕ) →
     Gain ps ms T a b u l g → Gain qs ns T a b u l g
 gain-in h a b u l g x =
     let c = x .candidate in
@@ -150,7 +150,7 @@ gain-in h a b u l g x =
       above = x .above;
     }
 
-round-in : {ps qs : List Place} {ms ns : List Macro} {T U : List Edge} → Alike ps qs ms ns → Round ps ms T U → Round qs ns T U
+round-in : {ps qs : List Place} {ms ns : List Macro} {T U : List Edge} → SameNet ps qs ms ns → Round ps ms T U → Round qs ns T U
 round-in h r = record {
   a = r .a;
   b = r .b;
@@ -166,7 +166,7 @@ round-in h r = record {
   edges = r .edges;
 }
 
-rounds-in : {ps qs : List Place} {ms ns : List Macro} → Alike ps qs ms ns → (m : ℕ) (T U : List Edge) → Rounds ps ms m T U →
+rounds-in : {ps qs : List Place} {ms ns : List Macro} → SameNet ps qs ms ns → (m : ℕ) (T U : List Edge) → Rounds ps ms m T U →
     Rounds qs ns m T U
 rounds-in h zero T U r = r
 rounds-in h (suc m) T U (inl r) = inl (λ a b u l g x. r .0 a b u l g (gain-in (turned h) a b u l g x), r .1)
@@ -179,7 +179,7 @@ strips-in : {ps qs : List Place} {T R : List Edge} → Among qs ps → Strips ps
 strips-in h (same k) = same k
 strips-in h (strip v e l k s) = strip v e (loose-in h v e l) k (strips-in h s)
 
-refines-in : {ps qs : List Place} {ms ns : List Macro} {T R : List Edge} → Alike ps qs ms ns → Refines ps ms T R → Refines qs ns T R
+refines-in : {ps qs : List Place} {ms ns : List Macro} {T R : List Edge} → SameNet ps qs ms ns → Refines ps ms T R → Refines qs ns T R
 refines-in {ps} {qs} {ms} {ns} {T} {R} h r = record {
   rounded = r .rounded;
   rounds = subst (λ (m : ℕ). Rounds qs ns m T (r .rounded)) (h .count) (rounds-in h (length ps) T (r .rounded) (r .rounds));
@@ -191,7 +191,7 @@ refines-in {ps} {qs} {ms} {ns} {T} {R} h r = record {
 
 -- All of it
 
-pub trees-in : {ps qs : List Place} {ms ns : List Macro} {vs : List Place} {es rs : List Edge} {ks : List Path} → Alike ps qs ms ns →
+pub trees-in : {ps qs : List Place} {ms ns : List Macro} {vs : List Place} {es rs : List Edge} {ks : List Path} → SameNet ps qs ms ns →
     Trees ps ms vs es ks rs → Trees qs ns vs es ks rs
 trees-in h t = record {
   spanning = spanning-in h (t .spanning);

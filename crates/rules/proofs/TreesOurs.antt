@@ -15,7 +15,7 @@ use Rattle.rules.specs.Edges.{Edge}
 use Rattle.rules.specs.Terminal.{Path, Terminal}
 use Rattle.rules.specs.Refined.{Refined}
 use Rattle.rules.specs.Trees.{Trees, Equal}
-use Rattle.rules.proofs.TreesOrder.{Alike, trees-in}
+use Rattle.rules.proofs.TreesOrder.{SameNet, trees-in}
 use Rattle.rules.proofs.SpanningOurs.{graph-ours, graph-only}
 use Rattle.rules.proofs.TerminalOurs.{ourPaths, terminal-ours, terminal-only}
 use Rattle.rules.proofs.RefinedOurs.{refined-ours, refined-only}
@@ -41,6 +41,6 @@ module _ {ps : List Place} {ms : List Macro} (a : Allowed ps ms) where
       }
 
 -- So the trees of two nets that have the same pins and macros are the same.
-module _ {ps qs : List Place} {ms ns : List Macro} (h : Alike ps qs ms ns) (a : Allowed ps ms) (b : Allowed qs ns) where
+module _ {ps qs : List Place} {ms ns : List Macro} (h : SameNet ps qs ms ns) (a : Allowed ps ms) (b : Allowed qs ns) where
   pub trees-same : Equal (vertices ps ms) (vertices qs ns) (spanning ps ms) (spanning qs ns) (ourPaths a) (ourPaths b) (ours a) (ours b)
   trees-same = trees-only b (trees-in h (trees-ours a))

@@ -127,7 +127,7 @@ pub other-side : (vs : List Place) (es rs : List Edge) (k : Path) → k .bridge 
 unfolding treeIn
 other-side vs es rs k b t =
     let e : map givenFor (k ∷ []) ≡ ((at 0 0, at 1 0), 3) ∷ [] =
-        ap (map givenFor) (trees-only sides-allowed t .paths) ∙ paths-given sides-allowed in
+    ap (map givenFor) (trees-only sides-allowed t .paths) ∙ paths-given sides-allowed in
     let f = ap (λ (l : List (Edge × ℕ)). total (map (λ (x : Edge × ℕ). distance (at 0 0) (x .0 .0)) l)) e in
     let g : _≡_ {A = ℕ} 2 0 = sym (ap (λ (x : Edge). distance (at 0 0) (x .0) + 0) b) ∙ f in
     omega (arith, g)

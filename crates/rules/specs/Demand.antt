@@ -1,11 +1,13 @@
 -- What the mission demands of the trees (D3), over the spanning graph's edges G, the pins ps, the kept paths ks and the refined tree's
--- edges rs. Chains, joinings and our way are those of `joined` (specs/Chain.antt), terminal paths too (specs/Path.antt).
+-- edges rs. Chains, joinings and our way are those of `joined` (specs/Chain.antt), terminal paths too (specs/Path.antt). These records say how
+-- good the trees are; which trees they are is said in Trees.antt.
 use mathlib.Core.Path.{_≡_}
 use mathlib.Core.Bool.{true}
 use mathlib.Core.List.{List, map}
 use Prim.Native.Nat.{suc, _+_, _*_, _≤_, _<_}
 use lib.ListN.{length}
 use Rattle.lists.specs.Member.{_∈_, Once}
+use Rattle.lists.specs.Sorted.{Ascending}
 use Rattle.lists.specs.Total.{total, most}
 use Rattle.joined.specs.Cost.{lengths}
 use Rattle.joined.specs.Path.{TerminalPath, endsOf, lengthOf}
@@ -16,7 +18,7 @@ use Rattle.plane.specs.declared.Macro.{Macro}
 use Rattle.plane.specs.Place.{before}
 use Rattle.plane.specs.Distance.{distance}
 use Rattle.plane.specs.Macro.{clear}
-use Rattle.rules.specs.Edges.{Edge}
+use Rattle.rules.specs.Edges.{Edge, edgeBefore}
 use Rattle.rules.specs.Terminal.{Path, pathEnds, pathLength}
 
 module _ (G : List Edge) (ps : List Place) where
@@ -49,9 +51,10 @@ pub record RefinedTree (ps : List Place) (ms : List Macro) (ks : List Path) (rs 
   pub one : OneTree ps rs
   -- D3f, R21: the two ends of each edge are clear of each other
   pub clear-edges : (e : Edge) → e ∈ rs → clear (e .0) (e .1) ms ≡ true
-  -- N16: the smaller place first
+  -- N16: each edge smaller place first, and edges in order, so none twice
   pub smaller-first : (e : Edge) → e ∈ rs → before (e .0) (e .1) ≡ true
+  pub in-order : Ascending edgeBefore rs
   -- D3g, R22: the metal to lay is at most our joining's length
   pub no-longer : lengths distance rs ≤ total (map pathLength ks)
-  -- fewer edges than n + m
+  -- C65: fewer edges than n + m, so that 4(n + m) numbers hold them
   pub few : length rs < length ps + length ms * 4 + length ps

@@ -7,6 +7,7 @@ use Prim.Native.Nat.{ℕ, zero, suc, _+_, _≤_, _<_}
 use lib.ListN.{length}
 use Rattle.lists.specs.Member.{_∈_}
 use Rattle.lists.specs.Sorted.{Ascending}
+use Rattle.joined.specs.Cost.{lengths}
 use Rattle.joined.specs.Joined.{Alike}
 use Rattle.joined.specs.Way.{On}
 use Rattle.joined.specs.Exchange.{Toward, steps}
@@ -113,6 +114,14 @@ abbrev pub TreesThrough : (ps : List Place) (ms : List Macro) (m : ℕ) (T U : L
 TreesThrough ps ms zero T U r = OneTree ps T
 TreesThrough ps ms (suc m) T U (inl r) = OneTree ps T
 TreesThrough ps ms (suc m) T U (inr (X, (r, more))) = OneTree ps T × TreesThrough ps ms m X U more
+
+-- R14: each round makes the sum of the edges, each counted once, smaller by its gain
+abbrev pub FallsThrough : (ps : List Place) (ms : List Macro) (m : ℕ) (T U : List Edge) → Rounds ps ms m T U → Type 0
+FallsThrough ps ms zero T U r = Unit {0}
+FallsThrough ps ms (suc m) T U (inl r) = Unit {0}
+FallsThrough ps ms (suc m) T U (inr (X, (r, more))) =
+    ((before after : List Edge) → Ascending edgeBefore before → Ascending edgeBefore after → Same T before → Same X after →
+    lengths distance after + r .g ≡ lengths distance before) × FallsThrough ps ms m X U more
 
 -- Pruning
 

@@ -1,5 +1,5 @@
 -- The bounds of the router's own tables, those of `Net`; and numbers that no length reaches.
-use Prim.Native.Nat.{ℕ}
+use Prim.Native.Nat.{ℕ, _*_}
 use Rattle.net.specs.Bounds as net
 
 -- N23: at most 320 points and 1,280 edges
@@ -15,7 +15,7 @@ pinBound = net.pinBound
 
 -- the length of an edge at most: the distance of two places of the die
 abbrev pub lengthBound : ℕ
-lengthBound = 4000000
+lengthBound = net.coordinateBound * 4
 
 -- the distance of a vertex that no pin has reached: above every length of a way
 abbrev pub unreached : ℕ

@@ -110,7 +110,7 @@ module _ (pts : List ℤ) (ks : List ℕ) where
         rw (firstThen, a, b) (order (secondEnd i) (secondEnd j) (omega (arith, e)) (hj .1)))
 
     module _ (e : ℕ) (ranked : Ranked ks e) where
-      edges-ascending : (m i : ℕ) → i + m ≤ e → Ascending beforeEdge (edgesFrom pts ks i m)
+      pub edges-ascending : (m i : ℕ) → i + m ≤ e → Ascending beforeEdge (edgesFrom pts ks i m)
       unfolding edgesFrom
       edges-ascending zero i h = tt
       edges-ascending (suc m) i h = (

@@ -19,7 +19,8 @@ use Rattle.plane.specs.Place.{place, before}
 use Rattle.plane.specs.Distance.{distance}
 use Rattle.plane.proofs.PlaceLaws.{before-true}
 use Rattle.plane.proofs.DistanceLaws.{distance-comm, distance-self}
-use Rattle.plane.proofs.BoxLaws.{InBox, first-in-box, last-in-box, clear-within, distance-through}
+use Rattle.plane.specs.Box.{InBox}
+use Rattle.plane.proofs.BoxLaws.{first-in-box, last-in-box, clear-within, distance-through}
 use Rattle.joined.specs.Cost.{lengths}
 use Rattle.joined.proofs.CostLaws.{lengths-append}
 use Rattle.wires.specs.Wires.{drawn, bend, wiresOfEdge, wires}

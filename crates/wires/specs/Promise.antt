@@ -13,7 +13,7 @@ use Rattle.plane.specs.declared.Macro.{Macro}
 use Rattle.plane.specs.Place.{before}
 use Rattle.plane.specs.Distance.{distance}
 use Rattle.plane.specs.Macro.{clear}
-use Rattle.plane.proofs.BoxLaws.{InBox}
+use Rattle.plane.specs.Box.{InBox}
 use Rattle.joined.specs.Cost.{lengths}
 use Rattle.joined.specs.OneTree.{OneTree}
 use Rattle.graph.specs.Edges.{beforeEdge}

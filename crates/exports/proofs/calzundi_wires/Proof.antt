@@ -1,6 +1,6 @@
 -- `exports::calzundi_wires` meets its contract: each arm passes on what the router's answer says and its count.
 -- Assumes nothing.
-use mathlib.Core.Path.{_≡_, sym, ap, _∙_}
+use mathlib.Core.Path.{sym, ap, _∙_}
 use Prim.Native.Nat.{ℕ}
 use lib.IntN.{pos}
 use denote.Ref.{now}
