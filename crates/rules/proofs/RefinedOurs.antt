@@ -1,12 +1,10 @@
 -- The edges that are given for an allowed net are the refined tree of its kept paths, and the only one.
 -- Assumes nothing.
-use mathlib.Core.Path.{_≡_, refl, sym, _∙_, subst}
-use mathlib.Core.List.{List, reverse}
+use mathlib.Core.Path.{_≡_, refl, sym, subst}
+use mathlib.Core.List.{List}
 use native.Mathlib.Omega.{arith}
 use lib.ListN.{length}
-use Rattle.lists.specs.Member.{_∈_}
 use Rattle.lists.specs.Sorted.{Ascending}
-use Rattle.lists.proofs.MemberLaws.{in-reverse, of-reverse}
 use Rattle.lists.proofs.SortedLaws.{ascending-same}
 use Rattle.plane.specs.declared.Place.{Place}
 use Rattle.plane.specs.declared.Macro.{Macro}
@@ -17,13 +15,11 @@ use Rattle.graph.specs.Edges.{beforeEdge}
 use Rattle.graph.proofs.VertexLaws.{length-vertices}
 use Rattle.refined.specs.Table.{Tree}
 use Rattle.refined.specs.Refined.{refined}
-use Rattle.refined.specs.Promise.{metalOf}
-use Rattle.refined.proofs.RoundSound.{metal-of}
 use Rattle.union.specs.Union.{unionOf}
 use Rattle.union.proofs.UnionSound.{union-sound, union-ranked, union-room, union-points, union-keys, union-promise, union-tabled}
 use Rattle.union.proofs.UnionSound.{union-few, union-metal}
 use Rattle.wires.specs.Edges.{treeEdges}
-use Rattle.wires.proofs.EdgeSound.{edges-reversed, edges-metal, promised-edges}
+use Rattle.wires.proofs.EdgeSound.{edges-metal, promised-edges}
 use Rattle.rules.specs.Edges.{Edge, edgeBefore, Same}
 use Rattle.rules.specs.Refined.{Refined, TreesThrough, FallsThrough}
 use Rattle.rules.specs.Demand.{RefinedTree}

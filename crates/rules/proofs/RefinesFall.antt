@@ -1,7 +1,7 @@
 -- R14: each round of every solution makes the sum of the edges smaller by its gain. The tables do (`round-falls`), and an ascending list of
 -- the same edges is the list of the table.
 -- Assumes nothing.
-use mathlib.Core.Path.{_≡_, sym, ap, ap₂, _∙_, subst}
+use mathlib.Core.Path.{_≡_, sym, ap, _∙_, subst}
 use mathlib.Core.Logic.{inl, inr}
 use mathlib.Core.List.{List, reverse}
 use Prim.Native.Nat.{ℕ, zero, suc, _+_}
@@ -29,7 +29,7 @@ use Rattle.refined.proofs.RoundSound.{metal-of, round-falls}
 use Rattle.wires.specs.Edges.{treeEdges}
 use Rattle.wires.proofs.EdgeSound.{edges-reversed, edges-metal, edges-ascending}
 use Rattle.rules.specs.Edges.{Edge, edgeBefore, Same}
-use Rattle.rules.specs.Refined.{Takes, Rounds, FallsThrough}
+use Rattle.rules.specs.Refined.{Rounds, FallsThrough}
 use Rattle.rules.proofs.EdgeLaws.{edge-order, same-turn, same-then}
 use Rattle.rules.proofs.RoundOnly.{gain-same, takes-same, gains-one, round-only}
 use Rattle.rules.proofs.GainOurs.{edgesIn}
