@@ -80,8 +80,10 @@ module _ {ps : List Place} {ms : List Macro} (a : Allowed ps ms) where
     link-ahead : ClearAhead ps ms u → LinkAhead u
     link-ahead r =
         either
-        (λ e. in-quadrant First (λ w f. first-or-fourth-ahead u w (inl f)) (r .to) (r .stands) (record { in-quadrant = e; is-clear = r .is-clear }))
-        (λ e. in-quadrant Fourth (λ w f. first-or-fourth-ahead u w (inr f)) (r .to) (r .stands) (record { in-quadrant = e; is-clear = r .is-clear }))
+        (λ e. in-quadrant First (λ w f. first-or-fourth-ahead u w (inl f)) (r .to) (r .stands)
+        (record { in-quadrant = e; is-clear = r .is-clear }))
+        (λ e. in-quadrant Fourth (λ w f. first-or-fourth-ahead u w (inr f)) (r .to) (r .stands)
+        (record { in-quadrant = e; is-clear = r .is-clear }))
         (ahead-first-or-fourth u (r .to) (r .ahead))
 
   -- On to the last vertex

@@ -93,4 +93,10 @@ module _ (ps : List Place) (ms : List Macro) where
   pub length-vertices : length (vertices ps ms) ≤ length ps + 4 * length ms
   unfolding vertices
   length-vertices =
-      omega (arith, length-sorted before (ps ++ corners ms), length-append ps (corners ms), length-each cornersOf corners none more 4 four ms)
+      omega (
+        arith,
+        length-sorted before (ps ++ corners ms),
+        length-append ps (corners ms),
+        length-each cornersOf corners none more 4 four
+            ms,
+      )

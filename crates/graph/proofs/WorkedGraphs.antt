@@ -18,7 +18,8 @@ use Rattle.graph.specs.Edges.{edgeOf, beforeEdge, edgeOfPick, picksOf, a
 
 -- the edges of a net; to unfold this is to unfold all that it rests on
 unfoldable pub graphOf : Lists → List (Place × Place)
-unfolding any put sorted firstThen minZ maxZ before apart distance spanMeets meets clear placesOf macrosOf cornersOf corners vertices within nearer better pickFrom pick edgeOf beforeEdge edgeOfPick picksOf allPicks edges
+unfolding any put sorted firstThen minZ maxZ before apart distance spanMeets meets clear placesOf macrosOf cornersOf corners vertices
+    within nearer better pickFrom pick edgeOf beforeEdge edgeOfPick picksOf allPicks edges
 graphOf net = edges (macrosOf (net .macros)) (vertices (placesOf (net .pins)) (macrosOf (net .macros)))
 
 -- an edge by its four numbers

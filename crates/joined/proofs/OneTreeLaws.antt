@@ -53,7 +53,8 @@ module _ {A : Type 0} (same : Discrete A) {X : List A} {T : List (A × A)} where
         at : Free (rest m) a b → OneWay X T a b → ⊥
         at f w =
             second a b m (f .points) (f .way)
-            (w .only (f .points) (way-more (λ e i. rest-in m i) (f .way)) (f .once) ∙ sym (w .only (b ∷ []) (go (inl m) (stop refl)) step-once))
+            (w .only (f .points) (way-more (λ e i. rest-in m i) (f .way)) (f .once)
+            ∙ sym (w .only (b ∷ []) (go (inl m) (stop refl)) step-once))
 
     one-joins : Joins X T
     one-joins x y i k = at (same x y)

@@ -17,7 +17,8 @@ use Rattle.joined.proofs.LightLaws.{of-light}
 use Rattle.joined.proofs.ShortestLaws.{kept-tree, path-kept, shortest}
 use Rattle.joined.proofs.ChainLaws.{chain-through, joining-joins, joins-joining, joined-our-way, our-way-only}
 
-module _ {A B : Type 0} (same : Discrete A) (ends : B → A × A) (weight : B → ℕ) {pins : List A} {L : List B} (o : Offered ends weight pins L) where
+module _ {A B : Type 0} (same : Discrete A) (ends : B → A × A) (weight : B → ℕ) {pins : List A} {L : List B}
+    (o : Offered ends weight pins L) where
   abbrev ours : List B
   ours = kept same ends L
 

@@ -22,7 +22,8 @@ module _ {A B : Type 0} (of : A → List B) (all : List A → List B)
   pub of-each : (l : List A) {b : B} → b ∈ all l → Piece of l b
   of-each [] m = elim (rw none at m) [ ]
   of-each (a ∷ l) {b} m =
-      either (λ i. record { entry = a; stands = here refl; holds = i }) (λ i. further (of-each l i)) (List·Memᴰ·append-cases (of a) (rw more at m))
+      either (λ i. record { entry = a; stands = here refl; holds = i }) (λ i. further (of-each l i))
+      (List·Memᴰ·append-cases (of a) (rw more at m))
     where
       further : Piece of l b → Piece of (a ∷ l) b
       further p = record { entry = p .entry; stands = there (p .stands); holds = p .holds }

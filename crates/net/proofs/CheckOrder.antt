@@ -39,7 +39,8 @@ module _ (pins pins′ macros macros′ : List ℤ) (p : SamePins pins pins′) 
   same-macro-count = rw (q .many) refl
 
   -- of whole lists
-  ranges : length pins % 2 ≡ 0 → length macros % 4 ≡ 0 → (any outOfRange pins || any outOfRange macros) ≡ (any outOfRange pins′ || any outOfRange macros′)
+  ranges : length pins % 2 ≡ 0 → length macros % 4 ≡ 0 → (any outOfRange pins || any outOfRange macros)
+      ≡ (any outOfRange pins′ || any outOfRange macros′)
   ranges e f =
       ap₂ _||_
       (range-of-places pins e ∙ any-perm placeOut _ _ (p .order) ∙ sym (range-of-places pins′ (rw (p .many) at e)))
@@ -70,7 +71,8 @@ module _ (pins pins′ macros macros′ : List ℤ) (p : SamePins pins pins′) 
   check-order =
       by (pinsMiscounted pins) (λ e. refuse-11 pins macros e ∙ sym (refuse-11 pins′ macros′ (sym same-pin-count ∙ e))) λ e.
       by (macrosMiscounted macros)
-      (λ f. refuse-12 pins macros (record { passed = e }) f ∙ sym (refuse-12 pins′ macros′ (record { passed = sym same-pin-count ∙ e }) (sym same-macro-count ∙ f)))
+      (λ f. refuse-12 pins macros (record { passed = e }) f
+      ∙ sym (refuse-12 pins′ macros′ (record { passed = sym same-pin-count ∙ e }) (sym same-macro-count ∙ f)))
       λ f.
       whole-order (pins-counted pins e .whole) (macros-counted macros f .whole)
 

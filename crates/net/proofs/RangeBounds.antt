@@ -41,4 +41,9 @@ apart-near a b m n = omega (signed, apart-sides a b)
 pub distance-in-range : (a b : Place) → PlaceInRange a → PlaceInRange b → distance a b ≤ coordinateBound * 4
 unfolding distance
 distance-in-range a b r s =
-    omega (signed, apart-near _ _ (in-range-near _ (r .x)) (in-range-near _ (s .x)), apart-near _ _ (in-range-near _ (r .y)) (in-range-near _ (s .y)))
+    omega (
+      signed,
+      apart-near _ _ (in-range-near _ (r .x)) (in-range-near _ (s .x)),
+      apart-near _ _ (in-range-near _ (r .y))
+          (in-range-near _ (s .y)),
+    )

@@ -224,7 +224,8 @@ fn put_file(bytes: &mut [u8], pins: &[i32], macros: &[i32])
 // Write the file of a checked net.
 fn write_checked(pins: &[i32], macros: &[i32], bytes: &mut [u8]) -> Written
     requires { ⌜ (length (now pins) ≤ 1000) × (length (now macros) ≤ 1000) ⌝ }
-    ensures answer { λ r. ⌜ toldBytes r ≡ fitted (length (fileBytes (now (pins .entry)) (now (macros .entry)))) (length (now (bytes .entry))) ⌝ }
+    ensures answer { λ r. ⌜ toldBytes r ≡ fitted (length (fileBytes (now (pins .entry)) (now (macros .entry))))
+        (length (now (bytes .entry))) ⌝ }
     ensures lent { λ _. ⌜ now (bytes .exit)
         ≡ after (fitted (length (fileBytes (now (pins .entry)) (now (macros .entry)))) (length (now (bytes .entry))))
         (fileBytes (now (pins .entry)) (now (macros .entry))) (now (bytes .entry)) ⌝ }

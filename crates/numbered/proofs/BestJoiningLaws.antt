@@ -68,11 +68,13 @@ module _ {ps : List Place} {ms : List Macro} (a : Allowed ps ms) where
         first-way = wayPlaces a (one (G a) k);
         first-up = subst (λ (u : Place). WayUp ps ms u (wayPlaces a (one (G a) k))) (one-vertex a k h) (way-up a _ (setting a .one-in k h));
         second-way = wayPlaces a (two (G a) k);
-        second-up = subst (λ (u : Place). WayUp ps ms u (wayPlaces a (two (G a) k))) (two-vertex a k h) (way-up a _ (setting a .two-in k h));
+        second-up = subst (λ (u : Place). WayUp ps ms u (wayPlaces a (two (G a) k))) (two-vertex a k h)
+            (way-up a _ (setting a .two-in k h));
         points-are =
             points-carried (to-places a) (s .path) ∙ ap (map (vertexAt (vertices ps ms))) (s .points-are)
             ∙ turned-carried (vertexAt (vertices ps ms)) (one (G a) k) _ _
-            ∙ ap₂ (λ (u v : Place). turned u (wayPlaces a (one (G a) k)) (v ∷ wayPlaces a (two (G a) k))) (one-vertex a k h) (two-vertex a k h);
+            ∙ ap₂ (λ (u v : Place). turned u (wayPlaces a (one (G a) k)) (v ∷ wayPlaces a (two (G a) k))) (one-vertex a k h)
+            (two-vertex a k h);
         over-bridge = rw (sym (one-vertex a k h), sym (two-vertex a k h)) (step-carried (to-places a) (s .path) _ _ (s .over-bridge));
         length-is = sym (length-by-places a (s .path)) ∙ s .length-is;
       }

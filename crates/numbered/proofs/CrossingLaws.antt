@@ -74,7 +74,8 @@ module _ {ps : List Place} {ms : List Macro} (a : Allowed ps ms) where
   pin-place : (i : ℕ) → i ∈ pins → vertexAt vs i ∈ ps
   pin-place i m =
       let r = of-pin-numbers vs ps i m in
-      Memᴰ·cast (ap (vertexAt vs) (r .is) ∙ vertex-of-number vs (vertices-ascending ps ms) (r .pin) (pin-vertex ps ms (r .stands))) (r .stands)
+      Memᴰ·cast (ap (vertexAt vs) (r .is) ∙ vertex-of-number vs (vertices-ascending ps ms) (r .pin) (pin-vertex ps ms (r .stands)))
+      (r .stands)
 
   pub to-places :
       Carries (vertexAt (vertices ps ms)) (numberOf (vertices ps ms)) (λ i. i < length (vertices ps ms)) (pairs G) (spanning ps ms) pins ps

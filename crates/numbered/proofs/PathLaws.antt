@@ -65,7 +65,8 @@ module _ (ps : List Place) (ms : List Macro) where
   paths-bridges = each (treeOf ps ms .bridges)
     where
       each : (ks : List ℕ)
-          → map (λ (p : (Place × Place) × ℕ). p .0) (map (λ k. (edgeAt (spanning ps ms) k, lengthOver k)) ks) ≡ map (edgeAt (spanning ps ms)) ks
+          → map (λ (p : (Place × Place) × ℕ). p .0) (map (λ k. (edgeAt (spanning ps ms) k, lengthOver k)) ks)
+          ≡ map (edgeAt (spanning ps ms)) ks
       each [] = refl
       each (k ∷ ks) = ap (λ (l : List (Place × Place)). edgeAt (spanning ps ms) k ∷ l) (each ks)
 
@@ -73,7 +74,8 @@ module _ (ps : List Place) (ms : List Macro) where
   unfolding pathsOf
   paths-lengths = each (treeOf ps ms .bridges) ∙ sym lengths-over
     where
-      each : (ks : List ℕ) → map (λ (p : (Place × Place) × ℕ). p .1) (map (λ k. (edgeAt (spanning ps ms) k, lengthOver k)) ks) ≡ map lengthOver ks
+      each : (ks : List ℕ) → map (λ (p : (Place × Place) × ℕ). p .1) (map (λ k. (edgeAt (spanning ps ms) k, lengthOver k)) ks)
+          ≡ map lengthOver ks
       each [] = refl
       each (k ∷ ks) = ap (λ (l : List ℕ). lengthOver k ∷ l) (each ks)
 

@@ -1,5 +1,5 @@
--- What a bridge stands for, said of places. A kept path is here what is given for it, its bridge and its length (`pathsOf`); its ends are the
--- roots of the bridge's ends. What is promised of the kept paths is said of the paths themselves, in `rules`.
+-- What a bridge stands for, said of places. A kept path is here what is given for it, its bridge and its length (`pathsOf`); its ends are
+-- the roots of the bridge's ends. What is promised of the kept paths is said of the paths themselves, in `rules`.
 use mathlib.Core.Path.{_≡_}
 use mathlib.Core.List.{List, _∷_}
 use Prim.Native.Nat.{ℕ}

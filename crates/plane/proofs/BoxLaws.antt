@@ -84,7 +84,8 @@ module _ (a b u : Place) where
   middle-in-last = record { across = middle-last (a .x) (b .x) (u .x); along = middle-last (a .y) (b .y) (u .y) }
 
   -- clear of what two of the three are clear of
-  pub middle-clear-first : (ms : List Macro) → clear a b ms ≡ true → (clear (middlePlace a b u) a ms ≡ true) × (clear (middlePlace a b u) b ms ≡ true)
+  pub middle-clear-first : (ms : List Macro) → clear a b ms ≡ true → (clear (middlePlace a b u) a ms ≡ true)
+      × (clear (middlePlace a b u) b ms ≡ true)
   middle-clear-first ms h = (
     clear-within _ _ a b middle-in-first (first-in-box a b) ms h,
     clear-within _ _ a b middle-in-first (last-in-box a b) ms h,

@@ -19,7 +19,18 @@ use Rattle.plane.specs.Distance.{apart, distance}
 -- the absolute value of a number below zero and of one that is not
 pub turned : (d : ℤ) → ltZ d (pos 0) ≡ true → pos 0 -ℤ d ≡ pos (natAbs d)
 turned d e =
-    eq-of _ _ (omega (signed, sub-sides (pos 0) d, one-side d, one-side (pos 0 -ℤ d), abs-sides d, up-pos (natAbs d), down-pos (natAbs d), up-pos 0, down-pos 0))
+    eq-of _ _ (omega (
+      signed,
+      sub-sides (pos 0) d,
+      one-side d,
+      one-side (pos 0 -ℤ d),
+      abs-sides d,
+      up-pos (natAbs d),
+      down-pos
+          (natAbs d),
+      up-pos 0,
+      down-pos 0,
+    ))
 
 pub unturned : (d : ℤ) → ltZ d (pos 0) ≡ false → d ≡ pos (natAbs d)
 unturned d e = eq-of _ _ (omega (signed, one-side d, abs-sides d, up-pos (natAbs d), down-pos (natAbs d), up-pos 0, down-pos 0))

@@ -43,5 +43,9 @@ middle-swap a b c = ap₂ (λ (low high : ℤ). maxZ low (minZ high c)) (min-com
 pub middle-one : (a b c : ℤ) → (middle a b c ≡ a) ⊎ ((middle a b c ≡ b) ⊎ (middle a b c ≡ c))
 middle-one a b c =
     by (leZ a b)
-    (λ e. by (leZ b c) (λ f. inr (inl (eq-of _ _ (omega (signed, middle-sides a b c))))) (λ f. by (leZ a c) (λ g. inr (inr (eq-of _ _ (omega (signed, middle-sides a b c))))) (λ g. inl (eq-of _ _ (omega (signed, middle-sides a b c))))))
-    (λ e. by (leZ a c) (λ f. inl (eq-of _ _ (omega (signed, middle-sides a b c)))) (λ f. by (leZ b c) (λ g. inr (inr (eq-of _ _ (omega (signed, middle-sides a b c))))) (λ g. inr (inl (eq-of _ _ (omega (signed, middle-sides a b c)))))))
+    (λ e. by (leZ b c) (λ f. inr (inl (eq-of _ _ (omega (signed, middle-sides a b c)))))
+    (λ f. by (leZ a c) (λ g. inr (inr (eq-of _ _ (omega (signed, middle-sides a b c)))))
+    (λ g. inl (eq-of _ _ (omega (signed, middle-sides a b c))))))
+    (λ e. by (leZ a c) (λ f. inl (eq-of _ _ (omega (signed, middle-sides a b c))))
+    (λ f. by (leZ b c) (λ g. inr (inr (eq-of _ _ (omega (signed, middle-sides a b c)))))
+    (λ g. inr (inl (eq-of _ _ (omega (signed, middle-sides a b c)))))))

@@ -65,7 +65,8 @@ module _ (pts : List ℤ) (a b u : ℕ) (s : Place) (i : ℕ) where
   unfolding taken
   taken-self e = rw e refl
 
-  pub taken-other : (eqb i a || (eqb i b || eqb i u)) ≡ false → (p : Place) (t : Bool) → p ≡ placeAt pts i → t ≡ samePlace s p → t ≡ taken pts a b u s i
+  pub taken-other : (eqb i a || (eqb i b || eqb i u)) ≡ false → (p : Place) (t : Bool) → p ≡ placeAt pts i → t ≡ samePlace s p → t
+      ≡ taken pts a b u s i
   unfolding taken
   taken-other e p t f g = rw (e, g, f) refl
 
@@ -73,7 +74,8 @@ pub dropped-is : (pts : List ℤ) (n a b u : ℕ) (s : Place) (i : ℕ) → i �
 unfolding dropped
 dropped-is pts n a b u s i e = rw e refl
 
-module _ (pts : List ℤ) (n : ℕ) (ms : List Macro) (a b u : ℕ) (s p q r : Place) (f : p ≡ placeAt pts a) (g : q ≡ placeAt pts b) (h : r ≡ placeAt pts u) where
+module _ (pts : List ℤ) (n : ℕ) (ms : List Macro) (a b u : ℕ) (s p q r : Place) (f : p ≡ placeAt pts a) (g : q ≡ placeAt pts b)
+    (h : r ≡ placeAt pts u) where
   pub allowed-no : sees ms p q r ≡ false → false ≡ allowed pts n ms a b u s
   unfolding allowed
   allowed-no e = rw (← f, ← g, ← h, e) refl

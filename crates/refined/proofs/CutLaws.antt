@@ -77,7 +77,8 @@ module _ (pts : List ℤ) (n : ℕ) (ks : List ℕ) (e : ℕ) (el : List ℕ) (o
         (whole .joins (placeAt pts u) (placeAt pts a) (in-listing (placeAt pts) n u hu) (in-listing (placeAt pts) n a ha))
 
     -- the longest on the way to the near point y, where the far one is z
-    module _ (y z : ℕ) (hy : y < n) (hz : z < n) (uy : u ≡ y → ⊥) (near : the-way .near ≡ placeAt pts y) (far : the-way .far ≡ placeAt pts z) where
+    module _ (y z : ℕ) (hy : y < n) (hz : z < n) (uy : u ≡ y → ⊥) (near : the-way .near ≡ placeAt pts y)
+        (far : the-way .far ≡ placeAt pts z) where
       near-top : Top pts n ks (suc e) el (getD top (key y u) 0) (placeAt pts u) (the-way .free .points)
       near-top = way-longest u y hu hy (the-way .free .points) (subst (λ (q : Place). Way T (placeAt pts u) (the-way .free .points) q) near
           (the-way .free .way)) (the-way .free .once)
@@ -85,12 +86,14 @@ module _ (pts : List ℤ) (n : ℕ) (ks : List ℕ) (e : ℕ) (el : List ℕ) (o
       far-top : Top pts n ks (suc e) el (getD top (key z u) 0) (placeAt pts u) (the-way .free .points ++ (the-way .far ∷ []))
       far-top =
           way-longest u z hu hz (the-way .free .points ++ (the-way .far ∷ []))
-          (subst (λ (q : Place). Way T (placeAt pts u) (the-way .free .points ++ (the-way .far ∷ [])) q) far (far-way (inl edge) the-way)) (far-once the-way)
+          (subst (λ (q : Place). Way T (placeAt pts u) (the-way .free .points ++ (the-way .far ∷ [])) q) far (far-way (inl edge) the-way))
+          (far-once the-way)
 
       -- the way has a step
       pub near-is : (getD top (key y u) 0 < suc e) × ((c : Place) × ((d : Place) ×
           (((c, d) ∈ steps (placeAt pts u) (the-way .free .points)) × Ends pts n ks (suc e) el (getD top (key y u) 0) c d)))
-      near-is = either (λ q. absurd (uy (order-same pts n u y o hu hy (at (the-way .free .points) (q .0) (the-way .free .way) ∙ near)))) (λ q. q)
+      near-is = either (λ q. absurd (uy (order-same pts n u y o hu hy (at (the-way .free .points) (q .0) (the-way .free .way) ∙ near))))
+          (λ q. q)
           (near-top .is)
         where
           at : (ps : List Place) → ps ≡ [] → Way T (placeAt pts u) ps (the-way .near) → placeAt pts u ≡ the-way .near
@@ -111,7 +114,8 @@ module _ (pts : List ℤ) (n : ℕ) (ks : List ℕ) (e : ℕ) (el : List ℕ) (o
     abbrev pub Is : ℕ → Type 0
     Is x =
         Top pts n ks (suc e) el x (placeAt pts u) (the-way .free .points)
-        × ((x < suc e) × ((c : Place) × ((d : Place) × (((c, d) ∈ steps (placeAt pts u) (the-way .free .points)) × Ends pts n ks (suc e) el x c d))))
+        × ((x < suc e) × ((c : Place) × ((d : Place)
+        × (((c, d) ∈ steps (placeAt pts u) (the-way .free .points)) × Ends pts n ks (suc e) el x c d))))
 
     pub cut-is : Is (cutOf el top a b u)
     unfolding cutOf

@@ -55,19 +55,22 @@ module _ (ms : List Macro) (pins : List Place) (pts : List ℤ) (n : ℕ) (ks : 
 
   abbrev Here : ℕ → Type 0
   Here x =
-      Is pts n ks e el (sound .ordered) few (omega (arith, sized)) (no-length pts ks (suc e) (omega (arith, sized))) (sound .within) (sound .whole) k u
+      Is pts n ks e el (sound .ordered) few (omega (arith, sized)) (no-length pts ks (suc e) (omega (arith, sized))) (sound .within)
+      (sound .whole) k u
       hk hu (λ q. third (inl q)) (λ q. third (inr q)) x
 
   worked-is : Here (cutIn (tree pts n ks (suc e)) k u)
   unfolding longest
   worked-is =
-      cut-is pts n ks e el (sound .ordered) few (omega (arith, sized)) (no-length pts ks (suc e) (omega (arith, sized))) (sound .within) (sound .whole)
+      cut-is pts n ks e el (sound .ordered) few (omega (arith, sized)) (no-length pts ks (suc e) (omega (arith, sized))) (sound .within)
+      (sound .whole)
       k u hk hu (λ q. third (inl q)) (λ q. third (inr q))
 
   long-at : (j : ℕ) → j < suc e → getD el j 0 ≡ longAt (tree pts n ks (suc e)) j
   long-at j h = length-at pts ks (suc e) j (omega (arith, sized)) h
 
-  abbrev way : Toward (edgesOf pts ks (suc e)) (placeAt pts u) (placeAt pts (firstEnd (getD ks k 0))) (placeAt pts (secondEnd (getD ks k 0)))
+  abbrev way : Toward (edgesOf pts ks (suc e)) (placeAt pts u) (placeAt pts (firstEnd (getD ks k 0)))
+      (placeAt pts (secondEnd (getD ks k 0)))
   way =
       the-way pts n ks e el (sound .ordered) few (omega (arith, sized)) (no-length pts ks (suc e) (omega (arith, sized))) (sound .within)
       (sound .whole) k u hk hu (λ q. third (inl q)) (λ q. third (inr q))
@@ -88,7 +91,8 @@ module _ (ms : List Macro) (pins : List Place) (pts : List ℤ) (n : ℕ) (ks : 
   cut-some : CutAt (tree pts n ks (suc e)) k u (cutIn (tree pts n ks (suc e)) k u)
   cut-some = of-is (cutIn (tree pts n ks (suc e)) k u) worked-is
 
-at-size : (ms : List Macro) (pins : List Place) (pts : List ℤ) (n : ℕ) (ks : List ℕ) (e : ℕ) → Sound ms pins (tree pts n ks e) → n ≤ pointBound →
+at-size : (ms : List Macro) (pins : List Place) (pts : List ℤ) (n : ℕ) (ks : List ℕ) (e : ℕ) → Sound ms pins (tree pts n ks e) → n
+    ≤ pointBound →
     (k u : ℕ) → k < e → u < n → (EndOf (tree pts n ks e) u k → ⊥) → CutAt (tree pts n ks e) k u (cutIn (tree pts n ks e) k u)
 at-size ms pins pts n ks zero sound few k u hk hu third = absurd (let z : ⊥ = omega arith in z)
 at-size ms pins pts n ks (suc e) sound few k u hk hu third = cut-some ms pins pts n ks e sound few k u hk hu third

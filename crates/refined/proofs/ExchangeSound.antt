@@ -1,5 +1,5 @@
--- One round keeps a tree over its points in order, with all pins and every edge clear: by the exchange of the theory of joined points, with s
--- a new point, or one of a, b and u where it stands already.
+-- One round keeps a tree over its points in order, with all pins and every edge clear: by the exchange of the theory of joined points,
+-- with s a new point, or one of a, b and u where it stands already.
 -- Assumes nothing.
 use mathlib.Core.Path.{_≡_, refl, sym, ap, _∙_}
 use mathlib.Core.Bool.{true, false, _||_}
@@ -69,7 +69,8 @@ module _ (pts : List ℤ) (n : ℕ) (ks : List ℕ) (e k l a b u p : ℕ) (s : P
         λ g.
         over-lay3 g p a b u (row left e) (rw (length-dropped e k l ks) (omega arith))
         ∙ ap (λ (x : ℕ). between g p u + (between g p b + (between g p a + x)))
-        (below-same _ _ e (λ i q. ap g (let z : getD left i 0 ≡ key (firstEnd (getD left i 0)) (secondEnd (getD left i 0)) = omega arith in z)));
+        (below-same _ _ e (λ i q. ap g (let z : getD left i 0 ≡ key (firstEnd (getD left i 0)) (secondEnd (getD left i 0)) = omega arith in
+        z)));
   }
 
   -- s is put in
@@ -88,7 +89,8 @@ module _ (pts : List ℤ) (n : ℕ) (ks : List ℕ) (e k l a b u p : ℕ) (s : P
     lowest = omega arith;
     sums =
         λ g.
-        over-lay3 g p (bump p a) (bump p b) (bump p u) (row (turns (bumpAt p) 0 e left) e) (rw (length-bumps p e left, length-dropped e k l ks) (omega arith))
+        over-lay3 g p (bump p a) (bump p b) (bump p u) (row (turns (bumpAt p) 0 e left) e)
+        (rw (length-bumps p e left, length-dropped e k l ks) (omega arith))
         ∙ ap (λ (x : ℕ). between g p (bump p u) + (between g p (bump p b) + (between g p (bump p a) + x)))
         (over-bumped g p e left (rw (length-dropped e k l ks) (omega arith)));
   }
@@ -146,7 +148,8 @@ module _ (ms : List Macro) (pins : List Place) (pts : List ℤ) (n : ℕ) (ks : 
     abbrev U : List (Place × Place)
     U = edgesOf (t .points) (t .edges .keys) (t .edges .size)
 
-    links : (x y : Place) → Link (edgesOf pts ks (suc (suc e))) x y → Alike x y (placeAt pts a) (placeAt pts b) ⊎ (Alike x y (c .one) (c .other) ⊎ Link U x y)
+    links : (x y : Place) → Link (edgesOf pts ks (suc (suc e))) x y → Alike x y (placeAt pts a) (placeAt pts b)
+        ⊎ (Alike x y (c .one) (c .other) ⊎ Link U x y)
     links x y i =
         either inl (λ q. inr (either (λ v. inl (alike-trans v (alike-sym (c .longest)))) inr q))
         (still after (sound .within) (c .edge) (c .cut) (c .two) ha hb (c .point) x y i)
@@ -173,7 +176,8 @@ module _ (ms : List Macro) (pins : List Place) (pts : List ℤ) (n : ℕ) (ks : 
       pinned =
           λ y i.
           let r = of-listing (placeAt pts) n y (sound .pinned y i) in
-          Memᴰ·cast (r .1 .1 ∙ sym (after .old (r .0) (r .1 .0))) (in-listing (placeAt (t .points)) (t .count) (m (r .0)) (inside (r .0) (r .1 .0)));
+          Memᴰ·cast (r .1 .1 ∙ sym (after .old (r .0) (r .1 .0)))
+          (in-listing (placeAt (t .points)) (t .count) (m (r .0)) (inside (r .0) (r .1 .0)));
     }
 
   edges-of : suc (suc (suc e)) ≡ n
@@ -188,7 +192,8 @@ module _ (ms : List Macro) (pins : List Place) (pts : List ℤ) (n : ℕ) (ks : 
 
   ends-apart : a ≡ b → ⊥
   ends-apart q =
-      tree-simple same-place (sound .whole) .apart (placeAt pts a) (placeAt pts b) (in-listing (λ i. endsOf pts (getD ks i 0)) (suc (suc e)) k (c .edge))
+      tree-simple same-place (sound .whole) .apart (placeAt pts a) (placeAt pts b)
+      (in-listing (λ i. endsOf pts (getD ks i 0)) (suc (suc e)) k (c .edge))
       (ap (placeAt pts) q)
 
   -- Where s is put in
@@ -219,13 +224,22 @@ module _ (ms : List Macro) (pins : List Place) (pts : List ℤ) (n : ℕ) (ks : 
 
     put-size : suc (new-tree pts n ks e k l a b u p s rooms .edges .size) ≡ n + 1
     put-size =
-        omega (arith, counted put, ones-not p (bump p a) (bump-not p a), ones-not p (bump p b) (bump-not p b), ones-not p (bump p u) (bump-not p u), edges-of)
+        omega (
+          arith,
+          counted put,
+          ones-not p (bump p a) (bump-not p a),
+          ones-not p (bump p b) (bump-not p b),
+          ones-not p (bump p u)
+              (bump-not p u),
+          edges-of,
+        )
 
     put-within : Within (n + 1) (new-tree pts n ks e k l a b u p s rooms .edges .keys)
     unfolding laidAt
     put-within =
         rw (laidAt, new) at
-        (within-joined pts n (dropTwo e k l ks) e p a b u s few (rank-le pts n s) ha hb (c .point) (within-dropped n e k l ks (sound .within)))
+        (within-joined pts n (dropTwo e k l ks) e p a b u s few (rank-le pts n s) ha hb (c .point)
+        (within-dropped n e k l ks (sound .within)))
 
     put-sound : Sound ms pins (new-tree pts n ks e k l a b u p s rooms)
     put-sound =
@@ -296,7 +310,8 @@ module _ (ms : List Macro) (pins : List Place) (pts : List ℤ) (n : ℕ) (ks : 
     unfolding laidAt
     stood-within =
         rw (laidAt, there) at
-        (within-joined pts n (dropTwo e k l ks) e p a b u s few (rank-le pts n s) ha hb (c .point) (within-dropped n e k l ks (sound .within)))
+        (within-joined pts n (dropTwo e k l ks) e p a b u s few (rank-le pts n s) ha hb (c .point)
+        (within-dropped n e k l ks (sound .within)))
 
     stood-sound : Sound ms pins (old-tree pts n ks e k l a b u p s rooms)
     stood-sound = after-sound stood (sound .ordered) stood-within (λ i h. h) (λ y i. inr i) stood-size

@@ -52,10 +52,12 @@ none-loose pin (suc e) ks =
 not-loose : (pin ks : List ℕ) (e : ℕ) → firstLoose pin ks e ≡ e → (i : ℕ) → i < e →
     looseEdge pin (turns (countEnds ks) 0 e (replicate pointBound 0)) ks i ≡ false
 unfolding firstLoose
-not-loose pin ks e q i h = seek-before (looseEdge pin (turns (countEnds ks) 0 e (replicate pointBound 0)) ks) e 0 i (omega arith) (omega (arith, q))
+not-loose pin ks e q i h = seek-before (looseEdge pin (turns (countEnds ks) 0 e (replicate pointBound 0)) ks) e 0 i (omega arith)
+    (omega (arith, q))
 
 pub pruned-none : (pin ks : List ℕ) (e i : ℕ) → i < prune pin ks e .size →
-    looseEdge pin (turns (countEnds (prune pin ks e .keys)) 0 (prune pin ks e .size) (replicate pointBound 0)) (prune pin ks e .keys) i ≡ false
+    looseEdge pin (turns (countEnds (prune pin ks e .keys)) 0 (prune pin ks e .size) (replicate pointBound 0)) (prune pin ks e .keys) i
+    ≡ false
 pruned-none pin ks e i h = not-loose pin (prune pin ks e .keys) (prune pin ks e .size) (none-loose pin e ks) i h
 
 -- a sum with more than one of its parts has another
@@ -98,7 +100,8 @@ module _ (n : ℕ) (pin ks : List ℕ) (e : ℕ) (few : n ≤ pointBound) (w : W
   counted = turns (countEnds ks) 0 e (replicate pointBound 0)
 
   -- such a point has not a single edge
-  not-single : (v i : ℕ) → i < e → (v ≡ firstEnd (getD ks i 0)) ⊎ (v ≡ secondEnd (getD ks i 0)) → getD pin v 0 ≡ 0 → getD counted v 0 ≡ 1 → ⊥
+  not-single : (v i : ℕ) → i < e → (v ≡ firstEnd (getD ks i 0)) ⊎ (v ≡ secondEnd (getD ks i 0)) → getD pin v 0 ≡ 0 → getD counted v 0 ≡ 1 →
+      ⊥
   unfolding looseEdge loose
   not-single v i h q free single =
       let z = or-none (loose pin counted (firstEnd (getD ks i 0))) (loose pin counted (secondEnd (getD ks i 0))) (done i h) in
@@ -116,7 +119,8 @@ module _ (n : ℕ) (pin ks : List ℕ) (e : ℕ) (few : n ≤ pointBound) (w : W
       (r .0, (r .1 .0, (r .1 .1 .0, count-ends v (getD ks (r .0) 0) (r .1 .1 .1))))
 
 -- a point that is no pin has the mark 0
-pub no-pin : (pins : List Place) (pts : List ℤ) (n : ℕ) → n ≤ pointBound → (v : ℕ) → v < n → (placeAt pts v ∈ pins → ⊥) → getD (marks pins pts n) v 0 ≡ 0
+pub no-pin : (pins : List Place) (pts : List ℤ) (n : ℕ) → n ≤ pointBound → (v : ℕ) → v < n → (placeAt pts v ∈ pins → ⊥) →
+    getD (marks pins pts n) v 0 ≡ 0
 unfolding marks markOf
 no-pin pins pts n few v h d =
     marks-at pins pts n 0 (replicate pointBound 0) v (rw (zeros-length pointBound) (omega arith)) (omega arith) (omega arith)

@@ -110,7 +110,8 @@ module _ (pts : List ℤ) (n : ℕ) (ks : List ℕ) (e : ℕ) (el : List ℕ) wh
     }
 
     -- and at the end
-    top-end : (x k : ℕ) (a b z : Place) (ps : List Place) → k < e → Ends k b z → Way T a ps b → Top x a ps → Top (longer el x k) a (ps ++ (z ∷ []))
+    top-end : (x k : ℕ) (a b z : Place) (ps : List Place) → k < e → Ends k b z → Way T a ps b → Top x a ps →
+        Top (longer el x k) a (ps ++ (z ∷ []))
     top-end x k a b z ps h g w t = record {
       is =
           by (wins el x k)
@@ -140,8 +141,10 @@ module _ (pts : List ℤ) (n : ℕ) (ks : List ℕ) (e : ℕ) (el : List ℕ) wh
     }
 
     edge-link : (k : ℕ) (c d : Place) → k < e → Ends k c d → Link T c d
-    edge-link k c d h (inl q) = inl (Memᴰ·cast (ap₂ (λ (x y : Place). (x, y)) (q .0) (q .1)) (in-listing (λ i. endsOf pts (getD ks i 0)) e k h))
-    edge-link k c d h (inr q) = inr (Memᴰ·cast (ap₂ (λ (x y : Place). (x, y)) (q .1) (q .0)) (in-listing (λ i. endsOf pts (getD ks i 0)) e k h))
+    edge-link k c d h (inl q) = inl (Memᴰ·cast (ap₂ (λ (x y : Place). (x, y)) (q .0) (q .1))
+        (in-listing (λ i. endsOf pts (getD ks i 0)) e k h))
+    edge-link k c d h (inr q) = inr (Memᴰ·cast (ap₂ (λ (x y : Place). (x, y)) (q .1) (q .0))
+        (in-listing (λ i. endsOf pts (getD ks i 0)) e k h))
 
     turn-ends : (k : ℕ) (c d : Place) → Ends k c d → Ends k d c
     turn-ends k c d (inl q) = inr (q .1, q .0)
@@ -209,7 +212,8 @@ module _ (pts : List ℤ) (n : ℕ) (ks : List ℕ) (e : ℕ) (el : List ℕ) wh
                 λ z m.
                 either (λ i. later-seen (f .seen) z i) (λ i. either (λ q. (v, (now-seen, q))) (λ q. elim q [ ]) (List·Memᴰ·cases-cons i))
                 (List·Memᴰ·append-cases (placeAt pts w ∷ f .points) m);
-            top = subst (λ (y : ℕ). Top y (placeAt pts w) (f .points ++ (placeAt pts v ∷ []))) (sym x) (top-end _ k _ _ _ _ hk back (f .way) (f .top));
+            top = subst (λ (y : ℕ). Top y (placeAt pts w) (f .points ++ (placeAt pts v ∷ []))) (sym x)
+                (top-end _ k _ _ _ _ hk back (f .way) (f .top));
           }
 
       v-alone : Known after v v
@@ -244,7 +248,8 @@ module _ (pts : List ℤ) (n : ℕ) (ks : List ℕ) (e : ℕ) (el : List ℕ) wh
         room = length-set (r .seen) v 1 ∙ good .room;
         sized = spreads-length el v p k (omega arith) n (r .top) few (good .sized) apart;
         marks = λ i. by (eqb v i) (λ q. inr (ap (λ (j : ℕ). getD (after .seen) j 0) (sym (eqb-true v i q)) ∙ now-seen .1))
-            (λ q. either (λ z. inl (other (r .seen) v i 1 (eqb-false v i q) ∙ z)) (λ z. inr (other (r .seen) v i 1 (eqb-false v i q) ∙ z)) (good .marks i));
+            (λ q. either (λ z. inl (other (r .seen) v i 1 (eqb-false v i q) ∙ z)) (λ z. inr (other (r .seen) v i 1 (eqb-false v i q) ∙ z))
+            (good .marks i));
         known =
             λ x y s q.
             either

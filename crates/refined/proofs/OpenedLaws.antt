@@ -31,7 +31,8 @@ place-here pts i q h =
     (getD-set-same (set pts (i * 2) (q .x)) (i * 2 + 1) (q .y) (pos 0) (rw (length-set pts (i * 2) (q .x)) (omega arith)))
 
 place-other : (pts : List ℤ) (i j : ℕ) (q : Place) → (i ≡ j → ⊥) → placeAt (setPoint pts i q) j ≡ placeAt pts j
-place-other pts i j q n = ap₂ place (at (j * 2) (λ e. n (omega arith)) (λ e. n (omega arith))) (at (j * 2 + 1) (λ e. n (omega arith)) (λ e. n (omega arith)))
+place-other pts i j q n = ap₂ place (at (j * 2) (λ e. n (omega arith)) (λ e. n (omega arith)))
+    (at (j * 2 + 1) (λ e. n (omega arith)) (λ e. n (omega arith)))
   where
     at : (k : ℕ) → (k ≡ i * 2 → ⊥) → (k ≡ i * 2 + 1 → ⊥) → getD (setPoint pts i q) k (pos 0) ≡ getD pts k (pos 0)
     at k a b = getD-set-other (set pts (i * 2) (q .x)) (i * 2 + 1) k (q .y) (pos 0) b ∙ getD-set-other pts (i * 2) k (q .x) (pos 0) a
@@ -105,7 +106,8 @@ module _ (pts : List ℤ) (n p : ℕ) (s : Place) (hp : p ≤ n) (room : n * 2 +
       (λ t. let l : p ≤ i = ltb-false i p t in let e : i + 1 ≡ suc i = omega arith in rw (← bump-ge p i l, e) (opened-high i l h))
 
   pub opened-past : (j : ℕ) → p < j → j < suc n → placeAt (opened pts n p s) j ≡ placeAt pts (j - 1)
-  opened-past j h l = let e : j ≡ suc (j - 1) = omega arith in ap (placeAt (opened pts n p s)) e ∙ opened-high (j - 1) (omega arith) (omega arith)
+  opened-past j h l = let e : j ≡ suc (j - 1) = omega arith in ap (placeAt (opened pts n p s)) e ∙ opened-high (j - 1) (omega arith)
+      (omega arith)
 
 -- The rank of s
 
@@ -152,7 +154,8 @@ module _ (pts : List ℤ) (n : ℕ) (s : Place) (o : InOrder pts n) where
     pub rank-above : (j : ℕ) → rank pts n s ≤ j → j < n → before s (placeAt pts j) ≡ true
     rank-above j h l =
         by (ltb (rank pts n s) j)
-        (λ t. before-trans s (placeAt pts (rank pts n s)) (placeAt pts j) (first-after (omega arith)) (o (rank pts n s) j (ltb-true _ _ t) l))
+        (λ t. before-trans s (placeAt pts (rank pts n s)) (placeAt pts j) (first-after (omega arith))
+        (o (rank pts n s) j (ltb-true _ _ t) l))
         (λ t. let e : j ≡ rank pts n s = omega (arith, ltb-false (rank pts n s) j t) in rw e (first-after (omega arith)))
 
     module _ (room : n * 2 + 2 ≤ length pts) where

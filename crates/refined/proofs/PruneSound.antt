@@ -1,5 +1,5 @@
--- Pruning keeps a tree with all pins: the point that goes is no pin, and by the count of its edges no other edge has it. No edge is added, so
--- the total is not raised.
+-- Pruning keeps a tree with all pins: the point that goes is no pin, and by the count of its edges no other edge has it. No edge is
+-- added, so the total is not raised.
 -- Assumes nothing.
 use mathlib.Core.Path.{_≡_, refl, sym, ap, _∙_}
 use mathlib.Core.Bool.{true}
@@ -47,7 +47,8 @@ count-up d a v h =
     (λ t.
     let e : a ≡ v = eqb-true a v t in
     let o : one v a ≡ 1 = ap (one v) e ∙ one-same v in
-    let g : getD (set d a (getD d a 0 + 1)) v 0 ≡ getD d a 0 + 1 = ap (λ (i : ℕ). getD (set d a (getD d a 0 + 1)) i 0) (sym e) ∙ here d a (getD d a 0 + 1) h in
+    let g : getD (set d a (getD d a 0 + 1)) v 0 ≡ getD d a 0 + 1 = ap (λ (i : ℕ). getD (set d a (getD d a 0 + 1)) i 0) (sym e)
+    ∙ here d a (getD d a 0 + 1) h in
     let f : getD d a 0 ≡ getD d v 0 = ap (λ (i : ℕ). getD d i 0) e in
     omega (arith, o, g, f))
     (λ t.
@@ -67,7 +68,8 @@ length-count : (ks : List ℕ) (i : ℕ) (d : List ℕ) → length (countEnds ks
 unfolding countEnds
 length-count ks i d = simp length-set
 
-counts : (ks : List ℕ) → ((j : ℕ) → (firstEnd (getD ks j 0) < pointBound) × (secondEnd (getD ks j 0) < pointBound)) → (c i : ℕ) (d : List ℕ) (v : ℕ) →
+counts : (ks : List ℕ) → ((j : ℕ) → (firstEnd (getD ks j 0) < pointBound) × (secondEnd (getD ks j 0) < pointBound)) →
+    (c i : ℕ) (d : List ℕ) (v : ℕ) →
     length d ≡ pointBound → getD (turns (countEnds ks) i c d) v 0 ≡ getD d v 0 + from (λ j. endCount v (getD ks j 0)) i c
 unfolding turns from
 counts ks h zero i d v s = omega arith
@@ -120,7 +122,8 @@ module _ (pts : List ℤ) (n : ℕ) (o : InOrder pts n) (few : n ≤ pointBound)
             one-not j (getD ks i 0)
                 (λ q. eqb-false _ _ t (sym q)),
           )) in
-          inr (Memᴰ·cast (r .1 .1 ∙ ap (endsOf pts) (sym (f .1 .1))) (in-listing (λ q. endsOf pts (getD (closed i e ks) q 0)) e (f .0) (f .1 .0))))
+          inr (Memᴰ·cast (r .1 .1 ∙ ap (endsOf pts) (sym (f .1 .1)))
+          (in-listing (λ q. endsOf pts (getD (closed i e ks) q 0)) e (f .0) (f .1 .0))))
 
   -- the edge i joins v and another point, and no other edge has v
   module _ (v z : ℕ) (hv : v < n) (ends : Alike v z (firstEnd (getD ks i 0)) (secondEnd (getD ks i 0)))
@@ -161,13 +164,15 @@ module _ (pts : List ℤ) (n : ℕ) (o : InOrder pts n) (few : n ≤ pointBound)
     gone y (inl m) =
         let r = of-listing (λ j. endsOf pts (getD (closed i e ks) j 0)) e (placeAt pts v, y) m in
         let g = within-closed n i e ks w .ends (r .0) in
-        let q : v ≡ firstEnd (getD (closed i e ks) (r .0) 0) = order-same pts n _ _ o hv (g .0) (ap (λ (x : Place × Place). x .0) (r .1 .1)) in
+        let q : v ≡ firstEnd (getD (closed i e ks) (r .0) 0) = order-same pts n _ _ o hv (g .0)
+        (ap (λ (x : Place × Place). x .0) (r .1 .1)) in
         let f : one v (firstEnd (getD (closed i e ks) (r .0) 0)) ≡ 1 = ap (one v) (sym q) ∙ one-same v in
         no-end (r .0) (r .1 .0) (omega (arith, f))
     gone y (inr m) =
         let r = of-listing (λ j. endsOf pts (getD (closed i e ks) j 0)) e (y, placeAt pts v) m in
         let g = within-closed n i e ks w .ends (r .0) in
-        let q : v ≡ secondEnd (getD (closed i e ks) (r .0) 0) = order-same pts n _ _ o hv (g .1) (ap (λ (x : Place × Place). x .1) (r .1 .1)) in
+        let q : v ≡ secondEnd (getD (closed i e ks) (r .0) 0) = order-same pts n _ _ o hv (g .1)
+        (ap (λ (x : Place × Place). x .1) (r .1 .1)) in
         let f : one v (secondEnd (getD (closed i e ks) (r .0) 0)) ≡ 1 = ap (one v) (sym q) ∙ one-same v in
         no-end (r .0) (r .1 .0) (omega (arith, f))
 

@@ -72,7 +72,8 @@ module _ (ms : List Macro) (pins : List Place) (pts : List ℤ) (n : ℕ) (ks : 
 
   abbrev Cut : ℕ → Type 0
   Cut x =
-      Is pts n ks e (lengths pts ks (suc e)) (sound .ordered) (omega arith) (omega (arith, sized)) (no-length pts ks (suc e) (omega (arith, sized)))
+      Is pts n ks e (lengths pts ks (suc e)) (sound .ordered) (omega arith) (omega (arith, sized))
+      (no-length pts ks (suc e) (omega (arith, sized)))
       (sound .within)
       (sound .whole) k u (win .edge) (win .point) (win .notFirst) (win .notSecond) x
 
@@ -81,7 +82,8 @@ module _ (ms : List Macro) (pins : List Place) (pts : List ℤ) (n : ℕ) (ks : 
   unfolding longest
   cut-longest =
       subst Cut (sym (win .cut))
-      (cut-is pts n ks e (lengths pts ks (suc e)) (sound .ordered) (omega arith) (omega (arith, sized)) (no-length pts ks (suc e) (omega (arith, sized)))
+      (cut-is pts n ks e (lengths pts ks (suc e)) (sound .ordered) (omega arith) (omega (arith, sized))
+      (no-length pts ks (suc e) (omega (arith, sized)))
       (sound .within) (sound .whole) k u (win .edge) (win .point) (win .notFirst) (win .notSecond))
 
   pub taken : Taken ms pts n ks (suc e) k l u
@@ -104,13 +106,15 @@ module _ (ms : List Macro) (pins : List Place) (pts : List ℤ) (n : ℕ) (ks : 
     longest = cut-longest .1 .1 .1 .1 .1;
   }
 
-module _ (ms : List Macro) (pins : List Place) (pts : List ℤ) (n : ℕ) (ks : List ℕ) (few : n < pointBound) (room : length pts ≡ pointBound * 2)
+module _ (ms : List Macro) (pins : List Place) (pts : List ℤ) (n : ℕ) (ks : List ℕ) (few : n < pointBound)
+    (room : length pts ≡ pointBound * 2)
     (rooms : length ks ≡ pointBound) where
   abbrev pub Won : ℕ → Best → Type 0
   Won e c = Winner ms pts n ks e (lengths pts ks e) (longest ks (lengths pts ks e) e n) (c .gain) (c .edge) (c .point) (c .cut)
 
   pub exchange-laid : (c : Best) (e : ℕ) → exchange c pts n ks (suc (suc e))
-      ≡ laidAt pts n (dropTwo e (c .edge) (c .cut) ks) e (rank pts n (middleOf pts (firstEnd (getD ks (c .edge) 0)) (secondEnd (getD ks (c .edge) 0))
+      ≡ laidAt pts n (dropTwo e (c .edge) (c .cut) ks) e
+      (rank pts n (middleOf pts (firstEnd (getD ks (c .edge) 0)) (secondEnd (getD ks (c .edge) 0))
       (c .point)))
       (firstEnd (getD ks (c .edge) 0)) (secondEnd (getD ks (c .edge) 0)) (c .point)
       (middleOf pts (firstEnd (getD ks (c .edge) 0)) (secondEnd (getD ks (c .edge) 0)) (c .point))
@@ -162,7 +166,8 @@ module _ (ms : List Macro) (pins : List Place) (pts : List ℤ) (n : ℕ) (ks : 
 
 -- The rounds
 
-kept-then : {ms : List Macro} {pins : List Place} {t r q : Tree} (m : ℕ) → Kept ms pins t r 1 → Kept ms pins r q m → Kept ms pins t q (suc m)
+kept-then : {ms : List Macro} {pins : List Place} {t r q : Tree} (m : ℕ) → Kept ms pins t r 1 → Kept ms pins r q m →
+    Kept ms pins t q (suc m)
 kept-then m a b = record {
   sound = b .sound;
   total = omega (arith, a .total, b .total);
@@ -175,7 +180,14 @@ kept-then m a b = record {
 pub rounds-kept : (ms : List Macro) (pins : List Place) (m : ℕ) (t : Tree) → Sound ms pins t → t .count + m ≤ pointBound →
     length (t .points) ≡ pointBound * 2 → length (t .edges .keys) ≡ pointBound → Kept ms pins t (rounds ms m t) m
 unfolding rounds
-rounds-kept ms pins zero t sound few room rooms = record { sound = sound; total = omega arith; points = omega arith; places = refl; rows = refl; ranked = λ r. r }
+rounds-kept ms pins zero t sound few room rooms = record {
+  sound = sound;
+  total = omega arith;
+  points = omega arith;
+  places = refl;
+  rows = refl;
+  ranked = λ r. r;
+}
 rounds-kept ms pins (suc m) t sound few room rooms =
     let c = found ms (t .points) (t .count) (t .edges .keys) (t .edges .size) in
     by (eqb (c .gain) 0)
@@ -189,17 +201,20 @@ rounds-kept ms pins (suc m) t sound few room rooms =
     (kept-then m one (rounds-kept ms pins m next (one .sound) (omega (arith, one .points)) (one .places ∙ room) (one .rows ∙ rooms))))
 
 -- the sum that the contract speaks of is this one
-sum-last : (pts : List ℤ) (ks : List ℕ) (c i s : ℕ) → turns (addLength pts ks) i (suc c) s ≡ keyLength pts (getD ks (i + c) 0) + turns (addLength pts ks) i c s
+sum-last : (pts : List ℤ) (ks : List ℕ) (c i s : ℕ) → turns (addLength pts ks) i (suc c) s ≡ keyLength pts (getD ks (i + c) 0)
+    + turns (addLength pts ks) i c s
 unfolding turns addLength edgeLength
 sum-last pts ks zero i s = let z : i + 0 ≡ i = omega arith in rw z (omega arith)
-sum-last pts ks (suc c) i s = let z : i + suc c ≡ suc i + c = omega arith in rw z (sum-last pts ks c (suc i) (s + keyLength pts (getD ks i 0)))
+sum-last pts ks (suc c) i s = let z : i + suc c ≡ suc i + c = omega arith in
+    rw z (sum-last pts ks c (suc i) (s + keyLength pts (getD ks i 0)))
 
 summed : (pts : List ℤ) (ks : List ℕ) (c : ℕ) → turns (addLength pts ks) 0 c 0 ≡ over (keyLength pts) ks c
 unfolding turns below
 summed pts ks zero = refl
 summed pts ks (suc c) =
     let z : 0 + c ≡ c = omega arith in
-    let r : turns (addLength pts ks) 0 (suc c) 0 ≡ keyLength pts (getD ks c 0) + turns (addLength pts ks) 0 c 0 = rw z at (sum-last pts ks c 0 0) in
+    let r : turns (addLength pts ks) 0 (suc c) 0 ≡ keyLength pts (getD ks c 0) + turns (addLength pts ks) 0 c 0 = rw z at
+    (sum-last pts ks c 0 0) in
     r ∙ ap (λ (x : ℕ). keyLength pts (getD ks c 0) + x) (summed pts ks c)
 
 pub metal-of : (pts : List ℤ) (n : ℕ) (ks : List ℕ) (e : ℕ) → metal pts ks e ≡ metalOf (tree pts n ks e)

@@ -93,7 +93,8 @@ module _ (ms : List Macro) (pts : List ℤ) (n : ℕ) (ks : List ℕ) (e : ℕ) 
       let gained : (g m : ℕ) → Win g k u m → g + d ≡ getD el l 0 = λ g m w. w .gained ∙ ap (λ (i : ℕ). getD el i 0) (w .cut) in
       by (eqb u a || (eqb u b || eqb l k))
       (λ t. rw t (stays c k u h (λ g m w.
-      differ t (or-neither _ _ (ne-eqb u a (w .notFirst)) (or-neither _ _ (ne-eqb u b (w .notSecond)) (ne-eqb l k (λ q. w .two (w .cut ∙ q)))))))) λ t.
+      differ t (or-neither _ _ (ne-eqb u a (w .notFirst))
+      (or-neither _ _ (ne-eqb u b (w .notSecond)) (ne-eqb l k (λ q. w .two (w .cut ∙ q)))))))) λ t.
       by (ltb (c .gain + d) (getD el l 0) && (sees ms (placeAt pts a) (placeAt pts b) (placeAt pts u) && not (dropped pts n a b u s)))
       (λ w.
       let more = ltb-true (c .gain + d) (getD el l 0) (and-left _ _ w) in
@@ -167,7 +168,8 @@ module _ (pts : List ℤ) (n a b u : ℕ) (s : Place) where
   dropped-not : dropped pts n a b u s ≡ false → (i : ℕ) → i < n → Other i → ⊥
   unfolding dropped
   dropped-not t i h q =
-      differ (taken-yes i q) (seek-before (taken pts a b u s) n 0 i (omega arith) (omega (arith, ltb-false (seek (taken pts a b u s) 0 n) n t)))
+      differ (taken-yes i q) (seek-before (taken pts a b u s) n 0 i (omega arith)
+      (omega (arith, ltb-false (seek (taken pts a b u s) 0 n) n t)))
 
 -- R3: u is clear of a or of b
 sees-one : (ms : List Macro) (a b u : Place) → sees ms a b u ≡ true → (clear u a ms ≡ true) ⊎ (clear u b ms ≡ true)
@@ -183,7 +185,8 @@ module _ (ms : List Macro) (pins : List Place) (t : Tree) (sound : Sound ms pins
   abbrev Won : ℕ → ℕ → ℕ → ℕ → Type 0
   Won g k u l =
       let el = lengths (t .points) (t .edges .keys) (t .edges .size) in
-      Winner ms (t .points) (t .count) (t .edges .keys) (t .edges .size) el (longest (t .edges .keys) el (t .edges .size) (t .count)) g k u l
+      Winner ms (t .points) (t .count) (t .edges .keys) (t .edges .size) el (longest (t .edges .keys) el (t .edges .size) (t .count)) g k u
+      l
 
   long-at : (j : ℕ) → j < t .edges .size → getD (lengths (t .points) (t .edges .keys) (t .edges .size)) j 0 ≡ longAt t j
   long-at j h = length-at (t .points) (t .edges .keys) (t .edges .size) j (omega (arith, tree-size ms pins t sound)) h

@@ -39,7 +39,11 @@ module _ (el : List ℕ) where
       (λ s. (a, λ l. ltb-false x k (rw (wins, t, s) at e))))
 
   pub under-trans : (i j x : ℕ) → Under el i j → Under el j x → Under el i x
-  under-trans i j x a b = (omega (arith, a .0, b .0), λ l. omega (arith, a .1 (omega (arith, a .0, b .0)), b .1 (omega (arith, a .0, b .0))))
+  under-trans i j x a b = (
+    omega (arith, a .0, b .0),
+    λ l. omega
+        (arith, a .1 (omega (arith, a .0, b .0)), b .1 (omega (arith, a .0, b .0))),
+  )
 
   pub under-self : (x : ℕ) → Under el x x
   under-self x = (omega arith, λ l. omega arith)

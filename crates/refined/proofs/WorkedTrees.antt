@@ -43,7 +43,10 @@ edgesFrom pts (k ∷ ks) (suc n) = (placeAt pts (firstEnd k), placeAt pts (secon
 
 -- the refined edges and their total; to unfold this is to unfold all that it rests on
 unfoldable pub refinedOf : List Macro → List Place → List Place → List ℕ → List (Place × Place) × ℕ
-unfolding any minZ maxZ before samePlace apart distance middle middlePlace spanMeets meets clear flatPlaces roomy roomyKeys edgesFrom turns seek edgeLength measure lengths wins longer shorter spread spreads hang attach pass reached start longest cutOf sees taken dropped allowed weighed offer offers search found shift closed dropTwo later rank stands push closing opened bump bumpAt carrying lay lay3 laidAt exchange markOf mark marks countEnds loose looseEdge firstLoose prune rounds pruned refined addLength metal
+unfolding any minZ maxZ before samePlace apart distance middle middlePlace spanMeets meets clear flatPlaces roomy roomyKeys edgesFrom turns
+    seek edgeLength measure lengths wins longer shorter spread spreads hang attach pass reached start longest cutOf sees taken dropped
+    allowed weighed offer offers search found shift closed dropTwo later rank stands push closing opened bump bumpAt carrying lay lay3
+    laidAt exchange markOf mark marks countEnds loose looseEdge firstLoose prune rounds pruned refined addLength metal
 refinedOf ms pins points keys =
     let t = tree (roomy (flatPlaces points) (length pins)) (length points) (roomyKeys keys (length pins)) (length keys) in
     let r = refined ms pins t in

@@ -66,7 +66,8 @@ pub record Taken (ms : List Macro) (pts : List ℤ) (n : ℕ) (ks : List ℕ) (e
   pub notFirst : u ≡ firstEnd (getD ks k 0) → ⊥
   pub notSecond : u ≡ secondEnd (getD ks k 0) → ⊥
   pub seen : sees ms (placeAt pts (firstEnd (getD ks k 0))) (placeAt pts (secondEnd (getD ks k 0))) (placeAt pts u) ≡ true
-  pub kept : dropped pts n (firstEnd (getD ks k 0)) (secondEnd (getD ks k 0)) u (middleOf pts (firstEnd (getD ks k 0)) (secondEnd (getD ks k 0)) u) ≡ false
+  pub kept : dropped pts n (firstEnd (getD ks k 0)) (secondEnd (getD ks k 0)) u
+      (middleOf pts (firstEnd (getD ks k 0)) (secondEnd (getD ks k 0)) u) ≡ false
   pub toward : Toward (edgesOf pts ks e) (placeAt pts u) (placeAt pts (firstEnd (getD ks k 0))) (placeAt pts (secondEnd (getD ks k 0)))
   pub one : Place
   pub other : Place

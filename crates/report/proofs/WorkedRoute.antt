@@ -1,4 +1,4 @@
--- Document 01's third worked net, from the bytes of its file to the four lines that `route` prints, by computing the definitions.
+-- E15: the net of E4, from the bytes of its file to the four lines that `route` prints, by computing the definitions.
 -- Assumes nothing.
 use mathlib.Core.Path.{_≡_, refl}
 use mathlib.Core.List.{List, [], _∷_, _++_}

@@ -188,7 +188,8 @@ pub fn tree(
     out: &mut [u8],
 ) -> usize
     requires { ⌜ (120 + count * 105 ≤ length (now out)) × (count * 4 ≤ length (now edges)) ⌝ }
-    ensures { λ r. ⌜ Filled (treeText m k terminal refined (entries edgeFrom 4 (now (edges .entry)) count)) (now (out .entry)) (now (out .exit)) r ⌝ }
+    ensures { λ r. ⌜ Filled (treeText m k terminal refined (entries edgeFrom 4 (now (edges .entry)) count)) (now (out .entry))
+        (now (out .exit)) r ⌝ }
 {
     let next = put_header(&mut *out, m, k, terminal, refined);
     put_edges(&mut *out, next, edges, count)
@@ -247,7 +248,8 @@ fn refined_text(pins: &[i32], macros: &[i32], terminal: i64, out: &mut [u8; TEXT
 // The text of an allowed net; how many bytes it has.
 fn trees_text(pins: &[i32], macros: &[i32], out: &mut [u8; TEXT]) -> usize
     requires { ⌜ checked (now pins) (now macros) ≡ given (pinCount (now pins), macroCount (now macros)) ⌝ }
-    ensures { λ r. ⌜ Filled (treesText (pinCount (now (pins .entry))) (macroCount (now (macros .entry))) (now (pins .entry)) (now (macros .entry)))
+    ensures { λ r. ⌜ Filled (treesText (pinCount (now (pins .entry))) (macroCount (now (macros .entry))) (now (pins .entry))
+        (now (macros .entry)))
         (now (out .entry)) (now (out .exit)) r ⌝ }
 {
     let mut paths = [0i64; PATH_NUMBERS];

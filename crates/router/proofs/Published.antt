@@ -36,7 +36,8 @@ wires-flat [] = refl
 wires-flat (e ∷ es) = ap (λ (l : List Edge). wiresOfEdge e ++ l) (wires-flat es)
 
 pub promised : (pins macros : List ℤ) {net : ℕ × ℕ} → checked pins macros ≡ given net → Promised pins macros
-unfolding verticesOf edgesOf pathsOf pathsTotal refinedOf edgesIn metalIn terminalTree terminalGiven refinedTree refinedGiven wired wiresGiven
+unfolding verticesOf edgesOf pathsOf pathsTotal refinedOf edgesIn metalIn terminalTree terminalGiven refinedTree refinedGiven wired
+    wiresGiven
 promised pins macros {net} g =
     let t = checked pins macros in
     let a = given-allowed pins macros g .1 in
@@ -45,7 +46,8 @@ promised pins macros {net} g =
       graph-given =
           λ v e h k.
           graphed-allowed pins macros v e net g
-          ∙ graph-fits pins macros v e (or-neither _ _ (le-ltb v (pointCount pins macros * 2) h) (le-ltb e (pointCount pins macros * 16) k));
+          ∙ graph-fits pins macros v e (or-neither _ _ (le-ltb v (pointCount pins macros * 2) h)
+          (le-ltb e (pointCount pins macros * 16) k));
       terminal-given =
           λ room h.
           only-given t (terminalGiven pins macros room) net g

@@ -8,7 +8,8 @@ use Rattle.lent.specs.Told.{Told, refused, given, onlyIf}
 use Rattle.plane.specs.declared.Place.{Place}
 use Rattle.plane.specs.Place.{place}
 use Rattle.joined.specs.Cost.{lengths}
-use Rattle.net.specs.WorkedNets.{Lists, onePin, noPin, aroundOne, threePins, sharedSide, onSides, overlapping, onBoundary, inInterior, twiceInInterior, noWidth}
+use Rattle.net.specs.WorkedNets.{Lists, onePin, noPin, aroundOne, threePins, sharedSide, onSides, overlapping, onBoundary, inInterior}
+use Rattle.net.specs.WorkedNets.{twiceInInterior, noWidth}
 use Rattle.net.specs.Check.{checked}
 use Rattle.net.proofs.WorkedChecks.{answer}
 use Rattle.numbered.proofs.WorkedPaths.{treeIn}
@@ -31,7 +32,8 @@ pub record Answers : Type 0 where
 
 -- to unfold this is to unfold all that it rests on
 unfoldable pub answers : Lists → Answers
-unfolding answer treeIn union worked wired-given onlyIf lengths edgesFrom verticesOf edgesOf graphRoomShort graphGiven graphed ifRoom pathsOf pathsTotal terminalGiven terminalTree refinedOf edgesIn metalIn refinedGiven refinedTree wiresGiven wired
+unfolding answer treeIn union worked wired-given onlyIf lengths edgesFrom verticesOf edgesOf graphRoomShort graphGiven graphed ifRoom
+    pathsOf pathsTotal terminalGiven terminalTree refinedOf edgesIn metalIn refinedGiven refinedTree wiresGiven wired
 answers net = record {
   check = checked (net .pins) (net .macros);
   graph = graphed (net .pins) (net .macros) 640 5120;
@@ -48,7 +50,12 @@ pub record Trees : Type 0 where
 
 unfoldable pub trees : Lists → Trees
 unfolding answers
-trees net = record { paths = pathsOf (net .pins) (net .macros); edges = laidOf (net .pins) (net .macros); wires = wiresOf (net .pins) (net .macros) }
+trees net = record {
+  paths = pathsOf (net .pins) (net .macros);
+  edges = laidOf (net .pins) (net .macros);
+  wires = wiresOf (net .pins)
+      (net .macros);
+}
 
 -- every operation refuses with the same number
 abbrev none : ℕ → Answers

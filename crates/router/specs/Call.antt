@@ -28,30 +28,31 @@ pub record Gives {A R X : Type 0} (saying : R → Told A) (t : Told A) (xs lent 
   pub list : lent′ ≡ after t xs lent
 
 -- the same where two lists were lent
-pub record GivesTwo {A R X : Type 0} (saying : R → Told A) (t : Told A) (xs ys lent other : List X) (r : R) (lent′ other′ : List X) : Type 0 where
+pub record GivesTwo {A R X : Type 0} (saying : R → Told A) (t : Told A) (xs ys lent other : List X) (r : R)
+    (lent′ other′ : List X) : Type 0 where
   pub answer : saying r ≡ t
   pub first : lent′ ≡ after t xs lent
   pub second : other′ ≡ after t ys other
 
 -- C61, C62: a graph that answers as `said` has it
-abbrev pub GraphAs : (List ℤ → List ℤ → ℕ → ℕ → Told (ℕ × ℕ)) → (pins macros vertices edges : List ℤ) → Graphed → List ℤ → List ℤ → Type 0
-GraphAs said pins macros vertices edges r vertices′ edges′ =
+abbrev pub GraphCall : (List ℤ → List ℤ → ℕ → ℕ → Told (ℕ × ℕ)) → (pins macros vertices edges : List ℤ) → Graphed → List ℤ → List ℤ → Type 0
+GraphCall said pins macros vertices edges r vertices′ edges′ =
     GivesTwo toldGraph (said pins macros (length vertices) (length edges))
     (flat placeNumbers (verticesOf pins macros)) (flat edgeNumbers (edgesOf pins macros)) vertices edges r vertices′ edges′
 
 -- C63, C64: a terminal tree
-abbrev pub TerminalAs : (List ℤ → List ℤ → ℕ → Told (ℕ × ℤ)) → (pins macros paths : List ℤ) → Tree → List ℤ → Type 0
-TerminalAs said pins macros paths r paths′ =
+abbrev pub TerminalCall : (List ℤ → List ℤ → ℕ → Told (ℕ × ℤ)) → (pins macros paths : List ℤ) → Tree → List ℤ → Type 0
+TerminalCall said pins macros paths r paths′ =
     Gives toldTree (said pins macros (length paths)) (flat pathNumbers (pathsOf pins macros)) paths r paths′
 
 -- C65, C66: a refined tree
-abbrev pub RefinedAs : (List ℤ → List ℤ → ℕ → Told (ℕ × ℤ)) → (pins macros edges : List ℤ) → Tree → List ℤ → Type 0
-RefinedAs said pins macros edges r edges′ =
+abbrev pub RefinedCall : (List ℤ → List ℤ → ℕ → Told (ℕ × ℤ)) → (pins macros edges : List ℤ) → Tree → List ℤ → Type 0
+RefinedCall said pins macros edges r edges′ =
     Gives toldTree (said pins macros (length edges)) (flat edgeNumbers (laidOf pins macros)) edges r edges′
 
 -- C67, C68: wires
-abbrev pub WiresAs : (List ℤ → List ℤ → ℕ → Told ℕ) → (pins macros wires : List ℤ) → Wired → List ℤ → Type 0
-WiresAs said pins macros wires r wires′ =
+abbrev pub WiresCall : (List ℤ → List ℤ → ℕ → Told ℕ) → (pins macros wires : List ℤ) → Wired → List ℤ → Type 0
+WiresCall said pins macros wires r wires′ =
     Gives toldWires (said pins macros (length wires)) (flat edgeNumbers (wiresOf pins macros)) wires r wires′
 
 -- C69, C70: a net file written

@@ -22,12 +22,12 @@ ghost use Rattle.union.specs.Union.{unionOf};
 ghost use Rattle.router.specs.Graph.{graphGiven};
 ghost use Rattle.router.specs.Terminal.{terminalGiven};
 ghost use Rattle.router.specs.Refined.{refinedGiven, wiresGiven};
-ghost use Rattle.router.specs.Call.{GraphAs, TerminalAs, RefinedAs, WiresAs};
+ghost use Rattle.router.specs.Call.{GraphCall, TerminalCall, RefinedCall, WiresCall};
 
 // The graph.
 pub fn graph(pins: &[i32], macros: &[i32], vertices: &mut [i32], edges: &mut [i32]) -> Graphed
     requires { ⌜ (pinCount (now pins) ≤ pinBound) × (macroCount (now macros) ≤ macroBound) ⌝ }
-    ensures { λ r. ⌜ GraphAs graphGiven (now (pins .entry)) (now (macros .entry)) (now (vertices .entry)) (now (edges .entry)) r
+    ensures { λ r. ⌜ GraphCall graphGiven (now (pins .entry)) (now (macros .entry)) (now (vertices .entry)) (now (edges .entry)) r
         (now (vertices .exit)) (now (edges .exit)) ⌝ }
 {
     let n = pins.len() / 2 + macros.len() / 4 * 4;
@@ -42,7 +42,7 @@ pub fn graph(pins: &[i32], macros: &[i32], vertices: &mut [i32], edges: &mut [i3
 // The terminal tree.
 pub fn terminal_tree(pins: &[i32], macros: &[i32], paths: &mut [i64]) -> Tree
     requires { ⌜ Allowed (placesOf (now pins)) (macrosOf (now macros)) ⌝ }
-    ensures { λ r. ⌜ TerminalAs terminalGiven (now (pins .entry)) (now (macros .entry)) (now (paths .entry)) r (now (paths .exit)) ⌝ }
+    ensures { λ r. ⌜ TerminalCall terminalGiven (now (pins .entry)) (now (macros .entry)) (now (paths .entry)) r (now (paths .exit)) ⌝ }
 {
     if paths.len() < pins.len() / 2 * 5 {
         return Tree::Refused(Refusal::Space);
@@ -82,7 +82,7 @@ pub fn terminal_tree(pins: &[i32], macros: &[i32], paths: &mut [i64]) -> Tree
 // The refined tree.
 pub fn refined_tree(pins: &[i32], macros: &[i32], edges: &mut [i32]) -> Tree
     requires { ⌜ Allowed (placesOf (now pins)) (macrosOf (now macros)) ⌝ }
-    ensures { λ r. ⌜ RefinedAs refinedGiven (now (pins .entry)) (now (macros .entry)) (now (edges .entry)) r (now (edges .exit)) ⌝ }
+    ensures { λ r. ⌜ RefinedCall refinedGiven (now (pins .entry)) (now (macros .entry)) (now (edges .entry)) r (now (edges .exit)) ⌝ }
 {
     let m = pins.len() / 2;
     let n = m + macros.len() / 4 * 4;
@@ -99,7 +99,7 @@ pub fn refined_tree(pins: &[i32], macros: &[i32], edges: &mut [i32]) -> Tree
 // The wires.
 pub fn wires(pins: &[i32], macros: &[i32], wires: &mut [i32]) -> Wired
     requires { ⌜ Allowed (placesOf (now pins)) (macrosOf (now macros)) ⌝ }
-    ensures { λ r. ⌜ WiresAs wiresGiven (now (pins .entry)) (now (macros .entry)) (now (wires .entry)) r (now (wires .exit)) ⌝ }
+    ensures { λ r. ⌜ WiresCall wiresGiven (now (pins .entry)) (now (macros .entry)) (now (wires .entry)) r (now (wires .exit)) ⌝ }
 {
     let m = pins.len() / 2;
     let n = m + macros.len() / 4 * 4;

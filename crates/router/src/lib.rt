@@ -12,7 +12,7 @@ ghost use Rattle.net.specs.Check.{checked, told};
 ghost use Rattle.router.specs.Graph.{graphed};
 ghost use Rattle.router.specs.Terminal.{terminalTree};
 ghost use Rattle.router.specs.Refined.{refinedTree, wired};
-ghost use Rattle.router.specs.Call.{GraphAs, TerminalAs, RefinedAs, WiresAs, WriteCall, ReadCall};
+ghost use Rattle.router.specs.Call.{GraphCall, TerminalCall, RefinedCall, WiresCall, WriteCall, ReadCall};
 
 // The answer of a graph: how many vertices and how many edges were given.
 pub enum Graphed {
@@ -42,7 +42,7 @@ pub fn check(pins: &[i32], macros: &[i32]) -> Checked
 // Graph: the vertices and the edges of the spanning graph, in order, or 11 to 17, then 21 where fewer than 2n numbers are lent for
 // vertices or 16n for edges.
 pub fn graph(pins: &[i32], macros: &[i32], vertices: &mut [i32], edges: &mut [i32]) -> Graphed
-    ensures { λ r. ⌜ GraphAs graphed (now (pins .entry)) (now (macros .entry)) (now (vertices .entry)) (now (edges .entry)) r
+    ensures { λ r. ⌜ GraphCall graphed (now (pins .entry)) (now (macros .entry)) (now (vertices .entry)) (now (edges .entry)) r
         (now (vertices .exit)) (now (edges .exit)) ⌝ }
 {
     let answer = net::check(pins, macros);
@@ -55,7 +55,7 @@ pub fn graph(pins: &[i32], macros: &[i32], vertices: &mut [i32], edges: &mut [i3
 // Terminal tree: each kept path's bridge and length in the order kept, how many there are and their total, or 11 to 17, then 21 where
 // fewer than 5m numbers are lent. That no joining is shorter and no chain has a lower longest path: `Promised`.
 pub fn terminal_tree(pins: &[i32], macros: &[i32], paths: &mut [i64]) -> Tree
-    ensures { λ r. ⌜ TerminalAs terminalTree (now (pins .entry)) (now (macros .entry)) (now (paths .entry)) r (now (paths .exit)) ⌝ }
+    ensures { λ r. ⌜ TerminalCall terminalTree (now (pins .entry)) (now (macros .entry)) (now (paths .entry)) r (now (paths .exit)) ⌝ }
 {
     let answer = net::check(pins, macros);
     match answer {
@@ -67,7 +67,7 @@ pub fn terminal_tree(pins: &[i32], macros: &[i32], paths: &mut [i64]) -> Tree
 // Refined tree: its edges in order, how many there are and their total, or 11 to 17, then 21 where fewer than 4(n + m) numbers are lent.
 // That they hold all pins as one tree, enter no interior and are no longer than the terminal tree: `Promised`.
 pub fn refined_tree(pins: &[i32], macros: &[i32], edges: &mut [i32]) -> Tree
-    ensures { λ r. ⌜ RefinedAs refinedTree (now (pins .entry)) (now (macros .entry)) (now (edges .entry)) r (now (edges .exit)) ⌝ }
+    ensures { λ r. ⌜ RefinedCall refinedTree (now (pins .entry)) (now (macros .entry)) (now (edges .entry)) r (now (edges .exit)) ⌝ }
 {
     let answer = net::check(pins, macros);
     match answer {
@@ -79,7 +79,7 @@ pub fn refined_tree(pins: &[i32], macros: &[i32], edges: &mut [i32]) -> Tree
 // Wires: those of the refined tree's edges, in order, and how many there are, or 11 to 17, then 21 where fewer than 8(n + m) numbers are
 // lent. That each is along one axis, in its edge's box and clear: `Promised`.
 pub fn wires(pins: &[i32], macros: &[i32], wires: &mut [i32]) -> Wired
-    ensures { λ r. ⌜ WiresAs wired (now (pins .entry)) (now (macros .entry)) (now (wires .entry)) r (now (wires .exit)) ⌝ }
+    ensures { λ r. ⌜ WiresCall wired (now (pins .entry)) (now (macros .entry)) (now (wires .entry)) r (now (wires .exit)) ⌝ }
 {
     let answer = net::check(pins, macros);
     match answer {

@@ -1,5 +1,5 @@
--- A tree by its tables and the same tree by its places: points and edges by number are the points and edges, in order, so a candidate with its
--- gain is one exactly when the other is.
+-- A tree by its tables and the same tree by its places: points and edges by number are the points and edges, in order, so a candidate
+-- with its gain is one exactly when the other is.
 -- Assumes nothing.
 use mathlib.Core.Path.{_≡_, refl, sym, ap, _∙_, subst}
 use mathlib.Core.Bool.{Bool, true, false}
@@ -74,7 +74,8 @@ module _ {ms : List Macro} {ps : List Place} (t : Tree) (sound : Sound ms ps t) 
   pub point-in : (i j : ℕ) → i < t .count → j < t .count → (i ≡ j → ⊥) → Point ps (edgesIn t) (pointAt t i)
   point-in i j h k n =
       inr (has-link (λ e. n (point-one i j h k e))
-      (sound .whole .joins (pointAt t i) (pointAt t j) (in-listing (placeAt (t .points)) (t .count) i h) (in-listing (placeAt (t .points)) (t .count) j k)))
+      (sound .whole .joins (pointAt t i) (pointAt t j) (in-listing (placeAt (t .points)) (t .count) i h)
+      (in-listing (placeAt (t .points)) (t .count) j k)))
 
   pub edge-before : (i j : ℕ) → i < j → j < t .edges .size → edgeBefore (edgeAt t i) (edgeAt t j) ≡ true
   edge-before i j h k = edge-by (edgeAt t i) (edgeAt t j) (numbered ms ps t sound ranked .edges i j h k)
@@ -131,7 +132,8 @@ module _ {ms : List Macro} {ps : List Place} (t : Tree) (sound : Sound ms ps t) 
       at : (e : Edge) → Step (edgesIn t) x qs e → (r : (k : ℕ) × ((k < t .edges .size) × (e ≡ edgeAt t k))) → tables.StepOf t x qs (r .0)
       at e s r = step-from (r .0) (r .1 .0) (subst (Step (edgesIn t) x qs) (r .1 .1) s)
 
-  longest-from : {x : Place} {qs : List Place} (l : ℕ) → l < t .edges .size → Longest (edgesIn t) x qs (edgeAt t l) → tables.LongestOn t x qs l
+  longest-from : {x : Place} {qs : List Place} (l : ℕ) → l < t .edges .size → Longest (edgesIn t) x qs (edgeAt t l) →
+      tables.LongestOn t x qs l
   longest-from l h p = record {
     step = step-from l h (p .step);
     longest = λ j s. p .longest (edgeAt t j) (step-to j s);

@@ -1,4 +1,4 @@
--- The pruning of the tables is one of those that document 01 allows: each edge that goes is a loose point's single edge, and none is left.
+-- The pruning of the tables is one of those that the rules allow: each edge that goes is a loose point's single edge, and none is left.
 -- Assumes nothing.
 use mathlib.Core.Path.{_≡_, refl, sym, ap, _∙_, subst}
 use mathlib.Core.Bool.{true}
@@ -38,7 +38,8 @@ use Rattle.rules.proofs.GainOurs.{edgesIn, edgeAt, edge-in, edge-of, ed
 module _ (pts : List ℤ) (n : ℕ) (o : InOrder pts n) (few : n ≤ pointBound) (ps : List Place) (pin : List ℕ)
     (marked : (v : ℕ) → v < n → getD pin v 0 ≡ 0 → placeAt pts v ∈ ps → ⊥) where
   -- the point v of the edge i goes
-  module _ (ks : List ℕ) (w : Within n ks) (e i : ℕ) (hi : i ≤ e) (v z : ℕ) (ends : Alike v z (firstEnd (getD ks i 0)) (secondEnd (getD ks i 0)))
+  module _ (ks : List ℕ) (w : Within n ks) (e i : ℕ) (hi : i ≤ e) (v z : ℕ)
+      (ends : Alike v z (firstEnd (getD ks i 0)) (secondEnd (getD ks i 0)))
       (is : loose pin (turns (countEnds ks) 0 (suc e) (replicate pointBound 0)) v ≡ true) where
     low : Alike v z (firstEnd (getD ks i 0)) (secondEnd (getD ks i 0)) → v < n
     low (inl h) = omega (arith, h .0, w .ends i .0)
@@ -51,9 +52,11 @@ module _ (pts : List ℤ) (n : ℕ) (o : InOrder pts n) (few : n ≤ pointBound)
     -- no edge that is left has it
     none-has : (f : Edge) → f ∈ edgesOf pts (closed i e ks) e → EndOf (placeAt pts v) f → ⊥
     none-has f m (inl q) =
-        gone pts n o few ks w e i hi v z (low ends) ends single (f .1) (inl (subst (λ (x : Place). (x, f .1) ∈ edgesOf pts (closed i e ks) e) (sym q) m))
+        gone pts n o few ks w e i hi v z (low ends) ends single (f .1)
+        (inl (subst (λ (x : Place). (x, f .1) ∈ edgesOf pts (closed i e ks) e) (sym q) m))
     none-has f m (inr q) =
-        gone pts n o few ks w e i hi v z (low ends) ends single (f .0) (inr (subst (λ (x : Place). (f .0, x) ∈ edgesOf pts (closed i e ks) e) (sym q) m))
+        gone pts n o few ks w e i hi v z (low ends) ends single (f .0)
+        (inr (subst (λ (x : Place). (f .0, x) ∈ edgesOf pts (closed i e ks) e) (sym q) m))
 
     its-end : Alike v z (firstEnd (getD ks i 0)) (secondEnd (getD ks i 0)) → EndOf (placeAt pts v) (endsOf pts (getD ks i 0))
     its-end (inl h) = inl (ap (placeAt pts) (h .0))
@@ -83,7 +86,8 @@ module _ (pts : List ℤ) (n : ℕ) (o : InOrder pts n) (few : n ≤ pointBound)
     goes : {R : List Edge} → Strips ps (edgesOf pts (closed i e ks) e) R → Strips ps (edgesOf pts ks (suc e)) R
     goes s = strip (placeAt pts v) (endsOf pts (getD ks i 0)) is-loose left s
 
-  strips-ours : (e : ℕ) (ks : List ℕ) → Within n ks → Strips ps (edgesOf pts ks e) (edgesOf pts (prune pin ks e .keys) (prune pin ks e .size))
+  strips-ours : (e : ℕ) (ks : List ℕ) → Within n ks →
+      Strips ps (edgesOf pts ks e) (edgesOf pts (prune pin ks e .keys) (prune pin ks e .size))
   unfolding prune looseEdge
   strips-ours zero ks w = same (λ f m. m, λ f m. m)
   strips-ours (suc e) ks w =
@@ -111,7 +115,8 @@ rising-one ks e i j r h k q =
 module _ {ms : List Macro} {ps : List Place} (t : Tree) (sound : Sound ms ps t) (ranked : Ranked (t .edges .keys) (t .edges .size))
     (few : t .count ≤ pointBound) where
   -- two edges of what is left are one where their ends are
-  left-one : (i j : ℕ) → i < pruned ps t .edges .size → j < pruned ps t .edges .size → edgeAt (pruned ps t) i ≡ edgeAt (pruned ps t) j → i ≡ j
+  left-one : (i j : ℕ) → i < pruned ps t .edges .size → j < pruned ps t .edges .size → edgeAt (pruned ps t) i ≡ edgeAt (pruned ps t) j → i
+      ≡ j
   unfolding pruned
   left-one i j h k q =
       let pin = marks ps (t .points) (t .count) in
@@ -128,7 +133,8 @@ module _ {ms : List Macro} {ps : List Place} (t : Tree) (sound : Sound ms ps t) 
       Loose ps (edgesIn (pruned ps t)) (placeAt (pruned ps t .points) v) (edgeAt (pruned ps t) i) → ⊥
   not-loose v i h q l =
       let r = pruned-left ms ps t sound few .two v i h q (l .free) in
-      r .1 .1 .0 (left-one (r .0) i (r .1 .0) h (l .single (edgeAt (pruned ps t) (r .0)) (edge-in (pruned ps t) (r .0) (r .1 .0)) (at (r .0) (r .1 .1 .1))))
+      r .1 .1 .0 (left-one (r .0) i (r .1 .0) h (l .single (edgeAt (pruned ps t) (r .0)) (edge-in (pruned ps t) (r .0) (r .1 .0))
+      (at (r .0) (r .1 .1 .1))))
     where
       at : (j : ℕ) → tables.EndOf (pruned ps t) v j → EndOf (placeAt (pruned ps t .points) v) (edgeAt (pruned ps t) j)
       at j (inl e) = inl (ap (placeAt (pruned ps t .points)) e)

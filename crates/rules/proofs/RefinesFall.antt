@@ -58,12 +58,14 @@ module _ {ms : List Macro} {ps : List Place} where
       (t .edges .size) 0 (omega arith)
 
   -- an ascending list of a table's edges has their sum
-  sum-is : (m : ℕ) (t : Tree) → Fit ms ps m t → (T : List Edge) → Ascending edgeBefore T → Same (edgesIn t) T → lengths distance T ≡ metalOf t
+  sum-is : (m : ℕ) (t : Tree) → Fit ms ps m t → (T : List Edge) → Ascending edgeBefore T → Same (edgesIn t) T → lengths distance T
+      ≡ metalOf t
   sum-is m t fit T o h =
       let k = same-then (same-turn h) (edges-same t) in
       ap (lengths distance) (ascending-same edgeBefore edge-order T (treeEdges t) o (tree-in-order m t fit) (k .0) (k .1)) ∙ tree-metal t
 
-  tables-fall : (m : ℕ) (t : Tree) → Fit ms ps (suc m) t → (foundIn ms t .gain ≡ 0 → ⊥) → metalOf (exchanged ms t) + foundIn ms t .gain ≡ metalOf t
+  tables-fall : (m : ℕ) (t : Tree) → Fit ms ps (suc m) t → (foundIn ms t .gain ≡ 0 → ⊥) → metalOf (exchanged ms t) + foundIn ms t .gain
+      ≡ metalOf t
   tables-fall m t fit some =
       let few = fit .few in
       let win = found-wins ms (t .points) (t .count) (t .edges .keys) (t .edges .size) (omega arith) in

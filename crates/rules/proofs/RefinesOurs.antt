@@ -1,4 +1,4 @@
--- The refined tree that the definitions work out is a solution of document 01's sentences, and every solution has its edges.
+-- The refined tree that the definitions work out is a solution of the rules, and every solution has its edges.
 -- Assumes nothing.
 use mathlib.Core.Path.{_≡_, sym, _∙_, subst}
 use mathlib.Core.Logic.{inl, inr}
@@ -46,14 +46,16 @@ module _ {ms : List Macro} {ps : List Place} where
       let r = gain-of t (fit .sound) (fit .ranked) a b v e g x in
       found-takes ms ps t (fit .sound) (omega arith) .none q (r .k) (r .u) (r .l) g (r .gains)
 
-  pub some-gain : (m : ℕ) (t : Tree) → Fit ms ps (suc m) t → (foundIn ms t .gain ≡ 0 → ⊥) → Round ps ms (edgesIn t) (edgesIn (exchanged ms t))
+  pub some-gain : (m : ℕ) (t : Tree) → Fit ms ps (suc m) t → (foundIn ms t .gain ≡ 0 → ⊥) →
+      Round ps ms (edgesIn t) (edgesIn (exchanged ms t))
   some-gain m t fit n = let few = fit .few in round-ours t (fit .sound) (fit .ranked) (omega arith) (fit .room) (fit .rooms) (omega arith)
 
   pub fit-next : (m : ℕ) (t : Tree) → Fit ms ps (suc m) t → (foundIn ms t .gain ≡ 0 → ⊥) → Fit ms ps m (exchanged ms t)
   fit-next m t fit n =
       let few = fit .few in
       let win = found-wins ms (t .points) (t .count) (t .edges .keys) (t .edges .size) (omega arith) in
-      let k = round-kept ms ps (t .points) (t .count) (t .edges .keys) (omega arith) (fit .room) (fit .rooms) (foundIn ms t) (t .edges .size) (fit .sound) win in
+      let k = round-kept ms ps (t .points) (t .count) (t .edges .keys) (omega arith) (fit .room) (fit .rooms) (foundIn ms t)
+      (t .edges .size) (fit .sound) win in
       record {
         sound = k .sound;
         ranked = k .ranked (fit .ranked);
@@ -98,7 +100,8 @@ module _ {ms : List Macro} {ps : List Place} where
           absurd (none (s .a) (s .b) (s .u) (s .l) (s .g) (gain-same (same-turn h) (s .takes .taken)))
 
       moves : (foundIn ms t .gain ≡ 0 → ⊥) →
-          ((X : List Edge) → Same (edgesIn (exchanged ms t)) X → Rounds ps ms m X U → Same (edgesIn (tables.rounds ms m (exchanged ms t))) U) →
+          ((X : List Edge) → Same (edgesIn (exchanged ms t)) X → Rounds ps ms m X U →
+          Same (edgesIn (tables.rounds ms m (exchanged ms t))) U) →
           Rounds ps ms (suc m) T U → Same (edgesIn (tables.rounds ms m (exchanged ms t))) U
       moves some next (inl s) =
           let o = some-gain m t fit some in

@@ -1,5 +1,5 @@
--- Each round of every solution starts with one tree, whose points are the pins and the ends of its edges: the tables hold the same edges, and
--- they are sound.
+-- Each round of every solution starts with one tree, whose points are the pins and the ends of its edges: the tables hold the same edges,
+-- and they are sound.
 -- Assumes nothing.
 use mathlib.Core.Path.{_≡_}
 use mathlib.Core.Logic.{inl, inr}

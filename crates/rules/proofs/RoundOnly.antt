@@ -75,9 +75,11 @@ longest-one {k = k} {l = l} p q =
 -- in a tree one edge alone is L
 pub cut-only : {T : List Edge} → Cuts T → {a b u : Place} {k l : Edge} → (a, b) ∈ T → Cut T a b u k → Cut T a b u l → k ≡ l
 cut-only {T} cuts {u = u} {k = k} m p q =
-    longest-one (subst (λ (ps : List Place). Longest T u ps k) (toward-only place-same cuts (inl m) (p .way) (q .way) .1) (p .longest)) (q .longest)
+    longest-one (subst (λ (ps : List Place). Longest T u ps k) (toward-only place-same cuts (inl m) (p .way) (q .way) .1) (p .longest))
+    (q .longest)
 
-pub takes-same : {ps : List Place} {ms : List Macro} {T U : List Edge} → Same T U → {a b u : Place} {l : Edge} {g : ℕ} → Takes ps ms T a b u l g →
+pub takes-same : {ps : List Place} {ms : List Macro} {T U : List Edge} → Same T U → {a b u : Place} {l : Edge} {g : ℕ} →
+    Takes ps ms T a b u l g →
     Takes ps ms U a b u l g
 takes-same h x = record {
   taken = gain-same h (x .taken);
@@ -121,7 +123,8 @@ abbrev Of : List Edge → Edge → Place → Edge → Edge → Type 0
 Of T c v k e = After T (c .0) (c .1) v k e
 
 -- from the same edges of a tree, two rounds lead to the same edges
-pub round-only : {ps : List Place} {ms : List Macro} {T U R Q : List Edge} → Cuts T → Same T U → Round ps ms T R → Round ps ms U Q → Same R Q
+pub round-only : {ps : List Place} {ms : List Macro} {T U R Q : List Edge} → Cuts T → Same T U → Round ps ms T R → Round ps ms U Q →
+    Same R Q
 round-only {ps} {ms} {T} {U} {R} {Q} cuts h r q = (to, from)
   where
     mine : Takes ps ms T (r .a) (r .b) (r .u) (r .l) (r .g)

@@ -1,5 +1,5 @@
--- The exchange of the tables is the round: it takes the candidate that is to be taken, and an edge is there afterwards exactly when document 01
--- says so.
+-- The exchange of the tables is the round: it takes the candidate that is to be taken, and an edge is there afterwards exactly when
+-- `After` says so.
 -- Assumes nothing.
 use mathlib.Core.Path.{_≡_, refl, sym, ap, ap₂, _∙_, subst}
 use mathlib.Core.Bool.{true, false}
@@ -35,7 +35,8 @@ use Rattle.refined.proofs.RoundSound.{Won, taken, sized, exchange-laid, round-k
 use Rattle.refined.proofs.TakesLaws.{found-takes}
 use Rattle.rules.specs.Edges.{Edge, edgeBefore}
 use Rattle.rules.specs.Refined.{Lays, Takes, After, Round}
-use Rattle.rules.proofs.GainOurs.{not-after, edgesIn, pointAt, edgeAt, edge-in, edge-of, point-not, edge-not, edge-one, gain-to, gain-of}
+use Rattle.rules.proofs.GainOurs.{not-after, edgesIn, pointAt, edgeAt, edge-in, edge-of, point-not, edge-not, edge-one, gain-to}
+use Rattle.rules.proofs.GainOurs.{gain-of}
 
 -- "An edge is written smaller place first"
 pub upward : {ms : List Macro} {ps : List Place} (t : Tree) → Sound ms ps t → Ranked (t .edges .keys) (t .edges .size) →
@@ -50,7 +51,8 @@ upward t sound ranked e m =
 
 module _ {ms : List Macro} {ps : List Place} (t : Tree) (sound : Sound ms ps t) (ranked : Ranked (t .edges .keys) (t .edges .size))
     (c : Best) (takes : tables.Takes ms t c) (above : 0 < c .gain) where
-  pub takes-ours : Takes ps ms (edgesIn t) (tables.endA t (c .edge)) (tables.endB t (c .edge)) (pointAt t (c .point)) (edgeAt t (c .cut)) (c .gain)
+  pub takes-ours : Takes ps ms (edgesIn t) (tables.endA t (c .edge)) (tables.endB t (c .edge)) (pointAt t (c .point)) (edgeAt t (c .cut))
+      (c .gain)
   takes-ours = record {
     taken = gain-to t sound ranked (c .edge) (c .point) (c .cut) (c .gain) mine;
     greatest = λ a b v e g x. let r = gain-of t sound ranked a b v e g x in takes .greatest (r .k) (r .u) (r .l) g (r .gains);
@@ -58,7 +60,8 @@ module _ {ms : List Macro} {ps : List Place} (t : Tree) (sound : Sound ms ps t) 
         λ a b v e x.
         let r = gain-of t sound ranked a b v e (c .gain) x in
         subst (λ (z : Edge). edgeBefore z (edgeAt t (c .edge)) ≡ false) (sym (r .edge))
-        (edge-not t sound ranked (c .edge) (r .k) (takes .smallest (r .k) (r .u) (r .l) (c .gain) (r .gains) refl .0) (r .gains .candidate .edge));
+        (edge-not t sound ranked (c .edge) (r .k) (takes .smallest (r .k) (r .u) (r .l) (c .gain) (r .gains) refl .0)
+        (r .gains .candidate .edge));
     smallest =
         λ v e x.
         let r = gain-of t sound ranked _ _ v e (c .gain) x in
@@ -75,7 +78,8 @@ module _ {ms : List Macro} {ps : List Place} (t : Tree) (sound : Sound ms ps t) 
 
 below-zero : (f : ℕ → ℕ) (n : ℕ) → ((i : ℕ) → i < n → f i ≡ 0) → below f n ≡ 0
 below-zero f n h =
-    by (ltb 0 (below f n)) (λ q. absurd (let r = below-some f n (ltb-true 0 _ q) in let z : ⊥ = omega (arith, r .1 .1, h (r .0) (r .1 .0)) in z))
+    by (ltb 0 (below f n)) (λ q. absurd (let r = below-some f n (ltb-true 0 _ q) in
+    let z : ⊥ = omega (arith, r .1 .1, h (r .0) (r .1 .0)) in z))
     (λ q. omega (arith, ltb-false 0 (below f n) q))
 
 once-over : (q : ℕ) (ks : List ℕ) (n : ℕ) → ((i j : ℕ) → i < j → j < n → getD ks i 0 < getD ks j 0) → over (one q) ks n ≤ 1
@@ -144,7 +148,8 @@ module _ {pts : List ℤ} {n : ℕ} {ks : List ℕ} {e k l a b u p : ℕ} {s : P
 
   pub in-after : (x : Edge) → Outcome x → x ∈ edgesIn t
   in-after x (inl h) =
-      either (λ q. absurd (h .1 .0 q)) (either (λ q. absurd (h .1 .1 q)) (λ q. q)) (moved.sorted after w hk hl kl ha hb hu (x .0) (x .1) (h .0))
+      either (λ q. absurd (h .1 .0 q)) (either (λ q. absurd (h .1 .1 q)) (λ q. q))
+      (moved.sorted after w hk hl kl ha hb hu (x .0) (x .1) (h .0))
   in-after x (inr (inl h)) = lays-in (placeAt pts a) x (laid-link a ha (λ g. omega (arith, after .sums g))) h
   in-after x (inr (inr (inl h))) = lays-in (placeAt pts b) x (laid-link b hb (λ g. omega (arith, after .sums g))) h
   in-after x (inr (inr (inr h))) = lays-in (placeAt pts u) x (laid-link u hu (λ g. omega (arith, after .sums g))) h
@@ -161,7 +166,8 @@ module _ {pts : List ℤ} {n : ℕ} {ks : List ℕ} {e k l a b u p : ℕ} {s : P
       let z : ⊥ = omega (arith, d, most, y, some) in z)
       which
 
-  from-left : (j : ℕ) → 0 < over (λ q. one j (moved.moved after w hk hl kl ha hb hu q)) (dropTwo e k l ks) e → Outcome (endsOf (t .points) j)
+  from-left : (j : ℕ) → 0 < over (λ q. one j (moved.moved after w hk hl kl ha hb hu q)) (dropTwo e k l ks) e →
+      Outcome (endsOf (t .points) j)
   from-left j some =
       let r = below-some _ e some in
       let q = getD (dropTwo e k l ks) (r .0) 0 in
@@ -185,9 +191,11 @@ module _ {pts : List ℤ} {n : ℕ} {ks : List ℕ} {e k l a b u p : ℕ} {s : P
   from-s j x f h some = (
     f,
     either
-        (λ q. inl (of (ap (endsOf (t .points)) (sym (one-some j (key p (m x)) q)) ∙ moved.ends after w hk hl kl ha hb hu p (m x) s (placeAt pts x)
+        (λ q. inl (of (ap (endsOf (t .points)) (sym (one-some j (key p (m x)) q)) ∙ moved.ends after w hk hl kl ha hb hu p (m x) s
+        (placeAt pts x)
         (after .low x h) (after .new) (after .old x h))))
-        (λ q. inr (of (ap (endsOf (t .points)) (sym (one-some j (key (m x) p) q)) ∙ moved.ends after w hk hl kl ha hb hu (m x) p (placeAt pts x) s
+        (λ q. inr (of (ap (endsOf (t .points)) (sym (one-some j (key (m x) p) q)) ∙ moved.ends after w hk hl kl ha hb hu (m x) p
+        (placeAt pts x) s
         (after .lowest) (after .old x h) (after .new))))
         (moved.between-some (one j) p (m x) some),
   )
@@ -218,9 +226,11 @@ module _ {pts : List ℤ} {n : ℕ} {ks : List ℕ} {e k l a b u p : ℕ} {s : P
 
 -- The round
 
-module _ {ms : List Macro} {ps : List Place} (pts : List ℤ) (n : ℕ) (ks : List ℕ) (few : n < pointBound) (room : length pts ≡ pointBound * 2)
+module _ {ms : List Macro} {ps : List Place} (pts : List ℤ) (n : ℕ) (ks : List ℕ) (few : n < pointBound)
+    (room : length pts ≡ pointBound * 2)
     (rooms : length ks ≡ pointBound) (c : Best) (above : 0 < c .gain) where
-  round-at : (e : ℕ) → Sound ms ps (tree pts n ks e) → Ranked ks e → Won ms ps pts n ks few room rooms e c → tables.Takes ms (tree pts n ks e) c →
+  round-at : (e : ℕ) → Sound ms ps (tree pts n ks e) → Ranked ks e → Won ms ps pts n ks few room rooms e c →
+      tables.Takes ms (tree pts n ks e) c →
       Round ps ms (edgesOf pts ks e) (edgesIn (exchange c pts n ks e))
   round-at zero sound ranked win takes = absurd (let z : ⊥ = omega (arith, win .edge) in z)
   round-at (suc zero) sound ranked win takes =
@@ -233,7 +243,8 @@ module _ {ms : List Macro} {ps : List Place} (pts : List ℤ) (n : ℕ) (ks : Li
       let kept = round-kept ms ps pts n ks few room rooms c (suc (suc e)) sound win in
       let q = exchange-laid ms ps pts n ks few room rooms c e in
       let laid = laid-after ms ps pts n ks e (c .edge) (c .cut) (c .point) sound t few (omega arith) (omega (arith, s)) in
-      let up = upward _ (subst (Sound ms ps) q (kept .sound)) (subst (λ (z : Tree). Ranked (z .edges .keys) (z .edges .size)) q (kept .ranked ranked)) in
+      let up = upward _ (subst (Sound ms ps) q (kept .sound))
+      (subst (λ (z : Tree). Ranked (z .edges .keys) (z .edges .size)) q (kept .ranked ranked)) in
       let one-key = edge-one before sound ranked in
       record {
         a = tables.endA before (c .edge);
@@ -246,15 +257,18 @@ module _ {ms : List Macro} {ps : List Place} (pts : List ℤ) (n : ℕ) (ks : Li
             λ x.
             subst (λ (z : Tree). _↔_ (x ∈ edgesIn z) (After (edgesIn before) (tables.endA before (c .edge)) (tables.endB before (c .edge))
             (pointAt before (c .point)) (edgeAt before (c .cut)) x)) (sym q) (
-              of-after (laid .1) (sound .within) (t .edge) (t .cut) (t .two) (sound .within .ends (c .edge) .0) (sound .within .ends (c .edge) .1)
+              of-after (laid .1) (sound .within) (t .edge) (t .cut) (t .two) (sound .within .ends (c .edge) .0)
+                  (sound .within .ends (c .edge) .1)
                   (t .point) (ranked .rising) one-key up x,
-              in-after (laid .1) (sound .within) (t .edge) (t .cut) (t .two) (sound .within .ends (c .edge) .0) (sound .within .ends (c .edge) .1)
+              in-after (laid .1) (sound .within) (t .edge) (t .cut) (t .two) (sound .within .ends (c .edge) .0)
+                  (sound .within .ends (c .edge) .1)
                   (t .point) (ranked .rising) one-key up x,
             );
       }
 
 -- where the greatest gain is above zero, the exchange of the tables is the round
-pub round-ours : {ms : List Macro} {ps : List Place} (t : Tree) → Sound ms ps t → Ranked (t .edges .keys) (t .edges .size) → t .count < pointBound →
+pub round-ours : {ms : List Macro} {ps : List Place} (t : Tree) → Sound ms ps t → Ranked (t .edges .keys) (t .edges .size) → t .count
+    < pointBound →
     length (t .points) ≡ pointBound * 2 → length (t .edges .keys) ≡ pointBound → 0 < tables.foundIn ms t .gain →
     Round ps ms (edgesIn t) (edgesIn (tables.exchanged ms t))
 round-ours {ms} {ps} t sound ranked few room rooms above =

@@ -1,5 +1,5 @@
--- R1: an edge is in the union of the tables exactly when it is on a kept path. The marks of the tables go along the ways of the kept bridges,
--- and so do the paths.
+-- R1: an edge is in the union of the tables exactly when it is on a kept path. The marks of the tables go along the ways of the kept
+-- bridges, and so do the paths.
 -- Assumes nothing.
 use mathlib.Core.Path.{_≡_, refl, sym, ap, ap₂, _∙_, subst}
 use mathlib.Core.Bool.{true}
@@ -46,7 +46,8 @@ use Rattle.rules.specs.Refined.{OnSome, Union}
 
 module _ {A B : Type 0} where
   -- a step of a way that was carried over comes from one
-  on-back : (f : A → B) (x y : B) (u : A) (qs : List A) → On x y (f u) (map f qs) → (p : A) × ((q : A) × (On p q u qs × Alike x y (f p) (f q)))
+  on-back : (f : A → B) (x y : B) (u : A) (qs : List A) → On x y (f u) (map f qs) → (p : A)
+      × ((q : A) × (On p q u qs × Alike x y (f p) (f q)))
   on-back f x y u [] o = absurd o
   on-back f x y u (v ∷ qs) (inl e) = (u, (v, (inl (inl (refl, refl)), e)))
   on-back f x y u (v ∷ qs) (inr o) = let r = on-back f x y v qs o in (r .0, (r .1 .0, (inr (r .1 .1 .0), r .1 .1 .1)))
@@ -82,7 +83,8 @@ module _ {ps : List Place} {ms : List Macro} (a : Allowed ps ms) where
         (way-up a _ (setting a .two-in j below))))
         ∙ sym (ap (map at) (by-number .points-are)
         ∙ turned-carried at (one (G a) j) _ _
-        ∙ ap₂ (λ (u v : Place). turned u (wayPlaces a (one (G a) j)) (v ∷ wayPlaces a (two (G a) j))) (one-vertex a j below) (two-vertex a j below))
+        ∙ ap₂ (λ (u v : Place). turned u (wayPlaces a (one (G a) j)) (v ∷ wayPlaces a (two (G a) j))) (one-vertex a j below)
+        (two-vertex a j below))
 
     start-same : (l : ℕ) (s : Stands ps ms (edgeAt (spanning ps ms) j) l) → s .path .start ≡ at (by-number .path .start)
     unfolding rootsOf
@@ -118,7 +120,8 @@ module _ {ps : List Place} {ms : List Macro} (a : Allowed ps ms) where
           (subst (λ (z : Place). On x y z (map at (by-number .path .points))) (sym (start-same l s)) o),
     )
 
-    on-given : (x y : Place) (k : Kept) → k ≡ given a j → (s : Stands ps ms (k .0) (k .1)) → On x y (s .path .start) (s .path .points) ↔ Steps x y
+    on-given : (x y : Place) (k : Kept) → k ≡ given a j → (s : Stands ps ms (k .0) (k .1)) → On x y (s .path .start) (s .path .points)
+        ↔ Steps x y
     on-given x y k q =
         subst (λ (z : Kept). (s : Stands ps ms (z .0) (z .1)) → On x y (s .path .start) (s .path .points) ↔ Steps x y) (sym q)
         (on-path x y (weight a j))
@@ -127,7 +130,8 @@ module _ {ps : List Place} {ms : List Macro} (a : Allowed ps ms) where
     unfolding treeOf terminal pathEdges
     walk-in k i =
         either (λ h. one-in (setting a) (whole a) j m k h)
-        (λ h. either (λ q. Memᴰ·cast q (bridge-in (setting a) (whole a) j m)) (λ r. two-in (setting a) (whole a) j m k r) (List·Memᴰ·cases-cons h))
+        (λ h. either (λ q. Memᴰ·cast q (bridge-in (setting a) (whole a) j m)) (λ r. two-in (setting a) (whole a) j m k r)
+        (List·Memᴰ·cases-cons h))
         (List·Memᴰ·append-cases (home (setting a) (whole a) (one (G a) j)) i)
 
   pub of-start : (k : ℕ) → k ∈ unionList a → OnKept (setting a) (whole a) k
@@ -166,8 +170,10 @@ module _ {ps : List Place} {ms : List Macro} (a : Allowed ps ms) where
 
   of-some : (e : Edge) → OnSome (ourPaths a) e → e ∈ edgesIn (unionOf ps ms)
   of-some e o =
-      let g = of-given a (givenFor (o .path)) (subst (λ (l : List Kept). givenFor (o .path) ∈ l) (paths-given a) (in-map givenFor (o .among))) in
-      let k = step-edge (g .entry) (g .stands) (e .0) (e .1) (on-kept (o .path) (o .among) (g .entry) (g .stands) (g .is) (e .0) (e .1) .0 (o .on)) in
+      let g = of-given a (givenFor (o .path)) (subst (λ (l : List Kept). givenFor (o .path) ∈ l) (paths-given a)
+      (in-map givenFor (o .among))) in
+      let k = step-edge (g .entry) (g .stands) (e .0) (e .1) (on-kept (o .path) (o .among) (g .entry) (g .stands) (g .is) (e .0) (e .1) .0
+      (o .on)) in
       placed (k .0) (walk-in (g .entry) (g .stands) (k .0) (k .1 .0)) (k .1 .1)
     where
       turn : (k : ℕ) → k ∈ unionList a → Alike (e .0) (e .1) (edgeAt (spanning ps ms) k .0) (edgeAt (spanning ps ms) k .1) →

@@ -1,5 +1,5 @@
--- The trees are the same for every order of pins and macros: the rules speak of which places are pins, how many there are, which corners the
--- macros have and what is clear, and of nothing else of the two lists. So a solution for one order is one for every other.
+-- The trees are the same for every order of pins and macros: the rules speak of which places are pins, how many there are, which corners
+-- the macros have and what is clear, and of nothing else of the two lists. So a solution for one order is one for every other.
 -- Assumes nothing.
 use mathlib.Core.Path.{_≡_, sym, _∙_, subst}
 use mathlib.Core.Logic.{inl, inr}

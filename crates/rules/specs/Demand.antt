@@ -1,6 +1,6 @@
 -- What the mission demands of the trees (D3), over the spanning graph's edges G, the pins ps, the kept paths ks and the refined tree's
--- edges rs. Chains, joinings and our way are those of `joined` (specs/Chain.antt), terminal paths too (specs/Path.antt). These records say how
--- good the trees are; which trees they are is said in Trees.antt.
+-- edges rs. Chains, joinings and our way are those of `joined` (specs/Chain.antt), terminal paths too (specs/Path.antt). These records
+-- say how good the trees are; which trees they are is said in Trees.antt.
 use mathlib.Core.Path.{_≡_}
 use mathlib.Core.Bool.{true}
 use mathlib.Core.List.{List, map}

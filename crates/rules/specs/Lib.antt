@@ -2,13 +2,13 @@
 --
 -- WHAT IT IS. Graph, terminal tree and refined tree as relations over places and edges. No table, no number of a vertex and no function of
 -- the router is named here: these files use only places and macros, the order and the distance of places, the middle of three, what is
--- clear (`plane`), and ways, chains and trees over any points (`joined`). For every allowed net `Spanning`, `Terminal`, `Refined` and `Trees`
--- have our answer as their one solution; so they say all that there is to say, and how the answer is worked out is nobody's business but
--- the prover's. `BestJoining` and `RefinedTree` (D3) say how good that answer is.
+-- clear (`plane`), and ways, chains and trees over any points (`joined`). For every allowed net `Spanning`, `Terminal`, `Refined` and
+-- `Trees` have our answer as their one solution; so they say all that there is to say, and how the answer is worked out is nobody's
+-- business but the prover's. `BestJoining` and `RefinedTree` (D3) say how good that answer is.
 --
--- HOW IT IS WRITTEN. A list of vertices or edges is said by what stands in it (`↔`), and by its order where it is given; "the nearest", "the
--- longest", "the first" are said by comparison with every other. So the order of a net's lists is nowhere, and that it does not matter
--- follows from "one solution" alone (`trees-same`).
+-- HOW IT IS WRITTEN. A list of vertices or edges is said by what stands in it (`↔`), and by its order where it is given; "the nearest",
+-- "the longest", "the first" are said by comparison with every other. So the order of a net's lists is nowhere, and that it does not
+-- matter follows from "one solution" alone (`trees-same`).
 --
 --   Interior   PlanePoint, Interior, Box        a point with fractions; when it lies in an interior, in a closed box
 --   Edges      Edge, edgeBefore, edgeLength     edges, their order and their length

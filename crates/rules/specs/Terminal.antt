@@ -87,8 +87,8 @@ module _ (G : List Edge) (ps : List Place) where
     pub second-up : Up (k .bridge .1) second
     pub points-are : k .points ≡ turned (k .bridge .0) first (k .bridge .1 ∷ second)
 
-  -- T13, T14: ks are the paths of the terminal tree, in the order kept: each bridge is offered in its turn, and kept exactly when its two roots
-  -- are not joined by those kept before
+  -- T13, T14: ks are the paths of the terminal tree, in the order kept: each bridge is offered in its turn, and kept exactly when its two
+  -- roots are not joined by those kept before
   pub record Terminal (ks : List Path) : Type 0 where
     pub offered : List Path
     pub bridges : (k : Path) → k ∈ offered → Bridge k

@@ -28,7 +28,8 @@ use Rattle.terminal.specs.Setting.{ends, pairs, Setting, Whole}
 use Rattle.terminal.proofs.EdgeLaws.{below-from, in-from}
 use Rattle.terminal.proofs.ParentLaws.{Candidate, Found, parent-found, parented-up, parented-via}
 use Rattle.terminal.proofs.WayLaws.{way-go, way-none}
-use Rattle.terminal.proofs.Nearest.{fits, edges-among, joint, edge-link, edge-long, link-in, best, closed, Reached, reached, all-reached}
+use Rattle.terminal.proofs.Nearest.{fits, edges-among, joint, edge-link, edge-long, link-in, best, closed, Reached, reached}
+use Rattle.terminal.proofs.Nearest.{all-reached}
 
 -- the vertices after v on its way, n at most
 unfoldable pub climb : Parents → ℕ → ℕ → List ℕ
@@ -149,7 +150,8 @@ module _ {g : Graph} {n : ℕ} {d : ℕ → ℕ → ℕ} {pins : List ℕ} (s : 
           let c = candidate v w o in
           found v .least (c .0) (in-from 0 (g .count) (c .0) (omega arith) (omega (arith, c .1))) w (c .2)
 
-      at : (parent g T v ≡ none) ⊎ ((parent g T v .via ∈ from 0 (g .count)) × Candidate g T v (parent g T v .to) (parent g T v .via)) → Parent v
+      at : (parent g T v ≡ none) ⊎ ((parent g T v .via ∈ from 0 (g .count)) × Candidate g T v (parent g T v .to) (parent g T v .via)) →
+          Parent v
       at (inl e) =
           let w = some-onward v h m in
           let i = link-in s v (w .0) (w .1 .link) .far-in in
@@ -263,7 +265,8 @@ module _ {g : Graph} {n : ℕ} {d : ℕ → ℕ → ℕ} {pins : List ℕ} (s : 
         falling = (omega (arith, o .nearer), r .falling);
         each =
             λ k m.
-            either (λ q. inl (subst (λ (j : ℕ). Alike (one g j) (two g j) v (up P v)) (sym q) (alike-sym (p .ends-are)))) (λ q. inr (r .each k q))
+            either (λ q. inl (subst (λ (j : ℕ). Alike (one g j) (two g j) v (up P v)) (sym q) (alike-sym (p .ends-are))))
+            (λ q. inr (r .each k q))
             (List·Memᴰ·cases-cons m);
         alike = λ z m. either (λ q. ap (root T) q) (λ q. r .alike z q ∙ o .same-root) (List·Memᴰ·cases-cons m);
       }
@@ -285,7 +288,8 @@ module _ {g : Graph} {n : ℕ} {d : ℕ → ℕ → ℕ} {pins : List ℕ} (s : 
       at (no m) = absurd (let z : ⊥ = omega (arith, far-off v h m) in z)
   home (suc k) v h l = at (λ p. home k (up P v) (p .inside) (lower k v l p)) (is-in ℕ-discrete v pins)
     where
-      at : (Parent v → Home (up P v) (climb P k (up P v)) (wayOf P k (up P v))) → Dec (v ∈ pins) → Home v (climb P (suc k) v) (wayOf P (suc k) v)
+      at : (Parent v → Home (up P v) (climb P k (up P v)) (wayOf P k (up P v))) → Dec (v ∈ pins) →
+          Home v (climb P (suc k) v) (wayOf P (suc k) v)
       at up-home (yes m) =
           let u : pointBound ≤ up P v = omega (arith, pin-parent v m) in
           rw (climb-none P (suc k) v u, way-none P (suc k) v u) (at-pin v m)

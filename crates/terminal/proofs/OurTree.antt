@@ -151,7 +151,8 @@ module _ {g : Graph} {n : ℕ} {d : ℕ → ℕ → ℕ} {pins : List ℕ} (s : 
           (go (inl bridge)
           (way-more (map-among (ends g) wv (pathEdges g (T .fars) P k) (λ j m. Memᴰ·append-right wu (there m))) (hv .along)))
 
-      steps : (j : ℕ) → j ∈ pathEdges g (T .fars) P k → On (one g j) (two g j) (root T u) (turned u (wayPoints s whole u) (v ∷ wayPoints s whole v))
+      steps : (j : ℕ) → j ∈ pathEdges g (T .fars) P k → On (one g j) (two g j) (root T u)
+          (turned u (wayPoints s whole u) (v ∷ wayPoints s whole v))
       steps j m =
           either (λ i. turned-back (hu .along) (v ∷ wayPoints s whole v) (one g j) (two g j) (hu .each j i))
           (λ i. turned-on (hu .along) (v ∷ wayPoints s whole v) (one g j) (two g j)
@@ -193,7 +194,8 @@ module _ {g : Graph} {n : ℕ} {d : ℕ → ℕ → ℕ} {pins : List ℕ} (s : 
   -- Domination
 
   -- the roots of two linked vertices are joined by bridges whose paths are no longer than way, link and way
-  across : (t x y : ℕ) → Link (pairs g) x y → far T x + d x y + far T y ≤ t → Joined (map (rootsOf g T) (light weight t L)) (root T x) (root T y)
+  across : (t x y : ℕ) → Link (pairs g) x y → far T x + d x y + far T y ≤ t → Joined (map (rootsOf g T) (light weight t L)) (root T x)
+      (root T y)
   unfolding oneRoot
   across t x y l h = let j = joint s x y l in at (j .edge) (j .inside) (j .measured) (j .ends-are)
     where
@@ -221,7 +223,8 @@ module _ {g : Graph} {n : ℕ} {d : ℕ → ℕ → ℕ} {pins : List ℕ} (s : 
       then (across t x y l (omega (arith, b .0))) (along t (a + d x y) w p (omega (arith, c .0)) (omega arith))
 
   -- bridges no longer than a walk between pins join its ends
-  pub dominated : {p q : ℕ} {ps : List ℕ} → Way (pairs g) p ps q → p ∈ pins → q ∈ pins → Dominated (rootsOf g T) weight L (p, q) (long d p ps)
+  pub dominated : {p q : ℕ} {ps : List ℕ} → Way (pairs g) p ps q → p ∈ pins → q ∈ pins → Dominated (rootsOf g T) weight L (p, q)
+      (long d p ps)
   dominated {p} {q} {ps} w h k =
       let a = pin-label s whole p h in
       let b = pin-label s whole q k in
@@ -245,8 +248,11 @@ module _ {g : Graph} {n : ℕ} {d : ℕ → ℕ → ℕ} {pins : List ℕ} (s : 
     stands = whole .is-pin;
     inside = λ a b m.
         (let r = of-map (rootsOf g T) L m in
-        let h = bridge-is (r .entry) (r .stands) .0 in
-        (rw (firsts (r .is)) (root-pin s whole _ (s .one-in (r .entry) h)), rw (seconds (r .is)) (root-pin s whole _ (s .two-in (r .entry) h))));
+        let h = bridge-is (r .entry) (r .stands) .0 in (
+          rw (firsts (r .is)) (root-pin s whole _ (s .one-in (r .entry) h)),
+          rw (seconds (r .is))
+              (root-pin s whole _ (s .two-in (r .entry) h)),
+        ));
     joins = λ x y i k. joined x y i k;
     rising = ascending-rising;
   }
@@ -296,7 +302,8 @@ module _ {g : Graph} {n : ℕ} {d : ℕ → ℕ → ℕ} {pins : List ℕ} (s : 
   terminal-dominated c = dominated (c .way) (c .start-pin) (c .finish-pin)
 
   -- no joining is shorter than the total that we give, every path counted in full
-  pub none-shorter : (J : List (TerminalPath (pairs g) pins)) → Joining endsOf pins J → terminal g n pins .total ≤ total (map (lengthOf d) J)
+  pub none-shorter : (J : List (TerminalPath (pairs g) pins)) → Joining endsOf pins J → terminal g n pins .total
+      ≤ total (map (lengthOf d) J)
   unfolding terminal keptLengths
   none-shorter J h =
       let r = no-shorter ℕ-discrete (rootsOf g T) weight offered endsOf (lengthOf d) terminal-dominated J h in

@@ -38,7 +38,8 @@ pub record Tree : Type 0 where
 
 unfoldable pub tree : Graph → ℕ → List ℕ → Tree
 unfolding
-    labelled settled changes moves relax relaxEdge offer gains better starts parented adopted parent parentAmong through nearer leads filled from
+    labelled settled changes moves relax relaxEdge offer gains better starts parented adopted parent parentAmong through nearer leads
+    filled from
     wayOf way oneRoot path pathLength weights earlier firstThen put sorted those bridgesFrom bridges
     keptBy changed keptBridges keptLengths total terminal
 tree g n pins =

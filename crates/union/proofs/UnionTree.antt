@@ -5,7 +5,8 @@
 use mathlib.Core.Path.{_≡_, refl, sym, ap, ap₂, _∙_, subst}
 use mathlib.Core.Bool.{false, not}
 use mathlib.Core.Logic.{_⊎_, inl, inr}
-use mathlib.Core.List.{List, [], _∷_, _++_, map, List·Memᴰ·cases-cons, List·Memᴰ·append-cases, Memᴰ·cast, Memᴰ·append-left, Memᴰ·append-right}
+use mathlib.Core.List.{List, [], _∷_, _++_, map, List·Memᴰ·cases-cons, List·Memᴰ·append-cases, Memᴰ·cast, Memᴰ·append-left}
+use mathlib.Core.List.{Memᴰ·append-right}
 use Prim.Native.Nat.{ℕ, zero, suc, _+_, _≤_, _<_}
 use native.Mathlib.Decide.{ℕ-discrete}
 use native.Mathlib.Omega.{arith}
@@ -60,7 +61,8 @@ module _ {g : Graph} {n : ℕ} {d : ℕ → ℕ → ℕ} {pins : List ℕ} (s : 
 
   -- the edges and the points of the union
   abbrev pub E : List ℕ
-  E = unionEdges g (labelled g n pins .fars) (parented g n (labelled g n pins)) (keptBridges g (labelled g n pins) (parented g n (labelled g n pins)))
+  E = unionEdges g (labelled g n pins .fars) (parented g n (labelled g n pins))
+      (keptBridges g (labelled g n pins) (parented g n (labelled g n pins)))
 
   abbrev pub W : List ℕ
   W = unionPoints g (labelled g n pins .fars) (parented g n (labelled g n pins))
@@ -87,7 +89,8 @@ module _ {g : Graph} {n : ℕ} {d : ℕ → ℕ → ℕ} {pins : List ℕ} (s : 
 
   nearer : (v : ℕ) → v < n → (v ∈ pins → ⊥) → far T (up P v) < far T v
   nearer v h m =
-      nearer-by (g .lengths) (T .fars) P falling v (omega (arith, s .vertices)) (omega (arith, parent-is s whole v h m .inside, s .vertices))
+      nearer-by (g .lengths) (T .fars) P falling v (omega (arith, s .vertices))
+      (omega (arith, parent-is s whole v h m .inside, s .vertices))
 
   -- an edge of a way leads from one of its vertices, no pin, to that vertex's parent, and the way goes on as that vertex's own
   record Step (u k : ℕ) : Type 0 where

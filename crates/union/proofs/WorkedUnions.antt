@@ -37,7 +37,11 @@ shown t = (take (t .count * 2) (t .points), take (t .edges .size) (t .edges .key
 
 -- the union of a net; to unfold this is to unfold all that it rests on
 unfoldable pub union : Lists → List ℤ × List ℕ
-unfolding any put sorted firstThen position those total minZ maxZ over flat changed keptBy before apart distance spanMeets meets clear placesOf macrosOf cornersOf corners vertices within nearerPlace betterPick pickFrom pick edgeOf beforeEdge edgeOfPick picksOf allPicks edges from filled better gains offer relaxEdge moves relax changes settled starts labelled leads nearer through parentAmong parent adopted parented wayOf way oneRoot path pathLength weights earlier bridgesFrom bridges keptBridges keptLengths terminal numbered pinNumbers treeOf stands keptEdges unionEdges unionPoints startOf unionOf shown
+unfolding any put sorted firstThen position those total minZ maxZ over flat changed keptBy before apart distance spanMeets meets clear
+    placesOf macrosOf cornersOf corners vertices within nearerPlace betterPick pickFrom pick edgeOf beforeEdge edgeOfPick picksOf allPicks
+    edges from filled better gains offer relaxEdge moves relax changes settled starts labelled leads nearer through parentAmong parent
+    adopted parented wayOf way oneRoot path pathLength weights earlier bridgesFrom bridges keptBridges keptLengths terminal numbered
+    pinNumbers treeOf stands keptEdges unionEdges unionPoints startOf unionOf shown
 union net = shown (unionOf (placesOf (net .pins)) (macrosOf (net .macros)))
 
 -- A graph whose kept paths share an edge: the pins 0, 2 and 3 hang on the vertex 1, 1 away from pin 0 and 5 from the others. The tree's
@@ -47,7 +51,9 @@ star = graph (0 ∷ 1 ∷ 1 ∷ []) (1 ∷ 2 ∷ 3 ∷ []) (1 ∷ 5 ∷ 5 ∷ []
 
 -- its kept paths' edges one path after the other, those of the union, and its points
 unfoldable pub shared : List ℕ × List ℕ × List ℕ
-unfolding star any put sorted firstThen those total flat changed keptBy from filled better gains offer relaxEdge moves relax changes settled starts labelled leads nearer through parentAmong parent adopted parented wayOf way oneRoot path pathLength weights earlier bridgesFrom bridges keptBridges keptLengths terminal stands keptEdges unionEdges unionPoints
+unfolding star any put sorted firstThen those total flat changed keptBy from filled better gains offer relaxEdge moves relax changes
+    settled starts labelled leads nearer through parentAmong parent adopted parented wayOf way oneRoot path pathLength weights earlier
+    bridgesFrom bridges keptBridges keptLengths terminal stands keptEdges unionEdges unionPoints
 shared =
     let pins : List ℕ = 0 ∷ 2 ∷ 3 ∷ [] in
     let t = terminal star 4 pins in (

@@ -1,5 +1,5 @@
--- The edges of a refined tree as they are given: one tree with all pins, every edge clear, smaller place first and in order, and their sum is
--- the refiner's total. What the refiner promises is said of the same edges read from the other end.
+-- The edges of a refined tree as they are given: one tree with all pins, every edge clear, smaller place first and in order, and their
+-- sum is the refiner's total. What the refiner promises is said of the same edges read from the other end.
 -- Assumes nothing.
 use mathlib.Core.Path.{_≡_, refl, sym, ap, _∙_, subst}
 use mathlib.Core.Bool.{true, false}
@@ -79,7 +79,8 @@ module _ (pts : List ℤ) (ks : List ℕ) where
   unfolding edgesFrom
   numbered zero i x m = elim m [ ]
   numbered (suc n) i x m =
-      either (λ e. record { number = i; low = omega arith; high = omega arith; is = e }) (λ k. further (numbered n (suc i) x k)) (List·Memᴰ·cases-cons m)
+      either (λ e. record { number = i; low = omega arith; high = omega arith; is = e }) (λ k. further (numbered n (suc i) x k))
+      (List·Memᴰ·cases-cons m)
     where
       further : Numbered (suc i) n x → Numbered i (suc n) x
       further r = record { number = r .number; low = omega (arith, r .low); high = omega (arith, r .high); is = r .is }

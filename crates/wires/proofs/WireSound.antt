@@ -1,5 +1,5 @@
--- An edge's wires: horizontal, then vertical, none of length zero, from its smaller place to its larger one within their box, as long as the
--- edge. So wires of edges with clear ends enter no interior, and they are the edges' metal.
+-- An edge's wires: horizontal, then vertical, none of length zero, from its smaller place to its larger one within their box, as long as
+-- the edge. So wires of edges with clear ends enter no interior, and they are the edges' metal.
 -- Assumes nothing.
 use mathlib.Core.Path.{_≡_, refl, sym, ap, ap₂, _∙_, subst}
 use mathlib.Core.Bool.{true}

@@ -1,4 +1,5 @@
--- `plane::box_meets` meets its contract. Assumes nothing.
+-- `plane::box_meets` meets its contract.
+-- Assumes nothing.
 use borrow.Author.Needs.{needs}
 use mathlib.Core.Path.{_≡_, refl, _∙_, subst, sym}
 use mathlib.Core.Bool.{true, false}

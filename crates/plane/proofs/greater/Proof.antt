@@ -1,4 +1,5 @@
--- `plane::greater` meets its contract. Assumes nothing.
+-- `plane::greater` meets its contract.
+-- Assumes nothing.
 use mathlib.Core.Path.{_≡_, _∙_}
 use mir.Syntax.{w32}
 use mir.ValLaws.{toZ-ofZ}
