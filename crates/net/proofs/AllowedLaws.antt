@@ -1,15 +1,14 @@
 -- A net is allowed by the check exactly when its lists hold whole entries and it is allowed in words.
 -- Assumes nothing.
-use mathlib.Core.Path.{_≡_, refl, sym, ap, _∙_}
+use mathlib.Core.Path.{_≡_, sym, ap, _∙_}
 use mathlib.Core.Bool.{false, not}
-use mathlib.Core.List.{List, List·Memᴰ}
-use Prim.Native.Nat.{ℕ, _≤_, _%_, _/_}
+use mathlib.Core.List.{List}
+use Prim.Native.Nat.{ℕ, _≤_, _%_}
 use native.Mathlib.Omega.{arith}
 use borrow.Author.Tests.{eq-eqb, ne-eqb, le-ltb, not-false}
 use lib.IntN.{ℤ}
 use lib.ListN.{length}
 use lib.Signed.{ltZ}
-use Rattle.lists.specs.Any.{any, anyTwo, NoTwo}
 use Rattle.lists.proofs.TestLaws.{or-none, or-neither}
 use Rattle.lists.proofs.AnyLaws.{any-none, none-any, two-none, none-two}
 use Rattle.lent.specs.Told.{given}

@@ -3,6 +3,7 @@
 use mathlib.Core.Path.{_≡_, refl}
 use mathlib.Core.Bool.{false}
 use Prim.Native.Nat.{_*_, _≤_}
+use native.Mathlib.Omega.{arith}
 use lib.IntN.{ℤ, pos, negℤ}
 use lib.Signed.{ltZ}
 use Rattle.lists.proofs.TestLaws.{or-none}
@@ -10,7 +11,7 @@ use Rattle.signed.specs.Sides.{up, down}
 use Rattle.signed.proofs.SideLaws.{ltZ-false, up-pos, down-pos, one-side, signed}
 use Rattle.plane.specs.declared.Place.{Place}
 use Rattle.plane.specs.Distance.{apart, distance}
-use Rattle.plane.proofs.DistanceLaws.{apart-sides}
+use Rattle.plane.proofs.DistanceLaws.{apart-sides, distance-parts}
 use Rattle.net.specs.Bounds.{coordinateBound}
 use Rattle.net.specs.Check.{outOfRange}
 use Rattle.net.specs.Allowed.{PlaceInRange}
@@ -35,15 +36,11 @@ in-range-near z e =
       below = omega (signed, low, one-side z, least-sides);
     }
 
-apart-near : (a b : ℤ) → Near a → Near b → apart a b ≤ 2000000
+apart-near : (a b : ℤ) → Near a → Near b → apart a b ≤ coordinateBound * 2
 apart-near a b m n = omega (signed, apart-sides a b)
 
 pub distance-in-range : (a b : Place) → PlaceInRange a → PlaceInRange b → distance a b ≤ coordinateBound * 4
-unfolding distance
 distance-in-range a b r s =
-    omega (
-      signed,
-      apart-near _ _ (in-range-near _ (r .x)) (in-range-near _ (s .x)),
-      apart-near _ _ (in-range-near _ (r .y))
-          (in-range-near _ (s .y)),
-    )
+    let across = apart-near _ _ (in-range-near _ (r .x)) (in-range-near _ (s .x)) in
+    let along = apart-near _ _ (in-range-near _ (r .y)) (in-range-near _ (s .y)) in
+    omega (arith, distance-parts a b across along)

@@ -4,6 +4,7 @@
 use mathlib.Core.Path.{_≡_, ap₂}
 use mathlib.Core.Bool.{true, false}
 use Prim.Native.Nat.{ℕ, _+_, _-_, _^_, _≤_, _<_, min, max}
+use native.Mathlib.Omega.{arith}
 use lib.IntN.{ℤ, pos, _-ℤ_, natAbs}
 use lib.Signed.{ltZ, leZ}
 use mir.Syntax.{w32, w64}
@@ -111,3 +112,15 @@ apart-triangle a b c =
 pub distance-triangle : (a b c : Place) → distance a c ≤ distance a b + distance b c
 unfolding distance
 distance-triangle a b c = omega (signed, apart-triangle (a .x) (b .x) (c .x), apart-triangle (a .y) (b .y) (c .y))
+
+-- How far at most
+
+-- no farther than both axes allow
+pub distance-parts : (a b : Place) {m n : ℕ} → apart (a .x) (b .x) ≤ m → apart (a .y) (b .y) ≤ n → distance a b ≤ m + n
+unfolding distance
+distance-parts a b h k = omega (arith, h, k)
+
+-- of any two places of 32 bits
+pub distance-fits : (a b : Place) → SFits w32 (a .x) → SFits w32 (a .y) → SFits w32 (b .x) → SFits w32 (b .y) → distance a b < 2 ^ 33
+unfolding distance
+distance-fits a b f g h i = omega (arith, apart-fits (a .x) (b .x) f h, apart-fits (a .y) (b .y) g i)

@@ -1,14 +1,14 @@
 -- Laws of the search for the best candidate.
 -- Assumes nothing.
-use mathlib.Core.Path.{_≡_, refl, sym, ap, ap₂, _∙_}
+use mathlib.Core.Path.{_≡_, refl, sym, _∙_}
 use mathlib.Core.Bool.{Bool, true, false, not, _&&_, _||_}
-use mathlib.Core.List.{List, [], _∷_}
-use Prim.Native.Nat.{ℕ, zero, suc, _+_, _-_, _*_, _/_, _%_, _≤_, _<_}
+use mathlib.Core.List.{List, []}
+use Prim.Native.Nat.{ℕ, _+_, _-_, _≤_, _<_}
 use native.Mathlib.Omega.{arith}
 use lib.Dec.{ltb, eqb}
 use lib.IntN.{ℤ}
-use lib.ListN.{length, getD, set}
-use borrow.Author.Tests.{lt-ltb, le-ltb, eq-eqb, ne-eqb}
+use lib.ListN.{getD}
+use borrow.Author.Tests.{lt-ltb, le-ltb}
 use Rattle.plane.specs.declared.Place.{Place}
 use Rattle.plane.specs.declared.Macro.{Macro}
 use Rattle.refined.specs.declared.Best.{Best}
@@ -19,7 +19,7 @@ use Rattle.plane.specs.Macro.{clear}
 use Rattle.plane.specs.Flat.{placeAt}
 use Rattle.refined.specs.Turns.{seek}
 use Rattle.refined.specs.Longest.{cutOf}
-use Rattle.refined.specs.Candidate.{best, middleOf, sees, taken, dropped, allowed, chosen, weighed, offer}
+use Rattle.refined.specs.Candidate.{best, sees, taken, dropped, allowed, chosen, weighed, offer}
 
 and-false : (a : Bool) → (a && false) ≡ false
 and-false true = refl

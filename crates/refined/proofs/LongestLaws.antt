@@ -1,30 +1,23 @@
 -- Laws of the longer of two edges and of the table of longest edges.
 -- Assumes nothing.
-use mathlib.Core.Path.{_≡_, refl, sym, ap, ap₂, _∙_}
-use mathlib.Core.Bool.{Bool, true, false}
+use mathlib.Core.Path.{_≡_, refl, ap}
+use mathlib.Core.Bool.{true, false}
 use mathlib.Core.List.{List, [], _∷_}
-use Prim.Native.Nat.{ℕ, zero, suc, _+_, _-_, _*_, _/_, _%_, _≤_, _<_, _^_}
+use Prim.Native.Nat.{ℕ, zero, suc, _≤_, _<_}
 use native.Mathlib.Omega.{arith}
 use lib.Dec.{ltb, eqb}
-use lib.ListN.{length, getD, set}
+use lib.ListN.{getD, set}
 use borrow.Author.Tests.{lt-ltb, le-ltb, eq-eqb, ne-eqb}
 use lib.IntN.{ℤ}
 use Rattle.plane.specs.declared.Place.{Place}
 use Rattle.plane.specs.Distance.{distance}
 use Rattle.plane.specs.Flat.{placeAt}
-use mir.Syntax.{w32}
-use mir.Val.{SFits}
-use Rattle.plane.proofs.DistanceLaws.{apart-fits}
 use Rattle.lists.proofs.TestLaws.{by}
-use Rattle.refined.specs.Longest.{Reach, attach, hang, longer, measure, edgeLength, lengthBound, noEdge, pass, reach, shorter, spread}
+use Rattle.refined.specs.Longest.{Reach, attach, hang, longer, measure, edgeLength, noEdge, pass, reach, shorter, spread}
 use Rattle.refined.specs.Longest.{spreads, wins}
 use Rattle.refined.specs.Table.{Small, firstEnd, key, pointBound, secondEnd}
 use Rattle.refined.specs.Turns.{turns}
 use Rattle.refined.proofs.TurnLaws.{turns-keep, turns-below}
-
-pub distance-fits : (a b : Place) → SFits w32 (a .x) → SFits w32 (a .y) → SFits w32 (b .x) → SFits w32 (b .y) → distance a b < lengthBound
-unfolding distance
-distance-fits a b f g h i = omega (arith, apart-fits (a .x) (b .x) f h, apart-fits (a .y) (b .y) g i)
 
 pub length-is : (pts : List ℤ) (keys : List ℕ) (k d : ℕ) (p q : Place) → p ≡ placeAt pts (firstEnd (getD keys k 0))
     → q ≡ placeAt pts (secondEnd (getD keys k 0)) → d ≡ distance p q → d ≡ edgeLength pts keys k

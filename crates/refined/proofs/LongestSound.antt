@@ -2,17 +2,17 @@
 -- smaller on a tie, is the entry. A point v that is hung on p by an edge goes to w by that edge and p's way; and back.
 -- Assumes nothing.
 use mathlib.Core.Path.{_≡_, refl, sym, ap, ap₂, _∙_, subst}
-use mathlib.Core.Bool.{Bool, true, false}
+use mathlib.Core.Bool.{true}
 use mathlib.Core.Logic.{_⊎_, inl, inr}
-use mathlib.Core.List.{List, [], _∷_, _++_, Memᴰ·cast, Memᴰ·append-left, Memᴰ·append-right, List·Memᴰ·cases-cons, List·Memᴰ·append-cases}
-use Prim.Native.Nat.{ℕ, zero, suc, _+_, _-_, _*_, _/_, _%_, _≤_, _<_}
+use mathlib.Core.List.{List, [], _∷_, _++_, Memᴰ·cast, List·Memᴰ·cases-cons, List·Memᴰ·append-cases}
+use Prim.Native.Nat.{ℕ, _+_, _≤_, _<_}
 use native.Mathlib.Omega.{arith}
-use lib.Dec.{ltb, eqb}
+use lib.Dec.{eqb}
 use lib.IntN.{ℤ}
 use lib.ListN.{length, getD, set, length-set}
-use borrow.Author.Tests.{ltb-true, ltb-false, eqb-true, eqb-false}
+use borrow.Author.Tests.{eqb-true, eqb-false}
 use Rattle.lists.specs.Member.{_∈_, here, there, Once}
-use Rattle.lists.proofs.TestLaws.{by, differ, either}
+use Rattle.lists.proofs.TestLaws.{by, either}
 use Rattle.lists.proofs.MemberLaws.{once-end}
 use Rattle.plane.specs.declared.Place.{Place}
 use Rattle.plane.specs.Flat.{placeAt}
@@ -20,13 +20,12 @@ use Rattle.joined.specs.Joined.{Link, Alike}
 use Rattle.joined.specs.Way.{Way, stop, go}
 use Rattle.joined.specs.Exchange.{steps}
 use Rattle.joined.proofs.JoinedLaws.{firsts, seconds}
-use Rattle.joined.proofs.OtherLaws.{alike-sym, alike-trans}
-use Rattle.refined.specs.Turns.{turns}
-use Rattle.refined.specs.Table.{pointBound, pairBound, key, firstEnd, secondEnd, Within}
-use Rattle.refined.specs.Longest.{wins, longer, noEdge, spreads, Reach, reach, hang, attach, pass}
-use Rattle.refined.specs.Places.{listing, endsOf, edgesOf, InOrder}
+use Rattle.joined.proofs.OtherLaws.{alike-trans}
+use Rattle.refined.specs.Table.{pointBound, pairBound, key, firstEnd, secondEnd}
+use Rattle.refined.specs.Longest.{wins, longer, noEdge, spreads, Reach, reach}
+use Rattle.refined.specs.Places.{endsOf, edgesOf, InOrder}
 use Rattle.refined.proofs.LongestLaws.{longer-yes, longer-no}
-use Rattle.refined.proofs.WinsLaws.{Under, wins-under, wins-not, under-trans, under-self, longer-first, longer-second}
+use Rattle.refined.proofs.WinsLaws.{Under, wins-under, under-trans, longer-first, longer-second}
 use Rattle.refined.proofs.ReadingLaws.{untouched, spreads-length, spreads-row, spreads-column, spreads-self}
 use Rattle.refined.proofs.SumLaws.{other, here as put-here}
 use Rattle.refined.proofs.ListingLaws.{in-listing}

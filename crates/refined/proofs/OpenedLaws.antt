@@ -1,15 +1,15 @@
 -- A new point put in at its rank: the other points keep their places under numbers moved on, and the order holds.
 -- Assumes nothing.
 use mathlib.Core.Path.{_≡_, refl, sym, ap, ap₂, _∙_}
-use mathlib.Core.Bool.{Bool, true, false, not, _&&_}
-use mathlib.Core.List.{List, [], _∷_}
+use mathlib.Core.Bool.{Bool, true, false, not}
+use mathlib.Core.List.{List, []}
 use Prim.Native.Nat.{ℕ, zero, suc, _+_, _-_, _*_, _≤_, _<_}
 use native.Mathlib.Omega.{arith}
 use lib.Dec.{ltb}
 use lib.IntN.{ℤ, pos}
 use lib.ListN.{length, getD, set, length-set}
 use lib.Seq.{getD-set-same, getD-set-other}
-use borrow.Author.Tests.{ltb-true, ltb-false, lt-ltb, le-ltb}
+use borrow.Author.Tests.{ltb-true, ltb-false, lt-ltb}
 use Rattle.lists.proofs.TestLaws.{by, differ, and-both}
 use Rattle.plane.specs.declared.Place.{Place}
 use Rattle.plane.specs.Place.{place, before, samePlace}
@@ -18,7 +18,7 @@ use Rattle.plane.proofs.PlaceLaws.{same-refl, before-trans, before-tie}
 use Rattle.refined.specs.Turns.{turns, seek}
 use Rattle.refined.specs.Exchange.{later, rank, stands, setPoint, Hand, hand, push, closing, opened, bump}
 use Rattle.refined.specs.Places.{InOrder}
-use Rattle.refined.proofs.WithinLaws.{seek-le, rank-le}
+use Rattle.refined.proofs.WithinLaws.{rank-le}
 use Rattle.refined.proofs.ExchangeLaws.{bump-lt, bump-ge}
 
 -- One place stored

@@ -2,35 +2,34 @@
 -- steps than the tree has edges.
 -- Assumes nothing.
 use mathlib.Core.Path.{_≡_, refl, sym, ap, ap₂, _∙_, subst}
-use mathlib.Core.Bool.{Bool, true, false}
 use mathlib.Core.Logic.{_⊎_, inl, inr}
 use mathlib.Core.List.{List, [], _∷_, Memᴰ·cast, List·Memᴰ·cases-cons}
-use Prim.Native.Nat.{ℕ, zero, suc, _+_, _-_, _*_, _/_, _%_, _≤_, _<_}
+use Prim.Native.Nat.{ℕ, zero, suc, _+_, _≤_, _<_}
 use native.Mathlib.Omega.{arith}
 use lib.Dec.{ltb, eqb}
 use lib.IntN.{ℤ}
 use lib.ListN.{length, getD, set, length-set, replicate}
 use borrow.Author.Tests.{ltb-true, ltb-false, eqb-true, eqb-false}
-use Rattle.lists.specs.Member.{_∈_, here, there, Once, Among}
-use Rattle.lists.proofs.TestLaws.{by, differ, either}
+use Rattle.lists.specs.Member.{_∈_, Among}
+use Rattle.lists.proofs.TestLaws.{by, either}
 use Rattle.lists.proofs.MemberLaws.{once-length}
 use Rattle.plane.specs.declared.Place.{Place}
 use Rattle.plane.specs.Flat.{placeAt}
-use Rattle.joined.specs.Joined.{Link, Alike, Joined, Inside}
+use Rattle.joined.specs.Joined.{Link}
 use Rattle.joined.specs.Tree as joined
-use Rattle.joined.specs.Way.{Way, stop, go, Free}
+use Rattle.joined.specs.Way.{Way, stop, go}
 use Rattle.joined.specs.Exchange.{steps}
 use Rattle.joined.proofs.WayLaws.{joined-free}
 use Rattle.refined.specs.Turns.{turns}
 use Rattle.refined.specs.Table.{pointBound, pairBound, key, firstEnd, secondEnd, Within}
-use Rattle.refined.specs.Longest.{noEdge, spreads, Reach, reach, hang, attach, pass, reached, start, longest}
-use Rattle.refined.specs.Places.{listing, endsOf, pointsOf, edgesOf, InOrder}
+use Rattle.refined.specs.Longest.{noEdge, Reach, hang, attach, pass, reached, start}
+use Rattle.refined.specs.Places.{endsOf, pointsOf, edgesOf, InOrder}
 use Rattle.refined.proofs.TurnLaws.{turns-keep, turns-below}
 use Rattle.refined.proofs.SumLaws.{other, here as put-here}
 use Rattle.refined.proofs.ListingLaws.{listing-length, in-listing, of-listing}
 use Rattle.refined.proofs.ExchangeSound.{same-place}
 use Rattle.refined.proofs.PruneSound.{order-same}
-use Rattle.refined.proofs.LongestSound.{Ends, Top, Known, Good, hung}
+use Rattle.refined.proofs.LongestSound.{Ends, Known, Good, hung}
 
 same-entry : (m x i : ℕ) → i < m → getD (replicate m x) i 0 ≡ x
 same-entry zero x i h = absurd (let z : ⊥ = omega arith in z)

@@ -2,8 +2,8 @@
 -- Its edges are in order where those of the tree are.
 -- Assumes nothing.
 use mathlib.Core.Path.{_≡_, refl, sym, ap, _∙_, subst}
-use mathlib.Core.Bool.{Bool, true, false}
-use mathlib.Core.List.{List, [], _∷_, Memᴰ·cast}
+use mathlib.Core.Bool.{true}
+use mathlib.Core.List.{List, [], Memᴰ·cast}
 use Prim.Native.Nat.{ℕ, zero, suc, _+_, _*_, _≤_, _<_}
 use native.Mathlib.Omega.{arith}
 use lib.Dec.{ltb}
@@ -20,21 +20,20 @@ use Rattle.plane.specs.Place.{samePlace}
 use Rattle.plane.specs.Macro.{clear}
 use Rattle.plane.specs.Flat.{placeAt}
 use Rattle.plane.proofs.PlaceLaws.{same-refl}
-use Rattle.joined.specs.Joined.{Inside}
 use Rattle.joined.proofs.OneTreeLaws.{tree-one}
 use Rattle.refined.specs.Turns.{turns}
-use Rattle.refined.specs.Table.{pointBound, firstEnd, secondEnd, Row, Tree}
-use Rattle.refined.specs.Prune.{markOf, mark, marks, prune}
+use Rattle.refined.specs.Table.{pointBound, Tree}
+use Rattle.refined.specs.Prune.{markOf, mark, marks}
 use Rattle.refined.specs.Refined.{rounds, pruned, refined}
-use Rattle.refined.specs.Promise.{metalOf, Promise, Tabled}
-use Rattle.refined.specs.Places.{listing, endsOf, pointsOf, edgesOf, keyLength, Ranked, Sound}
+use Rattle.refined.specs.Promise.{Promise, Tabled}
+use Rattle.refined.specs.Places.{endsOf, pointsOf, keyLength, Ranked, Sound}
 use Rattle.refined.proofs.SumLaws.{other, here}
 use Rattle.refined.proofs.ListingLaws.{listing-length, in-listing, of-listing}
 use Rattle.refined.proofs.ExchangeSound.{same-place}
 use Rattle.refined.proofs.WithinLaws.{pruned-few, pruned-within}
 use Rattle.refined.proofs.RankedLaws.{prune-ranked}
 use Rattle.refined.proofs.PruneSound.{Whole, prune-whole, pruned-was, pruned-over}
-use Rattle.refined.proofs.RoundSound.{Kept, rounds-kept}
+use Rattle.refined.proofs.RoundSound.{rounds-kept}
 
 -- The marks of pins
 

@@ -1,18 +1,17 @@
 -- What taking an entry out of a table, putting one in and moving numbers on does to every sum over its entries.
 -- Assumes nothing.
 use mathlib.Core.Path.{_≡_, refl, sym, ap, ap₂, _∙_}
-use mathlib.Core.Bool.{Bool, true, false}
+use mathlib.Core.Bool.{true, false}
 use mathlib.Core.List.{List, [], _∷_}
-use Prim.Native.Nat.{ℕ, zero, suc, _+_, _-_, _*_, _/_, _%_, _≤_, _<_}
+use Prim.Native.Nat.{ℕ, zero, suc, _+_, _-_, _≤_, _<_}
 use native.Mathlib.Omega.{arith}
-use native.Mathlib.Decide.{decLe}
 use native.Mathlib.Numerals.{add-one}
 use lib.Dec.{ltb, eqb}
 use lib.ListN.{length, getD, set, length-set}
-use borrow.Author.Tests.{ltb-true, ltb-false, lt-ltb, le-ltb, eqb-true, eqb-false, eq-eqb, ne-eqb}
+use borrow.Author.Tests.{ltb-true, ltb-false, lt-ltb, le-ltb, eqb-true, eq-eqb, ne-eqb}
 use Rattle.lists.proofs.TestLaws.{by}
 use Rattle.refined.specs.Turns.{turns}
-use Rattle.refined.specs.Table.{key, firstEnd, secondEnd, Row, row}
+use Rattle.refined.specs.Table.{key, firstEnd, secondEnd, Row}
 use Rattle.refined.specs.Sum.{below, over}
 use Rattle.refined.specs.Exchange.{shift, closed, dropTwo, bump, bumpAt, carrying, lay, lay3}
 

@@ -1,17 +1,16 @@
 -- What is known of the candidate that a round takes: every candidate that takes the place of the best so far is one, not dropped, with L by
 -- `cutOf` and the gain by its lengths; so the last one is.
 -- Assumes nothing.
-use mathlib.Core.Path.{_≡_, refl, sym, ap, ap₂, _∙_, subst}
-use mathlib.Core.Bool.{Bool, true, false, not, _&&_, _||_}
-use mathlib.Core.List.{List, [], _∷_}
-use Prim.Native.Nat.{ℕ, zero, suc, _+_, _-_, _*_, _/_, _%_, _≤_, _<_}
+use mathlib.Core.Path.{_≡_, refl, ap, _∙_}
+use mathlib.Core.Bool.{true, false, not, _&&_, _||_}
+use mathlib.Core.List.{List, []}
+use Prim.Native.Nat.{ℕ, zero, suc, _+_, _≤_, _<_}
 use native.Mathlib.Omega.{arith}
 use lib.Dec.{ltb, eqb}
 use lib.IntN.{ℤ}
 use lib.ListN.{length, getD, set, length-set, replicate}
-use borrow.Author.Tests.{ltb-true, ltb-false, eqb-true, eqb-false, not-true}
+use borrow.Author.Tests.{ltb-true, ltb-false, eqb-false, not-true}
 use Rattle.lists.proofs.TestLaws.{by, and-left, and-right, or-none}
-use Rattle.plane.specs.declared.Place.{Place}
 use Rattle.plane.specs.declared.Macro.{Macro}
 use Rattle.plane.specs.Distance.{distance}
 use Rattle.plane.specs.Flat.{placeAt}
@@ -23,7 +22,7 @@ use Rattle.refined.specs.Candidate.{best, middleOf, sees, dropped, allow
 use Rattle.refined.specs.Places.{keyLength}
 use Rattle.refined.proofs.TurnLaws.{turns-below}
 use Rattle.refined.proofs.SumLaws.{other, here}
-use Rattle.refined.proofs.WithinLaws.{measured-past, zeros-at, past}
+use Rattle.refined.proofs.WithinLaws.{measured-past, zeros-at}
 
 -- the candidate of the edge k and the point u, with L and gain
 pub record Winner (ms : List Macro) (pts : List ℤ) (n : ℕ) (ks : List ℕ) (e : ℕ) (el top : List ℕ) (gain k u l : ℕ) : Type 0 where

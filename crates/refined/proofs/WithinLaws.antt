@@ -1,14 +1,13 @@
 -- Ends of edges are numbers of points, before and after an exchange.
 -- Assumes nothing.
-use mathlib.Core.Path.{_≡_, refl, sym, ap, ap₂, _∙_, subst}
-use mathlib.Core.Bool.{Bool, true, false, _&&_}
+use mathlib.Core.Path.{_≡_, refl, sym, ap, _∙_, subst}
+use mathlib.Core.Bool.{Bool, _&&_}
 use mathlib.Core.List.{List, [], _∷_}
-use Prim.Native.Nat.{ℕ, zero, suc, _+_, _-_, _*_, _/_, _%_, _≤_, _<_}
+use Prim.Native.Nat.{ℕ, zero, suc, _+_, _-_, _/_, _%_, _≤_, _<_}
 use native.Mathlib.Omega.{arith}
-use native.Mathlib.Numerals.{add-one}
 use lib.Dec.{ltb, eqb}
 use lib.IntN.{ℤ}
-use lib.ListN.{length, getD, set, replicate}
+use lib.ListN.{getD, set, replicate}
 use borrow.Author.Tests.{ltb-true, ltb-false, eq-eqb, ne-eqb}
 use Rattle.plane.specs.declared.Place.{Place}
 use Rattle.plane.specs.declared.Macro.{Macro}
@@ -24,7 +23,7 @@ use Rattle.refined.specs.Prune.{marks, firstLoose, prune}
 use Rattle.refined.specs.Table.{In, Row, Small, Tree, Within, key, pairBound, pointBound, row, tree}
 use Rattle.refined.specs.Turns.{seek, turns}
 use Rattle.refined.proofs.CandidateBounds.{Fine, fine-search}
-use Rattle.refined.proofs.TurnLaws.{turns-keep, turns-below}
+use Rattle.refined.proofs.TurnLaws.{turns-keep}
 
 all-set : (P : ℕ → Type 0) (xs : List ℕ) (v x : ℕ) → P x → ((i : ℕ) → P (getD xs i 0)) → (i : ℕ) → P (getD (set xs v x) i 0)
 all-set P [] v x h l i = l i
