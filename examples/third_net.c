@@ -27,8 +27,8 @@ static calzundi_length distance(const int32_t *edge)
 int main(void)
 {
     const int32_t pins[2 * M] = {0, 0, 4, 0, 2, 3};
-    /* A list of none has an address too; it is not followed. */
-    const int32_t macros[1] = {0};
+    /* A list of none may be null. */
+    const int32_t *macros = NULL;
     int64_t paths[CALZUNDI_PATH_NUMBERS(M)];
     int32_t edges[CALZUNDI_TREE_NUMBERS(M, K)];
     size_t path_count, edge_count;

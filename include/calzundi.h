@@ -2,7 +2,7 @@
  * calzundi.h: the tree router as a static library, for C and C++ on x86-64.
  *
  * Link target/staticlib/libexports.a, which `rt staticlib exports` makes once every function in it is proved. The library keeps no
- * state, allocates nothing and prints nothing; calls from several threads do not disturb each other.
+ * state, allocates nothing and prints nothing.
  *
  *
  * A net
@@ -30,12 +30,25 @@
  *
  * What the caller sees to
  *
- * Each pointer is not null, aligned for its type and has its count behind it; for a list of none, the address of anything will do, since
- * it is not followed. What is lent to be written, counts and totals included, overlaps nothing else that is handed over. The router's
- * tables are local: a call has 512 KiB of stack to itself, which was measured and is not proved.
+ *   null       A list or a lent space with a count of 0 may be null, or any other address: it is not followed, and the call answers as
+ *              for an empty one. No other pointer is null; those to counts and totals never are, whatever the answer.
+ *   length     Behind every other pointer stands as much as its count says. Nothing past it is touched, and lists are only read. What
+ *              lent space held before does not matter.
+ *   alignment  Every other pointer is aligned for its type: 4 bytes for int32_t, 8 for int64_t and size_t, 1 for bytes. One that is not
+ *              is outside what is proved, also where x86-64 lets it pass.
+ *   overlap    What is lent to be written, counts and totals included, overlaps nothing else that is handed over. Lists may overlap each
+ *              other.
+ *   threads    While a call runs, nobody else writes its lists, and nobody else reads or writes what is lent to it. Calls at the same
+ *              time, also on the same lists, do not disturb each other, since the library keeps no state.
+ *   stack      The router's tables are local: a call has 512 KiB of stack to itself, which was measured and is not proved.
+ *
+ * No code tests any of this: a call that breaks it is undefined.
  */
 #ifndef CALZUNDI_H
 #define CALZUNDI_H
+
+/* The version. It stands here and nowhere else; the tools take it from this line, and each change request raises the second number. */
+#define CALZUNDI_VERSION "1.0"
 
 #include <stddef.h>
 #include <stdint.h>

@@ -1,15 +1,16 @@
 //! Safe calls of the static library. A slice passes as a pointer and a length, a count as a pointer; every length and every content is
-//! taken, so there is nothing to test before a call. A refusal leaves counts as they were.
+//! taken, so there is nothing to test before a call. A refusal leaves counts as they were. The bare calls stand first, as
+//! include/calzundi.h declares them and with what it asks of pointers.
 
 extern "C" {
-    fn calzundi_check(
+    pub fn calzundi_check(
         pins: *const i32,
         pins_len: usize,
         macros: *const i32,
         macros_len: usize,
     ) -> i32;
 
-    fn calzundi_graph(
+    pub fn calzundi_graph(
         pins: *const i32,
         pins_len: usize,
         macros: *const i32,
@@ -22,7 +23,7 @@ extern "C" {
         edge_count: *mut usize,
     ) -> i32;
 
-    fn calzundi_terminal_tree(
+    pub fn calzundi_terminal_tree(
         pins: *const i32,
         pins_len: usize,
         macros: *const i32,
@@ -33,7 +34,7 @@ extern "C" {
         total: *mut Total,
     ) -> i32;
 
-    fn calzundi_refined_tree(
+    pub fn calzundi_refined_tree(
         pins: *const i32,
         pins_len: usize,
         macros: *const i32,
@@ -44,7 +45,7 @@ extern "C" {
         total: *mut Total,
     ) -> i32;
 
-    fn calzundi_wires(
+    pub fn calzundi_wires(
         pins: *const i32,
         pins_len: usize,
         macros: *const i32,
@@ -54,7 +55,7 @@ extern "C" {
         count: *mut usize,
     ) -> i32;
 
-    fn calzundi_write_file(
+    pub fn calzundi_write_file(
         pins: *const i32,
         pins_len: usize,
         macros: *const i32,
@@ -64,7 +65,7 @@ extern "C" {
         given: *mut usize,
     ) -> i32;
 
-    fn calzundi_read_file(
+    pub fn calzundi_read_file(
         bytes: *const u8,
         bytes_len: usize,
         pins: *mut i32,

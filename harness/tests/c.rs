@@ -17,6 +17,8 @@ const STRICT: [&str; 6] = [
     "-Werror",
 ];
 
+const LIBRARY: &str = "target/staticlib/libexports.a";
+
 fn root() -> PathBuf {
     Path::new(env!("CARGO_MANIFEST_DIR")).join("..")
 }
@@ -38,13 +40,13 @@ fn gcc() -> Command {
     command
 }
 
-/// What a small C program that includes the header prints; it calls nothing of the library.
+/// What a small C program with the header and the library prints.
 fn printed(name: &str, body: &str) -> String {
     let folder = Path::new(env!("CARGO_TARGET_TMPDIR"));
     let (source, program) = (folder.join(format!("{name}.c")), folder.join(name));
     let text = format!("#include <stdio.h>\n#include \"calzundi.h\"\nint main(void)\n{{\n{body}    return 0;\n}}\n");
     fs::write(&source, text).unwrap();
-    run(gcc().arg(&source).arg("-o").arg(&program));
+    run(gcc().arg(&source).args([LIBRARY, "-o"]).arg(&program));
     let output = run(&mut Command::new(&program));
     String::from_utf8(output.stdout).unwrap()
 }
@@ -60,11 +62,7 @@ fn the_header_and_the_example_are_strict_c() {
 fn the_example_routes_the_third_net() {
     let program = Path::new(env!("CARGO_TARGET_TMPDIR")).join("third_net");
     run(gcc()
-        .args([
-            "examples/third_net.c",
-            "target/staticlib/libexports.a",
-            "-o",
-        ])
+        .args(["examples/third_net.c", LIBRARY, "-o"])
         .arg(&program));
     let output = run(&mut Command::new(&program));
     let file = fs::read(root().join("examples/files/three-pins.net")).unwrap();
@@ -110,4 +108,35 @@ fn the_header_works_out_what_to_lend() {
         }
     }
     assert_eq!(printed("sizes", &lines), expected);
+}
+
+/// "A list or a lent space with a count of 0 may be null": every operation answers as for an empty one, and alters no count or total.
+#[test]
+fn null_with_a_count_of_zero() {
+    let calls = [
+        ("check(NULL, 0, NULL, 0)", 11),
+        ("graph(NULL, 0, NULL, 0, NULL, 0, NULL, 0, &a, &b)", 11),
+        ("terminal_tree(NULL, 0, NULL, 0, NULL, 0, &a, &t)", 11),
+        ("refined_tree(NULL, 0, NULL, 0, NULL, 0, &a, &t)", 11),
+        ("wires(NULL, 0, NULL, 0, NULL, 0, &a)", 11),
+        ("write_file(NULL, 0, NULL, 0, NULL, 0, &a)", 11),
+        ("read_file(NULL, 0, NULL, 0, NULL, 0, &a, &b)", 21),
+        ("check(pin, 2, NULL, 0)", 0),
+        ("graph(pin, 2, NULL, 0, NULL, 0, NULL, 0, &a, &b)", 21),
+        ("terminal_tree(pin, 2, NULL, 0, NULL, 0, &a, &t)", 21),
+        ("refined_tree(pin, 2, NULL, 0, NULL, 0, &a, &t)", 21),
+        ("wires(pin, 2, NULL, 0, NULL, 0, &a)", 21),
+        ("write_file(pin, 2, NULL, 0, NULL, 0, &a)", 21),
+    ];
+    let mut lines = String::from(
+        "    const int32_t pin[2] = {5, 5};\n    size_t a = 7, b = 7;\n    calzundi_length t = 7;\n",
+    );
+    let mut expected = String::new();
+    for (call, number) in calls {
+        lines += &format!("    printf(\"%d\\n\", (int)calzundi_{call});\n");
+        expected += &format!("{number}\n");
+    }
+    lines += "    printf(\"%d %d %d\\n\", (int)a, (int)b, (int)t);\n";
+    expected += "7 7 7\n";
+    assert_eq!(printed("nulls", &lines), expected);
 }

@@ -2,29 +2,18 @@
 
 use std::fs::File;
 use std::io::Write;
-use std::path::{Path, PathBuf};
+use std::path::Path;
 use std::process::{Command, Output, Stdio};
 use std::thread;
 use std::time::{Duration, Instant};
 
 use harness::matching::{file, routed};
+use harness::program::path as program;
 use reference::generate::{net, Kind};
 use reference::lists::Lists;
 use reference::netfile;
 use reference::route::route;
 use reference::text;
-
-/// Where the prover puts the program; CALZUNDI_ROUTE names another place.
-fn program() -> PathBuf {
-    let made = Path::new(env!("CARGO_MANIFEST_DIR")).join("../target/bin/route");
-    let path = std::env::var_os("CALZUNDI_ROUTE").map_or(made, PathBuf::from);
-    let name = path.display();
-    assert!(
-        path.exists(),
-        "{name} is not there: `rt check route` makes it"
-    );
-    path
-}
 
 fn command() -> Command {
     let mut command = Command::new(program());
@@ -105,6 +94,25 @@ pins 3 macros 0 terminal 9 refined 7
     assert_eq!(printed(run(&bytes, usize::MAX), "the third net"), whole);
 }
 
+/// The bytes that `third-net` (crates/report/proofs/WorkedRoute.antt) speaks of are those of the example, and of what the gate runs.
+#[test]
+fn the_proved_example() {
+    let mut bytes = vec![0; 1_024];
+    for (at, byte) in [(0, 1), (16, 3), (504, 4), (508, 236), (509, 1)] {
+        bytes[at] = byte;
+    }
+    for (at, byte) in [(512, 2), (516, 1), (520, 3), (536, 4), (544, 2), (548, 3)] {
+        bytes[at] = byte;
+    }
+    for (at, byte) in [(1_016, 15), (1_020, 24), (1_021, 7)] {
+        bytes[at] = byte;
+    }
+    let root = Path::new(env!("CARGO_MANIFEST_DIR")).join("..");
+    for name in ["examples/files/three-pins.net", "crates/route/stdin"] {
+        assert_eq!(std::fs::read(root.join(name)).unwrap(), bytes, "{name}");
+    }
+}
+
 #[test]
 fn the_worked_nets() {
     for name in [
@@ -169,6 +177,31 @@ fn inputs_that_cannot_be_read() {
     assert_eq!(printed(nothing, "nothing"), "refused 1\n");
     let folder = command().stdin(File::open("/").unwrap()).output().unwrap();
     assert_eq!(printed(folder, "a folder"), "refused 1\n");
+}
+
+/// Standard output that cannot be written: standard error says so. The status is 0 even then, since a program of Rattle cannot set it.
+#[test]
+fn outputs_that_cannot_be_written() {
+    let said = "route: the answer could not be written to standard output\n";
+    for name in ["three-pins", "eight-pins"] {
+        let path =
+            Path::new(env!("CARGO_MANIFEST_DIR")).join(format!("../examples/files/{name}.net"));
+        let full = Command::new(program())
+            .stdin(File::open(&path).unwrap())
+            .stdout(File::options().write(true).open("/dev/full").unwrap())
+            .output()
+            .unwrap();
+        let closed = Command::new("sh")
+            .args(["-c", "exec \"$1\" >&-", "sh"])
+            .arg(program())
+            .stdin(File::open(&path).unwrap())
+            .output()
+            .unwrap();
+        for output in [full, closed] {
+            assert_eq!(String::from_utf8(output.stderr).unwrap(), said, "{name}");
+            assert!(output.status.success(), "{name}: {}", output.status);
+        }
+    }
 }
 
 /// An input without end is longer than six blocks, and the answer does not wait for more.

@@ -15,12 +15,26 @@ pub enum Failure {
     Input(String),
 }
 
-/// Runs a program: `--help` alone prints its help, and a failure is said on standard error.
+/// The version: the one that the header for C defines.
+pub fn version() -> &'static str {
+    include_str!("../../include/calzundi.h")
+        .lines()
+        .find_map(|line| line.strip_prefix("#define CALZUNDI_VERSION "))
+        .map(|quoted| quoted.trim_matches('"'))
+        .expect("the header names the version")
+}
+
+/// Runs a program: `--help` prints its help, `--version` its version, and a failure is said on standard error.
 pub fn run(name: &str, help: &str, act: impl Fn(&[OsString]) -> Result<(), Failure>) -> ExitCode {
     let words: Vec<OsString> = std::env::args_os().skip(1).collect();
     let asks_for_help = |word: &OsString| word == "--help" || word == "-h";
     let done = if words.iter().any(asks_for_help) {
         write(None, help.as_bytes())
+    } else if words.iter().any(|word| word == "--version") {
+        write(
+            None,
+            format!("{name} of Calzundi {}\n", version()).as_bytes(),
+        )
     } else {
         act(&words)
     };

@@ -13,6 +13,7 @@ use tools::netfile::{packed, unpacked};
 const PACK: &str = env!("CARGO_BIN_EXE_pack");
 const UNPACK: &str = env!("CARGO_BIN_EXE_unpack");
 const DRAW: &str = env!("CARGO_BIN_EXE_draw");
+const PROGRAMS: [(&str, &str); 3] = [(PACK, "pack"), (UNPACK, "unpack"), (DRAW, "draw")];
 
 /// Runs a program with words and an input.
 fn run(program: &str, words: &[&str], input: &[u8]) -> Output {
@@ -162,8 +163,24 @@ fn refusals_are_explained() {
 }
 
 #[test]
+fn version_of_the_header() {
+    let header = include_str!("../../include/calzundi.h");
+    for (program, name) in PROGRAMS {
+        let said = String::from_utf8(written(program, &["--version"], b"")).unwrap();
+        let version = said
+            .strip_prefix(&format!("{name} of Calzundi "))
+            .and_then(|rest| rest.strip_suffix('\n'))
+            .unwrap();
+        assert!(
+            header.contains(&format!("#define CALZUNDI_VERSION \"{version}\"\n")),
+            "{said}"
+        );
+    }
+}
+
+#[test]
 fn help_and_usage() {
-    for (program, name) in [(PACK, "pack"), (UNPACK, "unpack"), (DRAW, "draw")] {
+    for (program, name) in PROGRAMS {
         for flag in ["--help", "-h"] {
             let help = String::from_utf8(written(program, &[flag], b"")).unwrap();
             assert!(help.starts_with(&format!("{name} ")), "{help}");

@@ -43,11 +43,19 @@ pub extern "C" fn calzundi_graph(
     v: &mut usize,
     e: &mut usize,
 ) -> i32
-    ensures answer { λ r. ⌜ r ≡ pos (code (graphed (now (pins .entry)) (now (macros .entry)) (length (now (vertices .entry))) (length (now (edges .entry))))) ⌝ }
-    ensures vertices { λ _. ⌜ now (vertices .exit) ≡ after (graphed (now (pins .entry)) (now (macros .entry)) (length (now (vertices .entry))) (length (now (edges .entry)))) (flat placeNumbers (verticesOf (now (pins .entry)) (now (macros .entry)))) (now (vertices .entry)) ⌝ }
-    ensures edges { λ _. ⌜ now (edges .exit) ≡ after (graphed (now (pins .entry)) (now (macros .entry)) (length (now (vertices .entry))) (length (now (edges .entry)))) (flat edgeNumbers (edgesOf (now (pins .entry)) (now (macros .entry)))) (now (edges .entry)) ⌝ }
-    ensures v { λ _. ⌜ now (v .exit) ≡ valueAfter (λ counts. counts .0) (graphed (now (pins .entry)) (now (macros .entry)) (length (now (vertices .entry))) (length (now (edges .entry)))) (now (v .entry)) ⌝ }
-    ensures e { λ _. ⌜ now (e .exit) ≡ valueAfter (λ counts. counts .1) (graphed (now (pins .entry)) (now (macros .entry)) (length (now (vertices .entry))) (length (now (edges .entry)))) (now (e .entry)) ⌝ }
+    ensures answer { λ r. ⌜ r ≡ pos (code (graphed (now (pins .entry)) (now (macros .entry)) (length (now (vertices .entry)))
+        (length (now (edges .entry))))) ⌝ }
+    ensures vertices { λ _. ⌜ now (vertices .exit)
+        ≡ after (graphed (now (pins .entry)) (now (macros .entry)) (length (now (vertices .entry))) (length (now (edges .entry))))
+        (flat placeNumbers (verticesOf (now (pins .entry)) (now (macros .entry)))) (now (vertices .entry)) ⌝ }
+    ensures edges { λ _. ⌜ now (edges .exit) ≡ after (graphed (now (pins .entry)) (now (macros .entry)) (length (now (vertices .entry)))
+        (length (now (edges .entry)))) (flat edgeNumbers (edgesOf (now (pins .entry)) (now (macros .entry)))) (now (edges .entry)) ⌝ }
+    ensures v { λ _. ⌜ now (v .exit) ≡ valueAfter (λ counts. counts .0)
+        (graphed (now (pins .entry)) (now (macros .entry)) (length (now (vertices .entry))) (length (now (edges .entry))))
+        (now (v .entry)) ⌝ }
+    ensures e { λ _. ⌜ now (e .exit) ≡ valueAfter (λ counts. counts .1)
+        (graphed (now (pins .entry)) (now (macros .entry)) (length (now (vertices .entry))) (length (now (edges .entry))))
+        (now (e .entry)) ⌝ }
 {
     let answer = router::graph(pins, macros, &mut *vertices, &mut *edges);
     match answer {
@@ -74,9 +82,11 @@ pub extern "C" fn calzundi_terminal_tree(
         ≡ after (terminalTree (now (pins .entry)) (now (macros .entry)) (length (now (paths .entry))))
         (flat pathNumbers (pathsOf (now (pins .entry)) (now (macros .entry)))) (now (paths .entry)) ⌝ }
     ensures count { λ _. ⌜ now (count .exit)
-        ≡ valueAfter (λ tree. tree .0) (terminalTree (now (pins .entry)) (now (macros .entry)) (length (now (paths .entry)))) (now (count .entry)) ⌝ }
+        ≡ valueAfter (λ tree. tree .0) (terminalTree (now (pins .entry)) (now (macros .entry)) (length (now (paths .entry))))
+        (now (count .entry)) ⌝ }
     ensures total { λ _. ⌜ now (total .exit)
-        ≡ valueAfter (λ tree. tree .1) (terminalTree (now (pins .entry)) (now (macros .entry)) (length (now (paths .entry)))) (now (total .entry)) ⌝ }
+        ≡ valueAfter (λ tree. tree .1) (terminalTree (now (pins .entry)) (now (macros .entry)) (length (now (paths .entry))))
+        (now (total .entry)) ⌝ }
 {
     let answer = router::terminal_tree(pins, macros, &mut *paths);
     match answer {
@@ -103,9 +113,11 @@ pub extern "C" fn calzundi_refined_tree(
         ≡ after (refinedTree (now (pins .entry)) (now (macros .entry)) (length (now (edges .entry))))
         (flat edgeNumbers (laidOf (now (pins .entry)) (now (macros .entry)))) (now (edges .entry)) ⌝ }
     ensures count { λ _. ⌜ now (count .exit)
-        ≡ valueAfter (λ tree. tree .0) (refinedTree (now (pins .entry)) (now (macros .entry)) (length (now (edges .entry)))) (now (count .entry)) ⌝ }
+        ≡ valueAfter (λ tree. tree .0) (refinedTree (now (pins .entry)) (now (macros .entry)) (length (now (edges .entry))))
+        (now (count .entry)) ⌝ }
     ensures total { λ _. ⌜ now (total .exit)
-        ≡ valueAfter (λ tree. tree .1) (refinedTree (now (pins .entry)) (now (macros .entry)) (length (now (edges .entry)))) (now (total .entry)) ⌝ }
+        ≡ valueAfter (λ tree. tree .1) (refinedTree (now (pins .entry)) (now (macros .entry)) (length (now (edges .entry))))
+        (now (total .entry)) ⌝ }
 {
     let answer = router::refined_tree(pins, macros, &mut *edges);
     match answer {
@@ -185,9 +197,11 @@ pub extern "C" fn calzundi_read_file(
         ≡ after (readFile (now (bytes .entry)) (length (now (pins .entry))) (length (now (macros .entry))))
         (macrosIn (now (bytes .entry))) (now (macros .entry)) ⌝ }
     ensures m { λ _. ⌜ now (m .exit)
-        ≡ valueAfter (λ net. net .0) (readFile (now (bytes .entry)) (length (now (pins .entry))) (length (now (macros .entry)))) (now (m .entry)) ⌝ }
+        ≡ valueAfter (λ net. net .0) (readFile (now (bytes .entry)) (length (now (pins .entry))) (length (now (macros .entry))))
+        (now (m .entry)) ⌝ }
     ensures k { λ _. ⌜ now (k .exit)
-        ≡ valueAfter (λ net. net .1) (readFile (now (bytes .entry)) (length (now (pins .entry))) (length (now (macros .entry)))) (now (k .entry)) ⌝ }
+        ≡ valueAfter (λ net. net .1) (readFile (now (bytes .entry)) (length (now (pins .entry))) (length (now (macros .entry))))
+        (now (k .entry)) ⌝ }
 {
     let answer = router::read_file(bytes, &mut *pins, &mut *macros);
     match answer {

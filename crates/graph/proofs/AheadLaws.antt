@@ -171,7 +171,8 @@ module _ {ps : List Place} {ms : List Macro} (a : Allowed ps ms) (u : Place) (at
         rising v (r .stands) f
         (λ m k h.
         either
-        (λ b. let n = r .below _ (corner m k _ (lower-right m)) (and-both _ _ (lt-ltZ _ _ (h .right)) (le-leZ _ _ b)) in omega (signed, n, h .bottom))
+        (λ b. let n = r .below _ (corner m k _ (lower-right m)) (and-both _ _ (lt-ltZ _ _ (h .right)) (le-leZ _ _ b)) in
+        omega (signed, n, h .bottom))
         (λ b. unfaced m k (faces m k (h .right) b (h .top)))
         (compare (u .y) (m .bottom)))
 
@@ -208,4 +209,5 @@ module _ {ps : List Place} {ms : List Macro} (a : Allowed ps ms) (u : Place) (at
       met : LeastOf (facing u) (NoHigher (λ m. m .left)) ms → ClearAhead ps ms u
       met r =
           let f = facing-is u (r .entry) (r .passes) in
-          either (touching (r .entry) (r .stands) f) (λ off. standing-off (r .entry) (r .stands) f off (r .below)) (compare (r .entry .left) (u .x))
+          either (touching (r .entry) (r .stands) f) (λ off. standing-off (r .entry) (r .stands) f off (r .below))
+          (compare (r .entry .left) (u .x))

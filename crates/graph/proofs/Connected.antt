@@ -1,4 +1,4 @@
--- "This graph joins all its vertices for every allowed net." From a vertex with another one ahead of it some vertex ahead is clear, so it
+-- G7: the graph of every allowed net joins all its vertices. From a vertex with another one ahead of it some vertex ahead is clear, so it
 -- picks one ahead: edges lead on to a vertex that has none ahead, since at each of them fewer vertices are. There is one such vertex only.
 -- Assumes nothing.
 use mathlib.Core.Path.{_≡_, refl}
@@ -7,22 +7,17 @@ use mathlib.Core.Logic.{inl, inr}
 use mathlib.Core.List.{List}
 use Prim.Native.Nat.{ℕ, zero, suc, _<_}
 use native.Mathlib.Omega.{arith}
-use lib.IntN.{ℤ}
 use lib.ListN.{length}
 use Rattle.lists.specs.Member.{_∈_}
 use Rattle.lists.specs.Those.{those}
 use Rattle.lists.proofs.TestLaws.{by, differ, either, or-neither}
 use Rattle.lists.proofs.ThoseLaws.{those-lt}
-use Rattle.lent.specs.Told.{given}
 use Rattle.joined.specs.Joined.{Link, Joined, stay, step, Joins}
 use Rattle.joined.proofs.JoinedLaws.{then, back, cast}
 use Rattle.plane.specs.declared.Place.{Place}
 use Rattle.plane.specs.declared.Macro.{Macro}
-use Rattle.plane.specs.Flat.{placesOf, macrosOf}
 use Rattle.plane.proofs.PlaceOrder.{place-same}
 use Rattle.net.specs.Allowed.{Allowed}
-use Rattle.net.specs.Check.{checked}
-use Rattle.net.proofs.AllowedLaws.{given-allowed}
 use Rattle.graph.specs.declared.Quadrant.{Quadrant}
 use Rattle.graph.specs.declared.Quadrant.the-variants.{First, Fourth}
 use Rattle.graph.specs.declared.Picked.{Picked}
@@ -36,7 +31,7 @@ use Rattle.graph.proofs.PickLaws.{Fit, pick-at, pick-nothing}
 use Rattle.graph.proofs.EdgeLaws.{picked-link}
 use Rattle.graph.proofs.AheadLaws.{ClearAhead, clear-ahead, lowest}
 
--- "ahead" as a test
+-- being ahead, as a test
 later : Place → Place → Bool
 later u v = within First u v || within Fourth u v
 
@@ -85,8 +80,10 @@ module _ {ps : List Place} {ms : List Macro} (a : Allowed ps ms) where
     link-ahead : ClearAhead ps ms u → LinkAhead u
     link-ahead r =
         either
-        (λ e. in-quadrant First (λ w f. first-or-fourth-ahead u w (inl f)) (r .to) (r .stands) (record { in-quadrant = e; is-clear = r .is-clear }))
-        (λ e. in-quadrant Fourth (λ w f. first-or-fourth-ahead u w (inr f)) (r .to) (r .stands) (record { in-quadrant = e; is-clear = r .is-clear }))
+        (λ e. in-quadrant First (λ w f. first-or-fourth-ahead u w (inl f)) (r .to) (r .stands)
+        (record { in-quadrant = e; is-clear = r .is-clear }))
+        (λ e. in-quadrant Fourth (λ w f. first-or-fourth-ahead u w (inr f)) (r .to) (r .stands)
+        (record { in-quadrant = e; is-clear = r .is-clear }))
         (ahead-first-or-fourth u (r .to) (r .ahead))
 
   -- On to the last vertex
@@ -127,14 +124,9 @@ module _ {ps : List Place} {ms : List Macro} (a : Allowed ps ms) where
           (λ h. absurd (t .none (s .last) (s .stands) (later-of _ _ h)))
           (ahead-total (s .last) (t .last) n)
 
-  -- "This graph joins all its vertices for every allowed net."
+  -- G7: the graph of every allowed net joins all its vertices
   pub connected : Joins (vertices ps ms) (edges ms (vertices ps ms))
   connected u v i k =
       let s = to-last u i in
       let t = to-last v k in
       then (s .joined) (cast (one-last u v s t) (back (t .joined)))
-
--- whatever lists the check takes
-pub given-connected : (pins macros : List ℤ) {n : ℕ × ℕ} → checked pins macros ≡ given n
-    → Joins (vertices (placesOf pins) (macrosOf macros)) (edges (macrosOf macros) (vertices (placesOf pins) (macrosOf macros)))
-given-connected pins macros g = connected (given-allowed pins macros g .1)

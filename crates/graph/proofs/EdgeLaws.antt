@@ -36,7 +36,7 @@ use Rattle.graph.proofs.PickLaws.{pick-at}
 
 -- The order of edges, and the edge of two places
 
--- "edges are ordered by first place, then second"
+-- N16: the order of edges, by first place and then by second
 pub edge-order : Order beforeEdge
 unfolding beforeEdge
 edge-order = pair-order before before place-order place-order
@@ -124,7 +124,7 @@ module _ (ms : List Macro) (vs : List Place) where
   same-ends : {u v a b : Place} → u ≡ a → v ≡ b → PickedBy a b → PickedBy u v
   same-ends e f p = rw (e, f) p
 
-  -- "An edge joins u and v exactly when one of them picks the other."
+  -- G5: an edge is where one of its ends picks the other
   ends : (u v : Place) → (u, v) ∈ edges ms vs → PickedBy u v ⊎ PickedBy v u
   ends u v m =
       let r = of-edges m in
@@ -185,7 +185,7 @@ module _ (ms : List Macro) (vs : List Place) where
   pub record Edge (a b : Place) : Type 0 where
     pub first : a ∈ vs
     pub second : b ∈ vs
-    -- "An edge is written smaller place first"
+    -- N16: the smaller place comes first
     pub smaller-first : before a b ≡ true
     pub different : a ≡ b → ⊥
     pub is-clear : clear a b ms ≡ true
@@ -215,6 +215,6 @@ module _ (ms : List Macro) (vs : List Place) where
     pub edges-inside : Inside vs (edges ms vs)
     edges-inside a b m = let r = edge-of (a, b) m in (r .first, r .second)
 
--- "Its length is their distance.", whichever picks
+-- G6: an edge is as long as its ends are apart, whichever picks
 pub edge-length : (u v : Place) → distance (edgeOf u v .0) (edgeOf u v .1) ≡ distance u v
 edge-length u v = edge-cases (λ x. distance (x .0) (x .1) ≡ distance u v) u v (λ e. refl) (λ e. distance-comm v u)

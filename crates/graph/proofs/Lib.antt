@@ -10,5 +10,4 @@ pub mod EdgeLaws
 pub mod OutsideLaws
 pub mod AheadLaws
 pub mod Connected
-pub mod GraphOrder
 pub mod GraphBounds

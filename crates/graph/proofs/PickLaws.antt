@@ -1,6 +1,5 @@
--- Document 01's sentence about a pick, and that the pick is the one thing that it is true of. The scan is followed from the front: the
--- sentence holds of the vertices seen so far and the best among them, and the next vertex comes after all of those, so on a tie the best
--- stays.
+-- G4, the rule of a pick, and that the pick is the one thing that it is true of. The scan is followed from the front: the rule holds of
+-- the vertices seen so far and the best among them, and the next vertex comes after all of those, so on a tie the best stays.
 -- Assumes nothing.
 use mathlib.Core.Path.{_≡_, refl, sym, ap}
 use mathlib.Core.Bool.{Bool, true, false, _&&_}
@@ -25,7 +24,7 @@ use Rattle.graph.specs.declared.Picked.{Picked}
 use Rattle.graph.specs.declared.Picked.the-variants.{At, Nothing}
 use Rattle.graph.specs.Pick.{within, nearer, better, pickFrom, pick}
 
--- v is before w in what u prefers: "at the smallest distance, the smallest place on a tie"
+-- G4: v is before w in what u prefers, by distance and then by place
 abbrev pub Preferred : Place → Place → Place → Type 0
 Preferred u v w = (distance u v < distance u w) ⊎ ((distance u v ≡ distance u w) × ((v ≡ w) ⊎ (before v w ≡ true)))
 
@@ -46,7 +45,7 @@ module _ (ms : List Macro) (q : Quadrant) (u : Place) where
     pub in-quadrant : within q u v ≡ true
     pub is-clear : clear u v ms ≡ true
 
-  -- "In each quadrant u picks the clear vertex at the smallest distance, the smallest place on a tie, or none."
+  -- G4: in a quadrant u picks the nearest clear vertex, of several the smallest, or none
   pub record PicksAt (vs : List Place) (v : Place) : Type 0 where
     pub stands : v ∈ vs
     pub fit : Fit v
@@ -127,7 +126,7 @@ module _ (ms : List Macro) (q : Quadrant) (u : Place) where
       (λ w x i j. either (λ k. rw k (a .0 x j)) (λ l. o w x l (there j)) (List·Memᴰ·cases-cons i))
       (turn seen best v (λ w i. o w v i (here refl)) h)
 
-  -- the sentence speaks of what a list holds
+  -- the rule speaks of what a list holds
   same-entries : (k l : List Place) → Among k l → Among l k → (p : Picked) → Picks k p → Picks l p
   same-entries k l s t Nothing h = λ w i f. h w (t w i) f
   same-entries k l s t (At v) h = record { stands = s v (h .stands); fit = h .fit; least = λ w i f. h .least w (t w i) f }
@@ -138,7 +137,7 @@ module _ (ms : List Macro) (q : Quadrant) (u : Place) where
       same-entries (reverse vs) vs (of-reverse vs) (in-reverse vs) (pick ms q u vs)
       (scan vs [] Nothing a (λ w v i j. elim i [ ]) (λ w i f. elim i [ ]))
 
-  -- only one answer makes the sentence true
+  -- only one answer makes the rule true
   one-answer : (vs : List Place) (p r : Picked) → Picks vs p → Picks vs r → p ≡ r
   one-answer vs (At v) (At w) h k = ap At (preferred-one u v w (h .least w (k .stands) (k .fit)) (k .least v (h .stands) (h .fit)))
   one-answer vs (At v) Nothing h k = absurd (k v (h .stands) (h .fit))
@@ -154,14 +153,3 @@ module _ (ms : List Macro) (q : Quadrant) (u : Place) where
 
   pub pick-nothing : (vs : List Place) → Ascending before vs → pick ms q u vs ≡ Nothing → (w : Place) → w ∈ vs → Fit w → ⊥
   pick-nothing vs a e = rw e at (pick-is vs a)
-
--- of the macros a pick asks only what is clear
-module _ (ms ns : List Macro) (q : Quadrant) (u : Place) (agree : (v : Place) → clear u v ms ≡ clear u v ns) where
-  scan-agree : (vs : List Place) (best : Picked) → pickFrom ms q u best vs ≡ pickFrom ns q u best vs
-  unfolding pickFrom better
-  scan-agree [] best = refl
-  scan-agree (v ∷ vs) best = rw (agree v) (scan-agree vs (better ns q u best v))
-
-  pub pick-agree : (vs : List Place) → pick ms q u vs ≡ pick ns q u vs
-  unfolding pick
-  pick-agree vs = scan-agree vs Nothing

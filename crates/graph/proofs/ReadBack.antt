@@ -24,5 +24,6 @@ flat-places (p ∷ ps) = ap (λ (l : List ℤ). p .x ∷ (p .y ∷ l)) (flat-pla
 pub vertices-back : (vs : List Place) (lent table : List ℤ) (n : ℕ) → table ≡ over (flat placeNumbers vs) lent → n ≡ length vs
     → placesOf (take (n * 2) table) ≡ vs
 vertices-back vs lent table n t e =
-    let long : n * 2 ≡ length (flat placeNumbers vs) = ap (λ (k : ℕ). k * 2) e ∙ sym (length-flat placeNumbers placeFrom 2 place-width vs) in
+    let long : n * 2 ≡ length (flat placeNumbers vs) = ap (λ (k : ℕ). k * 2) e
+    ∙ sym (length-flat placeNumbers placeFrom 2 place-width vs) in
     ap placesOf (ap₂ take long t ∙ take-over (flat placeNumbers vs) lent ∙ flat-places vs) ∙ places-flat vs

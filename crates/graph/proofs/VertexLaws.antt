@@ -7,10 +7,10 @@ use mathlib.Core.List.{List, [], _∷_, _++_, List·Memᴰ·append-cases, Memᴰ
 use Prim.Native.Nat.{_+_, _*_, _≤_}
 use native.Mathlib.Omega.{arith}
 use lib.ListN.{length, length-append}
-use Rattle.lists.specs.Member.{_∈_, here, there, Among}
+use Rattle.lists.specs.Member.{_∈_, here, there}
 use Rattle.lists.specs.Sorted.{Ascending}
 use Rattle.lists.proofs.TestLaws.{either}
-use Rattle.lists.proofs.EachLaws.{Piece, of-each, in-each, each-among, length-each}
+use Rattle.lists.proofs.EachLaws.{Piece, of-each, in-each, length-each}
 use Rattle.lists.proofs.SortedLaws.{of-sorted, in-sorted, length-sorted, sorted-ascending}
 use Rattle.plane.specs.declared.Place.{Place}
 use Rattle.plane.specs.declared.Macro.{Macro}
@@ -64,9 +64,6 @@ of-corners = of-each cornersOf corners none more
 pub in-corners : (ms : List Macro) {m : Macro} {c : Place} → m ∈ ms → c ∈ cornersOf m → c ∈ corners ms
 in-corners = in-each cornersOf corners none more
 
-pub corners-among : (ms ns : List Macro) → Among ms ns → Among (corners ms) (corners ns)
-corners-among = each-among cornersOf corners none more
-
 four : (m : Macro) → length (cornersOf m) ≤ 4
 unfolding cornersOf
 four m = omega arith
@@ -74,7 +71,7 @@ four m = omega arith
 -- Vertices
 
 module _ (ps : List Place) (ms : List Macro) where
-  -- "Vertices: all pins and all macro corners"
+  -- G1: pins and corners of macros, and nothing else
   pub pin-vertex : {p : Place} → p ∈ ps → p ∈ vertices ps ms
   unfolding vertices
   pin-vertex i = in-sorted before place-order (ps ++ corners ms) _ (Memᴰ·append-left (corners ms) i)
@@ -87,13 +84,19 @@ module _ (ps : List Place) (ms : List Macro) where
   unfolding vertices
   of-vertices i = either inl (λ k. inr (of-corners ms k)) (List·Memᴰ·append-cases ps (of-sorted before (ps ++ corners ms) _ i))
 
-  -- "equal places are one vertex", and they are in order
+  -- G1: equal places are one vertex, and they are in order
   pub vertices-ascending : Ascending before (vertices ps ms)
   unfolding vertices
   vertices-ascending = sorted-ascending before place-order (ps ++ corners ms)
 
-  -- "n = m + 4k"
+  -- N7: at most n of them
   pub length-vertices : length (vertices ps ms) ≤ length ps + 4 * length ms
   unfolding vertices
   length-vertices =
-      omega (arith, length-sorted before (ps ++ corners ms), length-append ps (corners ms), length-each cornersOf corners none more 4 four ms)
+      omega (
+        arith,
+        length-sorted before (ps ++ corners ms),
+        length-append ps (corners ms),
+        length-each cornersOf corners none more 4 four
+            ms,
+      )

@@ -1,4 +1,4 @@
--- The graphs of document 01's worked nets, by computing the definitions.
+-- The graphs of the worked nets E1 to E6 and E8, by computing the definitions.
 -- Assumes nothing.
 use mathlib.Core.Path.{_≡_, refl}
 use mathlib.Core.List.{List, [], _∷_}
@@ -18,7 +18,8 @@ use Rattle.graph.specs.Edges.{edgeOf, beforeEdge, edgeOfPick, picksOf, a
 
 -- the edges of a net; to unfold this is to unfold all that it rests on
 unfoldable pub graphOf : Lists → List (Place × Place)
-unfolding any put sorted firstThen minZ maxZ before apart distance spanMeets meets clear placesOf macrosOf cornersOf corners vertices within nearer better pickFrom pick edgeOf beforeEdge edgeOfPick picksOf allPicks edges
+unfolding any put sorted firstThen minZ maxZ before apart distance spanMeets meets clear placesOf macrosOf cornersOf corners vertices
+    within nearer better pickFrom pick edgeOf beforeEdge edgeOfPick picksOf allPicks edges
 graphOf net = edges (macrosOf (net .macros)) (vertices (placesOf (net .pins)) (macrosOf (net .macros)))
 
 -- an edge by its four numbers
@@ -26,9 +27,9 @@ abbrev edge : ℤ → ℤ → ℤ → ℤ → Place × Place
 edge a b c d = (place a b, place c d)
 
 pub record Table : Type 0 where
-  -- "One pin (5, 5): no edges"
+  -- E1: one pin, no edge
   pub one-pin : graphOf onePin ≡ []
-  -- "eight graph edges"
+  -- E3: eight edges
   pub around-one :
       graphOf aroundOne
       ≡ edge (pos 0) (pos 0) (pos 4) (negsuc 1)

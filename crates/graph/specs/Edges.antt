@@ -1,21 +1,20 @@
--- "An edge joins u and v exactly when one of them picks the other."
+-- G5: an edge joins two vertices where one of them picks the other.
 use mathlib.Core.Bool.{Bool, true, false}
 use mathlib.Core.List.{List, [], _∷_, _++_}
 use Rattle.lists.specs.Sorted.{sorted, firstThen}
 use Rattle.plane.specs.declared.Place.{Place}
 use Rattle.plane.specs.declared.Macro.{Macro}
 use Rattle.plane.specs.Place.{before}
-use Rattle.graph.specs.declared.Quadrant.{Quadrant}
 use Rattle.graph.specs.declared.Quadrant.the-variants.{First, Second, Third, Fourth}
 use Rattle.graph.specs.declared.Picked.{Picked}
 use Rattle.graph.specs.declared.Picked.the-variants.{At, Nothing}
 use Rattle.graph.specs.Pick.{pick}
 
--- "An edge is written smaller place first"
+-- N16: an edge has its smaller place first
 unfoldable pub edgeOf : Place → Place → Place × Place
 edgeOf u v = elim (before u v) [ true ↦ (u, v) | false ↦ (v, u) ]
 
--- "edges are ordered by first place, then second"
+-- N16: edges go by first place, then by second
 unfoldable pub beforeEdge : Place × Place → Place × Place → Bool
 beforeEdge = firstThen before before
 

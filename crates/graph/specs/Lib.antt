@@ -1,4 +1,4 @@
--- The spanning graph of a net: document 01, "Spanning graph".
+-- The spanning graph of a net: rules G1 to G7.
 --
 -- The graph is a function of the sorted vertices and of what is clear, and of nothing else, so that the order of the lists is forgotten in
 -- one place. An edge is the pair of its ends, smaller place first. Every tie is settled by the order of places: vertices are scanned in

@@ -1,8 +1,7 @@
--- A place and an edge as the numbers that are given: "Both are given in order, an edge as four numbers."
+-- A place and an edge as the numbers that are given (C62): two for a place, four for an edge.
 use mathlib.Core.List.{List, [], _∷_}
 use Prim.Native.Nat.{ℕ, _+_}
-use lib.IntN.{ℤ, pos}
-use lib.ListN.{getD}
+use lib.IntN.{ℤ}
 use Rattle.plane.specs.declared.Place.{Place}
 use Rattle.plane.specs.Flat.{placeFrom}
 

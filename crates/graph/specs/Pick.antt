@@ -1,7 +1,6 @@
 -- Quadrants and picks.
-use mathlib.Core.Bool.{Bool, true, false, cond, _&&_}
+use mathlib.Core.Bool.{Bool, true, cond, _&&_}
 use mathlib.Core.List.{List, [], _∷_}
-use Prim.Native.Nat.{ℕ}
 use lib.Dec.{ltb}
 use lib.Signed.{ltZ, leZ}
 use Rattle.plane.specs.declared.Place.{Place}
@@ -13,7 +12,7 @@ use Rattle.graph.specs.declared.Quadrant.the-variants.{First, Second, Th
 use Rattle.graph.specs.declared.Picked.{Picked}
 use Rattle.graph.specs.declared.Picked.the-variants.{At, Nothing}
 
--- "First: x greater, y not less. Second: x not greater, y greater. Third: x less, y not greater. Fourth: x not less, y less."
+-- G2: the four quadrants of u, each open at one of its sides and closed at the other
 unfoldable pub within : Quadrant → Place → Place → Bool
 within First u v = ltZ (u .x) (v .x) && leZ (u .y) (v .y)
 within Second u v = leZ (v .x) (u .x) && ltZ (u .y) (v .y)
@@ -33,7 +32,7 @@ unfoldable pub pickFrom : List Macro → Quadrant → Place → Picked → List 
 pickFrom ms q u best [] = best
 pickFrom ms q u best (v ∷ vs) = pickFrom ms q u (better ms q u best v) vs
 
--- "In each quadrant u picks the clear vertex at the smallest distance, the smallest place on a tie, or none." The vertices come in order, so
--- the first of the nearest stays.
+-- G4: in a quadrant u picks the nearest vertex that is clear of it, of several the smallest, or none. The vertices come in order, so the
+-- first of the nearest stays.
 unfoldable pub pick : List Macro → Quadrant → Place → List Place → Picked
 pick ms q u vs = pickFrom ms q u Nothing vs

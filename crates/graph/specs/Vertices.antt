@@ -1,4 +1,4 @@
--- "Vertices: all pins and all macro corners; equal places are one vertex."
+-- G1: the vertices are the pins and the corners of macros, equal places once.
 use mathlib.Core.List.{List, [], _∷_, _++_}
 use Rattle.lists.specs.Sorted.{sorted}
 use Rattle.plane.specs.declared.Place.{Place}

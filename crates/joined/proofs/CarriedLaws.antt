@@ -1,6 +1,6 @@
--- What a map of points carries over: ways with their lengths, terminal paths, chains, joinings, our way and what is kept. Links go to links,
--- so ways to ways and joined to joined; where the map is undone on the points in question, different points stay different, so loop-free
--- stays loop-free, and a path that stands once stands once. The same laws lead from numbers to places and back.
+-- What a map of points carries over: ways with their lengths, terminal paths, chains, joinings, our way and what is kept. Links go to
+-- links, so ways to ways and joined to joined; where the map is undone on the points in question, different points stay different, so
+-- loop-free stays loop-free, and a path that stands once stands once. The same laws lead from numbers to places and back.
 -- Assumes nothing.
 use mathlib.Core.Path.{_≡_, refl, sym, ap, ap₂, _∙_, subst}
 use mathlib.Core.Logic.{_⊎_, inl, inr}
@@ -48,7 +48,8 @@ module _ {A B : Type 0} (f : A → B) where
 -- Terminal paths
 
 -- f sends the pairs of L to pairs of M and the pins to the others; on the points X, where pairs and pins are, g undoes it
-pub record Carries {A B : Type 0} (f : A → B) (g : B → A) (X : A → Type 0) (L : List (A × A)) (M : List (B × B)) (pins : List A) (others : List B)
+pub record Carries {A B : Type 0} (f : A → B) (g : B → A) (X : A → Type 0) (L : List (A × A)) (M : List (B × B)) (pins : List A)
+    (others : List B)
     : Type 0 where
   pub pair : (a b : A) → (a, b) ∈ L → (f a, f b) ∈ M
   pub inside : (a b : A) → (a, b) ∈ L → X a × X b
@@ -190,7 +191,8 @@ module _ {A B C D : Type 0} (same : Discrete A) (alike : Discrete C) (f : A → 
         pair a b m =
             let s = of-map ends K m in
             let e = match (s .entry) (s .stands) .0 in
-            between (ap f (firsts (s .is)) ∙ sym (e .0)) (ap f (seconds (s .is)) ∙ sym (e .1)) (one (inl (in-map span (in-map h (s .stands)))))
+            between (ap f (firsts (s .is)) ∙ sym (e .0)) (ap f (seconds (s .is)) ∙ sym (e .1))
+            (one (inl (in-map span (in-map h (s .stands)))))
 
     joined-back : {u v : C} → Joined (map span (map h K)) u v → Joined (map ends K) (g u) (g v)
     joined-back j = carried g pair j

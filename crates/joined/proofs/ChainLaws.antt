@@ -1,6 +1,6 @@
 -- Chains of paths and ways along their ends. A chain joins its ends, and different points that are joined have a chain. With the points
--- that a chain passes, it is a way: where each pair of ends is a cut, two paths with the same ends are one, so that "no path twice" means
--- no step twice, hence loop-free, and the only loop-free way gives the only chain with no path twice.
+-- that a chain passes, it is a way: where each pair of ends is a cut, two paths with the same ends are one, so that to repeat no path is to
+-- repeat no step, hence loop-free, and the only loop-free way gives the only chain that repeats no path.
 -- Assumes nothing.
 use mathlib.Core.Path.{_≡_, refl, sym, ap, ap₂, _∙_, subst}
 use mathlib.Core.Logic.{inl, inr}
@@ -37,7 +37,7 @@ module _ {A B : Type 0} (ends : B → A × A) where
       at (yes e) = stay e
       at (no n) = leads-joined (h x y i k n)
 
-  -- "for one pin the empty set is a joining"
+  -- T19: with one pin, no path at all is a joining
   pub lone-joining : (pin : A) → Joining ends (pin ∷ []) []
   lone-joining pin x y i k n = absurd (n (List·Memᴰ·eq-of-singleton i ∙ sym (List·Memᴰ·eq-of-singleton k)))
 

@@ -14,7 +14,8 @@ use Rattle.lists.proofs.MapLaws.{in-map, of-map}
 use Rattle.joined.specs.Joined.{Joined, stay, step, Joins, Inside, Across, beside, forwards, backwards}
 use Rattle.joined.specs.Labels.{renamed}
 use Rattle.joined.specs.Tree.{Forest}
-use Rattle.joined.proofs.JoinedLaws.{one, cast, then, back, between, carried, through, older, by-none, without-first, firsts, seconds}
+use Rattle.joined.proofs.JoinedLaws.{one, cast, then, back, between, carried, through, older, by-none, without-first, firsts}
+use Rattle.joined.proofs.JoinedLaws.{seconds}
 use Rattle.joined.proofs.LabelLaws.{Renames, hit, miss, renames, renamed-hit, renamed-miss, renamed-fix}
 
 -- Contraction of the pair of a and b: b is renamed to a

@@ -62,7 +62,8 @@ module _ {A : Type 0} {T : List (A × A)} {a b u : A} (w : Toward T u a b) {p q 
         ((c d : A) → c ∈ (x ∷ ps) → d ∈ (x ∷ ps) → Alike c d p q → ⊥) → Joined U x y
     part v on-way not-cut =
         along v
-        (λ c d i k l. either (λ e. absurd (not-edge (on-way c i) (on-way d k) e)) (either (λ e. absurd (not-cut c d i k e)) one) (still c d l))
+        (λ c d i k l. either (λ e. absurd (not-edge (on-way c i) (on-way d k) e)) (either (λ e. absurd (not-cut c d i k e)) one)
+        (still c d l))
 
     before-joined : Joined U u p
     before-joined =
@@ -88,7 +89,8 @@ module _ {A : Type 0} {T : List (A × A)} {a b u : A} (w : Toward T u a b) {p q 
         pairs c d m = either (λ e. alike-joined e (then (back sa) sb)) (either (λ e. alike-joined e round) one) (still c d (inl m))
 
     -- with the right count it is a tree, over points that are s or were there
-    pub exchange-tree : {X Y : List A} → Tree X T → a ∈ X → Once Y → ((y : A) → y ∈ Y → (y ≡ s) ⊎ (y ∈ X)) → suc (length U) ≡ length Y → Tree Y U
+    pub exchange-tree : {X Y : List A} → Tree X T → a ∈ X → Once Y → ((y : A) → y ∈ Y → (y ≡ s) ⊎ (y ∈ X)) → suc (length U) ≡ length Y →
+        Tree Y U
     exchange-tree {X} t ia o known size = record { once = o; joins = λ x y i k. then (back (to (known x i))) (to (known y k)); size = size }
       where
         to : {y : A} → (y ≡ s) ⊎ (y ∈ X) → Joined U s y
@@ -173,7 +175,7 @@ module _ {A : Type 0} {T : List (A × A)} {a b u : A} (edge : Link T a b) (w : T
           left-inside : (c, d) ∈ left → (c ∈ (s ∷ X)) × (d ∈ (s ∷ X))
           left-inside i = let g = h c d (left-among (c, d) i) in (there (g .0), there (g .1))
 
-    -- "The gain is the length of L less the distance of s and u", where s lies between a and b
+    -- R9, R14: what is laid is shorter by the gain, where s lies between a and b
     pub exchange-lengths : (d : A → A → ℕ) → Cost d → d s a + d s b ≡ d a b → lengths d after + d p q ≡ lengths d T + d s u
     unfolding total
     exchange-lengths d c h =

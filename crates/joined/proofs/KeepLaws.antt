@@ -86,7 +86,8 @@ module _ {A B : Type 0} (same : Discrete A) (ends : B → A × A) (weight : B �
 
       at : light weight t (keep same ends L) ≡ keep same ends (light weight t L) → Dec (weight e ≤ t) →
           light weight t (keep same ends (e ∷ L)) ≡ keep same ends (light weight t (e ∷ L))
-      at ih (no k) = let l : t < weight e = omega arith in above-t ih l (keeps same ends e L) ∙ ap (keep same ends) (sym (light-miss weight t e L l))
+      at ih (no k) = let l : t < weight e = omega arith in above-t ih l (keeps same ends e L)
+          ∙ ap (keep same ends) (sym (light-miss weight t e L l))
       at ih (yes k) =
           light-all weight t (keep same ends (e ∷ L)) (λ d m. light-each k d (keep-among same ends (e ∷ L) d m))
           ∙ ap (keep same ends) (sym (light-all weight t (e ∷ L) (light-each k)))

@@ -12,6 +12,7 @@ pub mod OneTreeLaws
 -- Kruskal's choice
 pub mod LightLaws
 pub mod KeepLaws
+pub mod KeepingLaws
 pub mod TableLaws
 pub mod ShortestLaws
 pub mod ChainLaws

@@ -1,5 +1,5 @@
--- A tree by the count of its pairs is one tree in the document's words, and one tree in the document's words, whose edges are listed each
--- once, is a tree by the count. Forth by the only loop-free way; back because a pair that the others join would be a second way.
+-- A tree by the count of its pairs is one tree as R20 has it, and one tree as R20 has it, whose edges are listed each once, is a tree by
+-- the count. Forth by the only loop-free way; back because a pair that the others join would be a second way.
 -- Assumes nothing.
 use mathlib.Core.Path.{_≡_, refl, sym, ap, _∙_}
 use mathlib.Core.Logic.{inl, inr}
@@ -53,7 +53,8 @@ module _ {A : Type 0} (same : Discrete A) {X : List A} {T : List (A × A)} where
         at : Free (rest m) a b → OneWay X T a b → ⊥
         at f w =
             second a b m (f .points) (f .way)
-            (w .only (f .points) (way-more (λ e i. rest-in m i) (f .way)) (f .once) ∙ sym (w .only (b ∷ []) (go (inl m) (stop refl)) step-once))
+            (w .only (f .points) (way-more (λ e i. rest-in m i) (f .way)) (f .once)
+            ∙ sym (w .only (b ∷ []) (go (inl m) (stop refl)) step-once))
 
     one-joins : Joins X T
     one-joins x y i k = at (same x y)

@@ -25,7 +25,8 @@ use Rattle.joined.proofs.KeepLaws.{keep-among, keep-forest, keep-joined
 use Rattle.joined.proofs.LightLaws.{of-light, in-light, in-heavy}
 use Rattle.joined.proofs.LightLaws.{length-split, length-heavy, falling-reverse}
 
-module _ {A B : Type 0} (same : Discrete A) (ends : B → A × A) (weight : B → ℕ) {X : List A} {L : List B} (o : Offered ends weight X L) where
+module _ {A B : Type 0} (same : Discrete A) (ends : B → A × A) (weight : B → ℕ) {X : List A} {L : List B}
+    (o : Offered ends weight X L) where
   -- what is offered and what is kept, the last first
   abbrev M : List B
   M = reverse L

@@ -131,6 +131,20 @@ module _ {A : Type 0} where
     turned-on (stop e) qs a b o = subst (λ (z : A). On a b z qs) e o
     turned-on (go {x = x} l w) qs a b o = turned-on w (x ∷ qs) a b (inr o)
 
+    -- and so is what is on it, the other way round
+    pub turned-back : {x y : A} {ps : List A} → Way L x ps y → (qs : List A) (a b : A) → On a b x ps → On a b y (turned x ps qs)
+    unfolding turned
+    turned-back (stop e) qs a b o = absurd o
+    turned-back (go {x = x} l w) qs a b (inl e) = turned-on w (x ∷ qs) a b (inl (either (λ k. inr k) (λ k. inl k) e))
+    turned-back (go {x = x} l w) qs a b (inr o) = turned-back w (x ∷ qs) a b o
+
+    -- a step is a link
+    pub on-link : {x y : A} {ps : List A} → Way L x ps y → (a b : A) → On a b x ps → Link L a b
+    on-link (stop e) a b o = absurd o
+    on-link (go l w) a b (inl (inl e)) = rw (e .0, e .1) l
+    on-link (go l w) a b (inl (inr e)) = rw (e .0, e .1) (turn l)
+    on-link (go l w) a b (inr o) = on-link w a b o
+
     -- two loop-free ways from a point that share no other point
     pub turned-once : {x y : A} {ps : List A} → Way L x ps y → (qs : List A) → Once (x ∷ ps) → Once (x ∷ qs) →
         ((z : A) → z ∈ ps → z ∈ (x ∷ qs) → ⊥) → Once (y ∷ turned x ps qs)

@@ -1,15 +1,15 @@
--- Chains of paths, joinings, and our way: document 01, "Terminal tree". A path is anything that has two ends; the ends are pins.
+-- Chains of paths, joinings, and our way: rules T17 to T20. A path is anything that has two ends; the ends are pins.
 use mathlib.Core.Path.{_≡_}
 use mathlib.Core.List.{List, [], _∷_}
 use Rattle.lists.specs.Member.{_∈_, Among, Once}
 use Rattle.joined.specs.Joined.{Alike}
 
 module _ {A B : Type 0} (ends : B → A × A) where
-  -- "A path may be read from either end."
+  -- T3: a path is read from either end
   abbrev pub Reads : B → A → A → Type 0
   Reads b x y = Alike x y (ends b .0) (ends b .1)
 
-  -- "A chain from one pin to another is a list of one or more terminal paths, each beginning at the pin where the one before ended."
+  -- T17: a chain is one path or more, each starting where the one before it stopped
   pub data Chain : A → List B → A → Type 0 where
     last : {b : B} {x y : A} → Reads b x y → Chain x (b ∷ []) y
     next : {b : B} {bs : List B} {x y z : A} → Reads b x y → Chain y bs z → Chain x (b ∷ bs) z
@@ -20,12 +20,11 @@ module _ {A B : Type 0} (ends : B → A × A) where
     pub chain : Chain x paths y
     pub among : Among paths J
 
-  -- "A set of terminal paths is a joining when a chain of its paths leads from each pin to each other one; for one pin the empty set is a
-  -- joining."
+  -- T18: from each pin to each other one a chain of its paths leads; T19: so with one pin nothing is asked
   abbrev pub Joining : List A → List B → Type 0
   Joining pins J = (x y : A) → x ∈ pins → y ∈ pins → (x ≡ y → ⊥) → Leads J x y
 
-  -- "Our way between two pins is the chain of kept paths with no path twice."
+  -- T20: our way is the chain of kept paths that repeats none
   pub record OurWay (K : List B) (x y : A) (paths : List B) : Type 0 where
     pub chain : Chain x paths y
     pub among : Among paths K

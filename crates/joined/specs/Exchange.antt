@@ -1,4 +1,4 @@
--- One round of the refiner on the pairs of a tree: document 01, "Refined tree".
+-- One round of the refiner on the pairs of a tree: rules R7 to R13.
 use mathlib.Core.Path.{_≡_}
 use mathlib.Core.List.{List, [], _∷_, _++_}
 use Rattle.lists.specs.Member.{_∈_}
@@ -6,7 +6,7 @@ use Rattle.joined.specs.Joined.{Link, Alike}
 use Rattle.joined.specs.Way.{Way, Free}
 
 module _ {A : Type 0} where
-  -- "the tree way from u to whichever of a and b it meets first": loop-free, to the near one, and not through the far one
+  -- R8, the way that L is on: from u, loop-free, to the near one of a and b, and not through the far one
   pub record Toward (T : List (A × A)) (u a b : A) : Type 0 where
     pub near : A
     pub far : A
@@ -31,7 +31,7 @@ module _ {A : Type 0} where
   abbrev pub three : A → A → A → List A
   three a b u = a ∷ (b ∷ (u ∷ []))
 
-  -- "lays s–a, s–b and s–u, except any of length zero": laid same s (three a b u)
+  -- R13: s–a, s–b and s–u are laid, none of length zero: laid same s (three a b u)
   unfoldable pub laid : Discrete A → A → List A → List (A × A)
   laid same s [] = []
   laid same s (x ∷ l) = elim (same s x) [ yes e ↦ laid same s l | no e ↦ (s, x) ∷ laid same s l ]

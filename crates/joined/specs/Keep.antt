@@ -7,7 +7,7 @@ use Rattle.joined.specs.Joined.{Joined, Joins, Inside}
 use Rattle.joined.specs.Labels.{equal, labels}
 use Rattle.joined.specs.Light.{Rising, light}
 
--- "One is kept when its two roots are not yet joined by bridges kept before."
+-- T13: a bridge is kept where those kept before it do not join its two roots.
 -- Here the item at the head of the list is offered last, so that what is offered before it is the rest of the list.
 unfoldable pub keep : {A B : Type 0} → Discrete A → (B → A × A) → List B → List B
 keep same ends [] = []
@@ -19,6 +19,15 @@ keep same ends (e ∷ L) =
 -- the items kept, in the order kept, when the item at the head of the list is offered first
 unfoldable pub kept : {A B : Type 0} → Discrete A → (B → A × A) → List B → List B
 kept same ends L = reverse (keep same ends (reverse L))
+
+-- The same as a relation, with nothing that computes: where `before` are kept already, of the items `offered`, one after another, `chosen`
+-- are kept. An item is kept exactly when its ends are not joined by those kept before it.
+pub data Keeping {A B : Type 0} (ends : B → A × A) : List B → List B → List B → Type 0 where
+  over : {before : List B} → Keeping ends before [] []
+  takes : {e : B} {before offered chosen : List B} → (Joined (map ends before) (ends e .0) (ends e .1) → ⊥) →
+      Keeping ends (e ∷ before) offered chosen → Keeping ends before (e ∷ offered) (e ∷ chosen)
+  leaves : {e : B} {before offered chosen : List B} → Joined (map ends before) (ends e .0) (ends e .1) →
+      Keeping ends before offered chosen → Keeping ends before (e ∷ offered) chosen
 
 module _ {A B : Type 0} (ends : B → A × A) (weight : B → ℕ) where
   -- what is asked of the items that are offered to join the points X: they join them, and the lighter comes first

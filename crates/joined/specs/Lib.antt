@@ -1,17 +1,17 @@
 -- Points joined by pairs: trees, loop-free ways, and the shortest joining.
 --
--- WHAT IT IS ABOUT. Document 01 speaks of pins that terminal paths join, and of tree points that edges join. Both are points of any type A
--- and a list of things with two ends. This theory says, over any A, what is joined, what a tree is, that a tree has exactly one loop-free
+-- WHAT IT IS ABOUT. The rules speak of pins that terminal paths join, and of tree points that edges join. Both are points of any type A and
+-- a list of things with two ends. This theory says, over any A, what is joined, what a tree is, that a tree has exactly one loop-free
 -- way between two points, that Kruskal's choice is a joining which no joining is shorter than, and that the refiner's exchange and its
 -- pruning keep a tree a tree. Later crates put in pins or places for points, the ends of paths or edges for pairs, the length of a path or
 -- the distance of two places for the cost. Nothing here knows a coordinate, and nothing needs the points to be in an order.
 --
 -- WHICH REPRESENTATION, AND WHY.
---  * Pairs are a LIST of A × A, read either way (`Link`), and membership is a position. So "all pairs but this one" (`others l`, or `rest m`)
+--  * Pairs are a LIST of A × A, read either way (`Link`), and membership is a position. So all pairs but this one (`others l`, or `rest m`)
 --    needs no search, and lists in which a pair stands twice need no care: that a tree has none is a theorem.
 --  * `Joined` and `Way` are data whose last constructor carries an equation, so that an end is exchanged for an equal one for free. One law
 --    carries most of the proofs: `carried`, what a map makes of joined points is joined when it is so for each pair.
---  * A TREE is "all points joined, and one pair fewer than points". An exchange is then two facts, that all is still joined and that the
+--  * A TREE is: all points joined, and one pair fewer than points. An exchange is then two facts, that all is still joined and that the
 --    count is right; that each pair is a cut, that no pair stands twice and that the loop-free way is unique follow.
 --  * Both counts are by contracting a pair: to join n points takes n − 1 pairs (`enough`), and a forest has no more (`at-most`). From
 --    `enough` alone follows that no joining is shorter: for each t the kept items up to t with another joining's paths above t join all
@@ -24,16 +24,17 @@
 -- WHAT IS ASKED, each in one record or name: `Discrete A`, where two points must be told apart; `Cost d`; `Offered` and `Dominated`, what
 -- Kruskal's choice needs of the bridges; `Hangs`, what the union of the kept paths must look like.
 --
--- IN THE DOCUMENT'S WORDS (Path.antt, Chain.antt, OneTree.antt, Keep.antt, Exchange.antt)
+-- WHAT THE RULES SAY (Path.antt, Chain.antt, OneTree.antt, Keep.antt, Exchange.antt)
 --   TerminalPath L pins       a loop-free path along L between different pins, with no pin inside
 --   Chain ends x bs y         a chain of the paths bs leads from x to y
 --   Joining ends pins J       a chain of paths of J leads from each pin to each other
---   OurWay ends K x y bs      bs is the chain of kept paths from x to y with no path twice
+--   OurWay ends K x y bs      bs is the chain of kept paths from x to y that repeats none
 --   OneWay, OneTree pins T    exactly one loop-free way along T; such a way from each point, pin or end of an edge, to each other
 --   kept same ends L          the items of L that are kept, each offered after those before it
---   Toward T u a b            the tree way from u to whichever of a and b it meets first
+--   Keeping ends bs L ks      the same as a relation: after bs, of the items L those of ks are kept
+--   Toward T u a b            the tree way from u to the one of a and b that comes first
 --   steps x ps                the edges of a way, of which the refiner's L is one
---   laid same s l             the pairs from s to the points of l, except any of length zero
+--   laid same s l             the pairs from s to the points of l, none of length zero
 --
 -- JOINED (Joined.antt)
 --   Link L x y                a pair of L has the ends x and y, read one way or the other

@@ -7,7 +7,7 @@ use Rattle.lists.specs.Member.{_∈_}
 use Rattle.lists.specs.Those.{those}
 
 module _ {B : Type 0} (weight : B → ℕ) where
-  -- "Bridges are taken by path length"
+  -- T12: bridges come by the length of their paths
   abbrev pub Rising : List B → Type 0
   Rising [] = Unit {0}
   Rising (e ∷ L) = ((d : B) → d ∈ L → weight e ≤ weight d) × Rising L

@@ -1,4 +1,4 @@
--- One tree, as document 01 has it.
+-- One tree: rule R20.
 use mathlib.Core.Path.{_≡_}
 use mathlib.Core.Logic.{_⊎_}
 use mathlib.Core.List.{List, _∷_}
@@ -7,17 +7,16 @@ use Rattle.joined.specs.Joined.{Link, others}
 use Rattle.joined.specs.Way.{Way, Free}
 
 module _ {A : Type 0} (pins : List A) (T : List (A × A)) where
-  -- "with the pins and the ends of its edges as points"
+  -- R20, the points: the pins and the ends of the edges
   abbrev pub Point : A → Type 0
   Point x = (x ∈ pins) ⊎ ((z : A) × Link T x z)
 
-  -- "exactly one loop-free way along its edges leads from"
+  -- R20: one loop-free way along the edges, and only one
   pub record OneWay (x y : A) : Type 0 where
     pub free : Free T x y
     pub only : (ps : List A) → Way T x ps y → Once (x ∷ ps) → ps ≡ free .points
 
-  -- "The refined tree holds all pins as one tree when, with the pins and the ends of its edges as points, exactly one loop-free way along
-  -- its edges leads from each point to each other one."
+  -- R20: all pins are held as one tree when there is such a way from each point to each other one
   abbrev pub OneTree : Type 0
   OneTree = (x y : A) → Point x → Point y → (x ≡ y → ⊥) → OneWay x y
 

@@ -1,4 +1,4 @@
--- Terminal paths: document 01, "Terminal tree". The graph is a list of pairs of points, and some of the points are pins.
+-- Terminal paths: rules T1 to T5. The graph is a list of pairs of points, and some of the points are pins.
 use mathlib.Core.Path.{_≡_}
 use mathlib.Core.Logic.{_⊎_}
 use mathlib.Core.List.{List, _∷_}
@@ -6,7 +6,7 @@ use Prim.Native.Nat.{ℕ}
 use Rattle.lists.specs.Member.{_∈_, Once}
 use Rattle.joined.specs.Way.{Way, long}
 
--- "A terminal path is a loop-free path of the graph whose two ends are different pins and whose inner vertices are no pins"
+-- T2: a terminal path is loop-free, leads from a pin to a different one, and has no pin in between
 pub record TerminalPath {A : Type 0} (L : List (A × A)) (pins : List A) : Type 0 where
   pub start : A
   pub finish : A

@@ -16,7 +16,8 @@ use Rattle.lent.proofs.OverLaws.{over-of}
 replaced : {A : Type 0} (p q r v : List A) → length v ≡ length q → sets (p ++ (q ++ r)) (length p) v ≡ p ++ (v ++ r)
 replaced {A} p q r v e =
     sets-eq v (p ++ (q ++ r)) (length p) (simp (length-append, length-append) (omega arith))
-    ∙ ap₂ (λ (a b : List A). a ++ v ++ b) (take-append-seam p (q ++ r)) (drop-append-add p (q ++ r) (length v) ∙ drop-at q r (length v) (sym e))
+    ∙ ap₂ (λ (a b : List A). a ++ v ++ b) (take-append-seam p (q ++ r))
+    (drop-append-add p (q ++ r) (length v) ∙ drop-at q r (length v) (sym e))
     ∙ append-assoc p v r
 
 module _ {A B : Type 0} (numbers : B → List A) where
@@ -95,7 +96,8 @@ module _ {A B : Type 0} (numbers : B → List A) where
         (drop-drop w n lent ∙ ap (λ (k : ℕ). drop k lent) (sym more))
 
     -- what is written is read back
-    read-from : (xs : List A) (bs : List B) (r : List A) (k : ℕ) → length xs ≡ k → entriesFrom from w (xs ++ (flat numbers bs ++ r)) k (length bs) ≡ bs
+    read-from : (xs : List A) (bs : List B) (r : List A) (k : ℕ) → length xs ≡ k → entriesFrom from w (xs ++ (flat numbers bs ++ r)) k
+        (length bs) ≡ bs
     unfolding flat entriesFrom
     read-from xs [] r k e = refl
     read-from xs (b ∷ bs) r k e =
@@ -117,7 +119,8 @@ module _ {A B : Type 0} (numbers : B → List A) where
     front s k zero h = sym (ap (λ (m : ℕ). take m (drop k s)) (zero-mul w))
     front s k (suc n) h =
         let e : suc n * w ≡ w + n * w = omega (arith, suc-mul n w) in
-        ap₂ (λ (a b : List A). a ++ b) (wide .forth s k (omega (arith, e))) (front s (k + w) n (omega (arith, e)) ∙ ap (take (n * w)) (sym (drop-drop w k s)))
+        ap₂ (λ (a b : List A). a ++ b) (wide .forth s k (omega (arith, e)))
+        (front s (k + w) n (omega (arith, e)) ∙ ap (take (n * w)) (sym (drop-drop w k s)))
         ∙ sym (take-add w (n * w) (drop k s))
         ∙ ap (λ (m : ℕ). take m (drop k s)) (sym e)
 

@@ -2,7 +2,7 @@
 --
 -- Every published operation answers in one of two ways, and says of each lent list what it then holds:
 --
---   Told A             an answer: refused with document 01's number, or given a value
+--   Told A             an answer: refused with the refusal's number, or given a value
 --   over xs lent       xs, then what stood there
 --   after t xs lent    what a lent list holds after the answer t: xs over what stood there, or all of what stood there
 --   valueAfter f t v   what one lent value holds after the answer t: what t gives, through f, or what stood there

@@ -3,11 +3,11 @@ use mathlib.Core.List.{List, _++_}
 use lib.ListN.{length, drop}
 use Rattle.lent.specs.Told.{Told, refused, given}
 
--- xs, then what stood there: "space past the answer is unaltered"
+-- C53: xs, then what stood there
 unfoldable pub over : {X : Type 0} → List X → List X → List X
 over xs lent = xs ++ drop (length xs) lent
 
--- "A refusal is its number alone; nothing lent is altered."
+-- C50: a refused call alters nothing that was lent
 unfoldable pub after : {A X : Type 0} → Told A → List X → List X → List X
 after (refused n) xs lent = lent
 after (given a) xs lent = over xs lent

@@ -1,7 +1,7 @@
--- Answers in document 01's terms.
+-- Answers as the rules have them.
 use Prim.Native.Nat.{ℕ}
 
--- "A refusal is its number alone"; otherwise the answer has a value.
+-- C50: a refusal is its number and nothing else; otherwise the answer has a value.
 pub data Told (A : Type 0) : Type 0 where
   refused : ℕ → Told A
   given : A → Told A

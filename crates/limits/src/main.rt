@@ -1,4 +1,4 @@
-// Checks nets at the bounds of document 01 and one past them, and writes each answer on a line of its own.
+// E12 to E14: checks nets at the bounds and one past them, and writes each answer on a line of its own.
 use net::Checked;
 ghost use mathlib.Core.Path.{_≡_};
 ghost use Prim.Native.Nat.{_≤_};

@@ -7,7 +7,7 @@ use Prim.Native.Nat.{ℕ, _*_, _≤_}
 use native.Mathlib.Nat.{mul-suc}
 use native.Mathlib.Omega.{arith}
 use lib.ListN.{length, length-append}
-use Rattle.lists.specs.Member.{_∈_, here, there, Among}
+use Rattle.lists.specs.Member.{_∈_, here, there}
 use Rattle.lists.proofs.TestLaws.{either}
 
 -- the entry of l whose piece holds b
@@ -22,7 +22,8 @@ module _ {A B : Type 0} (of : A → List B) (all : List A → List B)
   pub of-each : (l : List A) {b : B} → b ∈ all l → Piece of l b
   of-each [] m = elim (rw none at m) [ ]
   of-each (a ∷ l) {b} m =
-      either (λ i. record { entry = a; stands = here refl; holds = i }) (λ i. further (of-each l i)) (List·Memᴰ·append-cases (of a) (rw more at m))
+      either (λ i. record { entry = a; stands = here refl; holds = i }) (λ i. further (of-each l i))
+      (List·Memᴰ·append-cases (of a) (rw more at m))
     where
       further : Piece of l b → Piece of (a ∷ l) b
       further p = record { entry = p .entry; stands = there (p .stands); holds = p .holds }
@@ -31,9 +32,6 @@ module _ {A B : Type 0} (of : A → List B) (all : List A → List B)
   in-each (c ∷ l) m i =
       rw more
       (either (λ e. Memᴰ·append-left (all l) (rw e at i)) (λ k. Memᴰ·append-right (of c) (in-each l k i)) (List·Memᴰ·cases-cons m))
-
-  pub each-among : (l m : List A) → Among l m → Among (all l) (all m)
-  each-among l m h b i = let p = of-each l i in in-each m (h (p .entry) (p .stands)) (p .holds)
 
   pub length-each : (n : ℕ) → ((a : A) → length (of a) ≤ n) → (l : List A) → length (all l) ≤ n * length l
   length-each n h [] = rw none (omega arith)

@@ -8,7 +8,6 @@ pub mod MapLaws
 pub mod ThoseLaws
 pub mod SortedLaws
 pub mod CarryLaws
-pub mod SortedOrder
 pub mod OrderLaws
 pub mod LeastLaws
 pub mod TotalLaws

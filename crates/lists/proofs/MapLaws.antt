@@ -83,3 +83,19 @@ module _ {A B : Type 0} where
   mapIn-then h k [] f e = refl
   mapIn-then {C} h k (x ∷ l) f e =
       ap₂ (λ (y : C) (m : List C). y ∷ m) (e x (here refl)) (mapIn-then h k l (λ y m. f y (there m)) (λ y m. e y (there m)))
+
+  -- what stands in its image, and where that comes from
+  pub mapIn-has : (l : List A) (f : (x : A) → x ∈ l → B) (x : A) → x ∈ l → (y : A) × ((m : y ∈ l) × ((x ≡ y) × (f y m ∈ mapIn l f)))
+  unfolding mapIn
+  mapIn-has (y ∷ l) f x (here e) = (y, (here refl, (e, here refl)))
+  mapIn-has (y ∷ l) f x (there m) =
+      let r = mapIn-has l (λ z i. f z (there i)) x m in
+      (r .0, (there (r .1 .0), (r .1 .1 .0, there (r .1 .1 .1))))
+
+  pub mapIn-of : (l : List A) (f : (x : A) → x ∈ l → B) (c : B) → c ∈ mapIn l f → (x : A) × ((m : x ∈ l) × (c ≡ f x m))
+  unfolding mapIn
+  mapIn-of [] f c i = elim i [ ]
+  mapIn-of (y ∷ l) f c i =
+      either (λ e. (y, (here refl, e)))
+      (λ k. let r = mapIn-of l (λ z j. f z (there j)) c k in (r .0, (there (r .1 .0), r .1 .1)))
+      (List·Memᴰ·cases-cons i)

@@ -4,7 +4,7 @@
 use mathlib.Core.Path.{_≡_, sym, _∙_}
 use mathlib.Core.Bool.{Bool, true}
 use mathlib.Core.HLevel.{hedberg}
-use mathlib.Core.List.{List, _++_, List·isSet, List·Memᴰ·cases-cons, List·Memᴰ·append-cases, Memᴰ·append-left, Memᴰ·append-right}
+use mathlib.Core.List.{List, List·isSet, List·Memᴰ·cases-cons}
 use mathlib.Core.List.{List·Permᴰ, List·Permᴰ·nil, List·Permᴰ·cons, List·Permᴰ·swap, List·Permᴰ·trans}
 use Rattle.lists.specs.Member.{here, there, Among}
 use Rattle.lists.specs.Sorted.{Order}
@@ -20,10 +20,6 @@ module _ {A : Type 0} where
       (λ k. either (λ g. here (g ∙ f)) (λ j. there (there j)) (List·Memᴰ·cases-cons k))
       (List·Memᴰ·cases-cons i)
   perm-among (List·Permᴰ·trans d e) x i = perm-among e x (perm-among d x i)
-
-  pub append-among : (k l m n : List A) → Among k m → Among l n → Among (k ++ l) (m ++ n)
-  append-among k l m n g h x i =
-      either (λ j. Memᴰ·append-left n (g x j)) (λ j. Memᴰ·append-right m (h x j)) (List·Memᴰ·append-cases k i)
 
 module _ {A : Type 0} {before : A → A → Bool} (order : Order before) where
   -- what comes before another is another

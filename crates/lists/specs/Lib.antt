@@ -6,7 +6,7 @@
 -- for every width (../proofs/EntryLaws.antt).
 --
 -- Membership is a position, not a bare fact: from `m : x ∈ l` one can go on to `rest m`, the list without that one position, also where x
--- stands in l more than once. So "all but this edge" needs no search and no test of equality, and counting is the pigeonhole
+-- stands in l more than once. So a list but for one edge needs no search and no test of equality, and counting is the pigeonhole
 -- (../proofs/MemberLaws.antt): a list without repeats is no longer than a list that holds its entries.
 -- Properties of lists (`Once`, `Ascending`) are recursive on the list: their parts are the parts of a pair, which `omega` reads.
 -- Sorting is over any order that is given by its test, so that places, edges and bridges share it (../proofs/SortedLaws.antt).

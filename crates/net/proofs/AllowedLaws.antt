@@ -1,15 +1,14 @@
 -- A net is allowed by the check exactly when its lists hold whole entries and it is allowed in words.
 -- Assumes nothing.
-use mathlib.Core.Path.{_≡_, refl, sym, ap, _∙_}
+use mathlib.Core.Path.{_≡_, sym, ap, _∙_}
 use mathlib.Core.Bool.{false, not}
-use mathlib.Core.List.{List, List·Memᴰ}
-use Prim.Native.Nat.{ℕ, _≤_, _%_, _/_}
+use mathlib.Core.List.{List}
+use Prim.Native.Nat.{ℕ, _≤_, _%_}
 use native.Mathlib.Omega.{arith}
 use borrow.Author.Tests.{eq-eqb, ne-eqb, le-ltb, not-false}
 use lib.IntN.{ℤ}
 use lib.ListN.{length}
 use lib.Signed.{ltZ}
-use Rattle.lists.specs.Any.{any, anyTwo, NoTwo}
 use Rattle.lists.proofs.TestLaws.{or-none, or-neither}
 use Rattle.lists.proofs.AnyLaws.{any-none, none-any, two-none, none-two}
 use Rattle.lent.specs.Told.{given}
@@ -88,7 +87,8 @@ module _ (pins macros : List ℤ) where
           upright = λ n i. upright-of n (any-none notUpright (macrosOf macros) (p14 .passed) n i);
           pins-apart = two-none samePlace (placesOf pins) (p15 .passed);
           macros-apart = two-none interiorsMeet (macrosOf macros) (p16 .passed);
-          pins-outside = λ p i n j. any-none (inside p) (macrosOf macros) (any-none (insideAny (macrosOf macros)) (placesOf pins) (p17 .passed) p i) n j;
+          pins-outside = λ p i n j. any-none (inside p) (macrosOf macros)
+              (any-none (insideAny (macrosOf macros)) (placesOf pins) (p17 .passed) p i) n j;
         },
       )
 
@@ -103,12 +103,16 @@ module _ (pins macros : List ℤ) where
               past = record {
                 past = record {
                   past = record {
-                    past = record { passed = pairs-whole pins (w .pairs) (rw (length-places pins) at (a .some-pin)) (rw (length-places pins) at (a .few-pins)) };
+                    past = record {
+                      passed = pairs-whole pins (w .pairs) (rw (length-places pins) at (a .some-pin))
+                          (rw (length-places pins) at (a .few-pins));
+                    };
                     passed = fours-whole macros (w .fours) (rw (length-macros macros) at (a .few-macros));
                   };
                   passed = range-of-places pins (w .pairs) ∙ none-any placeOut (placesOf pins) (λ p i. of-place p (a .pins-in-range p i));
                 };
-                passed = range-of-macros macros (w .fours) ∙ none-any macroOut (macrosOf macros) (λ n i. of-macro n (a .macros-in-range n i));
+                passed = range-of-macros macros (w .fours) ∙ none-any macroOut (macrosOf macros)
+                    (λ n i. of-macro n (a .macros-in-range n i));
               };
               passed = none-any notUpright (macrosOf macros) (λ n i. of-upright n (a .upright n i));
             };
@@ -116,12 +120,14 @@ module _ (pins macros : List ℤ) where
           };
           passed = none-two interiorsMeet (macrosOf macros) (a .macros-apart);
         };
-        passed = none-any (insideAny (macrosOf macros)) (placesOf pins) (λ p i. none-any (inside p) (macrosOf macros) (a .pins-outside p i));
+        passed = none-any (insideAny (macrosOf macros)) (placesOf pins)
+            (λ p i. none-any (inside p) (macrosOf macros) (a .pins-outside p i));
       }
 
   -- the theorem, both ways
   pub given-allowed : {v : ℕ × ℕ} → checked pins macros ≡ given v → Whole pins macros × Allowed (placesOf pins) (macrosOf macros)
   given-allowed {v} g = past-allowed (passed-all pins macros v g)
 
-  pub allowed-given : Whole pins macros → Allowed (placesOf pins) (macrosOf macros) → checked pins macros ≡ given (pinCount pins, macroCount macros)
+  pub allowed-given : Whole pins macros → Allowed (placesOf pins) (macrosOf macros) → checked pins macros
+      ≡ given (pinCount pins, macroCount macros)
   allowed-given w a = allow pins macros (allowed-past w a)

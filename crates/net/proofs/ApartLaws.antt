@@ -28,7 +28,8 @@ module _ {ps : List Place} {ms : List Macro} (a : Allowed ps ms) where
   overlap-one m n i j o =
       let s = sides-in-order m i in
       let t = sides-in-order n j in
-      no-two-one interiorsMeet interiors-comm ms (a .macros-apart) m n i j (overlap-meets m n (s .across) (s .along) (t .across) (t .along) o)
+      no-two-one interiorsMeet interiors-comm ms (a .macros-apart) m n i j
+      (overlap-meets m n (s .across) (s .along) (t .across) (t .along) o)
 
   pub pin-outside : (p : Place) → p ∈ ps → (m : Macro) → m ∈ ms → InInterior p m → ⊥
   pin-outside p i m j h = differ (interior-inside p m h) (a .pins-outside p i m j)

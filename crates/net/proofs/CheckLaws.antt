@@ -80,10 +80,28 @@ module _ (pins macros : List ℤ) where
   unfolding checked
   refuse-17 p e =
       let q = p .past .past .past in
-      rw (q .past .past .past .passed, q .past .past .passed, q .past .passed, q .passed, p .past .past .passed, p .past .passed, p .passed, e) refl
+      rw (
+        q .past .past .past .passed,
+        q .past .past .passed,
+        q .past .passed,
+        q .passed,
+        p .past .past .passed,
+        p .past .passed,
+        p .passed,
+        e,
+      ) refl
 
   pub allow : Past17 → checked pins macros ≡ given (pinCount pins, macroCount macros)
   unfolding checked
   allow p =
       let q = p .past .past .past .past in
-      rw (q .past .past .past .passed, q .past .past .passed, q .past .passed, q .passed, p .past .past .past .passed, p .past .past .passed, p .past .passed, p .passed) refl
+      rw (
+        q .past .past .past .passed,
+        q .past .past .passed,
+        q .past .passed,
+        q .passed,
+        p .past .past .past .passed,
+        p .past .past .passed,
+        p .past .passed,
+        p .passed,
+      ) refl

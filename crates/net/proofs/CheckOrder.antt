@@ -2,12 +2,12 @@
 -- and the tests of a whole one are searches of its entries.
 -- Assumes nothing.
 use mathlib.Core.Path.{_≡_, refl, sym, ap, ap₂, _∙_}
-use mathlib.Core.Bool.{Bool, true, false, _||_}
+use mathlib.Core.Bool.{_||_}
 use mathlib.Core.List.{List, Perm}
 use Prim.Native.Nat.{ℕ, _%_, _*_}
 use lib.IntN.{ℤ}
 use lib.ListN.{length}
-use Rattle.lists.specs.Any.{any, anyTwo}
+use Rattle.lists.specs.Any.{any}
 use Rattle.lists.proofs.TestLaws.{by}
 use Rattle.lists.proofs.AnyLaws.{any-agree}
 use Rattle.lists.proofs.AnyOrder.{any-perm, two-perm, length-perm}
@@ -20,18 +20,10 @@ use Rattle.plane.proofs.PlaceLaws.{same-comm}
 use Rattle.plane.proofs.MacroLaws.{interiors-comm}
 use Rattle.plane.proofs.FlatLaws.{places-flat, macros-flat, length-flat-places, length-flat-macros}
 use Rattle.net.specs.Check.{pinsMiscounted, macrosMiscounted, outOfRange, notUpright, insideAny, checked}
+use Rattle.net.specs.Order.{SamePins, SameMacros}
 use Rattle.net.proofs.RangeLaws.{placeOut, macroOut, range-of-places, range-of-macros}
-use Rattle.net.proofs.CheckLaws.{Past11, refuse-11, refuse-12}
+use Rattle.net.proofs.CheckLaws.{refuse-11, refuse-12}
 use Rattle.net.proofs.PassedLaws.{pins-counted, macros-counted}
-
--- the same entries in another order; numbers left over past the last whole entry may be others
-pub record SamePins (pins pins′ : List ℤ) : Type 0 where
-  pub many : length pins ≡ length pins′
-  pub order : Perm (placesOf pins) (placesOf pins′)
-
-pub record SameMacros (macros macros′ : List ℤ) : Type 0 where
-  pub many : length macros ≡ length macros′
-  pub order : Perm (macrosOf macros) (macrosOf macros′)
 
 inside-perm : (ms ns : List Macro) → Perm ms ns → (p : Place) → insideAny ms p ≡ insideAny ns p
 unfolding insideAny
@@ -47,7 +39,8 @@ module _ (pins pins′ macros macros′ : List ℤ) (p : SamePins pins pins′) 
   same-macro-count = rw (q .many) refl
 
   -- of whole lists
-  ranges : length pins % 2 ≡ 0 → length macros % 4 ≡ 0 → (any outOfRange pins || any outOfRange macros) ≡ (any outOfRange pins′ || any outOfRange macros′)
+  ranges : length pins % 2 ≡ 0 → length macros % 4 ≡ 0 → (any outOfRange pins || any outOfRange macros)
+      ≡ (any outOfRange pins′ || any outOfRange macros′)
   ranges e f =
       ap₂ _||_
       (range-of-places pins e ∙ any-perm placeOut _ _ (p .order) ∙ sym (range-of-places pins′ (rw (p .many) at e)))
@@ -78,7 +71,8 @@ module _ (pins pins′ macros macros′ : List ℤ) (p : SamePins pins pins′) 
   check-order =
       by (pinsMiscounted pins) (λ e. refuse-11 pins macros e ∙ sym (refuse-11 pins′ macros′ (sym same-pin-count ∙ e))) λ e.
       by (macrosMiscounted macros)
-      (λ f. refuse-12 pins macros (record { passed = e }) f ∙ sym (refuse-12 pins′ macros′ (record { passed = sym same-pin-count ∙ e }) (sym same-macro-count ∙ f)))
+      (λ f. refuse-12 pins macros (record { passed = e }) f
+      ∙ sym (refuse-12 pins′ macros′ (record { passed = sym same-pin-count ∙ e }) (sym same-macro-count ∙ f)))
       λ f.
       whole-order (pins-counted pins e .whole) (macros-counted macros f .whole)
 

@@ -3,7 +3,8 @@
 use Prim.Native.Nat.{_≤_}
 use lib.Dec.{lit≤}
 use Rattle.net.specs.declared.Refusal.{Refusal}
-use Rattle.net.specs.declared.Refusal.the-variants.{Blocks, Sums, Layout, PinList, MacroList, Range, Sides, SamePlace, Overlap, PinInside, Space}
+use Rattle.net.specs.declared.Refusal.the-variants.{Blocks, Sums, Layout, PinList, MacroList, Range, Sides, SamePlace, Overlap}
+use Rattle.net.specs.declared.Refusal.the-variants.{PinInside, Space}
 use Rattle.net.specs.Answer.{number}
 
 pub number-bounds : (f : Refusal) → (1 ≤ number f) × (number f ≤ 21)

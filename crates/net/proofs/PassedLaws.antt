@@ -17,7 +17,8 @@ use Rattle.plane.specs.Macro.{interiorsMeet}
 use Rattle.plane.specs.Flat.{placesOf, macrosOf}
 use Rattle.net.specs.Bounds.{pinBound, macroBound}
 use Rattle.net.specs.Check.{pinCount, macroCount, pinsMiscounted, macrosMiscounted, outOfRange, notUpright, insideAny, checked}
-use Rattle.net.proofs.CheckLaws.{Past11, Past12, Past13-pins, Past13, Past14, Past15, Past16, Past17, refuse-11, refuse-12, refuse-13-pins, refuse-13, refuse-14, refuse-15, refuse-16, refuse-17}
+use Rattle.net.proofs.CheckLaws.{Past11, Past12, Past13-pins, Past13, Past14, Past15, Past16, Past17, refuse-11, refuse-12}
+use Rattle.net.proofs.CheckLaws.{refuse-13-pins, refuse-13, refuse-14, refuse-15, refuse-16, refuse-17}
 
 module _ (pins macros : List ℤ) (net : ℕ × ℕ) (allowed : checked pins macros ≡ given net) where
   -- a refusal is no allowance
@@ -31,7 +32,8 @@ module _ (pins macros : List ℤ) (net : ℕ × ℕ) (allowed : checked pins mac
   past-12 = by (macrosMiscounted macros) (λ e. apart 12 (refuse-12 pins macros past-11 e)) (λ e. record { past = past-11; passed = e })
 
   past-13-pins : Past13-pins pins macros
-  past-13-pins = by (any outOfRange pins) (λ e. apart 13 (refuse-13-pins pins macros past-12 e)) (λ e. record { past = past-12; passed = e })
+  past-13-pins = by (any outOfRange pins) (λ e. apart 13 (refuse-13-pins pins macros past-12 e))
+      (λ e. record { past = past-12; passed = e })
 
   past-13 : Past13 pins macros
   past-13 =
@@ -83,11 +85,11 @@ pins-counted pins e =
     record {
       whole = eqb-true (length pins % 2) 0 (not-false _ (r .0));
       some = omega (arith, n);
-      few = ltb-false 64 (length pins / 2) (s .1);
+      few = ltb-false pinBound (length pins / 2) (s .1);
     }
 
 pub macros-counted : (macros : List ℤ) → macrosMiscounted macros ≡ false → MacrosCounted macros
 unfolding macrosMiscounted
 macros-counted macros e =
     let r = or-none _ _ e in
-    record { whole = eqb-true (length macros % 4) 0 (not-false _ (r .0)); few = ltb-false 64 (length macros / 4) (r .1) }
+    record { whole = eqb-true (length macros % 4) 0 (not-false _ (r .0)); few = ltb-false macroBound (length macros / 4) (r .1) }

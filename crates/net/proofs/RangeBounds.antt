@@ -2,7 +2,8 @@
 -- Assumes nothing.
 use mathlib.Core.Path.{_≡_, refl}
 use mathlib.Core.Bool.{false}
-use Prim.Native.Nat.{_≤_}
+use Prim.Native.Nat.{_*_, _≤_}
+use native.Mathlib.Omega.{arith}
 use lib.IntN.{ℤ, pos, negℤ}
 use lib.Signed.{ltZ}
 use Rattle.lists.proofs.TestLaws.{or-none}
@@ -10,17 +11,17 @@ use Rattle.signed.specs.Sides.{up, down}
 use Rattle.signed.proofs.SideLaws.{ltZ-false, up-pos, down-pos, one-side, signed}
 use Rattle.plane.specs.declared.Place.{Place}
 use Rattle.plane.specs.Distance.{apart, distance}
-use Rattle.plane.proofs.DistanceLaws.{apart-sides}
+use Rattle.plane.proofs.DistanceLaws.{apart-sides, distance-parts}
 use Rattle.net.specs.Bounds.{coordinateBound}
 use Rattle.net.specs.Check.{outOfRange}
 use Rattle.net.specs.Allowed.{PlaceInRange}
 
--- "Coordinates are signed whole numbers from −1,000,000 to 1,000,000"
+-- N4: a coordinate is at most 1,000,000 from 0
 pub record Near (z : ℤ) : Type 0 where
-  pub above : up z ≤ 1000000
-  pub below : down z ≤ 1000000
+  pub above : up z ≤ coordinateBound
+  pub below : down z ≤ coordinateBound
 
-least-sides : (up (negℤ (pos coordinateBound)) ≡ 0) × (down (negℤ (pos coordinateBound)) ≡ 1000000)
+least-sides : (up (negℤ (pos coordinateBound)) ≡ 0) × (down (negℤ (pos coordinateBound)) ≡ coordinateBound)
 unfolding up down
 least-sides = (refl, refl)
 
@@ -35,10 +36,11 @@ in-range-near z e =
       below = omega (signed, low, one-side z, least-sides);
     }
 
-apart-near : (a b : ℤ) → Near a → Near b → apart a b ≤ 2000000
+apart-near : (a b : ℤ) → Near a → Near b → apart a b ≤ coordinateBound * 2
 apart-near a b m n = omega (signed, apart-sides a b)
 
-pub distance-in-range : (a b : Place) → PlaceInRange a → PlaceInRange b → distance a b ≤ 4000000
-unfolding distance
+pub distance-in-range : (a b : Place) → PlaceInRange a → PlaceInRange b → distance a b ≤ coordinateBound * 4
 distance-in-range a b r s =
-    omega (signed, apart-near _ _ (in-range-near _ (r .x)) (in-range-near _ (s .x)), apart-near _ _ (in-range-near _ (r .y)) (in-range-near _ (s .y)))
+    let across = apart-near _ _ (in-range-near _ (r .x)) (in-range-near _ (s .x)) in
+    let along = apart-near _ _ (in-range-near _ (r .y)) (in-range-near _ (s .y)) in
+    omega (arith, distance-parts a b across along)

@@ -1,4 +1,4 @@
--- The check of document 01's worked nets marked ●, by computing the definition.
+-- The check of the worked nets E1 to E11, by computing the definition.
 -- Assumes nothing.
 use mathlib.Core.Path.{_≡_, refl}
 use Prim.Native.Nat.{ℕ}
@@ -9,11 +9,13 @@ use Rattle.plane.specs.Macro.{inside, openSpansMeet, interiorsMeet}
 use Rattle.plane.specs.Flat.{placesOf, macrosOf}
 use Rattle.lent.specs.Told.{Told, refused, given}
 use Rattle.net.specs.Check.{pinsMiscounted, macrosMiscounted, outOfRange, notUpright, insideAny, checked}
-use Rattle.net.specs.WorkedNets.{Lists, onePin, noPin, aroundOne, threePins, sharedSide, onSides, overlapping, onBoundary, inInterior, twiceInInterior, noWidth}
+use Rattle.net.specs.WorkedNets.{Lists, onePin, noPin, aroundOne, threePins, sharedSide, onSides, overlapping, onBoundary, inInterior}
+use Rattle.net.specs.WorkedNets.{twiceInInterior, noWidth}
 
 -- the check of a net; to unfold this is to unfold all that it rests on
 unfoldable pub answer : Lists → Told (ℕ × ℕ)
-unfolding any anyTwo minZ maxZ samePlace inside openSpansMeet interiorsMeet placesOf macrosOf pinsMiscounted macrosMiscounted outOfRange notUpright insideAny checked
+unfolding any anyTwo minZ maxZ samePlace inside openSpansMeet interiorsMeet placesOf macrosOf pinsMiscounted macrosMiscounted outOfRange
+    notUpright insideAny checked
 answer net = checked (net .pins) (net .macros)
 
 pub record Table : Type 0 where

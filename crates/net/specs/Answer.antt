@@ -1,7 +1,8 @@
--- Document 01's number of each refusal.
+-- The number of each refusal: rules C1 to C21.
 use Prim.Native.Nat.{ℕ}
 use Rattle.net.specs.declared.Refusal.{Refusal}
-use Rattle.net.specs.declared.Refusal.the-variants.{Blocks, Sums, Layout, PinList, MacroList, Range, Sides, SamePlace, Overlap, PinInside, Space}
+use Rattle.net.specs.declared.Refusal.the-variants.{Blocks, Sums, Layout, PinList, MacroList, Range, Sides, SamePlace, Overlap}
+use Rattle.net.specs.declared.Refusal.the-variants.{PinInside, Space}
 
 unfoldable pub number : Refusal → ℕ
 number Blocks = 1

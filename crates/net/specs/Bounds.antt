@@ -1,25 +1,25 @@
--- "The three bounds (64 pins, 64 macros, one million) are named once, with the net's own kind": here for the definitions, and as constants
--- of `Net` for the code. The proofs of the check and of the code on tables fail where the two differ.
-use Prim.Native.Nat.{ℕ}
+-- N6: the net's bounds, named here once for the definitions, and as constants of `Net` for the code. The proofs of the check and of the
+-- code on tables fail where the two differ.
+use Prim.Native.Nat.{ℕ, _+_, _*_}
 
--- "There are 1 to 64 pins and 0 to 64 macros."
+-- N5: from 1 pin to 64, and up to 64 macros
 abbrev pub pinBound : ℕ
 pinBound = 64
 
 abbrev pub macroBound : ℕ
 macroBound = 64
 
--- "Coordinates are signed whole numbers from −1,000,000 to 1,000,000"
+-- N4: coordinates are at most this far from 0, on both sides
 abbrev pub coordinateBound : ℕ
 coordinateBound = 1000000
 
--- "Write m for pins, k for macros and n = m + 4k, at most 320. [..] tables of up to 320 points and 1,280 edges are the router's own. So is
--- one for the points of the refined tree, at most n + m = 384."
+-- N7, N23, N24: what follows from them. The points of a graph are the pins and four corners a macro (320), each picks at most four
+-- (1,280), and refining brings at most one point a round (384).
 abbrev pub pointBound : ℕ
-pointBound = 320
+pointBound = pinBound + macroBound * 4
 
 abbrev pub edgeBound : ℕ
-edgeBound = 1280
+edgeBound = pointBound * 4
 
 abbrev pub treeBound : ℕ
-treeBound = 384
+treeBound = pointBound + pinBound

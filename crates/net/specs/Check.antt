@@ -1,4 +1,4 @@
--- The check of a net: document 01, "Check a net".
+-- The check of a net: rules C11 to C17, in the order of C60.
 use mathlib.Core.Bool.{Bool, not, cond, _||_}
 use mathlib.Core.List.{List}
 use Prim.Native.Nat.{ℕ, _/_, _%_}
@@ -18,46 +18,46 @@ use Rattle.net.specs.Answer.{number}
 use Rattle.net.specs.declared.Checked.{Checked}
 use Rattle.net.specs.declared.Checked.the-variants.{Allowed, Refused}
 
--- m and k of two flat lists: "Write m for pins, k for macros"
+-- N7: m and k of two flat lists
 abbrev pub pinCount : List ℤ → ℕ
 pinCount pins = length pins / 2
 
 abbrev pub macroCount : List ℤ → ℕ
 macroCount macros = length macros / 4
 
--- "11: the pin list isn't whole pairs, or m is 0 or above 64."
+-- C11: not whole pairs, no pin, or more than 64
 unfoldable pub pinsMiscounted : List ℤ → Bool
 pinsMiscounted pins = not (eqb (length pins % 2) 0) || (eqb (pinCount pins) 0 || ltb pinBound (pinCount pins))
 
--- "12: the macro list isn't whole fours, or k is above 64."
+-- C12: not whole fours, or more than 64 macros
 unfoldable pub macrosMiscounted : List ℤ → Bool
 macrosMiscounted macros = not (eqb (length macros % 4) 0) || ltb macroBound (macroCount macros)
 
--- "13: a coordinate is out of range."
+-- C13: farther from 0 than coordinates go
 unfoldable pub outOfRange : ℤ → Bool
 outOfRange z = ltZ z (negℤ (pos coordinateBound)) || ltZ (pos coordinateBound) z
 
--- "14: left not below right, or bottom not below top."
+-- C14: a macro without width or without height
 unfoldable pub notUpright : Macro → Bool
 notUpright m = not (ltZ (m .left) (m .right)) || not (ltZ (m .bottom) (m .top))
 
--- "17: a pin in an interior.", for one pin
+-- C17, for one pin: it is in an interior
 unfoldable pub insideAny : List Macro → Place → Bool
 insideAny macros p = any (inside p) macros
 
--- "Each check covers the whole net before the next begins."
+-- C51, C60: each test is over the whole net, and the first that applies is the answer
 unfoldable pub checked : List ℤ → List ℤ → Told (ℕ × ℕ)
 checked pins macros =
     cond (pinsMiscounted pins) (refused 11)
     (cond (macrosMiscounted macros) (refused 12)
     (cond (any outOfRange pins || any outOfRange macros) (refused 13)
     (cond (any notUpright (macrosOf macros)) (refused 14)
-    -- "15: two pins at one place."
+    -- C15: a place with two pins
     (cond (anyTwo samePlace (placesOf pins)) (refused 15)
-    -- "16: two macros' interiors meet."
+    -- C16: interiors that meet
     (cond (anyTwo interiorsMeet (macrosOf macros)) (refused 16)
     (cond (any (insideAny (macrosOf macros)) (placesOf pins)) (refused 17)
-    -- "A net is allowed when no number of this check applies."
+    -- C56: none applies, so the net is allowed
     (given (pinCount pins, macroCount macros))))))))
 
 -- what the code's answer says

@@ -1,4 +1,4 @@
--- Document 01's "Nets to try" as flat lists, named once; each crate above proves of them what it defines.
+-- The worked nets E1 to E11 as flat lists, named once; each crate above proves of them what it defines.
 use mathlib.Core.List.{List, [], _∷_, _++_}
 use lib.IntN.{ℤ, pos, negsuc}
 
@@ -13,41 +13,41 @@ pub record Lists : Type 0 where
   pub pins : List ℤ
   pub macros : List ℤ
 
--- "One pin (5, 5)"
+-- E1: one pin, no macro
 abbrev pub onePin : Lists
 onePin = record { pins = pin (pos 5) (pos 5); macros = [] }
 
--- "No pin"
+-- E2: no pin at all
 abbrev pub noPin : Lists
 noPin = record { pins = []; macros = [] }
 
--- "Pins (0, 0), (10, 0), macro 4, −2, 6, 3"
+-- E3: two pins, and a macro in between
 abbrev pub aroundOne : Lists
 aroundOne = record { pins = pin (pos 0) (pos 0) ++ pin (pos 10) (pos 0); macros = block (pos 4) (negsuc 1) (pos 6) (pos 3) }
 
--- "Pins (0, 0), (4, 0), (2, 3)"
+-- E4: three pins, no macro
 abbrev pub threePins : Lists
 threePins = record { pins = pin (pos 0) (pos 0) ++ (pin (pos 4) (pos 0) ++ pin (pos 2) (pos 3)); macros = [] }
 
--- "Pins (2, −1), (2, 3), macros 0, 0, 2, 2 and 2, 0, 4, 2"
+-- E5: two macros that share a side, with a pin below and one above it
 abbrev pub sharedSide : Lists
 sharedSide = record {
   pins = pin (pos 2) (negsuc 0) ++ pin (pos 2) (pos 3);
   macros = block (pos 0) (pos 0) (pos 2) (pos 2) ++ block (pos 2) (pos 0) (pos 4) (pos 2);
 }
 
--- "Pins (0, 1), (1, 1), macro 0, 0, 1, 2"
+-- E6: a macro one unit wide, with a pin on its left side and one on its right
 abbrev pub onSides : Lists
 onSides = record { pins = pin (pos 0) (pos 1) ++ pin (pos 1) (pos 1); macros = block (pos 0) (pos 0) (pos 1) (pos 2) }
 
--- "Macros 0, 0, 2, 2 and 1, 1, 3, 3 with pin (9, 9)"
+-- E7: interiors that meet
 abbrev pub overlapping : Lists
 overlapping = record {
   pins = pin (pos 9) (pos 9);
   macros = block (pos 0) (pos 0) (pos 2) (pos 2) ++ block (pos 1) (pos 1) (pos 3) (pos 3);
 }
 
--- "Macro 4, −2, 6, 3 with pin (4, 0)", "with pin (5, 0)", "with pin (5, 0) twice"
+-- E8, E9 and E10: a pin on a macro's boundary, in its interior, and twice in its interior
 abbrev pub onBoundary : Lists
 onBoundary = record { pins = pin (pos 4) (pos 0); macros = block (pos 4) (negsuc 1) (pos 6) (pos 3) }
 
@@ -57,6 +57,6 @@ inInterior = record { pins = pin (pos 5) (pos 0); macros = block (pos 4) (negsuc
 abbrev pub twiceInInterior : Lists
 twiceInInterior = record { pins = pin (pos 5) (pos 0) ++ pin (pos 5) (pos 0); macros = block (pos 4) (negsuc 1) (pos 6) (pos 3) }
 
--- "Macro 3, 0, 3, 5 with pin (9, 9)"
+-- E11: a macro without width
 abbrev pub noWidth : Lists
 noWidth = record { pins = pin (pos 9) (pos 9); macros = block (pos 3) (pos 0) (pos 3) (pos 5) }

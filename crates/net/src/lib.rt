@@ -27,6 +27,7 @@ pub struct Net {
     pub macros: usize,
 }
 
+// The first three are literals; the others follow.
 impl Net {
     pub const PINS: usize = 64;
 
@@ -36,16 +37,16 @@ impl Net {
     pub const COORDINATE: i32 = 1000000;
 
     // Points of the graph: the pins and four corners of each macro.
-    pub const POINTS: usize = 320;
+    pub const POINTS: usize = Net::PINS + Net::MACROS * 4;
 
     // Edges of the graph: each point picks at most four.
-    pub const EDGES: usize = 1280;
+    pub const EDGES: usize = Net::POINTS * 4;
 
     // Points of the refined tree: each round brings at most one more.
-    pub const TREE_POINTS: usize = 384;
+    pub const TREE_POINTS: usize = Net::POINTS + Net::PINS;
 }
 
-// Why an operation refuses; `number` in specs/Answer.antt has document 01's number of each.
+// Why an operation refuses; `number` in specs/Answer.antt has the number of each (C1 to C21).
 pub enum Refusal {
     Blocks,
     Sums,

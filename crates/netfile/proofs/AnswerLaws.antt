@@ -15,7 +15,8 @@ use Rattle.lent.proofs.AfterLaws.{after-refused, told-apart}
 use Rattle.net.specs.Check.{checked}
 use Rattle.net.proofs.PassedLaws.{passed-all, pins-counted, macros-counted}
 use Rattle.netfile.specs.Layout.{blocksFor, fileBytes}
-use Rattle.netfile.specs.Read.{blocksMiscounted, sumsWrong, headCount, numbersIn, pinsIn, macrosIn, sameNumbers, countsWrong, Sized, laidOut, roomShort, readFile}
+use Rattle.netfile.specs.Read.{blocksMiscounted, sumsWrong, headCount, numbersIn, pinsIn, macrosIn, sameNumbers, countsWrong, Sized}
+use Rattle.netfile.specs.Read.{laidOut, roomShort, readFile}
 use Rattle.netfile.proofs.ReadLaws.{length-numbers}
 
 -- The lists of a file
@@ -58,7 +59,8 @@ blocks-counted bytes e =
       few = ltb-false 6 (length bytes / 512) (s .1);
     }
 
-pub sized-by-head : (bytes : List ℕ) → BlocksCounted bytes → countsWrong bytes ≡ false → Sized bytes (headCount 4 bytes * 2) (headCount 5 bytes * 4)
+pub sized-by-head : (bytes : List ℕ) → BlocksCounted bytes → countsWrong bytes ≡ false → Sized bytes (headCount 4 bytes * 2)
+    (headCount 5 bytes * 4)
 unfolding countsWrong
 sized-by-head bytes b e =
     let n = eqb-true (length bytes / 512) _ (not-false _ e) in
@@ -92,7 +94,8 @@ module _ (bytes : List ℕ) (pins macros : List ℤ) where
 pub lists-fit : (bytes : List ℕ) (p q : ℕ) (net : ℕ × ℕ) → laidOut bytes (pinsIn bytes) (macrosIn bytes) ≡ given net → roomShort p q ≡ false
     → (headCount 4 bytes * 2 ≤ p) × (headCount 5 bytes * 4 ≤ q)
 lists-fit bytes p q net e f =
-    let a = passed-all (pinsIn bytes) (macrosIn bytes) net (laid-allowed bytes (pinsIn bytes) (macrosIn bytes) net e) .past .past .past .past .past .past in
+    let a = passed-all (pinsIn bytes) (macrosIn bytes) net
+    (laid-allowed bytes (pinsIn bytes) (macrosIn bytes) net e) .past .past .past .past .past .past in
     let m = pins-counted (pinsIn bytes) (a .past .passed) in
     let k = macros-counted (macrosIn bytes) (a .passed) in
     let r = room-enough p q f in
@@ -122,5 +125,6 @@ module _ (bytes : List ℕ) (p q : ℕ) where
   read-on r b s e = rw (r, b, s, e) refl
 
 -- a refusal's number, and both lent lists as they were
-pub unaltered : (t : Told (ℕ × ℕ)) (ps ms p q : List ℤ) (n : ℕ) → t ≡ refused n → (refused n ≡ t) × ((p ≡ after t ps p) × (q ≡ after t ms q))
+pub unaltered : (t : Told (ℕ × ℕ)) (ps ms p q : List ℤ) (n : ℕ) → t ≡ refused n → (refused n ≡ t)
+    × ((p ≡ after t ps p) × (q ≡ after t ms q))
 unaltered t ps ms p q n e = (sym e, (after-refused t ps p n e, after-refused t ms q n e))

@@ -20,7 +20,8 @@ use Rattle.netfile.proofs.SumLaws.{word-more}
 pub sets-after : {X : Type 0} (xs ys l : List X) (k : ℕ) → sets (sets l k xs) (k + length xs) ys ≡ sets l k (xs ++ ys)
 sets-after [] ys l k = ap (λ (n : ℕ). sets l n ys) (add-zero k)
 sets-after (x ∷ xs) ys l k =
-    ap (λ (n : ℕ). sets (sets (set l k x) (suc k) xs) n ys) (add-suc k (length xs) ∙ sym (suc-add k (length xs))) ∙ sets-after xs ys (set l k x) (suc k)
+    ap (λ (n : ℕ). sets (sets (set l k x) (suc k) xs) n ys) (add-suc k (length xs) ∙ sym (suc-add k (length xs)))
+    ∙ sets-after xs ys (set l k x) (suc k)
 
 -- the last two words of a block
 pub last-two : (ws : List ℕ) (a b : ℕ) → length ws ≡ 128 → set (set ws 126 a) 127 b ≡ take 126 ws ++ (a ∷ (b ∷ []))
@@ -45,7 +46,8 @@ over-cut (w ∷ ws) zero k h g = absurd (let f : ⊥ = omega arith in f)
 over-cut (w ∷ ws) (suc n) zero h g = absurd (let f : ⊥ = omega arith in f)
 over-cut (w ∷ ws) (suc n) (suc k) h g = ap (λ (l : List ℕ). w ∷ l) (over-cut ws n k (omega arith) (omega arith))
 
-pub words-more : (ns : List ℤ) (i : ℕ) → i < length ns → map wordOf (take (i + 1) ns) ≡ map wordOf (take i ns) ++ (wordOf (getD ns i (pos 0)) ∷ [])
+pub words-more : (ns : List ℤ) (i : ℕ) → i < length ns → map wordOf (take (i + 1) ns) ≡ map wordOf (take i ns)
+    ++ (wordOf (getD ns i (pos 0)) ∷ [])
 words-more ns i h = rw (add-one, take-suc ns i (pos 0)) (map-append wordOf (take i ns) (getD ns i (pos 0) ∷ []))
 
 -- one entry's word more
@@ -54,7 +56,8 @@ pub entry-more : (a b c d : ℕ) (ns : List ℤ) (i : ℕ) → i < length ns →
     ≡ over (a ∷ (b ∷ (c ∷ (d ∷ map wordOf (take (i + 1) ns))))) (replicate 128 0)
 entry-more a b c d ns i h g =
     let e : length (map wordOf (take i ns)) ≡ i = length-map (take i ns) wordOf ∙ length-take i ns ∙ omega arith in
-    over-more (a ∷ (b ∷ (c ∷ (d ∷ map wordOf (take i ns))))) (replicate 128 0) (4 + i) (wordOf (getD ns i (pos 0))) (omega arith) (omega arith)
+    over-more (a ∷ (b ∷ (c ∷ (d ∷ map wordOf (take i ns))))) (replicate 128 0) (4 + i) (wordOf (getD ns i (pos 0))) (omega arith)
+    (omega arith)
     ∙ ap (λ (l : List ℕ). over (a ∷ (b ∷ (c ∷ (d ∷ l)))) (replicate 128 0)) (sym (words-more ns i h))
 
 -- Words as bytes
@@ -67,7 +70,8 @@ length-bytes (w ∷ ws) = omega (arith, length-bytes ws)
 pub bytes-append : (vs ws : List ℕ) → bytesOf (vs ++ ws) ≡ bytesOf vs ++ bytesOf ws
 unfolding bytesOf
 bytes-append [] ws = refl
-bytes-append (v ∷ vs) ws = ap (λ (l : List ℕ). bytesOfWord v ++ l) (bytes-append vs ws) ∙ sym (append-assoc (bytesOfWord v) (bytesOf vs) (bytesOf ws))
+bytes-append (v ∷ vs) ws = ap (λ (l : List ℕ). bytesOfWord v ++ l) (bytes-append vs ws)
+    ∙ sym (append-assoc (bytesOfWord v) (bytesOf vs) (bytesOf ws))
 
 bytes-one : (w : ℕ) → bytesOf (w ∷ []) ≡ bytesOfWord w
 unfolding bytesOf

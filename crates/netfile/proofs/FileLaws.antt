@@ -9,7 +9,8 @@ use native.Mathlib.Omega.{arith}
 use borrow.Author.Tests.{eq-eqb, ltb-true, ltb-false}
 use lib.Dec.{ltb}
 use lib.IntN.{ℤ, pos}
-use lib.ListN.{length, take, drop, getD, replicate, length-append, length-map, length-take, length-drop, drop-of-length-le, List·getD-append, List·getD-map}
+use lib.ListN.{length, take, drop, getD, replicate, length-append, length-map, length-take, length-drop, drop-of-length-le}
+use lib.ListN.{List·getD-append, List·getD-map}
 use lib.Seq.{getD-append-add, getD-append-seam, getD-take, getD-drop, drop-cons, take-at, drop-at}
 use mir.Syntax.{w32}
 use mir.Val.{SFits}
@@ -41,7 +42,8 @@ split x = omega arith
 small-digit : (w : ℕ) → w < 4294967296 → w / 16777216 % 256 ≡ w / 16777216
 small-digit w h = omega arith
 
-digits : (w r₀ q₀ r₁ q₁ r₂ q₂ : ℕ) → r₀ + q₀ * 256 ≡ w → r₁ + q₁ * 256 ≡ q₀ → r₂ + q₂ * 256 ≡ q₁ → r₀ + r₁ * 256 + r₂ * 65536 + q₂ * 16777216 ≡ w
+digits : (w r₀ q₀ r₁ q₁ r₂ q₂ : ℕ) → r₀ + q₀ * 256 ≡ w → r₁ + q₁ * 256 ≡ q₀ → r₂ + q₂ * 256 ≡ q₁ → r₀ + r₁ * 256 + r₂ * 65536
+    + q₂ * 16777216 ≡ w
 digits w r₀ q₀ r₁ q₁ r₂ q₂ d e f = omega arith
 
 -- bytes give back the words
@@ -76,7 +78,8 @@ unfolding block sealed over plainSum sumOfSums
 small-block kind number count entries h i j s =
     let ws = kind ∷ (number ∷ (count ∷ (0 ∷ entries))) in
     small-append (over ws (replicate 126 0)) _
-    (small-append ws (drop (length ws) (replicate 126 0)) (h, (i, (j, (omega arith, s)))) (small-drop (length ws) (replicate 126 0) (small-zeros 126)))
+    (small-append ws (drop (length ws) (replicate 126 0)) (h, (i, (j, (omega arith, s))))
+    (small-drop (length ws) (replicate 126 0) (small-zeros 126)))
     (omega arith, (omega arith, tt))
 
 small-words : (zs : List ℤ) → Fit zs → Small (map wordOf zs)
@@ -98,7 +101,8 @@ fit-at [] i f h = absurd (let g : ⊥ = omega arith in g)
 fit-at (z ∷ zs) zero f h = f .0
 fit-at (z ∷ zs) (suc i) f h = fit-at zs i (f .1) (omega arith)
 
-pub small-list-blocks : (kind w number n : ℕ) (zs : List ℤ) → kind < 4294967296 → number + n < 4294967296 → Fit zs → Small (listBlocks kind w number n zs)
+pub small-list-blocks : (kind w number n : ℕ) (zs : List ℤ) → kind < 4294967296 → number + n < 4294967296 → Fit zs →
+    Small (listBlocks kind w number n zs)
 unfolding listBlocks listBlock
 small-list-blocks kind w number zero zs h i f = tt
 small-list-blocks kind w number (suc n) zs h i f =
@@ -149,7 +153,8 @@ pass-list kind w number (suc n) k zs rest =
     let b = listBlock kind w number (take 120 zs) in
     let l = listBlocks kind w (suc number) n (drop 120 zs) in
     ap₂ (λ (i : ℕ) (ws : List ℕ). any wrongSums (blocksOf i ws)) (suc-add n k) (append-assoc b l rest)
-    ∙ pass-block b (l ++ rest) (n + k) (length-next-block kind w number zs) (right-list kind w number (take 120 zs) (omega (arith, length-take 120 zs)))
+    ∙ pass-block b (l ++ rest) (n + k) (length-next-block kind w number zs)
+    (right-list kind w number (take 120 zs) (omega (arith, length-take 120 zs)))
     ∙ pass-list kind w (suc number) n k (drop 120 zs) rest
 
 -- Numbers at their places
@@ -162,7 +167,8 @@ block-entry kind number count zs j h =
     let n : 4 + j ≡ suc (suc (suc (suc j))) = omega arith in
     let l = length-map zs wordOf in
     rw n
-    (List·getD-append (map wordOf zs ++ _) _ 0 j (omega (arith, length-append (map wordOf zs) (drop (length (map wordOf zs)) (replicate 122 0)), l))
+    (List·getD-append (map wordOf zs ++ _) _ 0 j (omega
+    (arith, length-append (map wordOf zs) (drop (length (map wordOf zs)) (replicate 122 0)), l))
     ∙ List·getD-append (map wordOf zs) _ 0 j (omega (arith, l))
     ∙ List·getD-map wordOf zs j (pos 0))
 

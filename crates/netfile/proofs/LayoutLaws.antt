@@ -62,7 +62,8 @@ length-file pins macros = length-bytes (fileWords pins macros) ∙ omega (arith,
 -- One block more
 
 pub blocks-more : (kind w number n : ℕ) (numbers : List ℤ)
-    → listBlocks kind w number (n + 1) numbers ≡ listBlocks kind w number n numbers ++ listBlock kind w (number + n) (take 120 (drop (n * 120) numbers))
+    → listBlocks kind w number (n + 1) numbers ≡ listBlocks kind w number n numbers ++ listBlock kind w (number + n)
+    (take 120 (drop (n * 120) numbers))
 unfolding listBlocks
 blocks-more kind w number zero numbers =
     append-nil (listBlock kind w number (take 120 numbers))
@@ -105,7 +106,8 @@ sets-over xs l h = sets-eq xs l 0 (omega arith) ∙ ap (λ (n : ℕ). xs ++ drop
 
 -- head, pins and macros, one behind the other, are the file
 pub file-laid : (l : List ℕ) (pins macros : List ℤ) → (1 + blocksFor (length pins) + blocksFor (length macros)) * 512 ≤ length l
-    → sets (sets (sets l 0 (bytesOf (headBlock (length pins / 2) (length macros / 4)))) 512 (bytesOf (listBlocks 2 2 1 (blocksFor (length pins)) pins)))
+    → sets (sets (sets l 0 (bytesOf (headBlock (length pins / 2) (length macros / 4)))) 512
+    (bytesOf (listBlocks 2 2 1 (blocksFor (length pins)) pins)))
     ((1 + blocksFor (length pins)) * 512) (bytesOf (listBlocks 3 4 (1 + blocksFor (length pins)) (blocksFor (length macros)) macros))
     ≡ over (fileBytes pins macros) l
 unfolding fileWords fileBytes

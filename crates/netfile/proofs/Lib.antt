@@ -5,6 +5,7 @@ pub mod LayoutLaws
 pub mod WriteLaws
 pub mod ReadLaws
 pub mod AnswerLaws
+pub mod CutLaws
 pub mod FileLaws
 pub mod RoundTrip
 pub mod WorkedFiles

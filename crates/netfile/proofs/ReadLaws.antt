@@ -130,7 +130,8 @@ pub numbers-more : (bytes : List ℕ) (b j : ℕ) (lent : List ℤ) → j < leng
 numbers-more bytes b j lent h =
     let e : 0 + j ≡ j = omega arith in
     over-more (numbersIn bytes b 0 j) lent j (numberIn bytes b j) (length-numbers bytes b 0 j) h
-    ∙ ap (λ (l : List ℤ). over l lent) (sym (numbers-snoc bytes b 0 j ∙ ap (λ (k : ℕ). numbersIn bytes b 0 j ++ (numberIn bytes b k ∷ [])) e))
+    ∙ ap (λ (l : List ℤ). over l lent) (sym (numbers-snoc bytes b 0 j ∙ ap (λ (k : ℕ). numbersIn bytes b 0 j ++ (numberIn bytes b k ∷ []))
+    e))
 
 -- Comparison
 
@@ -150,7 +151,8 @@ same-refl (x ∷ xs) = rw (eq-eqb x x refl) (same-refl xs)
 
 -- two lists of one length, from the place i on
 module _ (xs ys : List ℕ) (i : ℕ) (same-length : length xs ≡ length ys) where
-  at-next : i < length xs → sameNumbers (drop i xs) (drop i ys) ≡ (eqb (getD xs i 0) (getD ys i 0) && sameNumbers (drop (i + 1) xs) (drop (i + 1) ys))
+  at-next : i < length xs → sameNumbers (drop i xs) (drop i ys)
+      ≡ (eqb (getD xs i 0) (getD ys i 0) && sameNumbers (drop (i + 1) xs) (drop (i + 1) ys))
   unfolding sameNumbers
   at-next h =
       let p : drop i xs ≡ getD xs i 0 ∷ drop (i + 1) xs = rw add-one (drop-cons xs i 0 h) in

@@ -24,12 +24,14 @@ use Rattle.net.specs.Check.{outOfRange, checked}
 use Rattle.net.proofs.PassedLaws.{PinsCounted, MacrosCounted, passed-all, pins-counted, macros-counted}
 use Rattle.netfile.specs.Words.{wordsOf}
 use Rattle.netfile.specs.Sums.{sealed, wrongSums}
-use Rattle.netfile.specs.Layout.{block, headBlock, blocksFor, listBlocks, fileWords, fileBytes}
-use Rattle.netfile.specs.Read.{blocksMiscounted, blocksOf, sumsWrong, headCount, numbersIn, pinsIn, macrosIn, countsWrong, laidOut, roomShort, readFile}
+use Rattle.netfile.specs.Layout.{block, headBlock, blocksFor, listBlocks, fileWords, fileBound, fileBytes}
+use Rattle.netfile.specs.Read.{blocksMiscounted, blocksOf, sumsWrong, headCount, numbersIn, pinsIn, macrosIn, countsWrong, laidOut}
+use Rattle.netfile.specs.Read.{roomShort, readFile}
 use Rattle.netfile.proofs.LayoutLaws.{length-head, length-list-blocks, length-file}
 use Rattle.netfile.proofs.ReadLaws.{same-true, same-refl}
 use Rattle.netfile.proofs.AnswerLaws.{laid-out, laid-same, laid-allowed, refuse-21, refuse-1, refuse-2, refuse-3, read-on}
-use Rattle.netfile.proofs.FileLaws.{Small, Fit, words-bytes, small-append, small-block, small-list-blocks, pass-head, pass-list, list-read}
+use Rattle.netfile.proofs.FileLaws.{Small, Fit, words-bytes, small-append, small-block, small-list-blocks, pass-head, pass-list}
+use Rattle.netfile.proofs.FileLaws.{list-read}
 
 -- Coordinates in range fit 32 bits
 
@@ -107,7 +109,8 @@ module _ (pins macros : List ℤ) (lists : InSixBlocks pins macros) where
       small-append (headBlock _ _) _ small-head
       (small-append (listBlocks 2 2 1 (blocksFor (length pins)) pins) _
       (small-list-blocks 2 2 1 (blocksFor (length pins)) pins (omega arith) (omega (arith, lists .blocks)) (lists .pins-fit))
-      (small-list-blocks 3 4 (1 + blocksFor (length pins)) (blocksFor (length macros)) macros (omega arith) (omega (arith, lists .blocks)) (lists .macros-fit)))
+      (small-list-blocks 3 4 (1 + blocksFor (length pins)) (blocksFor (length macros)) macros (omega arith) (omega (arith, lists .blocks))
+      (lists .macros-fit)))
 
   words-read : wordsOf (fileBytes pins macros) ≡ fileWords pins macros
   unfolding fileBytes
@@ -152,7 +155,8 @@ module _ (pins macros : List ℤ) (lists : InSixBlocks pins macros) where
       length-append h p ∙ omega (arith, length-head (length pins / 2) (length macros / 4), length-list-blocks 2 2 1 n pins)
       in
       ap₂ (λ (b k : ℕ). numbersIn (fileBytes pins macros) (1 + blocksFor b) 0 k) pin-numbers macro-numbers
-      ∙ list-read (fileBytes pins macros) (h ++ p) [] 3 4 (1 + n) (1 + n) (blocksFor (length macros)) macros w l (enough (length macros)) (lists .macros-fit)
+      ∙ list-read (fileBytes pins macros) (h ++ p) [] 3 4 (1 + n) (1 + n) (blocksFor (length macros)) macros w l (enough (length macros))
+      (lists .macros-fit)
 
   blocks-right : blocksMiscounted (fileBytes pins macros) ≡ false
   unfolding blocksMiscounted
@@ -180,7 +184,8 @@ module _ (pins macros : List ℤ) (lists : InSixBlocks pins macros) where
   counts-right : countsWrong (fileBytes pins macros) ≡ false
   unfolding countsWrong
   counts-right =
-      let e : length (fileBytes pins macros) / 512 ≡ 1 + blocksFor (length pins) + blocksFor (length macros) = omega (arith, length-file pins macros) in
+      let e : length (fileBytes pins macros) / 512 ≡ 1 + blocksFor (length pins) + blocksFor (length macros) = omega
+      (arith, length-file pins macros) in
       rw (pin-numbers, macro-numbers, eq-eqb _ _ e) refl
 
 -- Theorems
@@ -210,8 +215,8 @@ read-laid pins macros l =
 pub read-written : (pins macros : List ℤ) (net : ℕ × ℕ) → checked pins macros ≡ given net → ReadBack pins macros
 read-written pins macros net e = read-laid pins macros (allowed-in-six pins macros net e)
 
--- "The longest file is 6 blocks."
-pub longest-file : (pins macros : List ℤ) (net : ℕ × ℕ) → checked pins macros ≡ given net → length (fileBytes pins macros) ≤ 6 * 512
+-- F16: no file is longer than 6 blocks
+pub longest-file : (pins macros : List ℤ) (net : ℕ × ℕ) → checked pins macros ≡ given net → length (fileBytes pins macros) ≤ fileBound
 longest-file pins macros net e =
     omega (arith, length-file pins macros, allowed-in-six pins macros net e .blocks)
 
@@ -233,7 +238,8 @@ accepted-is-ours bytes p q net e =
     }))))
 
 -- two allowed nets with one file are one net
-pub same-file : (pins macros pins′ macros′ : List ℤ) (net net′ : ℕ × ℕ) → checked pins macros ≡ given net → checked pins′ macros′ ≡ given net′
+pub same-file : (pins macros pins′ macros′ : List ℤ) (net net′ : ℕ × ℕ) → checked pins macros ≡ given net → checked pins′ macros′
+    ≡ given net′
     → fileBytes pins macros ≡ fileBytes pins′ macros′ → (pins ≡ pins′) × (macros ≡ macros′)
 same-file pins macros pins′ macros′ net net′ e e′ f =
     let a = read-written pins macros net e in

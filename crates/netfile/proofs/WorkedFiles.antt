@@ -1,5 +1,6 @@
 -- A worked net as a file, by computing the definitions: its blocks' first words and sums, and the answers of a read of it and of damaged
--- copies. Assumes nothing.
+-- copies.
+-- Assumes nothing.
 use mathlib.Core.Path.{_≡_, refl}
 use mathlib.Core.List.{List, [], _∷_, _++_}
 use Prim.Native.Nat.{ℕ, _*_, _+_}
@@ -11,7 +12,8 @@ use Rattle.net.proofs.WorkedChecks.{answer}
 use Rattle.netfile.specs.Words.{wordsOf, bytesOfWord, bytesOf, wordOf, coordinate}
 use Rattle.netfile.specs.Sums.{total, runningSums, plainSum, sumOfSums, sealed, wrongSums}
 use Rattle.netfile.specs.Layout.{block, headBlock, listBlock, blocksFor, listBlocks, fileWords, fileBytes}
-use Rattle.netfile.specs.Read.{blocksMiscounted, blocksOf, sumsWrong, headCount, numberIn, numbersIn, pinsIn, macrosIn, sameNumbers, countsWrong, laidOut, roomShort, readFile}
+use Rattle.netfile.specs.Read.{blocksMiscounted, blocksOf, sumsWrong, headCount, numberIn, numbersIn, pinsIn, macrosIn, sameNumbers}
+use Rattle.netfile.specs.Read.{countsWrong, laidOut, roomShort, readFile}
 
 -- the file of a net as words, and the answer of a read of words; to unfold these is to unfold all that they rest on
 unfoldable pub words : Lists → List ℕ
@@ -19,7 +21,9 @@ unfolding over wordOf total runningSums plainSum sumOfSums sealed block headBloc
 words net = fileWords (net .pins) (net .macros)
 
 unfoldable pub readWords : List ℕ → ℕ → ℕ → Told (ℕ × ℕ)
-unfolding answer over wordsOf bytesOfWord bytesOf wordOf coordinate total runningSums plainSum sumOfSums sealed wrongSums block headBlock listBlock blocksFor listBlocks fileWords fileBytes blocksMiscounted blocksOf sumsWrong headCount numberIn numbersIn pinsIn macrosIn sameNumbers countsWrong laidOut roomShort readFile
+unfolding answer over wordsOf bytesOfWord bytesOf wordOf coordinate total runningSums plainSum sumOfSums sealed wrongSums block headBlock
+    listBlock blocksFor listBlocks fileWords fileBytes blocksMiscounted blocksOf sumsWrong headCount numberIn numbersIn pinsIn macrosIn
+    sameNumbers countsWrong laidOut roomShort readFile
 readWords ws p q = readFile (bytesOf ws) p q
 
 -- the first eight words of the block b, and its two sums
@@ -31,7 +35,7 @@ abbrev onePinIn : ℕ → ℕ → ℕ → List ℕ
 onePinIn kind number count = block kind number count (5 ∷ (5 ∷ []))
 
 pub record Table : Type 0 where
-  -- "Pins (0, 0), (10, 0), macro 4, −2, 6, 3": the three blocks, and a read of them
+  -- the net of E3: the three blocks, and a read of them
   pub head : shown (words aroundOne) 0 ≡ 1 ∷ (0 ∷ (0 ∷ (0 ∷ (2 ∷ (1 ∷ (0 ∷ (0 ∷ (4 ∷ (491 ∷ [])))))))))
   pub pins : shown (words aroundOne) 1 ≡ 2 ∷ (1 ∷ (2 ∷ (0 ∷ (0 ∷ (0 ∷ (10 ∷ (0 ∷ (15 ∷ (1825 ∷ [])))))))))
   pub macros : shown (words aroundOne) 2 ≡ 3 ∷ (2 ∷ (1 ∷ (0 ∷ (4 ∷ (4294967294 ∷ (6 ∷ (3 ∷ (17 ∷ (2075 ∷ [])))))))))

@@ -24,6 +24,7 @@ module _ (pins macros : List ℤ) (room : ℕ) where
   unfolding written onlyIf
   written-refused n e = ap (λ (t : Told (ℕ × ℕ)). onlyIf t (fitted (length (fileBytes pins macros)) room)) e
 
-  pub written-allowed : (net : ℕ × ℕ) → checked pins macros ≡ given net → written pins macros room ≡ fitted (length (fileBytes pins macros)) room
+  pub written-allowed : (net : ℕ × ℕ) → checked pins macros ≡ given net → written pins macros room
+      ≡ fitted (length (fileBytes pins macros)) room
   unfolding written onlyIf
   written-allowed net e = ap (λ (t : Told (ℕ × ℕ)). onlyIf t (fitted (length (fileBytes pins macros)) room)) e

@@ -15,6 +15,7 @@
 --            headBlock m k, listBlock               the head, and a block of entries
 --            blocksFor n, listBlocks                how many blocks n numbers take, and the blocks of a list
 --            fileWords pins macros, fileBytes       the whole file
+--            fileBound                              bytes of the longest file
 --   Write    fitted needed room                     21, or the number of bytes
 --            written pins macros room               the answer of a write into so many lent bytes
 --            toldBytes r                            what the code's answer says

@@ -1,4 +1,4 @@
--- Read a net file: document 01, "Read a net file".
+-- Read a net file: rules C71 to C74.
 use mathlib.Core.Path.{_≡_}
 use mathlib.Core.Bool.{Bool, true, false, not, cond, _&&_, _||_}
 use mathlib.Core.List.{List, [], _∷_}
@@ -12,23 +12,23 @@ use Rattle.net.specs.Bounds.{pinBound, macroBound}
 use Rattle.net.specs.Check.{checked}
 use Rattle.netfile.specs.Words.{wordsOf, coordinate}
 use Rattle.netfile.specs.Sums.{wrongSums}
-use Rattle.netfile.specs.Layout.{perBlock, blocksFor, fileBytes}
+use Rattle.netfile.specs.Layout.{perBlock, blocksFor, fileBound, fileBytes}
 
--- "1: not 1 to 6 whole blocks."
+-- C1: the length is not that of 1 to 6 blocks
 unfoldable pub blocksMiscounted : List ℕ → Bool
 blocksMiscounted bytes =
     not (eqb (length bytes % 512) 0) || (eqb (length bytes / 512) 0 || ltb 6 (length bytes / 512))
 
--- "Blocks of 512 bytes, read as 128 words": the first n blocks of words
+-- F1: the first n blocks of words, 128 words each
 unfoldable pub blocksOf : ℕ → List ℕ → List (List ℕ)
 blocksOf zero words = []
 blocksOf (suc n) words = take 128 words ∷ blocksOf n (drop 128 words)
 
--- "2: a block's word 126 or 127 is wrong."
+-- C2: in some block a sum is wrong
 unfoldable pub sumsWrong : List ℕ → Bool
 sumsWrong bytes = any wrongSums (blocksOf (length bytes / 512) (wordsOf bytes))
 
--- "The head has m in word 4 and k in word 5."
+-- F9: m and k from the head's words 4 and 5
 unfoldable pub headCount : ℕ → List ℕ → ℕ
 headCount i bytes = getD (wordsOf bytes) i 0
 
@@ -55,24 +55,24 @@ sameNumbers [] (y ∷ ys) = false
 sameNumbers (x ∷ xs) [] = false
 sameNumbers (x ∷ xs) (y ∷ ys) = eqb x y && sameNumbers xs ys
 
--- "3: [..] the head's counts against the blocks included"
+-- C3: the head's counts do not fit the blocks that there are
 unfoldable pub countsWrong : List ℕ → Bool
 countsWrong bytes = not (eqb (length bytes / 512) (1 + blocksFor (headCount 4 bytes * 2) + blocksFor (headCount 5 bytes * 4)))
 
 -- a file of as many bytes as n numbers of pins and k of macros take, within 6 blocks; the code's own condition
 pub record Sized (bytes : List ℕ) (n k : ℕ) : Type 0 where
-  pub few : length bytes ≤ 3072
+  pub few : length bytes ≤ fileBound
   pub fit : length bytes ≡ (1 + blocksFor n + blocksFor k) * 512
 
--- "3: anything else in the layout": the file is not the one that the layout makes of the lists that it holds. "Then 11 to 17."
+-- C3: the file is not the one that the layout makes of the lists that it holds. C73: after that, the net's own refusals.
 unfoldable pub laidOut : List ℕ → List ℤ → List ℤ → Told (ℕ × ℕ)
 laidOut bytes pins macros = cond (sameNumbers bytes (fileBytes pins macros)) (checked pins macros) (refused 3)
 
--- "21 first: fewer than 128 numbers lent for pins or 256 for macros."
+-- C71: fewer than 128 numbers for pins or 256 for macros
 unfoldable pub roomShort : ℕ → ℕ → Bool
 roomShort pinRoom macroRoom = ltb pinRoom (pinBound * 2) || ltb macroRoom (macroBound * 4)
 
--- the answer of a read into `pinRoom` and `macroRoom` lent numbers: "m and k for a read"
+-- C71, C52: the answer of a read into `pinRoom` and `macroRoom` lent numbers, with m and k
 unfoldable pub readFile : List ℕ → ℕ → ℕ → Told (ℕ × ℕ)
 readFile bytes pinRoom macroRoom =
     cond (roomShort pinRoom macroRoom) (refused 21)

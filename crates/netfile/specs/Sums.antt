@@ -14,11 +14,11 @@ unfoldable pub runningSums : ℕ → List ℕ → List ℕ
 runningSums s [] = []
 runningSums s (w ∷ ws) = (s + w) ∷ runningSums (s + w) ws
 
--- "In each block word 126 is the sum of words 0 to 125 modulo 2^32"
+-- F11: word 126, the words before it added up modulo 2^32
 unfoldable pub plainSum : List ℕ → ℕ
 plainSum ws = total ws % 4294967296
 
--- "word 127 is the sum, modulo 2^32, of the 126 running sums"
+-- F12: word 127, the 126 running sums added up modulo 2^32
 unfoldable pub sumOfSums : List ℕ → ℕ
 sumOfSums ws = total (runningSums 0 ws) % 4294967296
 
@@ -26,7 +26,7 @@ sumOfSums ws = total (runningSums 0 ws) % 4294967296
 unfoldable pub sealed : List ℕ → List ℕ
 sealed ws = ws ++ (plainSum ws ∷ (sumOfSums ws ∷ []))
 
--- "2: a block's word 126 or 127 is wrong.", for one block
+-- C2, for one block: word 126 or word 127 is not the sum
 unfoldable pub wrongSums : List ℕ → Bool
 wrongSums block =
     not (eqb (getD block 126 0) (plainSum (take 126 block))) || not (eqb (getD block 127 0) (sumOfSums (take 126 block)))

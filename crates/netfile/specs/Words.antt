@@ -6,7 +6,7 @@ use lib.Dec.{ltb}
 use lib.IntN.{ℤ, pos, negsuc}
 use lib.ListN.{getD}
 
--- "words of 32 bits, low byte first"; up to three bytes left over at the end are no word
+-- F1: words of 32 bits with the low byte first; up to three bytes left over at the end are no word
 unfoldable pub wordsOf : List ℕ → List ℕ
 wordsOf [] = []
 wordsOf (a ∷ []) = []
@@ -26,7 +26,7 @@ unfoldable pub bytesOf : List ℕ → List ℕ
 bytesOf [] = []
 bytesOf (w ∷ ws) = bytesOfWord w ++ bytesOf ws
 
--- "Coordinates are two's complement."
+-- F8: a coordinate is its two's complement
 unfoldable pub wordOf : ℤ → ℕ
 wordOf (pos n) = n
 wordOf (negsuc n) = 4294967296 - suc n

@@ -1,4 +1,4 @@
--- Write a net file: document 01, "Write a net file".
+-- Write a net file: rules C69 and C70.
 use mathlib.Core.Bool.{cond}
 use mathlib.Core.List.{List}
 use Prim.Native.Nat.{ℕ}
@@ -12,11 +12,11 @@ use Rattle.netfile.specs.Layout.{fileBytes}
 use Rattle.netfile.specs.declared.Written.{Written}
 use Rattle.netfile.specs.declared.Written.the-variants.{Bytes, Refused}
 
--- "21: lent space below the file's bytes"; otherwise "how many entries were given (bytes for a file ..)"
+-- C69: 21 where fewer bytes are lent than the file has; otherwise (C52) how many bytes it has
 unfoldable pub fitted : ℕ → ℕ → Told ℕ
 fitted needed room = cond (ltb room needed) (refused 21) (given needed)
 
--- "11 to 17, then 21": the answer of a write into `room` lent bytes
+-- C69: the answer of a write into `room` lent bytes
 unfoldable pub written : List ℤ → List ℤ → ℕ → Told ℕ
 written pins macros room = onlyIf (checked pins macros) (fitted (length (fileBytes pins macros)) room)
 

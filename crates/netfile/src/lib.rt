@@ -33,6 +33,9 @@ ghost use Rattle.netfile.specs.Read.{
   readFile,
 };
 
+// Bytes of the longest file: six blocks.
+pub const LONGEST: usize = 6 * 512;
+
 // The answer of a write.
 pub enum Written {
     Bytes(usize),
@@ -221,7 +224,8 @@ fn put_file(bytes: &mut [u8], pins: &[i32], macros: &[i32])
 // Write the file of a checked net.
 fn write_checked(pins: &[i32], macros: &[i32], bytes: &mut [u8]) -> Written
     requires { ⌜ (length (now pins) ≤ 1000) × (length (now macros) ≤ 1000) ⌝ }
-    ensures answer { λ r. ⌜ toldBytes r ≡ fitted (length (fileBytes (now (pins .entry)) (now (macros .entry)))) (length (now (bytes .entry))) ⌝ }
+    ensures answer { λ r. ⌜ toldBytes r ≡ fitted (length (fileBytes (now (pins .entry)) (now (macros .entry))))
+        (length (now (bytes .entry))) ⌝ }
     ensures lent { λ _. ⌜ now (bytes .exit)
         ≡ after (fitted (length (fileBytes (now (pins .entry)) (now (macros .entry)))) (length (now (bytes .entry))))
         (fileBytes (now (pins .entry)) (now (macros .entry))) (now (bytes .entry)) ⌝ }
@@ -353,7 +357,7 @@ fn is_file_of(bytes: &[u8], pins: &[i32], macros: &[i32]) -> bool
     requires { ⌜ Sized (now bytes) (length (now pins)) (length (now macros)) ⌝ }
     ensures { λ r. ⌜ r ≡ sameNumbers (now (bytes .entry)) (fileBytes (now (pins .entry)) (now (macros .entry))) ⌝ }
 {
-    let mut file = [0u8; 3072];
+    let mut file = [0u8; LONGEST];
     put_file(&mut file, pins, macros);
     let n = bytes.len();
     same_bytes(bytes, &file[0..n])

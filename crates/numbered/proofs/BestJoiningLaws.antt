@@ -9,32 +9,29 @@ use native.Mathlib.Omega.{arith}
 use lib.ListN.{length, length-map}
 use Rattle.lists.specs.Member.{_∈_}
 use Rattle.lists.specs.Total.{total, most}
-use Rattle.lists.proofs.MapLaws.{in-map, map-then, map-undone, mapIn, mapIn-then}
+use Rattle.lists.proofs.MapLaws.{in-map, map-then}
 use Rattle.joined.specs.Way.{turned}
 use Rattle.joined.specs.Path.{TerminalPath, endsOf, lengthOf}
 use Rattle.joined.specs.Chain.{Chain, Joining, OurWay}
-use Rattle.joined.proofs.ChainLaws.{joining-joins, joins-joining}
 use Rattle.joined.proofs.CarriedLaws.{turned-carried, same-point, path-carried, start-carried, finish-carried, points-carried, step-carried}
 use Rattle.joined.proofs.CarriedLaws.{Follows, chain-carried, joining-carried, our-way-carried, chain-ends}
 use Rattle.plane.specs.declared.Place.{Place}
 use Rattle.plane.specs.declared.Macro.{Macro}
 use Rattle.plane.specs.Distance.{distance}
-use Rattle.plane.proofs.PlaceOrder.{place-same}
 use Rattle.net.specs.Allowed.{Allowed}
 use Rattle.graph.specs.Vertices.{vertices}
 use Rattle.terminal.specs.Edges.{one, two}
 use Rattle.terminal.specs.Bridges.{sameRoot, rootsOf as rootsBy}
 use Rattle.terminal.specs.Kept.{terminal, keptLengths}
 use Rattle.terminal.specs.Setting.{pairs}
-use Rattle.terminal.proofs.WholeLaws.{of-kept}
-use Rattle.terminal.proofs.OurTree.{stands, kept-joining, way-between, way-only, none-shorter, none-lower}
+use Rattle.terminal.proofs.OurTree.{stands, kept-joining, none-shorter, none-lower}
 use Rattle.numbered.specs.Number.{numberOf, vertexAt, edgeAt}
 use Rattle.numbered.specs.Tree.{spanning, treeOf, bridgesOf, lengthsOf, pathsOf, totalOf, rootsOf}
 use Rattle.numbered.specs.Roots.{WayUp}
-use Rattle.numbered.specs.Demand.{Kept, PathOf, keptEnds, Stands, BestJoining}
+use Rattle.numbered.specs.Stands.{Kept, PathOf, keptEnds, Stands}
 use Rattle.numbered.proofs.SettingOf.{between-numbers, edge-in, one-vertex, two-vertex, setting, whole, paths-count}
-use Rattle.numbered.proofs.CrossingLaws.{G, pins, T, P, to-places, to-numbers, length-by-places, length-by-numbers}
-use Rattle.numbered.proofs.CrossingLaws.{kept, weight, given, bridgeNumber, kept-below, number-given, given-in, of-given, given-follows}
+use Rattle.numbered.proofs.CrossingLaws.{G, pins, T, to-places, to-numbers, length-by-places, length-by-numbers}
+use Rattle.numbered.proofs.CrossingLaws.{kept, weight, given, bridgeNumber, kept-below, given-in, given-follows}
 use Rattle.numbered.proofs.CrossingLaws.{number-in, given-number, number-follows}
 use Rattle.numbered.proofs.RootLaws.{wayPlaces, way-up}
 
@@ -71,20 +68,16 @@ module _ {ps : List Place} {ms : List Macro} (a : Allowed ps ms) where
         first-way = wayPlaces a (one (G a) k);
         first-up = subst (λ (u : Place). WayUp ps ms u (wayPlaces a (one (G a) k))) (one-vertex a k h) (way-up a _ (setting a .one-in k h));
         second-way = wayPlaces a (two (G a) k);
-        second-up = subst (λ (u : Place). WayUp ps ms u (wayPlaces a (two (G a) k))) (two-vertex a k h) (way-up a _ (setting a .two-in k h));
+        second-up = subst (λ (u : Place). WayUp ps ms u (wayPlaces a (two (G a) k))) (two-vertex a k h)
+            (way-up a _ (setting a .two-in k h));
         points-are =
             points-carried (to-places a) (s .path) ∙ ap (map (vertexAt (vertices ps ms))) (s .points-are)
             ∙ turned-carried (vertexAt (vertices ps ms)) (one (G a) k) _ _
-            ∙ ap₂ (λ (u v : Place). turned u (wayPlaces a (one (G a) k)) (v ∷ wayPlaces a (two (G a) k))) (one-vertex a k h) (two-vertex a k h);
+            ∙ ap₂ (λ (u v : Place). turned u (wayPlaces a (one (G a) k)) (v ∷ wayPlaces a (two (G a) k))) (one-vertex a k h)
+            (two-vertex a k h);
         over-bridge = rw (sym (one-vertex a k h), sym (two-vertex a k h)) (step-carried (to-places a) (s .path) _ _ (s .over-bridge));
         length-is = sym (length-by-places a (s .path)) ∙ s .length-is;
       }
-
-  pub paths-stand : (k : Kept) → k ∈ pathsOf ps ms → Stands ps ms (k .0) (k .1)
-  paths-stand k m =
-      let s = of-given a k m in
-      let r = of-kept (G a) (T a) (P a) (s .entry) (s .stands) in
-      subst (λ (b : Kept). Stands ps ms (b .0) (b .1)) (sym (s .is)) (bridge-stands (s .entry) (r .0) (r .1))
 
   -- Our joining
 
@@ -96,22 +89,6 @@ module _ {ps : List Place} {ms : List Macro} (a : Allowed ps ms) where
       joining-carried (vertexAt (vertices ps ms)) (given a) (rootsBy (G a) (T a)) (keptEnds ps ms) (given-in a) kept-follows
       (numberOf (vertices ps ms)) (to-places a .pin-back) (λ q m. to-numbers a .undone q (to-numbers a .pin-in q m))
       (kept-joining (setting a) (whole a))
-
-  -- the paths that they stand for
-  abbrev pub ours : List (PathOf ps ms)
-  ours = mapIn (pathsOf ps ms) (λ k m. paths-stand k m .path)
-
-  pub ours-ends : map endsOf ours ≡ map (keptEnds ps ms) (pathsOf ps ms)
-  unfolding rootsOf
-  ours-ends =
-      mapIn-then endsOf (keptEnds ps ms) (pathsOf ps ms) _
-      (λ k m. ap₂ (λ (u v : Place). (u, v)) (paths-stand k m .start-is) (paths-stand k m .finish-is))
-
-  pub ours-lengths : map (lengthOf distance) ours ≡ map (λ k. k .1) (pathsOf ps ms)
-  ours-lengths = mapIn-then (lengthOf distance) (λ (k : Kept). k .1) (pathsOf ps ms) _ (λ k m. paths-stand k m .length-is)
-
-  pub ours-joining : Joining endsOf ps ours
-  ours-joining = joins-joining endsOf place-same (rw ours-ends (joining-joins (keptEnds ps ms) place-same paths-joining))
 
   -- Paths that they are compared with
 
@@ -138,33 +115,11 @@ module _ {ps : List Place} {ms : List Macro} (a : Allowed ps ms) where
   number-apart : (x y : Place) → x ∈ ps → y ∈ ps → (x ≡ y → ⊥) → numberOf (vertices ps ms) x ≡ numberOf (vertices ps ms) y → ⊥
   number-apart x y i k n e = n (same-point (to-numbers a) x y (to-numbers a .pin-in x i) (to-numbers a .pin-in y k) e)
 
-  pub our-way : (x y : Place) → x ∈ ps → y ∈ ps → (x ≡ y → ⊥) → (w : List Kept) × OurWay (keptEnds ps ms) (pathsOf ps ms) x y w
-  our-way x y i k n =
-      let r =
-      way-between (setting a) (whole a) (numberOf vs x) (numberOf vs y) (to-numbers a .pin x i) (to-numbers a .pin y k) (number-apart x y i k n)
-      in
-      let o = our-way-carried (vertexAt vs) (given a) (rootsBy (G a) (T a)) (keptEnds ps ms) (given-in a) kept-follows single (r .1) in
-      (map (given a) (r .0), rw (to-numbers a .undone x (to-numbers a .pin-in x i), to-numbers a .undone y (to-numbers a .pin-in y k)) at o)
-    where
-      vs : List Place
-      vs = vertices ps ms
-
-      single : (j k : ℕ) → j ∈ kept a → k ∈ kept a → given a j ≡ given a k → j ≡ k
-      single j k m o e = sym (number-given a j m) ∙ ap (bridgeNumber a) e ∙ number-given a k o
-
   way-back : {x y : Place} {w : List Kept} → OurWay (keptEnds ps ms) (pathsOf ps ms) x y w →
       OurWay (rootsBy (G a) (T a)) (kept a) (numberOf (vertices ps ms) x) (numberOf (vertices ps ms) y) (map (bridgeNumber a) w)
   way-back o =
       our-way-carried (numberOf (vertices ps ms)) (bridgeNumber a) (keptEnds ps ms) (rootsBy (G a) (T a)) (number-in a) (number-follows a)
       (λ b c m n e. sym (given-number a b m) ∙ ap (given a) e ∙ given-number a c n) o
-
-  back-and-forth : {x y : Place} {w : List Kept} → OurWay (keptEnds ps ms) (pathsOf ps ms) x y w → map (given a) (map (bridgeNumber a) w) ≡ w
-  back-and-forth {w = w} o = map-undone (bridgeNumber a) (given a) w (λ b m. given-number a b (o .among b m))
-
-  pub our-way-only : {x y : Place} {v w : List Kept} →
-      OurWay (keptEnds ps ms) (pathsOf ps ms) x y v → OurWay (keptEnds ps ms) (pathsOf ps ms) x y w → v ≡ w
-  our-way-only u o =
-      sym (back-and-forth u) ∙ ap (map (given a)) (way-only (setting a) (whole a) (way-back u) (way-back o)) ∙ back-and-forth o
 
   pub no-lower-chain : {x y : Place} → (x ≡ y → ⊥) → {w : List Kept} → OurWay (keptEnds ps ms) (pathsOf ps ms) x y w →
       {cs : List (PathOf ps ms)} → Chain endsOf x cs y → most (map (λ k. k .1) w) ≤ most (map (lengthOf distance) cs)
@@ -178,22 +133,3 @@ module _ {ps : List Place} {ms : List Macro} (a : Allowed ps ms) where
       map-then (bridgeNumber a) (weight a) (λ (k : Kept). k .1) w (λ b m. ap (λ (k : Kept). k .1) (given-number a b (o .among b m)))
       in
       omega (arith, r, ap most weights, ap most (back-lengths cs))
-
-  -- All of it
-
-  pub best-joining : BestJoining ps ms
-  best-joining = record {
-    count = paths-length;
-    stands = paths-stand;
-    sum = paths-sum;
-    joining = paths-joining;
-    ours = ours;
-    ours-are = refl;
-    ours-ends = ours-ends;
-    ours-lengths = ours-lengths;
-    ours-joining = ours-joining;
-    shortest = no-shorter-joining;
-    way = our-way;
-    only = our-way-only;
-    lowest = no-lower-chain;
-  }

@@ -28,7 +28,7 @@ use Rattle.terminal.proofs.Nearest.{fits}
 use Rattle.terminal.proofs.OurTree.{bridge-is, is-bridge, bridges-in-order, kept-is}
 use Rattle.numbered.specs.Number.{numberOf, vertexAt, edgeAt}
 use Rattle.numbered.specs.Tree.{spanning, pathsOf, rootOf, rootsOf}
-use Rattle.numbered.specs.Demand.{Kept, keptEnds, Stands}
+use Rattle.numbered.specs.Stands.{Kept, keptEnds, Stands}
 use Rattle.numbered.specs.Bridges.{takenBefore, KeptBridges}
 use Rattle.numbered.proofs.NumberLaws.{ascending-at, count-of}
 use Rattle.numbered.proofs.SettingOf.{setting, whole}
@@ -43,7 +43,8 @@ map-ascending {B = B} p q f (x ∷ l) h a =
     (λ y m. first y (of-map f l m), map-ascending p q f l (λ u v i k. h u v (there i) (there k)) (a .1))
   where
     first : (y : B) → Source f l y → q (f x) y ≡ true
-    first y s = subst (λ (z : B). q (f x) z ≡ true) (sym (s .is)) (h x (s .entry) (here refl) (there (s .stands)) (a .0 (s .entry) (s .stands)))
+    first y s = subst (λ (z : B). q (f x) z ≡ true) (sym (s .is))
+        (h x (s .entry) (here refl) (there (s .stands)) (a .0 (s .entry) (s .stands)))
 
 -- the same first order, and another second one that goes with it
 then-by : {A B C : Type 0} (p : A → A → Bool) (q : B → B → Bool) (r : C → C → Bool) (a b : A) (x y : B) (u v : C) →
@@ -84,7 +85,8 @@ module _ {ps : List Place} {ms : List Macro} (a : Allowed ps ms) where
       (λ e. absurd (n (f .0 ∙ ap (vertexAt (vertices ps ms)) (eqb-true _ _ e) ∙ sym (f .1))))
       (λ e. e)
 
-  pub offered-all : (e : Place × Place) → e ∈ spanning ps ms → (rootOf ps ms (e .0) ≡ rootOf ps ms (e .1) → ⊥) → (l : ℕ) × ((e, l) ∈ offered)
+  pub offered-all : (e : Place × Place) → e ∈ spanning ps ms → (rootOf ps ms (e .0) ≡ rootOf ps ms (e .1) → ⊥) → (l : ℕ)
+      × ((e, l) ∈ offered)
   offered-all e m n = (weight a k, Memᴰ·cast (ap (λ (b : Place × Place). (b, weight a k)) (sym is)) (in-map (given a) bridge))
     where
       k : ℕ
@@ -135,7 +137,8 @@ module _ {ps : List Place} {ms : List Macro} (a : Allowed ps ms) where
   paths-kept same =
       paths-are a
       ∙ ap (map (given a)) (kept-is (setting a) (whole a))
-      ∙ kept-carried ℕ-discrete same (vertexAt (vertices ps ms)) (numberOf (vertices ps ms)) (given a) (rootsBy (G a) (T a)) (keptEnds ps ms) L
+      ∙ kept-carried ℕ-discrete same (vertexAt (vertices ps ms)) (numberOf (vertices ps ms)) (given a) (rootsBy (G a) (T a))
+      (keptEnds ps ms) L
       (matches same)
 
   pub kept-bridges : KeptBridges ps ms

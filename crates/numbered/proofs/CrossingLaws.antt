@@ -34,7 +34,7 @@ use Rattle.terminal.proofs.Nearest.{link-in}
 use Rattle.terminal.proofs.Homeward.{root-pin}
 use Rattle.numbered.specs.Number.{numberOf, vertexAt, edgeAt, pinNumbers}
 use Rattle.numbered.specs.Tree.{spanning, graphOf, treeOf, pathsOf, rootOf, rootsOf}
-use Rattle.numbered.specs.Demand.{Kept, PathOf, keptEnds}
+use Rattle.numbered.specs.Stands.{Kept, PathOf, keptEnds}
 use Rattle.numbered.proofs.NumberLaws.{vertex-of-number, number-of-vertex, count-of, one-of, two-of}
 use Rattle.numbered.proofs.NumberLaws.{pin-number-in, of-pin-numbers}
 use Rattle.numbered.proofs.SettingOf.{between-numbers, edge-in, one-vertex, two-vertex, setting, whole, edge-numbers}
@@ -74,7 +74,8 @@ module _ {ps : List Place} {ms : List Macro} (a : Allowed ps ms) where
   pin-place : (i : ℕ) → i ∈ pins → vertexAt vs i ∈ ps
   pin-place i m =
       let r = of-pin-numbers vs ps i m in
-      Memᴰ·cast (ap (vertexAt vs) (r .is) ∙ vertex-of-number vs (vertices-ascending ps ms) (r .pin) (pin-vertex ps ms (r .stands))) (r .stands)
+      Memᴰ·cast (ap (vertexAt vs) (r .is) ∙ vertex-of-number vs (vertices-ascending ps ms) (r .pin) (pin-vertex ps ms (r .stands)))
+      (r .stands)
 
   pub to-places :
       Carries (vertexAt (vertices ps ms)) (numberOf (vertices ps ms)) (λ i. i < length (vertices ps ms)) (pairs G) (spanning ps ms) pins ps

@@ -9,5 +9,4 @@ pub mod BestJoiningLaws
 pub mod BridgeLaws
 pub mod WorkLaws
 pub mod PathLaws
-pub mod TreeOrder
 pub mod WorkedPaths

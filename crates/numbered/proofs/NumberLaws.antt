@@ -1,5 +1,5 @@
--- Numbers of vertices: number and vertex undo each other, and the order of numbers is the order of places; the graph by numbers read edge by
--- edge; the pins by numbers, of which there are as many as pins, each once.
+-- Numbers of vertices: number and vertex undo each other, and the order of numbers is the order of places; the graph by numbers read edge
+-- by edge; the pins by numbers, of which there are as many as pins, each once.
 -- Assumes nothing.
 use mathlib.Core.Path.{_≡_, refl, sym, ap, _∙_}
 use mathlib.Core.Bool.{Bool, true, false}
@@ -15,7 +15,8 @@ use Rattle.lists.specs.Sorted.{sorted, Ascending}
 use Rattle.lists.proofs.TestLaws.{by, differ}
 use Rattle.lists.proofs.MemberLaws.{getD-in, once-length}
 use Rattle.lists.proofs.MapLaws.{in-map, of-map, getD-map, map-once}
-use Rattle.lists.proofs.SortedLaws.{of-sorted, in-sorted, length-sorted, sorted-ascending, ascending-once, position-small, at-position, position-at}
+use Rattle.lists.proofs.SortedLaws.{of-sorted, in-sorted, length-sorted, sorted-ascending, ascending-once, position-small, at-position}
+use Rattle.lists.proofs.SortedLaws.{position-at}
 use Rattle.lent.specs.Over.{over}
 use Rattle.plane.specs.declared.Place.{Place}
 use Rattle.plane.specs.Place.{before, samePlace}
@@ -114,7 +115,7 @@ module _ (vs : List Place) (es : List (Place × Place)) where
 -- The pins by numbers
 
 -- pins at different places stand once each
-apart-once : (ps : List Place) → NoTwo samePlace ps → Once ps
+pub apart-once : (ps : List Place) → NoTwo samePlace ps → Once ps
 apart-once [] n = tt
 apart-once (p ∷ ps) n = (λ m. differ (same-refl p) (n .0 p m), apart-once ps (n .1))
 

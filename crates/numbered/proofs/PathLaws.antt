@@ -65,7 +65,8 @@ module _ (ps : List Place) (ms : List Macro) where
   paths-bridges = each (treeOf ps ms .bridges)
     where
       each : (ks : List ℕ)
-          → map (λ (p : (Place × Place) × ℕ). p .0) (map (λ k. (edgeAt (spanning ps ms) k, lengthOver k)) ks) ≡ map (edgeAt (spanning ps ms)) ks
+          → map (λ (p : (Place × Place) × ℕ). p .0) (map (λ k. (edgeAt (spanning ps ms) k, lengthOver k)) ks)
+          ≡ map (edgeAt (spanning ps ms)) ks
       each [] = refl
       each (k ∷ ks) = ap (λ (l : List (Place × Place)). edgeAt (spanning ps ms) k ∷ l) (each ks)
 
@@ -73,11 +74,12 @@ module _ (ps : List Place) (ms : List Macro) where
   unfolding pathsOf
   paths-lengths = each (treeOf ps ms .bridges) ∙ sym lengths-over
     where
-      each : (ks : List ℕ) → map (λ (p : (Place × Place) × ℕ). p .1) (map (λ k. (edgeAt (spanning ps ms) k, lengthOver k)) ks) ≡ map lengthOver ks
+      each : (ks : List ℕ) → map (λ (p : (Place × Place) × ℕ). p .1) (map (λ k. (edgeAt (spanning ps ms) k, lengthOver k)) ks)
+          ≡ map lengthOver ks
       each [] = refl
       each (k ∷ ks) = ap (λ (l : List ℕ). lengthOver k ∷ l) (each ks)
 
-  -- "and for the total their sum"
+  -- T16: the total is the sum of the lengths
   pub total-sum : totalOf ps ms ≡ total (lengthsOf ps ms)
   unfolding treeOf terminal
   total-sum = refl
@@ -135,7 +137,7 @@ module _ {ps : List Place} {ms : List Macro} (a : Allowed ps ms) where
       ap length (lengths-over ps ms) ∙ length-map (treeOf ps ms .bridges) (lengthOver ps ms) in
       omega (arith, total-sum ps ms, total-le pathBound (lengthsOf ps ms) length-small, n, paths-count a, a .few-pins)
 
-  -- "The terminal tree is the m − 1 kept paths."
+  -- T14: m − 1 paths are kept
   pub paths-one-fewer : suc (length (pathsOf ps ms)) ≡ length ps
   unfolding pathsOf
   paths-one-fewer =

@@ -32,7 +32,8 @@ use Rattle.numbered.specs.Tree.{spanning, treeOf, rootOf}
 use Rattle.numbered.specs.Roots.{farOf, parentOf, NearestRoot, Through, SmallestParent, WayUp, arrived, upward, HomeWay}
 use Rattle.numbered.proofs.NumberLaws.{vertex-in, number-small, vertex-of-number, number-of-vertex, number-order}
 use Rattle.numbered.proofs.SettingOf.{setting, whole}
-use Rattle.numbered.proofs.CrossingLaws.{pins, T, P, to-places, to-numbers, way-places, way-numbers, long-places, long-numbers, between-is}
+use Rattle.numbered.proofs.CrossingLaws.{pins, T, P, to-places, to-numbers, way-places, way-numbers, long-places, long-numbers}
+use Rattle.numbered.proofs.CrossingLaws.{between-is}
 use Rattle.numbered.proofs.CrossingLaws.{root-by-number, root-below, root-number}
 
 -- a vertex has one way up
@@ -100,7 +101,8 @@ module _ {ps : List Place} {ms : List Macro} (a : Allowed ps ms) where
 
   through-places : (v : Place) → v ∈ vs → (j : ℕ) → Onto (setting a) (whole a) (numberOf vs v) j → Through ps ms v (vertexAt vs j)
   through-places v i j t = record {
-    link = subst (λ (u : Place). Link (spanning ps ms) u (vertexAt vs j)) (again v i) (link-carried (vertexAt vs) (to-places a .pair) (t .link));
+    link = subst (λ (u : Place). Link (spanning ps ms) u (vertexAt vs j)) (again v i)
+        (link-carried (vertexAt vs) (to-places a .pair) (t .link));
     same-root = root-at j h ∙ ap (vertexAt vs) (t .same-root) ∙ sym (root-by-number a v);
     points = map (vertexAt vs) (t .points);
     way = rw (root-by-number a v) (way-places a (t .way));
@@ -148,7 +150,8 @@ module _ {ps : List Place} {ms : List Macro} (a : Allowed ps ms) where
 
   -- Ways
 
-  up-places : (i : ℕ) → i < length vs → {qs : List ℕ} → Upward (setting a) (whole a) i qs → WayUp ps ms (vertexAt vs i) (map (vertexAt vs) qs)
+  up-places : (i : ℕ) → i < length vs → {qs : List ℕ} → Upward (setting a) (whole a) i qs →
+      WayUp ps ms (vertexAt vs i) (map (vertexAt vs) qs)
   up-places i h (there m) = arrived (to-places a .pin i m)
   up-places i h (onto {ps = qs} n u) =
       let p = parent-is (setting a) (whole a) i h n in
@@ -165,12 +168,13 @@ module _ {ps : List Place} {ms : List Macro} (a : Allowed ps ms) where
   pub way-up : (i : ℕ) → i < length (vertices ps ms) → WayUp ps ms (vertexAt (vertices ps ms) i) (wayPlaces i)
   way-up i h = up-places i h (way-upward (setting a) (whole a) i h)
 
-  -- "A vertex's way to its root follows parents until the root"
+  -- T8: a way goes from parent to parent and ends at the root
   pub way-home : (v : Place) → v ∈ vertices ps ms → HomeWay ps ms v
   way-home v i = record {
     points = wayPlaces (numberOf vs v);
     up = subst (λ (u : Place). WayUp ps ms u (wayPlaces (numberOf vs v))) (again v i) (way-up (numberOf vs v) (number-in v i));
-    way = rw (root-by-number a v) (way-cast (sym (again v i)) (way-places a (way-runs (setting a) (whole a) (numberOf vs v) (number-in v i))));
+    way = rw (root-by-number a v) (way-cast (sym (again v i))
+        (way-places a (way-runs (setting a) (whole a) (numberOf vs v) (number-in v i))));
     once =
         subst (λ (u : Place). Once (u ∷ wayPlaces (numberOf vs v))) (again v i)
         (map-once (vertexAt vs) (numberOf vs v ∷ wayPoints (setting a) (whole a) (numberOf vs v))

@@ -1,5 +1,5 @@
--- The spanning graph of an allowed net, by numbers, is what the theorems of the terminal tree suppose: edges join two different vertices and
--- are as long as their distance, and the graph joins its vertices, among them the pins.
+-- The spanning graph of an allowed net, by numbers, is what the theorems of the terminal tree suppose: edges join two different vertices
+-- and are as long as their distance, and the graph joins its vertices, among them the pins.
 -- Assumes nothing.
 use mathlib.Core.Path.{_≡_, refl, sym, ap, ap₂, _∙_}
 use mathlib.Core.Logic.{inl}
@@ -133,7 +133,7 @@ module _ {ps : List Place} {ms : List Macro} (a : Allowed ps ms) where
         once = pins-once vs ps (vertices-ascending ps ms) pin-in;
       }
 
-  -- "The terminal tree is the m − 1 kept paths."
+  -- T14: m − 1 paths are kept
   pub paths-count : suc (length (treeOf ps ms .bridges)) ≡ length ps
   unfolding treeOf terminal
   paths-count = kept-count setting whole ∙ pins-count vs ps (a .pins-apart)

@@ -1,5 +1,5 @@
--- The tree is worked out stage by stage: vertices and edges in their tables, the same by numbers, the pins by numbers, the tree itself. What
--- each stage asks for follows from those before it, and all of them together are what is promised.
+-- The tree is worked out stage by stage: vertices and edges in their tables, the same by numbers, the pins by numbers, the tree itself.
+-- What each stage asks for follows from those before it, and all of them together are what is promised.
 -- Assumes nothing.
 use mathlib.Core.Path.{_≡_, refl, sym, ap, ap₂, _∙_}
 use mathlib.Core.List.{List, [], map, append-nil}
@@ -150,7 +150,8 @@ module _ {ps : List Place} {ms : List Macro} {lent : Tables} {points links : Lis
     tree-same = rw (graph-same, read-listed _ _ pin m pins-listed, c .vertex-count) refl
 
     -- the tree and all before it
-    pub all-worked : {far root up via kept long : List ℕ} {count sum : ℕ} (t : Terminal) → t ≡ terminal (graph ea eb el e) n (entriesIn pin 0 m)
+    pub all-worked : {far root up via kept long : List ℕ} {count sum : ℕ} (t : Terminal) → t
+        ≡ terminal (graph ea eb el e) n (entriesIn pin 0 m)
         → labels far root ≡ t .labels → parents up via ≡ t .parents → Listed (t .bridges) (lent .kept) kept count
         → Listed (t .lengths) (lent .longs) long count → sum ≡ t .total
         → Worked ps ms lent (tables points links ea eb el pin far root up via kept long)

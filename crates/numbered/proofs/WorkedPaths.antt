@@ -1,4 +1,4 @@
--- The kept paths and the totals of document 01's worked nets, by computing the definitions.
+-- The kept paths and the totals of the worked nets E1, E3 to E6 and E8, by computing the definitions.
 -- Assumes nothing.
 use mathlib.Core.Path.{_≡_, refl}
 use mathlib.Core.List.{List, [], _∷_}
@@ -32,19 +32,19 @@ abbrev over-bridge : ℤ → ℤ → ℤ → ℤ → ℕ → (Place × Place) ×
 over-bridge a b c d n = ((place a b, place c d), n)
 
 pub record Table : Type 0 where
-  -- "One pin (5, 5): no edges, totals 0 and 0."
+  -- E1: no path, total 0
   pub one-pin : treeIn onePin ≡ record { paths = []; total = 0 }
-  -- "one path, bridge (4, −2)–(6, −2), length 14"
+  -- E3: one path, of length 14, below the macro
   pub around-one : treeIn aroundOne ≡ record { paths = over-bridge (pos 4) (negsuc 1) (pos 6) (negsuc 1) 14 ∷ []; total = 14 }
-  -- "terminal 9"
+  -- E4: total 9
   pub three-pins :
       treeIn threePins
       ≡ record { paths = over-bridge (pos 0) (pos 0) (pos 4) (pos 0) 4 ∷ over-bridge (pos 0) (pos 0) (pos 2) (pos 3) 5 ∷ []; total = 9 }
-  -- "both totals 4, along the shared side"
+  -- E5: total 4, along the shared side
   pub shared-side : treeIn sharedSide ≡ record { paths = over-bridge (pos 2) (pos 0) (pos 2) (pos 2) 4 ∷ []; total = 4 }
-  -- "one path, bridge (0, 0)–(1, 0); both totals 3"
+  -- E6: one path, of length 3, below the macro
   pub on-sides : treeIn onSides ≡ record { paths = over-bridge (pos 0) (pos 0) (pos 1) (pos 0) 3 ∷ []; total = 3 }
-  -- "Macro 4, −2, 6, 3 with pin (4, 0): allowed"
+  -- E8: allowed, with one pin and so no path
   pub on-boundary : treeIn onBoundary ≡ record { paths = []; total = 0 }
 
 pub worked-net-paths : Table

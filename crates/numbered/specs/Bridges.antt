@@ -1,5 +1,5 @@
--- Bridges, and which of them are kept, said of places: document 01, "Terminal tree". With roots, parents and ways (Roots.antt) this says in
--- the document's words which paths are given.
+-- Bridges, and which of them are kept, said of places: rules T9 to T14. With roots, parents and ways (Roots.antt) this says which paths are
+-- given.
 use mathlib.Core.Path.{_≡_}
 use mathlib.Core.Bool.{Bool}
 use mathlib.Core.List.{List}
@@ -12,7 +12,7 @@ use Rattle.plane.specs.declared.Place.{Place}
 use Rattle.plane.specs.declared.Macro.{Macro}
 use Rattle.graph.specs.Edges.{beforeEdge}
 use Rattle.numbered.specs.Tree.{spanning, pathsOf, rootOf}
-use Rattle.numbered.specs.Demand.{Kept, keptEnds, Stands}
+use Rattle.numbered.specs.Stands.{Kept, keptEnds, Stands}
 
 -- by path length, ties by the order of edges
 unfoldable pub takenBefore : Kept → Kept → Bool
@@ -22,11 +22,11 @@ module _ (ps : List Place) (ms : List Macro) where
   pub record KeptBridges : Type 0 where
     -- the bridges with the lengths of their paths
     pub offered : List Kept
-    -- "A bridge is an edge between vertices of different roots; it stands for the path root, way, bridge, way, root."
+    -- T9: a bridge is an edge whose ends have different roots; T10: it stands for the path between them, over both ways
     pub stands : (k : Kept) → k ∈ offered → Stands ps ms (k .0) (k .1)
     pub apart : (k : Kept) → k ∈ offered → rootOf ps ms (k .0 .0) ≡ rootOf ps ms (k .0 .1) → ⊥
     pub all : (e : Place × Place) → e ∈ spanning ps ms → (rootOf ps ms (e .0) ≡ rootOf ps ms (e .1) → ⊥) → (l : ℕ) × ((e, l) ∈ offered)
-    -- "Bridges are taken by path length, ties by the order of edges."
+    -- T12: bridges come by the length of their paths, equal ones in the order of edges
     pub in-order : Ascending takenBefore offered
-    -- "One is kept when its two roots are not yet joined by bridges kept before."
+    -- T13: a bridge is kept where those kept before it do not join its two roots
     pub kept-are : (same : Discrete Place) → pathsOf ps ms ≡ kept same (keptEnds ps ms) offered

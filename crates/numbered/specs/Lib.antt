@@ -17,10 +17,9 @@
 --              Through, SmallestParent ps ms v      the parent is the smallest neighbour on a shortest way to the root
 --              WayUp ps ms v qs                     qs are the places after v on its way to its root
 --              HomeWay ps ms v                      such a way, loop-free to the root
---   Demand     Kept, keptEnds ps ms k               a kept path, bridge and length; the two pins that it joins
+--   Stands     Kept, keptEnds ps ms k               a kept path, bridge and length; the two pins that it joins
 --              PathOf ps ms                         a terminal path of the net's graph
 --              Stands ps ms b l                     the bridge b stands for a terminal path of length l
---              BestJoining ps ms                    the kept paths are a joining, and none is shorter or has a shorter longest path
 --   Bridges    takenBefore j k                      by path length, ties by the order of edges
 --              KeptBridges ps ms                    the bridges in this order, and the given paths are those that are kept of them
 --   Tables     tables .., Fresh                     the tables that are lent for it, and what is asked of them
@@ -30,6 +29,6 @@
 pub mod Number
 pub mod Tree
 pub mod Roots
-pub mod Demand
+pub mod Stands
 pub mod Bridges
 pub mod Tables

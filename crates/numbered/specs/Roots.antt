@@ -1,5 +1,5 @@
--- Roots, parents and ways, said of places: document 01, "Terminal tree". The tables give each vertex a distance, a root and a parent; these
--- are the sentences that say which.
+-- Roots, parents and ways, said of places: rules T6 to T8. The tables give each vertex a distance, a root and a parent; these records say
+-- which.
 use mathlib.Core.Path.{_≡_}
 use mathlib.Core.Bool.{false}
 use mathlib.Core.List.{List, [], _∷_}
@@ -25,7 +25,7 @@ module _ (ps : List Place) (ms : List Macro) where
   unfoldable pub parentOf : Place → Place
   parentOf v = vertexAt (vertices ps ms) (up (treeOf ps ms .parents) (numberOf (vertices ps ms) v))
 
-  -- "The root of a vertex is its nearest pin along the graph, the smallest on a tie."
+  -- T6: the root of a vertex is the pin nearest to it along the graph, of several the smallest
   pub record NearestRoot (v : Place) : Type 0 where
     pub is-pin : rootOf ps ms v ∈ ps
     pub points : List Place
@@ -35,7 +35,7 @@ module _ (ps : List Place) (ms : List Macro) where
     pub smallest : (p : Place) (qs : List Place) → p ∈ ps → Way (spanning ps ms) v qs p → long distance v qs ≡ farOf v →
         before p (rootOf ps ms v) ≡ false
 
-  -- w is a "neighbour with the same root through which a shortest way to that root runs"
+  -- T7: w is a neighbour with the same root, and a shortest way to that root goes on from it
   pub record Through (v w : Place) : Type 0 where
     pub link : Link (spanning ps ms) v w
     pub same-root : rootOf ps ms w ≡ rootOf ps ms v
@@ -43,12 +43,12 @@ module _ (ps : List Place) (ms : List Macro) where
     pub way : Way (spanning ps ms) w points (rootOf ps ms v)
     pub shortest : distance v w + long distance w points ≡ farOf v
 
-  -- "Its parent, where it is no pin, is the smallest neighbour with the same root through which a shortest way to that root runs."
+  -- T7: the parent of a vertex that is no pin is the smallest such neighbour
   pub record SmallestParent (v : Place) : Type 0 where
     pub through : Through v (parentOf v)
     pub smallest : (w : Place) → Through v w → before w (parentOf v) ≡ false
 
-  -- "A vertex's way to its root follows parents until the root": the places after it on its way
+  -- T8: a way goes from parent to parent and ends at the root: the places after it on its way
   pub data WayUp : Place → List Place → Type 0 where
     arrived : {v : Place} → v ∈ ps → WayUp v []
     upward : {v : Place} {qs : List Place} → (v ∈ ps → ⊥) → WayUp (parentOf v) qs → WayUp v (parentOf v ∷ qs)

@@ -1,4 +1,4 @@
--- The terminal tree of a net: document 01, "Terminal tree".
+-- The terminal tree of a net: rules T6 to T16.
 use mathlib.Core.List.{List, [], _∷_, map}
 use Prim.Native.Nat.{ℕ}
 use lib.IntN.{ℤ, pos}
@@ -25,23 +25,23 @@ module _ (ps : List Place) (ms : List Macro) where
   unfoldable pub treeOf : Terminal
   treeOf = terminal graphOf (length (vertices ps ms)) (pinNumbers (vertices ps ms) ps)
 
-  -- "its bridge": of each kept path, in the order kept
+  -- T14: the bridge of each kept path, in the order kept
   unfoldable pub bridgesOf : List (Place × Place)
   bridgesOf = map (edgeAt spanning) (treeOf .bridges)
 
-  -- "and its length": "every edge of it counted"
+  -- T15: the length of each, every edge of it counted
   abbrev pub lengthsOf : List ℕ
   lengthsOf = treeOf .lengths
 
-  -- "and for the total their sum"
+  -- T16: the total, their sum
   abbrev pub totalOf : ℕ
   totalOf = treeOf .total
 
-  -- "Each path in the order kept: its bridge (four numbers) and its length"
+  -- C64: each path in the order kept, by its bridge and its length
   unfoldable pub pathsOf : List ((Place × Place) × ℕ)
   pathsOf = map (λ k. (edgeAt spanning k, pathLength graphOf (treeOf .labels .fars) (treeOf .parents) k)) (treeOf .bridges)
 
-  -- "The root of a vertex is its nearest pin along the graph, the smallest on a tie."
+  -- T6: the root of a vertex, the pin nearest along the graph, of several the smallest
   unfoldable pub rootOf : Place → Place
   rootOf v = vertexAt (vertices ps ms) (root (treeOf .labels) (numberOf (vertices ps ms) v))
 

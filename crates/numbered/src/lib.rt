@@ -66,7 +66,8 @@ fn number_places(places: &[i32], m: usize, vertices: &[i32], n: usize, numbers: 
 fn number_pins(pins: &[i32], vertices: &[i32], n: usize, numbers: &mut [usize; PINS]) -> usize
     requires { ⌜ (length (now pins) / 2 ≤ pinBound) × (n * 2 ≤ length (now vertices)) ⌝ }
     requires { ⌜ length (now numbers) ≡ pinBound ⌝ }
-    ensures { λ r. ⌜ Listed (pinNumbers (entries placeFrom 2 (now (vertices .entry)) n) (placesOf (now (pins .entry)))) (now (numbers .entry))
+    ensures { λ r. ⌜ Listed (pinNumbers (entries placeFrom 2 (now (vertices .entry)) n) (placesOf (now (pins .entry))))
+        (now (numbers .entry))
         (now (numbers .exit)) r ⌝ }
 {
     let mut sorted = [0i32; PIN_NUMBERS];
@@ -92,7 +93,8 @@ fn number_edges(
     el: &mut [u64; EDGES],
 )
     requires { ⌜ (e * 4 ≤ length (now edges)) × (n * 2 ≤ length (now vertices)) ⌝ }
-    requires { ⌜ (e ≤ edgeBound) × ((now ea ≡ replicate edgeBound 0) × ((now eb ≡ replicate edgeBound 0) × (now el ≡ replicate edgeBound 0))) ⌝ }
+    requires { ⌜ (e ≤ edgeBound) × ((now ea ≡ replicate edgeBound 0)
+        × ((now eb ≡ replicate edgeBound 0) × (now el ≡ replicate edgeBound 0))) ⌝ }
     ensures { λ _. ⌜ graph (now (ea .exit)) (now (eb .exit)) (now (el .exit)) e ≡
         numbered (entries placeFrom 2 (now (vertices .entry)) n) (entries edgeFrom 4 (now (edges .entry)) e) ⌝ }
 {
@@ -119,7 +121,8 @@ fn chart(pins: &[i32], macros: &[i32], points: &mut [i32], links: &mut [i32]) ->
     requires { ⌜ (length (now points) ≡ pointBound * 2) × (length (now links) ≡ edgeBound * 4) ⌝ }
     ensures { λ r. ⌜ (r .points ≡ length (vertices (placesOf (now (pins .entry))) (macrosOf (now (macros .entry)))))
         × (r .edges ≡ length (spanning (placesOf (now (pins .entry))) (macrosOf (now (macros .entry))))) ⌝ }
-    ensures { λ _. ⌜ now (points .exit) ≡ over (flat placeNumbers (vertices (placesOf (now (pins .entry))) (macrosOf (now (macros .entry)))))
+    ensures { λ _. ⌜ now (points .exit) ≡ over (flat placeNumbers
+        (vertices (placesOf (now (pins .entry))) (macrosOf (now (macros .entry)))))
         (now (points .entry)) ⌝ }
     ensures { λ _. ⌜ now (links .exit) ≡ over (flat edgeNumbers (spanning (placesOf (now (pins .entry))) (macrosOf (now (macros .entry)))))
         (now (links .entry)) ⌝ }
@@ -160,7 +163,8 @@ pub fn terminal_tree(
     long: &mut [u64; EDGES],
 ) -> Tree
     requires { ⌜ Allowed (placesOf (now pins)) (macrosOf (now macros)) ⌝ }
-    requires { ⌜ Fresh (tables (now vertices) (now edges) (now ea) (now eb) (now el) (now pin) (now far) (now root) (now up) (now via) (now kept)
+    requires { ⌜ Fresh (tables (now vertices) (now edges) (now ea) (now eb) (now el) (now pin) (now far) (now root) (now up) (now via)
+        (now kept)
         (now long)) ⌝ }
     ensures { λ r. ⌜ Worked (placesOf (now (pins .entry))) (macrosOf (now (macros .entry)))
         (tables (now (vertices .entry)) (now (edges .entry)) (now (ea .entry)) (now (eb .entry)) (now (el .entry)) (now (pin .entry))
@@ -239,7 +243,8 @@ pub fn give_paths(
     paths: &mut [i64],
 )
     requires { ⌜ Givable (now edges) (now kept) (now long) count (length (now paths)) ⌝ }
-    ensures { λ _. ⌜ now (paths .exit) ≡ over (flat pathNumbers (pathsIn (now (edges .entry)) (now (kept .entry)) (now (long .entry)) count))
+    ensures { λ _. ⌜ now (paths .exit) ≡ over (flat pathNumbers
+        (pathsIn (now (edges .entry)) (now (kept .entry)) (now (long .entry)) count))
         (now (paths .entry)) ⌝ }
 {
     let mut i = 0;

@@ -1,31 +1,27 @@
 -- Boxes within boxes: what lies in the box of two places that are clear of each other is clear too. The middle place of three lies in the
 -- box of each two of them, so it is clear of what they are clear of, and no way through it is longer.
 -- Assumes nothing.
-use mathlib.Core.Path.{_≡_, refl, ap₂}
-use mathlib.Core.Bool.{Bool, true, false, not, _&&_}
+use mathlib.Core.Path.{_≡_, refl}
+use mathlib.Core.Bool.{true, false}
 use mathlib.Core.List.{List}
-use Prim.Native.Nat.{ℕ, _+_}
+use Prim.Native.Nat.{_+_}
 use borrow.Author.Tests.{not-true}
 use lib.IntN.{ℤ}
 use lib.Signed.{ltZ}
 use Rattle.lists.specs.Any.{any}
-use Rattle.lists.proofs.TestLaws.{by, contrapose, and-left, and-right, and-both}
+use Rattle.lists.proofs.TestLaws.{contrapose, and-left, and-right, and-both}
 use Rattle.lists.proofs.AnyLaws.{any-none, none-any}
 use Rattle.signed.specs.Order.{minZ, maxZ}
 use Rattle.signed.proofs.SideLaws.{ltZ-true, lt-ltZ, signed}
 use Rattle.signed.proofs.OrderLaws.{min-sides, max-sides}
 use Rattle.plane.specs.declared.Place.{Place}
 use Rattle.plane.specs.declared.Macro.{Macro}
-use Rattle.plane.specs.Distance.{apart, distance}
-use Rattle.plane.specs.Middle.{middle, middlePlace}
+use Rattle.plane.specs.Box.{Between, InBox}
+use Rattle.plane.specs.Distance.{distance}
+use Rattle.plane.specs.Middle.{middlePlace}
 use Rattle.plane.specs.Macro.{spanMeets, meets, clear}
-use Rattle.plane.proofs.DistanceLaws.{Between, apart-through}
+use Rattle.plane.proofs.DistanceLaws.{apart-through}
 use Rattle.plane.proofs.MiddleLaws.{middle-first, middle-outer, middle-last}
-
--- s in the box of a and b
-pub record InBox (s a b : Place) : Type 0 where
-  pub across : Between (s .x) (a .x) (b .x)
-  pub along : Between (s .y) (a .y) (b .y)
 
 pub first-in-box : (a b : Place) → InBox a a b
 first-in-box a b = record {
@@ -88,7 +84,8 @@ module _ (a b u : Place) where
   middle-in-last = record { across = middle-last (a .x) (b .x) (u .x); along = middle-last (a .y) (b .y) (u .y) }
 
   -- clear of what two of the three are clear of
-  pub middle-clear-first : (ms : List Macro) → clear a b ms ≡ true → (clear (middlePlace a b u) a ms ≡ true) × (clear (middlePlace a b u) b ms ≡ true)
+  pub middle-clear-first : (ms : List Macro) → clear a b ms ≡ true → (clear (middlePlace a b u) a ms ≡ true)
+      × (clear (middlePlace a b u) b ms ≡ true)
   middle-clear-first ms h = (
     clear-within _ _ a b middle-in-first (first-in-box a b) ms h,
     clear-within _ _ a b middle-in-first (last-in-box a b) ms h,

@@ -1,25 +1,37 @@
 -- Distance: absolute values worked out across zero, and the four properties of a cost of two places (the same both ways, 0 exactly at
 -- equal places, additive through a place between, the triangle).
 -- Assumes nothing.
-use mathlib.Core.Path.{_≡_, refl, sym, ap, ap₂, _∙_}
+use mathlib.Core.Path.{_≡_, ap₂}
 use mathlib.Core.Bool.{true, false}
 use Prim.Native.Nat.{ℕ, _+_, _-_, _^_, _≤_, _<_, min, max}
+use native.Mathlib.Omega.{arith}
 use lib.IntN.{ℤ, pos, _-ℤ_, natAbs}
 use lib.Signed.{ltZ, leZ}
 use mir.Syntax.{w32, w64}
 use mir.Val.{SFits}
 use Rattle.lists.proofs.TestLaws.{by}
 use Rattle.signed.specs.Sides.{up, down, Le}
-use Rattle.signed.specs.Order.{minZ, maxZ}
 use Rattle.signed.proofs.SideLaws.{one-side, of-sfits, to-sfits, sub-sides, abs-sides, up-pos, down-pos, eq-of, signed}
 use Rattle.signed.proofs.OrderLaws.{min-sides, max-sides}
 use Rattle.plane.specs.declared.Place.{Place}
+use Rattle.plane.specs.Box.{Between}
 use Rattle.plane.specs.Distance.{apart, distance}
 
 -- the absolute value of a number below zero and of one that is not
 pub turned : (d : ℤ) → ltZ d (pos 0) ≡ true → pos 0 -ℤ d ≡ pos (natAbs d)
 turned d e =
-    eq-of _ _ (omega (signed, sub-sides (pos 0) d, one-side d, one-side (pos 0 -ℤ d), abs-sides d, up-pos (natAbs d), down-pos (natAbs d), up-pos 0, down-pos 0))
+    eq-of _ _ (omega (
+      signed,
+      sub-sides (pos 0) d,
+      one-side d,
+      one-side (pos 0 -ℤ d),
+      abs-sides d,
+      up-pos (natAbs d),
+      down-pos
+          (natAbs d),
+      up-pos 0,
+      down-pos 0,
+    ))
 
 pub unturned : (d : ℤ) → ltZ d (pos 0) ≡ false → d ≡ pos (natAbs d)
 unturned d e = eq-of _ _ (omega (signed, one-side d, abs-sides d, up-pos (natAbs d), down-pos (natAbs d), up-pos 0, down-pos 0))
@@ -77,10 +89,6 @@ apart-covers a b = omega (signed, apart-sides a b)
 apart-covered : (a b : ℤ) (n : ℕ) → up a + down b ≤ up b + down a + n → up b + down a ≤ up a + down b + n → apart a b ≤ n
 apart-covered a b n h k = omega (signed, apart-sides a b)
 
--- s between a and b
-abbrev pub Between : ℤ → ℤ → ℤ → Type 0
-Between s a b = Le (minZ a b) s × Le s (maxZ a b)
-
 -- additive through a number between
 ordered-through : (s a b : ℤ) → Le a s → Le s b → apart s a + apart s b ≡ apart a b
 ordered-through s a b h k =
@@ -104,3 +112,15 @@ apart-triangle a b c =
 pub distance-triangle : (a b c : Place) → distance a c ≤ distance a b + distance b c
 unfolding distance
 distance-triangle a b c = omega (signed, apart-triangle (a .x) (b .x) (c .x), apart-triangle (a .y) (b .y) (c .y))
+
+-- How far at most
+
+-- no farther than both axes allow
+pub distance-parts : (a b : Place) {m n : ℕ} → apart (a .x) (b .x) ≤ m → apart (a .y) (b .y) ≤ n → distance a b ≤ m + n
+unfolding distance
+distance-parts a b h k = omega (arith, h, k)
+
+-- of any two places of 32 bits
+pub distance-fits : (a b : Place) → SFits w32 (a .x) → SFits w32 (a .y) → SFits w32 (b .x) → SFits w32 (b .y) → distance a b < 2 ^ 33
+unfolding distance
+distance-fits a b f g h i = omega (arith, apart-fits (a .x) (b .x) f h, apart-fits (a .y) (b .y) g i)

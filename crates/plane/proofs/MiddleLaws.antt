@@ -1,9 +1,8 @@
 -- The middle of three numbers lies between each two of them and is one of them, in whatever order they are named.
 -- Assumes nothing.
 use mathlib.Core.Path.{_≡_, ap₂}
-use mathlib.Core.Bool.{true, false}
 use mathlib.Core.Logic.{_⊎_, inl, inr}
-use Prim.Native.Nat.{ℕ, _+_, min, max}
+use Prim.Native.Nat.{_+_, min, max}
 use lib.IntN.{ℤ}
 use lib.Signed.{leZ}
 use Rattle.lists.proofs.TestLaws.{by}
@@ -12,7 +11,7 @@ use Rattle.signed.specs.Order.{minZ, maxZ}
 use Rattle.signed.proofs.SideLaws.{eq-of, signed}
 use Rattle.signed.proofs.OrderLaws.{min-sides, max-sides, min-comm, max-comm}
 use Rattle.plane.specs.Middle.{middle}
-use Rattle.plane.proofs.DistanceLaws.{Between}
+use Rattle.plane.specs.Box.{Between}
 
 -- what omega needs of `middle`
 pub middle-sides : (a b c : ℤ)
@@ -44,5 +43,9 @@ middle-swap a b c = ap₂ (λ (low high : ℤ). maxZ low (minZ high c)) (min-com
 pub middle-one : (a b c : ℤ) → (middle a b c ≡ a) ⊎ ((middle a b c ≡ b) ⊎ (middle a b c ≡ c))
 middle-one a b c =
     by (leZ a b)
-    (λ e. by (leZ b c) (λ f. inr (inl (eq-of _ _ (omega (signed, middle-sides a b c))))) (λ f. by (leZ a c) (λ g. inr (inr (eq-of _ _ (omega (signed, middle-sides a b c))))) (λ g. inl (eq-of _ _ (omega (signed, middle-sides a b c))))))
-    (λ e. by (leZ a c) (λ f. inl (eq-of _ _ (omega (signed, middle-sides a b c)))) (λ f. by (leZ b c) (λ g. inr (inr (eq-of _ _ (omega (signed, middle-sides a b c))))) (λ g. inr (inl (eq-of _ _ (omega (signed, middle-sides a b c)))))))
+    (λ e. by (leZ b c) (λ f. inr (inl (eq-of _ _ (omega (signed, middle-sides a b c)))))
+    (λ f. by (leZ a c) (λ g. inr (inr (eq-of _ _ (omega (signed, middle-sides a b c)))))
+    (λ g. inl (eq-of _ _ (omega (signed, middle-sides a b c))))))
+    (λ e. by (leZ a c) (λ f. inl (eq-of _ _ (omega (signed, middle-sides a b c))))
+    (λ f. by (leZ b c) (λ g. inr (inr (eq-of _ _ (omega (signed, middle-sides a b c)))))
+    (λ g. inr (inl (eq-of _ _ (omega (signed, middle-sides a b c)))))))

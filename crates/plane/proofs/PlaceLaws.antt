@@ -51,7 +51,8 @@ before-by-y a b e h =
 pub before-irrefl : (a : Place) → before a a ≡ false
 unfolding before
 before-irrefl a =
-    rw (before, le-ltZ (a .x) (a .x) (omega signed)) (rw (before, le-ltZ (a .x) (a .x) (omega signed)) (le-ltZ (a .y) (a .y) (omega signed)))
+    rw (before, le-ltZ (a .x) (a .x) (omega signed))
+    (rw (before, le-ltZ (a .x) (a .x) (omega signed)) (le-ltZ (a .y) (a .y) (omega signed)))
 
 pub before-trans : (a b c : Place) → before a b ≡ true → before b c ≡ true → before a c ≡ true
 before-trans a b c e f =

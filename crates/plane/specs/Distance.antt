@@ -7,6 +7,6 @@ use Rattle.plane.specs.declared.Place.{Place}
 unfoldable pub apart : ℤ → ℤ → ℕ
 apart a b = natAbs (a -ℤ b)
 
--- "The distance of two places is |difference in x| + |difference in y|."
+-- N17: the distance, across and along added up
 unfoldable pub distance : Place → Place → ℕ
 distance a b = apart (a .x) (b .x) + apart (a .y) (b .y)

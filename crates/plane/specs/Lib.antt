@@ -6,6 +6,7 @@
 --   Place      place x y           before a b, samePlace a b     the order of places, and equality as a test
 --   Distance   apart a b           distance a b                  how far two numbers and two places lie apart
 --   Middle     middle a b c        middlePlace a b u             the middle of three numbers, and of three places by axis
+--   Box        InBox s a b                                       s in the closed upright box of a and b
 --   Macro      macro l b r t       inside p m                    a place in a macro's interior
 --              meets a b m         interiorsMeet m n             a closed box, or another interior, meets a macro's interior
 --              clear a b ms                                      the box of two places meets no interior of ms
@@ -14,5 +15,6 @@
 pub mod Place
 pub mod Distance
 pub mod Middle
+pub mod Box
 pub mod Macro
 pub mod Flat

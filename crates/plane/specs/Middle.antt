@@ -7,6 +7,6 @@ use Rattle.plane.specs.Place.{place}
 unfoldable pub middle : ℤ → ℤ → ℤ → ℤ
 middle a b c = maxZ (minZ a b) (minZ (maxZ a b) c)
 
--- "Let s take the middle of the three x values and the middle of the three y values."
+-- R5: s, the middle of three places axis by axis
 unfoldable pub middlePlace : Place → Place → Place → Place
 middlePlace a b u = place (middle (a .x) (b .x) (u .x)) (middle (a .y) (b .y) (u .y))

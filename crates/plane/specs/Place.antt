@@ -5,11 +5,11 @@ use lib.Signed.{ltZ}
 use Rattle.signed.specs.Order.{eqZ}
 use Rattle.plane.specs.declared.Place.{Place}
 
--- "A pin is a place (x, y)."
+-- N2: a place by its x and y
 abbrev pub place : ℤ → ℤ → Place
 place a b = record { x = a; y = b }
 
--- "Places are ordered by x, then by y."
+-- N15: places go by x, then by y
 unfoldable pub before : Place → Place → Bool
 before a b =
     elim (ltZ (a .x) (b .x)) [ true ↦ true | false ↦ elim (ltZ (b .x) (a .x)) [ true ↦ false | false ↦ ltZ (a .y) (b .y) ] ]

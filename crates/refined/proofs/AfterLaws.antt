@@ -2,14 +2,14 @@
 -- those from s. All by sums over the table, whichever numbers moved on.
 -- Assumes nothing.
 use mathlib.Core.Path.{_≡_, refl, sym, ap, ap₂, _∙_, subst}
-use mathlib.Core.Bool.{Bool, true, false}
+use mathlib.Core.Bool.{true, false}
 use mathlib.Core.Logic.{_⊎_, inl, inr}
-use mathlib.Core.List.{List, [], _∷_, Memᴰ·cast}
-use Prim.Native.Nat.{ℕ, zero, suc, _+_, _-_, _*_, _/_, _%_, _≤_, _<_}
+use mathlib.Core.List.{List, [], Memᴰ·cast}
+use Prim.Native.Nat.{ℕ, suc, _+_, _≤_, _<_}
 use native.Mathlib.Omega.{arith}
 use lib.Dec.{ltb, eqb}
 use lib.IntN.{ℤ}
-use lib.ListN.{length, getD}
+use lib.ListN.{getD}
 use borrow.Author.Tests.{ltb-true, ltb-false, eqb-true, eqb-false}
 use Rattle.lists.specs.Member.{_∈_}
 use Rattle.lists.proofs.TestLaws.{by, either}
@@ -23,10 +23,11 @@ use Rattle.plane.proofs.MacroLaws.{clear-comm}
 use Rattle.joined.specs.Joined.{Link, Alike, Joined, stay}
 use Rattle.joined.proofs.JoinedLaws.{one as one-link}
 use Rattle.refined.specs.Table.{pointBound, key, firstEnd, secondEnd, Tree, In, Within}
-use Rattle.refined.specs.Sum.{below, over}
+use Rattle.refined.specs.Sum.{over}
 use Rattle.refined.specs.Exchange.{dropTwo}
-use Rattle.refined.specs.Places.{listing, endsOf, edgesOf, keyLength}
-use Rattle.refined.proofs.SumLaws.{below-same, below-at, below-some, one, one-same, one-some, one-not, in-table, of-table, between, over-dropped}
+use Rattle.refined.specs.Places.{endsOf, edgesOf, keyLength}
+use Rattle.refined.proofs.SumLaws.{below-same, below-at, below-some, one, one-same, one-some, one-not, in-table, of-table, between}
+use Rattle.refined.proofs.SumLaws.{over-dropped}
 use Rattle.refined.proofs.WithinLaws.{within-dropped}
 use Rattle.refined.proofs.ListingLaws.{in-listing, of-listing}
 
@@ -35,7 +36,8 @@ pub between-some : (g : ℕ → ℕ) (p a : ℕ) → 0 < between g p a → (0 < 
 unfolding between
 between-some g p a h =
     by (ltb p a) (λ t. inl (rw (between, t) at h))
-    (λ t. by (ltb a p) (λ s. inr (rw (between, t, s) at h)) (λ s. absurd (let z : 0 < 0 = rw (between, t, s) at h in let y : ⊥ = omega arith in y)))
+    (λ t. by (ltb a p) (λ s. inr (rw (between, t, s) at h))
+    (λ s. absurd (let z : 0 < 0 = rw (between, t, s) at h in let y : ⊥ = omega arith in y)))
 
 pub between-is : (g : ℕ → ℕ) (p a : ℕ) → (p ≡ a → ⊥) → (between g p a ≡ g (key p a)) ⊎ (between g p a ≡ g (key a p))
 unfolding between
@@ -66,7 +68,8 @@ pub record After (pts : List ℤ) (n : ℕ) (ks : List ℕ) (e k l a b u p : ℕ
   pub low : (i : ℕ) → i < n → m i < pointBound
   pub lowest : p < pointBound
   pub sums : (g : ℕ → ℕ) → over g (t .edges .keys) (t .edges .size)
-      ≡ between g p (m u) + (between g p (m b) + (between g p (m a) + over (λ j. g (key (m (firstEnd j)) (m (secondEnd j)))) (dropTwo e k l ks) e))
+      ≡ between g p (m u) + (between g p (m b) + (between g p (m a) + over (λ j. g (key (m (firstEnd j)) (m (secondEnd j))))
+      (dropTwo e k l ks) e))
 
 pub first-of : (x y : ℕ) → y < pointBound → firstEnd (key x y) ≡ x
 first-of x y h = omega arith
@@ -77,27 +80,28 @@ second-of x y h = omega arith
 module _ {pts : List ℤ} {n : ℕ} {ks : List ℕ} {e k l a b u p : ℕ} {s : Place} {m : ℕ → ℕ} {t : Tree}
     (after : After pts n ks e k l a b u p s m t) (w : Within n ks) (hk : k < suc (suc e)) (hl : l < suc (suc e)) (kl : k ≡ l → ⊥)
     (ha : a < n) (hb : b < n) (hu : u < n) where
-  abbrev T : List (Place × Place)
+  abbrev pub T : List (Place × Place)
   T = edgesOf pts ks (suc (suc e))
 
-  abbrev U : List (Place × Place)
+  abbrev pub U : List (Place × Place)
   U = edgesOf (t .points) (t .edges .keys) (t .edges .size)
 
-  abbrev moved : ℕ → ℕ
+  abbrev pub moved : ℕ → ℕ
   moved j = key (m (firstEnd j)) (m (secondEnd j))
 
   -- the ends of an edge under its new number
-  moved-ends : (j : ℕ) → In n j → endsOf (t .points) (moved j) ≡ endsOf pts j
+  pub moved-ends : (j : ℕ) → In n j → endsOf (t .points) (moved j) ≡ endsOf pts j
   moved-ends j i =
       ap₂ (λ (x y : Place). (x, y))
       (ap (placeAt (t .points)) (first-of (m (firstEnd j)) (m (secondEnd j)) (after .low _ (i .1))) ∙ after .old _ (i .0))
       (ap (placeAt (t .points)) (second-of (m (firstEnd j)) (m (secondEnd j)) (after .low _ (i .1))) ∙ after .old _ (i .1))
 
   -- an edge whose key has a part in the sums is there
-  there-is : (j : ℕ) (x y : Place) → 0 < over (one j) (t .edges .keys) (t .edges .size) → endsOf (t .points) j ≡ (x, y) → (x, y) ∈ U
+  pub there-is : (j : ℕ) (x y : Place) → 0 < over (one j) (t .edges .keys) (t .edges .size) → endsOf (t .points) j ≡ (x, y) → (x, y) ∈ U
   there-is j x y h f =
       let r = in-table j (t .edges .keys) (t .edges .size) h in
-      Memᴰ·cast (sym f ∙ ap (endsOf (t .points)) (sym (r .1 .1))) (in-listing (λ i. endsOf (t .points) (getD (t .edges .keys) i 0)) (t .edges .size)
+      Memᴰ·cast (sym f ∙ ap (endsOf (t .points)) (sym (r .1 .1)))
+      (in-listing (λ i. endsOf (t .points) (getD (t .edges .keys) i 0)) (t .edges .size)
       (r .0) (r .1 .0))
 
   -- an edge that is neither k nor l is still there
@@ -106,16 +110,24 @@ module _ {pts : List ℤ} {n : ℕ} {ks : List ℕ} {e k l a b u p : ℕ} {s : P
       let j = getD ks i 0 in
       let d = over-dropped (one j) e k l ks hk hl kl in
       let some : 0 < over (one j) (dropTwo e k l ks) e
-      = omega (arith, d, of-table ks (suc (suc e)) i h, one-not j (getD ks k 0) (λ q. nk (sym q)), one-not j (getD ks l 0) (λ q. nl (sym q))) in
+      = omega (
+        arith,
+        d,
+        of-table ks (suc (suc e)) i h,
+        one-not j (getD ks k 0) (λ q. nk (sym q)),
+        one-not j (getD ks l 0)
+            (λ q. nl (sym q)),
+      ) in
       let r = in-table j (dropTwo e k l ks) e some in
-      let v : one (moved j) (moved (getD (dropTwo e k l ks) (r .0) 0)) ≡ 1 = ap (λ (q : ℕ). one (moved j) (moved q)) (r .1 .1) ∙ one-same (moved j) in
+      let v : one (moved j) (moved (getD (dropTwo e k l ks) (r .0) 0)) ≡ 1 = ap (λ (q : ℕ). one (moved j) (moved q)) (r .1 .1)
+      ∙ one-same (moved j) in
       let x = below-at (λ q. one (moved j) (moved (getD (dropTwo e k l ks) q 0))) e (r .0) (r .1 .0) in
       there-is (moved j) _ _ (omega (arith, after .sums (one (moved j)), v, x)) (moved-ends j (w .ends i))
 
-  abbrev Sorted : Place → Place → Type 0
+  abbrev pub Sorted : Place → Place → Type 0
   Sorted x y = ((x, y) ≡ endsOf pts (getD ks k 0)) ⊎ (((x, y) ≡ endsOf pts (getD ks l 0)) ⊎ ((x, y) ∈ U))
 
-  sorted : (x y : Place) → (x, y) ∈ T → Sorted x y
+  pub sorted : (x y : Place) → (x, y) ∈ T → Sorted x y
   sorted x y i = at (of-listing (λ j. endsOf pts (getD ks j 0)) (suc (suc e)) (x, y) i)
     where
       at : (j : ℕ) × ((j < suc (suc e)) × ((x, y) ≡ endsOf pts (getD ks j 0))) → Sorted x y
@@ -140,7 +152,8 @@ module _ {pts : List ℤ} {n : ℕ} {ks : List ℕ} {e k l a b u p : ℕ} {s : P
       (either (λ q. inr (inl (inr (ap (λ (z : Place × Place). z .1) q, ap (λ (z : Place × Place). z .0) q)))) (λ q. inr (inr (inr q))))
       (sorted y x i)
 
-  ends : (c d : ℕ) (x y : Place) → d < pointBound → placeAt (t .points) c ≡ x → placeAt (t .points) d ≡ y → endsOf (t .points) (key c d) ≡ (x, y)
+  pub ends : (c d : ℕ) (x y : Place) → d < pointBound → placeAt (t .points) c ≡ x → placeAt (t .points) d ≡ y →
+      endsOf (t .points) (key c d) ≡ (x, y)
   ends c d x y h f g =
       ap₂ (λ (v z : Place). (v, z)) (ap (placeAt (t .points)) (first-of c d h) ∙ f) (ap (placeAt (t .points)) (second-of c d h) ∙ g)
 
@@ -174,12 +187,12 @@ module _ {pts : List ℤ} {n : ℕ} {ks : List ℕ} {e k l a b u p : ℕ} {s : P
   to-u = laid u hu (λ g. omega (arith, after .sums g))
 
   -- an edge of the key j is one from s, or was there
-  data Origin (j : ℕ) : Type 0 where
+  pub data Origin (j : ℕ) : Type 0 where
     from-s : (x : ℕ) → x < n → (x ≡ a) ⊎ ((x ≡ b) ⊎ (x ≡ u)) → endsOf (t .points) j ≡ (s, placeAt pts x) → Origin j
     to-s : (x : ℕ) → x < n → (x ≡ a) ⊎ ((x ≡ b) ⊎ (x ≡ u)) → endsOf (t .points) j ≡ (placeAt pts x, s) → Origin j
     was : (i : ℕ) → i < suc (suc e) → endsOf (t .points) j ≡ endsOf pts (getD ks i 0) → Origin j
 
-  from-part : (j x : ℕ) → x < n → (x ≡ a) ⊎ ((x ≡ b) ⊎ (x ≡ u)) → 0 < between (one j) p (m x) → Origin j
+  pub from-part : (j x : ℕ) → x < n → (x ≡ a) ⊎ ((x ≡ b) ⊎ (x ≡ u)) → 0 < between (one j) p (m x) → Origin j
   from-part j x h which some =
       either
       (λ q. from-s x h which (ap (endsOf (t .points)) (sym (one-some j (key p (m x)) q)) ∙ ends p (m x) s (placeAt pts x) (after .low x h)
@@ -218,7 +231,8 @@ module _ {pts : List ℤ} {n : ℕ} {ks : List ℕ} {e k l a b u p : ℕ} {s : P
       ))
 
   -- every edge is clear, where those of before and those from s are
-  module _ (ms : List Macro) (sa : clear s (placeAt pts a) ms ≡ true) (sb : clear s (placeAt pts b) ms ≡ true) (su : clear s (placeAt pts u) ms ≡ true)
+  module _ (ms : List Macro) (sa : clear s (placeAt pts a) ms ≡ true) (sb : clear s (placeAt pts b) ms ≡ true)
+      (su : clear s (placeAt pts u) ms ≡ true)
       (free : (i : ℕ) → i < suc (suc e) → clear (endsOf pts (getD ks i 0) .0) (endsOf pts (getD ks i 0) .1) ms ≡ true) where
     s-clear : (x : ℕ) → (x ≡ a) ⊎ ((x ≡ b) ⊎ (x ≡ u)) → clear s (placeAt pts x) ms ≡ true
     s-clear x (inl q) = ap (λ (y : ℕ). clear s (placeAt pts y) ms) q ∙ sa
@@ -254,7 +268,8 @@ module _ {pts : List ℤ} {n : ℕ} {ks : List ℕ} {e k l a b u p : ℕ} {s : P
       let o : s ≡ placeAt pts x = sym (after .new) ∙ ap (placeAt (t .points)) v ∙ after .old x h in
       between-none (keyLength (t .points)) p (m x) v ∙ sym (ap (λ (z : Place). distance s z) (sym o) ∙ distance-self s)))
 
-  pub after-lengths : over (keyLength (t .points)) (t .edges .keys) (t .edges .size) + (keyLength pts (getD ks k 0) + keyLength pts (getD ks l 0))
+  pub after-lengths : over (keyLength (t .points)) (t .edges .keys) (t .edges .size)
+      + (keyLength pts (getD ks k 0) + keyLength pts (getD ks l 0))
       ≡ over (keyLength pts) ks (suc (suc e)) + (distance s (placeAt pts u) + (distance s (placeAt pts b) + distance s (placeAt pts a)))
   after-lengths =
       let same : over (λ j. keyLength (t .points) (moved j)) (dropTwo e k l ks) e ≡ over (keyLength pts) (dropTwo e k l ks) e

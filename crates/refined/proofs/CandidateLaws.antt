@@ -1,14 +1,14 @@
 -- Laws of the search for the best candidate.
 -- Assumes nothing.
-use mathlib.Core.Path.{_≡_, refl, sym, ap, ap₂, _∙_}
+use mathlib.Core.Path.{_≡_, refl, sym, _∙_}
 use mathlib.Core.Bool.{Bool, true, false, not, _&&_, _||_}
-use mathlib.Core.List.{List, [], _∷_}
-use Prim.Native.Nat.{ℕ, zero, suc, _+_, _-_, _*_, _/_, _%_, _≤_, _<_}
+use mathlib.Core.List.{List, []}
+use Prim.Native.Nat.{ℕ, _+_, _-_, _≤_, _<_}
 use native.Mathlib.Omega.{arith}
 use lib.Dec.{ltb, eqb}
 use lib.IntN.{ℤ}
-use lib.ListN.{length, getD, set}
-use borrow.Author.Tests.{lt-ltb, le-ltb, eq-eqb, ne-eqb}
+use lib.ListN.{getD}
+use borrow.Author.Tests.{lt-ltb, le-ltb}
 use Rattle.plane.specs.declared.Place.{Place}
 use Rattle.plane.specs.declared.Macro.{Macro}
 use Rattle.refined.specs.declared.Best.{Best}
@@ -19,7 +19,7 @@ use Rattle.plane.specs.Macro.{clear}
 use Rattle.plane.specs.Flat.{placeAt}
 use Rattle.refined.specs.Turns.{seek}
 use Rattle.refined.specs.Longest.{cutOf}
-use Rattle.refined.specs.Candidate.{best, middleOf, sees, taken, dropped, allowed, chosen, weighed, offer}
+use Rattle.refined.specs.Candidate.{best, sees, taken, dropped, allowed, chosen, weighed, offer}
 
 and-false : (a : Bool) → (a && false) ≡ false
 and-false true = refl
@@ -65,7 +65,8 @@ module _ (pts : List ℤ) (a b u : ℕ) (s : Place) (i : ℕ) where
   unfolding taken
   taken-self e = rw e refl
 
-  pub taken-other : (eqb i a || (eqb i b || eqb i u)) ≡ false → (p : Place) (t : Bool) → p ≡ placeAt pts i → t ≡ samePlace s p → t ≡ taken pts a b u s i
+  pub taken-other : (eqb i a || (eqb i b || eqb i u)) ≡ false → (p : Place) (t : Bool) → p ≡ placeAt pts i → t ≡ samePlace s p → t
+      ≡ taken pts a b u s i
   unfolding taken
   taken-other e p t f g = rw (e, g, f) refl
 
@@ -73,7 +74,8 @@ pub dropped-is : (pts : List ℤ) (n a b u : ℕ) (s : Place) (i : ℕ) → i �
 unfolding dropped
 dropped-is pts n a b u s i e = rw e refl
 
-module _ (pts : List ℤ) (n : ℕ) (ms : List Macro) (a b u : ℕ) (s p q r : Place) (f : p ≡ placeAt pts a) (g : q ≡ placeAt pts b) (h : r ≡ placeAt pts u) where
+module _ (pts : List ℤ) (n : ℕ) (ms : List Macro) (a b u : ℕ) (s p q r : Place) (f : p ≡ placeAt pts a) (g : q ≡ placeAt pts b)
+    (h : r ≡ placeAt pts u) where
   pub allowed-no : sees ms p q r ≡ false → false ≡ allowed pts n ms a b u s
   unfolding allowed
   allowed-no e = rw (← f, ← g, ← h, e) refl

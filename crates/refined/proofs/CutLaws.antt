@@ -1,11 +1,10 @@
--- "Let L be the longest edge (smallest on a tie) on the tree way from u to whichever of a and b it meets first": `cutOf` is that edge. The
--- way to the far end is the way to the near end and the edge, so its longest edge is at least as long, and the shorter of the two is L.
+-- R8: `cutOf` is L, the longest edge on the way from u to the nearer end of (a, b). The way to the far end is the way to the near end and
+-- the edge, so its longest edge is at least as long, and the shorter of the two is L.
 -- Assumes nothing.
-use mathlib.Core.Path.{_≡_, refl, sym, ap, ap₂, _∙_, subst}
-use mathlib.Core.Bool.{true, false}
-use mathlib.Core.Logic.{_⊎_, inl, inr}
+use mathlib.Core.Path.{_≡_, ap, _∙_, subst}
+use mathlib.Core.Logic.{inl, inr}
 use mathlib.Core.List.{List, [], _∷_, _++_}
-use Prim.Native.Nat.{ℕ, zero, suc, _+_, _-_, _*_, _/_, _%_, _≤_, _<_}
+use Prim.Native.Nat.{ℕ, suc, _+_, _≤_, _<_}
 use native.Mathlib.Omega.{arith}
 use lib.IntN.{ℤ}
 use lib.ListN.{length, getD}
@@ -13,17 +12,17 @@ use Rattle.lists.specs.Member.{_∈_, Once}
 use Rattle.lists.proofs.TestLaws.{by, either}
 use Rattle.plane.specs.declared.Place.{Place}
 use Rattle.plane.specs.Flat.{placeAt}
-use Rattle.joined.specs.Joined.{Link, Alike}
+use Rattle.joined.specs.Joined.{Alike}
 use Rattle.joined.specs.Tree as joined
-use Rattle.joined.specs.Way.{Way, stop, go}
+use Rattle.joined.specs.Way.{Way, stop}
 use Rattle.joined.specs.Exchange.{Toward, steps}
 use Rattle.joined.proofs.TowardLaws.{toward, far-way, far-once}
 use Rattle.joined.proofs.TreeLaws.{tree-cuts}
 use Rattle.joined.proofs.OneTreeLaws.{tree-simple}
 use Rattle.joined.proofs.OnlyWay.{only-way}
 use Rattle.refined.specs.Table.{pointBound, key, firstEnd, secondEnd, Within}
-use Rattle.refined.specs.Longest.{wins, shorter, noEdge, longest, start, reached, cutOf}
-use Rattle.refined.specs.Places.{listing, endsOf, pointsOf, edgesOf, InOrder}
+use Rattle.refined.specs.Longest.{wins, shorter, noEdge, start, reached, cutOf}
+use Rattle.refined.specs.Places.{endsOf, pointsOf, edgesOf, InOrder}
 use Rattle.refined.proofs.LongestLaws.{shorter-yes, shorter-no}
 use Rattle.refined.proofs.WinsLaws.{Under, wins-under, wins-not, under-same}
 use Rattle.refined.proofs.ListingLaws.{in-listing}
@@ -78,7 +77,8 @@ module _ (pts : List ℤ) (n : ℕ) (ks : List ℕ) (e : ℕ) (el : List ℕ) (o
         (whole .joins (placeAt pts u) (placeAt pts a) (in-listing (placeAt pts) n u hu) (in-listing (placeAt pts) n a ha))
 
     -- the longest on the way to the near point y, where the far one is z
-    module _ (y z : ℕ) (hy : y < n) (hz : z < n) (uy : u ≡ y → ⊥) (near : the-way .near ≡ placeAt pts y) (far : the-way .far ≡ placeAt pts z) where
+    module _ (y z : ℕ) (hy : y < n) (hz : z < n) (uy : u ≡ y → ⊥) (near : the-way .near ≡ placeAt pts y)
+        (far : the-way .far ≡ placeAt pts z) where
       near-top : Top pts n ks (suc e) el (getD top (key y u) 0) (placeAt pts u) (the-way .free .points)
       near-top = way-longest u y hu hy (the-way .free .points) (subst (λ (q : Place). Way T (placeAt pts u) (the-way .free .points) q) near
           (the-way .free .way)) (the-way .free .once)
@@ -86,12 +86,14 @@ module _ (pts : List ℤ) (n : ℕ) (ks : List ℕ) (e : ℕ) (el : List ℕ) (o
       far-top : Top pts n ks (suc e) el (getD top (key z u) 0) (placeAt pts u) (the-way .free .points ++ (the-way .far ∷ []))
       far-top =
           way-longest u z hu hz (the-way .free .points ++ (the-way .far ∷ []))
-          (subst (λ (q : Place). Way T (placeAt pts u) (the-way .free .points ++ (the-way .far ∷ [])) q) far (far-way (inl edge) the-way)) (far-once the-way)
+          (subst (λ (q : Place). Way T (placeAt pts u) (the-way .free .points ++ (the-way .far ∷ [])) q) far (far-way (inl edge) the-way))
+          (far-once the-way)
 
       -- the way has a step
       pub near-is : (getD top (key y u) 0 < suc e) × ((c : Place) × ((d : Place) ×
           (((c, d) ∈ steps (placeAt pts u) (the-way .free .points)) × Ends pts n ks (suc e) el (getD top (key y u) 0) c d)))
-      near-is = either (λ q. absurd (uy (order-same pts n u y o hu hy (at (the-way .free .points) (q .0) (the-way .free .way) ∙ near)))) (λ q. q)
+      near-is = either (λ q. absurd (uy (order-same pts n u y o hu hy (at (the-way .free .points) (q .0) (the-way .free .way) ∙ near))))
+          (λ q. q)
           (near-top .is)
         where
           at : (ps : List Place) → ps ≡ [] → Way T (placeAt pts u) ps (the-way .near) → placeAt pts u ≡ the-way .near
@@ -112,7 +114,8 @@ module _ (pts : List ℤ) (n : ℕ) (ks : List ℕ) (e : ℕ) (el : List ℕ) (o
     abbrev pub Is : ℕ → Type 0
     Is x =
         Top pts n ks (suc e) el x (placeAt pts u) (the-way .free .points)
-        × ((x < suc e) × ((c : Place) × ((d : Place) × (((c, d) ∈ steps (placeAt pts u) (the-way .free .points)) × Ends pts n ks (suc e) el x c d))))
+        × ((x < suc e) × ((c : Place) × ((d : Place)
+        × (((c, d) ∈ steps (placeAt pts u) (the-way .free .points)) × Ends pts n ks (suc e) el x c d))))
 
     pub cut-is : Is (cutOf el top a b u)
     unfolding cutOf

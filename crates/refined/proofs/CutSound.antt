@@ -1,6 +1,5 @@
--- "Let L be the longest edge (smallest on a tie) on the tree way from u to whichever of a and b it meets first": in a tree `cutOf` is that
--- edge, it alone is, and it is another edge than (a, b), since the way does not go on over that edge. So the test that L is another edge than
--- (a, b) turns no candidate away.
+-- R8: in a tree `cutOf` is L, the longest edge on the way from u to the nearer end of (a, b). It alone is, and it is another edge than
+-- (a, b), since the way does not go on over that edge. So the test that L is another edge than (a, b) turns no candidate away.
 -- Assumes nothing.
 use mathlib.Core.Path.{_≡_, refl, sym, ap, _∙_, subst}
 use mathlib.Core.Bool.{_||_}
@@ -23,10 +22,10 @@ use Rattle.joined.proofs.TowardLaws.{toward-only}
 use Rattle.joined.proofs.ExchangeLaws.{step-other}
 use Rattle.refined.specs.declared.Best.{Best}
 use Rattle.refined.specs.Table.{pointBound, firstEnd, secondEnd, Tree, tree}
-use Rattle.refined.specs.Longest.{lengths, longest, cutOf}
+use Rattle.refined.specs.Longest.{lengths, longest}
 use Rattle.refined.specs.Candidate.{chosen, weighed, offer}
 use Rattle.refined.specs.Places.{endsOf, edgesOf, Sound}
-use Rattle.refined.specs.Sentences.{keyAt, endA, endB, longAt, EndOf, StepOf, LongestOn, CutAt, cutIn, Cuts}
+use Rattle.refined.specs.Sentences.{keyAt, endA, endB, longAt, EndOf, StepOf, LongestOn, CutAt, cutIn}
 use Rattle.refined.proofs.WinsLaws.{Under}
 use Rattle.refined.proofs.ListingLaws.{listing-length, in-listing}
 use Rattle.refined.proofs.ExchangeSound.{same-place}
@@ -56,19 +55,22 @@ module _ (ms : List Macro) (pins : List Place) (pts : List ℤ) (n : ℕ) (ks : 
 
   abbrev Here : ℕ → Type 0
   Here x =
-      Is pts n ks e el (sound .ordered) few (omega (arith, sized)) (no-length pts ks (suc e) (omega (arith, sized))) (sound .within) (sound .whole) k u
+      Is pts n ks e el (sound .ordered) few (omega (arith, sized)) (no-length pts ks (suc e) (omega (arith, sized))) (sound .within)
+      (sound .whole) k u
       hk hu (λ q. third (inl q)) (λ q. third (inr q)) x
 
   worked-is : Here (cutIn (tree pts n ks (suc e)) k u)
   unfolding longest
   worked-is =
-      cut-is pts n ks e el (sound .ordered) few (omega (arith, sized)) (no-length pts ks (suc e) (omega (arith, sized))) (sound .within) (sound .whole)
+      cut-is pts n ks e el (sound .ordered) few (omega (arith, sized)) (no-length pts ks (suc e) (omega (arith, sized))) (sound .within)
+      (sound .whole)
       k u hk hu (λ q. third (inl q)) (λ q. third (inr q))
 
   long-at : (j : ℕ) → j < suc e → getD el j 0 ≡ longAt (tree pts n ks (suc e)) j
   long-at j h = length-at pts ks (suc e) j (omega (arith, sized)) h
 
-  abbrev way : Toward (edgesOf pts ks (suc e)) (placeAt pts u) (placeAt pts (firstEnd (getD ks k 0))) (placeAt pts (secondEnd (getD ks k 0)))
+  abbrev way : Toward (edgesOf pts ks (suc e)) (placeAt pts u) (placeAt pts (firstEnd (getD ks k 0)))
+      (placeAt pts (secondEnd (getD ks k 0)))
   way =
       the-way pts n ks e el (sound .ordered) few (omega (arith, sized)) (no-length pts ks (suc e) (omega (arith, sized))) (sound .within)
       (sound .whole) k u hk hu (λ q. third (inl q)) (λ q. third (inr q))
@@ -89,7 +91,8 @@ module _ (ms : List Macro) (pins : List Place) (pts : List ℤ) (n : ℕ) (ks : 
   cut-some : CutAt (tree pts n ks (suc e)) k u (cutIn (tree pts n ks (suc e)) k u)
   cut-some = of-is (cutIn (tree pts n ks (suc e)) k u) worked-is
 
-at-size : (ms : List Macro) (pins : List Place) (pts : List ℤ) (n : ℕ) (ks : List ℕ) (e : ℕ) → Sound ms pins (tree pts n ks e) → n ≤ pointBound →
+at-size : (ms : List Macro) (pins : List Place) (pts : List ℤ) (n : ℕ) (ks : List ℕ) (e : ℕ) → Sound ms pins (tree pts n ks e) → n
+    ≤ pointBound →
     (k u : ℕ) → k < e → u < n → (EndOf (tree pts n ks e) u k → ⊥) → CutAt (tree pts n ks e) k u (cutIn (tree pts n ks e) k u)
 at-size ms pins pts n ks zero sound few k u hk hu third = absurd (let z : ⊥ = omega arith in z)
 at-size ms pins pts n ks (suc e) sound few k u hk hu third = cut-some ms pins pts n ks e sound few k u hk hu third
@@ -116,12 +119,6 @@ module _ (ms : List Macro) (pins : List Place) (t : Tree) (sound : Sound ms pins
   cut-another k u l c q =
       let s = c .longest .step in
       step-other (c .way) (s .on) (subst (λ (j : ℕ). Alike (s .one) (s .other) (endA t j) (endB t j)) q (s .ends))
-
-  pub tree-cut : Cuts t
-  tree-cut = record {
-    cut = cut-at;
-    another = λ k u hk hu third. cut-another k u (cutIn t k u) (cut-at k u hk hu third);
-  }
 
   -- so the test of it turns no candidate away: without it an offer is the same
   pub offer-plain : (k u : ℕ) (c : Best) → k < t .edges .size → u < t .count →

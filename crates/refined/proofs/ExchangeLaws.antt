@@ -1,18 +1,18 @@
 -- Laws of one exchange on the tables.
 -- Assumes nothing.
-use mathlib.Core.Path.{_≡_, refl, sym, ap, ap₂, _∙_}
-use mathlib.Core.Bool.{Bool, true, false, not, _&&_}
+use mathlib.Core.Path.{_≡_, refl, ap, _∙_}
+use mathlib.Core.Bool.{Bool, false, not}
 use mathlib.Core.List.{List, [], _∷_}
-use Prim.Native.Nat.{ℕ, zero, suc, _+_, _-_, _*_, _/_, _%_, _≤_, _<_}
+use Prim.Native.Nat.{ℕ, zero, suc, _+_, _-_, _*_, _≤_, _<_}
 use native.Mathlib.Omega.{arith}
-use lib.Dec.{ltb, eqb}
 use lib.IntN.{ℤ}
-use lib.ListN.{length, getD, set}
-use borrow.Author.Tests.{lt-ltb, le-ltb, eq-eqb, ne-eqb}
+use lib.ListN.{getD, set}
+use borrow.Author.Tests.{lt-ltb, le-ltb}
 use Rattle.plane.specs.declared.Place.{Place}
 use Rattle.plane.specs.Flat.{placeAt}
 use Rattle.plane.specs.Place.{before, samePlace}
-use Rattle.refined.specs.Exchange.{bump, bumpAt, carrying, closed, closing, dropTwo, hand, later, lay, lay3, opened, push, setPoint, stands}
+use Rattle.refined.specs.Exchange.{bump, bumpAt, carrying, closed, closing, dropTwo, hand, later, lay, lay3, opened, push, setPoint}
+use Rattle.refined.specs.Exchange.{stands}
 use Rattle.refined.specs.Table.{Row, firstEnd, key, pointBound, row, secondEnd}
 use Rattle.refined.specs.Turns.{turns}
 
@@ -36,7 +36,8 @@ pub bump-ge : (p i : ℕ) → p ≤ i → i + 1 ≡ bump p i
 unfolding bump
 bump-ge p i h = rw (bump, le-ltb _ _ h) refl
 
-pub bump-at-is : (p i a b : ℕ) (xs : List ℕ) → a ≡ bump p (firstEnd (getD xs i 0)) → b ≡ bump p (secondEnd (getD xs i 0)) → set xs i (key a b) ≡ bumpAt p i xs
+pub bump-at-is : (p i a b : ℕ) (xs : List ℕ) → a ≡ bump p (firstEnd (getD xs i 0)) → b ≡ bump p (secondEnd (getD xs i 0)) →
+    set xs i (key a b) ≡ bumpAt p i xs
 unfolding bumpAt
 bump-at-is p i a b xs e f = rw (e, f) refl
 
@@ -44,7 +45,8 @@ pub push-is : (i : ℕ) (p r : List ℤ) (q v : Place) → v ≡ placeAt p i →
 unfolding push
 push-is i p r q v e f = rw (e, f) refl
 
-pub opened-is : (pts : List ℤ) (n p : ℕ) (s : Place) (r z : List ℤ) (q : Place) → hand r q ≡ turns push p (n - p) (hand pts s) → z ≡ setPoint r n q
+pub opened-is : (pts : List ℤ) (n p : ℕ) (s : Place) (r z : List ℤ) (q : Place) → hand r q ≡ turns push p (n - p) (hand pts s) → z
+    ≡ setPoint r n q
     → z ≡ opened pts n p s
 unfolding opened closing
 opened-is pts n p s r z q e f = f ∙ ap (closing n) e

@@ -1,18 +1,18 @@
--- One round keeps a tree over its points in order, with all pins and every edge clear: by the exchange of the theory of joined points, with s
--- a new point, or one of a, b and u where it stands already.
+-- One round keeps a tree over its points in order, with all pins and every edge clear: by the exchange of the theory of joined points,
+-- with s a new point, or one of a, b and u where it stands already.
 -- Assumes nothing.
-use mathlib.Core.Path.{_≡_, refl, sym, ap, ap₂, _∙_, subst}
-use mathlib.Core.Bool.{Bool, true, false, not, _&&_, _||_}
+use mathlib.Core.Path.{_≡_, refl, sym, ap, _∙_}
+use mathlib.Core.Bool.{true, false, _||_}
 use mathlib.Core.Logic.{_⊎_, inl, inr}
-use mathlib.Core.List.{List, [], _∷_, Memᴰ·cast}
-use Prim.Native.Nat.{ℕ, zero, suc, _+_, _-_, _*_, _/_, _%_, _≤_, _<_}
+use mathlib.Core.List.{List, [], Memᴰ·cast}
+use Prim.Native.Nat.{ℕ, suc, _+_, _-_, _*_, _≤_, _<_}
 use native.Mathlib.Omega.{arith}
 use lib.Dec.{ltb, eqb}
 use lib.IntN.{ℤ}
 use lib.ListN.{length, getD}
-use borrow.Author.Tests.{ltb-true, ltb-false, lt-ltb, eqb-true, eqb-false}
-use Rattle.lists.specs.Member.{_∈_, Among, Once}
-use Rattle.lists.proofs.TestLaws.{by, differ, either, and-left, and-right, and-both}
+use borrow.Author.Tests.{ltb-true, ltb-false, eqb-true, eqb-false}
+use Rattle.lists.specs.Member.{_∈_, Once}
+use Rattle.lists.proofs.TestLaws.{by, differ, either, and-left, and-right}
 use Rattle.plane.specs.declared.Place.{Place}
 use Rattle.plane.specs.declared.Macro.{Macro}
 use Rattle.plane.specs.Place.{before, samePlace}
@@ -26,15 +26,14 @@ use Rattle.joined.specs.Joined.{Link, Alike}
 use Rattle.joined.specs.Tree as joined
 use Rattle.joined.proofs.OtherLaws.{alike-sym, alike-trans}
 use Rattle.joined.proofs.ExchangeLaws.{exchange-tree}
-use Rattle.joined.proofs.TreeLaws.{tree-cuts}
 use Rattle.joined.proofs.OneTreeLaws.{tree-simple}
 use Rattle.refined.specs.Turns.{turns, seek}
-use Rattle.refined.specs.Table.{pointBound, key, firstEnd, secondEnd, Row, row, Tree, tree, Within}
+use Rattle.refined.specs.Table.{pointBound, key, firstEnd, secondEnd, row, Tree, tree, Within}
 use Rattle.refined.specs.Candidate.{middleOf, sees, taken, dropped}
 use Rattle.refined.specs.Exchange.{dropTwo, rank, stands, opened, bump, bumpAt, lay3, laidAt}
-use Rattle.refined.specs.Sum.{below, over}
-use Rattle.refined.specs.Places.{listing, endsOf, pointsOf, edgesOf, keyLength, InOrder, Sound, Taken}
-use Rattle.refined.proofs.WithinLaws.{seek-le, rank-le, bump-in, within-dropped, within-joined}
+use Rattle.refined.specs.Sum.{over}
+use Rattle.refined.specs.Places.{endsOf, pointsOf, edgesOf, keyLength, InOrder, Sound, Taken}
+use Rattle.refined.proofs.WithinLaws.{rank-le, bump-in, within-dropped, within-joined}
 use Rattle.refined.proofs.ExchangeLaws.{bump-lt, bump-ge}
 use Rattle.refined.proofs.SumLaws.{below-same, below-one, between, over-lay3, over-bumped, length-bumps, length-dropped}
 use Rattle.refined.proofs.OpenedLaws.{seek-before, opened-low, opened-new, opened-past, opened-bump, opened-order}
@@ -70,7 +69,8 @@ module _ (pts : List ℤ) (n : ℕ) (ks : List ℕ) (e k l a b u p : ℕ) (s : P
         λ g.
         over-lay3 g p a b u (row left e) (rw (length-dropped e k l ks) (omega arith))
         ∙ ap (λ (x : ℕ). between g p u + (between g p b + (between g p a + x)))
-        (below-same _ _ e (λ i q. ap g (let z : getD left i 0 ≡ key (firstEnd (getD left i 0)) (secondEnd (getD left i 0)) = omega arith in z)));
+        (below-same _ _ e (λ i q. ap g (let z : getD left i 0 ≡ key (firstEnd (getD left i 0)) (secondEnd (getD left i 0)) = omega arith in
+        z)));
   }
 
   -- s is put in
@@ -89,7 +89,8 @@ module _ (pts : List ℤ) (n : ℕ) (ks : List ℕ) (e k l a b u p : ℕ) (s : P
     lowest = omega arith;
     sums =
         λ g.
-        over-lay3 g p (bump p a) (bump p b) (bump p u) (row (turns (bumpAt p) 0 e left) e) (rw (length-bumps p e left, length-dropped e k l ks) (omega arith))
+        over-lay3 g p (bump p a) (bump p b) (bump p u) (row (turns (bumpAt p) 0 e left) e)
+        (rw (length-bumps p e left, length-dropped e k l ks) (omega arith))
         ∙ ap (λ (x : ℕ). between g p (bump p u) + (between g p (bump p b) + (between g p (bump p a) + x)))
         (over-bumped g p e left (rw (length-dropped e k l ks) (omega arith)));
   }
@@ -147,7 +148,8 @@ module _ (ms : List Macro) (pins : List Place) (pts : List ℤ) (n : ℕ) (ks : 
     abbrev U : List (Place × Place)
     U = edgesOf (t .points) (t .edges .keys) (t .edges .size)
 
-    links : (x y : Place) → Link (edgesOf pts ks (suc (suc e))) x y → Alike x y (placeAt pts a) (placeAt pts b) ⊎ (Alike x y (c .one) (c .other) ⊎ Link U x y)
+    links : (x y : Place) → Link (edgesOf pts ks (suc (suc e))) x y → Alike x y (placeAt pts a) (placeAt pts b)
+        ⊎ (Alike x y (c .one) (c .other) ⊎ Link U x y)
     links x y i =
         either inl (λ q. inr (either (λ v. inl (alike-trans v (alike-sym (c .longest)))) inr q))
         (still after (sound .within) (c .edge) (c .cut) (c .two) ha hb (c .point) x y i)
@@ -174,7 +176,8 @@ module _ (ms : List Macro) (pins : List Place) (pts : List ℤ) (n : ℕ) (ks : 
       pinned =
           λ y i.
           let r = of-listing (placeAt pts) n y (sound .pinned y i) in
-          Memᴰ·cast (r .1 .1 ∙ sym (after .old (r .0) (r .1 .0))) (in-listing (placeAt (t .points)) (t .count) (m (r .0)) (inside (r .0) (r .1 .0)));
+          Memᴰ·cast (r .1 .1 ∙ sym (after .old (r .0) (r .1 .0)))
+          (in-listing (placeAt (t .points)) (t .count) (m (r .0)) (inside (r .0) (r .1 .0)));
     }
 
   edges-of : suc (suc (suc e)) ≡ n
@@ -189,7 +192,8 @@ module _ (ms : List Macro) (pins : List Place) (pts : List ℤ) (n : ℕ) (ks : 
 
   ends-apart : a ≡ b → ⊥
   ends-apart q =
-      tree-simple same-place (sound .whole) .apart (placeAt pts a) (placeAt pts b) (in-listing (λ i. endsOf pts (getD ks i 0)) (suc (suc e)) k (c .edge))
+      tree-simple same-place (sound .whole) .apart (placeAt pts a) (placeAt pts b)
+      (in-listing (λ i. endsOf pts (getD ks i 0)) (suc (suc e)) k (c .edge))
       (ap (placeAt pts) q)
 
   -- Where s is put in
@@ -220,13 +224,22 @@ module _ (ms : List Macro) (pins : List Place) (pts : List ℤ) (n : ℕ) (ks : 
 
     put-size : suc (new-tree pts n ks e k l a b u p s rooms .edges .size) ≡ n + 1
     put-size =
-        omega (arith, counted put, ones-not p (bump p a) (bump-not p a), ones-not p (bump p b) (bump-not p b), ones-not p (bump p u) (bump-not p u), edges-of)
+        omega (
+          arith,
+          counted put,
+          ones-not p (bump p a) (bump-not p a),
+          ones-not p (bump p b) (bump-not p b),
+          ones-not p (bump p u)
+              (bump-not p u),
+          edges-of,
+        )
 
     put-within : Within (n + 1) (new-tree pts n ks e k l a b u p s rooms .edges .keys)
     unfolding laidAt
     put-within =
         rw (laidAt, new) at
-        (within-joined pts n (dropTwo e k l ks) e p a b u s few (rank-le pts n s) ha hb (c .point) (within-dropped n e k l ks (sound .within)))
+        (within-joined pts n (dropTwo e k l ks) e p a b u s few (rank-le pts n s) ha hb (c .point)
+        (within-dropped n e k l ks (sound .within)))
 
     put-sound : Sound ms pins (new-tree pts n ks e k l a b u p s rooms)
     put-sound =
@@ -297,7 +310,8 @@ module _ (ms : List Macro) (pins : List Place) (pts : List ℤ) (n : ℕ) (ks : 
     unfolding laidAt
     stood-within =
         rw (laidAt, there) at
-        (within-joined pts n (dropTwo e k l ks) e p a b u s few (rank-le pts n s) ha hb (c .point) (within-dropped n e k l ks (sound .within)))
+        (within-joined pts n (dropTwo e k l ks) e p a b u s few (rank-le pts n s) ha hb (c .point)
+        (within-dropped n e k l ks (sound .within)))
 
     stood-sound : Sound ms pins (old-tree pts n ks e k l a b u p s rooms)
     stood-sound = after-sound stood (sound .ordered) stood-within (λ i h. h) (λ y i. inr i) stood-size
@@ -326,3 +340,8 @@ module _ (ms : List Macro) (pins : List Place) (pts : List ℤ) (n : ℕ) (ks : 
       ≡ over (keyLength pts) ks (suc (suc e)) + distance s (placeAt pts u)
   unfolding laidAt
   laid-lengths = by (stands pts n p s) (λ t. rw (laidAt, t) (through-s (stood t))) (λ t. rw (laidAt, t) (through-s (put t)))
+
+  -- the tables after the exchange, whichever numbers moved on
+  pub laid-after : (m : ℕ → ℕ) × After pts n ks e k l a b u p s m result
+  unfolding laidAt
+  laid-after = by (stands pts n p s) (λ t. rw (laidAt, t) (λ i. i, stood t)) (λ t. rw (laidAt, t) (bump p, put t))

@@ -1,15 +1,15 @@
--- "until none is left": after pruning no edge has a point that is no pin and has a single edge. A run of the pruning ends with no such edge
--- or takes one away, and there are as many runs as edges. So a point of the tree that is no pin and has an edge has two.
+-- R16, its end: after pruning no edge has a point that is no pin and has a single edge. A run of the pruning ends with no such edge or
+-- takes one away, and there are as many runs as edges. So a point of the tree that is no pin and has an edge has two.
 -- Assumes nothing.
 use mathlib.Core.Path.{_≡_, sym, ap, _∙_, subst}
 use mathlib.Core.Bool.{true, false}
 use mathlib.Core.Logic.{_⊎_, inl, inr}
 use mathlib.Core.List.{List}
-use Prim.Native.Nat.{ℕ, zero, suc, _+_, _*_, _≤_, _<_}
+use Prim.Native.Nat.{ℕ, zero, suc, _≤_, _<_}
 use native.Mathlib.Omega.{arith}
 use lib.Dec.{ltb, eqb}
 use lib.IntN.{ℤ}
-use lib.ListN.{length, getD, replicate}
+use lib.ListN.{getD, replicate}
 use borrow.Author.Tests.{ltb-true, ltb-false, eqb-true, eqb-false, eq-eqb}
 use Rattle.lists.specs.Member.{_∈_}
 use Rattle.lists.proofs.TestLaws.{by, differ, either, and-both, or-none}
@@ -23,8 +23,8 @@ use Rattle.joined.proofs.OneTreeLaws.{tree-simple}
 use Rattle.refined.specs.Turns.{turns}
 use Rattle.refined.specs.Table.{pointBound, firstEnd, secondEnd, Tree, Within}
 use Rattle.refined.specs.Exchange.{closed}
-use Rattle.refined.specs.Prune.{markOf, mark, marks, countEnds, loose, looseEdge, firstLoose, prune}
-use Rattle.refined.specs.Refined.{rounds, pruned, refined}
+use Rattle.refined.specs.Prune.{markOf, marks, countEnds, loose, looseEdge, firstLoose, prune}
+use Rattle.refined.specs.Refined.{pruned}
 use Rattle.refined.specs.Sum.{below, over}
 use Rattle.refined.specs.Places.{endsOf, Sound}
 use Rattle.refined.specs.Sentences.{NoneLeft}
@@ -34,7 +34,6 @@ use Rattle.refined.proofs.WithinLaws.{seek-le, pruned-within}
 use Rattle.refined.proofs.ListingLaws.{in-listing}
 use Rattle.refined.proofs.ExchangeSound.{same-place}
 use Rattle.refined.proofs.PruneSound.{endCount, degree, pruned-was}
-use Rattle.refined.proofs.RoundSound.{rounds-kept}
 use Rattle.refined.proofs.RefinedSound.{marks-at, zeros-length}
 
 first-none : (pin ks : List ℕ) → firstLoose pin ks 0 ≡ 0
@@ -53,10 +52,12 @@ none-loose pin (suc e) ks =
 not-loose : (pin ks : List ℕ) (e : ℕ) → firstLoose pin ks e ≡ e → (i : ℕ) → i < e →
     looseEdge pin (turns (countEnds ks) 0 e (replicate pointBound 0)) ks i ≡ false
 unfolding firstLoose
-not-loose pin ks e q i h = seek-before (looseEdge pin (turns (countEnds ks) 0 e (replicate pointBound 0)) ks) e 0 i (omega arith) (omega (arith, q))
+not-loose pin ks e q i h = seek-before (looseEdge pin (turns (countEnds ks) 0 e (replicate pointBound 0)) ks) e 0 i (omega arith)
+    (omega (arith, q))
 
 pub pruned-none : (pin ks : List ℕ) (e i : ℕ) → i < prune pin ks e .size →
-    looseEdge pin (turns (countEnds (prune pin ks e .keys)) 0 (prune pin ks e .size) (replicate pointBound 0)) (prune pin ks e .keys) i ≡ false
+    looseEdge pin (turns (countEnds (prune pin ks e .keys)) 0 (prune pin ks e .size) (replicate pointBound 0)) (prune pin ks e .keys) i
+    ≡ false
 pruned-none pin ks e i h = not-loose pin (prune pin ks e .keys) (prune pin ks e .size) (none-loose pin e ks) i h
 
 -- a sum with more than one of its parts has another
@@ -99,7 +100,8 @@ module _ (n : ℕ) (pin ks : List ℕ) (e : ℕ) (few : n ≤ pointBound) (w : W
   counted = turns (countEnds ks) 0 e (replicate pointBound 0)
 
   -- such a point has not a single edge
-  not-single : (v i : ℕ) → i < e → (v ≡ firstEnd (getD ks i 0)) ⊎ (v ≡ secondEnd (getD ks i 0)) → getD pin v 0 ≡ 0 → getD counted v 0 ≡ 1 → ⊥
+  not-single : (v i : ℕ) → i < e → (v ≡ firstEnd (getD ks i 0)) ⊎ (v ≡ secondEnd (getD ks i 0)) → getD pin v 0 ≡ 0 → getD counted v 0 ≡ 1 →
+      ⊥
   unfolding looseEdge loose
   not-single v i h q free single =
       let z = or-none (loose pin counted (firstEnd (getD ks i 0))) (loose pin counted (secondEnd (getD ks i 0))) (done i h) in
@@ -117,7 +119,8 @@ module _ (n : ℕ) (pin ks : List ℕ) (e : ℕ) (few : n ≤ pointBound) (w : W
       (r .0, (r .1 .0, (r .1 .1 .0, count-ends v (getD ks (r .0) 0) (r .1 .1 .1))))
 
 -- a point that is no pin has the mark 0
-pub no-pin : (pins : List Place) (pts : List ℤ) (n : ℕ) → n ≤ pointBound → (v : ℕ) → v < n → (placeAt pts v ∈ pins → ⊥) → getD (marks pins pts n) v 0 ≡ 0
+pub no-pin : (pins : List Place) (pts : List ℤ) (n : ℕ) → n ≤ pointBound → (v : ℕ) → v < n → (placeAt pts v ∈ pins → ⊥) →
+    getD (marks pins pts n) v 0 ≡ 0
 unfolding marks markOf
 no-pin pins pts n few v h d =
     marks-at pins pts n 0 (replicate pointBound 0) v (rw (zeros-length pointBound) (omega arith)) (omega arith) (omega arith)
@@ -126,7 +129,7 @@ no-pin pins pts n few v h d =
     none : (x : Place) → x ∈ pins → samePlace (placeAt pts v) x ≡ false
     none x m = by (samePlace (placeAt pts v) x) (λ t. absurd (d (subst (λ (y : Place). y ∈ pins) (sym (same-true _ _ t)) m))) (λ t. t)
 
--- "until none is left", of a tree over its points
+-- R16, its end, of a tree over its points
 pub pruned-left : (ms : List Macro) (pins : List Place) (t : Tree) → Sound ms pins t → t .count ≤ pointBound → NoneLeft pins (pruned pins t)
 unfolding pruned
 pruned-left ms pins t sound few = record {
@@ -159,11 +162,3 @@ pruned-left ms pins t sound few = record {
         let p : firstEnd k ≡ secondEnd k = ap firstEnd (sym (r .1 .1)) ∙ q ∙ ap secondEnd (r .1 .1) in
         tree-simple same-place (sound .whole) .apart (placeAt (t .points) (firstEnd k)) (placeAt (t .points) (secondEnd k))
         (in-listing (λ j. endsOf (t .points) (getD (t .edges .keys) j 0)) (t .edges .size) (r .0) (r .1 .0)) (ap (placeAt (t .points)) p)
-
--- and of the refined tree of a tree
-pub refined-left : (ms : List Macro) (pins : List Place) (t : Tree) → Sound ms pins t → t .count + length pins ≤ pointBound →
-    length (t .points) ≡ pointBound * 2 → length (t .edges .keys) ≡ pointBound → NoneLeft pins (refined ms pins t)
-unfolding refined
-refined-left ms pins t sound few room rooms =
-    let k = rounds-kept ms pins (length pins) t sound few room rooms in
-    pruned-left ms pins (rounds ms (length pins) t) (k .sound) (omega (arith, k .points))

@@ -24,8 +24,7 @@ pub mod WinnerLaws
 pub mod RankedLaws
 pub mod RoundSound
 pub mod RefinedSound
-pub mod RefinedOrder
 pub mod CutSound
 pub mod TakesLaws
-pub mod RoundsTake
+pub mod RoundSteps
 pub mod LeftLaws

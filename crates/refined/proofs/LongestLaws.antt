@@ -1,29 +1,23 @@
 -- Laws of the longer of two edges and of the table of longest edges.
 -- Assumes nothing.
-use mathlib.Core.Path.{_≡_, refl, sym, ap, ap₂, _∙_}
-use mathlib.Core.Bool.{Bool, true, false}
+use mathlib.Core.Path.{_≡_, refl, ap}
+use mathlib.Core.Bool.{true, false}
 use mathlib.Core.List.{List, [], _∷_}
-use Prim.Native.Nat.{ℕ, zero, suc, _+_, _-_, _*_, _/_, _%_, _≤_, _<_, _^_}
+use Prim.Native.Nat.{ℕ, zero, suc, _≤_, _<_}
 use native.Mathlib.Omega.{arith}
 use lib.Dec.{ltb, eqb}
-use lib.ListN.{length, getD, set}
+use lib.ListN.{getD, set}
 use borrow.Author.Tests.{lt-ltb, le-ltb, eq-eqb, ne-eqb}
 use lib.IntN.{ℤ}
 use Rattle.plane.specs.declared.Place.{Place}
 use Rattle.plane.specs.Distance.{distance}
 use Rattle.plane.specs.Flat.{placeAt}
-use mir.Syntax.{w32}
-use mir.Val.{SFits}
-use Rattle.plane.proofs.DistanceLaws.{apart-fits}
 use Rattle.lists.proofs.TestLaws.{by}
-use Rattle.refined.specs.Longest.{Reach, attach, hang, longer, measure, edgeLength, lengthBound, noEdge, pass, reach, shorter, spread, spreads, wins}
+use Rattle.refined.specs.Longest.{Reach, attach, hang, longer, measure, edgeLength, noEdge, pass, reach, shorter, spread}
+use Rattle.refined.specs.Longest.{spreads, wins}
 use Rattle.refined.specs.Table.{Small, firstEnd, key, pointBound, secondEnd}
 use Rattle.refined.specs.Turns.{turns}
 use Rattle.refined.proofs.TurnLaws.{turns-keep, turns-below}
-
-pub distance-fits : (a b : Place) → SFits w32 (a .x) → SFits w32 (a .y) → SFits w32 (b .x) → SFits w32 (b .y) → distance a b < lengthBound
-unfolding distance
-distance-fits a b f g h i = omega (arith, apart-fits (a .x) (b .x) f h, apart-fits (a .y) (b .y) g i)
 
 pub length-is : (pts : List ℤ) (keys : List ℕ) (k d : ℕ) (p q : Place) → p ≡ placeAt pts (firstEnd (getD keys k 0))
     → q ≡ placeAt pts (secondEnd (getD keys k 0)) → d ≡ distance p q → d ≡ edgeLength pts keys k
@@ -90,9 +84,11 @@ small-spread m el v p k w t h s =
 pub small-spreads : (el : List ℕ) (n v p k : ℕ) (t : List ℕ) → k < pointBound → Small pointBound t → Small pointBound (spreads el n v p k t)
 unfolding spreads
 small-spreads el n v p k t h s =
-    small-set pointBound _ _ _ (omega arith) (turns-keep (spread el v p k) (Small pointBound) n 0 t (λ j u q. small-spread pointBound el v p k j u h q) s)
+    small-set pointBound _ _ _ (omega arith) (turns-keep (spread el v p k) (Small pointBound) n 0 t
+    (λ j u q. small-spread pointBound el v p k j u h q) s)
 
-pub spreads-is : (el : List ℕ) (n v p k : ℕ) (t u : List ℕ) → u ≡ turns (spread el v p k) 0 n t → set u (key v v) noEdge ≡ spreads el n v p k t
+pub spreads-is : (el : List ℕ) (n v p k : ℕ) (t u : List ℕ) → u ≡ turns (spread el v p k) 0 n t → set u (key v v) noEdge
+    ≡ spreads el n v p k t
 unfolding spreads
 spreads-is el n v p k t u e = rw e refl
 
@@ -112,7 +108,8 @@ module _ (el : List ℕ) (n a b k : ℕ) (s t : List ℕ) where
   unfolding attach hang
   attach-two d e u h = rw (h, attach, ne-eqb _ _ d, ne-eqb _ _ e) refl
 
-pub small-attach : (el : List ℕ) (n a b k : ℕ) (r : Reach) → k < pointBound → Small pointBound (r .top) → Small pointBound (attach el n a b k r .top)
+pub small-attach : (el : List ℕ) (n a b k : ℕ) (r : Reach) → k < pointBound → Small pointBound (r .top) →
+    Small pointBound (attach el n a b k r .top)
 unfolding attach hang
 small-attach el n a b k r h s =
     by (eqb (getD (r .seen) a 0) (getD (r .seen) b 0))
@@ -124,7 +121,8 @@ pub small-attached : (el : List ℕ) (n a b k : ℕ) (s t s′ t′ : List ℕ) 
     → Small pointBound t → Small pointBound t′
 small-attached el n a b k s t s′ t′ e h q = rw (ap (λ (r : Reach). r .top) e) (small-attach el n a b k (reach s t) h q)
 
-pub pass-is : (keys el : List ℕ) (n k : ℕ) (r : Reach) → attach el n (firstEnd (getD keys k 0)) (secondEnd (getD keys k 0)) k r ≡ pass keys el n k r
+pub pass-is : (keys el : List ℕ) (n k : ℕ) (r : Reach) → attach el n (firstEnd (getD keys k 0)) (secondEnd (getD keys k 0)) k r
+    ≡ pass keys el n k r
 unfolding pass
 pass-is keys el n k r = refl
 

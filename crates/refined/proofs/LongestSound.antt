@@ -2,17 +2,17 @@
 -- smaller on a tie, is the entry. A point v that is hung on p by an edge goes to w by that edge and p's way; and back.
 -- Assumes nothing.
 use mathlib.Core.Path.{_≡_, refl, sym, ap, ap₂, _∙_, subst}
-use mathlib.Core.Bool.{Bool, true, false}
+use mathlib.Core.Bool.{true}
 use mathlib.Core.Logic.{_⊎_, inl, inr}
-use mathlib.Core.List.{List, [], _∷_, _++_, Memᴰ·cast, Memᴰ·append-left, Memᴰ·append-right, List·Memᴰ·cases-cons, List·Memᴰ·append-cases}
-use Prim.Native.Nat.{ℕ, zero, suc, _+_, _-_, _*_, _/_, _%_, _≤_, _<_}
+use mathlib.Core.List.{List, [], _∷_, _++_, Memᴰ·cast, List·Memᴰ·cases-cons, List·Memᴰ·append-cases}
+use Prim.Native.Nat.{ℕ, _+_, _≤_, _<_}
 use native.Mathlib.Omega.{arith}
-use lib.Dec.{ltb, eqb}
+use lib.Dec.{eqb}
 use lib.IntN.{ℤ}
 use lib.ListN.{length, getD, set, length-set}
-use borrow.Author.Tests.{ltb-true, ltb-false, eqb-true, eqb-false}
+use borrow.Author.Tests.{eqb-true, eqb-false}
 use Rattle.lists.specs.Member.{_∈_, here, there, Once}
-use Rattle.lists.proofs.TestLaws.{by, differ, either}
+use Rattle.lists.proofs.TestLaws.{by, either}
 use Rattle.lists.proofs.MemberLaws.{once-end}
 use Rattle.plane.specs.declared.Place.{Place}
 use Rattle.plane.specs.Flat.{placeAt}
@@ -20,13 +20,12 @@ use Rattle.joined.specs.Joined.{Link, Alike}
 use Rattle.joined.specs.Way.{Way, stop, go}
 use Rattle.joined.specs.Exchange.{steps}
 use Rattle.joined.proofs.JoinedLaws.{firsts, seconds}
-use Rattle.joined.proofs.OtherLaws.{alike-sym, alike-trans}
-use Rattle.refined.specs.Turns.{turns}
-use Rattle.refined.specs.Table.{pointBound, pairBound, key, firstEnd, secondEnd, Within}
-use Rattle.refined.specs.Longest.{wins, longer, noEdge, spreads, Reach, reach, hang, attach, pass}
-use Rattle.refined.specs.Places.{listing, endsOf, edgesOf, InOrder}
+use Rattle.joined.proofs.OtherLaws.{alike-trans}
+use Rattle.refined.specs.Table.{pointBound, pairBound, key, firstEnd, secondEnd}
+use Rattle.refined.specs.Longest.{wins, longer, noEdge, spreads, Reach, reach}
+use Rattle.refined.specs.Places.{endsOf, edgesOf, InOrder}
 use Rattle.refined.proofs.LongestLaws.{longer-yes, longer-no}
-use Rattle.refined.proofs.WinsLaws.{Under, wins-under, wins-not, under-trans, under-self, longer-first, longer-second}
+use Rattle.refined.proofs.WinsLaws.{Under, wins-under, under-trans, longer-first, longer-second}
 use Rattle.refined.proofs.ReadingLaws.{untouched, spreads-length, spreads-row, spreads-column, spreads-self}
 use Rattle.refined.proofs.SumLaws.{other, here as put-here}
 use Rattle.refined.proofs.ListingLaws.{in-listing}
@@ -110,7 +109,8 @@ module _ (pts : List ℤ) (n : ℕ) (ks : List ℕ) (e : ℕ) (el : List ℕ) wh
     }
 
     -- and at the end
-    top-end : (x k : ℕ) (a b z : Place) (ps : List Place) → k < e → Ends k b z → Way T a ps b → Top x a ps → Top (longer el x k) a (ps ++ (z ∷ []))
+    top-end : (x k : ℕ) (a b z : Place) (ps : List Place) → k < e → Ends k b z → Way T a ps b → Top x a ps →
+        Top (longer el x k) a (ps ++ (z ∷ []))
     top-end x k a b z ps h g w t = record {
       is =
           by (wins el x k)
@@ -140,8 +140,10 @@ module _ (pts : List ℤ) (n : ℕ) (ks : List ℕ) (e : ℕ) (el : List ℕ) wh
     }
 
     edge-link : (k : ℕ) (c d : Place) → k < e → Ends k c d → Link T c d
-    edge-link k c d h (inl q) = inl (Memᴰ·cast (ap₂ (λ (x y : Place). (x, y)) (q .0) (q .1)) (in-listing (λ i. endsOf pts (getD ks i 0)) e k h))
-    edge-link k c d h (inr q) = inr (Memᴰ·cast (ap₂ (λ (x y : Place). (x, y)) (q .1) (q .0)) (in-listing (λ i. endsOf pts (getD ks i 0)) e k h))
+    edge-link k c d h (inl q) = inl (Memᴰ·cast (ap₂ (λ (x y : Place). (x, y)) (q .0) (q .1))
+        (in-listing (λ i. endsOf pts (getD ks i 0)) e k h))
+    edge-link k c d h (inr q) = inr (Memᴰ·cast (ap₂ (λ (x y : Place). (x, y)) (q .1) (q .0))
+        (in-listing (λ i. endsOf pts (getD ks i 0)) e k h))
 
     turn-ends : (k : ℕ) (c d : Place) → Ends k c d → Ends k d c
     turn-ends k c d (inl q) = inr (q .1, q .0)
@@ -209,7 +211,8 @@ module _ (pts : List ℤ) (n : ℕ) (ks : List ℕ) (e : ℕ) (el : List ℕ) wh
                 λ z m.
                 either (λ i. later-seen (f .seen) z i) (λ i. either (λ q. (v, (now-seen, q))) (λ q. elim q [ ]) (List·Memᴰ·cases-cons i))
                 (List·Memᴰ·append-cases (placeAt pts w ∷ f .points) m);
-            top = subst (λ (y : ℕ). Top y (placeAt pts w) (f .points ++ (placeAt pts v ∷ []))) (sym x) (top-end _ k _ _ _ _ hk back (f .way) (f .top));
+            top = subst (λ (y : ℕ). Top y (placeAt pts w) (f .points ++ (placeAt pts v ∷ []))) (sym x)
+                (top-end _ k _ _ _ _ hk back (f .way) (f .top));
           }
 
       v-alone : Known after v v
@@ -244,7 +247,8 @@ module _ (pts : List ℤ) (n : ℕ) (ks : List ℕ) (e : ℕ) (el : List ℕ) wh
         room = length-set (r .seen) v 1 ∙ good .room;
         sized = spreads-length el v p k (omega arith) n (r .top) few (good .sized) apart;
         marks = λ i. by (eqb v i) (λ q. inr (ap (λ (j : ℕ). getD (after .seen) j 0) (sym (eqb-true v i q)) ∙ now-seen .1))
-            (λ q. either (λ z. inl (other (r .seen) v i 1 (eqb-false v i q) ∙ z)) (λ z. inr (other (r .seen) v i 1 (eqb-false v i q) ∙ z)) (good .marks i));
+            (λ q. either (λ z. inl (other (r .seen) v i 1 (eqb-false v i q) ∙ z)) (λ z. inr (other (r .seen) v i 1 (eqb-false v i q) ∙ z))
+            (good .marks i));
         known =
             λ x y s q.
             either

@@ -1,15 +1,15 @@
 -- A new point put in at its rank: the other points keep their places under numbers moved on, and the order holds.
 -- Assumes nothing.
 use mathlib.Core.Path.{_≡_, refl, sym, ap, ap₂, _∙_}
-use mathlib.Core.Bool.{Bool, true, false, not, _&&_}
-use mathlib.Core.List.{List, [], _∷_}
+use mathlib.Core.Bool.{Bool, true, false, not}
+use mathlib.Core.List.{List, []}
 use Prim.Native.Nat.{ℕ, zero, suc, _+_, _-_, _*_, _≤_, _<_}
 use native.Mathlib.Omega.{arith}
 use lib.Dec.{ltb}
 use lib.IntN.{ℤ, pos}
 use lib.ListN.{length, getD, set, length-set}
 use lib.Seq.{getD-set-same, getD-set-other}
-use borrow.Author.Tests.{ltb-true, ltb-false, lt-ltb, le-ltb}
+use borrow.Author.Tests.{ltb-true, ltb-false, lt-ltb}
 use Rattle.lists.proofs.TestLaws.{by, differ, and-both}
 use Rattle.plane.specs.declared.Place.{Place}
 use Rattle.plane.specs.Place.{place, before, samePlace}
@@ -18,7 +18,7 @@ use Rattle.plane.proofs.PlaceLaws.{same-refl, before-trans, before-tie}
 use Rattle.refined.specs.Turns.{turns, seek}
 use Rattle.refined.specs.Exchange.{later, rank, stands, setPoint, Hand, hand, push, closing, opened, bump}
 use Rattle.refined.specs.Places.{InOrder}
-use Rattle.refined.proofs.WithinLaws.{seek-le, rank-le}
+use Rattle.refined.proofs.WithinLaws.{rank-le}
 use Rattle.refined.proofs.ExchangeLaws.{bump-lt, bump-ge}
 
 -- One place stored
@@ -31,7 +31,8 @@ place-here pts i q h =
     (getD-set-same (set pts (i * 2) (q .x)) (i * 2 + 1) (q .y) (pos 0) (rw (length-set pts (i * 2) (q .x)) (omega arith)))
 
 place-other : (pts : List ℤ) (i j : ℕ) (q : Place) → (i ≡ j → ⊥) → placeAt (setPoint pts i q) j ≡ placeAt pts j
-place-other pts i j q n = ap₂ place (at (j * 2) (λ e. n (omega arith)) (λ e. n (omega arith))) (at (j * 2 + 1) (λ e. n (omega arith)) (λ e. n (omega arith)))
+place-other pts i j q n = ap₂ place (at (j * 2) (λ e. n (omega arith)) (λ e. n (omega arith)))
+    (at (j * 2 + 1) (λ e. n (omega arith)) (λ e. n (omega arith)))
   where
     at : (k : ℕ) → (k ≡ i * 2 → ⊥) → (k ≡ i * 2 + 1 → ⊥) → getD (setPoint pts i q) k (pos 0) ≡ getD pts k (pos 0)
     at k a b = getD-set-other (set pts (i * 2) (q .x)) (i * 2 + 1) k (q .y) (pos 0) b ∙ getD-set-other pts (i * 2) k (q .x) (pos 0) a
@@ -105,7 +106,8 @@ module _ (pts : List ℤ) (n p : ℕ) (s : Place) (hp : p ≤ n) (room : n * 2 +
       (λ t. let l : p ≤ i = ltb-false i p t in let e : i + 1 ≡ suc i = omega arith in rw (← bump-ge p i l, e) (opened-high i l h))
 
   pub opened-past : (j : ℕ) → p < j → j < suc n → placeAt (opened pts n p s) j ≡ placeAt pts (j - 1)
-  opened-past j h l = let e : j ≡ suc (j - 1) = omega arith in ap (placeAt (opened pts n p s)) e ∙ opened-high (j - 1) (omega arith) (omega arith)
+  opened-past j h l = let e : j ≡ suc (j - 1) = omega arith in ap (placeAt (opened pts n p s)) e ∙ opened-high (j - 1) (omega arith)
+      (omega arith)
 
 -- The rank of s
 
@@ -152,7 +154,8 @@ module _ (pts : List ℤ) (n : ℕ) (s : Place) (o : InOrder pts n) where
     pub rank-above : (j : ℕ) → rank pts n s ≤ j → j < n → before s (placeAt pts j) ≡ true
     rank-above j h l =
         by (ltb (rank pts n s) j)
-        (λ t. before-trans s (placeAt pts (rank pts n s)) (placeAt pts j) (first-after (omega arith)) (o (rank pts n s) j (ltb-true _ _ t) l))
+        (λ t. before-trans s (placeAt pts (rank pts n s)) (placeAt pts j) (first-after (omega arith))
+        (o (rank pts n s) j (ltb-true _ _ t) l))
         (λ t. let e : j ≡ rank pts n s = omega (arith, ltb-false (rank pts n s) j t) in rw e (first-after (omega arith)))
 
     module _ (room : n * 2 + 2 ≤ length pts) where

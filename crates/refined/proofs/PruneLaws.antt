@@ -1,13 +1,13 @@
 -- Laws of pruning.
 -- Assumes nothing.
-use mathlib.Core.Path.{_≡_, refl, sym, ap, ap₂, _∙_}
+use mathlib.Core.Path.{_≡_, refl, sym, ap, _∙_}
 use mathlib.Core.Bool.{Bool, true, false, _&&_, _||_}
 use mathlib.Core.List.{List, [], _∷_}
-use Prim.Native.Nat.{ℕ, zero, suc, _+_, _-_, _*_, _/_, _%_, _≤_, _<_}
+use Prim.Native.Nat.{ℕ, zero, suc, _+_, _-_, _≤_, _<_}
 use native.Mathlib.Omega.{arith}
-use lib.Dec.{ltb, eqb}
+use lib.Dec.{eqb}
 use lib.ListN.{length, getD, set, replicate}
-use borrow.Author.Tests.{lt-ltb, le-ltb, eq-eqb, ne-eqb}
+use borrow.Author.Tests.{eq-eqb, ne-eqb}
 use lib.IntN.{ℤ}
 use Rattle.lists.specs.Any.{any}
 use Rattle.plane.specs.declared.Place.{Place}
@@ -58,12 +58,14 @@ pub loose-is : (pin d : List ℕ) (v : ℕ) → (eqb (getD pin v 0) 0 && eqb (ge
 unfolding loose
 loose-is pin d v = refl
 
-pub loose-edge-is : (pin d ks : List ℕ) (i : ℕ) (p q : Bool) → p ≡ loose pin d (firstEnd (getD ks i 0)) → q ≡ loose pin d (secondEnd (getD ks i 0))
+pub loose-edge-is : (pin d ks : List ℕ) (i : ℕ) (p q : Bool) → p ≡ loose pin d (firstEnd (getD ks i 0)) → q
+    ≡ loose pin d (secondEnd (getD ks i 0))
     → (p || q) ≡ looseEdge pin d ks i
 unfolding looseEdge
 loose-edge-is pin d ks i p q e f = rw (e, f) refl
 
-pub first-loose-is : (pin ks d : List ℕ) (e r : ℕ) → d ≡ turns (countEnds ks) 0 e (replicate pointBound 0) → r ≡ seek (looseEdge pin d ks) 0 e
+pub first-loose-is : (pin ks d : List ℕ) (e r : ℕ) → d ≡ turns (countEnds ks) 0 e (replicate pointBound 0) → r
+    ≡ seek (looseEdge pin d ks) 0 e
     → r ≡ firstLoose pin ks e
 unfolding firstLoose
 first-loose-is pin ks d e r p q = rw p at q
@@ -111,7 +113,8 @@ unfolding pruned marks
 pruned-is pins pts n ks e pin r f g = rw f at g
 
 pub answer-is : (ms : List Macro) (pins : List Place) (t : Tree) (pts : List ℤ) (n : ℕ) (ks : List ℕ) (e : ℕ) (ls : List ℕ) (f m : ℕ)
-    → length pins ≡ m → tree pts n ks e ≡ rounds ms m t → row ls f ≡ pruned pins (tree pts n ks e) .edges → tree pts n ls f ≡ refined ms pins t
+    → length pins ≡ m → tree pts n ks e ≡ rounds ms m t → row ls f ≡ pruned pins (tree pts n ks e) .edges → tree pts n ls f
+    ≡ refined ms pins t
 unfolding refined pruned
 answer-is ms pins t pts n ks e ls f m l h g =
     ap (λ (r : Row). record { points = pts; count = n; edges = r }) g

@@ -1,40 +1,37 @@
--- Pruning keeps a tree with all pins: the point that goes is no pin, and by the count of its edges no other edge has it. No edge is added, so
--- the total is not raised.
+-- Pruning keeps a tree with all pins: the point that goes is no pin, and by the count of its edges no other edge has it. No edge is
+-- added, so the total is not raised.
 -- Assumes nothing.
-use mathlib.Core.Path.{_≡_, refl, sym, ap, ap₂, _∙_, subst}
-use mathlib.Core.Bool.{Bool, true, false, _&&_, _||_}
+use mathlib.Core.Path.{_≡_, refl, sym, ap, _∙_}
+use mathlib.Core.Bool.{true}
 use mathlib.Core.Logic.{_⊎_, inl, inr}
-use mathlib.Core.List.{List, [], _∷_, Memᴰ·cast}
-use Prim.Native.Nat.{ℕ, zero, suc, _+_, _-_, _*_, _/_, _%_, _≤_, _<_}
+use mathlib.Core.List.{List, [], Memᴰ·cast}
+use Prim.Native.Nat.{ℕ, zero, suc, _+_, _≤_, _<_}
 use native.Mathlib.Omega.{arith}
-use native.Mathlib.Numerals.{add-one}
 use lib.Dec.{ltb, eqb}
 use lib.IntN.{ℤ}
 use lib.ListN.{length, getD, set, length-set, replicate}
 use borrow.Author.Tests.{ltb-true, ltb-false, eqb-true, eqb-false}
-use Rattle.lists.specs.Any.{any}
 use Rattle.lists.specs.Member.{_∈_, Among, rest}
-use Rattle.lists.proofs.TestLaws.{by, differ, either, and-left, and-right, or-none}
-use Rattle.lists.proofs.AnyLaws.{any-none}
+use Rattle.lists.proofs.TestLaws.{by, differ, either, and-left, and-right}
 use Rattle.lists.proofs.MemberLaws.{rest-or}
 use Rattle.plane.specs.declared.Place.{Place}
-use Rattle.plane.specs.Place.{before, samePlace}
+use Rattle.plane.specs.Place.{before}
 use Rattle.plane.specs.Flat.{placeAt}
-use Rattle.plane.proofs.PlaceLaws.{same-refl, before-irrefl}
+use Rattle.plane.proofs.PlaceLaws.{before-irrefl}
 use Rattle.joined.specs.Joined.{Link, Alike, Inside}
 use Rattle.joined.specs.Tree as joined
 use Rattle.joined.proofs.JoinedLaws.{firsts, seconds}
 use Rattle.joined.proofs.OtherLaws.{alike-sym, alike-trans}
 use Rattle.joined.proofs.PruneLaws.{prune-tree, prune-inside}
-use Rattle.refined.specs.Turns.{turns, seek}
+use Rattle.refined.specs.Turns.{turns}
 use Rattle.refined.specs.Table.{pointBound, firstEnd, secondEnd, Row, Within}
 use Rattle.refined.specs.Exchange.{closed}
 use Rattle.refined.specs.Prune.{countEnds, loose, looseEdge, firstLoose, prune}
-use Rattle.refined.specs.Sum.{below, over}
-use Rattle.refined.specs.Places.{listing, endsOf, pointsOf, edgesOf, InOrder}
+use Rattle.refined.specs.Sum.{over}
+use Rattle.refined.specs.Places.{endsOf, edgesOf, InOrder}
 use Rattle.refined.proofs.WithinLaws.{seek-le, within-closed}
 use Rattle.refined.proofs.SumLaws.{below-at, from, from-below, other, here, one, one-same}
-use Rattle.refined.proofs.SumLaws.{one-not, one-some, in-table, of-table, over-closed, closed-at, skip}
+use Rattle.refined.proofs.SumLaws.{one-not, in-table, of-table, over-closed, closed-at, skip}
 use Rattle.refined.proofs.OpenedLaws.{seek-hit}
 use Rattle.refined.proofs.ListingLaws.{listing-length, in-listing, of-listing}
 use Rattle.refined.proofs.ExchangeSound.{same-place}
@@ -50,7 +47,8 @@ count-up d a v h =
     (λ t.
     let e : a ≡ v = eqb-true a v t in
     let o : one v a ≡ 1 = ap (one v) e ∙ one-same v in
-    let g : getD (set d a (getD d a 0 + 1)) v 0 ≡ getD d a 0 + 1 = ap (λ (i : ℕ). getD (set d a (getD d a 0 + 1)) i 0) (sym e) ∙ here d a (getD d a 0 + 1) h in
+    let g : getD (set d a (getD d a 0 + 1)) v 0 ≡ getD d a 0 + 1 = ap (λ (i : ℕ). getD (set d a (getD d a 0 + 1)) i 0) (sym e)
+    ∙ here d a (getD d a 0 + 1) h in
     let f : getD d a 0 ≡ getD d v 0 = ap (λ (i : ℕ). getD d i 0) e in
     omega (arith, o, g, f))
     (λ t.
@@ -70,7 +68,8 @@ length-count : (ks : List ℕ) (i : ℕ) (d : List ℕ) → length (countEnds ks
 unfolding countEnds
 length-count ks i d = simp length-set
 
-counts : (ks : List ℕ) → ((j : ℕ) → (firstEnd (getD ks j 0) < pointBound) × (secondEnd (getD ks j 0) < pointBound)) → (c i : ℕ) (d : List ℕ) (v : ℕ) →
+counts : (ks : List ℕ) → ((j : ℕ) → (firstEnd (getD ks j 0) < pointBound) × (secondEnd (getD ks j 0) < pointBound)) →
+    (c i : ℕ) (d : List ℕ) (v : ℕ) →
     length d ≡ pointBound → getD (turns (countEnds ks) i c d) v 0 ≡ getD d v 0 + from (λ j. endCount v (getD ks j 0)) i c
 unfolding turns from
 counts ks h zero i d v s = omega arith
@@ -101,13 +100,13 @@ order-same pts n i j o h l e =
 -- One point goes
 
 module _ (pts : List ℤ) (n : ℕ) (o : InOrder pts n) (few : n ≤ pointBound) (ks : List ℕ) (w : Within n ks) (e i : ℕ) (hi : i ≤ e) where
-  abbrev T : List (Place × Place)
+  abbrev pub T : List (Place × Place)
   T = edgesOf pts ks (suc e)
 
-  abbrev U : List (Place × Place)
+  abbrev pub U : List (Place × Place)
   U = edgesOf pts (closed i e ks) e
 
-  kept : (x y : Place) → (x, y) ∈ T → ((x, y) ≡ endsOf pts (getD ks i 0)) ⊎ ((x, y) ∈ U)
+  pub kept : (x y : Place) → (x, y) ∈ T → ((x, y) ≡ endsOf pts (getD ks i 0)) ⊎ ((x, y) ∈ U)
   kept x y m = at (of-listing (λ j. endsOf pts (getD ks j 0)) (suc e) (x, y) m)
     where
       at : (j : ℕ) × ((j < suc e) × ((x, y) ≡ endsOf pts (getD ks j 0))) → ((x, y) ≡ endsOf pts (getD ks i 0)) ⊎ ((x, y) ∈ U)
@@ -123,7 +122,8 @@ module _ (pts : List ℤ) (n : ℕ) (o : InOrder pts n) (few : n ≤ pointBound)
             one-not j (getD ks i 0)
                 (λ q. eqb-false _ _ t (sym q)),
           )) in
-          inr (Memᴰ·cast (r .1 .1 ∙ ap (endsOf pts) (sym (f .1 .1))) (in-listing (λ q. endsOf pts (getD (closed i e ks) q 0)) e (f .0) (f .1 .0))))
+          inr (Memᴰ·cast (r .1 .1 ∙ ap (endsOf pts) (sym (f .1 .1)))
+          (in-listing (λ q. endsOf pts (getD (closed i e ks) q 0)) e (f .0) (f .1 .0))))
 
   -- the edge i joins v and another point, and no other edge has v
   module _ (v z : ℕ) (hv : v < n) (ends : Alike v z (firstEnd (getD ks i 0)) (secondEnd (getD ks i 0)))
@@ -160,17 +160,19 @@ module _ (pts : List ℤ) (n : ℕ) (o : InOrder pts n) (few : n ≤ pointBound)
       c,
     )
 
-    gone : (y : Place) → Link U (placeAt pts v) y → ⊥
+    pub gone : (y : Place) → Link U (placeAt pts v) y → ⊥
     gone y (inl m) =
         let r = of-listing (λ j. endsOf pts (getD (closed i e ks) j 0)) e (placeAt pts v, y) m in
         let g = within-closed n i e ks w .ends (r .0) in
-        let q : v ≡ firstEnd (getD (closed i e ks) (r .0) 0) = order-same pts n _ _ o hv (g .0) (ap (λ (x : Place × Place). x .0) (r .1 .1)) in
+        let q : v ≡ firstEnd (getD (closed i e ks) (r .0) 0) = order-same pts n _ _ o hv (g .0)
+        (ap (λ (x : Place × Place). x .0) (r .1 .1)) in
         let f : one v (firstEnd (getD (closed i e ks) (r .0) 0)) ≡ 1 = ap (one v) (sym q) ∙ one-same v in
         no-end (r .0) (r .1 .0) (omega (arith, f))
     gone y (inr m) =
         let r = of-listing (λ j. endsOf pts (getD (closed i e ks) j 0)) e (y, placeAt pts v) m in
         let g = within-closed n i e ks w .ends (r .0) in
-        let q : v ≡ secondEnd (getD (closed i e ks) (r .0) 0) = order-same pts n _ _ o hv (g .1) (ap (λ (x : Place × Place). x .1) (r .1 .1)) in
+        let q : v ≡ secondEnd (getD (closed i e ks) (r .0) 0) = order-same pts n _ _ o hv (g .1)
+        (ap (λ (x : Place × Place). x .1) (r .1 .1)) in
         let f : one v (secondEnd (getD (closed i e ks) (r .0) 0)) ≡ 1 = ap (one v) (sym q) ∙ one-same v in
         no-end (r .0) (r .1 .0) (omega (arith, f))
 
@@ -190,7 +192,7 @@ pub record Whole (pts : List ℤ) (pins : List Place) (r : Row) : Type 0 where
   pub inside : Inside points (edgesOf pts (r .keys) (r .size))
   pub pinned : Among pins points
 
-skip-in : (k i n : ℕ) → i < n → skip k i < suc n
+pub skip-in : (k i n : ℕ) → i < n → skip k i < suc n
 unfolding skip
 skip-in k i n h = by (ltb i k) (λ t. rw (skip, t) (omega arith)) (λ t. rw (skip, t) (omega arith))
 
@@ -207,11 +209,11 @@ pruned-was pin (suc e) ks j h =
     let r = pruned-was pin e (closed i e ks) j (rw (prune, t) at h) in
     (skip i (r .0), (skip-in i (r .0) e (r .1 .0), rw (prune, t) (r .1 .1 ∙ closed-at i e ks (r .0) (r .1 .0)))))
 
-first-le : (pin ks : List ℕ) (e : ℕ) → firstLoose pin ks e ≤ e
+pub first-le : (pin ks : List ℕ) (e : ℕ) → firstLoose pin ks e ≤ e
 unfolding firstLoose
 first-le pin ks e = omega (arith, seek-le (looseEdge pin (turns (countEnds ks) 0 e (replicate pointBound 0)) ks) e 0)
 
-first-hit : (pin ks : List ℕ) (e : ℕ) → firstLoose pin ks e < e →
+pub first-hit : (pin ks : List ℕ) (e : ℕ) → firstLoose pin ks e < e →
     looseEdge pin (turns (countEnds ks) 0 e (replicate pointBound 0)) ks (firstLoose pin ks e) ≡ true
 unfolding firstLoose
 first-hit pin ks e h = seek-hit (looseEdge pin (turns (countEnds ks) 0 e (replicate pointBound 0)) ks) e 0 (omega arith)

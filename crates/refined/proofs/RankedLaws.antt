@@ -25,7 +25,8 @@ use Rattle.refined.specs.Prune.{firstLoose, prune}
 use Rattle.refined.specs.Places.{listing, endsOf, edgesOf, Ranked, Sound}
 use Rattle.refined.proofs.ExchangeLaws.{bump-lt, bump-ge}
 use Rattle.refined.proofs.WithinLaws.{bump-in}
-use Rattle.refined.proofs.SumLaws.{other, here, skip, skip-low, skip-high, closed-at, bumpKey, bumps-at, length-bumps, length-lay, size-lay}
+use Rattle.refined.proofs.SumLaws.{other, here, skip, skip-low, skip-high, closed-at, bumpKey, bumps-at, length-bumps, length-lay}
+use Rattle.refined.proofs.SumLaws.{size-lay}
 use Rattle.refined.proofs.ListingLaws.{in-listing}
 use Rattle.refined.proofs.AfterLaws.{first-of, second-of}
 use Rattle.refined.proofs.ExchangeSound.{same-place}
@@ -98,7 +99,13 @@ bumped-ranked n p e ks few room w r = record {
       let high : bump p (secondEnd k) < pointBound = omega (arith, bump-in n p (secondEnd k) (w .ends i .1)) in
       let up = bump-less p (firstEnd k) (secondEnd k) (r .upward i h) in
       subst (λ (j : ℕ). firstEnd j < secondEnd j) (sym (at i h))
-      (omega (arith, up, first-of (bump p (firstEnd k)) (bump p (secondEnd k)) high, second-of (bump p (firstEnd k)) (bump p (secondEnd k)) high));
+      (omega (
+        arith,
+        up,
+        first-of (bump p (firstEnd k)) (bump p (secondEnd k)) high,
+        second-of (bump p (firstEnd k))
+            (bump p (secondEnd k)) high,
+      ));
   rising =
       λ i j h l.
       let o = bump-key-less n p (getD ks i 0) (getD ks j 0) few (w .ends i .1) (w .ends j .1) (r .rising i j h l) in
@@ -149,7 +156,8 @@ module _ (xs : List ℕ) (i n q : ℕ) (room : i < length xs) (up : firstEnd q <
       let f : i ≡ k → ⊥ = eqb-false i k v in
       omega (arith, other xs i j q d, other xs i k q f, old j k h l d f)))
 
-carry-level : (c i q : ℕ) (xs : List ℕ) → i + c < length xs → firstEnd q < secondEnd q → ((j : ℕ) → j < i → getD xs j 0 ≤ q) → Level xs (i + c)
+carry-level : (c i q : ℕ) (xs : List ℕ) → i + c < length xs → firstEnd q < secondEnd q → ((j : ℕ) → j < i → getD xs j 0 ≤ q) →
+    Level xs (i + c)
     → Level (carrying i c q xs) (suc (i + c))
 unfolding carrying
 carry-level zero i q xs room up low g = record {
@@ -164,7 +172,8 @@ carry-level (suc c) i q xs room up low g =
     by (ltb q (getD xs i 0))
     (λ t.
     rw (carrying, t) (subst (λ (m : ℕ). Level (carrying (suc i) c (getD xs i 0) (set xs i q)) (suc m)) next
-    (carry-level c (suc i) (getD xs i 0) (set xs i q) (rw (length-set xs i q) (omega arith)) (g .upward i (omega arith)) (swapped-low (ltb-true _ _ t))
+    (carry-level c (suc i) (getD xs i 0) (set xs i q) (rw (length-set xs i q) (omega arith)) (g .upward i (omega arith))
+    (swapped-low (ltb-true _ _ t))
     (swapped (ltb-true _ _ t)))))
     (λ t.
     rw (carrying, t) (subst (λ (m : ℕ). Level (carrying (suc i) c q xs) (suc m)) next
@@ -218,7 +227,8 @@ lay3-level p a b u r hp ha hb hu room g =
     lay-level p u two hp hu (rw (length-lay p b one, length-lay p a r) (omega (arith, size-lay p b one, size-lay p a r)))
     (lay-level p b one hp hb (rw (length-lay p a r) (omega (arith, size-lay p a r))) (lay-level p a r hp ha (omega arith) g))
 
-pub laid-level : (pts : List ℤ) (n : ℕ) (ks : List ℕ) (e p a b u : ℕ) (s : Place) → n < pointBound → e + 2 < length ks → p ≤ n → a < n → b < n → u < n
+pub laid-level : (pts : List ℤ) (n : ℕ) (ks : List ℕ) (e p a b u : ℕ) (s : Place) → n < pointBound → e + 2 < length ks → p ≤ n → a < n → b
+    < n → u < n
     → Within n ks → Ranked ks e → Level (laidAt pts n ks e p a b u s .edges .keys) (laidAt pts n ks e p a b u s .edges .size)
 unfolding laidAt
 laid-level pts n ks e p a b u s few room hp ha hb hu w r =
@@ -255,6 +265,7 @@ ranked-of t sound g =
       rising =
           λ i j h l.
           let d : getD (t .edges .keys) i 0 ≡ getD (t .edges .keys) j 0 → ⊥
-          = λ e. once-listing (λ i. endsOf (t .points) (getD (t .edges .keys) i 0)) (t .edges .size) once i j h l (ap (endsOf (t .points)) e) in
+          = λ e. once-listing (λ i. endsOf (t .points) (getD (t .edges .keys) i 0)) (t .edges .size) once i j h l
+          (ap (endsOf (t .points)) e) in
           omega (arith, g .level i j h l, d);
     }

@@ -1,36 +1,35 @@
--- All points of a tree are reached: a sweep over the edges reaches the neighbours of what was reached, and no loop-free way has more steps than
--- the tree has edges.
+-- All points of a tree are reached: a sweep over the edges reaches the neighbours of what was reached, and no loop-free way has more
+-- steps than the tree has edges.
 -- Assumes nothing.
 use mathlib.Core.Path.{_≡_, refl, sym, ap, ap₂, _∙_, subst}
-use mathlib.Core.Bool.{Bool, true, false}
 use mathlib.Core.Logic.{_⊎_, inl, inr}
 use mathlib.Core.List.{List, [], _∷_, Memᴰ·cast, List·Memᴰ·cases-cons}
-use Prim.Native.Nat.{ℕ, zero, suc, _+_, _-_, _*_, _/_, _%_, _≤_, _<_}
+use Prim.Native.Nat.{ℕ, zero, suc, _+_, _≤_, _<_}
 use native.Mathlib.Omega.{arith}
 use lib.Dec.{ltb, eqb}
 use lib.IntN.{ℤ}
 use lib.ListN.{length, getD, set, length-set, replicate}
 use borrow.Author.Tests.{ltb-true, ltb-false, eqb-true, eqb-false}
-use Rattle.lists.specs.Member.{_∈_, here, there, Once, Among}
-use Rattle.lists.proofs.TestLaws.{by, differ, either}
+use Rattle.lists.specs.Member.{_∈_, Among}
+use Rattle.lists.proofs.TestLaws.{by, either}
 use Rattle.lists.proofs.MemberLaws.{once-length}
 use Rattle.plane.specs.declared.Place.{Place}
 use Rattle.plane.specs.Flat.{placeAt}
-use Rattle.joined.specs.Joined.{Link, Alike, Joined, Inside}
+use Rattle.joined.specs.Joined.{Link}
 use Rattle.joined.specs.Tree as joined
-use Rattle.joined.specs.Way.{Way, stop, go, Free}
+use Rattle.joined.specs.Way.{Way, stop, go}
 use Rattle.joined.specs.Exchange.{steps}
 use Rattle.joined.proofs.WayLaws.{joined-free}
 use Rattle.refined.specs.Turns.{turns}
 use Rattle.refined.specs.Table.{pointBound, pairBound, key, firstEnd, secondEnd, Within}
-use Rattle.refined.specs.Longest.{noEdge, spreads, Reach, reach, hang, attach, pass, reached, start, longest}
-use Rattle.refined.specs.Places.{listing, endsOf, pointsOf, edgesOf, InOrder}
+use Rattle.refined.specs.Longest.{noEdge, Reach, hang, attach, pass, reached, start}
+use Rattle.refined.specs.Places.{endsOf, pointsOf, edgesOf, InOrder}
 use Rattle.refined.proofs.TurnLaws.{turns-keep, turns-below}
 use Rattle.refined.proofs.SumLaws.{other, here as put-here}
 use Rattle.refined.proofs.ListingLaws.{listing-length, in-listing, of-listing}
 use Rattle.refined.proofs.ExchangeSound.{same-place}
 use Rattle.refined.proofs.PruneSound.{order-same}
-use Rattle.refined.proofs.LongestSound.{Ends, Top, Known, Good, hung}
+use Rattle.refined.proofs.LongestSound.{Ends, Known, Good, hung}
 
 same-entry : (m x i : ℕ) → i < m → getD (replicate m x) i 0 ≡ x
 same-entry zero x i h = absurd (let z : ⊥ = omega arith in z)
@@ -50,7 +49,8 @@ same-length zero x = refl
 same-length (suc m) x = ap suc (same-length m x)
 
 module _ (pts : List ℤ) (n : ℕ) (ks : List ℕ) (e : ℕ) (el : List ℕ) (o : InOrder pts n) (few : n ≤ pointBound) (fewer : e < pointBound)
-    (none : getD el noEdge 0 ≡ 0) (alone : (i j : ℕ) (c d : Place) → i < e → j < e → Ends pts n ks e el i c d → Ends pts n ks e el j c d → i ≡ j)
+    (none : getD el noEdge 0 ≡ 0) (alone : (i j : ℕ) (c d : Place) → i < e → j < e → Ends pts n ks e el i c d → Ends pts n ks e el j c d →
+    i ≡ j)
     (w : Within n ks) where
   abbrev Fine : Reach → Type 0
   Fine r = Good pts n ks e el r
@@ -99,7 +99,8 @@ module _ (pts : List ℤ) (n : ℕ) (ks : List ℕ) (e : ℕ) (el : List ℕ) (o
     unfolding pass attach hang
     pass-keeps i s =
         by (eqb (getD (r .seen) a 0) (getD (r .seen) b 0)) (λ t. rw (attach, t) s)
-        (λ t. by (eqb (getD (r .seen) a 0) 0) (λ q. rw (attach, t, q) (set-has a i (w .ends k .0) s)) (λ q. rw (attach, t, q) (set-has b i (w .ends k .1) s)))
+        (λ t. by (eqb (getD (r .seen) a 0) 0) (λ q. rw (attach, t, q) (set-has a i (w .ends k .0) s))
+        (λ q. rw (attach, t, q) (set-has b i (w .ends k .1) s)))
 
     pub pass-both : Has r a ⊎ Has r b → Has (pass ks el n k r) a × Has (pass ks el n k r) b
     unfolding pass attach hang
@@ -123,7 +124,8 @@ module _ (pts : List ℤ) (n : ℕ) (ks : List ℕ) (e : ℕ) (el : List ℕ) (o
   keeps : (c i : ℕ) (r : Reach) → Fine r → i + c ≤ e → (x : ℕ) → Has r x → Has (turns (pass ks el n) i c r) x
   unfolding turns
   keeps zero i r g h x s = s
-  keeps (suc c) i r g h x s = keeps c (suc i) (pass ks el n i r) (pass-good i (omega arith) r g) (omega arith) x (pass-keeps i (omega arith) r g x s)
+  keeps (suc c) i r g h x s = keeps c (suc i) (pass ks el n i r) (pass-good i (omega arith) r g) (omega arith) x
+      (pass-keeps i (omega arith) r g x s)
 
   reaches : (c i : ℕ) (r : Reach) → Fine r → i + c ≤ e → (j : ℕ) → i ≤ j → j < i + c →
       Has r (firstEnd (getD ks j 0)) ⊎ Has r (secondEnd (getD ks j 0)) →
@@ -139,7 +141,8 @@ module _ (pts : List ℤ) (n : ℕ) (ks : List ℕ) (e : ℕ) (el : List ℕ) (o
       (either (λ q. inl (pass-keeps i (omega arith) r g _ q)) (λ q. inr (pass-keeps i (omega arith) r g _ q)) s))
       (λ t.
       let q : i ≡ j = omega (arith, ltb-false i j t) in
-      let two = pass-both i (omega arith) r g (subst (λ (y : ℕ). Has r (firstEnd (getD ks y 0)) ⊎ Has r (secondEnd (getD ks y 0))) (sym q) s) in
+      let two = pass-both i (omega arith) r g (subst (λ (y : ℕ). Has r (firstEnd (getD ks y 0)) ⊎ Has r (secondEnd (getD ks y 0)))
+      (sym q) s) in
       subst (λ (y : ℕ). Has (turns (pass ks el n) (suc i) c next) (firstEnd (getD ks y 0)) × Has (turns (pass ks el n) (suc i) c next)
       (secondEnd (getD ks y 0))) q
       (keeps c (suc i) next good (omega arith) _ (two .0), keeps c (suc i) next good (omega arith) _ (two .1)))
@@ -156,7 +159,8 @@ module _ (pts : List ℤ) (n : ℕ) (ks : List ℕ) (e : ℕ) (el : List ℕ) (o
   sweeps-keep (suc c) i r g x s = sweeps-keep c (suc i) (sweep 0 r) (sweep-good r g) x (keeps e 0 r g (omega arith) x s)
 
   -- along a way, a sweep a step
-  along : (ps : List Place) (c i : ℕ) (r : Reach) → Fine r → (x y : ℕ) → x < n → y < n → Has r x → Way (edgesOf pts ks e) (placeAt pts x) ps (placeAt pts y) →
+  along : (ps : List Place) (c i : ℕ) (r : Reach) → Fine r → (x y : ℕ) → x < n → y < n → Has r x →
+      Way (edgesOf pts ks e) (placeAt pts x) ps (placeAt pts y) →
       length ps ≤ c → Has (turns sweep i c r) y
   unfolding turns
   along [] c i r g x y hx hy s (stop q) l = sweeps-keep c i r g y (subst (λ (z : ℕ). Has r z) (order-same pts n x y o hx hy q) s)
@@ -187,13 +191,15 @@ module _ (pts : List ℤ) (n : ℕ) (ks : List ℕ) (e : ℕ) (el : List ℕ) (o
         (λ q. inl (other zeros 0 i 1 (eqb-false 0 i q) ∙ zero-entry pointBound i));
     known = λ x y s q. subst (λ (i : ℕ). Known pts n ks e el start i y) (sym (only x (s .1)))
         (subst (λ (i : ℕ). Known pts n ks e el start 0 i) (sym (only y (q .1))) first);
-    even = λ x y s q. ap₂ (λ (i j : ℕ). getD (start .top) (key i j) 0) (only x (s .1) ∙ sym (only y (q .1))) (only y (q .1) ∙ sym (only x (s .1)));
+    even = λ x y s q. ap₂ (λ (i j : ℕ). getD (start .top) (key i j) 0) (only x (s .1) ∙ sym (only y (q .1)))
+        (only y (q .1) ∙ sym (only x (s .1)));
   }
     where
       only : (i : ℕ) → Has start i → i ≡ 0
       only i s =
           by (eqb 0 i) (λ q. sym (eqb-true 0 i q))
-          (λ q. absurd (let z : getD (set zeros 0 1) i 0 ≡ 0 = other zeros 0 i 1 (eqb-false 0 i q) ∙ zero-entry pointBound i in let y : ⊥ = omega
+          (λ q. absurd (let z : getD (set zeros 0 1) i 0 ≡ 0 = other zeros 0 i 1 (eqb-false 0 i q) ∙ zero-entry pointBound i in
+          let y : ⊥ = omega
           (arith, s, z) in y))
 
       first : Known pts n ks e el start 0 0
@@ -206,7 +212,8 @@ module _ (pts : List ℤ) (n : ℕ) (ks : List ℕ) (e : ℕ) (el : List ℕ) (o
       }
 
   module _ (whole : joined.Tree (pointsOf pts n) (edgesOf pts ks e)) where
-    points-of : (x : Place) (ps : List Place) (y : Place) → x ∈ pointsOf pts n → Way (edgesOf pts ks e) x ps y → Among (x ∷ ps) (pointsOf pts n)
+    points-of : (x : Place) (ps : List Place) (y : Place) → x ∈ pointsOf pts n → Way (edgesOf pts ks e) x ps y →
+        Among (x ∷ ps) (pointsOf pts n)
     points-of x ps y i (stop q) z m = either (λ q. Memᴰ·cast q i) (λ j. elim j [ ]) (List·Memᴰ·cases-cons m)
     points-of x (v ∷ ps) y i (go l t) z m = either (λ q. Memᴰ·cast q i) (λ j. points-of v ps y (next l) t z j) (List·Memᴰ·cases-cons m)
       where
@@ -239,7 +246,8 @@ module _ (pts : List ℤ) (n : ℕ) (ks : List ℕ) (e : ℕ) (el : List ℕ) (o
         let f = joined-free same-place (whole .joins (placeAt pts 0) (placeAt pts y) x (in-listing (placeAt pts) n y h)) in
         let l = once-length (placeAt pts 0 ∷ f .points) (pointsOf pts n) (f .once) (points-of _ _ _ x (f .way)) in
         let z = listing-length (placeAt pts) n in
-        along (f .points) e 0 start (begin (omega (arith, size))) 0 y (omega (arith, size)) h (begin-has) (f .way) (omega (arith, l, z, size))
+        along (f .points) e 0 start (begin (omega (arith, size))) 0 y (omega (arith, size)) h (begin-has) (f .way)
+        (omega (arith, l, z, size))
 
     pub all-known : (v y : ℕ) → v < n → y < n → Known pts n ks e el last v y
     all-known v y h l = last-good .known v y (h, last-seen v h) (l, last-seen y l)

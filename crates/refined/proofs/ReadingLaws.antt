@@ -1,9 +1,8 @@
 -- The entries of the table of longest edges after a point is hung on: its row, its column, and all others.
 -- Assumes nothing.
-use mathlib.Core.Path.{_≡_, refl, sym, ap, ap₂, _∙_}
-use mathlib.Core.Bool.{Bool, true, false}
+use mathlib.Core.Path.{_≡_, refl, ap, _∙_}
 use mathlib.Core.List.{List, [], _∷_}
-use Prim.Native.Nat.{ℕ, zero, suc, _+_, _-_, _*_, _≤_, _<_}
+use Prim.Native.Nat.{ℕ, zero, suc, _+_, _≤_, _<_}
 use native.Mathlib.Omega.{arith}
 use native.Mathlib.Decide.{decLe}
 use lib.ListN.{length, getD, set, length-set}
@@ -37,19 +36,22 @@ module _ (el : List ℕ) (v p k : ℕ) (hv : v < pointBound) where
   unfolding spread
   still w t x y hw hy nx ny =
       let z = longer el (getD t (key p w) 0) k in
-      other (set t (key v w) z) (key w v) (key x y) z (λ e. ny (low-part w v x y hv hy e)) ∙ other t (key v w) (key x y) z (apart v w x y hw hy nx)
+      other (set t (key v w) z) (key w v) (key x y) z (λ e. ny (low-part w v x y hv hy e))
+      ∙ other t (key v w) (key x y) z (apart v w x y hw hy nx)
 
   pub untouched : (n : ℕ) (t : List ℕ) (x y : ℕ) → n ≤ pointBound → y < pointBound → (v ≡ x → ⊥) → (v ≡ y → ⊥)
       → getD (spreads el n v p k t) (key x y) 0 ≡ getD t (key x y) 0
   unfolding spreads
   untouched n t x y h hy nx ny =
       other (turns (spread el v p k) 0 n t) (key v v) (key x y) noEdge (apart v v x y hv hy nx)
-      ∙ turns-below (spread el v p k) (λ s. getD s (key x y) 0 ≡ getD t (key x y) 0) pointBound (λ w s hw q. still w s x y hw hy nx ny ∙ q) n 0 t
+      ∙ turns-below (spread el v p k) (λ s. getD s (key x y) 0 ≡ getD t (key x y) 0) pointBound (λ w s hw q. still w s x y hw hy nx ny ∙ q)
+      n 0 t
       (omega arith) refl
 
   -- the row of v: as from p, or the new edge
   -- once a turn has written v's entry for y, later turns leave it
-  settled : (n i : ℕ) (t : List ℕ) (y : ℕ) → i + n ≤ pointBound → y < i → (v ≡ y → ⊥) → getD (turns (spread el v p k) i n t) (key v y) 0 ≡ getD t (key v y) 0
+  settled : (n i : ℕ) (t : List ℕ) (y : ℕ) → i + n ≤ pointBound → y < i → (v ≡ y → ⊥) → getD (turns (spread el v p k) i n t) (key v y) 0
+      ≡ getD t (key v y) 0
   unfolding turns spread
   settled zero i t y b h ny = refl
   settled (suc n) i t y b h ny =
@@ -62,7 +64,8 @@ module _ (el : List ℕ) (v p k : ℕ) (hv : v < pointBound) where
       → getD (turns (spread el v p k) i n t) (key v y) 0 ≡ longer el (getD t (key p y) 0) k
   unfolding turns spread
   row-of zero i t y b l np ny h g = absurd (let z : ⊥ = omega arith in z)
-  row-of (suc n) i t y b l np ny h g = pick (λ j. row-of n (suc i) next y (omega arith) (sized ∙ l) np ny (omega arith) (omega arith)) (decLe y i)
+  row-of (suc n) i t y b l np ny h g = pick (λ j. row-of n (suc i) next y (omega arith) (sized ∙ l) np ny (omega arith) (omega arith))
+      (decLe y i)
     where
       x : ℕ
       x = longer el (getD t (key p i) 0) k
@@ -83,7 +86,8 @@ module _ (el : List ℕ) (v p k : ℕ) (hv : v < pointBound) where
       pick ih (no d) =
           let j : i < y = omega arith in
           ih j
-          ∙ ap (λ (z : ℕ). longer el z k) (other (set t (key v i) x) (key i v) (key p y) x (λ f. ny (low-part i v p y hv (omega arith) f)) ∙ other t
+          ∙ ap (λ (z : ℕ). longer el z k) (other (set t (key v i) x) (key i v) (key p y) x (λ f. ny (low-part i v p y hv (omega arith) f))
+          ∙ other t
           (key v i) (key p y) x (apart v i p y (omega arith) (omega arith) np))
 
   -- the column of v, in the same way
@@ -97,11 +101,13 @@ module _ (el : List ℕ) (v p k : ℕ) (hv : v < pointBound) where
       ∙ other (set t (key v i) x) (key i v) (key y v) x (λ e. let q : i ≡ y = omega arith in let z : ⊥ = omega arith in z)
       ∙ other t (key v i) (key y v) x (apart v i y v (omega arith) hv ny)
 
-  pub column-of : (n i : ℕ) (t : List ℕ) (y : ℕ) → i + n ≤ pointBound → length t ≡ pairBound → (v ≡ p → ⊥) → (v ≡ y → ⊥) → i ≤ y → y < i + n →
+  pub column-of : (n i : ℕ) (t : List ℕ) (y : ℕ) → i + n ≤ pointBound → length t ≡ pairBound → (v ≡ p → ⊥) → (v ≡ y → ⊥) → i ≤ y → y < i
+      + n →
       getD (turns (spread el v p k) i n t) (key y v) 0 ≡ longer el (getD t (key p y) 0) k
   unfolding turns spread
   column-of zero i t y b l np ny h g = absurd (let z : ⊥ = omega arith in z)
-  column-of (suc n) i t y b l np ny h g = pick (λ j. column-of n (suc i) next y (omega arith) (sized ∙ l) np ny (omega arith) (omega arith)) (decLe y i)
+  column-of (suc n) i t y b l np ny h g = pick (λ j. column-of n (suc i) next y (omega arith) (sized ∙ l) np ny (omega arith)
+      (omega arith)) (decLe y i)
     where
       x : ℕ
       x = longer el (getD t (key p i) 0) k
@@ -132,7 +138,8 @@ module _ (el : List ℕ) (v p k : ℕ) (hv : v < pointBound) where
     length-spreads zero i s = refl
     length-spreads (suc c) i s =
         let x = longer el (getD s (key p i) 0) k in
-        length-spreads c (suc i) (set (set s (key v i) x) (key i v) x) ∙ (length-set (set s (key v i) x) (key i v) x ∙ length-set s (key v i) x)
+        length-spreads c (suc i) (set (set s (key v i) x) (key i v) x)
+        ∙ (length-set (set s (key v i) x) (key i v) x ∙ length-set s (key v i) x)
 
     pub spreads-length : length (spreads el n v p k t) ≡ pairBound
     unfolding spreads

@@ -2,8 +2,8 @@
 -- Its edges are in order where those of the tree are.
 -- Assumes nothing.
 use mathlib.Core.Path.{_≡_, refl, sym, ap, _∙_, subst}
-use mathlib.Core.Bool.{Bool, true, false}
-use mathlib.Core.List.{List, [], _∷_, Memᴰ·cast}
+use mathlib.Core.Bool.{true}
+use mathlib.Core.List.{List, [], Memᴰ·cast}
 use Prim.Native.Nat.{ℕ, zero, suc, _+_, _*_, _≤_, _<_}
 use native.Mathlib.Omega.{arith}
 use lib.Dec.{ltb}
@@ -20,21 +20,20 @@ use Rattle.plane.specs.Place.{samePlace}
 use Rattle.plane.specs.Macro.{clear}
 use Rattle.plane.specs.Flat.{placeAt}
 use Rattle.plane.proofs.PlaceLaws.{same-refl}
-use Rattle.joined.specs.Joined.{Inside}
 use Rattle.joined.proofs.OneTreeLaws.{tree-one}
 use Rattle.refined.specs.Turns.{turns}
-use Rattle.refined.specs.Table.{pointBound, firstEnd, secondEnd, Row, Tree}
-use Rattle.refined.specs.Prune.{markOf, mark, marks, prune}
+use Rattle.refined.specs.Table.{pointBound, Tree}
+use Rattle.refined.specs.Prune.{markOf, mark, marks}
 use Rattle.refined.specs.Refined.{rounds, pruned, refined}
-use Rattle.refined.specs.Promise.{metalOf, Promise, Tabled}
-use Rattle.refined.specs.Places.{listing, endsOf, pointsOf, edgesOf, keyLength, Ranked, Sound}
+use Rattle.refined.specs.Promise.{Promise, Tabled}
+use Rattle.refined.specs.Places.{endsOf, pointsOf, keyLength, Ranked, Sound}
 use Rattle.refined.proofs.SumLaws.{other, here}
 use Rattle.refined.proofs.ListingLaws.{listing-length, in-listing, of-listing}
 use Rattle.refined.proofs.ExchangeSound.{same-place}
 use Rattle.refined.proofs.WithinLaws.{pruned-few, pruned-within}
 use Rattle.refined.proofs.RankedLaws.{prune-ranked}
 use Rattle.refined.proofs.PruneSound.{Whole, prune-whole, pruned-was, pruned-over}
-use Rattle.refined.proofs.RoundSound.{Kept, rounds-kept}
+use Rattle.refined.proofs.RoundSound.{rounds-kept}
 
 -- The marks of pins
 
@@ -42,7 +41,8 @@ marks-low : (pins : List Place) (pts : List ℤ) (c i : ℕ) (t : List ℕ) (j :
 unfolding turns mark
 marks-low pins pts zero i t j h = refl
 marks-low pins pts (suc c) i t j h =
-    marks-low pins pts c (suc i) _ j (omega arith) ∙ other t i j (markOf (any (samePlace (placeAt pts i)) pins)) (λ q. let z : ⊥ = omega arith in z)
+    marks-low pins pts c (suc i) _ j (omega arith) ∙ other t i j (markOf (any (samePlace (placeAt pts i)) pins))
+    (λ q. let z : ⊥ = omega arith in z)
 
 pub marks-at : (pins : List Place) (pts : List ℤ) (c i : ℕ) (t : List ℕ) (j : ℕ) → i + c ≤ length t → i ≤ j → j < i + c →
     getD (turns (mark pins pts) i c t) j 0 ≡ markOf (any (samePlace (placeAt pts j)) pins)
@@ -61,7 +61,8 @@ zeros-length zero = refl
 zeros-length (suc m) = ap suc (zeros-length m)
 
 -- a point with the mark 0 is no pin
-pub unmarked : (pins : List Place) (pts : List ℤ) (n : ℕ) → n ≤ pointBound → (v : ℕ) → v < n → getD (marks pins pts n) v 0 ≡ 0 → placeAt pts v ∈ pins → ⊥
+pub unmarked : (pins : List Place) (pts : List ℤ) (n : ℕ) → n ≤ pointBound → (v : ℕ) → v < n → getD (marks pins pts n) v 0 ≡ 0 →
+    placeAt pts v ∈ pins → ⊥
 unfolding marks markOf
 unmarked pins pts n few v h e m =
     let at : getD (marks pins pts n) v 0 ≡ markOf (any (samePlace (placeAt pts v)) pins)
@@ -80,7 +81,8 @@ refined-promise ms pins t sound few room rooms =
     let k = rounds-kept ms pins (length pins) t sound few room rooms in
     let pin = marks pins (r .points) (r .count) in
     let least : r .count ≤ pointBound = omega (arith, k .points) in
-    let whole = prune-whole (r .points) (r .count) (k .sound .ordered) least pins pin (unmarked pins (r .points) (r .count) least) (r .edges .size)
+    let whole = prune-whole (r .points) (r .count) (k .sound .ordered) least pins pin (unmarked pins (r .points) (r .count) least)
+    (r .edges .size)
     (r .edges .keys)
     (k .sound .within) (held r (k .sound)) in
     record {
@@ -88,7 +90,8 @@ refined-promise ms pins t sound few room rooms =
       free =
           λ i h.
           let q = pruned-was pin (r .edges .size) (r .edges .keys) i h in
-          subst (λ (j : ℕ). clear (endsOf (r .points) j .0) (endsOf (r .points) j .1) ms ≡ true) (sym (q .1 .1)) (k .sound .free (q .0) (q .1 .0));
+          subst (λ (j : ℕ). clear (endsOf (r .points) j .0) (endsOf (r .points) j .1) ms ≡ true) (sym (q .1 .1))
+          (k .sound .free (q .0) (q .1 .0));
       total = omega (arith, k .total, pruned-over (keyLength (r .points)) pin (r .edges .size) (r .edges .keys));
       points = k .points;
     }
@@ -100,8 +103,10 @@ refined-promise ms pins t sound few room rooms =
       inside =
           λ c d m.
           let q = of-listing (λ j. endsOf (r .points) (getD (r .edges .keys) j 0)) (r .edges .size) (c, d) m in (
-            Memᴰ·cast (ap (λ (z : Place × Place). z .0) (q .1 .1)) (in-listing (placeAt (r .points)) (r .count) _ (s .within .ends (q .0) .0)),
-            Memᴰ·cast (ap (λ (z : Place × Place). z .1) (q .1 .1)) (in-listing (placeAt (r .points)) (r .count) _ (s .within .ends (q .0) .1)),
+            Memᴰ·cast (ap (λ (z : Place × Place). z .0) (q .1 .1))
+                (in-listing (placeAt (r .points)) (r .count) _ (s .within .ends (q .0) .0)),
+            Memᴰ·cast (ap (λ (z : Place × Place). z .1) (q .1 .1))
+                (in-listing (placeAt (r .points)) (r .count) _ (s .within .ends (q .0) .1)),
           );
       pinned = s .pinned;
     }

@@ -1,13 +1,13 @@
 -- Laws of one round and of the rounds.
 -- Assumes nothing.
-use mathlib.Core.Path.{_≡_, refl, sym, ap, ap₂, _∙_}
-use mathlib.Core.Bool.{Bool, true, false}
-use mathlib.Core.List.{List, [], _∷_}
-use Prim.Native.Nat.{ℕ, zero, suc, _+_, _-_, _*_, _/_, _%_, _≤_, _<_}
+use mathlib.Core.Path.{_≡_, refl, ap, _∙_}
+use mathlib.Core.Bool.{true, false}
+use mathlib.Core.List.{List, []}
+use Prim.Native.Nat.{ℕ, zero, suc, _+_, _-_, _≤_, _<_}
 use native.Mathlib.Omega.{arith}
-use lib.Dec.{ltb, eqb}
+use lib.Dec.{ltb}
 use lib.IntN.{ℤ}
-use lib.ListN.{length, getD, set, replicate}
+use lib.ListN.{getD, set, replicate}
 use Rattle.plane.specs.declared.Place.{Place}
 use Rattle.plane.specs.declared.Macro.{Macro}
 use Rattle.plane.specs.Flat.{placeAt}
@@ -37,7 +37,8 @@ unfolding reached pass
 small-reached keys el e n s t s′ t′ q h i =
     rw (ap (λ (r : Reach). r .top) q)
     (turns-keep (λ (_ : ℕ) (r : Reach). turns (pass keys el n) 0 e r) (λ r. Small pointBound (r .top)) e 0 (reach s t)
-    (λ _ r k. turns-below (pass keys el n) (λ r. Small pointBound (r .top)) pointBound (λ j r b k. small-attach el n _ _ j r b k) e 0 r (omega arith) k) i)
+    (λ _ r k. turns-below (pass keys el n) (λ r. Small pointBound (r .top)) pointBound (λ j r b k. small-attach el n _ _ j r b k) e 0 r
+    (omega arith) k) i)
 
 pub found-is : (ms : List Macro) (pts : List ℤ) (n : ℕ) (ks : List ℕ) (e : ℕ) (el s t : List ℕ) (r : Best)
     → el ≡ turns (measure pts ks) 0 e (replicate pointBound 0)
@@ -45,7 +46,8 @@ pub found-is : (ms : List Macro) (pts : List ℤ) (n : ℕ) (ks : List ℕ) (e :
     → r ≡ found ms pts n ks e
 unfolding found lengths longest start
 found-is ms pts n ks e el s t r p q h = h ∙ ap (λ (v : List ℕ). search pts n ms ks e el v) (ap (λ (v : Reach). v .top) q)
-    ∙ ap (λ (v : List ℕ). search pts n ms ks e v (reached ks v e n (reach (set (replicate pointBound 0) 0 1) (replicate pairBound noEdge)) .top)) p
+    ∙ ap (λ (v : List ℕ). search pts n ms ks e v (reached ks v e n
+    (reach (set (replicate pointBound 0) 0 1) (replicate pairBound noEdge)) .top)) p
 
 -- entries stay small
 pub small-closed : (m k n : ℕ) (xs : List ℕ) → Small m xs → Small m (closed k n xs)
@@ -59,20 +61,25 @@ small-dropped m n k l xs ys e s =
     (λ t. rw (e, dropTwo, t) (small-closed m l n _ (small-closed m k (n + 1) xs s)))
 
 module _ (pts : List ℤ) (n : ℕ) (ks : List ℕ) (e p a b u : ℕ) (s : Place) where
-  pub joined-yes : stands pts n p s ≡ true → (ls : List ℕ) (f : ℕ) → row ls f ≡ lay3 p a b u (row ks e) → tree pts n ls f ≡ laidAt pts n ks e p a b u s
+  pub joined-yes : stands pts n p s ≡ true → (ls : List ℕ) (f : ℕ) → row ls f ≡ lay3 p a b u (row ks e) → tree pts n ls f
+      ≡ laidAt pts n ks e p a b u s
   unfolding laidAt
   joined-yes t ls f h = rw (laidAt, t) (ap (λ (r : Row). record { points = pts; count = n; edges = r }) h)
 
-  pub joined-no : stands pts n p s ≡ false → (qts : List ℤ) (js ls : List ℕ) (f a′ b′ u′ : ℕ) → qts ≡ opened pts n p s → js ≡ turns (bumpAt p) 0 e ks
-      → a′ ≡ bump p a → b′ ≡ bump p b → u′ ≡ bump p u → row ls f ≡ lay3 p a′ b′ u′ (row js e) → tree qts (n + 1) ls f ≡ laidAt pts n ks e p a b u s
+  pub joined-no : stands pts n p s ≡ false → (qts : List ℤ) (js ls : List ℕ) (f a′ b′ u′ : ℕ) → qts ≡ opened pts n p s → js
+      ≡ turns (bumpAt p) 0 e ks
+      → a′ ≡ bump p a → b′ ≡ bump p b → u′ ≡ bump p u → row ls f ≡ lay3 p a′ b′ u′ (row js e) → tree qts (n + 1) ls f
+      ≡ laidAt pts n ks e p a b u s
   unfolding laidAt
-  joined-no t qts js ls f a′ b′ u′ g i j k l h = rw (laidAt, t, g) (ap (λ (r : Row). record { points = opened pts n p s; count = n + 1; edges = r })
+  joined-no t qts js ls f a′ b′ u′ g i j k l h = rw (laidAt, t, g)
+      (ap (λ (r : Row). record { points = opened pts n p s; count = n + 1; edges = r })
       (h ∙ rw (i, j, k, l) refl))
 
 pub exchange-is : (c : Best) (pts : List ℤ) (n : ℕ) (ks ls : List ℕ) (e p : ℕ) (x y z s : Place) (t : Tree)
     → x ≡ placeAt pts (firstEnd (getD ks (c .edge) 0)) → y ≡ placeAt pts (secondEnd (getD ks (c .edge) 0)) → z ≡ placeAt pts (c .point)
     → s ≡ middlePlace x y z → ls ≡ dropTwo (e - 2) (c .edge) (c .cut) ks → p ≡ rank pts n s
-    → t ≡ laidAt pts n ls (e - 2) p (firstEnd (getD ks (c .edge) 0)) (secondEnd (getD ks (c .edge) 0)) (c .point) s → t ≡ exchange c pts n ks e
+    → t ≡ laidAt pts n ls (e - 2) p (firstEnd (getD ks (c .edge) 0)) (secondEnd (getD ks (c .edge) 0)) (c .point) s → t
+    ≡ exchange c pts n ks e
 unfolding exchange
 exchange-is c pts n ks ls e p x y z s t f g h i j k l = l ∙ rw (k, j, i, f, g, h) refl
 

@@ -1,30 +1,28 @@
 -- The rounds keep a tree over its points in order, with all pins, every edge clear and the edges in order; each adds at most one point, and
 -- the total falls by each gain.
 -- Assumes nothing.
-use mathlib.Core.Path.{_≡_, refl, sym, ap, ap₂, _∙_, subst}
-use mathlib.Core.Bool.{Bool, true, false}
-use mathlib.Core.List.{List, [], _∷_}
-use Prim.Native.Nat.{ℕ, zero, suc, _+_, _-_, _*_, _/_, _%_, _≤_, _<_}
+use mathlib.Core.Path.{_≡_, refl, sym, ap, _∙_, subst}
+use mathlib.Core.List.{List, []}
+use Prim.Native.Nat.{ℕ, zero, suc, _+_, _-_, _*_, _≤_, _<_}
 use native.Mathlib.Omega.{arith}
-use lib.Dec.{ltb, eqb}
+use lib.Dec.{eqb}
 use lib.IntN.{ℤ}
 use lib.ListN.{length, getD}
-use borrow.Author.Tests.{eqb-true, eqb-false}
+use borrow.Author.Tests.{eqb-false}
 use Rattle.lists.proofs.TestLaws.{by}
 use Rattle.plane.specs.declared.Place.{Place}
 use Rattle.plane.specs.declared.Macro.{Macro}
-use Rattle.plane.specs.Distance.{distance}
 use Rattle.plane.specs.Flat.{placeAt}
 use Rattle.refined.specs.declared.Best.{Best}
 use Rattle.refined.specs.Turns.{turns}
 use Rattle.refined.specs.Table.{pointBound, firstEnd, secondEnd, Row, row, Tree, tree}
-use Rattle.refined.specs.Longest.{edgeLength, lengths, longest, start, reached, cutOf}
+use Rattle.refined.specs.Longest.{edgeLength, lengths, longest}
 use Rattle.refined.specs.Candidate.{middleOf, found}
-use Rattle.refined.specs.Exchange.{dropTwo, rank, stands, opened, bump, bumpAt, lay, lay3, laidAt, exchange}
+use Rattle.refined.specs.Exchange.{dropTwo, rank, stands, bump, bumpAt, lay, lay3, laidAt, exchange}
 use Rattle.refined.specs.Refined.{rounds, addLength, metal}
 use Rattle.refined.specs.Sum.{below, over}
 use Rattle.refined.specs.Promise.{metalOf}
-use Rattle.refined.specs.Places.{listing, pointsOf, edgesOf, endsOf, keyLength, Ranked, Sound, Taken}
+use Rattle.refined.specs.Places.{keyLength, Ranked, Sound, Taken}
 use Rattle.refined.proofs.SumLaws.{length-lay, length-bumps, length-dropped}
 use Rattle.refined.proofs.OpenedLaws.{opened-length}
 use Rattle.refined.proofs.ListingLaws.{listing-length}
@@ -74,7 +72,8 @@ module _ (ms : List Macro) (pins : List Place) (pts : List ℤ) (n : ℕ) (ks : 
 
   abbrev Cut : ℕ → Type 0
   Cut x =
-      Is pts n ks e (lengths pts ks (suc e)) (sound .ordered) (omega arith) (omega (arith, sized)) (no-length pts ks (suc e) (omega (arith, sized)))
+      Is pts n ks e (lengths pts ks (suc e)) (sound .ordered) (omega arith) (omega (arith, sized))
+      (no-length pts ks (suc e) (omega (arith, sized)))
       (sound .within)
       (sound .whole) k u (win .edge) (win .point) (win .notFirst) (win .notSecond) x
 
@@ -83,7 +82,8 @@ module _ (ms : List Macro) (pins : List Place) (pts : List ℤ) (n : ℕ) (ks : 
   unfolding longest
   cut-longest =
       subst Cut (sym (win .cut))
-      (cut-is pts n ks e (lengths pts ks (suc e)) (sound .ordered) (omega arith) (omega (arith, sized)) (no-length pts ks (suc e) (omega (arith, sized)))
+      (cut-is pts n ks e (lengths pts ks (suc e)) (sound .ordered) (omega arith) (omega (arith, sized))
+      (no-length pts ks (suc e) (omega (arith, sized)))
       (sound .within) (sound .whole) k u (win .edge) (win .point) (win .notFirst) (win .notSecond))
 
   pub taken : Taken ms pts n ks (suc e) k l u
@@ -106,20 +106,36 @@ module _ (ms : List Macro) (pins : List Place) (pts : List ℤ) (n : ℕ) (ks : 
     longest = cut-longest .1 .1 .1 .1 .1;
   }
 
-module _ (ms : List Macro) (pins : List Place) (pts : List ℤ) (n : ℕ) (ks : List ℕ) (few : n < pointBound) (room : length pts ≡ pointBound * 2)
+module _ (ms : List Macro) (pins : List Place) (pts : List ℤ) (n : ℕ) (ks : List ℕ) (few : n < pointBound)
+    (room : length pts ≡ pointBound * 2)
     (rooms : length ks ≡ pointBound) where
-  abbrev Won : ℕ → Best → Type 0
+  abbrev pub Won : ℕ → Best → Type 0
   Won e c = Winner ms pts n ks e (lengths pts ks e) (longest ks (lengths pts ks e) e n) (c .gain) (c .edge) (c .point) (c .cut)
 
-  exchange-laid : (c : Best) (e : ℕ) → exchange c pts n ks (suc (suc e))
-      ≡ laidAt pts n (dropTwo e (c .edge) (c .cut) ks) e (rank pts n (middleOf pts (firstEnd (getD ks (c .edge) 0)) (secondEnd (getD ks (c .edge) 0))
+  pub exchange-laid : (c : Best) (e : ℕ) → exchange c pts n ks (suc (suc e))
+      ≡ laidAt pts n (dropTwo e (c .edge) (c .cut) ks) e
+      (rank pts n (middleOf pts (firstEnd (getD ks (c .edge) 0)) (secondEnd (getD ks (c .edge) 0))
       (c .point)))
       (firstEnd (getD ks (c .edge) 0)) (secondEnd (getD ks (c .edge) 0)) (c .point)
       (middleOf pts (firstEnd (getD ks (c .edge) 0)) (secondEnd (getD ks (c .edge) 0)) (c .point))
   unfolding exchange
   exchange-laid c e = let z : suc (suc e) - 2 ≡ e = omega arith in rw z refl
 
-  round-kept : (c : Best) (e : ℕ) → Sound ms pins (tree pts n ks e) → Won e c → Kept ms pins (tree pts n ks e) (exchange c pts n ks e) 1
+  -- R14: the sum of the edges falls by the gain
+  pub round-falls : (c : Best) (e : ℕ) → Sound ms pins (tree pts n ks e) → Won e c →
+      metalOf (exchange c pts n ks e) + c .gain ≡ metalOf (tree pts n ks e)
+  round-falls c zero sound win = absurd (let z : ⊥ = omega (arith, win .edge) in z)
+  round-falls c (suc zero) sound win =
+      let t = taken ms pins pts n ks 0 sound few (c .gain) (c .edge) (c .point) (c .cut) win in
+      absurd (win .two (let z : c .cut ≡ c .edge = omega (arith, t .edge, t .cut) in z))
+  round-falls c (suc (suc e)) sound win =
+      let t = taken ms pins pts n ks (suc e) sound few (c .gain) (c .edge) (c .point) (c .cut) win in
+      let s = sized ms pins pts n ks (suc e) sound few (c .gain) (c .edge) (c .point) (c .cut) win in
+      let l = laid-lengths ms pins pts n ks e (c .edge) (c .cut) (c .point) sound t few (omega arith) (omega (arith, s)) in
+      let at = length-at pts ks (suc (suc e)) (c .cut) (omega (arith, s)) (t .cut) in
+      rw (exchange-laid c e) (omega (arith, l, at, win .gained))
+
+  pub round-kept : (c : Best) (e : ℕ) → Sound ms pins (tree pts n ks e) → Won e c → Kept ms pins (tree pts n ks e) (exchange c pts n ks e) 1
   round-kept c zero sound win = absurd (let z : ⊥ = omega (arith, win .edge) in z)
   round-kept c (suc zero) sound win =
       let t = taken ms pins pts n ks 0 sound few (c .gain) (c .edge) (c .point) (c .cut) win in
@@ -150,7 +166,8 @@ module _ (ms : List Macro) (pins : List Place) (pts : List ℤ) (n : ℕ) (ks : 
 
 -- The rounds
 
-kept-then : {ms : List Macro} {pins : List Place} {t r q : Tree} (m : ℕ) → Kept ms pins t r 1 → Kept ms pins r q m → Kept ms pins t q (suc m)
+kept-then : {ms : List Macro} {pins : List Place} {t r q : Tree} (m : ℕ) → Kept ms pins t r 1 → Kept ms pins r q m →
+    Kept ms pins t q (suc m)
 kept-then m a b = record {
   sound = b .sound;
   total = omega (arith, a .total, b .total);
@@ -163,7 +180,14 @@ kept-then m a b = record {
 pub rounds-kept : (ms : List Macro) (pins : List Place) (m : ℕ) (t : Tree) → Sound ms pins t → t .count + m ≤ pointBound →
     length (t .points) ≡ pointBound * 2 → length (t .edges .keys) ≡ pointBound → Kept ms pins t (rounds ms m t) m
 unfolding rounds
-rounds-kept ms pins zero t sound few room rooms = record { sound = sound; total = omega arith; points = omega arith; places = refl; rows = refl; ranked = λ r. r }
+rounds-kept ms pins zero t sound few room rooms = record {
+  sound = sound;
+  total = omega arith;
+  points = omega arith;
+  places = refl;
+  rows = refl;
+  ranked = λ r. r;
+}
 rounds-kept ms pins (suc m) t sound few room rooms =
     let c = found ms (t .points) (t .count) (t .edges .keys) (t .edges .size) in
     by (eqb (c .gain) 0)
@@ -177,17 +201,20 @@ rounds-kept ms pins (suc m) t sound few room rooms =
     (kept-then m one (rounds-kept ms pins m next (one .sound) (omega (arith, one .points)) (one .places ∙ room) (one .rows ∙ rooms))))
 
 -- the sum that the contract speaks of is this one
-sum-last : (pts : List ℤ) (ks : List ℕ) (c i s : ℕ) → turns (addLength pts ks) i (suc c) s ≡ keyLength pts (getD ks (i + c) 0) + turns (addLength pts ks) i c s
+sum-last : (pts : List ℤ) (ks : List ℕ) (c i s : ℕ) → turns (addLength pts ks) i (suc c) s ≡ keyLength pts (getD ks (i + c) 0)
+    + turns (addLength pts ks) i c s
 unfolding turns addLength edgeLength
 sum-last pts ks zero i s = let z : i + 0 ≡ i = omega arith in rw z (omega arith)
-sum-last pts ks (suc c) i s = let z : i + suc c ≡ suc i + c = omega arith in rw z (sum-last pts ks c (suc i) (s + keyLength pts (getD ks i 0)))
+sum-last pts ks (suc c) i s = let z : i + suc c ≡ suc i + c = omega arith in
+    rw z (sum-last pts ks c (suc i) (s + keyLength pts (getD ks i 0)))
 
 summed : (pts : List ℤ) (ks : List ℕ) (c : ℕ) → turns (addLength pts ks) 0 c 0 ≡ over (keyLength pts) ks c
 unfolding turns below
 summed pts ks zero = refl
 summed pts ks (suc c) =
     let z : 0 + c ≡ c = omega arith in
-    let r : turns (addLength pts ks) 0 (suc c) 0 ≡ keyLength pts (getD ks c 0) + turns (addLength pts ks) 0 c 0 = rw z at (sum-last pts ks c 0 0) in
+    let r : turns (addLength pts ks) 0 (suc c) 0 ≡ keyLength pts (getD ks c 0) + turns (addLength pts ks) 0 c 0 = rw z at
+    (sum-last pts ks c 0 0) in
     r ∙ ap (λ (x : ℕ). keyLength pts (getD ks c 0) + x) (summed pts ks c)
 
 pub metal-of : (pts : List ℤ) (n : ℕ) (ks : List ℕ) (e : ℕ) → metal pts ks e ≡ metalOf (tree pts n ks e)

@@ -1,18 +1,17 @@
 -- What taking an entry out of a table, putting one in and moving numbers on does to every sum over its entries.
 -- Assumes nothing.
 use mathlib.Core.Path.{_≡_, refl, sym, ap, ap₂, _∙_}
-use mathlib.Core.Bool.{Bool, true, false}
+use mathlib.Core.Bool.{true, false}
 use mathlib.Core.List.{List, [], _∷_}
-use Prim.Native.Nat.{ℕ, zero, suc, _+_, _-_, _*_, _/_, _%_, _≤_, _<_}
+use Prim.Native.Nat.{ℕ, zero, suc, _+_, _-_, _≤_, _<_}
 use native.Mathlib.Omega.{arith}
-use native.Mathlib.Decide.{decLe}
 use native.Mathlib.Numerals.{add-one}
 use lib.Dec.{ltb, eqb}
 use lib.ListN.{length, getD, set, length-set}
-use borrow.Author.Tests.{ltb-true, ltb-false, lt-ltb, le-ltb, eqb-true, eqb-false, eq-eqb, ne-eqb}
+use borrow.Author.Tests.{ltb-true, ltb-false, lt-ltb, le-ltb, eqb-true, eq-eqb, ne-eqb}
 use Rattle.lists.proofs.TestLaws.{by}
 use Rattle.refined.specs.Turns.{turns}
-use Rattle.refined.specs.Table.{key, firstEnd, secondEnd, Row, row}
+use Rattle.refined.specs.Table.{key, firstEnd, secondEnd, Row}
 use Rattle.refined.specs.Sum.{below, over}
 use Rattle.refined.specs.Exchange.{shift, closed, dropTwo, bump, bumpAt, carrying, lay, lay3}
 
@@ -31,7 +30,8 @@ below-one (suc n) = omega (arith, below-one n)
 pub below-at : (f : ℕ → ℕ) (n i : ℕ) → i < n → f i ≤ below f n
 unfolding below
 below-at f zero i h = absurd (let z : ⊥ = omega arith in z)
-below-at f (suc n) i h = by (ltb i n) (λ t. omega (arith, below-at f n i (ltb-true i n t))) (λ t. at (let e : i ≡ n = omega (arith, ltb-false i n t) in e))
+below-at f (suc n) i h = by (ltb i n) (λ t. omega (arith, below-at f n i (ltb-true i n t)))
+    (λ t. at (let e : i ≡ n = omega (arith, ltb-false i n t) in e))
   where
     at : i ≡ n → f i ≤ f n + below f n
     at e = rw e (omega arith)
@@ -39,7 +39,8 @@ below-at f (suc n) i h = by (ltb i n) (λ t. omega (arith, below-at f n i (ltb-t
 pub below-some : (f : ℕ → ℕ) (n : ℕ) → 0 < below f n → (i : ℕ) × ((i < n) × (0 < f i))
 unfolding below
 below-some f zero h = absurd (let z : ⊥ = omega arith in z)
-below-some f (suc n) h = by (ltb 0 (f n)) (λ t. (n, (omega arith, ltb-true 0 (f n) t))) (λ t. further (below-some f n (omega (arith, ltb-false 0 (f n) t))))
+below-some f (suc n) h = by (ltb 0 (f n)) (λ t. (n, (omega arith, ltb-true 0 (f n) t)))
+    (λ t. further (below-some f n (omega (arith, ltb-false 0 (f n) t))))
   where
     further : (i : ℕ) × ((i < n) × (0 < f i)) → (i : ℕ) × ((i < suc n) × (0 < f i))
     further r = (r .0, (omega (arith, r .1 .0), r .1 .1))
@@ -116,7 +117,8 @@ unfolding turns
 shifts-high zero k xs j h l = absurd (let z : ⊥ = omega arith in z)
 shifts-high (suc n) k xs j h l =
     by (ltb k j)
-    (λ t. shifts-high n (suc k) (shift k xs) j (ltb-true k j t) (omega arith) ∙ shift-other xs k (suc j) (λ e. let z : ⊥ = omega arith in z))
+    (λ t. shifts-high n (suc k) (shift k xs) j (ltb-true k j t) (omega arith)
+    ∙ shift-other xs k (suc j) (λ e. let z : ⊥ = omega arith in z))
     (λ t.
     let e : j ≡ k = omega (arith, ltb-false k j t) in
     shifts-low n (suc k) (shift k xs) j (omega arith) ∙ rw e (shift-here xs k))
@@ -126,7 +128,8 @@ unfolding closed
 closed-at k n xs i h =
     by (ltb i k)
     (λ t. let l : i < k = ltb-true i k t in shifts-low (n - k) k xs i l ∙ ap (λ (j : ℕ). getD xs j 0) (sym (skip-low k i l)))
-    (λ t. let l : k ≤ i = ltb-false i k t in shifts-high (n - k) k xs i l (omega arith) ∙ ap (λ (j : ℕ). getD xs j 0) (sym (skip-high k i l)))
+    (λ t. let l : k ≤ i = ltb-false i k t in shifts-high (n - k) k xs i l (omega arith)
+    ∙ ap (λ (j : ℕ). getD xs j 0) (sym (skip-high k i l)))
 
 below-skip : (f : ℕ → ℕ) (k n : ℕ) → k ≤ n → f k + below (λ i. f (skip k i)) n ≡ below f (suc n)
 unfolding below
@@ -155,7 +158,8 @@ unfolding carrying
 carrying-low zero i q xs j h = other xs i j q (λ e. let z : ⊥ = omega arith in z)
 carrying-low (suc n) i q xs j h =
     by (ltb q (getD xs i 0))
-    (λ t. rw (carrying, t) (carrying-low n (suc i) (getD xs i 0) (set xs i q) j (omega arith) ∙ other xs i j q (λ e. let z : ⊥ = omega arith in z)))
+    (λ t. rw (carrying, t) (carrying-low n (suc i) (getD xs i 0) (set xs i q) j (omega arith)
+    ∙ other xs i j q (λ e. let z : ⊥ = omega arith in z)))
     (λ t. rw (carrying, t) (carrying-low n (suc i) q xs j (omega arith)))
 
 from-carrying : (g : ℕ → ℕ) (n i q : ℕ) (xs : List ℕ) → i + n < length xs →
@@ -169,11 +173,13 @@ from-carrying g (suc n) i q xs h =
   where
     swapped : from (λ j. g (getD (carrying (suc i) n (getD xs i 0) (set xs i q)) j 0)) (suc i) (suc n) ≡ g (getD xs i 0) + from
         (λ j. g (getD (set xs i q) j 0)) (suc i) n
-        → from (λ j. g (getD (carrying (suc i) n (getD xs i 0) (set xs i q)) j 0)) i (suc (suc n)) ≡ g q + from (λ j. g (getD xs j 0)) i (suc n)
+        → from (λ j. g (getD (carrying (suc i) n (getD xs i 0) (set xs i q)) j 0)) i (suc (suc n)) ≡ g q
+        + from (λ j. g (getD xs j 0)) i (suc n)
     swapped b =
         let x = getD xs i 0 in
         let ys = set xs i q in
-        let a : g (getD (carrying (suc i) n x ys) i 0) ≡ g q = ap g (carrying-low n (suc i) x ys i (omega arith) ∙ here xs i q (omega arith)) in
+        let a : g (getD (carrying (suc i) n x ys) i 0)
+        ≡ g q = ap g (carrying-low n (suc i) x ys i (omega arith) ∙ here xs i q (omega arith)) in
         let d : from (λ j. g (getD ys j 0)) (suc i) n ≡ from (λ j. g (getD xs j 0)) (suc i) n
         = from-same _ _ n (suc i) (λ j l. ap g (other xs i j q (λ e. let z : ⊥ = omega arith in z))) in
         omega (arith, a, b, d)
@@ -198,10 +204,12 @@ pub over-lay : (g : ℕ → ℕ) (p a : ℕ) (r : Row) → r .size < length (r .
 unfolding lay between
 over-lay g p a r h =
     by (ltb p a)
-    (λ t. rw (lay, between, t) (ap (over g (carrying 0 (r .size) (key p a) (r .keys))) (add-one (r .size)) ∙ over-carrying g (r .size) (key p a) (r .keys) h))
+    (λ t. rw (lay, between, t) (ap (over g (carrying 0 (r .size) (key p a) (r .keys))) (add-one (r .size))
+    ∙ over-carrying g (r .size) (key p a) (r .keys) h))
     (λ t.
     by (ltb a p)
-    (λ s. rw (lay, between, t, s) (ap (over g (carrying 0 (r .size) (key a p) (r .keys))) (add-one (r .size)) ∙ over-carrying g (r .size) (key a p)
+    (λ s. rw (lay, between, t, s) (ap (over g (carrying 0 (r .size) (key a p) (r .keys))) (add-one (r .size))
+    ∙ over-carrying g (r .size) (key a p)
     (r .keys) h))
     (λ s. rw (lay, between, t, s) (omega arith)))
 
@@ -222,7 +230,8 @@ length-lay p a r =
 pub size-lay : (p a : ℕ) (r : Row) → lay p a r .size ≤ r .size + 1
 unfolding lay
 size-lay p a r =
-    by (ltb p a) (λ t. rw (lay, t) (omega arith)) (λ t. by (ltb a p) (λ s. rw (lay, t, s) (omega arith)) (λ s. rw (lay, t, s) (omega arith)))
+    by (ltb p a) (λ t. rw (lay, t) (omega arith)) (λ t. by (ltb a p) (λ s. rw (lay, t, s) (omega arith))
+    (λ s. rw (lay, t, s) (omega arith)))
 
 pub over-lay3 : (g : ℕ → ℕ) (p a b u : ℕ) (r : Row) → r .size + 2 < length (r .keys) →
     over g (lay3 p a b u r .keys) (lay3 p a b u r .size) ≡ between g p u + (between g p b + (between g p a + over g (r .keys) (r .size)))
@@ -244,12 +253,14 @@ over-dropped g n k l xs h i d =
     by (ltb k l)
     (λ t.
     let lt : k < l = ltb-true k l t in
-    let same : getD (closed l (n + 1) xs) k 0 ≡ getD xs k 0 = closed-at l (n + 1) xs k (omega arith) ∙ ap (λ (j : ℕ). getD xs j 0) (skip-low l k lt) in
+    let same : getD (closed l (n + 1) xs) k 0 ≡ getD xs k 0 = closed-at l (n + 1) xs k (omega arith)
+    ∙ ap (λ (j : ℕ). getD xs j 0) (skip-low l k lt) in
     rw (dropTwo, t) (both l k lt same i))
     (λ t.
     let le : l ≤ k = ltb-false k l t in
     let lt : l < k = omega arith in
-    let same : getD (closed k (n + 1) xs) l 0 ≡ getD xs l 0 = closed-at k (n + 1) xs l (omega arith) ∙ ap (λ (j : ℕ). getD xs j 0) (skip-low k l lt) in
+    let same : getD (closed k (n + 1) xs) l 0 ≡ getD xs l 0 = closed-at k (n + 1) xs l (omega arith)
+    ∙ ap (λ (j : ℕ). getD xs j 0) (skip-low k l lt) in
     rw (dropTwo, t) (let r = both k l lt same h in omega (arith, r)))
   where
     both : (hi lo : ℕ) → lo < hi → getD (closed hi (n + 1) xs) lo 0 ≡ getD xs lo 0 → hi < suc (suc n) →
@@ -273,7 +284,8 @@ bumps-low p zero i xs j h = refl
 bumps-low p (suc n) i xs j h =
     bumps-low p n (suc i) _ j (omega arith) ∙ other xs i j (bumpKey p (getD xs i 0)) (λ e. let z : ⊥ = omega arith in z)
 
-pub bumps-at : (p n i : ℕ) (xs : List ℕ) (j : ℕ) → i + n ≤ length xs → i ≤ j → j < i + n → getD (turns (bumpAt p) i n xs) j 0 ≡ bumpKey p (getD xs j 0)
+pub bumps-at : (p n i : ℕ) (xs : List ℕ) (j : ℕ) → i + n ≤ length xs → i ≤ j → j < i + n → getD (turns (bumpAt p) i n xs) j 0
+    ≡ bumpKey p (getD xs j 0)
 unfolding turns bumpAt
 bumps-at p zero i xs j b h l = absurd (let z : ⊥ = omega arith in z)
 bumps-at p (suc n) i xs j b h l =
@@ -287,7 +299,8 @@ bumps-at p (suc n) i xs j b h l =
     let e : j ≡ i = omega (arith, ltb-false i j t) in
     bumps-low p n (suc i) (set xs i x) j (omega arith) ∙ rw e (here xs i x (omega arith)))
 
-pub over-bumped : (g : ℕ → ℕ) (p e : ℕ) (xs : List ℕ) → e ≤ length xs → over g (turns (bumpAt p) 0 e xs) e ≡ over (λ k. g (bumpKey p k)) xs e
+pub over-bumped : (g : ℕ → ℕ) (p e : ℕ) (xs : List ℕ) → e ≤ length xs → over g (turns (bumpAt p) 0 e xs) e
+    ≡ over (λ k. g (bumpKey p k)) xs e
 over-bumped g p e xs h = below-same _ _ e (λ i l. ap g (bumps-at p e 0 xs i (omega arith) (omega arith) (omega arith)))
 
 length-bumped : (p n i : ℕ) (xs : List ℕ) → length (turns (bumpAt p) i n xs) ≡ length xs

@@ -1,6 +1,6 @@
--- "A round takes the candidate with the greatest gain above zero, then smallest (a, b), then smallest u." The search is followed from the
--- front: the sentence holds of the candidates that were offered so far, and the next one comes after all of those, so on a tie the best stays.
--- In a tree the candidates that the search weighs are those of the document.
+-- R10: a round takes the greatest gain above zero, of several the smallest edge, then the smallest point. The search is followed from the
+-- front: the rule holds of the candidates that were offered so far, and the next one comes after all of those, so on a tie the best stays.
+-- In a tree the candidates that the search weighs are those of R3.
 -- Assumes nothing.
 use mathlib.Core.Path.{_≡_, refl, sym, ap, _∙_, subst}
 use mathlib.Core.Bool.{true, false, not, _&&_, _||_}
@@ -22,7 +22,7 @@ use Rattle.plane.specs.Flat.{placeAt}
 use Rattle.plane.proofs.PlaceLaws.{same-true, same-refl}
 use Rattle.refined.specs.declared.Best.{Best}
 use Rattle.refined.specs.Turns.{turns, seek}
-use Rattle.refined.specs.Table.{pointBound, firstEnd, secondEnd, Tree, tree}
+use Rattle.refined.specs.Table.{pointBound, firstEnd, secondEnd, Tree}
 use Rattle.refined.specs.Longest.{lengths, longest, cutOf}
 use Rattle.refined.specs.Candidate.{best, middleOf, sees, taken, dropped, allowed, weighed, offer, offers, search, found}
 use Rattle.refined.specs.Places.{Sound}
@@ -93,7 +93,8 @@ module _ (ms : List Macro) (pts : List ℤ) (n : ℕ) (ks : List ℕ) (e : ℕ) 
       let gained : (g m : ℕ) → Win g k u m → g + d ≡ getD el l 0 = λ g m w. w .gained ∙ ap (λ (i : ℕ). getD el i 0) (w .cut) in
       by (eqb u a || (eqb u b || eqb l k))
       (λ t. rw t (stays c k u h (λ g m w.
-      differ t (or-neither _ _ (ne-eqb u a (w .notFirst)) (or-neither _ _ (ne-eqb u b (w .notSecond)) (ne-eqb l k (λ q. w .two (w .cut ∙ q)))))))) λ t.
+      differ t (or-neither _ _ (ne-eqb u a (w .notFirst))
+      (or-neither _ _ (ne-eqb u b (w .notSecond)) (ne-eqb l k (λ q. w .two (w .cut ∙ q)))))))) λ t.
       by (ltb (c .gain + d) (getD el l 0) && (sees ms (placeAt pts a) (placeAt pts b) (placeAt pts u) && not (dropped pts n a b u s)))
       (λ w.
       let more = ltb-true (c .gain + d) (getD el l 0) (and-left _ _ w) in
@@ -132,9 +133,9 @@ module _ (ms : List Macro) (pts : List ℤ) (n : ℕ) (ks : List ℕ) (e : ℕ) 
     most = λ g k u l p win a b. absurd (let z : ⊥ = omega (arith, b (omega arith)) in z);
   })
 
--- The candidates of the document
+-- The candidates of R3
 
--- "s is the place of a tree point other than a, b and u"
+-- R6: a point other than a, b and u stands at s
 module _ (pts : List ℤ) (n a b u : ℕ) (s : Place) where
   abbrev Other : ℕ → Type 0
   Other i = ((i ≡ a → ⊥) × ((i ≡ b → ⊥) × (i ≡ u → ⊥))) × (s ≡ placeAt pts i)
@@ -167,9 +168,10 @@ module _ (pts : List ℤ) (n a b u : ℕ) (s : Place) where
   dropped-not : dropped pts n a b u s ≡ false → (i : ℕ) → i < n → Other i → ⊥
   unfolding dropped
   dropped-not t i h q =
-      differ (taken-yes i q) (seek-before (taken pts a b u s) n 0 i (omega arith) (omega (arith, ltb-false (seek (taken pts a b u s) 0 n) n t)))
+      differ (taken-yes i q) (seek-before (taken pts a b u s) n 0 i (omega arith)
+      (omega (arith, ltb-false (seek (taken pts a b u s) 0 n) n t)))
 
--- "clear of a or of b"
+-- R3: u is clear of a or of b
 sees-one : (ms : List Macro) (a b u : Place) → sees ms a b u ≡ true → (clear u a ms ≡ true) ⊎ (clear u b ms ≡ true)
 unfolding sees
 sees-one ms a b u t = by (clear u a ms) inl (λ f. inr (rw f at t))
@@ -183,7 +185,8 @@ module _ (ms : List Macro) (pins : List Place) (t : Tree) (sound : Sound ms pins
   abbrev Won : ℕ → ℕ → ℕ → ℕ → Type 0
   Won g k u l =
       let el = lengths (t .points) (t .edges .keys) (t .edges .size) in
-      Winner ms (t .points) (t .count) (t .edges .keys) (t .edges .size) el (longest (t .edges .keys) el (t .edges .size) (t .count)) g k u l
+      Winner ms (t .points) (t .count) (t .edges .keys) (t .edges .size) el (longest (t .edges .keys) el (t .edges .size) (t .count)) g k u
+      l
 
   long-at : (j : ℕ) → j < t .edges .size → getD (lengths (t .points) (t .edges .keys) (t .edges .size)) j 0 ≡ longAt t j
   long-at j h = length-at (t .points) (t .edges .keys) (t .edges .size) j (omega (arith, tree-size ms pins t sound)) h
@@ -242,7 +245,7 @@ module _ (ms : List Macro) (pins : List Place) (t : Tree) (sound : Sound ms pins
       .most g k u l (h .above) (gains-won k u l g h) (omega (arith, h .candidate .edge))
       (λ q. absurd (let z : ⊥ = omega (arith, h .candidate .edge) in z))
 
-  -- the sentence holds of the candidate that is found
+  -- R10 holds of the candidate that is found
   pub found-takes : Takes ms t here
   found-takes = record {
     taken =

@@ -1,17 +1,16 @@
 -- What is known of the candidate that a round takes: every candidate that takes the place of the best so far is one, not dropped, with L by
 -- `cutOf` and the gain by its lengths; so the last one is.
 -- Assumes nothing.
-use mathlib.Core.Path.{_≡_, refl, sym, ap, ap₂, _∙_, subst}
-use mathlib.Core.Bool.{Bool, true, false, not, _&&_, _||_}
-use mathlib.Core.List.{List, [], _∷_}
-use Prim.Native.Nat.{ℕ, zero, suc, _+_, _-_, _*_, _/_, _%_, _≤_, _<_}
+use mathlib.Core.Path.{_≡_, refl, ap, _∙_}
+use mathlib.Core.Bool.{true, false, not, _&&_, _||_}
+use mathlib.Core.List.{List, []}
+use Prim.Native.Nat.{ℕ, zero, suc, _+_, _≤_, _<_}
 use native.Mathlib.Omega.{arith}
 use lib.Dec.{ltb, eqb}
 use lib.IntN.{ℤ}
 use lib.ListN.{length, getD, set, length-set, replicate}
-use borrow.Author.Tests.{ltb-true, ltb-false, eqb-true, eqb-false, not-true}
+use borrow.Author.Tests.{ltb-true, ltb-false, eqb-false, not-true}
 use Rattle.lists.proofs.TestLaws.{by, and-left, and-right, or-none}
-use Rattle.plane.specs.declared.Place.{Place}
 use Rattle.plane.specs.declared.Macro.{Macro}
 use Rattle.plane.specs.Distance.{distance}
 use Rattle.plane.specs.Flat.{placeAt}
@@ -23,7 +22,7 @@ use Rattle.refined.specs.Candidate.{best, middleOf, sees, dropped, allow
 use Rattle.refined.specs.Places.{keyLength}
 use Rattle.refined.proofs.TurnLaws.{turns-below}
 use Rattle.refined.proofs.SumLaws.{other, here}
-use Rattle.refined.proofs.WithinLaws.{measured-past, zeros-at, past}
+use Rattle.refined.proofs.WithinLaws.{measured-past, zeros-at}
 
 -- the candidate of the edge k and the point u, with L and gain
 pub record Winner (ms : List Macro) (pts : List ℤ) (n : ℕ) (ks : List ℕ) (e : ℕ) (el top : List ℕ) (gain k u l : ℕ) : Type 0 where
@@ -34,14 +33,16 @@ pub record Winner (ms : List Macro) (pts : List ℤ) (n : ℕ) (ks : List ℕ) (
   pub two : l ≡ k → ⊥
   pub cut : l ≡ cutOf el top (firstEnd (getD ks k 0)) (secondEnd (getD ks k 0)) u
   pub seen : sees ms (placeAt pts (firstEnd (getD ks k 0))) (placeAt pts (secondEnd (getD ks k 0))) (placeAt pts u) ≡ true
-  pub kept : dropped pts n (firstEnd (getD ks k 0)) (secondEnd (getD ks k 0)) u (middleOf pts (firstEnd (getD ks k 0)) (secondEnd (getD ks k 0)) u) ≡ false
+  pub kept : dropped pts n (firstEnd (getD ks k 0)) (secondEnd (getD ks k 0)) u
+      (middleOf pts (firstEnd (getD ks k 0)) (secondEnd (getD ks k 0)) u) ≡ false
   pub gained : gain + distance (middleOf pts (firstEnd (getD ks k 0)) (secondEnd (getD ks k 0)) u) (placeAt pts u) ≡ getD el l 0
 
 module _ (ms : List Macro) (pts : List ℤ) (n : ℕ) (ks : List ℕ) (e : ℕ) (el top : List ℕ) where
   abbrev Wins : Best → Type 0
   Wins c = 0 < c .gain → Winner ms pts n ks e el top (c .gain) (c .edge) (c .point) (c .cut)
 
-  offer-wins : (k : ℕ) → k < e → (u : ℕ) (c : Best) → u < n → Wins c → Wins (offer pts n ms el top (firstEnd (getD ks k 0)) (secondEnd (getD ks k 0)) k u c)
+  offer-wins : (k : ℕ) → k < e → (u : ℕ) (c : Best) → u < n → Wins c →
+      Wins (offer pts n ms el top (firstEnd (getD ks k 0)) (secondEnd (getD ks k 0)) k u c)
   unfolding offer weighed allowed
   offer-wins k h u c i f =
       let a = firstEnd (getD ks k 0) in
@@ -72,7 +73,8 @@ module _ (ms : List Macro) (pts : List ℤ) (n : ℕ) (ks : List ℕ) (e : ℕ) 
   offers-wins : (k : ℕ) (c : Best) → k < e → Wins c → Wins (offers pts n ms ks el top k c)
   unfolding offers
   offers-wins k c h f =
-      turns-below (offer pts n ms el top (firstEnd (getD ks k 0)) (secondEnd (getD ks k 0)) k) Wins n (λ j t i q. offer-wins k h j t i q) n 0 c (omega arith) f
+      turns-below (offer pts n ms el top (firstEnd (getD ks k 0)) (secondEnd (getD ks k 0)) k) Wins n (λ j t i q. offer-wins k h j t i q) n
+      0 c (omega arith) f
 
   pub search-wins : Wins (search pts n ms ks e el top)
   unfolding search
@@ -112,7 +114,8 @@ zeros-length (suc m) = ap suc (zeros-length m)
 
 pub length-at : (pts : List ℤ) (ks : List ℕ) (e j : ℕ) → e ≤ pointBound → j < e → getD (lengths pts ks e) j 0 ≡ keyLength pts (getD ks j 0)
 unfolding lengths edgeLength
-length-at pts ks e j few h = measured-at pts ks e 0 (replicate pointBound 0) j (rw (zeros-length pointBound) (omega arith)) (omega arith) (omega arith)
+length-at pts ks e j few h = measured-at pts ks e 0 (replicate pointBound 0) j (rw (zeros-length pointBound) (omega arith)) (omega arith)
+    (omega arith)
 
 pub no-length : (pts : List ℤ) (ks : List ℕ) (e : ℕ) → e < pointBound → getD (lengths pts ks e) noEdge 0 ≡ 0
 unfolding lengths

@@ -1,7 +1,7 @@
 -- The order of edges by length, then by number: total, so that the longer of two is at least each, and the shorter of two at most each.
 -- Assumes nothing.
-use mathlib.Core.Path.{_≡_, refl, sym, _∙_}
-use mathlib.Core.Bool.{Bool, true, false}
+use mathlib.Core.Path.{_≡_, refl}
+use mathlib.Core.Bool.{true, false}
 use mathlib.Core.List.{List}
 use Prim.Native.Nat.{ℕ, _≤_, _<_}
 use native.Mathlib.Omega.{arith}
@@ -9,8 +9,8 @@ use lib.Dec.{ltb}
 use lib.ListN.{getD}
 use borrow.Author.Tests.{ltb-true, ltb-false}
 use Rattle.lists.proofs.TestLaws.{by, differ}
-use Rattle.refined.specs.Longest.{wins, longer, shorter}
-use Rattle.refined.proofs.LongestLaws.{longer-yes, longer-no, shorter-yes, shorter-no}
+use Rattle.refined.specs.Longest.{wins, longer}
+use Rattle.refined.proofs.LongestLaws.{longer-yes, longer-no}
 
 -- j is no longer than x, and where it is as long, x has the smaller number
 abbrev pub Under : List ℕ → ℕ → ℕ → Type 0
@@ -39,7 +39,11 @@ module _ (el : List ℕ) where
       (λ s. (a, λ l. ltb-false x k (rw (wins, t, s) at e))))
 
   pub under-trans : (i j x : ℕ) → Under el i j → Under el j x → Under el i x
-  under-trans i j x a b = (omega (arith, a .0, b .0), λ l. omega (arith, a .1 (omega (arith, a .0, b .0)), b .1 (omega (arith, a .0, b .0))))
+  under-trans i j x a b = (
+    omega (arith, a .0, b .0),
+    λ l. omega
+        (arith, a .1 (omega (arith, a .0, b .0)), b .1 (omega (arith, a .0, b .0))),
+  )
 
   pub under-self : (x : ℕ) → Under el x x
   under-self x = (omega arith, λ l. omega arith)

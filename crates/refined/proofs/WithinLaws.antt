@@ -1,14 +1,13 @@
 -- Ends of edges are numbers of points, before and after an exchange.
 -- Assumes nothing.
-use mathlib.Core.Path.{_≡_, refl, sym, ap, ap₂, _∙_, subst}
-use mathlib.Core.Bool.{Bool, true, false, _&&_}
+use mathlib.Core.Path.{_≡_, refl, sym, ap, _∙_, subst}
+use mathlib.Core.Bool.{Bool, _&&_}
 use mathlib.Core.List.{List, [], _∷_}
-use Prim.Native.Nat.{ℕ, zero, suc, _+_, _-_, _*_, _/_, _%_, _≤_, _<_}
+use Prim.Native.Nat.{ℕ, zero, suc, _+_, _-_, _/_, _%_, _≤_, _<_}
 use native.Mathlib.Omega.{arith}
-use native.Mathlib.Numerals.{add-one}
 use lib.Dec.{ltb, eqb}
 use lib.IntN.{ℤ}
-use lib.ListN.{length, getD, set, replicate}
+use lib.ListN.{getD, set, replicate}
 use borrow.Author.Tests.{ltb-true, ltb-false, eq-eqb, ne-eqb}
 use Rattle.plane.specs.declared.Place.{Place}
 use Rattle.plane.specs.declared.Macro.{Macro}
@@ -24,7 +23,7 @@ use Rattle.refined.specs.Prune.{marks, firstLoose, prune}
 use Rattle.refined.specs.Table.{In, Row, Small, Tree, Within, key, pairBound, pointBound, row, tree}
 use Rattle.refined.specs.Turns.{seek, turns}
 use Rattle.refined.proofs.CandidateBounds.{Fine, fine-search}
-use Rattle.refined.proofs.TurnLaws.{turns-keep, turns-below}
+use Rattle.refined.proofs.TurnLaws.{turns-keep}
 
 all-set : (P : ℕ → Type 0) (xs : List ℕ) (v x : ℕ) → P x → ((i : ℕ) → P (getD xs i 0)) → (i : ℕ) → P (getD (set xs v x) i 0)
 all-set P [] v x h l i = l i
@@ -56,9 +55,11 @@ unfolding lay
 within-lay n p a r h i l w =
     by (ltb p a)
     (λ t. rw (lay, t) (within-carrying n 0 (r .size) (key p a) (r .keys) (in-key n p a h i l) w))
-    (λ t. by (ltb a p) (λ s. rw (lay, t, s) (within-carrying n 0 (r .size) (key a p) (r .keys) (in-key n a p i h l) w)) (λ s. rw (lay, t, s) w))
+    (λ t. by (ltb a p) (λ s. rw (lay, t, s) (within-carrying n 0 (r .size) (key a p) (r .keys) (in-key n a p i h l) w))
+    (λ s. rw (lay, t, s) w))
 
-within-lay3 : (n p a b u : ℕ) (r : Row) → p < n → a < n → b < n → u < n → n ≤ pointBound → Within n (r .keys) → Within n (lay3 p a b u r .keys)
+within-lay3 : (n p a b u : ℕ) (r : Row) → p < n → a < n → b < n → u < n → n ≤ pointBound → Within n (r .keys) →
+    Within n (lay3 p a b u r .keys)
 unfolding lay3
 within-lay3 n p a b u r h i j k l w = within-lay n p u _ h k l (within-lay n p b _ h j l (within-lay n p a r h i l w))
 
@@ -95,14 +96,16 @@ within-bumped n p l (suc c) i xs w h =
 within-more : (n : ℕ) (xs : List ℕ) → Within n xs → Within (n + 1) xs
 within-more n xs w = record { ends = λ i. (omega (arith, w .ends i .0), omega (arith, w .ends i .1)) }
 
-module _ (pts : List ℤ) (n : ℕ) (ks : List ℕ) (e p a b u : ℕ) (s : Place) (l : n < pointBound) (hp : p ≤ n) (ha : a < n) (hb : b < n) (hu : u < n)
+module _ (pts : List ℤ) (n : ℕ) (ks : List ℕ) (e p a b u : ℕ) (s : Place) (l : n < pointBound) (hp : p ≤ n) (ha : a < n) (hb : b < n)
+    (hu : u < n)
     (w : Within n ks) where
   pub within-joined : Within (laidAt pts n ks e p a b u s .count) (laidAt pts n ks e p a b u s .edges .keys)
   unfolding laidAt stands
   within-joined =
       by (ltb p n && samePlace s (placeAt pts p))
       (λ t. rw (laidAt, t) (within-lay3 n p a b u (row ks e) (ltb-true p n (and-left _ _ t)) ha hb hu (omega arith) w))
-      (λ t. rw (laidAt, t) (within-lay3 (n + 1) p _ _ _ (row (turns (bumpAt p) 0 e ks) e) (omega arith) (bump-in n p a ha) (bump-in n p b hb)
+      (λ t. rw (laidAt, t) (within-lay3 (n + 1) p _ _ _ (row (turns (bumpAt p) 0 e ks) e) (omega arith) (bump-in n p a ha)
+      (bump-in n p b hb)
       (bump-in n p u hu) (omega arith) (within-bumped n p l e 0 ks (within-more n ks w) (λ j _. w .ends j))))
 
 pub seek-le : (t : ℕ → Bool) (n i : ℕ) → seek t i n ≤ i + n
@@ -121,13 +124,15 @@ within-exchange c pts n ks e l h w =
     let q = w .ends (c .edge) in
     within-joined pts n _ _ _ _ _ _ _ l (rank-le pts n _) (q .0) (q .1) h (within-dropped n _ _ _ ks w)
 
-pub within-after : (c : Best) (pts qts : List ℤ) (n m : ℕ) (ks ls : List ℕ) (e f : ℕ) → tree qts m ls f ≡ exchange c pts n ks e → n < pointBound
+pub within-after : (c : Best) (pts qts : List ℤ) (n m : ℕ) (ks ls : List ℕ) (e f : ℕ) → tree qts m ls f ≡ exchange c pts n ks e → n
+    < pointBound
     → c .point < n → Within n ks → Within m ls
 within-after c pts qts n m ks ls e f q l h w =
     rw (ap (λ (t : Tree). t .count) q, ap (λ (t : Tree). t .edges .keys) q) (within-exchange c pts n ks e l h w)
 
 -- past the edges no length stands
-pub measured-past : (pts : List ℤ) (ks : List ℕ) (j c i : ℕ) (el : List ℕ) → i + c ≤ j → getD (turns (measure pts ks) i c el) j 0 ≡ getD el j 0
+pub measured-past : (pts : List ℤ) (ks : List ℕ) (j c i : ℕ) (el : List ℕ) → i + c ≤ j → getD (turns (measure pts ks) i c el) j 0
+    ≡ getD el j 0
 unfolding turns measure
 measured-past pts ks j zero i el h = refl
 measured-past pts ks j (suc c) i el h = measured-past pts ks j c (suc i) _ (omega arith) ∙ past el i j _ (omega arith)
@@ -185,7 +190,8 @@ unfolding prune
 pruned-within n pin ks zero w = w
 pruned-within n pin ks (suc e) w =
     by (eqb (firstLoose pin ks (suc e)) (suc e)) (λ t. rw (prune, t) w)
-    (λ t. rw (prune, t) (pruned-within n pin (closed (firstLoose pin ks (suc e)) e ks) e (within-closed n (firstLoose pin ks (suc e)) e ks w)))
+    (λ t. rw (prune, t) (pruned-within n pin (closed (firstLoose pin ks (suc e)) e ks) e
+    (within-closed n (firstLoose pin ks (suc e)) e ks w)))
 
 pub after-pruning : (pins : List Place) (pts : List ℤ) (n : ℕ) (ks : List ℕ) (e k : ℕ) (ls : List ℕ) (f : ℕ)
     → row ls f ≡ pruned pins (tree pts n ks e) .edges → Within k ks → (f ≤ e) × Within k ls

@@ -2,9 +2,9 @@
 -- Assumes nothing.
 use mathlib.Core.Path.{_≡_, refl}
 use mathlib.Core.List.{List, [], _∷_}
-use Prim.Native.Nat.{ℕ, zero, suc, _+_, _*_}
-use lib.IntN.{ℤ, pos, negsuc}
-use lib.ListN.{take, length, getD}
+use Prim.Native.Nat.{ℕ, zero, suc}
+use lib.IntN.{ℤ, pos}
+use lib.ListN.{length}
 use Rattle.lists.specs.Any.{any}
 use Rattle.signed.specs.Order.{minZ, maxZ}
 use Rattle.plane.specs.declared.Place.{Place}
@@ -15,7 +15,7 @@ use Rattle.plane.specs.Middle.{middle, middlePlace}
 use Rattle.plane.specs.Macro.{macro, spanMeets, meets, clear}
 use Rattle.plane.specs.Flat.{placeAt, flatPlaces}
 use Rattle.refined.specs.Turns.{turns, seek}
-use Rattle.refined.specs.Table.{key, firstEnd, secondEnd, Tree, tree}
+use Rattle.refined.specs.Table.{key, firstEnd, secondEnd, tree}
 use Rattle.refined.specs.Longest.{edgeLength, measure, lengths, wins, longer, shorter}
 use Rattle.refined.specs.Longest.{spread, spreads, hang, attach, pass, reached, start, longest, cutOf}
 use Rattle.refined.specs.Candidate.{sees, taken, dropped, allowed, weighed, offer, offers, search, found}
@@ -43,7 +43,10 @@ edgesFrom pts (k ∷ ks) (suc n) = (placeAt pts (firstEnd k), placeAt pts (secon
 
 -- the refined edges and their total; to unfold this is to unfold all that it rests on
 unfoldable pub refinedOf : List Macro → List Place → List Place → List ℕ → List (Place × Place) × ℕ
-unfolding any minZ maxZ before samePlace apart distance middle middlePlace spanMeets meets clear flatPlaces roomy roomyKeys edgesFrom turns seek edgeLength measure lengths wins longer shorter spread spreads hang attach pass reached start longest cutOf sees taken dropped allowed weighed offer offers search found shift closed dropTwo later rank stands push closing opened bump bumpAt carrying lay lay3 laidAt exchange markOf mark marks countEnds loose looseEdge firstLoose prune rounds pruned refined addLength metal
+unfolding any minZ maxZ before samePlace apart distance middle middlePlace spanMeets meets clear flatPlaces roomy roomyKeys edgesFrom turns
+    seek edgeLength measure lengths wins longer shorter spread spreads hang attach pass reached start longest cutOf sees taken dropped
+    allowed weighed offer offers search found shift closed dropTwo later rank stands push closing opened bump bumpAt carrying lay lay3
+    laidAt exchange markOf mark marks countEnds loose looseEdge firstLoose prune rounds pruned refined addLength metal
 refinedOf ms pins points keys =
     let t = tree (roomy (flatPlaces points) (length pins)) (length points) (roomyKeys keys (length pins)) (length keys) in
     let r = refined ms pins t in
@@ -53,9 +56,9 @@ abbrev at : ℕ → ℕ → Place
 at x y = place (pos x) (pos y)
 
 pub record Table : Type 0 where
-  -- "One pin (5, 5): no edges, totals 0 and 0."
+  -- E1: no edge, total 0
   pub one-pin : refinedOf [] (at 5 5 ∷ []) (at 5 5 ∷ []) [] ≡ ([], 0)
-  -- "Pins (0, 0), (4, 0), (2, 3): terminal 9, refined 7."
+  -- E4: total 7
   pub three-pins :
       refinedOf [] (at 0 0 ∷ at 4 0 ∷ at 2 3 ∷ []) (at 0 0 ∷ at 2 3 ∷ at 4 0 ∷ []) (key 0 1 ∷ key 0 2 ∷ [])
       ≡ ((at 0 0, at 2 0) ∷ (at 2 0, at 2 3) ∷ (at 2 0, at 4 0) ∷ [], 7)

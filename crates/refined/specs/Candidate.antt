@@ -21,19 +21,19 @@ use Rattle.refined.specs.Longest.{cutOf, lengths, longest}
 abbrev pub best : ℕ → ℕ → ℕ → ℕ → Best
 best g k u l = record { gain = g; edge = k; point = u; cut = l }
 
--- "Let s take the middle of the three x values and the middle of the three y values."
+-- R5: s, the middle of the three places axis by axis
 abbrev pub middleOf : List ℤ → ℕ → ℕ → ℕ → Place
 middleOf pts a b u = middlePlace (placeAt pts a) (placeAt pts b) (placeAt pts u)
 
--- "a tree point u [..] that is clear of a or of b"
+-- R3: u is clear of a or of b
 unfoldable pub sees : List Macro → Place → Place → Place → Bool
 sees ms a b u = clear u a ms || clear u b ms
 
--- "s is the place of a tree point other than a, b and u": the point i is one
+-- R6: the point i, none of a, b and u, stands at s
 unfoldable pub taken : List ℤ → ℕ → ℕ → ℕ → Place → ℕ → Bool
 taken pts a b u s i = not (eqb i a || (eqb i b || eqb i u)) && samePlace s (placeAt pts i)
 
--- "A candidate is dropped when s is the place of a tree point other than a, b and u."
+-- R6: a candidate is dropped when there is such a point
 unfoldable pub dropped : List ℤ → ℕ → ℕ → ℕ → ℕ → Place → Bool
 dropped pts n a b u s = ltb (seek (taken pts a b u s) 0 n) n
 
@@ -44,14 +44,14 @@ abbrev pub chosen : Bool → Best → Best → Best
 chosen true new old = new
 chosen false new old = old
 
--- "The gain is the length of L less the distance of s and u." The candidate of edge k from a to b and the point u, whose L is l, of length
--- x: it takes the place of the best so far where its gain is greater and it is allowed.
+-- R9: the gain is the length of L minus the distance from s to u. The candidate of edge k from a to b and the point u, whose L is l, of
+-- length x: it takes the place of the best so far where its gain is greater and it is allowed.
 unfoldable pub weighed : List ℤ → ℕ → List Macro → ℕ → ℕ → ℕ → ℕ → ℕ → ℕ → Best → Best
 weighed pts n ms a b k u l x c =
     let d = distance (middleOf pts a b u) (placeAt pts u) in
     chosen (ltb (c .gain + d) x && allowed pts n ms a b u (middleOf pts a b u)) (best (x - d) k u l) c
 
--- "a tree point u, other than a and b". That L is another edge than (a, b) is tested too; in a tree it always is.
+-- R3: u is neither a nor b. That L is another edge than (a, b) is tested too; in a tree it always is.
 unfoldable pub offer : List ℤ → ℕ → List Macro → List ℕ → List ℕ → ℕ → ℕ → ℕ → ℕ → Best → Best
 offer pts n ms el top a b k u c =
     let l = cutOf el top a b u in
@@ -61,8 +61,8 @@ offer pts n ms el top a b k u c =
 unfoldable pub offers : List ℤ → ℕ → List Macro → List ℕ → List ℕ → List ℕ → ℕ → Best → Best
 offers pts n ms keys el top k c = turns (offer pts n ms el top (firstEnd (getD keys k 0)) (secondEnd (getD keys k 0)) k) 0 n c
 
--- "A round takes the candidate with the greatest gain above zero, then smallest (a, b), then smallest u." Edges and points come in order,
--- so the first of the greatest stays.
+-- R10: a round takes the greatest gain above zero, then the smallest edge, then the smallest point. Edges and points come in order, so the
+-- first of the greatest stays.
 unfoldable pub search : List ℤ → ℕ → List Macro → List ℕ → ℕ → List ℕ → List ℕ → Best
 search pts n ms keys e el top = turns (offers pts n ms keys el top) 0 e (best 0 0 0 0)
 

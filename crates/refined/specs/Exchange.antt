@@ -1,6 +1,6 @@
--- "It removes (a, b) and L and lays s–a, s–b and s–u, except any of length zero."
+-- R12, R13: a round removes (a, b) and L and lays edges from s to a, to b and to u, none of length zero.
 use mathlib.Core.Bool.{Bool, true, false, not, _&&_}
-use mathlib.Core.List.{List, [], _∷_}
+use mathlib.Core.List.{List, []}
 use Prim.Native.Nat.{ℕ, zero, suc, _+_, _-_, _*_}
 use lib.Dec.{ltb}
 use lib.IntN.{ℤ}
@@ -79,7 +79,7 @@ carrying i (suc n) q xs =
       | false ↦ carrying (suc i) n q xs
     ]
 
--- the edge of points p and a, "except any of length zero"
+-- R13: the edge of points p and a, where it has a length
 unfoldable pub lay : ℕ → ℕ → Row → Row
 lay p a r =
     elim (ltb p a) [
@@ -87,7 +87,7 @@ lay p a r =
       | false ↦ elim (ltb a p) [ true ↦ row (carrying 0 (r .size) (key a p) (r .keys)) (r .size + 1) | false ↦ r ]
     ]
 
--- "lays s–a, s–b and s–u"
+-- R13: from s to a, to b and to u
 unfoldable pub lay3 : ℕ → ℕ → ℕ → ℕ → Row → Row
 lay3 p a b u r = lay p u (lay p b (lay p a r))
 

@@ -1,12 +1,12 @@
--- The refined tree: document 01, "Refined tree".
+-- The refined tree: rules R1 to R22.
 --
 -- WHICH REPRESENTATION, AND WHY. The points of the tree are a table in the order of places, and a point is its number there. An edge is one
 -- number, the key of its ends, and the edges are a table in the order of keys, so an edge is its position. Then the order of numbers is the
 -- order of places and of edges, every tie is settled by scanning upwards and giving way only to what is strictly better, and code and
 -- definition share their tables. A new point opens a gap in the table and moves the numbers behind it on by one.
--- L is asked for every edge with every point. One table a round answers all: the longest edge on the way between every two points, filled by
--- hanging one point after the other on those that are reached.
--- Definitions are state machines on whole tables, what stands past their end included, so that contracts speak of every number lent.
+-- L is asked for every edge with every point. One table a round answers all: the longest edge on the way between every two points, filled
+-- by hanging one point after the other on those that are reached. Definitions are state machines on whole tables, what stands past their
+-- end included, so that contracts speak of every number lent.
 --
 --   Turns      turns f i n s               the state s after f at the n numbers from i on
 --              seek t i n                  the first of these numbers that passes t
@@ -39,9 +39,9 @@
 --   Promise    metalOf, Promise            the sum of edge lengths; what is promised of a refined tree
 --              Tabled                      what is promised of its tables: edges in order
 --   Sentences  CandidateOf                 an edge and a point are a candidate
---              LongestOn, CutAt, Cuts      the longest edge on a way; L of an edge and a point; L is worked out as `CutAt` says
+--              LongestOn, CutAt            the longest edge on a way; L of an edge and a point
 --              Gains, Takes                a candidate with its L and its gain; the candidate that a round takes
---              RoundsTake, Numbered        the same of every round; edges and points are numbered in their order
+--              Numbered                    edges and points are numbered in their order
 --              NoneLeft                    every point with an edge is a pin or has two
 --
 -- THE THEOREMS, in the order of their proof.
@@ -50,12 +50,14 @@
 --   RankedLaws     laid-level          edges stay smaller place first and in order;  ranked-of: each once, since they are a tree
 --   RoundSound     rounds-kept         so do the rounds, each with at most one point more;  metal-of: the contract's sum is `metalOf`
 --   PruneSound     prune-whole         pruning keeps a tree with all pins;  pruned-over: it raises no sum
---   RefinedSound   refined-promise     the refined tree of a sound tree keeps `Promise`;  refined-tabled: and `Tabled`, where the tree's edges are in order
---   CutSound       cut-at              in a sound tree `cutOf` is `CutAt`;  cut-one: it alone is;  cut-another: it is another edge than (a, b)
+--   RefinedSound   refined-promise     the refined tree of a sound tree keeps `Promise`
+--                  refined-tabled      and `Tabled`, where the tree's edges are in order
+--   CutSound       cut-at              in a sound tree `cutOf` is `CutAt`;  cut-one: it alone is;
+--                  cut-another         it is another edge than (a, b)
 --                  offer-plain         so that test turns no candidate away
 --   TakesLaws      found-takes         in a sound tree `found` is the candidate that a round takes: `Takes`
---   RoundsTake     found-only          it alone is;  rounds-take: so it is in every round: `RoundsTake`
---   LeftLaws       none-loose          pruning ends with none left to go;  refined-left: `NoneLeft` of the refined tree
+--   RoundSteps     rounds-none, -some  rounds one by one;  numbered: the order of numbers is that of edges and of places
+--   LeftLaws       none-loose          pruning ends with none left to go;  pruned-left: `NoneLeft` of what is left
 pub mod Turns
 pub mod Table
 pub mod Longest

@@ -1,4 +1,4 @@
--- "Let L be the longest edge (smallest on a tie) on the tree way": the longest edge between every two points, from one table.
+-- R8: L. The longest edge between every two points, from one table.
 --
 -- A tree is gone through by hanging points on what is reached, from the first point on. Where an edge hangs a new point v on a reached p,
 -- the way from v to a reached w is that edge and the way from p to w.
@@ -28,7 +28,7 @@ measure pts keys k el = set el k (edgeLength pts keys k)
 unfoldable pub lengths : List ℤ → List ℕ → ℕ → List ℕ
 lengths pts keys e = turns (measure pts keys) 0 e (replicate pointBound 0)
 
--- "the longest edge (smallest on a tie)": k is longer than l, or as long and smaller
+-- R8: k is longer than l, or as long and smaller
 unfoldable pub wins : List ℕ → ℕ → ℕ → Bool
 wins el k l =
     elim (ltb (getD el l 0) (getD el k 0)) [
@@ -89,7 +89,7 @@ start = reach (set (replicate pointBound 0) 0 1) (replicate pairBound noEdge)
 unfoldable pub longest : List ℕ → List ℕ → ℕ → ℕ → List ℕ
 longest keys el e n = reached keys el e n start .top
 
--- "L be the longest edge (smallest on a tie) on the tree way from u to whichever of a and b it meets first": of the ways from u to a and to
--- b one goes on over (a, b) where the other ends, so it is the shorter one's
+-- R8: L, the longest edge on the way from u to the nearer end: of the ways from u to a and to b one goes on over (a, b) where the other
+-- ends, so it is the shorter one's
 unfoldable pub cutOf : List ℕ → List ℕ → ℕ → ℕ → ℕ → ℕ
 cutOf el top a b u = shorter el (getD top (key a u) 0) (getD top (key b u) 0)

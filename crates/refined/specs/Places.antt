@@ -2,9 +2,9 @@
 use mathlib.Core.Path.{_≡_}
 use mathlib.Core.Bool.{true, false}
 use mathlib.Core.List.{List, [], _∷_}
-use Prim.Native.Nat.{ℕ, zero, suc, _≤_, _<_}
+use Prim.Native.Nat.{ℕ, zero, suc, _<_}
 use lib.IntN.{ℤ}
-use lib.ListN.{length, getD}
+use lib.ListN.{getD}
 use Rattle.lists.specs.Member.{_∈_, Among}
 use Rattle.plane.specs.declared.Place.{Place}
 use Rattle.plane.specs.declared.Macro.{Macro}
@@ -16,7 +16,7 @@ use Rattle.joined.specs.Tree as joined
 use Rattle.joined.specs.Joined.{Alike}
 use Rattle.joined.specs.Exchange.{Toward, steps}
 use Rattle.refined.specs.Candidate.{middleOf, sees, dropped}
-use Rattle.refined.specs.Table.{pointBound, firstEnd, secondEnd, Tree, Within}
+use Rattle.refined.specs.Table.{firstEnd, secondEnd, Tree, Within}
 
 -- the first n of a sequence, the last of them first
 unfoldable pub listing : {A : Type 0} → (ℕ → A) → ℕ → List A
@@ -41,8 +41,8 @@ edgesOf pts ks e = listing (λ i. endsOf pts (getD ks i 0)) e
 abbrev pub InOrder : List ℤ → ℕ → Type 0
 InOrder pts n = (i j : ℕ) → i < j → j < n → before (placeAt pts i) (placeAt pts j) ≡ true
 
--- "An edge is written smaller place first; edges are ordered by first place, then second": the numbers of points are in the order of places,
--- so keys have the smaller number first and rise, each edge once
+-- N16, the smaller place first and edges in order: the numbers of points are in the order of places, so keys have the smaller number first
+-- and rise, each edge once
 pub record Ranked (ks : List ℕ) (e : ℕ) : Type 0 where
   pub upward : (i : ℕ) → i < e → firstEnd (getD ks i 0) < secondEnd (getD ks i 0)
   pub rising : (i j : ℕ) → i < j → j < e → getD ks i 0 < getD ks j 0
@@ -66,7 +66,8 @@ pub record Taken (ms : List Macro) (pts : List ℤ) (n : ℕ) (ks : List ℕ) (e
   pub notFirst : u ≡ firstEnd (getD ks k 0) → ⊥
   pub notSecond : u ≡ secondEnd (getD ks k 0) → ⊥
   pub seen : sees ms (placeAt pts (firstEnd (getD ks k 0))) (placeAt pts (secondEnd (getD ks k 0))) (placeAt pts u) ≡ true
-  pub kept : dropped pts n (firstEnd (getD ks k 0)) (secondEnd (getD ks k 0)) u (middleOf pts (firstEnd (getD ks k 0)) (secondEnd (getD ks k 0)) u) ≡ false
+  pub kept : dropped pts n (firstEnd (getD ks k 0)) (secondEnd (getD ks k 0)) u
+      (middleOf pts (firstEnd (getD ks k 0)) (secondEnd (getD ks k 0)) u) ≡ false
   pub toward : Toward (edgesOf pts ks e) (placeAt pts u) (placeAt pts (firstEnd (getD ks k 0))) (placeAt pts (secondEnd (getD ks k 0)))
   pub one : Place
   pub other : Place

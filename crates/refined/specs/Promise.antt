@@ -1,4 +1,4 @@
--- What is promised of a refined tree, in document 01's words.
+-- What is promised of a refined tree: rules R20 to R22.
 use mathlib.Core.Path.{_≡_}
 use mathlib.Core.Bool.{true}
 use mathlib.Core.List.{List}
@@ -12,21 +12,21 @@ use Rattle.refined.specs.Table.{Tree, Within}
 use Rattle.refined.specs.Sum.{over}
 use Rattle.refined.specs.Places.{endsOf, edgesOf, keyLength, InOrder, Ranked}
 
--- "Metal to lay is the sum of edge lengths"
+-- R22: metal to lay, the lengths of the edges added up
 abbrev pub metalOf : Tree → ℕ
 metalOf t = over (keyLength (t .points)) (t .edges .keys) (t .edges .size)
 
 -- what is promised of the tree r that refines the tree t
 pub record Promise (ms : List Macro) (pins : List Place) (t r : Tree) : Type 0 where
-  -- "exactly one loop-free way along its edges leads from each point to each other one"
+  -- R20: one loop-free way along the edges from each point to each other one
   pub one : OneTree pins (edgesOf (r .points) (r .edges .keys) (r .edges .size))
-  -- "the two ends of each edge are clear of each other"
+  -- R21: the ends of each edge are clear of each other
   pub free : (i : ℕ) → i < r .edges .size → clear (endsOf (r .points) (getD (r .edges .keys) i 0) .0)
       (endsOf (r .points) (getD (r .edges .keys) i 0) .1) ms ≡ true
   pub total : metalOf r ≤ metalOf t
   pub points : r .count ≤ t .count + length pins
 
--- what is promised of its tables: "Edges in order", and fewer of them than the points that there can be
+-- what is promised of its tables: edges in order (C66), and fewer of them than the points that there can be
 pub record Tabled (pins : List Place) (t r : Tree) : Type 0 where
   pub ordered : InOrder (r .points) (r .count)
   pub within : Within (r .count) (r .edges .keys)

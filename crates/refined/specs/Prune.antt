@@ -1,4 +1,4 @@
--- "Then any point that is no pin and has a single edge goes, with that edge, until none is left."
+-- R16: pruning takes a point that is no pin and has a single edge, with that edge, until there is none.
 use mathlib.Core.Bool.{Bool, true, false, _&&_, _||_}
 use mathlib.Core.List.{List}
 use Prim.Native.Nat.{ℕ, zero, suc, _+_}
@@ -32,14 +32,14 @@ countEnds ks i d =
     let f = set d a (getD d a 0 + 1) in
     set f b (getD f b 0 + 1)
 
--- "no pin and has a single edge"
+-- R16: no pin, and a single edge
 unfoldable pub loose : List ℕ → List ℕ → ℕ → Bool
 loose pin d v = eqb (getD pin v 0) 0 && eqb (getD d v 0) 1
 
 unfoldable pub looseEdge : List ℕ → List ℕ → List ℕ → ℕ → Bool
 looseEdge pin d ks i = loose pin d (firstEnd (getD ks i 0)) || loose pin d (secondEnd (getD ks i 0))
 
--- the first edge with such a point: document 01 names no order, and the one taken here goes through the edges in theirs
+-- of all orders, which leave the same edges (R17), this one: the first edge with such a point
 unfoldable pub firstLoose : List ℕ → List ℕ → ℕ → ℕ
 firstLoose pin ks e = seek (looseEdge pin (turns (countEnds ks) 0 e (replicate pointBound 0)) ks) 0 e
 

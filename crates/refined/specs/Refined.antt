@@ -1,6 +1,6 @@
 -- The refined tree of a tree.
 use mathlib.Core.Path.{_≡_}
-use mathlib.Core.Bool.{Bool, true, false}
+use mathlib.Core.Bool.{true, false}
 use mathlib.Core.List.{List}
 use Prim.Native.Nat.{ℕ, zero, suc, _+_, _≤_}
 use lib.Dec.{eqb}
@@ -16,7 +16,7 @@ use Rattle.refined.specs.Candidate.{found}
 use Rattle.refined.specs.Exchange.{exchange}
 use Rattle.refined.specs.Prune.{marks, prune}
 
--- "There are at most m rounds; the first one with no gain above zero is the last."
+-- R15: at most m rounds, and the first that finds no gain is the last
 unfoldable pub rounds : List Macro → ℕ → Tree → Tree
 rounds ms zero t = t
 rounds ms (suc m) t =
@@ -38,7 +38,7 @@ pruned pins t =
 unfoldable pub refined : List Macro → List Place → Tree → Tree
 refined ms pins t = pruned pins (rounds ms (length pins) t)
 
--- "Metal to lay is the sum of edge lengths"
+-- R22: metal to lay, the lengths of the edges added up
 unfoldable pub addLength : List ℤ → List ℕ → ℕ → ℕ → ℕ
 addLength pts ks k sum = sum + edgeLength pts ks k
 

@@ -1,10 +1,10 @@
--- Sentences of document 01, "Refined tree", as they are said of a tree: what a candidate is and what it gains, which one a round takes, and
--- when pruning is done. The definitions say how each is worked out; that they do what the sentences say is proved of them.
+-- Rules R3 to R16, as they are said of a tree: what a candidate is and what it gains, which one a round takes, and when pruning is done.
+-- The definitions say how each is worked out; that they do what the rules say is proved of them.
 use mathlib.Core.Path.{_≡_}
 use mathlib.Core.Bool.{true}
 use mathlib.Core.Logic.{_⊎_}
 use mathlib.Core.List.{List}
-use Prim.Native.Nat.{ℕ, suc, _+_, _≤_, _<_}
+use Prim.Native.Nat.{ℕ, _+_, _≤_, _<_}
 use lib.ListN.{getD}
 use Rattle.lists.specs.Member.{_∈_}
 use Rattle.plane.specs.declared.Place.{Place}
@@ -20,7 +20,6 @@ use Rattle.refined.specs.Table.{firstEnd, secondEnd, Tree}
 use Rattle.refined.specs.Longest.{lengths, longest, cutOf}
 use Rattle.refined.specs.Candidate.{middleOf, found}
 use Rattle.refined.specs.Exchange.{exchange}
-use Rattle.refined.specs.Refined.{rounds}
 use Rattle.refined.specs.Places.{endsOf, edgesOf, keyLength}
 
 -- the key of the edge k, and its ends a and b
@@ -41,18 +40,18 @@ longAt t k = keyLength (t .points) (keyAt t k)
 abbrev pub EndOf : Tree → ℕ → ℕ → Type 0
 EndOf t v k = (v ≡ firstEnd (keyAt t k)) ⊎ (v ≡ secondEnd (keyAt t k))
 
--- "Let s take the middle of the three x values and the middle of the three y values."
+-- R5: s, the middle of the three places axis by axis
 abbrev pub middleAt : Tree → ℕ → ℕ → Place
 middleAt t k u = middleOf (t .points) (firstEnd (keyAt t k)) (secondEnd (keyAt t k)) u
 
 -- the edge k and the point u are a candidate
 pub record CandidateOf (ms : List Macro) (t : Tree) (k u : ℕ) : Type 0 where
-  -- "A candidate is a tree edge (a, b) and a tree point u, other than a and b, that is clear of a or of b."
+  -- R3: a tree edge (a, b) and a tree point u, neither a nor b, that is clear of one of them at least
   pub edge : k < t .edges .size
   pub point : u < t .count
   pub third : EndOf t u k → ⊥
   pub seen : (clear (placeAt (t .points) u) (endA t k) ms ≡ true) ⊎ (clear (placeAt (t .points) u) (endB t k) ms ≡ true)
-  -- "A candidate is dropped when s is the place of a tree point other than a, b and u."
+  -- R6: it is not dropped: no other tree point stands at s
   pub kept : (i : ℕ) → i < t .count → (EndOf t i k → ⊥) → (i ≡ u → ⊥) → middleAt t k u ≡ placeAt (t .points) i → ⊥
 
 -- the edge j is a step of the way from the place x through the places ps
@@ -63,13 +62,13 @@ pub record StepOf (t : Tree) (x : Place) (ps : List Place) (j : ℕ) : Type 0 wh
   pub on : (one, other) ∈ steps x ps
   pub ends : Alike one other (endA t j) (endB t j)
 
--- "the longest edge (smallest on a tie)" on that way is the edge l
+-- R8: on that way the edge l is the longest, of several the smallest
 pub record LongestOn (t : Tree) (x : Place) (ps : List Place) (l : ℕ) : Type 0 where
   pub step : StepOf t x ps l
   pub longest : (j : ℕ) → StepOf t x ps j → longAt t j ≤ longAt t l
   pub smallest : (j : ℕ) → StepOf t x ps j → longAt t j ≡ longAt t l → l ≤ j
 
--- "Let L be the longest edge (smallest on a tie) on the tree way from u to whichever of a and b it meets first": the edge l is L
+-- R8: the edge l is L, the longest on the way from u to the end of (a, b) that comes first
 pub record CutAt (t : Tree) (k u l : ℕ) : Type 0 where
   pub way : Toward (edgesOf (t .points) (t .edges .keys) (t .edges .size)) (placeAt (t .points) u) (endA t k) (endB t k)
   pub longest : LongestOn t (placeAt (t .points) u) (way .free .points) l
@@ -80,25 +79,20 @@ cutIn t k u =
     let el = lengths (t .points) (t .edges .keys) (t .edges .size) in
     cutOf el (longest (t .edges .keys) el (t .edges .size) (t .count)) (firstEnd (keyAt t k)) (secondEnd (keyAt t k)) u
 
--- it is L, and another edge than (a, b)
-pub record Cuts (t : Tree) : Type 0 where
-  pub cut : (k u : ℕ) → k < t .edges .size → u < t .count → (EndOf t u k → ⊥) → CutAt t k u (cutIn t k u)
-  pub another : (k u : ℕ) → k < t .edges .size → u < t .count → (EndOf t u k → ⊥) → cutIn t k u ≡ k → ⊥
-
 -- the candidate of the edge k and the point u has the edge l as its L and the gain g, above zero
 pub record Gains (ms : List Macro) (t : Tree) (k u l g : ℕ) : Type 0 where
   pub candidate : CandidateOf ms t k u
   pub cut : CutAt t k u l
-  -- "The gain is the length of L less the distance of s and u."
+  -- R9: the gain is the length of L minus the distance from s to u
   pub gain : g + distance (middleAt t k u) (placeAt (t .points) u) ≡ longAt t l
   pub above : 0 < g
 
--- "A round takes the candidate with the greatest gain above zero, then smallest (a, b), then smallest u."
+-- R10: a round takes the greatest gain above zero, then the smallest edge, then the smallest point
 pub record Takes (ms : List Macro) (t : Tree) (c : Best) : Type 0 where
   pub taken : 0 < c .gain → Gains ms t (c .edge) (c .point) (c .cut) (c .gain)
   pub greatest : (k u l g : ℕ) → Gains ms t k u l g → g ≤ c .gain
   pub smallest : (k u l g : ℕ) → Gains ms t k u l g → g ≡ c .gain → (c .edge ≤ k) × (k ≤ c .edge → c .point ≤ u)
-  -- "the first one with no gain above zero is the last": with gain 0 there is none
+  -- R15: with gain 0 there is none, so that the round is the last
   pub none : c .gain ≡ 0 → (k u l g : ℕ) → Gains ms t k u l g → ⊥
 
 -- the candidate that is found in a tree, and the tree with that candidate's exchange made
@@ -108,23 +102,13 @@ foundIn ms t = found ms (t .points) (t .count) (t .edges .keys) (t .edges .size)
 abbrev pub exchanged : List Macro → Tree → Tree
 exchanged ms t = exchange (foundIn ms t) (t .points) (t .count) (t .edges .keys) (t .edges .size)
 
--- the order of numbers is the order of edges, "by first place, then second", and of places: the smallest is that with the smallest number
+-- the order of numbers is that of edges (N16) and that of places (N15): the smallest is the one with the smallest number
 pub record Numbered (t : Tree) : Type 0 where
   pub edges : (i j : ℕ) → i < j → j < t .edges .size →
       (before (endA t i) (endA t j) ≡ true) ⊎ ((endA t i ≡ endA t j) × (before (endB t i) (endB t j) ≡ true))
   pub places : (u v : ℕ) → u < v → v < t .count → before (placeAt (t .points) u) (placeAt (t .points) v) ≡ true
 
--- m rounds from the tree t: the round after i rounds starts with their tree
-pub record RoundsTake (ms : List Macro) (t : Tree) (m : ℕ) : Type 0 where
-  pub cuts : (i : ℕ) → i < m → Cuts (rounds ms i t)
-  pub takes : (i : ℕ) → i < m → Takes ms (rounds ms i t) (foundIn ms (rounds ms i t))
-  pub numbered : (i : ℕ) → i < m → Numbered (rounds ms i t)
-  pub next : (i : ℕ) → i < m → 0 < foundIn ms (rounds ms i t) .gain → rounds ms (suc i) t ≡ exchanged ms (rounds ms i t)
-  -- "There are at most m rounds; the first one with no gain above zero is the last."
-  pub last : (i : ℕ) → i < m → foundIn ms (rounds ms i t) .gain ≡ 0 → rounds ms m t ≡ rounds ms i t
-
--- "Then any point that is no pin and has a single edge goes, with that edge, until none is left.": a point with an edge that is no pin has
--- another edge too
+-- R16, its end: a point with an edge that is no pin has another edge too
 pub record NoneLeft (pins : List Place) (t : Tree) : Type 0 where
   pub two : (v i : ℕ) → i < t .edges .size → EndOf t v i → (placeAt (t .points) v ∈ pins → ⊥) →
       (j : ℕ) × ((j < t .edges .size) × ((j ≡ i → ⊥) × EndOf t v j))

@@ -5,7 +5,7 @@ use lib.IntN.{ℤ}
 use lib.ListN.{getD}
 use Rattle.net.specs.Bounds.{treeBound}
 
--- "one for the points of the refined tree, at most n + m = 384"
+-- N24: at most n + m = 384 points of the refined tree
 abbrev pub pointBound : ℕ
 pointBound = treeBound
 
@@ -13,8 +13,8 @@ pointBound = treeBound
 abbrev pub pairBound : ℕ
 pairBound = pointBound * pointBound
 
--- "An edge is written smaller place first": the edge of points a and b, a before b, is the number `key a b`. Numbers of points are in the
--- order of places, so keys are in the order of edges.
+-- N16: the edge of points a and b, a before b, is the number `key a b`. Numbers of points are in the order of places, so keys are in the
+-- order of edges.
 abbrev pub key : ℕ → ℕ → ℕ
 key a b = a * pointBound + b
 

@@ -211,7 +211,8 @@ fn attach(
 )
     requires { ⌜ ((a < pointBound) × (b < pointBound)) × ((k < pointBound) × (n ≤ pointBound)) ⌝ }
     requires { ⌜ Small pointBound (now top) ⌝ }
-    ensures { λ _. ⌜ reach (now (seen .exit)) (now (top .exit)) ≡ attach (now (el .entry)) n a b k (reach (now (seen .entry)) (now (top .entry))) ⌝ }
+    ensures { λ _. ⌜ reach (now (seen .exit)) (now (top .exit)) ≡ attach (now (el .entry)) n a b k
+        (reach (now (seen .entry)) (now (top .entry))) ⌝ }
 {
     if seen[a] == seen[b] {
         return;
@@ -335,7 +336,8 @@ fn is_allowed(
     false
 }
 
-// The best so far, or the candidate of edge k from a to b and the point u, whose L is l. What is clear is asked last: it looks at every macro.
+// The best so far, or the candidate of edge k from a to b and the point u, whose L is l. What is clear is asked last: it looks at every
+// macro.
 fn weigh(
     pts: &[i32; NUMBERS],
     n: usize,
@@ -411,7 +413,8 @@ fn offers(
 ) -> Best
     requires { ⌜ (k < pointBound) × (n ≤ pointBound) ⌝ }
     requires { ⌜ (Small pairBound (now keys)) × (Small pointBound (now top)) ⌝ }
-    ensures { λ r. ⌜ r ≡ offers (now (pts .entry)) n (macrosOf (now (macros .entry))) (now (keys .entry)) (now (el .entry)) (now (top .entry)) k c ⌝ }
+    ensures { λ r. ⌜ r ≡ offers (now (pts .entry)) n (macrosOf (now (macros .entry))) (now (keys .entry)) (now (el .entry))
+        (now (top .entry)) k c ⌝ }
 {
     let a = keys[k] / POINTS;
     let b = keys[k] % POINTS;
@@ -435,7 +438,8 @@ fn search(
 ) -> Best
     requires { ⌜ (e ≤ pointBound) × (n ≤ pointBound) ⌝ }
     requires { ⌜ (Small pairBound (now keys)) × (Small pointBound (now top)) ⌝ }
-    ensures { λ r. ⌜ r ≡ search (now (pts .entry)) n (macrosOf (now (macros .entry))) (now (keys .entry)) e (now (el .entry)) (now (top .entry)) ⌝ }
+    ensures { λ r. ⌜ r ≡ search (now (pts .entry)) n (macrosOf (now (macros .entry))) (now (keys .entry)) e (now (el .entry))
+        (now (top .entry)) ⌝ }
 {
     let mut found = Best {
         gain: 0,
@@ -623,7 +627,8 @@ fn lay_at(
 ) -> Size
     requires { ⌜ ((n < pointBound) × (e + 2 < pointBound)) × ((p ≤ n) × ((a < pointBound) × ((b < pointBound) × (u < pointBound)))) ⌝ }
     requires { ⌜ Small pairBound (now keys) ⌝ }
-    ensures { λ r. ⌜ (tree (now (pts .exit)) (r .points) (now (keys .exit)) (r .edges) ≡ laidAt (now (pts .entry)) n (now (keys .entry)) e p a b u s)
+    ensures { λ r. ⌜ (tree (now (pts .exit)) (r .points) (now (keys .exit)) (r .edges)
+        ≡ laidAt (now (pts .entry)) n (now (keys .entry)) e p a b u s)
         × ((r .points ≤ n + 1) × (r .edges ≤ e + 3)) ⌝ }
 {
     if stands(&*pts, n, p, s) {
@@ -651,7 +656,8 @@ fn exchange(
 ) -> Size
     requires { ⌜ ((n < pointBound) × (e < pointBound)) × (((c .edge < e) × (c .cut < e)) × ((c .cut ≡ c .edge → ⊥) × (c .point < n))) ⌝ }
     requires { ⌜ Small pairBound (now keys) ⌝ }
-    ensures { λ r. ⌜ (tree (now (pts .exit)) (r .points) (now (keys .exit)) (r .edges) ≡ exchange c (now (pts .entry)) n (now (keys .entry)) e)
+    ensures { λ r. ⌜ (tree (now (pts .exit)) (r .points) (now (keys .exit)) (r .edges) ≡ exchange c (now (pts .entry)) n
+        (now (keys .entry)) e)
         × ((r .points ≤ n + 1) × (r .edges ≤ e + 1)) ⌝ }
 {
     let k = c.edge;
@@ -829,7 +835,8 @@ fn prune_points(
     e: usize,
 ) -> usize
     requires { ⌜ (n ≤ pointBound) × ((e ≤ pointBound) × (Small pairBound (now keys))) ⌝ }
-    ensures { λ r. ⌜ row (now (keys .exit)) r ≡ pruned (placesOf (now (pins .entry))) (tree (now (pts .entry)) n (now (keys .entry)) e) .edges ⌝ }
+    ensures { λ r. ⌜ row (now (keys .exit)) r ≡ pruned (placesOf (now (pins .entry)))
+        (tree (now (pts .entry)) n (now (keys .entry)) e) .edges ⌝ }
 {
     let mut pin = [0usize; POINTS];
     mark_pins(pins, pts, n, &mut pin);

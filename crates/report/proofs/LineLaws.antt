@@ -51,7 +51,8 @@ same-edge s i =
     ap₂ (λ (j k : ℕ). (placeFrom s j, placeFrom s k)) e f
 
 pub lines-more : (s : List ℤ) (i : ℕ)
-    → flat edgeLine (entries edgeFrom 4 s i) ++ edgeLine (placeAt s (i * 2), placeAt s (i * 2 + 1)) ≡ flat edgeLine (entries edgeFrom 4 s (i + 1))
+    → flat edgeLine (entries edgeFrom 4 s i) ++ edgeLine (placeAt s (i * 2), placeAt s (i * 2 + 1))
+    ≡ flat edgeLine (entries edgeFrom 4 s (i + 1))
 unfolding flat
 lines-more s i =
     ap (λ (l : List ℕ). flat edgeLine (entries edgeFrom 4 s i) ++ l)

@@ -1,4 +1,5 @@
--- The lists of an accepted file are an allowed net, which the router's own tables hold: both trees are given, and the buffer is long enough.
+-- The lists of an accepted file are an allowed net, which the router's own tables hold: both trees are given, and the buffer is long
+-- enough.
 -- Assumes nothing.
 use mathlib.Core.Path.{_≡_, refl, sym, ap, ap₂, _∙_}
 use mathlib.Core.List.{List}
@@ -103,11 +104,13 @@ module _ (file : List ℕ) (net : ℕ × ℕ) (given-net : readFile file (pinBou
   unfolding routeText answerText
   route-given = rw given-net (ap (λ (v : ℕ × ℕ). treesText (v .0) (v .1) (pinsIn file) (macrosIn file)) (sym net-is))
 
-pub route-refused : (file : List ℕ) (n : ℕ) → readFile file (pinBound * 2) (macroBound * 4) ≡ refused n → refusedText (pos n) ≡ routeText file
+pub route-refused : (file : List ℕ) (n : ℕ) → readFile file (pinBound * 2) (macroBound * 4) ≡ refused n → refusedText (pos n)
+    ≡ routeText file
 unfolding routeText answerText
 route-refused file n e = rw e refl
 
 -- texts of the same numbers
-pub same-text : (m k : ℕ) {t t′ r r′ : ℤ} {es es′ : List (Place × Place)} → t ≡ t′ → r ≡ r′ → es ≡ es′ → treeText m k t r es ≡ treeText m k t′ r′ es′
+pub same-text : (m k : ℕ) {t t′ r r′ : ℤ} {es es′ : List (Place × Place)} → t ≡ t′ → r ≡ r′ → es ≡ es′ → treeText m k t r es
+    ≡ treeText m k t′ r′ es′
 same-text m k {t} {t′} {r} {r′} {es} {es′} e f g =
     ap (λ (z : ℤ). treeText m k z r es) e ∙ ap₂ (λ (z : ℤ) (l : List (Place × Place)). treeText m k t′ z l) f g

@@ -1,4 +1,4 @@
--- The text of document 01's third worked net, and of a refusal, by computing the definitions.
+-- The text of the worked net E4 (E15), and of a refusal, by computing the definitions.
 -- Assumes nothing.
 use mathlib.Core.Path.{_≡_, refl}
 use mathlib.Core.List.{List, [], _∷_, _++_}
@@ -20,8 +20,8 @@ unfoldable pub shownRefused : ℤ → List ℕ
 unfolding digitsIn decimal whole line refusedText
 shownRefused n = refusedText n
 
--- "pins 3 macros 0 terminal 9 refined 7", "0 0 2 0 2", "2 0 2 3 3", "2 0 4 0 2", a line each
-abbrev threeLines : List ℕ
+-- E15: the header and the lines of three edges, "pins 3 macros 0 terminal 9 refined 7", "0 0 2 0 2", "2 0 2 3 3", "2 0 4 0 2"
+abbrev pub threeLines : List ℕ
 threeLines =
     pinsWord ++ (51 ∷ (macrosWord ++ (48 ∷ (terminalWord ++ (57 ∷ (refinedWord ++ (55 ∷ (newline
     ∷ (48 ∷ (32 ∷ (48 ∷ (32 ∷ (50 ∷ (32 ∷ (48 ∷ (32 ∷ (50 ∷ (newline

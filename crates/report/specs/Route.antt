@@ -1,4 +1,4 @@
--- What the program `route` prints for a file: document 01, end of "Nets to try".
+-- What the program `route` prints for a file: rules P1 to P5.
 use mathlib.Core.List.{List}
 use Prim.Native.Nat.{ℕ, _*_}
 use lib.IntN.{ℤ, pos}
@@ -13,11 +13,11 @@ use Rattle.report.specs.Text.{treeText, refusedText}
 unfoldable pub treesText : ℕ → ℕ → List ℤ → List ℤ → List ℕ
 treesText m k pins macros = treeText m k (pos (pathsTotal pins macros)) (pos (laidTotal pins macros)) (laidOf pins macros)
 
--- the text by the answer of a read that takes these lists: "A refusal prints one line"
+-- P4: the text by the answer of a read that takes these lists, one line where it is refused
 unfoldable pub answerText : Told (ℕ × ℕ) → List ℤ → List ℤ → List ℕ
 answerText (refused n) pins macros = refusedText (pos n)
 answerText (given net) pins macros = treesText (net .0) (net .1) pins macros
 
--- "The program `route` reads a net file from standard input."
+-- P1: the text for the bytes of a file, read as a net file
 unfoldable pub routeText : List ℕ → List ℕ
 routeText file = answerText (readFile file (pinBound * 2) (macroBound * 4)) (pinsIn file) (macrosIn file)

@@ -1,4 +1,4 @@
--- What the program `route` prints, as bytes of ASCII: document 01, end of "Nets to try".
+-- What the program `route` prints, as bytes of ASCII: rules P2 to P5.
 use mathlib.Core.Bool.{true, false}
 use mathlib.Core.List.{List, [], _∷_, _++_}
 use Prim.Native.Nat.{ℕ, zero, suc, _+_, _/_, _%_}
@@ -38,7 +38,7 @@ line [] = newline ∷ []
 line (z ∷ []) = whole z ++ (newline ∷ [])
 line (z ∷ (y ∷ rest)) = whole z ++ (space ∷ line (y ∷ rest))
 
--- "each line is an edge of the refined tree, in order: first place, second place, length"
+-- P3: the line of an edge, its two places and its length
 unfoldable pub edgeLine : Place × Place → List ℕ
 edgeLine e = line (e .0 .x ∷ (e .0 .y ∷ (e .1 .x ∷ (e .1 .y ∷ (pos (distance (e .0) (e .1)) ∷ [])))))
 
@@ -66,7 +66,7 @@ refusedWord = 114 ∷ (101 ∷ (102 ∷ (117 ∷ (115 ∷ (101 ∷ (100 ∷ (32 
 
 -- The text
 
--- "The header gives m, k and the totals of the terminal and the refined tree."
+-- P2: the header, with m, k and the two totals
 unfoldable pub header : ℕ → ℕ → ℤ → ℤ → List ℕ
 header m k terminal refined =
     pinsWord ++ (decimal m
@@ -74,10 +74,10 @@ header m k terminal refined =
     ++ (terminalWord ++ (whole terminal
     ++ (refinedWord ++ (whole refined ++ (newline ∷ []))))))))
 
--- "After the header, each line is an edge of the refined tree, in order"
+-- P3: the header, then a line for each edge in order
 unfoldable pub treeText : ℕ → ℕ → ℤ → ℤ → List (Place × Place) → List ℕ
 treeText m k terminal refined edges = header m k terminal refined ++ flat edgeLine edges
 
--- "A refusal prints one line, `refused` and the number, as `refused 11`."
+-- P4: the word and the number
 unfoldable pub refusedText : ℤ → List ℕ
 refusedText n = refusedWord ++ line (n ∷ [])

@@ -188,7 +188,8 @@ pub fn tree(
     out: &mut [u8],
 ) -> usize
     requires { ⌜ (120 + count * 105 ≤ length (now out)) × (count * 4 ≤ length (now edges)) ⌝ }
-    ensures { λ r. ⌜ Filled (treeText m k terminal refined (entries edgeFrom 4 (now (edges .entry)) count)) (now (out .entry)) (now (out .exit)) r ⌝ }
+    ensures { λ r. ⌜ Filled (treeText m k terminal refined (entries edgeFrom 4 (now (edges .entry)) count)) (now (out .entry))
+        (now (out .exit)) r ⌝ }
 {
     let next = put_header(&mut *out, m, k, terminal, refined);
     put_edges(&mut *out, next, edges, count)
@@ -212,6 +213,10 @@ const MACRO_NUMBERS: usize = Net::MACROS * 4;
 const PATH_NUMBERS: usize = Net::PINS * 5;
 
 const EDGE_NUMBERS: usize = Net::TREE_POINTS * 4;
+
+// Bytes to read of a file: one more than the longest has, so that a longer one is refused as such. No text depends on what follows
+// (proofs/CutLaws.antt).
+pub const FILE: usize = netfile::LONGEST + 1;
 
 // Bytes for the longest text: a header, and a line for each edge.
 pub const TEXT: usize = 120 + Net::TREE_POINTS * 105;
@@ -243,7 +248,8 @@ fn refined_text(pins: &[i32], macros: &[i32], terminal: i64, out: &mut [u8; TEXT
 // The text of an allowed net; how many bytes it has.
 fn trees_text(pins: &[i32], macros: &[i32], out: &mut [u8; TEXT]) -> usize
     requires { ⌜ checked (now pins) (now macros) ≡ given (pinCount (now pins), macroCount (now macros)) ⌝ }
-    ensures { λ r. ⌜ Filled (treesText (pinCount (now (pins .entry))) (macroCount (now (macros .entry))) (now (pins .entry)) (now (macros .entry)))
+    ensures { λ r. ⌜ Filled (treesText (pinCount (now (pins .entry))) (macroCount (now (macros .entry))) (now (pins .entry))
+        (now (macros .entry)))
         (now (out .entry)) (now (out .exit)) r ⌝ }
 {
     let mut paths = [0i64; PATH_NUMBERS];

@@ -1,103 +1,195 @@
--- "The same for every order of the lists": check, graph, terminal tree, refined tree and wires, their answers and all that they give, for
--- every permutation of the pins and of the macros.
+-- D2b, the same for every order of the lists. Where the check refuses, it refuses both, and nothing lent is altered. Where it allows, the
+-- trees of one order are trees of the other by the rules, which speak of no order, and there is only one solution (`trees-same`).
 -- Assumes nothing.
-use mathlib.Core.Path.{_≡_, refl, ap, ap₂, _∙_}
-use mathlib.Core.List.{List}
+use mathlib.Core.Path.{_≡_, refl, sym, ap, ap₂, _∙_}
+use mathlib.Core.Bool.{cond}
+use mathlib.Core.Logic.{∥∥₁-elim}
+use mathlib.Core.List.{List, map, List·Permᴰ, Permᴰ·symm}
 use Prim.Native.Nat.{ℕ, _+_, _*_, _/_}
+use lib.Dec.{ltb}
 use lib.IntN.{ℤ, pos}
 use lib.ListN.{length}
-use Rattle.lent.specs.Told.{Told, onlyIf}
-use Rattle.plane.specs.declared.Place.{Place}
+use Rattle.lists.specs.Sorted.{Order, firstThen}
+use Rattle.lists.specs.Total.{total}
+use Rattle.lists.proofs.AnyOrder.{length-perm}
+use Rattle.lists.proofs.OrderLaws.{number-order, pair-order}
+use Rattle.lists.proofs.PermLaws.{perm-among, order-lists-set}
+use Rattle.lent.specs.Told.{Told, refused, given, onlyIf}
+use Rattle.lent.specs.Over.{after}
+use Rattle.lent.specs.Entries.{flat}
+use Rattle.lent.proofs.AfterLaws.{after-refused}
+use Rattle.joined.specs.Cost.{lengths}
 use Rattle.plane.specs.Distance.{distance}
 use Rattle.plane.specs.Flat.{placesOf, macrosOf}
-use Rattle.joined.specs.Cost.{lengths}
+use Rattle.plane.proofs.PlaceOrder.{place-order}
+use Rattle.plane.proofs.MacroLaws.{clear-perm}
+use Rattle.net.specs.Allowed.{Allowed}
 use Rattle.net.specs.Check.{pinCount, checked}
-use Rattle.net.proofs.CheckOrder.{SamePins, SameMacros, check-order}
-use Rattle.numbered.proofs.TreeOrder.{paths-order, total-order}
-use Rattle.refined.specs.Refined.{refined}
-use Rattle.refined.proofs.RefinedOrder.{refined-order}
-use Rattle.union.specs.Union.{unionOf}
-use Rattle.union.proofs.UnionOrder.{union-order}
-use Rattle.wires.specs.Edges.{treeEdges}
+use Rattle.net.proofs.AllowedLaws.{given-allowed}
+use Rattle.net.specs.Order.{SamePins, SameMacros}
+use Rattle.net.proofs.CheckOrder.{check-order}
+use Rattle.graph.specs.Numbers.{placeNumbers, edgeNumbers}
+use Rattle.numbered.specs.Tree.{pathNumbers}
+use Rattle.numbered.proofs.BestJoiningLaws.{paths-sum}
 use Rattle.wires.specs.Wires.{wires}
-use Rattle.router.specs.Graph.{verticesOf, edgesOf, pointCount, graphed}
+use Rattle.rules.specs.Edges.{Edge, edgeBefore}
+use Rattle.rules.specs.Terminal.{givenFor}
+use Rattle.rules.proofs.EdgeLaws.{edge-order}
+use Rattle.rules.proofs.TreesOrder.{SameNet}
+use Rattle.rules.proofs.TerminalOurs.{paths-given}
+use Rattle.rules.proofs.TreesOurs.{trees-same}
+use Rattle.router.specs.Graph.{verticesOf, edgesOf, pointCount, graphRoomShort, graphGiven, graphed}
 use Rattle.router.specs.Room.{ifRoom}
 use Rattle.router.specs.Terminal.{pathsOf, pathsTotal, terminalGiven, terminalTree}
-use Rattle.router.specs.Refined.{refinedOf, edgesIn, metalIn, laidOf, laidTotal, refinedGiven, refinedTree, wiresOf, wiresGiven, wired}
-use Rattle.router.proofs.GraphSame.{same-vertices, same-edges, same-answer}
+use Rattle.router.specs.Refined.{refinedOf, edgesIn, metalIn, laidOf, laidTotal, refinedGiven, refinedTree}
+use Rattle.router.specs.Refined.{wiresGiven, wired}
+use Rattle.router.specs.EveryOrder.{SameForBoth}
+use Rattle.router.proofs.AnswerLaws.{only-refused}
 
-pub record SameForBoth (pins pins′ macros macros′ : List ℤ) : Type 0 where
-  pub check : checked pins macros ≡ checked pins′ macros′
-  pub graph : (v e : ℕ) → graphed pins macros v e ≡ graphed pins′ macros′ v e
-  pub vertices : verticesOf pins macros ≡ verticesOf pins′ macros′
-  pub edges : edgesOf pins macros ≡ edgesOf pins′ macros′
-  pub terminal : (room : ℕ) → terminalTree pins macros room ≡ terminalTree pins′ macros′ room
-  pub paths : pathsOf pins macros ≡ pathsOf pins′ macros′
-  pub refined : (room : ℕ) → refinedTree pins macros room ≡ refinedTree pins′ macros′ room
-  pub laid : laidOf pins macros ≡ laidOf pins′ macros′
-  pub wires : (room : ℕ) → wired pins macros room ≡ wired pins′ macros′ room
-  pub drawn : wiresOf pins macros ≡ wiresOf pins′ macros′
+-- bridges with lengths, in an order
+given-order : Order (firstThen edgeBefore ltb)
+given-order = pair-order edgeBefore ltb edge-order number-order
 
 module _ (pins pins′ macros macros′ : List ℤ) (p : SamePins pins pins′) (q : SameMacros macros macros′) where
   same-check : checked pins macros ≡ checked pins′ macros′
   same-check = check-order pins pins′ macros macros′ p q
 
+  -- What is asked for
+
   same-pins : pinCount pins ≡ pinCount pins′
   same-pins = ap (λ (n : ℕ). n / 2) (p .many)
 
+  same-points : pointCount pins macros ≡ pointCount pins′ macros′
+  same-points = ap₂ (λ (a b : ℕ). a / 2 + b / 4 * 4) (p .many) (q .many)
+
   same-room : pointCount pins macros + pinCount pins ≡ pointCount pins′ macros′ + pinCount pins′
-  same-room = ap₂ (λ (a b : ℕ). a / 2 + b / 4 * 4 + a / 2) (p .many) (q .many)
+  same-room = ap₂ _+_ same-points same-pins
 
-  same-paths : pathsOf pins macros ≡ pathsOf pins′ macros′
-  unfolding pathsOf
-  same-paths = paths-order pins pins′ macros macros′ p q
+  -- Refused
 
-  same-total : pathsTotal pins macros ≡ pathsTotal pins′ macros′
-  unfolding pathsTotal
-  same-total = total-order pins pins′ macros macros′ p q
+  module _ (n : ℕ) (r : checked pins macros ≡ refused n) where
+    both : {A : Type 0} (x y : Told A) → onlyIf (checked pins macros) x ≡ onlyIf (checked pins′ macros′) y
+    both x y = only-refused _ x n r ∙ sym (only-refused _ y n (sym same-check ∙ r))
 
-  same-terminal : (room : ℕ) → terminalTree pins macros room ≡ terminalTree pins′ macros′ room
-  unfolding terminalTree terminalGiven
-  same-terminal room =
-      ap₂ onlyIf same-check
-      (ap (λ (m : ℕ). ifRoom (m * 5) room (length (pathsOf pins macros), pos (pathsTotal pins macros))) same-pins
-      ∙ ap₂ (λ (l : List ((Place × Place) × ℕ)) (t : ℕ). ifRoom (pinCount pins′ * 5) room (length l, pos t)) same-paths same-total)
+    untouched : {A X : Type 0} (x y : Told A) (xs ys lent : List X) →
+        after (onlyIf (checked pins macros) x) xs lent ≡ after (onlyIf (checked pins′ macros′) y) ys lent
+    untouched x y xs ys lent =
+        sym (after-refused _ xs lent n (only-refused _ x n r)) ∙ after-refused _ ys lent n (only-refused _ y n (sym same-check ∙ r))
 
-  same-laid : laidOf pins macros ≡ laidOf pins′ macros′
-  unfolding edgesIn refinedOf
-  same-laid =
-      ap treeEdges
-      (refined-order (placesOf pins) (placesOf pins′) (macrosOf macros) (macrosOf macros′) (p .order) (q .order)
-      (unionOf (placesOf pins) (macrosOf macros))
-      ∙ ap (refined (macrosOf macros′) (placesOf pins′)) (union-order pins pins′ macros macros′ p q))
+    refused-both : SameForBoth pins pins′ macros macros′
+    unfolding graphed terminalTree refinedTree wired
+    refused-both = record {
+      check = same-check;
+      graph = λ v e. both _ _;
+      vertices = λ v e lent. untouched _ _ _ _ lent;
+      edges = λ v e lent. untouched _ _ _ _ lent;
+      terminal = λ room. both _ _;
+      paths = λ room lent. untouched _ _ _ _ lent;
+      refined = λ room. both _ _;
+      laid = λ room lent. untouched _ _ _ _ lent;
+      wires = λ room. both _ _;
+      drawn = λ room lent. untouched _ _ _ _ lent;
+    }
 
-  same-metal : laidTotal pins macros ≡ laidTotal pins′ macros′
-  unfolding metalIn
-  same-metal = ap (lengths distance) same-laid
+  -- Allowed
 
-  same-refined : (room : ℕ) → refinedTree pins macros room ≡ refinedTree pins′ macros′ room
-  unfolding refinedTree refinedGiven
-  same-refined room =
-      ap₂ onlyIf same-check
-      (ap (λ (n : ℕ). ifRoom (n * 4) room (length (laidOf pins macros), pos (laidTotal pins macros))) same-room
-      ∙ ap₂ (λ (l : List (Place × Place)) (t : ℕ). ifRoom ((pointCount pins′ macros′ + pinCount pins′) * 4) room (length l, pos t)) same-laid same-metal)
+  module _ (net : ℕ × ℕ) (g : checked pins macros ≡ given net) where
+    a : Allowed (placesOf pins) (macrosOf macros)
+    a = given-allowed pins macros g .1
 
-  same-wires : (room : ℕ) → wired pins macros room ≡ wired pins′ macros′ room
-  unfolding wired wiresGiven
-  same-wires room =
-      ap₂ onlyIf same-check
-      (ap₂ (λ (n : ℕ) (l : List (Place × Place)). ifRoom (n * 8) room (length (wires l))) same-room same-laid)
+    b : Allowed (placesOf pins′) (macrosOf macros′)
+    b = given-allowed pins′ macros′ (sym same-check ∙ g) .1
+
+    -- by the rules the two nets are alike
+    alike : List·Permᴰ (placesOf pins) (placesOf pins′) → List·Permᴰ (macrosOf macros) (macrosOf macros′) →
+        SameNet (placesOf pins) (placesOf pins′) (macrosOf macros) (macrosOf macros′)
+    alike d e = record {
+      to = perm-among d;
+      from = perm-among (Permᴰ·symm d);
+      count = length-perm _ _ (p .order);
+      macros-to = perm-among e;
+      macros-from = perm-among (Permᴰ·symm e);
+      clears = λ x y. clear-perm x y _ _ (q .order);
+    }
+
+    same-vertices : verticesOf pins macros ≡ verticesOf pins′ macros′
+    unfolding verticesOf
+    same-vertices =
+        ∥∥₁-elim (p .order) (order-lists-set place-order _ _) λ d.
+        ∥∥₁-elim (q .order) (order-lists-set place-order _ _) λ e. trees-same (alike d e) a b .vertices
+
+    same-edges : edgesOf pins macros ≡ edgesOf pins′ macros′
+    unfolding edgesOf verticesOf
+    same-edges =
+        ∥∥₁-elim (p .order) (order-lists-set edge-order _ _) λ d.
+        ∥∥₁-elim (q .order) (order-lists-set edge-order _ _) λ e. trees-same (alike d e) a b .edges
+
+    same-paths : pathsOf pins macros ≡ pathsOf pins′ macros′
+    unfolding pathsOf
+    same-paths =
+        ∥∥₁-elim (p .order) (order-lists-set given-order _ _) λ d.
+        ∥∥₁-elim (q .order) (order-lists-set given-order _ _) λ e.
+        sym (paths-given a) ∙ ap (map givenFor) (trees-same (alike d e) a b .paths) ∙ paths-given b
+
+    same-laid : laidOf pins macros ≡ laidOf pins′ macros′
+    unfolding edgesIn refinedOf
+    same-laid =
+        ∥∥₁-elim (p .order) (order-lists-set edge-order _ _) λ d.
+        ∥∥₁-elim (q .order) (order-lists-set edge-order _ _) λ e. trees-same (alike d e) a b .refined
+
+    same-total : pathsTotal pins macros ≡ pathsTotal pins′ macros′
+    unfolding pathsTotal pathsOf
+    same-total = paths-sum a ∙ ap (λ (l : List (Edge × ℕ)). total (map (λ k. k .1) l)) same-paths ∙ sym (paths-sum b)
+
+    same-metal : laidTotal pins macros ≡ laidTotal pins′ macros′
+    unfolding metalIn
+    same-metal = ap (lengths distance) same-laid
+
+    -- so the answers are the same
+
+    same-graph : (v e : ℕ) → graphed pins macros v e ≡ graphed pins′ macros′ v e
+    unfolding graphed graphGiven
+    same-graph v e =
+        ap₂ onlyIf same-check
+        (ap₂ (λ (n : ℕ) (counts : ℕ × ℕ). cond (graphRoomShort n v e) (refused 21) (given counts)) same-points
+        (ap₂ (λ (m n : ℕ). (m, n)) (ap length same-vertices) (ap length same-edges)))
+
+    same-terminal : (room : ℕ) → terminalTree pins macros room ≡ terminalTree pins′ macros′ room
+    unfolding terminalTree terminalGiven
+    same-terminal room =
+        ap₂ onlyIf same-check
+        (ap₂ (λ (m : ℕ) (z : ℕ × ℤ). ifRoom (m * 5) room z) same-pins
+        (ap₂ (λ (l : List (Edge × ℕ)) (t : ℕ). (length l, pos t)) same-paths same-total))
+
+    same-refined : (room : ℕ) → refinedTree pins macros room ≡ refinedTree pins′ macros′ room
+    unfolding refinedTree refinedGiven
+    same-refined room =
+        ap₂ onlyIf same-check
+        (ap₂ (λ (n : ℕ) (z : ℕ × ℤ). ifRoom (n * 4) room z) same-room
+        (ap₂ (λ (l : List Edge) (t : ℕ). (length l, pos t)) same-laid same-metal))
+
+    same-wires : (room : ℕ) → wired pins macros room ≡ wired pins′ macros′ room
+    unfolding wired wiresGiven
+    same-wires room =
+        ap₂ onlyIf same-check (ap₂ (λ (n : ℕ) (l : List Edge). ifRoom (n * 8) room (length (wires l))) same-room same-laid)
+
+    given-both : SameForBoth pins pins′ macros macros′
+    given-both = record {
+      check = same-check;
+      graph = same-graph;
+      vertices = λ v e lent. ap₂ (λ t l. after t (flat placeNumbers l) lent) (same-graph v e) same-vertices;
+      edges = λ v e lent. ap₂ (λ t l. after t (flat edgeNumbers l) lent) (same-graph v e) same-edges;
+      terminal = same-terminal;
+      paths = λ room lent. ap₂ (λ t l. after t (flat pathNumbers l) lent) (same-terminal room) same-paths;
+      refined = same-refined;
+      laid = λ room lent. ap₂ (λ t l. after t (flat edgeNumbers l) lent) (same-refined room) same-laid;
+      wires = same-wires;
+      drawn = λ room lent. ap₂ (λ t l. after t (flat edgeNumbers (wires l)) lent) (same-wires room) same-laid;
+    }
 
   pub every-order : SameForBoth pins pins′ macros macros′
-  every-order = record {
-    check = same-check;
-    graph = same-answer pins pins′ macros macros′ p q;
-    vertices = same-vertices pins pins′ macros macros′ p q;
-    edges = same-edges pins pins′ macros macros′ p q;
-    terminal = same-terminal;
-    paths = same-paths;
-    refined = same-refined;
-    laid = same-laid;
-    wires = same-wires;
-    drawn = ap wires same-laid;
-  }
+  every-order = at (checked pins macros) refl
+    where
+      at : (t : Told (ℕ × ℕ)) → checked pins macros ≡ t → SameForBoth pins pins′ macros macros′
+      at (refused n) r = refused-both n r
+      at (given net) g = given-both net g

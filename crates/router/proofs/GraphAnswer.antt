@@ -26,7 +26,8 @@ module _ (pins macros : List ℤ) (v e : ℕ) where
   unfolding graphed onlyIf
   graphed-allowed net r = rw r refl
 
-  pub graph-short : (ltb v (pointCount pins macros * 2) || ltb e (pointCount pins macros * 16)) ≡ true → graphGiven pins macros v e ≡ refused 21
+  pub graph-short : (ltb v (pointCount pins macros * 2) || ltb e (pointCount pins macros * 16)) ≡ true → graphGiven pins macros v e
+      ≡ refused 21
   unfolding graphGiven graphRoomShort
   graph-short r = rw r refl
 

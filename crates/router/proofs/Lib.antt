@@ -1,6 +1,6 @@
 pub mod GraphAnswer
-pub mod GraphSame
 pub mod AnswerLaws
+pub mod CallLaws
 pub mod FreshTables
 pub mod RefinedLaws
 pub mod EveryOrder

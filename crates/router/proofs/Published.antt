@@ -1,92 +1,82 @@
--- What the mission demands, of the published answers: each allowed net is joined, given the space that it names; what is given is what
--- document 01's sentences say of roots, parents, bridges, rounds and pruning; it is the best joining (demand 3, its first sentences), and a
--- refined tree that holds all pins, enters no interior and is no longer (its last).
+-- What is promised of an allowed net, from the check alone.
 -- Assumes nothing.
-use mathlib.Core.Path.{_≡_, _∙_}
-use mathlib.Core.Bool.{false, _||_}
-use mathlib.Core.List.{List}
-use Prim.Native.Nat.{ℕ, _+_, _*_, _≤_}
+use mathlib.Core.Path.{_≡_, refl, sym, ap, _∙_}
+use mathlib.Core.List.{List, [], _∷_, _++_}
+use Prim.Native.Nat.{ℕ, _+_, _*_}
+use native.Mathlib.Omega.{arith}
 use borrow.Author.Tests.{le-ltb}
-use lib.Dec.{ltb}
 use lib.IntN.{ℤ, pos}
 use lib.ListN.{length}
-use Rattle.lists.specs.Member.{_∈_}
 use Rattle.lists.proofs.TestLaws.{or-neither}
-use Rattle.lent.specs.Told.{given, onlyIf}
-use Rattle.plane.specs.declared.Place.{Place}
-use Rattle.plane.specs.Flat.{placesOf, macrosOf}
-use Rattle.joined.specs.Joined.{Joins}
+use Rattle.lent.specs.Told.{given}
+use Rattle.lent.specs.Entries.{flat}
+use Rattle.plane.specs.Flat.{macrosOf}
 use Rattle.net.specs.Check.{pinCount, checked}
 use Rattle.net.proofs.AllowedLaws.{given-allowed}
-use Rattle.numbered.specs.Roots.{NearestRoot, SmallestParent, HomeWay}
-use Rattle.numbered.specs.Bridges.{KeptBridges}
-use Rattle.numbered.specs.Demand.{BestJoining}
-use Rattle.numbered.proofs.RootLaws.{nearest-root, smallest-parent, way-home}
-use Rattle.numbered.proofs.BridgeLaws.{kept-bridges}
-use Rattle.numbered.proofs.BestJoiningLaws.{best-joining}
-use Rattle.refined.specs.Sentences.{RoundsTake, NoneLeft}
-use Rattle.union.specs.Union.{unionOf}
-use Rattle.union.proofs.UnionSentences.{union-takes, union-left}
-use Rattle.router.specs.Graph.{verticesOf, edgesOf, pointCount, graphed}
+use Rattle.graph.proofs.Connected.{connected}
+use Rattle.wires.specs.Wires.{wiresOfEdge, wires}
+use Rattle.wires.proofs.WireSound.{edge-wired, wired as wired-laws}
+use Rattle.rules.proofs.TerminalOurs.{ourPaths, paths-given}
+use Rattle.rules.proofs.BestLaws.{paths-total, best-joining}
+use Rattle.rules.specs.Edges.{Edge}
+use Rattle.rules.proofs.InteriorLaws.{clear-points}
+use Rattle.rules.proofs.RefinedOurs.{between-trees, falls-between, refined-tree}
+use Rattle.rules.proofs.TreesOurs.{trees-ours, trees-only}
+use Rattle.router.specs.Graph.{verticesOf, edgesOf, pointCount}
 use Rattle.router.specs.Terminal.{pathsOf, pathsTotal, terminalGiven, terminalTree}
-use Rattle.router.specs.Refined.{refinedOf, laidOf, laidTotal, refinedGiven, refinedTree, wiresOf, wiresGiven, wired}
-use Rattle.router.specs.Demand.{RefinedTree}
+use Rattle.router.specs.Refined.{refinedOf, edgesIn, metalIn, laidOf, laidTotal, refinedGiven, refinedTree}
+use Rattle.router.specs.Refined.{wiresOf, wiresGiven, wired}
+use Rattle.router.specs.Published.{Promised}
 use Rattle.router.proofs.AnswerLaws.{only-given, room-enough}
 use Rattle.router.proofs.GraphAnswer.{graphed-allowed, graph-fits}
-use Rattle.router.proofs.GraphSame.{published-joins}
-use Rattle.router.proofs.RefinedLaws.{refined-tree}
 
-pub record Joined (pins macros : List ℤ) : Type 0 where
-  -- "Each net that document 01 allows is joined", given the space that document 01 names
-  pub graph : (v e : ℕ) → pointCount pins macros * 2 ≤ v → pointCount pins macros * 16 ≤ e
-      → graphed pins macros v e ≡ given (length (verticesOf pins macros), length (edgesOf pins macros))
-  pub terminal : (room : ℕ) → pinCount pins * 5 ≤ room → terminalTree pins macros room ≡ given (length (pathsOf pins macros), pos (pathsTotal pins macros))
-  pub refined : (room : ℕ) → (pointCount pins macros + pinCount pins) * 4 ≤ room
-      → refinedTree pins macros room ≡ given (length (laidOf pins macros), pos (laidTotal pins macros))
-  pub wires : (room : ℕ) → (pointCount pins macros + pinCount pins) * 8 ≤ room → wired pins macros room ≡ given (length (wiresOf pins macros))
-  -- the graph joins all its vertices
-  pub connected : Joins (verticesOf pins macros) (edgesOf pins macros)
-  -- the terminal tree in document 01's words: roots, parents, ways, and the bridges of which the paths are kept
-  pub roots : (v : Place) → v ∈ verticesOf pins macros → NearestRoot (placesOf pins) (macrosOf macros) v
-  pub parents : (v : Place) → v ∈ verticesOf pins macros → (v ∈ placesOf pins → ⊥) → SmallestParent (placesOf pins) (macrosOf macros) v
-  pub ways : (v : Place) → v ∈ verticesOf pins macros → HomeWay (placesOf pins) (macrosOf macros) v
-  pub bridges : KeptBridges (placesOf pins) (macrosOf macros)
-  -- the refined tree in document 01's words: what each round takes, that the first without gain is the last, and that pruning leaves none
-  pub rounds : RoundsTake (macrosOf macros) (unionOf (placesOf pins) (macrosOf macros)) (length (placesOf pins))
-  pub pruned : NoneLeft (placesOf pins) (refinedOf (placesOf pins) (macrosOf macros))
-  -- mission demand 3
-  pub best : BestJoining (placesOf pins) (macrosOf macros)
-  pub tree : RefinedTree (placesOf pins) (macrosOf macros)
+wires-flat : (es : List Edge) → wires es ≡ flat wiresOfEdge es
+unfolding wires flat
+wires-flat [] = refl
+wires-flat (e ∷ es) = ap (λ (l : List Edge). wiresOfEdge e ++ l) (wires-flat es)
 
-pub joined : (pins macros : List ℤ) {net : ℕ × ℕ} → checked pins macros ≡ given net → Joined pins macros
-unfolding verticesOf refinedOf terminalTree terminalGiven refinedTree refinedGiven wired wiresGiven
-joined pins macros {net} g =
+pub promised : (pins macros : List ℤ) {net : ℕ × ℕ} → checked pins macros ≡ given net → Promised pins macros
+unfolding verticesOf edgesOf pathsOf pathsTotal refinedOf edgesIn metalIn terminalTree terminalGiven refinedTree refinedGiven wired
+    wiresGiven
+promised pins macros {net} g =
     let t = checked pins macros in
     let a = given-allowed pins macros g .1 in
+    let laws = wired-laws (laidOf pins macros) in
     record {
-      graph =
+      graph-given =
           λ v e h k.
           graphed-allowed pins macros v e net g
-          ∙ graph-fits pins macros v e (or-neither _ _ (le-ltb v (pointCount pins macros * 2) h) (le-ltb e (pointCount pins macros * 16) k));
-      terminal =
+          ∙ graph-fits pins macros v e (or-neither _ _ (le-ltb v (pointCount pins macros * 2) h)
+          (le-ltb e (pointCount pins macros * 16) k));
+      terminal-given =
           λ room h.
           only-given t (terminalGiven pins macros room) net g
           ∙ room-enough {A = ℕ × ℤ} (pinCount pins * 5) room (length (pathsOf pins macros), pos (pathsTotal pins macros)) h;
-      refined =
+      refined-given =
           λ room h.
           only-given t (refinedGiven pins macros room) net g
-          ∙ room-enough {A = ℕ × ℤ} ((pointCount pins macros + pinCount pins) * 4) room (length (laidOf pins macros), pos (laidTotal pins macros)) h;
-      wires =
+          ∙ room-enough {A = ℕ × ℤ} ((pointCount pins macros + pinCount pins) * 4) room
+          (length (laidOf pins macros), pos (laidTotal pins macros)) h;
+      wires-given =
           λ room h.
           only-given t (wiresGiven pins macros room) net g
           ∙ room-enough ((pointCount pins macros + pinCount pins) * 8) room (length (wiresOf pins macros)) h;
-      connected = published-joins pins macros g;
-      roots = nearest-root a;
-      parents = smallest-parent a;
-      ways = way-home a;
-      bridges = kept-bridges a;
-      rounds = union-takes a;
-      pruned = union-left a;
+      kept = ourPaths a;
+      trees = trees-ours a;
+      only = trees-only a;
+      paths = sym (paths-given a);
+      paths-sum = paths-total a;
+      metal = refl;
+      connected = connected a;
       best = best-joining a;
       tree = refined-tree a;
+      no-longer = omega (arith, refined-tree a .no-longer, paths-total a);
+      outside = λ e i. clear-points (e .0) (e .1) (macrosOf macros) (a .upright) .0 (refined-tree a .clear-edges e i);
+      between = λ {rs} r. between-trees a rs r;
+      falls = λ {rs} r. falls-between a rs r;
+      wires-of-edges = wires-flat (laidOf pins macros);
+      edge-wires = λ e m. edge-wired e;
+      wires-straight = laws .axis;
+      wires-clear = laws .free (macrosOf macros) (refined-tree a .clear-edges);
+      wires-sum = laws .long;
     }

@@ -1,4 +1,4 @@
--- Document 01's nets marked ●, together, as one table of the definitions: what every operation answers, and what it gives.
+-- S10: the worked nets E1 to E11, together, as one table of the definitions: what every operation answers, and what it gives.
 -- Assumes nothing.
 use mathlib.Core.Path.{_≡_, refl}
 use mathlib.Core.List.{List, [], _∷_}
@@ -8,7 +8,8 @@ use Rattle.lent.specs.Told.{Told, refused, given, onlyIf}
 use Rattle.plane.specs.declared.Place.{Place}
 use Rattle.plane.specs.Place.{place}
 use Rattle.joined.specs.Cost.{lengths}
-use Rattle.net.specs.WorkedNets.{Lists, onePin, noPin, aroundOne, threePins, sharedSide, onSides, overlapping, onBoundary, inInterior, twiceInInterior, noWidth}
+use Rattle.net.specs.WorkedNets.{Lists, onePin, noPin, aroundOne, threePins, sharedSide, onSides, overlapping, onBoundary, inInterior}
+use Rattle.net.specs.WorkedNets.{twiceInInterior, noWidth}
 use Rattle.net.specs.Check.{checked}
 use Rattle.net.proofs.WorkedChecks.{answer}
 use Rattle.numbered.proofs.WorkedPaths.{treeIn}
@@ -31,7 +32,8 @@ pub record Answers : Type 0 where
 
 -- to unfold this is to unfold all that it rests on
 unfoldable pub answers : Lists → Answers
-unfolding answer treeIn union worked wired-given onlyIf lengths edgesFrom verticesOf edgesOf graphRoomShort graphGiven graphed ifRoom pathsOf pathsTotal terminalGiven terminalTree refinedOf edgesIn metalIn refinedGiven refinedTree wiresGiven wired
+unfolding answer treeIn union worked wired-given onlyIf lengths edgesFrom verticesOf edgesOf graphRoomShort graphGiven graphed ifRoom
+    pathsOf pathsTotal terminalGiven terminalTree refinedOf edgesIn metalIn refinedGiven refinedTree wiresGiven wired
 answers net = record {
   check = checked (net .pins) (net .macros);
   graph = graphed (net .pins) (net .macros) 640 5120;
@@ -48,7 +50,12 @@ pub record Trees : Type 0 where
 
 unfoldable pub trees : Lists → Trees
 unfolding answers
-trees net = record { paths = pathsOf (net .pins) (net .macros); edges = laidOf (net .pins) (net .macros); wires = wiresOf (net .pins) (net .macros) }
+trees net = record {
+  paths = pathsOf (net .pins) (net .macros);
+  edges = laidOf (net .pins) (net .macros);
+  wires = wiresOf (net .pins)
+      (net .macros);
+}
 
 -- every operation refuses with the same number
 abbrev none : ℕ → Answers
@@ -58,7 +65,7 @@ abbrev edge : ℤ → ℤ → ℤ → ℤ → Place × Place
 edge a b c d = (place a b, place c d)
 
 pub record Table : Type 0 where
-  -- "One pin (5, 5): no edges, totals 0 and 0. No pin: 11."
+  -- E1: no edges, both totals 0; E2: refused 11
   pub one-pin : answers onePin ≡ record {
     check = given (1, 0);
     graph = given (1, 0);
@@ -67,7 +74,7 @@ pub record Table : Type 0 where
     wires = given 0;
   }
   pub no-pin : answers noPin ≡ none 11
-  -- "Pins (0, 0), (10, 0), macro 4, −2, 6, 3: eight graph edges; one path, bridge (4, −2)–(6, −2), length 14; refined 14."
+  -- E3: eight graph edges; one path, of length 14, below the macro; refined 14
   pub around-one : answers aroundOne ≡ record {
     check = given (2, 1);
     graph = given (6, 8);
@@ -76,7 +83,7 @@ pub record Table : Type 0 where
     wires = given 5;
   }
   pub around-one-path : trees aroundOne .paths ≡ (edge (pos 4) (negsuc 1) (pos 6) (negsuc 1), 14) ∷ []
-  -- "Pins (0, 0), (4, 0), (2, 3): terminal 9, refined 7."
+  -- E4: terminal 9, refined 7
   pub three-pins : answers threePins ≡ record {
     check = given (3, 0);
     graph = given (3, 3);
@@ -89,7 +96,7 @@ pub record Table : Type 0 where
     edges = edge (pos 0) (pos 0) (pos 2) (pos 0) ∷ edge (pos 2) (pos 0) (pos 2) (pos 3) ∷ edge (pos 2) (pos 0) (pos 4) (pos 0) ∷ [];
     wires = edge (pos 0) (pos 0) (pos 2) (pos 0) ∷ edge (pos 2) (pos 0) (pos 2) (pos 3) ∷ edge (pos 2) (pos 0) (pos 4) (pos 0) ∷ [];
   }
-  -- "Pins (2, −1), (2, 3), macros 0, 0, 2, 2 and 2, 0, 4, 2: allowed; both totals 4, along the shared side."
+  -- E5: allowed; both totals 4, along the shared side
   pub shared-side : answers sharedSide ≡ record {
     check = given (2, 2);
     graph = given (8, 13);
@@ -97,7 +104,7 @@ pub record Table : Type 0 where
     refined = given (3, pos 4);
     wires = given 3;
   }
-  -- "Pins (0, 1), (1, 1), macro 0, 0, 1, 2: one path, bridge (0, 0)–(1, 0); both totals 3."
+  -- E6: one path, below the macro; both totals 3
   pub on-sides : answers onSides ≡ record {
     check = given (2, 1);
     graph = given (6, 6);
@@ -106,13 +113,13 @@ pub record Table : Type 0 where
     wires = given 3;
   }
   pub on-sides-path : trees onSides .paths ≡ (edge (pos 0) (pos 0) (pos 1) (pos 0), 3) ∷ []
-  -- "Macros 0, 0, 2, 2 and 1, 1, 3, 3 with pin (9, 9): 16."
+  -- E7: refused 16
   pub overlap : answers overlapping ≡ none 16
-  -- "Macro 4, −2, 6, 3 with pin (4, 0): allowed; with pin (5, 0): 17; with pin (5, 0) twice: 15."
+  -- E8: allowed; E9: refused 17; E10: refused 15
   pub on-boundary : answers onBoundary .check ≡ given (1, 1)
   pub in-interior : answers inInterior ≡ none 17
   pub twice : answers twiceInInterior ≡ none 15
-  -- "Macro 3, 0, 3, 5 with pin (9, 9): 14."
+  -- E11: refused 14
   pub no-width : answers noWidth ≡ none 14
 
 pub worked-nets : Table

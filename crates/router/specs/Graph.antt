@@ -1,4 +1,4 @@
--- The graph: document 01, "Graph".
+-- The graph among the operations: rules C61 and C62.
 use mathlib.Core.Bool.{Bool, cond, _||_}
 use mathlib.Core.List.{List}
 use Prim.Native.Nat.{ℕ, _+_, _*_}
@@ -21,21 +21,21 @@ verticesOf pins macros = vertices (placesOf pins) (macrosOf macros)
 unfoldable pub edgesOf : List ℤ → List ℤ → List (Place × Place)
 edgesOf pins macros = edges (macrosOf macros) (verticesOf pins macros)
 
--- "n = m + 4k"
+-- N7: n = m + 4k
 abbrev pub pointCount : List ℤ → List ℤ → ℕ
 pointCount pins macros = pinCount pins + macroCount macros * 4
 
--- "21: fewer than 2n numbers lent for vertices or 16n for edges."
+-- C61: fewer than 2n numbers for vertices or 16n for edges
 unfoldable pub graphRoomShort : ℕ → ℕ → ℕ → Bool
 graphRoomShort n vertexRoom edgeRoom = ltb vertexRoom (n * 2) || ltb edgeRoom (n * 16)
 
--- "Both are given in order, an edge as four numbers": how many vertices and how many edges
+-- C62, C52: how many vertices and how many edges are given
 unfoldable pub graphGiven : List ℤ → List ℤ → ℕ → ℕ → Told (ℕ × ℕ)
 graphGiven pins macros vertexRoom edgeRoom =
     cond (graphRoomShort (pointCount pins macros) vertexRoom edgeRoom) (refused 21)
     (given (length (verticesOf pins macros), length (edgesOf pins macros)))
 
--- "11 to 17, then 21"
+-- C61: 11 to 17, then 21
 unfoldable pub graphed : List ℤ → List ℤ → ℕ → ℕ → Told (ℕ × ℕ)
 graphed pins macros vertexRoom edgeRoom = onlyIf (checked pins macros) (graphGiven pins macros vertexRoom edgeRoom)
 

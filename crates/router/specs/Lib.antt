@@ -11,9 +11,13 @@
 --              laidOf, laidTotal, wiresOf           the edges, their total and the wires of two flat lists
 --              refinedTree, wired pins macros r     the answers of a refined tree and of wires into r lent numbers
 --              toldWires r                          what the code's answer says
---   Demand     RefinedTree ps ms                    mission demand 3, its last sentence, and what is promised of the wires
+--   Call       Gives, GivesTwo                      what a call answers and leaves in one lent list, in two: the contracts
+--   Published  Promised pins macros                 all that is promised of an allowed net: the trees of the rules, the only ones, and D3
+--   EveryOrder SameForBoth                          what two calls have in common whose lists have the same entries in another order
 pub mod Graph
 pub mod Room
 pub mod Terminal
 pub mod Refined
-pub mod Demand
+pub mod Call
+pub mod Published
+pub mod EveryOrder

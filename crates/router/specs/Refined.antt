@@ -1,4 +1,4 @@
--- The refined tree and its wires: document 01, "Refined tree" and "Wires" among the operations.
+-- The refined tree and its wires among the operations: rules C65 to C68.
 use mathlib.Core.List.{List}
 use Prim.Native.Nat.{ℕ, _+_, _*_}
 use lib.IntN.{ℤ, pos}
@@ -23,7 +23,7 @@ use Rattle.router.specs.declared.Wired.the-variants.{Given, Refused}
 
 -- The tree of a net
 
--- "Start with the union of the kept paths", then rounds, then pruning
+-- R1: from the union of the kept paths, by rounds, then pruning
 unfoldable pub refinedOf : List Place → List Macro → table.Tree
 refinedOf ps ms = refined ms ps (unionOf ps ms)
 
@@ -31,37 +31,37 @@ refinedOf ps ms = refined ms ps (unionOf ps ms)
 unfoldable pub edgesIn : List Place → List Macro → List (Place × Place)
 edgesIn ps ms = treeEdges (refinedOf ps ms)
 
--- "Metal to lay is the sum of edge lengths"
+-- R22: metal to lay, the lengths of the edges added up
 unfoldable pub metalIn : List Place → List Macro → ℕ
 metalIn ps ms = lengths distance (edgesIn ps ms)
 
 -- The operations
 
--- "Edges in order, with their total."
+-- C66: the edges in order, and their total
 abbrev pub laidOf : List ℤ → List ℤ → List (Place × Place)
 laidOf pins macros = edgesIn (placesOf pins) (macrosOf macros)
 
 abbrev pub laidTotal : List ℤ → List ℤ → ℕ
 laidTotal pins macros = metalIn (placesOf pins) (macrosOf macros)
 
--- "21: fewer than 4(n + m) numbers lent"
+-- C65: fewer than 4(n + m) numbers
 unfoldable pub refinedGiven : List ℤ → List ℤ → ℕ → Told (ℕ × ℤ)
 refinedGiven pins macros room =
     ifRoom ((pointCount pins macros + pinCount pins) * 4) room (length (laidOf pins macros), pos (laidTotal pins macros))
 
--- "11 to 17, then 21"
+-- C65: 11 to 17, then 21
 unfoldable pub refinedTree : List ℤ → List ℤ → ℕ → Told (ℕ × ℤ)
 refinedTree pins macros room = onlyIf (checked pins macros) (refinedGiven pins macros room)
 
--- "The refined tree's edges, in order. Each edge gives a horizontal wire from its smaller place and then a vertical one"
+-- W1, W2: edge after edge in order, first the horizontal wire, then the vertical one
 abbrev pub wiresOf : List ℤ → List ℤ → List (Place × Place)
 wiresOf pins macros = wires (laidOf pins macros)
 
--- "21: fewer than 8(n + m) numbers lent"
+-- C67: fewer than 8(n + m) numbers
 unfoldable pub wiresGiven : List ℤ → List ℤ → ℕ → Told ℕ
 wiresGiven pins macros room = ifRoom ((pointCount pins macros + pinCount pins) * 8) room (length (wiresOf pins macros))
 
--- "11 to 17, then 21"
+-- C67: 11 to 17, then 21
 unfoldable pub wired : List ℤ → List ℤ → ℕ → Told ℕ
 wired pins macros room = onlyIf (checked pins macros) (wiresGiven pins macros room)
 

@@ -1,5 +1,5 @@
--- The terminal tree: document 01, "Terminal tree" among the operations.
--- What it is, and what is promised of it, stands in `numbered` (specs/Tree.antt, specs/Demand.antt).
+-- The terminal tree among the operations: rules C63 and C64.
+-- How it is worked out stands in `numbered` (specs/Tree.antt), what it is in `rules` (specs/Terminal.antt).
 use mathlib.Core.List.{List}
 use Prim.Native.Nat.{ℕ, _*_}
 use lib.IntN.{ℤ, pos}
@@ -14,19 +14,19 @@ use Rattle.router.specs.Room.{ifRoom}
 use Rattle.router.specs.declared.Tree.{Tree}
 use Rattle.router.specs.declared.Tree.the-variants.{Given, Refused}
 
--- "Each path in the order kept: its bridge (four numbers) and its length"
+-- C64: each path in the order kept, by its bridge and its length
 unfoldable pub pathsOf : List ℤ → List ℤ → List ((Place × Place) × ℕ)
 pathsOf pins macros = numbered.pathsOf (placesOf pins) (macrosOf macros)
 
--- "with the total"
+-- C64: and the total
 unfoldable pub pathsTotal : List ℤ → List ℤ → ℕ
 pathsTotal pins macros = numbered.totalOf (placesOf pins) (macrosOf macros)
 
--- "21: fewer than 5m numbers lent"; otherwise how many paths, and their total
+-- C63: fewer than 5m numbers; otherwise how many paths, and their total
 unfoldable pub terminalGiven : List ℤ → List ℤ → ℕ → Told (ℕ × ℤ)
 terminalGiven pins macros room = ifRoom (pinCount pins * 5) room (length (pathsOf pins macros), pos (pathsTotal pins macros))
 
--- "11 to 17, then 21"
+-- C63: 11 to 17, then 21
 unfoldable pub terminalTree : List ℤ → List ℤ → ℕ → Told (ℕ × ℤ)
 terminalTree pins macros room = onlyIf (checked pins macros) (terminalGiven pins macros room)
 

@@ -45,7 +45,8 @@ flag-le w a b {t} f g e = subst (λ (z : ℤ). leZ z b ≡ t) (toZ-ofZ w a f) (s
 pub flag-eq : (w : Width) (a b : ℤ) → SFits w a → SFits w b → eqb (ofZ w a) (ofZ w b) ≡ eqZ a b
 flag-eq w a b f g =
     by (eqb (ofZ w a) (ofZ w b))
-    (λ e. let s : a ≡ b = sym (toZ-ofZ w a f) ∙ ap (toZ w) (eqb-true (ofZ w a) (ofZ w b) e) ∙ toZ-ofZ w b g in e ∙ sym (ap (λ (z : ℤ). eqZ z b) s ∙ eqZ-refl b))
+    (λ e. let s : a ≡ b = sym (toZ-ofZ w a f) ∙ ap (toZ w) (eqb-true (ofZ w a) (ofZ w b) e) ∙ toZ-ofZ w b g in e
+    ∙ sym (ap (λ (z : ℤ). eqZ z b) s ∙ eqZ-refl b))
     (λ e. by (eqZ a b) (λ k. differ (eq-eqb (ofZ w a) (ofZ w b) (ap (ofZ w) (eqZ-true a b k))) e) (λ k. e ∙ sym k))
 
 -- the machine's sum of two i64 that are not negative

@@ -137,7 +137,9 @@ below-replicate b n x h = record { below = at n }
     at (suc m) zero = h
     at (suc m) (suc i) = at m i
 
-pub below-filled : (b : ℕ) (f : ℕ → ℕ) (i n m : ℕ) (xs : List ℕ) → i + n ≤ m → ((k : ℕ) → k < m → f k < b) → Below b xs → Below b (filled f i n xs)
+pub below-filled : (b : ℕ) (f : ℕ → ℕ) (i n m : ℕ) (xs : List ℕ) → i + n ≤ m → ((k : ℕ) → k < m → f k < b) → Below b xs →
+    Below b (filled f i n xs)
 unfolding filled
 below-filled b f i zero m xs l h s = s
-below-filled b f i (suc n) m xs l h s = below-filled b f (suc i) n m (set xs i (f i)) (omega arith) h (below-set b xs i (f i) (h i (omega arith)) s)
+below-filled b f i (suc n) m xs l h s = below-filled b f (suc i) n m (set xs i (f i)) (omega arith) h
+    (below-set b xs i (f i) (h i (omega arith)) s)

@@ -1,7 +1,6 @@
--- "Its parent, where it is no pin, is the smallest neighbour with the same root through which a shortest way to that root runs. A vertex's
--- way to its root follows parents until the root." The next vertex of a shortest way has the same root and is nearer by the link, so the
--- scan finds a parent; along parents the distance falls, so a way is loop-free, has no pin but its last vertex, and is as long as the
--- distance.
+-- T7, T8: the parent is the smallest neighbour on a shortest way to the root, and the way goes from parent to parent. The next vertex of a
+-- shortest way has the same root and is nearer by the link, so the scan finds a parent; along parents the distance falls, so a way is
+-- loop-free, has no pin but its last vertex, and is as long as the distance.
 -- Assumes nothing.
 use mathlib.Core.Path.{_≡_, refl, sym, ap, ap₂, _∙_, subst}
 use mathlib.Core.Bool.{true, false}
@@ -17,7 +16,8 @@ use Rattle.lists.specs.Total.{total}
 use Rattle.lists.proofs.TestLaws.{either}
 use Rattle.lists.proofs.MemberLaws.{is-in}
 use Rattle.joined.specs.Joined.{Link, Alike}
-use Rattle.joined.specs.Way.{Way, stop, go, long}
+use Rattle.joined.specs.Way.{Way, stop, go, long, On}
+use Rattle.joined.proofs.OtherLaws.{alike-sym}
 use Rattle.joined.proofs.WayLaws.{way-more}
 use Rattle.terminal.specs.declared.Step.{Step}
 use Rattle.terminal.specs.Bounds.{pointBound}
@@ -28,7 +28,8 @@ use Rattle.terminal.specs.Setting.{ends, pairs, Setting, Whole}
 use Rattle.terminal.proofs.EdgeLaws.{below-from, in-from}
 use Rattle.terminal.proofs.ParentLaws.{Candidate, Found, parent-found, parented-up, parented-via}
 use Rattle.terminal.proofs.WayLaws.{way-go, way-none}
-use Rattle.terminal.proofs.Nearest.{fits, edges-among, joint, edge-link, edge-long, link-in, best, closed, Reached, reached, all-reached}
+use Rattle.terminal.proofs.Nearest.{fits, edges-among, joint, edge-link, edge-long, link-in, best, closed, Reached, reached}
+use Rattle.terminal.proofs.Nearest.{all-reached}
 
 -- the vertices after v on its way, n at most
 unfoldable pub climb : Parents → ℕ → ℕ → List ℕ
@@ -149,7 +150,8 @@ module _ {g : Graph} {n : ℕ} {d : ℕ → ℕ → ℕ} {pins : List ℕ} (s : 
           let c = candidate v w o in
           found v .least (c .0) (in-from 0 (g .count) (c .0) (omega arith) (omega (arith, c .1))) w (c .2)
 
-      at : (parent g T v ≡ none) ⊎ ((parent g T v .via ∈ from 0 (g .count)) × Candidate g T v (parent g T v .to) (parent g T v .via)) → Parent v
+      at : (parent g T v ≡ none) ⊎ ((parent g T v .via ∈ from 0 (g .count)) × Candidate g T v (parent g T v .to) (parent g T v .via)) →
+          Parent v
       at (inl e) =
           let w = some-onward v h m in
           let i = link-in s v (w .0) (w .1 .link) .far-in in
@@ -167,7 +169,7 @@ module _ {g : Graph} {n : ℕ} {d : ℕ → ℕ → ℕ} {pins : List ℕ} (s : 
             ends-are = rw (a, b) (c .1 .0);
           }
 
-  -- "neighbour with the same root through which a shortest way to that root runs"
+  -- T7: w is a neighbour with the same root, and a shortest way to that root goes on from it
   pub record Through (v w : ℕ) : Type 0 where
     pub link : Link (pairs g) v w
     pub same-root : root T w ≡ root T v
@@ -189,7 +191,7 @@ module _ {g : Graph} {n : ℕ} {d : ℕ → ℕ → ℕ} {pins : List ℕ} (s : 
         shortest = omega (arith, r .long-is, o .nearer);
       }
 
-  -- the parent in document 01's words
+  -- T7: the parent is the smallest of these
   pub parent-through : (v : ℕ) → v < n → (v ∈ pins → ⊥) → Through v (up P v) × ((w : ℕ) → Through v w → up P v ≤ w)
   parent-through v h m =
       let p = parent-is v h m in
@@ -228,6 +230,8 @@ module _ {g : Graph} {n : ℕ} {d : ℕ → ℕ → ℕ} {pins : List ℕ} (s : 
     pub length-is : long d v ps ≡ far T v
     pub edges-are : total (map (len g) es) ≡ far T v
     pub falling : Falling v ps
+    -- each edge is a step
+    pub each : (k : ℕ) → k ∈ es → On (one g k) (two g k) v ps
     pub alike : (z : ℕ) → z ∈ (v ∷ ps) → root T z ≡ root T v
 
   at-pin : (v : ℕ) → v ∈ pins → Home v [] []
@@ -240,6 +244,7 @@ module _ {g : Graph} {n : ℕ} {d : ℕ → ℕ → ℕ} {pins : List ℕ} (s : 
         length-is = sym (l .0);
         edges-are = sym (l .0);
         falling = tt;
+        each = λ k i. elim i [ ];
         alike = λ z i. either (λ k. ap (root T) k) (λ j. elim j [ ]) (List·Memᴰ·cases-cons i);
       }
 
@@ -258,6 +263,11 @@ module _ {g : Graph} {n : ℕ} {d : ℕ → ℕ → ℕ} {pins : List ℕ} (s : 
         length-is = omega (arith, r .length-is, o .nearer);
         edges-are = omega (arith, r .edges-are, o .nearer);
         falling = (omega (arith, o .nearer), r .falling);
+        each =
+            λ k m.
+            either (λ q. inl (subst (λ (j : ℕ). Alike (one g j) (two g j) v (up P v)) (sym q) (alike-sym (p .ends-are))))
+            (λ q. inr (r .each k q))
+            (List·Memᴰ·cases-cons m);
         alike = λ z m. either (λ q. ap (root T) q) (λ q. r .alike z q ∙ o .same-root) (List·Memᴰ·cases-cons m);
       }
     where
@@ -278,7 +288,8 @@ module _ {g : Graph} {n : ℕ} {d : ℕ → ℕ → ℕ} {pins : List ℕ} (s : 
       at (no m) = absurd (let z : ⊥ = omega (arith, far-off v h m) in z)
   home (suc k) v h l = at (λ p. home k (up P v) (p .inside) (lower k v l p)) (is-in ℕ-discrete v pins)
     where
-      at : (Parent v → Home (up P v) (climb P k (up P v)) (wayOf P k (up P v))) → Dec (v ∈ pins) → Home v (climb P (suc k) v) (wayOf P (suc k) v)
+      at : (Parent v → Home (up P v) (climb P k (up P v)) (wayOf P k (up P v))) → Dec (v ∈ pins) →
+          Home v (climb P (suc k) v) (wayOf P (suc k) v)
       at up-home (yes m) =
           let u : pointBound ≤ up P v = omega (arith, pin-parent v m) in
           rw (climb-none P (suc k) v u, way-none P (suc k) v u) (at-pin v m)
@@ -287,7 +298,7 @@ module _ {g : Graph} {n : ℕ} {d : ℕ → ℕ → ℕ} {pins : List ℕ} (s : 
           let u : up P v < pointBound = omega (arith, p .inside, s .vertices) in
           rw (climb-go P k v u, way-go P k v u) (one-up v _ _ p (up-home p))
 
-  -- "A vertex's way to its root follows parents until the root"
+  -- T8: a way goes from parent to parent and ends at the root
   pub data Upward : ℕ → List ℕ → Type 0 where
     arrived : {v : ℕ} → v ∈ pins → Upward v []
     onto : {v : ℕ} {ps : List ℕ} → (v ∈ pins → ⊥) → Upward (up P v) ps → Upward v (up P v ∷ ps)

@@ -119,7 +119,8 @@ fine-unlabelled = record {
   rooted = below-replicate _ pointBound _ (omega arith);
 }
 
-fine-pins : (pins : List ℕ) (i n m : ℕ) (t : Labels) → i + n ≤ m → FirstBelow pins m pointBound → Fine t → Fine (starts (entries pins i n) t)
+fine-pins : (pins : List ℕ) (i n m : ℕ) (t : Labels) → i + n ≤ m → FirstBelow pins m pointBound → Fine t →
+    Fine (starts (entries pins i n) t)
 unfolding starts entries
 fine-pins pins i zero m t h s f = f
 fine-pins pins i (suc n) m t h s f =
@@ -128,7 +129,8 @@ fine-pins pins i (suc n) m t h s f =
       rooted = below-set _ (t .roots) _ _ (s .inside i (omega arith)) (f .rooted);
     })
 
-pub fine-starts : (pins : List ℕ) (m : ℕ) (t t′ : Labels) → t′ ≡ starts (entries pins 0 m) t → FirstBelow pins m pointBound → Fine t → Fine t′
+pub fine-starts : (pins : List ℕ) (m : ℕ) (t t′ : Labels) → t′ ≡ starts (entries pins 0 m) t → FirstBelow pins m pointBound → Fine t →
+    Fine t′
 fine-starts pins m t t′ e s f = rw e (fine-pins pins 0 m m t (omega arith) s f)
 
 -- A pass over edges
@@ -159,7 +161,8 @@ module _ (g : Graph) where
         rw (r .0, r .1) (record {
           low = low-edge g k t (p .low);
           table = ap (λ (l : List ℕ). relax g l t) (sym q) ∙ p .table;
-          flag = or-assoc moved (moves g k t) (changes g ks (relaxEdge g k t)) ∙ ap (λ (l : List ℕ). moved || changes g l t) (sym q) ∙ p .flag;
+          flag = or-assoc moved (moves g k t) (changes g ks (relaxEdge g k t)) ∙ ap (λ (l : List ℕ). moved || changes g l t) (sym q)
+              ∙ p .flag;
         })
 
     pub pass-end : left ≡ [] → (moved ≡ changes g all start) × (t ≡ relax g all start)
@@ -173,7 +176,8 @@ module _ (g : Graph) where
   still-edge : (k : ℕ) (t : Labels) → moves g k t ≡ false → relaxEdge g k t ≡ t
   unfolding moves relaxEdge
   still-edge k t h =
-      let n = or-none (gains (one g k) (two g k) (len g k) t) (gains (two g k) (one g k) (len g k) (offer (one g k) (two g k) (len g k) t)) h in
+      let n = or-none (gains (one g k) (two g k) (len g k) t) (gains (two g k) (one g k) (len g k) (offer (one g k) (two g k) (len g k) t))
+      h in
       offer-no (two g k) (one g k) (len g k) _ (n .1) ∙ offer-no (one g k) (two g k) (len g k) t (n .0)
 
   pub still : (ks : List ℕ) (t : Labels) → changes g ks t ≡ false → relax g ks t ≡ t
@@ -209,7 +213,8 @@ module _ (g : Graph) (ks : List ℕ) where
 
 -- FirstBelow, one after the other
 
-pub start-more : (pins : List ℕ) (i m : ℕ) (fars roots : List ℕ) (all : Labels) → starts (entries pins i (m - i)) (labels fars roots) ≡ all → i < m →
+pub start-more : (pins : List ℕ) (i m : ℕ) (fars roots : List ℕ) (all : Labels) → starts (entries pins i (m - i)) (labels fars roots)
+    ≡ all → i < m →
     starts (entries pins (i + 1) (m - (i + 1))) (labels (set fars (getD pins i 0) 0) (set roots (getD pins i 0) (getD pins i 0))) ≡ all
 unfolding starts
 start-more pins i m fars roots all p h = sym (rw (entries-next i m pins h) refl) ∙ p

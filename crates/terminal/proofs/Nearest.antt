@@ -1,6 +1,6 @@
--- "The root of a vertex is its nearest pin along the graph, the smallest on a tie": a label is the least length of a way to a pin, and the
--- smallest pin at that length. No way of at most k links is better than the label after k passes; a loop-free way has fewer links than there
--- are vertices; and every label below `unreached` is that of a way, since an edge is at least 1 long.
+-- T6: the root is the nearest pin along the graph. A label is the least length of a way to a pin, and the smallest pin at that length. No
+-- way of at most k links is better than the label after k passes; a loop-free way has fewer links than there are vertices; and every label
+-- below `unreached` is that of a way, since an edge is at least 1 long.
 -- Assumes nothing.
 use mathlib.Core.Path.{_≡_, refl, sym, ap, ap₂, _∙_, subst}
 use mathlib.Core.Logic.{inl, inr}
@@ -23,7 +23,8 @@ use Rattle.terminal.specs.Edges.{Graph, one, two, len, from, Fits}
 use Rattle.terminal.specs.Labels.{Labels, labels, far, root, offer, relaxEdge, relax, starts, unlabelled, labelled}
 use Rattle.terminal.specs.Setting.{ends, pairs, Setting, Whole}
 use Rattle.terminal.proofs.EdgeLaws.{in-from, below-from, length-from}
-use Rattle.terminal.proofs.Offers.{lex-same, lex-then, lex-more, Best, Sized, sized-offer, After, kept, taken, after-offer, sized-edge}
+use Rattle.terminal.proofs.Offers.{lex-same, lex-then, lex-more, Best, Sized, sized-offer, After, kept, taken, after-offer}
+use Rattle.terminal.proofs.Offers.{sized-edge}
 use Rattle.terminal.proofs.Offers.{Within, relax-meets, rounds, settled-rounds, sized-rounds, rounds-falls}
 
 -- Labels before the first pass
@@ -120,7 +121,8 @@ module _ {g : Graph} {n : ℕ} {d : ℕ → ℕ → ℕ} {pins : List ℕ} (s : 
 
   -- some of the edges
   pub edges-among : (ks : List ℕ) → ((k : ℕ) → k ∈ ks → k < g .count) → Among (map (ends g) ks) (pairs g)
-  edges-among ks h = map-among (ends g) ks (from 0 (g .count)) (λ k m. (let i = h k m in in-from 0 (g .count) k (omega arith) (omega arith)))
+  edges-among ks h = map-among (ends g) ks (from 0 (g .count))
+      (λ k m. (let i = h k m in in-from 0 (g .count) k (omega arith) (omega arith)))
 
   pub edge-link : (x y k : ℕ) → k < g .count → Alike x y (one g k) (two g k) → Link (pairs g) x y
   edge-link x y k h (inl e) = inl (rw (e .0, e .1) (edge-pair k h))
@@ -187,13 +189,15 @@ module _ {g : Graph} {n : ℕ} {d : ℕ → ℕ → ℕ} {pins : List ℕ} (s : 
   sized-after k = sized-rounds g (from 0 (g .count)) n first sized-first k
 
   -- what the link of x and y offers x is met by the next pass
-  link-meets : (k x y : ℕ) → Link (pairs g) x y → Best (relax g (from 0 (g .count)) (after k)) x (far (after k) y + d x y) (root (after k) y)
+  link-meets : (k x y : ℕ) → Link (pairs g) x y → Best (relax g (from 0 (g .count)) (after k)) x (far (after k) y + d x y)
+      (root (after k) y)
   link-meets k x y l = let j = joint x y l in at (j .edge) (j .inside) (j .measured) (j .ends-are)
     where
       at : (e : ℕ) → e < g .count → d x y ≡ len g e → Alike x y (one g e) (two g e) →
           Best (relax g (from 0 (g .count)) (after k)) x (far (after k) y + d x y) (root (after k) y)
       at e h m a =
-          let r = relax-meets g n (from 0 (g .count)) (after k) (sized-after k) all-within e (in-from 0 (g .count) e (omega arith) (omega arith)) in
+          let r = relax-meets g n (from 0 (g .count)) (after k) (sized-after k) all-within e
+          (in-from 0 (g .count) e (omega arith) (omega arith)) in
           either (λ c. rw (m, c .0, c .1) (r .1)) (λ c. rw (m, c .0, c .1) (r .0)) a
 
   enough : (k : ℕ) {x p : ℕ} {ps : List ℕ} → Way (pairs g) x ps p → p ∈ pins → length ps ≤ k → Best (after k) x (long d x ps) p
@@ -334,7 +338,7 @@ module _ {g : Graph} {n : ℕ} {d : ℕ → ℕ → ℕ} {pins : List ℕ} (s : 
         s .vertices,
       )
 
-  -- "The root of a vertex is its nearest pin along the graph, the smallest on a tie."
+  -- T6: the root is the nearest pin along the graph, of several the smallest
   pub record NearestPin (v f r : ℕ) : Type 0 where
     pub is-reached : Reached v f r
     pub nearest : (p : ℕ) (ps : List ℕ) → p ∈ pins → Way (pairs g) v ps p → f ≤ long d v ps

@@ -27,7 +27,11 @@ pub lex-same : {f r g s : ℕ} → f ≡ g → r ≡ s → Lex f r g s
 lex-same e h = (omega arith, λ k. omega arith)
 
 pub lex-then : {f r g s h q : ℕ} → Lex f r g s → Lex g s h q → Lex f r h q
-lex-then {f} {r} {g} {s} {h} {q} a b = (omega (arith, a .0, b .0), λ k. both (a .1 (omega (arith, a .0, b .0))) (b .1 (omega (arith, a .0, b .0))))
+lex-then {f} {r} {g} {s} {h} {q} a b = (
+  omega (arith, a .0, b .0),
+  λ k. both (a .1 (omega (arith, a .0, b .0)))
+      (b .1 (omega (arith, a .0, b .0))),
+)
   where
     both : r ≤ s → s ≤ q → r ≤ q
     both c d = omega arith
@@ -171,7 +175,8 @@ module _ (g : Graph) (n : ℕ) where
 
   -- what edge j offers is met
   abbrev Met : Labels → Labels → ℕ → Type 0
-  Met T t j = (Best T (two g j) (far t (one g j) + len g j) (root t (one g j))) × (Best T (one g j) (far t (two g j) + len g j) (root t (two g j)))
+  Met T t j = (Best T (two g j) (far t (one g j) + len g j) (root t (one g j)))
+      × (Best T (one g j) (far t (two g j) + len g j) (root t (two g j)))
 
   pub relax-meets : (ks : List ℕ) (t : Labels) → Sized n t → Within g n ks → (j : ℕ) → j ∈ ks → Met (relax g ks t) t j
   unfolding relax

@@ -26,11 +26,11 @@ use Rattle.joined.specs.Keep.{Offered, Dominated, kept}
 use Rattle.joined.specs.Path.{TerminalPath, endsOf, lengthOf}
 use Rattle.joined.specs.Chain.{Chain, Joining, OurWay}
 use Rattle.joined.proofs.JoinedLaws.{turn, one as one-link, then, back, between, firsts, seconds, more}
-use Rattle.joined.proofs.WayLaws.{joined-way, way-more, turned-way, turned-long, turned-on, turned-once, of-turned-way}
+use Rattle.joined.proofs.WayLaws.{joined-way, way-more, turned-way, turned-long, turned-on, turned-back, turned-once, of-turned-way}
 use Rattle.joined.proofs.LightLaws.{in-light, of-light}
 use Rattle.joined.proofs.TableLaws.{table-keeps}
 use Rattle.joined.proofs.ShortestLaws.{kept-tree}
-use Rattle.joined.proofs.Ours.{ours-count, ours-joining, our-way, our-way-one, no-shorter, no-longer}
+use Rattle.joined.proofs.Ours.{ours-count, ours-joining, no-shorter, no-longer}
 use Rattle.terminal.specs.Bounds.{pointBound}
 use Rattle.terminal.specs.Edges.{Graph, one, two, len, from}
 use Rattle.terminal.specs.Labels.{Labels, far, root, labelled}
@@ -62,7 +62,7 @@ module _ {g : Graph} {n : ℕ} {d : ℕ → ℕ → ℕ} {pins : List ℕ} (s : 
   path-is k h =
       omega (arith, path-parts g (T .fars) P k, way-length s whole (one g k) (s .one-in k h), way-length s whole (two g k) (s .two-in k h))
 
-  -- "root, way, bridge, way, root"
+  -- T10: from root to root, over both ways and the bridge
   pub record Stands (k : ℕ) : Type 0 where
     pub path : TerminalPath (pairs g) pins
     pub start-is : path .start ≡ root T (one g k)
@@ -70,6 +70,7 @@ module _ {g : Graph} {n : ℕ} {d : ℕ → ℕ → ℕ} {pins : List ℕ} (s : 
     pub points-are : path .points ≡ turned (one g k) (wayPoints s whole (one g k)) (two g k ∷ wayPoints s whole (two g k))
     -- it runs along the edges that make up its length
     pub along : Way (map (ends g) (pathEdges g (T .fars) P k)) (path .start) (path .points) (path .finish)
+    pub each : (j : ℕ) → j ∈ pathEdges g (T .fars) P k → On (one g j) (two g j) (path .start) (path .points)
     pub over-bridge : On (one g k) (two g k) (path .start) (path .points)
     pub length-is : lengthOf d path ≡ weight k
 
@@ -98,6 +99,7 @@ module _ {g : Graph} {n : ℕ} {d : ℕ → ℕ → ℕ} {pins : List ℕ} (s : 
     finish-is = refl;
     points-are = refl;
     along = run;
+    each = steps;
     over-bridge = turned-on (hu .along) (v ∷ wayPoints s whole v) u v (inl (inl (refl, refl)));
     length-is =
         omega (
@@ -149,6 +151,14 @@ module _ {g : Graph} {n : ℕ} {d : ℕ → ℕ → ℕ} {pins : List ℕ} (s : 
           (go (inl bridge)
           (way-more (map-among (ends g) wv (pathEdges g (T .fars) P k) (λ j m. Memᴰ·append-right wu (there m))) (hv .along)))
 
+      steps : (j : ℕ) → j ∈ pathEdges g (T .fars) P k → On (one g j) (two g j) (root T u)
+          (turned u (wayPoints s whole u) (v ∷ wayPoints s whole v))
+      steps j m =
+          either (λ i. turned-back (hu .along) (v ∷ wayPoints s whole v) (one g j) (two g j) (hu .each j i))
+          (λ i. turned-on (hu .along) (v ∷ wayPoints s whole v) (one g j) (two g j)
+          (either (λ q. inl (inl (ap (one g) q, ap (two g) q))) (λ r. inr (hv .each j r)) (List·Memᴰ·cases-cons i)))
+          (List·Memᴰ·append-cases wu m)
+
       ne : root T u ≡ root T v → ⊥
       ne = bridge-roots k e
 
@@ -184,7 +194,8 @@ module _ {g : Graph} {n : ℕ} {d : ℕ → ℕ → ℕ} {pins : List ℕ} (s : 
   -- Domination
 
   -- the roots of two linked vertices are joined by bridges whose paths are no longer than way, link and way
-  across : (t x y : ℕ) → Link (pairs g) x y → far T x + d x y + far T y ≤ t → Joined (map (rootsOf g T) (light weight t L)) (root T x) (root T y)
+  across : (t x y : ℕ) → Link (pairs g) x y → far T x + d x y + far T y ≤ t → Joined (map (rootsOf g T) (light weight t L)) (root T x)
+      (root T y)
   unfolding oneRoot
   across t x y l h = let j = joint s x y l in at (j .edge) (j .inside) (j .measured) (j .ends-are)
     where
@@ -212,7 +223,8 @@ module _ {g : Graph} {n : ℕ} {d : ℕ → ℕ → ℕ} {pins : List ℕ} (s : 
       then (across t x y l (omega (arith, b .0))) (along t (a + d x y) w p (omega (arith, c .0)) (omega arith))
 
   -- bridges no longer than a walk between pins join its ends
-  pub dominated : {p q : ℕ} {ps : List ℕ} → Way (pairs g) p ps q → p ∈ pins → q ∈ pins → Dominated (rootsOf g T) weight L (p, q) (long d p ps)
+  pub dominated : {p q : ℕ} {ps : List ℕ} → Way (pairs g) p ps q → p ∈ pins → q ∈ pins → Dominated (rootsOf g T) weight L (p, q)
+      (long d p ps)
   dominated {p} {q} {ps} w h k =
       let a = pin-label s whole p h in
       let b = pin-label s whole q k in
@@ -236,8 +248,11 @@ module _ {g : Graph} {n : ℕ} {d : ℕ → ℕ → ℕ} {pins : List ℕ} (s : 
     stands = whole .is-pin;
     inside = λ a b m.
         (let r = of-map (rootsOf g T) L m in
-        let h = bridge-is (r .entry) (r .stands) .0 in
-        (rw (firsts (r .is)) (root-pin s whole _ (s .one-in (r .entry) h)), rw (seconds (r .is)) (root-pin s whole _ (s .two-in (r .entry) h))));
+        let h = bridge-is (r .entry) (r .stands) .0 in (
+          rw (firsts (r .is)) (root-pin s whole _ (s .one-in (r .entry) h)),
+          rw (seconds (r .is))
+              (root-pin s whole _ (s .two-in (r .entry) h)),
+        ));
     joins = λ x y i k. joined x y i k;
     rising = ascending-rising;
   }
@@ -271,7 +286,7 @@ module _ {g : Graph} {n : ℕ} {d : ℕ → ℕ → ℕ} {pins : List ℕ} (s : 
   pub kept-stands : (k : ℕ) → k ∈ K → Stands k
   kept-stands k m = let r = of-kept g T P k m in stands k (r .0) (r .1)
 
-  -- "The terminal tree is the m − 1 kept paths."
+  -- T14: m − 1 paths are kept
   pub kept-count : suc (length K) ≡ length pins
   kept-count = rw kept-is (ours-count ℕ-discrete (rootsOf g T) weight offered)
 
@@ -283,18 +298,12 @@ module _ {g : Graph} {n : ℕ} {d : ℕ → ℕ → ℕ} {pins : List ℕ} (s : 
   pub kept-joining : Joining (rootsOf g T) pins K
   kept-joining = rw kept-is (ours-joining ℕ-discrete (rootsOf g T) weight offered)
 
-  -- "Our way between two pins is the chain of kept paths with no path twice": there is one, and only one
-  pub way-between : (x y : ℕ) → x ∈ pins → y ∈ pins → (x ≡ y → ⊥) → (ks : List ℕ) × OurWay (rootsOf g T) K x y ks
-  way-between x y i k e = rw kept-is (our-way ℕ-discrete (rootsOf g T) weight offered x y i k e)
-
-  pub way-only : {x y : ℕ} {js ks : List ℕ} → OurWay (rootsOf g T) K x y js → OurWay (rootsOf g T) K x y ks → js ≡ ks
-  way-only u v = our-way-one ℕ-discrete (rootsOf g T) weight offered (rw kept-is at u) (rw kept-is at v)
-
   terminal-dominated : (c : TerminalPath (pairs g) pins) → Dominated (rootsOf g T) weight L (endsOf c) (lengthOf d c)
   terminal-dominated c = dominated (c .way) (c .start-pin) (c .finish-pin)
 
   -- no joining is shorter than the total that we give, every path counted in full
-  pub none-shorter : (J : List (TerminalPath (pairs g) pins)) → Joining endsOf pins J → terminal g n pins .total ≤ total (map (lengthOf d) J)
+  pub none-shorter : (J : List (TerminalPath (pairs g) pins)) → Joining endsOf pins J → terminal g n pins .total
+      ≤ total (map (lengthOf d) J)
   unfolding terminal keptLengths
   none-shorter J h =
       let r = no-shorter ℕ-discrete (rootsOf g T) weight offered endsOf (lengthOf d) terminal-dominated J h in

@@ -146,7 +146,8 @@ module _ (g : Graph) (t : Labels) (v : ℕ) where
   unfolding through
   through-found k best some =
       by (eqb v (one g k))
-      (λ h. rw (through, h) (nearer-found (two g k) k best (inl (eqb-true v (one g k) h, refl)) (λ u c. other-end u (eqb-true v (one g k) h) c)))
+      (λ h. rw (through, h) (nearer-found (two g k) k best (inl (eqb-true v (one g k) h, refl))
+      (λ u c. other-end u (eqb-true v (one g k) h) c)))
       (λ h. by (eqb v (two g k))
       (λ i.
       rw (through, h, i) (nearer-found (one g k) k best (inr (eqb-true v (two g k) i, refl))

@@ -25,7 +25,8 @@ use Rattle.terminal.proofs.BridgeLaws.{of-bridges}
 use Rattle.terminal.proofs.KeptLaws.{read-listed, entry-listed}
 
 -- labels and parents
-pub staged : (g : Graph) (n : ℕ) (pins : List ℕ) (t₀ t₁ t₂ : Labels) (p₀ p₁ : Parents) → t₀ ≡ unlabelled → p₀ ≡ orphans → t₁ ≡ starts pins t₀ →
+pub staged : (g : Graph) (n : ℕ) (pins : List ℕ) (t₀ t₁ t₂ : Labels) (p₀ p₁ : Parents) → t₀ ≡ unlabelled → p₀ ≡ orphans → t₁
+    ≡ starts pins t₀ →
     t₂ ≡ settled n g (from 0 (g .count)) t₁ → p₁ ≡ adopted g n t₂ p₀ → (t₂ ≡ labelled g n pins) × (p₁ ≡ parented g n (labelled g n pins))
 unfolding labelled parented
 staged g n pins t₀ t₁ t₂ p₀ p₁ a b c d f =
@@ -65,7 +66,8 @@ module _ (g : Graph) (t : Labels) (p : Parents) where
   pub weights-at : Fits g → (k : ℕ) → k < g .count → getD (weights g (t .fars) p) k 0 ≡ pathLength g (t .fars) p k
   unfolding weights
   weights-at fits k h =
-      filled-here (pathLength g (t .fars) p) (g .count) (replicate edgeBound 0) k (omega (arith, fits .count, length-replicate {A = ℕ} edgeBound 0)) h
+      filled-here (pathLength g (t .fars) p) (g .count) (replicate edgeBound 0) k
+      (omega (arith, fits .count, length-replicate {A = ℕ} edgeBound 0)) h
 
   -- the tables that the stages leave
   module _ (fits : Fits g) (w order : List ℕ) (n : ℕ)

@@ -1,4 +1,4 @@
--- Worked nets of document 01 as numbered graphs, and ties: by computing the definitions.
+-- Worked nets (E3, E4, E6) as numbered graphs, and ties: by computing the definitions.
 -- Assumes nothing.
 use mathlib.Core.Path.{_≡_, refl}
 use mathlib.Core.List.{List, [], _∷_}
@@ -38,23 +38,24 @@ pub record Tree : Type 0 where
 
 unfoldable pub tree : Graph → ℕ → List ℕ → Tree
 unfolding
-    labelled settled changes moves relax relaxEdge offer gains better starts parented adopted parent parentAmong through nearer leads filled from
+    labelled settled changes moves relax relaxEdge offer gains better starts parented adopted parent parentAmong through nearer leads
+    filled from
     wayOf way oneRoot path pathLength weights earlier firstThen put sorted those bridgesFrom bridges
     keptBy changed keptBridges keptLengths total terminal
 tree g n pins =
     let r = terminal g n pins in
     record { kept = r .bridges; lengths = r .lengths; total = r .total }
 
--- "Pins (0, 0), (10, 0), macro 4, −2, 6, 3: eight graph edges; one path, bridge (4, −2)–(6, −2), length 14"
+-- E3: eight graph edges; one path, of length 14, below the macro
 unfoldable pub aroundOne : Graph
 aroundOne =
     graph (0 ∷ 0 ∷ 1 ∷ 1 ∷ 2 ∷ 3 ∷ 3 ∷ 4 ∷ []) (1 ∷ 2 ∷ 2 ∷ 3 ∷ 4 ∷ 4 ∷ 5 ∷ 5 ∷ []) (6 ∷ 7 ∷ 5 ∷ 2 ∷ 2 ∷ 5 ∷ 6 ∷ 7 ∷ []) 8
 
--- "Pins (0, 0), (4, 0), (2, 3): terminal 9"; the second path is one of two of length 5
+-- E4: terminal 9; the second path is one of two of length 5
 unfoldable pub threePins : Graph
 threePins = graph (0 ∷ 0 ∷ 1 ∷ []) (1 ∷ 2 ∷ 2 ∷ []) (5 ∷ 4 ∷ 5 ∷ []) 3
 
--- "Pins (0, 1), (1, 1), macro 0, 0, 1, 2: one path, bridge (0, 0)–(1, 0)"; the one along the top is as long
+-- E6: one path, below the macro; the one along the top is as long
 unfoldable pub onSides : Graph
 onSides = graph (0 ∷ 0 ∷ 1 ∷ 2 ∷ 3 ∷ 4 ∷ []) (1 ∷ 3 ∷ 2 ∷ 5 ∷ 4 ∷ 5 ∷ []) (1 ∷ 1 ∷ 1 ∷ 1 ∷ 1 ∷ 1 ∷ []) 6
 

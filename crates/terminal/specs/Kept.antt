@@ -9,16 +9,16 @@ use Rattle.terminal.specs.Labels.{Labels, labelled}
 use Rattle.terminal.specs.Parents.{Parents, parented}
 use Rattle.terminal.specs.Bridges.{rootsOf, pathLength, bridges}
 
--- "One is kept when its two roots are not yet joined by bridges kept before." Pins have the same group when they are joined; at first each
+-- T13: a bridge is kept where those kept before it do not join its two roots. Pins have the same group when they are joined; at first each
 -- vertex is its own group.
 unfoldable pub keptBridges : Graph → Labels → Parents → List ℕ
 keptBridges g t p = keptBy (rootsOf g t) (bridges g t p) (from 0 pointBound)
 
--- "for each kept path its own length, every edge of it counted"
+-- T15: the length of each kept path, every edge of it counted
 unfoldable pub keptLengths : Graph → Labels → Parents → List ℕ
 keptLengths g t p = map (pathLength g (t .fars) p) (keptBridges g t p)
 
--- The labels, the parents, the kept bridges with the lengths of their paths, "and for the total their sum"
+-- The labels, the parents, the kept bridges with the lengths of their paths, and the total, their sum (T16)
 pub record Terminal : Type 0 where
   pub labels : Labels
   pub parents : Parents

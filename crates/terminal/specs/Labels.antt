@@ -1,8 +1,8 @@
 -- Labels: how far each vertex is from its root, and the root.
 --
--- "The root of a vertex is its nearest pin along the graph, the smallest on a tie." They are found by relaxation: each edge offers each of
--- its ends the label of the other one, farther by its length, until a pass over all edges changes nothing. That these are the least length
--- of a walk to a pin, and the smallest pin at that length, is proved in ../proofs/Nearest.antt.
+-- T6: the root is the nearest pin along the graph, of several the smallest. Labels are found by relaxation: each edge offers each of its
+-- ends the label of the other one, farther by its length, until a pass over all edges changes nothing. That these are the least length of a
+-- walk to a pin, and the smallest pin at that length, is proved in ../proofs/Nearest.antt.
 use mathlib.Core.Bool.{Bool, true, false, _||_}
 use mathlib.Core.List.{List, [], _∷_}
 use Prim.Native.Nat.{ℕ, zero, suc, _+_, _≤_}

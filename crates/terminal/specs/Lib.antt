@@ -3,7 +3,7 @@
 -- A vertex is its number in the order of places, and an edge its number in the order of edges: so the order of numbers is the order of
 -- places, and every tie is settled by the smaller number. A graph is three tables, the two ends of each edge and its length. Labels,
 -- parents and path lengths are tables too, by vertex or by edge. The definitions are ways of computing on these tables, the same that the
--- code goes; what they say in the words of document 01 is proved beside them, in ../proofs: that labels are nearest pins (Nearest), that
+-- code goes; that they are what rules T6 to T16 say is proved beside them, in ../proofs: that labels are nearest pins (Nearest), that
 -- parents are the smallest neighbours on shortest ways and lead to the root (Homeward), that kept bridges stand for terminal paths, join
 -- the pins, and do so with the least length (OurTree).
 --

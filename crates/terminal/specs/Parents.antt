@@ -1,6 +1,6 @@
 -- Parents, and the way to the root.
 --
--- "Its parent, where it is no pin, is the smallest neighbour with the same root through which a shortest way to that root runs."
+-- T7: the parent of a vertex that is no pin is its smallest neighbour on a shortest way to the same root.
 -- Through w a shortest way of v runs when w has v's root and w's distance with the edge between them is v's distance. Pins have no parent:
 -- none of their neighbours is nearer.
 use mathlib.Core.Path.{_≡_}
@@ -68,7 +68,7 @@ adopted g n t p = parents (filled (λ v. parent g t v .to) 0 n (p .ups)) (filled
 unfoldable pub parented : Graph → ℕ → Labels → Parents
 parented g n t = adopted g n t orphans
 
--- "A vertex's way to its root follows parents until the root": the edges on it, n at most
+-- T8: a way goes from parent to parent and ends at the root: the edges on it, n at most
 unfoldable pub wayOf : Parents → ℕ → ℕ → List ℕ
 wayOf p zero v = []
 wayOf p (suc n) v = elim (ltb (up p v) pointBound) [ true ↦ via p v ∷ wayOf p n (up p v) | false ↦ [] ]

@@ -5,6 +5,4 @@ pub mod UnionTree
 pub mod WorkedUnions
 pub mod PlacedLaws
 pub mod UnionSound
-pub mod UnionOrder
 pub mod WorkedStart
-pub mod UnionSentences

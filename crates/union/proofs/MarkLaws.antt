@@ -66,7 +66,8 @@ module _ (xs : List ℕ) (i m : ℕ) (t all : List ℕ) (p : marked (entries xs 
 
 -- a piece for each entry of a table
 module _ (piece : ℕ → List ℕ) (xs : List ℕ) (i m : ℕ) (t all : List ℕ) (p : marked (flat piece (entries xs i (m - i))) t ≡ all) where
-  pub piece-marked : (t′ : List ℕ) → i < m → t′ ≡ marked (piece (getD xs i 0)) t → marked (flat piece (entries xs (i + 1) (m - (i + 1)))) t′ ≡ all
+  pub piece-marked : (t′ : List ℕ) → i < m → t′ ≡ marked (piece (getD xs i 0)) t →
+      marked (flat piece (entries xs (i + 1) (m - (i + 1)))) t′ ≡ all
   unfolding flat
   piece-marked t′ h e =
       ap (marked (flat piece (entries xs (i + 1) (m - (i + 1))))) e
@@ -107,7 +108,8 @@ pub those-append : (f : ℕ → Bool) (l m : List ℕ) → those f (l ++ m) ≡ 
 those-append f [] m = sym (ap (λ (r : List ℕ). r ++ those f m) (those-none f))
 those-append f (x ∷ l) m =
     by (f x)
-    (λ e. those-hit f x (l ++ m) e ∙ ap (λ (r : List ℕ). x ∷ r) (those-append f l m) ∙ ap (λ (r : List ℕ). r ++ those f m) (sym (those-hit f x l e)))
+    (λ e. those-hit f x (l ++ m) e ∙ ap (λ (r : List ℕ). x ∷ r) (those-append f l m) ∙ ap (λ (r : List ℕ). r ++ those f m)
+    (sym (those-hit f x l e)))
     (λ e. those-miss f x (l ++ m) e ∙ those-append f l m ∙ ap (λ (r : List ℕ). r ++ those f m) (sym (those-miss f x l e)))
 
 module _ (t : List ℕ) (n : ℕ) where

@@ -35,7 +35,8 @@ use Rattle.refined.specs.Places.{endsOf}
 use Rattle.union.specs.Union.{keyIn}
 
 -- the i-th place of a table that begins with some places
-pub place-at : (ps : List Place) (lent : List ℤ) (i : ℕ) → i < length ps → placeAt (over (flat placeNumbers ps) lent) i ≡ getD ps i (place (pos 0) (pos 0))
+pub place-at : (ps : List Place) (lent : List ℤ) (i : ℕ) → i < length ps → placeAt (over (flat placeNumbers ps) lent) i
+    ≡ getD ps i (place (pos 0) (pos 0))
 place-at ps lent i h =
     sym (entry-at placeFrom 2 (over (flat placeNumbers ps) lent) (length ps) i (place (pos 0) (pos 0)) h)
     ∙ ap (λ (l : List Place). getD l i (place (pos 0) (pos 0))) (entries-over placeNumbers placeFrom 2 place-width ps lent (length ps) refl)
@@ -72,7 +73,8 @@ below-total f (x ∷ l) = first (λ i. f (getD (x ∷ l) i 0)) (length l) ∙ ap
     first h zero = refl
     first h (suc n) = omega (arith, first h n)
 
-module _ (places : ℕ → Place) (g : Graph) (W E : List ℕ) (ascending : Ascending ltb W) (few : length W ≤ pointBound) (fewer : length E ≤ pointBound)
+module _ (places : ℕ → Place) (g : Graph) (W E : List ℕ) (ascending : Ascending ltb W) (few : length W ≤ pointBound)
+    (fewer : length E ≤ pointBound)
     (one-at : (k : ℕ) → k ∈ E → one g k ∈ W) (two-at : (k : ℕ) → k ∈ E → two g k ∈ W) where
   abbrev pub pointTable : List ℤ
   pointTable = over (flat placeNumbers (map places W)) (replicate (pointBound * 2) (pos 0))
@@ -83,7 +85,13 @@ module _ (places : ℕ → Place) (g : Graph) (W E : List ℕ) (ascending : Asce
   pub points-length : length pointTable ≡ pointBound * 2
   points-length =
       length-over (flat placeNumbers (map places W)) (replicate (pointBound * 2) (pos 0))
-      (omega (arith, length-flat placeNumbers placeFrom 2 place-width (map places W), length-map W places, length-replicate {A = ℤ} (pointBound * 2) (pos 0)))
+      (omega (
+        arith,
+        length-flat placeNumbers placeFrom 2 place-width (map places W),
+        length-map W places,
+        length-replicate {A = ℤ}
+            (pointBound * 2) (pos 0),
+      ))
       ∙ length-replicate (pointBound * 2) (pos 0)
 
   pub edges-length : length edgeTable ≡ pointBound
@@ -125,7 +133,8 @@ module _ (places : ℕ → Place) (g : Graph) (W E : List ℕ) (ascending : Asce
   -- edges
   pub key-at : (i : ℕ) → i < length E → getD edgeTable i 0 ≡ keyIn W (one g (getD E i 0)) (two g (getD E i 0))
   key-at i h =
-      getD-over (map (λ k. keyIn W (one g k) (two g k)) E) (replicate pointBound 0) i 0 (omega (arith, length-map E (λ k. keyIn W (one g k) (two g k))))
+      getD-over (map (λ k. keyIn W (one g k) (two g k)) E) (replicate pointBound 0) i 0
+      (omega (arith, length-map E (λ k. keyIn W (one g k) (two g k))))
       ∙ getD-map (λ k. keyIn W (one g k) (two g k)) E i 0 0 h
 
   pub first-at : (i : ℕ) → i < length E → endsOf pointTable (getD edgeTable i 0) .0 ≡ places (one g (getD E i 0))
@@ -147,7 +156,10 @@ module _ (places : ℕ → Place) (g : Graph) (W E : List ℕ) (ascending : Asce
       ∙ point-of (two g k) (two-at k m)
 
   pub keys-within : 1 ≤ length W → Within (length W) edgeTable
-  keys-within some = record { ends = λ i. by (ltb i (length E)) (λ t. written i (ltb-true i (length E) t)) (λ t. empty i (ltb-false i (length E) t)) }
+  keys-within some = record {
+    ends = λ i. by (ltb i (length E)) (λ t. written i (ltb-true i (length E) t))
+        (λ t. empty i (ltb-false i (length E) t));
+  }
     where
       written : (i : ℕ) → i < length E → In (length W) (getD edgeTable i 0)
       written i h =

@@ -85,7 +85,8 @@ map-agree f h (k ∷ l) a = ap₂ (λ (x : _) (r : List _). x ∷ r) (a k (here 
 -- Ranks
 
 -- the marked numbers below v, then v, then those above it
-parts : (t : List ℕ) (v n : ℕ) → v < n → isMarked t v ≡ true → marks t n ≡ marks t v ++ (v ∷ those (isMarked t) (from (v + 1) (n - (v + 1))))
+parts : (t : List ℕ) (v n : ℕ) → v < n → isMarked t v ≡ true → marks t n ≡ marks t v
+    ++ (v ∷ those (isMarked t) (from (v + 1) (n - (v + 1))))
 unfolding marks
 parts t v n h e =
     ap (λ (m : ℕ). those (isMarked t) (from 0 m)) (let q : n ≡ v + (n - v) = omega arith in q)
@@ -104,7 +105,8 @@ rank-position t v n h e =
     let at : getD (marks t n) (length (marks t v)) 0 ≡ v =
     ap (λ (l : List ℕ). getD l (length (marks t v)) 0) (parts t v n h e)
     ∙ getD-at (marks t v) v (those (isMarked t) (from (v + 1) (n - (v + 1)))) 0 (length (marks t v)) refl in
-    ap (position ltb (marks t n)) (sym at) ∙ position-at ltb number-order (marks t n) (marks-ascending t n) (length (marks t v)) 0 (marks-room t v n h e)
+    ap (position ltb (marks t n)) (sym at) ∙ position-at ltb number-order (marks t n) (marks-ascending t n) (length (marks t v)) 0
+    (marks-room t v n h e)
 
 -- The stages
 
@@ -155,7 +157,8 @@ module _ (g : Graph) (fars : List ℕ) (p : Parents) (ks : List ℕ) (n : ℕ) (
         (λ k m.
         let h = union-below k m in
         ap₂ key
-        (rank-of (one g k) (one-in k h) (Memᴰ·append-right pins (in-flat (bothEnds (g .ones) (g .twos)) (unionEdges g fars p ks) m (here refl))))
+        (rank-of (one g k) (one-in k h) (Memᴰ·append-right pins
+        (in-flat (bothEnds (g .ones) (g .twos)) (unionEdges g fars p ks) m (here refl))))
         (rank-of (two g k) (two-in k h)
         (Memᴰ·append-right pins (in-flat (bothEnds (g .ones) (g .twos)) (unionEdges g fars p ks) m (there (here refl))))))
 
@@ -170,7 +173,8 @@ module _ (g : Graph) (fars : List ℕ) (p : Parents) (ks : List ℕ) (n : ℕ) (
     started places lent pts lent′ keys points edges fresh fresh′ count written count′ written′ =
         let i : pts ≡ over (flat placeNumbers (map places (unionPoints g fars p ks n pins))) (replicate (refined.pointBound * 2) (pos 0)) =
         written ∙ ap₂ (λ (l : List ℕ) (r : List ℤ). over (flat placeNumbers (map places l)) r) points-are fresh in
-        let j : keys ≡ over (map (λ k. keyIn (unionPoints g fars p ks n pins) (one g k) (two g k)) (unionEdges g fars p ks)) (replicate refined.pointBound 0) =
+        let j : keys ≡ over (map (λ k. keyIn (unionPoints g fars p ks n pins) (one g k) (two g k)) (unionEdges g fars p ks))
+        (replicate refined.pointBound 0) =
         written′ ∙ ap₂ (λ (l r : List ℕ). over l r) keys-are fresh′ in
         let q : points ≡ length (unionPoints g fars p ks n pins) = count ∙ ap length points-are in
         let r : edges ≡ length (unionEdges g fars p ks) = count′ ∙ ap length edges-are in

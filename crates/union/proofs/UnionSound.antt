@@ -1,5 +1,5 @@
--- The union of the kept paths of an allowed net is a sound start for the refiner: one tree over its points in order, with all pins and every
--- edge clear and in order; it has no more metal to lay than the terminal tree, and leaves room for a point a round.
+-- The union of the kept paths of an allowed net is a sound start for the refiner: one tree over its points in order, with all pins and
+-- every edge clear and in order; it has no more metal to lay than the terminal tree, and leaves room for a point a round.
 -- Assumes nothing.
 use mathlib.Core.Path.{_≡_, refl, sym, ap, ap₂, _∙_}
 use mathlib.Core.Bool.{true}
@@ -56,7 +56,8 @@ use Rattle.refined.proofs.SumLaws.{below-same}
 use Rattle.refined.proofs.RefinedSound.{refined-promise, refined-tabled}
 use Rattle.union.specs.Union.{stands, bothEnds, keptEdges, unionEdges, unionPoints, startOf, unionOf}
 use Rattle.union.proofs.StandsLaws.{picked-ascending}
-use Rattle.union.proofs.UnionTree.{pin-point, first-point, second-point, point-inside, edge-inside, union-size, union-tree, union-total}
+use Rattle.union.proofs.UnionTree.{pin-point, first-point, second-point, point-inside, edge-inside, union-size, union-tree}
+use Rattle.union.proofs.UnionTree.{union-total}
 use Rattle.union.proofs.PlacedLaws.{
   pointTable,
   edgeTable,
@@ -138,7 +139,8 @@ module _ {ps : List Place} {ms : List Macro} (a : Allowed ps ms) where
 
   union-ascending : Ascending ltb E
   unfolding unionEdges
-  union-ascending = picked-ascending (λ k. stands k (keptEdges g (treeOf ps ms .labels .fars) (treeOf ps ms .parents) (treeOf ps ms .bridges))) (g .count)
+  union-ascending = picked-ascending (λ k. stands k
+      (keptEdges g (treeOf ps ms .labels .fars) (treeOf ps ms .parents) (treeOf ps ms .bridges))) (g .count)
 
   few-points : length W ≤ n
   unfolding unionPoints
@@ -148,7 +150,8 @@ module _ {ps : List Place} {ms : List Macro} (a : Allowed ps ms) where
   room = omega (arith, few-points, few-vertices a)
 
   -- the refiner's tables have room for the edges
-  pub union-less : length (unionEdges (graphOf ps ms) (treeOf ps ms .labels .fars) (treeOf ps ms .parents) (treeOf ps ms .bridges)) ≤ pointBound
+  pub union-less : length (unionEdges (graphOf ps ms) (treeOf ps ms .labels .fars) (treeOf ps ms .parents) (treeOf ps ms .bridges))
+      ≤ pointBound
   union-less = omega (arith, room, number-size)
 
   -- By places
@@ -178,7 +181,12 @@ module _ {ps : List Place} {ms : List Macro} (a : Allowed ps ms) where
       rw (point i (omega arith), point j f) (vertex-order vs (vertices-ascending ps ms) u v x y ∙ lt-ltb u v l)
 
   edge-of : (k : ℕ) → k ∈ E → (i : ℕ) × (i < length E) × (getD E i 0 ≡ k)
-  edge-of k m = (position ltb E k, position-small ltb number-order E union-ascending k m, at-position ltb number-order E union-ascending k 0 m)
+  edge-of k m = (
+    position ltb E k,
+    position-small ltb number-order E union-ascending k m,
+    at-position ltb number-order E union-ascending k
+        0 m,
+  )
 
   abbrev links : List (Place × Place)
   links = edgesOf points keys (length E)
@@ -228,7 +236,8 @@ module _ {ps : List Place} {ms : List Macro} (a : Allowed ps ms) where
       let i = pin-at v (pin-number-in vs ps p m) in
       let q = position ltb W v in
       Memᴰ·cast
-      (sym (point-of at g W E points-ascending room union-less one-at two-at v i ∙ vertex-of-number vs (vertices-ascending ps ms) p (pin-vertex ps ms m)))
+      (sym (point-of at g W E points-ascending room union-less one-at two-at v i ∙ vertex-of-number vs (vertices-ascending ps ms) p
+      (pin-vertex ps ms m)))
       (in-listing (placeAt points) (length W) q (position-small ltb number-order W points-ascending v i))
 
   -- the union is a tree over its points in order, with all pins, every edge clear
@@ -255,7 +264,8 @@ module _ {ps : List Place} {ms : List Macro} (a : Allowed ps ms) where
         (sym (vertex-order vs (vertices-ascending ps ms) (one g k) (two g k) (setting a .one-in k c) (setting a .two-in k c))
         ∙ ap₂ before (one-vertex a k c) (two-vertex a k c) ∙ edge-at a k c .smaller-first)
 
-  edge-cases : (e f : Place × Place) → beforeEdge e f ≡ true → (before (e .0) (f .0) ≡ true) ⊎ ((e .0 ≡ f .0) × (before (e .1) (f .1) ≡ true))
+  edge-cases : (e f : Place × Place) → beforeEdge e f ≡ true → (before (e .0) (f .0) ≡ true)
+      ⊎ ((e .0 ≡ f .0) × (before (e .1) (f .1) ≡ true))
   unfolding beforeEdge firstThen
   edge-cases e f h =
       by (before (e .0) (f .0)) inl
@@ -299,7 +309,7 @@ module _ {ps : List Place} {ms : List Macro} (a : Allowed ps ms) where
   unfolding rank
   rises = position-rises at g W E points-ascending room union-less one-at two-at
 
-  -- "An edge is written smaller place first; edges are ordered by first place, then second"
+  -- N16: the smaller place comes first, and edges are in order
   pub union-ranked : Ranked (unionOf ps ms .edges .keys) (unionOf ps ms .edges .size)
   unfolding unionOf startOf
   union-ranked = record { upward = over; rising = after }
@@ -364,3 +374,27 @@ module _ {ps : List Place} {ms : List Macro} (a : Allowed ps ms) where
 
   pub union-tabled : Tabled ps (unionOf ps ms) (refined ms ps (unionOf ps ms))
   union-tabled = refined-tabled ms ps (unionOf ps ms) union-sound union-room union-points union-keys union-ranked
+
+  -- its edges are those of the graph that stand in the union
+  abbrev pub unionList : List ℕ
+  unionList = unionEdges (graphOf ps ms) (treeOf ps ms .labels .fars) (treeOf ps ms .parents) (treeOf ps ms .bridges)
+
+  edge-is : (i : ℕ) → i < length E → endsOf points (getD keys i 0) ≡ edgeAt (spanning ps ms) (getD E i 0)
+  edge-is i h =
+      let c = edge-below (getD E i 0) (getD-in E i 0 h) in
+      ap₂ (λ (x y : Place). (x, y)) (first i h ∙ one-vertex a (getD E i 0) c) (second i h ∙ two-vertex a (getD E i 0) c)
+
+  pub union-edge : (e : Place × Place) → e ∈ edgesOf (unionOf ps ms .points) (unionOf ps ms .edges .keys) (unionOf ps ms .edges .size) →
+      (k : ℕ) × ((k ∈ unionList) × (e ≡ edgeAt (spanning ps ms) k))
+  unfolding unionOf startOf
+  union-edge e m =
+      let r = of-listing (λ j. endsOf points (getD keys j 0)) (length E) e m in
+      (getD E (r .0) 0, (getD-in E (r .0) 0 (r .1 .0), r .1 .1 ∙ edge-is (r .0) (r .1 .0)))
+
+  pub union-has : (k : ℕ) → k ∈ unionList → edgeAt (spanning ps ms) k ∈ edgesOf (unionOf ps ms .points) (unionOf ps ms .edges .keys)
+      (unionOf ps ms .edges .size)
+  unfolding unionOf startOf
+  union-has k m =
+      let i = edge-of k m in
+      Memᴰ·cast (ap (edgeAt (spanning ps ms)) (sym (i .2)) ∙ sym (edge-is (i .0) (i .1)))
+      (in-listing (λ j. endsOf points (getD keys j 0)) (length E) (i .0) (i .1))

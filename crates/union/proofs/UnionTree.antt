@@ -5,7 +5,8 @@
 use mathlib.Core.Path.{_≡_, refl, sym, ap, ap₂, _∙_, subst}
 use mathlib.Core.Bool.{false, not}
 use mathlib.Core.Logic.{_⊎_, inl, inr}
-use mathlib.Core.List.{List, [], _∷_, _++_, map, List·Memᴰ·cases-cons, List·Memᴰ·append-cases, Memᴰ·cast, Memᴰ·append-left, Memᴰ·append-right}
+use mathlib.Core.List.{List, [], _∷_, _++_, map, List·Memᴰ·cases-cons, List·Memᴰ·append-cases, Memᴰ·cast, Memᴰ·append-left}
+use mathlib.Core.List.{Memᴰ·append-right}
 use Prim.Native.Nat.{ℕ, zero, suc, _+_, _≤_, _<_}
 use native.Mathlib.Decide.{ℕ-discrete}
 use native.Mathlib.Omega.{arith}
@@ -55,21 +56,22 @@ module _ {g : Graph} {n : ℕ} {d : ℕ → ℕ → ℕ} {pins : List ℕ} (s : 
   abbrev P : Parents
   P = parented g n (labelled g n pins)
 
-  abbrev K : List ℕ
+  abbrev pub K : List ℕ
   K = keptBridges g (labelled g n pins) (parented g n (labelled g n pins))
 
   -- the edges and the points of the union
   abbrev pub E : List ℕ
-  E = unionEdges g (labelled g n pins .fars) (parented g n (labelled g n pins)) (keptBridges g (labelled g n pins) (parented g n (labelled g n pins)))
+  E = unionEdges g (labelled g n pins .fars) (parented g n (labelled g n pins))
+      (keptBridges g (labelled g n pins) (parented g n (labelled g n pins)))
 
   abbrev pub W : List ℕ
   W = unionPoints g (labelled g n pins .fars) (parented g n (labelled g n pins))
       (keptBridges g (labelled g n pins) (parented g n (labelled g n pins))) n pins
 
-  abbrev home : ℕ → List ℕ
+  abbrev pub home : ℕ → List ℕ
   home v = way (labelled g n pins .fars) (parented g n (labelled g n pins)) v
 
-  abbrev walk : ℕ → List ℕ
+  abbrev pub walk : ℕ → List ℕ
   walk k = path g (labelled g n pins .fars) (parented g n (labelled g n pins)) k
 
   -- Ways, edge by edge
@@ -87,7 +89,8 @@ module _ {g : Graph} {n : ℕ} {d : ℕ → ℕ → ℕ} {pins : List ℕ} (s : 
 
   nearer : (v : ℕ) → v < n → (v ∈ pins → ⊥) → far T (up P v) < far T v
   nearer v h m =
-      nearer-by (g .lengths) (T .fars) P falling v (omega (arith, s .vertices)) (omega (arith, parent-is s whole v h m .inside, s .vertices))
+      nearer-by (g .lengths) (T .fars) P falling v (omega (arith, s .vertices))
+      (omega (arith, parent-is s whole v h m .inside, s .vertices))
 
   -- an edge of a way leads from one of its vertices, no pin, to that vertex's parent, and the way goes on as that vertex's own
   record Step (u k : ℕ) : Type 0 where
@@ -128,20 +131,20 @@ module _ {g : Graph} {n : ℕ} {d : ℕ → ℕ → ℕ} {pins : List ℕ} (s : 
 
   -- Edges of the union
 
-  in-union : (k j : ℕ) → k < g .count → j ∈ K → k ∈ walk j → k ∈ E
+  pub in-union : (k j : ℕ) → k < g .count → j ∈ K → k ∈ walk j → k ∈ E
   unfolding unionEdges keptEdges
   in-union k j h m i =
       in-those (λ e. stands e (flat walk K)) (from 0 (g .count)) (in-from 0 (g .count) k (omega arith) (omega arith))
       (in-stands k (flat walk K) (in-flat walk K m i))
 
   -- edge k is on the path of a kept bridge
-  record OnKept (k : ℕ) : Type 0 where
-    inside : k < g .count
-    bridge : ℕ
-    kept : bridge ∈ K
-    on : k ∈ walk bridge
+  pub record OnKept (k : ℕ) : Type 0 where
+    pub inside : k < g .count
+    pub bridge : ℕ
+    pub kept : bridge ∈ K
+    pub on : k ∈ walk bridge
 
-  of-union : (k : ℕ) → k ∈ E → OnKept k
+  pub of-union : (k : ℕ) → k ∈ E → OnKept k
   unfolding unionEdges keptEdges
   of-union k m =
       let r = of-those (λ e. stands e (flat walk K)) (from 0 (g .count)) m in
@@ -153,15 +156,15 @@ module _ {g : Graph} {n : ℕ} {d : ℕ → ℕ → ℕ} {pins : List ℕ} (s : 
     inside-kept : j < g .count
     inside-kept = of-kept g T P j m .0
 
-    bridge-in : j ∈ E
+    pub bridge-in : j ∈ E
     unfolding path
     bridge-in = in-union j j inside-kept m (Memᴰ·append-right (home (one g j)) (here refl))
 
-    one-in : Among (home (one g j)) E
+    pub one-in : Among (home (one g j)) E
     unfolding path
     one-in k i = in-union k j (way-home s whole (one g j) (s .one-in j inside-kept) .inside k i) m (Memᴰ·append-left (j ∷ home (two g j)) i)
 
-    two-in : Among (home (two g j)) E
+    pub two-in : Among (home (two g j)) E
     unfolding path
     two-in k i =
         in-union k j (way-home s whole (two g j) (s .two-in j inside-kept) .inside k i) m (Memᴰ·append-right (home (one g j)) (there i))

@@ -79,7 +79,8 @@ module _ {ps : List Place} {ms : List Macro} (a : Allowed ps ms) {lent t : Table
   unfolding unionOf
   worked-start =
       rw (w .graph-is, w .vertex-count, far-is, w .parents-are, read-listed _ _ _ _ (w .bridges-are), read-listed _ _ _ _ (w .pins-are))
-      (start-agree g (treeOf ps ms .labels .fars) (treeOf ps ms .parents) (treeOf ps ms .bridges) (placeAt (t .points)) (vertexAt (vertices ps ms)) n
+      (start-agree g (treeOf ps ms .labels .fars) (treeOf ps ms .parents) (treeOf ps ms .bridges) (placeAt (t .points))
+      (vertexAt (vertices ps ms)) n
       (pinNumbers (vertices ps ms) ps)
       (λ v m.
       ap (λ (l : List ℤ). placeAt l v) (w .vertices-are) ∙ place-at (vertices ps ms) (lent .points) v (union-below a v m)))

@@ -1,4 +1,4 @@
--- The unions of the kept paths of document 01's worked nets, by computing the definitions.
+-- The unions of the kept paths of worked nets, by computing the definitions.
 -- Assumes nothing.
 use mathlib.Core.Path.{_≡_, refl}
 use mathlib.Core.List.{List, [], _∷_}
@@ -37,7 +37,11 @@ shown t = (take (t .count * 2) (t .points), take (t .edges .size) (t .edges .key
 
 -- the union of a net; to unfold this is to unfold all that it rests on
 unfoldable pub union : Lists → List ℤ × List ℕ
-unfolding any put sorted firstThen position those total minZ maxZ over flat changed keptBy before apart distance spanMeets meets clear placesOf macrosOf cornersOf corners vertices within nearerPlace betterPick pickFrom pick edgeOf beforeEdge edgeOfPick picksOf allPicks edges from filled better gains offer relaxEdge moves relax changes settled starts labelled leads nearer through parentAmong parent adopted parented wayOf way oneRoot path pathLength weights earlier bridgesFrom bridges keptBridges keptLengths terminal numbered pinNumbers treeOf stands keptEdges unionEdges unionPoints startOf unionOf shown
+unfolding any put sorted firstThen position those total minZ maxZ over flat changed keptBy before apart distance spanMeets meets clear
+    placesOf macrosOf cornersOf corners vertices within nearerPlace betterPick pickFrom pick edgeOf beforeEdge edgeOfPick picksOf allPicks
+    edges from filled better gains offer relaxEdge moves relax changes settled starts labelled leads nearer through parentAmong parent
+    adopted parented wayOf way oneRoot path pathLength weights earlier bridgesFrom bridges keptBridges keptLengths terminal numbered
+    pinNumbers treeOf stands keptEdges unionEdges unionPoints startOf unionOf shown
 union net = shown (unionOf (placesOf (net .pins)) (macrosOf (net .macros)))
 
 -- A graph whose kept paths share an edge: the pins 0, 2 and 3 hang on the vertex 1, 1 away from pin 0 and 5 from the others. The tree's
@@ -47,7 +51,9 @@ star = graph (0 ∷ 1 ∷ 1 ∷ []) (1 ∷ 2 ∷ 3 ∷ []) (1 ∷ 5 ∷ 5 ∷ []
 
 -- its kept paths' edges one path after the other, those of the union, and its points
 unfoldable pub shared : List ℕ × List ℕ × List ℕ
-unfolding star any put sorted firstThen those total flat changed keptBy from filled better gains offer relaxEdge moves relax changes settled starts labelled leads nearer through parentAmong parent adopted parented wayOf way oneRoot path pathLength weights earlier bridgesFrom bridges keptBridges keptLengths terminal stands keptEdges unionEdges unionPoints
+unfolding star any put sorted firstThen those total flat changed keptBy from filled better gains offer relaxEdge moves relax changes
+    settled starts labelled leads nearer through parentAmong parent adopted parented wayOf way oneRoot path pathLength weights earlier
+    bridgesFrom bridges keptBridges keptLengths terminal stands keptEdges unionEdges unionPoints
 shared =
     let pins : List ℕ = 0 ∷ 2 ∷ 3 ∷ [] in
     let t = terminal star 4 pins in (
@@ -57,14 +63,14 @@ shared =
     )
 
 pub record Table : Type 0 where
-  -- "One pin (5, 5): no edges": its one point is the pin
+  -- E1: no edges; its one point is the pin
   pub one-pin : union onePin ≡ (pos 5 ∷ pos 5 ∷ [], [])
   pub three-pins : union threePins ≡ (pos 0 ∷ pos 0 ∷ pos 2 ∷ pos 3 ∷ pos 4 ∷ pos 0 ∷ [], key 0 1 ∷ key 0 2 ∷ [])
   -- along the bottom of the macro; the two corners at its top are no points
   pub around-one :
       union aroundOne
       ≡ (pos 0 ∷ pos 0 ∷ pos 4 ∷ negsuc 1 ∷ pos 6 ∷ negsuc 1 ∷ pos 10 ∷ pos 0 ∷ [], key 0 1 ∷ key 1 2 ∷ key 2 3 ∷ [])
-  -- "each edge once": edge 0 is on both kept paths
+  -- R1, each edge once: edge 0 is on both kept paths
   pub shared-edge : shared ≡ (0 ∷ 1 ∷ 0 ∷ 2 ∷ [], 0 ∷ 1 ∷ 2 ∷ [], 0 ∷ 1 ∷ 2 ∷ 3 ∷ [])
 
 pub worked : Table

@@ -1,6 +1,6 @@
--- The tree that refining starts with: document 01, "Start with the union of the kept paths, each edge once."
+-- The tree that refining starts with (R1): the union of the kept paths.
 --
--- Edges and vertices are numbers, as in the terminal tree, so that "each edge once" is a test of each edge in turn: whether it stands among
+-- Edges and vertices are numbers, as in the terminal tree, so that each edge once is a test of each edge in turn: whether it stands among
 -- the edges of the kept paths. The points are the pins and the ends of these edges, so that for one pin the tree is that pin alone. The
 -- refiner wants a point to be where it stands among the points, and an edge to be the key of its ends: the order of numbers is the order of
 -- places, so points and keys come out in order by taking vertices and edges in turn, and nothing is sorted.
@@ -22,7 +22,7 @@
 --   UnionSound   union-sound       that of an allowed net is `Sound`, as the refiner wants it;  union-ranked: its edges are in order
 --                union-metal       its sum of edge lengths is at most the terminal total;  union-room: rounds find room for their points
 --                union-promise     so the refined tree of the net keeps `Promise`;  union-tabled: and `Tabled`
---   UnionSentences   union-takes   each round of the net takes the candidate that document 01 says;  union-left: pruning leaves none
+--   UnionSentences   union-takes   each round of the net takes the candidate that R10 says;  union-left: pruning leaves none
 --   UnionOrder   union-order       it is the same for every order of pins and macros
 --   WorkedStart  worked-startable  the tables of a net's terminal tree are what the code asks for;  worked-start: it makes the net's union
 --                refinable         which is what the refiner asks for

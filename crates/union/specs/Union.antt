@@ -1,4 +1,4 @@
--- The tree that refining starts with: document 01, "Refined tree".
+-- The tree that refining starts with: rules R1 and R2.
 use mathlib.Core.Bool.{Bool}
 use mathlib.Core.List.{List, [], _∷_, _++_, map}
 use Prim.Native.Nat.{ℕ, _*_}
@@ -39,11 +39,11 @@ module _ (g : Graph) (fars : List ℕ) (p : Parents) (ks : List ℕ) where
   unfoldable pub keptEdges : List ℕ
   keptEdges = flat (path g fars p) ks
 
-  -- "Start with the union of the kept paths, each edge once."
+  -- R1: the edges of the kept paths, each once
   unfoldable pub unionEdges : List ℕ
   unionEdges = those (λ k. stands k keptEdges) (from 0 (g .count))
 
-  -- "with the pins and the ends of its edges as points": those of the n vertices
+  -- R2: the pins and the ends of these edges, those of the n vertices
   unfoldable pub unionPoints : ℕ → List ℕ → List ℕ
   unionPoints n pins = those (λ v. stands v (pins ++ flat (bothEnds (g .ones) (g .twos)) unionEdges)) (from 0 n)
 

@@ -129,7 +129,8 @@ fn mark_ends(
     at: &mut [usize; POINTS],
 )
     requires { ⌜ Ends (now ea) (now eb) e ⌝ }
-    ensures { λ _. ⌜ now (at .exit) ≡ marked (flat (bothEnds (now (ea .entry)) (now (eb .entry))) (marks (now (on .entry)) e)) (now (at .entry)) ⌝ }
+    ensures { λ _. ⌜ now (at .exit) ≡ marked (flat (bothEnds (now (ea .entry)) (now (eb .entry))) (marks (now (on .entry)) e))
+        (now (at .entry)) ⌝ }
 {
     let mut k = 0;
     while k < e {
@@ -251,7 +252,8 @@ pub fn start(
     requires { ⌜ Startable (graph (now ea) (now eb) (now el) e) n (now pin) m (now far) (parents (now up) (now via)) (now kept) count ⌝ }
     requires { ⌜ (now pts ≡ replicate (refined.pointBound * 2) (pos 0)) × (now keys ≡ replicate refined.pointBound 0) ⌝ }
     ensures { λ r. ⌜ tree (now (pts .exit)) (r .points) (now (keys .exit)) (r .edges)
-        ≡ startOf (graph (now (ea .entry)) (now (eb .entry)) (now (el .entry)) e) (now (far .entry)) (parents (now (up .entry)) (now (via .entry)))
+        ≡ startOf (graph (now (ea .entry)) (now (eb .entry)) (now (el .entry)) e) (now (far .entry))
+        (parents (now (up .entry)) (now (via .entry)))
         (entries (now (kept .entry)) 0 count) (placeAt (now (vertices .entry))) n (entries (now (pin .entry)) 0 m) ⌝ }
 {
     let mut on = [0usize; EDGES];

@@ -1,5 +1,5 @@
--- The edges of a refined tree as they are given: one tree with all pins, every edge clear, smaller place first and in order, and their sum is
--- the refiner's total. What the refiner promises is said of the same edges read from the other end.
+-- The edges of a refined tree as they are given: one tree with all pins, every edge clear, smaller place first and in order, and their
+-- sum is the refiner's total. What the refiner promises is said of the same edges read from the other end.
 -- Assumes nothing.
 use mathlib.Core.Path.{_≡_, refl, sym, ap, _∙_, subst}
 use mathlib.Core.Bool.{true, false}
@@ -36,9 +36,7 @@ use Rattle.refined.proofs.ListingLaws.{listing-lengths}
 use Rattle.refined.proofs.RoundSound.{metal-of}
 use Rattle.refined.proofs.RefinedSound.{refined-promise, refined-tabled}
 use Rattle.wires.specs.Edges.{edgesFrom, tableEdges, treeEdges}
-use Rattle.wires.specs.Wires.{wires}
 use Rattle.wires.specs.Promise.{Given}
-use Rattle.wires.proofs.WireSound.{wired}
 
 -- The edges of the tables
 
@@ -81,7 +79,8 @@ module _ (pts : List ℤ) (ks : List ℕ) where
   unfolding edgesFrom
   numbered zero i x m = elim m [ ]
   numbered (suc n) i x m =
-      either (λ e. record { number = i; low = omega arith; high = omega arith; is = e }) (λ k. further (numbered n (suc i) x k)) (List·Memᴰ·cases-cons m)
+      either (λ e. record { number = i; low = omega arith; high = omega arith; is = e }) (λ k. further (numbered n (suc i) x k))
+      (List·Memᴰ·cases-cons m)
     where
       further : Numbered (suc i) n x → Numbered i (suc n) x
       further r = record { number = r .number; low = omega (arith, r .low); high = omega (arith, r .high); is = r .is }
@@ -112,7 +111,7 @@ module _ (pts : List ℤ) (ks : List ℕ) where
         rw (firstThen, a, b) (order (secondEnd i) (secondEnd j) (omega (arith, e)) (hj .1)))
 
     module _ (e : ℕ) (ranked : Ranked ks e) where
-      edges-ascending : (m i : ℕ) → i + m ≤ e → Ascending beforeEdge (edgesFrom pts ks i m)
+      pub edges-ascending : (m i : ℕ) → i + m ≤ e → Ascending beforeEdge (edgesFrom pts ks i m)
       unfolding edgesFrom
       edges-ascending zero i h = tt
       edges-ascending (suc m) i h = (
@@ -177,8 +176,3 @@ given-edges ms pins t sound few room rooms ranked pts ks r answer =
     (subst (Promise ms pins t) (sym (answer .whole)) (refined-promise ms pins t sound few room rooms))
     (subst (Tabled pins t) (sym (answer .whole)) (refined-tabled ms pins t sound few room rooms ranked))
     (r .total) (answer .sum)
-
--- the wires of the edges given are clear and, together, as long as the total says
-pub given-wires : {ms : List Macro} {pins : List Place} {t : Tree} {es : List (Place × Place)} {total : ℕ} → Given ms pins t es total
-    → ((w : Place × Place) → w ∈ wires es → clear (w .0) (w .1) ms ≡ true) × (lengths distance (wires es) ≡ total)
-given-wires {ms} {es = es} g = (wired es .free ms (g .free), wired es .long ∙ sym (g .sum))

@@ -1,5 +1,5 @@
--- Edges gone through in the order of their table, each giving some entries into lent space: the start, a turn and the end. What is given for
--- an edge is the edge itself, or its wires.
+-- Edges gone through in the order of their table, each giving some entries into lent space: the start, a turn and the end. What is given
+-- for an edge is the edge itself, or its wires.
 -- Assumes nothing.
 use mathlib.Core.Path.{_≡_, refl, sym, ap, ap₂, _∙_}
 use mathlib.Core.List.{List, [], _∷_, _++_, append-assoc, append-nil}

@@ -1,5 +1,5 @@
--- An edge's wires: horizontal, then vertical, none of length zero, from its smaller place to its larger one within their box, as long as the
--- edge. So wires of edges with clear ends enter no interior, and they are the edges' metal.
+-- An edge's wires: horizontal, then vertical, none of length zero, from its smaller place to its larger one within their box, as long as
+-- the edge. So wires of edges with clear ends enter no interior, and they are the edges' metal.
 -- Assumes nothing.
 use mathlib.Core.Path.{_≡_, refl, sym, ap, ap₂, _∙_, subst}
 use mathlib.Core.Bool.{true}
@@ -19,7 +19,8 @@ use Rattle.plane.specs.Place.{place, before}
 use Rattle.plane.specs.Distance.{distance}
 use Rattle.plane.proofs.PlaceLaws.{before-true}
 use Rattle.plane.proofs.DistanceLaws.{distance-comm, distance-self}
-use Rattle.plane.proofs.BoxLaws.{InBox, first-in-box, last-in-box, clear-within, distance-through}
+use Rattle.plane.specs.Box.{InBox}
+use Rattle.plane.proofs.BoxLaws.{first-in-box, last-in-box, clear-within, distance-through}
 use Rattle.joined.specs.Cost.{lengths}
 use Rattle.joined.proofs.CostLaws.{lengths-append}
 use Rattle.wires.specs.Wires.{drawn, bend, wiresOfEdge, wires}

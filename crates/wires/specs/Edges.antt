@@ -1,4 +1,4 @@
--- The refined tree's edges as they are given: "Edges in order, with their total."
+-- The refined tree's edges as they are given (C66): in order, with their total.
 use mathlib.Core.List.{List, [], _∷_}
 use Prim.Native.Nat.{ℕ, zero, suc}
 use lib.IntN.{ℤ}

@@ -1,4 +1,4 @@
--- The refined tree's edges as they are given, and its wires: document 01, "Wires".
+-- The refined tree's edges as they are given, and its wires: rules W1 to W4.
 --
 -- Edges are read from the refiner's tables in their order, which is the order of edges. The same edges in the theory of the refined tree
 -- are a listing from the last to the first; what is promised there depends on which edges there are, and is carried over.

@@ -13,7 +13,7 @@ use Rattle.plane.specs.declared.Macro.{Macro}
 use Rattle.plane.specs.Place.{before}
 use Rattle.plane.specs.Distance.{distance}
 use Rattle.plane.specs.Macro.{clear}
-use Rattle.plane.proofs.BoxLaws.{InBox}
+use Rattle.plane.specs.Box.{InBox}
 use Rattle.joined.specs.Cost.{lengths}
 use Rattle.joined.specs.OneTree.{OneTree}
 use Rattle.graph.specs.Edges.{beforeEdge}
@@ -36,28 +36,28 @@ Leads a (w ∷ ws) b = (w .0 ≡ a) × Leads (w .1) ws b
 
 -- what is promised of the wires ws of the edge e
 pub record EdgeWires (e : Place × Place) (ws : List (Place × Place)) : Type 0 where
-  -- "a horizontal wire [..] and then a vertical one [..]; one of length zero is left out"
+  -- W2: first across, then up or down; W3: none of length zero
   pub across : List (Place × Place)
   pub up : List (Place × Place)
   pub whole : ws ≡ across ++ up
   pub few : (length across ≤ 1) × (length up ≤ 1)
   pub level : (w : Place × Place) → w ∈ across → Horizontal w
   pub upright : (w : Place × Place) → w ∈ up → Vertical w
-  -- "from its smaller place and then [..] to its larger place", "its start and its end as drawn"
+  -- W2, W4: from the edge's smaller place to its larger one, each wire by its start and its end
   pub leads : Leads (e .0) ws (e .1)
   pub rightward : before (e .0) (e .1) ≡ true → (w : Place × Place) → w ∈ across → ltZ (w .0 .x) (w .1 .x) ≡ true
   -- the wires are the edge's metal
   pub long : lengths distance ws ≡ distance (e .0) (e .1)
-  -- "the edge's wires lie in their box"
+  -- R21: the wires of an edge lie in the box of its ends
   pub inside : (w : Place × Place) → w ∈ ws → InBox (w .0) (e .0) (e .1) × InBox (w .1) (e .0) (e .1)
-  -- "It enters no macro's interior when the two ends of each edge are clear of each other"
+  -- R21: where the ends of the edge are clear of each other, so are those of its wires
   pub free : (ms : List Macro) → clear (e .0) (e .1) ms ≡ true → (w : Place × Place) → w ∈ ws → clear (w .0) (w .1) ms ≡ true
 
 -- what is promised of the wires ws of the edges es
 pub record Wired (es ws : List (Place × Place)) : Type 0 where
   pub few : length ws ≤ 2 * length es
   pub axis : (w : Place × Place) → w ∈ ws → Horizontal w ⊎ Vertical w
-  -- "Metal to lay is the sum of edge lengths"
+  -- R22: the wires are as long as the metal to lay
   pub long : lengths distance ws ≡ lengths distance es
   pub free : (ms : List Macro) → ((e : Place × Place) → e ∈ es → clear (e .0) (e .1) ms ≡ true)
       → (w : Place × Place) → w ∈ ws → clear (w .0) (w .1) ms ≡ true
@@ -66,14 +66,14 @@ pub record Wired (es ws : List (Place × Place)) : Type 0 where
 
 -- what is promised of the edges es and the total that are given when the tree t of a net is refined
 pub record Given (ms : List Macro) (pins : List Place) (t : Tree) (es : List (Place × Place)) (total : ℕ) : Type 0 where
-  -- "exactly one loop-free way along its edges leads from each point to each other one"
+  -- R20: one loop-free way along the edges from each point to each other one
   pub one : OneTree pins es
-  -- "the two ends of each edge are clear of each other"
+  -- R21: the ends of each edge are clear of each other
   pub free : (e : Place × Place) → e ∈ es → clear (e .0) (e .1) ms ≡ true
-  -- "An edge is written smaller place first; edges are ordered by first place, then second."
+  -- N16: each edge has its smaller place first, and edges are in order
   pub smaller : (e : Place × Place) → e ∈ es → before (e .0) (e .1) ≡ true
   pub ordered : Ascending beforeEdge es
-  -- "with their total": the sum of their lengths, no more than that of the tree
+  -- C66: the total is the sum of their lengths, no more than that of the tree
   pub sum : total ≡ lengths distance es
   pub less : total ≤ lengths distance (treeEdges t)
   -- fewer than the points that there can be

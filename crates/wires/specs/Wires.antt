@@ -1,4 +1,4 @@
--- Wires: document 01, "Wires".
+-- Wires: rules W1 to W4.
 use mathlib.Core.Bool.{true, false}
 use mathlib.Core.List.{List, [], _∷_, _++_}
 use lib.Dec.{eqb}
@@ -6,7 +6,7 @@ use Rattle.plane.specs.declared.Place.{Place}
 use Rattle.plane.specs.Place.{place}
 use Rattle.plane.specs.Distance.{distance}
 
--- "one of length zero is left out"
+-- W3: a wire of length zero is left out
 unfoldable pub drawn : Place → Place → List (Place × Place)
 drawn a b = elim (eqb (distance a b) 0) [ true ↦ [] | false ↦ (a, b) ∷ [] ]
 
@@ -14,8 +14,8 @@ drawn a b = elim (eqb (distance a b) 0) [ true ↦ [] | false ↦ (a, b) ∷ [] 
 abbrev pub bend : Place → Place → Place
 bend a b = place (b .x) (a .y)
 
--- "Each edge gives a horizontal wire from its smaller place and then a vertical one to its larger place"; the edge has its smaller place
--- first. "A wire is four numbers, its start and its end as drawn."
+-- W2: an edge gives a horizontal wire from its smaller place, which it has first, and then a vertical one to its larger place; W4: each by
+-- its start and its end as it is drawn
 unfoldable pub wiresOfEdge : Place × Place → List (Place × Place)
 wiresOfEdge e = drawn (e .0) (bend (e .0) (e .1)) ++ drawn (bend (e .0) (e .1)) (e .1)
 

@@ -16,7 +16,8 @@ ghost use Rattle.wires.specs.Wires.{drawn, bend, wiresOfEdge, wires};
 // The first e edges, in order.
 pub fn give_edges(pts: &[i32; NUMBERS], keys: &[usize; POINTS], e: usize, lent: &mut [i32])
     requires { ⌜ (e ≤ pointBound) × ((Small pairBound (now keys)) × (e * 4 ≤ length (now lent))) ⌝ }
-    ensures { λ _. ⌜ now (lent .exit) ≡ over (flat edgeNumbers (tableEdges (now (pts .entry)) (now (keys .entry)) e)) (now (lent .entry)) ⌝ }
+    ensures { λ _. ⌜ now (lent .exit) ≡ over (flat edgeNumbers (tableEdges (now (pts .entry)) (now (keys .entry)) e))
+        (now (lent .entry)) ⌝ }
 {
     let mut k = 0;
     while k < e {
@@ -63,7 +64,8 @@ fn put_wires(table: &mut [i32], i: usize, a: Place, b: Place) -> usize
 pub fn give_wires(pts: &[i32; NUMBERS], keys: &[usize; POINTS], e: usize, lent: &mut [i32]) -> usize
     requires { ⌜ (e ≤ pointBound) × ((Small pairBound (now keys)) × (e * 8 ≤ length (now lent))) ⌝ }
     ensures { λ r. ⌜ r ≡ length (wires (tableEdges (now (pts .entry)) (now (keys .entry)) e)) ⌝ }
-    ensures { λ _. ⌜ now (lent .exit) ≡ over (flat edgeNumbers (wires (tableEdges (now (pts .entry)) (now (keys .entry)) e))) (now (lent .entry)) ⌝ }
+    ensures { λ _. ⌜ now (lent .exit) ≡ over (flat edgeNumbers (wires (tableEdges (now (pts .entry)) (now (keys .entry)) e)))
+        (now (lent .entry)) ⌝ }
 {
     let mut count = 0;
     let mut k = 0;

@@ -1,6 +1,6 @@
 -- `exports::calzundi_graph` meets its contract: each arm passes on what the router's answer says, and its two counts.
 -- Assumes nothing.
-use mathlib.Core.Path.{_≡_, sym, ap, _∙_}
+use mathlib.Core.Path.{sym, ap, _∙_}
 use Prim.Native.Nat.{ℕ}
 use lib.IntN.{pos}
 use denote.Ref.{now}
@@ -36,12 +36,12 @@ unfolding code valueAfter toldGraph
 returns c =
     let d = c .before .before .before .before .before in
     let s = d .before .before .before in
-    let e = sym (ap toldGraph (c .before .answer .given .1)) ∙ d .graph .ensures .0 in (
+    let e = sym (ap toldGraph (c .before .answer .given .1)) ∙ d .graph .ensures .answer in (
       ap (λ (t : Told (ℕ × ℕ)). pos (code t)) e,
       (
-        d .graph .ensures .1 .0,
+        d .graph .ensures .first,
         (
-          d .graph .ensures .1 .1,
+          d .graph .ensures .second,
           (
             ap (λ (t : Told (ℕ × ℕ)). valueAfter (λ counts. counts .0) t (now (s .args .v))) e,
             ap (λ (t : Told (ℕ × ℕ)). valueAfter (λ counts. counts .1) t (now (s .args .e))) e,
@@ -62,12 +62,12 @@ returns-2 c =
     let a = c .before .before in
     let d = a .before .before .before .before in
     let s = d .before .before .before in
-    let e = sym (ap toldGraph (a .answer2 .given .1)) ∙ d .graph .ensures .0 in (
+    let e = sym (ap toldGraph (a .answer2 .given .1)) ∙ d .graph .ensures .answer in (
       toZ-ofZ w32 _ (search needs) ∙ c .number .ensures ∙ ap (λ (t : Told (ℕ × ℕ)). pos (code t)) e,
       (
-        d .graph .ensures .1 .0,
+        d .graph .ensures .first,
         (
-          d .graph .ensures .1 .1,
+          d .graph .ensures .second,
           (
             ap (λ (t : Told (ℕ × ℕ)). valueAfter (λ counts. counts .0) t (now (s .args .v))) e,
             ap (λ (t : Told (ℕ × ℕ)). valueAfter (λ counts. counts .1) t (now (s .args .e))) e,

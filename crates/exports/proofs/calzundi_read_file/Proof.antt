@@ -36,12 +36,12 @@ unfolding code valueAfter told
 returns c =
     let d = c .before .before .before .before .before in
     let s = d .before .before .before .before in
-    let e = sym (ap told (c .before .answer .given .1)) ∙ d .read-file .ensures .0 in (
+    let e = sym (ap told (c .before .answer .given .1)) ∙ d .read-file .ensures .answer in (
       ap (λ (t : Told (ℕ × ℕ)). pos (code t)) e,
       (
-        d .read-file .ensures .1 .0,
+        d .read-file .ensures .first,
         (
-          d .read-file .ensures .1 .1,
+          d .read-file .ensures .second,
           (
             ap (λ (t : Told (ℕ × ℕ)). valueAfter (λ net. net .0) t (now (s .args .m))) e,
             ap (λ (t : Told (ℕ × ℕ)). valueAfter (λ net. net .1) t (now (s .args .k))) e,
@@ -62,12 +62,12 @@ returns-2 c =
     let a = c .before .before in
     let d = a .before .before .before .before in
     let s = d .before .before .before .before in
-    let e = sym (ap told (a .answer2 .given .1)) ∙ d .read-file .ensures .0 in (
+    let e = sym (ap told (a .answer2 .given .1)) ∙ d .read-file .ensures .answer in (
       toZ-ofZ w32 _ (search needs) ∙ c .number .ensures ∙ ap (λ (t : Told (ℕ × ℕ)). pos (code t)) e,
       (
-        d .read-file .ensures .1 .0,
+        d .read-file .ensures .first,
         (
-          d .read-file .ensures .1 .1,
+          d .read-file .ensures .second,
           (
             ap (λ (t : Told (ℕ × ℕ)). valueAfter (λ net. net .0) t (now (s .args .m))) e,
             ap (λ (t : Told (ℕ × ℕ)). valueAfter (λ net. net .1) t (now (s .args .k))) e,

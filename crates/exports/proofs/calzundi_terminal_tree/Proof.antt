@@ -1,6 +1,6 @@
 -- `exports::calzundi_terminal_tree` meets its contract: each arm passes on what the router's answer says, its count and its total.
 -- Assumes nothing.
-use mathlib.Core.Path.{_≡_, sym, ap, _∙_}
+use mathlib.Core.Path.{sym, ap, _∙_}
 use Prim.Native.Nat.{ℕ}
 use lib.IntN.{ℤ, pos}
 use denote.Ref.{now}
@@ -33,10 +33,10 @@ unfolding code valueAfter toldTree
 returns c =
     let d = c .before .before .before .before in
     let s = d .before .before in
-    let e = sym (ap toldTree (c .before .answer .given .1)) ∙ d .terminal-tree .ensures .0 in (
+    let e = sym (ap toldTree (c .before .answer .given .1)) ∙ d .terminal-tree .ensures .answer in (
       ap (λ (t : Told (ℕ × ℤ)). pos (code t)) e,
       (
-        d .terminal-tree .ensures .1,
+        d .terminal-tree .ensures .list,
         (
           ap (λ (t : Told (ℕ × ℤ)). valueAfter (λ tree. tree .0) t (now (s .args .count))) e,
           toZ-ofZ w64 _ (search needs) ∙ ap (λ (t : Told (ℕ × ℤ)). valueAfter (λ tree. tree .1) t (now (s .args .total))) e,
@@ -53,10 +53,10 @@ returns-2 c =
     let a = c .before .before in
     let d = a .before .before .before in
     let s = d .before .before in
-    let e = sym (ap toldTree (a .answer2 .given .1)) ∙ d .terminal-tree .ensures .0 in (
+    let e = sym (ap toldTree (a .answer2 .given .1)) ∙ d .terminal-tree .ensures .answer in (
       toZ-ofZ w32 _ (search needs) ∙ c .number .ensures ∙ ap (λ (t : Told (ℕ × ℤ)). pos (code t)) e,
       (
-        d .terminal-tree .ensures .1,
+        d .terminal-tree .ensures .list,
         (
           ap (λ (t : Told (ℕ × ℤ)). valueAfter (λ tree. tree .0) t (now (s .args .count))) e,
           ap (λ (t : Told (ℕ × ℤ)). valueAfter (λ tree. tree .1) t (now (s .args .total))) e,

@@ -1,6 +1,6 @@
 -- `exports::calzundi_wires` meets its contract: each arm passes on what the router's answer says and its count.
 -- Assumes nothing.
-use mathlib.Core.Path.{_≡_, sym, ap, _∙_}
+use mathlib.Core.Path.{sym, ap, _∙_}
 use Prim.Native.Nat.{ℕ}
 use lib.IntN.{pos}
 use denote.Ref.{now}
@@ -33,10 +33,10 @@ unfolding code valueAfter toldWires
 returns c =
     let d = c .before .before .before .before in
     let s = d .before .before in
-    let e = sym (ap toldWires (c .before .answer .given .1)) ∙ d .wires .ensures .0 in (
+    let e = sym (ap toldWires (c .before .answer .given .1)) ∙ d .wires .ensures .answer in (
       ap (λ (t : Told ℕ). pos (code t)) e,
       (
-        d .wires .ensures .1,
+        d .wires .ensures .list,
         ap (λ (t : Told ℕ). valueAfter (λ n. n) t (now (s .args .count))) e,
       ),
     )
@@ -50,10 +50,10 @@ returns-2 c =
     let a = c .before .before in
     let d = a .before .before .before in
     let s = d .before .before in
-    let e = sym (ap toldWires (a .answer2 .given .1)) ∙ d .wires .ensures .0 in (
+    let e = sym (ap toldWires (a .answer2 .given .1)) ∙ d .wires .ensures .answer in (
       toZ-ofZ w32 _ (search needs) ∙ c .number .ensures ∙ ap (λ (t : Told ℕ). pos (code t)) e,
       (
-        d .wires .ensures .1,
+        d .wires .ensures .list,
         ap (λ (t : Told ℕ). valueAfter (λ n. n) t (now (s .args .count))) e,
       ),
     )

@@ -33,9 +33,9 @@ unfolding code valueAfter toldBytes
 returns c =
     let d = c .before .before .before .before .before in
     let s = d .before .before .before in
-    let e = sym (ap toldBytes (c .before .answer .given .1)) ∙ d .write-file .ensures .0 in (
+    let e = sym (ap toldBytes (c .before .answer .given .1)) ∙ d .write-file .ensures .answer in (
       ap (λ (t : Told ℕ). pos (code t)) e,
-      (d .write-file .ensures .1, ap (λ (t : Told ℕ). valueAfter (λ n. n) t (now (s .args .given))) e),
+      (d .write-file .ensures .list, ap (λ (t : Told ℕ). valueAfter (λ n. n) t (now (s .args .given))) e),
     )
 
 same-length-2 : tie.Need-same-length-2
@@ -47,9 +47,9 @@ returns-2 c =
     let a = c .before .before in
     let d = a .before .before .before .before in
     let s = d .before .before .before in
-    let e = sym (ap toldBytes (a .answer2 .given .1)) ∙ d .write-file .ensures .0 in (
+    let e = sym (ap toldBytes (a .answer2 .given .1)) ∙ d .write-file .ensures .answer in (
       toZ-ofZ w32 _ (search needs) ∙ c .number .ensures ∙ ap (λ (t : Told ℕ). pos (code t)) e,
-      (d .write-file .ensures .1, ap (λ (t : Told ℕ). valueAfter (λ n. n) t (now (s .args .given))) e),
+      (d .write-file .ensures .list, ap (λ (t : Told ℕ). valueAfter (λ n. n) t (now (s .args .given))) e),
     )
 
 pub calzundi-write-file-spec : {M : Type 1} → statement M

@@ -4,7 +4,7 @@ use mathlib.Core.Path.{ap, sym, _∙_}
 use native.Mathlib.Omega.{arith}
 use lib.ListN.{length, replicate}
 use denote.Ref.{now}
-use Rattle.netfile.specs.Layout.{fileBytes}
+use Rattle.netfile.specs.Layout.{fileBound, fileBytes}
 use Rattle.netfile.specs.Read.{sameNumbers}
 use Rattle.netfile.proofs.LayoutLaws.{length-file}
 use Rattle.netfile.proofs.ReadLaws.{part-of-over, pins-few, macros-few}
@@ -39,7 +39,7 @@ returns c =
     let b = now (s .args .bytes) in
     let f = fileBytes (now (s .args .pins)) (now (s .args .macros)) in
     c .same-bytes .ensures
-    ∙ ap (sameNumbers b) (part-of-over f _ (replicate 3072 0) (length b) (c .before .before .before .before .put-file .ensures)
+    ∙ ap (sameNumbers b) (part-of-over f _ (replicate fileBound 0) (length b) (c .before .before .before .before .put-file .ensures)
     (length-file _ _ ∙ sym (s .pre .fit)))
 
 pub is-file-of-spec : {M : Type 1} → statement M

@@ -7,6 +7,7 @@ use native.Mathlib.Omega.{arith}
 use lib.ListN.{length, take}
 use lib.Seq.{length-take-le}
 use denote.Ref.{now}
+use Rattle.net.specs.Bounds.{pointBound}
 use Rattle.lent.specs.Over.{over}
 use Rattle.lent.specs.Entries.{flat}
 use Rattle.plane.specs.declared.Place.{Place}
@@ -34,7 +35,7 @@ vertices-requires c κs =
     )
 
 -- the vertices fit their table
-few : (d : tie.After-vertices) → d .vertices .result ≤ 320
+few : (d : tie.After-vertices) → d .vertices .result ≤ pointBound
 few d = omega (arith, d .vertices .ensures .0, few-vertices (d .before .before .pre .0))
 
 fits : (d : tie.After-vertices) → d .vertices .result * 2 ≤ length (d .vertices .last .1 .1 .0)

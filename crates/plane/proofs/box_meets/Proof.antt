@@ -1,8 +1,7 @@
--- `plane::box_meets` meets its contract. Assumes nothing.
+-- `plane::box_meets` meets its contract.
+-- Assumes nothing.
 use borrow.Author.Needs.{needs}
-use mathlib.Core.Path.{_≡_, refl, _∙_, subst, sym}
-use mathlib.Core.Bool.{true, false}
-use lib.IntN.{ℤ}
+use mathlib.Core.Path.{_≡_, refl}
 use mir.Syntax.{w32}
 use mir.Val.{SFits}
 use mir.ValLaws.{toZ-ofZ}

@@ -1,5 +1,6 @@
--- `plane::greater` meets its contract. Assumes nothing.
-use mathlib.Core.Path.{_≡_, _∙_}
+-- `plane::greater` meets its contract.
+-- Assumes nothing.
+use mathlib.Core.Path.{_∙_}
 use mir.Syntax.{w32}
 use mir.ValLaws.{toZ-ofZ}
 use Rattle.signed.proofs.Bits.{flag-le}

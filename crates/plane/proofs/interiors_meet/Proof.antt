@@ -1,4 +1,5 @@
--- `plane::interiors_meet` meets its contract. Assumes nothing.
+-- `plane::interiors_meet` meets its contract.
+-- Assumes nothing.
 use borrow.Author.Needs.{needs}
 use mathlib.Core.Path.{_≡_, refl}
 use mir.Syntax.{w32}

@@ -1,4 +1,5 @@
--- `plane::open_spans_meet` meets its contract. Assumes nothing.
+-- `plane::open_spans_meet` meets its contract.
+-- Assumes nothing.
 use borrow.Author.Needs.{needs}
 use mathlib.Core.Path.{_≡_, refl}
 use mir.Syntax.{w32}

@@ -1,4 +1,5 @@
--- `plane::span_meets` meets its contract. Assumes nothing.
+-- `plane::span_meets` meets its contract.
+-- Assumes nothing.
 use borrow.Author.Needs.{needs}
 use mathlib.Core.Path.{_≡_, refl, _∙_, subst}
 use mathlib.Core.Bool.{true, false}

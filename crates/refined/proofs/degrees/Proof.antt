@@ -1,5 +1,6 @@
 -- `refined::degrees` meets its contract. The loop's invariant: the edges that are left decide, and no count is above twice those passed.
--- The measure is how many they are. Assumes nothing.
+-- The measure is how many they are.
+-- Assumes nothing.
 use mathlib.Core.Path.{_≡_}
 use Prim.Native.Nat.{_≤_, _-_, _*_}
 use native.Mathlib.Omega.{arith}

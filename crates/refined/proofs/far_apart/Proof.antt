@@ -7,7 +7,7 @@ use mir.Val.{toZ, ofZ}
 use mir.ValLaws.{toZ-ofZ}
 use mir.Facts.{fits-natAbs}
 use Rattle.plane.specs.Distance.{distance}
-use Rattle.refined.proofs.LongestLaws.{distance-fits}
+use Rattle.plane.proofs.DistanceLaws.{distance-fits}
 use borrow.Author.Needs.{needs}
 use Rattle.refined.proofs.far_apart.Statement.{statement}
 use Rattle.refined.proofs.far_apart.Tie as tie

@@ -1,5 +1,6 @@
 -- `refined::reached` meets its contract. The loop's invariant: the passes that are left decide, and every entry is the number of an edge.
--- The measure is how many they are. Assumes nothing.
+-- The measure is how many they are.
+-- Assumes nothing.
 use mathlib.Core.Path.{_≡_}
 use Prim.Native.Nat.{ℕ, _≤_, _<_, _-_}
 use native.Mathlib.Omega.{arith}

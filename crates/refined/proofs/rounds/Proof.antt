@@ -1,5 +1,6 @@
 -- `refined::rounds` meets its contract. The loop's invariant: the rounds that are left decide; each adds at most one point and one edge.
--- The measure is how many they are. Assumes nothing.
+-- The measure is how many they are.
+-- Assumes nothing.
 use mathlib.Core.Path.{_≡_, refl}
 use Prim.Native.Nat.{_≤_, _-_, _+_}
 use native.Mathlib.Omega.{arith}

@@ -1,5 +1,6 @@
 -- `refined::total` meets its contract. The loop's invariant: the edges that are left decide, and each passed adds less than the bound.
--- The measure is how many are left. Assumes nothing.
+-- The measure is how many are left.
+-- Assumes nothing.
 use mathlib.Core.Path.{_≡_}
 use Prim.Native.Nat.{_≤_, _-_, _*_}
 use native.Mathlib.Omega.{arith}

@@ -33,12 +33,12 @@ answer : (c : tie.After-refined-tree) → toldTree (c .refined-tree .result)
       length (laidOf (now (c .before .before .args .pins)) (now (c .before .before .args .macros))),
       pos (laidTotal (now (c .before .before .args .pins)) (now (c .before .before .args .macros))),
     )
-answer c = c .refined-tree .ensures .0 ∙ refined-given _ _ (net (c .before .before))
+answer c = c .refined-tree .ensures .answer ∙ refined-given _ _ (net (c .before .before))
 
 table : (c : tie.After-refined-tree) → c .refined-tree .last .1 .1 .0
     ≡ over (flat edgeNumbers (laidOf (now (c .before .before .args .pins)) (now (c .before .before .args .macros))))
     (replicate (treeBound * 4) (pos 0))
-table c = c .refined-tree .ensures .1 ∙ sym (after-given _ _ _ _ (refined-given _ _ (net (c .before .before))))
+table c = c .refined-tree .ensures .list ∙ sym (after-given _ _ _ _ (refined-given _ _ (net (c .before .before))))
 
 abbrev start : tie.After-answer → tie.Start
 start c = c .before .before .before .before .before

@@ -30,7 +30,7 @@ start c = c .before .before .before .before .before .before .before .before
 read : (c : tie.After-answer) → readFile (now (start c .args .file)) (pinBound * 2) (macroBound * 4)
     ≡ given (c .answer .given .0 .0 .pins, c .answer .given .0 .0 .macros)
 unfolding told
-read c = sym (c .before .before .before .before .read-file .ensures .0) ∙ ap told (c .answer .given .1)
+read c = sym (c .before .before .before .before .read-file .ensures .answer) ∙ ap told (c .answer .given .1)
 
 net : (c : tie.After-answer) → Counted (pinsIn (now (start c .args .file))) (macrosIn (now (start c .args .file)))
 net c = lists _ _ (read c)
@@ -44,12 +44,12 @@ macro-numbers c = omega (arith, ap (λ (v : ℕ × ℕ). v .1) (net-is _ _ (read
 pin-list : (c : tie.After-answer) → take (c .answer .given .0 .0 .pins * 2) (c .before .before .before .before .read-file .last .1 .0)
     ≡ pinsIn (now (start c .args .file))
 pin-list c =
-    front _ _ _ _ (c .before .before .before .before .read-file .ensures .1 .0 ∙ sym (after-given _ _ _ _ (read c))) (pin-numbers c)
+    front _ _ _ _ (c .before .before .before .before .read-file .ensures .first ∙ sym (after-given _ _ _ _ (read c))) (pin-numbers c)
 
 macro-list : (c : tie.After-answer) → take (c .answer .given .0 .0 .macros * 4) (c .before .before .before .before .read-file .last .1 .1 .0)
     ≡ macrosIn (now (start c .args .file))
 macro-list c =
-    front _ _ _ _ (c .before .before .before .before .read-file .ensures .1 .1 ∙ sym (after-given _ _ _ _ (read c))) (macro-numbers c)
+    front _ _ _ _ (c .before .before .before .before .read-file .ensures .second ∙ sym (after-given _ _ _ _ (read c))) (macro-numbers c)
 
 slice-aggregate-read-file : tie.Need-slice-aggregate-read-file
 slice-aggregate-read-file c = search needs
@@ -115,7 +115,7 @@ returns-2 c =
     let a = n .before .before in
     let r = a .before .before .before .before in
     let e = toZ-ofZ w32 _ (search needs) ∙ n .number .ensures in
-    filled-as (ap refusedText e ∙ route-refused _ _ (sym (r .read-file .ensures .0) ∙ ap told (a .answer2 .given .1))) (c .refused .ensures)
+    filled-as (ap refusedText e ∙ route-refused _ _ (sym (r .read-file .ensures .answer) ∙ ap told (a .answer2 .given .1))) (c .refused .ensures)
 
 pub route-spec : {M : Type 1} → statement M
 route-spec =

@@ -21,7 +21,7 @@ answer : (c : tie.After-terminal-tree) → toldTree (c .terminal-tree .result)
       length (pathsOf (now (c .before .before .args .pins)) (now (c .before .before .args .macros))),
       pos (pathsTotal (now (c .before .before .args .pins)) (now (c .before .before .args .macros))),
     )
-answer c = c .terminal-tree .ensures .0 ∙ terminal-given _ _ (counted _ _ _ (c .before .before .pre))
+answer c = c .terminal-tree .ensures .answer ∙ terminal-given _ _ (counted _ _ _ (c .before .before .pre))
 
 slice-aggregate-terminal-tree : tie.Need-slice-aggregate-terminal-tree
 slice-aggregate-terminal-tree c = search needs

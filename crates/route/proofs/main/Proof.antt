@@ -23,11 +23,11 @@ route-requires c κs = search needs
 array-share-prefix-text : tie.Need-array-share-prefix-text
 array-share-prefix-text c = filled-part (c .route .ensures) .0
 
-slice-aggregate-write-all : tie.Need-slice-aggregate-write-all
-slice-aggregate-write-all c = filled-part (c .before .route .ensures) .1
+slice-aggregate-print : tie.Need-slice-aggregate-print
+slice-aggregate-print c = filled-part (c .before .route .ensures) .1
 
-write-all-requires : tie.Need-write-all-requires
-write-all-requires c κs = search needs
+print-requires : tie.Need-print-requires
+print-requires c κs = search needs
 
 returns : tie.Need-returns
 returns c = search needs
@@ -42,6 +42,6 @@ main-spec =
     slice-aggregate-route
     route-requires
     array-share-prefix-text
-    slice-aggregate-write-all
-    write-all-requires
+    slice-aggregate-print
+    print-requires
     returns)

@@ -1,20 +1,16 @@
 -- `router::graph` meets its contract: the refusals of the check first, then what the graph of an allowed net says.
 -- Assumes nothing.
-use mathlib.Core.Path.{_≡_, sym, ap, _∙_}
-use Prim.Native.Nat.{ℕ}
+use mathlib.Core.Path.{_≡_, refl, sym, ap, _∙_}
 use native.Mathlib.Omega.{arith}
 use lib.ListN.{length}
 use denote.Ref.{now}
-use Rattle.lent.specs.Told.{Told, given}
-use Rattle.lent.specs.Over.{after}
-use Rattle.lent.specs.Entries.{flat}
-use Rattle.lent.proofs.AfterLaws.{after-refused}
+use Rattle.lent.specs.Told.{given}
 use Rattle.plane.proofs.FlatLaws.{length-places, length-macros}
 use Rattle.net.specs.Check.{checked, told}
 use Rattle.net.proofs.AllowedLaws.{given-allowed}
-use Rattle.graph.specs.Numbers.{placeNumbers, edgeNumbers}
-use Rattle.router.specs.Graph.{verticesOf, edgesOf, toldGraph}
+use Rattle.router.specs.Graph.{toldGraph}
 use Rattle.router.proofs.GraphAnswer.{graphed-refused, graphed-allowed}
+use Rattle.router.proofs.CallLaws.{two-refused, two-as}
 use borrow.Author.Needs.{needs}
 use Rattle.router.proofs.graph.Statement.{statement}
 use Rattle.router.proofs.graph.Tie as tie
@@ -26,12 +22,14 @@ enum-told : tie.Need-enum-told
 enum-told c = search needs
 
 -- the answer of the check, where the net is allowed
-allowed : (c : tie.After-enum-told) → checked (now (c .before .before .before .args .pins)) (now (c .before .before .before .args .macros)) ≡ given (c .enum-told .given .0 .0 .pins, c .enum-told .given .0 .0 .macros)
+allowed : (c : tie.After-enum-told)
+    → checked (now (c .before .before .before .args .pins)) (now (c .before .before .before .args .macros))
+    ≡ given (c .enum-told .given .0 .0 .pins, c .enum-told .given .0 .0 .macros)
 unfolding told
 allowed c = sym (c .before .before .check .ensures) ∙ ap told (c .enum-told .given .1)
 
-graph-of-allowed-requires : tie.Need-graph-of-allowed-requires
-graph-of-allowed-requires c κs =
+graph-requires : tie.Need-graph-requires
+graph-requires c κs =
     let s = c .before .before .before .before .before .args in
     let a = given-allowed (now (s .pins)) (now (s .macros)) (allowed (c .before .before)) .1 in
     (omega (arith, a .few-pins, length-places (now (s .pins))), omega (arith, a .few-macros, length-macros (now (s .macros))))
@@ -49,26 +47,17 @@ returns : tie.Need-returns
 returns c =
     let r = c .before .before in
     let a = r .before .before .before .before .before .before .args in
-    let e = sym (graphed-allowed (now (a .pins)) (now (a .macros)) (length (now (a .vertices))) (length (now (a .edges))) _ (allowed (r .before .before .before))) in (
-      r .graph-of-allowed .ensures .0 ∙ e,
-      (
-        r .graph-of-allowed .ensures .1 .0 ∙ ap (λ (t : Told (ℕ × ℕ)). after t (flat placeNumbers (verticesOf (now (a .pins)) (now (a .macros)))) (now (a .vertices))) e,
-        r .graph-of-allowed .ensures .1 .1 ∙ ap (λ (t : Told (ℕ × ℕ)). after t (flat edgeNumbers (edgesOf (now (a .pins)) (now (a .macros)))) (now (a .edges))) e,
-      ),
-    )
+    let check = allowed (r .before .before .before) in
+    two-as (sym (graphed-allowed (now (a .pins)) (now (a .macros)) (length (now (a .vertices))) (length (now (a .edges))) _ check))
+    (r .graph .ensures)
 
 returns-2 : tie.Need-returns-2
 unfolding toldGraph told
 returns-2 c =
     let s = c .before .before .before in
     let a = s .before .args in
-    let e = graphed-refused (now (a .pins)) (now (a .macros)) (length (now (a .vertices))) (length (now (a .edges))) _ (sym (s .check .ensures) ∙ ap told (c .before .answer .given .1)) in (
-      sym e,
-      (
-        after-refused _ (flat placeNumbers (verticesOf (now (a .pins)) (now (a .macros)))) (now (a .vertices)) _ e,
-        after-refused _ (flat edgeNumbers (edgesOf (now (a .pins)) (now (a .macros)))) (now (a .edges)) _ e,
-      ),
-    )
+    let check = sym (s .check .ensures) ∙ ap told (c .before .answer .given .1) in
+    two-refused refl (graphed-refused (now (a .pins)) (now (a .macros)) (length (now (a .vertices))) (length (now (a .edges))) _ check)
 
 pub graph-spec : {M : Type 1} → statement M
 graph-spec =
@@ -76,7 +65,7 @@ graph-spec =
     (tie.spec
     check-requires
     enum-told
-    graph-of-allowed-requires
+    graph-requires
     enum-known-answer
     same-length
     same-length-2

@@ -1,19 +1,14 @@
 -- `router::terminal_tree` meets its contract: the refusals of the check first, then what the terminal tree of an allowed net says.
 -- Assumes nothing.
-use mathlib.Core.Path.{_≡_, sym, ap, _∙_}
-use Prim.Native.Nat.{ℕ}
-use lib.IntN.{ℤ}
+use mathlib.Core.Path.{_≡_, refl, sym, ap, _∙_}
 use lib.ListN.{length}
 use denote.Ref.{now}
-use Rattle.lent.specs.Told.{Told, given}
-use Rattle.lent.specs.Over.{after}
-use Rattle.lent.specs.Entries.{flat}
-use Rattle.lent.proofs.AfterLaws.{after-refused}
+use Rattle.lent.specs.Told.{given}
 use Rattle.net.specs.Check.{checked, told}
 use Rattle.net.proofs.AllowedLaws.{given-allowed}
-use Rattle.numbered.specs.Tree.{pathNumbers}
-use Rattle.router.specs.Terminal.{pathsOf, terminalGiven, terminalTree, toldTree}
+use Rattle.router.specs.Terminal.{terminalGiven, terminalTree, toldTree}
 use Rattle.router.proofs.AnswerLaws.{only-refused, only-given}
+use Rattle.router.proofs.CallLaws.{gives-refused, gives-as}
 use borrow.Author.Needs.{needs}
 use Rattle.router.proofs.terminal_tree.Statement.{statement}
 use Rattle.router.proofs.terminal_tree.Tie as tie
@@ -25,12 +20,14 @@ enum-told : tie.Need-enum-told
 enum-told c = search needs
 
 -- the answer of the check, where the net is allowed
-allowed : (c : tie.After-enum-told) → checked (now (c .before .before .before .args .pins)) (now (c .before .before .before .args .macros)) ≡ given (c .enum-told .given .0 .0 .pins, c .enum-told .given .0 .0 .macros)
+allowed : (c : tie.After-enum-told)
+    → checked (now (c .before .before .before .args .pins)) (now (c .before .before .before .args .macros))
+    ≡ given (c .enum-told .given .0 .0 .pins, c .enum-told .given .0 .0 .macros)
 unfolding told
 allowed c = sym (c .before .before .check .ensures) ∙ ap told (c .enum-told .given .1)
 
-terminal-of-allowed-requires : tie.Need-terminal-of-allowed-requires
-terminal-of-allowed-requires c κs =
+terminal-tree-requires : tie.Need-terminal-tree-requires
+terminal-tree-requires c κs =
     let s = c .before .before .before .before .args in
     given-allowed (now (s .pins)) (now (s .macros)) (allowed (c .before)) .1
 
@@ -45,20 +42,17 @@ unfolding terminalTree
 returns c =
     let r = c .before in
     let a = r .before .before .before .before .before .args in
-    let given-is = terminalGiven (now (a .pins)) (now (a .macros)) (length (now (a .paths))) in
-    let e = sym (only-given (checked (now (a .pins)) (now (a .macros))) given-is _ (allowed (r .before .before))) in (
-      r .terminal-of-allowed .ensures .0 ∙ e,
-      r .terminal-of-allowed .ensures .1 ∙ ap (λ (t : Told (ℕ × ℤ)). after t (flat pathNumbers (pathsOf (now (a .pins)) (now (a .macros)))) (now (a .paths))) e,
-    )
+    let next = terminalGiven (now (a .pins)) (now (a .macros)) (length (now (a .paths))) in
+    gives-as (sym (only-given (checked (now (a .pins)) (now (a .macros))) next _ (allowed (r .before .before)))) (r .terminal-tree .ensures)
 
 returns-2 : tie.Need-returns-2
 unfolding terminalTree toldTree told
 returns-2 c =
     let s = c .before .before .before in
     let a = s .before .args in
-    let given-is = terminalGiven (now (a .pins)) (now (a .macros)) (length (now (a .paths))) in
-    let e = only-refused (checked (now (a .pins)) (now (a .macros))) given-is _ (sym (s .check .ensures) ∙ ap told (c .before .answer .given .1)) in
-    (sym e, after-refused _ (flat pathNumbers (pathsOf (now (a .pins)) (now (a .macros)))) (now (a .paths)) _ e)
+    let next = terminalGiven (now (a .pins)) (now (a .macros)) (length (now (a .paths))) in
+    let check = sym (s .check .ensures) ∙ ap told (c .before .answer .given .1) in
+    gives-refused refl (only-refused (checked (now (a .pins)) (now (a .macros))) next _ check)
 
 pub terminal-tree-spec : {M : Type 1} → statement M
 terminal-tree-spec =
@@ -66,7 +60,7 @@ terminal-tree-spec =
     (tie.spec
     check-requires
     enum-told
-    terminal-of-allowed-requires
+    terminal-tree-requires
     enum-known-answer
     same-length
     returns

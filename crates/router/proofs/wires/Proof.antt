@@ -1,18 +1,14 @@
 -- `router::wires` meets its contract: the refusals of the check first, then what the wires of an allowed net says.
 -- Assumes nothing.
-use mathlib.Core.Path.{_≡_, sym, ap, _∙_}
-use Prim.Native.Nat.{ℕ}
+use mathlib.Core.Path.{_≡_, refl, sym, ap, _∙_}
 use lib.ListN.{length}
 use denote.Ref.{now}
-use Rattle.lent.specs.Told.{Told, given}
-use Rattle.lent.specs.Over.{after}
-use Rattle.lent.specs.Entries.{flat}
-use Rattle.lent.proofs.AfterLaws.{after-refused}
+use Rattle.lent.specs.Told.{given}
 use Rattle.net.specs.Check.{checked, told}
 use Rattle.net.proofs.AllowedLaws.{given-allowed}
-use Rattle.graph.specs.Numbers.{edgeNumbers}
-use Rattle.router.specs.Refined.{wiresOf, wiresGiven, wired, toldWires}
+use Rattle.router.specs.Refined.{wiresGiven, wired, toldWires}
 use Rattle.router.proofs.AnswerLaws.{only-refused, only-given}
+use Rattle.router.proofs.CallLaws.{gives-refused, gives-as}
 use borrow.Author.Needs.{needs}
 use Rattle.router.proofs.wires.Statement.{statement}
 use Rattle.router.proofs.wires.Tie as tie
@@ -24,12 +20,14 @@ enum-told : tie.Need-enum-told
 enum-told c = search needs
 
 -- the answer of the check, where the net is allowed
-allowed : (c : tie.After-enum-told) → checked (now (c .before .before .before .args .pins)) (now (c .before .before .before .args .macros)) ≡ given (c .enum-told .given .0 .0 .pins, c .enum-told .given .0 .0 .macros)
+allowed : (c : tie.After-enum-told)
+    → checked (now (c .before .before .before .args .pins)) (now (c .before .before .before .args .macros))
+    ≡ given (c .enum-told .given .0 .0 .pins, c .enum-told .given .0 .0 .macros)
 unfolding told
 allowed c = sym (c .before .before .check .ensures) ∙ ap told (c .enum-told .given .1)
 
-wires-of-allowed-requires : tie.Need-wires-of-allowed-requires
-wires-of-allowed-requires c κs =
+wires-requires : tie.Need-wires-requires
+wires-requires c κs =
     let s = c .before .before .before .before .args in
     given-allowed (now (s .pins)) (now (s .macros)) (allowed (c .before)) .1
 
@@ -44,20 +42,17 @@ unfolding wired
 returns c =
     let r = c .before in
     let a = r .before .before .before .before .before .args in
-    let given-is = wiresGiven (now (a .pins)) (now (a .macros)) (length (now (a .wires))) in
-    let e = sym (only-given (checked (now (a .pins)) (now (a .macros))) given-is _ (allowed (r .before .before))) in (
-      r .wires-of-allowed .ensures .0 ∙ e,
-      r .wires-of-allowed .ensures .1 ∙ ap (λ (t : Told ℕ). after t (flat edgeNumbers (wiresOf (now (a .pins)) (now (a .macros)))) (now (a .wires))) e,
-    )
+    let next = wiresGiven (now (a .pins)) (now (a .macros)) (length (now (a .wires))) in
+    gives-as (sym (only-given (checked (now (a .pins)) (now (a .macros))) next _ (allowed (r .before .before)))) (r .wires .ensures)
 
 returns-2 : tie.Need-returns-2
 unfolding wired toldWires told
 returns-2 c =
     let s = c .before .before .before in
     let a = s .before .args in
-    let given-is = wiresGiven (now (a .pins)) (now (a .macros)) (length (now (a .wires))) in
-    let e = only-refused (checked (now (a .pins)) (now (a .macros))) given-is _ (sym (s .check .ensures) ∙ ap told (c .before .answer .given .1)) in
-    (sym e, after-refused _ (flat edgeNumbers (wiresOf (now (a .pins)) (now (a .macros)))) (now (a .wires)) _ e)
+    let next = wiresGiven (now (a .pins)) (now (a .macros)) (length (now (a .wires))) in
+    let check = sym (s .check .ensures) ∙ ap told (c .before .answer .given .1) in
+    gives-refused refl (only-refused (checked (now (a .pins)) (now (a .macros))) next _ check)
 
 pub wires-spec : {M : Type 1} → statement M
 wires-spec =
@@ -65,7 +60,7 @@ wires-spec =
     (tie.spec
     check-requires
     enum-told
-    wires-of-allowed-requires
+    wires-requires
     enum-known-answer
     same-length
     returns

@@ -7,6 +7,7 @@ use native.Mathlib.Omega.{arith}
 use lib.ListN.{length, getD}
 use denote.Ref.{now}
 use borrow.Author.Tests.{lt-ltb}
+use Rattle.net.specs.Bounds.{treeBound}
 use Rattle.refined.specs.Table.{key}
 use Rattle.union.proofs.MarkLaws.{marks-room, Keying, key-none, key-pass, key-more}
 use Rattle.union.proofs.put_keys.Statement.{statement}
@@ -49,7 +50,7 @@ key-of-requires c κs =
     (s .pre .0 .1, (s .pre .0 .0 .one-in _ h, s .pre .0 .0 .two-in _ h))
 
 -- a marked edge finds room
-room : (c : tie.After-key-of Inv-loop μ-loop) → c .before .before .before .before .before .before .loop .c < 384
+room : (c : tie.After-key-of Inv-loop μ-loop) → c .before .before .before .before .before .before .loop .c < treeBound
 room c =
     let l = c .before .before .before .before .before .before in
     let h = c .before .before .before .before .before .loop-test .taken in

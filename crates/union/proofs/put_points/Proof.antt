@@ -6,6 +6,7 @@ use Prim.Native.Nat.{_*_, _+_, _≤_, _<_, _-_}
 use denote.Ref.{now}
 use lib.ListN.{length}
 use native.Mathlib.Omega.{arith}
+use Rattle.net.specs.Bounds.{pointBound}
 use Rattle.plane.specs.Flat.{placeAt}
 use Rattle.refined.specs.Exchange.{setPoint}
 use Rattle.union.proofs.MarkLaws.{marks-few, Placing, place-none, place-pass, place-more}
@@ -59,7 +60,7 @@ loop-again c =
     let l = c .before .before .before .before .before .before in
     let s = l .before in
     let few = marks-few (s .args .at .now) (l .loop .v) in
-    let i : l .loop .v < 320 = omega arith in
+    let i : l .loop .v < pointBound = omega arith in
     let r : l .loop .c * 2 + 2 ≤ length (now (s .args .pts)) = omega (arith, l .loop .inv .1 .count, s .pre .0 .1 .0) in (
       omega arith,
       place-more _ _ _ _ _ _ _ (l .loop .inv .1) _ (c .before .before .before .if1 .taken) i r

@@ -1,5 +1,6 @@
 -- `wires::give_wires` meets its contract. The loop's invariant: the wires of the edges passed are given, at most two an edge. The measure is
--- how many edges are left. Assumes nothing.
+-- how many edges are left.
+-- Assumes nothing.
 use mathlib.Core.Path.{_≡_, refl, ap₂, _∙_}
 use Prim.Native.Nat.{_≤_, _-_, _*_}
 use native.Mathlib.Omega.{arith}

@@ -1,0 +1,34 @@
+-- Calls by the cases of their answer: what one refused call, one that gives, and one that only hands on another's answer must show.
+-- Assumes nothing.
+use mathlib.Core.Path.{_≡_, sym, _∙_, subst}
+use mathlib.Core.List.{List}
+use Prim.Native.Nat.{ℕ}
+use Rattle.lent.specs.Told.{Told, refused, given}
+use Rattle.lent.specs.Over.{over}
+use Rattle.lent.proofs.AfterLaws.{after-refused, after-given}
+use Rattle.router.specs.Call.{Gives, GivesTwo}
+
+module _ {A R X : Type 0} {saying : R → Told A} {t : Told A} {xs lent : List X} {r : R} where
+  -- refused, and nothing altered
+  pub gives-refused : {n : ℕ} → saying r ≡ refused n → t ≡ refused n → Gives saying t xs lent r lent
+  gives-refused {n} s e = record { answer = s ∙ sym e; list = after-refused t xs lent n e }
+
+  -- given
+  pub gives-given : {a : A} {lent′ : List X} → saying r ≡ given a → t ≡ given a → lent′ ≡ over xs lent → Gives saying t xs lent r lent′
+  gives-given {a} s e h = record { answer = s ∙ sym e; list = h ∙ after-given t xs lent a e }
+
+  -- what another call answered
+  pub gives-as : {u : Told A} {lent′ : List X} → t ≡ u → Gives saying t xs lent r lent′ → Gives saying u xs lent r lent′
+  gives-as {lent′ = lent′} e g = subst (λ (z : Told A). Gives saying z xs lent r lent′) e g
+
+module _ {A R X : Type 0} {saying : R → Told A} {t : Told A} {xs ys lent other : List X} {r : R} where
+  pub two-refused : {n : ℕ} → saying r ≡ refused n → t ≡ refused n → GivesTwo saying t xs ys lent other r lent other
+  two-refused {n} s e = record { answer = s ∙ sym e; first = after-refused t xs lent n e; second = after-refused t ys other n e }
+
+  pub two-given : {a : A} {lent′ other′ : List X} → saying r ≡ given a → t ≡ given a → lent′ ≡ over xs lent → other′ ≡ over ys other →
+      GivesTwo saying t xs ys lent other r lent′ other′
+  two-given {a} s e h k = record { answer = s ∙ sym e; first = h ∙ after-given t xs lent a e; second = k ∙ after-given t ys other a e }
+
+  pub two-as : {u : Told A} {lent′ other′ : List X} → t ≡ u → GivesTwo saying t xs ys lent other r lent′ other′ →
+      GivesTwo saying u xs ys lent other r lent′ other′
+  two-as {lent′ = lent′} {other′ = other′} e g = subst (λ (z : Told A). GivesTwo saying z xs ys lent other r lent′ other′) e g

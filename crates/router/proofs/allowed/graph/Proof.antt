@@ -1,0 +1,116 @@
+-- `router::allowed::graph` meets its contract: where there is room, the tables hold the vertices, and the edges of just those vertices.
+-- Assumes nothing.
+use mathlib.Core.Path.{_≡_, refl, sym, ap, ap₂, _∙_}
+use mathlib.Core.List.{List}
+use Prim.Native.Nat.{ℕ, _*_, _≤_}
+use native.Mathlib.Omega.{arith}
+use lib.ListN.{length, take}
+use lib.Seq.{length-take-le}
+use denote.Ref.{now}
+use Rattle.lent.specs.Told.{given}
+use Rattle.lent.specs.Over.{over}
+use Rattle.lent.specs.Entries.{flat}
+use Rattle.plane.specs.declared.Place.{Place}
+use Rattle.plane.specs.Flat.{placesOf, macrosOf}
+use Rattle.net.specs.Answer.{number}
+use Rattle.graph.specs.Edges.{edges}
+use Rattle.graph.specs.Numbers.{edgeNumbers}
+use Rattle.graph.proofs.ReadBack.{vertices-back}
+use Rattle.router.specs.Graph.{verticesOf, edgesOf, pointCount, toldGraph}
+use Rattle.router.proofs.GraphAnswer.{graph-short, graph-fits, graph-room, vertices-few}
+use Rattle.router.proofs.CallLaws.{two-refused, two-given}
+use borrow.Author.Needs.{needs}
+use Rattle.router.proofs.allowed.graph.Statement.{statement}
+use Rattle.router.proofs.allowed.graph.Tie as tie
+
+mul-n : tie.Need-mul-n
+mul-n c = search needs
+
+add-n : tie.Need-add-n
+add-n c = search needs
+
+mul-if1 : tie.Need-mul-if1
+mul-if1 c = search needs
+
+mul-if1-2 : tie.Need-mul-if1-2
+mul-if1-2 c = search needs
+
+returns : tie.Need-returns
+unfolding toldGraph number
+returns c =
+    let a = c .before .args in
+    two-refused refl (graph-short (now (a .pins)) (now (a .macros)) (length (now (a .vertices))) (length (now (a .edges))) (c .if1 .taken))
+
+-- the room that is there, and how many vertices there are
+room : (c : tie.Else1) → (pointCount (now (c .before .args .pins)) (now (c .before .args .macros)) * 2 ≤ length (now (c .before .args .vertices))) × (pointCount (now (c .before .args .pins)) (now (c .before .args .macros)) * 16 ≤ length (now (c .before .args .edges)))
+room c = graph-room (now (c .before .args .pins)) (now (c .before .args .macros)) (length (now (c .before .args .vertices))) (length (now (c .before .args .edges))) (c .if1 .left)
+
+few : (d : tie.After-vertices) → d .vertices .result ≤ pointCount (now (d .before .before .before .args .pins)) (now (d .before .before .before .args .macros))
+unfolding verticesOf
+few d =
+    let a = d .before .before .before .args in
+    omega (arith, d .vertices .ensures .0, vertices-few (now (a .pins)) (now (a .macros)))
+
+fits : (d : tie.After-vertices) → d .vertices .result * 2 ≤ length (d .vertices .last .1 .1 .0)
+fits d = omega (arith, few d, room (d .before .before), d .vertices .kept .1 .1 .0)
+
+vertices-requires : tie.Need-vertices-requires
+vertices-requires c κs = omega (arith, room (c .before))
+
+mul-edges : tie.Need-mul-edges
+mul-edges c =
+    let d = c .before in
+    omega (arith, few d, d .before .before .before .pre)
+
+slice-reshare-prefix-edges : tie.Need-slice-reshare-prefix-edges
+slice-reshare-prefix-edges c =
+    fits (c .before)
+
+slice-aggregate-edges : tie.Need-slice-aggregate-edges
+slice-aggregate-edges c = sym (length-take-le _ _ (fits (c .before .before)))
+
+edges-requires : tie.Need-edges-requires
+edges-requires c κs =
+    let d = c .before .before .before in
+    let n = length-take-le (d .vertices .result * 2) (d .vertices .last .1 .1 .0) (fits d) in
+    omega (arith, n, few d, room (d .before .before))
+
+same-length : tie.Need-same-length
+same-length c = search needs
+
+same-length-2 : tie.Need-same-length-2
+same-length-2 c = search needs
+
+returns-2 : tie.Need-returns-2
+unfolding toldGraph verticesOf edgesOf
+returns-2 c =
+    let d = c .before .before .before .before .before in
+    let a = d .before .before .before .args in
+    let vs = verticesOf (now (a .pins)) (now (a .macros)) in
+    let seen = take (d .vertices .result * 2) (d .vertices .last .1 .1 .0) in
+    let back : placesOf seen ≡ vs = vertices-back vs (now (a .vertices)) _ _ (d .vertices .ensures .1) (d .vertices .ensures .0) in
+    let these : edges (macrosOf (now (a .macros))) (placesOf seen) ≡ edgesOf (now (a .pins)) (now (a .macros))
+    = ap (edges (macrosOf (now (a .macros)))) back in
+    two-given
+    (ap₂ (λ (v w : ℕ). given (v, w)) (d .vertices .ensures .0) (c .before .edges .ensures .0 ∙ ap length these))
+    (graph-fits (now (a .pins)) (now (a .macros)) (length (now (a .vertices))) (length (now (a .edges))) (d .before .before .if1 .left))
+    (d .vertices .ensures .1)
+    (c .before .edges .ensures .1 ∙ ap (λ (es : List (Place × Place)). over (flat edgeNumbers es) (now (a .edges))) these)
+
+pub graph-spec : {M : Type 1} → statement M
+graph-spec =
+    tie.close
+    (tie.spec
+    mul-n
+    add-n
+    mul-if1
+    mul-if1-2
+    returns
+    vertices-requires
+    mul-edges
+    slice-reshare-prefix-edges
+    slice-aggregate-edges
+    edges-requires
+    same-length
+    same-length-2
+    returns-2)

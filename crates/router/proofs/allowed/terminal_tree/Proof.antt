@@ -1,0 +1,90 @@
+-- `router::allowed::terminal_tree` meets its contract: where there is room, the paths given are those of the net's terminal tree.
+-- Assumes nothing.
+use mathlib.Core.Path.{_≡_, refl, ap, ap₂, _∙_}
+use mathlib.Core.List.{List}
+use Prim.Native.Nat.{ℕ, _*_, _≤_}
+use native.Mathlib.Omega.{arith}
+use lib.IntN.{ℤ, pos}
+use lib.ListN.{length}
+use mir.Syntax.{w64}
+use mir.Val.{toZ}
+use mir.ValLaws.{toZ-pos}
+use denote.Ref.{now}
+use Rattle.lent.specs.Told.{given}
+use Rattle.lent.specs.Over.{over}
+use Rattle.lent.specs.Entries.{flat}
+use Rattle.plane.specs.declared.Place.{Place}
+use Rattle.plane.specs.Flat.{placesOf}
+use Rattle.plane.proofs.FlatLaws.{length-places}
+use Rattle.net.specs.Answer.{number}
+use Rattle.net.specs.Check.{pinCount}
+use Rattle.numbered.specs.Tree.{pathNumbers}
+use Rattle.numbered.proofs.PathLaws.{total-small, paths-one-fewer, kept-fewer, worked-paths, worked-givable}
+use Rattle.router.specs.Terminal.{pathsOf, pathsTotal, terminalGiven, toldTree}
+use Rattle.router.proofs.AnswerLaws.{room-short, room-enough}
+use Rattle.router.proofs.FreshTables.{fresh}
+use Rattle.router.proofs.CallLaws.{gives-refused, gives-given}
+use borrow.Author.Needs.{needs}
+use Rattle.router.proofs.allowed.terminal_tree.Statement.{statement}
+use Rattle.router.proofs.allowed.terminal_tree.Tie as tie
+
+mul-if1 : tie.Need-mul-if1
+mul-if1 c = search needs
+
+returns : tie.Need-returns
+unfolding terminalGiven toldTree number
+returns c =
+    let a = c .before .args in
+    gives-refused refl (room-short (pinCount (now (a .pins)) * 5) (length (now (a .paths))) _ (c .if1 .taken))
+
+terminal-tree-requires : tie.Need-terminal-tree-requires
+terminal-tree-requires c κs = (c .before .before .before .before .before .before .before .before .before .before .before .before .before .pre, fresh)
+
+-- the room that there is
+room : (d : tie.After-terminal-tree) → length (placesOf (now (d .before .before .before .before .before .before .before .before .before .before .before .before .before .before .args .pins))) * 5 ≤ length (now (d .before .before .before .before .before .before .before .before .before .before .before .before .before .before .args .paths))
+room d = omega (arith, d .before .before .before .before .before .before .before .before .before .before .before .before .before .if1 .left, length-places (now (d .before .before .before .before .before .before .before .before .before .before .before .before .before .before .args .pins)))
+
+give-paths-requires : tie.Need-give-paths-requires
+give-paths-requires c κs =
+    let d = c .before .before .before .before in
+    let s = d .before .before .before .before .before .before .before .before .before .before .before .before .before .before in
+    worked-givable (s .pre) fresh (d .terminal-tree .ensures) (length (now (s .args .paths))) (room d)
+
+cast-t41 : tie.Need-cast-t41
+cast-t41 c =
+    let d = c .before .before .before .before .before .before .before in
+    record { sfits = omega (arith, d .terminal-tree .ensures .total-is, total-small (d .before .before .before .before .before .before .before .before .before .before .before .before .before .before .pre)) }
+
+same-length : tie.Need-same-length
+same-length c = search needs
+
+returns-2 : tie.Need-returns-2
+unfolding terminalGiven toldTree pathsTotal pathsOf
+returns-2 c =
+    let d = c .before .before .before .before .before .before .before in
+    let s = d .before .before .before .before .before .before .before .before .before .before .before .before .before .before in
+    let a = s .args in
+    let w = d .terminal-tree .ensures in
+    let paths = worked-paths (s .pre) fresh w in
+    let given-is : ℕ × ℤ = (length (pathsOf (now (a .pins)) (now (a .macros))), pos (pathsTotal (now (a .pins)) (now (a .macros)))) in
+    let enough = d .before .before .before .before .before .before .before .before .before .before .before .before .before .if1 .left in
+    let many : d .terminal-tree .result .kept ≡ length (pathsOf (now (a .pins)) (now (a .macros)))
+    = omega (arith, kept-fewer (s .pre) fresh w, paths-one-fewer (s .pre)) in
+    let sum : toZ w64 (d .terminal-tree .result .total) ≡ pos (pathsTotal (now (a .pins)) (now (a .macros))) =
+    toZ-pos w64 (d .terminal-tree .result .total) (omega (arith, w .total-is, total-small (s .pre))) ∙ ap pos (w .total-is) in
+    gives-given
+    (ap₂ (λ (n : ℕ) (z : ℤ). given (n, z)) many sum)
+    (room-enough {A = ℕ × ℤ} (pinCount (now (a .pins)) * 5) (length (now (a .paths))) given-is enough)
+    (c .before .before .give-paths .ensures ∙ ap (λ (ps : List ((Place × Place) × ℕ)). over (flat pathNumbers ps) (now (a .paths))) paths)
+
+pub terminal-tree-spec : {M : Type 1} → statement M
+terminal-tree-spec =
+    tie.close
+    (tie.spec
+    mul-if1
+    returns
+    terminal-tree-requires
+    give-paths-requires
+    cast-t41
+    same-length
+    returns-2)

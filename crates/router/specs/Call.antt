@@ -1,0 +1,65 @@
+-- What a call answers, and what then stands in each list that it was lent: the contracts of the published operations, one record each.
+use mathlib.Core.Path.{_≡_}
+use mathlib.Core.List.{List}
+use Prim.Native.Nat.{ℕ}
+use lib.IntN.{ℤ}
+use lib.ListN.{length}
+use Rattle.lent.specs.Told.{Told}
+use Rattle.lent.specs.Over.{after}
+use Rattle.lent.specs.Entries.{flat}
+use Rattle.net.specs.declared.Checked.{Checked}
+use Rattle.net.specs.Check.{told}
+use Rattle.netfile.specs.declared.Written.{Written}
+use Rattle.netfile.specs.Layout.{fileBytes}
+use Rattle.netfile.specs.Write.{written, toldBytes}
+use Rattle.netfile.specs.Read.{pinsIn, macrosIn, readFile}
+use Rattle.graph.specs.Numbers.{placeNumbers, edgeNumbers}
+use Rattle.numbered.specs.Tree.{pathNumbers}
+use Rattle.router.specs.declared.Graphed.{Graphed}
+use Rattle.router.specs.declared.Tree.{Tree}
+use Rattle.router.specs.declared.Wired.{Wired}
+use Rattle.router.specs.Graph.{verticesOf, edgesOf, toldGraph}
+use Rattle.router.specs.Terminal.{pathsOf, toldTree}
+use Rattle.router.specs.Refined.{laidOf, wiresOf, toldWires}
+
+-- the answer r says t, and one list was lent: where t is given, xs stands at its front (C53); where t is refused, it is as it was (C50)
+pub record Gives {A R X : Type 0} (saying : R → Told A) (t : Told A) (xs lent : List X) (r : R) (lent′ : List X) : Type 0 where
+  pub answer : saying r ≡ t
+  pub list : lent′ ≡ after t xs lent
+
+-- the same where two lists were lent
+pub record GivesTwo {A R X : Type 0} (saying : R → Told A) (t : Told A) (xs ys lent other : List X) (r : R)
+    (lent′ other′ : List X) : Type 0 where
+  pub answer : saying r ≡ t
+  pub first : lent′ ≡ after t xs lent
+  pub second : other′ ≡ after t ys other
+
+-- C61, C62: a graph that answers as `said` has it
+abbrev pub GraphCall : (List ℤ → List ℤ → ℕ → ℕ → Told (ℕ × ℕ)) → (pins macros vertices edges : List ℤ) → Graphed → List ℤ → List ℤ → Type 0
+GraphCall said pins macros vertices edges r vertices′ edges′ =
+    GivesTwo toldGraph (said pins macros (length vertices) (length edges))
+    (flat placeNumbers (verticesOf pins macros)) (flat edgeNumbers (edgesOf pins macros)) vertices edges r vertices′ edges′
+
+-- C63, C64: a terminal tree
+abbrev pub TerminalCall : (List ℤ → List ℤ → ℕ → Told (ℕ × ℤ)) → (pins macros paths : List ℤ) → Tree → List ℤ → Type 0
+TerminalCall said pins macros paths r paths′ =
+    Gives toldTree (said pins macros (length paths)) (flat pathNumbers (pathsOf pins macros)) paths r paths′
+
+-- C65, C66: a refined tree
+abbrev pub RefinedCall : (List ℤ → List ℤ → ℕ → Told (ℕ × ℤ)) → (pins macros edges : List ℤ) → Tree → List ℤ → Type 0
+RefinedCall said pins macros edges r edges′ =
+    Gives toldTree (said pins macros (length edges)) (flat edgeNumbers (laidOf pins macros)) edges r edges′
+
+-- C67, C68: wires
+abbrev pub WiresCall : (List ℤ → List ℤ → ℕ → Told ℕ) → (pins macros wires : List ℤ) → Wired → List ℤ → Type 0
+WiresCall said pins macros wires r wires′ =
+    Gives toldWires (said pins macros (length wires)) (flat edgeNumbers (wiresOf pins macros)) wires r wires′
+
+-- C69, C70: a net file written
+abbrev pub WriteCall : (pins macros : List ℤ) (bytes : List ℕ) → Written → List ℕ → Type 0
+WriteCall pins macros bytes r bytes′ = Gives toldBytes (written pins macros (length bytes)) (fileBytes pins macros) bytes r bytes′
+
+-- C71, C72: a net file read
+abbrev pub ReadCall : (bytes : List ℕ) (pins macros : List ℤ) → Checked → List ℤ → List ℤ → Type 0
+ReadCall bytes pins macros r pins′ macros′ =
+    GivesTwo told (readFile bytes (length pins) (length macros)) (pinsIn bytes) (macrosIn bytes) pins macros r pins′ macros′

@@ -1,0 +1,63 @@
+-- Each round of every solution starts with one tree, whose points are the pins and the ends of its edges: the tables hold the same edges,
+-- and they are sound.
+-- Assumes nothing.
+use mathlib.Core.Path.{_≡_}
+use mathlib.Core.Logic.{inl, inr}
+use mathlib.Core.List.{List, Memᴰ·cast}
+use Prim.Native.Nat.{ℕ, zero, suc}
+use lib.Dec.{eqb}
+use borrow.Author.Tests.{eqb-true, eqb-false}
+use Rattle.lists.proofs.TestLaws.{by}
+use Rattle.plane.specs.declared.Place.{Place}
+use Rattle.plane.specs.declared.Macro.{Macro}
+use Rattle.plane.specs.Flat.{placeAt}
+use Rattle.plane.proofs.PlaceOrder.{place-same}
+use Rattle.joined.specs.Joined.{Inside}
+use Rattle.joined.specs.OneTree.{OneTree}
+use Rattle.joined.proofs.JoinedLaws.{firsts, seconds}
+use Rattle.joined.proofs.TreeLaws.{tree-cuts}
+use Rattle.joined.proofs.WayLaws.{way-more}
+use Rattle.joined.proofs.OneTreeLaws.{tree-one}
+use Rattle.refined.specs.Table.{Tree}
+use Rattle.refined.specs.Places.{pointsOf, Sound}
+use Rattle.refined.specs.Sentences.{foundIn, exchanged}
+use Rattle.refined.proofs.ListingLaws.{in-listing}
+use Rattle.rules.specs.Edges.{Edge, Same}
+use Rattle.rules.specs.Refined.{Rounds, TreesThrough}
+use Rattle.rules.proofs.EdgeLaws.{same-turn}
+use Rattle.rules.proofs.RoundOnly.{point-same, gain-same, round-only}
+use Rattle.rules.proofs.GainOurs.{edgesIn, edge-of}
+use Rattle.rules.proofs.RefinesOurs.{Fit, no-gain, some-gain, fit-next}
+
+-- one tree, by whichever list of the same edges
+one-tree-same : (ps : List Place) {T U : List Edge} → Same T U → OneTree ps T → OneTree ps U
+one-tree-same ps h tree x y i k n =
+    let w = tree x y (point-same (same-turn h) ps x i) (point-same (same-turn h) ps y k) n in
+    record {
+      free = record { points = w .free .points; way = way-more (h .0) (w .free .way); once = w .free .once };
+      only = λ qs v o. w .only qs (way-more (h .1) v) o;
+    }
+
+sound-tree : {ms : List Macro} {ps : List Place} (t : Tree) → Sound ms ps t → OneTree ps (edgesIn t)
+sound-tree {ms} {ps} t s = tree-one place-same (s .whole) inside ps (s .pinned)
+  where
+    inside : Inside (pointsOf (t .points) (t .count)) (edgesIn t)
+    inside c d m =
+        let r = edge-of t (c, d) m in (
+          Memᴰ·cast (firsts (r .1 .1)) (in-listing (placeAt (t .points)) (t .count) _ (s .within .ends (r .0) .0)),
+          Memᴰ·cast (seconds (r .1 .1)) (in-listing (placeAt (t .points)) (t .count) _ (s .within .ends (r .0) .1)),
+        )
+
+pub rounds-trees : {ms : List Macro} {ps : List Place} (m : ℕ) (t : Tree) → Fit ms ps m t → (T U : List Edge) → Same (edgesIn t) T →
+    (r : Rounds ps ms m T U) → TreesThrough ps ms m T U r
+rounds-trees {ms} {ps} zero t fit T U h r = one-tree-same ps h (sound-tree t (fit .sound))
+rounds-trees {ms} {ps} (suc m) t fit T U h (inl r) = one-tree-same ps h (sound-tree t (fit .sound))
+rounds-trees {ms} {ps} (suc m) t fit T U h (inr (X, (r, more))) = (
+  one-tree-same ps h (sound-tree t (fit .sound)),
+  by (eqb (foundIn ms t .gain) 0)
+      (λ q. absurd (no-gain (suc m) t fit (eqb-true _ _ q) (r .a) (r .b) (r .u) (r .l) (r .g) (gain-same (same-turn h) (r .takes .taken))))
+      (λ q.
+      let some : foundIn ms t .gain ≡ 0 → ⊥ = eqb-false _ _ q in
+      rounds-trees m (exchanged ms t) (fit-next m t fit some) X U
+      (round-only (tree-cuts place-same (fit .sound .whole)) h (some-gain m t fit some) r) more),
+)

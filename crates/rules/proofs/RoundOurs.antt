@@ -1,0 +1,276 @@
+-- The exchange of the tables is the round: it takes the candidate that is to be taken, and an edge is there afterwards exactly when
+-- `After` says so.
+-- Assumes nothing.
+use mathlib.Core.Path.{_≡_, refl, sym, ap, ap₂, _∙_, subst}
+use mathlib.Core.Bool.{true, false}
+use mathlib.Core.Logic.{_⊎_, inl, inr, _↔_}
+use mathlib.Core.List.{List, Memᴰ·cast}
+use Prim.Native.Nat.{ℕ, zero, suc, _*_, _≤_, _<_}
+use native.Mathlib.Omega.{arith}
+use lib.Dec.{ltb, eqb}
+use lib.IntN.{ℤ}
+use lib.ListN.{length, getD}
+use borrow.Author.Tests.{ltb-true, ltb-false, eqb-true, eqb-false}
+use Rattle.lists.specs.Member.{_∈_}
+use Rattle.lists.proofs.TestLaws.{by, differ, either}
+use Rattle.plane.specs.declared.Place.{Place}
+use Rattle.plane.specs.declared.Macro.{Macro}
+use Rattle.plane.specs.Place.{before}
+use Rattle.plane.specs.Flat.{placeAt}
+use Rattle.plane.proofs.PlaceOrder.{place-order}
+use Rattle.joined.specs.Joined.{Link}
+use Rattle.joined.proofs.JoinedLaws.{firsts, seconds}
+use Rattle.refined.specs.declared.Best.{Best}
+use Rattle.refined.specs.Table.{pointBound, key, firstEnd, secondEnd, Tree, tree, Within}
+use Rattle.refined.specs.Exchange.{dropTwo, exchange}
+use Rattle.refined.specs.Sum.{below, over}
+use Rattle.refined.specs.Places.{endsOf, edgesOf, Ranked, Sound}
+use Rattle.refined.specs.Sentences as tables
+use Rattle.refined.proofs.SumLaws.{below-some, one, one-same, one-some, one-not, in-table, of-table, between, over-dropped}
+use Rattle.refined.proofs.WithinLaws.{within-dropped}
+use Rattle.refined.proofs.AfterLaws as moved
+use Rattle.refined.proofs.ExchangeSound.{laid-after}
+use Rattle.refined.proofs.WinnerLaws.{found-wins}
+use Rattle.refined.proofs.RoundSound.{Won, taken, sized, exchange-laid, round-kept}
+use Rattle.refined.proofs.TakesLaws.{found-takes}
+use Rattle.rules.specs.Edges.{Edge, edgeBefore}
+use Rattle.rules.specs.Refined.{Lays, Takes, After, Round}
+use Rattle.rules.proofs.GainOurs.{not-after, edgesIn, pointAt, edgeAt, edge-in, edge-of, point-not, edge-not, edge-one, gain-to}
+use Rattle.rules.proofs.GainOurs.{gain-of}
+
+-- "An edge is written smaller place first"
+pub upward : {ms : List Macro} {ps : List Place} (t : Tree) → Sound ms ps t → Ranked (t .edges .keys) (t .edges .size) →
+    (e : Edge) → e ∈ edgesIn t → before (e .0) (e .1) ≡ true
+upward t sound ranked e m =
+    let r = edge-of t e m in
+    let k = tables.keyAt t (r .0) in
+    subst (λ (z : Edge). before (z .0) (z .1) ≡ true) (sym (r .1 .1))
+    (sound .ordered (firstEnd k) (secondEnd k) (ranked .upward (r .0) (r .1 .0)) (sound .within .ends (r .0) .1))
+
+-- The candidate that is taken
+
+module _ {ms : List Macro} {ps : List Place} (t : Tree) (sound : Sound ms ps t) (ranked : Ranked (t .edges .keys) (t .edges .size))
+    (c : Best) (takes : tables.Takes ms t c) (above : 0 < c .gain) where
+  pub takes-ours : Takes ps ms (edgesIn t) (tables.endA t (c .edge)) (tables.endB t (c .edge)) (pointAt t (c .point)) (edgeAt t (c .cut))
+      (c .gain)
+  takes-ours = record {
+    taken = gain-to t sound ranked (c .edge) (c .point) (c .cut) (c .gain) mine;
+    greatest = λ a b v e g x. let r = gain-of t sound ranked a b v e g x in takes .greatest (r .k) (r .u) (r .l) g (r .gains);
+    first =
+        λ a b v e x.
+        let r = gain-of t sound ranked a b v e (c .gain) x in
+        subst (λ (z : Edge). edgeBefore z (edgeAt t (c .edge)) ≡ false) (sym (r .edge))
+        (edge-not t sound ranked (c .edge) (r .k) (takes .smallest (r .k) (r .u) (r .l) (c .gain) (r .gains) refl .0)
+        (r .gains .candidate .edge));
+    smallest =
+        λ v e x.
+        let r = gain-of t sound ranked _ _ v e (c .gain) x in
+        let q : c .edge ≡ r .k = edge-one t sound ranked (c .edge) (r .k) (mine .candidate .edge) (r .gains .candidate .edge) (r .edge) in
+        subst (λ (z : Place). before z (pointAt t (c .point)) ≡ false) (sym (r .point))
+        (point-not t sound ranked (c .point) (r .u)
+        (takes .smallest (r .k) (r .u) (r .l) (c .gain) (r .gains) refl .1 (omega (arith, q))) (r .gains .candidate .point));
+  }
+    where
+      mine : tables.Gains ms t (c .edge) (c .point) (c .cut) (c .gain)
+      mine = takes .taken above
+
+-- Each key once
+
+below-zero : (f : ℕ → ℕ) (n : ℕ) → ((i : ℕ) → i < n → f i ≡ 0) → below f n ≡ 0
+below-zero f n h =
+    by (ltb 0 (below f n)) (λ q. absurd (let r = below-some f n (ltb-true 0 _ q) in
+    let z : ⊥ = omega (arith, r .1 .1, h (r .0) (r .1 .0)) in z))
+    (λ q. omega (arith, ltb-false 0 (below f n) q))
+
+once-over : (q : ℕ) (ks : List ℕ) (n : ℕ) → ((i j : ℕ) → i < j → j < n → getD ks i 0 < getD ks j 0) → over (one q) ks n ≤ 1
+unfolding below
+once-over q ks zero r = omega arith
+once-over q ks (suc n) r =
+    by (eqb (getD ks n 0) q)
+    (λ t.
+    let e : getD ks n 0 ≡ q = eqb-true _ _ t in
+    let o : one q (getD ks n 0) ≡ 1 = ap (one q) e ∙ one-same q in
+    let z = below-zero (λ i. one q (getD ks i 0)) n
+    (λ i h. one-not q (getD ks i 0) (λ d. let y : ⊥ = omega (arith, r i n h (omega arith), d, e) in y)) in
+    omega (arith, o, z))
+    (λ t.
+    let o = one-not q (getD ks n 0) (eqb-false _ _ t) in
+    omega (arith, o, once-over q ks n (λ i j h l. r i j h (omega arith))))
+
+-- The edges afterwards
+
+module _ {pts : List ℤ} {n : ℕ} {ks : List ℕ} {e k l a b u p : ℕ} {s : Place} {m : ℕ → ℕ} {t : Tree}
+    (after : moved.After pts n ks e k l a b u p s m t) (w : Within n ks) (hk : k < suc (suc e)) (hl : l < suc (suc e)) (kl : k ≡ l → ⊥)
+    (ha : a < n) (hb : b < n) (hu : u < n)
+    (rising : (i j : ℕ) → i < j → j < suc (suc e) → getD ks i 0 < getD ks j 0)
+    (one-key : (i j : ℕ) → i < suc (suc e) → j < suc (suc e) → endsOf pts (getD ks i 0) ≡ endsOf pts (getD ks j 0) → i ≡ j)
+    (up : (x : Edge) → x ∈ edgesIn t → before (x .0) (x .1) ≡ true) where
+  abbrev T : List Edge
+  T = edgesOf pts ks (suc (suc e))
+
+  abbrev Outcome : Edge → Type 0
+  Outcome x =
+      ((x ∈ T) × ((x ≡ endsOf pts (getD ks k 0) → ⊥) × (x ≡ endsOf pts (getD ks l 0) → ⊥))) ⊎
+      (Lays s (placeAt pts a) x ⊎ (Lays s (placeAt pts b) x ⊎ Lays s (placeAt pts u) x))
+
+  -- s and a point to which an edge is laid
+  laid-link : (x : ℕ) → x < n → ((g : ℕ → ℕ) → between g p (m x) ≤ over g (t .edges .keys) (t .edges .size)) →
+      (s ≡ placeAt pts x) ⊎ Link (edgesIn t) s (placeAt pts x)
+  laid-link x h part =
+      by (ltb p (m x))
+      (λ q.
+      let j = key p (m x) in
+      let v : between (one j) p (m x) ≡ one j j = moved.between-less (one j) p (m x) q in
+      inr (inl (moved.there-is after w hk hl kl ha hb hu j s (placeAt pts x) (omega (arith, part (one j), v, one-same j))
+      (moved.ends after w hk hl kl ha hb hu p (m x) s (placeAt pts x) (after .low x h) (after .new) (after .old x h)))))
+      (λ q.
+      by (ltb (m x) p)
+      (λ r.
+      let j = key (m x) p in
+      let v : between (one j) p (m x) ≡ one j j = moved.between-more (one j) p (m x) q r in
+      inr (inr (moved.there-is after w hk hl kl ha hb hu j (placeAt pts x) s (omega (arith, part (one j), v, one-same j))
+      (moved.ends after w hk hl kl ha hb hu (m x) p (placeAt pts x) s (after .lowest) (after .old x h) (after .new)))))
+      (λ r.
+      let v : p ≡ m x = omega (arith, ltb-false p (m x) q, ltb-false (m x) p r) in
+      inl (sym (after .new) ∙ ap (placeAt (t .points)) v ∙ after .old x h)))
+
+  -- the edge of s and such a point, smaller place first, is there
+  lays-in : (x : Place) (y : Edge) → (s ≡ x) ⊎ Link (edgesIn t) s x → Lays s x y → y ∈ edgesIn t
+  lays-in x y (inl q) h =
+      let z : y .0 ≡ y .1 = either (λ v. v .0 ∙ q ∙ sym (v .1)) (λ v. v .0 ∙ sym q ∙ sym (v .1)) (h .1) in
+      differ (h .0) (ap (before (y .0)) (sym z) ∙ place-order .never (y .0))
+  lays-in x y (inr (inl i)) (f, inl v) = Memᴰ·cast (ap₂ (λ (c d : Place). (c, d)) (v .0) (v .1)) i
+  lays-in x y (inr (inl i)) (f, inr v) =
+      differ (ap₂ before (sym (v .0)) (sym (v .1)) ∙ f) (not-after place-order s x (up (s, x) i))
+  lays-in x y (inr (inr i)) (f, inl v) =
+      differ (ap₂ before (sym (v .0)) (sym (v .1)) ∙ f) (not-after place-order x s (up (x, s) i))
+  lays-in x y (inr (inr i)) (f, inr v) = Memᴰ·cast (ap₂ (λ (c d : Place). (c, d)) (v .0) (v .1)) i
+
+  pub in-after : (x : Edge) → Outcome x → x ∈ edgesIn t
+  in-after x (inl h) =
+      either (λ q. absurd (h .1 .0 q)) (either (λ q. absurd (h .1 .1 q)) (λ q. q))
+      (moved.sorted after w hk hl kl ha hb hu (x .0) (x .1) (h .0))
+  in-after x (inr (inl h)) = lays-in (placeAt pts a) x (laid-link a ha (λ g. omega (arith, after .sums g))) h
+  in-after x (inr (inr (inl h))) = lays-in (placeAt pts b) x (laid-link b hb (λ g. omega (arith, after .sums g))) h
+  in-after x (inr (inr (inr h))) = lays-in (placeAt pts u) x (laid-link u hu (λ g. omega (arith, after .sums g))) h
+
+  -- an edge that was left is neither k nor l
+  other-key : (q i : ℕ) → (i ≡ k) ⊎ (i ≡ l) → q ≡ getD ks i 0 → 0 < over (one q) (dropTwo e k l ks) e → ⊥
+  other-key q i which f some =
+      let d = over-dropped (one q) e k l ks hk hl kl in
+      let most = once-over q ks (suc (suc e)) rising in
+      either
+      (λ v. let y : one q (getD ks k 0) ≡ 1 = ap (λ (j : ℕ). one q (getD ks j 0)) (sym v) ∙ ap (one q) (sym f) ∙ one-same q in
+      let z : ⊥ = omega (arith, d, most, y, some) in z)
+      (λ v. let y : one q (getD ks l 0) ≡ 1 = ap (λ (j : ℕ). one q (getD ks j 0)) (sym v) ∙ ap (one q) (sym f) ∙ one-same q in
+      let z : ⊥ = omega (arith, d, most, y, some) in z)
+      which
+
+  from-left : (j : ℕ) → 0 < over (λ q. one j (moved.moved after w hk hl kl ha hb hu q)) (dropTwo e k l ks) e →
+      Outcome (endsOf (t .points) j)
+  from-left j some =
+      let r = below-some _ e some in
+      let q = getD (dropTwo e k l ks) (r .0) 0 in
+      let left = of-table (dropTwo e k l ks) e (r .0) (r .1 .0) in
+      let d = over-dropped (one q) e k l ks hk hl kl in
+      let o = in-table q ks (suc (suc e)) (omega (arith, d, left)) in
+      let is : endsOf (t .points) j ≡ endsOf pts (getD ks (o .0) 0)
+      = ap (endsOf (t .points)) (sym (one-some j (moved.moved after w hk hl kl ha hb hu q) (r .1 .1)))
+      ∙ moved.moved-ends after w hk hl kl ha hb hu q (within-dropped n e k l ks w .ends (r .0))
+      ∙ ap (endsOf pts) (sym (o .1 .1)) in
+      inl (
+        Memᴰ·cast is (edge-in (tree pts n ks (suc (suc e))) (o .0) (o .1 .0)),
+        (
+          λ v. other-key q (o .0) (inl (one-key (o .0) k (o .1 .0) hk (sym is ∙ v))) (sym (o .1 .1)) left,
+          λ v. other-key q (o .0) (inr (one-key (o .0) l (o .1 .0) hl (sym is ∙ v))) (sym (o .1 .1)) left,
+        ),
+      )
+
+  from-s : (j x : ℕ) → before (endsOf (t .points) j .0) (endsOf (t .points) j .1) ≡ true → x < n → 0 < between (one j) p (m x) →
+      Lays s (placeAt pts x) (endsOf (t .points) j)
+  from-s j x f h some = (
+    f,
+    either
+        (λ q. inl (of (ap (endsOf (t .points)) (sym (one-some j (key p (m x)) q)) ∙ moved.ends after w hk hl kl ha hb hu p (m x) s
+        (placeAt pts x)
+        (after .low x h) (after .new) (after .old x h))))
+        (λ q. inr (of (ap (endsOf (t .points)) (sym (one-some j (key (m x) p) q)) ∙ moved.ends after w hk hl kl ha hb hu (m x) p
+        (placeAt pts x) s
+        (after .lowest) (after .old x h) (after .new))))
+        (moved.between-some (one j) p (m x) some),
+  )
+    where
+      of : {y z : Place} → endsOf (t .points) j ≡ (y, z) → (endsOf (t .points) j .0 ≡ y) × (endsOf (t .points) j .1 ≡ z)
+      of q = (firsts q, seconds q)
+
+  at-key : (i : ℕ) → i < t .edges .size → Outcome (edgeAt t i)
+  at-key i h =
+      let j = getD (t .edges .keys) i 0 in
+      let f = up (edgeAt t i) (edge-in t i h) in
+      let all = after .sums (one j) in
+      let some = of-table (t .edges .keys) (t .edges .size) i h in
+      by (ltb 0 (between (one j) p (m u))) (λ q. inr (inr (inr (from-s j u f hu (ltb-true _ _ q))))) λ q.
+      by (ltb 0 (between (one j) p (m b))) (λ v. inr (inr (inl (from-s j b f hb (ltb-true _ _ v))))) λ v.
+      by (ltb 0 (between (one j) p (m a))) (λ z. inr (inl (from-s j a f ha (ltb-true _ _ z)))) λ z.
+      from-left j (omega (
+        arith,
+        all,
+        some,
+        ltb-false 0 (between (one j) p (m u)) q,
+        ltb-false 0 (between (one j) p (m b)) v,
+        ltb-false 0 (between (one j) p (m a)) z,
+      ))
+
+  pub of-after : (x : Edge) → x ∈ edgesIn t → Outcome x
+  of-after x i = let r = edge-of t x i in subst Outcome (sym (r .1 .1)) (at-key (r .0) (r .1 .0))
+
+-- The round
+
+module _ {ms : List Macro} {ps : List Place} (pts : List ℤ) (n : ℕ) (ks : List ℕ) (few : n < pointBound)
+    (room : length pts ≡ pointBound * 2)
+    (rooms : length ks ≡ pointBound) (c : Best) (above : 0 < c .gain) where
+  round-at : (e : ℕ) → Sound ms ps (tree pts n ks e) → Ranked ks e → Won ms ps pts n ks few room rooms e c →
+      tables.Takes ms (tree pts n ks e) c →
+      Round ps ms (edgesOf pts ks e) (edgesIn (exchange c pts n ks e))
+  round-at zero sound ranked win takes = absurd (let z : ⊥ = omega (arith, win .edge) in z)
+  round-at (suc zero) sound ranked win takes =
+      let t = taken ms ps pts n ks 0 sound few (c .gain) (c .edge) (c .point) (c .cut) win in
+      absurd (win .two (let z : c .cut ≡ c .edge = omega (arith, t .edge, t .cut) in z))
+  round-at (suc (suc e)) sound ranked win takes =
+      let before = tree pts n ks (suc (suc e)) in
+      let t = taken ms ps pts n ks (suc e) sound few (c .gain) (c .edge) (c .point) (c .cut) win in
+      let s = sized ms ps pts n ks (suc e) sound few (c .gain) (c .edge) (c .point) (c .cut) win in
+      let kept = round-kept ms ps pts n ks few room rooms c (suc (suc e)) sound win in
+      let q = exchange-laid ms ps pts n ks few room rooms c e in
+      let laid = laid-after ms ps pts n ks e (c .edge) (c .cut) (c .point) sound t few (omega arith) (omega (arith, s)) in
+      let up = upward _ (subst (Sound ms ps) q (kept .sound))
+      (subst (λ (z : Tree). Ranked (z .edges .keys) (z .edges .size)) q (kept .ranked ranked)) in
+      let one-key = edge-one before sound ranked in
+      record {
+        a = tables.endA before (c .edge);
+        b = tables.endB before (c .edge);
+        u = pointAt before (c .point);
+        l = edgeAt before (c .cut);
+        g = c .gain;
+        takes = takes-ours before sound ranked c takes above;
+        edges =
+            λ x.
+            subst (λ (z : Tree). _↔_ (x ∈ edgesIn z) (After (edgesIn before) (tables.endA before (c .edge)) (tables.endB before (c .edge))
+            (pointAt before (c .point)) (edgeAt before (c .cut)) x)) (sym q) (
+              of-after (laid .1) (sound .within) (t .edge) (t .cut) (t .two) (sound .within .ends (c .edge) .0)
+                  (sound .within .ends (c .edge) .1)
+                  (t .point) (ranked .rising) one-key up x,
+              in-after (laid .1) (sound .within) (t .edge) (t .cut) (t .two) (sound .within .ends (c .edge) .0)
+                  (sound .within .ends (c .edge) .1)
+                  (t .point) (ranked .rising) one-key up x,
+            );
+      }
+
+-- where the greatest gain is above zero, the exchange of the tables is the round
+pub round-ours : {ms : List Macro} {ps : List Place} (t : Tree) → Sound ms ps t → Ranked (t .edges .keys) (t .edges .size) → t .count
+    < pointBound →
+    length (t .points) ≡ pointBound * 2 → length (t .edges .keys) ≡ pointBound → 0 < tables.foundIn ms t .gain →
+    Round ps ms (edgesIn t) (edgesIn (tables.exchanged ms t))
+round-ours {ms} {ps} t sound ranked few room rooms above =
+    round-at (t .points) (t .count) (t .edges .keys) few room rooms (tables.foundIn ms t) above (t .edges .size) sound ranked
+    (found-wins ms (t .points) (t .count) (t .edges .keys) (t .edges .size) above) (found-takes ms ps t sound (omega arith))

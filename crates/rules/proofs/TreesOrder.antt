@@ -1,0 +1,205 @@
+-- The trees are the same for every order of pins and macros: the rules speak of which places are pins, how many there are, which corners
+-- the macros have and what is clear, and of nothing else of the two lists. So a solution for one order is one for every other.
+-- Assumes nothing.
+use mathlib.Core.Path.{_≡_, sym, _∙_, subst}
+use mathlib.Core.Logic.{inl, inr}
+use mathlib.Core.List.{List}
+use Prim.Native.Nat.{ℕ, zero, suc}
+use lib.ListN.{length}
+use Rattle.lists.specs.Member.{Among}
+use Rattle.lists.proofs.TestLaws.{either}
+use Rattle.plane.specs.declared.Place.{Place}
+use Rattle.plane.specs.declared.Macro.{Macro}
+use Rattle.plane.specs.Macro.{clear}
+use Rattle.joined.specs.OneTree.{Point}
+use Rattle.rules.specs.Edges.{Edge}
+use Rattle.rules.specs.Spanning.{Vertex, Quadrant, May, Picks, Neighbours, Spanning}
+use Rattle.rules.specs.Terminal.{Path, Root, Through, Parent, Up, arrived, upward, Bridge, Terminal}
+use Rattle.rules.specs.Refined.{Gain, Round, Rounds, Loose, Strips, same, strip, Refines}
+use Rattle.rules.specs.Trees.{Trees}
+
+-- the same pins, as many; the same macros, and so the same places clear of each other
+pub record SameNet (ps qs : List Place) (ms ns : List Macro) : Type 0 where
+  pub to : Among ps qs
+  pub from : Among qs ps
+  pub count : length ps ≡ length qs
+  pub macros-to : Among ms ns
+  pub macros-from : Among ns ms
+  pub clears : (x y : Place) → clear x y ms ≡ clear x y ns
+
+pub turned : {ps qs : List Place} {ms ns : List Macro} → SameNet ps qs ms ns → SameNet qs ps ns ms
+turned h = record {
+  to = h .from;
+  from = h .to;
+  count = sym (h .count);
+  macros-to = h .macros-from;
+  macros-from = h .macros-to;
+  clears = λ x y. sym (h .clears x y);
+}
+
+-- The graph
+
+vertex-in : {ps qs : List Place} {ms ns : List Macro} → SameNet ps qs ms ns → (v : Place) → Vertex ps ms v → Vertex qs ns v
+vertex-in h v (inl m) = inl (h .to v m)
+vertex-in h v (inr (m, (i, c))) = inr (m, (h .macros-to m i, c))
+
+module _ {ps qs : List Place} {ms ns : List Macro} {vs : List Place} where
+  may-in : SameNet ps qs ms ns → {q : Quadrant} {u v : Place} → May ms vs q u v → May ns vs q u v
+  may-in h {u = u} {v = v} x = record { vertex = x .vertex; lies = x .lies; seen = sym (h .clears u v) ∙ x .seen }
+
+module _ {ps qs : List Place} {ms ns : List Macro} {vs : List Place} (h : SameNet ps qs ms ns) where
+  picks-in : {u v : Place} → Picks ms vs u v → Picks ns vs u v
+  picks-in p = record {
+    quadrant = p .quadrant;
+    may = may-in h (p .may);
+    nearest = λ w x. p .nearest w (may-in (turned h) x);
+    smallest = λ w x. p .smallest w (may-in (turned h) x);
+  }
+
+  neighbours-in : {u v : Place} → Neighbours ms vs u v → Neighbours ns vs u v
+  neighbours-in j = record {
+    smaller = j .smaller;
+    one = j .one;
+    other = j .other;
+    picked = either (λ p. inl (picks-in p)) (λ p. inr (picks-in p)) (j .picked);
+  }
+
+pub spanning-in : {ps qs : List Place} {ms ns : List Macro} {vs : List Place} {es : List Edge} → SameNet ps qs ms ns →
+    Spanning ps ms vs es → Spanning qs ns vs es
+spanning-in h s = record {
+  vertices = λ v. (λ i. vertex-in h v (s .vertices v .0 i), λ x. s .vertices v .1 (vertex-in (turned h) v x));
+  vertices-in-order = s .vertices-in-order;
+  edges = λ u v. (λ i. neighbours-in h (s .edges u v .0 i), λ x. s .edges u v .1 (neighbours-in (turned h) x));
+  edges-in-order = s .edges-in-order;
+}
+
+-- The terminal tree
+
+module _ {G : List Edge} {ps qs : List Place} (to : Among ps qs) (from : Among qs ps) where
+  root-in : {v p : Place} → Root G ps v p → Root G qs v p
+  root-in {p = p} r = record {
+    pin = to p (r .pin);
+    points = r .points;
+    way = r .way;
+    nearest = λ q l i. r .nearest q l (from q i);
+    smallest = λ q l i. r .smallest q l (from q i);
+  }
+
+  through-in : {v w : Place} → Through G ps v w → Through G qs v w
+  through-in t = record {
+    link = t .link;
+    root = t .root;
+    own = root-in (t .own);
+    same = root-in (t .same);
+    points = t .points;
+    way = t .way;
+    shortest = t .shortest;
+  }
+
+module _ {G : List Edge} {ps qs : List Place} (to : Among ps qs) (from : Among qs ps) where
+  parent-in : {v p : Place} → Parent G ps v p → Parent G qs v p
+  parent-in r = record { through = through-in to from (r .through); smallest = λ w t. r .smallest w (through-in from to t) }
+
+  up-in : {v : Place} {l : List Place} → Up G ps v l → Up G qs v l
+  up-in {v} (arrived m) = arrived (to v m)
+  up-in {v} (upward n p u) = upward (λ i. n (from v i)) (parent-in p) (up-in u)
+
+  bridge-in : {k : Path} → Bridge G ps k → Bridge G qs k
+  bridge-in b = record {
+    edge = b .edge;
+    start-root = root-in to from (b .start-root);
+    finish-root = root-in to from (b .finish-root);
+    apart = b .apart;
+    first = b .first;
+    first-up = up-in (b .first-up);
+    second = b .second;
+    second-up = up-in (b .second-up);
+    points-are = b .points-are;
+  }
+
+  pub terminal-in : {ks : List Path} → Terminal G ps ks → Terminal G qs ks
+  terminal-in t = record {
+    offered = t .offered;
+    bridges = λ k m. bridge-in (t .bridges k m);
+    all = λ e i p q r s n. t .all e i p q (root-in from to r) (root-in from to s) n;
+    in-turn = t .in-turn;
+    keeps = t .keeps;
+  }
+
+-- The refined tree
+
+point-in : {ps qs : List Place} {T : List Edge} → Among ps qs → (v : Place) → Point ps T v → Point qs T v
+point-in h v (inl m) = inl (h v m)
+point-in h v (inr l) = inr l
+
+gain-in : {ps qs : List Place} {ms ns : List Macro} {T : List Edge} → SameNet ps qs ms ns → (a b u : Place) (l : Edge) (g : ℕ) →
+    Gain ps ms T a b u l g → Gain qs ns T a b u l g
+gain-in h a b u l g x =
+    let c = x .candidate in
+    record {
+      candidate = record {
+        edge = c .edge;
+        point = point-in (h .to) u (c .point);
+        notFirst = c .notFirst;
+        notSecond = c .notSecond;
+        seen = either (λ q. inl (sym (h .clears u a) ∙ q)) (λ q. inr (sym (h .clears u b) ∙ q)) (c .seen);
+        kept = λ v p. c .kept v (point-in (h .from) v p);
+      };
+      cut = x .cut;
+      gain = x .gain;
+      above = x .above;
+    }
+
+round-in : {ps qs : List Place} {ms ns : List Macro} {T U : List Edge} → SameNet ps qs ms ns → Round ps ms T U → Round qs ns T U
+round-in h r = record {
+  a = r .a;
+  b = r .b;
+  u = r .u;
+  l = r .l;
+  g = r .g;
+  takes = record {
+    taken = gain-in h (r .a) (r .b) (r .u) (r .l) (r .g) (r .takes .taken);
+    greatest = λ c d v k f x. r .takes .greatest c d v k f (gain-in (turned h) c d v k f x);
+    first = λ c d v k x. r .takes .first c d v k (gain-in (turned h) c d v k (r .g) x);
+    smallest = λ v k x. r .takes .smallest v k (gain-in (turned h) (r .a) (r .b) v k (r .g) x);
+  };
+  edges = r .edges;
+}
+
+rounds-in : {ps qs : List Place} {ms ns : List Macro} → SameNet ps qs ms ns → (m : ℕ) (T U : List Edge) → Rounds ps ms m T U →
+    Rounds qs ns m T U
+rounds-in h zero T U r = r
+rounds-in h (suc m) T U (inl r) = inl (λ a b u l g x. r .0 a b u l g (gain-in (turned h) a b u l g x), r .1)
+rounds-in h (suc m) T U (inr (X, (r, more))) = inr (X, (round-in h r, rounds-in h m X U more))
+
+loose-in : {ps qs : List Place} {T : List Edge} → Among qs ps → (v : Place) (e : Edge) → Loose ps T v e → Loose qs T v e
+loose-in h v e l = record { free = λ m. l .free (h v m); edge = l .edge; end = l .end; single = l .single }
+
+strips-in : {ps qs : List Place} {T R : List Edge} → Among qs ps → Strips ps T R → Strips qs T R
+strips-in h (same k) = same k
+strips-in h (strip v e l k s) = strip v e (loose-in h v e l) k (strips-in h s)
+
+refines-in : {ps qs : List Place} {ms ns : List Macro} {T R : List Edge} → SameNet ps qs ms ns → Refines ps ms T R → Refines qs ns T R
+refines-in {ps} {qs} {ms} {ns} {T} {R} h r = record {
+  rounded = r .rounded;
+  rounds = subst (λ (m : ℕ). Rounds qs ns m T (r .rounded)) (h .count) (rounds-in h (length ps) T (r .rounded) (r .rounds));
+  prunes = record {
+    strips = strips-in (h .from) (r .prunes .strips);
+    none = λ v e l. r .prunes .none v e (loose-in (h .to) v e l);
+  };
+}
+
+-- All of it
+
+pub trees-in : {ps qs : List Place} {ms ns : List Macro} {vs : List Place} {es rs : List Edge} {ks : List Path} → SameNet ps qs ms ns →
+    Trees ps ms vs es ks rs → Trees qs ns vs es ks rs
+trees-in h t = record {
+  spanning = spanning-in h (t .spanning);
+  terminal = terminal-in (h .to) (h .from) (t .terminal);
+  refined = record {
+    start = t .refined .start;
+    union = t .refined .union;
+    refines = refines-in h (t .refined .refines);
+    in-order = t .refined .in-order;
+  };
+}

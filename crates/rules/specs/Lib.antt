@@ -1,0 +1,44 @@
+-- What the trees of a net are: the page that a buyer must believe, under the numbers of docs/RULES.md.
+--
+-- WHAT IT IS. Graph, terminal tree and refined tree as relations over places and edges. No table, no number of a vertex and no function of
+-- the router is named here: these files use only places and macros, the order and the distance of places, the middle of three, what is
+-- clear (`plane`), and ways, chains and trees over any points (`joined`). For every allowed net `Spanning`, `Terminal`, `Refined` and
+-- `Trees` have our answer as their one solution; so they say all that there is to say, and how the answer is worked out is nobody's
+-- business but the prover's. `BestJoining` and `RefinedTree` (D3) say how good that answer is.
+--
+-- HOW IT IS WRITTEN. A list of vertices or edges is said by what stands in it (`↔`), and by its order where it is given; "the nearest",
+-- "the longest", "the first" are said by comparison with every other. So the order of a net's lists is nowhere, and that it does not
+-- matter follows from "one solution" alone (`trees-same`).
+--
+--   Interior   PlanePoint, Interior, Box        a point with fractions; when it lies in an interior, in a closed box
+--   Edges      Edge, edgeBefore, edgeLength     edges, their order and their length
+--              Same T U                         the same edges, as sets
+--   Spanning   Vertex, Lies, May, Picks         vertices; quadrants; what a vertex may pick, and what it picks
+--              Spanning ps ms vs es             vs and es are vertices and edges of the graph, in order
+--   Terminal   Path, givenFor                   a path of the tree with its bridge; what is given for it
+--              Root, Parent, Up, Bridge         roots, parents and ways; what a bridge stands for
+--              Terminal G ps ks                 ks are the kept paths, in the order kept
+--   Refined    OnSome, Union                    an edge of one of the paths; the start
+--              Candidate, Cut, Gain, Takes      a candidate, its L and its gain; the one that a round takes
+--              After, Round, Rounds             which edges are there after a round; at most m of them
+--              TreesThrough, FallsThrough       the trees between are trees; each round makes them shorter by its gain
+--              Loose, Strips, Prunes            points that go, in any order, until there is none
+--              Refined ps ms ks rs              rs are the edges of the refined tree, in order
+--   Trees      Trees ps ms vs es ks rs          all three;  Equal: the same four lists
+--   Demand     BestJoining G ps ks              D3 of the kept paths;  RefinedTree: D3 of the refined tree
+--
+-- THE THEOREMS (proofs/)
+--   InteriorLaws   box-meets, interiors-meet, clear-points    the tests on whole numbers are about points with fractions
+--   SpanningOurs   graph-ours, graph-only                     what is given is the graph, and there is no other
+--   TerminalOurs   terminal-ours, terminal-only               the same of the terminal tree
+--   RefinedOurs    refined-ours, refined-only, refined-tree   the same of the refined tree, and D3 of it;  between-trees
+--   TreesOurs      trees-ours, trees-only                     all three at once;  trees-same: for every order of pins and macros
+--   BestLaws       best-joining                               D3 of the kept paths
+--   PrunesOnly     prunes-only                                every order of pruning leaves the same edges
+pub mod Interior
+pub mod Edges
+pub mod Spanning
+pub mod Terminal
+pub mod Refined
+pub mod Trees
+pub mod Demand

@@ -1,0 +1,188 @@
+//! The library and the program answer as the first release did, byte for byte, on the inputs of harness/first-release/outputs.txt.
+
+use std::collections::{BTreeMap, BTreeSet};
+use std::path::Path;
+use std::thread;
+
+use harness::outputs::{differences, digest, records, Case, Difference, Input};
+
+/// The text that was stored with the first release.
+fn stored() -> String {
+    let file = Path::new(env!("CARGO_MANIFEST_DIR")).join("first-release/outputs.txt");
+    std::fs::read_to_string(&file).unwrap_or_else(|error| panic!("{}: {error}", file.display()))
+}
+
+/// The input of a stored record, which must stand there as it would be written now.
+fn case(record: &str) -> Case {
+    let case = Case::parse(record).unwrap_or_else(|| panic!("no record:\n{record}"));
+    assert!(record.starts_with(&case.head()), "no head:\n{record}");
+    case
+}
+
+/// Every difference, by two threads, in the order of the records.
+fn all_differences(records: &[String]) -> Vec<Difference> {
+    let of_half = |half: &[String]| -> Vec<Difference> {
+        let of = |record: &String| differences(record, &case(record).record());
+        half.iter().flat_map(of).collect()
+    };
+    let (first, second) = records.split_at(records.len() / 2);
+    thread::scope(|scope| {
+        let first = scope.spawn(|| of_half(first));
+        let second = of_half(second);
+        [first.join().expect("the first half"), second].concat()
+    })
+}
+
+/// How many differences are printed whole.
+const PRINTED: usize = 10;
+
+#[test]
+fn every_output_is_that_of_the_first_release() {
+    let found = all_differences(&records(&stored()));
+    let mut counts: BTreeMap<&str, usize> = BTreeMap::new();
+    for difference in &found {
+        *counts.entry(&difference.operation).or_default() += 1;
+    }
+    let printed: Vec<String> = found[..found.len().min(PRINTED)]
+        .iter()
+        .map(Difference::to_string)
+        .collect();
+    assert!(
+        found.is_empty(),
+        "records that differ, by operation: {counts:?}; the first of them:\n{}",
+        printed.join("\n")
+    );
+}
+
+/// The file is never written again: a request that changes an answer writes its differences beside it.
+#[test]
+fn the_stored_file_is_the_one_of_the_first_release() {
+    assert_eq!(
+        format!("{:016x}", digest(stored().as_bytes())),
+        "93c8ecd33ffc9eab"
+    );
+}
+
+/// Examples, nets at the bounds, and the kinds that the generators had: 23 of allowed nets, 15 of refused ones and 16 of damaged files.
+const KINDS: usize = 2 + 23 + 15 + 16;
+
+/// Every kind, every refusal of every operation, and most nets in full.
+#[test]
+fn the_records_meet_every_kind_and_every_refusal() {
+    let records = records(&stored());
+    let (mut kinds, mut answers) = (BTreeSet::new(), BTreeSet::new());
+    let (mut nets, mut in_full, mut largest) = (0, 0, 0);
+    for record in &records {
+        let case = case(record);
+        if let Input::Net { lists, full } = &case.input {
+            nets += 1;
+            in_full += usize::from(*full);
+            largest += usize::from((lists.pins.len(), lists.macros.len()) == (128, 256));
+        }
+        kinds.insert(case.kind);
+        for line in record.lines() {
+            let words: Vec<&str> = line.split(' ').collect();
+            match words[..] {
+                ["short", "graph", v, e, "terminal", t, "refined", r, "wires", w, "file", f] => {
+                    let short = ["vertices", "edges", "paths", "tree", "drawn", "bytes"];
+                    for (space, answer) in short.iter().zip([v, e, t, r, w, f]) {
+                        answers.insert(format!("{space} {answer}"));
+                    }
+                }
+                ["route", "refused", number] => {
+                    answers.insert(format!("{} route {number}", what(record)));
+                }
+                [operation, answer, ..] => {
+                    answers.insert(format!("{operation} {answer}"));
+                }
+                _ => {}
+            }
+        }
+    }
+    assert_eq!(nets, 2_000);
+    assert!(in_full >= 1_500 && largest >= 20, "{in_full} {largest}");
+    assert_eq!(kinds.len(), KINDS);
+    for wanted in wanted() {
+        assert!(answers.contains(&wanted), "never met: {wanted}");
+    }
+}
+
+/// What a record is of: `net` or `damaged`.
+fn what(record: &str) -> &str {
+    record.split(' ').next().unwrap_or_default()
+}
+
+/// Each answer that must stand somewhere: 0 and 11 to 17 for each operation, 21 for each space that is one number short.
+fn wanted() -> Vec<String> {
+    let mut wanted = Vec::new();
+    for operation in ["check", "graph", "terminal", "refined", "wires", "file"] {
+        for answer in [0, 11, 12, 13, 14, 15, 16, 17] {
+            wanted.push(format!("{operation} {answer}"));
+        }
+    }
+    for space in ["vertices", "edges", "paths", "tree", "drawn", "bytes"] {
+        for answer in [11, 12, 13, 14, 15, 16, 17, 21] {
+            wanted.push(format!("{space} {answer}"));
+        }
+    }
+    for answer in [11, 12, 13, 14, 15, 16, 17] {
+        wanted.push(format!("net route {answer}"));
+    }
+    for answer in [1, 2, 3, 11, 13, 14, 15, 16, 17] {
+        wanted.push(format!("damaged route {answer}"));
+    }
+    wanted
+}
+
+/// The judge is awake: one digit, a line too many, a line too few and two lines exchanged are each found, and named by the net's number
+/// and the operation with both lines.
+#[test]
+fn a_difference_is_named() {
+    let records = records(&stored());
+    let record = records
+        .iter()
+        .find(|record| record.starts_with("net ") && record.contains(" three-pins "))
+        .expect("the third worked net");
+    let now = case(record).record();
+    assert_eq!(differences(record, &now), vec![]);
+    let title = record.lines().next().unwrap().to_string();
+    let named = |operation: &str, stored: &str, now: &str| {
+        vec![Difference {
+            title: title.clone(),
+            operation: operation.to_string(),
+            stored: stored.to_string(),
+            now: now.to_string(),
+        }]
+    };
+    let edges = "refined 0 total 7 edges 3: 0 0 2 0, 2 0 2 3, 2 0 4 0";
+    let other = "refined 0 total 8 edges 3: 0 0 2 0, 2 0 2 3, 2 0 4 0";
+    assert_eq!(
+        differences(&record.replace(edges, other), &now),
+        named("refined", other, edges)
+    );
+    let last = "route 2 0 4 0 2";
+    assert_eq!(
+        differences(&record.replace(&format!("{last}\n"), ""), &now),
+        named("route", "", last)
+    );
+    assert_eq!(
+        differences(&format!("{record}route 1\n"), &now),
+        named("route", "route 1", "")
+    );
+    let swapped = record.replace("check 0\n", "") + "check 0\n";
+    assert_eq!(
+        differences(&swapped, &now)[0].operation,
+        "the order of lines"
+    );
+    let said = differences(&record.replace(edges, other), &now)[0].to_string();
+    let expected = format!("{title}: refined differs\n  stored: {other}\n  now:    {edges}");
+    assert_eq!(said, expected);
+}
+
+/// The three values that the inventors of FNV-1a publish for these texts.
+#[test]
+fn the_digest_is_fnv_1a() {
+    assert_eq!(digest(b""), 0xcbf2_9ce4_8422_2325);
+    assert_eq!(digest(b"a"), 0xaf63_dc4c_8601_ec8c);
+    assert_eq!(digest(b"foobar"), 0x8594_4171_f739_67e8);
+}

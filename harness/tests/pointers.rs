@@ -1,0 +1,463 @@
+//! What include/calzundi.h says of pointers: a list or a lent space of none may be null, nothing is touched past what is counted and no
+//! list is written, lists may overlap each other, and calls of several threads do not disturb each other.
+
+use std::ffi::{c_int, c_void};
+use std::mem::size_of_val;
+use std::ptr::{copy_nonoverlapping, null, null_mut};
+use std::{slice, thread};
+
+use harness::library;
+use harness::matching::routed;
+use reference::generate::{net, Kind};
+use reference::lists::Lists;
+
+// The bare calls
+
+/// A list and a lent space, as the bare calls take them: a pointer and a count of numbers.
+type List<T> = (*const T, usize);
+type Space<T> = (*mut T, usize);
+
+fn none<T>() -> List<T> {
+    (null(), 0)
+}
+
+fn no_space<T>() -> Space<T> {
+    (null_mut(), 0)
+}
+
+/// What a call returns, and then its counts and its total.
+type Answer = Vec<i64>;
+
+/// What stands in counts, totals and lent numbers before a call, byte for byte.
+const BEFORE: u8 = 0x5a;
+const COUNT: usize = 0x5a5a_5a5a_5a5a_5a5a;
+const TOTAL: i64 = COUNT as i64;
+
+fn answer(code: i32, counts: &[usize]) -> Answer {
+    let counts = counts.iter().map(|&count| count as i64);
+    [code.into()].into_iter().chain(counts).collect()
+}
+
+fn check(p: List<i32>, q: List<i32>) -> Answer {
+    // SAFETY: as for the calls below, a test hands over what the header asks for.
+    let code = unsafe { library::calzundi_check(p.0, p.1, q.0, q.1) };
+    answer(code, &[])
+}
+
+fn graph(p: List<i32>, q: List<i32>, v: Space<i32>, e: Space<i32>) -> Answer {
+    let (mut vs, mut es) = (COUNT, COUNT);
+    let code = unsafe {
+        library::calzundi_graph(p.0, p.1, q.0, q.1, v.0, v.1, e.0, e.1, &mut vs, &mut es)
+    };
+    answer(code, &[vs, es])
+}
+
+fn terminal_tree(p: List<i32>, q: List<i32>, t: Space<i64>) -> Answer {
+    let (mut count, mut total) = (COUNT, TOTAL);
+    let code = unsafe {
+        library::calzundi_terminal_tree(p.0, p.1, q.0, q.1, t.0, t.1, &mut count, &mut total)
+    };
+    answer(code, &[count, total as usize])
+}
+
+fn refined_tree(p: List<i32>, q: List<i32>, e: Space<i32>) -> Answer {
+    let (mut count, mut total) = (COUNT, TOTAL);
+    let code = unsafe {
+        library::calzundi_refined_tree(p.0, p.1, q.0, q.1, e.0, e.1, &mut count, &mut total)
+    };
+    answer(code, &[count, total as usize])
+}
+
+fn wires(p: List<i32>, q: List<i32>, w: Space<i32>) -> Answer {
+    let mut count = COUNT;
+    let code = unsafe { library::calzundi_wires(p.0, p.1, q.0, q.1, w.0, w.1, &mut count) };
+    answer(code, &[count])
+}
+
+fn write_file(p: List<i32>, q: List<i32>, b: Space<u8>) -> Answer {
+    let mut given = COUNT;
+    let code = unsafe { library::calzundi_write_file(p.0, p.1, q.0, q.1, b.0, b.1, &mut given) };
+    answer(code, &[given])
+}
+
+fn read_file(b: List<u8>, p: Space<i32>, q: Space<i32>) -> Answer {
+    let (mut m, mut k) = (COUNT, COUNT);
+    let code = unsafe { library::calzundi_read_file(b.0, b.1, p.0, p.1, q.0, q.1, &mut m, &mut k) };
+    answer(code, &[m, k])
+}
+
+/// Every operation; the file is read back from what was written.
+fn all(p: List<i32>, q: List<i32>, lent: &mut Lent) -> [Answer; 7] {
+    let checked = check(p, q);
+    let graph = graph(p, q, lent.vertices.space(), lent.edges.space());
+    let terminal = terminal_tree(p, q, lent.paths.space());
+    let refined = refined_tree(p, q, lent.tree.space());
+    let wires = wires(p, q, lent.wires.space());
+    let written = write_file(p, q, lent.bytes.space());
+    let file = lent.bytes.list();
+    let read = read_file(file, lent.pins.space(), lent.macros.space());
+    [checked, graph, terminal, refined, wires, written, read]
+}
+
+/// The answers of refusals by these numbers: counts and totals are as they were.
+fn refused(numbers: [i32; 7]) -> [Answer; 7] {
+    let counts = [0, 2, 2, 2, 1, 1, 2];
+    std::array::from_fn(|i| answer(numbers[i], &[COUNT, COUNT][..counts[i]]))
+}
+
+// Memory between fences
+
+extern "C" {
+    fn mmap(
+        at: *mut c_void,
+        n: usize,
+        access: c_int,
+        kind: c_int,
+        fd: c_int,
+        from: i64,
+    ) -> *mut c_void;
+    fn mprotect(at: *mut c_void, n: usize, access: c_int) -> c_int;
+    fn munmap(at: *mut c_void, n: usize) -> c_int;
+}
+
+const PAGE: usize = 4096;
+const NO_ACCESS: c_int = 0;
+const READ: c_int = 1;
+const READ_WRITE: c_int = 3;
+const PRIVATE_ANONYMOUS: c_int = 0x22;
+
+/// Which fence numbers stand at: whoever touches it ends the process.
+#[derive(Clone, Copy, Debug)]
+enum At {
+    Front,
+    Back,
+}
+
+/// Pages between two that cannot be touched, with numbers at one end and guards in the rest.
+struct Fenced<T> {
+    base: *mut u8,
+    inner: usize,
+    first: *mut T,
+    count: usize,
+}
+
+impl<T: Copy> Fenced<T> {
+    fn of(numbers: &[T], at: At) -> Fenced<T> {
+        let size = size_of_val(numbers);
+        let inner = size.div_ceil(PAGE).max(1) * PAGE;
+        let from = match at {
+            At::Front => PAGE,
+            At::Back => PAGE + inner - size,
+        };
+        // SAFETY: the pages are this value's own until it is dropped, and the numbers fit in the inner ones.
+        unsafe {
+            let base = mmap(
+                null_mut(),
+                inner + 2 * PAGE,
+                NO_ACCESS,
+                PRIVATE_ANONYMOUS,
+                -1,
+                0,
+            );
+            assert!(base as isize != -1, "no memory");
+            let base = base.cast::<u8>();
+            assert_eq!(mprotect(base.add(PAGE).cast(), inner, READ_WRITE), 0);
+            base.add(PAGE).write_bytes(BEFORE, inner);
+            let first = base.add(from).cast::<T>();
+            copy_nonoverlapping(numbers.as_ptr(), first, numbers.len());
+            let count = numbers.len();
+            Fenced {
+                base,
+                inner,
+                first,
+                count,
+            }
+        }
+    }
+
+    /// The same, which nobody can write from now on.
+    fn read_only(self) -> Fenced<T> {
+        // SAFETY: the pages are this value's own.
+        let done = unsafe { mprotect(self.base.add(PAGE).cast(), self.inner, READ) };
+        assert_eq!(done, 0);
+        self
+    }
+
+    fn list(&self) -> List<T> {
+        (self.first, self.count)
+    }
+
+    fn space(&mut self) -> Space<T> {
+        (self.first, self.count)
+    }
+
+    /// The numbers as bytes; the guards beside them are as they were.
+    fn bytes(&self) -> &[u8] {
+        // SAFETY: the inner pages are this value's own, and every byte of them was written.
+        let (inner, numbers) = unsafe {
+            let numbers = slice::from_raw_parts(self.first, self.count);
+            (
+                slice::from_raw_parts(self.base.add(PAGE), self.inner),
+                raw(numbers),
+            )
+        };
+        let from = self.first as usize - self.base as usize - PAGE;
+        let guards = inner[..from].iter().chain(&inner[from + numbers.len()..]);
+        assert!(
+            guards.copied().all(|byte| byte == BEFORE),
+            "a guard was written"
+        );
+        numbers
+    }
+}
+
+impl<T> Drop for Fenced<T> {
+    fn drop(&mut self) {
+        // SAFETY: nobody has these pages any more.
+        unsafe { munmap(self.base.cast(), self.inner + 2 * PAGE) };
+    }
+}
+
+/// The bytes of numbers.
+fn raw<T: Copy>(numbers: &[T]) -> &[u8] {
+    // SAFETY: numbers have no bytes between them that nobody wrote.
+    unsafe { slice::from_raw_parts(numbers.as_ptr().cast(), size_of_val(numbers)) }
+}
+
+const NUMBER: i32 = COUNT as i32;
+
+/// What every operation is lent, each as much as it asks for and no more.
+struct Lent {
+    vertices: Fenced<i32>,
+    edges: Fenced<i32>,
+    paths: Fenced<i64>,
+    tree: Fenced<i32>,
+    wires: Fenced<i32>,
+    bytes: Fenced<u8>,
+    pins: Fenced<i32>,
+    macros: Fenced<i32>,
+}
+
+impl Lent {
+    fn to(lists: &Lists, at: At) -> Lent {
+        let (m, k) = (lists.pins.len() / 2, lists.macros.len() / 4);
+        let n = m + 4 * k;
+        let numbers = |count| Fenced::of(&vec![NUMBER; count], at);
+        Lent {
+            vertices: numbers(2 * n),
+            edges: numbers(16 * n),
+            paths: Fenced::of(&vec![TOTAL; 5 * m], at),
+            tree: numbers(4 * (n + m)),
+            wires: numbers(8 * (n + m)),
+            bytes: Fenced::of(
+                &vec![BEFORE; 512 * (1 + m.div_ceil(60) + k.div_ceil(30))],
+                at,
+            ),
+            pins: numbers(128),
+            macros: numbers(256),
+        }
+    }
+
+    fn bytes(&self) -> Vec<u8> {
+        [
+            self.vertices.bytes(),
+            self.edges.bytes(),
+            self.paths.bytes(),
+            self.tree.bytes(),
+            self.wires.bytes(),
+            self.bytes.bytes(),
+            self.pins.bytes(),
+            self.macros.bytes(),
+        ]
+        .concat()
+    }
+
+    fn untouched(&self) -> bool {
+        self.bytes().iter().all(|&byte| byte == BEFORE)
+    }
+}
+
+/// What the safe calls answer for an allowed net, and what they leave in lent vectors.
+fn by_slices(Lists { pins, macros }: &Lists) -> ([Answer; 7], Vec<u8>) {
+    let (m, k) = (pins.len() / 2, macros.len() / 4);
+    let n = m + 4 * k;
+    let numbers = |count| vec![NUMBER; count];
+    let (mut vertices, mut edges, mut paths) =
+        (numbers(2 * n), numbers(16 * n), vec![TOTAL; 5 * m]);
+    let (mut tree, mut drawn) = (numbers(4 * (n + m)), numbers(8 * (n + m)));
+    let mut file = vec![BEFORE; 512 * (1 + m.div_ceil(60) + k.div_ceil(30))];
+    let (mut pins_read, mut macros_read) = (numbers(128), numbers(256));
+    library::check(pins, macros).unwrap();
+    let (v, e) = library::graph(pins, macros, &mut vertices, &mut edges).unwrap();
+    let (p, terminal) = library::terminal_tree(pins, macros, &mut paths).unwrap();
+    let (t, refined) = library::refined_tree(pins, macros, &mut tree).unwrap();
+    let w = library::wires(pins, macros, &mut drawn).unwrap();
+    let given = library::write_file(pins, macros, &mut file).unwrap();
+    let (a, b) = library::read_file(&file, &mut pins_read, &mut macros_read).unwrap();
+    let answers = [
+        answer(0, &[]),
+        answer(0, &[v, e]),
+        answer(0, &[p, terminal as usize]),
+        answer(0, &[t, refined as usize]),
+        answer(0, &[w]),
+        answer(0, &[given]),
+        answer(0, &[a, b]),
+    ];
+    let lent = [
+        raw(&vertices),
+        raw(&edges),
+        raw(&paths),
+        raw(&tree),
+        raw(&drawn),
+        raw(&file),
+        raw(&pins_read),
+        raw(&macros_read),
+    ];
+    (answers, lent.concat())
+}
+
+fn third_net() -> Lists {
+    Lists {
+        pins: vec![0, 0, 4, 0, 2, 3],
+        macros: vec![],
+    }
+}
+
+fn around_one() -> Lists {
+    Lists {
+        pins: vec![0, 0, 10, 0],
+        macros: vec![4, -2, 6, 3],
+    }
+}
+
+fn list(numbers: &[i32]) -> List<i32> {
+    (numbers.as_ptr(), numbers.len())
+}
+
+// Null
+
+/// Lists and spaces that are null with a count of 0 are those of none: no pin, and where space is asked for first, too little of it.
+#[test]
+fn null_everywhere() {
+    let (p, q) = (none(), none());
+    let answers = [
+        check(p, q),
+        graph(p, q, no_space(), no_space()),
+        terminal_tree(p, q, no_space()),
+        refined_tree(p, q, no_space()),
+        wires(p, q, no_space()),
+        write_file(p, q, no_space()),
+        read_file(none(), no_space(), no_space()),
+    ];
+    assert_eq!(answers, refused([11, 11, 11, 11, 11, 11, 21]));
+}
+
+#[test]
+fn null_spaces() {
+    for lists in [third_net(), around_one()] {
+        let (p, q) = (list(&lists.pins), list(&lists.macros));
+        let mut lent = Lent::to(&lists, At::Back);
+        let answers = [
+            answer(21, &[]),
+            graph(p, q, no_space(), no_space()),
+            terminal_tree(p, q, no_space()),
+            refined_tree(p, q, no_space()),
+            wires(p, q, no_space()),
+            write_file(p, q, no_space()),
+            read_file(lent.bytes.list(), no_space(), no_space()),
+        ];
+        assert_eq!(answers, refused([21; 7]));
+        // One of two.
+        let short = answer(21, &[COUNT, COUNT]);
+        assert_eq!(graph(p, q, no_space(), lent.edges.space()), short);
+        assert_eq!(graph(p, q, lent.vertices.space(), no_space()), short);
+        let file = lent.bytes.list();
+        assert_eq!(read_file(file, no_space(), lent.macros.space()), short);
+        assert_eq!(read_file(file, lent.pins.space(), no_space()), short);
+        assert!(lent.untouched());
+    }
+}
+
+/// A list of none answers the same as null, as an address that may not be touched and as one that is not aligned.
+#[test]
+fn lists_of_none() {
+    let fenced = Fenced::<i32>::of(&[], At::Back);
+    let third = third_net();
+    let expected = by_slices(&third);
+    for address in [
+        null(),
+        fenced.first.cast_const(),
+        null::<u8>().wrapping_add(1).cast(),
+    ] {
+        let empty = (address, 0);
+        for at in [At::Front, At::Back] {
+            let mut lent = Lent::to(&third, at);
+            let answers = all(list(&third.pins), empty, &mut lent);
+            assert_eq!((answers, lent.bytes()), expected, "{address:?}");
+        }
+        let one = around_one();
+        let mut lent = Lent::to(&one, At::Back);
+        let mut answers = all(empty, list(&one.macros), &mut lent);
+        // Nothing was written, so what is read is no file.
+        answers[6] = read_file((address.cast(), 0), lent.pins.space(), lent.macros.space());
+        assert_eq!(answers, refused([11, 11, 11, 11, 11, 11, 1]), "{address:?}");
+        assert!(lent.untouched());
+    }
+}
+
+// What is touched
+
+/// The lists cannot be written, and whatever lies right before or behind lists and lent spaces cannot be touched.
+#[test]
+fn nothing_else_is_touched() {
+    let nets = (0..200).map(|seed| routed(seed).lists);
+    let named = [third_net(), around_one(), net(Kind::Largest, 1)];
+    for lists in nets.chain(named) {
+        let expected = by_slices(&lists);
+        for at in [At::Front, At::Back] {
+            let pins = Fenced::of(&lists.pins, at).read_only();
+            let macros = Fenced::of(&lists.macros, at).read_only();
+            let mut lent = Lent::to(&lists, at);
+            let answers = all(pins.list(), macros.list(), &mut lent);
+            assert!((answers, lent.bytes()) == expected, "{at:?}: {lists:?}");
+        }
+    }
+}
+
+/// Lists are only read, so both may be the same numbers: two corners of a macro as pins.
+#[test]
+fn lists_that_overlap() {
+    let corners = vec![0, 0, 2, 2];
+    let lists = Lists {
+        pins: corners.clone(),
+        macros: corners,
+    };
+    let mut lent = Lent::to(&lists, At::Back);
+    let both = list(&lists.pins);
+    let answers = all(both, both, &mut lent);
+    assert_eq!((answers, lent.bytes()), by_slices(&lists));
+}
+
+// Threads
+
+/// Eight threads at once, each with lent space of its own, all on the same lists.
+#[test]
+fn threads_do_not_disturb_each_other() {
+    let nets: Vec<Lists> = (0..100).map(|seed| routed(seed).lists).collect();
+    let alone: Vec<_> = nets.iter().map(by_slices).collect();
+    thread::scope(|scope| {
+        for first in 0..8 {
+            let (nets, alone) = (&nets, &alone);
+            scope.spawn(move || {
+                for turn in 0..nets.len() {
+                    // Two threads are on the same net at the same time, the others on others.
+                    let i = (turn + first / 2 * 25) % nets.len();
+                    let Lists { pins, macros } = &nets[i];
+                    let mut lent = Lent::to(&nets[i], At::Back);
+                    let answers = all(list(pins), list(macros), &mut lent);
+                    assert!((answers, lent.bytes()) == alone[i], "{:?}", nets[i]);
+                }
+            });
+        }
+    });
+}
