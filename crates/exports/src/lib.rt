@@ -13,7 +13,7 @@ ghost use Rattle.lent.specs.Over.{after, valueAfter};
 ghost use Rattle.lent.specs.Entries.{flat};
 ghost use Rattle.net.specs.Check.{checked};
 ghost use Rattle.graph.specs.Numbers.{placeNumbers, edgeNumbers};
-ghost use Rattle.numbered.specs.Tree.{pathNumbers};
+ghost use Rattle.terminal.specs.Tree.{pathNumbers};
 ghost use Rattle.router.specs.Graph.{verticesOf, edgesOf, graphed};
 ghost use Rattle.router.specs.Terminal.{pathsOf, terminalTree};
 ghost use Rattle.router.specs.Refined.{laidOf, refinedTree, wiresOf, wired};

@@ -11,15 +11,7 @@ ghost use Rattle.plane.specs.Place.{samePlace};
 ghost use Rattle.plane.specs.Macro.{interiorsMeet};
 ghost use Rattle.plane.specs.Flat.{placesOf, macrosOf, placeAt};
 ghost use Rattle.net.specs.Answer.{number};
-ghost use Rattle.net.specs.Check.{
-  pinsMiscounted,
-  macrosMiscounted,
-  outOfRange,
-  notUpright,
-  insideAny,
-  checked,
-  told,
-};
+ghost use Rattle.net.specs.Check.{pinsMiscounted, macrosMiscounted, outOfRange, notUpright, insideAny, checked, told};
 
 // A net by its numbers of pins and of macros. Its bounds are named here.
 pub struct Net {

@@ -17,21 +17,7 @@ ghost use Rattle.netfile.specs.Words.{wordsOf, wordFrom, bytesOfWord, by
 ghost use Rattle.netfile.specs.Sums.{plainSum, sumOfSums, sealed, wrongSums};
 ghost use Rattle.netfile.specs.Layout.{headBlock, listBlock, blocksFor, listBlocks, fileBytes};
 ghost use Rattle.netfile.specs.Write.{fitted, written, toldBytes};
-ghost use Rattle.netfile.specs.Read.{
-  blocksMiscounted,
-  sumsWrong,
-  headCount,
-  numberIn,
-  numbersIn,
-  pinsIn,
-  macrosIn,
-  sameNumbers,
-  Sized,
-  countsWrong,
-  laidOut,
-  roomShort,
-  readFile,
-};
+ghost use Rattle.netfile.specs.Read.{blocksMiscounted, sumsWrong, headCount, numberIn, numbersIn, pinsIn, macrosIn, sameNumbers, Sized, countsWrong, laidOut, roomShort, readFile};
 
 // Bytes of the longest file: six blocks.
 pub const LONGEST: usize = 6 * 512;

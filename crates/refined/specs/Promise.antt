@@ -1,34 +1,80 @@
--- What is promised of a refined tree: rules R20 to R22.
+-- What is promised of an edge's wires, of the wires of edges, and of a refined tree's edges as they are given.
 use mathlib.Core.Path.{_≡_}
 use mathlib.Core.Bool.{true}
-use mathlib.Core.List.{List}
-use Prim.Native.Nat.{ℕ, _+_, _≤_, _<_}
-use lib.ListN.{length, getD}
+use mathlib.Core.Logic.{_⊎_}
+use mathlib.Core.List.{List, [], _∷_, _++_}
+use Prim.Native.Nat.{ℕ, _+_, _*_, _≤_, _<_}
+use lib.ListN.{length}
+use lib.Signed.{ltZ}
+use Rattle.lists.specs.Member.{_∈_}
+use Rattle.lists.specs.Sorted.{Ascending}
 use Rattle.plane.specs.declared.Place.{Place}
 use Rattle.plane.specs.declared.Macro.{Macro}
+use Rattle.plane.specs.Place.{before}
+use Rattle.plane.specs.Distance.{distance}
 use Rattle.plane.specs.Macro.{clear}
+use Rattle.plane.specs.Box.{InBox}
+use Rattle.joined.specs.Cost.{lengths}
 use Rattle.joined.specs.OneTree.{OneTree}
-use Rattle.refined.specs.Table.{Tree, Within}
-use Rattle.refined.specs.Sum.{over}
-use Rattle.refined.specs.Places.{endsOf, edgesOf, keyLength, InOrder, Ranked}
+use Rattle.graph.specs.Edges.{beforeEdge}
+use Rattle.tree.specs.Table.{Tree}
+use Rattle.refined.specs.Edges.{treeEdges}
 
--- R22: metal to lay, the lengths of the edges added up
-abbrev pub metalOf : Tree → ℕ
-metalOf t = over (keyLength (t .points)) (t .edges .keys) (t .edges .size)
+-- Wires
 
--- what is promised of the tree r that refines the tree t
-pub record Promise (ms : List Macro) (pins : List Place) (t r : Tree) : Type 0 where
+-- along one axis: exactly one coordinate differs
+abbrev pub Horizontal : Place × Place → Type 0
+Horizontal w = (w .0 .y ≡ w .1 .y) × (w .0 .x ≡ w .1 .x → ⊥)
+
+abbrev pub Vertical : Place × Place → Type 0
+Vertical w = (w .0 .x ≡ w .1 .x) × (w .0 .y ≡ w .1 .y → ⊥)
+
+-- from a to b, each wire beginning where the one before ended
+abbrev pub Leads : Place → List (Place × Place) → Place → Type 0
+Leads a [] b = a ≡ b
+Leads a (w ∷ ws) b = (w .0 ≡ a) × Leads (w .1) ws b
+
+-- what is promised of the wires ws of the edge e
+pub record EdgeWires (e : Place × Place) (ws : List (Place × Place)) : Type 0 where
+  -- W2: first across, then up or down; W3: none of length zero
+  pub across : List (Place × Place)
+  pub up : List (Place × Place)
+  pub whole : ws ≡ across ++ up
+  pub few : (length across ≤ 1) × (length up ≤ 1)
+  pub level : (w : Place × Place) → w ∈ across → Horizontal w
+  pub upright : (w : Place × Place) → w ∈ up → Vertical w
+  -- W2, W4: from the edge's smaller place to its larger one, each wire by its start and its end
+  pub leads : Leads (e .0) ws (e .1)
+  pub rightward : before (e .0) (e .1) ≡ true → (w : Place × Place) → w ∈ across → ltZ (w .0 .x) (w .1 .x) ≡ true
+  -- the wires are the edge's metal
+  pub long : lengths distance ws ≡ distance (e .0) (e .1)
+  -- R21: the wires of an edge lie in the box of its ends
+  pub inside : (w : Place × Place) → w ∈ ws → InBox (w .0) (e .0) (e .1) × InBox (w .1) (e .0) (e .1)
+  -- R21: where the ends of the edge are clear of each other, so are those of its wires
+  pub free : (ms : List Macro) → clear (e .0) (e .1) ms ≡ true → (w : Place × Place) → w ∈ ws → clear (w .0) (w .1) ms ≡ true
+
+-- what is promised of the wires ws of the edges es
+pub record Wired (es ws : List (Place × Place)) : Type 0 where
+  pub few : length ws ≤ 2 * length es
+  pub axis : (w : Place × Place) → w ∈ ws → Horizontal w ⊎ Vertical w
+  -- R22: the wires are as long as the metal to lay
+  pub long : lengths distance ws ≡ lengths distance es
+  pub free : (ms : List Macro) → ((e : Place × Place) → e ∈ es → clear (e .0) (e .1) ms ≡ true)
+      → (w : Place × Place) → w ∈ ws → clear (w .0) (w .1) ms ≡ true
+
+-- Edges
+
+-- what is promised of the edges es and the total that are given when the tree t of a net is refined
+pub record Given (ms : List Macro) (pins : List Place) (t : Tree) (es : List (Place × Place)) (total : ℕ) : Type 0 where
   -- R20: one loop-free way along the edges from each point to each other one
-  pub one : OneTree pins (edgesOf (r .points) (r .edges .keys) (r .edges .size))
+  pub one : OneTree pins es
   -- R21: the ends of each edge are clear of each other
-  pub free : (i : ℕ) → i < r .edges .size → clear (endsOf (r .points) (getD (r .edges .keys) i 0) .0)
-      (endsOf (r .points) (getD (r .edges .keys) i 0) .1) ms ≡ true
-  pub total : metalOf r ≤ metalOf t
-  pub points : r .count ≤ t .count + length pins
-
--- what is promised of its tables: edges in order (C66), and fewer of them than the points that there can be
-pub record Tabled (pins : List Place) (t r : Tree) : Type 0 where
-  pub ordered : InOrder (r .points) (r .count)
-  pub within : Within (r .count) (r .edges .keys)
-  pub ranked : Ranked (r .edges .keys) (r .edges .size)
-  pub few : r .edges .size < t .count + length pins
+  pub free : (e : Place × Place) → e ∈ es → clear (e .0) (e .1) ms ≡ true
+  -- N16: each edge has its smaller place first, and edges are in order
+  pub smaller : (e : Place × Place) → e ∈ es → before (e .0) (e .1) ≡ true
+  pub ordered : Ascending beforeEdge es
+  -- C66: the total is the sum of their lengths, no more than that of the tree
+  pub sum : total ≡ lengths distance es
+  pub less : total ≤ lengths distance (treeEdges t)
+  -- fewer than the points that there can be
+  pub few : length es < t .count + length pins

@@ -29,9 +29,9 @@ use Rattle.net.proofs.AllowedLaws.{given-allowed}
 use Rattle.net.specs.Order.{SamePins, SameMacros}
 use Rattle.net.proofs.CheckOrder.{check-order}
 use Rattle.graph.specs.Numbers.{placeNumbers, edgeNumbers}
-use Rattle.numbered.specs.Tree.{pathNumbers}
-use Rattle.numbered.proofs.BestJoiningLaws.{paths-sum}
-use Rattle.wires.specs.Wires.{wires}
+use Rattle.terminal.specs.Tree.{pathNumbers}
+use Rattle.terminal.proofs.BestJoiningLaws.{paths-sum}
+use Rattle.refined.specs.Wires.{wires}
 use Rattle.rules.specs.Edges.{Edge, edgeBefore}
 use Rattle.rules.specs.Terminal.{givenFor}
 use Rattle.rules.proofs.EdgeLaws.{edge-order}

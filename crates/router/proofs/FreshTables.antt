@@ -4,8 +4,8 @@ use mathlib.Core.Path.{refl}
 use Prim.Native.Nat.{_*_}
 use lib.IntN.{pos}
 use lib.ListN.{replicate}
-use Rattle.terminal.specs.Bounds.{pointBound, edgeBound, pinBound, unreached}
-use Rattle.numbered.specs.Tables.{tables, Fresh}
+use Rattle.forest.specs.Bounds.{pointBound, edgeBound, pinBound, unreached}
+use Rattle.terminal.specs.Tables.{tables, Fresh}
 
 -- the tables that are lent
 pub fresh : Fresh

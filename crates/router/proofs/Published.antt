@@ -14,8 +14,8 @@ use Rattle.plane.specs.Flat.{macrosOf}
 use Rattle.net.specs.Check.{pinCount, checked}
 use Rattle.net.proofs.AllowedLaws.{given-allowed}
 use Rattle.graph.proofs.Connected.{connected}
-use Rattle.wires.specs.Wires.{wiresOfEdge, wires}
-use Rattle.wires.proofs.WireSound.{edge-wired, wired as wired-laws}
+use Rattle.refined.specs.Wires.{wiresOfEdge, wires}
+use Rattle.refined.proofs.WireSound.{edge-wired, wired as wired-laws}
 use Rattle.rules.proofs.TerminalOurs.{ourPaths, paths-given}
 use Rattle.rules.proofs.BestLaws.{paths-total, best-joining}
 use Rattle.rules.specs.Edges.{Edge}

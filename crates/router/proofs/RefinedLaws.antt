@@ -12,15 +12,15 @@ use Rattle.plane.specs.Distance.{distance}
 use Rattle.joined.specs.Cost.{lengths}
 use Rattle.net.specs.Allowed.{Allowed}
 use Rattle.net.specs.Bounds.{pinBound}
-use Rattle.terminal.specs.Bounds.{pathBound}
-use Rattle.numbered.proofs.PathLaws.{total-small}
-use Rattle.refined.specs.declared.Refined.{Refined}
-use Rattle.refined.specs.Table.{pairBound, Small}
-use Rattle.refined.specs.Refined.{Answer}
-use Rattle.refined.proofs.WithinLaws.{within-small}
+use Rattle.forest.specs.Bounds.{pathBound}
+use Rattle.terminal.proofs.PathLaws.{total-small}
+use Rattle.refiner.specs.declared.Refined.{Refined}
+use Rattle.tree.specs.Table.{pairBound, Small}
+use Rattle.refiner.specs.Refined.{Answer}
+use Rattle.refiner.proofs.WithinLaws.{within-small}
 use Rattle.union.specs.Union.{unionOf}
-use Rattle.wires.specs.Edges.{tableEdges, treeEdges}
-use Rattle.wires.proofs.EdgeSound.{edges-count, edges-metal}
+use Rattle.refined.specs.Edges.{tableEdges, treeEdges}
+use Rattle.refined.proofs.EdgeSound.{edges-count, edges-metal}
 use Rattle.rules.proofs.BestLaws.{paths-total}
 use Rattle.rules.proofs.RefinedOurs.{refined-tree}
 use Rattle.router.specs.Refined.{refinedOf, edgesIn, metalIn}

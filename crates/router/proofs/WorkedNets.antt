@@ -12,11 +12,11 @@ use Rattle.net.specs.WorkedNets.{Lists, onePin, noPin, aroundOne, threePins, sh
 use Rattle.net.specs.WorkedNets.{twiceInInterior, noWidth}
 use Rattle.net.specs.Check.{checked}
 use Rattle.net.proofs.WorkedChecks.{answer}
-use Rattle.numbered.proofs.WorkedPaths.{treeIn}
+use Rattle.terminal.proofs.WorkedPaths.{treeIn}
 use Rattle.union.proofs.WorkedUnions.{union}
-use Rattle.refined.proofs.WorkedTrees.{refinedOf as worked}
-use Rattle.wires.specs.Edges.{edgesFrom}
-use Rattle.wires.proofs.WorkedWires.{given as wired-given}
+use Rattle.refiner.proofs.WorkedTrees.{refinedOf as worked}
+use Rattle.refined.specs.Edges.{edgesFrom}
+use Rattle.refined.proofs.WorkedWires.{given as wired-given}
 use Rattle.router.specs.Graph.{verticesOf, edgesOf, graphRoomShort, graphGiven, graphed}
 use Rattle.router.specs.Room.{ifRoom}
 use Rattle.router.specs.Terminal.{pathsOf, pathsTotal, terminalGiven, terminalTree}

@@ -14,7 +14,7 @@ use Rattle.netfile.specs.Layout.{fileBytes}
 use Rattle.netfile.specs.Write.{written, toldBytes}
 use Rattle.netfile.specs.Read.{pinsIn, macrosIn, readFile}
 use Rattle.graph.specs.Numbers.{placeNumbers, edgeNumbers}
-use Rattle.numbered.specs.Tree.{pathNumbers}
+use Rattle.terminal.specs.Tree.{pathNumbers}
 use Rattle.router.specs.declared.Graphed.{Graphed}
 use Rattle.router.specs.declared.Tree.{Tree}
 use Rattle.router.specs.declared.Wired.{Wired}

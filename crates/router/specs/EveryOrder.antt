@@ -8,7 +8,7 @@ use Rattle.lent.specs.Over.{after}
 use Rattle.lent.specs.Entries.{flat}
 use Rattle.net.specs.Check.{checked}
 use Rattle.graph.specs.Numbers.{placeNumbers, edgeNumbers}
-use Rattle.numbered.specs.Tree.{pathNumbers}
+use Rattle.terminal.specs.Tree.{pathNumbers}
 use Rattle.router.specs.Graph.{verticesOf, edgesOf, graphed}
 use Rattle.router.specs.Terminal.{pathsOf, terminalTree}
 use Rattle.router.specs.Refined.{laidOf, refinedTree, wiresOf, wired}

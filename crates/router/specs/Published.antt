@@ -19,8 +19,8 @@ use Rattle.plane.specs.Distance.{distance}
 use Rattle.plane.specs.Macro.{clear}
 use Rattle.plane.specs.Flat.{placesOf, macrosOf}
 use Rattle.net.specs.Check.{pinCount}
-use Rattle.wires.specs.Wires.{wiresOfEdge}
-use Rattle.wires.specs.Promise.{Horizontal, Vertical, EdgeWires}
+use Rattle.refined.specs.Wires.{wiresOfEdge}
+use Rattle.refined.specs.Promise.{Horizontal, Vertical, EdgeWires}
 use Rattle.rules.specs.Edges.{Edge}
 use Rattle.rules.specs.Terminal.{Path, givenFor, pathLength}
 use Rattle.rules.specs.Interior.{PlanePoint, Interior, Box}

@@ -11,11 +11,11 @@ use Rattle.plane.specs.Flat.{placesOf, macrosOf}
 use Rattle.net.specs.Answer.{number}
 use Rattle.net.specs.Check.{pinCount, checked}
 use Rattle.joined.specs.Cost.{lengths}
-use Rattle.refined.specs.Table as table
-use Rattle.refined.specs.Refined.{refined}
+use Rattle.tree.specs.Table as table
+use Rattle.refiner.specs.Refined.{refined}
 use Rattle.union.specs.Union.{unionOf}
-use Rattle.wires.specs.Edges.{treeEdges}
-use Rattle.wires.specs.Wires.{wires}
+use Rattle.refined.specs.Edges.{treeEdges}
+use Rattle.refined.specs.Wires.{wires}
 use Rattle.router.specs.Room.{ifRoom}
 use Rattle.router.specs.Graph.{pointCount}
 use Rattle.router.specs.declared.Wired.{Wired}

@@ -9,7 +9,7 @@ use Rattle.plane.specs.declared.Place.{Place}
 use Rattle.plane.specs.Flat.{placesOf, macrosOf}
 use Rattle.net.specs.Answer.{number}
 use Rattle.net.specs.Check.{pinCount, checked}
-use Rattle.numbered.specs.Tree as numbered
+use Rattle.terminal.specs.Tree as numbered
 use Rattle.router.specs.Room.{ifRoom}
 use Rattle.router.specs.declared.Tree.{Tree}
 use Rattle.router.specs.declared.Tree.the-variants.{Given, Refused}

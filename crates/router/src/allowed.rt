@@ -3,12 +3,12 @@ use crate::Graphed;
 use crate::Tree;
 use crate::Wired;
 use net::Refusal;
-use numbered::EDGE_NUMBERS;
-use numbered::EDGES;
-use numbered::PINS;
-use numbered::POINTS;
-use numbered::VERTEX_NUMBERS;
-use refined::Refined;
+use terminal::EDGE_NUMBERS;
+use terminal::EDGES;
+use terminal::PINS;
+use terminal::POINTS;
+use terminal::VERTEX_NUMBERS;
+use refiner::Refined;
 ghost use mathlib.Core.Path.{_≡_};
 ghost use Prim.Native.Nat.{_*_, _≤_};
 ghost use lib.IntN.{pos};
@@ -17,7 +17,7 @@ ghost use Rattle.plane.specs.Flat.{placesOf, macrosOf};
 ghost use Rattle.net.specs.Allowed.{Allowed};
 ghost use Rattle.net.specs.Bounds.{pinBound, macroBound, treeBound};
 ghost use Rattle.net.specs.Check.{pinCount, macroCount};
-ghost use Rattle.refined.specs.Refined.{Answer};
+ghost use Rattle.refiner.specs.Refined.{Answer};
 ghost use Rattle.union.specs.Union.{unionOf};
 ghost use Rattle.router.specs.Graph.{graphGiven};
 ghost use Rattle.router.specs.Terminal.{terminalGiven};
@@ -53,13 +53,13 @@ pub fn terminal_tree(pins: &[i32], macros: &[i32], paths: &mut [i64]) -> Tree
     let mut eb = [0usize; EDGES];
     let mut el = [0u64; EDGES];
     let mut pin = [0usize; PINS];
-    let mut far = [terminal::UNREACHED; POINTS];
+    let mut far = [forest::UNREACHED; POINTS];
     let mut root = [0usize; POINTS];
     let mut up = [POINTS; POINTS];
     let mut via = [EDGES; POINTS];
     let mut kept = [0usize; EDGES];
     let mut long = [0u64; EDGES];
-    let tree = numbered::terminal_tree(
+    let tree = terminal::terminal_tree(
         pins,
         macros,
         &mut vertices,
@@ -75,7 +75,7 @@ pub fn terminal_tree(pins: &[i32], macros: &[i32], paths: &mut [i64]) -> Tree
         &mut kept,
         &mut long,
     );
-    numbered::give_paths(&edges, &kept, &long, tree.kept, &mut *paths);
+    terminal::give_paths(&edges, &kept, &long, tree.kept, &mut *paths);
     Tree::Given(tree.kept, tree.total as i64)
 }
 
@@ -89,10 +89,10 @@ pub fn refined_tree(pins: &[i32], macros: &[i32], edges: &mut [i32]) -> Tree
     if edges.len() < (n + m) * 4 {
         return Tree::Refused(Refusal::Space);
     }
-    let mut points = [0i32; refined::NUMBERS];
-    let mut keys = [0usize; refined::POINTS];
+    let mut points = [0i32; tree::NUMBERS];
+    let mut keys = [0usize; tree::POINTS];
     let tree = refine(pins, macros, &mut points, &mut keys);
-    wires::give_edges(&points, &keys, tree.edges, &mut *edges);
+    refined::give_edges(&points, &keys, tree.edges, &mut *edges);
     Tree::Given(tree.edges, tree.total as i64)
 }
 
@@ -106,10 +106,10 @@ pub fn wires(pins: &[i32], macros: &[i32], wires: &mut [i32]) -> Wired
     if wires.len() < (n + m) * 8 {
         return Wired::Refused(Refusal::Space);
     }
-    let mut points = [0i32; refined::NUMBERS];
-    let mut keys = [0usize; refined::POINTS];
+    let mut points = [0i32; tree::NUMBERS];
+    let mut keys = [0usize; tree::POINTS];
     let tree = refine(pins, macros, &mut points, &mut keys);
-    let count = wires::give_wires(&points, &keys, tree.edges, &mut *wires);
+    let count = refined::give_wires(&points, &keys, tree.edges, &mut *wires);
     Wired::Given(count)
 }
 
@@ -117,8 +117,8 @@ pub fn wires(pins: &[i32], macros: &[i32], wires: &mut [i32]) -> Wired
 fn refine(
     pins: &[i32],
     macros: &[i32],
-    points: &mut [i32; refined::NUMBERS],
-    keys: &mut [usize; refined::POINTS],
+    points: &mut [i32; tree::NUMBERS],
+    keys: &mut [usize; tree::POINTS],
 ) -> Refined
     requires { ⌜ Allowed (placesOf (now pins)) (macrosOf (now macros)) ⌝ }
     requires { ⌜ (now points ≡ replicate (treeBound * 2) (pos 0)) × (now keys ≡ replicate treeBound 0) ⌝ }
@@ -131,13 +131,13 @@ fn refine(
     let mut eb = [0usize; EDGES];
     let mut el = [0u64; EDGES];
     let mut pin = [0usize; PINS];
-    let mut far = [terminal::UNREACHED; POINTS];
+    let mut far = [forest::UNREACHED; POINTS];
     let mut root = [0usize; POINTS];
     let mut up = [POINTS; POINTS];
     let mut via = [EDGES; POINTS];
     let mut kept = [0usize; EDGES];
     let mut long = [0u64; EDGES];
-    let tree = numbered::terminal_tree(
+    let tree = terminal::terminal_tree(
         pins,
         macros,
         &mut vertices,
@@ -170,7 +170,7 @@ fn refine(
         &mut *points,
         &mut *keys,
     );
-    refined::refine(
+    refiner::refine(
         pins,
         macros,
         &mut *points,

@@ -23,10 +23,10 @@ use Rattle.plane.specs.declared.Macro.{Macro}
 use Rattle.plane.specs.Distance.{distance}
 use Rattle.plane.proofs.PlaceOrder.{place-same}
 use Rattle.net.specs.Allowed.{Allowed}
-use Rattle.numbered.specs.Tree.{spanning, pathsOf, totalOf, rootsOf}
-use Rattle.numbered.specs.Stands.{Kept, keptEnds}
-use Rattle.numbered.proofs.NumberLaws.{apart-once}
-use Rattle.numbered.proofs.BestJoiningLaws.{paths-length, paths-sum, paths-joining, no-shorter-joining, no-lower-chain}
+use Rattle.terminal.specs.Tree.{spanning, pathsOf, totalOf, rootsOf}
+use Rattle.terminal.specs.Stands.{Kept, keptEnds}
+use Rattle.terminal.proofs.NumberLaws.{apart-once}
+use Rattle.terminal.proofs.BestJoiningLaws.{paths-length, paths-sum, paths-joining, no-shorter-joining, no-lower-chain}
 use Rattle.rules.specs.Terminal.{Path, pathEnds, pathLength, givenFor, takenFirst}
 use Rattle.rules.specs.Demand.{TerminalAs, BestJoining}
 use Rattle.rules.proofs.TerminalOnly.{weight-order, bridge-only}

@@ -20,12 +20,12 @@ use Rattle.plane.specs.Flat.{placeAt}
 use Rattle.plane.proofs.PlaceOrder.{place-order}
 use Rattle.joined.specs.OneTree.{Point}
 use Rattle.joined.proofs.JoinedLaws.{firsts, seconds, has-link}
-use Rattle.refined.specs.Table.{firstEnd, secondEnd, Tree}
-use Rattle.refined.specs.Places.{endsOf, edgesOf, Ranked, Sound}
-use Rattle.refined.specs.Sentences as tables
-use Rattle.refined.proofs.ListingLaws.{in-listing, of-listing}
-use Rattle.refined.proofs.PruneSound.{order-same}
-use Rattle.refined.proofs.RoundSteps.{numbered}
+use Rattle.tree.specs.Table.{firstEnd, secondEnd, Tree}
+use Rattle.tree.specs.Places.{endsOf, edgesOf, Ranked, Sound}
+use Rattle.refiner.specs.Sentences as tables
+use Rattle.tree.proofs.ListingLaws.{in-listing, of-listing}
+use Rattle.refiner.proofs.PruneSound.{order-same}
+use Rattle.refiner.proofs.RoundSteps.{numbered}
 use Rattle.rules.specs.Edges.{Edge, edgeBefore, edgeLength}
 use Rattle.rules.specs.Refined.{Step, Longest, Gain}
 use Rattle.rules.proofs.EdgeLaws.{edge-order}

@@ -16,21 +16,21 @@ use Rattle.plane.specs.declared.Place.{Place}
 use Rattle.plane.specs.declared.Macro.{Macro}
 use Rattle.plane.specs.Flat.{placeAt}
 use Rattle.joined.specs.Joined.{Alike}
-use Rattle.refined.specs.Turns.{turns}
-use Rattle.refined.specs.Table.{pointBound, firstEnd, secondEnd, Tree, Within}
-use Rattle.refined.specs.Exchange.{closed}
-use Rattle.refined.specs.Prune.{marks, countEnds, loose, looseEdge, firstLoose, prune}
-use Rattle.refined.specs.Refined.{pruned}
-use Rattle.refined.specs.Sum.{over}
-use Rattle.refined.specs.Places.{endsOf, edgesOf, InOrder, Ranked, Sound}
-use Rattle.refined.specs.Sentences as tables
-use Rattle.refined.proofs.SumLaws.{closed-at, skip}
-use Rattle.refined.proofs.WithinLaws.{within-closed}
-use Rattle.refined.proofs.ListingLaws.{in-listing, of-listing}
-use Rattle.refined.proofs.RankedLaws.{prune-ranked}
-use Rattle.refined.proofs.PruneSound.{endCount, degree, kept, gone, skip-in, first-le, first-hit, pruned-was}
-use Rattle.refined.proofs.RefinedSound.{unmarked}
-use Rattle.refined.proofs.LeftLaws.{pruned-left}
+use Rattle.refiner.specs.Turns.{turns}
+use Rattle.tree.specs.Table.{pointBound, firstEnd, secondEnd, Tree, Within}
+use Rattle.refiner.specs.Exchange.{closed}
+use Rattle.refiner.specs.Prune.{marks, countEnds, loose, looseEdge, firstLoose, prune}
+use Rattle.refiner.specs.Refined.{pruned}
+use Rattle.tree.specs.Sum.{over}
+use Rattle.tree.specs.Places.{endsOf, edgesOf, InOrder, Ranked, Sound}
+use Rattle.refiner.specs.Sentences as tables
+use Rattle.refiner.proofs.ExchangeSums.{closed-at, skip}
+use Rattle.refiner.proofs.WithinLaws.{within-closed}
+use Rattle.tree.proofs.ListingLaws.{in-listing, of-listing}
+use Rattle.refiner.proofs.RankedLaws.{prune-ranked}
+use Rattle.refiner.proofs.PruneSound.{endCount, degree, kept, gone, skip-in, first-le, first-hit, pruned-was}
+use Rattle.refiner.proofs.RefinedSound.{unmarked}
+use Rattle.refiner.proofs.LeftLaws.{pruned-left}
 use Rattle.rules.specs.Edges.{Edge}
 use Rattle.rules.specs.Refined.{EndOf, Loose, Strips, same, strip, Prunes}
 use Rattle.rules.proofs.GainOurs.{edgesIn, edgeAt, edge-in, edge-of, edge-one}

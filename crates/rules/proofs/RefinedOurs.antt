@@ -13,13 +13,14 @@ use Rattle.joined.specs.Cost.{lengths}
 use Rattle.net.specs.Allowed.{Allowed}
 use Rattle.graph.specs.Edges.{beforeEdge}
 use Rattle.graph.proofs.VertexLaws.{length-vertices}
-use Rattle.refined.specs.Table.{Tree}
-use Rattle.refined.specs.Refined.{refined}
+use Rattle.tree.specs.Table.{Tree}
+use Rattle.refiner.specs.Refined.{refined}
 use Rattle.union.specs.Union.{unionOf}
-use Rattle.union.proofs.UnionSound.{union-sound, union-ranked, union-room, union-points, union-keys, union-promise, union-tabled}
+use Rattle.union.proofs.UnionSound.{union-sound, union-ranked, union-room, union-points, union-keys}
+use Rattle.refined.proofs.NetRefined.{union-promise, union-tabled}
 use Rattle.union.proofs.UnionSound.{union-few, union-metal}
-use Rattle.wires.specs.Edges.{treeEdges}
-use Rattle.wires.proofs.EdgeSound.{edges-metal, promised-edges}
+use Rattle.refined.specs.Edges.{treeEdges}
+use Rattle.refined.proofs.EdgeSound.{edges-metal, promised-edges}
 use Rattle.rules.specs.Edges.{Edge, edgeBefore, Same}
 use Rattle.rules.specs.Refined.{Refined, TreesThrough, FallsThrough}
 use Rattle.rules.specs.Demand.{RefinedTree}

@@ -20,14 +20,14 @@ use Rattle.plane.proofs.PlaceOrder.{place-same}
 use Rattle.joined.specs.Cost.{lengths}
 use Rattle.joined.proofs.TreeLaws.{tree-cuts}
 use Rattle.graph.specs.Edges.{beforeEdge}
-use Rattle.refined.specs.Table.{Tree}
-use Rattle.refined.specs.Promise.{metalOf}
-use Rattle.refined.specs.Sentences.{foundIn, exchanged}
-use Rattle.refined.proofs.WinnerLaws.{found-wins}
-use Rattle.refined.proofs.TakesLaws.{found-takes}
-use Rattle.refined.proofs.RoundSound.{metal-of, round-falls}
-use Rattle.wires.specs.Edges.{treeEdges}
-use Rattle.wires.proofs.EdgeSound.{edges-reversed, edges-metal, edges-ascending}
+use Rattle.tree.specs.Table.{Tree}
+use Rattle.tree.specs.Places.{metalOf}
+use Rattle.refiner.specs.Sentences.{foundIn, exchanged}
+use Rattle.refiner.proofs.WinnerLaws.{found-wins}
+use Rattle.refiner.proofs.TakesLaws.{found-takes}
+use Rattle.refiner.proofs.RoundSound.{metal-of, round-falls}
+use Rattle.refined.specs.Edges.{treeEdges}
+use Rattle.refined.proofs.EdgeSound.{edges-reversed, edges-metal, edges-ascending}
 use Rattle.rules.specs.Edges.{Edge, edgeBefore, Same}
 use Rattle.rules.specs.Refined.{Rounds, FallsThrough}
 use Rattle.rules.proofs.EdgeLaws.{edge-order, same-turn, same-then}

@@ -13,14 +13,14 @@ use Rattle.plane.specs.declared.Place.{Place}
 use Rattle.plane.specs.declared.Macro.{Macro}
 use Rattle.joined.proofs.TreeLaws.{tree-cuts}
 use Rattle.plane.proofs.PlaceOrder.{place-same}
-use Rattle.refined.specs.Table.{pointBound, Tree}
-use Rattle.refined.specs.Refined as tables
-use Rattle.refined.specs.Places.{Ranked, Sound}
-use Rattle.refined.specs.Sentences.{foundIn, exchanged}
-use Rattle.refined.proofs.WinnerLaws.{found-wins}
-use Rattle.refined.proofs.RoundSound.{Kept, round-kept, rounds-kept}
-use Rattle.refined.proofs.RoundSteps.{rounds-none, rounds-some}
-use Rattle.refined.proofs.TakesLaws.{found-takes}
+use Rattle.tree.specs.Table.{pointBound, Tree}
+use Rattle.refiner.specs.Refined as tables
+use Rattle.tree.specs.Places.{Ranked, Sound}
+use Rattle.refiner.specs.Sentences.{foundIn, exchanged}
+use Rattle.refiner.proofs.WinnerLaws.{found-wins}
+use Rattle.refiner.proofs.RoundSound.{Kept, round-kept, rounds-kept}
+use Rattle.refiner.proofs.RoundSteps.{rounds-none, rounds-some}
+use Rattle.refiner.proofs.TakesLaws.{found-takes}
 use Rattle.rules.specs.Edges.{Edge, Same}
 use Rattle.rules.specs.Refined.{Round, NoGain, Rounds, Prunes, Refines}
 use Rattle.rules.proofs.EdgeLaws.{same-turn, same-then}

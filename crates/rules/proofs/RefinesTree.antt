@@ -18,10 +18,10 @@ use Rattle.joined.proofs.JoinedLaws.{firsts, seconds}
 use Rattle.joined.proofs.TreeLaws.{tree-cuts}
 use Rattle.joined.proofs.WayLaws.{way-more}
 use Rattle.joined.proofs.OneTreeLaws.{tree-one}
-use Rattle.refined.specs.Table.{Tree}
-use Rattle.refined.specs.Places.{pointsOf, Sound}
-use Rattle.refined.specs.Sentences.{foundIn, exchanged}
-use Rattle.refined.proofs.ListingLaws.{in-listing}
+use Rattle.tree.specs.Table.{Tree}
+use Rattle.tree.specs.Places.{pointsOf, Sound}
+use Rattle.refiner.specs.Sentences.{foundIn, exchanged}
+use Rattle.tree.proofs.ListingLaws.{in-listing}
 use Rattle.rules.specs.Edges.{Edge, Same}
 use Rattle.rules.specs.Refined.{Rounds, TreesThrough}
 use Rattle.rules.proofs.EdgeLaws.{same-turn}

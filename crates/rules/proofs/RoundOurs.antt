@@ -20,19 +20,20 @@ use Rattle.plane.specs.Flat.{placeAt}
 use Rattle.plane.proofs.PlaceOrder.{place-order}
 use Rattle.joined.specs.Joined.{Link}
 use Rattle.joined.proofs.JoinedLaws.{firsts, seconds}
-use Rattle.refined.specs.declared.Best.{Best}
-use Rattle.refined.specs.Table.{pointBound, key, firstEnd, secondEnd, Tree, tree, Within}
-use Rattle.refined.specs.Exchange.{dropTwo, exchange}
-use Rattle.refined.specs.Sum.{below, over}
-use Rattle.refined.specs.Places.{endsOf, edgesOf, Ranked, Sound}
-use Rattle.refined.specs.Sentences as tables
-use Rattle.refined.proofs.SumLaws.{below-some, one, one-same, one-some, one-not, in-table, of-table, between, over-dropped}
-use Rattle.refined.proofs.WithinLaws.{within-dropped}
-use Rattle.refined.proofs.AfterLaws as moved
-use Rattle.refined.proofs.ExchangeSound.{laid-after}
-use Rattle.refined.proofs.WinnerLaws.{found-wins}
-use Rattle.refined.proofs.RoundSound.{Won, taken, sized, exchange-laid, round-kept}
-use Rattle.refined.proofs.TakesLaws.{found-takes}
+use Rattle.refiner.specs.declared.Best.{Best}
+use Rattle.tree.specs.Table.{pointBound, key, firstEnd, secondEnd, Tree, tree, Within}
+use Rattle.refiner.specs.Exchange.{dropTwo, exchange}
+use Rattle.tree.specs.Sum.{below, over}
+use Rattle.tree.specs.Places.{endsOf, edgesOf, Ranked, Sound}
+use Rattle.refiner.specs.Sentences as tables
+use Rattle.tree.proofs.SumLaws.{below-some, one, one-same, one-some, one-not, in-table, of-table}
+use Rattle.refiner.proofs.ExchangeSums.{between, over-dropped}
+use Rattle.refiner.proofs.WithinLaws.{within-dropped}
+use Rattle.refiner.proofs.AfterLaws as moved
+use Rattle.refiner.proofs.ExchangeSound.{laid-after}
+use Rattle.refiner.proofs.WinnerLaws.{found-wins}
+use Rattle.refiner.proofs.RoundSound.{Won, taken, sized, exchange-laid, round-kept}
+use Rattle.refiner.proofs.TakesLaws.{found-takes}
 use Rattle.rules.specs.Edges.{Edge, edgeBefore}
 use Rattle.rules.specs.Refined.{Lays, Takes, After, Round}
 use Rattle.rules.proofs.GainOurs.{not-after, edgesIn, pointAt, edgeAt, edge-in, edge-of, point-not, edge-not, edge-one, gain-to}

@@ -21,19 +21,19 @@ use Rattle.plane.specs.Place.{before}
 use Rattle.plane.proofs.PlaceOrder.{place-order}
 use Rattle.net.specs.Allowed.{Allowed}
 use Rattle.graph.specs.Vertices.{vertices}
-use Rattle.terminal.specs.Edges.{one, two}
+use Rattle.forest.specs.Edges.{one, two}
 use Rattle.terminal.specs.Bridges.{path as pathEdges}
 use Rattle.terminal.specs.Kept.{terminal}
-use Rattle.terminal.specs.Setting.{ends}
+use Rattle.forest.specs.Setting.{ends}
 use Rattle.terminal.proofs.WholeLaws.{of-kept}
 use Rattle.terminal.proofs.OurTree as numbers
-use Rattle.numbered.specs.Number.{vertexAt, edgeAt}
-use Rattle.numbered.specs.Tree.{spanning, treeOf, rootsOf}
-use Rattle.numbered.specs.Roots.{WayUp, arrived, upward, parentOf}
-use Rattle.numbered.specs.Stands.{Kept, Stands}
-use Rattle.numbered.proofs.SettingOf.{one-vertex, two-vertex, setting, whole}
-use Rattle.numbered.proofs.CrossingLaws.{G, T, P, kept, weight, given, kept-below, given-in, of-given, given-follows}
-use Rattle.numbered.proofs.RootLaws.{wayPlaces, way-up}
+use Rattle.terminal.specs.Number.{vertexAt, edgeAt}
+use Rattle.terminal.specs.Tree.{spanning, treeOf, rootsOf}
+use Rattle.terminal.specs.Roots.{WayUp, arrived, upward, parentOf}
+use Rattle.terminal.specs.Stands.{Kept, Stands}
+use Rattle.terminal.proofs.SettingOf.{one-vertex, two-vertex, setting, whole}
+use Rattle.terminal.proofs.CrossingLaws.{G, T, P, kept, weight, given, kept-below, given-in, of-given, given-follows}
+use Rattle.terminal.proofs.RootLaws.{wayPlaces, way-up}
 use Rattle.union.specs.Union.{unionOf}
 use Rattle.union.proofs.UnionTree.{OnKept, of-union, bridge-in, one-in, two-in, home, walk}
 use Rattle.union.proofs.UnionSound.{union-sound, union-ranked, unionList, union-edge, union-has}

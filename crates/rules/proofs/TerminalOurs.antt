@@ -20,13 +20,13 @@ use Rattle.plane.proofs.PlaceOrder.{place-same}
 use Rattle.net.specs.Allowed.{Allowed}
 use Rattle.graph.specs.Vertices.{vertices}
 use Rattle.graph.specs.Edges.{beforeEdge}
-use Rattle.numbered.specs.Tree.{spanning, pathsOf, rootOf, rootsOf}
-use Rattle.numbered.specs.Roots as tables
-use Rattle.numbered.specs.Stands.{Kept, keptEnds, Stands}
-use Rattle.numbered.specs.Bridges.{takenBefore, KeptBridges}
-use Rattle.numbered.proofs.CrossingLaws.{to-numbers}
-use Rattle.numbered.proofs.RootLaws.{nearest-root, smallest-parent}
-use Rattle.numbered.proofs.BridgeLaws.{kept-bridges}
+use Rattle.terminal.specs.Tree.{spanning, pathsOf, rootOf, rootsOf}
+use Rattle.terminal.specs.Roots as tables
+use Rattle.terminal.specs.Stands.{Kept, keptEnds, Stands}
+use Rattle.terminal.specs.KeptBridges.{takenBefore, KeptBridges}
+use Rattle.terminal.proofs.CrossingLaws.{to-numbers}
+use Rattle.terminal.proofs.RootLaws.{nearest-root, smallest-parent}
+use Rattle.terminal.proofs.KeptBridgeLaws.{kept-bridges}
 use Rattle.rules.specs.Edges.{Edge}
 use Rattle.rules.specs.Terminal.{Path, pathEnds, givenFor, takenFirst}
 use Rattle.rules.specs.Terminal.{Root, Through, Parent, Up, arrived, upward, Bridge, Terminal}

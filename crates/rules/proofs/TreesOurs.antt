@@ -7,10 +7,10 @@ use Rattle.plane.specs.declared.Place.{Place}
 use Rattle.plane.specs.declared.Macro.{Macro}
 use Rattle.net.specs.Allowed.{Allowed}
 use Rattle.graph.specs.Vertices.{vertices}
-use Rattle.numbered.specs.Tree.{spanning}
-use Rattle.refined.specs.Refined.{refined}
+use Rattle.terminal.specs.Tree.{spanning}
+use Rattle.refiner.specs.Refined.{refined}
 use Rattle.union.specs.Union.{unionOf}
-use Rattle.wires.specs.Edges.{treeEdges}
+use Rattle.refined.specs.Edges.{treeEdges}
 use Rattle.rules.specs.Edges.{Edge}
 use Rattle.rules.specs.Terminal.{Path, Terminal}
 use Rattle.rules.specs.Refined.{Refined}

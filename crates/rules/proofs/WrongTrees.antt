@@ -21,10 +21,10 @@ use Rattle.net.specs.WorkedNets.{threePins, onSides}
 use Rattle.net.proofs.AllowedLaws.{given-allowed}
 use Rattle.net.proofs.WorkedChecks.{answer, worked-checks}
 use Rattle.graph.proofs.WorkedGraphs.{graphOf}
-use Rattle.numbered.proofs.WorkedPaths.{treeIn}
+use Rattle.terminal.proofs.WorkedPaths.{treeIn}
 use Rattle.union.proofs.WorkedUnions.{union}
-use Rattle.refined.proofs.WorkedTrees.{refinedOf}
-use Rattle.wires.specs.Edges.{edgesFrom}
+use Rattle.refiner.proofs.WorkedTrees.{refinedOf}
+use Rattle.refined.specs.Edges.{edgesFrom}
 use Rattle.rules.specs.Edges.{Edge}
 use Rattle.rules.specs.Spanning.{Spanning}
 use Rattle.rules.specs.Terminal.{Path, givenFor}

@@ -17,8 +17,8 @@ use Rattle.lists.proofs.MemberLaws.{getD-in}
 use Rattle.lent.specs.Over.{over}
 use Rattle.lent.proofs.OverLaws.{over-none, over-more}
 use Rattle.joined.specs.Table.{changed, keptBy}
-use Rattle.terminal.specs.Edges.{entries, Listed}
-use Rattle.terminal.proofs.EdgeLaws.{one-less, none-left}
+use Rattle.forest.specs.Edges.{entries, Listed}
+use Rattle.forest.proofs.EdgeLaws.{one-less, none-left}
 
 -- A table changed in place
 

@@ -31,19 +31,19 @@ use Rattle.joined.proofs.LightLaws.{in-light, of-light}
 use Rattle.joined.proofs.TableLaws.{table-keeps}
 use Rattle.joined.proofs.ShortestLaws.{kept-tree}
 use Rattle.joined.proofs.Ours.{ours-count, ours-joining, no-shorter, no-longer}
-use Rattle.terminal.specs.Bounds.{pointBound}
-use Rattle.terminal.specs.Edges.{Graph, one, two, len, from}
-use Rattle.terminal.specs.Labels.{Labels, far, root, labelled}
-use Rattle.terminal.specs.Parents.{Parents, parented, way}
+use Rattle.forest.specs.Bounds.{pointBound}
+use Rattle.forest.specs.Edges.{Graph, one, two, len, from}
+use Rattle.forest.specs.Labels.{Labels, far, root, labelled}
+use Rattle.forest.specs.Parents.{Parents, parented, way}
 use Rattle.terminal.specs.Bridges.{oneRoot, sameRoot, rootsOf, path as pathEdges, pathLength, weights, earlier, bridgesFrom, bridges}
 use Rattle.terminal.specs.Kept.{keptBridges, keptLengths, terminal}
-use Rattle.terminal.specs.Setting.{ends, pairs, Setting, Whole}
-use Rattle.terminal.proofs.EdgeLaws.{in-from, getD-from, length-from}
-use Rattle.terminal.proofs.WayLaws.{path-parts}
+use Rattle.forest.specs.Setting.{ends, pairs, Setting, Whole}
+use Rattle.forest.proofs.EdgeLaws.{in-from, getD-from, length-from}
+use Rattle.terminal.proofs.PathParts.{path-parts}
 use Rattle.terminal.proofs.BridgeLaws.{earlier-le, earlier-order, of-bridges, bridges-ascending}
 use Rattle.terminal.proofs.WholeLaws.{of-kept, weights-at}
-use Rattle.terminal.proofs.Nearest.{fits, edges-among, joint, edge-long, link-in, best, closed}
-use Rattle.terminal.proofs.Homeward.{pin-label, root-pin, wayPoints, Home, way-home, way-once, way-pin, way-length}
+use Rattle.forest.proofs.Nearest.{fits, edges-among, joint, edge-long, link-in, best, closed}
+use Rattle.forest.proofs.Homeward.{pin-label, root-pin, wayPoints, Home, way-home, way-once, way-pin, way-length}
 
 module _ {g : Graph} {n : ℕ} {d : ℕ → ℕ → ℕ} {pins : List ℕ} (s : Setting g n d pins) (whole : Whole g n pins) where
   abbrev T : Labels

@@ -3,7 +3,7 @@
 use mathlib.Core.Path.{_≡_, refl, ap, ap₂, _∙_}
 use mathlib.Core.Bool.{false}
 use mathlib.Core.List.{List, [], _∷_, map, List·Memᴰ·cases-cons}
-use Prim.Native.Nat.{ℕ, _+_, _≤_, _<_}
+use Prim.Native.Nat.{ℕ, _+_, _<_}
 use native.Mathlib.Omega.{arith}
 use lib.Dec.{eqb}
 use lib.ListN.{getD, replicate, length-replicate}
@@ -11,29 +11,16 @@ use Rattle.lists.specs.Member.{_∈_, here, there, Among}
 use Rattle.lists.proofs.TestLaws.{by, either}
 use Rattle.lists.specs.Total.{total}
 use Rattle.joined.specs.Table.{keptBy}
-use Rattle.terminal.specs.Bounds.{pointBound, edgeBound, pathBound}
-use Rattle.terminal.specs.Edges.{Graph, from, filled, entries, Fits, Below, FirstBelow, Ends, Named, Listed}
-use Rattle.terminal.specs.Labels.{Labels, settled, starts, unlabelled, labelled, Low}
-use Rattle.terminal.specs.Parents.{Parents, orphans, adopted, parented, Falls}
+use Rattle.forest.specs.Bounds.{pointBound, edgeBound, pathBound}
+use Rattle.forest.specs.Edges.{Graph, from, filled, entries, Fits, Below, FirstBelow, Ends, Named, Listed}
+use Rattle.forest.specs.Labels.{Labels, labelled, Low}
+use Rattle.forest.specs.Parents.{Parents, parented, Falls}
 use Rattle.terminal.specs.Bridges.{sameRoot, rootsOf, pathLength, weights, bridgesFrom, bridges}
 use Rattle.terminal.specs.Kept.{keptBridges, keptLengths, terminal}
-use Rattle.terminal.proofs.EdgeLaws.{filled-here, below-filled, below-replicate}
-use Rattle.terminal.proofs.WayLaws.{path-low}
-use Rattle.terminal.proofs.LabelLaws.{Fine, fine-unlabelled, fine-starts, fine-settled}
-use Rattle.terminal.proofs.ParentLaws.{falls-parented}
+use Rattle.forest.proofs.EdgeLaws.{filled-here, below-filled, below-replicate}
+use Rattle.terminal.proofs.PathParts.{path-low}
 use Rattle.terminal.proofs.BridgeLaws.{of-bridges}
 use Rattle.terminal.proofs.KeptLaws.{read-listed, entry-listed}
-
--- labels and parents
-pub staged : (g : Graph) (n : ℕ) (pins : List ℕ) (t₀ t₁ t₂ : Labels) (p₀ p₁ : Parents) → t₀ ≡ unlabelled → p₀ ≡ orphans → t₁
-    ≡ starts pins t₀ →
-    t₂ ≡ settled n g (from 0 (g .count)) t₁ → p₁ ≡ adopted g n t₂ p₀ → (t₂ ≡ labelled g n pins) × (p₁ ≡ parented g n (labelled g n pins))
-unfolding labelled parented
-staged g n pins t₀ t₁ t₂ p₀ p₁ a b c d f =
-    let e : t₂ ≡ settled n g (from 0 (g .count)) (starts pins unlabelled) =
-    d ∙ ap (settled n g (from 0 (g .count))) (c ∙ ap (starts pins) a)
-    in
-    (e, f ∙ ap₂ (λ (t : Labels) (p : Parents). adopted g n t p) e b)
 
 -- what is kept was offered
 kept-among : (ends : ℕ → ℕ × ℕ) (l t : List ℕ) → Among (keptBy ends l t) l
@@ -117,19 +104,6 @@ module _ (g : Graph) (t : Labels) (p : Parents) where
           sum ≡ total (map (λ k. getD w k 0) (entries table 0 count)) →
           Listed (keptLengths g t p) lent′ long count × (sum ≡ total (keptLengths g t p))
       lengths-listed lent′ long sum a b = (rw (← lengths-is) a, b ∙ ap total lengths-is)
-
--- Labels and parents that the code made are bounded, and distances fall along parents
-module _ (g : Graph) (n m : ℕ) (pins : List ℕ) (t : Labels) (p : Parents)
-    (fits : Fits g) (small : n ≤ pointBound) (inside : FirstBelow pins m pointBound)
-    (t-is : t ≡ labelled g n (entries pins 0 m)) (p-is : p ≡ parented g n (labelled g n (entries pins 0 m))) where
-  pub made-fine : Fine t
-  unfolding labelled
-  made-fine =
-      fine-settled n g (from 0 (g .count)) (starts (entries pins 0 m) unlabelled) t t-is
-      (fine-starts pins m unlabelled (starts (entries pins 0 m) unlabelled) refl inside fine-unlabelled)
-
-  pub made-falls : Falls (g .lengths) (t .fars) p
-  made-falls = rw (p-is, t-is) (falls-parented g n (labelled g n (entries pins 0 m)) small fits)
 
 -- the whole from its two halves
 module _ (g : Graph) (n : ℕ) (pins : List ℕ) (t : Labels) (p : Parents)

@@ -8,9 +8,9 @@ use Rattle.lists.specs.Sorted.{firstThen, put, sorted}
 use Rattle.lists.specs.Those.{those}
 use Rattle.lists.specs.Total.{total}
 use Rattle.joined.specs.Table.{changed, keptBy}
-use Rattle.terminal.specs.Edges.{Graph, graph, from, filled}
-use Rattle.terminal.specs.Labels.{better, gains, offer, relaxEdge, moves, relax, changes, settled, starts, labelled}
-use Rattle.terminal.specs.Parents.{leads, nearer, through, parentAmong, parent, adopted, parented, wayOf, way}
+use Rattle.forest.specs.Edges.{Graph, graph, from, filled}
+use Rattle.forest.specs.Labels.{better, gains, offer, relaxEdge, moves, relax, changes, settled, starts, labelled}
+use Rattle.forest.specs.Parents.{leads, nearer, through, parentAmong, parent, adopted, parented, wayOf, way}
 use Rattle.terminal.specs.Bridges.{oneRoot, path, pathLength, weights, earlier, bridgesFrom, bridges}
 use Rattle.terminal.specs.Kept.{keptBridges, keptLengths, terminal}
 

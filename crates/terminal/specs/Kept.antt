@@ -3,10 +3,10 @@ use mathlib.Core.List.{List, map}
 use Prim.Native.Nat.{ℕ}
 use Rattle.lists.specs.Total.{total}
 use Rattle.joined.specs.Table.{keptBy}
-use Rattle.terminal.specs.Bounds.{pointBound}
-use Rattle.terminal.specs.Edges.{Graph, from}
-use Rattle.terminal.specs.Labels.{Labels, labelled}
-use Rattle.terminal.specs.Parents.{Parents, parented}
+use Rattle.forest.specs.Bounds.{pointBound}
+use Rattle.forest.specs.Edges.{Graph, from}
+use Rattle.forest.specs.Labels.{Labels, labelled}
+use Rattle.forest.specs.Parents.{Parents, parented}
 use Rattle.terminal.specs.Bridges.{rootsOf, pathLength, bridges}
 
 -- T13: a bridge is kept where those kept before it do not join its two roots. Pins have the same group when they are joined; at first each

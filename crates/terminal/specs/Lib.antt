@@ -1,35 +1,44 @@
--- The terminal tree on tables of vertex numbers.
+-- The terminal tree of a net: rules T9 to T16, and demand 3 of its kept paths.
 --
--- A vertex is its number in the order of places, and an edge its number in the order of edges: so the order of numbers is the order of
--- places, and every tie is settled by the smaller number. A graph is three tables, the two ends of each edge and its length. Labels,
--- parents and path lengths are tables too, by vertex or by edge. The definitions are ways of computing on these tables, the same that the
--- code goes; that they are what rules T6 to T16 say is proved beside them, in ../proofs: that labels are nearest pins (Nearest), that
--- parents are the smallest neighbours on shortest ways and lead to the root (Homeward), that kept bridges stand for terminal paths, join
--- the pins, and do so with the least length (OurTree).
+-- Places get their numbers here and get them back: this is the one room where the graph of places meets tables of numbers. Bridges and
+-- which of them are kept are worked out on the tables of crate forest (Bridges, Kept); everything else says the same of places. That kept
+-- bridges stand for terminal paths, join the pins, and do so with the least length, is proved in ../proofs (OurTree).
+-- Vertices are in order, so that the number of a vertex is how many come before it: the order of numbers is the order of places, and the
+-- order of edge numbers the order of edges. Everything is a function of the vertices, the edges and the pins in order, so that the order of
+-- a net's lists is forgotten before the first number is given.
 --
---   Bounds     pointBound, edgeBound, pinBound      320, 1,280 and 64
---              unreached                            the distance of a vertex that no pin has reached
---   Edges      graph ea eb el e                     a graph by its tables
---              one g k, two g k, len g k            the ends of edge k and its length
---              from k n, entries xs k n             n numbers, or n entries of a table, from k on
---              filled f i n xs                      the table xs with f k at each number k from i on, n of them
---              Fits, Ends, Named, FirstBelow, Below                    what the code asks of tables
---              Listed xs lent table n               a lent table holds xs over what stood there, and n is how many
---   Labels     labels f r, far t v, root t v        for each vertex the distance to its root, and the root
---              labelled g n pins                    the labels of a graph of n vertices, by relaxation until nothing changes
---   Parents    parent g t v                         the step from v to its parent: the vertex, and the edge to it
---              parented g n t, up p v, via p v      the table of these steps, read
---              way fars p v, wayLength ..           the edges on v's way to its root, and the sum of their lengths
 --   Bridges    sameRoot g t k, rootsOf g t k        whether edge k is no bridge, and the two pins that it joins
 --              path g fars p k, pathLength ..       the edges on the path that it stands for, and the sum of their lengths
 --              bridges g t p                        the bridges by path length, ties by number
 --   Kept       keptBridges g t p, keptLengths       the kept ones in the order kept, and the lengths of their paths
 --              terminal g n pins                    all of it, with the total
---   Setting    Setting g n d pins, Whole g n pins   what the theorems suppose: lengths by d, vertices below n; joined, with a pin
-pub mod Bounds
-pub mod Edges
-pub mod Labels
-pub mod Parents
+--   Number     numberOf vs p, vertexAt vs i         the number of a vertex; the vertex of a number
+--              edgeAt es k                          the edge of a number
+--              numbered vs es                       the graph by numbers, in the router's tables
+--              pinNumbers vs ps                     the pins by numbers, in order
+--   Tree       treeOf ps ms                         the terminal tree of a net, by numbers
+--              bridgesOf, lengthsOf, totalOf        its kept bridges as edges, the lengths of their paths, their sum
+--              pathsOf ps ms, pathNumbers           bridge and length of each kept path; the five numbers that are given for it
+--              rootOf ps ms v, rootsOf ps ms b      the root of a vertex; the two pins that a bridge's path joins
+--   Roots      farOf ps ms v, parentOf ps ms v      how far a vertex is from its root; its parent
+--              NearestRoot ps ms v                  the root is the nearest pin, the smallest on a tie
+--              Through, SmallestParent ps ms v      the parent is the smallest neighbour on a shortest way to the root
+--              WayUp ps ms v qs                     qs are the places after v on its way to its root
+--              HomeWay ps ms v                      such a way, loop-free to the root
+--   Stands     Kept, keptEnds ps ms k               a kept path, bridge and length; the two pins that it joins
+--              PathOf ps ms                         a terminal path of the net's graph
+--              Stands ps ms b l                     the bridge b stands for a terminal path of length l
+--   KeptBridges takenBefore j k                      by path length, ties by the order of edges
+--              KeptBridges ps ms                    the bridges in this order, and the given paths are those that are kept of them
+--   Tables     tables .., Fresh                     the tables that are lent for it, and what is asked of them
+--              Worked ps ms lent t r                what they hold once the tree is worked out
+--              pathsIn es kept long n               the kept paths as the tables have them
+--              Givable                              what is asked to give them
 pub mod Bridges
 pub mod Kept
-pub mod Setting
+pub mod Number
+pub mod Tree
+pub mod Roots
+pub mod Stands
+pub mod KeptBridges
+pub mod Tables

@@ -22,12 +22,12 @@ use Rattle.plane.specs.declared.Place.{Place}
 use Rattle.plane.specs.Flat.{placeFrom}
 use Rattle.graph.specs.Numbers.{placeNumbers}
 use Rattle.graph.proofs.WidthLaws.{place-width}
-use Rattle.terminal.specs.Bounds.{pointBound}
-use Rattle.terminal.specs.Edges.{from, entries, Below}
-use Rattle.terminal.specs.Parents.{Parents, up, via, way, Falls}
-use Rattle.terminal.proofs.EdgeLaws.{from-next, from-end, entries-next, entries-end, below-set}
-use Rattle.terminal.proofs.WayLaws.{way-none, way-step}
-use Rattle.refined.specs.Exchange.{setPoint}
+use Rattle.forest.specs.Bounds.{pointBound}
+use Rattle.forest.specs.Edges.{from, entries, Below}
+use Rattle.forest.specs.Parents.{Parents, up, via, way, Falls}
+use Rattle.forest.proofs.EdgeLaws.{from-next, from-end, entries-next, entries-end, below-set}
+use Rattle.forest.proofs.WayLaws.{way-none, way-step}
+use Rattle.tree.specs.Table.{setPoint}
 use Rattle.union.specs.Union.{bothEnds}
 use Rattle.union.specs.Marks.{marked, isMarked, marks, Ranking}
 

@@ -26,12 +26,12 @@ use Rattle.plane.specs.Place.{place}
 use Rattle.plane.specs.Flat.{placeFrom, placeAt}
 use Rattle.graph.specs.Numbers.{placeNumbers}
 use Rattle.graph.proofs.WidthLaws.{place-width}
-use Rattle.terminal.specs.Edges.{Graph, one, two}
-use Rattle.numbered.proofs.NumberLaws.{getD-over, ascending-at}
-use Rattle.numbered.proofs.FillLaws.{entry-at}
-use Rattle.refined.specs.Table.{pointBound, key, firstEnd, secondEnd, In, Within}
-use Rattle.refined.specs.Sum.{below}
-use Rattle.refined.specs.Places.{endsOf}
+use Rattle.forest.specs.Edges.{Graph, one, two}
+use Rattle.terminal.proofs.NumberLaws.{getD-over, ascending-at}
+use Rattle.terminal.proofs.FillLaws.{entry-at}
+use Rattle.tree.specs.Table.{pointBound, key, firstEnd, secondEnd, In, Within}
+use Rattle.tree.specs.Sum.{below}
+use Rattle.tree.specs.Places.{endsOf}
 use Rattle.union.specs.Union.{keyIn}
 
 -- the i-th place of a table that begins with some places

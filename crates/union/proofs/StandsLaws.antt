@@ -19,8 +19,8 @@ use Rattle.lists.proofs.OrderLaws.{number-order}
 use Rattle.lists.proofs.SortedLaws.{ascending-once}
 use Rattle.lists.proofs.ThoseLaws.{those-hit, those-miss, those-none, of-those}
 use Rattle.lent.specs.Entries.{flat}
-use Rattle.terminal.specs.Edges.{from}
-use Rattle.terminal.proofs.EdgeLaws.{of-from}
+use Rattle.forest.specs.Edges.{from}
+use Rattle.forest.proofs.EdgeLaws.{of-from}
 use Rattle.union.specs.Union.{stands}
 
 -- Stands

@@ -23,12 +23,12 @@ use Rattle.lent.specs.Over.{over}
 use Rattle.lent.specs.Entries.{flat}
 use Rattle.plane.specs.declared.Place.{Place}
 use Rattle.graph.specs.Numbers.{placeNumbers}
-use Rattle.terminal.specs.Bounds.{pointBound, edgeBound}
-use Rattle.terminal.specs.Edges.{Graph, one, two, from}
-use Rattle.terminal.specs.Parents.{Parents}
-use Rattle.terminal.proofs.EdgeLaws.{below-from, from-next}
-use Rattle.refined.specs.Table.{key, tree}
-use Rattle.refined.specs.Table as refined
+use Rattle.forest.specs.Bounds.{pointBound, edgeBound}
+use Rattle.forest.specs.Edges.{Graph, one, two, from}
+use Rattle.forest.specs.Parents.{Parents}
+use Rattle.forest.proofs.EdgeLaws.{below-from, from-next}
+use Rattle.tree.specs.Table.{key, tree}
+use Rattle.tree.specs.Table as refined
 use Rattle.union.specs.Union.{stands, bothEnds, keyIn, keptEdges, unionEdges, unionPoints, startOf}
 use Rattle.union.specs.Marks.{marked, isMarked, marks, Ranking}
 use Rattle.union.proofs.StandsLaws.{in-stands, picked-ascending, in-flat}

@@ -38,40 +38,25 @@ use Rattle.graph.specs.Edges.{beforeEdge}
 use Rattle.graph.proofs.EdgeLaws.{edges-ascending}
 use Rattle.graph.proofs.VertexLaws.{pin-vertex, vertices-ascending}
 use Rattle.graph.proofs.GraphBounds.{few-vertices}
-use Rattle.terminal.specs.Edges.{Graph, one, two, len, from}
+use Rattle.forest.specs.Edges.{Graph, one, two, len, from}
 use Rattle.terminal.specs.Kept.{terminal}
-use Rattle.terminal.specs.Setting.{ends}
-use Rattle.terminal.proofs.EdgeLaws.{length-from}
-use Rattle.numbered.specs.Number.{edgeAt, numberOf, vertexAt, pinNumbers}
-use Rattle.numbered.specs.Tree.{spanning, graphOf, treeOf, totalOf}
-use Rattle.numbered.proofs.NumberLaws.{ascending-at, count-of, one-of, vertex-order, vertex-of-number, pin-number-in}
-use Rattle.numbered.proofs.SettingOf.{setting, whole, edge-at, one-vertex, two-vertex}
-use Rattle.refined.specs.Table.{key, firstEnd, secondEnd, pointBound, Tree}
-use Rattle.refined.specs.Places.{endsOf, pointsOf, edgesOf, keyLength, InOrder, Ranked, Sound}
-use Rattle.refined.specs.Promise.{metalOf, Promise, Tabled}
-use Rattle.refined.specs.Refined.{refined}
-use Rattle.refined.specs.Sum.{below}
-use Rattle.refined.proofs.ListingLaws.{listing-length, in-listing, of-listing, listing-once}
-use Rattle.refined.proofs.SumLaws.{below-same}
-use Rattle.refined.proofs.RefinedSound.{refined-promise, refined-tabled}
+use Rattle.forest.specs.Setting.{ends}
+use Rattle.forest.proofs.EdgeLaws.{length-from}
+use Rattle.terminal.specs.Number.{edgeAt, numberOf, vertexAt, pinNumbers}
+use Rattle.terminal.specs.Tree.{spanning, graphOf, treeOf, totalOf}
+use Rattle.terminal.proofs.NumberLaws.{ascending-at, count-of, one-of, vertex-order, vertex-of-number, pin-number-in}
+use Rattle.terminal.proofs.SettingOf.{setting, whole, edge-at, one-vertex, two-vertex}
+use Rattle.tree.specs.Table.{key, firstEnd, secondEnd, pointBound, Tree}
+use Rattle.tree.specs.Places.{endsOf, pointsOf, edgesOf, keyLength, InOrder, Ranked, Sound}
+use Rattle.tree.specs.Places.{metalOf}
+use Rattle.tree.specs.Sum.{below}
+use Rattle.tree.proofs.ListingLaws.{listing-length, in-listing, of-listing, listing-once}
+use Rattle.tree.proofs.SumLaws.{below-same}
 use Rattle.union.specs.Union.{stands, bothEnds, keptEdges, unionEdges, unionPoints, startOf, unionOf}
 use Rattle.union.proofs.StandsLaws.{picked-ascending}
 use Rattle.union.proofs.UnionTree.{pin-point, first-point, second-point, point-inside, edge-inside, union-size, union-tree}
 use Rattle.union.proofs.UnionTree.{union-total}
-use Rattle.union.proofs.PlacedLaws.{
-  pointTable,
-  edgeTable,
-  points-length,
-  edges-length,
-  point-at,
-  key-at,
-  position-rises,
-  point-of,
-  first-at,
-  second-at,
-  keys-within,
-  below-total,
-}
+use Rattle.union.proofs.PlacedLaws.{pointTable, edgeTable, points-length, edges-length, point-at, key-at, position-rises, point-of, first-at, second-at, keys-within, below-total}
 
 module _ {ps : List Place} {ms : List Macro} (a : Allowed ps ms) where
   abbrev vs : List Place
@@ -367,13 +352,6 @@ module _ {ps : List Place} {ms : List Macro} (a : Allowed ps ms) where
   pub union-keys : length (unionOf ps ms .edges .keys) ≡ pointBound
   unfolding unionOf startOf
   union-keys = edges-length at g W E points-ascending room union-less one-at two-at
-
-  -- so what is promised of a refined tree holds of the net's
-  pub union-promise : Promise ms ps (unionOf ps ms) (refined ms ps (unionOf ps ms))
-  union-promise = refined-promise ms ps (unionOf ps ms) union-sound union-room union-points union-keys
-
-  pub union-tabled : Tabled ps (unionOf ps ms) (refined ms ps (unionOf ps ms))
-  union-tabled = refined-tabled ms ps (unionOf ps ms) union-sound union-room union-points union-keys union-ranked
 
   -- its edges are those of the graph that stand in the union
   abbrev pub unionList : List ℕ

@@ -28,18 +28,18 @@ use Rattle.joined.specs.Graft.{grown, rooted, Hangs}
 use Rattle.joined.proofs.JoinedLaws.{one as one-link, through, between, firsts, seconds}
 use Rattle.joined.proofs.TreeLaws.{tree-forest}
 use Rattle.joined.proofs.GraftLaws.{grown-tree}
-use Rattle.terminal.specs.Edges.{Graph, one, two, len, from}
-use Rattle.terminal.specs.Labels.{Labels, far, root, labelled}
-use Rattle.terminal.specs.Parents.{Parents, up, via, parented, way, Falls}
+use Rattle.forest.specs.Edges.{Graph, one, two, len, from}
+use Rattle.forest.specs.Labels.{Labels, far, root, labelled}
+use Rattle.forest.specs.Parents.{Parents, up, via, parented, way, Falls}
 use Rattle.terminal.specs.Bridges.{oneRoot, sameRoot, rootsOf, path, pathLength}
 use Rattle.terminal.specs.Kept.{keptBridges, keptLengths, terminal}
-use Rattle.terminal.specs.Setting.{ends, Setting, Whole}
-use Rattle.terminal.proofs.EdgeLaws.{below-from, in-from}
-use Rattle.terminal.proofs.ParentLaws.{falls-parented}
-use Rattle.terminal.proofs.WayLaws.{way-none, way-step, nearer-by}
+use Rattle.forest.specs.Setting.{ends, Setting, Whole}
+use Rattle.forest.proofs.EdgeLaws.{below-from, in-from}
+use Rattle.forest.proofs.ParentLaws.{falls-parented}
+use Rattle.forest.proofs.WayLaws.{way-none, way-step, nearer-by}
 use Rattle.terminal.proofs.WholeLaws.{of-kept}
-use Rattle.terminal.proofs.Nearest.{fits}
-use Rattle.terminal.proofs.Homeward.{pin-label, root-pin, far-off, Parent, parent-is, pin-parent, way-home}
+use Rattle.forest.proofs.Nearest.{fits}
+use Rattle.forest.proofs.Homeward.{pin-label, root-pin, far-off, Parent, parent-is, pin-parent, way-home}
 use Rattle.terminal.proofs.OurTree.{kept-count, ours-tree}
 use Rattle.union.specs.Union.{stands, bothEnds, keptEdges, unionEdges, unionPoints}
 use Rattle.union.proofs.StandsLaws.{in-stands, of-stands, in-flat, of-flat, total-flat, once-join, picked-once}

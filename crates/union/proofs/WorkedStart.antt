@@ -14,22 +14,22 @@ use Rattle.plane.specs.Flat.{placeAt}
 use Rattle.net.specs.Allowed.{Allowed}
 use Rattle.graph.specs.Vertices.{vertices}
 use Rattle.graph.proofs.GraphBounds.{few-vertices}
-use Rattle.terminal.specs.Bounds.{pointBound}
-use Rattle.terminal.specs.Edges.{Graph, graph, entries}
-use Rattle.terminal.specs.Labels.{Labels, labelled}
-use Rattle.terminal.specs.Parents.{Parents, parents}
+use Rattle.forest.specs.Bounds.{pointBound}
+use Rattle.forest.specs.Edges.{Graph, graph, entries}
+use Rattle.forest.specs.Labels.{Labels, labelled}
+use Rattle.forest.specs.Parents.{Parents, parents}
 use Rattle.terminal.specs.Kept.{terminal}
 use Rattle.terminal.proofs.KeptLaws.{read-listed, entry-listed}
-use Rattle.terminal.proofs.Nearest.{fits}
-use Rattle.terminal.proofs.ParentLaws.{falls-parented}
+use Rattle.forest.proofs.Nearest.{fits}
+use Rattle.forest.proofs.ParentLaws.{falls-parented}
 use Rattle.terminal.proofs.WholeLaws.{of-kept}
-use Rattle.numbered.specs.declared.Tree.{Tree}
-use Rattle.numbered.specs.Number.{vertexAt, pinNumbers}
-use Rattle.numbered.specs.Tree.{graphOf, treeOf}
-use Rattle.numbered.specs.Tables.{Tables, Worked}
-use Rattle.numbered.proofs.SettingOf.{setting, paths-count}
-use Rattle.refined.specs.Table.{tree, Within, Tree as Table}
-use Rattle.refined.specs.Table as refined
+use Rattle.terminal.specs.declared.Tree.{Tree}
+use Rattle.terminal.specs.Number.{vertexAt, pinNumbers}
+use Rattle.terminal.specs.Tree.{graphOf, treeOf}
+use Rattle.terminal.specs.Tables.{Tables, Worked}
+use Rattle.terminal.proofs.SettingOf.{setting, paths-count}
+use Rattle.tree.specs.Table.{tree, Within, Tree as Table}
+use Rattle.tree.specs.Table as refined
 use Rattle.union.specs.Union.{unionPoints, startOf, unionOf}
 use Rattle.union.specs.Marks.{Startable}
 use Rattle.union.proofs.StartLaws.{map-agree}

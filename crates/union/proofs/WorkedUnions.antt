@@ -21,14 +21,14 @@ use Rattle.net.specs.WorkedNets.{Lists, onePin, aroundOne, threePins}
 use Rattle.graph.specs.Vertices.{cornersOf, corners, vertices}
 use Rattle.graph.specs.Pick.{within, nearer as nearerPlace, better as betterPick, pickFrom, pick}
 use Rattle.graph.specs.Edges.{edgeOf, beforeEdge, edgeOfPick, picksOf, allPicks, edges}
-use Rattle.terminal.specs.Edges.{Graph, graph, from, filled}
-use Rattle.terminal.specs.Labels.{better, gains, offer, relaxEdge, moves, relax, changes, settled, starts, labelled}
-use Rattle.terminal.specs.Parents.{leads, nearer, through, parentAmong, parent, adopted, parented, wayOf, way}
+use Rattle.forest.specs.Edges.{Graph, graph, from, filled}
+use Rattle.forest.specs.Labels.{better, gains, offer, relaxEdge, moves, relax, changes, settled, starts, labelled}
+use Rattle.forest.specs.Parents.{leads, nearer, through, parentAmong, parent, adopted, parented, wayOf, way}
 use Rattle.terminal.specs.Bridges.{oneRoot, path, pathLength, weights, earlier, bridgesFrom, bridges}
 use Rattle.terminal.specs.Kept.{keptBridges, keptLengths, terminal}
-use Rattle.numbered.specs.Number.{numbered, pinNumbers}
-use Rattle.numbered.specs.Tree.{treeOf}
-use Rattle.refined.specs.Table.{key, Tree}
+use Rattle.terminal.specs.Number.{numbered, pinNumbers}
+use Rattle.terminal.specs.Tree.{treeOf}
+use Rattle.tree.specs.Table.{key, Tree}
 use Rattle.union.specs.Union.{stands, keptEdges, unionEdges, unionPoints, startOf, unionOf}
 
 -- a tree's points and edges, without the zeros behind them

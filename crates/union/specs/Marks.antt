@@ -6,10 +6,10 @@ use Prim.Native.Nat.{ℕ, _≤_, _<_}
 use lib.Dec.{ltb}
 use lib.ListN.{length, getD, set}
 use Rattle.lists.specs.Those.{those}
-use Rattle.terminal.specs.Bounds.{pinBound, pointBound, edgeBound}
-use Rattle.terminal.specs.Edges.{Graph, one, two, from, entries, Fits, FirstBelow}
-use Rattle.terminal.specs.Parents.{Parents, Falls}
-use Rattle.refined.specs.Table as refined
+use Rattle.forest.specs.Bounds.{pinBound, pointBound, edgeBound}
+use Rattle.forest.specs.Edges.{Graph, one, two, from, entries, Fits, FirstBelow}
+use Rattle.forest.specs.Parents.{Parents, Falls}
+use Rattle.tree.specs.Table as refined
 use Rattle.union.specs.Union.{unionEdges}
 
 -- a table with each number of a list marked

@@ -14,12 +14,12 @@ use Rattle.plane.specs.declared.Place.{Place}
 use Rattle.plane.specs.declared.Macro.{Macro}
 use Rattle.graph.specs.Numbers.{placeNumbers}
 use Rattle.graph.specs.Vertices.{vertices}
-use Rattle.terminal.specs.Edges.{Graph, one, two, from}
-use Rattle.terminal.specs.Parents.{Parents}
+use Rattle.forest.specs.Edges.{Graph, one, two, from}
+use Rattle.forest.specs.Parents.{Parents}
 use Rattle.terminal.specs.Bridges.{path}
-use Rattle.numbered.specs.Number.{vertexAt, pinNumbers}
-use Rattle.numbered.specs.Tree.{graphOf, treeOf}
-use Rattle.refined.specs.Table.{pointBound, key, Tree, tree}
+use Rattle.terminal.specs.Number.{vertexAt, pinNumbers}
+use Rattle.terminal.specs.Tree.{graphOf, treeOf}
+use Rattle.tree.specs.Table.{pointBound, key, Tree, tree}
 
 -- a number stands in a list
 unfoldable pub stands : ℕ → List ℕ → Bool

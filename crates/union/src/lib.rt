@@ -13,12 +13,11 @@ ghost use Rattle.lent.specs.Over.{over};
 ghost use Rattle.lent.specs.Entries.{flat};
 ghost use Rattle.plane.specs.Flat.{placeAt};
 ghost use Rattle.graph.specs.Numbers.{placeNumbers};
-ghost use Rattle.terminal.specs.Bounds.{pointBound, edgeBound, pinBound};
-ghost use Rattle.terminal.specs.Edges.{graph, entries, Fits, Ends, FirstBelow, Below};
-ghost use Rattle.terminal.specs.Parents.{parents, way, Falls};
-ghost use Rattle.refined.specs.Table.{tree, key};
-ghost use Rattle.refined.specs.Table as refined;
-ghost use Rattle.refined.specs.Exchange.{setPoint};
+ghost use Rattle.forest.specs.Bounds.{pointBound, edgeBound, pinBound};
+ghost use Rattle.forest.specs.Edges.{graph, entries, Fits, Ends, FirstBelow, Below};
+ghost use Rattle.forest.specs.Parents.{parents, way, Falls};
+ghost use Rattle.tree.specs.Table.{tree, key};
+ghost use Rattle.tree.specs.Table as tables;
 ghost use Rattle.union.specs.Union.{bothEnds, keptEdges, startOf};
 ghost use Rattle.union.specs.Marks.{marked, marks, Ranking, Startable};
 
@@ -30,10 +29,6 @@ pub const EDGES: usize = Net::EDGES;
 pub const PINS: usize = Net::PINS;
 
 pub const VERTEX_NUMBERS: usize = POINTS * 2;
-
-pub const TREE_POINTS: usize = Net::TREE_POINTS;
-
-pub const TREE_NUMBERS: usize = TREE_POINTS * 2;
 
 // How many points and edges the union has.
 pub struct Size {
@@ -155,26 +150,15 @@ fn vertex_at(vertices: &[i32; VERTEX_NUMBERS], v: usize) -> Place
     }
 }
 
-// p as the c-th point.
-fn put_point(pts: &mut [i32; TREE_NUMBERS], c: usize, p: Place)
-    requires { ⌜ c < refined.pointBound ⌝ }
-    ensures { λ _. ⌜ now (pts .exit) ≡ setPoint (now (pts .entry)) c p ⌝ }
-{
-    let x = p.x;
-    let y = p.y;
-    pts[c * 2] = x;
-    pts[c * 2 + 1] = y;
-}
-
 // The marked ones of n vertices as points, and for each how many come before it; how many there are.
 fn put_points(
     vertices: &[i32; VERTEX_NUMBERS],
     n: usize,
     at: &[usize; POINTS],
     rank: &mut [usize; POINTS],
-    pts: &mut [i32; TREE_NUMBERS],
+    pts: &mut [i32; tree::NUMBERS],
 ) -> usize
-    requires { ⌜ (n ≤ pointBound) × ((length (now pts) ≡ refined.pointBound * 2) × (length (now rank) ≡ pointBound)) ⌝ }
+    requires { ⌜ (n ≤ pointBound) × ((length (now pts) ≡ tables.pointBound * 2) × (length (now rank) ≡ pointBound)) ⌝ }
     requires { ⌜ Below pointBound (now rank) ⌝ }
     ensures { λ r. ⌜ r ≡ length (marks (now (at .entry)) n) ⌝ }
     ensures { λ r. ⌜ now (pts .exit) ≡ over (flat placeNumbers (map (placeAt (now (vertices .entry))) (marks (now (at .entry)) n)))
@@ -187,7 +171,7 @@ fn put_points(
         let w = v;
         v += 1;
         if 0 < at[w] {
-            put_point(&mut *pts, c, vertex_at(vertices, w));
+            tree::put_point(&mut *pts, c, vertex_at(vertices, w));
             rank[w] = c;
             c += 1;
         }
@@ -200,7 +184,7 @@ fn key_of(rank: &[usize; POINTS], a: usize, b: usize) -> usize
     requires { ⌜ (Below pointBound (now rank)) × ((a < pointBound) × (b < pointBound)) ⌝ }
     ensures { λ r. ⌜ r ≡ key (getD (now (rank .entry)) a 0) (getD (now (rank .entry)) b 0) ⌝ }
 {
-    rank[a] * TREE_POINTS + rank[b]
+    rank[a] * tree::POINTS + rank[b]
 }
 
 // The marked ones of e edges by the ranks of their ends; how many there are.
@@ -210,10 +194,10 @@ fn put_keys(
     e: usize,
     on: &[usize; EDGES],
     rank: &[usize; POINTS],
-    keys: &mut [usize; TREE_POINTS],
+    keys: &mut [usize; tree::POINTS],
 ) -> usize
     requires { ⌜ (Ends (now ea) (now eb) e) × (Below pointBound (now rank)) ⌝ }
-    requires { ⌜ (length (marks (now on) e) ≤ refined.pointBound) × (length (now keys) ≡ refined.pointBound) ⌝ }
+    requires { ⌜ (length (marks (now on) e) ≤ tables.pointBound) × (length (now keys) ≡ tables.pointBound) ⌝ }
     ensures { λ r. ⌜ r ≡ length (marks (now (on .entry)) e) ⌝ }
     ensures { λ r. ⌜ now (keys .exit) ≡ over (map (λ k. key (getD (now (rank .entry)) (getD (now (ea .entry)) k 0) 0)
         (getD (now (rank .entry)) (getD (now (eb .entry)) k 0) 0)) (marks (now (on .entry)) e)) (now (keys .entry)) ⌝ }
@@ -246,11 +230,11 @@ pub fn start(
     via: &[usize; POINTS],
     kept: &[usize; EDGES],
     count: usize,
-    pts: &mut [i32; TREE_NUMBERS],
-    keys: &mut [usize; TREE_POINTS],
+    pts: &mut [i32; tree::NUMBERS],
+    keys: &mut [usize; tree::POINTS],
 ) -> Size
     requires { ⌜ Startable (graph (now ea) (now eb) (now el) e) n (now pin) m (now far) (parents (now up) (now via)) (now kept) count ⌝ }
-    requires { ⌜ (now pts ≡ replicate (refined.pointBound * 2) (pos 0)) × (now keys ≡ replicate refined.pointBound 0) ⌝ }
+    requires { ⌜ (now pts ≡ replicate (tables.pointBound * 2) (pos 0)) × (now keys ≡ replicate tables.pointBound 0) ⌝ }
     ensures { λ r. ⌜ tree (now (pts .exit)) (r .points) (now (keys .exit)) (r .edges)
         ≡ startOf (graph (now (ea .entry)) (now (eb .entry)) (now (el .entry)) e) (now (far .entry))
         (parents (now (up .entry)) (now (via .entry)))

@@ -3,7 +3,7 @@
 use mathlib.Core.Path.{_∙_}
 use native.Mathlib.Omega.{arith}
 use lib.ListN.{getD}
-use Rattle.terminal.proofs.WayLaws.{nearer-by}
+use Rattle.forest.proofs.WayLaws.{nearer-by}
 use Rattle.union.proofs.MarkLaws.{mark-stop, mark-go}
 use Prim.Native.Nat.{ℕ, _<_}
 use borrow.Fn.Kinds.{In}

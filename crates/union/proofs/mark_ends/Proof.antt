@@ -7,8 +7,8 @@ use native.Mathlib.Omega.{arith}
 use borrow.Author.Tests.{lt-ltb, le-ltb}
 use Rattle.lists.specs.Those.{those}
 use Rattle.lent.specs.Entries.{flat}
-use Rattle.terminal.specs.Edges.{from}
-use Rattle.terminal.proofs.EdgeLaws.{all-left}
+use Rattle.forest.specs.Edges.{from}
+use Rattle.forest.proofs.EdgeLaws.{all-left}
 use Rattle.union.specs.Union.{bothEnds}
 use Rattle.union.specs.Marks.{marked, isMarked, marks}
 use Rattle.union.proofs.MarkLaws.{ends-hit, ends-miss, ends-end}

@@ -5,10 +5,10 @@ use mathlib.Core.Path.{_≡_, refl}
 use Prim.Native.Nat.{_≤_, _-_}
 use native.Mathlib.Omega.{arith}
 use Rattle.lent.specs.Entries.{flat}
-use Rattle.terminal.specs.Edges.{graph, entries}
-use Rattle.terminal.specs.Parents.{parents}
+use Rattle.forest.specs.Edges.{graph, entries}
+use Rattle.forest.specs.Parents.{parents}
 use Rattle.terminal.specs.Bridges.{path}
-use Rattle.terminal.proofs.EdgeLaws.{all-left}
+use Rattle.forest.proofs.EdgeLaws.{all-left}
 use Rattle.union.specs.Union.{keptEdges}
 use Rattle.union.specs.Marks.{marked}
 use Rattle.union.proofs.MarkLaws.{piece-marked, pieces-marked}

@@ -4,8 +4,8 @@
 use mathlib.Core.Path.{_≡_, refl}
 use Prim.Native.Nat.{_≤_, _-_}
 use native.Mathlib.Omega.{arith}
-use Rattle.terminal.specs.Edges.{entries}
-use Rattle.terminal.proofs.EdgeLaws.{all-left}
+use Rattle.forest.specs.Edges.{entries}
+use Rattle.forest.proofs.EdgeLaws.{all-left}
 use Rattle.union.specs.Marks.{marked}
 use Rattle.union.proofs.MarkLaws.{entry-marked, entries-marked}
 use Rattle.union.proofs.mark_pins.Statement.{statement}

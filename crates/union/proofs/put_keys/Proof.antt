@@ -8,7 +8,7 @@ use lib.ListN.{length, getD}
 use denote.Ref.{now}
 use borrow.Author.Tests.{lt-ltb}
 use Rattle.net.specs.Bounds.{treeBound}
-use Rattle.refined.specs.Table.{key}
+use Rattle.tree.specs.Table.{key}
 use Rattle.union.proofs.MarkLaws.{marks-room, Keying, key-none, key-pass, key-more}
 use Rattle.union.proofs.put_keys.Statement.{statement}
 use Rattle.union.proofs.put_keys.Tie as tie

@@ -8,7 +8,7 @@ use lib.ListN.{length}
 use native.Mathlib.Omega.{arith}
 use Rattle.net.specs.Bounds.{pointBound}
 use Rattle.plane.specs.Flat.{placeAt}
-use Rattle.refined.specs.Exchange.{setPoint}
+use Rattle.tree.specs.Table.{setPoint}
 use Rattle.union.proofs.MarkLaws.{marks-few, Placing, place-none, place-pass, place-more}
 use Rattle.union.proofs.put_points.Statement.{statement}
 use Rattle.union.proofs.put_points.Tie as tie

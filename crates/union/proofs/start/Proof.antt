@@ -3,8 +3,8 @@
 use mathlib.Core.Path.{refl, ap}
 use native.Mathlib.Omega.{arith}
 use lib.ListN.{length}
-use Rattle.terminal.specs.Bounds.{pointBound}
-use Rattle.terminal.proofs.EdgeLaws.{below-replicate}
+use Rattle.forest.specs.Bounds.{pointBound}
+use Rattle.forest.proofs.EdgeLaws.{below-replicate}
 use Rattle.terminal.proofs.WholeLaws.{ends-of}
 use Rattle.union.proofs.StartLaws.{edges-are, started}
 use Rattle.union.proofs.start.Statement.{statement}

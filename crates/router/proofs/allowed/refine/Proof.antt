@@ -5,8 +5,8 @@ use native.Mathlib.Omega.{arith}
 use denote.Ref.{now}
 use Rattle.plane.specs.Flat.{placesOf, macrosOf}
 use Rattle.plane.proofs.FlatLaws.{length-places}
-use Rattle.refined.specs.Table.{Tree, tree}
-use Rattle.refined.specs.Refined.{Answer}
+use Rattle.tree.specs.Table.{Tree, tree}
+use Rattle.refiner.specs.Refined.{Answer}
 use Rattle.union.specs.Union.{unionOf}
 use Rattle.union.proofs.WorkedStart.{worked-startable, worked-start, refinable}
 use Rattle.router.proofs.FreshTables.{fresh}

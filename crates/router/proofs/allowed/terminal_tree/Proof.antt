@@ -18,8 +18,8 @@ use Rattle.plane.specs.Flat.{placesOf}
 use Rattle.plane.proofs.FlatLaws.{length-places}
 use Rattle.net.specs.Answer.{number}
 use Rattle.net.specs.Check.{pinCount}
-use Rattle.numbered.specs.Tree.{pathNumbers}
-use Rattle.numbered.proofs.PathLaws.{total-small, paths-one-fewer, kept-fewer, worked-paths, worked-givable}
+use Rattle.terminal.specs.Tree.{pathNumbers}
+use Rattle.terminal.proofs.PathLaws.{total-small, paths-one-fewer, kept-fewer, worked-paths, worked-givable}
 use Rattle.router.specs.Terminal.{pathsOf, pathsTotal, terminalGiven, toldTree}
 use Rattle.router.proofs.AnswerLaws.{room-short, room-enough}
 use Rattle.router.proofs.FreshTables.{fresh}

@@ -14,7 +14,7 @@ use Rattle.plane.proofs.FlatLaws.{length-places, length-macros}
 use Rattle.net.specs.Answer.{number}
 use Rattle.net.specs.Check.{pinCount}
 use Rattle.graph.specs.Numbers.{edgeNumbers}
-use Rattle.wires.specs.Wires.{wires}
+use Rattle.refined.specs.Wires.{wires}
 use Rattle.router.specs.Graph.{pointCount}
 use Rattle.router.specs.Refined.{wiresOf, wiresGiven, toldWires}
 use Rattle.router.proofs.AnswerLaws.{room-short, room-enough}

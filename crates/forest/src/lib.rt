@@ -1,0 +1,291 @@
+// Roots, parents and ways of a graph on tables: a vertex is its number in the order of places, an edge its number in the order of edges.
+// Edge k joins the vertices ea[k] and eb[k] and is el[k] long. What each table holds stands in specs/.
+use net::Net;
+ghost use mathlib.Core.Path.{_≡_};
+ghost use mathlib.Core.Bool.{_||_};
+ghost use Prim.Native.Nat.{_+_, _≤_, _<_};
+ghost use lib.ListN.{getD};
+ghost use Rattle.forest.specs.Bounds.{pointBound, pinBound, lengthBound};
+ghost use Rattle.forest.specs.Edges.{graph, from, entries, Fits, FirstBelow};
+ghost use Rattle.forest.specs.Labels.{labels, better, gains, offer, relax, changes, settled, starts, unlabelled, labelled, Low};
+ghost use Rattle.forest.specs.Parents.{leads, nearer, through, parent, parents, orphans, adopted, parented, wayLength, Falls};
+
+// The bounds of the tables are the net's.
+pub const POINTS: usize = Net::POINTS;
+
+pub const EDGES: usize = Net::EDGES;
+
+pub const PINS: usize = Net::PINS;
+
+// The distance of a vertex that no pin has reached.
+pub const UNREACHED: u64 = 1099511627776;
+
+// A step from a vertex to a neighbour, and the edge over which it goes.
+pub struct Step {
+    pub to: usize,
+    pub via: usize,
+}
+
+fn is_better(f: u64, r: usize, g: u64, s: usize) -> bool
+    ensures { λ b. ⌜ b ≡ better f r g s ⌝ }
+{
+    if f < g {
+        return true;
+    }
+    if g < f {
+        return false;
+    }
+    r < s
+}
+
+// v takes u's label, d farther, where that is better; whether it did.
+fn offer(far: &mut [u64; POINTS], root: &mut [usize; POINTS], u: usize, v: usize, d: u64) -> bool
+    requires { ⌜ (u < pointBound) × (v < pointBound) ⌝ }
+    requires { ⌜ (Low (now far)) × (d ≤ lengthBound) ⌝ }
+    ensures { λ b. ⌜ b ≡ gains u v d (labels (now (far .entry)) (now (root .entry))) ⌝ }
+    ensures { λ b. ⌜ labels (now (far .exit)) (now (root .exit)) ≡ offer u v d (labels (now (far .entry)) (now (root .entry))) ⌝ }
+{
+    let f = far[u] + d;
+    let r = root[u];
+    if is_better(f, r, far[v], root[v]) {
+        far[v] = f;
+        root[v] = r;
+        return true;
+    }
+    false
+}
+
+// Two vertices with an edge of length d offer their labels to each other; whether one was taken.
+fn relax_edge(
+    far: &mut [u64; POINTS],
+    root: &mut [usize; POINTS],
+    a: usize,
+    b: usize,
+    d: u64,
+) -> bool
+    requires { ⌜ (a < pointBound) × (b < pointBound) ⌝ }
+    requires { ⌜ (Low (now far)) × (d ≤ lengthBound) ⌝ }
+    ensures { λ m. ⌜ m ≡ (gains a b d (labels (now (far .entry)) (now (root .entry)))
+        || gains b a d (offer a b d (labels (now (far .entry)) (now (root .entry))))) ⌝ }
+    ensures { λ m. ⌜ labels (now (far .exit)) (now (root .exit))
+        ≡ offer b a d (offer a b d (labels (now (far .entry)) (now (root .entry)))) ⌝ }
+{
+    let there = offer(&mut *far, &mut *root, a, b, d);
+    let back = offer(&mut *far, &mut *root, b, a, d);
+    there | back
+}
+
+// A pass over all edges; whether it changed a label.
+fn relax_all(
+    ea: &[usize; EDGES],
+    eb: &[usize; EDGES],
+    el: &[u64; EDGES],
+    e: usize,
+    far: &mut [u64; POINTS],
+    root: &mut [usize; POINTS],
+) -> bool
+    requires { ⌜ (Fits (graph (now ea) (now eb) (now el) e)) × (Low (now far)) ⌝ }
+    ensures { λ m. ⌜ m ≡ changes (graph (now (ea .entry)) (now (eb .entry)) (now (el .entry)) e) (from 0 e)
+        (labels (now (far .entry)) (now (root .entry))) ⌝ }
+    ensures { λ m. ⌜ labels (now (far .exit)) (now (root .exit)) ≡ relax (graph (now (ea .entry)) (now (eb .entry)) (now (el .entry)) e)
+        (from 0 e) (labels (now (far .entry)) (now (root .entry))) ⌝ }
+{
+    let mut moved = false;
+    let mut k = 0;
+    while k < e {
+        let m = relax_edge(&mut *far, &mut *root, ea[k], eb[k], el[k]);
+        moved = moved | m;
+        k += 1;
+    }
+    moved
+}
+
+// Passes until one changes nothing, n at most.
+fn settle(
+    ea: &[usize; EDGES],
+    eb: &[usize; EDGES],
+    el: &[u64; EDGES],
+    e: usize,
+    n: usize,
+    far: &mut [u64; POINTS],
+    root: &mut [usize; POINTS],
+)
+    requires { ⌜ (Fits (graph (now ea) (now eb) (now el) e)) × (Low (now far)) ⌝ }
+    ensures { λ _. ⌜ labels (now (far .exit)) (now (root .exit)) ≡ settled n
+        (graph (now (ea .entry)) (now (eb .entry)) (now (el .entry)) e) (from 0 e) (labels (now (far .entry)) (now (root .entry))) ⌝ }
+{
+    let mut i = 0;
+    while i < n {
+        if !relax_all(ea, eb, el, e, &mut *far, &mut *root) {
+            return;
+        }
+        i += 1;
+    }
+}
+
+// Each of the m pins is its own root.
+fn start(pin: &[usize; PINS], m: usize, far: &mut [u64; POINTS], root: &mut [usize; POINTS])
+    requires { ⌜ (m ≤ pinBound) × (FirstBelow (now pin) m pointBound) ⌝ }
+    ensures { λ _. ⌜ labels (now (far .exit)) (now (root .exit)) ≡ starts (entries (now (pin .entry)) 0 m)
+        (labels (now (far .entry)) (now (root .entry))) ⌝ }
+{
+    let mut i = 0;
+    while i < m {
+        let p = pin[i];
+        far[p] = 0;
+        root[p] = p;
+        i += 1;
+    }
+}
+
+// Whether w has v's root and a shortest way of v runs through w, over an edge of length d.
+fn leads(far: &[u64; POINTS], root: &[usize; POINTS], w: usize, v: usize, d: u64) -> bool
+    requires { ⌜ (w < pointBound) × (v < pointBound) ⌝ }
+    requires { ⌜ (Low (now far)) × (d ≤ lengthBound) ⌝ }
+    ensures { λ r. ⌜ r ≡ leads (labels (now (far .entry)) (now (root .entry))) w v d ⌝ }
+{
+    (root[w] == root[v]) & (far[w] + d == far[v])
+}
+
+// The step from v to w over edge k, of length d, where that leads and w is smaller than where the best step so far goes.
+fn nearer(
+    far: &[u64; POINTS],
+    root: &[usize; POINTS],
+    v: usize,
+    w: usize,
+    k: usize,
+    d: u64,
+    best: Step,
+) -> Step
+    requires { ⌜ (w < pointBound) × (v < pointBound) ⌝ }
+    requires { ⌜ (Low (now far)) × (d ≤ lengthBound) ⌝ }
+    ensures { λ r. ⌜ r ≡ nearer (labels (now (far .entry)) (now (root .entry))) v w k d best ⌝ }
+{
+    if leads(far, root, w, v, d) & (w < best.to) {
+        return Step { to: w, via: k };
+    }
+    best
+}
+
+// The same for the other end of edge k, which joins a and b, where v is an end of it.
+fn through(
+    far: &[u64; POINTS],
+    root: &[usize; POINTS],
+    v: usize,
+    a: usize,
+    b: usize,
+    k: usize,
+    d: u64,
+    best: Step,
+) -> Step
+    requires { ⌜ (v < pointBound) × ((a < pointBound) × (b < pointBound)) ⌝ }
+    requires { ⌜ (Low (now far)) × (d ≤ lengthBound) ⌝ }
+    ensures { λ r. ⌜ r ≡ through (labels (now (far .entry)) (now (root .entry))) v a b k d best ⌝ }
+{
+    if v == a {
+        return nearer(far, root, v, b, k, d, best);
+    }
+    if v == b {
+        return nearer(far, root, v, a, k, d, best);
+    }
+    best
+}
+
+// The step from v to its parent.
+fn parent_of(
+    ea: &[usize; EDGES],
+    eb: &[usize; EDGES],
+    el: &[u64; EDGES],
+    e: usize,
+    far: &[u64; POINTS],
+    root: &[usize; POINTS],
+    v: usize,
+) -> Step
+    requires { ⌜ (Fits (graph (now ea) (now eb) (now el) e)) × ((Low (now far)) × (v < pointBound)) ⌝ }
+    ensures { λ r. ⌜ r ≡ parent (graph (now (ea .entry)) (now (eb .entry)) (now (el .entry)) e)
+        (labels (now (far .entry)) (now (root .entry))) v ⌝ }
+{
+    let mut best = Step {
+        to: POINTS,
+        via: EDGES,
+    };
+    let mut k = 0;
+    while k < e {
+        best = through(far, root, v, ea[k], eb[k], k, el[k], best);
+        k += 1;
+    }
+    best
+}
+
+// The parents of the vertices below n, and the edges to them.
+fn adopt(
+    ea: &[usize; EDGES],
+    eb: &[usize; EDGES],
+    el: &[u64; EDGES],
+    e: usize,
+    far: &[u64; POINTS],
+    root: &[usize; POINTS],
+    n: usize,
+    up: &mut [usize; POINTS],
+    via: &mut [usize; POINTS],
+)
+    requires { ⌜ (Fits (graph (now ea) (now eb) (now el) e)) × ((Low (now far)) × (n ≤ pointBound)) ⌝ }
+    ensures { λ _. ⌜ parents (now (up .exit)) (now (via .exit)) ≡ adopted (graph (now (ea .entry)) (now (eb .entry)) (now (el .entry)) e) n
+        (labels (now (far .entry)) (now (root .entry))) (parents (now (up .entry)) (now (via .entry))) ⌝ }
+{
+    let mut v = 0;
+    while v < n {
+        let s = parent_of(ea, eb, el, e, far, root, v);
+        up[v] = s.to;
+        via[v] = s.via;
+        v += 1;
+    }
+}
+
+// The length of v's way to its root, every edge of it counted. The distance falls with each call.
+pub fn way_length(
+    el: &[u64; EDGES],
+    far: &[u64; POINTS],
+    up: &[usize; POINTS],
+    via: &[usize; POINTS],
+    v: usize,
+) -> u64
+    requires { ⌜ (Falls (now el) (now far) (parents (now up) (now via))) × ((Low (now far)) × (v < pointBound)) ⌝ }
+    ensures { λ r. ⌜ r ≡ wayLength (now (el .entry)) (now (far .entry)) (parents (now (up .entry)) (now (via .entry))) v ⌝ }
+    ensures { λ r. ⌜ r ≤ getD (now (far .entry)) v 0 ⌝ }
+{
+    let u = up[v];
+    if u < POINTS {
+        let d = el[via[v]];
+        return d + way_length(el, far, up, via, u);
+    }
+    0
+}
+
+// The labels and the parents of a graph of n vertices with m pins, in tables that are fresh.
+pub fn forest(
+    ea: &[usize; EDGES],
+    eb: &[usize; EDGES],
+    el: &[u64; EDGES],
+    e: usize,
+    n: usize,
+    pin: &[usize; PINS],
+    m: usize,
+    far: &mut [u64; POINTS],
+    root: &mut [usize; POINTS],
+    up: &mut [usize; POINTS],
+    via: &mut [usize; POINTS],
+)
+    requires { ⌜ (Fits (graph (now ea) (now eb) (now el) e))
+        × ((n ≤ pointBound) × ((m ≤ pinBound) × (FirstBelow (now pin) m pointBound))) ⌝ }
+    requires { ⌜ (labels (now far) (now root) ≡ unlabelled) × (parents (now up) (now via) ≡ orphans) ⌝ }
+    ensures { λ _. ⌜ labels (now (far .exit)) (now (root .exit)) ≡ labelled
+        (graph (now (ea .entry)) (now (eb .entry)) (now (el .entry)) e) n (entries (now (pin .entry)) 0 m) ⌝ }
+    ensures { λ _. ⌜ parents (now (up .exit)) (now (via .exit)) ≡ parented
+        (graph (now (ea .entry)) (now (eb .entry)) (now (el .entry)) e) n
+        (labelled (graph (now (ea .entry)) (now (eb .entry)) (now (el .entry)) e) n (entries (now (pin .entry)) 0 m)) ⌝ }
+{
+    start(pin, m, &mut *far, &mut *root);
+    settle(ea, eb, el, e, n, &mut *far, &mut *root);
+    adopt(ea, eb, el, e, &*far, &*root, n, &mut *up, &mut *via);
+}

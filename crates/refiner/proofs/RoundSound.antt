@@ -1,0 +1,223 @@
+-- The rounds keep a tree over its points in order, with all pins, every edge clear and the edges in order; each adds at most one point, and
+-- the total falls by each gain.
+-- Assumes nothing.
+use mathlib.Core.Path.{_≡_, refl, sym, ap, _∙_, subst}
+use mathlib.Core.List.{List, []}
+use Prim.Native.Nat.{ℕ, zero, suc, _+_, _-_, _*_, _≤_, _<_}
+use native.Mathlib.Omega.{arith}
+use lib.Dec.{eqb}
+use lib.IntN.{ℤ}
+use lib.ListN.{length, getD}
+use borrow.Author.Tests.{eqb-false}
+use Rattle.lists.proofs.TestLaws.{by}
+use Rattle.plane.specs.declared.Place.{Place}
+use Rattle.plane.specs.declared.Macro.{Macro}
+use Rattle.plane.specs.Flat.{placeAt}
+use Rattle.refiner.specs.declared.Best.{Best}
+use Rattle.refiner.specs.Turns.{turns}
+use Rattle.tree.specs.Table.{pointBound, firstEnd, secondEnd, Row, row, Tree, tree}
+use Rattle.refiner.specs.Longest.{edgeLength, lengths, longest}
+use Rattle.refiner.specs.Candidate.{middleOf, found}
+use Rattle.refiner.specs.Exchange.{dropTwo, rank, stands, bump, bumpAt, lay, lay3, laidAt, exchange}
+use Rattle.refiner.specs.Refined.{rounds, addLength, metal}
+use Rattle.tree.specs.Sum.{below, over}
+use Rattle.tree.specs.Places.{metalOf}
+use Rattle.tree.specs.Places.{keyLength, Ranked, Sound}
+use Rattle.refiner.specs.Taken.{Taken}
+use Rattle.refiner.proofs.ExchangeSums.{length-lay, length-bumps, length-dropped}
+use Rattle.refiner.proofs.OpenedLaws.{opened-length}
+use Rattle.tree.proofs.ListingLaws.{listing-length}
+use Rattle.refiner.proofs.WithinLaws.{rank-le, within-dropped}
+use Rattle.refiner.proofs.RankedLaws.{dropped-ranked, laid-level, ranked-of}
+use Rattle.refiner.proofs.ExchangeSound.{laid-sound, laid-lengths}
+use Rattle.refiner.proofs.CutLaws.{Is, cut-is, the-way}
+use Rattle.refiner.proofs.WinnerLaws.{Winner, found-wins, length-at, no-length}
+
+-- what m rounds keep
+pub record Kept (ms : List Macro) (pins : List Place) (t r : Tree) (m : ℕ) : Type 0 where
+  pub sound : Sound ms pins r
+  pub total : metalOf r ≤ metalOf t
+  pub points : r .count ≤ t .count + m
+  pub places : length (r .points) ≡ length (t .points)
+  pub rows : length (r .edges .keys) ≡ length (t .edges .keys)
+  pub ranked : Ranked (t .edges .keys) (t .edges .size) → Ranked (r .edges .keys) (r .edges .size)
+
+-- The size of the tables
+
+length-lay3 : (p a b u : ℕ) (r : Row) → length (lay3 p a b u r .keys) ≡ length (r .keys)
+unfolding lay3
+length-lay3 p a b u r = length-lay p u (lay p b (lay p a r)) ∙ length-lay p b (lay p a r) ∙ length-lay p a r
+
+module _ (pts : List ℤ) (n : ℕ) (ks : List ℕ) (e p a b u : ℕ) (s : Place) where
+  laid-count : laidAt pts n ks e p a b u s .count ≤ n + 1
+  unfolding laidAt
+  laid-count = by (stands pts n p s) (λ t. rw (laidAt, t) (omega arith)) (λ t. rw (laidAt, t) (omega arith))
+
+  laid-places : length (laidAt pts n ks e p a b u s .points) ≡ length pts
+  unfolding laidAt
+  laid-places = by (stands pts n p s) (λ t. rw (laidAt, t) refl) (λ t. rw (laidAt, t) (opened-length pts n p s))
+
+  laid-rows : length (laidAt pts n ks e p a b u s .edges .keys) ≡ length ks
+  unfolding laidAt
+  laid-rows =
+      by (stands pts n p s) (λ t. rw (laidAt, t) (length-lay3 p a b u (row ks e)))
+      (λ t. rw (laidAt, t) (length-lay3 p (bump p a) (bump p b) (bump p u) (row (turns (bumpAt p) 0 e ks) e) ∙ length-bumps p e ks))
+
+-- One round
+
+module _ (ms : List Macro) (pins : List Place) (pts : List ℤ) (n : ℕ) (ks : List ℕ) (e : ℕ) (sound : Sound ms pins (tree pts n ks (suc e)))
+    (few : n < pointBound) (g k u l : ℕ) (win : Winner ms pts n ks (suc e) (lengths pts ks (suc e))
+    (longest ks (lengths pts ks (suc e)) (suc e) n) g k u l) where
+  pub sized : suc (suc e) ≡ n
+  sized = ap suc (sym (listing-length _ (suc e))) ∙ sound .whole .size ∙ listing-length (placeAt pts) n
+
+  abbrev Cut : ℕ → Type 0
+  Cut x =
+      Is pts n ks e (lengths pts ks (suc e)) (sound .ordered) (omega arith) (omega (arith, sized))
+      (no-length pts ks (suc e) (omega (arith, sized)))
+      (sound .within)
+      (sound .whole) k u (win .edge) (win .point) (win .notFirst) (win .notSecond) x
+
+  -- L is the longest edge on the way
+  pub cut-longest : Cut l
+  unfolding longest
+  cut-longest =
+      subst Cut (sym (win .cut))
+      (cut-is pts n ks e (lengths pts ks (suc e)) (sound .ordered) (omega arith) (omega (arith, sized))
+      (no-length pts ks (suc e) (omega (arith, sized)))
+      (sound .within) (sound .whole) k u (win .edge) (win .point) (win .notFirst) (win .notSecond))
+
+  pub taken : Taken ms pts n ks (suc e) k l u
+  taken = record {
+    edge = win .edge;
+    cut = cut-longest .1 .0;
+    two = λ q. win .two (sym q);
+    point = win .point;
+    notFirst = win .notFirst;
+    notSecond = win .notSecond;
+    seen = win .seen;
+    kept = win .kept;
+    toward =
+        the-way pts n ks e (lengths pts ks (suc e)) (sound .ordered) (omega arith) (omega (arith, sized))
+        (no-length pts ks (suc e) (omega (arith, sized))) (sound .within)
+        (sound .whole) k u (win .edge) (win .point) (win .notFirst) (win .notSecond);
+    one = cut-longest .1 .1 .0;
+    other = cut-longest .1 .1 .1 .0;
+    on = cut-longest .1 .1 .1 .1 .0;
+    longest = cut-longest .1 .1 .1 .1 .1;
+  }
+
+module _ (ms : List Macro) (pins : List Place) (pts : List ℤ) (n : ℕ) (ks : List ℕ) (few : n < pointBound)
+    (room : length pts ≡ pointBound * 2)
+    (rooms : length ks ≡ pointBound) where
+  abbrev pub Won : ℕ → Best → Type 0
+  Won e c = Winner ms pts n ks e (lengths pts ks e) (longest ks (lengths pts ks e) e n) (c .gain) (c .edge) (c .point) (c .cut)
+
+  pub exchange-laid : (c : Best) (e : ℕ) → exchange c pts n ks (suc (suc e))
+      ≡ laidAt pts n (dropTwo e (c .edge) (c .cut) ks) e
+      (rank pts n (middleOf pts (firstEnd (getD ks (c .edge) 0)) (secondEnd (getD ks (c .edge) 0))
+      (c .point)))
+      (firstEnd (getD ks (c .edge) 0)) (secondEnd (getD ks (c .edge) 0)) (c .point)
+      (middleOf pts (firstEnd (getD ks (c .edge) 0)) (secondEnd (getD ks (c .edge) 0)) (c .point))
+  unfolding exchange
+  exchange-laid c e = let z : suc (suc e) - 2 ≡ e = omega arith in rw z refl
+
+  -- R14: the sum of the edges falls by the gain
+  pub round-falls : (c : Best) (e : ℕ) → Sound ms pins (tree pts n ks e) → Won e c →
+      metalOf (exchange c pts n ks e) + c .gain ≡ metalOf (tree pts n ks e)
+  round-falls c zero sound win = absurd (let z : ⊥ = omega (arith, win .edge) in z)
+  round-falls c (suc zero) sound win =
+      let t = taken ms pins pts n ks 0 sound few (c .gain) (c .edge) (c .point) (c .cut) win in
+      absurd (win .two (let z : c .cut ≡ c .edge = omega (arith, t .edge, t .cut) in z))
+  round-falls c (suc (suc e)) sound win =
+      let t = taken ms pins pts n ks (suc e) sound few (c .gain) (c .edge) (c .point) (c .cut) win in
+      let s = sized ms pins pts n ks (suc e) sound few (c .gain) (c .edge) (c .point) (c .cut) win in
+      let l = laid-lengths ms pins pts n ks e (c .edge) (c .cut) (c .point) sound t few (omega arith) (omega (arith, s)) in
+      let at = length-at pts ks (suc (suc e)) (c .cut) (omega (arith, s)) (t .cut) in
+      rw (exchange-laid c e) (omega (arith, l, at, win .gained))
+
+  pub round-kept : (c : Best) (e : ℕ) → Sound ms pins (tree pts n ks e) → Won e c → Kept ms pins (tree pts n ks e) (exchange c pts n ks e) 1
+  round-kept c zero sound win = absurd (let z : ⊥ = omega (arith, win .edge) in z)
+  round-kept c (suc zero) sound win =
+      let t = taken ms pins pts n ks 0 sound few (c .gain) (c .edge) (c .point) (c .cut) win in
+      absurd (win .two (let z : c .cut ≡ c .edge = omega (arith, t .edge, t .cut) in z))
+  round-kept c (suc (suc e)) sound win =
+      let t = taken ms pins pts n ks (suc e) sound few (c .gain) (c .edge) (c .point) (c .cut) win in
+      let s = sized ms pins pts n ks (suc e) sound few (c .gain) (c .edge) (c .point) (c .cut) win in
+      let k = getD ks (c .edge) 0 in
+      let m = middleOf pts (firstEnd k) (secondEnd k) (c .point) in
+      let left = dropTwo e (c .edge) (c .cut) ks in
+      let l = laid-lengths ms pins pts n ks e (c .edge) (c .cut) (c .point) sound t few (omega arith) (omega (arith, s)) in
+      let at = length-at pts ks (suc (suc e)) (c .cut) (omega (arith, s)) (t .cut) in
+      rw (exchange-laid c e) (record {
+        sound = laid-sound ms pins pts n ks e (c .edge) (c .cut) (c .point) sound t few (omega arith) (omega (arith, s));
+        total = omega (arith, l, at, win .gained);
+        points = laid-count pts n left e (rank pts n m) (firstEnd k) (secondEnd k) (c .point) m;
+        places = laid-places pts n left e (rank pts n m) (firstEnd k) (secondEnd k) (c .point) m;
+        rows = laid-rows pts n left e (rank pts n m) (firstEnd k) (secondEnd k) (c .point) m ∙ length-dropped e (c .edge) (c .cut) ks;
+        ranked =
+            λ r.
+            ranked-of (laidAt pts n left e (rank pts n m) (firstEnd k) (secondEnd k) (c .point) m)
+            (laid-sound ms pins pts n ks e (c .edge) (c .cut) (c .point) sound t few (omega arith) (omega (arith, s)))
+            (laid-level pts n left e (rank pts n m) (firstEnd k) (secondEnd k) (c .point) m few
+            (rw (length-dropped e (c .edge) (c .cut) ks) (omega (arith, s))) (rank-le pts n m)
+            (sound .within .ends (c .edge) .0) (sound .within .ends (c .edge) .1) (win .point)
+            (within-dropped n e (c .edge) (c .cut) ks (sound .within)) (dropped-ranked e (c .edge) (c .cut) ks r));
+      })
+
+-- The rounds
+
+kept-then : {ms : List Macro} {pins : List Place} {t r q : Tree} (m : ℕ) → Kept ms pins t r 1 → Kept ms pins r q m →
+    Kept ms pins t q (suc m)
+kept-then m a b = record {
+  sound = b .sound;
+  total = omega (arith, a .total, b .total);
+  points = omega (arith, a .points, b .points);
+  places = b .places ∙ a .places;
+  rows = b .rows ∙ a .rows;
+  ranked = λ r. b .ranked (a .ranked r);
+}
+
+pub rounds-kept : (ms : List Macro) (pins : List Place) (m : ℕ) (t : Tree) → Sound ms pins t → t .count + m ≤ pointBound →
+    length (t .points) ≡ pointBound * 2 → length (t .edges .keys) ≡ pointBound → Kept ms pins t (rounds ms m t) m
+unfolding rounds
+rounds-kept ms pins zero t sound few room rooms = record {
+  sound = sound;
+  total = omega arith;
+  points = omega arith;
+  places = refl;
+  rows = refl;
+  ranked = λ r. r;
+}
+rounds-kept ms pins (suc m) t sound few room rooms =
+    let c = found ms (t .points) (t .count) (t .edges .keys) (t .edges .size) in
+    by (eqb (c .gain) 0)
+    (λ q. rw (rounds, q) (record { sound = sound; total = omega arith; points = omega arith; places = refl; rows = refl; ranked = λ r. r }))
+    (λ q.
+    let some : c .gain ≡ 0 → ⊥ = eqb-false _ _ q in
+    let win = found-wins ms (t .points) (t .count) (t .edges .keys) (t .edges .size) (omega arith) in
+    let one = round-kept ms pins (t .points) (t .count) (t .edges .keys) (omega arith) room rooms c (t .edges .size) sound win in
+    let next = exchange c (t .points) (t .count) (t .edges .keys) (t .edges .size) in
+    rw (rounds, q)
+    (kept-then m one (rounds-kept ms pins m next (one .sound) (omega (arith, one .points)) (one .places ∙ room) (one .rows ∙ rooms))))
+
+-- the sum that the contract speaks of is this one
+sum-last : (pts : List ℤ) (ks : List ℕ) (c i s : ℕ) → turns (addLength pts ks) i (suc c) s ≡ keyLength pts (getD ks (i + c) 0)
+    + turns (addLength pts ks) i c s
+unfolding turns addLength edgeLength
+sum-last pts ks zero i s = let z : i + 0 ≡ i = omega arith in rw z (omega arith)
+sum-last pts ks (suc c) i s = let z : i + suc c ≡ suc i + c = omega arith in
+    rw z (sum-last pts ks c (suc i) (s + keyLength pts (getD ks i 0)))
+
+summed : (pts : List ℤ) (ks : List ℕ) (c : ℕ) → turns (addLength pts ks) 0 c 0 ≡ over (keyLength pts) ks c
+unfolding turns below
+summed pts ks zero = refl
+summed pts ks (suc c) =
+    let z : 0 + c ≡ c = omega arith in
+    let r : turns (addLength pts ks) 0 (suc c) 0 ≡ keyLength pts (getD ks c 0) + turns (addLength pts ks) 0 c 0 = rw z at
+    (sum-last pts ks c 0 0) in
+    r ∙ ap (λ (x : ℕ). keyLength pts (getD ks c 0) + x) (summed pts ks c)
+
+pub metal-of : (pts : List ℤ) (n : ℕ) (ks : List ℕ) (e : ℕ) → metal pts ks e ≡ metalOf (tree pts n ks e)
+unfolding metal
+metal-of pts n ks e = summed pts ks e

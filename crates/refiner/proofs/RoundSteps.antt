@@ -1,0 +1,47 @@
+-- Rounds one by one: none where there is no gain, and otherwise one and the rest. In a sound tree the order of numbers is that of edges and
+-- of places.
+-- Assumes nothing.
+use mathlib.Core.Path.{_≡_, refl, ap}
+use mathlib.Core.Logic.{inl, inr}
+use mathlib.Core.List.{List}
+use Prim.Native.Nat.{ℕ, zero, suc, _<_}
+use native.Mathlib.Omega.{arith}
+use lib.Dec.{ltb}
+use borrow.Author.Tests.{ltb-true, ltb-false, eq-eqb, ne-eqb}
+use Rattle.lists.proofs.TestLaws.{by}
+use Rattle.plane.specs.declared.Place.{Place}
+use Rattle.plane.specs.declared.Macro.{Macro}
+use Rattle.plane.specs.Flat.{placeAt}
+use Rattle.tree.specs.Table.{firstEnd, secondEnd, Tree}
+use Rattle.refiner.specs.Refined.{rounds}
+use Rattle.tree.specs.Places.{Ranked, Sound}
+use Rattle.refiner.specs.Sentences.{keyAt, foundIn, exchanged, Numbered}
+
+-- Edges and points in order
+
+pub numbered : (ms : List Macro) (pins : List Place) (t : Tree) → Sound ms pins t → Ranked (t .edges .keys) (t .edges .size) → Numbered t
+numbered ms pins t sound ranked = record {
+  edges =
+      λ i j h l.
+      let rise : keyAt t i < keyAt t j = ranked .rising i j h l in
+      by (ltb (firstEnd (keyAt t i)) (firstEnd (keyAt t j)))
+      (λ s. inl (sound .ordered (firstEnd (keyAt t i)) (firstEnd (keyAt t j)) (ltb-true _ _ s) (sound .within .ends j .0)))
+      (λ s.
+      let no = ltb-false (firstEnd (keyAt t i)) (firstEnd (keyAt t j)) s in
+      let a : firstEnd (keyAt t i) ≡ firstEnd (keyAt t j) = omega arith in
+      let b : secondEnd (keyAt t i) < secondEnd (keyAt t j) = omega arith in
+      inr (ap (placeAt (t .points)) a, sound .ordered (secondEnd (keyAt t i)) (secondEnd (keyAt t j)) b (sound .within .ends j .1)));
+  places = sound .ordered;
+}
+
+-- Rounds one by one
+
+module _ (ms : List Macro) where
+  pub rounds-none : (i : ℕ) (t : Tree) → foundIn ms t .gain ≡ 0 → rounds ms i t ≡ t
+  unfolding rounds
+  rounds-none zero t q = refl
+  rounds-none (suc i) t q = rw (rounds, eq-eqb (foundIn ms t .gain) 0 q) refl
+
+  pub rounds-some : (i : ℕ) (t : Tree) → (foundIn ms t .gain ≡ 0 → ⊥) → rounds ms (suc i) t ≡ rounds ms i (exchanged ms t)
+  unfolding rounds
+  rounds-some i t q = rw (rounds, ne-eqb (foundIn ms t .gain) 0 q) refl

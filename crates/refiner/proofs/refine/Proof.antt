@@ -1,0 +1,43 @@
+-- `refiner::refine` meets its contract: the rounds, then the pruning, then the sum.
+-- Assumes nothing.
+use mathlib.Core.Path.{_≡_}
+use native.Mathlib.Omega.{arith}
+use Rattle.plane.proofs.FlatLaws.{length-places}
+use Rattle.refiner.proofs.PruneLaws.{answer-is}
+use Rattle.refiner.proofs.WithinLaws.{within-small, after-pruning}
+use borrow.Author.Needs.{needs}
+use Rattle.refiner.proofs.refine.Statement.{statement}
+use Rattle.refiner.proofs.refine.Tie as tie
+
+rounds-requires : tie.Need-rounds-requires
+rounds-requires c κs = search needs
+
+prune-points-requires : tie.Need-prune-points-requires
+prune-points-requires c κs =
+    let r = c .before .before .rounds .ensures in
+    let i = r .1 .0 in
+    (omega arith, (omega arith, within-small _ _ (omega arith) (r .1 .1)))
+
+total-requires : tie.Need-total-requires
+total-requires c κs =
+    let p = c .before .before in
+    let r = p .before .before .before .rounds .ensures in
+    let i = r .1 .0 in
+    let w = after-pruning _ _ _ _ _ _ _ _ (p .prune-points .ensures) (r .1 .1) in
+    (omega (arith, w .0), within-small _ _ (omega arith) (w .1))
+
+returns : tie.Need-returns
+returns c =
+    let p = c .before .before .before in
+    let r = p .before .before .before .rounds .ensures in
+    let i = r .1 .0 in
+    let w = after-pruning _ _ _ _ _ _ _ _ (p .prune-points .ensures) (r .1 .1) in
+    record {
+      whole = answer-is _ _ _ _ _ _ _ _ _ _ (length-places _) (r .0) (p .prune-points .ensures);
+      sum = c .total .ensures;
+      few = (omega arith, omega (arith, w .0));
+      inside = w .1;
+    }
+
+pub refine-spec : {M : Type 1} → statement M
+refine-spec = tie.close (tie.spec rounds-requires prune-points-requires total-requires returns)

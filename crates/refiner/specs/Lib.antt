@@ -1,0 +1,61 @@
+-- The refiner: rules R3 to R22 on the tables of a tree.
+--
+-- WHICH REPRESENTATION, AND WHY. The points of the tree are a table in the order of places, and a point is its number there. An edge is one
+-- number, the key of its ends, and the edges are a table in the order of keys, so an edge is its position. Then the order of numbers is the
+-- order of places and of edges, every tie is settled by scanning upwards and giving way only to what is strictly better, and code and
+-- definition share their tables. A new point opens a gap in the table and moves the numbers behind it on by one.
+-- L is asked for every edge with every point. One table a round answers all: the longest edge on the way between every two points, filled
+-- by hanging one point after the other on those that are reached. Definitions are state machines on whole tables, what stands past their
+-- end included, so that contracts speak of every number lent.
+--
+--   Turns      turns f i n s               the state s after f at the n numbers from i on
+--              seek t i n                  the first of these numbers that passes t
+--   Longest    edgeLength, lengths         the length of an edge; of all
+--              wins, longer, shorter       the longer edge, the smaller on a tie
+--              longest                     the table of the longest edge between every two points
+--              cutOf                       L for an edge and a point
+--   Candidate  middleOf                    s
+--              sees, dropped, allowed      what a candidate must be
+--              weighed, offer, search      the best candidate so far with one more; the one that a round takes
+--              found                       the same from the tables of a tree
+--   Exchange   closed, dropTwo             edges taken out
+--              rank, opened, bump          where s belongs; the points with s put in; numbers moved on
+--              lay, lay3, laidAt           edges laid, except any of length zero
+--              exchange                    what a round does with its candidate
+--   Prune      marks                       which points are pins
+--              loose, prune                no pin and a single edge; what is left when all such points are gone
+--   Refined    rounds, pruned, refined     at most m rounds, then pruning
+--              metal                       the sum of edge lengths
+--              Answer                      what the tables and the answer hold when a tree is refined
+--   Taken      Taken                       what is known of a candidate that a round takes
+--   Promise    Promise                     what is promised of a refined tree
+--              Tabled                      what is promised of its tables: edges in order
+--   Sentences  CandidateOf                 an edge and a point are a candidate
+--              LongestOn, CutAt            the longest edge on a way; L of an edge and a point
+--              Gains, Takes                a candidate with its L and its gain; the candidate that a round takes
+--              Numbered                    edges and points are numbered in their order
+--              NoneLeft                    every point with an edge is a pin or has two
+--
+-- THE THEOREMS, in the order of their proof.
+--   CutLaws        cut-is              `cutOf` is the longest edge, the smallest on a tie, of the way to whichever end is met first
+--   ExchangeSound  laid-sound          a round keeps `Sound`;  laid-lengths: the total falls by the gain
+--   RankedLaws     laid-level          edges stay smaller place first and in order;  ranked-of: each once, since they are a tree
+--   RoundSound     rounds-kept         so do the rounds, each with at most one point more;  metal-of: the contract's sum is `metalOf`
+--   PruneSound     prune-whole         pruning keeps a tree with all pins;  pruned-over: it raises no sum
+--   RefinedSound   refined-promise     the refined tree of a sound tree keeps `Promise`
+--                  refined-tabled      and `Tabled`, where the tree's edges are in order
+--   CutSound       cut-at              in a sound tree `cutOf` is `CutAt`;  cut-one: it alone is;
+--                  cut-another         it is another edge than (a, b)
+--                  offer-plain         so that test turns no candidate away
+--   TakesLaws      found-takes         in a sound tree `found` is the candidate that a round takes: `Takes`
+--   RoundSteps     rounds-none, -some  rounds one by one;  numbered: the order of numbers is that of edges and of places
+--   LeftLaws       none-loose          pruning ends with none left to go;  pruned-left: `NoneLeft` of what is left
+pub mod Turns
+pub mod Longest
+pub mod Candidate
+pub mod Exchange
+pub mod Prune
+pub mod Refined
+pub mod Taken
+pub mod Promise
+pub mod Sentences

@@ -1,0 +1,135 @@
+-- The mission's demand on the terminal tree, over places: it is proved over vertex numbers (terminal/proofs/OurTree.antt) and carried over,
+-- our paths and our way from numbers to places, the joinings and chains that they are compared with from places to numbers.
+-- Assumes nothing.
+use mathlib.Core.Path.{_≡_, refl, sym, ap, ap₂, _∙_, subst}
+use mathlib.Core.Bool.{false}
+use mathlib.Core.List.{List, _∷_, map}
+use Prim.Native.Nat.{ℕ, suc, _≤_, _<_}
+use native.Mathlib.Omega.{arith}
+use lib.ListN.{length, length-map}
+use Rattle.lists.specs.Member.{_∈_}
+use Rattle.lists.specs.Total.{total, most}
+use Rattle.lists.proofs.MapLaws.{in-map, map-then}
+use Rattle.joined.specs.Way.{turned}
+use Rattle.joined.specs.Path.{TerminalPath, endsOf, lengthOf}
+use Rattle.joined.specs.Chain.{Chain, Joining, OurWay}
+use Rattle.joined.proofs.CarriedLaws.{turned-carried, same-point, path-carried, start-carried, finish-carried, points-carried, step-carried}
+use Rattle.joined.proofs.CarriedLaws.{Follows, chain-carried, joining-carried, our-way-carried, chain-ends}
+use Rattle.plane.specs.declared.Place.{Place}
+use Rattle.plane.specs.declared.Macro.{Macro}
+use Rattle.plane.specs.Distance.{distance}
+use Rattle.net.specs.Allowed.{Allowed}
+use Rattle.graph.specs.Vertices.{vertices}
+use Rattle.forest.specs.Edges.{one, two}
+use Rattle.terminal.specs.Bridges.{sameRoot, rootsOf as rootsBy}
+use Rattle.terminal.specs.Kept.{terminal, keptLengths}
+use Rattle.forest.specs.Setting.{pairs}
+use Rattle.terminal.proofs.OurTree.{stands, kept-joining, none-shorter, none-lower}
+use Rattle.terminal.specs.Number.{numberOf, vertexAt, edgeAt}
+use Rattle.terminal.specs.Tree.{spanning, treeOf, bridgesOf, lengthsOf, pathsOf, totalOf, rootsOf}
+use Rattle.terminal.specs.Roots.{WayUp}
+use Rattle.terminal.specs.Stands.{Kept, PathOf, keptEnds, Stands}
+use Rattle.terminal.proofs.SettingOf.{between-numbers, edge-in, one-vertex, two-vertex, setting, whole, paths-count}
+use Rattle.terminal.proofs.CrossingLaws.{G, pins, T, to-places, to-numbers, length-by-places, length-by-numbers}
+use Rattle.terminal.proofs.CrossingLaws.{kept, weight, given, bridgeNumber, kept-below, given-in, given-follows}
+use Rattle.terminal.proofs.CrossingLaws.{number-in, given-number, number-follows}
+use Rattle.terminal.proofs.RootLaws.{wayPlaces, way-up}
+
+module _ {ps : List Place} {ms : List Macro} (a : Allowed ps ms) where
+  -- What is given for a kept path
+
+  pub paths-length : suc (length (pathsOf ps ms)) ≡ length ps
+  unfolding pathsOf
+  paths-length = ap suc (length-map (treeOf ps ms .bridges) _) ∙ paths-count a
+
+  pub paths-bridges : map (λ k. k .0) (pathsOf ps ms) ≡ bridgesOf ps ms
+  unfolding treeOf terminal pathsOf bridgesOf
+  paths-bridges = map-then (given a) (λ (k : Kept). k .0) (edgeAt (spanning ps ms)) (kept a) (λ k m. refl)
+
+  pub paths-lengths : map (λ k. k .1) (pathsOf ps ms) ≡ lengthsOf ps ms
+  unfolding treeOf terminal keptLengths pathsOf
+  paths-lengths = map-then (given a) (λ (k : Kept). k .1) (weight a) (kept a) (λ k m. refl)
+
+  pub paths-sum : totalOf ps ms ≡ total (map (λ k. k .1) (pathsOf ps ms))
+  unfolding treeOf terminal
+  paths-sum = ap total (sym paths-lengths)
+
+  -- the path that a bridge stands for
+  pub bridge-stands : (k : ℕ) → k < G a .count → sameRoot (G a) (T a) k ≡ false → Stands ps ms (edgeAt (spanning ps ms) k) (weight a k)
+  unfolding rootsOf
+  bridge-stands k h e =
+      let s = stands (setting a) (whole a) k h e in
+      let f = given-follows a k h in
+      record {
+        path = path-carried (to-places a) (s .path);
+        start-is = start-carried (to-places a) (s .path) ∙ ap (vertexAt (vertices ps ms)) (s .start-is) ∙ sym (f .0);
+        finish-is = finish-carried (to-places a) (s .path) ∙ ap (vertexAt (vertices ps ms)) (s .finish-is) ∙ sym (f .1);
+        is-edge = edge-in a k h;
+        first-way = wayPlaces a (one (G a) k);
+        first-up = subst (λ (u : Place). WayUp ps ms u (wayPlaces a (one (G a) k))) (one-vertex a k h) (way-up a _ (setting a .one-in k h));
+        second-way = wayPlaces a (two (G a) k);
+        second-up = subst (λ (u : Place). WayUp ps ms u (wayPlaces a (two (G a) k))) (two-vertex a k h)
+            (way-up a _ (setting a .two-in k h));
+        points-are =
+            points-carried (to-places a) (s .path) ∙ ap (map (vertexAt (vertices ps ms))) (s .points-are)
+            ∙ turned-carried (vertexAt (vertices ps ms)) (one (G a) k) _ _
+            ∙ ap₂ (λ (u v : Place). turned u (wayPlaces a (one (G a) k)) (v ∷ wayPlaces a (two (G a) k))) (one-vertex a k h)
+            (two-vertex a k h);
+        over-bridge = rw (sym (one-vertex a k h), sym (two-vertex a k h)) (step-carried (to-places a) (s .path) _ _ (s .over-bridge));
+        length-is = sym (length-by-places a (s .path)) ∙ s .length-is;
+      }
+
+  -- Our joining
+
+  kept-follows : (k : ℕ) → k ∈ kept a → Follows (vertexAt (vertices ps ms)) (given a) (rootsBy (G a) (T a)) (keptEnds ps ms) k
+  kept-follows k m = given-follows a k (kept-below a k m)
+
+  pub paths-joining : Joining (keptEnds ps ms) ps (pathsOf ps ms)
+  paths-joining =
+      joining-carried (vertexAt (vertices ps ms)) (given a) (rootsBy (G a) (T a)) (keptEnds ps ms) (given-in a) kept-follows
+      (numberOf (vertices ps ms)) (to-places a .pin-back) (λ q m. to-numbers a .undone q (to-numbers a .pin-in q m))
+      (kept-joining (setting a) (whole a))
+
+  -- Paths that they are compared with
+
+  abbrev back : PathOf ps ms → TerminalPath (pairs (G a)) (pins a)
+  back = path-carried (to-numbers a)
+
+  back-follows : (t : PathOf ps ms) → Follows (numberOf (vertices ps ms)) back endsOf endsOf t
+  back-follows t = (start-carried (to-numbers a) t, finish-carried (to-numbers a) t)
+
+  back-lengths : (J : List (PathOf ps ms)) → map (lengthOf (between-numbers a)) (map back J) ≡ map (lengthOf distance) J
+  back-lengths J = map-then back (lengthOf (between-numbers a)) (lengthOf distance) J (λ t m. sym (length-by-numbers a t))
+
+  pub no-shorter-joining : (J : List (PathOf ps ms)) → Joining endsOf ps J → totalOf ps ms ≤ total (map (lengthOf distance) J)
+  unfolding treeOf
+  no-shorter-joining J h =
+      let j =
+      joining-carried (numberOf (vertices ps ms)) back endsOf endsOf (λ t m. in-map back m) (λ t m. back-follows t)
+      (vertexAt (vertices ps ms)) (to-numbers a .pin-back) (λ q m. to-places a .undone q (to-places a .pin-in q m)) h
+      in
+      omega (arith, none-shorter (setting a) (whole a) (map back J) j, ap total (back-lengths J))
+
+  -- Our way
+
+  number-apart : (x y : Place) → x ∈ ps → y ∈ ps → (x ≡ y → ⊥) → numberOf (vertices ps ms) x ≡ numberOf (vertices ps ms) y → ⊥
+  number-apart x y i k n e = n (same-point (to-numbers a) x y (to-numbers a .pin-in x i) (to-numbers a .pin-in y k) e)
+
+  way-back : {x y : Place} {w : List Kept} → OurWay (keptEnds ps ms) (pathsOf ps ms) x y w →
+      OurWay (rootsBy (G a) (T a)) (kept a) (numberOf (vertices ps ms) x) (numberOf (vertices ps ms) y) (map (bridgeNumber a) w)
+  way-back o =
+      our-way-carried (numberOf (vertices ps ms)) (bridgeNumber a) (keptEnds ps ms) (rootsBy (G a) (T a)) (number-in a) (number-follows a)
+      (λ b c m n e. sym (given-number a b m) ∙ ap (given a) e ∙ given-number a c n) o
+
+  pub no-lower-chain : {x y : Place} → (x ≡ y → ⊥) → {w : List Kept} → OurWay (keptEnds ps ms) (pathsOf ps ms) x y w →
+      {cs : List (PathOf ps ms)} → Chain endsOf x cs y → most (map (λ k. k .1) w) ≤ most (map (lengthOf distance) cs)
+  no-lower-chain {x} {y} n {w} o {cs} c =
+      let e = chain-ends endsOf c (λ t m. (t .start-pin, t .finish-pin)) in
+      let r =
+      none-lower (setting a) (whole a) (number-apart x y (e .0) (e .1) n) (way-back o)
+      (chain-carried (numberOf (vertices ps ms)) back endsOf endsOf c (λ t m. back-follows t))
+      in
+      let weights : map (weight a) (map (bridgeNumber a) w) ≡ map (λ k. k .1) w =
+      map-then (bridgeNumber a) (weight a) (λ (k : Kept). k .1) w (λ b m. ap (λ (k : Kept). k .1) (given-number a b (o .among b m)))
+      in
+      omega (arith, r, ap most weights, ap most (back-lengths cs))

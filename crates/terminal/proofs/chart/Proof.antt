@@ -1,0 +1,92 @@
+-- `terminal::chart` meets its contract: an allowed net's vertices and edges fit the tables, and the edges are those of just these vertices.
+-- Assumes nothing.
+use mathlib.Core.Path.{_≡_, sym, ap, _∙_}
+use mathlib.Core.List.{List}
+use Prim.Native.Nat.{_*_, _≤_}
+use native.Mathlib.Omega.{arith}
+use lib.ListN.{length, take}
+use lib.Seq.{length-take-le}
+use denote.Ref.{now}
+use Rattle.net.specs.Bounds.{pointBound}
+use Rattle.lent.specs.Over.{over}
+use Rattle.lent.specs.Entries.{flat}
+use Rattle.plane.specs.declared.Place.{Place}
+use Rattle.plane.specs.Flat.{placesOf, macrosOf}
+use Rattle.plane.proofs.FlatLaws.{length-places, length-macros}
+use Rattle.graph.specs.Edges.{edges}
+use Rattle.graph.specs.Numbers.{edgeNumbers}
+use Rattle.graph.proofs.GraphBounds.{few-vertices}
+use Rattle.graph.proofs.ReadBack.{vertices-back}
+use Rattle.terminal.specs.Tree.{spanning}
+use borrow.Author.Needs.{needs}
+use Rattle.terminal.proofs.chart.Statement.{statement}
+use Rattle.terminal.proofs.chart.Tie as tie
+
+vertices-requires : tie.Need-vertices-requires
+vertices-requires c κs =
+    let s = c .before in
+    omega (
+      arith,
+      s .pre .0 .few-pins,
+      s .pre .0 .few-macros,
+      length-places (now (s .args .pins)),
+      length-macros (now (s .args .macros)),
+      s .pre .1,
+    )
+
+-- the vertices fit their table
+few : (d : tie.After-vertices) → d .vertices .result ≤ pointBound
+few d = omega (arith, d .vertices .ensures .0, few-vertices (d .before .before .pre .0))
+
+fits : (d : tie.After-vertices) → d .vertices .result * 2 ≤ length (d .vertices .last .1 .1 .0)
+fits d = omega (arith, few d, d .vertices .kept .1 .1 .0, d .before .before .pre .1)
+
+mul-edges : tie.Need-mul-edges
+mul-edges c = omega (arith, few (c .before))
+
+slice-reshare-prefix-edges : tie.Need-slice-reshare-prefix-edges
+slice-reshare-prefix-edges c = fits (c .before)
+
+slice-aggregate-edges : tie.Need-slice-aggregate-edges
+slice-aggregate-edges c = sym (length-take-le _ _ (fits (c .before .before)))
+
+edges-requires : tie.Need-edges-requires
+edges-requires c κs =
+    let d = c .before .before .before in
+    let n = length-take-le (d .vertices .result * 2) (d .vertices .last .1 .1 .0) (fits d) in
+    omega (arith, n, few d, d .before .before .pre .1)
+
+same-length : tie.Need-same-length
+same-length c = search needs
+
+same-length-2 : tie.Need-same-length-2
+same-length-2 c = search needs
+
+returns : tie.Need-returns
+returns c =
+    let d = c .before .before .before .before .before in
+    let a = d .before .before .args in
+    let ps = placesOf (now (a .pins)) in
+    let ms = macrosOf (now (a .macros)) in
+    let v = d .vertices .ensures in
+    let back = vertices-back _ (now (a .points)) (d .vertices .last .1 .1 .0) (d .vertices .result) (v .1) (v .0) in
+    let these : edges ms (placesOf (take (d .vertices .result * 2) (d .vertices .last .1 .1 .0))) ≡ spanning ps ms = ap (edges ms) back in (
+      (v .0, c .before .edges .ensures .0 ∙ ap length these),
+      (
+        v .1,
+        c .before .edges .ensures .1 ∙ ap (λ (es : List (Place × Place)). over (flat edgeNumbers es) (now (a .links))) these,
+      ),
+    )
+
+pub chart-spec : {M : Type 1} → statement M
+chart-spec =
+    tie.close
+    (tie.spec
+    vertices-requires
+    mul-edges
+    slice-reshare-prefix-edges
+    slice-aggregate-edges
+    edges-requires
+    same-length
+    same-length-2
+    returns)

@@ -1,0 +1,125 @@
+-- `terminal::number_edges` meets its contract. The loop's invariant: the ends and the lengths of the edges so far stand at the front of
+-- the tables. The measure is how many edges are left.
+-- Assumes nothing.
+use mathlib.Core.Path.{sym}
+use Prim.Native.Nat.{_≤_, _<_, _-_}
+use native.Mathlib.Omega.{arith}
+use lib.ListN.{length}
+use denote.Ref.{now}
+use Rattle.lent.specs.Entries.{entries}
+use Rattle.plane.specs.Flat.{placeFrom}
+use Rattle.graph.specs.Numbers.{edgeFrom}
+use Rattle.forest.specs.Bounds.{edgeBound}
+use Rattle.terminal.proofs.EdgeTables.{Numbering, number-none, number-more, number-end, read-edge, edge-entries}
+use Rattle.terminal.proofs.number_edges.Statement.{statement}
+use Rattle.terminal.proofs.number_edges.Tie as tie
+
+abbrev Inv-loop : tie.InvT-loop
+Inv-loop edges e vertices n ea₀ eb₀ el₀ k₀ ea eb el k =
+    (k ≤ e) × Numbering (entries placeFrom 2 vertices n) (entries edgeFrom 4 edges e) ea eb el k
+
+abbrev μ-loop : tie.MeasureT-loop
+μ-loop edges e vertices n ea₀ eb₀ el₀ k₀ ea eb el k = e - k
+
+loop-holds : tie.Need-loop-holds Inv-loop μ-loop
+loop-holds c =
+    let q = c .pre .1 .1 in
+    (omega arith, number-none _ _ _ _ _ (q .0) (q .1 .0) (q .1 .1))
+
+mul-place-at : tie.Need-mul-place-at Inv-loop μ-loop
+mul-place-at c = omega arith
+
+place-at-requires : tie.Need-place-at-requires Inv-loop μ-loop
+place-at-requires c κs = omega arith
+
+mul-place-at-2 : tie.Need-mul-place-at-2 Inv-loop μ-loop
+mul-place-at-2 c = omega arith
+
+add-place-at : tie.Need-add-place-at Inv-loop μ-loop
+add-place-at c = omega arith
+
+place-at-requires-2 : tie.Need-place-at-requires-2 Inv-loop μ-loop
+place-at-requires-2 c κs = omega arith
+
+number-of-requires : tie.Need-number-of-requires Inv-loop μ-loop
+number-of-requires c κs = omega arith
+
+mul-ea : tie.Need-mul-ea Inv-loop μ-loop
+mul-ea c = omega arith
+
+element-write-ea : tie.Need-element-write-ea Inv-loop μ-loop
+element-write-ea c = omega arith
+
+number-of-requires-2 : tie.Need-number-of-requires-2 Inv-loop μ-loop
+number-of-requires-2 c κs = omega arith
+
+mul-eb : tie.Need-mul-eb Inv-loop μ-loop
+mul-eb c = omega arith
+
+element-write-eb : tie.Need-element-write-eb Inv-loop μ-loop
+element-write-eb c = omega arith
+
+length-between-requires : tie.Need-length-between-requires Inv-loop μ-loop
+length-between-requires c κs = tt
+
+mul-el : tie.Need-mul-el Inv-loop μ-loop
+mul-el c = omega arith
+
+element-write-el : tie.Need-element-write-el Inv-loop μ-loop
+element-write-el c = omega arith
+
+add-k : tie.Need-add-k Inv-loop μ-loop
+add-k c = omega arith
+
+loop-less : tie.Need-loop-less Inv-loop μ-loop
+loop-less c = omega arith
+
+loop-again : tie.Need-loop-again Inv-loop μ-loop
+loop-again c =
+    let l = c .before .before .before .before .before .before in
+    let a = l .before .args in
+    let h = c .before .before .before .before .before .loop-test .taken in
+    let n = edge-entries (now (a .edges)) (a .e) in
+    let one = c .before .before .before .before .place-at in
+    let two = c .before .before .before .place-at2 in
+    let read = read-edge (now (a .edges)) (a .e) (l .loop .k) h (one .result) (two .result) (one .ensures) (two .ensures) in
+    let more : l .loop .k < length (entries edgeFrom 4 (now (a .edges)) (a .e)) = omega (arith, n, h) in
+    let few : length (entries edgeFrom 4 (now (a .edges)) (a .e)) ≤ edgeBound = omega (arith, n, l .before .pre) in (
+      omega arith,
+      number-more _ _ _ _ _ _ (l .loop .inv .1) (one .result) (two .result) _ _ _ more few read (c .before .before .number-of .ensures)
+          (c .before .number-of2 .ensures) (c .length-between .ensures),
+    )
+
+returns : tie.Need-returns Inv-loop μ-loop
+returns c =
+    let l = c .before in
+    let a = l .before .args in
+    let n = edge-entries (now (a .edges)) (a .e) in
+    let all : length (entries edgeFrom 4 (now (a .edges)) (a .e)) ≤ l .loop .k = omega (arith, n, c .loop-test .left) in
+    number-end _ _ _ _ _ _ (l .loop .inv .1) (a .e) all (sym n)
+
+pub number-edges-spec : {M : Type 1} → statement M
+number-edges-spec =
+    tie.close
+    (tie.spec
+    Inv-loop
+    μ-loop
+    loop-holds
+    mul-place-at
+    place-at-requires
+    mul-place-at-2
+    add-place-at
+    place-at-requires-2
+    number-of-requires
+    mul-ea
+    element-write-ea
+    number-of-requires-2
+    mul-eb
+    element-write-eb
+    length-between-requires
+    mul-el
+    element-write-el
+    add-k
+    loop-less
+    loop-again
+    returns)

@@ -1,0 +1,51 @@
+-- `terminal::number_pins` meets its contract: with no macro the vertices are the pins in order.
+-- Assumes nothing.
+use Prim.Native.Nat.{_≤_}
+use native.Mathlib.Omega.{arith}
+use denote.Ref.{now}
+use Rattle.plane.specs.Flat.{placesOf}
+use Rattle.plane.proofs.FlatLaws.{length-places}
+use Rattle.forest.specs.Bounds.{pinBound}
+use Rattle.terminal.proofs.WorkLaws.{pins-few, pins-numbered}
+use borrow.Author.Needs.{needs}
+use Rattle.terminal.proofs.number_pins.Statement.{statement}
+use Rattle.terminal.proofs.number_pins.Tie as tie
+
+slice-aggregate-vertices : tie.Need-slice-aggregate-vertices
+slice-aggregate-vertices c = search needs
+
+slice-aggregate-vertices-2 : tie.Need-slice-aggregate-vertices-2
+slice-aggregate-vertices-2 c = search needs
+
+vertices-requires : tie.Need-vertices-requires
+vertices-requires c κs = search needs
+
+slice-aggregate-number-places : tie.Need-slice-aggregate-number-places
+slice-aggregate-number-places c = search needs
+
+few : (d : tie.After-vertices) → d .vertices .result ≤ pinBound
+few d =
+    let s = d .before .before .before in
+    omega (arith, d .vertices .ensures .0, pins-few (placesOf (now (s .args .pins))), length-places (now (s .args .pins)), s .pre)
+
+number-places-requires : tie.Need-number-places-requires
+number-places-requires c κs =
+    let d = c .before .before .before in
+    let s = d .before .before .before in
+    ((omega (arith, few d, d .vertices .kept .1 .1 .0), s .pre .0 .1), (few d, s .pre .1))
+
+returns : tie.Need-returns
+returns c =
+    let d = c .before .before .before .before in
+    pins-numbered _ _ _ _ _ _ _ (d .vertices .ensures .0) (d .vertices .ensures .1) (c .number-places .ensures)
+
+pub number-pins-spec : {M : Type 1} → statement M
+number-pins-spec =
+    tie.close
+    (tie.spec
+    slice-aggregate-vertices
+    slice-aggregate-vertices-2
+    vertices-requires
+    slice-aggregate-number-places
+    number-places-requires
+    returns)

@@ -1,0 +1,17 @@
+-- `terminal::signed` meets its contract: a number below 2^63 is the same with a sign.
+-- Assumes nothing.
+use mir.Syntax.{w64}
+use mir.ValLaws.{toZ-pos}
+use native.Mathlib.Omega.{arith}
+use borrow.Author.Needs.{needs}
+use Rattle.terminal.proofs.signed.Statement.{statement}
+use Rattle.terminal.proofs.signed.Tie as tie
+
+cast-result : tie.Need-cast-result
+cast-result c = search needs
+
+returns : tie.Need-returns
+returns c = toZ-pos w64 (c .args .n) (omega arith)
+
+pub signed-spec : {M : Type 1} → statement M
+signed-spec = tie.close (tie.spec cast-result returns)

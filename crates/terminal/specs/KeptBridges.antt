@@ -1,0 +1,32 @@
+-- Bridges, and which of them are kept, said of places: rules T9 to T14. With roots, parents and ways (Roots.antt) this says which paths are
+-- given.
+use mathlib.Core.Path.{_≡_}
+use mathlib.Core.Bool.{Bool}
+use mathlib.Core.List.{List}
+use Prim.Native.Nat.{ℕ}
+use lib.Dec.{ltb}
+use Rattle.lists.specs.Member.{_∈_}
+use Rattle.lists.specs.Sorted.{firstThen, Ascending}
+use Rattle.joined.specs.Keep.{kept}
+use Rattle.plane.specs.declared.Place.{Place}
+use Rattle.plane.specs.declared.Macro.{Macro}
+use Rattle.graph.specs.Edges.{beforeEdge}
+use Rattle.terminal.specs.Tree.{spanning, pathsOf, rootOf}
+use Rattle.terminal.specs.Stands.{Kept, keptEnds, Stands}
+
+-- by path length, ties by the order of edges
+unfoldable pub takenBefore : Kept → Kept → Bool
+takenBefore j k = firstThen ltb beforeEdge (j .1, j .0) (k .1, k .0)
+
+module _ (ps : List Place) (ms : List Macro) where
+  pub record KeptBridges : Type 0 where
+    -- the bridges with the lengths of their paths
+    pub offered : List Kept
+    -- T9: a bridge is an edge whose ends have different roots; T10: it stands for the path between them, over both ways
+    pub stands : (k : Kept) → k ∈ offered → Stands ps ms (k .0) (k .1)
+    pub apart : (k : Kept) → k ∈ offered → rootOf ps ms (k .0 .0) ≡ rootOf ps ms (k .0 .1) → ⊥
+    pub all : (e : Place × Place) → e ∈ spanning ps ms → (rootOf ps ms (e .0) ≡ rootOf ps ms (e .1) → ⊥) → (l : ℕ) × ((e, l) ∈ offered)
+    -- T12: bridges come by the length of their paths, equal ones in the order of edges
+    pub in-order : Ascending takenBefore offered
+    -- T13: a bridge is kept where those kept before it do not join its two roots
+    pub kept-are : (same : Discrete Place) → pathsOf ps ms ≡ kept same (keptEnds ps ms) offered

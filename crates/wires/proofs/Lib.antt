@@ -1,5 +1,0 @@
-pub mod GivenLaws
-pub mod WireLaws
-pub mod WorkedWires
-pub mod WireSound
-pub mod EdgeSound
