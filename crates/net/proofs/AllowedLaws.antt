@@ -3,7 +3,7 @@
 use mathlib.Core.Path.{_≡_, sym, ap, _∙_}
 use mathlib.Core.Bool.{false, not}
 use mathlib.Core.List.{List}
-use Prim.Native.Nat.{ℕ, _≤_, _%_}
+use Prim.Native.Nat.{_≤_, _%_}
 use native.Mathlib.Omega.{arith}
 use borrow.Author.Tests.{eq-eqb, ne-eqb, le-ltb, not-false}
 use lib.Dec.{lit≤}
@@ -69,6 +69,10 @@ macro-of m e =
 
 of-macro : (m : Macro) → MacroInRange m → macroOut m ≡ false
 of-macro m r = or-neither _ _ (r .left) (or-neither _ _ (r .bottom) (or-neither _ _ (r .right) (r .top)))
+
+-- an answer gives one thing
+given-one : (v u : Counts) → given v ≡ given u → v ≡ u
+given-one v u e = cc
 
 -- the weights that the check gives are allowed, and allowed ones are positive
 plain-weighted : Weighted plain
@@ -137,6 +141,10 @@ module _ (pins macros : List ℤ) where
         passed = none-any (insideAny (macrosOf macros)) (pinPlaces pins)
             (λ p i. none-any (inside p) (macrosOf macros) (a .pins-outside p i));
       }
+
+  -- what the check gives is what the lists hold
+  pub given-counts : {v : Counts} → checked pins macros ≡ given v → v ≡ countsOf pins macros
+  given-counts {v} g = given-one v (countsOf pins macros) (sym g ∙ allow pins macros (passed-all pins macros v g))
 
   -- the theorem, both ways
   pub given-allowed : {v : Counts} → checked pins macros ≡ given v → Whole pins macros × Allowed (netOf pins macros)

@@ -20,7 +20,7 @@ use Rattle.plane.proofs.PlaceLaws.{same-comm}
 use Rattle.plane.proofs.MacroLaws.{interiors-comm}
 use Rattle.plane.proofs.FlatLaws.{macros-flat, length-flat-macros}
 use Rattle.net.specs.Bounds.{pinWidth, macroWidth}
-use Rattle.net.specs.Pins.{pinCount, pinPlaces, macroCount, flatPins}
+use Rattle.net.specs.Pins.{pinPlaces, flatPins}
 use Rattle.net.specs.Check.{pinsMiscounted, macrosMiscounted, outOfRange, notUpright, insideAny, checked}
 use Rattle.net.specs.Order.{SamePins, SameMacros}
 use Rattle.net.proofs.PinLaws.{same-pins, pins-flat, length-flat-pins}

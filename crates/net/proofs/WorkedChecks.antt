@@ -15,8 +15,8 @@ use Rattle.net.specs.WorkedNets.{twiceInInterior, noWidth}
 
 -- the check of a net; to unfold this is to unfold all that it rests on
 unfoldable pub answer : Lists → Told Net
-unfolding any anyTwo minZ maxZ samePlace inside openSpansMeet interiorsMeet pinCount pinPlaces macrosOf pinsMiscounted macrosMiscounted outOfRange
-    notUpright insideAny checked
+unfolding any anyTwo minZ maxZ samePlace inside openSpansMeet interiorsMeet pinCount pinPlaces macrosOf pinsMiscounted macrosMiscounted
+    outOfRange notUpright insideAny checked
 answer net = checked (net .pins) (net .macros)
 
 pub record Table : Type 0 where

@@ -2,17 +2,17 @@
 use mathlib.Core.Path.{_≡_}
 use mathlib.Core.Bool.{true, false}
 use mathlib.Core.List.{List, List·Memᴰ}
-use Prim.Native.Nat.{ℕ, _≤_, _%_}
+use Prim.Native.Nat.{_≤_, _%_}
 use lib.IntN.{ℤ}
 use lib.ListN.{length}
 use lib.Signed.{ltZ}
 use Rattle.lists.specs.Any.{NoTwo}
 use Rattle.plane.specs.declared.Place.{Place}
 use Rattle.plane.specs.declared.Macro.{Macro}
-use Rattle.plane.specs.Place.{samePlace}
-use Rattle.plane.specs.Macro.{inside, interiorsMeet}
 use Rattle.plane.specs.declared.Weights.{Weights}
+use Rattle.plane.specs.Place.{samePlace}
 use Rattle.plane.specs.Cost.{Positive}
+use Rattle.plane.specs.Macro.{inside, interiorsMeet}
 use Rattle.net.specs.Bounds.{pinBound, macroBound, weightBound, pinWidth, macroWidth}
 use Rattle.net.specs.Net.{Net}
 use Rattle.net.specs.Check.{outOfRange}

@@ -3,7 +3,6 @@ use plane::Macro;
 use plane::Place;
 use plane::Weights;
 ghost use mathlib.Core.Path.{_≡_};
-ghost use mathlib.Core.Bool.{_||_};
 ghost use Prim.Native.Nat.{_≤_, _<_};
 ghost use lib.IntN.{pos};
 ghost use lib.ListN.{drop};

@@ -1,11 +1,10 @@
 -- Cost: what everything above knows of it. The same both ways, 0 exactly at equal places, additive through a place in the box, the
 -- triangle, and how much at most. Each is the gaps' own law, multiplied by a weight on both sides.
 -- Assumes nothing.
-use mathlib.Core.Path.{_≡_, refl, sym, ap, ap₂, _∙_}
+use mathlib.Core.Path.{_≡_, sym, ap, ap₂, _∙_}
 use Prim.Native.Nat.{ℕ, _+_, _*_, _^_, _≤_, _<_}
 use native.Mathlib.Nat.{add-mul, zero-mul, mul-one, mul-le-mul, mul-le-mul-right, le-mul-of-pos-right}
 use native.Mathlib.Omega.{arith}
-use lib.IntN.{ℤ}
 use Rattle.plane.specs.declared.Place.{Place}
 use Rattle.plane.specs.declared.Weights.{Weights}
 use Rattle.plane.specs.Place.{place}
