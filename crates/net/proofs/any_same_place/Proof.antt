@@ -9,7 +9,7 @@ use Rattle.lists.specs.Any.{any, anyTwo}
 use Rattle.lists.proofs.AnyLaws.{two-hit, two-miss, two-end}
 use Rattle.plane.specs.declared.Place.{Place}
 use Rattle.plane.specs.Place.{samePlace}
-use Rattle.net.specs.Pins.{pinPlaces, pinAt}
+use Rattle.net.specs.Pins.{pinCount, pinPlaces, pinAt}
 use Rattle.net.proofs.PinLaws.{pins-next, pins-end}
 use Rattle.net.proofs.any_same_place.Statement.{statement}
 use Rattle.net.proofs.any_same_place.Tie as tie
@@ -30,6 +30,7 @@ pin-at-requires : tie.Need-pin-at-requires Inv-loop μ-loop
 pin-at-requires c κs = omega arith
 
 add-is-among : tie.Need-add-is-among Inv-loop μ-loop
+unfolding pinCount
 add-is-among c = omega arith
 
 is-among-requires : tie.Need-is-among-requires Inv-loop μ-loop
