@@ -3,9 +3,10 @@
 use mathlib.Core.Path.{_≡_, sym, ap, _∙_}
 use mathlib.Core.Bool.{false, not}
 use mathlib.Core.List.{List}
-use Prim.Native.Nat.{ℕ, _≤_, _%_}
+use Prim.Native.Nat.{_≤_, _%_}
 use native.Mathlib.Omega.{arith}
 use borrow.Author.Tests.{eq-eqb, ne-eqb, le-ltb, not-false}
+use lib.Dec.{lit≤}
 use lib.IntN.{ℤ}
 use lib.ListN.{length}
 use lib.Signed.{ltZ}
@@ -16,26 +17,31 @@ use Rattle.plane.specs.declared.Place.{Place}
 use Rattle.plane.specs.declared.Macro.{Macro}
 use Rattle.plane.specs.Place.{samePlace}
 use Rattle.plane.specs.Macro.{inside, interiorsMeet}
-use Rattle.plane.specs.Flat.{placesOf, macrosOf}
-use Rattle.plane.proofs.FlatLaws.{length-places, length-macros}
-use Rattle.net.specs.Bounds.{pinBound, macroBound}
-use Rattle.net.specs.Check.{pinCount, macroCount, pinsMiscounted, macrosMiscounted, outOfRange, notUpright, insideAny, checked}
-use Rattle.net.specs.Allowed.{Whole, PlaceInRange, MacroInRange, Upright, Allowed}
-use Rattle.net.proofs.RangeLaws.{placeOut, macroOut, range-of-places, range-of-macros}
+use Rattle.plane.specs.Flat.{macrosOf}
+use Rattle.plane.specs.Cost.{plain, Positive}
+use Rattle.plane.proofs.FlatLaws.{length-macros}
+use Rattle.net.specs.Bounds.{pinBound, macroBound, pinWidth, macroWidth}
+use Rattle.net.specs.declared.Net.{Net as Counts}
+use Rattle.net.specs.Pins.{pinCount, pinPlaces, macroCount}
+use Rattle.net.specs.Net.{Net, netOf}
+use Rattle.net.specs.Check.{countsOf, pinsMiscounted, macrosMiscounted, outOfRange, notUpright, insideAny, checked}
+use Rattle.net.specs.Allowed.{Whole, PlaceInRange, MacroInRange, Upright, Weighted, Allowed}
+use Rattle.net.proofs.PinLaws.{length-pins}
+use Rattle.net.proofs.RangeLaws.{placeOut, macroOut, range-of-pins, range-of-macros}
 use Rattle.net.proofs.CheckLaws.{Past17, allow}
 use Rattle.net.proofs.PassedLaws.{passed-all, pins-counted, macros-counted}
 
 -- the counts: the other way of what was counted
 module _ (s : List ℤ) where
-  pairs-whole : length s % 2 ≡ 0 → 1 ≤ pinCount s → pinCount s ≤ pinBound → pinsMiscounted s ≡ false
+  pairs-whole : length s % pinWidth ≡ 0 → 1 ≤ pinCount s → pinCount s ≤ pinBound → pinsMiscounted s ≡ false
   unfolding pinsMiscounted
   pairs-whole e l h =
-      or-neither _ _ (ap not (eq-eqb (length s % 2) 0 e))
+      or-neither _ _ (ap not (eq-eqb (length s % pinWidth) 0 e))
       (or-neither _ _ (ne-eqb (pinCount s) 0 (λ z. omega arith)) (le-ltb pinBound (pinCount s) h))
 
-  fours-whole : length s % 4 ≡ 0 → macroCount s ≤ macroBound → macrosMiscounted s ≡ false
+  fours-whole : length s % macroWidth ≡ 0 → macroCount s ≤ macroBound → macrosMiscounted s ≡ false
   unfolding macrosMiscounted
-  fours-whole e h = or-neither _ _ (ap not (eq-eqb (length s % 4) 0 e)) (le-ltb macroBound (macroCount s) h)
+  fours-whole e h = or-neither _ _ (ap not (eq-eqb (length s % macroWidth) 0 e)) (le-ltb macroBound (macroCount s) h)
 
 -- the entries' own tests
 upright-of : (m : Macro) → notUpright m ≡ false → Upright m
@@ -64,9 +70,20 @@ macro-of m e =
 of-macro : (m : Macro) → MacroInRange m → macroOut m ≡ false
 of-macro m r = or-neither _ _ (r .left) (or-neither _ _ (r .bottom) (or-neither _ _ (r .right) (r .top)))
 
+-- an answer gives one thing
+given-one : (v u : Counts) → given v ≡ given u → v ≡ u
+given-one v u e = cc
+
+-- the weights that the check gives are allowed, and allowed ones are positive
+plain-weighted : Weighted plain
+plain-weighted = record { positive = record { across = lit≤ tt; along = lit≤ tt }; across = lit≤ tt; along = lit≤ tt }
+
+pub allowed-positive : {net : Net} → Allowed net → Positive (net .weights)
+allowed-positive a = a .weighted .positive
+
 module _ (pins macros : List ℤ) where
   -- what the check allows is allowed in words
-  past-allowed : Past17 pins macros → Whole pins macros × Allowed (placesOf pins) (macrosOf macros)
+  past-allowed : Past17 pins macros → Whole pins macros × Allowed (netOf pins macros)
   unfolding insideAny
   past-allowed p17 =
       let p16 = p17 .past in
@@ -75,25 +92,26 @@ module _ (pins macros : List ℤ) where
       let p13 = p14 .past in
       let m = pins-counted pins (p13 .past .past .past .passed) in
       let k = macros-counted macros (p13 .past .past .passed) in
-      let in-pins = any-none placeOut (placesOf pins) (sym (range-of-places pins (m .whole)) ∙ p13 .past .passed) in
+      let in-pins = any-none placeOut (pinPlaces pins) (sym (range-of-pins pins (m .whole)) ∙ p13 .past .passed) in
       let in-macros = any-none macroOut (macrosOf macros) (sym (range-of-macros macros (k .whole)) ∙ p13 .passed) in (
         record { pairs = m .whole; fours = k .whole },
         record {
-          some-pin = rw (length-places pins) (m .some);
-          few-pins = rw (length-places pins) (m .few);
+          some-pin = rw (length-pins pins) (m .some);
+          few-pins = rw (length-pins pins) (m .few);
           few-macros = rw (length-macros macros) (k .few);
+          weighted = plain-weighted;
           pins-in-range = λ p i. place-of p (in-pins p i);
           macros-in-range = λ n i. macro-of n (in-macros n i);
           upright = λ n i. upright-of n (any-none notUpright (macrosOf macros) (p14 .passed) n i);
-          pins-apart = two-none samePlace (placesOf pins) (p15 .passed);
+          pins-apart = two-none samePlace (pinPlaces pins) (p15 .passed);
           macros-apart = two-none interiorsMeet (macrosOf macros) (p16 .passed);
           pins-outside = λ p i n j. any-none (inside p) (macrosOf macros)
-              (any-none (insideAny (macrosOf macros)) (placesOf pins) (p17 .passed) p i) n j;
+              (any-none (insideAny (macrosOf macros)) (pinPlaces pins) (p17 .passed) p i) n j;
         },
       )
 
   -- and the other way
-  allowed-past : Whole pins macros → Allowed (placesOf pins) (macrosOf macros) → Past17 pins macros
+  allowed-past : Whole pins macros → Allowed (netOf pins macros) → Past17 pins macros
   unfolding insideAny
   allowed-past w a =
       record {
@@ -104,30 +122,34 @@ module _ (pins macros : List ℤ) where
                 past = record {
                   past = record {
                     past = record {
-                      passed = pairs-whole pins (w .pairs) (rw (length-places pins) at (a .some-pin))
-                          (rw (length-places pins) at (a .few-pins));
+                      passed = pairs-whole pins (w .pairs) (rw (length-pins pins) at (a .some-pin))
+                          (rw (length-pins pins) at (a .few-pins));
                     };
                     passed = fours-whole macros (w .fours) (rw (length-macros macros) at (a .few-macros));
                   };
-                  passed = range-of-places pins (w .pairs) ∙ none-any placeOut (placesOf pins) (λ p i. of-place p (a .pins-in-range p i));
+                  passed = range-of-pins pins (w .pairs) ∙ none-any placeOut (pinPlaces pins) (λ p i. of-place p (a .pins-in-range p i));
                 };
                 passed = range-of-macros macros (w .fours) ∙ none-any macroOut (macrosOf macros)
                     (λ n i. of-macro n (a .macros-in-range n i));
               };
               passed = none-any notUpright (macrosOf macros) (λ n i. of-upright n (a .upright n i));
             };
-            passed = none-two samePlace (placesOf pins) (a .pins-apart);
+            passed = none-two samePlace (pinPlaces pins) (a .pins-apart);
           };
           passed = none-two interiorsMeet (macrosOf macros) (a .macros-apart);
         };
-        passed = none-any (insideAny (macrosOf macros)) (placesOf pins)
+        passed = none-any (insideAny (macrosOf macros)) (pinPlaces pins)
             (λ p i. none-any (inside p) (macrosOf macros) (a .pins-outside p i));
       }
 
+  -- what the check gives is what the lists hold
+  pub given-counts : {v : Counts} → checked pins macros ≡ given v → v ≡ countsOf pins macros
+  given-counts {v} g = given-one v (countsOf pins macros) (sym g ∙ allow pins macros (passed-all pins macros v g))
+
   -- the theorem, both ways
-  pub given-allowed : {v : ℕ × ℕ} → checked pins macros ≡ given v → Whole pins macros × Allowed (placesOf pins) (macrosOf macros)
+  pub given-allowed : {v : Counts} → checked pins macros ≡ given v → Whole pins macros × Allowed (netOf pins macros)
   given-allowed {v} g = past-allowed (passed-all pins macros v g)
 
-  pub allowed-given : Whole pins macros → Allowed (placesOf pins) (macrosOf macros) → checked pins macros
-      ≡ given (pinCount pins, macroCount macros)
+  pub allowed-given : Whole pins macros → Allowed (netOf pins macros) → checked pins macros
+      ≡ given (countsOf pins macros)
   allowed-given w a = allow pins macros (allowed-past w a)

@@ -7,9 +7,10 @@ use lib.IntN.{ℤ}
 use Rattle.lists.specs.Any.{any, anyTwo}
 use Rattle.plane.specs.Place.{samePlace}
 use Rattle.plane.specs.Macro.{interiorsMeet}
-use Rattle.plane.specs.Flat.{placesOf, macrosOf}
+use Rattle.plane.specs.Flat.{macrosOf}
 use Rattle.lent.specs.Told.{refused, given}
-use Rattle.net.specs.Check.{pinCount, macroCount, pinsMiscounted, macrosMiscounted, outOfRange, notUpright, insideAny, checked}
+use Rattle.net.specs.Pins.{pinPlaces}
+use Rattle.net.specs.Check.{countsOf, pinsMiscounted, macrosMiscounted, outOfRange, notUpright, insideAny, checked}
 
 module _ (pins macros : List ℤ) where
   -- no number up to the one named applies; 13 is tested list by list
@@ -34,7 +35,7 @@ module _ (pins macros : List ℤ) where
 
   pub record Past15 : Type 0 where
     pub past : Past14
-    pub passed : anyTwo samePlace (placesOf pins) ≡ false
+    pub passed : anyTwo samePlace (pinPlaces pins) ≡ false
 
   pub record Past16 : Type 0 where
     pub past : Past15
@@ -42,7 +43,7 @@ module _ (pins macros : List ℤ) where
 
   pub record Past17 : Type 0 where
     pub past : Past16
-    pub passed : any (insideAny (macrosOf macros)) (placesOf pins) ≡ false
+    pub passed : any (insideAny (macrosOf macros)) (pinPlaces pins) ≡ false
 
   pub refuse-11 : pinsMiscounted pins ≡ true → checked pins macros ≡ refused 11
   unfolding checked
@@ -64,7 +65,7 @@ module _ (pins macros : List ℤ) where
   unfolding checked
   refuse-14 p e = rw (p .past .past .past .passed, p .past .past .passed, p .past .passed, p .passed, e) refl
 
-  pub refuse-15 : Past14 → anyTwo samePlace (placesOf pins) ≡ true → checked pins macros ≡ refused 15
+  pub refuse-15 : Past14 → anyTwo samePlace (pinPlaces pins) ≡ true → checked pins macros ≡ refused 15
   unfolding checked
   refuse-15 p e =
       let q = p .past in
@@ -76,7 +77,7 @@ module _ (pins macros : List ℤ) where
       let q = p .past .past in
       rw (q .past .past .past .passed, q .past .past .passed, q .past .passed, q .passed, p .past .passed, p .passed, e) refl
 
-  pub refuse-17 : Past16 → any (insideAny (macrosOf macros)) (placesOf pins) ≡ true → checked pins macros ≡ refused 17
+  pub refuse-17 : Past16 → any (insideAny (macrosOf macros)) (pinPlaces pins) ≡ true → checked pins macros ≡ refused 17
   unfolding checked
   refuse-17 p e =
       let q = p .past .past .past in
@@ -91,7 +92,7 @@ module _ (pins macros : List ℤ) where
         e,
       ) refl
 
-  pub allow : Past17 → checked pins macros ≡ given (pinCount pins, macroCount macros)
+  pub allow : Past17 → checked pins macros ≡ given (countsOf pins macros)
   unfolding checked
   allow p =
       let q = p .past .past .past .past in

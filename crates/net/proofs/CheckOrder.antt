@@ -15,13 +15,16 @@ use Rattle.plane.specs.declared.Place.{Place}
 use Rattle.plane.specs.declared.Macro.{Macro}
 use Rattle.plane.specs.Place.{samePlace}
 use Rattle.plane.specs.Macro.{inside, interiorsMeet}
-use Rattle.plane.specs.Flat.{placesOf, macrosOf, flatPlaces, flatMacros}
+use Rattle.plane.specs.Flat.{macrosOf, flatMacros}
 use Rattle.plane.proofs.PlaceLaws.{same-comm}
 use Rattle.plane.proofs.MacroLaws.{interiors-comm}
-use Rattle.plane.proofs.FlatLaws.{places-flat, macros-flat, length-flat-places, length-flat-macros}
+use Rattle.plane.proofs.FlatLaws.{macros-flat, length-flat-macros}
+use Rattle.net.specs.Bounds.{pinWidth, macroWidth}
+use Rattle.net.specs.Pins.{pinPlaces, flatPins}
 use Rattle.net.specs.Check.{pinsMiscounted, macrosMiscounted, outOfRange, notUpright, insideAny, checked}
 use Rattle.net.specs.Order.{SamePins, SameMacros}
-use Rattle.net.proofs.RangeLaws.{placeOut, macroOut, range-of-places, range-of-macros}
+use Rattle.net.proofs.PinLaws.{same-pins, pins-flat, length-flat-pins}
+use Rattle.net.proofs.RangeLaws.{placeOut, macroOut, range-of-pins, range-of-macros}
 use Rattle.net.proofs.CheckLaws.{refuse-11, refuse-12}
 use Rattle.net.proofs.PassedLaws.{pins-counted, macros-counted}
 
@@ -32,26 +35,26 @@ inside-perm ms ns q p = any-perm (inside p) ms ns q
 module _ (pins pins′ macros macros′ : List ℤ) (p : SamePins pins pins′) (q : SameMacros macros macros′) where
   same-pin-count : pinsMiscounted pins ≡ pinsMiscounted pins′
   unfolding pinsMiscounted
-  same-pin-count = rw (p .many) refl
+  same-pin-count = rw (p .many, same-pins pins pins′ (p .many)) refl
 
   same-macro-count : macrosMiscounted macros ≡ macrosMiscounted macros′
   unfolding macrosMiscounted
   same-macro-count = rw (q .many) refl
 
   -- of whole lists
-  ranges : length pins % 2 ≡ 0 → length macros % 4 ≡ 0 → (any outOfRange pins || any outOfRange macros)
+  ranges : length pins % pinWidth ≡ 0 → length macros % macroWidth ≡ 0 → (any outOfRange pins || any outOfRange macros)
       ≡ (any outOfRange pins′ || any outOfRange macros′)
   ranges e f =
       ap₂ _||_
-      (range-of-places pins e ∙ any-perm placeOut _ _ (p .order) ∙ sym (range-of-places pins′ (rw (p .many) at e)))
+      (range-of-pins pins e ∙ any-perm placeOut _ _ (p .order) ∙ sym (range-of-pins pins′ (rw (p .many) at e)))
       (range-of-macros macros f ∙ any-perm macroOut _ _ (q .order) ∙ sym (range-of-macros macros′ (rw (q .many) at f)))
 
-  insides : any (insideAny (macrosOf macros)) (placesOf pins) ≡ any (insideAny (macrosOf macros′)) (placesOf pins′)
+  insides : any (insideAny (macrosOf macros)) (pinPlaces pins) ≡ any (insideAny (macrosOf macros′)) (pinPlaces pins′)
   insides =
       any-perm (insideAny (macrosOf macros)) _ _ (p .order)
-      ∙ any-agree (insideAny (macrosOf macros)) (insideAny (macrosOf macros′)) (inside-perm _ _ (q .order)) (placesOf pins′)
+      ∙ any-agree (insideAny (macrosOf macros)) (insideAny (macrosOf macros′)) (inside-perm _ _ (q .order)) (pinPlaces pins′)
 
-  whole-order : length pins % 2 ≡ 0 → length macros % 4 ≡ 0 → checked pins macros ≡ checked pins′ macros′
+  whole-order : length pins % pinWidth ≡ 0 → length macros % macroWidth ≡ 0 → checked pins macros ≡ checked pins′ macros′
   unfolding checked
   whole-order e f =
       rw (
@@ -62,7 +65,7 @@ module _ (pins pins′ macros macros′ : List ℤ) (p : SamePins pins pins′) 
         two-perm samePlace same-comm _ _ (p .order),
         two-perm interiorsMeet interiors-comm _ _ (q .order),
         insides,
-        p .many,
+        same-pins pins pins′ (p .many),
         q .many,
       )
       refl
@@ -78,14 +81,14 @@ module _ (pins pins′ macros macros′ : List ℤ) (p : SamePins pins pins′) 
 
 -- of lists of places and macros
 pub check-reordered : (ps ps′ : List Place) (ms ms′ : List Macro) → Perm ps ps′ → Perm ms ms′
-    → checked (flatPlaces ps) (flatMacros ms) ≡ checked (flatPlaces ps′) (flatMacros ms′)
+    → checked (flatPins ps) (flatMacros ms) ≡ checked (flatPins ps′) (flatMacros ms′)
 check-reordered ps ps′ ms ms′ p q =
-    check-order (flatPlaces ps) (flatPlaces ps′) (flatMacros ms) (flatMacros ms′)
+    check-order (flatPins ps) (flatPins ps′) (flatMacros ms) (flatMacros ms′)
     (record {
-      many = length-flat-places ps ∙ ap (λ (n : ℕ). n * 2) (length-perm ps ps′ p) ∙ sym (length-flat-places ps′);
-      order = rw (places-flat ps, places-flat ps′) p;
+      many = length-flat-pins ps ∙ ap (λ (n : ℕ). n * pinWidth) (length-perm ps ps′ p) ∙ sym (length-flat-pins ps′);
+      order = rw (pins-flat ps, pins-flat ps′) p;
     })
     (record {
-      many = length-flat-macros ms ∙ ap (λ (n : ℕ). n * 4) (length-perm ms ms′ q) ∙ sym (length-flat-macros ms′);
+      many = length-flat-macros ms ∙ ap (λ (n : ℕ). n * macroWidth) (length-perm ms ms′ q) ∙ sym (length-flat-macros ms′);
       order = rw (macros-flat ms, macros-flat ms′) q;
     })

@@ -1,3 +1,4 @@
+pub mod PinLaws
 pub mod NumberLaws
 pub mod CheckLaws
 pub mod PassedLaws

@@ -3,7 +3,7 @@
 use mathlib.Core.Path.{_≡_, sym, _∙_}
 use mathlib.Core.Bool.{false}
 use mathlib.Core.List.{List}
-use Prim.Native.Nat.{ℕ, _/_, _%_, _≤_}
+use Prim.Native.Nat.{ℕ, _%_, _≤_}
 use native.Mathlib.Omega.{arith}
 use borrow.Author.Tests.{eqb-true, eqb-false, ltb-false, not-false}
 use lib.IntN.{ℤ}
@@ -14,13 +14,15 @@ use Rattle.lists.specs.Any.{any, anyTwo}
 use Rattle.lists.proofs.TestLaws.{by, or-none}
 use Rattle.plane.specs.Place.{samePlace}
 use Rattle.plane.specs.Macro.{interiorsMeet}
-use Rattle.plane.specs.Flat.{placesOf, macrosOf}
-use Rattle.net.specs.Bounds.{pinBound, macroBound}
-use Rattle.net.specs.Check.{pinCount, macroCount, pinsMiscounted, macrosMiscounted, outOfRange, notUpright, insideAny, checked}
+use Rattle.plane.specs.Flat.{macrosOf}
+use Rattle.net.specs.Bounds.{pinBound, macroBound, pinWidth, macroWidth}
+use Rattle.net.specs.declared.Net.{Net}
+use Rattle.net.specs.Pins.{pinCount, pinPlaces, macroCount}
+use Rattle.net.specs.Check.{pinsMiscounted, macrosMiscounted, outOfRange, notUpright, insideAny, checked}
 use Rattle.net.proofs.CheckLaws.{Past11, Past12, Past13-pins, Past13, Past14, Past15, Past16, Past17, refuse-11, refuse-12}
 use Rattle.net.proofs.CheckLaws.{refuse-13-pins, refuse-13, refuse-14, refuse-15, refuse-16, refuse-17}
 
-module _ (pins macros : List ℤ) (net : ℕ × ℕ) (allowed : checked pins macros ≡ given net) where
+module _ (pins macros : List ℤ) (net : Net) (allowed : checked pins macros ≡ given net) where
   -- a refusal is no allowance
   apart : {C : Type 0} (n : ℕ) → checked pins macros ≡ refused n → C
   apart n e = told-apart n net (sym e ∙ allowed)
@@ -49,7 +51,7 @@ module _ (pins macros : List ℤ) (net : ℕ × ℕ) (allowed : checked pins mac
 
   past-15 : Past15 pins macros
   past-15 =
-      by (anyTwo samePlace (placesOf pins))
+      by (anyTwo samePlace (pinPlaces pins))
       (λ e. apart 15 (refuse-15 pins macros past-14 e))
       (λ e. record { past = past-14; passed = e })
 
@@ -62,18 +64,18 @@ module _ (pins macros : List ℤ) (net : ℕ × ℕ) (allowed : checked pins mac
   -- an allowed net has passed every test
   pub passed-all : Past17 pins macros
   passed-all =
-      by (any (insideAny (macrosOf macros)) (placesOf pins))
+      by (any (insideAny (macrosOf macros)) (pinPlaces pins))
       (λ e. apart 17 (refuse-17 pins macros past-16 e))
       (λ e. record { past = past-16; passed = e })
 
 -- lists of whole entries, within the bounds
 pub record PinsCounted (pins : List ℤ) : Type 0 where
-  pub whole : length pins % 2 ≡ 0
+  pub whole : length pins % pinWidth ≡ 0
   pub some : 1 ≤ pinCount pins
   pub few : pinCount pins ≤ pinBound
 
 pub record MacrosCounted (macros : List ℤ) : Type 0 where
-  pub whole : length macros % 4 ≡ 0
+  pub whole : length macros % macroWidth ≡ 0
   pub few : macroCount macros ≤ macroBound
 
 pub pins-counted : (pins : List ℤ) → pinsMiscounted pins ≡ false → PinsCounted pins
@@ -81,15 +83,15 @@ unfolding pinsMiscounted
 pins-counted pins e =
     let r = or-none _ _ e in
     let s = or-none _ _ (r .1) in
-    let n : length pins / 2 ≡ 0 → ⊥ = eqb-false (length pins / 2) 0 (s .0) in
+    let n : pinCount pins ≡ 0 → ⊥ = eqb-false (pinCount pins) 0 (s .0) in
     record {
-      whole = eqb-true (length pins % 2) 0 (not-false _ (r .0));
+      whole = eqb-true (length pins % pinWidth) 0 (not-false _ (r .0));
       some = omega (arith, n);
-      few = ltb-false pinBound (length pins / 2) (s .1);
+      few = ltb-false pinBound (pinCount pins) (s .1);
     }
 
 pub macros-counted : (macros : List ℤ) → macrosMiscounted macros ≡ false → MacrosCounted macros
 unfolding macrosMiscounted
 macros-counted macros e =
     let r = or-none _ _ e in
-    record { whole = eqb-true (length macros % 4) 0 (not-false _ (r .0)); few = ltb-false macroBound (length macros / 4) (r .1) }
+    record { whole = eqb-true (length macros % macroWidth) 0 (not-false _ (r .0)); few = ltb-false macroBound (macroCount macros) (r .1) }

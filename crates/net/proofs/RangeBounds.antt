@@ -1,4 +1,5 @@
--- A coordinate in range lies within a million of zero on either side, so two places in range are at most 4,000,000 apart.
+-- A coordinate in range lies within a million of zero on either side, so two places in range are at most twice that
+-- apart along either axis, and the weights of an allowed net bound what metal between them costs.
 -- Assumes nothing.
 use mathlib.Core.Path.{_≡_, refl}
 use mathlib.Core.Bool.{false}
@@ -10,11 +11,13 @@ use Rattle.lists.proofs.TestLaws.{or-none}
 use Rattle.signed.specs.Sides.{up, down}
 use Rattle.signed.proofs.SideLaws.{ltZ-false, up-pos, down-pos, one-side, signed}
 use Rattle.plane.specs.declared.Place.{Place}
-use Rattle.plane.specs.Distance.{apart, distance}
-use Rattle.plane.proofs.DistanceLaws.{apart-sides, distance-parts}
-use Rattle.net.specs.Bounds.{coordinateBound}
+use Rattle.plane.specs.Distance.{apart}
+use Rattle.plane.proofs.DistanceLaws.{apart-sides}
+use Rattle.plane.proofs.CostLaws.{cost-parts}
+use Rattle.net.specs.Bounds.{coordinateBound, costBound}
+use Rattle.net.specs.Net.{Net, costIn}
 use Rattle.net.specs.Check.{outOfRange}
-use Rattle.net.specs.Allowed.{PlaceInRange}
+use Rattle.net.specs.Allowed.{PlaceInRange, Allowed}
 
 -- N4: a coordinate is at most 1,000,000 from 0
 pub record Near (z : ℤ) : Type 0 where
@@ -39,8 +42,8 @@ in-range-near z e =
 apart-near : (a b : ℤ) → Near a → Near b → apart a b ≤ coordinateBound * 2
 apart-near a b m n = omega (signed, apart-sides a b)
 
-pub distance-in-range : (a b : Place) → PlaceInRange a → PlaceInRange b → distance a b ≤ coordinateBound * 4
-distance-in-range a b r s =
+pub cost-in-range : {net : Net} → Allowed net → (a b : Place) → PlaceInRange a → PlaceInRange b → costIn net a b ≤ costBound
+cost-in-range {net} h a b r s =
     let across = apart-near _ _ (in-range-near _ (r .x)) (in-range-near _ (s .x)) in
     let along = apart-near _ _ (in-range-near _ (r .y)) (in-range-near _ (s .y)) in
-    omega (arith, distance-parts a b across along)
+    omega (arith, cost-parts (net .weights) a b across along, h .weighted .across, h .weighted .along)

@@ -3,14 +3,16 @@
 use mathlib.Core.Path.{_≡_, refl, sym, ap, _∙_}
 use mathlib.Core.Bool.{Bool, _||_, or-assoc}
 use mathlib.Core.List.{List, [], _∷_}
-use Prim.Native.Nat.{ℕ, _%_}
+use Prim.Native.Nat.{_%_}
 use native.Mathlib.Omega.{arith}
 use lib.IntN.{ℤ}
 use lib.ListN.{length}
 use Rattle.lists.specs.Any.{any}
 use Rattle.plane.specs.declared.Place.{Place}
 use Rattle.plane.specs.declared.Macro.{Macro}
-use Rattle.plane.specs.Flat.{placesOf, macrosOf}
+use Rattle.plane.specs.Flat.{macrosOf}
+use Rattle.net.specs.Bounds.{pinWidth, macroWidth}
+use Rattle.net.specs.Pins.{pinPlaces}
 use Rattle.net.specs.Check.{outOfRange}
 
 abbrev pub placeOut : Place → Bool
@@ -25,15 +27,15 @@ regroup a b c d r =
     ∙ ap (λ (t : Bool). a || t) (sym (or-assoc b (c || d) r))
     ∙ sym (or-assoc a (b || (c || d)) r)
 
-pub range-of-places : (s : List ℤ) → length s % 2 ≡ 0 → any outOfRange s ≡ any placeOut (placesOf s)
-unfolding any placesOf
-range-of-places [] e = refl
-range-of-places (x ∷ []) e = absurd (let f : ⊥ = omega arith in f)
-range-of-places (x ∷ (y ∷ s)) e =
+pub range-of-pins : (s : List ℤ) → length s % pinWidth ≡ 0 → any outOfRange s ≡ any placeOut (pinPlaces s)
+unfolding any pinPlaces
+range-of-pins [] e = refl
+range-of-pins (x ∷ []) e = absurd (let f : ⊥ = omega arith in f)
+range-of-pins (x ∷ (y ∷ s)) e =
     sym (or-assoc (outOfRange x) (outOfRange y) (any outOfRange s))
-    ∙ ap (λ (t : Bool). (outOfRange x || outOfRange y) || t) (range-of-places s (omega arith))
+    ∙ ap (λ (t : Bool). (outOfRange x || outOfRange y) || t) (range-of-pins s (omega arith))
 
-pub range-of-macros : (s : List ℤ) → length s % 4 ≡ 0 → any outOfRange s ≡ any macroOut (macrosOf s)
+pub range-of-macros : (s : List ℤ) → length s % macroWidth ≡ 0 → any outOfRange s ≡ any macroOut (macrosOf s)
 unfolding any macrosOf
 range-of-macros [] e = refl
 range-of-macros (l ∷ []) e = absurd (let f : ⊥ = omega arith in f)

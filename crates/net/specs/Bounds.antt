@@ -13,6 +13,17 @@ macroBound = 64
 abbrev pub coordinateBound : ℕ
 coordinateBound = 1000000
 
+-- a unit of metal costs from 1 to this, along either axis
+abbrev pub weightBound : ℕ
+weightBound = 8
+
+-- N2, N3: numbers of a pin and of a macro in the flat lists
+abbrev pub pinWidth : ℕ
+pinWidth = 2
+
+abbrev pub macroWidth : ℕ
+macroWidth = 4
+
 -- N7, N23, N24: what follows from them. The points of a graph are the pins and four corners a macro (320), each picks at most four
 -- (1,280), and refining brings at most one point a round (384).
 abbrev pub pointBound : ℕ
@@ -23,3 +34,7 @@ edgeBound = pointBound * 4
 
 abbrev pub treeBound : ℕ
 treeBound = pointBound + pinBound
+
+-- What metal between two places costs: along either axis they are at most twice the bound of coordinates apart (32,000,000 in all).
+abbrev pub costBound : ℕ
+costBound = coordinateBound * 4 * weightBound

@@ -1,7 +1,7 @@
 -- The check of a net: rules C11 to C17, in the order of C60.
 use mathlib.Core.Bool.{Bool, not, cond, _||_}
 use mathlib.Core.List.{List}
-use Prim.Native.Nat.{ℕ, _/_, _%_}
+use Prim.Native.Nat.{ℕ, _+_, _*_, _%_}
 use lib.Dec.{eqb, ltb}
 use lib.IntN.{ℤ, pos, negℤ}
 use lib.ListN.{length}
@@ -11,27 +11,33 @@ use Rattle.plane.specs.declared.Place.{Place}
 use Rattle.plane.specs.declared.Macro.{Macro}
 use Rattle.plane.specs.Place.{samePlace}
 use Rattle.plane.specs.Macro.{inside, interiorsMeet}
-use Rattle.plane.specs.Flat.{placesOf, macrosOf}
-use Rattle.net.specs.Bounds.{pinBound, macroBound, coordinateBound}
+use Rattle.plane.specs.Flat.{macrosOf}
+use Rattle.plane.specs.Cost.{plain}
 use Rattle.lent.specs.Told.{Told, refused, given}
+use Rattle.net.specs.Bounds.{pinBound, macroBound, coordinateBound, pinWidth, macroWidth}
+use Rattle.net.specs.Pins.{pinCount, pinPlaces, macroCount}
 use Rattle.net.specs.Answer.{number}
+use Rattle.net.specs.declared.Net.{Net as Counts}
 use Rattle.net.specs.declared.Checked.{Checked}
 use Rattle.net.specs.declared.Checked.the-variants.{Allowed, Refused}
 
--- N7: m and k of two flat lists
-abbrev pub pinCount : List ℤ → ℕ
-pinCount pins = length pins / 2
+-- N7: m and k, and the weights, in the code's own struct; and the points of the graph at most, n = m + 4k
+abbrev pub counted : ℕ → ℕ → Counts
+counted m k = record { pins = m; macros = k; weights = plain }
 
-abbrev pub macroCount : List ℤ → ℕ
-macroCount macros = length macros / 4
+abbrev pub countsOf : List ℤ → List ℤ → Counts
+countsOf pins macros = counted (pinCount pins) (macroCount macros)
+
+abbrev pub pointCount : Counts → ℕ
+pointCount net = net .pins + net .macros * 4
 
 -- C11: not whole pairs, no pin, or more than 64
 unfoldable pub pinsMiscounted : List ℤ → Bool
-pinsMiscounted pins = not (eqb (length pins % 2) 0) || (eqb (pinCount pins) 0 || ltb pinBound (pinCount pins))
+pinsMiscounted pins = not (eqb (length pins % pinWidth) 0) || (eqb (pinCount pins) 0 || ltb pinBound (pinCount pins))
 
 -- C12: not whole fours, or more than 64 macros
 unfoldable pub macrosMiscounted : List ℤ → Bool
-macrosMiscounted macros = not (eqb (length macros % 4) 0) || ltb macroBound (macroCount macros)
+macrosMiscounted macros = not (eqb (length macros % macroWidth) 0) || ltb macroBound (macroCount macros)
 
 -- C13: farther from 0 than coordinates go
 unfoldable pub outOfRange : ℤ → Bool
@@ -46,21 +52,21 @@ unfoldable pub insideAny : List Macro → Place → Bool
 insideAny macros p = any (inside p) macros
 
 -- C51, C60: each test is over the whole net, and the first that applies is the answer
-unfoldable pub checked : List ℤ → List ℤ → Told (ℕ × ℕ)
+unfoldable pub checked : List ℤ → List ℤ → Told Counts
 checked pins macros =
     cond (pinsMiscounted pins) (refused 11)
     (cond (macrosMiscounted macros) (refused 12)
     (cond (any outOfRange pins || any outOfRange macros) (refused 13)
     (cond (any notUpright (macrosOf macros)) (refused 14)
     -- C15: a place with two pins
-    (cond (anyTwo samePlace (placesOf pins)) (refused 15)
+    (cond (anyTwo samePlace (pinPlaces pins)) (refused 15)
     -- C16: interiors that meet
     (cond (anyTwo interiorsMeet (macrosOf macros)) (refused 16)
-    (cond (any (insideAny (macrosOf macros)) (placesOf pins)) (refused 17)
+    (cond (any (insideAny (macrosOf macros)) (pinPlaces pins)) (refused 17)
     -- C56: none applies, so the net is allowed
-    (given (pinCount pins, macroCount macros))))))))
+    (given (countsOf pins macros))))))))
 
 -- what the code's answer says
-unfoldable pub told : Checked → Told (ℕ × ℕ)
-told (Allowed net) = given (net .pins, net .macros)
+unfoldable pub told : Checked → Told Counts
+told (Allowed net) = given net
 told (Refused f) = refused (number f)

@@ -1,17 +1,29 @@
--- The net: its bounds, its check, and what an allowed net is.
+-- The net: one record for the definitions, its bounds, its check, and what an allowed net is.
 --
--- Definitions speak the numbers of the rules; the code speaks enums, and `number` and `told` translate. A check goes through its tests in
--- the order of C60, each over the whole net.
+-- Code has the lists as slices of numbers, and what is no list as one struct by value that the check gives; definitions have one record
+-- with places and macros. `netOf` takes the lists to the record. Definitions speak the numbers of the rules; the code speaks enums, and
+-- `number` and `told` translate. A check goes through its tests in the order of C60, each over the whole net.
 --
---   Bounds     pinBound, macroBound, coordinateBound     64, 64 and 1,000,000: the only literals
+--   Bounds     pinBound, macroBound, coordinateBound     64, 64 and 1,000,000
+--              weightBound, pinWidth, macroWidth         8; a pin has 2 numbers and a macro 4: with those above the only literals
 --              pointBound, edgeBound, treeBound          what follows from them: 320, 1,280 and 384
+--              costBound                                 and 32,000,000
+--   Pins       pinCount, pinPlaces, pinAt, flatPins      a flat list's pins: how many, where, the i-th; and a flat list of places
+--              macroCount                                how many macros a flat list holds
+--   Net        Net, netOf pins macros                    the record, and the net of two flat lists
+--              costIn net a b                            what metal between two places costs in a net
 --   Answer     number f                                  the number of a refusal
---   Check      pinsMiscounted .. insideAny               the tests, 11 to 17
---              checked pins macros                       the first number that applies, or m and k
+--   Check      counted m k, countsOf pins macros         what the code's check gives: m, k and the weights
+--              pointCount counts                         m + 4k
+--              pinsMiscounted .. insideAny               the tests, 11 to 17
+--              checked pins macros                       the first number that applies, or what is given
 --              told r                                    what the code's answer says
---   Allowed    Allowed ps ms                             an allowed net in words, for the theory above
+--   Allowed    Allowed net                               an allowed net in words, for the theory above
 --   Order      SamePins, SameMacros                      the same entries in another order
+--   WorkedNets onePin .. noWidth                         the worked nets E1 to E11
 pub mod Bounds
+pub mod Pins
+pub mod Net
 pub mod Answer
 pub mod Check
 pub mod Allowed

@@ -1,26 +1,44 @@
 // The net: its bounds and its check.
 use plane::Macro;
 use plane::Place;
+use plane::Weights;
 ghost use mathlib.Core.Path.{_≡_};
-ghost use mathlib.Core.Bool.{_||_};
-ghost use Prim.Native.Nat.{_+_, _*_, _≤_};
+ghost use Prim.Native.Nat.{_≤_, _<_};
 ghost use lib.IntN.{pos};
-ghost use lib.ListN.{length, drop};
+ghost use lib.ListN.{drop};
 ghost use Rattle.lists.specs.Any.{any, anyTwo};
 ghost use Rattle.plane.specs.Place.{samePlace};
 ghost use Rattle.plane.specs.Macro.{interiorsMeet};
-ghost use Rattle.plane.specs.Flat.{placesOf, macrosOf, placeAt};
+ghost use Rattle.plane.specs.Flat.{macrosOf};
+ghost use Rattle.net.specs.Bounds.{pinBound, macroBound};
+ghost use Rattle.net.specs.Pins.{pinCount, pinPlaces, pinAt, macroCount};
 ghost use Rattle.net.specs.Answer.{number};
-ghost use Rattle.net.specs.Check.{pinsMiscounted, macrosMiscounted, outOfRange, notUpright, insideAny, checked, told};
+ghost use Rattle.net.specs.Check.{
+  pinsMiscounted,
+  macrosMiscounted,
+  outOfRange,
+  notUpright,
+  insideAny,
+  pointCount,
+  checked,
+  told,
+};
 
-// A net by its numbers of pins and of macros. Its bounds are named here.
+// What the check finds of a net that is no list: its numbers of pins and of macros, and its weights. Its bounds are named here.
 pub struct Net {
     pub pins: usize,
     pub macros: usize,
+    pub weights: Weights,
 }
 
-// The first three are literals; the others follow.
+// The bounds of pins, macros and coordinates, and how many numbers a pin and a macro have, are literals; the others follow.
 impl Net {
+    // Numbers of a pin in the list of pins: its x and y. Nothing above this crate knows.
+    pub const PIN_NUMBERS: usize = 2;
+
+    // Numbers of a macro in the list of macros: left, bottom, right, top.
+    pub const MACRO_NUMBERS: usize = 4;
+
     pub const PINS: usize = 64;
 
     pub const MACROS: usize = 64;
@@ -79,18 +97,53 @@ pub enum Checked {
     Refused(Refusal),
 }
 
+// How many pins a list holds.
+pub fn pin_count(pins: &[i32]) -> usize
+    ensures { λ r. ⌜ r ≡ pinCount (now (pins .entry)) ⌝ }
+{
+    pins.len() / Net::PIN_NUMBERS
+}
+
+// The place of the pin numbered i.
+pub fn pin_at(pins: &[i32], i: usize) -> Place
+    requires { ⌜ i < pinCount (now pins) ⌝ }
+    ensures { λ r. ⌜ r ≡ pinAt (now (pins .entry)) i ⌝ }
+{
+    let k = i * Net::PIN_NUMBERS;
+    Place {
+        x: pins[k],
+        y: pins[k + 1],
+    }
+}
+
+// How many macros a list holds.
+pub fn macro_count(macros: &[i32]) -> usize
+    ensures { λ r. ⌜ r ≡ macroCount (now (macros .entry)) ⌝ }
+{
+    macros.len() / Net::MACRO_NUMBERS
+}
+
+// At most so many points has a net's graph: its pins and four corners of each macro.
+pub fn point_count(net: Net) -> usize
+    requires { ⌜ net .pins ≤ pinBound ⌝ }
+    requires { ⌜ net .macros ≤ macroBound ⌝ }
+    ensures { λ r. ⌜ r ≡ pointCount net ⌝ }
+{
+    net.pins + net.macros * 4
+}
+
 fn pins_miscounted(pins: &[i32]) -> bool
     ensures { λ r. ⌜ r ≡ pinsMiscounted (now (pins .entry)) ⌝ }
 {
-    let m = pins.len() / 2;
-    (pins.len() % 2 != 0) | ((m == 0) | (Net::PINS < m))
+    let m = pin_count(pins);
+    (pins.len() % Net::PIN_NUMBERS != 0) | ((m == 0) | (Net::PINS < m))
 }
 
 fn macros_miscounted(macros: &[i32]) -> bool
     ensures { λ r. ⌜ r ≡ macrosMiscounted (now (macros .entry)) ⌝ }
 {
-    let k = macros.len() / 4;
-    (macros.len() % 4 != 0) | (Net::MACROS < k)
+    let k = macro_count(macros);
+    (macros.len() % Net::MACRO_NUMBERS != 0) | (Net::MACROS < k)
 }
 
 fn is_out_of_range(z: i32) -> bool
@@ -121,7 +174,7 @@ fn is_not_upright(m: Macro) -> bool
 fn any_not_upright(macros: &[i32]) -> bool
     ensures { λ r. ⌜ r ≡ any notUpright (macrosOf (now (macros .entry))) ⌝ }
 {
-    let k = macros.len() / 4;
+    let k = macro_count(macros);
     let mut i = 0;
     while i < k {
         if is_not_upright(plane::macro_at(macros, i)) {
@@ -134,12 +187,12 @@ fn any_not_upright(macros: &[i32]) -> bool
 
 // Whether p is among the pins from the one numbered `from` on.
 fn is_among(p: Place, pins: &[i32], from: usize) -> bool
-    ensures { λ r. ⌜ r ≡ any (samePlace p) (drop from (placesOf (now (pins .entry)))) ⌝ }
+    ensures { λ r. ⌜ r ≡ any (samePlace p) (drop from (pinPlaces (now (pins .entry)))) ⌝ }
 {
-    let m = pins.len() / 2;
+    let m = pin_count(pins);
     let mut j = from;
     while j < m {
-        if plane::is_same_place(p, plane::place_at(pins, j)) {
+        if plane::is_same_place(p, pin_at(pins, j)) {
             return true;
         }
         j += 1;
@@ -148,12 +201,12 @@ fn is_among(p: Place, pins: &[i32], from: usize) -> bool
 }
 
 fn any_same_place(pins: &[i32]) -> bool
-    ensures { λ r. ⌜ r ≡ anyTwo samePlace (placesOf (now (pins .entry))) ⌝ }
+    ensures { λ r. ⌜ r ≡ anyTwo samePlace (pinPlaces (now (pins .entry))) ⌝ }
 {
-    let m = pins.len() / 2;
+    let m = pin_count(pins);
     let mut i = 0;
     while i < m {
-        if is_among(plane::place_at(pins, i), pins, i + 1) {
+        if is_among(pin_at(pins, i), pins, i + 1) {
             return true;
         }
         i += 1;
@@ -165,7 +218,7 @@ fn any_same_place(pins: &[i32]) -> bool
 fn any_overlap(macros: &[i32]) -> bool
     ensures { λ r. ⌜ r ≡ anyTwo interiorsMeet (macrosOf (now (macros .entry))) ⌝ }
 {
-    let k = macros.len() / 4;
+    let k = macro_count(macros);
     let mut found = false;
     let mut i = 0;
     'search: while i < k {
@@ -185,12 +238,12 @@ fn any_overlap(macros: &[i32]) -> bool
 
 // Whether a pin lies in an interior: the box of a pin and itself meets it.
 fn any_pin_inside(pins: &[i32], macros: &[i32]) -> bool
-    ensures { λ r. ⌜ r ≡ any (insideAny (macrosOf (now (macros .entry)))) (placesOf (now (pins .entry))) ⌝ }
+    ensures { λ r. ⌜ r ≡ any (insideAny (macrosOf (now (macros .entry)))) (pinPlaces (now (pins .entry))) ⌝ }
 {
-    let m = pins.len() / 2;
+    let m = pin_count(pins);
     let mut i = 0;
     while i < m {
-        let p = plane::place_at(pins, i);
+        let p = pin_at(pins, i);
         if !plane::is_clear(p, p, macros) {
             return true;
         }
@@ -227,8 +280,13 @@ pub fn check(pins: &[i32], macros: &[i32]) -> Checked
     if any_pin_inside(pins, macros) {
         return Checked::Refused(Refusal::PinInside);
     }
+    // A unit of metal costs 1 along both axes: no caller can ask for other weights.
     Checked::Allowed(Net {
-        pins: pins.len() / 2,
-        macros: macros.len() / 4,
+        pins: pin_count(pins),
+        macros: macro_count(macros),
+        weights: Weights {
+            across: 1,
+            along: 1,
+        },
     })
 }

@@ -1,5 +1,5 @@
 -- Boxes within boxes: what lies in the box of two places that are clear of each other is clear too. The middle place of three lies in the
--- box of each two of them, so it is clear of what they are clear of, and no way through it is longer.
+-- box of each two of them, so it is clear of what they are clear of.
 -- Assumes nothing.
 use mathlib.Core.Path.{_≡_, refl}
 use mathlib.Core.Bool.{true, false}
@@ -96,6 +96,3 @@ module _ (a b u : Place) where
 
   pub middle-clear-last : (ms : List Macro) → clear b u ms ≡ true → clear (middlePlace a b u) u ms ≡ true
   middle-clear-last ms h = clear-within _ _ b u middle-in-last (last-in-box b u) ms h
-
-  pub middle-through : distance (middlePlace a b u) a + distance (middlePlace a b u) b ≡ distance a b
-  middle-through = distance-through (middlePlace a b u) a b middle-in-first

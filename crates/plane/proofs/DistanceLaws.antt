@@ -1,5 +1,6 @@
--- Distance: absolute values worked out across zero, and the four properties of a cost of two places (the same both ways, 0 exactly at
--- equal places, additive through a place between, the triangle).
+-- Gaps and distance: absolute values worked out across zero, and how far numbers lie apart (the same both ways, 0 exactly at equal
+-- numbers, additive through a number between, the triangle), from which cost has its laws. Of distance, which is plain length, only
+-- what metal needs.
 -- Assumes nothing.
 use mathlib.Core.Path.{_≡_, ap₂}
 use mathlib.Core.Bool.{true, false}
@@ -109,16 +110,7 @@ apart-triangle a b c =
     (omega (signed, apart-covers a b, apart-covers b c))
     (omega (signed, apart-covers b a, apart-covers c b, apart-comm a b, apart-comm b c))
 
-pub distance-triangle : (a b c : Place) → distance a c ≤ distance a b + distance b c
-unfolding distance
-distance-triangle a b c = omega (signed, apart-triangle (a .x) (b .x) (c .x), apart-triangle (a .y) (b .y) (c .y))
-
 -- How far at most
-
--- no farther than both axes allow
-pub distance-parts : (a b : Place) {m n : ℕ} → apart (a .x) (b .x) ≤ m → apart (a .y) (b .y) ≤ n → distance a b ≤ m + n
-unfolding distance
-distance-parts a b h k = omega (arith, h, k)
 
 -- of any two places of 32 bits
 pub distance-fits : (a b : Place) → SFits w32 (a .x) → SFits w32 (a .y) → SFits w32 (b .x) → SFits w32 (b .y) → distance a b < 2 ^ 33

@@ -5,6 +5,7 @@ pub mod MiddleLaws
 pub mod FlatLaws
 pub mod MacroLaws
 pub mod BoxLaws
+pub mod CostLaws
 pub mod WorkedDistances
 pub mod PlaceOrder
 pub mod MeetLaws

@@ -7,6 +7,7 @@ ghost use lib.IntN.{pos, _-ℤ_, natAbs};
 ghost use lib.ListN.{length, set};
 ghost use Rattle.plane.specs.Place.{before, samePlace};
 ghost use Rattle.plane.specs.Distance.{apart, distance};
+ghost use Rattle.plane.specs.Cost.{cost, costLimit};
 ghost use Rattle.plane.specs.Middle.{middle, middlePlace};
 ghost use Rattle.plane.specs.Macro.{spanMeets, meets, openSpansMeet, interiorsMeet, clear};
 ghost use Rattle.plane.specs.Flat.{macrosOf, macroAt, placeAt};
@@ -25,6 +26,12 @@ pub struct Macro {
     pub bottom: i32,
     pub right: i32,
     pub top: i32,
+}
+
+// What a unit of metal costs along each axis: a byte each, so that no cost of 32-bit places can overflow 64 bits.
+pub struct Weights {
+    pub across: u8,
+    pub along: u8,
 }
 
 fn smaller(a: i32, b: i32) -> i32
@@ -53,10 +60,18 @@ fn absolute(d: i64) -> i64
 }
 
 // How far a and b lie apart.
-fn gap(a: i32, b: i32) -> i64
-    ensures { λ r. ⌜ r ≡ pos (apart a b) ⌝ }
+fn gap(a: i32, b: i32) -> u64
+    ensures { λ r. ⌜ (r ≡ apart a b) × (r < 2 ^ 32) ⌝ }
 {
-    absolute(difference(a, b))
+    absolute(difference(a, b)) as u64
+}
+
+// What a gap costs along an axis of this weight.
+fn priced(gap: u64, weight: u8) -> u64
+    requires { ⌜ gap < 2 ^ 32 ⌝ }
+    ensures { λ r. ⌜ (r ≡ gap * weight) × (r < 2 ^ 40) ⌝ }
+{
+    gap * weight as u64
 }
 
 fn median(a: i32, b: i32, c: i32) -> i32
@@ -84,10 +99,18 @@ pub fn is_same_place(a: Place, b: Place) -> bool
     a.x == b.x && a.y == b.y
 }
 
-pub fn distance(a: Place, b: Place) -> i64
-    ensures { λ r. ⌜ r ≡ pos (distance a b) ⌝ }
+// The plain length between two places.
+pub fn distance(a: Place, b: Place) -> u64
+    ensures { λ r. ⌜ r ≡ distance a b ⌝ }
 {
     gap(a.x, b.x) + gap(a.y, b.y)
+}
+
+// What metal between two places costs.
+pub fn cost(w: Weights, a: Place, b: Place) -> u64
+    ensures { λ r. ⌜ (r ≡ cost w a b) × (r < costLimit) ⌝ }
+{
+    priced(gap(a.x, b.x), w.across) + priced(gap(a.y, b.y), w.along)
 }
 
 // The place in the middle of three, axis by axis.

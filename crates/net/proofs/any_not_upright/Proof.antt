@@ -19,6 +19,9 @@ Inv-loop macros k i₀ i = (i ≤ k) × (any notUpright (macrosOf macros) ≡ an
 abbrev μ-loop : tie.MeasureT-loop
 μ-loop macros k i₀ i = k - i
 
+macro-count-requires : tie.Need-macro-count-requires Inv-loop μ-loop
+macro-count-requires c κs = tt
+
 loop-holds : tie.Need-loop-holds Inv-loop μ-loop
 loop-holds c = (omega arith, refl)
 
@@ -29,13 +32,13 @@ is-not-upright-requires : tie.Need-is-not-upright-requires Inv-loop μ-loop
 is-not-upright-requires c κs = tt
 
 -- what the call says, of the list
-told : (c : tie.After-is-not-upright Inv-loop μ-loop) → c .is-not-upright .result ≡ notUpright (macroAt (now (c .before .before .before .before .args .macros)) (c .before .before .before .loop .i))
+told : (c : tie.After-is-not-upright Inv-loop μ-loop) → c .is-not-upright .result ≡ notUpright (macroAt (now (c .before .before .before .before .before .args .macros)) (c .before .before .before .loop .i))
 told c = c .is-not-upright .ensures ∙ ap notUpright (c .before .macro-at .ensures)
 
 returns : tie.Need-returns Inv-loop μ-loop
 returns c =
     let l = c .before .before .before .before in
-    sym (l .loop .inv .1 ∙ any-hit notUpright _ _ _ (macros-next (now (l .before .args .macros)) (l .loop .i) (omega arith)) (sym (told (c .before)) ∙ c .if1 .taken))
+    sym (l .loop .inv .1 ∙ any-hit notUpright _ _ _ (macros-next (now (l .before .before .args .macros)) (l .loop .i) (omega arith)) (sym (told (c .before)) ∙ c .if1 .taken))
 
 add-i : tie.Need-add-i Inv-loop μ-loop
 add-i c = omega arith
@@ -46,12 +49,12 @@ loop-less c = omega arith
 loop-again : tie.Need-loop-again Inv-loop μ-loop
 loop-again c =
     let l = c .before .before .before .before in
-    (omega arith, l .loop .inv .1 ∙ any-miss notUpright _ _ _ (macros-next (now (l .before .args .macros)) (l .loop .i) (omega arith)) (sym (told (c .before)) ∙ c .if1 .left))
+    (omega arith, l .loop .inv .1 ∙ any-miss notUpright _ _ _ (macros-next (now (l .before .before .args .macros)) (l .loop .i) (omega arith)) (sym (told (c .before)) ∙ c .if1 .left))
 
 returns-2 : tie.Need-returns-2 Inv-loop μ-loop
 returns-2 c =
     let l = c .before in
-    sym (l .loop .inv .1 ∙ any-end notUpright _ (macros-end (now (l .before .args .macros)) (l .loop .i) (omega arith)))
+    sym (l .loop .inv .1 ∙ any-end notUpright _ (macros-end (now (l .before .before .args .macros)) (l .loop .i) (omega arith)))
 
 pub any-not-upright-spec : {M : Type 1} → statement M
 any-not-upright-spec =
@@ -59,6 +62,7 @@ any-not-upright-spec =
     (tie.spec
     Inv-loop
     μ-loop
+    macro-count-requires
     loop-holds
     macro-at-requires
     is-not-upright-requires

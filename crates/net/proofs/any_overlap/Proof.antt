@@ -30,6 +30,9 @@ Inv-search macros k found₀ i₀ found i =
 abbrev μ-search : tie.MeasureT-search
 μ-search macros k found₀ i₀ found i = k - i
 
+macro-count-requires : tie.Need-macro-count-requires Inv-loop μ-loop Inv-search μ-search
+macro-count-requires c κs = tt
+
 search-holds : tie.Need-search-holds Inv-loop μ-loop Inv-search μ-search
 search-holds c = (omega arith, refl, refl)
 
@@ -49,7 +52,7 @@ interiors-meet-requires : tie.Need-interiors-meet-requires Inv-loop μ-loop Inv-
 interiors-meet-requires c κs = tt
 
 -- what the test of a pair says, of the list
-told : (c : tie.After-interiors-meet Inv-loop μ-loop Inv-search μ-search) → c .interiors-meet .result ≡ interiorsMeet (c .before .before .before .before .macro-at .result) (macroAt (now (c .before .before .before .before .before .before .before .args .macros)) (c .before .before .before .loop .j))
+told : (c : tie.After-interiors-meet Inv-loop μ-loop Inv-search μ-search) → c .interiors-meet .result ≡ interiorsMeet (c .before .before .before .before .macro-at .result) (macroAt (now (c .before .before .before .before .before .before .before .before .args .macros)) (c .before .before .before .loop .j))
 told c = c .interiors-meet .ensures ∙ ap (interiorsMeet (c .before .before .before .before .macro-at .result)) (c .before .macro-at2 .ensures)
 
 add-j-2 : tie.Need-add-j-2 Inv-loop μ-loop Inv-search μ-search
@@ -61,7 +64,7 @@ loop-less c = omega arith
 loop-again : tie.Need-loop-again Inv-loop μ-loop Inv-search μ-search
 loop-again c =
     let l = c .before .before .before .before in
-    let s = now (l .before .before .before .before .args .macros) in
+    let s = now (l .before .before .before .before .before .args .macros) in
     (omega arith, l .loop .inv .1, l .loop .inv .2 ∙ any-miss (interiorsMeet (l .before .macro-at .result)) _ _ _ (macros-next s (l .loop .j) (omega arith)) (sym (told (c .before)) ∙ c .if1 .left))
 
 add-i : tie.Need-add-i Inv-loop μ-loop Inv-search μ-search
@@ -74,20 +77,20 @@ search-again : tie.Need-search-again Inv-loop μ-loop Inv-search μ-search
 search-again c =
     let l = c .before in
     let o = l .before .before .before in
-    let s = now (o .before .args .macros) in
+    let s = now (o .before .before .args .macros) in
     let none : any (interiorsMeet (macroAt s (o .search .i))) (drop (o .search .i + 1) (macrosOf s)) ≡ false = rw (← l .before .macro-at .ensures) (l .loop .inv .2 ∙ any-end (interiorsMeet (l .before .macro-at .result)) _ (macros-end s (l .loop .j) (omega arith))) in
     (omega arith, l .loop .inv .1, o .search .inv .2 ∙ two-miss interiorsMeet _ _ _ (macros-next s (o .search .i) (omega arith)) none)
 
 returns : tie.Need-returns Inv-loop μ-loop Inv-search μ-search
 returns c =
     let o = c .before in
-    o .search .inv .1 ∙ sym (o .search .inv .2 ∙ two-end interiorsMeet _ (macros-end (now (o .before .args .macros)) (o .search .i) (omega arith)))
+    o .search .inv .1 ∙ sym (o .search .inv .2 ∙ two-end interiorsMeet _ (macros-end (now (o .before .before .args .macros)) (o .search .i) (omega arith)))
 
 returns-2 : tie.Need-returns-2 Inv-loop μ-loop Inv-search μ-search
 returns-2 c =
     let l = c .before .before .before .before in
     let o = l .before .before .before in
-    let s = now (o .before .args .macros) in
+    let s = now (o .before .before .args .macros) in
     let some : any (interiorsMeet (macroAt s (o .search .i))) (drop (o .search .i + 1) (macrosOf s)) ≡ true = rw (← l .before .macro-at .ensures) (l .loop .inv .2 ∙ any-hit (interiorsMeet (l .before .macro-at .result)) _ _ _ (macros-next s (l .loop .j) (omega arith)) (sym (told (c .before)) ∙ c .if1 .taken)) in
     sym (o .search .inv .2 ∙ two-hit interiorsMeet _ _ _ (macros-next s (o .search .i) (omega arith)) some)
 
@@ -99,6 +102,7 @@ any-overlap-spec =
     μ-loop
     Inv-search
     μ-search
+    macro-count-requires
     search-holds
     macro-at-requires
     add-j

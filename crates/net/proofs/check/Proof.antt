@@ -1,12 +1,14 @@
 -- `net::check` meets its contract: a test that applies is the first, since the ones before it did not; each step keeps what was passed.
 -- Assumes nothing.
 use borrow.Author.Needs.{needs}
-use mathlib.Core.Path.{sym, _∙_}
+use mathlib.Core.Path.{sym, ap₂, _∙_}
 use mathlib.Core.List.{List}
+use Prim.Native.Nat.{ℕ}
 use lib.IntN.{ℤ}
 use denote.Ref.{now}
+use Rattle.lent.specs.Told.{given}
 use Rattle.net.specs.Answer.{number}
-use Rattle.net.specs.Check.{told}
+use Rattle.net.specs.Check.{counted, told}
 use Rattle.net.proofs.CheckLaws.{Past11, Past12, Past13-pins, Past13, Past14, Past15, Past16, Past17, refuse-11, refuse-12, refuse-13-pins, refuse-13, refuse-14, refuse-15, refuse-16, refuse-17, allow}
 use Rattle.net.proofs.check.Statement.{statement}
 use Rattle.net.proofs.check.Tie as tie
@@ -121,9 +123,17 @@ returns-8 : tie.Need-returns-8
 unfolding told number
 returns-8 c = sym (refuse-17 _ _ (past7 (c .before .before)) (sym (c .before .any-pin-inside .ensures) ∙ c .if8 .taken))
 
+pin-count-requires : tie.Need-pin-count-requires
+pin-count-requires c κs = search needs
+
+macro-count-requires : tie.Need-macro-count-requires
+macro-count-requires c κs = search needs
+
 returns-9 : tie.Need-returns-9
 unfolding told
-returns-9 c = sym (allow _ _ (past8 c))
+returns-9 c =
+    ap₂ (λ (m k : ℕ). given (counted m k)) (c .before .pin-count .ensures) (c .macro-count .ensures)
+    ∙ sym (allow _ _ (past8 (c .before .before)))
 
 pub check-spec : {M : Type 1} → statement M
 check-spec =
@@ -145,4 +155,6 @@ check-spec =
     returns-7
     any-pin-inside-requires
     returns-8
+    pin-count-requires
+    macro-count-requires
     returns-9)

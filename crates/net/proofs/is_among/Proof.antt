@@ -8,34 +8,37 @@ use denote.Ref.{now}
 use Rattle.lists.specs.Any.{any}
 use Rattle.lists.proofs.AnyLaws.{any-hit, any-miss, any-end}
 use Rattle.plane.specs.Place.{samePlace}
-use Rattle.plane.specs.Flat.{placesOf, placeAt}
-use Rattle.plane.proofs.FlatLaws.{places-next, places-end}
+use Rattle.net.specs.Pins.{pinPlaces, pinAt}
+use Rattle.net.proofs.PinLaws.{pins-next, pins-end}
 use Rattle.net.proofs.is_among.Statement.{statement}
 use Rattle.net.proofs.is_among.Tie as tie
 
 abbrev Inv-loop : tie.InvT-loop
-Inv-loop p pins from m j₀ j = any (samePlace p) (drop from (placesOf pins)) ≡ any (samePlace p) (drop j (placesOf pins))
+Inv-loop p pins from m j₀ j = any (samePlace p) (drop from (pinPlaces pins)) ≡ any (samePlace p) (drop j (pinPlaces pins))
 
 abbrev μ-loop : tie.MeasureT-loop
 μ-loop p pins from m j₀ j = m - j
 
+pin-count-requires : tie.Need-pin-count-requires Inv-loop μ-loop
+pin-count-requires c κs = tt
+
 loop-holds : tie.Need-loop-holds Inv-loop μ-loop
 loop-holds c = refl
 
-place-at-requires : tie.Need-place-at-requires Inv-loop μ-loop
-place-at-requires c κs = omega arith
+pin-at-requires : tie.Need-pin-at-requires Inv-loop μ-loop
+pin-at-requires c κs = omega arith
 
 is-same-place-requires : tie.Need-is-same-place-requires Inv-loop μ-loop
 is-same-place-requires c κs = tt
 
 -- what the call says, of the list
-told : (c : tie.After-is-same-place Inv-loop μ-loop) → c .is-same-place .result ≡ samePlace (c .before .before .before .before .args .p) (placeAt (now (c .before .before .before .before .args .pins)) (c .before .before .before .loop .j))
-told c = c .is-same-place .ensures ∙ ap (samePlace (c .before .before .before .before .args .p)) (c .before .place-at .ensures)
+told : (c : tie.After-is-same-place Inv-loop μ-loop) → c .is-same-place .result ≡ samePlace (c .before .before .before .before .before .args .p) (pinAt (now (c .before .before .before .before .before .args .pins)) (c .before .before .before .loop .j))
+told c = c .is-same-place .ensures ∙ ap (samePlace (c .before .before .before .before .before .args .p)) (c .before .pin-at .ensures)
 
 returns : tie.Need-returns Inv-loop μ-loop
 returns c =
     let l = c .before .before .before .before in
-    sym (l .loop .inv ∙ any-hit (samePlace (l .before .args .p)) _ _ _ (places-next (now (l .before .args .pins)) (l .loop .j) (omega arith)) (sym (told (c .before)) ∙ c .if1 .taken))
+    sym (l .loop .inv ∙ any-hit (samePlace (l .before .before .args .p)) _ _ _ (pins-next (now (l .before .before .args .pins)) (l .loop .j) (omega arith)) (sym (told (c .before)) ∙ c .if1 .taken))
 
 add-j : tie.Need-add-j Inv-loop μ-loop
 add-j c = omega arith
@@ -46,12 +49,12 @@ loop-less c = omega arith
 loop-again : tie.Need-loop-again Inv-loop μ-loop
 loop-again c =
     let l = c .before .before .before .before in
-    l .loop .inv ∙ any-miss (samePlace (l .before .args .p)) _ _ _ (places-next (now (l .before .args .pins)) (l .loop .j) (omega arith)) (sym (told (c .before)) ∙ c .if1 .left)
+    l .loop .inv ∙ any-miss (samePlace (l .before .before .args .p)) _ _ _ (pins-next (now (l .before .before .args .pins)) (l .loop .j) (omega arith)) (sym (told (c .before)) ∙ c .if1 .left)
 
 returns-2 : tie.Need-returns-2 Inv-loop μ-loop
 returns-2 c =
     let l = c .before in
-    sym (l .loop .inv ∙ any-end (samePlace (l .before .args .p)) _ (places-end (now (l .before .args .pins)) (l .loop .j) (omega arith)))
+    sym (l .loop .inv ∙ any-end (samePlace (l .before .before .args .p)) _ (pins-end (now (l .before .before .args .pins)) (l .loop .j) (omega arith)))
 
 pub is-among-spec : {M : Type 1} → statement M
 is-among-spec =
@@ -59,8 +62,9 @@ is-among-spec =
     (tie.spec
     Inv-loop
     μ-loop
+    pin-count-requires
     loop-holds
-    place-at-requires
+    pin-at-requires
     is-same-place-requires
     returns
     add-j

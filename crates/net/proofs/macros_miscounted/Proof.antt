@@ -5,9 +5,12 @@ use Rattle.net.specs.Check.{macrosMiscounted}
 use Rattle.net.proofs.macros_miscounted.Statement.{statement}
 use Rattle.net.proofs.macros_miscounted.Tie as tie
 
+macro-count-requires : tie.Need-macro-count-requires
+macro-count-requires c κs = tt
+
 returns : tie.Need-returns
 unfolding macrosMiscounted
-returns c = refl
+returns c = rw (c .macro-count .ensures) refl
 
 pub macros-miscounted-spec : {M : Type 1} → statement M
-macros-miscounted-spec = tie.close (tie.spec returns)
+macros-miscounted-spec = tie.close (tie.spec macro-count-requires returns)

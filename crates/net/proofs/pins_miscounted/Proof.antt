@@ -5,9 +5,12 @@ use Rattle.net.specs.Check.{pinsMiscounted}
 use Rattle.net.proofs.pins_miscounted.Statement.{statement}
 use Rattle.net.proofs.pins_miscounted.Tie as tie
 
+pin-count-requires : tie.Need-pin-count-requires
+pin-count-requires c κs = tt
+
 returns : tie.Need-returns
 unfolding pinsMiscounted
-returns c = refl
+returns c = rw (c .pin-count .ensures) refl
 
 pub pins-miscounted-spec : {M : Type 1} → statement M
-pins-miscounted-spec = tie.close (tie.spec returns)
+pins-miscounted-spec = tie.close (tie.spec pin-count-requires returns)
