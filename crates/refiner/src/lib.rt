@@ -60,7 +60,10 @@ fn edge_length(pts: &[i32; NUMBERS], keys: &[usize; POINTS], k: usize) -> u64
     ensures { λ r. ⌜ (r ≡ edgeLength (now (pts .entry)) (now (keys .entry)) k) × (r < lengthBound) ⌝ }
 {
     let q = keys[k];
-    far_apart(tree::point_at(pts, q / POINTS), tree::point_at(pts, q % POINTS))
+    far_apart(
+        tree::point_at(pts, q / POINTS),
+        tree::point_at(pts, q % POINTS),
+    )
 }
 
 fn lengths(pts: &[i32; NUMBERS], keys: &[usize; POINTS], e: usize, el: &mut [u64; POINTS])
@@ -275,7 +278,12 @@ fn is_allowed(
     requires { ⌜ ((a < pointBound) × (b < pointBound)) × ((u < pointBound) × (n ≤ pointBound)) ⌝ }
     ensures { λ r. ⌜ r ≡ allowed (now (pts .entry)) n (macrosOf (now (macros .entry))) a b u s ⌝ }
 {
-    if sees(macros, tree::point_at(pts, a), tree::point_at(pts, b), tree::point_at(pts, u)) {
+    if sees(
+        macros,
+        tree::point_at(pts, a),
+        tree::point_at(pts, b),
+        tree::point_at(pts, u),
+    ) {
         return !is_dropped(pts, n, a, b, u, s);
     }
     false
@@ -610,7 +618,11 @@ fn exchange(
     let u = c.point;
     let a = keys[k] / POINTS;
     let b = keys[k] % POINTS;
-    let s = plane::middle_place(tree::point_at(&*pts, a), tree::point_at(&*pts, b), tree::point_at(&*pts, u));
+    let s = plane::middle_place(
+        tree::point_at(&*pts, a),
+        tree::point_at(&*pts, b),
+        tree::point_at(&*pts, u),
+    );
     let f = e - 2;
     drop_two(&mut *keys, f, k, l);
     let p = rank(&*pts, n, s);

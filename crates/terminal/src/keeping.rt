@@ -1,6 +1,6 @@
 // The kept bridges on tables, and the terminal tree of a graph on tables.
-use crate::Kept;
 use crate::EDGES;
+use crate::Kept;
 use crate::PINS;
 use crate::POINTS;
 use crate::bridges;

@@ -11,7 +11,6 @@ use borrow.Author.Tests.{ltb-true, ltb-false, eqb-true, eq-eqb, ne-eqb}
 use Rattle.lists.proofs.TestLaws.{by}
 use Rattle.tree.specs.Sum.{below, over}
 
-
 -- Sums
 
 pub below-same : (f g : ℕ → ℕ) (n : ℕ) → ((i : ℕ) → i < n → f i ≡ g i) → below f n ≡ below g n
