@@ -15,9 +15,12 @@ pub record Net : Type 0 where
   pub macros : List Macro
   pub weights : Weights
 
--- the net of two flat lists: a unit of metal costs 1 along both axes
+-- the net of two flat lists with these weights; and the one in which a unit of metal costs 1 along both axes
+abbrev pub netWith : Weights → List ℤ → List ℤ → Net
+netWith w pins macros = record { pins = pinPlaces pins; macros = macrosOf macros; weights = w }
+
 abbrev pub netOf : List ℤ → List ℤ → Net
-netOf pins macros = record { pins = pinPlaces pins; macros = macrosOf macros; weights = plain }
+netOf pins macros = netWith plain pins macros
 
 -- what metal between two places costs in a net
 abbrev pub costIn : Net → Place → Place → ℕ
