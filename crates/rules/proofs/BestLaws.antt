@@ -19,15 +19,15 @@ use Rattle.joined.proofs.ChainLaws.{joining-joins, joins-joining, joined-our-wa
 use Rattle.joined.proofs.KeepingLaws.{keeping-once}
 use Rattle.joined.proofs.CarriedLaws.{Follows, our-way-carried}
 use Rattle.plane.specs.declared.Place.{Place}
-use Rattle.plane.specs.declared.Macro.{Macro}
-use Rattle.plane.specs.Distance.{distance}
 use Rattle.plane.proofs.PlaceOrder.{place-same}
 use Rattle.net.specs.Allowed.{Allowed}
-use Rattle.terminal.specs.Tree.{spanning, pathsOf, totalOf, rootsOf}
+use Rattle.net.specs.Net.{Net, costIn}
+use Rattle.graph.specs.Spanning.{spanning}
+use Rattle.terminal.specs.Tree.{pathsOf, totalOf, rootsOf}
 use Rattle.terminal.specs.Stands.{Kept, keptEnds}
 use Rattle.terminal.proofs.NumberLaws.{apart-once}
 use Rattle.terminal.proofs.BestJoiningLaws.{paths-length, paths-sum, paths-joining, no-shorter-joining, no-lower-chain}
-use Rattle.rules.specs.Terminal.{Path, pathEnds, pathLength, givenFor, takenFirst}
+use Rattle.rules.specs.Terminal.{Path, pathEnds, pathCost, givenFor, takenFirst}
 use Rattle.rules.specs.Demand.{TerminalAs, BestJoining}
 use Rattle.rules.proofs.TerminalOnly.{weight-order, bridge-only}
 use Rattle.rules.proofs.TerminalOurs.{ourPaths, terminal-ours, kept-origin, kept-ends, paths-given}
@@ -35,34 +35,34 @@ use Rattle.rules.proofs.TerminalOurs.{ourPaths, terminal-ours, kept-ori
 -- nothing is offered twice
 turn-once : (l : List Path) → Ascending takenFirst l → Once l
 turn-once [] h = tt
-turn-once (k ∷ l) h = (λ m. differ (h .0 k m) (weight-order .never (pathLength k, k .bridge)), turn-once l (h .1))
+turn-once (k ∷ l) h = (λ m. differ (h .0 k m) (weight-order .never (pathCost net k, k .bridge)), turn-once l (h .1))
 
-module _ {ps : List Place} {ms : List Macro} (a : Allowed ps ms) where
+module _ {net : Net} (a : Allowed net) where
   abbrev ks : List Path
   ks = ourPaths a
 
   -- the ends of the kept paths, one by one, are those by the tables
-  follows : (k : Path) → k ∈ ks → Follows (λ (x : Place). x) givenFor pathEnds (keptEnds ps ms) k
+  follows : (k : Path) → k ∈ ks → Follows (λ (x : Place). x) givenFor pathEnds (keptEnds net) k
   unfolding rootsOf
   follows = kept-ends a
 
-  all-ends : map pathEnds ks ≡ map (keptEnds ps ms) (pathsOf ps ms)
+  all-ends : map pathEnds ks ≡ map (keptEnds net) (pathsOf net)
   all-ends =
-      sym (map-then givenFor (keptEnds ps ms) pathEnds ks (λ k m. ap₂ (λ (x y : Place). (x, y)) (follows k m .0) (follows k m .1)))
-      ∙ ap (map (keptEnds ps ms)) (paths-given a)
+      sym (map-then (givenFor net) (keptEnds net) pathEnds ks (λ k m. ap₂ (λ (x y : Place). (x, y)) (follows k m .0) (follows k m .1)))
+      ∙ ap (map (keptEnds net)) (paths-given a)
 
-  all-lengths : map pathLength ks ≡ map (λ (k : Kept). k .1) (pathsOf ps ms)
+  all-lengths : map (pathCost net) ks ≡ map (λ (k : Kept). k .1) (pathsOf net)
   all-lengths =
-      sym (map-then givenFor (λ (k : Kept). k .1) pathLength ks (λ k m. refl)) ∙ ap (map (λ (k : Kept). k .1)) (paths-given a)
+      sym (map-then (givenFor net) (λ (k : Kept). k .1) (pathCost net) ks (λ k m. refl)) ∙ ap (map (λ (k : Kept). k .1)) (paths-given a)
 
   -- T16: the total that is given is their sum
-  pub paths-total : totalOf ps ms ≡ total (map pathLength ks)
+  pub paths-total : totalOf net ≡ total (map (pathCost net) ks)
   paths-total = paths-sum a ∙ sym (ap total all-lengths)
 
-  count : suc (length ks) ≡ length ps
+  count : suc (length ks) ≡ length (net .pins)
   count = ap suc (sym (length-map ks givenFor) ∙ ap length (paths-given a)) ∙ paths-length a
 
-  terminal-as : (k : Path) → k ∈ ks → TerminalAs (spanning ps ms) ps k
+  terminal-as : (k : Path) → k ∈ ks → TerminalAs net (spanning net) k
   terminal-as k m =
       let o = kept-origin a k m in
       record {
@@ -72,12 +72,12 @@ module _ {ps : List Place} {ms : List Macro} (a : Allowed ps ms) where
         finish-is = sym (ap (λ (j : Path). j .finish) (o .is));
       }
 
-  joins : Joins ps (map pathEnds ks)
-  joins = subst (Joins ps) (sym all-ends) (joining-joins (keptEnds ps ms) place-same (paths-joining a))
+  joins : Joins (net .pins) (map pathEnds ks)
+  joins = subst (Joins (net .pins)) (sym all-ends) (joining-joins (keptEnds net) place-same (paths-joining a))
 
   cuts : Cuts (map pathEnds ks)
   cuts = tree-cuts place-same (record {
-    once = apart-once ps (a .pins-apart);
+    once = apart-once (net .pins) (a .pins-apart);
     joins = joins;
     size = ap suc (length-map ks pathEnds) ∙ count;
   })
@@ -87,21 +87,21 @@ module _ {ps : List Place} {ms : List Macro} (a : Allowed ps ms) where
   single j k m i e = bridge-only j k (kept-origin a j m .bridge) (kept-origin a k i .bridge) (ap (λ (z : Kept). z .0) e)
 
   lowest : {x y : Place} → (x ≡ y → ⊥) → {w : List Path} → OurWay pathEnds ks x y w →
-      {cs : List (TerminalPath (spanning ps ms) ps)} → Chain endsOf x cs y → most (map pathLength w) ≤ most (map (lengthOf distance) cs)
+      {cs : List (TerminalPath (spanning net) (net .pins))} → Chain endsOf x cs y → most (map (pathCost net) w) ≤ most (map (lengthOf (costIn net)) cs)
   lowest n {w} o {cs} c =
-      let into : (k : Path) → k ∈ ks → givenFor k ∈ pathsOf ps ms
+      let into : (k : Path) → k ∈ ks → givenFor k ∈ pathsOf net
       = λ k m. subst (λ (l : List Kept). givenFor k ∈ l) (paths-given a) (in-map givenFor m) in
-      let r = no-lower-chain a n (our-way-carried (λ (x : Place). x) givenFor pathEnds (keptEnds ps ms) into follows single o) c in
-      subst (λ (l : List ℕ). most l ≤ most (map (lengthOf distance) cs))
-      (map-then givenFor (λ (k : Kept). k .1) pathLength w (λ k m. refl)) r
+      let r = no-lower-chain a n (our-way-carried (λ (x : Place). x) givenFor pathEnds (keptEnds net) into follows single o) c in
+      subst (λ (l : List ℕ). most l ≤ most (map (lengthOf (costIn net)) cs))
+      (map-then (givenFor net) (λ (k : Kept). k .1) (pathCost net) w (λ k m. refl)) r
 
-  pub best-joining : BestJoining (spanning ps ms) ps ks
+  pub best-joining : BestJoining net (spanning net) ks
   best-joining = record {
     count = count;
     terminal = terminal-as;
     once = keeping-once pathEnds (terminal-ours a .keeps) (turn-once (terminal-ours a .offered) (terminal-ours a .in-turn));
     joining = joins-joining pathEnds place-same joins;
-    shortest = λ js j. subst (λ (t : ℕ). t ≤ total (map (lengthOf distance) js)) paths-total (no-shorter-joining a js j);
+    shortest = λ js j. subst (λ (t : ℕ). t ≤ total (map (lengthOf (costIn net)) js)) paths-total (no-shorter-joining a js j);
     way = λ x y i k n. joined-our-way pathEnds place-same ks n (joins x y i k);
     only = our-way-only pathEnds ks cuts place-same;
     lowest = lowest;

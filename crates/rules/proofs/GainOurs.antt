@@ -14,19 +14,19 @@ use Rattle.lists.specs.Member.{_∈_}
 use Rattle.lists.specs.Sorted.{Order, firstThen}
 use Rattle.lists.proofs.TestLaws.{by, differ, either}
 use Rattle.plane.specs.declared.Place.{Place}
-use Rattle.plane.specs.declared.Macro.{Macro}
 use Rattle.plane.specs.Place.{before}
 use Rattle.plane.specs.Flat.{placeAt}
 use Rattle.plane.proofs.PlaceOrder.{place-order}
 use Rattle.joined.specs.OneTree.{Point}
 use Rattle.joined.proofs.JoinedLaws.{firsts, seconds, has-link}
+use Rattle.net.specs.Net.{Net}
 use Rattle.tree.specs.Table.{firstEnd, secondEnd, Tree}
 use Rattle.tree.specs.Places.{endsOf, edgesOf, Ranked, Sound}
 use Rattle.refiner.specs.Sentences as tables
 use Rattle.tree.proofs.ListingLaws.{in-listing, of-listing}
 use Rattle.refiner.proofs.PruneSound.{order-same}
 use Rattle.refiner.proofs.RoundSteps.{numbered}
-use Rattle.rules.specs.Edges.{Edge, edgeBefore, edgeLength}
+use Rattle.rules.specs.Edges.{Edge, edgeBefore, edgeCost}
 use Rattle.rules.specs.Refined.{Step, Longest, Gain}
 use Rattle.rules.proofs.EdgeLaws.{edge-order}
 
@@ -57,13 +57,13 @@ edge-in t k h = in-listing (λ j. endsOf (t .points) (getD (t .edges .keys) j 0)
 pub edge-of : (t : Tree) (e : Edge) → e ∈ edgesIn t → (k : ℕ) × ((k < t .edges .size) × (e ≡ edgeAt t k))
 edge-of t e m = of-listing (λ j. endsOf (t .points) (getD (t .edges .keys) j 0)) (t .edges .size) e m
 
-module _ {ms : List Macro} {ps : List Place} (t : Tree) (sound : Sound ms ps t) (ranked : Ranked (t .edges .keys) (t .edges .size)) where
+module _ {net : Net} (t : Tree) (sound : Sound net t) (ranked : Ranked (t .edges .keys) (t .edges .size)) where
   -- Points and edges by number
 
   pub point-one : (i j : ℕ) → i < t .count → j < t .count → pointAt t i ≡ pointAt t j → i ≡ j
   point-one i j h k e = order-same (t .points) (t .count) i j (sound .ordered) h k e
 
-  pub point-of : (v : Place) → Point ps (edgesIn t) v → (i : ℕ) × ((i < t .count) × (v ≡ pointAt t i))
+  pub point-of : (v : Place) → Point (net .pins) (edgesIn t) v → (i : ℕ) × ((i < t .count) × (v ≡ pointAt t i))
   point-of v (inl m) = of-listing (placeAt (t .points)) (t .count) v (sound .pinned v m)
   point-of v (inr (z, inl m)) =
       let r = edge-of t (v, z) m in (firstEnd (tables.keyAt t (r .0)), (sound .within .ends (r .0) .0, firsts (r .1 .1)))
@@ -71,14 +71,14 @@ module _ {ms : List Macro} {ps : List Place} (t : Tree) (sound : Sound ms ps t) 
       let r = edge-of t (z, v) m in (secondEnd (tables.keyAt t (r .0)), (sound .within .ends (r .0) .1, seconds (r .1 .1)))
 
   -- every point but a single one has an edge
-  pub point-in : (i j : ℕ) → i < t .count → j < t .count → (i ≡ j → ⊥) → Point ps (edgesIn t) (pointAt t i)
+  pub point-in : (i j : ℕ) → i < t .count → j < t .count → (i ≡ j → ⊥) → Point (net .pins) (edgesIn t) (pointAt t i)
   point-in i j h k n =
       inr (has-link (λ e. n (point-one i j h k e))
       (sound .whole .joins (pointAt t i) (pointAt t j) (in-listing (placeAt (t .points)) (t .count) i h)
       (in-listing (placeAt (t .points)) (t .count) j k)))
 
   pub edge-before : (i j : ℕ) → i < j → j < t .edges .size → edgeBefore (edgeAt t i) (edgeAt t j) ≡ true
-  edge-before i j h k = edge-by (edgeAt t i) (edgeAt t j) (numbered ms ps t sound ranked .edges i j h k)
+  edge-before i j h k = edge-by (edgeAt t i) (edgeAt t j) (numbered net t sound ranked .edges i j h k)
 
   pub edge-not : (i j : ℕ) → i ≤ j → j < t .edges .size → edgeBefore (edgeAt t j) (edgeAt t i) ≡ false
   edge-not i j h k =
@@ -123,10 +123,10 @@ module _ {ms : List Macro} {ps : List Place} (t : Tree) (sound : Sound ms ps t) 
   longest-to {x} {qs} l p = record {
     step = step-to l (p .step);
     longest = λ e s. let r = edge-of t e (s .edge) in
-        subst (λ (z : Edge). edgeLength z ≤ edgeLength (edgeAt t l)) (sym (r .1 .1)) (p .longest (r .0) (at e s r));
+        subst (λ (z : Edge). edgeCost net z ≤ edgeCost net (edgeAt t l)) (sym (r .1 .1)) (p .longest (r .0) (at e s r));
     smallest = λ e s q. let r = edge-of t e (s .edge) in
         subst (λ (z : Edge). edgeBefore z (edgeAt t l) ≡ false) (sym (r .1 .1))
-        (edge-not l (r .0) (p .smallest (r .0) (at e s r) (ap edgeLength (sym (r .1 .1)) ∙ q)) (r .1 .0));
+        (edge-not l (r .0) (p .smallest (r .0) (at e s r) (ap edgeCost net (sym (r .1 .1)) ∙ q)) (r .1 .0));
   }
     where
       at : (e : Edge) → Step (edgesIn t) x qs e → (r : (k : ℕ) × ((k < t .edges .size) × (e ≡ edgeAt t k))) → tables.StepOf t x qs (r .0)
@@ -142,8 +142,8 @@ module _ {ms : List Macro} {ps : List Place} (t : Tree) (sound : Sound ms ps t) 
 
   -- Candidates with their gains
 
-  pub gain-to : (k u l g : ℕ) → tables.Gains ms t k u l g →
-      Gain ps ms (edgesIn t) (tables.endA t k) (tables.endB t k) (pointAt t u) (edgeAt t l) g
+  pub gain-to : (k u l g : ℕ) → tables.Gains net t k u l g →
+      Gain net (edgesIn t) (tables.endA t k) (tables.endB t k) (pointAt t u) (edgeAt t l) g
   gain-to k u l g x =
       let c = x .candidate in
       record {
@@ -165,7 +165,7 @@ module _ {ms : List Macro} {ps : List Place} (t : Tree) (sound : Sound ms ps t) 
       }
 
   gain-from : (k u l g : ℕ) → k < t .edges .size → u < t .count → l < t .edges .size →
-      Gain ps ms (edgesIn t) (tables.endA t k) (tables.endB t k) (pointAt t u) (edgeAt t l) g → tables.Gains ms t k u l g
+      Gain net (edgesIn t) (tables.endA t k) (tables.endB t k) (pointAt t u) (edgeAt t l) g → tables.Gains net t k u l g
   gain-from k u l g hk hu hl x =
       let c = x .candidate in
       record {
@@ -191,9 +191,9 @@ module _ {ms : List Macro} {ps : List Place} (t : Tree) (sound : Sound ms ps t) 
     pub l : ℕ
     pub edge : _≡_ {A = Edge} (a, b) (edgeAt t k)
     pub point : v ≡ pointAt t u
-    pub gains : tables.Gains ms t k u l g
+    pub gains : tables.Gains net t k u l g
 
-  pub gain-of : (a b v : Place) (e : Edge) (g : ℕ) → Gain ps ms (edgesIn t) a b v e g → ByNumber a b v e g
+  pub gain-of : (a b v : Place) (e : Edge) (g : ℕ) → Gain net (edgesIn t) a b v e g → ByNumber a b v e g
   gain-of a b v e g x =
       let r = edge-of t (a, b) (x .candidate .edge) in
       let p = point-of v (x .candidate .point) in
@@ -206,7 +206,7 @@ module _ {ms : List Macro} {ps : List Place} (t : Tree) (sound : Sound ms ps t) 
         point = p .1 .1;
         gains =
             gain-from (r .0) (p .0) (q .0) g (r .1 .0) (p .1 .0) (q .1 .0)
-            (subst (λ (z : Edge). Gain ps ms (edgesIn t) (tables.endA t (r .0)) (tables.endB t (r .0)) (pointAt t (p .0)) z g) (q .1 .1)
-            (subst (λ (z : Place). Gain ps ms (edgesIn t) (tables.endA t (r .0)) (tables.endB t (r .0)) z e g) (p .1 .1)
-            (subst (λ (z : Edge). Gain ps ms (edgesIn t) (z .0) (z .1) v e g) (r .1 .1) x)));
+            (subst (λ (z : Edge). Gain net (edgesIn t) (tables.endA t (r .0)) (tables.endB t (r .0)) (pointAt t (p .0)) z g) (q .1 .1)
+            (subst (λ (z : Place). Gain net (edgesIn t) (tables.endA t (r .0)) (tables.endB t (r .0)) z e g) (p .1 .1)
+            (subst (λ (z : Edge). Gain net (edgesIn t) (z .0) (z .1) v e g) (r .1 .1) x)));
       }

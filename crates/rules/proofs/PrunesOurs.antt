@@ -13,9 +13,9 @@ use borrow.Author.Tests.{ltb-true, ltb-false, eqb-true, eqb-false}
 use Rattle.lists.specs.Member.{_∈_}
 use Rattle.lists.proofs.TestLaws.{by, either, and-left, and-right}
 use Rattle.plane.specs.declared.Place.{Place}
-use Rattle.plane.specs.declared.Macro.{Macro}
 use Rattle.plane.specs.Flat.{placeAt}
 use Rattle.joined.specs.Joined.{Alike}
+use Rattle.net.specs.Net.{Net}
 use Rattle.refiner.specs.Turns.{turns}
 use Rattle.tree.specs.Table.{pointBound, firstEnd, secondEnd, Tree, Within}
 use Rattle.refiner.specs.Exchange.{closed}
@@ -35,8 +35,8 @@ use Rattle.rules.specs.Edges.{Edge}
 use Rattle.rules.specs.Refined.{EndOf, Loose, Strips, same, strip, Prunes}
 use Rattle.rules.proofs.GainOurs.{edgesIn, edgeAt, edge-in, edge-of, edge-one}
 
-module _ (pts : List ℤ) (n : ℕ) (o : InOrder pts n) (few : n ≤ pointBound) (ps : List Place) (pin : List ℕ)
-    (marked : (v : ℕ) → v < n → getD pin v 0 ≡ 0 → placeAt pts v ∈ ps → ⊥) where
+module _ (pts : List ℤ) (n : ℕ) (o : InOrder pts n) (few : n ≤ pointBound) (net : Net) (pin : List ℕ)
+    (marked : (v : ℕ) → v < n → getD pin v 0 ≡ 0 → placeAt pts v ∈ net .pins → ⊥) where
   -- the point v of the edge i goes
   module _ (ks : List ℕ) (w : Within n ks) (e i : ℕ) (hi : i ≤ e) (v z : ℕ)
       (ends : Alike v z (firstEnd (getD ks i 0)) (secondEnd (getD ks i 0)))
@@ -62,7 +62,7 @@ module _ (pts : List ℤ) (n : ℕ) (o : InOrder pts n) (few : n ≤ pointBound)
     its-end (inl h) = inl (ap (placeAt pts) (h .0))
     its-end (inr h) = inr (ap (placeAt pts) (h .0))
 
-    is-loose : Loose ps (edgesOf pts ks (suc e)) (placeAt pts v) (endsOf pts (getD ks i 0))
+    is-loose : Loose net (edgesOf pts ks (suc e)) (placeAt pts v) (endsOf pts (getD ks i 0))
     unfolding loose
     is-loose = record {
       free = marked v (low ends) (eqb-true _ _ (and-left _ _ is));
@@ -83,11 +83,11 @@ module _ (pts : List ℤ) (n : ℕ) (o : InOrder pts n) (few : n ≤ pointBound)
       λ h. either (λ q. absurd (h .1 q)) (λ m. m) (kept pts n o few ks w e i hi (f .0) (f .1) (h .0)),
     )
 
-    goes : {R : List Edge} → Strips ps (edgesOf pts (closed i e ks) e) R → Strips ps (edgesOf pts ks (suc e)) R
+    goes : {R : List Edge} → Strips net (edgesOf pts (closed i e ks) e) R → Strips net (edgesOf pts ks (suc e)) R
     goes s = strip (placeAt pts v) (endsOf pts (getD ks i 0)) is-loose left s
 
   strips-ours : (e : ℕ) (ks : List ℕ) → Within n ks →
-      Strips ps (edgesOf pts ks e) (edgesOf pts (prune pin ks e .keys) (prune pin ks e .size))
+      Strips net (edgesOf pts ks e) (edgesOf pts (prune pin ks e .keys) (prune pin ks e .size))
   unfolding prune looseEdge
   strips-ours zero ks w = same (λ f m. m, λ f m. m)
   strips-ours (suc e) ks w =
@@ -112,14 +112,14 @@ rising-one ks e i j r h k q =
     by (ltb j i) (λ s. absurd (let z : ⊥ = omega (arith, r .rising j i (ltb-true j i s) h, q) in z)) λ s.
     omega (arith, ltb-false i j t, ltb-false j i s)
 
-module _ {ms : List Macro} {ps : List Place} (t : Tree) (sound : Sound ms ps t) (ranked : Ranked (t .edges .keys) (t .edges .size))
+module _ {net : Net} (t : Tree) (sound : Sound net t) (ranked : Ranked (t .edges .keys) (t .edges .size))
     (few : t .count ≤ pointBound) where
   -- two edges of what is left are one where their ends are
-  left-one : (i j : ℕ) → i < pruned ps t .edges .size → j < pruned ps t .edges .size → edgeAt (pruned ps t) i ≡ edgeAt (pruned ps t) j → i
+  left-one : (i j : ℕ) → i < pruned (net .pins) t .edges .size → j < pruned (net .pins) t .edges .size → edgeAt (pruned (net .pins) t) i ≡ edgeAt (pruned (net .pins) t) j → i
       ≡ j
   unfolding pruned
   left-one i j h k q =
-      let pin = marks ps (t .points) (t .count) in
+      let pin = marks (net .pins) (t .points) (t .count) in
       let a = pruned-was pin (t .edges .size) (t .edges .keys) i h in
       let b = pruned-was pin (t .edges .size) (t .edges .keys) j k in
       let e = edge-one t sound ranked (a .0) (b .0) (a .1 .0) (b .1 .0)
@@ -129,38 +129,38 @@ module _ {ms : List Macro} {ps : List Place} (t : Tree) (sound : Sound ms ps t) 
       (a .1 .1 ∙ ap (λ (x : ℕ). getD (t .edges .keys) x 0) e ∙ sym (b .1 .1))
 
   -- the point v of the edge i of what is left is not loose
-  not-loose : (v i : ℕ) → i < pruned ps t .edges .size → tables.EndOf (pruned ps t) v i →
-      Loose ps (edgesIn (pruned ps t)) (placeAt (pruned ps t .points) v) (edgeAt (pruned ps t) i) → ⊥
+  not-loose : (v i : ℕ) → i < pruned (net .pins) t .edges .size → tables.EndOf (pruned (net .pins) t) v i →
+      Loose net (edgesIn (pruned (net .pins) t)) (placeAt (pruned (net .pins) t .points) v) (edgeAt (pruned (net .pins) t) i) → ⊥
   not-loose v i h q l =
-      let r = pruned-left ms ps t sound few .two v i h q (l .free) in
-      r .1 .1 .0 (left-one (r .0) i (r .1 .0) h (l .single (edgeAt (pruned ps t) (r .0)) (edge-in (pruned ps t) (r .0) (r .1 .0))
+      let r = pruned-left net t sound few .two v i h q (l .free) in
+      r .1 .1 .0 (left-one (r .0) i (r .1 .0) h (l .single (edgeAt (pruned (net .pins) t) (r .0)) (edge-in (pruned (net .pins) t) (r .0) (r .1 .0))
       (at (r .0) (r .1 .1 .1))))
     where
-      at : (j : ℕ) → tables.EndOf (pruned ps t) v j → EndOf (placeAt (pruned ps t .points) v) (edgeAt (pruned ps t) j)
-      at j (inl e) = inl (ap (placeAt (pruned ps t .points)) e)
-      at j (inr e) = inr (ap (placeAt (pruned ps t .points)) e)
+      at : (j : ℕ) → tables.EndOf (pruned (net .pins) t) v j → EndOf (placeAt (pruned (net .pins) t .points) v) (edgeAt (pruned (net .pins) t) j)
+      at j (inl e) = inl (ap (placeAt (pruned (net .pins) t .points)) e)
+      at j (inr e) = inr (ap (placeAt (pruned (net .pins) t .points)) e)
 
-  none-loose : (v : Place) (e : Edge) → Loose ps (edgesIn (pruned ps t)) v e → ⊥
-  none-loose v e l = at (edge-of (pruned ps t) e (l .edge))
+  none-loose : (v : Place) (e : Edge) → Loose net (edgesIn (pruned (net .pins) t)) v e → ⊥
+  none-loose v e l = at (edge-of (pruned (net .pins) t) e (l .edge))
     where
-      at : (i : ℕ) × ((i < pruned ps t .edges .size) × (e ≡ edgeAt (pruned ps t) i)) → ⊥
+      at : (i : ℕ) × ((i < pruned (net .pins) t .edges .size) × (e ≡ edgeAt (pruned (net .pins) t) i)) → ⊥
       at r = which (subst (EndOf v) (r .1 .1) (l .end))
         where
-          which : EndOf v (edgeAt (pruned ps t) (r .0)) → ⊥
+          which : EndOf v (edgeAt (pruned (net .pins) t) (r .0)) → ⊥
           which (inl q) =
-              not-loose (firstEnd (tables.keyAt (pruned ps t) (r .0))) (r .0) (r .1 .0) (inl refl)
-              (subst (λ (x : Place). Loose ps (edgesIn (pruned ps t)) x (edgeAt (pruned ps t) (r .0))) q
-              (subst (Loose ps (edgesIn (pruned ps t)) v) (r .1 .1) l))
+              not-loose (firstEnd (tables.keyAt (pruned (net .pins) t) (r .0))) (r .0) (r .1 .0) (inl refl)
+              (subst (λ (x : Place). Loose net (edgesIn (pruned (net .pins) t)) x (edgeAt (pruned (net .pins) t) (r .0))) q
+              (subst (Loose net (edgesIn (pruned (net .pins) t)) v) (r .1 .1) l))
           which (inr q) =
-              not-loose (secondEnd (tables.keyAt (pruned ps t) (r .0))) (r .0) (r .1 .0) (inr refl)
-              (subst (λ (x : Place). Loose ps (edgesIn (pruned ps t)) x (edgeAt (pruned ps t) (r .0))) q
-              (subst (Loose ps (edgesIn (pruned ps t)) v) (r .1 .1) l))
+              not-loose (secondEnd (tables.keyAt (pruned (net .pins) t) (r .0))) (r .0) (r .1 .0) (inr refl)
+              (subst (λ (x : Place). Loose net (edgesIn (pruned (net .pins) t)) x (edgeAt (pruned (net .pins) t) (r .0))) q
+              (subst (Loose net (edgesIn (pruned (net .pins) t)) v) (r .1 .1) l))
 
-  strips : Strips ps (edgesIn t) (edgesIn (pruned ps t))
+  strips : Strips net (edgesIn t) (edgesIn (pruned (net .pins) t))
   unfolding pruned
   strips =
-      strips-ours (t .points) (t .count) (sound .ordered) few ps (marks ps (t .points) (t .count)) (unmarked ps (t .points) (t .count) few)
+      strips-ours (t .points) (t .count) (sound .ordered) few (net .pins) (marks (net .pins) (t .points) (t .count)) (unmarked (net .pins) (t .points) (t .count) few)
       (t .edges .size) (t .edges .keys) (sound .within)
 
-  pub prunes-ours : Prunes ps (edgesIn t) (edgesIn (pruned ps t))
+  pub prunes-ours : Prunes net (edgesIn t) (edgesIn (pruned (net .pins) t))
   prunes-ours = record { strips = strips; none = none-loose }

@@ -7,10 +7,9 @@ use lib.ListN.{length}
 use Rattle.lists.specs.Sorted.{Ascending}
 use Rattle.lists.proofs.SortedLaws.{ascending-same}
 use Rattle.plane.specs.declared.Place.{Place}
-use Rattle.plane.specs.declared.Macro.{Macro}
-use Rattle.plane.specs.Distance.{distance}
 use Rattle.joined.specs.Cost.{lengths}
 use Rattle.net.specs.Allowed.{Allowed}
+use Rattle.net.specs.Net.{Net, costIn}
 use Rattle.graph.specs.Edges.{beforeEdge}
 use Rattle.graph.proofs.VertexLaws.{length-vertices}
 use Rattle.tree.specs.Table.{Tree}
@@ -34,63 +33,63 @@ use Rattle.rules.proofs.TerminalOurs.{ourPaths}
 use Rattle.rules.proofs.BestLaws.{paths-total}
 use Rattle.rules.proofs.StartOurs.{start-ours, start-only}
 
-module _ {ps : List Place} {ms : List Macro} (a : Allowed ps ms) where
+module _ {net : Net} (a : Allowed net) where
   abbrev ourTree : Tree
-  ourTree = refined ms ps (unionOf ps ms)
+  ourTree = refined net (unionOf net)
 
-  fit : Fit ms ps (length ps) (unionOf ps ms)
+  fit : Fit net (length (net .pins)) (unionOf net)
   fit = record { sound = union-sound a; ranked = union-ranked a; few = union-room a; room = union-points a; rooms = union-keys a }
 
   in-order : Ascending edgeBefore (treeEdges ourTree)
   unfolding beforeEdge
-  in-order = promised-edges ms ps (unionOf ps ms) ourTree (union-promise a) (union-tabled a) _ refl .ordered
+  in-order = promised-edges net (unionOf net) ourTree (union-promise a) (union-tabled a) _ refl .ordered
 
   -- the edges that are given are the refined tree
-  pub refined-ours : Refined ps ms (ourPaths a) (treeEdges ourTree)
+  pub refined-ours : Refined net (ourPaths a) (treeEdges ourTree)
   refined-ours =
-      let r = refines-ours (unionOf ps ms) fit in
+      let r = refines-ours (unionOf net) fit in
       record {
-        start = edgesIn (unionOf ps ms);
+        start = edgesIn (unionOf net);
         union = start-ours a;
         refines = record { rounded = r .rounded; rounds = r .rounds; prunes = prunes-same (r .prunes) (edges-same ourTree) };
         in-order = in-order;
       }
 
   -- whatever is a union of the kept paths has the edges that are started with
-  start-is : (T : List Edge) {rs : List Edge} (r : Refined ps ms (ourPaths a) rs) → T ≡ r .start → Same (edgesIn (unionOf ps ms)) T
+  start-is : (T : List Edge) {rs : List Edge} (r : Refined net (ourPaths a) rs) → T ≡ r .start → Same (edgesIn (unionOf net)) T
   start-is T r e =
-      subst (λ (S : List Edge). Same (edgesIn (unionOf ps ms)) S) (sym e)
-      (start-only (ourPaths a) (edgesIn (unionOf ps ms)) (r .start) (start-ours a) (r .union))
+      subst (λ (S : List Edge). Same (edgesIn (unionOf net)) S) (sym e)
+      (start-only (ourPaths a) (edgesIn (unionOf net)) (r .start) (start-ours a) (r .union))
 
   -- and there is no other
-  pub refined-only : (rs : List Edge) → Refined ps ms (ourPaths a) rs → rs ≡ treeEdges ourTree
+  pub refined-only : (rs : List Edge) → Refined net (ourPaths a) rs → rs ≡ treeEdges ourTree
   refined-only rs r =
-      let h = refines-only (unionOf ps ms) fit (r .start) rs (start-is (r .start) r refl) (r .refines) in
+      let h = refines-only (unionOf net) fit (r .start) rs (start-is (r .start) r refl) (r .refines) in
       let k = same-then (same-turn h) (edges-same ourTree) in
       ascending-same edgeBefore edge-order rs (treeEdges ourTree) (r .in-order) in-order (k .0) (k .1)
 
   -- every tree on the way there is one tree, its points the pins and the ends of its edges
-  pub between-trees : (rs : List Edge) (r : Refined ps ms (ourPaths a) rs) →
-      TreesThrough ps ms (length ps) (r .start) (r .refines .rounded) (r .refines .rounds)
+  pub between-trees : (rs : List Edge) (r : Refined net (ourPaths a) rs) →
+      TreesThrough net (length (net .pins)) (r .start) (r .refines .rounded) (r .refines .rounds)
   between-trees rs r =
-      rounds-trees (length ps) (unionOf ps ms) fit (r .start) (r .refines .rounded) (start-is (r .start) r refl) (r .refines .rounds)
+      rounds-trees (length (net .pins)) (unionOf net) fit (r .start) (r .refines .rounded) (start-is (r .start) r refl) (r .refines .rounds)
 
   -- and each round makes it shorter by its gain
-  pub falls-between : (rs : List Edge) (r : Refined ps ms (ourPaths a) rs) →
-      FallsThrough ps ms (length ps) (r .start) (r .refines .rounded) (r .refines .rounds)
+  pub falls-between : (rs : List Edge) (r : Refined net (ourPaths a) rs) →
+      FallsThrough net (length (net .pins)) (r .start) (r .refines .rounded) (r .refines .rounds)
   falls-between rs r =
-      rounds-fall (length ps) (unionOf ps ms) fit (r .start) (r .refines .rounded) (start-is (r .start) r refl) (r .refines .rounds)
+      rounds-fall (length (net .pins)) (unionOf net) fit (r .start) (r .refines .rounded) (start-is (r .start) r refl) (r .refines .rounds)
 
   -- D3, its last sentence
-  pub refined-tree : RefinedTree ps ms (ourPaths a) (treeEdges ourTree)
+  pub refined-tree : RefinedTree net (ourPaths a) (treeEdges ourTree)
   refined-tree =
-      let g = promised-edges ms ps (unionOf ps ms) ourTree (union-promise a) (union-tabled a) (lengths distance (treeEdges ourTree))
+      let g = promised-edges net (unionOf net) ourTree (union-promise a) (union-tabled a) (lengths (costIn net) (treeEdges ourTree))
       (edges-metal (ourTree .points) (ourTree .edges .keys) (ourTree .edges .size)) in
       record {
         one = g .one;
         clear-edges = g .free;
         smaller-first = g .smaller;
         in-order = in-order;
-        no-longer = omega (arith, g .less, tree-metal (unionOf ps ms), union-metal a, paths-total a);
-        few = omega (arith, g .few, union-few a, length-vertices ps ms);
+        no-longer = omega (arith, g .less, tree-metal (unionOf net), union-metal a, paths-total a);
+        few = omega (arith, g .few, union-few a, length-verticesOf net);
       }

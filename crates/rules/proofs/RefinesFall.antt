@@ -14,11 +14,10 @@ use Rattle.lists.proofs.TestLaws.{by}
 use Rattle.lists.proofs.MemberLaws.{in-reverse, of-reverse}
 use Rattle.lists.proofs.SortedLaws.{ascending-same}
 use Rattle.plane.specs.declared.Place.{Place}
-use Rattle.plane.specs.declared.Macro.{Macro}
-use Rattle.plane.specs.Distance.{distance}
 use Rattle.plane.proofs.PlaceOrder.{place-same}
 use Rattle.joined.specs.Cost.{lengths}
 use Rattle.joined.proofs.TreeLaws.{tree-cuts}
+use Rattle.net.specs.Net.{Net, costIn}
 use Rattle.graph.specs.Edges.{beforeEdge}
 use Rattle.tree.specs.Table.{Tree}
 use Rattle.tree.specs.Places.{metalOf}
@@ -47,48 +46,48 @@ edges-same t = (
     reversed = edges-reversed (t .points) (t .edges .keys) (t .edges .size)
 
 -- the sum of a tree's edges, either way of saying it
-pub tree-metal : (t : Tree) → lengths distance (treeEdges t) ≡ metalOf t
+pub tree-metal : (t : Tree) → lengths (costIn net) (treeEdges t) ≡ metalOf t
 tree-metal t = edges-metal (t .points) (t .edges .keys) (t .edges .size) ∙ metal-of (t .points) (t .count) (t .edges .keys) (t .edges .size)
 
-module _ {ms : List Macro} {ps : List Place} where
-  tree-in-order : (m : ℕ) (t : Tree) → Fit ms ps m t → Ascending edgeBefore (treeEdges t)
+module _ {net : Net} where
+  tree-in-order : (m : ℕ) (t : Tree) → Fit net m t → Ascending edgeBefore (treeEdges t)
   unfolding beforeEdge
   tree-in-order m t fit =
       edges-ascending (t .points) (t .edges .keys) (t .count) (fit .sound .ordered) (fit .sound .within) (t .edges .size) (fit .ranked)
       (t .edges .size) 0 (omega arith)
 
   -- an ascending list of a table's edges has their sum
-  sum-is : (m : ℕ) (t : Tree) → Fit ms ps m t → (T : List Edge) → Ascending edgeBefore T → Same (edgesIn t) T → lengths distance T
+  sum-is : (m : ℕ) (t : Tree) → Fit net m t → (T : List Edge) → Ascending edgeBefore T → Same (edgesIn t) T → lengths (costIn net) T
       ≡ metalOf t
   sum-is m t fit T o h =
       let k = same-then (same-turn h) (edges-same t) in
-      ap (lengths distance) (ascending-same edgeBefore edge-order T (treeEdges t) o (tree-in-order m t fit) (k .0) (k .1)) ∙ tree-metal t
+      ap (lengths (costIn net)) (ascending-same edgeBefore edge-order T (treeEdges t) o (tree-in-order m t fit) (k .0) (k .1)) ∙ tree-metal t
 
-  tables-fall : (m : ℕ) (t : Tree) → Fit ms ps (suc m) t → (foundIn ms t .gain ≡ 0 → ⊥) → metalOf (exchanged ms t) + foundIn ms t .gain
+  tables-fall : (m : ℕ) (t : Tree) → Fit net (suc m) t → (foundIn net t .gain ≡ 0 → ⊥) → metalOf (exchanged net t) + foundIn net t .gain
       ≡ metalOf t
   tables-fall m t fit some =
       let few = fit .few in
       let win = found-wins ms (t .points) (t .count) (t .edges .keys) (t .edges .size) (omega arith) in
-      round-falls ms ps (t .points) (t .count) (t .edges .keys) (omega arith) (fit .room) (fit .rooms) (foundIn ms t) (t .edges .size)
+      round-falls net (t .points) (t .count) (t .edges .keys) (omega arith) (fit .room) (fit .rooms) (foundIn net t) (t .edges .size)
       (fit .sound) win
 
-  pub rounds-fall : (m : ℕ) (t : Tree) → Fit ms ps m t → (T U : List Edge) → Same (edgesIn t) T →
-      (r : Rounds ps ms m T U) → FallsThrough ps ms m T U r
+  pub rounds-fall : (m : ℕ) (t : Tree) → Fit net m t → (T U : List Edge) → Same (edgesIn t) T →
+      (r : Rounds net m T U) → FallsThrough net m T U r
   rounds-fall zero t fit T U h r = tt
   rounds-fall (suc m) t fit T U h (inl r) = tt
   rounds-fall (suc m) t fit T U h (inr (X, (r, more))) =
-      by (eqb (foundIn ms t .gain) 0)
+      by (eqb (foundIn net t .gain) 0)
       (λ q. absurd (no-gain (suc m) t fit (eqb-true _ _ q) (r .a) (r .b) (r .u) (r .l) (r .g) (gain-same (same-turn h) (r .takes .taken))))
       (λ q.
-      let some : foundIn ms t .gain ≡ 0 → ⊥ = eqb-false _ _ q in
+      let some : foundIn net t .gain ≡ 0 → ⊥ = eqb-false _ _ q in
       let cuts = tree-cuts place-same (fit .sound .whole) in
       let next = round-only cuts h (some-gain m t fit some) r in
       let few = fit .few in
-      let mine = takes-ours t (fit .sound) (fit .ranked) (foundIn ms t) (found-takes ms ps t (fit .sound) (omega arith)) (omega arith) in
-      let g : r .g ≡ foundIn ms t .gain = gains-one cuts mine (takes-same (same-turn h) (r .takes)) in (
+      let mine = takes-ours t (fit .sound) (fit .ranked) (foundIn net t) (found-takes net t (fit .sound) (omega arith)) (omega arith) in
+      let g : r .g ≡ foundIn net t .gain = gains-one cuts mine (takes-same (same-turn h) (r .takes)) in (
         λ before after o p s u.
             let old = sum-is (suc m) t fit before o (same-then h s) in
-            let new = sum-is m (exchanged ms t) (fit-next m t fit some) after p (same-then next u) in
+            let new = sum-is m (exchanged net t) (fit-next m t fit some) after p (same-then next u) in
             omega (arith, old, new, g, tables-fall m t fit some),
-        rounds-fall m (exchanged ms t) (fit-next m t fit some) X U next more,
+        rounds-fall m (exchanged net t) (fit-next m t fit some) X U next more,
       ))

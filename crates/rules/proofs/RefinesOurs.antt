@@ -10,9 +10,9 @@ use lib.ListN.{length}
 use borrow.Author.Tests.{eqb-true, eqb-false}
 use Rattle.lists.proofs.TestLaws.{by}
 use Rattle.plane.specs.declared.Place.{Place}
-use Rattle.plane.specs.declared.Macro.{Macro}
 use Rattle.joined.proofs.TreeLaws.{tree-cuts}
 use Rattle.plane.proofs.PlaceOrder.{place-same}
+use Rattle.net.specs.Net.{Net}
 use Rattle.tree.specs.Table.{pointBound, Tree}
 use Rattle.refiner.specs.Refined as tables
 use Rattle.tree.specs.Places.{Ranked, Sound}
@@ -31,30 +31,30 @@ use Rattle.rules.proofs.RoundOurs.{round-ours}
 use Rattle.rules.proofs.PrunesOurs.{prunes-ours}
 
 -- a tree that is fit for m rounds: sound, its edges in order, with room for a point a round
-pub record Fit (ms : List Macro) (ps : List Place) (m : ℕ) (t : Tree) : Type 0 where
-  pub sound : Sound ms ps t
+pub record Fit (net : Net) (m : ℕ) (t : Tree) : Type 0 where
+  pub sound : Sound net t
   pub ranked : Ranked (t .edges .keys) (t .edges .size)
   pub few : t .count + m ≤ pointBound
   pub room : length (t .points) ≡ pointBound * 2
   pub rooms : length (t .edges .keys) ≡ pointBound
 
-module _ {ms : List Macro} {ps : List Place} where
+module _ {net : Net} where
   -- the tables find no gain where there is none
-  pub no-gain : (m : ℕ) (t : Tree) → Fit ms ps m t → foundIn ms t .gain ≡ 0 → NoGain ps ms (edgesIn t)
+  pub no-gain : (m : ℕ) (t : Tree) → Fit net m t → foundIn net t .gain ≡ 0 → NoGain net (edgesIn t)
   no-gain m t fit q a b v e g x =
       let few = fit .few in
       let r = gain-of t (fit .sound) (fit .ranked) a b v e g x in
-      found-takes ms ps t (fit .sound) (omega arith) .none q (r .k) (r .u) (r .l) g (r .gains)
+      found-takes net t (fit .sound) (omega arith) .none q (r .k) (r .u) (r .l) g (r .gains)
 
-  pub some-gain : (m : ℕ) (t : Tree) → Fit ms ps (suc m) t → (foundIn ms t .gain ≡ 0 → ⊥) →
-      Round ps ms (edgesIn t) (edgesIn (exchanged ms t))
+  pub some-gain : (m : ℕ) (t : Tree) → Fit net (suc m) t → (foundIn net t .gain ≡ 0 → ⊥) →
+      Round net (edgesIn t) (edgesIn (exchanged net t))
   some-gain m t fit n = let few = fit .few in round-ours t (fit .sound) (fit .ranked) (omega arith) (fit .room) (fit .rooms) (omega arith)
 
-  pub fit-next : (m : ℕ) (t : Tree) → Fit ms ps (suc m) t → (foundIn ms t .gain ≡ 0 → ⊥) → Fit ms ps m (exchanged ms t)
+  pub fit-next : (m : ℕ) (t : Tree) → Fit net (suc m) t → (foundIn net t .gain ≡ 0 → ⊥) → Fit net m (exchanged net t)
   fit-next m t fit n =
       let few = fit .few in
       let win = found-wins ms (t .points) (t .count) (t .edges .keys) (t .edges .size) (omega arith) in
-      let k = round-kept ms ps (t .points) (t .count) (t .edges .keys) (omega arith) (fit .room) (fit .rooms) (foundIn ms t)
+      let k = round-kept net (t .points) (t .count) (t .edges .keys) (omega arith) (fit .room) (fit .rooms) (foundIn net t)
       (t .edges .size) (fit .sound) win in
       record {
         sound = k .sound;
@@ -66,43 +66,43 @@ module _ {ms : List Macro} {ps : List Place} where
 
   -- Rounds
 
-  rounds-ours : (m : ℕ) (t : Tree) → Fit ms ps m t → Rounds ps ms m (edgesIn t) (edgesIn (tables.rounds ms m t))
+  rounds-ours : (m : ℕ) (t : Tree) → Fit net m t → Rounds net m (edgesIn t) (edgesIn (tables.rounds (net .weights) (net .macros) m t))
   unfolding tables.rounds
   rounds-ours zero t fit = (λ e i. i, λ e i. i)
   rounds-ours (suc m) t fit =
-      by (eqb (foundIn ms t .gain) 0)
+      by (eqb (foundIn net t .gain) 0)
       (λ q.
-      let none : foundIn ms t .gain ≡ 0 = eqb-true _ _ q in
-      subst (λ (z : Tree). Rounds ps ms (suc m) (edgesIn t) (edgesIn z)) (sym (rounds-none ms (suc m) t none))
+      let none : foundIn net t .gain ≡ 0 = eqb-true _ _ q in
+      subst (λ (z : Tree). Rounds net (suc m) (edgesIn t) (edgesIn z)) (sym (rounds-none ms (suc m) t none))
       (inl (no-gain (suc m) t fit none, (λ e i. i, λ e i. i))))
       (λ q.
-      let some : foundIn ms t .gain ≡ 0 → ⊥ = eqb-false _ _ q in
-      subst (λ (z : Tree). Rounds ps ms (suc m) (edgesIn t) (edgesIn z)) (sym (rounds-some ms m t some))
-      (inr (edgesIn (exchanged ms t), (some-gain m t fit some, rounds-ours m (exchanged ms t) (fit-next m t fit some)))))
+      let some : foundIn net t .gain ≡ 0 → ⊥ = eqb-false _ _ q in
+      subst (λ (z : Tree). Rounds net (suc m) (edgesIn t) (edgesIn z)) (sym (rounds-some ms m t some))
+      (inr (edgesIn (exchanged net t), (some-gain m t fit some, rounds-ours m (exchanged net t) (fit-next m t fit some)))))
 
-  rounds-only : (m : ℕ) (t : Tree) → Fit ms ps m t → (T U : List Edge) → Same (edgesIn t) T → Rounds ps ms m T U →
-      Same (edgesIn (tables.rounds ms m t)) U
+  rounds-only : (m : ℕ) (t : Tree) → Fit net m t → (T U : List Edge) → Same (edgesIn t) T → Rounds net m T U →
+      Same (edgesIn (tables.rounds (net .weights) (net .macros) m t)) U
   unfolding tables.rounds
   rounds-only zero t fit T U h r = same-then h r
   rounds-only (suc m) t fit T U h r =
-      by (eqb (foundIn ms t .gain) 0)
+      by (eqb (foundIn net t .gain) 0)
       (λ q.
-      let none : foundIn ms t .gain ≡ 0 = eqb-true _ _ q in
+      let none : foundIn net t .gain ≡ 0 = eqb-true _ _ q in
       subst (λ (z : Tree). Same (edgesIn z) U) (sym (rounds-none ms (suc m) t none)) (still (no-gain (suc m) t fit none) r))
       (λ q.
-      let some : foundIn ms t .gain ≡ 0 → ⊥ = eqb-false _ _ q in
+      let some : foundIn net t .gain ≡ 0 → ⊥ = eqb-false _ _ q in
       subst (λ (z : Tree). Same (edgesIn z) U) (sym (rounds-some ms m t some)) (moves some
-      (λ X. rounds-only m (exchanged ms t) (fit-next m t fit some) X U) r))
+      (λ X. rounds-only m (exchanged net t) (fit-next m t fit some) X U) r))
     where
-      still : NoGain ps ms (edgesIn t) → Rounds ps ms (suc m) T U → Same (edgesIn t) U
+      still : NoGain net (edgesIn t) → Rounds net (suc m) T U → Same (edgesIn t) U
       still none (inl s) = same-then h (s .1)
       still none (inr (X, (s, more))) =
           absurd (none (s .a) (s .b) (s .u) (s .l) (s .g) (gain-same (same-turn h) (s .takes .taken)))
 
-      moves : (foundIn ms t .gain ≡ 0 → ⊥) →
-          ((X : List Edge) → Same (edgesIn (exchanged ms t)) X → Rounds ps ms m X U →
-          Same (edgesIn (tables.rounds ms m (exchanged ms t))) U) →
-          Rounds ps ms (suc m) T U → Same (edgesIn (tables.rounds ms m (exchanged ms t))) U
+      moves : (foundIn net t .gain ≡ 0 → ⊥) →
+          ((X : List Edge) → Same (edgesIn (exchanged net t)) X → Rounds net m X U →
+          Same (edgesIn (tables.rounds (net .weights) (net .macros) m (exchanged net t))) U) →
+          Rounds net (suc m) T U → Same (edgesIn (tables.rounds (net .weights) (net .macros) m (exchanged net t))) U
       moves some next (inl s) =
           let o = some-gain m t fit some in
           absurd (s .0 (o .a) (o .b) (o .u) (o .l) (o .g) (gain-same h (o .takes .taken)))
@@ -111,20 +111,20 @@ module _ {ms : List Macro} {ps : List Place} where
 
   -- The refined tree
 
-  module _ (t : Tree) (fit : Fit ms ps (length ps) t) where
-    kept : Kept ms ps t (tables.rounds ms (length ps) t) (length ps)
-    kept = rounds-kept ms ps (length ps) t (fit .sound) (fit .few) (fit .room) (fit .rooms)
+  module _ (t : Tree) (fit : Fit net (length (net .pins)) t) where
+    kept : Kept net t (tables.rounds (net .weights) (net .macros) (length (net .pins)) t) (length (net .pins))
+    kept = rounds-kept net (length (net .pins)) t (fit .sound) (fit .few) (fit .room) (fit .rooms)
 
-    prunes : Prunes ps (edgesIn (tables.rounds ms (length ps) t)) (edgesIn (tables.refined ms ps t))
+    prunes : Prunes net (edgesIn (tables.rounds (net .weights) (net .macros) (length (net .pins)) t)) (edgesIn (tables.refined net t))
     unfolding tables.refined
     prunes =
         let few = fit .few in
-        prunes-ours (tables.rounds ms (length ps) t) (kept .sound) (kept .ranked (fit .ranked)) (omega (arith, kept .points))
+        prunes-ours (tables.rounds (net .weights) (net .macros) (length (net .pins)) t) (kept .sound) (kept .ranked (fit .ranked)) (omega (arith, kept .points))
 
     -- what the definitions work out is a solution
-    pub refines-ours : Refines ps ms (edgesIn t) (edgesIn (tables.refined ms ps t))
-    refines-ours = record { rounded = edgesIn (tables.rounds ms (length ps) t); rounds = rounds-ours (length ps) t fit; prunes = prunes }
+    pub refines-ours : Refines net (edgesIn t) (edgesIn (tables.refined net t))
+    refines-ours = record { rounded = edgesIn (tables.rounds (net .weights) (net .macros) (length (net .pins)) t); rounds = rounds-ours (length (net .pins)) t fit; prunes = prunes }
 
     -- and every solution has its edges
-    pub refines-only : (T R : List Edge) → Same (edgesIn t) T → Refines ps ms T R → Same (edgesIn (tables.refined ms ps t)) R
-    refines-only T R h r = prunes-only (rounds-only (length ps) t fit T (r .rounded) h (r .rounds)) prunes (r .prunes)
+    pub refines-only : (T R : List Edge) → Same (edgesIn t) T → Refines net T R → Same (edgesIn (tables.refined net t)) R
+    refines-only T R h r = prunes-only (rounds-only (length (net .pins)) t fit T (r .rounded) h (r .rounds)) prunes (r .prunes)

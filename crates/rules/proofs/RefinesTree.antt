@@ -9,7 +9,6 @@ use lib.Dec.{eqb}
 use borrow.Author.Tests.{eqb-true, eqb-false}
 use Rattle.lists.proofs.TestLaws.{by}
 use Rattle.plane.specs.declared.Place.{Place}
-use Rattle.plane.specs.declared.Macro.{Macro}
 use Rattle.plane.specs.Flat.{placeAt}
 use Rattle.plane.proofs.PlaceOrder.{place-same}
 use Rattle.joined.specs.Joined.{Inside}
@@ -18,6 +17,7 @@ use Rattle.joined.proofs.JoinedLaws.{firsts, seconds}
 use Rattle.joined.proofs.TreeLaws.{tree-cuts}
 use Rattle.joined.proofs.WayLaws.{way-more}
 use Rattle.joined.proofs.OneTreeLaws.{tree-one}
+use Rattle.net.specs.Net.{Net}
 use Rattle.tree.specs.Table.{Tree}
 use Rattle.tree.specs.Places.{pointsOf, Sound}
 use Rattle.refiner.specs.Sentences.{foundIn, exchanged}
@@ -38,8 +38,8 @@ one-tree-same ps h tree x y i k n =
       only = λ qs v o. w .only qs (way-more (h .1) v) o;
     }
 
-sound-tree : {ms : List Macro} {ps : List Place} (t : Tree) → Sound ms ps t → OneTree ps (edgesIn t)
-sound-tree {ms} {ps} t s = tree-one place-same (s .whole) inside ps (s .pinned)
+sound-tree : {net : Net} (t : Tree) → Sound net t → OneTree (net .pins) (edgesIn t)
+sound-tree {net} t s = tree-one place-same (s .whole) inside (net .pins) (s .pinned)
   where
     inside : Inside (pointsOf (t .points) (t .count)) (edgesIn t)
     inside c d m =
@@ -48,16 +48,16 @@ sound-tree {ms} {ps} t s = tree-one place-same (s .whole) inside ps (s .pinned)
           Memᴰ·cast (seconds (r .1 .1)) (in-listing (placeAt (t .points)) (t .count) _ (s .within .ends (r .0) .1)),
         )
 
-pub rounds-trees : {ms : List Macro} {ps : List Place} (m : ℕ) (t : Tree) → Fit ms ps m t → (T U : List Edge) → Same (edgesIn t) T →
-    (r : Rounds ps ms m T U) → TreesThrough ps ms m T U r
-rounds-trees {ms} {ps} zero t fit T U h r = one-tree-same ps h (sound-tree t (fit .sound))
-rounds-trees {ms} {ps} (suc m) t fit T U h (inl r) = one-tree-same ps h (sound-tree t (fit .sound))
-rounds-trees {ms} {ps} (suc m) t fit T U h (inr (X, (r, more))) = (
-  one-tree-same ps h (sound-tree t (fit .sound)),
-  by (eqb (foundIn ms t .gain) 0)
+pub rounds-trees : {net : Net} (m : ℕ) (t : Tree) → Fit net m t → (T U : List Edge) → Same (edgesIn t) T →
+    (r : Rounds net m T U) → TreesThrough net m T U r
+rounds-trees {net} zero t fit T U h r = one-tree-same (net .pins) h (sound-tree t (fit .sound))
+rounds-trees {net} (suc m) t fit T U h (inl r) = one-tree-same (net .pins) h (sound-tree t (fit .sound))
+rounds-trees {net} (suc m) t fit T U h (inr (X, (r, more))) = (
+  one-tree-same (net .pins) h (sound-tree t (fit .sound)),
+  by (eqb (foundIn net t .gain) 0)
       (λ q. absurd (no-gain (suc m) t fit (eqb-true _ _ q) (r .a) (r .b) (r .u) (r .l) (r .g) (gain-same (same-turn h) (r .takes .taken))))
       (λ q.
-      let some : foundIn ms t .gain ≡ 0 → ⊥ = eqb-false _ _ q in
-      rounds-trees m (exchanged ms t) (fit-next m t fit some) X U
+      let some : foundIn net t .gain ≡ 0 → ⊥ = eqb-false _ _ q in
+      rounds-trees m (exchanged net t) (fit-next m t fit some) X U
       (round-only (tree-cuts place-same (fit .sound .whole)) h (some-gain m t fit some) r) more),
 )

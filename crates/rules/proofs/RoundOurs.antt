@@ -14,12 +14,12 @@ use borrow.Author.Tests.{ltb-true, ltb-false, eqb-true, eqb-false}
 use Rattle.lists.specs.Member.{_∈_}
 use Rattle.lists.proofs.TestLaws.{by, differ, either}
 use Rattle.plane.specs.declared.Place.{Place}
-use Rattle.plane.specs.declared.Macro.{Macro}
 use Rattle.plane.specs.Place.{before}
 use Rattle.plane.specs.Flat.{placeAt}
 use Rattle.plane.proofs.PlaceOrder.{place-order}
 use Rattle.joined.specs.Joined.{Link}
 use Rattle.joined.proofs.JoinedLaws.{firsts, seconds}
+use Rattle.net.specs.Net.{Net}
 use Rattle.refiner.specs.declared.Best.{Best}
 use Rattle.tree.specs.Table.{pointBound, key, firstEnd, secondEnd, Tree, tree, Within}
 use Rattle.refiner.specs.Exchange.{dropTwo, exchange}
@@ -40,7 +40,7 @@ use Rattle.rules.proofs.GainOurs.{not-after, edgesIn, pointAt, edgeAt, 
 use Rattle.rules.proofs.GainOurs.{gain-of}
 
 -- "An edge is written smaller place first"
-pub upward : {ms : List Macro} {ps : List Place} (t : Tree) → Sound ms ps t → Ranked (t .edges .keys) (t .edges .size) →
+pub upward : {net : Net} (t : Tree) → Sound net t → Ranked (t .edges .keys) (t .edges .size) →
     (e : Edge) → e ∈ edgesIn t → before (e .0) (e .1) ≡ true
 upward t sound ranked e m =
     let r = edge-of t e m in
@@ -50,9 +50,9 @@ upward t sound ranked e m =
 
 -- The candidate that is taken
 
-module _ {ms : List Macro} {ps : List Place} (t : Tree) (sound : Sound ms ps t) (ranked : Ranked (t .edges .keys) (t .edges .size))
-    (c : Best) (takes : tables.Takes ms t c) (above : 0 < c .gain) where
-  pub takes-ours : Takes ps ms (edgesIn t) (tables.endA t (c .edge)) (tables.endB t (c .edge)) (pointAt t (c .point)) (edgeAt t (c .cut))
+module _ {net : Net} (t : Tree) (sound : Sound net t) (ranked : Ranked (t .edges .keys) (t .edges .size))
+    (c : Best) (takes : tables.Takes net t c) (above : 0 < c .gain) where
+  pub takes-ours : Takes net (edgesIn t) (tables.endA t (c .edge)) (tables.endB t (c .edge)) (pointAt t (c .point)) (edgeAt t (c .cut))
       (c .gain)
   takes-ours = record {
     taken = gain-to t sound ranked (c .edge) (c .point) (c .cut) (c .gain) mine;
@@ -72,7 +72,7 @@ module _ {ms : List Macro} {ps : List Place} (t : Tree) (sound : Sound ms ps t) 
         (takes .smallest (r .k) (r .u) (r .l) (c .gain) (r .gains) refl .1 (omega (arith, q))) (r .gains .candidate .point));
   }
     where
-      mine : tables.Gains ms t (c .edge) (c .point) (c .cut) (c .gain)
+      mine : tables.Gains net t (c .edge) (c .point) (c .cut) (c .gain)
       mine = takes .taken above
 
 -- Each key once
@@ -227,24 +227,24 @@ module _ {pts : List ℤ} {n : ℕ} {ks : List ℕ} {e k l a b u p : ℕ} {s : P
 
 -- The round
 
-module _ {ms : List Macro} {ps : List Place} (pts : List ℤ) (n : ℕ) (ks : List ℕ) (few : n < pointBound)
+module _ {net : Net} (pts : List ℤ) (n : ℕ) (ks : List ℕ) (few : n < pointBound)
     (room : length pts ≡ pointBound * 2)
     (rooms : length ks ≡ pointBound) (c : Best) (above : 0 < c .gain) where
-  round-at : (e : ℕ) → Sound ms ps (tree pts n ks e) → Ranked ks e → Won ms ps pts n ks few room rooms e c →
-      tables.Takes ms (tree pts n ks e) c →
-      Round ps ms (edgesOf pts ks e) (edgesIn (exchange c pts n ks e))
+  round-at : (e : ℕ) → Sound net (tree pts n ks e) → Ranked ks e → Won net pts n ks few room rooms e c →
+      tables.Takes net (tree pts n ks e) c →
+      Round net (edgesOf pts ks e) (edgesIn (exchange c pts n ks e))
   round-at zero sound ranked win takes = absurd (let z : ⊥ = omega (arith, win .edge) in z)
   round-at (suc zero) sound ranked win takes =
-      let t = taken ms ps pts n ks 0 sound few (c .gain) (c .edge) (c .point) (c .cut) win in
+      let t = taken net pts n ks 0 sound few (c .gain) (c .edge) (c .point) (c .cut) win in
       absurd (win .two (let z : c .cut ≡ c .edge = omega (arith, t .edge, t .cut) in z))
   round-at (suc (suc e)) sound ranked win takes =
       let before = tree pts n ks (suc (suc e)) in
-      let t = taken ms ps pts n ks (suc e) sound few (c .gain) (c .edge) (c .point) (c .cut) win in
-      let s = sized ms ps pts n ks (suc e) sound few (c .gain) (c .edge) (c .point) (c .cut) win in
-      let kept = round-kept ms ps pts n ks few room rooms c (suc (suc e)) sound win in
-      let q = exchange-laid ms ps pts n ks few room rooms c e in
-      let laid = laid-after ms ps pts n ks e (c .edge) (c .cut) (c .point) sound t few (omega arith) (omega (arith, s)) in
-      let up = upward _ (subst (Sound ms ps) q (kept .sound))
+      let t = taken net pts n ks (suc e) sound few (c .gain) (c .edge) (c .point) (c .cut) win in
+      let s = sized net pts n ks (suc e) sound few (c .gain) (c .edge) (c .point) (c .cut) win in
+      let kept = round-kept net pts n ks few room rooms c (suc (suc e)) sound win in
+      let q = exchange-laid net pts n ks few room rooms c e in
+      let laid = laid-after net pts n ks e (c .edge) (c .cut) (c .point) sound t few (omega arith) (omega (arith, s)) in
+      let up = upward _ (subst (Sound net) q (kept .sound))
       (subst (λ (z : Tree). Ranked (z .edges .keys) (z .edges .size)) q (kept .ranked ranked)) in
       let one-key = edge-one before sound ranked in
       record {
@@ -268,10 +268,10 @@ module _ {ms : List Macro} {ps : List Place} (pts : List ℤ) (n : ℕ) (ks : Li
       }
 
 -- where the greatest gain is above zero, the exchange of the tables is the round
-pub round-ours : {ms : List Macro} {ps : List Place} (t : Tree) → Sound ms ps t → Ranked (t .edges .keys) (t .edges .size) → t .count
+pub round-ours : {net : Net} (t : Tree) → Sound net t → Ranked (t .edges .keys) (t .edges .size) → t .count
     < pointBound →
-    length (t .points) ≡ pointBound * 2 → length (t .edges .keys) ≡ pointBound → 0 < tables.foundIn ms t .gain →
-    Round ps ms (edgesIn t) (edgesIn (tables.exchanged ms t))
-round-ours {ms} {ps} t sound ranked few room rooms above =
-    round-at (t .points) (t .count) (t .edges .keys) few room rooms (tables.foundIn ms t) above (t .edges .size) sound ranked
-    (found-wins ms (t .points) (t .count) (t .edges .keys) (t .edges .size) above) (found-takes ms ps t sound (omega arith))
+    length (t .points) ≡ pointBound * 2 → length (t .edges .keys) ≡ pointBound → 0 < tables.foundIn net t .gain →
+    Round net (edgesIn t) (edgesIn (tables.exchanged net t))
+round-ours {net} t sound ranked few room rooms above =
+    round-at (t .points) (t .count) (t .edges .keys) few room rooms (tables.foundIn net t) above (t .edges .size) sound ranked
+    (found-wins ms (t .points) (t .count) (t .edges .keys) (t .edges .size) above) (found-takes net t sound (omega arith))

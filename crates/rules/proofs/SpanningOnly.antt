@@ -5,26 +5,27 @@ use mathlib.Core.Path.{_≡_, subst}
 use mathlib.Core.List.{List}
 use Rattle.lists.proofs.SortedLaws.{ascending-same}
 use Rattle.plane.specs.declared.Place.{Place}
-use Rattle.plane.specs.declared.Macro.{Macro}
 use Rattle.plane.specs.Place.{before}
 use Rattle.plane.proofs.PlaceOrder.{place-order}
+use Rattle.net.specs.Net.{Net}
+use Rattle.graph.specs.Spanning.{spanning}
 use Rattle.rules.specs.Edges.{Edge, edgeBefore}
 use Rattle.rules.specs.Spanning.{Neighbours, Spanning}
 use Rattle.rules.proofs.EdgeLaws.{edge-order}
 
-module _ {ps : List Place} {ms : List Macro} {vs ws : List Place} {es fs : List Edge}
-    (s : Spanning ps ms vs es) (t : Spanning ps ms ws fs) where
+module _ {net : Net} {vs ws : List Place} {es fs : List Edge}
+    (s : Spanning net vs es) (t : Spanning net ws fs) where
   pub vertices-one : vs ≡ ws
   vertices-one =
       ascending-same before place-order vs ws (s .vertices-in-order) (t .vertices-in-order)
       (λ v i. t .vertices v .1 (s .vertices v .0 i)) (λ v i. s .vertices v .1 (t .vertices v .0 i))
 
   -- what one list of the vertices makes an edge, the other does
-  to : (u v : Place) → Neighbours ms vs u v → Neighbours ms ws u v
-  to u v = subst (λ (l : List Place). Neighbours ms vs u v → Neighbours ms l u v) vertices-one (λ j. j)
+  to : (u v : Place) → Neighbours net vs u v → Neighbours net ws u v
+  to u v = subst (λ (l : List Place). Neighbours net vs u v → Neighbours net l u v) vertices-one (λ j. j)
 
-  from : (u v : Place) → Neighbours ms ws u v → Neighbours ms vs u v
-  from u v = subst (λ (l : List Place). Neighbours ms l u v → Neighbours ms vs u v) vertices-one (λ j. j)
+  from : (u v : Place) → Neighbours net ws u v → Neighbours net vs u v
+  from u v = subst (λ (l : List Place). Neighbours net l u v → Neighbours net vs u v) vertices-one (λ j. j)
 
   pub edges-one : es ≡ fs
   edges-one =

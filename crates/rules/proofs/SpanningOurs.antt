@@ -17,8 +17,9 @@ use Rattle.joined.specs.Joined.{Link}
 use Rattle.plane.specs.declared.Place.{Place}
 use Rattle.plane.specs.declared.Macro.{Macro}
 use Rattle.plane.specs.Place.{place, before}
-use Rattle.plane.specs.Distance.{distance}
 use Rattle.plane.proofs.PlaceOrder.{place-order}
+use Rattle.net.specs.Net.{Net, costIn}
+use Rattle.graph.specs.Spanning.{spanning}
 use Rattle.graph.specs.declared.Quadrant as code
 use Rattle.graph.specs.declared.Quadrant.the-variants.{First, Second, Third, Fourth}
 use Rattle.graph.specs.declared.Picked.the-variants.{At}
@@ -49,13 +50,13 @@ of-corner m v (inl x, inr y) = Memᴰ·cast (ap₂ place x y) (upper-left m)
 of-corner m v (inr x, inl y) = Memᴰ·cast (ap₂ place x y) (lower-right m)
 of-corner m v (inr x, inr y) = Memᴰ·cast (ap₂ place x y) (upper-right m)
 
-module _ (ps : List Place) (ms : List Macro) where
-  vertex-of : (v : Place) → v ∈ ourVertices ps ms → Vertex ps ms v
-  vertex-of v i = either inl (λ c. inr (c .entry, (c .stands, corner-of (c .entry) v (c .holds)))) (of-vertices ps ms i)
+module _ (net : Net) where
+  vertex-of : (v : Place) → v ∈ ourVertices net → Vertex net v
+  vertex-of v i = either inl (λ c. inr (c .entry, (c .stands, corner-of (c .entry) v (c .holds)))) (of-verticesOf net i)
 
-  of-vertex : (v : Place) → Vertex ps ms v → v ∈ ourVertices ps ms
-  of-vertex v (inl i) = pin-vertex ps ms i
-  of-vertex v (inr (m, (i, c))) = corner-vertex ps ms i (of-corner m v c)
+  of-vertex : (v : Place) → Vertex net v → v ∈ ourVertices net
+  of-vertex v (inl i) = pin-vertex net i
+  of-vertex v (inr (m, (i, c))) = corner-vertex net i (of-corner m v c)
 
 -- Quadrants
 
@@ -114,34 +115,34 @@ lies-one u v n =
 
 -- Picks
 
-module _ (ms : List Macro) (vs : List Place) (ascending : Ascending before vs) where
-  may-fit : (q : Quadrant) (u w : Place) → May ms vs q u w → Fit ms (coded q) u w
+module _ (net : Net) (vs : List Place) (ascending : Ascending before vs) where
+  may-fit : (q : Quadrant) (u w : Place) → May net vs q u w → Fit (net .weights) (net .macros) (coded q) u w
   may-fit q u w x = record { in-quadrant = lies-within q u w (x .lies); is-clear = x .seen }
 
-  fit-may : (q : Quadrant) (u w : Place) → w ∈ vs → Fit ms (coded q) u w → May ms vs q u w
+  fit-may : (q : Quadrant) (u w : Place) → w ∈ vs → Fit (net .weights) (net .macros) (coded q) u w → May net vs q u w
   fit-may q u w i f = record { vertex = i; lies = within-lies q u w (f .in-quadrant); seen = f .is-clear }
 
-  near-of : (u v w : Place) → Preferred u v w → distance u v ≤ distance u w
+  near-of : (u v w : Place) → Preferred u v w → costIn net u v ≤ costIn net u w
   near-of u v w (inl h) = omega arith
   near-of u v w (inr h) = omega (arith, h .0)
 
-  small-of : (u v w : Place) → Preferred u v w → distance u w ≡ distance u v → before w v ≡ false
+  small-of : (u v w : Place) → Preferred u v w → costIn net u w ≡ costIn net u v → before w v ≡ false
   small-of u v w (inl h) e = absurd (let z : ⊥ = omega (arith, h, e) in z)
   small-of u v w (inr h) e = either (λ k. rw k (place-order .never w)) (never-back v w) (h .1)
 
-  preferred-of : (u v w : Place) → distance u v ≤ distance u w → (distance u w ≡ distance u v → before w v ≡ false) → Preferred u v w
+  preferred-of : (u v w : Place) → costIn net u v ≤ costIn net u w → (costIn net u w ≡ costIn net u v → before w v ≡ false) → Preferred u v w
   preferred-of u v w n s =
-      by (ltb (distance u v) (distance u w))
-      (λ h. inl (ltb-true (distance u v) (distance u w) h))
+      by (ltb (costIn net u v) (costIn net u w))
+      (λ h. inl (ltb-true (costIn net u v) (costIn net u w) h))
       (λ h.
-      let e : distance u w ≡ distance u v = omega (arith, n, ltb-false (distance u v) (distance u w) h) in
+      let e : costIn net u w ≡ costIn net u v = omega (arith, n, ltb-false (costIn net u v) (costIn net u w) h) in
       inr (sym e, by (before v w) inr (λ k. inl (place-order .tie v w k (s e)))))
 
-  picks-of : (u v : Place) → PickedBy ms vs u v → Picks ms vs u v
+  picks-of : (u v : Place) → PickedBy (net .weights) (net .macros) vs u v → Picks net vs u v
   picks-of u v p =
       let q = uncoded (p .quadrant) in
-      let r : PicksAt ms (coded q) u vs v
-      = subst (λ (z : code.Quadrant). PicksAt ms z u vs v) (decoded (p .quadrant)) (pick-at ms (p .quadrant) u vs ascending v (p .picks)) in
+      let r : PicksAt (net .weights) (net .macros) (coded q) u vs v
+      = subst (λ (z : code.Quadrant). PicksAt (net .weights) (net .macros) z u vs v) (decoded (p .quadrant)) (pick-at (net .weights) (net .macros) (p .quadrant) u vs ascending v (p .picks)) in
       record {
         quadrant = q;
         may = fit-may q u v (r .stands) (r .fit);
@@ -149,13 +150,13 @@ module _ (ms : List Macro) (vs : List Place) (ascending : Ascending before vs) w
         smallest = λ w x. small-of u v w (r .least w (x .vertex) (may-fit q u w x));
       }
 
-  of-picks : (u v : Place) → u ∈ vs → Picks ms vs u v → PickedBy ms vs u v
+  of-picks : (u v : Place) → u ∈ vs → Picks net vs u v → PickedBy (net .weights) (net .macros) vs u v
   of-picks u v i p =
       let q = p .quadrant in
       record {
         stands = i;
         quadrant = coded q;
-        picks = pick-only ms (coded q) u vs ascending (At v) (record {
+        picks = pick-only (net .weights) (net .macros) (coded q) u vs ascending (At v) (record {
           stands = p .may .vertex;
           fit = may-fit q u v (p .may);
           least =
@@ -167,40 +168,40 @@ module _ (ms : List Macro) (vs : List Place) (ascending : Ascending before vs) w
 
   -- Edges
 
-  neighbours-of : (u v : Place) → (u, v) ∈ ourEdges ms vs → Neighbours ms vs u v
+  neighbours-of : (u v : Place) → (u, v) ∈ ourEdges (net .weights) (net .macros) vs → Neighbours net vs u v
   neighbours-of u v m =
-      let e = edge-of ms vs ascending (u, v) m in
+      let e = edge-of (net .weights) (net .macros) vs ascending (u, v) m in
       record {
         smaller = e .smaller-first;
         one = e .first;
         other = e .second;
-        picked = either (λ p. inl (picks-of u v p)) (λ p. inr (picks-of v u p)) (link-picked ms vs u v (inl m));
+        picked = either (λ p. inl (picks-of u v p)) (λ p. inr (picks-of v u p)) (link-picked (net .weights) (net .macros) vs u v (inl m));
       }
 
-  of-neighbours : (u v : Place) → Neighbours ms vs u v → (u, v) ∈ ourEdges ms vs
+  of-neighbours : (u v : Place) → Neighbours net vs u v → (u, v) ∈ ourEdges (net .weights) (net .macros) vs
   of-neighbours u v j =
-      at (picked-link ms vs u v (either (λ p. inl (of-picks u v (j .one) p)) (λ p. inr (of-picks v u (j .other) p)) (j .picked)))
+      at (picked-link (net .weights) (net .macros) vs u v (either (λ p. inl (of-picks u v (j .one) p)) (λ p. inr (of-picks v u (j .other) p)) (j .picked)))
     where
-      at : Link (ourEdges ms vs) u v → (u, v) ∈ ourEdges ms vs
+      at : Link (ourEdges (net .weights) (net .macros) vs) u v → (u, v) ∈ ourEdges (net .weights) (net .macros) vs
       at (inl m) = m
-      at (inr m) = differ (edge-of ms vs ascending (v, u) m .smaller-first) (never-back u v (j .smaller))
+      at (inr m) = differ (edge-of (net .weights) (net .macros) vs ascending (v, u) m .smaller-first) (never-back u v (j .smaller))
 
 -- The graph
 
-module _ (ps : List Place) (ms : List Macro) where
+module _ (net : Net) where
   -- what is worked out is the spanning graph
-  pub graph-ours : Spanning ps ms (ourVertices ps ms) (ourEdges ms (ourVertices ps ms))
+  pub graph-ours : Spanning net (ourVertices net) (ourEdges (net .weights) (net .macros) (ourVertices net))
   unfolding beforeEdge
   graph-ours =
-      let a = vertices-ascending ps ms in
+      let a = vertices-ascending net in
       record {
-        vertices = λ v. (vertex-of ps ms v, of-vertex ps ms v);
+        vertices = λ v. (vertex-of net v, of-vertex net v);
         vertices-in-order = a;
-        edges = λ u v. (neighbours-of ms _ a u v, of-neighbours ms _ a u v);
-        edges-in-order = edges-ascending ms (ourVertices ps ms);
+        edges = λ u v. (neighbours-of net _ a u v, of-neighbours net _ a u v);
+        edges-in-order = edges-ascending (net .weights) (net .macros) (ourVertices net);
       }
 
   -- and there is no other
-  pub graph-only : {vs : List Place} {es : List Edge} → Spanning ps ms vs es →
-      (vs ≡ ourVertices ps ms) × (es ≡ ourEdges ms (ourVertices ps ms))
+  pub graph-only : {vs : List Place} {es : List Edge} → Spanning net vs es →
+      (vs ≡ ourVertices net) × (es ≡ ourEdges (net .weights) (net .macros) (ourVertices net))
   graph-only s = (vertices-one s graph-ours, edges-one s graph-ours)

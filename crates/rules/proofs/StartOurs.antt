@@ -16,11 +16,11 @@ use Rattle.joined.proofs.OtherLaws.{alike-trans}
 use Rattle.joined.proofs.WayLaws.{on-link}
 use Rattle.joined.proofs.CarriedLaws.{on-carried, turned-carried}
 use Rattle.plane.specs.declared.Place.{Place}
-use Rattle.plane.specs.declared.Macro.{Macro}
 use Rattle.plane.specs.Place.{before}
 use Rattle.plane.proofs.PlaceOrder.{place-order}
 use Rattle.net.specs.Allowed.{Allowed}
-use Rattle.graph.specs.Vertices.{vertices}
+use Rattle.net.specs.Net.{Net}
+use Rattle.graph.specs.Spanning.{verticesOf, spanning}
 use Rattle.forest.specs.Edges.{one, two}
 use Rattle.terminal.specs.Bridges.{path as pathEdges}
 use Rattle.terminal.specs.Kept.{terminal}
@@ -28,7 +28,7 @@ use Rattle.forest.specs.Setting.{ends}
 use Rattle.terminal.proofs.WholeLaws.{of-kept}
 use Rattle.terminal.proofs.OurTree as numbers
 use Rattle.terminal.specs.Number.{vertexAt, edgeAt}
-use Rattle.terminal.specs.Tree.{spanning, treeOf, rootsOf}
+use Rattle.terminal.specs.Tree.{treeOf, rootsOf}
 use Rattle.terminal.specs.Roots.{WayUp, arrived, upward, parentOf}
 use Rattle.terminal.specs.Stands.{Kept, Stands}
 use Rattle.terminal.proofs.SettingOf.{one-vertex, two-vertex, setting, whole}
@@ -53,15 +53,15 @@ module _ {A B : Type 0} where
   on-back f x y u (v ∷ qs) (inr o) = let r = on-back f x y v qs o in (r .0, (r .1 .0, (inr (r .1 .1 .0), r .1 .1 .1)))
 
 -- a way up is determined
-up-only : {ps : List Place} {ms : List Macro} {v : Place} {qs rs : List Place} → WayUp ps ms v qs → WayUp ps ms v rs → qs ≡ rs
+up-only : {net : Net} {v : Place} {qs rs : List Place} → WayUp net v qs → WayUp net v rs → qs ≡ rs
 up-only (arrived m) (arrived n) = refl
 up-only (arrived m) (upward n w) = absurd (n m)
 up-only (upward n w) (arrived m) = absurd (n m)
-up-only {ps} {ms} {v} (upward n w) (upward k u) = ap (λ (l : List Place). parentOf ps ms v ∷ l) (up-only w u)
+up-only {ps} {ms} {v} (upward n w) (upward k u) = ap (λ (l : List Place). parentOf net v ∷ l) (up-only w u)
 
-module _ {ps : List Place} {ms : List Macro} (a : Allowed ps ms) where
+module _ {net : Net} (a : Allowed net) where
   abbrev at : ℕ → Place
-  at = vertexAt (vertices ps ms)
+  at = vertexAt (verticesOf net)
 
   -- The path of a kept bridge, by numbers
 
@@ -73,20 +73,20 @@ module _ {ps : List Place} {ms : List Macro} (a : Allowed ps ms) where
     by-number = numbers.stands (setting a) (whole a) j below (of-kept (G a) (T a) (P a) j m .1)
 
     -- any path that the bridge stands for has its points
-    points-same : (l : ℕ) (s : Stands ps ms (edgeAt (spanning ps ms) j) l) → s .path .points ≡ map at (by-number .path .points)
+    points-same : (l : ℕ) (s : Stands net (edgeAt (spanning net) j) l) → s .path .points ≡ map at (by-number .path .points)
     points-same l s =
         s .points-are
-        ∙ ap₂ (λ (u v : List Place). turned (edgeAt (spanning ps ms) j .0) u (edgeAt (spanning ps ms) j .1 ∷ v))
-        (up-only (s .first-up) (subst (λ (u : Place). WayUp ps ms u (wayPlaces a (one (G a) j))) (one-vertex a j below)
+        ∙ ap₂ (λ (u v : List Place). turned (edgeAt (spanning net) j .0) u (edgeAt (spanning net) j .1 ∷ v))
+        (up-only (s .first-up) (subst (λ (u : Place). WayUp net u (wayPlaces a (one (G a) j))) (one-vertex a j below)
         (way-up a _ (setting a .one-in j below))))
-        (up-only (s .second-up) (subst (λ (u : Place). WayUp ps ms u (wayPlaces a (two (G a) j))) (two-vertex a j below)
+        (up-only (s .second-up) (subst (λ (u : Place). WayUp net u (wayPlaces a (two (G a) j))) (two-vertex a j below)
         (way-up a _ (setting a .two-in j below))))
         ∙ sym (ap (map at) (by-number .points-are)
         ∙ turned-carried at (one (G a) j) _ _
         ∙ ap₂ (λ (u v : Place). turned u (wayPlaces a (one (G a) j)) (v ∷ wayPlaces a (two (G a) j))) (one-vertex a j below)
         (two-vertex a j below))
 
-    start-same : (l : ℕ) (s : Stands ps ms (edgeAt (spanning ps ms) j) l) → s .path .start ≡ at (by-number .path .start)
+    start-same : (l : ℕ) (s : Stands net (edgeAt (spanning net) j) l) → s .path .start ≡ at (by-number .path .start)
     unfolding rootsOf
     start-same l s = s .start-is ∙ given-follows a j below .0 ∙ ap at (sym (by-number .start-is))
 
@@ -112,7 +112,7 @@ module _ {ps : List Place} {ms : List Macro} (a : Allowed ps ms) where
             let s = of-map (ends (G a)) (walk (setting a) (whole a) j) i in
             (s .entry, (s .stands, alike-trans e (inr (ap at (seconds (s .is)), ap at (firsts (s .is))))))
 
-    on-path : (x y : Place) (l : ℕ) (s : Stands ps ms (edgeAt (spanning ps ms) j) l) → On x y (s .path .start) (s .path .points) ↔ Steps x y
+    on-path : (x y : Place) (l : ℕ) (s : Stands net (edgeAt (spanning net) j) l) → On x y (s .path .start) (s .path .points) ↔ Steps x y
     on-path x y l s = (
       λ o. subst (λ (z : Place). On x y z (map at (by-number .path .points))) (start-same l s)
           (subst (λ (qs : List Place). On x y (s .path .start) qs) (points-same l s) o),
@@ -120,10 +120,10 @@ module _ {ps : List Place} {ms : List Macro} (a : Allowed ps ms) where
           (subst (λ (z : Place). On x y z (map at (by-number .path .points))) (sym (start-same l s)) o),
     )
 
-    on-given : (x y : Place) (k : Kept) → k ≡ given a j → (s : Stands ps ms (k .0) (k .1)) → On x y (s .path .start) (s .path .points)
+    on-given : (x y : Place) (k : Kept) → k ≡ given a j → (s : Stands net (k .0) (k .1)) → On x y (s .path .start) (s .path .points)
         ↔ Steps x y
     on-given x y k q =
-        subst (λ (z : Kept). (s : Stands ps ms (z .0) (z .1)) → On x y (s .path .start) (s .path .points) ↔ Steps x y) (sym q)
+        subst (λ (z : Kept). (s : Stands net (z .0) (z .1)) → On x y (s .path .start) (s .path .points) ↔ Steps x y) (sym q)
         (on-path x y (weight a j))
 
     walk-in : (k : ℕ) → k ∈ walk (setting a) (whole a) j → k ∈ unionList a
@@ -138,8 +138,8 @@ module _ {ps : List Place} {ms : List Macro} (a : Allowed ps ms) where
   unfolding treeOf terminal
   of-start k m = of-union (setting a) (whole a) k m
 
-  up : (e : Edge) → e ∈ edgesIn (unionOf ps ms) → before (e .0) (e .1) ≡ true
-  up = ours.upward (unionOf ps ms) (union-sound a) (union-ranked a)
+  up : (e : Edge) → e ∈ edgesIn (unionOf net) → before (e .0) (e .1) ≡ true
+  up = ours.upward (unionOf net) (union-sound a) (union-ranked a)
 
   -- the steps of a kept path are those of its bridge's, by numbers
   on-kept : (k : Path) → k ∈ ourPaths a → (j : ℕ) (m : j ∈ kept a) → givenFor k ≡ given a j → (x y : Place) →
@@ -150,16 +150,16 @@ module _ {ps : List Place} {ms : List Macro} (a : Allowed ps ms) where
       subst (λ (c : Path). On x y (c .start) (c .points) ↔ Steps j m x y) (sym (o .is))
       (on-given j m x y (o .given) (sym g ∙ e) (o .stands))
 
-  on-some : (e : Edge) → e ∈ edgesIn (unionOf ps ms) → OnSome (ourPaths a) e
+  on-some : (e : Edge) → e ∈ edgesIn (unionOf net) → OnSome (ourPaths a) e
   on-some e i =
       let r = union-edge a e i in
       let k = r .0 in
       let o = of-start k (r .1 .0) in
       let j = o .bridge in
       let c = of-map givenFor (ourPaths a) (subst (λ (l : List Kept). given a j ∈ l) (sym (paths-given a)) (given-in a j (o .kept))) in
-      let f : On (edgeAt (spanning ps ms) k .0) (edgeAt (spanning ps ms) k .1) (c .entry .start) (c .entry .points)
+      let f : On (edgeAt (spanning net) k .0) (edgeAt (spanning net) k .1) (c .entry .start) (c .entry .points)
       = on-kept (c .entry) (c .stands) j (o .kept) (sym (c .is)) _ _ .1
-      (subst (λ (x : Place). Steps j (o .kept) x (edgeAt (spanning ps ms) k .1)) (one-vertex a k (o .inside))
+      (subst (λ (x : Place). Steps j (o .kept) x (edgeAt (spanning net) k .1)) (one-vertex a k (o .inside))
       (subst (λ (x : Place). Steps j (o .kept) (at (one (G a) k)) x) (two-vertex a k (o .inside)) (edge-step j (o .kept) k (o .on)))) in
       record {
         smaller = up e i;
@@ -168,7 +168,7 @@ module _ {ps : List Place} {ms : List Macro} (a : Allowed ps ms) where
         on = subst (λ (z : Edge). On (z .0) (z .1) (c .entry .start) (c .entry .points)) (sym (r .1 .1)) f;
       }
 
-  of-some : (e : Edge) → OnSome (ourPaths a) e → e ∈ edgesIn (unionOf ps ms)
+  of-some : (e : Edge) → OnSome (ourPaths a) e → e ∈ edgesIn (unionOf net)
   of-some e o =
       let g = of-given a (givenFor (o .path)) (subst (λ (l : List Kept). givenFor (o .path) ∈ l) (paths-given a)
       (in-map givenFor (o .among))) in
@@ -176,20 +176,20 @@ module _ {ps : List Place} {ms : List Macro} (a : Allowed ps ms) where
       (o .on)) in
       placed (k .0) (walk-in (g .entry) (g .stands) (k .0) (k .1 .0)) (k .1 .1)
     where
-      turn : (k : ℕ) → k ∈ unionList a → Alike (e .0) (e .1) (edgeAt (spanning ps ms) k .0) (edgeAt (spanning ps ms) k .1) →
-          e ∈ edgesIn (unionOf ps ms)
+      turn : (k : ℕ) → k ∈ unionList a → Alike (e .0) (e .1) (edgeAt (spanning net) k .0) (edgeAt (spanning net) k .1) →
+          e ∈ edgesIn (unionOf net)
       turn k i (inl q) = Memᴰ·cast (ap₂ (λ (x y : Place). (x, y)) (q .0) (q .1)) (union-has a k i)
       turn k i (inr q) =
           differ (ap₂ before (sym (q .0)) (sym (q .1)) ∙ o .smaller)
-          (not-after place-order _ _ (up (edgeAt (spanning ps ms) k) (union-has a k i)))
+          (not-after place-order _ _ (up (edgeAt (spanning net) k) (union-has a k i)))
 
-      placed : (k : ℕ) → k ∈ unionList a → Alike (e .0) (e .1) (at (one (G a) k)) (at (two (G a) k)) → e ∈ edgesIn (unionOf ps ms)
+      placed : (k : ℕ) → k ∈ unionList a → Alike (e .0) (e .1) (at (one (G a) k)) (at (two (G a) k)) → e ∈ edgesIn (unionOf net)
       placed k i q =
           let h = of-start k i .inside in
           turn k i (alike-trans q (inl (one-vertex a k h, two-vertex a k h)))
 
   -- R1: an edge is in the union exactly when it is on one of the kept paths
-  pub start-ours : Union (ourPaths a) (edgesIn (unionOf ps ms))
+  pub start-ours : Union (ourPaths a) (edgesIn (unionOf net))
   start-ours e = (on-some e, of-some e)
 
 -- two unions of the same paths have the same edges

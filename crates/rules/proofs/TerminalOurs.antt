@@ -15,12 +15,13 @@ use Rattle.joined.specs.Keep.{kept, Keeping}
 use Rattle.joined.proofs.KeepingLaws.{keeping-kept, keeping-among}
 use Rattle.joined.proofs.CarriedLaws.{kept-carried}
 use Rattle.plane.specs.declared.Place.{Place}
-use Rattle.plane.specs.declared.Macro.{Macro}
 use Rattle.plane.proofs.PlaceOrder.{place-same}
 use Rattle.net.specs.Allowed.{Allowed}
+use Rattle.net.specs.Net.{Net}
+use Rattle.graph.specs.Spanning.{verticesOf, spanning}
 use Rattle.graph.specs.Vertices.{vertices}
 use Rattle.graph.specs.Edges.{beforeEdge}
-use Rattle.terminal.specs.Tree.{spanning, pathsOf, rootOf, rootsOf}
+use Rattle.terminal.specs.Tree.{pathsOf, rootOf, rootsOf}
 use Rattle.terminal.specs.Roots as tables
 use Rattle.terminal.specs.Stands.{Kept, keptEnds, Stands}
 use Rattle.terminal.specs.KeptBridges.{takenBefore, KeptBridges}
@@ -32,13 +33,13 @@ use Rattle.rules.specs.Terminal.{Path, pathEnds, givenFor, takenFirst}
 use Rattle.rules.specs.Terminal.{Root, Through, Parent, Up, arrived, upward, Bridge, Terminal}
 use Rattle.rules.proofs.TerminalOnly.{root-only, terminal-one}
 
-module _ {ps : List Place} {ms : List Macro} (a : Allowed ps ms) where
+module _ {net : Net} (a : Allowed net) where
   abbrev G : List Edge
-  G = spanning ps ms
+  G = spanning net
 
   -- Roots, parents and ways
 
-  pub root-ours : (v : Place) → v ∈ vertices ps ms → Root G ps v (rootOf ps ms v)
+  pub root-ours : (v : Place) → v ∈ verticesOf net → Root net G v (rootOf net v)
   root-ours v m =
       let r = nearest-root a v m in
       record {
@@ -50,33 +51,33 @@ module _ {ps : List Place} {ms : List Macro} (a : Allowed ps ms) where
       }
 
   -- both ends of a link are vertices
-  ends-in : (v w : Place) → Link G v w → (v ∈ vertices ps ms) × (w ∈ vertices ps ms)
+  ends-in : (v w : Place) → Link G v w → (v ∈ verticesOf net) × (w ∈ verticesOf net)
   ends-in v w (inl i) = to-numbers a .inside v w i
   ends-in v w (inr i) = let r = to-numbers a .inside w v i in (r .1, r .0)
 
-  through-to : (v w : Place) → tables.Through ps ms v w → Through G ps v w
+  through-to : (v w : Place) → tables.Through net v w → Through net G v w
   through-to v w t =
       let i = ends-in v w (t .link) in
       let r = nearest-root a v (i .0) in
       record {
         link = t .link;
-        root = rootOf ps ms v;
+        root = rootOf net v;
         own = root-ours v (i .0);
-        same = subst (Root G ps w) (t .same-root) (root-ours w (i .1));
+        same = subst (Root net G w) (t .same-root) (root-ours w (i .1));
         points = t .points;
         way = t .way;
-        shortest = λ qs u. omega (arith, t .shortest, r .nearest (rootOf ps ms v) qs (r .is-pin) u);
+        shortest = λ qs u. omega (arith, t .shortest, r .nearest (rootOf net v) qs (r .is-pin) u);
       }
 
-  through-from : (v w : Place) → Through G ps v w → tables.Through ps ms v w
+  through-from : (v w : Place) → Through net G v w → tables.Through net v w
   unfolding long
   through-from v w t =
       let i = ends-in v w (t .link) in
       let r = nearest-root a v (i .0) in
-      let e : t .root ≡ rootOf ps ms v = root-only (t .own) (root-ours v (i .0)) in
-      let u : Way G w (t .points) (rootOf ps ms v) = subst (λ (z : Place). Way G w (t .points) z) e (t .way) in
+      let e : t .root ≡ rootOf net v = root-only (t .own) (root-ours v (i .0)) in
+      let u : Way G w (t .points) (rootOf net v) = subst (λ (z : Place). Way G w (t .points) z) e (t .way) in
       let low = t .shortest (r .points) (subst (λ (z : Place). Way G v (r .points) z) (sym e) (r .walk)) in
-      let high = r .nearest (rootOf ps ms v) (w ∷ t .points) (r .is-pin) (go (t .link) u) in
+      let high = r .nearest (rootOf net v) (w ∷ t .points) (r .is-pin) (go (t .link) u) in
       record {
         link = t .link;
         same-root = root-only (root-ours w (i .1)) (t .same) ∙ e;
@@ -85,12 +86,12 @@ module _ {ps : List Place} {ms : List Macro} (a : Allowed ps ms) where
         shortest = omega (arith, low, high, r .walk-long);
       }
 
-  parent-ours : (v : Place) → v ∈ vertices ps ms → (v ∈ ps → ⊥) → Parent G ps v (tables.parentOf ps ms v)
+  parent-ours : (v : Place) → v ∈ verticesOf net → (v ∈ net .pins → ⊥) → Parent net G v (tables.parentOf net v)
   parent-ours v m n =
       let p = smallest-parent a v m n in
       record { through = through-to v _ (p .through); smallest = λ w t. p .smallest w (through-from v w t) }
 
-  up-ours : (v : Place) (qs : List Place) → v ∈ vertices ps ms → tables.WayUp ps ms v qs → Up G ps v qs
+  up-ours : (v : Place) (qs : List Place) → v ∈ verticesOf net → tables.WayUp net v qs → Up net G v qs
   up-ours v qs m (tables.arrived i) = arrived i
   up-ours v qs m (tables.upward n u) =
       let p = parent-ours v m n in
@@ -98,11 +99,11 @@ module _ {ps : List Place} {ms : List Macro} (a : Allowed ps ms) where
 
   -- Bridges
 
-  pub kb : KeptBridges ps ms
+  pub kb : KeptBridges net
   kb = kept-bridges a
 
   -- a bridge with its path
-  abbrev pathFor : (k : Kept) → Stands ps ms (k .0) (k .1) → Path
+  abbrev pathFor : (k : Kept) → Stands net (k .0) (k .1) → Path
   pathFor k s = record { bridge = k .0; start = s .path .start; points = s .path .points; finish = s .path .finish }
 
   unfoldable pub offered : List Path
@@ -118,17 +119,17 @@ module _ {ps : List Place} {ms : List Macro} (a : Allowed ps ms) where
       map-same [] = refl
       map-same (x ∷ l) = ap (λ (r : List Kept). x ∷ r) (map-same l)
 
-  edge-ends : (e : Edge) → e ∈ G → (e .0 ∈ vertices ps ms) × (e .1 ∈ vertices ps ms)
+  edge-ends : (e : Edge) → e ∈ G → (e .0 ∈ verticesOf net) × (e .1 ∈ verticesOf net)
   edge-ends e i = ends-in (e .0) (e .1) (inl i)
 
-  bridge-for : (k : Kept) (m : k ∈ kb .offered) → Bridge G ps (pathFor k (kb .stands k m))
+  bridge-for : (k : Kept) (m : k ∈ kb .offered) → Bridge net G (pathFor k (kb .stands k m))
   bridge-for k m =
       let s = kb .stands k m in
       let i = edge-ends (k .0) (s .is-edge) in
       record {
         edge = s .is-edge;
-        start-root = subst (Root G ps (k .0 .0)) (sym (s .start-is)) (root-ours (k .0 .0) (i .0));
-        finish-root = subst (Root G ps (k .0 .1)) (sym (s .finish-is)) (root-ours (k .0 .1) (i .1));
+        start-root = subst (Root net G (k .0 .0)) (sym (s .start-is)) (root-ours (k .0 .0) (i .0));
+        finish-root = subst (Root net G (k .0 .1)) (sym (s .finish-is)) (root-ours (k .0 .1) (i .1));
         apart = s .path .apart;
         first = s .first-way;
         first-up = up-ours (k .0 .0) _ (i .0) (s .first-up);
@@ -140,9 +141,9 @@ module _ {ps : List Place} {ms : List Macro} (a : Allowed ps ms) where
   -- where an offered path comes from
   pub record Origin (k : Path) : Type 0 where
     pub given : Kept
-    pub stands : Stands ps ms (given .0) (given .1)
+    pub stands : Stands net (given .0) (given .1)
     pub is : k ≡ pathFor given stands
-    pub bridge : Bridge G ps k
+    pub bridge : Bridge net G k
 
   origin : (k : Path) → k ∈ offered → Origin k
   unfolding offered
@@ -152,10 +153,10 @@ module _ {ps : List Place} {ms : List Macro} (a : Allowed ps ms) where
         given = r .0;
         stands = kb .stands (r .0) (r .1 .0);
         is = r .1 .1;
-        bridge = subst (Bridge G ps) (sym (r .1 .1)) (bridge-for (r .0) (r .1 .0));
+        bridge = subst (Bridge net G) (sym (r .1 .1)) (bridge-for (r .0) (r .1 .0));
       }
 
-  all-offered : (e : Edge) → e ∈ G → (p q : Place) → Root G ps (e .0) p → Root G ps (e .1) q → (p ≡ q → ⊥) →
+  all-offered : (e : Edge) → e ∈ G → (p q : Place) → Root net G (e .0) p → Root net G (e .1) q → (p ≡ q → ⊥) →
       (k : Path) × ((k ∈ offered) × (k .bridge ≡ e))
   unfolding offered
   all-offered e i p q r s n =
@@ -187,7 +188,7 @@ module _ {ps : List Place} {ms : List Macro} (a : Allowed ps ms) where
   kept-offered = keeping-among pathEnds ours-keeps
 
   -- what is worked out is the terminal tree
-  pub terminal-ours : Terminal G ps ourPaths
+  pub terminal-ours : Terminal net G ourPaths
   terminal-ours = record {
     offered = offered;
     bridges = λ k m. origin k m .bridge;
@@ -197,26 +198,26 @@ module _ {ps : List Place} {ms : List Macro} (a : Allowed ps ms) where
   }
 
   -- and there is no other
-  pub terminal-only : (ks : List Path) → Terminal G ps ks → ks ≡ ourPaths
+  pub terminal-only : (ks : List Path) → Terminal net G ks → ks ≡ ourPaths
   terminal-only ks t = terminal-one t terminal-ours
 
   pub kept-origin : (k : Path) → k ∈ ourPaths → Origin k
   kept-origin k m = origin k (kept-offered k m)
 
   -- the two pins of a bridge, by the tables
-  ends-are : (k : Path) → k ∈ offered → (rootOf ps ms (k .bridge .0) ≡ k .start) × (rootOf ps ms (k .bridge .1) ≡ k .finish)
+  ends-are : (k : Path) → k ∈ offered → (rootOf net (k .bridge .0) ≡ k .start) × (rootOf net (k .bridge .1) ≡ k .finish)
   ends-are k m =
       let b = origin k m .bridge in
       let i = edge-ends (k .bridge) (b .edge) in
       (root-only (root-ours (k .bridge .0) (i .0)) (b .start-root), root-only (root-ours (k .bridge .1) (i .1)) (b .finish-root))
 
-  pub kept-ends : (k : Path) → k ∈ ourPaths → (rootOf ps ms (k .bridge .0) ≡ k .start) × (rootOf ps ms (k .bridge .1) ≡ k .finish)
+  pub kept-ends : (k : Path) → k ∈ ourPaths → (rootOf net (k .bridge .0) ≡ k .start) × (rootOf net (k .bridge .1) ≡ k .finish)
   kept-ends k m = ends-are k (kept-offered k m)
 
   -- what is given for the kept paths is what the call gives
-  pub paths-given : map givenFor ourPaths ≡ pathsOf ps ms
+  pub paths-given : map givenFor ourPaths ≡ pathsOf net
   unfolding ourPaths rootsOf
   paths-given =
-      kept-carried place-same place-same (λ x. x) (λ x. x) givenFor pathEnds (keptEnds ps ms) offered
+      kept-carried place-same place-same (λ x. x) (λ x. x) givenFor pathEnds (keptEnds net) offered
       (λ k m. (ends-are k m, (refl, refl)))
-      ∙ ap (kept place-same (keptEnds ps ms)) offered-given ∙ sym (kb .kept-are place-same)
+      ∙ ap (kept place-same (keptEnds net)) offered-given ∙ sym (kb .kept-are place-same)

@@ -10,13 +10,20 @@ use Rattle.lists.specs.Member.{Among}
 use Rattle.lists.proofs.TestLaws.{either}
 use Rattle.plane.specs.declared.Place.{Place}
 use Rattle.plane.specs.declared.Macro.{Macro}
+use Rattle.plane.specs.declared.Weights.{Weights}
 use Rattle.plane.specs.Macro.{clear}
 use Rattle.joined.specs.OneTree.{Point}
+use Rattle.net.specs.Net.{Net}
+use Rattle.graph.specs.Spanning.{spanning}
 use Rattle.rules.specs.Edges.{Edge}
 use Rattle.rules.specs.Spanning.{Vertex, Quadrant, May, Picks, Neighbours, Spanning}
 use Rattle.rules.specs.Terminal.{Path, Root, Through, Parent, Up, arrived, upward, Bridge, Terminal}
 use Rattle.rules.specs.Refined.{Gain, Round, Rounds, Loose, Strips, same, strip, Refines}
 use Rattle.rules.specs.Trees.{Trees}
+
+-- the net of these pins, macros and weights
+abbrev pub netBy : Weights → List Place → List Macro → Net
+netBy w ps ms = record { pins = ps; macros = ms; weights = w }
 
 -- the same pins, as many; the same macros, and so the same places clear of each other
 pub record SameNet (ps qs : List Place) (ms ns : List Macro) : Type 0 where
@@ -39,16 +46,16 @@ turned h = record {
 
 -- The graph
 
-vertex-in : {ps qs : List Place} {ms ns : List Macro} → SameNet ps qs ms ns → (v : Place) → Vertex ps ms v → Vertex qs ns v
+vertex-in : {W : Weights} {ps qs : List Place} {ms ns : List Macro} → SameNet ps qs ms ns → (v : Place) → Vertex (netBy W ps ms) v → Vertex (netBy W qs ns) v
 vertex-in h v (inl m) = inl (h .to v m)
 vertex-in h v (inr (m, (i, c))) = inr (m, (h .macros-to m i, c))
 
-module _ {ps qs : List Place} {ms ns : List Macro} {vs : List Place} where
-  may-in : SameNet ps qs ms ns → {q : Quadrant} {u v : Place} → May ms vs q u v → May ns vs q u v
+module _ {W : Weights} {ps qs : List Place} {ms ns : List Macro} {vs : List Place} where
+  may-in : SameNet ps qs ms ns → {q : Quadrant} {u v : Place} → May (netBy W ps ms) vs q u v → May (netBy W qs ns) vs q u v
   may-in h {u = u} {v = v} x = record { vertex = x .vertex; lies = x .lies; seen = sym (h .clears u v) ∙ x .seen }
 
-module _ {ps qs : List Place} {ms ns : List Macro} {vs : List Place} (h : SameNet ps qs ms ns) where
-  picks-in : {u v : Place} → Picks ms vs u v → Picks ns vs u v
+module _ {W : Weights} {ps qs : List Place} {ms ns : List Macro} {vs : List Place} (h : SameNet ps qs ms ns) where
+  picks-in : {u v : Place} → Picks (netBy W ps ms) vs u v → Picks (netBy W qs ns) vs u v
   picks-in p = record {
     quadrant = p .quadrant;
     may = may-in h (p .may);
@@ -56,7 +63,7 @@ module _ {ps qs : List Place} {ms ns : List Macro} {vs : List Place} (h : SameNe
     smallest = λ w x. p .smallest w (may-in (turned h) x);
   }
 
-  neighbours-in : {u v : Place} → Neighbours ms vs u v → Neighbours ns vs u v
+  neighbours-in : {u v : Place} → Neighbours (netBy W ps ms) vs u v → Neighbours (netBy W qs ns) vs u v
   neighbours-in j = record {
     smaller = j .smaller;
     one = j .one;
@@ -64,8 +71,8 @@ module _ {ps qs : List Place} {ms ns : List Macro} {vs : List Place} (h : SameNe
     picked = either (λ p. inl (picks-in p)) (λ p. inr (picks-in p)) (j .picked);
   }
 
-pub spanning-in : {ps qs : List Place} {ms ns : List Macro} {vs : List Place} {es : List Edge} → SameNet ps qs ms ns →
-    Spanning ps ms vs es → Spanning qs ns vs es
+pub spanning-in : {W : Weights} {ps qs : List Place} {ms ns : List Macro} {vs : List Place} {es : List Edge} → SameNet ps qs ms ns →
+    Spanning (netBy W ps ms) vs es → Spanning (netBy W qs ns) vs es
 spanning-in h s = record {
   vertices = λ v. (λ i. vertex-in h v (s .vertices v .0 i), λ x. s .vertices v .1 (vertex-in (turned h) v x));
   vertices-in-order = s .vertices-in-order;
@@ -75,8 +82,8 @@ spanning-in h s = record {
 
 -- The terminal tree
 
-module _ {G : List Edge} {ps qs : List Place} (to : Among ps qs) (from : Among qs ps) where
-  root-in : {v p : Place} → Root G ps v p → Root G qs v p
+module _ {W : Weights} {G : List Edge} {ps qs : List Place} {ms ns : List Macro} (to : Among ps qs) (from : Among qs ps) where
+  root-in : {v p : Place} → Root (netBy W ps ms) G v p → Root (netBy W qs ns) G v p
   root-in {p = p} r = record {
     pin = to p (r .pin);
     points = r .points;
@@ -85,7 +92,7 @@ module _ {G : List Edge} {ps qs : List Place} (to : Among ps qs) (from : Among q
     smallest = λ q l i. r .smallest q l (from q i);
   }
 
-  through-in : {v w : Place} → Through G ps v w → Through G qs v w
+  through-in : {v w : Place} → Through (netBy W ps ms) G v w → Through (netBy W qs ns) G v w
   through-in t = record {
     link = t .link;
     root = t .root;
@@ -96,15 +103,15 @@ module _ {G : List Edge} {ps qs : List Place} (to : Among ps qs) (from : Among q
     shortest = t .shortest;
   }
 
-module _ {G : List Edge} {ps qs : List Place} (to : Among ps qs) (from : Among qs ps) where
-  parent-in : {v p : Place} → Parent G ps v p → Parent G qs v p
+module _ {W : Weights} {G : List Edge} {ps qs : List Place} {ms ns : List Macro} (to : Among ps qs) (from : Among qs ps) where
+  parent-in : {v p : Place} → Parent (netBy W ps ms) G v p → Parent (netBy W qs ns) G v p
   parent-in r = record { through = through-in to from (r .through); smallest = λ w t. r .smallest w (through-in from to t) }
 
-  up-in : {v : Place} {l : List Place} → Up G ps v l → Up G qs v l
+  up-in : {v : Place} {l : List Place} → Up (netBy W ps ms) G v l → Up (netBy W qs ns) G v l
   up-in {v} (arrived m) = arrived (to v m)
   up-in {v} (upward n p u) = upward (λ i. n (from v i)) (parent-in p) (up-in u)
 
-  bridge-in : {k : Path} → Bridge G ps k → Bridge G qs k
+  bridge-in : {k : Path} → Bridge (netBy W ps ms) G k → Bridge (netBy W qs ns) G k
   bridge-in b = record {
     edge = b .edge;
     start-root = root-in to from (b .start-root);
@@ -117,7 +124,7 @@ module _ {G : List Edge} {ps qs : List Place} (to : Among ps qs) (from : Among q
     points-are = b .points-are;
   }
 
-  pub terminal-in : {ks : List Path} → Terminal G ps ks → Terminal G qs ks
+  pub terminal-in : {ks : List Path} → Terminal (netBy W ps ms) G ks → Terminal (netBy W qs ns) G ks
   terminal-in t = record {
     offered = t .offered;
     bridges = λ k m. bridge-in (t .bridges k m);
@@ -132,8 +139,8 @@ point-in : {ps qs : List Place} {T : List Edge} → Among ps qs → (v : Place) 
 point-in h v (inl m) = inl (h v m)
 point-in h v (inr l) = inr l
 
-gain-in : {ps qs : List Place} {ms ns : List Macro} {T : List Edge} → SameNet ps qs ms ns → (a b u : Place) (l : Edge) (g : ℕ) →
-    Gain ps ms T a b u l g → Gain qs ns T a b u l g
+gain-in : {W : Weights} {ps qs : List Place} {ms ns : List Macro} {T : List Edge} → SameNet ps qs ms ns → (a b u : Place) (l : Edge) (g : ℕ) →
+    Gain (netBy W ps ms) T a b u l g → Gain (netBy W qs ns) T a b u l g
 gain-in h a b u l g x =
     let c = x .candidate in
     record {
@@ -150,7 +157,7 @@ gain-in h a b u l g x =
       above = x .above;
     }
 
-round-in : {ps qs : List Place} {ms ns : List Macro} {T U : List Edge} → SameNet ps qs ms ns → Round ps ms T U → Round qs ns T U
+round-in : {W : Weights} {ps qs : List Place} {ms ns : List Macro} {T U : List Edge} → SameNet ps qs ms ns → Round (netBy W ps ms) T U → Round (netBy W qs ns) T U
 round-in h r = record {
   a = r .a;
   b = r .b;
@@ -166,23 +173,23 @@ round-in h r = record {
   edges = r .edges;
 }
 
-rounds-in : {ps qs : List Place} {ms ns : List Macro} → SameNet ps qs ms ns → (m : ℕ) (T U : List Edge) → Rounds ps ms m T U →
-    Rounds qs ns m T U
+rounds-in : {W : Weights} {ps qs : List Place} {ms ns : List Macro} → SameNet ps qs ms ns → (m : ℕ) (T U : List Edge) → Rounds (netBy W ps ms) m T U →
+    Rounds (netBy W qs ns) m T U
 rounds-in h zero T U r = r
 rounds-in h (suc m) T U (inl r) = inl (λ a b u l g x. r .0 a b u l g (gain-in (turned h) a b u l g x), r .1)
 rounds-in h (suc m) T U (inr (X, (r, more))) = inr (X, (round-in h r, rounds-in h m X U more))
 
-loose-in : {ps qs : List Place} {T : List Edge} → Among qs ps → (v : Place) (e : Edge) → Loose ps T v e → Loose qs T v e
+loose-in : {W : Weights} {ps qs : List Place} {ms ns : List Macro} {T : List Edge} → Among qs ps → (v : Place) (e : Edge) → Loose (netBy W ps ms) T v e → Loose (netBy W qs ns) T v e
 loose-in h v e l = record { free = λ m. l .free (h v m); edge = l .edge; end = l .end; single = l .single }
 
-strips-in : {ps qs : List Place} {T R : List Edge} → Among qs ps → Strips ps T R → Strips qs T R
+strips-in : {W : Weights} {ps qs : List Place} {ms ns : List Macro} {T R : List Edge} → Among qs ps → Strips (netBy W ps ms) T R → Strips (netBy W qs ns) T R
 strips-in h (same k) = same k
 strips-in h (strip v e l k s) = strip v e (loose-in h v e l) k (strips-in h s)
 
-refines-in : {ps qs : List Place} {ms ns : List Macro} {T R : List Edge} → SameNet ps qs ms ns → Refines ps ms T R → Refines qs ns T R
-refines-in {ps} {qs} {ms} {ns} {T} {R} h r = record {
+refines-in : {W : Weights} {ps qs : List Place} {ms ns : List Macro} {T R : List Edge} → SameNet ps qs ms ns → Refines (netBy W ps ms) T R → Refines (netBy W qs ns) T R
+refines-in {W} {ps} {qs} {ms} {ns} {T} {R} h r = record {
   rounded = r .rounded;
-  rounds = subst (λ (m : ℕ). Rounds qs ns m T (r .rounded)) (h .count) (rounds-in h (length ps) T (r .rounded) (r .rounds));
+  rounds = subst (λ (m : ℕ). Rounds (netBy W qs ns) m T (r .rounded)) (h .count) (rounds-in h (length ps) T (r .rounded) (r .rounds));
   prunes = record {
     strips = strips-in (h .from) (r .prunes .strips);
     none = λ v e l. r .prunes .none v e (loose-in (h .to) v e l);
@@ -191,8 +198,8 @@ refines-in {ps} {qs} {ms} {ns} {T} {R} h r = record {
 
 -- All of it
 
-pub trees-in : {ps qs : List Place} {ms ns : List Macro} {vs : List Place} {es rs : List Edge} {ks : List Path} → SameNet ps qs ms ns →
-    Trees ps ms vs es ks rs → Trees qs ns vs es ks rs
+pub trees-in : {W : Weights} {ps qs : List Place} {ms ns : List Macro} {vs : List Place} {es rs : List Edge} {ks : List Path} → SameNet ps qs ms ns →
+    Trees (netBy W ps ms) vs es ks rs → Trees (netBy W qs ns) vs es ks rs
 trees-in h t = record {
   spanning = spanning-in h (t .spanning);
   terminal = terminal-in (h .to) (h .from) (t .terminal);

@@ -6,8 +6,9 @@ use mathlib.Core.List.{List}
 use Rattle.plane.specs.declared.Place.{Place}
 use Rattle.plane.specs.declared.Macro.{Macro}
 use Rattle.net.specs.Allowed.{Allowed}
+use Rattle.net.specs.Net.{Net}
+use Rattle.graph.specs.Spanning.{verticesOf, spanning}
 use Rattle.graph.specs.Vertices.{vertices}
-use Rattle.terminal.specs.Tree.{spanning}
 use Rattle.refiner.specs.Refined.{refined}
 use Rattle.union.specs.Union.{unionOf}
 use Rattle.refined.specs.Edges.{treeEdges}
@@ -20,27 +21,27 @@ use Rattle.rules.proofs.SpanningOurs.{graph-ours, graph-only}
 use Rattle.rules.proofs.TerminalOurs.{ourPaths, terminal-ours, terminal-only}
 use Rattle.rules.proofs.RefinedOurs.{refined-ours, refined-only}
 
-module _ {ps : List Place} {ms : List Macro} (a : Allowed ps ms) where
+module _ {net : Net} (a : Allowed net) where
   abbrev ours : List Edge
-  ours = treeEdges (refined ms ps (unionOf ps ms))
+  ours = treeEdges (refined net (unionOf net))
 
-  pub trees-ours : Trees ps ms (vertices ps ms) (spanning ps ms) (ourPaths a) ours
-  trees-ours = record { spanning = graph-ours ps ms; terminal = terminal-ours a; refined = refined-ours a }
+  pub trees-ours : Trees net (verticesOf net) (spanning net) (ourPaths a) ours
+  trees-ours = record { spanning = graph-ours net; terminal = terminal-ours a; refined = refined-ours a }
 
   -- and there are no others
-  pub trees-only : {vs : List Place} {es : List Edge} {ks : List Path} {rs : List Edge} → Trees ps ms vs es ks rs →
-      Equal vs (vertices ps ms) es (spanning ps ms) ks (ourPaths a) rs ours
+  pub trees-only : {vs : List Place} {es : List Edge} {ks : List Path} {rs : List Edge} → Trees net vs es ks rs →
+      Equal vs (verticesOf net) es (spanning net) ks (ourPaths a) rs ours
   trees-only {ks = ks} {rs = rs} t =
-      let g = graph-only ps ms (t .spanning) in
-      let k = terminal-only a ks (subst (λ (l : List Edge). Terminal l ps ks) (g .1) (t .terminal)) in
+      let g = graph-only net (t .spanning) in
+      let k = terminal-only a ks (subst (λ (l : List Edge). Terminal net l ks) (g .1) (t .terminal)) in
       record {
         vertices = g .0;
         edges = g .1;
         paths = k;
-        refined = refined-only a rs (subst (λ (l : List Path). Refined ps ms l rs) k (t .refined));
+        refined = refined-only a rs (subst (λ (l : List Path). Refined net l rs) k (t .refined));
       }
 
 -- So the trees of two nets that have the same pins and macros are the same.
-module _ {ps qs : List Place} {ms ns : List Macro} (h : SameNet ps qs ms ns) (a : Allowed ps ms) (b : Allowed qs ns) where
-  pub trees-same : Equal (vertices ps ms) (vertices qs ns) (spanning ps ms) (spanning qs ns) (ourPaths a) (ourPaths b) (ours a) (ours b)
+module _ {ps qs : List Place} {ms ns : List Macro} (h : SameNet (net .pins) qs ms ns) (a : Allowed net) (b : Allowed qs ns) where
+  pub trees-same : Equal (verticesOf net) (vertices qs ns) (spanning net) (spanning qs ns) (ourPaths a) (ourPaths b) (ours a) (ours b)
   trees-same = trees-only b (trees-in h (trees-ours a))

@@ -14,12 +14,12 @@ use Rattle.joined.specs.Cost.{lengths}
 use Rattle.plane.specs.declared.Place.{Place}
 use Rattle.plane.specs.declared.Macro.{Macro}
 use Rattle.plane.specs.Place.{place}
-use Rattle.plane.specs.Distance.{distance}
 use Rattle.plane.specs.Macro.{macro}
 use Rattle.net.specs.Allowed.{Allowed}
 use Rattle.net.specs.WorkedNets.{threePins, onSides}
 use Rattle.net.proofs.AllowedLaws.{given-allowed}
 use Rattle.net.proofs.WorkedChecks.{answer, worked-checks}
+use Rattle.net.specs.Net.{costIn}
 use Rattle.graph.proofs.WorkedGraphs.{graphOf}
 use Rattle.terminal.proofs.WorkedPaths.{treeIn}
 use Rattle.union.proofs.WorkedUnions.{union}
@@ -128,8 +128,8 @@ unfolding treeIn
 other-side vs es rs k b t =
     let e : map givenFor (k ∷ []) ≡ ((at 0 0, at 1 0), 3) ∷ [] =
     ap (map givenFor) (trees-only sides-allowed t .paths) ∙ paths-given sides-allowed in
-    let f = ap (λ (l : List (Edge × ℕ)). total (map (λ (x : Edge × ℕ). distance (at 0 0) (x .0 .0)) l)) e in
-    let g : _≡_ {A = ℕ} 2 0 = sym (ap (λ (x : Edge). distance (at 0 0) (x .0) + 0) b) ∙ f in
+    let f = ap (λ (l : List (Edge × ℕ)). total (map (λ (x : Edge × ℕ). costIn net (at 0 0) (x .0 .0)) l)) e in
+    let g : _≡_ {A = ℕ} 2 0 = sym (ap (λ (x : Edge). costIn net (at 0 0) (x .0) + 0) b) ∙ f in
     omega (arith, g)
 
 -- Refined trees: with whatever graph and paths
@@ -138,12 +138,12 @@ module _ {vs : List Place} {es : List Edge} {ks : List Path} where
   -- E4, `keeps` and `union`: no edge at all
   pub no-edge : Trees three [] vs es ks [] → ⊥
   unfolding answer treeIn union refinedOf lengths edgesFrom
-  no-edge t = let e : _≡_ {A = ℕ} 0 7 = ap (lengths distance) (trees-only three-allowed t .refined) in omega (arith, e)
+  no-edge t = let e : _≡_ {A = ℕ} 0 7 = ap (lengths (costIn net)) (trees-only three-allowed t .refined) in omega (arith, e)
 
   -- E4, `rounds`: no gain is reported without trying, so it is the union
   pub never-refined : Trees three [] vs es ks ((at 0 0, at 2 3) ∷ (at 0 0, at 4 0) ∷ []) → ⊥
   unfolding answer treeIn union refinedOf lengths edgesFrom
-  never-refined t = let e : _≡_ {A = ℕ} 9 7 = ap (lengths distance) (trees-only three-allowed t .refined) in omega (arith, e)
+  never-refined t = let e : _≡_ {A = ℕ} 9 7 = ap (lengths (costIn net)) (trees-only three-allowed t .refined) in omega (arith, e)
 
   -- E4, `in-order` of Refined: the right edges in another order
   pub other-order : Trees three [] vs es ks ((at 2 0, at 2 3) ∷ (at 0 0, at 2 0) ∷ (at 2 0, at 4 0) ∷ []) → ⊥
@@ -153,20 +153,20 @@ module _ {vs : List Place} {es : List Edge} {ks : List Path} where
   -- the cross, `rounds`: one round, and idle in the second
   pub one-round : Trees cross [] vs es ks ((at 0 1, at 1 1) ∷ (at 0 1, at 2 1) ∷ (at 1 0, at 1 1) ∷ (at 1 1, at 1 2) ∷ []) → ⊥
   unfolding answer treeIn union refinedOf lengths edgesFrom
-  one-round t = let e : _≡_ {A = ℕ} 5 4 = ap (lengths distance) (trees-only cross-allowed t .refined) in omega (arith, e)
+  one-round t = let e : _≡_ {A = ℕ} 5 4 = ap (lengths (costIn net)) (trees-only cross-allowed t .refined) in omega (arith, e)
 
   -- the bare corner, `none` of Prunes: (0, 2), no pin, stays with its single edge
   pub never-pruned : Trees bare slab vs es ks
       ((at 0 0, at 1 0) ∷ (at 0 2, at 1 2) ∷ (at 1 0, at 1 1) ∷ (at 1 1, at 1 2) ∷ (at 1 1, at 3 1) ∷ (at 1 2, at 1 3) ∷ []) → ⊥
   unfolding answer treeIn union refinedOf lengths edgesFrom
-  never-pruned t = let e : _≡_ {A = ℕ} 7 6 = ap (lengths distance) (trees-only bare-allowed t .refined) in omega (arith, e)
+  never-pruned t = let e : _≡_ {A = ℕ} 7 6 = ap (lengths (costIn net)) (trees-only bare-allowed t .refined) in omega (arith, e)
 
   -- `smallest` of Takes: of two points with the same gain the later one, though the tree is then shorter
   pub later-point : Trees tied wall vs es ks ((at 0 3, at 1 2) ∷ (at 1 0, at 1 2) ∷ (at 1 2, at 3 2) ∷ []) → ⊥
   unfolding answer treeIn union refinedOf lengths edgesFrom
-  later-point t = let e : _≡_ {A = ℕ} 6 7 = ap (lengths distance) (trees-only tied-allowed t .refined) in omega (arith, e)
+  later-point t = let e : _≡_ {A = ℕ} 6 7 = ap (lengths (costIn net)) (trees-only tied-allowed t .refined) in omega (arith, e)
 
   -- `above` of Gain: an exchange for nothing, though pruning then makes the tree shorter
   pub exchange-for-nothing : Trees even unit vs es ks ((at 0 3, at 1 2) ∷ (at 1 0, at 1 2) ∷ (at 1 2, at 2 2) ∷ []) → ⊥
   unfolding answer treeIn union refinedOf lengths edgesFrom
-  exchange-for-nothing t = let e : _≡_ {A = ℕ} 5 6 = ap (lengths distance) (trees-only even-allowed t .refined) in omega (arith, e)
+  exchange-for-nothing t = let e : _≡_ {A = ℕ} 5 6 = ap (lengths (costIn net)) (trees-only even-allowed t .refined) in omega (arith, e)

@@ -1,8 +1,8 @@
 -- What the trees of a net are: the page that a buyer must believe, under the numbers of docs/RULES.md.
 --
 -- WHAT IT IS. Graph, terminal tree and refined tree as relations over places and edges. No table, no number of a vertex and no function of
--- the router is named here: these files use only places and macros, the order and the distance of places, the middle of three, what is
--- clear (`plane`), and ways, chains and trees over any points (`joined`). For every allowed net `Spanning`, `Terminal`, `Refined` and
+-- the router is named here: these files use only a net (`Net`), the order of places, the cost of metal between two, the middle of three, what
+-- is clear (`plane`), and ways, chains and trees over any points (`joined`). For every allowed net `Spanning`, `Terminal`, `Refined` and
 -- `Trees` have our answer as their one solution; so they say all that there is to say, and how the answer is worked out is nobody's
 -- business but the prover's. `BestJoining` and `RefinedTree` (D3) say how good that answer is.
 --
@@ -11,21 +11,21 @@
 -- matter follows from "one solution" alone (`trees-same`).
 --
 --   Interior   PlanePoint, Interior, Box        a point with fractions; when it lies in an interior, in a closed box
---   Edges      Edge, edgeBefore, edgeLength     edges, their order and their length
+--   Edges      Edge, edgeBefore, edgeCost       edges, their order and their cost
 --              Same T U                         the same edges, as sets
 --   Spanning   Vertex, Lies, May, Picks         vertices; quadrants; what a vertex may pick, and what it picks
---              Spanning ps ms vs es             vs and es are vertices and edges of the graph, in order
+--              Spanning net vs es               vs and es are vertices and edges of the graph, in order
 --   Terminal   Path, givenFor                   a path of the tree with its bridge; what is given for it
 --              Root, Parent, Up, Bridge         roots, parents and ways; what a bridge stands for
---              Terminal G ps ks                 ks are the kept paths, in the order kept
+--              Terminal net G ks                ks are the kept paths, in the order kept
 --   Refined    OnSome, Union                    an edge of one of the paths; the start
 --              Candidate, Cut, Gain, Takes      a candidate, its L and its gain; the one that a round takes
 --              After, Round, Rounds             which edges are there after a round; at most m of them
 --              TreesThrough, FallsThrough       the trees between are trees; each round makes them shorter by its gain
 --              Loose, Strips, Prunes            points that go, in any order, until there is none
---              Refined ps ms ks rs              rs are the edges of the refined tree, in order
---   Trees      Trees ps ms vs es ks rs          all three;  Equal: the same four lists
---   Demand     BestJoining G ps ks              D3 of the kept paths;  RefinedTree: D3 of the refined tree
+--              Refined net ks rs                rs are the edges of the refined tree, in order
+--   Trees      Trees net vs es ks rs            all three;  Equal: the same four lists
+--   Demand     BestJoining net G ks             D3 of the kept paths;  RefinedTree: D3 of the refined tree
 --
 -- THE THEOREMS (proofs/)
 --   InteriorLaws   box-meets, interiors-meet, clear-points    the tests on whole numbers are about points with fractions

@@ -10,8 +10,8 @@ use Rattle.lists.specs.Sorted.{Ascending}
 use Rattle.plane.specs.declared.Place.{Place}
 use Rattle.plane.specs.declared.Macro.{Macro}
 use Rattle.plane.specs.Place.{before}
-use Rattle.plane.specs.Distance.{distance}
 use Rattle.plane.specs.Macro.{clear}
+use Rattle.net.specs.Net.{Net, costIn}
 use Rattle.rules.specs.Edges.{Edge, edgeBefore}
 
 -- N3: v is one of the four corners of m
@@ -19,8 +19,8 @@ abbrev pub CornerOf : Macro → Place → Type 0
 CornerOf m v = ((v .x ≡ m .left) ⊎ (v .x ≡ m .right)) × ((v .y ≡ m .bottom) ⊎ (v .y ≡ m .top))
 
 -- G1: the vertices are the pins and the macros' corners
-abbrev pub Vertex : List Place → List Macro → Place → Type 0
-Vertex ps ms v = (v ∈ ps) ⊎ ((m : Macro) × ((m ∈ ms) × CornerOf m v))
+abbrev pub Vertex : Net → Place → Type 0
+Vertex net v = (v ∈ net .pins) ⊎ ((m : Macro) × ((m ∈ net .macros) × CornerOf m v))
 
 -- G2: the four quadrants of a vertex, from the upper right one round to the left
 pub data Quadrant : Type 0 where
@@ -36,19 +36,19 @@ Lies second u v = (leZ (v .x) (u .x) ≡ true) × (ltZ (u .y) (v .y) ≡ true)
 Lies third u v = (ltZ (v .x) (u .x) ≡ true) × (leZ (v .y) (u .y) ≡ true)
 Lies fourth u v = (leZ (u .x) (v .x) ≡ true) × (ltZ (v .y) (u .y) ≡ true)
 
-module _ (ms : List Macro) (vs : List Place) where
+module _ (net : Net) (vs : List Place) where
   -- G4: u may pick v in the quadrant q: a vertex that lies there and is clear of u
   pub record May (q : Quadrant) (u v : Place) : Type 0 where
     pub vertex : v ∈ vs
     pub lies : Lies q u v
-    pub seen : clear u v ms ≡ true
+    pub seen : clear u v (net .macros) ≡ true
 
   -- G4: u picks v: in some quadrant the nearest that it may, and of those the smallest place
   pub record Picks (u v : Place) : Type 0 where
     pub quadrant : Quadrant
     pub may : May quadrant u v
-    pub nearest : (w : Place) → May quadrant u w → distance u v ≤ distance u w
-    pub smallest : (w : Place) → May quadrant u w → distance u w ≡ distance u v → before w v ≡ false
+    pub nearest : (w : Place) → May quadrant u w → costIn net u v ≤ costIn net u w
+    pub smallest : (w : Place) → May quadrant u w → costIn net u w ≡ costIn net u v → before w v ≡ false
 
   -- G5: u and v are joined by an edge, written smaller place first (N16): one vertex picks the other
   pub record Neighbours (u v : Place) : Type 0 where
@@ -58,8 +58,8 @@ module _ (ms : List Macro) (vs : List Place) where
     pub picked : Picks u v ⊎ Picks v u
 
 -- G1, G5: vs are the vertices and es the edges of the net's graph, both in order, so each once
-pub record Spanning (ps : List Place) (ms : List Macro) (vs : List Place) (es : List Edge) : Type 0 where
-  pub vertices : (v : Place) → (v ∈ vs) ↔ Vertex ps ms v
+pub record Spanning (net : Net) (vs : List Place) (es : List Edge) : Type 0 where
+  pub vertices : (v : Place) → (v ∈ vs) ↔ Vertex net v
   pub vertices-in-order : Ascending before vs
-  pub edges : (u v : Place) → ((u, v) ∈ es) ↔ Neighbours ms vs u v
+  pub edges : (u v : Place) → ((u, v) ∈ es) ↔ Neighbours net vs u v
   pub edges-in-order : Ascending edgeBefore es

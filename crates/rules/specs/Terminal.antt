@@ -1,4 +1,4 @@
--- The terminal tree of a net: roots, parents, ways, bridges and kept paths, over the edges G of a graph and the pins ps.
+-- The terminal tree of a net: roots, parents, ways, bridges and kept paths, over the edges G of a net's graph.
 -- That the paths are terminal paths (T2), a joining and none shorter, is D3 and stands in Demand.antt.
 use mathlib.Core.Path.{_≡_}
 use mathlib.Core.Bool.{Bool, false}
@@ -12,7 +12,7 @@ use Rattle.joined.specs.Way.{Way, long, turned}
 use Rattle.joined.specs.Keep.{Keeping}
 use Rattle.plane.specs.declared.Place.{Place}
 use Rattle.plane.specs.Place.{before}
-use Rattle.plane.specs.Distance.{distance}
+use Rattle.net.specs.Net.{Net, costIn}
 use Rattle.rules.specs.Edges.{Edge, edgeBefore}
 
 -- Paths
@@ -28,28 +28,28 @@ pub record Path : Type 0 where
 abbrev pub pathEnds : Path → Place × Place
 pathEnds k = (k .start, k .finish)
 
--- T4: its length, every edge of it counted
-abbrev pub pathLength : Path → ℕ
-pathLength k = long distance (k .start) (k .points)
+-- T4: its cost, every edge of it counted
+abbrev pub pathCost : Net → Path → ℕ
+pathCost net k = long (costIn net) (k .start) (k .points)
 
--- C64: what is given for a path: its bridge and its length
-abbrev pub givenFor : Path → Edge × ℕ
-givenFor k = (k .bridge, pathLength k)
+-- C64: what is given for a path: its bridge and its cost
+abbrev pub givenFor : Net → Path → Edge × ℕ
+givenFor net k = (k .bridge, pathCost net k)
 
--- T11, T12: the shorter path is taken first, and of equal ones the one with the smaller bridge
-abbrev pub takenFirst : Path → Path → Bool
-takenFirst j k = firstThen ltb edgeBefore (pathLength j, j .bridge) (pathLength k, k .bridge)
+-- T11, T12: the cheaper path is taken first, and of equal ones the one with the smaller bridge
+abbrev pub takenFirst : Net → Path → Path → Bool
+takenFirst net j k = firstThen ltb edgeBefore (pathCost net j, j .bridge) (pathCost net k, k .bridge)
 
-module _ (G : List Edge) (ps : List Place) where
+module _ (net : Net) (G : List Edge) where
   -- Roots, parents and ways
 
   -- T6: p is the root of v: the nearest pin along the graph, and of those the smallest
   pub record Root (v p : Place) : Type 0 where
-    pub pin : p ∈ ps
+    pub pin : p ∈ net .pins
     pub points : List Place
     pub way : Way G v points p
-    pub nearest : (q : Place) (qs : List Place) → q ∈ ps → Way G v qs q → long distance v points ≤ long distance v qs
-    pub smallest : (q : Place) (qs : List Place) → q ∈ ps → Way G v qs q → long distance v qs ≡ long distance v points →
+    pub nearest : (q : Place) (qs : List Place) → q ∈ net .pins → Way G v qs q → long (costIn net) v points ≤ long (costIn net) v qs
+    pub smallest : (q : Place) (qs : List Place) → q ∈ net .pins → Way G v qs q → long (costIn net) v qs ≡ long (costIn net) v points →
         before q p ≡ false
 
   -- T7: w is a neighbour of v with the same root, and a shortest way from v to that root goes over it
@@ -60,7 +60,7 @@ module _ (G : List Edge) (ps : List Place) where
     pub same : Root w root
     pub points : List Place
     pub way : Way G w points root
-    pub shortest : (qs : List Place) → Way G v qs root → distance v w + long distance w points ≤ long distance v qs
+    pub shortest : (qs : List Place) → Way G v qs root → costIn net v w + long (costIn net) w points ≤ long (costIn net) v qs
 
   -- T7: p is the parent of v: the smallest such neighbour
   pub record Parent (v p : Place) : Type 0 where
@@ -69,8 +69,8 @@ module _ (G : List Edge) (ps : List Place) where
 
   -- T8: the places after v on its way to its root: parent after parent, until a pin
   pub data Up : Place → List Place → Type 0 where
-    arrived : {v : Place} → v ∈ ps → Up v []
-    upward : {v p : Place} {qs : List Place} → (v ∈ ps → ⊥) → Parent v p → Up p qs → Up v (p ∷ qs)
+    arrived : {v : Place} → v ∈ net .pins → Up v []
+    upward : {v p : Place} {qs : List Place} → (v ∈ net .pins → ⊥) → Parent v p → Up p qs → Up v (p ∷ qs)
 
   -- Bridges
 
@@ -94,5 +94,5 @@ module _ (G : List Edge) (ps : List Place) where
     pub bridges : (k : Path) → k ∈ offered → Bridge k
     pub all : (e : Edge) → e ∈ G → (p q : Place) → Root (e .0) p → Root (e .1) q → (p ≡ q → ⊥) →
         (k : Path) × ((k ∈ offered) × (k .bridge ≡ e))
-    pub in-turn : Ascending takenFirst offered
+    pub in-turn : Ascending (takenFirst net) offered
     pub keeps : Keeping pathEnds [] offered ks

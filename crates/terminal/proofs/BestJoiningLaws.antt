@@ -17,8 +17,9 @@ use Rattle.joined.proofs.CarriedLaws.{turned-carried, same-point, path-carried,
 use Rattle.joined.proofs.CarriedLaws.{Follows, chain-carried, joining-carried, our-way-carried, chain-ends}
 use Rattle.plane.specs.declared.Place.{Place}
 use Rattle.plane.specs.declared.Macro.{Macro}
-use Rattle.plane.specs.Distance.{distance}
 use Rattle.net.specs.Allowed.{Allowed}
+use Rattle.net.specs.Net.{Net, costIn}
+use Rattle.graph.specs.Spanning.{verticesOf, spanning}
 use Rattle.graph.specs.Vertices.{vertices}
 use Rattle.forest.specs.Edges.{one, two}
 use Rattle.terminal.specs.Bridges.{sameRoot, rootsOf as rootsBy}
@@ -26,7 +27,7 @@ use Rattle.terminal.specs.Kept.{terminal, keptLengths}
 use Rattle.forest.specs.Setting.{pairs}
 use Rattle.terminal.proofs.OurTree.{stands, kept-joining, none-shorter, none-lower}
 use Rattle.terminal.specs.Number.{numberOf, vertexAt, edgeAt}
-use Rattle.terminal.specs.Tree.{spanning, treeOf, bridgesOf, lengthsOf, pathsOf, totalOf, rootsOf}
+use Rattle.terminal.specs.Tree.{treeOf, bridgesOf, lengthsOf, pathsOf, totalOf, rootsOf}
 use Rattle.terminal.specs.Roots.{WayUp}
 use Rattle.terminal.specs.Stands.{Kept, PathOf, keptEnds, Stands}
 use Rattle.terminal.proofs.SettingOf.{between-numbers, edge-in, one-vertex, two-vertex, setting, whole, paths-count}
@@ -35,44 +36,44 @@ use Rattle.terminal.proofs.CrossingLaws.{kept, weight, given, bridgeNum
 use Rattle.terminal.proofs.CrossingLaws.{number-in, given-number, number-follows}
 use Rattle.terminal.proofs.RootLaws.{wayPlaces, way-up}
 
-module _ {ps : List Place} {ms : List Macro} (a : Allowed ps ms) where
+module _ {net : Net} (a : Allowed net) where
   -- What is given for a kept path
 
-  pub paths-length : suc (length (pathsOf ps ms)) ≡ length ps
+  pub paths-length : suc (length (pathsOf net)) ≡ length (net .pins)
   unfolding pathsOf
-  paths-length = ap suc (length-map (treeOf ps ms .bridges) _) ∙ paths-count a
+  paths-length = ap suc (length-map (treeOf net .bridges) _) ∙ paths-count a
 
-  pub paths-bridges : map (λ k. k .0) (pathsOf ps ms) ≡ bridgesOf ps ms
+  pub paths-bridges : map (λ k. k .0) (pathsOf net) ≡ bridgesOf net
   unfolding treeOf terminal pathsOf bridgesOf
-  paths-bridges = map-then (given a) (λ (k : Kept). k .0) (edgeAt (spanning ps ms)) (kept a) (λ k m. refl)
+  paths-bridges = map-then (given a) (λ (k : Kept). k .0) (edgeAt (spanning net)) (kept a) (λ k m. refl)
 
-  pub paths-lengths : map (λ k. k .1) (pathsOf ps ms) ≡ lengthsOf ps ms
+  pub paths-lengths : map (λ k. k .1) (pathsOf net) ≡ lengthsOf net
   unfolding treeOf terminal keptLengths pathsOf
   paths-lengths = map-then (given a) (λ (k : Kept). k .1) (weight a) (kept a) (λ k m. refl)
 
-  pub paths-sum : totalOf ps ms ≡ total (map (λ k. k .1) (pathsOf ps ms))
+  pub paths-sum : totalOf net ≡ total (map (λ k. k .1) (pathsOf net))
   unfolding treeOf terminal
   paths-sum = ap total (sym paths-lengths)
 
   -- the path that a bridge stands for
-  pub bridge-stands : (k : ℕ) → k < G a .count → sameRoot (G a) (T a) k ≡ false → Stands ps ms (edgeAt (spanning ps ms) k) (weight a k)
+  pub bridge-stands : (k : ℕ) → k < G a .count → sameRoot (G a) (T a) k ≡ false → Stands net (edgeAt (spanning net) k) (weight a k)
   unfolding rootsOf
   bridge-stands k h e =
       let s = stands (setting a) (whole a) k h e in
       let f = given-follows a k h in
       record {
         path = path-carried (to-places a) (s .path);
-        start-is = start-carried (to-places a) (s .path) ∙ ap (vertexAt (vertices ps ms)) (s .start-is) ∙ sym (f .0);
-        finish-is = finish-carried (to-places a) (s .path) ∙ ap (vertexAt (vertices ps ms)) (s .finish-is) ∙ sym (f .1);
+        start-is = start-carried (to-places a) (s .path) ∙ ap (vertexAt (verticesOf net)) (s .start-is) ∙ sym (f .0);
+        finish-is = finish-carried (to-places a) (s .path) ∙ ap (vertexAt (verticesOf net)) (s .finish-is) ∙ sym (f .1);
         is-edge = edge-in a k h;
         first-way = wayPlaces a (one (G a) k);
-        first-up = subst (λ (u : Place). WayUp ps ms u (wayPlaces a (one (G a) k))) (one-vertex a k h) (way-up a _ (setting a .one-in k h));
+        first-up = subst (λ (u : Place). WayUp net u (wayPlaces a (one (G a) k))) (one-vertex a k h) (way-up a _ (setting a .one-in k h));
         second-way = wayPlaces a (two (G a) k);
-        second-up = subst (λ (u : Place). WayUp ps ms u (wayPlaces a (two (G a) k))) (two-vertex a k h)
+        second-up = subst (λ (u : Place). WayUp net u (wayPlaces a (two (G a) k))) (two-vertex a k h)
             (way-up a _ (setting a .two-in k h));
         points-are =
-            points-carried (to-places a) (s .path) ∙ ap (map (vertexAt (vertices ps ms))) (s .points-are)
-            ∙ turned-carried (vertexAt (vertices ps ms)) (one (G a) k) _ _
+            points-carried (to-places a) (s .path) ∙ ap (map (vertexAt (verticesOf net))) (s .points-are)
+            ∙ turned-carried (vertexAt (verticesOf net)) (one (G a) k) _ _
             ∙ ap₂ (λ (u v : Place). turned u (wayPlaces a (one (G a) k)) (v ∷ wayPlaces a (two (G a) k))) (one-vertex a k h)
             (two-vertex a k h);
         over-bridge = rw (sym (one-vertex a k h), sym (two-vertex a k h)) (step-carried (to-places a) (s .path) _ _ (s .over-bridge));
@@ -81,53 +82,53 @@ module _ {ps : List Place} {ms : List Macro} (a : Allowed ps ms) where
 
   -- Our joining
 
-  kept-follows : (k : ℕ) → k ∈ kept a → Follows (vertexAt (vertices ps ms)) (given a) (rootsBy (G a) (T a)) (keptEnds ps ms) k
+  kept-follows : (k : ℕ) → k ∈ kept a → Follows (vertexAt (verticesOf net)) (given a) (rootsBy (G a) (T a)) (keptEnds net) k
   kept-follows k m = given-follows a k (kept-below a k m)
 
-  pub paths-joining : Joining (keptEnds ps ms) ps (pathsOf ps ms)
+  pub paths-joining : Joining (keptEnds net) (net .pins) (pathsOf net)
   paths-joining =
-      joining-carried (vertexAt (vertices ps ms)) (given a) (rootsBy (G a) (T a)) (keptEnds ps ms) (given-in a) kept-follows
-      (numberOf (vertices ps ms)) (to-places a .pin-back) (λ q m. to-numbers a .undone q (to-numbers a .pin-in q m))
+      joining-carried (vertexAt (verticesOf net)) (given a) (rootsBy (G a) (T a)) (keptEnds net) (given-in a) kept-follows
+      (numberOf (verticesOf net)) (to-places a .pin-back) (λ q m. to-numbers a .undone q (to-numbers a .pin-in q m))
       (kept-joining (setting a) (whole a))
 
   -- Paths that they are compared with
 
-  abbrev back : PathOf ps ms → TerminalPath (pairs (G a)) (pins a)
+  abbrev back : PathOf net → TerminalPath (pairs (G a)) (pins a)
   back = path-carried (to-numbers a)
 
-  back-follows : (t : PathOf ps ms) → Follows (numberOf (vertices ps ms)) back endsOf endsOf t
+  back-follows : (t : PathOf net) → Follows (numberOf (verticesOf net)) back endsOf endsOf t
   back-follows t = (start-carried (to-numbers a) t, finish-carried (to-numbers a) t)
 
-  back-lengths : (J : List (PathOf ps ms)) → map (lengthOf (between-numbers a)) (map back J) ≡ map (lengthOf distance) J
-  back-lengths J = map-then back (lengthOf (between-numbers a)) (lengthOf distance) J (λ t m. sym (length-by-numbers a t))
+  back-lengths : (J : List (PathOf net)) → map (lengthOf (between-numbers a)) (map back J) ≡ map (lengthOf (costIn net)) J
+  back-lengths J = map-then back (lengthOf (between-numbers a)) (lengthOf (costIn net)) J (λ t m. sym (length-by-numbers a t))
 
-  pub no-shorter-joining : (J : List (PathOf ps ms)) → Joining endsOf ps J → totalOf ps ms ≤ total (map (lengthOf distance) J)
+  pub no-shorter-joining : (J : List (PathOf net)) → Joining endsOf (net .pins) J → totalOf net ≤ total (map (lengthOf (costIn net)) J)
   unfolding treeOf
   no-shorter-joining J h =
       let j =
-      joining-carried (numberOf (vertices ps ms)) back endsOf endsOf (λ t m. in-map back m) (λ t m. back-follows t)
-      (vertexAt (vertices ps ms)) (to-numbers a .pin-back) (λ q m. to-places a .undone q (to-places a .pin-in q m)) h
+      joining-carried (numberOf (verticesOf net)) back endsOf endsOf (λ t m. in-map back m) (λ t m. back-follows t)
+      (vertexAt (verticesOf net)) (to-numbers a .pin-back) (λ q m. to-places a .undone q (to-places a .pin-in q m)) h
       in
       omega (arith, none-shorter (setting a) (whole a) (map back J) j, ap total (back-lengths J))
 
   -- Our way
 
-  number-apart : (x y : Place) → x ∈ ps → y ∈ ps → (x ≡ y → ⊥) → numberOf (vertices ps ms) x ≡ numberOf (vertices ps ms) y → ⊥
+  number-apart : (x y : Place) → x ∈ net .pins → y ∈ net .pins → (x ≡ y → ⊥) → numberOf (verticesOf net) x ≡ numberOf (verticesOf net) y → ⊥
   number-apart x y i k n e = n (same-point (to-numbers a) x y (to-numbers a .pin-in x i) (to-numbers a .pin-in y k) e)
 
-  way-back : {x y : Place} {w : List Kept} → OurWay (keptEnds ps ms) (pathsOf ps ms) x y w →
-      OurWay (rootsBy (G a) (T a)) (kept a) (numberOf (vertices ps ms) x) (numberOf (vertices ps ms) y) (map (bridgeNumber a) w)
+  way-back : {x y : Place} {w : List Kept} → OurWay (keptEnds net) (pathsOf net) x y w →
+      OurWay (rootsBy (G a) (T a)) (kept a) (numberOf (verticesOf net) x) (numberOf (verticesOf net) y) (map (bridgeNumber a) w)
   way-back o =
-      our-way-carried (numberOf (vertices ps ms)) (bridgeNumber a) (keptEnds ps ms) (rootsBy (G a) (T a)) (number-in a) (number-follows a)
+      our-way-carried (numberOf (verticesOf net)) (bridgeNumber a) (keptEnds net) (rootsBy (G a) (T a)) (number-in a) (number-follows a)
       (λ b c m n e. sym (given-number a b m) ∙ ap (given a) e ∙ given-number a c n) o
 
-  pub no-lower-chain : {x y : Place} → (x ≡ y → ⊥) → {w : List Kept} → OurWay (keptEnds ps ms) (pathsOf ps ms) x y w →
-      {cs : List (PathOf ps ms)} → Chain endsOf x cs y → most (map (λ k. k .1) w) ≤ most (map (lengthOf distance) cs)
+  pub no-lower-chain : {x y : Place} → (x ≡ y → ⊥) → {w : List Kept} → OurWay (keptEnds net) (pathsOf net) x y w →
+      {cs : List (PathOf net)} → Chain endsOf x cs y → most (map (λ k. k .1) w) ≤ most (map (lengthOf (costIn net)) cs)
   no-lower-chain {x} {y} n {w} o {cs} c =
       let e = chain-ends endsOf c (λ t m. (t .start-pin, t .finish-pin)) in
       let r =
       none-lower (setting a) (whole a) (number-apart x y (e .0) (e .1) n) (way-back o)
-      (chain-carried (numberOf (vertices ps ms)) back endsOf endsOf c (λ t m. back-follows t))
+      (chain-carried (numberOf (verticesOf net)) back endsOf endsOf c (λ t m. back-follows t))
       in
       let weights : map (weight a) (map (bridgeNumber a) w) ≡ map (λ k. k .1) w =
       map-then (bridgeNumber a) (weight a) (λ (k : Kept). k .1) w (λ b m. ap (λ (k : Kept). k .1) (given-number a b (o .among b m)))

@@ -16,8 +16,9 @@ use Rattle.joined.proofs.JoinedLaws.{firsts, seconds}
 use Rattle.joined.proofs.CarriedLaws.{Carries, way-carried, long-carried, path-carried, length-carried, Follows}
 use Rattle.plane.specs.declared.Place.{Place}
 use Rattle.plane.specs.declared.Macro.{Macro}
-use Rattle.plane.specs.Distance.{distance}
 use Rattle.net.specs.Allowed.{Allowed}
+use Rattle.net.specs.Net.{Net, costIn}
+use Rattle.graph.specs.Spanning.{verticesOf, spanning}
 use Rattle.graph.specs.Vertices.{vertices}
 use Rattle.graph.specs.Edges.{beforeEdge}
 use Rattle.graph.proofs.VertexLaws.{pin-vertex, vertices-ascending}
@@ -33,30 +34,30 @@ use Rattle.terminal.proofs.WholeLaws.{of-kept}
 use Rattle.forest.proofs.Nearest.{link-in}
 use Rattle.forest.proofs.Homeward.{root-pin}
 use Rattle.terminal.specs.Number.{numberOf, vertexAt, edgeAt, pinNumbers}
-use Rattle.terminal.specs.Tree.{spanning, graphOf, treeOf, pathsOf, rootOf, rootsOf}
+use Rattle.terminal.specs.Tree.{graphOf, treeOf, pathsOf, rootOf, rootsOf}
 use Rattle.terminal.specs.Stands.{Kept, PathOf, keptEnds}
 use Rattle.terminal.proofs.NumberLaws.{vertex-of-number, number-of-vertex, count-of, one-of, two-of}
 use Rattle.terminal.proofs.NumberLaws.{pin-number-in, of-pin-numbers}
 use Rattle.terminal.proofs.SettingOf.{between-numbers, edge-in, one-vertex, two-vertex, setting, whole, edge-numbers}
 
-module _ {ps : List Place} {ms : List Macro} (a : Allowed ps ms) where
+module _ {net : Net} (a : Allowed net) where
   abbrev vs : List Place
-  vs = vertices ps ms
+  vs = verticesOf net
 
   abbrev es : List (Place × Place)
-  es = spanning ps ms
+  es = spanning net
 
   abbrev pub G : Graph
-  G = graphOf ps ms
+  G = graphOf net
 
   abbrev pub pins : List ℕ
-  pins = pinNumbers (vertices ps ms) ps
+  pins = pinNumbers (verticesOf net) (net .pins)
 
   abbrev pub T : Labels
-  T = labelled (graphOf ps ms) (length (vertices ps ms)) (pinNumbers (vertices ps ms) ps)
+  T = labelled (graphOf net) (length (verticesOf net)) (pinNumbers (verticesOf net) (net .pins))
 
   abbrev pub P : Parents
-  P = parented (graphOf ps ms) (length (vertices ps ms)) T
+  P = parented (graphOf net) (length (verticesOf net)) T
 
   -- Terminal paths
 
@@ -71,74 +72,74 @@ module _ {ps : List Place} {ms : List Macro} (a : Allowed ps ms) where
       (ap (vertexAt vs) (seconds (r .is)) ∙ two-vertex a (r .entry) h))
       (edge-in a (r .entry) h)
 
-  pin-place : (i : ℕ) → i ∈ pins → vertexAt vs i ∈ ps
+  pin-place : (i : ℕ) → i ∈ pins → vertexAt vs i ∈ net .pins
   pin-place i m =
-      let r = of-pin-numbers vs ps i m in
-      Memᴰ·cast (ap (vertexAt vs) (r .is) ∙ vertex-of-number vs (vertices-ascending ps ms) (r .pin) (pin-vertex ps ms (r .stands)))
+      let r = of-pin-numbers vs (net .pins) i m in
+      Memᴰ·cast (ap (vertexAt vs) (r .is) ∙ vertex-of-number vs (vertices-ascending net) (r .pin) (pin-vertex net (r .stands)))
       (r .stands)
 
   pub to-places :
-      Carries (vertexAt (vertices ps ms)) (numberOf (vertices ps ms)) (λ i. i < length (vertices ps ms)) (pairs G) (spanning ps ms) pins ps
+      Carries (vertexAt (verticesOf net)) (numberOf (verticesOf net)) (λ i. i < length (verticesOf net)) (pairs G) (spanning net) pins (net .pins)
   to-places = record {
     pair = edge-places;
     inside = λ i j m. (let r = link-in (setting a) i j (inl m) in (r .near-in, r .far-in));
-    undone = number-of-vertex vs (vertices-ascending ps ms);
+    undone = number-of-vertex vs (vertices-ascending net);
     pin-in = setting a .pins-in;
     pin = pin-place;
-    pin-back = pin-number-in vs ps;
+    pin-back = pin-number-in vs (net .pins);
   }
 
   pub to-numbers :
-      Carries (numberOf (vertices ps ms)) (vertexAt (vertices ps ms)) (λ v. v ∈ vertices ps ms) (spanning ps ms) (pairs G) ps pins
+      Carries (numberOf (verticesOf net)) (vertexAt (verticesOf net)) (λ v. v ∈ verticesOf net) (spanning net) (pairs G) (net .pins) pins
   to-numbers = record {
     pair = edge-numbers a;
-    inside = edges-inside ms vs (vertices-ascending ps ms);
-    undone = vertex-of-number vs (vertices-ascending ps ms);
-    pin-in = λ p m. pin-vertex ps ms m;
-    pin = pin-number-in vs ps;
+    inside = edges-inside (net .weights) (net .macros) vs (vertices-ascending net);
+    undone = vertex-of-number vs (vertices-ascending net);
+    pin-in = λ p m. pin-vertex net m;
+    pin = pin-number-in vs (net .pins);
     pin-back = pin-place;
   }
 
   -- Ways and their lengths
 
   pub way-places : {i j : ℕ} {qs : List ℕ} → Way (pairs G) i qs j →
-      Way (spanning ps ms) (vertexAt (vertices ps ms) i) (map (vertexAt (vertices ps ms)) qs) (vertexAt (vertices ps ms) j)
+      Way (spanning net) (vertexAt (verticesOf net) i) (map (vertexAt (verticesOf net)) qs) (vertexAt (verticesOf net) j)
   way-places w = way-carried (vertexAt vs) edge-places w
 
-  pub way-numbers : {u v : Place} {qs : List Place} → Way (spanning ps ms) u qs v →
-      Way (pairs G) (numberOf (vertices ps ms) u) (map (numberOf (vertices ps ms)) qs) (numberOf (vertices ps ms) v)
+  pub way-numbers : {u v : Place} {qs : List Place} → Way (spanning net) u qs v →
+      Way (pairs G) (numberOf (verticesOf net) u) (map (numberOf (verticesOf net)) qs) (numberOf (verticesOf net) v)
   way-numbers w = way-carried (numberOf vs) (edge-numbers a) w
 
   pub long-places : {i j : ℕ} {qs : List ℕ} → Way (pairs G) i qs j →
-      long (between-numbers a) i qs ≡ long distance (vertexAt (vertices ps ms) i) (map (vertexAt (vertices ps ms)) qs)
-  long-places w = long-carried to-places (between-numbers a) distance (λ i j h k. refl) w
+      long (between-numbers a) i qs ≡ long (costIn net) (vertexAt (verticesOf net) i) (map (vertexAt (verticesOf net)) qs)
+  long-places w = long-carried to-places (between-numbers a) (costIn net) (λ i j h k. refl) w
 
-  pub between-is : (u v : Place) → u ∈ vertices ps ms → v ∈ vertices ps ms →
-      distance u v ≡ between-numbers a (numberOf (vertices ps ms) u) (numberOf (vertices ps ms) v)
+  pub between-is : (u v : Place) → u ∈ verticesOf net → v ∈ verticesOf net →
+      costIn net u v ≡ between-numbers a (numberOf (verticesOf net) u) (numberOf (verticesOf net) v)
   between-is u v i k =
-      sym (ap₂ distance (vertex-of-number vs (vertices-ascending ps ms) u i) (vertex-of-number vs (vertices-ascending ps ms) v k))
+      sym (ap₂ (costIn net) (vertex-of-number vs (vertices-ascending net) u i) (vertex-of-number vs (vertices-ascending net) v k))
 
-  pub long-numbers : {u v : Place} {qs : List Place} → Way (spanning ps ms) u qs v →
-      long distance u qs ≡ long (between-numbers a) (numberOf (vertices ps ms) u) (map (numberOf (vertices ps ms)) qs)
-  long-numbers w = long-carried to-numbers distance (between-numbers a) between-is w
+  pub long-numbers : {u v : Place} {qs : List Place} → Way (spanning net) u qs v →
+      long (costIn net) u qs ≡ long (between-numbers a) (numberOf (verticesOf net) u) (map (numberOf (verticesOf net)) qs)
+  long-numbers w = long-carried to-numbers (costIn net) (between-numbers a) between-is w
 
-  pub length-by-places : (t : TerminalPath (pairs G) pins) → lengthOf (between-numbers a) t ≡ lengthOf distance (path-carried to-places t)
-  length-by-places t = length-carried to-places (between-numbers a) distance (λ i j h k. refl) t
+  pub length-by-places : (t : TerminalPath (pairs G) pins) → lengthOf (between-numbers a) t ≡ lengthOf (costIn net) (path-carried to-places t)
+  length-by-places t = length-carried to-places (between-numbers a) (costIn net) (λ i j h k. refl) t
 
-  pub length-by-numbers : (t : PathOf ps ms) → lengthOf distance t ≡ lengthOf (between-numbers a) (path-carried to-numbers t)
-  length-by-numbers t = length-carried to-numbers distance (between-numbers a) between-is t
+  pub length-by-numbers : (t : PathOf net) → lengthOf (costIn net) t ≡ lengthOf (between-numbers a) (path-carried to-numbers t)
+  length-by-numbers t = length-carried to-numbers (costIn net) (between-numbers a) between-is t
 
   -- Roots
 
-  pub root-by-number : (v : Place) → rootOf ps ms v ≡ vertexAt (vertices ps ms) (root T (numberOf (vertices ps ms) v))
+  pub root-by-number : (v : Place) → rootOf net v ≡ vertexAt (verticesOf net) (root T (numberOf (verticesOf net) v))
   unfolding rootOf treeOf terminal
   root-by-number v = refl
 
-  pub root-below : (i : ℕ) → i < length (vertices ps ms) → root T i < length (vertices ps ms)
+  pub root-below : (i : ℕ) → i < length (verticesOf net) → root T i < length (verticesOf net)
   root-below i h = setting a .pins-in _ (root-pin (setting a) (whole a) i h)
 
-  pub root-number : (i : ℕ) → i < length (vertices ps ms) → numberOf (vertices ps ms) (vertexAt (vertices ps ms) (root T i)) ≡ root T i
-  root-number i h = number-of-vertex vs (vertices-ascending ps ms) (root T i) (root-below i h)
+  pub root-number : (i : ℕ) → i < length (verticesOf net) → numberOf (verticesOf net) (vertexAt (verticesOf net) (root T i)) ≡ root T i
+  root-number i h = number-of-vertex vs (vertices-ascending net) (root T i) (root-below i h)
 
   -- Kept paths
 
@@ -150,54 +151,54 @@ module _ {ps : List Place} {ms : List Macro} (a : Allowed ps ms) where
 
   -- what is given for the path of edge k, and the number of the edge of which that is given
   abbrev pub given : ℕ → Kept
-  given k = (edgeAt (spanning ps ms) k, weight k)
+  given k = (edgeAt (spanning net) k, weight k)
 
   abbrev pub bridgeNumber : Kept → ℕ
-  bridgeNumber b = position beforeEdge (spanning ps ms) (b .0)
+  bridgeNumber b = position beforeEdge (spanning net) (b .0)
 
-  pub paths-are : pathsOf ps ms ≡ map given kept
+  pub paths-are : pathsOf net ≡ map given kept
   unfolding pathsOf treeOf terminal
   paths-are = refl
 
   pub kept-below : (k : ℕ) → k ∈ kept → k < G .count
   kept-below k m = of-kept G T P k m .0
 
-  pub edge-below : (k : ℕ) → k < G .count → k < length (spanning ps ms)
-  edge-below k h = rw (count-of vs es) at h
+  pub edge-below : (k : ℕ) → k < G .count → k < length (spanning net)
+  edge-below k h = rw (count-of (net .weights) vs es) at h
 
   pub number-given : (k : ℕ) → k ∈ kept → bridgeNumber (given k) ≡ k
-  number-given k m = position-at beforeEdge edge-order es (edges-ascending ms vs) k _ (edge-below k (kept-below k m))
+  number-given k m = position-at beforeEdge edge-order es (edges-ascending (net .weights) (net .macros) vs) k _ (edge-below k (kept-below k m))
 
-  pub given-in : (k : ℕ) → k ∈ kept → given k ∈ pathsOf ps ms
+  pub given-in : (k : ℕ) → k ∈ kept → given k ∈ pathsOf net
   given-in k m = rw paths-are (in-map given m)
 
   -- each given path is that of a kept bridge
-  pub of-given : (b : Kept) → b ∈ pathsOf ps ms → Source given kept b
+  pub of-given : (b : Kept) → b ∈ pathsOf net → Source given kept b
   of-given b m = of-map given kept (rw paths-are at m)
 
   -- its ends are roots
-  pub given-follows : (k : ℕ) → k < G .count → Follows (vertexAt (vertices ps ms)) given (rootsBy G T) (keptEnds ps ms) k
+  pub given-follows : (k : ℕ) → k < G .count → Follows (vertexAt (verticesOf net)) given (rootsBy G T) (keptEnds net) k
   unfolding rootsOf
   given-follows k h = (
-    root-by-number _ ∙ ap (λ (i : ℕ). vertexAt vs (root T i)) (sym (one-of vs es k (edge-below k h))),
-    root-by-number _ ∙ ap (λ (i : ℕ). vertexAt vs (root T i)) (sym (two-of vs es k (edge-below k h))),
+    root-by-number _ ∙ ap (λ (i : ℕ). vertexAt vs (root T i)) (sym (one-of (net .weights) vs es k (edge-below k h))),
+    root-by-number _ ∙ ap (λ (i : ℕ). vertexAt vs (root T i)) (sym (two-of (net .weights) vs es k (edge-below k h))),
   )
 
-  pub number-in : (b : Kept) → b ∈ pathsOf ps ms → bridgeNumber b ∈ kept
+  pub number-in : (b : Kept) → b ∈ pathsOf net → bridgeNumber b ∈ kept
   number-in b m =
       let s = of-given b m in
       Memᴰ·cast (ap bridgeNumber (s .is) ∙ number-given (s .entry) (s .stands)) (s .stands)
 
-  pub given-number : (b : Kept) → b ∈ pathsOf ps ms → given (bridgeNumber b) ≡ b
+  pub given-number : (b : Kept) → b ∈ pathsOf net → given (bridgeNumber b) ≡ b
   given-number b m =
       let s = of-given b m in
       ap given (ap bridgeNumber (s .is) ∙ number-given (s .entry) (s .stands)) ∙ sym (s .is)
 
-  pub number-follows : (b : Kept) → b ∈ pathsOf ps ms →
-      Follows (numberOf (vertices ps ms)) bridgeNumber (keptEnds ps ms) (rootsBy G T) b
+  pub number-follows : (b : Kept) → b ∈ pathsOf net →
+      Follows (numberOf (verticesOf net)) bridgeNumber (keptEnds net) (rootsBy G T) b
   number-follows b m = (
-    sym (root-number _ (setting a .one-in _ h)) ∙ ap (numberOf vs) (sym (f .0) ∙ ap (λ (c : Kept). keptEnds ps ms c .0) e),
-    sym (root-number _ (setting a .two-in _ h)) ∙ ap (numberOf vs) (sym (f .1) ∙ ap (λ (c : Kept). keptEnds ps ms c .1) e),
+    sym (root-number _ (setting a .one-in _ h)) ∙ ap (numberOf vs) (sym (f .0) ∙ ap (λ (c : Kept). keptEnds net c .0) e),
+    sym (root-number _ (setting a .two-in _ h)) ∙ ap (numberOf vs) (sym (f .1) ∙ ap (λ (c : Kept). keptEnds net c .1) e),
   )
     where
       k : ℕ
@@ -209,5 +210,5 @@ module _ {ps : List Place} {ms : List Macro} (a : Allowed ps ms) where
       h : k < G .count
       h = kept-below k (number-in b m)
 
-      f : Follows (vertexAt vs) given (rootsBy G T) (keptEnds ps ms) k
+      f : Follows (vertexAt vs) given (rootsBy G T) (keptEnds net) k
       f = given-follows k h

@@ -19,6 +19,8 @@ use Rattle.joined.proofs.CarriedLaws.{Matches, kept-carried}
 use Rattle.plane.specs.declared.Place.{Place}
 use Rattle.plane.specs.declared.Macro.{Macro}
 use Rattle.net.specs.Allowed.{Allowed}
+use Rattle.net.specs.Net.{Net}
+use Rattle.graph.specs.Spanning.{verticesOf, spanning}
 use Rattle.graph.specs.Vertices.{vertices}
 use Rattle.graph.specs.Edges.{beforeEdge}
 use Rattle.graph.proofs.EdgeLaws.{edge-order, edges-ascending}
@@ -27,7 +29,7 @@ use Rattle.terminal.proofs.WholeLaws.{weights-at}
 use Rattle.forest.proofs.Nearest.{fits}
 use Rattle.terminal.proofs.OurTree.{bridge-is, is-bridge, bridges-in-order, kept-is}
 use Rattle.terminal.specs.Number.{numberOf, vertexAt, edgeAt}
-use Rattle.terminal.specs.Tree.{spanning, pathsOf, rootOf, rootsOf}
+use Rattle.terminal.specs.Tree.{pathsOf, rootOf, rootsOf}
 use Rattle.terminal.specs.Stands.{Kept, keptEnds, Stands}
 use Rattle.terminal.specs.KeptBridges.{takenBefore, KeptBridges}
 use Rattle.terminal.proofs.NumberLaws.{ascending-at, count-of}
@@ -55,7 +57,7 @@ then-by p q r a b x y u v h e =
     (λ s. rw (firstThen, s) refl)
     (λ s. by (p b a) (λ t. differ (rw (firstThen, s, t) at e) refl) (λ t. rw (firstThen, s, t) (h (rw (firstThen, s, t) at e))))
 
-module _ {ps : List Place} {ms : List Macro} (a : Allowed ps ms) where
+module _ {net : Net} (a : Allowed net) where
   abbrev L : List ℕ
   L = bridges (G a) (T a) (P a)
 
@@ -66,47 +68,47 @@ module _ {ps : List Place} {ms : List Macro} (a : Allowed ps ms) where
   below : (k : ℕ) → k ∈ L → k < G a .count
   below k m = bridge-is (setting a) (whole a) k m .0
 
-  pub offered-stand : (k : Kept) → k ∈ offered → Stands ps ms (k .0) (k .1)
+  pub offered-stand : (k : Kept) → k ∈ offered → Stands net (k .0) (k .1)
   offered-stand k m =
       let s = of-map (given a) L m in
       let r = bridge-is (setting a) (whole a) (s .entry) (s .stands) in
-      subst (λ (b : Kept). Stands ps ms (b .0) (b .1)) (sym (s .is)) (bridge-stands a (s .entry) (r .0) (r .1))
+      subst (λ (b : Kept). Stands net (b .0) (b .1)) (sym (s .is)) (bridge-stands a (s .entry) (r .0) (r .1))
 
-  pub offered-apart : (k : Kept) → k ∈ offered → rootOf ps ms (k .0 .0) ≡ rootOf ps ms (k .0 .1) → ⊥
+  pub offered-apart : (k : Kept) → k ∈ offered → rootOf net (k .0 .0) ≡ rootOf net (k .0 .1) → ⊥
   offered-apart k m e = let s = offered-stand k m in s .path .apart (s .start-is ∙ e ∙ sym (s .finish-is))
 
   -- an edge between vertices of different roots is among them
-  different : (k : ℕ) → k < G a .count → (rootOf ps ms (edgeAt (spanning ps ms) k .0) ≡ rootOf ps ms (edgeAt (spanning ps ms) k .1) → ⊥) →
+  different : (k : ℕ) → k < G a .count → (rootOf net (edgeAt (spanning net) k .0) ≡ rootOf net (edgeAt (spanning net) k .1) → ⊥) →
       sameRoot (G a) (T a) k ≡ false
   unfolding oneRoot rootsOf
   different k h n =
       let f = given-follows a k h in
       by (sameRoot (G a) (T a) k)
-      (λ e. absurd (n (f .0 ∙ ap (vertexAt (vertices ps ms)) (eqb-true _ _ e) ∙ sym (f .1))))
+      (λ e. absurd (n (f .0 ∙ ap (vertexAt (verticesOf net)) (eqb-true _ _ e) ∙ sym (f .1))))
       (λ e. e)
 
-  pub offered-all : (e : Place × Place) → e ∈ spanning ps ms → (rootOf ps ms (e .0) ≡ rootOf ps ms (e .1) → ⊥) → (l : ℕ)
+  pub offered-all : (e : Place × Place) → e ∈ spanning net → (rootOf net (e .0) ≡ rootOf net (e .1) → ⊥) → (l : ℕ)
       × ((e, l) ∈ offered)
   offered-all e m n = (weight a k, Memᴰ·cast (ap (λ (b : Place × Place). (b, weight a k)) (sym is)) (in-map (given a) bridge))
     where
       k : ℕ
-      k = position beforeEdge (spanning ps ms) e
+      k = position beforeEdge (spanning net) e
 
-      is : edgeAt (spanning ps ms) k ≡ e
-      is = at-position beforeEdge edge-order (spanning ps ms) (edges-ascending ms (vertices ps ms)) e _ m
+      is : edgeAt (spanning net) k ≡ e
+      is = at-position beforeEdge edge-order (spanning net) (edges-ascending (net .weights) (net .macros) (verticesOf net)) e _ m
 
       inside : k < G a .count
       inside =
-          rw (count-of (vertices ps ms) (spanning ps ms))
-          (position-small beforeEdge edge-order (spanning ps ms) (edges-ascending ms (vertices ps ms)) e m)
+          rw (count-of (net .weights) (verticesOf net) (spanning net))
+          (position-small beforeEdge edge-order (spanning net) (edges-ascending (net .weights) (net .macros) (verticesOf net)) e m)
 
       bridge : k ∈ L
       bridge = is-bridge (setting a) (whole a) k inside (different k inside (λ q. n (rw is at q)))
 
   -- The order in which they are taken
 
-  edge-before : (j k : ℕ) → k < G a .count → j < k → beforeEdge (edgeAt (spanning ps ms) j) (edgeAt (spanning ps ms) k) ≡ true
-  edge-before j k h l = ascending-at beforeEdge (spanning ps ms) (edges-ascending ms (vertices ps ms)) j k _ l (edge-below a k h)
+  edge-before : (j k : ℕ) → k < G a .count → j < k → beforeEdge (edgeAt (spanning net) j) (edgeAt (spanning net) k) ≡ true
+  edge-before j k h l = ascending-at beforeEdge (spanning net) (edges-ascending (net .weights) (net .macros) (verticesOf net)) j k _ l (edge-below a k h)
 
   weight-at : (k : ℕ) → k < G a .count → getD (weights (G a) (T a .fars) (P a)) k 0 ≡ weight a k
   weight-at k h = weights-at (G a) (T a) (P a) (fits (setting a)) k h
@@ -115,7 +117,7 @@ module _ {ps : List Place} {ms : List Macro} (a : Allowed ps ms) where
       takenBefore (given a j) (given a k) ≡ true
   unfolding earlier takenBefore
   taken-first j k i h e =
-      then-by ltb ltb beforeEdge (weight a j) (weight a k) j k (edgeAt (spanning ps ms) j) (edgeAt (spanning ps ms) k)
+      then-by ltb ltb beforeEdge (weight a j) (weight a k) j k (edgeAt (spanning net) j) (edgeAt (spanning net) k)
       (λ l. edge-before j k h (ltb-true j k l))
       (subst (λ (w : ℕ). firstThen ltb ltb (weight a j, j) (w, k) ≡ true) (weight-at k h)
       (subst (λ (w : ℕ). firstThen ltb ltb (w, j) (getD (weights (G a) (T a .fars) (P a)) k 0, k) ≡ true) (weight-at j i) e))
@@ -128,20 +130,20 @@ module _ {ps : List Place} {ms : List Macro} (a : Allowed ps ms) where
   -- Those that are kept
 
   matches : (same : Discrete Place) (k : ℕ) → k ∈ L →
-      Matches ℕ-discrete same (vertexAt (vertices ps ms)) (numberOf (vertices ps ms)) (given a) (rootsBy (G a) (T a)) (keptEnds ps ms) k
+      Matches ℕ-discrete same (vertexAt (verticesOf net)) (numberOf (verticesOf net)) (given a) (rootsBy (G a) (T a)) (keptEnds net) k
   matches same k m =
       let h = below k m in
       (given-follows a k h, (root-number a _ (setting a .one-in k h), root-number a _ (setting a .two-in k h)))
 
-  pub paths-kept : (same : Discrete Place) → pathsOf ps ms ≡ kept same (keptEnds ps ms) offered
+  pub paths-kept : (same : Discrete Place) → pathsOf net ≡ kept same (keptEnds net) offered
   paths-kept same =
       paths-are a
       ∙ ap (map (given a)) (kept-is (setting a) (whole a))
-      ∙ kept-carried ℕ-discrete same (vertexAt (vertices ps ms)) (numberOf (vertices ps ms)) (given a) (rootsBy (G a) (T a))
-      (keptEnds ps ms) L
+      ∙ kept-carried ℕ-discrete same (vertexAt (verticesOf net)) (numberOf (verticesOf net)) (given a) (rootsBy (G a) (T a))
+      (keptEnds net) L
       (matches same)
 
-  pub kept-bridges : KeptBridges ps ms
+  pub kept-bridges : KeptBridges net
   kept-bridges = record {
     offered = offered;
     stands = offered-stand;

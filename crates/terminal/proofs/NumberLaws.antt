@@ -20,9 +20,10 @@ use Rattle.lists.proofs.SortedLaws.{position-at}
 use Rattle.lent.specs.Over.{over}
 use Rattle.plane.specs.declared.Place.{Place}
 use Rattle.plane.specs.Place.{before, samePlace}
-use Rattle.plane.specs.Distance.{distance}
 use Rattle.plane.proofs.PlaceLaws.{same-refl}
 use Rattle.plane.proofs.PlaceOrder.{place-order}
+use Rattle.plane.specs.declared.Weights.{Weights}
+use Rattle.plane.specs.Cost.{cost}
 use Rattle.forest.specs.Bounds.{edgeBound}
 use Rattle.forest.specs.Edges.{one, two, len}
 use Rattle.terminal.specs.Number.{numberOf, vertexAt, edgeAt, table, numbered, pinNumbers}
@@ -94,23 +95,23 @@ table-at f es k d h =
 
 -- The graph by numbers
 
-module _ (vs : List Place) (es : List (Place × Place)) where
-  pub count-of : numbered vs es .count ≡ length es
+module _ (w : Weights) (vs : List Place) (es : List (Place × Place)) where
+  pub count-of : numbered w vs es .count ≡ length es
   unfolding numbered
   count-of = refl
 
   module _ (k : ℕ) (h : k < length es) where
-    pub one-of : one (numbered vs es) k ≡ numberOf vs (edgeAt es k .0)
+    pub one-of : one (numbered w vs es) k ≡ numberOf vs (edgeAt es k .0)
     unfolding numbered
     one-of = table-at (λ e. numberOf vs (e .0)) es k _ h
 
-    pub two-of : two (numbered vs es) k ≡ numberOf vs (edgeAt es k .1)
+    pub two-of : two (numbered w vs es) k ≡ numberOf vs (edgeAt es k .1)
     unfolding numbered
     two-of = table-at (λ e. numberOf vs (e .1)) es k _ h
 
-    pub len-of : len (numbered vs es) k ≡ distance (edgeAt es k .0) (edgeAt es k .1)
+    pub len-of : len (numbered w vs es) k ≡ cost w (edgeAt es k .0) (edgeAt es k .1)
     unfolding numbered
-    len-of = table-at (λ e. distance (e .0) (e .1)) es k _ h
+    len-of = table-at (λ e. cost w (e .0) (e .1)) es k _ h
 
 -- The pins by numbers
 

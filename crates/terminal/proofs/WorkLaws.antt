@@ -17,6 +17,8 @@ use Rattle.plane.specs.declared.Macro.{Macro}
 use Rattle.plane.specs.Place.{before}
 use Rattle.plane.specs.Flat.{macrosOf, placeFrom}
 use Rattle.net.specs.Allowed.{Allowed}
+use Rattle.net.specs.Net.{Net}
+use Rattle.graph.specs.Spanning.{verticesOf, spanning}
 use Rattle.graph.specs.Vertices.{corners, vertices}
 use Rattle.graph.specs.Numbers.{placeNumbers, edgeNumbers, edgeFrom}
 use Rattle.graph.proofs.VertexLaws.{pin-vertex, vertices-ascending, length-vertices}
@@ -31,7 +33,7 @@ use Rattle.terminal.proofs.KeptLaws.{read-listed, entry-listed}
 use Rattle.forest.proofs.Nearest.{fits}
 use Rattle.terminal.specs.declared.Tree.{Tree}
 use Rattle.terminal.specs.Number.{numberOf, numbered, pinNumbers}
-use Rattle.terminal.specs.Tree.{spanning, graphOf, treeOf}
+use Rattle.terminal.specs.Tree.{graphOf, treeOf}
 use Rattle.terminal.specs.Tables.{Tables, tables, Fresh, Worked}
 use Rattle.terminal.proofs.NumberLaws.{pins-count, pin-small}
 use Rattle.terminal.proofs.SettingOf.{setting}
@@ -63,15 +65,15 @@ pins-numbered vs ps lent table numbers last m e t n =
 
 -- Vertices and edges in their tables
 
-pub record Charted (ps : List Place) (ms : List Macro) (lent : Tables) (points links : List ℤ) (n e : ℕ) : Type 0 where
-  pub vertex-count : n ≡ length (vertices ps ms)
-  pub edge-count : e ≡ length (spanning ps ms)
-  pub vertices-are : points ≡ over (flat placeNumbers (vertices ps ms)) (lent .points)
-  pub edges-are : links ≡ over (flat edgeNumbers (spanning ps ms)) (lent .links)
+pub record Charted (net : Net) (lent : Tables) (points links : List ℤ) (n e : ℕ) : Type 0 where
+  pub vertex-count : n ≡ length (verticesOf net)
+  pub edge-count : e ≡ length (spanning net)
+  pub vertices-are : points ≡ over (flat placeNumbers (verticesOf net)) (lent .points)
+  pub edges-are : links ≡ over (flat edgeNumbers (spanning net)) (lent .links)
 
 -- what is worked out is charted
-pub worked-charted : {ps : List Place} {ms : List Macro} {lent t : Tables} {r : Tree} → Worked ps ms lent t r
-    → Charted ps ms lent (t .points) (t .links) (r .points) (r .edges)
+pub worked-charted : {net : Net} {lent t : Tables} {r : Tree} → Worked net lent t r
+    → Charted net lent (t .points) (t .links) (r .points) (r .edges)
 worked-charted w = record {
   vertex-count = w .vertex-count;
   edge-count = w .edge-count;
@@ -79,30 +81,30 @@ worked-charted w = record {
   edges-are = w .edges-are;
 }
 
-module _ {ps : List Place} {ms : List Macro} {lent : Tables} {points links : List ℤ} {n e : ℕ} (a : Allowed ps ms) (fresh : Fresh lent)
-    (c : Charted ps ms lent points links n e) where
-  vertices-in : entries placeFrom 2 points n ≡ vertices ps ms
+module _ {net : Net} {lent : Tables} {points links : List ℤ} {n e : ℕ} (a : Allowed net) (fresh : Fresh lent)
+    (c : Charted net lent points links n e) where
+  vertices-in : entries placeFrom 2 points n ≡ verticesOf net
   vertices-in =
       ap (λ (l : List ℤ). entries placeFrom 2 l n) (c .vertices-are)
-      ∙ entries-over placeNumbers placeFrom 2 place-width (vertices ps ms) (lent .points) n (sym (c .vertex-count))
+      ∙ entries-over placeNumbers placeFrom 2 place-width (verticesOf net) (lent .points) n (sym (c .vertex-count))
 
-  pub edges-in : entries edgeFrom 4 links e ≡ spanning ps ms
+  pub edges-in : entries edgeFrom 4 links e ≡ spanning net
   edges-in =
       ap (λ (l : List ℤ). entries edgeFrom 4 l e) (c .edges-are)
-      ∙ entries-over edgeNumbers edgeFrom 4 edge-width (spanning ps ms) (lent .links) e (sym (c .edge-count))
+      ∙ entries-over edgeNumbers edgeFrom 4 edge-width (spanning net) (lent .links) e (sym (c .edge-count))
 
   pub vertices-fit : n * 2 ≤ length points
   vertices-fit =
-      let f = length-flat placeNumbers placeFrom 2 place-width (vertices ps ms) in
-      let small : length (flat placeNumbers (vertices ps ms)) ≤ length (lent .points) = omega (arith, f, few-vertices a, fresh .points) in
+      let f = length-flat placeNumbers placeFrom 2 place-width (verticesOf net) in
+      let small : length (flat placeNumbers (verticesOf net)) ≤ length (lent .points) = omega (arith, f, few-vertices a, fresh .points) in
       let same : length points ≡ length (lent .points) =
-      ap length (c .vertices-are) ∙ length-over (flat placeNumbers (vertices ps ms)) (lent .points) small in
+      ap length (c .vertices-are) ∙ length-over (flat placeNumbers (verticesOf net)) (lent .points) small in
       omega (arith, same, c .vertex-count, few-vertices a, fresh .points)
 
   pub links-long : length links ≡ length (lent .links)
   links-long =
-      let f = length-flat edgeNumbers edgeFrom 4 edge-width (spanning ps ms) in
-      ap length (c .edges-are) ∙ length-over (flat edgeNumbers (spanning ps ms)) (lent .links) (omega (arith, f, few-edges a, fresh .links))
+      let f = length-flat edgeNumbers edgeFrom 4 edge-width (spanning net) in
+      ap length (c .edges-are) ∙ length-over (flat edgeNumbers (spanning net)) (lent .links) (omega (arith, f, few-edges a, fresh .links))
 
   pub edges-fit : e * 4 ≤ length links
   edges-fit = omega (arith, links-long, c .edge-count, few-edges a, fresh .links)
@@ -116,19 +118,19 @@ module _ {ps : List Place} {ms : List Macro} {lent : Tables} {points links : Lis
   -- Edges and pins by numbers
 
   module _ {ea eb el pin : List ℕ} {m : ℕ}
-      (g : graph ea eb el e ≡ numbered (entries placeFrom 2 points n) (entries edgeFrom 4 links e))
-      (p : Listed (pinNumbers (entries placeFrom 2 points n) ps) (lent .pins) pin m) where
-    graph-same : graph ea eb el e ≡ graphOf ps ms
-    graph-same = g ∙ ap₂ numbered vertices-in edges-in
+      (g : graph ea eb el e ≡ numbered (net .weights) (entries placeFrom 2 points n) (entries edgeFrom 4 links e))
+      (p : Listed (pinNumbers (entries placeFrom 2 points n) (net .pins)) (lent .pins) pin m) where
+    graph-same : graph ea eb el e ≡ graphOf net
+    graph-same = g ∙ ap₂ (numbered (net .weights)) vertices-in edges-in
 
-    pins-listed : Listed (pinNumbers (vertices ps ms) ps) (lent .pins) pin m
+    pins-listed : Listed (pinNumbers (verticesOf net) (net .pins)) (lent .pins) pin m
     pins-listed = rw (← vertices-in) p
 
-    pin-total : m ≡ length ps
-    pin-total = pins-listed .count ∙ pins-count (vertices ps ms) ps (a .pins-apart)
+    pin-total : m ≡ length (net .pins)
+    pin-total = pins-listed .count ∙ pins-count (verticesOf net) (net .pins) (a .pins-apart)
 
     -- what the tree asks for
-    pub tree-asks : Fits (graph ea eb el e) × ((n ≤ pointBound) × ((m ≤ pinBound) × FirstBelow pin m pointBound))
+    pub tree-asks : Fits (graph ea eb el e) × ((n ≤ pointBound) × ((m ≤ pointBound) × FirstBelow pin m pointBound))
     tree-asks = (
       rw graph-same (fits (setting a)),
       (
@@ -137,7 +139,7 @@ module _ {ps : List Place} {ms : List Macro} {lent : Tables} {points links : Lis
           omega (arith, pin-total, a .few-pins),
           record {
             inside = λ i h.
-                (let r = pin-small (vertices ps ms) ps (vertices-ascending ps ms) (λ q k. pin-vertex ps ms k) (getD pin i 0)
+                (let r = pin-small (verticesOf net) (net .pins) (vertices-ascending net) (λ q k. pin-vertex net k) (getD pin i 0)
                 (entry-listed _ _ pin m pins-listed i h) in
                 omega (arith, r, few-vertices a));
           },
@@ -145,7 +147,7 @@ module _ {ps : List Place} {ms : List Macro} {lent : Tables} {points links : Lis
       ),
     )
 
-    tree-same : terminal (graph ea eb el e) n (entriesIn pin 0 m) ≡ treeOf ps ms
+    tree-same : terminal (graph ea eb el e) n (entriesIn pin 0 m) ≡ treeOf net
     unfolding treeOf
     tree-same = rw (graph-same, read-listed _ _ pin m pins-listed, c .vertex-count) refl
 
@@ -154,10 +156,10 @@ module _ {ps : List Place} {ms : List Macro} {lent : Tables} {points links : Lis
         ≡ terminal (graph ea eb el e) n (entriesIn pin 0 m)
         → labels far root ≡ t .labels → parents up via ≡ t .parents → Listed (t .bridges) (lent .kept) kept count
         → Listed (t .lengths) (lent .longs) long count → sum ≡ t .total
-        → Worked ps ms lent (tables points links ea eb el pin far root up via kept long)
+        → Worked net lent (tables points links ea eb el pin far root up via kept long)
         (record { points = n; edges = e; pins = m; kept = count; total = sum })
     all-worked t is f u k l s =
-        let same : t ≡ treeOf ps ms = is ∙ tree-same in
+        let same : t ≡ treeOf net = is ∙ tree-same in
         record {
           vertices-are = c .vertices-are;
           edges-are = c .edges-are;

@@ -7,7 +7,8 @@ use Rattle.lists.specs.Sorted.{sorted, position}
 use Rattle.lent.specs.Over.{over}
 use Rattle.plane.specs.declared.Place.{Place}
 use Rattle.plane.specs.Place.{place, before}
-use Rattle.plane.specs.Distance.{distance}
+use Rattle.plane.specs.declared.Weights.{Weights}
+use Rattle.plane.specs.Cost.{cost}
 use Rattle.forest.specs.Bounds.{edgeBound}
 use Rattle.forest.specs.Edges.{Graph, graph}
 
@@ -26,13 +27,13 @@ edgeAt es k = getD es k (place (pos 0) (pos 0), place (pos 0) (pos 0))
 abbrev pub table : List ℕ → List ℕ
 table xs = over xs (replicate edgeBound 0)
 
--- the graph by numbers: the two ends of each edge, and its length
-unfoldable pub numbered : List Place → List (Place × Place) → Graph
-numbered vs es =
+-- the graph by numbers: the two ends of each edge, and its cost
+unfoldable pub numbered : Weights → List Place → List (Place × Place) → Graph
+numbered w vs es =
     graph
     (table (map (λ e. numberOf vs (e .0)) es))
     (table (map (λ e. numberOf vs (e .1)) es))
-    (table (map (λ e. distance (e .0) (e .1)) es))
+    (table (map (λ e. cost w (e .0) (e .1)) es))
     (length es)
 
 -- the pins by numbers, in the order of places

@@ -8,40 +8,39 @@ use Rattle.lists.specs.Member.{_∈_, Once}
 use Rattle.joined.specs.Joined.{Link}
 use Rattle.joined.specs.Way.{Way, long}
 use Rattle.plane.specs.declared.Place.{Place}
-use Rattle.plane.specs.declared.Macro.{Macro}
 use Rattle.plane.specs.Place.{before}
-use Rattle.plane.specs.Distance.{distance}
-use Rattle.graph.specs.Vertices.{vertices}
+use Rattle.net.specs.Net.{Net, costIn}
+use Rattle.graph.specs.Spanning.{verticesOf, spanning}
 use Rattle.forest.specs.Labels.{far}
 use Rattle.forest.specs.Parents.{up}
 use Rattle.terminal.specs.Number.{numberOf, vertexAt}
-use Rattle.terminal.specs.Tree.{spanning, treeOf, rootOf}
+use Rattle.terminal.specs.Tree.{treeOf, rootOf}
 
-module _ (ps : List Place) (ms : List Macro) where
+module _ (net : Net) where
   -- how far a vertex is from its root along the graph, and its parent
   unfoldable pub farOf : Place → ℕ
-  farOf v = far (treeOf ps ms .labels) (numberOf (vertices ps ms) v)
+  farOf v = far (treeOf net .labels) (numberOf (verticesOf net) v)
 
   unfoldable pub parentOf : Place → Place
-  parentOf v = vertexAt (vertices ps ms) (up (treeOf ps ms .parents) (numberOf (vertices ps ms) v))
+  parentOf v = vertexAt (verticesOf net) (up (treeOf net .parents) (numberOf (verticesOf net) v))
 
   -- T6: the root of a vertex is the pin nearest to it along the graph, of several the smallest
   pub record NearestRoot (v : Place) : Type 0 where
-    pub is-pin : rootOf ps ms v ∈ ps
+    pub is-pin : rootOf net v ∈ net .pins
     pub points : List Place
-    pub walk : Way (spanning ps ms) v points (rootOf ps ms v)
-    pub walk-long : long distance v points ≡ farOf v
-    pub nearest : (p : Place) (qs : List Place) → p ∈ ps → Way (spanning ps ms) v qs p → farOf v ≤ long distance v qs
-    pub smallest : (p : Place) (qs : List Place) → p ∈ ps → Way (spanning ps ms) v qs p → long distance v qs ≡ farOf v →
-        before p (rootOf ps ms v) ≡ false
+    pub walk : Way (spanning net) v points (rootOf net v)
+    pub walk-long : long (costIn net) v points ≡ farOf v
+    pub nearest : (p : Place) (qs : List Place) → p ∈ net .pins → Way (spanning net) v qs p → farOf v ≤ long (costIn net) v qs
+    pub smallest : (p : Place) (qs : List Place) → p ∈ net .pins → Way (spanning net) v qs p → long (costIn net) v qs ≡ farOf v →
+        before p (rootOf net v) ≡ false
 
   -- T7: w is a neighbour with the same root, and a shortest way to that root goes on from it
   pub record Through (v w : Place) : Type 0 where
-    pub link : Link (spanning ps ms) v w
-    pub same-root : rootOf ps ms w ≡ rootOf ps ms v
+    pub link : Link (spanning net) v w
+    pub same-root : rootOf net w ≡ rootOf net v
     pub points : List Place
-    pub way : Way (spanning ps ms) w points (rootOf ps ms v)
-    pub shortest : distance v w + long distance w points ≡ farOf v
+    pub way : Way (spanning net) w points (rootOf net v)
+    pub shortest : costIn net v w + long (costIn net) w points ≡ farOf v
 
   -- T7: the parent of a vertex that is no pin is the smallest such neighbour
   pub record SmallestParent (v : Place) : Type 0 where
@@ -50,13 +49,13 @@ module _ (ps : List Place) (ms : List Macro) where
 
   -- T8: a way goes from parent to parent and ends at the root: the places after it on its way
   pub data WayUp : Place → List Place → Type 0 where
-    arrived : {v : Place} → v ∈ ps → WayUp v []
-    upward : {v : Place} {qs : List Place} → (v ∈ ps → ⊥) → WayUp (parentOf v) qs → WayUp v (parentOf v ∷ qs)
+    arrived : {v : Place} → v ∈ net .pins → WayUp v []
+    upward : {v : Place} {qs : List Place} → (v ∈ net .pins → ⊥) → WayUp (parentOf v) qs → WayUp v (parentOf v ∷ qs)
 
   -- such a way: it leads to the root, loop-free and as long as the vertex is far from it
   pub record HomeWay (v : Place) : Type 0 where
     pub points : List Place
     pub up : WayUp v points
-    pub way : Way (spanning ps ms) v points (rootOf ps ms v)
+    pub way : Way (spanning net) v points (rootOf net v)
     pub once : Once (v ∷ points)
-    pub long-is : long distance v points ≡ farOf v
+    pub long-is : long (costIn net) v points ≡ farOf v

@@ -7,35 +7,35 @@ use Rattle.lists.specs.Member.{_∈_}
 use Rattle.joined.specs.Way.{On, turned}
 use Rattle.joined.specs.Path.{TerminalPath, lengthOf}
 use Rattle.plane.specs.declared.Place.{Place}
-use Rattle.plane.specs.declared.Macro.{Macro}
-use Rattle.plane.specs.Distance.{distance}
-use Rattle.terminal.specs.Tree.{spanning, rootOf, rootsOf}
+use Rattle.net.specs.Net.{Net, costIn}
+use Rattle.graph.specs.Spanning.{spanning}
+use Rattle.terminal.specs.Tree.{rootOf, rootsOf}
 use Rattle.terminal.specs.Roots.{WayUp}
 
 -- a kept path as it is given: its bridge and its length
 abbrev pub Kept : Type 0
 Kept = (Place × Place) × ℕ
 
-module _ (ps : List Place) (ms : List Macro) where
+module _ (net : Net) where
   -- a terminal path of the net's graph
   abbrev pub PathOf : Type 0
-  PathOf = TerminalPath (spanning ps ms) ps
+  PathOf = TerminalPath (spanning net) (net .pins)
 
   -- the two pins that a kept path joins
   abbrev pub keptEnds : Kept → Place × Place
-  keptEnds k = rootsOf ps ms (k .0)
+  keptEnds k = rootsOf net (k .0)
 
   -- T10: the path that a bridge b stands for, from root to root over both ways, is a terminal path; T4: its length l counts every edge.
   pub record Stands (b : Place × Place) (l : ℕ) : Type 0 where
     pub path : PathOf
-    pub start-is : path .start ≡ rootOf ps ms (b .0)
-    pub finish-is : path .finish ≡ rootOf ps ms (b .1)
+    pub start-is : path .start ≡ rootOf net (b .0)
+    pub finish-is : path .finish ≡ rootOf net (b .1)
     -- from one root down the way of b's first end, over b, and up the way of its second end to the other root
-    pub is-edge : b ∈ spanning ps ms
+    pub is-edge : b ∈ spanning net
     pub first-way : List Place
-    pub first-up : WayUp ps ms (b .0) first-way
+    pub first-up : WayUp net (b .0) first-way
     pub second-way : List Place
-    pub second-up : WayUp ps ms (b .1) second-way
+    pub second-up : WayUp net (b .1) second-way
     pub points-are : path .points ≡ turned (b .0) first-way (b .1 ∷ second-way)
     pub over-bridge : On (b .0) (b .1) (path .start) (path .points)
-    pub length-is : lengthOf distance path ≡ l
+    pub length-is : lengthOf (costIn net) path ≡ l

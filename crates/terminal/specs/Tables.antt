@@ -7,8 +7,8 @@ use lib.ListN.{length, getD, replicate}
 use Rattle.lent.specs.Over.{over}
 use Rattle.lent.specs.Entries.{flat}
 use Rattle.plane.specs.declared.Place.{Place}
-use Rattle.plane.specs.declared.Macro.{Macro}
-use Rattle.graph.specs.Vertices.{vertices}
+use Rattle.net.specs.Net.{Net}
+use Rattle.graph.specs.Spanning.{verticesOf, spanning}
 use Rattle.graph.specs.Numbers.{placeNumbers, edgeNumbers, edgeFrom}
 use Rattle.forest.specs.Bounds.{pointBound, edgeBound, pinBound, pathBound}
 use Rattle.forest.specs.Edges.{graph, from, Listed}
@@ -16,7 +16,7 @@ use Rattle.forest.specs.Labels.{labels, unlabelled}
 use Rattle.forest.specs.Parents.{parents, orphans}
 use Rattle.terminal.specs.declared.Tree.{Tree}
 use Rattle.terminal.specs.Number.{pinNumbers}
-use Rattle.terminal.specs.Tree.{spanning, graphOf, treeOf, lengthsOf, totalOf}
+use Rattle.terminal.specs.Tree.{graphOf, treeOf, lengthsOf, totalOf}
 
 -- vertices and edges by their numbers; the ends of each edge and its length; the pins; the label and the parent of each vertex; the kept
 -- bridges and the lengths of their paths
@@ -57,26 +57,26 @@ pub record Fresh (t : Tables) : Type 0 where
   pub ones : t .ones ≡ replicate edgeBound 0
   pub twos : t .twos ≡ replicate edgeBound 0
   pub spans : t .spans ≡ replicate edgeBound 0
-  pub pins : length (t .pins) ≡ pinBound
+  pub pins : length (t .pins) ≡ pointBound
   pub no-label : labels (t .fars) (t .roots) ≡ unlabelled
   pub no-parent : parents (t .ups) (t .vias) ≡ orphans
   pub kept : length (t .kept) ≡ edgeBound
   pub longs : length (t .longs) ≡ edgeBound
 
 -- what they hold when the terminal tree of a net is worked out, with the counts and the total in r
-pub record Worked (ps : List Place) (ms : List Macro) (lent t : Tables) (r : Tree) : Type 0 where
-  pub vertices-are : t .points ≡ over (flat placeNumbers (vertices ps ms)) (lent .points)
-  pub edges-are : t .links ≡ over (flat edgeNumbers (spanning ps ms)) (lent .links)
-  pub graph-is : graph (t .ones) (t .twos) (t .spans) (r .edges) ≡ graphOf ps ms
-  pub pins-are : Listed (pinNumbers (vertices ps ms) ps) (lent .pins) (t .pins) (r .pins)
-  pub labels-are : labels (t .fars) (t .roots) ≡ treeOf ps ms .labels
-  pub parents-are : parents (t .ups) (t .vias) ≡ treeOf ps ms .parents
-  pub bridges-are : Listed (treeOf ps ms .bridges) (lent .kept) (t .kept) (r .kept)
-  pub lengths-are : Listed (lengthsOf ps ms) (lent .longs) (t .longs) (r .kept)
-  pub total-is : r .total ≡ totalOf ps ms
-  pub vertex-count : r .points ≡ length (vertices ps ms)
-  pub edge-count : r .edges ≡ length (spanning ps ms)
-  pub pin-count : r .pins ≡ length ps
+pub record Worked (net : Net) (lent t : Tables) (r : Tree) : Type 0 where
+  pub vertices-are : t .points ≡ over (flat placeNumbers (verticesOf net)) (lent .points)
+  pub edges-are : t .links ≡ over (flat edgeNumbers (spanning net)) (lent .links)
+  pub graph-is : graph (t .ones) (t .twos) (t .spans) (r .edges) ≡ graphOf net
+  pub pins-are : Listed (pinNumbers (verticesOf net) (net .pins)) (lent .pins) (t .pins) (r .pins)
+  pub labels-are : labels (t .fars) (t .roots) ≡ treeOf net .labels
+  pub parents-are : parents (t .ups) (t .vias) ≡ treeOf net .parents
+  pub bridges-are : Listed (treeOf net .bridges) (lent .kept) (t .kept) (r .kept)
+  pub lengths-are : Listed (lengthsOf net) (lent .longs) (t .longs) (r .kept)
+  pub total-is : r .total ≡ totalOf net
+  pub vertex-count : r .points ≡ length (verticesOf net)
+  pub edge-count : r .edges ≡ length (spanning net)
+  pub pin-count : r .pins ≡ length (net .pins)
 
 -- The kept paths as the tables have them
 

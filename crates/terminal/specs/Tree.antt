@@ -5,29 +5,25 @@ use lib.IntN.{ℤ, pos}
 use lib.ListN.{length}
 use Rattle.lists.specs.Total.{total}
 use Rattle.plane.specs.declared.Place.{Place}
-use Rattle.plane.specs.declared.Macro.{Macro}
-use Rattle.graph.specs.Vertices.{vertices}
-use Rattle.graph.specs.Edges.{edges}
+use Rattle.net.specs.Net.{Net}
+use Rattle.graph.specs.Spanning.{verticesOf, spanning}
 use Rattle.forest.specs.Edges.{Graph}
 use Rattle.forest.specs.Labels.{root}
 use Rattle.terminal.specs.Bridges.{pathLength}
 use Rattle.terminal.specs.Kept.{Terminal, terminal}
 use Rattle.terminal.specs.Number.{numberOf, vertexAt, edgeAt, numbered, pinNumbers}
 
-module _ (ps : List Place) (ms : List Macro) where
-  -- the spanning graph of the net
-  abbrev pub spanning : List (Place × Place)
-  spanning = edges ms (vertices ps ms)
-
+module _ (net : Net) where
+  -- the spanning graph of the net by numbers
   abbrev pub graphOf : Graph
-  graphOf = numbered (vertices ps ms) (edges ms (vertices ps ms))
+  graphOf = numbered (net .weights) (verticesOf net) (spanning net)
 
   unfoldable pub treeOf : Terminal
-  treeOf = terminal graphOf (length (vertices ps ms)) (pinNumbers (vertices ps ms) ps)
+  treeOf = terminal graphOf (length (verticesOf net)) (pinNumbers (verticesOf net) (net .pins))
 
   -- T14: the bridge of each kept path, in the order kept
   unfoldable pub bridgesOf : List (Place × Place)
-  bridgesOf = map (edgeAt spanning) (treeOf .bridges)
+  bridgesOf = map (edgeAt (spanning net)) (treeOf .bridges)
 
   -- T15: the length of each, every edge of it counted
   abbrev pub lengthsOf : List ℕ
@@ -39,11 +35,11 @@ module _ (ps : List Place) (ms : List Macro) where
 
   -- C64: each path in the order kept, by its bridge and its length
   unfoldable pub pathsOf : List ((Place × Place) × ℕ)
-  pathsOf = map (λ k. (edgeAt spanning k, pathLength graphOf (treeOf .labels .fars) (treeOf .parents) k)) (treeOf .bridges)
+  pathsOf = map (λ k. (edgeAt (spanning net) k, pathLength graphOf (treeOf .labels .fars) (treeOf .parents) k)) (treeOf .bridges)
 
   -- T6: the root of a vertex, the pin nearest along the graph, of several the smallest
   unfoldable pub rootOf : Place → Place
-  rootOf v = vertexAt (vertices ps ms) (root (treeOf .labels) (numberOf (vertices ps ms) v))
+  rootOf v = vertexAt (verticesOf net) (root (treeOf .labels) (numberOf (verticesOf net) v))
 
   -- the two pins that a bridge's path joins
   unfoldable pub rootsOf : Place × Place → Place × Place

@@ -1,7 +1,6 @@
 // The kept bridges on tables, and the terminal tree of a graph on tables.
 use crate::EDGES;
 use crate::Kept;
-use crate::PINS;
 use crate::POINTS;
 use crate::bridges;
 ghost use mathlib.Core.Path.{_≡_};
@@ -160,7 +159,7 @@ pub fn kept_tree(
     el: &[u64; EDGES],
     e: usize,
     n: usize,
-    pin: &[usize; PINS],
+    pin: &[usize; POINTS],
     m: usize,
     far: &mut [u64; POINTS],
     root: &mut [usize; POINTS],
@@ -170,7 +169,7 @@ pub fn kept_tree(
     long: &mut [u64; EDGES],
 ) -> Kept
     requires { ⌜ (Fits (graph (now ea) (now eb) (now el) e))
-        × ((n ≤ pointBound) × ((m ≤ pinBound) × (FirstBelow (now pin) m pointBound))) ⌝ }
+        × ((n ≤ pointBound) × ((m ≤ pointBound) × (FirstBelow (now pin) m pointBound))) ⌝ }
     requires { ⌜ (labels (now far) (now root) ≡ unlabelled) × (parents (now up) (now via) ≡ orphans) ⌝ }
     requires { ⌜ (length (now kept) ≡ edgeBound) × (length (now long) ≡ edgeBound) ⌝ }
     ensures { λ _. ⌜ labels (now (far .exit)) (now (root .exit)) ≡

@@ -26,13 +26,13 @@ use Rattle.joined.specs.Joined.{Joined}
 use Rattle.joined.specs.Tree as joined
 use Rattle.joined.proofs.JoinedLaws.{one as one-link, between, carried, firsts, seconds}
 use Rattle.plane.specs.declared.Place.{Place}
-use Rattle.plane.specs.declared.Macro.{Macro}
 use Rattle.plane.specs.Place.{before}
-use Rattle.plane.specs.Distance.{distance}
 use Rattle.plane.specs.Macro.{clear}
 use Rattle.plane.specs.Flat.{placeAt}
 use Rattle.plane.proofs.PlaceOrder.{place-order}
 use Rattle.net.specs.Allowed.{Allowed}
+use Rattle.net.specs.Net.{Net, costIn}
+use Rattle.graph.specs.Spanning.{verticesOf, spanning}
 use Rattle.graph.specs.Vertices.{vertices}
 use Rattle.graph.specs.Edges.{beforeEdge}
 use Rattle.graph.proofs.EdgeLaws.{edges-ascending}
@@ -43,7 +43,7 @@ use Rattle.terminal.specs.Kept.{terminal}
 use Rattle.forest.specs.Setting.{ends}
 use Rattle.forest.proofs.EdgeLaws.{length-from}
 use Rattle.terminal.specs.Number.{edgeAt, numberOf, vertexAt, pinNumbers}
-use Rattle.terminal.specs.Tree.{spanning, graphOf, treeOf, totalOf}
+use Rattle.terminal.specs.Tree.{graphOf, treeOf, totalOf}
 use Rattle.terminal.proofs.NumberLaws.{ascending-at, count-of, one-of, vertex-order, vertex-of-number, pin-number-in}
 use Rattle.terminal.proofs.SettingOf.{setting, whole, edge-at, one-vertex, two-vertex}
 use Rattle.tree.specs.Table.{key, firstEnd, secondEnd, pointBound, Tree}
@@ -58,28 +58,28 @@ use Rattle.union.proofs.UnionTree.{pin-point, first-point, second-point
 use Rattle.union.proofs.UnionTree.{union-total}
 use Rattle.union.proofs.PlacedLaws.{pointTable, edgeTable, points-length, edges-length, point-at, key-at, position-rises, point-of, first-at, second-at, keys-within, below-total}
 
-module _ {ps : List Place} {ms : List Macro} (a : Allowed ps ms) where
+module _ {net : Net} (a : Allowed net) where
   abbrev vs : List Place
-  vs = vertices ps ms
+  vs = verticesOf net
 
   abbrev g : Graph
-  g = graphOf ps ms
+  g = graphOf net
 
   abbrev n : ℕ
-  n = length (vertices ps ms)
+  n = length (verticesOf net)
 
   abbrev pins : List ℕ
-  pins = pinNumbers (vertices ps ms) ps
+  pins = pinNumbers (verticesOf net) (net .pins)
 
   abbrev E : List ℕ
-  E = unionEdges (graphOf ps ms) (treeOf ps ms .labels .fars) (treeOf ps ms .parents) (treeOf ps ms .bridges)
+  E = unionEdges (graphOf net) (treeOf net .labels .fars) (treeOf net .parents) (treeOf net .bridges)
 
   abbrev W : List ℕ
-  W = unionPoints (graphOf ps ms) (treeOf ps ms .labels .fars) (treeOf ps ms .parents) (treeOf ps ms .bridges) (length (vertices ps ms))
-      (pinNumbers (vertices ps ms) ps)
+  W = unionPoints (graphOf net) (treeOf net .labels .fars) (treeOf net .parents) (treeOf net .bridges) (length (verticesOf net))
+      (pinNumbers (verticesOf net) (net .pins))
 
   abbrev at : ℕ → Place
-  at v = vertexAt (vertices ps ms) v
+  at v = vertexAt (verticesOf net) v
 
   -- By numbers
 
@@ -91,7 +91,7 @@ module _ {ps : List Place} {ms : List Macro} (a : Allowed ps ms) where
   unfolding treeOf terminal
   number-size = union-size (setting a) (whole a)
 
-  number-total : total (map (len g) E) ≤ totalOf ps ms
+  number-total : total (map (len g) E) ≤ totalOf net
   unfolding treeOf terminal
   number-total = union-total (setting a) (whole a)
 
@@ -109,8 +109,8 @@ module _ {ps : List Place} {ms : List Macro} (a : Allowed ps ms) where
 
   -- points are vertices
   pub union-below : (v : ℕ) →
-      v ∈ unionPoints (graphOf ps ms) (treeOf ps ms .labels .fars) (treeOf ps ms .parents) (treeOf ps ms .bridges) (length (vertices ps ms))
-      (pinNumbers (vertices ps ms) ps) → v < length (vertices ps ms)
+      v ∈ unionPoints (graphOf net) (treeOf net .labels .fars) (treeOf net .parents) (treeOf net .bridges) (length (verticesOf net))
+      (pinNumbers (verticesOf net) (net .pins)) → v < length (verticesOf net)
   unfolding treeOf terminal
   union-below v m = point-inside (setting a) (whole a) v m
 
@@ -125,7 +125,7 @@ module _ {ps : List Place} {ms : List Macro} (a : Allowed ps ms) where
   union-ascending : Ascending ltb E
   unfolding unionEdges
   union-ascending = picked-ascending (λ k. stands k
-      (keptEdges g (treeOf ps ms .labels .fars) (treeOf ps ms .parents) (treeOf ps ms .bridges))) (g .count)
+      (keptEdges g (treeOf net .labels .fars) (treeOf net .parents) (treeOf net .bridges))) (g .count)
 
   few-points : length W ≤ n
   unfolding unionPoints
@@ -135,7 +135,7 @@ module _ {ps : List Place} {ms : List Macro} (a : Allowed ps ms) where
   room = omega (arith, few-points, few-vertices a)
 
   -- the refiner's tables have room for the edges
-  pub union-less : length (unionEdges (graphOf ps ms) (treeOf ps ms .labels .fars) (treeOf ps ms .parents) (treeOf ps ms .bridges))
+  pub union-less : length (unionEdges (graphOf net) (treeOf net .labels .fars) (treeOf net .parents) (treeOf net .bridges))
       ≤ pointBound
   union-less = omega (arith, room, number-size)
 
@@ -163,7 +163,7 @@ module _ {ps : List Place} {ms : List Macro} (a : Allowed ps ms) where
       let l : u < v = ltb-true u v (ascending-at ltb W points-ascending i j 0 e f) in
       let x = union-below u (getD-in W i 0 (omega arith)) in
       let y = union-below v (getD-in W j 0 f) in
-      rw (point i (omega arith), point j f) (vertex-order vs (vertices-ascending ps ms) u v x y ∙ lt-ltb u v l)
+      rw (point i (omega arith), point j f) (vertex-order vs (vertices-ascending net) u v x y ∙ lt-ltb u v l)
 
   edge-of : (k : ℕ) → k ∈ E → (i : ℕ) × (i < length E) × (getD E i 0 ≡ k)
   edge-of k m = (
@@ -204,7 +204,7 @@ module _ {ps : List Place} {ms : List Macro} (a : Allowed ps ms) where
         );
   }
 
-  edge-free : (i : ℕ) → i < length E → clear (endsOf points (getD keys i 0) .0) (endsOf points (getD keys i 0) .1) ms ≡ true
+  edge-free : (i : ℕ) → i < length E → clear (endsOf points (getD keys i 0) .0) (endsOf points (getD keys i 0) .1) (net .macros) ≡ true
   edge-free i h =
       let k = getD E i 0 in
       let c = edge-below k (getD-in E i 0 h) in
@@ -213,20 +213,20 @@ module _ {ps : List Place} {ms : List Macro} (a : Allowed ps ms) where
   edge-long : (i : ℕ) → i < length E → keyLength points (getD keys i 0) ≡ len g (getD E i 0)
   edge-long i h =
       let k = getD E i 0 in
-      ap₂ distance (first i h) (second i h) ∙ setting a .measured k (edge-below k (getD-in E i 0 h))
+      ap₂ (costIn net) (first i h) (second i h) ∙ setting a .measured k (edge-below k (getD-in E i 0 h))
 
-  pin-stands : Among ps (pointsOf points (length W))
+  pin-stands : Among (net .pins) (pointsOf points (length W))
   pin-stands p m =
       let v = numberOf vs p in
-      let i = pin-at v (pin-number-in vs ps p m) in
+      let i = pin-at v (pin-number-in vs (net .pins) p m) in
       let q = position ltb W v in
       Memᴰ·cast
-      (sym (point-of at g W E points-ascending room union-less one-at two-at v i ∙ vertex-of-number vs (vertices-ascending ps ms) p
-      (pin-vertex ps ms m)))
+      (sym (point-of at g W E points-ascending room union-less one-at two-at v i ∙ vertex-of-number vs (vertices-ascending net) p
+      (pin-vertex net m)))
       (in-listing (placeAt points) (length W) q (position-small ltb number-order W points-ascending v i))
 
   -- the union is a tree over its points in order, with all pins, every edge clear
-  pub union-sound : Sound ms ps (unionOf ps ms)
+  pub union-sound : Sound net (unionOf net)
   unfolding unionOf startOf
   union-sound = record {
     ordered = ordered;
@@ -246,7 +246,7 @@ module _ {ps : List Place} {ms : List Macro} (a : Allowed ps ms) where
     upward : one g k < two g k
     upward =
         ltb-true (one g k) (two g k)
-        (sym (vertex-order vs (vertices-ascending ps ms) (one g k) (two g k) (setting a .one-in k c) (setting a .two-in k c))
+        (sym (vertex-order vs (vertices-ascending net) (one g k) (two g k) (setting a .one-in k c) (setting a .two-in k c))
         ∙ ap₂ before (one-vertex a k c) (two-vertex a k c) ∙ edge-at a k c .smaller-first)
 
   edge-cases : (e f : Place × Place) → beforeEdge e f ≡ true → (before (e .0) (f .0) ≡ true)
@@ -263,21 +263,21 @@ module _ {ps : List Place} {ms : List Macro} (a : Allowed ps ms) where
   later k l i j h =
       let x = edge-below k i in
       let y = edge-below l j in
-      let b = ascending-at beforeEdge (spanning ps ms) (edges-ascending ms vs) k l _ h (rw (count-of vs (spanning ps ms)) at y) in
+      let b = ascending-at beforeEdge (spanning net) (edges-ascending (net .weights) (net .macros) vs) k l _ h (rw (count-of (net .weights) vs (spanning net)) at y) in
       either
       (λ e. inl
       (ltb-true (one g k) (one g l)
-      (sym (vertex-order vs (vertices-ascending ps ms) (one g k) (one g l) (setting a .one-in k x) (setting a .one-in l y))
+      (sym (vertex-order vs (vertices-ascending net) (one g k) (one g l) (setting a .one-in k x) (setting a .one-in l y))
       ∙ ap₂ before (one-vertex a k x) (one-vertex a l y) ∙ e)))
       (λ e. inr (
-        one-of vs (spanning ps ms) k (rw (count-of vs (spanning ps ms)) at x)
+        one-of (net .weights) vs (spanning net) k (rw (count-of (net .weights) vs (spanning net)) at x)
             ∙ ap (numberOf vs) (e .0)
-            ∙ sym (one-of vs (spanning ps ms) l (rw (count-of vs (spanning ps ms)) at y)),
+            ∙ sym (one-of (net .weights) vs (spanning net) l (rw (count-of (net .weights) vs (spanning net)) at y)),
         ltb-true (two g k) (two g l)
-            (sym (vertex-order vs (vertices-ascending ps ms) (two g k) (two g l) (setting a .two-in k x) (setting a .two-in l y))
+            (sym (vertex-order vs (vertices-ascending net) (two g k) (two g l) (setting a .two-in k x) (setting a .two-in l y))
             ∙ ap₂ before (two-vertex a k x) (two-vertex a l y) ∙ e .1),
       ))
-      (edge-cases (edgeAt (spanning ps ms) k) (edgeAt (spanning ps ms) l) b)
+      (edge-cases (edgeAt (spanning net) k) (edgeAt (spanning net) l) b)
 
   rank : ℕ → ℕ
   rank v = position ltb W v
@@ -295,7 +295,7 @@ module _ {ps : List Place} {ms : List Macro} (a : Allowed ps ms) where
   rises = position-rises at g W E points-ascending room union-less one-at two-at
 
   -- N16: the smaller place comes first, and edges are in order
-  pub union-ranked : Ranked (unionOf ps ms .edges .keys) (unionOf ps ms .edges .size)
+  pub union-ranked : Ranked (unionOf net .edges .keys) (unionOf net .edges .size)
   unfolding unionOf startOf
   union-ranked = record { upward = over; rising = after }
     where
@@ -324,7 +324,7 @@ module _ {ps : List Place} {ms : List Macro} (a : Allowed ps ms) where
           (later k l m q (ltb-true k l (ascending-at ltb E union-ascending i j 0 e h))))
 
   -- it has no more metal than the kept paths
-  pub union-metal : metalOf (unionOf ps ms) ≤ totalOf ps ms
+  pub union-metal : metalOf (unionOf net) ≤ totalOf net
   unfolding unionOf startOf
   union-metal =
       let e : below (λ i. keyLength points (getD keys i 0)) (length E) ≡ total (map (len g) E) =
@@ -333,46 +333,46 @@ module _ {ps : List Place} {ms : List Macro} (a : Allowed ps ms) where
 
   -- a round may bring a point, and there are as many rounds as pins
   -- its points are vertices
-  pub union-few : unionOf ps ms .count ≤ length (vertices ps ms)
+  pub union-few : unionOf net .count ≤ length (verticesOf net)
   unfolding unionOf startOf
   union-few = few-points
 
-  pub union-room : unionOf ps ms .count + length ps ≤ pointBound
+  pub union-room : unionOf net .count + length (net .pins) ≤ pointBound
   unfolding unionOf startOf
   union-room = omega (arith, few-points, few-vertices a, a .few-pins)
 
-  pub union-size-is : suc (unionOf ps ms .edges .size) ≡ unionOf ps ms .count
+  pub union-size-is : suc (unionOf net .edges .size) ≡ unionOf net .count
   unfolding unionOf startOf
   union-size-is = number-size
 
-  pub union-points : length (unionOf ps ms .points) ≡ pointBound * 2
+  pub union-points : length (unionOf net .points) ≡ pointBound * 2
   unfolding unionOf startOf
   union-points = points-length at g W E points-ascending room union-less one-at two-at
 
-  pub union-keys : length (unionOf ps ms .edges .keys) ≡ pointBound
+  pub union-keys : length (unionOf net .edges .keys) ≡ pointBound
   unfolding unionOf startOf
   union-keys = edges-length at g W E points-ascending room union-less one-at two-at
 
   -- its edges are those of the graph that stand in the union
   abbrev pub unionList : List ℕ
-  unionList = unionEdges (graphOf ps ms) (treeOf ps ms .labels .fars) (treeOf ps ms .parents) (treeOf ps ms .bridges)
+  unionList = unionEdges (graphOf net) (treeOf net .labels .fars) (treeOf net .parents) (treeOf net .bridges)
 
-  edge-is : (i : ℕ) → i < length E → endsOf points (getD keys i 0) ≡ edgeAt (spanning ps ms) (getD E i 0)
+  edge-is : (i : ℕ) → i < length E → endsOf points (getD keys i 0) ≡ edgeAt (spanning net) (getD E i 0)
   edge-is i h =
       let c = edge-below (getD E i 0) (getD-in E i 0 h) in
       ap₂ (λ (x y : Place). (x, y)) (first i h ∙ one-vertex a (getD E i 0) c) (second i h ∙ two-vertex a (getD E i 0) c)
 
-  pub union-edge : (e : Place × Place) → e ∈ edgesOf (unionOf ps ms .points) (unionOf ps ms .edges .keys) (unionOf ps ms .edges .size) →
-      (k : ℕ) × ((k ∈ unionList) × (e ≡ edgeAt (spanning ps ms) k))
+  pub union-edge : (e : Place × Place) → e ∈ edgesOf (unionOf net .points) (unionOf net .edges .keys) (unionOf net .edges .size) →
+      (k : ℕ) × ((k ∈ unionList) × (e ≡ edgeAt (spanning net) k))
   unfolding unionOf startOf
   union-edge e m =
       let r = of-listing (λ j. endsOf points (getD keys j 0)) (length E) e m in
       (getD E (r .0) 0, (getD-in E (r .0) 0 (r .1 .0), r .1 .1 ∙ edge-is (r .0) (r .1 .0)))
 
-  pub union-has : (k : ℕ) → k ∈ unionList → edgeAt (spanning ps ms) k ∈ edgesOf (unionOf ps ms .points) (unionOf ps ms .edges .keys)
-      (unionOf ps ms .edges .size)
+  pub union-has : (k : ℕ) → k ∈ unionList → edgeAt (spanning net) k ∈ edgesOf (unionOf net .points) (unionOf net .edges .keys)
+      (unionOf net .edges .size)
   unfolding unionOf startOf
   union-has k m =
       let i = edge-of k m in
-      Memᴰ·cast (ap (edgeAt (spanning ps ms)) (sym (i .2)) ∙ sym (edge-is (i .0) (i .1)))
+      Memᴰ·cast (ap (edgeAt (spanning net)) (sym (i .2)) ∙ sym (edge-is (i .0) (i .1)))
       (in-listing (λ j. endsOf points (getD keys j 0)) (length E) (i .0) (i .1))

@@ -9,9 +9,10 @@ use lib.IntN.{ℤ}
 use lib.ListN.{length}
 use Rattle.lists.specs.Member.{_∈_}
 use Rattle.plane.specs.declared.Place.{Place}
-use Rattle.plane.specs.declared.Macro.{Macro}
 use Rattle.plane.specs.Flat.{placeAt}
 use Rattle.net.specs.Allowed.{Allowed}
+use Rattle.net.specs.Net.{Net}
+use Rattle.graph.specs.Spanning.{verticesOf}
 use Rattle.graph.specs.Vertices.{vertices}
 use Rattle.graph.proofs.GraphBounds.{few-vertices}
 use Rattle.forest.specs.Bounds.{pointBound}
@@ -29,7 +30,7 @@ use Rattle.terminal.specs.Tree.{graphOf, treeOf}
 use Rattle.terminal.specs.Tables.{Tables, Worked}
 use Rattle.terminal.proofs.SettingOf.{setting, paths-count}
 use Rattle.tree.specs.Table.{tree, Within, Tree as Table}
-use Rattle.tree.specs.Table as refined
+use Rattle.tree.specs.Table as tables
 use Rattle.union.specs.Union.{unionPoints, startOf, unionOf}
 use Rattle.union.specs.Marks.{Startable}
 use Rattle.union.proofs.StartLaws.{map-agree}
@@ -42,20 +43,20 @@ start-agree : (g : Graph) (fars : List ℕ) (p : Parents) (ks : List ℕ) (f h :
 unfolding startOf
 start-agree g fars p ks f h n pins a = rw (map-agree f h (unionPoints g fars p ks n pins) a) refl
 
-module _ {ps : List Place} {ms : List Macro} (a : Allowed ps ms) {lent t : Tables} {r : Tree} (w : Worked ps ms lent t r) where
+module _ {net : Net} (a : Allowed net) {lent t : Tables} {r : Tree} (w : Worked net lent t r) where
   abbrev g : Graph
-  g = graphOf ps ms
+  g = graphOf net
 
   abbrev n : ℕ
-  n = length (vertices ps ms)
+  n = length (verticesOf net)
 
-  startable : Startable g n (t .pins) (r .pins) (treeOf ps ms .labels .fars) (treeOf ps ms .parents) (t .kept) (r .kept)
+  startable : Startable g n (t .pins) (r .pins) (treeOf net .labels .fars) (treeOf net .parents) (t .kept) (r .kept)
   unfolding treeOf terminal
   startable =
       let s = setting a in
       record {
         fits = fits s;
-        falls = falls-parented g n (labelled g n (pinNumbers (vertices ps ms) ps)) (few-vertices a) (fits s);
+        falls = falls-parented g n (labelled g n (pinNumbers (verticesOf net) (net .pins))) (few-vertices a) (fits s);
         vertices = few-vertices a;
         one-in = s .one-in;
         two-in = s .two-in;
@@ -66,7 +67,7 @@ module _ {ps : List Place} {ms : List Macro} (a : Allowed ps ms) {lent t : Table
         room = rw (read-listed _ _ _ _ (w .bridges-are)) (union-less a);
       }
 
-  far-is : t .fars ≡ treeOf ps ms .labels .fars
+  far-is : t .fars ≡ treeOf net .labels .fars
   far-is = ap (λ (l : Labels). l .fars) (w .labels-are)
 
   pub worked-startable : Startable (graph (t .ones) (t .twos) (t .spans) (r .edges)) (r .points) (t .pins) (r .pins) (t .fars)
@@ -75,24 +76,24 @@ module _ {ps : List Place} {ms : List Macro} (a : Allowed ps ms) {lent t : Table
 
   pub worked-start : startOf (graph (t .ones) (t .twos) (t .spans) (r .edges)) (t .fars) (parents (t .ups) (t .vias))
       (entries (t .kept) 0 (r .kept)) (placeAt (t .points)) (r .points) (entries (t .pins) 0 (r .pins))
-      ≡ unionOf ps ms
+      ≡ unionOf net
   unfolding unionOf
   worked-start =
       rw (w .graph-is, w .vertex-count, far-is, w .parents-are, read-listed _ _ _ _ (w .bridges-are), read-listed _ _ _ _ (w .pins-are))
-      (start-agree g (treeOf ps ms .labels .fars) (treeOf ps ms .parents) (treeOf ps ms .bridges) (placeAt (t .points))
-      (vertexAt (vertices ps ms)) n
-      (pinNumbers (vertices ps ms) ps)
+      (start-agree g (treeOf net .labels .fars) (treeOf net .parents) (treeOf net .bridges) (placeAt (t .points))
+      (vertexAt (verticesOf net)) n
+      (pinNumbers (verticesOf net) (net .pins))
       (λ v m.
-      ap (λ (l : List ℤ). placeAt l v) (w .vertices-are) ∙ place-at (vertices ps ms) (lent .points) v (union-below a v m)))
+      ap (λ (l : List ℤ). placeAt l v) (w .vertices-are) ∙ place-at (verticesOf net) (lent .points) v (union-below a v m)))
 
 -- what the refiner asks of the tables that hold the union
-pub refinable : {ps : List Place} {ms : List Macro} → Allowed ps ms → (pts : List ℤ) (points : ℕ) (keys : List ℕ) (edges : ℕ) →
-    tree pts points keys edges ≡ unionOf ps ms →
-    ((points + length ps ≤ refined.pointBound) × (edges + length ps ≤ refined.pointBound)) × Within points keys
-refinable {ps} a pts points keys edges e =
-    let n : points ≡ unionOf _ _ .count = ap (λ (t : Table). t .count) e in
-    let m : edges ≡ unionOf _ _ .edges .size = ap (λ (t : Table). t .edges .size) e in
-    let k : keys ≡ unionOf _ _ .edges .keys = ap (λ (t : Table). t .edges .keys) e in (
+pub refinable : {net : Net} → Allowed net → (pts : List ℤ) (points : ℕ) (keys : List ℕ) (edges : ℕ) →
+    tree pts points keys edges ≡ unionOf net →
+    ((points + length (net .pins) ≤ tables.pointBound) × (edges + length (net .pins) ≤ tables.pointBound)) × Within points keys
+refinable {net} a pts points keys edges e =
+    let n : points ≡ unionOf _ .count = ap (λ (t : Table). t .count) e in
+    let m : edges ≡ unionOf _ .edges .size = ap (λ (t : Table). t .edges .size) e in
+    let k : keys ≡ unionOf _ .edges .keys = ap (λ (t : Table). t .edges .keys) e in (
       (omega (arith, n, union-room a), omega (arith, n, m, union-room a, union-size-is a)),
       rw (n, k) (union-sound a .within),
     )

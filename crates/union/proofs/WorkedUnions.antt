@@ -14,10 +14,13 @@ use Rattle.lent.specs.Over.{over}
 use Rattle.lent.specs.Entries.{flat}
 use Rattle.joined.specs.Table.{changed, keptBy}
 use Rattle.plane.specs.Place.{before}
-use Rattle.plane.specs.Distance.{apart, distance}
+use Rattle.plane.specs.Distance.{apart}
+use Rattle.plane.specs.Cost.{cost}
 use Rattle.plane.specs.Macro.{spanMeets, meets, clear}
-use Rattle.plane.specs.Flat.{placesOf, macrosOf}
+use Rattle.plane.specs.Flat.{macrosOf}
 use Rattle.net.specs.WorkedNets.{Lists, onePin, aroundOne, threePins}
+use Rattle.net.specs.Pins.{pinPlaces}
+use Rattle.net.specs.Net.{netOf}
 use Rattle.graph.specs.Vertices.{cornersOf, corners, vertices}
 use Rattle.graph.specs.Pick.{within, nearer as nearerPlace, better as betterPick, pickFrom, pick}
 use Rattle.graph.specs.Edges.{edgeOf, beforeEdge, edgeOfPick, picksOf, allPicks, edges}
@@ -37,12 +40,12 @@ shown t = (take (t .count * 2) (t .points), take (t .edges .size) (t .edges .key
 
 -- the union of a net; to unfold this is to unfold all that it rests on
 unfoldable pub union : Lists → List ℤ × List ℕ
-unfolding any put sorted firstThen position those total minZ maxZ over flat changed keptBy before apart distance spanMeets meets clear
-    placesOf macrosOf cornersOf corners vertices within nearerPlace betterPick pickFrom pick edgeOf beforeEdge edgeOfPick picksOf allPicks
+unfolding any put sorted firstThen position those total minZ maxZ over flat changed keptBy before apart cost spanMeets meets clear
+    pinPlaces macrosOf cornersOf corners vertices within nearerPlace betterPick pickFrom pick edgeOf beforeEdge edgeOfPick picksOf allPicks
     edges from filled better gains offer relaxEdge moves relax changes settled starts labelled leads nearer through parentAmong parent
     adopted parented wayOf way oneRoot path pathLength weights earlier bridgesFrom bridges keptBridges keptLengths terminal numbered
     pinNumbers treeOf stands keptEdges unionEdges unionPoints startOf unionOf shown
-union net = shown (unionOf (placesOf (net .pins)) (macrosOf (net .macros)))
+union lists = shown (unionOf (netOf (lists .pins) (lists .macros)))
 
 -- A graph whose kept paths share an edge: the pins 0, 2 and 3 hang on the vertex 1, 1 away from pin 0 and 5 from the others. The tree's
 -- two paths both go over edge 0.

@@ -11,7 +11,7 @@
 --              keptEdges g fars p ks                the edges of the kept paths, one path after the other
 --              unionEdges, unionPoints .. n pins    the union's edges and points, in order, each once
 --              startOf .. places n pins             the same as the refiner's tables
---              unionOf ps ms                        that of a net
+--              unionOf net                        that of a net
 --   Marks      marked l t, isMarked t k             a table with the numbers of a list marked, as the code makes it and reads it
 --              marks t n                            the marked ones of n numbers, in order
 --              Ranking t n ranks                    a table of how many marked numbers come before each

@@ -6,10 +6,10 @@ use Prim.Native.Nat.{ℕ, _≤_, _<_}
 use lib.Dec.{ltb}
 use lib.ListN.{length, getD, set}
 use Rattle.lists.specs.Those.{those}
-use Rattle.forest.specs.Bounds.{pinBound, pointBound, edgeBound}
+use Rattle.forest.specs.Bounds.{pointBound, edgeBound}
 use Rattle.forest.specs.Edges.{Graph, one, two, from, entries, Fits, FirstBelow}
 use Rattle.forest.specs.Parents.{Parents, Falls}
-use Rattle.tree.specs.Table as refined
+use Rattle.tree.specs.Table as tables
 use Rattle.union.specs.Union.{unionEdges}
 
 -- a table with each number of a list marked
@@ -36,8 +36,8 @@ pub record Startable (g : Graph) (n : ℕ) (pins : List ℕ) (m : ℕ) (fars : L
   pub vertices : n ≤ pointBound
   pub one-in : (k : ℕ) → k < g .count → one g k < n
   pub two-in : (k : ℕ) → k < g .count → two g k < n
-  pub pins-few : m ≤ pinBound
+  pub pins-few : m ≤ pointBound
   pub pins-in : FirstBelow pins m pointBound
   pub kept-few : count ≤ edgeBound
   pub kept-in : FirstBelow kept count (g .count)
-  pub room : length (unionEdges g fars p (entries kept 0 count)) ≤ refined.pointBound
+  pub room : length (unionEdges g fars p (entries kept 0 count)) ≤ tables.pointBound

@@ -11,9 +11,9 @@ use Rattle.lists.specs.Those.{those}
 use Rattle.lent.specs.Over.{over}
 use Rattle.lent.specs.Entries.{flat}
 use Rattle.plane.specs.declared.Place.{Place}
-use Rattle.plane.specs.declared.Macro.{Macro}
+use Rattle.net.specs.Net.{Net}
+use Rattle.graph.specs.Spanning.{verticesOf}
 use Rattle.graph.specs.Numbers.{placeNumbers}
-use Rattle.graph.specs.Vertices.{vertices}
 use Rattle.forest.specs.Edges.{Graph, one, two, from}
 use Rattle.forest.specs.Parents.{Parents}
 use Rattle.terminal.specs.Bridges.{path}
@@ -58,8 +58,8 @@ module _ (g : Graph) (fars : List ℕ) (p : Parents) (ks : List ℕ) where
       (length unionEdges)
 
 -- the union of the kept paths of a net
-unfoldable pub unionOf : List Place → List Macro → Tree
-unionOf ps ms =
-    let vs = vertices ps ms in
-    let t = treeOf ps ms in
-    startOf (graphOf ps ms) (t .labels .fars) (t .parents) (t .bridges) (vertexAt vs) (length vs) (pinNumbers vs ps)
+unfoldable pub unionOf : Net → Tree
+unionOf net =
+    let vs = verticesOf net in
+    let t = treeOf net in
+    startOf (graphOf net) (t .labels .fars) (t .parents) (t .bridges) (vertexAt vs) (length vs) (pinNumbers vs (net .pins))

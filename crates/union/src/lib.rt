@@ -13,7 +13,7 @@ ghost use Rattle.lent.specs.Over.{over};
 ghost use Rattle.lent.specs.Entries.{flat};
 ghost use Rattle.plane.specs.Flat.{placeAt};
 ghost use Rattle.graph.specs.Numbers.{placeNumbers};
-ghost use Rattle.forest.specs.Bounds.{pointBound, edgeBound, pinBound};
+ghost use Rattle.forest.specs.Bounds.{pointBound, edgeBound};
 ghost use Rattle.forest.specs.Edges.{graph, entries, Fits, Ends, FirstBelow, Below};
 ghost use Rattle.forest.specs.Parents.{parents, way, Falls};
 ghost use Rattle.tree.specs.Table.{tree, key};
@@ -25,8 +25,6 @@ ghost use Rattle.union.specs.Marks.{marked, marks, Ranking, Startable};
 pub const POINTS: usize = Net::POINTS;
 
 pub const EDGES: usize = Net::EDGES;
-
-pub const PINS: usize = Net::PINS;
 
 pub const VERTEX_NUMBERS: usize = POINTS * 2;
 
@@ -103,8 +101,8 @@ fn mark_paths(
 }
 
 // The m pins.
-fn mark_pins(pin: &[usize; PINS], m: usize, at: &mut [usize; POINTS])
-    requires { ⌜ (m ≤ pinBound) × (FirstBelow (now pin) m pointBound) ⌝ }
+fn mark_pins(pin: &[usize; POINTS], m: usize, at: &mut [usize; POINTS])
+    requires { ⌜ (m ≤ pointBound) × (FirstBelow (now pin) m pointBound) ⌝ }
     ensures { λ _. ⌜ now (at .exit) ≡ marked (entries (now (pin .entry)) 0 m) (now (at .entry)) ⌝ }
 {
     let mut i = 0;
@@ -223,7 +221,7 @@ pub fn start(
     eb: &[usize; EDGES],
     el: &[u64; EDGES],
     e: usize,
-    pin: &[usize; PINS],
+    pin: &[usize; POINTS],
     m: usize,
     far: &[u64; POINTS],
     up: &[usize; POINTS],

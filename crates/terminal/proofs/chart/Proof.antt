@@ -12,12 +12,14 @@ use Rattle.lent.specs.Over.{over}
 use Rattle.lent.specs.Entries.{flat}
 use Rattle.plane.specs.declared.Place.{Place}
 use Rattle.plane.specs.Flat.{placesOf, macrosOf}
-use Rattle.plane.proofs.FlatLaws.{length-places, length-macros}
+use Rattle.plane.proofs.FlatLaws.{length-macros}
+use Rattle.net.specs.Net.{netWith}
+use Rattle.net.proofs.PinLaws.{length-pins}
+use Rattle.graph.specs.Spanning.{spanning}
 use Rattle.graph.specs.Edges.{edges}
 use Rattle.graph.specs.Numbers.{edgeNumbers}
 use Rattle.graph.proofs.GraphBounds.{few-vertices}
 use Rattle.graph.proofs.ReadBack.{vertices-back}
-use Rattle.terminal.specs.Tree.{spanning}
 use borrow.Author.Needs.{needs}
 use Rattle.terminal.proofs.chart.Statement.{statement}
 use Rattle.terminal.proofs.chart.Tie as tie
@@ -29,7 +31,7 @@ vertices-requires c κs =
       arith,
       s .pre .0 .few-pins,
       s .pre .0 .few-macros,
-      length-places (now (s .args .pins)),
+      length-pins (now (s .args .pins)),
       length-macros (now (s .args .macros)),
       s .pre .1,
     )
@@ -66,11 +68,11 @@ returns : tie.Need-returns
 returns c =
     let d = c .before .before .before .before .before in
     let a = d .before .before .args in
-    let ps = placesOf (now (a .pins)) in
+    let net = netWith (a .w) (now (a .pins)) (now (a .macros)) in
     let ms = macrosOf (now (a .macros)) in
     let v = d .vertices .ensures in
     let back = vertices-back _ (now (a .points)) (d .vertices .last .1 .1 .0) (d .vertices .result) (v .1) (v .0) in
-    let these : edges ms (placesOf (take (d .vertices .result * 2) (d .vertices .last .1 .1 .0))) ≡ spanning ps ms = ap (edges ms) back in (
+    let these : edges (a .w) ms (placesOf (take (d .vertices .result * 2) (d .vertices .last .1 .1 .0))) ≡ spanning net = ap (edges (a .w) ms) back in (
       (v .0, c .before .edges .ensures .0 ∙ ap length these),
       (
         v .1,

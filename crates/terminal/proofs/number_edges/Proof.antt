@@ -1,4 +1,4 @@
--- `terminal::number_edges` meets its contract. The loop's invariant: the ends and the lengths of the edges so far stand at the front of
+-- `terminal::number_edges` meets its contract. The loop's invariant: the ends and the costs of the edges so far stand at the front of
 -- the tables. The measure is how many edges are left.
 -- Assumes nothing.
 use mathlib.Core.Path.{sym}
@@ -15,16 +15,16 @@ use Rattle.terminal.proofs.number_edges.Statement.{statement}
 use Rattle.terminal.proofs.number_edges.Tie as tie
 
 abbrev Inv-loop : tie.InvT-loop
-Inv-loop edges e vertices n ea₀ eb₀ el₀ k₀ ea eb el k =
-    (k ≤ e) × Numbering (entries placeFrom 2 vertices n) (entries edgeFrom 4 edges e) ea eb el k
+Inv-loop w edges e vertices n ea₀ eb₀ el₀ k₀ ea eb el k =
+    (k ≤ e) × Numbering w (entries placeFrom 2 vertices n) (entries edgeFrom 4 edges e) ea eb el k
 
 abbrev μ-loop : tie.MeasureT-loop
-μ-loop edges e vertices n ea₀ eb₀ el₀ k₀ ea eb el k = e - k
+μ-loop w edges e vertices n ea₀ eb₀ el₀ k₀ ea eb el k = e - k
 
 loop-holds : tie.Need-loop-holds Inv-loop μ-loop
 loop-holds c =
     let q = c .pre .1 .1 in
-    (omega arith, number-none _ _ _ _ _ (q .0) (q .1 .0) (q .1 .1))
+    (omega arith, number-none _ _ _ _ _ _ (q .0) (q .1 .0) (q .1 .1))
 
 mul-place-at : tie.Need-mul-place-at Inv-loop μ-loop
 mul-place-at c = omega arith
@@ -59,8 +59,8 @@ mul-eb c = omega arith
 element-write-eb : tie.Need-element-write-eb Inv-loop μ-loop
 element-write-eb c = omega arith
 
-length-between-requires : tie.Need-length-between-requires Inv-loop μ-loop
-length-between-requires c κs = tt
+cost-requires : tie.Need-cost-requires Inv-loop μ-loop
+cost-requires c κs = tt
 
 mul-el : tie.Need-mul-el Inv-loop μ-loop
 mul-el c = omega arith
@@ -86,8 +86,8 @@ loop-again c =
     let more : l .loop .k < length (entries edgeFrom 4 (now (a .edges)) (a .e)) = omega (arith, n, h) in
     let few : length (entries edgeFrom 4 (now (a .edges)) (a .e)) ≤ edgeBound = omega (arith, n, l .before .pre) in (
       omega arith,
-      number-more _ _ _ _ _ _ (l .loop .inv .1) (one .result) (two .result) _ _ _ more few read (c .before .before .number-of .ensures)
-          (c .before .number-of2 .ensures) (c .length-between .ensures),
+      number-more _ _ _ _ _ _ _ (l .loop .inv .1) (one .result) (two .result) _ _ _ more few read (c .before .before .number-of .ensures)
+          (c .before .number-of2 .ensures) (c .cost .ensures .0),
     )
 
 returns : tie.Need-returns Inv-loop μ-loop
@@ -96,7 +96,7 @@ returns c =
     let a = l .before .args in
     let n = edge-entries (now (a .edges)) (a .e) in
     let all : length (entries edgeFrom 4 (now (a .edges)) (a .e)) ≤ l .loop .k = omega (arith, n, c .loop-test .left) in
-    number-end _ _ _ _ _ _ (l .loop .inv .1) (a .e) all (sym n)
+    number-end _ _ _ _ _ _ _ (l .loop .inv .1) (a .e) all (sym n)
 
 pub number-edges-spec : {M : Type 1} → statement M
 number-edges-spec =
@@ -116,7 +116,7 @@ number-edges-spec =
     number-of-requires-2
     mul-eb
     element-write-eb
-    length-between-requires
+    cost-requires
     mul-el
     element-write-el
     add-k

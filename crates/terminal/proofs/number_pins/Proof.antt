@@ -3,9 +3,9 @@
 use Prim.Native.Nat.{_≤_}
 use native.Mathlib.Omega.{arith}
 use denote.Ref.{now}
-use Rattle.plane.specs.Flat.{placesOf}
-use Rattle.plane.proofs.FlatLaws.{length-places}
-use Rattle.forest.specs.Bounds.{pinBound}
+use Rattle.net.specs.Pins.{pinPlaces}
+use Rattle.net.proofs.PinLaws.{length-pins}
+use Rattle.net.specs.Bounds.{pinBound}
 use Rattle.terminal.proofs.WorkLaws.{pins-few, pins-numbered}
 use borrow.Author.Needs.{needs}
 use Rattle.terminal.proofs.number_pins.Statement.{statement}
@@ -26,13 +26,13 @@ slice-aggregate-number-places c = search needs
 few : (d : tie.After-vertices) → d .vertices .result ≤ pinBound
 few d =
     let s = d .before .before .before in
-    omega (arith, d .vertices .ensures .0, pins-few (placesOf (now (s .args .pins))), length-places (now (s .args .pins)), s .pre)
+    omega (arith, d .vertices .ensures .0, pins-few (pinPlaces (now (s .args .pins))), length-pins (now (s .args .pins)), s .pre)
 
 number-places-requires : tie.Need-number-places-requires
 number-places-requires c κs =
     let d = c .before .before .before in
     let s = d .before .before .before in
-    ((omega (arith, few d, d .vertices .kept .1 .1 .0), s .pre .0 .1), (few d, s .pre .1))
+    ((omega (arith, few d, d .vertices .kept .1 .1 .0), s .pre .0 .1), (omega (arith, few d), s .pre .1))
 
 returns : tie.Need-returns
 returns c =

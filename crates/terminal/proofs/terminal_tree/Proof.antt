@@ -5,8 +5,8 @@ use mathlib.Core.List.{List}
 use native.Mathlib.Omega.{arith}
 use lib.IntN.{ℤ}
 use denote.Ref.{now}
-use Rattle.plane.specs.Flat.{placesOf, macrosOf}
-use Rattle.plane.proofs.FlatLaws.{length-places}
+use Rattle.net.specs.Net.{netWith}
+use Rattle.net.proofs.PinLaws.{length-pins}
 use Rattle.terminal.specs.Tables.{Tables, tables}
 use Rattle.terminal.proofs.WorkLaws.{Charted, vertices-fit, edges-fit, few-links, tree-asks, all-worked}
 use borrow.Author.Needs.{needs}
@@ -31,7 +31,7 @@ module _ (d : tie.After-chart) where
   links = d .chart .last .1 .1 .1 .0
 
   charted :
-      Charted (placesOf (now (begun .args .pins))) (macrosOf (now (begun .args .macros))) (lent begun) points links
+      Charted (netWith (begun .args .w) (now (begun .args .pins)) (now (begun .args .macros))) (lent begun) points links
       (d .chart .result .points) (d .chart .result .edges)
   charted =
       let e = d .chart .ensures in
@@ -54,7 +54,7 @@ number-pins-requires c κs =
     let d = c .before .before .before .before .before .before .before .before .before .before .before in
     let s = begun d in
     let f = s .pre .1 in
-    ((omega (arith, s .pre .0 .few-pins, length-places (now (s .args .pins))), vertices-fit (s .pre .0) f (charted d)), f .pins)
+    ((omega (arith, s .pre .0 .few-pins, length-pins (now (s .args .pins))), vertices-fit (s .pre .0) f (charted d)), f .pins)
 
 kept-tree-requires : tie.Need-kept-tree-requires
 kept-tree-requires c κs =
