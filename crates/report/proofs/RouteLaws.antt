@@ -14,7 +14,8 @@ use Rattle.lent.proofs.OverLaws.{take-over}
 use Rattle.lent.proofs.EntryTable.{length-flat, entries-over}
 use Rattle.plane.specs.declared.Place.{Place}
 use Rattle.net.specs.Bounds.{pinBound, macroBound, treeBound}
-use Rattle.net.specs.Check.{pinCount, macroCount, checked}
+use Rattle.net.specs.Pins.{pinCount, macroCount}
+use Rattle.net.specs.Check.{checked}
 use Rattle.net.proofs.PassedLaws.{passed-all, pins-counted, macros-counted}
 use Rattle.net.proofs.CheckLaws.{allow}
 use Rattle.graph.specs.Numbers.{edgeNumbers, edgeFrom}

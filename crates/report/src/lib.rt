@@ -11,7 +11,8 @@ ghost use lib.IntN.{pos, natAbs};
 ghost use lib.ListN.{length};
 ghost use Rattle.lent.specs.Told.{given};
 ghost use Rattle.lent.specs.Entries.{flat, entries};
-ghost use Rattle.net.specs.Check.{pinCount, macroCount, checked};
+ghost use Rattle.net.specs.Pins.{pinCount, macroCount}
+use Rattle.net.specs.Check.{checked};
 ghost use Rattle.graph.specs.Numbers.{edgeFrom};
 ghost use Rattle.router.specs.Refined.{laidOf, laidTotal};
 ghost use Rattle.report.specs.Route.{treesText, routeText};

@@ -24,7 +24,8 @@ use Rattle.plane.specs.Flat.{placesOf, macrosOf}
 use Rattle.plane.proofs.PlaceOrder.{place-order}
 use Rattle.plane.proofs.MacroLaws.{clear-perm}
 use Rattle.net.specs.Allowed.{Allowed}
-use Rattle.net.specs.Check.{pinCount, checked}
+use Rattle.net.specs.Pins.{pinCount}
+use Rattle.net.specs.Check.{checked}
 use Rattle.net.proofs.AllowedLaws.{given-allowed}
 use Rattle.net.specs.Order.{SamePins, SameMacros}
 use Rattle.net.proofs.CheckOrder.{check-order}
@@ -38,7 +39,7 @@ use Rattle.rules.proofs.EdgeLaws.{edge-order}
 use Rattle.rules.proofs.TreesOrder.{SameNet}
 use Rattle.rules.proofs.TerminalOurs.{paths-given}
 use Rattle.rules.proofs.TreesOurs.{trees-same}
-use Rattle.router.specs.Graph.{verticesOf, edgesOf, pointCount, graphRoomShort, graphGiven, graphed}
+use Rattle.router.specs.Graph.{netVertices, netEdges, pointCount, graphRoomShort, graphGiven, graphed}
 use Rattle.router.specs.Room.{ifRoom}
 use Rattle.router.specs.Terminal.{pathsOf, pathsTotal, terminalGiven, terminalTree}
 use Rattle.router.specs.Refined.{refinedOf, edgesIn, metalIn, laidOf, laidTotal, refinedGiven, refinedTree}
@@ -94,10 +95,10 @@ module _ (pins pins′ macros macros′ : List ℤ) (p : SamePins pins pins′) 
   -- Allowed
 
   module _ (net : ℕ × ℕ) (g : checked pins macros ≡ given net) where
-    a : Allowed (placesOf pins) (macrosOf macros)
+    a : Allowed (netOf pins macros)
     a = given-allowed pins macros g .1
 
-    b : Allowed (placesOf pins′) (macrosOf macros′)
+    b : Allowed (netOf pins′ macros′)
     b = given-allowed pins′ macros′ (sym same-check ∙ g) .1
 
     -- by the rules the two nets are alike
@@ -112,14 +113,14 @@ module _ (pins pins′ macros macros′ : List ℤ) (p : SamePins pins pins′) 
       clears = λ x y. clear-perm x y _ _ (q .order);
     }
 
-    same-vertices : verticesOf pins macros ≡ verticesOf pins′ macros′
-    unfolding verticesOf
+    same-vertices : netVertices pins macros ≡ netVertices pins′ macros′
+    unfolding netVertices
     same-vertices =
         ∥∥₁-elim (p .order) (order-lists-set place-order _ _) λ d.
         ∥∥₁-elim (q .order) (order-lists-set place-order _ _) λ e. trees-same (alike d e) a b .vertices
 
-    same-edges : edgesOf pins macros ≡ edgesOf pins′ macros′
-    unfolding edgesOf verticesOf
+    same-edges : netEdges pins macros ≡ netEdges pins′ macros′
+    unfolding netEdges netVertices
     same-edges =
         ∥∥₁-elim (p .order) (order-lists-set edge-order _ _) λ d.
         ∥∥₁-elim (q .order) (order-lists-set edge-order _ _) λ e. trees-same (alike d e) a b .edges

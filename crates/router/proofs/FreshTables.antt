@@ -4,13 +4,13 @@ use mathlib.Core.Path.{refl}
 use Prim.Native.Nat.{_*_}
 use lib.IntN.{pos}
 use lib.ListN.{replicate}
-use Rattle.forest.specs.Bounds.{pointBound, edgeBound, pinBound, unreached}
+use Rattle.forest.specs.Bounds.{pointBound, edgeBound, unreached}
 use Rattle.terminal.specs.Tables.{tables, Fresh}
 
 -- the tables that are lent
 pub fresh : Fresh
     (tables (replicate (pointBound * 2) (pos 0)) (replicate (edgeBound * 4) (pos 0)) (replicate edgeBound 0) (replicate edgeBound 0)
-    (replicate edgeBound 0) (replicate pinBound 0) (replicate pointBound unreached) (replicate pointBound 0)
+    (replicate edgeBound 0) (replicate pointBound 0) (replicate pointBound unreached) (replicate pointBound 0)
     (replicate pointBound pointBound) (replicate pointBound edgeBound) (replicate edgeBound 0) (replicate edgeBound 0))
 fresh = record {
   points = refl;

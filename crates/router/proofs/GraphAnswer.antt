@@ -11,18 +11,21 @@ use lib.IntN.{ℤ}
 use lib.ListN.{length}
 use Rattle.lists.proofs.TestLaws.{or-none}
 use Rattle.lent.specs.Told.{refused, given, onlyIf}
-use Rattle.plane.specs.Flat.{placesOf, macrosOf}
-use Rattle.plane.proofs.FlatLaws.{length-places, length-macros}
+use Rattle.plane.specs.Flat.{macrosOf}
+use Rattle.plane.proofs.FlatLaws.{length-macros}
+use Rattle.net.specs.declared.Net.{Net as Counts}
+use Rattle.net.specs.Pins.{pinPlaces}
+use Rattle.net.proofs.PinLaws.{length-pins}
 use Rattle.net.specs.Check.{checked}
 use Rattle.graph.proofs.VertexLaws.{length-vertices}
-use Rattle.router.specs.Graph.{verticesOf, edgesOf, pointCount, graphRoomShort, graphGiven, graphed}
+use Rattle.router.specs.Graph.{netVertices, netEdges, pointCount, graphRoomShort, graphGiven, graphed}
 
 module _ (pins macros : List ℤ) (v e : ℕ) where
   pub graphed-refused : (n : ℕ) → checked pins macros ≡ refused n → graphed pins macros v e ≡ refused n
   unfolding graphed onlyIf
   graphed-refused n r = rw r refl
 
-  pub graphed-allowed : (net : ℕ × ℕ) → checked pins macros ≡ given net → graphed pins macros v e ≡ graphGiven pins macros v e
+  pub graphed-allowed : (net : Counts) → checked pins macros ≡ given net → graphed pins macros v e ≡ graphGiven pins macros v e
   unfolding graphed onlyIf
   graphed-allowed net r = rw r refl
 
@@ -32,7 +35,7 @@ module _ (pins macros : List ℤ) (v e : ℕ) where
   graph-short r = rw r refl
 
   pub graph-fits : (ltb v (pointCount pins macros * 2) || ltb e (pointCount pins macros * 16)) ≡ false
-      → graphGiven pins macros v e ≡ given (length (verticesOf pins macros), length (edgesOf pins macros))
+      → graphGiven pins macros v e ≡ given (length (netVertices pins macros), length (netEdges pins macros))
   unfolding graphGiven graphRoomShort
   graph-fits r = rw r refl
 
@@ -44,7 +47,7 @@ module _ (pins macros : List ℤ) (v e : ℕ) where
       (ltb-false v (pointCount pins macros * 2) (s .0), ltb-false e (pointCount pins macros * 16) (s .1))
 
 -- at most n vertices
-pub vertices-few : (pins macros : List ℤ) → length (verticesOf pins macros) ≤ pointCount pins macros
-unfolding verticesOf
+pub vertices-few : (pins macros : List ℤ) → length (netVertices pins macros) ≤ pointCount pins macros
+unfolding netVertices
 vertices-few pins macros =
-    omega (arith, length-vertices (placesOf pins) (macrosOf macros), length-places pins, length-macros macros)
+    omega (arith, length-vertices (pinPlaces pins) (macrosOf macros), length-pins pins, length-macros macros)

@@ -11,7 +11,9 @@ use Rattle.lists.proofs.TestLaws.{or-neither}
 use Rattle.lent.specs.Told.{given}
 use Rattle.lent.specs.Entries.{flat}
 use Rattle.plane.specs.Flat.{macrosOf}
-use Rattle.net.specs.Check.{pinCount, checked}
+use Rattle.net.specs.Pins.{pinCount}
+use Rattle.net.specs.Check.{checked}
+use Rattle.net.specs.declared.Net.{Net as Counts}
 use Rattle.net.proofs.AllowedLaws.{given-allowed}
 use Rattle.graph.proofs.Connected.{connected}
 use Rattle.refined.specs.Wires.{wiresOfEdge, wires}
@@ -22,9 +24,9 @@ use Rattle.rules.specs.Edges.{Edge}
 use Rattle.rules.proofs.InteriorLaws.{clear-points}
 use Rattle.rules.proofs.RefinedOurs.{between-trees, falls-between, refined-tree}
 use Rattle.rules.proofs.TreesOurs.{trees-ours, trees-only}
-use Rattle.router.specs.Graph.{verticesOf, edgesOf, pointCount}
+use Rattle.router.specs.Graph.{netVertices, netEdges, pointCount}
 use Rattle.router.specs.Terminal.{pathsOf, pathsTotal, terminalGiven, terminalTree}
-use Rattle.router.specs.Refined.{refinedOf, edgesIn, metalIn, laidOf, laidTotal, refinedGiven, refinedTree}
+use Rattle.router.specs.Refined.{refinedOf, edgesIn, totalIn, laidOf, laidTotal, refinedGiven, refinedTree}
 use Rattle.router.specs.Refined.{wiresOf, wiresGiven, wired}
 use Rattle.router.specs.Published.{Promised}
 use Rattle.router.proofs.AnswerLaws.{only-given, room-enough}
@@ -35,8 +37,14 @@ unfolding wires flat
 wires-flat [] = refl
 wires-flat (e ∷ es) = ap (λ (l : List Edge). wiresOfEdge e ++ l) (wires-flat es)
 
-pub promised : (pins macros : List ℤ) {net : ℕ × ℕ} → checked pins macros ≡ given net → Promised pins macros
-unfolding verticesOf edgesOf pathsOf pathsTotal refinedOf edgesIn metalIn terminalTree terminalGiven refinedTree refinedGiven wired
+-- with weights 1 and 1 costs are lengths
+length-plain : (es : List Edge) → lengths (cost plain) es ≡ lengths distance es
+unfolding lengths
+length-plain [] = refl
+length-plain (e ∷ es) = ap₂ _+_ (cost-plain (e .0) (e .1)) (length-plain es)
+
+pub promised : (pins macros : List ℤ) {net : Counts} → checked pins macros ≡ given net → Promised pins macros
+unfolding netVertices netEdges pathsOf pathsTotal refinedOf edgesIn totalIn terminalTree terminalGiven refinedTree refinedGiven wired
     wiresGiven
 promised pins macros {net} g =
     let t = checked pins macros in
@@ -66,7 +74,8 @@ promised pins macros {net} g =
       only = trees-only a;
       paths = sym (paths-given a);
       paths-sum = paths-total a;
-      metal = refl;
+      cost-is = cost-plain;
+      metal = length-plain (laidOf pins macros);
       connected = connected a;
       best = best-joining a;
       tree = refined-tree a;
@@ -78,5 +87,5 @@ promised pins macros {net} g =
       edge-wires = λ e m. edge-wired e;
       wires-straight = laws .axis;
       wires-clear = laws .free (macrosOf macros) (refined-tree a .clear-edges);
-      wires-sum = laws .long;
+      wires-sum = laws .long ∙ sym (length-plain (laidOf pins macros));
     }

@@ -6,10 +6,8 @@ use Prim.Native.Nat.{ℕ, _+_, _*_, _≤_, _<_}
 use native.Mathlib.Omega.{arith}
 use lib.IntN.{ℤ}
 use lib.ListN.{length}
-use Rattle.plane.specs.declared.Place.{Place}
-use Rattle.plane.specs.declared.Macro.{Macro}
-use Rattle.plane.specs.Distance.{distance}
 use Rattle.joined.specs.Cost.{lengths}
+use Rattle.net.specs.Net.{Net, costIn}
 use Rattle.net.specs.Allowed.{Allowed}
 use Rattle.net.specs.Bounds.{pinBound}
 use Rattle.forest.specs.Bounds.{pathBound}
@@ -19,35 +17,35 @@ use Rattle.tree.specs.Table.{pairBound, Small}
 use Rattle.refiner.specs.Refined.{Answer}
 use Rattle.refiner.proofs.WithinLaws.{within-small}
 use Rattle.union.specs.Union.{unionOf}
-use Rattle.refined.specs.Edges.{tableEdges, treeEdges}
+use Rattle.tree.specs.Edges.{tableEdges, treeEdges}
 use Rattle.refined.proofs.EdgeSound.{edges-count, edges-metal}
 use Rattle.rules.proofs.BestLaws.{paths-total}
 use Rattle.rules.proofs.RefinedOurs.{refined-tree}
-use Rattle.router.specs.Refined.{refinedOf, edgesIn, metalIn}
+use Rattle.router.specs.Refined.{refinedOf, edgesIn, totalIn}
 
-module _ {ps : List Place} {ms : List Macro} (a : Allowed ps ms) where
+module _ {net : Net} (a : Allowed net) where
   -- it fits 63 bits
-  pub metal-small : metalIn ps ms ≤ pinBound * pathBound
-  unfolding metalIn edgesIn refinedOf
-  metal-small = omega (arith, refined-tree a .no-longer, paths-total a, total-small a)
+  pub total-low : totalIn net ≤ pinBound * pathBound
+  unfolding totalIn edgesIn refinedOf
+  total-low = omega (arith, refined-tree a .no-longer, paths-total a, total-small a)
 
   -- What the refiner's tables and its answer hold
 
-  module _ {pts : List ℤ} {ks : List ℕ} {r : Refined} (answer : Answer ms ps (unionOf ps ms) pts ks r) where
-    pub answer-edges : tableEdges pts ks (r .edges) ≡ edgesIn ps ms
+  module _ {pts : List ℤ} {ks : List ℕ} {r : Refined} (answer : Answer net (unionOf net) pts ks r) where
+    pub answer-edges : tableEdges pts ks (r .edges) ≡ edgesIn net
     unfolding edgesIn refinedOf
     answer-edges = ap treeEdges (answer .whole)
 
-    pub answer-count : r .edges ≡ length (edgesIn ps ms)
+    pub answer-count : r .edges ≡ length (edgesIn net)
     answer-count = sym (edges-count pts ks (r .edges)) ∙ ap length answer-edges
 
-    pub answer-total : r .total ≡ metalIn ps ms
-    unfolding metalIn
-    answer-total = answer .sum ∙ sym (edges-metal pts ks (r .edges)) ∙ ap (lengths distance) answer-edges
+    pub answer-total : r .total ≡ totalIn net
+    unfolding totalIn
+    answer-total = answer .sum ∙ sym (edges-metal pts ks (r .edges)) ∙ ap (lengths (costIn net)) answer-edges
 
     pub answer-small : Small pairBound ks
     answer-small = within-small (r .points) ks (answer .few .0) (answer .inside)
 
-    pub answer-few : r .edges < length ps + length ms * 4 + length ps
+    pub answer-few : r .edges < length (net .pins) + length (net .macros) * 4 + length (net .pins)
     unfolding edgesIn refinedOf
     answer-few = omega (arith, answer-count, refined-tree a .few)

@@ -17,7 +17,7 @@ use Rattle.union.proofs.WorkedUnions.{union}
 use Rattle.refiner.proofs.WorkedTrees.{refinedOf as worked}
 use Rattle.refined.specs.Edges.{edgesFrom}
 use Rattle.refined.proofs.WorkedWires.{given as wired-given}
-use Rattle.router.specs.Graph.{verticesOf, edgesOf, graphRoomShort, graphGiven, graphed}
+use Rattle.router.specs.Graph.{netVertices, netEdges, graphRoomShort, graphGiven, graphed}
 use Rattle.router.specs.Room.{ifRoom}
 use Rattle.router.specs.Terminal.{pathsOf, pathsTotal, terminalGiven, terminalTree}
 use Rattle.router.specs.Refined.{refinedOf, edgesIn, metalIn, laidOf, refinedGiven, refinedTree, wiresOf, wiresGiven, wired}
@@ -32,7 +32,7 @@ pub record Answers : Type 0 where
 
 -- to unfold this is to unfold all that it rests on
 unfoldable pub answers : Lists → Answers
-unfolding answer treeIn union worked wired-given onlyIf lengths edgesFrom verticesOf edgesOf graphRoomShort graphGiven graphed ifRoom
+unfolding answer treeIn union worked wired-given onlyIf lengths edgesFrom netVertices netEdges graphRoomShort graphGiven graphed ifRoom
     pathsOf pathsTotal terminalGiven terminalTree refinedOf edgesIn metalIn refinedGiven refinedTree wiresGiven wired
 answers net = record {
   check = checked (net .pins) (net .macros);

@@ -18,7 +18,7 @@ use Rattle.terminal.specs.Tree.{pathNumbers}
 use Rattle.router.specs.declared.Graphed.{Graphed}
 use Rattle.router.specs.declared.Tree.{Tree}
 use Rattle.router.specs.declared.Wired.{Wired}
-use Rattle.router.specs.Graph.{verticesOf, edgesOf, toldGraph}
+use Rattle.router.specs.Graph.{netVertices, netEdges, toldGraph}
 use Rattle.router.specs.Terminal.{pathsOf, toldTree}
 use Rattle.router.specs.Refined.{laidOf, wiresOf, toldWires}
 
@@ -38,7 +38,7 @@ pub record GivesTwo {A R X : Type 0} (saying : R → Told A) (t : Told A) (xs ys
 abbrev pub GraphCall : (List ℤ → List ℤ → ℕ → ℕ → Told (ℕ × ℕ)) → (pins macros vertices edges : List ℤ) → Graphed → List ℤ → List ℤ → Type 0
 GraphCall said pins macros vertices edges r vertices′ edges′ =
     GivesTwo toldGraph (said pins macros (length vertices) (length edges))
-    (flat placeNumbers (verticesOf pins macros)) (flat edgeNumbers (edgesOf pins macros)) vertices edges r vertices′ edges′
+    (flat placeNumbers (netVertices pins macros)) (flat edgeNumbers (netEdges pins macros)) vertices edges r vertices′ edges′
 
 -- C63, C64: a terminal tree
 abbrev pub TerminalCall : (List ℤ → List ℤ → ℕ → Told (ℕ × ℤ)) → (pins macros paths : List ℤ) → Tree → List ℤ → Type 0

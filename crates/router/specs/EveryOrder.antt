@@ -9,17 +9,17 @@ use Rattle.lent.specs.Entries.{flat}
 use Rattle.net.specs.Check.{checked}
 use Rattle.graph.specs.Numbers.{placeNumbers, edgeNumbers}
 use Rattle.terminal.specs.Tree.{pathNumbers}
-use Rattle.router.specs.Graph.{verticesOf, edgesOf, graphed}
+use Rattle.router.specs.Graph.{netVertices, netEdges, graphed}
 use Rattle.router.specs.Terminal.{pathsOf, terminalTree}
 use Rattle.router.specs.Refined.{laidOf, refinedTree, wiresOf, wired}
 
 pub record SameForBoth (pins pins′ macros macros′ : List ℤ) : Type 0 where
   pub check : checked pins macros ≡ checked pins′ macros′
   pub graph : (v e : ℕ) → graphed pins macros v e ≡ graphed pins′ macros′ v e
-  pub vertices : (v e : ℕ) (lent : List ℤ) → after (graphed pins macros v e) (flat placeNumbers (verticesOf pins macros)) lent
-      ≡ after (graphed pins′ macros′ v e) (flat placeNumbers (verticesOf pins′ macros′)) lent
-  pub edges : (v e : ℕ) (lent : List ℤ) → after (graphed pins macros v e) (flat edgeNumbers (edgesOf pins macros)) lent
-      ≡ after (graphed pins′ macros′ v e) (flat edgeNumbers (edgesOf pins′ macros′)) lent
+  pub vertices : (v e : ℕ) (lent : List ℤ) → after (graphed pins macros v e) (flat placeNumbers (netVertices pins macros)) lent
+      ≡ after (graphed pins′ macros′ v e) (flat placeNumbers (netVertices pins′ macros′)) lent
+  pub edges : (v e : ℕ) (lent : List ℤ) → after (graphed pins macros v e) (flat edgeNumbers (netEdges pins macros)) lent
+      ≡ after (graphed pins′ macros′ v e) (flat edgeNumbers (netEdges pins′ macros′)) lent
   pub terminal : (room : ℕ) → terminalTree pins macros room ≡ terminalTree pins′ macros′ room
   pub paths : (room : ℕ) (lent : List ℤ) → after (terminalTree pins macros room) (flat pathNumbers (pathsOf pins macros)) lent
       ≡ after (terminalTree pins′ macros′ room) (flat pathNumbers (pathsOf pins′ macros′)) lent

@@ -7,19 +7,19 @@ use lib.IntN.{ℤ}
 use lib.ListN.{length}
 use Rattle.lent.specs.Told.{Told, refused, given, onlyIf}
 use Rattle.plane.specs.declared.Place.{Place}
-use Rattle.plane.specs.Flat.{placesOf, macrosOf}
 use Rattle.net.specs.Answer.{number}
-use Rattle.net.specs.Check.{pinCount, macroCount, checked}
-use Rattle.graph.specs.Vertices.{vertices}
-use Rattle.graph.specs.Edges.{edges}
+use Rattle.net.specs.Pins.{pinCount, macroCount}
+use Rattle.net.specs.Check.{checked}
+use Rattle.net.specs.Net.{netOf}
+use Rattle.graph.specs.Spanning.{verticesOf, spanning}
 use Rattle.router.specs.declared.Graphed.{Graphed}
 use Rattle.router.specs.declared.Graphed.the-variants.{Given, Refused}
 
-unfoldable pub verticesOf : List ℤ → List ℤ → List Place
-verticesOf pins macros = vertices (placesOf pins) (macrosOf macros)
+unfoldable pub netVertices : List ℤ → List ℤ → List Place
+netVertices pins macros = verticesOf (netOf pins macros)
 
-unfoldable pub edgesOf : List ℤ → List ℤ → List (Place × Place)
-edgesOf pins macros = edges (macrosOf macros) (verticesOf pins macros)
+unfoldable pub netEdges : List ℤ → List ℤ → List (Place × Place)
+netEdges pins macros = spanning (netOf pins macros)
 
 -- N7: n = m + 4k
 abbrev pub pointCount : List ℤ → List ℤ → ℕ
@@ -33,7 +33,7 @@ graphRoomShort n vertexRoom edgeRoom = ltb vertexRoom (n * 2) || ltb edgeRoom (n
 unfoldable pub graphGiven : List ℤ → List ℤ → ℕ → ℕ → Told (ℕ × ℕ)
 graphGiven pins macros vertexRoom edgeRoom =
     cond (graphRoomShort (pointCount pins macros) vertexRoom edgeRoom) (refused 21)
-    (given (length (verticesOf pins macros), length (edgesOf pins macros)))
+    (given (length (netVertices pins macros), length (netEdges pins macros)))
 
 -- C61: 11 to 17, then 21
 unfoldable pub graphed : List ℤ → List ℤ → ℕ → ℕ → Told (ℕ × ℕ)

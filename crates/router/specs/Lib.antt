@@ -1,6 +1,6 @@
 -- What the published operations answer, where the crates below do not say it already.
 --
---   Graph      verticesOf, edgesOf                  the vertices and edges of two flat lists
+--   Graph      netVertices, netEdges                  the vertices and edges of two flat lists
 --              graphed pins macros v e              the answer of a graph into so many lent numbers
 --              toldGraph r                          what the code's answer says
 --   Room       ifRoom need room a                   what is given, or 21 where fewer numbers are lent than are needed

@@ -5,16 +5,15 @@ use lib.IntN.{ℤ, pos}
 use lib.ListN.{length}
 use Rattle.lent.specs.Told.{Told, refused, given, onlyIf}
 use Rattle.plane.specs.declared.Place.{Place}
-use Rattle.plane.specs.declared.Macro.{Macro}
-use Rattle.plane.specs.Distance.{distance}
-use Rattle.plane.specs.Flat.{placesOf, macrosOf}
 use Rattle.net.specs.Answer.{number}
-use Rattle.net.specs.Check.{pinCount, checked}
+use Rattle.net.specs.Pins.{pinCount}
+use Rattle.net.specs.Check.{checked}
+use Rattle.net.specs.Net.{Net, netOf, costIn}
 use Rattle.joined.specs.Cost.{lengths}
 use Rattle.tree.specs.Table as table
 use Rattle.refiner.specs.Refined.{refined}
 use Rattle.union.specs.Union.{unionOf}
-use Rattle.refined.specs.Edges.{treeEdges}
+use Rattle.tree.specs.Edges.{treeEdges}
 use Rattle.refined.specs.Wires.{wires}
 use Rattle.router.specs.Room.{ifRoom}
 use Rattle.router.specs.Graph.{pointCount}
@@ -24,25 +23,25 @@ use Rattle.router.specs.declared.Wired.the-variants.{Given, Refused}
 -- The tree of a net
 
 -- R1: from the union of the kept paths, by rounds, then pruning
-unfoldable pub refinedOf : List Place → List Macro → table.Tree
-refinedOf ps ms = refined ms ps (unionOf ps ms)
+unfoldable pub refinedOf : Net → table.Tree
+refinedOf net = refined net (unionOf net)
 
 -- its edges, in order
-unfoldable pub edgesIn : List Place → List Macro → List (Place × Place)
-edgesIn ps ms = treeEdges (refinedOf ps ms)
+unfoldable pub edgesIn : Net → List (Place × Place)
+edgesIn net = treeEdges (refinedOf net)
 
--- R22: metal to lay, the lengths of the edges added up
-unfoldable pub metalIn : List Place → List Macro → ℕ
-metalIn ps ms = lengths distance (edgesIn ps ms)
+-- C66: the total, the costs of the edges added up
+unfoldable pub totalIn : Net → ℕ
+totalIn net = lengths (costIn net) (edgesIn net)
 
 -- The operations
 
 -- C66: the edges in order, and their total
 abbrev pub laidOf : List ℤ → List ℤ → List (Place × Place)
-laidOf pins macros = edgesIn (placesOf pins) (macrosOf macros)
+laidOf pins macros = edgesIn (netOf pins macros)
 
 abbrev pub laidTotal : List ℤ → List ℤ → ℕ
-laidTotal pins macros = metalIn (placesOf pins) (macrosOf macros)
+laidTotal pins macros = totalIn (netOf pins macros)
 
 -- C65: fewer than 4(n + m) numbers
 unfoldable pub refinedGiven : List ℤ → List ℤ → ℕ → Told (ℕ × ℤ)

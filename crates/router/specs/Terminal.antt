@@ -1,26 +1,27 @@
 -- The terminal tree among the operations: rules C63 and C64.
--- How it is worked out stands in `numbered` (specs/Tree.antt), what it is in `rules` (specs/Terminal.antt).
+-- How it is worked out stands in `terminal` (specs/Tree.antt), what it is in `rules` (specs/Terminal.antt).
 use mathlib.Core.List.{List}
 use Prim.Native.Nat.{ℕ, _*_}
 use lib.IntN.{ℤ, pos}
 use lib.ListN.{length}
 use Rattle.lent.specs.Told.{Told, refused, given, onlyIf}
 use Rattle.plane.specs.declared.Place.{Place}
-use Rattle.plane.specs.Flat.{placesOf, macrosOf}
 use Rattle.net.specs.Answer.{number}
-use Rattle.net.specs.Check.{pinCount, checked}
-use Rattle.terminal.specs.Tree as numbered
+use Rattle.net.specs.Pins.{pinCount}
+use Rattle.net.specs.Check.{checked}
+use Rattle.net.specs.Net.{netOf}
+use Rattle.terminal.specs.Tree as terminal
 use Rattle.router.specs.Room.{ifRoom}
 use Rattle.router.specs.declared.Tree.{Tree}
 use Rattle.router.specs.declared.Tree.the-variants.{Given, Refused}
 
 -- C64: each path in the order kept, by its bridge and its length
 unfoldable pub pathsOf : List ℤ → List ℤ → List ((Place × Place) × ℕ)
-pathsOf pins macros = numbered.pathsOf (placesOf pins) (macrosOf macros)
+pathsOf pins macros = terminal.pathsOf (netOf pins macros)
 
 -- C64: and the total
 unfoldable pub pathsTotal : List ℤ → List ℤ → ℕ
-pathsTotal pins macros = numbered.totalOf (placesOf pins) (macrosOf macros)
+pathsTotal pins macros = terminal.totalOf (netOf pins macros)
 
 -- C63: fewer than 5m numbers; otherwise how many paths, and their total
 unfoldable pub terminalGiven : List ℤ → List ℤ → ℕ → Told (ℕ × ℤ)

@@ -2,21 +2,21 @@
 use crate::Graphed;
 use crate::Tree;
 use crate::Wired;
+use net::Net;
 use net::Refusal;
 use refiner::Refined;
 use terminal::EDGE_NUMBERS;
 use terminal::EDGES;
-use terminal::PINS;
 use terminal::POINTS;
 use terminal::VERTEX_NUMBERS;
 ghost use mathlib.Core.Path.{_≡_};
-ghost use Prim.Native.Nat.{_*_, _≤_};
+ghost use Prim.Native.Nat.{_*_};
 ghost use lib.IntN.{pos};
 ghost use lib.ListN.{length, replicate};
-ghost use Rattle.plane.specs.Flat.{placesOf, macrosOf};
+ghost use Rattle.net.specs.Net.{netOf};
 ghost use Rattle.net.specs.Allowed.{Allowed};
-ghost use Rattle.net.specs.Bounds.{pinBound, macroBound, treeBound};
-ghost use Rattle.net.specs.Check.{pinCount, macroCount};
+ghost use Rattle.net.specs.Bounds.{treeBound};
+ghost use Rattle.net.specs.Check.{countsOf};
 ghost use Rattle.refiner.specs.Refined.{Answer};
 ghost use Rattle.union.specs.Union.{unionOf};
 ghost use Rattle.router.specs.Graph.{graphGiven};
@@ -25,26 +25,28 @@ ghost use Rattle.router.specs.Refined.{refinedGiven, wiresGiven};
 ghost use Rattle.router.specs.Call.{GraphCall, TerminalCall, RefinedCall, WiresCall};
 
 // The graph.
-pub fn graph(pins: &[i32], macros: &[i32], vertices: &mut [i32], edges: &mut [i32]) -> Graphed
-    requires { ⌜ (pinCount (now pins) ≤ pinBound) × (macroCount (now macros) ≤ macroBound) ⌝ }
+pub fn graph(net: Net, pins: &[i32], macros: &[i32], vertices: &mut [i32], edges: &mut [i32]) -> Graphed
+    requires { ⌜ net ≡ countsOf (now pins) (now macros) ⌝ }
+    requires { ⌜ Allowed (netOf (now pins) (now macros)) ⌝ }
     ensures { λ r. ⌜ GraphCall graphGiven (now (pins .entry)) (now (macros .entry)) (now (vertices .entry)) (now (edges .entry)) r
         (now (vertices .exit)) (now (edges .exit)) ⌝ }
 {
-    let n = pins.len() / 2 + macros.len() / 4 * 4;
+    let n = net::point_count(net);
     if (vertices.len() < n * 2) | (edges.len() < n * 16) {
         return Graphed::Refused(Refusal::Space);
     }
     let v = graph::vertices(pins, macros, &mut *vertices);
-    let e = graph::edges(macros, &vertices[..v * 2], &mut *edges);
+    let e = graph::edges(net.weights, macros, &vertices[..v * 2], &mut *edges);
     Graphed::Given(v, e)
 }
 
 // The terminal tree.
-pub fn terminal_tree(pins: &[i32], macros: &[i32], paths: &mut [i64]) -> Tree
-    requires { ⌜ Allowed (placesOf (now pins)) (macrosOf (now macros)) ⌝ }
+pub fn terminal_tree(net: Net, pins: &[i32], macros: &[i32], paths: &mut [i64]) -> Tree
+    requires { ⌜ net ≡ countsOf (now pins) (now macros) ⌝ }
+    requires { ⌜ Allowed (netOf (now pins) (now macros)) ⌝ }
     ensures { λ r. ⌜ TerminalCall terminalGiven (now (pins .entry)) (now (macros .entry)) (now (paths .entry)) r (now (paths .exit)) ⌝ }
 {
-    if paths.len() < pins.len() / 2 * 5 {
+    if paths.len() < net.pins * 5 {
         return Tree::Refused(Refusal::Space);
     }
     let mut vertices = [0i32; VERTEX_NUMBERS];
@@ -52,7 +54,7 @@ pub fn terminal_tree(pins: &[i32], macros: &[i32], paths: &mut [i64]) -> Tree
     let mut ea = [0usize; EDGES];
     let mut eb = [0usize; EDGES];
     let mut el = [0u64; EDGES];
-    let mut pin = [0usize; PINS];
+    let mut pin = [0usize; POINTS];
     let mut far = [forest::UNREACHED; POINTS];
     let mut root = [0usize; POINTS];
     let mut up = [POINTS; POINTS];
@@ -60,6 +62,7 @@ pub fn terminal_tree(pins: &[i32], macros: &[i32], paths: &mut [i64]) -> Tree
     let mut kept = [0usize; EDGES];
     let mut long = [0u64; EDGES];
     let tree = terminal::terminal_tree(
+        net.weights,
         pins,
         macros,
         &mut vertices,
@@ -80,57 +83,57 @@ pub fn terminal_tree(pins: &[i32], macros: &[i32], paths: &mut [i64]) -> Tree
 }
 
 // The refined tree.
-pub fn refined_tree(pins: &[i32], macros: &[i32], edges: &mut [i32]) -> Tree
-    requires { ⌜ Allowed (placesOf (now pins)) (macrosOf (now macros)) ⌝ }
+pub fn refined_tree(net: Net, pins: &[i32], macros: &[i32], edges: &mut [i32]) -> Tree
+    requires { ⌜ net ≡ countsOf (now pins) (now macros) ⌝ }
+    requires { ⌜ Allowed (netOf (now pins) (now macros)) ⌝ }
     ensures { λ r. ⌜ RefinedCall refinedGiven (now (pins .entry)) (now (macros .entry)) (now (edges .entry)) r (now (edges .exit)) ⌝ }
 {
-    let m = pins.len() / 2;
-    let n = m + macros.len() / 4 * 4;
-    if edges.len() < (n + m) * 4 {
+    if edges.len() < (net::point_count(net) + net.pins) * 4 {
         return Tree::Refused(Refusal::Space);
     }
     let mut points = [0i32; tree::NUMBERS];
     let mut keys = [0usize; tree::POINTS];
-    let tree = refine(pins, macros, &mut points, &mut keys);
+    let tree = refine(net, pins, macros, &mut points, &mut keys);
     refined::give_edges(&points, &keys, tree.edges, &mut *edges);
     Tree::Given(tree.edges, tree.total as i64)
 }
 
 // The wires.
-pub fn wires(pins: &[i32], macros: &[i32], wires: &mut [i32]) -> Wired
-    requires { ⌜ Allowed (placesOf (now pins)) (macrosOf (now macros)) ⌝ }
+pub fn wires(net: Net, pins: &[i32], macros: &[i32], wires: &mut [i32]) -> Wired
+    requires { ⌜ net ≡ countsOf (now pins) (now macros) ⌝ }
+    requires { ⌜ Allowed (netOf (now pins) (now macros)) ⌝ }
     ensures { λ r. ⌜ WiresCall wiresGiven (now (pins .entry)) (now (macros .entry)) (now (wires .entry)) r (now (wires .exit)) ⌝ }
 {
-    let m = pins.len() / 2;
-    let n = m + macros.len() / 4 * 4;
-    if wires.len() < (n + m) * 8 {
+    if wires.len() < (net::point_count(net) + net.pins) * 8 {
         return Wired::Refused(Refusal::Space);
     }
     let mut points = [0i32; tree::NUMBERS];
     let mut keys = [0usize; tree::POINTS];
-    let tree = refine(pins, macros, &mut points, &mut keys);
+    let tree = refine(net, pins, macros, &mut points, &mut keys);
     let count = refined::give_wires(&points, &keys, tree.edges, &mut *wires);
     Wired::Given(count)
 }
 
 // The refined tree of an allowed net, in tables that are fresh.
 fn refine(
+    net: Net,
     pins: &[i32],
     macros: &[i32],
     points: &mut [i32; tree::NUMBERS],
     keys: &mut [usize; tree::POINTS],
 ) -> Refined
-    requires { ⌜ Allowed (placesOf (now pins)) (macrosOf (now macros)) ⌝ }
+    requires { ⌜ net ≡ countsOf (now pins) (now macros) ⌝ }
+    requires { ⌜ Allowed (netOf (now pins) (now macros)) ⌝ }
     requires { ⌜ (now points ≡ replicate (treeBound * 2) (pos 0)) × (now keys ≡ replicate treeBound 0) ⌝ }
-    ensures { λ r. ⌜ Answer (macrosOf (now (macros .entry))) (placesOf (now (pins .entry)))
-        (unionOf (placesOf (now (pins .entry))) (macrosOf (now (macros .entry)))) (now (points .exit)) (now (keys .exit)) r ⌝ }
+    ensures { λ r. ⌜ Answer (netOf (now (pins .entry)) (now (macros .entry)))
+        (unionOf (netOf (now (pins .entry)) (now (macros .entry)))) (now (points .exit)) (now (keys .exit)) r ⌝ }
 {
     let mut vertices = [0i32; VERTEX_NUMBERS];
     let mut edges = [0i32; EDGE_NUMBERS];
     let mut ea = [0usize; EDGES];
     let mut eb = [0usize; EDGES];
     let mut el = [0u64; EDGES];
-    let mut pin = [0usize; PINS];
+    let mut pin = [0usize; POINTS];
     let mut far = [forest::UNREACHED; POINTS];
     let mut root = [0usize; POINTS];
     let mut up = [POINTS; POINTS];
@@ -138,6 +141,7 @@ fn refine(
     let mut kept = [0usize; EDGES];
     let mut long = [0u64; EDGES];
     let tree = terminal::terminal_tree(
+        net.weights,
         pins,
         macros,
         &mut vertices,
@@ -171,6 +175,7 @@ fn refine(
         &mut *keys,
     );
     refiner::refine(
+        net,
         pins,
         macros,
         &mut *points,

@@ -47,7 +47,7 @@ pub fn graph(pins: &[i32], macros: &[i32], vertices: &mut [i32], edges: &mut [i3
 {
     let answer = net::check(pins, macros);
     match answer {
-        Checked::Allowed(_) => allowed::graph(pins, macros, &mut *vertices, &mut *edges),
+        Checked::Allowed(net) => allowed::graph(net, pins, macros, &mut *vertices, &mut *edges),
         Checked::Refused(refusal) => Graphed::Refused(refusal),
     }
 }
@@ -59,7 +59,7 @@ pub fn terminal_tree(pins: &[i32], macros: &[i32], paths: &mut [i64]) -> Tree
 {
     let answer = net::check(pins, macros);
     match answer {
-        Checked::Allowed(_) => allowed::terminal_tree(pins, macros, &mut *paths),
+        Checked::Allowed(net) => allowed::terminal_tree(net, pins, macros, &mut *paths),
         Checked::Refused(refusal) => Tree::Refused(refusal),
     }
 }
@@ -71,7 +71,7 @@ pub fn refined_tree(pins: &[i32], macros: &[i32], edges: &mut [i32]) -> Tree
 {
     let answer = net::check(pins, macros);
     match answer {
-        Checked::Allowed(_) => allowed::refined_tree(pins, macros, &mut *edges),
+        Checked::Allowed(net) => allowed::refined_tree(net, pins, macros, &mut *edges),
         Checked::Refused(refusal) => Tree::Refused(refusal),
     }
 }
@@ -83,7 +83,7 @@ pub fn wires(pins: &[i32], macros: &[i32], wires: &mut [i32]) -> Wired
 {
     let answer = net::check(pins, macros);
     match answer {
-        Checked::Allowed(_) => allowed::wires(pins, macros, &mut *wires),
+        Checked::Allowed(net) => allowed::wires(net, pins, macros, &mut *wires),
         Checked::Refused(refusal) => Wired::Refused(refusal),
     }
 }

@@ -16,7 +16,7 @@ use Rattle.net.specs.Answer.{number}
 use Rattle.graph.specs.Edges.{edges}
 use Rattle.graph.specs.Numbers.{edgeNumbers}
 use Rattle.graph.proofs.ReadBack.{vertices-back}
-use Rattle.router.specs.Graph.{verticesOf, edgesOf, pointCount, toldGraph}
+use Rattle.router.specs.Graph.{netVertices, netEdges, pointCount, toldGraph}
 use Rattle.router.proofs.GraphAnswer.{graph-short, graph-fits, graph-room, vertices-few}
 use Rattle.router.proofs.CallLaws.{two-refused, two-given}
 use borrow.Author.Needs.{needs}
@@ -46,7 +46,7 @@ room : (c : tie.Else1) → (pointCount (now (c .before .args .pins)) (now (c .be
 room c = graph-room (now (c .before .args .pins)) (now (c .before .args .macros)) (length (now (c .before .args .vertices))) (length (now (c .before .args .edges))) (c .if1 .left)
 
 few : (d : tie.After-vertices) → d .vertices .result ≤ pointCount (now (d .before .before .before .args .pins)) (now (d .before .before .before .args .macros))
-unfolding verticesOf
+unfolding netVertices
 few d =
     let a = d .before .before .before .args in
     omega (arith, d .vertices .ensures .0, vertices-few (now (a .pins)) (now (a .macros)))
@@ -82,14 +82,14 @@ same-length-2 : tie.Need-same-length-2
 same-length-2 c = search needs
 
 returns-2 : tie.Need-returns-2
-unfolding toldGraph verticesOf edgesOf
+unfolding toldGraph netVertices netEdges
 returns-2 c =
     let d = c .before .before .before .before .before in
     let a = d .before .before .before .args in
-    let vs = verticesOf (now (a .pins)) (now (a .macros)) in
+    let vs = netVertices (now (a .pins)) (now (a .macros)) in
     let seen = take (d .vertices .result * 2) (d .vertices .last .1 .1 .0) in
     let back : placesOf seen ≡ vs = vertices-back vs (now (a .vertices)) _ _ (d .vertices .ensures .1) (d .vertices .ensures .0) in
-    let these : edges (macrosOf (now (a .macros))) (placesOf seen) ≡ edgesOf (now (a .pins)) (now (a .macros))
+    let these : edges (macrosOf (now (a .macros))) (placesOf seen) ≡ netEdges (now (a .pins)) (now (a .macros))
     = ap (edges (macrosOf (now (a .macros)))) back in
     two-given
     (ap₂ (λ (v w : ℕ). given (v, w)) (d .vertices .ensures .0) (c .before .edges .ensures .0 ∙ ap length these))

@@ -17,7 +17,7 @@ use Rattle.plane.specs.declared.Place.{Place}
 use Rattle.plane.specs.Flat.{placesOf}
 use Rattle.plane.proofs.FlatLaws.{length-places}
 use Rattle.net.specs.Answer.{number}
-use Rattle.net.specs.Check.{pinCount}
+use Rattle.net.specs.Pins.{pinCount}
 use Rattle.terminal.specs.Tree.{pathNumbers}
 use Rattle.terminal.proofs.PathLaws.{total-small, paths-one-fewer, kept-fewer, worked-paths, worked-givable}
 use Rattle.router.specs.Terminal.{pathsOf, pathsTotal, terminalGiven, toldTree}

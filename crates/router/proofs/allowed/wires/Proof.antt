@@ -12,7 +12,7 @@ use Rattle.lent.specs.Entries.{flat}
 use Rattle.plane.specs.declared.Place.{Place}
 use Rattle.plane.proofs.FlatLaws.{length-places, length-macros}
 use Rattle.net.specs.Answer.{number}
-use Rattle.net.specs.Check.{pinCount}
+use Rattle.net.specs.Pins.{pinCount}
 use Rattle.graph.specs.Numbers.{edgeNumbers}
 use Rattle.refined.specs.Wires.{wires}
 use Rattle.router.specs.Graph.{pointCount}
