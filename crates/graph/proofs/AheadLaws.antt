@@ -18,9 +18,11 @@ use Rattle.plane.specs.declared.Macro.{Macro}
 use Rattle.plane.specs.Place.{place}
 use Rattle.plane.specs.Macro.{meets, clear}
 use Rattle.plane.proofs.MeetLaws.{Hits, hits-up, hits-down, hits-meets, clear-of, Overlap}
+use Rattle.net.specs.Net.{Net}
 use Rattle.net.specs.Allowed.{Allowed}
 use Rattle.net.proofs.ApartLaws.{sides-in-order, overlap-one}
-use Rattle.graph.specs.Vertices.{cornersOf, vertices}
+use Rattle.graph.specs.Vertices.{cornersOf}
+use Rattle.graph.specs.Spanning.{verticesOf}
 use Rattle.graph.proofs.QuadrantLaws.{InFirst, InFourth, Ahead, compare, first-ahead, fourth-ahead}
 use Rattle.graph.proofs.VertexLaws.{lower-left, upper-left, lower-right, upper-right, corner-vertex}
 use Rattle.graph.proofs.OutsideLaws.{vertex-outside}
@@ -69,43 +71,43 @@ facing-of u m f = and-both _ _ (le-leZ _ _ (f .left)) (and-both _ _ (lt-ltZ _ _ 
 
 -- A clear vertex ahead
 
-pub record ClearAhead (ps : List Place) (ms : List Macro) (u : Place) : Type 0 where
+pub record ClearAhead (net : Net) (u : Place) : Type 0 where
   pub to : Place
-  pub stands : to ∈ vertices ps ms
+  pub stands : to ∈ verticesOf net
   pub ahead : Ahead u to
-  pub is-clear : clear u to ms ≡ true
+  pub is-clear : clear u to (net .macros) ≡ true
 
-module _ {ps : List Place} {ms : List Macro} (a : Allowed ps ms) (u : Place) (at : u ∈ vertices ps ms) where
-  found : (v : Place) → v ∈ vertices ps ms → Ahead u v → ((m : Macro) → m ∈ ms → meets u v m ≡ true → ⊥) → ClearAhead ps ms u
-  found v i h free = record { to = v; stands = i; ahead = h; is-clear = clear-of u v ms free }
+module _ {net : Net} (a : Allowed net) (u : Place) (at : u ∈ verticesOf net) where
+  found : (v : Place) → v ∈ verticesOf net → Ahead u v → ((m : Macro) → m ∈ net .macros → meets u v m ≡ true → ⊥) → ClearAhead net u
+  found v i h free = record { to = v; stands = i; ahead = h; is-clear = clear-of u v (net .macros) free }
 
   -- up to the right, or down to the right or straight down, where no macro meets the box
-  rising : (v : Place) → v ∈ vertices ps ms → InFirst u v → ((m : Macro) → m ∈ ms → Hits (u .x) (u .y) (v .x) (v .y) m → ⊥)
-      → ClearAhead ps ms u
+  rising : (v : Place) → v ∈ verticesOf net → InFirst u v → ((m : Macro) → m ∈ net .macros → Hits (u .x) (u .y) (v .x) (v .y) m → ⊥)
+      → ClearAhead net u
   rising v i f free = found v i (first-ahead u v f) (λ m k h. free m k (hits-up u v m (omega signed) (f .along) h))
 
-  sinking : (v : Place) → v ∈ vertices ps ms → InFourth u v → ((m : Macro) → m ∈ ms → Hits (u .x) (v .y) (v .x) (u .y) m → ⊥)
-      → ClearAhead ps ms u
+  sinking : (v : Place) → v ∈ verticesOf net → InFourth u v → ((m : Macro) → m ∈ net .macros → Hits (u .x) (v .y) (v .x) (u .y) m → ⊥)
+      → ClearAhead net u
   sinking v i f free = found v i (fourth-ahead u v f) (λ m k h. free m k (hits-down u v m (f .across) (omega signed) h))
 
-  corner : (m : Macro) → m ∈ ms → (c : Place) → c ∈ cornersOf m → c ∈ vertices ps ms
-  corner m i c j = corner-vertex ps ms i j
+  corner : (m : Macro) → m ∈ net .macros → (c : Place) → c ∈ cornersOf m → c ∈ verticesOf net
+  corner m i c j = corner-vertex net i j
 
   -- a macro at the height of u that is not wholly to the left of it faces it
-  faces : (m : Macro) → m ∈ ms → Lt (u .x) (m .right) → Lt (m .bottom) (u .y) → Lt (u .y) (m .top) → facing u m ≡ true
+  faces : (m : Macro) → m ∈ net .macros → Lt (u .x) (m .right) → Lt (m .bottom) (u .y) → Lt (u .y) (m .top) → facing u m ≡ true
   faces m i r b t =
       either
       (λ l. facing-of u m (record { left = l; bottom = b; top = t }))
       (λ l. absurd (vertex-outside a u at m i (record { left = l; right = r; bottom = b; top = t })))
       (compare (u .x) (m .left))
 
-  overlap-left : (m n : Macro) → m ∈ ms → n ∈ ms → Overlap m n → Lt (m .left) (n .left) → ⊥
+  overlap-left : (m n : Macro) → m ∈ net .macros → n ∈ net .macros → Overlap m n → Lt (m .left) (n .left) → ⊥
   overlap-left m n i j o l = let h : Lt (n .left) (n .left) = rw (overlap-one a m n i j o) at l in omega signed
 
   -- Case 1: o faces u
-  module _ (o : Macro) (i : o ∈ ms) (f : Facing u o) where
+  module _ (o : Macro) (i : o ∈ net .macros) (f : Facing u o) where
     -- its left side goes through u
-    touching : Le (o .left) (u .x) → ClearAhead ps ms u
+    touching : Le (o .left) (u .x) → ClearAhead net u
     touching l =
         sinking (place (o .left) (o .bottom)) (corner o i _ (lower-left o)) (record { across = f .left; along = f .bottom })
         (λ m k h.
@@ -113,13 +115,13 @@ module _ {ps : List Place} {ms : List Macro} (a : Allowed ps ms) (u : Place) (at
         overlap-left m o k i (record { left = omega signed; right = omega signed; bottom = omega signed; top = h .top }) (h .left))
 
     -- it stands off, and is the first that faces u
-    module _ (off : Lt (u .x) (o .left)) (first : (m : Macro) → m ∈ ms → facing u m ≡ true → Le (o .left) (m .left)) where
+    module _ (off : Lt (u .x) (o .left)) (first : (m : Macro) → m ∈ net .macros → facing u m ≡ true → Le (o .left) (m .left)) where
       abbrev upper : Place
       upper = place (o .left) (o .top)
 
       -- p is the lowest macro in the way to o's upper left corner
-      module _ (p : Macro) (k : p ∈ ms) (h : Hits (u .x) (u .y) (o .left) (o .top) p)
-          (low : (m : Macro) → m ∈ ms → meets u upper m ≡ true → Le (p .bottom) (m .bottom)) where
+      module _ (p : Macro) (k : p ∈ net .macros) (h : Hits (u .x) (u .y) (o .left) (o .top) p)
+          (low : (m : Macro) → m ∈ net .macros → meets u upper m ≡ true → Le (p .bottom) (m .bottom)) where
         not-below : Le (u .y) (p .bottom)
         not-below =
             either (λ g. g)
@@ -134,7 +136,7 @@ module _ {ps : List Place} {ms : List Macro} (a : Allowed ps ms) (u : Place) (at
             absurd (overlap-left p o k i (record { left = omega signed; right = r; bottom = h .bottom; top = omega signed }) (h .left)))
             (compare (p .right) (o .left))
 
-        around : ClearAhead ps ms u
+        around : ClearAhead net u
         around =
             rising (place (p .right) (p .bottom)) (corner p k _ (lower-right p)) (record { across = h .right; along = not-below })
             (λ m j g.
@@ -144,24 +146,24 @@ module _ {ps : List Place} {ms : List Macro} (a : Allowed ps ms) (u : Place) (at
             let n = low m j (hits-meets u upper m (omega signed) (omega signed) hits) in
             omega (signed, n, g .bottom))
 
-      standing-off : ClearAhead ps ms u
+      standing-off : ClearAhead net u
       standing-off =
           either
           (λ r. around (r .entry) (r .stands) (hits-up u upper (r .entry) (omega signed) (omega signed) (r .passes)) (r .below))
           (λ n.
           rising upper (corner o i _ (upper-left o)) (record { across = off; along = omega signed })
           (λ m k h. n m k (hits-meets u upper m (omega signed) (omega signed) h)))
-          (lowest (λ m. m .bottom) (meets u upper) ms)
+          (lowest (λ m. m .bottom) (meets u upper) (net .macros))
 
   -- Cases 2 and 3: no macro faces u
-  module _ (unfaced : (m : Macro) → m ∈ ms → facing u m ≡ true → ⊥) where
+  module _ (unfaced : (m : Macro) → m ∈ net .macros → facing u m ≡ true → ⊥) where
     abbrev toRight : Place → Bool
     toRight v = ltZ (u .x) (v .x)
 
     abbrev upRight : Place → Bool
     upRight v = ltZ (u .x) (v .x) && leZ (u .y) (v .y)
 
-    rise : LeastOf upRight (NoHigher (λ v. v .y)) (vertices ps ms) → ClearAhead ps ms u
+    rise : LeastOf upRight (NoHigher (λ v. v .y)) (verticesOf net) → ClearAhead net u
     rise r =
         let v = r .entry in
         let f : InFirst u v = record {
@@ -176,8 +178,8 @@ module _ {ps : List Place} {ms : List Macro} (a : Allowed ps ms) (u : Place) (at
         (λ b. unfaced m k (faces m k (h .right) b (h .top)))
         (compare (u .y) (m .bottom)))
 
-    sink : ((v : Place) → v ∈ vertices ps ms → upRight v ≡ true → ⊥) → LeastOf toRight (NoLower (λ v. v .y)) (vertices ps ms)
-        → ClearAhead ps ms u
+    sink : ((v : Place) → v ∈ verticesOf net → upRight v ≡ true → ⊥) → LeastOf toRight (NoLower (λ v. v .y)) (verticesOf net)
+        → ClearAhead net u
     sink none r =
         let v = r .entry in
         let x : Lt (u .x) (v .x) = ltZ-true _ _ (r .passes) in
@@ -191,22 +193,22 @@ module _ {ps : List Place} {ms : List Macro} (a : Allowed ps ms) (u : Place) (at
         (compare (m .top) (u .y)))
 
     -- w is straight below, and no vertex is to the right
-    drop : ((v : Place) → v ∈ vertices ps ms → toRight v ≡ true → ⊥) → (w : Place) → w ∈ vertices ps ms → Ahead u w → ClearAhead ps ms u
+    drop : ((v : Place) → v ∈ verticesOf net → toRight v ≡ true → ⊥) → (w : Place) → w ∈ verticesOf net → Ahead u w → ClearAhead net u
     drop none w i (inl h) = absurd (none w i (lt-ltZ _ _ h))
     drop none w i (inr h) =
         sinking w i (record { across = rw (h .0) (omega signed); along = h .1 })
         (λ m k g. none _ (corner m k _ (lower-right m)) (lt-ltZ _ _ (g .right)))
 
-    in-the-open : (w : Place) → w ∈ vertices ps ms → Ahead u w → ClearAhead ps ms u
+    in-the-open : (w : Place) → w ∈ verticesOf net → Ahead u w → ClearAhead net u
     in-the-open w i h =
         either rise
-        (λ n. either (sink n) (λ k. drop k w i h) (highest (λ v. v .y) toRight (vertices ps ms)))
-        (lowest (λ v. v .y) upRight (vertices ps ms))
+        (λ n. either (sink n) (λ k. drop k w i h) (highest (λ v. v .y) toRight (verticesOf net)))
+        (lowest (λ v. v .y) upRight (verticesOf net))
 
-  pub clear-ahead : (w : Place) → w ∈ vertices ps ms → Ahead u w → ClearAhead ps ms u
-  clear-ahead w i h = either met (λ n. in-the-open n w i h) (lowest (λ m. m .left) (facing u) ms)
+  pub clear-ahead : (w : Place) → w ∈ verticesOf net → Ahead u w → ClearAhead net u
+  clear-ahead w i h = either met (λ n. in-the-open n w i h) (lowest (λ m. m .left) (facing u) (net .macros))
     where
-      met : LeastOf (facing u) (NoHigher (λ m. m .left)) ms → ClearAhead ps ms u
+      met : LeastOf (facing u) (NoHigher (λ m. m .left)) (net .macros) → ClearAhead net u
       met r =
           let f = facing-is u (r .entry) (r .passes) in
           either (touching (r .entry) (r .stands) f) (λ off. standing-off (r .entry) (r .stands) f off (r .below))

@@ -15,16 +15,15 @@ use Rattle.lists.proofs.ThoseLaws.{those-lt}
 use Rattle.joined.specs.Joined.{Link, Joined, stay, step, Joins}
 use Rattle.joined.proofs.JoinedLaws.{then, back, cast}
 use Rattle.plane.specs.declared.Place.{Place}
-use Rattle.plane.specs.declared.Macro.{Macro}
 use Rattle.plane.proofs.PlaceOrder.{place-same}
+use Rattle.net.specs.Net.{Net}
 use Rattle.net.specs.Allowed.{Allowed}
 use Rattle.graph.specs.declared.Quadrant.{Quadrant}
 use Rattle.graph.specs.declared.Quadrant.the-variants.{First, Fourth}
 use Rattle.graph.specs.declared.Picked.{Picked}
 use Rattle.graph.specs.declared.Picked.the-variants.{At, Nothing}
-use Rattle.graph.specs.Vertices.{vertices}
 use Rattle.graph.specs.Pick.{within, pick}
-use Rattle.graph.specs.Edges.{edges}
+use Rattle.graph.specs.Spanning.{verticesOf, spanning}
 use Rattle.graph.proofs.QuadrantLaws.{Ahead, ahead-along, ahead-never, ahead-total, first-or-fourth-ahead, ahead-first-or-fourth}
 use Rattle.graph.proofs.VertexLaws.{vertices-ascending}
 use Rattle.graph.proofs.PickLaws.{Fit, pick-at, pick-nothing}
@@ -49,9 +48,9 @@ later-of u v h =
 later-never : (u : Place) → later u u ≡ false
 later-never u = by (later u u) (λ e. absurd (ahead-never u (later-is u u e))) (λ e. e)
 
-module _ {ps : List Place} {ms : List Macro} (a : Allowed ps ms) where
+module _ {net : Net} (a : Allowed net) where
   abbrev vs : List Place
-  vs = vertices ps ms
+  vs = verticesOf net
 
   -- An edge ahead
 
@@ -59,25 +58,26 @@ module _ {ps : List Place} {ms : List Macro} (a : Allowed ps ms) where
     to : Place
     stands : to ∈ vs
     ahead : Ahead u to
-    link : Link (edges ms vs) u to
+    link : Link (spanning net) u to
 
   module _ (u : Place) (i : u ∈ vs) where
     -- u picks in the quadrant of a clear vertex ahead
-    in-quadrant : (q : Quadrant) → ((w : Place) → within q u w ≡ true → Ahead u w) → (v : Place) → v ∈ vs → Fit ms q u v → LinkAhead u
-    in-quadrant q on v k f = at (pick ms q u vs) refl
+    in-quadrant : (q : Quadrant) → ((w : Place) → within q u w ≡ true → Ahead u w)
+        → (v : Place) → v ∈ vs → Fit (net .macros) q u v → LinkAhead u
+    in-quadrant q on v k f = at (pick (net .weights) (net .macros) q u vs) refl
       where
-        at : (p : Picked) → pick ms q u vs ≡ p → LinkAhead u
-        at Nothing e = absurd (pick-nothing ms q u vs (vertices-ascending ps ms) e v k f)
+        at : (p : Picked) → pick (net .weights) (net .macros) q u vs ≡ p → LinkAhead u
+        at Nothing e = absurd (pick-nothing (net .weights) (net .macros) q u vs (vertices-ascending net) e v k f)
         at (At w) e =
-            let r = pick-at ms q u vs (vertices-ascending ps ms) w e in
+            let r = pick-at (net .weights) (net .macros) q u vs (vertices-ascending net) w e in
             record {
               to = w;
               stands = r .stands;
               ahead = on w (r .fit .in-quadrant);
-              link = picked-link ms vs u w (inl (record { stands = i; quadrant = q; picks = e }));
+              link = picked-link (net .weights) (net .macros) vs u w (inl (record { stands = i; quadrant = q; picks = e }));
             }
 
-    link-ahead : ClearAhead ps ms u → LinkAhead u
+    link-ahead : ClearAhead net u → LinkAhead u
     link-ahead r =
         either
         (λ e. in-quadrant First (λ w f. first-or-fourth-ahead u w (inl f)) (r .to) (r .stands)
@@ -91,7 +91,7 @@ module _ {ps : List Place} {ms : List Macro} (a : Allowed ps ms) where
   record Last (u : Place) : Type 0 where
     last : Place
     stands : last ∈ vs
-    joined : Joined (edges ms vs) u last
+    joined : Joined (spanning net) u last
     none : (w : Place) → w ∈ vs → later last w ≡ true → ⊥
 
   -- fewer vertices are ahead of one that is ahead
@@ -125,7 +125,7 @@ module _ {ps : List Place} {ms : List Macro} (a : Allowed ps ms) where
           (ahead-total (s .last) (t .last) n)
 
   -- G7: the graph of every allowed net joins all its vertices
-  pub connected : Joins (vertices ps ms) (edges ms (vertices ps ms))
+  pub connected : Joins (verticesOf net) (spanning net)
   connected u v i k =
       let s = to-last u i in
       let t = to-last v k in

@@ -1,7 +1,6 @@
 -- In an allowed net no vertex is in a macro's interior: a pin by the check, and a corner because the macro around it would overlap the
 -- corner's own.
 -- Assumes nothing.
-use mathlib.Core.List.{List}
 use lib.IntN.{ℤ}
 use Rattle.lists.specs.Member.{_∈_}
 use Rattle.lists.proofs.TestLaws.{either}
@@ -12,9 +11,11 @@ use Rattle.plane.specs.declared.Place.{Place}
 use Rattle.plane.specs.declared.Macro.{Macro}
 use Rattle.plane.specs.Place.{place}
 use Rattle.plane.proofs.MeetLaws.{Overlap, InInterior}
+use Rattle.net.specs.Net.{Net}
 use Rattle.net.specs.Allowed.{Allowed}
 use Rattle.net.proofs.ApartLaws.{SidesInOrder, sides-in-order, overlap-one, pin-outside}
-use Rattle.graph.specs.Vertices.{cornersOf, vertices}
+use Rattle.graph.specs.Vertices.{cornersOf}
+use Rattle.graph.specs.Spanning.{verticesOf}
 use Rattle.graph.proofs.VertexLaws.{at-corner, of-vertices}
 
 -- c is on the closed box of m and not in its interior
@@ -40,13 +41,13 @@ module _ (m : Macro) (s : SidesInOrder m) where
       (on-right (m .bottom) (omega signed) (omega signed))
       (on-right (m .top) (omega signed) (omega signed))
 
-module _ {ps : List Place} {ms : List Macro} (a : Allowed ps ms) where
-  corner-outside : (c : Place) → Piece cornersOf ms c → (m : Macro) → m ∈ ms → InInterior c m → ⊥
+module _ {net : Net} (a : Allowed net) where
+  corner-outside : (c : Place) → Piece cornersOf (net .macros) c → (m : Macro) → m ∈ net .macros → InInterior c m → ⊥
   corner-outside c p m i h =
       let n = p .entry in
       let r = corner-rim n (sides-in-order a n (p .stands)) c (p .holds) in
       let o : Overlap m n = record { left = omega signed; right = omega signed; bottom = omega signed; top = omega signed } in
       r .not-within (rw (overlap-one a m n i (p .stands) o) at h)
 
-  pub vertex-outside : (u : Place) → u ∈ vertices ps ms → (m : Macro) → m ∈ ms → InInterior u m → ⊥
-  vertex-outside u k = either (pin-outside a u) (corner-outside u) (of-vertices ps ms k)
+  pub vertex-outside : (u : Place) → u ∈ verticesOf net → (m : Macro) → m ∈ net .macros → InInterior u m → ⊥
+  vertex-outside u k = either (pin-outside a u) (corner-outside u) (of-vertices net k)

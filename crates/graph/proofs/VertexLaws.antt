@@ -16,7 +16,9 @@ use Rattle.plane.specs.declared.Place.{Place}
 use Rattle.plane.specs.declared.Macro.{Macro}
 use Rattle.plane.specs.Place.{place, before}
 use Rattle.plane.proofs.PlaceOrder.{place-order}
+use Rattle.net.specs.Net.{Net}
 use Rattle.graph.specs.Vertices.{cornersOf, corners, vertices}
+use Rattle.graph.specs.Spanning.{verticesOf}
 
 -- The corners of a macro
 
@@ -70,33 +72,35 @@ four m = omega arith
 
 -- Vertices
 
-module _ (ps : List Place) (ms : List Macro) where
+module _ (net : Net) where
   -- G1: pins and corners of macros, and nothing else
-  pub pin-vertex : {p : Place} → p ∈ ps → p ∈ vertices ps ms
+  pub pin-vertex : {p : Place} → p ∈ net .pins → p ∈ verticesOf net
   unfolding vertices
-  pin-vertex i = in-sorted before place-order (ps ++ corners ms) _ (Memᴰ·append-left (corners ms) i)
+  pin-vertex i = in-sorted before place-order (net .pins ++ corners (net .macros)) _ (Memᴰ·append-left (corners (net .macros)) i)
 
-  pub corner-vertex : {m : Macro} {c : Place} → m ∈ ms → c ∈ cornersOf m → c ∈ vertices ps ms
+  pub corner-vertex : {m : Macro} {c : Place} → m ∈ net .macros → c ∈ cornersOf m → c ∈ verticesOf net
   unfolding vertices
-  corner-vertex i j = in-sorted before place-order (ps ++ corners ms) _ (Memᴰ·append-right ps (in-corners ms i j))
+  corner-vertex i j =
+      in-sorted before place-order (net .pins ++ corners (net .macros)) _ (Memᴰ·append-right (net .pins) (in-corners (net .macros) i j))
 
-  pub of-vertices : {v : Place} → v ∈ vertices ps ms → (v ∈ ps) ⊎ Piece cornersOf ms v
+  pub of-vertices : {v : Place} → v ∈ verticesOf net → (v ∈ net .pins) ⊎ Piece cornersOf (net .macros) v
   unfolding vertices
-  of-vertices i = either inl (λ k. inr (of-corners ms k)) (List·Memᴰ·append-cases ps (of-sorted before (ps ++ corners ms) _ i))
+  of-vertices i =
+      either inl (λ k. inr (of-corners (net .macros) k))
+      (List·Memᴰ·append-cases (net .pins) (of-sorted before (net .pins ++ corners (net .macros)) _ i))
 
   -- G1: equal places are one vertex, and they are in order
-  pub vertices-ascending : Ascending before (vertices ps ms)
+  pub vertices-ascending : Ascending before (verticesOf net)
   unfolding vertices
-  vertices-ascending = sorted-ascending before place-order (ps ++ corners ms)
+  vertices-ascending = sorted-ascending before place-order (net .pins ++ corners (net .macros))
 
   -- N7: at most n of them
-  pub length-vertices : length (vertices ps ms) ≤ length ps + 4 * length ms
+  pub length-vertices : length (verticesOf net) ≤ length (net .pins) + 4 * length (net .macros)
   unfolding vertices
   length-vertices =
       omega (
         arith,
-        length-sorted before (ps ++ corners ms),
-        length-append ps (corners ms),
-        length-each cornersOf corners none more 4 four
-            ms,
+        length-sorted before (net .pins ++ corners (net .macros)),
+        length-append (net .pins) (corners (net .macros)),
+        length-each cornersOf corners none more 4 four (net .macros),
       )

@@ -8,19 +8,23 @@ use Rattle.lists.specs.Sorted.{put, sorted, firstThen}
 use Rattle.signed.specs.Order.{minZ, maxZ}
 use Rattle.plane.specs.declared.Place.{Place}
 use Rattle.plane.specs.Place.{place, before}
-use Rattle.plane.specs.Distance.{apart, distance}
+use Rattle.plane.specs.Distance.{apart}
+use Rattle.plane.specs.Cost.{cost}
 use Rattle.plane.specs.Macro.{spanMeets, meets, clear}
-use Rattle.plane.specs.Flat.{placesOf, macrosOf}
+use Rattle.plane.specs.Flat.{macrosOf}
+use Rattle.net.specs.Pins.{pinPlaces}
+use Rattle.net.specs.Net.{netOf}
 use Rattle.net.specs.WorkedNets.{Lists, onePin, aroundOne, threePins, sharedSide, onSides, onBoundary}
 use Rattle.graph.specs.Vertices.{cornersOf, corners, vertices}
 use Rattle.graph.specs.Pick.{within, nearer, better, pickFrom, pick}
 use Rattle.graph.specs.Edges.{edgeOf, beforeEdge, edgeOfPick, picksOf, allPicks, edges}
+use Rattle.graph.specs.Spanning.{spanning}
 
--- the edges of a net; to unfold this is to unfold all that it rests on
+-- the edges of a net with plain weights; to unfold this is to unfold all that it rests on
 unfoldable pub graphOf : Lists → List (Place × Place)
-unfolding any put sorted firstThen minZ maxZ before apart distance spanMeets meets clear placesOf macrosOf cornersOf corners vertices
+unfolding any put sorted firstThen minZ maxZ before apart cost spanMeets meets clear pinPlaces macrosOf cornersOf corners vertices
     within nearer better pickFrom pick edgeOf beforeEdge edgeOfPick picksOf allPicks edges
-graphOf net = edges (macrosOf (net .macros)) (vertices (placesOf (net .pins)) (macrosOf (net .macros)))
+graphOf net = spanning (netOf (net .pins) (net .macros))
 
 -- an edge by its four numbers
 abbrev edge : ℤ → ℤ → ℤ → ℤ → Place × Place

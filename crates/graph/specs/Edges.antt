@@ -4,6 +4,7 @@ use mathlib.Core.List.{List, [], _∷_, _++_}
 use Rattle.lists.specs.Sorted.{sorted, firstThen}
 use Rattle.plane.specs.declared.Place.{Place}
 use Rattle.plane.specs.declared.Macro.{Macro}
+use Rattle.plane.specs.declared.Weights.{Weights}
 use Rattle.plane.specs.Place.{before}
 use Rattle.graph.specs.declared.Quadrant.the-variants.{First, Second, Third, Fourth}
 use Rattle.graph.specs.declared.Picked.{Picked}
@@ -24,15 +25,15 @@ edgeOfPick u Nothing = []
 edgeOfPick u (At v) = edgeOf u v ∷ []
 
 -- the edges that u picks
-unfoldable pub picksOf : List Macro → List Place → Place → List (Place × Place)
-picksOf ms vs u =
-    edgeOfPick u (pick ms First u vs)
-    ++ (edgeOfPick u (pick ms Second u vs) ++ (edgeOfPick u (pick ms Third u vs) ++ edgeOfPick u (pick ms Fourth u vs)))
+unfoldable pub picksOf : Weights → List Macro → List Place → Place → List (Place × Place)
+picksOf w ms vs u =
+    edgeOfPick u (pick w ms First u vs)
+    ++ (edgeOfPick u (pick w ms Second u vs) ++ (edgeOfPick u (pick w ms Third u vs) ++ edgeOfPick u (pick w ms Fourth u vs)))
 
 -- the edges that some vertices pick
-unfoldable pub allPicks : List Macro → List Place → List Place → List (Place × Place)
-allPicks ms vs [] = []
-allPicks ms vs (u ∷ us) = picksOf ms vs u ++ allPicks ms vs us
+unfoldable pub allPicks : Weights → List Macro → List Place → List Place → List (Place × Place)
+allPicks w ms vs [] = []
+allPicks w ms vs (u ∷ us) = picksOf w ms vs u ++ allPicks w ms vs us
 
-unfoldable pub edges : List Macro → List Place → List (Place × Place)
-edges ms vs = sorted beforeEdge (allPicks ms vs vs)
+unfoldable pub edges : Weights → List Macro → List Place → List (Place × Place)
+edges w ms vs = sorted beforeEdge (allPicks w ms vs vs)
