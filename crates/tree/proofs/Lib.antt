@@ -1,3 +1,4 @@
 pub mod SumLaws
 pub mod ListingLaws
 pub mod PointLaws
+pub mod EdgeLaws

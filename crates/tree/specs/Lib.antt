@@ -11,9 +11,12 @@
 --              Small, Low, Within          bounds of a table's entries
 --   Sum        below f n, over g xs n      the sum of f over the numbers below n, of g over the first n entries of a table
 --   Places     pointsOf, edgesOf           the points and the edges of a tree as places
---              metalOf                     the sum of edge lengths
+--              keyCost w, totalOf w        what an edge costs; the sum over the edges of a tree
 --              Ranked                      edges smaller place first, in order
---              Sound                       a tree over its points in order, with all pins and every edge clear
+--              Sound net                   a tree over its points in order, with all pins of the net and every edge clear of its macros
+--   Edges      edgesFrom, tableEdges       edges of a tree's tables as pairs of places, in the order of the table
+--              treeEdges t                 all edges of a tree, in order
 pub mod Table
 pub mod Sum
 pub mod Places
+pub mod Edges

@@ -7,11 +7,12 @@ use lib.IntN.{ℤ}
 use lib.ListN.{getD}
 use Rattle.lists.specs.Member.{Among}
 use Rattle.plane.specs.declared.Place.{Place}
-use Rattle.plane.specs.declared.Macro.{Macro}
+use Rattle.plane.specs.declared.Weights.{Weights}
 use Rattle.plane.specs.Place.{before}
-use Rattle.plane.specs.Distance.{distance}
+use Rattle.plane.specs.Cost.{cost}
 use Rattle.plane.specs.Macro.{clear}
 use Rattle.plane.specs.Flat.{placeAt}
+use Rattle.net.specs.Net.{Net}
 use Rattle.joined.specs.Tree as joined
 use Rattle.tree.specs.Table.{firstEnd, secondEnd, Tree, Within}
 use Rattle.tree.specs.Sum.{over}
@@ -25,9 +26,9 @@ listing f (suc n) = f n ∷ listing f n
 abbrev pub endsOf : List ℤ → ℕ → Place × Place
 endsOf pts k = (placeAt pts (firstEnd k), placeAt pts (secondEnd k))
 
--- its length
-abbrev pub keyLength : List ℤ → ℕ → ℕ
-keyLength pts k = distance (endsOf pts k .0) (endsOf pts k .1)
+-- what it costs
+abbrev pub keyCost : Weights → List ℤ → ℕ → ℕ
+keyCost w pts k = cost w (endsOf pts k .0) (endsOf pts k .1)
 
 abbrev pub pointsOf : List ℤ → ℕ → List Place
 pointsOf pts n = listing (placeAt pts) n
@@ -45,15 +46,15 @@ pub record Ranked (ks : List ℕ) (e : ℕ) : Type 0 where
   pub upward : (i : ℕ) → i < e → firstEnd (getD ks i 0) < secondEnd (getD ks i 0)
   pub rising : (i j : ℕ) → i < j → j < e → getD ks i 0 < getD ks j 0
 
--- R22: metal to lay, the lengths of the edges added up
-abbrev pub metalOf : Tree → ℕ
-metalOf t = over (keyLength (t .points)) (t .edges .keys) (t .edges .size)
+-- R22: the total, the costs of the edges added up
+abbrev pub totalOf : Weights → Tree → ℕ
+totalOf w t = over (keyCost w (t .points)) (t .edges .keys) (t .edges .size)
 
--- a tree over its points in order, with all pins, every edge clear
-pub record Sound (ms : List Macro) (pins : List Place) (t : Tree) : Type 0 where
+-- a tree over its points in order, with all pins of the net, every edge clear of its macros
+pub record Sound (net : Net) (t : Tree) : Type 0 where
   pub ordered : InOrder (t .points) (t .count)
   pub within : Within (t .count) (t .edges .keys)
   pub whole : joined.Tree (pointsOf (t .points) (t .count)) (edgesOf (t .points) (t .edges .keys) (t .edges .size))
   pub free : (i : ℕ) → i < t .edges .size → clear (endsOf (t .points) (getD (t .edges .keys) i 0) .0)
-      (endsOf (t .points) (getD (t .edges .keys) i 0) .1) ms ≡ true
-  pub pinned : Among pins (pointsOf (t .points) (t .count))
+      (endsOf (t .points) (getD (t .edges .keys) i 0) .1) (net .macros) ≡ true
+  pub pinned : Among (net .pins) (pointsOf (t .points) (t .count))

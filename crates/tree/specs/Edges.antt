@@ -1,11 +1,11 @@
--- The refined tree's edges as they are given (C66): in order, with their total.
+-- A tree's edges as they are given, in the order of their table. `edgesOf` lists the same edges from the last to the first.
 use mathlib.Core.List.{List, [], _∷_}
 use Prim.Native.Nat.{ℕ, zero, suc}
 use lib.IntN.{ℤ}
 use lib.ListN.{getD}
 use Rattle.plane.specs.declared.Place.{Place}
 use Rattle.tree.specs.Table.{Tree}
 use Rattle.tree.specs.Places.{endsOf}
 
 -- n edges of a tree's tables from number i on, as pairs of places
 unfoldable pub edgesFrom : List ℤ → List ℕ → ℕ → ℕ → List (Place × Place)
