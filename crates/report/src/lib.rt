@@ -11,8 +11,8 @@ ghost use lib.IntN.{pos, natAbs};
 ghost use lib.ListN.{length};
 ghost use Rattle.lent.specs.Told.{given};
 ghost use Rattle.lent.specs.Entries.{flat, entries};
-ghost use Rattle.net.specs.Pins.{pinCount, macroCount}
-use Rattle.net.specs.Check.{checked};
+ghost use Rattle.net.specs.Pins.{pinCount, macroCount};
+ghost use Rattle.net.specs.Check.{checked, countsOf};
 ghost use Rattle.graph.specs.Numbers.{edgeFrom};
 ghost use Rattle.router.specs.Refined.{laidOf, laidTotal};
 ghost use Rattle.report.specs.Route.{treesText, routeText};
@@ -225,7 +225,7 @@ pub const TEXT: usize = 120 + Net::TREE_POINTS * 105;
 // The text of an allowed net whose terminal tree has the total `terminal`; how many bytes it has. With room for the largest tree no allowed
 // net is refused, here or for the terminal tree.
 fn refined_text(pins: &[i32], macros: &[i32], terminal: i64, out: &mut [u8; TEXT]) -> usize
-    requires { ⌜ checked (now pins) (now macros) ≡ given (pinCount (now pins), macroCount (now macros)) ⌝ }
+    requires { ⌜ checked (now pins) (now macros) ≡ given (countsOf (now pins) (now macros)) ⌝ }
     ensures { λ r. ⌜ Filled (treeText (pinCount (now (pins .entry))) (macroCount (now (macros .entry))) terminal
         (pos (laidTotal (now (pins .entry)) (now (macros .entry)))) (laidOf (now (pins .entry)) (now (macros .entry))))
         (now (out .entry)) (now (out .exit)) r ⌝ }
@@ -248,7 +248,7 @@ fn refined_text(pins: &[i32], macros: &[i32], terminal: i64, out: &mut [u8; TEXT
 
 // The text of an allowed net; how many bytes it has.
 fn trees_text(pins: &[i32], macros: &[i32], out: &mut [u8; TEXT]) -> usize
-    requires { ⌜ checked (now pins) (now macros) ≡ given (pinCount (now pins), macroCount (now macros)) ⌝ }
+    requires { ⌜ checked (now pins) (now macros) ≡ given (countsOf (now pins) (now macros)) ⌝ }
     ensures { λ r. ⌜ Filled (treesText (pinCount (now (pins .entry))) (macroCount (now (macros .entry))) (now (pins .entry))
         (now (macros .entry)))
         (now (out .entry)) (now (out .exit)) r ⌝ }

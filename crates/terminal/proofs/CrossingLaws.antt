@@ -22,7 +22,8 @@ use Rattle.graph.specs.Spanning.{verticesOf, spanning}
 use Rattle.graph.specs.Vertices.{vertices}
 use Rattle.graph.specs.Edges.{beforeEdge}
 use Rattle.graph.proofs.VertexLaws.{pin-vertex, vertices-ascending}
-use Rattle.graph.proofs.EdgeLaws.{edge-order, edges-ascending, edges-inside}
+use Rattle.graph.proofs.EdgeLaws.{edge-order}
+use Rattle.graph.proofs.GraphBounds.{spanning-ascending, spanning-inside}
 use Rattle.forest.specs.Edges.{Graph, from}
 use Rattle.forest.specs.Labels.{Labels, root, labelled}
 use Rattle.forest.specs.Parents.{Parents, parented}
@@ -93,7 +94,7 @@ module _ {net : Net} (a : Allowed net) where
       Carries (numberOf (verticesOf net)) (vertexAt (verticesOf net)) (λ v. v ∈ verticesOf net) (spanning net) (pairs G) (net .pins) pins
   to-numbers = record {
     pair = edge-numbers a;
-    inside = edges-inside (net .weights) (net .macros) vs (vertices-ascending net);
+    inside = spanning-inside net;
     undone = vertex-of-number vs (vertices-ascending net);
     pin-in = λ p m. pin-vertex net m;
     pin = pin-number-in vs (net .pins);
@@ -167,7 +168,7 @@ module _ {net : Net} (a : Allowed net) where
   edge-below k h = rw (count-of (net .weights) vs es) at h
 
   pub number-given : (k : ℕ) → k ∈ kept → bridgeNumber (given k) ≡ k
-  number-given k m = position-at beforeEdge edge-order es (edges-ascending (net .weights) (net .macros) vs) k _ (edge-below k (kept-below k m))
+  number-given k m = position-at beforeEdge edge-order es (spanning-ascending net) k _ (edge-below k (kept-below k m))
 
   pub given-in : (k : ℕ) → k ∈ kept → given k ∈ pathsOf net
   given-in k m = rw paths-are (in-map given m)

@@ -23,7 +23,8 @@ use Rattle.net.specs.Net.{Net}
 use Rattle.graph.specs.Spanning.{verticesOf, spanning}
 use Rattle.graph.specs.Vertices.{vertices}
 use Rattle.graph.specs.Edges.{beforeEdge}
-use Rattle.graph.proofs.EdgeLaws.{edge-order, edges-ascending}
+use Rattle.graph.proofs.EdgeLaws.{edge-order}
+use Rattle.graph.proofs.GraphBounds.{spanning-ascending}
 use Rattle.terminal.specs.Bridges.{oneRoot, sameRoot, rootsOf as rootsBy, weights, earlier, bridges}
 use Rattle.terminal.proofs.WholeLaws.{weights-at}
 use Rattle.forest.proofs.Nearest.{fits}
@@ -95,12 +96,12 @@ module _ {net : Net} (a : Allowed net) where
       k = position beforeEdge (spanning net) e
 
       is : edgeAt (spanning net) k ≡ e
-      is = at-position beforeEdge edge-order (spanning net) (edges-ascending (net .weights) (net .macros) (verticesOf net)) e _ m
+      is = at-position beforeEdge edge-order (spanning net) (spanning-ascending net) e _ m
 
       inside : k < G a .count
       inside =
           rw (count-of (net .weights) (verticesOf net) (spanning net))
-          (position-small beforeEdge edge-order (spanning net) (edges-ascending (net .weights) (net .macros) (verticesOf net)) e m)
+          (position-small beforeEdge edge-order (spanning net) (spanning-ascending net) e m)
 
       bridge : k ∈ L
       bridge = is-bridge (setting a) (whole a) k inside (different k inside (λ q. n (rw is at q)))
@@ -108,7 +109,7 @@ module _ {net : Net} (a : Allowed net) where
   -- The order in which they are taken
 
   edge-before : (j k : ℕ) → k < G a .count → j < k → beforeEdge (edgeAt (spanning net) j) (edgeAt (spanning net) k) ≡ true
-  edge-before j k h l = ascending-at beforeEdge (spanning net) (edges-ascending (net .weights) (net .macros) (verticesOf net)) j k _ l (edge-below a k h)
+  edge-before j k h l = ascending-at beforeEdge (spanning net) (spanning-ascending net) j k _ l (edge-below a k h)
 
   weight-at : (k : ℕ) → k < G a .count → getD (weights (G a) (T a .fars) (P a)) k 0 ≡ weight a k
   weight-at k h = weights-at (G a) (T a) (P a) (fits (setting a)) k h

@@ -23,8 +23,8 @@ use Rattle.graph.specs.Spanning.{verticesOf, spanning}
 use Rattle.graph.specs.Vertices.{vertices}
 use Rattle.graph.specs.Edges.{beforeEdge, edges}
 use Rattle.graph.proofs.VertexLaws.{pin-vertex, vertices-ascending}
-use Rattle.graph.proofs.EdgeLaws.{Edge, edge-order, edge-of, edges-ascending}
-use Rattle.graph.proofs.GraphBounds.{edge-bound, few-vertices, few-edges}
+use Rattle.graph.proofs.EdgeLaws.{Edge, edge-order}
+use Rattle.graph.proofs.GraphBounds.{edge-bound, few-vertices, few-edges, spanning-ascending, spanning-edge, edge-least}
 use Rattle.graph.proofs.Connected.{connected}
 use Rattle.forest.specs.Edges.{one, two, len}
 use Rattle.forest.specs.Setting.{ends, pairs, Setting, Whole}
@@ -54,8 +54,8 @@ module _ {net : Net} (a : Allowed net) where
     pub edge-in : edgeAt (spanning net) k ∈ spanning net
     edge-in = getD-in es k _ inside
 
-    pub edge-at : Edge (net .weights) (net .macros) (verticesOf net) (edgeAt (spanning net) k .0) (edgeAt (spanning net) k .1)
-    edge-at = edge-of (net .weights) (net .macros) vs (vertices-ascending net) (edgeAt es k) edge-in
+    pub edge-at : Edge (net .macros) (verticesOf net) (edgeAt (spanning net) k .0) (edgeAt (spanning net) k .1)
+    edge-at = spanning-edge net (edgeAt es k) edge-in
 
     -- its ends as vertices
     pub one-vertex : vertexAt (verticesOf net) (one (graphOf net) k) ≡ edgeAt (spanning net) k .0
@@ -78,7 +78,7 @@ module _ {net : Net} (a : Allowed net) where
     one-in = λ k h. rw (one-of (net .weights) vs es k (inside k h)) (number-small vs (vertices-ascending net) _ (edge-at k h .first));
     two-in = λ k h. rw (two-of (net .weights) vs es k (inside k h)) (number-small vs (vertices-ascending net) _ (edge-at k h .second));
     measured = λ k h. ap₂ (costIn net) (one-vertex k h) (two-vertex k h) ∙ sym (len-is k h);
-    some = λ k h. rw (len-is k h) (edge-at k h .long);
+    some = λ k h. rw (len-is k h) (edge-least a _ (edge-in k h));
     short = λ k h. rw (len-is k h) (edge-bound a _ (edge-in k h));
     even = λ i j. cost-comm (net .weights) _ _;
     pins-in = λ p m. pin-small vs (net .pins) (vertices-ascending net) pin-in p m;
@@ -90,8 +90,8 @@ module _ {net : Net} (a : Allowed net) where
   unfolding ends
   edge-numbers u v m =
       let k = position beforeEdge es (u, v) in
-      let small : k < length es = position-small beforeEdge edge-order es (edges-ascending (net .weights) (net .macros) vs) (u, v) m in
-      let is : edgeAt es k ≡ (u, v) = at-position beforeEdge edge-order es (edges-ascending (net .weights) (net .macros) vs) (u, v) _ m in
+      let small : k < length es = position-small beforeEdge edge-order es (spanning-ascending net) (u, v) m in
+      let is : edgeAt es k ≡ (u, v) = at-position beforeEdge edge-order es (spanning-ascending net) (u, v) _ m in
       let counted : k < graphOf net .count = rw (count-of (net .weights) vs es) small in
       Memᴰ·cast
       (ap₂ (λ (i j : ℕ). (i, j))

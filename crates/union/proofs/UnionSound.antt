@@ -35,9 +35,8 @@ use Rattle.net.specs.Net.{Net, costIn}
 use Rattle.graph.specs.Spanning.{verticesOf, spanning}
 use Rattle.graph.specs.Vertices.{vertices}
 use Rattle.graph.specs.Edges.{beforeEdge}
-use Rattle.graph.proofs.EdgeLaws.{edges-ascending}
 use Rattle.graph.proofs.VertexLaws.{pin-vertex, vertices-ascending}
-use Rattle.graph.proofs.GraphBounds.{few-vertices}
+use Rattle.graph.proofs.GraphBounds.{few-vertices, spanning-ascending}
 use Rattle.forest.specs.Edges.{Graph, one, two, len, from}
 use Rattle.terminal.specs.Kept.{terminal}
 use Rattle.forest.specs.Setting.{ends}
@@ -263,7 +262,7 @@ module _ {net : Net} (a : Allowed net) where
   later k l i j h =
       let x = edge-below k i in
       let y = edge-below l j in
-      let b = ascending-at beforeEdge (spanning net) (edges-ascending (net .weights) (net .macros) vs) k l _ h (rw (count-of (net .weights) vs (spanning net)) at y) in
+      let b = ascending-at beforeEdge (spanning net) (spanning-ascending net) k l _ h (rw (count-of (net .weights) vs (spanning net)) at y) in
       either
       (λ e. inl
       (ltb-true (one g k) (one g l)
