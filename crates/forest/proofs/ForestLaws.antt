@@ -11,25 +11,26 @@ use Rattle.forest.proofs.LabelLaws.{Fine, fine-unlabelled, fine-starts,
 use Rattle.forest.proofs.ParentLaws.{falls-parented}
 
 -- labels and parents
-pub staged : (g : Graph) (n : ℕ) (pins : List ℕ) (t₀ t₁ t₂ : Labels) (p₀ p₁ : Parents) → t₀ ≡ unlabelled → p₀ ≡ orphans → t₁
-    ≡ starts pins t₀ →
-    t₂ ≡ settled n g (from 0 (g .count)) t₁ → p₁ ≡ adopted g n t₂ p₀ → (t₂ ≡ labelled g n pins) × (p₁ ≡ parented g n (labelled g n pins))
+pub staged : (g : Graph) (n : ℕ) (sources : List ℕ) (t₀ t₁ t₂ : Labels) (p₀ p₁ : Parents) →
+    t₀ ≡ unlabelled → p₀ ≡ orphans → t₁ ≡ starts sources t₀ →
+    t₂ ≡ settled n g (from 0 (g .count)) t₁ → p₁ ≡ adopted g n t₂ p₀ →
+    (t₂ ≡ labelled g n sources) × (p₁ ≡ parented g n (labelled g n sources))
 unfolding labelled parented
-staged g n pins t₀ t₁ t₂ p₀ p₁ a b c d f =
-    let e : t₂ ≡ settled n g (from 0 (g .count)) (starts pins unlabelled) =
-    d ∙ ap (settled n g (from 0 (g .count))) (c ∙ ap (starts pins) a)
+staged g n sources t₀ t₁ t₂ p₀ p₁ a b c d f =
+    let e : t₂ ≡ settled n g (from 0 (g .count)) (starts sources unlabelled) =
+    d ∙ ap (settled n g (from 0 (g .count))) (c ∙ ap (starts sources) a)
     in
     (e, f ∙ ap₂ (λ (t : Labels) (p : Parents). adopted g n t p) e b)
 
 -- Labels and parents that the code made are bounded, and distances fall along parents
-module _ (g : Graph) (n m : ℕ) (pins : List ℕ) (t : Labels) (p : Parents)
-    (fits : Fits g) (small : n ≤ pointBound) (inside : FirstBelow pins m pointBound)
-    (t-is : t ≡ labelled g n (entries pins 0 m)) (p-is : p ≡ parented g n (labelled g n (entries pins 0 m))) where
+module _ (g : Graph) (n m : ℕ) (sources : List ℕ) (t : Labels) (p : Parents)
+    (fits : Fits g) (small : n ≤ pointBound) (inside : FirstBelow sources m pointBound)
+    (t-is : t ≡ labelled g n (entries sources 0 m)) (p-is : p ≡ parented g n (labelled g n (entries sources 0 m))) where
   pub made-fine : Fine t
   unfolding labelled
   made-fine =
-      fine-settled n g (from 0 (g .count)) (starts (entries pins 0 m) unlabelled) t t-is
-      (fine-starts pins m unlabelled (starts (entries pins 0 m) unlabelled) refl inside fine-unlabelled)
+      fine-settled n g (from 0 (g .count)) (starts (entries sources 0 m) unlabelled) t t-is
+      (fine-starts sources m unlabelled (starts (entries sources 0 m) unlabelled) refl inside fine-unlabelled)
 
   pub made-falls : Falls (g .lengths) (t .fars) p
-  made-falls = rw (p-is, t-is) (falls-parented g n (labelled g n (entries pins 0 m)) small fits)
+  made-falls = rw (p-is, t-is) (falls-parented g n (labelled g n (entries sources 0 m)) small fits)

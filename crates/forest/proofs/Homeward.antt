@@ -1,6 +1,6 @@
 -- T7, T8: the parent is the smallest neighbour on a shortest way to the root, and the way goes from parent to parent. The next vertex of a
 -- shortest way has the same root and is nearer by the link, so the scan finds a parent; along parents the distance falls, so a way is
--- loop-free, has no pin but its last vertex, and is as long as the distance.
+-- loop-free, has no source but its last vertex, and is as long as the distance.
 -- Assumes nothing.
 use mathlib.Core.Path.{_≡_, refl, sym, ap, ap₂, _∙_, subst}
 use mathlib.Core.Bool.{true, false}
@@ -45,14 +45,14 @@ unfolding climb
 climb-none p zero v h = refl
 climb-none p (suc n) v h = rw (climb, le-ltb (up p v) pointBound h) refl
 
-module _ {g : Graph} {n : ℕ} {d : ℕ → ℕ → ℕ} {pins : List ℕ} (s : Setting g n d pins) (whole : Whole g n pins) where
+module _ {g : Graph} {n : ℕ} {d : ℕ → ℕ → ℕ} {sources : List ℕ} (s : Setting g n d sources) (whole : Whole g n sources) where
   abbrev T : Labels
-  T = labelled g n pins
+  T = labelled g n sources
 
   abbrev P : Parents
-  P = parented g n (labelled g n pins)
+  P = parented g n (labelled g n sources)
 
-  -- Pins
+  -- Sources
 
   near : (v : ℕ) → v < n → Reached s v (far T v) (root T v)
   near v h = reached s v h (all-reached s whole v h)
@@ -63,25 +63,25 @@ module _ {g : Graph} {n : ℕ} {d : ℕ → ℕ → ℕ} {pins : List ℕ} (s : 
   no-length (stop e) h = e
   no-length {x} (go {y = y} l w) h = absurd (let c = link-in s x y l .some in let z : ⊥ = omega arith in z)
 
-  -- a pin is its own root, at no distance
-  pub pin-label : (p : ℕ) → p ∈ pins → (far T p ≡ 0) × (root T p ≡ p)
+  -- a source is its own root, at no distance
+  pub source-label : (p : ℕ) → p ∈ sources → (far T p ≡ 0) × (root T p ≡ p)
   unfolding long
-  pin-label p m =
-      let h = s .pins-in p m in
+  source-label p m =
+      let h = s .sources-in p m in
       let b = best s h (stop refl) m in
       let f : far T p ≡ 0 = omega (arith, b .0) in
       let r = near p h in
       (f, sym (no-length (r .way) (r .long-is ∙ f)))
 
-  pub far-off : (v : ℕ) → v < n → (v ∈ pins → ⊥) → 1 ≤ far T v
+  pub far-off : (v : ℕ) → v < n → (v ∈ sources → ⊥) → 1 ≤ far T v
   far-off v h m = at (ℕ-discrete (far T v) 0)
     where
       at : Dec (far T v ≡ 0) → 1 ≤ far T v
       at (no k) = omega (arith, k)
-      at (yes k) = let r = near v h in absurd (m (rw (no-length (r .way) (r .long-is ∙ k)) (r .pin)))
+      at (yes k) = let r = near v h in absurd (m (rw (no-length (r .way) (r .long-is ∙ k)) (r .source)))
 
-  pub root-pin : (v : ℕ) → v < n → root T v ∈ pins
-  root-pin v h = near v h .pin
+  pub root-source : (v : ℕ) → v < n → root T v ∈ sources
+  root-source v h = near v h .source
 
   -- Parents
 
@@ -92,7 +92,7 @@ module _ {g : Graph} {n : ℕ} {d : ℕ → ℕ → ℕ} {pins : List ℕ} (s : 
     pub same-root : root T w ≡ root T v
 
   -- the next vertex of a shortest way
-  onward-of : (v w : ℕ) (ps : List ℕ) → Link (pairs g) v w → Way (pairs g) w ps (root T v) → root T v ∈ pins →
+  onward-of : (v w : ℕ) (ps : List ℕ) → Link (pairs g) v w → Way (pairs g) w ps (root T v) → root T v ∈ sources →
       d v w + long d w ps ≡ far T v → Onward v w
   onward-of v w ps l y m e =
       let i = link-in s v w l in
@@ -103,7 +103,7 @@ module _ {g : Graph} {n : ℕ} {d : ℕ → ℕ → ℕ} {pins : List ℕ} (s : 
       let r = c .1 (omega arith) in
       record { link = l; nearer = f; same-root = omega (arith, q, r) }
 
-  some-onward : (v : ℕ) → v < n → (v ∈ pins → ⊥) → (w : ℕ) × Onward v w
+  some-onward : (v : ℕ) → v < n → (v ∈ sources → ⊥) → (w : ℕ) × Onward v w
   unfolding long
   some-onward v h m = at (near v h)
     where
@@ -111,8 +111,8 @@ module _ {g : Graph} {n : ℕ} {d : ℕ → ℕ → ℕ} {pins : List ℕ} (s : 
       at r = along (r .points) (r .way) (r .long-is)
         where
           along : (ps : List ℕ) → Way (pairs g) v ps (root T v) → long d v ps ≡ far T v → (w : ℕ) × Onward v w
-          along [] (stop e) f = absurd (m (rw e (r .pin)))
-          along (w ∷ ps) (go l y) f = (w, onward-of v w ps l y (r .pin) f)
+          along [] (stop e) f = absurd (m (rw e (r .source)))
+          along (w ∷ ps) (go l y) f = (w, onward-of v w ps l y (r .source) f)
 
   candidate : (v w : ℕ) → Onward v w → (k : ℕ) × (k < g .count) × Candidate g T v w k
   candidate v w o =
@@ -136,7 +136,7 @@ module _ {g : Graph} {n : ℕ} {d : ℕ → ℕ → ℕ} {pins : List ℕ} (s : 
     pub edge : via P v < g .count
     pub ends-are : Alike v (up P v) (one g (via P v)) (two g (via P v))
 
-  pub parent-is : (v : ℕ) → v < n → (v ∈ pins → ⊥) → Parent v
+  pub parent-is : (v : ℕ) → v < n → (v ∈ sources → ⊥) → Parent v
   parent-is v h m = at (found v .is)
     where
       a : up P v ≡ parent g T v .to
@@ -178,7 +178,7 @@ module _ {g : Graph} {n : ℕ} {d : ℕ → ℕ → ℕ} {pins : List ℕ} (s : 
     pub shortest : d v w + long d w points ≡ far T v
 
   pub through-onward : (v w : ℕ) → v < n → Through v w → Onward v w
-  through-onward v w h t = onward-of v w (t .points) (t .link) (t .way) (root-pin v h) (t .shortest)
+  through-onward v w h t = onward-of v w (t .points) (t .link) (t .way) (root-source v h) (t .shortest)
 
   pub onward-through : (v w : ℕ) → Onward v w → Through v w
   onward-through v w o =
@@ -192,20 +192,20 @@ module _ {g : Graph} {n : ℕ} {d : ℕ → ℕ → ℕ} {pins : List ℕ} (s : 
       }
 
   -- T7: the parent is the smallest of these
-  pub parent-through : (v : ℕ) → v < n → (v ∈ pins → ⊥) → Through v (up P v) × ((w : ℕ) → Through v w → up P v ≤ w)
+  pub parent-through : (v : ℕ) → v < n → (v ∈ sources → ⊥) → Through v (up P v) × ((w : ℕ) → Through v w → up P v ≤ w)
   parent-through v h m =
       let p = parent-is v h m in
       (onward-through v (up P v) (p .is), λ w t. p .smallest w (through-onward v w h t))
 
-  -- a pin has no parent
-  pub pin-parent : (p : ℕ) → p ∈ pins → up P p ≡ pointBound
-  pin-parent p m =
-      parented-up g n T (s .vertices) p (s .pins-in p m)
+  -- a source has no parent
+  pub source-parent : (p : ℕ) → p ∈ sources → up P p ≡ pointBound
+  source-parent p m =
+      parented-up g n T (s .vertices) p (s .sources-in p m)
       ∙ either (λ e. ap (λ (r : Step). r .to) e)
       (λ c.
       let k = below-from (g .count) (parent g T p .via) (c .0) in
       let q = s .some (parent g T p .via) k in
-      absurd (let z : ⊥ = omega (arith, c .1 .1 .0, pin-label p m .0) in z))
+      absurd (let z : ⊥ = omega (arith, c .1 .1 .0, source-label p m .0) in z))
       (found p .is)
 
   -- Ways
@@ -234,10 +234,10 @@ module _ {g : Graph} {n : ℕ} {d : ℕ → ℕ → ℕ} {pins : List ℕ} (s : 
     pub each : (k : ℕ) → k ∈ es → On (one g k) (two g k) v ps
     pub alike : (z : ℕ) → z ∈ (v ∷ ps) → root T z ≡ root T v
 
-  at-pin : (v : ℕ) → v ∈ pins → Home v [] []
+  at-source : (v : ℕ) → v ∈ sources → Home v [] []
   unfolding long total
-  at-pin v m =
-      let l = pin-label v m in
+  at-source v m =
+      let l = source-label v m in
       record {
         along = stop (sym (l .1));
         inside = λ k i. elim i [ ];
@@ -279,20 +279,20 @@ module _ {g : Graph} {n : ℕ} {d : ℕ → ℕ → ℕ} {pins : List ℕ} (s : 
   lower k v l p = let c = link-in s v (up P v) (p .is .link) .some in omega (arith, p .is .nearer)
 
   home : (k v : ℕ) → v < n → far T v ≤ k → Home v (climb P k v) (wayOf P k v)
-  home zero v h l = at (is-in ℕ-discrete v pins)
+  home zero v h l = at (is-in ℕ-discrete v sources)
     where
-      at : Dec (v ∈ pins) → Home v (climb P zero v) (wayOf P zero v)
+      at : Dec (v ∈ sources) → Home v (climb P zero v) (wayOf P zero v)
       at (yes m) =
-          let u : pointBound ≤ up P v = omega (arith, pin-parent v m) in
-          rw (climb-none P zero v u, way-none P zero v u) (at-pin v m)
+          let u : pointBound ≤ up P v = omega (arith, source-parent v m) in
+          rw (climb-none P zero v u, way-none P zero v u) (at-source v m)
       at (no m) = absurd (let z : ⊥ = omega (arith, far-off v h m) in z)
-  home (suc k) v h l = at (λ p. home k (up P v) (p .inside) (lower k v l p)) (is-in ℕ-discrete v pins)
+  home (suc k) v h l = at (λ p. home k (up P v) (p .inside) (lower k v l p)) (is-in ℕ-discrete v sources)
     where
-      at : (Parent v → Home (up P v) (climb P k (up P v)) (wayOf P k (up P v))) → Dec (v ∈ pins) →
+      at : (Parent v → Home (up P v) (climb P k (up P v)) (wayOf P k (up P v))) → Dec (v ∈ sources) →
           Home v (climb P (suc k) v) (wayOf P (suc k) v)
       at up-home (yes m) =
-          let u : pointBound ≤ up P v = omega (arith, pin-parent v m) in
-          rw (climb-none P (suc k) v u, way-none P (suc k) v u) (at-pin v m)
+          let u : pointBound ≤ up P v = omega (arith, source-parent v m) in
+          rw (climb-none P (suc k) v u, way-none P (suc k) v u) (at-source v m)
       at up-home (no m) =
           let p = parent-is v h m in
           let u : up P v < pointBound = omega (arith, p .inside, s .vertices) in
@@ -300,26 +300,26 @@ module _ {g : Graph} {n : ℕ} {d : ℕ → ℕ → ℕ} {pins : List ℕ} (s : 
 
   -- T8: a way goes from parent to parent and ends at the root
   pub data Upward : ℕ → List ℕ → Type 0 where
-    arrived : {v : ℕ} → v ∈ pins → Upward v []
-    onto : {v : ℕ} {ps : List ℕ} → (v ∈ pins → ⊥) → Upward (up P v) ps → Upward v (up P v ∷ ps)
+    arrived : {v : ℕ} → v ∈ sources → Upward v []
+    onto : {v : ℕ} {ps : List ℕ} → (v ∈ sources → ⊥) → Upward (up P v) ps → Upward v (up P v ∷ ps)
 
   climbs : (k v : ℕ) → v < n → far T v ≤ k → Upward v (climb P k v)
-  climbs zero v h l = at (is-in ℕ-discrete v pins)
+  climbs zero v h l = at (is-in ℕ-discrete v sources)
     where
-      at : Dec (v ∈ pins) → Upward v (climb P zero v)
-      at (yes m) = let u : pointBound ≤ up P v = omega (arith, pin-parent v m) in rw (climb-none P zero v u) (arrived m)
+      at : Dec (v ∈ sources) → Upward v (climb P zero v)
+      at (yes m) = let u : pointBound ≤ up P v = omega (arith, source-parent v m) in rw (climb-none P zero v u) (arrived m)
       at (no m) = absurd (let z : ⊥ = omega (arith, far-off v h m) in z)
-  climbs (suc k) v h l = at (λ p. climbs k (up P v) (p .inside) (lower k v l p)) (is-in ℕ-discrete v pins)
+  climbs (suc k) v h l = at (λ p. climbs k (up P v) (p .inside) (lower k v l p)) (is-in ℕ-discrete v sources)
     where
-      at : (Parent v → Upward (up P v) (climb P k (up P v))) → Dec (v ∈ pins) → Upward v (climb P (suc k) v)
-      at above (yes m) = let u : pointBound ≤ up P v = omega (arith, pin-parent v m) in rw (climb-none P (suc k) v u) (arrived m)
+      at : (Parent v → Upward (up P v) (climb P k (up P v))) → Dec (v ∈ sources) → Upward v (climb P (suc k) v)
+      at above (yes m) = let u : pointBound ≤ up P v = omega (arith, source-parent v m) in rw (climb-none P (suc k) v u) (arrived m)
       at above (no m) =
           let p = parent-is v h m in
           let u : up P v < pointBound = omega (arith, p .inside, s .vertices) in
           rw (climb-go P k v u) (onto m (above p))
 
   -- a way goes on, from each of its vertices, with that vertex's parent
-  goes-on : (k v : ℕ) → v < n → far T v ≤ k → (z : ℕ) → z ∈ (v ∷ climb P k v) → (z ∈ pins → ⊥) → up P z ∈ climb P k v
+  goes-on : (k v : ℕ) → v < n → far T v ≤ k → (z : ℕ) → z ∈ (v ∷ climb P k v) → (z ∈ sources → ⊥) → up P z ∈ climb P k v
   unfolding climb
   goes-on zero v h l z m o =
       either
@@ -327,13 +327,13 @@ module _ {g : Graph} {n : ℕ} {d : ℕ → ℕ → ℕ} {pins : List ℕ} (s : 
       (λ i. elim i [ ])
       (List·Memᴰ·cases-cons m)
   goes-on (suc k) v h l z m o =
-      at (λ p i. goes-on k (up P v) (p .inside) (lower k v l p) z i o) (is-in ℕ-discrete v pins) (List·Memᴰ·cases-cons m)
+      at (λ p i. goes-on k (up P v) (p .inside) (lower k v l p) z i o) (is-in ℕ-discrete v sources) (List·Memᴰ·cases-cons m)
     where
-      at : (Parent v → z ∈ (up P v ∷ climb P k (up P v)) → up P z ∈ climb P k (up P v)) → Dec (v ∈ pins) →
+      at : (Parent v → z ∈ (up P v ∷ climb P k (up P v)) → up P z ∈ climb P k (up P v)) → Dec (v ∈ sources) →
           (z ≡ v) ⊎ (z ∈ climb P (suc k) v) → up P z ∈ climb P (suc k) v
       at next (yes i) (inl e) = absurd (o (rw e i))
       at next (yes i) (inr j) =
-          let u : pointBound ≤ up P v = omega (arith, pin-parent v i) in
+          let u : pointBound ≤ up P v = omega (arith, source-parent v i) in
           elim (rw (climb-none P (suc k) v u) at j) [ ]
       at next (no i) c =
           let p = parent-is v h i in
@@ -359,11 +359,11 @@ module _ {g : Graph} {n : ℕ} {d : ℕ → ℕ → ℕ} {pins : List ℕ} (s : 
   pub way-once : (v : ℕ) → v < n → Once (v ∷ wayPoints v)
   way-once v h = falling-once v (wayPoints v) (way-home v h .falling)
 
-  -- no vertex on it but the root is a pin
-  pub way-pin : (v : ℕ) → v < n → (z : ℕ) → z ∈ (v ∷ wayPoints v) → z ∈ pins → z ≡ root T v
-  way-pin v h z m p = sym (pin-label z p .1) ∙ way-home v h .alike z m
+  -- no vertex on it but the root is a source
+  pub way-source : (v : ℕ) → v < n → (z : ℕ) → z ∈ (v ∷ wayPoints v) → z ∈ sources → z ≡ root T v
+  way-source v h z m p = sym (source-label z p .1) ∙ way-home v h .alike z m
 
-  pub way-goes-on : (v : ℕ) → v < n → (z : ℕ) → z ∈ (v ∷ wayPoints v) → (z ∈ pins → ⊥) → up P z ∈ wayPoints v
+  pub way-goes-on : (v : ℕ) → v < n → (z : ℕ) → z ∈ (v ∷ wayPoints v) → (z ∈ sources → ⊥) → up P z ∈ wayPoints v
   way-goes-on v h z m o = goes-on (far T v) v h (omega arith) z m o
 
   pub way-length : (v : ℕ) → v < n → wayLength (g .lengths) (T .fars) P v ≡ far T v

@@ -12,7 +12,8 @@ use borrow.Author.Tests.{ltb-true, ltb-false}
 use Rattle.lists.proofs.TestLaws.{by, differ, or-none}
 use Rattle.forest.specs.Bounds.{pointBound, unreached}
 use Rattle.forest.specs.Edges.{Graph, one, two, len, entries, FirstBelow, Below}
-use Rattle.forest.specs.Labels.{Labels, labels, far, root, better, gains, offer, relaxEdge, moves, relax, changes, settled, starts, unlabelled, Low}
+use Rattle.forest.specs.Labels.{Labels, labels, far, root, better, gains, offer, relaxEdge, moves, relax, changes, settled}
+use Rattle.forest.specs.Labels.{starts, unlabelled, Low}
 use Rattle.forest.proofs.EdgeLaws.{entries-next, entries-end, below-set, below-replicate}
 
 -- Offers
@@ -103,19 +104,19 @@ fine-unlabelled = record {
   rooted = below-replicate _ pointBound _ (omega arith);
 }
 
-fine-pins : (pins : List ℕ) (i n m : ℕ) (t : Labels) → i + n ≤ m → FirstBelow pins m pointBound → Fine t →
-    Fine (starts (entries pins i n) t)
+fine-sources : (sources : List ℕ) (i n m : ℕ) (t : Labels) → i + n ≤ m → FirstBelow sources m pointBound → Fine t →
+    Fine (starts (entries sources i n) t)
 unfolding starts entries
-fine-pins pins i zero m t h s f = f
-fine-pins pins i (suc n) m t h s f =
-    fine-pins pins (suc i) n m _ (omega arith) s (record {
-      low = low-set (t .fars) (getD pins i 0) 0 (omega arith) (f .low);
+fine-sources sources i zero m t h s f = f
+fine-sources sources i (suc n) m t h s f =
+    fine-sources sources (suc i) n m _ (omega arith) s (record {
+      low = low-set (t .fars) (getD sources i 0) 0 (omega arith) (f .low);
       rooted = below-set _ (t .roots) _ _ (s .inside i (omega arith)) (f .rooted);
     })
 
-pub fine-starts : (pins : List ℕ) (m : ℕ) (t t′ : Labels) → t′ ≡ starts (entries pins 0 m) t → FirstBelow pins m pointBound → Fine t →
-    Fine t′
-fine-starts pins m t t′ e s f = rw e (fine-pins pins 0 m m t (omega arith) s f)
+pub fine-starts : (sources : List ℕ) (m : ℕ) (t t′ : Labels) → t′ ≡ starts (entries sources 0 m) t → FirstBelow sources m pointBound →
+    Fine t → Fine t′
+fine-starts sources m t t′ e s f = rw e (fine-sources sources 0 m m t (omega arith) s f)
 
 -- A pass over edges
 
@@ -195,14 +196,15 @@ module _ (g : Graph) (ks : List ℕ) where
     unfolding settled
     settle-end e = sym (rw e refl) ∙ s .table
 
--- FirstBelow, one after the other
+-- Sources, one after the other
 
-pub start-more : (pins : List ℕ) (i m : ℕ) (fars roots : List ℕ) (all : Labels) → starts (entries pins i (m - i)) (labels fars roots)
-    ≡ all → i < m →
-    starts (entries pins (i + 1) (m - (i + 1))) (labels (set fars (getD pins i 0) 0) (set roots (getD pins i 0) (getD pins i 0))) ≡ all
+pub start-more : (sources : List ℕ) (i m : ℕ) (fars roots : List ℕ) (all : Labels) →
+    starts (entries sources i (m - i)) (labels fars roots) ≡ all → i < m →
+    starts (entries sources (i + 1) (m - (i + 1)))
+    (labels (set fars (getD sources i 0) 0) (set roots (getD sources i 0) (getD sources i 0))) ≡ all
 unfolding starts
-start-more pins i m fars roots all p h = sym (rw (entries-next i m pins h) refl) ∙ p
+start-more sources i m fars roots all p h = sym (rw (entries-next i m sources h) refl) ∙ p
 
-pub start-end : (pins : List ℕ) (i m : ℕ) (t all : Labels) → starts (entries pins i (m - i)) t ≡ all → m ≤ i → t ≡ all
+pub start-end : (sources : List ℕ) (i m : ℕ) (t all : Labels) → starts (entries sources i (m - i)) t ≡ all → m ≤ i → t ≡ all
 unfolding starts
-start-end pins i m t all p h = sym (rw (entries-end i m pins h) refl) ∙ p
+start-end sources i m t all p h = sym (rw (entries-end i m sources h) refl) ∙ p

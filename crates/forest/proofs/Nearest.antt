@@ -1,6 +1,6 @@
--- T6: the root is the nearest pin along the graph. A label is the least length of a way to a pin, and the smallest pin at that length. No
--- way of at most k links is better than the label after k passes; a loop-free way has fewer links than there are vertices; and every label
--- below `unreached` is that of a way, since an edge is at least 1 long.
+-- T6: the root is the nearest source along the graph. A label is the least length of a way to a source, and the smallest source at that
+-- length. No way of at most k links is better than the label after k passes; a loop-free way has fewer links than there are vertices; and
+-- every label below `unreached` is that of a way, since an edge is at least 1 long.
 -- Assumes nothing.
 use mathlib.Core.Path.{_≡_, refl, sym, ap, ap₂, _∙_, subst}
 use mathlib.Core.Logic.{inl, inr}
@@ -18,7 +18,7 @@ use Rattle.joined.specs.Joined.{Link, Alike}
 use Rattle.joined.specs.Way.{Way, stop, go, long}
 use Rattle.joined.proofs.JoinedLaws.{firsts, seconds}
 use Rattle.joined.proofs.WayLaws.{loop-free, joined-way}
-use Rattle.forest.specs.Bounds.{pointBound, lengthBound, unreached}
+use Rattle.forest.specs.Bounds.{pointBound, costBound, unreached}
 use Rattle.forest.specs.Edges.{Graph, one, two, len, from, Fits}
 use Rattle.forest.specs.Labels.{Labels, labels, far, root, offer, relaxEdge, relax, starts, unlabelled, labelled}
 use Rattle.forest.specs.Setting.{ends, pairs, Setting, Whole}
@@ -75,7 +75,7 @@ start-own n (p ∷ ps) t s h v m = at (λ i. start-own n ps next sized (λ q j. 
     at again (yes i) = again i
     at again (no i) = either (λ e. head e i) (λ j. absurd (i j)) (List·Memᴰ·cases-cons m)
 
-module _ {g : Graph} {n : ℕ} {d : ℕ → ℕ → ℕ} {pins : List ℕ} (s : Setting g n d pins) where
+module _ {g : Graph} {n : ℕ} {d : ℕ → ℕ → ℕ} {sources : List ℕ} (s : Setting g n d sources) where
   pub fits : Fits g
   fits = record {
     count = s .edges;
@@ -137,7 +137,7 @@ module _ {g : Graph} {n : ℕ} {d : ℕ → ℕ → ℕ} {pins : List ℕ} (s : 
     pub near-in : x < n
     pub far-in : y < n
     pub some : 1 ≤ d x y
-    pub short : d x y ≤ lengthBound
+    pub short : d x y ≤ costBound
 
   pub link-in : (x y : ℕ) → Link (pairs g) x y → Bounded x y
   link-in x y l =
@@ -168,7 +168,7 @@ module _ {g : Graph} {n : ℕ} {d : ℕ → ℕ → ℕ} {pins : List ℕ} (s : 
   -- No way is better
 
   abbrev first : Labels
-  first = starts pins unlabelled
+  first = starts sources unlabelled
 
   sized-unlabelled : Sized n unlabelled
   sized-unlabelled = record {
@@ -177,10 +177,10 @@ module _ {g : Graph} {n : ℕ} {d : ℕ → ℕ → ℕ} {pins : List ℕ} (s : 
   }
 
   sized-first : Sized n first
-  sized-first = sized-starts n pins unlabelled sized-unlabelled
+  sized-first = sized-starts n sources unlabelled sized-unlabelled
 
-  pin-first : (p : ℕ) → p ∈ pins → (far first p ≡ 0) × (root first p ≡ p)
-  pin-first p m = start-own n pins unlabelled sized-unlabelled (s .pins-in) p m
+  source-first : (p : ℕ) → p ∈ sources → (far first p ≡ 0) × (root first p ≡ p)
+  source-first p m = start-own n sources unlabelled sized-unlabelled (s .sources-in) p m
 
   abbrev after : ℕ → Labels
   after k = rounds g (from 0 (g .count)) k first
@@ -200,10 +200,10 @@ module _ {g : Graph} {n : ℕ} {d : ℕ → ℕ → ℕ} {pins : List ℕ} (s : 
           (in-from 0 (g .count) e (omega arith) (omega arith)) in
           either (λ c. rw (m, c .0, c .1) (r .1)) (λ c. rw (m, c .0, c .1) (r .0)) a
 
-  enough : (k : ℕ) {x p : ℕ} {ps : List ℕ} → Way (pairs g) x ps p → p ∈ pins → length ps ≤ k → Best (after k) x (long d x ps) p
+  enough : (k : ℕ) {x p : ℕ} {ps : List ℕ} → Way (pairs g) x ps p → p ∈ sources → length ps ≤ k → Best (after k) x (long d x ps) p
   unfolding long rounds
   enough k {x} {p} (stop e) h l =
-      let f = pin-first p h in
+      let f = source-first p h in
       rw e (lex-then (rounds-falls g (from 0 (g .count)) n first sized-first all-within k p) (lex-same (f .0) (f .1)))
   enough zero (go m w) h l = absurd (let z : ⊥ = omega arith in z)
   enough (suc k) {x} {p} (go {y = y} {ps = ps} m w) h l =
@@ -211,13 +211,13 @@ module _ {g : Graph} {n : ℕ} {d : ℕ → ℕ → ℕ} {pins : List ℕ} (s : 
       lex-then (link-meets k x y m) (omega (arith, i .0), λ j. i .1 (omega arith))
 
   abbrev T : Labels
-  T = labelled g n pins
+  T = labelled g n sources
 
   T-after : T ≡ after n
   unfolding labelled
   T-after = settled-rounds g (from 0 (g .count)) n first
 
-  pub best : {x p : ℕ} {ps : List ℕ} → x < n → Way (pairs g) x ps p → p ∈ pins → Best (labelled g n pins) x (long d x ps) p
+  pub best : {x p : ℕ} {ps : List ℕ} → x < n → Way (pairs g) x ps p → p ∈ sources → Best (labelled g n sources) x (long d x ps) p
   best {x} {p} {ps} h w i =
       let f = loop-free d ℕ-discrete w in
       let b = enough n (f .free .way) i (omega (arith, few-links (f .free .points) h (f .free .way) (f .free .once))) in
@@ -225,12 +225,12 @@ module _ {g : Graph} {n : ℕ} {d : ℕ → ℕ → ℕ} {pins : List ℕ} (s : 
 
   -- Every label is that of a way
 
-  -- a way of length f from v to the pin r
+  -- a way of length f from v to the source r
   pub record Reached (v f r : ℕ) : Type 0 where
     pub points : List ℕ
     pub way : Way (pairs g) v points r
     pub long-is : long d v points ≡ f
-    pub pin : r ∈ pins
+    pub source : r ∈ sources
 
   abbrev Sound : Labels → Type 0
   Sound t = (v : ℕ) → v < n → (far t v ≤ unreached) × (far t v < unreached → Reached v (far t v) (root t v))
@@ -240,7 +240,7 @@ module _ {g : Graph} {n : ℕ} {d : ℕ → ℕ → ℕ} {pins : List ℕ} (s : 
   sound-offer u v t z l h w i = at (after-offer n u v (d v u) t z (link-in v u l .near-in) w)
     where
       reach : Reached u (far t u) (root t u) → Reached v (far t u + d v u) (root t u)
-      reach r = record { points = u ∷ r .points; way = go l (r .way); long-is = omega (arith, r .long-is); pin = r .pin }
+      reach r = record { points = u ∷ r .points; way = go l (r .way); long-is = omega (arith, r .long-is); source = r .source }
 
       at : After n u v (d v u) t z (link-in v u l .near-in) w →
           (far (offer u v (d v u) t) w ≤ unreached)
@@ -276,15 +276,15 @@ module _ {g : Graph} {n : ℕ} {d : ℕ → ℕ → ℕ} {pins : List ℕ} (s : 
 
   sound-first : Sound first
   unfolding long
-  sound-first v h = at (is-in ℕ-discrete v pins)
+  sound-first v h = at (is-in ℕ-discrete v sources)
     where
-      at : Dec (v ∈ pins) → (far first v ≤ unreached) × (far first v < unreached → Reached v (far first v) (root first v))
+      at : Dec (v ∈ sources) → (far first v ≤ unreached) × (far first v < unreached → Reached v (far first v) (root first v))
       at (yes m) =
-          let f = pin-first v m in
-          rw (f .0, f .1) (omega arith, λ k. record { points = []; way = stop refl; long-is = refl; pin = m })
+          let f = source-first v m in
+          rw (f .0, f .1) (omega arith, λ k. record { points = []; way = stop refl; long-is = refl; source = m })
       at (no m) =
           let e : far first v ≡ unreached =
-          start-other pins unlabelled v m .0 ∙ getD-replicate pointBound v unreached 0 (omega (arith, s .vertices))
+          start-other sources unlabelled v m .0 ∙ getD-replicate pointBound v unreached 0 (omega (arith, s .vertices))
           in
           (omega arith, λ k. absurd (let z : ⊥ = omega arith in z))
 
@@ -293,17 +293,19 @@ module _ {g : Graph} {n : ℕ} {d : ℕ → ℕ → ℕ} {pins : List ℕ} (s : 
   sound-after zero = sound-first
   sound-after (suc k) = sound-relax (from 0 (g .count)) (λ j m. below-from (g .count) j m) (after k) (sized-after k) (sound-after k)
 
-  sound : Sound (labelled g n pins)
+  sound : Sound (labelled g n sources)
   sound = rw T-after (sound-after n)
 
-  pub far-low : (v : ℕ) → v < n → far (labelled g n pins) v ≤ unreached
+  pub far-low : (v : ℕ) → v < n → far (labelled g n sources) v ≤ unreached
   far-low v h = sound v h .0
 
-  pub reached : (v : ℕ) → v < n → far (labelled g n pins) v < unreached → Reached v (far (labelled g n pins) v) (root (labelled g n pins) v)
+  pub reached : (v : ℕ) → v < n → far (labelled g n sources) v < unreached
+      → Reached v (far (labelled g n sources) v) (root (labelled g n sources) v)
   reached v h k = sound v h .1 k
 
   -- no label is better than a neighbour's offers
-  pub closed : (x y : ℕ) → Link (pairs g) x y → Best (labelled g n pins) x (far (labelled g n pins) y + d x y) (root (labelled g n pins) y)
+  pub closed : (x y : ℕ) → Link (pairs g) x y
+      → Best (labelled g n sources) x (far (labelled g n sources) y + d x y) (root (labelled g n sources) y)
   unfolding long
   closed x y l = at (decLe unreached (far T y))
     where
@@ -311,7 +313,7 @@ module _ {g : Graph} {n : ℕ} {d : ℕ → ℕ → ℕ} {pins : List ℕ} (s : 
       at (no h) =
           let i = link-in x y l in
           let r = reached y (i .far-in) (omega arith) in
-          let b = best (i .near-in) (go l (r .way)) (r .pin) in
+          let b = best (i .near-in) (go l (r .way)) (r .source) in
           (omega (arith, b .0, r .long-is), λ j. b .1 (omega (arith, r .long-is)))
       at (yes h) =
           let i = link-in x y l in
@@ -321,31 +323,31 @@ module _ {g : Graph} {n : ℕ} {d : ℕ → ℕ → ℕ} {pins : List ℕ} (s : 
 
   -- Where the graph joins its vertices, every vertex is reached
 
-  way-short : {x y : ℕ} (ps : List ℕ) → Way (pairs g) x ps y → long d x ps ≤ lengthBound * length ps
+  way-short : {x y : ℕ} (ps : List ℕ) → Way (pairs g) x ps y → long d x ps ≤ costBound * length ps
   unfolding long
   way-short [] w = omega arith
   way-short {x} (y ∷ ps) (go l w) = omega (arith, link-in x y l .short, way-short ps w)
 
-  pub all-reached : Whole g n pins → (v : ℕ) → v < n → far (labelled g n pins) v < unreached
+  pub all-reached : Whole g n sources → (v : ℕ) → v < n → far (labelled g n sources) v < unreached
   all-reached whole v h =
-      let f = loop-free d ℕ-discrete (joined-way (whole .joined v (whole .pin) h (s .pins-in _ (whole .is-pin))) .1) in
+      let f = loop-free d ℕ-discrete (joined-way (whole .joined v (whole .source) h (s .sources-in _ (whole .is-source))) .1) in
       let w = f .free .way in
       omega (
         arith,
         few-links (f .free .points) h w (f .free .once),
         way-short (f .free .points) w,
-        best h w (whole .is-pin) .0,
+        best h w (whole .is-source) .0,
         s .vertices,
       )
 
-  -- T6: the root is the nearest pin along the graph, of several the smallest
-  pub record NearestPin (v f r : ℕ) : Type 0 where
+  -- T6: the root is the nearest source along the graph, of several the smallest
+  pub record NearestSource (v f r : ℕ) : Type 0 where
     pub is-reached : Reached v f r
-    pub nearest : (p : ℕ) (ps : List ℕ) → p ∈ pins → Way (pairs g) v ps p → f ≤ long d v ps
-    pub smallest : (p : ℕ) (ps : List ℕ) → p ∈ pins → Way (pairs g) v ps p → long d v ps ≡ f → r ≤ p
+    pub nearest : (p : ℕ) (ps : List ℕ) → p ∈ sources → Way (pairs g) v ps p → f ≤ long d v ps
+    pub smallest : (p : ℕ) (ps : List ℕ) → p ∈ sources → Way (pairs g) v ps p → long d v ps ≡ f → r ≤ p
 
-  pub nearest-pin : Whole g n pins → (v : ℕ) → v < n → NearestPin v (far (labelled g n pins) v) (root (labelled g n pins) v)
-  nearest-pin whole v h = record {
+  pub nearest-source : Whole g n sources → (v : ℕ) → v < n → NearestSource v (far (labelled g n sources) v) (root (labelled g n sources) v)
+  nearest-source whole v h = record {
     is-reached = reached v h (all-reached whole v h);
     nearest = λ p ps m w. best h w m .0;
     smallest = λ p ps m w e. best h w m .1 (omega arith);

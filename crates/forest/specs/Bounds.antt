@@ -1,5 +1,5 @@
--- The bounds of the router's own tables, those of `Net`; and numbers that no length reaches.
-use Prim.Native.Nat.{ℕ, _*_}
+-- The bounds of the router's own tables, those of `Net`; and what no sum of costs along a way reaches.
+use Prim.Native.Nat.{ℕ, _+_, _*_}
 use Rattle.net.specs.Bounds as net
 
 -- N23: at most 320 points and 1,280 edges
@@ -9,18 +9,14 @@ pointBound = net.pointBound
 abbrev pub edgeBound : ℕ
 edgeBound = net.edgeBound
 
--- N5: at most 64 pins
-abbrev pub pinBound : ℕ
-pinBound = net.pinBound
+-- the length of an edge at most: what metal between two places of the die costs
+abbrev pub costBound : ℕ
+costBound = net.costBound
 
--- the length of an edge at most: the distance of two places of the die
-abbrev pub lengthBound : ℕ
-lengthBound = net.coordinateBound * 4
-
--- the distance of a vertex that no pin has reached: above every length of a way
+-- The distance of a vertex that no source has reached. Above every length of a way: a way has fewer edges than there are points.
 abbrev pub unreached : ℕ
-unreached = 1099511627776
+unreached = pointBound * costBound
 
--- above every path's length, whatever the graph
+-- A path's length at most, whatever the graph: an edge, and from each of its ends a way to a root.
 abbrev pub pathBound : ℕ
-pathBound = 4398046511104
+pathBound = unreached * 2 + costBound

@@ -4,7 +4,7 @@ use mathlib.Core.List.{List, [], _∷_}
 use Prim.Native.Nat.{ℕ, zero, suc, _≤_, _<_}
 use lib.ListN.{length, getD, set}
 use Rattle.lent.specs.Over.{over}
-use Rattle.forest.specs.Bounds.{pointBound, edgeBound, lengthBound}
+use Rattle.forest.specs.Bounds.{pointBound, edgeBound, costBound}
 
 -- the ends of the edges, smaller ones and greater ones, their lengths, and how many edges there are
 pub record Graph : Type 0 where
@@ -48,7 +48,7 @@ pub record Fits (g : Graph) : Type 0 where
   pub one-in : (k : ℕ) → k < g .count → one g k < pointBound
   pub two-in : (k : ℕ) → k < g .count → two g k < pointBound
   pub some : (k : ℕ) → k < g .count → 1 ≤ len g k
-  pub short : (k : ℕ) → k < g .count → len g k ≤ lengthBound
+  pub short : (k : ℕ) → k < g .count → len g k ≤ costBound
 
 -- the ends of e edges are vertices
 pub record Ends (ones twos : List ℕ) (e : ℕ) : Type 0 where

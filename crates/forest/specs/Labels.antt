@@ -1,8 +1,9 @@
 -- Labels: how far each vertex is from its root, and the root.
 --
--- T6: the root is the nearest pin along the graph, of several the smallest. Labels are found by relaxation: each edge offers each of its
--- ends the label of the other one, farther by its length, until a pass over all edges changes nothing. That these are the least length of a
--- walk to a pin, and the smallest pin at that length, is proved in ../proofs/Nearest.antt.
+-- T6: the root is the nearest source along the graph, of several the smallest; for the terminal tree the sources are the pins. Labels are
+-- found by relaxation: each edge offers each of its ends the label of the other one, farther by its length, until a pass over all edges
+-- changes nothing. That these are the least length of a walk to a source, and the smallest source at that length, is proved in
+-- ../proofs/Nearest.antt.
 use mathlib.Core.Bool.{Bool, true, false, _||_}
 use mathlib.Core.List.{List, [], _∷_}
 use Prim.Native.Nat.{ℕ, zero, suc, _+_, _≤_}
@@ -57,18 +58,18 @@ unfoldable pub settled : ℕ → Graph → List ℕ → Labels → Labels
 settled zero g ks t = t
 settled (suc n) g ks t = elim (changes g ks t) [ true ↦ settled n g ks (relax g ks t) | false ↦ t ]
 
--- each pin is its own root, at no distance
+-- each source is its own root, at no distance
 unfoldable pub starts : List ℕ → Labels → Labels
 starts [] t = t
-starts (p ∷ ps) t = starts ps (labels (set (t .fars) p 0) (set (t .roots) p p))
+starts (s ∷ ss) t = starts ss (labels (set (t .fars) s 0) (set (t .roots) s s))
 
 -- no vertex is reached
 abbrev pub unlabelled : Labels
 unlabelled = labels (replicate pointBound unreached) (replicate pointBound 0)
 
--- the labels of a graph of n vertices with these pins
+-- the labels of a graph of n vertices with these sources
 unfoldable pub labelled : Graph → ℕ → List ℕ → Labels
-labelled g n pins = settled n g (from 0 (g .count)) (starts pins unlabelled)
+labelled g n sources = settled n g (from 0 (g .count)) (starts sources unlabelled)
 
 -- What the code keeps of distances: each is small enough to add to
 

@@ -1,14 +1,14 @@
 -- Roots, parents and ways on tables of vertex numbers.
 --
 -- A vertex is its number in the order of places, and an edge its number in the order of edges: so the order of numbers is the order of
--- places, and every tie is settled by the smaller number. A graph is three tables, the two ends of each edge and its length. Labels and
--- parents are tables too, by vertex. They are worked out from any set of sources; for the terminal tree these are the pins. The
--- definitions are ways of computing on these tables, the same that the code goes; that they are what rules T6 to T8 say is proved beside
--- them, in ../proofs: that labels are nearest sources (Nearest), that parents are the smallest neighbours on shortest ways and lead to
--- the root (Homeward).
+-- places, and every tie is settled by the smaller number. A graph is three tables, the two ends of each edge and its length. The length is
+-- whatever the caller hands over, from 1 to `costBound`: for a net it is what the edge costs. Labels and parents are tables too, by vertex.
+-- They are worked out from any set of sources, each of them a vertex; for the terminal tree these are the pins. The definitions are ways of
+-- computing on these tables, the same that the code goes; that they are what rules T6 to T8 say is proved beside them, in ../proofs: that
+-- labels are nearest sources (Nearest), that parents are the smallest neighbours on shortest ways and lead to the root (Homeward).
 --
---   Bounds     pointBound, edgeBound, pinBound      320, 1,280 and 64
---              unreached                            the distance of a vertex that no source has reached
+--   Bounds     pointBound, edgeBound, costBound     320 points and 1,280 edges, each at most 32,000,000 long
+--              unreached, pathBound                 the distance of a vertex that no source has reached; a path's length at most
 --   Edges      graph ea eb el e                     a graph by its tables
 --              one g k, two g k, len g k            the ends of edge k and its length
 --              from k n, entries xs k n             n numbers, or n entries of a table, from k on

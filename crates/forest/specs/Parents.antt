@@ -1,8 +1,8 @@
 -- Parents, and the way to the root.
 --
--- T7: the parent of a vertex that is no pin is its smallest neighbour on a shortest way to the same root.
--- Through w a shortest way of v runs when w has v's root and w's distance with the edge between them is v's distance. Pins have no parent:
--- none of their neighbours is nearer.
+-- T7: the parent of a vertex that is no source is its smallest neighbour on a shortest way to the same root.
+-- Through w a shortest way of v runs when w has v's root and w's distance with the edge between them is v's distance. Sources have no
+-- parent: none of their neighbours is nearer.
 use mathlib.Core.Path.{_≡_}
 use mathlib.Core.Bool.{Bool, true, false, _&&_}
 use mathlib.Core.List.{List, [], _∷_, map}

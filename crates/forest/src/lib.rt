@@ -1,11 +1,11 @@
 // Roots, parents and ways of a graph on tables: a vertex is its number in the order of places, an edge its number in the order of edges.
-// Edge k joins the vertices ea[k] and eb[k] and is el[k] long. What each table holds stands in specs/.
+// Edge k joins the vertices ea[k] and eb[k] and is el[k] long, which is what it costs. What each table holds stands in specs/.
 use net::Net;
 ghost use mathlib.Core.Path.{_≡_};
 ghost use mathlib.Core.Bool.{_||_};
 ghost use Prim.Native.Nat.{_+_, _≤_, _<_};
 ghost use lib.ListN.{getD};
-ghost use Rattle.forest.specs.Bounds.{pointBound, pinBound, lengthBound};
+ghost use Rattle.forest.specs.Bounds.{pointBound, costBound};
 ghost use Rattle.forest.specs.Edges.{graph, from, entries, Fits, FirstBelow};
 ghost use Rattle.forest.specs.Labels.{labels, better, gains, offer, relax, changes, settled, starts, unlabelled, labelled, Low};
 ghost use Rattle.forest.specs.Parents.{leads, nearer, through, parent, parents, orphans, adopted, parented, wayLength, Falls};
@@ -15,10 +15,8 @@ pub const POINTS: usize = Net::POINTS;
 
 pub const EDGES: usize = Net::EDGES;
 
-pub const PINS: usize = Net::PINS;
-
-// The distance of a vertex that no pin has reached.
-pub const UNREACHED: u64 = 1099511627776;
+// The distance of a vertex that no source has reached: above every way's, which has fewer edges than there are points.
+pub const UNREACHED: u64 = Net::POINTS as u64 * Net::COST;
 
 // A step from a vertex to a neighbour, and the edge over which it goes.
 pub struct Step {
@@ -41,7 +39,7 @@ fn is_better(f: u64, r: usize, g: u64, s: usize) -> bool
 // v takes u's label, d farther, where that is better; whether it did.
 fn offer(far: &mut [u64; POINTS], root: &mut [usize; POINTS], u: usize, v: usize, d: u64) -> bool
     requires { ⌜ (u < pointBound) × (v < pointBound) ⌝ }
-    requires { ⌜ (Low (now far)) × (d ≤ lengthBound) ⌝ }
+    requires { ⌜ (Low (now far)) × (d ≤ costBound) ⌝ }
     ensures { λ b. ⌜ b ≡ gains u v d (labels (now (far .entry)) (now (root .entry))) ⌝ }
     ensures { λ b. ⌜ labels (now (far .exit)) (now (root .exit)) ≡ offer u v d (labels (now (far .entry)) (now (root .entry))) ⌝ }
 {
@@ -64,7 +62,7 @@ fn relax_edge(
     d: u64,
 ) -> bool
     requires { ⌜ (a < pointBound) × (b < pointBound) ⌝ }
-    requires { ⌜ (Low (now far)) × (d ≤ lengthBound) ⌝ }
+    requires { ⌜ (Low (now far)) × (d ≤ costBound) ⌝ }
     ensures { λ m. ⌜ m ≡ (gains a b d (labels (now (far .entry)) (now (root .entry)))
         || gains b a d (offer a b d (labels (now (far .entry)) (now (root .entry))))) ⌝ }
     ensures { λ m. ⌜ labels (now (far .exit)) (now (root .exit))
@@ -123,17 +121,17 @@ fn settle(
     }
 }
 
-// Each of the m pins is its own root.
-fn start(pin: &[usize; PINS], m: usize, far: &mut [u64; POINTS], root: &mut [usize; POINTS])
-    requires { ⌜ (m ≤ pinBound) × (FirstBelow (now pin) m pointBound) ⌝ }
-    ensures { λ _. ⌜ labels (now (far .exit)) (now (root .exit)) ≡ starts (entries (now (pin .entry)) 0 m)
+// Each of the m sources is its own root.
+fn start(sources: &[usize; POINTS], m: usize, far: &mut [u64; POINTS], root: &mut [usize; POINTS])
+    requires { ⌜ (m ≤ pointBound) × (FirstBelow (now sources) m pointBound) ⌝ }
+    ensures { λ _. ⌜ labels (now (far .exit)) (now (root .exit)) ≡ starts (entries (now (sources .entry)) 0 m)
         (labels (now (far .entry)) (now (root .entry))) ⌝ }
 {
     let mut i = 0;
     while i < m {
-        let p = pin[i];
-        far[p] = 0;
-        root[p] = p;
+        let s = sources[i];
+        far[s] = 0;
+        root[s] = s;
         i += 1;
     }
 }
@@ -141,7 +139,7 @@ fn start(pin: &[usize; PINS], m: usize, far: &mut [u64; POINTS], root: &mut [usi
 // Whether w has v's root and a shortest way of v runs through w, over an edge of length d.
 fn leads(far: &[u64; POINTS], root: &[usize; POINTS], w: usize, v: usize, d: u64) -> bool
     requires { ⌜ (w < pointBound) × (v < pointBound) ⌝ }
-    requires { ⌜ (Low (now far)) × (d ≤ lengthBound) ⌝ }
+    requires { ⌜ (Low (now far)) × (d ≤ costBound) ⌝ }
     ensures { λ r. ⌜ r ≡ leads (labels (now (far .entry)) (now (root .entry))) w v d ⌝ }
 {
     (root[w] == root[v]) & (far[w] + d == far[v])
@@ -158,7 +156,7 @@ fn nearer(
     best: Step,
 ) -> Step
     requires { ⌜ (w < pointBound) × (v < pointBound) ⌝ }
-    requires { ⌜ (Low (now far)) × (d ≤ lengthBound) ⌝ }
+    requires { ⌜ (Low (now far)) × (d ≤ costBound) ⌝ }
     ensures { λ r. ⌜ r ≡ nearer (labels (now (far .entry)) (now (root .entry))) v w k d best ⌝ }
 {
     if leads(far, root, w, v, d) & (w < best.to) {
@@ -179,7 +177,7 @@ fn through(
     best: Step,
 ) -> Step
     requires { ⌜ (v < pointBound) × ((a < pointBound) × (b < pointBound)) ⌝ }
-    requires { ⌜ (Low (now far)) × (d ≤ lengthBound) ⌝ }
+    requires { ⌜ (Low (now far)) × (d ≤ costBound) ⌝ }
     ensures { λ r. ⌜ r ≡ through (labels (now (far .entry)) (now (root .entry))) v a b k d best ⌝ }
 {
     if v == a {
@@ -262,14 +260,14 @@ pub fn way_length(
     0
 }
 
-// The labels and the parents of a graph of n vertices with m pins, in tables that are fresh.
+// The labels and the parents of a graph of n vertices with m sources, in tables that are fresh.
 pub fn forest(
     ea: &[usize; EDGES],
     eb: &[usize; EDGES],
     el: &[u64; EDGES],
     e: usize,
     n: usize,
-    pin: &[usize; PINS],
+    sources: &[usize; POINTS],
     m: usize,
     far: &mut [u64; POINTS],
     root: &mut [usize; POINTS],
@@ -277,15 +275,15 @@ pub fn forest(
     via: &mut [usize; POINTS],
 )
     requires { ⌜ (Fits (graph (now ea) (now eb) (now el) e))
-        × ((n ≤ pointBound) × ((m ≤ pinBound) × (FirstBelow (now pin) m pointBound))) ⌝ }
+        × ((n ≤ pointBound) × ((m ≤ pointBound) × (FirstBelow (now sources) m pointBound))) ⌝ }
     requires { ⌜ (labels (now far) (now root) ≡ unlabelled) × (parents (now up) (now via) ≡ orphans) ⌝ }
     ensures { λ _. ⌜ labels (now (far .exit)) (now (root .exit)) ≡ labelled
-        (graph (now (ea .entry)) (now (eb .entry)) (now (el .entry)) e) n (entries (now (pin .entry)) 0 m) ⌝ }
+        (graph (now (ea .entry)) (now (eb .entry)) (now (el .entry)) e) n (entries (now (sources .entry)) 0 m) ⌝ }
     ensures { λ _. ⌜ parents (now (up .exit)) (now (via .exit)) ≡ parented
         (graph (now (ea .entry)) (now (eb .entry)) (now (el .entry)) e) n
-        (labelled (graph (now (ea .entry)) (now (eb .entry)) (now (el .entry)) e) n (entries (now (pin .entry)) 0 m)) ⌝ }
+        (labelled (graph (now (ea .entry)) (now (eb .entry)) (now (el .entry)) e) n (entries (now (sources .entry)) 0 m)) ⌝ }
 {
-    start(pin, m, &mut *far, &mut *root);
+    start(sources, m, &mut *far, &mut *root);
     settle(ea, eb, el, e, n, &mut *far, &mut *root);
     adopt(ea, eb, el, e, &*far, &*root, n, &mut *up, &mut *via);
 }

@@ -31,7 +31,7 @@ pub struct Net {
     pub weights: Weights,
 }
 
-// The bounds of pins, macros and coordinates, and how many numbers a pin and a macro have, are literals; the others follow.
+// The bounds of pins, macros, coordinates and weights, and how many numbers a pin and a macro have, are literals; the others follow.
 impl Net {
     // Numbers of a pin in the list of pins: its x and y. Nothing above this crate knows.
     pub const PIN_NUMBERS: usize = 2;
@@ -46,6 +46,9 @@ impl Net {
     // A coordinate lies between this and its negative.
     pub const COORDINATE: i32 = 1000000;
 
+    // A unit of metal costs from 1 to this, along either axis.
+    pub const WEIGHT: u8 = 8;
+
     // Points of the graph: the pins and four corners of each macro.
     pub const POINTS: usize = Net::PINS + Net::MACROS * 4;
 
@@ -54,6 +57,9 @@ impl Net {
 
     // Points of the refined tree: each round brings at most one more.
     pub const TREE_POINTS: usize = Net::POINTS + Net::PINS;
+
+    // What metal between two places costs at most: along either axis they are at most twice the bound of coordinates apart.
+    pub const COST: u64 = Net::COORDINATE as u64 * 4 * Net::WEIGHT as u64;
 }
 
 // Why an operation refuses; `number` in specs/Answer.antt has the number of each (C1 to C21).

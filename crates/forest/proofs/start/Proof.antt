@@ -1,4 +1,4 @@
--- `forest::start` meets its contract. The loop's invariant: the pins that are left, from the present labels, give what all give.
+-- `forest::start` meets its contract. The loop's invariant: the sources that are left, from the present labels, give what all give.
 -- The measure is how many they are.
 -- Assumes nothing.
 use mathlib.Core.Path.{_≡_, refl}
@@ -12,19 +12,19 @@ use Rattle.forest.proofs.start.Statement.{statement}
 use Rattle.forest.proofs.start.Tie as tie
 
 abbrev Inv-loop : tie.InvT-loop
-Inv-loop pin m far₀ root₀ i₀ far root i = (i ≤ m) × (starts (entries pin i (m - i)) (labels far root) ≡ starts (entries pin 0 m) (labels far₀ root₀))
+Inv-loop sources m far₀ root₀ i₀ far root i = (i ≤ m) × (starts (entries sources i (m - i)) (labels far root) ≡ starts (entries sources 0 m) (labels far₀ root₀))
 
 abbrev μ-loop : tie.MeasureT-loop
-μ-loop pin m far₀ root₀ i₀ far root i = m - i
+μ-loop sources m far₀ root₀ i₀ far root i = m - i
 
 loop-holds : tie.Need-loop-holds Inv-loop μ-loop
 loop-holds c = (omega arith, rw (all-left (c .args .m)) refl)
 
-mul-p : tie.Need-mul-p Inv-loop μ-loop
-mul-p c = omega arith
+mul-s : tie.Need-mul-s Inv-loop μ-loop
+mul-s c = omega arith
 
-element-copy-out-p : tie.Need-element-copy-out-p Inv-loop μ-loop
-element-copy-out-p c = omega arith
+element-copy-out-s : tie.Need-element-copy-out-s Inv-loop μ-loop
+element-copy-out-s c = omega arith
 
 mul-far : tie.Need-mul-far Inv-loop μ-loop
 mul-far c =
@@ -63,8 +63,8 @@ start-spec =
     Inv-loop
     μ-loop
     loop-holds
-    mul-p
-    element-copy-out-p
+    mul-s
+    element-copy-out-s
     mul-far
     element-write-far
     mul-root
