@@ -33,7 +33,7 @@ use Rattle.forest.specs.Setting.{ends, pairs}
 use Rattle.forest.proofs.EdgeLaws.{below-from}
 use Rattle.terminal.proofs.WholeLaws.{of-kept}
 use Rattle.forest.proofs.Nearest.{link-in}
-use Rattle.forest.proofs.Homeward.{root-pin}
+use Rattle.forest.proofs.Homeward.{root-source}
 use Rattle.terminal.specs.Number.{numberOf, vertexAt, edgeAt, pinNumbers}
 use Rattle.terminal.specs.Tree.{graphOf, treeOf, pathsOf, rootOf, rootsOf}
 use Rattle.terminal.specs.Stands.{Kept, PathOf, keptEnds}
@@ -85,7 +85,7 @@ module _ {net : Net} (a : Allowed net) where
     pair = edge-places;
     inside = λ i j m. (let r = link-in (setting a) i j (inl m) in (r .near-in, r .far-in));
     undone = number-of-vertex vs (vertices-ascending net);
-    pin-in = setting a .pins-in;
+    pin-in = setting a .sources-in;
     pin = pin-place;
     pin-back = pin-number-in vs (net .pins);
   }
@@ -137,7 +137,7 @@ module _ {net : Net} (a : Allowed net) where
   root-by-number v = refl
 
   pub root-below : (i : ℕ) → i < length (verticesOf net) → root T i < length (verticesOf net)
-  root-below i h = setting a .pins-in _ (root-pin (setting a) (whole a) i h)
+  root-below i h = setting a .sources-in _ (root-source (setting a) (whole a) i h)
 
   pub root-number : (i : ℕ) → i < length (verticesOf net) → numberOf (verticesOf net) (vertexAt (verticesOf net) (root T i)) ≡ root T i
   root-number i h = number-of-vertex vs (vertices-ascending net) (root T i) (root-below i h)

@@ -43,7 +43,7 @@ use Rattle.terminal.proofs.PathParts.{path-parts}
 use Rattle.terminal.proofs.BridgeLaws.{earlier-le, earlier-order, of-bridges, bridges-ascending}
 use Rattle.terminal.proofs.WholeLaws.{of-kept, weights-at}
 use Rattle.forest.proofs.Nearest.{fits, edges-among, joint, edge-long, link-in, best, closed}
-use Rattle.forest.proofs.Homeward.{pin-label, root-pin, wayPoints, Home, way-home, way-once, way-pin, way-length}
+use Rattle.forest.proofs.Homeward.{source-label, root-source, wayPoints, Home, way-home, way-once, way-source, way-length}
 
 module _ {g : Graph} {n : ℕ} {d : ℕ → ℕ → ℕ} {pins : List ℕ} (s : Setting g n d pins) (whole : Whole g n pins) where
   abbrev T : Labels
@@ -87,12 +87,12 @@ module _ {g : Graph} {n : ℕ} {d : ℕ → ℕ → ℕ} {pins : List ℕ} (s : 
       points = turned u (wayPoints s whole u) (v ∷ wayPoints s whole v);
       way = way-more (edges-among s (pathEdges g (T .fars) P k) inside) run;
       once = turned-once (hu .along) (v ∷ wayPoints s whole v) ou (λ m. ne (hv .alike u m), ov) apart;
-      start-pin = root-pin s whole u iu;
-      finish-pin = root-pin s whole v iv;
+      start-pin = root-source s whole u iu;
+      finish-pin = root-source s whole v iv;
       apart = ne;
       inner = λ z m p.
           either (λ q. inl q)
-          (λ i. either (λ j. inl (way-pin s whole u iu z j p)) (λ j. inr (way-pin s whole v iv z j p))
+          (λ i. either (λ j. inl (way-source s whole u iu z j p)) (λ j. inr (way-source s whole v iv z j p))
           (of-turned-way u (wayPoints s whole u) (v ∷ wayPoints s whole v) z i)) (List·Memᴰ·cases-cons m);
     };
     start-is = refl;
@@ -226,8 +226,8 @@ module _ {g : Graph} {n : ℕ} {d : ℕ → ℕ → ℕ} {pins : List ℕ} (s : 
   pub dominated : {p q : ℕ} {ps : List ℕ} → Way (pairs g) p ps q → p ∈ pins → q ∈ pins → Dominated (rootsOf g T) weight L (p, q)
       (long d p ps)
   dominated {p} {q} {ps} w h k =
-      let a = pin-label s whole p h in
-      let b = pin-label s whole q k in
+      let a = source-label s whole p h in
+      let b = source-label s whole q k in
       between (sym (a .1)) (sym (b .1)) (along (long d p ps) 0 w k (omega (arith, a .0)) (omega arith))
 
   -- The bridges join the pins, and lighter ones come first
@@ -244,14 +244,14 @@ module _ {g : Graph} {n : ℕ} {d : ℕ → ℕ → ℕ} {pins : List ℕ} (s : 
   pub offered : Offered (rootsOf g T) weight pins L
   offered = record {
     once = whole .once;
-    some = whole .pin;
-    stands = whole .is-pin;
+    some = whole .source;
+    stands = whole .is-source;
     inside = λ a b m.
         (let r = of-map (rootsOf g T) L m in
         let h = bridge-is (r .entry) (r .stands) .0 in (
-          rw (firsts (r .is)) (root-pin s whole _ (s .one-in (r .entry) h)),
+          rw (firsts (r .is)) (root-source s whole _ (s .one-in (r .entry) h)),
           rw (seconds (r .is))
-              (root-pin s whole _ (s .two-in (r .entry) h)),
+              (root-source s whole _ (s .two-in (r .entry) h)),
         ));
     joins = λ x y i k. joined x y i k;
     rising = ascending-rising;
@@ -259,7 +259,7 @@ module _ {g : Graph} {n : ℕ} {d : ℕ → ℕ → ℕ} {pins : List ℕ} (s : 
     where
       joined : (x y : ℕ) → x ∈ pins → y ∈ pins → Joined (map (rootsOf g T) L) x y
       joined x y i k =
-          let w = joined-way (whole .joined x y (s .pins-in x i) (s .pins-in y k)) in
+          let w = joined-way (whole .joined x y (s .sources-in x i) (s .sources-in y k)) in
           let t = long d x (w .0) in
           more (map-among (rootsOf g T) (light weight t L) L (λ j m. of-light weight t L m .0)) (dominated (w .1) i k)
 
@@ -277,8 +277,8 @@ module _ {g : Graph} {n : ℕ} {d : ℕ → ℕ → ℕ} {pins : List ℕ} (s : 
       table-keeps (rootsOf g T) pointBound L
       (λ k m.
       (let h = bridge-is k m .0 in (
-        omega (arith, s .pins-in _ (root-pin s whole _ (s .one-in k h)), s .vertices),
-        omega (arith, s .pins-in _ (root-pin s whole _ (s .two-in k h)), s .vertices),
+        omega (arith, s .sources-in _ (root-source s whole _ (s .one-in k h)), s .vertices),
+        omega (arith, s .sources-in _ (root-source s whole _ (s .two-in k h)), s .vertices),
       )))
       (from 0 pointBound) (omega (arith, length-from 0 pointBound)) (λ x h. omega (arith, getD-from 0 pointBound x h))
 

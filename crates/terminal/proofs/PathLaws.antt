@@ -24,7 +24,8 @@ use Rattle.graph.specs.Vertices.{vertices}
 use Rattle.graph.specs.Numbers.{edgeFrom}
 use Rattle.graph.proofs.VertexLaws.{pin-vertex, vertices-ascending}
 use Rattle.graph.proofs.GraphBounds.{few-vertices, few-edges}
-use Rattle.forest.specs.Bounds.{pointBound, pinBound, pathBound}
+use Rattle.net.specs.Bounds.{pinBound}
+use Rattle.forest.specs.Bounds.{pointBound, pathBound}
 use Rattle.forest.specs.Edges.{from, entries as entriesIn, FirstBelow, Listed}
 use Rattle.forest.specs.Labels.{labelled}
 use Rattle.forest.specs.Parents.{parented}

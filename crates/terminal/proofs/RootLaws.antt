@@ -25,7 +25,7 @@ use Rattle.graph.proofs.VertexLaws.{vertices-ascending}
 use Rattle.terminal.specs.Kept.{terminal}
 use Rattle.forest.specs.Labels.{far, root}
 use Rattle.forest.specs.Parents.{up}
-use Rattle.forest.proofs.Nearest.{link-in, NearestPin, nearest-pin}
+use Rattle.forest.proofs.Nearest.{link-in, NearestSource, nearest-source}
 use Rattle.forest.proofs.Homeward.{Through as Onto, parent-through, Upward, arrived as there, onto, parent-is}
 use Rattle.forest.proofs.Homeward.{wayPoints, way-upward, way-runs, way-once, way-home as way-home-by-number}
 use Rattle.terminal.specs.Number.{numberOf, vertexAt}
@@ -74,12 +74,12 @@ module _ {net : Net} (a : Allowed net) where
     abbrev number : ℕ
     number = numberOf (verticesOf net) v
 
-    near : NearestPin (setting a) number (far (T a) number) (root (T a) number)
-    near = nearest-pin (setting a) (whole a) number (number-in v i)
+    near : NearestSource (setting a) number (far (T a) number) (root (T a) number)
+    near = nearest-source (setting a) (whole a) number (number-in v i)
 
     pub nearest-root : NearestRoot net v
     nearest-root = record {
-      is-pin = rw (root-by-number a v) (to-places a .pin _ (near .is-reached .pin));
+      is-pin = rw (root-by-number a v) (to-places a .pin _ (near .is-reached .source));
       points = map (vertexAt vs) (near .is-reached .points);
       walk = rw (root-by-number a v) (way-cast (sym (again v i)) (way-places a (near .is-reached .way)));
       walk-long =

@@ -81,7 +81,7 @@ module _ {net : Net} (a : Allowed net) where
     some = λ k h. rw (len-is k h) (edge-least a _ (edge-in k h));
     short = λ k h. rw (len-is k h) (edge-bound a _ (edge-in k h));
     even = λ i j. cost-comm (net .weights) _ _;
-    pins-in = λ p m. pin-small vs (net .pins) (vertices-ascending net) pin-in p m;
+    sources-in = λ p m. pin-small vs (net .pins) (vertices-ascending net) pin-in p m;
   }
 
   -- an edge of places is an edge of their numbers
@@ -116,8 +116,8 @@ module _ {net : Net} (a : Allowed net) where
       let p = first-pin (net .pins) (a .some-pin) in
       record {
         joined = joins;
-        pin = numberOf vs (p .0);
-        is-pin = pin-number-in vs (net .pins) (p .0) (p .1);
+        source = numberOf vs (p .0);
+        is-source = pin-number-in vs (net .pins) (p .0) (p .1);
         once = pins-once vs (net .pins) (vertices-ascending net) pin-in;
       }
 

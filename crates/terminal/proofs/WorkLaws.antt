@@ -16,6 +16,7 @@ use Rattle.plane.specs.declared.Place.{Place}
 use Rattle.plane.specs.declared.Macro.{Macro}
 use Rattle.plane.specs.Place.{before}
 use Rattle.plane.specs.Flat.{macrosOf, placeFrom}
+use Rattle.plane.specs.Cost.{plain}
 use Rattle.net.specs.Allowed.{Allowed}
 use Rattle.net.specs.Net.{Net}
 use Rattle.graph.specs.Spanning.{verticesOf, spanning}
@@ -24,7 +25,7 @@ use Rattle.graph.specs.Numbers.{placeNumbers, edgeNumbers, edgeFrom}
 use Rattle.graph.proofs.VertexLaws.{pin-vertex, vertices-ascending, length-vertices}
 use Rattle.graph.proofs.GraphBounds.{few-vertices, few-edges}
 use Rattle.graph.proofs.WidthLaws.{place-width, edge-width}
-use Rattle.forest.specs.Bounds.{pointBound, edgeBound, pinBound}
+use Rattle.forest.specs.Bounds.{pointBound, edgeBound}
 use Rattle.forest.specs.Edges.{graph, entries as entriesIn, Fits, FirstBelow, Listed}
 use Rattle.forest.specs.Labels.{labels}
 use Rattle.forest.specs.Parents.{parents}
@@ -47,7 +48,7 @@ pins-alone ps = ap (sorted before) (append-nil ps)
 
 pub pins-few : (ps : List Place) → length (vertices ps (macrosOf [])) ≤ length ps
 unfolding macrosOf
-pins-few ps = omega (arith, length-vertices ps [])
+pins-few ps = omega (arith, length-vertices (record { pins = ps; macros = []; weights = plain }))
 
 pub pins-numbered : (vs ps : List Place) (lent table : List ℤ) (numbers last : List ℕ) (m : ℕ)
     → m ≡ length (vertices ps (macrosOf [])) → table ≡ over (flat placeNumbers (vertices ps (macrosOf []))) lent

@@ -8,7 +8,7 @@ use Rattle.lists.specs.Sorted.{position}
 use Rattle.lent.specs.Over.{over}
 use Rattle.plane.specs.declared.Place.{Place}
 use Rattle.plane.specs.Place.{place}
-use Rattle.plane.specs.Flat.{placesOf, macrosOf}
+use Rattle.net.specs.Net.{netOf}
 use Rattle.net.specs.WorkedNets.{Lists, onePin, aroundOne, threePins, sharedSide, onSides, onBoundary}
 use Rattle.graph.proofs.WorkedGraphs.{graphOf as worked}
 use Rattle.terminal.proofs.WorkedTrees.{tree}
@@ -22,9 +22,9 @@ pub record Paths : Type 0 where
 -- the paths of a net and their total; to unfold this is to unfold all that it rests on
 unfoldable pub treeIn : Lists → Paths
 unfolding worked tree position over numbered pinNumbers treeOf pathsOf
-treeIn net = record {
-  paths = pathsOf (placesOf (net .pins)) (macrosOf (net .macros));
-  total = totalOf (placesOf (net .pins)) (macrosOf (net .macros));
+treeIn lists = record {
+  paths = pathsOf (netOf (lists .pins) (lists .macros));
+  total = totalOf (netOf (lists .pins) (lists .macros));
 }
 
 -- a path by its bridge's four numbers and its length

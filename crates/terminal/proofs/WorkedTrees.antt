@@ -8,6 +8,7 @@ use Rattle.lists.specs.Sorted.{firstThen, put, sorted}
 use Rattle.lists.specs.Those.{those}
 use Rattle.lists.specs.Total.{total}
 use Rattle.joined.specs.Table.{changed, keptBy}
+use Rattle.forest.specs.Bounds.{unreached}
 use Rattle.forest.specs.Edges.{Graph, graph, from, filled}
 use Rattle.forest.specs.Labels.{better, gains, offer, relaxEdge, moves, relax, changes, settled, starts, labelled}
 use Rattle.forest.specs.Parents.{leads, nearer, through, parentAmong, parent, adopted, parented, wayOf, way}
@@ -84,7 +85,7 @@ pub record Table : Type 0 where
   pub smaller-parent :
       forest twoWays 5 (4 ∷ [])
       ≡ record {
-        far = 2 ∷ 1 ∷ 1 ∷ 1099511627776 ∷ 0 ∷ [];
+        far = 2 ∷ 1 ∷ 1 ∷ unreached ∷ 0 ∷ [];
         root = 4 ∷ 4 ∷ 4 ∷ 0 ∷ 4 ∷ [];
         parent = 1 ∷ 4 ∷ 4 ∷ 320 ∷ 320 ∷ [];
         edge = 1 ∷ 2 ∷ 3 ∷ 1280 ∷ 1280 ∷ [];

@@ -10,7 +10,7 @@ use Rattle.plane.specs.declared.Place.{Place}
 use Rattle.net.specs.Net.{Net}
 use Rattle.graph.specs.Spanning.{verticesOf, spanning}
 use Rattle.graph.specs.Numbers.{placeNumbers, edgeNumbers, edgeFrom}
-use Rattle.forest.specs.Bounds.{pointBound, edgeBound, pinBound, pathBound}
+use Rattle.forest.specs.Bounds.{pointBound, edgeBound, pathBound}
 use Rattle.forest.specs.Edges.{graph, from, Listed}
 use Rattle.forest.specs.Labels.{labels, unlabelled}
 use Rattle.forest.specs.Parents.{parents, orphans}

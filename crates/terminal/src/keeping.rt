@@ -7,7 +7,7 @@ ghost use mathlib.Core.Path.{_≡_};
 ghost use mathlib.Core.List.{map};
 ghost use Prim.Native.Nat.{_+_, _≤_, _<_};
 ghost use lib.ListN.{length, getD};
-ghost use Rattle.forest.specs.Bounds.{pointBound, edgeBound, pinBound, pathBound};
+ghost use Rattle.forest.specs.Bounds.{pointBound, edgeBound, pathBound};
 ghost use Rattle.forest.specs.Edges.{graph, entries, filled, Fits, Named, FirstBelow, Below, Listed};
 ghost use Rattle.forest.specs.Labels.{labels, unlabelled, Low};
 ghost use Rattle.forest.specs.Parents.{parents, orphans, Falls};

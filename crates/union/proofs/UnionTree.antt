@@ -39,7 +39,7 @@ use Rattle.forest.proofs.ParentLaws.{falls-parented}
 use Rattle.forest.proofs.WayLaws.{way-none, way-step, nearer-by}
 use Rattle.terminal.proofs.WholeLaws.{of-kept}
 use Rattle.forest.proofs.Nearest.{fits}
-use Rattle.forest.proofs.Homeward.{pin-label, root-pin, far-off, Parent, parent-is, pin-parent, way-home}
+use Rattle.forest.proofs.Homeward.{source-label, root-source, far-off, Parent, parent-is, source-parent, way-home}
 use Rattle.terminal.proofs.OurTree.{kept-count, ours-tree}
 use Rattle.union.specs.Union.{stands, bothEnds, keptEdges, unionEdges, unionPoints}
 use Rattle.union.proofs.StandsLaws.{in-stands, of-stands, in-flat, of-flat, total-flat, once-join, picked-once}
@@ -81,7 +81,7 @@ module _ {g : Graph} {n : ℕ} {d : ℕ → ℕ → ℕ} {pins : List ℕ} (s : 
 
   pin-way : (v : ℕ) → v ∈ pins → home v ≡ []
   unfolding way
-  pin-way v m = way-none P (far T v) v (omega (arith, pin-parent s whole v m))
+  pin-way v m = way-none P (far T v) v (omega (arith, source-parent s whole v m))
 
   next-way : (v : ℕ) → v < n → (v ∈ pins → ⊥) → home v ≡ via P v ∷ home (up P v)
   next-way v h m =
@@ -208,7 +208,7 @@ module _ {g : Graph} {n : ℕ} {d : ℕ → ℕ → ℕ} {pins : List ℕ} (s : 
       in-those (λ w. stands w (pins ++ Ends)) (from 0 n) (in-from 0 n v (omega arith) (omega arith)) (in-stands v (pins ++ Ends) m)
 
   pub pin-point : Among pins W
-  pin-point v m = in-points v (s .pins-in v m) (Memᴰ·append-left Ends m)
+  pin-point v m = in-points v (s .sources-in v m) (Memᴰ·append-left Ends m)
 
   pub first-point : (k : ℕ) → k ∈ E → one g k ∈ W
   first-point k m =
@@ -411,8 +411,8 @@ module _ {g : Graph} {n : ℕ} {d : ℕ → ℕ → ℕ} {pins : List ℕ} (s : 
   hangs = record {
     once = sorted-once;
     roots = ours-tree s whole;
-    itself = λ r m. pin-label s whole r m .1;
-    rooting = λ v m. root-pin s whole v (point-inside v (of-sorted-point v m));
+    itself = λ r m. source-label s whole r m .1;
+    rooting = λ v m. root-source s whole v (point-inside v (of-sorted-point v m));
     stands = λ v m. sorted-point (up P v) (lower-point v (parent v m .ends-are) (upper-edge v m) .1);
     nearer = nearer-up;
     alike = λ v m. parent v m .is .same-root;

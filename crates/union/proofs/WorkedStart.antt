@@ -61,7 +61,7 @@ module _ {net : Net} (a : Allowed net) {lent t : Tables} {r : Tree} (w : Worked 
         one-in = s .one-in;
         two-in = s .two-in;
         pins-few = omega (arith, w .pin-count, a .few-pins);
-        pins-in = record { inside = λ i h. omega (arith, few-vertices a, s .pins-in _ (entry-listed _ _ _ _ (w .pins-are) i h)) };
+        pins-in = record { inside = λ i h. omega (arith, few-vertices a, s .sources-in _ (entry-listed _ _ _ _ (w .pins-are) i h)) };
         kept-few = omega (arith, w .bridges-are .count, paths-count a, a .few-pins);
         kept-in = record { inside = λ i h. of-kept _ _ _ _ (entry-listed _ _ _ _ (w .bridges-are) i h) .0 };
         room = rw (read-listed _ _ _ _ (w .bridges-are)) (union-less a);

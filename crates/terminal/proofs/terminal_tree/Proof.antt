@@ -25,10 +25,10 @@ module _ (d : tie.After-chart) where
   begun = d .before .before .before
 
   abbrev points : List ℤ
-  points = d .chart .last .1 .1 .0
+  points = d .chart .last .1 .1 .1 .0
 
   abbrev links : List ℤ
-  links = d .chart .last .1 .1 .1 .0
+  links = d .chart .last .1 .1 .1 .1 .0
 
   charted :
       Charted (netWith (begun .args .w) (now (begun .args .pins)) (now (begun .args .macros))) (lent begun) points links
