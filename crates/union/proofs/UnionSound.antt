@@ -46,8 +46,8 @@ use Rattle.terminal.specs.Tree.{graphOf, treeOf, totalOf}
 use Rattle.terminal.proofs.NumberLaws.{ascending-at, count-of, one-of, vertex-order, vertex-of-number, pin-number-in}
 use Rattle.terminal.proofs.SettingOf.{setting, whole, edge-at, one-vertex, two-vertex}
 use Rattle.tree.specs.Table.{key, firstEnd, secondEnd, pointBound, Tree}
-use Rattle.tree.specs.Places.{endsOf, pointsOf, edgesOf, keyLength, InOrder, Ranked, Sound}
-use Rattle.tree.specs.Places.{metalOf}
+use Rattle.tree.specs.Places.{endsOf, pointsOf, edgesOf, keyCost, InOrder, Ranked, Sound}
+use Rattle.tree.specs.Places.{totalOf as treeTotal}
 use Rattle.tree.specs.Sum.{below}
 use Rattle.tree.proofs.ListingLaws.{listing-length, in-listing, of-listing, listing-once}
 use Rattle.tree.proofs.SumLaws.{below-same}
@@ -209,7 +209,7 @@ module _ {net : Net} (a : Allowed net) where
       let c = edge-below k (getD-in E i 0 h) in
       rw (first i h, second i h, one-vertex a k c, two-vertex a k c) (edge-at a k c .is-clear)
 
-  edge-long : (i : ℕ) → i < length E → keyLength points (getD keys i 0) ≡ len g (getD E i 0)
+  edge-long : (i : ℕ) → i < length E → keyCost (net .weights) points (getD keys i 0) ≡ len g (getD E i 0)
   edge-long i h =
       let k = getD E i 0 in
       ap₂ (costIn net) (first i h) (second i h) ∙ setting a .measured k (edge-below k (getD-in E i 0 h))
@@ -322,12 +322,12 @@ module _ {net : Net} (a : Allowed net) where
           omega arith)
           (later k l m q (ltb-true k l (ascending-at ltb E union-ascending i j 0 e h))))
 
-  -- it has no more metal than the kept paths
-  pub union-metal : metalOf (unionOf net) ≤ totalOf net
+  -- it costs no more than the kept paths
+  pub union-cost : treeTotal (net .weights) (unionOf net) ≤ totalOf net
   unfolding unionOf startOf
-  union-metal =
-      let e : below (λ i. keyLength points (getD keys i 0)) (length E) ≡ total (map (len g) E) =
-      below-same (λ i. keyLength points (getD keys i 0)) (λ i. len g (getD E i 0)) (length E) edge-long ∙ below-total (len g) E in
+  union-cost =
+      let e : below (λ i. keyCost (net .weights) points (getD keys i 0)) (length E) ≡ total (map (len g) E) =
+      below-same (λ i. keyCost (net .weights) points (getD keys i 0)) (λ i. len g (getD E i 0)) (length E) edge-long ∙ below-total (len g) E in
       omega (arith, e, number-total)
 
   -- a round may bring a point, and there are as many rounds as pins
