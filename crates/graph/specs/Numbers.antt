@@ -4,9 +4,7 @@ use Prim.Native.Nat.{ℕ, _+_}
 use lib.IntN.{ℤ}
 use Rattle.plane.specs.declared.Place.{Place}
 use Rattle.plane.specs.Flat.{placeFrom}
-
-abbrev pub placeNumbers : Place → List ℤ
-placeNumbers p = p .x ∷ (p .y ∷ [])
+pub use Rattle.plane.specs.Flat.{placeNumbers}
 
 abbrev pub edgeNumbers : Place × Place → List ℤ
 edgeNumbers e = e .0 .x ∷ (e .0 .y ∷ (e .1 .x ∷ (e .1 .y ∷ [])))

@@ -29,6 +29,10 @@ placeFrom s k = place (getD s k (pos 0)) (getD s (k + 1) (pos 0))
 abbrev pub placeAt : List ℤ → ℕ → Place
 placeAt s i = placeFrom s (i * 2)
 
+-- the numbers of a place
+abbrev pub placeNumbers : Place → List ℤ
+placeNumbers p = p .x ∷ (p .y ∷ [])
+
 -- the macro that begins at the number k of a flat list, and the i-th macro
 abbrev pub macroFrom : List ℤ → ℕ → Macro
 macroFrom s k = macro (getD s k (pos 0)) (getD s (k + 1) (pos 0)) (getD s (k + 2) (pos 0)) (getD s (k + 3) (pos 0))

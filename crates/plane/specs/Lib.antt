@@ -14,6 +14,7 @@
 --              meets a b m         interiorsMeet m n             a closed box, or another interior, meets a macro's interior
 --              clear a b ms                                      the box of two places meets no interior of ms
 --   Flat       placesOf, macrosOf  placeAt, macroAt              the entries that a flat list holds, all of them and the i-th
+--              placeNumbers p                                    a place as its two numbers
 --              flatPlaces, flatMacros                            entries as a flat list
 pub mod Place
 pub mod Distance

@@ -5,12 +5,13 @@ ghost use mathlib.Core.Path.{_≡_};
 ghost use Prim.Native.Nat.{_+_, _*_, _≤_, _^_, _<_};
 ghost use lib.IntN.{pos, _-ℤ_, natAbs};
 ghost use lib.ListN.{length, set};
+ghost use lib.Seq.{sets};
 ghost use Rattle.plane.specs.Place.{before, samePlace};
 ghost use Rattle.plane.specs.Distance.{apart, distance};
 ghost use Rattle.plane.specs.Cost.{cost, costLimit};
 ghost use Rattle.plane.specs.Middle.{middle, middlePlace};
 ghost use Rattle.plane.specs.Macro.{spanMeets, meets, openSpansMeet, interiorsMeet, clear};
-ghost use Rattle.plane.specs.Flat.{macrosOf, macroAt, placeAt};
+ghost use Rattle.plane.specs.Flat.{macrosOf, macroAt, placeAt, placeNumbers};
 ghost use Rattle.signed.specs.Order.{minZ, maxZ};
 ghost use Rattle.signed.specs.Sides.{down};
 
@@ -162,6 +163,18 @@ pub fn place_at(places: &[i32], i: usize) -> Place
         x: places[k],
         y: places[k + 1],
     }
+}
+
+// p as the i-th place of a flat list.
+pub fn put_place(places: &mut [i32], i: usize, p: Place)
+    requires { ⌜ i * 2 + 2 ≤ length (now places) ⌝ }
+    ensures { λ _. ⌜ now (places .exit) ≡ sets (now (places .entry)) (i * 2) (placeNumbers p) ⌝ }
+{
+    let k = i * 2;
+    let x = p.x;
+    let y = p.y;
+    places[k] = x;
+    places[k + 1] = y;
 }
 
 // The i-th macro of a flat list.
