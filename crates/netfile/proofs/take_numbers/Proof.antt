@@ -12,7 +12,7 @@ use denote.Ref.{now}
 use mir.Syntax.{w32}
 use mir.ValLaws.{toZ-ofZ}
 use Rattle.lent.specs.Over.{over}
-use Rattle.netfile.specs.Layout.{blocksFor}
+use Rattle.netfile.specs.Sizes.{blocksFor}
 use Rattle.netfile.specs.Read.{numbersIn}
 use Rattle.netfile.proofs.ReadLaws.{numbers-more}
 use Rattle.netfile.proofs.take_numbers.Statement.{statement}
