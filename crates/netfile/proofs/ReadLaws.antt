@@ -16,7 +16,7 @@ use Rattle.lists.proofs.EntryLaws.{entry-next}
 use Rattle.lists.proofs.TestLaws.{and-left, and-right, differ}
 use Rattle.lent.specs.Over.{over}
 use Rattle.lent.proofs.OverLaws.{length-over, over-more, take-over}
-use Rattle.netfile.specs.Sizes.{blockWords, blockBytes, blocksFor, blockCount, fileBlocks, fileNumbers}
+use Rattle.netfile.specs.Sizes.{blockWords, blockBytes, blockCount, fileBlocks}
 use Rattle.netfile.specs.Words.{wordsOf, wordFrom}
 use Rattle.netfile.specs.Read.{blockOf, blocksOf, numberIn, numbersIn, sameNumbers, Sized}
 use Rattle.netfile.proofs.SumLaws.{word-more}
@@ -187,15 +187,6 @@ part-of-over xs l lent n e f =
 pub over-long : {X : Type 0} (xs l lent : List X) (n : ℕ) → l ≡ over xs lent → length xs ≤ n → length lent ≡ n → length l ≡ n
 over-long xs l lent n e h f = ap length e ∙ length-over xs lent (omega arith) ∙ f
 
--- what the blocks after the head hold
-module _ (bytes : List ℕ) (n k : ℕ) (sized : Sized bytes n k) where
-  pub pins-few : n ≤ fileNumbers
-  unfolding blocksFor
-  pins-few = omega (arith, sized .few, sized .fit)
-
-  pub macros-few : k ≤ fileNumbers
-  unfolding blocksFor
-  macros-few = omega (arith, sized .few, sized .fit)
-
-  pub blocks-few : blockCount n k ≤ fileBlocks
-  blocks-few = omega (arith, sized .few, sized .fit)
+-- the blocks of a file of the right size
+pub blocks-few : (bytes : List ℕ) (n k : ℕ) → Sized bytes n k → blockCount n k ≤ fileBlocks
+blocks-few bytes n k sized = omega (arith, sized .few, sized .fit)

@@ -23,13 +23,14 @@ use Rattle.lent.proofs.AfterLaws.{told-apart}
 use Rattle.net.specs.Bounds.{coordinateBound}
 use Rattle.net.specs.Check.{pinCount, macroCount, outOfRange, checked}
 use Rattle.net.proofs.PassedLaws.{passed-all}
-use Rattle.netfile.specs.Sizes.{blockWords, blockBytes, perBlock, headKind, pinKind, macroKind, pinNumbers, macroNumbers, blocksFor}
-use Rattle.netfile.specs.Sizes.{blockCount, fileBlocks, fileBound, fileNumbers}
+use Rattle.netfile.specs.Sizes.{blockWords, blockBytes, pinCountWord, macroCountWord, headKind, pinKind, macroKind, pinNumbers}
+use Rattle.netfile.specs.Sizes.{macroNumbers, blocksFor, blockCount, fileBlocks, fileBound}
 use Rattle.netfile.specs.Words.{wordsOf}
 use Rattle.netfile.specs.Sums.{sealed, wrongSums}
 use Rattle.netfile.specs.Layout.{block, headBlock, pinBlocks, macroBlocks, fileWords, fileBytes}
 use Rattle.netfile.specs.Read.{blocksMiscounted, blocksOf, sumsWrong, headCount, pinLength, macroLength, numbersIn, pinsIn, macrosIn}
 use Rattle.netfile.specs.Read.{countsWrong, laidOut, roomShort, readFile}
+use Rattle.netfile.proofs.SizeLaws.{enough, pins-few, macros-few}
 use Rattle.netfile.proofs.LayoutLaws.{length-head, length-list-blocks, length-file}
 use Rattle.netfile.proofs.WriteLaws.{pins-ok, macros-ok, allowed-blocks}
 use Rattle.netfile.proofs.ReadLaws.{same-true, same-refl}
@@ -80,19 +81,11 @@ allowed-storable pins macros net e =
 -- The file of two such lists, read
 
 module _ (pins macros : List ℤ) (lists : Storable pins macros) where
-  pins-few : length pins ≤ fileNumbers
-  unfolding blocksFor
-  pins-few = omega (arith, lists .blocks)
-
-  macros-few : length macros ≤ fileNumbers
-  unfolding blocksFor
-  macros-few = omega (arith, lists .blocks)
-
   small-head : Small (headBlock (pinCount pins) (macroCount macros))
   unfolding headBlock
   small-head =
       small-block headKind 0 0 _ (omega arith) (omega arith) (omega arith)
-      (omega (arith, pins-few), (omega (arith, macros-few), tt))
+      (omega (arith, pins-few _ _ (lists .blocks)), (omega (arith, macros-few _ _ (lists .blocks)), tt))
 
   small-file : Small (fileWords pins macros)
   unfolding fileWords
@@ -108,23 +101,19 @@ module _ (pins macros : List ℤ) (lists : Storable pins macros) where
   unfolding fileBytes
   words-read = words-bytes (fileWords pins macros) small-file
 
-  pin-count-read : headCount 4 (fileBytes pins macros) ≡ pinCount pins
+  pin-count-read : headCount pinCountWord (fileBytes pins macros) ≡ pinCount pins
   unfolding headCount fileWords headBlock block sealed over
-  pin-count-read = ap (λ (ws : List ℕ). getD ws 4 0) words-read
+  pin-count-read = ap (λ (ws : List ℕ). getD ws pinCountWord 0) words-read
 
-  macro-count-read : headCount 5 (fileBytes pins macros) ≡ macroCount macros
+  macro-count-read : headCount macroCountWord (fileBytes pins macros) ≡ macroCount macros
   unfolding headCount fileWords headBlock block sealed over
-  macro-count-read = ap (λ (ws : List ℕ). getD ws 5 0) words-read
+  macro-count-read = ap (λ (ws : List ℕ). getD ws macroCountWord 0) words-read
 
   pin-numbers : pinLength (fileBytes pins macros) ≡ length pins
   pin-numbers = omega (arith, pin-count-read, lists .whole-pins)
 
   macro-numbers : macroLength (fileBytes pins macros) ≡ length macros
   macro-numbers = omega (arith, macro-count-read, lists .whole-macros)
-
-  enough : (n : ℕ) → n ≤ blocksFor n * perBlock
-  unfolding blocksFor
-  enough n = omega arith
 
   pins-read : pinsIn (fileBytes pins macros) ≡ pins
   unfolding pinsIn fileWords

@@ -9,12 +9,12 @@ use borrow.Author.Tests.{lt-ltb, le-ltb}
 use lib.IntN.{ℤ}
 use lib.ListN.{length}
 use Rattle.lent.specs.Told.{Told, refused, given, onlyIf}
-use Rattle.net.specs.Bounds.{pinBound, macroBound}
 use Rattle.net.specs.Check.{checked}
 use Rattle.net.proofs.PassedLaws.{PinsCounted, MacrosCounted, passed-all, pins-counted, macros-counted}
-use Rattle.netfile.specs.Sizes.{pinsPerBlock, macrosPerBlock, groups, blocksFor, blockCount, fileBlocks}
+use Rattle.netfile.specs.Sizes.{blockCount, fileBlocks}
 use Rattle.netfile.specs.Layout.{fileBytes}
 use Rattle.netfile.specs.Write.{fitted, written}
+use Rattle.netfile.proofs.SizeLaws.{lists-in-file}
 
 pub fitted-short : (needed room : ℕ) → room < needed → fitted needed room ≡ refused 21
 unfolding fitted
@@ -42,14 +42,8 @@ module _ (pins macros : List ℤ) (net : ℕ × ℕ) (allowed : checked pins mac
   pub macros-ok : MacrosCounted macros
   macros-ok = macros-counted macros (passed-all pins macros net allowed .past .past .past .past .past .past .passed)
 
-  pin-blocks : blocksFor (length pins) ≤ groups pinBound pinsPerBlock
-  unfolding blocksFor
-  pin-blocks = omega (arith, pins-ok .whole, pins-ok .few)
-
-  macro-blocks : blocksFor (length macros) ≤ groups macroBound macrosPerBlock
-  unfolding blocksFor
-  macro-blocks = omega (arith, macros-ok .whole, macros-ok .few)
-
   -- F16: no allowed net takes more blocks than the longest file has
   pub allowed-blocks : blockCount (length pins) (length macros) ≤ fileBlocks
-  allowed-blocks = omega (arith, pin-blocks, macro-blocks)
+  allowed-blocks =
+      lists-in-file (length pins) (length macros) (omega (arith, pins-ok .whole, pins-ok .few))
+      (omega (arith, macros-ok .whole, macros-ok .few))

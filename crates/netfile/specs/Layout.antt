@@ -13,7 +13,7 @@ use Rattle.netfile.specs.Sums.{sealed}
 unfoldable pub block : ℕ → ℕ → ℕ → List ℕ → List ℕ
 block kind number count entries = sealed (over (kind ∷ (number ∷ (count ∷ (0 ∷ entries)))) (replicate summedWords 0))
 
--- F9: the head has m in word 4 and k in word 5
+-- F9: the head has m and k as its first words after these
 unfoldable pub headBlock : ℕ → ℕ → List ℕ
 headBlock m k = block headKind 0 0 (m ∷ (k ∷ []))
 

@@ -10,6 +10,7 @@
 --
 --   Sizes    blockWords, blockBytes, summedWords    a block's words, its bytes, its words before the sums
 --            secondSum, firstEntry, perBlock        where the second sum stands and entries begin; the numbers of a full block
+--            pinCountWord, macroCountWord           where the head has m and k
 --            headKind, pinKind, macroKind           the kinds of blocks
 --            pinNumbers, macroNumbers               the numbers of a pin and of a macro
 --            pinsPerBlock, macrosPerBlock           the entries of a full block

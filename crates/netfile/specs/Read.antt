@@ -9,8 +9,8 @@ use lib.ListN.{length, take, drop, getD}
 use Rattle.lent.specs.Told.{Told, refused}
 use Rattle.lists.specs.Any.{any}
 use Rattle.net.specs.Check.{checked}
-use Rattle.netfile.specs.Sizes.{blockWords, blockBytes, firstEntry, perBlock, pinNumbers, macroNumbers, pinListBound, macroListBound}
-use Rattle.netfile.specs.Sizes.{blocksFor, blockCount, fileBlocks, fileBound}
+use Rattle.netfile.specs.Sizes.{blockWords, blockBytes, firstEntry, pinCountWord, macroCountWord, perBlock, pinNumbers, macroNumbers}
+use Rattle.netfile.specs.Sizes.{pinListBound, macroListBound, blocksFor, blockCount, fileBlocks, fileBound}
 use Rattle.netfile.specs.Words.{wordsOf, coordinate}
 use Rattle.netfile.specs.Sums.{wrongSums}
 use Rattle.netfile.specs.Layout.{fileBytes}
@@ -37,12 +37,12 @@ sumsWrong bytes = any wrongSums (blocksOf (length bytes / blockBytes) (wordsOf b
 unfoldable pub headCount : ℕ → List ℕ → ℕ
 headCount i bytes = getD (wordsOf bytes) i 0
 
--- F9: the head has m in word 4 and k in word 5; so many numbers have the two lists
+-- F9: the lengths of the two lists, by m and k in the head
 abbrev pub pinLength : List ℕ → ℕ
-pinLength bytes = headCount 4 bytes * pinNumbers
+pinLength bytes = headCount pinCountWord bytes * pinNumbers
 
 abbrev pub macroLength : List ℕ → ℕ
-macroLength bytes = headCount 5 bytes * macroNumbers
+macroLength bytes = headCount macroCountWord bytes * macroNumbers
 
 -- F6, F14: the word of the number j among those of its list's blocks
 abbrev pub placeIn : ℕ → ℕ

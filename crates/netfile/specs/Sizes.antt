@@ -19,9 +19,15 @@ summedWords = blockWords - 2
 abbrev pub secondSum : ℕ
 secondSum = summedWords + 1
 
--- F6: the word at which entries begin
+-- F6: the word at which entries begin; F9: the head has m and k there
 abbrev pub firstEntry : ℕ
 firstEntry = 4
+
+abbrev pub pinCountWord : ℕ
+pinCountWord = firstEntry
+
+abbrev pub macroCountWord : ℕ
+macroCountWord = firstEntry + 1
 
 -- F6, F7: the numbers of a full block, whatever its entries are: 60 pins of two numbers, 30 macros of four
 abbrev pub perBlock : ℕ

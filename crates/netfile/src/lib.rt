@@ -46,8 +46,8 @@ ghost use Rattle.netfile.specs.Read.{
   readFile,
 };
 
-// The format's own numbers (specs/Sizes.antt): a block's words, those before its two sums, the word at which entries begin, the numbers of
-// a full block, and the kinds of blocks.
+// The format's own numbers, as in specs/Sizes.antt: a block's words, those before its two sums, the word at which entries begin (and the
+// counts in the head), the numbers of a full block, and the kinds of blocks.
 const BLOCK_WORDS: usize = 128;
 
 const BLOCK_BYTES: usize = BLOCK_WORDS * 4;
@@ -57,6 +57,10 @@ const SUMMED_WORDS: usize = BLOCK_WORDS - 2;
 const SECOND_SUM: usize = SUMMED_WORDS + 1;
 
 const FIRST_ENTRY: usize = 4;
+
+const PIN_COUNT_WORD: usize = FIRST_ENTRY;
+
+const MACRO_COUNT_WORD: usize = FIRST_ENTRY + 1;
 
 const PER_BLOCK: usize = 120;
 
@@ -191,8 +195,8 @@ fn head_block(m: usize, k: usize) -> [u32; BLOCK_WORDS]
 {
     let mut t = [0u32; BLOCK_WORDS];
     t[0] = HEAD_KIND;
-    t[4] = m as u32;
-    t[5] = k as u32;
+    t[PIN_COUNT_WORD] = m as u32;
+    t[MACRO_COUNT_WORD] = k as u32;
     seal(t)
 }
 
@@ -376,7 +380,7 @@ fn pin_length(bytes: &[u8]) -> usize
     requires { ⌜ blockBytes ≤ length (now bytes) ⌝ }
     ensures { λ r. ⌜ r ≡ pinLength (now (bytes .entry)) ⌝ }
 {
-    head_count(bytes, 4) * PIN_NUMBERS
+    head_count(bytes, PIN_COUNT_WORD) * PIN_NUMBERS
 }
 
 // The numbers of the macros that it counts.
@@ -384,7 +388,7 @@ fn macro_length(bytes: &[u8]) -> usize
     requires { ⌜ blockBytes ≤ length (now bytes) ⌝ }
     ensures { λ r. ⌜ r ≡ macroLength (now (bytes .entry)) ⌝ }
 {
-    head_count(bytes, 5) * MACRO_NUMBERS
+    head_count(bytes, MACRO_COUNT_WORD) * MACRO_NUMBERS
 }
 
 // The head's counts do not fit the blocks.

@@ -2,14 +2,15 @@
 -- Assumes nothing.
 use mathlib.Core.Path.{_≡_, refl, sym, ap, ap₂, _∙_}
 use mathlib.Core.List.{List}
-use Prim.Native.Nat.{ℕ, _-_}
+use Prim.Native.Nat.{ℕ, _-_, _≤_}
 use native.Mathlib.Omega.{arith}
 use lib.IntN.{ℤ, pos}
 use lib.ListN.{length, take, replicate}
 use denote.Ref.{now}
-use Rattle.netfile.specs.Sizes.{fileNumbers}
+use Rattle.netfile.specs.Sizes.{blockCount, fileBlocks, fileNumbers}
 use Rattle.netfile.specs.Read.{pinsIn, macrosIn, pinLength, macroLength, Sized, laidOut}
-use Rattle.netfile.proofs.ReadLaws.{part-of-over, over-long, pins-few, macros-few}
+use Rattle.netfile.proofs.SizeLaws.{pins-few, macros-few}
+use Rattle.netfile.proofs.ReadLaws.{part-of-over, over-long, blocks-few}
 use Rattle.netfile.proofs.AnswerLaws.{length-pins-in, length-macros-in}
 use borrow.Author.Needs.{needs}
 use Rattle.netfile.proofs.check_file.Statement.{statement}
@@ -26,13 +27,16 @@ module _ (t : tie.After-take-lists) where
   sized : Sized bytes (pinLength bytes) (macroLength bytes)
   sized = t .before .before .before .before .before .before .pre
 
+  few : blockCount (pinLength bytes) (macroLength bytes) ≤ fileBlocks
+  few = blocks-few bytes _ _ sized
+
   pins-long : length (t .take-lists .last .1 .0) ≡ fileNumbers
   pins-long =
-      over-long _ _ zeros fileNumbers (t .take-lists .ensures .0) (omega (arith, length-pins-in bytes, pins-few bytes _ _ sized)) refl
+      over-long _ _ zeros fileNumbers (t .take-lists .ensures .0) (omega (arith, length-pins-in bytes, pins-few _ _ few)) refl
 
   macros-long : length (t .take-lists .last .1 .1 .0) ≡ fileNumbers
   macros-long =
-      over-long _ _ zeros fileNumbers (t .take-lists .ensures .1) (omega (arith, length-macros-in bytes, macros-few bytes _ _ sized)) refl
+      over-long _ _ zeros fileNumbers (t .take-lists .ensures .1) (omega (arith, length-macros-in bytes, macros-few _ _ few)) refl
 
   pins-part : take (t .before .before .before .before .pin-length .result - 0) (t .take-lists .last .1 .0) ≡ pinsIn bytes
   pins-part =
@@ -59,7 +63,8 @@ slice-aggregate-take-lists-2 c = search needs
 take-lists-requires : tie.Need-take-lists-requires
 take-lists-requires c κs =
     let s = c .before .before .before .before .before .pre in
-    (s, (pins-few _ _ _ s, macros-few _ _ _ s))
+    let f = blocks-few _ _ _ s in
+    (s, (pins-few _ _ f, macros-few _ _ f))
 
 sub-check-lists : tie.Need-sub-check-lists
 sub-check-lists c = search needs
@@ -70,7 +75,7 @@ part-check-lists-start c = search needs
 part-check-lists-end : tie.Need-part-check-lists-end
 part-check-lists-end c =
     let t = c .before .before .before in
-    omega (arith, pins-few _ _ _ (sized t), pins-long t)
+    omega (arith, pins-few _ _ (few t), pins-long t)
 
 sub-check-lists-2 : tie.Need-sub-check-lists-2
 sub-check-lists-2 c = search needs
@@ -81,7 +86,7 @@ part-check-lists-start-2 c = search needs
 part-check-lists-end-2 : tie.Need-part-check-lists-end-2
 part-check-lists-end-2 c =
     let t = c .before .before .before .before .before in
-    omega (arith, macros-few _ _ _ (sized t), macros-long t)
+    omega (arith, macros-few _ _ (few t), macros-long t)
 
 check-lists-requires : tie.Need-check-lists-requires
 check-lists-requires c κs =

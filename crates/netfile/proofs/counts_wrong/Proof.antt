@@ -10,6 +10,7 @@ use lib.ListN.{length}
 use denote.Ref.{now}
 use Rattle.netfile.specs.Sizes.{blockBytes, blocksFor}
 use Rattle.netfile.specs.Read.{countsWrong}
+use Rattle.netfile.proofs.SizeLaws.{no-more}
 use borrow.Author.Needs.{needs}
 use Rattle.netfile.proofs.counts_wrong.Statement.{statement}
 use Rattle.netfile.proofs.counts_wrong.Tie as tie
@@ -27,12 +28,11 @@ blocks-for-requires-2 : tie.Need-blocks-for-requires-2
 blocks-for-requires-2 c κs = search needs
 
 add-result : tie.Need-add-result
-unfolding blocksFor
-add-result c = omega arith
+add-result c = omega (arith, no-more (c .before .before .before .pin-length .result))
 
 add-result-2 : tie.Need-add-result-2
-unfolding blocksFor
-add-result-2 c = omega arith
+add-result-2 c =
+    omega (arith, no-more (c .before .before .before .pin-length .result), no-more (c .before .macro-length .result))
 
 returns : tie.Need-returns
 unfolding countsWrong

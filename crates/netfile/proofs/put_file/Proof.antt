@@ -10,6 +10,7 @@ use denote.Ref.{now}
 use Rattle.netfile.specs.Sizes.{blockBytes, pinKind, macroKind, pinNumbers, macroNumbers, blocksFor}
 use Rattle.netfile.specs.Words.{bytesOf}
 use Rattle.netfile.specs.Layout.{listBlocks}
+use Rattle.netfile.proofs.SizeLaws.{pins-few, macros-few}
 use Rattle.netfile.proofs.LayoutLaws.{file-laid}
 use borrow.Author.Needs.{needs}
 use Rattle.netfile.proofs.put_file.Statement.{statement}
@@ -22,8 +23,9 @@ add-first : tie.Need-add-first
 add-first c = search needs
 
 head-block-requires : tie.Need-head-block-requires
-unfolding blocksFor
-head-block-requires c κs = (omega arith, omega arith)
+head-block-requires c κs =
+    let f = c .before .before .before .pre .0 in
+    (omega (arith, pins-few _ _ f), omega (arith, macros-few _ _ f))
 
 put-block-requires : tie.Need-put-block-requires
 put-block-requires c κs = search needs

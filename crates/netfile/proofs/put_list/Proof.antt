@@ -3,7 +3,7 @@
 -- Assumes nothing.
 use mathlib.Core.Path.{_≡_, refl, ap, ap₂, _∙_}
 use mathlib.Core.List.{List}
-use Prim.Native.Nat.{ℕ, _≤_, _-_, _+_, _*_}
+use Prim.Native.Nat.{ℕ, _≤_, _<_, _-_, _+_, _*_}
 use native.Mathlib.Omega.{arith}
 use lib.ListN.{length, drop}
 use lib.Seq.{sets, length-sets}
@@ -11,6 +11,7 @@ use denote.Ref.{now}
 use Rattle.netfile.specs.Sizes.{blockBytes, perBlock, blocksFor}
 use Rattle.netfile.specs.Words.{bytesOf}
 use Rattle.netfile.specs.Layout.{listBlocks}
+use Rattle.netfile.proofs.SizeLaws.{begins-within}
 use Rattle.netfile.proofs.LayoutLaws.{length-next-block, list-more}
 use Rattle.netfile.proofs.put_list.Statement.{statement}
 use Rattle.netfile.proofs.put_list.Tie as tie
@@ -33,13 +34,16 @@ loop-holds c = (omega arith, (refl, refl))
 add-number : tie.Need-add-number Inv-loop μ-loop
 add-number c = omega arith
 
+-- where the block begins that is laid out in a turn
+begins : (c : tie.After-put-block-arg Inv-loop μ-loop)
+    → c .before .before .loop .j * perBlock < length (now (c .before .before .before .before .before .args .numbers))
+begins c = begins-within _ (c .before .before .loop .j) (omega arith)
+
 mul-next-block : tie.Need-mul-next-block Inv-loop μ-loop
-unfolding blocksFor
-mul-next-block c = omega arith
+mul-next-block c = omega (arith, begins c)
 
 next-block-requires : tie.Need-next-block-requires Inv-loop μ-loop
-unfolding blocksFor
-next-block-requires c κs = ((omega arith, omega arith), omega arith)
+next-block-requires c κs = ((omega arith, omega arith), omega (arith, begins c))
 
 put-block-requires : tie.Need-put-block-requires Inv-loop μ-loop
 put-block-requires c κs =

@@ -8,7 +8,7 @@ use denote.Ref.{now}
 use Rattle.lent.specs.Told.{given}
 use Rattle.lent.proofs.AfterLaws.{after-refused, after-given}
 use Rattle.net.specs.Answer.{number}
-use Rattle.netfile.specs.Sizes.{blockBytes, blocksFor}
+use Rattle.netfile.specs.Sizes.{blockBytes}
 use Rattle.netfile.specs.Layout.{fileBytes}
 use Rattle.netfile.specs.Write.{toldBytes}
 use Rattle.netfile.proofs.LayoutLaws.{length-file}
@@ -21,18 +21,15 @@ blocks-for-requires : tie.Need-blocks-for-requires
 blocks-for-requires c κs = search needs
 
 add-n : tie.Need-add-n
-unfolding blocksFor
 add-n c = omega arith
 
 blocks-for-requires-2 : tie.Need-blocks-for-requires-2
 blocks-for-requires-2 c κs = search needs
 
 add-n-2 : tie.Need-add-n-2
-unfolding blocksFor
 add-n-2 c = omega arith
 
 mul-n : tie.Need-mul-n
-unfolding blocksFor
 mul-n c = omega arith
 
 returns : tie.Need-returns
