@@ -29,7 +29,8 @@ pinCountWord = firstEntry
 abbrev pub macroCountWord : ℕ
 macroCountWord = firstEntry + 1
 
--- F6, F7: the numbers of a full block, whatever its entries are: 60 pins of two numbers, 30 macros of four
+-- F6, F7: the numbers of a full block, whatever its entries are: 60 pins of two, 30 macros of four. It is the format's own and no
+-- consequence of the words between the entries' first and the sums: these are 122, and 61 pins would fit.
 abbrev pub perBlock : ℕ
 perBlock = 120
 
