@@ -1,5 +1,5 @@
 -- Blocks and the numbers that they hold: a list's blocks have room for it, block by block, and the longest file for every list that a net
--- may have. `blocksFor` is unfolded here and nowhere above, but where the code computes it.
+-- may have. What is needed of `blocksFor` above stands here.
 -- Assumes nothing.
 use Prim.Native.Nat.{ℕ, _+_, _*_, _/_, _≤_, _<_}
 use native.Mathlib.Omega.{arith}

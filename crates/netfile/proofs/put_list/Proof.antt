@@ -50,7 +50,7 @@ put-block-requires c κs =
     let l = c .before .before .before in
     let a = l .before .before .before .args in (
       ap length (c .next-block .ensures)
-          ∙ length-next-block (a .kind) (a .w) (a .first + l .loop .j) (drop (l .loop .j * perBlock) (now (a .numbers))),
+          ∙ length-next-block (a .kind) (a .w) _ (drop (l .loop .j * perBlock) (now (a .numbers))),
       omega arith,
     )
 

@@ -6,6 +6,7 @@ use native.Mathlib.Omega.{arith}
 use lib.IntN.{ℤ}
 use denote.Ref.{now}
 use Rattle.lent.specs.Over.{over}
+use Rattle.netfile.specs.Sizes.{blocksFor}
 use Rattle.netfile.specs.Read.{Sized}
 use Rattle.netfile.proofs.ReadLaws.{blocks-few}
 use Rattle.netfile.proofs.AnswerLaws.{pins-taken, macros-taken}
@@ -24,7 +25,9 @@ pin-length-requires c κs = search needs
 macro-length-requires : tie.Need-macro-length-requires
 macro-length-requires c κs = search needs
 
+-- the blocks of other counts would be known here too: a wrong count is refused by `returns`, for what it gives
 take-numbers-requires : tie.Need-take-numbers-requires
+unfolding blocksFor
 take-numbers-requires c κs = (omega (arith, sized (c .before) .fit), omega arith)
 
 blocks-for-requires : tie.Need-blocks-for-requires
@@ -36,6 +39,7 @@ add-take-numbers c =
     omega (arith, blocks-few (now (h .before .before .before .args .bytes)) _ _ (sized h))
 
 take-numbers-requires-2 : tie.Need-take-numbers-requires-2
+unfolding blocksFor
 take-numbers-requires-2 c κs = (omega (arith, sized (c .before .before .before .before .before) .fit), omega arith)
 
 same-length : tie.Need-same-length
