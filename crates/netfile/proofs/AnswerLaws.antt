@@ -3,7 +3,7 @@
 use mathlib.Core.Path.{_≡_, refl, sym, ap, ap₂, _∙_}
 use mathlib.Core.Bool.{true, false}
 use mathlib.Core.List.{List}
-use Prim.Native.Nat.{ℕ, _+_, _*_, _/_, _%_, _≤_}
+use Prim.Native.Nat.{ℕ, _+_, _/_, _%_, _≤_}
 use native.Mathlib.Omega.{arith}
 use borrow.Author.Tests.{eqb-true, eqb-false, ltb-false, not-false}
 use lib.IntN.{ℤ}
@@ -14,63 +14,63 @@ use Rattle.lent.specs.Over.{after}
 use Rattle.lent.proofs.AfterLaws.{after-refused, told-apart}
 use Rattle.net.specs.Check.{checked}
 use Rattle.net.proofs.PassedLaws.{passed-all, pins-counted, macros-counted}
-use Rattle.netfile.specs.Layout.{blocksFor, fileBytes}
-use Rattle.netfile.specs.Read.{blocksMiscounted, sumsWrong, headCount, numbersIn, pinsIn, macrosIn, sameNumbers, countsWrong, Sized}
-use Rattle.netfile.specs.Read.{laidOut, roomShort, readFile}
+use Rattle.netfile.specs.Sizes.{blockBytes, pinListBound, macroListBound, blocksFor, fileBlocks}
+use Rattle.netfile.specs.Layout.{fileBytes}
+use Rattle.netfile.specs.Read.{blocksMiscounted, sumsWrong, pinLength, macroLength, numbersIn, pinsIn, macrosIn, sameNumbers}
+use Rattle.netfile.specs.Read.{countsWrong, Sized, laidOut, roomShort, readFile}
 use Rattle.netfile.proofs.ReadLaws.{length-numbers}
 
 -- The lists of a file
 
-pub pins-taken : (bytes : List ℕ) (m : ℕ) → m ≡ headCount 4 bytes → numbersIn bytes 1 0 (m * 2) ≡ pinsIn bytes
+pub pins-taken : (bytes : List ℕ) (n : ℕ) → n ≡ pinLength bytes → numbersIn bytes 1 0 n ≡ pinsIn bytes
 unfolding pinsIn
-pins-taken bytes m e = ap (λ (n : ℕ). numbersIn bytes 1 0 (n * 2)) e
+pins-taken bytes n e = ap (numbersIn bytes 1 0) e
 
-pub macros-taken : (bytes : List ℕ) (m k b : ℕ) → m ≡ headCount 4 bytes → k ≡ headCount 5 bytes → b ≡ blocksFor (m * 2)
-    → numbersIn bytes (1 + b) 0 (k * 4) ≡ macrosIn bytes
+pub macros-taken : (bytes : List ℕ) (n k b : ℕ) → n ≡ pinLength bytes → k ≡ macroLength bytes → b ≡ blocksFor n
+    → numbersIn bytes (1 + b) 0 k ≡ macrosIn bytes
 unfolding macrosIn
-macros-taken bytes m k b e f g =
-    ap₂ (λ (i n : ℕ). numbersIn bytes (1 + i) 0 (n * 4)) (g ∙ ap (λ (n : ℕ). blocksFor (n * 2)) e) f
+macros-taken bytes n k b e f g = ap₂ (λ (i j : ℕ). numbersIn bytes (1 + i) 0 j) (g ∙ ap blocksFor e) f
 
-pub length-pins-in : (bytes : List ℕ) → length (pinsIn bytes) ≡ headCount 4 bytes * 2
+pub length-pins-in : (bytes : List ℕ) → length (pinsIn bytes) ≡ pinLength bytes
 unfolding pinsIn
-length-pins-in bytes = length-numbers bytes 1 0 (headCount 4 bytes * 2)
+length-pins-in bytes = length-numbers bytes 1 0 (pinLength bytes)
 
-pub length-macros-in : (bytes : List ℕ) → length (macrosIn bytes) ≡ headCount 5 bytes * 4
+pub length-macros-in : (bytes : List ℕ) → length (macrosIn bytes) ≡ macroLength bytes
 unfolding macrosIn
-length-macros-in bytes = length-numbers bytes _ 0 (headCount 5 bytes * 4)
+length-macros-in bytes = length-numbers bytes _ 0 (macroLength bytes)
 
 -- Tests passed
 
--- 1 to 6 whole blocks
+-- whole blocks, from one to those of the longest file
 pub record BlocksCounted (bytes : List ℕ) : Type 0 where
-  pub whole : length bytes % 512 ≡ 0
-  pub some : 1 ≤ length bytes / 512
-  pub few : length bytes / 512 ≤ 6
+  pub whole : length bytes % blockBytes ≡ 0
+  pub some : 1 ≤ length bytes / blockBytes
+  pub few : length bytes / blockBytes ≤ fileBlocks
 
 pub blocks-counted : (bytes : List ℕ) → blocksMiscounted bytes ≡ false → BlocksCounted bytes
 unfolding blocksMiscounted
 blocks-counted bytes e =
     let r = or-none _ _ e in
     let s = or-none _ _ (r .1) in
-    let n : length bytes / 512 ≡ 0 → ⊥ = eqb-false (length bytes / 512) 0 (s .0) in
+    let n : length bytes / blockBytes ≡ 0 → ⊥ = eqb-false (length bytes / blockBytes) 0 (s .0) in
     record {
-      whole = eqb-true (length bytes % 512) 0 (not-false _ (r .0));
+      whole = eqb-true (length bytes % blockBytes) 0 (not-false _ (r .0));
       some = omega (arith, n);
-      few = ltb-false 6 (length bytes / 512) (s .1);
+      few = ltb-false fileBlocks (length bytes / blockBytes) (s .1);
     }
 
-pub sized-by-head : (bytes : List ℕ) → BlocksCounted bytes → countsWrong bytes ≡ false → Sized bytes (headCount 4 bytes * 2)
-    (headCount 5 bytes * 4)
+pub sized-by-head : (bytes : List ℕ) → BlocksCounted bytes → countsWrong bytes ≡ false → Sized bytes (pinLength bytes)
+    (macroLength bytes)
 unfolding countsWrong
 sized-by-head bytes b e =
-    let n = eqb-true (length bytes / 512) _ (not-false _ e) in
+    let n = eqb-true (length bytes / blockBytes) _ (not-false _ e) in
     record { few = omega (arith, b .whole, b .few); fit = omega (arith, b .whole, n) }
 
-room-enough : (p q : ℕ) → roomShort p q ≡ false → (128 ≤ p) × (256 ≤ q)
+room-enough : (p q : ℕ) → roomShort p q ≡ false → (pinListBound ≤ p) × (macroListBound ≤ q)
 unfolding roomShort
 room-enough p q e =
     let r = or-none _ _ e in
-    (ltb-false p 128 (r .0), ltb-false q 256 (r .1))
+    (ltb-false p pinListBound (r .0), ltb-false q macroListBound (r .1))
 
 -- The answer
 
@@ -92,7 +92,7 @@ module _ (bytes : List ℕ) (pins macros : List ℤ) where
 
 -- the lists of an accepted file fit where the largest net does
 pub lists-fit : (bytes : List ℕ) (p q : ℕ) (net : ℕ × ℕ) → laidOut bytes (pinsIn bytes) (macrosIn bytes) ≡ given net → roomShort p q ≡ false
-    → (headCount 4 bytes * 2 ≤ p) × (headCount 5 bytes * 4 ≤ q)
+    → (pinLength bytes ≤ p) × (macroLength bytes ≤ q)
 lists-fit bytes p q net e f =
     let a = passed-all (pinsIn bytes) (macrosIn bytes) net
     (laid-allowed bytes (pinsIn bytes) (macrosIn bytes) net e) .past .past .past .past .past .past in

@@ -11,6 +11,7 @@ use lib.ListN.{length, take, getD, set, replicate, drop-of-length-le, length-map
 use lib.Seq.{sets, sets-eq, take-suc}
 use Rattle.lent.specs.Over.{over}
 use Rattle.lent.proofs.OverLaws.{over-more}
+use Rattle.netfile.specs.Sizes.{blockWords, summedWords, secondSum, firstEntry, perBlock}
 use Rattle.netfile.specs.Words.{bytesOfWord, bytesOf, wordOf}
 use Rattle.netfile.proofs.SumLaws.{word-more}
 
@@ -24,11 +25,12 @@ sets-after (x ∷ xs) ys l k =
     ∙ sets-after xs ys (set l k x) (suc k)
 
 -- the last two words of a block
-pub last-two : (ws : List ℕ) (a b : ℕ) → length ws ≡ 128 → set (set ws 126 a) 127 b ≡ take 126 ws ++ (a ∷ (b ∷ []))
+pub last-two : (ws : List ℕ) (a b : ℕ) → length ws ≡ blockWords
+    → set (set ws summedWords a) secondSum b ≡ take summedWords ws ++ (a ∷ (b ∷ []))
 last-two ws a b e =
-    let h : length ws ≤ 128 = omega arith in
-    sets-eq (a ∷ (b ∷ [])) ws 126 (omega arith)
-    ∙ ap (λ (l : List ℕ). (take 126 ws ++ (a ∷ (b ∷ []))) ++ l) (drop-of-length-le ws h)
+    let h : length ws ≤ blockWords = omega arith in
+    sets-eq (a ∷ (b ∷ [])) ws summedWords (omega arith)
+    ∙ ap (λ (l : List ℕ). (take summedWords ws ++ (a ∷ (b ∷ []))) ++ l) (drop-of-length-le ws h)
     ∙ append-nil _
 
 -- Entries over zeros
@@ -51,14 +53,14 @@ pub words-more : (ns : List ℤ) (i : ℕ) → i < length ns → map wordOf (tak
 words-more ns i h = rw (add-one, take-suc ns i (pos 0)) (map-append wordOf (take i ns) (getD ns i (pos 0) ∷ []))
 
 -- one entry's word more
-pub entry-more : (a b c d : ℕ) (ns : List ℤ) (i : ℕ) → i < length ns → length ns ≤ 120
-    → set (over (a ∷ (b ∷ (c ∷ (d ∷ map wordOf (take i ns))))) (replicate 128 0)) (4 + i) (wordOf (getD ns i (pos 0)))
-    ≡ over (a ∷ (b ∷ (c ∷ (d ∷ map wordOf (take (i + 1) ns))))) (replicate 128 0)
+pub entry-more : (a b c d : ℕ) (ns : List ℤ) (i : ℕ) → i < length ns → length ns ≤ perBlock
+    → set (over (a ∷ (b ∷ (c ∷ (d ∷ map wordOf (take i ns))))) (replicate blockWords 0)) (firstEntry + i) (wordOf (getD ns i (pos 0)))
+    ≡ over (a ∷ (b ∷ (c ∷ (d ∷ map wordOf (take (i + 1) ns))))) (replicate blockWords 0)
 entry-more a b c d ns i h g =
-    let e : length (map wordOf (take i ns)) ≡ i = length-map (take i ns) wordOf ∙ length-take i ns ∙ omega arith in
-    over-more (a ∷ (b ∷ (c ∷ (d ∷ map wordOf (take i ns))))) (replicate 128 0) (4 + i) (wordOf (getD ns i (pos 0))) (omega arith)
-    (omega arith)
-    ∙ ap (λ (l : List ℕ). over (a ∷ (b ∷ (c ∷ (d ∷ l)))) (replicate 128 0)) (sym (words-more ns i h))
+    let ws = map wordOf (take i ns) in
+    let e : length ws ≡ i = length-map (take i ns) wordOf ∙ length-take i ns ∙ omega arith in
+    over-more (a ∷ (b ∷ (c ∷ (d ∷ ws)))) (replicate blockWords 0) (firstEntry + i) (wordOf (getD ns i (pos 0))) (omega arith) (omega arith)
+    ∙ ap (λ (l : List ℕ). over (a ∷ (b ∷ (c ∷ (d ∷ l)))) (replicate blockWords 0)) (sym (words-more ns i h))
 
 -- Words as bytes
 

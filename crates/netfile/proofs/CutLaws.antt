@@ -12,7 +12,7 @@ use lib.ListN.{length, take, length-take}
 use lib.Seq.{take-all}
 use Rattle.lists.proofs.TestLaws.{by}
 use Rattle.lent.specs.Told.{refused}
-use Rattle.netfile.specs.Layout.{fileBound}
+use Rattle.netfile.specs.Sizes.{fileBound}
 use Rattle.netfile.specs.Read.{blocksMiscounted, roomShort, readFile}
 use Rattle.netfile.proofs.AnswerLaws.{blocks-counted, refuse-21, refuse-1}
 

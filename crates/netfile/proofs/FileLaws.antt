@@ -18,10 +18,11 @@ use Rattle.lists.specs.Any.{any}
 use Rattle.lists.proofs.TestLaws.{by}
 use Rattle.lent.specs.Over.{over}
 use Rattle.lent.proofs.OverLaws.{length-over}
+use Rattle.netfile.specs.Sizes.{blockWords, summedWords, secondSum, firstEntry, perBlock, headKind}
 use Rattle.netfile.specs.Words.{wordsOf, bytesOfWord, bytesOf, wordOf, coordinate}
 use Rattle.netfile.specs.Sums.{plainSum, sumOfSums, sealed, wrongSums}
 use Rattle.netfile.specs.Layout.{block, headBlock, listBlock, listBlocks}
-use Rattle.netfile.specs.Read.{blocksOf, numberIn, numbersIn}
+use Rattle.netfile.specs.Read.{blocksOf, placeIn, numberIn, numbersIn}
 use Rattle.netfile.proofs.WordLaws.{word-small, coordinate-word}
 use Rattle.netfile.proofs.LayoutLaws.{length-head, length-next-block, length-list-blocks}
 
@@ -77,9 +78,9 @@ pub small-block : (kind number count : ℕ) (entries : List ℕ) → kind < 4294
 unfolding block sealed over plainSum sumOfSums
 small-block kind number count entries h i j s =
     let ws = kind ∷ (number ∷ (count ∷ (0 ∷ entries))) in
-    small-append (over ws (replicate 126 0)) _
-    (small-append ws (drop (length ws) (replicate 126 0)) (h, (i, (j, (omega arith, s))))
-    (small-drop (length ws) (replicate 126 0) (small-zeros 126)))
+    small-append (over ws (replicate summedWords 0)) _
+    (small-append ws (drop (length ws) (replicate summedWords 0)) (h, (i, (j, (omega arith, s))))
+    (small-drop (length ws) (replicate summedWords 0) (small-zeros summedWords)))
     (omega arith, (omega arith, tt))
 
 small-words : (zs : List ℤ) → Fit zs → Small (map wordOf zs)
@@ -106,39 +107,40 @@ pub small-list-blocks : (kind w number n : ℕ) (zs : List ℤ) → kind < 42949
 unfolding listBlocks listBlock
 small-list-blocks kind w number zero zs h i f = tt
 small-list-blocks kind w number (suc n) zs h i f =
-    let t = take 120 zs in
+    let t = take perBlock zs in
     small-append (listBlock kind w number t) _
-    (small-block kind number (length t / w) (map wordOf t) h (omega arith) (omega (arith, div-le-self (length t) w, length-take 120 zs))
-    (small-words t (fit-take 120 zs f)))
-    (small-list-blocks kind w (suc number) n (drop 120 zs) h (omega arith) (fit-drop 120 zs f))
+    (small-block kind number (length t / w) (map wordOf t) h (omega arith)
+    (omega (arith, div-le-self (length t) w, length-take perBlock zs))
+    (small-words t (fit-take perBlock zs f)))
+    (small-list-blocks kind w (suc number) n (drop perBlock zs) h (omega arith) (fit-drop perBlock zs f))
 
 -- Sums
 
 -- the sums of a block are right
-right-block : (kind number count : ℕ) (entries : List ℕ) → length entries ≤ 120 → wrongSums (block kind number count entries) ≡ false
+right-block : (kind number count : ℕ) (entries : List ℕ) → length entries ≤ perBlock → wrongSums (block kind number count entries) ≡ false
 unfolding wrongSums block sealed
 right-block kind number count entries h =
     let ws = kind ∷ (number ∷ (count ∷ (0 ∷ entries))) in
-    let v = over ws (replicate 126 0) in
-    let e : length v ≡ 126 = length-over ws (replicate 126 0) (omega arith) in
-    let t : take 126 (v ++ (plainSum v ∷ (sumOfSums v ∷ []))) ≡ v = take-at v _ 126 e in
+    let v = over ws (replicate summedWords 0) in
+    let e : length v ≡ summedWords = length-over ws (replicate summedWords 0) (omega arith) in
+    let t : take summedWords (v ++ (plainSum v ∷ (sumOfSums v ∷ []))) ≡ v = take-at v _ summedWords e in
     let s = v ++ (plainSum v ∷ (sumOfSums v ∷ [])) in
-    let p : getD s 126 0 ≡ plainSum v = ap (λ (n : ℕ). getD s n 0) (sym e) ∙ getD-append-seam v _ _ 0 in
-    let i : 127 ≡ length v + 1 = omega arith in
-    let q : getD s 127 0 ≡ sumOfSums v = ap (λ (n : ℕ). getD s n 0) i ∙ getD-append-add v _ 1 0 in
+    let p : getD s summedWords 0 ≡ plainSum v = ap (λ (n : ℕ). getD s n 0) (sym e) ∙ getD-append-seam v _ _ 0 in
+    let i : secondSum ≡ length v + 1 = omega arith in
+    let q : getD s secondSum 0 ≡ sumOfSums v = ap (λ (n : ℕ). getD s n 0) i ∙ getD-append-add v _ 1 0 in
     rw (t, p, q, eq-eqb (plainSum v) (plainSum v) refl, eq-eqb (sumOfSums v) (sumOfSums v) refl) refl
 
 -- a right block is passed over
-module _ (b rest : List ℕ) (n : ℕ) (long : length b ≡ 128) (right : wrongSums b ≡ false) where
+module _ (b rest : List ℕ) (n : ℕ) (long : length b ≡ blockWords) (right : wrongSums b ≡ false) where
   pub pass-block : any wrongSums (blocksOf (suc n) (b ++ rest)) ≡ any wrongSums (blocksOf n rest)
   unfolding any blocksOf
-  pass-block = rw (take-at b rest 128 long, drop-at b rest 128 long, right) refl
+  pass-block = rw (take-at b rest blockWords long, drop-at b rest blockWords long, right) refl
 
 right-head : (m k : ℕ) → wrongSums (headBlock m k) ≡ false
 unfolding headBlock
-right-head m k = right-block 1 0 0 (m ∷ (k ∷ [])) (omega arith)
+right-head m k = right-block headKind 0 0 (m ∷ (k ∷ [])) (omega arith)
 
-right-list : (kind w number : ℕ) (zs : List ℤ) → length zs ≤ 120 → wrongSums (listBlock kind w number zs) ≡ false
+right-list : (kind w number : ℕ) (zs : List ℤ) → length zs ≤ perBlock → wrongSums (listBlock kind w number zs) ≡ false
 unfolding listBlock
 right-list kind w number zs h = right-block kind number (length zs / w) (map wordOf zs) (omega (arith, length-map zs wordOf))
 
@@ -150,68 +152,70 @@ pub pass-list : (kind w number n k : ℕ) (zs : List ℤ) (rest : List ℕ)
 unfolding listBlocks
 pass-list kind w number zero k zs rest = ap (λ (i : ℕ). any wrongSums (blocksOf i rest)) (zero-add k)
 pass-list kind w number (suc n) k zs rest =
-    let b = listBlock kind w number (take 120 zs) in
-    let l = listBlocks kind w (suc number) n (drop 120 zs) in
+    let b = listBlock kind w number (take perBlock zs) in
+    let l = listBlocks kind w (suc number) n (drop perBlock zs) in
     ap₂ (λ (i : ℕ) (ws : List ℕ). any wrongSums (blocksOf i ws)) (suc-add n k) (append-assoc b l rest)
     ∙ pass-block b (l ++ rest) (n + k) (length-next-block kind w number zs)
-    (right-list kind w number (take 120 zs) (omega (arith, length-take 120 zs)))
-    ∙ pass-list kind w (suc number) n k (drop 120 zs) rest
+    (right-list kind w number (take perBlock zs) (omega (arith, length-take perBlock zs)))
+    ∙ pass-list kind w (suc number) n k (drop perBlock zs) rest
 
 -- Numbers at their places
 
 -- the word of the number j in a block
 block-entry : (kind number count : ℕ) (zs : List ℤ) (j : ℕ) → j < length zs
-    → getD (block kind number count (map wordOf zs)) (4 + j) 0 ≡ wordOf (getD zs j (pos 0))
+    → getD (block kind number count (map wordOf zs)) (firstEntry + j) 0 ≡ wordOf (getD zs j (pos 0))
 unfolding block sealed over wordOf
 block-entry kind number count zs j h =
-    let n : 4 + j ≡ suc (suc (suc (suc j))) = omega arith in
+    let n : firstEntry + j ≡ suc (suc (suc (suc j))) = omega arith in
     let l = length-map zs wordOf in
     rw n
     (List·getD-append (map wordOf zs ++ _) _ 0 j (omega
-    (arith, length-append (map wordOf zs) (drop (length (map wordOf zs)) (replicate 122 0)), l))
+    (arith, length-append (map wordOf zs) (drop (length (map wordOf zs)) (replicate (summedWords - firstEntry) 0)), l))
     ∙ List·getD-append (map wordOf zs) _ 0 j (omega (arith, l))
     ∙ List·getD-map wordOf zs j (pos 0))
 
 -- the word of the number j in the blocks of a list
-list-entry : (kind w number n : ℕ) (zs : List ℤ) (j : ℕ) → j < length zs → length zs ≤ n * 120
-    → getD (listBlocks kind w number n zs) (j / 120 * 128 + (4 + j % 120)) 0 ≡ wordOf (getD zs j (pos 0))
+list-entry : (kind w number n : ℕ) (zs : List ℤ) (j : ℕ) → j < length zs → length zs ≤ n * perBlock
+    → getD (listBlocks kind w number n zs) (placeIn j) 0 ≡ wordOf (getD zs j (pos 0))
 unfolding listBlocks listBlock
 list-entry kind w number zero zs j h g = absurd (let f : ⊥ = omega arith in f)
 list-entry kind w number (suc n) zs j h g =
-    let b = listBlock kind w number (take 120 zs) in
-    let e : length b ≡ 128 = length-next-block kind w number zs in
-    by (ltb j 120)
-    (λ t.
-    let i : j / 120 * 128 + (4 + j % 120) ≡ 4 + j = omega (arith, ltb-true j 120 t) in
+    let t = take perBlock zs in
+    let b = listBlock kind w number t in
+    let e : length b ≡ blockWords = length-next-block kind w number zs in
+    by (ltb j perBlock)
+    (λ l.
+    let u = ltb-true j perBlock l in
+    let i : placeIn j ≡ firstEntry + j = omega (arith, u) in
     ap (λ (k : ℕ). getD (listBlocks kind w number (suc n) zs) k 0) i
-    ∙ List·getD-append b _ 0 (4 + j) (omega (arith, ltb-true j 120 t, e))
-    ∙ block-entry kind number (length (take 120 zs) / w) (take 120 zs) j (omega (arith, ltb-true j 120 t, length-take 120 zs))
-    ∙ ap wordOf (getD-take 120 zs j (pos 0) (ltb-true j 120 t)))
-    (λ t.
-    let o = ltb-false j 120 t in
-    let r = j - 120 in
-    let i : j / 120 * 128 + (4 + j % 120) ≡ length b + (r / 120 * 128 + (4 + r % 120)) = omega (arith, o, e) in
-    let a : 120 + r ≡ j = omega (arith, o) in
+    ∙ List·getD-append b _ 0 (firstEntry + j) (omega (arith, u, e))
+    ∙ block-entry kind number (length t / w) t j (omega (arith, u, length-take perBlock zs))
+    ∙ ap wordOf (getD-take perBlock zs j (pos 0) u))
+    (λ l.
+    let o = ltb-false j perBlock l in
+    let r = j - perBlock in
+    let d = length-drop perBlock zs in
+    let i : placeIn j ≡ length b + placeIn r = omega (arith, o, e) in
+    let a : perBlock + r ≡ j = omega (arith, o) in
     ap (λ (k : ℕ). getD (listBlocks kind w number (suc n) zs) k 0) i
-    ∙ getD-append-add b _ (r / 120 * 128 + (4 + r % 120)) 0
-    ∙ list-entry kind w (suc number) n (drop 120 zs) r (omega (arith, o, length-drop 120 zs)) (omega (arith, length-drop 120 zs))
-    ∙ ap wordOf (getD-drop 120 zs r (pos 0) ∙ ap (λ (k : ℕ). getD zs k (pos 0)) a))
+    ∙ getD-append-add b _ (placeIn r) 0
+    ∙ list-entry kind w (suc number) n (drop perBlock zs) r (omega (arith, o, d)) (omega (arith, d))
+    ∙ ap wordOf (getD-drop perBlock zs r (pos 0) ∙ ap (λ (k : ℕ). getD zs k (pos 0)) a))
 
 -- a list whose blocks begin at the block b of a file is read whole
 module _ (bytes front rest : List ℕ) (kind w number b n : ℕ) (zs : List ℤ)
     (words : wordsOf bytes ≡ front ++ (listBlocks kind w number n zs ++ rest))
-    (long : length front ≡ b * 128) (enough : length zs ≤ n * 120) (fit : Fit zs) where
+    (long : length front ≡ b * blockWords) (enough : length zs ≤ n * perBlock) (fit : Fit zs) where
   number-read : (j : ℕ) → j < length zs → numberIn bytes b j ≡ getD zs j (pos 0)
   unfolding numberIn
   number-read j h =
       let l = listBlocks kind w number n zs in
-      let k = j / 120 * 128 + (4 + j % 120) in
-      let i : (b + j / 120) * 128 + (4 + j % 120) ≡ length front + k = omega (arith, long) in
-      let s : k < length l = omega (arith, length-list-blocks kind w number n zs) in
+      let i : b * blockWords + placeIn j ≡ length front + placeIn j = omega (arith, long) in
+      let s : placeIn j < length l = omega (arith, length-list-blocks kind w number n zs) in
       ap coordinate
       (ap₂ (λ (ws : List ℕ) (m : ℕ). getD ws m 0) words i
-      ∙ getD-append-add front (l ++ rest) k 0
-      ∙ List·getD-append l rest 0 k s
+      ∙ getD-append-add front (l ++ rest) (placeIn j) 0
+      ∙ List·getD-append l rest 0 (placeIn j) s
       ∙ list-entry kind w number n zs j h enough)
       ∙ coordinate-word (getD zs j (pos 0)) (fit-at zs j fit h)
 

@@ -1,3 +1,4 @@
+pub mod SizeLaws
 pub mod WordLaws
 pub mod SumLaws
 pub mod BlockLaws

@@ -16,9 +16,9 @@ use Rattle.lists.proofs.EntryLaws.{entry-next}
 use Rattle.lists.proofs.TestLaws.{and-left, and-right, differ}
 use Rattle.lent.specs.Over.{over}
 use Rattle.lent.proofs.OverLaws.{length-over, over-more, take-over}
+use Rattle.netfile.specs.Sizes.{blockWords, blockBytes, blockCount, fileBlocks}
 use Rattle.netfile.specs.Words.{wordsOf, wordFrom}
-use Rattle.netfile.specs.Layout.{blocksFor}
-use Rattle.netfile.specs.Read.{blocksOf, numberIn, numbersIn, sameNumbers, Sized}
+use Rattle.netfile.specs.Read.{blockOf, blocksOf, numberIn, numbersIn, sameNumbers, Sized}
 use Rattle.netfile.proofs.SumLaws.{word-more}
 
 -- Words
@@ -70,43 +70,46 @@ length-words-of (a ∷ (b ∷ (c ∷ (d ∷ s)))) = omega (arith, length-words-o
 -- Blocks
 
 -- one word more of a block that is read into zeros
-module _ (s : List ℕ) (b i : ℕ) (whole : b * 512 + 512 ≤ length s) (less : i < 128) where
-  left-long : 128 ≤ length (drop (b * 128) (wordsOf s))
+module _ (s : List ℕ) (b i : ℕ) (whole : b * blockBytes + blockBytes ≤ length s) (less : i < blockWords) where
+  left-long : blockWords ≤ length (drop (b * blockWords) (wordsOf s))
   left-long = simp length-drop (omega (arith, length-words-of s))
 
-  pub read-more : set (over (take i (drop (b * 128) (wordsOf s))) (replicate 128 0)) i (wordFrom s ((b * 128 + i) * 4))
-      ≡ over (take (i + 1) (drop (b * 128) (wordsOf s))) (replicate 128 0)
+  pub read-more : set (over (take i (drop (b * blockWords) (wordsOf s))) (replicate blockWords 0)) i (wordFrom s ((b * blockWords + i) * 4))
+      ≡ over (take (i + 1) (drop (b * blockWords) (wordsOf s))) (replicate blockWords 0)
   read-more =
-      let l = drop (b * 128) (wordsOf s) in
+      let l = drop (b * blockWords) (wordsOf s) in
+      let k = b * blockWords + i in
       let e : length (take i l) ≡ i = length-take i l ∙ omega (arith, left-long) in
-      let v : getD l i 0 ≡ wordFrom s ((b * 128 + i) * 4) = getD-drop (b * 128) (wordsOf s) i 0 ∙ word-is s (b * 128 + i) (omega arith) in
-      ap (set (over (take i l) (replicate 128 0)) i) (sym v)
-      ∙ over-more (take i l) (replicate 128 0) i (getD l i 0) e less
-      ∙ ap (λ (ws : List ℕ). over ws (replicate 128 0)) (sym (word-more l i (omega (arith, left-long))))
+      let v : getD l i 0 ≡ wordFrom s (k * 4) = getD-drop (b * blockWords) (wordsOf s) i 0 ∙ word-is s k (omega arith) in
+      ap (set (over (take i l) (replicate blockWords 0)) i) (sym v)
+      ∙ over-more (take i l) (replicate blockWords 0) i (getD l i 0) e less
+      ∙ ap (λ (ws : List ℕ). over ws (replicate blockWords 0)) (sym (word-more l i (omega (arith, left-long))))
 
 -- a list over one of its length
 pub over-full : {X : Type 0} (xs lent : List X) → length lent ≤ length xs → over xs lent ≡ xs
 unfolding over
 over-full xs lent h = ap (λ (l : _). xs ++ l) (drop-of-length-le lent h) ∙ append-nil xs
 
-pub block-full : (s : List ℕ) (b : ℕ) → b * 512 + 512 ≤ length s → length (take 128 (drop (b * 128) (wordsOf s))) ≡ 128
-block-full s b h = length-take 128 (drop (b * 128) (wordsOf s)) ∙ omega (arith, length-drop (b * 128) (wordsOf s), length-words-of s)
+pub block-full : (s : List ℕ) (b : ℕ) → b * blockBytes + blockBytes ≤ length s → length (blockOf b (wordsOf s)) ≡ blockWords
+block-full s b h =
+    length-take blockWords (drop (b * blockWords) (wordsOf s))
+    ∙ omega (arith, length-drop (b * blockWords) (wordsOf s), length-words-of s)
 
 -- the blocks that are left
 module _ (n b : ℕ) (words : List ℕ) where
   pub blocks-next : b < n
-      → blocksOf (n - b) (drop (b * 128) words) ≡ take 128 (drop (b * 128) words) ∷ blocksOf (n - (b + 1)) (drop ((b + 1) * 128) words)
+      → blocksOf (n - b) (drop (b * blockWords) words) ≡ blockOf b words ∷ blocksOf (n - (b + 1)) (drop ((b + 1) * blockWords) words)
   unfolding blocksOf
   blocks-next h =
       let e : n - b ≡ suc (n - (b + 1)) = omega arith in
-      let d : b * 128 + 128 ≡ (b + 1) * 128 = omega arith in
-      ap (λ (k : ℕ). blocksOf k (drop (b * 128) words)) e
-      ∙ ap (λ (l : List ℕ). take 128 (drop (b * 128) words) ∷ blocksOf (n - (b + 1)) l)
-      (drop-drop 128 (b * 128) words ∙ ap (λ (k : ℕ). drop k words) d)
+      let d : b * blockWords + blockWords ≡ (b + 1) * blockWords = omega arith in
+      ap (λ (k : ℕ). blocksOf k (drop (b * blockWords) words)) e
+      ∙ ap (λ (l : List ℕ). blockOf b words ∷ blocksOf (n - (b + 1)) l)
+      (drop-drop blockWords (b * blockWords) words ∙ ap (λ (k : ℕ). drop k words) d)
 
-  pub blocks-end : n ≤ b → blocksOf (n - b) (drop (b * 128) words) ≡ []
+  pub blocks-end : n ≤ b → blocksOf (n - b) (drop (b * blockWords) words) ≡ []
   unfolding blocksOf
-  blocks-end h = ap (λ (k : ℕ). blocksOf k (drop (b * 128) words)) (let e : n - b ≡ 0 = omega arith in e)
+  blocks-end h = ap (λ (k : ℕ). blocksOf k (drop (b * blockWords) words)) (let e : n - b ≡ 0 = omega arith in e)
 
 -- Numbers of a list
 
@@ -184,15 +187,6 @@ part-of-over xs l lent n e f =
 pub over-long : {X : Type 0} (xs l lent : List X) (n : ℕ) → l ≡ over xs lent → length xs ≤ n → length lent ≡ n → length l ≡ n
 over-long xs l lent n e h f = ap length e ∙ length-over xs lent (omega arith) ∙ f
 
--- what five blocks hold
-module _ (bytes : List ℕ) (n k : ℕ) (sized : Sized bytes n k) where
-  pub pins-few : n ≤ 600
-  unfolding blocksFor
-  pins-few = omega (arith, sized .few, sized .fit)
-
-  pub macros-few : k ≤ 600
-  unfolding blocksFor
-  macros-few = omega (arith, sized .few, sized .fit)
-
-  pub blocks-few : 1 + blocksFor n + blocksFor k ≤ 6
-  blocks-few = omega (arith, sized .few, sized .fit)
+-- the blocks of a file of the right size
+pub blocks-few : (bytes : List ℕ) (n k : ℕ) → Sized bytes n k → blockCount n k ≤ fileBlocks
+blocks-few bytes n k sized = omega (arith, sized .few, sized .fit)

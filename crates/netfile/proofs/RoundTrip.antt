@@ -8,7 +8,7 @@ use mathlib.Core.List.{List, [], _∷_, _++_, append-nil, append-assoc}
 use Prim.Native.Nat.{ℕ, suc, _+_, _*_, _/_, _%_, _≤_}
 use native.Mathlib.Omega.{arith}
 use borrow.Author.Tests.{eq-eqb, ne-eqb, le-ltb}
-use lib.IntN.{ℤ, pos, negsuc}
+use lib.IntN.{ℤ, pos, negℤ}
 use lib.Signed.{ltZ}
 use lib.ListN.{length, getD, length-append}
 use mir.Syntax.{w32}
@@ -20,14 +20,19 @@ use Rattle.signed.proofs.SideLaws.{signed, one-side, to-sfits}
 use Rattle.lent.specs.Over.{over}
 use Rattle.lent.specs.Told.{given}
 use Rattle.lent.proofs.AfterLaws.{told-apart}
-use Rattle.net.specs.Check.{outOfRange, checked}
-use Rattle.net.proofs.PassedLaws.{PinsCounted, MacrosCounted, passed-all, pins-counted, macros-counted}
+use Rattle.net.specs.Bounds.{coordinateBound}
+use Rattle.net.specs.Check.{pinCount, macroCount, outOfRange, checked}
+use Rattle.net.proofs.PassedLaws.{passed-all}
+use Rattle.netfile.specs.Sizes.{blockWords, blockBytes, pinCountWord, macroCountWord, headKind, pinKind, macroKind, pinNumbers}
+use Rattle.netfile.specs.Sizes.{macroNumbers, blocksFor, blockCount, fileBlocks, fileBound}
 use Rattle.netfile.specs.Words.{wordsOf}
 use Rattle.netfile.specs.Sums.{sealed, wrongSums}
-use Rattle.netfile.specs.Layout.{block, headBlock, blocksFor, listBlocks, fileWords, fileBound, fileBytes}
-use Rattle.netfile.specs.Read.{blocksMiscounted, blocksOf, sumsWrong, headCount, numbersIn, pinsIn, macrosIn, countsWrong, laidOut}
-use Rattle.netfile.specs.Read.{roomShort, readFile}
+use Rattle.netfile.specs.Layout.{block, headBlock, pinBlocks, macroBlocks, fileWords, fileBytes}
+use Rattle.netfile.specs.Read.{blocksMiscounted, blocksOf, sumsWrong, headCount, pinLength, macroLength, numbersIn, pinsIn, macrosIn}
+use Rattle.netfile.specs.Read.{countsWrong, laidOut, roomShort, readFile}
+use Rattle.netfile.proofs.SizeLaws.{enough, pins-few, macros-few}
 use Rattle.netfile.proofs.LayoutLaws.{length-head, length-list-blocks, length-file}
+use Rattle.netfile.proofs.WriteLaws.{pins-ok, macros-ok, allowed-blocks}
 use Rattle.netfile.proofs.ReadLaws.{same-true, same-refl}
 use Rattle.netfile.proofs.AnswerLaws.{laid-out, laid-same, laid-allowed, refuse-21, refuse-1, refuse-2, refuse-3, read-on}
 use Rattle.netfile.proofs.FileLaws.{Small, Fit, words-bytes, small-append, small-block, small-list-blocks, pass-head, pass-list}
@@ -38,9 +43,9 @@ use Rattle.netfile.proofs.FileLaws.{list-read}
 in-range-fits : (z : ℤ) → outOfRange z ≡ false → SFits w32 z
 unfolding outOfRange up down
 in-range-fits z e =
-    let r = or-none (ltZ z (negsuc 999999)) (ltZ (pos 1000000) z) e in
-    let a : ltZ z (negsuc 999999) ≡ false = r .0 in
-    let b : ltZ (pos 1000000) z ≡ false = r .1 in
+    let r = or-none (ltZ z (negℤ (pos coordinateBound))) (ltZ (pos coordinateBound) z) e in
+    let a : ltZ z (negℤ (pos coordinateBound)) ≡ false = r .0 in
+    let b : ltZ (pos coordinateBound) z ≡ false = r .1 in
     to-sfits w32 z (omega (signed, one-side z)) (omega (signed, one-side z))
 
 all-fit : (zs : List ℤ) → any outOfRange zs ≡ false → Fit zs
@@ -54,137 +59,113 @@ no-blocks : any wrongSums (blocksOf 0 []) ≡ false
 unfolding any blocksOf
 no-blocks = refl
 
--- lists of whole entries that six blocks hold, of numbers that 32 bits hold; every allowed net is one
-pub record InSixBlocks (pins macros : List ℤ) : Type 0 where
-  pub whole-pins : length pins % 2 ≡ 0
-  pub whole-macros : length macros % 4 ≡ 0
+-- lists of whole entries that the longest file holds, of numbers that 32 bits hold; every allowed net is one
+pub record Storable (pins macros : List ℤ) : Type 0 where
+  pub whole-pins : length pins % pinNumbers ≡ 0
+  pub whole-macros : length macros % macroNumbers ≡ 0
   pub pins-fit : Fit pins
   pub macros-fit : Fit macros
-  pub blocks : 1 + blocksFor (length pins) + blocksFor (length macros) ≤ 6
+  pub blocks : blockCount (length pins) (length macros) ≤ fileBlocks
 
-module _ (pins macros : List ℤ) (net : ℕ × ℕ) (allowed : checked pins macros ≡ given net) where
-  pins-ok : PinsCounted pins
-  pins-ok = pins-counted pins (passed-all pins macros net allowed .past .past .past .past .past .past .past .passed)
-
-  macros-ok : MacrosCounted macros
-  macros-ok = macros-counted macros (passed-all pins macros net allowed .past .past .past .past .past .past .passed)
-
-  pin-blocks : blocksFor (length pins) ≤ 2
-  unfolding blocksFor
-  pin-blocks = omega (arith, pins-ok .whole, pins-ok .few)
-
-  macro-blocks : blocksFor (length macros) ≤ 3
-  unfolding blocksFor
-  macro-blocks = omega (arith, macros-ok .whole, macros-ok .few)
-
-  pub allowed-in-six : InSixBlocks pins macros
-  allowed-in-six = record {
-    whole-pins = pins-ok .whole;
-    whole-macros = macros-ok .whole;
-    pins-fit = all-fit pins (passed-all pins macros net allowed .past .past .past .past .past .passed);
-    macros-fit = all-fit macros (passed-all pins macros net allowed .past .past .past .past .passed);
-    blocks = omega (arith, pin-blocks, macro-blocks);
-  }
+pub allowed-storable : (pins macros : List ℤ) (net : ℕ × ℕ) → checked pins macros ≡ given net → Storable pins macros
+allowed-storable pins macros net e =
+    let a = passed-all pins macros net e .past .past .past .past in
+    record {
+      whole-pins = pins-ok pins macros net e .whole;
+      whole-macros = macros-ok pins macros net e .whole;
+      pins-fit = all-fit pins (a .past .passed);
+      macros-fit = all-fit macros (a .passed);
+      blocks = allowed-blocks pins macros net e;
+    }
 
 -- The file of two such lists, read
 
-module _ (pins macros : List ℤ) (lists : InSixBlocks pins macros) where
-  pins-few : length pins ≤ 600
-  unfolding blocksFor
-  pins-few = omega (arith, lists .blocks)
-
-  macros-few : length macros ≤ 600
-  unfolding blocksFor
-  macros-few = omega (arith, lists .blocks)
-
-  small-head : Small (headBlock (length pins / 2) (length macros / 4))
+module _ (pins macros : List ℤ) (lists : Storable pins macros) where
+  small-head : Small (headBlock (pinCount pins) (macroCount macros))
   unfolding headBlock
   small-head =
-      small-block 1 0 0 _ (omega arith) (omega arith) (omega arith)
-      (omega (arith, pins-few), (omega (arith, macros-few), tt))
+      small-block headKind 0 0 _ (omega arith) (omega arith) (omega arith)
+      (omega (arith, pins-few _ _ (lists .blocks)), (omega (arith, macros-few _ _ (lists .blocks)), tt))
 
   small-file : Small (fileWords pins macros)
   unfolding fileWords
   small-file =
       small-append (headBlock _ _) _ small-head
-      (small-append (listBlocks 2 2 1 (blocksFor (length pins)) pins) _
-      (small-list-blocks 2 2 1 (blocksFor (length pins)) pins (omega arith) (omega (arith, lists .blocks)) (lists .pins-fit))
-      (small-list-blocks 3 4 (1 + blocksFor (length pins)) (blocksFor (length macros)) macros (omega arith) (omega (arith, lists .blocks))
+      (small-append (pinBlocks pins) _
+      (small-list-blocks pinKind pinNumbers 1 (blocksFor (length pins)) pins (omega arith) (omega (arith, lists .blocks)) (lists .pins-fit))
+      (small-list-blocks macroKind macroNumbers (1 + blocksFor (length pins)) (blocksFor (length macros)) macros (omega arith)
+      (omega (arith, lists .blocks))
       (lists .macros-fit)))
 
   words-read : wordsOf (fileBytes pins macros) ≡ fileWords pins macros
   unfolding fileBytes
   words-read = words-bytes (fileWords pins macros) small-file
 
-  pin-count-read : headCount 4 (fileBytes pins macros) ≡ length pins / 2
+  pin-count-read : headCount pinCountWord (fileBytes pins macros) ≡ pinCount pins
   unfolding headCount fileWords headBlock block sealed over
-  pin-count-read = ap (λ (ws : List ℕ). getD ws 4 0) words-read
+  pin-count-read = ap (λ (ws : List ℕ). getD ws pinCountWord 0) words-read
 
-  macro-count-read : headCount 5 (fileBytes pins macros) ≡ length macros / 4
+  macro-count-read : headCount macroCountWord (fileBytes pins macros) ≡ macroCount macros
   unfolding headCount fileWords headBlock block sealed over
-  macro-count-read = ap (λ (ws : List ℕ). getD ws 5 0) words-read
+  macro-count-read = ap (λ (ws : List ℕ). getD ws macroCountWord 0) words-read
 
-  pin-numbers : headCount 4 (fileBytes pins macros) * 2 ≡ length pins
+  pin-numbers : pinLength (fileBytes pins macros) ≡ length pins
   pin-numbers = omega (arith, pin-count-read, lists .whole-pins)
 
-  macro-numbers : headCount 5 (fileBytes pins macros) * 4 ≡ length macros
+  macro-numbers : macroLength (fileBytes pins macros) ≡ length macros
   macro-numbers = omega (arith, macro-count-read, lists .whole-macros)
-
-  enough : (n : ℕ) → n ≤ blocksFor n * 120
-  unfolding blocksFor
-  enough n = omega arith
 
   pins-read : pinsIn (fileBytes pins macros) ≡ pins
   unfolding pinsIn fileWords
   pins-read =
       ap (numbersIn (fileBytes pins macros) 1 0) pin-numbers
-      ∙ list-read (fileBytes pins macros) (headBlock (length pins / 2) (length macros / 4)) _ 2 2 1 1 (blocksFor (length pins)) pins
-      words-read (length-head _ _) (enough (length pins)) (lists .pins-fit)
+      ∙ list-read (fileBytes pins macros) (headBlock (pinCount pins) (macroCount macros)) _ pinKind pinNumbers 1 1 (blocksFor (length pins))
+      pins words-read (length-head _ _) (enough (length pins)) (lists .pins-fit)
 
   macros-read : macrosIn (fileBytes pins macros) ≡ macros
   unfolding macrosIn fileWords
   macros-read =
-      let h = headBlock (length pins / 2) (length macros / 4) in
+      let h = headBlock (pinCount pins) (macroCount macros) in
       let n = blocksFor (length pins) in
-      let p = listBlocks 2 2 1 n pins in
-      let q = listBlocks 3 4 (1 + n) (blocksFor (length macros)) macros in
+      let p = pinBlocks pins in
+      let q = macroBlocks pins macros in
       let w : wordsOf (fileBytes pins macros) ≡ (h ++ p) ++ (q ++ []) =
       words-read ∙ sym (append-assoc h p q) ∙ ap (λ (l : List ℕ). (h ++ p) ++ l) (sym (append-nil q))
       in
-      let l : length (h ++ p) ≡ (1 + n) * 128 =
-      length-append h p ∙ omega (arith, length-head (length pins / 2) (length macros / 4), length-list-blocks 2 2 1 n pins)
+      let l : length (h ++ p) ≡ (1 + n) * blockWords =
+      length-append h p ∙ omega (arith, length-head (pinCount pins) (macroCount macros), length-list-blocks pinKind pinNumbers 1 n pins)
       in
       ap₂ (λ (b k : ℕ). numbersIn (fileBytes pins macros) (1 + blocksFor b) 0 k) pin-numbers macro-numbers
-      ∙ list-read (fileBytes pins macros) (h ++ p) [] 3 4 (1 + n) (1 + n) (blocksFor (length macros)) macros w l (enough (length macros))
-      (lists .macros-fit)
+      ∙ list-read (fileBytes pins macros) (h ++ p) [] macroKind macroNumbers (1 + n) (1 + n) (blocksFor (length macros)) macros w l
+      (enough (length macros)) (lists .macros-fit)
 
   blocks-right : blocksMiscounted (fileBytes pins macros) ≡ false
   unfolding blocksMiscounted
   blocks-right =
       let n = length-file pins macros in
-      let a : length (fileBytes pins macros) % 512 ≡ 0 = omega (arith, n) in
-      let b : length (fileBytes pins macros) / 512 ≡ 0 → ⊥ = λ e. omega (arith, n, e) in
-      let c : length (fileBytes pins macros) / 512 ≤ 6 = omega (arith, n, lists .blocks) in
-      rw (eq-eqb _ 0 a, ne-eqb _ 0 b, le-ltb 6 _ c) refl
+      let a : length (fileBytes pins macros) % blockBytes ≡ 0 = omega (arith, n) in
+      let b : length (fileBytes pins macros) / blockBytes ≡ 0 → ⊥ = λ e. omega (arith, n, e) in
+      let c : length (fileBytes pins macros) / blockBytes ≤ fileBlocks = omega (arith, n, lists .blocks) in
+      rw (eq-eqb _ 0 a, ne-eqb _ 0 b, le-ltb fileBlocks _ c) refl
 
   sums-right : sumsWrong (fileBytes pins macros) ≡ false
   unfolding sumsWrong fileWords
   sums-right =
       let n = blocksFor (length pins) in
       let k = blocksFor (length macros) in
-      let q = listBlocks 3 4 (1 + n) k macros in
-      let e : length (fileBytes pins macros) / 512 ≡ suc (n + (k + 0)) = omega (arith, length-file pins macros) in
+      let q = macroBlocks pins macros in
+      let e : length (fileBytes pins macros) / blockBytes ≡ suc (n + (k + 0)) = omega (arith, length-file pins macros) in
       ap₂ (λ (i : ℕ) (ws : List ℕ). any wrongSums (blocksOf i ws)) e words-read
-      ∙ pass-head (length pins / 2) (length macros / 4) (n + (k + 0)) _
-      ∙ pass-list 2 2 1 n (k + 0) pins q
+      ∙ pass-head (pinCount pins) (macroCount macros) (n + (k + 0)) _
+      ∙ pass-list pinKind pinNumbers 1 n (k + 0) pins q
       ∙ ap (λ (ws : List ℕ). any wrongSums (blocksOf (k + 0) ws)) (sym (append-nil q))
-      ∙ pass-list 3 4 (1 + n) k 0 macros []
+      ∙ pass-list macroKind macroNumbers (1 + n) k 0 macros []
       ∙ no-blocks
 
   counts-right : countsWrong (fileBytes pins macros) ≡ false
   unfolding countsWrong
   counts-right =
-      let e : length (fileBytes pins macros) / 512 ≡ 1 + blocksFor (length pins) + blocksFor (length macros) = omega
+      let e : length (fileBytes pins macros) / blockBytes ≡ blockCount (length pins) (length macros) = omega
       (arith, length-file pins macros) in
       rw (pin-numbers, macro-numbers, eq-eqb _ _ e) refl
 
@@ -197,7 +178,7 @@ pub record ReadBack (pins macros : List ℤ) : Type 0 where
   pub answer : (p q : ℕ) → roomShort p q ≡ false → readFile (fileBytes pins macros) p q ≡ checked pins macros
 
 -- reading what was laid out gives the same lists in the same order, also where they are more than a net may have: 11 or 12, not 3
-pub read-laid : (pins macros : List ℤ) → InSixBlocks pins macros → ReadBack pins macros
+pub read-laid : (pins macros : List ℤ) → Storable pins macros → ReadBack pins macros
 read-laid pins macros l =
     let f = fileBytes pins macros in
     let p = pins-read pins macros l in
@@ -213,12 +194,12 @@ read-laid pins macros l =
 
 -- reading what was written gives the same lists in the same order
 pub read-written : (pins macros : List ℤ) (net : ℕ × ℕ) → checked pins macros ≡ given net → ReadBack pins macros
-read-written pins macros net e = read-laid pins macros (allowed-in-six pins macros net e)
+read-written pins macros net e = read-laid pins macros (allowed-storable pins macros net e)
 
--- F16: no file is longer than 6 blocks
+-- F16: no file is longer than the longest
 pub longest-file : (pins macros : List ℤ) (net : ℕ × ℕ) → checked pins macros ≡ given net → length (fileBytes pins macros) ≤ fileBound
 longest-file pins macros net e =
-    omega (arith, length-file pins macros, allowed-in-six pins macros net e .blocks)
+    omega (arith, length-file pins macros, allowed-storable pins macros net e .blocks)
 
 -- an accepted file is what the writer makes of the lists read, and these are an allowed net
 pub record Ours (bytes : List ℕ) (net : ℕ × ℕ) : Type 0 where

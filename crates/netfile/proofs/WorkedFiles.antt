@@ -1,19 +1,42 @@
--- A worked net as a file, by computing the definitions: its blocks' first words and sums, and the answers of a read of it and of damaged
--- copies.
+-- The limits of the format, and a worked net as a file, by computing the definitions: its blocks' first words and sums, and the answers of
+-- a read of it and of damaged copies.
 -- Assumes nothing.
 use mathlib.Core.Path.{_≡_, refl}
 use mathlib.Core.List.{List, [], _∷_, _++_}
-use Prim.Native.Nat.{ℕ, _*_, _+_}
+use Prim.Native.Nat.{ℕ, _*_, _+_, _-_}
 use lib.ListN.{take, drop, set}
 use Rattle.lent.specs.Told.{Told, refused, given}
 use Rattle.lent.specs.Over.{over}
 use Rattle.net.specs.WorkedNets.{Lists, aroundOne}
 use Rattle.net.proofs.WorkedChecks.{answer}
+use Rattle.netfile.specs.Sizes.{blockWords, blockBytes, summedWords, pinsPerBlock, macrosPerBlock, pinListBound, macroListBound}
+use Rattle.netfile.specs.Sizes.{blocksFor, fileBlocks, fileBound}
 use Rattle.netfile.specs.Words.{wordsOf, bytesOfWord, bytesOf, wordOf, coordinate}
 use Rattle.netfile.specs.Sums.{total, runningSums, plainSum, sumOfSums, sealed, wrongSums}
-use Rattle.netfile.specs.Layout.{block, headBlock, listBlock, blocksFor, listBlocks, fileWords, fileBytes}
+use Rattle.netfile.specs.Layout.{block, headBlock, listBlock, listBlocks, fileWords, fileBytes}
 use Rattle.netfile.specs.Read.{blocksMiscounted, blocksOf, sumsWrong, headCount, numberIn, numbersIn, pinsIn, macrosIn, sameNumbers}
 use Rattle.netfile.specs.Read.{countsWrong, laidOut, roomShort, readFile}
+
+-- the numbers that the document gives, each worked out from the net's bounds and the format's own numbers
+pub record Limits : Type 0 where
+  pub bytes-a-block : blockBytes ≡ 512
+  pub pins-a-block : pinsPerBlock ≡ 60
+  pub macros-a-block : macrosPerBlock ≡ 30
+  pub longest-blocks : fileBlocks ≡ 6
+  pub longest-bytes : fileBound ≡ 3072
+  pub pins-lent : pinListBound ≡ 128
+  pub macros-lent : macroListBound ≡ 256
+
+pub worked-limits : Limits
+worked-limits = record {
+  bytes-a-block = refl;
+  pins-a-block = refl;
+  macros-a-block = refl;
+  longest-blocks = refl;
+  longest-bytes = refl;
+  pins-lent = refl;
+  macros-lent = refl;
+}
 
 -- the file of a net as words, and the answer of a read of words; to unfold these is to unfold all that they rest on
 unfoldable pub words : Lists → List ℕ
@@ -26,9 +49,13 @@ unfolding answer over wordsOf bytesOfWord bytesOf wordOf coordinate total runnin
     sameNumbers countsWrong laidOut roomShort readFile
 readWords ws p q = readFile (bytesOf ws) p q
 
+-- the answer of a read into room for the largest net
+abbrev readAll : List ℕ → Told (ℕ × ℕ)
+readAll ws = readWords ws pinListBound macroListBound
+
 -- the first eight words of the block b, and its two sums
 unfoldable pub shown : List ℕ → ℕ → List ℕ
-shown ws b = take 8 (drop (b * 128) ws) ++ take 2 (drop (b * 128 + 126) ws)
+shown ws b = take 8 (drop (b * blockWords) ws) ++ take 2 (drop (b * blockWords + summedWords) ws)
 
 -- a block of one pin (5, 5), by its kind, number and count, and files of it
 abbrev onePinIn : ℕ → ℕ → ℕ → List ℕ
@@ -39,20 +66,20 @@ pub record Table : Type 0 where
   pub head : shown (words aroundOne) 0 ≡ 1 ∷ (0 ∷ (0 ∷ (0 ∷ (2 ∷ (1 ∷ (0 ∷ (0 ∷ (4 ∷ (491 ∷ [])))))))))
   pub pins : shown (words aroundOne) 1 ≡ 2 ∷ (1 ∷ (2 ∷ (0 ∷ (0 ∷ (0 ∷ (10 ∷ (0 ∷ (15 ∷ (1825 ∷ [])))))))))
   pub macros : shown (words aroundOne) 2 ≡ 3 ∷ (2 ∷ (1 ∷ (0 ∷ (4 ∷ (4294967294 ∷ (6 ∷ (3 ∷ (17 ∷ (2075 ∷ [])))))))))
-  pub read : readWords (words aroundOne) 128 256 ≡ given (2, 1)
+  pub read : readAll (words aroundOne) ≡ given (2, 1)
   -- one pin, and what is refused around it
-  pub one-pin : readWords (headBlock 1 0 ++ onePinIn 2 1 1) 128 256 ≡ given (1, 0)
-  pub room : readWords (headBlock 1 0 ++ onePinIn 2 1 1) 127 256 ≡ refused 21
-  pub empty : readWords [] 128 256 ≡ refused 1
-  pub sum : readWords (set (headBlock 1 0 ++ onePinIn 2 1 1) 254 15) 128 256 ≡ refused 2
-  pub second-sum : readWords (set (headBlock 1 0 ++ onePinIn 2 1 1) 255 0) 128 256 ≡ refused 2
-  pub kind : readWords (headBlock 1 0 ++ onePinIn 3 1 1) 128 256 ≡ refused 3
-  pub number : readWords (headBlock 1 0 ++ onePinIn 2 2 1) 128 256 ≡ refused 3
-  pub count : readWords (headBlock 1 0 ++ onePinIn 2 1 2) 128 256 ≡ refused 3
-  pub not-zero : readWords (headBlock 1 0 ++ block 2 1 1 (5 ∷ (5 ∷ (0 ∷ (7 ∷ []))))) 128 256 ≡ refused 3
-  pub too-few-blocks : readWords (headBlock 1 0) 128 256 ≡ refused 3
-  pub largest-count : readWords (headBlock 4294967295 4294967295 ++ onePinIn 2 1 1) 128 256 ≡ refused 3
-  pub no-pin : readWords (headBlock 0 0) 128 256 ≡ refused 11
+  pub one-pin : readAll (headBlock 1 0 ++ onePinIn 2 1 1) ≡ given (1, 0)
+  pub room : readWords (headBlock 1 0 ++ onePinIn 2 1 1) (pinListBound - 1) macroListBound ≡ refused 21
+  pub empty : readAll [] ≡ refused 1
+  pub sum : readAll (set (headBlock 1 0 ++ onePinIn 2 1 1) 254 15) ≡ refused 2
+  pub second-sum : readAll (set (headBlock 1 0 ++ onePinIn 2 1 1) 255 0) ≡ refused 2
+  pub kind : readAll (headBlock 1 0 ++ onePinIn 3 1 1) ≡ refused 3
+  pub number : readAll (headBlock 1 0 ++ onePinIn 2 2 1) ≡ refused 3
+  pub count : readAll (headBlock 1 0 ++ onePinIn 2 1 2) ≡ refused 3
+  pub not-zero : readAll (headBlock 1 0 ++ block 2 1 1 (5 ∷ (5 ∷ (0 ∷ (7 ∷ []))))) ≡ refused 3
+  pub too-few-blocks : readAll (headBlock 1 0) ≡ refused 3
+  pub largest-count : readAll (headBlock 4294967295 4294967295 ++ onePinIn 2 1 1) ≡ refused 3
+  pub no-pin : readAll (headBlock 0 0) ≡ refused 11
 
 pub worked-files : Table
 unfolding words readWords shown

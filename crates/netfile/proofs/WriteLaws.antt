@@ -1,15 +1,20 @@
--- The answer of a write by its cases: what the check refuses, too little room, and room enough.
+-- The answer of a write by its cases: what the check refuses, too little room, and room enough; and that every allowed net fits into the
+-- longest file.
 -- Assumes nothing.
 use mathlib.Core.Path.{_≡_, refl, ap}
 use mathlib.Core.List.{List}
 use Prim.Native.Nat.{ℕ, _≤_, _<_}
+use native.Mathlib.Omega.{arith}
 use borrow.Author.Tests.{lt-ltb, le-ltb}
 use lib.IntN.{ℤ}
 use lib.ListN.{length}
 use Rattle.lent.specs.Told.{Told, refused, given, onlyIf}
 use Rattle.net.specs.Check.{checked}
+use Rattle.net.proofs.PassedLaws.{PinsCounted, MacrosCounted, passed-all, pins-counted, macros-counted}
+use Rattle.netfile.specs.Sizes.{blockCount, fileBlocks}
 use Rattle.netfile.specs.Layout.{fileBytes}
 use Rattle.netfile.specs.Write.{fitted, written}
+use Rattle.netfile.proofs.SizeLaws.{lists-in-file}
 
 pub fitted-short : (needed room : ℕ) → room < needed → fitted needed room ≡ refused 21
 unfolding fitted
@@ -28,3 +33,17 @@ module _ (pins macros : List ℤ) (room : ℕ) where
       ≡ fitted (length (fileBytes pins macros)) room
   unfolding written onlyIf
   written-allowed net e = ap (λ (t : Told (ℕ × ℕ)). onlyIf t (fitted (length (fileBytes pins macros)) room)) e
+
+-- lists that passed the check, by their lengths
+module _ (pins macros : List ℤ) (net : ℕ × ℕ) (allowed : checked pins macros ≡ given net) where
+  pub pins-ok : PinsCounted pins
+  pins-ok = pins-counted pins (passed-all pins macros net allowed .past .past .past .past .past .past .past .passed)
+
+  pub macros-ok : MacrosCounted macros
+  macros-ok = macros-counted macros (passed-all pins macros net allowed .past .past .past .past .past .past .passed)
+
+  -- F16: no allowed net takes more blocks than the longest file has
+  pub allowed-blocks : blockCount (length pins) (length macros) ≤ fileBlocks
+  allowed-blocks =
+      lists-in-file (length pins) (length macros) (omega (arith, pins-ok .whole, pins-ok .few))
+      (omega (arith, macros-ok .whole, macros-ok .few))

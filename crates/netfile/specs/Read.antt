@@ -8,33 +8,49 @@ use lib.IntN.{ℤ}
 use lib.ListN.{length, take, drop, getD}
 use Rattle.lent.specs.Told.{Told, refused}
 use Rattle.lists.specs.Any.{any}
-use Rattle.net.specs.Bounds.{pinBound, macroBound}
 use Rattle.net.specs.Check.{checked}
+use Rattle.netfile.specs.Sizes.{blockWords, blockBytes, firstEntry, pinCountWord, macroCountWord, perBlock, pinNumbers, macroNumbers}
+use Rattle.netfile.specs.Sizes.{pinListBound, macroListBound, blocksFor, blockCount, fileBlocks, fileBound}
 use Rattle.netfile.specs.Words.{wordsOf, coordinate}
 use Rattle.netfile.specs.Sums.{wrongSums}
-use Rattle.netfile.specs.Layout.{perBlock, blocksFor, fileBound, fileBytes}
+use Rattle.netfile.specs.Layout.{fileBytes}
 
--- C1: the length is not that of 1 to 6 blocks
+-- C1: the length is not that of whole blocks, from one to those of the longest file
 unfoldable pub blocksMiscounted : List ℕ → Bool
 blocksMiscounted bytes =
-    not (eqb (length bytes % 512) 0) || (eqb (length bytes / 512) 0 || ltb 6 (length bytes / 512))
+    not (eqb (length bytes % blockBytes) 0) || (eqb (length bytes / blockBytes) 0 || ltb fileBlocks (length bytes / blockBytes))
 
--- F1: the first n blocks of words, 128 words each
+-- F1: the words of the block b
+abbrev pub blockOf : ℕ → List ℕ → List ℕ
+blockOf b words = take blockWords (drop (b * blockWords) words)
+
+-- the first n blocks
 unfoldable pub blocksOf : ℕ → List ℕ → List (List ℕ)
 blocksOf zero words = []
-blocksOf (suc n) words = take 128 words ∷ blocksOf n (drop 128 words)
+blocksOf (suc n) words = take blockWords words ∷ blocksOf n (drop blockWords words)
 
 -- C2: in some block a sum is wrong
 unfoldable pub sumsWrong : List ℕ → Bool
-sumsWrong bytes = any wrongSums (blocksOf (length bytes / 512) (wordsOf bytes))
+sumsWrong bytes = any wrongSums (blocksOf (length bytes / blockBytes) (wordsOf bytes))
 
--- F9: m and k from the head's words 4 and 5
+-- a word of the head, as a count
 unfoldable pub headCount : ℕ → List ℕ → ℕ
 headCount i bytes = getD (wordsOf bytes) i 0
 
--- the number j of a list whose blocks begin at the block b: 120 numbers a block, from word 4 on
+-- F9: the lengths of the two lists, by m and k in the head
+abbrev pub pinLength : List ℕ → ℕ
+pinLength bytes = headCount pinCountWord bytes * pinNumbers
+
+abbrev pub macroLength : List ℕ → ℕ
+macroLength bytes = headCount macroCountWord bytes * macroNumbers
+
+-- F6, F14: the word of the number j among those of its list's blocks
+abbrev pub placeIn : ℕ → ℕ
+placeIn j = j / perBlock * blockWords + (firstEntry + j % perBlock)
+
+-- the number j of a list whose blocks begin at the block b
 unfoldable pub numberIn : List ℕ → ℕ → ℕ → ℤ
-numberIn bytes b j = coordinate (getD (wordsOf bytes) ((b + j / perBlock) * 128 + (4 + j % perBlock)) 0)
+numberIn bytes b j = coordinate (getD (wordsOf bytes) (b * blockWords + placeIn j) 0)
 
 -- n numbers of such a list, from the one numbered j on
 unfoldable pub numbersIn : List ℕ → ℕ → ℕ → ℕ → List ℤ
@@ -43,10 +59,10 @@ numbersIn bytes b j (suc n) = numberIn bytes b j ∷ numbersIn bytes b (suc j) n
 
 -- the lists that a file holds: as many pins and macros as its head says, the pins from block 1 on, the macros in the blocks after theirs
 unfoldable pub pinsIn : List ℕ → List ℤ
-pinsIn bytes = numbersIn bytes 1 0 (headCount 4 bytes * 2)
+pinsIn bytes = numbersIn bytes 1 0 (pinLength bytes)
 
 unfoldable pub macrosIn : List ℕ → List ℤ
-macrosIn bytes = numbersIn bytes (1 + blocksFor (headCount 4 bytes * 2)) 0 (headCount 5 bytes * 4)
+macrosIn bytes = numbersIn bytes (1 + blocksFor (pinLength bytes)) 0 (macroLength bytes)
 
 -- two lists of numbers are the same
 unfoldable pub sameNumbers : List ℕ → List ℕ → Bool
@@ -57,20 +73,20 @@ sameNumbers (x ∷ xs) (y ∷ ys) = eqb x y && sameNumbers xs ys
 
 -- C3: the head's counts do not fit the blocks that there are
 unfoldable pub countsWrong : List ℕ → Bool
-countsWrong bytes = not (eqb (length bytes / 512) (1 + blocksFor (headCount 4 bytes * 2) + blocksFor (headCount 5 bytes * 4)))
+countsWrong bytes = not (eqb (length bytes / blockBytes) (blockCount (pinLength bytes) (macroLength bytes)))
 
--- a file of as many bytes as n numbers of pins and k of macros take, within 6 blocks; the code's own condition
+-- a file of as many bytes as n numbers of pins and k of macros take, and no longer than the longest; the code's own condition
 pub record Sized (bytes : List ℕ) (n k : ℕ) : Type 0 where
   pub few : length bytes ≤ fileBound
-  pub fit : length bytes ≡ (1 + blocksFor n + blocksFor k) * 512
+  pub fit : length bytes ≡ blockCount n k * blockBytes
 
 -- C3: the file is not the one that the layout makes of the lists that it holds. C73: after that, the net's own refusals.
 unfoldable pub laidOut : List ℕ → List ℤ → List ℤ → Told (ℕ × ℕ)
 laidOut bytes pins macros = cond (sameNumbers bytes (fileBytes pins macros)) (checked pins macros) (refused 3)
 
--- C71: fewer than 128 numbers for pins or 256 for macros
+-- C71: fewer numbers for pins or for macros than the longest lists have
 unfoldable pub roomShort : ℕ → ℕ → Bool
-roomShort pinRoom macroRoom = ltb pinRoom (pinBound * 2) || ltb macroRoom (macroBound * 4)
+roomShort pinRoom macroRoom = ltb pinRoom pinListBound || ltb macroRoom macroListBound
 
 -- C71, C52: the answer of a read into `pinRoom` and `macroRoom` lent numbers, with m and k
 unfoldable pub readFile : List ℕ → ℕ → ℕ → Told (ℕ × ℕ)

@@ -4,6 +4,7 @@ use mathlib.Core.List.{List, [], _∷_, _++_}
 use Prim.Native.Nat.{ℕ, _+_, _%_}
 use lib.Dec.{eqb}
 use lib.ListN.{take, getD}
+use Rattle.netfile.specs.Sizes.{summedWords, secondSum}
 
 unfoldable pub total : List ℕ → ℕ
 total [] = 0
@@ -14,19 +15,20 @@ unfoldable pub runningSums : ℕ → List ℕ → List ℕ
 runningSums s [] = []
 runningSums s (w ∷ ws) = (s + w) ∷ runningSums (s + w) ws
 
--- F11: word 126, the words before it added up modulo 2^32
+-- F11: the words before the sums added up modulo 2^32
 unfoldable pub plainSum : List ℕ → ℕ
 plainSum ws = total ws % 4294967296
 
--- F12: word 127, the 126 running sums added up modulo 2^32
+-- F12: their running sums added up modulo 2^32
 unfoldable pub sumOfSums : List ℕ → ℕ
 sumOfSums ws = total (runningSums 0 ws) % 4294967296
 
--- a block's words 0 to 125, and then its two sums
+-- the words of a block, and then its two sums
 unfoldable pub sealed : List ℕ → List ℕ
 sealed ws = ws ++ (plainSum ws ∷ (sumOfSums ws ∷ []))
 
--- C2, for one block: word 126 or word 127 is not the sum
+-- C2, for one block: one of its last two words is not the sum
 unfoldable pub wrongSums : List ℕ → Bool
 wrongSums block =
-    not (eqb (getD block 126 0) (plainSum (take 126 block))) || not (eqb (getD block 127 0) (sumOfSums (take 126 block)))
+    not (eqb (getD block summedWords 0) (plainSum (take summedWords block)))
+    || not (eqb (getD block secondSum 0) (sumOfSums (take summedWords block)))

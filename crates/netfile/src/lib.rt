@@ -13,14 +13,88 @@ ghost use lib.ListN.{length, take, drop};
 ghost use lib.Seq.{sets};
 ghost use Rattle.lent.specs.Over.{over, after};
 ghost use Rattle.net.specs.Check.{told};
+ghost use Rattle.netfile.specs.Sizes.{
+  blockWords,
+  blockBytes,
+  summedWords,
+  perBlock,
+  blocksFor,
+  blockCount,
+  fileBlocks,
+  fileNumbers,
+};
 ghost use Rattle.netfile.specs.Words.{wordsOf, wordFrom, bytesOfWord, bytesOf, wordOf, coordinate};
 ghost use Rattle.netfile.specs.Sums.{plainSum, sumOfSums, sealed, wrongSums};
-ghost use Rattle.netfile.specs.Layout.{headBlock, listBlock, blocksFor, listBlocks, fileBytes};
+ghost use Rattle.netfile.specs.Layout.{headBlock, listBlock, allBlocks, fileBytes};
 ghost use Rattle.netfile.specs.Write.{fitted, written, toldBytes};
-ghost use Rattle.netfile.specs.Read.{blocksMiscounted, sumsWrong, headCount, numberIn, numbersIn, pinsIn, macrosIn, sameNumbers, Sized, countsWrong, laidOut, roomShort, readFile};
+ghost use Rattle.netfile.specs.Read.{
+  blocksMiscounted,
+  blockOf,
+  sumsWrong,
+  headCount,
+  pinLength,
+  macroLength,
+  numberIn,
+  numbersIn,
+  pinsIn,
+  macrosIn,
+  sameNumbers,
+  Sized,
+  countsWrong,
+  laidOut,
+  roomShort,
+  readFile,
+};
 
-// Bytes of the longest file: six blocks.
-pub const LONGEST: usize = 6 * 512;
+// The format's own numbers, as in specs/Sizes.antt: a block's words, those before its two sums, the word at which entries begin (and the
+// counts in the head), the numbers of a full block, and the kinds of blocks.
+const BLOCK_WORDS: usize = 128;
+
+const BLOCK_BYTES: usize = BLOCK_WORDS * 4;
+
+const SUMMED_WORDS: usize = BLOCK_WORDS - 2;
+
+const SECOND_SUM: usize = SUMMED_WORDS + 1;
+
+const FIRST_ENTRY: usize = 4;
+
+const PIN_COUNT_WORD: usize = FIRST_ENTRY;
+
+const MACRO_COUNT_WORD: usize = FIRST_ENTRY + 1;
+
+const PER_BLOCK: usize = 120;
+
+const HEAD_KIND: u32 = 1;
+
+const PIN_KIND: u32 = 2;
+
+const MACRO_KIND: u32 = 3;
+
+// The numbers of a pin and of a macro.
+const PIN_NUMBERS: usize = 2;
+
+const MACRO_NUMBERS: usize = 4;
+
+// The entries of a full block.
+const PINS_PER_BLOCK: usize = PER_BLOCK / PIN_NUMBERS;
+
+const MACROS_PER_BLOCK: usize = PER_BLOCK / MACRO_NUMBERS;
+
+// The numbers of the longest lists: what a read asks to be lent.
+pub const PIN_LIST: usize = Net::PINS * PIN_NUMBERS;
+
+pub const MACRO_LIST: usize = Net::MACROS * MACRO_NUMBERS;
+
+// The blocks of the longest file: the head, and as many as the largest net takes.
+const FILE_BLOCKS: usize = 1
+    + (Net::PINS + PINS_PER_BLOCK - 1) / PINS_PER_BLOCK
+    + (Net::MACROS + MACROS_PER_BLOCK - 1) / MACROS_PER_BLOCK;
+
+// The bytes of the longest file.
+pub const LONGEST: usize = FILE_BLOCKS * BLOCK_BYTES;
+
+// The numbers that its blocks after the head have room for.
+const FILE_NUMBERS: usize = (FILE_BLOCKS - 1) * PER_BLOCK;
 
 // The answer of a write.
 pub enum Written {
@@ -85,15 +159,16 @@ fn coordinate_of(w: u32) -> i32
     (w as i64 - 4294967296) as i32
 }
 
-// The sums of words 0 to 125: a wrapping sum, and a wrapping sum of the running sums.
-fn sums_of(block: &[u32; 128]) -> Sums
-    requires { ⌜ length (now block) ≡ 128 ⌝ }
-    ensures { λ r. ⌜ (r .plain ≡ plainSum (take 126 (now (block .entry)))) × (r .running ≡ sumOfSums (take 126 (now (block .entry)))) ⌝ }
+// The sums of the words before them: a wrapping sum, and a wrapping sum of the running sums.
+fn sums_of(block: &[u32; BLOCK_WORDS]) -> Sums
+    requires { ⌜ length (now block) ≡ blockWords ⌝ }
+    ensures { λ r. ⌜ (r .plain ≡ plainSum (take summedWords (now (block .entry))))
+        × (r .running ≡ sumOfSums (take summedWords (now (block .entry)))) ⌝ }
 {
     let mut plain: u32 = 0;
     let mut running: u32 = 0;
     let mut i = 0;
-    while i < 126 {
+    while i < SUMMED_WORDS {
         plain = std::num::wrapping_add_u32(plain, block[i]);
         running = std::num::wrapping_add_u32(running, plain);
         i += 1;
@@ -101,86 +176,90 @@ fn sums_of(block: &[u32; 128]) -> Sums
     Sums { plain, running }
 }
 
-// The words 0 to 125 of a block, with their sums.
-fn seal(block: [u32; 128]) -> [u32; 128]
-    requires { ⌜ length block ≡ 128 ⌝ }
-    ensures { λ r. ⌜ r ≡ sealed (take 126 block) ⌝ }
+// The words of a block, with their sums as its last two.
+fn seal(block: [u32; BLOCK_WORDS]) -> [u32; BLOCK_WORDS]
+    requires { ⌜ length block ≡ blockWords ⌝ }
+    ensures { λ r. ⌜ r ≡ sealed (take summedWords block) ⌝ }
 {
     let s = sums_of(&block);
     let mut t = block;
-    t[126] = s.plain;
-    t[127] = s.running;
+    t[SUMMED_WORDS] = s.plain;
+    t[SECOND_SUM] = s.running;
     t
 }
 
 // The head of a file of m pins and k macros.
-fn head_block(m: usize, k: usize) -> [u32; 128]
-    requires { ⌜ (m ≤ 1000) × (k ≤ 1000) ⌝ }
+fn head_block(m: usize, k: usize) -> [u32; BLOCK_WORDS]
+    requires { ⌜ (m ≤ fileNumbers) × (k ≤ fileNumbers) ⌝ }
     ensures { λ r. ⌜ r ≡ headBlock m k ⌝ }
 {
-    let mut t = [0u32; 128];
-    t[0] = 1;
-    t[4] = m as u32;
-    t[5] = k as u32;
+    let mut t = [0u32; BLOCK_WORDS];
+    t[0] = HEAD_KIND;
+    t[PIN_COUNT_WORD] = m as u32;
+    t[MACRO_COUNT_WORD] = k as u32;
     seal(t)
 }
 
 // The block of some numbers, `w` an entry.
-fn list_block(kind: u32, w: usize, number: usize, numbers: &[i32]) -> [u32; 128]
-    requires { ⌜ ((0 < w) × (number ≤ 1000)) × (length (now numbers) ≤ 120) ⌝ }
+fn list_block(kind: u32, w: usize, number: usize, numbers: &[i32]) -> [u32; BLOCK_WORDS]
+    requires { ⌜ ((0 < w) × (number ≤ fileBlocks)) × (length (now numbers) ≤ perBlock) ⌝ }
     ensures { λ r. ⌜ r ≡ listBlock kind w number (now (numbers .entry)) ⌝ }
 {
-    let mut t = [0u32; 128];
+    let mut t = [0u32; BLOCK_WORDS];
     t[0] = kind;
     t[1] = number as u32;
     t[2] = (numbers.len() / w) as u32;
     let mut i = 0;
     while i < numbers.len() {
-        t[4 + i] = word_of(numbers[i]);
+        t[FIRST_ENTRY + i] = word_of(numbers[i]);
         i += 1;
     }
     seal(t)
 }
 
 // A block's words stored as the block of that number.
-fn put_block(bytes: &mut [u8], number: usize, block: [u32; 128])
-    requires { ⌜ (length block ≡ 128) × (number * 512 + 512 ≤ length (now bytes)) ⌝ }
-    ensures { λ _. ⌜ now (bytes .exit) ≡ sets (now (bytes .entry)) (number * 512) (bytesOf block) ⌝ }
+fn put_block(bytes: &mut [u8], number: usize, block: [u32; BLOCK_WORDS])
+    requires { ⌜ (length block ≡ blockWords) × (number * blockBytes + blockBytes ≤ length (now bytes)) ⌝ }
+    ensures { λ _. ⌜ now (bytes .exit) ≡ sets (now (bytes .entry)) (number * blockBytes) (bytesOf block) ⌝ }
 {
     let mut i = 0;
-    while i < 128 {
-        put_word(&mut *bytes, number * 128 + i, block[i]);
+    while i < BLOCK_WORDS {
+        put_word(&mut *bytes, number * BLOCK_WORDS + i, block[i]);
         i += 1;
     }
 }
 
-// How many blocks n numbers take.
+// How many blocks n numbers take; n may be any number, as a head may count.
 fn blocks_for(n: usize) -> usize
-    requires { ⌜ n ≤ 1099511627776 ⌝ }
     ensures { λ r. ⌜ r ≡ blocksFor n ⌝ }
 {
-    (n + 119) / 120
+    n / PER_BLOCK + (n % PER_BLOCK + (PER_BLOCK - 1)) / PER_BLOCK
 }
 
 // The block of the numbers from the one numbered `from` on, as many as fit.
-fn next_block(kind: u32, w: usize, number: usize, numbers: &[i32], from: usize) -> [u32; 128]
-    requires { ⌜ ((0 < w) × (number ≤ 1000)) × (from ≤ length (now numbers)) ⌝ }
-    ensures { λ r. ⌜ r ≡ listBlock kind w number (take 120 (drop from (now (numbers .entry)))) ⌝ }
+fn next_block(
+    kind: u32,
+    w: usize,
+    number: usize,
+    numbers: &[i32],
+    from: usize,
+) -> [u32; BLOCK_WORDS]
+    requires { ⌜ ((0 < w) × (number ≤ fileBlocks)) × (from ≤ length (now numbers)) ⌝ }
+    ensures { λ r. ⌜ r ≡ listBlock kind w number (take perBlock (drop from (now (numbers .entry)))) ⌝ }
 {
-    if numbers.len() - from < 120 {
+    if numbers.len() - from < PER_BLOCK {
         return list_block(kind, w, number, &numbers[from..]);
     }
-    let to = from + 120;
+    let to = from + PER_BLOCK;
     list_block(kind, w, number, &numbers[from..to])
 }
 
 // The blocks of a list, from the one numbered `first` on.
 fn put_list(bytes: &mut [u8], kind: u32, w: usize, first: usize, numbers: &[i32])
-    requires { ⌜ ((0 < w) × (first ≤ 500)) × ((length (now numbers) ≤ 1000)
-        × ((first + blocksFor (length (now numbers))) * 512 ≤ length (now bytes))) ⌝ }
+    requires { ⌜ (0 < w) × ((first + blocksFor (length (now numbers)) ≤ fileBlocks)
+        × ((first + blocksFor (length (now numbers))) * blockBytes ≤ length (now bytes))) ⌝ }
     ensures { λ _. ⌜ now (bytes .exit)
-        ≡ sets (now (bytes .entry)) (first * 512) (bytesOf (listBlocks kind w first (blocksFor (length (now (numbers .entry))))
-        (now (numbers .entry)))) ⌝ }
+        ≡ sets (now (bytes .entry)) (first * blockBytes) (bytesOf (allBlocks kind w first (now (numbers .entry)))) ⌝ }
 {
     let count = blocks_for(numbers.len());
     let mut j = 0;
@@ -189,7 +268,7 @@ fn put_list(bytes: &mut [u8], kind: u32, w: usize, first: usize, numbers: &[i32]
         put_block(
             &mut *bytes,
             number,
-            next_block(kind, w, number, numbers, j * 120),
+            next_block(kind, w, number, numbers, j * PER_BLOCK),
         );
         j += 1;
     }
@@ -197,26 +276,30 @@ fn put_list(bytes: &mut [u8], kind: u32, w: usize, first: usize, numbers: &[i32]
 
 // The file of two lists, from the first lent byte on.
 fn put_file(bytes: &mut [u8], pins: &[i32], macros: &[i32])
-    requires { ⌜ ((length (now pins) ≤ 1000) × (length (now macros) ≤ 1000))
-        × ((1 + blocksFor (length (now pins)) + blocksFor (length (now macros))) * 512 ≤ length (now bytes)) ⌝ }
+    requires { ⌜ (blockCount (length (now pins)) (length (now macros)) ≤ fileBlocks)
+        × (blockCount (length (now pins)) (length (now macros)) * blockBytes ≤ length (now bytes)) ⌝ }
     ensures { λ _. ⌜ now (bytes .exit) ≡ over (fileBytes (now (pins .entry)) (now (macros .entry))) (now (bytes .entry)) ⌝ }
 {
     let first = 1 + blocks_for(pins.len());
-    put_block(&mut *bytes, 0, head_block(pins.len() / 2, macros.len() / 4));
-    put_list(&mut *bytes, 2, 2, 1, pins);
-    put_list(&mut *bytes, 3, 4, first, macros);
+    put_block(
+        &mut *bytes,
+        0,
+        head_block(pins.len() / PIN_NUMBERS, macros.len() / MACRO_NUMBERS),
+    );
+    put_list(&mut *bytes, PIN_KIND, PIN_NUMBERS, 1, pins);
+    put_list(&mut *bytes, MACRO_KIND, MACRO_NUMBERS, first, macros);
 }
 
 // Write the file of a checked net.
 fn write_checked(pins: &[i32], macros: &[i32], bytes: &mut [u8]) -> Written
-    requires { ⌜ (length (now pins) ≤ 1000) × (length (now macros) ≤ 1000) ⌝ }
+    requires { ⌜ blockCount (length (now pins)) (length (now macros)) ≤ fileBlocks ⌝ }
     ensures answer { λ r. ⌜ toldBytes r ≡ fitted (length (fileBytes (now (pins .entry)) (now (macros .entry))))
         (length (now (bytes .entry))) ⌝ }
     ensures lent { λ _. ⌜ now (bytes .exit)
         ≡ after (fitted (length (fileBytes (now (pins .entry)) (now (macros .entry)))) (length (now (bytes .entry))))
         (fileBytes (now (pins .entry)) (now (macros .entry))) (now (bytes .entry)) ⌝ }
 {
-    let n = (1 + blocks_for(pins.len()) + blocks_for(macros.len())) * 512;
+    let n = (1 + blocks_for(pins.len()) + blocks_for(macros.len())) * BLOCK_BYTES;
     if bytes.len() < n {
         return Written::Refused(Refusal::Space);
     }
@@ -238,42 +321,42 @@ pub fn write(pins: &[i32], macros: &[i32], bytes: &mut [u8]) -> Written
     }
 }
 
-// Not 1 to 6 whole blocks.
+// Not whole blocks, none, or more than the longest file has.
 fn blocks_miscounted(bytes: &[u8]) -> bool
     ensures { λ r. ⌜ r ≡ blocksMiscounted (now (bytes .entry)) ⌝ }
 {
-    let n = bytes.len() / 512;
-    (bytes.len() % 512 != 0) | ((n == 0) | (6 < n))
+    let n = bytes.len() / BLOCK_BYTES;
+    (bytes.len() % BLOCK_BYTES != 0) | ((n == 0) | (FILE_BLOCKS < n))
 }
 
 // The words of the block numbered b.
-fn block_at(bytes: &[u8], b: usize) -> [u32; 128]
-    requires { ⌜ b * 512 + 512 ≤ length (now bytes) ⌝ }
-    ensures { λ r. ⌜ r ≡ take 128 (drop (b * 128) (wordsOf (now (bytes .entry)))) ⌝ }
+fn block_at(bytes: &[u8], b: usize) -> [u32; BLOCK_WORDS]
+    requires { ⌜ b * blockBytes + blockBytes ≤ length (now bytes) ⌝ }
+    ensures { λ r. ⌜ r ≡ blockOf b (wordsOf (now (bytes .entry))) ⌝ }
 {
-    let mut t = [0u32; 128];
+    let mut t = [0u32; BLOCK_WORDS];
     let mut i = 0;
-    while i < 128 {
-        t[i] = word_at(bytes, b * 128 + i);
+    while i < BLOCK_WORDS {
+        t[i] = word_at(bytes, b * BLOCK_WORDS + i);
         i += 1;
     }
     t
 }
 
-// A block's word 126 or 127 is wrong.
-fn has_wrong_sums(block: [u32; 128]) -> bool
-    requires { ⌜ length block ≡ 128 ⌝ }
+// One of a block's last two words is wrong.
+fn has_wrong_sums(block: [u32; BLOCK_WORDS]) -> bool
+    requires { ⌜ length block ≡ blockWords ⌝ }
     ensures { λ r. ⌜ r ≡ wrongSums block ⌝ }
 {
     let s = sums_of(&block);
-    (block[126] != s.plain) | (block[127] != s.running)
+    (block[SUMMED_WORDS] != s.plain) | (block[SECOND_SUM] != s.running)
 }
 
 // So it is in some block.
 fn any_wrong_sums(bytes: &[u8]) -> bool
     ensures { λ r. ⌜ r ≡ sumsWrong (now (bytes .entry)) ⌝ }
 {
-    let n = bytes.len() / 512;
+    let n = bytes.len() / BLOCK_BYTES;
     let mut b = 0;
     while b < n {
         if has_wrong_sums(block_at(bytes, b)) {
@@ -292,27 +375,44 @@ fn head_count(bytes: &[u8], i: usize) -> usize
     word_at(bytes, i) as usize
 }
 
+// The numbers of the pins that the head counts.
+fn pin_length(bytes: &[u8]) -> usize
+    requires { ⌜ blockBytes ≤ length (now bytes) ⌝ }
+    ensures { λ r. ⌜ r ≡ pinLength (now (bytes .entry)) ⌝ }
+{
+    head_count(bytes, PIN_COUNT_WORD) * PIN_NUMBERS
+}
+
+// The numbers of the macros that it counts.
+fn macro_length(bytes: &[u8]) -> usize
+    requires { ⌜ blockBytes ≤ length (now bytes) ⌝ }
+    ensures { λ r. ⌜ r ≡ macroLength (now (bytes .entry)) ⌝ }
+{
+    head_count(bytes, MACRO_COUNT_WORD) * MACRO_NUMBERS
+}
+
 // The head's counts do not fit the blocks.
 fn counts_wrong(bytes: &[u8]) -> bool
-    requires { ⌜ 512 ≤ length (now bytes) ⌝ }
+    requires { ⌜ blockBytes ≤ length (now bytes) ⌝ }
     ensures { λ r. ⌜ r ≡ countsWrong (now (bytes .entry)) ⌝ }
 {
-    let pin_blocks = blocks_for(head_count(bytes, 4) * 2);
-    let macro_blocks = blocks_for(head_count(bytes, 5) * 4);
-    bytes.len() / 512 != 1 + pin_blocks + macro_blocks
+    let pin_blocks = blocks_for(pin_length(bytes));
+    let macro_blocks = blocks_for(macro_length(bytes));
+    bytes.len() / BLOCK_BYTES != 1 + pin_blocks + macro_blocks
 }
 
 // The number j of the list whose blocks begin at the block b.
 fn number_in(bytes: &[u8], b: usize, j: usize) -> i32
-    requires { ⌜ (b + j / 120) * 512 + 512 ≤ length (now bytes) ⌝ }
+    requires { ⌜ (b + j / perBlock) * blockBytes + blockBytes ≤ length (now bytes) ⌝ }
     ensures { λ r. ⌜ r ≡ numberIn (now (bytes .entry)) b j ⌝ }
 {
-    coordinate_of(word_at(bytes, (b + j / 120) * 128 + (4 + j % 120)))
+    let place = j / PER_BLOCK * BLOCK_WORDS + (FIRST_ENTRY + j % PER_BLOCK);
+    coordinate_of(word_at(bytes, b * BLOCK_WORDS + place))
 }
 
 // The n numbers of the list whose blocks begin at the block b.
 fn take_numbers(bytes: &[u8], b: usize, n: usize, numbers: &mut [i32])
-    requires { ⌜ ((b + blocksFor n) * 512 ≤ length (now bytes)) × (n ≤ length (now numbers)) ⌝ }
+    requires { ⌜ ((b + blocksFor n) * blockBytes ≤ length (now bytes)) × (n ≤ length (now numbers)) ⌝ }
     ensures { λ _. ⌜ now (numbers .exit) ≡ over (numbersIn (now (bytes .entry)) b 0 n) (now (numbers .entry)) ⌝ }
 {
     let mut j = 0;
@@ -360,36 +460,36 @@ fn check_lists(bytes: &[u8], pins: &[i32], macros: &[i32]) -> Checked
     Checked::Refused(Refusal::Layout)
 }
 
-// The same of a file whose head's counts fit its blocks. Nothing is lent for the lists yet: five blocks hold 600 numbers.
-fn check_file(bytes: &[u8]) -> Checked
-    requires { ⌜ Sized (now bytes) (headCount 4 (now bytes) * 2) (headCount 5 (now bytes) * 4) ⌝ }
-    ensures { λ r. ⌜ told r ≡ laidOut (now (bytes .entry)) (pinsIn (now (bytes .entry))) (macrosIn (now (bytes .entry))) ⌝ }
-{
-    let n = head_count(bytes, 4) * 2;
-    let k = head_count(bytes, 5) * 4;
-    let mut pins = [0i32; 600];
-    let mut macros = [0i32; 600];
-    take_numbers(bytes, 1, n, &mut pins);
-    take_numbers(bytes, 1 + blocks_for(n), k, &mut macros);
-    check_lists(bytes, &pins[0..n], &macros[0..k])
-}
-
-// The lists of a checked file, into the lent numbers.
+// The lists of a file whose head's counts fit its blocks, into tables that they fit.
 fn take_lists(bytes: &[u8], pins: &mut [i32], macros: &mut [i32])
-    requires { ⌜ (Sized (now bytes) (headCount 4 (now bytes) * 2) (headCount 5 (now bytes) * 4))
-        × ((headCount 4 (now bytes) * 2 ≤ length (now pins)) × (headCount 5 (now bytes) * 4 ≤ length (now macros))) ⌝ }
+    requires { ⌜ (Sized (now bytes) (pinLength (now bytes)) (macroLength (now bytes)))
+        × ((pinLength (now bytes) ≤ length (now pins)) × (macroLength (now bytes) ≤ length (now macros))) ⌝ }
     ensures pins { λ _. ⌜ now (pins .exit) ≡ over (pinsIn (now (bytes .entry))) (now (pins .entry)) ⌝ }
     ensures macros { λ _. ⌜ now (macros .exit) ≡ over (macrosIn (now (bytes .entry))) (now (macros .entry)) ⌝ }
 {
-    let n = head_count(bytes, 4) * 2;
-    let k = head_count(bytes, 5) * 4;
+    let n = pin_length(bytes);
+    let k = macro_length(bytes);
     take_numbers(bytes, 1, n, &mut *pins);
     take_numbers(bytes, 1 + blocks_for(n), k, &mut *macros);
 }
 
+// The check of such a file: of its layout, and then of its lists. Nothing is lent for these yet, so they go into tables that no list of a
+// file is too long for.
+fn check_file(bytes: &[u8]) -> Checked
+    requires { ⌜ Sized (now bytes) (pinLength (now bytes)) (macroLength (now bytes)) ⌝ }
+    ensures { λ r. ⌜ told r ≡ laidOut (now (bytes .entry)) (pinsIn (now (bytes .entry))) (macrosIn (now (bytes .entry))) ⌝ }
+{
+    let n = pin_length(bytes);
+    let k = macro_length(bytes);
+    let mut pins = [0i32; FILE_NUMBERS];
+    let mut macros = [0i32; FILE_NUMBERS];
+    take_lists(bytes, &mut pins, &mut macros);
+    check_lists(bytes, &pins[0..n], &macros[0..k])
+}
+
 // Read a file whose head's counts fit its blocks, into room for the largest net.
 fn read_counted(bytes: &[u8], pins: &mut [i32], macros: &mut [i32]) -> Checked
-    requires { ⌜ (Sized (now bytes) (headCount 4 (now bytes) * 2) (headCount 5 (now bytes) * 4))
+    requires { ⌜ (Sized (now bytes) (pinLength (now bytes)) (macroLength (now bytes)))
         × (roomShort (length (now pins)) (length (now macros)) ≡ false) ⌝ }
     ensures answer { λ r. ⌜ told r ≡ laidOut (now (bytes .entry)) (pinsIn (now (bytes .entry))) (macrosIn (now (bytes .entry))) ⌝ }
     ensures pins { λ _. ⌜ now (pins .exit)
@@ -413,7 +513,7 @@ fn read_counted(bytes: &[u8], pins: &mut [i32], macros: &mut [i32]) -> Checked
 fn room_short(pins: &[i32], macros: &[i32]) -> bool
     ensures { λ r. ⌜ r ≡ roomShort (length (now (pins .entry))) (length (now (macros .entry))) ⌝ }
 {
-    (pins.len() < Net::PINS * 2) | (macros.len() < Net::MACROS * 4)
+    (pins.len() < PIN_LIST) | (macros.len() < MACRO_LIST)
 }
 
 // Read a net file: 21 where less than the largest net is lent, 1 to 3 for the file, then 11 to 17 for its lists.

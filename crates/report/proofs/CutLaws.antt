@@ -3,24 +3,23 @@
 use mathlib.Core.Path.{_≡_, refl, sym, ap, _∙_}
 use mathlib.Core.Bool.{false}
 use mathlib.Core.List.{List}
-use Prim.Native.Nat.{ℕ, suc, _*_, _<_}
+use Prim.Native.Nat.{ℕ, suc, _<_}
 use lib.IntN.{pos}
 use lib.ListN.{length, take}
-use Rattle.net.specs.Bounds.{pinBound, macroBound}
-use Rattle.netfile.specs.Layout.{fileBound}
+use Rattle.netfile.specs.Sizes.{pinListBound, macroListBound, fileBound}
 use Rattle.netfile.specs.Read.{roomShort}
 use Rattle.netfile.proofs.CutLaws.{by-length, cut-short, cut-long, read-too-long}
 use Rattle.report.specs.Text.{refusedText}
 use Rattle.report.specs.Route.{routeText}
 use Rattle.report.proofs.RouteLaws.{route-refused}
 
-full-room : roomShort (pinBound * 2) (macroBound * 4) ≡ false
+full-room : roomShort pinListBound macroListBound ≡ false
 unfolding roomShort
 full-room = refl
 
 -- a file that is too long is refused as such
 pub long-refused : (file : List ℕ) → fileBound < length file → routeText file ≡ refusedText (pos 1)
-long-refused file h = sym (route-refused file 1 (read-too-long file (pinBound * 2) (macroBound * 4) full-room h))
+long-refused file h = sym (route-refused file 1 (read-too-long file pinListBound macroListBound full-room h))
 
 pub cut-keeps : (file : List ℕ) → routeText (take (suc fileBound) file) ≡ routeText file
 cut-keeps file =

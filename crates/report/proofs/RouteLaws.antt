@@ -20,6 +20,7 @@ use Rattle.net.proofs.PassedLaws.{passed-all, pins-counted, macros-counted}
 use Rattle.net.proofs.CheckLaws.{allow}
 use Rattle.graph.specs.Numbers.{edgeNumbers, edgeFrom}
 use Rattle.graph.proofs.WidthLaws.{edge-width}
+use Rattle.netfile.specs.Sizes.{pinListBound, macroListBound}
 use Rattle.netfile.specs.Read.{pinsIn, macrosIn, readFile}
 use Rattle.netfile.proofs.RoundTrip.{accepted-is-ours}
 use Rattle.router.specs.Graph.{pointCount}
@@ -94,18 +95,18 @@ pub front : (xs lent table : List ℤ) (n : ℕ) → table ≡ over xs lent → 
 front xs lent table n t e = rw (t, e) (take-over xs lent)
 
 -- an accepted file
-module _ (file : List ℕ) (net : ℕ × ℕ) (given-net : readFile file (pinBound * 2) (macroBound * 4) ≡ given net) where
+module _ (file : List ℕ) (net : ℕ × ℕ) (given-net : readFile file pinListBound macroListBound ≡ given net) where
   pub lists : Counted (pinsIn file) (macrosIn file)
-  lists = counted (pinsIn file) (macrosIn file) net (accepted-is-ours file (pinBound * 2) (macroBound * 4) net given-net .lists)
+  lists = counted (pinsIn file) (macrosIn file) net (accepted-is-ours file pinListBound macroListBound net given-net .lists)
 
   pub net-is : net ≡ (pinCount (pinsIn file), macroCount (macrosIn file))
-  net-is = same-given _ _ (sym (accepted-is-ours file (pinBound * 2) (macroBound * 4) net given-net .lists) ∙ lists .allowed)
+  net-is = same-given _ _ (sym (accepted-is-ours file pinListBound macroListBound net given-net .lists) ∙ lists .allowed)
 
   pub route-given : treesText (pinCount (pinsIn file)) (macroCount (macrosIn file)) (pinsIn file) (macrosIn file) ≡ routeText file
   unfolding routeText answerText
   route-given = rw given-net (ap (λ (v : ℕ × ℕ). treesText (v .0) (v .1) (pinsIn file) (macrosIn file)) (sym net-is))
 
-pub route-refused : (file : List ℕ) (n : ℕ) → readFile file (pinBound * 2) (macroBound * 4) ≡ refused n → refusedText (pos n)
+pub route-refused : (file : List ℕ) (n : ℕ) → readFile file pinListBound macroListBound ≡ refused n → refusedText (pos n)
     ≡ routeText file
 unfolding routeText answerText
 route-refused file n e = rw e refl

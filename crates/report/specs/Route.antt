@@ -1,9 +1,9 @@
 -- What the program `route` prints for a file: rules P1 to P5.
 use mathlib.Core.List.{List}
-use Prim.Native.Nat.{ℕ, _*_}
+use Prim.Native.Nat.{ℕ}
 use lib.IntN.{ℤ, pos}
 use Rattle.lent.specs.Told.{Told, refused, given}
-use Rattle.net.specs.Bounds.{pinBound, macroBound}
+use Rattle.netfile.specs.Sizes.{pinListBound, macroListBound}
 use Rattle.netfile.specs.Read.{pinsIn, macrosIn, readFile}
 use Rattle.router.specs.Terminal.{pathsTotal}
 use Rattle.router.specs.Refined.{laidOf, laidTotal}
@@ -20,4 +20,4 @@ answerText (given net) pins macros = treesText (net .0) (net .1) pins macros
 
 -- P1: the text for the bytes of a file, read as a net file
 unfoldable pub routeText : List ℕ → List ℕ
-routeText file = answerText (readFile file (pinBound * 2) (macroBound * 4)) (pinsIn file) (macrosIn file)
+routeText file = answerText (readFile file pinListBound macroListBound) (pinsIn file) (macrosIn file)

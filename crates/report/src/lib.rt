@@ -207,10 +207,6 @@ pub fn refused(n: i32, out: &mut [u8]) -> usize
 
 // A file's text
 
-const PIN_NUMBERS: usize = Net::PINS * 2;
-
-const MACRO_NUMBERS: usize = Net::MACROS * 4;
-
 const PATH_NUMBERS: usize = Net::PINS * 5;
 
 const EDGE_NUMBERS: usize = Net::TREE_POINTS * 4;
@@ -265,8 +261,8 @@ fn trees_text(pins: &[i32], macros: &[i32], out: &mut [u8; TEXT]) -> usize
 pub fn route(file: &[u8], out: &mut [u8; TEXT]) -> usize
     ensures { λ r. ⌜ Filled (routeText (now (file .entry))) (now (out .entry)) (now (out .exit)) r ⌝ }
 {
-    let mut pins = [0i32; PIN_NUMBERS];
-    let mut macros = [0i32; MACRO_NUMBERS];
+    let mut pins = [0i32; netfile::PIN_LIST];
+    let mut macros = [0i32; netfile::MACRO_LIST];
     let answer = router::read_file(file, &mut pins, &mut macros);
     match answer {
         Checked::Allowed(net) => {

@@ -3,27 +3,28 @@
 use mathlib.Core.Path.{_≡_, sym, ap, _∙_}
 use Prim.Native.Nat.{ℕ, _≤_, _-_, _*_, _/_}
 use native.Mathlib.Omega.{arith}
-use lib.ListN.{length, take, drop}
+use lib.ListN.{length, drop}
 use denote.Ref.{now}
 use Rattle.lists.specs.Any.{any}
 use Rattle.lists.proofs.AnyLaws.{any-hit, any-miss, any-end}
+use Rattle.netfile.specs.Sizes.{blockWords, blockBytes}
 use Rattle.netfile.specs.Words.{wordsOf}
 use Rattle.netfile.specs.Sums.{wrongSums}
-use Rattle.netfile.specs.Read.{blocksOf, sumsWrong}
+use Rattle.netfile.specs.Read.{blockOf, blocksOf, sumsWrong}
 use Rattle.netfile.proofs.ReadLaws.{block-full, blocks-next, blocks-end}
 use Rattle.netfile.proofs.any_wrong_sums.Statement.{statement}
 use Rattle.netfile.proofs.any_wrong_sums.Tie as tie
 
 abbrev Inv-loop : tie.InvT-loop
 Inv-loop bytes n b₀ b =
-    (b ≤ n) × (any wrongSums (blocksOf n (wordsOf bytes)) ≡ any wrongSums (blocksOf (n - b) (drop (b * 128) (wordsOf bytes))))
+    (b ≤ n) × (any wrongSums (blocksOf n (wordsOf bytes)) ≡ any wrongSums (blocksOf (n - b) (drop (b * blockWords) (wordsOf bytes))))
 
 abbrev μ-loop : tie.MeasureT-loop
 μ-loop bytes n b₀ b = n - b
 
 loop-holds : tie.Need-loop-holds Inv-loop μ-loop
 loop-holds c =
-    let n = length (now (c .before .args .bytes)) / 512 in
+    let n = length (now (c .before .args .bytes)) / blockBytes in
     let e : n ≡ n - 0 = omega arith in
     (omega arith, ap (λ (k : ℕ). any wrongSums (blocksOf k (wordsOf (now (c .before .args .bytes))))) e)
 
@@ -37,7 +38,7 @@ has-wrong-sums-requires c κs =
 
 -- what the calls say, of the words
 met : (c : tie.After-has-wrong-sums Inv-loop μ-loop) → c .has-wrong-sums .result
-    ≡ wrongSums (take 128 (drop (c .before .before .before .loop .b * 128) (wordsOf (now (c .before .before .before .before .before .args .bytes)))))
+    ≡ wrongSums (blockOf (c .before .before .before .loop .b) (wordsOf (now (c .before .before .before .before .before .args .bytes))))
 met c = c .has-wrong-sums .ensures ∙ ap wrongSums (c .before .block-at .ensures)
 
 returns : tie.Need-returns Inv-loop μ-loop
@@ -47,7 +48,8 @@ returns c =
     let s = now (l .before .before .args .bytes) in
     sym
     (l .loop .inv .1
-    ∙ any-hit wrongSums _ _ _ (blocks-next (length s / 512) (l .loop .b) (wordsOf s) (omega arith)) (sym (met (c .before)) ∙ c .if1 .taken))
+    ∙ any-hit wrongSums _ _ _ (blocks-next (length s / blockBytes) (l .loop .b) (wordsOf s) (omega arith))
+    (sym (met (c .before)) ∙ c .if1 .taken))
 
 add-b : tie.Need-add-b Inv-loop μ-loop
 add-b c = omega arith
@@ -61,7 +63,8 @@ loop-again c =
     let s = now (l .before .before .args .bytes) in (
       omega arith,
       l .loop .inv .1
-          ∙ any-miss wrongSums _ _ _ (blocks-next (length s / 512) (l .loop .b) (wordsOf s) (omega arith)) (sym (met (c .before)) ∙ c .if1 .left),
+          ∙ any-miss wrongSums _ _ _ (blocks-next (length s / blockBytes) (l .loop .b) (wordsOf s) (omega arith))
+          (sym (met (c .before)) ∙ c .if1 .left),
     )
 
 returns-2 : tie.Need-returns-2 Inv-loop μ-loop
@@ -69,7 +72,7 @@ unfolding sumsWrong
 returns-2 c =
     let l = c .before in
     let s = now (l .before .before .args .bytes) in
-    sym (l .loop .inv .1 ∙ any-end wrongSums _ (blocks-end (length s / 512) (l .loop .b) (wordsOf s) (omega arith)))
+    sym (l .loop .inv .1 ∙ any-end wrongSums _ (blocks-end (length s / blockBytes) (l .loop .b) (wordsOf s) (omega arith)))
 
 pub any-wrong-sums-spec : {M : Type 1} → statement M
 any-wrong-sums-spec =

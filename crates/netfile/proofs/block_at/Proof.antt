@@ -7,16 +7,18 @@ use native.Mathlib.Omega.{arith}
 use lib.ListN.{take, drop, set, replicate}
 use denote.Ref.{now}
 use Rattle.lent.specs.Over.{over}
+use Rattle.netfile.specs.Sizes.{blockWords}
 use Rattle.netfile.specs.Words.{wordsOf}
+use Rattle.netfile.specs.Read.{blockOf}
 use Rattle.netfile.proofs.ReadLaws.{read-more, over-full, block-full}
 use Rattle.netfile.proofs.block_at.Statement.{statement}
 use Rattle.netfile.proofs.block_at.Tie as tie
 
 abbrev Inv-loop : tie.InvT-loop
-Inv-loop bytes b t₀ i₀ t i = (i ≤ 128) × (t ≡ over (take i (drop (b * 128) (wordsOf bytes))) (replicate 128 0))
+Inv-loop bytes b t₀ i₀ t i = (i ≤ blockWords) × (t ≡ over (take i (drop (b * blockWords) (wordsOf bytes))) (replicate blockWords 0))
 
 abbrev μ-loop : tie.MeasureT-loop
-μ-loop bytes b t₀ i₀ t i = 128 - i
+μ-loop bytes b t₀ i₀ t i = blockWords - i
 
 loop-holds : tie.Need-loop-holds Inv-loop μ-loop
 unfolding over
@@ -57,9 +59,10 @@ returns : tie.Need-returns Inv-loop μ-loop
 returns c =
     let l = c .before in
     let s = l .before .before in
-    let e : l .loop .i ≡ 128 = omega arith in
-    let w = take 128 (drop (s .args .b * 128) (wordsOf (now (s .args .bytes)))) in
-    rw e at (l .loop .inv .1) ∙ over-full w (replicate 128 0) (omega (arith, block-full (now (s .args .bytes)) (s .args .b) (s .pre)))
+    let e : l .loop .i ≡ blockWords = omega arith in
+    let w = blockOf (s .args .b) (wordsOf (now (s .args .bytes))) in
+    let f = block-full (now (s .args .bytes)) (s .args .b) (s .pre) in
+    rw e at (l .loop .inv .1) ∙ over-full w (replicate blockWords 0) (omega (arith, f))
 
 pub block-at-spec : {M : Type 1} → statement M
 block-at-spec =

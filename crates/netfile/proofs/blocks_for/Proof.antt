@@ -1,19 +1,25 @@
--- `netfile::blocks_for` meets its contract: it computes the definition.
+-- `netfile::blocks_for` meets its contract: the full blocks, and one more where numbers are left, are those of the definition.
 -- Assumes nothing.
-use mathlib.Core.Path.{refl}
-use Rattle.netfile.specs.Layout.{blocksFor}
+use native.Mathlib.Omega.{arith}
 use borrow.Author.Needs.{needs}
+use Rattle.netfile.specs.Sizes.{blocksFor}
 use Rattle.netfile.proofs.blocks_for.Statement.{statement}
 use Rattle.netfile.proofs.blocks_for.Tie as tie
 use Rattle.netfile.proofs.blocks_for.Reads as reads
 use Rattle.netfile.proofs.blocks_for.Lts as lts
 
+sub-result : tie.Need-sub-result
+sub-result c = search needs
+
 add-result : tie.Need-add-result
 add-result c = search needs
 
+add-result-2 : tie.Need-add-result-2
+add-result-2 c = search needs
+
 returns : tie.Need-returns
 unfolding blocksFor
-returns c = refl
+returns c = omega arith
 
 pub blocks-for-spec : {M : Type 1} → statement M
-blocks-for-spec = tie.close (tie.spec add-result returns)
+blocks-for-spec = tie.close (tie.spec sub-result add-result add-result-2 returns)

@@ -5,6 +5,7 @@ use mathlib.Core.Bool.{not, _||_}
 use lib.Dec.{eqb}
 use Prim.Native.Nat.{ℕ, _-_}
 use lib.ListN.{getD}
+use Rattle.netfile.specs.Sizes.{summedWords, secondSum}
 use Rattle.netfile.specs.Sums.{wrongSums}
 use borrow.Author.Needs.{needs}
 use Rattle.netfile.proofs.has_wrong_sums.Statement.{statement}
@@ -23,7 +24,7 @@ returns : tie.Need-returns
 unfolding wrongSums
 returns c =
     let b = c .before .before .before .before .args .t1 in
-    ap₂ (λ (p q : ℕ). not (eqb (getD b 126 0) p) || not (eqb (getD b 127 0) q))
+    ap₂ (λ (p q : ℕ). not (eqb (getD b summedWords 0) p) || not (eqb (getD b secondSum 0) q))
     (c .before .before .sums-of .ensures .0) (c .before .before .sums-of .ensures .1)
 
 pub has-wrong-sums-spec : {M : Type 1} → statement M

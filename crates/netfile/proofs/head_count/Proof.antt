@@ -18,7 +18,9 @@ cast-result c = search needs
 
 returns : tie.Need-returns
 unfolding headCount
-returns c = (c .word-at .ensures ∙ sym (word-is (now (c .before .before .args .bytes)) (c .before .before .args .i) (c .before .before .pre)), omega arith)
+returns c =
+    let s = c .before .before in
+    (c .word-at .ensures ∙ sym (word-is (now (s .args .bytes)) (s .args .i) (s .pre)), omega arith)
 
 pub head-count-spec : {M : Type 1} → statement M
 head-count-spec = tie.close (tie.spec word-at-requires cast-result returns)

@@ -4,10 +4,11 @@ use mathlib.Core.Path.{ap, sym, _∙_}
 use native.Mathlib.Omega.{arith}
 use lib.ListN.{length, replicate}
 use denote.Ref.{now}
-use Rattle.netfile.specs.Layout.{fileBound, fileBytes}
+use Rattle.netfile.specs.Sizes.{fileBound}
+use Rattle.netfile.specs.Layout.{fileBytes}
 use Rattle.netfile.specs.Read.{sameNumbers}
 use Rattle.netfile.proofs.LayoutLaws.{length-file}
-use Rattle.netfile.proofs.ReadLaws.{part-of-over, pins-few, macros-few}
+use Rattle.netfile.proofs.ReadLaws.{part-of-over, blocks-few}
 use borrow.Author.Needs.{needs}
 use Rattle.netfile.proofs.is_file_of.Statement.{statement}
 use Rattle.netfile.proofs.is_file_of.Tie as tie
@@ -19,7 +20,7 @@ put-file-requires : tie.Need-put-file-requires
 put-file-requires c κs =
     let s = c .before .before in
     let b = now (s .args .bytes) in
-    ((omega (arith, pins-few b _ _ (s .pre)), omega (arith, macros-few b _ _ (s .pre))), omega (arith, s .pre .few, s .pre .fit))
+    (blocks-few b _ _ (s .pre), omega (arith, s .pre .few, s .pre .fit))
 
 sub-same-bytes : tie.Need-sub-same-bytes
 sub-same-bytes c = search needs

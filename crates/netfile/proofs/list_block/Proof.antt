@@ -16,6 +16,7 @@ use mir.Val.{SFits}
 use mir.ValLaws.{toZ-ofZ}
 use Rattle.lent.specs.Over.{over}
 use Rattle.lent.proofs.OverLaws.{length-over}
+use Rattle.netfile.specs.Sizes.{blockWords, summedWords, firstEntry}
 use Rattle.netfile.specs.Words.{wordOf}
 use Rattle.netfile.specs.Sums.{sealed}
 use Rattle.netfile.specs.Layout.{block, listBlock}
@@ -25,7 +26,7 @@ use Rattle.netfile.proofs.list_block.Tie as tie
 
 abbrev Inv-loop : tie.InvT-loop
 Inv-loop kind w number numbers t₀ i₀ t i =
-    (i ≤ length numbers) × (t ≡ over (kind ∷ (number ∷ (length numbers / w ∷ (0 ∷ map wordOf (take i numbers))))) (replicate 128 0))
+    (i ≤ length numbers) × (t ≡ over (kind ∷ (number ∷ (length numbers / w ∷ (0 ∷ map wordOf (take i numbers))))) (replicate blockWords 0))
 
 abbrev μ-loop : tie.MeasureT-loop
 μ-loop kind w number numbers t₀ i₀ t i = length numbers - i
@@ -83,7 +84,7 @@ loop-again c =
     let s = now (l .before .args .numbers) in
     let f : SFits w32 (getD s i (pos 0)) = search needs in (
       omega arith,
-      ap₂ (λ (t : List ℕ) (v : ℕ). set t (4 + i) v) (l .loop .inv .1) (c .word-of .ensures ∙ ap wordOf (toZ-ofZ w32 _ f))
+      ap₂ (λ (t : List ℕ) (v : ℕ). set t (firstEntry + i) v) (l .loop .inv .1) (c .word-of .ensures ∙ ap wordOf (toZ-ofZ w32 _ f))
           ∙ entry-more _ _ _ 0 s i (omega arith) (omega arith),
     )
 
@@ -92,7 +93,7 @@ seal-requires c κs =
     let l = c .before in
     let s = now (l .before .args .numbers) in
     let h = length-map (take (l .loop .i) s) wordOf in
-    ap length (l .loop .inv .1) ∙ length-over _ (replicate 128 0) (omega (arith, h, length-take (l .loop .i) s))
+    ap length (l .loop .inv .1) ∙ length-over _ (replicate blockWords 0) (omega (arith, h, length-take (l .loop .i) s))
 
 returns : tie.Need-returns Inv-loop μ-loop
 unfolding block listBlock
@@ -102,8 +103,8 @@ returns c =
     let e : take (l .loop .i) s ≡ s = take-all (l .loop .i) s (omega arith) in
     let h = length-map s wordOf in
     c .seal .ensures
-    ∙ ap (λ (t : List ℕ). sealed (take 126 t)) (rw e at (l .loop .inv .1))
-    ∙ ap sealed (over-cut _ 126 128 (omega (arith, h)) (omega arith))
+    ∙ ap (λ (t : List ℕ). sealed (take summedWords t)) (rw e at (l .loop .inv .1))
+    ∙ ap sealed (over-cut _ summedWords blockWords (omega (arith, h)) (omega arith))
 
 pub list-block-spec : {M : Type 1} → statement M
 list-block-spec =

@@ -6,6 +6,7 @@ use native.Mathlib.Omega.{arith}
 use lib.ListN.{length, take, drop, length-drop}
 use lib.Seq.{take-all}
 use denote.Ref.{now}
+use Rattle.netfile.specs.Sizes.{perBlock}
 use Rattle.netfile.specs.Layout.{listBlock}
 use borrow.Author.Needs.{needs}
 use Rattle.netfile.proofs.next_block.Statement.{statement}
@@ -34,9 +35,9 @@ returns c =
     let a = c .before .before .before .args in
     let s = drop (a .from) (now (a .numbers)) in
     let h : length s ≤ length (now (a .numbers)) - a .from = simp length-drop (omega arith) in
-    let g : length s ≤ 120 = simp length-drop (omega arith) in
+    let g : length s ≤ perBlock = simp length-drop (omega arith) in
     c .list-block .ensures
-    ∙ ap (listBlock (a .kind) (a .w) (a .number)) (take-all (length (now (a .numbers)) - a .from) s h ∙ sym (take-all 120 s g))
+    ∙ ap (listBlock (a .kind) (a .w) (a .number)) (take-all (length (now (a .numbers)) - a .from) s h ∙ sym (take-all perBlock s g))
 
 add-to : tie.Need-add-to
 add-to c = search needs
@@ -59,7 +60,7 @@ list-block-requires-2 c κs = search needs
 returns-2 : tie.Need-returns-2
 returns-2 c =
     let a = c .before .before .before .args in
-    let e : a .from + 120 - a .from ≡ 120 = omega arith in
+    let e : a .from + perBlock - a .from ≡ perBlock = omega arith in
     c .list-block2 .ensures
     ∙ ap (λ (n : ℕ). listBlock (a .kind) (a .w) (a .number) (take n (drop (a .from) (now (a .numbers))))) e
 

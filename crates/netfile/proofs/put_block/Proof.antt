@@ -8,6 +8,7 @@ use native.Mathlib.Omega.{arith}
 use lib.ListN.{length, take, getD}
 use lib.Seq.{sets, length-sets, take-all}
 use denote.Ref.{now}
+use Rattle.netfile.specs.Sizes.{blockWords, blockBytes}
 use Rattle.netfile.specs.Words.{bytesOfWord, bytesOf}
 use Rattle.netfile.proofs.BlockLaws.{put-more}
 use Rattle.netfile.proofs.put_block.Statement.{statement}
@@ -15,10 +16,10 @@ use Rattle.netfile.proofs.put_block.Tie as tie
 
 abbrev Inv-loop : tie.InvT-loop
 Inv-loop bytes₀ number block i₀ bytes i =
-    (i ≤ 128) × ((length bytes ≡ length bytes₀) × (bytes ≡ sets bytes₀ (number * 512) (bytesOf (take i block))))
+    (i ≤ blockWords) × ((length bytes ≡ length bytes₀) × (bytes ≡ sets bytes₀ (number * blockBytes) (bytesOf (take i block))))
 
 abbrev μ-loop : tie.MeasureT-loop
-μ-loop bytes₀ number block i₀ bytes i = 128 - i
+μ-loop bytes₀ number block i₀ bytes i = blockWords - i
 
 loop-holds : tie.Need-loop-holds Inv-loop μ-loop
 unfolding bytesOf
@@ -51,13 +52,13 @@ loop-again c =
     let l = p .before .before .before in
     let a = l .before .before .args in
     let i = l .loop .i in
-    let e : (a .number * 128 + i) * 4 ≡ a .number * 512 + i * 4 = omega arith in
+    let e : (a .number * blockWords + i) * 4 ≡ a .number * blockBytes + i * 4 = omega arith in
     let b =
     p .put-word .ensures
     ∙ ap₂ (λ (bs : List ℕ) (k : ℕ). sets bs k (bytesOfWord (getD (a .t3) i 0))) (l .loop .inv .1 .1) e
-    ∙ put-more _ (a .t3) (a .number * 512) i (omega arith)
+    ∙ put-more _ (a .t3) (a .number * blockBytes) i (omega arith)
     in
-    (omega arith, (ap length b ∙ length-sets (now (a .bytes)) (a .number * 512) (bytesOf (take (i + 1) (a .t3))), b))
+    (omega arith, (ap length b ∙ length-sets (now (a .bytes)) (a .number * blockBytes) (bytesOf (take (i + 1) (a .t3))), b))
 
 same-length : tie.Need-same-length Inv-loop μ-loop
 same-length c = c .before .loop .inv .1 .0
@@ -66,7 +67,8 @@ returns : tie.Need-returns Inv-loop μ-loop
 returns c =
     let l = c .before in
     let a = l .before .before .args in
-    l .loop .inv .1 .1 ∙ ap (λ (ws : List ℕ). sets (now (a .bytes)) (a .number * 512) (bytesOf ws)) (take-all (l .loop .i) (a .t3) (omega arith))
+    l .loop .inv .1 .1
+    ∙ ap (λ (ws : List ℕ). sets (now (a .bytes)) (a .number * blockBytes) (bytesOf ws)) (take-all (l .loop .i) (a .t3) (omega arith))
 
 pub put-block-spec : {M : Type 1} → statement M
 put-block-spec =

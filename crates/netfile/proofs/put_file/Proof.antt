@@ -7,8 +7,10 @@ use native.Mathlib.Omega.{arith}
 use lib.ListN.{length}
 use lib.Seq.{sets}
 use denote.Ref.{now}
+use Rattle.netfile.specs.Sizes.{blockBytes, pinKind, macroKind, pinNumbers, macroNumbers, blocksFor}
 use Rattle.netfile.specs.Words.{bytesOf}
-use Rattle.netfile.specs.Layout.{blocksFor, listBlocks}
+use Rattle.netfile.specs.Layout.{listBlocks}
+use Rattle.netfile.proofs.SizeLaws.{pins-few, macros-few}
 use Rattle.netfile.proofs.LayoutLaws.{file-laid}
 use borrow.Author.Needs.{needs}
 use Rattle.netfile.proofs.put_file.Statement.{statement}
@@ -21,7 +23,9 @@ add-first : tie.Need-add-first
 add-first c = search needs
 
 head-block-requires : tie.Need-head-block-requires
-head-block-requires c κs = search needs
+head-block-requires c κs =
+    let f = c .before .before .before .pre .0 in
+    (omega (arith, pins-few _ _ f), omega (arith, macros-few _ _ f))
 
 put-block-requires : tie.Need-put-block-requires
 put-block-requires c κs = search needs
@@ -30,8 +34,7 @@ put-list-requires : tie.Need-put-list-requires
 put-list-requires c κs = search needs
 
 put-list-requires-2 : tie.Need-put-list-requires-2
-unfolding blocksFor
-put-list-requires-2 c κs = ((omega arith, omega arith), (omega arith, omega arith))
+put-list-requires-2 c κs = (omega arith, (omega arith, omega arith))
 
 same-length : tie.Need-same-length
 same-length c = search needs
@@ -45,9 +48,9 @@ returns c =
     let p = now (s .args .pins) in
     let m = now (s .args .macros) in
     r .put-list2 .ensures
-    ∙ ap₂ (λ (l : List ℕ) (n : ℕ). sets l (n * 512) (bytesOf (listBlocks 3 4 n (blocksFor (length m)) m)))
+    ∙ ap₂ (λ (l : List ℕ) (n : ℕ). sets l (n * blockBytes) (bytesOf (listBlocks macroKind macroNumbers n (blocksFor (length m)) m)))
     (q .put-list .ensures
-    ∙ ap (λ (l : List ℕ). sets l 512 (bytesOf (listBlocks 2 2 1 (blocksFor (length p)) p)))
+    ∙ ap (λ (l : List ℕ). sets l blockBytes (bytesOf (listBlocks pinKind pinNumbers 1 (blocksFor (length p)) p)))
     (h .put-block .ensures ∙ ap (λ (b : List ℕ). sets (now (s .args .bytes)) 0 (bytesOf b)) (h .before .head-block .ensures)))
     (ap (λ (n : ℕ). 1 + n) (h .before .before .before .blocks-for .ensures))
     ∙ file-laid (now (s .args .bytes)) p m (omega arith)

@@ -130,7 +130,8 @@ returns-4 c =
     let p = c .before .before in
     let q = p .before .before in
     let s = start3 p in
-    turned s 3 (refuse-3 (bytes-of s) _ _ (room (q .before .before)) (blocks q) (sums p) (sym (c .before .counts-wrong .ensures) ∙ c .if4 .taken))
+    turned s 3
+    (refuse-3 (bytes-of s) _ _ (room (q .before .before)) (blocks q) (sums p) (sym (c .before .counts-wrong .ensures) ∙ c .if4 .taken))
 
 read-counted-requires : tie.Need-read-counted-requires
 read-counted-requires c κs =
@@ -153,7 +154,7 @@ returns-5 c =
     let p = r .before .before in
     let q = p .before .before in
     let s = start4 r in
-    let e = sym (read-on (bytes-of s) (length (pins-of s)) (length (macros-of s)) (room (q .before .before)) (blocks q) (sums p) (counts r)) in (
+    let e = sym (read-on (bytes-of s) _ _ (room (q .before .before)) (blocks q) (sums p) (counts r)) in (
       d .read-counted .ensures .0 ∙ e,
       (
         d .read-counted .ensures .1 .0 ∙ ap (λ (t : Told (ℕ × ℕ)). after t (pinsIn (bytes-of s)) (pins-of s)) e,

@@ -4,6 +4,7 @@ use mathlib.Core.Path.{ap₂, _∙_}
 use mathlib.Core.List.{[], _∷_, _++_}
 use Prim.Native.Nat.{ℕ}
 use lib.ListN.{take}
+use Rattle.netfile.specs.Sizes.{summedWords}
 use Rattle.netfile.specs.Sums.{sealed}
 use Rattle.netfile.proofs.BlockLaws.{last-two}
 use borrow.Author.Needs.{needs}
@@ -24,7 +25,7 @@ unfolding sealed
 returns c =
     let ws = c .before .before .args .t1 in
     last-two ws _ _ (c .before .before .pre)
-    ∙ ap₂ (λ (a b : ℕ). take 126 ws ++ (a ∷ (b ∷ []))) (c .sums-of .ensures .0) (c .sums-of .ensures .1)
+    ∙ ap₂ (λ (a b : ℕ). take summedWords ws ++ (a ∷ (b ∷ []))) (c .sums-of .ensures .0) (c .sums-of .ensures .1)
 
 pub seal-spec : {M : Type 1} → statement M
 seal-spec = tie.close (tie.spec sums-of-requires array-write-t array-write-t-2 returns)

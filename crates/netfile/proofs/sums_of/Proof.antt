@@ -5,6 +5,7 @@ use Prim.Native.Nat.{ℕ, _≤_, _-_, _+_, _%_}
 use native.Mathlib.Omega.{arith}
 use lib.ListN.{take, getD}
 use denote.Ref.{now}
+use Rattle.netfile.specs.Sizes.{summedWords}
 use Rattle.netfile.specs.Sums.{total, runningSums, plainSum, sumOfSums}
 use Rattle.netfile.proofs.SumLaws.{plain-more, sums-more, word-more}
 use Rattle.netfile.proofs.sums_of.Statement.{statement}
@@ -12,10 +13,10 @@ use Rattle.netfile.proofs.sums_of.Tie as tie
 
 abbrev Inv-loop : tie.InvT-loop
 Inv-loop block plain₀ running₀ i₀ plain running i =
-    (i ≤ 126) × ((plain ≡ plainSum (take i block)) × (running ≡ sumOfSums (take i block)))
+    (i ≤ summedWords) × ((plain ≡ plainSum (take i block)) × (running ≡ sumOfSums (take i block)))
 
 abbrev μ-loop : tie.MeasureT-loop
-μ-loop block plain₀ running₀ i₀ plain running i = 126 - i
+μ-loop block plain₀ running₀ i₀ plain running i = summedWords - i
 
 loop-holds : tie.Need-loop-holds Inv-loop μ-loop
 unfolding total runningSums plainSum sumOfSums
@@ -55,7 +56,7 @@ loop-again c =
 
 returns : tie.Need-returns Inv-loop μ-loop
 returns c =
-    let e : c .before .loop .i ≡ 126 = omega arith in
+    let e : c .before .loop .i ≡ summedWords = omega arith in
     (rw e at (c .before .loop .inv .1 .0), rw e at (c .before .loop .inv .1 .1))
 
 pub sums-of-spec : {M : Type 1} → statement M

@@ -2,12 +2,11 @@
 -- Assumes nothing.
 use mathlib.Core.Path.{ap, _∙_}
 use mathlib.Core.List.{List}
-use Prim.Native.Nat.{_*_}
 use native.Mathlib.Omega.{arith}
 use lib.IntN.{ℤ}
 use denote.Ref.{now}
 use Rattle.lent.specs.Over.{over}
-use Rattle.netfile.specs.Layout.{blocksFor}
+use Rattle.netfile.specs.Sizes.{blocksFor}
 use Rattle.netfile.specs.Read.{Sized}
 use Rattle.netfile.proofs.ReadLaws.{blocks-few}
 use Rattle.netfile.proofs.AnswerLaws.{pins-taken, macros-taken}
@@ -15,22 +14,18 @@ use borrow.Author.Needs.{needs}
 use Rattle.netfile.proofs.take_lists.Statement.{statement}
 use Rattle.netfile.proofs.take_lists.Tie as tie
 
--- the file's size by the counts that were read
-sized : (c : tie.After-head-count2) → Sized (now (c .before .before .before .args .bytes)) (c .before .head-count .result * 2) (c .head-count2 .result * 4)
-sized c = rw (c .before .head-count .ensures .0, c .head-count2 .ensures .0) (c .before .before .before .pre .0)
+-- the file's size by the lengths that were found
+sized : (c : tie.After-macro-length) → Sized (now (c .before .before .before .args .bytes)) (c .before .pin-length .result)
+    (c .macro-length .result)
+sized c = rw (c .before .pin-length .ensures, c .macro-length .ensures) (c .before .before .before .pre .0)
 
-head-count-requires : tie.Need-head-count-requires
-head-count-requires c κs = search needs
+pin-length-requires : tie.Need-pin-length-requires
+pin-length-requires c κs = search needs
 
-mul-n : tie.Need-mul-n
-mul-n c = search needs
+macro-length-requires : tie.Need-macro-length-requires
+macro-length-requires c κs = search needs
 
-head-count-requires-2 : tie.Need-head-count-requires-2
-head-count-requires-2 c κs = search needs
-
-mul-k : tie.Need-mul-k
-mul-k c = search needs
-
+-- the blocks of other counts would be known here too: a wrong count is refused by `returns`, for what it gives
 take-numbers-requires : tie.Need-take-numbers-requires
 unfolding blocksFor
 take-numbers-requires c κs = (omega (arith, sized (c .before) .fit), omega arith)
@@ -60,20 +55,19 @@ returns c =
     let p = b .before .before in
     let h = p .before .before in
     let a = h .before .before .before .args in
-    let m = h .before .head-count .ensures .0 in (
+    let m = h .before .pin-length .ensures in (
       p .take-numbers .ensures ∙ ap (λ (l : List ℤ). over l (now (a .pins))) (pins-taken (now (a .bytes)) _ m),
       q .take-numbers2 .ensures
-          ∙ ap (λ (l : List ℤ). over l (now (a .macros))) (macros-taken (now (a .bytes)) _ _ _ m (h .head-count2 .ensures .0) (b .blocks-for .ensures)),
+          ∙ ap (λ (l : List ℤ). over l (now (a .macros)))
+          (macros-taken (now (a .bytes)) _ _ _ m (h .macro-length .ensures) (b .blocks-for .ensures)),
     )
 
 pub take-lists-spec : {M : Type 1} → statement M
 take-lists-spec =
     tie.close
     (tie.spec
-    head-count-requires
-    mul-n
-    head-count-requires-2
-    mul-k
+    pin-length-requires
+    macro-length-requires
     take-numbers-requires
     blocks-for-requires
     add-take-numbers

@@ -12,8 +12,8 @@ use denote.Ref.{now}
 use mir.Syntax.{w32}
 use mir.ValLaws.{toZ-ofZ}
 use Rattle.lent.specs.Over.{over}
-use Rattle.netfile.specs.Layout.{blocksFor}
 use Rattle.netfile.specs.Read.{numbersIn}
+use Rattle.netfile.proofs.SizeLaws.{block-within}
 use Rattle.netfile.proofs.ReadLaws.{numbers-more}
 use Rattle.netfile.proofs.take_numbers.Statement.{statement}
 use Rattle.netfile.proofs.take_numbers.Tie as tie
@@ -30,8 +30,9 @@ unfolding over numbersIn
 loop-holds c = (omega arith, (refl, refl))
 
 number-in-requires : tie.Need-number-in-requires Inv-loop μ-loop
-unfolding blocksFor
-number-in-requires c κs = omega arith
+number-in-requires c κs =
+    let l = c .before in
+    omega (arith, block-within (l .before .before .args .n) (l .loop .j) (omega arith))
 
 mul-z : tie.Need-mul-z Inv-loop μ-loop
 mul-z c = omega arith

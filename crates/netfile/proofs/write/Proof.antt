@@ -2,17 +2,15 @@
 -- Assumes nothing.
 use mathlib.Core.Path.{_≡_, sym, ap, _∙_}
 use Prim.Native.Nat.{ℕ}
-use native.Mathlib.Omega.{arith}
 use lib.ListN.{length}
 use denote.Ref.{now}
 use Rattle.lent.specs.Told.{Told, given}
 use Rattle.lent.specs.Over.{after}
 use Rattle.lent.proofs.AfterLaws.{after-refused}
 use Rattle.net.specs.Check.{checked, told}
-use Rattle.net.proofs.PassedLaws.{passed-all, pins-counted, macros-counted}
 use Rattle.netfile.specs.Layout.{fileBytes}
 use Rattle.netfile.specs.Write.{toldBytes}
-use Rattle.netfile.proofs.WriteLaws.{written-refused, written-allowed}
+use Rattle.netfile.proofs.WriteLaws.{written-refused, written-allowed, allowed-blocks}
 use borrow.Author.Needs.{needs}
 use Rattle.netfile.proofs.write.Statement.{statement}
 use Rattle.netfile.proofs.write.Tie as tie
@@ -35,10 +33,7 @@ enum-told c = search needs
 write-checked-requires : tie.Need-write-checked-requires
 write-checked-requires c κs =
     let a = c .before .before .before .before .before .args in
-    let p = passed-all (now (a .pins)) (now (a .macros)) _ (allowed (c .before)) .past .past .past .past .past .past in
-    let m = pins-counted (now (a .pins)) (p .past .passed) in
-    let k = macros-counted (now (a .macros)) (p .passed) in
-    (omega (arith, m .whole, m .few), omega (arith, k .whole, k .few))
+    allowed-blocks (now (a .pins)) (now (a .macros)) _ (allowed (c .before))
 
 enum-known-answer : tie.Need-enum-known-answer
 enum-known-answer c = search needs

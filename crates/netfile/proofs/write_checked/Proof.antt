@@ -8,7 +8,8 @@ use denote.Ref.{now}
 use Rattle.lent.specs.Told.{given}
 use Rattle.lent.proofs.AfterLaws.{after-refused, after-given}
 use Rattle.net.specs.Answer.{number}
-use Rattle.netfile.specs.Layout.{blocksFor, fileBytes}
+use Rattle.netfile.specs.Sizes.{blockBytes}
+use Rattle.netfile.specs.Layout.{fileBytes}
 use Rattle.netfile.specs.Write.{toldBytes}
 use Rattle.netfile.proofs.LayoutLaws.{length-file}
 use Rattle.netfile.proofs.WriteLaws.{fitted-short, fitted-given}
@@ -20,18 +21,15 @@ blocks-for-requires : tie.Need-blocks-for-requires
 blocks-for-requires c κs = search needs
 
 add-n : tie.Need-add-n
-unfolding blocksFor
 add-n c = omega arith
 
 blocks-for-requires-2 : tie.Need-blocks-for-requires-2
 blocks-for-requires-2 c κs = search needs
 
 add-n-2 : tie.Need-add-n-2
-unfolding blocksFor
 add-n-2 c = omega arith
 
 mul-n : tie.Need-mul-n
-unfolding blocksFor
 mul-n c = omega arith
 
 returns : tie.Need-returns
@@ -57,7 +55,7 @@ returns-2 c =
     let f = fileBytes (now (s .args .pins)) (now (s .args .macros)) in
     let n = length-file (now (s .args .pins)) (now (s .args .macros)) in
     let k = p .before .before .before in
-    let e : (1 + k .before .blocks-for .result + k .blocks-for2 .result) * 512 ≡ length f = omega (arith, n) in
+    let e : (1 + k .before .blocks-for .result + k .blocks-for2 .result) * blockBytes ≡ length f = omega (arith, n) in
     let g = fitted-given (length f) (length b) (omega (arith, n)) in
     (ap given e ∙ sym g, p .put-file .ensures ∙ after-given _ f b (length f) g)
 

@@ -12,8 +12,8 @@ use mir.ValLaws.{toZ-ofZ}
 use denote.Ref.{now}
 use Rattle.lent.specs.Told.{given}
 use Rattle.lent.proofs.AfterLaws.{after-given}
-use Rattle.net.specs.Bounds.{pinBound, macroBound}
 use Rattle.net.specs.Check.{pinCount, macroCount, told}
+use Rattle.netfile.specs.Sizes.{pinListBound, macroListBound}
 use Rattle.netfile.specs.Read.{pinsIn, macrosIn, readFile}
 use Rattle.report.specs.Text.{refusedText}
 use Rattle.report.specs.Route.{treesText}
@@ -27,7 +27,7 @@ abbrev start : tie.After-answer → tie.Start
 start c = c .before .before .before .before .before .before .before .before
 
 -- the answer of the read, and the lists that it took
-read : (c : tie.After-answer) → readFile (now (start c .args .file)) (pinBound * 2) (macroBound * 4)
+read : (c : tie.After-answer) → readFile (now (start c .args .file)) pinListBound macroListBound
     ≡ given (c .answer .given .0 .0 .pins, c .answer .given .0 .0 .macros)
 unfolding told
 read c = sym (c .before .before .before .before .read-file .ensures .answer) ∙ ap told (c .answer .given .1)

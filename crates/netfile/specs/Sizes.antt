@@ -1,0 +1,91 @@
+-- The numbers of the net file: those that the format has of its own (F1 to F12), each named once, and those that follow from them and from
+-- the net's bounds.
+use Prim.Native.Nat.{ℕ, _+_, _*_, _-_, _/_}
+use Rattle.net.specs.Bounds.{pinBound, macroBound}
+
+-- The format's own
+
+-- F1: a block's words, and four bytes a word
+abbrev pub blockWords : ℕ
+blockWords = 128
+
+abbrev pub blockBytes : ℕ
+blockBytes = blockWords * 4
+
+-- F11, F12: the words before the two sums, which is where the first of these stands, and the place of the second
+abbrev pub summedWords : ℕ
+summedWords = blockWords - 2
+
+abbrev pub secondSum : ℕ
+secondSum = summedWords + 1
+
+-- F6: the word at which entries begin; F9: the head has m and k there
+abbrev pub firstEntry : ℕ
+firstEntry = 4
+
+abbrev pub pinCountWord : ℕ
+pinCountWord = firstEntry
+
+abbrev pub macroCountWord : ℕ
+macroCountWord = firstEntry + 1
+
+-- F6, F7: the numbers of a full block, whatever its entries are: 60 pins of two, 30 macros of four. It is the format's own and no
+-- consequence of the words between the entries' first and the sums: these are 122, and 61 pins would fit.
+abbrev pub perBlock : ℕ
+perBlock = 120
+
+-- F2: what a block is
+abbrev pub headKind : ℕ
+headKind = 1
+
+abbrev pub pinKind : ℕ
+pinKind = 2
+
+abbrev pub macroKind : ℕ
+macroKind = 3
+
+-- N2, N3: the numbers of a pin and of a macro in a flat list
+abbrev pub pinNumbers : ℕ
+pinNumbers = 2
+
+abbrev pub macroNumbers : ℕ
+macroNumbers = 4
+
+-- What follows
+
+-- F6, F7: the entries of a full block
+abbrev pub pinsPerBlock : ℕ
+pinsPerBlock = perBlock / pinNumbers
+
+abbrev pub macrosPerBlock : ℕ
+macrosPerBlock = perBlock / macroNumbers
+
+-- C71: the numbers of the longest lists that a net may have
+abbrev pub pinListBound : ℕ
+pinListBound = pinBound * pinNumbers
+
+abbrev pub macroListBound : ℕ
+macroListBound = macroBound * macroNumbers
+
+-- n shared out in groups of d, the last one perhaps not full
+abbrev pub groups : ℕ → ℕ → ℕ
+groups n d = (n + (d - 1)) / d
+
+-- how many blocks n numbers take. F14: all but the last are full; F15: none for no numbers, and no block is empty
+unfoldable pub blocksFor : ℕ → ℕ
+blocksFor n = groups n perBlock
+
+-- F16: the blocks of a file of n numbers of pins and k of macros
+abbrev pub blockCount : ℕ → ℕ → ℕ
+blockCount n k = 1 + blocksFor n + blocksFor k
+
+-- F16: the blocks of the longest file, and its bytes
+abbrev pub fileBlocks : ℕ
+fileBlocks = 1 + groups pinBound pinsPerBlock + groups macroBound macrosPerBlock
+
+abbrev pub fileBound : ℕ
+fileBound = fileBlocks * blockBytes
+
+-- the numbers that its blocks after the head have room for: no list of a file has more
+abbrev pub fileNumbers : ℕ
+fileNumbers = (fileBlocks - 1) * perBlock
