@@ -15,17 +15,18 @@ use Rattle.lists.specs.Member.{_∈_}
 use Rattle.lists.proofs.TestLaws.{by, either}
 use Rattle.plane.specs.declared.Place.{Place}
 use Rattle.plane.specs.declared.Macro.{Macro}
-use Rattle.plane.specs.Distance.{distance}
+use Rattle.plane.specs.declared.Weights.{Weights}
+use Rattle.plane.specs.Cost.{cost}
 use Rattle.plane.specs.Macro.{clear}
 use Rattle.plane.specs.Flat.{placeAt}
-use Rattle.plane.proofs.DistanceLaws.{distance-comm, distance-self}
+use Rattle.plane.proofs.CostLaws.{cost-comm, cost-self}
 use Rattle.plane.proofs.MacroLaws.{clear-comm}
 use Rattle.joined.specs.Joined.{Link, Alike, Joined, stay}
 use Rattle.joined.proofs.JoinedLaws.{one as one-link}
 use Rattle.tree.specs.Table.{pointBound, key, firstEnd, secondEnd, Tree, In, Within}
 use Rattle.tree.specs.Sum.{over}
 use Rattle.refiner.specs.Exchange.{dropTwo}
-use Rattle.tree.specs.Places.{endsOf, edgesOf, keyLength}
+use Rattle.tree.specs.Places.{endsOf, edgesOf, keyCost}
 use Rattle.tree.proofs.SumLaws.{below-same, below-at, below-some, one, one-same, one-some, one-not, in-table, of-table}
 use Rattle.refiner.proofs.ExchangeSums.{between}
 use Rattle.refiner.proofs.ExchangeSums.{over-dropped}
@@ -251,29 +252,30 @@ module _ {pts : List ℤ} {n : ℕ} {ks : List ℕ} {e k l a b u p : ℕ} {s : P
     pub after-clear : (i : ℕ) → i < t .edges .size → Clear (endsOf (t .points) (getD (t .edges .keys) i 0))
     after-clear i h = clear-at _ (origin i h)
 
-  -- the lengths
-  length-part : (x : ℕ) → x < n → between (keyLength (t .points)) p (m x) ≡ distance s (placeAt pts x)
-  length-part x h =
-      by (ltb p (m x))
-      (λ q.
-      between-less (keyLength (t .points)) p (m x) q
-      ∙ ap (λ (z : Place × Place). distance (z .0) (z .1)) (ends p (m x) s (placeAt pts x) (after .low x h) (after .new) (after .old x h)))
-      (λ q.
-      by (ltb (m x) p)
-      (λ r.
-      between-more (keyLength (t .points)) p (m x) q r
-      ∙ ap (λ (z : Place × Place). distance (z .0) (z .1)) (ends (m x) p (placeAt pts x) s (after .lowest) (after .old x h) (after .new))
-      ∙ distance-comm (placeAt pts x) s)
-      (λ r.
-      let v : p ≡ m x = omega (arith, ltb-false p (m x) q, ltb-false (m x) p r) in
-      let o : s ≡ placeAt pts x = sym (after .new) ∙ ap (placeAt (t .points)) v ∙ after .old x h in
-      between-none (keyLength (t .points)) p (m x) v ∙ sym (ap (λ (z : Place). distance s z) (sym o) ∙ distance-self s)))
+  -- the costs
+  module _ (weights : Weights) where
+    cost-part : (x : ℕ) → x < n → between (keyCost weights (t .points)) p (m x) ≡ cost weights s (placeAt pts x)
+    cost-part x h =
+        by (ltb p (m x))
+        (λ q.
+        between-less (keyCost weights (t .points)) p (m x) q
+        ∙ ap (λ (z : Place × Place). cost weights (z .0) (z .1)) (ends p (m x) s (placeAt pts x) (after .low x h) (after .new) (after .old x h)))
+        (λ q.
+        by (ltb (m x) p)
+        (λ r.
+        between-more (keyCost weights (t .points)) p (m x) q r
+        ∙ ap (λ (z : Place × Place). cost weights (z .0) (z .1)) (ends (m x) p (placeAt pts x) s (after .lowest) (after .old x h) (after .new))
+        ∙ cost-comm weights (placeAt pts x) s)
+        (λ r.
+        let v : p ≡ m x = omega (arith, ltb-false p (m x) q, ltb-false (m x) p r) in
+        let o : s ≡ placeAt pts x = sym (after .new) ∙ ap (placeAt (t .points)) v ∙ after .old x h in
+        between-none (keyCost weights (t .points)) p (m x) v ∙ sym (ap (λ (z : Place). cost weights s z) (sym o) ∙ cost-self weights s)))
 
-  pub after-lengths : over (keyLength (t .points)) (t .edges .keys) (t .edges .size)
-      + (keyLength pts (getD ks k 0) + keyLength pts (getD ks l 0))
-      ≡ over (keyLength pts) ks (suc (suc e)) + (distance s (placeAt pts u) + (distance s (placeAt pts b) + distance s (placeAt pts a)))
-  after-lengths =
-      let same : over (λ j. keyLength (t .points) (moved j)) (dropTwo e k l ks) e ≡ over (keyLength pts) (dropTwo e k l ks) e
-      = below-same _ _ e (λ i h. ap (λ (z : Place × Place). distance (z .0) (z .1)) (moved-ends _ (within-dropped n e k l ks w .ends i))) in
-      let dropped = over-dropped (keyLength pts) e k l ks hk hl kl in
-      omega (arith, after .sums (keyLength (t .points)), dropped, same, length-part a ha, length-part b hb, length-part u hu)
+    pub after-costs : over (keyCost weights (t .points)) (t .edges .keys) (t .edges .size)
+        + (keyCost weights pts (getD ks k 0) + keyCost weights pts (getD ks l 0))
+        ≡ over (keyCost weights pts) ks (suc (suc e)) + (cost weights s (placeAt pts u) + (cost weights s (placeAt pts b) + cost weights s (placeAt pts a)))
+    after-costs =
+        let same : over (λ j. keyCost weights (t .points) (moved j)) (dropTwo e k l ks) e ≡ over (keyCost weights pts) (dropTwo e k l ks) e
+        = below-same _ _ e (λ i h. ap (λ (z : Place × Place). cost weights (z .0) (z .1)) (moved-ends _ (within-dropped n e k l ks w .ends i))) in
+        let dropped = over-dropped (keyCost weights pts) e k l ks hk hl kl in
+        omega (arith, after .sums (keyCost weights (t .points)), dropped, same, cost-part a ha, cost-part b hb, cost-part u hu)

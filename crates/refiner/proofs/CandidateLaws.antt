@@ -11,9 +11,10 @@ use lib.ListN.{getD}
 use borrow.Author.Tests.{lt-ltb, le-ltb}
 use Rattle.plane.specs.declared.Place.{Place}
 use Rattle.plane.specs.declared.Macro.{Macro}
+use Rattle.plane.specs.declared.Weights.{Weights}
 use Rattle.refiner.specs.declared.Best.{Best}
 use Rattle.plane.specs.Place.{samePlace}
-use Rattle.plane.specs.Distance.{distance}
+use Rattle.plane.specs.Cost.{cost}
 use Rattle.plane.specs.Middle.{middlePlace}
 use Rattle.plane.specs.Macro.{clear}
 use Rattle.plane.specs.Flat.{placeAt}
@@ -25,31 +26,31 @@ and-false : (a : Bool) → (a && false) ≡ false
 and-false true = refl
 and-false false = refl
 
--- the places and the distance of a candidate, by their names
-pub record Spots (pts : List ℤ) (a b u : ℕ) (p q r s : Place) (d : ℕ) : Type 0 where
+-- the places of a candidate and what metal from s to u costs, by their names
+pub record Spots (w : Weights) (pts : List ℤ) (a b u : ℕ) (p q r s : Place) (d : ℕ) : Type 0 where
   pub one : p ≡ placeAt pts a
   pub two : q ≡ placeAt pts b
   pub three : r ≡ placeAt pts u
   pub mid : s ≡ middlePlace p q r
-  pub far : d ≡ distance s r
+  pub far : d ≡ cost w s r
 
-module _ (pts : List ℤ) (n : ℕ) (ms : List Macro) (a b k u l x : ℕ) (c : Best) where
-  named : (p q r s : Place) (d : ℕ) → Spots pts a b u p q r s d
-      → weighed pts n ms a b k u l x c ≡ chosen (ltb (c .gain + d) x && allowed pts n ms a b u s) (best (x - d) k u l) c
+module _ (w : Weights) (pts : List ℤ) (n : ℕ) (ms : List Macro) (a b k u l x : ℕ) (c : Best) where
+  named : (p q r s : Place) (d : ℕ) → Spots w pts a b u p q r s d
+      → weighed w pts n ms a b k u l x c ≡ chosen (ltb (c .gain + d) x && allowed pts n ms a b u s) (best (x - d) k u l) c
   unfolding weighed
   named p q r s d h = rw (h .far, h .mid, h .one, h .two, h .three) refl
 
-  module _ (p q r s : Place) (d : ℕ) (h : Spots pts a b u p q r s d) where
-    pub weigh-low : x ≤ c .gain + d → c ≡ weighed pts n ms a b k u l x c
+  module _ (p q r s : Place) (d : ℕ) (h : Spots w pts a b u p q r s d) where
+    pub weigh-low : x ≤ c .gain + d → c ≡ weighed w pts n ms a b k u l x c
     weigh-low i = sym (named p q r s d h ∙ rw (le-ltb _ _ i) refl)
 
-    pub weigh-no : allowed pts n ms a b u s ≡ false → c ≡ weighed pts n ms a b k u l x c
+    pub weigh-no : allowed pts n ms a b u s ≡ false → c ≡ weighed w pts n ms a b k u l x c
     weigh-no e = sym (named p q r s d h ∙ rw (e, and-false (ltb (c .gain + d) x)) refl)
 
-    pub weigh-yes : (g : ℕ) → g ≡ x - d → c .gain + d < x → allowed pts n ms a b u s ≡ true → best g k u l ≡ weighed pts n ms a b k u l x c
+    pub weigh-yes : (g : ℕ) → g ≡ x - d → c .gain + d < x → allowed pts n ms a b u s ≡ true → best g k u l ≡ weighed w pts n ms a b k u l x c
     weigh-yes g f i e = sym (named p q r s d h ∙ rw (lt-ltb _ _ i, e, f) refl)
 
-  pub weigh-short : x ≤ c .gain → c ≡ weighed pts n ms a b k u l x c
+  pub weigh-short : x ≤ c .gain → c ≡ weighed w pts n ms a b k u l x c
   weigh-short i = weigh-low _ _ _ _ _ (record { one = refl; two = refl; three = refl; mid = refl; far = refl }) (omega arith)
 
 pub sees-yes : (ms : List Macro) (a b u : Place) → clear u a ms ≡ true → true ≡ sees ms a b u
@@ -84,15 +85,15 @@ module _ (pts : List ℤ) (n : ℕ) (ms : List Macro) (a b u : ℕ) (s p q r : P
   unfolding allowed
   allowed-yes e t d = rw (← f, ← g, ← h, e, d) refl
 
-module _ (pts : List ℤ) (n : ℕ) (ms : List Macro) (el top : List ℕ) (a b k u l : ℕ) (c : Best) (e : l ≡ cutOf el top a b u) where
-  pub offer-none : (eqb u a || (eqb u b || eqb l k)) ≡ true → c ≡ offer pts n ms el top a b k u c
+module _ (w : Weights) (pts : List ℤ) (n : ℕ) (ms : List Macro) (el top : List ℕ) (a b k u l : ℕ) (c : Best) (e : l ≡ cutOf el top a b u) where
+  pub offer-none : (eqb u a || (eqb u b || eqb l k)) ≡ true → c ≡ offer w pts n ms el top a b k u c
   unfolding offer
   offer-none h = rw (← e, h) refl
 
   module _ (d : (eqb u a || (eqb u b || eqb l k)) ≡ false) where
-    pub offer-is : weighed pts n ms a b k u l (getD el l 0) c ≡ offer pts n ms el top a b k u c
+    pub offer-is : weighed w pts n ms a b k u l (getD el l 0) c ≡ offer w pts n ms el top a b k u c
     unfolding offer
     offer-is = rw (← e, d) refl
 
-    pub offer-short : getD el l 0 ≤ c .gain → c ≡ offer pts n ms el top a b k u c
-    offer-short h = weigh-short pts n ms a b k u l (getD el l 0) c h ∙ offer-is
+    pub offer-short : getD el l 0 ≤ c .gain → c ≡ offer w pts n ms el top a b k u c
+    offer-short h = weigh-short w pts n ms a b k u l (getD el l 0) c h ∙ offer-is

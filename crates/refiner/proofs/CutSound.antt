@@ -13,8 +13,8 @@ use lib.ListN.{getD}
 use borrow.Author.Tests.{eqb-false, ne-eqb}
 use Rattle.lists.proofs.TestLaws.{by, either}
 use Rattle.plane.specs.declared.Place.{Place}
-use Rattle.plane.specs.declared.Macro.{Macro}
 use Rattle.plane.specs.Flat.{placeAt}
+use Rattle.net.specs.Net.{Net}
 use Rattle.joined.specs.Exchange.{Toward}
 use Rattle.joined.specs.Joined.{Alike}
 use Rattle.joined.proofs.TreeLaws.{tree-cuts}
@@ -22,91 +22,90 @@ use Rattle.joined.proofs.TowardLaws.{toward-only}
 use Rattle.joined.proofs.ExchangeLaws.{step-other}
 use Rattle.refiner.specs.declared.Best.{Best}
 use Rattle.tree.specs.Table.{pointBound, firstEnd, secondEnd, Tree, tree}
-use Rattle.refiner.specs.Longest.{lengths, longest}
+use Rattle.refiner.specs.Longest.{costs, longest}
 use Rattle.refiner.specs.Candidate.{chosen, weighed, offer}
 use Rattle.tree.specs.Places.{endsOf, edgesOf, Sound}
-use Rattle.refiner.specs.Sentences.{keyAt, endA, endB, longAt, EndOf, StepOf, LongestOn, CutAt, cutIn}
+use Rattle.refiner.specs.Sentences.{keyAt, endA, endB, costAt, EndOf, StepOf, LongestOn, CutAt, cutIn}
 use Rattle.refiner.proofs.WinsLaws.{Under}
 use Rattle.tree.proofs.ListingLaws.{listing-length, in-listing}
 use Rattle.tree.proofs.PointLaws.{same-place}
 use Rattle.refiner.proofs.CutLaws.{Is, cut-is, the-way}
-use Rattle.refiner.proofs.WinnerLaws.{length-at, no-length}
+use Rattle.refiner.proofs.WinnerLaws.{cost-at, no-cost}
 
 -- only one edge is the longest, smallest on a tie
-longest-one : (t : Tree) (x : Place) (ps : List Place) (l m : ℕ) → LongestOn t x ps l → LongestOn t x ps m → l ≡ m
-longest-one t x ps l m p q =
+longest-one : (net : Net) (t : Tree) (x : Place) (ps : List Place) (l m : ℕ) → LongestOn net t x ps l → LongestOn net t x ps m → l ≡ m
+longest-one net t x ps l m p q =
     let a = p .longest m (q .step) in
     let b = q .longest l (p .step) in
     omega (arith, p .smallest m (q .step) (omega arith), q .smallest l (p .step) (omega arith))
 
 -- the number of edges is below the bound
-pub tree-size : (ms : List Macro) (pins : List Place) (t : Tree) → Sound ms pins t → suc (t .edges .size) ≡ t .count
-tree-size ms pins t sound =
+pub tree-size : (net : Net) (t : Tree) → Sound net t → suc (t .edges .size) ≡ t .count
+tree-size net t sound =
     ap suc (sym (listing-length (λ j. endsOf (t .points) (getD (t .edges .keys) j 0)) (t .edges .size))) ∙ sound .whole .size
     ∙ listing-length (placeAt (t .points)) (t .count)
 
-module _ (ms : List Macro) (pins : List Place) (pts : List ℤ) (n : ℕ) (ks : List ℕ) (e : ℕ) (sound : Sound ms pins (tree pts n ks (suc e)))
+module _ (net : Net) (pts : List ℤ) (n : ℕ) (ks : List ℕ) (e : ℕ) (sound : Sound net (tree pts n ks (suc e)))
     (few : n ≤ pointBound) (k u : ℕ) (hk : k < suc e) (hu : u < n) (third : EndOf (tree pts n ks (suc e)) u k → ⊥) where
   sized : suc (suc e) ≡ n
-  sized = tree-size ms pins (tree pts n ks (suc e)) sound
+  sized = tree-size net (tree pts n ks (suc e)) sound
 
   abbrev el : List ℕ
-  el = lengths pts ks (suc e)
+  el = costs (net .weights) pts ks (suc e)
 
   abbrev Here : ℕ → Type 0
   Here x =
-      Is pts n ks e el (sound .ordered) few (omega (arith, sized)) (no-length pts ks (suc e) (omega (arith, sized))) (sound .within)
+      Is pts n ks e el (sound .ordered) few (omega (arith, sized)) (no-cost (net .weights) pts ks (suc e) (omega (arith, sized))) (sound .within)
       (sound .whole) k u
       hk hu (λ q. third (inl q)) (λ q. third (inr q)) x
 
-  worked-is : Here (cutIn (tree pts n ks (suc e)) k u)
+  worked-is : Here (cutIn net (tree pts n ks (suc e)) k u)
   unfolding longest
   worked-is =
-      cut-is pts n ks e el (sound .ordered) few (omega (arith, sized)) (no-length pts ks (suc e) (omega (arith, sized))) (sound .within)
+      cut-is pts n ks e el (sound .ordered) few (omega (arith, sized)) (no-cost (net .weights) pts ks (suc e) (omega (arith, sized))) (sound .within)
       (sound .whole)
       k u hk hu (λ q. third (inl q)) (λ q. third (inr q))
 
-  long-at : (j : ℕ) → j < suc e → getD el j 0 ≡ longAt (tree pts n ks (suc e)) j
-  long-at j h = length-at pts ks (suc e) j (omega (arith, sized)) h
+  cost-of : (j : ℕ) → j < suc e → getD el j 0 ≡ costAt net (tree pts n ks (suc e)) j
+  cost-of j h = cost-at (net .weights) pts ks (suc e) j (omega (arith, sized)) h
 
   abbrev way : Toward (edgesOf pts ks (suc e)) (placeAt pts u) (placeAt pts (firstEnd (getD ks k 0)))
       (placeAt pts (secondEnd (getD ks k 0)))
   way =
-      the-way pts n ks e el (sound .ordered) few (omega (arith, sized)) (no-length pts ks (suc e) (omega (arith, sized))) (sound .within)
+      the-way pts n ks e el (sound .ordered) few (omega (arith, sized)) (no-cost (net .weights) pts ks (suc e) (omega (arith, sized))) (sound .within)
       (sound .whole) k u hk hu (λ q. third (inl q)) (λ q. third (inr q))
 
-  of-is : (x : ℕ) → Here x → CutAt (tree pts n ks (suc e)) k u x
+  of-is : (x : ℕ) → Here x → CutAt net (tree pts n ks (suc e)) k u x
   of-is x h = record {
     way = way;
     longest = record {
       step = record { edge = h .1 .0; one = h .1 .1 .0; other = h .1 .1 .1 .0; on = h .1 .1 .1 .1 .0; ends = h .1 .1 .1 .1 .1 };
-      longest = λ j s. omega (arith, under j s .0, long-at j (s .edge), long-at x (h .1 .0));
-      smallest = λ j s q. under j s .1 (omega (arith, q, long-at j (s .edge), long-at x (h .1 .0)));
+      longest = λ j s. omega (arith, under j s .0, cost-of j (s .edge), cost-of x (h .1 .0));
+      smallest = λ j s q. under j s .1 (omega (arith, q, cost-of j (s .edge), cost-of x (h .1 .0)));
     };
   }
     where
       under : (j : ℕ) → StepOf (tree pts n ks (suc e)) (placeAt pts u) (way .free .points) j → Under el j x
       under j s = h .0 .best j (s .edge) (s .one) (s .other) (s .on) (s .ends)
 
-  cut-some : CutAt (tree pts n ks (suc e)) k u (cutIn (tree pts n ks (suc e)) k u)
-  cut-some = of-is (cutIn (tree pts n ks (suc e)) k u) worked-is
+  cut-some : CutAt net (tree pts n ks (suc e)) k u (cutIn net (tree pts n ks (suc e)) k u)
+  cut-some = of-is (cutIn net (tree pts n ks (suc e)) k u) worked-is
 
-at-size : (ms : List Macro) (pins : List Place) (pts : List ℤ) (n : ℕ) (ks : List ℕ) (e : ℕ) → Sound ms pins (tree pts n ks e) → n
-    ≤ pointBound →
-    (k u : ℕ) → k < e → u < n → (EndOf (tree pts n ks e) u k → ⊥) → CutAt (tree pts n ks e) k u (cutIn (tree pts n ks e) k u)
-at-size ms pins pts n ks zero sound few k u hk hu third = absurd (let z : ⊥ = omega arith in z)
-at-size ms pins pts n ks (suc e) sound few k u hk hu third = cut-some ms pins pts n ks e sound few k u hk hu third
+at-size : (net : Net) (pts : List ℤ) (n : ℕ) (ks : List ℕ) (e : ℕ) → Sound net (tree pts n ks e) → n ≤ pointBound →
+    (k u : ℕ) → k < e → u < n → (EndOf (tree pts n ks e) u k → ⊥) → CutAt net (tree pts n ks e) k u (cutIn net (tree pts n ks e) k u)
+at-size net pts n ks zero sound few k u hk hu third = absurd (let z : ⊥ = omega arith in z)
+at-size net pts n ks (suc e) sound few k u hk hu third = cut-some net pts n ks e sound few k u hk hu third
 
-module _ (ms : List Macro) (pins : List Place) (t : Tree) (sound : Sound ms pins t) (few : t .count ≤ pointBound) where
+module _ (net : Net) (t : Tree) (sound : Sound net t) (few : t .count ≤ pointBound) where
   -- the edge that is worked out is L
-  pub cut-at : (k u : ℕ) → k < t .edges .size → u < t .count → (EndOf t u k → ⊥) → CutAt t k u (cutIn t k u)
-  cut-at k u hk hu third = at-size ms pins (t .points) (t .count) (t .edges .keys) (t .edges .size) sound few k u hk hu third
+  pub cut-at : (k u : ℕ) → k < t .edges .size → u < t .count → (EndOf t u k → ⊥) → CutAt net t k u (cutIn net t k u)
+  cut-at k u hk hu third = at-size net (t .points) (t .count) (t .edges .keys) (t .edges .size) sound few k u hk hu third
 
   -- no two edges are L
-  pub cut-one : (k u l m : ℕ) → k < t .edges .size → CutAt t k u l → CutAt t k u m → l ≡ m
+  pub cut-one : (k u l m : ℕ) → k < t .edges .size → CutAt net t k u l → CutAt net t k u m → l ≡ m
   cut-one k u l m hk p q =
-      longest-one t (placeAt (t .points) u) (q .way .free .points) l m
-      (subst (λ (ps : List Place). LongestOn t (placeAt (t .points) u) ps l) (only (p .way) (q .way)) (p .longest)) (q .longest)
+      longest-one net t (placeAt (t .points) u) (q .way .free .points) l m
+      (subst (λ (ps : List Place). LongestOn net t (placeAt (t .points) u) ps l) (only (p .way) (q .way)) (p .longest)) (q .longest)
     where
       only : (v w : Toward (edgesOf (t .points) (t .edges .keys) (t .edges .size)) (placeAt (t .points) u) (endA t k) (endB t k)) →
           v .free .points ≡ w .free .points
@@ -115,22 +114,23 @@ module _ (ms : List Macro) (pins : List Place) (t : Tree) (sound : Sound ms pins
           (inl (in-listing (λ j. endsOf (t .points) (getD (t .edges .keys) j 0)) (t .edges .size) k hk)) v w .1
 
   -- L is another edge than (a, b)
-  pub cut-another : (k u l : ℕ) → CutAt t k u l → l ≡ k → ⊥
+  pub cut-another : (k u l : ℕ) → CutAt net t k u l → l ≡ k → ⊥
   cut-another k u l c q =
       let s = c .longest .step in
       step-other (c .way) (s .on) (subst (λ (j : ℕ). Alike (s .one) (s .other) (endA t j) (endB t j)) q (s .ends))
 
   -- so the test of it turns no candidate away: without it an offer is the same
   pub offer-plain : (k u : ℕ) (c : Best) → k < t .edges .size → u < t .count →
-      let el = lengths (t .points) (t .edges .keys) (t .edges .size) in
+      let el = costs (net .weights) (t .points) (t .edges .keys) (t .edges .size) in
       let top = longest (t .edges .keys) el (t .edges .size) (t .count) in
       let a = firstEnd (keyAt t k) in
       let b = secondEnd (keyAt t k) in
-      offer (t .points) (t .count) ms el top a b k u c
-      ≡ chosen (eqb u a || eqb u b) c (weighed (t .points) (t .count) ms a b k u (cutIn t k u) (getD el (cutIn t k u) 0) c)
+      offer (net .weights) (t .points) (t .count) (net .macros) el top a b k u c
+      ≡ chosen (eqb u a || eqb u b) c
+      (weighed (net .weights) (t .points) (t .count) (net .macros) a b k u (cutIn net t k u) (getD el (cutIn net t k u) 0) c)
   unfolding offer
   offer-plain k u c hk hu =
       by (eqb u (firstEnd (keyAt t k))) (λ p. rw p refl) λ p.
       by (eqb u (secondEnd (keyAt t k))) (λ q. rw (p, q) refl) λ q.
       let third : EndOf t u k → ⊥ = either (eqb-false _ _ p) (eqb-false _ _ q) in
-      rw (p, q, ne-eqb (cutIn t k u) k (cut-another k u (cutIn t k u) (cut-at k u hk hu third))) refl
+      rw (p, q, ne-eqb (cutIn net t k u) k (cut-another k u (cutIn net t k u) (cut-at k u hk hu third))) refl

@@ -16,12 +16,13 @@ use Rattle.lists.proofs.TestLaws.{by, differ, either, and-left, and-right}
 use Rattle.plane.specs.declared.Place.{Place}
 use Rattle.plane.specs.declared.Macro.{Macro}
 use Rattle.plane.specs.Place.{samePlace}
-use Rattle.plane.specs.Distance.{distance}
 use Rattle.plane.specs.Macro.{clear}
 use Rattle.plane.specs.Flat.{placeAt}
+use Rattle.net.specs.Net.{Net, costIn}
 use Rattle.plane.proofs.PlaceLaws.{same-true, same-refl}
 use Rattle.plane.proofs.MacroLaws.{clear-comm}
-use Rattle.plane.proofs.BoxLaws.{middle-clear-first, middle-clear-outer, middle-clear-last, middle-through}
+use Rattle.plane.proofs.BoxLaws.{middle-clear-first, middle-clear-outer, middle-clear-last}
+use Rattle.plane.proofs.CostLaws.{middle-through}
 use Rattle.joined.specs.Joined.{Link, Alike}
 use Rattle.joined.specs.Tree as joined
 use Rattle.joined.proofs.OtherLaws.{alike-sym, alike-trans}
@@ -32,7 +33,7 @@ use Rattle.tree.specs.Table.{pointBound, key, firstEnd, secondEnd, row, Tree, t
 use Rattle.refiner.specs.Candidate.{middleOf, sees, taken, dropped}
 use Rattle.refiner.specs.Exchange.{dropTwo, rank, stands, opened, bump, bumpAt, lay3, laidAt}
 use Rattle.tree.specs.Sum.{over}
-use Rattle.tree.specs.Places.{endsOf, pointsOf, edgesOf, keyLength, InOrder, Sound}
+use Rattle.tree.specs.Places.{endsOf, pointsOf, edgesOf, keyCost, InOrder, Sound}
 use Rattle.refiner.specs.Taken.{Taken}
 use Rattle.refiner.proofs.WithinLaws.{rank-le, bump-in, within-dropped, within-joined}
 use Rattle.refiner.proofs.ExchangeLaws.{bump-lt, bump-ge}
@@ -40,7 +41,7 @@ use Rattle.tree.proofs.SumLaws.{below-same, below-one}
 use Rattle.refiner.proofs.ExchangeSums.{between, over-lay3, over-bumped, length-bumps, length-dropped}
 use Rattle.refiner.proofs.OpenedLaws.{seek-before, opened-low, opened-new, opened-past, opened-bump, opened-order}
 use Rattle.tree.proofs.ListingLaws.{listing-length, in-listing, of-listing}
-use Rattle.refiner.proofs.AfterLaws.{After, between-is, between-none, still, to-a, to-b, to-u, after-clear, after-lengths}
+use Rattle.refiner.proofs.AfterLaws.{After, between-is, between-none, still, to-a, to-b, to-u, after-clear, after-costs}
 use Rattle.tree.proofs.PointLaws.{same-place, order-once}
 
 -- The tables after an exchange
@@ -101,9 +102,12 @@ bump-not p x e =
 
 -- What a round keeps
 
-module _ (ms : List Macro) (pins : List Place) (pts : List ℤ) (n : ℕ) (ks : List ℕ) (e k l u : ℕ)
-    (sound : Sound ms pins (tree pts n ks (suc (suc e)))) (c : Taken ms pts n ks (suc (suc e)) k l u)
+module _ (net : Net) (pts : List ℤ) (n : ℕ) (ks : List ℕ) (e k l u : ℕ)
+    (sound : Sound net (tree pts n ks (suc (suc e)))) (c : Taken (net .macros) pts n ks (suc (suc e)) k l u)
     (few : n < pointBound) (room : n * 2 + 2 ≤ length pts) (rooms : e + 2 < length ks) where
+  abbrev ms : List Macro
+  ms = net .macros
+
   abbrev a : ℕ
   a = firstEnd (getD ks k 0)
 
@@ -157,7 +161,7 @@ module _ (ms : List Macro) (pins : List Place) (pts : List ℤ) (n : ℕ) (ks : 
         (sound .whole) (in-listing (placeAt pts) n a ha) (order-once (t .points) (t .count) ordered) known
         (ap suc (listing-length _ (t .edges .size)) ∙ size ∙ sym (listing-length _ (t .count)))
 
-    after-sound : Sound ms pins t
+    after-sound : Sound net t
     after-sound = record {
       ordered = ordered;
       within = within;
@@ -235,7 +239,7 @@ module _ (ms : List Macro) (pins : List Place) (pts : List ℤ) (n : ℕ) (ks : 
         (within-joined pts n (dropTwo e k l ks) e p a b u s few (rank-le pts n s) ha hb (c .point)
         (within-dropped n e k l ks (sound .within)))
 
-    put-sound : Sound ms pins (new-tree pts n ks e k l a b u p s rooms)
+    put-sound : Sound net (new-tree pts n ks e k l a b u p s rooms)
     put-sound =
         after-sound put (opened-order pts n s (sound .ordered) new room) put-within (λ i h. bump-in n p i h) put-known put-size
 
@@ -307,7 +311,7 @@ module _ (ms : List Macro) (pins : List Place) (pts : List ℤ) (n : ℕ) (ks : 
         (within-joined pts n (dropTwo e k l ks) e p a b u s few (rank-le pts n s) ha hb (c .point)
         (within-dropped n e k l ks (sound .within)))
 
-    stood-sound : Sound ms pins (old-tree pts n ks e k l a b u p s rooms)
+    stood-sound : Sound net (old-tree pts n ks e k l a b u p s rooms)
     stood-sound = after-sound stood (sound .ordered) stood-within (λ i h. h) (λ y i. inr i) stood-size
 
   -- Both
@@ -315,25 +319,26 @@ module _ (ms : List Macro) (pins : List Place) (pts : List ℤ) (n : ℕ) (ks : 
   abbrev result : Tree
   result = laidAt pts n (dropTwo e k l ks) e p a b u s
 
-  pub laid-sound : Sound ms pins result
+  pub laid-sound : Sound net result
   unfolding laidAt
   laid-sound = by (stands pts n p s) (λ t. rw (laidAt, t) (stood-sound t)) (λ t. rw (laidAt, t) (put-sound t))
 
   through-s : {m : ℕ → ℕ} {t : Tree} → After pts n ks e k l a b u p s m t →
-      over (keyLength (t .points)) (t .edges .keys) (t .edges .size) + keyLength pts (getD ks l 0)
-      ≡ over (keyLength pts) ks (suc (suc e)) + distance s (placeAt pts u)
+      over (keyCost (net .weights) (t .points)) (t .edges .keys) (t .edges .size) + keyCost (net .weights) pts (getD ks l 0)
+      ≡ over (keyCost (net .weights) pts) ks (suc (suc e)) + costIn net s (placeAt pts u)
   through-s after =
       omega (
         arith,
-        after-lengths after (sound .within) (c .edge) (c .cut) (c .two) ha hb (c .point),
-        middle-through (placeAt pts a) (placeAt pts b) (placeAt pts u),
+        after-costs after (sound .within) (c .edge) (c .cut) (c .two) ha hb (c .point) (net .weights),
+        middle-through (net .weights) (placeAt pts a) (placeAt pts b) (placeAt pts u),
       )
 
-  -- the total falls by the gain, the length of L less the distance of s and u
-  pub laid-lengths : over (keyLength (result .points)) (result .edges .keys) (result .edges .size) + keyLength pts (getD ks l 0)
-      ≡ over (keyLength pts) ks (suc (suc e)) + distance s (placeAt pts u)
+  -- the total falls by the gain, the cost of L less that from s to u
+  pub laid-costs : over (keyCost (net .weights) (result .points)) (result .edges .keys) (result .edges .size)
+      + keyCost (net .weights) pts (getD ks l 0)
+      ≡ over (keyCost (net .weights) pts) ks (suc (suc e)) + costIn net s (placeAt pts u)
   unfolding laidAt
-  laid-lengths = by (stands pts n p s) (λ t. rw (laidAt, t) (through-s (stood t))) (λ t. rw (laidAt, t) (through-s (put t)))
+  laid-costs = by (stands pts n p s) (λ t. rw (laidAt, t) (through-s (stood t))) (λ t. rw (laidAt, t) (through-s (put t)))
 
   -- the tables after the exchange, whichever numbers moved on
   pub laid-after : (m : ℕ → ℕ) × After pts n ks e k l a b u p s m result

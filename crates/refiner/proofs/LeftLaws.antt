@@ -15,9 +15,9 @@ use Rattle.lists.specs.Member.{_∈_}
 use Rattle.lists.proofs.TestLaws.{by, differ, either, and-both, or-none}
 use Rattle.lists.proofs.AnyLaws.{none-any}
 use Rattle.plane.specs.declared.Place.{Place}
-use Rattle.plane.specs.declared.Macro.{Macro}
 use Rattle.plane.specs.Place.{samePlace}
 use Rattle.plane.specs.Flat.{placeAt}
+use Rattle.net.specs.Net.{Net}
 use Rattle.plane.proofs.PlaceLaws.{same-true}
 use Rattle.joined.proofs.OneTreeLaws.{tree-simple}
 use Rattle.refiner.specs.Turns.{turns}
@@ -130,17 +130,17 @@ no-pin pins pts n few v h d =
     none x m = by (samePlace (placeAt pts v) x) (λ t. absurd (d (subst (λ (y : Place). y ∈ pins) (sym (same-true _ _ t)) m))) (λ t. t)
 
 -- R16, its end, of a tree over its points
-pub pruned-left : (ms : List Macro) (pins : List Place) (t : Tree) → Sound ms pins t → t .count ≤ pointBound → NoneLeft pins (pruned pins t)
+pub pruned-left : (net : Net) (t : Tree) → Sound net t → t .count ≤ pointBound → NoneLeft (net .pins) (pruned (net .pins) t)
 unfolding pruned
-pruned-left ms pins t sound few = record {
+pruned-left net t sound few = record {
   two =
       λ v i h q free.
       two-edges (t .count) pin left size few within apart (pruned-none pin (t .edges .keys) (t .edges .size)) v i h q
-      (no-pin pins (t .points) (t .count) few v (low v i q) free);
+      (no-pin (net .pins) (t .points) (t .count) few v (low v i q) free);
 }
   where
     pin : List ℕ
-    pin = marks pins (t .points) (t .count)
+    pin = marks (net .pins) (t .points) (t .count)
 
     left : List ℕ
     left = prune pin (t .edges .keys) (t .edges .size) .keys

@@ -10,23 +10,25 @@ use lib.ListN.{getD, set}
 use borrow.Author.Tests.{lt-ltb, le-ltb, eq-eqb, ne-eqb}
 use lib.IntN.{ℤ}
 use Rattle.plane.specs.declared.Place.{Place}
-use Rattle.plane.specs.Distance.{distance}
+use Rattle.plane.specs.declared.Weights.{Weights}
+use Rattle.plane.specs.Cost.{cost}
 use Rattle.plane.specs.Flat.{placeAt}
 use Rattle.lists.proofs.TestLaws.{by}
-use Rattle.refiner.specs.Longest.{Reach, attach, hang, longer, measure, edgeLength, noEdge, pass, reach, shorter, spread}
+use Rattle.refiner.specs.Longest.{Reach, attach, hang, longer, measure, edgeCost, noEdge, pass, reach, shorter, spread}
 use Rattle.refiner.specs.Longest.{spreads, wins}
 use Rattle.tree.specs.Table.{Small, firstEnd, key, pointBound, secondEnd}
 use Rattle.refiner.specs.Turns.{turns}
 use Rattle.refiner.proofs.TurnLaws.{turns-keep, turns-below}
 
-pub length-is : (pts : List ℤ) (keys : List ℕ) (k d : ℕ) (p q : Place) → p ≡ placeAt pts (firstEnd (getD keys k 0))
-    → q ≡ placeAt pts (secondEnd (getD keys k 0)) → d ≡ distance p q → d ≡ edgeLength pts keys k
-unfolding edgeLength
-length-is pts keys k d p q e f g = rw (g, e, f) refl
+pub cost-is : (w : Weights) (pts : List ℤ) (keys : List ℕ) (k d : ℕ) (p q : Place) → p ≡ placeAt pts (firstEnd (getD keys k 0))
+    → q ≡ placeAt pts (secondEnd (getD keys k 0)) → d ≡ cost w p q → d ≡ edgeCost w pts keys k
+unfolding edgeCost
+cost-is w pts keys k d p q e f g = rw (g, e, f) refl
 
-pub measure-is : (pts : List ℤ) (keys : List ℕ) (k d : ℕ) (el : List ℕ) → d ≡ edgeLength pts keys k → set el k d ≡ measure pts keys k el
+pub measure-is : (w : Weights) (pts : List ℤ) (keys : List ℕ) (k d : ℕ) (el : List ℕ) → d ≡ edgeCost w pts keys k
+    → set el k d ≡ measure w pts keys k el
 unfolding measure
-measure-is pts keys k d el e = rw e refl
+measure-is w pts keys k d el e = rw e refl
 
 pub wins-lt : (w : List ℕ) (q j : ℕ) → getD w j 0 < getD w q 0 → true ≡ wins w q j
 unfolding wins

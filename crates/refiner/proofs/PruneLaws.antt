@@ -11,9 +11,9 @@ use borrow.Author.Tests.{eq-eqb, ne-eqb}
 use lib.IntN.{ℤ}
 use Rattle.lists.specs.Any.{any}
 use Rattle.plane.specs.declared.Place.{Place}
-use Rattle.plane.specs.declared.Macro.{Macro}
 use Rattle.plane.specs.Place.{samePlace}
 use Rattle.plane.specs.Flat.{placeAt}
+use Rattle.net.specs.Net.{Net}
 use Rattle.refiner.specs.Exchange.{closed}
 use Rattle.refiner.specs.Prune.{countEnds, firstLoose, loose, looseEdge, prune, markOf, mark, marks}
 use Rattle.refiner.specs.Refined.{pruned, rounds, refined}
@@ -112,10 +112,10 @@ pub pruned-is : (pins : List Place) (pts : List ℤ) (n : ℕ) (ks : List ℕ) (
 unfolding pruned marks
 pruned-is pins pts n ks e pin r f g = rw f at g
 
-pub answer-is : (ms : List Macro) (pins : List Place) (t : Tree) (pts : List ℤ) (n : ℕ) (ks : List ℕ) (e : ℕ) (ls : List ℕ) (f m : ℕ)
-    → length pins ≡ m → tree pts n ks e ≡ rounds ms m t → row ls f ≡ pruned pins (tree pts n ks e) .edges → tree pts n ls f
-    ≡ refined ms pins t
+pub answer-is : (net : Net) (t : Tree) (pts : List ℤ) (n : ℕ) (ks : List ℕ) (e : ℕ) (ls : List ℕ) (f m : ℕ)
+    → length (net .pins) ≡ m → tree pts n ks e ≡ rounds (net .weights) (net .macros) m t
+    → row ls f ≡ pruned (net .pins) (tree pts n ks e) .edges → tree pts n ls f ≡ refined net t
 unfolding refined pruned
-answer-is ms pins t pts n ks e ls f m l h g =
+answer-is net t pts n ks e ls f m l h g =
     ap (λ (r : Row). record { points = pts; count = n; edges = r }) g
-    ∙ ap (pruned pins) (h ∙ ap (λ (k : ℕ). rounds ms k t) (sym l))
+    ∙ ap (pruned (net .pins)) (h ∙ ap (λ (k : ℕ). rounds (net .weights) (net .macros) k t) (sym l))

@@ -14,11 +14,11 @@ use borrow.Author.Tests.{ltb-true, ltb-false, eqb-true, eqb-false}
 use Rattle.lists.specs.Member.{Once}
 use Rattle.lists.proofs.TestLaws.{by}
 use Rattle.plane.specs.declared.Place.{Place}
-use Rattle.plane.specs.declared.Macro.{Macro}
 use Rattle.joined.specs.Tree.{Forest}
 use Rattle.joined.proofs.JoinedLaws.{one as one-link}
 use Rattle.joined.proofs.TreeLaws.{tree-cuts, cuts-forest}
 use Rattle.refiner.specs.Turns.{turns}
+use Rattle.net.specs.Net.{Net}
 use Rattle.tree.specs.Table.{pointBound, key, firstEnd, secondEnd, Row, row, Tree, Within}
 use Rattle.refiner.specs.Exchange.{closed, dropTwo, stands, bump, bumpAt, carrying, lay, lay3, laidAt}
 use Rattle.refiner.specs.Prune.{firstLoose, prune}
@@ -256,7 +256,7 @@ once-listing f (suc n) o i j h l e =
     let q : j ≡ n = omega (arith, ltb-false j n t) in
     o .0 (Memᴰ·cast (ap f (sym q) ∙ sym e) (in-listing f n i (omega arith))))
 
-pub ranked-of : {ms : List Macro} {pins : List Place} (t : Tree) → Sound ms pins t → Level (t .edges .keys) (t .edges .size)
+pub ranked-of : {net : Net} (t : Tree) → Sound net t → Level (t .edges .keys) (t .edges .size)
     → Ranked (t .edges .keys) (t .edges .size)
 ranked-of t sound g =
     let edges = edgesOf (t .points) (t .edges .keys) (t .edges .size) in

@@ -1,4 +1,4 @@
--- The refined tree of a tree with clear edges holds all pins as one tree, enters no macro's interior, and has no more metal to lay.
+-- The refined tree of a tree with clear edges holds all pins as one tree, enters no macro's interior, and costs no more.
 -- Its edges are in order where those of the tree are.
 -- Assumes nothing.
 use mathlib.Core.Path.{_≡_, refl, sym, ap, _∙_, subst}
@@ -15,10 +15,10 @@ use Rattle.lists.specs.Member.{_∈_}
 use Rattle.lists.proofs.TestLaws.{by, differ}
 use Rattle.lists.proofs.AnyLaws.{any-none}
 use Rattle.plane.specs.declared.Place.{Place}
-use Rattle.plane.specs.declared.Macro.{Macro}
 use Rattle.plane.specs.Place.{samePlace}
 use Rattle.plane.specs.Macro.{clear}
 use Rattle.plane.specs.Flat.{placeAt}
+use Rattle.net.specs.Net.{Net}
 use Rattle.plane.proofs.PlaceLaws.{same-refl}
 use Rattle.joined.proofs.OneTreeLaws.{tree-one}
 use Rattle.refiner.specs.Turns.{turns}
@@ -26,7 +26,7 @@ use Rattle.tree.specs.Table.{pointBound, Tree}
 use Rattle.refiner.specs.Prune.{markOf, mark, marks}
 use Rattle.refiner.specs.Refined.{rounds, pruned, refined}
 use Rattle.refiner.specs.Promise.{Promise, Tabled}
-use Rattle.tree.specs.Places.{endsOf, pointsOf, keyLength, Ranked, Sound}
+use Rattle.tree.specs.Places.{endsOf, pointsOf, keyCost, Ranked, Sound}
 use Rattle.tree.proofs.SumLaws.{other, here}
 use Rattle.tree.proofs.ListingLaws.{listing-length, in-listing, of-listing}
 use Rattle.tree.proofs.PointLaws.{same-place}
@@ -73,30 +73,30 @@ unmarked pins pts n few v h e m =
 
 -- The refined tree
 
-pub refined-promise : (ms : List Macro) (pins : List Place) (t : Tree) → Sound ms pins t → t .count + length pins ≤ pointBound →
-    length (t .points) ≡ pointBound * 2 → length (t .edges .keys) ≡ pointBound → Promise ms pins t (refined ms pins t)
+pub refined-promise : (net : Net) (t : Tree) → Sound net t → t .count + length (net .pins) ≤ pointBound →
+    length (t .points) ≡ pointBound * 2 → length (t .edges .keys) ≡ pointBound → Promise net t (refined net t)
 unfolding refined pruned
-refined-promise ms pins t sound few room rooms =
-    let r = rounds ms (length pins) t in
-    let k = rounds-kept ms pins (length pins) t sound few room rooms in
-    let pin = marks pins (r .points) (r .count) in
+refined-promise net t sound few room rooms =
+    let r = rounds (net .weights) (net .macros) (length (net .pins)) t in
+    let k = rounds-kept net (length (net .pins)) t sound few room rooms in
+    let pin = marks (net .pins) (r .points) (r .count) in
     let least : r .count ≤ pointBound = omega (arith, k .points) in
-    let whole = prune-whole (r .points) (r .count) (k .sound .ordered) least pins pin (unmarked pins (r .points) (r .count) least)
+    let whole = prune-whole (r .points) (r .count) (k .sound .ordered) least (net .pins) pin (unmarked (net .pins) (r .points) (r .count) least)
     (r .edges .size)
     (r .edges .keys)
     (k .sound .within) (held r (k .sound)) in
     record {
-      one = tree-one same-place (whole .tree) (whole .inside) pins (whole .pinned);
+      one = tree-one same-place (whole .tree) (whole .inside) (net .pins) (whole .pinned);
       free =
           λ i h.
           let q = pruned-was pin (r .edges .size) (r .edges .keys) i h in
-          subst (λ (j : ℕ). clear (endsOf (r .points) j .0) (endsOf (r .points) j .1) ms ≡ true) (sym (q .1 .1))
+          subst (λ (j : ℕ). clear (endsOf (r .points) j .0) (endsOf (r .points) j .1) (net .macros) ≡ true) (sym (q .1 .1))
           (k .sound .free (q .0) (q .1 .0));
-      total = omega (arith, k .total, pruned-over (keyLength (r .points)) pin (r .edges .size) (r .edges .keys));
+      total = omega (arith, k .total, pruned-over (keyCost (net .weights) (r .points)) pin (r .edges .size) (r .edges .keys));
       points = k .points;
     }
   where
-    held : (r : Tree) → Sound ms pins r → Whole (r .points) pins (r .edges)
+    held : (r : Tree) → Sound net r → Whole (r .points) (net .pins) (r .edges)
     held r s = record {
       points = pointsOf (r .points) (r .count);
       tree = s .whole;
@@ -113,14 +113,14 @@ refined-promise ms pins t sound few room rooms =
 
 -- Its edges in order
 
-pub refined-tabled : (ms : List Macro) (pins : List Place) (t : Tree) → Sound ms pins t → t .count + length pins ≤ pointBound →
+pub refined-tabled : (net : Net) (t : Tree) → Sound net t → t .count + length (net .pins) ≤ pointBound →
     length (t .points) ≡ pointBound * 2 → length (t .edges .keys) ≡ pointBound → Ranked (t .edges .keys) (t .edges .size) →
-    Tabled pins t (refined ms pins t)
+    Tabled net t (refined net t)
 unfolding refined pruned
-refined-tabled ms pins t sound few room rooms ranked =
-    let r = rounds ms (length pins) t in
-    let k = rounds-kept ms pins (length pins) t sound few room rooms in
-    let pin = marks pins (r .points) (r .count) in
+refined-tabled net t sound few room rooms ranked =
+    let r = rounds (net .weights) (net .macros) (length (net .pins)) t in
+    let k = rounds-kept net (length (net .pins)) t sound few room rooms in
+    let pin = marks (net .pins) (r .points) (r .count) in
     let edges = listing-length (λ j. endsOf (r .points) (getD (r .edges .keys) j 0)) (r .edges .size) in
     record {
       ordered = k .sound .ordered;

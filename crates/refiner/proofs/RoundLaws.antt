@@ -10,14 +10,15 @@ use lib.IntN.{ℤ}
 use lib.ListN.{getD, set, replicate}
 use Rattle.plane.specs.declared.Place.{Place}
 use Rattle.plane.specs.declared.Macro.{Macro}
+use Rattle.plane.specs.declared.Weights.{Weights}
 use Rattle.plane.specs.Flat.{placeAt}
 use Rattle.plane.specs.Middle.{middlePlace}
 use Rattle.lists.proofs.TestLaws.{by}
 use Rattle.refiner.specs.declared.Best.{Best}
 use Rattle.refiner.specs.Candidate.{found, search}
 use Rattle.refiner.specs.Exchange.{bump, bumpAt, closed, dropTwo, exchange, laidAt, lay3, opened, rank, shift, stands}
-use Rattle.refiner.specs.Longest.{Reach, lengths, measure, noEdge, pass, reach, reached, longest, start, edgeLength}
-use Rattle.refiner.specs.Refined.{addLength, metal}
+use Rattle.refiner.specs.Longest.{Reach, costs, measure, noEdge, pass, reach, reached, longest, start, edgeCost}
+use Rattle.refiner.specs.Refined.{addCost, total}
 use Rattle.tree.specs.Table.{Row, Small, Tree, firstEnd, pairBound, pointBound, row, secondEnd, tree}
 use Rattle.refiner.specs.Turns.{turns}
 use Rattle.refiner.proofs.LongestLaws.{small-set, small-attach}
@@ -40,13 +41,13 @@ small-reached keys el e n s t s′ t′ q h i =
     (λ _ r k. turns-below (pass keys el n) (λ r. Small pointBound (r .top)) pointBound (λ j r b k. small-attach el n _ _ j r b k) e 0 r
     (omega arith) k) i)
 
-pub found-is : (ms : List Macro) (pts : List ℤ) (n : ℕ) (ks : List ℕ) (e : ℕ) (el s t : List ℕ) (r : Best)
-    → el ≡ turns (measure pts ks) 0 e (replicate pointBound 0)
-    → reach s t ≡ reached ks el e n (reach (set (replicate pointBound 0) 0 1) (replicate pairBound noEdge)) → r ≡ search pts n ms ks e el t
-    → r ≡ found ms pts n ks e
-unfolding found lengths longest start
-found-is ms pts n ks e el s t r p q h = h ∙ ap (λ (v : List ℕ). search pts n ms ks e el v) (ap (λ (v : Reach). v .top) q)
-    ∙ ap (λ (v : List ℕ). search pts n ms ks e v (reached ks v e n
+pub found-is : (w : Weights) (ms : List Macro) (pts : List ℤ) (n : ℕ) (ks : List ℕ) (e : ℕ) (el s t : List ℕ) (r : Best)
+    → el ≡ turns (measure w pts ks) 0 e (replicate pointBound 0)
+    → reach s t ≡ reached ks el e n (reach (set (replicate pointBound 0) 0 1) (replicate pairBound noEdge)) → r ≡ search w pts n ms ks e el t
+    → r ≡ found w ms pts n ks e
+unfolding found costs longest start
+found-is w ms pts n ks e el s t r p q h = h ∙ ap (λ (v : List ℕ). search w pts n ms ks e el v) (ap (λ (v : Reach). v .top) q)
+    ∙ ap (λ (v : List ℕ). search w pts n ms ks e v (reached ks v e n
     (reach (set (replicate pointBound 0) 0 1) (replicate pairBound noEdge)) .top)) p
 
 -- entries stay small
@@ -86,11 +87,11 @@ exchange-is c pts n ks ls e p x y z s t f g h i j k l = l ∙ rw (k, j, i, f, g,
 pub two-least : (k l e : ℕ) → k < e → l < e → (l ≡ k → ⊥) → 2 ≤ e
 two-least k l e h i n = omega arith
 
--- the sum of the lengths
-pub metal-none : (pts : List ℤ) (ks : List ℕ) (e : ℕ) → turns (addLength pts ks) 0 (e - 0) 0 ≡ metal pts ks e
-unfolding metal
-metal-none pts ks e = turns-none (addLength pts ks) e 0
+-- the sum of the costs
+pub total-none : (w : Weights) (pts : List ℤ) (ks : List ℕ) (e : ℕ) → turns (addCost w pts ks) 0 (e - 0) 0 ≡ total w pts ks e
+unfolding total
+total-none w pts ks e = turns-none (addCost w pts ks) e 0
 
-pub metal-next : (pts : List ℤ) (ks : List ℕ) (k sum d : ℕ) → d ≡ edgeLength pts ks k → sum + d ≡ addLength pts ks k sum
-unfolding addLength
-metal-next pts ks k sum d e = rw e refl
+pub total-next : (w : Weights) (pts : List ℤ) (ks : List ℕ) (k sum d : ℕ) → d ≡ edgeCost w pts ks k → sum + d ≡ addCost w pts ks k sum
+unfolding addCost
+total-next w pts ks k sum d e = rw e refl

@@ -11,32 +11,32 @@ use lib.ListN.{length, getD}
 use borrow.Author.Tests.{eqb-false}
 use Rattle.lists.proofs.TestLaws.{by}
 use Rattle.plane.specs.declared.Place.{Place}
-use Rattle.plane.specs.declared.Macro.{Macro}
+use Rattle.plane.specs.declared.Weights.{Weights}
 use Rattle.plane.specs.Flat.{placeAt}
+use Rattle.net.specs.Net.{Net}
 use Rattle.refiner.specs.declared.Best.{Best}
 use Rattle.refiner.specs.Turns.{turns}
 use Rattle.tree.specs.Table.{pointBound, firstEnd, secondEnd, Row, row, Tree, tree}
-use Rattle.refiner.specs.Longest.{edgeLength, lengths, longest}
+use Rattle.refiner.specs.Longest.{edgeCost, costs, longest}
 use Rattle.refiner.specs.Candidate.{middleOf, found}
 use Rattle.refiner.specs.Exchange.{dropTwo, rank, stands, bump, bumpAt, lay, lay3, laidAt, exchange}
-use Rattle.refiner.specs.Refined.{rounds, addLength, metal}
+use Rattle.refiner.specs.Refined.{rounds, addCost, total}
 use Rattle.tree.specs.Sum.{below, over}
-use Rattle.tree.specs.Places.{metalOf}
-use Rattle.tree.specs.Places.{keyLength, Ranked, Sound}
+use Rattle.tree.specs.Places.{keyCost, totalOf, Ranked, Sound}
 use Rattle.refiner.specs.Taken.{Taken}
 use Rattle.refiner.proofs.ExchangeSums.{length-lay, length-bumps, length-dropped}
 use Rattle.refiner.proofs.OpenedLaws.{opened-length}
 use Rattle.tree.proofs.ListingLaws.{listing-length}
 use Rattle.refiner.proofs.WithinLaws.{rank-le, within-dropped}
 use Rattle.refiner.proofs.RankedLaws.{dropped-ranked, laid-level, ranked-of}
-use Rattle.refiner.proofs.ExchangeSound.{laid-sound, laid-lengths}
+use Rattle.refiner.proofs.ExchangeSound.{laid-sound, laid-costs}
 use Rattle.refiner.proofs.CutLaws.{Is, cut-is, the-way}
-use Rattle.refiner.proofs.WinnerLaws.{Winner, found-wins, length-at, no-length}
+use Rattle.refiner.proofs.WinnerLaws.{Winner, found-wins, cost-at, no-cost}
 
 -- what m rounds keep
-pub record Kept (ms : List Macro) (pins : List Place) (t r : Tree) (m : ℕ) : Type 0 where
-  pub sound : Sound ms pins r
-  pub total : metalOf r ≤ metalOf t
+pub record Kept (net : Net) (t r : Tree) (m : ℕ) : Type 0 where
+  pub sound : Sound net r
+  pub total : totalOf (net .weights) r ≤ totalOf (net .weights) t
   pub points : r .count ≤ t .count + m
   pub places : length (r .points) ≡ length (t .points)
   pub rows : length (r .edges .keys) ≡ length (t .edges .keys)
@@ -65,16 +65,16 @@ module _ (pts : List ℤ) (n : ℕ) (ks : List ℕ) (e p a b u : ℕ) (s : Place
 
 -- One round
 
-module _ (ms : List Macro) (pins : List Place) (pts : List ℤ) (n : ℕ) (ks : List ℕ) (e : ℕ) (sound : Sound ms pins (tree pts n ks (suc e)))
-    (few : n < pointBound) (g k u l : ℕ) (win : Winner ms pts n ks (suc e) (lengths pts ks (suc e))
-    (longest ks (lengths pts ks (suc e)) (suc e) n) g k u l) where
+module _ (net : Net) (pts : List ℤ) (n : ℕ) (ks : List ℕ) (e : ℕ) (sound : Sound net (tree pts n ks (suc e)))
+    (few : n < pointBound) (g k u l : ℕ) (win : Winner (net .weights) (net .macros) pts n ks (suc e) (costs (net .weights) pts ks (suc e))
+    (longest ks (costs (net .weights) pts ks (suc e)) (suc e) n) g k u l) where
   pub sized : suc (suc e) ≡ n
   sized = ap suc (sym (listing-length _ (suc e))) ∙ sound .whole .size ∙ listing-length (placeAt pts) n
 
   abbrev Cut : ℕ → Type 0
   Cut x =
-      Is pts n ks e (lengths pts ks (suc e)) (sound .ordered) (omega arith) (omega (arith, sized))
-      (no-length pts ks (suc e) (omega (arith, sized)))
+      Is pts n ks e (costs (net .weights) pts ks (suc e)) (sound .ordered) (omega arith) (omega (arith, sized))
+      (no-cost (net .weights) pts ks (suc e) (omega (arith, sized)))
       (sound .within)
       (sound .whole) k u (win .edge) (win .point) (win .notFirst) (win .notSecond) x
 
@@ -83,11 +83,11 @@ module _ (ms : List Macro) (pins : List Place) (pts : List ℤ) (n : ℕ) (ks : 
   unfolding longest
   cut-longest =
       subst Cut (sym (win .cut))
-      (cut-is pts n ks e (lengths pts ks (suc e)) (sound .ordered) (omega arith) (omega (arith, sized))
-      (no-length pts ks (suc e) (omega (arith, sized)))
+      (cut-is pts n ks e (costs (net .weights) pts ks (suc e)) (sound .ordered) (omega arith) (omega (arith, sized))
+      (no-cost (net .weights) pts ks (suc e) (omega (arith, sized)))
       (sound .within) (sound .whole) k u (win .edge) (win .point) (win .notFirst) (win .notSecond))
 
-  pub taken : Taken ms pts n ks (suc e) k l u
+  pub taken : Taken (net .macros) pts n ks (suc e) k l u
   taken = record {
     edge = win .edge;
     cut = cut-longest .1 .0;
@@ -98,8 +98,8 @@ module _ (ms : List Macro) (pins : List Place) (pts : List ℤ) (n : ℕ) (ks : 
     seen = win .seen;
     kept = win .kept;
     toward =
-        the-way pts n ks e (lengths pts ks (suc e)) (sound .ordered) (omega arith) (omega (arith, sized))
-        (no-length pts ks (suc e) (omega (arith, sized))) (sound .within)
+        the-way pts n ks e (costs (net .weights) pts ks (suc e)) (sound .ordered) (omega arith) (omega (arith, sized))
+        (no-cost (net .weights) pts ks (suc e) (omega (arith, sized))) (sound .within)
         (sound .whole) k u (win .edge) (win .point) (win .notFirst) (win .notSecond);
     one = cut-longest .1 .1 .0;
     other = cut-longest .1 .1 .1 .0;
@@ -107,11 +107,13 @@ module _ (ms : List Macro) (pins : List Place) (pts : List ℤ) (n : ℕ) (ks : 
     longest = cut-longest .1 .1 .1 .1 .1;
   }
 
-module _ (ms : List Macro) (pins : List Place) (pts : List ℤ) (n : ℕ) (ks : List ℕ) (few : n < pointBound)
+module _ (net : Net) (pts : List ℤ) (n : ℕ) (ks : List ℕ) (few : n < pointBound)
     (room : length pts ≡ pointBound * 2)
     (rooms : length ks ≡ pointBound) where
   abbrev pub Won : ℕ → Best → Type 0
-  Won e c = Winner ms pts n ks e (lengths pts ks e) (longest ks (lengths pts ks e) e n) (c .gain) (c .edge) (c .point) (c .cut)
+  Won e c =
+      let el = costs (net .weights) pts ks e in
+      Winner (net .weights) (net .macros) pts n ks e el (longest ks el e n) (c .gain) (c .edge) (c .point) (c .cut)
 
   pub exchange-laid : (c : Best) (e : ℕ) → exchange c pts n ks (suc (suc e))
       ≡ laidAt pts n (dropTwo e (c .edge) (c .cut) ks) e
@@ -123,34 +125,34 @@ module _ (ms : List Macro) (pins : List Place) (pts : List ℤ) (n : ℕ) (ks : 
   exchange-laid c e = let z : suc (suc e) - 2 ≡ e = omega arith in rw z refl
 
   -- R14: the sum of the edges falls by the gain
-  pub round-falls : (c : Best) (e : ℕ) → Sound ms pins (tree pts n ks e) → Won e c →
-      metalOf (exchange c pts n ks e) + c .gain ≡ metalOf (tree pts n ks e)
+  pub round-falls : (c : Best) (e : ℕ) → Sound net (tree pts n ks e) → Won e c →
+      totalOf (net .weights) (exchange c pts n ks e) + c .gain ≡ totalOf (net .weights) (tree pts n ks e)
   round-falls c zero sound win = absurd (let z : ⊥ = omega (arith, win .edge) in z)
   round-falls c (suc zero) sound win =
-      let t = taken ms pins pts n ks 0 sound few (c .gain) (c .edge) (c .point) (c .cut) win in
+      let t = taken net pts n ks 0 sound few (c .gain) (c .edge) (c .point) (c .cut) win in
       absurd (win .two (let z : c .cut ≡ c .edge = omega (arith, t .edge, t .cut) in z))
   round-falls c (suc (suc e)) sound win =
-      let t = taken ms pins pts n ks (suc e) sound few (c .gain) (c .edge) (c .point) (c .cut) win in
-      let s = sized ms pins pts n ks (suc e) sound few (c .gain) (c .edge) (c .point) (c .cut) win in
-      let l = laid-lengths ms pins pts n ks e (c .edge) (c .cut) (c .point) sound t few (omega arith) (omega (arith, s)) in
-      let at = length-at pts ks (suc (suc e)) (c .cut) (omega (arith, s)) (t .cut) in
+      let t = taken net pts n ks (suc e) sound few (c .gain) (c .edge) (c .point) (c .cut) win in
+      let s = sized net pts n ks (suc e) sound few (c .gain) (c .edge) (c .point) (c .cut) win in
+      let l = laid-costs net pts n ks e (c .edge) (c .cut) (c .point) sound t few (omega arith) (omega (arith, s)) in
+      let at = cost-at (net .weights) pts ks (suc (suc e)) (c .cut) (omega (arith, s)) (t .cut) in
       rw (exchange-laid c e) (omega (arith, l, at, win .gained))
 
-  pub round-kept : (c : Best) (e : ℕ) → Sound ms pins (tree pts n ks e) → Won e c → Kept ms pins (tree pts n ks e) (exchange c pts n ks e) 1
+  pub round-kept : (c : Best) (e : ℕ) → Sound net (tree pts n ks e) → Won e c → Kept net (tree pts n ks e) (exchange c pts n ks e) 1
   round-kept c zero sound win = absurd (let z : ⊥ = omega (arith, win .edge) in z)
   round-kept c (suc zero) sound win =
-      let t = taken ms pins pts n ks 0 sound few (c .gain) (c .edge) (c .point) (c .cut) win in
+      let t = taken net pts n ks 0 sound few (c .gain) (c .edge) (c .point) (c .cut) win in
       absurd (win .two (let z : c .cut ≡ c .edge = omega (arith, t .edge, t .cut) in z))
   round-kept c (suc (suc e)) sound win =
-      let t = taken ms pins pts n ks (suc e) sound few (c .gain) (c .edge) (c .point) (c .cut) win in
-      let s = sized ms pins pts n ks (suc e) sound few (c .gain) (c .edge) (c .point) (c .cut) win in
+      let t = taken net pts n ks (suc e) sound few (c .gain) (c .edge) (c .point) (c .cut) win in
+      let s = sized net pts n ks (suc e) sound few (c .gain) (c .edge) (c .point) (c .cut) win in
       let k = getD ks (c .edge) 0 in
       let m = middleOf pts (firstEnd k) (secondEnd k) (c .point) in
       let left = dropTwo e (c .edge) (c .cut) ks in
-      let l = laid-lengths ms pins pts n ks e (c .edge) (c .cut) (c .point) sound t few (omega arith) (omega (arith, s)) in
-      let at = length-at pts ks (suc (suc e)) (c .cut) (omega (arith, s)) (t .cut) in
+      let l = laid-costs net pts n ks e (c .edge) (c .cut) (c .point) sound t few (omega arith) (omega (arith, s)) in
+      let at = cost-at (net .weights) pts ks (suc (suc e)) (c .cut) (omega (arith, s)) (t .cut) in
       rw (exchange-laid c e) (record {
-        sound = laid-sound ms pins pts n ks e (c .edge) (c .cut) (c .point) sound t few (omega arith) (omega (arith, s));
+        sound = laid-sound net pts n ks e (c .edge) (c .cut) (c .point) sound t few (omega arith) (omega (arith, s));
         total = omega (arith, l, at, win .gained);
         points = laid-count pts n left e (rank pts n m) (firstEnd k) (secondEnd k) (c .point) m;
         places = laid-places pts n left e (rank pts n m) (firstEnd k) (secondEnd k) (c .point) m;
@@ -158,7 +160,7 @@ module _ (ms : List Macro) (pins : List Place) (pts : List ℤ) (n : ℕ) (ks : 
         ranked =
             λ r.
             ranked-of (laidAt pts n left e (rank pts n m) (firstEnd k) (secondEnd k) (c .point) m)
-            (laid-sound ms pins pts n ks e (c .edge) (c .cut) (c .point) sound t few (omega arith) (omega (arith, s)))
+            (laid-sound net pts n ks e (c .edge) (c .cut) (c .point) sound t few (omega arith) (omega (arith, s)))
             (laid-level pts n left e (rank pts n m) (firstEnd k) (secondEnd k) (c .point) m few
             (rw (length-dropped e (c .edge) (c .cut) ks) (omega (arith, s))) (rank-le pts n m)
             (sound .within .ends (c .edge) .0) (sound .within .ends (c .edge) .1) (win .point)
@@ -167,8 +169,7 @@ module _ (ms : List Macro) (pins : List Place) (pts : List ℤ) (n : ℕ) (ks : 
 
 -- The rounds
 
-kept-then : {ms : List Macro} {pins : List Place} {t r q : Tree} (m : ℕ) → Kept ms pins t r 1 → Kept ms pins r q m →
-    Kept ms pins t q (suc m)
+kept-then : {net : Net} {t r q : Tree} (m : ℕ) → Kept net t r 1 → Kept net r q m → Kept net t q (suc m)
 kept-then m a b = record {
   sound = b .sound;
   total = omega (arith, a .total, b .total);
@@ -178,10 +179,10 @@ kept-then m a b = record {
   ranked = λ r. b .ranked (a .ranked r);
 }
 
-pub rounds-kept : (ms : List Macro) (pins : List Place) (m : ℕ) (t : Tree) → Sound ms pins t → t .count + m ≤ pointBound →
-    length (t .points) ≡ pointBound * 2 → length (t .edges .keys) ≡ pointBound → Kept ms pins t (rounds ms m t) m
+pub rounds-kept : (net : Net) (m : ℕ) (t : Tree) → Sound net t → t .count + m ≤ pointBound →
+    length (t .points) ≡ pointBound * 2 → length (t .edges .keys) ≡ pointBound → Kept net t (rounds (net .weights) (net .macros) m t) m
 unfolding rounds
-rounds-kept ms pins zero t sound few room rooms = record {
+rounds-kept net zero t sound few room rooms = record {
   sound = sound;
   total = omega arith;
   points = omega arith;
@@ -189,35 +190,35 @@ rounds-kept ms pins zero t sound few room rooms = record {
   rows = refl;
   ranked = λ r. r;
 }
-rounds-kept ms pins (suc m) t sound few room rooms =
-    let c = found ms (t .points) (t .count) (t .edges .keys) (t .edges .size) in
+rounds-kept net (suc m) t sound few room rooms =
+    let c = found (net .weights) (net .macros) (t .points) (t .count) (t .edges .keys) (t .edges .size) in
     by (eqb (c .gain) 0)
     (λ q. rw (rounds, q) (record { sound = sound; total = omega arith; points = omega arith; places = refl; rows = refl; ranked = λ r. r }))
     (λ q.
     let some : c .gain ≡ 0 → ⊥ = eqb-false _ _ q in
-    let win = found-wins ms (t .points) (t .count) (t .edges .keys) (t .edges .size) (omega arith) in
-    let one = round-kept ms pins (t .points) (t .count) (t .edges .keys) (omega arith) room rooms c (t .edges .size) sound win in
+    let win = found-wins (net .weights) (net .macros) (t .points) (t .count) (t .edges .keys) (t .edges .size) (omega arith) in
+    let one = round-kept net (t .points) (t .count) (t .edges .keys) (omega arith) room rooms c (t .edges .size) sound win in
     let next = exchange c (t .points) (t .count) (t .edges .keys) (t .edges .size) in
     rw (rounds, q)
-    (kept-then m one (rounds-kept ms pins m next (one .sound) (omega (arith, one .points)) (one .places ∙ room) (one .rows ∙ rooms))))
+    (kept-then m one (rounds-kept net m next (one .sound) (omega (arith, one .points)) (one .places ∙ room) (one .rows ∙ rooms))))
 
 -- the sum that the contract speaks of is this one
-sum-last : (pts : List ℤ) (ks : List ℕ) (c i s : ℕ) → turns (addLength pts ks) i (suc c) s ≡ keyLength pts (getD ks (i + c) 0)
-    + turns (addLength pts ks) i c s
-unfolding turns addLength edgeLength
-sum-last pts ks zero i s = let z : i + 0 ≡ i = omega arith in rw z (omega arith)
-sum-last pts ks (suc c) i s = let z : i + suc c ≡ suc i + c = omega arith in
-    rw z (sum-last pts ks c (suc i) (s + keyLength pts (getD ks i 0)))
+sum-last : (w : Weights) (pts : List ℤ) (ks : List ℕ) (c i s : ℕ) → turns (addCost w pts ks) i (suc c) s ≡ keyCost w pts (getD ks (i + c) 0)
+    + turns (addCost w pts ks) i c s
+unfolding turns addCost edgeCost
+sum-last w pts ks zero i s = let z : i + 0 ≡ i = omega arith in rw z (omega arith)
+sum-last w pts ks (suc c) i s = let z : i + suc c ≡ suc i + c = omega arith in
+    rw z (sum-last w pts ks c (suc i) (s + keyCost w pts (getD ks i 0)))
 
-summed : (pts : List ℤ) (ks : List ℕ) (c : ℕ) → turns (addLength pts ks) 0 c 0 ≡ over (keyLength pts) ks c
+summed : (w : Weights) (pts : List ℤ) (ks : List ℕ) (c : ℕ) → turns (addCost w pts ks) 0 c 0 ≡ over (keyCost w pts) ks c
 unfolding turns below
-summed pts ks zero = refl
-summed pts ks (suc c) =
+summed w pts ks zero = refl
+summed w pts ks (suc c) =
     let z : 0 + c ≡ c = omega arith in
-    let r : turns (addLength pts ks) 0 (suc c) 0 ≡ keyLength pts (getD ks c 0) + turns (addLength pts ks) 0 c 0 = rw z at
-    (sum-last pts ks c 0 0) in
-    r ∙ ap (λ (x : ℕ). keyLength pts (getD ks c 0) + x) (summed pts ks c)
+    let r : turns (addCost w pts ks) 0 (suc c) 0 ≡ keyCost w pts (getD ks c 0) + turns (addCost w pts ks) 0 c 0 = rw z at
+    (sum-last w pts ks c 0 0) in
+    r ∙ ap (λ (x : ℕ). keyCost w pts (getD ks c 0) + x) (summed w pts ks c)
 
-pub metal-of : (pts : List ℤ) (n : ℕ) (ks : List ℕ) (e : ℕ) → metal pts ks e ≡ metalOf (tree pts n ks e)
-unfolding metal
-metal-of pts n ks e = summed pts ks e
+pub total-of : (w : Weights) (pts : List ℤ) (n : ℕ) (ks : List ℕ) (e : ℕ) → total w pts ks e ≡ totalOf w (tree pts n ks e)
+unfolding total
+total-of w pts n ks e = summed w pts ks e

@@ -3,15 +3,13 @@
 -- Assumes nothing.
 use mathlib.Core.Path.{_≡_, refl, ap}
 use mathlib.Core.Logic.{inl, inr}
-use mathlib.Core.List.{List}
 use Prim.Native.Nat.{ℕ, zero, suc, _<_}
 use native.Mathlib.Omega.{arith}
 use lib.Dec.{ltb}
 use borrow.Author.Tests.{ltb-true, ltb-false, eq-eqb, ne-eqb}
 use Rattle.lists.proofs.TestLaws.{by}
-use Rattle.plane.specs.declared.Place.{Place}
-use Rattle.plane.specs.declared.Macro.{Macro}
 use Rattle.plane.specs.Flat.{placeAt}
+use Rattle.net.specs.Net.{Net}
 use Rattle.tree.specs.Table.{firstEnd, secondEnd, Tree}
 use Rattle.refiner.specs.Refined.{rounds}
 use Rattle.tree.specs.Places.{Ranked, Sound}
@@ -19,8 +17,8 @@ use Rattle.refiner.specs.Sentences.{keyAt, foundIn, exchanged, Numbered}
 
 -- Edges and points in order
 
-pub numbered : (ms : List Macro) (pins : List Place) (t : Tree) → Sound ms pins t → Ranked (t .edges .keys) (t .edges .size) → Numbered t
-numbered ms pins t sound ranked = record {
+pub numbered : (net : Net) (t : Tree) → Sound net t → Ranked (t .edges .keys) (t .edges .size) → Numbered t
+numbered net t sound ranked = record {
   edges =
       λ i j h l.
       let rise : keyAt t i < keyAt t j = ranked .rising i j h l in
@@ -36,12 +34,15 @@ numbered ms pins t sound ranked = record {
 
 -- Rounds one by one
 
-module _ (ms : List Macro) where
-  pub rounds-none : (i : ℕ) (t : Tree) → foundIn ms t .gain ≡ 0 → rounds ms i t ≡ t
+module _ (net : Net) where
+  abbrev turned : ℕ → Tree → Tree
+  turned = rounds (net .weights) (net .macros)
+
+  pub rounds-none : (i : ℕ) (t : Tree) → foundIn net t .gain ≡ 0 → turned i t ≡ t
   unfolding rounds
   rounds-none zero t q = refl
-  rounds-none (suc i) t q = rw (rounds, eq-eqb (foundIn ms t .gain) 0 q) refl
+  rounds-none (suc i) t q = rw (rounds, eq-eqb (foundIn net t .gain) 0 q) refl
 
-  pub rounds-some : (i : ℕ) (t : Tree) → (foundIn ms t .gain ≡ 0 → ⊥) → rounds ms (suc i) t ≡ rounds ms i (exchanged ms t)
+  pub rounds-some : (i : ℕ) (t : Tree) → (foundIn net t .gain ≡ 0 → ⊥) → turned (suc i) t ≡ turned i (exchanged net t)
   unfolding rounds
-  rounds-some i t q = rw (rounds, ne-eqb (foundIn ms t .gain) 0 q) refl
+  rounds-some i t q = rw (rounds, ne-eqb (foundIn net t .gain) 0 q) refl

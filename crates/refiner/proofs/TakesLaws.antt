@@ -15,20 +15,22 @@ use borrow.Author.Tests.{ltb-true, ltb-false, eqb-false, ne-eqb}
 use Rattle.lists.proofs.TestLaws.{by, differ, either, and-left, and-right, and-both, or-none, or-neither, not-true}
 use Rattle.plane.specs.declared.Place.{Place}
 use Rattle.plane.specs.declared.Macro.{Macro}
+use Rattle.plane.specs.declared.Weights.{Weights}
 use Rattle.plane.specs.Place.{samePlace}
-use Rattle.plane.specs.Distance.{distance}
+use Rattle.plane.specs.Cost.{cost}
 use Rattle.plane.specs.Macro.{clear}
 use Rattle.plane.specs.Flat.{placeAt}
+use Rattle.net.specs.Net.{Net}
 use Rattle.plane.proofs.PlaceLaws.{same-true, same-refl}
 use Rattle.refiner.specs.declared.Best.{Best}
 use Rattle.refiner.specs.Turns.{turns, seek}
 use Rattle.tree.specs.Table.{pointBound, firstEnd, secondEnd, Tree}
-use Rattle.refiner.specs.Longest.{lengths, longest, cutOf}
+use Rattle.refiner.specs.Longest.{costs, longest, cutOf}
 use Rattle.refiner.specs.Candidate.{best, middleOf, sees, taken, dropped, allowed, weighed, offer, offers, search, found}
 use Rattle.tree.specs.Places.{Sound}
-use Rattle.refiner.specs.Sentences.{keyAt, endA, endB, longAt, EndOf, middleAt, CutAt, cutIn, Gains, Takes}
+use Rattle.refiner.specs.Sentences.{keyAt, endA, endB, costAt, EndOf, middleAt, CutAt, cutIn, Gains, Takes}
 use Rattle.refiner.proofs.OpenedLaws.{seek-before, seek-hit}
-use Rattle.refiner.proofs.WinnerLaws.{Winner, found-wins, length-at}
+use Rattle.refiner.proofs.WinnerLaws.{Winner, found-wins, cost-at}
 use Rattle.refiner.proofs.CutSound.{tree-size, cut-at, cut-one, cut-another}
 
 -- The first of the greatest
@@ -41,9 +43,9 @@ last-or k u i v a b =
     let q : i ≤ k = ltb-false k i t in
     by (ltb u v) (λ s. inr (λ r. ltb-true u v s)) (λ s. inl (omega arith, omega (arith, b q, ltb-false u v s))))
 
-module _ (ms : List Macro) (pts : List ℤ) (n : ℕ) (ks : List ℕ) (e : ℕ) (el top : List ℕ) where
+module _ (w : Weights) (ms : List Macro) (pts : List ℤ) (n : ℕ) (ks : List ℕ) (e : ℕ) (el top : List ℕ) where
   abbrev Win : ℕ → ℕ → ℕ → ℕ → Type 0
-  Win g k u l = Winner ms pts n ks e el top g k u l
+  Win g k u l = Winner w ms pts n ks e el top g k u l
 
   -- edges first, then points: c is the first of the greatest among the candidates before that of the edge i and the point v
   pub record Leads (c : Best) (i v : ℕ) : Type 0 where
@@ -82,30 +84,30 @@ module _ (ms : List Macro) (pts : List ℤ) (n : ℕ) (ks : List ℕ) (e : ℕ) 
   }
 
   offer-leads : (k u : ℕ) (c : Best) → k < e → u < n → Leads c k u →
-      Leads (offer pts n ms el top (firstEnd (getD ks k 0)) (secondEnd (getD ks k 0)) k u c) k (suc u)
+      Leads (offer w pts n ms el top (firstEnd (getD ks k 0)) (secondEnd (getD ks k 0)) k u c) k (suc u)
   unfolding offer weighed allowed
   offer-leads k u c hk hu h =
       let a = firstEnd (getD ks k 0) in
       let b = secondEnd (getD ks k 0) in
       let l = cutOf el top a b u in
       let s = middleOf pts a b u in
-      let d = distance s (placeAt pts u) in
-      let gained : (g m : ℕ) → Win g k u m → g + d ≡ getD el l 0 = λ g m w. w .gained ∙ ap (λ (i : ℕ). getD el i 0) (w .cut) in
+      let d = cost w s (placeAt pts u) in
+      let gained : (g m : ℕ) → Win g k u m → g + d ≡ getD el l 0 = λ g m x. x .gained ∙ ap (λ (i : ℕ). getD el i 0) (x .cut) in
       by (eqb u a || (eqb u b || eqb l k))
-      (λ t. rw t (stays c k u h (λ g m w.
-      differ t (or-neither _ _ (ne-eqb u a (w .notFirst))
-      (or-neither _ _ (ne-eqb u b (w .notSecond)) (ne-eqb l k (λ q. w .two (w .cut ∙ q)))))))) λ t.
+      (λ t. rw t (stays c k u h (λ g m x.
+      differ t (or-neither _ _ (ne-eqb u a (x .notFirst))
+      (or-neither _ _ (ne-eqb u b (x .notSecond)) (ne-eqb l k (λ q. x .two (x .cut ∙ q)))))))) λ t.
       by (ltb (c .gain + d) (getD el l 0) && (sees ms (placeAt pts a) (placeAt pts b) (placeAt pts u) && not (dropped pts n a b u s)))
-      (λ w.
-      let more = ltb-true (c .gain + d) (getD el l 0) (and-left _ _ w) in
-      rw (t, w) (comes c k u (getD el l 0 - d) l h (omega (arith, more)) (λ g m x. omega (arith, gained g m x))))
-      (λ w. rw (t, w) (stays c k u h (λ g m x.
-      by (ltb (c .gain + d) (getD el l 0)) (λ y. differ (and-both _ _ y (and-both _ _ (x .seen) (ap not (x .kept)))) w)
+      (λ z.
+      let more = ltb-true (c .gain + d) (getD el l 0) (and-left _ _ z) in
+      rw (t, z) (comes c k u (getD el l 0 - d) l h (omega (arith, more)) (λ g m x. omega (arith, gained g m x))))
+      (λ z. rw (t, z) (stays c k u h (λ g m x.
+      by (ltb (c .gain + d) (getD el l 0)) (λ y. differ (and-both _ _ y (and-both _ _ (x .seen) (ap not (x .kept)))) z)
       (λ y. omega (arith, ltb-false (c .gain + d) (getD el l 0) y, gained g m x)))))
 
   -- all points of one edge
   points-lead : (k : ℕ) → k < e → (m v : ℕ) (c : Best) → v + m ≡ n → Leads c k v →
-      Leads (turns (offer pts n ms el top (firstEnd (getD ks k 0)) (secondEnd (getD ks k 0)) k) v m c) k n
+      Leads (turns (offer w pts n ms el top (firstEnd (getD ks k 0)) (secondEnd (getD ks k 0)) k) v m c) k n
   unfolding turns
   points-lead k hk zero v c q h = subst (λ (x : ℕ). Leads c k x) (omega arith) h
   points-lead k hk (suc m) v c q h = points-lead k hk m (suc v) _ (omega arith) (offer-leads k v c hk (omega arith) h)
@@ -121,12 +123,12 @@ module _ (ms : List Macro) (pts : List ℤ) (n : ℕ) (ks : List ℕ) (e : ℕ) 
         (λ q. win .point);
   }
 
-  edges-lead : (m i : ℕ) (c : Best) → i + m ≡ e → Leads c i 0 → Leads (turns (offers pts n ms ks el top) i m c) e 0
+  edges-lead : (m i : ℕ) (c : Best) → i + m ≡ e → Leads c i 0 → Leads (turns (offers w pts n ms ks el top) i m c) e 0
   unfolding turns offers
   edges-lead zero i c q h = subst (λ (x : ℕ). Leads c x 0) (omega arith) h
   edges-lead (suc m) i c q h = edges-lead m (suc i) _ (omega arith) (edge-leads _ i (points-lead i (omega arith) n 0 c (omega arith) h))
 
-  pub search-leads : Leads (search pts n ms ks e el top) e 0
+  pub search-leads : Leads (search w pts n ms ks e el top) e 0
   unfolding search
   search-leads = edges-lead e 0 (best 0 0 0 0) (omega arith) (record {
     placed = λ p. absurd (let z : ⊥ = omega arith in z);
@@ -181,18 +183,18 @@ unfolding sees
 one-sees ms a b u (inl t) = rw t refl
 one-sees ms a b u (inr t) = by (clear u a ms) (λ f. rw f refl) (λ f. rw (f, t) refl)
 
-module _ (ms : List Macro) (pins : List Place) (t : Tree) (sound : Sound ms pins t) (few : t .count ≤ pointBound) where
+module _ (net : Net) (t : Tree) (sound : Sound net t) (few : t .count ≤ pointBound) where
   abbrev Won : ℕ → ℕ → ℕ → ℕ → Type 0
   Won g k u l =
-      let el = lengths (t .points) (t .edges .keys) (t .edges .size) in
-      Winner ms (t .points) (t .count) (t .edges .keys) (t .edges .size) el (longest (t .edges .keys) el (t .edges .size) (t .count)) g k u
+      let el = costs (net .weights) (t .points) (t .edges .keys) (t .edges .size) in
+      Winner (net .weights) (net .macros) (t .points) (t .count) (t .edges .keys) (t .edges .size) el (longest (t .edges .keys) el (t .edges .size) (t .count)) g k u
       l
 
-  long-at : (j : ℕ) → j < t .edges .size → getD (lengths (t .points) (t .edges .keys) (t .edges .size)) j 0 ≡ longAt t j
-  long-at j h = length-at (t .points) (t .edges .keys) (t .edges .size) j (omega (arith, tree-size ms pins t sound)) h
+  cost-of : (j : ℕ) → j < t .edges .size → getD (costs (net .weights) (t .points) (t .edges .keys) (t .edges .size)) j 0 ≡ costAt net t j
+  cost-of j h = cost-at (net .weights) (t .points) (t .edges .keys) (t .edges .size) j (omega (arith, tree-size net t sound)) h
 
   -- a candidate that gains is weighed as such
-  gains-won : (k u l g : ℕ) → Gains ms t k u l g → Won g k u l
+  gains-won : (k u l g : ℕ) → Gains net t k u l g → Won g k u l
   gains-won k u l g h =
       let c = h .candidate in
       record {
@@ -200,58 +202,58 @@ module _ (ms : List Macro) (pins : List Place) (t : Tree) (sound : Sound ms pins
         point = c .point;
         notFirst = λ q. c .third (inl q);
         notSecond = λ q. c .third (inr q);
-        two = cut-another ms pins t sound few k u l (h .cut);
+        two = cut-another net t sound few k u l (h .cut);
         cut =
-            cut-one ms pins t sound few k u l (cutIn t k u) (c .edge) (h .cut)
-            (cut-at ms pins t sound few k u (c .edge) (c .point) (c .third));
-        seen = one-sees ms (endA t k) (endB t k) (placeAt (t .points) u) (c .seen);
+            cut-one net t sound few k u l (cutIn net t k u) (c .edge) (h .cut)
+            (cut-at net t sound few k u (c .edge) (c .point) (c .third));
+        seen = one-sees (net .macros) (endA t k) (endB t k) (placeAt (t .points) u) (c .seen);
         kept =
             not-dropped (t .points) (t .count) (firstEnd (keyAt t k)) (secondEnd (keyAt t k)) u (middleAt t k u)
             (λ i b q. c .kept i b (either (q .0 .0) (q .0 .1 .0)) (q .0 .1 .1) (q .1));
-        gained = h .gain ∙ sym (long-at l (h .cut .longest .step .edge));
+        gained = h .gain ∙ sym (cost-of l (h .cut .longest .step .edge));
       }
 
-  won-gains : (k u l g : ℕ) → Won g k u l → 0 < g → Gains ms t k u l g
+  won-gains : (k u l g : ℕ) → Won g k u l → 0 < g → Gains net t k u l g
   won-gains k u l g w above = record {
     candidate = record {
       edge = w .edge;
       point = w .point;
       third = third;
-      seen = sees-one ms (endA t k) (endB t k) (placeAt (t .points) u) (w .seen);
+      seen = sees-one (net .macros) (endA t k) (endB t k) (placeAt (t .points) u) (w .seen);
       kept =
           λ i b ab iu s.
           dropped-not (t .points) (t .count) (firstEnd (keyAt t k)) (secondEnd (keyAt t k)) u (middleAt t k u) (w .kept) i b
           (((λ q. ab (inl q)), ((λ q. ab (inr q)), iu)), s);
     };
     cut = cut;
-    gain = w .gained ∙ long-at l (cut .longest .step .edge);
+    gain = w .gained ∙ cost-of l (cut .longest .step .edge);
     above = above;
   }
     where
       third : EndOf t u k → ⊥
       third = either (w .notFirst) (w .notSecond)
 
-      cut : CutAt t k u l
-      cut = subst (λ (x : ℕ). CutAt t k u x) (sym (w .cut)) (cut-at ms pins t sound few k u (w .edge) (w .point) third)
+      cut : CutAt net t k u l
+      cut = subst (λ (x : ℕ). CutAt net t k u x) (sym (w .cut)) (cut-at net t sound few k u (w .edge) (w .point) third)
 
   abbrev here : Best
-  here = found ms (t .points) (t .count) (t .edges .keys) (t .edges .size)
+  here = found (net .weights) (net .macros) (t .points) (t .count) (t .edges .keys) (t .edges .size)
 
-  leads : (k u l g : ℕ) → Gains ms t k u l g → (g ≤ here .gain) × (g ≡ here .gain → (here .edge ≤ k) × (k ≤ here .edge → here .point ≤ u))
+  leads : (k u l g : ℕ) → Gains net t k u l g → (g ≤ here .gain) × (g ≡ here .gain → (here .edge ≤ k) × (k ≤ here .edge → here .point ≤ u))
   unfolding found
   leads k u l g h =
-      let el = lengths (t .points) (t .edges .keys) (t .edges .size) in
-      search-leads ms (t .points) (t .count) (t .edges .keys) (t .edges .size) el (longest (t .edges .keys) el (t .edges .size) (t .count))
+      let el = costs (net .weights) (t .points) (t .edges .keys) (t .edges .size) in
+      search-leads (net .weights) (net .macros) (t .points) (t .count) (t .edges .keys) (t .edges .size) el (longest (t .edges .keys) el (t .edges .size) (t .count))
       .most g k u l (h .above) (gains-won k u l g h) (omega (arith, h .candidate .edge))
       (λ q. absurd (let z : ⊥ = omega (arith, h .candidate .edge) in z))
 
   -- R10 holds of the candidate that is found
-  pub found-takes : Takes ms t here
+  pub found-takes : Takes net t here
   found-takes = record {
     taken =
         λ p.
         won-gains (here .edge) (here .point) (here .cut) (here .gain)
-        (found-wins ms (t .points) (t .count) (t .edges .keys) (t .edges .size) p) p;
+        (found-wins (net .weights) (net .macros) (t .points) (t .count) (t .edges .keys) (t .edges .size) p) p;
     greatest = λ k u l g h. leads k u l g h .0;
     smallest = λ k u l g h. leads k u l g h .1;
     none = λ q k u l g h. let z : ⊥ = omega (arith, q, h .above, leads k u l g h .0) in z;

@@ -1,5 +1,5 @@
 -- What is known of the candidate that a round takes: every candidate that takes the place of the best so far is one, not dropped, with L by
--- `cutOf` and the gain by its lengths; so the last one is.
+-- `cutOf` and the gain by its costs; so the last one is.
 -- Assumes nothing.
 use mathlib.Core.Path.{_≡_, refl, ap, _∙_}
 use mathlib.Core.Bool.{true, false, not, _&&_, _||_}
@@ -12,20 +12,21 @@ use lib.ListN.{length, getD, set, length-set, replicate}
 use borrow.Author.Tests.{ltb-true, ltb-false, eqb-false, not-true}
 use Rattle.lists.proofs.TestLaws.{by, and-left, and-right, or-none}
 use Rattle.plane.specs.declared.Macro.{Macro}
-use Rattle.plane.specs.Distance.{distance}
+use Rattle.plane.specs.declared.Weights.{Weights}
+use Rattle.plane.specs.Cost.{cost}
 use Rattle.plane.specs.Flat.{placeAt}
 use Rattle.refiner.specs.declared.Best.{Best}
 use Rattle.refiner.specs.Turns.{turns}
 use Rattle.tree.specs.Table.{pointBound, firstEnd, secondEnd}
-use Rattle.refiner.specs.Longest.{edgeLength, measure, lengths, cutOf, longest, noEdge}
+use Rattle.refiner.specs.Longest.{edgeCost, measure, costs, cutOf, longest, noEdge}
 use Rattle.refiner.specs.Candidate.{best, middleOf, sees, dropped, allowed, weighed, offer, offers, search, found}
-use Rattle.tree.specs.Places.{keyLength}
+use Rattle.tree.specs.Places.{keyCost}
 use Rattle.refiner.proofs.TurnLaws.{turns-below}
 use Rattle.tree.proofs.SumLaws.{other, here}
 use Rattle.refiner.proofs.WithinLaws.{measured-past, zeros-at}
 
 -- the candidate of the edge k and the point u, with L and gain
-pub record Winner (ms : List Macro) (pts : List ℤ) (n : ℕ) (ks : List ℕ) (e : ℕ) (el top : List ℕ) (gain k u l : ℕ) : Type 0 where
+pub record Winner (w : Weights) (ms : List Macro) (pts : List ℤ) (n : ℕ) (ks : List ℕ) (e : ℕ) (el top : List ℕ) (gain k u l : ℕ) : Type 0 where
   pub edge : k < e
   pub point : u < n
   pub notFirst : u ≡ firstEnd (getD ks k 0) → ⊥
@@ -35,29 +36,29 @@ pub record Winner (ms : List Macro) (pts : List ℤ) (n : ℕ) (ks : List ℕ) (
   pub seen : sees ms (placeAt pts (firstEnd (getD ks k 0))) (placeAt pts (secondEnd (getD ks k 0))) (placeAt pts u) ≡ true
   pub kept : dropped pts n (firstEnd (getD ks k 0)) (secondEnd (getD ks k 0)) u
       (middleOf pts (firstEnd (getD ks k 0)) (secondEnd (getD ks k 0)) u) ≡ false
-  pub gained : gain + distance (middleOf pts (firstEnd (getD ks k 0)) (secondEnd (getD ks k 0)) u) (placeAt pts u) ≡ getD el l 0
+  pub gained : gain + cost w (middleOf pts (firstEnd (getD ks k 0)) (secondEnd (getD ks k 0)) u) (placeAt pts u) ≡ getD el l 0
 
-module _ (ms : List Macro) (pts : List ℤ) (n : ℕ) (ks : List ℕ) (e : ℕ) (el top : List ℕ) where
+module _ (w : Weights) (ms : List Macro) (pts : List ℤ) (n : ℕ) (ks : List ℕ) (e : ℕ) (el top : List ℕ) where
   abbrev Wins : Best → Type 0
-  Wins c = 0 < c .gain → Winner ms pts n ks e el top (c .gain) (c .edge) (c .point) (c .cut)
+  Wins c = 0 < c .gain → Winner w ms pts n ks e el top (c .gain) (c .edge) (c .point) (c .cut)
 
   offer-wins : (k : ℕ) → k < e → (u : ℕ) (c : Best) → u < n → Wins c →
-      Wins (offer pts n ms el top (firstEnd (getD ks k 0)) (secondEnd (getD ks k 0)) k u c)
+      Wins (offer w pts n ms el top (firstEnd (getD ks k 0)) (secondEnd (getD ks k 0)) k u c)
   unfolding offer weighed allowed
   offer-wins k h u c i f =
       let a = firstEnd (getD ks k 0) in
       let b = secondEnd (getD ks k 0) in
       let l = cutOf el top a b u in
       let s = middleOf pts a b u in
-      let d = distance s (placeAt pts u) in
+      let d = cost w s (placeAt pts u) in
       by (eqb u a || (eqb u b || eqb l k)) (λ t. rw t f) λ t.
       by (ltb (c .gain + d) (getD el l 0) && (sees ms (placeAt pts a) (placeAt pts b) (placeAt pts u) && not (dropped pts n a b u s)))
-      (λ w.
-      let more = ltb-true (c .gain + d) (getD el l 0) (and-left _ _ w) in
-      let fit = and-right (ltb (c .gain + d) (getD el l 0)) _ w in
+      (λ y.
+      let more = ltb-true (c .gain + d) (getD el l 0) (and-left _ _ y) in
+      let fit = and-right (ltb (c .gain + d) (getD el l 0)) _ y in
       let no-a = or-none (eqb u a) _ t in
       let no-b = or-none (eqb u b) _ (no-a .1) in
-      rw (t, w) λ g. record {
+      rw (t, y) λ g. record {
         edge = h;
         point = i;
         notFirst = eqb-false _ _ (no-a .0);
@@ -68,55 +69,55 @@ module _ (ms : List Macro) (pts : List ℤ) (n : ℕ) (ks : List ℕ) (e : ℕ) 
         kept = not-true _ (and-right (sees ms (placeAt pts a) (placeAt pts b) (placeAt pts u)) _ fit);
         gained = omega (arith, more);
       })
-      (λ w. rw (t, w) f)
+      (λ y. rw (t, y) f)
 
-  offers-wins : (k : ℕ) (c : Best) → k < e → Wins c → Wins (offers pts n ms ks el top k c)
+  offers-wins : (k : ℕ) (c : Best) → k < e → Wins c → Wins (offers w pts n ms ks el top k c)
   unfolding offers
   offers-wins k c h f =
-      turns-below (offer pts n ms el top (firstEnd (getD ks k 0)) (secondEnd (getD ks k 0)) k) Wins n (λ j t i q. offer-wins k h j t i q) n
+      turns-below (offer w pts n ms el top (firstEnd (getD ks k 0)) (secondEnd (getD ks k 0)) k) Wins n (λ j t i q. offer-wins k h j t i q) n
       0 c (omega arith) f
 
-  pub search-wins : Wins (search pts n ms ks e el top)
+  pub search-wins : Wins (search w pts n ms ks e el top)
   unfolding search
   search-wins =
-      turns-below (offers pts n ms ks el top) Wins e (λ j t i q. offers-wins j t i q) e 0 (best 0 0 0 0) (omega arith)
+      turns-below (offers w pts n ms ks el top) Wins e (λ j t i q. offers-wins j t i q) e 0 (best 0 0 0 0) (omega arith)
       (λ g. absurd (let z : ⊥ = omega arith in z))
 
-pub found-wins : (ms : List Macro) (pts : List ℤ) (n : ℕ) (ks : List ℕ) (e : ℕ) → 0 < found ms pts n ks e .gain →
-    Winner ms pts n ks e (lengths pts ks e) (longest ks (lengths pts ks e) e n) (found ms pts n ks e .gain) (found ms pts n ks e .edge)
-    (found ms pts n ks e .point)
-    (found ms pts n ks e .cut)
+pub found-wins : (w : Weights) (ms : List Macro) (pts : List ℤ) (n : ℕ) (ks : List ℕ) (e : ℕ) → 0 < found w ms pts n ks e .gain →
+    Winner w ms pts n ks e (costs w pts ks e) (longest ks (costs w pts ks e) e n) (found w ms pts n ks e .gain)
+    (found w ms pts n ks e .edge) (found w ms pts n ks e .point) (found w ms pts n ks e .cut)
 unfolding found
-found-wins ms pts n ks e h = search-wins ms pts n ks e (lengths pts ks e) (longest ks (lengths pts ks e) e n) h
+found-wins w ms pts n ks e h = search-wins w ms pts n ks e (costs w pts ks e) (longest ks (costs w pts ks e) e n) h
 
--- The table of lengths
+-- The table of costs
 
-measured-at : (pts : List ℤ) (ks : List ℕ) (c i : ℕ) (el : List ℕ) (j : ℕ) → i + c ≤ length el → i ≤ j → j < i + c →
-    getD (turns (measure pts ks) i c el) j 0 ≡ edgeLength pts ks j
+measured-at : (w : Weights) (pts : List ℤ) (ks : List ℕ) (c i : ℕ) (el : List ℕ) (j : ℕ) → i + c ≤ length el → i ≤ j → j < i + c →
+    getD (turns (measure w pts ks) i c el) j 0 ≡ edgeCost w pts ks j
 unfolding turns measure
-measured-at pts ks zero i el j b h l = absurd (let z : ⊥ = omega arith in z)
-measured-at pts ks (suc c) i el j b h l =
-    let x = edgeLength pts ks i in
+measured-at w pts ks zero i el j b h l = absurd (let z : ⊥ = omega arith in z)
+measured-at w pts ks (suc c) i el j b h l =
+    let x = edgeCost w pts ks i in
     by (ltb i j)
-    (λ t. measured-at pts ks c (suc i) (set el i x) j (rw (length-set el i x) (omega arith)) (ltb-true i j t) (omega arith))
+    (λ t. measured-at w pts ks c (suc i) (set el i x) j (rw (length-set el i x) (omega arith)) (ltb-true i j t) (omega arith))
     (λ t.
     let q : j ≡ i = omega (arith, ltb-false i j t) in
     before c (suc i) (set el i x) j (omega arith) ∙ rw q (here el i x (omega arith)))
   where
-    before : (c i : ℕ) (el : List ℕ) (j : ℕ) → j < i → getD (turns (measure pts ks) i c el) j 0 ≡ getD el j 0
+    before : (c i : ℕ) (el : List ℕ) (j : ℕ) → j < i → getD (turns (measure w pts ks) i c el) j 0 ≡ getD el j 0
     before zero i el j h = refl
-    before (suc c) i el j h = before c (suc i) (set el i (edgeLength pts ks i)) j (omega arith)
-        ∙ other el i j (edgeLength pts ks i) (λ q. let z : ⊥ = omega arith in z)
+    before (suc c) i el j h = before c (suc i) (set el i (edgeCost w pts ks i)) j (omega arith)
+        ∙ other el i j (edgeCost w pts ks i) (λ q. let z : ⊥ = omega arith in z)
 
 zeros-length : (m : ℕ) → length (replicate {A = ℕ} m 0) ≡ m
 zeros-length zero = refl
 zeros-length (suc m) = ap suc (zeros-length m)
 
-pub length-at : (pts : List ℤ) (ks : List ℕ) (e j : ℕ) → e ≤ pointBound → j < e → getD (lengths pts ks e) j 0 ≡ keyLength pts (getD ks j 0)
-unfolding lengths edgeLength
-length-at pts ks e j few h = measured-at pts ks e 0 (replicate pointBound 0) j (rw (zeros-length pointBound) (omega arith)) (omega arith)
+pub cost-at : (w : Weights) (pts : List ℤ) (ks : List ℕ) (e j : ℕ) → e ≤ pointBound → j < e
+    → getD (costs w pts ks e) j 0 ≡ keyCost w pts (getD ks j 0)
+unfolding costs edgeCost
+cost-at w pts ks e j few h = measured-at w pts ks e 0 (replicate pointBound 0) j (rw (zeros-length pointBound) (omega arith)) (omega arith)
     (omega arith)
 
-pub no-length : (pts : List ℤ) (ks : List ℕ) (e : ℕ) → e < pointBound → getD (lengths pts ks e) noEdge 0 ≡ 0
-unfolding lengths
-no-length pts ks e h = measured-past pts ks noEdge e 0 (replicate pointBound 0) (omega arith) ∙ zeros-at pointBound noEdge
+pub no-cost : (w : Weights) (pts : List ℤ) (ks : List ℕ) (e : ℕ) → e < pointBound → getD (costs w pts ks e) noEdge 0 ≡ 0
+unfolding costs
+no-cost w pts ks e h = measured-past w pts ks noEdge e 0 (replicate pointBound 0) (omega arith) ∙ zeros-at pointBound noEdge

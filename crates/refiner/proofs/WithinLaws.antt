@@ -11,13 +11,14 @@ use lib.ListN.{getD, set, replicate}
 use borrow.Author.Tests.{ltb-true, ltb-false, eq-eqb, ne-eqb}
 use Rattle.plane.specs.declared.Place.{Place}
 use Rattle.plane.specs.declared.Macro.{Macro}
+use Rattle.plane.specs.declared.Weights.{Weights}
 use Rattle.plane.specs.Flat.{placeAt}
 use Rattle.plane.specs.Place.{samePlace}
 use Rattle.lists.proofs.TestLaws.{by, and-left}
 use Rattle.refiner.specs.declared.Best.{Best}
 use Rattle.refiner.specs.Candidate.{found}
 use Rattle.refiner.specs.Exchange.{bump, bumpAt, carrying, closed, dropTwo, exchange, laidAt, later, lay, lay3, rank, shift, stands}
-use Rattle.refiner.specs.Longest.{lengths, measure}
+use Rattle.refiner.specs.Longest.{costs, measure}
 use Rattle.refiner.specs.Refined.{rounds, pruned}
 use Rattle.refiner.specs.Prune.{marks, firstLoose, prune}
 use Rattle.tree.specs.Table.{In, Row, Small, Tree, Within, key, pairBound, pointBound, row, tree}
@@ -130,52 +131,53 @@ pub within-after : (c : Best) (pts qts : List ℤ) (n m : ℕ) (ks ls : List ℕ
 within-after c pts qts n m ks ls e f q l h w =
     rw (ap (λ (t : Tree). t .count) q, ap (λ (t : Tree). t .edges .keys) q) (within-exchange c pts n ks e l h w)
 
--- past the edges no length stands
-pub measured-past : (pts : List ℤ) (ks : List ℕ) (j c i : ℕ) (el : List ℕ) → i + c ≤ j → getD (turns (measure pts ks) i c el) j 0
+-- past the edges no cost stands
+pub measured-past : (w : Weights) (pts : List ℤ) (ks : List ℕ) (j c i : ℕ) (el : List ℕ) → i + c ≤ j → getD (turns (measure w pts ks) i c el) j 0
     ≡ getD el j 0
 unfolding turns measure
-measured-past pts ks j zero i el h = refl
-measured-past pts ks j (suc c) i el h = measured-past pts ks j c (suc i) _ (omega arith) ∙ past el i j _ (omega arith)
+measured-past w pts ks j zero i el h = refl
+measured-past w pts ks j (suc c) i el h = measured-past w pts ks j c (suc i) _ (omega arith) ∙ past el i j _ (omega arith)
 
 pub zeros-at : (n i : ℕ) → _≡_ {A = ℕ} (getD (replicate n 0) i 0) 0
 zeros-at zero i = refl
 zeros-at (suc n) zero = refl
 zeros-at (suc n) (suc i) = zeros-at n i
 
-cut-in : (pts : List ℤ) (ks : List ℕ) (e l : ℕ) → 0 < getD (lengths pts ks e) l 0 → l < e
-unfolding lengths
-cut-in pts ks e l h =
+cut-in : (w : Weights) (pts : List ℤ) (ks : List ℕ) (e l : ℕ) → 0 < getD (costs w pts ks e) l 0 → l < e
+unfolding costs
+cut-in w pts ks e l h =
     by (ltb l e) (λ t. ltb-true l e t)
-    (λ t. absurd (let g : e ≤ l = ltb-false l e t in let z : getD (turns (measure pts ks) 0 e
-    (replicate pointBound 0)) l 0 ≡ 0 = measured-past pts ks l e 0 _ (omega arith) ∙ zeros-at pointBound l in let y : ⊥ = omega arith in y))
+    (λ t. absurd (let g : e ≤ l = ltb-false l e t in let z : getD (turns (measure w pts ks) 0 e
+    (replicate pointBound 0)) l 0 ≡ 0 = measured-past w pts ks l e 0 _ (omega arith) ∙ zeros-at pointBound l in let y : ⊥ = omega arith in y))
 
-pub fine-found : (ms : List Macro) (pts : List ℤ) (n : ℕ) (ks : List ℕ) (e : ℕ) (c : Best) → c ≡ found ms pts n ks e → (c .gain ≡ 0 → ⊥)
-    → ((c .edge < e) × (c .cut < e)) × ((c .cut ≡ c .edge → ⊥) × (c .point < n))
+pub fine-found : (w : Weights) (ms : List Macro) (pts : List ℤ) (n : ℕ) (ks : List ℕ) (e : ℕ) (c : Best) → c ≡ found w ms pts n ks e
+    → (c .gain ≡ 0 → ⊥) → ((c .edge < e) × (c .cut < e)) × ((c .cut ≡ c .edge → ⊥) × (c .point < n))
 unfolding found
-fine-found ms pts n ks e c q g =
-    let f = fine-search pts e n ms ks (lengths pts ks e) _ in
-    let h : Fine (lengths pts ks e) e n c = rw q f in
+fine-found w ms pts n ks e c q g =
+    let f = fine-search w pts e n ms ks (costs w pts ks e) _ in
+    let h : Fine (costs w pts ks e) e n c = rw q f in
     let i = h (omega arith) in
-    ((i .0 .0, cut-in pts ks e (c .cut) (i .1 .0)), (i .1 .1, i .0 .1))
+    ((i .0 .0, cut-in w pts ks e (c .cut) (i .1 .0)), (i .1 .1, i .0 .1))
 
 pub within-small : (n : ℕ) (ks : List ℕ) → n ≤ pointBound → Within n ks → Small pairBound ks
 within-small n ks h w = record { small = λ i. omega (arith, w .ends i .0, w .ends i .1) }
 
-module _ (ms : List Macro) (pts : List ℤ) (n : ℕ) (ks : List ℕ) (e k : ℕ) (all : Tree) (c : Best) (h : rounds ms k (tree pts n ks e) ≡ all)
-    (q : c ≡ found ms pts n ks e) where
+module _ (w : Weights) (ms : List Macro) (pts : List ℤ) (n : ℕ) (ks : List ℕ) (e k : ℕ) (all : Tree) (c : Best)
+    (h : rounds w ms k (tree pts n ks e) ≡ all)
+    (q : c ≡ found w ms pts n ks e) where
   pub rounds-stop : (less : ℕ) → k ≡ suc less → c .gain ≡ 0 → tree pts n ks e ≡ all
   unfolding rounds
   rounds-stop less i g = sym (rw (i, rounds, eq-eqb _ _ (rw q at g)) refl) ∙ h
 
-  pub rounds-more : (less : ℕ) → k ≡ suc less → (c .gain ≡ 0 → ⊥) → (t : Tree) → t ≡ exchange c pts n ks e → rounds ms less t ≡ all
+  pub rounds-more : (less : ℕ) → k ≡ suc less → (c .gain ≡ 0 → ⊥) → (t : Tree) → t ≡ exchange c pts n ks e → rounds w ms less t ≡ all
   unfolding rounds
   rounds-more less i g t r =
-      let d : found ms pts n ks e .gain ≡ 0 → ⊥ = λ z. g (ap (λ (b : Best). b .gain) q ∙ z) in
+      let d : found w ms pts n ks e .gain ≡ 0 → ⊥ = λ z. g (ap (λ (b : Best). b .gain) q ∙ z) in
       rw (r, q) (sym (rw (i, rounds, ne-eqb _ _ d) refl) ∙ h)
 
-pub rounds-end : (ms : List Macro) (k : ℕ) (t all : Tree) → rounds ms k t ≡ all → k ≡ 0 → t ≡ all
+pub rounds-end : (w : Weights) (ms : List Macro) (k : ℕ) (t all : Tree) → rounds w ms k t ≡ all → k ≡ 0 → t ≡ all
 unfolding rounds
-rounds-end ms k t all h e = sym (rw e refl) ∙ h
+rounds-end w ms k t all h e = sym (rw e refl) ∙ h
 
 -- pruning adds no edge
 pub pruned-few : (pin ks : List ℕ) (e : ℕ) → prune pin ks e .size ≤ e

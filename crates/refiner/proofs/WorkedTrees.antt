@@ -10,19 +10,20 @@ use Rattle.signed.specs.Order.{minZ, maxZ}
 use Rattle.plane.specs.declared.Place.{Place}
 use Rattle.plane.specs.declared.Macro.{Macro}
 use Rattle.plane.specs.Place.{place, before, samePlace}
-use Rattle.plane.specs.Distance.{apart, distance}
+use Rattle.plane.specs.Distance.{apart}
+use Rattle.plane.specs.Cost.{cost, plain}
 use Rattle.plane.specs.Middle.{middle, middlePlace}
 use Rattle.plane.specs.Macro.{macro, spanMeets, meets, clear}
 use Rattle.plane.specs.Flat.{placeAt, flatPlaces}
 use Rattle.refiner.specs.Turns.{turns, seek}
 use Rattle.tree.specs.Table.{key, firstEnd, secondEnd, tree}
-use Rattle.refiner.specs.Longest.{edgeLength, measure, lengths, wins, longer, shorter}
+use Rattle.refiner.specs.Longest.{edgeCost, measure, costs, wins, longer, shorter}
 use Rattle.refiner.specs.Longest.{spread, spreads, hang, attach, pass, reached, start, longest, cutOf}
 use Rattle.refiner.specs.Candidate.{sees, taken, dropped, allowed, weighed, offer, offers, search, found}
 use Rattle.refiner.specs.Exchange.{shift, closed, dropTwo, later, rank, stands, push, closing, opened}
 use Rattle.refiner.specs.Exchange.{bump, bumpAt, carrying, lay, lay3, laidAt, exchange}
 use Rattle.refiner.specs.Prune.{markOf, mark, marks, countEnds, loose, looseEdge, firstLoose, prune}
-use Rattle.refiner.specs.Refined.{rounds, pruned, refined, addLength, metal}
+use Rattle.refiner.specs.Refined.{rounds, pruned, refined, addCost, total}
 
 -- a table with room for more
 unfoldable roomy : List ℤ → ℕ → List ℤ
@@ -43,14 +44,14 @@ edgesFrom pts (k ∷ ks) (suc n) = (placeAt pts (firstEnd k), placeAt pts (secon
 
 -- the refined edges and their total; to unfold this is to unfold all that it rests on
 unfoldable pub refinedOf : List Macro → List Place → List Place → List ℕ → List (Place × Place) × ℕ
-unfolding any minZ maxZ before samePlace apart distance middle middlePlace spanMeets meets clear flatPlaces roomy roomyKeys edgesFrom turns
-    seek edgeLength measure lengths wins longer shorter spread spreads hang attach pass reached start longest cutOf sees taken dropped
+unfolding any minZ maxZ before samePlace apart cost middle middlePlace spanMeets meets clear flatPlaces roomy roomyKeys edgesFrom turns
+    seek edgeCost measure costs wins longer shorter spread spreads hang attach pass reached start longest cutOf sees taken dropped
     allowed weighed offer offers search found shift closed dropTwo later rank stands push closing opened bump bumpAt carrying lay lay3
-    laidAt exchange markOf mark marks countEnds loose looseEdge firstLoose prune rounds pruned refined addLength metal
+    laidAt exchange markOf mark marks countEnds loose looseEdge firstLoose prune rounds pruned refined addCost total
 refinedOf ms pins points keys =
     let t = tree (roomy (flatPlaces points) (length pins)) (length points) (roomyKeys keys (length pins)) (length keys) in
-    let r = refined ms pins t in
-    (edgesFrom (r .points) (r .edges .keys) (r .edges .size), metal (r .points) (r .edges .keys) (r .edges .size))
+    let r = refined (record { pins = pins; macros = ms; weights = plain }) t in
+    (edgesFrom (r .points) (r .edges .keys) (r .edges .size), total plain (r .points) (r .edges .keys) (r .edges .size))
 
 abbrev at : ℕ → ℕ → Place
 at x y = place (pos x) (pos y)

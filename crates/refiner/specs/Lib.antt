@@ -7,11 +7,12 @@
 -- L is asked for every edge with every point. One table a round answers all: the longest edge on the way between every two points, filled
 -- by hanging one point after the other on those that are reached. Definitions are state machines on whole tables, what stands past their
 -- end included, so that contracts speak of every number lent.
+-- Machines take the weights first and then what they need of the net; sentences and promises take the net.
 --
 --   Turns      turns f i n s               the state s after f at the n numbers from i on
 --              seek t i n                  the first of these numbers that passes t
---   Longest    edgeLength, lengths         the length of an edge; of all
---              wins, longer, shorter       the longer edge, the smaller on a tie
+--   Longest    edgeCost w, costs w         what an edge costs; all of them
+--              wins, longer, shorter       the longer edge, by cost, the smaller on a tie
 --              longest                     the table of the longest edge between every two points
 --              cutOf                       L for an edge and a point
 --   Candidate  middleOf                    s
@@ -25,7 +26,7 @@
 --   Prune      marks                       which points are pins
 --              loose, prune                no pin and a single edge; what is left when all such points are gone
 --   Refined    rounds, pruned, refined     at most m rounds, then pruning
---              metal                       the sum of edge lengths
+--              total w                     the sum of what the edges cost
 --              Answer                      what the tables and the answer hold when a tree is refined
 --   Taken      Taken                       what is known of a candidate that a round takes
 --   Promise    Promise                     what is promised of a refined tree
@@ -38,9 +39,9 @@
 --
 -- THE THEOREMS, in the order of their proof.
 --   CutLaws        cut-is              `cutOf` is the longest edge, the smallest on a tie, of the way to whichever end is met first
---   ExchangeSound  laid-sound          a round keeps `Sound`;  laid-lengths: the total falls by the gain
+--   ExchangeSound  laid-sound          a round keeps `Sound`;  laid-costs: the total falls by the gain
 --   RankedLaws     laid-level          edges stay smaller place first and in order;  ranked-of: each once, since they are a tree
---   RoundSound     rounds-kept         so do the rounds, each with at most one point more;  metal-of: the contract's sum is `metalOf`
+--   RoundSound     rounds-kept         so do the rounds, each with at most one point more;  total-of: the contract's sum is `totalOf`
 --   PruneSound     prune-whole         pruning keeps a tree with all pins;  pruned-over: it raises no sum
 --   RefinedSound   refined-promise     the refined tree of a sound tree keeps `Promise`
 --                  refined-tabled      and `Tabled`, where the tree's edges are in order

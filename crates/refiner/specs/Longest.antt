@@ -1,32 +1,29 @@
--- R8: L. The longest edge between every two points, from one table.
+-- R8: L. The longest edge between every two points, from one table. Edges are long by what they cost.
 --
 -- A tree is gone through by hanging points on what is reached, from the first point on. Where an edge hangs a new point v on a reached p,
 -- the way from v to a reached w is that edge and the way from p to w.
 use mathlib.Core.Bool.{Bool, true, false}
 use mathlib.Core.List.{List}
-use Prim.Native.Nat.{ℕ, _-_, _^_}
+use Prim.Native.Nat.{ℕ, _-_}
 use lib.Dec.{ltb, eqb}
 use lib.IntN.{ℤ}
 use lib.ListN.{getD, set, replicate}
-use Rattle.plane.specs.Distance.{distance}
+use Rattle.plane.specs.declared.Weights.{Weights}
+use Rattle.plane.specs.Cost.{cost}
 use Rattle.plane.specs.Flat.{placeAt}
 use Rattle.refiner.specs.Turns.{turns}
 use Rattle.tree.specs.Table.{pointBound, pairBound, key, firstEnd, secondEnd}
 
--- the length of the edge k, the distance of its ends
-unfoldable pub edgeLength : List ℤ → List ℕ → ℕ → ℕ
-edgeLength pts keys k = distance (placeAt pts (firstEnd (getD keys k 0))) (placeAt pts (secondEnd (getD keys k 0)))
+-- what the edge k costs
+unfoldable pub edgeCost : Weights → List ℤ → List ℕ → ℕ → ℕ
+edgeCost w pts keys k = cost w (placeAt pts (firstEnd (getD keys k 0))) (placeAt pts (secondEnd (getD keys k 0)))
 
--- two places of 32 bits lie less than this apart
-abbrev pub lengthBound : ℕ
-lengthBound = 2 ^ 33
+unfoldable pub measure : Weights → List ℤ → List ℕ → ℕ → List ℕ → List ℕ
+measure w pts keys k el = set el k (edgeCost w pts keys k)
 
-unfoldable pub measure : List ℤ → List ℕ → ℕ → List ℕ → List ℕ
-measure pts keys k el = set el k (edgeLength pts keys k)
-
--- the lengths of all edges; past them no length stands
-unfoldable pub lengths : List ℤ → List ℕ → ℕ → List ℕ
-lengths pts keys e = turns (measure pts keys) 0 e (replicate pointBound 0)
+-- the costs of all edges; past them no cost stands
+unfoldable pub costs : Weights → List ℤ → List ℕ → ℕ → List ℕ
+costs w pts keys e = turns (measure w pts keys) 0 e (replicate pointBound 0)
 
 -- R8: k is longer than l, or as long and smaller
 unfoldable pub wins : List ℕ → ℕ → ℕ → Bool
@@ -42,7 +39,7 @@ longer el k l = elim (wins el k l) [ true ↦ k | false ↦ l ]
 unfoldable pub shorter : List ℕ → ℕ → ℕ → ℕ
 shorter el k l = elim (wins el k l) [ true ↦ l | false ↦ k ]
 
--- no edge: the last number, which no edge of a tree has; its length is 0
+-- no edge: the last number, which no edge of a tree has; it costs 0
 abbrev pub noEdge : ℕ
 noEdge = pointBound - 1
 

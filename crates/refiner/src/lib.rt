@@ -2,23 +2,27 @@
 //
 // A point is its number in the table of points, which is in the order of places; an edge is the key of its ends' numbers, in a table in the
 // order of edges. So every tie is settled by scanning upwards and giving way only to what is strictly better.
+use net::Net;
 use plane::Place;
+use plane::Weights;
 use tree::NUMBERS;
 use tree::POINTS;
 ghost use mathlib.Core.Path.{_≡_};
-ghost use Prim.Native.Nat.{_+_, _*_, _/_, _≤_, _<_};
-ghost use lib.ListN.{length, getD};
+ghost use Prim.Native.Nat.{_+_, _≤_, _<_};
+ghost use lib.ListN.{getD};
 ghost use Rattle.lists.specs.Any.{any};
 ghost use Rattle.plane.specs.Place.{samePlace};
-ghost use Rattle.plane.specs.Distance.{distance};
-ghost use Rattle.plane.specs.Flat.{placesOf, macrosOf};
+ghost use Rattle.plane.specs.Cost.{costLimit};
+ghost use Rattle.plane.specs.Flat.{macrosOf};
+ghost use Rattle.net.specs.Pins.{pinCount, pinPlaces};
+ghost use Rattle.net.specs.Net.{netWith};
 ghost use Rattle.refiner.specs.Turns.{turns, seek};
 ghost use Rattle.tree.specs.Table.{pointBound, pairBound, key, row, tree, Small, Low, Within};
-ghost use Rattle.refiner.specs.Longest.{edgeLength, lengthBound, measure, wins, longer, shorter, spread, spreads, reach, attach, pass, reached, cutOf};
+ghost use Rattle.refiner.specs.Longest.{edgeCost, measure, wins, longer, shorter, spread, spreads, reach, attach, pass, reached, cutOf};
 ghost use Rattle.refiner.specs.Candidate.{sees, taken, dropped, allowed, weighed, offer, offers, search, found};
 ghost use Rattle.refiner.specs.Exchange.{closed, dropTwo, later, rank, stands, opened, bump, bumpAt, carrying, lay, lay3, laidAt, exchange};
 ghost use Rattle.refiner.specs.Prune.{countEnds, loose, looseEdge, firstLoose, mark, prune};
-ghost use Rattle.refiner.specs.Refined.{rounds, pruned, metal, Answer};
+ghost use Rattle.refiner.specs.Refined.{rounds, pruned, total, Answer};
 
 // All pairs of points.
 pub const PAIRS: usize = POINTS * POINTS;
@@ -40,39 +44,33 @@ pub struct Size {
     pub edges: usize,
 }
 
-// The same with the sum of the edges' lengths.
+// The same with what the edges cost together.
 pub struct Refined {
     pub points: usize,
     pub edges: usize,
     pub total: u64,
 }
 
-// The distance of two places.
-pub fn far_apart(a: Place, b: Place) -> u64
-    ensures { λ r. ⌜ (r ≡ distance a b) × (r < lengthBound) ⌝ }
-{
-    plane::distance(a, b) as u64
-}
-
-// The length of the edge k.
-fn edge_length(pts: &[i32; NUMBERS], keys: &[usize; POINTS], k: usize) -> u64
+// What the edge k costs.
+fn edge_cost(w: Weights, pts: &[i32; NUMBERS], keys: &[usize; POINTS], k: usize) -> u64
     requires { ⌜ (k < pointBound) × (Small pairBound (now keys)) ⌝ }
-    ensures { λ r. ⌜ (r ≡ edgeLength (now (pts .entry)) (now (keys .entry)) k) × (r < lengthBound) ⌝ }
+    ensures { λ r. ⌜ (r ≡ edgeCost w (now (pts .entry)) (now (keys .entry)) k) × (r < costLimit) ⌝ }
 {
     let q = keys[k];
-    far_apart(
+    plane::cost(
+        w,
         tree::point_at(pts, q / POINTS),
         tree::point_at(pts, q % POINTS),
     )
 }
 
-fn lengths(pts: &[i32; NUMBERS], keys: &[usize; POINTS], e: usize, el: &mut [u64; POINTS])
+fn costs(w: Weights, pts: &[i32; NUMBERS], keys: &[usize; POINTS], e: usize, el: &mut [u64; POINTS])
     requires { ⌜ (e ≤ pointBound) × (Small pairBound (now keys)) ⌝ }
-    ensures { λ _. ⌜ now (el .exit) ≡ turns (measure (now (pts .entry)) (now (keys .entry))) 0 e (now (el .entry)) ⌝ }
+    ensures { λ _. ⌜ now (el .exit) ≡ turns (measure w (now (pts .entry)) (now (keys .entry))) 0 e (now (el .entry)) ⌝ }
 {
     let mut k = 0;
     while k < e {
-        el[k] = edge_length(pts, keys, k);
+        el[k] = edge_cost(w, pts, keys, k);
         k += 1;
     }
 }
@@ -292,6 +290,7 @@ fn is_allowed(
 // The best so far, or the candidate of edge k from a to b and the point u, whose L is l. What is clear is asked last: it looks at every
 // macro.
 fn weigh(
+    w: Weights,
     pts: &[i32; NUMBERS],
     n: usize,
     macros: &[i32],
@@ -304,11 +303,11 @@ fn weigh(
     c: Best,
 ) -> Best
     requires { ⌜ ((a < pointBound) × (b < pointBound)) × ((u < pointBound) × (n ≤ pointBound)) ⌝ }
-    ensures { λ r. ⌜ r ≡ weighed (now (pts .entry)) n (macrosOf (now (macros .entry))) a b k u l long c ⌝ }
+    ensures { λ r. ⌜ r ≡ weighed w (now (pts .entry)) n (macrosOf (now (macros .entry))) a b k u l long c ⌝ }
 {
     let r = tree::point_at(pts, u);
     let s = plane::middle_place(tree::point_at(pts, a), tree::point_at(pts, b), r);
-    let d = far_apart(s, r);
+    let d = plane::cost(w, s, r);
     if long <= d {
         return c;
     }
@@ -328,6 +327,7 @@ fn weigh(
 }
 
 fn offer(
+    w: Weights,
     pts: &[i32; NUMBERS],
     n: usize,
     macros: &[i32],
@@ -341,7 +341,7 @@ fn offer(
 ) -> Best
     requires { ⌜ ((a < pointBound) × (b < pointBound)) × ((u < pointBound) × (n ≤ pointBound)) ⌝ }
     requires { ⌜ Small pointBound (now top) ⌝ }
-    ensures { λ r. ⌜ r ≡ offer (now (pts .entry)) n (macrosOf (now (macros .entry))) (now (el .entry)) (now (top .entry)) a b k u c ⌝ }
+    ensures { λ r. ⌜ r ≡ offer w (now (pts .entry)) n (macrosOf (now (macros .entry))) (now (el .entry)) (now (top .entry)) a b k u c ⌝ }
 {
     let l = cut_of(el, top, a, b, u);
     if (u == a) | ((u == b) | (l == k)) {
@@ -351,10 +351,11 @@ fn offer(
     if long <= c.gain {
         return c;
     }
-    weigh(pts, n, macros, a, b, k, u, l, long, c)
+    weigh(w, pts, n, macros, a, b, k, u, l, long, c)
 }
 
 fn offers(
+    w: Weights,
     pts: &[i32; NUMBERS],
     n: usize,
     macros: &[i32],
@@ -366,7 +367,7 @@ fn offers(
 ) -> Best
     requires { ⌜ (k < pointBound) × (n ≤ pointBound) ⌝ }
     requires { ⌜ (Small pairBound (now keys)) × (Small pointBound (now top)) ⌝ }
-    ensures { λ r. ⌜ r ≡ offers (now (pts .entry)) n (macrosOf (now (macros .entry))) (now (keys .entry)) (now (el .entry))
+    ensures { λ r. ⌜ r ≡ offers w (now (pts .entry)) n (macrosOf (now (macros .entry))) (now (keys .entry)) (now (el .entry))
         (now (top .entry)) k c ⌝ }
 {
     let a = keys[k] / POINTS;
@@ -374,13 +375,14 @@ fn offers(
     let mut found = c;
     let mut u = 0;
     while u < n {
-        found = offer(pts, n, macros, el, top, a, b, k, u, found);
+        found = offer(w, pts, n, macros, el, top, a, b, k, u, found);
         u += 1;
     }
     found
 }
 
 fn search(
+    w: Weights,
     pts: &[i32; NUMBERS],
     n: usize,
     macros: &[i32],
@@ -391,7 +393,7 @@ fn search(
 ) -> Best
     requires { ⌜ (e ≤ pointBound) × (n ≤ pointBound) ⌝ }
     requires { ⌜ (Small pairBound (now keys)) × (Small pointBound (now top)) ⌝ }
-    ensures { λ r. ⌜ r ≡ search (now (pts .entry)) n (macrosOf (now (macros .entry))) (now (keys .entry)) e (now (el .entry))
+    ensures { λ r. ⌜ r ≡ search w (now (pts .entry)) n (macrosOf (now (macros .entry))) (now (keys .entry)) e (now (el .entry))
         (now (top .entry)) ⌝ }
 {
     let mut found = Best {
@@ -402,23 +404,30 @@ fn search(
     };
     let mut k = 0;
     while k < e {
-        found = offers(pts, n, macros, keys, el, top, k, found);
+        found = offers(w, pts, n, macros, keys, el, top, k, found);
         k += 1;
     }
     found
 }
 
-fn found(pts: &[i32; NUMBERS], n: usize, macros: &[i32], keys: &[usize; POINTS], e: usize) -> Best
+fn found(
+    w: Weights,
+    pts: &[i32; NUMBERS],
+    n: usize,
+    macros: &[i32],
+    keys: &[usize; POINTS],
+    e: usize,
+) -> Best
     requires { ⌜ ((e ≤ pointBound) × (n ≤ pointBound)) × (Small pairBound (now keys)) ⌝ }
-    ensures { λ r. ⌜ r ≡ found (macrosOf (now (macros .entry))) (now (pts .entry)) n (now (keys .entry)) e ⌝ }
+    ensures { λ r. ⌜ r ≡ found w (macrosOf (now (macros .entry))) (now (pts .entry)) n (now (keys .entry)) e ⌝ }
 {
     let mut el = [0u64; POINTS];
-    lengths(pts, keys, e, &mut el);
+    costs(w, pts, keys, e, &mut el);
     let mut seen = [0usize; POINTS];
     seen[0] = 1;
     let mut top = [NONE; PAIRS];
     reached(keys, &el, e, n, &mut seen, &mut top);
-    search(pts, n, macros, keys, e, &el, &top)
+    search(w, pts, n, macros, keys, e, &el, &top)
 }
 
 // The exchange
@@ -632,6 +641,7 @@ fn exchange(
 // Rounds
 
 pub fn rounds(
+    w: Weights,
     pts: &mut [i32; NUMBERS],
     n: usize,
     macros: &[i32],
@@ -641,7 +651,7 @@ pub fn rounds(
 ) -> Size
     requires { ⌜ ((n + m ≤ pointBound) × (e + m ≤ pointBound)) × (Within n (now keys)) ⌝ }
     ensures { λ r. ⌜ (tree (now (pts .exit)) (r .points) (now (keys .exit)) (r .edges)
-        ≡ rounds (macrosOf (now (macros .entry))) m (tree (now (pts .entry)) n (now (keys .entry)) e))
+        ≡ rounds w (macrosOf (now (macros .entry))) m (tree (now (pts .entry)) n (now (keys .entry)) e))
         × (((r .points ≤ n + m) × (r .edges ≤ e + m)) × (Within (r .points) (now (keys .exit)))) ⌝ }
 {
     let mut z = Size {
@@ -650,7 +660,7 @@ pub fn rounds(
     };
     let mut r = 0;
     while r < m {
-        let c = found(&*pts, z.points, macros, &*keys, z.edges);
+        let c = found(w, &*pts, z.points, macros, &*keys, z.edges);
         if c.gain == 0 {
             return z;
         }
@@ -663,12 +673,12 @@ pub fn rounds(
 // Pruning
 
 fn is_pin(pins: &[i32], p: Place) -> bool
-    ensures { λ r. ⌜ r ≡ any (samePlace p) (placesOf (now (pins .entry))) ⌝ }
+    ensures { λ r. ⌜ r ≡ any (samePlace p) (pinPlaces (now (pins .entry))) ⌝ }
 {
-    let m = pins.len() / 2;
+    let m = net::pin_count(pins);
     let mut i = 0;
     while i < m {
-        if plane::is_same_place(p, plane::place_at(pins, i)) {
+        if plane::is_same_place(p, net::pin_at(pins, i)) {
             return true;
         }
         i += 1;
@@ -678,7 +688,7 @@ fn is_pin(pins: &[i32], p: Place) -> bool
 
 fn mark(pins: &[i32], pts: &[i32; NUMBERS], i: usize, pin: &mut [usize; POINTS])
     requires { ⌜ i < pointBound ⌝ }
-    ensures { λ _. ⌜ now (pin .exit) ≡ mark (placesOf (now (pins .entry))) (now (pts .entry)) i (now (pin .entry)) ⌝ }
+    ensures { λ _. ⌜ now (pin .exit) ≡ mark (pinPlaces (now (pins .entry))) (now (pts .entry)) i (now (pin .entry)) ⌝ }
 {
     if is_pin(pins, tree::point_at(pts, i)) {
         pin[i] = 1;
@@ -689,7 +699,7 @@ fn mark(pins: &[i32], pts: &[i32; NUMBERS], i: usize, pin: &mut [usize; POINTS])
 
 fn mark_pins(pins: &[i32], pts: &[i32; NUMBERS], n: usize, pin: &mut [usize; POINTS])
     requires { ⌜ n ≤ pointBound ⌝ }
-    ensures { λ _. ⌜ now (pin .exit) ≡ turns (mark (placesOf (now (pins .entry))) (now (pts .entry))) 0 n (now (pin .entry)) ⌝ }
+    ensures { λ _. ⌜ now (pin .exit) ≡ turns (mark (pinPlaces (now (pins .entry))) (now (pts .entry))) 0 n (now (pin .entry)) ⌝ }
 {
     let mut i = 0;
     while i < n {
@@ -792,7 +802,7 @@ fn prune_points(
     e: usize,
 ) -> usize
     requires { ⌜ (n ≤ pointBound) × ((e ≤ pointBound) × (Small pairBound (now keys))) ⌝ }
-    ensures { λ r. ⌜ row (now (keys .exit)) r ≡ pruned (placesOf (now (pins .entry)))
+    ensures { λ r. ⌜ row (now (keys .exit)) r ≡ pruned (pinPlaces (now (pins .entry)))
         (tree (now (pts .entry)) n (now (keys .entry)) e) .edges ⌝ }
 {
     let mut pin = [0usize; POINTS];
@@ -802,22 +812,23 @@ fn prune_points(
 
 // The refined tree
 
-// The sum of the lengths of the first e edges.
-pub fn total(pts: &[i32; NUMBERS], keys: &[usize; POINTS], e: usize) -> u64
+// What the first e edges cost together.
+pub fn total(w: Weights, pts: &[i32; NUMBERS], keys: &[usize; POINTS], e: usize) -> u64
     requires { ⌜ (e ≤ pointBound) × (Small pairBound (now keys)) ⌝ }
-    ensures { λ r. ⌜ r ≡ metal (now (pts .entry)) (now (keys .entry)) e ⌝ }
+    ensures { λ r. ⌜ r ≡ total w (now (pts .entry)) (now (keys .entry)) e ⌝ }
 {
     let mut sum = 0;
     let mut k = 0;
     while k < e {
-        sum += edge_length(pts, keys, k);
+        sum += edge_cost(w, pts, keys, k);
         k += 1;
     }
     sum
 }
 
-// The refined tree of the tree of n points and e edges, in place: how many points and edges there are then, and the sum of their lengths.
+// The refined tree of the tree of n points and e edges, in place: how many points and edges there are then, and what they cost together.
 pub fn refine(
+    net: Net,
     pins: &[i32],
     macros: &[i32],
     pts: &mut [i32; NUMBERS],
@@ -825,16 +836,17 @@ pub fn refine(
     keys: &mut [usize; POINTS],
     e: usize,
 ) -> Refined
-    requires { ⌜ ((n + length (now pins) / 2 ≤ pointBound) × (e + length (now pins) / 2 ≤ pointBound)) × (Within n (now keys)) ⌝ }
-    ensures { λ r. ⌜ Answer (macrosOf (now (macros .entry))) (placesOf (now (pins .entry)))
+    requires { ⌜ ((n + pinCount (now pins) ≤ pointBound) × (e + pinCount (now pins) ≤ pointBound)) × (Within n (now keys)) ⌝ }
+    ensures { λ r. ⌜ Answer (netWith (net .weights) (now (pins .entry)) (now (macros .entry)))
         (tree (now (pts .entry)) n (now (keys .entry)) e) (now (pts .exit)) (now (keys .exit)) r ⌝ }
 {
-    let m = pins.len() / 2;
-    let z = rounds(&mut *pts, n, macros, &mut *keys, e, m);
+    let w = net.weights;
+    let m = net::pin_count(pins);
+    let z = rounds(w, &mut *pts, n, macros, &mut *keys, e, m);
     let f = prune_points(pins, &*pts, z.points, &mut *keys, z.edges);
     Refined {
         points: z.points,
         edges: f,
-        total: total(&*pts, &*keys, f),
+        total: total(w, &*pts, &*keys, f),
     }
 }

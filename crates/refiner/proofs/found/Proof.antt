@@ -1,4 +1,4 @@
--- `refiner::found` meets its contract: lengths, then the table of longest edges, then the search.
+-- `refiner::found` meets its contract: costs, then the table of longest edges, then the search.
 -- Assumes nothing.
 use mathlib.Core.Path.{_≡_}
 use native.Mathlib.Omega.{arith}
@@ -9,8 +9,8 @@ use Rattle.refiner.proofs.RoundLaws.{small-all, small-reached, found-is
 use Rattle.refiner.proofs.found.Statement.{statement}
 use Rattle.refiner.proofs.found.Tie as tie
 
-lengths-requires : tie.Need-lengths-requires
-lengths-requires c κs = search needs
+costs-requires : tie.Need-costs-requires
+costs-requires c κs = search needs
 
 array-write-seen : tie.Need-array-write-seen
 array-write-seen c = search needs
@@ -32,9 +32,9 @@ search-requires c κs =
     )
 
 returns : tie.Need-returns
-returns c = found-is _ _ _ _ _ _ _ _ _ (c .before .before .before .before .before .before .before .lengths .ensures)
+returns c = found-is _ _ _ _ _ _ _ _ _ _ (c .before .before .before .before .before .before .before .costs .ensures)
     (c .before .before .before .reached .ensures) (c .search .ensures)
 
 pub found-spec : {M : Type 1} → statement M
 found-spec =
-    tie.close (tie.spec lengths-requires array-write-seen reached-requires search-requires returns)
+    tie.close (tie.spec costs-requires array-write-seen reached-requires search-requires returns)

@@ -3,7 +3,7 @@
 use mathlib.Core.Path.{_≡_}
 use Prim.Native.Nat.{_≤_, _-_}
 use native.Mathlib.Omega.{arith}
-use Rattle.plane.specs.Flat.{placesOf}
+use Rattle.net.specs.Pins.{pinPlaces}
 use Rattle.refiner.specs.Turns.{turns}
 use Rattle.refiner.specs.Prune.{mark}
 use Rattle.refiner.proofs.TurnLaws.{turns-none, turns-next, turns-end}
@@ -11,7 +11,7 @@ use Rattle.refiner.proofs.mark_pins.Statement.{statement}
 use Rattle.refiner.proofs.mark_pins.Tie as tie
 
 abbrev Inv-loop : tie.InvT-loop
-Inv-loop pins pts n pin₀ i₀ pin i = (i ≤ n) × (turns (mark (placesOf pins) pts) i (n - i) pin ≡ turns (mark (placesOf pins) pts) 0 n pin₀)
+Inv-loop pins pts n pin₀ i₀ pin i = (i ≤ n) × (turns (mark (pinPlaces pins) pts) i (n - i) pin ≡ turns (mark (pinPlaces pins) pts) 0 n pin₀)
 
 abbrev μ-loop : tie.MeasureT-loop
 μ-loop pins pts n pin₀ i₀ pin i = n - i

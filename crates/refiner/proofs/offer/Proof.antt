@@ -10,7 +10,7 @@ cut-of-requires : tie.Need-cut-of-requires
 cut-of-requires c κs = search needs
 
 returns : tie.Need-returns
-returns c = offer-none _ _ _ _ _ _ _ _ _ _ _ (c .before .cut-of .ensures .0) (c .if1 .taken)
+returns c = offer-none _ _ _ _ _ _ _ _ _ _ _ _ (c .before .cut-of .ensures .0) (c .if1 .taken)
 
 mul-long : tie.Need-mul-long
 mul-long c = search needs
@@ -20,7 +20,7 @@ element-copy-out-long c = search needs
 
 returns-2 : tie.Need-returns-2
 returns-2 c =
-    offer-short _ _ _ _ _ _ _ _ _ _ _ (c .before .before .before .before .cut-of .ensures .0)
+    offer-short _ _ _ _ _ _ _ _ _ _ _ _ (c .before .before .before .before .cut-of .ensures .0)
     (c .before .before .before .if1 .left) (c .if2 .taken)
 
 weigh-requires : tie.Need-weigh-requires
@@ -29,7 +29,7 @@ weigh-requires c κs = search needs
 returns-3 : tie.Need-returns-3
 returns-3 c =
     c .weigh .ensures
-    ∙ offer-is _ _ _ _ _ _ _ _ _ _ _ (c .before .before .before .before .before .cut-of .ensures .0)
+    ∙ offer-is _ _ _ _ _ _ _ _ _ _ _ _ (c .before .before .before .before .before .cut-of .ensures .0)
     (c .before .before .before .before .if1 .left)
 
 pub offer-spec : {M : Type 1} → statement M

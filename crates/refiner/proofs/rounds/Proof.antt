@@ -12,11 +12,11 @@ use Rattle.refiner.proofs.rounds.Statement.{statement}
 use Rattle.refiner.proofs.rounds.Tie as tie
 
 abbrev Inv-loop : tie.InvT-loop
-Inv-loop pts₀ n macros keys₀ e m z₀ r₀ pts keys z r = ((r ≤ m) × ((z .points ≤ n + r) × (z .edges ≤ e + r))) ×
-    (Within (z .points) keys × (rounds (macrosOf macros) (m - r) (tree pts (z .points) keys (z .edges)) ≡ rounds (macrosOf macros) m (tree pts₀ n keys₀ e)))
+Inv-loop w pts₀ n macros keys₀ e m z₀ r₀ pts keys z r = ((r ≤ m) × ((z .points ≤ n + r) × (z .edges ≤ e + r))) ×
+    (Within (z .points) keys × (rounds w (macrosOf macros) (m - r) (tree pts (z .points) keys (z .edges)) ≡ rounds w (macrosOf macros) m (tree pts₀ n keys₀ e)))
 
 abbrev μ-loop : tie.MeasureT-loop
-μ-loop pts₀ n macros keys₀ e m z₀ r₀ pts keys z r = m - r
+μ-loop w pts₀ n macros keys₀ e m z₀ r₀ pts keys z r = m - r
 
 loop-holds : tie.Need-loop-holds Inv-loop μ-loop
 loop-holds c =
@@ -31,7 +31,7 @@ found-requires c κs =
 returns : tie.Need-returns Inv-loop μ-loop
 returns c =
     let l = c .before .before .before .before .before .before in (
-      rounds-stop _ _ _ _ _ _ _ _ (l .loop .inv .1 .1) (c .before .before .found .ensures) (l .before .args .m - (l .loop .r + 1)) (omega arith)
+      rounds-stop _ _ _ _ _ _ _ _ _ (l .loop .inv .1 .1) (c .before .before .found .ensures) (l .before .args .m - (l .loop .r + 1)) (omega arith)
           (c .if1 .taken),
       ((omega arith, omega arith), l .loop .inv .1 .0),
     )
@@ -39,7 +39,7 @@ returns c =
 exchange-requires : tie.Need-exchange-requires Inv-loop μ-loop
 exchange-requires c κs =
     let l = c .before .before .before .before .before .before .before .before in
-    let f = fine-found _ _ _ _ _ _ (c .before .before .before .before .found .ensures) (c .before .before .if1 .left) in
+    let f = fine-found _ _ _ _ _ _ _ (c .before .before .before .before .found .ensures) (c .before .before .if1 .left) in
     (((omega arith, omega arith), f), within-small _ _ (omega arith) (l .loop .inv .1 .0))
 
 add-r : tie.Need-add-r Inv-loop μ-loop
@@ -51,13 +51,13 @@ loop-less c = omega arith
 loop-again : tie.Need-loop-again Inv-loop μ-loop
 loop-again c =
     let l = c .before .before .before .before .before .before .before .before .before in
-    let f = fine-found _ _ _ _ _ _ (c .before .before .before .before .before .found .ensures) (c .before .before .before .if1 .left) in
+    let f = fine-found _ _ _ _ _ _ _ (c .before .before .before .before .before .found .ensures) (c .before .before .before .if1 .left) in
     let x = c .exchange .ensures in (
       (omega arith, (omega (arith, x .1 .0), omega (arith, x .1 .1))),
       (
         within-after _ _ _ _ _ _ _ _ _ (x .0) (omega arith) (f .1 .1)
             (l .loop .inv .1 .0),
-        rounds-more _ _ _ _ _ _ _ _ (l .loop .inv .1 .1) (c .before .before .before .before .before .found .ensures) _
+        rounds-more _ _ _ _ _ _ _ _ _ (l .loop .inv .1 .1) (c .before .before .before .before .before .found .ensures) _
             (omega arith) (c .before .before .before .if1 .left) _ (x .0),
       ),
     )
@@ -65,7 +65,7 @@ loop-again c =
 returns-2 : tie.Need-returns-2 Inv-loop μ-loop
 returns-2 c =
     let l = c .before in
-    (rounds-end _ _ _ _ (l .loop .inv .1 .1) (omega arith), ((omega arith, omega arith), l .loop .inv .1 .0))
+    (rounds-end _ _ _ _ _ (l .loop .inv .1 .1) (omega arith), ((omega arith, omega arith), l .loop .inv .1 .0))
 
 pub rounds-spec : {M : Type 1} → statement M
 rounds-spec =

@@ -20,15 +20,15 @@ point-at-requires-3 c κs = search needs
 middle-place-requires : tie.Need-middle-place-requires
 middle-place-requires c κs = search needs
 
-far-apart-requires : tie.Need-far-apart-requires
-far-apart-requires c κs = search needs
+cost-requires : tie.Need-cost-requires
+cost-requires c κs = search needs
 
--- the places and the distance by their names
-spots : (c : tie.After-far-apart)
-    → Spots (now (c .before .before .before .before .before .args .pts)) (c .before .before .before .before .before .args .a)
+-- the places and the cost by their names
+spots : (c : tie.After-cost)
+    → Spots (c .before .before .before .before .before .args .w) (now (c .before .before .before .before .before .args .pts)) (c .before .before .before .before .before .args .a)
     (c .before .before .before .before .before .args .b) (c .before .before .before .before .before .args .u)
     (c .before .before .before .point-at2 .result) (c .before .before .point-at3 .result) (c .before .before .before .before .point-at .result)
-    (c .before .middle-place .result) (c .far-apart .result)
+    (c .before .middle-place .result) (c .cost .result)
 spots c =
     let m = c .before in
     record {
@@ -36,30 +36,30 @@ spots c =
       two = m .before .point-at3 .ensures;
       three = m .before .before .before .point-at .ensures;
       mid = m .middle-place .ensures;
-      far = c .far-apart .ensures .0;
+      far = c .cost .ensures .0;
     }
 
 returns : tie.Need-returns
-returns c = weigh-low _ _ _ _ _ _ _ _ _ _ _ _ _ _ _ (spots (c .before)) (omega (arith, c .if1 .taken))
+returns c = weigh-low _ _ _ _ _ _ _ _ _ _ _ _ _ _ _ _ (spots (c .before)) (omega (arith, c .if1 .taken))
 
 sub-g : tie.Need-sub-g
 sub-g c = search needs
 
 returns-2 : tie.Need-returns-2
-returns-2 c = weigh-low _ _ _ _ _ _ _ _ _ _ _ _ _ _ _ (spots (c .before .before .before)) (omega (arith, c .if2 .taken))
+returns-2 c = weigh-low _ _ _ _ _ _ _ _ _ _ _ _ _ _ _ _ (spots (c .before .before .before)) (omega (arith, c .if2 .taken))
 
 is-allowed-requires : tie.Need-is-allowed-requires
 is-allowed-requires c κs = search needs
 
 returns-3 : tie.Need-returns-3
 returns-3 c =
-    weigh-yes _ _ _ _ _ _ _ _ _ _ _ _ _ _ _ (spots (c .before .before .before .before .before)) _ refl
+    weigh-yes _ _ _ _ _ _ _ _ _ _ _ _ _ _ _ _ (spots (c .before .before .before .before .before)) _ refl
     (omega (arith, c .before .before .if2 .left, c .before .before .before .before .if1 .left))
     (sym (c .before .is-allowed .ensures) ∙ c .if3 .taken)
 
 returns-4 : tie.Need-returns-4
 returns-4 c =
-    weigh-no _ _ _ _ _ _ _ _ _ _ _ _ _ _ _ (spots (c .before .before .before .before .before))
+    weigh-no _ _ _ _ _ _ _ _ _ _ _ _ _ _ _ _ (spots (c .before .before .before .before .before))
     (sym (c .before .is-allowed .ensures) ∙ c .if3 .left)
 
 pub weigh-spec : {M : Type 1} → statement M
@@ -70,7 +70,7 @@ weigh-spec =
     point-at-requires-2
     point-at-requires-3
     middle-place-requires
-    far-apart-requires
+    cost-requires
     returns
     sub-g
     returns-2
