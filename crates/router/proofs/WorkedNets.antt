@@ -15,7 +15,7 @@ use Rattle.net.proofs.WorkedChecks.{answer}
 use Rattle.terminal.proofs.WorkedPaths.{treeIn}
 use Rattle.union.proofs.WorkedUnions.{union}
 use Rattle.refiner.proofs.WorkedTrees.{refinedOf as worked}
-use Rattle.refined.specs.Edges.{edgesFrom}
+use Rattle.tree.specs.Edges.{edgesFrom}
 use Rattle.refined.proofs.WorkedWires.{given as wired-given}
 use Rattle.router.specs.Graph.{netVertices, netEdges, graphRoomShort, graphGiven, graphed}
 use Rattle.router.specs.Room.{ifRoom}

@@ -24,7 +24,7 @@ use Rattle.graph.proofs.WorkedGraphs.{graphOf}
 use Rattle.terminal.proofs.WorkedPaths.{treeIn}
 use Rattle.union.proofs.WorkedUnions.{union}
 use Rattle.refiner.proofs.WorkedTrees.{refinedOf}
-use Rattle.refined.specs.Edges.{edgesFrom}
+use Rattle.tree.specs.Edges.{edgesFrom}
 use Rattle.rules.specs.Edges.{Edge}
 use Rattle.rules.specs.Spanning.{Spanning}
 use Rattle.rules.specs.Terminal.{Path, givenFor}
