@@ -43,8 +43,8 @@ small-reached keys el e n s t s′ t′ q h i =
 
 pub found-is : (w : Weights) (ms : List Macro) (pts : List ℤ) (n : ℕ) (ks : List ℕ) (e : ℕ) (el s t : List ℕ) (r : Best)
     → el ≡ turns (measure w pts ks) 0 e (replicate pointBound 0)
-    → reach s t ≡ reached ks el e n (reach (set (replicate pointBound 0) 0 1) (replicate pairBound noEdge)) → r ≡ search w pts n ms ks e el t
-    → r ≡ found w ms pts n ks e
+    → reach s t ≡ reached ks el e n (reach (set (replicate pointBound 0) 0 1) (replicate pairBound noEdge))
+    → r ≡ search w pts n ms ks e el t → r ≡ found w ms pts n ks e
 unfolding found costs longest start
 found-is w ms pts n ks e el s t r p q h = h ∙ ap (λ (v : List ℕ). search w pts n ms ks e el v) (ap (λ (v : Reach). v .top) q)
     ∙ ap (λ (v : List ℕ). search w pts n ms ks e v (reached ks v e n

@@ -132,8 +132,8 @@ within-after c pts qts n m ks ls e f q l h w =
     rw (ap (λ (t : Tree). t .count) q, ap (λ (t : Tree). t .edges .keys) q) (within-exchange c pts n ks e l h w)
 
 -- past the edges no cost stands
-pub measured-past : (w : Weights) (pts : List ℤ) (ks : List ℕ) (j c i : ℕ) (el : List ℕ) → i + c ≤ j → getD (turns (measure w pts ks) i c el) j 0
-    ≡ getD el j 0
+pub measured-past : (w : Weights) (pts : List ℤ) (ks : List ℕ) (j c i : ℕ) (el : List ℕ) → i + c ≤ j
+    → getD (turns (measure w pts ks) i c el) j 0 ≡ getD el j 0
 unfolding turns measure
 measured-past w pts ks j zero i el h = refl
 measured-past w pts ks j (suc c) i el h = measured-past w pts ks j c (suc i) _ (omega arith) ∙ past el i j _ (omega arith)
@@ -147,8 +147,11 @@ cut-in : (w : Weights) (pts : List ℤ) (ks : List ℕ) (e l : ℕ) → 0 < getD
 unfolding costs
 cut-in w pts ks e l h =
     by (ltb l e) (λ t. ltb-true l e t)
-    (λ t. absurd (let g : e ≤ l = ltb-false l e t in let z : getD (turns (measure w pts ks) 0 e
-    (replicate pointBound 0)) l 0 ≡ 0 = measured-past w pts ks l e 0 _ (omega arith) ∙ zeros-at pointBound l in let y : ⊥ = omega arith in y))
+    (λ t. absurd (
+    let g : e ≤ l = ltb-false l e t in
+    let z : getD (turns (measure w pts ks) 0 e (replicate pointBound 0)) l 0 ≡ 0
+    = measured-past w pts ks l e 0 _ (omega arith) ∙ zeros-at pointBound l in
+    let y : ⊥ = omega arith in y))
 
 pub fine-found : (w : Weights) (ms : List Macro) (pts : List ℤ) (n : ℕ) (ks : List ℕ) (e : ℕ) (c : Best) → c ≡ found w ms pts n ks e
     → (c .gain ≡ 0 → ⊥) → ((c .edge < e) × (c .cut < e)) × ((c .cut ≡ c .edge → ⊥) × (c .point < n))

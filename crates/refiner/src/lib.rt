@@ -18,9 +18,36 @@ ghost use Rattle.net.specs.Pins.{pinCount, pinPlaces};
 ghost use Rattle.net.specs.Net.{netWith};
 ghost use Rattle.refiner.specs.Turns.{turns, seek};
 ghost use Rattle.tree.specs.Table.{pointBound, pairBound, key, row, tree, Small, Low, Within};
-ghost use Rattle.refiner.specs.Longest.{edgeCost, measure, wins, longer, shorter, spread, spreads, reach, attach, pass, reached, cutOf};
+ghost use Rattle.refiner.specs.Longest.{
+  edgeCost,
+  measure,
+  wins,
+  longer,
+  shorter,
+  spread,
+  spreads,
+  reach,
+  attach,
+  pass,
+  reached,
+  cutOf,
+};
 ghost use Rattle.refiner.specs.Candidate.{sees, taken, dropped, allowed, weighed, offer, offers, search, found};
-ghost use Rattle.refiner.specs.Exchange.{closed, dropTwo, later, rank, stands, opened, bump, bumpAt, carrying, lay, lay3, laidAt, exchange};
+ghost use Rattle.refiner.specs.Exchange.{
+  closed,
+  dropTwo,
+  later,
+  rank,
+  stands,
+  opened,
+  bump,
+  bumpAt,
+  carrying,
+  lay,
+  lay3,
+  laidAt,
+  exchange,
+};
 ghost use Rattle.refiner.specs.Prune.{countEnds, loose, looseEdge, firstLoose, mark, prune};
 ghost use Rattle.refiner.specs.Refined.{rounds, pruned, total, Answer};
 
