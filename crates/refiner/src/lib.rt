@@ -44,7 +44,8 @@ ghost use Rattle.refiner.specs.Exchange.{
   bumpAt,
   carrying,
   lay,
-  lay3,
+  lays,
+  star,
   laidAt,
   exchange,
 };
@@ -595,7 +596,7 @@ fn lay(keys: &mut [usize; POINTS], e: usize, p: usize, a: usize) -> usize
 
 fn lay_three(keys: &mut [usize; POINTS], e: usize, p: usize, a: usize, b: usize, u: usize) -> usize
     requires { ⌜ (e + 2 < pointBound) × (((p ≤ pointBound) × (a ≤ pointBound)) × ((b ≤ pointBound) × (u ≤ pointBound))) ⌝ }
-    ensures { λ r. ⌜ (row (now (keys .exit)) r ≡ lay3 p a b u (row (now (keys .entry)) e)) × (r ≤ e + 3) ⌝ }
+    ensures { λ r. ⌜ (row (now (keys .exit)) r ≡ lays (star p a b u) (row (now (keys .entry)) e)) × (r ≤ e + 3) ⌝ }
 {
     let f = lay(&mut *keys, e, p, a);
     let g = lay(&mut *keys, f, p, b);
