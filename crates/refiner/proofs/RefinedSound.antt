@@ -81,10 +81,8 @@ refined-promise net t sound few room rooms =
     let k = rounds-kept net (length (net .pins)) t sound few room rooms in
     let pin = marks (net .pins) (r .points) (r .count) in
     let least : r .count ≤ pointBound = omega (arith, k .points) in
-    let whole = prune-whole (r .points) (r .count) (k .sound .ordered) least (net .pins) pin (unmarked (net .pins) (r .points) (r .count) least)
-    (r .edges .size)
-    (r .edges .keys)
-    (k .sound .within) (held r (k .sound)) in
+    let whole = prune-whole (r .points) (r .count) (k .sound .ordered) least (net .pins) pin
+    (unmarked (net .pins) (r .points) (r .count) least) (r .edges .size) (r .edges .keys) (k .sound .within) (held r (k .sound)) in
     record {
       one = tree-one same-place (whole .tree) (whole .inside) (net .pins) (whole .pinned);
       free =

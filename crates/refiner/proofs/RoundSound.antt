@@ -16,15 +16,15 @@ use Rattle.plane.specs.Flat.{placeAt}
 use Rattle.net.specs.Net.{Net}
 use Rattle.refiner.specs.declared.Best.{Best}
 use Rattle.refiner.specs.Turns.{turns}
-use Rattle.tree.specs.Table.{pointBound, firstEnd, secondEnd, Row, row, Tree, tree}
+use Rattle.tree.specs.Table.{pointBound, firstEnd, secondEnd, row, Tree, tree}
 use Rattle.refiner.specs.Longest.{edgeCost, costs, longest}
 use Rattle.refiner.specs.Candidate.{middleOf, found}
-use Rattle.refiner.specs.Exchange.{dropTwo, rank, stands, bump, bumpAt, lay, lay3, laidAt, exchange}
+use Rattle.refiner.specs.Exchange.{dropTwo, rank, stands, bump, bumpAt, star, laidAt, exchange}
 use Rattle.refiner.specs.Refined.{rounds, addCost, total}
 use Rattle.tree.specs.Sum.{below, over}
 use Rattle.tree.specs.Places.{keyCost, totalOf, Ranked, Sound}
 use Rattle.refiner.specs.Taken.{Taken}
-use Rattle.refiner.proofs.ExchangeSums.{length-lay, length-bumps, length-dropped}
+use Rattle.refiner.proofs.ExchangeSums.{length-lays, length-bumps, length-dropped}
 use Rattle.refiner.proofs.OpenedLaws.{opened-length}
 use Rattle.tree.proofs.ListingLaws.{listing-length}
 use Rattle.refiner.proofs.WithinLaws.{rank-le, within-dropped}
@@ -44,10 +44,6 @@ pub record Kept (net : Net) (t r : Tree) (m : ℕ) : Type 0 where
 
 -- The size of the tables
 
-length-lay3 : (p a b u : ℕ) (r : Row) → length (lay3 p a b u r .keys) ≡ length (r .keys)
-unfolding lay3
-length-lay3 p a b u r = length-lay p u (lay p b (lay p a r)) ∙ length-lay p b (lay p a r) ∙ length-lay p a r
-
 module _ (pts : List ℤ) (n : ℕ) (ks : List ℕ) (e p a b u : ℕ) (s : Place) where
   laid-count : laidAt pts n ks e p a b u s .count ≤ n + 1
   unfolding laidAt
@@ -60,8 +56,10 @@ module _ (pts : List ℤ) (n : ℕ) (ks : List ℕ) (e p a b u : ℕ) (s : Place
   laid-rows : length (laidAt pts n ks e p a b u s .edges .keys) ≡ length ks
   unfolding laidAt
   laid-rows =
-      by (stands pts n p s) (λ t. rw (laidAt, t) (length-lay3 p a b u (row ks e)))
-      (λ t. rw (laidAt, t) (length-lay3 p (bump p a) (bump p b) (bump p u) (row (turns (bumpAt p) 0 e ks) e) ∙ length-bumps p e ks))
+      by (stands pts n p s) (λ t. rw (laidAt, t) (length-lays (star p a b u) (row ks e)))
+      (λ t.
+      rw (laidAt, t)
+      (length-lays (star p (bump p a) (bump p b) (bump p u)) (row (turns (bumpAt p) 0 e ks) e) ∙ length-bumps p e ks))
 
 -- One round
 

@@ -21,7 +21,7 @@
 --              found                       the same from the tables of a tree
 --   Exchange   closed, dropTwo             edges taken out
 --              rank, opened, bump          where s belongs; the points with s put in; numbers moved on
---              lay, lay3, laidAt           edges laid, except any of length zero
+--              lay, lays, star, laidAt     edges laid, except any of length zero; those from s
 --              exchange                    what a round does with its candidate
 --   Prune      marks                       which points are pins
 --              loose, prune                no pin and a single edge; what is left when all such points are gone

@@ -18,9 +18,37 @@ ghost use Rattle.net.specs.Pins.{pinCount, pinPlaces};
 ghost use Rattle.net.specs.Net.{netWith};
 ghost use Rattle.refiner.specs.Turns.{turns, seek};
 ghost use Rattle.tree.specs.Table.{pointBound, pairBound, key, row, tree, Small, Low, Within};
-ghost use Rattle.refiner.specs.Longest.{edgeCost, measure, wins, longer, shorter, spread, spreads, reach, attach, pass, reached, cutOf};
+ghost use Rattle.refiner.specs.Longest.{
+  edgeCost,
+  measure,
+  wins,
+  longer,
+  shorter,
+  spread,
+  spreads,
+  reach,
+  attach,
+  pass,
+  reached,
+  cutOf,
+};
 ghost use Rattle.refiner.specs.Candidate.{sees, taken, dropped, allowed, weighed, offer, offers, search, found};
-ghost use Rattle.refiner.specs.Exchange.{closed, dropTwo, later, rank, stands, opened, bump, bumpAt, carrying, lay, lay3, laidAt, exchange};
+ghost use Rattle.refiner.specs.Exchange.{
+  closed,
+  dropTwo,
+  later,
+  rank,
+  stands,
+  opened,
+  bump,
+  bumpAt,
+  carrying,
+  lay,
+  lays,
+  star,
+  laidAt,
+  exchange,
+};
 ghost use Rattle.refiner.specs.Prune.{countEnds, loose, looseEdge, firstLoose, mark, prune};
 ghost use Rattle.refiner.specs.Refined.{rounds, pruned, total, Answer};
 
@@ -568,7 +596,7 @@ fn lay(keys: &mut [usize; POINTS], e: usize, p: usize, a: usize) -> usize
 
 fn lay_three(keys: &mut [usize; POINTS], e: usize, p: usize, a: usize, b: usize, u: usize) -> usize
     requires { ⌜ (e + 2 < pointBound) × (((p ≤ pointBound) × (a ≤ pointBound)) × ((b ≤ pointBound) × (u ≤ pointBound))) ⌝ }
-    ensures { λ r. ⌜ (row (now (keys .exit)) r ≡ lay3 p a b u (row (now (keys .entry)) e)) × (r ≤ e + 3) ⌝ }
+    ensures { λ r. ⌜ (row (now (keys .exit)) r ≡ lays (star p a b u) (row (now (keys .entry)) e)) × (r ≤ e + 3) ⌝ }
 {
     let f = lay(&mut *keys, e, p, a);
     let g = lay(&mut *keys, f, p, b);

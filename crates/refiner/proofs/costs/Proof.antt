@@ -35,7 +35,10 @@ loop-less : tie.Need-loop-less Inv-loop μ-loop
 loop-less c = omega arith
 
 loop-again : tie.Need-loop-again Inv-loop μ-loop
-loop-again c = (omega arith, turns-next _ _ _ _ _ _ (c .before .before .loop .inv .1) (omega arith) (measure-is _ _ _ _ _ _ (c .edge-cost .ensures .0)))
+loop-again c = (
+  omega arith,
+  turns-next _ _ _ _ _ _ (c .before .before .loop .inv .1) (omega arith) (measure-is _ _ _ _ _ _ (c .edge-cost .ensures .0)),
+)
 
 returns : tie.Need-returns Inv-loop μ-loop
 returns c = turns-end _ _ _ _ _ (c .before .loop .inv .1) (omega arith)

@@ -23,7 +23,10 @@ cost-requires : tie.Need-cost-requires
 cost-requires c κs = search needs
 
 returns : tie.Need-returns
-returns c = (cost-is _ _ _ _ _ _ _ (c .before .before .point-at .ensures) (c .before .point-at2 .ensures) (c .cost .ensures .0), c .cost .ensures .1)
+returns c = (
+  cost-is _ _ _ _ _ _ _ (c .before .before .point-at .ensures) (c .before .point-at2 .ensures) (c .cost .ensures .0),
+  c .cost .ensures .1,
+)
 
 pub edge-cost-spec : {M : Type 1} → statement M
 edge-cost-spec =

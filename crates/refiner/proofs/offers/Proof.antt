@@ -11,8 +11,9 @@ use Rattle.refiner.proofs.offers.Statement.{statement}
 use Rattle.refiner.proofs.offers.Tie as tie
 
 abbrev Inv-loop : tie.InvT-loop
-Inv-loop w pts n macros keys el top k a b found₀ u₀ found u = (u ≤ n) × (turns (offer w pts n (macrosOf macros) el top a b k) u (n - u) found ≡ turns
-    (offer w pts n (macrosOf macros) el top a b k) 0 n found₀)
+Inv-loop w pts n macros keys el top k a b found₀ u₀ found u =
+    (u ≤ n) × (turns (offer w pts n (macrosOf macros) el top a b k) u (n - u) found
+    ≡ turns (offer w pts n (macrosOf macros) el top a b k) 0 n found₀)
 
 abbrev μ-loop : tie.MeasureT-loop
 μ-loop w pts n macros keys el top k a b found₀ u₀ found u = n - u

@@ -11,8 +11,9 @@ use Rattle.refiner.proofs.search.Statement.{statement}
 use Rattle.refiner.proofs.search.Tie as tie
 
 abbrev Inv-loop : tie.InvT-loop
-Inv-loop w pts n macros keys e el top found₀ k₀ found k = (k ≤ e) × (turns (offers w pts n (macrosOf macros) keys el top) k (e - k) found ≡ turns
-    (offers w pts n (macrosOf macros) keys el top) 0 e (best 0 0 0 0))
+Inv-loop w pts n macros keys e el top found₀ k₀ found k =
+    (k ≤ e) × (turns (offers w pts n (macrosOf macros) keys el top) k (e - k) found
+    ≡ turns (offers w pts n (macrosOf macros) keys el top) 0 e (best 0 0 0 0))
 
 abbrev μ-loop : tie.MeasureT-loop
 μ-loop w pts n macros keys e el top found₀ k₀ found k = e - k

@@ -25,10 +25,11 @@ cost-requires c κs = search needs
 
 -- the places and the cost by their names
 spots : (c : tie.After-cost)
-    → Spots (c .before .before .before .before .before .args .w) (now (c .before .before .before .before .before .args .pts)) (c .before .before .before .before .before .args .a)
-    (c .before .before .before .before .before .args .b) (c .before .before .before .before .before .args .u)
-    (c .before .before .before .point-at2 .result) (c .before .before .point-at3 .result) (c .before .before .before .before .point-at .result)
-    (c .before .middle-place .result) (c .cost .result)
+    → Spots (c .before .before .before .before .before .args .w) (now (c .before .before .before .before .before .args .pts))
+    (c .before .before .before .before .before .args .a) (c .before .before .before .before .before .args .b)
+    (c .before .before .before .before .before .args .u)
+    (c .before .before .before .point-at2 .result) (c .before .before .point-at3 .result)
+    (c .before .before .before .before .point-at .result) (c .before .middle-place .result) (c .cost .result)
 spots c =
     let m = c .before in
     record {
