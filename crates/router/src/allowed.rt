@@ -25,7 +25,13 @@ ghost use Rattle.router.specs.Refined.{refinedGiven, wiresGiven};
 ghost use Rattle.router.specs.Call.{GraphCall, TerminalCall, RefinedCall, WiresCall};
 
 // The graph.
-pub fn graph(net: Net, pins: &[i32], macros: &[i32], vertices: &mut [i32], edges: &mut [i32]) -> Graphed
+pub fn graph(
+    net: Net,
+    pins: &[i32],
+    macros: &[i32],
+    vertices: &mut [i32],
+    edges: &mut [i32],
+) -> Graphed
     requires { ⌜ net ≡ countsOf (now pins) (now macros) ⌝ }
     requires { ⌜ Allowed (netOf (now pins) (now macros)) ⌝ }
     ensures { λ r. ⌜ GraphCall graphGiven (now (pins .entry)) (now (macros .entry)) (now (vertices .entry)) (now (edges .entry)) r

@@ -42,7 +42,7 @@ module _ {net : Net} (a : Allowed net) where
       }
 
 -- So the trees of two nets that have the same pins, macros and weights are the same.
-module _ {w : Weights} {ps qs : List Place} {ms ns : List Macro} (h : SameNet ps qs ms ns)
+module _ {w : Weights} {ps qs : List Place} {ms ns : List Macro} (h : SameNet w ps qs ms ns)
     (a : Allowed (netBy w ps ms)) (b : Allowed (netBy w qs ns)) where
   pub trees-same : Equal (verticesOf (netBy w ps ms)) (verticesOf (netBy w qs ns)) (spanning (netBy w ps ms)) (spanning (netBy w qs ns))
       (ourPaths a) (ourPaths b) (ours a) (ours b)
