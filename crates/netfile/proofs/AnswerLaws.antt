@@ -93,15 +93,17 @@ module _ (bytes : List ℕ) (pins macros : List ℤ) where
   laid-allowed net e = sym (laid-out (laid-same net e)) ∙ e
 
 -- the lists of an accepted file fit where the largest net does
-pub lists-fit : (bytes : List ℕ) (p q : ℕ) (net : Counts) → laidOut bytes (pinsIn bytes) (macrosIn bytes) ≡ given net → roomShort p q ≡ false
-    → (pinLength bytes ≤ p) × (macroLength bytes ≤ q)
+pub lists-fit : (bytes : List ℕ) (p q : ℕ) (net : Counts) → laidOut bytes (pinsIn bytes) (macrosIn bytes) ≡ given net
+    → roomShort p q ≡ false → (pinLength bytes ≤ p) × (macroLength bytes ≤ q)
 lists-fit bytes p q net e f =
     let a = passed-all (pinsIn bytes) (macrosIn bytes) net
     (laid-allowed bytes (pinsIn bytes) (macrosIn bytes) net e) .past .past .past .past .past .past in
     let m = pins-counted (pinsIn bytes) (a .past .passed) in
     let k = macros-counted (macrosIn bytes) (a .passed) in
-    let r = room-enough p q f in
-    (omega (arith, pin-numbers (pinsIn bytes) (m .whole), m .few, length-pins-in bytes, r .0), omega (arith, k .few, length-macros-in bytes, r .1))
+    let r = room-enough p q f in (
+      omega (arith, pin-numbers (pinsIn bytes) (m .whole), m .few, length-pins-in bytes, r .0),
+      omega (arith, k .few, length-macros-in bytes, r .1),
+    )
 
 module _ (bytes : List ℕ) (p q : ℕ) where
   pub refuse-21 : roomShort p q ≡ true → readFile bytes p q ≡ refused 21

@@ -87,8 +87,10 @@ module _ (pins macros : List ℤ) (lists : Storable pins macros) where
   small-head : Small (headBlock (pinCount pins) (macroCount macros))
   unfolding headBlock
   small-head =
-      small-block headKind 0 0 _ (omega arith) (omega arith) (omega arith)
-      (omega (arith, pins-few _ _ (lists .blocks), pin-numbers pins (lists .whole-pins)), (omega (arith, macros-few _ _ (lists .blocks)), tt))
+      small-block headKind 0 0 _ (omega arith) (omega arith) (omega arith) (
+        omega (arith, pins-few _ _ (lists .blocks), pin-numbers pins (lists .whole-pins)),
+        (omega (arith, macros-few _ _ (lists .blocks)), tt),
+      )
 
   small-file : Small (fileWords pins macros)
   unfolding fileWords
