@@ -12,7 +12,9 @@ use Rattle.lists.proofs.TestLaws.{by, or-none}
 use Rattle.lent.specs.Told.{Told, refused, given}
 use Rattle.lent.specs.Over.{after}
 use Rattle.lent.proofs.AfterLaws.{after-refused, told-apart}
+use Rattle.net.specs.declared.Net.{Net as Counts}
 use Rattle.net.specs.Check.{checked}
+use Rattle.net.proofs.PinLaws.{pin-numbers}
 use Rattle.net.proofs.PassedLaws.{passed-all, pins-counted, macros-counted}
 use Rattle.netfile.specs.Sizes.{blockBytes, pinListBound, macroListBound, blocksFor, fileBlocks}
 use Rattle.netfile.specs.Layout.{fileBytes}
@@ -84,22 +86,24 @@ module _ (bytes : List ℕ) (pins macros : List ℤ) where
   laid-wrong e = rw e refl
 
   -- an accepted file is the one that the layout makes of its lists, and these are allowed
-  pub laid-same : (net : ℕ × ℕ) → laidOut bytes pins macros ≡ given net → sameNumbers bytes (fileBytes pins macros) ≡ true
+  pub laid-same : (net : Counts) → laidOut bytes pins macros ≡ given net → sameNumbers bytes (fileBytes pins macros) ≡ true
   laid-same net e = by (sameNumbers bytes (fileBytes pins macros)) (λ h. h) (λ h. told-apart 3 net (sym (laid-wrong h) ∙ e))
 
-  pub laid-allowed : (net : ℕ × ℕ) → laidOut bytes pins macros ≡ given net → checked pins macros ≡ given net
+  pub laid-allowed : (net : Counts) → laidOut bytes pins macros ≡ given net → checked pins macros ≡ given net
   laid-allowed net e = sym (laid-out (laid-same net e)) ∙ e
 
 -- the lists of an accepted file fit where the largest net does
-pub lists-fit : (bytes : List ℕ) (p q : ℕ) (net : ℕ × ℕ) → laidOut bytes (pinsIn bytes) (macrosIn bytes) ≡ given net → roomShort p q ≡ false
-    → (pinLength bytes ≤ p) × (macroLength bytes ≤ q)
+pub lists-fit : (bytes : List ℕ) (p q : ℕ) (net : Counts) → laidOut bytes (pinsIn bytes) (macrosIn bytes) ≡ given net
+    → roomShort p q ≡ false → (pinLength bytes ≤ p) × (macroLength bytes ≤ q)
 lists-fit bytes p q net e f =
     let a = passed-all (pinsIn bytes) (macrosIn bytes) net
     (laid-allowed bytes (pinsIn bytes) (macrosIn bytes) net e) .past .past .past .past .past .past in
     let m = pins-counted (pinsIn bytes) (a .past .passed) in
     let k = macros-counted (macrosIn bytes) (a .passed) in
-    let r = room-enough p q f in
-    (omega (arith, m .few, length-pins-in bytes, r .0), omega (arith, k .few, length-macros-in bytes, r .1))
+    let r = room-enough p q f in (
+      omega (arith, pin-numbers (pinsIn bytes) (m .whole), m .few, length-pins-in bytes, r .0),
+      omega (arith, k .few, length-macros-in bytes, r .1),
+    )
 
 module _ (bytes : List ℕ) (p q : ℕ) where
   pub refuse-21 : roomShort p q ≡ true → readFile bytes p q ≡ refused 21
@@ -125,6 +129,6 @@ module _ (bytes : List ℕ) (p q : ℕ) where
   read-on r b s e = rw (r, b, s, e) refl
 
 -- a refusal's number, and both lent lists as they were
-pub unaltered : (t : Told (ℕ × ℕ)) (ps ms p q : List ℤ) (n : ℕ) → t ≡ refused n → (refused n ≡ t)
+pub unaltered : (t : Told Counts) (ps ms p q : List ℤ) (n : ℕ) → t ≡ refused n → (refused n ≡ t)
     × ((p ≡ after t ps p) × (q ≡ after t ms q))
 unaltered t ps ms p q n e = (sym e, (after-refused t ps p n e, after-refused t ms q n e))

@@ -10,9 +10,10 @@ use lib.ListN.{length, take, drop, replicate, length-append, length-map, length-
 use lib.Seq.{drop-drop, sets, sets-eq}
 use Rattle.lent.specs.Over.{over}
 use Rattle.lent.proofs.OverLaws.{length-over}
-use Rattle.net.specs.Check.{pinCount, macroCount}
-use Rattle.netfile.specs.Sizes.{blockWords, blockBytes, summedWords, perBlock, headKind, pinKind, macroKind, pinNumbers}
-use Rattle.netfile.specs.Sizes.{macroNumbers, blocksFor, blockCount}
+use Rattle.net.specs.Bounds.{pinWidth, macroWidth}
+use Rattle.net.specs.Pins.{pinCount, macroCount}
+use Rattle.netfile.specs.Sizes.{blockWords, blockBytes, summedWords, perBlock, headKind, pinKind, macroKind}
+use Rattle.netfile.specs.Sizes.{blocksFor, blockCount}
 use Rattle.netfile.specs.Words.{wordOf, bytesOf}
 use Rattle.netfile.specs.Sums.{sealed}
 use Rattle.netfile.specs.Layout.{block, headBlock, listBlock, listBlocks, pinBlocks, macroBlocks, fileWords, fileBytes}
@@ -54,8 +55,8 @@ length-list-blocks kind w number (suc n) numbers =
 pub length-words : (pins macros : List ℤ) → length (fileWords pins macros) ≡ blockCount (length pins) (length macros) * blockWords
 unfolding fileWords
 length-words pins macros =
-    let e = length-list-blocks pinKind pinNumbers 1 (blocksFor (length pins)) pins in
-    let f = length-list-blocks macroKind macroNumbers (1 + blocksFor (length pins)) (blocksFor (length macros)) macros in
+    let e = length-list-blocks pinKind pinWidth 1 (blocksFor (length pins)) pins in
+    let f = length-list-blocks macroKind macroWidth (1 + blocksFor (length pins)) (blocksFor (length macros)) macros in
     length-append (headBlock _ _) _
     ∙ omega (arith, length-head (pinCount pins) (macroCount macros), length-append (pinBlocks pins) (macroBlocks pins macros), e, f)
 
@@ -121,7 +122,7 @@ file-laid l pins macros h =
     let q = macroBlocks pins macros in
     let k = (1 + blocksFor (length pins)) * blockBytes in
     let e : length b ≡ blockWords = length-head (pinCount pins) (macroCount macros) in
-    let g = length-list-blocks pinKind pinNumbers 1 (blocksFor (length pins)) pins in
+    let g = length-list-blocks pinKind pinWidth 1 (blocksFor (length pins)) pins in
     let f : length (b ++ p) * 4 ≡ k = omega (arith, length-append b p, g) in
     ap (λ (s : List ℕ). sets s k (bytesOf q)) (words-after l b p 0 blockBytes (omega arith))
     ∙ ap (λ (i : ℕ). sets (sets l 0 (bytesOf (b ++ p))) i (bytesOf q)) (sym (zero-add k))

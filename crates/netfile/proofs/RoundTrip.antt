@@ -20,11 +20,14 @@ use Rattle.signed.proofs.SideLaws.{signed, one-side, to-sfits}
 use Rattle.lent.specs.Over.{over}
 use Rattle.lent.specs.Told.{given}
 use Rattle.lent.proofs.AfterLaws.{told-apart}
-use Rattle.net.specs.Bounds.{coordinateBound}
-use Rattle.net.specs.Check.{pinCount, macroCount, outOfRange, checked}
+use Rattle.net.specs.declared.Net.{Net as Counts}
+use Rattle.net.specs.Bounds.{coordinateBound, pinWidth, macroWidth}
+use Rattle.net.specs.Pins.{pinCount, macroCount}
+use Rattle.net.specs.Check.{outOfRange, checked}
+use Rattle.net.proofs.PinLaws.{pin-numbers, macro-numbers}
 use Rattle.net.proofs.PassedLaws.{passed-all}
-use Rattle.netfile.specs.Sizes.{blockWords, blockBytes, pinCountWord, macroCountWord, headKind, pinKind, macroKind, pinNumbers}
-use Rattle.netfile.specs.Sizes.{macroNumbers, blocksFor, blockCount, fileBlocks, fileBound}
+use Rattle.netfile.specs.Sizes.{blockWords, blockBytes, pinCountWord, macroCountWord, headKind, pinKind, macroKind}
+use Rattle.netfile.specs.Sizes.{blocksFor, blockCount, fileBlocks, fileBound}
 use Rattle.netfile.specs.Words.{wordsOf}
 use Rattle.netfile.specs.Sums.{sealed, wrongSums}
 use Rattle.netfile.specs.Layout.{block, headBlock, pinBlocks, macroBlocks, fileWords, fileBytes}
@@ -61,13 +64,13 @@ no-blocks = refl
 
 -- lists of whole entries that the longest file holds, of numbers that 32 bits hold; every allowed net is one
 pub record Storable (pins macros : List ℤ) : Type 0 where
-  pub whole-pins : length pins % pinNumbers ≡ 0
-  pub whole-macros : length macros % macroNumbers ≡ 0
+  pub whole-pins : length pins % pinWidth ≡ 0
+  pub whole-macros : length macros % macroWidth ≡ 0
   pub pins-fit : Fit pins
   pub macros-fit : Fit macros
   pub blocks : blockCount (length pins) (length macros) ≤ fileBlocks
 
-pub allowed-storable : (pins macros : List ℤ) (net : ℕ × ℕ) → checked pins macros ≡ given net → Storable pins macros
+pub allowed-storable : (pins macros : List ℤ) (net : Counts) → checked pins macros ≡ given net → Storable pins macros
 allowed-storable pins macros net e =
     let a = passed-all pins macros net e .past .past .past .past in
     record {
@@ -84,16 +87,18 @@ module _ (pins macros : List ℤ) (lists : Storable pins macros) where
   small-head : Small (headBlock (pinCount pins) (macroCount macros))
   unfolding headBlock
   small-head =
-      small-block headKind 0 0 _ (omega arith) (omega arith) (omega arith)
-      (omega (arith, pins-few _ _ (lists .blocks)), (omega (arith, macros-few _ _ (lists .blocks)), tt))
+      small-block headKind 0 0 _ (omega arith) (omega arith) (omega arith) (
+        omega (arith, pins-few _ _ (lists .blocks), pin-numbers pins (lists .whole-pins)),
+        (omega (arith, macros-few _ _ (lists .blocks)), tt),
+      )
 
   small-file : Small (fileWords pins macros)
   unfolding fileWords
   small-file =
       small-append (headBlock _ _) _ small-head
       (small-append (pinBlocks pins) _
-      (small-list-blocks pinKind pinNumbers 1 (blocksFor (length pins)) pins (omega arith) (omega (arith, lists .blocks)) (lists .pins-fit))
-      (small-list-blocks macroKind macroNumbers (1 + blocksFor (length pins)) (blocksFor (length macros)) macros (omega arith)
+      (small-list-blocks pinKind pinWidth 1 (blocksFor (length pins)) pins (omega arith) (omega (arith, lists .blocks)) (lists .pins-fit))
+      (small-list-blocks macroKind macroWidth (1 + blocksFor (length pins)) (blocksFor (length macros)) macros (omega arith)
       (omega (arith, lists .blocks))
       (lists .macros-fit)))
 
@@ -109,17 +114,17 @@ module _ (pins macros : List ℤ) (lists : Storable pins macros) where
   unfolding headCount fileWords headBlock block sealed over
   macro-count-read = ap (λ (ws : List ℕ). getD ws macroCountWord 0) words-read
 
-  pin-numbers : pinLength (fileBytes pins macros) ≡ length pins
-  pin-numbers = omega (arith, pin-count-read, lists .whole-pins)
+  pin-length-read : pinLength (fileBytes pins macros) ≡ length pins
+  pin-length-read = ap (λ (n : ℕ). n * pinWidth) pin-count-read ∙ pin-numbers pins (lists .whole-pins)
 
-  macro-numbers : macroLength (fileBytes pins macros) ≡ length macros
-  macro-numbers = omega (arith, macro-count-read, lists .whole-macros)
+  macro-length-read : macroLength (fileBytes pins macros) ≡ length macros
+  macro-length-read = ap (λ (n : ℕ). n * macroWidth) macro-count-read ∙ macro-numbers macros (lists .whole-macros)
 
   pins-read : pinsIn (fileBytes pins macros) ≡ pins
   unfolding pinsIn fileWords
   pins-read =
-      ap (numbersIn (fileBytes pins macros) 1 0) pin-numbers
-      ∙ list-read (fileBytes pins macros) (headBlock (pinCount pins) (macroCount macros)) _ pinKind pinNumbers 1 1 (blocksFor (length pins))
+      ap (numbersIn (fileBytes pins macros) 1 0) pin-length-read
+      ∙ list-read (fileBytes pins macros) (headBlock (pinCount pins) (macroCount macros)) _ pinKind pinWidth 1 1 (blocksFor (length pins))
       pins words-read (length-head _ _) (enough (length pins)) (lists .pins-fit)
 
   macros-read : macrosIn (fileBytes pins macros) ≡ macros
@@ -133,10 +138,10 @@ module _ (pins macros : List ℤ) (lists : Storable pins macros) where
       words-read ∙ sym (append-assoc h p q) ∙ ap (λ (l : List ℕ). (h ++ p) ++ l) (sym (append-nil q))
       in
       let l : length (h ++ p) ≡ (1 + n) * blockWords =
-      length-append h p ∙ omega (arith, length-head (pinCount pins) (macroCount macros), length-list-blocks pinKind pinNumbers 1 n pins)
+      length-append h p ∙ omega (arith, length-head (pinCount pins) (macroCount macros), length-list-blocks pinKind pinWidth 1 n pins)
       in
-      ap₂ (λ (b k : ℕ). numbersIn (fileBytes pins macros) (1 + blocksFor b) 0 k) pin-numbers macro-numbers
-      ∙ list-read (fileBytes pins macros) (h ++ p) [] macroKind macroNumbers (1 + n) (1 + n) (blocksFor (length macros)) macros w l
+      ap₂ (λ (b k : ℕ). numbersIn (fileBytes pins macros) (1 + blocksFor b) 0 k) pin-length-read macro-length-read
+      ∙ list-read (fileBytes pins macros) (h ++ p) [] macroKind macroWidth (1 + n) (1 + n) (blocksFor (length macros)) macros w l
       (enough (length macros)) (lists .macros-fit)
 
   blocks-right : blocksMiscounted (fileBytes pins macros) ≡ false
@@ -157,9 +162,9 @@ module _ (pins macros : List ℤ) (lists : Storable pins macros) where
       let e : length (fileBytes pins macros) / blockBytes ≡ suc (n + (k + 0)) = omega (arith, length-file pins macros) in
       ap₂ (λ (i : ℕ) (ws : List ℕ). any wrongSums (blocksOf i ws)) e words-read
       ∙ pass-head (pinCount pins) (macroCount macros) (n + (k + 0)) _
-      ∙ pass-list pinKind pinNumbers 1 n (k + 0) pins q
+      ∙ pass-list pinKind pinWidth 1 n (k + 0) pins q
       ∙ ap (λ (ws : List ℕ). any wrongSums (blocksOf (k + 0) ws)) (sym (append-nil q))
-      ∙ pass-list macroKind macroNumbers (1 + n) k 0 macros []
+      ∙ pass-list macroKind macroWidth (1 + n) k 0 macros []
       ∙ no-blocks
 
   counts-right : countsWrong (fileBytes pins macros) ≡ false
@@ -167,7 +172,7 @@ module _ (pins macros : List ℤ) (lists : Storable pins macros) where
   counts-right =
       let e : length (fileBytes pins macros) / blockBytes ≡ blockCount (length pins) (length macros) = omega
       (arith, length-file pins macros) in
-      rw (pin-numbers, macro-numbers, eq-eqb _ _ e) refl
+      rw (pin-length-read, macro-length-read, eq-eqb _ _ e) refl
 
 -- Theorems
 
@@ -193,20 +198,20 @@ read-laid pins macros l =
     }
 
 -- reading what was written gives the same lists in the same order
-pub read-written : (pins macros : List ℤ) (net : ℕ × ℕ) → checked pins macros ≡ given net → ReadBack pins macros
+pub read-written : (pins macros : List ℤ) (net : Counts) → checked pins macros ≡ given net → ReadBack pins macros
 read-written pins macros net e = read-laid pins macros (allowed-storable pins macros net e)
 
 -- F16: no file is longer than the longest
-pub longest-file : (pins macros : List ℤ) (net : ℕ × ℕ) → checked pins macros ≡ given net → length (fileBytes pins macros) ≤ fileBound
+pub longest-file : (pins macros : List ℤ) (net : Counts) → checked pins macros ≡ given net → length (fileBytes pins macros) ≤ fileBound
 longest-file pins macros net e =
     omega (arith, length-file pins macros, allowed-storable pins macros net e .blocks)
 
 -- an accepted file is what the writer makes of the lists read, and these are an allowed net
-pub record Ours (bytes : List ℕ) (net : ℕ × ℕ) : Type 0 where
+pub record Ours (bytes : List ℕ) (net : Counts) : Type 0 where
   pub file : bytes ≡ fileBytes (pinsIn bytes) (macrosIn bytes)
   pub lists : checked (pinsIn bytes) (macrosIn bytes) ≡ given net
 
-pub accepted-is-ours : (bytes : List ℕ) (p q : ℕ) (net : ℕ × ℕ) → readFile bytes p q ≡ given net → Ours bytes net
+pub accepted-is-ours : (bytes : List ℕ) (p q : ℕ) (net : Counts) → readFile bytes p q ≡ given net → Ours bytes net
 accepted-is-ours bytes p q net e =
     by (roomShort p q) (λ t. told-apart 21 net (sym (refuse-21 bytes p q t) ∙ e)) (λ r.
     by (blocksMiscounted bytes) (λ t. told-apart 1 net (sym (refuse-1 bytes p q r t) ∙ e)) (λ b.
@@ -219,7 +224,7 @@ accepted-is-ours bytes p q net e =
     }))))
 
 -- two allowed nets with one file are one net
-pub same-file : (pins macros pins′ macros′ : List ℤ) (net net′ : ℕ × ℕ) → checked pins macros ≡ given net → checked pins′ macros′
+pub same-file : (pins macros pins′ macros′ : List ℤ) (net net′ : Counts) → checked pins macros ≡ given net → checked pins′ macros′
     ≡ given net′
     → fileBytes pins macros ≡ fileBytes pins′ macros′ → (pins ≡ pins′) × (macros ≡ macros′)
 same-file pins macros pins′ macros′ net net′ e e′ f =

@@ -7,6 +7,8 @@ use Prim.Native.Nat.{ℕ, _*_, _+_, _-_}
 use lib.ListN.{take, drop, set}
 use Rattle.lent.specs.Told.{Told, refused, given}
 use Rattle.lent.specs.Over.{over}
+use Rattle.net.specs.declared.Net.{Net as Counts}
+use Rattle.net.specs.Check.{counted}
 use Rattle.net.specs.WorkedNets.{Lists, aroundOne}
 use Rattle.net.proofs.WorkedChecks.{answer}
 use Rattle.netfile.specs.Sizes.{blockWords, blockBytes, summedWords, pinsPerBlock, macrosPerBlock, pinListBound, macroListBound}
@@ -43,14 +45,14 @@ unfoldable pub words : Lists → List ℕ
 unfolding over wordOf total runningSums plainSum sumOfSums sealed block headBlock listBlock blocksFor listBlocks fileWords
 words net = fileWords (net .pins) (net .macros)
 
-unfoldable pub readWords : List ℕ → ℕ → ℕ → Told (ℕ × ℕ)
+unfoldable pub readWords : List ℕ → ℕ → ℕ → Told Counts
 unfolding answer over wordsOf bytesOfWord bytesOf wordOf coordinate total runningSums plainSum sumOfSums sealed wrongSums block headBlock
     listBlock blocksFor listBlocks fileWords fileBytes blocksMiscounted blocksOf sumsWrong headCount numberIn numbersIn pinsIn macrosIn
     sameNumbers countsWrong laidOut roomShort readFile
 readWords ws p q = readFile (bytesOf ws) p q
 
 -- the answer of a read into room for the largest net
-abbrev readAll : List ℕ → Told (ℕ × ℕ)
+abbrev readAll : List ℕ → Told Counts
 readAll ws = readWords ws pinListBound macroListBound
 
 -- the first eight words of the block b, and its two sums
@@ -66,9 +68,9 @@ pub record Table : Type 0 where
   pub head : shown (words aroundOne) 0 ≡ 1 ∷ (0 ∷ (0 ∷ (0 ∷ (2 ∷ (1 ∷ (0 ∷ (0 ∷ (4 ∷ (491 ∷ [])))))))))
   pub pins : shown (words aroundOne) 1 ≡ 2 ∷ (1 ∷ (2 ∷ (0 ∷ (0 ∷ (0 ∷ (10 ∷ (0 ∷ (15 ∷ (1825 ∷ [])))))))))
   pub macros : shown (words aroundOne) 2 ≡ 3 ∷ (2 ∷ (1 ∷ (0 ∷ (4 ∷ (4294967294 ∷ (6 ∷ (3 ∷ (17 ∷ (2075 ∷ [])))))))))
-  pub read : readAll (words aroundOne) ≡ given (2, 1)
+  pub read : readAll (words aroundOne) ≡ given (counted 2 1)
   -- one pin, and what is refused around it
-  pub one-pin : readAll (headBlock 1 0 ++ onePinIn 2 1 1) ≡ given (1, 0)
+  pub one-pin : readAll (headBlock 1 0 ++ onePinIn 2 1 1) ≡ given (counted 1 0)
   pub room : readWords (headBlock 1 0 ++ onePinIn 2 1 1) (pinListBound - 1) macroListBound ≡ refused 21
   pub empty : readAll [] ≡ refused 1
   pub sum : readAll (set (headBlock 1 0 ++ onePinIn 2 1 1) 254 15) ≡ refused 2

@@ -9,7 +9,9 @@ use borrow.Author.Tests.{lt-ltb, le-ltb}
 use lib.IntN.{ℤ}
 use lib.ListN.{length}
 use Rattle.lent.specs.Told.{Told, refused, given, onlyIf}
+use Rattle.net.specs.declared.Net.{Net as Counts}
 use Rattle.net.specs.Check.{checked}
+use Rattle.net.proofs.PinLaws.{pin-numbers}
 use Rattle.net.proofs.PassedLaws.{PinsCounted, MacrosCounted, passed-all, pins-counted, macros-counted}
 use Rattle.netfile.specs.Sizes.{blockCount, fileBlocks}
 use Rattle.netfile.specs.Layout.{fileBytes}
@@ -27,15 +29,15 @@ fitted-given needed room h = rw (le-ltb room needed h) refl
 module _ (pins macros : List ℤ) (room : ℕ) where
   pub written-refused : (n : ℕ) → checked pins macros ≡ refused n → written pins macros room ≡ refused n
   unfolding written onlyIf
-  written-refused n e = ap (λ (t : Told (ℕ × ℕ)). onlyIf t (fitted (length (fileBytes pins macros)) room)) e
+  written-refused n e = ap (λ (t : Told Counts). onlyIf t (fitted (length (fileBytes pins macros)) room)) e
 
-  pub written-allowed : (net : ℕ × ℕ) → checked pins macros ≡ given net → written pins macros room
+  pub written-allowed : (net : Counts) → checked pins macros ≡ given net → written pins macros room
       ≡ fitted (length (fileBytes pins macros)) room
   unfolding written onlyIf
-  written-allowed net e = ap (λ (t : Told (ℕ × ℕ)). onlyIf t (fitted (length (fileBytes pins macros)) room)) e
+  written-allowed net e = ap (λ (t : Told Counts). onlyIf t (fitted (length (fileBytes pins macros)) room)) e
 
 -- lists that passed the check, by their lengths
-module _ (pins macros : List ℤ) (net : ℕ × ℕ) (allowed : checked pins macros ≡ given net) where
+module _ (pins macros : List ℤ) (net : Counts) (allowed : checked pins macros ≡ given net) where
   pub pins-ok : PinsCounted pins
   pins-ok = pins-counted pins (passed-all pins macros net allowed .past .past .past .past .past .past .past .passed)
 
@@ -45,5 +47,5 @@ module _ (pins macros : List ℤ) (net : ℕ × ℕ) (allowed : checked pins mac
   -- F16: no allowed net takes more blocks than the longest file has
   pub allowed-blocks : blockCount (length pins) (length macros) ≤ fileBlocks
   allowed-blocks =
-      lists-in-file (length pins) (length macros) (omega (arith, pins-ok .whole, pins-ok .few))
+      lists-in-file (length pins) (length macros) (omega (arith, pin-numbers pins (pins-ok .whole), pins-ok .few))
       (omega (arith, macros-ok .whole, macros-ok .few))

@@ -4,8 +4,9 @@ use Prim.Native.Nat.{ℕ, zero, suc, _+_, _/_}
 use lib.IntN.{ℤ}
 use lib.ListN.{length, take, drop, replicate}
 use Rattle.lent.specs.Over.{over}
-use Rattle.net.specs.Check.{pinCount, macroCount}
-use Rattle.netfile.specs.Sizes.{summedWords, perBlock, headKind, pinKind, macroKind, pinNumbers, macroNumbers, blocksFor}
+use Rattle.net.specs.Bounds.{pinWidth, macroWidth}
+use Rattle.net.specs.Pins.{pinCount, macroCount}
+use Rattle.netfile.specs.Sizes.{summedWords, perBlock, headKind, pinKind, macroKind, blocksFor}
 use Rattle.netfile.specs.Words.{wordOf, bytesOf}
 use Rattle.netfile.specs.Sums.{sealed}
 
@@ -33,10 +34,10 @@ allBlocks kind w first numbers = listBlocks kind w first (blocksFor (length numb
 
 -- F2, F6, F7: pins from block 1 on, and macros behind them
 abbrev pub pinBlocks : List ℤ → List ℕ
-pinBlocks pins = allBlocks pinKind pinNumbers 1 pins
+pinBlocks pins = allBlocks pinKind pinWidth 1 pins
 
 abbrev pub macroBlocks : List ℤ → List ℤ → List ℕ
-macroBlocks pins macros = allBlocks macroKind macroNumbers (1 + blocksFor (length pins)) macros
+macroBlocks pins macros = allBlocks macroKind macroWidth (1 + blocksFor (length pins)) macros
 
 -- F13: the head, then pins, then macros
 unfoldable pub fileWords : List ℤ → List ℤ → List ℕ

@@ -12,7 +12,6 @@
 --            secondSum, firstEntry, perBlock        where the second sum stands and entries begin; the numbers of a full block
 --            pinCountWord, macroCountWord           where the head has m and k
 --            headKind, pinKind, macroKind           the kinds of blocks
---            pinNumbers, macroNumbers               the numbers of a pin and of a macro
 --            pinsPerBlock, macrosPerBlock           the entries of a full block
 --            pinListBound, macroListBound           the numbers of the longest lists
 --            blocksFor n, blockCount n k            how many blocks n numbers take, and a file of n and k

@@ -8,8 +8,10 @@ use lib.IntN.{ℤ}
 use lib.ListN.{length, take, drop, getD}
 use Rattle.lent.specs.Told.{Told, refused}
 use Rattle.lists.specs.Any.{any}
+use Rattle.net.specs.declared.Net.{Net as Counts}
+use Rattle.net.specs.Bounds.{pinWidth, macroWidth}
 use Rattle.net.specs.Check.{checked}
-use Rattle.netfile.specs.Sizes.{blockWords, blockBytes, firstEntry, pinCountWord, macroCountWord, perBlock, pinNumbers, macroNumbers}
+use Rattle.netfile.specs.Sizes.{blockWords, blockBytes, firstEntry, pinCountWord, macroCountWord, perBlock}
 use Rattle.netfile.specs.Sizes.{pinListBound, macroListBound, blocksFor, blockCount, fileBlocks, fileBound}
 use Rattle.netfile.specs.Words.{wordsOf, coordinate}
 use Rattle.netfile.specs.Sums.{wrongSums}
@@ -39,10 +41,10 @@ headCount i bytes = getD (wordsOf bytes) i 0
 
 -- F9: the lengths of the two lists, by m and k in the head
 abbrev pub pinLength : List ℕ → ℕ
-pinLength bytes = headCount pinCountWord bytes * pinNumbers
+pinLength bytes = headCount pinCountWord bytes * pinWidth
 
 abbrev pub macroLength : List ℕ → ℕ
-macroLength bytes = headCount macroCountWord bytes * macroNumbers
+macroLength bytes = headCount macroCountWord bytes * macroWidth
 
 -- F6, F14: the word of the number j among those of its list's blocks
 abbrev pub placeIn : ℕ → ℕ
@@ -81,15 +83,15 @@ pub record Sized (bytes : List ℕ) (n k : ℕ) : Type 0 where
   pub fit : length bytes ≡ blockCount n k * blockBytes
 
 -- C3: the file is not the one that the layout makes of the lists that it holds. C73: after that, the net's own refusals.
-unfoldable pub laidOut : List ℕ → List ℤ → List ℤ → Told (ℕ × ℕ)
+unfoldable pub laidOut : List ℕ → List ℤ → List ℤ → Told Counts
 laidOut bytes pins macros = cond (sameNumbers bytes (fileBytes pins macros)) (checked pins macros) (refused 3)
 
 -- C71: fewer numbers for pins or for macros than the longest lists have
 unfoldable pub roomShort : ℕ → ℕ → Bool
 roomShort pinRoom macroRoom = ltb pinRoom pinListBound || ltb macroRoom macroListBound
 
--- C71, C52: the answer of a read into `pinRoom` and `macroRoom` lent numbers, with m and k
-unfoldable pub readFile : List ℕ → ℕ → ℕ → Told (ℕ × ℕ)
+-- C71, C52: the answer of a read into `pinRoom` and `macroRoom` lent numbers, with what the check gives
+unfoldable pub readFile : List ℕ → ℕ → ℕ → Told Counts
 readFile bytes pinRoom macroRoom =
     cond (roomShort pinRoom macroRoom) (refused 21)
     (cond (blocksMiscounted bytes) (refused 1)

@@ -1,7 +1,7 @@
 -- The numbers of the net file: those that the format has of its own (F1 to F12), each named once, and those that follow from them and from
 -- the net's bounds.
 use Prim.Native.Nat.{ℕ, _+_, _*_, _-_, _/_}
-use Rattle.net.specs.Bounds.{pinBound, macroBound}
+use Rattle.net.specs.Bounds.{pinBound, macroBound, pinWidth, macroWidth}
 
 -- The format's own
 
@@ -44,28 +44,21 @@ pinKind = 2
 abbrev pub macroKind : ℕ
 macroKind = 3
 
--- N2, N3: the numbers of a pin and of a macro in a flat list
-abbrev pub pinNumbers : ℕ
-pinNumbers = 2
-
-abbrev pub macroNumbers : ℕ
-macroNumbers = 4
-
 -- What follows
 
 -- F6, F7: the entries of a full block
 abbrev pub pinsPerBlock : ℕ
-pinsPerBlock = perBlock / pinNumbers
+pinsPerBlock = perBlock / pinWidth
 
 abbrev pub macrosPerBlock : ℕ
-macrosPerBlock = perBlock / macroNumbers
+macrosPerBlock = perBlock / macroWidth
 
 -- C71: the numbers of the longest lists that a net may have
 abbrev pub pinListBound : ℕ
-pinListBound = pinBound * pinNumbers
+pinListBound = pinBound * pinWidth
 
 abbrev pub macroListBound : ℕ
-macroListBound = macroBound * macroNumbers
+macroListBound = macroBound * macroWidth
 
 -- n shared out in groups of d, the last one perhaps not full
 abbrev pub groups : ℕ → ℕ → ℕ

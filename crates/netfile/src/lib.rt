@@ -70,20 +70,15 @@ const PIN_KIND: u32 = 2;
 
 const MACRO_KIND: u32 = 3;
 
-// The numbers of a pin and of a macro.
-const PIN_NUMBERS: usize = 2;
-
-const MACRO_NUMBERS: usize = 4;
-
 // The entries of a full block.
-const PINS_PER_BLOCK: usize = PER_BLOCK / PIN_NUMBERS;
+const PINS_PER_BLOCK: usize = PER_BLOCK / Net::PIN_NUMBERS;
 
-const MACROS_PER_BLOCK: usize = PER_BLOCK / MACRO_NUMBERS;
+const MACROS_PER_BLOCK: usize = PER_BLOCK / Net::MACRO_NUMBERS;
 
 // The numbers of the longest lists: what a read asks to be lent.
-pub const PIN_LIST: usize = Net::PINS * PIN_NUMBERS;
+pub const PIN_LIST: usize = Net::PINS * Net::PIN_NUMBERS;
 
-pub const MACRO_LIST: usize = Net::MACROS * MACRO_NUMBERS;
+pub const MACRO_LIST: usize = Net::MACROS * Net::MACRO_NUMBERS;
 
 // The blocks of the longest file: the head, and as many as the largest net takes.
 const FILE_BLOCKS: usize = 1
@@ -284,10 +279,10 @@ fn put_file(bytes: &mut [u8], pins: &[i32], macros: &[i32])
     put_block(
         &mut *bytes,
         0,
-        head_block(pins.len() / PIN_NUMBERS, macros.len() / MACRO_NUMBERS),
+        head_block(net::pin_count(pins), net::macro_count(macros)),
     );
-    put_list(&mut *bytes, PIN_KIND, PIN_NUMBERS, 1, pins);
-    put_list(&mut *bytes, MACRO_KIND, MACRO_NUMBERS, first, macros);
+    put_list(&mut *bytes, PIN_KIND, Net::PIN_NUMBERS, 1, pins);
+    put_list(&mut *bytes, MACRO_KIND, Net::MACRO_NUMBERS, first, macros);
 }
 
 // Write the file of a checked net.
@@ -380,7 +375,7 @@ fn pin_length(bytes: &[u8]) -> usize
     requires { ⌜ blockBytes ≤ length (now bytes) ⌝ }
     ensures { λ r. ⌜ r ≡ pinLength (now (bytes .entry)) ⌝ }
 {
-    head_count(bytes, PIN_COUNT_WORD) * PIN_NUMBERS
+    head_count(bytes, PIN_COUNT_WORD) * Net::PIN_NUMBERS
 }
 
 // The numbers of the macros that it counts.
@@ -388,7 +383,7 @@ fn macro_length(bytes: &[u8]) -> usize
     requires { ⌜ blockBytes ≤ length (now bytes) ⌝ }
     ensures { λ r. ⌜ r ≡ macroLength (now (bytes .entry)) ⌝ }
 {
-    head_count(bytes, MACRO_COUNT_WORD) * MACRO_NUMBERS
+    head_count(bytes, MACRO_COUNT_WORD) * Net::MACRO_NUMBERS
 }
 
 // The head's counts do not fit the blocks.
@@ -501,11 +496,11 @@ fn read_counted(bytes: &[u8], pins: &mut [i32], macros: &mut [i32]) -> Checked
 {
     let answer = check_file(bytes);
     match answer {
-        Checked::Allowed(net) => {
+        Checked::Allowed(_) => {
             take_lists(bytes, &mut *pins, &mut *macros);
-            Checked::Allowed(net)
+            answer
         }
-        Checked::Refused(refusal) => Checked::Refused(refusal),
+        Checked::Refused(_) => answer,
     }
 }
 

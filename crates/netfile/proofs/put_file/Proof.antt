@@ -7,9 +7,11 @@ use native.Mathlib.Omega.{arith}
 use lib.ListN.{length}
 use lib.Seq.{sets}
 use denote.Ref.{now}
-use Rattle.netfile.specs.Sizes.{blockBytes, pinKind, macroKind, pinNumbers, macroNumbers, blocksFor}
+use Rattle.net.specs.Bounds.{pinWidth, macroWidth}
+use Rattle.net.specs.Pins.{pinCount}
+use Rattle.netfile.specs.Sizes.{blockBytes, pinKind, macroKind, blocksFor}
 use Rattle.netfile.specs.Words.{bytesOf}
-use Rattle.netfile.specs.Layout.{listBlocks}
+use Rattle.netfile.specs.Layout.{headBlock, listBlocks}
 use Rattle.netfile.proofs.SizeLaws.{pins-few, macros-few}
 use Rattle.netfile.proofs.LayoutLaws.{file-laid}
 use borrow.Author.Needs.{needs}
@@ -22,9 +24,16 @@ blocks-for-requires c κs = search needs
 add-first : tie.Need-add-first
 add-first c = search needs
 
+pin-count-requires : tie.Need-pin-count-requires
+pin-count-requires c κs = search needs
+
+macro-count-requires : tie.Need-macro-count-requires
+macro-count-requires c κs = search needs
+
 head-block-requires : tie.Need-head-block-requires
+unfolding pinCount
 head-block-requires c κs =
-    let f = c .before .before .before .pre .0 in
+    let f = c .before .before .before .before .before .pre .0 in
     (omega (arith, pins-few _ _ f), omega (arith, macros-few _ _ f))
 
 put-block-requires : tie.Need-put-block-requires
@@ -44,15 +53,18 @@ returns c =
     let r = c .before .before in
     let q = r .before .before .before .before in
     let h = q .before .before .before .before in
-    let s = h .before .before .before .before .before in
+    let k = h .before .before in
+    let b = k .before .before .before in
+    let s = b .before .before in
     let p = now (s .args .pins) in
     let m = now (s .args .macros) in
     r .put-list2 .ensures
-    ∙ ap₂ (λ (l : List ℕ) (n : ℕ). sets l (n * blockBytes) (bytesOf (listBlocks macroKind macroNumbers n (blocksFor (length m)) m)))
+    ∙ ap₂ (λ (l : List ℕ) (n : ℕ). sets l (n * blockBytes) (bytesOf (listBlocks macroKind macroWidth n (blocksFor (length m)) m)))
     (q .put-list .ensures
-    ∙ ap (λ (l : List ℕ). sets l blockBytes (bytesOf (listBlocks pinKind pinNumbers 1 (blocksFor (length p)) p)))
-    (h .put-block .ensures ∙ ap (λ (b : List ℕ). sets (now (s .args .bytes)) 0 (bytesOf b)) (h .before .head-block .ensures)))
-    (ap (λ (n : ℕ). 1 + n) (h .before .before .before .blocks-for .ensures))
+    ∙ ap (λ (l : List ℕ). sets l blockBytes (bytesOf (listBlocks pinKind pinWidth 1 (blocksFor (length p)) p)))
+    (h .put-block .ensures ∙ ap (λ (b : List ℕ). sets (now (s .args .bytes)) 0 (bytesOf b)) (h .before .head-block .ensures
+    ∙ ap₂ headBlock (k .before .pin-count .ensures) (k .macro-count .ensures))))
+    (ap (λ (n : ℕ). 1 + n) (b .blocks-for .ensures))
     ∙ file-laid (now (s .args .bytes)) p m (omega arith)
 
 pub put-file-spec : {M : Type 1} → statement M
@@ -61,6 +73,8 @@ put-file-spec =
     (tie.spec
     blocks-for-requires
     add-first
+    pin-count-requires
+    macro-count-requires
     head-block-requires
     put-block-requires
     put-list-requires

@@ -11,6 +11,7 @@ use lib.ListN.{length}
 use denote.Ref.{now}
 use Rattle.lent.specs.Told.{Told, refused}
 use Rattle.lent.specs.Over.{after}
+use Rattle.net.specs.declared.Net.{Net as Counts}
 use Rattle.net.specs.Answer.{number}
 use Rattle.net.specs.Check.{told}
 use Rattle.netfile.specs.Read.{blocksMiscounted, sumsWrong, countsWrong, pinsIn, macrosIn, roomShort, readFile}
@@ -28,7 +29,7 @@ pins-of s = now (s .args .pins)
 abbrev macros-of : tie.Start → List ℤ
 macros-of s = now (s .args .macros)
 
-abbrev answer-of : tie.Start → Told (ℕ × ℕ)
+abbrev answer-of : tie.Start → Told Counts
 answer-of s = readFile (bytes-of s) (length (pins-of s)) (length (macros-of s))
 
 abbrev start1 : tie.Else1 → tie.Start
@@ -157,8 +158,8 @@ returns-5 c =
     let e = sym (read-on (bytes-of s) _ _ (room (q .before .before)) (blocks q) (sums p) (counts r)) in (
       d .read-counted .ensures .0 ∙ e,
       (
-        d .read-counted .ensures .1 .0 ∙ ap (λ (t : Told (ℕ × ℕ)). after t (pinsIn (bytes-of s)) (pins-of s)) e,
-        d .read-counted .ensures .1 .1 ∙ ap (λ (t : Told (ℕ × ℕ)). after t (macrosIn (bytes-of s)) (macros-of s)) e,
+        d .read-counted .ensures .1 .0 ∙ ap (λ (t : Told Counts). after t (pinsIn (bytes-of s)) (pins-of s)) e,
+        d .read-counted .ensures .1 .1 ∙ ap (λ (t : Told Counts). after t (macrosIn (bytes-of s)) (macros-of s)) e,
       ),
     )
 

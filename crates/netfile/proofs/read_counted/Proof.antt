@@ -6,6 +6,7 @@ use denote.Ref.{now}
 use Prim.Native.Nat.{ℕ}
 use Rattle.lent.specs.Told.{Told, given}
 use Rattle.lent.proofs.AfterLaws.{after-given}
+use Rattle.net.specs.declared.Net.{Net as Counts}
 use Rattle.net.specs.Check.{told}
 use Rattle.netfile.specs.Read.{pinsIn, macrosIn, laidOut}
 use Rattle.netfile.proofs.AnswerLaws.{lists-fit, unaltered}
@@ -14,28 +15,28 @@ use Rattle.netfile.proofs.read_counted.Statement.{statement}
 use Rattle.netfile.proofs.read_counted.Tie as tie
 
 -- the answer for the file, where it is accepted
-abbrev answer-of : tie.Start → Told (ℕ × ℕ)
+abbrev answer-of : tie.Start → Told Counts
 answer-of s = laidOut (now (s .args .bytes)) (pinsIn (now (s .args .bytes))) (macrosIn (now (s .args .bytes)))
 
-accepted : (c : tie.After-answer) → answer-of (c .before .before .before .before)
-    ≡ given (c .answer .given .0 .0 .pins, c .answer .given .0 .0 .macros)
+accepted : (c : tie.After-enum-told) → answer-of (c .before .before .before .before)
+    ≡ given (c .enum-told .given .0 .0)
 unfolding told
-accepted c = sym (c .before .before .check-file .ensures) ∙ ap told (c .answer .given .1)
+accepted c = sym (c .before .before .check-file .ensures) ∙ ap told (c .enum-told .given .1)
 
 check-file-requires : tie.Need-check-file-requires
 check-file-requires c κs = search needs
 
-enum-known-answer : tie.Need-enum-known-answer
-enum-known-answer c = search needs
+enum-told : tie.Need-enum-told
+enum-told c = search needs
 
 take-lists-requires : tie.Need-take-lists-requires
 take-lists-requires c κs =
-    let k = c .before .before .before in
+    let k = c .before .before in
     let s = k .before .before .before .before in
     (s .pre .0, lists-fit (now (s .args .bytes)) (length (now (s .args .pins))) (length (now (s .args .macros))) _ (accepted k) (s .pre .1))
 
-enum-known-answer-2 : tie.Need-enum-known-answer-2
-enum-known-answer-2 c = search needs
+enum-told-2 : tie.Need-enum-told-2
+enum-told-2 c = search needs
 
 same-length : tie.Need-same-length
 same-length c = search needs
@@ -44,14 +45,13 @@ same-length-2 : tie.Need-same-length-2
 same-length-2 c = search needs
 
 returns : tie.Need-returns
-unfolding told
 returns c =
     let l = c .before .before in
-    let k = l .before .before .before .before in
+    let k = l .before .before .before in
     let s = k .before .before .before .before in
     let b = now (s .args .bytes) in
     let e = accepted k in (
-      sym e,
+      k .before .before .check-file .ensures,
       (
         l .take-lists .ensures .0 ∙ after-given _ (pinsIn b) (now (s .args .pins)) _ e,
         l .take-lists .ensures .1 ∙ after-given _ (macrosIn b) (now (s .args .macros)) _ e,
@@ -61,20 +61,20 @@ returns c =
 returns-2 : tie.Need-returns-2
 unfolding told
 returns-2 c =
-    let k = c .before .before .before in
+    let k = c .before .before in
     let s = k .before .before in
     let b = now (s .args .bytes) in
-    unaltered _ (pinsIn b) (macrosIn b) (now (s .args .pins)) (now (s .args .macros)) _
-    (sym (k .check-file .ensures) ∙ ap told (c .before .answer2 .given .1))
+    let e = sym (k .check-file .ensures) ∙ ap told (c .enum-told2 .given .1) in
+    (k .check-file .ensures, unaltered _ (pinsIn b) (macrosIn b) (now (s .args .pins)) (now (s .args .macros)) _ e .1)
 
 pub read-counted-spec : {M : Type 1} → statement M
 read-counted-spec =
     tie.close
     (tie.spec
     check-file-requires
-    enum-known-answer
+    enum-told
     take-lists-requires
-    enum-known-answer-2
+    enum-told-2
     same-length
     same-length-2
     returns

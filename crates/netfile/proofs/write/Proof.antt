@@ -7,6 +7,7 @@ use denote.Ref.{now}
 use Rattle.lent.specs.Told.{Told, given}
 use Rattle.lent.specs.Over.{after}
 use Rattle.lent.proofs.AfterLaws.{after-refused}
+use Rattle.net.specs.declared.Net.{Net as Counts}
 use Rattle.net.specs.Check.{checked, told}
 use Rattle.netfile.specs.Layout.{fileBytes}
 use Rattle.netfile.specs.Write.{toldBytes}
@@ -16,11 +17,11 @@ use Rattle.netfile.proofs.write.Statement.{statement}
 use Rattle.netfile.proofs.write.Tie as tie
 
 -- the answer of the check, where the net is allowed
-abbrev checked-of : tie.Start → Told (ℕ × ℕ)
+abbrev checked-of : tie.Start → Told Counts
 checked-of s = checked (now (s .args .pins)) (now (s .args .macros))
 
 allowed : (c : tie.After-enum-told) → checked-of (c .before .before .before .before)
-    ≡ given (c .enum-told .given .0 .0 .pins, c .enum-told .given .0 .0 .macros)
+    ≡ given (c .enum-told .given .0 .0)
 unfolding told
 allowed c = sym (c .before .before .check .ensures) ∙ ap told (c .enum-told .given .1)
 
