@@ -63,8 +63,9 @@ module _ (pts : List ℤ) (n : ℕ) (ks : List ℕ) (e k l a b u p : ℕ) (s : P
     sums =
         λ g.
         let laid = over-lays g (star p a b u) (row left e) (rw (length-dropped e k l ks) (omega arith)) in
+        let back : (j : ℕ) → j ≡ key (firstEnd j) (secondEnd j) = λ j. omega arith in
         let same : over g left e ≡ over (λ j. g (key (firstEnd j) (secondEnd j))) left e =
-        below-same _ _ e (λ i q. ap g (let z : getD left i 0 ≡ key (firstEnd (getD left i 0)) (secondEnd (getD left i 0)) = omega arith in z)) in
+        below-same _ _ e (λ i q. ap g (back (getD left i 0))) in
         omega (arith, laid, same);
   }
 
@@ -322,6 +323,11 @@ module _ (net : Net) (pts : List ℤ) (n : ℕ) (ks : List ℕ) (e k l u : ℕ)
   pub laid-sound : Sound net result
   unfolding laidAt
   laid-sound = by (stands pts n p s) (λ t. rw (laidAt, t) (stood-sound t)) (λ t. rw (laidAt, t) (put-sound t))
+
+  -- no point is new but s
+  pub laid-known : (y : Place) → y ∈ pointsOf (result .points) (result .count) → (y ≡ s) ⊎ (y ∈ pointsOf pts n)
+  unfolding laidAt
+  laid-known = by (stands pts n p s) (λ t. rw (laidAt, t) (λ y i. inr i)) (λ t. rw (laidAt, t) (put-known t))
 
   through-s : {m : ℕ → ℕ} {t : Tree} → After pts n ks e k l a b u p s m t →
       over (keyCost (net .weights) (t .points)) (t .edges .keys) (t .edges .size) + keyCost (net .weights) pts (getD ks l 0)

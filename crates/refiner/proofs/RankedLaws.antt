@@ -235,13 +235,13 @@ laid-level pts n ks e p a b u s few room hp ha hb hu w r =
     by (stands pts n p s)
     (λ t.
     rw (laidAt, t)
-    (lays-level (star p a b u) (row ks e) (star-ends pointBound p a b u (omega arith) (omega arith) (omega arith) (omega arith)) (omega arith)
-    (ranked-level r)))
+    (lays-level (star p a b u) (row ks e) (star-ends pointBound p a b u (omega arith) (omega arith) (omega arith) (omega arith))
+    (omega arith) (ranked-level r)))
     (λ t.
     rw (laidAt, t)
     (lays-level (star p (bump p a) (bump p b) (bump p u)) (row (turns (bumpAt p) 0 e ks) e)
-    (star-ends pointBound p (bump p a) (bump p b) (bump p u) (omega arith) (omega (arith, bump-in n p a ha)) (omega (arith, bump-in n p b hb))
-    (omega (arith, bump-in n p u hu)))
+    (star-ends pointBound p (bump p a) (bump p b) (bump p u) (omega arith) (omega (arith, bump-in n p a ha))
+    (omega (arith, bump-in n p b hb)) (omega (arith, bump-in n p u hu)))
     (rw (length-bumps p e ks) (omega arith))
     (ranked-level (bumped-ranked n p e ks few (omega arith) w r))))
 

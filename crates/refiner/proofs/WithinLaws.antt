@@ -17,7 +17,8 @@ use Rattle.plane.specs.Place.{samePlace}
 use Rattle.lists.proofs.TestLaws.{by, and-left}
 use Rattle.refiner.specs.declared.Best.{Best}
 use Rattle.refiner.specs.Candidate.{found}
-use Rattle.refiner.specs.Exchange.{bump, bumpAt, carrying, closed, dropTwo, exchange, laidAt, later, lay, lays, star, rank, shift, stands}
+use Rattle.refiner.specs.Exchange.{bump, bumpAt, carrying, closed, dropTwo, exchange, laidAt, later}
+use Rattle.refiner.specs.Exchange.{lay, lays, star, rank, shift, stands}
 use Rattle.refiner.specs.Longest.{costs, measure}
 use Rattle.refiner.specs.Refined.{rounds, pruned}
 use Rattle.refiner.specs.Prune.{marks, firstLoose, prune}
