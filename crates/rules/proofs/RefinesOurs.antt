@@ -18,7 +18,7 @@ use Rattle.refiner.specs.Refined as tables
 use Rattle.tree.specs.Places.{Ranked, Sound}
 use Rattle.refiner.specs.Sentences.{foundIn, exchanged}
 use Rattle.refiner.proofs.WinnerLaws.{found-wins}
-use Rattle.refiner.proofs.RoundSound.{Kept, round-kept, rounds-kept}
+use Rattle.refiner.proofs.RoundSound.{Kept, round-kept, rounds-kept, kept-count, own-room}
 use Rattle.refiner.proofs.RoundSteps.{rounds-none, rounds-some}
 use Rattle.refiner.proofs.TakesLaws.{found-takes}
 use Rattle.rules.specs.Edges.{Edge, Same}
@@ -59,7 +59,7 @@ module _ {net : Net} where
       record {
         sound = k .sound;
         ranked = k .ranked (fit .ranked);
-        few = omega (arith, k .points);
+        few = omega (arith, kept-count k);
         room = k .places ∙ fit .room;
         rooms = k .rows ∙ fit .rooms;
       }
@@ -113,13 +113,13 @@ module _ {net : Net} where
 
   module _ (t : Tree) (fit : Fit net (length (net .pins)) t) where
     kept : Kept net t (tables.rounds (net .weights) (net .macros) (length (net .pins)) t) (length (net .pins))
-    kept = rounds-kept net (length (net .pins)) t (fit .sound) (fit .few) (fit .room) (fit .rooms)
+    kept = rounds-kept net (length (net .pins)) t (fit .sound) _ (own-room t (length (net .pins)) (fit .few)) (fit .room) (fit .rooms)
 
     prunes : Prunes net (edgesIn (tables.rounds (net .weights) (net .macros) (length (net .pins)) t)) (edgesIn (tables.refined net t))
     unfolding tables.refined
     prunes =
         let few = fit .few in
-        prunes-ours (tables.rounds (net .weights) (net .macros) (length (net .pins)) t) (kept .sound) (kept .ranked (fit .ranked)) (omega (arith, kept .points))
+        prunes-ours (tables.rounds (net .weights) (net .macros) (length (net .pins)) t) (kept .sound) (kept .ranked (fit .ranked)) (omega (arith, kept-count kept))
 
     -- what the definitions work out is a solution
     pub refines-ours : Refines net (edgesIn t) (edgesIn (tables.refined net t))

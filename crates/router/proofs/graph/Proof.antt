@@ -1,13 +1,11 @@
 -- `router::graph` meets its contract: the refusals of the check first, then what the graph of an allowed net says.
 -- Assumes nothing.
 use mathlib.Core.Path.{_≡_, refl, sym, ap, _∙_}
-use native.Mathlib.Omega.{arith}
 use lib.ListN.{length}
 use denote.Ref.{now}
 use Rattle.lent.specs.Told.{given}
-use Rattle.plane.proofs.FlatLaws.{length-places, length-macros}
 use Rattle.net.specs.Check.{checked, told}
-use Rattle.net.proofs.AllowedLaws.{given-allowed}
+use Rattle.net.proofs.AllowedLaws.{given-allowed, given-counts}
 use Rattle.router.specs.Graph.{toldGraph}
 use Rattle.router.proofs.GraphAnswer.{graphed-refused, graphed-allowed}
 use Rattle.router.proofs.CallLaws.{two-refused, two-as}
@@ -24,15 +22,15 @@ enum-told c = search needs
 -- the answer of the check, where the net is allowed
 allowed : (c : tie.After-enum-told)
     → checked (now (c .before .before .before .args .pins)) (now (c .before .before .before .args .macros))
-    ≡ given (c .enum-told .given .0 .0 .pins, c .enum-told .given .0 .0 .macros)
+    ≡ given (c .enum-told .given .0 .0)
 unfolding told
 allowed c = sym (c .before .before .check .ensures) ∙ ap told (c .enum-told .given .1)
 
 graph-requires : tie.Need-graph-requires
 graph-requires c κs =
     let s = c .before .before .before .before .before .args in
-    let a = given-allowed (now (s .pins)) (now (s .macros)) (allowed (c .before .before)) .1 in
-    (omega (arith, a .few-pins, length-places (now (s .pins))), omega (arith, a .few-macros, length-macros (now (s .macros))))
+    let g = allowed (c .before .before) in
+    (given-counts (now (s .pins)) (now (s .macros)) g, given-allowed (now (s .pins)) (now (s .macros)) g .1)
 
 enum-known-answer : tie.Need-enum-known-answer
 enum-known-answer c = search needs

@@ -5,7 +5,7 @@ use lib.ListN.{length}
 use denote.Ref.{now}
 use Rattle.lent.specs.Told.{given}
 use Rattle.net.specs.Check.{checked, told}
-use Rattle.net.proofs.AllowedLaws.{given-allowed}
+use Rattle.net.proofs.AllowedLaws.{given-allowed, given-counts}
 use Rattle.router.specs.Terminal.{toldTree}
 use Rattle.router.specs.Refined.{refinedGiven, refinedTree}
 use Rattle.router.proofs.AnswerLaws.{only-refused, only-given}
@@ -23,14 +23,15 @@ enum-told c = search needs
 -- the answer of the check, where the net is allowed
 allowed : (c : tie.After-enum-told)
     → checked (now (c .before .before .before .args .pins)) (now (c .before .before .before .args .macros))
-    ≡ given (c .enum-told .given .0 .0 .pins, c .enum-told .given .0 .0 .macros)
+    ≡ given (c .enum-told .given .0 .0)
 unfolding told
 allowed c = sym (c .before .before .check .ensures) ∙ ap told (c .enum-told .given .1)
 
 refined-tree-requires : tie.Need-refined-tree-requires
 refined-tree-requires c κs =
     let s = c .before .before .before .before .args in
-    given-allowed (now (s .pins)) (now (s .macros)) (allowed (c .before)) .1
+    let g = allowed (c .before) in
+    (given-counts (now (s .pins)) (now (s .macros)) g, given-allowed (now (s .pins)) (now (s .macros)) g .1)
 
 enum-known-answer : tie.Need-enum-known-answer
 enum-known-answer c = search needs
