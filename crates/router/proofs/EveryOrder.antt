@@ -42,7 +42,7 @@ use Rattle.rules.proofs.TreesOurs.{trees-same}
 use Rattle.router.specs.Graph.{netVertices, netEdges, pointCount, graphRoomShort, graphGiven, graphed}
 use Rattle.router.specs.Room.{ifRoom}
 use Rattle.router.specs.Terminal.{pathsOf, pathsTotal, terminalGiven, terminalTree}
-use Rattle.router.specs.Refined.{refinedOf, edgesIn, metalIn, laidOf, laidTotal, refinedGiven, refinedTree}
+use Rattle.router.specs.Refined.{refinedOf, edgesIn, totalIn, laidOf, laidTotal, refinedGiven, refinedTree}
 use Rattle.router.specs.Refined.{wiresGiven, wired}
 use Rattle.router.specs.EveryOrder.{SameForBoth}
 use Rattle.router.proofs.AnswerLaws.{only-refused}
@@ -143,7 +143,7 @@ module _ (pins pins′ macros macros′ : List ℤ) (p : SamePins pins pins′) 
     same-total = paths-sum a ∙ ap (λ (l : List (Edge × ℕ)). total (map (λ k. k .1) l)) same-paths ∙ sym (paths-sum b)
 
     same-metal : laidTotal pins macros ≡ laidTotal pins′ macros′
-    unfolding metalIn
+    unfolding totalIn
     same-metal = ap (lengths distance) same-laid
 
     -- so the answers are the same

@@ -1,6 +1,6 @@
 -- What is promised of an allowed net, from the check alone.
 -- Assumes nothing.
-use mathlib.Core.Path.{_≡_, refl, sym, ap, _∙_}
+use mathlib.Core.Path.{_≡_, refl, sym, ap, ap₂, _∙_}
 use mathlib.Core.List.{List, [], _∷_, _++_}
 use Prim.Native.Nat.{ℕ, _+_, _*_}
 use native.Mathlib.Omega.{arith}
@@ -10,7 +10,11 @@ use lib.ListN.{length}
 use Rattle.lists.proofs.TestLaws.{or-neither}
 use Rattle.lent.specs.Told.{given}
 use Rattle.lent.specs.Entries.{flat}
+use Rattle.joined.specs.Cost.{lengths}
+use Rattle.plane.specs.Distance.{distance}
+use Rattle.plane.specs.Cost.{cost, plain}
 use Rattle.plane.specs.Flat.{macrosOf}
+use Rattle.plane.proofs.CostLaws.{cost-plain}
 use Rattle.net.specs.Pins.{pinCount}
 use Rattle.net.specs.Check.{checked}
 use Rattle.net.specs.declared.Net.{Net as Counts}

@@ -20,7 +20,7 @@ use Rattle.refined.proofs.WorkedWires.{given as wired-given}
 use Rattle.router.specs.Graph.{netVertices, netEdges, graphRoomShort, graphGiven, graphed}
 use Rattle.router.specs.Room.{ifRoom}
 use Rattle.router.specs.Terminal.{pathsOf, pathsTotal, terminalGiven, terminalTree}
-use Rattle.router.specs.Refined.{refinedOf, edgesIn, metalIn, laidOf, refinedGiven, refinedTree, wiresOf, wiresGiven, wired}
+use Rattle.router.specs.Refined.{refinedOf, edgesIn, totalIn, laidOf, refinedGiven, refinedTree, wiresOf, wiresGiven, wired}
 
 -- what the operations answer when the space of the largest net is lent
 pub record Answers : Type 0 where
@@ -33,7 +33,7 @@ pub record Answers : Type 0 where
 -- to unfold this is to unfold all that it rests on
 unfoldable pub answers : Lists → Answers
 unfolding answer treeIn union worked wired-given onlyIf lengths edgesFrom netVertices netEdges graphRoomShort graphGiven graphed ifRoom
-    pathsOf pathsTotal terminalGiven terminalTree refinedOf edgesIn metalIn refinedGiven refinedTree wiresGiven wired
+    pathsOf pathsTotal terminalGiven terminalTree refinedOf edgesIn totalIn refinedGiven refinedTree wiresGiven wired
 answers net = record {
   check = checked (net .pins) (net .macros);
   graph = graphed (net .pins) (net .macros) 640 5120;
