@@ -1,5 +1,5 @@
--- Points of a tree that are none of given places. Refining begins with vertices of the graph, so it is these that are counted: of the
--- others there are no more than vertices.
+-- Points of a tree that are none of given places. A tree starts with vertices of the graph, of which there are only so many; so it is the
+-- others that have to be counted round by round.
 use mathlib.Core.Bool.{true, false}
 use mathlib.Core.List.{List, [], _∷_}
 use Prim.Native.Nat.{ℕ}
