@@ -24,8 +24,8 @@ use Rattle.joined.specs.OneTree.{Point, OneTree}
 use Rattle.joined.proofs.WayLaws.{way-more}
 use Rattle.graph.specs.Edges.{beforeEdge}
 use Rattle.refiner.specs.declared.Refined.{Refined}
-use Rattle.tree.specs.Table.{pointBound, firstEnd, secondEnd, In, Within, Tree, tree}
-use Rattle.tree.specs.Places.{endsOf, edgesOf, totalOf, InOrder, Ranked, Sound}
+use Rattle.tree.specs.Table.{treeBound, firstEnd, secondEnd, In, Within, Tree, tree}
+use Rattle.tree.specs.Places.{endsOf, edgesOf, treeTotal, InOrder, Ranked, Sound}
 use Rattle.tree.specs.Edges.{edgesFrom, tableEdges, treeEdges}
 use Rattle.refiner.specs.Refined.{total, Answer}
 use Rattle.refiner.specs.Promise.{Promise, Tabled}
@@ -86,7 +86,7 @@ promised-edges net t r p g sum is =
     let pts = r .points in
     let ks = r .edges .keys in
     let e = r .edges .size in
-    let new : sum ≡ totalOf (net .weights) r = is ∙ total-of (net .weights) pts (r .count) ks e in
+    let new : sum ≡ treeTotal (net .weights) r = is ∙ total-of (net .weights) pts (r .count) ks e in
     record {
       one = one-tree-same (net .pins) (edgesOf pts ks e) (treeEdges r) (edges-in pts ks e) (edges-of pts ks e) (p .one);
       free =
@@ -102,8 +102,8 @@ promised-edges net t r p g sum is =
     }
 
 -- what the refiner's contract says is enough
-pub given-edges : (net : Net) (t : Tree) → Sound net t → t .count + length (net .pins) ≤ pointBound →
-    length (t .points) ≡ pointBound * 2 → length (t .edges .keys) ≡ pointBound → Ranked (t .edges .keys) (t .edges .size) →
+pub given-edges : (net : Net) (t : Tree) → Sound net t → t .count + length (net .pins) ≤ treeBound →
+    length (t .points) ≡ treeBound * 2 → length (t .edges .keys) ≡ treeBound → Ranked (t .edges .keys) (t .edges .size) →
     (pts : List ℤ) (ks : List ℕ) (r : Refined) → Answer net t pts ks r → Given net t (tableEdges pts ks (r .edges)) (r .total)
 given-edges net t sound few room rooms ranked pts ks r answer =
     let new = tree pts (r .points) ks (r .edges) in

@@ -9,13 +9,13 @@ ghost use lib.Seq.{sets};
 ghost use Rattle.lent.specs.Over.{over};
 ghost use Rattle.lent.specs.Entries.{flat};
 ghost use Rattle.graph.specs.Numbers.{edgeNumbers};
-ghost use Rattle.tree.specs.Table.{pointBound, pairBound, Small};
+ghost use Rattle.tree.specs.Table.{treeBound, pairBound, Small};
 ghost use Rattle.tree.specs.Edges.{tableEdges};
 ghost use Rattle.refined.specs.Wires.{drawn, bend, wiresOfEdge, wires};
 
 // The first e edges, in order.
 pub fn give_edges(pts: &[i32; NUMBERS], keys: &[usize; POINTS], e: usize, lent: &mut [i32])
-    requires { ⌜ (e ≤ pointBound) × ((Small pairBound (now keys)) × (e * 4 ≤ length (now lent))) ⌝ }
+    requires { ⌜ (e ≤ treeBound) × ((Small pairBound (now keys)) × (e * 4 ≤ length (now lent))) ⌝ }
     ensures { λ _. ⌜ now (lent .exit) ≡ over (flat edgeNumbers (tableEdges (now (pts .entry)) (now (keys .entry)) e))
         (now (lent .entry)) ⌝ }
 {
@@ -62,7 +62,7 @@ fn put_wires(table: &mut [i32], i: usize, a: Place, b: Place) -> usize
 
 // The wires of the first e edges, in order; how many there are.
 pub fn give_wires(pts: &[i32; NUMBERS], keys: &[usize; POINTS], e: usize, lent: &mut [i32]) -> usize
-    requires { ⌜ (e ≤ pointBound) × ((Small pairBound (now keys)) × (e * 8 ≤ length (now lent))) ⌝ }
+    requires { ⌜ (e ≤ treeBound) × ((Small pairBound (now keys)) × (e * 8 ≤ length (now lent))) ⌝ }
     ensures { λ r. ⌜ r ≡ length (wires (tableEdges (now (pts .entry)) (now (keys .entry)) e)) ⌝ }
     ensures { λ _. ⌜ now (lent .exit) ≡ over (flat edgeNumbers (wires (tableEdges (now (pts .entry)) (now (keys .entry)) e)))
         (now (lent .entry)) ⌝ }

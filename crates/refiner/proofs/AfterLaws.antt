@@ -23,8 +23,8 @@ use Rattle.plane.proofs.CostLaws.{cost-comm, cost-self}
 use Rattle.plane.proofs.MacroLaws.{clear-comm}
 use Rattle.joined.specs.Joined.{Link, Alike, Joined, stay}
 use Rattle.joined.proofs.JoinedLaws.{one as one-link}
-use Rattle.tree.specs.Table.{pointBound, key, firstEnd, secondEnd, Tree, In, Within}
-use Rattle.tree.specs.Sum.{over}
+use Rattle.tree.specs.Table.{treeBound, key, firstEnd, secondEnd, Tree, In, Within}
+use Rattle.tree.specs.Sum.{sumOver}
 use Rattle.refiner.specs.Exchange.{dropTwo}
 use Rattle.tree.specs.Places.{endsOf, edgesOf, keyCost}
 use Rattle.tree.proofs.SumLaws.{below-same, below-at, below-some, one, one-same, one-some, one-not, in-table, of-table}
@@ -67,16 +67,16 @@ between-none g p a e =
 pub record After (pts : List ℤ) (n : ℕ) (ks : List ℕ) (e k l a b u p : ℕ) (s : Place) (m : ℕ → ℕ) (t : Tree) : Type 0 where
   pub old : (i : ℕ) → i < n → placeAt (t .points) (m i) ≡ placeAt pts i
   pub new : placeAt (t .points) p ≡ s
-  pub low : (i : ℕ) → i < n → m i < pointBound
-  pub lowest : p < pointBound
-  pub sums : (g : ℕ → ℕ) → over g (t .edges .keys) (t .edges .size)
-      ≡ between g p (m u) + (between g p (m b) + (between g p (m a) + over (λ j. g (key (m (firstEnd j)) (m (secondEnd j))))
+  pub low : (i : ℕ) → i < n → m i < treeBound
+  pub lowest : p < treeBound
+  pub sums : (g : ℕ → ℕ) → sumOver g (t .edges .keys) (t .edges .size)
+      ≡ between g p (m u) + (between g p (m b) + (between g p (m a) + sumOver (λ j. g (key (m (firstEnd j)) (m (secondEnd j))))
       (dropTwo e k l ks) e))
 
-pub first-of : (x y : ℕ) → y < pointBound → firstEnd (key x y) ≡ x
+pub first-of : (x y : ℕ) → y < treeBound → firstEnd (key x y) ≡ x
 first-of x y h = omega arith
 
-pub second-of : (x y : ℕ) → y < pointBound → secondEnd (key x y) ≡ y
+pub second-of : (x y : ℕ) → y < treeBound → secondEnd (key x y) ≡ y
 second-of x y h = omega arith
 
 module _ {pts : List ℤ} {n : ℕ} {ks : List ℕ} {e k l a b u p : ℕ} {s : Place} {m : ℕ → ℕ} {t : Tree}
@@ -99,7 +99,7 @@ module _ {pts : List ℤ} {n : ℕ} {ks : List ℕ} {e k l a b u p : ℕ} {s : P
       (ap (placeAt (t .points)) (second-of (m (firstEnd j)) (m (secondEnd j)) (after .low _ (i .1))) ∙ after .old _ (i .1))
 
   -- an edge whose key has a part in the sums is there
-  pub there-is : (j : ℕ) (x y : Place) → 0 < over (one j) (t .edges .keys) (t .edges .size) → endsOf (t .points) j ≡ (x, y) → (x, y) ∈ U
+  pub there-is : (j : ℕ) (x y : Place) → 0 < sumOver (one j) (t .edges .keys) (t .edges .size) → endsOf (t .points) j ≡ (x, y) → (x, y) ∈ U
   there-is j x y h f =
       let r = in-table j (t .edges .keys) (t .edges .size) h in
       Memᴰ·cast (sym f ∙ ap (endsOf (t .points)) (sym (r .1 .1)))
@@ -111,7 +111,7 @@ module _ {pts : List ℤ} {n : ℕ} {ks : List ℕ} {e k l a b u p : ℕ} {s : P
   left i h nk nl =
       let j = getD ks i 0 in
       let d = over-dropped (one j) e k l ks hk hl kl in
-      let some : 0 < over (one j) (dropTwo e k l ks) e
+      let some : 0 < sumOver (one j) (dropTwo e k l ks) e
       = omega (
         arith,
         d,
@@ -154,13 +154,13 @@ module _ {pts : List ℤ} {n : ℕ} {ks : List ℕ} {e k l a b u p : ℕ} {s : P
       (either (λ q. inr (inl (inr (ap (λ (z : Place × Place). z .1) q, ap (λ (z : Place × Place). z .0) q)))) (λ q. inr (inr (inr q))))
       (sorted y x i)
 
-  pub ends : (c d : ℕ) (x y : Place) → d < pointBound → placeAt (t .points) c ≡ x → placeAt (t .points) d ≡ y →
+  pub ends : (c d : ℕ) (x y : Place) → d < treeBound → placeAt (t .points) c ≡ x → placeAt (t .points) d ≡ y →
       endsOf (t .points) (key c d) ≡ (x, y)
   ends c d x y h f g =
       ap₂ (λ (v z : Place). (v, z)) (ap (placeAt (t .points)) (first-of c d h) ∙ f) (ap (placeAt (t .points)) (second-of c d h) ∙ g)
 
   -- s is joined with a point to which an edge is laid
-  laid : (x : ℕ) → x < n → ((g : ℕ → ℕ) → between g p (m x) ≤ over g (t .edges .keys) (t .edges .size)) → Joined U s (placeAt pts x)
+  laid : (x : ℕ) → x < n → ((g : ℕ → ℕ) → between g p (m x) ≤ sumOver g (t .edges .keys) (t .edges .size)) → Joined U s (placeAt pts x)
   laid x h part =
       by (ltb p (m x))
       (λ q.
@@ -203,7 +203,7 @@ module _ {pts : List ℤ} {n : ℕ} {ks : List ℕ} {e k l a b u p : ℕ} {s : P
       (after .old x h) (after .new)))
       (between-some (one j) p (m x) some)
 
-  from-left : (j : ℕ) → 0 < over (λ q. one j (moved q)) (dropTwo e k l ks) e → Origin j
+  from-left : (j : ℕ) → 0 < sumOver (λ q. one j (moved q)) (dropTwo e k l ks) e → Origin j
   from-left j some =
       let r = below-some _ e some in
       let q = getD (dropTwo e k l ks) (r .0) 0 in
@@ -274,12 +274,12 @@ module _ {pts : List ℤ} {n : ℕ} {ks : List ℕ} {e k l a b u p : ℕ} {s : P
         let o : s ≡ placeAt pts x = sym (after .new) ∙ ap (placeAt (t .points)) v ∙ after .old x h in
         between-none (keyCost weights (t .points)) p (m x) v ∙ sym (ap (cost weights s) (sym o) ∙ cost-self weights s)))
 
-    pub after-costs : over (keyCost weights (t .points)) (t .edges .keys) (t .edges .size)
+    pub after-costs : sumOver (keyCost weights (t .points)) (t .edges .keys) (t .edges .size)
         + (keyCost weights pts (getD ks k 0) + keyCost weights pts (getD ks l 0))
-        ≡ over (keyCost weights pts) ks (suc (suc e))
+        ≡ sumOver (keyCost weights pts) ks (suc (suc e))
         + (cost weights s (placeAt pts u) + (cost weights s (placeAt pts b) + cost weights s (placeAt pts a)))
     after-costs =
-        let same : over (λ j. keyCost weights (t .points) (moved j)) (dropTwo e k l ks) e ≡ over (keyCost weights pts) (dropTwo e k l ks) e
+        let same : sumOver (λ j. keyCost weights (t .points) (moved j)) (dropTwo e k l ks) e ≡ sumOver (keyCost weights pts) (dropTwo e k l ks) e
         = below-same _ _ e (λ i h. ap long (moved-ends _ (within-dropped n e k l ks w .ends i))) in
         let dropped = over-dropped (keyCost weights pts) e k l ks hk hl kl in
         omega (arith, after .sums (keyCost weights (t .points)), dropped, same, cost-part a ha, cost-part b hb, cost-part u hu)

@@ -20,7 +20,7 @@ use Rattle.joined.proofs.TowardLaws.{toward, far-way, far-once}
 use Rattle.joined.proofs.TreeLaws.{tree-cuts}
 use Rattle.joined.proofs.OneTreeLaws.{tree-simple}
 use Rattle.joined.proofs.OnlyWay.{only-way}
-use Rattle.tree.specs.Table.{pointBound, key, firstEnd, secondEnd, Within}
+use Rattle.tree.specs.Table.{treeBound, key, firstEnd, secondEnd, Within}
 use Rattle.refiner.specs.Longest.{wins, shorter, noEdge, start, reached, cutOf}
 use Rattle.tree.specs.Places.{endsOf, pointsOf, edgesOf, InOrder}
 use Rattle.refiner.proofs.LongestLaws.{shorter-yes, shorter-no}
@@ -32,7 +32,7 @@ use Rattle.refiner.proofs.LongestSound.{Ends, Top, Known, steps-old}
 use Rattle.refiner.proofs.ReachedLaws.{all-known, all-even}
 use Rattle.refiner.proofs.AloneLaws.{alone}
 
-module _ (pts : List ℤ) (n : ℕ) (ks : List ℕ) (e : ℕ) (el : List ℕ) (o : InOrder pts n) (few : n ≤ pointBound) (fewer : suc e < pointBound)
+module _ (pts : List ℤ) (n : ℕ) (ks : List ℕ) (e : ℕ) (el : List ℕ) (o : InOrder pts n) (few : n ≤ treeBound) (fewer : suc e < treeBound)
     (none : getD el noEdge 0 ≡ 0) (w : Within n ks) (whole : joined.Tree (pointsOf pts n) (edgesOf pts ks (suc e))) where
   abbrev T : List (Place × Place)
   T = edgesOf pts ks (suc e)

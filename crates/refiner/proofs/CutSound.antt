@@ -21,7 +21,7 @@ use Rattle.joined.proofs.TreeLaws.{tree-cuts}
 use Rattle.joined.proofs.TowardLaws.{toward-only}
 use Rattle.joined.proofs.ExchangeLaws.{step-other}
 use Rattle.refiner.specs.declared.Best.{Best}
-use Rattle.tree.specs.Table.{pointBound, firstEnd, secondEnd, Tree, tree}
+use Rattle.tree.specs.Table.{treeBound, firstEnd, secondEnd, Tree, tree}
 use Rattle.refiner.specs.Longest.{costs, longest, noEdge}
 use Rattle.refiner.specs.Candidate.{chosen, weighed, offer}
 use Rattle.tree.specs.Places.{endsOf, edgesOf, Sound}
@@ -46,7 +46,7 @@ tree-size net t sound =
     ∙ listing-length (placeAt (t .points)) (t .count)
 
 module _ (net : Net) (pts : List ℤ) (n : ℕ) (ks : List ℕ) (e : ℕ) (sound : Sound net (tree pts n ks (suc e)))
-    (few : n ≤ pointBound) (k u : ℕ) (hk : k < suc e) (hu : u < n) (third : EndOf (tree pts n ks (suc e)) u k → ⊥) where
+    (few : n ≤ treeBound) (k u : ℕ) (hk : k < suc e) (hu : u < n) (third : EndOf (tree pts n ks (suc e)) u k → ⊥) where
   sized : suc (suc e) ≡ n
   sized = tree-size net (tree pts n ks (suc e)) sound
 
@@ -97,12 +97,12 @@ module _ (net : Net) (pts : List ℤ) (n : ℕ) (ks : List ℕ) (e : ℕ) (sound
   cut-some : CutAt net (tree pts n ks (suc e)) k u (cutIn net (tree pts n ks (suc e)) k u)
   cut-some = of-is (cutIn net (tree pts n ks (suc e)) k u) worked-is
 
-at-size : (net : Net) (pts : List ℤ) (n : ℕ) (ks : List ℕ) (e : ℕ) → Sound net (tree pts n ks e) → n ≤ pointBound →
+at-size : (net : Net) (pts : List ℤ) (n : ℕ) (ks : List ℕ) (e : ℕ) → Sound net (tree pts n ks e) → n ≤ treeBound →
     (k u : ℕ) → k < e → u < n → (EndOf (tree pts n ks e) u k → ⊥) → CutAt net (tree pts n ks e) k u (cutIn net (tree pts n ks e) k u)
 at-size net pts n ks zero sound few k u hk hu third = absurd (let z : ⊥ = omega arith in z)
 at-size net pts n ks (suc e) sound few k u hk hu third = cut-some net pts n ks e sound few k u hk hu third
 
-module _ (net : Net) (t : Tree) (sound : Sound net t) (few : t .count ≤ pointBound) where
+module _ (net : Net) (t : Tree) (sound : Sound net t) (few : t .count ≤ treeBound) where
   -- the edge that is worked out is L
   pub cut-at : (k u : ℕ) → k < t .edges .size → u < t .count → (EndOf t u k → ⊥) → CutAt net t k u (cutIn net t k u)
   cut-at k u hk hu third = at-size net (t .points) (t .count) (t .edges .keys) (t .edges .size) sound few k u hk hu third

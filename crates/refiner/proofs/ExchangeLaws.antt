@@ -14,7 +14,7 @@ use Rattle.plane.specs.Place.{before, samePlace}
 use Rattle.refiner.specs.Exchange.{bump, bumpAt, carrying, closed, closing, dropTwo, hand, later, lay, lays, star, opened, push}
 use Rattle.tree.specs.Table.{setPoint}
 use Rattle.refiner.specs.Exchange.{stands}
-use Rattle.tree.specs.Table.{Row, firstEnd, key, pointBound, row, secondEnd}
+use Rattle.tree.specs.Table.{Row, firstEnd, key, treeBound, row, secondEnd}
 use Rattle.refiner.specs.Turns.{turns}
 
 pub drop-less : (n k l : ℕ) (xs ys zs : List ℕ) → k < l → ys ≡ closed l (n + 1) xs → zs ≡ closed k n ys → zs ≡ dropTwo n k l xs
@@ -86,4 +86,4 @@ set-past (y ∷ ys) (suc i) (suc j) x h = set-past ys i j x (omega arith)
 -- entries that are still to come are as they were
 pub ahead : (p i : ℕ) (xs ys : List ℕ) → ys ≡ bumpAt p i xs → (m j : ℕ) → i < j → getD xs j 0 < m → getD ys j 0 < m
 unfolding bumpAt
-ahead p i xs ys e m j h l = rw (e, set-past xs i j (bump p (firstEnd (getD xs i 0)) * pointBound + bump p (secondEnd (getD xs i 0))) h) l
+ahead p i xs ys e m j h l = rw (e, set-past xs i j (bump p (firstEnd (getD xs i 0)) * treeBound + bump p (secondEnd (getD xs i 0))) h) l

@@ -29,10 +29,10 @@ use Rattle.joined.proofs.OtherLaws.{alike-sym, alike-trans}
 use Rattle.joined.proofs.ExchangeLaws.{exchange-tree}
 use Rattle.joined.proofs.OneTreeLaws.{tree-simple}
 use Rattle.refiner.specs.Turns.{turns, seek}
-use Rattle.tree.specs.Table.{pointBound, key, firstEnd, secondEnd, row, Tree, tree, Within}
+use Rattle.tree.specs.Table.{treeBound, key, firstEnd, secondEnd, row, Tree, tree, Within}
 use Rattle.refiner.specs.Candidate.{middleOf, sees, taken, dropped}
 use Rattle.refiner.specs.Exchange.{dropTwo, rank, stands, opened, bump, bumpAt, lays, star, laidAt}
-use Rattle.tree.specs.Sum.{over}
+use Rattle.tree.specs.Sum.{sumOver}
 use Rattle.tree.specs.Places.{endsOf, pointsOf, edgesOf, keyCost, InOrder, Sound}
 use Rattle.refiner.specs.Taken.{Taken}
 use Rattle.refiner.proofs.WithinLaws.{rank-le, bump-in, within-dropped, within-joined}
@@ -54,7 +54,7 @@ module _ (pts : List ℤ) (n : ℕ) (ks : List ℕ) (e k l a b u p : ℕ) (s : P
   abbrev old-tree : Tree
   old-tree = record { points = pts; count = n; edges = lays (star p a b u) (row left e) }
 
-  pub after-old : n ≤ pointBound → p < n → s ≡ placeAt pts p → After pts n ks e k l a b u p s (λ i. i) old-tree
+  pub after-old : n ≤ treeBound → p < n → s ≡ placeAt pts p → After pts n ks e k l a b u p s (λ i. i) old-tree
   after-old few h at = record {
     old = λ i q. refl;
     new = sym at;
@@ -64,7 +64,7 @@ module _ (pts : List ℤ) (n : ℕ) (ks : List ℕ) (e k l a b u p : ℕ) (s : P
         λ g.
         let laid = over-lays g (star p a b u) (row left e) (rw (length-dropped e k l ks) (omega arith)) in
         let back : (j : ℕ) → j ≡ key (firstEnd j) (secondEnd j) = λ j. omega arith in
-        let same : over g left e ≡ over (λ j. g (key (firstEnd j) (secondEnd j))) left e =
+        let same : sumOver g left e ≡ sumOver (λ j. g (key (firstEnd j) (secondEnd j))) left e =
         below-same _ _ e (λ i q. ap g (back (getD left i 0))) in
         omega (arith, laid, same);
   }
@@ -77,7 +77,7 @@ module _ (pts : List ℤ) (n : ℕ) (ks : List ℕ) (e k l a b u p : ℕ) (s : P
     edges = lays (star p (bump p a) (bump p b) (bump p u)) (row (turns (bumpAt p) 0 e left) e);
   }
 
-  pub after-new : n < pointBound → p ≤ n → n * 2 + 2 ≤ length pts → After pts n ks e k l a b u p s (bump p) new-tree
+  pub after-new : n < treeBound → p ≤ n → n * 2 + 2 ≤ length pts → After pts n ks e k l a b u p s (bump p) new-tree
   after-new few h room = record {
     old = λ i q. opened-bump pts n p s h room i q;
     new = opened-new pts n p s h room;
@@ -105,7 +105,7 @@ bump-not p x e =
 
 module _ (net : Net) (pts : List ℤ) (n : ℕ) (ks : List ℕ) (e k l u : ℕ)
     (sound : Sound net (tree pts n ks (suc (suc e)))) (c : Taken (net .macros) pts n ks (suc (suc e)) k l u)
-    (few : n < pointBound) (room : n * 2 + 2 ≤ length pts) (rooms : e + 2 < length ks) where
+    (few : n < treeBound) (room : n * 2 + 2 ≤ length pts) (rooms : e + 2 < length ks) where
   abbrev ms : List Macro
   ms = net .macros
 
@@ -330,8 +330,8 @@ module _ (net : Net) (pts : List ℤ) (n : ℕ) (ks : List ℕ) (e k l u : ℕ)
   laid-known = by (stands pts n p s) (λ t. rw (laidAt, t) (λ y i. inr i)) (λ t. rw (laidAt, t) (put-known t))
 
   through-s : {m : ℕ → ℕ} {t : Tree} → After pts n ks e k l a b u p s m t →
-      over (keyCost (net .weights) (t .points)) (t .edges .keys) (t .edges .size) + keyCost (net .weights) pts (getD ks l 0)
-      ≡ over (keyCost (net .weights) pts) ks (suc (suc e)) + costIn net s (placeAt pts u)
+      sumOver (keyCost (net .weights) (t .points)) (t .edges .keys) (t .edges .size) + keyCost (net .weights) pts (getD ks l 0)
+      ≡ sumOver (keyCost (net .weights) pts) ks (suc (suc e)) + costIn net s (placeAt pts u)
   through-s after =
       omega (
         arith,
@@ -340,9 +340,9 @@ module _ (net : Net) (pts : List ℤ) (n : ℕ) (ks : List ℕ) (e k l u : ℕ)
       )
 
   -- the total falls by the gain, the cost of L less that from s to u
-  pub laid-costs : over (keyCost (net .weights) (result .points)) (result .edges .keys) (result .edges .size)
+  pub laid-costs : sumOver (keyCost (net .weights) (result .points)) (result .edges .keys) (result .edges .size)
       + keyCost (net .weights) pts (getD ks l 0)
-      ≡ over (keyCost (net .weights) pts) ks (suc (suc e)) + costIn net s (placeAt pts u)
+      ≡ sumOver (keyCost (net .weights) pts) ks (suc (suc e)) + costIn net s (placeAt pts u)
   unfolding laidAt
   laid-costs = by (stands pts n p s) (λ t. rw (laidAt, t) (through-s (stood t))) (λ t. rw (laidAt, t) (through-s (put t)))
 

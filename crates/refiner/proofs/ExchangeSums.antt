@@ -12,7 +12,7 @@ use borrow.Author.Tests.{ltb-true, ltb-false, lt-ltb, le-ltb}
 use Rattle.lists.proofs.TestLaws.{by}
 use Rattle.refiner.specs.Turns.{turns}
 use Rattle.tree.specs.Table.{key, firstEnd, secondEnd, Row}
-use Rattle.tree.specs.Sum.{below, over}
+use Rattle.tree.specs.Sum.{below, sumOver}
 use Rattle.refiner.specs.Exchange.{shift, closed, dropTwo, bump, bumpAt, carrying, lay, lays}
 use Rattle.tree.proofs.SumLaws.{below-same, from, from-below, from-same, other, here}
 
@@ -78,10 +78,10 @@ below-skip f k (suc n) h =
     let s : below (λ i. f (skip k i)) (suc n) ≡ below f (suc n) = below-same _ f (suc n) (λ i l. ap f (skip-low k i (omega arith))) in
     ap₂ _+_ (ap f e) s)
 
-pub over-closed : (g : ℕ → ℕ) (k n : ℕ) (xs : List ℕ) → k ≤ n → g (getD xs k 0) + over g (closed k n xs) n ≡ over g xs (suc n)
+pub over-closed : (g : ℕ → ℕ) (k n : ℕ) (xs : List ℕ) → k ≤ n → g (getD xs k 0) + sumOver g (closed k n xs) n ≡ sumOver g xs (suc n)
 over-closed g k n xs h =
-    let e : over g (closed k n xs) n ≡ below (λ i. g (getD xs (skip k i) 0)) n = below-same _ _ n (λ i l. ap g (closed-at k n xs i l)) in
-    let r : g (getD xs k 0) + below (λ i. g (getD xs (skip k i) 0)) n ≡ over g xs (suc n) = below-skip (λ i. g (getD xs i 0)) k n h in
+    let e : sumOver g (closed k n xs) n ≡ below (λ i. g (getD xs (skip k i) 0)) n = below-same _ _ n (λ i l. ap g (closed-at k n xs i l)) in
+    let r : g (getD xs k 0) + below (λ i. g (getD xs (skip k i) 0)) n ≡ sumOver g xs (suc n) = below-skip (λ i. g (getD xs i 0)) k n h in
     omega (arith, e, r)
 
 -- One put in
@@ -123,7 +123,7 @@ from-carrying g (suc n) i q xs h =
         let a : g (getD (carrying (suc i) n q xs) i 0) ≡ g (getD xs i 0) = ap g (carrying-low n (suc i) q xs i (omega arith)) in
         omega (arith, a, b)
 
-pub over-carrying : (g : ℕ → ℕ) (e q : ℕ) (xs : List ℕ) → e < length xs → over g (carrying 0 e q xs) (suc e) ≡ g q + over g xs e
+pub over-carrying : (g : ℕ → ℕ) (e q : ℕ) (xs : List ℕ) → e < length xs → sumOver g (carrying 0 e q xs) (suc e) ≡ g q + sumOver g xs e
 over-carrying g e q xs h =
     sym (from-below _ (suc e)) ∙ from-carrying g e 0 q xs (omega arith) ∙ ap (λ (s : ℕ). g q + s) (from-below _ e)
 
@@ -133,15 +133,15 @@ between g p a = elim (ltb p a) [ true ↦ g (key p a) | false ↦ elim (ltb a p)
 
 -- what laying an edge does to a table: its sums, its room and its size
 pub over-lay : (g : ℕ → ℕ) (p a : ℕ) (r : Row) → r .size < length (r .keys) →
-    over g (lay p a r .keys) (lay p a r .size) ≡ between g p a + over g (r .keys) (r .size)
+    sumOver g (lay p a r .keys) (lay p a r .size) ≡ between g p a + sumOver g (r .keys) (r .size)
 unfolding lay between
 over-lay g p a r h =
     by (ltb p a)
-    (λ t. rw (lay, between, t) (ap (over g (carrying 0 (r .size) (key p a) (r .keys))) (add-one (r .size))
+    (λ t. rw (lay, between, t) (ap (sumOver g (carrying 0 (r .size) (key p a) (r .keys))) (add-one (r .size))
     ∙ over-carrying g (r .size) (key p a) (r .keys) h))
     (λ t.
     by (ltb a p)
-    (λ s. rw (lay, between, t, s) (ap (over g (carrying 0 (r .size) (key a p) (r .keys))) (add-one (r .size))
+    (λ s. rw (lay, between, t, s) (ap (sumOver g (carrying 0 (r .size) (key a p) (r .keys))) (add-one (r .size))
     ∙ over-carrying g (r .size) (key a p)
     (r .keys) h))
     (λ s. rw (lay, between, t, s) (omega arith)))
@@ -177,7 +177,7 @@ length-lays [] r = refl
 length-lays (e ∷ es) r = length-lays es (lay (e .0) (e .1) r) ∙ length-lay (e .0) (e .1) r
 
 pub over-lays : (g : ℕ → ℕ) (es : List (ℕ × ℕ)) (r : Row) → r .size + length es ≤ length (r .keys) →
-    over g (lays es r .keys) (lays es r .size) ≡ betweens g es + over g (r .keys) (r .size)
+    sumOver g (lays es r .keys) (lays es r .size) ≡ betweens g es + sumOver g (r .keys) (r .size)
 unfolding lays
 over-lays g [] r h = omega arith
 over-lays g (e ∷ es) r h =
@@ -189,7 +189,7 @@ over-lays g (e ∷ es) r h =
 -- Two taken out
 
 pub over-dropped : (g : ℕ → ℕ) (n k l : ℕ) (xs : List ℕ) → k < suc (suc n) → l < suc (suc n) → (k ≡ l → ⊥) →
-    g (getD xs k 0) + (g (getD xs l 0) + over g (dropTwo n k l xs) n) ≡ over g xs (suc (suc n))
+    g (getD xs k 0) + (g (getD xs l 0) + sumOver g (dropTwo n k l xs) n) ≡ sumOver g xs (suc (suc n))
 unfolding dropTwo
 over-dropped g n k l xs h i d =
     by (ltb k l)
@@ -206,11 +206,11 @@ over-dropped g n k l xs h i d =
     rw (dropTwo, t) (let r = both k l lt same h in omega (arith, r)))
   where
     both : (hi lo : ℕ) → lo < hi → getD (closed hi (n + 1) xs) lo 0 ≡ getD xs lo 0 → hi < suc (suc n) →
-        g (getD xs lo 0) + (g (getD xs hi 0) + over g (closed lo n (closed hi (n + 1) xs)) n) ≡ over g xs (suc (suc n))
+        g (getD xs lo 0) + (g (getD xs hi 0) + sumOver g (closed lo n (closed hi (n + 1) xs)) n) ≡ sumOver g xs (suc (suc n))
     both hi lo lt same top =
-        let a : g (getD xs hi 0) + over g (closed hi (n + 1) xs) (suc n) ≡ over g xs (suc (suc n))
+        let a : g (getD xs hi 0) + sumOver g (closed hi (n + 1) xs) (suc n) ≡ sumOver g xs (suc (suc n))
         = rw (← add-one n) (over-closed g hi (n + 1) xs (omega arith)) in
-        let b : g (getD (closed hi (n + 1) xs) lo 0) + over g (closed lo n (closed hi (n + 1) xs)) n ≡ over g (closed hi (n + 1) xs) (suc n)
+        let b : g (getD (closed hi (n + 1) xs) lo 0) + sumOver g (closed lo n (closed hi (n + 1) xs)) n ≡ sumOver g (closed hi (n + 1) xs) (suc n)
         = over-closed g lo n (closed hi (n + 1) xs) (omega arith) in
         let c : g (getD (closed hi (n + 1) xs) lo 0) ≡ g (getD xs lo 0) = ap g same in
         omega (arith, a, b, c)
@@ -241,8 +241,8 @@ bumps-at p (suc n) i xs j b h l =
     let e : j ≡ i = omega (arith, ltb-false i j t) in
     bumps-low p n (suc i) (set xs i x) j (omega arith) ∙ rw e (here xs i x (omega arith)))
 
-pub over-bumped : (g : ℕ → ℕ) (p e : ℕ) (xs : List ℕ) → e ≤ length xs → over g (turns (bumpAt p) 0 e xs) e
-    ≡ over (λ k. g (bumpKey p k)) xs e
+pub over-bumped : (g : ℕ → ℕ) (p e : ℕ) (xs : List ℕ) → e ≤ length xs → sumOver g (turns (bumpAt p) 0 e xs) e
+    ≡ sumOver (λ k. g (bumpKey p k)) xs e
 over-bumped g p e xs h = below-same _ _ e (λ i l. ap g (bumps-at p e 0 xs i (omega arith) (omega arith) (omega arith)))
 
 length-bumped : (p n i : ℕ) (xs : List ℕ) → length (turns (bumpAt p) i n xs) ≡ length xs

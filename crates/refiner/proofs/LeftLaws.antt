@@ -21,11 +21,11 @@ use Rattle.net.specs.Net.{Net}
 use Rattle.plane.proofs.PlaceLaws.{same-true}
 use Rattle.joined.proofs.OneTreeLaws.{tree-simple}
 use Rattle.refiner.specs.Turns.{turns}
-use Rattle.tree.specs.Table.{pointBound, firstEnd, secondEnd, Tree, Within}
+use Rattle.tree.specs.Table.{treeBound, firstEnd, secondEnd, Tree, Within}
 use Rattle.refiner.specs.Exchange.{closed}
 use Rattle.refiner.specs.Prune.{markOf, marks, countEnds, loose, looseEdge, firstLoose, prune}
 use Rattle.refiner.specs.Refined.{pruned}
-use Rattle.tree.specs.Sum.{below, over}
+use Rattle.tree.specs.Sum.{below, sumOver}
 use Rattle.tree.specs.Places.{endsOf, Sound}
 use Rattle.refiner.specs.Sentences.{NoneLeft}
 use Rattle.tree.proofs.SumLaws.{below-at, below-some, one, one-same, one-some, one-not}
@@ -38,7 +38,7 @@ use Rattle.refiner.proofs.RefinedSound.{marks-at, zeros-length}
 
 first-none : (pin ks : List ℕ) → firstLoose pin ks 0 ≡ 0
 unfolding firstLoose
-first-none pin ks = omega (arith, seek-le (looseEdge pin (turns (countEnds ks) 0 0 (replicate pointBound 0)) ks) 0 0)
+first-none pin ks = omega (arith, seek-le (looseEdge pin (turns (countEnds ks) 0 0 (replicate treeBound 0)) ks) 0 0)
 
 -- after pruning there is no edge to go
 pub none-loose : (pin : List ℕ) (e : ℕ) (ks : List ℕ) → firstLoose pin (prune pin ks e .keys) (prune pin ks e .size) ≡ prune pin ks e .size
@@ -50,13 +50,13 @@ none-loose pin (suc e) ks =
 
 -- where none is to go, no edge has a point that is no pin and has a single edge
 not-loose : (pin ks : List ℕ) (e : ℕ) → firstLoose pin ks e ≡ e → (i : ℕ) → i < e →
-    looseEdge pin (turns (countEnds ks) 0 e (replicate pointBound 0)) ks i ≡ false
+    looseEdge pin (turns (countEnds ks) 0 e (replicate treeBound 0)) ks i ≡ false
 unfolding firstLoose
-not-loose pin ks e q i h = seek-before (looseEdge pin (turns (countEnds ks) 0 e (replicate pointBound 0)) ks) e 0 i (omega arith)
+not-loose pin ks e q i h = seek-before (looseEdge pin (turns (countEnds ks) 0 e (replicate treeBound 0)) ks) e 0 i (omega arith)
     (omega (arith, q))
 
 pub pruned-none : (pin ks : List ℕ) (e i : ℕ) → i < prune pin ks e .size →
-    looseEdge pin (turns (countEnds (prune pin ks e .keys)) 0 (prune pin ks e .size) (replicate pointBound 0)) (prune pin ks e .keys) i
+    looseEdge pin (turns (countEnds (prune pin ks e .keys)) 0 (prune pin ks e .size) (replicate treeBound 0)) (prune pin ks e .keys) i
     ≡ false
 pruned-none pin ks e i h = not-loose pin (prune pin ks e .keys) (prune pin ks e .size) (none-loose pin e ks) i h
 
@@ -93,11 +93,11 @@ count-ends v k h =
     (λ t. inr (sym (one-some v (secondEnd k) (omega (arith, ltb-false 0 (one v (firstEnd k)) t)))))
 
 -- no edge with a loose point: a point that is no pin and has an edge has another
-module _ (n : ℕ) (pin ks : List ℕ) (e : ℕ) (few : n ≤ pointBound) (w : Within n ks)
+module _ (n : ℕ) (pin ks : List ℕ) (e : ℕ) (few : n ≤ treeBound) (w : Within n ks)
     (apart : (i : ℕ) → i < e → firstEnd (getD ks i 0) ≡ secondEnd (getD ks i 0) → ⊥)
-    (done : (i : ℕ) → i < e → looseEdge pin (turns (countEnds ks) 0 e (replicate pointBound 0)) ks i ≡ false) where
+    (done : (i : ℕ) → i < e → looseEdge pin (turns (countEnds ks) 0 e (replicate treeBound 0)) ks i ≡ false) where
   abbrev counted : List ℕ
-  counted = turns (countEnds ks) 0 e (replicate pointBound 0)
+  counted = turns (countEnds ks) 0 e (replicate treeBound 0)
 
   -- such a point has not a single edge
   not-single : (v i : ℕ) → i < e → (v ≡ firstEnd (getD ks i 0)) ⊎ (v ≡ secondEnd (getD ks i 0)) → getD pin v 0 ≡ 0 → getD counted v 0 ≡ 1 →
@@ -114,23 +114,23 @@ module _ (n : ℕ) (pin ks : List ℕ) (e : ℕ) (few : n ≤ pointBound) (w : W
       let own = ends-count v (getD ks i 0) (apart i h) q in
       let all = degree n ks e v w few in
       let at = below-at (λ j. endCount v (getD ks j 0)) e i h in
-      let more : over (endCount v) ks e ≡ 1 → ⊥ = λ s. not-single v i h q free (all ∙ s) in
+      let more : sumOver (endCount v) ks e ≡ 1 → ⊥ = λ s. not-single v i h q free (all ∙ s) in
       let r = below-two (λ j. endCount v (getD ks j 0)) e i h (omega (arith, own, at, more)) in
       (r .0, (r .1 .0, (r .1 .1 .0, count-ends v (getD ks (r .0) 0) (r .1 .1 .1))))
 
 -- a point that is no pin has the mark 0
-pub no-pin : (pins : List Place) (pts : List ℤ) (n : ℕ) → n ≤ pointBound → (v : ℕ) → v < n → (placeAt pts v ∈ pins → ⊥) →
+pub no-pin : (pins : List Place) (pts : List ℤ) (n : ℕ) → n ≤ treeBound → (v : ℕ) → v < n → (placeAt pts v ∈ pins → ⊥) →
     getD (marks pins pts n) v 0 ≡ 0
 unfolding marks markOf
 no-pin pins pts n few v h d =
-    marks-at pins pts n 0 (replicate pointBound 0) v (rw (zeros-length pointBound) (omega arith)) (omega arith) (omega arith)
+    marks-at pins pts n 0 (replicate treeBound 0) v (rw (zeros-length treeBound) (omega arith)) (omega arith) (omega arith)
     ∙ ap markOf (none-any (samePlace (placeAt pts v)) pins none)
   where
     none : (x : Place) → x ∈ pins → samePlace (placeAt pts v) x ≡ false
     none x m = by (samePlace (placeAt pts v) x) (λ t. absurd (d (subst (λ (y : Place). y ∈ pins) (sym (same-true _ _ t)) m))) (λ t. t)
 
 -- R16, its end, of a tree over its points
-pub pruned-left : (net : Net) (t : Tree) → Sound net t → t .count ≤ pointBound → NoneLeft (net .pins) (pruned (net .pins) t)
+pub pruned-left : (net : Net) (t : Tree) → Sound net t → t .count ≤ treeBound → NoneLeft (net .pins) (pruned (net .pins) t)
 unfolding pruned
 pruned-left net t sound few = record {
   two =

@@ -16,7 +16,7 @@ use Rattle.plane.specs.Flat.{placeAt}
 use Rattle.lists.proofs.TestLaws.{by}
 use Rattle.refiner.specs.Longest.{Reach, attach, hang, longer, measure, edgeCost, noEdge, pass, reach, shorter, spread}
 use Rattle.refiner.specs.Longest.{spreads, wins}
-use Rattle.tree.specs.Table.{Small, firstEnd, key, pointBound, secondEnd}
+use Rattle.tree.specs.Table.{Small, firstEnd, key, treeBound, secondEnd}
 use Rattle.refiner.specs.Turns.{turns}
 use Rattle.refiner.proofs.TurnLaws.{turns-keep, turns-below}
 
@@ -83,11 +83,11 @@ small-spread m el v p k w t h s =
     let x = longer-small m el (getD t (key p w) 0) k (s .small (key p w)) h in
     small-set m _ _ _ x (small-set m t _ _ x s)
 
-pub small-spreads : (el : List ℕ) (n v p k : ℕ) (t : List ℕ) → k < pointBound → Small pointBound t → Small pointBound (spreads el n v p k t)
+pub small-spreads : (el : List ℕ) (n v p k : ℕ) (t : List ℕ) → k < treeBound → Small treeBound t → Small treeBound (spreads el n v p k t)
 unfolding spreads
 small-spreads el n v p k t h s =
-    small-set pointBound _ _ _ (omega arith) (turns-keep (spread el v p k) (Small pointBound) n 0 t
-    (λ j u q. small-spread pointBound el v p k j u h q) s)
+    small-set treeBound _ _ _ (omega arith) (turns-keep (spread el v p k) (Small treeBound) n 0 t
+    (λ j u q. small-spread treeBound el v p k j u h q) s)
 
 pub spreads-is : (el : List ℕ) (n v p k : ℕ) (t u : List ℕ) → u ≡ turns (spread el v p k) 0 n t → set u (key v v) noEdge
     ≡ spreads el n v p k t
@@ -110,8 +110,8 @@ module _ (el : List ℕ) (n a b k : ℕ) (s t : List ℕ) where
   unfolding attach hang
   attach-two d e u h = rw (h, attach, ne-eqb _ _ d, ne-eqb _ _ e) refl
 
-pub small-attach : (el : List ℕ) (n a b k : ℕ) (r : Reach) → k < pointBound → Small pointBound (r .top) →
-    Small pointBound (attach el n a b k r .top)
+pub small-attach : (el : List ℕ) (n a b k : ℕ) (r : Reach) → k < treeBound → Small treeBound (r .top) →
+    Small treeBound (attach el n a b k r .top)
 unfolding attach hang
 small-attach el n a b k r h s =
     by (eqb (getD (r .seen) a 0) (getD (r .seen) b 0))
@@ -119,8 +119,8 @@ small-attach el n a b k r h s =
     (λ e. by (eqb (getD (r .seen) a 0) 0) (λ f. rw (attach, e, f) (small-spreads el n a b k (r .top) h s))
     (λ f. rw (attach, e, f) (small-spreads el n b a k (r .top) h s)))
 
-pub small-attached : (el : List ℕ) (n a b k : ℕ) (s t s′ t′ : List ℕ) → reach s′ t′ ≡ attach el n a b k (reach s t) → k < pointBound
-    → Small pointBound t → Small pointBound t′
+pub small-attached : (el : List ℕ) (n a b k : ℕ) (s t s′ t′ : List ℕ) → reach s′ t′ ≡ attach el n a b k (reach s t) → k < treeBound
+    → Small treeBound t → Small treeBound t′
 small-attached el n a b k s t s′ t′ e h q = rw (ap (λ (r : Reach). r .top) e) (small-attach el n a b k (reach s t) h q)
 
 pub pass-is : (keys el : List ℕ) (n k : ℕ) (r : Reach) → attach el n (firstEnd (getD keys k 0)) (secondEnd (getD keys k 0)) k r
@@ -128,9 +128,9 @@ pub pass-is : (keys el : List ℕ) (n k : ℕ) (r : Reach) → attach el n (firs
 unfolding pass
 pass-is keys el n k r = refl
 
-pub small-passed : (keys el : List ℕ) (n e : ℕ) (s t s′ t′ : List ℕ) → reach s′ t′ ≡ turns (pass keys el n) 0 e (reach s t) → e ≤ pointBound
-    → Small pointBound t → Small pointBound t′
+pub small-passed : (keys el : List ℕ) (n e : ℕ) (s t s′ t′ : List ℕ) → reach s′ t′ ≡ turns (pass keys el n) 0 e (reach s t) → e ≤ treeBound
+    → Small treeBound t → Small treeBound t′
 unfolding pass
 small-passed keys el n e s t s′ t′ q h i =
-    rw (ap (λ (r : Reach). r .top) q) (turns-below (pass keys el n) (λ r. Small pointBound (r .top)) pointBound
+    rw (ap (λ (r : Reach). r .top) q) (turns-below (pass keys el n) (λ r. Small treeBound (r .top)) treeBound
     (λ j r b k. small-attach el n _ _ j r b k) e 0 (reach s t) (omega arith) i)

@@ -21,7 +21,7 @@ use Rattle.joined.specs.Way.{Way, stop, go}
 use Rattle.joined.specs.Exchange.{steps}
 use Rattle.joined.proofs.JoinedLaws.{firsts, seconds}
 use Rattle.joined.proofs.OtherLaws.{alike-trans}
-use Rattle.tree.specs.Table.{pointBound, pairBound, key, firstEnd, secondEnd}
+use Rattle.tree.specs.Table.{treeBound, pairBound, key, firstEnd, secondEnd}
 use Rattle.refiner.specs.Longest.{wins, longer, noEdge, spreads, Reach, reach}
 use Rattle.tree.specs.Places.{endsOf, edgesOf, InOrder}
 use Rattle.refiner.proofs.LongestLaws.{longer-yes, longer-no}
@@ -76,13 +76,13 @@ module _ (pts : List ℤ) (n : ℕ) (ks : List ℕ) (e : ℕ) (el : List ℕ) wh
     pub top : Top (getD (r .top) (key v w) 0) (placeAt pts v) points
 
   pub record Good (r : Reach) : Type 0 where
-    pub room : length (r .seen) ≡ pointBound
+    pub room : length (r .seen) ≡ treeBound
     pub sized : length (r .top) ≡ pairBound
     pub marks : (i : ℕ) → (getD (r .seen) i 0 ≡ 0) ⊎ (getD (r .seen) i 0 ≡ 1)
     pub known : (v w : ℕ) → Seen (r .seen) v → Seen (r .seen) w → Known r v w
     pub even : (v w : ℕ) → Seen (r .seen) v → Seen (r .seen) w → getD (r .top) (key v w) 0 ≡ getD (r .top) (key w v) 0
 
-  module _ (o : InOrder pts n) (few : n ≤ pointBound) (fewer : e < pointBound) (none : getD el noEdge 0 ≡ 0)
+  module _ (o : InOrder pts n) (few : n ≤ treeBound) (fewer : e < treeBound) (none : getD el noEdge 0 ≡ 0)
       (alone : (i j : ℕ) (c d : Place) → i < e → j < e → Ends i c d → Ends j c d → i ≡ j) where
     -- the edge k is not longer than a way with no step
     not-none : (k x : ℕ) → k < e → x ≡ noEdge → wins el x k ≡ true → ⊥

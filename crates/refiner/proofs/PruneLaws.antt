@@ -17,7 +17,7 @@ use Rattle.net.specs.Net.{Net}
 use Rattle.refiner.specs.Exchange.{closed}
 use Rattle.refiner.specs.Prune.{countEnds, firstLoose, loose, looseEdge, prune, markOf, mark, marks}
 use Rattle.refiner.specs.Refined.{pruned, rounds, refined}
-use Rattle.tree.specs.Table.{Low, Row, firstEnd, pointBound, row, secondEnd, Tree, tree}
+use Rattle.tree.specs.Table.{Low, Row, firstEnd, treeBound, row, secondEnd, Tree, tree}
 use Rattle.refiner.specs.Turns.{seek, turns}
 
 low-at : (n : ℕ) (xs : List ℕ) (v x : ℕ) → x ≤ n → ((i : ℕ) → getD xs i 0 ≤ n) → (i : ℕ) → getD (set xs v x) i 0 ≤ n
@@ -64,7 +64,7 @@ pub loose-edge-is : (pin d ks : List ℕ) (i : ℕ) (p q : Bool) → p ≡ loose
 unfolding looseEdge
 loose-edge-is pin d ks i p q e f = rw (e, f) refl
 
-pub first-loose-is : (pin ks d : List ℕ) (e r : ℕ) → d ≡ turns (countEnds ks) 0 e (replicate pointBound 0) → r
+pub first-loose-is : (pin ks d : List ℕ) (e r : ℕ) → d ≡ turns (countEnds ks) 0 e (replicate treeBound 0) → r
     ≡ seek (looseEdge pin d ks) 0 e
     → r ≡ firstLoose pin ks e
 unfolding firstLoose
@@ -108,7 +108,7 @@ module _ (pins : List Place) (pts : List ℤ) (i : ℕ) (t : List ℕ) (p : Plac
   mark-none h = rw (← e, h) refl
 
 pub pruned-is : (pins : List Place) (pts : List ℤ) (n : ℕ) (ks : List ℕ) (e : ℕ) (pin : List ℕ) (r : Row)
-    → pin ≡ turns (mark pins pts) 0 n (replicate pointBound 0) → r ≡ prune pin ks e → r ≡ pruned pins (tree pts n ks e) .edges
+    → pin ≡ turns (mark pins pts) 0 n (replicate treeBound 0) → r ≡ prune pin ks e → r ≡ pruned pins (tree pts n ks e) .edges
 unfolding pruned marks
 pruned-is pins pts n ks e pin r f g = rw f at g
 

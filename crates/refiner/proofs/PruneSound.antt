@@ -24,10 +24,10 @@ use Rattle.joined.proofs.JoinedLaws.{firsts, seconds}
 use Rattle.joined.proofs.OtherLaws.{alike-sym, alike-trans}
 use Rattle.joined.proofs.PruneLaws.{prune-tree, prune-inside}
 use Rattle.refiner.specs.Turns.{turns}
-use Rattle.tree.specs.Table.{pointBound, firstEnd, secondEnd, Row, Within}
+use Rattle.tree.specs.Table.{treeBound, firstEnd, secondEnd, Row, Within}
 use Rattle.refiner.specs.Exchange.{closed}
 use Rattle.refiner.specs.Prune.{countEnds, loose, looseEdge, firstLoose, prune}
-use Rattle.tree.specs.Sum.{over}
+use Rattle.tree.specs.Sum.{sumOver}
 use Rattle.tree.specs.Places.{endsOf, edgesOf, InOrder}
 use Rattle.refiner.proofs.WithinLaws.{seek-le, within-closed}
 use Rattle.tree.proofs.SumLaws.{below-at, from, from-below, other, here, one, one-same}
@@ -69,9 +69,9 @@ length-count : (ks : List ℕ) (i : ℕ) (d : List ℕ) → length (countEnds ks
 unfolding countEnds
 length-count ks i d = simp length-set
 
-counts : (ks : List ℕ) → ((j : ℕ) → (firstEnd (getD ks j 0) < pointBound) × (secondEnd (getD ks j 0) < pointBound)) →
+counts : (ks : List ℕ) → ((j : ℕ) → (firstEnd (getD ks j 0) < treeBound) × (secondEnd (getD ks j 0) < treeBound)) →
     (c i : ℕ) (d : List ℕ) (v : ℕ) →
-    length d ≡ pointBound → getD (turns (countEnds ks) i c d) v 0 ≡ getD d v 0 + from (λ j. endCount v (getD ks j 0)) i c
+    length d ≡ treeBound → getD (turns (countEnds ks) i c d) v 0 ≡ getD d v 0 + from (λ j. endCount v (getD ks j 0)) i c
 unfolding turns from
 counts ks h zero i d v s = omega arith
 counts ks h (suc c) i d v s =
@@ -84,12 +84,12 @@ zeros-at zero i = refl
 zeros-at (suc n) zero = refl
 zeros-at (suc n) (suc i) = zeros-at n i
 
-pub degree : (n : ℕ) (ks : List ℕ) (e v : ℕ) → Within n ks → n ≤ pointBound →
-    getD (turns (countEnds ks) 0 e (replicate pointBound 0)) v 0 ≡ over (endCount v) ks e
+pub degree : (n : ℕ) (ks : List ℕ) (e v : ℕ) → Within n ks → n ≤ treeBound →
+    getD (turns (countEnds ks) 0 e (replicate treeBound 0)) v 0 ≡ sumOver (endCount v) ks e
 degree n ks e v w few =
-    let r = counts ks (λ j. (omega (arith, w .ends j .0), omega (arith, w .ends j .1))) e 0 (replicate pointBound 0) v refl in
+    let r = counts ks (λ j. (omega (arith, w .ends j .0), omega (arith, w .ends j .1))) e 0 (replicate treeBound 0) v refl in
     let f = from-below (λ j. endCount v (getD ks j 0)) e in
-    omega (arith, r, f, zeros-at pointBound v)
+    omega (arith, r, f, zeros-at treeBound v)
 
 -- points in order with the same place are one
 pub order-same : (pts : List ℤ) (n i j : ℕ) → InOrder pts n → i < n → j < n → placeAt pts i ≡ placeAt pts j → i ≡ j
@@ -100,7 +100,7 @@ order-same pts n i j o h l e =
 
 -- One point goes
 
-module _ (pts : List ℤ) (n : ℕ) (o : InOrder pts n) (few : n ≤ pointBound) (ks : List ℕ) (w : Within n ks) (e i : ℕ) (hi : i ≤ e) where
+module _ (pts : List ℤ) (n : ℕ) (o : InOrder pts n) (few : n ≤ treeBound) (ks : List ℕ) (w : Within n ks) (e i : ℕ) (hi : i ≤ e) where
   abbrev pub T : List (Place × Place)
   T = edgesOf pts ks (suc e)
 
@@ -128,7 +128,7 @@ module _ (pts : List ℤ) (n : ℕ) (o : InOrder pts n) (few : n ≤ pointBound)
 
   -- the edge i joins v and another point, and no other edge has v
   module _ (v z : ℕ) (hv : v < n) (ends : Alike v z (firstEnd (getD ks i 0)) (secondEnd (getD ks i 0)))
-      (single : over (endCount v) ks (suc e) ≡ 1) where
+      (single : sumOver (endCount v) ks (suc e) ≡ 1) where
     placed : Alike v z (firstEnd (getD ks i 0)) (secondEnd (getD ks i 0))
         → Alike (placeAt pts v) (placeAt pts z) (placeAt pts (firstEnd (getD ks i 0))) (placeAt pts (secondEnd (getD ks i 0)))
     placed (inl h) = inl (ap (placeAt pts) (h .0), ap (placeAt pts) (h .1))
@@ -212,15 +212,15 @@ pruned-was pin (suc e) ks j h =
 
 pub first-le : (pin ks : List ℕ) (e : ℕ) → firstLoose pin ks e ≤ e
 unfolding firstLoose
-first-le pin ks e = omega (arith, seek-le (looseEdge pin (turns (countEnds ks) 0 e (replicate pointBound 0)) ks) e 0)
+first-le pin ks e = omega (arith, seek-le (looseEdge pin (turns (countEnds ks) 0 e (replicate treeBound 0)) ks) e 0)
 
 pub first-hit : (pin ks : List ℕ) (e : ℕ) → firstLoose pin ks e < e →
-    looseEdge pin (turns (countEnds ks) 0 e (replicate pointBound 0)) ks (firstLoose pin ks e) ≡ true
+    looseEdge pin (turns (countEnds ks) 0 e (replicate treeBound 0)) ks (firstLoose pin ks e) ≡ true
 unfolding firstLoose
-first-hit pin ks e h = seek-hit (looseEdge pin (turns (countEnds ks) 0 e (replicate pointBound 0)) ks) e 0 (omega arith)
+first-hit pin ks e h = seek-hit (looseEdge pin (turns (countEnds ks) 0 e (replicate treeBound 0)) ks) e 0 (omega arith)
 
 -- no sum is raised
-pub pruned-over : (g : ℕ → ℕ) (pin : List ℕ) (e : ℕ) (ks : List ℕ) → over g (prune pin ks e .keys) (prune pin ks e .size) ≤ over g ks e
+pub pruned-over : (g : ℕ → ℕ) (pin : List ℕ) (e : ℕ) (ks : List ℕ) → sumOver g (prune pin ks e .keys) (prune pin ks e .size) ≤ sumOver g ks e
 unfolding prune
 pruned-over g pin zero ks = omega arith
 pruned-over g pin (suc e) ks =
@@ -231,7 +231,7 @@ pruned-over g pin (suc e) ks =
     let l = first-le pin ks (suc e) in
     rw (prune, t) (omega (arith, pruned-over g pin e (closed i e ks), over-closed g i e ks (omega arith))))
 
-module _ (pts : List ℤ) (n : ℕ) (o : InOrder pts n) (few : n ≤ pointBound) (pins : List Place) (pin : List ℕ)
+module _ (pts : List ℤ) (n : ℕ) (o : InOrder pts n) (few : n ≤ treeBound) (pins : List Place) (pin : List ℕ)
     (marked : (v : ℕ) → v < n → getD pin v 0 ≡ 0 → placeAt pts v ∈ pins → ⊥) where
   abbrev Held : List ℕ → ℕ → Type 0
   Held ks e = Whole pts pins (record { keys = ks; size = e })
@@ -239,7 +239,7 @@ module _ (pts : List ℤ) (n : ℕ) (o : InOrder pts n) (few : n ≤ pointBound)
   -- the point v of the edge i goes
   goes : (ks : List ℕ) → Within n ks → (e i : ℕ) → i ≤ e → (v z : ℕ) →
       Alike v z (firstEnd (getD ks i 0)) (secondEnd (getD ks i 0)) →
-      loose pin (turns (countEnds ks) 0 (suc e) (replicate pointBound 0)) v ≡ true → Held ks (suc e) → Held (closed i e ks) e
+      loose pin (turns (countEnds ks) 0 (suc e) (replicate treeBound 0)) v ≡ true → Held ks (suc e) → Held (closed i e ks) e
   unfolding loose
   goes ks w e i hi v z ends is whole =
       let hv : v < n = low ends in
@@ -278,7 +278,7 @@ module _ (pts : List ℤ) (n : ℕ) (o : InOrder pts n) (few : n ≤ pointBound)
       by (eqb (firstLoose pin ks (suc e)) (suc e)) (λ t. rw (prune, t) h)
       (λ t.
       let i = firstLoose pin ks (suc e) in
-      let d = turns (countEnds ks) 0 (suc e) (replicate pointBound 0) in
+      let d = turns (countEnds ks) 0 (suc e) (replicate treeBound 0) in
       let ne : i ≡ suc e → ⊥ = eqb-false i (suc e) t in
       let le = first-le pin ks (suc e) in
       let hit = first-hit pin ks (suc e) (omega arith) in

@@ -19,7 +19,7 @@ use Rattle.joined.proofs.JoinedLaws.{one as one-link}
 use Rattle.joined.proofs.TreeLaws.{tree-cuts, cuts-forest}
 use Rattle.refiner.specs.Turns.{turns}
 use Rattle.net.specs.Net.{Net}
-use Rattle.tree.specs.Table.{pointBound, key, firstEnd, secondEnd, Row, row, Tree, Within}
+use Rattle.tree.specs.Table.{treeBound, key, firstEnd, secondEnd, Row, row, Tree, Within}
 use Rattle.refiner.specs.Exchange.{closed, dropTwo, stands, bump, bumpAt, carrying, lay, lays, star, laidAt}
 use Rattle.refiner.specs.Prune.{firstLoose, prune}
 use Rattle.tree.specs.Places.{listing, endsOf, edgesOf, Ranked, Sound}
@@ -82,7 +82,7 @@ bump-less p a b h =
     (λ v. omega (arith, bump-lt p a (ltb-true a p t), bump-ge p b (ltb-false b p v))))
     (λ t. let g : p ≤ a = ltb-false a p t in omega (arith, bump-ge p a g, bump-ge p b (omega arith)))
 
-bump-key-less : (n p j k : ℕ) → n < pointBound → secondEnd j < n → secondEnd k < n → j < k → bumpKey p j < bumpKey p k
+bump-key-less : (n p j k : ℕ) → n < treeBound → secondEnd j < n → secondEnd k < n → j < k → bumpKey p j < bumpKey p k
 bump-key-less n p j k few hj hk h =
     let bj = bump-in n p (secondEnd j) hj in
     by (ltb (firstEnd j) (firstEnd k))
@@ -92,12 +92,12 @@ bump-key-less n p j k few hj hk h =
     let f : bump p (firstEnd j) ≡ bump p (firstEnd k) = ap (bump p) e in
     omega (arith, f, bump-less p (secondEnd j) (secondEnd k) (omega (arith, e))))
 
-bumped-ranked : (n p e : ℕ) (ks : List ℕ) → n < pointBound → e ≤ length ks → Within n ks → Ranked ks e → Ranked (turns (bumpAt p) 0 e ks) e
+bumped-ranked : (n p e : ℕ) (ks : List ℕ) → n < treeBound → e ≤ length ks → Within n ks → Ranked ks e → Ranked (turns (bumpAt p) 0 e ks) e
 bumped-ranked n p e ks few room w r = record {
   upward =
       λ i h.
       let k = getD ks i 0 in
-      let high : bump p (secondEnd k) < pointBound = omega (arith, bump-in n p (secondEnd k) (w .ends i .1)) in
+      let high : bump p (secondEnd k) < treeBound = omega (arith, bump-in n p (secondEnd k) (w .ends i .1)) in
       let up = bump-less p (firstEnd k) (secondEnd k) (r .upward i h) in
       subst (λ (j : ℕ). firstEnd j < secondEnd j) (sym (at i h))
       (omega (
@@ -203,7 +203,7 @@ carry-level (suc c) i q xs room up low g =
         (λ v. let e : getD xs i 0 ≡ getD xs j 0 = ap (λ (m : ℕ). getD xs m 0) (eqb-true i j v) in omega (arith, e, t))
         (λ v. let d : i ≡ j → ⊥ = eqb-false i j v in low j (omega (arith, d)))
 
-lay-level : (p a : ℕ) (r : Row) → p < pointBound → a < pointBound → r .size < length (r .keys) → Level (r .keys) (r .size)
+lay-level : (p a : ℕ) (r : Row) → p < treeBound → a < treeBound → r .size < length (r .keys) → Level (r .keys) (r .size)
     → Level (lay p a r .keys) (lay p a r .size)
 unfolding lay
 lay-level p a r hp ha room g =
@@ -211,7 +211,7 @@ lay-level p a r hp ha room g =
     (λ t. rw (lay, t) (put p a (ltb-true p a t) ha))
     (λ t. by (ltb a p) (λ s. rw (lay, t, s) (put a p (ltb-true a p s) hp)) (λ s. rw (lay, t, s) g))
   where
-    put : (x y : ℕ) → x < y → y < pointBound → Level (carrying 0 (r .size) (key x y) (r .keys)) (r .size + 1)
+    put : (x y : ℕ) → x < y → y < treeBound → Level (carrying 0 (r .size) (key x y) (r .keys)) (r .size + 1)
     put x y h l =
         let z : suc (0 + r .size) ≡ r .size + 1 = omega arith in
         let n : r .size ≡ 0 + r .size = omega arith in
@@ -219,7 +219,7 @@ lay-level p a r hp ha room g =
         (carry-level (r .size) 0 (key x y) (r .keys) (omega arith) (omega (arith, first-of x y l, second-of x y l))
         (λ j f. absurd (let z : ⊥ = omega arith in z)) (subst (Level (r .keys)) n g))
 
-lays-level : (es : List (ℕ × ℕ)) (r : Row) → Ends pointBound es → r .size + length es ≤ length (r .keys) → Level (r .keys) (r .size)
+lays-level : (es : List (ℕ × ℕ)) (r : Row) → Ends treeBound es → r .size + length es ≤ length (r .keys) → Level (r .keys) (r .size)
     → Level (lays es r .keys) (lays es r .size)
 unfolding lays
 lays-level [] r h room g = g
@@ -227,7 +227,7 @@ lays-level (e ∷ es) r h room g =
     lays-level es (lay (e .0) (e .1) r) (h .1) (rw (length-lay (e .0) (e .1) r) (omega (arith, size-lay (e .0) (e .1) r)))
     (lay-level (e .0) (e .1) r (h .0 .0) (h .0 .1) (omega arith) g)
 
-pub laid-level : (pts : List ℤ) (n : ℕ) (ks : List ℕ) (e p a b u : ℕ) (s : Place) → n < pointBound → e + 2 < length ks → p ≤ n → a < n → b
+pub laid-level : (pts : List ℤ) (n : ℕ) (ks : List ℕ) (e p a b u : ℕ) (s : Place) → n < treeBound → e + 2 < length ks → p ≤ n → a < n → b
     < n → u < n
     → Within n ks → Ranked ks e → Level (laidAt pts n ks e p a b u s .edges .keys) (laidAt pts n ks e p a b u s .edges .size)
 unfolding laidAt
@@ -235,12 +235,12 @@ laid-level pts n ks e p a b u s few room hp ha hb hu w r =
     by (stands pts n p s)
     (λ t.
     rw (laidAt, t)
-    (lays-level (star p a b u) (row ks e) (star-ends pointBound p a b u (omega arith) (omega arith) (omega arith) (omega arith))
+    (lays-level (star p a b u) (row ks e) (star-ends treeBound p a b u (omega arith) (omega arith) (omega arith) (omega arith))
     (omega arith) (ranked-level r)))
     (λ t.
     rw (laidAt, t)
     (lays-level (star p (bump p a) (bump p b) (bump p u)) (row (turns (bumpAt p) 0 e ks) e)
-    (star-ends pointBound p (bump p a) (bump p b) (bump p u) (omega arith) (omega (arith, bump-in n p a ha))
+    (star-ends treeBound p (bump p a) (bump p b) (bump p u) (omega arith) (omega (arith, bump-in n p a ha))
     (omega (arith, bump-in n p b hb)) (omega (arith, bump-in n p u hu)))
     (rw (length-bumps p e ks) (omega arith))
     (ranked-level (bumped-ranked n p e ks few (omega arith) w r))))

@@ -21,7 +21,7 @@ use Rattle.joined.specs.Way.{Way, stop, go}
 use Rattle.joined.specs.Exchange.{steps}
 use Rattle.joined.proofs.WayLaws.{joined-free}
 use Rattle.refiner.specs.Turns.{turns}
-use Rattle.tree.specs.Table.{pointBound, pairBound, key, firstEnd, secondEnd, Within}
+use Rattle.tree.specs.Table.{treeBound, pairBound, key, firstEnd, secondEnd, Within}
 use Rattle.refiner.specs.Longest.{noEdge, Reach, hang, attach, pass, reached, start}
 use Rattle.tree.specs.Places.{endsOf, pointsOf, edgesOf, InOrder}
 use Rattle.refiner.proofs.TurnLaws.{turns-keep, turns-below}
@@ -42,13 +42,13 @@ zero-entry (suc m) zero = refl
 zero-entry (suc m) (suc i) = zero-entry m i
 
 abbrev zeros : List ℕ
-zeros = replicate pointBound 0
+zeros = replicate treeBound 0
 
 same-length : (m x : ℕ) → length (replicate m x) ≡ m
 same-length zero x = refl
 same-length (suc m) x = ap suc (same-length m x)
 
-module _ (pts : List ℤ) (n : ℕ) (ks : List ℕ) (e : ℕ) (el : List ℕ) (o : InOrder pts n) (few : n ≤ pointBound) (fewer : e < pointBound)
+module _ (pts : List ℤ) (n : ℕ) (ks : List ℕ) (e : ℕ) (el : List ℕ) (o : InOrder pts n) (few : n ≤ treeBound) (fewer : e < treeBound)
     (none : getD el noEdge 0 ≡ 0) (alone : (i j : ℕ) (c d : Place) → i < e → j < e → Ends pts n ks e el i c d → Ends pts n ks e el j c d →
     i ≡ j)
     (w : Within n ks) where
@@ -185,10 +185,10 @@ module _ (pts : List ℤ) (n : ℕ) (ks : List ℕ) (e : ℕ) (el : List ℕ) (o
   begin : 0 < n → Fine start
   unfolding start steps
   begin h = record {
-    room = length-set zeros 0 1 ∙ same-length pointBound 0;
+    room = length-set zeros 0 1 ∙ same-length treeBound 0;
     sized = same-length pairBound noEdge;
     marks = λ i. by (eqb 0 i) (λ q. inr (ap (λ (j : ℕ). getD (set zeros 0 1) j 0) (sym (eqb-true 0 i q))))
-        (λ q. inl (other zeros 0 i 1 (eqb-false 0 i q) ∙ zero-entry pointBound i));
+        (λ q. inl (other zeros 0 i 1 (eqb-false 0 i q) ∙ zero-entry treeBound i));
     known = λ x y s q. subst (λ (i : ℕ). Known pts n ks e el start i y) (sym (only x (s .1)))
         (subst (λ (i : ℕ). Known pts n ks e el start 0 i) (sym (only y (q .1))) first);
     even = λ x y s q. ap₂ (λ (i j : ℕ). getD (start .top) (key i j) 0) (only x (s .1) ∙ sym (only y (q .1)))
@@ -198,7 +198,7 @@ module _ (pts : List ℤ) (n : ℕ) (ks : List ℕ) (e : ℕ) (el : List ℕ) (o
       only : (i : ℕ) → Has start i → i ≡ 0
       only i s =
           by (eqb 0 i) (λ q. sym (eqb-true 0 i q))
-          (λ q. absurd (let z : getD (set zeros 0 1) i 0 ≡ 0 = other zeros 0 i 1 (eqb-false 0 i q) ∙ zero-entry pointBound i in
+          (λ q. absurd (let z : getD (set zeros 0 1) i 0 ≡ 0 = other zeros 0 i 1 (eqb-false 0 i q) ∙ zero-entry treeBound i in
           let y : ⊥ = omega
           (arith, s, z) in y))
 

@@ -22,7 +22,7 @@ use Rattle.net.specs.Net.{Net}
 use Rattle.plane.proofs.PlaceLaws.{same-refl}
 use Rattle.joined.proofs.OneTreeLaws.{tree-one}
 use Rattle.refiner.specs.Turns.{turns}
-use Rattle.tree.specs.Table.{pointBound, Tree}
+use Rattle.tree.specs.Table.{treeBound, Tree}
 use Rattle.refiner.specs.Prune.{markOf, mark, marks}
 use Rattle.refiner.specs.Refined.{rounds, pruned, refined}
 use Rattle.refiner.specs.Promise.{Promise, Tabled}
@@ -61,26 +61,26 @@ zeros-length zero = refl
 zeros-length (suc m) = ap suc (zeros-length m)
 
 -- a point with the mark 0 is no pin
-pub unmarked : (pins : List Place) (pts : List ℤ) (n : ℕ) → n ≤ pointBound → (v : ℕ) → v < n → getD (marks pins pts n) v 0 ≡ 0 →
+pub unmarked : (pins : List Place) (pts : List ℤ) (n : ℕ) → n ≤ treeBound → (v : ℕ) → v < n → getD (marks pins pts n) v 0 ≡ 0 →
     placeAt pts v ∈ pins → ⊥
 unfolding marks markOf
 unmarked pins pts n few v h e m =
     let at : getD (marks pins pts n) v 0 ≡ markOf (any (samePlace (placeAt pts v)) pins)
-    = marks-at pins pts n 0 (replicate pointBound 0) v (rw (zeros-length pointBound) (omega arith)) (omega arith) (omega arith) in
+    = marks-at pins pts n 0 (replicate treeBound 0) v (rw (zeros-length treeBound) (omega arith)) (omega arith) (omega arith) in
     by (any (samePlace (placeAt pts v)) pins)
     (λ t. let o : getD (marks pins pts n) v 0 ≡ 1 = at ∙ ap markOf t in let z : ⊥ = omega (arith, o, e) in z)
     (λ t. differ (same-refl (placeAt pts v)) (any-none (samePlace (placeAt pts v)) pins t (placeAt pts v) m))
 
 -- The refined tree
 
-pub refined-promise : (net : Net) (t : Tree) → Sound net t → t .count + length (net .pins) ≤ pointBound →
-    length (t .points) ≡ pointBound * 2 → length (t .edges .keys) ≡ pointBound → Promise net t (refined net t)
+pub refined-promise : (net : Net) (t : Tree) → Sound net t → t .count + length (net .pins) ≤ treeBound →
+    length (t .points) ≡ treeBound * 2 → length (t .edges .keys) ≡ treeBound → Promise net t (refined net t)
 unfolding refined pruned
 refined-promise net t sound few room rooms =
     let r = rounds (net .weights) (net .macros) (length (net .pins)) t in
     let k = rounds-kept net (length (net .pins)) t sound _ (own-room t (length (net .pins)) few) room rooms in
     let pin = marks (net .pins) (r .points) (r .count) in
-    let least : r .count ≤ pointBound = omega (arith, kept-count k) in
+    let least : r .count ≤ treeBound = omega (arith, kept-count k) in
     let whole = prune-whole (r .points) (r .count) (k .sound .ordered) least (net .pins) pin
     (unmarked (net .pins) (r .points) (r .count) least) (r .edges .size) (r .edges .keys) (k .sound .within) (held r (k .sound)) in
     record {
@@ -111,8 +111,8 @@ refined-promise net t sound few room rooms =
 
 -- Its edges in order
 
-pub refined-tabled : (net : Net) (t : Tree) → Sound net t → t .count + length (net .pins) ≤ pointBound →
-    length (t .points) ≡ pointBound * 2 → length (t .edges .keys) ≡ pointBound → Ranked (t .edges .keys) (t .edges .size) →
+pub refined-tabled : (net : Net) (t : Tree) → Sound net t → t .count + length (net .pins) ≤ treeBound →
+    length (t .points) ≡ treeBound * 2 → length (t .edges .keys) ≡ treeBound → Ranked (t .edges .keys) (t .edges .size) →
     Tabled net t (refined net t)
 unfolding refined pruned
 refined-tabled net t sound few room rooms ranked =

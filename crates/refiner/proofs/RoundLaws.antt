@@ -19,7 +19,7 @@ use Rattle.refiner.specs.Candidate.{found, search}
 use Rattle.refiner.specs.Exchange.{bump, bumpAt, closed, dropTwo, exchange, laidAt, lays, star, opened, rank, shift, stands}
 use Rattle.refiner.specs.Longest.{Reach, costs, measure, noEdge, pass, reach, reached, longest, start, edgeCost}
 use Rattle.refiner.specs.Refined.{addCost, total}
-use Rattle.tree.specs.Table.{Row, Small, Tree, firstEnd, pairBound, pointBound, row, secondEnd, tree}
+use Rattle.tree.specs.Table.{Row, Small, Tree, firstEnd, pairBound, treeBound, row, secondEnd, tree}
 use Rattle.refiner.specs.Turns.{turns}
 use Rattle.refiner.proofs.LongestLaws.{small-set, small-attach}
 use Rattle.refiner.proofs.TurnLaws.{turns-none, turns-keep, turns-below}
@@ -32,23 +32,23 @@ small-replicate b (suc n) x (suc i) h z = small-replicate b n x i h z
 pub small-all : (b n x : ℕ) → x < b → 0 < b → Small b (replicate n x)
 small-all b n x h z = record { small = λ i. small-replicate b n x i h z }
 
-pub small-reached : (keys el : List ℕ) (e n : ℕ) (s t s′ t′ : List ℕ) → reach s′ t′ ≡ reached keys el e n (reach s t) → e ≤ pointBound
-    → Small pointBound t → Small pointBound t′
+pub small-reached : (keys el : List ℕ) (e n : ℕ) (s t s′ t′ : List ℕ) → reach s′ t′ ≡ reached keys el e n (reach s t) → e ≤ treeBound
+    → Small treeBound t → Small treeBound t′
 unfolding reached pass
 small-reached keys el e n s t s′ t′ q h i =
     rw (ap (λ (r : Reach). r .top) q)
-    (turns-keep (λ (_ : ℕ) (r : Reach). turns (pass keys el n) 0 e r) (λ r. Small pointBound (r .top)) e 0 (reach s t)
-    (λ _ r k. turns-below (pass keys el n) (λ r. Small pointBound (r .top)) pointBound (λ j r b k. small-attach el n _ _ j r b k) e 0 r
+    (turns-keep (λ (_ : ℕ) (r : Reach). turns (pass keys el n) 0 e r) (λ r. Small treeBound (r .top)) e 0 (reach s t)
+    (λ _ r k. turns-below (pass keys el n) (λ r. Small treeBound (r .top)) treeBound (λ j r b k. small-attach el n _ _ j r b k) e 0 r
     (omega arith) k) i)
 
 pub found-is : (w : Weights) (ms : List Macro) (pts : List ℤ) (n : ℕ) (ks : List ℕ) (e : ℕ) (el s t : List ℕ) (r : Best)
-    → el ≡ turns (measure w pts ks) 0 e (replicate pointBound 0)
-    → reach s t ≡ reached ks el e n (reach (set (replicate pointBound 0) 0 1) (replicate pairBound noEdge))
+    → el ≡ turns (measure w pts ks) 0 e (replicate treeBound 0)
+    → reach s t ≡ reached ks el e n (reach (set (replicate treeBound 0) 0 1) (replicate pairBound noEdge))
     → r ≡ search w pts n ms ks e el t → r ≡ found w ms pts n ks e
 unfolding found costs longest start
 found-is w ms pts n ks e el s t r p q h = h ∙ ap (λ (v : List ℕ). search w pts n ms ks e el v) (ap (λ (v : Reach). v .top) q)
     ∙ ap (λ (v : List ℕ). search w pts n ms ks e v (reached ks v e n
-    (reach (set (replicate pointBound 0) 0 1) (replicate pairBound noEdge)) .top)) p
+    (reach (set (replicate treeBound 0) 0 1) (replicate pairBound noEdge)) .top)) p
 
 -- entries stay small
 pub small-closed : (m k n : ℕ) (xs : List ℕ) → Small m xs → Small m (closed k n xs)

@@ -16,13 +16,13 @@ use Rattle.plane.specs.Flat.{placeAt}
 use Rattle.net.specs.Net.{Net}
 use Rattle.refiner.specs.declared.Best.{Best}
 use Rattle.refiner.specs.Turns.{turns}
-use Rattle.tree.specs.Table.{pointBound, firstEnd, secondEnd, row, Tree, tree}
+use Rattle.tree.specs.Table.{treeBound, firstEnd, secondEnd, row, Tree, tree}
 use Rattle.refiner.specs.Longest.{edgeCost, costs, longest}
 use Rattle.refiner.specs.Candidate.{middleOf, found}
 use Rattle.refiner.specs.Exchange.{dropTwo, rank, stands, bump, bumpAt, star, laidAt, exchange}
 use Rattle.refiner.specs.Refined.{rounds, addCost, total}
-use Rattle.tree.specs.Sum.{below, over}
-use Rattle.tree.specs.Places.{pointsOf, keyCost, totalOf, Ranked, Sound}
+use Rattle.tree.specs.Sum.{below, sumOver}
+use Rattle.tree.specs.Places.{pointsOf, keyCost, treeTotal, Ranked, Sound}
 use Rattle.tree.specs.Outside.{strangers}
 use Rattle.refiner.specs.Taken.{Taken}
 use Rattle.refiner.proofs.ExchangeSums.{length-lays, length-bumps, length-dropped}
@@ -39,7 +39,7 @@ use Rattle.refiner.proofs.WinnerLaws.{Winner, found-wins, cost-at, no-c
 -- what m rounds keep
 pub record Kept (net : Net) (t r : Tree) (m : ℕ) : Type 0 where
   pub sound : Sound net r
-  pub total : totalOf (net .weights) r ≤ totalOf (net .weights) t
+  pub total : treeTotal (net .weights) r ≤ treeTotal (net .weights) t
   pub points : (vs : List Place) → strangers vs r ≤ strangers vs t + m
   pub places : length (r .points) ≡ length (t .points)
   pub rows : length (r .edges .keys) ≡ length (t .edges .keys)
@@ -63,7 +63,7 @@ module _ (pts : List ℤ) (n : ℕ) (ks : List ℕ) (e p a b u : ℕ) (s : Place
 -- One round
 
 module _ (net : Net) (pts : List ℤ) (n : ℕ) (ks : List ℕ) (e : ℕ) (sound : Sound net (tree pts n ks (suc e)))
-    (few : n < pointBound) (g k u l : ℕ) (win : Winner (net .weights) (net .macros) pts n ks (suc e) (costs (net .weights) pts ks (suc e))
+    (few : n < treeBound) (g k u l : ℕ) (win : Winner (net .weights) (net .macros) pts n ks (suc e) (costs (net .weights) pts ks (suc e))
     (longest ks (costs (net .weights) pts ks (suc e)) (suc e) n) g k u l) where
   pub sized : suc (suc e) ≡ n
   sized = ap suc (sym (listing-length _ (suc e))) ∙ sound .whole .size ∙ listing-length (placeAt pts) n
@@ -104,9 +104,9 @@ module _ (net : Net) (pts : List ℤ) (n : ℕ) (ks : List ℕ) (e : ℕ) (sound
     longest = cut-longest .1 .1 .1 .1 .1;
   }
 
-module _ (net : Net) (pts : List ℤ) (n : ℕ) (ks : List ℕ) (few : n < pointBound)
-    (room : length pts ≡ pointBound * 2)
-    (rooms : length ks ≡ pointBound) where
+module _ (net : Net) (pts : List ℤ) (n : ℕ) (ks : List ℕ) (few : n < treeBound)
+    (room : length pts ≡ treeBound * 2)
+    (rooms : length ks ≡ treeBound) where
   abbrev pub Won : ℕ → Best → Type 0
   Won e c =
       let el = costs (net .weights) pts ks e in
@@ -123,7 +123,7 @@ module _ (net : Net) (pts : List ℤ) (n : ℕ) (ks : List ℕ) (few : n < point
 
   -- R14: the sum of the edges falls by the gain
   pub round-falls : (c : Best) (e : ℕ) → Sound net (tree pts n ks e) → Won e c →
-      totalOf (net .weights) (exchange c pts n ks e) + c .gain ≡ totalOf (net .weights) (tree pts n ks e)
+      treeTotal (net .weights) (exchange c pts n ks e) + c .gain ≡ treeTotal (net .weights) (tree pts n ks e)
   round-falls c zero sound win = absurd (let z : ⊥ = omega (arith, win .edge) in z)
   round-falls c (suc zero) sound win =
       let t = taken net pts n ks 0 sound few (c .gain) (c .edge) (c .point) (c .cut) win in
@@ -195,14 +195,14 @@ kept-count {net} {t} {r} k =
 
 -- there is room for known places, for the other points of now and for one more a round
 pub record Room (vs : List Place) (t : Tree) (m : ℕ) : Type 0 where
-  pub room : length vs + (strangers vs t + m) ≤ pointBound
+  pub room : length vs + (strangers vs t + m) ≤ treeBound
 
 -- where only its own points are known, for its points
-pub own-room : (t : Tree) (m : ℕ) → t .count + m ≤ pointBound → Room (pointsOf (t .points) (t .count)) t m
+pub own-room : (t : Tree) (m : ℕ) → t .count + m ≤ treeBound → Room (pointsOf (t .points) (t .count)) t m
 own-room t m few = record { room = omega (arith, few, strangers-own t, listing-length (placeAt (t .points)) (t .count)) }
 
 pub rounds-kept : (net : Net) (m : ℕ) (t : Tree) → Sound net t → (vs : List Place) → Room vs t m →
-    length (t .points) ≡ pointBound * 2 → length (t .edges .keys) ≡ pointBound → Kept net t (rounds (net .weights) (net .macros) m t) m
+    length (t .points) ≡ treeBound * 2 → length (t .edges .keys) ≡ treeBound → Kept net t (rounds (net .weights) (net .macros) m t) m
 unfolding rounds
 rounds-kept net zero t sound vs few room rooms = record {
   sound = sound;
@@ -213,7 +213,7 @@ rounds-kept net zero t sound vs few room rooms = record {
   ranked = λ r. r;
 }
 rounds-kept net (suc m) t sound vs few room rooms =
-    let low : t .count < pointBound = omega (arith, few .room, count-strangers vs t (sound .ordered)) in
+    let low : t .count < treeBound = omega (arith, few .room, count-strangers vs t (sound .ordered)) in
     let c = found (net .weights) (net .macros) (t .points) (t .count) (t .edges .keys) (t .edges .size) in
     by (eqb (c .gain) 0)
     (λ q. rw (rounds, q)
@@ -235,7 +235,7 @@ sum-last w pts ks zero i s = let z : i + 0 ≡ i = omega arith in rw z (omega ar
 sum-last w pts ks (suc c) i s = let z : i + suc c ≡ suc i + c = omega arith in
     rw z (sum-last w pts ks c (suc i) (s + keyCost w pts (getD ks i 0)))
 
-summed : (w : Weights) (pts : List ℤ) (ks : List ℕ) (c : ℕ) → turns (addCost w pts ks) 0 c 0 ≡ over (keyCost w pts) ks c
+summed : (w : Weights) (pts : List ℤ) (ks : List ℕ) (c : ℕ) → turns (addCost w pts ks) 0 c 0 ≡ sumOver (keyCost w pts) ks c
 unfolding turns below
 summed w pts ks zero = refl
 summed w pts ks (suc c) =
@@ -244,6 +244,6 @@ summed w pts ks (suc c) =
     (sum-last w pts ks c 0 0) in
     r ∙ ap (λ (x : ℕ). keyCost w pts (getD ks c 0) + x) (summed w pts ks c)
 
-pub total-of : (w : Weights) (pts : List ℤ) (n : ℕ) (ks : List ℕ) (e : ℕ) → total w pts ks e ≡ totalOf w (tree pts n ks e)
+pub total-of : (w : Weights) (pts : List ℤ) (n : ℕ) (ks : List ℕ) (e : ℕ) → total w pts ks e ≡ treeTotal w (tree pts n ks e)
 unfolding total
 total-of w pts n ks e = summed w pts ks e

@@ -24,7 +24,7 @@ use Rattle.net.specs.Net.{Net}
 use Rattle.plane.proofs.PlaceLaws.{same-true, same-refl}
 use Rattle.refiner.specs.declared.Best.{Best}
 use Rattle.refiner.specs.Turns.{turns, seek}
-use Rattle.tree.specs.Table.{pointBound, firstEnd, secondEnd, Tree}
+use Rattle.tree.specs.Table.{treeBound, firstEnd, secondEnd, Tree}
 use Rattle.refiner.specs.Longest.{costs, longest, cutOf}
 use Rattle.refiner.specs.Candidate.{best, middleOf, sees, taken, dropped, allowed, weighed, offer, offers, search, found}
 use Rattle.tree.specs.Places.{Sound}
@@ -183,7 +183,7 @@ unfolding sees
 one-sees ms a b u (inl t) = rw t refl
 one-sees ms a b u (inr t) = by (clear u a ms) (λ f. rw f refl) (λ f. rw (f, t) refl)
 
-module _ (net : Net) (t : Tree) (sound : Sound net t) (few : t .count ≤ pointBound) where
+module _ (net : Net) (t : Tree) (sound : Sound net t) (few : t .count ≤ treeBound) where
   abbrev Won : ℕ → ℕ → ℕ → ℕ → Type 0
   Won g k u l =
       let el = costs (net .weights) (t .points) (t .edges .keys) (t .edges .size) in

@@ -17,7 +17,7 @@ use Rattle.plane.specs.Cost.{cost}
 use Rattle.plane.specs.Flat.{placeAt}
 use Rattle.refiner.specs.declared.Best.{Best}
 use Rattle.refiner.specs.Turns.{turns}
-use Rattle.tree.specs.Table.{pointBound, firstEnd, secondEnd}
+use Rattle.tree.specs.Table.{treeBound, firstEnd, secondEnd}
 use Rattle.refiner.specs.Longest.{edgeCost, measure, costs, cutOf, longest, noEdge}
 use Rattle.refiner.specs.Candidate.{best, middleOf, sees, dropped, allowed, weighed, offer, offers, search, found}
 use Rattle.tree.specs.Places.{keyCost}
@@ -113,12 +113,12 @@ zeros-length : (m : ℕ) → length (replicate {A = ℕ} m 0) ≡ m
 zeros-length zero = refl
 zeros-length (suc m) = ap suc (zeros-length m)
 
-pub cost-at : (w : Weights) (pts : List ℤ) (ks : List ℕ) (e j : ℕ) → e ≤ pointBound → j < e
+pub cost-at : (w : Weights) (pts : List ℤ) (ks : List ℕ) (e j : ℕ) → e ≤ treeBound → j < e
     → getD (costs w pts ks e) j 0 ≡ keyCost w pts (getD ks j 0)
 unfolding costs edgeCost
-cost-at w pts ks e j few h = measured-at w pts ks e 0 (replicate pointBound 0) j (rw (zeros-length pointBound) (omega arith)) (omega arith)
+cost-at w pts ks e j few h = measured-at w pts ks e 0 (replicate treeBound 0) j (rw (zeros-length treeBound) (omega arith)) (omega arith)
     (omega arith)
 
-pub no-cost : (w : Weights) (pts : List ℤ) (ks : List ℕ) (e : ℕ) → e < pointBound → getD (costs w pts ks e) noEdge 0 ≡ 0
+pub no-cost : (w : Weights) (pts : List ℤ) (ks : List ℕ) (e : ℕ) → e < treeBound → getD (costs w pts ks e) noEdge 0 ≡ 0
 unfolding costs
-no-cost w pts ks e h = measured-past w pts ks noEdge e 0 (replicate pointBound 0) (omega arith) ∙ zeros-at pointBound noEdge
+no-cost w pts ks e h = measured-past w pts ks noEdge e 0 (replicate treeBound 0) (omega arith) ∙ zeros-at treeBound noEdge

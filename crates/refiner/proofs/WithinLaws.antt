@@ -22,7 +22,7 @@ use Rattle.refiner.specs.Exchange.{lay, lays, star, rank, shift, stands}
 use Rattle.refiner.specs.Longest.{costs, measure}
 use Rattle.refiner.specs.Refined.{rounds, pruned}
 use Rattle.refiner.specs.Prune.{marks, firstLoose, prune}
-use Rattle.tree.specs.Table.{In, Row, Small, Tree, Within, key, pairBound, pointBound, row, tree}
+use Rattle.tree.specs.Table.{In, Row, Small, Tree, Within, key, pairBound, treeBound, row, tree}
 use Rattle.refiner.specs.Turns.{seek, turns}
 use Rattle.refiner.proofs.CandidateBounds.{Fine, fine-search}
 use Rattle.refiner.proofs.TurnLaws.{turns-keep}
@@ -37,11 +37,11 @@ all-set P (y ∷ ys) (suc v) x h l (suc i) = all-set P ys v x h (λ j. l (suc j)
 within-set : (n : ℕ) (xs : List ℕ) (v x : ℕ) → In n x → Within n xs → Within n (set xs v x)
 within-set n xs v x h w = record { ends = all-set (In n) xs v x h (w .ends) }
 
-in-key : (n p a : ℕ) → p < n → a < n → n ≤ pointBound → In n (key p a)
+in-key : (n p a : ℕ) → p < n → a < n → n ≤ treeBound → In n (key p a)
 in-key n p a h i l =
-    let b : a < pointBound = omega arith in
-    let d : (key p a) / pointBound ≡ p = omega arith in
-    let m : (key p a) % pointBound ≡ a = omega arith in
+    let b : a < treeBound = omega arith in
+    let d : (key p a) / treeBound ≡ p = omega arith in
+    let m : (key p a) % treeBound ≡ a = omega arith in
     (rw d h, rw m i)
 
 within-carrying : (n i c q : ℕ) (xs : List ℕ) → In n q → Within n xs → Within n (carrying i c q xs)
@@ -52,7 +52,7 @@ within-carrying n i (suc c) q xs h w =
     (λ t. rw (carrying, t) (within-carrying n (suc i) c (getD xs i 0) (set xs i q) (w .ends i) (within-set n xs i q h w)))
     (λ t. rw (carrying, t) (within-carrying n (suc i) c q xs h w))
 
-within-lay : (n p a : ℕ) (r : Row) → p < n → a < n → n ≤ pointBound → Within n (r .keys) → Within n (lay p a r .keys)
+within-lay : (n p a : ℕ) (r : Row) → p < n → a < n → n ≤ treeBound → Within n (r .keys) → Within n (lay p a r .keys)
 unfolding lay
 within-lay n p a r h i l w =
     by (ltb p a)
@@ -68,7 +68,7 @@ Ends n (e ∷ es) = ((e .0 < n) × (e .1 < n)) × Ends n es
 pub star-ends : (n p a b u : ℕ) → p < n → a < n → b < n → u < n → Ends n (star p a b u)
 star-ends n p a b u h i j k = ((h, i), ((h, j), ((h, k), tt)))
 
-within-lays : (n : ℕ) (es : List (ℕ × ℕ)) (r : Row) → Ends n es → n ≤ pointBound → Within n (r .keys) → Within n (lays es r .keys)
+within-lays : (n : ℕ) (es : List (ℕ × ℕ)) (r : Row) → Ends n es → n ≤ treeBound → Within n (r .keys) → Within n (lays es r .keys)
 unfolding lays
 within-lays n [] r h l w = w
 within-lays n (e ∷ es) r h l w = within-lays n es _ (h .1) l (within-lay n (e .0) (e .1) r (h .0 .0) (h .0 .1) l w)
@@ -93,7 +93,7 @@ past (y ∷ ys) i zero x h = absurd (let z : ⊥ = omega arith in z)
 past (y ∷ ys) zero (suc j) x h = refl
 past (y ∷ ys) (suc i) (suc j) x h = past ys i j x (omega arith)
 
-within-bumped : (n p : ℕ) → n < pointBound → (c i : ℕ) (xs : List ℕ) → Within (n + 1) xs → ((j : ℕ) → i ≤ j → In n (getD xs j 0))
+within-bumped : (n p : ℕ) → n < treeBound → (c i : ℕ) (xs : List ℕ) → Within (n + 1) xs → ((j : ℕ) → i ≤ j → In n (getD xs j 0))
     → Within (n + 1) (turns (bumpAt p) i c xs)
 unfolding turns bumpAt
 within-bumped n p l zero i xs w h = w
@@ -106,7 +106,7 @@ within-bumped n p l (suc c) i xs w h =
 within-more : (n : ℕ) (xs : List ℕ) → Within n xs → Within (n + 1) xs
 within-more n xs w = record { ends = λ i. (omega (arith, w .ends i .0), omega (arith, w .ends i .1)) }
 
-module _ (pts : List ℤ) (n : ℕ) (ks : List ℕ) (e p a b u : ℕ) (s : Place) (l : n < pointBound) (hp : p ≤ n) (ha : a < n) (hb : b < n)
+module _ (pts : List ℤ) (n : ℕ) (ks : List ℕ) (e p a b u : ℕ) (s : Place) (l : n < treeBound) (hp : p ≤ n) (ha : a < n) (hb : b < n)
     (hu : u < n)
     (w : Within n ks) where
   pub within-joined : Within (laidAt pts n ks e p a b u s .count) (laidAt pts n ks e p a b u s .edges .keys)
@@ -131,7 +131,7 @@ pub rank-le : (pts : List ℤ) (n : ℕ) (s : Place) → rank pts n s ≤ n
 unfolding rank
 rank-le pts n s = omega (arith, seek-le (later pts s) n 0)
 
-pub within-exchange : (c : Best) (pts : List ℤ) (n : ℕ) (ks : List ℕ) (e : ℕ) → n < pointBound → c .point < n → Within n ks
+pub within-exchange : (c : Best) (pts : List ℤ) (n : ℕ) (ks : List ℕ) (e : ℕ) → n < treeBound → c .point < n → Within n ks
     → Within (exchange c pts n ks e .count) (exchange c pts n ks e .edges .keys)
 unfolding exchange
 within-exchange c pts n ks e l h w =
@@ -139,7 +139,7 @@ within-exchange c pts n ks e l h w =
     within-joined pts n _ _ _ _ _ _ _ l (rank-le pts n _) (q .0) (q .1) h (within-dropped n _ _ _ ks w)
 
 pub within-after : (c : Best) (pts qts : List ℤ) (n m : ℕ) (ks ls : List ℕ) (e f : ℕ) → tree qts m ls f ≡ exchange c pts n ks e → n
-    < pointBound
+    < treeBound
     → c .point < n → Within n ks → Within m ls
 within-after c pts qts n m ks ls e f q l h w =
     rw (ap (λ (t : Tree). t .count) q, ap (λ (t : Tree). t .edges .keys) q) (within-exchange c pts n ks e l h w)
@@ -162,8 +162,8 @@ cut-in w pts ks e l h =
     by (ltb l e) (λ t. ltb-true l e t)
     (λ t. absurd (
     let g : e ≤ l = ltb-false l e t in
-    let z : getD (turns (measure w pts ks) 0 e (replicate pointBound 0)) l 0 ≡ 0
-    = measured-past w pts ks l e 0 _ (omega arith) ∙ zeros-at pointBound l in
+    let z : getD (turns (measure w pts ks) 0 e (replicate treeBound 0)) l 0 ≡ 0
+    = measured-past w pts ks l e 0 _ (omega arith) ∙ zeros-at treeBound l in
     let y : ⊥ = omega arith in y))
 
 pub fine-found : (w : Weights) (ms : List Macro) (pts : List ℤ) (n : ℕ) (ks : List ℕ) (e : ℕ) (c : Best) → c ≡ found w ms pts n ks e
@@ -175,7 +175,7 @@ fine-found w ms pts n ks e c q g =
     let i = h (omega arith) in
     ((i .0 .0, cut-in w pts ks e (c .cut) (i .1 .0)), (i .1 .1, i .0 .1))
 
-pub within-small : (n : ℕ) (ks : List ℕ) → n ≤ pointBound → Within n ks → Small pairBound ks
+pub within-small : (n : ℕ) (ks : List ℕ) → n ≤ treeBound → Within n ks → Small pairBound ks
 within-small n ks h w = record { small = λ i. omega (arith, w .ends i .0, w .ends i .1) }
 
 module _ (w : Weights) (ms : List Macro) (pts : List ℤ) (n : ℕ) (ks : List ℕ) (e k : ℕ) (all : Tree) (c : Best)

@@ -42,7 +42,7 @@
 --   ExchangeSound  laid-sound          a round keeps `Sound`;  laid-costs: the total falls by the gain
 --   RankedLaws     laid-level          edges stay smaller place first and in order;  ranked-of: each once, since they are a tree
 --   RoundSound     rounds-kept         so do the rounds, each with at most one point more that is none of known places
---                  total-of            the contract's sum is `totalOf`
+--                  total-of            the contract's sum is `treeTotal`
 --   PruneSound     prune-whole         pruning keeps a tree with all pins;  pruned-over: it raises no sum
 --   RefinedSound   refined-promise     the refined tree of a sound tree keeps `Promise`
 --                  refined-tabled      and `Tabled`, where the tree's edges are in order

@@ -12,7 +12,7 @@ use Rattle.plane.specs.declared.Weights.{Weights}
 use Rattle.plane.specs.Cost.{cost}
 use Rattle.plane.specs.Flat.{placeAt}
 use Rattle.refiner.specs.Turns.{turns}
-use Rattle.tree.specs.Table.{pointBound, pairBound, key, firstEnd, secondEnd}
+use Rattle.tree.specs.Table.{treeBound, pairBound, key, firstEnd, secondEnd}
 
 -- what the edge k costs
 unfoldable pub edgeCost : Weights → List ℤ → List ℕ → ℕ → ℕ
@@ -23,7 +23,7 @@ measure w pts keys k el = set el k (edgeCost w pts keys k)
 
 -- the costs of all edges; past them no cost stands
 unfoldable pub costs : Weights → List ℤ → List ℕ → ℕ → List ℕ
-costs w pts keys e = turns (measure w pts keys) 0 e (replicate pointBound 0)
+costs w pts keys e = turns (measure w pts keys) 0 e (replicate treeBound 0)
 
 -- R8: k is longer than l, or as long and smaller
 unfoldable pub wins : List ℕ → ℕ → ℕ → Bool
@@ -41,7 +41,7 @@ shorter el k l = elim (wins el k l) [ true ↦ l | false ↦ k ]
 
 -- no edge: the last number, which no edge of a tree has; it costs 0
 abbrev pub noEdge : ℕ
-noEdge = pointBound - 1
+noEdge = treeBound - 1
 
 -- v hangs on p by edge k: the longest edge on the way from v to w, and back
 unfoldable pub spread : List ℕ → ℕ → ℕ → ℕ → ℕ → List ℕ → List ℕ
@@ -81,7 +81,7 @@ reached keys el e n r = turns (λ _ q. turns (pass keys el n) 0 e q) 0 e r
 
 -- at first the point 0 is reached
 unfoldable pub start : Reach
-start = reach (set (replicate pointBound 0) 0 1) (replicate pairBound noEdge)
+start = reach (set (replicate treeBound 0) 0 1) (replicate pairBound noEdge)
 
 unfoldable pub longest : List ℕ → List ℕ → ℕ → ℕ → List ℕ
 longest keys el e n = reached keys el e n start .top

@@ -9,7 +9,7 @@ use Rattle.plane.specs.Macro.{clear}
 use Rattle.net.specs.Net.{Net}
 use Rattle.joined.specs.OneTree.{OneTree}
 use Rattle.tree.specs.Table.{Tree, Within}
-use Rattle.tree.specs.Places.{endsOf, edgesOf, totalOf, InOrder, Ranked}
+use Rattle.tree.specs.Places.{endsOf, edgesOf, treeTotal, InOrder, Ranked}
 use Rattle.tree.specs.Outside.{strangers}
 
 -- what is promised of the tree r that refines the tree t
@@ -20,7 +20,7 @@ pub record Promise (net : Net) (t r : Tree) : Type 0 where
   pub free : (i : ℕ) → i < r .edges .size → clear (endsOf (r .points) (getD (r .edges .keys) i 0) .0)
       (endsOf (r .points) (getD (r .edges .keys) i 0) .1) (net .macros) ≡ true
   -- R22: no more than the tree had
-  pub total : totalOf (net .weights) r ≤ totalOf (net .weights) t
+  pub total : treeTotal (net .weights) r ≤ treeTotal (net .weights) t
   -- N24: whichever places are counted as known, the graph's vertices say, there is at most one other point more for each pin
   pub points : (vs : List Place) → strangers vs r ≤ strangers vs t + length (net .pins)
 

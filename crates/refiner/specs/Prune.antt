@@ -10,7 +10,7 @@ use Rattle.plane.specs.declared.Place.{Place}
 use Rattle.plane.specs.Place.{samePlace}
 use Rattle.plane.specs.Flat.{placeAt}
 use Rattle.refiner.specs.Turns.{turns, seek}
-use Rattle.tree.specs.Table.{pointBound, firstEnd, secondEnd, Row, row}
+use Rattle.tree.specs.Table.{treeBound, firstEnd, secondEnd, Row, row}
 use Rattle.refiner.specs.Exchange.{closed}
 
 -- a mark for each point: 1 for a pin
@@ -22,7 +22,7 @@ unfoldable pub mark : List Place → List ℤ → ℕ → List ℕ → List ℕ
 mark pins pts i t = set t i (markOf (any (samePlace (placeAt pts i)) pins))
 
 unfoldable pub marks : List Place → List ℤ → ℕ → List ℕ
-marks pins pts n = turns (mark pins pts) 0 n (replicate pointBound 0)
+marks pins pts n = turns (mark pins pts) 0 n (replicate treeBound 0)
 
 -- how many edges each point has
 unfoldable pub countEnds : List ℕ → ℕ → List ℕ → List ℕ
@@ -41,7 +41,7 @@ looseEdge pin d ks i = loose pin d (firstEnd (getD ks i 0)) || loose pin d (seco
 
 -- of all orders, which leave the same edges (R17), this one: the first edge with such a point
 unfoldable pub firstLoose : List ℕ → List ℕ → ℕ → ℕ
-firstLoose pin ks e = seek (looseEdge pin (turns (countEnds ks) 0 e (replicate pointBound 0)) ks) 0 e
+firstLoose pin ks e = seek (looseEdge pin (turns (countEnds ks) 0 e (replicate treeBound 0)) ks) 0 e
 
 unfoldable pub prune : List ℕ → List ℕ → ℕ → Row
 prune pin ks zero = row ks 0

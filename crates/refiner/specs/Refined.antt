@@ -12,7 +12,7 @@ use Rattle.plane.specs.declared.Weights.{Weights}
 use Rattle.net.specs.Net.{Net}
 use Rattle.refiner.specs.declared.Refined.{Refined}
 use Rattle.refiner.specs.Turns.{turns}
-use Rattle.tree.specs.Table.{pointBound, Tree, tree, Within}
+use Rattle.tree.specs.Table.{treeBound, Tree, tree, Within}
 use Rattle.refiner.specs.Longest.{edgeCost}
 use Rattle.refiner.specs.Candidate.{found}
 use Rattle.refiner.specs.Exchange.{exchange}
@@ -51,5 +51,5 @@ total w pts ks e = turns (addCost w pts ks) 0 e 0
 pub record Answer (net : Net) (t : Tree) (pts : List ℤ) (ks : List ℕ) (r : Refined) : Type 0 where
   pub whole : tree pts (r .points) ks (r .edges) ≡ refined net t
   pub sum : r .total ≡ total (net .weights) pts ks (r .edges)
-  pub few : (r .points ≤ pointBound) × (r .edges ≤ pointBound)
+  pub few : (r .points ≤ treeBound) × (r .edges ≤ treeBound)
   pub inside : Within (r .points) ks

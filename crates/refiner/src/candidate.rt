@@ -11,7 +11,7 @@ ghost use mathlib.Core.Path.{_≡_};
 ghost use Prim.Native.Nat.{_≤_, _<_};
 ghost use Rattle.plane.specs.Flat.{macrosOf};
 ghost use Rattle.refiner.specs.Turns.{seek};
-ghost use Rattle.tree.specs.Table.{pointBound, pairBound, Small};
+ghost use Rattle.tree.specs.Table.{treeBound, pairBound, Small};
 ghost use Rattle.refiner.specs.Candidate.{sees, taken, dropped, allowed, weighed, offer, offers, search, found};
 
 fn sees(macros: &[i32], a: Place, b: Place, u: Place) -> bool
@@ -25,7 +25,7 @@ fn sees(macros: &[i32], a: Place, b: Place, u: Place) -> bool
 
 // The point i stands at s and is none of a, b and u.
 fn is_taken(pts: &[i32; NUMBERS], a: usize, b: usize, u: usize, s: Place, i: usize) -> bool
-    requires { ⌜ i < pointBound ⌝ }
+    requires { ⌜ i < treeBound ⌝ }
     ensures { λ r. ⌜ r ≡ taken (now (pts .entry)) a b u s i ⌝ }
 {
     if (i == a) | ((i == b) | (i == u)) {
@@ -35,7 +35,7 @@ fn is_taken(pts: &[i32; NUMBERS], a: usize, b: usize, u: usize, s: Place, i: usi
 }
 
 fn find_taken(pts: &[i32; NUMBERS], n: usize, a: usize, b: usize, u: usize, s: Place) -> usize
-    requires { ⌜ n ≤ pointBound ⌝ }
+    requires { ⌜ n ≤ treeBound ⌝ }
     ensures { λ r. ⌜ r ≡ seek (taken (now (pts .entry)) a b u s) 0 n ⌝ }
 {
     let mut i = 0;
@@ -49,7 +49,7 @@ fn find_taken(pts: &[i32; NUMBERS], n: usize, a: usize, b: usize, u: usize, s: P
 }
 
 fn is_dropped(pts: &[i32; NUMBERS], n: usize, a: usize, b: usize, u: usize, s: Place) -> bool
-    requires { ⌜ n ≤ pointBound ⌝ }
+    requires { ⌜ n ≤ treeBound ⌝ }
     ensures { λ r. ⌜ r ≡ dropped (now (pts .entry)) n a b u s ⌝ }
 {
     find_taken(pts, n, a, b, u, s) < n
@@ -64,7 +64,7 @@ fn is_allowed(
     u: usize,
     s: Place,
 ) -> bool
-    requires { ⌜ ((a < pointBound) × (b < pointBound)) × ((u < pointBound) × (n ≤ pointBound)) ⌝ }
+    requires { ⌜ ((a < treeBound) × (b < treeBound)) × ((u < treeBound) × (n ≤ treeBound)) ⌝ }
     ensures { λ r. ⌜ r ≡ allowed (now (pts .entry)) n (macrosOf (now (macros .entry))) a b u s ⌝ }
 {
     if sees(
@@ -93,7 +93,7 @@ fn weigh(
     long: u64,
     c: Best,
 ) -> Best
-    requires { ⌜ ((a < pointBound) × (b < pointBound)) × ((u < pointBound) × (n ≤ pointBound)) ⌝ }
+    requires { ⌜ ((a < treeBound) × (b < treeBound)) × ((u < treeBound) × (n ≤ treeBound)) ⌝ }
     ensures { λ r. ⌜ r ≡ weighed w (now (pts .entry)) n (macrosOf (now (macros .entry))) a b k u l long c ⌝ }
 {
     let r = tree::point_at(pts, u);
@@ -130,8 +130,8 @@ fn offer(
     u: usize,
     c: Best,
 ) -> Best
-    requires { ⌜ ((a < pointBound) × (b < pointBound)) × ((u < pointBound) × (n ≤ pointBound)) ⌝ }
-    requires { ⌜ Small pointBound (now top) ⌝ }
+    requires { ⌜ ((a < treeBound) × (b < treeBound)) × ((u < treeBound) × (n ≤ treeBound)) ⌝ }
+    requires { ⌜ Small treeBound (now top) ⌝ }
     ensures { λ r. ⌜ r ≡ offer w (now (pts .entry)) n (macrosOf (now (macros .entry))) (now (el .entry)) (now (top .entry)) a b k u c ⌝ }
 {
     let l = longest::cut_of(el, top, a, b, u);
@@ -156,8 +156,8 @@ fn offers(
     k: usize,
     c: Best,
 ) -> Best
-    requires { ⌜ (k < pointBound) × (n ≤ pointBound) ⌝ }
-    requires { ⌜ (Small pairBound (now keys)) × (Small pointBound (now top)) ⌝ }
+    requires { ⌜ (k < treeBound) × (n ≤ treeBound) ⌝ }
+    requires { ⌜ (Small pairBound (now keys)) × (Small treeBound (now top)) ⌝ }
     ensures { λ r. ⌜ r ≡ offers w (now (pts .entry)) n (macrosOf (now (macros .entry))) (now (keys .entry)) (now (el .entry))
         (now (top .entry)) k c ⌝ }
 {
@@ -182,8 +182,8 @@ fn search(
     el: &[u64; POINTS],
     top: &[u16; PAIRS],
 ) -> Best
-    requires { ⌜ (e ≤ pointBound) × (n ≤ pointBound) ⌝ }
-    requires { ⌜ (Small pairBound (now keys)) × (Small pointBound (now top)) ⌝ }
+    requires { ⌜ (e ≤ treeBound) × (n ≤ treeBound) ⌝ }
+    requires { ⌜ (Small pairBound (now keys)) × (Small treeBound (now top)) ⌝ }
     ensures { λ r. ⌜ r ≡ search w (now (pts .entry)) n (macrosOf (now (macros .entry))) (now (keys .entry)) e (now (el .entry))
         (now (top .entry)) ⌝ }
 {
@@ -209,7 +209,7 @@ pub fn found(
     keys: &[usize; POINTS],
     e: usize,
 ) -> Best
-    requires { ⌜ ((e ≤ pointBound) × (n ≤ pointBound)) × (Small pairBound (now keys)) ⌝ }
+    requires { ⌜ ((e ≤ treeBound) × (n ≤ treeBound)) × (Small pairBound (now keys)) ⌝ }
     ensures { λ r. ⌜ r ≡ found w (macrosOf (now (macros .entry))) (now (pts .entry)) n (now (keys .entry)) e ⌝ }
 {
     let mut el = [0u64; POINTS];

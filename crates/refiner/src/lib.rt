@@ -11,12 +11,13 @@ use net::Net;
 use plane::Weights;
 use tree::NUMBERS;
 use tree::POINTS;
+use tree::Size;
 ghost use mathlib.Core.Path.{_≡_};
 ghost use Prim.Native.Nat.{_+_, _≤_};
 ghost use Rattle.plane.specs.Flat.{macrosOf};
 ghost use Rattle.net.specs.Pins.{pinCount};
 ghost use Rattle.net.specs.Net.{netWith};
-ghost use Rattle.tree.specs.Table.{pointBound, pairBound, tree, Small, Within};
+ghost use Rattle.tree.specs.Table.{treeBound, pairBound, tree, Small, Within};
 ghost use Rattle.refiner.specs.Refined.{rounds, total, Answer};
 
 // All pairs of points.
@@ -33,13 +34,7 @@ pub struct Best {
     pub cut: usize,
 }
 
-// How many points and edges a tree has.
-pub struct Size {
-    pub points: usize,
-    pub edges: usize,
-}
-
-// The same with what the edges cost together.
+// A refined tree: how many points and edges it has, and what its edges cost together.
 pub struct Refined {
     pub points: usize,
     pub edges: usize,
@@ -56,7 +51,7 @@ pub fn rounds(
     e: usize,
     m: usize,
 ) -> Size
-    requires { ⌜ ((n + m ≤ pointBound) × (e + m ≤ pointBound)) × (Within n (now keys)) ⌝ }
+    requires { ⌜ ((n + m ≤ treeBound) × (e + m ≤ treeBound)) × (Within n (now keys)) ⌝ }
     ensures { λ r. ⌜ (tree (now (pts .exit)) (r .points) (now (keys .exit)) (r .edges)
         ≡ rounds w (macrosOf (now (macros .entry))) m (tree (now (pts .entry)) n (now (keys .entry)) e))
         × (((r .points ≤ n + m) × (r .edges ≤ e + m)) × (Within (r .points) (now (keys .exit)))) ⌝ }
@@ -79,7 +74,7 @@ pub fn rounds(
 
 // What the first e edges cost together.
 pub fn total(w: Weights, pts: &[i32; NUMBERS], keys: &[usize; POINTS], e: usize) -> u64
-    requires { ⌜ (e ≤ pointBound) × (Small pairBound (now keys)) ⌝ }
+    requires { ⌜ (e ≤ treeBound) × (Small pairBound (now keys)) ⌝ }
     ensures { λ r. ⌜ r ≡ total w (now (pts .entry)) (now (keys .entry)) e ⌝ }
 {
     let mut sum = 0;
@@ -101,7 +96,7 @@ pub fn refine(
     keys: &mut [usize; POINTS],
     e: usize,
 ) -> Refined
-    requires { ⌜ ((n + pinCount (now pins) ≤ pointBound) × (e + pinCount (now pins) ≤ pointBound)) × (Within n (now keys)) ⌝ }
+    requires { ⌜ ((n + pinCount (now pins) ≤ treeBound) × (e + pinCount (now pins) ≤ treeBound)) × (Within n (now keys)) ⌝ }
     ensures { λ r. ⌜ Answer (netWith (net .weights) (now (pins .entry)) (now (macros .entry)))
         (tree (now (pts .entry)) n (now (keys .entry)) e) (now (pts .exit)) (now (keys .exit)) r ⌝ }
 {

@@ -9,7 +9,7 @@ ghost use Prim.Native.Nat.{_≤_, _<_};
 ghost use lib.ListN.{getD};
 ghost use Rattle.plane.specs.Cost.{costLimit};
 ghost use Rattle.refiner.specs.Turns.{turns};
-ghost use Rattle.tree.specs.Table.{pointBound, pairBound, key, Small};
+ghost use Rattle.tree.specs.Table.{treeBound, pairBound, key, Small};
 ghost use Rattle.refiner.specs.Longest.{
   edgeCost,
   measure,
@@ -27,7 +27,7 @@ ghost use Rattle.refiner.specs.Longest.{
 
 // What the edge k costs.
 pub fn edge_cost(w: Weights, pts: &[i32; NUMBERS], keys: &[usize; POINTS], k: usize) -> u64
-    requires { ⌜ (k < pointBound) × (Small pairBound (now keys)) ⌝ }
+    requires { ⌜ (k < treeBound) × (Small pairBound (now keys)) ⌝ }
     ensures { λ r. ⌜ (r ≡ edgeCost w (now (pts .entry)) (now (keys .entry)) k) × (r < costLimit) ⌝ }
 {
     let q = keys[k];
@@ -45,7 +45,7 @@ pub fn costs(
     e: usize,
     el: &mut [u64; POINTS],
 )
-    requires { ⌜ (e ≤ pointBound) × (Small pairBound (now keys)) ⌝ }
+    requires { ⌜ (e ≤ treeBound) × (Small pairBound (now keys)) ⌝ }
     ensures { λ _. ⌜ now (el .exit) ≡ turns (measure w (now (pts .entry)) (now (keys .entry))) 0 e (now (el .entry)) ⌝ }
 {
     let mut k = 0;
@@ -56,7 +56,7 @@ pub fn costs(
 }
 
 fn wins(el: &[u64; POINTS], k: usize, l: usize) -> bool
-    requires { ⌜ (k < pointBound) × (l < pointBound) ⌝ }
+    requires { ⌜ (k < treeBound) × (l < treeBound) ⌝ }
     ensures { λ r. ⌜ r ≡ wins (now (el .entry)) k l ⌝ }
 {
     if el[l] < el[k] {
@@ -69,8 +69,8 @@ fn wins(el: &[u64; POINTS], k: usize, l: usize) -> bool
 }
 
 fn longer(el: &[u64; POINTS], k: usize, l: usize) -> usize
-    requires { ⌜ (k < pointBound) × (l < pointBound) ⌝ }
-    ensures { λ r. ⌜ (r ≡ longer (now (el .entry)) k l) × (r < pointBound) ⌝ }
+    requires { ⌜ (k < treeBound) × (l < treeBound) ⌝ }
+    ensures { λ r. ⌜ (r ≡ longer (now (el .entry)) k l) × (r < treeBound) ⌝ }
 {
     if wins(el, k, l) {
         return k;
@@ -79,8 +79,8 @@ fn longer(el: &[u64; POINTS], k: usize, l: usize) -> usize
 }
 
 fn shorter(el: &[u64; POINTS], k: usize, l: usize) -> usize
-    requires { ⌜ (k < pointBound) × (l < pointBound) ⌝ }
-    ensures { λ r. ⌜ (r ≡ shorter (now (el .entry)) k l) × (r < pointBound) ⌝ }
+    requires { ⌜ (k < treeBound) × (l < treeBound) ⌝ }
+    ensures { λ r. ⌜ (r ≡ shorter (now (el .entry)) k l) × (r < treeBound) ⌝ }
 {
     if wins(el, k, l) {
         return l;
@@ -95,15 +95,15 @@ fn wide(x: u16) -> usize
 }
 
 fn narrow(x: usize) -> u16
-    requires { ⌜ x < pointBound ⌝ }
+    requires { ⌜ x < treeBound ⌝ }
     ensures { λ r. ⌜ r ≡ x ⌝ }
 {
     x as u16
 }
 
 fn spread(el: &[u64; POINTS], v: usize, p: usize, k: usize, w: usize, top: &mut [u16; PAIRS])
-    requires { ⌜ ((v < pointBound) × (p < pointBound)) × ((k < pointBound) × (w < pointBound)) ⌝ }
-    requires { ⌜ getD (now top) (key p w) 0 < pointBound ⌝ }
+    requires { ⌜ ((v < treeBound) × (p < treeBound)) × ((k < treeBound) × (w < treeBound)) ⌝ }
+    requires { ⌜ getD (now top) (key p w) 0 < treeBound ⌝ }
     ensures { λ _. ⌜ now (top .exit) ≡ spread (now (el .entry)) v p k w (now (top .entry)) ⌝ }
 {
     let x = longer(el, wide(top[p * POINTS + w]), k);
@@ -112,8 +112,8 @@ fn spread(el: &[u64; POINTS], v: usize, p: usize, k: usize, w: usize, top: &mut 
 }
 
 fn spreads(el: &[u64; POINTS], n: usize, v: usize, p: usize, k: usize, top: &mut [u16; PAIRS])
-    requires { ⌜ ((v < pointBound) × (p < pointBound)) × ((k < pointBound) × (n ≤ pointBound)) ⌝ }
-    requires { ⌜ Small pointBound (now top) ⌝ }
+    requires { ⌜ ((v < treeBound) × (p < treeBound)) × ((k < treeBound) × (n ≤ treeBound)) ⌝ }
+    requires { ⌜ Small treeBound (now top) ⌝ }
     ensures { λ _. ⌜ now (top .exit) ≡ spreads (now (el .entry)) n v p k (now (top .entry)) ⌝ }
 {
     let mut w = 0;
@@ -133,8 +133,8 @@ fn attach(
     seen: &mut [usize; POINTS],
     top: &mut [u16; PAIRS],
 )
-    requires { ⌜ ((a < pointBound) × (b < pointBound)) × ((k < pointBound) × (n ≤ pointBound)) ⌝ }
-    requires { ⌜ Small pointBound (now top) ⌝ }
+    requires { ⌜ ((a < treeBound) × (b < treeBound)) × ((k < treeBound) × (n ≤ treeBound)) ⌝ }
+    requires { ⌜ Small treeBound (now top) ⌝ }
     ensures { λ _. ⌜ reach (now (seen .exit)) (now (top .exit)) ≡ attach (now (el .entry)) n a b k
         (reach (now (seen .entry)) (now (top .entry))) ⌝ }
 {
@@ -158,8 +158,8 @@ fn pass(
     seen: &mut [usize; POINTS],
     top: &mut [u16; PAIRS],
 )
-    requires { ⌜ (e ≤ pointBound) × (n ≤ pointBound) ⌝ }
-    requires { ⌜ (Small pairBound (now keys)) × (Small pointBound (now top)) ⌝ }
+    requires { ⌜ (e ≤ treeBound) × (n ≤ treeBound) ⌝ }
+    requires { ⌜ (Small pairBound (now keys)) × (Small treeBound (now top)) ⌝ }
     ensures { λ _. ⌜ reach (now (seen .exit)) (now (top .exit))
         ≡ turns (pass (now (keys .entry)) (now (el .entry)) n) 0 e (reach (now (seen .entry)) (now (top .entry))) ⌝ }
 {
@@ -179,8 +179,8 @@ pub fn reached(
     seen: &mut [usize; POINTS],
     top: &mut [u16; PAIRS],
 )
-    requires { ⌜ (e ≤ pointBound) × (n ≤ pointBound) ⌝ }
-    requires { ⌜ (Small pairBound (now keys)) × (Small pointBound (now top)) ⌝ }
+    requires { ⌜ (e ≤ treeBound) × (n ≤ treeBound) ⌝ }
+    requires { ⌜ (Small pairBound (now keys)) × (Small treeBound (now top)) ⌝ }
     ensures { λ _. ⌜ reach (now (seen .exit)) (now (top .exit))
         ≡ reached (now (keys .entry)) (now (el .entry)) e n (reach (now (seen .entry)) (now (top .entry))) ⌝ }
 {
@@ -192,9 +192,9 @@ pub fn reached(
 }
 
 pub fn cut_of(el: &[u64; POINTS], top: &[u16; PAIRS], a: usize, b: usize, u: usize) -> usize
-    requires { ⌜ (a < pointBound) × ((b < pointBound) × (u < pointBound)) ⌝ }
-    requires { ⌜ Small pointBound (now top) ⌝ }
-    ensures { λ r. ⌜ (r ≡ cutOf (now (el .entry)) (now (top .entry)) a b u) × (r < pointBound) ⌝ }
+    requires { ⌜ (a < treeBound) × ((b < treeBound) × (u < treeBound)) ⌝ }
+    requires { ⌜ Small treeBound (now top) ⌝ }
+    ensures { λ r. ⌜ (r ≡ cutOf (now (el .entry)) (now (top .entry)) a b u) × (r < treeBound) ⌝ }
 {
     shorter(el, wide(top[a * POINTS + u]), wide(top[b * POINTS + u]))
 }

@@ -9,7 +9,7 @@ ghost use Rattle.lists.specs.Any.{any};
 ghost use Rattle.plane.specs.Place.{samePlace};
 ghost use Rattle.net.specs.Pins.{pinPlaces};
 ghost use Rattle.refiner.specs.Turns.{turns, seek};
-ghost use Rattle.tree.specs.Table.{pointBound, pairBound, row, tree, Small, Low};
+ghost use Rattle.tree.specs.Table.{treeBound, pairBound, row, tree, Small, Low};
 ghost use Rattle.refiner.specs.Prune.{countEnds, loose, looseEdge, firstLoose, mark, prune};
 ghost use Rattle.refiner.specs.Refined.{pruned};
 
@@ -28,7 +28,7 @@ fn is_pin(pins: &[i32], p: Place) -> bool
 }
 
 fn mark(pins: &[i32], pts: &[i32; NUMBERS], i: usize, pin: &mut [usize; POINTS])
-    requires { ⌜ i < pointBound ⌝ }
+    requires { ⌜ i < treeBound ⌝ }
     ensures { λ _. ⌜ now (pin .exit) ≡ mark (pinPlaces (now (pins .entry))) (now (pts .entry)) i (now (pin .entry)) ⌝ }
 {
     if is_pin(pins, tree::point_at(pts, i)) {
@@ -39,7 +39,7 @@ fn mark(pins: &[i32], pts: &[i32; NUMBERS], i: usize, pin: &mut [usize; POINTS])
 }
 
 fn mark_pins(pins: &[i32], pts: &[i32; NUMBERS], n: usize, pin: &mut [usize; POINTS])
-    requires { ⌜ n ≤ pointBound ⌝ }
+    requires { ⌜ n ≤ treeBound ⌝ }
     ensures { λ _. ⌜ now (pin .exit) ≡ turns (mark (pinPlaces (now (pins .entry))) (now (pts .entry))) 0 n (now (pin .entry)) ⌝ }
 {
     let mut i = 0;
@@ -50,7 +50,7 @@ fn mark_pins(pins: &[i32], pts: &[i32; NUMBERS], n: usize, pin: &mut [usize; POI
 }
 
 fn count_ends(keys: &[usize; POINTS], i: usize, deg: &mut [usize; POINTS])
-    requires { ⌜ (i < pointBound) × ((Small pairBound (now keys)) × (Low 1000 (now deg))) ⌝ }
+    requires { ⌜ (i < treeBound) × ((Small pairBound (now keys)) × (Low 1000 (now deg))) ⌝ }
     ensures { λ _. ⌜ now (deg .exit) ≡ countEnds (now (keys .entry)) i (now (deg .entry)) ⌝ }
 {
     let a = keys[i] / POINTS;
@@ -60,7 +60,7 @@ fn count_ends(keys: &[usize; POINTS], i: usize, deg: &mut [usize; POINTS])
 }
 
 fn degrees(keys: &[usize; POINTS], e: usize, deg: &mut [usize; POINTS])
-    requires { ⌜ (e ≤ pointBound) × ((Small pairBound (now keys)) × (Low 0 (now deg))) ⌝ }
+    requires { ⌜ (e ≤ treeBound) × ((Small pairBound (now keys)) × (Low 0 (now deg))) ⌝ }
     ensures { λ _. ⌜ now (deg .exit) ≡ turns (countEnds (now (keys .entry))) 0 e (now (deg .entry)) ⌝ }
 {
     let mut i = 0;
@@ -71,7 +71,7 @@ fn degrees(keys: &[usize; POINTS], e: usize, deg: &mut [usize; POINTS])
 }
 
 fn is_loose(pin: &[usize; POINTS], deg: &[usize; POINTS], v: usize) -> bool
-    requires { ⌜ v < pointBound ⌝ }
+    requires { ⌜ v < treeBound ⌝ }
     ensures { λ r. ⌜ r ≡ loose (now (pin .entry)) (now (deg .entry)) v ⌝ }
 {
     (pin[v] == 0) & (deg[v] == 1)
@@ -83,7 +83,7 @@ fn is_loose_edge(
     keys: &[usize; POINTS],
     i: usize,
 ) -> bool
-    requires { ⌜ (i < pointBound) × (Small pairBound (now keys)) ⌝ }
+    requires { ⌜ (i < treeBound) × (Small pairBound (now keys)) ⌝ }
     ensures { λ r. ⌜ r ≡ looseEdge (now (pin .entry)) (now (deg .entry)) (now (keys .entry)) i ⌝ }
 {
     let k = keys[i];
@@ -96,7 +96,7 @@ fn seek_loose(
     keys: &[usize; POINTS],
     e: usize,
 ) -> usize
-    requires { ⌜ (e ≤ pointBound) × (Small pairBound (now keys)) ⌝ }
+    requires { ⌜ (e ≤ treeBound) × (Small pairBound (now keys)) ⌝ }
     ensures { λ r. ⌜ (r ≡ seek (looseEdge (now (pin .entry)) (now (deg .entry)) (now (keys .entry))) 0 e) × (r ≤ e) ⌝ }
 {
     let mut i = 0;
@@ -110,7 +110,7 @@ fn seek_loose(
 }
 
 fn first_loose(pin: &[usize; POINTS], keys: &[usize; POINTS], e: usize) -> usize
-    requires { ⌜ (e ≤ pointBound) × (Small pairBound (now keys)) ⌝ }
+    requires { ⌜ (e ≤ treeBound) × (Small pairBound (now keys)) ⌝ }
     ensures { λ r. ⌜ (r ≡ firstLoose (now (pin .entry)) (now (keys .entry)) e) × (r ≤ e) ⌝ }
 {
     let mut deg = [0usize; POINTS];
@@ -119,7 +119,7 @@ fn first_loose(pin: &[usize; POINTS], keys: &[usize; POINTS], e: usize) -> usize
 }
 
 pub fn prune(pin: &[usize; POINTS], keys: &mut [usize; POINTS], e: usize) -> usize
-    requires { ⌜ (e ≤ pointBound) × (Small pairBound (now keys)) ⌝ }
+    requires { ⌜ (e ≤ treeBound) × (Small pairBound (now keys)) ⌝ }
     ensures { λ r. ⌜ row (now (keys .exit)) r ≡ prune (now (pin .entry)) (now (keys .entry)) e ⌝ }
 {
     let mut f = e;
@@ -142,7 +142,7 @@ pub fn prune_points(
     keys: &mut [usize; POINTS],
     e: usize,
 ) -> usize
-    requires { ⌜ (n ≤ pointBound) × ((e ≤ pointBound) × (Small pairBound (now keys))) ⌝ }
+    requires { ⌜ (n ≤ treeBound) × ((e ≤ treeBound) × (Small pairBound (now keys))) ⌝ }
     ensures { λ r. ⌜ row (now (keys .exit)) r ≡ pruned (pinPlaces (now (pins .entry)))
         (tree (now (pts .entry)) n (now (keys .entry)) e) .edges ⌝ }
 {

@@ -17,11 +17,11 @@ use Rattle.plane.specs.Flat.{placeAt}
 use Rattle.joined.specs.Joined.{Alike}
 use Rattle.net.specs.Net.{Net}
 use Rattle.refiner.specs.Turns.{turns}
-use Rattle.tree.specs.Table.{pointBound, firstEnd, secondEnd, Tree, Within}
+use Rattle.tree.specs.Table.{treeBound, firstEnd, secondEnd, Tree, Within}
 use Rattle.refiner.specs.Exchange.{closed}
 use Rattle.refiner.specs.Prune.{marks, countEnds, loose, looseEdge, firstLoose, prune}
 use Rattle.refiner.specs.Refined.{pruned}
-use Rattle.tree.specs.Sum.{over}
+use Rattle.tree.specs.Sum.{sumOver}
 use Rattle.tree.specs.Places.{endsOf, edgesOf, InOrder, Ranked, Sound}
 use Rattle.refiner.specs.Sentences as tables
 use Rattle.refiner.proofs.ExchangeSums.{closed-at, skip}
@@ -35,17 +35,17 @@ use Rattle.rules.specs.Edges.{Edge}
 use Rattle.rules.specs.Refined.{EndOf, Loose, Strips, same, strip, Prunes}
 use Rattle.rules.proofs.GainOurs.{edgesIn, edgeAt, edge-in, edge-of, edge-one}
 
-module _ (pts : List ℤ) (n : ℕ) (o : InOrder pts n) (few : n ≤ pointBound) (net : Net) (pin : List ℕ)
+module _ (pts : List ℤ) (n : ℕ) (o : InOrder pts n) (few : n ≤ treeBound) (net : Net) (pin : List ℕ)
     (marked : (v : ℕ) → v < n → getD pin v 0 ≡ 0 → placeAt pts v ∈ net .pins → ⊥) where
   -- the point v of the edge i goes
   module _ (ks : List ℕ) (w : Within n ks) (e i : ℕ) (hi : i ≤ e) (v z : ℕ)
       (ends : Alike v z (firstEnd (getD ks i 0)) (secondEnd (getD ks i 0)))
-      (is : loose pin (turns (countEnds ks) 0 (suc e) (replicate pointBound 0)) v ≡ true) where
+      (is : loose pin (turns (countEnds ks) 0 (suc e) (replicate treeBound 0)) v ≡ true) where
     low : Alike v z (firstEnd (getD ks i 0)) (secondEnd (getD ks i 0)) → v < n
     low (inl h) = omega (arith, h .0, w .ends i .0)
     low (inr h) = omega (arith, h .0, w .ends i .1)
 
-    single : over (endCount v) ks (suc e) ≡ 1
+    single : sumOver (endCount v) ks (suc e) ≡ 1
     unfolding loose
     single = sym (degree n ks (suc e) v w few) ∙ eqb-true _ 1 (and-right (eqb (getD pin v 0) 0) _ is)
 
@@ -94,7 +94,7 @@ module _ (pts : List ℤ) (n : ℕ) (o : InOrder pts n) (few : n ≤ pointBound)
       by (eqb (firstLoose pin ks (suc e)) (suc e)) (λ t. rw (prune, t) (same (λ f m. m, λ f m. m)))
       (λ t.
       let i = firstLoose pin ks (suc e) in
-      let d = turns (countEnds ks) 0 (suc e) (replicate pointBound 0) in
+      let d = turns (countEnds ks) 0 (suc e) (replicate treeBound 0) in
       let ne : i ≡ suc e → ⊥ = eqb-false i (suc e) t in
       let le = first-le pin ks (suc e) in
       let hit = first-hit pin ks (suc e) (omega arith) in
@@ -113,7 +113,7 @@ rising-one ks e i j r h k q =
     omega (arith, ltb-false i j t, ltb-false j i s)
 
 module _ {net : Net} (t : Tree) (sound : Sound net t) (ranked : Ranked (t .edges .keys) (t .edges .size))
-    (few : t .count ≤ pointBound) where
+    (few : t .count ≤ treeBound) where
   -- two edges of what is left are one where their ends are
   left-one : (i j : ℕ) → i < pruned (net .pins) t .edges .size → j < pruned (net .pins) t .edges .size → edgeAt (pruned (net .pins) t) i ≡ edgeAt (pruned (net .pins) t) j → i
       ≡ j

@@ -20,7 +20,7 @@ use Rattle.joined.proofs.TreeLaws.{tree-cuts}
 use Rattle.net.specs.Net.{Net, costIn}
 use Rattle.graph.specs.Edges.{beforeEdge}
 use Rattle.tree.specs.Table.{Tree}
-use Rattle.tree.specs.Places.{totalOf}
+use Rattle.tree.specs.Places.{treeTotal}
 use Rattle.refiner.specs.Sentences.{foundIn, exchanged}
 use Rattle.refiner.proofs.WinnerLaws.{found-wins}
 use Rattle.refiner.proofs.TakesLaws.{found-takes}
@@ -55,13 +55,13 @@ module _ {net : Net} where
 
   -- an ascending list of a table's edges has their sum
   sum-is : (m : ℕ) (t : Tree) → Fit net m t → (T : List Edge) → Ascending edgeBefore T → Same (edgesIn t) T → lengths (costIn net) T
-      ≡ totalOf (net .weights) t
+      ≡ treeTotal (net .weights) t
   sum-is m t fit T o h =
       let k = same-then (same-turn h) (edges-same t) in
       ap (lengths (costIn net)) (ascending-same edgeBefore edge-order T (treeEdges t) o (tree-in-order m t fit) (k .0) (k .1)) ∙ tree-total (net .weights) t
 
-  tables-fall : (m : ℕ) (t : Tree) → Fit net (suc m) t → (foundIn net t .gain ≡ 0 → ⊥) → totalOf (net .weights) (exchanged net t) + foundIn net t .gain
-      ≡ totalOf (net .weights) t
+  tables-fall : (m : ℕ) (t : Tree) → Fit net (suc m) t → (foundIn net t .gain ≡ 0 → ⊥) → treeTotal (net .weights) (exchanged net t) + foundIn net t .gain
+      ≡ treeTotal (net .weights) t
   tables-fall m t fit some =
       let few = fit .few in
       let win = found-wins (net .weights) (net .macros) (t .points) (t .count) (t .edges .keys) (t .edges .size) (omega arith) in

@@ -13,7 +13,7 @@ use Rattle.plane.specs.declared.Place.{Place}
 use Rattle.joined.proofs.TreeLaws.{tree-cuts}
 use Rattle.plane.proofs.PlaceOrder.{place-same}
 use Rattle.net.specs.Net.{Net}
-use Rattle.tree.specs.Table.{pointBound, Tree}
+use Rattle.tree.specs.Table.{treeBound, Tree}
 use Rattle.refiner.specs.Refined as tables
 use Rattle.tree.specs.Places.{Ranked, Sound}
 use Rattle.refiner.specs.Sentences.{foundIn, exchanged}
@@ -34,9 +34,9 @@ use Rattle.rules.proofs.PrunesOurs.{prunes-ours}
 pub record Fit (net : Net) (m : ℕ) (t : Tree) : Type 0 where
   pub sound : Sound net t
   pub ranked : Ranked (t .edges .keys) (t .edges .size)
-  pub few : t .count + m ≤ pointBound
-  pub room : length (t .points) ≡ pointBound * 2
-  pub rooms : length (t .edges .keys) ≡ pointBound
+  pub few : t .count + m ≤ treeBound
+  pub room : length (t .points) ≡ treeBound * 2
+  pub rooms : length (t .edges .keys) ≡ treeBound
 
 module _ {net : Net} where
   -- the tables find no gain where there is none

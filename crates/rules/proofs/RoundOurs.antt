@@ -21,9 +21,9 @@ use Rattle.joined.specs.Joined.{Link}
 use Rattle.joined.proofs.JoinedLaws.{firsts, seconds}
 use Rattle.net.specs.Net.{Net}
 use Rattle.refiner.specs.declared.Best.{Best}
-use Rattle.tree.specs.Table.{pointBound, key, firstEnd, secondEnd, Tree, tree, Within}
+use Rattle.tree.specs.Table.{treeBound, key, firstEnd, secondEnd, Tree, tree, Within}
 use Rattle.refiner.specs.Exchange.{dropTwo, exchange}
-use Rattle.tree.specs.Sum.{below, over}
+use Rattle.tree.specs.Sum.{below, sumOver}
 use Rattle.tree.specs.Places.{endsOf, edgesOf, Ranked, Sound}
 use Rattle.refiner.specs.Sentences as tables
 use Rattle.tree.proofs.SumLaws.{below-some, one, one-same, one-some, one-not, in-table, of-table}
@@ -83,7 +83,7 @@ below-zero f n h =
     let z : ⊥ = omega (arith, r .1 .1, h (r .0) (r .1 .0)) in z))
     (λ q. omega (arith, ltb-false 0 (below f n) q))
 
-once-over : (q : ℕ) (ks : List ℕ) (n : ℕ) → ((i j : ℕ) → i < j → j < n → getD ks i 0 < getD ks j 0) → over (one q) ks n ≤ 1
+once-over : (q : ℕ) (ks : List ℕ) (n : ℕ) → ((i j : ℕ) → i < j → j < n → getD ks i 0 < getD ks j 0) → sumOver (one q) ks n ≤ 1
 unfolding below
 once-over q ks zero r = omega arith
 once-over q ks (suc n) r =
@@ -115,7 +115,7 @@ module _ {pts : List ℤ} {n : ℕ} {ks : List ℕ} {e k l a b u p : ℕ} {s : P
       (Lays s (placeAt pts a) x ⊎ (Lays s (placeAt pts b) x ⊎ Lays s (placeAt pts u) x))
 
   -- s and a point to which an edge is laid
-  laid-link : (x : ℕ) → x < n → ((g : ℕ → ℕ) → between g p (m x) ≤ over g (t .edges .keys) (t .edges .size)) →
+  laid-link : (x : ℕ) → x < n → ((g : ℕ → ℕ) → between g p (m x) ≤ sumOver g (t .edges .keys) (t .edges .size)) →
       (s ≡ placeAt pts x) ⊎ Link (edgesIn t) s (placeAt pts x)
   laid-link x h part =
       by (ltb p (m x))
@@ -156,7 +156,7 @@ module _ {pts : List ℤ} {n : ℕ} {ks : List ℕ} {e k l a b u p : ℕ} {s : P
   in-after x (inr (inr (inr h))) = lays-in (placeAt pts u) x (laid-link u hu (λ g. omega (arith, after .sums g))) h
 
   -- an edge that was left is neither k nor l
-  other-key : (q i : ℕ) → (i ≡ k) ⊎ (i ≡ l) → q ≡ getD ks i 0 → 0 < over (one q) (dropTwo e k l ks) e → ⊥
+  other-key : (q i : ℕ) → (i ≡ k) ⊎ (i ≡ l) → q ≡ getD ks i 0 → 0 < sumOver (one q) (dropTwo e k l ks) e → ⊥
   other-key q i which f some =
       let d = over-dropped (one q) e k l ks hk hl kl in
       let most = once-over q ks (suc (suc e)) rising in
@@ -167,7 +167,7 @@ module _ {pts : List ℤ} {n : ℕ} {ks : List ℕ} {e k l a b u p : ℕ} {s : P
       let z : ⊥ = omega (arith, d, most, y, some) in z)
       which
 
-  from-left : (j : ℕ) → 0 < over (λ q. one j (moved.moved after w hk hl kl ha hb hu q)) (dropTwo e k l ks) e →
+  from-left : (j : ℕ) → 0 < sumOver (λ q. one j (moved.moved after w hk hl kl ha hb hu q)) (dropTwo e k l ks) e →
       Outcome (endsOf (t .points) j)
   from-left j some =
       let r = below-some _ e some in
@@ -227,9 +227,9 @@ module _ {pts : List ℤ} {n : ℕ} {ks : List ℕ} {e k l a b u p : ℕ} {s : P
 
 -- The round
 
-module _ {net : Net} (pts : List ℤ) (n : ℕ) (ks : List ℕ) (few : n < pointBound)
-    (room : length pts ≡ pointBound * 2)
-    (rooms : length ks ≡ pointBound) (c : Best) (above : 0 < c .gain) where
+module _ {net : Net} (pts : List ℤ) (n : ℕ) (ks : List ℕ) (few : n < treeBound)
+    (room : length pts ≡ treeBound * 2)
+    (rooms : length ks ≡ treeBound) (c : Best) (above : 0 < c .gain) where
   round-at : (e : ℕ) → Sound net (tree pts n ks e) → Ranked ks e → Won net pts n ks few room rooms e c →
       tables.Takes net (tree pts n ks e) c →
       Round net (edgesOf pts ks e) (edgesIn (exchange c pts n ks e))
@@ -269,8 +269,8 @@ module _ {net : Net} (pts : List ℤ) (n : ℕ) (ks : List ℕ) (few : n < point
 
 -- where the greatest gain is above zero, the exchange of the tables is the round
 pub round-ours : {net : Net} (t : Tree) → Sound net t → Ranked (t .edges .keys) (t .edges .size) → t .count
-    < pointBound →
-    length (t .points) ≡ pointBound * 2 → length (t .edges .keys) ≡ pointBound → 0 < tables.foundIn net t .gain →
+    < treeBound →
+    length (t .points) ≡ treeBound * 2 → length (t .edges .keys) ≡ treeBound → 0 < tables.foundIn net t .gain →
     Round net (edgesIn t) (edgesIn (tables.exchanged net t))
 round-ours {net} t sound ranked few room rooms above =
     round-at (t .points) (t .count) (t .edges .keys) few room rooms (tables.foundIn net t) above (t .edges .size) sound ranked

@@ -37,7 +37,7 @@ use Rattle.terminal.proofs.KeptLaws.{read-listed, entry-listed}
 use Rattle.terminal.proofs.WholeLaws.{of-kept}
 use Rattle.forest.proofs.ForestLaws.{made-fine, made-falls}
 use Rattle.forest.proofs.Nearest.{fits}
-use Rattle.terminal.specs.declared.Tree.{Tree}
+use Rattle.terminal.specs.declared.TerminalTree.{TerminalTree}
 use Rattle.terminal.specs.Number.{edgeAt, pinNumbers}
 use Rattle.terminal.specs.Tree.{graphOf, treeOf, bridgesOf, lengthsOf, totalOf, pathsOf}
 use Rattle.terminal.specs.Tables.{Tables, Fresh, Worked, pathAt, pathsIn, Givable}
@@ -149,7 +149,7 @@ module _ {net : Net} (a : Allowed net) where
 
   -- What the tables hold
 
-  module _ {lent t : Tables} {r : Tree} (fresh : Fresh lent) (w : Worked net lent t r) where
+  module _ {lent t : Tables} {r : TerminalTree} (fresh : Fresh lent) (w : Worked net lent t r) where
     -- one path fewer than pins
     pub kept-fewer : suc (r .kept) ≡ length (net .pins)
     kept-fewer = ap suc (w .bridges-are .count) ∙ paths-count a

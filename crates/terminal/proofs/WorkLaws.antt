@@ -32,7 +32,7 @@ use Rattle.forest.specs.Parents.{parents}
 use Rattle.terminal.specs.Kept.{Terminal, terminal}
 use Rattle.terminal.proofs.KeptLaws.{read-listed, entry-listed}
 use Rattle.forest.proofs.Nearest.{fits}
-use Rattle.terminal.specs.declared.Tree.{Tree}
+use Rattle.terminal.specs.declared.TerminalTree.{TerminalTree}
 use Rattle.terminal.specs.Number.{numberOf, numbered, pinNumbers}
 use Rattle.terminal.specs.Tree.{graphOf, treeOf}
 use Rattle.terminal.specs.Tables.{Tables, tables, Fresh, Worked}
@@ -73,7 +73,7 @@ pub record Charted (net : Net) (lent : Tables) (points links : List ℤ) (n e : 
   pub edges-are : links ≡ over (flat edgeNumbers (spanning net)) (lent .links)
 
 -- what is worked out is charted
-pub worked-charted : {net : Net} {lent t : Tables} {r : Tree} → Worked net lent t r
+pub worked-charted : {net : Net} {lent t : Tables} {r : TerminalTree} → Worked net lent t r
     → Charted net lent (t .points) (t .links) (r .points) (r .edges)
 worked-charted w = record {
   vertex-count = w .vertex-count;

@@ -14,7 +14,7 @@ use Rattle.forest.specs.Bounds.{pointBound, edgeBound, pathBound}
 use Rattle.forest.specs.Edges.{graph, from, Listed}
 use Rattle.forest.specs.Labels.{labels, unlabelled}
 use Rattle.forest.specs.Parents.{parents, orphans}
-use Rattle.terminal.specs.declared.Tree.{Tree}
+use Rattle.terminal.specs.declared.TerminalTree.{TerminalTree}
 use Rattle.terminal.specs.Number.{pinNumbers}
 use Rattle.terminal.specs.Tree.{graphOf, treeOf, lengthsOf, totalOf}
 
@@ -64,7 +64,7 @@ pub record Fresh (t : Tables) : Type 0 where
   pub longs : length (t .longs) ≡ edgeBound
 
 -- what they hold when the terminal tree of a net is worked out, with the counts and the total in r
-pub record Worked (net : Net) (lent t : Tables) (r : Tree) : Type 0 where
+pub record Worked (net : Net) (lent t : Tables) (r : TerminalTree) : Type 0 where
   pub vertices-are : t .points ≡ over (flat placeNumbers (verticesOf net)) (lent .points)
   pub edges-are : t .links ≡ over (flat edgeNumbers (spanning net)) (lent .links)
   pub graph-is : graph (t .ones) (t .twos) (t .spans) (r .edges) ≡ graphOf net

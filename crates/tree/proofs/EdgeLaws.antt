@@ -17,8 +17,8 @@ use Rattle.plane.specs.Place.{before}
 use Rattle.plane.specs.Cost.{cost}
 use Rattle.joined.specs.Cost.{lengths}
 use Rattle.tree.specs.Table.{Tree, Within}
-use Rattle.tree.specs.Sum.{over}
-use Rattle.tree.specs.Places.{listing, endsOf, edgesOf, keyCost, totalOf, InOrder, Ranked}
+use Rattle.tree.specs.Sum.{sumOver}
+use Rattle.tree.specs.Places.{listing, endsOf, edgesOf, keyCost, treeTotal, InOrder, Ranked}
 use Rattle.tree.specs.Edges.{edgesFrom, tableEdges, treeEdges}
 use Rattle.tree.proofs.ListingLaws.{listing-lengths}
 
@@ -68,7 +68,7 @@ module _ (pts : List ℤ) (ks : List ℕ) where
       further r = record { number = r .number; low = omega (arith, r .low); high = omega (arith, r .high); is = r .is }
 
   -- the sum of what they cost
-  pub edges-total : (w : Weights) (e : ℕ) → lengths (cost w) (tableEdges pts ks e) ≡ over (keyCost w pts) ks e
+  pub edges-total : (w : Weights) (e : ℕ) → lengths (cost w) (tableEdges pts ks e) ≡ sumOver (keyCost w pts) ks e
   unfolding lengths
   edges-total w e =
       sym (total-reverse (λ (x : Place × Place). cost w (x .0) (x .1)) (tableEdges pts ks e))
@@ -84,5 +84,5 @@ module _ (pts : List ℤ) (ks : List ℕ) where
       (order _ _ (ranked .upward (r .number) (omega (arith, r .high))) (within .ends (r .number) .1))
 
 -- of a tree
-pub tree-total : (w : Weights) (t : Tree) → lengths (cost w) (treeEdges t) ≡ totalOf w t
+pub tree-total : (w : Weights) (t : Tree) → lengths (cost w) (treeEdges t) ≡ treeTotal w t
 tree-total w t = edges-total (t .points) (t .edges .keys) w (t .edges .size)

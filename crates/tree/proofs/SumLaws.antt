@@ -9,7 +9,7 @@ use lib.Dec.{ltb, eqb}
 use lib.ListN.{length, getD, set}
 use borrow.Author.Tests.{ltb-true, ltb-false, eqb-true, eq-eqb, ne-eqb}
 use Rattle.lists.proofs.TestLaws.{by}
-use Rattle.tree.specs.Sum.{below, over}
+use Rattle.tree.specs.Sum.{below, sumOver}
 
 -- Sums
 
@@ -97,8 +97,8 @@ pub one-not : (k j : ℕ) → (j ≡ k → ⊥) → one k j ≡ 0
 unfolding one
 one-not k j n = rw (one, ne-eqb j k n) refl
 
-pub in-table : (k : ℕ) (xs : List ℕ) (n : ℕ) → 0 < over (one k) xs n → (i : ℕ) × ((i < n) × (getD xs i 0 ≡ k))
+pub in-table : (k : ℕ) (xs : List ℕ) (n : ℕ) → 0 < sumOver (one k) xs n → (i : ℕ) × ((i < n) × (getD xs i 0 ≡ k))
 in-table k xs n h = let r = below-some _ n h in (r .0, (r .1 .0, one-some k (getD xs (r .0) 0) (r .1 .1)))
 
-pub of-table : (xs : List ℕ) (n i : ℕ) → i < n → 0 < over (one (getD xs i 0)) xs n
+pub of-table : (xs : List ℕ) (n i : ℕ) → i < n → 0 < sumOver (one (getD xs i 0)) xs n
 of-table xs n i h = omega (arith, below-at (λ j. one (getD xs i 0) (getD xs j 0)) n i h, one-same (getD xs i 0))

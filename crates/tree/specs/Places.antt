@@ -15,7 +15,7 @@ use Rattle.plane.specs.Flat.{placeAt}
 use Rattle.net.specs.Net.{Net}
 use Rattle.joined.specs.Tree as joined
 use Rattle.tree.specs.Table.{firstEnd, secondEnd, Tree, Within}
-use Rattle.tree.specs.Sum.{over}
+use Rattle.tree.specs.Sum.{sumOver}
 
 -- the first n of a sequence, the last of them first
 unfoldable pub listing : {A : Type 0} → (ℕ → A) → ℕ → List A
@@ -47,8 +47,8 @@ pub record Ranked (ks : List ℕ) (e : ℕ) : Type 0 where
   pub rising : (i j : ℕ) → i < j → j < e → getD ks i 0 < getD ks j 0
 
 -- R22: the total, the costs of the edges added up
-abbrev pub totalOf : Weights → Tree → ℕ
-totalOf w t = over (keyCost w (t .points)) (t .edges .keys) (t .edges .size)
+abbrev pub treeTotal : Weights → Tree → ℕ
+treeTotal w t = sumOver (keyCost w (t .points)) (t .edges .keys) (t .edges .size)
 
 -- a tree over its points in order, with all pins of the net, every edge clear of its macros
 pub record Sound (net : Net) (t : Tree) : Type 0 where

@@ -10,5 +10,5 @@ below f zero = 0
 below f (suc n) = f n + below f n
 
 -- the sum of g over the first n entries
-abbrev pub over : (ℕ → ℕ) → List ℕ → ℕ → ℕ
-over g xs n = below (λ i. g (getD xs i 0)) n
+abbrev pub sumOver : (ℕ → ℕ) → List ℕ → ℕ → ℕ
+sumOver g xs n = below (λ i. g (getD xs i 0)) n

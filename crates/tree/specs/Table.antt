@@ -4,26 +4,23 @@ use mathlib.Core.List.{List}
 use lib.IntN.{ℤ}
 use lib.ListN.{getD, set}
 use Rattle.plane.specs.declared.Place.{Place}
-use Rattle.net.specs.Bounds.{treeBound}
-
 -- N24: at most n + m = 384 points of the refined tree
-abbrev pub pointBound : ℕ
-pointBound = treeBound
+pub use Rattle.net.specs.Bounds.{treeBound}
 
 -- keys of edges, and entries of a table of all pairs of points, are below this
 abbrev pub pairBound : ℕ
-pairBound = pointBound * pointBound
+pairBound = treeBound * treeBound
 
 -- N16: the edge of points a and b, a before b, is the number `key a b`. Numbers of points are in the order of places, so keys are in the
 -- order of edges.
 abbrev pub key : ℕ → ℕ → ℕ
-key a b = a * pointBound + b
+key a b = a * treeBound + b
 
 abbrev pub firstEnd : ℕ → ℕ
-firstEnd k = k / pointBound
+firstEnd k = k / treeBound
 
 abbrev pub secondEnd : ℕ → ℕ
-secondEnd k = k % pointBound
+secondEnd k = k % treeBound
 
 -- a place written as the point i of a table of points
 abbrev pub setPoint : List ℤ → ℕ → Place → List ℤ

@@ -29,7 +29,7 @@ use Rattle.graph.proofs.WidthLaws.{place-width}
 use Rattle.forest.specs.Edges.{Graph, one, two}
 use Rattle.terminal.proofs.NumberLaws.{getD-over, ascending-at}
 use Rattle.terminal.proofs.FillLaws.{entry-at}
-use Rattle.tree.specs.Table.{pointBound, key, firstEnd, secondEnd, In, Within}
+use Rattle.tree.specs.Table.{treeBound, key, firstEnd, secondEnd, In, Within}
 use Rattle.tree.specs.Sum.{below}
 use Rattle.tree.specs.Places.{endsOf}
 use Rattle.union.specs.Union.{keyIn}
@@ -57,10 +57,10 @@ past xs n i h =
     ∙ getD-append-add xs (drop (length xs) (replicate n 0)) (i - length xs) 0
     ∙ none-at (length xs) n (i - length xs)
 
-first-of : (x y : ℕ) → y < pointBound → firstEnd (key x y) ≡ x
+first-of : (x y : ℕ) → y < treeBound → firstEnd (key x y) ≡ x
 first-of x y h = omega arith
 
-second-of : (x y : ℕ) → y < pointBound → secondEnd (key x y) ≡ y
+second-of : (x y : ℕ) → y < treeBound → secondEnd (key x y) ≡ y
 second-of x y h = omega arith
 
 -- the sum over a table's first entries is the sum over the list that they are
@@ -73,37 +73,37 @@ below-total f (x ∷ l) = first (λ i. f (getD (x ∷ l) i 0)) (length l) ∙ ap
     first h zero = refl
     first h (suc n) = omega (arith, first h n)
 
-module _ (places : ℕ → Place) (g : Graph) (W E : List ℕ) (ascending : Ascending ltb W) (few : length W ≤ pointBound)
-    (fewer : length E ≤ pointBound)
+module _ (places : ℕ → Place) (g : Graph) (W E : List ℕ) (ascending : Ascending ltb W) (few : length W ≤ treeBound)
+    (fewer : length E ≤ treeBound)
     (one-at : (k : ℕ) → k ∈ E → one g k ∈ W) (two-at : (k : ℕ) → k ∈ E → two g k ∈ W) where
   abbrev pub pointTable : List ℤ
-  pointTable = over (flat placeNumbers (map places W)) (replicate (pointBound * 2) (pos 0))
+  pointTable = over (flat placeNumbers (map places W)) (replicate (treeBound * 2) (pos 0))
 
   abbrev pub edgeTable : List ℕ
-  edgeTable = over (map (λ k. keyIn W (one g k) (two g k)) E) (replicate pointBound 0)
+  edgeTable = over (map (λ k. keyIn W (one g k) (two g k)) E) (replicate treeBound 0)
 
-  pub points-length : length pointTable ≡ pointBound * 2
+  pub points-length : length pointTable ≡ treeBound * 2
   points-length =
-      length-over (flat placeNumbers (map places W)) (replicate (pointBound * 2) (pos 0))
+      length-over (flat placeNumbers (map places W)) (replicate (treeBound * 2) (pos 0))
       (omega (
         arith,
         length-flat placeNumbers placeFrom 2 place-width (map places W),
         length-map W places,
         length-replicate {A = ℤ}
-            (pointBound * 2) (pos 0),
+            (treeBound * 2) (pos 0),
       ))
-      ∙ length-replicate (pointBound * 2) (pos 0)
+      ∙ length-replicate (treeBound * 2) (pos 0)
 
-  pub edges-length : length edgeTable ≡ pointBound
+  pub edges-length : length edgeTable ≡ treeBound
   edges-length =
-      length-over (map (λ k. keyIn W (one g k) (two g k)) E) (replicate pointBound 0)
-      (omega (arith, length-map E (λ k. keyIn W (one g k) (two g k)), length-replicate {A = ℕ} pointBound 0))
-      ∙ length-replicate {A = ℕ} pointBound 0
+      length-over (map (λ k. keyIn W (one g k) (two g k)) E) (replicate treeBound 0)
+      (omega (arith, length-map E (λ k. keyIn W (one g k) (two g k)), length-replicate {A = ℕ} treeBound 0))
+      ∙ length-replicate {A = ℕ} treeBound 0
 
   -- points
   pub point-at : (i : ℕ) → i < length W → placeAt pointTable i ≡ places (getD W i 0)
   point-at i h =
-      place-at (map places W) (replicate (pointBound * 2) (pos 0)) i (omega (arith, length-map W places)) ∙ getD-map places W i 0 _ h
+      place-at (map places W) (replicate (treeBound * 2) (pos 0)) i (omega (arith, length-map W places)) ∙ getD-map places W i 0 _ h
 
   pub small : (v : ℕ) → v ∈ W → position ltb W v < length W
   small v m = position-small ltb number-order W ascending v m
@@ -133,7 +133,7 @@ module _ (places : ℕ → Place) (g : Graph) (W E : List ℕ) (ascending : Asce
   -- edges
   pub key-at : (i : ℕ) → i < length E → getD edgeTable i 0 ≡ keyIn W (one g (getD E i 0)) (two g (getD E i 0))
   key-at i h =
-      getD-over (map (λ k. keyIn W (one g k) (two g k)) E) (replicate pointBound 0) i 0
+      getD-over (map (λ k. keyIn W (one g k) (two g k)) E) (replicate treeBound 0) i 0
       (omega (arith, length-map E (λ k. keyIn W (one g k) (two g k))))
       ∙ getD-map (λ k. keyIn W (one g k) (two g k)) E i 0 0 h
 
@@ -171,5 +171,5 @@ module _ (places : ℕ → Place) (g : Graph) (W E : List ℕ) (ascending : Asce
 
       empty : (i : ℕ) → length E ≤ i → In (length W) (getD edgeTable i 0)
       empty i h =
-          rw (past (map (λ k. keyIn W (one g k) (two g k)) E) pointBound i (omega (arith, length-map E (λ k. keyIn W (one g k) (two g k)))))
+          rw (past (map (λ k. keyIn W (one g k) (two g k)) E) treeBound i (omega (arith, length-map E (λ k. keyIn W (one g k) (two g k)))))
           (omega arith, omega arith)

@@ -164,17 +164,17 @@ module _ (g : Graph) (fars : List ℕ) (p : Parents) (ks : List ℕ) (n : ℕ) (
 
     -- what is written is the start
     pub started : (places : ℕ → Place) (lent pts : List ℤ) (lent′ keys : List ℕ) (points edges : ℕ) →
-        lent ≡ replicate (tables.pointBound * 2) (pos 0) → lent′ ≡ replicate tables.pointBound 0 →
+        lent ≡ replicate (tables.treeBound * 2) (pos 0) → lent′ ≡ replicate tables.treeBound 0 →
         points ≡ length (marks at n) → pts ≡ over (flat placeNumbers (map places (marks at n))) lent →
         edges ≡ length (marks on (g .count)) →
         keys ≡ over (map (λ k. key (getD ranks (one g k) 0) (getD ranks (two g k) 0)) (marks on (g .count))) lent′ →
         tree pts points keys edges ≡ startOf g fars p ks places n pins
     unfolding startOf
     started places lent pts lent′ keys points edges fresh fresh′ count written count′ written′ =
-        let i : pts ≡ over (flat placeNumbers (map places (unionPoints g fars p ks n pins))) (replicate (tables.pointBound * 2) (pos 0)) =
+        let i : pts ≡ over (flat placeNumbers (map places (unionPoints g fars p ks n pins))) (replicate (tables.treeBound * 2) (pos 0)) =
         written ∙ ap₂ (λ (l : List ℕ) (r : List ℤ). over (flat placeNumbers (map places l)) r) points-are fresh in
         let j : keys ≡ over (map (λ k. keyIn (unionPoints g fars p ks n pins) (one g k) (two g k)) (unionEdges g fars p ks))
-        (replicate tables.pointBound 0) =
+        (replicate tables.treeBound 0) =
         written′ ∙ ap₂ (λ (l r : List ℕ). over l r) keys-are fresh′ in
         let q : points ≡ length (unionPoints g fars p ks n pins) = count ∙ ap length points-are in
         let r : edges ≡ length (unionEdges g fars p ks) = count′ ∙ ap length edges-are in

@@ -45,9 +45,9 @@ use Rattle.terminal.specs.Number.{edgeAt, numberOf, vertexAt, pinNumbers}
 use Rattle.terminal.specs.Tree.{graphOf, treeOf, totalOf}
 use Rattle.terminal.proofs.NumberLaws.{ascending-at, count-of, one-of, vertex-order, vertex-of-number, pin-number-in}
 use Rattle.terminal.proofs.SettingOf.{setting, whole, edge-at, one-vertex, two-vertex}
-use Rattle.tree.specs.Table.{key, firstEnd, secondEnd, pointBound, Tree}
+use Rattle.tree.specs.Table.{key, firstEnd, secondEnd, treeBound, Tree}
 use Rattle.tree.specs.Places.{endsOf, pointsOf, edgesOf, keyCost, InOrder, Ranked, Sound}
-use Rattle.tree.specs.Places.{totalOf as treeTotal}
+use Rattle.tree.specs.Places.{treeTotal}
 use Rattle.tree.specs.Sum.{below}
 use Rattle.tree.proofs.ListingLaws.{listing-length, in-listing, of-listing, listing-once}
 use Rattle.tree.proofs.SumLaws.{below-same}
@@ -130,12 +130,12 @@ module _ {net : Net} (a : Allowed net) where
   unfolding unionPoints
   few-points = omega (arith, those-split (λ v. stands v (pins ++ flat (bothEnds (g .ones) (g .twos)) E)) (from 0 n), length-from 0 n)
 
-  room : length W ≤ pointBound
+  room : length W ≤ treeBound
   room = omega (arith, few-points, few-vertices a)
 
   -- the refiner's tables have room for the edges
   pub union-less : length (unionEdges (graphOf net) (treeOf net .labels .fars) (treeOf net .parents) (treeOf net .bridges))
-      ≤ pointBound
+      ≤ treeBound
   union-less = omega (arith, room, number-size)
 
   -- By places
@@ -281,7 +281,7 @@ module _ {net : Net} (a : Allowed net) where
   rank : ℕ → ℕ
   rank v = position ltb W v
 
-  rank-small : (v : ℕ) → v ∈ W → rank v < pointBound
+  rank-small : (v : ℕ) → v ∈ W → rank v < treeBound
   unfolding rank
   rank-small v m = omega (arith, position-small ltb number-order W points-ascending v m, room)
 
@@ -336,7 +336,7 @@ module _ {net : Net} (a : Allowed net) where
   unfolding unionOf startOf
   union-few = few-points
 
-  pub union-room : unionOf net .count + length (net .pins) ≤ pointBound
+  pub union-room : unionOf net .count + length (net .pins) ≤ treeBound
   unfolding unionOf startOf
   union-room = omega (arith, few-points, few-vertices a, a .few-pins)
 
@@ -344,11 +344,11 @@ module _ {net : Net} (a : Allowed net) where
   unfolding unionOf startOf
   union-size-is = number-size
 
-  pub union-points : length (unionOf net .points) ≡ pointBound * 2
+  pub union-points : length (unionOf net .points) ≡ treeBound * 2
   unfolding unionOf startOf
   union-points = points-length at g W E points-ascending room union-less one-at two-at
 
-  pub union-keys : length (unionOf net .edges .keys) ≡ pointBound
+  pub union-keys : length (unionOf net .edges .keys) ≡ treeBound
   unfolding unionOf startOf
   union-keys = edges-length at g W E points-ascending room union-less one-at two-at
 

@@ -24,7 +24,7 @@ use Rattle.terminal.proofs.KeptLaws.{read-listed, entry-listed}
 use Rattle.forest.proofs.Nearest.{fits}
 use Rattle.forest.proofs.ParentLaws.{falls-parented}
 use Rattle.terminal.proofs.WholeLaws.{of-kept}
-use Rattle.terminal.specs.declared.Tree.{Tree}
+use Rattle.terminal.specs.declared.TerminalTree.{TerminalTree}
 use Rattle.terminal.specs.Number.{vertexAt, pinNumbers}
 use Rattle.terminal.specs.Tree.{graphOf, treeOf}
 use Rattle.terminal.specs.Tables.{Tables, Worked}
@@ -43,7 +43,7 @@ start-agree : (g : Graph) (fars : List ℕ) (p : Parents) (ks : List ℕ) (f h :
 unfolding startOf
 start-agree g fars p ks f h n pins a = rw (map-agree f h (unionPoints g fars p ks n pins) a) refl
 
-module _ {net : Net} (a : Allowed net) {lent t : Tables} {r : Tree} (w : Worked net lent t r) where
+module _ {net : Net} (a : Allowed net) {lent t : Tables} {r : TerminalTree} (w : Worked net lent t r) where
   abbrev g : Graph
   g = graphOf net
 
@@ -89,7 +89,7 @@ module _ {net : Net} (a : Allowed net) {lent t : Tables} {r : Tree} (w : Worked 
 -- what the refiner asks of the tables that hold the union
 pub refinable : {net : Net} → Allowed net → (pts : List ℤ) (points : ℕ) (keys : List ℕ) (edges : ℕ) →
     tree pts points keys edges ≡ unionOf net →
-    ((points + length (net .pins) ≤ tables.pointBound) × (edges + length (net .pins) ≤ tables.pointBound)) × Within points keys
+    ((points + length (net .pins) ≤ tables.treeBound) × (edges + length (net .pins) ≤ tables.treeBound)) × Within points keys
 refinable {net} a pts points keys edges e =
     let n : points ≡ unionOf _ .count = ap (λ (t : Table). t .count) e in
     let m : edges ≡ unionOf _ .edges .size = ap (λ (t : Table). t .edges .size) e in

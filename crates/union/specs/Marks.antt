@@ -40,4 +40,4 @@ pub record Startable (g : Graph) (n : ℕ) (pins : List ℕ) (m : ℕ) (fars : L
   pub pins-in : FirstBelow pins m pointBound
   pub kept-few : count ≤ edgeBound
   pub kept-in : FirstBelow kept count (g .count)
-  pub room : length (unionEdges g fars p (entries kept 0 count)) ≤ tables.pointBound
+  pub room : length (unionEdges g fars p (entries kept 0 count)) ≤ tables.treeBound

@@ -19,7 +19,7 @@ use Rattle.forest.specs.Parents.{Parents}
 use Rattle.terminal.specs.Bridges.{path}
 use Rattle.terminal.specs.Number.{vertexAt, pinNumbers}
 use Rattle.terminal.specs.Tree.{graphOf, treeOf}
-use Rattle.tree.specs.Table.{pointBound, key, Tree, tree}
+use Rattle.tree.specs.Table.{treeBound, key, Tree, tree}
 
 -- a number stands in a list
 unfoldable pub stands : ℕ → List ℕ → Bool
@@ -52,9 +52,9 @@ module _ (g : Graph) (fars : List ℕ) (p : Parents) (ks : List ℕ) where
   unfoldable pub startOf : (ℕ → Place) → ℕ → List ℕ → Tree
   startOf places n pins =
       tree
-      (over (flat placeNumbers (map places (unionPoints n pins))) (replicate (pointBound * 2) (pos 0)))
+      (over (flat placeNumbers (map places (unionPoints n pins))) (replicate (treeBound * 2) (pos 0)))
       (length (unionPoints n pins))
-      (over (map (λ k. keyIn (unionPoints n pins) (one g k) (two g k)) unionEdges) (replicate pointBound 0))
+      (over (map (λ k. keyIn (unionPoints n pins) (one g k) (two g k)) unionEdges) (replicate treeBound 0))
       (length unionEdges)
 
 -- the union of the kept paths of a net

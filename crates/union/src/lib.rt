@@ -4,6 +4,7 @@
 // come out in order.
 use net::Net;
 use plane::Place;
+use tree::Size;
 ghost use mathlib.Core.Path.{_≡_};
 ghost use mathlib.Core.List.{_∷_, _++_, map};
 ghost use Prim.Native.Nat.{_*_, _+_, _≤_, _<_};
@@ -27,12 +28,6 @@ pub const POINTS: usize = Net::POINTS;
 pub const EDGES: usize = Net::EDGES;
 
 pub const VERTEX_NUMBERS: usize = POINTS * 2;
-
-// How many points and edges the union has.
-pub struct Size {
-    pub points: usize,
-    pub edges: usize,
-}
 
 // The edges on v's way to its root marked. The distance, which falls by el along each edge, falls with each call.
 fn mark_way(
@@ -156,7 +151,7 @@ fn put_points(
     rank: &mut [usize; POINTS],
     pts: &mut [i32; tree::NUMBERS],
 ) -> usize
-    requires { ⌜ (n ≤ pointBound) × ((length (now pts) ≡ tables.pointBound * 2) × (length (now rank) ≡ pointBound)) ⌝ }
+    requires { ⌜ (n ≤ pointBound) × ((length (now pts) ≡ tables.treeBound * 2) × (length (now rank) ≡ pointBound)) ⌝ }
     requires { ⌜ Below pointBound (now rank) ⌝ }
     ensures { λ r. ⌜ r ≡ length (marks (now (at .entry)) n) ⌝ }
     ensures { λ r. ⌜ now (pts .exit) ≡ over (flat placeNumbers (map (placeAt (now (vertices .entry))) (marks (now (at .entry)) n)))
@@ -195,7 +190,7 @@ fn put_keys(
     keys: &mut [usize; tree::POINTS],
 ) -> usize
     requires { ⌜ (Ends (now ea) (now eb) e) × (Below pointBound (now rank)) ⌝ }
-    requires { ⌜ (length (marks (now on) e) ≤ tables.pointBound) × (length (now keys) ≡ tables.pointBound) ⌝ }
+    requires { ⌜ (length (marks (now on) e) ≤ tables.treeBound) × (length (now keys) ≡ tables.treeBound) ⌝ }
     ensures { λ r. ⌜ r ≡ length (marks (now (on .entry)) e) ⌝ }
     ensures { λ r. ⌜ now (keys .exit) ≡ over (map (λ k. key (getD (now (rank .entry)) (getD (now (ea .entry)) k 0) 0)
         (getD (now (rank .entry)) (getD (now (eb .entry)) k 0) 0)) (marks (now (on .entry)) e)) (now (keys .entry)) ⌝ }
@@ -232,7 +227,7 @@ pub fn start(
     keys: &mut [usize; tree::POINTS],
 ) -> Size
     requires { ⌜ Startable (graph (now ea) (now eb) (now el) e) n (now pin) m (now far) (parents (now up) (now via)) (now kept) count ⌝ }
-    requires { ⌜ (now pts ≡ replicate (tables.pointBound * 2) (pos 0)) × (now keys ≡ replicate tables.pointBound 0) ⌝ }
+    requires { ⌜ (now pts ≡ replicate (tables.treeBound * 2) (pos 0)) × (now keys ≡ replicate tables.treeBound 0) ⌝ }
     ensures { λ r. ⌜ tree (now (pts .exit)) (r .points) (now (keys .exit)) (r .edges)
         ≡ startOf (graph (now (ea .entry)) (now (eb .entry)) (now (el .entry)) e) (now (far .entry))
         (parents (now (up .entry)) (now (via .entry)))

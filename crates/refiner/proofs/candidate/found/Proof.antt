@@ -4,7 +4,7 @@ use mathlib.Core.Path.{_≡_}
 use native.Mathlib.Omega.{arith}
 use borrow.Author.Needs.{needs}
 use Rattle.refiner.specs.Longest.{noEdge}
-use Rattle.tree.specs.Table.{pairBound, pointBound}
+use Rattle.tree.specs.Table.{pairBound, treeBound}
 use Rattle.refiner.proofs.RoundLaws.{small-all, small-reached, found-is}
 use Rattle.refiner.proofs.candidate.found.Statement.{statement}
 use Rattle.refiner.proofs.candidate.found.Tie as tie
@@ -18,7 +18,7 @@ array-write-seen c = search needs
 reached-requires : tie.Need-reached-requires
 reached-requires c κs =
     let s = c .before .before .before .before .before in
-    ((s .pre .0 .0, s .pre .0 .1), (s .pre .1, small-all pointBound pairBound noEdge (omega arith) (omega arith)))
+    ((s .pre .0 .0, s .pre .0 .1), (s .pre .1, small-all treeBound pairBound noEdge (omega arith) (omega arith)))
 
 search-requires : tie.Need-search-requires
 search-requires c κs =
@@ -27,7 +27,7 @@ search-requires c κs =
       (
         s .pre .1,
         small-reached _ _ _ _ _ _ _ _ (c .before .before .reached .ensures) (s .pre .0 .0)
-            (small-all pointBound pairBound noEdge (omega arith) (omega arith)),
+            (small-all treeBound pairBound noEdge (omega arith) (omega arith)),
       ),
     )
 

@@ -5,7 +5,7 @@ use mathlib.Core.Path.{_≡_, _∙_}
 use Prim.Native.Nat.{_≤_, _<_, _-_}
 use native.Mathlib.Omega.{arith}
 use Rattle.refiner.specs.Longest.{pass, reach}
-use Rattle.tree.specs.Table.{Small, pointBound}
+use Rattle.tree.specs.Table.{Small, treeBound}
 use Rattle.refiner.specs.Turns.{turns}
 use Rattle.refiner.proofs.LongestLaws.{small-attached, pass-is}
 use Rattle.refiner.proofs.TurnLaws.{turns-none, turns-next, turns-end}
@@ -13,7 +13,7 @@ use Rattle.refiner.proofs.longest.pass.Statement.{statement}
 use Rattle.refiner.proofs.longest.pass.Tie as tie
 
 abbrev Inv-loop : tie.InvT-loop
-Inv-loop keys el e n seen₀ top₀ k₀ seen top k = (k ≤ e) × (Small pointBound top ×
+Inv-loop keys el e n seen₀ top₀ k₀ seen top k = (k ≤ e) × (Small treeBound top ×
     (turns (pass keys el n) k (e - k) (reach seen top) ≡ turns (pass keys el n) 0 e (reach seen₀ top₀)))
 
 abbrev μ-loop : tie.MeasureT-loop

@@ -5,7 +5,7 @@ use mathlib.Core.Path.{_≡_}
 use Prim.Native.Nat.{ℕ, _≤_, _<_, _-_}
 use native.Mathlib.Omega.{arith}
 use Rattle.refiner.specs.Longest.{Reach, pass, reach, reached}
-use Rattle.tree.specs.Table.{Small, pointBound}
+use Rattle.tree.specs.Table.{Small, treeBound}
 use Rattle.refiner.specs.Turns.{turns}
 use Rattle.refiner.proofs.LongestLaws.{small-passed}
 use Rattle.refiner.proofs.TurnLaws.{turns-none, turns-next, turns-end}
@@ -13,7 +13,7 @@ use Rattle.refiner.proofs.longest.reached.Statement.{statement}
 use Rattle.refiner.proofs.longest.reached.Tie as tie
 
 abbrev Inv-loop : tie.InvT-loop
-Inv-loop keys el e n seen₀ top₀ i₀ seen top i = (i ≤ e) × (Small pointBound top ×
+Inv-loop keys el e n seen₀ top₀ i₀ seen top i = (i ≤ e) × (Small treeBound top ×
     (turns (λ (_ : ℕ) (q : Reach). turns (pass keys el n) 0 e q) i (e - i) (reach seen top) ≡ turns
     (λ (_ : ℕ) (q : Reach). turns (pass keys el n) 0 e q) 0 e (reach seen₀ top₀)))
 

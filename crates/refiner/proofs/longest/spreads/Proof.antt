@@ -5,7 +5,7 @@ use mathlib.Core.Path.{_≡_}
 use Prim.Native.Nat.{_≤_, _<_, _-_}
 use native.Mathlib.Omega.{arith}
 use Rattle.refiner.specs.Longest.{spread}
-use Rattle.tree.specs.Table.{Small, pointBound}
+use Rattle.tree.specs.Table.{Small, treeBound}
 use Rattle.refiner.specs.Turns.{turns}
 use Rattle.refiner.proofs.LongestLaws.{spreads-is, small-spread}
 use Rattle.refiner.proofs.TurnLaws.{turns-none, turns-next, turns-end}
@@ -13,7 +13,7 @@ use Rattle.refiner.proofs.longest.spreads.Statement.{statement}
 use Rattle.refiner.proofs.longest.spreads.Tie as tie
 
 abbrev Inv-loop : tie.InvT-loop
-Inv-loop el n v p k top₀ w₀ top w = (w ≤ n) × (Small pointBound top × (turns (spread el v p k) w (n - w) top ≡ turns (spread el v p k) 0 n top₀))
+Inv-loop el n v p k top₀ w₀ top w = (w ≤ n) × (Small treeBound top × (turns (spread el v p k) w (n - w) top ≡ turns (spread el v p k) 0 n top₀))
 
 abbrev μ-loop : tie.MeasureT-loop
 μ-loop el n v p k top₀ w₀ top w = n - w

@@ -6,7 +6,7 @@ use Prim.Native.Nat.{_/_, _%_}
 use mathlib.Core.Path.{_≡_}
 use native.Mathlib.Omega.{arith}
 use borrow.Author.Needs.{needs}
-use Rattle.tree.specs.Table.{pointBound}
+use Rattle.tree.specs.Table.{treeBound}
 use Rattle.refiner.proofs.PruneLaws.{count-is, low-step}
 use Rattle.refiner.proofs.prune.count_ends.Statement.{statement}
 use Rattle.refiner.proofs.prune.count_ends.Tie as tie
@@ -39,7 +39,7 @@ add-deg : tie.Need-add-deg
 add-deg c =
     let s = c .before .before .before in
     let q = s .pre .1 .0 .small (s .args .i) in
-    omega (arith, s .pre .1 .1 .low (getD (now (s .args .keys)) (s .args .i) 0 / pointBound))
+    omega (arith, s .pre .1 .1 .low (getD (now (s .args .keys)) (s .args .i) 0 / treeBound))
 
 mul-deg-2 : tie.Need-mul-deg-2
 mul-deg-2 c =
@@ -65,8 +65,8 @@ add-deg-2 c =
     let q = s .pre .1 .0 .small (s .args .i) in
     omega (
       arith,
-      low-step 1000 (now (s .args .deg)) (getD (now (s .args .keys)) (s .args .i) 0 / pointBound) (s .pre .1 .1) .low
-          (getD (now (s .args .keys)) (s .args .i) 0 % pointBound),
+      low-step 1000 (now (s .args .deg)) (getD (now (s .args .keys)) (s .args .i) 0 / treeBound) (s .pre .1 .1) .low
+          (getD (now (s .args .keys)) (s .args .i) 0 % treeBound),
     )
 
 mul-deg-4 : tie.Need-mul-deg-4

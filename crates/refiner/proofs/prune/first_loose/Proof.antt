@@ -2,13 +2,13 @@
 -- Assumes nothing.
 use mathlib.Core.Path.{_≡_}
 use borrow.Author.Needs.{needs}
-use Rattle.tree.specs.Table.{pointBound}
+use Rattle.tree.specs.Table.{treeBound}
 use Rattle.refiner.proofs.PruneLaws.{first-loose-is, low-zeros}
 use Rattle.refiner.proofs.prune.first_loose.Statement.{statement}
 use Rattle.refiner.proofs.prune.first_loose.Tie as tie
 
 degrees-requires : tie.Need-degrees-requires
-degrees-requires c κs = (c .before .pre .0, (c .before .pre .1, low-zeros pointBound))
+degrees-requires c κs = (c .before .pre .0, (c .before .pre .1, low-zeros treeBound))
 
 seek-loose-requires : tie.Need-seek-loose-requires
 seek-loose-requires c κs = search needs
