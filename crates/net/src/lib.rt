@@ -46,7 +46,7 @@ impl Net {
     pub const TREE_POINTS: usize = Net::POINTS + Net::PINS;
 }
 
-// Why an operation refuses; `number` in specs/Answer.antt has the number of each (C1 to C21).
+// Why an operation refuses; `number` in specs/Answer.antt has the number of each (C1 to C32).
 pub enum Refusal {
     Blocks,
     Sums,
@@ -59,6 +59,8 @@ pub enum Refusal {
     Overlap,
     PinInside,
     Space,
+    Bands,
+    Reach,
 }
 
 impl Refusal {
@@ -77,6 +79,8 @@ impl Refusal {
             Refusal::Overlap => 16,
             Refusal::PinInside => 17,
             Refusal::Space => 21,
+            Refusal::Bands => 31,
+            Refusal::Reach => 32,
         }
     }
 }
