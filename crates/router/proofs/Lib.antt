@@ -3,6 +3,8 @@ pub mod AnswerLaws
 pub mod CallLaws
 pub mod FreshTables
 pub mod RefinedLaws
+pub mod PriceLaws
 pub mod EveryOrder
 pub mod WorkedNets
+pub mod WorkedPrices
 pub mod Published

@@ -8,6 +8,7 @@ use numbered::EDGES;
 use numbered::PINS;
 use numbered::POINTS;
 use numbered::VERTEX_NUMBERS;
+use price::Priced;
 use refined::Refined;
 ghost use mathlib.Core.Path.{_≡_};
 ghost use Prim.Native.Nat.{_*_, _≤_};
@@ -17,11 +18,13 @@ ghost use Rattle.plane.specs.Flat.{placesOf, macrosOf};
 ghost use Rattle.net.specs.Allowed.{Allowed};
 ghost use Rattle.net.specs.Bounds.{pinBound, macroBound, treeBound};
 ghost use Rattle.net.specs.Check.{pinCount, macroCount};
+ghost use Rattle.price.specs.Price.{priced, toldPrice};
 ghost use Rattle.refined.specs.Refined.{Answer};
 ghost use Rattle.union.specs.Union.{unionOf};
 ghost use Rattle.router.specs.Graph.{graphGiven};
 ghost use Rattle.router.specs.Terminal.{terminalGiven};
 ghost use Rattle.router.specs.Refined.{refinedGiven, wiresGiven};
+ghost use Rattle.router.specs.Price.{metalOf};
 ghost use Rattle.router.specs.Call.{GraphCall, TerminalCall, RefinedCall, WiresCall};
 
 // The graph.
@@ -111,6 +114,17 @@ pub fn wires(pins: &[i32], macros: &[i32], wires: &mut [i32]) -> Wired
     let tree = refine(pins, macros, &mut points, &mut keys);
     let count = wires::give_wires(&points, &keys, tree.edges, &mut *wires);
     Wired::Given(count)
+}
+
+// The price.
+pub fn price(pins: &[i32], macros: &[i32], bands: &[u64]) -> Priced
+    requires { ⌜ Allowed (placesOf (now pins)) (macrosOf (now macros)) ⌝ }
+    ensures { λ r. ⌜ toldPrice r ≡ priced (metalOf (now (pins .entry)) (now (macros .entry))) (now (bands .entry)) ⌝ }
+{
+    let mut points = [0i32; refined::NUMBERS];
+    let mut keys = [0usize; refined::POINTS];
+    let tree = refine(pins, macros, &mut points, &mut keys);
+    price::price(tree.total, bands)
 }
 
 // The refined tree of an allowed net, in tables that are fresh.
