@@ -31,7 +31,9 @@ pub fn bands(kind: BandList, seed: u64, metal: u64) -> Vec<u64> {
         BandList::InOrder => in_order(random, metal),
         BandList::Half => vec![metal + random.bits() % 3, half_rate(random, metal)],
         BandList::JustReaches => near(random, metal),
-        BandList::Short => pairs(random, |random, _| (random.bits() % metal.max(1), rate(random))),
+        BandList::Short => pairs(random, |random, _| {
+            (random.bits() % metal.max(1), rate(random))
+        }),
         BandList::FallingRates => {
             let mut list = in_order(random, metal);
             let mut rates: Vec<u64> = list.iter().skip(1).step_by(2).copied().collect();
@@ -143,6 +145,19 @@ fn half_rate(random: &mut Random, metal: u64) -> u64 {
 
 /// A number of any size, or one near what the tests compare with.
 fn anything(random: &mut Random, metal: u64) -> u64 {
-    let near = random.choose(&[0, 1, metal, metal + 1, HIGHEST_RATE, HIGHEST_RATE + 1, u64::MAX]);
-    random.choose(&[near, near, random.clone().bits() % 1_000, random.clone().bits()])
+    let near = random.choose(&[
+        0,
+        1,
+        metal,
+        metal + 1,
+        HIGHEST_RATE,
+        HIGHEST_RATE + 1,
+        u64::MAX,
+    ]);
+    random.choose(&[
+        near,
+        near,
+        random.clone().bits() % 1_000,
+        random.clone().bits(),
+    ])
 }
