@@ -1,4 +1,4 @@
--- E17 of worked nets: the refusals of the net come first, and one pin is charged nothing.
+-- E18, of worked nets: the refusals of the net come first, and one pin is charged nothing.
 -- Assumes nothing.
 use mathlib.Core.Path.{_≡_, refl}
 use mathlib.Core.List.{List, [], _∷_}
