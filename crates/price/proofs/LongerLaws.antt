@@ -12,7 +12,7 @@ use lib.Dec.{ltb}
 use Rattle.lists.specs.Any.{any}
 use Rattle.lists.specs.Member.{_∈_, here, there}
 use Rattle.lists.proofs.TestLaws.{by, not-true, contrapose}
-use Rattle.lent.specs.Told.{refused, given}
+use Rattle.lent.specs.Told.{given}
 use Rattle.lent.proofs.AfterLaws.{told-apart}
 use Rattle.price.specs.declared.Band.{Band}
 use Rattle.price.specs.Band.{bandsOf}

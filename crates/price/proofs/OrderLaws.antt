@@ -9,9 +9,9 @@ use native.Mathlib.Omega.{arith}
 use borrow.Author.Tests.{ltb-true, ltb-false, lt-ltb, le-ltb}
 use lib.Dec.{ltb}
 use Rattle.lists.specs.Member.{_∈_, here, there}
-use Rattle.lists.proofs.TestLaws.{by, or-none, or-neither}
+use Rattle.lists.proofs.TestLaws.{or-none, or-neither}
 use Rattle.price.specs.declared.Band.{Band}
-use Rattle.price.specs.Order.{Rising, NeverFalling, Kept, stepsBack, fallsAfter, fallsBack}
+use Rattle.price.specs.Order.{Kept, stepsBack, fallsAfter, fallsBack}
 
 -- the band c does not fall back from b
 pub record Onward (b c : Band) : Type 0 where

@@ -1,7 +1,7 @@
 -- The price: an allowed net's metal is as the refiner sums it and small enough to be charged; a charge is never by a refused net; and B6 of
 -- the published answers.
 -- Assumes nothing.
-use mathlib.Core.Path.{_≡_, refl, sym, _∙_}
+use mathlib.Core.Path.{_≡_, refl}
 use mathlib.Core.List.{List}
 use Prim.Native.Nat.{ℕ, _≤_}
 use native.Mathlib.Omega.{arith}

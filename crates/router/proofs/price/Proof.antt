@@ -1,6 +1,6 @@
 -- `router::price` meets its contract: the refusals of the check first, then what the bands say of an allowed net's metal.
 -- Assumes nothing.
-use mathlib.Core.Path.{_≡_, refl, sym, ap, _∙_}
+use mathlib.Core.Path.{_≡_, sym, ap, _∙_}
 use denote.Ref.{now}
 use Rattle.lent.specs.Told.{given}
 use Rattle.net.specs.Check.{checked, told}
