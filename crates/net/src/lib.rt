@@ -62,7 +62,7 @@ impl Net {
     pub const COST: u64 = Net::COORDINATE as u64 * 4 * Net::WEIGHT as u64;
 }
 
-// Why an operation refuses; `number` in specs/Answer.antt has the number of each (C1 to C21).
+// Why an operation refuses; `number` in specs/Answer.antt has the number of each (C1 to C32).
 pub enum Refusal {
     Blocks,
     Sums,
@@ -75,6 +75,8 @@ pub enum Refusal {
     Overlap,
     PinInside,
     Space,
+    Bands,
+    Reach,
 }
 
 impl Refusal {
@@ -93,6 +95,8 @@ impl Refusal {
             Refusal::Overlap => 16,
             Refusal::PinInside => 17,
             Refusal::Space => 21,
+            Refusal::Bands => 31,
+            Refusal::Reach => 32,
         }
     }
 }

@@ -4,6 +4,8 @@ pub mod CallLaws
 pub mod CountedLaws
 pub mod FreshTables
 pub mod RefinedLaws
+pub mod PriceLaws
 pub mod EveryOrder
 pub mod WorkedNets
+pub mod WorkedPrices
 pub mod Published

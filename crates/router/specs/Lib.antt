@@ -11,6 +11,8 @@
 --              laidOf, laidTotal, wiresOf           the edges, their total and the wires of two flat lists
 --              refinedTree, wired pins macros r     the answers of a refined tree and of wires into r lent numbers
 --              toldWires r                          what the code's answer says
+--   Price      metalOf, netPrice pins macros bands   the metal to lay, and the answer of a price by a list of bands
+--              NeverLess bands                      of two nets that the list prices, the one with more metal is charged no less
 --   Call       Gives, GivesTwo                      what a call answers and leaves in one lent list, in two: the contracts
 --   Published  Promised pins macros                 all that is promised of an allowed net: the trees of the rules, the only ones, and D3
 --   EveryOrder SameForBoth                          what two calls have in common whose lists have the same entries in another order
@@ -19,6 +21,7 @@ pub mod Graph
 pub mod Room
 pub mod Terminal
 pub mod Refined
+pub mod Price
 pub mod Call
 pub mod Published
 pub mod EveryOrder

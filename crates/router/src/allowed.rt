@@ -4,6 +4,7 @@ use crate::Tree;
 use crate::Wired;
 use net::Net;
 use net::Refusal;
+use price::Priced;
 use refiner::Refined;
 use terminal::EDGE_NUMBERS;
 use terminal::EDGES;
@@ -15,12 +16,14 @@ ghost use lib.IntN.{pos};
 ghost use lib.ListN.{length, replicate};
 ghost use Rattle.net.specs.Net.{netOf};
 ghost use Rattle.net.specs.Bounds.{treeBound};
+ghost use Rattle.price.specs.Price.{priced, toldPrice};
 ghost use Rattle.refiner.specs.Refined.{Answer};
 ghost use Rattle.union.specs.Union.{unionOf};
 ghost use Rattle.router.specs.Counted.{Counted};
 ghost use Rattle.router.specs.Graph.{graphGiven};
 ghost use Rattle.router.specs.Terminal.{terminalGiven};
 ghost use Rattle.router.specs.Refined.{refinedGiven, wiresGiven};
+ghost use Rattle.router.specs.Price.{metalOf};
 ghost use Rattle.router.specs.Call.{GraphCall, TerminalCall, RefinedCall, WiresCall};
 
 // The graph.
@@ -113,6 +116,17 @@ pub fn wires(net: Net, pins: &[i32], macros: &[i32], wires: &mut [i32]) -> Wired
     let tree = refine(net, pins, macros, &mut points, &mut keys);
     let count = refined::give_wires(&points, &keys, tree.edges, &mut *wires);
     Wired::Given(count)
+}
+
+// The price.
+pub fn price(net: Net, pins: &[i32], macros: &[i32], bands: &[u64]) -> Priced
+    requires { ⌜ Counted net (now pins) (now macros) ⌝ }
+    ensures { λ r. ⌜ toldPrice r ≡ priced (metalOf (now (pins .entry)) (now (macros .entry))) (now (bands .entry)) ⌝ }
+{
+    let mut points = [0i32; tree::NUMBERS];
+    let mut keys = [0usize; tree::POINTS];
+    let tree = refine(net, pins, macros, &mut points, &mut keys);
+    price::price(tree.total, bands)
 }
 
 // The refined tree of an allowed net, in tables that are fresh.
