@@ -17,7 +17,7 @@ use Rattle.plane.specs.declared.Place.{Place}
 use Rattle.graph.specs.Numbers.{edgeNumbers, edgeFrom}
 use Rattle.graph.proofs.WidthLaws.{edge-width}
 use Rattle.tree.specs.Places.{endsOf}
-use Rattle.refined.specs.Edges.{edgesFrom, tableEdges}
+use Rattle.tree.specs.Edges.{edgesFrom, tableEdges}
 
 -- Stores one after the other
 

@@ -1,10 +1,9 @@
 -- The refined tree's edges as they are given, and its wires: rules W1 to W4.
 --
 -- Edges are read from the refiner's tables in their order, which is the order of edges. The same edges in the theory of the refined tree
--- are a listing from the last to the first; what is promised there depends on which edges there are, and is carried over.
+-- are a listing from the last to the first; what is promised there depends on which edges there are, and is carried over. The total is in
+-- cost, as the refiner chooses; wires are metal, and measured by plain length.
 --
---   Edges      edgesFrom, tableEdges       edges of a tree's tables as pairs of places, in the order of the table
---              treeEdges t                 all edges of a tree, in order
 --   Wires      drawn a b                   the wire from a to b, unless its length is zero
 --              bend a b                    where the horizontal wire ends and the vertical one begins
 --              wiresOfEdge e, wires es     the wires of an edge; of edges one after the other
@@ -16,7 +15,6 @@
 -- THE THEOREMS
 --   WireSound      edge-wired              the wires of every edge keep `EdgeWires`;  wired: those of edges keep `Wired`
 --   EdgeSound      given-edges             the edges of a refined tree, with the refiner's total, keep `Given`
---                  given-wires             their wires are clear and, together, as long as the total says
-pub mod Edges
+--   NetRefined     union-promise           the refined tree of an allowed net's union keeps `Promise`;  union-tabled: and `Tabled`
 pub mod Wires
 pub mod Promise

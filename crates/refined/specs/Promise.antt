@@ -14,11 +14,12 @@ use Rattle.plane.specs.Place.{before}
 use Rattle.plane.specs.Distance.{distance}
 use Rattle.plane.specs.Macro.{clear}
 use Rattle.plane.specs.Box.{InBox}
+use Rattle.net.specs.Net.{Net, costIn}
 use Rattle.joined.specs.Cost.{lengths}
 use Rattle.joined.specs.OneTree.{OneTree}
 use Rattle.graph.specs.Edges.{beforeEdge}
 use Rattle.tree.specs.Table.{Tree}
-use Rattle.refined.specs.Edges.{treeEdges}
+use Rattle.tree.specs.Edges.{treeEdges}
 
 -- Wires
 
@@ -57,7 +58,7 @@ pub record EdgeWires (e : Place × Place) (ws : List (Place × Place)) : Type 0 
 pub record Wired (es ws : List (Place × Place)) : Type 0 where
   pub few : length ws ≤ 2 * length es
   pub axis : (w : Place × Place) → w ∈ ws → Horizontal w ⊎ Vertical w
-  -- R22: the wires are as long as the metal to lay
+  -- R22: the wires are the edges' metal, by its length, whatever a unit of it costs
   pub long : lengths distance ws ≡ lengths distance es
   pub free : (ms : List Macro) → ((e : Place × Place) → e ∈ es → clear (e .0) (e .1) ms ≡ true)
       → (w : Place × Place) → w ∈ ws → clear (w .0) (w .1) ms ≡ true
@@ -65,16 +66,16 @@ pub record Wired (es ws : List (Place × Place)) : Type 0 where
 -- Edges
 
 -- what is promised of the edges es and the total that are given when the tree t of a net is refined
-pub record Given (ms : List Macro) (pins : List Place) (t : Tree) (es : List (Place × Place)) (total : ℕ) : Type 0 where
+pub record Given (net : Net) (t : Tree) (es : List (Place × Place)) (total : ℕ) : Type 0 where
   -- R20: one loop-free way along the edges from each point to each other one
-  pub one : OneTree pins es
+  pub one : OneTree (net .pins) es
   -- R21: the ends of each edge are clear of each other
-  pub free : (e : Place × Place) → e ∈ es → clear (e .0) (e .1) ms ≡ true
+  pub free : (e : Place × Place) → e ∈ es → clear (e .0) (e .1) (net .macros) ≡ true
   -- N16: each edge has its smaller place first, and edges are in order
   pub smaller : (e : Place × Place) → e ∈ es → before (e .0) (e .1) ≡ true
   pub ordered : Ascending beforeEdge es
-  -- C66: the total is the sum of their lengths, no more than that of the tree
-  pub sum : total ≡ lengths distance es
-  pub less : total ≤ lengths distance (treeEdges t)
+  -- C66: the total is what they cost together, no more than those of the tree
+  pub sum : total ≡ lengths (costIn net) es
+  pub less : total ≤ lengths (costIn net) (treeEdges t)
   -- fewer than the points that there can be
-  pub few : length es < t .count + length pins
+  pub few : length es < t .count + length (net .pins)

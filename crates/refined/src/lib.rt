@@ -10,7 +10,7 @@ ghost use Rattle.lent.specs.Over.{over};
 ghost use Rattle.lent.specs.Entries.{flat};
 ghost use Rattle.graph.specs.Numbers.{edgeNumbers};
 ghost use Rattle.tree.specs.Table.{pointBound, pairBound, Small};
-ghost use Rattle.refined.specs.Edges.{tableEdges};
+ghost use Rattle.tree.specs.Edges.{tableEdges};
 ghost use Rattle.refined.specs.Wires.{drawn, bend, wiresOfEdge, wires};
 
 // The first e edges, in order.
@@ -42,7 +42,7 @@ fn put_wire(table: &mut [i32], i: usize, a: Place, b: Place) -> usize
     ensures { λ r. ⌜ r ≡ i + length (drawn a b) ⌝ }
     ensures { λ _. ⌜ now (table .exit) ≡ sets (now (table .entry)) (i * 4) (flat edgeNumbers (drawn a b)) ⌝ }
 {
-    if refiner::far_apart(a, b) == 0 {
+    if plane::distance(a, b) == 0 {
         return i;
     }
     graph::put_edge(&mut *table, i, a, b);

@@ -254,28 +254,32 @@ module _ {pts : List ℤ} {n : ℕ} {ks : List ℕ} {e k l a b u p : ℕ} {s : P
 
   -- the costs
   module _ (weights : Weights) where
+    abbrev long : Place × Place → ℕ
+    long z = cost weights (z .0) (z .1)
+
     cost-part : (x : ℕ) → x < n → between (keyCost weights (t .points)) p (m x) ≡ cost weights s (placeAt pts x)
     cost-part x h =
         by (ltb p (m x))
         (λ q.
         between-less (keyCost weights (t .points)) p (m x) q
-        ∙ ap (λ (z : Place × Place). cost weights (z .0) (z .1)) (ends p (m x) s (placeAt pts x) (after .low x h) (after .new) (after .old x h)))
+        ∙ ap long (ends p (m x) s (placeAt pts x) (after .low x h) (after .new) (after .old x h)))
         (λ q.
         by (ltb (m x) p)
         (λ r.
         between-more (keyCost weights (t .points)) p (m x) q r
-        ∙ ap (λ (z : Place × Place). cost weights (z .0) (z .1)) (ends (m x) p (placeAt pts x) s (after .lowest) (after .old x h) (after .new))
+        ∙ ap long (ends (m x) p (placeAt pts x) s (after .lowest) (after .old x h) (after .new))
         ∙ cost-comm weights (placeAt pts x) s)
         (λ r.
         let v : p ≡ m x = omega (arith, ltb-false p (m x) q, ltb-false (m x) p r) in
         let o : s ≡ placeAt pts x = sym (after .new) ∙ ap (placeAt (t .points)) v ∙ after .old x h in
-        between-none (keyCost weights (t .points)) p (m x) v ∙ sym (ap (λ (z : Place). cost weights s z) (sym o) ∙ cost-self weights s)))
+        between-none (keyCost weights (t .points)) p (m x) v ∙ sym (ap (cost weights s) (sym o) ∙ cost-self weights s)))
 
     pub after-costs : over (keyCost weights (t .points)) (t .edges .keys) (t .edges .size)
         + (keyCost weights pts (getD ks k 0) + keyCost weights pts (getD ks l 0))
-        ≡ over (keyCost weights pts) ks (suc (suc e)) + (cost weights s (placeAt pts u) + (cost weights s (placeAt pts b) + cost weights s (placeAt pts a)))
+        ≡ over (keyCost weights pts) ks (suc (suc e))
+        + (cost weights s (placeAt pts u) + (cost weights s (placeAt pts b) + cost weights s (placeAt pts a)))
     after-costs =
         let same : over (λ j. keyCost weights (t .points) (moved j)) (dropTwo e k l ks) e ≡ over (keyCost weights pts) (dropTwo e k l ks) e
-        = below-same _ _ e (λ i h. ap (λ (z : Place × Place). cost weights (z .0) (z .1)) (moved-ends _ (within-dropped n e k l ks w .ends i))) in
+        = below-same _ _ e (λ i h. ap long (moved-ends _ (within-dropped n e k l ks w .ends i))) in
         let dropped = over-dropped (keyCost weights pts) e k l ks hk hl kl in
         omega (arith, after .sums (keyCost weights (t .points)), dropped, same, cost-part a ha, cost-part b hb, cost-part u hu)

@@ -1,14 +1,14 @@
 -- What the search finds is in range.
 -- Assumes nothing.
-use mathlib.Core.Path.{_≡_, refl, sym, ap, ap₂, _∙_}
-use mathlib.Core.Bool.{Bool, true, false, _&&_, _||_}
-use mathlib.Core.List.{List, [], _∷_}
-use Prim.Native.Nat.{ℕ, zero, suc, _+_, _-_, _*_, _/_, _%_, _≤_, _<_}
+use mathlib.Core.Path.{_≡_}
+use mathlib.Core.Bool.{true, false, _&&_, _||_}
+use mathlib.Core.List.{List}
+use Prim.Native.Nat.{ℕ, _+_, _<_}
 use native.Mathlib.Omega.{arith}
 use lib.Dec.{ltb, eqb}
 use lib.IntN.{ℤ}
-use lib.ListN.{length, getD, set, replicate}
-use borrow.Author.Tests.{ltb-true, lt-ltb, le-ltb, eq-eqb, ne-eqb, eqb-false}
+use lib.ListN.{getD}
+use borrow.Author.Tests.{ltb-true, eqb-false}
 use Rattle.plane.specs.declared.Macro.{Macro}
 use Rattle.plane.specs.declared.Weights.{Weights}
 use Rattle.plane.specs.Cost.{cost}
@@ -49,5 +49,6 @@ module _ (w : Weights) (pts : List ℤ) (e n : ℕ) (ms : List Macro) (keys el t
 
   pub fine-search : Fine el e n (search w pts n ms keys e el top)
   unfolding search
-  fine-search = turns-below (offers w pts n ms keys el top) (Fine el e n) e (λ j t i q. fine-offers j t i q) e 0 (best 0 0 0 0) (omega arith)
+  fine-search =
+      turns-below (offers w pts n ms keys el top) (Fine el e n) e (λ j t i q. fine-offers j t i q) e 0 (best 0 0 0 0) (omega arith)
       (λ g. absurd (let z : ⊥ = omega arith in z))

@@ -47,7 +47,8 @@ module _ (w : Weights) (pts : List ℤ) (n : ℕ) (ms : List Macro) (a b k u l x
     pub weigh-no : allowed pts n ms a b u s ≡ false → c ≡ weighed w pts n ms a b k u l x c
     weigh-no e = sym (named p q r s d h ∙ rw (e, and-false (ltb (c .gain + d) x)) refl)
 
-    pub weigh-yes : (g : ℕ) → g ≡ x - d → c .gain + d < x → allowed pts n ms a b u s ≡ true → best g k u l ≡ weighed w pts n ms a b k u l x c
+    pub weigh-yes : (g : ℕ) → g ≡ x - d → c .gain + d < x → allowed pts n ms a b u s ≡ true
+        → best g k u l ≡ weighed w pts n ms a b k u l x c
     weigh-yes g f i e = sym (named p q r s d h ∙ rw (lt-ltb _ _ i, e, f) refl)
 
   pub weigh-short : x ≤ c .gain → c ≡ weighed w pts n ms a b k u l x c
@@ -85,7 +86,8 @@ module _ (pts : List ℤ) (n : ℕ) (ms : List Macro) (a b u : ℕ) (s p q r : P
   unfolding allowed
   allowed-yes e t d = rw (← f, ← g, ← h, e, d) refl
 
-module _ (w : Weights) (pts : List ℤ) (n : ℕ) (ms : List Macro) (el top : List ℕ) (a b k u l : ℕ) (c : Best) (e : l ≡ cutOf el top a b u) where
+module _ (w : Weights) (pts : List ℤ) (n : ℕ) (ms : List Macro) (el top : List ℕ) (a b k u l : ℕ) (c : Best)
+    (e : l ≡ cutOf el top a b u) where
   pub offer-none : (eqb u a || (eqb u b || eqb l k)) ≡ true → c ≡ offer w pts n ms el top a b k u c
   unfolding offer
   offer-none h = rw (← e, h) refl

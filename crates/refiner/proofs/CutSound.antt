@@ -22,7 +22,7 @@ use Rattle.joined.proofs.TowardLaws.{toward-only}
 use Rattle.joined.proofs.ExchangeLaws.{step-other}
 use Rattle.refiner.specs.declared.Best.{Best}
 use Rattle.tree.specs.Table.{pointBound, firstEnd, secondEnd, Tree, tree}
-use Rattle.refiner.specs.Longest.{costs, longest}
+use Rattle.refiner.specs.Longest.{costs, longest, noEdge}
 use Rattle.refiner.specs.Candidate.{chosen, weighed, offer}
 use Rattle.tree.specs.Places.{endsOf, edgesOf, Sound}
 use Rattle.refiner.specs.Sentences.{keyAt, endA, endB, costAt, EndOf, StepOf, LongestOn, CutAt, cutIn}
@@ -53,16 +53,21 @@ module _ (net : Net) (pts : List ℤ) (n : ℕ) (ks : List ℕ) (e : ℕ) (sound
   abbrev el : List ℕ
   el = costs (net .weights) pts ks (suc e)
 
+  free-cost : getD el noEdge 0 ≡ 0
+  free-cost = no-cost (net .weights) pts ks (suc e) (omega (arith, sized))
+
   abbrev Here : ℕ → Type 0
   Here x =
-      Is pts n ks e el (sound .ordered) few (omega (arith, sized)) (no-cost (net .weights) pts ks (suc e) (omega (arith, sized))) (sound .within)
+      Is pts n ks e el (sound .ordered) few (omega (arith, sized)) (free-cost)
+      (sound .within)
       (sound .whole) k u
       hk hu (λ q. third (inl q)) (λ q. third (inr q)) x
 
   worked-is : Here (cutIn net (tree pts n ks (suc e)) k u)
   unfolding longest
   worked-is =
-      cut-is pts n ks e el (sound .ordered) few (omega (arith, sized)) (no-cost (net .weights) pts ks (suc e) (omega (arith, sized))) (sound .within)
+      cut-is pts n ks e el (sound .ordered) few (omega (arith, sized)) (free-cost)
+      (sound .within)
       (sound .whole)
       k u hk hu (λ q. third (inl q)) (λ q. third (inr q))
 
@@ -72,7 +77,8 @@ module _ (net : Net) (pts : List ℤ) (n : ℕ) (ks : List ℕ) (e : ℕ) (sound
   abbrev way : Toward (edgesOf pts ks (suc e)) (placeAt pts u) (placeAt pts (firstEnd (getD ks k 0)))
       (placeAt pts (secondEnd (getD ks k 0)))
   way =
-      the-way pts n ks e el (sound .ordered) few (omega (arith, sized)) (no-cost (net .weights) pts ks (suc e) (omega (arith, sized))) (sound .within)
+      the-way pts n ks e el (sound .ordered) few (omega (arith, sized)) (free-cost)
+      (sound .within)
       (sound .whole) k u hk hu (λ q. third (inl q)) (λ q. third (inr q))
 
   of-is : (x : ℕ) → Here x → CutAt net (tree pts n ks (suc e)) k u x

@@ -11,7 +11,7 @@ use borrow.Author.Tests.{lt-ltb, le-ltb}
 use Rattle.plane.specs.declared.Place.{Place}
 use Rattle.plane.specs.Flat.{placeAt}
 use Rattle.plane.specs.Place.{before, samePlace}
-use Rattle.refiner.specs.Exchange.{bump, bumpAt, carrying, closed, closing, dropTwo, hand, later, lay, lay3, opened, push}
+use Rattle.refiner.specs.Exchange.{bump, bumpAt, carrying, closed, closing, dropTwo, hand, later, lay, lays, star, opened, push}
 use Rattle.tree.specs.Table.{setPoint}
 use Rattle.refiner.specs.Exchange.{stands}
 use Rattle.tree.specs.Table.{Row, firstEnd, key, pointBound, row, secondEnd}
@@ -65,8 +65,8 @@ module _ (p a : ℕ) (ks ls : List ℕ) (e : ℕ) where
   unfolding lay
   lay-same g h = rw (lay, le-ltb _ _ g, le-ltb _ _ h) refl
 
-pub lay-three-is : (p a b u : ℕ) (r s t w : Row) → s ≡ lay p a r → t ≡ lay p b s → w ≡ lay p u t → w ≡ lay3 p a b u r
-unfolding lay3
+pub lay-three-is : (p a b u : ℕ) (r s t w : Row) → s ≡ lay p a r → t ≡ lay p b s → w ≡ lay p u t → w ≡ lays (star p a b u) r
+unfolding lays
 lay-three-is p a b u r s t w e f g = rw (g, f, e) refl
 
 pub stands-yes : (pts : List ℤ) (n p : ℕ) (s q : Place) → p < n → q ≡ placeAt pts p → samePlace s q ≡ stands pts n p s

@@ -31,14 +31,14 @@ use Rattle.joined.proofs.OneTreeLaws.{tree-simple}
 use Rattle.refiner.specs.Turns.{turns, seek}
 use Rattle.tree.specs.Table.{pointBound, key, firstEnd, secondEnd, row, Tree, tree, Within}
 use Rattle.refiner.specs.Candidate.{middleOf, sees, taken, dropped}
-use Rattle.refiner.specs.Exchange.{dropTwo, rank, stands, opened, bump, bumpAt, lay3, laidAt}
+use Rattle.refiner.specs.Exchange.{dropTwo, rank, stands, opened, bump, bumpAt, lays, star, laidAt}
 use Rattle.tree.specs.Sum.{over}
 use Rattle.tree.specs.Places.{endsOf, pointsOf, edgesOf, keyCost, InOrder, Sound}
 use Rattle.refiner.specs.Taken.{Taken}
 use Rattle.refiner.proofs.WithinLaws.{rank-le, bump-in, within-dropped, within-joined}
 use Rattle.refiner.proofs.ExchangeLaws.{bump-lt, bump-ge}
 use Rattle.tree.proofs.SumLaws.{below-same, below-one}
-use Rattle.refiner.proofs.ExchangeSums.{between, over-lay3, over-bumped, length-bumps, length-dropped}
+use Rattle.refiner.proofs.ExchangeSums.{between, over-lays, over-bumped, length-bumps, length-dropped}
 use Rattle.refiner.proofs.OpenedLaws.{seek-before, opened-low, opened-new, opened-past, opened-bump, opened-order}
 use Rattle.tree.proofs.ListingLaws.{listing-length, in-listing, of-listing}
 use Rattle.refiner.proofs.AfterLaws.{After, between-is, between-none, still, to-a, to-b, to-u, after-clear, after-costs}
@@ -52,7 +52,7 @@ module _ (pts : List ℤ) (n : ℕ) (ks : List ℕ) (e k l a b u p : ℕ) (s : P
 
   -- s is a point
   abbrev old-tree : Tree
-  old-tree = record { points = pts; count = n; edges = lay3 p a b u (row left e) }
+  old-tree = record { points = pts; count = n; edges = lays (star p a b u) (row left e) }
 
   pub after-old : n ≤ pointBound → p < n → s ≡ placeAt pts p → After pts n ks e k l a b u p s (λ i. i) old-tree
   after-old few h at = record {
@@ -62,10 +62,11 @@ module _ (pts : List ℤ) (n : ℕ) (ks : List ℕ) (e k l a b u p : ℕ) (s : P
     lowest = omega arith;
     sums =
         λ g.
-        over-lay3 g p a b u (row left e) (rw (length-dropped e k l ks) (omega arith))
-        ∙ ap (λ (x : ℕ). between g p u + (between g p b + (between g p a + x)))
-        (below-same _ _ e (λ i q. ap g (let z : getD left i 0 ≡ key (firstEnd (getD left i 0)) (secondEnd (getD left i 0)) = omega arith in
-        z)));
+        let laid = over-lays g (star p a b u) (row left e) (rw (length-dropped e k l ks) (omega arith)) in
+        let back : (j : ℕ) → j ≡ key (firstEnd j) (secondEnd j) = λ j. omega arith in
+        let same : over g left e ≡ over (λ j. g (key (firstEnd j) (secondEnd j))) left e =
+        below-same _ _ e (λ i q. ap g (back (getD left i 0))) in
+        omega (arith, laid, same);
   }
 
   -- s is put in
@@ -73,7 +74,7 @@ module _ (pts : List ℤ) (n : ℕ) (ks : List ℕ) (e k l a b u p : ℕ) (s : P
   new-tree = record {
     points = opened pts n p s;
     count = n + 1;
-    edges = lay3 p (bump p a) (bump p b) (bump p u) (row (turns (bumpAt p) 0 e left) e);
+    edges = lays (star p (bump p a) (bump p b) (bump p u)) (row (turns (bumpAt p) 0 e left) e);
   }
 
   pub after-new : n < pointBound → p ≤ n → n * 2 + 2 ≤ length pts → After pts n ks e k l a b u p s (bump p) new-tree
@@ -84,10 +85,10 @@ module _ (pts : List ℤ) (n : ℕ) (ks : List ℕ) (e k l a b u p : ℕ) (s : P
     lowest = omega arith;
     sums =
         λ g.
-        over-lay3 g p (bump p a) (bump p b) (bump p u) (row (turns (bumpAt p) 0 e left) e)
-        (rw (length-bumps p e left, length-dropped e k l ks) (omega arith))
-        ∙ ap (λ (x : ℕ). between g p (bump p u) + (between g p (bump p b) + (between g p (bump p a) + x)))
-        (over-bumped g p e left (rw (length-dropped e k l ks) (omega arith)));
+        let laid = over-lays g (star p (bump p a) (bump p b) (bump p u)) (row (turns (bumpAt p) 0 e left) e)
+        (rw (length-bumps p e left, length-dropped e k l ks) (omega arith)) in
+        let moved = over-bumped g p e left (rw (length-dropped e k l ks) (omega arith)) in
+        omega (arith, laid, moved);
   }
 
 -- how many edges are laid
@@ -322,6 +323,11 @@ module _ (net : Net) (pts : List ℤ) (n : ℕ) (ks : List ℕ) (e k l u : ℕ)
   pub laid-sound : Sound net result
   unfolding laidAt
   laid-sound = by (stands pts n p s) (λ t. rw (laidAt, t) (stood-sound t)) (λ t. rw (laidAt, t) (put-sound t))
+
+  -- no point is new but s
+  pub laid-known : (y : Place) → y ∈ pointsOf (result .points) (result .count) → (y ≡ s) ⊎ (y ∈ pointsOf pts n)
+  unfolding laidAt
+  laid-known = by (stands pts n p s) (λ t. rw (laidAt, t) (λ y i. inr i)) (λ t. rw (laidAt, t) (put-known t))
 
   through-s : {m : ℕ → ℕ} {t : Tree} → After pts n ks e k l a b u p s m t →
       over (keyCost (net .weights) (t .points)) (t .edges .keys) (t .edges .size) + keyCost (net .weights) pts (getD ks l 0)

@@ -13,7 +13,7 @@ use Rattle.lists.proofs.TestLaws.{by}
 use Rattle.refiner.specs.Turns.{turns}
 use Rattle.tree.specs.Table.{key, firstEnd, secondEnd, Row}
 use Rattle.tree.specs.Sum.{below, over}
-use Rattle.refiner.specs.Exchange.{shift, closed, dropTwo, bump, bumpAt, carrying, lay, lay3}
+use Rattle.refiner.specs.Exchange.{shift, closed, dropTwo, bump, bumpAt, carrying, lay, lays}
 use Rattle.tree.proofs.SumLaws.{below-same, from, from-below, from-same, other, here}
 
 -- One taken out
@@ -166,16 +166,25 @@ size-lay p a r =
     by (ltb p a) (λ t. rw (lay, t) (omega arith)) (λ t. by (ltb a p) (λ s. rw (lay, t, s) (omega arith))
     (λ s. rw (lay, t, s) (omega arith)))
 
-pub over-lay3 : (g : ℕ → ℕ) (p a b u : ℕ) (r : Row) → r .size + 2 < length (r .keys) →
-    over g (lay3 p a b u r .keys) (lay3 p a b u r .size) ≡ between g p u + (between g p b + (between g p a + over g (r .keys) (r .size)))
-unfolding lay3
-over-lay3 g p a b u r h =
-    let one = lay p a r in
-    let two = lay p b one in
-    over-lay g p u two (rw (length-lay p b one, length-lay p a r) (omega (arith, size-lay p b one, size-lay p a r)))
-    ∙ ap (λ (s : ℕ). between g p u + s)
-    (over-lay g p b one (rw (length-lay p a r) (omega (arith, size-lay p a r)))
-    ∙ ap (λ (s : ℕ). between g p b + s) (over-lay g p a r (omega arith)))
+-- edges one after the other: what they add, the room and the size
+abbrev pub betweens : (ℕ → ℕ) → List (ℕ × ℕ) → ℕ
+betweens g [] = 0
+betweens g (e ∷ es) = betweens g es + between g (e .0) (e .1)
+
+pub length-lays : (es : List (ℕ × ℕ)) (r : Row) → length (lays es r .keys) ≡ length (r .keys)
+unfolding lays
+length-lays [] r = refl
+length-lays (e ∷ es) r = length-lays es (lay (e .0) (e .1) r) ∙ length-lay (e .0) (e .1) r
+
+pub over-lays : (g : ℕ → ℕ) (es : List (ℕ × ℕ)) (r : Row) → r .size + length es ≤ length (r .keys) →
+    over g (lays es r .keys) (lays es r .size) ≡ betweens g es + over g (r .keys) (r .size)
+unfolding lays
+over-lays g [] r h = omega arith
+over-lays g (e ∷ es) r h =
+    let one = lay (e .0) (e .1) r in
+    let more = over-lays g es one (rw (length-lay (e .0) (e .1) r) (omega (arith, size-lay (e .0) (e .1) r))) in
+    let first = over-lay g (e .0) (e .1) r (omega arith) in
+    omega (arith, more, first)
 
 -- Two taken out
 

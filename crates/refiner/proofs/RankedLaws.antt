@@ -20,11 +20,11 @@ use Rattle.joined.proofs.TreeLaws.{tree-cuts, cuts-forest}
 use Rattle.refiner.specs.Turns.{turns}
 use Rattle.net.specs.Net.{Net}
 use Rattle.tree.specs.Table.{pointBound, key, firstEnd, secondEnd, Row, row, Tree, Within}
-use Rattle.refiner.specs.Exchange.{closed, dropTwo, stands, bump, bumpAt, carrying, lay, lay3, laidAt}
+use Rattle.refiner.specs.Exchange.{closed, dropTwo, stands, bump, bumpAt, carrying, lay, lays, star, laidAt}
 use Rattle.refiner.specs.Prune.{firstLoose, prune}
 use Rattle.tree.specs.Places.{listing, endsOf, edgesOf, Ranked, Sound}
 use Rattle.refiner.proofs.ExchangeLaws.{bump-lt, bump-ge}
-use Rattle.refiner.proofs.WithinLaws.{bump-in}
+use Rattle.refiner.proofs.WithinLaws.{bump-in, Ends, star-ends}
 use Rattle.tree.proofs.SumLaws.{other, here}
 use Rattle.refiner.proofs.ExchangeSums.{skip, skip-low, skip-high, closed-at, bumpKey, bumps-at, length-bumps, length-lay}
 use Rattle.refiner.proofs.ExchangeSums.{size-lay}
@@ -219,14 +219,13 @@ lay-level p a r hp ha room g =
         (carry-level (r .size) 0 (key x y) (r .keys) (omega arith) (omega (arith, first-of x y l, second-of x y l))
         (λ j f. absurd (let z : ⊥ = omega arith in z)) (subst (Level (r .keys)) n g))
 
-lay3-level : (p a b u : ℕ) (r : Row) → p < pointBound → a < pointBound → b < pointBound → u < pointBound → r .size + 2 < length (r .keys)
-    → Level (r .keys) (r .size) → Level (lay3 p a b u r .keys) (lay3 p a b u r .size)
-unfolding lay3
-lay3-level p a b u r hp ha hb hu room g =
-    let one = lay p a r in
-    let two = lay p b one in
-    lay-level p u two hp hu (rw (length-lay p b one, length-lay p a r) (omega (arith, size-lay p b one, size-lay p a r)))
-    (lay-level p b one hp hb (rw (length-lay p a r) (omega (arith, size-lay p a r))) (lay-level p a r hp ha (omega arith) g))
+lays-level : (es : List (ℕ × ℕ)) (r : Row) → Ends pointBound es → r .size + length es ≤ length (r .keys) → Level (r .keys) (r .size)
+    → Level (lays es r .keys) (lays es r .size)
+unfolding lays
+lays-level [] r h room g = g
+lays-level (e ∷ es) r h room g =
+    lays-level es (lay (e .0) (e .1) r) (h .1) (rw (length-lay (e .0) (e .1) r) (omega (arith, size-lay (e .0) (e .1) r)))
+    (lay-level (e .0) (e .1) r (h .0 .0) (h .0 .1) (omega arith) g)
 
 pub laid-level : (pts : List ℤ) (n : ℕ) (ks : List ℕ) (e p a b u : ℕ) (s : Place) → n < pointBound → e + 2 < length ks → p ≤ n → a < n → b
     < n → u < n
@@ -234,11 +233,16 @@ pub laid-level : (pts : List ℤ) (n : ℕ) (ks : List ℕ) (e p a b u : ℕ) (s
 unfolding laidAt
 laid-level pts n ks e p a b u s few room hp ha hb hu w r =
     by (stands pts n p s)
-    (λ t. rw (laidAt, t) (lay3-level p a b u (row ks e) (omega arith) (omega arith) (omega arith) (omega arith) room (ranked-level r)))
     (λ t.
     rw (laidAt, t)
-    (lay3-level p (bump p a) (bump p b) (bump p u) (row (turns (bumpAt p) 0 e ks) e) (omega arith)
-    (omega (arith, bump-in n p a ha)) (omega (arith, bump-in n p b hb)) (omega (arith, bump-in n p u hu)) (rw (length-bumps p e ks) room)
+    (lays-level (star p a b u) (row ks e) (star-ends pointBound p a b u (omega arith) (omega arith) (omega arith) (omega arith))
+    (omega arith) (ranked-level r)))
+    (λ t.
+    rw (laidAt, t)
+    (lays-level (star p (bump p a) (bump p b) (bump p u)) (row (turns (bumpAt p) 0 e ks) e)
+    (star-ends pointBound p (bump p a) (bump p b) (bump p u) (omega arith) (omega (arith, bump-in n p a ha))
+    (omega (arith, bump-in n p b hb)) (omega (arith, bump-in n p u hu)))
+    (rw (length-bumps p e ks) (omega arith))
     (ranked-level (bumped-ranked n p e ks few (omega arith) w r))))
 
 -- Each edge once

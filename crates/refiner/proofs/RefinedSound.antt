@@ -33,7 +33,7 @@ use Rattle.tree.proofs.PointLaws.{same-place}
 use Rattle.refiner.proofs.WithinLaws.{pruned-few, pruned-within}
 use Rattle.refiner.proofs.RankedLaws.{prune-ranked}
 use Rattle.refiner.proofs.PruneSound.{Whole, prune-whole, pruned-was, pruned-over}
-use Rattle.refiner.proofs.RoundSound.{rounds-kept}
+use Rattle.refiner.proofs.RoundSound.{kept-count, own-room, rounds-kept}
 
 -- The marks of pins
 
@@ -78,13 +78,11 @@ pub refined-promise : (net : Net) (t : Tree) → Sound net t → t .count + leng
 unfolding refined pruned
 refined-promise net t sound few room rooms =
     let r = rounds (net .weights) (net .macros) (length (net .pins)) t in
-    let k = rounds-kept net (length (net .pins)) t sound few room rooms in
+    let k = rounds-kept net (length (net .pins)) t sound _ (own-room t (length (net .pins)) few) room rooms in
     let pin = marks (net .pins) (r .points) (r .count) in
-    let least : r .count ≤ pointBound = omega (arith, k .points) in
-    let whole = prune-whole (r .points) (r .count) (k .sound .ordered) least (net .pins) pin (unmarked (net .pins) (r .points) (r .count) least)
-    (r .edges .size)
-    (r .edges .keys)
-    (k .sound .within) (held r (k .sound)) in
+    let least : r .count ≤ pointBound = omega (arith, kept-count k) in
+    let whole = prune-whole (r .points) (r .count) (k .sound .ordered) least (net .pins) pin
+    (unmarked (net .pins) (r .points) (r .count) least) (r .edges .size) (r .edges .keys) (k .sound .within) (held r (k .sound)) in
     record {
       one = tree-one same-place (whole .tree) (whole .inside) (net .pins) (whole .pinned);
       free =
@@ -119,7 +117,7 @@ pub refined-tabled : (net : Net) (t : Tree) → Sound net t → t .count + lengt
 unfolding refined pruned
 refined-tabled net t sound few room rooms ranked =
     let r = rounds (net .weights) (net .macros) (length (net .pins)) t in
-    let k = rounds-kept net (length (net .pins)) t sound few room rooms in
+    let k = rounds-kept net (length (net .pins)) t sound _ (own-room t (length (net .pins)) few) room rooms in
     let pin = marks (net .pins) (r .points) (r .count) in
     let edges = listing-length (λ j. endsOf (r .points) (getD (r .edges .keys) j 0)) (r .edges .size) in
     record {
@@ -133,6 +131,6 @@ refined-tabled net t sound few room rooms ranked =
             k .sound .whole .size,
             edges,
             listing-length (placeAt (r .points)) (r .count),
-            k .points,
+            kept-count k,
           );
     }

@@ -16,7 +16,7 @@ use Rattle.plane.specs.Middle.{middlePlace}
 use Rattle.lists.proofs.TestLaws.{by}
 use Rattle.refiner.specs.declared.Best.{Best}
 use Rattle.refiner.specs.Candidate.{found, search}
-use Rattle.refiner.specs.Exchange.{bump, bumpAt, closed, dropTwo, exchange, laidAt, lay3, opened, rank, shift, stands}
+use Rattle.refiner.specs.Exchange.{bump, bumpAt, closed, dropTwo, exchange, laidAt, lays, star, opened, rank, shift, stands}
 use Rattle.refiner.specs.Longest.{Reach, costs, measure, noEdge, pass, reach, reached, longest, start, edgeCost}
 use Rattle.refiner.specs.Refined.{addCost, total}
 use Rattle.tree.specs.Table.{Row, Small, Tree, firstEnd, pairBound, pointBound, row, secondEnd, tree}
@@ -43,8 +43,8 @@ small-reached keys el e n s t s′ t′ q h i =
 
 pub found-is : (w : Weights) (ms : List Macro) (pts : List ℤ) (n : ℕ) (ks : List ℕ) (e : ℕ) (el s t : List ℕ) (r : Best)
     → el ≡ turns (measure w pts ks) 0 e (replicate pointBound 0)
-    → reach s t ≡ reached ks el e n (reach (set (replicate pointBound 0) 0 1) (replicate pairBound noEdge)) → r ≡ search w pts n ms ks e el t
-    → r ≡ found w ms pts n ks e
+    → reach s t ≡ reached ks el e n (reach (set (replicate pointBound 0) 0 1) (replicate pairBound noEdge))
+    → r ≡ search w pts n ms ks e el t → r ≡ found w ms pts n ks e
 unfolding found costs longest start
 found-is w ms pts n ks e el s t r p q h = h ∙ ap (λ (v : List ℕ). search w pts n ms ks e el v) (ap (λ (v : Reach). v .top) q)
     ∙ ap (λ (v : List ℕ). search w pts n ms ks e v (reached ks v e n
@@ -62,14 +62,14 @@ small-dropped m n k l xs ys e s =
     (λ t. rw (e, dropTwo, t) (small-closed m l n _ (small-closed m k (n + 1) xs s)))
 
 module _ (pts : List ℤ) (n : ℕ) (ks : List ℕ) (e p a b u : ℕ) (s : Place) where
-  pub joined-yes : stands pts n p s ≡ true → (ls : List ℕ) (f : ℕ) → row ls f ≡ lay3 p a b u (row ks e) → tree pts n ls f
+  pub joined-yes : stands pts n p s ≡ true → (ls : List ℕ) (f : ℕ) → row ls f ≡ lays (star p a b u) (row ks e) → tree pts n ls f
       ≡ laidAt pts n ks e p a b u s
   unfolding laidAt
   joined-yes t ls f h = rw (laidAt, t) (ap (λ (r : Row). record { points = pts; count = n; edges = r }) h)
 
   pub joined-no : stands pts n p s ≡ false → (qts : List ℤ) (js ls : List ℕ) (f a′ b′ u′ : ℕ) → qts ≡ opened pts n p s → js
       ≡ turns (bumpAt p) 0 e ks
-      → a′ ≡ bump p a → b′ ≡ bump p b → u′ ≡ bump p u → row ls f ≡ lay3 p a′ b′ u′ (row js e) → tree qts (n + 1) ls f
+      → a′ ≡ bump p a → b′ ≡ bump p b → u′ ≡ bump p u → row ls f ≡ lays (star p a′ b′ u′) (row js e) → tree qts (n + 1) ls f
       ≡ laidAt pts n ks e p a b u s
   unfolding laidAt
   joined-no t qts js ls f a′ b′ u′ g i j k l h = rw (laidAt, t, g)

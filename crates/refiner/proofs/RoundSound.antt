@@ -1,5 +1,5 @@
--- The rounds keep a tree over its points in order, with all pins, every edge clear and the edges in order; each adds at most one point, and
--- the total falls by each gain.
+-- The rounds keep a tree over its points in order, with all pins, every edge clear and the edges in order; each adds at most one
+-- point, so that at most as many points as there are rounds are none of known places, and the total falls by each gain.
 -- Assumes nothing.
 use mathlib.Core.Path.{_≡_, refl, sym, ap, _∙_, subst}
 use mathlib.Core.List.{List, []}
@@ -16,20 +16,23 @@ use Rattle.plane.specs.Flat.{placeAt}
 use Rattle.net.specs.Net.{Net}
 use Rattle.refiner.specs.declared.Best.{Best}
 use Rattle.refiner.specs.Turns.{turns}
-use Rattle.tree.specs.Table.{pointBound, firstEnd, secondEnd, Row, row, Tree, tree}
+use Rattle.tree.specs.Table.{pointBound, firstEnd, secondEnd, row, Tree, tree}
 use Rattle.refiner.specs.Longest.{edgeCost, costs, longest}
 use Rattle.refiner.specs.Candidate.{middleOf, found}
-use Rattle.refiner.specs.Exchange.{dropTwo, rank, stands, bump, bumpAt, lay, lay3, laidAt, exchange}
+use Rattle.refiner.specs.Exchange.{dropTwo, rank, stands, bump, bumpAt, star, laidAt, exchange}
 use Rattle.refiner.specs.Refined.{rounds, addCost, total}
 use Rattle.tree.specs.Sum.{below, over}
-use Rattle.tree.specs.Places.{keyCost, totalOf, Ranked, Sound}
+use Rattle.tree.specs.Places.{pointsOf, keyCost, totalOf, Ranked, Sound}
+use Rattle.tree.specs.Outside.{strangers}
 use Rattle.refiner.specs.Taken.{Taken}
-use Rattle.refiner.proofs.ExchangeSums.{length-lay, length-bumps, length-dropped}
+use Rattle.refiner.proofs.ExchangeSums.{length-lays, length-bumps, length-dropped}
 use Rattle.refiner.proofs.OpenedLaws.{opened-length}
 use Rattle.tree.proofs.ListingLaws.{listing-length}
+use Rattle.tree.proofs.PointLaws.{order-once}
+use Rattle.tree.proofs.OutsideLaws.{outside-more, count-strangers, strangers-own}
 use Rattle.refiner.proofs.WithinLaws.{rank-le, within-dropped}
 use Rattle.refiner.proofs.RankedLaws.{dropped-ranked, laid-level, ranked-of}
-use Rattle.refiner.proofs.ExchangeSound.{laid-sound, laid-costs}
+use Rattle.refiner.proofs.ExchangeSound.{laid-sound, laid-known, laid-costs}
 use Rattle.refiner.proofs.CutLaws.{Is, cut-is, the-way}
 use Rattle.refiner.proofs.WinnerLaws.{Winner, found-wins, cost-at, no-cost}
 
@@ -37,22 +40,14 @@ use Rattle.refiner.proofs.WinnerLaws.{Winner, found-wins, cost-at, no-c
 pub record Kept (net : Net) (t r : Tree) (m : ℕ) : Type 0 where
   pub sound : Sound net r
   pub total : totalOf (net .weights) r ≤ totalOf (net .weights) t
-  pub points : r .count ≤ t .count + m
+  pub points : (vs : List Place) → strangers vs r ≤ strangers vs t + m
   pub places : length (r .points) ≡ length (t .points)
   pub rows : length (r .edges .keys) ≡ length (t .edges .keys)
   pub ranked : Ranked (t .edges .keys) (t .edges .size) → Ranked (r .edges .keys) (r .edges .size)
 
 -- The size of the tables
 
-length-lay3 : (p a b u : ℕ) (r : Row) → length (lay3 p a b u r .keys) ≡ length (r .keys)
-unfolding lay3
-length-lay3 p a b u r = length-lay p u (lay p b (lay p a r)) ∙ length-lay p b (lay p a r) ∙ length-lay p a r
-
 module _ (pts : List ℤ) (n : ℕ) (ks : List ℕ) (e p a b u : ℕ) (s : Place) where
-  laid-count : laidAt pts n ks e p a b u s .count ≤ n + 1
-  unfolding laidAt
-  laid-count = by (stands pts n p s) (λ t. rw (laidAt, t) (omega arith)) (λ t. rw (laidAt, t) (omega arith))
-
   laid-places : length (laidAt pts n ks e p a b u s .points) ≡ length pts
   unfolding laidAt
   laid-places = by (stands pts n p s) (λ t. rw (laidAt, t) refl) (λ t. rw (laidAt, t) (opened-length pts n p s))
@@ -60,8 +55,10 @@ module _ (pts : List ℤ) (n : ℕ) (ks : List ℕ) (e p a b u : ℕ) (s : Place
   laid-rows : length (laidAt pts n ks e p a b u s .edges .keys) ≡ length ks
   unfolding laidAt
   laid-rows =
-      by (stands pts n p s) (λ t. rw (laidAt, t) (length-lay3 p a b u (row ks e)))
-      (λ t. rw (laidAt, t) (length-lay3 p (bump p a) (bump p b) (bump p u) (row (turns (bumpAt p) 0 e ks) e) ∙ length-bumps p e ks))
+      by (stands pts n p s) (λ t. rw (laidAt, t) (length-lays (star p a b u) (row ks e)))
+      (λ t.
+      rw (laidAt, t)
+      (length-lays (star p (bump p a) (bump p b) (bump p u)) (row (turns (bumpAt p) 0 e ks) e) ∙ length-bumps p e ks))
 
 -- One round
 
@@ -151,16 +148,21 @@ module _ (net : Net) (pts : List ℤ) (n : ℕ) (ks : List ℕ) (few : n < point
       let left = dropTwo e (c .edge) (c .cut) ks in
       let l = laid-costs net pts n ks e (c .edge) (c .cut) (c .point) sound t few (omega arith) (omega (arith, s)) in
       let at = cost-at (net .weights) pts ks (suc (suc e)) (c .cut) (omega (arith, s)) (t .cut) in
+      let new = laidAt pts n left e (rank pts n m) (firstEnd k) (secondEnd k) (c .point) m in
+      let after = laid-sound net pts n ks e (c .edge) (c .cut) (c .point) sound t few (omega arith) (omega (arith, s)) in
       rw (exchange-laid c e) (record {
-        sound = laid-sound net pts n ks e (c .edge) (c .cut) (c .point) sound t few (omega arith) (omega (arith, s));
+        sound = after;
         total = omega (arith, l, at, win .gained);
-        points = laid-count pts n left e (rank pts n m) (firstEnd k) (secondEnd k) (c .point) m;
+        points =
+            λ vs.
+            outside-more vs (pointsOf pts n) (pointsOf (new .points) (new .count)) m
+            (order-once (new .points) (new .count) (after .ordered))
+            (laid-known net pts n ks e (c .edge) (c .cut) (c .point) sound t few (omega arith) (omega (arith, s)));
         places = laid-places pts n left e (rank pts n m) (firstEnd k) (secondEnd k) (c .point) m;
         rows = laid-rows pts n left e (rank pts n m) (firstEnd k) (secondEnd k) (c .point) m ∙ length-dropped e (c .edge) (c .cut) ks;
         ranked =
             λ r.
-            ranked-of (laidAt pts n left e (rank pts n m) (firstEnd k) (secondEnd k) (c .point) m)
-            (laid-sound net pts n ks e (c .edge) (c .cut) (c .point) sound t few (omega arith) (omega (arith, s)))
+            ranked-of new after
             (laid-level pts n left e (rank pts n m) (firstEnd k) (secondEnd k) (c .point) m few
             (rw (length-dropped e (c .edge) (c .cut) ks) (omega (arith, s))) (rank-le pts n m)
             (sound .within .ends (c .edge) .0) (sound .within .ends (c .edge) .1) (win .point)
@@ -173,34 +175,57 @@ kept-then : {net : Net} {t r q : Tree} (m : ℕ) → Kept net t r 1 → Kept net
 kept-then m a b = record {
   sound = b .sound;
   total = omega (arith, a .total, b .total);
-  points = omega (arith, a .points, b .points);
+  points = λ vs. omega (arith, a .points vs, b .points vs);
   places = b .places ∙ a .places;
   rows = b .rows ∙ a .rows;
   ranked = λ r. b .ranked (a .ranked r);
 }
 
-pub rounds-kept : (net : Net) (m : ℕ) (t : Tree) → Sound net t → t .count + m ≤ pointBound →
+-- so there is a point more for each round at most
+pub kept-count : {net : Net} {t r : Tree} {m : ℕ} → Kept net t r m → r .count ≤ t .count + m
+kept-count {net} {t} {r} k =
+    let own = pointsOf (t .points) (t .count) in
+    omega (
+      arith,
+      count-strangers own r (k .sound .ordered),
+      k .points own,
+      strangers-own t,
+      listing-length (placeAt (t .points)) (t .count),
+    )
+
+-- there is room for known places, for the other points of now and for one more a round
+pub record Room (vs : List Place) (t : Tree) (m : ℕ) : Type 0 where
+  pub room : length vs + (strangers vs t + m) ≤ pointBound
+
+-- where only its own points are known, for its points
+pub own-room : (t : Tree) (m : ℕ) → t .count + m ≤ pointBound → Room (pointsOf (t .points) (t .count)) t m
+own-room t m few = record { room = omega (arith, few, strangers-own t, listing-length (placeAt (t .points)) (t .count)) }
+
+pub rounds-kept : (net : Net) (m : ℕ) (t : Tree) → Sound net t → (vs : List Place) → Room vs t m →
     length (t .points) ≡ pointBound * 2 → length (t .edges .keys) ≡ pointBound → Kept net t (rounds (net .weights) (net .macros) m t) m
 unfolding rounds
-rounds-kept net zero t sound few room rooms = record {
+rounds-kept net zero t sound vs few room rooms = record {
   sound = sound;
   total = omega arith;
-  points = omega arith;
+  points = λ xs. omega arith;
   places = refl;
   rows = refl;
   ranked = λ r. r;
 }
-rounds-kept net (suc m) t sound few room rooms =
+rounds-kept net (suc m) t sound vs few room rooms =
+    let low : t .count < pointBound = omega (arith, few .room, count-strangers vs t (sound .ordered)) in
     let c = found (net .weights) (net .macros) (t .points) (t .count) (t .edges .keys) (t .edges .size) in
     by (eqb (c .gain) 0)
-    (λ q. rw (rounds, q) (record { sound = sound; total = omega arith; points = omega arith; places = refl; rows = refl; ranked = λ r. r }))
+    (λ q. rw (rounds, q)
+    (record { sound = sound; total = omega arith; points = λ xs. omega arith; places = refl; rows = refl; ranked = λ r. r }))
     (λ q.
     let some : c .gain ≡ 0 → ⊥ = eqb-false _ _ q in
     let win = found-wins (net .weights) (net .macros) (t .points) (t .count) (t .edges .keys) (t .edges .size) (omega arith) in
-    let one = round-kept net (t .points) (t .count) (t .edges .keys) (omega arith) room rooms c (t .edges .size) sound win in
+    let one = round-kept net (t .points) (t .count) (t .edges .keys) low room rooms c (t .edges .size) sound win in
     let next = exchange c (t .points) (t .count) (t .edges .keys) (t .edges .size) in
     rw (rounds, q)
-    (kept-then m one (rounds-kept net m next (one .sound) (omega (arith, one .points)) (one .places ∙ room) (one .rows ∙ rooms))))
+    (kept-then m one (rounds-kept net m next (one .sound) vs (record { room = omega (arith, few .room, one .points vs) })
+    (one .places ∙ room) (one .rows ∙ rooms))))
 
 -- the sum that the contract speaks of is this one
 sum-last : (w : Weights) (pts : List ℤ) (ks : List ℕ) (c i s : ℕ) → turns (addCost w pts ks) i (suc c) s ≡ keyCost w pts (getD ks (i + c) 0)

@@ -187,8 +187,8 @@ module _ (net : Net) (t : Tree) (sound : Sound net t) (few : t .count ≤ pointB
   abbrev Won : ℕ → ℕ → ℕ → ℕ → Type 0
   Won g k u l =
       let el = costs (net .weights) (t .points) (t .edges .keys) (t .edges .size) in
-      Winner (net .weights) (net .macros) (t .points) (t .count) (t .edges .keys) (t .edges .size) el (longest (t .edges .keys) el (t .edges .size) (t .count)) g k u
-      l
+      Winner (net .weights) (net .macros) (t .points) (t .count) (t .edges .keys) (t .edges .size) el
+      (longest (t .edges .keys) el (t .edges .size) (t .count)) g k u l
 
   cost-of : (j : ℕ) → j < t .edges .size → getD (costs (net .weights) (t .points) (t .edges .keys) (t .edges .size)) j 0 ≡ costAt net t j
   cost-of j h = cost-at (net .weights) (t .points) (t .edges .keys) (t .edges .size) j (omega (arith, tree-size net t sound)) h
@@ -243,7 +243,8 @@ module _ (net : Net) (t : Tree) (sound : Sound net t) (few : t .count ≤ pointB
   unfolding found
   leads k u l g h =
       let el = costs (net .weights) (t .points) (t .edges .keys) (t .edges .size) in
-      search-leads (net .weights) (net .macros) (t .points) (t .count) (t .edges .keys) (t .edges .size) el (longest (t .edges .keys) el (t .edges .size) (t .count))
+      search-leads (net .weights) (net .macros) (t .points) (t .count) (t .edges .keys) (t .edges .size) el
+      (longest (t .edges .keys) el (t .edges .size) (t .count))
       .most g k u l (h .above) (gains-won k u l g h) (omega (arith, h .candidate .edge))
       (λ q. absurd (let z : ⊥ = omega (arith, h .candidate .edge) in z))
 

@@ -26,7 +26,8 @@ use Rattle.tree.proofs.SumLaws.{other, here}
 use Rattle.refiner.proofs.WithinLaws.{measured-past, zeros-at}
 
 -- the candidate of the edge k and the point u, with L and gain
-pub record Winner (w : Weights) (ms : List Macro) (pts : List ℤ) (n : ℕ) (ks : List ℕ) (e : ℕ) (el top : List ℕ) (gain k u l : ℕ) : Type 0 where
+pub record Winner (w : Weights) (ms : List Macro) (pts : List ℤ) (n : ℕ) (ks : List ℕ) (e : ℕ) (el top : List ℕ)
+    (gain k u l : ℕ) : Type 0 where
   pub edge : k < e
   pub point : u < n
   pub notFirst : u ≡ firstEnd (getD ks k 0) → ⊥
@@ -74,8 +75,8 @@ module _ (w : Weights) (ms : List Macro) (pts : List ℤ) (n : ℕ) (ks : List �
   offers-wins : (k : ℕ) (c : Best) → k < e → Wins c → Wins (offers w pts n ms ks el top k c)
   unfolding offers
   offers-wins k c h f =
-      turns-below (offer w pts n ms el top (firstEnd (getD ks k 0)) (secondEnd (getD ks k 0)) k) Wins n (λ j t i q. offer-wins k h j t i q) n
-      0 c (omega arith) f
+      turns-below (offer w pts n ms el top (firstEnd (getD ks k 0)) (secondEnd (getD ks k 0)) k) Wins n
+      (λ j t i q. offer-wins k h j t i q) n 0 c (omega arith) f
 
   pub search-wins : Wins (search w pts n ms ks e el top)
   unfolding search

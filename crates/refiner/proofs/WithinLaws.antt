@@ -17,7 +17,8 @@ use Rattle.plane.specs.Place.{samePlace}
 use Rattle.lists.proofs.TestLaws.{by, and-left}
 use Rattle.refiner.specs.declared.Best.{Best}
 use Rattle.refiner.specs.Candidate.{found}
-use Rattle.refiner.specs.Exchange.{bump, bumpAt, carrying, closed, dropTwo, exchange, laidAt, later, lay, lay3, rank, shift, stands}
+use Rattle.refiner.specs.Exchange.{bump, bumpAt, carrying, closed, dropTwo, exchange, laidAt, later}
+use Rattle.refiner.specs.Exchange.{lay, lays, star, rank, shift, stands}
 use Rattle.refiner.specs.Longest.{costs, measure}
 use Rattle.refiner.specs.Refined.{rounds, pruned}
 use Rattle.refiner.specs.Prune.{marks, firstLoose, prune}
@@ -59,10 +60,18 @@ within-lay n p a r h i l w =
     (λ t. by (ltb a p) (λ s. rw (lay, t, s) (within-carrying n 0 (r .size) (key a p) (r .keys) (in-key n a p i h l) w))
     (λ s. rw (lay, t, s) w))
 
-within-lay3 : (n p a b u : ℕ) (r : Row) → p < n → a < n → b < n → u < n → n ≤ pointBound → Within n (r .keys) →
-    Within n (lay3 p a b u r .keys)
-unfolding lay3
-within-lay3 n p a b u r h i j k l w = within-lay n p u _ h k l (within-lay n p b _ h j l (within-lay n p a r h i l w))
+-- edges between points below a number
+abbrev pub Ends : ℕ → List (ℕ × ℕ) → Type 0
+Ends n [] = Unit
+Ends n (e ∷ es) = ((e .0 < n) × (e .1 < n)) × Ends n es
+
+pub star-ends : (n p a b u : ℕ) → p < n → a < n → b < n → u < n → Ends n (star p a b u)
+star-ends n p a b u h i j k = ((h, i), ((h, j), ((h, k), tt)))
+
+within-lays : (n : ℕ) (es : List (ℕ × ℕ)) (r : Row) → Ends n es → n ≤ pointBound → Within n (r .keys) → Within n (lays es r .keys)
+unfolding lays
+within-lays n [] r h l w = w
+within-lays n (e ∷ es) r h l w = within-lays n es _ (h .1) l (within-lay n (e .0) (e .1) r (h .0 .0) (h .0 .1) l w)
 
 pub within-closed : (n k m : ℕ) (xs : List ℕ) → Within n xs → Within n (closed k m xs)
 unfolding closed shift
@@ -104,10 +113,14 @@ module _ (pts : List ℤ) (n : ℕ) (ks : List ℕ) (e p a b u : ℕ) (s : Place
   unfolding laidAt stands
   within-joined =
       by (ltb p n && samePlace s (placeAt pts p))
-      (λ t. rw (laidAt, t) (within-lay3 n p a b u (row ks e) (ltb-true p n (and-left _ _ t)) ha hb hu (omega arith) w))
-      (λ t. rw (laidAt, t) (within-lay3 (n + 1) p _ _ _ (row (turns (bumpAt p) 0 e ks) e) (omega arith) (bump-in n p a ha)
-      (bump-in n p b hb)
-      (bump-in n p u hu) (omega arith) (within-bumped n p l e 0 ks (within-more n ks w) (λ j _. w .ends j))))
+      (λ t.
+      rw (laidAt, t)
+      (within-lays n (star p a b u) (row ks e) (star-ends n p a b u (ltb-true p n (and-left _ _ t)) ha hb hu) (omega arith) w))
+      (λ t.
+      rw (laidAt, t)
+      (within-lays (n + 1) (star p _ _ _) (row (turns (bumpAt p) 0 e ks) e)
+      (star-ends (n + 1) p _ _ _ (omega arith) (bump-in n p a ha) (bump-in n p b hb) (bump-in n p u hu)) (omega arith)
+      (within-bumped n p l e 0 ks (within-more n ks w) (λ j _. w .ends j))))
 
 pub seek-le : (t : ℕ → Bool) (n i : ℕ) → seek t i n ≤ i + n
 unfolding seek
@@ -132,8 +145,8 @@ within-after c pts qts n m ks ls e f q l h w =
     rw (ap (λ (t : Tree). t .count) q, ap (λ (t : Tree). t .edges .keys) q) (within-exchange c pts n ks e l h w)
 
 -- past the edges no cost stands
-pub measured-past : (w : Weights) (pts : List ℤ) (ks : List ℕ) (j c i : ℕ) (el : List ℕ) → i + c ≤ j → getD (turns (measure w pts ks) i c el) j 0
-    ≡ getD el j 0
+pub measured-past : (w : Weights) (pts : List ℤ) (ks : List ℕ) (j c i : ℕ) (el : List ℕ) → i + c ≤ j
+    → getD (turns (measure w pts ks) i c el) j 0 ≡ getD el j 0
 unfolding turns measure
 measured-past w pts ks j zero i el h = refl
 measured-past w pts ks j (suc c) i el h = measured-past w pts ks j c (suc i) _ (omega arith) ∙ past el i j _ (omega arith)
@@ -147,8 +160,11 @@ cut-in : (w : Weights) (pts : List ℤ) (ks : List ℕ) (e l : ℕ) → 0 < getD
 unfolding costs
 cut-in w pts ks e l h =
     by (ltb l e) (λ t. ltb-true l e t)
-    (λ t. absurd (let g : e ≤ l = ltb-false l e t in let z : getD (turns (measure w pts ks) 0 e
-    (replicate pointBound 0)) l 0 ≡ 0 = measured-past w pts ks l e 0 _ (omega arith) ∙ zeros-at pointBound l in let y : ⊥ = omega arith in y))
+    (λ t. absurd (
+    let g : e ≤ l = ltb-false l e t in
+    let z : getD (turns (measure w pts ks) 0 e (replicate pointBound 0)) l 0 ≡ 0
+    = measured-past w pts ks l e 0 _ (omega arith) ∙ zeros-at pointBound l in
+    let y : ⊥ = omega arith in y))
 
 pub fine-found : (w : Weights) (ms : List Macro) (pts : List ℤ) (n : ℕ) (ks : List ℕ) (e : ℕ) (c : Best) → c ≡ found w ms pts n ks e
     → (c .gain ≡ 0 → ⊥) → ((c .edge < e) × (c .cut < e)) × ((c .cut ≡ c .edge → ⊥) × (c .point < n))

@@ -21,7 +21,7 @@ use Rattle.refiner.specs.Longest.{edgeCost, measure, costs, wins, longer
 use Rattle.refiner.specs.Longest.{spread, spreads, hang, attach, pass, reached, start, longest, cutOf}
 use Rattle.refiner.specs.Candidate.{sees, taken, dropped, allowed, weighed, offer, offers, search, found}
 use Rattle.refiner.specs.Exchange.{shift, closed, dropTwo, later, rank, stands, push, closing, opened}
-use Rattle.refiner.specs.Exchange.{bump, bumpAt, carrying, lay, lay3, laidAt, exchange}
+use Rattle.refiner.specs.Exchange.{bump, bumpAt, carrying, lay, lays, laidAt, exchange}
 use Rattle.refiner.specs.Prune.{markOf, mark, marks, countEnds, loose, looseEdge, firstLoose, prune}
 use Rattle.refiner.specs.Refined.{rounds, pruned, refined, addCost, total}
 
@@ -46,7 +46,7 @@ edgesFrom pts (k ∷ ks) (suc n) = (placeAt pts (firstEnd k), placeAt pts (secon
 unfoldable pub refinedOf : List Macro → List Place → List Place → List ℕ → List (Place × Place) × ℕ
 unfolding any minZ maxZ before samePlace apart cost middle middlePlace spanMeets meets clear flatPlaces roomy roomyKeys edgesFrom turns
     seek edgeCost measure costs wins longer shorter spread spreads hang attach pass reached start longest cutOf sees taken dropped
-    allowed weighed offer offers search found shift closed dropTwo later rank stands push closing opened bump bumpAt carrying lay lay3
+    allowed weighed offer offers search found shift closed dropTwo later rank stands push closing opened bump bumpAt carrying lay lays
     laidAt exchange markOf mark marks countEnds loose looseEdge firstLoose prune rounds pruned refined addCost total
 refinedOf ms pins points keys =
     let t = tree (roomy (flatPlaces points) (length pins)) (length points) (roomyKeys keys (length pins)) (length keys) in

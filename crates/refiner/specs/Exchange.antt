@@ -1,6 +1,6 @@
 -- R12, R13: a round removes (a, b) and L and lays edges from s to a, to b and to u, none of length zero.
 use mathlib.Core.Bool.{Bool, true, false, not, _&&_}
-use mathlib.Core.List.{List}
+use mathlib.Core.List.{List, [], _∷_}
 use Prim.Native.Nat.{ℕ, zero, suc, _+_, _-_}
 use lib.Dec.{ltb}
 use lib.IntN.{ℤ}
@@ -85,20 +85,25 @@ lay p a r =
       | false ↦ elim (ltb a p) [ true ↦ row (carrying 0 (r .size) (key a p) (r .keys)) (r .size + 1) | false ↦ r ]
     ]
 
+-- edges one after the other, each by its two points
+unfoldable pub lays : List (ℕ × ℕ) → Row → Row
+lays [] r = r
+lays (e ∷ es) r = lays es (lay (e .0) (e .1) r)
+
 -- R13: from s to a, to b and to u
-unfoldable pub lay3 : ℕ → ℕ → ℕ → ℕ → Row → Row
-lay3 p a b u r = lay p u (lay p b (lay p a r))
+abbrev pub star : ℕ → ℕ → ℕ → ℕ → List (ℕ × ℕ)
+star p a b u = (p, a) ∷ ((p, b) ∷ ((p, u) ∷ []))
 
 -- s laid at number p, where it stands or is put
 unfoldable pub laidAt : List ℤ → ℕ → List ℕ → ℕ → ℕ → ℕ → ℕ → ℕ → Place → Tree
 laidAt pts n ks e p a b u s =
     elim (stands pts n p s) [
-      | true ↦ record { points = pts; count = n; edges = lay3 p a b u (row ks e) }
+      | true ↦ record { points = pts; count = n; edges = lays (star p a b u) (row ks e) }
       | false ↦
           record {
             points = opened pts n p s;
             count = n + 1;
-            edges = lay3 p (bump p a) (bump p b) (bump p u) (row (turns (bumpAt p) 0 e ks) e);
+            edges = lays (star p (bump p a) (bump p b) (bump p u)) (row (turns (bumpAt p) 0 e ks) e);
           }
     ]
 

@@ -21,7 +21,7 @@
 --              found                       the same from the tables of a tree
 --   Exchange   closed, dropTwo             edges taken out
 --              rank, opened, bump          where s belongs; the points with s put in; numbers moved on
---              lay, lay3, laidAt           edges laid, except any of length zero
+--              lay, lays, star, laidAt     edges laid, except any of length zero; those from s
 --              exchange                    what a round does with its candidate
 --   Prune      marks                       which points are pins
 --              loose, prune                no pin and a single edge; what is left when all such points are gone
@@ -41,7 +41,8 @@
 --   CutLaws        cut-is              `cutOf` is the longest edge, the smallest on a tie, of the way to whichever end is met first
 --   ExchangeSound  laid-sound          a round keeps `Sound`;  laid-costs: the total falls by the gain
 --   RankedLaws     laid-level          edges stay smaller place first and in order;  ranked-of: each once, since they are a tree
---   RoundSound     rounds-kept         so do the rounds, each with at most one point more;  total-of: the contract's sum is `totalOf`
+--   RoundSound     rounds-kept         so do the rounds, each with at most one point more that is none of known places
+--                  total-of            the contract's sum is `totalOf`
 --   PruneSound     prune-whole         pruning keeps a tree with all pins;  pruned-over: it raises no sum
 --   RefinedSound   refined-promise     the refined tree of a sound tree keeps `Promise`
 --                  refined-tabled      and `Tabled`, where the tree's edges are in order

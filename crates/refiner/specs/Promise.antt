@@ -1,13 +1,16 @@
 -- What is promised of a refined tree: rules R20 to R22.
 use mathlib.Core.Path.{_≡_}
 use mathlib.Core.Bool.{true}
+use mathlib.Core.List.{List}
 use Prim.Native.Nat.{ℕ, _+_, _≤_, _<_}
 use lib.ListN.{length, getD}
+use Rattle.plane.specs.declared.Place.{Place}
 use Rattle.plane.specs.Macro.{clear}
 use Rattle.net.specs.Net.{Net}
 use Rattle.joined.specs.OneTree.{OneTree}
 use Rattle.tree.specs.Table.{Tree, Within}
 use Rattle.tree.specs.Places.{endsOf, edgesOf, totalOf, InOrder, Ranked}
+use Rattle.tree.specs.Outside.{strangers}
 
 -- what is promised of the tree r that refines the tree t
 pub record Promise (net : Net) (t r : Tree) : Type 0 where
@@ -18,7 +21,8 @@ pub record Promise (net : Net) (t r : Tree) : Type 0 where
       (endsOf (r .points) (getD (r .edges .keys) i 0) .1) (net .macros) ≡ true
   -- R22: no more than the tree had
   pub total : totalOf (net .weights) r ≤ totalOf (net .weights) t
-  pub points : r .count ≤ t .count + length (net .pins)
+  -- N24: whichever places are counted as known, the graph's vertices say, there is at most one other point more for each pin
+  pub points : (vs : List Place) → strangers vs r ≤ strangers vs t + length (net .pins)
 
 -- what is promised of its tables: edges in order (C66), and fewer of them than the points that there can be
 pub record Tabled (net : Net) (t r : Tree) : Type 0 where

@@ -49,7 +49,8 @@ pub record CandidateOf (net : Net) (t : Tree) (k u : ℕ) : Type 0 where
   pub edge : k < t .edges .size
   pub point : u < t .count
   pub third : EndOf t u k → ⊥
-  pub seen : (clear (placeAt (t .points) u) (endA t k) (net .macros) ≡ true) ⊎ (clear (placeAt (t .points) u) (endB t k) (net .macros) ≡ true)
+  pub seen : (clear (placeAt (t .points) u) (endA t k) (net .macros) ≡ true)
+      ⊎ (clear (placeAt (t .points) u) (endB t k) (net .macros) ≡ true)
   -- R6: it is not dropped: no other tree point stands at s
   pub kept : (i : ℕ) → i < t .count → (EndOf t i k → ⊥) → (i ≡ u → ⊥) → middleAt t k u ≡ placeAt (t .points) i → ⊥
 

@@ -19,12 +19,16 @@ use Rattle.lent.specs.Over.{after}
 use Rattle.lent.specs.Entries.{flat}
 use Rattle.lent.proofs.AfterLaws.{after-refused}
 use Rattle.joined.specs.Cost.{lengths}
-use Rattle.plane.specs.Distance.{distance}
-use Rattle.plane.specs.Flat.{placesOf, macrosOf}
+use Rattle.plane.specs.Cost.{cost, plain}
+use Rattle.plane.specs.Flat.{macrosOf}
 use Rattle.plane.proofs.PlaceOrder.{place-order}
 use Rattle.plane.proofs.MacroLaws.{clear-perm}
+use Rattle.net.specs.declared.Net.{Net as Counts}
+use Rattle.net.specs.Bounds.{macroWidth}
+use Rattle.net.specs.Net.{netOf}
 use Rattle.net.specs.Allowed.{Allowed}
-use Rattle.net.specs.Pins.{pinCount}
+use Rattle.net.specs.Pins.{pinCount, pinPlaces}
+use Rattle.net.proofs.PinLaws.{same-pins as as-many}
 use Rattle.net.specs.Check.{checked}
 use Rattle.net.proofs.AllowedLaws.{given-allowed}
 use Rattle.net.specs.Order.{SamePins, SameMacros}
@@ -42,7 +46,7 @@ use Rattle.rules.proofs.TreesOurs.{trees-same}
 use Rattle.router.specs.Graph.{netVertices, netEdges, pointCount, graphRoomShort, graphGiven, graphed}
 use Rattle.router.specs.Room.{ifRoom}
 use Rattle.router.specs.Terminal.{pathsOf, pathsTotal, terminalGiven, terminalTree}
-use Rattle.router.specs.Refined.{refinedOf, edgesIn, metalIn, laidOf, laidTotal, refinedGiven, refinedTree}
+use Rattle.router.specs.Refined.{refinedOf, edgesIn, totalIn, laidOf, laidTotal, refinedGiven, refinedTree}
 use Rattle.router.specs.Refined.{wiresGiven, wired}
 use Rattle.router.specs.EveryOrder.{SameForBoth}
 use Rattle.router.proofs.AnswerLaws.{only-refused}
@@ -58,10 +62,10 @@ module _ (pins pins′ macros macros′ : List ℤ) (p : SamePins pins pins′) 
   -- What is asked for
 
   same-pins : pinCount pins ≡ pinCount pins′
-  same-pins = ap (λ (n : ℕ). n / 2) (p .many)
+  same-pins = as-many pins pins′ (p .many)
 
   same-points : pointCount pins macros ≡ pointCount pins′ macros′
-  same-points = ap₂ (λ (a b : ℕ). a / 2 + b / 4 * 4) (p .many) (q .many)
+  same-points = ap₂ (λ (a b : ℕ). a + b / macroWidth * 4) same-pins (q .many)
 
   same-room : pointCount pins macros + pinCount pins ≡ pointCount pins′ macros′ + pinCount pins′
   same-room = ap₂ _+_ same-points same-pins
@@ -94,7 +98,7 @@ module _ (pins pins′ macros macros′ : List ℤ) (p : SamePins pins pins′) 
 
   -- Allowed
 
-  module _ (net : ℕ × ℕ) (g : checked pins macros ≡ given net) where
+  module _ (net : Counts) (g : checked pins macros ≡ given net) where
     a : Allowed (netOf pins macros)
     a = given-allowed pins macros g .1
 
@@ -102,8 +106,8 @@ module _ (pins pins′ macros macros′ : List ℤ) (p : SamePins pins pins′) 
     b = given-allowed pins′ macros′ (sym same-check ∙ g) .1
 
     -- by the rules the two nets are alike
-    alike : List·Permᴰ (placesOf pins) (placesOf pins′) → List·Permᴰ (macrosOf macros) (macrosOf macros′) →
-        SameNet (placesOf pins) (placesOf pins′) (macrosOf macros) (macrosOf macros′)
+    alike : List·Permᴰ (pinPlaces pins) (pinPlaces pins′) → List·Permᴰ (macrosOf macros) (macrosOf macros′) →
+        SameNet plain (pinPlaces pins) (pinPlaces pins′) (macrosOf macros) (macrosOf macros′)
     alike d e = record {
       to = perm-among d;
       from = perm-among (Permᴰ·symm d);
@@ -130,7 +134,7 @@ module _ (pins pins′ macros macros′ : List ℤ) (p : SamePins pins pins′) 
     same-paths =
         ∥∥₁-elim (p .order) (order-lists-set given-order _ _) λ d.
         ∥∥₁-elim (q .order) (order-lists-set given-order _ _) λ e.
-        sym (paths-given a) ∙ ap (map givenFor) (trees-same (alike d e) a b .paths) ∙ paths-given b
+        sym (paths-given a) ∙ ap (map (givenFor (netOf pins macros))) (trees-same (alike d e) a b .paths) ∙ paths-given b
 
     same-laid : laidOf pins macros ≡ laidOf pins′ macros′
     unfolding edgesIn refinedOf
@@ -143,8 +147,8 @@ module _ (pins pins′ macros macros′ : List ℤ) (p : SamePins pins pins′) 
     same-total = paths-sum a ∙ ap (λ (l : List (Edge × ℕ)). total (map (λ k. k .1) l)) same-paths ∙ sym (paths-sum b)
 
     same-metal : laidTotal pins macros ≡ laidTotal pins′ macros′
-    unfolding metalIn
-    same-metal = ap (lengths distance) same-laid
+    unfolding totalIn
+    same-metal = ap (lengths (cost plain)) same-laid
 
     -- so the answers are the same
 
@@ -191,6 +195,6 @@ module _ (pins pins′ macros macros′ : List ℤ) (p : SamePins pins pins′) 
   pub every-order : SameForBoth pins pins′ macros macros′
   every-order = at (checked pins macros) refl
     where
-      at : (t : Told (ℕ × ℕ)) → checked pins macros ≡ t → SameForBoth pins pins′ macros macros′
+      at : (t : Told Counts) → checked pins macros ≡ t → SameForBoth pins pins′ macros macros′
       at (refused n) r = refused-both n r
       at (given net) g = given-both net g

@@ -11,10 +11,9 @@ use lib.IntN.{ℤ}
 use lib.ListN.{length}
 use Rattle.lists.proofs.TestLaws.{or-none}
 use Rattle.lent.specs.Told.{refused, given, onlyIf}
-use Rattle.plane.specs.Flat.{macrosOf}
 use Rattle.plane.proofs.FlatLaws.{length-macros}
 use Rattle.net.specs.declared.Net.{Net as Counts}
-use Rattle.net.specs.Pins.{pinPlaces}
+use Rattle.net.specs.Net.{netOf}
 use Rattle.net.proofs.PinLaws.{length-pins}
 use Rattle.net.specs.Check.{checked}
 use Rattle.graph.proofs.VertexLaws.{length-vertices}
@@ -50,4 +49,4 @@ module _ (pins macros : List ℤ) (v e : ℕ) where
 pub vertices-few : (pins macros : List ℤ) → length (netVertices pins macros) ≤ pointCount pins macros
 unfolding netVertices
 vertices-few pins macros =
-    omega (arith, length-vertices (pinPlaces pins) (macrosOf macros), length-pins pins, length-macros macros)
+    omega (arith, length-vertices (netOf pins macros), length-pins pins, length-macros macros)

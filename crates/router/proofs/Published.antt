@@ -1,16 +1,21 @@
 -- What is promised of an allowed net, from the check alone.
 -- Assumes nothing.
-use mathlib.Core.Path.{_≡_, refl, sym, ap, _∙_}
+use mathlib.Core.Path.{_≡_, refl, sym, ap, ap₂, _∙_}
 use mathlib.Core.List.{List, [], _∷_, _++_}
 use Prim.Native.Nat.{ℕ, _+_, _*_}
 use native.Mathlib.Omega.{arith}
 use borrow.Author.Tests.{le-ltb}
 use lib.IntN.{ℤ, pos}
 use lib.ListN.{length}
+use Rattle.lists.specs.Total.{total}
 use Rattle.lists.proofs.TestLaws.{or-neither}
 use Rattle.lent.specs.Told.{given}
 use Rattle.lent.specs.Entries.{flat}
+use Rattle.joined.specs.Cost.{lengths}
+use Rattle.plane.specs.Distance.{distance}
+use Rattle.plane.specs.Cost.{cost, plain}
 use Rattle.plane.specs.Flat.{macrosOf}
+use Rattle.plane.proofs.CostLaws.{cost-plain}
 use Rattle.net.specs.Pins.{pinCount}
 use Rattle.net.specs.Check.{checked}
 use Rattle.net.specs.declared.Net.{Net as Counts}
@@ -39,7 +44,7 @@ wires-flat (e ∷ es) = ap (λ (l : List Edge). wiresOfEdge e ++ l) (wires-flat 
 
 -- with weights 1 and 1 costs are lengths
 length-plain : (es : List Edge) → lengths (cost plain) es ≡ lengths distance es
-unfolding lengths
+unfolding lengths total
 length-plain [] = refl
 length-plain (e ∷ es) = ap₂ _+_ (cost-plain (e .0) (e .1)) (length-plain es)
 

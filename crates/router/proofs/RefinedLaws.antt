@@ -18,7 +18,8 @@ use Rattle.refiner.specs.Refined.{Answer}
 use Rattle.refiner.proofs.WithinLaws.{within-small}
 use Rattle.union.specs.Union.{unionOf}
 use Rattle.tree.specs.Edges.{tableEdges, treeEdges}
-use Rattle.refined.proofs.EdgeSound.{edges-count, edges-metal}
+use Rattle.tree.proofs.EdgeLaws.{edges-count, edges-total}
+use Rattle.refiner.proofs.RoundSound.{total-of}
 use Rattle.rules.proofs.BestLaws.{paths-total}
 use Rattle.rules.proofs.RefinedOurs.{refined-tree}
 use Rattle.router.specs.Refined.{refinedOf, edgesIn, totalIn}
@@ -41,7 +42,11 @@ module _ {net : Net} (a : Allowed net) where
 
     pub answer-total : r .total ≡ totalIn net
     unfolding totalIn
-    answer-total = answer .sum ∙ sym (edges-metal pts ks (r .edges)) ∙ ap (lengths (costIn net)) answer-edges
+    answer-total =
+        answer .sum
+        ∙ total-of (net .weights) pts (r .points) ks (r .edges)
+        ∙ sym (edges-total pts ks (net .weights) (r .edges))
+        ∙ ap (lengths (costIn net)) answer-edges
 
     pub answer-small : Small pairBound ks
     answer-small = within-small (r .points) ks (answer .few .0) (answer .inside)

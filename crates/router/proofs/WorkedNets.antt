@@ -10,21 +10,22 @@ use Rattle.plane.specs.Place.{place}
 use Rattle.joined.specs.Cost.{lengths}
 use Rattle.net.specs.WorkedNets.{Lists, onePin, noPin, aroundOne, threePins, sharedSide, onSides, overlapping, onBoundary, inInterior}
 use Rattle.net.specs.WorkedNets.{twiceInInterior, noWidth}
-use Rattle.net.specs.Check.{checked}
+use Rattle.net.specs.declared.Net.{Net as Counts}
+use Rattle.net.specs.Check.{counted, checked}
 use Rattle.net.proofs.WorkedChecks.{answer}
 use Rattle.terminal.proofs.WorkedPaths.{treeIn}
 use Rattle.union.proofs.WorkedUnions.{union}
 use Rattle.refiner.proofs.WorkedTrees.{refinedOf as worked}
-use Rattle.refined.specs.Edges.{edgesFrom}
+use Rattle.tree.specs.Edges.{edgesFrom}
 use Rattle.refined.proofs.WorkedWires.{given as wired-given}
 use Rattle.router.specs.Graph.{netVertices, netEdges, graphRoomShort, graphGiven, graphed}
 use Rattle.router.specs.Room.{ifRoom}
 use Rattle.router.specs.Terminal.{pathsOf, pathsTotal, terminalGiven, terminalTree}
-use Rattle.router.specs.Refined.{refinedOf, edgesIn, metalIn, laidOf, refinedGiven, refinedTree, wiresOf, wiresGiven, wired}
+use Rattle.router.specs.Refined.{refinedOf, edgesIn, totalIn, laidOf, refinedGiven, refinedTree, wiresOf, wiresGiven, wired}
 
 -- what the operations answer when the space of the largest net is lent
 pub record Answers : Type 0 where
-  pub check : Told (ℕ × ℕ)
+  pub check : Told Counts
   pub graph : Told (ℕ × ℕ)
   pub terminal : Told (ℕ × ℤ)
   pub refined : Told (ℕ × ℤ)
@@ -33,7 +34,7 @@ pub record Answers : Type 0 where
 -- to unfold this is to unfold all that it rests on
 unfoldable pub answers : Lists → Answers
 unfolding answer treeIn union worked wired-given onlyIf lengths edgesFrom netVertices netEdges graphRoomShort graphGiven graphed ifRoom
-    pathsOf pathsTotal terminalGiven terminalTree refinedOf edgesIn metalIn refinedGiven refinedTree wiresGiven wired
+    pathsOf pathsTotal terminalGiven terminalTree refinedOf edgesIn totalIn refinedGiven refinedTree wiresGiven wired
 answers net = record {
   check = checked (net .pins) (net .macros);
   graph = graphed (net .pins) (net .macros) 640 5120;
@@ -67,7 +68,7 @@ edge a b c d = (place a b, place c d)
 pub record Table : Type 0 where
   -- E1: no edges, both totals 0; E2: refused 11
   pub one-pin : answers onePin ≡ record {
-    check = given (1, 0);
+    check = given (counted 1 0);
     graph = given (1, 0);
     terminal = given (0, pos 0);
     refined = given (0, pos 0);
@@ -76,7 +77,7 @@ pub record Table : Type 0 where
   pub no-pin : answers noPin ≡ none 11
   -- E3: eight graph edges; one path, of length 14, below the macro; refined 14
   pub around-one : answers aroundOne ≡ record {
-    check = given (2, 1);
+    check = given (counted 2 1);
     graph = given (6, 8);
     terminal = given (1, pos 14);
     refined = given (3, pos 14);
@@ -85,7 +86,7 @@ pub record Table : Type 0 where
   pub around-one-path : trees aroundOne .paths ≡ (edge (pos 4) (negsuc 1) (pos 6) (negsuc 1), 14) ∷ []
   -- E4: terminal 9, refined 7
   pub three-pins : answers threePins ≡ record {
-    check = given (3, 0);
+    check = given (counted 3 0);
     graph = given (3, 3);
     terminal = given (2, pos 9);
     refined = given (3, pos 7);
@@ -98,7 +99,7 @@ pub record Table : Type 0 where
   }
   -- E5: allowed; both totals 4, along the shared side
   pub shared-side : answers sharedSide ≡ record {
-    check = given (2, 2);
+    check = given (counted 2 2);
     graph = given (8, 13);
     terminal = given (1, pos 4);
     refined = given (3, pos 4);
@@ -106,7 +107,7 @@ pub record Table : Type 0 where
   }
   -- E6: one path, below the macro; both totals 3
   pub on-sides : answers onSides ≡ record {
-    check = given (2, 1);
+    check = given (counted 2 1);
     graph = given (6, 6);
     terminal = given (1, pos 3);
     refined = given (3, pos 3);
@@ -116,7 +117,7 @@ pub record Table : Type 0 where
   -- E7: refused 16
   pub overlap : answers overlapping ≡ none 16
   -- E8: allowed; E9: refused 17; E10: refused 15
-  pub on-boundary : answers onBoundary .check ≡ given (1, 1)
+  pub on-boundary : answers onBoundary .check ≡ given (counted 1 1)
   pub in-interior : answers inInterior ≡ none 17
   pub twice : answers twiceInInterior ≡ none 15
   -- E11: refused 14

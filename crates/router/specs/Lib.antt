@@ -14,6 +14,7 @@
 --   Call       Gives, GivesTwo                      what a call answers and leaves in one lent list, in two: the contracts
 --   Published  Promised pins macros                 all that is promised of an allowed net: the trees of the rules, the only ones, and D3
 --   EveryOrder SameForBoth                          what two calls have in common whose lists have the same entries in another order
+pub mod Counted
 pub mod Graph
 pub mod Room
 pub mod Terminal

@@ -14,20 +14,24 @@ ghost use Prim.Native.Nat.{_*_};
 ghost use lib.IntN.{pos};
 ghost use lib.ListN.{length, replicate};
 ghost use Rattle.net.specs.Net.{netOf};
-ghost use Rattle.net.specs.Allowed.{Allowed};
 ghost use Rattle.net.specs.Bounds.{treeBound};
-ghost use Rattle.net.specs.Check.{countsOf};
 ghost use Rattle.refiner.specs.Refined.{Answer};
 ghost use Rattle.union.specs.Union.{unionOf};
+ghost use Rattle.router.specs.Counted.{Counted};
 ghost use Rattle.router.specs.Graph.{graphGiven};
 ghost use Rattle.router.specs.Terminal.{terminalGiven};
 ghost use Rattle.router.specs.Refined.{refinedGiven, wiresGiven};
 ghost use Rattle.router.specs.Call.{GraphCall, TerminalCall, RefinedCall, WiresCall};
 
 // The graph.
-pub fn graph(net: Net, pins: &[i32], macros: &[i32], vertices: &mut [i32], edges: &mut [i32]) -> Graphed
-    requires { ⌜ net ≡ countsOf (now pins) (now macros) ⌝ }
-    requires { ⌜ Allowed (netOf (now pins) (now macros)) ⌝ }
+pub fn graph(
+    net: Net,
+    pins: &[i32],
+    macros: &[i32],
+    vertices: &mut [i32],
+    edges: &mut [i32],
+) -> Graphed
+    requires { ⌜ Counted net (now pins) (now macros) ⌝ }
     ensures { λ r. ⌜ GraphCall graphGiven (now (pins .entry)) (now (macros .entry)) (now (vertices .entry)) (now (edges .entry)) r
         (now (vertices .exit)) (now (edges .exit)) ⌝ }
 {
@@ -42,8 +46,7 @@ pub fn graph(net: Net, pins: &[i32], macros: &[i32], vertices: &mut [i32], edges
 
 // The terminal tree.
 pub fn terminal_tree(net: Net, pins: &[i32], macros: &[i32], paths: &mut [i64]) -> Tree
-    requires { ⌜ net ≡ countsOf (now pins) (now macros) ⌝ }
-    requires { ⌜ Allowed (netOf (now pins) (now macros)) ⌝ }
+    requires { ⌜ Counted net (now pins) (now macros) ⌝ }
     ensures { λ r. ⌜ TerminalCall terminalGiven (now (pins .entry)) (now (macros .entry)) (now (paths .entry)) r (now (paths .exit)) ⌝ }
 {
     if paths.len() < net.pins * 5 {
@@ -84,8 +87,7 @@ pub fn terminal_tree(net: Net, pins: &[i32], macros: &[i32], paths: &mut [i64]) 
 
 // The refined tree.
 pub fn refined_tree(net: Net, pins: &[i32], macros: &[i32], edges: &mut [i32]) -> Tree
-    requires { ⌜ net ≡ countsOf (now pins) (now macros) ⌝ }
-    requires { ⌜ Allowed (netOf (now pins) (now macros)) ⌝ }
+    requires { ⌜ Counted net (now pins) (now macros) ⌝ }
     ensures { λ r. ⌜ RefinedCall refinedGiven (now (pins .entry)) (now (macros .entry)) (now (edges .entry)) r (now (edges .exit)) ⌝ }
 {
     if edges.len() < (net::point_count(net) + net.pins) * 4 {
@@ -100,8 +102,7 @@ pub fn refined_tree(net: Net, pins: &[i32], macros: &[i32], edges: &mut [i32]) -
 
 // The wires.
 pub fn wires(net: Net, pins: &[i32], macros: &[i32], wires: &mut [i32]) -> Wired
-    requires { ⌜ net ≡ countsOf (now pins) (now macros) ⌝ }
-    requires { ⌜ Allowed (netOf (now pins) (now macros)) ⌝ }
+    requires { ⌜ Counted net (now pins) (now macros) ⌝ }
     ensures { λ r. ⌜ WiresCall wiresGiven (now (pins .entry)) (now (macros .entry)) (now (wires .entry)) r (now (wires .exit)) ⌝ }
 {
     if wires.len() < (net::point_count(net) + net.pins) * 8 {
@@ -122,8 +123,7 @@ fn refine(
     points: &mut [i32; tree::NUMBERS],
     keys: &mut [usize; tree::POINTS],
 ) -> Refined
-    requires { ⌜ net ≡ countsOf (now pins) (now macros) ⌝ }
-    requires { ⌜ Allowed (netOf (now pins) (now macros)) ⌝ }
+    requires { ⌜ Counted net (now pins) (now macros) ⌝ }
     requires { ⌜ (now points ≡ replicate (treeBound * 2) (pos 0)) × (now keys ≡ replicate treeBound 0) ⌝ }
     ensures { λ r. ⌜ Answer (netOf (now (pins .entry)) (now (macros .entry)))
         (unionOf (netOf (now (pins .entry)) (now (macros .entry)))) (now (points .exit)) (now (keys .exit)) r ⌝ }

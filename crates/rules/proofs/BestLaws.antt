@@ -33,16 +33,16 @@ use Rattle.rules.proofs.TerminalOnly.{weight-order, bridge-only}
 use Rattle.rules.proofs.TerminalOurs.{ourPaths, terminal-ours, kept-origin, kept-ends, paths-given}
 
 -- nothing is offered twice
-turn-once : (l : List Path) → Ascending takenFirst l → Once l
-turn-once [] h = tt
-turn-once (k ∷ l) h = (λ m. differ (h .0 k m) (weight-order .never (pathCost net k, k .bridge)), turn-once l (h .1))
+turn-once : (net : Net) (l : List Path) → Ascending (takenFirst net) l → Once l
+turn-once net [] h = tt
+turn-once net (k ∷ l) h = (λ m. differ (h .0 k m) (weight-order .never (pathCost net k, k .bridge)), turn-once net l (h .1))
 
 module _ {net : Net} (a : Allowed net) where
   abbrev ks : List Path
   ks = ourPaths a
 
   -- the ends of the kept paths, one by one, are those by the tables
-  follows : (k : Path) → k ∈ ks → Follows (λ (x : Place). x) givenFor pathEnds (keptEnds net) k
+  follows : (k : Path) → k ∈ ks → Follows (λ (x : Place). x) (givenFor net) pathEnds (keptEnds net) k
   unfolding rootsOf
   follows = kept-ends a
 
@@ -60,7 +60,7 @@ module _ {net : Net} (a : Allowed net) where
   paths-total = paths-sum a ∙ sym (ap total all-lengths)
 
   count : suc (length ks) ≡ length (net .pins)
-  count = ap suc (sym (length-map ks givenFor) ∙ ap length (paths-given a)) ∙ paths-length a
+  count = ap suc (sym (length-map ks (givenFor net)) ∙ ap length (paths-given a)) ∙ paths-length a
 
   terminal-as : (k : Path) → k ∈ ks → TerminalAs net (spanning net) k
   terminal-as k m =
@@ -83,15 +83,15 @@ module _ {net : Net} (a : Allowed net) where
   })
 
   -- a kept path is known by what is given for it
-  single : (j k : Path) → j ∈ ks → k ∈ ks → givenFor j ≡ givenFor k → j ≡ k
+  single : (j k : Path) → j ∈ ks → k ∈ ks → givenFor net j ≡ givenFor net k → j ≡ k
   single j k m i e = bridge-only j k (kept-origin a j m .bridge) (kept-origin a k i .bridge) (ap (λ (z : Kept). z .0) e)
 
   lowest : {x y : Place} → (x ≡ y → ⊥) → {w : List Path} → OurWay pathEnds ks x y w →
       {cs : List (TerminalPath (spanning net) (net .pins))} → Chain endsOf x cs y → most (map (pathCost net) w) ≤ most (map (lengthOf (costIn net)) cs)
   lowest n {w} o {cs} c =
-      let into : (k : Path) → k ∈ ks → givenFor k ∈ pathsOf net
-      = λ k m. subst (λ (l : List Kept). givenFor k ∈ l) (paths-given a) (in-map givenFor m) in
-      let r = no-lower-chain a n (our-way-carried (λ (x : Place). x) givenFor pathEnds (keptEnds net) into follows single o) c in
+      let into : (k : Path) → k ∈ ks → givenFor net k ∈ pathsOf net
+      = λ k m. subst (λ (l : List Kept). givenFor net k ∈ l) (paths-given a) (in-map (givenFor net) m) in
+      let r = no-lower-chain a n (our-way-carried (λ (x : Place). x) (givenFor net) pathEnds (keptEnds net) into follows single o) c in
       subst (λ (l : List ℕ). most l ≤ most (map (lengthOf (costIn net)) cs))
       (map-then (givenFor net) (λ (k : Kept). k .1) (pathCost net) w (λ k m. refl)) r
 
@@ -99,7 +99,7 @@ module _ {net : Net} (a : Allowed net) where
   best-joining = record {
     count = count;
     terminal = terminal-as;
-    once = keeping-once pathEnds (terminal-ours a .keeps) (turn-once (terminal-ours a .offered) (terminal-ours a .in-turn));
+    once = keeping-once pathEnds (terminal-ours a .keeps) (turn-once net (terminal-ours a .offered) (terminal-ours a .in-turn));
     joining = joins-joining pathEnds place-same joins;
     shortest = λ js j. subst (λ (t : ℕ). t ≤ total (map (lengthOf (costIn net)) js)) paths-total (no-shorter-joining a js j);
     way = λ x y i k n. joined-our-way pathEnds place-same ks n (joins x y i k);

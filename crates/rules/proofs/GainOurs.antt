@@ -119,21 +119,21 @@ module _ {net : Net} (t : Tree) (sound : Sound net t) (ranked : Ranked (t .edges
   step-from : {x : Place} {qs : List Place} (j : ℕ) → j < t .edges .size → Step (edgesIn t) x qs (edgeAt t j) → tables.StepOf t x qs j
   step-from j h s = record { edge = h; one = s .one; other = s .other; on = s .on; ends = s .ends }
 
-  longest-to : {x : Place} {qs : List Place} (l : ℕ) → tables.LongestOn t x qs l → Longest (edgesIn t) x qs (edgeAt t l)
+  longest-to : {x : Place} {qs : List Place} (l : ℕ) → tables.LongestOn net t x qs l → Longest net (edgesIn t) x qs (edgeAt t l)
   longest-to {x} {qs} l p = record {
     step = step-to l (p .step);
     longest = λ e s. let r = edge-of t e (s .edge) in
         subst (λ (z : Edge). edgeCost net z ≤ edgeCost net (edgeAt t l)) (sym (r .1 .1)) (p .longest (r .0) (at e s r));
     smallest = λ e s q. let r = edge-of t e (s .edge) in
         subst (λ (z : Edge). edgeBefore z (edgeAt t l) ≡ false) (sym (r .1 .1))
-        (edge-not l (r .0) (p .smallest (r .0) (at e s r) (ap edgeCost net (sym (r .1 .1)) ∙ q)) (r .1 .0));
+        (edge-not l (r .0) (p .smallest (r .0) (at e s r) (ap (edgeCost net) (sym (r .1 .1)) ∙ q)) (r .1 .0));
   }
     where
       at : (e : Edge) → Step (edgesIn t) x qs e → (r : (k : ℕ) × ((k < t .edges .size) × (e ≡ edgeAt t k))) → tables.StepOf t x qs (r .0)
       at e s r = step-from (r .0) (r .1 .0) (subst (Step (edgesIn t) x qs) (r .1 .1) s)
 
-  longest-from : {x : Place} {qs : List Place} (l : ℕ) → l < t .edges .size → Longest (edgesIn t) x qs (edgeAt t l) →
-      tables.LongestOn t x qs l
+  longest-from : {x : Place} {qs : List Place} (l : ℕ) → l < t .edges .size → Longest net (edgesIn t) x qs (edgeAt t l) →
+      tables.LongestOn net t x qs l
   longest-from l h p = record {
     step = step-from l h (p .step);
     longest = λ j s. p .longest (edgeAt t j) (step-to j s);

@@ -159,7 +159,7 @@ module _ {net : Net} (t : Tree) (sound : Sound net t) (ranked : Ranked (t .edges
   strips : Strips net (edgesIn t) (edgesIn (pruned (net .pins) t))
   unfolding pruned
   strips =
-      strips-ours (t .points) (t .count) (sound .ordered) few (net .pins) (marks (net .pins) (t .points) (t .count)) (unmarked (net .pins) (t .points) (t .count) few)
+      strips-ours (t .points) (t .count) (sound .ordered) few net (marks (net .pins) (t .points) (t .count)) (unmarked (net .pins) (t .points) (t .count) few)
       (t .edges .size) (t .edges .keys) (sound .within)
 
   pub prunes-ours : Prunes net (edgesIn t) (edgesIn (pruned (net .pins) t))

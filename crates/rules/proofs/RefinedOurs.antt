@@ -1,6 +1,6 @@
 -- The edges that are given for an allowed net are the refined tree of its kept paths, and the only one.
 -- Assumes nothing.
-use mathlib.Core.Path.{_≡_, refl, sym, subst}
+use mathlib.Core.Path.{_≡_, refl, sym, _∙_, subst}
 use mathlib.Core.List.{List}
 use native.Mathlib.Omega.{arith}
 use lib.ListN.{length}
@@ -17,9 +17,11 @@ use Rattle.refiner.specs.Refined.{refined}
 use Rattle.union.specs.Union.{unionOf}
 use Rattle.union.proofs.UnionSound.{union-sound, union-ranked, union-room, union-points, union-keys}
 use Rattle.refined.proofs.NetRefined.{union-promise, union-tabled}
-use Rattle.union.proofs.UnionSound.{union-few, union-metal}
-use Rattle.refined.specs.Edges.{treeEdges}
-use Rattle.refined.proofs.EdgeSound.{edges-metal, promised-edges}
+use Rattle.union.proofs.UnionSound.{union-few, union-cost}
+use Rattle.tree.specs.Edges.{treeEdges}
+use Rattle.refined.proofs.EdgeSound.{promised-edges}
+use Rattle.tree.proofs.EdgeLaws.{tree-total}
+use Rattle.refiner.proofs.RoundSound.{total-of}
 use Rattle.rules.specs.Edges.{Edge, edgeBefore, Same}
 use Rattle.rules.specs.Refined.{Refined, TreesThrough, FallsThrough}
 use Rattle.rules.specs.Demand.{RefinedTree}
@@ -28,7 +30,7 @@ use Rattle.rules.proofs.PrunesOnly.{prunes-same}
 use Rattle.rules.proofs.GainOurs.{edgesIn}
 use Rattle.rules.proofs.RefinesOurs.{Fit, refines-ours, refines-only}
 use Rattle.rules.proofs.RefinesTree.{rounds-trees}
-use Rattle.rules.proofs.RefinesFall.{tree-metal, edges-same, rounds-fall}
+use Rattle.rules.proofs.RefinesFall.{edges-same, rounds-fall}
 use Rattle.rules.proofs.TerminalOurs.{ourPaths}
 use Rattle.rules.proofs.BestLaws.{paths-total}
 use Rattle.rules.proofs.StartOurs.{start-ours, start-only}
@@ -84,12 +86,13 @@ module _ {net : Net} (a : Allowed net) where
   pub refined-tree : RefinedTree net (ourPaths a) (treeEdges ourTree)
   refined-tree =
       let g = promised-edges net (unionOf net) ourTree (union-promise a) (union-tabled a) (lengths (costIn net) (treeEdges ourTree))
-      (edges-metal (ourTree .points) (ourTree .edges .keys) (ourTree .edges .size)) in
+      (tree-total (net .weights) ourTree
+      ∙ sym (total-of (net .weights) (ourTree .points) (ourTree .count) (ourTree .edges .keys) (ourTree .edges .size))) in
       record {
         one = g .one;
         clear-edges = g .free;
         smaller-first = g .smaller;
         in-order = in-order;
-        no-longer = omega (arith, g .less, tree-metal (unionOf net), union-metal a, paths-total a);
-        few = omega (arith, g .few, union-few a, length-verticesOf net);
+        no-longer = omega (arith, g .less, tree-total (net .weights) (unionOf net), union-cost a, paths-total a);
+        few = omega (arith, g .few, union-few a, length-vertices net);
       }

@@ -20,13 +20,14 @@ use Rattle.joined.proofs.TreeLaws.{tree-cuts}
 use Rattle.net.specs.Net.{Net, costIn}
 use Rattle.graph.specs.Edges.{beforeEdge}
 use Rattle.tree.specs.Table.{Tree}
-use Rattle.tree.specs.Places.{metalOf}
+use Rattle.tree.specs.Places.{totalOf}
 use Rattle.refiner.specs.Sentences.{foundIn, exchanged}
 use Rattle.refiner.proofs.WinnerLaws.{found-wins}
 use Rattle.refiner.proofs.TakesLaws.{found-takes}
-use Rattle.refiner.proofs.RoundSound.{metal-of, round-falls}
-use Rattle.refined.specs.Edges.{treeEdges}
-use Rattle.refined.proofs.EdgeSound.{edges-reversed, edges-metal, edges-ascending}
+use Rattle.refiner.proofs.RoundSound.{round-falls}
+use Rattle.tree.specs.Edges.{treeEdges}
+use Rattle.refined.proofs.EdgeSound.{edges-ascending}
+use Rattle.tree.proofs.EdgeLaws.{edges-reversed, tree-total}
 use Rattle.rules.specs.Edges.{Edge, edgeBefore, Same}
 use Rattle.rules.specs.Refined.{Rounds, FallsThrough}
 use Rattle.rules.proofs.EdgeLaws.{edge-order, same-turn, same-then}
@@ -45,10 +46,6 @@ edges-same t = (
     reversed : reverse (treeEdges t) ≡ edgesIn t
     reversed = edges-reversed (t .points) (t .edges .keys) (t .edges .size)
 
--- the sum of a tree's edges, either way of saying it
-pub tree-metal : (t : Tree) → lengths (costIn net) (treeEdges t) ≡ metalOf t
-tree-metal t = edges-metal (t .points) (t .edges .keys) (t .edges .size) ∙ metal-of (t .points) (t .count) (t .edges .keys) (t .edges .size)
-
 module _ {net : Net} where
   tree-in-order : (m : ℕ) (t : Tree) → Fit net m t → Ascending edgeBefore (treeEdges t)
   unfolding beforeEdge
@@ -58,16 +55,16 @@ module _ {net : Net} where
 
   -- an ascending list of a table's edges has their sum
   sum-is : (m : ℕ) (t : Tree) → Fit net m t → (T : List Edge) → Ascending edgeBefore T → Same (edgesIn t) T → lengths (costIn net) T
-      ≡ metalOf t
+      ≡ totalOf (net .weights) t
   sum-is m t fit T o h =
       let k = same-then (same-turn h) (edges-same t) in
-      ap (lengths (costIn net)) (ascending-same edgeBefore edge-order T (treeEdges t) o (tree-in-order m t fit) (k .0) (k .1)) ∙ tree-metal t
+      ap (lengths (costIn net)) (ascending-same edgeBefore edge-order T (treeEdges t) o (tree-in-order m t fit) (k .0) (k .1)) ∙ tree-total (net .weights) t
 
-  tables-fall : (m : ℕ) (t : Tree) → Fit net (suc m) t → (foundIn net t .gain ≡ 0 → ⊥) → metalOf (exchanged net t) + foundIn net t .gain
-      ≡ metalOf t
+  tables-fall : (m : ℕ) (t : Tree) → Fit net (suc m) t → (foundIn net t .gain ≡ 0 → ⊥) → totalOf (net .weights) (exchanged net t) + foundIn net t .gain
+      ≡ totalOf (net .weights) t
   tables-fall m t fit some =
       let few = fit .few in
-      let win = found-wins ms (t .points) (t .count) (t .edges .keys) (t .edges .size) (omega arith) in
+      let win = found-wins (net .weights) (net .macros) (t .points) (t .count) (t .edges .keys) (t .edges .size) (omega arith) in
       round-falls net (t .points) (t .count) (t .edges .keys) (omega arith) (fit .room) (fit .rooms) (foundIn net t) (t .edges .size)
       (fit .sound) win
 

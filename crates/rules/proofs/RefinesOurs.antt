@@ -18,7 +18,7 @@ use Rattle.refiner.specs.Refined as tables
 use Rattle.tree.specs.Places.{Ranked, Sound}
 use Rattle.refiner.specs.Sentences.{foundIn, exchanged}
 use Rattle.refiner.proofs.WinnerLaws.{found-wins}
-use Rattle.refiner.proofs.RoundSound.{Kept, round-kept, rounds-kept}
+use Rattle.refiner.proofs.RoundSound.{Kept, round-kept, rounds-kept, kept-count, own-room}
 use Rattle.refiner.proofs.RoundSteps.{rounds-none, rounds-some}
 use Rattle.refiner.proofs.TakesLaws.{found-takes}
 use Rattle.rules.specs.Edges.{Edge, Same}
@@ -53,13 +53,13 @@ module _ {net : Net} where
   pub fit-next : (m : ℕ) (t : Tree) → Fit net (suc m) t → (foundIn net t .gain ≡ 0 → ⊥) → Fit net m (exchanged net t)
   fit-next m t fit n =
       let few = fit .few in
-      let win = found-wins ms (t .points) (t .count) (t .edges .keys) (t .edges .size) (omega arith) in
+      let win = found-wins (net .weights) (net .macros) (t .points) (t .count) (t .edges .keys) (t .edges .size) (omega arith) in
       let k = round-kept net (t .points) (t .count) (t .edges .keys) (omega arith) (fit .room) (fit .rooms) (foundIn net t)
       (t .edges .size) (fit .sound) win in
       record {
         sound = k .sound;
         ranked = k .ranked (fit .ranked);
-        few = omega (arith, k .points);
+        few = omega (arith, kept-count k);
         room = k .places ∙ fit .room;
         rooms = k .rows ∙ fit .rooms;
       }
@@ -73,11 +73,11 @@ module _ {net : Net} where
       by (eqb (foundIn net t .gain) 0)
       (λ q.
       let none : foundIn net t .gain ≡ 0 = eqb-true _ _ q in
-      subst (λ (z : Tree). Rounds net (suc m) (edgesIn t) (edgesIn z)) (sym (rounds-none ms (suc m) t none))
+      subst (λ (z : Tree). Rounds net (suc m) (edgesIn t) (edgesIn z)) (sym (rounds-none net (suc m) t none))
       (inl (no-gain (suc m) t fit none, (λ e i. i, λ e i. i))))
       (λ q.
       let some : foundIn net t .gain ≡ 0 → ⊥ = eqb-false _ _ q in
-      subst (λ (z : Tree). Rounds net (suc m) (edgesIn t) (edgesIn z)) (sym (rounds-some ms m t some))
+      subst (λ (z : Tree). Rounds net (suc m) (edgesIn t) (edgesIn z)) (sym (rounds-some net m t some))
       (inr (edgesIn (exchanged net t), (some-gain m t fit some, rounds-ours m (exchanged net t) (fit-next m t fit some)))))
 
   rounds-only : (m : ℕ) (t : Tree) → Fit net m t → (T U : List Edge) → Same (edgesIn t) T → Rounds net m T U →
@@ -88,10 +88,10 @@ module _ {net : Net} where
       by (eqb (foundIn net t .gain) 0)
       (λ q.
       let none : foundIn net t .gain ≡ 0 = eqb-true _ _ q in
-      subst (λ (z : Tree). Same (edgesIn z) U) (sym (rounds-none ms (suc m) t none)) (still (no-gain (suc m) t fit none) r))
+      subst (λ (z : Tree). Same (edgesIn z) U) (sym (rounds-none net (suc m) t none)) (still (no-gain (suc m) t fit none) r))
       (λ q.
       let some : foundIn net t .gain ≡ 0 → ⊥ = eqb-false _ _ q in
-      subst (λ (z : Tree). Same (edgesIn z) U) (sym (rounds-some ms m t some)) (moves some
+      subst (λ (z : Tree). Same (edgesIn z) U) (sym (rounds-some net m t some)) (moves some
       (λ X. rounds-only m (exchanged net t) (fit-next m t fit some) X U) r))
     where
       still : NoGain net (edgesIn t) → Rounds net (suc m) T U → Same (edgesIn t) U
@@ -113,13 +113,13 @@ module _ {net : Net} where
 
   module _ (t : Tree) (fit : Fit net (length (net .pins)) t) where
     kept : Kept net t (tables.rounds (net .weights) (net .macros) (length (net .pins)) t) (length (net .pins))
-    kept = rounds-kept net (length (net .pins)) t (fit .sound) (fit .few) (fit .room) (fit .rooms)
+    kept = rounds-kept net (length (net .pins)) t (fit .sound) _ (own-room t (length (net .pins)) (fit .few)) (fit .room) (fit .rooms)
 
     prunes : Prunes net (edgesIn (tables.rounds (net .weights) (net .macros) (length (net .pins)) t)) (edgesIn (tables.refined net t))
     unfolding tables.refined
     prunes =
         let few = fit .few in
-        prunes-ours (tables.rounds (net .weights) (net .macros) (length (net .pins)) t) (kept .sound) (kept .ranked (fit .ranked)) (omega (arith, kept .points))
+        prunes-ours (tables.rounds (net .weights) (net .macros) (length (net .pins)) t) (kept .sound) (kept .ranked (fit .ranked)) (omega (arith, kept-count kept))
 
     -- what the definitions work out is a solution
     pub refines-ours : Refines net (edgesIn t) (edgesIn (tables.refined net t))

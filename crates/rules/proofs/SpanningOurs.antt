@@ -19,18 +19,19 @@ use Rattle.plane.specs.declared.Macro.{Macro}
 use Rattle.plane.specs.Place.{place, before}
 use Rattle.plane.proofs.PlaceOrder.{place-order}
 use Rattle.net.specs.Net.{Net, costIn}
-use Rattle.graph.specs.Spanning.{spanning}
+use Rattle.graph.specs.Spanning.{verticesOf, spanning}
 use Rattle.graph.specs.declared.Quadrant as code
 use Rattle.graph.specs.declared.Quadrant.the-variants.{First, Second, Third, Fourth}
 use Rattle.graph.specs.declared.Picked.the-variants.{At}
 use Rattle.graph.specs.Pick.{within}
-use Rattle.graph.specs.Vertices.{cornersOf, vertices as ourVertices}
+use Rattle.graph.specs.Vertices.{cornersOf}
 use Rattle.graph.specs.Edges.{beforeEdge, edges as ourEdges}
 use Rattle.graph.proofs.QuadrantLaws.{one-quadrant}
 use Rattle.graph.proofs.VertexLaws.{lower-left, upper-left, lower-right, upper-right, at-corner, pin-vertex, corner-vertex}
 use Rattle.graph.proofs.VertexLaws.{of-vertices, vertices-ascending}
 use Rattle.graph.proofs.PickLaws.{Fit, Preferred, PicksAt, pick-at, pick-only}
-use Rattle.graph.proofs.EdgeLaws.{PickedBy, link-picked, picked-link, edges-ascending, edge-of}
+use Rattle.graph.proofs.EdgeLaws.{PickedBy, link-picked, picked-link, edge-of}
+use Rattle.graph.proofs.GraphBounds.{spanning-ascending}
 use Rattle.rules.specs.Edges.{Edge}
 use Rattle.rules.specs.Spanning.{CornerOf, Vertex, Quadrant, first, second, third, fourth, Lies, May, Picks, Neighbours, Spanning}
 use Rattle.rules.proofs.SpanningOnly.{vertices-one, edges-one}
@@ -51,10 +52,10 @@ of-corner m v (inr x, inl y) = Memᴰ·cast (ap₂ place x y) (lower-right m)
 of-corner m v (inr x, inr y) = Memᴰ·cast (ap₂ place x y) (upper-right m)
 
 module _ (net : Net) where
-  vertex-of : (v : Place) → v ∈ ourVertices net → Vertex net v
-  vertex-of v i = either inl (λ c. inr (c .entry, (c .stands, corner-of (c .entry) v (c .holds)))) (of-verticesOf net i)
+  vertex-of : (v : Place) → v ∈ verticesOf net → Vertex net v
+  vertex-of v i = either inl (λ c. inr (c .entry, (c .stands, corner-of (c .entry) v (c .holds)))) (of-vertices net i)
 
-  of-vertex : (v : Place) → Vertex net v → v ∈ ourVertices net
+  of-vertex : (v : Place) → Vertex net v → v ∈ verticesOf net
   of-vertex v (inl i) = pin-vertex net i
   of-vertex v (inr (m, (i, c))) = corner-vertex net i (of-corner m v c)
 
@@ -116,21 +117,21 @@ lies-one u v n =
 -- Picks
 
 module _ (net : Net) (vs : List Place) (ascending : Ascending before vs) where
-  may-fit : (q : Quadrant) (u w : Place) → May net vs q u w → Fit (net .weights) (net .macros) (coded q) u w
+  may-fit : (q : Quadrant) (u w : Place) → May net vs q u w → Fit (net .macros) (coded q) u w
   may-fit q u w x = record { in-quadrant = lies-within q u w (x .lies); is-clear = x .seen }
 
-  fit-may : (q : Quadrant) (u w : Place) → w ∈ vs → Fit (net .weights) (net .macros) (coded q) u w → May net vs q u w
+  fit-may : (q : Quadrant) (u w : Place) → w ∈ vs → Fit (net .macros) (coded q) u w → May net vs q u w
   fit-may q u w i f = record { vertex = i; lies = within-lies q u w (f .in-quadrant); seen = f .is-clear }
 
-  near-of : (u v w : Place) → Preferred u v w → costIn net u v ≤ costIn net u w
+  near-of : (u v w : Place) → Preferred (net .weights) u v w → costIn net u v ≤ costIn net u w
   near-of u v w (inl h) = omega arith
   near-of u v w (inr h) = omega (arith, h .0)
 
-  small-of : (u v w : Place) → Preferred u v w → costIn net u w ≡ costIn net u v → before w v ≡ false
+  small-of : (u v w : Place) → Preferred (net .weights) u v w → costIn net u w ≡ costIn net u v → before w v ≡ false
   small-of u v w (inl h) e = absurd (let z : ⊥ = omega (arith, h, e) in z)
   small-of u v w (inr h) e = either (λ k. rw k (place-order .never w)) (never-back v w) (h .1)
 
-  preferred-of : (u v w : Place) → costIn net u v ≤ costIn net u w → (costIn net u w ≡ costIn net u v → before w v ≡ false) → Preferred u v w
+  preferred-of : (u v w : Place) → costIn net u v ≤ costIn net u w → (costIn net u w ≡ costIn net u v → before w v ≡ false) → Preferred (net .weights) u v w
   preferred-of u v w n s =
       by (ltb (costIn net u v) (costIn net u w))
       (λ h. inl (ltb-true (costIn net u v) (costIn net u w) h))
@@ -170,7 +171,7 @@ module _ (net : Net) (vs : List Place) (ascending : Ascending before vs) where
 
   neighbours-of : (u v : Place) → (u, v) ∈ ourEdges (net .weights) (net .macros) vs → Neighbours net vs u v
   neighbours-of u v m =
-      let e = edge-of (net .weights) (net .macros) vs ascending (u, v) m in
+      let e = edge-of (net .macros) vs (net .weights) ascending (u, v) m in
       record {
         smaller = e .smaller-first;
         one = e .first;
@@ -184,13 +185,13 @@ module _ (net : Net) (vs : List Place) (ascending : Ascending before vs) where
     where
       at : Link (ourEdges (net .weights) (net .macros) vs) u v → (u, v) ∈ ourEdges (net .weights) (net .macros) vs
       at (inl m) = m
-      at (inr m) = differ (edge-of (net .weights) (net .macros) vs ascending (v, u) m .smaller-first) (never-back u v (j .smaller))
+      at (inr m) = differ (edge-of (net .macros) vs (net .weights) ascending (v, u) m .smaller-first) (never-back u v (j .smaller))
 
 -- The graph
 
 module _ (net : Net) where
   -- what is worked out is the spanning graph
-  pub graph-ours : Spanning net (ourVertices net) (ourEdges (net .weights) (net .macros) (ourVertices net))
+  pub graph-ours : Spanning net (verticesOf net) (spanning net)
   unfolding beforeEdge
   graph-ours =
       let a = vertices-ascending net in
@@ -198,10 +199,10 @@ module _ (net : Net) where
         vertices = λ v. (vertex-of net v, of-vertex net v);
         vertices-in-order = a;
         edges = λ u v. (neighbours-of net _ a u v, of-neighbours net _ a u v);
-        edges-in-order = edges-ascending (net .weights) (net .macros) (ourVertices net);
+        edges-in-order = spanning-ascending net;
       }
 
   -- and there is no other
   pub graph-only : {vs : List Place} {es : List Edge} → Spanning net vs es →
-      (vs ≡ ourVertices net) × (es ≡ ourEdges (net .weights) (net .macros) (ourVertices net))
+      (vs ≡ verticesOf net) × (es ≡ spanning net)
   graph-only s = (vertices-one s graph-ours, edges-one s graph-ours)

@@ -57,7 +57,7 @@ up-only : {net : Net} {v : Place} {qs rs : List Place} → WayUp net v qs → Wa
 up-only (arrived m) (arrived n) = refl
 up-only (arrived m) (upward n w) = absurd (n m)
 up-only (upward n w) (arrived m) = absurd (n m)
-up-only {ps} {ms} {v} (upward n w) (upward k u) = ap (λ (l : List Place). parentOf net v ∷ l) (up-only w u)
+up-only {net} {v} (upward n w) (upward k u) = ap (λ (l : List Place). parentOf net v ∷ l) (up-only w u)
 
 module _ {net : Net} (a : Allowed net) where
   abbrev at : ℕ → Place
@@ -142,11 +142,11 @@ module _ {net : Net} (a : Allowed net) where
   up = ours.upward (unionOf net) (union-sound a) (union-ranked a)
 
   -- the steps of a kept path are those of its bridge's, by numbers
-  on-kept : (k : Path) → k ∈ ourPaths a → (j : ℕ) (m : j ∈ kept a) → givenFor k ≡ given a j → (x y : Place) →
+  on-kept : (k : Path) → k ∈ ourPaths a → (j : ℕ) (m : j ∈ kept a) → givenFor net k ≡ given a j → (x y : Place) →
       On x y (k .start) (k .points) ↔ Steps j m x y
   on-kept k i j m e x y =
       let o = kept-origin a k i in
-      let g : givenFor k ≡ o .given = ap givenFor (o .is) ∙ ap (λ (n : ℕ). (o .given .0, n)) (o .stands .length-is) in
+      let g : givenFor net k ≡ o .given = ap (givenFor net) (o .is) ∙ ap (λ (n : ℕ). (o .given .0, n)) (o .stands .length-is) in
       subst (λ (c : Path). On x y (c .start) (c .points) ↔ Steps j m x y) (sym (o .is))
       (on-given j m x y (o .given) (sym g ∙ e) (o .stands))
 
@@ -156,7 +156,7 @@ module _ {net : Net} (a : Allowed net) where
       let k = r .0 in
       let o = of-start k (r .1 .0) in
       let j = o .bridge in
-      let c = of-map givenFor (ourPaths a) (subst (λ (l : List Kept). given a j ∈ l) (sym (paths-given a)) (given-in a j (o .kept))) in
+      let c = of-map (givenFor net) (ourPaths a) (subst (λ (l : List Kept). given a j ∈ l) (sym (paths-given a)) (given-in a j (o .kept))) in
       let f : On (edgeAt (spanning net) k .0) (edgeAt (spanning net) k .1) (c .entry .start) (c .entry .points)
       = on-kept (c .entry) (c .stands) j (o .kept) (sym (c .is)) _ _ .1
       (subst (λ (x : Place). Steps j (o .kept) x (edgeAt (spanning net) k .1)) (one-vertex a k (o .inside))
@@ -170,8 +170,8 @@ module _ {net : Net} (a : Allowed net) where
 
   of-some : (e : Edge) → OnSome (ourPaths a) e → e ∈ edgesIn (unionOf net)
   of-some e o =
-      let g = of-given a (givenFor (o .path)) (subst (λ (l : List Kept). givenFor (o .path) ∈ l) (paths-given a)
-      (in-map givenFor (o .among))) in
+      let g = of-given a (givenFor net (o .path)) (subst (λ (l : List Kept). givenFor net (o .path) ∈ l) (paths-given a)
+      (in-map (givenFor net) (o .among))) in
       let k = step-edge (g .entry) (g .stands) (e .0) (e .1) (on-kept (o .path) (o .among) (g .entry) (g .stands) (g .is) (e .0) (e .1) .0
       (o .on)) in
       placed (k .0) (walk-in (g .entry) (g .stands) (k .0) (k .1 .0)) (k .1 .1)

@@ -74,7 +74,7 @@ module _ {net : Net} {G : List Edge} where
     where
       offered-one : t .offered ≡ s .offered
       offered-one =
-          ascending-alike takenFirst
+          ascending-alike (takenFirst net)
           (λ k. weight-order .never (pathCost net k, k .bridge))
           (λ i j k. weight-order .along (pathCost net i, i .bridge) (pathCost net j, j .bridge) (pathCost net k, k .bridge))
           (t .offered) (s .offered) (t .in-turn) (s .in-turn) (offered-in t s) (offered-in s t)

@@ -109,10 +109,10 @@ module _ {net : Net} (a : Allowed net) where
   unfoldable pub offered : List Path
   offered = mapIn (kb .offered) (λ k m. pathFor k (kb .stands k m))
 
-  offered-given : map givenFor offered ≡ kb .offered
+  offered-given : map (givenFor net) offered ≡ kb .offered
   unfolding offered
   offered-given =
-      mapIn-then givenFor (λ (k : Kept). k) (kb .offered) _ (λ k m. ap (λ (n : ℕ). (k .0, n)) (kb .stands k m .length-is))
+      mapIn-then (givenFor net) (λ (k : Kept). k) (kb .offered) _ (λ k m. ap (λ (n : ℕ). (k .0, n)) (kb .stands k m .length-is))
       ∙ map-same (kb .offered)
     where
       map-same : (l : List Kept) → map (λ (k : Kept). k) l ≡ l
@@ -167,13 +167,13 @@ module _ {net : Net} (a : Allowed net) where
       let h = mapIn-has {B = Path} (kb .offered) (λ k m. pathFor k (kb .stands k m)) (e, o .0) (o .1) in
       (pathFor (h .0) (kb .stands (h .0) (h .1 .0)), (h .1 .1 .1, sym (ap (λ (z : Kept). z .0) (h .1 .1 .0))))
 
-  turn-same : (j k : Path) → takenBefore (givenFor j) (givenFor k) ≡ takenFirst j k
+  turn-same : (j k : Path) → takenBefore (givenFor net j) (givenFor net k) ≡ takenFirst net j k
   unfolding takenBefore beforeEdge
   turn-same j k = refl
 
-  in-turn : (l : List Path) → Ascending takenBefore (map givenFor l) → Ascending takenFirst l
+  in-turn : (l : List Path) → Ascending takenBefore (map (givenFor net) l) → Ascending (takenFirst net) l
   in-turn [] h = tt
-  in-turn (x ∷ l) h = (λ y i. sym (turn-same x y) ∙ h .0 (givenFor y) (in-map givenFor i), in-turn l (h .1))
+  in-turn (x ∷ l) h = (λ y i. sym (turn-same x y) ∙ h .0 (givenFor net y) (in-map (givenFor net) i), in-turn l (h .1))
 
   -- The kept paths
 
@@ -215,9 +215,9 @@ module _ {net : Net} (a : Allowed net) where
   kept-ends k m = ends-are k (kept-offered k m)
 
   -- what is given for the kept paths is what the call gives
-  pub paths-given : map givenFor ourPaths ≡ pathsOf net
+  pub paths-given : map (givenFor net) ourPaths ≡ pathsOf net
   unfolding ourPaths rootsOf
   paths-given =
-      kept-carried place-same place-same (λ x. x) (λ x. x) givenFor pathEnds (keptEnds net) offered
+      kept-carried place-same place-same (λ x. x) (λ x. x) (givenFor net) pathEnds (keptEnds net) offered
       (λ k m. (ends-are k m, (refl, refl)))
       ∙ ap (kept place-same (keptEnds net)) offered-given ∙ sym (kb .kept-are place-same)

@@ -25,8 +25,8 @@ use Rattle.rules.specs.Trees.{Trees}
 abbrev pub netBy : Weights → List Place → List Macro → Net
 netBy w ps ms = record { pins = ps; macros = ms; weights = w }
 
--- the same pins, as many; the same macros, and so the same places clear of each other
-pub record SameNet (ps qs : List Place) (ms ns : List Macro) : Type 0 where
+-- two nets with the weights W: the same pins, as many; the same macros, and so the same places clear of each other
+pub record SameNet (W : Weights) (ps qs : List Place) (ms ns : List Macro) : Type 0 where
   pub to : Among ps qs
   pub from : Among qs ps
   pub count : length ps ≡ length qs
@@ -34,7 +34,7 @@ pub record SameNet (ps qs : List Place) (ms ns : List Macro) : Type 0 where
   pub macros-from : Among ns ms
   pub clears : (x y : Place) → clear x y ms ≡ clear x y ns
 
-pub turned : {ps qs : List Place} {ms ns : List Macro} → SameNet ps qs ms ns → SameNet qs ps ns ms
+pub turned : {W : Weights} {ps qs : List Place} {ms ns : List Macro} → SameNet W ps qs ms ns → SameNet W qs ps ns ms
 turned h = record {
   to = h .from;
   from = h .to;
@@ -46,15 +46,16 @@ turned h = record {
 
 -- The graph
 
-vertex-in : {W : Weights} {ps qs : List Place} {ms ns : List Macro} → SameNet ps qs ms ns → (v : Place) → Vertex (netBy W ps ms) v → Vertex (netBy W qs ns) v
+vertex-in : {W : Weights} {ps qs : List Place} {ms ns : List Macro} → SameNet W ps qs ms ns → (v : Place) →
+    Vertex (netBy W ps ms) v → Vertex (netBy W qs ns) v
 vertex-in h v (inl m) = inl (h .to v m)
 vertex-in h v (inr (m, (i, c))) = inr (m, (h .macros-to m i, c))
 
 module _ {W : Weights} {ps qs : List Place} {ms ns : List Macro} {vs : List Place} where
-  may-in : SameNet ps qs ms ns → {q : Quadrant} {u v : Place} → May (netBy W ps ms) vs q u v → May (netBy W qs ns) vs q u v
+  may-in : SameNet W ps qs ms ns → {q : Quadrant} {u v : Place} → May (netBy W ps ms) vs q u v → May (netBy W qs ns) vs q u v
   may-in h {u = u} {v = v} x = record { vertex = x .vertex; lies = x .lies; seen = sym (h .clears u v) ∙ x .seen }
 
-module _ {W : Weights} {ps qs : List Place} {ms ns : List Macro} {vs : List Place} (h : SameNet ps qs ms ns) where
+module _ {W : Weights} {ps qs : List Place} {ms ns : List Macro} {vs : List Place} (h : SameNet W ps qs ms ns) where
   picks-in : {u v : Place} → Picks (netBy W ps ms) vs u v → Picks (netBy W qs ns) vs u v
   picks-in p = record {
     quadrant = p .quadrant;
@@ -71,7 +72,7 @@ module _ {W : Weights} {ps qs : List Place} {ms ns : List Macro} {vs : List Plac
     picked = either (λ p. inl (picks-in p)) (λ p. inr (picks-in p)) (j .picked);
   }
 
-pub spanning-in : {W : Weights} {ps qs : List Place} {ms ns : List Macro} {vs : List Place} {es : List Edge} → SameNet ps qs ms ns →
+pub spanning-in : {W : Weights} {ps qs : List Place} {ms ns : List Macro} {vs : List Place} {es : List Edge} → SameNet W ps qs ms ns →
     Spanning (netBy W ps ms) vs es → Spanning (netBy W qs ns) vs es
 spanning-in h s = record {
   vertices = λ v. (λ i. vertex-in h v (s .vertices v .0 i), λ x. s .vertices v .1 (vertex-in (turned h) v x));
@@ -139,7 +140,8 @@ point-in : {ps qs : List Place} {T : List Edge} → Among ps qs → (v : Place) 
 point-in h v (inl m) = inl (h v m)
 point-in h v (inr l) = inr l
 
-gain-in : {W : Weights} {ps qs : List Place} {ms ns : List Macro} {T : List Edge} → SameNet ps qs ms ns → (a b u : Place) (l : Edge) (g : ℕ) →
+gain-in : {W : Weights} {ps qs : List Place} {ms ns : List Macro} {T : List Edge} → SameNet W ps qs ms ns →
+    (a b u : Place) (l : Edge) (g : ℕ) →
     Gain (netBy W ps ms) T a b u l g → Gain (netBy W qs ns) T a b u l g
 gain-in h a b u l g x =
     let c = x .candidate in
@@ -152,12 +154,20 @@ gain-in h a b u l g x =
         seen = either (λ q. inl (sym (h .clears u a) ∙ q)) (λ q. inr (sym (h .clears u b) ∙ q)) (c .seen);
         kept = λ v p. c .kept v (point-in (h .from) v p);
       };
-      cut = x .cut;
+      cut = record {
+        way = x .cut .way;
+        longest = record {
+          step = x .cut .longest .step;
+          longest = x .cut .longest .longest;
+          smallest = x .cut .longest .smallest;
+        };
+      };
       gain = x .gain;
       above = x .above;
     }
 
-round-in : {W : Weights} {ps qs : List Place} {ms ns : List Macro} {T U : List Edge} → SameNet ps qs ms ns → Round (netBy W ps ms) T U → Round (netBy W qs ns) T U
+round-in : {W : Weights} {ps qs : List Place} {ms ns : List Macro} {T U : List Edge} → SameNet W ps qs ms ns →
+    Round (netBy W ps ms) T U → Round (netBy W qs ns) T U
 round-in h r = record {
   a = r .a;
   b = r .b;
@@ -173,20 +183,24 @@ round-in h r = record {
   edges = r .edges;
 }
 
-rounds-in : {W : Weights} {ps qs : List Place} {ms ns : List Macro} → SameNet ps qs ms ns → (m : ℕ) (T U : List Edge) → Rounds (netBy W ps ms) m T U →
+rounds-in : {W : Weights} {ps qs : List Place} {ms ns : List Macro} → SameNet W ps qs ms ns →
+    (m : ℕ) (T U : List Edge) → Rounds (netBy W ps ms) m T U →
     Rounds (netBy W qs ns) m T U
 rounds-in h zero T U r = r
 rounds-in h (suc m) T U (inl r) = inl (λ a b u l g x. r .0 a b u l g (gain-in (turned h) a b u l g x), r .1)
 rounds-in h (suc m) T U (inr (X, (r, more))) = inr (X, (round-in h r, rounds-in h m X U more))
 
-loose-in : {W : Weights} {ps qs : List Place} {ms ns : List Macro} {T : List Edge} → Among qs ps → (v : Place) (e : Edge) → Loose (netBy W ps ms) T v e → Loose (netBy W qs ns) T v e
+loose-in : {W : Weights} {ps qs : List Place} {ms ns : List Macro} {T : List Edge} → Among qs ps →
+    (v : Place) (e : Edge) → Loose (netBy W ps ms) T v e → Loose (netBy W qs ns) T v e
 loose-in h v e l = record { free = λ m. l .free (h v m); edge = l .edge; end = l .end; single = l .single }
 
-strips-in : {W : Weights} {ps qs : List Place} {ms ns : List Macro} {T R : List Edge} → Among qs ps → Strips (netBy W ps ms) T R → Strips (netBy W qs ns) T R
+strips-in : {W : Weights} {ps qs : List Place} {ms ns : List Macro} {T R : List Edge} → Among qs ps →
+    Strips (netBy W ps ms) T R → Strips (netBy W qs ns) T R
 strips-in h (same k) = same k
 strips-in h (strip v e l k s) = strip v e (loose-in h v e l) k (strips-in h s)
 
-refines-in : {W : Weights} {ps qs : List Place} {ms ns : List Macro} {T R : List Edge} → SameNet ps qs ms ns → Refines (netBy W ps ms) T R → Refines (netBy W qs ns) T R
+refines-in : {W : Weights} {ps qs : List Place} {ms ns : List Macro} {T R : List Edge} → SameNet W ps qs ms ns →
+    Refines (netBy W ps ms) T R → Refines (netBy W qs ns) T R
 refines-in {W} {ps} {qs} {ms} {ns} {T} {R} h r = record {
   rounded = r .rounded;
   rounds = subst (λ (m : ℕ). Rounds (netBy W qs ns) m T (r .rounded)) (h .count) (rounds-in h (length ps) T (r .rounded) (r .rounds));
@@ -198,8 +212,8 @@ refines-in {W} {ps} {qs} {ms} {ns} {T} {R} h r = record {
 
 -- All of it
 
-pub trees-in : {W : Weights} {ps qs : List Place} {ms ns : List Macro} {vs : List Place} {es rs : List Edge} {ks : List Path} → SameNet ps qs ms ns →
-    Trees (netBy W ps ms) vs es ks rs → Trees (netBy W qs ns) vs es ks rs
+pub trees-in : {W : Weights} {ps qs : List Place} {ms ns : List Macro} {vs : List Place} {es rs : List Edge} {ks : List Path} →
+    SameNet W ps qs ms ns → Trees (netBy W ps ms) vs es ks rs → Trees (netBy W qs ns) vs es ks rs
 trees-in h t = record {
   spanning = spanning-in h (t .spanning);
   terminal = terminal-in (h .to) (h .from) (t .terminal);

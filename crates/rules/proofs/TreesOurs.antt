@@ -5,18 +5,18 @@ use mathlib.Core.Path.{subst}
 use mathlib.Core.List.{List}
 use Rattle.plane.specs.declared.Place.{Place}
 use Rattle.plane.specs.declared.Macro.{Macro}
+use Rattle.plane.specs.declared.Weights.{Weights}
 use Rattle.net.specs.Allowed.{Allowed}
 use Rattle.net.specs.Net.{Net}
 use Rattle.graph.specs.Spanning.{verticesOf, spanning}
-use Rattle.graph.specs.Vertices.{vertices}
 use Rattle.refiner.specs.Refined.{refined}
 use Rattle.union.specs.Union.{unionOf}
-use Rattle.refined.specs.Edges.{treeEdges}
+use Rattle.tree.specs.Edges.{treeEdges}
 use Rattle.rules.specs.Edges.{Edge}
 use Rattle.rules.specs.Terminal.{Path, Terminal}
 use Rattle.rules.specs.Refined.{Refined}
 use Rattle.rules.specs.Trees.{Trees, Equal}
-use Rattle.rules.proofs.TreesOrder.{SameNet, trees-in}
+use Rattle.rules.proofs.TreesOrder.{netBy, SameNet, trees-in}
 use Rattle.rules.proofs.SpanningOurs.{graph-ours, graph-only}
 use Rattle.rules.proofs.TerminalOurs.{ourPaths, terminal-ours, terminal-only}
 use Rattle.rules.proofs.RefinedOurs.{refined-ours, refined-only}
@@ -41,7 +41,9 @@ module _ {net : Net} (a : Allowed net) where
         refined = refined-only a rs (subst (λ (l : List Path). Refined net l rs) k (t .refined));
       }
 
--- So the trees of two nets that have the same pins and macros are the same.
-module _ {ps qs : List Place} {ms ns : List Macro} (h : SameNet (net .pins) qs ms ns) (a : Allowed net) (b : Allowed qs ns) where
-  pub trees-same : Equal (verticesOf net) (vertices qs ns) (spanning net) (spanning qs ns) (ourPaths a) (ourPaths b) (ours a) (ours b)
+-- So the trees of two nets that have the same pins, macros and weights are the same.
+module _ {w : Weights} {ps qs : List Place} {ms ns : List Macro} (h : SameNet w ps qs ms ns)
+    (a : Allowed (netBy w ps ms)) (b : Allowed (netBy w qs ns)) where
+  pub trees-same : Equal (verticesOf (netBy w ps ms)) (verticesOf (netBy w qs ns)) (spanning (netBy w ps ms)) (spanning (netBy w qs ns))
+      (ourPaths a) (ourPaths b) (ours a) (ours b)
   trees-same = trees-only b (trees-in h (trees-ours a))

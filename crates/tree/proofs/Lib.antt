@@ -2,3 +2,4 @@ pub mod SumLaws
 pub mod ListingLaws
 pub mod PointLaws
 pub mod EdgeLaws
+pub mod OutsideLaws

@@ -16,7 +16,9 @@
 --              Sound net                   a tree over its points in order, with all pins of the net and every edge clear of its macros
 --   Edges      edgesFrom, tableEdges       edges of a tree's tables as pairs of places, in the order of the table
 --              treeEdges t                 all edges of a tree, in order
+--   Outside    strangers vs t              how many points of a tree are none of the places vs
 pub mod Table
 pub mod Sum
 pub mod Places
 pub mod Edges
+pub mod Outside

@@ -8,14 +8,14 @@ use Rattle.refined.proofs.WireLaws.{drawn-none, drawn-one}
 use Rattle.refined.proofs.put_wire.Statement.{statement}
 use Rattle.refined.proofs.put_wire.Tie as tie
 
-far-apart-requires : tie.Need-far-apart-requires
-far-apart-requires c κs = search needs
+distance-requires : tie.Need-distance-requires
+distance-requires c κs = search needs
 
 returns : tie.Need-returns
 unfolding flat
 returns c =
     let s = c .before .before in
-    rw (drawn-none (s .args .a) (s .args .b) (sym (c .before .far-apart .ensures .0) ∙ c .if1 .taken)) (omega arith, refl)
+    rw (drawn-none (s .args .a) (s .args .b) (sym (c .before .distance .ensures) ∙ c .if1 .taken)) (omega arith, refl)
 
 put-edge-requires : tie.Need-put-edge-requires
 put-edge-requires c κs = search needs
@@ -31,9 +31,9 @@ unfolding flat
 returns-2 c =
     let e = c .before .before .before in
     let s = e .before .before in
-    rw (drawn-one (s .args .a) (s .args .b) (λ z. e .if1 .left (e .before .far-apart .ensures .0 ∙ z))) (refl, c .before .put-edge .ensures)
+    rw (drawn-one (s .args .a) (s .args .b) (λ z. e .if1 .left (e .before .distance .ensures ∙ z))) (refl, c .before .put-edge .ensures)
 
 pub put-wire-spec : {M : Type 1} → statement M
 put-wire-spec =
     tie.close
-    (tie.spec far-apart-requires returns put-edge-requires add-result same-length returns-2)
+    (tie.spec distance-requires returns put-edge-requires add-result same-length returns-2)

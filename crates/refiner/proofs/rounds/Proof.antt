@@ -13,7 +13,8 @@ use Rattle.refiner.proofs.rounds.Tie as tie
 
 abbrev Inv-loop : tie.InvT-loop
 Inv-loop w pts₀ n macros keys₀ e m z₀ r₀ pts keys z r = ((r ≤ m) × ((z .points ≤ n + r) × (z .edges ≤ e + r))) ×
-    (Within (z .points) keys × (rounds w (macrosOf macros) (m - r) (tree pts (z .points) keys (z .edges)) ≡ rounds w (macrosOf macros) m (tree pts₀ n keys₀ e)))
+    (Within (z .points) keys ×
+    (rounds w (macrosOf macros) (m - r) (tree pts (z .points) keys (z .edges)) ≡ rounds w (macrosOf macros) m (tree pts₀ n keys₀ e)))
 
 abbrev μ-loop : tie.MeasureT-loop
 μ-loop w pts₀ n macros keys₀ e m z₀ r₀ pts keys z r = m - r

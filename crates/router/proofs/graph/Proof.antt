@@ -1,15 +1,13 @@
 -- `router::graph` meets its contract: the refusals of the check first, then what the graph of an allowed net says.
 -- Assumes nothing.
 use mathlib.Core.Path.{_≡_, refl, sym, ap, _∙_}
-use native.Mathlib.Omega.{arith}
 use lib.ListN.{length}
 use denote.Ref.{now}
 use Rattle.lent.specs.Told.{given}
-use Rattle.plane.proofs.FlatLaws.{length-places, length-macros}
 use Rattle.net.specs.Check.{checked, told}
-use Rattle.net.proofs.AllowedLaws.{given-allowed}
 use Rattle.router.specs.Graph.{toldGraph}
 use Rattle.router.proofs.GraphAnswer.{graphed-refused, graphed-allowed}
+use Rattle.router.proofs.CountedLaws.{counted-of}
 use Rattle.router.proofs.CallLaws.{two-refused, two-as}
 use borrow.Author.Needs.{needs}
 use Rattle.router.proofs.graph.Statement.{statement}
@@ -18,24 +16,21 @@ use Rattle.router.proofs.graph.Tie as tie
 check-requires : tie.Need-check-requires
 check-requires c κs = search needs
 
-enum-told : tie.Need-enum-told
-enum-told c = search needs
-
--- the answer of the check, where the net is allowed
-allowed : (c : tie.After-enum-told)
-    → checked (now (c .before .before .before .args .pins)) (now (c .before .before .before .args .macros))
-    ≡ given (c .enum-told .given .0 .0 .pins, c .enum-told .given .0 .0 .macros)
-unfolding told
-allowed c = sym (c .before .before .check .ensures) ∙ ap told (c .enum-told .given .1)
-
-graph-requires : tie.Need-graph-requires
-graph-requires c κs =
-    let s = c .before .before .before .before .before .args in
-    let a = given-allowed (now (s .pins)) (now (s .macros)) (allowed (c .before .before)) .1 in
-    (omega (arith, a .few-pins, length-places (now (s .pins))), omega (arith, a .few-macros, length-macros (now (s .macros))))
-
 enum-known-answer : tie.Need-enum-known-answer
 enum-known-answer c = search needs
+
+enum-known-answer-2 : tie.Need-enum-known-answer-2
+enum-known-answer-2 c = search needs
+
+-- the answer of the check, where the net is allowed
+allowed : (c : tie.After-answer)
+    → checked (now (c .before .before .before .args .pins)) (now (c .before .before .before .args .macros))
+    ≡ given (c .answer .given .0 .0)
+unfolding told
+allowed c = sym (c .before .before .check .ensures) ∙ ap told (c .answer .given .1)
+
+graph-requires : tie.Need-graph-requires
+graph-requires c κs = counted-of _ _ (allowed (c .before .before .before))
 
 same-length : tie.Need-same-length
 same-length c = search needs
@@ -46,8 +41,9 @@ same-length-2 c = search needs
 returns : tie.Need-returns
 returns c =
     let r = c .before .before in
-    let a = r .before .before .before .before .before .before .args in
-    let check = allowed (r .before .before .before) in
+    let d = r .before .before .before .before in
+    let a = d .before .before .before .args in
+    let check = allowed d in
     two-as (sym (graphed-allowed (now (a .pins)) (now (a .macros)) (length (now (a .vertices))) (length (now (a .edges))) _ check))
     (r .graph .ensures)
 
@@ -56,7 +52,7 @@ unfolding toldGraph told
 returns-2 c =
     let s = c .before .before .before in
     let a = s .before .args in
-    let check = sym (s .check .ensures) ∙ ap told (c .before .answer .given .1) in
+    let check = sym (s .check .ensures) ∙ ap told (c .before .answer2 .given .1) in
     two-refused refl (graphed-refused (now (a .pins)) (now (a .macros)) (length (now (a .vertices))) (length (now (a .edges))) _ check)
 
 pub graph-spec : {M : Type 1} → statement M
@@ -64,9 +60,9 @@ graph-spec =
     tie.close
     (tie.spec
     check-requires
-    enum-told
-    graph-requires
     enum-known-answer
+    graph-requires
+    enum-known-answer-2
     same-length
     same-length-2
     returns

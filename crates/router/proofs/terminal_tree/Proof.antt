@@ -5,9 +5,9 @@ use lib.ListN.{length}
 use denote.Ref.{now}
 use Rattle.lent.specs.Told.{given}
 use Rattle.net.specs.Check.{checked, told}
-use Rattle.net.proofs.AllowedLaws.{given-allowed}
 use Rattle.router.specs.Terminal.{terminalGiven, terminalTree, toldTree}
 use Rattle.router.proofs.AnswerLaws.{only-refused, only-given}
+use Rattle.router.proofs.CountedLaws.{counted-of}
 use Rattle.router.proofs.CallLaws.{gives-refused, gives-as}
 use borrow.Author.Needs.{needs}
 use Rattle.router.proofs.terminal_tree.Statement.{statement}
@@ -16,23 +16,21 @@ use Rattle.router.proofs.terminal_tree.Tie as tie
 check-requires : tie.Need-check-requires
 check-requires c κs = search needs
 
-enum-told : tie.Need-enum-told
-enum-told c = search needs
-
--- the answer of the check, where the net is allowed
-allowed : (c : tie.After-enum-told)
-    → checked (now (c .before .before .before .args .pins)) (now (c .before .before .before .args .macros))
-    ≡ given (c .enum-told .given .0 .0 .pins, c .enum-told .given .0 .0 .macros)
-unfolding told
-allowed c = sym (c .before .before .check .ensures) ∙ ap told (c .enum-told .given .1)
-
-terminal-tree-requires : tie.Need-terminal-tree-requires
-terminal-tree-requires c κs =
-    let s = c .before .before .before .before .args in
-    given-allowed (now (s .pins)) (now (s .macros)) (allowed (c .before)) .1
-
 enum-known-answer : tie.Need-enum-known-answer
 enum-known-answer c = search needs
+
+enum-known-answer-2 : tie.Need-enum-known-answer-2
+enum-known-answer-2 c = search needs
+
+-- the answer of the check, where the net is allowed
+allowed : (c : tie.After-answer)
+    → checked (now (c .before .before .before .args .pins)) (now (c .before .before .before .args .macros))
+    ≡ given (c .answer .given .0 .0)
+unfolding told
+allowed c = sym (c .before .before .check .ensures) ∙ ap told (c .answer .given .1)
+
+terminal-tree-requires : tie.Need-terminal-tree-requires
+terminal-tree-requires c κs = counted-of _ _ (allowed (c .before .before))
 
 same-length : tie.Need-same-length
 same-length c = search needs
@@ -41,9 +39,10 @@ returns : tie.Need-returns
 unfolding terminalTree
 returns c =
     let r = c .before in
-    let a = r .before .before .before .before .before .args in
+    let d = r .before .before .before in
+    let a = d .before .before .before .args in
     let next = terminalGiven (now (a .pins)) (now (a .macros)) (length (now (a .paths))) in
-    gives-as (sym (only-given (checked (now (a .pins)) (now (a .macros))) next _ (allowed (r .before .before)))) (r .terminal-tree .ensures)
+    gives-as (sym (only-given (checked (now (a .pins)) (now (a .macros))) next _ (allowed d))) (r .terminal-tree .ensures)
 
 returns-2 : tie.Need-returns-2
 unfolding terminalTree toldTree told
@@ -51,7 +50,7 @@ returns-2 c =
     let s = c .before .before .before in
     let a = s .before .args in
     let next = terminalGiven (now (a .pins)) (now (a .macros)) (length (now (a .paths))) in
-    let check = sym (s .check .ensures) ∙ ap told (c .before .answer .given .1) in
+    let check = sym (s .check .ensures) ∙ ap told (c .before .answer2 .given .1) in
     gives-refused refl (only-refused (checked (now (a .pins)) (now (a .macros))) next _ check)
 
 pub terminal-tree-spec : {M : Type 1} → statement M
@@ -59,9 +58,9 @@ terminal-tree-spec =
     tie.close
     (tie.spec
     check-requires
-    enum-told
-    terminal-tree-requires
     enum-known-answer
+    terminal-tree-requires
+    enum-known-answer-2
     same-length
     returns
     returns-2)

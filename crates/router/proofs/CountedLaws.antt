@@ -1,0 +1,61 @@
+-- What the check has counted: the code's struct of an allowed net says the net's numbers, and its weights are 1 and 1.
+-- Assumes nothing.
+use mathlib.Core.Path.{_≡_, sym, ap, subst}
+use mathlib.Core.List.{List}
+use Prim.Native.Nat.{ℕ, _≤_}
+use native.Mathlib.Omega.{arith}
+use lib.IntN.{ℤ}
+use Rattle.lent.specs.Told.{given}
+use Rattle.plane.proofs.FlatLaws.{length-macros}
+use Rattle.net.specs.declared.Net.{Net as Counts}
+use Rattle.net.specs.Bounds.{pinBound, macroBound, pointBound}
+use Rattle.net.specs.Pins.{pinCount}
+use Rattle.net.specs.Net.{Net, netOf, netWith}
+use Rattle.net.specs.Check.{checked, pointCount as countedPoints}
+use Rattle.net.specs.Allowed.{Allowed}
+use Rattle.net.proofs.AllowedLaws.{given-allowed, given-counts}
+use Rattle.net.proofs.PinLaws.{length-pins}
+use Rattle.terminal.specs.declared.Tree.{Tree}
+use Rattle.terminal.specs.Tables.{Tables, Worked}
+use Rattle.union.specs.Union.{unionOf}
+use Rattle.refiner.specs.declared.Refined.{Refined}
+use Rattle.refiner.specs.Refined.{Answer}
+use Rattle.router.specs.Counted.{Counted}
+use Rattle.router.specs.Graph.{pointCount}
+
+-- what the check gives is what was counted, of an allowed net
+pub counted-of : (pins macros : List ℤ) {n : Counts} → checked pins macros ≡ given n → Counted n pins macros
+counted-of pins macros g = record { counts = given-counts pins macros g; allowed = given-allowed pins macros g .1 }
+
+module _ {n : Counts} {pins macros : List ℤ} (c : Counted n pins macros) where
+  -- the net of its weights
+  pub as-net : netWith (n .weights) pins macros ≡ netOf pins macros
+  as-net = ap (λ (k : Counts). netWith (k .weights) pins macros) (c .counts)
+
+  pub as-allowed : Allowed (netWith (n .weights) pins macros)
+  as-allowed = subst Allowed (sym as-net) (c .allowed)
+
+  -- its numbers
+  pub as-pins : n .pins ≡ pinCount pins
+  as-pins = ap (λ (k : Counts). k .pins) (c .counts)
+
+  pub as-points : countedPoints n ≡ pointCount pins macros
+  as-points = ap countedPoints (c .counts)
+
+  pub counts-few : (n .pins ≤ pinBound) × (n .macros ≤ macroBound)
+  counts-few = (
+    omega (arith, as-pins, c .allowed .few-pins, length-pins pins),
+    omega (arith, ap (λ (k : Counts). k .macros) (c .counts), c .allowed .few-macros, length-macros macros),
+  )
+
+  pub points-few : pointCount pins macros ≤ pointBound
+  points-few = omega (arith, c .allowed .few-pins, length-pins pins, c .allowed .few-macros, length-macros macros)
+
+  -- what is worked out for these weights
+  pub as-worked : {lent t : Tables} {r : Tree} → Worked (netWith (n .weights) pins macros) lent t r → Worked (netOf pins macros) lent t r
+  as-worked {lent} {t} {r} w = subst (λ (z : Net). Worked z lent t r) as-net w
+
+  pub as-answer : {pts : List ℤ} {ks : List ℕ} {r : Refined}
+      → Answer (netWith (n .weights) pins macros) (unionOf (netWith (n .weights) pins macros)) pts ks r
+      → Answer (netOf pins macros) (unionOf (netOf pins macros)) pts ks r
+  as-answer {pts} {ks} {r} w = subst (λ (z : Net). Answer z (unionOf z) pts ks r) as-net w
