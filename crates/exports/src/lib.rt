@@ -15,7 +15,7 @@ ghost use Rattle.lent.specs.Entries.{flat};
 ghost use Rattle.net.specs.Check.{checked};
 ghost use Rattle.graph.specs.Numbers.{placeNumbers, edgeNumbers};
 ghost use Rattle.terminal.specs.Tree.{pathNumbers};
-ghost use Rattle.router.specs.Graph.{verticesOf, edgesOf, graphed};
+ghost use Rattle.router.specs.Graph.{netVertices, netEdges, graphed};
 ghost use Rattle.router.specs.Terminal.{pathsOf, terminalTree};
 ghost use Rattle.router.specs.Refined.{laidOf, refinedTree, wiresOf, wired};
 ghost use Rattle.router.specs.Price.{netPrice};
@@ -49,9 +49,9 @@ pub extern "C" fn calzundi_graph(
         (length (now (edges .entry))))) ⌝ }
     ensures vertices { λ _. ⌜ now (vertices .exit)
         ≡ after (graphed (now (pins .entry)) (now (macros .entry)) (length (now (vertices .entry))) (length (now (edges .entry))))
-        (flat placeNumbers (verticesOf (now (pins .entry)) (now (macros .entry)))) (now (vertices .entry)) ⌝ }
+        (flat placeNumbers (netVertices (now (pins .entry)) (now (macros .entry)))) (now (vertices .entry)) ⌝ }
     ensures edges { λ _. ⌜ now (edges .exit) ≡ after (graphed (now (pins .entry)) (now (macros .entry)) (length (now (vertices .entry)))
-        (length (now (edges .entry)))) (flat edgeNumbers (edgesOf (now (pins .entry)) (now (macros .entry)))) (now (edges .entry)) ⌝ }
+        (length (now (edges .entry)))) (flat edgeNumbers (netEdges (now (pins .entry)) (now (macros .entry)))) (now (edges .entry)) ⌝ }
     ensures v { λ _. ⌜ now (v .exit) ≡ valueAfter (λ counts. counts .0)
         (graphed (now (pins .entry)) (now (macros .entry)) (length (now (vertices .entry))) (length (now (edges .entry))))
         (now (v .entry)) ⌝ }
@@ -221,10 +221,10 @@ pub extern "C" fn calzundi_read_file(
         ≡ after (readFile (now (bytes .entry)) (length (now (pins .entry))) (length (now (macros .entry))))
         (macrosIn (now (bytes .entry))) (now (macros .entry)) ⌝ }
     ensures m { λ _. ⌜ now (m .exit)
-        ≡ valueAfter (λ net. net .0) (readFile (now (bytes .entry)) (length (now (pins .entry))) (length (now (macros .entry))))
+        ≡ valueAfter (λ net. net .pins) (readFile (now (bytes .entry)) (length (now (pins .entry))) (length (now (macros .entry))))
         (now (m .entry)) ⌝ }
     ensures k { λ _. ⌜ now (k .exit)
-        ≡ valueAfter (λ net. net .1) (readFile (now (bytes .entry)) (length (now (pins .entry))) (length (now (macros .entry))))
+        ≡ valueAfter (λ net. net .macros) (readFile (now (bytes .entry)) (length (now (pins .entry))) (length (now (macros .entry))))
         (now (k .entry)) ⌝ }
 {
     let answer = router::read_file(bytes, &mut *pins, &mut *macros);

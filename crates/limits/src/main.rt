@@ -1,8 +1,10 @@
 // E12 to E14: checks nets at the bounds and one past them, and writes each answer on a line of its own.
 use net::Checked;
+use net::Net;
 ghost use mathlib.Core.Path.{_≡_};
-ghost use Prim.Native.Nat.{_≤_};
+ghost use Prim.Native.Nat.{_+_, _*_, _≤_};
 ghost use lib.ListN.{length};
+ghost use Rattle.net.specs.Bounds.{macroBound, macroWidth};
 
 // The answer on a line: `allowed`, or `refused` and the number.
 fn say(answer: Checked) {
@@ -18,13 +20,16 @@ fn say(answer: Checked) {
     }
 }
 
+// Numbers of one macro more than a net may have: enough for one pin more too.
+const NUMBERS: usize = (Net::MACROS + 1) * Net::MACRO_NUMBERS;
+
 // 0, 1, 2 and so on: read as pins, places on a diagonal; read as macros, squares along it that do not touch.
-fn counted_up() -> [i32; 260]
-    ensures { λ r. ⌜ 260 ≡ length r ⌝ }
+fn counted_up() -> [i32; NUMBERS]
+    ensures { λ r. ⌜ (macroBound + 1) * macroWidth ≡ length r ⌝ }
 {
-    let mut numbers = [0i32; 260];
+    let mut numbers = [0i32; NUMBERS];
     let mut i: usize = 0;
-    while i < 260 {
+    while i < NUMBERS {
         numbers[i] = i as i32;
         i += 1;
     }
@@ -61,11 +66,11 @@ fn main() {
     coordinates();
     let numbers = counted_up();
     io::write_all(1, b"64 pins: ");
-    pins(&numbers, 128);
+    pins(&numbers, Net::PINS * Net::PIN_NUMBERS);
     io::write_all(1, b"65 pins: ");
-    pins(&numbers, 130);
+    pins(&numbers, (Net::PINS + 1) * Net::PIN_NUMBERS);
     io::write_all(1, b"64 macros: ");
-    macros(&numbers, 256);
+    macros(&numbers, Net::MACROS * Net::MACRO_NUMBERS);
     io::write_all(1, b"65 macros: ");
-    macros(&numbers, 260);
+    macros(&numbers, (Net::MACROS + 1) * Net::MACRO_NUMBERS);
 }

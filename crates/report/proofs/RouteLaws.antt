@@ -1,7 +1,7 @@
 -- The lists of an accepted file are an allowed net, which the router's own tables hold: both trees are given, and the buffer is long
 -- enough.
 -- Assumes nothing.
-use mathlib.Core.Path.{_≡_, refl, sym, ap, ap₂, _∙_}
+use mathlib.Core.Path.{_≡_, refl, sym, ap, _∙_}
 use mathlib.Core.List.{List}
 use Prim.Native.Nat.{ℕ, _+_, _*_, _≤_}
 use native.Mathlib.Omega.{arith}
@@ -13,11 +13,13 @@ use Rattle.lent.specs.Entries.{flat, entries}
 use Rattle.lent.proofs.OverLaws.{take-over}
 use Rattle.lent.proofs.EntryTable.{length-flat, entries-over}
 use Rattle.plane.specs.declared.Place.{Place}
-use Rattle.net.specs.Bounds.{pinBound, macroBound, treeBound}
+use Rattle.net.specs.declared.Net.{Net as Counts}
+use Rattle.net.specs.Bounds.{pinBound, macroBound, pinWidth, macroWidth, treeBound}
 use Rattle.net.specs.Pins.{pinCount, macroCount}
-use Rattle.net.specs.Check.{checked}
+use Rattle.net.specs.Check.{checked, countsOf}
 use Rattle.net.proofs.PassedLaws.{passed-all, pins-counted, macros-counted}
 use Rattle.net.proofs.CheckLaws.{allow}
+use Rattle.net.proofs.PinLaws as pin-laws
 use Rattle.graph.specs.Numbers.{edgeNumbers, edgeFrom}
 use Rattle.graph.proofs.WidthLaws.{edge-width}
 use Rattle.netfile.specs.Sizes.{pinListBound, macroListBound}
@@ -41,22 +43,22 @@ same-parts {A} {B} a c b d e =
 
 -- the counts of an allowed net
 pub record Counted (pins macros : List ℤ) : Type 0 where
-  pub allowed : checked pins macros ≡ given (pinCount pins, macroCount macros)
-  pub pin-numbers : pinCount pins * 2 ≡ length pins
-  pub macro-numbers : macroCount macros * 4 ≡ length macros
+  pub allowed : checked pins macros ≡ given (countsOf pins macros)
+  pub pin-numbers : pinCount pins * pinWidth ≡ length pins
+  pub macro-numbers : macroCount macros * macroWidth ≡ length macros
   pub few-pins : pinCount pins ≤ pinBound
   pub few-macros : macroCount macros ≤ macroBound
 
 module _ (pins macros : List ℤ) where
-  pub counted : (net : ℕ × ℕ) → checked pins macros ≡ given net → Counted pins macros
+  pub counted : (net : Counts) → checked pins macros ≡ given net → Counted pins macros
   counted net e =
       let past = passed-all pins macros net e in
       let p = pins-counted pins (past .past .past .past .past .past .past .past .passed) in
       let m = macros-counted macros (past .past .past .past .past .past .past .passed) in
       record {
         allowed = allow pins macros past;
-        pin-numbers = omega (arith, p .whole);
-        macro-numbers = omega (arith, m .whole);
+        pin-numbers = pin-laws.pin-numbers pins (p .whole);
+        macro-numbers = pin-laws.macro-numbers macros (m .whole);
         few-pins = p .few;
         few-macros = m .few;
       }
@@ -95,16 +97,16 @@ pub front : (xs lent table : List ℤ) (n : ℕ) → table ≡ over xs lent → 
 front xs lent table n t e = rw (t, e) (take-over xs lent)
 
 -- an accepted file
-module _ (file : List ℕ) (net : ℕ × ℕ) (given-net : readFile file pinListBound macroListBound ≡ given net) where
+module _ (file : List ℕ) (net : Counts) (given-net : readFile file pinListBound macroListBound ≡ given net) where
   pub lists : Counted (pinsIn file) (macrosIn file)
   lists = counted (pinsIn file) (macrosIn file) net (accepted-is-ours file pinListBound macroListBound net given-net .lists)
 
-  pub net-is : net ≡ (pinCount (pinsIn file), macroCount (macrosIn file))
+  pub net-is : net ≡ countsOf (pinsIn file) (macrosIn file)
   net-is = same-given _ _ (sym (accepted-is-ours file pinListBound macroListBound net given-net .lists) ∙ lists .allowed)
 
   pub route-given : treesText (pinCount (pinsIn file)) (macroCount (macrosIn file)) (pinsIn file) (macrosIn file) ≡ routeText file
   unfolding routeText answerText
-  route-given = rw given-net (ap (λ (v : ℕ × ℕ). treesText (v .0) (v .1) (pinsIn file) (macrosIn file)) (sym net-is))
+  route-given = rw given-net (ap (λ (v : Counts). treesText (v .pins) (v .macros) (pinsIn file) (macrosIn file)) (sym net-is))
 
 pub route-refused : (file : List ℕ) (n : ℕ) → readFile file pinListBound macroListBound ≡ refused n → refusedText (pos n)
     ≡ routeText file
@@ -112,7 +114,6 @@ unfolding routeText answerText
 route-refused file n e = rw e refl
 
 -- texts of the same numbers
-pub same-text : (m k : ℕ) {t t′ r r′ : ℤ} {es es′ : List (Place × Place)} → t ≡ t′ → r ≡ r′ → es ≡ es′ → treeText m k t r es
-    ≡ treeText m k t′ r′ es′
-same-text m k {t} {t′} {r} {r′} {es} {es′} e f g =
-    ap (λ (z : ℤ). treeText m k z r es) e ∙ ap₂ (λ (z : ℤ) (l : List (Place × Place)). treeText m k t′ z l) f g
+pub same-text : {m m′ k k′ : ℕ} {t t′ r r′ : ℤ} {es es′ : List (Place × Place)} → m ≡ m′ → k ≡ k′ → t ≡ t′ → r ≡ r′ → es ≡ es′
+    → treeText m k t r es ≡ treeText m′ k′ t′ r′ es′
+same-text a b c d e = cc

@@ -3,6 +3,7 @@ use mathlib.Core.List.{List}
 use Prim.Native.Nat.{ℕ}
 use lib.IntN.{ℤ, pos}
 use Rattle.lent.specs.Told.{Told, refused, given}
+use Rattle.net.specs.declared.Net.{Net as Counts}
 use Rattle.netfile.specs.Sizes.{pinListBound, macroListBound}
 use Rattle.netfile.specs.Read.{pinsIn, macrosIn, readFile}
 use Rattle.router.specs.Terminal.{pathsTotal}
@@ -14,9 +15,9 @@ unfoldable pub treesText : ℕ → ℕ → List ℤ → List ℤ → List ℕ
 treesText m k pins macros = treeText m k (pos (pathsTotal pins macros)) (pos (laidTotal pins macros)) (laidOf pins macros)
 
 -- P4: the text by the answer of a read that takes these lists, one line where it is refused
-unfoldable pub answerText : Told (ℕ × ℕ) → List ℤ → List ℤ → List ℕ
+unfoldable pub answerText : Told Counts → List ℤ → List ℤ → List ℕ
 answerText (refused n) pins macros = refusedText (pos n)
-answerText (given net) pins macros = treesText (net .0) (net .1) pins macros
+answerText (given net) pins macros = treesText (net .pins) (net .macros) pins macros
 
 -- P1: the text for the bytes of a file, read as a net file
 unfoldable pub routeText : List ℕ → List ℕ

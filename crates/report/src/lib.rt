@@ -11,6 +11,7 @@ ghost use lib.IntN.{pos, natAbs};
 ghost use lib.ListN.{length};
 ghost use Rattle.lent.specs.Told.{given};
 ghost use Rattle.lent.specs.Entries.{flat, entries};
+ghost use Rattle.plane.specs.Distance.{distance};
 ghost use Rattle.net.specs.Pins.{pinCount, macroCount};
 ghost use Rattle.net.specs.Check.{checked, countsOf};
 ghost use Rattle.graph.specs.Numbers.{edgeFrom};
@@ -114,6 +115,13 @@ fn put_place(out: &mut [u8], at: usize, p: Place) -> usize
     put_coordinate(&mut *out, next, p.y)
 }
 
+// How much metal lies between two places, as a number to print.
+fn length(a: Place, b: Place) -> i64
+    ensures { λ r. ⌜ r ≡ pos (distance a b) ⌝ }
+{
+    plane::distance(a, b) as i64
+}
+
 // The line of an edge: its places and its length.
 fn put_edge(out: &mut [u8], at: usize, a: Place, b: Place) -> usize
     requires { ⌜ at + 105 ≤ length (now out) ⌝ }
@@ -122,7 +130,7 @@ fn put_edge(out: &mut [u8], at: usize, a: Place, b: Place) -> usize
 {
     let second = put_place(&mut *out, at, a);
     let third = put_place(&mut *out, second, b);
-    put_number(&mut *out, third, plane::distance(a, b), b'\n')
+    put_number(&mut *out, third, length(a, b), b'\n')
 }
 
 // The lines of the first `count` edges of a flat list.
@@ -230,8 +238,8 @@ fn refined_text(pins: &[i32], macros: &[i32], terminal: i64, out: &mut [u8; TEXT
     let answer = router::refined_tree(pins, macros, &mut edges);
     match answer {
         Tree::Given(count, total) => tree(
-            pins.len() / 2,
-            macros.len() / 4,
+            net::pin_count(pins),
+            net::macro_count(macros),
             terminal,
             total,
             &edges,
@@ -266,8 +274,8 @@ pub fn route(file: &[u8], out: &mut [u8; TEXT]) -> usize
     let answer = router::read_file(file, &mut pins, &mut macros);
     match answer {
         Checked::Allowed(net) => {
-            let m = net.pins * 2;
-            let k = net.macros * 4;
+            let m = net.pins * Net::PIN_NUMBERS;
+            let k = net.macros * Net::MACRO_NUMBERS;
             trees_text(&pins[..m], &macros[..k], out)
         }
         Checked::Refused(refusal) => refused(refusal.number(), out),

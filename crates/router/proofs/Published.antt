@@ -1,19 +1,15 @@
 -- What is promised of an allowed net, from the check alone.
 -- Assumes nothing.
-use mathlib.Core.Path.{_≡_, refl, sym, ap, ap₂, _∙_}
+use mathlib.Core.Path.{_≡_, refl, sym, ap, _∙_}
 use mathlib.Core.List.{List, [], _∷_, _++_}
 use Prim.Native.Nat.{ℕ, _+_, _*_}
 use native.Mathlib.Omega.{arith}
 use borrow.Author.Tests.{le-ltb}
 use lib.IntN.{ℤ, pos}
 use lib.ListN.{length}
-use Rattle.lists.specs.Total.{total}
 use Rattle.lists.proofs.TestLaws.{or-neither}
 use Rattle.lent.specs.Told.{given}
 use Rattle.lent.specs.Entries.{flat}
-use Rattle.joined.specs.Cost.{lengths}
-use Rattle.plane.specs.Distance.{distance}
-use Rattle.plane.specs.Cost.{cost, plain}
 use Rattle.plane.specs.Flat.{macrosOf}
 use Rattle.plane.proofs.CostLaws.{cost-plain}
 use Rattle.net.specs.Pins.{pinCount}
@@ -35,18 +31,13 @@ use Rattle.router.specs.Refined.{refinedOf, edgesIn, totalIn, laidOf, la
 use Rattle.router.specs.Refined.{wiresOf, wiresGiven, wired}
 use Rattle.router.specs.Published.{Promised}
 use Rattle.router.proofs.AnswerLaws.{only-given, room-enough}
+use Rattle.router.proofs.RefinedLaws.{length-plain}
 use Rattle.router.proofs.GraphAnswer.{graphed-allowed, graph-fits}
 
 wires-flat : (es : List Edge) → wires es ≡ flat wiresOfEdge es
 unfolding wires flat
 wires-flat [] = refl
 wires-flat (e ∷ es) = ap (λ (l : List Edge). wiresOfEdge e ++ l) (wires-flat es)
-
--- with weights 1 and 1 costs are lengths
-length-plain : (es : List Edge) → lengths (cost plain) es ≡ lengths distance es
-unfolding lengths total
-length-plain [] = refl
-length-plain (e ∷ es) = ap₂ _+_ (cost-plain (e .0) (e .1)) (length-plain es)
 
 pub promised : (pins macros : List ℤ) {net : Counts} → checked pins macros ≡ given net → Promised pins macros
 unfolding netVertices netEdges pathsOf pathsTotal refinedOf edgesIn totalIn terminalTree terminalGiven refinedTree refinedGiven wired

@@ -1,11 +1,16 @@
 -- The refiner's answer reads as the definition's edges, and its total fits.
 -- Assumes nothing.
-use mathlib.Core.Path.{_≡_, sym, ap, _∙_}
-use mathlib.Core.List.{List}
+use mathlib.Core.Path.{_≡_, refl, sym, ap, ap₂, _∙_}
+use mathlib.Core.List.{List, [], _∷_}
 use Prim.Native.Nat.{ℕ, _+_, _*_, _≤_, _<_}
 use native.Mathlib.Omega.{arith}
 use lib.IntN.{ℤ}
 use lib.ListN.{length}
+use Rattle.lists.specs.Total.{total}
+use Rattle.plane.specs.declared.Place.{Place}
+use Rattle.plane.specs.Distance.{distance}
+use Rattle.plane.specs.Cost.{cost, plain}
+use Rattle.plane.proofs.CostLaws.{cost-plain}
 use Rattle.joined.specs.Cost.{lengths}
 use Rattle.net.specs.Net.{Net, costIn}
 use Rattle.net.specs.Allowed.{Allowed}
@@ -23,6 +28,12 @@ use Rattle.refiner.proofs.RoundSound.{total-of}
 use Rattle.rules.proofs.BestLaws.{paths-total}
 use Rattle.rules.proofs.RefinedOurs.{refined-tree}
 use Rattle.router.specs.Refined.{refinedOf, edgesIn, totalIn}
+
+-- with weights 1 and 1 costs are lengths
+pub length-plain : (es : List (Place × Place)) → lengths (cost plain) es ≡ lengths distance es
+unfolding lengths total
+length-plain [] = refl
+length-plain (e ∷ es) = ap₂ _+_ (cost-plain (e .0) (e .1)) (length-plain es)
 
 module _ {net : Net} (a : Allowed net) where
   -- it fits 63 bits

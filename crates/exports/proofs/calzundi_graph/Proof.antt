@@ -1,14 +1,12 @@
 -- `exports::calzundi_graph` meets its contract: each arm passes on what the router's answer says, and its two counts.
 -- Assumes nothing.
-use mathlib.Core.Path.{sym, ap, _∙_}
-use Prim.Native.Nat.{ℕ}
-use lib.IntN.{pos}
-use denote.Ref.{now}
+use mathlib.Core.Path.{_∙_}
 use mir.Syntax.{w32}
 use mir.ValLaws.{toZ-ofZ}
-use Rattle.lent.specs.Told.{Told, code}
+use Rattle.lent.specs.Told.{code}
 use Rattle.lent.specs.Over.{valueAfter}
 use Rattle.router.specs.Graph.{toldGraph}
+use Rattle.exports.proofs.HandedLaws.{code-handed, both-handed}
 use borrow.Author.Needs.{needs}
 use Rattle.exports.proofs.calzundi_graph.Statement.{statement}
 use Rattle.exports.proofs.calzundi_graph.Tie as tie
@@ -35,19 +33,10 @@ returns : tie.Need-returns
 unfolding code valueAfter toldGraph
 returns c =
     let d = c .before .before .before .before .before in
-    let s = d .before .before .before in
-    let e = sym (ap toldGraph (c .before .answer .given .1)) ∙ d .graph .ensures .answer in (
-      ap (λ (t : Told (ℕ × ℕ)). pos (code t)) e,
-      (
-        d .graph .ensures .first,
-        (
-          d .graph .ensures .second,
-          (
-            ap (λ (t : Told (ℕ × ℕ)). valueAfter (λ counts. counts .0) t (now (s .args .v))) e,
-            ap (λ (t : Told (ℕ × ℕ)). valueAfter (λ counts. counts .1) t (now (s .args .e))) e,
-          ),
-        ),
-      ),
+    let g = d .graph .ensures in
+    let i = c .before .answer .given .1 in (
+      code-handed toldGraph (g .answer) i,
+      (g .first, (g .second, both-handed toldGraph (g .answer) i (λ counts. counts .0) (λ counts. counts .1) _ _)),
     )
 
 same-length-3 : tie.Need-same-length-3
@@ -61,19 +50,10 @@ unfolding code valueAfter toldGraph
 returns-2 c =
     let a = c .before .before in
     let d = a .before .before .before .before in
-    let s = d .before .before .before in
-    let e = sym (ap toldGraph (a .answer2 .given .1)) ∙ d .graph .ensures .answer in (
-      toZ-ofZ w32 _ (search needs) ∙ c .number .ensures ∙ ap (λ (t : Told (ℕ × ℕ)). pos (code t)) e,
-      (
-        d .graph .ensures .first,
-        (
-          d .graph .ensures .second,
-          (
-            ap (λ (t : Told (ℕ × ℕ)). valueAfter (λ counts. counts .0) t (now (s .args .v))) e,
-            ap (λ (t : Told (ℕ × ℕ)). valueAfter (λ counts. counts .1) t (now (s .args .e))) e,
-          ),
-        ),
-      ),
+    let g = d .graph .ensures in
+    let i = a .answer2 .given .1 in (
+      toZ-ofZ w32 _ (search needs) ∙ c .number .ensures ∙ code-handed toldGraph (g .answer) i,
+      (g .first, (g .second, both-handed toldGraph (g .answer) i (λ counts. counts .0) (λ counts. counts .1) _ _)),
     )
 
 pub calzundi-graph-spec : {M : Type 1} → statement M

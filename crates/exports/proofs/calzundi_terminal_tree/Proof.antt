@@ -1,14 +1,10 @@
 -- `exports::calzundi_terminal_tree` meets its contract: each arm passes on what the router's answer says, its count and its total.
 -- Assumes nothing.
-use mathlib.Core.Path.{sym, ap, _∙_}
-use Prim.Native.Nat.{ℕ}
-use lib.IntN.{ℤ, pos}
+use mathlib.Core.Path.{_∙_}
 use denote.Ref.{now}
 use mir.Syntax.{w32, w64}
 use mir.ValLaws.{toZ-ofZ}
-use Rattle.lent.specs.Told.{Told, code}
-use Rattle.lent.specs.Over.{valueAfter}
-use Rattle.router.specs.Terminal.{toldTree}
+use Rattle.exports.proofs.HandedLaws.{tree-given, tree-refused}
 use borrow.Author.Needs.{needs}
 use Rattle.exports.proofs.calzundi_terminal_tree.Statement.{statement}
 use Rattle.exports.proofs.calzundi_terminal_tree.Tie as tie
@@ -29,40 +25,21 @@ same-length : tie.Need-same-length
 same-length c = search needs
 
 returns : tie.Need-returns
-unfolding code valueAfter toldTree
 returns c =
     let d = c .before .before .before .before in
-    let s = d .before .before in
-    let e = sym (ap toldTree (c .before .answer .given .1)) ∙ d .terminal-tree .ensures .answer in (
-      ap (λ (t : Told (ℕ × ℤ)). pos (code t)) e,
-      (
-        d .terminal-tree .ensures .list,
-        (
-          ap (λ (t : Told (ℕ × ℤ)). valueAfter (λ tree. tree .0) t (now (s .args .count))) e,
-          toZ-ofZ w64 _ (search needs) ∙ ap (λ (t : Told (ℕ × ℤ)). valueAfter (λ tree. tree .1) t (now (s .args .total))) e,
-        ),
-      ),
-    )
+    let s = d .before .before .args in
+    tree-given (d .terminal-tree .ensures) (now (s .count)) (now (s .total)) (c .before .answer .given .1) (toZ-ofZ w64 _ (search needs))
 
 same-length-2 : tie.Need-same-length-2
 same-length-2 c = search needs
 
 returns-2 : tie.Need-returns-2
-unfolding code valueAfter toldTree
 returns-2 c =
     let a = c .before .before in
     let d = a .before .before .before in
-    let s = d .before .before in
-    let e = sym (ap toldTree (a .answer2 .given .1)) ∙ d .terminal-tree .ensures .answer in (
-      toZ-ofZ w32 _ (search needs) ∙ c .number .ensures ∙ ap (λ (t : Told (ℕ × ℤ)). pos (code t)) e,
-      (
-        d .terminal-tree .ensures .list,
-        (
-          ap (λ (t : Told (ℕ × ℤ)). valueAfter (λ tree. tree .0) t (now (s .args .count))) e,
-          ap (λ (t : Told (ℕ × ℤ)). valueAfter (λ tree. tree .1) t (now (s .args .total))) e,
-        ),
-      ),
-    )
+    let s = d .before .before .args in
+    tree-refused (d .terminal-tree .ensures) (now (s .count)) (now (s .total)) (a .answer2 .given .1)
+    (toZ-ofZ w32 _ (search needs) ∙ c .number .ensures)
 
 pub calzundi-terminal-tree-spec : {M : Type 1} → statement M
 calzundi-terminal-tree-spec =

@@ -1,14 +1,12 @@
 -- `exports::calzundi_write_file` meets its contract: each arm passes on what the router's answer says, and its count.
 -- Assumes nothing.
-use mathlib.Core.Path.{sym, ap, _∙_}
-use Prim.Native.Nat.{ℕ}
-use lib.IntN.{pos}
-use denote.Ref.{now}
+use mathlib.Core.Path.{_∙_}
 use mir.Syntax.{w32}
 use mir.ValLaws.{toZ-ofZ}
-use Rattle.lent.specs.Told.{Told, code}
+use Rattle.lent.specs.Told.{code}
 use Rattle.lent.specs.Over.{valueAfter}
 use Rattle.netfile.specs.Write.{toldBytes}
+use Rattle.exports.proofs.HandedLaws.{code-handed, value-handed}
 use borrow.Author.Needs.{needs}
 use Rattle.exports.proofs.calzundi_write_file.Statement.{statement}
 use Rattle.exports.proofs.calzundi_write_file.Tie as tie
@@ -32,10 +30,10 @@ returns : tie.Need-returns
 unfolding code valueAfter toldBytes
 returns c =
     let d = c .before .before .before .before .before in
-    let s = d .before .before .before in
-    let e = sym (ap toldBytes (c .before .answer .given .1)) ∙ d .write-file .ensures .answer in (
-      ap (λ (t : Told ℕ). pos (code t)) e,
-      (d .write-file .ensures .list, ap (λ (t : Told ℕ). valueAfter (λ n. n) t (now (s .args .given))) e),
+    let g = d .write-file .ensures in
+    let i = c .before .answer .given .1 in (
+      code-handed toldBytes (g .answer) i,
+      (g .list, value-handed toldBytes (g .answer) i (λ n. n) _),
     )
 
 same-length-2 : tie.Need-same-length-2
@@ -46,10 +44,10 @@ unfolding code valueAfter toldBytes
 returns-2 c =
     let a = c .before .before in
     let d = a .before .before .before .before in
-    let s = d .before .before .before in
-    let e = sym (ap toldBytes (a .answer2 .given .1)) ∙ d .write-file .ensures .answer in (
-      toZ-ofZ w32 _ (search needs) ∙ c .number .ensures ∙ ap (λ (t : Told ℕ). pos (code t)) e,
-      (d .write-file .ensures .list, ap (λ (t : Told ℕ). valueAfter (λ n. n) t (now (s .args .given))) e),
+    let g = d .write-file .ensures in
+    let i = a .answer2 .given .1 in (
+      toZ-ofZ w32 _ (search needs) ∙ c .number .ensures ∙ code-handed toldBytes (g .answer) i,
+      (g .list, value-handed toldBytes (g .answer) i (λ n. n) _),
     )
 
 pub calzundi-write-file-spec : {M : Type 1} → statement M

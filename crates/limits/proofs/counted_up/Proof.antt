@@ -1,17 +1,21 @@
 -- `limits::counted_up` is safe and ends, and its table keeps its length: the index stays below it, and fits an i32.
 -- Assumes nothing.
 use mathlib.Core.Path.{_≡_, refl}
-use Prim.Native.Nat.{_≤_, _-_}
+use Prim.Native.Nat.{ℕ, _+_, _*_, _-_, _≤_}
 use native.Mathlib.Omega.{arith}
 use lib.ListN.{length, length-set}
+use Rattle.net.specs.Bounds.{macroBound, macroWidth}
 use Rattle.limits.proofs.counted_up.Statement.{statement}
 use Rattle.limits.proofs.counted_up.Tie as tie
 
+abbrev many : ℕ
+many = (macroBound + 1) * macroWidth
+
 abbrev Inv-loop : tie.InvT-loop
-Inv-loop numbers₀ i₀ numbers i = (i ≤ 260) × (260 ≡ length numbers)
+Inv-loop numbers₀ i₀ numbers i = (i ≤ many) × (many ≡ length numbers)
 
 abbrev μ-loop : tie.MeasureT-loop
-μ-loop numbers₀ i₀ numbers i = 260 - i
+μ-loop numbers₀ i₀ numbers i = many - i
 
 loop-holds : tie.Need-loop-holds Inv-loop μ-loop
 loop-holds c = (omega arith, refl)

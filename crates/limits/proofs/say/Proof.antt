@@ -35,8 +35,9 @@ number-requires c κs = search needs
 
 cast-print-decimal : tie.Need-cast-print-decimal
 cast-print-decimal c =
-    let small = number-bounds (c .before .before .before .before .answer .given .0 .0) in
-    let is : toZ w32 (ofZ w32 (c .number .result)) ≡ pos (number (c .before .before .before .before .answer .given .0 .0)) = toZ-ofZ w32 _ (search needs) ∙ c .number .ensures in
+    let refusal = c .before .before .before .before .answer .given .0 .0 in
+    let small = number-bounds refusal in
+    let is : toZ w32 (ofZ w32 (c .number .result)) ≡ pos (number refusal) = toZ-ofZ w32 _ (search needs) ∙ c .number .ensures in
     rw is (tt, record { fits = omega arith })
 
 print-decimal-requires : tie.Need-print-decimal-requires

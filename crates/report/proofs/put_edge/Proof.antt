@@ -1,11 +1,10 @@
--- `report::put_edge` meets its contract: two places, and their distance with the line's end behind it.
+-- `report::put_edge` meets its contract: two places, and the length between them with the line's end behind it.
 -- Assumes nothing.
 use mathlib.Core.Path.{ap, _∙_}
 use native.Mathlib.Omega.{arith}
 use lib.IntN.{ℤ}
 use mir.Syntax.{w64}
 use mir.ValLaws.{toZ-ofZ}
-use Rattle.plane.specs.Distance.{distance}
 use Rattle.report.specs.Text.{newline}
 use Rattle.report.proofs.PutLaws.{put-then, put-as}
 use Rattle.report.proofs.LineLaws.{number, edge-line}
@@ -19,8 +18,8 @@ put-place-requires c κs = search needs
 put-place-requires-2 : tie.Need-put-place-requires-2
 put-place-requires-2 c κs = search needs
 
-distance-requires : tie.Need-distance-requires
-distance-requires c κs = search needs
+length-requires : tie.Need-length-requires
+length-requires c κs = search needs
 
 put-number-requires : tie.Need-put-number-requires
 put-number-requires c κs = search needs
@@ -34,7 +33,7 @@ returns c =
     let q = n .before .before .before .before .before in
     let p = q .before .before .before .before in
     let s = p .before .before .before in
-    let d = toZ-ofZ w64 _ (search needs) ∙ n .before .distance .ensures in
+    let d = toZ-ofZ w64 _ (search needs) ∙ n .before .length .ensures in
     let l = put-as (ap (λ (z : ℤ). number z newline) d) (n .put-number .ensures .0) in (
       put-as (edge-line (s .args .a) (s .args .b)) (put-then (put-then (p .put-place .ensures .0) (q .put-place2 .ensures .0)) l),
       omega (arith, p .put-place .ensures .1, q .put-place2 .ensures .1, n .put-number .ensures .1),
@@ -46,7 +45,7 @@ put-edge-spec =
     (tie.spec
     put-place-requires
     put-place-requires-2
-    distance-requires
+    length-requires
     put-number-requires
     same-length
     returns)

@@ -62,12 +62,18 @@ refined-tree-requires c κs = search needs
 enum-known-answer : tie.Need-enum-known-answer
 enum-known-answer c = search needs
 
+pin-count-requires : tie.Need-pin-count-requires
+pin-count-requires c κs = search needs
+
+macro-count-requires : tie.Need-macro-count-requires
+macro-count-requires c κs = search needs
+
 slice-aggregate-tree : tie.Need-slice-aggregate-tree
 slice-aggregate-tree c = search needs
 
 tree-requires : tie.Need-tree-requires
 tree-requires c κs =
-    let a = c .before .before .before in
+    let a = c .before .before .before .before .before in
     let r = a .before .before .before in
     let f = edges-fit _ _ _ (a .answer .given .0 .0) (table r) (given-is a .0) in
     (omega (arith, f, r .refined-tree .kept .1 .1 .0), f)
@@ -83,12 +89,14 @@ refused-requires c κs = search needs
 
 returns : tie.Need-returns
 returns c =
-    let a = c .before .before .before .before in
+    let k = c .before .before .before in
+    let t = k .before .before in
+    let a = t .before in
     let r = a .before .before .before in
     let s = r .before .before in
     filled-as
-    (same-text _ _ (toZ-ofZ w64 _ (s .fits .terminal))
-    (toZ-ofZ w64 _ (fits (c .before .before .before)) ∙ given-is a .1) (edges-back _ _ _ _ (table r) (given-is a .0)))
+    (same-text (k .before .pin-count .ensures) (k .macro-count .ensures) (toZ-ofZ w64 _ (s .fits .terminal))
+    (toZ-ofZ w64 _ (fits t) ∙ given-is a .1) (edges-back _ _ _ _ (table r) (given-is a .0)))
     (c .tree .ensures)
 
 returns-2 : tie.Need-returns-2
@@ -104,6 +112,8 @@ refined-text-spec =
     slice-aggregate-refined-tree
     refined-tree-requires
     enum-known-answer
+    pin-count-requires
+    macro-count-requires
     slice-aggregate-tree
     tree-requires
     enum-known-answer-2

@@ -3,7 +3,7 @@
 -- Assumes nothing.
 use mathlib.Core.Path.{_≡_, sym, ap, ap₂, _∙_}
 use mathlib.Core.List.{List}
-use Prim.Native.Nat.{ℕ, _*_}
+use Prim.Native.Nat.{_*_}
 use native.Mathlib.Omega.{arith}
 use lib.IntN.{ℤ}
 use lib.ListN.{length, take}
@@ -12,7 +12,10 @@ use mir.ValLaws.{toZ-ofZ}
 use denote.Ref.{now}
 use Rattle.lent.specs.Told.{given}
 use Rattle.lent.proofs.AfterLaws.{after-given}
-use Rattle.net.specs.Check.{pinCount, macroCount, told}
+use Rattle.net.specs.declared.Net.{Net as Counts}
+use Rattle.net.specs.Bounds.{pinWidth, macroWidth}
+use Rattle.net.specs.Pins.{pinCount, macroCount}
+use Rattle.net.specs.Check.{told}
 use Rattle.netfile.specs.Sizes.{pinListBound, macroListBound}
 use Rattle.netfile.specs.Read.{pinsIn, macrosIn, readFile}
 use Rattle.report.specs.Text.{refusedText}
@@ -28,25 +31,27 @@ start c = c .before .before .before .before .before .before .before .before
 
 -- the answer of the read, and the lists that it took
 read : (c : tie.After-answer) → readFile (now (start c .args .file)) pinListBound macroListBound
-    ≡ given (c .answer .given .0 .0 .pins, c .answer .given .0 .0 .macros)
+    ≡ given (c .answer .given .0 .0)
 unfolding told
 read c = sym (c .before .before .before .before .read-file .ensures .answer) ∙ ap told (c .answer .given .1)
 
 net : (c : tie.After-answer) → Counted (pinsIn (now (start c .args .file))) (macrosIn (now (start c .args .file)))
 net c = lists _ _ (read c)
 
-pin-numbers : (c : tie.After-answer) → c .answer .given .0 .0 .pins * 2 ≡ length (pinsIn (now (start c .args .file)))
-pin-numbers c = omega (arith, ap (λ (v : ℕ × ℕ). v .0) (net-is _ _ (read c)), net c .pin-numbers)
+pin-numbers : (c : tie.After-answer) → c .answer .given .0 .0 .pins * pinWidth ≡ length (pinsIn (now (start c .args .file)))
+pin-numbers c = omega (arith, ap (λ (v : Counts). v .pins) (net-is _ _ (read c)), net c .pin-numbers)
 
-macro-numbers : (c : tie.After-answer) → c .answer .given .0 .0 .macros * 4 ≡ length (macrosIn (now (start c .args .file)))
-macro-numbers c = omega (arith, ap (λ (v : ℕ × ℕ). v .1) (net-is _ _ (read c)), net c .macro-numbers)
+macro-numbers : (c : tie.After-answer) → c .answer .given .0 .0 .macros * macroWidth ≡ length (macrosIn (now (start c .args .file)))
+macro-numbers c = omega (arith, ap (λ (v : Counts). v .macros) (net-is _ _ (read c)), net c .macro-numbers)
 
-pin-list : (c : tie.After-answer) → take (c .answer .given .0 .0 .pins * 2) (c .before .before .before .before .read-file .last .1 .0)
+pin-list : (c : tie.After-answer)
+    → take (c .answer .given .0 .0 .pins * pinWidth) (c .before .before .before .before .read-file .last .1 .0)
     ≡ pinsIn (now (start c .args .file))
 pin-list c =
     front _ _ _ _ (c .before .before .before .before .read-file .ensures .first ∙ sym (after-given _ _ _ _ (read c))) (pin-numbers c)
 
-macro-list : (c : tie.After-answer) → take (c .answer .given .0 .0 .macros * 4) (c .before .before .before .before .read-file .last .1 .1 .0)
+macro-list : (c : tie.After-answer)
+    → take (c .answer .given .0 .0 .macros * macroWidth) (c .before .before .before .before .read-file .last .1 .1 .0)
     ≡ macrosIn (now (start c .args .file))
 macro-list c =
     front _ _ _ _ (c .before .before .before .before .read-file .ensures .second ∙ sym (after-given _ _ _ _ (read c))) (macro-numbers c)
@@ -115,7 +120,8 @@ returns-2 c =
     let a = n .before .before in
     let r = a .before .before .before .before in
     let e = toZ-ofZ w32 _ (search needs) ∙ n .number .ensures in
-    filled-as (ap refusedText e ∙ route-refused _ _ (sym (r .read-file .ensures .answer) ∙ ap told (a .answer2 .given .1))) (c .refused .ensures)
+    let f = sym (r .read-file .ensures .answer) ∙ ap told (a .answer2 .given .1) in
+    filled-as (ap refusedText e ∙ route-refused _ _ f) (c .refused .ensures)
 
 pub route-spec : {M : Type 1} → statement M
 route-spec =

@@ -50,7 +50,7 @@ returns c =
     let a = c .before .before .before in
     let t = a .before .before .before in
     let v = same-parts _ _ _ _ (sym (ap toldTree (a .answer .given .1)) ∙ answer t) in
-    filled-as (same-text _ _ (toZ-ofZ w64 _ (search needs) ∙ v .1) refl refl) (c .refined-text .ensures)
+    filled-as (same-text refl refl (toZ-ofZ w64 _ (search needs) ∙ v .1) refl refl) (c .refined-text .ensures)
 
 returns-2 : tie.Need-returns-2
 unfolding toldTree
