@@ -19,6 +19,7 @@ use Rattle.lent.specs.Over.{after}
 use Rattle.lent.specs.Entries.{flat}
 use Rattle.lent.proofs.AfterLaws.{after-refused}
 use Rattle.joined.specs.Cost.{lengths}
+use Rattle.plane.specs.Distance.{distance}
 use Rattle.plane.specs.Cost.{cost, plain}
 use Rattle.plane.specs.Flat.{macrosOf}
 use Rattle.plane.proofs.PlaceOrder.{place-order}
