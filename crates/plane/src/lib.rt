@@ -4,7 +4,7 @@
 ghost use mathlib.Core.Path.{_≡_};
 ghost use Prim.Native.Nat.{_+_, _*_, _≤_, _^_, _<_};
 ghost use lib.IntN.{pos, _-ℤ_, natAbs};
-ghost use lib.ListN.{length, set};
+ghost use lib.ListN.{length};
 ghost use lib.Seq.{sets};
 ghost use Rattle.plane.specs.Place.{before, samePlace};
 ghost use Rattle.plane.specs.Distance.{apart, distance};

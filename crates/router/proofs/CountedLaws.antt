@@ -52,7 +52,8 @@ module _ {n : Counts} {pins macros : List ℤ} (c : Counted n pins macros) where
   points-few = omega (arith, c .allowed .few-pins, length-pins pins, c .allowed .few-macros, length-macros macros)
 
   -- what is worked out for these weights
-  pub as-worked : {lent t : Tables} {r : TerminalTree} → Worked (netWith (n .weights) pins macros) lent t r → Worked (netOf pins macros) lent t r
+  pub as-worked : {lent t : Tables} {r : TerminalTree} → Worked (netWith (n .weights) pins macros) lent t r →
+      Worked (netOf pins macros) lent t r
   as-worked {lent} {t} {r} w = subst (λ (z : Net). Worked z lent t r) as-net w
 
   pub as-answer : {pts : List ℤ} {ks : List ℕ} {r : Refined}

@@ -15,12 +15,10 @@ use Rattle.lists.proofs.MemberLaws.{getD-in}
 use Rattle.lists.proofs.MapLaws.{of-map, getD-map}
 use Rattle.lent.specs.Over.{over}
 use Rattle.plane.specs.declared.Place.{Place}
-use Rattle.plane.specs.declared.Macro.{Macro}
 use Rattle.plane.specs.Place.{place}
 use Rattle.net.specs.Allowed.{Allowed}
 use Rattle.net.specs.Net.{Net}
 use Rattle.graph.specs.Spanning.{verticesOf, spanning}
-use Rattle.graph.specs.Vertices.{vertices}
 use Rattle.graph.specs.Numbers.{edgeFrom}
 use Rattle.graph.proofs.VertexLaws.{pin-vertex, vertices-ascending}
 use Rattle.graph.proofs.GraphBounds.{few-vertices, few-edges}
@@ -103,7 +101,8 @@ total-le b [] h = omega arith
 total-le b (x ∷ l) h = omega (arith, h x (here refl), total-le b l (λ y m. h y (there m)), suc-mul (length l) b)
 
 module _ {net : Net} (a : Allowed net) where
-  pins-below : (m : ℕ) → m ≡ length (pinNumbers (verticesOf net) (net .pins)) → FirstBelow (pinNumbers (verticesOf net) (net .pins)) m pointBound
+  pins-below : (m : ℕ) → m ≡ length (pinNumbers (verticesOf net) (net .pins)) →
+      FirstBelow (pinNumbers (verticesOf net) (net .pins)) m pointBound
   pins-below m e = record {
     inside = λ i h.
         (let j : i < length (pinNumbers (verticesOf net) (net .pins)) = omega (arith, e, h) in

@@ -13,7 +13,6 @@ use Rattle.lent.specs.Entries.{flat, entries}
 use Rattle.lent.proofs.OverLaws.{length-over}
 use Rattle.lent.proofs.EntryTable.{length-flat, entries-over}
 use Rattle.plane.specs.declared.Place.{Place}
-use Rattle.plane.specs.declared.Macro.{Macro}
 use Rattle.plane.specs.Place.{before}
 use Rattle.plane.specs.Flat.{macrosOf, placeFrom}
 use Rattle.plane.specs.Cost.{plain}

@@ -15,7 +15,6 @@ use Rattle.net.specs.Net.{Net}
 use Rattle.graph.specs.Spanning.{verticesOf}
 use Rattle.graph.specs.Vertices.{vertices}
 use Rattle.graph.proofs.GraphBounds.{few-vertices}
-use Rattle.forest.specs.Bounds.{pointBound}
 use Rattle.forest.specs.Edges.{Graph, graph, entries}
 use Rattle.forest.specs.Labels.{Labels, labelled}
 use Rattle.forest.specs.Parents.{Parents, parents}
