@@ -31,12 +31,12 @@
  * What the caller sees to
  *
  *   null       A list or a lent space with a count of 0 may be null, or any other address: it is not followed, and the call answers as
- *              for an empty one. No other pointer is null; those to counts and totals never are, whatever the answer.
+ *              for an empty one. No other pointer is null; those to counts, totals and the charge never are, whatever the answer.
  *   length     Behind every other pointer stands as much as its count says. Nothing past it is touched, and lists are only read. What
  *              lent space held before does not matter.
  *   alignment  Every other pointer is aligned for its type: 4 bytes for int32_t, 8 for int64_t, uint64_t and size_t, 1 for bytes. One that
  *              is not is outside what is proved, also where x86-64 lets it pass.
- *   overlap    What is lent to be written, counts and totals included, overlaps nothing else that is handed over. Lists may overlap each
+ *   overlap    What is lent to be written, counts, totals and the charge included, overlaps nothing else that is handed over. Lists may overlap each
  *              other.
  *   threads    While a call runs, nobody else writes its lists, and nobody else reads or writes what is lent to it. Calls at the same
  *              time, also on the same lists, do not disturb each other, since the library keeps no state.

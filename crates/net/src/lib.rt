@@ -33,7 +33,7 @@ pub struct Net {
 
 // The bounds of pins, macros, coordinates and weights, and how many numbers a pin and a macro have, are literals; the others follow.
 impl Net {
-    // Numbers of a pin in the list of pins: its x and y. Nothing above this crate knows.
+    // Numbers of a pin in the list of pins: its x and y. Above this crate it has only this name.
     pub const PIN_NUMBERS: usize = 2;
 
     // Numbers of a macro in the list of macros: left, bottom, right, top.

@@ -17,7 +17,7 @@ use Rattle.lent.proofs.AfterLaws.{told-apart}
 use Rattle.price.specs.declared.Band.{Band}
 use Rattle.price.specs.Band.{bandsOf}
 use Rattle.price.specs.Charge.{charge, reaches, byFirst}
-use Rattle.price.specs.Order.{NeverFalling, Kept}
+use Rattle.price.specs.Order.{NeverFalling, WellKept}
 use Rattle.price.specs.Price.{bandsMiscounted, rateAbove, priced}
 use Rattle.price.proofs.ChargeLaws.{charge-rises}
 use Rattle.price.proofs.FirstLaws.{first-hit, first-miss, first-end}
@@ -72,5 +72,5 @@ module _ {m n : ℕ} (more : m ≤ n) where
       (λ u. first-rises (bandsOf s) never (sym (price-first m s t u) ∙ e) (sym (price-first n s t u) ∙ f)))
 
   -- with the premise as document 02 has it
-  pub longer-never-less : {h k : ℕ} (s : List ℕ) → Kept (bandsOf s) → priced m s ≡ given h → priced n s ≡ given k → h ≤ k
+  pub longer-never-less : {h k : ℕ} (s : List ℕ) → WellKept (bandsOf s) → priced m s ≡ given h → priced n s ≡ given k → h ≤ k
   longer-never-less s kept = longer-by-rates s (kept .never-falling)

@@ -11,7 +11,7 @@ use lib.Dec.{ltb}
 use Rattle.lists.specs.Member.{_∈_, here, there}
 use Rattle.lists.proofs.TestLaws.{or-none, or-neither}
 use Rattle.price.specs.declared.Band.{Band}
-use Rattle.price.specs.Order.{Kept, stepsBack, fallsAfter, fallsBack}
+use Rattle.price.specs.Order.{WellKept, stepsBack, fallsAfter, fallsBack}
 
 -- the band c does not fall back from b
 pub record Onward (b c : Band) : Type 0 where
@@ -45,7 +45,7 @@ all-onward b (d ∷ ds) e c (there m) =
     let far = all-onward d ds (r .1) c m in
     record { limit = omega (arith, near .limit, far .limit); rate = omega (arith, near .rate, far .rate) }
 
-kept-after : (b : Band) (bs : List Band) → fallsAfter b bs ≡ false → Kept (b ∷ bs)
+kept-after : (b : Band) (bs : List Band) → fallsAfter b bs ≡ false → WellKept (b ∷ bs)
 unfolding fallsAfter
 kept-after b [] e =
     record { rising = (λ c m. absurd (List·Memᴰ·not-nil m), tt); never-falling = (λ c m. absurd (List·Memᴰ·not-nil m), tt) }
@@ -56,12 +56,12 @@ kept-after b (d ∷ ds) e =
       never-falling = (λ c m. all-onward b (d ∷ ds) e c m .rate, further .never-falling);
     }
 
-pub kept : (bs : List Band) → fallsBack bs ≡ false → Kept bs
+pub kept : (bs : List Band) → fallsBack bs ≡ false → WellKept bs
 unfolding fallsBack
 kept [] e = record { rising = tt; never-falling = tt }
 kept (b ∷ bs) e = kept-after b bs e
 
-after-kept : (b : Band) (bs : List Band) → Kept (b ∷ bs) → fallsAfter b bs ≡ false
+after-kept : (b : Band) (bs : List Band) → WellKept (b ∷ bs) → fallsAfter b bs ≡ false
 unfolding fallsAfter
 after-kept b [] k = refl
 after-kept b (d ∷ ds) k =
@@ -69,7 +69,7 @@ after-kept b (d ∷ ds) k =
     (not-back b d (record { limit = k .rising .0 d (here refl); rate = k .never-falling .0 d (here refl) }))
     (after-kept d ds (record { rising = k .rising .1; never-falling = k .never-falling .1 }))
 
-pub not-back-kept : (bs : List Band) → Kept bs → fallsBack bs ≡ false
+pub not-back-kept : (bs : List Band) → WellKept bs → fallsBack bs ≡ false
 unfolding fallsBack
 not-back-kept [] k = refl
 not-back-kept (b ∷ bs) k = after-kept b bs k

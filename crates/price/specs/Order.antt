@@ -17,7 +17,7 @@ NeverFalling [] = Unit {0}
 NeverFalling (b ∷ bs) = ((c : Band) → c ∈ bs → b .rate ≤ c .rate) × NeverFalling bs
 
 -- B5: the condition on a list
-pub record Kept (bs : List Band) : Type 0 where
+pub record WellKept (bs : List Band) : Type 0 where
   pub rising : Rising bs
   pub never-falling : NeverFalling bs
 
@@ -30,7 +30,7 @@ unfoldable pub fallsAfter : Band → List Band → Bool
 fallsAfter b [] = false
 fallsAfter b (c ∷ cs) = stepsBack b c || fallsAfter c cs
 
--- the test: it is false exactly where the list is `Kept` (proofs/OrderLaws.antt)
+-- the test: it is false exactly where the list is `WellKept` (proofs/OrderLaws.antt)
 unfoldable pub fallsBack : List Band → Bool
 fallsBack [] = false
 fallsBack (b ∷ bs) = fallsAfter b bs

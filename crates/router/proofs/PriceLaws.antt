@@ -15,11 +15,11 @@ use Rattle.net.specs.Allowed.{Allowed}
 use Rattle.net.specs.Check.{checked}
 use Rattle.price.specs.Band.{bandsOf}
 use Rattle.price.specs.Charge.{metalBound}
-use Rattle.price.specs.Order.{NeverFalling, Kept}
+use Rattle.price.specs.Order.{NeverFalling}
 use Rattle.price.specs.Price.{priced}
 use Rattle.price.proofs.LongerLaws as longer
 use Rattle.router.specs.Refined.{totalIn, laidOf, laidTotal}
-use Rattle.router.specs.Price.{metalOf, netPrice, NeverLess}
+use Rattle.router.specs.Price.{metalOf, netPrice, NeverLess, LongerNeverLess}
 use Rattle.router.proofs.AnswerLaws.{only-given}
 use Rattle.router.proofs.RefinedLaws.{length-plain, total-low}
 
@@ -55,5 +55,5 @@ never-less-by-rates bands never pins macros pins′ macros′ h h′ more e f =
     longer.longer-by-rates more bands never (charged-by pins macros bands h e) (charged-by pins′ macros′ bands h′ f)
 
 -- B6, with the premise as document 02 has it
-pub never-less : (bands : List ℕ) → Kept (bandsOf bands) → NeverLess bands
+pub never-less : LongerNeverLess
 never-less bands kept = never-less-by-rates bands (kept .never-falling)

@@ -7,6 +7,8 @@ use Rattle.lent.specs.Told.{Told, given, onlyIf}
 use Rattle.joined.specs.Cost.{lengths}
 use Rattle.plane.specs.Distance.{distance}
 use Rattle.net.specs.Check.{checked}
+use Rattle.price.specs.Band.{bandsOf}
+use Rattle.price.specs.Order.{WellKept}
 use Rattle.price.specs.Price.{priced}
 use Rattle.router.specs.Refined.{laidOf}
 
@@ -23,3 +25,7 @@ abbrev pub NeverLess : List ℕ → Type 0
 NeverLess bands =
     (pins macros pins′ macros′ : List ℤ) (h h′ : ℕ) → metalOf pins macros ≤ metalOf pins′ macros′ →
     netPrice pins macros bands ≡ given h → netPrice pins′ macros′ bands ≡ given h′ → h ≤ h′
+
+-- B6: where limits rise strictly and rates never fall down the list
+abbrev pub LongerNeverLess : Type 0
+LongerNeverLess = (bands : List ℕ) → WellKept (bandsOf bands) → NeverLess bands

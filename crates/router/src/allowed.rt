@@ -13,7 +13,7 @@ use terminal::VERTEX_NUMBERS;
 ghost use mathlib.Core.Path.{_≡_};
 ghost use Prim.Native.Nat.{_*_};
 ghost use lib.IntN.{pos};
-ghost use lib.ListN.{replicate};
+ghost use lib.ListN.{length, replicate};
 ghost use Rattle.net.specs.Net.{netOf};
 ghost use Rattle.net.specs.Bounds.{treeBound};
 ghost use Rattle.price.specs.Price.{priced, toldPrice};

@@ -1,4 +1,4 @@
--- Roots, parents and ways of an allowed net, over places: proved over vertex numbers (terminal/proofs/Nearest.antt, Homeward.antt) and
+-- Roots, parents and ways of an allowed net, over places: proved over vertex numbers (forest/proofs/Nearest.antt, Homeward.antt) and
 -- carried over. The order of numbers is the order of places, so what is smallest by number is the smallest place.
 -- Assumes nothing.
 use mathlib.Core.Path.{_≡_, refl, sym, ap, _∙_, subst}

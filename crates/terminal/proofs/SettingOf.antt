@@ -1,5 +1,5 @@
 -- The spanning graph of an allowed net, by numbers, is what the theorems of the terminal tree suppose: edges join two different vertices
--- and are as long as their distance, and the graph joins its vertices, among them the pins.
+-- and are as long as metal between them costs, and the graph joins its vertices, among them the pins.
 -- Assumes nothing.
 use mathlib.Core.Path.{_≡_, refl, sym, ap, ap₂, _∙_}
 use mathlib.Core.Logic.{inl}

@@ -1,4 +1,4 @@
-// The tables of a tree, which union, refiner and wires share: its points in the order of places, two numbers each, and its edges as keys of
+// The tables of a tree, which union, refiner and refined share: its points in the order of places, two numbers each, and its edges as keys of
 // their ends' numbers, in the order of edges.
 use net::Net;
 use plane::Place;

@@ -1,5 +1,5 @@
 -- The union of the kept paths of an allowed net is a sound start for the refiner: one tree over its points in order, with all pins and
--- every edge clear and in order; it has no more metal to lay than the terminal tree, and leaves room for a point a round.
+-- every edge clear and in order; it costs no more than the terminal tree, and leaves room for a point a round.
 -- Assumes nothing.
 use mathlib.Core.Path.{_≡_, refl, sym, ap, ap₂, _∙_}
 use mathlib.Core.Bool.{true}

@@ -106,7 +106,7 @@ fn pairs(random: &mut Random, band: impl Fn(&mut Random, u64) -> (u64, u64)) -> 
         .collect()
 }
 
-/// Limits that rise and rates that never fall; the metal is reached somewhere, or just not.
+/// Limits that rise and rates that never fall; the metal is reached somewhere.
 fn in_order(random: &mut Random, metal: u64) -> Vec<u64> {
     let count = 1 + random.below(6);
     let (mut limit, mut rate) = (0, 0);
