@@ -33,10 +33,10 @@ module _ (s : tie.Start) where
 
 -- each axis, of the fields themselves: a callee is handed what the machine reads back from their bits
 across : (c : tie.After-axis-cost) → let s = c .before .before .before .before in
-    c .axis_cost .result ≡ apart (s .args .a .x) (s .args .b .x) * s .args .w .across
+    c .axis-cost .result ≡ apart (s .args .a .x) (s .args .b .x) * s .args .w .across
 across c =
     let s = c .before .before .before .before in
-    c .axis_cost .ensures .0
+    c .axis-cost .ensures .0
     ∙ ap (λ (n : ℕ). n * s .args .w .across)
     (rw (toZ-ofZ w32 _ (of-a s .x), toZ-ofZ w32 _ (of-b s .x)) at (c .before .gap .ensures .0))
 
@@ -55,7 +55,7 @@ returns : tie.Need-returns
 unfolding cost
 returns c =
     let d = c .before .before .before .before in
-    (ap₂ _+_ (across d) (along c), omega (arith, d .axis_cost .ensures .1, c .axis-cost2 .ensures .1))
+    (ap₂ _+_ (across d) (along c), omega (arith, d .axis-cost .ensures .1, c .axis-cost2 .ensures .1))
 
 pub cost-spec : {M : Type 1} → statement M
 cost-spec =
