@@ -2,7 +2,6 @@ pub mod GraphAnswer
 pub mod AnswerLaws
 pub mod CallLaws
 pub mod CountedLaws
-pub mod FreshTables
 pub mod RefinedLaws
 pub mod PriceLaws
 pub mod EveryOrder
