@@ -15,7 +15,7 @@
  * What is lent
  *
  * Answers go to space that the caller lends, again a pointer and a count of numbers. Each operation below says how much it asks for; the
- * macros CALZUNDI_..._NUMBERS work it out. More may be lent. Counts and totals go through a pointer each.
+ * macros CALZUNDI_..._NUMBERS work it out. More may be lent. Counts, totals and the charge go through a pointer each.
  *
  *
  * Answers
@@ -25,18 +25,18 @@
  *
  *   0          The answer stands at the front of each lent space, and the counts say how many entries it has (not how many numbers).
  *              Lent space past the answer is as it was.
- *   a refusal  Nothing lent is altered, counts and totals included.
+ *   a refusal  Nothing lent is altered, counts, totals and the charge included.
  *
  *
  * What the caller sees to
  *
  *   null       A list or a lent space with a count of 0 may be null, or any other address: it is not followed, and the call answers as
- *              for an empty one. No other pointer is null; those to counts and totals never are, whatever the answer.
+ *              for an empty one. No other pointer is null; those to counts, totals and the charge never are, whatever the answer.
  *   length     Behind every other pointer stands as much as its count says. Nothing past it is touched, and lists are only read. What
  *              lent space held before does not matter.
- *   alignment  Every other pointer is aligned for its type: 4 bytes for int32_t, 8 for int64_t and size_t, 1 for bytes. One that is not
- *              is outside what is proved, also where x86-64 lets it pass.
- *   overlap    What is lent to be written, counts and totals included, overlaps nothing else that is handed over. Lists may overlap each
+ *   alignment  Every other pointer is aligned for its type: 4 bytes for int32_t, 8 for int64_t, uint64_t and size_t, 1 for bytes. One that
+ *              is not is outside what is proved, also where x86-64 lets it pass.
+ *   overlap    What is lent to be written, counts, totals and the charge included, overlaps nothing else that is handed over. Lists may overlap each
  *              other.
  *   threads    While a call runs, nobody else writes its lists, and nobody else reads or writes what is lent to it. Calls at the same
  *              time, also on the same lists, do not disturb each other, since the library keeps no state.
@@ -48,7 +48,7 @@
 #define CALZUNDI_H
 
 /* The version. It stands here and nowhere else; the tools take it from this line, and each change request raises the second number. */
-#define CALZUNDI_VERSION "1.0"
+#define CALZUNDI_VERSION "1.1"
 
 #include <stddef.h>
 #include <stdint.h>
@@ -91,8 +91,13 @@ enum calzundi_refusal {
     CALZUNDI_PIN_TWICE = 15,        /* two pins are at one place */
     CALZUNDI_MACROS_OVERLAP = 16,   /* two macros' interiors meet; touching is allowed */
     CALZUNDI_PIN_IN_INTERIOR = 17,  /* a pin is in a macro's interior; on its boundary is allowed */
-    CALZUNDI_SPACE = 21             /* too little space is lent */
+    CALZUNDI_SPACE = 21,            /* too little space is lent */
+    CALZUNDI_BANDS = 31,            /* the list of bands is odd or empty, or a rate in it is above 1,000,000 */
+    CALZUNDI_REACH = 32             /* no band's limit reaches the metal */
 };
+
+/* A band of a price list is two numbers of 64 bits, its limit and its rate; a rate is at most this. */
+#define CALZUNDI_RATE 1000000
 
 /* Lengths, totals and the numbers lent for the terminal tree are 64 bits wide. */
 typedef int64_t calzundi_length;
@@ -152,6 +157,22 @@ int32_t calzundi_refined_tree(const int32_t *pins, size_t pin_numbers, const int
  */
 int32_t calzundi_wires(const int32_t *pins, size_t pin_numbers, const int32_t *macros, size_t macro_numbers, int32_t *wires,
                        size_t wire_numbers, size_t *count);
+
+/*
+ * Price: what a bureau charges for the metal to lay, which is the sum of the refined tree's plain lengths.
+ *
+ * bands   a list, two numbers for each band: its limit, in units of metal, and its rate, in hundredths of the currency per 1,000 units.
+ *         Limits may be any numbers of 64 bits.
+ * charge  metal times rate over 1,000 at the first band of the list whose limit is not below the metal, in hundredths of the currency,
+ *         a half going up
+ *
+ * Where limits rise strictly and rates never fall down the list, more metal is never charged less; keeping the list so is the bureau's
+ * duty and is not tested.
+ *
+ * Refusals: 11 to 17, then 31, then 32.
+ */
+int32_t calzundi_price(const int32_t *pins, size_t pin_numbers, const int32_t *macros, size_t macro_numbers, const uint64_t *bands,
+                       size_t band_numbers, uint64_t *charge);
 
 /*
  * Write a net file, which keeps the order of both lists.

@@ -55,6 +55,16 @@ extern "C" {
         count: *mut usize,
     ) -> i32;
 
+    pub fn calzundi_price(
+        pins: *const i32,
+        pins_len: usize,
+        macros: *const i32,
+        macros_len: usize,
+        bands: *const u64,
+        bands_len: usize,
+        charge: *mut u64,
+    ) -> i32;
+
     pub fn calzundi_write_file(
         pins: *const i32,
         pins_len: usize,
@@ -192,6 +202,28 @@ pub fn wires(pins: &[i32], macros: &[i32], wires: &mut [i32]) -> Result<usize, u
         )
     };
     answer(code, &[count], count)
+}
+
+/// "Price on the job card": the charge, in hundredths of the currency.
+pub fn price(pins: &[i32], macros: &[i32], bands: &[u64]) -> Result<u64, u32> {
+    let mut charge = UNTOUCHED as u64;
+    // SAFETY: the library reads the three slices and keeps none.
+    let code = unsafe {
+        calzundi_price(
+            pins.as_ptr(),
+            pins.len(),
+            macros.as_ptr(),
+            macros.len(),
+            bands.as_ptr(),
+            bands.len(),
+            &mut charge,
+        )
+    };
+    assert!(
+        code == 0 || charge == UNTOUCHED as u64,
+        "refusal {code} touched the charge"
+    );
+    answer(code, &[], charge)
 }
 
 /// "Write a net file": how many bytes were given.

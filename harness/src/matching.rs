@@ -2,10 +2,13 @@
 
 use std::fmt::{self, Debug};
 
-use reference::generate::{damaged, hostile, net, permuted, Damage, Hostile, Kind};
+use reference::generate::{
+    bands, damaged, hostile, net, permuted, BandList, Damage, Hostile, Kind,
+};
 use reference::lists::Lists;
 use reference::random::Random;
-use reference::{operations, text};
+use reference::refined::refined;
+use reference::{net as second, operations, price, text};
 
 use crate::library;
 
@@ -284,6 +287,24 @@ impl Case {
             |bits| bits as i32,
             [library::wires, operations::wires],
         )
+    }
+
+    /// "Price on the job card", by a list of bands of each kind in turn, made for the net's metal where it has any. The answer.
+    pub fn price(&self) -> Result<Result<u64, u32>, Box<Difference>> {
+        let Lists { pins, macros } = &self.lists;
+        let kind = BandList::ALL[self.seed as usize % BandList::ALL.len()];
+        let metal = second::check(pins, macros).map(|net| price::metal(&refined(&net).edges));
+        let list = bands(kind, self.seed, metal.unwrap_or(self.seed));
+        let expected = metal.and_then(|metal| price::price(metal, &list));
+        for case in [self, &self.turned()] {
+            let ours = library::price(&case.lists.pins, &case.lists.macros, &list);
+            case.same("price", format!("{ours:?}"), format!("{expected:?}"))
+                .map_err(|mut difference| {
+                    difference.input += &format!("# bands, {}: {list:?}\n", kind.name());
+                    difference
+                })?;
+        }
+        Ok(expected)
     }
 
     /// "Write a net file."

@@ -81,6 +81,7 @@ fn the_header_has_the_bounds() {
         ("CALZUNDI_READ_PIN_NUMBERS", 128),
         ("CALZUNDI_READ_MACRO_NUMBERS", 256),
         ("sizeof(calzundi_length)", 8),
+        ("CALZUNDI_RATE", 1_000_000),
     ];
     let lines = names.map(|(name, _)| format!("    printf(\"%d\\n\", (int)({name}));\n"));
     let expected = names.map(|(_, number)| format!("{number}\n"));
@@ -119,6 +120,7 @@ fn null_with_a_count_of_zero() {
         ("terminal_tree(NULL, 0, NULL, 0, NULL, 0, &a, &t)", 11),
         ("refined_tree(NULL, 0, NULL, 0, NULL, 0, &a, &t)", 11),
         ("wires(NULL, 0, NULL, 0, NULL, 0, &a)", 11),
+        ("price(NULL, 0, NULL, 0, NULL, 0, &h)", 11),
         ("write_file(NULL, 0, NULL, 0, NULL, 0, &a)", 11),
         ("read_file(NULL, 0, NULL, 0, NULL, 0, &a, &b)", 21),
         ("check(pin, 2, NULL, 0)", 0),
@@ -126,17 +128,18 @@ fn null_with_a_count_of_zero() {
         ("terminal_tree(pin, 2, NULL, 0, NULL, 0, &a, &t)", 21),
         ("refined_tree(pin, 2, NULL, 0, NULL, 0, &a, &t)", 21),
         ("wires(pin, 2, NULL, 0, NULL, 0, &a)", 21),
+        ("price(pin, 2, NULL, 0, NULL, 0, &h)", 31),
         ("write_file(pin, 2, NULL, 0, NULL, 0, &a)", 21),
     ];
     let mut lines = String::from(
-        "    const int32_t pin[2] = {5, 5};\n    size_t a = 7, b = 7;\n    calzundi_length t = 7;\n",
+        "    const int32_t pin[2] = {5, 5};\n    size_t a = 7, b = 7;\n    calzundi_length t = 7;\n    uint64_t h = 7;\n",
     );
     let mut expected = String::new();
     for (call, number) in calls {
         lines += &format!("    printf(\"%d\\n\", (int)calzundi_{call});\n");
         expected += &format!("{number}\n");
     }
-    lines += "    printf(\"%d %d %d\\n\", (int)a, (int)b, (int)t);\n";
-    expected += "7 7 7\n";
+    lines += "    printf(\"%d %d %d %d\\n\", (int)a, (int)b, (int)t, (int)h);\n";
+    expected += "7 7 7 7\n";
     assert_eq!(printed("nulls", &lines), expected);
 }

@@ -74,6 +74,12 @@ fn wires(p: List<i32>, q: List<i32>, w: Space<i32>) -> Answer {
     answer(code, &[count])
 }
 
+fn price(p: List<i32>, q: List<i32>, b: List<u64>) -> Answer {
+    let mut charge = COUNT as u64;
+    let code = unsafe { library::calzundi_price(p.0, p.1, q.0, q.1, b.0, b.1, &mut charge) };
+    answer(code, &[charge as usize])
+}
+
 fn write_file(p: List<i32>, q: List<i32>, b: Space<u8>) -> Answer {
     let mut given = COUNT;
     let code = unsafe { library::calzundi_write_file(p.0, p.1, q.0, q.1, b.0, b.1, &mut given) };
@@ -460,4 +466,33 @@ fn threads_do_not_disturb_each_other() {
             });
         }
     });
+}
+
+/// A list of bands between fences, which nobody can write: read whole, and nothing beside it.
+#[test]
+fn bands_are_read_and_nothing_else() {
+    let Lists { pins, macros } = net(Kind::Largest, 1);
+    let pins = Fenced::of(&pins, At::Back).read_only();
+    let macros = Fenced::of(&macros, At::Back).read_only();
+    for at in [At::Front, At::Back] {
+        for (bands, code) in [
+            (&[u64::MAX, 0][..], 0),
+            (&[0, 0, u64::MAX, 0], 0),
+            (&[u64::MAX, 1, 5], 31),
+            (&[u64::MAX, 1_000_001], 31),
+            (&[0, 1], 32),
+            (&[], 31),
+        ] {
+            let list = Fenced::of(bands, at).read_only();
+            let charge = if code == 0 { 0 } else { COUNT };
+            let expected = answer(code, &[charge]);
+            assert_eq!(price(pins.list(), macros.list(), list.list()), expected);
+        }
+    }
+    assert_eq!(price(none(), none(), none()), answer(11, &[COUNT]));
+    assert_eq!(
+        price(pins.list(), none(), none()),
+        answer(31, &[COUNT]),
+        "the pins alone are a net"
+    );
 }

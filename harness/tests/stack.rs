@@ -19,6 +19,7 @@ fn call_all(Lists { pins, macros }: &Lists) {
     library::terminal_tree(pins, macros, &mut vec![0; 5 * m]).unwrap();
     library::refined_tree(pins, macros, &mut numbers).unwrap();
     library::wires(pins, macros, &mut numbers).unwrap();
+    library::price(pins, macros, &[u64::MAX, 1_000_000]).unwrap();
     let mut bytes = vec![0; 3_072];
     let given = library::write_file(pins, macros, &mut bytes).unwrap();
     let (mut pins, mut macros) = (vec![0; 128], vec![0; 256]);

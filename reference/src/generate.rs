@@ -1,8 +1,9 @@
 //! Seeded nets, lists and files to match two routers on. Each is a pure function of seed and kind.
 //!
 //! `Kind` names allowed nets, `Hostile` pairs of lists to be refused, `Damage` net files that are
-//! not as they should be.
+//! not as they should be, `BandList` lists of bands, hostile ones among them.
 
+mod bands;
 mod damaged;
 mod draft;
 mod hostile;
@@ -11,6 +12,7 @@ mod permuted;
 mod searched;
 mod walls;
 
+pub use bands::{bands, BandList};
 pub use damaged::{damaged, Damage};
 pub use hostile::{hostile, refusal, Hostile};
 pub use nets::{net, Kind};

@@ -1,4 +1,4 @@
-//! The second program: document 01's router by the plainest means, written from the document
+//! The second program: the documents' router by the plainest means, written from the documents
 //! alone, so that a difference with the proved router points at a mistake in one of the two.
 //!
 //! Data goes one way: lists, net, graph, terminal tree, refined tree, wires. `operations` is what
@@ -13,6 +13,7 @@ pub mod lists;
 pub mod net;
 pub mod netfile;
 pub mod operations;
+pub mod price;
 pub mod random;
 pub mod refined;
 pub mod route;

@@ -7,6 +7,7 @@ use crate::graph;
 use crate::lists::Lists;
 use crate::net::{self, Net, Place};
 use crate::netfile;
+use crate::price;
 use crate::refined;
 use crate::terminal;
 use crate::wires;
@@ -72,6 +73,13 @@ pub fn wires(pins: &[i32], macros: &[i32], wires: &mut [i32]) -> Result<usize, u
     let of_wire = |wire: &wires::Wire| [numbers(wire.start), numbers(wire.end)].concat();
     lay(wires, answer.iter().flat_map(of_wire));
     Ok(answer.len())
+}
+
+/// "Price on the job card": 31 and 32 "both after the net's own". The charge in hundredths.
+pub fn price(pins: &[i32], macros: &[i32], bands: &[u64]) -> Result<u64, u32> {
+    let net = net::check(pins, macros)?;
+    let metal = price::metal(&refined::refined(&net).edges);
+    price::price(metal, bands)
 }
 
 /// "Write a net file. 11 to 17, then 21: lent space below the file's bytes." How many bytes.

@@ -1,8 +1,9 @@
 //! Each kind of the generator gives what it names.
 
-use reference::generate::{damaged, hostile, net, refusal, Damage, Hostile, Kind};
+use reference::generate::{bands, damaged, hostile, net, refusal, BandList, Damage, Hostile, Kind};
 use reference::lists::Lists;
 use reference::net::{check, Macro, Net, Place};
+use reference::price::price;
 
 /// So many nets of a kind, checked.
 fn nets(kind: Kind, seeds: u64) -> Vec<Net> {
@@ -199,6 +200,32 @@ fn hostile_lists_are_refused() {
             Hostile::Several => assert_eq!(seen, [11, 12, 13, 14, 15, 16]),
             Hostile::Anything => assert_eq!(seen, [0, 11, 12, 13, 14, 15, 16, 17]),
             _ => assert_eq!(seen.len(), 1, "{}", kind.name()),
+        }
+    }
+}
+
+/// Lists of bands: the answer that each kind names, and lists in order that are.
+#[test]
+fn lists_of_bands() {
+    for &kind in BandList::ALL {
+        for seed in 0..300 {
+            let metal = seed * seed * seed;
+            let list = bands(kind, seed, metal);
+            let answer = price(metal, &list);
+            let name = kind.name();
+            match kind {
+                BandList::RateAbove | BandList::HugeRate | BandList::Odd | BandList::Empty => {
+                    assert_eq!(answer, Err(31), "{name} {seed}");
+                }
+                BandList::Short if metal > 0 => assert_eq!(answer, Err(32), "{name} {seed}"),
+                BandList::Anything | BandList::Short => {}
+                _ => assert!(answer.is_ok(), "{name} {seed}: {answer:?}"),
+            }
+            if kind == BandList::InOrder {
+                let pairs: Vec<&[u64]> = list.chunks(2).collect();
+                let onward = |pair: &[&[u64]]| pair[0][0] < pair[1][0] && pair[0][1] <= pair[1][1];
+                assert!(pairs.windows(2).all(onward), "{name} {seed}: {list:?}");
+            }
         }
     }
 }

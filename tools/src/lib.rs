@@ -1,6 +1,7 @@
-//! What the programs `pack`, `unpack` and `draw` are made of. Net files are written and read by the proved router; the text form is the
-//! second program's.
+//! What the programs `pack`, `unpack`, `draw` and `price` are made of. Net files are written and read by the proved router, which prices nets
+//! too; the text form is the second program's.
 
+pub mod bands;
 pub mod command;
 pub mod labels;
 pub mod netfile;

@@ -1,6 +1,6 @@
 //! What the numbers of refusals mean, for people.
 
-/// Document 01's words for a refusal's number.
+/// The documents' words for a refusal's number.
 pub fn meaning(number: u32) -> &'static str {
     match number {
         1 => "the file is not 1 to 6 whole blocks",
@@ -14,7 +14,9 @@ pub fn meaning(number: u32) -> &'static str {
         16 => "two macros' interiors meet",
         17 => "a pin is in a macro's interior",
         21 => "too little space was lent",
-        _ => "a number that document 01 doesn't have",
+        31 => "there is no band, the list isn't whole pairs, or a rate is above 1000000",
+        32 => "no band's limit reaches the metal",
+        _ => "a number that no document has",
     }
 }
 

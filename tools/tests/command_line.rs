@@ -1,4 +1,4 @@
-//! The three programs: what they write, what they say where something is wrong, and their exit status.
+//! The four programs: what they write, what they say where something is wrong, and their exit status.
 
 use std::fs;
 use std::io::Write;
@@ -13,7 +13,13 @@ use tools::netfile::{packed, unpacked};
 const PACK: &str = env!("CARGO_BIN_EXE_pack");
 const UNPACK: &str = env!("CARGO_BIN_EXE_unpack");
 const DRAW: &str = env!("CARGO_BIN_EXE_draw");
-const PROGRAMS: [(&str, &str); 3] = [(PACK, "pack"), (UNPACK, "unpack"), (DRAW, "draw")];
+const PRICE: &str = env!("CARGO_BIN_EXE_price");
+const PROGRAMS: [(&str, &str); 4] = [
+    (PACK, "pack"),
+    (UNPACK, "unpack"),
+    (DRAW, "draw"),
+    (PRICE, "price"),
+];
 
 /// Runs a program with words and an input.
 fn run(program: &str, words: &[&str], input: &[u8]) -> Output {
@@ -198,6 +204,8 @@ fn help_and_usage() {
     }
     assert!(said(DRAW, &["one"], b"", 2).starts_with("draw: a file is missing; "));
     assert!(said(DRAW, &["-", "-"], b"", 2).contains("the two files are the same one"));
+    assert!(said(PRICE, &["one"], b"", 2).starts_with("price: a file is missing; "));
+    assert!(said(PRICE, &["-", "-"], b"", 2).contains("the two files are the same one"));
     let folder = folder("usage");
     let to = folder.join("no/such/folder");
     let wrong = said(PACK, &["-", word(&to)], b"pin 0 0\n", 1);
@@ -267,5 +275,86 @@ fn draw_reads_what_route_prints() {
         fs::write(&printed, changed).unwrap();
         let expected = format!("draw: {}: {wrong}\n", printed.display());
         assert_eq!(said(DRAW, &[word(&file), word(&printed)], b"", 1), expected);
+    }
+}
+
+/// `price` says the charge of a net by a list of bands, either one from standard input.
+#[test]
+fn price_charges_by_a_list() {
+    let folder = folder("price");
+    let (net, list) = (folder.join("net.txt"), folder.join("bands.txt"));
+    let three = b"pin 0 0\npin 4 0\npin 2 3\n";
+    fs::write(&net, three).unwrap();
+    for (bands, charge) in [
+        // Metal 7: 3.5 hundredths, a half going up.
+        ("7 500\n", "charge 4 0.04\n"),
+        // The first band is too short, the last one is not looked at.
+        (
+            "# limit rate\n6 1\n\n  100 1000000 # dear\n200 2",
+            "charge 7000 70.00\n",
+        ),
+        ("18446744073709551615 0\r\n", "charge 0 0.00\n"),
+    ] {
+        fs::write(&list, bands).unwrap();
+        let words = [word(&net), word(&list)];
+        assert_eq!(written(PRICE, &words, b""), charge.as_bytes());
+        assert_eq!(
+            written(PRICE, &["-", word(&list)], three),
+            charge.as_bytes()
+        );
+        assert_eq!(
+            written(PRICE, &[word(&net), "-"], bands.as_bytes()),
+            charge.as_bytes()
+        );
+    }
+}
+
+/// Bad lines and refusals of the net and of the list, each with the file that it is of.
+#[test]
+fn price_says_what_is_wrong() {
+    let folder = folder("price-wrong");
+    let (net, list) = (folder.join("net.txt"), folder.join("bands.txt"));
+    fs::write(&net, "pin 0 0\npin 4 0\npin 2 3\n").unwrap();
+    let none =
+        "refused 31: there is no band, the list isn't whole pairs, or a rate is above 1000000";
+    for (bands, wrong) in [
+        (&b""[..], none),
+        (b"7 1000000\n8 1000001\n", none),
+        (
+            b"5 1\n6 1\n",
+            "refused 32: no band's limit reaches the metal",
+        ),
+        (b"7 500\n8\n", "line 2: a band needs a limit and a rate"),
+        (b"7 500 9\n", "line 1: '9' stands after the end of the band"),
+        (
+            b"\n7 -1\n",
+            "line 2: '-1' for rate is no whole number of 0 to 2^64 - 1",
+        ),
+        (
+            b"18446744073709551616 1\n",
+            "line 1: '18446744073709551616' for limit is no whole number of 0 to 2^64 - 1",
+        ),
+        (
+            b"+7 1\n",
+            "line 1: '+7' for limit is no whole number of 0 to 2^64 - 1",
+        ),
+        (b"7 500\n\xff 1\n", "line 2: not UTF-8 text"),
+    ] {
+        fs::write(&list, bands).unwrap();
+        let expected = format!("price: {}: {wrong}\n", list.display());
+        assert_eq!(said(PRICE, &[word(&net), word(&list)], b"", 1), expected);
+    }
+    // The net's own refusal comes first, and is of the net.
+    for (bad, wrong) in [
+        (
+            "pin 0 0\npin 0 0\n",
+            "refused 15: two pins are at one place",
+        ),
+        ("pin 0\n", "line 1: a pin needs a number for y"),
+    ] {
+        fs::write(&net, bad).unwrap();
+        fs::write(&list, "").unwrap();
+        let expected = format!("price: {}: {wrong}\n", net.display());
+        assert_eq!(said(PRICE, &[word(&net), word(&list)], b"", 1), expected);
     }
 }

@@ -2,6 +2,7 @@
 // that length behind it, and that what is lent to be written overlaps nothing else that is handed over.
 use net::Checked;
 use netfile::Written;
+use price::Priced;
 use router::Graphed;
 use router::Tree;
 use router::Wired;
@@ -17,6 +18,7 @@ ghost use Rattle.terminal.specs.Tree.{pathNumbers};
 ghost use Rattle.router.specs.Graph.{netVertices, netEdges, graphed};
 ghost use Rattle.router.specs.Terminal.{pathsOf, terminalTree};
 ghost use Rattle.router.specs.Refined.{laidOf, refinedTree, wiresOf, wired};
+ghost use Rattle.router.specs.Price.{netPrice};
 ghost use Rattle.netfile.specs.Layout.{fileBytes};
 ghost use Rattle.netfile.specs.Write.{written};
 ghost use Rattle.netfile.specs.Read.{pinsIn, macrosIn, readFile};
@@ -152,6 +154,28 @@ pub extern "C" fn calzundi_wires(
             0
         }
         Wired::Refused(refusal) => refusal.number(),
+    }
+}
+
+// 0 and the charge, in hundredths of the currency, or the number of the refusal.
+#[no_mangle]
+pub extern "C" fn calzundi_price(
+    pins: &[i32],
+    macros: &[i32],
+    bands: &[u64],
+    charge: &mut u64,
+) -> i32
+    ensures answer { λ r. ⌜ r ≡ pos (code (netPrice (now (pins .entry)) (now (macros .entry)) (now (bands .entry)))) ⌝ }
+    ensures charge { λ _. ⌜ now (charge .exit)
+        ≡ valueAfter (λ h. h) (netPrice (now (pins .entry)) (now (macros .entry)) (now (bands .entry))) (now (charge .entry)) ⌝ }
+{
+    let answer = router::price(pins, macros, bands);
+    match answer {
+        Priced::Charged(hundredths) => {
+            *charge = hundredths;
+            0
+        }
+        Priced::Refused(refusal) => refusal.number(),
     }
 }
 

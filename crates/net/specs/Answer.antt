@@ -1,8 +1,8 @@
--- The number of each refusal: rules C1 to C21.
+-- The number of each refusal: rules C1 to C32.
 use Prim.Native.Nat.{ℕ}
 use Rattle.net.specs.declared.Refusal.{Refusal}
 use Rattle.net.specs.declared.Refusal.the-variants.{Blocks, Sums, Layout, PinList, MacroList, Range, Sides, SamePlace, Overlap}
-use Rattle.net.specs.declared.Refusal.the-variants.{PinInside, Space}
+use Rattle.net.specs.declared.Refusal.the-variants.{PinInside, Space, Bands, Reach}
 
 unfoldable pub number : Refusal → ℕ
 number Blocks = 1
@@ -16,3 +16,5 @@ number SamePlace = 15
 number Overlap = 16
 number PinInside = 17
 number Space = 21
+number Bands = 31
+number Reach = 32

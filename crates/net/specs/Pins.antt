@@ -1,4 +1,4 @@
--- Pins and macros in their flat lists. How many numbers a pin has is known in this crate alone; above it a pin is known by its number,
+-- Pins and macros in their flat lists. How many numbers a pin has is a literal in this crate alone; above it a pin is known by its number,
 -- from 0 to `pinCount` less 1, and by its place.
 use mathlib.Core.List.{List}
 use Prim.Native.Nat.{ℕ, _*_, _/_}

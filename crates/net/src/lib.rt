@@ -33,7 +33,7 @@ pub struct Net {
 
 // The bounds of pins, macros, coordinates and weights, and how many numbers a pin and a macro have, are literals; the others follow.
 impl Net {
-    // Numbers of a pin in the list of pins: its x and y. Nothing above this crate knows.
+    // Numbers of a pin in the list of pins: its x and y. Above this crate it has only this name.
     pub const PIN_NUMBERS: usize = 2;
 
     // Numbers of a macro in the list of macros: left, bottom, right, top.
@@ -62,7 +62,7 @@ impl Net {
     pub const COST: u64 = Net::COORDINATE as u64 * 4 * Net::WEIGHT as u64;
 }
 
-// Why an operation refuses; `number` in specs/Answer.antt has the number of each (C1 to C21).
+// Why an operation refuses; `number` in specs/Answer.antt has the number of each (C1 to C32).
 pub enum Refusal {
     Blocks,
     Sums,
@@ -75,6 +75,8 @@ pub enum Refusal {
     Overlap,
     PinInside,
     Space,
+    Bands,
+    Reach,
 }
 
 impl Refusal {
@@ -93,6 +95,8 @@ impl Refusal {
             Refusal::Overlap => 16,
             Refusal::PinInside => 17,
             Refusal::Space => 21,
+            Refusal::Bands => 31,
+            Refusal::Reach => 32,
         }
     }
 }

@@ -4,7 +4,7 @@
 ghost use mathlib.Core.Path.{_≡_};
 ghost use Prim.Native.Nat.{_+_, _*_, _≤_, _^_, _<_};
 ghost use lib.IntN.{pos, _-ℤ_, natAbs};
-ghost use lib.ListN.{length, set};
+ghost use lib.ListN.{length};
 ghost use lib.Seq.{sets};
 ghost use Rattle.plane.specs.Place.{before, samePlace};
 ghost use Rattle.plane.specs.Distance.{apart, distance};
@@ -68,7 +68,7 @@ fn gap(a: i32, b: i32) -> u64
 }
 
 // What a gap costs along an axis of this weight.
-fn priced(gap: u64, weight: u8) -> u64
+fn axis_cost(gap: u64, weight: u8) -> u64
     requires { ⌜ gap < 2 ^ 32 ⌝ }
     ensures { λ r. ⌜ (r ≡ gap * weight) × (r < 2 ^ 40) ⌝ }
 {
@@ -111,7 +111,7 @@ pub fn distance(a: Place, b: Place) -> u64
 pub fn cost(w: Weights, a: Place, b: Place) -> u64
     ensures { λ r. ⌜ (r ≡ cost w a b) × (r < costLimit) ⌝ }
 {
-    priced(gap(a.x, b.x), w.across) + priced(gap(a.y, b.y), w.along)
+    axis_cost(gap(a.x, b.x), w.across) + axis_cost(gap(a.y, b.y), w.along)
 }
 
 // The place in the middle of three, axis by axis.

@@ -279,7 +279,8 @@ module _ {pts : List ℤ} {n : ℕ} {ks : List ℕ} {e k l a b u p : ℕ} {s : P
         ≡ sumOver (keyCost weights pts) ks (suc (suc e))
         + (cost weights s (placeAt pts u) + (cost weights s (placeAt pts b) + cost weights s (placeAt pts a)))
     after-costs =
-        let same : sumOver (λ j. keyCost weights (t .points) (moved j)) (dropTwo e k l ks) e ≡ sumOver (keyCost weights pts) (dropTwo e k l ks) e
+        let same : sumOver (λ j. keyCost weights (t .points) (moved j)) (dropTwo e k l ks) e ≡ sumOver (keyCost weights pts)
+        (dropTwo e k l ks) e
         = below-same _ _ e (λ i h. ap long (moved-ends _ (within-dropped n e k l ks w .ends i))) in
         let dropped = over-dropped (keyCost weights pts) e k l ks hk hl kl in
         omega (arith, after .sums (keyCost weights (t .points)), dropped, same, cost-part a ha, cost-part b hb, cost-part u hu)

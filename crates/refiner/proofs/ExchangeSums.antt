@@ -210,7 +210,8 @@ over-dropped g n k l xs h i d =
     both hi lo lt same top =
         let a : g (getD xs hi 0) + sumOver g (closed hi (n + 1) xs) (suc n) ≡ sumOver g xs (suc (suc n))
         = rw (← add-one n) (over-closed g hi (n + 1) xs (omega arith)) in
-        let b : g (getD (closed hi (n + 1) xs) lo 0) + sumOver g (closed lo n (closed hi (n + 1) xs)) n ≡ sumOver g (closed hi (n + 1) xs) (suc n)
+        let b : g (getD (closed hi (n + 1) xs) lo 0) + sumOver g (closed lo n (closed hi (n + 1) xs)) n ≡ sumOver g
+        (closed hi (n + 1) xs) (suc n)
         = over-closed g lo n (closed hi (n + 1) xs) (omega arith) in
         let c : g (getD (closed hi (n + 1) xs) lo 0) ≡ g (getD xs lo 0) = ap g same in
         omega (arith, a, b, c)

@@ -220,7 +220,8 @@ unfolding firstLoose
 first-hit pin ks e h = seek-hit (looseEdge pin (turns (countEnds ks) 0 e (replicate treeBound 0)) ks) e 0 (omega arith)
 
 -- no sum is raised
-pub pruned-over : (g : ℕ → ℕ) (pin : List ℕ) (e : ℕ) (ks : List ℕ) → sumOver g (prune pin ks e .keys) (prune pin ks e .size) ≤ sumOver g ks e
+pub pruned-over : (g : ℕ → ℕ) (pin : List ℕ) (e : ℕ) (ks : List ℕ) →
+    sumOver g (prune pin ks e .keys) (prune pin ks e .size) ≤ sumOver g ks e
 unfolding prune
 pruned-over g pin zero ks = omega arith
 pruned-over g pin (suc e) ks =

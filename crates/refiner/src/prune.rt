@@ -4,7 +4,7 @@ use plane::Place;
 use tree::NUMBERS;
 use tree::POINTS;
 ghost use mathlib.Core.Path.{_≡_};
-ghost use Prim.Native.Nat.{_≤_, _<_};
+ghost use Prim.Native.Nat.{_≤_, _<_, _*_};
 ghost use Rattle.lists.specs.Any.{any};
 ghost use Rattle.plane.specs.Place.{samePlace};
 ghost use Rattle.net.specs.Pins.{pinPlaces};
@@ -50,7 +50,7 @@ fn mark_pins(pins: &[i32], pts: &[i32; NUMBERS], n: usize, pin: &mut [usize; POI
 }
 
 fn count_ends(keys: &[usize; POINTS], i: usize, deg: &mut [usize; POINTS])
-    requires { ⌜ (i < treeBound) × ((Small pairBound (now keys)) × (Low 1000 (now deg))) ⌝ }
+    requires { ⌜ (i < treeBound) × ((Small pairBound (now keys)) × (Low (treeBound * 2) (now deg))) ⌝ }
     ensures { λ _. ⌜ now (deg .exit) ≡ countEnds (now (keys .entry)) i (now (deg .entry)) ⌝ }
 {
     let a = keys[i] / POINTS;

@@ -19,6 +19,7 @@ use Rattle.lent.specs.Over.{after}
 use Rattle.lent.specs.Entries.{flat}
 use Rattle.lent.proofs.AfterLaws.{after-refused}
 use Rattle.joined.specs.Cost.{lengths}
+use Rattle.plane.specs.Distance.{distance}
 use Rattle.plane.specs.Cost.{cost, plain}
 use Rattle.plane.specs.Flat.{macrosOf}
 use Rattle.plane.proofs.PlaceOrder.{place-order}
@@ -36,6 +37,7 @@ use Rattle.net.proofs.CheckOrder.{check-order}
 use Rattle.graph.specs.Numbers.{placeNumbers, edgeNumbers}
 use Rattle.terminal.specs.Tree.{pathNumbers}
 use Rattle.terminal.proofs.BestJoiningLaws.{paths-sum}
+use Rattle.price.specs.Price.{priced}
 use Rattle.refined.specs.Wires.{wires}
 use Rattle.rules.specs.Edges.{Edge, edgeBefore}
 use Rattle.rules.specs.Terminal.{givenFor}
@@ -48,6 +50,7 @@ use Rattle.router.specs.Room.{ifRoom}
 use Rattle.router.specs.Terminal.{pathsOf, pathsTotal, terminalGiven, terminalTree}
 use Rattle.router.specs.Refined.{refinedOf, edgesIn, totalIn, laidOf, laidTotal, refinedGiven, refinedTree}
 use Rattle.router.specs.Refined.{wiresGiven, wired}
+use Rattle.router.specs.Price.{metalOf, netPrice}
 use Rattle.router.specs.EveryOrder.{SameForBoth}
 use Rattle.router.proofs.AnswerLaws.{only-refused}
 
@@ -82,7 +85,7 @@ module _ (pins pins′ macros macros′ : List ℤ) (p : SamePins pins pins′) 
         sym (after-refused _ xs lent n (only-refused _ x n r)) ∙ after-refused _ ys lent n (only-refused _ y n (sym same-check ∙ r))
 
     refused-both : SameForBoth pins pins′ macros macros′
-    unfolding graphed terminalTree refinedTree wired
+    unfolding graphed terminalTree refinedTree wired netPrice
     refused-both = record {
       check = same-check;
       graph = λ v e. both _ _;
@@ -94,6 +97,7 @@ module _ (pins pins′ macros macros′ : List ℤ) (p : SamePins pins pins′) 
       laid = λ room lent. untouched _ _ _ _ lent;
       wires = λ room. both _ _;
       drawn = λ room lent. untouched _ _ _ _ lent;
+      price = λ bands. both _ _;
     }
 
   -- Allowed
@@ -178,6 +182,10 @@ module _ (pins pins′ macros macros′ : List ℤ) (p : SamePins pins pins′) 
     same-wires room =
         ap₂ onlyIf same-check (ap₂ (λ (n : ℕ) (l : List Edge). ifRoom (n * 8) room (length (wires l))) same-room same-laid)
 
+    same-price : (bands : List ℕ) → netPrice pins macros bands ≡ netPrice pins′ macros′ bands
+    unfolding netPrice metalOf
+    same-price bands = ap₂ onlyIf same-check (ap (λ (l : List Edge). priced (lengths distance l) bands) same-laid)
+
     given-both : SameForBoth pins pins′ macros macros′
     given-both = record {
       check = same-check;
@@ -190,6 +198,7 @@ module _ (pins pins′ macros macros′ : List ℤ) (p : SamePins pins pins′) 
       laid = λ room lent. ap₂ (λ t l. after t (flat edgeNumbers l) lent) (same-refined room) same-laid;
       wires = same-wires;
       drawn = λ room lent. ap₂ (λ t l. after t (flat edgeNumbers (wires l)) lent) (same-wires room) same-laid;
+      price = same-price;
     }
 
   pub every-order : SameForBoth pins pins′ macros macros′

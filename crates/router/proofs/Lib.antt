@@ -2,8 +2,9 @@ pub mod GraphAnswer
 pub mod AnswerLaws
 pub mod CallLaws
 pub mod CountedLaws
-pub mod FreshTables
 pub mod RefinedLaws
+pub mod PriceLaws
 pub mod EveryOrder
 pub mod WorkedNets
+pub mod WorkedPrices
 pub mod Published

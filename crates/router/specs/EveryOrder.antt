@@ -12,6 +12,7 @@ use Rattle.terminal.specs.Tree.{pathNumbers}
 use Rattle.router.specs.Graph.{netVertices, netEdges, graphed}
 use Rattle.router.specs.Terminal.{pathsOf, terminalTree}
 use Rattle.router.specs.Refined.{laidOf, refinedTree, wiresOf, wired}
+use Rattle.router.specs.Price.{netPrice}
 
 pub record SameForBoth (pins pins′ macros macros′ : List ℤ) : Type 0 where
   pub check : checked pins macros ≡ checked pins′ macros′
@@ -29,3 +30,4 @@ pub record SameForBoth (pins pins′ macros macros′ : List ℤ) : Type 0 where
   pub wires : (room : ℕ) → wired pins macros room ≡ wired pins′ macros′ room
   pub drawn : (room : ℕ) (lent : List ℤ) → after (wired pins macros room) (flat edgeNumbers (wiresOf pins macros)) lent
       ≡ after (wired pins′ macros′ room) (flat edgeNumbers (wiresOf pins′ macros′)) lent
+  pub price : (bands : List ℕ) → netPrice pins macros bands ≡ netPrice pins′ macros′ bands

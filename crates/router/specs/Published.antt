@@ -50,7 +50,7 @@ pub record Promised (pins macros : List ℤ) : Type 0 where
   -- T14 to T16: each kept path is given by its bridge and its length, and the total is their sum
   pub paths : pathsOf pins macros ≡ map (givenFor (netOf pins macros)) kept
   pub paths-sum : pathsTotal pins macros ≡ total (map (pathCost (netOf pins macros)) kept)
-  -- N17: a unit of metal costs 1 along both axes, so that every cost named here and above is a length
+  -- N17: a unit of metal costs 1 along both axes, so that every cost in this record is a length
   pub cost-is : (a b : Place) → costIn (netOf pins macros) a b ≡ distance a b
   -- R22: the metal to lay is the sum over the edges given
   pub metal : laidTotal pins macros ≡ lengths distance (laidOf pins macros)

@@ -7,11 +7,14 @@ mod allowed; // allowed.rt: what goes on once the check has passed
 use net::Checked;
 use net::Refusal;
 use netfile::Written;
+use price::Priced;
 ghost use mathlib.Core.Path.{_≡_};
 ghost use Rattle.net.specs.Check.{checked, told};
+ghost use Rattle.price.specs.Price.{toldPrice};
 ghost use Rattle.router.specs.Graph.{graphed};
 ghost use Rattle.router.specs.Terminal.{terminalTree};
 ghost use Rattle.router.specs.Refined.{refinedTree, wired};
+ghost use Rattle.router.specs.Price.{netPrice};
 ghost use Rattle.router.specs.Call.{GraphCall, TerminalCall, RefinedCall, WiresCall, WriteCall, ReadCall};
 
 // The answer of a graph: how many vertices and how many edges were given.
@@ -85,6 +88,19 @@ pub fn wires(pins: &[i32], macros: &[i32], wires: &mut [i32]) -> Wired
     match answer {
         Checked::Allowed(net) => allowed::wires(net, pins, macros, &mut *wires),
         Checked::Refused(refusal) => Wired::Refused(refusal),
+    }
+}
+
+// Price: what a bureau charges for the metal to lay, in hundredths of the currency, or 11 to 17, then 31 and 32 for the bands: two numbers
+// each, the most metal that the band reaches and its rate per 1,000 units. Metal is the refined tree's plain length (R22). That more metal
+// is never charged less where limits rise strictly and rates never fall: `LongerNeverLess` (specs/Price.antt).
+pub fn price(pins: &[i32], macros: &[i32], bands: &[u64]) -> Priced
+    ensures { λ r. ⌜ toldPrice r ≡ netPrice (now (pins .entry)) (now (macros .entry)) (now (bands .entry)) ⌝ }
+{
+    let answer = net::check(pins, macros);
+    match answer {
+        Checked::Allowed(net) => allowed::price(net, pins, macros, bands),
+        Checked::Refused(refusal) => Priced::Refused(refusal),
     }
 }
 

@@ -87,7 +87,8 @@ module _ {net : Net} (a : Allowed net) where
   single j k m i e = bridge-only j k (kept-origin a j m .bridge) (kept-origin a k i .bridge) (ap (λ (z : Kept). z .0) e)
 
   lowest : {x y : Place} → (x ≡ y → ⊥) → {w : List Path} → OurWay pathEnds ks x y w →
-      {cs : List (TerminalPath (spanning net) (net .pins))} → Chain endsOf x cs y → most (map (pathCost net) w) ≤ most (map (lengthOf (costIn net)) cs)
+      {cs : List (TerminalPath (spanning net) (net .pins))} → Chain endsOf x cs y →
+      most (map (pathCost net) w) ≤ most (map (lengthOf (costIn net)) cs)
   lowest n {w} o {cs} c =
       let into : (k : Path) → k ∈ ks → givenFor net k ∈ pathsOf net
       = λ k m. subst (λ (l : List Kept). givenFor net k ∈ l) (paths-given a) (in-map (givenFor net) m) in

@@ -115,7 +115,8 @@ rising-one ks e i j r h k q =
 module _ {net : Net} (t : Tree) (sound : Sound net t) (ranked : Ranked (t .edges .keys) (t .edges .size))
     (few : t .count ≤ treeBound) where
   -- two edges of what is left are one where their ends are
-  left-one : (i j : ℕ) → i < pruned (net .pins) t .edges .size → j < pruned (net .pins) t .edges .size → edgeAt (pruned (net .pins) t) i ≡ edgeAt (pruned (net .pins) t) j → i
+  left-one : (i j : ℕ) → i < pruned (net .pins) t .edges .size → j < pruned (net .pins) t .edges .size →
+      edgeAt (pruned (net .pins) t) i ≡ edgeAt (pruned (net .pins) t) j → i
       ≡ j
   unfolding pruned
   left-one i j h k q =
@@ -133,10 +134,12 @@ module _ {net : Net} (t : Tree) (sound : Sound net t) (ranked : Ranked (t .edges
       Loose net (edgesIn (pruned (net .pins) t)) (placeAt (pruned (net .pins) t .points) v) (edgeAt (pruned (net .pins) t) i) → ⊥
   not-loose v i h q l =
       let r = pruned-left net t sound few .two v i h q (l .free) in
-      r .1 .1 .0 (left-one (r .0) i (r .1 .0) h (l .single (edgeAt (pruned (net .pins) t) (r .0)) (edge-in (pruned (net .pins) t) (r .0) (r .1 .0))
+      r .1 .1 .0 (left-one (r .0) i (r .1 .0) h (l .single (edgeAt (pruned (net .pins) t) (r .0))
+      (edge-in (pruned (net .pins) t) (r .0) (r .1 .0))
       (at (r .0) (r .1 .1 .1))))
     where
-      at : (j : ℕ) → tables.EndOf (pruned (net .pins) t) v j → EndOf (placeAt (pruned (net .pins) t .points) v) (edgeAt (pruned (net .pins) t) j)
+      at : (j : ℕ) → tables.EndOf (pruned (net .pins) t) v j →
+          EndOf (placeAt (pruned (net .pins) t .points) v) (edgeAt (pruned (net .pins) t) j)
       at j (inl e) = inl (ap (placeAt (pruned (net .pins) t .points)) e)
       at j (inr e) = inr (ap (placeAt (pruned (net .pins) t .points)) e)
 
@@ -159,7 +162,8 @@ module _ {net : Net} (t : Tree) (sound : Sound net t) (ranked : Ranked (t .edges
   strips : Strips net (edgesIn t) (edgesIn (pruned (net .pins) t))
   unfolding pruned
   strips =
-      strips-ours (t .points) (t .count) (sound .ordered) few net (marks (net .pins) (t .points) (t .count)) (unmarked (net .pins) (t .points) (t .count) few)
+      strips-ours (t .points) (t .count) (sound .ordered) few net (marks (net .pins) (t .points) (t .count))
+      (unmarked (net .pins) (t .points) (t .count) few)
       (t .edges .size) (t .edges .keys) (sound .within)
 
   pub prunes-ours : Prunes net (edgesIn t) (edgesIn (pruned (net .pins) t))

@@ -6,7 +6,6 @@ use native.Mathlib.Omega.{arith}
 use lib.ListN.{length}
 use Rattle.lists.specs.Sorted.{Ascending}
 use Rattle.lists.proofs.SortedLaws.{ascending-same}
-use Rattle.plane.specs.declared.Place.{Place}
 use Rattle.joined.specs.Cost.{lengths}
 use Rattle.net.specs.Allowed.{Allowed}
 use Rattle.net.specs.Net.{Net, costIn}

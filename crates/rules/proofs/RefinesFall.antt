@@ -13,7 +13,6 @@ use Rattle.lists.specs.Sorted.{Ascending}
 use Rattle.lists.proofs.TestLaws.{by}
 use Rattle.lists.proofs.MemberLaws.{in-reverse, of-reverse}
 use Rattle.lists.proofs.SortedLaws.{ascending-same}
-use Rattle.plane.specs.declared.Place.{Place}
 use Rattle.plane.proofs.PlaceOrder.{place-same}
 use Rattle.joined.specs.Cost.{lengths}
 use Rattle.joined.proofs.TreeLaws.{tree-cuts}
@@ -58,9 +57,11 @@ module _ {net : Net} where
       ≡ treeTotal (net .weights) t
   sum-is m t fit T o h =
       let k = same-then (same-turn h) (edges-same t) in
-      ap (lengths (costIn net)) (ascending-same edgeBefore edge-order T (treeEdges t) o (tree-in-order m t fit) (k .0) (k .1)) ∙ tree-total (net .weights) t
+      ap (lengths (costIn net)) (ascending-same edgeBefore edge-order T (treeEdges t) o (tree-in-order m t fit) (k .0) (k .1)) ∙
+      tree-total (net .weights) t
 
-  tables-fall : (m : ℕ) (t : Tree) → Fit net (suc m) t → (foundIn net t .gain ≡ 0 → ⊥) → treeTotal (net .weights) (exchanged net t) + foundIn net t .gain
+  tables-fall : (m : ℕ) (t : Tree) → Fit net (suc m) t → (foundIn net t .gain ≡ 0 → ⊥) →
+      treeTotal (net .weights) (exchanged net t) + foundIn net t .gain
       ≡ treeTotal (net .weights) t
   tables-fall m t fit some =
       let few = fit .few in

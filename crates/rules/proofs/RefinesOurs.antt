@@ -9,7 +9,6 @@ use lib.Dec.{eqb}
 use lib.ListN.{length}
 use borrow.Author.Tests.{eqb-true, eqb-false}
 use Rattle.lists.proofs.TestLaws.{by}
-use Rattle.plane.specs.declared.Place.{Place}
 use Rattle.joined.proofs.TreeLaws.{tree-cuts}
 use Rattle.plane.proofs.PlaceOrder.{place-same}
 use Rattle.net.specs.Net.{Net}
@@ -119,11 +118,17 @@ module _ {net : Net} where
     unfolding tables.refined
     prunes =
         let few = fit .few in
-        prunes-ours (tables.rounds (net .weights) (net .macros) (length (net .pins)) t) (kept .sound) (kept .ranked (fit .ranked)) (omega (arith, kept-count kept))
+        prunes-ours (tables.rounds (net .weights) (net .macros) (length (net .pins)) t) (kept .sound) (kept .ranked (fit .ranked))
+        (omega (arith, kept-count kept))
 
     -- what the definitions work out is a solution
     pub refines-ours : Refines net (edgesIn t) (edgesIn (tables.refined net t))
-    refines-ours = record { rounded = edgesIn (tables.rounds (net .weights) (net .macros) (length (net .pins)) t); rounds = rounds-ours (length (net .pins)) t fit; prunes = prunes }
+    refines-ours = record {
+      rounded = edgesIn (tables.rounds (net .weights) (net .macros) (length (net .pins)) t);
+      rounds =
+          rounds-ours (length (net .pins)) t fit;
+      prunes = prunes;
+    }
 
     -- and every solution has its edges
     pub refines-only : (T R : List Edge) → Same (edgesIn t) T → Refines net T R → Same (edgesIn (tables.refined net t)) R

@@ -73,7 +73,8 @@ longest-one {k = k} {l = l} p q =
     edge-order .tie k l (q .smallest k (p .step) (omega arith)) (p .smallest l (q .step) (omega arith))
 
 -- in a tree one edge alone is L
-pub cut-only : {net : Net} {T : List Edge} → Cuts T → {a b u : Place} {k l : Edge} → (a, b) ∈ T → Cut net T a b u k → Cut net T a b u l → k ≡ l
+pub cut-only : {net : Net} {T : List Edge} → Cuts T → {a b u : Place} {k l : Edge} → (a, b) ∈ T → Cut net T a b u k → Cut net T a b u l →
+    k ≡ l
 cut-only {net} {T} cuts {u = u} {k = k} m p q =
     longest-one (subst (λ (qs : List Place). Longest net T u qs k) (toward-only place-same cuts (inl m) (p .way) (q .way) .1) (p .longest))
     (q .longest)

@@ -274,4 +274,5 @@ pub round-ours : {net : Net} (t : Tree) → Sound net t → Ranked (t .edges .ke
     Round net (edgesIn t) (edgesIn (tables.exchanged net t))
 round-ours {net} t sound ranked few room rooms above =
     round-at (t .points) (t .count) (t .edges .keys) few room rooms (tables.foundIn net t) above (t .edges .size) sound ranked
-    (found-wins (net .weights) (net .macros) (t .points) (t .count) (t .edges .keys) (t .edges .size) above) (found-takes net t sound (omega arith))
+    (found-wins (net .weights) (net .macros) (t .points) (t .count) (t .edges .keys) (t .edges .size) above)
+    (found-takes net t sound (omega arith))

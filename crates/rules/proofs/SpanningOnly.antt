@@ -8,7 +8,6 @@ use Rattle.plane.specs.declared.Place.{Place}
 use Rattle.plane.specs.Place.{before}
 use Rattle.plane.proofs.PlaceOrder.{place-order}
 use Rattle.net.specs.Net.{Net}
-use Rattle.graph.specs.Spanning.{spanning}
 use Rattle.rules.specs.Edges.{Edge, edgeBefore}
 use Rattle.rules.specs.Spanning.{Neighbours, Spanning}
 use Rattle.rules.proofs.EdgeLaws.{edge-order}

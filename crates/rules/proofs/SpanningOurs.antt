@@ -131,7 +131,8 @@ module _ (net : Net) (vs : List Place) (ascending : Ascending before vs) where
   small-of u v w (inl h) e = absurd (let z : ⊥ = omega (arith, h, e) in z)
   small-of u v w (inr h) e = either (λ k. rw k (place-order .never w)) (never-back v w) (h .1)
 
-  preferred-of : (u v w : Place) → costIn net u v ≤ costIn net u w → (costIn net u w ≡ costIn net u v → before w v ≡ false) → Preferred (net .weights) u v w
+  preferred-of : (u v w : Place) → costIn net u v ≤ costIn net u w → (costIn net u w ≡ costIn net u v → before w v ≡ false) →
+      Preferred (net .weights) u v w
   preferred-of u v w n s =
       by (ltb (costIn net u v) (costIn net u w))
       (λ h. inl (ltb-true (costIn net u v) (costIn net u w) h))
@@ -143,7 +144,8 @@ module _ (net : Net) (vs : List Place) (ascending : Ascending before vs) where
   picks-of u v p =
       let q = uncoded (p .quadrant) in
       let r : PicksAt (net .weights) (net .macros) (coded q) u vs v
-      = subst (λ (z : code.Quadrant). PicksAt (net .weights) (net .macros) z u vs v) (decoded (p .quadrant)) (pick-at (net .weights) (net .macros) (p .quadrant) u vs ascending v (p .picks)) in
+      = subst (λ (z : code.Quadrant). PicksAt (net .weights) (net .macros) z u vs v) (decoded (p .quadrant))
+      (pick-at (net .weights) (net .macros) (p .quadrant) u vs ascending v (p .picks)) in
       record {
         quadrant = q;
         may = fit-may q u v (r .stands) (r .fit);
@@ -181,7 +183,8 @@ module _ (net : Net) (vs : List Place) (ascending : Ascending before vs) where
 
   of-neighbours : (u v : Place) → Neighbours net vs u v → (u, v) ∈ ourEdges (net .weights) (net .macros) vs
   of-neighbours u v j =
-      at (picked-link (net .weights) (net .macros) vs u v (either (λ p. inl (of-picks u v (j .one) p)) (λ p. inr (of-picks v u (j .other) p)) (j .picked)))
+      at (picked-link (net .weights) (net .macros) vs u v (either (λ p. inl (of-picks u v (j .one) p))
+      (λ p. inr (of-picks v u (j .other) p)) (j .picked)))
     where
       at : Link (ourEdges (net .weights) (net .macros) vs) u v → (u, v) ∈ ourEdges (net .weights) (net .macros) vs
       at (inl m) = m

@@ -156,7 +156,8 @@ module _ {net : Net} (a : Allowed net) where
       let k = r .0 in
       let o = of-start k (r .1 .0) in
       let j = o .bridge in
-      let c = of-map (givenFor net) (ourPaths a) (subst (λ (l : List Kept). given a j ∈ l) (sym (paths-given a)) (given-in a j (o .kept))) in
+      let c = of-map (givenFor net) (ourPaths a) (subst (λ (l : List Kept). given a j ∈ l) (sym (paths-given a))
+      (given-in a j (o .kept))) in
       let f : On (edgeAt (spanning net) k .0) (edgeAt (spanning net) k .1) (c .entry .start) (c .entry .points)
       = on-kept (c .entry) (c .stands) j (o .kept) (sym (c .is)) _ _ .1
       (subst (λ (x : Place). Steps j (o .kept) x (edgeAt (spanning net) k .1)) (one-vertex a k (o .inside))

@@ -19,7 +19,6 @@ use Rattle.plane.proofs.PlaceOrder.{place-same}
 use Rattle.net.specs.Allowed.{Allowed}
 use Rattle.net.specs.Net.{Net}
 use Rattle.graph.specs.Spanning.{verticesOf, spanning}
-use Rattle.graph.specs.Vertices.{vertices}
 use Rattle.graph.specs.Edges.{beforeEdge}
 use Rattle.terminal.specs.Tree.{pathsOf, rootOf, rootsOf}
 use Rattle.terminal.specs.Roots as tables

@@ -16,11 +16,9 @@ use Rattle.joined.specs.Chain.{Chain, Joining, OurWay}
 use Rattle.joined.proofs.CarriedLaws.{turned-carried, same-point, path-carried, start-carried, finish-carried, points-carried, step-carried}
 use Rattle.joined.proofs.CarriedLaws.{Follows, chain-carried, joining-carried, our-way-carried, chain-ends}
 use Rattle.plane.specs.declared.Place.{Place}
-use Rattle.plane.specs.declared.Macro.{Macro}
 use Rattle.net.specs.Allowed.{Allowed}
 use Rattle.net.specs.Net.{Net, costIn}
 use Rattle.graph.specs.Spanning.{verticesOf, spanning}
-use Rattle.graph.specs.Vertices.{vertices}
 use Rattle.forest.specs.Edges.{one, two}
 use Rattle.terminal.specs.Bridges.{sameRoot, rootsOf as rootsBy}
 use Rattle.terminal.specs.Kept.{terminal, keptLengths}

@@ -15,11 +15,9 @@ use Rattle.joined.specs.Path.{TerminalPath, lengthOf}
 use Rattle.joined.proofs.JoinedLaws.{firsts, seconds}
 use Rattle.joined.proofs.CarriedLaws.{Carries, way-carried, long-carried, path-carried, length-carried, Follows}
 use Rattle.plane.specs.declared.Place.{Place}
-use Rattle.plane.specs.declared.Macro.{Macro}
 use Rattle.net.specs.Allowed.{Allowed}
 use Rattle.net.specs.Net.{Net, costIn}
 use Rattle.graph.specs.Spanning.{verticesOf, spanning}
-use Rattle.graph.specs.Vertices.{vertices}
 use Rattle.graph.specs.Edges.{beforeEdge}
 use Rattle.graph.proofs.VertexLaws.{pin-vertex, vertices-ascending}
 use Rattle.graph.proofs.EdgeLaws.{edge-order}
@@ -80,7 +78,8 @@ module _ {net : Net} (a : Allowed net) where
       (r .stands)
 
   pub to-places :
-      Carries (vertexAt (verticesOf net)) (numberOf (verticesOf net)) (λ i. i < length (verticesOf net)) (pairs G) (spanning net) pins (net .pins)
+      Carries (vertexAt (verticesOf net)) (numberOf (verticesOf net)) (λ i. i < length (verticesOf net)) (pairs G) (spanning net) pins
+      (net .pins)
   to-places = record {
     pair = edge-places;
     inside = λ i j m. (let r = link-in (setting a) i j (inl m) in (r .near-in, r .far-in));
@@ -124,7 +123,8 @@ module _ {net : Net} (a : Allowed net) where
       long (costIn net) u qs ≡ long (between-numbers a) (numberOf (verticesOf net) u) (map (numberOf (verticesOf net)) qs)
   long-numbers w = long-carried to-numbers (costIn net) (between-numbers a) between-is w
 
-  pub length-by-places : (t : TerminalPath (pairs G) pins) → lengthOf (between-numbers a) t ≡ lengthOf (costIn net) (path-carried to-places t)
+  pub length-by-places : (t : TerminalPath (pairs G) pins) → lengthOf (between-numbers a) t ≡ lengthOf (costIn net)
+      (path-carried to-places t)
   length-by-places t = length-carried to-places (between-numbers a) (costIn net) (λ i j h k. refl) t
 
   pub length-by-numbers : (t : PathOf net) → lengthOf (costIn net) t ≡ lengthOf (between-numbers a) (path-carried to-numbers t)

@@ -17,11 +17,9 @@ use Rattle.lists.proofs.SortedLaws.{position-small, at-position}
 use Rattle.joined.specs.Keep.{kept}
 use Rattle.joined.proofs.CarriedLaws.{Matches, kept-carried}
 use Rattle.plane.specs.declared.Place.{Place}
-use Rattle.plane.specs.declared.Macro.{Macro}
 use Rattle.net.specs.Allowed.{Allowed}
 use Rattle.net.specs.Net.{Net}
 use Rattle.graph.specs.Spanning.{verticesOf, spanning}
-use Rattle.graph.specs.Vertices.{vertices}
 use Rattle.graph.specs.Edges.{beforeEdge}
 use Rattle.graph.proofs.EdgeLaws.{edge-order}
 use Rattle.graph.proofs.GraphBounds.{spanning-ascending}

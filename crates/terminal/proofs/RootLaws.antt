@@ -1,4 +1,4 @@
--- Roots, parents and ways of an allowed net, over places: proved over vertex numbers (terminal/proofs/Nearest.antt, Homeward.antt) and
+-- Roots, parents and ways of an allowed net, over places: proved over vertex numbers (forest/proofs/Nearest.antt, Homeward.antt) and
 -- carried over. The order of numbers is the order of places, so what is smallest by number is the smallest place.
 -- Assumes nothing.
 use mathlib.Core.Path.{_≡_, refl, sym, ap, _∙_, subst}
@@ -15,12 +15,10 @@ use Rattle.joined.specs.Way.{long}
 use Rattle.joined.proofs.WayLaws.{way-cast}
 use Rattle.joined.proofs.CarriedLaws.{link-carried, link-in as linked, same-point, way-in}
 use Rattle.plane.specs.declared.Place.{Place}
-use Rattle.plane.specs.declared.Macro.{Macro}
 use Rattle.plane.specs.Place.{before}
 use Rattle.net.specs.Allowed.{Allowed}
 use Rattle.net.specs.Net.{Net, costIn}
 use Rattle.graph.specs.Spanning.{verticesOf, spanning}
-use Rattle.graph.specs.Vertices.{vertices}
 use Rattle.graph.proofs.VertexLaws.{vertices-ascending}
 use Rattle.terminal.specs.Kept.{terminal}
 use Rattle.forest.specs.Labels.{far, root}

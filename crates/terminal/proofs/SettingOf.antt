@@ -1,5 +1,5 @@
 -- The spanning graph of an allowed net, by numbers, is what the theorems of the terminal tree suppose: edges join two different vertices
--- and are as long as their distance, and the graph joins its vertices, among them the pins.
+-- and are as long as metal between them costs, and the graph joins its vertices, among them the pins.
 -- Assumes nothing.
 use mathlib.Core.Path.{_≡_, refl, sym, ap, ap₂, _∙_}
 use mathlib.Core.Logic.{inl}
@@ -15,7 +15,6 @@ use Rattle.lists.proofs.SortedLaws.{position-small, at-position}
 use Rattle.joined.specs.Joined.{Joined}
 use Rattle.joined.proofs.JoinedLaws.{one as one-link, between, carried}
 use Rattle.plane.specs.declared.Place.{Place}
-use Rattle.plane.specs.declared.Macro.{Macro}
 use Rattle.plane.proofs.CostLaws.{cost-comm}
 use Rattle.net.specs.Allowed.{Allowed}
 use Rattle.net.specs.Net.{Net, costIn}
@@ -33,7 +32,8 @@ use Rattle.forest.proofs.EdgeLaws.{in-from}
 use Rattle.terminal.proofs.OurTree.{kept-count}
 use Rattle.terminal.specs.Number.{numberOf, vertexAt, edgeAt, pinNumbers}
 use Rattle.terminal.specs.Tree.{graphOf, treeOf}
-use Rattle.terminal.proofs.NumberLaws.{vertex-in, number-small, vertex-of-number, number-of-vertex, one-of, two-of, len-of, count-of, pins-count, pin-number-in, pin-small, pins-once}
+use Rattle.terminal.proofs.NumberLaws.{vertex-in, number-small, vertex-of-number, number-of-vertex, one-of, two-of, len-of}
+use Rattle.terminal.proofs.NumberLaws.{count-of, pins-count, pin-number-in, pin-small, pins-once}
 
 module _ {net : Net} (a : Allowed net) where
   abbrev vs : List Place

@@ -8,7 +8,7 @@ use Rattle.lists.specs.Sorted.{firstThen, put, sorted}
 use Rattle.lists.specs.Those.{those}
 use Rattle.lists.specs.Total.{total}
 use Rattle.joined.specs.Table.{changed, keptBy}
-use Rattle.forest.specs.Bounds.{unreached}
+use Rattle.forest.specs.Bounds.{pointBound, edgeBound, unreached}
 use Rattle.forest.specs.Edges.{Graph, graph, from, filled}
 use Rattle.forest.specs.Labels.{better, gains, offer, relaxEdge, moves, relax, changes, settled, starts, labelled}
 use Rattle.forest.specs.Parents.{leads, nearer, through, parentAmong, parent, adopted, parented, wayOf, way}
@@ -80,15 +80,20 @@ pub record Table : Type 0 where
   -- the smaller root on a tie
   pub smaller-root :
       forest ring 4 (0 ∷ 3 ∷ [])
-      ≡ record { far = 0 ∷ 1 ∷ 1 ∷ 0 ∷ []; root = 0 ∷ 0 ∷ 0 ∷ 3 ∷ []; parent = 320 ∷ 0 ∷ 0 ∷ 320 ∷ []; edge = 1280 ∷ 0 ∷ 1 ∷ 1280 ∷ [] }
+      ≡ record {
+        far = 0 ∷ 1 ∷ 1 ∷ 0 ∷ [];
+        root = 0 ∷ 0 ∷ 0 ∷ 3 ∷ [];
+        parent = pointBound ∷ 0 ∷ 0 ∷ pointBound ∷ [];
+        edge = edgeBound ∷ 0 ∷ 1 ∷ edgeBound ∷ [];
+      }
   -- the smaller parent on a tie, and a vertex that no pin reaches
   pub smaller-parent :
       forest twoWays 5 (4 ∷ [])
       ≡ record {
         far = 2 ∷ 1 ∷ 1 ∷ unreached ∷ 0 ∷ [];
         root = 4 ∷ 4 ∷ 4 ∷ 0 ∷ 4 ∷ [];
-        parent = 1 ∷ 4 ∷ 4 ∷ 320 ∷ 320 ∷ [];
-        edge = 1 ∷ 2 ∷ 3 ∷ 1280 ∷ 1280 ∷ [];
+        parent = 1 ∷ 4 ∷ 4 ∷ pointBound ∷ pointBound ∷ [];
+        edge = 1 ∷ 2 ∷ 3 ∷ edgeBound ∷ edgeBound ∷ [];
       }
   -- the earlier edge on a tie
   pub earlier-edge : tree row 5 (0 ∷ 2 ∷ 4 ∷ []) ≡ record { kept = 1 ∷ 3 ∷ []; lengths = 4 ∷ 4 ∷ []; total = 8 }

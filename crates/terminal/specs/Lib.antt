@@ -14,24 +14,23 @@
 --              terminal g n pins                    all of it, with the total
 --   Number     numberOf vs p, vertexAt vs i         the number of a vertex; the vertex of a number
 --              edgeAt es k                          the edge of a number
---              numbered vs es                       the graph by numbers, in the router's tables
+--              numbered w vs es                     the graph by numbers, in the router's tables
 --              pinNumbers vs ps                     the pins by numbers, in order
---   Tree       treeOf ps ms                         the terminal tree of a net, by numbers
+--   Tree       treeOf net                          the terminal tree of a net, by numbers
 --              bridgesOf, lengthsOf, totalOf        its kept bridges as edges, the lengths of their paths, their sum
---              pathsOf ps ms, pathNumbers           bridge and length of each kept path; the five numbers that are given for it
---              rootOf ps ms v, rootsOf ps ms b      the root of a vertex; the two pins that a bridge's path joins
---   Roots      farOf ps ms v, parentOf ps ms v      how far a vertex is from its root; its parent
---              NearestRoot ps ms v                  the root is the nearest pin, the smallest on a tie
---              Through, SmallestParent ps ms v      the parent is the smallest neighbour on a shortest way to the root
---              WayUp ps ms v qs                     qs are the places after v on its way to its root
---              HomeWay ps ms v                      such a way, loop-free to the root
---   Stands     Kept, keptEnds ps ms k               a kept path, bridge and length; the two pins that it joins
---              PathOf ps ms                         a terminal path of the net's graph
---              Stands ps ms b l                     the bridge b stands for a terminal path of length l
---   KeptBridges takenBefore j k                      by path length, ties by the order of edges
---              KeptBridges ps ms                    the bridges in this order, and the given paths are those that are kept of them
---   Tables     tables .., Fresh                     the tables that are lent for it, and what is asked of them
---              Worked ps ms lent t r                what they hold once the tree is worked out
+--              pathsOf net, pathNumbers            bridge and length of each kept path; the five numbers that are given for it
+--              rootOf net v, rootsOf net b         the root of a vertex; the two pins that a bridge's path joins
+--   Roots      farOf net v, parentOf net v         how far a vertex is from its root; its parent
+--              NearestRoot net v                   the root is the nearest pin, the smallest on a tie
+--              Through, SmallestParent net v       the parent is the smallest neighbour on a shortest way to the root
+--              WayUp net v qs                      qs are the places after v on its way to its root
+--              HomeWay net v                       such a way, loop-free to the root
+--   Stands     Kept, keptEnds net k                a kept path, bridge and length; the two pins that it joins
+--              PathOf net                          a terminal path of the net's graph
+--              Stands net b l                      the bridge b stands for a terminal path of length l
+--   KeptBridges takenBefore j k                    by path length, ties by the order of edges
+--              KeptBridges net                     the bridges in this order, and the given paths are those that are kept of them
+--   Tables     Worked net t                         the struct t of tables and counts is the net's terminal tree
 --              pathsIn es kept long n               the kept paths as the tables have them
 --              Givable                              what is asked to give them
 pub mod Bridges

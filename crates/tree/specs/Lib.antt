@@ -1,4 +1,4 @@
--- The tables of a tree, which union, refiner and wires share, and what it means that they are sound.
+-- The tables of a tree, which union, refiner and refined share, and what it means that they are sound.
 --
 -- The points of the tree are a table in the order of places, and a point is its number there. An edge is one number, the key of its ends,
 -- and the edges are a table in the order of keys, so an edge is its position. Then the order of numbers is the order of places and of

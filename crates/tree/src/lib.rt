@@ -1,4 +1,4 @@
-// The tables of a tree, which union, refiner and wires share: its points in the order of places, two numbers each, and its edges as keys of
+// The tables of a tree, which union, refiner and refined share: its points in the order of places, two numbers each, and its edges as keys of
 // their ends' numbers, in the order of edges.
 use net::Net;
 use plane::Place;
@@ -16,6 +16,13 @@ pub const NUMBERS: usize = POINTS * 2;
 pub struct Size {
     pub points: usize,
     pub edges: usize,
+}
+
+// A tree in its tables: its points, its edges as keys, and how many of each the tables hold.
+pub struct Tables {
+    pub points: [i32; NUMBERS],
+    pub keys: [usize; POINTS],
+    pub size: Size,
 }
 
 // The place of point i.

@@ -1,5 +1,5 @@
 -- The union of the kept paths of an allowed net is a sound start for the refiner: one tree over its points in order, with all pins and
--- every edge clear and in order; it has no more metal to lay than the terminal tree, and leaves room for a point a round.
+-- every edge clear and in order; it costs no more than the terminal tree, and leaves room for a point a round.
 -- Assumes nothing.
 use mathlib.Core.Path.{_≡_, refl, sym, ap, ap₂, _∙_}
 use mathlib.Core.Bool.{true}
@@ -33,7 +33,6 @@ use Rattle.plane.proofs.PlaceOrder.{place-order}
 use Rattle.net.specs.Allowed.{Allowed}
 use Rattle.net.specs.Net.{Net, costIn}
 use Rattle.graph.specs.Spanning.{verticesOf, spanning}
-use Rattle.graph.specs.Vertices.{vertices}
 use Rattle.graph.specs.Edges.{beforeEdge}
 use Rattle.graph.proofs.VertexLaws.{pin-vertex, vertices-ascending}
 use Rattle.graph.proofs.GraphBounds.{few-vertices, spanning-ascending}
@@ -55,7 +54,8 @@ use Rattle.union.specs.Union.{stands, bothEnds, keptEdges, unionEdges, u
 use Rattle.union.proofs.StandsLaws.{picked-ascending}
 use Rattle.union.proofs.UnionTree.{pin-point, first-point, second-point, point-inside, edge-inside, union-size, union-tree}
 use Rattle.union.proofs.UnionTree.{union-total}
-use Rattle.union.proofs.PlacedLaws.{pointTable, edgeTable, points-length, edges-length, point-at, key-at, position-rises, point-of, first-at, second-at, keys-within, below-total}
+use Rattle.union.proofs.PlacedLaws.{pointTable, edgeTable, points-length, edges-length, point-at, key-at, position-rises}
+use Rattle.union.proofs.PlacedLaws.{point-of, first-at, second-at, keys-within, below-total}
 
 module _ {net : Net} (a : Allowed net) where
   abbrev vs : List Place
@@ -262,7 +262,8 @@ module _ {net : Net} (a : Allowed net) where
   later k l i j h =
       let x = edge-below k i in
       let y = edge-below l j in
-      let b = ascending-at beforeEdge (spanning net) (spanning-ascending net) k l _ h (rw (count-of (net .weights) vs (spanning net)) at y) in
+      let b = ascending-at beforeEdge (spanning net) (spanning-ascending net) k l _ h
+      (rw (count-of (net .weights) vs (spanning net)) at y) in
       either
       (λ e. inl
       (ltb-true (one g k) (one g l)
@@ -327,7 +328,8 @@ module _ {net : Net} (a : Allowed net) where
   unfolding unionOf startOf
   union-cost =
       let e : below (λ i. keyCost (net .weights) points (getD keys i 0)) (length E) ≡ total (map (len g) E) =
-      below-same (λ i. keyCost (net .weights) points (getD keys i 0)) (λ i. len g (getD E i 0)) (length E) edge-long ∙ below-total (len g) E in
+      below-same (λ i. keyCost (net .weights) points (getD keys i 0)) (λ i. len g (getD E i 0)) (length E) edge-long ∙
+      below-total (len g) E in
       omega (arith, e, number-total)
 
   -- a round may bring a point, and there are as many rounds as pins

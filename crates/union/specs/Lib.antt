@@ -11,20 +11,19 @@
 --              keptEdges g fars p ks                the edges of the kept paths, one path after the other
 --              unionEdges, unionPoints .. n pins    the union's edges and points, in order, each once
 --              startOf .. places n pins             the same as the refiner's tables
---              unionOf net                        that of a net
+--              unionOf net                          that of a net
 --   Marks      marked l t, isMarked t k             a table with the numbers of a list marked, as the code makes it and reads it
 --              marks t n                            the marked ones of n numbers, in order
 --              Ranking t n ranks                    a table of how many marked numbers come before each
 --              Startable                            what the code asks of the tables of a terminal tree
+--   Start      graphIn, parentsIn, startIn t        the graph, the parents and the start as the struct of a terminal tree has them
 --
 -- THE THEOREMS, in the order of their proof.
 --   UnionTree    union-tree        the union is one tree over its points;  union-total: it is no longer than the kept paths
 --   UnionSound   union-sound       that of an allowed net is `Sound`, as the refiner wants it;  union-ranked: its edges are in order
---                union-metal       its sum of edge lengths is at most the terminal total;  union-room: rounds find room for their points
---                union-promise     so the refined tree of the net keeps `Promise`;  union-tabled: and `Tabled`
---   UnionSentences   union-takes   each round of the net takes the candidate that R10 says;  union-left: pruning leaves none
---   UnionOrder   union-order       it is the same for every order of pins and macros
+--                union-cost        its edges cost at most the terminal total;  union-room: rounds find room for their points
 --   WorkedStart  worked-startable  the tables of a net's terminal tree are what the code asks for;  worked-start: it makes the net's union
 --                refinable         which is what the refiner asks for
 pub mod Union
 pub mod Marks
+pub mod Start

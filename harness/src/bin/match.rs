@@ -20,6 +20,7 @@ fn all(seed: u64) -> Matched {
         case.terminal_tree()?;
         case.refined_tree()?;
         case.wires()?;
+        case.price().map(|_| ())?;
     }
     Ok(())
 }

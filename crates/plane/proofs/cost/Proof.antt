@@ -15,14 +15,14 @@ use Rattle.plane.proofs.cost.Tie as tie
 gap-requires : tie.Need-gap-requires
 gap-requires c κs = search needs
 
-priced-requires : tie.Need-priced-requires
-priced-requires c κs = search needs
+axis-cost-requires : tie.Need-axis-cost-requires
+axis-cost-requires c κs = search needs
 
 gap-requires-2 : tie.Need-gap-requires-2
 gap-requires-2 c κs = search needs
 
-priced-requires-2 : tie.Need-priced-requires-2
-priced-requires-2 c κs = search needs
+axis-cost-requires-2 : tie.Need-axis-cost-requires-2
+axis-cost-requires-2 c κs = search needs
 
 module _ (s : tie.Start) where
   of-a : PlaceFits (s .args .a)
@@ -32,19 +32,19 @@ module _ (s : tie.Start) where
   of-b = record { x = search needs; y = search needs }
 
 -- each axis, of the fields themselves: a callee is handed what the machine reads back from their bits
-across : (c : tie.After-priced) → let s = c .before .before .before .before in
-    c .priced .result ≡ apart (s .args .a .x) (s .args .b .x) * s .args .w .across
+across : (c : tie.After-axis-cost) → let s = c .before .before .before .before in
+    c .axis-cost .result ≡ apart (s .args .a .x) (s .args .b .x) * s .args .w .across
 across c =
     let s = c .before .before .before .before in
-    c .priced .ensures .0
+    c .axis-cost .ensures .0
     ∙ ap (λ (n : ℕ). n * s .args .w .across)
     (rw (toZ-ofZ w32 _ (of-a s .x), toZ-ofZ w32 _ (of-b s .x)) at (c .before .gap .ensures .0))
 
-along : (c : tie.After-priced2) → let s = c .before .before .before .before .before .before .before .before in
-    c .priced2 .result ≡ apart (s .args .a .y) (s .args .b .y) * s .args .w .along
+along : (c : tie.After-axis-cost2) → let s = c .before .before .before .before .before .before .before .before in
+    c .axis-cost2 .result ≡ apart (s .args .a .y) (s .args .b .y) * s .args .w .along
 along c =
     let s = c .before .before .before .before .before .before .before .before in
-    c .priced2 .ensures .0
+    c .axis-cost2 .ensures .0
     ∙ ap (λ (n : ℕ). n * s .args .w .along)
     (rw (toZ-ofZ w32 _ (of-a s .y), toZ-ofZ w32 _ (of-b s .y)) at (c .before .gap2 .ensures .0))
 
@@ -55,9 +55,9 @@ returns : tie.Need-returns
 unfolding cost
 returns c =
     let d = c .before .before .before .before in
-    (ap₂ _+_ (across d) (along c), omega (arith, d .priced .ensures .1, c .priced2 .ensures .1))
+    (ap₂ _+_ (across d) (along c), omega (arith, d .axis-cost .ensures .1, c .axis-cost2 .ensures .1))
 
 pub cost-spec : {M : Type 1} → statement M
 cost-spec =
     tie.close
-    (tie.spec gap-requires priced-requires gap-requires-2 priced-requires-2 add-result returns)
+    (tie.spec gap-requires axis-cost-requires gap-requires-2 axis-cost-requires-2 add-result returns)

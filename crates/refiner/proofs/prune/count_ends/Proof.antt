@@ -2,7 +2,7 @@
 -- Assumes nothing.
 use denote.Ref.{now}
 use lib.ListN.{getD}
-use Prim.Native.Nat.{_/_, _%_}
+use Prim.Native.Nat.{_*_, _/_, _%_}
 use mathlib.Core.Path.{_≡_}
 use native.Mathlib.Omega.{arith}
 use borrow.Author.Needs.{needs}
@@ -65,7 +65,7 @@ add-deg-2 c =
     let q = s .pre .1 .0 .small (s .args .i) in
     omega (
       arith,
-      low-step 1000 (now (s .args .deg)) (getD (now (s .args .keys)) (s .args .i) 0 / treeBound) (s .pre .1 .1) .low
+      low-step (treeBound * 2) (now (s .args .deg)) (getD (now (s .args .keys)) (s .args .i) 0 / treeBound) (s .pre .1 .1) .low
           (getD (now (s .args .keys)) (s .args .i) 0 % treeBound),
     )
 

@@ -5,7 +5,7 @@ use mathlib.Core.Path.{_≡_}
 use Prim.Native.Nat.{_≤_, _-_, _*_}
 use native.Mathlib.Omega.{arith}
 use Rattle.refiner.specs.Prune.{countEnds}
-use Rattle.tree.specs.Table.{Low}
+use Rattle.tree.specs.Table.{treeBound, Low}
 use Rattle.refiner.specs.Turns.{turns}
 use Rattle.refiner.proofs.PruneLaws.{low-more, low-count}
 use Rattle.refiner.proofs.TurnLaws.{turns-none, turns-next, turns-end}
@@ -24,7 +24,7 @@ loop-holds c = (omega arith, (c .pre .1 .1, turns-none _ _ _))
 count-ends-requires : tie.Need-count-ends-requires Inv-loop μ-loop
 count-ends-requires c κs =
     let l = c .before .before in
-    (omega arith, (l .before .pre .1 .0, low-more _ _ _ (let h : l .loop .i * 2 ≤ 1000 = omega arith in h) (l .loop .inv .1 .0)))
+    (omega arith, (l .before .pre .1 .0, low-more _ _ _ (let h : l .loop .i * 2 ≤ treeBound * 2 = omega arith in h) (l .loop .inv .1 .0)))
 
 add-i : tie.Need-add-i Inv-loop μ-loop
 add-i c = omega arith

@@ -1,12 +1,12 @@
--- `plane::priced` meets its contract: a gap is below 2^32 and a weight below 2^8, so that their product fits.
+-- `plane::axis_cost` meets its contract: a gap is below 2^32 and a weight below 2^8, so that their product fits.
 -- Assumes nothing.
 use borrow.Author.Needs.{needs}
 use mathlib.Core.Path.{refl}
 use Prim.Native.Nat.{_*_, _^_, _<_}
 use native.Mathlib.Omega.{arith}
 use Rattle.plane.proofs.CostLaws.{product-fits}
-use Rattle.plane.proofs.priced.Statement.{statement}
-use Rattle.plane.proofs.priced.Tie as tie
+use Rattle.plane.proofs.axis_cost.Statement.{statement}
+use Rattle.plane.proofs.axis_cost.Tie as tie
 
 small : (s : tie.Start) → s .args .gap * s .args .weight < 2 ^ 40
 small s = product-fits _ _ (s .pre) (search needs)
@@ -17,5 +17,5 @@ mul-result c = omega (arith, small c)
 returns : tie.Need-returns
 returns c = (refl, small c)
 
-pub priced-spec : {M : Type 1} → statement M
-priced-spec = tie.close (tie.spec mul-result returns)
+pub axis-cost-spec : {M : Type 1} → statement M
+axis-cost-spec = tie.close (tie.spec mul-result returns)

@@ -1,0 +1,74 @@
+-- Worked prices, by computing the definition: E17.
+-- Assumes nothing.
+use mathlib.Core.Path.{_≡_, refl}
+use mathlib.Core.Bool.{Bool, true, false}
+use mathlib.Core.List.{List, [], _∷_}
+use Prim.Native.Nat.{ℕ}
+use Rattle.lists.specs.Any.{any}
+use Rattle.lent.specs.Told.{Told, refused, given}
+use Rattle.price.specs.Band.{bandsOf}
+use Rattle.price.specs.Charge.{rounded, charge, reaches, byFirst}
+use Rattle.price.specs.Price.{bandsMiscounted, rateAbove, priced}
+use Rattle.price.specs.Order.{stepsBack, fallsAfter, fallsBack}
+
+-- to unfold this is to unfold all that it rests on
+unfoldable pub answer : ℕ → List ℕ → Told ℕ
+unfolding any bandsOf rounded charge reaches byFirst bandsMiscounted rateAbove priced stepsBack fallsAfter fallsBack
+answer metal s = priced metal s
+
+unfoldable pub back : List ℕ → Bool
+unfolding answer
+back s = fallsBack (bandsOf s)
+
+-- two bands that are kept in order: up to 100 units at rate 10, up to 200 at rate 20
+abbrev two : List ℕ
+two = 100 ∷ 10 ∷ 200 ∷ 20 ∷ []
+
+pub record Table : Type 0 where
+  -- 2.499, 2.5 and 2.501 hundredths: a half goes up
+  pub below-half : answer 2499 (9000 ∷ 1 ∷ []) ≡ given 2
+  pub half : answer 500 (500 ∷ 5 ∷ []) ≡ given 3
+  pub above-half : answer 2501 (9000 ∷ 1 ∷ []) ≡ given 3
+  -- no metal is charged nothing
+  pub no-metal : answer 0 (0 ∷ 1000000 ∷ []) ≡ given 0
+  -- a limit equal to the metal reaches it, one below does not; the first band that reaches it sets the rate
+  pub limit-equal : answer 100 two ≡ given 1
+  pub limit-below : answer 101 two ≡ given 2
+  pub first-of-two : answer 100 (200 ∷ 20 ∷ 100 ∷ 10 ∷ []) ≡ given 2
+  -- 32 where the last limit is below
+  pub none-reaches : answer 201 two ≡ refused 32
+  -- 31 for three numbers, for none, and for a rate above the highest in a band that sets no rate
+  pub odd-list : answer 1 (10 ∷ 5 ∷ 20 ∷ []) ≡ refused 31
+  pub no-band : answer 1 [] ≡ refused 31
+  pub rate-above : answer 1 (10 ∷ 5 ∷ 20 ∷ 1000001 ∷ []) ≡ refused 31
+  pub rate-highest : answer 1000 (1000 ∷ 1000000 ∷ []) ≡ given 1000000
+  -- 31 comes before 32
+  pub wrong-first : answer 11 (10 ∷ 1000001 ∷ []) ≡ refused 31
+  -- the largest limit of 64 bits is like any other
+  pub largest-limit : answer 1000 (18446744073709551615 ∷ 3 ∷ []) ≡ given 3
+  -- the test of a list that is kept in order, of one with two equal limits, and of one whose rates fall
+  pub in-order : back two ≡ false
+  pub equal-limits : back (100 ∷ 10 ∷ 100 ∷ 20 ∷ []) ≡ true
+  pub falling-rates : back (100 ∷ 10 ∷ 200 ∷ 9 ∷ []) ≡ true
+
+pub worked-prices : Table
+unfolding back
+worked-prices = record {
+  below-half = refl;
+  half = refl;
+  above-half = refl;
+  no-metal = refl;
+  limit-equal = refl;
+  limit-below = refl;
+  first-of-two = refl;
+  none-reaches = refl;
+  odd-list = refl;
+  no-band = refl;
+  rate-above = refl;
+  rate-highest = refl;
+  wrong-first = refl;
+  largest-limit = refl;
+  in-order = refl;
+  equal-limits = refl;
+  falling-rates = refl;
+}

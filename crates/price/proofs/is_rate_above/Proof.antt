@@ -1,0 +1,13 @@
+-- `price::is_rate_above` meets its contract: its test is that of the definition.
+-- Assumes nothing.
+use mathlib.Core.Path.{refl}
+use Rattle.price.specs.Price.{rateAbove}
+use Rattle.price.proofs.is_rate_above.Statement.{statement}
+use Rattle.price.proofs.is_rate_above.Tie as tie
+
+returns : tie.Need-returns
+unfolding rateAbove
+returns c = refl
+
+pub is-rate-above-spec : {M : Type 1} → statement M
+is-rate-above-spec = tie.close (tie.spec returns)

@@ -1,0 +1,52 @@
+-- `price::price` meets its contract: 31 by either test over the whole list, then what the first band that reaches the metal says.
+-- Assumes nothing.
+use borrow.Author.Needs.{needs}
+use mathlib.Core.Path.{_≡_, sym, _∙_}
+use mathlib.Core.Bool.{false}
+use denote.Ref.{now}
+use Rattle.lists.specs.Any.{any}
+use Rattle.net.specs.Answer.{number}
+use Rattle.price.specs.Band.{bandsOf}
+use Rattle.price.specs.Price.{bandsMiscounted, rateAbove, toldPrice}
+use Rattle.price.proofs.PriceLaws.{price-miscounted, price-above, price-first}
+use Rattle.price.proofs.price.Statement.{statement}
+use Rattle.price.proofs.price.Tie as tie
+
+-- the list is of whole bands, and there is one
+counted : (c : tie.Else1) → bandsMiscounted (now (c .before .before .before .args .bands)) ≡ false
+counted c = sym (c .before .bands-miscounted .ensures) ∙ c .if1 .left
+
+-- no rate in it is above the highest
+low : (c : tie.Else2) → any rateAbove (bandsOf (now (c .before .before .before .before .before .args .bands))) ≡ false
+low c = sym (c .before .any-rate-above .ensures) ∙ c .if2 .left
+
+bands-miscounted-requires : tie.Need-bands-miscounted-requires
+bands-miscounted-requires c κs = search needs
+
+returns : tie.Need-returns
+unfolding toldPrice number
+returns c = sym (price-miscounted _ _ (sym (c .before .bands-miscounted .ensures) ∙ c .if1 .taken))
+
+any-rate-above-requires : tie.Need-any-rate-above-requires
+any-rate-above-requires c κs = search needs
+
+returns-2 : tie.Need-returns-2
+unfolding toldPrice number
+returns-2 c = sym (price-above _ _ (counted (c .before .before)) (sym (c .before .any-rate-above .ensures) ∙ c .if2 .taken))
+
+by-first-requires : tie.Need-by-first-requires
+by-first-requires c κs = (c .before .before .before .before .before .pre, low c)
+
+returns-3 : tie.Need-returns-3
+returns-3 c = c .by-first .ensures ∙ sym (price-first _ _ (counted (c .before .before .before)) (low (c .before)))
+
+pub price-spec : {M : Type 1} → statement M
+price-spec =
+    tie.close
+    (tie.spec
+    bands-miscounted-requires
+    returns
+    any-rate-above-requires
+    returns-2
+    by-first-requires
+    returns-3)

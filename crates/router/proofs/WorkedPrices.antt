@@ -1,0 +1,38 @@
+-- E18, of worked nets: the refusals of the net come first, and one pin is charged nothing.
+-- Assumes nothing.
+use mathlib.Core.Path.{_≡_, refl}
+use mathlib.Core.List.{List, [], _∷_}
+use Prim.Native.Nat.{ℕ}
+use Rattle.lent.specs.Told.{Told, refused, given}
+use Rattle.plane.specs.Distance.{distance}
+use Rattle.net.specs.WorkedNets.{Lists, onePin, noPin, threePins, overlapping}
+use Rattle.price.proofs.WorkedPrices.{answer}
+use Rattle.router.specs.Price.{metalOf, netPrice}
+use Rattle.router.proofs.WorkedNets.{answers}
+
+-- to unfold this is to unfold all that it rests on
+unfoldable pub priceOf : Lists → List ℕ → Told ℕ
+unfolding answers answer metalOf netPrice distance
+priceOf net bands = netPrice (net .pins) (net .macros) bands
+
+pub record Table : Type 0 where
+  -- E1: one pin, no metal: any first band reaches it
+  pub one-pin : priceOf onePin (0 ∷ 1000000 ∷ []) ≡ given 0
+  -- E4: metal 7, of which 7 × 500 thousandths of a hundredth are 3.5 hundredths
+  pub three-pins : priceOf threePins (7 ∷ 500 ∷ []) ≡ given 4
+  pub not-reached : priceOf threePins (6 ∷ 500 ∷ []) ≡ refused 32
+  pub odd-list : priceOf threePins (6 ∷ 500 ∷ 7 ∷ []) ≡ refused 31
+  -- E2 and E7: 11 and 16 before 31
+  pub no-pin : priceOf noPin [] ≡ refused 11
+  pub overlap : priceOf overlapping [] ≡ refused 16
+
+pub worked-prices : Table
+unfolding priceOf
+worked-prices = record {
+  one-pin = refl;
+  three-pins = refl;
+  not-reached = refl;
+  odd-list = refl;
+  no-pin = refl;
+  overlap = refl;
+}

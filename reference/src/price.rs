@@ -1,0 +1,78 @@
+//! "Price on the job card", document 02's second request, by the plainest means.
+
+use crate::edge::Edge;
+
+/// "31, an odd list, no band, or a rate above 1,000,000."
+const HIGHEST_RATE: u64 = 1_000_000;
+
+/// "Bureaus charge by metal laid": the refined tree's edges, each by its plain length.
+pub fn metal(edges: &[Edge]) -> u64 {
+    edges
+        .iter()
+        .map(|edge| {
+            let (a, b) = (edge.first(), edge.second());
+            a.x.abs_diff(b.x) + a.y.abs_diff(b.y)
+        })
+        .sum()
+}
+
+/// The charge in hundredths for so much metal, or 31 or 32.
+pub fn price(metal: u64, bands: &[u64]) -> Result<u64, u32> {
+    if bands.is_empty() || !bands.len().is_multiple_of(2) {
+        return Err(31);
+    }
+    let bands: Vec<(u64, u64)> = bands.chunks(2).map(|band| (band[0], band[1])).collect();
+    if bands.iter().any(|&(_, rate)| rate > HIGHEST_RATE) {
+        return Err(31);
+    }
+    // "The first band in the list whose limit is not below the metal to lay sets the rate", and
+    // "32, no limit reaches the metal."
+    let first = bands.iter().find(|&&(limit, _)| limit >= metal);
+    first.map(|&(_, rate)| charge(metal, rate)).ok_or(32)
+}
+
+/// "Metal times rate divided by 1,000, to the hundredth, a half going up."
+fn charge(metal: u64, rate: u64) -> u64 {
+    let thousandths = u128::from(metal) * u128::from(rate);
+    let below = thousandths / 1_000;
+    let (to_below, to_above) = (
+        thousandths - below * 1_000,
+        (below + 1) * 1_000 - thousandths,
+    );
+    let nearest = if to_below < to_above {
+        below
+    } else {
+        below + 1
+    };
+    u64::try_from(nearest).expect("a net's metal is far below 2^53")
+}
+
+#[cfg(test)]
+mod tests {
+    use super::price;
+
+    /// The edges of each sentence of the request.
+    #[test]
+    fn worked_prices() {
+        let two = [100, 10, 200, 20];
+        for (metal, bands, answer) in [
+            (500, &[500, 5][..], Ok(3)),
+            (499, &[500, 5], Ok(2)),
+            (2_499, &[9_000, 1], Ok(2)),
+            (2_500, &[9_000, 1], Ok(3)),
+            (0, &[0, 1_000_000], Ok(0)),
+            (100, &two, Ok(1)),
+            (101, &two, Ok(2)),
+            (200, &two, Ok(4)),
+            (201, &two, Err(32)),
+            (100, &[200, 20, 100, 10], Ok(2)),
+            (1, &[10, 5, 20], Err(31)),
+            (1, &[], Err(31)),
+            (1, &[10, 5, 20, 1_000_001], Err(31)),
+            (11, &[10, 1_000_001], Err(31)),
+            (1_000, &[u64::MAX, 1_000_000], Ok(1_000_000)),
+        ] {
+            assert_eq!(price(metal, bands), answer, "{metal} by {bands:?}");
+        }
+    }
+}
