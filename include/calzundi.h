@@ -48,7 +48,7 @@
 #define CALZUNDI_H
 
 /* The version. It stands here and nowhere else; the tools take it from this line, and each change request raises the second number. */
-#define CALZUNDI_VERSION "1.1"
+#define CALZUNDI_VERSION "1.2"
 
 #include <stddef.h>
 #include <stdint.h>
@@ -164,7 +164,7 @@ int32_t calzundi_wires(const int32_t *pins, size_t pin_numbers, const int32_t *m
  * bands   a list, two numbers for each band: its limit, in units of metal, and its rate, in hundredths of the currency per 1,000 units.
  *         Limits may be any numbers of 64 bits.
  * charge  metal times rate over 1,000 at the first band of the list whose limit is not below the metal, in hundredths of the currency,
- *         a half going up
+ *         to the nearest; half way between two hundredths, the even one
  *
  * Where limits rise strictly and rates never fall down the list, more metal is never charged less; keeping the list so is the bureau's
  * duty and is not tested.

@@ -74,6 +74,66 @@ fn longer_nets_are_never_charged_less() {
     }
 }
 
+/// The most metal between two pins.
+const APART: i32 = 4_000_000;
+
+/// A net with so much metal: two pins, or, where they cannot be that far apart, a grid of pins and one more beside its corner.
+fn net_of(metal: u64) -> Vec<i32> {
+    let metal = i32::try_from(metal).unwrap();
+    if metal <= APART {
+        let across = metal.min(2_000_000);
+        return [0, 0, across, metal - across]
+            .map(|at| at - 1_000_000)
+            .to_vec();
+    }
+    // 24 steps join the 25 pins of the grid, and the pin beside it is nearer to its corner than a step.
+    let (step, left) = (metal / 24, metal % 24);
+    let mut pins: Vec<i32> = (0..25).flat_map(|i| [i % 5 * step, i / 5 * step]).collect();
+    if left > 0 {
+        pins.extend([-left, 0]);
+    }
+    pins.iter().map(|at| at - 900_000).collect()
+}
+
+/// A thousandth below each half from 0.5 to 9,999.5 hundredths, at it and a thousandth above: the library, the second program and the rule.
+#[test]
+fn charges_at_and_beside_every_half() {
+    let mut grids = 0;
+    for whole in 0..10_000_u64 {
+        let even = if whole.is_multiple_of(2) {
+            whole
+        } else {
+            whole + 1
+        };
+        for (thousandths, charge) in [(499, whole), (500, even), (501, whole + 1)] {
+            let thousandths = 1_000 * whole + thousandths;
+            // The least rate that leaves metal for two pins; where there is none, the rate 1 and a grid.
+            let fits = |rate: &u64| {
+                thousandths.is_multiple_of(*rate) && thousandths / rate <= APART as u64
+            };
+            let rate = (1..4_000).find(fits).unwrap_or(1);
+            let (metal, pins) = (thousandths / rate, net_of(thousandths / rate));
+            grids += usize::from(pins.len() > 4);
+            let list = [metal, rate];
+            let said = format!(
+                "{metal} at {rate}, {whole} and {} thousandths",
+                thousandths % 1_000
+            );
+            assert_eq!(library::price(&pins, &[], &list), Ok(charge), "{said}");
+            assert_eq!(
+                operations::price(&pins, &[], &list),
+                Ok(charge),
+                "{said}, the second program"
+            );
+        }
+    }
+    writeln!(
+        std::io::stderr(),
+        "charges at and beside halves: 30000, {grids} of them of a grid of pins"
+    )
+    .unwrap();
+}
+
 /// The second program's own answer from the lists, as an operation, on a few: the match above works the metal out once for list and answer.
 #[test]
 fn the_second_program_prices_from_the_lists() {

@@ -1,4 +1,6 @@
-//! "Price on the job card", document 02's second request, by the plainest means.
+//! "Price on the job card", document 02's second request, with "Halves to even", its sixth, by the plainest means.
+
+use std::cmp::Ordering;
 
 use crate::edge::Edge;
 
@@ -31,18 +33,17 @@ pub fn price(metal: u64, bands: &[u64]) -> Result<u64, u32> {
     first.map(|&(_, rate)| charge(metal, rate)).ok_or(32)
 }
 
-/// "Metal times rate divided by 1,000, to the hundredth, a half going up."
+/// "Metal times rate divided by 1,000, to the hundredth"; "a charge exactly half way between two hundredths now goes to the even one."
 fn charge(metal: u64, rate: u64) -> u64 {
     let thousandths = u128::from(metal) * u128::from(rate);
     let below = thousandths / 1_000;
-    let (to_below, to_above) = (
-        thousandths - below * 1_000,
-        (below + 1) * 1_000 - thousandths,
-    );
-    let nearest = if to_below < to_above {
-        below
-    } else {
-        below + 1
+    let above = below + 1;
+    let (to_below, to_above) = (thousandths - below * 1_000, above * 1_000 - thousandths);
+    let nearest = match to_below.cmp(&to_above) {
+        Ordering::Less => below,
+        Ordering::Greater => above,
+        Ordering::Equal if below.is_multiple_of(2) => below,
+        Ordering::Equal => above,
     };
     u64::try_from(nearest).expect("a net's metal is far below 2^53")
 }
@@ -51,15 +52,21 @@ fn charge(metal: u64, rate: u64) -> u64 {
 mod tests {
     use super::price;
 
-    /// The edges of each sentence of the request.
+    /// The edges of each sentence of the two requests.
     #[test]
     fn worked_prices() {
         let two = [100, 10, 200, 20];
         for (metal, bands, answer) in [
-            (500, &[500, 5][..], Ok(3)),
+            // "2.5 hundredths is 2 and 3.5 is 4."
+            (500, &[500, 5][..], Ok(2)),
+            (500, &[500, 7], Ok(4)),
             (499, &[500, 5], Ok(2)),
             (2_499, &[9_000, 1], Ok(2)),
-            (2_500, &[9_000, 1], Ok(3)),
+            (2_500, &[9_000, 1], Ok(2)),
+            (2_501, &[9_000, 1], Ok(3)),
+            (3_499, &[9_000, 1], Ok(3)),
+            (3_500, &[9_000, 1], Ok(4)),
+            (500, &[9_000, 1], Ok(0)),
             (0, &[0, 1_000_000], Ok(0)),
             (100, &two, Ok(1)),
             (101, &two, Ok(2)),

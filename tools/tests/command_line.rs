@@ -286,8 +286,9 @@ fn price_charges_by_a_list() {
     let three = b"pin 0 0\npin 4 0\npin 2 3\n";
     fs::write(&net, three).unwrap();
     for (bands, charge) in [
-        // Metal 7: 3.5 hundredths, a half going up.
+        // Metal 7: 3.5 hundredths and 24.5, each half way: the even one.
         ("7 500\n", "charge 4 0.04\n"),
+        ("7 3500\n", "charge 24 0.24\n"),
         // The first band is too short, the last one is not looked at.
         (
             "# limit rate\n6 1\n\n  100 1000000 # dear\n200 2",

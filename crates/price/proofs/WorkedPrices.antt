@@ -25,10 +25,11 @@ abbrev two : List ℕ
 two = 100 ∷ 10 ∷ 200 ∷ 20 ∷ []
 
 pub record Table : Type 0 where
-  -- 2.499, 2.5 and 2.501 hundredths: a half goes up
+  -- 2.499, 2.5 and 2.501 hundredths, and 3.5: a half goes to the even one, below or above
   pub below-half : answer 2499 (9000 ∷ 1 ∷ []) ≡ given 2
-  pub half : answer 500 (500 ∷ 5 ∷ []) ≡ given 3
+  pub half-after-even : answer 500 (500 ∷ 5 ∷ []) ≡ given 2
   pub above-half : answer 2501 (9000 ∷ 1 ∷ []) ≡ given 3
+  pub half-after-odd : answer 500 (500 ∷ 7 ∷ []) ≡ given 4
   -- no metal is charged nothing
   pub no-metal : answer 0 (0 ∷ 1000000 ∷ []) ≡ given 0
   -- a limit equal to the metal reaches it, one below does not; the first band that reaches it sets the rate
@@ -55,8 +56,9 @@ pub worked-prices : Table
 unfolding back
 worked-prices = record {
   below-half = refl;
-  half = refl;
+  half-after-even = refl;
   above-half = refl;
+  half-after-odd = refl;
   no-metal = refl;
   limit-equal = refl;
   limit-below = refl;

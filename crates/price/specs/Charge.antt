@@ -18,9 +18,9 @@ units = 1000
 abbrev pub metalBound : ℕ
 metalBound = 9007199254740992
 
--- B4: from thousandths to whole ones, the nearest, a half going up
+-- B4: from thousandths to whole ones, the nearest; half way between two, the even one
 unfoldable pub rounded : ℕ → ℕ
-rounded n = cond (ltb (n % units * 2) units) (n / units) (n / units + 1)
+rounded n = cond (ltb (n % units * 2) units) (n / units) (cond (ltb units (n % units * 2)) (n / units + 1) (n / units + n / units % 2))
 
 -- B4: metal times rate counts thousandths of a hundredth
 unfoldable pub charge : ℕ → ℕ → ℕ

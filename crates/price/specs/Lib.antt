@@ -6,7 +6,7 @@
 --
 --   Band       bandsOf s, bandAt s i           the bands of a flat list, and the i-th
 --   Charge     reaches metal b                 the band's limit is not below the metal
---              rounded n, charge metal rate    thousandths to whole ones, a half going up; the charge at a rate
+--              rounded n, charge metal rate    thousandths to whole ones, a half to the even one; the charge at a rate
 --              byFirst metal bs                the charge by the first band that reaches the metal, or 32
 --   Price      bandsMiscounted, rateAbove      the tests for 31
 --              priced metal s                  31, then 32, then the charge

@@ -76,14 +76,21 @@ fn is_reaching(metal: u64, band: Band) -> bool
 }
 
 // Metal times rate over 1,000, to the hundredth. Metal is split by the thousand first: whole thousands are charged their rate, and only
-// what is left of metal is multiplied out.
+// what is left of metal is multiplied out. Half way between two hundredths the even one is charged.
 fn charge(metal: u64, rate: u64) -> u64
     requires { ⌜ (metal ≤ metalBound) × (rate ≤ rateBound) ⌝ }
     ensures { λ r. ⌜ r ≡ charge metal rate ⌝ }
 {
     let part = metal % UNITS * rate;
     let whole = metal / UNITS * rate + part / UNITS;
-    if part % UNITS * 2 < UNITS {
+    let over = part % UNITS * 2;
+    if over < UNITS {
+        return whole;
+    }
+    if UNITS < over {
+        return whole + 1;
+    }
+    if whole % 2 == 0 {
         return whole;
     }
     whole + 1

@@ -19,7 +19,7 @@ lines are allowed, and # makes the rest of its line a comment. One of them may b
     price net.txt bands.txt
 
 The first band in the list whose limit is not below the metal to lay sets the rate. `charge`, the charge in hundredths and the same as an
-amount of the currency go to standard output, as `charge 1234 12.34`; a half of a hundredth goes up.
+amount of the currency go to standard output, as `charge 1234 12.34`; half way between two hundredths, the even one.
 Keep limits rising strictly and rates never falling: then more metal is never charged less. It is not tested.
 
 A bad line is reported with its number, and a net or a list that the router refuses with the number of the refusal; nothing is written
