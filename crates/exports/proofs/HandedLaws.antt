@@ -9,8 +9,8 @@ use Rattle.lent.specs.Told.{Told, code}
 use Rattle.lent.specs.Over.{after, valueAfter}
 use Rattle.net.specs.declared.Refusal.{Refusal}
 use Rattle.net.specs.Answer.{number}
-use Rattle.router.specs.declared.Tree.{Tree}
-use Rattle.router.specs.declared.Tree.the-variants.{Given, Refused}
+use Rattle.router.specs.declared.TreeAnswer.{TreeAnswer}
+use Rattle.router.specs.declared.TreeAnswer.the-variants.{Given, Refused}
 use Rattle.router.specs.Terminal.{toldTree}
 use Rattle.router.specs.Call.{Gives}
 
@@ -34,7 +34,9 @@ TreeHanded t xs lent count total r lent′ count′ total′ =
     × ((lent′ ≡ after t xs lent)
     × ((count′ ≡ valueAfter (λ tree. tree .0) t count) × (total′ ≡ valueAfter (λ tree. tree .1) t total)))
 
-module _ {t : Told (ℕ × ℤ)} {xs lent lent′ : List ℤ} {r : Tree} (call : Gives toldTree t xs lent r lent′) (count : ℕ) (total : ℤ) where
+module _
+    {t : Told (ℕ × ℤ)} {xs lent lent′ : List ℤ} {r : TreeAnswer}
+    (call : Gives toldTree t xs lent r lent′) (count : ℕ) (total : ℤ) where
   pub tree-given : {n : ℕ} {z z′ : ℤ} → r ≡ Given n z → z′ ≡ z → TreeHanded t xs lent count total (pos 0) lent′ n z′
   unfolding code valueAfter toldTree
   tree-given is e =

@@ -4,7 +4,7 @@ use net::Checked;
 use netfile::Written;
 use price::Priced;
 use router::Graphed;
-use router::Tree;
+use router::TreeAnswer;
 use router::Wired;
 ghost use mathlib.Core.Path.{_≡_};
 ghost use lib.IntN.{pos};
@@ -92,12 +92,12 @@ pub extern "C" fn calzundi_terminal_tree(
 {
     let answer = router::terminal_tree(pins, macros, &mut *paths);
     match answer {
-        Tree::Given(given, sum) => {
+        TreeAnswer::Given(given, sum) => {
             *count = given;
             *total = sum;
             0
         }
-        Tree::Refused(refusal) => refusal.number(),
+        TreeAnswer::Refused(refusal) => refusal.number(),
     }
 }
 
@@ -123,12 +123,12 @@ pub extern "C" fn calzundi_refined_tree(
 {
     let answer = router::refined_tree(pins, macros, &mut *edges);
     match answer {
-        Tree::Given(given, sum) => {
+        TreeAnswer::Given(given, sum) => {
             *count = given;
             *total = sum;
             0
         }
-        Tree::Refused(refusal) => refusal.number(),
+        TreeAnswer::Refused(refusal) => refusal.number(),
     }
 }
 

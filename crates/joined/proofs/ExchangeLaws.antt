@@ -15,7 +15,7 @@ use Rattle.lists.specs.Total.{total}
 use Rattle.lists.proofs.TestLaws.{either}
 use Rattle.lists.proofs.MemberLaws.{once-apart}
 use Rattle.joined.specs.Joined.{Link, others, Alike, Joined, stay, Inside}
-use Rattle.joined.specs.Tree.{Tree}
+use Rattle.joined.specs.Tree.{TreeOn}
 use Rattle.joined.specs.Way.{Way}
 use Rattle.joined.specs.Cost.{Cost, lengths}
 use Rattle.joined.specs.Exchange.{Toward, steps, Parted, three, laid}
@@ -89,8 +89,8 @@ module _ {A : Type 0} {T : List (A × A)} {a b u : A} (w : Toward T u a b) {p q 
         pairs c d m = either (λ e. alike-joined e (then (back sa) sb)) (either (λ e. alike-joined e round) one) (still c d (inl m))
 
     -- with the right count it is a tree, over points that are s or were there
-    pub exchange-tree : {X Y : List A} → Tree X T → a ∈ X → Once Y → ((y : A) → y ∈ Y → (y ≡ s) ⊎ (y ∈ X)) → suc (length U) ≡ length Y →
-        Tree Y U
+    pub exchange-tree : {X Y : List A} → TreeOn X T → a ∈ X → Once Y → ((y : A) → y ∈ Y → (y ≡ s) ⊎ (y ∈ X)) → suc (length U) ≡ length Y →
+        TreeOn Y U
     exchange-tree {X} t ia o known size = record { once = o; joins = λ x y i k. then (back (to (known x i))) (to (known y k)); size = size }
       where
         to : {y : A} → (y ≡ s) ⊎ (y ∈ X) → Joined U s y
@@ -135,20 +135,20 @@ module _ {A : Type 0} {T : List (A × A)} {a b u : A} (edge : Link T a b) (w : T
         wider (inl m) = inl (Memᴰ·append-right new m)
         wider (inr m) = inr (Memᴰ·append-right new m)
 
-    module _ {X : List A} (t : Tree X T) (ia : a ∈ X) (ib : b ∈ X) (iu : u ∈ X) where
+    module _ {X : List A} (t : TreeOn X T) (ia : a ∈ X) (ib : b ∈ X) (iu : u ∈ X) where
       among-three : Among (three a b u) X
       among-three x (here e) = Memᴰ·cast e ia
       among-three x (there (here e)) = Memᴰ·cast e ib
       among-three x (there (there (here e))) = Memᴰ·cast e iu
       among-three x (there (there (there m))) = elim m [ ]
 
-      after-tree : {Y : List A} → Once Y → ((y : A) → y ∈ Y → (y ≡ s) ⊎ (y ∈ X)) → suc (length after) ≡ length Y → Tree Y after
+      after-tree : {Y : List A} → Once Y → ((y : A) → y ∈ Y → (y ≡ s) ⊎ (y ∈ X)) → suc (length after) ≡ length Y → TreeOn Y after
       after-tree o known size =
           exchange-tree w on after-or s (laid-after (here refl)) (laid-after (there (here refl))) (laid-after (there (there (here refl))))
           t ia o known size
 
       -- s is a new point
-      pub exchange-new : (s ∈ X → ⊥) → Tree (s ∷ X) after
+      pub exchange-new : (s ∈ X → ⊥) → TreeOn (s ∷ X) after
       exchange-new n =
           after-tree (n, t .once) (λ y i. List·Memᴰ·cases-cons i)
           (omega (
@@ -160,7 +160,7 @@ module _ {A : Type 0} {T : List (A × A)} {a b u : A} (edge : Link T a b) (w : T
           ))
 
       -- s is one of a, b and u, which are different points
-      pub exchange-old : s ∈ three a b u → Once (three a b u) → Tree X after
+      pub exchange-old : s ∈ three a b u → Once (three a b u) → TreeOn X after
       exchange-old m o =
           after-tree (t .once) (λ y i. inr i)
           (omega (arith, t .size, length-left, length-append new left, length-laid-old same s (three a b u) m o))

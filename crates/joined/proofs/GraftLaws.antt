@@ -11,7 +11,7 @@ use Rattle.lists.specs.Member.{_∈_}
 use Rattle.lists.proofs.TestLaws.{either}
 use Rattle.lists.proofs.MapLaws.{in-map, of-map}
 use Rattle.joined.specs.Joined.{Joined, stay, step, Inside}
-use Rattle.joined.specs.Tree.{Tree}
+use Rattle.joined.specs.Tree.{TreeOn}
 use Rattle.joined.specs.Graft.{grown, rooted, Hangs}
 use Rattle.joined.proofs.JoinedLaws.{then, back, between, through, firsts, seconds}
 
@@ -52,7 +52,7 @@ module _ {A B : Type 0} {parent root : A → A} {distance : A → ℕ} {edge : B
       between (firsts (s .is)) (seconds (s .is))
       (then (back (joined-root _ (e .0))) (step (inl (edge-link (s .stands))) (joined-root _ (e .1))))
 
-  pub grown-tree : Tree (R ++ N) T
+  pub grown-tree : TreeOn (R ++ N) T
   unfolding grown
   grown-tree = record {
     once = h .once;

@@ -10,7 +10,7 @@ use lib.ListN.{length}
 use Rattle.lists.specs.Member.{_∈_, Among, Once, rest}
 use Rattle.lists.proofs.MemberLaws.{rest-in}
 use Rattle.joined.specs.Joined.{others, Joined, stay, Joins, Inside}
-use Rattle.joined.specs.Tree.{Tree, Cuts}
+use Rattle.joined.specs.Tree.{TreeOn, Cuts}
 use Rattle.joined.specs.Way.{Way, stop, go, Free}
 use Rattle.joined.specs.OneTree.{Point, OneWay, OneTree, Simple}
 use Rattle.joined.proofs.JoinedLaws.{one}
@@ -20,7 +20,7 @@ use Rattle.joined.proofs.TreeLaws.{tree-cuts, cuts-forest, forest-tree}
 use Rattle.joined.proofs.OnlyWay.{only-way}
 
 module _ {A : Type 0} (same : Discrete A) {X : List A} {T : List (A × A)} where
-  pub tree-one : Tree X T → Inside X T → (pins : List A) → Among pins X → OneTree pins T
+  pub tree-one : TreeOn X T → Inside X T → (pins : List A) → Among pins X → OneTree pins T
   tree-one t s pins h x y i k n = one-way (joined-free same (t .joins x y (point x i) (point y k)))
     where
       point : (z : A) → Point pins T z → z ∈ X
@@ -31,7 +31,7 @@ module _ {A : Type 0} (same : Discrete A) {X : List A} {T : List (A × A)} where
       one-way : Free T x y → OneWay pins T x y
       one-way f = record { free = f; only = λ ps w o. only-way (tree-cuts same t) same w (f .way) o (f .once) }
 
-  pub tree-simple : Tree X T → Simple T
+  pub tree-simple : TreeOn X T → Simple T
   tree-simple t = record {
     apart = λ a b m e. tree-cuts same t a b m (stay e);
     single = λ a b l k. cut-link (tree-cuts same t) l (one k);
@@ -63,5 +63,5 @@ module _ {A : Type 0} (same : Discrete A) {X : List A} {T : List (A × A)} where
         at (yes e) = stay e
         at (no n) = way-joined (tree x y (inl i) (inl k) n .free .way)
 
-    pub one-tree : Once X → {x : A} → x ∈ X → Tree X T
+    pub one-tree : Once X → {x : A} → x ∈ X → TreeOn X T
     one-tree o i = forest-tree same o s (cuts-forest T cuts) one-joins i

@@ -12,7 +12,7 @@ use Rattle.lists.proofs.TestLaws.{either}
 use Rattle.lists.proofs.MemberLaws.{length-rest, rest-or, rest-in, rest-once, rest-gone}
 use Rattle.joined.specs.Joined.{Link, others, Alike, Joined, stay, Inside}
 use Rattle.joined.specs.Labels.{renamed}
-use Rattle.joined.specs.Tree.{Tree}
+use Rattle.joined.specs.Tree.{TreeOn}
 use Rattle.joined.proofs.JoinedLaws.{turn, one, between, carried}
 use Rattle.joined.proofs.LabelLaws.{renamed-hit, renamed-miss, renamed-fix}
 use Rattle.joined.proofs.OtherLaws.{length-others, link-or}
@@ -38,7 +38,7 @@ module _ {A : Type 0} (same : Discrete A) {X : List A} {T U : List (A × A)} {x 
   pairs : (c d : A) → (c, d) ∈ T → Joined U (into c) (into d)
   pairs c d m = either (λ e. stay (meet c d e)) (kept c d) (still c d (inl m))
 
-  pub prune-tree : Tree X T → length T ≡ suc (length U) → Tree (rest i) U
+  pub prune-tree : TreeOn X T → length T ≡ suc (length U) → TreeOn (rest i) U
   prune-tree t size = record {
     once = rest-once i (t .once);
     joins = λ c d j k. between (sym (stays c j)) (sym (stays d k)) (carried into pairs (t .joins c d (rest-in i j) (rest-in i k)));
@@ -58,5 +58,5 @@ module _ {A : Type 0} (same : Discrete A) {X : List A} {T U : List (A × A)} {x 
 
 -- the one position struck out
 pub pruned-tree : {A : Type 0} → Discrete A → {X : List A} {T : List (A × A)} {x y : A} (i : x ∈ X) (l : Link T x y) →
-    ((z : A) → Link (others l) x z → ⊥) → Tree X T → Tree (rest i) (others l)
+    ((z : A) → Link (others l) x z → ⊥) → TreeOn X T → TreeOn (rest i) (others l)
 pruned-tree same i l gone t = prune-tree same i (λ c d k. link-or l k) gone t (length-others l)

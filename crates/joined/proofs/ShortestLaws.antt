@@ -15,7 +15,7 @@ use Rattle.lists.proofs.MemberLaws.{in-reverse, of-reverse}
 use Rattle.lists.proofs.MapLaws.{in-map, of-map, map-among}
 use Rattle.lists.proofs.TotalLaws.{total-le, total-reverse}
 use Rattle.joined.specs.Joined.{Joined, Joins}
-use Rattle.joined.specs.Tree.{Tree}
+use Rattle.joined.specs.Tree.{TreeOn}
 use Rattle.joined.specs.Keep.{keep, kept, Offered, Dominated}
 use Rattle.joined.specs.Light.{heavy, light}
 use Rattle.joined.proofs.JoinedLaws.{one, more, through, between, firsts, seconds}
@@ -37,7 +37,7 @@ module _ {A B : Type 0} (same : Discrete A) (ends : B → A × A) (weight : B �
   keep-joins : Joins X (map ends K)
   keep-joins x y i k = keep-joined same ends M (more (map-among ends L M (in-reverse L)) (o .joins x y i k))
 
-  keep-tree : Tree X (map ends K)
+  keep-tree : TreeOn X (map ends K)
   keep-tree =
       forest-tree same (o .once)
       (λ a b m. o .inside a b (map-among ends K L (λ d i. of-reverse L d (keep-among same ends M d i)) (a, b) m))
@@ -59,7 +59,7 @@ module _ {A B : Type 0} (same : Discrete A) (ends : B → A × A) (weight : B �
   unfolding kept
   kept-among = in-reverse K
 
-  pub kept-tree : Tree X (map ends (kept same ends L))
+  pub kept-tree : TreeOn X (map ends (kept same ends L))
   unfolding kept
   kept-tree =
       tree-linked keep-tree (λ a b m. inl (map-among ends K (reverse K) kept-among (a, b) m))

@@ -8,7 +8,7 @@ use lib.ListN.{length}
 use Rattle.lists.specs.Member.{_∈_, here, there, Once, rest}
 use Rattle.lists.proofs.MemberLaws.{length-rest}
 use Rattle.joined.specs.Joined.{Link, Joins, Inside}
-use Rattle.joined.specs.Tree.{Tree, Forest, Cuts}
+use Rattle.joined.specs.Tree.{TreeOn, Forest, Cuts}
 use Rattle.joined.proofs.JoinedLaws.{one, through, older, around}
 use Rattle.joined.proofs.CountLaws.{enough, at-most}
 
@@ -20,7 +20,8 @@ module _ {A : Type 0} where
       (λ j. h (e .0) (e .1) (here refl) j, cuts-forest T (λ a b m j. h a b (there m) (older j)))
 
   -- the same pairs in another order, and some of them turned round
-  pub tree-linked : {X : List A} {T U : List (A × A)} → Tree X T → ((a b : A) → (a, b) ∈ T → Link U a b) → length U ≡ length T → Tree X U
+  pub tree-linked : {X : List A} {T U : List (A × A)} → TreeOn X T → ((a b : A) → (a, b) ∈ T → Link U a b) →
+      length U ≡ length T → TreeOn X U
   tree-linked t h e = record {
     once = t .once;
     joins = λ x y i k. through (λ a b m. one (h a b m)) (t .joins x y i k);
@@ -28,13 +29,13 @@ module _ {A : Type 0} where
   }
 
 module _ {A : Type 0} (same : Discrete A) {X : List A} {T : List (A × A)} where
-  pub tree-cuts : Tree X T → Cuts T
+  pub tree-cuts : TreeOn X T → Cuts T
   tree-cuts t a b m j =
       let all : Joins X (rest m) = λ x y i k. around m j (t .joins x y i k) in
       omega (arith, enough same (t .once) all, length-rest m, t .size)
 
-  pub tree-forest : Tree X T → Forest T
+  pub tree-forest : TreeOn X T → Forest T
   tree-forest t = cuts-forest T (tree-cuts t)
 
-  pub forest-tree : Once X → Inside X T → Forest T → Joins X T → {x : A} → x ∈ X → Tree X T
+  pub forest-tree : Once X → Inside X T → Forest T → Joins X T → {x : A} → x ∈ X → TreeOn X T
   forest-tree o s f j m = record { once = o; joins = j; size = omega (arith, enough same o j, at-most same s f m) }

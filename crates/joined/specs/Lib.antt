@@ -44,7 +44,7 @@
 --   Joins X L, Inside X L     every two of X are joined; both ends of each pair are among X
 --   Across L v w x y          x and y are joined by L and the pair of v and w: beside it, or over it
 -- TREES AND WAYS (Tree.antt, Way.antt, OneTree.antt)
---   Tree X T                  T joins all of X, with one pair fewer than points
+--   TreeOn X T                T joins all of X, with one pair fewer than points
 --   Forest T, Cuts T          no pair joins what the pairs after it, or all others, join
 --   Way L x ps y              from x through ps, each linked to the one before, to y
 --   Free L x y                a loop-free way

@@ -8,7 +8,7 @@ use Rattle.joined.specs.Joined.{Joined, Joins}
 
 module _ {A : Type 0} where
   -- all points are joined, and there is one pair fewer than points
-  pub record Tree (X : List A) (T : List (A × A)) : Type 0 where
+  pub record TreeOn (X : List A) (T : List (A × A)) : Type 0 where
     pub once : Once X
     pub joins : Joins X T
     pub size : suc (length T) ≡ length X

@@ -26,7 +26,7 @@ use Rattle.refiner.proofs.ExchangeSums.{closed-at, skip, skip-low, skip
 use Rattle.tree.proofs.ListingLaws.{listing-length, in-listing, of-listing}
 use Rattle.tree.proofs.PointLaws.{same-place}
 
-module _ (pts : List ℤ) (n : ℕ) (ks : List ℕ) (e : ℕ) (whole : joined.Tree (pointsOf pts n) (edgesOf pts ks (suc e))) where
+module _ (pts : List ℤ) (n : ℕ) (ks : List ℕ) (e : ℕ) (whole : joined.TreeOn (pointsOf pts n) (edgesOf pts ks (suc e))) where
   abbrev U : ℕ → List (Place × Place)
   U i = edgesOf pts (closed i e ks) e
 

@@ -33,7 +33,7 @@ use Rattle.refiner.proofs.ReachedLaws.{all-known, all-even}
 use Rattle.refiner.proofs.AloneLaws.{alone}
 
 module _ (pts : List ℤ) (n : ℕ) (ks : List ℕ) (e : ℕ) (el : List ℕ) (o : InOrder pts n) (few : n ≤ treeBound) (fewer : suc e < treeBound)
-    (none : getD el noEdge 0 ≡ 0) (w : Within n ks) (whole : joined.Tree (pointsOf pts n) (edgesOf pts ks (suc e))) where
+    (none : getD el noEdge 0 ≡ 0) (w : Within n ks) (whole : joined.TreeOn (pointsOf pts n) (edgesOf pts ks (suc e))) where
   abbrev T : List (Place × Place)
   T = edgesOf pts ks (suc e)
 

@@ -153,7 +153,7 @@ module _ (net : Net) (pts : List ℤ) (n : ℕ) (ks : List ℕ) (e k l u : ℕ)
         either inl (λ q. inr (either (λ v. inl (alike-trans v (alike-sym (c .longest)))) inr q))
         (still after (sound .within) (c .edge) (c .cut) (c .two) ha hb (c .point) x y i)
 
-    after-tree : joined.Tree (pointsOf (t .points) (t .count)) U
+    after-tree : joined.TreeOn (pointsOf (t .points) (t .count)) U
     after-tree =
         exchange-tree (c .toward) (c .on) links s
         (to-a after (sound .within) (c .edge) (c .cut) (c .two) ha hb (c .point))

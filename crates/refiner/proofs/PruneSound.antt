@@ -177,7 +177,7 @@ module _ (pts : List ℤ) (n : ℕ) (o : InOrder pts n) (few : n ≤ treeBound) 
         let f : one v (secondEnd (getD (closed i e ks) (r .0) 0)) ≡ 1 = ap (one v) (sym q) ∙ one-same v in
         no-end (r .0) (r .1 .0) (omega (arith, f))
 
-    pub goes-tree : {X : List Place} (x : placeAt pts v ∈ X) → joined.Tree X T → joined.Tree (rest x) U
+    pub goes-tree : {X : List Place} (x : placeAt pts v ∈ X) → joined.TreeOn X T → joined.TreeOn (rest x) U
     goes-tree x t =
         prune-tree same-place x still gone t (listing-length _ (suc e) ∙ ap suc (sym (listing-length _ e)))
 
@@ -189,7 +189,7 @@ module _ (pts : List ℤ) (n : ℕ) (o : InOrder pts n) (few : n ≤ treeBound) 
 -- a tree over some points, pins among them
 pub record Whole (pts : List ℤ) (pins : List Place) (r : Row) : Type 0 where
   pub points : List Place
-  pub tree : joined.Tree points (edgesOf pts (r .keys) (r .size))
+  pub tree : joined.TreeOn points (edgesOf pts (r .keys) (r .size))
   pub inside : Inside points (edgesOf pts (r .keys) (r .size))
   pub pinned : Among pins points
 

@@ -211,7 +211,7 @@ module _ (pts : List ℤ) (n : ℕ) (ks : List ℕ) (e : ℕ) (el : List ℕ) (o
         top = record { is = inl (refl, same-entry pairBound noEdge 0 (omega arith)); best = λ j hj c d m f. elim m [ ] };
       }
 
-  module _ (whole : joined.Tree (pointsOf pts n) (edgesOf pts ks e)) where
+  module _ (whole : joined.TreeOn (pointsOf pts n) (edgesOf pts ks e)) where
     points-of : (x : Place) (ps : List Place) (y : Place) → x ∈ pointsOf pts n → Way (edgesOf pts ks e) x ps y →
         Among (x ∷ ps) (pointsOf pts n)
     points-of x ps y i (stop q) z m = either (λ q. Memᴰ·cast q i) (λ j. elim j [ ]) (List·Memᴰ·cases-cons m)

@@ -37,7 +37,7 @@ use Rattle.refiner.proofs.CutLaws.{Is, cut-is, the-way}
 use Rattle.refiner.proofs.WinnerLaws.{Winner, found-wins, cost-at, no-cost}
 
 -- what m rounds keep
-pub record Kept (net : Net) (t r : Tree) (m : ℕ) : Type 0 where
+pub record Lasting (net : Net) (t r : Tree) (m : ℕ) : Type 0 where
   pub sound : Sound net r
   pub total : treeTotal (net .weights) r ≤ treeTotal (net .weights) t
   pub points : (vs : List Place) → strangers vs r ≤ strangers vs t + m
@@ -135,7 +135,7 @@ module _ (net : Net) (pts : List ℤ) (n : ℕ) (ks : List ℕ) (few : n < treeB
       let at = cost-at (net .weights) pts ks (suc (suc e)) (c .cut) (omega (arith, s)) (t .cut) in
       rw (exchange-laid c e) (omega (arith, l, at, win .gained))
 
-  pub round-kept : (c : Best) (e : ℕ) → Sound net (tree pts n ks e) → Won e c → Kept net (tree pts n ks e) (exchange c pts n ks e) 1
+  pub round-kept : (c : Best) (e : ℕ) → Sound net (tree pts n ks e) → Won e c → Lasting net (tree pts n ks e) (exchange c pts n ks e) 1
   round-kept c zero sound win = absurd (let z : ⊥ = omega (arith, win .edge) in z)
   round-kept c (suc zero) sound win =
       let t = taken net pts n ks 0 sound few (c .gain) (c .edge) (c .point) (c .cut) win in
@@ -171,7 +171,7 @@ module _ (net : Net) (pts : List ℤ) (n : ℕ) (ks : List ℕ) (few : n < treeB
 
 -- The rounds
 
-kept-then : {net : Net} {t r q : Tree} (m : ℕ) → Kept net t r 1 → Kept net r q m → Kept net t q (suc m)
+kept-then : {net : Net} {t r q : Tree} (m : ℕ) → Lasting net t r 1 → Lasting net r q m → Lasting net t q (suc m)
 kept-then m a b = record {
   sound = b .sound;
   total = omega (arith, a .total, b .total);
@@ -182,7 +182,7 @@ kept-then m a b = record {
 }
 
 -- so there is a point more for each round at most
-pub kept-count : {net : Net} {t r : Tree} {m : ℕ} → Kept net t r m → r .count ≤ t .count + m
+pub kept-count : {net : Net} {t r : Tree} {m : ℕ} → Lasting net t r m → r .count ≤ t .count + m
 kept-count {net} {t} {r} k =
     let own = pointsOf (t .points) (t .count) in
     omega (
@@ -202,7 +202,7 @@ pub own-room : (t : Tree) (m : ℕ) → t .count + m ≤ treeBound → Room (poi
 own-room t m few = record { room = omega (arith, few, strangers-own t, listing-length (placeAt (t .points)) (t .count)) }
 
 pub rounds-kept : (net : Net) (m : ℕ) (t : Tree) → Sound net t → (vs : List Place) → Room vs t m →
-    length (t .points) ≡ treeBound * 2 → length (t .edges .keys) ≡ treeBound → Kept net t (rounds (net .weights) (net .macros) m t) m
+    length (t .points) ≡ treeBound * 2 → length (t .edges .keys) ≡ treeBound → Lasting net t (rounds (net .weights) (net .macros) m t) m
 unfolding rounds
 rounds-kept net zero t sound vs few room rooms = record {
   sound = sound;

@@ -3,7 +3,7 @@
 use net::Checked;
 use net::Net;
 use plane::Place;
-use router::Tree;
+use router::TreeAnswer;
 ghost use mathlib.Core.Path.{_≡_};
 ghost use mathlib.Core.List.{[], _∷_, _++_};
 ghost use Prim.Native.Nat.{_+_, _*_, _≤_};
@@ -237,7 +237,7 @@ fn refined_text(pins: &[i32], macros: &[i32], terminal: i64, out: &mut [u8; TEXT
     let mut edges = [0i32; EDGE_NUMBERS];
     let answer = router::refined_tree(pins, macros, &mut edges);
     match answer {
-        Tree::Given(count, total) => tree(
+        TreeAnswer::Given(count, total) => tree(
             net::pin_count(pins),
             net::macro_count(macros),
             terminal,
@@ -246,7 +246,7 @@ fn refined_text(pins: &[i32], macros: &[i32], terminal: i64, out: &mut [u8; TEXT
             count,
             out,
         ),
-        Tree::Refused(refusal) => refused(refusal.number(), out),
+        TreeAnswer::Refused(refusal) => refused(refusal.number(), out),
     }
 }
 
@@ -260,8 +260,8 @@ fn trees_text(pins: &[i32], macros: &[i32], out: &mut [u8; TEXT]) -> usize
     let mut paths = [0i64; PATH_NUMBERS];
     let answer = router::terminal_tree(pins, macros, &mut paths);
     match answer {
-        Tree::Given(_, total) => refined_text(pins, macros, total, out),
-        Tree::Refused(refusal) => refused(refusal.number(), out),
+        TreeAnswer::Given(_, total) => refined_text(pins, macros, total, out),
+        TreeAnswer::Refused(refusal) => refused(refusal.number(), out),
     }
 }
 

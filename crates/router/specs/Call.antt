@@ -16,7 +16,7 @@ use Rattle.netfile.specs.Read.{pinsIn, macrosIn, readFile}
 use Rattle.graph.specs.Numbers.{placeNumbers, edgeNumbers}
 use Rattle.terminal.specs.Tree.{pathNumbers}
 use Rattle.router.specs.declared.Graphed.{Graphed}
-use Rattle.router.specs.declared.Tree.{Tree}
+use Rattle.router.specs.declared.TreeAnswer.{TreeAnswer}
 use Rattle.router.specs.declared.Wired.{Wired}
 use Rattle.router.specs.Graph.{netVertices, netEdges, toldGraph}
 use Rattle.router.specs.Terminal.{pathsOf, toldTree}
@@ -41,12 +41,12 @@ GraphCall said pins macros vertices edges r vertices′ edges′ =
     (flat placeNumbers (netVertices pins macros)) (flat edgeNumbers (netEdges pins macros)) vertices edges r vertices′ edges′
 
 -- C63, C64: a terminal tree
-abbrev pub TerminalCall : (List ℤ → List ℤ → ℕ → Told (ℕ × ℤ)) → (pins macros paths : List ℤ) → Tree → List ℤ → Type 0
+abbrev pub TerminalCall : (List ℤ → List ℤ → ℕ → Told (ℕ × ℤ)) → (pins macros paths : List ℤ) → TreeAnswer → List ℤ → Type 0
 TerminalCall said pins macros paths r paths′ =
     Gives toldTree (said pins macros (length paths)) (flat pathNumbers (pathsOf pins macros)) paths r paths′
 
 -- C65, C66: a refined tree
-abbrev pub RefinedCall : (List ℤ → List ℤ → ℕ → Told (ℕ × ℤ)) → (pins macros edges : List ℤ) → Tree → List ℤ → Type 0
+abbrev pub RefinedCall : (List ℤ → List ℤ → ℕ → Told (ℕ × ℤ)) → (pins macros edges : List ℤ) → TreeAnswer → List ℤ → Type 0
 RefinedCall said pins macros edges r edges′ =
     Gives toldTree (said pins macros (length edges)) (flat edgeNumbers (laidOf pins macros)) edges r edges′
 

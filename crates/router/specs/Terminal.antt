@@ -12,8 +12,8 @@ use Rattle.net.specs.Check.{checked}
 use Rattle.net.specs.Net.{netOf}
 use Rattle.terminal.specs.Tree as terminal
 use Rattle.router.specs.Room.{ifRoom}
-use Rattle.router.specs.declared.Tree.{Tree}
-use Rattle.router.specs.declared.Tree.the-variants.{Given, Refused}
+use Rattle.router.specs.declared.TreeAnswer.{TreeAnswer}
+use Rattle.router.specs.declared.TreeAnswer.the-variants.{Given, Refused}
 
 -- C64: each path in the order kept, by its bridge and its length
 unfoldable pub pathsOf : List ℤ → List ℤ → List ((Place × Place) × ℕ)
@@ -32,6 +32,6 @@ unfoldable pub terminalTree : List ℤ → List ℤ → ℕ → Told (ℕ × ℤ
 terminalTree pins macros room = onlyIf (checked pins macros) (terminalGiven pins macros room)
 
 -- what the code's answer says: of a terminal tree the paths and their total, of a refined tree the edges and theirs
-unfoldable pub toldTree : Tree → Told (ℕ × ℤ)
+unfoldable pub toldTree : TreeAnswer → Told (ℕ × ℤ)
 toldTree (Given n total) = given (n, total)
 toldTree (Refused f) = refused (number f)

@@ -1,6 +1,6 @@
 // What the operations do with an allowed net: each asks for what the check has shown, refuses by 21 where too little is lent, and gives.
 use crate::Graphed;
-use crate::Tree;
+use crate::TreeAnswer;
 use crate::Wired;
 use net::Net;
 use net::Refusal;
@@ -40,12 +40,12 @@ pub fn graph(
 }
 
 // The terminal tree.
-pub fn terminal_tree(net: Net, pins: &[i32], macros: &[i32], paths: &mut [i64]) -> Tree
+pub fn terminal_tree(net: Net, pins: &[i32], macros: &[i32], paths: &mut [i64]) -> TreeAnswer
     requires { ⌜ Counted net (now pins) (now macros) ⌝ }
     ensures { λ r. ⌜ TerminalCall terminalGiven (now (pins .entry)) (now (macros .entry)) (now (paths .entry)) r (now (paths .exit)) ⌝ }
 {
     if paths.len() < net.pins * 5 {
-        return Tree::Refused(Refusal::Space);
+        return TreeAnswer::Refused(Refusal::Space);
     }
     let tree = terminal::terminal_tree(net.weights, pins, macros);
     let edges = tree.edges;
@@ -53,22 +53,22 @@ pub fn terminal_tree(net: Net, pins: &[i32], macros: &[i32], paths: &mut [i64]) 
     let long = tree.long;
     let count = tree.count;
     terminal::give_paths(&edges, &kept, &long, count.paths, &mut *paths);
-    Tree::Given(count.paths, tree.total as i64)
+    TreeAnswer::Given(count.paths, tree.total as i64)
 }
 
 // The refined tree.
-pub fn refined_tree(net: Net, pins: &[i32], macros: &[i32], edges: &mut [i32]) -> Tree
+pub fn refined_tree(net: Net, pins: &[i32], macros: &[i32], edges: &mut [i32]) -> TreeAnswer
     requires { ⌜ Counted net (now pins) (now macros) ⌝ }
     ensures { λ r. ⌜ RefinedCall refinedGiven (now (pins .entry)) (now (macros .entry)) (now (edges .entry)) r (now (edges .exit)) ⌝ }
 {
     if edges.len() < (net::point_count(net) + net.pins) * 4 {
-        return Tree::Refused(Refusal::Space);
+        return TreeAnswer::Refused(Refusal::Space);
     }
     let mut points = [0i32; tree::NUMBERS];
     let mut keys = [0usize; tree::POINTS];
     let tree = refine(net, pins, macros, &mut points, &mut keys);
     refined::give_edges(&points, &keys, tree.edges, &mut *edges);
-    Tree::Given(tree.edges, tree.total as i64)
+    TreeAnswer::Given(tree.edges, tree.total as i64)
 }
 
 // The wires.

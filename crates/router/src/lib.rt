@@ -24,7 +24,7 @@ pub enum Graphed {
 }
 
 // The answer of a terminal tree or of a refined tree: how many paths or edges were given, and their total.
-pub enum Tree {
+pub enum TreeAnswer {
     Given(usize, i64),
     Refused(Refusal),
 }
@@ -57,25 +57,25 @@ pub fn graph(pins: &[i32], macros: &[i32], vertices: &mut [i32], edges: &mut [i3
 
 // Terminal tree: each kept path's bridge and length in the order kept, how many there are and their total, or 11 to 17, then 21 where
 // fewer than 5m numbers are lent. That no joining is shorter and no chain has a lower longest path: `Promised`.
-pub fn terminal_tree(pins: &[i32], macros: &[i32], paths: &mut [i64]) -> Tree
+pub fn terminal_tree(pins: &[i32], macros: &[i32], paths: &mut [i64]) -> TreeAnswer
     ensures { λ r. ⌜ TerminalCall terminalTree (now (pins .entry)) (now (macros .entry)) (now (paths .entry)) r (now (paths .exit)) ⌝ }
 {
     let answer = net::check(pins, macros);
     match answer {
         Checked::Allowed(net) => allowed::terminal_tree(net, pins, macros, &mut *paths),
-        Checked::Refused(refusal) => Tree::Refused(refusal),
+        Checked::Refused(refusal) => TreeAnswer::Refused(refusal),
     }
 }
 
 // Refined tree: its edges in order, how many there are and their total, or 11 to 17, then 21 where fewer than 4(n + m) numbers are lent.
 // That they hold all pins as one tree, enter no interior and are no longer than the terminal tree: `Promised`.
-pub fn refined_tree(pins: &[i32], macros: &[i32], edges: &mut [i32]) -> Tree
+pub fn refined_tree(pins: &[i32], macros: &[i32], edges: &mut [i32]) -> TreeAnswer
     ensures { λ r. ⌜ RefinedCall refinedTree (now (pins .entry)) (now (macros .entry)) (now (edges .entry)) r (now (edges .exit)) ⌝ }
 {
     let answer = net::check(pins, macros);
     match answer {
         Checked::Allowed(net) => allowed::refined_tree(net, pins, macros, &mut *edges),
-        Checked::Refused(refusal) => Tree::Refused(refusal),
+        Checked::Refused(refusal) => TreeAnswer::Refused(refusal),
     }
 }
 

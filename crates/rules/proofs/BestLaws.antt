@@ -24,7 +24,7 @@ use Rattle.net.specs.Allowed.{Allowed}
 use Rattle.net.specs.Net.{Net, costIn}
 use Rattle.graph.specs.Spanning.{spanning}
 use Rattle.terminal.specs.Tree.{pathsOf, totalOf, rootsOf}
-use Rattle.terminal.specs.Stands.{Kept, keptEnds}
+use Rattle.terminal.specs.Stands.{KeptPath, keptEnds}
 use Rattle.terminal.proofs.NumberLaws.{apart-once}
 use Rattle.terminal.proofs.BestJoiningLaws.{paths-length, paths-sum, paths-joining, no-shorter-joining, no-lower-chain}
 use Rattle.rules.specs.Terminal.{Path, pathEnds, pathCost, givenFor, takenFirst}
@@ -51,9 +51,10 @@ module _ {net : Net} (a : Allowed net) where
       sym (map-then (givenFor net) (keptEnds net) pathEnds ks (λ k m. ap₂ (λ (x y : Place). (x, y)) (follows k m .0) (follows k m .1)))
       ∙ ap (map (keptEnds net)) (paths-given a)
 
-  all-lengths : map (pathCost net) ks ≡ map (λ (k : Kept). k .1) (pathsOf net)
+  all-lengths : map (pathCost net) ks ≡ map (λ (k : KeptPath). k .1) (pathsOf net)
   all-lengths =
-      sym (map-then (givenFor net) (λ (k : Kept). k .1) (pathCost net) ks (λ k m. refl)) ∙ ap (map (λ (k : Kept). k .1)) (paths-given a)
+      sym (map-then (givenFor net) (λ (k : KeptPath). k .1) (pathCost net) ks (λ k m. refl))
+      ∙ ap (map (λ (k : KeptPath). k .1)) (paths-given a)
 
   -- T16: the total that is given is their sum
   pub paths-total : totalOf net ≡ total (map (pathCost net) ks)
@@ -84,17 +85,17 @@ module _ {net : Net} (a : Allowed net) where
 
   -- a kept path is known by what is given for it
   single : (j k : Path) → j ∈ ks → k ∈ ks → givenFor net j ≡ givenFor net k → j ≡ k
-  single j k m i e = bridge-only j k (kept-origin a j m .bridge) (kept-origin a k i .bridge) (ap (λ (z : Kept). z .0) e)
+  single j k m i e = bridge-only j k (kept-origin a j m .bridge) (kept-origin a k i .bridge) (ap (λ (z : KeptPath). z .0) e)
 
   lowest : {x y : Place} → (x ≡ y → ⊥) → {w : List Path} → OurWay pathEnds ks x y w →
       {cs : List (TerminalPath (spanning net) (net .pins))} → Chain endsOf x cs y →
       most (map (pathCost net) w) ≤ most (map (lengthOf (costIn net)) cs)
   lowest n {w} o {cs} c =
       let into : (k : Path) → k ∈ ks → givenFor net k ∈ pathsOf net
-      = λ k m. subst (λ (l : List Kept). givenFor net k ∈ l) (paths-given a) (in-map (givenFor net) m) in
+      = λ k m. subst (λ (l : List KeptPath). givenFor net k ∈ l) (paths-given a) (in-map (givenFor net) m) in
       let r = no-lower-chain a n (our-way-carried (λ (x : Place). x) (givenFor net) pathEnds (keptEnds net) into follows single o) c in
       subst (λ (l : List ℕ). most l ≤ most (map (lengthOf (costIn net)) cs))
-      (map-then (givenFor net) (λ (k : Kept). k .1) (pathCost net) w (λ k m. refl)) r
+      (map-then (givenFor net) (λ (k : KeptPath). k .1) (pathCost net) w (λ k m. refl)) r
 
   pub best-joining : BestJoining net (spanning net) ks
   best-joining = record {

@@ -17,7 +17,7 @@ use Rattle.refiner.specs.Refined as tables
 use Rattle.tree.specs.Places.{Ranked, Sound}
 use Rattle.refiner.specs.Sentences.{foundIn, exchanged}
 use Rattle.refiner.proofs.WinnerLaws.{found-wins}
-use Rattle.refiner.proofs.RoundSound.{Kept, round-kept, rounds-kept, kept-count, own-room}
+use Rattle.refiner.proofs.RoundSound.{Lasting, round-kept, rounds-kept, kept-count, own-room}
 use Rattle.refiner.proofs.RoundSteps.{rounds-none, rounds-some}
 use Rattle.refiner.proofs.TakesLaws.{found-takes}
 use Rattle.rules.specs.Edges.{Edge, Same}
@@ -111,7 +111,7 @@ module _ {net : Net} where
   -- The refined tree
 
   module _ (t : Tree) (fit : Fit net (length (net .pins)) t) where
-    kept : Kept net t (tables.rounds (net .weights) (net .macros) (length (net .pins)) t) (length (net .pins))
+    kept : Lasting net t (tables.rounds (net .weights) (net .macros) (length (net .pins)) t) (length (net .pins))
     kept = rounds-kept net (length (net .pins)) t (fit .sound) _ (own-room t (length (net .pins)) (fit .few)) (fit .room) (fit .rooms)
 
     prunes : Prunes net (edgesIn (tables.rounds (net .weights) (net .macros) (length (net .pins)) t)) (edgesIn (tables.refined net t))

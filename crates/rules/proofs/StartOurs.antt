@@ -30,7 +30,7 @@ use Rattle.terminal.proofs.OurTree as numbers
 use Rattle.terminal.specs.Number.{vertexAt, edgeAt}
 use Rattle.terminal.specs.Tree.{treeOf, rootsOf}
 use Rattle.terminal.specs.Roots.{WayUp, arrived, upward, parentOf}
-use Rattle.terminal.specs.Stands.{Kept, Stands}
+use Rattle.terminal.specs.Stands.{KeptPath, Stands}
 use Rattle.terminal.proofs.SettingOf.{one-vertex, two-vertex, setting, whole}
 use Rattle.terminal.proofs.CrossingLaws.{G, T, P, kept, weight, given, kept-below, given-in, of-given, given-follows}
 use Rattle.terminal.proofs.RootLaws.{wayPlaces, way-up}
@@ -120,10 +120,10 @@ module _ {net : Net} (a : Allowed net) where
           (subst (λ (z : Place). On x y z (map at (by-number .path .points))) (sym (start-same l s)) o),
     )
 
-    on-given : (x y : Place) (k : Kept) → k ≡ given a j → (s : Stands net (k .0) (k .1)) → On x y (s .path .start) (s .path .points)
+    on-given : (x y : Place) (k : KeptPath) → k ≡ given a j → (s : Stands net (k .0) (k .1)) → On x y (s .path .start) (s .path .points)
         ↔ Steps x y
     on-given x y k q =
-        subst (λ (z : Kept). (s : Stands net (z .0) (z .1)) → On x y (s .path .start) (s .path .points) ↔ Steps x y) (sym q)
+        subst (λ (z : KeptPath). (s : Stands net (z .0) (z .1)) → On x y (s .path .start) (s .path .points) ↔ Steps x y) (sym q)
         (on-path x y (weight a j))
 
     walk-in : (k : ℕ) → k ∈ walk (setting a) (whole a) j → k ∈ unionList a
@@ -156,7 +156,7 @@ module _ {net : Net} (a : Allowed net) where
       let k = r .0 in
       let o = of-start k (r .1 .0) in
       let j = o .bridge in
-      let c = of-map (givenFor net) (ourPaths a) (subst (λ (l : List Kept). given a j ∈ l) (sym (paths-given a))
+      let c = of-map (givenFor net) (ourPaths a) (subst (λ (l : List KeptPath). given a j ∈ l) (sym (paths-given a))
       (given-in a j (o .kept))) in
       let f : On (edgeAt (spanning net) k .0) (edgeAt (spanning net) k .1) (c .entry .start) (c .entry .points)
       = on-kept (c .entry) (c .stands) j (o .kept) (sym (c .is)) _ _ .1
@@ -171,7 +171,7 @@ module _ {net : Net} (a : Allowed net) where
 
   of-some : (e : Edge) → OnSome (ourPaths a) e → e ∈ edgesIn (unionOf net)
   of-some e o =
-      let g = of-given a (givenFor net (o .path)) (subst (λ (l : List Kept). givenFor net (o .path) ∈ l) (paths-given a)
+      let g = of-given a (givenFor net (o .path)) (subst (λ (l : List KeptPath). givenFor net (o .path) ∈ l) (paths-given a)
       (in-map (givenFor net) (o .among))) in
       let k = step-edge (g .entry) (g .stands) (e .0) (e .1) (on-kept (o .path) (o .among) (g .entry) (g .stands) (g .is) (e .0) (e .1) .0
       (o .on)) in

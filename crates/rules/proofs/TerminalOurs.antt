@@ -22,7 +22,7 @@ use Rattle.graph.specs.Spanning.{verticesOf, spanning}
 use Rattle.graph.specs.Edges.{beforeEdge}
 use Rattle.terminal.specs.Tree.{pathsOf, rootOf, rootsOf}
 use Rattle.terminal.specs.Roots as tables
-use Rattle.terminal.specs.Stands.{Kept, keptEnds, Stands}
+use Rattle.terminal.specs.Stands.{KeptPath, keptEnds, Stands}
 use Rattle.terminal.specs.KeptBridges.{takenBefore, KeptBridges}
 use Rattle.terminal.proofs.CrossingLaws.{to-numbers}
 use Rattle.terminal.proofs.RootLaws.{nearest-root, smallest-parent}
@@ -102,7 +102,7 @@ module _ {net : Net} (a : Allowed net) where
   kb = kept-bridges a
 
   -- a bridge with its path
-  abbrev pathFor : (k : Kept) → Stands net (k .0) (k .1) → Path
+  abbrev pathFor : (k : KeptPath) → Stands net (k .0) (k .1) → Path
   pathFor k s = record { bridge = k .0; start = s .path .start; points = s .path .points; finish = s .path .finish }
 
   unfoldable pub offered : List Path
@@ -111,17 +111,17 @@ module _ {net : Net} (a : Allowed net) where
   offered-given : map (givenFor net) offered ≡ kb .offered
   unfolding offered
   offered-given =
-      mapIn-then (givenFor net) (λ (k : Kept). k) (kb .offered) _ (λ k m. ap (λ (n : ℕ). (k .0, n)) (kb .stands k m .length-is))
+      mapIn-then (givenFor net) (λ (k : KeptPath). k) (kb .offered) _ (λ k m. ap (λ (n : ℕ). (k .0, n)) (kb .stands k m .length-is))
       ∙ map-same (kb .offered)
     where
-      map-same : (l : List Kept) → map (λ (k : Kept). k) l ≡ l
+      map-same : (l : List KeptPath) → map (λ (k : KeptPath). k) l ≡ l
       map-same [] = refl
-      map-same (x ∷ l) = ap (λ (r : List Kept). x ∷ r) (map-same l)
+      map-same (x ∷ l) = ap (λ (r : List KeptPath). x ∷ r) (map-same l)
 
   edge-ends : (e : Edge) → e ∈ G → (e .0 ∈ verticesOf net) × (e .1 ∈ verticesOf net)
   edge-ends e i = ends-in (e .0) (e .1) (inl i)
 
-  bridge-for : (k : Kept) (m : k ∈ kb .offered) → Bridge net G (pathFor k (kb .stands k m))
+  bridge-for : (k : KeptPath) (m : k ∈ kb .offered) → Bridge net G (pathFor k (kb .stands k m))
   bridge-for k m =
       let s = kb .stands k m in
       let i = edge-ends (k .0) (s .is-edge) in
@@ -139,7 +139,7 @@ module _ {net : Net} (a : Allowed net) where
 
   -- where an offered path comes from
   pub record Origin (k : Path) : Type 0 where
-    pub given : Kept
+    pub given : KeptPath
     pub stands : Stands net (given .0) (given .1)
     pub is : k ≡ pathFor given stands
     pub bridge : Bridge net G k
@@ -164,7 +164,7 @@ module _ {net : Net} (a : Allowed net) where
       let y = root-only s (root-ours (e .1) (v .1)) in
       let o = kb .all e i (λ z. n (x ∙ z ∙ sym y)) in
       let h = mapIn-has {B = Path} (kb .offered) (λ k m. pathFor k (kb .stands k m)) (e, o .0) (o .1) in
-      (pathFor (h .0) (kb .stands (h .0) (h .1 .0)), (h .1 .1 .1, sym (ap (λ (z : Kept). z .0) (h .1 .1 .0))))
+      (pathFor (h .0) (kb .stands (h .0) (h .1 .0)), (h .1 .1 .1, sym (ap (λ (z : KeptPath). z .0) (h .1 .1 .0))))
 
   turn-same : (j k : Path) → takenBefore (givenFor net j) (givenFor net k) ≡ takenFirst net j k
   unfolding takenBefore beforeEdge

@@ -27,7 +27,7 @@ use Rattle.terminal.proofs.OurTree.{stands, kept-joining, none-shorter,
 use Rattle.terminal.specs.Number.{numberOf, vertexAt, edgeAt}
 use Rattle.terminal.specs.Tree.{treeOf, bridgesOf, lengthsOf, pathsOf, totalOf, rootsOf}
 use Rattle.terminal.specs.Roots.{WayUp}
-use Rattle.terminal.specs.Stands.{Kept, PathOf, keptEnds, Stands}
+use Rattle.terminal.specs.Stands.{KeptPath, PathOf, keptEnds, Stands}
 use Rattle.terminal.proofs.SettingOf.{between-numbers, edge-in, one-vertex, two-vertex, setting, whole, paths-count}
 use Rattle.terminal.proofs.CrossingLaws.{G, pins, T, to-places, to-numbers, length-by-places, length-by-numbers}
 use Rattle.terminal.proofs.CrossingLaws.{kept, weight, given, bridgeNumber, kept-below, given-in, given-follows}
@@ -43,11 +43,11 @@ module _ {net : Net} (a : Allowed net) where
 
   pub paths-bridges : map (λ k. k .0) (pathsOf net) ≡ bridgesOf net
   unfolding treeOf terminal pathsOf bridgesOf
-  paths-bridges = map-then (given a) (λ (k : Kept). k .0) (edgeAt (spanning net)) (kept a) (λ k m. refl)
+  paths-bridges = map-then (given a) (λ (k : KeptPath). k .0) (edgeAt (spanning net)) (kept a) (λ k m. refl)
 
   pub paths-lengths : map (λ k. k .1) (pathsOf net) ≡ lengthsOf net
   unfolding treeOf terminal keptLengths pathsOf
-  paths-lengths = map-then (given a) (λ (k : Kept). k .1) (weight a) (kept a) (λ k m. refl)
+  paths-lengths = map-then (given a) (λ (k : KeptPath). k .1) (weight a) (kept a) (λ k m. refl)
 
   pub paths-sum : totalOf net ≡ total (map (λ k. k .1) (pathsOf net))
   unfolding treeOf terminal
@@ -114,13 +114,13 @@ module _ {net : Net} (a : Allowed net) where
   number-apart : (x y : Place) → x ∈ net .pins → y ∈ net .pins → (x ≡ y → ⊥) → numberOf (verticesOf net) x ≡ numberOf (verticesOf net) y → ⊥
   number-apart x y i k n e = n (same-point (to-numbers a) x y (to-numbers a .pin-in x i) (to-numbers a .pin-in y k) e)
 
-  way-back : {x y : Place} {w : List Kept} → OurWay (keptEnds net) (pathsOf net) x y w →
+  way-back : {x y : Place} {w : List KeptPath} → OurWay (keptEnds net) (pathsOf net) x y w →
       OurWay (rootsBy (G a) (T a)) (kept a) (numberOf (verticesOf net) x) (numberOf (verticesOf net) y) (map (bridgeNumber a) w)
   way-back o =
       our-way-carried (numberOf (verticesOf net)) (bridgeNumber a) (keptEnds net) (rootsBy (G a) (T a)) (number-in a) (number-follows a)
       (λ b c m n e. sym (given-number a b m) ∙ ap (given a) e ∙ given-number a c n) o
 
-  pub no-lower-chain : {x y : Place} → (x ≡ y → ⊥) → {w : List Kept} → OurWay (keptEnds net) (pathsOf net) x y w →
+  pub no-lower-chain : {x y : Place} → (x ≡ y → ⊥) → {w : List KeptPath} → OurWay (keptEnds net) (pathsOf net) x y w →
       {cs : List (PathOf net)} → Chain endsOf x cs y → most (map (λ k. k .1) w) ≤ most (map (lengthOf (costIn net)) cs)
   no-lower-chain {x} {y} n {w} o {cs} c =
       let e = chain-ends endsOf c (λ t m. (t .start-pin, t .finish-pin)) in
@@ -129,6 +129,6 @@ module _ {net : Net} (a : Allowed net) where
       (chain-carried (numberOf (verticesOf net)) back endsOf endsOf c (λ t m. back-follows t))
       in
       let weights : map (weight a) (map (bridgeNumber a) w) ≡ map (λ k. k .1) w =
-      map-then (bridgeNumber a) (weight a) (λ (k : Kept). k .1) w (λ b m. ap (λ (k : Kept). k .1) (given-number a b (o .among b m)))
+      map-then (bridgeNumber a) (weight a) (λ (k : KeptPath). k .1) w (λ b m. ap (λ (k : KeptPath). k .1) (given-number a b (o .among b m)))
       in
       omega (arith, r, ap most weights, ap most (back-lengths cs))

@@ -34,7 +34,7 @@ use Rattle.forest.proofs.Nearest.{link-in}
 use Rattle.forest.proofs.Homeward.{root-source}
 use Rattle.terminal.specs.Number.{numberOf, vertexAt, edgeAt, pinNumbers}
 use Rattle.terminal.specs.Tree.{graphOf, treeOf, pathsOf, rootOf, rootsOf}
-use Rattle.terminal.specs.Stands.{Kept, PathOf, keptEnds}
+use Rattle.terminal.specs.Stands.{KeptPath, PathOf, keptEnds}
 use Rattle.terminal.proofs.NumberLaws.{vertex-of-number, number-of-vertex, count-of, one-of, two-of}
 use Rattle.terminal.proofs.NumberLaws.{pin-number-in, of-pin-numbers}
 use Rattle.terminal.proofs.SettingOf.{between-numbers, edge-in, one-vertex, two-vertex, setting, whole, edge-numbers}
@@ -151,10 +151,10 @@ module _ {net : Net} (a : Allowed net) where
   weight = pathLength G (T .fars) P
 
   -- what is given for the path of edge k, and the number of the edge of which that is given
-  abbrev pub given : ℕ → Kept
+  abbrev pub given : ℕ → KeptPath
   given k = (edgeAt (spanning net) k, weight k)
 
-  abbrev pub bridgeNumber : Kept → ℕ
+  abbrev pub bridgeNumber : KeptPath → ℕ
   bridgeNumber b = position beforeEdge (spanning net) (b .0)
 
   pub paths-are : pathsOf net ≡ map given kept
@@ -174,7 +174,7 @@ module _ {net : Net} (a : Allowed net) where
   given-in k m = rw paths-are (in-map given m)
 
   -- each given path is that of a kept bridge
-  pub of-given : (b : Kept) → b ∈ pathsOf net → Source given kept b
+  pub of-given : (b : KeptPath) → b ∈ pathsOf net → Source given kept b
   of-given b m = of-map given kept (rw paths-are at m)
 
   -- its ends are roots
@@ -185,21 +185,21 @@ module _ {net : Net} (a : Allowed net) where
     root-by-number _ ∙ ap (λ (i : ℕ). vertexAt vs (root T i)) (sym (two-of (net .weights) vs es k (edge-below k h))),
   )
 
-  pub number-in : (b : Kept) → b ∈ pathsOf net → bridgeNumber b ∈ kept
+  pub number-in : (b : KeptPath) → b ∈ pathsOf net → bridgeNumber b ∈ kept
   number-in b m =
       let s = of-given b m in
       Memᴰ·cast (ap bridgeNumber (s .is) ∙ number-given (s .entry) (s .stands)) (s .stands)
 
-  pub given-number : (b : Kept) → b ∈ pathsOf net → given (bridgeNumber b) ≡ b
+  pub given-number : (b : KeptPath) → b ∈ pathsOf net → given (bridgeNumber b) ≡ b
   given-number b m =
       let s = of-given b m in
       ap given (ap bridgeNumber (s .is) ∙ number-given (s .entry) (s .stands)) ∙ sym (s .is)
 
-  pub number-follows : (b : Kept) → b ∈ pathsOf net →
+  pub number-follows : (b : KeptPath) → b ∈ pathsOf net →
       Follows (numberOf (verticesOf net)) bridgeNumber (keptEnds net) (rootsBy G T) b
   number-follows b m = (
-    sym (root-number _ (setting a .one-in _ h)) ∙ ap (numberOf vs) (sym (f .0) ∙ ap (λ (c : Kept). keptEnds net c .0) e),
-    sym (root-number _ (setting a .two-in _ h)) ∙ ap (numberOf vs) (sym (f .1) ∙ ap (λ (c : Kept). keptEnds net c .1) e),
+    sym (root-number _ (setting a .one-in _ h)) ∙ ap (numberOf vs) (sym (f .0) ∙ ap (λ (c : KeptPath). keptEnds net c .0) e),
+    sym (root-number _ (setting a .two-in _ h)) ∙ ap (numberOf vs) (sym (f .1) ∙ ap (λ (c : KeptPath). keptEnds net c .1) e),
   )
     where
       k : ℕ

@@ -23,13 +23,13 @@ use Rattle.graph.specs.Spanning.{verticesOf, spanning}
 use Rattle.graph.specs.Edges.{beforeEdge}
 use Rattle.graph.proofs.EdgeLaws.{edge-order}
 use Rattle.graph.proofs.GraphBounds.{spanning-ascending}
-use Rattle.terminal.specs.Bridges.{oneRoot, sameRoot, rootsOf as rootsBy, weights, earlier, bridges}
-use Rattle.terminal.proofs.WholeLaws.{weights-at}
+use Rattle.terminal.specs.Bridges.{oneRoot, sameRoot, rootsOf as rootsBy, pathLengths, earlier, bridges}
+use Rattle.terminal.proofs.WholeLaws.{path-lengths-at}
 use Rattle.forest.proofs.Nearest.{fits}
 use Rattle.terminal.proofs.OurTree.{bridge-is, is-bridge, bridges-in-order, kept-is}
 use Rattle.terminal.specs.Number.{numberOf, vertexAt, edgeAt}
 use Rattle.terminal.specs.Tree.{pathsOf, rootOf, rootsOf}
-use Rattle.terminal.specs.Stands.{Kept, keptEnds, Stands}
+use Rattle.terminal.specs.Stands.{KeptPath, keptEnds, Stands}
 use Rattle.terminal.specs.KeptBridges.{takenBefore, KeptBridges}
 use Rattle.terminal.proofs.NumberLaws.{ascending-at, count-of}
 use Rattle.terminal.proofs.SettingOf.{setting, whole}
@@ -61,19 +61,19 @@ module _ {net : Net} (a : Allowed net) where
   L = bridges (G a) (T a) (P a)
 
   -- the bridges with the lengths of their paths
-  abbrev pub offered : List Kept
+  abbrev pub offered : List KeptPath
   offered = map (given a) L
 
   below : (k : ℕ) → k ∈ L → k < G a .count
   below k m = bridge-is (setting a) (whole a) k m .0
 
-  pub offered-stand : (k : Kept) → k ∈ offered → Stands net (k .0) (k .1)
+  pub offered-stand : (k : KeptPath) → k ∈ offered → Stands net (k .0) (k .1)
   offered-stand k m =
       let s = of-map (given a) L m in
       let r = bridge-is (setting a) (whole a) (s .entry) (s .stands) in
-      subst (λ (b : Kept). Stands net (b .0) (b .1)) (sym (s .is)) (bridge-stands a (s .entry) (r .0) (r .1))
+      subst (λ (b : KeptPath). Stands net (b .0) (b .1)) (sym (s .is)) (bridge-stands a (s .entry) (r .0) (r .1))
 
-  pub offered-apart : (k : Kept) → k ∈ offered → rootOf net (k .0 .0) ≡ rootOf net (k .0 .1) → ⊥
+  pub offered-apart : (k : KeptPath) → k ∈ offered → rootOf net (k .0 .0) ≡ rootOf net (k .0 .1) → ⊥
   offered-apart k m e = let s = offered-stand k m in s .path .apart (s .start-is ∙ e ∙ sym (s .finish-is))
 
   -- an edge between vertices of different roots is among them
@@ -109,21 +109,21 @@ module _ {net : Net} (a : Allowed net) where
   edge-before : (j k : ℕ) → k < G a .count → j < k → beforeEdge (edgeAt (spanning net) j) (edgeAt (spanning net) k) ≡ true
   edge-before j k h l = ascending-at beforeEdge (spanning net) (spanning-ascending net) j k _ l (edge-below a k h)
 
-  weight-at : (k : ℕ) → k < G a .count → getD (weights (G a) (T a .fars) (P a)) k 0 ≡ weight a k
-  weight-at k h = weights-at (G a) (T a) (P a) (fits (setting a)) k h
+  weight-at : (k : ℕ) → k < G a .count → getD (pathLengths (G a) (T a .fars) (P a)) k 0 ≡ weight a k
+  weight-at k h = path-lengths-at (G a) (T a) (P a) (fits (setting a)) k h
 
-  taken-first : (j k : ℕ) → j < G a .count → k < G a .count → earlier (weights (G a) (T a .fars) (P a)) j k ≡ true →
+  taken-first : (j k : ℕ) → j < G a .count → k < G a .count → earlier (pathLengths (G a) (T a .fars) (P a)) j k ≡ true →
       takenBefore (given a j) (given a k) ≡ true
   unfolding earlier takenBefore
   taken-first j k i h e =
       then-by ltb ltb beforeEdge (weight a j) (weight a k) j k (edgeAt (spanning net) j) (edgeAt (spanning net) k)
       (λ l. edge-before j k h (ltb-true j k l))
       (subst (λ (w : ℕ). firstThen ltb ltb (weight a j, j) (w, k) ≡ true) (weight-at k h)
-      (subst (λ (w : ℕ). firstThen ltb ltb (w, j) (getD (weights (G a) (T a .fars) (P a)) k 0, k) ≡ true) (weight-at j i) e))
+      (subst (λ (w : ℕ). firstThen ltb ltb (w, j) (getD (pathLengths (G a) (T a .fars) (P a)) k 0, k) ≡ true) (weight-at j i) e))
 
   pub offered-in-order : Ascending takenBefore offered
   offered-in-order =
-      map-ascending (earlier (weights (G a) (T a .fars) (P a))) takenBefore (given a) L
+      map-ascending (earlier (pathLengths (G a) (T a .fars) (P a))) takenBefore (given a) L
       (λ j k m n. taken-first j k (below j m) (below k n)) (bridges-in-order (setting a) (whole a))
 
   -- Those that are kept

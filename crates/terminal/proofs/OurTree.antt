@@ -20,7 +20,7 @@ use Rattle.lists.proofs.ThoseLaws.{in-those}
 use Rattle.lists.proofs.SortedLaws.{in-sorted}
 use Rattle.joined.specs.Joined.{Link, Joined, stay, Alike}
 use Rattle.joined.specs.Way.{Way, stop, go, long, On, turned}
-use Rattle.joined.specs.Tree.{Tree}
+use Rattle.joined.specs.Tree.{TreeOn}
 use Rattle.joined.specs.Light.{Rising, light}
 use Rattle.joined.specs.Keep.{Offered, Dominated, kept}
 use Rattle.joined.specs.Path.{TerminalPath, endsOf, lengthOf}
@@ -35,13 +35,14 @@ use Rattle.forest.specs.Bounds.{pointBound}
 use Rattle.forest.specs.Edges.{Graph, one, two, len, from}
 use Rattle.forest.specs.Labels.{Labels, far, root, labelled}
 use Rattle.forest.specs.Parents.{Parents, parented, way}
-use Rattle.terminal.specs.Bridges.{oneRoot, sameRoot, rootsOf, path as pathEdges, pathLength, weights, earlier, bridgesFrom, bridges}
+use Rattle.terminal.specs.Bridges.{oneRoot, sameRoot, rootsOf, path as pathEdges, pathLength, pathLengths, earlier}
+use Rattle.terminal.specs.Bridges.{bridgesFrom, bridges}
 use Rattle.terminal.specs.Kept.{keptBridges, keptLengths, terminal}
 use Rattle.forest.specs.Setting.{ends, pairs, Setting, Whole}
 use Rattle.forest.proofs.EdgeLaws.{in-from, getD-from, length-from}
 use Rattle.terminal.proofs.PathParts.{path-parts}
 use Rattle.terminal.proofs.BridgeLaws.{earlier-le, earlier-order, of-bridges, bridges-ascending}
-use Rattle.terminal.proofs.WholeLaws.{of-kept, weights-at}
+use Rattle.terminal.proofs.WholeLaws.{of-kept, path-lengths-at}
 use Rattle.forest.proofs.Nearest.{fits, edges-among, joint, edge-long, link-in, best, closed}
 use Rattle.forest.proofs.Homeward.{source-label, root-source, wayPoints, Home, way-home, way-once, way-source, way-length}
 
@@ -179,17 +180,17 @@ module _ {g : Graph} {n : ℕ} {d : ℕ → ℕ → ℕ} {pins : List ℕ} (s : 
 
   pub bridge-is : (k : ℕ) → k ∈ L → (k < g .count) × (sameRoot g T k ≡ false)
   unfolding bridges
-  bridge-is k m = let r = of-bridges (sameRoot g T) (weights g (T .fars) P) 0 (g .count) k m in (omega (arith, r .1), r .2)
+  bridge-is k m = let r = of-bridges (sameRoot g T) (pathLengths g (T .fars) P) 0 (g .count) k m in (omega (arith, r .1), r .2)
 
   pub is-bridge : (k : ℕ) → k < g .count → sameRoot g T k ≡ false → k ∈ L
   unfolding bridges bridgesFrom
   is-bridge k h e =
-      in-sorted (earlier (weights g (T .fars) P)) (earlier-order (weights g (T .fars) P)) _ k
+      in-sorted (earlier (pathLengths g (T .fars) P)) (earlier-order (pathLengths g (T .fars) P)) _ k
       (in-those (λ j. not (sameRoot g T j)) (from 0 (g .count)) (in-from 0 (g .count) k (omega arith) (omega arith)) (ap not e))
 
-  pub bridges-in-order : Ascending (earlier (weights g (T .fars) P)) L
+  pub bridges-in-order : Ascending (earlier (pathLengths g (T .fars) P)) L
   unfolding bridges
-  bridges-in-order = bridges-ascending (sameRoot g T) (weights g (T .fars) P) 0 (g .count)
+  bridges-in-order = bridges-ascending (sameRoot g T) (pathLengths g (T .fars) P) 0 (g .count)
 
   -- Domination
 
@@ -232,12 +233,12 @@ module _ {g : Graph} {n : ℕ} {d : ℕ → ℕ → ℕ} {pins : List ℕ} (s : 
 
   -- The bridges join the pins, and lighter ones come first
 
-  rising : (ks : List ℕ) → Ascending (earlier (weights g (T .fars) P)) ks → ((k : ℕ) → k ∈ ks → k < g .count) → Rising weight ks
+  rising : (ks : List ℕ) → Ascending (earlier (pathLengths g (T .fars) P)) ks → ((k : ℕ) → k ∈ ks → k < g .count) → Rising weight ks
   rising [] a h = tt
   rising (k ∷ ks) a h = (
     λ j m.
-        (let e = earlier-le (weights g (T .fars) P) k j (a .0 j m) in
-        omega (arith, e, weights-at g T P (fits s) k (h k (here refl)), weights-at g T P (fits s) j (h j (there m)))),
+        (let e = earlier-le (pathLengths g (T .fars) P) k j (a .0 j m) in
+        omega (arith, e, path-lengths-at g T P (fits s) k (h k (here refl)), path-lengths-at g T P (fits s) j (h j (there m)))),
     rising ks (a .1) (λ j m. h j (there m)),
   )
 
@@ -291,7 +292,7 @@ module _ {g : Graph} {n : ℕ} {d : ℕ → ℕ → ℕ} {pins : List ℕ} (s : 
   kept-count = rw kept-is (ours-count ℕ-discrete (rootsOf g T) weight offered)
 
   -- a tree over the pins
-  pub ours-tree : Tree pins (map (rootsOf g T) K)
+  pub ours-tree : TreeOn pins (map (rootsOf g T) K)
   ours-tree = rw kept-is (kept-tree ℕ-discrete (rootsOf g T) weight offered)
 
   -- they are a joining

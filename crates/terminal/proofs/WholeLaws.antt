@@ -15,7 +15,7 @@ use Rattle.forest.specs.Bounds.{pointBound, edgeBound, pathBound}
 use Rattle.forest.specs.Edges.{Graph, from, filled, entries, Fits, Below, FirstBelow, Ends, Named, Listed}
 use Rattle.forest.specs.Labels.{Labels, labelled, Low}
 use Rattle.forest.specs.Parents.{Parents, parented, Falls}
-use Rattle.terminal.specs.Bridges.{sameRoot, rootsOf, pathLength, weights, bridgesFrom, bridges}
+use Rattle.terminal.specs.Bridges.{sameRoot, rootsOf, pathLength, pathLengths, bridgesFrom, bridges}
 use Rattle.terminal.specs.Kept.{keptBridges, keptLengths, terminal}
 use Rattle.forest.proofs.EdgeLaws.{filled-here, below-filled, below-replicate}
 use Rattle.terminal.proofs.PathParts.{path-low}
@@ -46,13 +46,13 @@ module _ (g : Graph) (t : Labels) (p : Parents) where
   pub of-kept : (k : ℕ) → k ∈ keptBridges g t p → (k < g .count) × (sameRoot g t k ≡ false)
   unfolding keptBridges bridges
   of-kept k m =
-      let r = of-bridges (sameRoot g t) (weights g (t .fars) p) 0 (g .count) k (kept-among (rootsOf g t) _ _ k m) in
+      let r = of-bridges (sameRoot g t) (pathLengths g (t .fars) p) 0 (g .count) k (kept-among (rootsOf g t) _ _ k m) in
       (omega (arith, r .1), r .2)
 
   -- the table of lengths holds them
-  pub weights-at : Fits g → (k : ℕ) → k < g .count → getD (weights g (t .fars) p) k 0 ≡ pathLength g (t .fars) p k
-  unfolding weights
-  weights-at fits k h =
+  pub path-lengths-at : Fits g → (k : ℕ) → k < g .count → getD (pathLengths g (t .fars) p) k 0 ≡ pathLength g (t .fars) p k
+  unfolding pathLengths
+  path-lengths-at fits k h =
       filled-here (pathLength g (t .fars) p) (g .count) (replicate edgeBound 0) k
       (omega (arith, fits .count, length-replicate {A = ℕ} edgeBound 0)) h
 
@@ -79,7 +79,7 @@ module _ (g : Graph) (t : Labels) (p : Parents) where
     module _ (group : List ℕ) (numbered : group ≡ filled (λ k. k) 0 pointBound (replicate pointBound 0)) (lent table : List ℕ) (count : ℕ)
         (taken : Listed (keptBy (rootsOf g t) (entries order 0 n) group) lent table count) where
       kept-is : keptBy (rootsOf g t) (entries order 0 n) group ≡ keptBridges g t p
-      unfolding keptBridges bridges weights
+      unfolding keptBridges bridges pathLengths
       kept-is =
           ap₂ (keptBy (rootsOf g t))
           (read-listed _ _ order n sorted ∙ ap (λ (v : List ℕ). bridgesFrom (sameRoot g t) v 0 (g .count)) weighed)
@@ -94,11 +94,11 @@ module _ (g : Graph) (t : Labels) (p : Parents) where
       }
 
       lengths-is : map (λ k. getD w k 0) (entries table 0 count) ≡ keptLengths g t p
-      unfolding keptLengths weights
+      unfolding keptLengths pathLengths
       lengths-is =
           ap (map (λ k. getD w k 0)) (read-listed _ _ table count kept-listed)
           ∙ map-agree (λ k. getD w k 0) (pathLength g (t .fars) p) (keptBridges g t p)
-          (λ k m. ap (λ (v : List ℕ). getD v k 0) weighed ∙ weights-at fits k (of-kept k m .0))
+          (λ k m. ap (λ (v : List ℕ). getD v k 0) weighed ∙ path-lengths-at fits k (of-kept k m .0))
 
       pub lengths-listed : (lent′ long : List ℕ) (sum : ℕ) → Listed (map (λ k. getD w k 0) (entries table 0 count)) lent′ long count →
           sum ≡ total (map (λ k. getD w k 0) (entries table 0 count)) →

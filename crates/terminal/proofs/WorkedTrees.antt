@@ -12,7 +12,7 @@ use Rattle.forest.specs.Bounds.{pointBound, edgeBound, unreached}
 use Rattle.forest.specs.Edges.{Graph, graph, from, filled}
 use Rattle.forest.specs.Labels.{better, gains, offer, relaxEdge, moves, relax, changes, settled, starts, labelled}
 use Rattle.forest.specs.Parents.{leads, nearer, through, parentAmong, parent, adopted, parented, wayOf, way}
-use Rattle.terminal.specs.Bridges.{oneRoot, path, pathLength, weights, earlier, bridgesFrom, bridges}
+use Rattle.terminal.specs.Bridges.{oneRoot, path, pathLength, pathLengths, earlier, bridgesFrom, bridges}
 use Rattle.terminal.specs.Kept.{keptBridges, keptLengths, terminal}
 
 -- the labels and the parents of a graph of n vertices, those of the vertices alone
@@ -41,7 +41,7 @@ unfoldable pub tree : Graph → ℕ → List ℕ → Tree
 unfolding
     labelled settled changes moves relax relaxEdge offer gains better starts parented adopted parent parentAmong through nearer leads
     filled from
-    wayOf way oneRoot path pathLength weights earlier firstThen put sorted those bridgesFrom bridges
+    wayOf way oneRoot path pathLength pathLengths earlier firstThen put sorted those bridgesFrom bridges
     keptBy changed keptBridges keptLengths total terminal
 tree g n pins =
     let r = terminal g n pins in

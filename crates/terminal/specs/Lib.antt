@@ -25,7 +25,7 @@
 --              Through, SmallestParent net v       the parent is the smallest neighbour on a shortest way to the root
 --              WayUp net v qs                      qs are the places after v on its way to its root
 --              HomeWay net v                       such a way, loop-free to the root
---   Stands     Kept, keptEnds net k                a kept path, bridge and length; the two pins that it joins
+--   Stands     KeptPath, keptEnds net k            a kept path, bridge and length; the two pins that it joins
 --              PathOf net                          a terminal path of the net's graph
 --              Stands net b l                      the bridge b stands for a terminal path of length l
 --   KeptBridges takenBefore j k                    by path length, ties by the order of edges

@@ -13,8 +13,8 @@ use Rattle.terminal.specs.Tree.{rootOf, rootsOf}
 use Rattle.terminal.specs.Roots.{WayUp}
 
 -- a kept path as it is given: its bridge and its length
-abbrev pub Kept : Type 0
-Kept = (Place × Place) × ℕ
+abbrev pub KeptPath : Type 0
+KeptPath = (Place × Place) × ℕ
 
 module _ (net : Net) where
   -- a terminal path of the net's graph
@@ -22,7 +22,7 @@ module _ (net : Net) where
   PathOf = TerminalPath (spanning net) (net .pins)
 
   -- the two pins that a kept path joins
-  abbrev pub keptEnds : Kept → Place × Place
+  abbrev pub keptEnds : KeptPath → Place × Place
   keptEnds k = rootsOf net (k .0)
 
   -- T10: the path that a bridge b stands for, from root to root over both ways, is a terminal path; T4: its length l counts every edge.

@@ -54,7 +54,7 @@ treeTotal w t = sumOver (keyCost w (t .points)) (t .edges .keys) (t .edges .size
 pub record Sound (net : Net) (t : Tree) : Type 0 where
   pub ordered : InOrder (t .points) (t .count)
   pub within : Within (t .count) (t .edges .keys)
-  pub whole : joined.Tree (pointsOf (t .points) (t .count)) (edgesOf (t .points) (t .edges .keys) (t .edges .size))
+  pub whole : joined.TreeOn (pointsOf (t .points) (t .count)) (edgesOf (t .points) (t .edges .keys) (t .edges .size))
   pub free : (i : ℕ) → i < t .edges .size → clear (endsOf (t .points) (getD (t .edges .keys) i 0) .0)
       (endsOf (t .points) (getD (t .edges .keys) i 0) .1) (net .macros) ≡ true
   pub pinned : Among (net .pins) (pointsOf (t .points) (t .count))

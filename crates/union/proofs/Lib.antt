@@ -1,4 +1,4 @@
-pub mod StandsLaws
+pub mod ListedLaws
 pub mod MarkLaws
 pub mod StartLaws
 pub mod UnionTree

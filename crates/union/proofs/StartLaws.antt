@@ -29,9 +29,9 @@ use Rattle.forest.specs.Parents.{Parents}
 use Rattle.forest.proofs.EdgeLaws.{below-from, from-next}
 use Rattle.tree.specs.Table.{key, tree}
 use Rattle.tree.specs.Table as tables
-use Rattle.union.specs.Union.{stands, bothEnds, keyIn, keptEdges, unionEdges, unionPoints, startOf}
+use Rattle.union.specs.Union.{listed, bothEnds, keyIn, keptEdges, unionEdges, unionPoints, startOf}
 use Rattle.union.specs.Marks.{marked, isMarked, marks, Ranking}
-use Rattle.union.proofs.StandsLaws.{in-stands, picked-ascending, in-flat}
+use Rattle.union.proofs.ListedLaws.{in-listed, picked-ascending, in-flat}
 use Rattle.union.proofs.MarkLaws.{marked-append, from-parts, those-append, marks-room}
 
 -- Marks read
@@ -44,18 +44,18 @@ or-false : (p : Bool) → (p || false) ≡ p
 or-false true = refl
 or-false false = refl
 
-pub mark-read : (l t : List ℕ) (k : ℕ) → k < length t → isMarked (marked l t) k ≡ (stands k l || isMarked t k)
-unfolding marked stands
+pub mark-read : (l t : List ℕ) (k : ℕ) → k < length t → isMarked (marked l t) k ≡ (listed k l || isMarked t k)
+unfolding marked listed
 mark-read [] t k h = rw (any-end (eqb k) [] refl) refl
 mark-read (j ∷ l) t k h =
     let ih = mark-read l (set t j 1) k (omega (arith, length-set t j 1)) in
     by (eqb k j)
     (λ e.
     let q : getD (set t j 1) k 0 ≡ 1 = rw (eqb-true k j e) (getD-set-same t j 1 0 (rw (← eqb-true k j e) h)) in
-    ih ∙ ap (λ (x : ℕ). stands k l || ltb 0 x) q ∙ or-true (stands k l) ∙ sym (rw (any-hit (eqb k) (j ∷ l) j l refl e) refl))
+    ih ∙ ap (λ (x : ℕ). listed k l || ltb 0 x) q ∙ or-true (listed k l) ∙ sym (rw (any-hit (eqb k) (j ∷ l) j l refl e) refl))
     (λ e.
     let q : getD (set t j 1) k 0 ≡ getD t k 0 = getD-set-other t j k 1 0 (eqb-false k j e) in
-    ih ∙ ap (λ (x : ℕ). stands k l || ltb 0 x) q ∙ sym (rw (any-miss (eqb k) (j ∷ l) j l refl e) refl))
+    ih ∙ ap (λ (x : ℕ). listed k l || ltb 0 x) q ∙ sym (rw (any-miss (eqb k) (j ∷ l) j l refl e) refl))
 
 none-at : (n k : ℕ) → getD {A = ℕ} (replicate n 0) k 0 ≡ 0
 none-at zero k = refl
@@ -63,12 +63,12 @@ none-at (suc n) zero = refl
 none-at (suc n) (suc k) = none-at n k
 
 -- in a fresh table a number is marked exactly where it stands in the list
-pub fresh-read : (n : ℕ) (l t : List ℕ) → t ≡ marked l (replicate n 0) → (k : ℕ) → k < n → isMarked t k ≡ stands k l
+pub fresh-read : (n : ℕ) (l t : List ℕ) → t ≡ marked l (replicate n 0) → (k : ℕ) → k < n → isMarked t k ≡ listed k l
 fresh-read n l t e k h =
     ap (λ (s : List ℕ). isMarked s k) e
     ∙ mark-read l (replicate n 0) k (omega (arith, length-replicate {A = ℕ} n 0))
-    ∙ ap (λ (x : ℕ). stands k l || ltb 0 x) (none-at n k)
-    ∙ or-false (stands k l)
+    ∙ ap (λ (x : ℕ). listed k l || ltb 0 x) (none-at n k)
+    ∙ or-false (listed k l)
 
 those-agree : (f h : ℕ → Bool) (l : List ℕ) → ((k : ℕ) → k ∈ l → f k ≡ h k) → those f l ≡ those h l
 those-agree f h [] a = those-none f ∙ sym (those-none h)
@@ -119,7 +119,7 @@ module _ (g : Graph) (fars : List ℕ) (p : Parents) (ks : List ℕ) (n : ℕ) (
   pub edges-are : marks on (g .count) ≡ unionEdges g fars p ks
   unfolding marks unionEdges
   edges-are =
-      those-agree (isMarked on) (λ k. stands k (keptEdges g fars p ks)) (from 0 (g .count))
+      those-agree (isMarked on) (λ k. listed k (keptEdges g fars p ks)) (from 0 (g .count))
       (λ k m. fresh-read edgeBound (keptEdges g fars p ks) on a k (let h = below-from (g .count) k m in omega arith))
 
   abbrev all : List ℕ
@@ -134,7 +134,7 @@ module _ (g : Graph) (fars : List ℕ) (p : Parents) (ks : List ℕ) (n : ℕ) (
   pub points-are : marks at n ≡ unionPoints g fars p ks n pins
   unfolding marks unionPoints
   points-are =
-      those-agree (isMarked at) (λ v. stands v all) (from 0 n)
+      those-agree (isMarked at) (λ v. listed v all) (from 0 n)
       (λ v m. fresh-read pointBound all at all-marked v (let h = below-from n v m in omega arith))
 
   module _ (one-in : (k : ℕ) → k < g .count → one g k < n) (two-in : (k : ℕ) → k < g .count → two g k < n)
@@ -142,12 +142,12 @@ module _ (g : Graph) (fars : List ℕ) (p : Parents) (ks : List ℕ) (n : ℕ) (
     -- the rank of an end of an edge
     rank-of : (v : ℕ) → v < n → v ∈ all → getD ranks v 0 ≡ position ltb (unionPoints g fars p ks n pins) v
     rank-of v h m =
-        let e : isMarked at v ≡ true = fresh-read pointBound all at all-marked v (omega arith) ∙ in-stands v all m in
+        let e : isMarked at v ≡ true = fresh-read pointBound all at all-marked v (omega arith) ∙ in-listed v all m in
         ranked .rank v h e ∙ sym (rank-position at v n h e) ∙ ap (λ (l : List ℕ). position ltb l v) points-are
 
     union-below : (k : ℕ) → k ∈ unionEdges g fars p ks → k < g .count
     unfolding unionEdges
-    union-below k m = below-from (g .count) k (of-those (λ j. stands j (keptEdges g fars p ks)) (from 0 (g .count)) m .0)
+    union-below k m = below-from (g .count) k (of-those (λ j. listed j (keptEdges g fars p ks)) (from 0 (g .count)) m .0)
 
     pub keys-are : map (λ k. key (getD ranks (one g k) 0) (getD ranks (two g k) 0)) (marks on (g .count))
         ≡ map (λ k. keyIn (unionPoints g fars p ks n pins) (one g k) (two g k)) (unionEdges g fars p ks)

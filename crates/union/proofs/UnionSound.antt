@@ -50,8 +50,8 @@ use Rattle.tree.specs.Places.{treeTotal}
 use Rattle.tree.specs.Sum.{below}
 use Rattle.tree.proofs.ListingLaws.{listing-length, in-listing, of-listing, listing-once}
 use Rattle.tree.proofs.SumLaws.{below-same}
-use Rattle.union.specs.Union.{stands, bothEnds, keptEdges, unionEdges, unionPoints, startOf, unionOf}
-use Rattle.union.proofs.StandsLaws.{picked-ascending}
+use Rattle.union.specs.Union.{listed, bothEnds, keptEdges, unionEdges, unionPoints, startOf, unionOf}
+use Rattle.union.proofs.ListedLaws.{picked-ascending}
 use Rattle.union.proofs.UnionTree.{pin-point, first-point, second-point, point-inside, edge-inside, union-size, union-tree}
 use Rattle.union.proofs.UnionTree.{union-total}
 use Rattle.union.proofs.PlacedLaws.{pointTable, edgeTable, points-length, edges-length, point-at, key-at, position-rises}
@@ -82,7 +82,7 @@ module _ {net : Net} (a : Allowed net) where
 
   -- By numbers
 
-  number-tree : joined.Tree W (map (ends g) E)
+  number-tree : joined.TreeOn W (map (ends g) E)
   unfolding treeOf terminal
   number-tree = union-tree (setting a) (whole a)
 
@@ -119,16 +119,16 @@ module _ {net : Net} (a : Allowed net) where
 
   points-ascending : Ascending ltb W
   unfolding unionPoints
-  points-ascending = picked-ascending (λ v. stands v (pins ++ flat (bothEnds (g .ones) (g .twos)) E)) n
+  points-ascending = picked-ascending (λ v. listed v (pins ++ flat (bothEnds (g .ones) (g .twos)) E)) n
 
   union-ascending : Ascending ltb E
   unfolding unionEdges
-  union-ascending = picked-ascending (λ k. stands k
+  union-ascending = picked-ascending (λ k. listed k
       (keptEdges g (treeOf net .labels .fars) (treeOf net .parents) (treeOf net .bridges))) (g .count)
 
   few-points : length W ≤ n
   unfolding unionPoints
-  few-points = omega (arith, those-split (λ v. stands v (pins ++ flat (bothEnds (g .ones) (g .twos)) E)) (from 0 n), length-from 0 n)
+  few-points = omega (arith, those-split (λ v. listed v (pins ++ flat (bothEnds (g .ones) (g .twos)) E)) (from 0 n), length-from 0 n)
 
   room : length W ≤ treeBound
   room = omega (arith, few-points, few-vertices a)
@@ -185,7 +185,7 @@ module _ {net : Net} (a : Allowed net) where
       (ap at (seconds (r .is)) ∙ ap (λ (k : ℕ). at (two g k)) (sym (i .2)) ∙ sym (second (i .0) (i .1)))
       (one-link (inl (in-listing (λ j. endsOf points (getD keys j 0)) (length E) (i .0) (i .1))))
 
-  place-tree : joined.Tree (pointsOf points (length W)) links
+  place-tree : joined.TreeOn (pointsOf points (length W)) links
   place-tree = record {
     once = listing-once (placeAt points) (length W) (λ i j e f q. before-differs place-order _ _ (ordered i j e f) q);
     joins =

@@ -23,7 +23,7 @@ use Rattle.lists.proofs.ThoseLaws.{in-those, of-those, those-once}
 use Rattle.lists.proofs.TotalLaws.{once-total}
 use Rattle.lent.specs.Entries.{flat}
 use Rattle.joined.specs.Joined.{Link, Joined, Alike}
-use Rattle.joined.specs.Tree.{Tree, Forest}
+use Rattle.joined.specs.Tree.{TreeOn, Forest}
 use Rattle.joined.specs.Graft.{grown, rooted, Hangs}
 use Rattle.joined.proofs.JoinedLaws.{one as one-link, through, between, firsts, seconds}
 use Rattle.joined.proofs.TreeLaws.{tree-forest}
@@ -41,8 +41,8 @@ use Rattle.terminal.proofs.WholeLaws.{of-kept}
 use Rattle.forest.proofs.Nearest.{fits}
 use Rattle.forest.proofs.Homeward.{source-label, root-source, far-off, Parent, parent-is, source-parent, way-home}
 use Rattle.terminal.proofs.OurTree.{kept-count, ours-tree}
-use Rattle.union.specs.Union.{stands, bothEnds, keptEdges, unionEdges, unionPoints}
-use Rattle.union.proofs.StandsLaws.{in-stands, of-stands, in-flat, of-flat, total-flat, once-join, picked-once}
+use Rattle.union.specs.Union.{listed, bothEnds, keptEdges, unionEdges, unionPoints}
+use Rattle.union.proofs.ListedLaws.{in-listed, of-listed, in-flat, of-flat, total-flat, once-join, picked-once}
 
 -- a forest has no pair twice, so its items are without repeats
 forest-once : {A B : Type 0} (pair : B → A × A) (l : List B) → Forest (map pair l) → Once l
@@ -134,8 +134,8 @@ module _ {g : Graph} {n : ℕ} {d : ℕ → ℕ → ℕ} {pins : List ℕ} (s : 
   pub in-union : (k j : ℕ) → k < g .count → j ∈ K → k ∈ walk j → k ∈ E
   unfolding unionEdges keptEdges
   in-union k j h m i =
-      in-those (λ e. stands e (flat walk K)) (from 0 (g .count)) (in-from 0 (g .count) k (omega arith) (omega arith))
-      (in-stands k (flat walk K) (in-flat walk K m i))
+      in-those (λ e. listed e (flat walk K)) (from 0 (g .count)) (in-from 0 (g .count) k (omega arith) (omega arith))
+      (in-listed k (flat walk K) (in-flat walk K m i))
 
   -- edge k is on the path of a kept bridge
   pub record OnKept (k : ℕ) : Type 0 where
@@ -147,8 +147,8 @@ module _ {g : Graph} {n : ℕ} {d : ℕ → ℕ → ℕ} {pins : List ℕ} (s : 
   pub of-union : (k : ℕ) → k ∈ E → OnKept k
   unfolding unionEdges keptEdges
   of-union k m =
-      let r = of-those (λ e. stands e (flat walk K)) (from 0 (g .count)) m in
-      let p = of-flat walk K (of-stands k (flat walk K) (r .1)) in
+      let r = of-those (λ e. listed e (flat walk K)) (from 0 (g .count)) m in
+      let p = of-flat walk K (of-listed k (flat walk K) (r .1)) in
       record { inside = below-from (g .count) k (r .0); bridge = p .entry; kept = p .stands; on = p .holds }
 
   -- the parts of a kept path are in the union
@@ -205,7 +205,7 @@ module _ {g : Graph} {n : ℕ} {d : ℕ → ℕ → ℕ} {pins : List ℕ} (s : 
   in-points : (v : ℕ) → v < n → v ∈ (pins ++ Ends) → v ∈ W
   unfolding unionPoints
   in-points v h m =
-      in-those (λ w. stands w (pins ++ Ends)) (from 0 n) (in-from 0 n v (omega arith) (omega arith)) (in-stands v (pins ++ Ends) m)
+      in-those (λ w. listed w (pins ++ Ends)) (from 0 n) (in-from 0 n v (omega arith) (omega arith)) (in-listed v (pins ++ Ends) m)
 
   pub pin-point : Among pins W
   pin-point v m = in-points v (s .sources-in v m) (Memᴰ·append-left Ends m)
@@ -229,10 +229,10 @@ module _ {g : Graph} {n : ℕ} {d : ℕ → ℕ → ℕ} {pins : List ℕ} (s : 
   of-points : (v : ℕ) → v ∈ W → (v < n) × ((v ∈ pins) ⊎ EndOf v)
   unfolding unionPoints
   of-points v m =
-      let r = of-those (λ w. stands w (pins ++ Ends)) (from 0 n) m in (
+      let r = of-those (λ w. listed w (pins ++ Ends)) (from 0 n) m in (
         below-from n v (r .0),
         either inl (λ i. inr (ended (of-flat (bothEnds (g .ones) (g .twos)) E i)))
-            (List·Memᴰ·append-cases pins (of-stands v (pins ++ Ends) (r .1))),
+            (List·Memᴰ·append-cases pins (of-listed v (pins ++ Ends) (r .1))),
       )
     where
       ended : Piece (bothEnds (g .ones) (g .twos)) E v → EndOf v
@@ -287,32 +287,32 @@ module _ {g : Graph} {n : ℕ} {d : ℕ → ℕ → ℕ} {pins : List ℕ} (s : 
 
   -- the points that are no pins
   abbrev N : List ℕ
-  N = those (λ v. not (stands v pins)) W
+  N = those (λ v. not (listed v pins)) W
 
   of-others : (v : ℕ) → v ∈ N → (v ∈ W) × (v ∈ pins → ⊥)
   of-others v m =
-      let r = of-those (λ w. not (stands w pins)) W m in
-      (r .0, λ i. differ (in-stands v pins i) (not-true (stands v pins) (r .1)))
+      let r = of-those (λ w. not (listed w pins)) W m in
+      (r .0, λ i. differ (in-listed v pins i) (not-true (listed v pins) (r .1)))
 
   sorted-point : (v : ℕ) → v ∈ W → v ∈ (pins ++ N)
   sorted-point v m =
-      by (stands v pins)
-      (λ e. Memᴰ·append-left N (of-stands v pins e))
-      (λ e. Memᴰ·append-right pins (in-those (λ w. not (stands w pins)) W m (ap not e)))
+      by (listed v pins)
+      (λ e. Memᴰ·append-left N (of-listed v pins e))
+      (λ e. Memᴰ·append-right pins (in-those (λ w. not (listed w pins)) W m (ap not e)))
 
   of-sorted-point : (v : ℕ) → v ∈ (pins ++ N) → v ∈ W
   of-sorted-point v m = either (λ i. pin-point v i) (λ i. of-others v i .0) (List·Memᴰ·append-cases pins m)
 
   pub points-once : Once W
   unfolding unionPoints
-  points-once = picked-once (λ v. stands v (pins ++ Ends)) n
+  points-once = picked-once (λ v. listed v (pins ++ Ends)) n
 
   pub edges-once : Once E
   unfolding unionEdges
-  edges-once = picked-once (λ k. stands k (keptEdges g (T .fars) P K)) (g .count)
+  edges-once = picked-once (λ k. listed k (keptEdges g (T .fars) P K)) (g .count)
 
   sorted-once : Once (pins ++ N)
-  sorted-once = once-join pins N (whole .once) (those-once (λ v. not (stands v pins)) W points-once) (λ v i k. of-others v k .1 i)
+  sorted-once = once-join pins N (whole .once) (those-once (λ v. not (listed v pins)) W points-once) (λ v i k. of-others v k .1 i)
 
   -- the parent of a point that is no pin
   parent : (v : ℕ) → v ∈ N → Parent s whole v
@@ -366,7 +366,7 @@ module _ {g : Graph} {n : ℕ} {d : ℕ → ℕ → ℕ} {pins : List ℕ} (s : 
 
   parted-once : Once F
   parted-once =
-      once-join (map (via P) N) K (map-once (via P) N own-edge (those-once (λ v. not (stands v pins)) W points-once)) kept-once no-bridge
+      once-join (map (via P) N) K (map-once (via P) N own-edge (those-once (λ v. not (listed v pins)) W points-once)) kept-once no-bridge
 
   of-parted : Among F E
   of-parted k m =
@@ -443,7 +443,7 @@ module _ {g : Graph} {n : ℕ} {d : ℕ → ℕ → ℕ} {pins : List ℕ} (s : 
           one-link (inl (Memᴰ·cast (r .is) (in-map (ends g) (bridge-in (r .entry) (r .stands)))))
 
   -- the union of the kept paths is one tree over its points
-  pub union-tree : Tree W (map (ends g) E)
+  pub union-tree : TreeOn W (map (ends g) E)
   union-tree = record {
     once = points-once;
     joins = λ x y i k. through linked (grown-tree hangs .joins x y (sorted-point x i) (sorted-point y k));

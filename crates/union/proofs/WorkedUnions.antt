@@ -27,12 +27,12 @@ use Rattle.graph.specs.Edges.{edgeOf, beforeEdge, edgeOfPick, picksOf, allPicks
 use Rattle.forest.specs.Edges.{Graph, graph, from, filled}
 use Rattle.forest.specs.Labels.{better, gains, offer, relaxEdge, moves, relax, changes, settled, starts, labelled}
 use Rattle.forest.specs.Parents.{leads, nearer, through, parentAmong, parent, adopted, parented, wayOf, way}
-use Rattle.terminal.specs.Bridges.{oneRoot, path, pathLength, weights, earlier, bridgesFrom, bridges}
+use Rattle.terminal.specs.Bridges.{oneRoot, path, pathLength, pathLengths, earlier, bridgesFrom, bridges}
 use Rattle.terminal.specs.Kept.{keptBridges, keptLengths, terminal}
 use Rattle.terminal.specs.Number.{numbered, pinNumbers}
 use Rattle.terminal.specs.Tree.{treeOf}
 use Rattle.tree.specs.Table.{key, Tree}
-use Rattle.union.specs.Union.{stands, keptEdges, unionEdges, unionPoints, startOf, unionOf}
+use Rattle.union.specs.Union.{listed, keptEdges, unionEdges, unionPoints, startOf, unionOf}
 
 -- a tree's points and edges, without the zeros behind them
 unfoldable shown : Tree → List ℤ × List ℕ
@@ -43,8 +43,8 @@ unfoldable pub union : Lists → List ℤ × List ℕ
 unfolding any put sorted firstThen position those total minZ maxZ over flat changed keptBy before apart cost spanMeets meets clear
     pinPlaces macrosOf cornersOf corners vertices within nearerPlace betterPick pickFrom pick edgeOf beforeEdge edgeOfPick picksOf allPicks
     edges from filled better gains offer relaxEdge moves relax changes settled starts labelled leads nearer through parentAmong parent
-    adopted parented wayOf way oneRoot path pathLength weights earlier bridgesFrom bridges keptBridges keptLengths terminal numbered
-    pinNumbers treeOf stands keptEdges unionEdges unionPoints startOf unionOf shown
+    adopted parented wayOf way oneRoot path pathLength pathLengths earlier bridgesFrom bridges keptBridges keptLengths terminal numbered
+    pinNumbers treeOf listed keptEdges unionEdges unionPoints startOf unionOf shown
 union lists = shown (unionOf (netOf (lists .pins) (lists .macros)))
 
 -- A graph whose kept paths share an edge: the pins 0, 2 and 3 hang on the vertex 1, 1 away from pin 0 and 5 from the others. The tree's
@@ -55,8 +55,8 @@ star = graph (0 ∷ 1 ∷ 1 ∷ []) (1 ∷ 2 ∷ 3 ∷ []) (1 ∷ 5 ∷ 5 ∷ []
 -- its kept paths' edges one path after the other, those of the union, and its points
 unfoldable pub shared : List ℕ × List ℕ × List ℕ
 unfolding star any put sorted firstThen those total flat changed keptBy from filled better gains offer relaxEdge moves relax changes
-    settled starts labelled leads nearer through parentAmong parent adopted parented wayOf way oneRoot path pathLength weights earlier
-    bridgesFrom bridges keptBridges keptLengths terminal stands keptEdges unionEdges unionPoints
+    settled starts labelled leads nearer through parentAmong parent adopted parented wayOf way oneRoot path pathLength pathLengths earlier
+    bridgesFrom bridges keptBridges keptLengths terminal listed keptEdges unionEdges unionPoints
 shared =
     let pins : List ℕ = 0 ∷ 2 ∷ 3 ∷ [] in
     let t = terminal star 4 pins in (

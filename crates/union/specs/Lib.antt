@@ -7,7 +7,7 @@
 -- The definitions take the distances, the parents and the kept bridges as lists, and the place of a vertex as a function, so that code on
 -- tables and the terminal tree of a net both give them.
 --
---   Union      stands k l                           a number stands in a list
+--   Union      listed k l                           a number stands in a list
 --              keptEdges g fars p ks                the edges of the kept paths, one path after the other
 --              unionEdges, unionPoints .. n pins    the union's edges and points, in order, each once
 --              startOf .. places n pins             the same as the refiner's tables

@@ -22,8 +22,8 @@ use Rattle.terminal.specs.Tree.{graphOf, treeOf}
 use Rattle.tree.specs.Table.{treeBound, key, Tree, tree}
 
 -- a number stands in a list
-unfoldable pub stands : ℕ → List ℕ → Bool
-stands k l = any (eqb k) l
+unfoldable pub listed : ℕ → List ℕ → Bool
+listed k l = any (eqb k) l
 
 -- the two ends of an edge
 abbrev pub bothEnds : List ℕ → List ℕ → ℕ → List ℕ
@@ -41,11 +41,11 @@ module _ (g : Graph) (fars : List ℕ) (p : Parents) (ks : List ℕ) where
 
   -- R1: the edges of the kept paths, each once
   unfoldable pub unionEdges : List ℕ
-  unionEdges = those (λ k. stands k keptEdges) (from 0 (g .count))
+  unionEdges = those (λ k. listed k keptEdges) (from 0 (g .count))
 
   -- R2: the pins and the ends of these edges, those of the n vertices
   unfoldable pub unionPoints : ℕ → List ℕ → List ℕ
-  unionPoints n pins = those (λ v. stands v (pins ++ flat (bothEnds (g .ones) (g .twos)) unionEdges)) (from 0 n)
+  unionPoints n pins = those (λ v. listed v (pins ++ flat (bothEnds (g .ones) (g .twos)) unionEdges)) (from 0 n)
 
   -- its points by their places, in order, and its edges by where their ends stand among the points, in order: both at the front of a fresh
   -- table of the refiner

@@ -21,26 +21,26 @@ use Rattle.lists.proofs.ThoseLaws.{those-hit, those-miss, those-none, of-those}
 use Rattle.lent.specs.Entries.{flat}
 use Rattle.forest.specs.Edges.{from}
 use Rattle.forest.proofs.EdgeLaws.{of-from}
-use Rattle.union.specs.Union.{stands}
+use Rattle.union.specs.Union.{listed}
 
--- Stands
+-- Listed
 
-pub in-stands : (k : ℕ) (l : List ℕ) → k ∈ l → stands k l ≡ true
-unfolding stands
-in-stands k (y ∷ l) m =
+pub in-listed : (k : ℕ) (l : List ℕ) → k ∈ l → listed k l ≡ true
+unfolding listed
+in-listed k (y ∷ l) m =
     by (eqb k y)
     (λ e. any-hit (eqb k) (y ∷ l) y l refl e)
     (λ e.
     any-miss (eqb k) (y ∷ l) y l refl e
-    ∙ in-stands k l (either (λ q. absurd (eqb-false k y e q)) (λ i. i) (List·Memᴰ·cases-cons m)))
+    ∙ in-listed k l (either (λ q. absurd (eqb-false k y e q)) (λ i. i) (List·Memᴰ·cases-cons m)))
 
-pub of-stands : (k : ℕ) (l : List ℕ) → stands k l ≡ true → k ∈ l
-unfolding stands
-of-stands k [] h = differ h (any-end (eqb k) [] refl)
-of-stands k (y ∷ l) h =
+pub of-listed : (k : ℕ) (l : List ℕ) → listed k l ≡ true → k ∈ l
+unfolding listed
+of-listed k [] h = differ h (any-end (eqb k) [] refl)
+of-listed k (y ∷ l) h =
     by (eqb k y)
     (λ e. here (eqb-true k y e))
-    (λ e. there (of-stands k l (sym (any-miss (eqb k) (y ∷ l) y l refl e) ∙ h)))
+    (λ e. there (of-listed k l (sym (any-miss (eqb k) (y ∷ l) y l refl e) ∙ h)))
 
 -- Pieces
 
