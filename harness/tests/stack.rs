@@ -7,7 +7,7 @@ use harness::matching::routed;
 use reference::generate::{net, Kind};
 use reference::lists::Lists;
 
-/// "A call takes at most 512 KiB of stack."
+/// What include/calzundi.h says that a call has to itself.
 const STACK: usize = 512 * 1024;
 
 /// Every operation on a net, with the space that it asks for.

@@ -11,7 +11,7 @@
 --   Price      bandsMiscounted, rateAbove      the tests for 31
 --              priced metal s                  31, then 32, then the charge
 --              toldPrice r                     what the code's answer says
---   Order      Rising, NeverFalling, WellKept      what keeping a list in order means: limits rise strictly, rates never fall
+--   Order      Rising, NeverFalling, WellKept  what keeping a list in order means: limits rise strictly, rates never fall
 --              fallsBack bs                    the same as a test
 pub mod Band
 pub mod Charge

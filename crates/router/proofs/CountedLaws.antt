@@ -16,7 +16,7 @@ use Rattle.net.specs.Allowed.{Allowed}
 use Rattle.net.proofs.AllowedLaws.{given-allowed, given-counts}
 use Rattle.net.proofs.PinLaws.{length-pins}
 use Rattle.terminal.specs.declared.TerminalTree.{TerminalTree}
-use Rattle.terminal.specs.Tables.{Worked}
+use Rattle.terminal.specs.Tables.{Tables, Worked}
 use Rattle.union.specs.Union.{unionOf}
 use Rattle.refiner.specs.declared.Refined.{Refined}
 use Rattle.refiner.specs.Refined.{Answer}
@@ -52,8 +52,9 @@ module _ {n : Counts} {pins macros : List ℤ} (c : Counted n pins macros) where
   points-few = omega (arith, c .allowed .few-pins, length-pins pins, c .allowed .few-macros, length-macros macros)
 
   -- what is worked out for these weights
-  pub as-worked : {t : TerminalTree} → Worked (netWith (n .weights) pins macros) t → Worked (netOf pins macros) t
-  as-worked {t} w = subst (λ (z : Net). Worked z t) as-net w
+  pub as-worked : {lent t : Tables} {r : TerminalTree} → Worked (netWith (n .weights) pins macros) lent t r →
+      Worked (netOf pins macros) lent t r
+  as-worked {lent} {t} {r} w = subst (λ (z : Net). Worked z lent t r) as-net w
 
   pub as-answer : {pts : List ℤ} {ks : List ℕ} {r : Refined}
       → Answer (netWith (n .weights) pins macros) (unionOf (netWith (n .weights) pins macros)) pts ks r

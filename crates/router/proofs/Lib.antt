@@ -2,6 +2,7 @@ pub mod GraphAnswer
 pub mod AnswerLaws
 pub mod CallLaws
 pub mod CountedLaws
+pub mod FreshTables
 pub mod RefinedLaws
 pub mod PriceLaws
 pub mod EveryOrder

@@ -1,6 +1,5 @@
 -- The price: with weights 1 and 1 an allowed net's metal is the refiner's total, and small enough to be charged; a charge is never by a
--- refused net; and B6 of
--- the published answers.
+-- refused net; and B6 of the published answers.
 -- Assumes nothing.
 use mathlib.Core.Path.{_≡_}
 use mathlib.Core.List.{List}

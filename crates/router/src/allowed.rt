@@ -6,8 +6,16 @@ use net::Net;
 use net::Refusal;
 use price::Priced;
 use refiner::Refined;
+use terminal::EDGE_NUMBERS;
+use terminal::EDGES;
+use terminal::POINTS;
+use terminal::VERTEX_NUMBERS;
 ghost use mathlib.Core.Path.{_≡_};
+ghost use Prim.Native.Nat.{_*_};
+ghost use lib.IntN.{pos};
+ghost use lib.ListN.{length, replicate};
 ghost use Rattle.net.specs.Net.{netOf};
+ghost use Rattle.net.specs.Bounds.{treeBound};
 ghost use Rattle.price.specs.Price.{priced, toldPrice};
 ghost use Rattle.refiner.specs.Refined.{Answer};
 ghost use Rattle.union.specs.Union.{unionOf};
@@ -47,13 +55,37 @@ pub fn terminal_tree(net: Net, pins: &[i32], macros: &[i32], paths: &mut [i64]) 
     if paths.len() < net.pins * 5 {
         return TreeAnswer::Refused(Refusal::Space);
     }
-    let tree = terminal::terminal_tree(net.weights, pins, macros);
-    let edges = tree.edges;
-    let kept = tree.kept;
-    let long = tree.long;
-    let count = tree.count;
-    terminal::give_paths(&edges, &kept, &long, count.paths, &mut *paths);
-    TreeAnswer::Given(count.paths, tree.total as i64)
+    let mut vertices = [0i32; VERTEX_NUMBERS];
+    let mut edges = [0i32; EDGE_NUMBERS];
+    let mut ea = [0usize; EDGES];
+    let mut eb = [0usize; EDGES];
+    let mut el = [0u64; EDGES];
+    let mut pin = [0usize; POINTS];
+    let mut far = [forest::UNREACHED; POINTS];
+    let mut root = [0usize; POINTS];
+    let mut up = [POINTS; POINTS];
+    let mut via = [EDGES; POINTS];
+    let mut kept = [0usize; EDGES];
+    let mut long = [0u64; EDGES];
+    let tree = terminal::terminal_tree(
+        net.weights,
+        pins,
+        macros,
+        &mut vertices,
+        &mut edges,
+        &mut ea,
+        &mut eb,
+        &mut el,
+        &mut pin,
+        &mut far,
+        &mut root,
+        &mut up,
+        &mut via,
+        &mut kept,
+        &mut long,
+    );
+    terminal::give_paths(&edges, &kept, &long, tree.kept, &mut *paths);
+    TreeAnswer::Given(tree.kept, tree.total as i64)
 }
 
 // The refined tree.
@@ -97,7 +129,7 @@ pub fn price(net: Net, pins: &[i32], macros: &[i32], bands: &[u64]) -> Priced
     price::price(tree.total, bands)
 }
 
-// The refined tree of an allowed net, put into the tables.
+// The refined tree of an allowed net, in tables that are fresh.
 fn refine(
     net: Net,
     pins: &[i32],
@@ -106,22 +138,63 @@ fn refine(
     keys: &mut [usize; tree::POINTS],
 ) -> Refined
     requires { ⌜ Counted net (now pins) (now macros) ⌝ }
+    requires { ⌜ (now points ≡ replicate (treeBound * 2) (pos 0)) × (now keys ≡ replicate treeBound 0) ⌝ }
     ensures { λ r. ⌜ Answer (netOf (now (pins .entry)) (now (macros .entry)))
         (unionOf (netOf (now (pins .entry)) (now (macros .entry)))) (now (points .exit)) (now (keys .exit)) r ⌝ }
 {
-    let start = union::union_of(net.weights, pins, macros);
-    let places = start.points;
-    *points = places;
-    let edges = start.keys;
-    *keys = edges;
-    let size = start.size;
+    let mut vertices = [0i32; VERTEX_NUMBERS];
+    let mut edges = [0i32; EDGE_NUMBERS];
+    let mut ea = [0usize; EDGES];
+    let mut eb = [0usize; EDGES];
+    let mut el = [0u64; EDGES];
+    let mut pin = [0usize; POINTS];
+    let mut far = [forest::UNREACHED; POINTS];
+    let mut root = [0usize; POINTS];
+    let mut up = [POINTS; POINTS];
+    let mut via = [EDGES; POINTS];
+    let mut kept = [0usize; EDGES];
+    let mut long = [0u64; EDGES];
+    let tree = terminal::terminal_tree(
+        net.weights,
+        pins,
+        macros,
+        &mut vertices,
+        &mut edges,
+        &mut ea,
+        &mut eb,
+        &mut el,
+        &mut pin,
+        &mut far,
+        &mut root,
+        &mut up,
+        &mut via,
+        &mut kept,
+        &mut long,
+    );
+    let start = union::start(
+        &vertices,
+        tree.points,
+        &ea,
+        &eb,
+        &el,
+        tree.edges,
+        &pin,
+        tree.pins,
+        &far,
+        &up,
+        &via,
+        &kept,
+        tree.kept,
+        &mut *points,
+        &mut *keys,
+    );
     refiner::refine(
         net,
         pins,
         macros,
         &mut *points,
-        size.points,
+        start.points,
         &mut *keys,
-        size.edges,
+        start.edges,
     )
 }

@@ -2,9 +2,8 @@
 --
 -- WHAT IT IS. Graph, terminal tree and refined tree as relations over places and edges. No table, no number of a vertex and no function of
 -- the router is named here: these files use only a net (`Net`), the order of places, the cost of metal between two, the middle of three,
--- what
--- is clear (`plane`), and ways, chains and trees over any points (`joined`). For every allowed net `Spanning`, `Terminal`, `Refined` and
--- `Trees` have our answer as their one solution; so they say all that there is to say, and how the answer is worked out is nobody's
+-- what is clear (`plane`), and ways, chains and trees over any points (`joined`). For every allowed net `Spanning`, `Terminal`, `Refined`
+-- and `Trees` have our answer as their one solution; so they say all that there is to say, and how the answer is worked out is nobody's
 -- business but the prover's. `BestJoining` and `RefinedTree` (D3) say how good that answer is.
 --
 -- HOW IT IS WRITTEN. A list of vertices or edges is said by what stands in it (`↔`), and by its order where it is given; "the nearest",

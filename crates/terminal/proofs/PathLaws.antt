@@ -7,7 +7,7 @@ use Prim.Native.Nat.{ℕ, suc, _+_, _*_, _≤_, _<_}
 use native.Mathlib.Nat.{suc-mul}
 use native.Mathlib.Omega.{arith}
 use lib.IntN.{pos}
-use lib.ListN.{length, getD, replicate, length-map}
+use lib.ListN.{length, getD, length-map}
 use lib.Seq.{drop-nil, ext-getD}
 use Rattle.lists.specs.Member.{_∈_, here, there}
 use Rattle.lists.specs.Total.{total}
@@ -23,7 +23,7 @@ use Rattle.graph.specs.Numbers.{edgeFrom}
 use Rattle.graph.proofs.VertexLaws.{pin-vertex, vertices-ascending}
 use Rattle.graph.proofs.GraphBounds.{few-vertices, few-edges}
 use Rattle.net.specs.Bounds.{pinBound}
-use Rattle.forest.specs.Bounds.{pointBound, edgeBound, pathBound}
+use Rattle.forest.specs.Bounds.{pointBound, pathBound}
 use Rattle.forest.specs.Edges.{from, entries as entriesIn, FirstBelow, Listed}
 use Rattle.forest.specs.Labels.{labelled}
 use Rattle.forest.specs.Parents.{parented}
@@ -38,7 +38,7 @@ use Rattle.forest.proofs.Nearest.{fits}
 use Rattle.terminal.specs.declared.TerminalTree.{TerminalTree}
 use Rattle.terminal.specs.Number.{edgeAt, pinNumbers}
 use Rattle.terminal.specs.Tree.{graphOf, treeOf, bridgesOf, lengthsOf, totalOf, pathsOf}
-use Rattle.terminal.specs.Tables.{Worked, pathAt, pathsIn, Givable}
+use Rattle.terminal.specs.Tables.{Tables, Fresh, Worked, pathAt, pathsIn, Givable}
 use Rattle.terminal.proofs.NumberLaws.{getD-over, count-of, pin-small}
 use Rattle.terminal.proofs.FillLaws.{entry-at}
 use Rattle.terminal.proofs.SettingOf.{setting, paths-count}
@@ -148,43 +148,42 @@ module _ {net : Net} (a : Allowed net) where
 
   -- What the tables hold
 
-  module _ {t : TerminalTree} (w : Worked net t) where
+  module _ {lent t : Tables} {r : TerminalTree} (fresh : Fresh lent) (w : Worked net lent t r) where
     -- one path fewer than pins
-    pub kept-fewer : suc (t .count .paths) ≡ length (net .pins)
+    pub kept-fewer : suc (r .kept) ≡ length (net .pins)
     kept-fewer = ap suc (w .bridges-are .count) ∙ paths-count a
 
-    edge-read : (k : ℕ) → k < length (spanning net) → edgeFrom (t .edges) (k * 4) ≡ edgeAt (spanning net) k
+    edge-read : (k : ℕ) → k < length (spanning net) → edgeFrom (t .links) (k * 4) ≡ edgeAt (spanning net) k
     edge-read k h =
-        sym (entry-at edgeFrom 4 (t .edges) (t .count .edges) k (place (pos 0) (pos 0), place (pos 0) (pos 0))
-        (omega (arith, h, w .edge-count)))
-        ∙ ap (λ (es : List (Place × Place)). edgeAt es k) (edges-in a (worked-charted w))
+        sym (entry-at edgeFrom 4 (t .links) (r .edges) k (place (pos 0) (pos 0), place (pos 0) (pos 0)) (omega (arith, h, w .edge-count)))
+        ∙ ap (λ (es : List (Place × Place)). edgeAt es k) (edges-in a fresh (worked-charted w))
 
     -- the i-th kept path
     at : (i : ℕ) → i < length (treeOf net .bridges)
-        → pathAt (t .edges) (t .kept) (t .long) i
+        → pathAt (t .links) (t .kept) (t .longs) i
         ≡ (edgeAt (spanning net) (getD (treeOf net .bridges) i 0), lengthOver net (getD (treeOf net .bridges) i 0))
     at i h =
         let ks = treeOf net .bridges in
         let k : getD (t .kept) i 0 ≡ getD ks i 0 =
-        ap (λ (l : List ℕ). getD l i 0) (w .bridges-are .table-is) ∙ getD-over ks (replicate edgeBound 0) i 0 h in
+        ap (λ (l : List ℕ). getD l i 0) (w .bridges-are .table-is) ∙ getD-over ks (lent .kept) i 0 h in
         let more : i < length (lengthsOf net) = omega (arith, ap length (lengths-over net), length-map ks (lengthOver net), h) in
-        let d : getD (t .long) i 0 ≡ lengthOver net (getD ks i 0) =
+        let d : getD (t .longs) i 0 ≡ lengthOver net (getD ks i 0) =
         ap (λ (l : List ℕ). getD l i 0) (w .lengths-are .table-is)
-        ∙ getD-over (lengthsOf net) (replicate edgeBound 0) i 0 more
+        ∙ getD-over (lengthsOf net) (lent .longs) i 0 more
         ∙ ap (λ (l : List ℕ). getD l i 0) (lengths-over net)
         ∙ getD-map (lengthOver net) ks i 0 0 h in
-        let e : edgeFrom (t .edges) (getD (t .kept) i 0 * 4) ≡ edgeAt (spanning net) (getD ks i 0) =
-        ap (λ (j : ℕ). edgeFrom (t .edges) (j * 4)) k ∙ edge-read (getD ks i 0) (bridge-inside net _ (getD-in ks i 0 h)) in
+        let e : edgeFrom (t .links) (getD (t .kept) i 0 * 4) ≡ edgeAt (spanning net) (getD ks i 0) =
+        ap (λ (j : ℕ). edgeFrom (t .links) (j * 4)) k ∙ edge-read (getD ks i 0) (bridge-inside net _ (getD-in ks i 0 h)) in
         ap₂ (λ (q : Place × Place) (n : ℕ). (q, n)) e d
 
-    pub worked-paths : pathsIn (t .edges) (t .kept) (t .long) (t .count .paths) ≡ pathsOf net
+    pub worked-paths : pathsIn (t .links) (t .kept) (t .longs) (r .kept) ≡ pathsOf net
     unfolding pathsIn pathsOf
     worked-paths =
         let ks = treeOf net .bridges in
-        let f : ℕ → (Place × Place) × ℕ = pathAt (t .edges) (t .kept) (t .long) in
+        let f : ℕ → (Place × Place) × ℕ = pathAt (t .links) (t .kept) (t .longs) in
         let g : ℕ → (Place × Place) × ℕ = λ k. (edgeAt (spanning net) k, lengthOver net k) in
         let none : (Place × Place) × ℕ = ((place (pos 0) (pos 0), place (pos 0) (pos 0)), 0) in
-        let n = t .count .paths in
+        let n = r .kept in
         let count = w .bridges-are .count in
         ext-getD none (map f (from 0 n)) (map g ks)
         (length-map (from 0 n) f ∙ length-from 0 n ∙ count ∙ sym (length-map ks g))
@@ -194,14 +193,13 @@ module _ {net : Net} (a : Allowed net) where
         let m : i < length ks = omega (arith, count, j) in
         getD-map f (from 0 n) i 0 none j′ ∙ ap f (getD-from 0 n i j ∙ omega arith) ∙ at i m ∙ sym (getD-map g ks i 0 none m)))
 
-    pub worked-givable : (room : ℕ) → length (net .pins) * 5 ≤ room → Givable (t .edges) (t .kept) (t .long) (t .count .paths) room
+    pub worked-givable : (room : ℕ) → length (net .pins) * 5 ≤ room → Givable (t .links) (t .kept) (t .longs) (r .kept) room
     worked-givable room h =
         record {
-          edges-known = links-long a (worked-charted w);
+          edges-known = links-long a fresh (worked-charted w) ∙ fresh .links;
           few = omega (arith, kept-fewer, a .few-pins);
           bridge = λ i k.
-              (let b = bridge-inside net _ (entry-listed _ _ (t .kept) (t .count .paths) (w .bridges-are) i k) in
-              omega (arith, b, few-edges a));
-          short = λ i k. length-small _ (entry-listed _ _ (t .long) (t .count .paths) (w .lengths-are) i k);
+              (let b = bridge-inside net _ (entry-listed _ _ (t .kept) (r .kept) (w .bridges-are) i k) in omega (arith, b, few-edges a));
+          short = λ i k. length-small _ (entry-listed _ _ (t .longs) (r .kept) (w .lengths-are) i k);
           space = omega (arith, kept-fewer, h);
         }

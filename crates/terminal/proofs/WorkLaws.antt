@@ -5,8 +5,8 @@ use mathlib.Core.Path.{_≡_, refl, sym, ap, ap₂, _∙_}
 use mathlib.Core.List.{List, [], map, append-nil}
 use Prim.Native.Nat.{ℕ, _*_, _≤_}
 use native.Mathlib.Omega.{arith}
-use lib.IntN.{ℤ, pos}
-use lib.ListN.{length, getD, replicate, length-map, length-replicate}
+use lib.IntN.{ℤ}
+use lib.ListN.{length, getD, length-map}
 use Rattle.lists.specs.Sorted.{sorted}
 use Rattle.lent.specs.Over.{over}
 use Rattle.lent.specs.Entries.{flat, entries}
@@ -26,7 +26,7 @@ use Rattle.graph.proofs.GraphBounds.{few-vertices, few-edges}
 use Rattle.graph.proofs.WidthLaws.{place-width, edge-width}
 use Rattle.forest.specs.Bounds.{pointBound, edgeBound}
 use Rattle.forest.specs.Edges.{graph, entries as entriesIn, Fits, FirstBelow, Listed}
-use Rattle.forest.specs.Labels.{Labels, labels}
+use Rattle.forest.specs.Labels.{labels}
 use Rattle.forest.specs.Parents.{parents}
 use Rattle.terminal.specs.Kept.{Terminal, terminal}
 use Rattle.terminal.proofs.KeptLaws.{read-listed, entry-listed}
@@ -34,7 +34,7 @@ use Rattle.forest.proofs.Nearest.{fits}
 use Rattle.terminal.specs.declared.TerminalTree.{TerminalTree}
 use Rattle.terminal.specs.Number.{numberOf, numbered, pinNumbers}
 use Rattle.terminal.specs.Tree.{graphOf, treeOf}
-use Rattle.terminal.specs.Tables.{Worked, noVertices, noEdges}
+use Rattle.terminal.specs.Tables.{Tables, tables, Fresh, Worked}
 use Rattle.terminal.proofs.NumberLaws.{pins-count, pin-small}
 use Rattle.terminal.proofs.SettingOf.{setting}
 
@@ -65,15 +65,15 @@ pins-numbered vs ps lent table numbers last m e t n =
 
 -- Vertices and edges in their tables
 
-pub record Charted (net : Net) (points links : List ℤ) (n e : ℕ) : Type 0 where
+pub record Charted (net : Net) (lent : Tables) (points links : List ℤ) (n e : ℕ) : Type 0 where
   pub vertex-count : n ≡ length (verticesOf net)
   pub edge-count : e ≡ length (spanning net)
-  pub vertices-are : points ≡ over (flat placeNumbers (verticesOf net)) noVertices
-  pub edges-are : links ≡ over (flat edgeNumbers (spanning net)) noEdges
+  pub vertices-are : points ≡ over (flat placeNumbers (verticesOf net)) (lent .points)
+  pub edges-are : links ≡ over (flat edgeNumbers (spanning net)) (lent .links)
 
 -- what is worked out is charted
-pub worked-charted : {net : Net} {t : TerminalTree} → Worked net t
-    → Charted net (t .vertices) (t .edges) (t .count .vertices) (t .count .edges)
+pub worked-charted : {net : Net} {lent t : Tables} {r : TerminalTree} → Worked net lent t r
+    → Charted net lent (t .points) (t .links) (r .points) (r .edges)
 worked-charted w = record {
   vertex-count = w .vertex-count;
   edge-count = w .edge-count;
@@ -81,36 +81,33 @@ worked-charted w = record {
   edges-are = w .edges-are;
 }
 
-module _ {net : Net} {points links : List ℤ} {n e : ℕ} (a : Allowed net) (c : Charted net points links n e) where
+module _ {net : Net} {lent : Tables} {points links : List ℤ} {n e : ℕ} (a : Allowed net) (fresh : Fresh lent)
+    (c : Charted net lent points links n e) where
   vertices-in : entries placeFrom 2 points n ≡ verticesOf net
   vertices-in =
       ap (λ (l : List ℤ). entries placeFrom 2 l n) (c .vertices-are)
-      ∙ entries-over placeNumbers placeFrom 2 place-width (verticesOf net) noVertices n (sym (c .vertex-count))
+      ∙ entries-over placeNumbers placeFrom 2 place-width (verticesOf net) (lent .points) n (sym (c .vertex-count))
 
   pub edges-in : entries edgeFrom 4 links e ≡ spanning net
   edges-in =
       ap (λ (l : List ℤ). entries edgeFrom 4 l e) (c .edges-are)
-      ∙ entries-over edgeNumbers edgeFrom 4 edge-width (spanning net) noEdges e (sym (c .edge-count))
+      ∙ entries-over edgeNumbers edgeFrom 4 edge-width (spanning net) (lent .links) e (sym (c .edge-count))
 
   pub vertices-fit : n * 2 ≤ length points
   vertices-fit =
       let f = length-flat placeNumbers placeFrom 2 place-width (verticesOf net) in
-      let l = length-replicate (pointBound * 2) (pos 0) in
-      let small : length (flat placeNumbers (verticesOf net)) ≤ length noVertices = omega (arith, f, few-vertices a, l) in
-      let same : length points ≡ length noVertices =
-      ap length (c .vertices-are) ∙ length-over (flat placeNumbers (verticesOf net)) noVertices small in
-      omega (arith, same, c .vertex-count, few-vertices a, l)
+      let small : length (flat placeNumbers (verticesOf net)) ≤ length (lent .points) = omega (arith, f, few-vertices a, fresh .points) in
+      let same : length points ≡ length (lent .points) =
+      ap length (c .vertices-are) ∙ length-over (flat placeNumbers (verticesOf net)) (lent .points) small in
+      omega (arith, same, c .vertex-count, few-vertices a, fresh .points)
 
-  pub links-long : length links ≡ edgeBound * 4
+  pub links-long : length links ≡ length (lent .links)
   links-long =
       let f = length-flat edgeNumbers edgeFrom 4 edge-width (spanning net) in
-      let l = length-replicate (edgeBound * 4) (pos 0) in
-      ap length (c .edges-are)
-      ∙ length-over (flat edgeNumbers (spanning net)) noEdges (omega (arith, f, few-edges a, l))
-      ∙ l
+      ap length (c .edges-are) ∙ length-over (flat edgeNumbers (spanning net)) (lent .links) (omega (arith, f, few-edges a, fresh .links))
 
   pub edges-fit : e * 4 ≤ length links
-  edges-fit = omega (arith, links-long, c .edge-count, few-edges a)
+  edges-fit = omega (arith, links-long, c .edge-count, few-edges a, fresh .links)
 
   pub few-links : e ≤ edgeBound
   few-links = omega (arith, c .edge-count, few-edges a)
@@ -122,11 +119,11 @@ module _ {net : Net} {points links : List ℤ} {n e : ℕ} (a : Allowed net) (c 
 
   module _ {ea eb el pin : List ℕ} {m : ℕ}
       (g : graph ea eb el e ≡ numbered (net .weights) (entries placeFrom 2 points n) (entries edgeFrom 4 links e))
-      (p : Listed (pinNumbers (entries placeFrom 2 points n) (net .pins)) (replicate pointBound 0) pin m) where
+      (p : Listed (pinNumbers (entries placeFrom 2 points n) (net .pins)) (lent .pins) pin m) where
     graph-same : graph ea eb el e ≡ graphOf net
     graph-same = g ∙ ap₂ (numbered (net .weights)) vertices-in edges-in
 
-    pins-listed : Listed (pinNumbers (verticesOf net) (net .pins)) (replicate pointBound 0) pin m
+    pins-listed : Listed (pinNumbers (verticesOf net) (net .pins)) (lent .pins) pin m
     pins-listed = rw (← vertices-in) p
 
     pin-total : m ≡ length (net .pins)
@@ -157,23 +154,10 @@ module _ {net : Net} {points links : List ℤ} {n e : ℕ} (a : Allowed net) (c 
     -- the tree and all before it
     pub all-worked : {far root up via kept long : List ℕ} {count sum : ℕ} (t : Terminal) → t
         ≡ terminal (graph ea eb el e) n (entriesIn pin 0 m)
-        → labels far root ≡ t .labels → parents up via ≡ t .parents → Listed (t .bridges) (replicate edgeBound 0) kept count
-        → Listed (t .lengths) (replicate edgeBound 0) long count → sum ≡ t .total
-        → Worked net (record {
-          vertices = points;
-          edges = links;
-          ea = ea;
-          eb = eb;
-          el = el;
-          pin = pin;
-          far = far;
-          up = up;
-          via = via;
-          kept = kept;
-          long = long;
-          count = record { vertices = n; edges = e; pins = m; paths = count };
-          total = sum;
-        })
+        → labels far root ≡ t .labels → parents up via ≡ t .parents → Listed (t .bridges) (lent .kept) kept count
+        → Listed (t .lengths) (lent .longs) long count → sum ≡ t .total
+        → Worked net lent (tables points links ea eb el pin far root up via kept long)
+        (record { points = n; edges = e; pins = m; kept = count; total = sum })
     all-worked t is f u k l s =
         let same : t ≡ treeOf net = is ∙ tree-same in
         record {
@@ -181,7 +165,7 @@ module _ {net : Net} {points links : List ℤ} {n e : ℕ} (a : Allowed net) (c 
           edges-are = c .edges-are;
           graph-is = graph-same;
           pins-are = pins-listed;
-          distances-are = ap (λ (x : Labels). x .fars) f ∙ ap (λ (x : Terminal). x .labels .fars) same;
+          labels-are = f ∙ ap (λ (x : Terminal). x .labels) same;
           parents-are = u ∙ ap (λ (x : Terminal). x .parents) same;
           bridges-are = rw same at k;
           lengths-are = rw same at l;

@@ -28,9 +28,10 @@
 --   Stands     KeptPath, keptEnds net k            a kept path, bridge and length; the two pins that it joins
 --              PathOf net                          a terminal path of the net's graph
 --              Stands net b l                      the bridge b stands for a terminal path of length l
---   KeptBridges takenBefore j k                    by path length, ties by the order of edges
+--   KeptBridges takenBefore j k                      by path length, ties by the order of edges
 --              KeptBridges net                     the bridges in this order, and the given paths are those that are kept of them
---   Tables     Worked net t                         the struct t of tables and counts is the net's terminal tree
+--   Tables     tables .., Fresh                     the tables that are lent for it, and what is asked of them
+--              Worked net lent t r                 what they hold once the tree is worked out
 --              pathsIn es kept long n               the kept paths as the tables have them
 --              Givable                              what is asked to give them
 pub mod Bridges

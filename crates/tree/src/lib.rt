@@ -18,13 +18,6 @@ pub struct Size {
     pub edges: usize,
 }
 
-// A tree in its tables: its points, its edges as keys, and how many of each the tables hold.
-pub struct Tables {
-    pub points: [i32; NUMBERS],
-    pub keys: [usize; POINTS],
-    pub size: Size,
-}
-
 // The place of point i.
 pub fn point_at(pts: &[i32; NUMBERS], i: usize) -> Place
     requires { ⌜ i < treeBound ⌝ }

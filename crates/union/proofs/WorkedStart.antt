@@ -15,9 +15,9 @@ use Rattle.net.specs.Net.{Net}
 use Rattle.graph.specs.Spanning.{verticesOf}
 use Rattle.graph.specs.Vertices.{vertices}
 use Rattle.graph.proofs.GraphBounds.{few-vertices}
-use Rattle.forest.specs.Edges.{Graph}
-use Rattle.forest.specs.Labels.{labelled}
-use Rattle.forest.specs.Parents.{Parents}
+use Rattle.forest.specs.Edges.{Graph, graph, entries}
+use Rattle.forest.specs.Labels.{Labels, labelled}
+use Rattle.forest.specs.Parents.{Parents, parents}
 use Rattle.terminal.specs.Kept.{terminal}
 use Rattle.terminal.proofs.KeptLaws.{read-listed, entry-listed}
 use Rattle.forest.proofs.Nearest.{fits}
@@ -26,13 +26,12 @@ use Rattle.terminal.proofs.WholeLaws.{of-kept}
 use Rattle.terminal.specs.declared.TerminalTree.{TerminalTree}
 use Rattle.terminal.specs.Number.{vertexAt, pinNumbers}
 use Rattle.terminal.specs.Tree.{graphOf, treeOf}
-use Rattle.terminal.specs.Tables.{Worked, noVertices}
+use Rattle.terminal.specs.Tables.{Tables, Worked}
 use Rattle.terminal.proofs.SettingOf.{setting, paths-count}
 use Rattle.tree.specs.Table.{tree, Within, Tree as Table}
 use Rattle.tree.specs.Table as tables
 use Rattle.union.specs.Union.{unionPoints, startOf, unionOf}
 use Rattle.union.specs.Marks.{Startable}
-use Rattle.union.specs.Start.{graphIn, parentsIn, startIn}
 use Rattle.union.proofs.StartLaws.{map-agree}
 use Rattle.union.proofs.PlacedLaws.{place-at}
 use Rattle.union.proofs.UnionSound.{union-less, union-below, union-sound, union-room, union-size-is}
@@ -43,14 +42,14 @@ start-agree : (g : Graph) (fars : List ℕ) (p : Parents) (ks : List ℕ) (f h :
 unfolding startOf
 start-agree g fars p ks f h n pins a = rw (map-agree f h (unionPoints g fars p ks n pins) a) refl
 
-module _ {net : Net} (a : Allowed net) {t : TerminalTree} (w : Worked net t) where
+module _ {net : Net} (a : Allowed net) {lent t : Tables} {r : TerminalTree} (w : Worked net lent t r) where
   abbrev g : Graph
   g = graphOf net
 
   abbrev n : ℕ
   n = length (verticesOf net)
 
-  startable : Startable g n (t .pin) (t .count .pins) (treeOf net .labels .fars) (treeOf net .parents) (t .kept) (t .count .paths)
+  startable : Startable g n (t .pins) (r .pins) (treeOf net .labels .fars) (treeOf net .parents) (t .kept) (r .kept)
   unfolding treeOf terminal
   startable =
       let s = setting a in
@@ -67,26 +66,24 @@ module _ {net : Net} (a : Allowed net) {t : TerminalTree} (w : Worked net t) whe
         room = rw (read-listed _ _ _ _ (w .bridges-are)) (union-less a);
       }
 
-  pub worked-startable : Startable (graphIn t) (t .count .vertices) (t .pin) (t .count .pins) (t .far) (parentsIn t) (t .kept)
-      (t .count .paths)
-  worked-startable = rw (w .graph-is, w .vertex-count, w .distances-are, w .parents-are) startable
+  far-is : t .fars ≡ treeOf net .labels .fars
+  far-is = ap (λ (l : Labels). l .fars) (w .labels-are)
 
-  pub worked-start : startIn t ≡ unionOf net
+  pub worked-startable : Startable (graph (t .ones) (t .twos) (t .spans) (r .edges)) (r .points) (t .pins) (r .pins) (t .fars)
+      (parents (t .ups) (t .vias)) (t .kept) (r .kept)
+  worked-startable = rw (w .graph-is, w .vertex-count, far-is, w .parents-are) startable
+
+  pub worked-start : startOf (graph (t .ones) (t .twos) (t .spans) (r .edges)) (t .fars) (parents (t .ups) (t .vias))
+      (entries (t .kept) 0 (r .kept)) (placeAt (t .points)) (r .points) (entries (t .pins) 0 (r .pins))
+      ≡ unionOf net
   unfolding unionOf
   worked-start =
-      rw (
-        w .graph-is,
-        w .vertex-count,
-        w .distances-are,
-        w .parents-are,
-        read-listed _ _ _ _ (w .bridges-are),
-        read-listed _ _ _ _ (w .pins-are),
-      )
-      (start-agree g (treeOf net .labels .fars) (treeOf net .parents) (treeOf net .bridges) (placeAt (t .vertices))
+      rw (w .graph-is, w .vertex-count, far-is, w .parents-are, read-listed _ _ _ _ (w .bridges-are), read-listed _ _ _ _ (w .pins-are))
+      (start-agree g (treeOf net .labels .fars) (treeOf net .parents) (treeOf net .bridges) (placeAt (t .points))
       (vertexAt (verticesOf net)) n
       (pinNumbers (verticesOf net) (net .pins))
       (λ v m.
-      ap (λ (l : List ℤ). placeAt l v) (w .vertices-are) ∙ place-at (verticesOf net) noVertices v (union-below a v m)))
+      ap (λ (l : List ℤ). placeAt l v) (w .vertices-are) ∙ place-at (verticesOf net) (lent .points) v (union-below a v m)))
 
 -- what the refiner asks of the tables that hold the union
 pub refinable : {net : Net} → Allowed net → (pts : List ℤ) (points : ℕ) (keys : List ℕ) (edges : ℕ) →

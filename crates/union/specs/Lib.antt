@@ -16,7 +16,6 @@
 --              marks t n                            the marked ones of n numbers, in order
 --              Ranking t n ranks                    a table of how many marked numbers come before each
 --              Startable                            what the code asks of the tables of a terminal tree
---   Start      graphIn, parentsIn, startIn t        the graph, the parents and the start as the struct of a terminal tree has them
 --
 -- THE THEOREMS, in the order of their proof.
 --   UnionTree    union-tree        the union is one tree over its points;  union-total: it is no longer than the kept paths
@@ -26,4 +25,3 @@
 --                refinable         which is what the refiner asks for
 pub mod Union
 pub mod Marks
-pub mod Start

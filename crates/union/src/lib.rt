@@ -4,28 +4,23 @@
 // come out in order.
 use net::Net;
 use plane::Place;
-use plane::Weights;
-use terminal::TerminalTree;
 use tree::Size;
-use tree::Tables;
 ghost use mathlib.Core.Path.{_≡_};
 ghost use mathlib.Core.List.{_∷_, _++_, map};
 ghost use Prim.Native.Nat.{_*_, _+_, _≤_, _<_};
-ghost use lib.ListN.{length, getD};
+ghost use lib.IntN.{pos};
+ghost use lib.ListN.{length, getD, replicate};
 ghost use Rattle.lent.specs.Over.{over};
 ghost use Rattle.lent.specs.Entries.{flat};
 ghost use Rattle.plane.specs.Flat.{placeAt};
-ghost use Rattle.net.specs.Net.{netWith};
-ghost use Rattle.net.specs.Allowed.{Allowed};
 ghost use Rattle.graph.specs.Numbers.{placeNumbers};
 ghost use Rattle.forest.specs.Bounds.{pointBound, edgeBound};
 ghost use Rattle.forest.specs.Edges.{graph, entries, Fits, Ends, FirstBelow, Below};
 ghost use Rattle.forest.specs.Parents.{parents, way, Falls};
 ghost use Rattle.tree.specs.Table.{tree, key};
 ghost use Rattle.tree.specs.Table as tables;
-ghost use Rattle.union.specs.Union.{bothEnds, keptEdges, unionOf};
+ghost use Rattle.union.specs.Union.{bothEnds, keptEdges, startOf};
 ghost use Rattle.union.specs.Marks.{marked, marks, Ranking, Startable};
-ghost use Rattle.union.specs.Start.{graphIn, parentsIn, startIn};
 
 // The bounds of the tables are the net's.
 pub const POINTS: usize = Net::POINTS;
@@ -213,58 +208,41 @@ fn put_keys(
     c
 }
 
-// The union of the kept paths of a terminal tree.
-fn start(t: TerminalTree) -> Tables
-    requires { ⌜ Startable (graphIn t) (t .count .vertices) (t .pin) (t .count .pins) (t .far) (parentsIn t) (t .kept) (t .count .paths) ⌝ }
-    ensures { λ r. ⌜ tree (r .points) (r .size .points) (r .keys) (r .size .edges) ≡ startIn t ⌝ }
+// The union of the kept paths of a terminal tree, as the refiner's tables, which are fresh.
+pub fn start(
+    vertices: &[i32; VERTEX_NUMBERS],
+    n: usize,
+    ea: &[usize; EDGES],
+    eb: &[usize; EDGES],
+    el: &[u64; EDGES],
+    e: usize,
+    pin: &[usize; POINTS],
+    m: usize,
+    far: &[u64; POINTS],
+    up: &[usize; POINTS],
+    via: &[usize; POINTS],
+    kept: &[usize; EDGES],
+    count: usize,
+    pts: &mut [i32; tree::NUMBERS],
+    keys: &mut [usize; tree::POINTS],
+) -> Size
+    requires { ⌜ Startable (graph (now ea) (now eb) (now el) e) n (now pin) m (now far) (parents (now up) (now via)) (now kept) count ⌝ }
+    requires { ⌜ (now pts ≡ replicate (tables.treeBound * 2) (pos 0)) × (now keys ≡ replicate tables.treeBound 0) ⌝ }
+    ensures { λ r. ⌜ tree (now (pts .exit)) (r .points) (now (keys .exit)) (r .edges)
+        ≡ startOf (graph (now (ea .entry)) (now (eb .entry)) (now (el .entry)) e) (now (far .entry))
+        (parents (now (up .entry)) (now (via .entry)))
+        (entries (now (kept .entry)) 0 count) (placeAt (now (vertices .entry))) n (entries (now (pin .entry)) 0 m) ⌝ }
 {
-    let count = t.count;
-    let ea = t.ea;
-    let eb = t.eb;
-    let el = t.el;
-    let far = t.far;
-    let up = t.up;
-    let via = t.via;
-    let kept = t.kept;
     let mut on = [0usize; EDGES];
-    mark_paths(
-        &ea,
-        &eb,
-        &el,
-        count.edges,
-        &far,
-        &up,
-        &via,
-        &kept,
-        count.paths,
-        &mut on,
-    );
-    let pin = t.pin;
+    mark_paths(ea, eb, el, e, far, up, via, kept, count, &mut on);
     let mut at = [0usize; POINTS];
-    mark_pins(&pin, count.pins, &mut at);
-    mark_ends(&ea, &eb, count.edges, &on, &mut at);
-    let vertices = t.vertices;
+    mark_pins(pin, m, &mut at);
+    mark_ends(ea, eb, e, &on, &mut at);
     let mut rank = [0usize; POINTS];
-    let mut points = [0i32; tree::NUMBERS];
-    let n = put_points(&vertices, count.vertices, &at, &mut rank, &mut points);
-    let mut keys = [0usize; tree::POINTS];
-    let e = put_keys(&ea, &eb, count.edges, &on, &rank, &mut keys);
-    let size = Size {
-        points: n,
-        edges: e,
-    };
-    Tables {
+    let points = put_points(vertices, n, &at, &mut rank, &mut *pts);
+    let edges = put_keys(ea, eb, e, &on, &rank, &mut *keys);
+    Size {
         points: points,
-        keys: keys,
-        size: size,
+        edges: edges,
     }
-}
-
-// The union of the kept paths of an allowed net. The terminal tree stands in this call alone: what is done with its union needs the stack.
-pub fn union_of(w: Weights, pins: &[i32], macros: &[i32]) -> Tables
-    requires { ⌜ Allowed (netWith w (now pins) (now macros)) ⌝ }
-    ensures { λ r. ⌜ tree (r .points) (r .size .points) (r .keys) (r .size .edges)
-        ≡ unionOf (netWith w (now (pins .entry)) (now (macros .entry))) ⌝ }
-{
-    start(terminal::terminal_tree(w, pins, macros))
 }

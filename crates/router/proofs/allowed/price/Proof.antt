@@ -1,6 +1,6 @@
 -- `router::allowed::price` meets its contract: what is charged for is the sum that the refiner gives, the metal to lay.
 -- Assumes nothing.
-use mathlib.Core.Path.{_≡_, ap, _∙_}
+use mathlib.Core.Path.{_≡_, refl, ap, _∙_}
 use Prim.Native.Nat.{ℕ}
 use native.Mathlib.Omega.{arith}
 use denote.Ref.{now}
@@ -12,7 +12,7 @@ use Rattle.router.proofs.allowed.price.Statement.{statement}
 use Rattle.router.proofs.allowed.price.Tie as tie
 
 refine-requires : tie.Need-refine-requires
-refine-requires c κs = c .before .before .before .pre
+refine-requires c κs = (c .before .before .before .pre, (refl, refl))
 
 -- the refiner's total is the metal to lay
 total-is : (c : tie.After-refine) → c .refine .result .total

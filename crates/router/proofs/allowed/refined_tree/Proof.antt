@@ -55,7 +55,7 @@ returns c =
     gives-refused refl (room-short need (length (now (a .edges))) _ (subst (λ (z : ℕ). length (now (a .edges)) < z) (asked d) (c .if1 .taken)))
 
 refine-requires : tie.Need-refine-requires
-refine-requires c κs = c .before .before .before .before .before .pre
+refine-requires c κs = (c .before .before .before .before .before .pre, (refl, refl))
 
 give-edges-requires : tie.Need-give-edges-requires
 give-edges-requires c κs =

@@ -21,6 +21,7 @@ use Rattle.terminal.specs.Tree.{pathNumbers}
 use Rattle.terminal.proofs.PathLaws.{total-small, paths-one-fewer, kept-fewer, worked-paths, worked-givable}
 use Rattle.router.specs.Terminal.{pathsOf, pathsTotal, terminalGiven, toldTree}
 use Rattle.router.proofs.AnswerLaws.{room-short, room-enough}
+use Rattle.router.proofs.FreshTables.{fresh}
 use Rattle.router.proofs.CountedLaws.{as-allowed, as-pins, as-worked, counts-few}
 use Rattle.router.proofs.CallLaws.{gives-refused, gives-given}
 use borrow.Author.Needs.{needs}
@@ -37,24 +38,22 @@ returns c =
     gives-refused refl (room-short (pinCount (now (a .pins)) * 5) (length (now (a .paths))) _ (omega (arith, as-pins (c .before .before .pre), c .if1 .taken)))
 
 terminal-tree-requires : tie.Need-terminal-tree-requires
-terminal-tree-requires c κs = as-allowed (c .before .before .pre)
+terminal-tree-requires c κs = (as-allowed (c .before .before .before .before .before .before .before .before .before .before .before .before .before .before .pre), fresh)
 
--- where the call begins, and the room that there is
-abbrev begun : tie.After-terminal-tree → tie.Start
-begun d = d .before .before .before
-
-room : (d : tie.After-terminal-tree) → length (pinPlaces (now (begun d .args .pins))) * 5 ≤ length (now (begun d .args .paths))
-room d = omega (arith, d .before .if1 .left, as-pins (begun d .pre), length-pins (now (begun d .args .pins)))
+-- the room that there is
+room : (d : tie.After-terminal-tree) → length (pinPlaces (now (d .before .before .before .before .before .before .before .before .before .before .before .before .before .before .before .args .pins))) * 5 ≤ length (now (d .before .before .before .before .before .before .before .before .before .before .before .before .before .before .before .args .paths))
+room d = omega (arith, d .before .before .before .before .before .before .before .before .before .before .before .before .before .if1 .left, as-pins (d .before .before .before .before .before .before .before .before .before .before .before .before .before .before .before .pre), length-pins (now (d .before .before .before .before .before .before .before .before .before .before .before .before .before .before .before .args .pins)))
 
 give-paths-requires : tie.Need-give-paths-requires
 give-paths-requires c κs =
-    let d = c .before .before .before .before .before .before .before .before in
-    worked-givable (as-allowed (begun d .pre)) (d .terminal-tree .ensures) (length (now (begun d .args .paths))) (room d)
+    let d = c .before .before .before .before in
+    let s = d .before .before .before .before .before .before .before .before .before .before .before .before .before .before .before in
+    worked-givable (as-allowed (s .pre)) fresh (d .terminal-tree .ensures) (length (now (s .args .paths))) (room d)
 
-cast-t20 : tie.Need-cast-t20
-cast-t20 c =
-    let d = c .before .before .before .before .before .before .before .before .before .before .before in
-    record { sfits = omega (arith, d .terminal-tree .ensures .total-is, total-small (as-allowed (begun d .pre))) }
+cast-t40 : tie.Need-cast-t40
+cast-t40 c =
+    let d = c .before .before .before .before .before .before .before in
+    record { sfits = omega (arith, d .terminal-tree .ensures .total-is, total-small (as-allowed (d .before .before .before .before .before .before .before .before .before .before .before .before .before .before .before .pre))) }
 
 same-length : tie.Need-same-length
 same-length c = search needs
@@ -62,16 +61,16 @@ same-length c = search needs
 returns-2 : tie.Need-returns-2
 unfolding terminalGiven toldTree pathsTotal pathsOf
 returns-2 c =
-    let d = c .before .before .before .before .before .before .before .before .before .before .before in
-    let s = begun d in
+    let d = c .before .before .before .before .before .before .before in
+    let s = d .before .before .before .before .before .before .before .before .before .before .before .before .before .before .before in
     let a = s .args in
     let w = as-worked (s .pre) (d .terminal-tree .ensures) in
     let al = s .pre .allowed in
-    let paths = worked-paths al w in
+    let paths = worked-paths al fresh w in
     let given-is : ℕ × ℤ = (length (pathsOf (now (a .pins)) (now (a .macros))), pos (pathsTotal (now (a .pins)) (now (a .macros)))) in
-    let enough = d .before .if1 .left in
-    let many : d .terminal-tree .result .count .paths ≡ length (pathsOf (now (a .pins)) (now (a .macros)))
-    = omega (arith, kept-fewer al w, paths-one-fewer al) in
+    let enough = d .before .before .before .before .before .before .before .before .before .before .before .before .before .if1 .left in
+    let many : d .terminal-tree .result .kept ≡ length (pathsOf (now (a .pins)) (now (a .macros)))
+    = omega (arith, kept-fewer al fresh w, paths-one-fewer al) in
     let sum : toZ w64 (d .terminal-tree .result .total) ≡ pos (pathsTotal (now (a .pins)) (now (a .macros))) =
     toZ-pos w64 (d .terminal-tree .result .total) (omega (arith, w .total-is, total-small al)) ∙ ap pos (w .total-is) in
     gives-given
@@ -87,6 +86,6 @@ terminal-tree-spec =
     returns
     terminal-tree-requires
     give-paths-requires
-    cast-t20
+    cast-t40
     same-length
     returns-2)

@@ -51,7 +51,7 @@ returns c =
     gives-refused refl (room-short need (length (now (a .wires))) _ (subst (λ (z : ℕ). length (now (a .wires)) < z) (asked d) (c .if1 .taken)))
 
 refine-requires : tie.Need-refine-requires
-refine-requires c κs = c .before .before .before .before .before .pre
+refine-requires c κs = (c .before .before .before .before .before .pre, (refl, refl))
 
 give-wires-requires : tie.Need-give-wires-requires
 give-wires-requires c κs =
