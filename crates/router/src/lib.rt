@@ -1,6 +1,7 @@
 // The published operations of the router. Each takes any lists and any lent space and answers; nothing is asked of the caller.
 //
-// A contract names one record (specs/Call.antt): the answer, as the rules have it, and what each lent list then holds, refused calls too.
+// The contract of one that is lent space names one record (specs/Call.antt): the answer, as the rules have it, and what each lent list then
+// holds, refused calls too. Those of check and price, which are lent none, are one equation each.
 // What the trees that are given are, and what is promised of them, is `Promised` (specs/Published.antt).
 mod allowed; // allowed.rt: what goes on once the check has passed
 
