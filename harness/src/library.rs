@@ -1,116 +1,22 @@
-//! Safe calls of the static library. A slice passes as a pointer and a length, a count as a pointer; every length and every content is
-//! taken, so there is nothing to test before a call. A refusal leaves counts as they were. The bare calls stand first, as
-//! include/calzundi.h declares them and with what it asks of pointers.
+//! The crate `calzundi` as the second program is called: two lists, lent space, and a refusal as its number. The crate looks at it that a
+//! refusal leaves counts, totals and the charge as they were.
 
-extern "C" {
-    pub fn calzundi_check(
-        pins: *const i32,
-        pins_len: usize,
-        macros: *const i32,
-        macros_len: usize,
-    ) -> i32;
+pub use calzundi::lent::bare::*;
+use calzundi::lent::{self, Lists};
+use calzundi::Refusal;
 
-    pub fn calzundi_graph(
-        pins: *const i32,
-        pins_len: usize,
-        macros: *const i32,
-        macros_len: usize,
-        vertices: *mut i32,
-        vertices_len: usize,
-        edges: *mut i32,
-        edges_len: usize,
-        vertex_count: *mut usize,
-        edge_count: *mut usize,
-    ) -> i32;
-
-    pub fn calzundi_terminal_tree(
-        pins: *const i32,
-        pins_len: usize,
-        macros: *const i32,
-        macros_len: usize,
-        paths: *mut i64,
-        paths_len: usize,
-        count: *mut usize,
-        total: *mut Total,
-    ) -> i32;
-
-    pub fn calzundi_refined_tree(
-        pins: *const i32,
-        pins_len: usize,
-        macros: *const i32,
-        macros_len: usize,
-        edges: *mut i32,
-        edges_len: usize,
-        count: *mut usize,
-        total: *mut Total,
-    ) -> i32;
-
-    pub fn calzundi_wires(
-        pins: *const i32,
-        pins_len: usize,
-        macros: *const i32,
-        macros_len: usize,
-        wires: *mut i32,
-        wires_len: usize,
-        count: *mut usize,
-    ) -> i32;
-
-    pub fn calzundi_price(
-        pins: *const i32,
-        pins_len: usize,
-        macros: *const i32,
-        macros_len: usize,
-        bands: *const u64,
-        bands_len: usize,
-        charge: *mut u64,
-    ) -> i32;
-
-    pub fn calzundi_write_file(
-        pins: *const i32,
-        pins_len: usize,
-        macros: *const i32,
-        macros_len: usize,
-        bytes: *mut u8,
-        bytes_len: usize,
-        given: *mut usize,
-    ) -> i32;
-
-    pub fn calzundi_read_file(
-        bytes: *const u8,
-        bytes_len: usize,
-        pins: *mut i32,
-        pins_len: usize,
-        macros: *mut i32,
-        macros_len: usize,
-        m: *mut usize,
-        k: *mut usize,
-    ) -> i32;
+/// The number that document 01 has for a refusal.
+fn number(refusal: Refusal) -> u32 {
+    refusal.number().unsigned_abs()
 }
 
-/// The totals of both trees, as wide as the library writes them.
-type Total = i64;
-
-/// What stands in a count and in a total before a call: a refusal must leave it.
-const UNTOUCHED: usize = 0x5eed_5eed;
-const UNTOUCHED_TOTAL: Total = UNTOUCHED as Total;
-
-/// "A refusal is its number alone": 0 is success. A refusal that touched a count is no answer.
-fn answer<A>(code: i32, counts: &[usize], given: A) -> Result<A, u32> {
-    if code == 0 {
-        return Ok(given);
-    }
-    assert!(
-        counts.iter().all(|&count| count == UNTOUCHED),
-        "refusal {code} touched a count"
-    );
-    Err(code.unsigned_abs())
+fn lists<'a>(pins: &'a [i32], macros: &'a [i32]) -> Lists<'a> {
+    Lists::from((pins, macros))
 }
 
 /// "Check a net."
 pub fn check(pins: &[i32], macros: &[i32]) -> Result<(), u32> {
-    // SAFETY: the library reads the two slices and keeps neither.
-    let code = unsafe { calzundi_check(pins.as_ptr(), pins.len(), macros.as_ptr(), macros.len()) };
-    answer(code, &[], ())
+    lent::check(lists(pins, macros)).map_err(number)
 }
 
 /// "Graph": how many vertices and edges were given.
@@ -120,128 +26,32 @@ pub fn graph(
     vertices: &mut [i32],
     edges: &mut [i32],
 ) -> Result<(usize, usize), u32> {
-    let (mut v, mut e) = (UNTOUCHED, UNTOUCHED);
-    // SAFETY: the slices do not overlap, since two of them are borrowed mutably, and the library keeps none.
-    let code = unsafe {
-        calzundi_graph(
-            pins.as_ptr(),
-            pins.len(),
-            macros.as_ptr(),
-            macros.len(),
-            vertices.as_mut_ptr(),
-            vertices.len(),
-            edges.as_mut_ptr(),
-            edges.len(),
-            &mut v,
-            &mut e,
-        )
-    };
-    answer(code, &[v, e], (v, e))
-}
-
-/// As `answer`, where a total goes with the count.
-fn with_total(code: i32, count: usize, total: Total) -> Result<(usize, i64), u32> {
-    assert!(
-        code == 0 || total == UNTOUCHED_TOTAL,
-        "refusal {code} touched the total"
-    );
-    answer(code, &[count], (count, total))
+    lent::graph(lists(pins, macros), vertices, edges).map_err(number)
 }
 
 /// "Terminal tree": how many paths were given, and their total.
 pub fn terminal_tree(pins: &[i32], macros: &[i32], paths: &mut [i64]) -> Result<(usize, i64), u32> {
-    let (mut count, mut total) = (UNTOUCHED, UNTOUCHED_TOTAL);
-    // SAFETY: as for `graph`.
-    let code = unsafe {
-        calzundi_terminal_tree(
-            pins.as_ptr(),
-            pins.len(),
-            macros.as_ptr(),
-            macros.len(),
-            paths.as_mut_ptr(),
-            paths.len(),
-            &mut count,
-            &mut total,
-        )
-    };
-    with_total(code, count, total)
+    lent::terminal_tree(lists(pins, macros), paths).map_err(number)
 }
 
 /// "Refined tree": how many edges were given, and their total.
 pub fn refined_tree(pins: &[i32], macros: &[i32], edges: &mut [i32]) -> Result<(usize, i64), u32> {
-    let (mut count, mut total) = (UNTOUCHED, UNTOUCHED_TOTAL);
-    // SAFETY: as for `graph`.
-    let code = unsafe {
-        calzundi_refined_tree(
-            pins.as_ptr(),
-            pins.len(),
-            macros.as_ptr(),
-            macros.len(),
-            edges.as_mut_ptr(),
-            edges.len(),
-            &mut count,
-            &mut total,
-        )
-    };
-    with_total(code, count, total)
+    lent::refined_tree(lists(pins, macros), edges).map_err(number)
 }
 
 /// "Wires": how many were given.
 pub fn wires(pins: &[i32], macros: &[i32], wires: &mut [i32]) -> Result<usize, u32> {
-    let mut count = UNTOUCHED;
-    // SAFETY: as for `graph`.
-    let code = unsafe {
-        calzundi_wires(
-            pins.as_ptr(),
-            pins.len(),
-            macros.as_ptr(),
-            macros.len(),
-            wires.as_mut_ptr(),
-            wires.len(),
-            &mut count,
-        )
-    };
-    answer(code, &[count], count)
+    lent::wires(lists(pins, macros), wires).map_err(number)
 }
 
 /// "Price on the job card": the charge, in hundredths of the currency.
 pub fn price(pins: &[i32], macros: &[i32], bands: &[u64]) -> Result<u64, u32> {
-    let mut charge = UNTOUCHED as u64;
-    // SAFETY: the library reads the three slices and keeps none.
-    let code = unsafe {
-        calzundi_price(
-            pins.as_ptr(),
-            pins.len(),
-            macros.as_ptr(),
-            macros.len(),
-            bands.as_ptr(),
-            bands.len(),
-            &mut charge,
-        )
-    };
-    assert!(
-        code == 0 || charge == UNTOUCHED as u64,
-        "refusal {code} touched the charge"
-    );
-    answer(code, &[], charge)
+    lent::price(lists(pins, macros), bands).map_err(number)
 }
 
 /// "Write a net file": how many bytes were given.
 pub fn write_file(pins: &[i32], macros: &[i32], bytes: &mut [u8]) -> Result<usize, u32> {
-    let mut given = UNTOUCHED;
-    // SAFETY: as for `graph`.
-    let code = unsafe {
-        calzundi_write_file(
-            pins.as_ptr(),
-            pins.len(),
-            macros.as_ptr(),
-            macros.len(),
-            bytes.as_mut_ptr(),
-            bytes.len(),
-            &mut given,
-        )
-    };
-    answer(code, &[given], given)
+    lent::write_file(lists(pins, macros), bytes).map_err(number)
 }
 
 /// "Read a net file": m and k.
@@ -250,19 +60,6 @@ pub fn read_file(
     pins: &mut [i32],
     macros: &mut [i32],
 ) -> Result<(usize, usize), u32> {
-    let (mut m, mut k) = (UNTOUCHED, UNTOUCHED);
-    // SAFETY: as for `graph`.
-    let code = unsafe {
-        calzundi_read_file(
-            bytes.as_ptr(),
-            bytes.len(),
-            pins.as_mut_ptr(),
-            pins.len(),
-            macros.as_mut_ptr(),
-            macros.len(),
-            &mut m,
-            &mut k,
-        )
-    };
-    answer(code, &[m, k], (m, k))
+    let read = lent::read_file(bytes, pins, macros).map_err(number)?;
+    Ok((read.pins, read.macros))
 }
