@@ -1,42 +1,66 @@
-//! A price list as text: one band a line, its limit and its rate. Blank lines are allowed, and `#` makes the rest of its line a comment.
+//! A price list as text: one band a line, its limit and its rate.
 
-use reference::text::BadLine;
+use calzundi::{Band, Refusal, RATE};
 
-/// The flat list of bands that the bytes of a text give. Any numbers of 64 bits and any count of lines pass, so that refused lists can be
-/// written too; an odd list cannot.
-pub fn parse(bytes: &[u8]) -> Result<Vec<u64>, BadLine> {
-    let mut bands = Vec::new();
-    for (number, line) in bytes.split(|&byte| byte == b'\n').enumerate() {
-        let band = std::str::from_utf8(line)
-            .map_err(|_| "not UTF-8 text".to_string())
-            .and_then(band)
-            .map_err(|wrong| BadLine {
-                line: number + 1,
-                wrong,
-            })?;
-        bands.extend(band.into_iter().flatten());
-    }
-    Ok(bands)
-}
+use crate::blame::Blame;
+use crate::line::{each_line, quoted, BadLine};
 
-/// The band of one line, if it has one.
-fn band(line: &str) -> Result<Option<[u64; 2]>, String> {
-    let said = line.split('#').next().unwrap_or("");
-    let words: Vec<&str> = said.split_whitespace().collect();
-    match words[..] {
-        [] => Ok(None),
-        [limit, rate] => Ok(Some([number("limit", limit)?, number("rate", rate)?])),
-        [_] => Err("a band needs a limit and a rate".into()),
-        [_, _, extra, ..] => Err(format!("'{extra}' stands after the end of the band")),
-    }
+/// The bands that the bytes of a text give, with their lines. Any numbers of 64 bits and any count of lines pass, so that refused lists can
+/// be written too; an odd list cannot.
+pub fn parse(bytes: &[u8]) -> Result<(Vec<Band>, Vec<usize>), BadLine> {
+    let (mut bands, mut lines) = (Vec::new(), Vec::new());
+    each_line(bytes, |line, words| {
+        match *words {
+            [] => return Ok(()),
+            [limit, rate] => bands.push(Band {
+                limit: number("limit", limit)?,
+                rate: number("rate", rate)?,
+            }),
+            [_] => return Err("a band needs a limit and a rate".into()),
+            [_, _, extra, ..] => {
+                let extra = quoted(extra);
+                return Err(format!("{extra} stands after the end of the band"));
+            }
+        }
+        lines.push(line);
+        Ok(())
+    })?;
+    Ok((bands, lines))
 }
 
 fn number(name: &str, word: &str) -> Result<u64, String> {
     let digits = word.bytes().all(|byte| byte.is_ascii_digit());
-    word.parse()
-        .ok()
-        .filter(|_| digits)
-        .ok_or_else(|| format!("'{word}' for {name} is no whole number of 0 to 2^64 - 1"))
+    word.parse().ok().filter(|_| digits).ok_or_else(|| {
+        let word = quoted(word);
+        format!("{word} for {name} is no whole number of 0 to 2^64 - 1")
+    })
+}
+
+/// Which bands a list's refusal is about.
+pub fn blamed(refusal: Refusal, bands: &[Band], lines: &[usize], metal: i64) -> Blame {
+    let named = |at: usize| {
+        let Band { limit, rate } = bands[at];
+        format!("line {}, band {} ({limit} {rate})", lines[at], at + 1)
+    };
+    match refusal {
+        Refusal::Bands if bands.is_empty() => Blame::because(refusal, "there is no band".into()),
+        Refusal::Bands => {
+            let cause = format!("a rate is above {RATE}");
+            let high = (0..bands.len()).filter(|&at| bands[at].rate > RATE);
+            Blame {
+                reasons: high.map(named).collect(),
+                ..Blame::because(refusal, cause)
+            }
+        }
+        _ => {
+            let greatest = (0..bands.len()).max_by_key(|&at| bands[at].limit);
+            let reason = greatest.map(|at| {
+                let entry = named(at);
+                format!("the metal is {metal}, and {entry} has the greatest limit")
+            });
+            Blame::new(refusal, reason.into_iter().collect())
+        }
+    }
 }
 
 /// A charge in hundredths, as an amount of the currency: 1234 is 12.34.
