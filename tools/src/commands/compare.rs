@@ -12,8 +12,8 @@ const HELP: &str = "\
 calzundi compare A B: says whether two nets get the same metal
 
 A and B are nets, text or net files; one of them may be -, standard input. The same metal is the same wires, as `calzundi route --wires`
-prints them; the order of a net's lists does not matter to it. Printed is `same metal` or `other metal`, for each net how many wires it has, how
-much metal and a fingerprint, and where they differ the first wires that only one of them has, each with its number.
+prints them; the order of a net's lists does not matter to it. Printed is `same metal` or `other metal`, for each net how many wires it has,
+how much metal and a fingerprint, and where they differ the first wires that only one of them has, each with its number.
 
     calzundi compare ordered.txt delivered.net
 

@@ -16,9 +16,10 @@ const HELP: &str = "\
 calzundi draw NET [PICTURE]: draws a net and its trees
 
 NET is text or a net file; for - it is standard input. Without PICTURE, or for -, the picture goes to standard output. It is SVG: the
-terminal tree, with each path's length at its bridge, and the refined tree, with the length of each edge where there is room, and the metal to
-lay. Pins are discs, corners of macros squares, Steiner points diamonds. Up to 24 points have their coordinates beside them; in a larger
-net pins have numbers, and a table below has the coordinates. What is too close or too thin to be seen is drawn apart, and the caption says so.
+terminal tree, with each path's length at its bridge, and the refined tree, with the length of each edge where there is room, and the
+metal to lay. Pins are discs, corners of macros squares, Steiner points diamonds. Up to 24 points have their coordinates beside them; in a
+larger net pins have numbers, and a table below has their places. What is too close or too thin to be seen is drawn apart, and the
+caption says so.
 
     --html          a page instead, for a browser: layers to switch on and off (graph, terminal tree, refined tree, wires) and tables
                     whose entries light up in the picture; PAGE#edge-3 shows the third edge lit

@@ -160,19 +160,13 @@ impl Frame {
         };
         frame.ask_for_edges_and_macros(drawn);
         let extent = frame.x.extent().max(frame.y.extent()).max(1.0);
-        let mut scale = side / extent;
-        frame.place(scale);
-        let (level, upright) = drawn.lines();
-        let mut points = drawn.points.to_vec();
-        points.sort_unstable();
-        points.dedup();
-        while frame.ask_for_points(&points) | frame.ask_for_lines(&level, &upright) {
-            // As long as the plot stays small enough all of it grows; then only what is too narrow does.
-            let wanted = frame.x.wanted().max(frame.y.wanted());
-            if wanted * extent <= LARGEST {
-                scale = scale.max(wanted);
-            }
-            frame.place(scale);
+        let mut scale = frame.settle(drawn, side / extent, extent);
+        // What had to be widened is made up for by the wide gaps, which have room to spare.
+        let longest = frame.x.length().max(frame.y.length());
+        if longest > side && longest > 1.1 * scale * extent {
+            let widened = longest - scale * extent;
+            let less = ((side - widened) / extent).max(scale / 3.0);
+            scale = frame.settle(drawn, less, extent);
         }
         frame.to_scale = frame.x.is_to_scale(scale) && frame.y.is_to_scale(scale);
         frame
@@ -181,6 +175,26 @@ impl Frame {
     fn place(&mut self, scale: f64) {
         self.x.place(scale);
         self.y.place(scale);
+    }
+
+    /// Places everything at a scale, and widens gaps until nothing is upon another thing. The scale in the end.
+    fn settle(&mut self, drawn: &Drawn, mut scale: f64, extent: f64) -> f64 {
+        let (level, upright) = drawn.lines();
+        let mut points = drawn.points.to_vec();
+        points.sort_unstable();
+        points.dedup();
+        loop {
+            // As long as the plot stays small enough all of it grows; then only what is too narrow does.
+            let wanted = self.x.wanted().max(self.y.wanted());
+            if wanted * extent <= LARGEST {
+                scale = scale.max(wanted);
+            }
+            self.place(scale);
+            let more = self.ask_for_points(&points) | self.ask_for_lines(&level, &upright);
+            if !more {
+                return scale;
+            }
+        }
     }
 
     fn ask_for_edges_and_macros(&mut self, drawn: &Drawn) {

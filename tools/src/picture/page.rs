@@ -106,14 +106,13 @@ fn picture(subject: &Subject) -> String {
         )
     });
     layer(&mut svg, "refined", refined);
+    let owners = owners(subject);
     let wires = subject.wires.iter().enumerate().map(|(at, wire)| {
         let ends = [wire.start, wire.end].map(|end| frame.spot(end));
-        let id = format!(" data-id=\"wire-{}\"", at + 1);
-        titled(
-            &polyline(&ends),
-            &id,
-            &format!("wire {}: {}", at + 1, wire.length()),
-        )
+        let (number, edge) = (at + 1, owners[at]);
+        let id = format!(" data-id=\"wire-{number}\" data-of=\"edge-{edge}\"");
+        let title = format!("wire {number}: {}", wire.length());
+        titled(&polyline(&ends), &id, &title)
     });
     layer(&mut svg, "wires", wires);
     let (corners, steiner) = subject.other_points(&subject.routed.refined.edges);
@@ -148,6 +147,16 @@ fn picture(subject: &Subject) -> String {
     let numbers = numbers(&spots, &lines, &within);
     layer(&mut svg, "numbers", numbers.into_iter());
     svg.end()
+}
+
+/// The number of the edge that each wire is of. Edges give their wires in order, a level one and an upright one, those of no length left out.
+fn owners(subject: &Subject) -> Vec<usize> {
+    let mut owners = Vec::new();
+    for (at, Edge { first, second }) in subject.routed.refined.edges.iter().enumerate() {
+        let wires = usize::from(first.x != second.x) + usize::from(first.y != second.y);
+        owners.extend((0..wires).map(|_| at + 1));
+    }
+    owners
 }
 
 fn layer(svg: &mut Svg, class: &str, lines: impl Iterator<Item = String>) {

@@ -112,7 +112,7 @@ impl Sheet<'_> {
         let top = height * down;
         let table = self.table(whole_width);
         let rows = table.iter().map(Vec::len).max().unwrap_or(0) as f64;
-        let below = LINE * (caption.len() as f64 + 1.5) + (LETTER + 4.0) * rows + EDGE;
+        let below = LINE * (caption.len() as f64 + 1.6) + (LETTER + 4.0) * rows + EDGE;
         let whole_height = (top + below).ceil();
         let mut svg = Svg::new(whole_width, whole_height);
         svg.line(&format!("<title>{}</title>", escaped(&caption[0])));
@@ -141,7 +141,7 @@ impl Sheet<'_> {
         }
         self.draw_rules(&mut svg, (whole_width, top), (width, height));
         self.draw_caption(&mut svg, top, &caption);
-        self.draw_table(&mut svg, top + LINE * (caption.len() as f64 + 1.5), &table);
+        self.draw_table(&mut svg, top + LINE * (caption.len() as f64 + 1.6), &table);
         svg.end()
     }
 
@@ -242,19 +242,21 @@ impl Sheet<'_> {
             lines.push("not to scale: what is too close to be seen is drawn apart".into());
         }
         if !self.by_coordinates {
-            lines.push("pins have their numbers in the net:".into());
+            lines.push("pins are numbered as in the net; the table below has their places".into());
         }
         lines
     }
 
     fn draw_caption(&self, svg: &mut Svg, top: f64, caption: &[String]) {
-        self.draw_legend(svg, top + LINE);
         let look = format!("{FONT} font-size=\"{CAPTION_LETTER}\" fill=\"black\"");
-        let lines = caption.iter().enumerate().map(|(number, line)| {
-            let y = top + LINE * (number + 2) as f64;
+        let mut lines = caption.iter().enumerate().map(|(number, line)| {
+            let y = top + LINE * (number as f64 + 1.2);
             text(Spot { x: EDGE, y }, line)
         });
+        let first = lines.next();
+        svg.group(&format!("{look} font-weight=\"bold\""), first.into_iter());
         svg.group(&look, lines);
+        self.draw_legend(svg, top + LINE * (caption.len() as f64 + 1.2));
     }
 
     /// What the marks mean.
@@ -263,18 +265,18 @@ impl Sheet<'_> {
         let mut group = |look: String, shape: String| svg.group(&look, [shape].into_iter());
         group(format!("fill=\"{PIN_COLOUR}\""), pin_mark(at(EDGE + 5.0)));
         let open = format!("fill=\"white\" stroke=\"{METAL}\" stroke-width=\"1.5\"");
-        group(open, corner_mark(at(76.0)));
-        group(format!("fill=\"{METAL}\""), steiner_mark(at(208.0)));
-        let area = Area::about(at(332.0), 12.0, 10.0);
+        group(open, corner_mark(at(78.0)));
+        group(format!("fill=\"{METAL}\""), steiner_mark(at(226.0)));
+        let area = Area::about(at(346.0), 12.0, 10.0);
         group(MACRO_LOOK.into(), rectangle(&area));
         let metal = format!("stroke=\"{METAL}\" stroke-width=\"2.5\" stroke-linecap=\"round\"");
-        group(metal, segment(at(398.0), at(414.0)));
+        group(metal, segment(at(412.0), at(428.0)));
         let words = [
             (30.0, "pin"),
-            (86.0, "corner of a macro"),
-            (218.0, "Steiner point"),
-            (344.0, "macro"),
-            (422.0, "metal"),
+            (88.0, "corner of a macro"),
+            (236.0, "Steiner point"),
+            (358.0, "macro"),
+            (436.0, "metal"),
         ];
         let words = words.map(|(x, word)| text(Spot { x, y }, word));
         let look = format!("{FONT} font-size=\"{LETTER}\" fill=\"black\"");
