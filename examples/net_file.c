@@ -3,6 +3,7 @@
  * file it takes a net of its own, with a macro in the way. A refusal is said in words.
  *
  *     gcc -Iinclude examples/net_file.c target/staticlib/libexports.a -o build/net_file && build/net_file examples/files/eight-pins.net
+ *     gcc -Iinclude examples/net_file.c -Llib -lcalzundi -o net_file    (in a package)
  */
 #include <inttypes.h>
 #include <stdio.h>
