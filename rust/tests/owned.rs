@@ -94,7 +94,8 @@ fn every_call_refuses_alike() {
     for &kind in Hostile::ALL {
         for seed in 0..5 {
             let lists = hostile(kind, seed);
-            if lists.pins.len() % 2 != 0 || lists.macros.len() % 4 != 0 {
+            let whole = lists.pins.len().is_multiple_of(2) && lists.macros.len().is_multiple_of(4);
+            if !whole {
                 continue;
             }
             let net = made(&lists);

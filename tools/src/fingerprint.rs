@@ -21,7 +21,11 @@ fn constants() -> &'static ([u32; 8], [u32; 64]) {
 }
 
 fn roots() -> ([u32; 8], [u32; 64]) {
-    let is_prime = |n: &u128| (2..*n).take_while(|d| d * d <= *n).all(|d| n % d != 0);
+    let is_prime = |n: &u128| {
+        (2..*n)
+            .take_while(|d| d * d <= *n)
+            .all(|d| !n.is_multiple_of(d))
+    };
     let primes: Vec<u128> = (2..).filter(is_prime).take(64).collect();
     // The greatest r with r^power <= p * 2^(32 * power) is the root times 2^32; its low 32 bits are the fraction's.
     let root = |p: u128, power: u32| {

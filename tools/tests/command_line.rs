@@ -212,6 +212,24 @@ fn bad_files_are_explained() {
     }
 }
 
+/// Several nets in one call: each has its answer, also after one that cannot be read.
+#[test]
+fn check_takes_several() {
+    let (three, overlapping) = (example("three-pins"), example("overlapping"));
+    let words = ["check", word(&three), "no/such", word(&overlapping)];
+    let output = run(&words, b"");
+    assert_eq!(output.status.code(), Some(1));
+    let text = String::from_utf8(output.stdout).unwrap();
+    assert!(
+        text.contains("three-pins.txt: allowed, pins 3 macros 0\n"),
+        "{text}"
+    );
+    assert!(text.contains("overlapping.txt: refused 16: "), "{text}");
+    let wrong = String::from_utf8(output.stderr).unwrap();
+    assert!(wrong.starts_with("calzundi check: no/such: "), "{wrong}");
+    printed(&["check", word(&three), word(&three)], b"");
+}
+
 #[test]
 fn compare_says_what_differs() {
     let folder = folder("compare");

@@ -2,7 +2,7 @@
 
 use crate::program::{Command, Failure, Words};
 use crate::source::{open, Source};
-use crate::streams::write;
+use crate::streams::{say, write};
 
 const HELP: &str = "\
 calzundi check NET..: says whether nets are allowed
@@ -27,9 +27,19 @@ pub const COMMAND: Command = Command {
 fn check(words: &Words) -> Result<(), Failure> {
     let mut answer = Ok(());
     for file in &words.files {
-        let source = open(Some(file))?;
-        write(None, said(&source).as_bytes(), &[])?;
-        if source.verdict.is_err() {
+        let allowed = match open(Some(file)) {
+            Ok(source) => {
+                write(None, said(&source).as_bytes(), &[])?;
+                source.verdict.is_ok()
+            }
+            // The nets after one that cannot be read are looked at all the same.
+            Err(Failure::Input(wrong)) => {
+                say(&format!("calzundi check: {wrong}"));
+                false
+            }
+            Err(failure) => return Err(failure),
+        };
+        if !allowed {
             answer = Err(Failure::No);
         }
     }

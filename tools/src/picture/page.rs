@@ -19,7 +19,12 @@ pub fn page(name: &str, subject: &Subject) -> String {
     let routed = &subject.routed;
     let metal = grouped(routed.refined.metal);
     let mark = fingerprint(&wires_text(&subject.wires));
-    let header = format!("{} fingerprint {mark}", routed.header());
+    let (picture, to_scale) = picture(subject);
+    let scale = match to_scale {
+        true => "",
+        false => "; not to scale: what is too close to be seen is drawn apart",
+    };
+    let header = format!("{} fingerprint {mark}{scale}", routed.header());
     let headline = format!("{name}: metal to lay {metal}");
     let parts = [
         ("@TITLE@", escaped(&headline)),
@@ -27,7 +32,7 @@ pub fn page(name: &str, subject: &Subject) -> String {
         ("@HEADER@", escaped(&header)),
         ("@LAYERS@", layers()),
         ("@TABLES@", tables(subject)),
-        ("@SVG@", picture(subject)),
+        ("@SVG@", picture),
     ];
     // Each part is put in once, so that nothing in a part is taken for the name of another.
     let mut page = String::new();
@@ -60,7 +65,8 @@ fn layers() -> String {
     LAYERS.iter().map(layer).collect::<Vec<String>>().join("\n")
 }
 
-fn picture(subject: &Subject) -> String {
+/// The picture, and whether it is to scale.
+fn picture(subject: &Subject) -> (String, bool) {
     let (mut frame, _) = frame(subject, &subject.graph.vertices);
     (frame.left, frame.top) = (MARGIN, MARGIN);
     let (width, height) = (frame.width() + 2.0 * MARGIN, frame.height() + 2.0 * MARGIN);
@@ -146,7 +152,7 @@ fn picture(subject: &Subject) -> String {
     );
     let numbers = numbers(&spots, &lines, &within);
     layer(&mut svg, "numbers", numbers.into_iter());
-    svg.end()
+    (svg.end(), frame.to_scale)
 }
 
 /// The number of the edge that each wire is of. Edges give their wires in order, a level one and an upright one, those of no length left out.
@@ -254,14 +260,18 @@ fn tables(subject: &Subject) -> String {
         true => &["from", "to", "length"],
         false => &["from", "to", "length", "cost"],
     };
-    let named =
-        |name: &str, count: usize, total: i64| format!("{count} {name}, {}", grouped(total));
+    let titled = |count: usize, name: &str, total: Option<i64>| {
+        let many = if count == 1 { "" } else { "s" };
+        let total = total.map_or(String::new(), |total| format!(", {}", grouped(total)));
+        format!("{count} {name}{many}{total}")
+    };
+    let (refined, terminal) = (&routed.refined, &routed.terminal);
     let all = [
         Table {
-            title: named(
-                "edges of the refined tree",
-                routed.refined.edges.len(),
-                routed.refined.total,
+            title: titled(
+                refined.edges.len(),
+                "refined tree edge",
+                Some(refined.total),
             ),
             open: true,
             columns,
@@ -269,36 +279,28 @@ fn tables(subject: &Subject) -> String {
             rows: edges.collect(),
         },
         Table {
-            title: named(
-                "terminal paths by their bridges",
-                routed.terminal.paths.len(),
-                routed.terminal.total,
-            ),
+            title: titled(terminal.paths.len(), "terminal path", Some(terminal.total)),
             open: false,
-            columns: &["from", "to", "path"],
+            columns: &["bridge from", "to", "path"],
             kind: "path",
             rows: paths.collect(),
         },
         Table {
-            title: named(
-                "wires as they are drawn, metal",
-                subject.wires.len(),
-                routed.refined.metal,
-            ),
+            title: titled(subject.wires.len(), "wire", Some(refined.metal)),
             open: false,
             columns: &["start", "end", "length"],
             kind: "wire",
             rows: wires.collect(),
         },
         Table {
-            title: format!("{} pins", subject.net.pins.len()),
+            title: titled(subject.net.pins.len(), "pin", None),
             open: false,
             columns: &["place"],
             kind: "pin",
             rows: pins.collect(),
         },
         Table {
-            title: format!("{} macros", subject.net.macros.len()),
+            title: titled(subject.net.macros.len(), "macro", None),
             open: false,
             columns: &["left", "bottom", "right", "top"],
             kind: "macro",
