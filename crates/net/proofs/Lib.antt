@@ -7,4 +7,5 @@ pub mod AllowedLaws
 pub mod CheckOrder
 pub mod RangeBounds
 pub mod ApartLaws
+pub mod WeighingFits
 pub mod WorkedChecks
