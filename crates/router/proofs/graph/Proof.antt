@@ -24,13 +24,13 @@ enum-known-answer-2 c = search needs
 
 -- the answer of the check, where the net is allowed
 allowed : (c : tie.After-answer)
-    → checked (now (c .before .before .before .args .pins)) (now (c .before .before .before .args .macros))
+    → checked (c .before .before .before .args .w) (now (c .before .before .before .args .pins)) (now (c .before .before .before .args .macros))
     ≡ given (c .answer .given .0 .0)
 unfolding told
 allowed c = sym (c .before .before .check .ensures) ∙ ap told (c .answer .given .1)
 
 graph-requires : tie.Need-graph-requires
-graph-requires c κs = counted-of _ _ (allowed (c .before .before .before))
+graph-requires c κs = counted-of _ _ _ (allowed (c .before .before .before))
 
 same-length : tie.Need-same-length
 same-length c = search needs

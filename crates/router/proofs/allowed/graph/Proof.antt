@@ -108,10 +108,10 @@ unfolding toldGraph netVertices netEdges
 returns-2 c =
     let d = c .before .before .before .before .before in
     let a = d .before .before .before .before .args in
-    let vs = netVertices (now (a .pins)) (now (a .macros)) in
+    let vs = netVertices (handed (a .net .weights)) (now (a .pins)) (now (a .macros)) in
     let seen = take (d .vertices .result * 2) (d .vertices .last .1 .1 .0) in
     let back : placesOf seen ≡ vs = vertices-back vs (now (a .vertices)) _ _ (d .vertices .ensures .1) (d .vertices .ensures .0) in
-    let these : edges (a .net .weights) (macrosOf (now (a .macros))) (placesOf seen) ≡ netEdges (now (a .pins)) (now (a .macros))
+    let these : edges (a .net .weights) (macrosOf (now (a .macros))) (placesOf seen) ≡ netEdges (handed (a .net .weights)) (now (a .pins)) (now (a .macros))
     = ap (edges (a .net .weights) (macrosOf (now (a .macros)))) back ∙ ap spanning (as-net (d .before .before .before .before .pre)) in
     two-given
     (ap₂ (λ (v w : ℕ). given (v, w)) (d .vertices .ensures .0) (c .before .edges .ensures .0 ∙ ap length these))

@@ -88,8 +88,8 @@ returns-2 c =
     let w = d .refine .ensures in
     let edges = answer-edges (s .pre .allowed) w in
     let need = (pointCount (now (a .pins)) (now (a .macros)) + pinCount (now (a .pins))) * 4 in
-    let given-is : ℕ × ℤ = (length (laidOf (now (a .pins)) (now (a .macros))), pos (laidTotal (now (a .pins)) (now (a .macros)))) in
-    let sum : toZ w64 (d .refine .result .total) ≡ pos (laidTotal (now (a .pins)) (now (a .macros))) =
+    let given-is : ℕ × ℤ = (length (laidOf (handed (a .net .weights)) (now (a .pins)) (now (a .macros))), pos (laidTotal (handed (a .net .weights)) (now (a .pins)) (now (a .macros)))) in
+    let sum : toZ w64 (d .refine .result .total) ≡ pos (laidTotal (handed (a .net .weights)) (now (a .pins)) (now (a .macros))) =
     toZ-pos w64 (d .refine .result .total) (omega (arith, answer-total (s .pre .allowed) w, total-low (s .pre .allowed))) ∙ ap pos (answer-total (s .pre .allowed) w) in
     gives-given
     (ap₂ (λ (n : ℕ) (z : ℤ). given (n, z)) (answer-count (s .pre .allowed) w) sum)

@@ -67,11 +67,11 @@ returns-2 c =
     let w = as-worked (s .pre) (d .terminal-tree .ensures) in
     let al = s .pre .allowed in
     let paths = worked-paths al fresh w in
-    let given-is : ℕ × ℤ = (length (pathsOf (now (a .pins)) (now (a .macros))), pos (pathsTotal (now (a .pins)) (now (a .macros)))) in
+    let given-is : ℕ × ℤ = (length (pathsOf (handed (a .net .weights)) (now (a .pins)) (now (a .macros))), pos (pathsTotal (handed (a .net .weights)) (now (a .pins)) (now (a .macros)))) in
     let enough = d .before .before .before .before .before .before .before .before .before .before .before .before .before .if1 .left in
-    let many : d .terminal-tree .result .kept ≡ length (pathsOf (now (a .pins)) (now (a .macros)))
+    let many : d .terminal-tree .result .kept ≡ length (pathsOf (handed (a .net .weights)) (now (a .pins)) (now (a .macros)))
     = omega (arith, kept-fewer al fresh w, paths-one-fewer al) in
-    let sum : toZ w64 (d .terminal-tree .result .total) ≡ pos (pathsTotal (now (a .pins)) (now (a .macros))) =
+    let sum : toZ w64 (d .terminal-tree .result .total) ≡ pos (pathsTotal (handed (a .net .weights)) (now (a .pins)) (now (a .macros))) =
     toZ-pos w64 (d .terminal-tree .result .total) (omega (arith, w .total-is, total-small al)) ∙ ap pos (w .total-is) in
     gives-given
     (ap₂ (λ (n : ℕ) (z : ℤ). given (n, z)) many sum)

@@ -80,7 +80,7 @@ returns-2 c =
     let need = (pointCount (now (a .pins)) (now (a .macros)) + pinCount (now (a .pins))) * 8 in
     gives-given
     (ap (λ (n : ℕ). given n) (g .give-wires .ensures .0 ∙ ap (λ (es : List (Place × Place)). length (wires es)) edges))
-    (room-enough need (length (now (a .wires))) (length (wiresOf (now (a .pins)) (now (a .macros)))) (subst (λ (z : ℕ). z ≤ length (now (a .wires))) (asked (d .before .before .before .before)) (d .before .before .before .if1 .left)))
+    (room-enough need (length (now (a .wires))) (length (wiresOf (handed (a .net .weights)) (now (a .pins)) (now (a .macros)))) (subst (λ (z : ℕ). z ≤ length (now (a .wires))) (asked (d .before .before .before .before)) (d .before .before .before .if1 .left)))
     (g .give-wires .ensures .1 ∙ ap (λ (es : List (Place × Place)). over (flat edgeNumbers (wires es)) (now (a .wires))) edges)
 
 pub wires-spec : {M : Type 1} → statement M
