@@ -1,6 +1,6 @@
 -- A net is allowed by the check exactly when its lists hold whole entries and it is allowed in words.
 -- Assumes nothing.
-use mathlib.Core.Path.{_≡_, sym, ap, ap₂, _∙_}
+use mathlib.Core.Path.{_≡_, sym, ap, _∙_}
 use mathlib.Core.Bool.{false, not}
 use mathlib.Core.List.{List}
 use Prim.Native.Nat.{_≤_, _%_}
@@ -25,7 +25,7 @@ use Rattle.net.specs.Bounds.{pinBound, macroBound, weightBound, pinWidth
 use Rattle.net.specs.declared.Weighing.{Weighing}
 use Rattle.net.specs.declared.Net.{Net as Counts}
 use Rattle.net.specs.Pins.{pinCount, pinPlaces, macroCount}
-use Rattle.net.specs.Net.{Net, netOf, weighing, weightsOf, handed}
+use Rattle.net.specs.Net.{Net, netOf, weightsOf}
 use Rattle.net.specs.Check.{countsOf, pinsMiscounted, macrosMiscounted, outOfRange, notUpright, insideAny, noWeight, weightsWrong}
 use Rattle.net.specs.Check.{checked}
 use Rattle.net.specs.Allowed.{Whole, PlaceInRange, MacroInRange, Upright, Weighted, Allowed}
@@ -107,14 +107,7 @@ module _ (w : Weighing) where
       let b = weight-within (w .second) (r .1) in
       record { positive = record { across = a .0; along = b .0 }; across = a .1; along = b .1 }
 
-  -- and they are known from what they are
-  weights-back : weightsWrong w ≡ false → handed (weightsOf w) ≡ w
-  unfolding weightsWrong
-  weights-back e =
-      let r = or-none (noWeight (w .first)) (noWeight (w .second)) e in
-      ap₂ weighing (sym (weight-is (w .first) (r .0))) (sym (weight-is (w .second) (r .1)))
-
-  within-weights : Weighted (weightsOf w) → weightsWrong w ≡ false
+  pub within-weights : Weighted (weightsOf w) → weightsWrong w ≡ false
   unfolding weightsWrong
   within-weights h =
       or-neither _ _ (within-weight (w .first) (h .positive .across) (h .across))
@@ -201,8 +194,3 @@ module _ (w : Weighing) (pins macros : List ℤ) where
   pub allowed-given : Whole pins macros → Allowed (netOf w pins macros) → checked w pins macros
       ≡ given (countsOf w pins macros)
   allowed-given whole a = allow w pins macros (allowed-past whole a)
-
-  -- what the check gives says which weights were handed over
-  pub handed-back : {v : Counts} → checked w pins macros ≡ given v → handed (v .weights) ≡ w
-  handed-back {v} g =
-      ap (λ (n : Counts). handed (n .weights)) (given-counts g) ∙ weights-back w (passed-all w pins macros v g .passed)

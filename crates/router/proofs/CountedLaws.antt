@@ -14,7 +14,8 @@ use Rattle.net.specs.declared.Weighing.{Weighing}
 use Rattle.net.specs.Net.{Net, netOf, netWith, handed}
 use Rattle.net.specs.Check.{checked, pointCount as countedPoints}
 use Rattle.net.specs.Allowed.{Allowed}
-use Rattle.net.proofs.AllowedLaws.{given-allowed, given-counts, handed-back}
+use Rattle.net.proofs.AllowedLaws.{given-allowed, given-counts}
+use Rattle.net.proofs.HandedLaws.{handed-back}
 use Rattle.net.proofs.PinLaws.{length-pins}
 use Rattle.terminal.specs.declared.TerminalTree.{TerminalTree}
 use Rattle.terminal.specs.Tables.{Tables, Worked}
