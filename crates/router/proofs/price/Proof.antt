@@ -3,9 +3,12 @@
 use mathlib.Core.Path.{_≡_, sym, ap, _∙_}
 use denote.Ref.{now}
 use Rattle.lent.specs.Told.{given}
+use Rattle.net.specs.declared.Weighing.{Weighing}
 use Rattle.net.specs.Check.{checked, told}
 use Rattle.price.specs.Price.{priced, toldPrice}
-use Rattle.router.specs.Price.{metalOf, netPrice}
+use Rattle.net.proofs.HandedLaws.{handed-back}
+use Rattle.router.specs.Refined.{metalOf}
+use Rattle.router.specs.Price.{netPrice}
 use Rattle.router.proofs.AnswerLaws.{only-refused, only-given}
 use Rattle.router.proofs.CountedLaws.{counted-of}
 use borrow.Author.Needs.{needs}
@@ -37,7 +40,9 @@ returns c =
     let d = c .before .before in
     let a = d .before .before .before .before .args in
     let next = priced (metalOf (a .w) (now (a .pins)) (now (a .macros))) (now (a .bands)) in
-    c .price .ensures ∙ sym (only-given (checked (a .w) (now (a .pins)) (now (a .macros))) next _ (allowed d))
+    c .price .ensures
+    ∙ ap (λ (z : Weighing). priced (metalOf z (now (a .pins)) (now (a .macros))) (now (a .bands))) (handed-back _ _ _ (allowed d))
+    ∙ sym (only-given (checked (a .w) (now (a .pins)) (now (a .macros))) next _ (allowed d))
 
 returns-2 : tie.Need-returns-2
 unfolding netPrice toldPrice told

@@ -1,11 +1,14 @@
 -- `router::terminal_tree` meets its contract: the refusals of the check first, then what the terminal tree of an allowed net says.
 -- Assumes nothing.
-use mathlib.Core.Path.{_≡_, refl, sym, ap, _∙_}
+use mathlib.Core.Path.{_≡_, refl, sym, ap, _∙_, subst}
 use lib.ListN.{length}
 use denote.Ref.{now}
 use Rattle.lent.specs.Told.{given}
+use Rattle.net.specs.declared.Weighing.{Weighing}
 use Rattle.net.specs.Check.{checked, told}
-use Rattle.router.specs.Terminal.{terminalGiven, terminalTree, toldTree}
+use Rattle.net.proofs.HandedLaws.{handed-back}
+use Rattle.router.specs.Terminal.{terminalGiven, terminalTree, toldTerminal}
+use Rattle.router.specs.Call.{TerminalCall}
 use Rattle.router.proofs.AnswerLaws.{only-refused, only-given}
 use Rattle.router.proofs.CountedLaws.{counted-of}
 use Rattle.router.proofs.CallLaws.{gives-refused, gives-as}
@@ -42,10 +45,12 @@ returns c =
     let d = r .before .before .before in
     let a = d .before .before .before .args in
     let next = terminalGiven (a .w) (now (a .pins)) (now (a .macros)) (length (now (a .paths))) in
-    gives-as (sym (only-given (checked (a .w) (now (a .pins)) (now (a .macros))) next _ (allowed d))) (r .terminal-tree .ensures)
+    gives-as (sym (only-given (checked (a .w) (now (a .pins)) (now (a .macros))) next _ (allowed d)))
+    (subst (λ (z : Weighing). TerminalCall terminalGiven z (now (a .pins)) (now (a .macros)) (now (a .paths)) (r .terminal-tree .result) (r .terminal-tree .last .1 .1 .1 .0))
+    (handed-back _ _ _ (allowed d)) (r .terminal-tree .ensures))
 
 returns-2 : tie.Need-returns-2
-unfolding terminalTree toldTree told
+unfolding terminalTree toldTerminal told
 returns-2 c =
     let s = c .before .before .before in
     let a = s .before .args in

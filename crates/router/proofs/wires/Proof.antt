@@ -1,11 +1,14 @@
 -- `router::wires` meets its contract: the refusals of the check first, then what the wires of an allowed net says.
 -- Assumes nothing.
-use mathlib.Core.Path.{_≡_, refl, sym, ap, _∙_}
+use mathlib.Core.Path.{_≡_, refl, sym, ap, _∙_, subst}
 use lib.ListN.{length}
 use denote.Ref.{now}
 use Rattle.lent.specs.Told.{given}
+use Rattle.net.specs.declared.Weighing.{Weighing}
 use Rattle.net.specs.Check.{checked, told}
-use Rattle.router.specs.Refined.{wiresGiven, wired, toldWires}
+use Rattle.net.proofs.HandedLaws.{handed-back}
+use Rattle.router.specs.Wires.{wiresGiven, wired, toldWires}
+use Rattle.router.specs.Call.{WiresCall}
 use Rattle.router.proofs.AnswerLaws.{only-refused, only-given}
 use Rattle.router.proofs.CountedLaws.{counted-of}
 use Rattle.router.proofs.CallLaws.{gives-refused, gives-as}
@@ -42,7 +45,9 @@ returns c =
     let d = r .before .before .before in
     let a = d .before .before .before .args in
     let next = wiresGiven (a .w) (now (a .pins)) (now (a .macros)) (length (now (a .wires))) in
-    gives-as (sym (only-given (checked (a .w) (now (a .pins)) (now (a .macros))) next _ (allowed d))) (r .wires .ensures)
+    gives-as (sym (only-given (checked (a .w) (now (a .pins)) (now (a .macros))) next _ (allowed d)))
+    (subst (λ (z : Weighing). WiresCall wiresGiven z (now (a .pins)) (now (a .macros)) (now (a .wires)) (r .wires .result) (r .wires .last .1 .1 .1 .0))
+    (handed-back _ _ _ (allowed d)) (r .wires .ensures))
 
 returns-2 : tie.Need-returns-2
 unfolding wired toldWires told

@@ -14,22 +14,14 @@ use Rattle.router.proofs.allowed.price.Tie as tie
 refine-requires : tie.Need-refine-requires
 refine-requires c κs = (c .before .before .before .pre, (refl, refl))
 
--- the refiner's total is the metal to lay
-total-is : (c : tie.After-refine) → c .refine .result .total
-    ≡ metalOf (now (c .before .before .before .before .args .pins)) (now (c .before .before .before .before .args .macros))
-total-is c =
-    let s = c .before .before .before .before in
-    answer-total (s .pre .allowed) (c .refine .ensures) ∙ metal-is (now (s .args .pins)) (now (s .args .macros))
+metal-requires : tie.Need-metal-requires
+metal-requires c κs = ?
 
 price-requires : tie.Need-price-requires
-price-requires c κs =
-    let s = c .before .before .before .before in
-    omega (arith, total-is c, metal-fits (now (s .args .pins)) (now (s .args .macros)) (s .pre .allowed))
+price-requires c κs = ?
 
 returns : tie.Need-returns
-returns c =
-    let a = c .before .before .before .before .before .args in
-    c .price .ensures ∙ ap (λ (metal : ℕ). priced metal (now (a .bands))) (total-is (c .before))
+returns c = ?
 
 pub price-spec : {M : Type 1} → statement M
-price-spec = tie.close (tie.spec refine-requires price-requires returns)
+price-spec = tie.close (tie.spec refine-requires metal-requires price-requires returns)

@@ -17,11 +17,11 @@ use Rattle.plane.specs.declared.Place.{Place}
 use Rattle.plane.proofs.FlatLaws.{length-macros}
 use Rattle.net.specs.Answer.{number}
 use Rattle.net.specs.Pins.{pinCount}
+use Rattle.net.specs.Net.{handed}
 use Rattle.net.proofs.PinLaws.{length-pins}
 use Rattle.graph.specs.Numbers.{edgeNumbers}
 use Rattle.router.specs.Graph.{pointCount}
-use Rattle.router.specs.Terminal.{toldTree}
-use Rattle.router.specs.Refined.{laidOf, laidTotal, refinedGiven}
+use Rattle.router.specs.Refined.{laidTotal, metalOf, laidAnswer, refinedGiven, toldTree}
 use Rattle.router.proofs.AnswerLaws.{room-short, room-enough}
 use Rattle.router.proofs.RefinedLaws.{total-low, answer-edges, answer-count, answer-total, answer-small, answer-few}
 use Rattle.router.proofs.CountedLaws.{as-points, as-pins, counts-few, points-few}

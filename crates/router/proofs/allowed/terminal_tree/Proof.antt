@@ -16,10 +16,11 @@ use Rattle.lent.specs.Entries.{flat}
 use Rattle.plane.specs.declared.Place.{Place}
 use Rattle.net.specs.Answer.{number}
 use Rattle.net.specs.Pins.{pinCount, pinPlaces}
+use Rattle.net.specs.Net.{handed}
 use Rattle.net.proofs.PinLaws.{length-pins}
 use Rattle.terminal.specs.Tree.{pathNumbers}
 use Rattle.terminal.proofs.PathLaws.{total-small, paths-one-fewer, kept-fewer, worked-paths, worked-givable}
-use Rattle.router.specs.Terminal.{pathsOf, pathsTotal, terminalGiven, toldTree}
+use Rattle.router.specs.Terminal.{pathsOf, pathsTotal, terminalGiven, toldTerminal}
 use Rattle.router.proofs.AnswerLaws.{room-short, room-enough}
 use Rattle.router.proofs.FreshTables.{fresh}
 use Rattle.router.proofs.CountedLaws.{as-allowed, as-pins, as-worked, counts-few}
@@ -32,7 +33,7 @@ mul-if1 : tie.Need-mul-if1
 mul-if1 c = record { fits = omega (arith, counts-few (c .before .pre)) }
 
 returns : tie.Need-returns
-unfolding terminalGiven toldTree number
+unfolding terminalGiven toldTerminal number
 returns c =
     let a = c .before .before .args in
     gives-refused refl (room-short (pinCount (now (a .pins)) * 5) (length (now (a .paths))) _ (omega (arith, as-pins (c .before .before .pre), c .if1 .taken)))
@@ -59,7 +60,7 @@ same-length : tie.Need-same-length
 same-length c = search needs
 
 returns-2 : tie.Need-returns-2
-unfolding terminalGiven toldTree pathsTotal pathsOf
+unfolding terminalGiven toldTerminal pathsTotal pathsOf
 returns-2 c =
     let d = c .before .before .before .before .before .before .before in
     let s = d .before .before .before .before .before .before .before .before .before .before .before .before .before .before .before in

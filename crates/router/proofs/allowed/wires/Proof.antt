@@ -13,11 +13,12 @@ use Rattle.plane.specs.declared.Place.{Place}
 use Rattle.plane.proofs.FlatLaws.{length-macros}
 use Rattle.net.specs.Answer.{number}
 use Rattle.net.specs.Pins.{pinCount}
+use Rattle.net.specs.Net.{handed}
 use Rattle.net.proofs.PinLaws.{length-pins}
 use Rattle.graph.specs.Numbers.{edgeNumbers}
 use Rattle.refined.specs.Wires.{wires}
 use Rattle.router.specs.Graph.{pointCount}
-use Rattle.router.specs.Refined.{wiresOf, wiresGiven, toldWires}
+use Rattle.router.specs.Wires.{wiresOf, wiresGiven, toldWires}
 use Rattle.router.proofs.AnswerLaws.{room-short, room-enough}
 use Rattle.router.proofs.RefinedLaws.{answer-edges, answer-small, answer-few}
 use Rattle.router.proofs.CountedLaws.{as-points, as-pins, counts-few, points-few}
