@@ -15,7 +15,7 @@ use Rattle.net.specs.Bounds.{pinBound}
 use Rattle.forest.specs.Bounds.{pathBound}
 use Rattle.terminal.proofs.PathLaws.{total-small}
 use Rattle.refiner.specs.declared.Refined.{Refined}
-use Rattle.tree.specs.Table.{pairBound, Small}
+use Rattle.tree.specs.Table.{treeBound, pairBound, Small}
 use Rattle.refiner.specs.Refined.{Answer}
 use Rattle.refiner.proofs.WithinLaws.{within-small}
 use Rattle.union.specs.Union.{unionOf}
@@ -63,3 +63,10 @@ module _ {net : Net} (a : Allowed net) where
     pub answer-few : r .edges < length (net .pins) + length (net .macros) * 4 + length (net .pins)
     unfolding edgesIn refinedOf
     answer-few = omega (arith, answer-count, refined-tree a .few)
+
+    -- and what `refined::metal` makes of them
+    pub answer-metal : {l : ℕ} → l ≡ metal (tableEdges pts ks (r .edges)) → l ≡ metal (edgesIn net)
+    answer-metal e = e ∙ ap metal answer-edges
+
+    pub metal-asks : (r .edges ≤ treeBound) × Small pairBound ks
+    metal-asks = (answer .few .1, answer-small)

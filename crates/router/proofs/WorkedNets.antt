@@ -137,8 +137,8 @@ pub record Table : Type 0 where
     check = given (counted (weighing (pos 1) (pos 3)) 4 0);
     graph = given (4, 5);
     terminal = given (3, pos 12);
-    refined = given (5, (pos 11, pos 7));
-    wires = given 5;
+    refined = given (4, (pos 11, pos 7));
+    wires = given 4;
   }
   -- E20: 16 before 18, and 18 of every operation
   pub overlap-first : answersBy (weighing (pos 9) (pos 9)) overlapping ≡ none 16

@@ -75,7 +75,7 @@ pub record Promised (w : Weighing) (pins macros : List ℤ) : Type 0 where
   pub wires-of-edges : wiresOf w pins macros ≡ flat wiresOfEdge (laidOf w pins macros)
   -- D2c, W2 to W4: an edge's wires lead from its smaller place to its larger one in the edge's box, first across and then up
   pub edge-wires : (e : Edge) → e ∈ laidOf w pins macros → EdgeWires e (wiresOfEdge e)
-  pub wires-straight : (w : Edge) → w ∈ wiresOf w pins macros → Horizontal w ⊎ Vertical w
+  pub wires-straight : (x : Edge) → x ∈ wiresOf w pins macros → Horizontal x ⊎ Vertical x
   -- R21: no wire meets an interior;  R22: together they are the metal to lay
-  pub wires-clear : (w : Edge) → w ∈ wiresOf w pins macros → clear (w .0) (w .1) (macrosOf macros) ≡ true
+  pub wires-clear : (x : Edge) → x ∈ wiresOf w pins macros → clear (x .0) (x .1) (macrosOf macros) ≡ true
   pub wires-sum : lengths distance (wiresOf w pins macros) ≡ metalOf w pins macros
