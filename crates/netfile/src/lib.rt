@@ -543,12 +543,13 @@ fn check_file(bytes: &[u8]) -> Checked
     ensures { λ r. ⌜ told r ≡ laidOut (now (bytes .entry)) (weightsIn (now (bytes .entry))) (pinsIn (now (bytes .entry)))
         (macrosIn (now (bytes .entry))) ⌝ }
 {
+    let w = weights_in(bytes);
     let n = pin_length(bytes);
     let k = macro_length(bytes);
     let mut pins = [0i32; FILE_NUMBERS];
     let mut macros = [0i32; FILE_NUMBERS];
     take_lists(bytes, &mut pins, &mut macros);
-    check_lists(bytes, weights_in(bytes), &pins[0..n], &macros[0..k])
+    check_lists(bytes, w, &pins[0..n], &macros[0..k])
 }
 
 // Read a file whose head is right, into room for the largest net.
