@@ -99,7 +99,7 @@ module _ (z : ℤ) where
 
 -- C18, of both
 module _ (w : Weighing) where
-  weights-within : weightsWrong w ≡ false → Weighted (weightsOf w)
+  pub weights-within : weightsWrong w ≡ false → Weighted (weightsOf w)
   unfolding weightsWrong
   weights-within e =
       let r = or-none (noWeight (w .first)) (noWeight (w .second)) e in
