@@ -21,8 +21,9 @@ use Rattle.net.proofs.PinLaws.{pin-numbers}
 use Rattle.net.proofs.PassedLaws.{passed-all, pins-counted, macros-counted}
 use Rattle.netfile.specs.Sizes.{blockBytes, firstWeightWord, secondWeightWord, pinListBound, macroListBound, blocksFor, fileBlocks}
 use Rattle.netfile.specs.Layout.{fileBytes}
-use Rattle.netfile.specs.Read.{blocksMiscounted, sumsWrong, headWord, pinLength, macroLength, weightsIn, numbersIn, pinsIn, macrosIn, sameNumbers}
-use Rattle.netfile.specs.Read.{countsWrong, weightsMiswritten, headWrong, Sized, laidOut, roomShort, readFile}
+use Rattle.netfile.specs.Read.{blocksMiscounted, sumsWrong, headWord, pinLength, macroLength, numbersIn, pinsIn, macrosIn}
+use Rattle.netfile.specs.Read.{sameNumbers, weightsIn, countsWrong, weightsMiswritten, headWrong, Sized, laidOut, answerIn}
+use Rattle.netfile.specs.Read.{roomShort, readFile}
 use Rattle.netfile.proofs.ReadLaws.{length-numbers}
 
 -- The lists of a file
@@ -109,7 +110,7 @@ module _ (bytes : List ℕ) (w : Weights) (pins macros : List ℤ) where
   laid-allowed net e = sym (laid-out (laid-same net e)) ∙ e
 
 -- the lists of an accepted file fit where the largest net does
-pub lists-fit : (bytes : List ℕ) (p q : ℕ) (net : Counts) → laidOut bytes (weightsIn bytes) (pinsIn bytes) (macrosIn bytes) ≡ given net
+pub lists-fit : (bytes : List ℕ) (p q : ℕ) (net : Counts) → answerIn bytes ≡ given net
     → roomShort p q ≡ false → (pinLength bytes ≤ p) × (macroLength bytes ≤ q)
 lists-fit bytes p q net e f =
     let a = passed-all _ (pinsIn bytes) (macrosIn bytes) net
@@ -140,7 +141,7 @@ module _ (bytes : List ℕ) (p q : ℕ) where
   refuse-3 r b s e = rw (r, b, s, e) refl
 
   pub read-on : roomShort p q ≡ false → blocksMiscounted bytes ≡ false → sumsWrong bytes ≡ false → headWrong bytes ≡ false
-      → readFile bytes p q ≡ laidOut bytes (weightsIn bytes) (pinsIn bytes) (macrosIn bytes)
+      → readFile bytes p q ≡ answerIn bytes
   unfolding readFile
   read-on r b s e = rw (r, b, s, e) refl
 

@@ -1,4 +1,4 @@
--- The file of two weights and two lists, read: its bytes give back its words, each block's sums are right, and each number stands at its place.
+-- The file of a net, read: its bytes give back its words, each block's sums are right, and each number stands at its place.
 -- Assumes nothing.
 use mathlib.Core.Path.{_≡_, refl, sym, ap, ap₂, _∙_}
 use mathlib.Core.Bool.{false}

@@ -148,24 +148,25 @@ module _ (w : Weighing) (pins macros : List ℤ) (lists : Storable w pins macros
   unfolding pinsIn fileWords
   pins-read =
       ap (numbersIn file 1 0) pin-length-read
-      ∙ list-read file head _ pinKind pinWidth 1 1 (blocksFor (length pins))
-      pins words-read (length-head _ _ weights) (enough (length pins)) (lists .pins-fit)
+      ∙ list-read file head _ pinKind pinWidth 1 1 (blocksFor (length pins)) pins words-read (length-head _ _ weights)
+      (enough (length pins)) (lists .pins-fit)
 
   macros-read : macrosIn file ≡ macros
   unfolding macrosIn fileWords
   macros-read =
       let h = head in
+      let e = length-head (pinCount pins) (macroCount macros) weights in
       let n = blocksFor (length pins) in
       let p = pinBlocks pins in
       let q = macroBlocks pins macros in
-      let w : wordsOf file ≡ (h ++ p) ++ (q ++ []) =
+      let f : wordsOf file ≡ (h ++ p) ++ (q ++ []) =
       words-read ∙ sym (append-assoc h p q) ∙ ap (λ (l : List ℕ). (h ++ p) ++ l) (sym (append-nil q))
       in
       let l : length (h ++ p) ≡ (1 + n) * blockWords =
-      length-append h p ∙ omega (arith, length-head (pinCount pins) (macroCount macros) weights, length-list-blocks pinKind pinWidth 1 n pins)
+      length-append h p ∙ omega (arith, e, length-list-blocks pinKind pinWidth 1 n pins)
       in
       ap₂ (λ (b k : ℕ). numbersIn file (1 + blocksFor b) 0 k) pin-length-read macro-length-read
-      ∙ list-read file (h ++ p) [] macroKind macroWidth (1 + n) (1 + n) (blocksFor (length macros)) macros w l
+      ∙ list-read file (h ++ p) [] macroKind macroWidth (1 + n) (1 + n) (blocksFor (length macros)) macros f l
       (enough (length macros)) (lists .macros-fit)
 
   blocks-right : blocksMiscounted file ≡ false

@@ -2,19 +2,18 @@
 -- refused by 3, and that a read is never refused by 18.
 -- Assumes nothing.
 use mathlib.Core.Path.{_≡_, refl, sym, ap, ap₂, _∙_}
-use mathlib.Core.Bool.{true, false, cond}
+use mathlib.Core.Bool.{false, cond}
 use mathlib.Core.List.{List}
-use mathlib.Core.Logic.{_⊎_, inl, inr}
+use mathlib.Core.Logic.{_⊎_}
 use Prim.Native.Nat.{ℕ, _≤_, _<_}
 use native.Mathlib.Omega.{arith}
-use borrow.Author.Tests.{eqb-true, eqb-false, ne-eqb, lt-ltb, le-ltb}
-use lib.Dec.{eqb, ltb}
+use borrow.Author.Tests.{eqb-true, eqb-false, ne-eqb, le-ltb}
+use lib.Dec.{eqb}
 use lib.IntN.{ℤ}
 use Rattle.lists.proofs.TestLaws.{by, either, or-neither}
 use Rattle.lent.specs.Over.{over}
-use Rattle.lent.specs.Told.{Told, refused, code}
+use Rattle.lent.specs.Told.{refused, code}
 use Rattle.plane.specs.declared.Weights.{Weights}
-use Rattle.net.specs.declared.Net.{Net as Counts}
 use Rattle.net.specs.Bounds.{weightBound}
 use Rattle.net.specs.Allowed.{Weighted}
 use Rattle.net.proofs.HandedLaws.{weighted-passes, one-number, another, not-18}
@@ -23,7 +22,7 @@ use Rattle.netfile.specs.Words.{wordsOf, bytesOfWord, bytesOf, weightWor
 use Rattle.netfile.specs.Sums.{sealed}
 use Rattle.netfile.specs.Layout.{block, headBlock, fileWords, fileBytes}
 use Rattle.netfile.specs.Read.{blocksMiscounted, sumsWrong, headWord, weightsIn, pinsIn, macrosIn, sameNumbers, weightsMiswritten}
-use Rattle.netfile.specs.Read.{headWrong, laidOut, roomShort, readFile}
+use Rattle.netfile.specs.Read.{headWrong, answerIn, roomShort, readFile}
 use Rattle.netfile.proofs.ReadLaws.{same-true}
 use Rattle.netfile.proofs.AnswerLaws.{head-right, weight-words, laid-out, laid-wrong, refuse-3, read-on}
 
@@ -87,16 +86,13 @@ weighted-in bytes e =
 -- Theorems
 
 module _ (bytes : List ℕ) (p q : ℕ) where
-  abbrev laid : Told Counts
-  laid = laidOut bytes (weightsIn bytes) (pinsIn bytes) (macrosIn bytes)
-
-  laid-not-18 : weightsMiswritten bytes ≡ false → code laid ≡ 18 → ⊥
+  laid-not-18 : weightsMiswritten bytes ≡ false → code (answerIn bytes) ≡ 18 → ⊥
   laid-not-18 e =
       by (sameNumbers bytes (fileBytes (weightsIn bytes) (pinsIn bytes) (macrosIn bytes)))
       (λ t. rw (laid-out _ _ _ _ t) (not-18 _ (pinsIn bytes) (macrosIn bytes) (weighted-passes _ (weighted-in bytes e))))
       (λ t. rw (laid-wrong _ _ _ _ t) (one-number 3 18 refl))
 
-  head-not-18 : code (cond (headWrong bytes) (refused 3) laid) ≡ 18 → ⊥
+  head-not-18 : code (cond (headWrong bytes) (refused 3) (answerIn bytes)) ≡ 18 → ⊥
   head-not-18 = by (headWrong bytes) (λ t. rw t (one-number 3 18 refl)) (λ t. rw t (laid-not-18 (head-right bytes t .1)))
 
   number-not-18 : code (readFile bytes p q) ≡ 18 → ⊥
@@ -115,23 +111,30 @@ module _ (bytes : List ℕ) (p q : ℕ) where
 abbrev pub NoWeightWord : ℕ → Type 0
 NoWeightWord n = (n ≡ 1) ⊎ (weightBound < n)
 
+unwritten : (m n : ℕ) → n ≡ weightWord m → n ≤ weightBound → NoWeightWord n → ⊥
+unwritten m n e h = either (λ o. never-one m (sym e ∙ o)) (λ a. omega arith)
+
 module _ (bytes : List ℕ) where
+  abbrev pub WrongWeights : Type 0
+  WrongWeights = NoWeightWord (headWord firstWeightWord bytes) ⊎ NoWeightWord (headWord secondWeightWord bytes)
+
+  abbrev made : List ℕ
+  made = fileBytes (weightsIn bytes) (pinsIn bytes) (macrosIn bytes)
+
   -- past the head's test, such a word is a written 1, and the layout makes none
-  made-otherwise : weightsMiswritten bytes ≡ false
-      → NoWeightWord (headWord firstWeightWord bytes) ⊎ NoWeightWord (headWord secondWeightWord bytes)
-      → sameNumbers bytes (fileBytes (weightsIn bytes) (pinsIn bytes) (macrosIn bytes)) ≡ false
-  made-otherwise e wrong =
-      by (sameNumbers bytes (fileBytes (weightsIn bytes) (pinsIn bytes) (macrosIn bytes))) (λ t.
-      let s = same-true bytes _ t in
+  not-made : weightsMiswritten bytes ≡ false → WrongWeights → bytes ≡ made → ⊥
+  not-made e wrong s =
       let h = weight-words bytes e in
       let v = weighted-in bytes e in
-      absurd (either
-      (either (λ o. never-one _ (sym (ap (headWord firstWeightWord) s ∙ first-word _ _ _ v) ∙ o)) (λ a. omega (arith, h .0)))
-      (either (λ o. never-one _ (sym (ap (headWord secondWeightWord) s ∙ second-word _ _ _ v) ∙ o)) (λ a. omega (arith, h .1))) wrong)) (λ t. t)
+      either (unwritten _ _ (ap (headWord firstWeightWord) s ∙ first-word _ _ _ v) (h .0))
+      (unwritten _ _ (ap (headWord secondWeightWord) s ∙ second-word _ _ _ v) (h .1)) wrong
+
+  made-otherwise : weightsMiswritten bytes ≡ false → WrongWeights → sameNumbers bytes made ≡ false
+  made-otherwise e wrong = by (sameNumbers bytes made) (λ t. absurd (not-made e wrong (same-true bytes made t))) (λ t. t)
 
   -- C3: a written 1 and a word above 8 are refused by 3, where nothing before is wrong
-  pub wrong-weight : (p q : ℕ) → roomShort p q ≡ false → blocksMiscounted bytes ≡ false → sumsWrong bytes ≡ false
-      → NoWeightWord (headWord firstWeightWord bytes) ⊎ NoWeightWord (headWord secondWeightWord bytes) → readFile bytes p q ≡ refused 3
+  pub wrong-weight : (p q : ℕ) → roomShort p q ≡ false → blocksMiscounted bytes ≡ false → sumsWrong bytes ≡ false → WrongWeights
+      → readFile bytes p q ≡ refused 3
   wrong-weight p q r b s wrong =
       by (headWrong bytes) (λ t. refuse-3 bytes p q r b s t)
       (λ t. read-on bytes p q r b s t ∙ laid-wrong _ _ _ _ (made-otherwise (head-right bytes t .1) wrong))

@@ -50,9 +50,9 @@ unfolding over wordOf weightWord total runningSums plainSum sumOfSums sealed blo
 words w net = fileWords w (net .pins) (net .macros)
 
 unfoldable pub readWords : List ℕ → ℕ → ℕ → Told Counts
-unfolding answer over wordsOf bytesOfWord bytesOf wordOf coordinate weightWord weightIn total runningSums plainSum sumOfSums sealed wrongSums block headBlock
-    listBlock blocksFor listBlocks fileWords fileBytes blocksMiscounted blocksOf sumsWrong headWord numberIn numbersIn pinsIn macrosIn
-    sameNumbers countsWrong weightsMiswritten headWrong laidOut roomShort readFile
+unfolding answer over wordsOf bytesOfWord bytesOf wordOf coordinate weightWord weightIn total runningSums plainSum sumOfSums sealed
+    wrongSums block headBlock listBlock blocksFor listBlocks fileWords fileBytes blocksMiscounted blocksOf sumsWrong headWord numberIn
+    numbersIn pinsIn macrosIn sameNumbers countsWrong weightsMiswritten headWrong laidOut roomShort readFile
 readWords ws p q = readFile (bytesOf ws) p q
 
 -- the answer of a read into room for the largest net
@@ -70,6 +70,9 @@ onePinIn kind number count = block kind number count (5 ∷ (5 ∷ []))
 -- the same pin in a file whose head has these two words for its weights
 abbrev onePinWith : ℕ → ℕ → List ℕ
 onePinWith first second = block 1 0 0 (1 ∷ (0 ∷ (first ∷ (second ∷ [])))) ++ onePinIn 2 1 1
+
+abbrev oneAndThree : Weights
+oneAndThree = record { across = 1; along = 3 }
 
 pub record Table : Type 0 where
   -- the net of E3: the three blocks, and a read of them
@@ -91,8 +94,8 @@ pub record Table : Type 0 where
   pub largest-count : readAll (headBlock 4294967295 4294967295 plain ++ onePinIn 2 1 1) ≡ refused 3
   pub no-pin : readAll (headBlock 0 0 plain) ≡ refused 11
   -- the net of E3 with weights 1 and 3: its head, and a read of it
-  pub weights : shown (words (record { across = 1; along = 3 }) aroundOne) 0 ≡ 1 ∷ (0 ∷ (0 ∷ (0 ∷ (2 ∷ (1 ∷ (0 ∷ (3 ∷ (7 ∷ (848 ∷ [])))))))))
-  pub weights-read : readAll (words (record { across = 1; along = 3 }) aroundOne) ≡ given (counted (weighing (pos 1) (pos 3)) 2 1)
+  pub weights : shown (words oneAndThree aroundOne) 0 ≡ 1 ∷ (0 ∷ (0 ∷ (0 ∷ (2 ∷ (1 ∷ (0 ∷ (3 ∷ (7 ∷ (848 ∷ [])))))))))
+  pub weights-read : readAll (words oneAndThree aroundOne) ≡ given (counted (weighing (pos 1) (pos 3)) 2 1)
   -- the words that may stand for a weight, and those that may not
   pub no-weights : readAll (onePinWith 0 0) ≡ given (counted plainly 1 0)
   pub first-weight : readAll (onePinWith 8 0) ≡ given (counted (weighing (pos 8) (pos 1)) 1 0)

@@ -103,6 +103,10 @@ pub record Sized (bytes : List ℕ) (n k : ℕ) : Type 0 where
 unfoldable pub laidOut : List ℕ → Weights → List ℤ → List ℤ → Told Counts
 laidOut bytes w pins macros = cond (sameNumbers bytes (fileBytes w pins macros)) (checked (handed w) pins macros) (refused 3)
 
+-- so for the weights and lists that a file holds
+abbrev pub answerIn : List ℕ → Told Counts
+answerIn bytes = laidOut bytes (weightsIn bytes) (pinsIn bytes) (macrosIn bytes)
+
 -- C71: fewer numbers for pins or for macros than the longest lists have
 unfoldable pub roomShort : ℕ → ℕ → Bool
 roomShort pinRoom macroRoom = ltb pinRoom pinListBound || ltb macroRoom macroListBound
@@ -114,4 +118,4 @@ readFile bytes pinRoom macroRoom =
     (cond (blocksMiscounted bytes) (refused 1)
     (cond (sumsWrong bytes) (refused 2)
     (cond (headWrong bytes) (refused 3)
-    (laidOut bytes (weightsIn bytes) (pinsIn bytes) (macrosIn bytes)))))
+    (answerIn bytes))))

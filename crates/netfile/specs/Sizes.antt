@@ -1,5 +1,5 @@
--- The numbers of the net file: those that the format has of its own (F1 to F12, F17), each named once, and those that follow from them and from
--- the net's bounds.
+-- The numbers of the net file: those that the format has of its own (F1 to F12, F17), each named once, and those that follow from them and
+-- from the net's bounds.
 use Prim.Native.Nat.{ℕ, _+_, _*_, _-_, _/_}
 use Rattle.net.specs.Bounds.{pinBound, macroBound, pinWidth, macroWidth}
 

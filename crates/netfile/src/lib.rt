@@ -21,8 +21,6 @@ ghost use Rattle.netfile.specs.Sizes.{
   blockWords,
   blockBytes,
   summedWords,
-  firstWeightWord,
-  secondWeightWord,
   perBlock,
   blocksFor,
   blockCount,
@@ -51,6 +49,7 @@ ghost use Rattle.netfile.specs.Read.{
   weightsMiswritten,
   headWrong,
   laidOut,
+  answerIn,
   roomShort,
   readFile,
 };
@@ -540,8 +539,7 @@ fn take_lists(bytes: &[u8], pins: &mut [i32], macros: &mut [i32])
 // into tables that no list of a file is too long for.
 fn check_file(bytes: &[u8]) -> Checked
     requires { ⌜ (Sized (now bytes) (pinLength (now bytes)) (macroLength (now bytes))) × (weightsMiswritten (now bytes) ≡ false) ⌝ }
-    ensures { λ r. ⌜ told r ≡ laidOut (now (bytes .entry)) (weightsIn (now (bytes .entry))) (pinsIn (now (bytes .entry)))
-        (macrosIn (now (bytes .entry))) ⌝ }
+    ensures { λ r. ⌜ told r ≡ answerIn (now (bytes .entry)) ⌝ }
 {
     let w = weights_in(bytes);
     let n = pin_length(bytes);
@@ -556,14 +554,11 @@ fn check_file(bytes: &[u8]) -> Checked
 fn read_counted(bytes: &[u8], pins: &mut [i32], macros: &mut [i32]) -> Checked
     requires { ⌜ ((Sized (now bytes) (pinLength (now bytes)) (macroLength (now bytes))) × (weightsMiswritten (now bytes) ≡ false))
         × (roomShort (length (now pins)) (length (now macros)) ≡ false) ⌝ }
-    ensures answer { λ r. ⌜ told r ≡ laidOut (now (bytes .entry)) (weightsIn (now (bytes .entry))) (pinsIn (now (bytes .entry)))
-        (macrosIn (now (bytes .entry))) ⌝ }
+    ensures answer { λ r. ⌜ told r ≡ answerIn (now (bytes .entry)) ⌝ }
     ensures pins { λ _. ⌜ now (pins .exit)
-        ≡ after (laidOut (now (bytes .entry)) (weightsIn (now (bytes .entry))) (pinsIn (now (bytes .entry))) (macrosIn (now (bytes .entry))))
-        (pinsIn (now (bytes .entry))) (now (pins .entry)) ⌝ }
+        ≡ after (answerIn (now (bytes .entry))) (pinsIn (now (bytes .entry))) (now (pins .entry)) ⌝ }
     ensures macros { λ _. ⌜ now (macros .exit)
-        ≡ after (laidOut (now (bytes .entry)) (weightsIn (now (bytes .entry))) (pinsIn (now (bytes .entry))) (macrosIn (now (bytes .entry))))
-        (macrosIn (now (bytes .entry))) (now (macros .entry)) ⌝ }
+        ≡ after (answerIn (now (bytes .entry))) (macrosIn (now (bytes .entry))) (now (macros .entry)) ⌝ }
 {
     let answer = check_file(bytes);
     match answer {
