@@ -15,8 +15,8 @@ use Rattle.plane.specs.declared.Weights.{Weights}
 use Rattle.plane.specs.Place.{samePlace}
 use Rattle.plane.specs.Macro.{interiorsMeet}
 use Rattle.plane.specs.Flat.{macrosOf}
-use Rattle.net.specs.declared.Net.{Net as Counts}
 use Rattle.net.specs.declared.Weighing.{Weighing}
+use Rattle.net.specs.declared.Net.{Net as Counts}
 use Rattle.net.specs.Pins.{pinPlaces}
 use Rattle.net.specs.Net.{weighing, weightsOf, handed}
 use Rattle.net.specs.Check.{countsOf, pinsMiscounted, macrosMiscounted, outOfRange, notUpright, insideAny, noWeight, weightsWrong}
@@ -45,17 +45,21 @@ pub weighted-passes : (w : Weights) → Weighted w → weightsWrong (handed w) �
 unfolding up
 weighted-passes w h = within-weights (handed w) h
 
--- an answer that is given has no number
-pub no-number : {A : Type 0} (a : A) (n : ℕ) → eqb 0 n ≡ false → code (given a) ≡ n → ⊥
-unfolding code
-no-number a n d e = eqb-false 0 n d e
+-- Which number an answer has
 
--- where a test has another number than n and what follows it does not answer n, both together do not
-pub another : {A : Type 0} (t : Bool) (m n : ℕ) (next : Told A) → eqb m n ≡ false → (code next ≡ n → ⊥) → code (cond t (refused m) next) ≡ n
-    → ⊥
+pub no-number : (net : Counts) (n : ℕ) → eqb 0 n ≡ false → code (given net) ≡ n → ⊥
 unfolding code
-another true m n next d f e = eqb-false m n d e
-another false m n next d f e = f e
+no-number net n d e = eqb-false 0 n d e
+
+pub one-number : (m n : ℕ) → eqb m n ≡ false → code {A = Counts} (refused m) ≡ n → ⊥
+unfolding code
+one-number m n d e = eqb-false m n d e
+
+-- where a test has another number than n, and what follows it does not answer n, both together do not
+pub another : (t : Bool) (m n : ℕ) (next : Told Counts) → eqb m n ≡ false → (code next ≡ n → ⊥) → code (cond t (refused m) next) ≡ n
+    → ⊥
+another true m n next d f = one-number m n d
+another false m n next d f = f
 
 -- C18: weights that pass are never what a net is refused for
 pub not-18 : (w : Weighing) (pins macros : List ℤ) → weightsWrong w ≡ false → code (checked w pins macros) ≡ 18 → ⊥

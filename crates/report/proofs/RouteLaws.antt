@@ -103,7 +103,9 @@ front xs lent table n t e = rw (t, e) (take-over xs lent)
 -- an accepted file
 module _ (file : List ℕ) (net : Counts) (given-net : readFile file pinListBound macroListBound ≡ given net) where
   pub lists : checked (handed (net .weights)) (pinsIn file) (macrosIn file) ≡ given net
-  lists = ?
+  lists =
+      let ours = accepted-is-ours file pinListBound macroListBound net given-net in
+      ap (λ (v : Weights). checked (handed v) (pinsIn file) (macrosIn file)) (ours .weights) ∙ ours .lists
 
   pub net-is : net ≡ countsOf (handed (net .weights)) (pinsIn file) (macrosIn file)
   net-is = given-counts (handed (net .weights)) (pinsIn file) (macrosIn file) lists
