@@ -2,7 +2,7 @@
 -- Assumes nothing.
 use mathlib.Core.Path.{_≡_, refl, sym, ap, _∙_}
 use mathlib.Core.Bool.{false}
-use mathlib.Core.List.{List, [], _∷_, _++_}
+use mathlib.Core.List.{List, _++_}
 use Prim.Native.Nat.{ℕ}
 use lib.IntN.{ℤ}
 use Rattle.lent.specs.Over.{over}
@@ -12,18 +12,11 @@ use Rattle.net.specs.Net.{plainly}
 use Rattle.net.specs.Pins.{pinCount, macroCount}
 use Rattle.net.specs.Check.{checked}
 use Rattle.net.proofs.HandedLaws.{weights-handed}
-use Rattle.netfile.specs.Sizes.{headKind}
 use Rattle.netfile.specs.Words.{bytesOf, weightWord}
 use Rattle.netfile.specs.Layout.{block, headBlock, pinBlocks, macroBlocks, fileWords, fileBytes}
 use Rattle.netfile.specs.Read.{roomShort, readFile}
+use Rattle.netfile.specs.FirstRelease.{firstHead, firstFile}
 use Rattle.netfile.proofs.RoundTrip.{Storable, read-laid}
-
--- the head, and the file, as the first release laid them out
-abbrev pub firstHead : ℕ → ℕ → List ℕ
-firstHead m k = block headKind 0 0 (m ∷ (k ∷ []))
-
-abbrev pub firstFile : List ℤ → List ℤ → List ℕ
-firstFile pins macros = bytesOf (firstHead (pinCount pins) (macroCount macros) ++ (pinBlocks pins ++ macroBlocks pins macros))
 
 pub plain-head : (m k : ℕ) → headBlock m k plain ≡ firstHead m k
 unfolding over weightWord block headBlock

@@ -48,9 +48,11 @@
 --            laidOut bytes w pins macros            refusal 3 for anything else, or the answer of the check
 --            answerIn bytes                         so for the weights and lists that a file holds
 --            readFile bytes pinRoom macroRoom       the answer of a read into so many lent numbers
+--   FirstRelease  firstHead m k, firstFile pins macros   the head and the file of the first release, without weights
 pub mod Sizes
 pub mod Words
 pub mod Sums
 pub mod Layout
 pub mod Write
 pub mod Read
+pub mod FirstRelease

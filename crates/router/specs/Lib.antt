@@ -31,3 +31,4 @@ pub mod Price
 pub mod Call
 pub mod Published
 pub mod EveryOrder
+pub mod FirstRelease
