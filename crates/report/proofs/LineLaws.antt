@@ -13,9 +13,8 @@ use Rattle.plane.specs.declared.Weights.{Weights}
 use Rattle.plane.specs.Cost.{cost}
 use Rattle.plane.specs.Flat.{placeFrom, placeAt}
 use Rattle.graph.specs.Numbers.{edgeFrom}
-use Rattle.report.specs.Text.{decimal, whole, line, space, newline, edgeLine, header}
+use Rattle.report.specs.Text.{decimal, whole, line, space, newline, edgeLine, countsText, totalsText}
 use Rattle.report.specs.Text.{pinsWord, macrosWord, terminalWord, refinedWord, metalWord}
-use Rattle.report.specs.declared.Header.{Header}
 use Rattle.report.specs.Put.{Put}
 
 -- a number with the byte behind it, and a place
@@ -29,19 +28,18 @@ pub edge-line : (w : Weights) (a b : Place) → (places a ++ places b) ++ number
 unfolding edgeLine line
 edge-line w a b = simp append-assoc
 
-regrouped : (a b c d e f g h i j k : List ℕ)
-    → (((((a ++ b) ++ (c ++ d)) ++ (e ++ f)) ++ (g ++ h)) ++ (i ++ j)) ++ k
-    ≡ a ++ (b ++ (c ++ (d ++ (e ++ (f ++ (g ++ (h ++ (i ++ (j ++ k)))))))))
-regrouped a b c d e f g h i j k = simp append-assoc
+-- the header's two halves
+pub counts-line : (m k : ℕ) → (pinsWord ++ decimal m) ++ (macrosWord ++ decimal k) ≡ countsText m k
+unfolding countsText
+counts-line m k = append-assoc pinsWord (decimal m) (macrosWord ++ decimal k)
 
-pub header-line : (h : Header)
-    → (((((pinsWord ++ decimal (h .pins)) ++ (macrosWord ++ decimal (h .macros))) ++ (terminalWord ++ whole (h .terminal)))
-    ++ (refinedWord ++ whole (h .refined))) ++ (metalWord ++ whole (h .metal))) ++ (newline ∷ [])
-    ≡ header h
-unfolding header
-header-line h =
-    regrouped pinsWord (decimal (h .pins)) macrosWord (decimal (h .macros)) terminalWord (whole (h .terminal)) refinedWord
-    (whole (h .refined)) metalWord (whole (h .metal)) (newline ∷ [])
+regrouped : (a b c d e f g : List ℕ) → (((a ++ b) ++ (c ++ d)) ++ (e ++ f)) ++ g ≡ a ++ (b ++ (c ++ (d ++ (e ++ (f ++ g)))))
+regrouped a b c d e f g = simp append-assoc
+
+pub totals-line : (t r l : ℤ)
+    → (((terminalWord ++ whole t) ++ (refinedWord ++ whole r)) ++ (metalWord ++ whole l)) ++ (newline ∷ []) ≡ totalsText t r l
+unfolding totalsText
+totals-line t r l = regrouped terminalWord (whole t) refinedWord (whole r) metalWord (whole l) (newline ∷ [])
 
 -- one edge more
 entries-last : (s : List ℤ) (k n : ℕ) → entriesFrom edgeFrom 4 s k n ++ (edgeFrom s (k + n * 4) ∷ []) ≡ entriesFrom edgeFrom 4 s k (suc n)

@@ -45,6 +45,12 @@ same-parts {A} {B} a c b d e =
     let f = same-given {A = A × B} (a, b) (c, d) e in
     (ap (λ (v : A × B). v .0) f, ap (λ (v : A × B). v .1) f)
 
+pub same-three : {A B C : Type 0} {a a′ : A} {b b′ : B} {c c′ : C}
+    → _≡_ {A = Told (A × (B × C))} (given (a, (b, c))) (given (a′, (b′, c′))) → (a ≡ a′) × ((b ≡ b′) × (c ≡ c′))
+same-three {A} {B} {C} {a} {a′} {b} {b′} {c} {c′} e =
+    let f = same-given {A = A × (B × C)} (a, (b, c)) (a′, (b′, c′)) e in
+    (ap (λ (v : A × (B × C)). v .0) f, (ap (λ (v : A × (B × C)). v .1 .0) f, ap (λ (v : A × (B × C)). v .1 .1) f))
+
 -- the counts of an allowed net
 pub record Counted (w : Weighing) (pins macros : List ℤ) : Type 0 where
   pub allowed : checked w pins macros ≡ given (countsOf w pins macros)

@@ -11,12 +11,13 @@ use Rattle.plane.specs.declared.Weights.{Weights}
 use Rattle.plane.specs.Distance.{apart}
 use Rattle.plane.specs.Cost.{cost, plain}
 use Rattle.report.specs.declared.Header.{Header}
-use Rattle.report.specs.Text.{digitsIn, decimal, whole, line, edgeLine, header, treeText, refusedText}
+use Rattle.report.specs.Text.{digitsIn, decimal, whole, line, edgeLine, countsText, totalsText, header, treeText}
+use Rattle.report.specs.Text.{refusedText}
 use Rattle.report.specs.Text.{newline, pinsWord, macrosWord, terminalWord, refinedWord, metalWord, refusedWord}
 
 -- the text of a tree; to unfold this is to unfold all that it rests on
 unfoldable pub shown : Weights → Header → List (Place × Place) → List ℕ
-unfolding flat apart cost digitsIn decimal whole line edgeLine header treeText
+unfolding flat apart cost digitsIn decimal whole line edgeLine countsText totalsText header treeText
 shown w h edges = treeText w h edges
 
 unfoldable pub shownRefused : ℤ → List ℕ

@@ -72,14 +72,16 @@ refusedWord = 114 ∷ (101 ∷ (102 ∷ (117 ∷ (115 ∷ (101 ∷ (100 ∷ (32 
 
 -- The text
 
--- P2: the header, with m, k, the two totals and the metal to lay
+-- P2: the header, with m and k, and then the two totals and the metal to lay
+unfoldable pub countsText : ℕ → ℕ → List ℕ
+countsText m k = pinsWord ++ (decimal m ++ (macrosWord ++ decimal k))
+
+unfoldable pub totalsText : ℤ → ℤ → ℤ → List ℕ
+totalsText terminal refined metal =
+    terminalWord ++ (whole terminal ++ (refinedWord ++ (whole refined ++ (metalWord ++ (whole metal ++ (newline ∷ []))))))
+
 unfoldable pub header : Header → List ℕ
-header h =
-    pinsWord ++ (decimal (h .pins)
-    ++ (macrosWord ++ (decimal (h .macros)
-    ++ (terminalWord ++ (whole (h .terminal)
-    ++ (refinedWord ++ (whole (h .refined)
-    ++ (metalWord ++ (whole (h .metal) ++ (newline ∷ []))))))))))
+header h = countsText (h .pins) (h .macros) ++ totalsText (h .terminal) (h .refined) (h .metal)
 
 -- P3: the header, then a line for each edge in order
 unfoldable pub treeText : Weights → Header → List (Place × Place) → List ℕ

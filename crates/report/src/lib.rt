@@ -19,7 +19,17 @@ ghost use Rattle.net.specs.Check.{checked};
 ghost use Rattle.graph.specs.Numbers.{edgeFrom};
 ghost use Rattle.router.specs.Refined.{laidOf};
 ghost use Rattle.report.specs.Route.{headerOf, treesText, routeText};
-ghost use Rattle.report.specs.Text.{decimal, whole, space, edgeLine, header, treeText, refusedText};
+ghost use Rattle.report.specs.Text.{
+  decimal,
+  whole,
+  space,
+  edgeLine,
+  countsText,
+  totalsText,
+  header,
+  treeText,
+  refusedText,
+};
 ghost use Rattle.report.specs.Put.{Put, Filled};
 
 // What the first line says: m, k, the totals of both trees, and the metal to lay.
@@ -184,17 +194,35 @@ fn put_total(out: &mut [u8], at: usize, word: &[u8], z: i64) -> usize
     put_whole(&mut *out, next, z)
 }
 
+// The header's counts, at the front.
+fn put_counts(out: &mut [u8], m: usize, k: usize) -> usize
+    requires { ⌜ 53 ≤ length (now out) ⌝ }
+    ensures put { λ r. ⌜ Put (now (out .entry)) 0 (countsText m k) (now (out .exit)) r ⌝ }
+    ensures within { λ r. ⌜ r ≤ 53 ⌝ }
+{
+    let next = put_count(&mut *out, 0, b"pins ", m);
+    put_count(&mut *out, next, b" macros ", k)
+}
+
+// Its totals and the metal, and the line's end.
+fn put_totals(out: &mut [u8], at: usize, h: Header) -> usize
+    requires { ⌜ at + 87 ≤ length (now out) ⌝ }
+    ensures put { λ r. ⌜ Put (now (out .entry)) at (totalsText (h .terminal) (h .refined) (h .metal)) (now (out .exit)) r ⌝ }
+    ensures within { λ r. ⌜ r ≤ at + 87 ⌝ }
+{
+    let second = put_total(&mut *out, at, b" terminal ", h.terminal);
+    let third = put_total(&mut *out, second, b" refined ", h.refined);
+    let fourth = put_total(&mut *out, third, b" metal ", h.metal);
+    put_byte(&mut *out, fourth, b'\n')
+}
+
 fn put_header(out: &mut [u8], h: Header) -> usize
     requires { ⌜ 140 ≤ length (now out) ⌝ }
     ensures put { λ r. ⌜ Put (now (out .entry)) 0 (header h) (now (out .exit)) r ⌝ }
     ensures within { λ r. ⌜ r ≤ 140 ⌝ }
 {
-    let first = put_count(&mut *out, 0, b"pins ", h.pins);
-    let second = put_count(&mut *out, first, b" macros ", h.macros);
-    let third = put_total(&mut *out, second, b" terminal ", h.terminal);
-    let fourth = put_total(&mut *out, third, b" refined ", h.refined);
-    let fifth = put_total(&mut *out, fourth, b" metal ", h.metal);
-    put_byte(&mut *out, fifth, b'\n')
+    let next = put_counts(&mut *out, h.pins, h.macros);
+    put_totals(&mut *out, next, h)
 }
 
 // Texts
