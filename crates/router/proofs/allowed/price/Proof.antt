@@ -7,8 +7,7 @@ use denote.Ref.{now}
 use Rattle.net.specs.Net.{handed}
 use Rattle.price.specs.Price.{priced}
 use Rattle.router.specs.Refined.{metalOf}
-use Rattle.router.proofs.RefinedLaws.{answer-metal, metal-asks}
-use Rattle.router.proofs.PriceLaws.{metal-fits}
+use Rattle.router.proofs.RefinedLaws.{total-low, metal-low, answer-total, answer-metal, metal-asks}
 use Rattle.router.proofs.allowed.price.Statement.{statement}
 use Rattle.router.proofs.allowed.price.Tie as tie
 
@@ -28,8 +27,9 @@ metal-is c = let r = c .before .before .before in answer-metal (start r .pre .al
 
 price-requires : tie.Need-price-requires
 price-requires c κs =
-    let s = start (c .before .before .before) in
-    omega (arith, metal-is c, metal-fits (handed (s .args .net .weights)) (now (s .args .pins)) (now (s .args .macros)) (s .pre .allowed))
+    let r = c .before .before .before in
+    let a = start r .pre .allowed in
+    omega (arith, metal-is c, metal-low a, answer-total a (r .refine .ensures), total-low a)
 
 returns : tie.Need-returns
 returns c =
