@@ -1,26 +1,21 @@
--- The price: an allowed net's metal is small enough to be charged; a charge is never by a refused net; and B6 of the published answers.
+-- The price: an allowed net's is what the bands say of its metal; a charge is never by a refused net; and B6 of the published answers.
 -- Assumes nothing.
 use mathlib.Core.Path.{_≡_}
 use mathlib.Core.List.{List}
-use Prim.Native.Nat.{ℕ, _≤_}
-use native.Mathlib.Omega.{arith}
+use Prim.Native.Nat.{ℕ}
 use lib.IntN.{ℤ}
 use Rattle.lent.specs.Told.{Told, refused, given, onlyIf}
 use Rattle.lent.proofs.AfterLaws.{told-apart}
 use Rattle.net.specs.declared.Net.{Net as Counts}
 use Rattle.net.specs.declared.Weighing.{Weighing}
-use Rattle.net.specs.Net.{netOf}
-use Rattle.net.specs.Allowed.{Allowed}
 use Rattle.net.specs.Check.{checked}
 use Rattle.price.specs.Band.{bandsOf}
-use Rattle.price.specs.Charge.{metalBound}
 use Rattle.price.specs.Order.{NeverFalling}
 use Rattle.price.specs.Price.{priced}
 use Rattle.price.proofs.LongerLaws as longer
 use Rattle.router.specs.Refined.{metalOf}
 use Rattle.router.specs.Price.{netPrice, NeverLess, LongerNeverLess}
 use Rattle.router.proofs.AnswerLaws.{only-given}
-use Rattle.router.proofs.RefinedLaws.{total-low, metal-low}
 
 -- an answer that is given is the next one's
 given-past : {A B : Type 0} (t : Told A) (next : Told B) (b : B) → onlyIf t next ≡ given b → next ≡ given b
@@ -29,10 +24,6 @@ given-past (refused n) next b e = told-apart n b e
 given-past (given a) next b e = e
 
 module _ (w : Weighing) (pins macros : List ℤ) where
-  -- with `total-low`: it is charged without overflow
-  pub metal-fits : Allowed (netOf w pins macros) → metalOf w pins macros ≤ metalBound
-  metal-fits a = omega (arith, total-low a, metal-low a)
-
   -- D1b: an allowed net gets what the bands say of its metal
   pub price-allowed : {net : Counts} (bands : List ℕ) → checked w pins macros ≡ given net
       → netPrice w pins macros bands ≡ priced (metalOf w pins macros) bands
