@@ -255,7 +255,10 @@ fn hostile_weights() {
             assert_eq!(seen, [0, 11, 12, 13, 14, 15, 16, 17, 18]);
         }
     }
-    assert!(outside > 10_000 && inside > 10_000, "{outside} and {inside}");
+    assert!(
+        outside > 10_000 && inside > 10_000,
+        "{outside} and {inside}"
+    );
 }
 
 /// Hostile lists are refused with the number their kind names, the least of several.

@@ -69,7 +69,31 @@ fn about_a_dropped_winner(random: &mut Random) -> Lists {
 /// m rounds are done and a further gain is still there: ways that zigzag over many small macros
 /// gain at every bend, and there are few pins to count rounds by.
 pub fn bound_ends(random: &mut Random, weights: Weights) -> Lists {
-    find(random, weights, few_pins_far_apart, |s| s.bound_ended)
+    let drawn = |random: &mut Random| {
+        let lists = few_pins_far_apart(random);
+        match weights {
+            Weights::ONE => lists,
+            _ => roughly_stretched(&lists, random, weights),
+        }
+    };
+    find(random, weights, drawn, |s| s.bound_ended)
+}
+
+/// The net stretched by the weights as above, so that neither axis is far dearer than it was, and
+/// each coordinate then moved on by less than its stretch, so that it is a net of its own. A macro
+/// that would now meet something is left out.
+fn roughly_stretched(lists: &Lists, random: &mut Random, weights: Weights) -> Lists {
+    let mut moved = |c: i32, stretch: i32| c * stretch + random.between(0, stretch - 1);
+    let mut draft = Draft::default();
+    for pin in lists.pins.chunks_exact(2) {
+        draft.pin(moved(pin[0], weights.y), moved(pin[1], weights.x));
+    }
+    for four in lists.macros.chunks_exact(4) {
+        let (left, bottom) = (moved(four[0], weights.y), moved(four[1], weights.x));
+        let (right, top) = (moved(four[2], weights.y), moved(four[3], weights.x));
+        draft.macro_box(left, bottom, right, top);
+    }
+    draft.lists()
 }
 
 fn few_pins_far_apart(random: &mut Random) -> Lists {
