@@ -11,6 +11,13 @@ pub struct Lists {
     pub weights: Weights,
 }
 
+impl Lists {
+    /// Pins, macros and weights, as every operation takes them.
+    pub fn parts(&self) -> (&[i32], &[i32], Weights) {
+        (&self.pins, &self.macros, self.weights)
+    }
+}
+
 /// No pins and no macros, and weights that change no length.
 impl Default for Lists {
     fn default() -> Lists {
