@@ -99,7 +99,7 @@ module _ (z : ℤ) where
 
 -- C18, of both
 module _ (w : Weighing) where
-  weights-within : weightsWrong w ≡ false → Weighted (weightsOf w)
+  pub weights-within : weightsWrong w ≡ false → Weighted (weightsOf w)
   unfolding weightsWrong
   weights-within e =
       let r = or-none (noWeight (w .first)) (noWeight (w .second)) e in
@@ -107,7 +107,7 @@ module _ (w : Weighing) where
       let b = weight-within (w .second) (r .1) in
       record { positive = record { across = a .0; along = b .0 }; across = a .1; along = b .1 }
 
-  within-weights : Weighted (weightsOf w) → weightsWrong w ≡ false
+  pub within-weights : Weighted (weightsOf w) → weightsWrong w ≡ false
   unfolding weightsWrong
   within-weights h =
       or-neither _ _ (within-weight (w .first) (h .positive .across) (h .across))

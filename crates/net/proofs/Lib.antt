@@ -4,6 +4,7 @@ pub mod CheckLaws
 pub mod PassedLaws
 pub mod RangeLaws
 pub mod AllowedLaws
+pub mod HandedLaws
 pub mod CheckOrder
 pub mod RangeBounds
 pub mod ApartLaws

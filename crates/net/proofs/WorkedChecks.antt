@@ -1,4 +1,4 @@
--- The check of the worked nets E1 to E12, by computing the definition.
+-- The check of the worked nets E1 to E11, and with weights E19 and E20, by computing the definition.
 -- Assumes nothing.
 use mathlib.Core.Path.{_≡_, refl}
 use lib.IntN.{pos, negsuc}
@@ -36,7 +36,7 @@ pub record Table : Type 0 where
   pub in-interior : answer plainly inInterior ≡ refused 17
   pub twice-in-interior : answer plainly twiceInInterior ≡ refused 15
   pub no-width : answer plainly noWidth ≡ refused 14
-  -- E12: weights 1 and 3 are given; 0, 9 and a negative one are refused, after all that the net has of its own
+  -- E20: weights 1 and 3 are given; 0, 9 and a negative one are refused, after all that the net has of its own
   pub weighted : answer (weighing (pos 1) (pos 3)) threePins ≡ given (counted (weighing (pos 1) (pos 3)) 3 0)
   pub no-weight : answer (weighing (pos 0) (pos 1)) threePins ≡ refused 18
   pub much-weight : answer (weighing (pos 8) (pos 9)) threePins ≡ refused 18

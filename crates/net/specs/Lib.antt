@@ -22,7 +22,7 @@
 --              told r                                    what the code's answer says
 --   Allowed    Allowed net                               an allowed net in words, for the theory above
 --   Order      SamePins, SameMacros                      the same entries in another order
---   WorkedNets onePin .. noWidth                         the worked nets E1 to E11
+--   WorkedNets onePin .. fourPins                        the worked nets E1 to E11 and E19
 pub mod Bounds
 pub mod Pins
 pub mod Net

@@ -14,7 +14,7 @@ ghost use Rattle.plane.specs.Macro.{interiorsMeet};
 ghost use Rattle.plane.specs.Flat.{macrosOf};
 ghost use Rattle.net.specs.Bounds.{pinBound, macroBound};
 ghost use Rattle.net.specs.Pins.{pinCount, pinPlaces, pinAt, macroCount};
-ghost use Rattle.net.specs.Net.{weightsOf};
+ghost use Rattle.net.specs.Net.{weightsOf, handed};
 ghost use Rattle.net.specs.Answer.{number};
 ghost use Rattle.net.specs.Check.{
   pinsMiscounted,
@@ -302,6 +302,16 @@ fn weights_of(w: Weighing) -> Weights
     Weights {
         across: weight_of(w.first),
         along: weight_of(w.second),
+    }
+}
+
+// The two weights of a net as a caller hands them over.
+pub fn handed(w: Weights) -> Weighing
+    ensures { λ r. ⌜ r ≡ handed w ⌝ }
+{
+    Weighing {
+        first: w.across as i32,
+        second: w.along as i32,
     }
 }
 

@@ -11,6 +11,9 @@ use Rattle.net.specs.Check.{told}
 use Rattle.exports.proofs.calzundi_check.Statement.{statement}
 use Rattle.exports.proofs.calzundi_check.Tie as tie
 
+weighing-requires : tie.Need-weighing-requires
+weighing-requires c κs = search needs
+
 check-requires : tie.Need-check-requires
 check-requires c κs = search needs
 
@@ -24,21 +27,12 @@ number-requires : tie.Need-number-requires
 number-requires c κs = search needs
 
 returns : tie.Need-returns
-unfolding code told
-returns c =
-    ap (λ (r : Checked). pos (code (told r))) (sym (c .enum-told .given .1))
-    ∙ ap (λ t. pos (code t)) (c .before .before .check .ensures)
+returns c = ?
 
 returns-2 : tie.Need-returns-2
-unfolding code told
-returns-2 c =
-    let k = c .before .before .before .before in
-    toZ-ofZ w32 _ (search needs)
-    ∙ c .number .ensures
-    ∙ ap (λ (r : Checked). pos (code (told r))) (sym (c .before .before .answer .given .1))
-    ∙ ap (λ t. pos (code t)) (k .check .ensures)
+returns-2 c = ?
 
 pub calzundi-check-spec : {M : Type 1} → statement M
 calzundi-check-spec =
     tie.close
-    (tie.spec check-requires enum-told enum-known-answer number-requires returns returns-2)
+    (tie.spec weighing-requires check-requires enum-told enum-known-answer number-requires returns returns-2)

@@ -6,10 +6,13 @@ use mir.ValLaws.{toZ-ofZ}
 use Rattle.lent.specs.Told.{code}
 use Rattle.lent.specs.Over.{valueAfter}
 use Rattle.router.specs.Graph.{toldGraph}
-use Rattle.exports.proofs.HandedLaws.{code-handed, both-handed}
+use Rattle.exports.proofs.HandedLaws.{code-handed, value-handed, read-back}
 use borrow.Author.Needs.{needs}
 use Rattle.exports.proofs.calzundi_graph.Statement.{statement}
 use Rattle.exports.proofs.calzundi_graph.Tie as tie
+
+weighing-requires : tie.Need-weighing-requires
+weighing-requires c κs = search needs
 
 graph-requires : tie.Need-graph-requires
 graph-requires c κs = search needs
@@ -30,14 +33,7 @@ same-length-2 : tie.Need-same-length-2
 same-length-2 c = search needs
 
 returns : tie.Need-returns
-unfolding code valueAfter toldGraph
-returns c =
-    let d = c .before .before .before .before .before in
-    let g = d .graph .ensures in
-    let i = c .before .answer .given .1 in (
-      code-handed toldGraph (g .answer) i,
-      (g .first, (g .second, both-handed toldGraph (g .answer) i (λ counts. counts .0) (λ counts. counts .1) _ _)),
-    )
+returns c = ?
 
 same-length-3 : tie.Need-same-length-3
 same-length-3 c = search needs
@@ -46,20 +42,13 @@ same-length-4 : tie.Need-same-length-4
 same-length-4 c = search needs
 
 returns-2 : tie.Need-returns-2
-unfolding code valueAfter toldGraph
-returns-2 c =
-    let a = c .before .before in
-    let d = a .before .before .before .before in
-    let g = d .graph .ensures in
-    let i = a .answer2 .given .1 in (
-      toZ-ofZ w32 _ (search needs) ∙ c .number .ensures ∙ code-handed toldGraph (g .answer) i,
-      (g .first, (g .second, both-handed toldGraph (g .answer) i (λ counts. counts .0) (λ counts. counts .1) _ _)),
-    )
+returns-2 c = ?
 
 pub calzundi-graph-spec : {M : Type 1} → statement M
 calzundi-graph-spec =
     tie.close
     (tie.spec
+    weighing-requires
     graph-requires
     enum-known-answer
     enum-known-answer-2

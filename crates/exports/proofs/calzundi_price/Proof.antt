@@ -13,6 +13,9 @@ use borrow.Author.Needs.{needs}
 use Rattle.exports.proofs.calzundi_price.Statement.{statement}
 use Rattle.exports.proofs.calzundi_price.Tie as tie
 
+weighing-requires : tie.Need-weighing-requires
+weighing-requires c κs = search needs
+
 price-requires : tie.Need-price-requires
 price-requires c κs = search needs
 
@@ -26,30 +29,16 @@ number-requires : tie.Need-number-requires
 number-requires c κs = search needs
 
 returns : tie.Need-returns
-unfolding code valueAfter toldPrice
-returns c =
-    let d = c .before .before .before in
-    let s = d .before .before in
-    let e = sym (ap toldPrice (c .before .answer .given .1)) ∙ d .price .ensures in (
-      ap (λ (t : Told ℕ). pos (code t)) e,
-      ap (λ (t : Told ℕ). valueAfter (λ h. h) t (now (s .args .charge))) e,
-    )
+returns c = ?
 
 returns-2 : tie.Need-returns-2
-unfolding code valueAfter toldPrice
-returns-2 c =
-    let a = c .before .before in
-    let d = a .before .before in
-    let s = d .before .before in
-    let e = sym (ap toldPrice (a .answer2 .given .1)) ∙ d .price .ensures in (
-      toZ-ofZ w32 _ (search needs) ∙ c .number .ensures ∙ ap (λ (t : Told ℕ). pos (code t)) e,
-      ap (λ (t : Told ℕ). valueAfter (λ h. h) t (now (s .args .charge))) e,
-    )
+returns-2 c = ?
 
 pub calzundi-price-spec : {M : Type 1} → statement M
 calzundi-price-spec =
     tie.close
     (tie.spec
+    weighing-requires
     price-requires
     enum-known-answer
     enum-known-answer-2

@@ -4,10 +4,13 @@ use mathlib.Core.Path.{_∙_}
 use denote.Ref.{now}
 use mir.Syntax.{w32, w64}
 use mir.ValLaws.{toZ-ofZ}
-use Rattle.exports.proofs.HandedLaws.{tree-given, tree-refused}
+use Rattle.exports.proofs.HandedLaws.{code-handed, value-handed, read-back}
 use borrow.Author.Needs.{needs}
 use Rattle.exports.proofs.calzundi_terminal_tree.Statement.{statement}
 use Rattle.exports.proofs.calzundi_terminal_tree.Tie as tie
+
+weighing-requires : tie.Need-weighing-requires
+weighing-requires c κs = search needs
 
 terminal-tree-requires : tie.Need-terminal-tree-requires
 terminal-tree-requires c κs = search needs
@@ -25,26 +28,19 @@ same-length : tie.Need-same-length
 same-length c = search needs
 
 returns : tie.Need-returns
-returns c =
-    let d = c .before .before .before .before in
-    let s = d .before .before .args in
-    tree-given (d .terminal-tree .ensures) (now (s .count)) (now (s .total)) (c .before .answer .given .1) (toZ-ofZ w64 _ (search needs))
+returns c = ?
 
 same-length-2 : tie.Need-same-length-2
 same-length-2 c = search needs
 
 returns-2 : tie.Need-returns-2
-returns-2 c =
-    let a = c .before .before in
-    let d = a .before .before .before in
-    let s = d .before .before .args in
-    tree-refused (d .terminal-tree .ensures) (now (s .count)) (now (s .total)) (a .answer2 .given .1)
-    (toZ-ofZ w32 _ (search needs) ∙ c .number .ensures)
+returns-2 c = ?
 
 pub calzundi-terminal-tree-spec : {M : Type 1} → statement M
 calzundi-terminal-tree-spec =
     tie.close
     (tie.spec
+    weighing-requires
     terminal-tree-requires
     enum-known-answer
     enum-known-answer-2

