@@ -40,10 +40,10 @@ fn weighing(x: i32, y: i32) -> Weighing
 
 // 0 for an allowed net, or the number of the refusal.
 #[no_mangle]
-pub extern "C" fn calzundi_check(pins: &[i32], macros: &[i32], weight_x: i32, weight_y: i32) -> i32
-    ensures { λ r. ⌜ r ≡ pos (code (checked (weighing weight_x weight_y) (now (pins .entry)) (now (macros .entry)))) ⌝ }
+pub extern "C" fn calzundi_check(pins: &[i32], macros: &[i32], x: i32, y: i32) -> i32
+    ensures { λ r. ⌜ r ≡ pos (code (checked (weighing x y) (now (pins .entry)) (now (macros .entry)))) ⌝ }
 {
-    let weights = weighing(weight_x, weight_y);
+    let weights = weighing(x, y);
     let answer = router::check(weights, pins, macros);
     match answer {
         Checked::Allowed(_) => 0,
@@ -56,22 +56,22 @@ pub extern "C" fn calzundi_check(pins: &[i32], macros: &[i32], weight_x: i32, we
 pub extern "C" fn calzundi_graph(
     pins: &[i32],
     macros: &[i32],
-    weight_x: i32,
-    weight_y: i32,
+    x: i32,
+    y: i32,
     vertices: &mut [i32],
     edges: &mut [i32],
     v: &mut usize,
     e: &mut usize,
 ) -> i32
     ensures { λ r. ⌜ GraphHanded
-        (graphed (weighing weight_x weight_y) (now (pins .entry)) (now (macros .entry)) (length (now (vertices .entry)))
+        (graphed (weighing x y) (now (pins .entry)) (now (macros .entry)) (length (now (vertices .entry)))
         (length (now (edges .entry))))
-        (flat placeNumbers (netVertices (weighing weight_x weight_y) (now (pins .entry)) (now (macros .entry))))
-        (flat edgeNumbers (netEdges (weighing weight_x weight_y) (now (pins .entry)) (now (macros .entry))))
+        (flat placeNumbers (netVertices (weighing x y) (now (pins .entry)) (now (macros .entry))))
+        (flat edgeNumbers (netEdges (weighing x y) (now (pins .entry)) (now (macros .entry))))
         (now (vertices .entry)) (now (edges .entry)) (now (v .entry)) (now (e .entry)) r
         (now (vertices .exit)) (now (edges .exit)) (now (v .exit)) (now (e .exit)) ⌝ }
 {
-    let weights = weighing(weight_x, weight_y);
+    let weights = weighing(x, y);
     let answer = router::graph(weights, pins, macros, &mut *vertices, &mut *edges);
     match answer {
         Graphed::Given(vertex_count, edge_count) => {
@@ -88,19 +88,19 @@ pub extern "C" fn calzundi_graph(
 pub extern "C" fn calzundi_terminal_tree(
     pins: &[i32],
     macros: &[i32],
-    weight_x: i32,
-    weight_y: i32,
+    x: i32,
+    y: i32,
     paths: &mut [i64],
     count: &mut usize,
     total: &mut i64,
 ) -> i32
     ensures { λ r. ⌜ PathsHanded
-        (terminalTree (weighing weight_x weight_y) (now (pins .entry)) (now (macros .entry)) (length (now (paths .entry))))
-        (flat pathNumbers (pathsOf (weighing weight_x weight_y) (now (pins .entry)) (now (macros .entry))))
+        (terminalTree (weighing x y) (now (pins .entry)) (now (macros .entry)) (length (now (paths .entry))))
+        (flat pathNumbers (pathsOf (weighing x y) (now (pins .entry)) (now (macros .entry))))
         (now (paths .entry)) (now (count .entry)) (now (total .entry)) r
         (now (paths .exit)) (now (count .exit)) (now (total .exit)) ⌝ }
 {
-    let weights = weighing(weight_x, weight_y);
+    let weights = weighing(x, y);
     let answer = router::terminal_tree(weights, pins, macros, &mut *paths);
     match answer {
         TerminalAnswer::Given(given, sum) => {
@@ -117,20 +117,20 @@ pub extern "C" fn calzundi_terminal_tree(
 pub extern "C" fn calzundi_refined_tree(
     pins: &[i32],
     macros: &[i32],
-    weight_x: i32,
-    weight_y: i32,
+    x: i32,
+    y: i32,
     edges: &mut [i32],
     count: &mut usize,
     total: &mut i64,
     metal: &mut i64,
 ) -> i32
     ensures { λ r. ⌜ TreeHanded
-        (refinedTree (weighing weight_x weight_y) (now (pins .entry)) (now (macros .entry)) (length (now (edges .entry))))
-        (flat edgeNumbers (laidOf (weighing weight_x weight_y) (now (pins .entry)) (now (macros .entry))))
+        (refinedTree (weighing x y) (now (pins .entry)) (now (macros .entry)) (length (now (edges .entry))))
+        (flat edgeNumbers (laidOf (weighing x y) (now (pins .entry)) (now (macros .entry))))
         (now (edges .entry)) (now (count .entry)) (now (total .entry)) (now (metal .entry)) r
         (now (edges .exit)) (now (count .exit)) (now (total .exit)) (now (metal .exit)) ⌝ }
 {
-    let weights = weighing(weight_x, weight_y);
+    let weights = weighing(x, y);
     let answer = router::refined_tree(weights, pins, macros, &mut *edges);
     match answer {
         TreeAnswer::Given(given, cost, length) => {
@@ -148,17 +148,17 @@ pub extern "C" fn calzundi_refined_tree(
 pub extern "C" fn calzundi_wires(
     pins: &[i32],
     macros: &[i32],
-    weight_x: i32,
-    weight_y: i32,
+    x: i32,
+    y: i32,
     wires: &mut [i32],
     count: &mut usize,
 ) -> i32
     ensures { λ r. ⌜ ListHanded
-        (wired (weighing weight_x weight_y) (now (pins .entry)) (now (macros .entry)) (length (now (wires .entry))))
-        (flat edgeNumbers (wiresOf (weighing weight_x weight_y) (now (pins .entry)) (now (macros .entry))))
+        (wired (weighing x y) (now (pins .entry)) (now (macros .entry)) (length (now (wires .entry))))
+        (flat edgeNumbers (wiresOf (weighing x y) (now (pins .entry)) (now (macros .entry))))
         (now (wires .entry)) (now (count .entry)) r (now (wires .exit)) (now (count .exit)) ⌝ }
 {
-    let weights = weighing(weight_x, weight_y);
+    let weights = weighing(x, y);
     let answer = router::wires(weights, pins, macros, &mut *wires);
     match answer {
         Wired::Given(given) => {
@@ -174,16 +174,16 @@ pub extern "C" fn calzundi_wires(
 pub extern "C" fn calzundi_price(
     pins: &[i32],
     macros: &[i32],
-    weight_x: i32,
-    weight_y: i32,
+    x: i32,
+    y: i32,
     bands: &[u64],
     charge: &mut u64,
 ) -> i32
     ensures { λ r. ⌜ ChargeHanded
-        (netPrice (weighing weight_x weight_y) (now (pins .entry)) (now (macros .entry)) (now (bands .entry)))
+        (netPrice (weighing x y) (now (pins .entry)) (now (macros .entry)) (now (bands .entry)))
         (now (charge .entry)) r (now (charge .exit)) ⌝ }
 {
-    let weights = weighing(weight_x, weight_y);
+    let weights = weighing(x, y);
     let answer = router::price(weights, pins, macros, bands);
     match answer {
         Priced::Charged(hundredths) => {
@@ -199,17 +199,17 @@ pub extern "C" fn calzundi_price(
 pub extern "C" fn calzundi_write_file(
     pins: &[i32],
     macros: &[i32],
-    weight_x: i32,
-    weight_y: i32,
+    x: i32,
+    y: i32,
     bytes: &mut [u8],
     given: &mut usize,
 ) -> i32
     ensures { λ r. ⌜ ListHanded
-        (written (weighing weight_x weight_y) (now (pins .entry)) (now (macros .entry)) (length (now (bytes .entry))))
-        (fileBytes (weightsOf (weighing weight_x weight_y)) (now (pins .entry)) (now (macros .entry)))
+        (written (weighing x y) (now (pins .entry)) (now (macros .entry)) (length (now (bytes .entry))))
+        (fileBytes (weightsOf (weighing x y)) (now (pins .entry)) (now (macros .entry)))
         (now (bytes .entry)) (now (given .entry)) r (now (bytes .exit)) (now (given .exit)) ⌝ }
 {
-    let weights = weighing(weight_x, weight_y);
+    let weights = weighing(x, y);
     let answer = router::write_file(weights, pins, macros, &mut *bytes);
     match answer {
         Written::Bytes(n) => {
@@ -228,15 +228,15 @@ pub extern "C" fn calzundi_read_file(
     macros: &mut [i32],
     m: &mut usize,
     k: &mut usize,
-    weight_x: &mut i32,
-    weight_y: &mut i32,
+    x: &mut i32,
+    y: &mut i32,
 ) -> i32
     ensures { λ r. ⌜ NetHanded
         (readFile (now (bytes .entry)) (length (now (pins .entry))) (length (now (macros .entry))))
         (pinsIn (now (bytes .entry))) (macrosIn (now (bytes .entry))) (now (pins .entry)) (now (macros .entry))
-        (record { m = now (m .entry); k = now (k .entry); x = now (weight_x .entry); y = now (weight_y .entry) }) r
+        (record { m = now (m .entry); k = now (k .entry); x = now (x .entry); y = now (y .entry) }) r
         (now (pins .exit)) (now (macros .exit))
-        (record { m = now (m .exit); k = now (k .exit); x = now (weight_x .exit); y = now (weight_y .exit) }) ⌝ }
+        (record { m = now (m .exit); k = now (k .exit); x = now (x .exit); y = now (y .exit) }) ⌝ }
 {
     let answer = router::read_file(bytes, &mut *pins, &mut *macros);
     match answer {
@@ -244,8 +244,10 @@ pub extern "C" fn calzundi_read_file(
             *m = net.pins;
             *k = net.macros;
             let weights = net::handed(net.weights);
-            *weight_x = weights.first;
-            *weight_y = weights.second;
+            let first = weights.first;
+            let second = weights.second;
+            *x = first;
+            *y = second;
             0
         }
         Checked::Refused(refusal) => refusal.number(),

@@ -120,7 +120,7 @@ unfolding routeText answerText
 route-refused file n e = rw e refl
 
 -- texts of the same numbers
-pub same-text : (w : Weights) {m k : ℕ} {t t′ r r′ l l′ : ℤ} {es es′ : List (Place × Place)} → t ≡ t′ → r ≡ r′ → l ≡ l′ → es ≡ es′
+pub same-text : (w : Weights) (m k : ℕ) {t t′ r r′ l l′ : ℤ} {es es′ : List (Place × Place)} → t ≡ t′ → r ≡ r′ → l ≡ l′ → es ≡ es′
     → treeText w (record { pins = m; macros = k; terminal = t; refined = r; metal = l }) es
     ≡ treeText w (record { pins = m; macros = k; terminal = t′; refined = r′; metal = l′ }) es′
-same-text w a b c d = cc
+same-text w m k a b c d = cc
