@@ -16,6 +16,8 @@ pub mod bare {
             pins_len: usize,
             macros: *const i32,
             macros_len: usize,
+            weight_x: i32,
+            weight_y: i32,
         ) -> i32;
 
         pub fn calzundi_graph(
@@ -23,6 +25,8 @@ pub mod bare {
             pins_len: usize,
             macros: *const i32,
             macros_len: usize,
+            weight_x: i32,
+            weight_y: i32,
             vertices: *mut i32,
             vertices_len: usize,
             edges: *mut i32,
@@ -36,6 +40,8 @@ pub mod bare {
             pins_len: usize,
             macros: *const i32,
             macros_len: usize,
+            weight_x: i32,
+            weight_y: i32,
             paths: *mut i64,
             paths_len: usize,
             count: *mut usize,
@@ -47,10 +53,13 @@ pub mod bare {
             pins_len: usize,
             macros: *const i32,
             macros_len: usize,
+            weight_x: i32,
+            weight_y: i32,
             edges: *mut i32,
             edges_len: usize,
             count: *mut usize,
             total: *mut Length,
+            metal: *mut Length,
         ) -> i32;
 
         pub fn calzundi_wires(
@@ -58,6 +67,8 @@ pub mod bare {
             pins_len: usize,
             macros: *const i32,
             macros_len: usize,
+            weight_x: i32,
+            weight_y: i32,
             wires: *mut i32,
             wires_len: usize,
             count: *mut usize,
@@ -68,6 +79,8 @@ pub mod bare {
             pins_len: usize,
             macros: *const i32,
             macros_len: usize,
+            weight_x: i32,
+            weight_y: i32,
             bands: *const u64,
             bands_len: usize,
             charge: *mut u64,
@@ -78,6 +91,8 @@ pub mod bare {
             pins_len: usize,
             macros: *const i32,
             macros_len: usize,
+            weight_x: i32,
+            weight_y: i32,
             bytes: *mut u8,
             bytes_len: usize,
             given: *mut usize,
@@ -92,6 +107,8 @@ pub mod bare {
             macros_len: usize,
             m: *mut usize,
             k: *mut usize,
+            weight_x: *mut i32,
+            weight_y: *mut i32,
         ) -> i32;
     }
 }
@@ -104,19 +121,7 @@ pub struct Lists<'a> {
     pub weights: Weights,
 }
 
-/// Two lists with the weights 1 and 1.
-impl<'a> From<(&'a [i32], &'a [i32])> for Lists<'a> {
-    fn from((pins, macros): (&'a [i32], &'a [i32])) -> Lists<'a> {
-        let weights = Weights::default();
-        Lists {
-            pins,
-            macros,
-            weights,
-        }
-    }
-}
-
-/// What stands in a count, a total or a charge before a call. A refusal leaves it, which is looked at where debug assertions are on.
+/// What stands in a count, a total, the metal, a charge or a weight before a call. A refusal leaves it, which is looked at where debug assertions are on.
 const UNTOUCHED: u64 = 0x5eed_5eed;
 
 /// 0 is success; else the number of the refusal, with every number that goes through a pointer as it was.
@@ -126,7 +131,7 @@ fn answer<A>(code: i32, numbers: &[u64], given: A) -> Result<A, Refusal> {
     }
     debug_assert!(
         numbers.iter().all(|&number| number == UNTOUCHED),
-        "refusal {code} touched a count, a total or the charge"
+        "refusal {code} touched a number that goes through a pointer"
     );
     Err(Refusal::from_number(code)
         .unwrap_or_else(|| panic!("the library answered {code}, which this crate does not know")))
@@ -134,10 +139,22 @@ fn answer<A>(code: i32, numbers: &[u64], given: A) -> Result<A, Refusal> {
 
 /// Check a net.
 pub fn check(lists: Lists) -> Result<(), Refusal> {
-    let Lists { pins, macros, .. } = lists;
+    let Lists {
+        pins,
+        macros,
+        weights,
+    } = lists;
     // SAFETY: the library reads the two slices and keeps neither.
-    let code =
-        unsafe { bare::calzundi_check(pins.as_ptr(), pins.len(), macros.as_ptr(), macros.len()) };
+    let code = unsafe {
+        bare::calzundi_check(
+            pins.as_ptr(),
+            pins.len(),
+            macros.as_ptr(),
+            macros.len(),
+            weights.x,
+            weights.y,
+        )
+    };
     answer(code, &[], ())
 }
 
@@ -147,7 +164,11 @@ pub fn graph(
     vertices: &mut [i32],
     edges: &mut [i32],
 ) -> Result<(usize, usize), Refusal> {
-    let Lists { pins, macros, .. } = lists;
+    let Lists {
+        pins,
+        macros,
+        weights,
+    } = lists;
     let (mut v, mut e) = (UNTOUCHED as usize, UNTOUCHED as usize);
     // SAFETY: the slices do not overlap, since two of them are borrowed mutably, and the library keeps none.
     let code = unsafe {
@@ -156,6 +177,8 @@ pub fn graph(
             pins.len(),
             macros.as_ptr(),
             macros.len(),
+            weights.x,
+            weights.y,
             vertices.as_mut_ptr(),
             vertices.len(),
             edges.as_mut_ptr(),
@@ -169,7 +192,11 @@ pub fn graph(
 
 /// Terminal tree: how many paths were given, and their total.
 pub fn terminal_tree(lists: Lists, paths: &mut [i64]) -> Result<(usize, i64), Refusal> {
-    let Lists { pins, macros, .. } = lists;
+    let Lists {
+        pins,
+        macros,
+        weights,
+    } = lists;
     let (mut count, mut total) = (UNTOUCHED as usize, UNTOUCHED as i64);
     // SAFETY: as for `graph`.
     let code = unsafe {
@@ -178,6 +205,8 @@ pub fn terminal_tree(lists: Lists, paths: &mut [i64]) -> Result<(usize, i64), Re
             pins.len(),
             macros.as_ptr(),
             macros.len(),
+            weights.x,
+            weights.y,
             paths.as_mut_ptr(),
             paths.len(),
             &mut count,
@@ -187,10 +216,23 @@ pub fn terminal_tree(lists: Lists, paths: &mut [i64]) -> Result<(usize, i64), Re
     answer(code, &[count as u64, total as u64], (count, total))
 }
 
-/// Refined tree: how many edges were given, and their total.
-pub fn refined_tree(lists: Lists, edges: &mut [i32]) -> Result<(usize, i64), Refusal> {
-    let Lists { pins, macros, .. } = lists;
-    let (mut count, mut total) = (UNTOUCHED as usize, UNTOUCHED as i64);
+/// What a refined tree gives: how many edges, their total, and the metal to lay.
+#[derive(Clone, Copy, Debug, PartialEq, Eq)]
+pub struct Refined {
+    pub edges: usize,
+    pub total: i64,
+    pub metal: i64,
+}
+
+/// Refined tree.
+pub fn refined_tree(lists: Lists, edges: &mut [i32]) -> Result<Refined, Refusal> {
+    let Lists {
+        pins,
+        macros,
+        weights,
+    } = lists;
+    let mut count = UNTOUCHED as usize;
+    let (mut total, mut metal) = (UNTOUCHED as i64, UNTOUCHED as i64);
     // SAFETY: as for `graph`.
     let code = unsafe {
         bare::calzundi_refined_tree(
@@ -198,18 +240,30 @@ pub fn refined_tree(lists: Lists, edges: &mut [i32]) -> Result<(usize, i64), Ref
             pins.len(),
             macros.as_ptr(),
             macros.len(),
+            weights.x,
+            weights.y,
             edges.as_mut_ptr(),
             edges.len(),
             &mut count,
             &mut total,
+            &mut metal,
         )
     };
-    answer(code, &[count as u64, total as u64], (count, total))
+    let given = Refined {
+        edges: count,
+        total,
+        metal,
+    };
+    answer(code, &[count as u64, total as u64, metal as u64], given)
 }
 
 /// Wires: how many were given.
 pub fn wires(lists: Lists, wires: &mut [i32]) -> Result<usize, Refusal> {
-    let Lists { pins, macros, .. } = lists;
+    let Lists {
+        pins,
+        macros,
+        weights,
+    } = lists;
     let mut count = UNTOUCHED as usize;
     // SAFETY: as for `graph`.
     let code = unsafe {
@@ -218,6 +272,8 @@ pub fn wires(lists: Lists, wires: &mut [i32]) -> Result<usize, Refusal> {
             pins.len(),
             macros.as_ptr(),
             macros.len(),
+            weights.x,
+            weights.y,
             wires.as_mut_ptr(),
             wires.len(),
             &mut count,
@@ -228,7 +284,11 @@ pub fn wires(lists: Lists, wires: &mut [i32]) -> Result<usize, Refusal> {
 
 /// Price: the charge, in hundredths of the currency. A band is two numbers, its limit and its rate.
 pub fn price(lists: Lists, bands: &[u64]) -> Result<u64, Refusal> {
-    let Lists { pins, macros, .. } = lists;
+    let Lists {
+        pins,
+        macros,
+        weights,
+    } = lists;
     let mut charge = UNTOUCHED;
     // SAFETY: the library reads the three slices and keeps none.
     let code = unsafe {
@@ -237,6 +297,8 @@ pub fn price(lists: Lists, bands: &[u64]) -> Result<u64, Refusal> {
             pins.len(),
             macros.as_ptr(),
             macros.len(),
+            weights.x,
+            weights.y,
             bands.as_ptr(),
             bands.len(),
             &mut charge,
@@ -247,7 +309,11 @@ pub fn price(lists: Lists, bands: &[u64]) -> Result<u64, Refusal> {
 
 /// Write a net file: how many bytes were given.
 pub fn write_file(lists: Lists, bytes: &mut [u8]) -> Result<usize, Refusal> {
-    let Lists { pins, macros, .. } = lists;
+    let Lists {
+        pins,
+        macros,
+        weights,
+    } = lists;
     let mut given = UNTOUCHED as usize;
     // SAFETY: as for `graph`.
     let code = unsafe {
@@ -256,6 +322,8 @@ pub fn write_file(lists: Lists, bytes: &mut [u8]) -> Result<usize, Refusal> {
             pins.len(),
             macros.as_ptr(),
             macros.len(),
+            weights.x,
+            weights.y,
             bytes.as_mut_ptr(),
             bytes.len(),
             &mut given,
@@ -275,6 +343,7 @@ pub struct Read {
 /// Read a net file.
 pub fn read_file(bytes: &[u8], pins: &mut [i32], macros: &mut [i32]) -> Result<Read, Refusal> {
     let (mut m, mut k) = (UNTOUCHED as usize, UNTOUCHED as usize);
+    let (mut x, mut y) = (UNTOUCHED as i32, UNTOUCHED as i32);
     // SAFETY: as for `graph`.
     let code = unsafe {
         bare::calzundi_read_file(
@@ -286,12 +355,14 @@ pub fn read_file(bytes: &[u8], pins: &mut [i32], macros: &mut [i32]) -> Result<R
             macros.len(),
             &mut m,
             &mut k,
+            &mut x,
+            &mut y,
         )
     };
     let read = Read {
         pins: m,
         macros: k,
-        weights: Weights::default(),
+        weights: Weights { x, y },
     };
-    answer(code, &[m as u64, k as u64], read)
+    answer(code, &[m as u64, k as u64, x as u64, y as u64], read)
 }

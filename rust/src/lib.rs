@@ -295,7 +295,7 @@ impl Net {
         }
     }
 
-    /// Whether the net is allowed: 11 to 17, each for the whole net before the next.
+    /// Whether the net is allowed: 11 to 18, each for the whole net before the next.
     pub fn check(&self) -> Result<(), Refusal> {
         lent::check(self.flat().lists())
     }
@@ -330,11 +330,11 @@ impl Net {
     /// The refined tree, with the metal to lay.
     pub fn refined_tree(&self) -> Result<RefinedTree, Refusal> {
         let mut numbers = vec![0; 4 * self.tree_points()];
-        let (count, total) = lent::refined_tree(self.flat().lists(), &mut numbers)?;
+        let given = lent::refined_tree(self.flat().lists(), &mut numbers)?;
         Ok(RefinedTree {
-            edges: edges_of(&numbers[..4 * count]),
-            total,
-            metal: total,
+            edges: edges_of(&numbers[..4 * given.edges]),
+            total: given.total,
+            metal: given.metal,
         })
     }
 

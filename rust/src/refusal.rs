@@ -27,6 +27,8 @@ pub enum Refusal {
     MacrosOverlap,
     /// 17: a pin is in a macro's interior; on its boundary is allowed.
     PinInInterior,
+    /// 18: a weight is not from 1 to 8.
+    Weights,
     /// 21: too little space is lent. The calls of [`crate::Net`] lend enough, so they never say it.
     Space,
     /// 31: the list of bands is odd or empty, or a rate in it is above 1,000,000.
@@ -48,6 +50,7 @@ impl Refusal {
         Refusal::PinTwice,
         Refusal::MacrosOverlap,
         Refusal::PinInInterior,
+        Refusal::Weights,
         Refusal::Space,
         Refusal::Bands,
         Refusal::Reach,
@@ -75,6 +78,7 @@ impl Refusal {
             Refusal::PinTwice => (15, "two pins are at one place"),
             Refusal::MacrosOverlap => (16, "two macros' interiors meet"),
             Refusal::PinInInterior => (17, "a pin is in a macro's interior"),
+            Refusal::Weights => (18, "a weight is not from 1 to 8"),
             Refusal::Space => (21, "too little space was lent"),
             Refusal::Bands => (
                 31,

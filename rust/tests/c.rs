@@ -68,6 +68,7 @@ fn header_and_crate_say_the_same() {
         ("CALZUNDI_PINS", calzundi::PINS),
         ("CALZUNDI_MACROS", calzundi::MACROS),
         ("CALZUNDI_COORDINATE", calzundi::COORDINATE as usize),
+        ("CALZUNDI_WEIGHT", calzundi::WEIGHT as usize),
         ("CALZUNDI_RATE", calzundi::RATE as usize),
         ("CALZUNDI_BLOCK_BYTES", calzundi::BLOCK_BYTES),
         ("CALZUNDI_LONGEST_FILE", calzundi::LONGEST_FILE),
@@ -102,7 +103,7 @@ fn the_example_with_a_file_and_wires() {
         };
         wires.iter().map(line).collect()
     };
-    let own = Net::new([(0, 0), (10, 0)], [(4, -2, 6, 3)]);
+    let own = Net::new([(0, 0), (10, 0)], [(4, -2, 6, 3)]).with_weights(1, 3);
     assert_eq!(printed(&mut Command::new(&program)), lines(&own));
     let file = root().join("examples/files/eight-pins.net");
     let net = Net::from_file(&fs::read(&file).unwrap()).unwrap();

@@ -1,6 +1,6 @@
 //! Which entries a refusal is about. The number is the proved router's; what is to blame is found here, and for 13 to 18 all of it.
 
-use calzundi::{Macro, Net, Pin, Refusal, COORDINATE, MACROS, PINS, WEIGHT};
+use calzundi::{Macro, Net, Pin, Refusal, Weights, COORDINATE, MACROS, PINS, WEIGHT};
 
 use crate::text::{sides, Lines};
 
@@ -44,12 +44,13 @@ impl Blame {
 }
 
 /// The refusals of a net whose lists have a right count, in the order of their tests.
-const BY_ENTRY: [Refusal; 5] = [
+const BY_ENTRY: [Refusal; 6] = [
     Refusal::OutOfRange,
     Refusal::FlatMacro,
     Refusal::PinTwice,
     Refusal::MacrosOverlap,
     Refusal::PinInInterior,
+    Refusal::Weights,
 ];
 
 /// What is to blame for a net's refusal.
@@ -116,6 +117,7 @@ impl Entries<'_> {
             Refusal::PinTwice => self.twice(),
             Refusal::MacrosOverlap => self.overlapping(),
             Refusal::PinInInterior => self.inside(),
+            Refusal::Weights => self.weights(),
             _ => Vec::new(),
         }
     }
@@ -184,6 +186,17 @@ impl Entries<'_> {
         found
     }
 
+    fn weights(&self) -> Vec<String> {
+        let Weights { x, y } = self.net.weights;
+        let line = self.lines.and_then(|lines| lines.weights);
+        let line = line.map_or(String::new(), |line| format!("line {line}, "));
+        let outside = [("x", x), ("y", y)].into_iter();
+        outside
+            .filter(|(_, weight)| !(1..=WEIGHT).contains(weight))
+            .map(|(axis, weight)| format!("{line}weights {x} {y}: that of {axis} is {weight}"))
+            .collect()
+    }
+
     fn inside(&self) -> Vec<String> {
         let mut found = Vec::new();
         for (at, pin) in self.net.pins.iter().enumerate() {
@@ -211,6 +224,3 @@ fn interiors_meet(one: &Macro, other: &Macro) -> bool {
     one.left.max(other.left) < one.right.min(other.right)
         && one.bottom.max(other.bottom) < one.top.min(other.top)
 }
-
-/// A weight may be 1 to 8.
-pub const WEIGHTS: std::ops::RangeInclusive<i32> = 1..=WEIGHT;

@@ -1,7 +1,7 @@
 //! What is wrong with the bytes of a net file, block by block. That something is the proved reader says; this only finds where.
 
 use calzundi::{Macro, Net, Pin, Refusal, Weights};
-use calzundi::{BLOCK_BYTES, LONGEST_FILE, MACROS_A_BLOCK, PINS_A_BLOCK};
+use calzundi::{BLOCK_BYTES, LONGEST_FILE, MACROS_A_BLOCK, PINS_A_BLOCK, WEIGHT};
 
 use crate::blame::Blame;
 
@@ -102,7 +102,7 @@ fn wrong_layout(blocks: &[Vec<u32>]) -> Option<String> {
     }
     let (x, y) = (head[6], head[7]);
     Some(format!(
-        "block 0: words 6 and 7, the weights, are {x} and {y}"
+        "block 0: words 6 and 7, the weights, are {x} and {y}; each is 2 to {WEIGHT}, or 0, which stands for 1"
     ))
 }
 
@@ -114,7 +114,11 @@ pub fn net_in(bytes: &[u8]) -> Net {
         let entries = words[FIRST_ENTRY..SUMS].iter().map(|&word| word as i32);
         let entries: Vec<i32> = entries.collect();
         match words[0] {
-            HEAD => net.weights = Weights::default(),
+            HEAD => {
+                let weight = |word: u32| if word == 0 { 1 } else { word as i32 };
+                let (x, y) = (weight(words[6]), weight(words[7]));
+                net.weights = Weights { x, y };
+            }
             PINS => {
                 let pins = entries.chunks_exact(2).take(count);
                 net.pins.extend(pins.map(|pin| Pin::new(pin[0], pin[1])));

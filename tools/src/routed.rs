@@ -31,7 +31,8 @@ impl Routed {
     pub fn header(&self) -> String {
         let Routed { pins, macros, .. } = self;
         let (terminal, refined) = (self.terminal.total, self.refined.total);
-        format!("pins {pins} macros {macros} terminal {terminal} refined {refined}")
+        let metal = self.refined.metal;
+        format!("pins {pins} macros {macros} terminal {terminal} refined {refined} metal {metal}")
     }
 
     /// All that the program `route` prints.

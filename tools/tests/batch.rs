@@ -7,7 +7,7 @@ use std::path::PathBuf;
 
 use calzundi::Net;
 use common::{folder, printed, run, said, word};
-use reference::generate::{hostile, net, Hostile, Kind};
+use reference::generate::{hostile, weighted as net, Hostile, Kind};
 use reference::lists::Lists;
 use reference::text::print;
 use tools::routed::Routed;
@@ -41,6 +41,15 @@ fn words<'a>(options: &[&'a str], files: &'a [PathBuf]) -> Vec<&'a str> {
         .collect()
 }
 
+/// So many seeds of a kind, and one of those that take long to make or to route.
+fn seeds(kind: Kind, usual: u64) -> u64 {
+    use Kind::{BoundEnds, DroppedWins, Largest, LargestMaze, Pruned};
+    match kind {
+        BoundEnds | DroppedWins | Largest | LargestMaze | Pruned => 1,
+        _ => usual,
+    }
+}
+
 /// A line for each net in their order, whatever the threads; those that are not routed say why.
 #[test]
 fn a_line_for_each_net() {
@@ -53,7 +62,7 @@ fn a_line_for_each_net() {
     assert_eq!(lines.len(), 1 + files.len());
     assert_eq!(
         lines[0],
-        "net,pins,macros,terminal,refined,metal,wires,fingerprint,refused,reason"
+        "net,pins,macros,weight x,weight y,terminal,refined,metal,wires,fingerprint,refused,reason"
     );
     for (line, file) in lines[1..].iter().zip(&files).take(40) {
         let read = fs::read(file).unwrap();
@@ -66,7 +75,11 @@ fn a_line_for_each_net() {
             routed.refined.metal,
         );
         let wires = net.wires().unwrap().len();
-        let expected = format!("{},{m},{k},{t},{r},{metal},{wires},", file.display());
+        let (x, y) = (net.weights.x, net.weights.y);
+        let expected = format!(
+            "{},{m},{k},{x},{y},{t},{r},{metal},{wires},",
+            file.display()
+        );
         assert!(
             line.starts_with(&expected) && line.ends_with(",,"),
             "{line}"
@@ -74,11 +87,15 @@ fn a_line_for_each_net() {
     }
     assert!(lines[41].contains(",16,\"refused 16: two macros' interiors meet: line "));
     assert!(
-        lines[42].contains("a, \"\"b\"\".txt\",,,,,,,,,\"line 2: 'pan' is neither"),
+        lines[42].contains("a, \"\"b\"\".txt\",,,,,,,,,,,\"line 2: 'pan' is neither"),
         "{}",
         lines[42]
     );
-    assert!(lines[43].contains(",,,,,,,,,No such file"), "{}", lines[43]);
+    assert!(
+        lines[43].contains(",,,,,,,,,,,No such file"),
+        "{}",
+        lines[43]
+    );
     for jobs in ["1", "7"] {
         let again = run(&words(&["--jobs", jobs], &files), b"");
         assert_eq!(String::from_utf8(again.stdout).unwrap(), text);
@@ -122,7 +139,7 @@ fn lists_and_progress() {
     fs::write(&net, "pin 0 0\npin 4 0\npin 2 3\n").unwrap();
     fs::write(&list, format!("{0}\n{0}\n", net.display())).unwrap();
     let line = format!(
-        "{}: pins 3 macros 0 terminal 9 refined 7 metal 7 wires 3 fingerprint 314d-ed04-9810-bef2\n",
+        "{}: pins 3 macros 0 weights 1 1 terminal 9 refined 7 metal 7 wires 3 fingerprint 314d-ed04-9810-bef2\n",
         net.display()
     );
     let text = printed(&["batch", "--quiet", "--list", word(&list)], b"");
@@ -142,14 +159,14 @@ fn lists_and_progress() {
 #[test]
 fn wires_add_up_to_the_tree() {
     for &kind in Kind::ALL {
-        for seed in 0..if kind == Kind::BoundEnds { 1 } else { 6 } {
+        for seed in 0..seeds(kind, 6) {
             let lists = net(kind, seed);
             let pins = lists.pins.chunks_exact(2).map(|p| (p[0], p[1]));
             let macros = lists
                 .macros
                 .chunks_exact(4)
                 .map(|m| (m[0], m[1], m[2], m[3]));
-            let net = Net::new(pins, macros);
+            let net = Net::new(pins, macros).with_weights(lists.weights.x, lists.weights.y);
             let (tree, wires) = (net.refined_tree().unwrap(), net.wires().unwrap());
             let metal: i64 = wires.iter().map(|wire| wire.length()).sum();
             let cost: i64 = wires.iter().map(|wire| wire.cost(net.weights)).sum();

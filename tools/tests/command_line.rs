@@ -6,7 +6,7 @@ use std::fs;
 
 use calzundi::{Net, Refusal};
 use common::{example, folder, printed, root, run, said, word, written, COMMANDS};
-use reference::generate::{damaged, net, Damage, Kind};
+use reference::generate::{damaged_weighted as damaged, weighted as net, Damage, Kind};
 use reference::lists::Lists;
 use reference::route::route;
 use tools::routed::{wires_text, Routed};
@@ -20,14 +20,23 @@ fn made(lists: &Lists) -> Net {
         .macros
         .chunks_exact(4)
         .map(|m| (m[0], m[1], m[2], m[3]));
-    Net::new(pins, macros)
+    Net::new(pins, macros).with_weights(lists.weights.x, lists.weights.y)
+}
+
+/// So many seeds of a kind, and one of those that take long to make or to route.
+fn seeds(kind: Kind, usual: u64) -> u64 {
+    use Kind::{BoundEnds, DroppedWins, Largest, LargestMaze, Pruned};
+    match kind {
+        BoundEnds | DroppedWins | Largest | LargestMaze | Pruned => 1,
+        _ => usual,
+    }
 }
 
 /// Text to net to text, and net to file to net, for nets of every kind; the second program reads the same texts alike.
 #[test]
 fn round_trips() {
     for &kind in Kind::ALL {
-        for seed in 0..if kind == Kind::BoundEnds { 2 } else { 10 } {
+        for seed in 0..seeds(kind, 10) {
             let lists = net(kind, seed);
             let net = made(&lists);
             let said = text::print(&net);
@@ -51,7 +60,7 @@ fn round_trips() {
 #[test]
 fn route_prints_what_the_program_prints() {
     for &kind in Kind::ALL {
-        for seed in 0..if kind == Kind::BoundEnds { 1 } else { 8 } {
+        for seed in 0..seeds(kind, 8) {
             let net = made(&net(kind, seed));
             let expected = route(&net.to_file().unwrap());
             assert_eq!(
@@ -100,6 +109,7 @@ fn route_as_wires_and_as_json() {
         "\"terminal\": 9,",
         "\"refined\": 7,",
         "\"metal\": 7,",
+        "\"weights\": [1, 1],",
         "\"fingerprint\": \"314d-ed04-9810-bef2\",",
         "\"macros\": [],",
         "{\"from\": [2, 0], \"to\": [2, 3], \"length\": 3, \"cost\": 3}",
@@ -228,6 +238,60 @@ fn check_takes_several() {
     let wrong = String::from_utf8(output.stderr).unwrap();
     assert!(wrong.starts_with("calzundi check: no/such: "), "{wrong}");
     printed(&["check", word(&three), word(&three)], b"");
+}
+
+/// A line of weights: at most one, told by `check`, kept by `pack` and `unpack`, left out where both are 1, and refused by 18 with its line.
+#[test]
+fn weights_of_a_net() {
+    let three = "pin 0 0\npin 4 0\npin 2 3\n";
+    let weighed = format!("weights 1 3\n{three}");
+    let answer = printed(&["route", "-"], weighed.as_bytes());
+    let net = Net::new([(0, 0), (4, 0), (2, 3)], []).with_weights(1, 3);
+    assert_eq!(answer, route(&net.to_file().unwrap()));
+    assert!(
+        answer.starts_with("pins 3 macros 0 terminal 15 refined 13 metal 7\n"),
+        "{answer}"
+    );
+    assert!(answer.contains("\n2 0 2 3 9\n"), "{answer}");
+    let bytes = written(&["pack", "-"], weighed.as_bytes());
+    assert_eq!(printed(&["unpack", "-"], &bytes), weighed);
+    let ones = format!("{three}weights 1 1\n");
+    assert_eq!(printed(&["unpack", "-"], ones.as_bytes()), three);
+    let said = printed(&["check", "-"], weighed.as_bytes());
+    assert_eq!(
+        said,
+        "standard input: allowed, pins 3 macros 0 weights 1 3\n"
+    );
+    let output = run(&["check", "-"], format!("{three}weights 0 9\n").as_bytes());
+    assert_eq!(
+        String::from_utf8(output.stdout).unwrap(),
+        "standard input: refused 18: a weight is not from 1 to 8\n  \
+         line 4, weights 0 9: that of x is 0\n  line 4, weights 0 9: that of y is 9\n"
+    );
+    let object = printed(&["route", "--json", "-"], weighed.as_bytes());
+    let edge = "{\"from\": [2, 0], \"to\": [2, 3], \"length\": 3, \"cost\": 9}";
+    assert!(
+        object.contains("\"weights\": [1, 3],") && object.contains(edge),
+        "{object}"
+    );
+    // A written 1 is refused as 3; it is told apart from other words of the head.
+    let mut block: Vec<u32> = vec![0; 128];
+    (block[0], block[4], block[6]) = (1, 3, 1);
+    let mut sums = (0u32, 0u32);
+    for word in &block[..126] {
+        sums.0 = sums.0.wrapping_add(*word);
+        sums.1 = sums.1.wrapping_add(sums.0);
+    }
+    (block[126], block[127]) = sums;
+    let head: Vec<u8> = block.iter().flat_map(|word| word.to_le_bytes()).collect();
+    let file = [&head, &bytes[512..]].concat();
+    let output = run(&["check", "-"], &file);
+    let text = String::from_utf8(output.stdout).unwrap();
+    assert!(text.contains("refused 3: "), "{text}");
+    assert!(
+        text.contains("words 6 and 7, the weights, are 1 and 0"),
+        "{text}"
+    );
 }
 
 #[test]

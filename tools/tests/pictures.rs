@@ -7,7 +7,7 @@ use std::fs;
 
 use calzundi::Net;
 use common::{example, folder, printed, root, word};
-use reference::generate::{net, Kind};
+use reference::generate::{weighted as net, Kind};
 use reference::lists::Lists;
 use tools::commands::{html, svg};
 use tools::picture::Subject;
@@ -18,7 +18,16 @@ fn made(lists: &Lists) -> Net {
         .macros
         .chunks_exact(4)
         .map(|m| (m[0], m[1], m[2], m[3]));
-    Net::new(pins, macros)
+    Net::new(pins, macros).with_weights(lists.weights.x, lists.weights.y)
+}
+
+/// So many seeds of a kind, and one of those that take long to make or to route.
+fn seeds(kind: Kind, usual: u64) -> u64 {
+    use Kind::{BoundEnds, DroppedWins, Largest, LargestMaze, Pruned};
+    match kind {
+        BoundEnds | DroppedWins | Largest | LargestMaze | Pruned => 1,
+        _ => usual,
+    }
 }
 
 /// Stored beside the documents; `calzundi draw` made them.
@@ -142,8 +151,7 @@ fn seen(net: &Net, name: &str) {
 #[test]
 fn nothing_is_missing_or_cut_off() {
     for &kind in Kind::ALL {
-        let slow = matches!(kind, Kind::BoundEnds | Kind::Largest | Kind::LargestMaze);
-        for seed in 0..if slow { 2 } else { 10 } {
+        for seed in 0..seeds(kind, 10) {
             seen(&made(&net(kind, seed)), &format!("{} {seed}", kind.name()));
         }
     }
@@ -176,15 +184,16 @@ fn what_could_not_be_seen() {
 #[test]
 fn terminal_paths_are_the_routers() {
     for &kind in Kind::ALL {
-        for seed in 0..if kind == Kind::BoundEnds { 1 } else { 12 } {
+        for seed in 0..seeds(kind, 12) {
             let lists = net(kind, seed);
             let subject = Subject::of(&made(&lists)).unwrap();
-            let checked = reference::net::check(&lists.pins, &lists.macros).unwrap();
+            let checked = reference::net::check(&lists.pins, &lists.macros, lists.weights).unwrap();
             let tree = reference::terminal::terminal(&checked);
             assert_eq!(subject.paths.len(), tree.paths.len());
             for (ours, theirs) in subject.paths.iter().zip(&tree.paths) {
-                let cost: i64 = ours.iter().map(|edge| edge.length()).sum();
-                assert_eq!(cost, theirs.length, "{} {seed}", kind.name());
+                let weights = subject.net.weights;
+                let cost: i64 = ours.iter().map(|edge| edge.cost(weights)).sum();
+                assert_eq!(cost, theirs.cost, "{} {seed}", kind.name());
                 let mut places: Vec<(i64, i64)> = Vec::new();
                 for edge in ours {
                     for end in [edge.first, edge.second] {

@@ -8,7 +8,7 @@ use std::sync::mpsc;
 use std::thread;
 use std::time::{Duration, Instant};
 
-use calzundi::{Net, Refusal, Wire};
+use calzundi::{Net, Refusal, Weights, Wire};
 
 use crate::fingerprint::fingerprint;
 use crate::line::plain;
@@ -23,7 +23,7 @@ calzundi batch NET..: routes many nets and prints a line for each
 A NET is text or a net file. Lines come in the order of the nets, whatever the threads, one for each net, also where it is refused or cannot
 be read:
 
-    NET: pins m macros k terminal T refined R metal M wires W fingerprint F
+    NET: pins m macros k weights x y terminal T refined R metal M wires W fingerprint F
     NET: refused 16: two macros' interiors meet: line 3, macro 1 (0 0 2 2) and line 4, macro 2 (1 1 3 3)
 
     --csv         the same as comma-separated values, with a line of names first
@@ -81,6 +81,7 @@ struct Row {
 struct Totals {
     pins: usize,
     macros: usize,
+    weights: Weights,
     terminal: i64,
     refined: i64,
     metal: i64,
@@ -101,6 +102,7 @@ impl Totals {
         Ok(Totals {
             pins: net.pins.len(),
             macros: net.macros.len(),
+            weights: net.weights,
             terminal,
             refined: wires.iter().map(|wire| wire.cost(net.weights)).sum(),
             metal: wires.iter().map(Wire::length).sum(),
@@ -141,13 +143,14 @@ impl Row {
             Ok(Totals {
                 pins,
                 macros,
+                weights: Weights { x, y },
                 terminal,
                 refined,
                 metal,
                 wires,
                 fingerprint,
             }) => format!(
-                "{net}: pins {pins} macros {macros} terminal {terminal} refined {refined} metal {metal} wires {wires} fingerprint {fingerprint}\n"
+                "{net}: pins {pins} macros {macros} weights {x} {y} terminal {terminal} refined {refined} metal {metal} wires {wires} fingerprint {fingerprint}\n"
             ),
             Err(wrong) => format!("{net}: {}\n", wrong.reason),
         }
@@ -158,14 +161,15 @@ impl Row {
         match &self.answer {
             Ok(totals) => {
                 let (m, k) = (totals.pins as i64, totals.macros as i64);
-                let numbers = [m, k, totals.terminal, totals.refined, totals.metal];
+                let (x, y) = (totals.weights.x.into(), totals.weights.y.into());
+                let numbers = [m, k, x, y, totals.terminal, totals.refined, totals.metal];
                 fields.extend(numbers.map(|number| number.to_string()));
                 fields.push(totals.wires.to_string());
                 fields.push(totals.fingerprint.clone());
                 fields.extend([String::new(), String::new()]);
             }
             Err(wrong) => {
-                fields.extend((0..7).map(|_| String::new()));
+                fields.extend((0..9).map(|_| String::new()));
                 fields.push(wrong.refused.map_or(String::new(), |n| n.to_string()));
                 fields.push(field(&wrong.reason));
             }
@@ -174,7 +178,8 @@ impl Row {
     }
 }
 
-const NAMES: &str = "net,pins,macros,terminal,refined,metal,wires,fingerprint,refused,reason\n";
+const NAMES: &str =
+    "net,pins,macros,weight x,weight y,terminal,refined,metal,wires,fingerprint,refused,reason\n";
 
 /// A field of comma-separated values, in quotes where it needs them.
 fn field(text: &str) -> String {

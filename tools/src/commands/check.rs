@@ -1,5 +1,7 @@
 //! `check`: whether nets are allowed, and if not, all that is to blame.
 
+use calzundi::Weights;
+
 use crate::program::{Command, Failure, Words};
 use crate::source::{open, Source};
 use crate::streams::{say, write};
@@ -7,9 +9,9 @@ use crate::streams::{say, write};
 const HELP: &str = "\
 calzundi check NET..: says whether nets are allowed
 
-A NET is text or a net file; for - it is standard input. For each one a line is printed, `NET: allowed, pins m macros k`, or the number of
-the refusal and, below it, every entry that is to blame, with its line where the net is text. The refusals that would come next stand
-below, so that all can be mended at once.
+A NET is text or a net file; for - it is standard input. For each one a line is printed, `NET: allowed, pins m macros k`, with the
+weights where they are not both 1, or the number of the refusal and, below it, every entry that is to blame, with its line where the net
+is text. The refusals that would come next stand below, so that all can be mended at once.
 
     calzundi check net.txt
 
@@ -51,7 +53,12 @@ fn said(source: &Source) -> String {
     match &source.verdict {
         Ok(()) => {
             let (m, k) = (source.net.pins.len(), source.net.macros.len());
-            format!("{name}: allowed, pins {m} macros {k}\n")
+            let Weights { x, y } = source.net.weights;
+            let weights = match source.net.weights == Weights::default() {
+                true => String::new(),
+                false => format!(" weights {x} {y}"),
+            };
+            format!("{name}: allowed, pins {m} macros {k}{weights}\n")
         }
         Err(refused) => format!("{name}: {}\n", refused.blame.lines().join("\n")),
     }

@@ -9,7 +9,8 @@ const HELP: &str = "\
 calzundi route NET: prints the trees of a net
 
 NET is text or a net file; for - it is standard input. Printed is what the program `route` prints: `pins m macros k`, the totals of the
-terminal and of the refined tree, then a line for each edge of the refined tree, its two places and its length.
+terminal and of the refined tree, the metal to lay, then a line for each edge of the refined tree, its two places and its cost. A cost is
+the length, weighed by axis where the net has weights; metal is always plain length.
 
     --wires    the wires instead, in the order in which they are drawn: a line for each, its start and its end
     --json     everything as one JSON object: totals, fingerprint, pins, macros, bridges, edges and wires

@@ -9,7 +9,7 @@ const HELP: &str = "\
 calzundi unpack NET [TEXT]: writes a net as text
 
 NET is a net file or text; for - it is standard input. The text has one entry a line, `pin x y` or `macro left bottom right top`, in the
-order of the net. Without TEXT, or for -, it goes to standard output.
+order of the net, and a line `weights x y` where they are not both 1. Without TEXT, or for -, it goes to standard output.
 
     calzundi unpack net.net net.txt
 
