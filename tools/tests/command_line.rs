@@ -120,7 +120,7 @@ fn bad_lines_are_numbered() {
         ),
         (
             b"pin 0 0\npan 1 1\n",
-            "line 2: 'pan' is neither 'pin' nor 'macro'",
+            "line 2: 'pan' is neither 'pin' nor 'macro' nor 'weights'",
         ),
         (
             b"macro 0 0 1 1 1\n",
@@ -235,13 +235,13 @@ fn draw_reads_what_route_prints() {
         ),
         (
             String::new(),
-            "line 1: the header is not 'pins M macros K terminal T refined R' or 'refused N'",
+            "line 1: the header is not 'pins M macros K terminal T refined R metal L' or 'refused N'",
         ),
         ("refused x\n".into(), "line 1: 'x' is no refusal's number"),
         ("refused 11\n11\n".into(), "line 2: a refusal is one line"),
         (
             right.replace("pins 3", "pins three"),
-            "line 1: the header is not 'pins M macros K terminal T refined R' or 'refused N'",
+            "line 1: the header is not 'pins M macros K terminal T refined R metal L' or 'refused N'",
         ),
         (
             right.replace("pins 3", "pins 4"),
@@ -249,15 +249,19 @@ fn draw_reads_what_route_prints() {
         ),
         (
             right.replace("refined 7", "refined 6"),
-            "line 1: refined is 6, and the edges' lengths add up to 7",
+            "line 1: refined is 6, and the edges' costs add up to 7",
+        ),
+        (
+            right.replace("metal 7", "metal 8"),
+            "line 1: metal is 8, and the edges' lengths add up to 7",
         ),
         (
             right.replace("0 0 2 0 2", "0 0 2 0"),
-            "line 2: an edge is five whole numbers, x1 y1 x2 y2 length",
+            "line 2: an edge is five whole numbers, x1 y1 x2 y2 cost",
         ),
         (
             right.replace("2 0 2 3 3", "2 0 2 3 4"),
-            "line 3: the length is 3 and not 4",
+            "line 3: the cost is 3 and not 4",
         ),
         (
             right.replace("2 0 4 0 2", "4 0 2 0 2"),
@@ -276,6 +280,24 @@ fn draw_reads_what_route_prints() {
         let expected = format!("draw: {}: {wrong}\n", printed.display());
         assert_eq!(said(DRAW, &[word(&file), word(&printed)], b"", 1), expected);
     }
+}
+
+/// Weights go from text to file and back; 1 and 1 leave no line, and others are in the file.
+#[test]
+fn weights_go_both_ways() {
+    let plain = b"pin 0 0\npin 4 0\npin 2 3\n".to_vec();
+    let weighed = [b"weights 1 3\n", &plain[..]].concat();
+    let ones = [&plain[..], b"weights 1 1\n"].concat();
+    let file = written(PACK, &[], &weighed);
+    assert_eq!(written(UNPACK, &[], &file), weighed);
+    assert_eq!(written(PACK, &[], &ones), written(PACK, &[], &plain));
+    assert_eq!(written(UNPACK, &[], &written(PACK, &[], &ones)), plain);
+    let nine = [&plain[..], b"weights 9 1\n"].concat();
+    let told = said(PACK, &[], &nine, 1);
+    assert!(
+        told.contains("refused 18: a weight is not from 1 to 8"),
+        "{told}"
+    );
 }
 
 /// `price` says the charge of a net by a list of bands, either one from standard input.

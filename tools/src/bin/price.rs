@@ -12,7 +12,7 @@ use tools::refusal::told;
 const HELP: &str = "\
 price NET BANDS: says what a bureau charges for the metal of a net
 
-NET is a net written as text, as pack takes it: one entry a line, `pin x y` or `macro left bottom right top`. BANDS has one band a line,
+NET is a net written as text, as pack takes it: one entry a line, `pin x y`, `macro left bottom right top` or, at most once, `weights x y`. BANDS has one band a line,
 `limit rate`: the most metal that the band reaches, and its rate in hundredths of the currency per 1,000 units of metal. In both, blank
 lines are allowed, and # makes the rest of its line a comment. One of them may be -, standard input.
 
@@ -37,10 +37,11 @@ fn price(words: &[OsString]) -> Result<(), Failure> {
     let lists =
         text::parse_bytes(&read(net, usize::MAX)?).map_err(|bad| wrong(net, bad.to_string()))?;
     let bands = parse(&read(list, usize::MAX)?).map_err(|bad| wrong(list, bad.to_string()))?;
-    let charge = library::price(&lists.pins, &lists.macros, &bands).map_err(|number| {
-        let of_list = number == 31 || number == 32;
-        wrong(if of_list { list } else { net }, told(number))
-    })?;
+    let charge =
+        library::price(&lists.pins, &lists.macros, lists.weights, &bands).map_err(|number| {
+            let of_list = number == 31 || number == 32;
+            wrong(if of_list { list } else { net }, told(number))
+        })?;
     let said = format!("charge {charge} {}\n", amount(charge));
     write(None, said.as_bytes())
 }
