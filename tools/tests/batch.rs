@@ -43,9 +43,9 @@ fn words<'a>(options: &[&'a str], files: &'a [PathBuf]) -> Vec<&'a str> {
 
 /// So many seeds of a kind, and one of those that take long to make or to route.
 fn seeds(kind: Kind, usual: u64) -> u64 {
-    use Kind::{BoundEnds, DroppedWins, Largest, LargestMaze, Pruned};
+    use Kind::{BoundEnds, Largest, LargestFar, LargestMaze};
     match kind {
-        BoundEnds | DroppedWins | Largest | LargestMaze | Pruned => 1,
+        BoundEnds | Largest | LargestFar | LargestMaze => 1,
         _ => usual,
     }
 }
