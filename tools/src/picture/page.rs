@@ -24,7 +24,12 @@ pub fn page(name: &str, subject: &Subject) -> String {
         true => "",
         false => "; not to scale: what is too close to be seen is drawn apart",
     };
-    let header = format!("{} fingerprint {mark}{scale}", routed.header());
+    let Weights { x, y } = routed.weights;
+    let weights = match routed.weights == Weights::default() {
+        true => String::new(),
+        false => format!("; a unit costs {x} across and {y} up"),
+    };
+    let header = format!("{} fingerprint {mark}{weights}{scale}", routed.header());
     let headline = format!("{name}: metal to lay {metal}");
     let parts = [
         ("@TITLE@", escaped(&headline)),
