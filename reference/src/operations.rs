@@ -75,7 +75,7 @@ pub fn wires(pins: &[i32], macros: &[i32], wires: &mut [i32]) -> Result<usize, u
     Ok(answer.len())
 }
 
-/// "Price on the job card": 31 and 32 "both after the net's own". The charge in hundredths.
+/// "Price on the job card": 31 and 32 "both after the net's own", and 37 "between 31 and 32". The charge in hundredths.
 pub fn price(pins: &[i32], macros: &[i32], bands: &[u64]) -> Result<u64, u32> {
     let net = net::check(pins, macros)?;
     let metal = price::metal(&refined::refined(&net).edges);

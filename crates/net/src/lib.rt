@@ -62,7 +62,7 @@ impl Net {
     pub const COST: u64 = Net::COORDINATE as u64 * 4 * Net::WEIGHT as u64;
 }
 
-// Why an operation refuses; `number` in specs/Answer.antt has the number of each (C1 to C32).
+// Why an operation refuses; `number` in specs/Answer.antt has the number of each (C1 to C37).
 pub enum Refusal {
     Blocks,
     Sums,
@@ -77,6 +77,7 @@ pub enum Refusal {
     Space,
     Bands,
     Reach,
+    BandOrder,
 }
 
 impl Refusal {
@@ -97,6 +98,7 @@ impl Refusal {
             Refusal::Space => 21,
             Refusal::Bands => 31,
             Refusal::Reach => 32,
+            Refusal::BandOrder => 37,
         }
     }
 }

@@ -12,13 +12,11 @@ use Rattle.net.specs.declared.Net.{Net as Counts}
 use Rattle.net.specs.Net.{netOf}
 use Rattle.net.specs.Allowed.{Allowed}
 use Rattle.net.specs.Check.{checked}
-use Rattle.price.specs.Band.{bandsOf}
 use Rattle.price.specs.Charge.{metalBound}
-use Rattle.price.specs.Order.{NeverFalling}
 use Rattle.price.specs.Price.{priced}
 use Rattle.price.proofs.LongerLaws as longer
 use Rattle.router.specs.Refined.{totalIn, laidOf, laidTotal}
-use Rattle.router.specs.Price.{metalOf, netPrice, NeverLess, LongerNeverLess}
+use Rattle.router.specs.Price.{metalOf, netPrice, NeverLess}
 use Rattle.router.proofs.AnswerLaws.{only-given}
 use Rattle.router.proofs.RefinedLaws.{length-plain, total-low}
 
@@ -48,11 +46,7 @@ module _ (pins macros : List ℤ) where
   unfolding netPrice
   charged-by bands h e = given-past (checked pins macros) (priced (metalOf pins macros) bands) h e
 
--- B6: the stronger form asks only that rates never fall
-pub never-less-by-rates : (bands : List ℕ) → NeverFalling (bandsOf bands) → NeverLess bands
-never-less-by-rates bands never pins macros pins′ macros′ h h′ more e f =
-    longer.longer-by-rates more bands never (charged-by pins macros bands h e) (charged-by pins′ macros′ bands h′ f)
-
--- B6, with the premise as document 02 has it
-pub never-less : LongerNeverLess
-never-less bands kept = never-less-by-rates bands (kept .never-falling)
+-- B6: by every list, with no premise
+pub never-less : (bands : List ℕ) → NeverLess bands
+never-less bands pins macros pins′ macros′ h h′ more e f =
+    longer.longer-never-less more bands (charged-by pins macros bands h e) (charged-by pins′ macros′ bands h′ f)

