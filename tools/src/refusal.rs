@@ -17,6 +17,7 @@ pub fn meaning(number: u32) -> &'static str {
         21 => "too little space was lent",
         31 => "there is no band, the list isn't whole pairs, or a rate is above 1000000",
         32 => "no band's limit reaches the metal",
+        37 => "a band's limit is not above the one before it, or its rate is below",
         _ => "a number that no document has",
     }
 }

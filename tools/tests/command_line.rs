@@ -311,9 +311,9 @@ fn price_charges_by_a_list() {
         // Metal 7: 3.5 hundredths and 24.5, each half way: the even one.
         ("7 500\n", "charge 4 0.04\n"),
         ("7 3500\n", "charge 24 0.24\n"),
-        // The first band is too short, the last one is not looked at.
+        // The first band is too short, the last one sets no rate.
         (
-            "# limit rate\n6 1\n\n  100 1000000 # dear\n200 2",
+            "# limit rate\n6 1\n\n  100 999999 # dear\n200 1000000",
             "charge 7000 70.00\n",
         ),
         ("18446744073709551615 0\r\n", "charge 0 0.00\n"),
@@ -338,14 +338,45 @@ fn price_says_what_is_wrong() {
     let folder = folder("price-wrong");
     let (net, list) = (folder.join("net.txt"), folder.join("bands.txt"));
     fs::write(&net, "pin 0 0\npin 4 0\npin 2 3\n").unwrap();
-    let none =
-        "refused 31: there is no band, the list isn't whole pairs, or a rate is above 1000000";
     for (bands, wrong) in [
-        (&b""[..], none),
-        (b"7 1000000\n8 1000001\n", none),
         (
-            b"5 1\n6 1\n",
-            "refused 32: no band's limit reaches the metal",
+            &b""[..],
+            "refused 31: there is no band, the list isn't whole pairs, or a rate is above 1000000",
+        ),
+        // The first rate that is too high, on its line, also where a limit falls before it or after it.
+        (
+            b"7 1000000\n\n8 1000001\n9 1000002\n",
+            "line 3: refused 31: the rate 1000001 is above 1000000",
+        ),
+        (
+            b"7 5\n7 6\n8 1000001\n8 1\n",
+            "line 3: refused 31: the rate 1000001 is above 1000000",
+        ),
+        // The first band that falls back, and the line that it falls back from; also where no band reaches the metal.
+        (
+            b"# limit rate\n7 5\n\n7 6 # again\n",
+            "line 4: refused 37: the limit 7 is not above 7, that of line 2",
+        ),
+        (
+            b"7 5\n70 6\n8 7\n9 7\n9 7\n",
+            "line 3: refused 37: the limit 8 is not above 70, that of line 2",
+        ),
+        (
+            b"7 500\n8 600\n9 60\n10 6\n",
+            "line 3: refused 37: the rate 60 is below 600, that of line 2",
+        ),
+        (
+            b"7 2\n6 1\n",
+            "line 2: refused 37: the limit 6 is not above 7, that of line 1",
+        ),
+        (
+            b"3 1\n2 1\n",
+            "line 2: refused 37: the limit 2 is not above 3, that of line 1",
+        ),
+        // The last band, which falls short.
+        (
+            b"5 1\n6 1\n# no more\n",
+            "line 2: refused 32: the last limit, 6, is below the metal",
         ),
         (b"7 500\n8\n", "line 2: a band needs a limit and a rate"),
         (b"7 500 9\n", "line 1: '9' stands after the end of the band"),
