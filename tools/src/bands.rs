@@ -8,7 +8,9 @@ use crate::refusal::told;
 const HIGHEST_RATE: u64 = 1_000_000;
 
 /// A price list as its text gives it: each band with the line on which it stands.
-pub struct PriceList(Vec<Band>);
+pub struct PriceList {
+    bands: Vec<Band>,
+}
 
 struct Band {
     line: usize,
@@ -27,14 +29,14 @@ pub fn parse(bytes: &[u8]) -> Result<PriceList, BadLine> {
             .map_err(|wrong| BadLine { line, wrong })?;
         bands.extend(band.map(|[limit, rate]| Band { line, limit, rate }));
     }
-    Ok(PriceList(bands))
+    Ok(PriceList { bands })
 }
 
 impl PriceList {
     /// The list as the router takes it, two numbers a band.
     pub fn numbers(&self) -> Vec<u64> {
-        let PriceList(bands) = self;
-        bands.iter().flat_map(|b| [b.limit, b.rate]).collect()
+        let both = |band: &Band| [band.limit, band.rate];
+        self.bands.iter().flat_map(both).collect()
     }
 
     /// What is said of a list that the router refuses with this number: the line of the band to blame, where there is one, and why.
@@ -52,33 +54,28 @@ impl PriceList {
     }
 
     fn rate_above(&self) -> Option<(&Band, String)> {
-        let PriceList(bands) = self;
-        let band = bands.iter().find(|band| band.rate > HIGHEST_RATE)?;
+        let band = self.bands.iter().find(|band| band.rate > HIGHEST_RATE)?;
         let why = format!("the rate {} is above {HIGHEST_RATE}", band.rate);
         Some((band, why))
     }
 
     /// The first band that falls back, and from what.
     fn step_back(&self) -> Option<(&Band, String)> {
-        let PriceList(bands) = self;
-        bands
-            .iter()
-            .zip(bands.iter().skip(1))
-            .find_map(|(before, band)| {
-                let why = if band.limit <= before.limit {
-                    format!("the limit {} is not above {}", band.limit, before.limit)
-                } else if band.rate < before.rate {
-                    format!("the rate {} is below {}", band.rate, before.rate)
-                } else {
-                    return None;
-                };
-                Some((band, format!("{why}, that of line {}", before.line)))
-            })
+        let mut neighbours = self.bands.iter().zip(self.bands.iter().skip(1));
+        neighbours.find_map(|(before, band)| {
+            let why = if band.limit <= before.limit {
+                format!("the limit {} is not above {}", band.limit, before.limit)
+            } else if band.rate < before.rate {
+                format!("the rate {} is below {}", band.rate, before.rate)
+            } else {
+                return None;
+            };
+            Some((band, format!("{why}, that of line {}", before.line)))
+        })
     }
 
     fn last(&self) -> Option<(&Band, String)> {
-        let PriceList(bands) = self;
-        let band = bands.last()?;
+        let band = self.bands.last()?;
         let why = format!("the last limit, {}, is below the metal", band.limit);
         Some((band, why))
     }
