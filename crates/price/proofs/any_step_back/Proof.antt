@@ -19,24 +19,6 @@ Inv-loop bands k i₀ i = (i ≤ k) × (fallsBack (bandsOf bands) ≡ fallsBack 
 abbrev μ-loop : tie.MeasureT-loop
 μ-loop bands k i₀ i = k - i
 
-loop-holds : tie.Need-loop-holds Inv-loop μ-loop
-loop-holds c = (omega arith, refl)
-
-add-loop : tie.Need-add-loop Inv-loop μ-loop
-add-loop c = omega arith
-
-band-at-requires : tie.Need-band-at-requires Inv-loop μ-loop
-band-at-requires c κs = omega arith
-
-add-band-at : tie.Need-add-band-at Inv-loop μ-loop
-add-band-at c = omega arith
-
-band-at-requires-2 : tie.Need-band-at-requires-2 Inv-loop μ-loop
-band-at-requires-2 c κs = omega arith
-
-is-step-back-requires : tie.Need-is-step-back-requires Inv-loop μ-loop
-is-step-back-requires c κs = tt
-
 -- what the call says, of the list
 told : (c : tie.After-is-step-back Inv-loop μ-loop)
     → let s = now (c .before .before .before .before .before .before .args .bands) in
@@ -51,12 +33,6 @@ returns c =
     let at = bands-next s (l .loop .i) (omega arith) in
     let next = bands-next s (l .loop .i + 1) (omega arith) in
     sym (l .loop .inv .1 ∙ back-hit _ _ _ _ _ at next (sym (told (c .before)) ∙ c .if1 .taken))
-
-add-i : tie.Need-add-i Inv-loop μ-loop
-add-i c = omega arith
-
-loop-less : tie.Need-loop-less Inv-loop μ-loop
-loop-less c = omega arith
 
 loop-again : tie.Need-loop-again Inv-loop μ-loop
 loop-again c =
@@ -79,14 +55,14 @@ any-step-back-spec =
     (tie.spec
     Inv-loop
     μ-loop
-    loop-holds
-    add-loop
-    band-at-requires
-    add-band-at
-    band-at-requires-2
-    is-step-back-requires
+    (λ c. (omega arith, refl))
+    (λ c. omega arith)
+    (λ c κs. omega arith)
+    (λ c. omega arith)
+    (λ c κs. omega arith)
+    (λ c κs. tt)
     returns
-    add-i
-    loop-less
+    (λ c. omega arith)
+    (λ c. omega arith)
     loop-again
     returns-2)

@@ -27,22 +27,13 @@ passed c =
     let d = c .before .before in
     record { counted = counted (d .before .before); low = low d; onward = sym (c .before .any-step-back .ensures) ∙ c .if3 .left }
 
-bands-miscounted-requires : tie.Need-bands-miscounted-requires
-bands-miscounted-requires c κs = search needs
-
 returns : tie.Need-returns
 unfolding toldPrice number
 returns c = sym (price-miscounted _ _ (sym (c .before .bands-miscounted .ensures) ∙ c .if1 .taken))
 
-any-rate-above-requires : tie.Need-any-rate-above-requires
-any-rate-above-requires c κs = search needs
-
 returns-2 : tie.Need-returns-2
 unfolding toldPrice number
 returns-2 c = sym (price-above _ _ (counted (c .before .before)) (sym (c .before .any-rate-above .ensures) ∙ c .if2 .taken))
-
-any-step-back-requires : tie.Need-any-step-back-requires
-any-step-back-requires c κs = search needs
 
 returns-3 : tie.Need-returns-3
 unfolding toldPrice number
@@ -60,11 +51,11 @@ pub price-spec : {M : Type 1} → statement M
 price-spec =
     tie.close
     (tie.spec
-    bands-miscounted-requires
+    (λ c κs. search needs)
     returns
-    any-rate-above-requires
+    (λ c κs. search needs)
     returns-2
-    any-step-back-requires
+    (λ c κs. search needs)
     returns-3
     by-first-requires
     returns-4)
