@@ -21,14 +21,8 @@ words-of s = weight-words (now (s .args .bytes)) (s .pre .1)
 weights : ℕ → ℕ → Weights
 weights a b = record { across = a; along = b }
 
-head-word-requires : tie.Need-head-word-requires
-head-word-requires c κs = search needs
-
 weight-of-requires : tie.Need-weight-of-requires
 weight-of-requires c κs = rw (c .head-word .ensures .0) (words-of (c .before .before) .0)
-
-head-word-requires-2 : tie.Need-head-word-requires-2
-head-word-requires-2 c κs = search needs
 
 weight-of-requires-2 : tie.Need-weight-of-requires-2
 weight-of-requires-2 c κs = rw (c .head-word2 .ensures .0) (words-of (c .before .before .before .before) .1)
@@ -44,8 +38,8 @@ pub weights-in-spec : {M : Type 1} → statement M
 weights-in-spec =
     tie.close
     (tie.spec
-    head-word-requires
+    (λ c κs. search needs)
     weight-of-requires
-    head-word-requires-2
+    (λ c κs. search needs)
     weight-of-requires-2
     returns)
