@@ -35,6 +35,8 @@ pub enum Refusal {
     Bands,
     /// 32: no band's limit reaches the metal.
     Reach,
+    /// 37: a band's limit is not above the one before it, or its rate is below.
+    BandOrder,
 }
 
 impl Refusal {
@@ -54,6 +56,7 @@ impl Refusal {
         Refusal::Space,
         Refusal::Bands,
         Refusal::Reach,
+        Refusal::BandOrder,
     ];
 
     /// The number and its meaning, as include/calzundi.h has them for C.
@@ -85,6 +88,10 @@ impl Refusal {
                 "there is no band, the list isn't whole pairs, or a rate is above 1000000",
             ),
             Refusal::Reach => (32, "no band's limit reaches the metal"),
+            Refusal::BandOrder => (
+                37,
+                "a band's limit is not above the one before it, or its rate is below",
+            ),
         }
     }
 

@@ -107,9 +107,9 @@ pub fn wires(w: Weighing, pins: &[i32], macros: &[i32], wires: &mut [i32]) -> Wi
     }
 }
 
-// Price: what a bureau charges for the metal to lay, in hundredths of the currency, or 11 to 18, then 31 and 32 for the bands: two numbers
+// Price: what a bureau charges for the metal to lay, in hundredths of the currency, or 11 to 18, then 31, 37 and 32 for the bands: two numbers
 // each, the most metal that the band reaches and its rate per 1,000 units. Metal is the refined tree's plain length (R22). That more metal
-// is never charged less where limits rise strictly and rates never fall: `LongerNeverLess` (specs/Price.antt).
+// is never charged less by one list: `NeverLess` (specs/Price.antt).
 pub fn price(w: Weighing, pins: &[i32], macros: &[i32], bands: &[u64]) -> Priced
     ensures { λ r. ⌜ toldPrice r ≡ netPrice w (now (pins .entry)) (now (macros .entry)) (now (bands .entry)) ⌝ }
 {
