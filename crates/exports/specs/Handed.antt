@@ -1,5 +1,5 @@
--- What an export leaves to its caller: the code that it returns, each lent list, and each number that goes through a pointer. `t` is what the
--- operation says, so that every field is an equation for refused calls too. A prime marks what stands there after the call.
+-- What an export leaves to its caller: the code that it returns, each lent list, and each number that goes through a pointer. `t` is what
+-- the operation says, so that every field is an equation for refused calls too. A prime marks what stands there after the call.
 use mathlib.Core.Path.{_≡_}
 use mathlib.Core.List.{List}
 use Prim.Native.Nat.{ℕ}

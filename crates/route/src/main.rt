@@ -1,4 +1,4 @@
-// Reads a net file from standard input and prints its trees: a header with the totals and a line for each edge of the refined tree, or one
+// Reads a net file from standard input and prints its trees: a header with the totals and the metal, and a line for each edge, or one
 // line that says why the file is refused. What is printed is `routeText` of the bytes read (report/specs/Route.antt).
 use report::FILE;
 use report::TEXT;

@@ -1,13 +1,14 @@
--- Weights 1 and 1 leave every answer as the first release gave it.
+-- Weights of 1 weigh nothing: what they are is `plain`, and costs, totals and files follow.
 -- Assumes nothing.
-use mathlib.Core.Path.{_≡_, ap, _∙_}
+use mathlib.Core.Path.{refl, ap, _∙_}
 use mathlib.Core.List.{List}
 use lib.IntN.{ℤ}
 use Rattle.plane.specs.declared.Weights.{Weights}
 use Rattle.plane.specs.Cost.{cost, plain}
 use Rattle.plane.proofs.CostLaws.{cost-plain}
 use Rattle.net.specs.Net.{plainly}
-use Rattle.net.proofs.HandedLaws.{weights-handed}
+use Rattle.net.specs.Check.{noWeight, weightsWrong}
+use Rattle.net.proofs.HandedLaws.{weights-handed, not-18}
 use Rattle.netfile.specs.Layout.{fileBytes}
 use Rattle.netfile.proofs.FirstRelease.{plain-file}
 use Rattle.joined.specs.Cost.{lengths}
@@ -16,8 +17,9 @@ use Rattle.router.specs.Refined.{totalIn, laidOf}
 use Rattle.router.specs.FirstRelease.{AsFirst}
 
 pub as-first : (pins macros : List ℤ) → AsFirst pins macros
-unfolding totalIn
+unfolding noWeight weightsWrong totalIn
 as-first pins macros = record {
+  not-18 = not-18 plainly pins macros refl;
   cost-is = λ a b. ap (λ (v : Weights). cost v a b) (weights-handed plain) ∙ cost-plain a b;
   metal-is =
       ap (λ (v : Weights). lengths (cost v) (laidOf plainly pins macros)) (weights-handed plain)

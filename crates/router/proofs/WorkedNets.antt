@@ -2,7 +2,7 @@
 -- and what it gives.
 -- Assumes nothing.
 use mathlib.Core.Path.{_≡_, refl}
-use mathlib.Core.List.{List, [], _∷_}
+use mathlib.Core.List.{List, [], _∷_, map}
 use Prim.Native.Nat.{ℕ}
 use lib.IntN.{ℤ, pos, negsuc}
 use Rattle.lent.specs.Told.{Told, refused, given, onlyIf}
@@ -132,7 +132,7 @@ pub record Table : Type 0 where
   pub twice : answers twiceInInterior ≡ none 15
   -- E11: refused 14
   pub no-width : answers noWidth ≡ none 14
-  -- E19: weights 1 and 3: terminal 12, refined 11, metal 7; the kept paths' plain length, by weights 1 and 1, is 6
+  -- E19: weights 1 and 3: terminal 12, refined 11, metal 7; each kept path is its bridge, and their plain length is 6
   pub weighted : answersBy (weighing (pos 1) (pos 3)) fourPins ≡ record {
     check = given (counted (weighing (pos 1) (pos 3)) 4 0);
     graph = given (4, 5);
@@ -140,9 +140,15 @@ pub record Table : Type 0 where
     refined = given (4, (pos 11, pos 7));
     wires = given 4;
   }
-  -- E20: 16 before 18, and 18 of every operation
+  pub weighted-paths : treesBy (weighing (pos 1) (pos 3)) fourPins .paths
+      ≡ (edge (pos 0) (pos 0) (pos 2) (pos 0), 2) ∷ (edge (pos 2) (pos 0) (pos 3) (pos 1), 4)
+      ∷ (edge (pos 0) (pos 0) (pos 0) (pos 2), 6) ∷ []
+  pub plain-length : lengths distance (map (λ k. k .0) (treesBy (weighing (pos 1) (pos 3)) fourPins .paths)) ≡ 6
+  -- E20: 16 and 17 before 18, and 18 of every operation
   pub overlap-first : answersBy (weighing (pos 9) (pos 9)) overlapping ≡ none 16
+  pub inside-first : answersBy (weighing (pos 9) (pos 9)) inInterior ≡ none 17
   pub no-weight : answersBy (weighing (pos 0) (pos 1)) threePins ≡ none 18
+  pub below-weight : answersBy (weighing (negsuc 0) (pos 1)) threePins ≡ none 18
   pub much-weight : answersBy (weighing (pos 1) (pos 9)) threePins ≡ none 18
 
 pub worked-nets : Table
@@ -163,7 +169,11 @@ worked-nets = record {
   twice = refl;
   no-width = refl;
   weighted = refl;
+  weighted-paths = refl;
+  plain-length = refl;
   overlap-first = refl;
+  inside-first = refl;
   no-weight = refl;
+  below-weight = refl;
   much-weight = refl;
 }

@@ -1,5 +1,5 @@
--- D2b: what two calls have in common that have the same weights, and lists with the same entries in another order. It speaks of the answers,
--- and of what each lent list holds after the call, refused or not.
+-- D2b: what two calls have in common that have the same weights, and lists with the same entries in another order. It speaks of the
+-- answers, and of what each lent list holds after the call, refused or not.
 use mathlib.Core.Path.{_≡_}
 use mathlib.Core.List.{List}
 use Prim.Native.Nat.{ℕ}

@@ -83,8 +83,8 @@ pub fn terminal_tree(w: Weighing, pins: &[i32], macros: &[i32], paths: &mut [i64
     }
 }
 
-// Refined tree: its edges in order, how many there are, their total and the metal to lay, or 11 to 18, then 21 where fewer than 4(n + m) numbers are lent.
-// That they hold all pins as one tree, enter no interior and are no longer than the terminal tree: `Promised`.
+// Refined tree: its edges in order, how many there are, their total and the metal to lay, or 11 to 18, then 21 where fewer than 4(n + m)
+// numbers are lent. That they hold all pins as one tree, enter no interior and cost no more than the terminal tree: `Promised`.
 pub fn refined_tree(w: Weighing, pins: &[i32], macros: &[i32], edges: &mut [i32]) -> TreeAnswer
     ensures { λ r. ⌜ RefinedCall refinedTree w (now (pins .entry)) (now (macros .entry)) (now (edges .entry)) r (now (edges .exit)) ⌝ }
 {
@@ -107,9 +107,9 @@ pub fn wires(w: Weighing, pins: &[i32], macros: &[i32], wires: &mut [i32]) -> Wi
     }
 }
 
-// Price: what a bureau charges for the metal to lay, in hundredths of the currency, or 11 to 18, then 31, 37 and 32 for the bands: two numbers
-// each, the most metal that the band reaches and its rate per 1,000 units. Metal is the refined tree's plain length (R22). That more metal
-// is never charged less by one list: `NeverLess` (specs/Price.antt).
+// Price: what a bureau charges for the metal to lay, in hundredths of the currency, or 11 to 18, then 31, 37 and 32 for the bands: two
+// numbers each, the most metal that the band reaches and its rate per 1,000 units. Metal is the refined tree's plain length (R22). That
+// more metal is never charged less by one list: `NeverLess` (specs/Price.antt).
 pub fn price(w: Weighing, pins: &[i32], macros: &[i32], bands: &[u64]) -> Priced
     ensures { λ r. ⌜ toldPrice r ≡ netPrice w (now (pins .entry)) (now (macros .entry)) (now (bands .entry)) ⌝ }
 {
