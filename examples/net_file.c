@@ -1,6 +1,6 @@
 /*
- * Routes a net file: reads it, prints the wires of its net as they are drawn, and writes the net back, which gives the same bytes. Without a
- * file it takes a net of its own, with a macro in the way. A refusal is said in words.
+ * Routes a net file: reads it, prints the wires of its net as they are drawn, and writes the net back, which gives the same bytes.
+ * Without a file it takes a net of its own, with a macro in the way. A refusal is said in words.
  *
  *     gcc -Iinclude examples/net_file.c target/staticlib/libexports.a -o build/net_file && build/net_file examples/files/eight-pins.net
  *     gcc -Iinclude examples/net_file.c -Llib -lcalzundi -o net_file    (in a package)

@@ -1,5 +1,5 @@
-//! The crate `calzundi` as the second program is called: two lists and weights, lent space, and a refusal as its number. The crate looks at it
-//! that a refusal leaves counts, totals, the metal, the charge and the weights of a read as they were.
+//! The crate `calzundi` as the second program is called: two lists and weights, lent space, and a refusal as its number. The crate looks
+//! at it that a refusal leaves counts, totals, the metal, the charge and the weights of a read as they were.
 
 pub use calzundi::lent::bare::*;
 use calzundi::lent::{self, Lists};

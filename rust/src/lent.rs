@@ -1,5 +1,5 @@
-//! The library's calls, one for one: flat lists in, space lent by the caller, counts and totals out. Every length and every content is taken,
-//! so there is nothing to test before a call. Most users want [`crate::Net`], which works sizes out and owns what it gives.
+//! The library's calls, one for one: flat lists in, space lent by the caller, counts and totals out. Every length and every content is
+//! taken, so there is nothing to test before a call. Most users want [`crate::Net`], which works sizes out and owns what it gives.
 //!
 //! This is the one file that knows how the library is called.
 
@@ -121,7 +121,8 @@ pub struct Lists<'a> {
     pub weights: Weights,
 }
 
-/// What stands in a count, a total, the metal, a charge or a weight before a call. A refusal leaves it, which is looked at where debug assertions are on.
+/// What stands in a count, a total, the metal, a charge or a weight before a call. A refusal leaves it, which is looked at where debug
+/// assertions are on.
 const UNTOUCHED: u64 = 0x5eed_5eed;
 
 /// 0 is success; else the number of the refusal, with every number that goes through a pointer as it was.

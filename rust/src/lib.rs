@@ -1,8 +1,8 @@
 //! A tree router whose every answer is proved, from Rust.
 //!
-//! A [`Net`] is pins, macros and weights; its calls give trees, wires, a net file or a price as values of their own, or a [`Refusal`] that says
-//! why not. All the work is the static library's, of which every function is proved to do what the documents say; this crate only lends the
-//! space and sorts the numbers into structs, and is tested.
+//! A [`Net`] is pins, macros and weights; its calls give trees, wires, a net file or a price as values of their own, or a [`Refusal`] that
+//! says why not. All the work is the static library's, of which every function is proved to do what the documents say; this crate only
+//! lends the space and sorts the numbers into structs, and is tested.
 //!
 //! ```
 //! use calzundi::{Net, Refusal};
@@ -18,8 +18,8 @@
 //! # Ok::<(), Refusal>(())
 //! ```
 //!
-//! A call takes up to [`STACK_BYTES`] of stack: a thread of your own wants at least that much. Calls keep no state and may run in any number of
-//! threads at a time. [`lent`] has the same calls without a copy, into space of yours.
+//! A call takes up to [`STACK_BYTES`] of stack: a thread of your own wants at least that much. Calls keep no state and may run in any
+//! number of threads at a time. [`lent`] has the same calls without a copy, into space of yours.
 #![warn(missing_docs)]
 
 #[allow(missing_docs)]

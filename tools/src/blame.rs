@@ -82,13 +82,13 @@ struct Entries<'a> {
 
 impl Entries<'_> {
     /// `line 7, pin 3 (5 5)`, or without its line where it has none.
-    fn pin(&self, at: usize) -> String {
+    fn named_pin(&self, at: usize) -> String {
         let Pin { place, .. } = self.net.pins[at];
         let line = self.lines.map(|lines| lines.pins[at]);
         named(line, "pin", at, &format!("{} {}", place.x, place.y))
     }
 
-    fn macro_(&self, at: usize) -> String {
+    fn named_macro(&self, at: usize) -> String {
         let line = self.lines.map(|lines| lines.macros[at]);
         named(line, "macro", at, &sides(&self.net.macros[at]))
     }
@@ -101,8 +101,8 @@ impl Entries<'_> {
         let mut blame = Blame::because(refusal, cause);
         if count > most {
             let first = match kind {
-                "pin" => self.pin(most),
-                _ => self.macro_(most),
+                "pin" => self.named_pin(most),
+                _ => self.named_macro(most),
             };
             blame.reasons = vec![format!("{first} is the first that is too many")];
         }
@@ -132,12 +132,15 @@ impl Entries<'_> {
             }
         };
         for (at, pin) in self.net.pins.iter().enumerate() {
-            look(self.pin(at), &[("x", pin.place.x), ("y", pin.place.y)]);
+            look(
+                self.named_pin(at),
+                &[("x", pin.place.x), ("y", pin.place.y)],
+            );
         }
         for (at, one) in self.net.macros.iter().enumerate() {
             let (left, bottom) = (("left", one.left), ("bottom", one.bottom));
             let (right, top) = (("right", one.right), ("top", one.top));
-            look(self.macro_(at), &[left, bottom, right, top]);
+            look(self.named_macro(at), &[left, bottom, right, top]);
         }
         found
     }
@@ -145,7 +148,7 @@ impl Entries<'_> {
     fn flat(&self) -> Vec<String> {
         let mut found = Vec::new();
         for (at, one) in self.net.macros.iter().enumerate() {
-            let entry = self.macro_(at);
+            let entry = self.named_macro(at);
             if one.left >= one.right {
                 let (left, right) = (one.left, one.right);
                 found.push(format!("{entry}: left {left} is not below right {right}"));
@@ -168,7 +171,13 @@ impl Entries<'_> {
         };
         let pairs = (0..pins.len()).filter_map(|at| Some((at, earlier(at)?)));
         pairs
-            .map(|(at, first)| format!("{} stands where {} does", self.pin(at), self.pin(first)))
+            .map(|(at, first)| {
+                format!(
+                    "{} stands where {} does",
+                    self.named_pin(at),
+                    self.named_pin(first)
+                )
+            })
             .collect()
     }
 
@@ -178,7 +187,7 @@ impl Entries<'_> {
         for (at, one) in macros.iter().enumerate() {
             for (other_at, other) in macros.iter().enumerate().skip(at + 1) {
                 if interiors_meet(one, other) {
-                    let (one, other) = (self.macro_(at), self.macro_(other_at));
+                    let (one, other) = (self.named_macro(at), self.named_macro(other_at));
                     found.push(format!("{one} and {other}"));
                 }
             }
@@ -206,7 +215,11 @@ impl Entries<'_> {
                     && one.bottom < pin.place.y
                     && pin.place.y < one.top;
                 if within {
-                    found.push(format!("{} in {}", self.pin(at), self.macro_(macro_at)));
+                    found.push(format!(
+                        "{} in {}",
+                        self.named_pin(at),
+                        self.named_macro(macro_at)
+                    ));
                 }
             }
         }

@@ -1,5 +1,5 @@
-//! A short fingerprint of wires, to write on a job card: the first 16 hexadecimal digits of the SHA-256 of what `calzundi route --wires` prints,
-//! in four groups. `calzundi route --wires NET | sha256sum` gives the same digits.
+//! A short fingerprint of wires, to write on a job card: the first 16 hexadecimal digits of the SHA-256 of what `calzundi route --wires`
+//! prints, in four groups. `calzundi route --wires NET | sha256sum` gives the same digits.
 
 use std::sync::OnceLock;
 
@@ -13,8 +13,8 @@ pub fn fingerprint(text: &str) -> String {
     groups.join("-")
 }
 
-/// The first 32 bits of the fractional parts of the square roots of the first eight primes, and of the cube roots of the first 64, worked out
-/// with whole numbers.
+/// The first 32 bits of the fractional parts of the square roots of the first eight primes, and of the cube roots of the first 64, worked
+/// out with whole numbers.
 fn constants() -> &'static ([u32; 8], [u32; 64]) {
     static ONCE: OnceLock<([u32; 8], [u32; 64])> = OnceLock::new();
     ONCE.get_or_init(roots)

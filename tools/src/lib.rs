@@ -1,5 +1,5 @@
-//! What the program `calzundi` is made of. Every answer is the proved library's, by the crate `calzundi`; what is here reads, writes, explains
-//! and draws, and is tested and not proved.
+//! What the program `calzundi` is made of. Every answer is the proved library's, by the crate `calzundi`; what is here reads, writes,
+//! explains and draws, and is tested and not proved.
 
 pub mod bands;
 pub mod blame;

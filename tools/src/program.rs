@@ -30,14 +30,14 @@ impl Failure {
 pub struct Command {
     pub name: &'static str,
     pub help: &'static str,
-    pub options: &'static [Option_],
+    pub options: &'static [Switch],
     /// How many files it takes, at the least and at the most.
     pub files: (usize, usize),
     pub act: fn(&Words) -> Result<(), Failure>,
 }
 
 /// An option, with the name of its value where it has one.
-pub struct Option_ {
+pub struct Switch {
     pub name: &'static str,
     pub value: Option<&'static str>,
 }

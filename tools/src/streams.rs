@@ -121,8 +121,8 @@ fn is_same(input: Option<&OsString>, at: &Path) -> bool {
     }
 }
 
-/// A file is written beside its place and then put there at once, so that it is whole, or as it was. What is no plain file, such as a device
-/// or a pipe, is written to as it is.
+/// A file is written beside its place and then put there at once, so that it is whole, or as it was. What is no plain file, such as a
+/// device or a pipe, is written to as it is.
 fn put(path: &Path, bytes: &[u8]) -> io::Result<()> {
     let path = &fs::canonicalize(path).unwrap_or_else(|_| path.into());
     let before = match fs::metadata(path) {

@@ -240,7 +240,8 @@ fn check_takes_several() {
     printed(&["check", word(&three), word(&three)], b"");
 }
 
-/// A line of weights: at most one, told by `check`, kept by `pack` and `unpack`, left out where both are 1, and refused by 18 with its line.
+/// A line of weights: at most one, told by `check`, kept by `pack` and `unpack`, left out where both are 1, and refused by 18 with its
+/// line.
 #[test]
 fn weights_of_a_net() {
     let three = "pin 0 0\npin 4 0\npin 2 3\n";

@@ -292,8 +292,8 @@ fn word_of_example() -> &'static str {
     )
 }
 
-/// `./run nosuch` built for minutes before it said so, and `./run FILE >/dev/full` ended with 0. Here `rt` and `cargo` do nothing: what they make is
-/// there.
+/// `./run nosuch` built for minutes before it said so, and `./run FILE >/dev/full` ended with 0. Here `rt` and `cargo` do nothing: what
+/// they make is there.
 #[test]
 fn run_says_what_is_wrong_at_once() {
     let folder = folder("run");

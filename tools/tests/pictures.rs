@@ -1,5 +1,5 @@
-//! The pictures: those in docs are made anew and compared byte for byte, and what every picture must have is looked for in nets of each kind
-//! and in those that were hard to read.
+//! The pictures: those in docs are made anew and compared byte for byte, and what every picture must have is looked for in nets of each
+//! kind and in those that were hard to read.
 
 mod common;
 
@@ -88,8 +88,8 @@ fn discs(picture: &str) -> Vec<(f64, f64)> {
         .collect()
 }
 
-/// What holds of every picture: nothing is cut off, no words stand over others, each macro and each pin is seen in both panels, pins apart from
-/// each other, and the metal to lay is said.
+/// What holds of every picture: nothing is cut off, no words stand over others, each macro and each pin is seen in both panels, pins apart
+/// from each other, and the metal to lay is said.
 fn seen(net: &Net, name: &str) {
     let picture = svg(net).unwrap();
     let head = picture.lines().next().unwrap();

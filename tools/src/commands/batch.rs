@@ -12,7 +12,7 @@ use calzundi::{Net, Refusal, Weights, Wire};
 
 use crate::fingerprint::fingerprint;
 use crate::line::plain;
-use crate::program::{Command, Failure, Option_, Words, STACK};
+use crate::program::{Command, Failure, Switch, Words, STACK};
 use crate::routed::wires_text;
 use crate::source::open;
 use crate::streams::{name, read_most, say, write};
@@ -46,23 +46,23 @@ pub const COMMAND: Command = Command {
     name: "batch",
     help: HELP,
     options: &[
-        Option_ {
+        Switch {
             name: "--csv",
             value: None,
         },
-        Option_ {
+        Switch {
             name: "--list",
             value: Some("a file"),
         },
-        Option_ {
+        Switch {
             name: "--jobs",
             value: Some("a number"),
         },
-        Option_ {
+        Switch {
             name: "--shard",
             value: Some("I/N"),
         },
-        Option_ {
+        Switch {
             name: "--quiet",
             value: None,
         },
@@ -150,7 +150,8 @@ impl Row {
                 wires,
                 fingerprint,
             }) => format!(
-                "{net}: pins {pins} macros {macros} weights {x} {y} terminal {terminal} refined {refined} metal {metal} wires {wires} fingerprint {fingerprint}\n"
+                "{net}: pins {pins} macros {macros} weights {x} {y} terminal {terminal} refined {refined} metal {metal} \
+                 wires {wires} fingerprint {fingerprint}\n"
             ),
             Err(wrong) => format!("{net}: {}\n", wrong.reason),
         }

@@ -7,7 +7,7 @@ use calzundi::{Net, Refusal};
 use crate::picture::page::page;
 use crate::picture::sheet::sheet;
 use crate::picture::Subject;
-use crate::program::{Command, Failure, Option_, Words};
+use crate::program::{Command, Failure, Switch, Words};
 use crate::routed::Routed;
 use crate::source::open;
 use crate::streams::{name, read, write};
@@ -36,11 +36,11 @@ pub const COMMAND: Command = Command {
     name: "draw",
     help: HELP,
     options: &[
-        Option_ {
+        Switch {
             name: "--html",
             value: None,
         },
-        Option_ {
+        Switch {
             name: "--routed",
             value: Some("a file"),
         },

@@ -1,6 +1,6 @@
 //! `route`: the trees of a net, in one of three forms.
 
-use crate::program::{Command, Failure, Option_, Words};
+use crate::program::{Command, Failure, Switch, Words};
 use crate::routed::{json, json_refused, wires_text, Routed};
 use crate::source::open;
 use crate::streams::write;
@@ -27,11 +27,11 @@ pub const COMMAND: Command = Command {
     name: "route",
     help: HELP,
     options: &[
-        Option_ {
+        Switch {
             name: "--wires",
             value: None,
         },
-        Option_ {
+        Switch {
             name: "--json",
             value: None,
         },

@@ -1,6 +1,6 @@
-//! How places of the net become spots of the picture. Both axes have one scale; where that would hide something (a macro thinner than a line,
-//! pins upon each other, a wire too short to be seen), the gap that is too narrow is drawn wider. The order of coordinates stays, what is level
-//! or upright stays so, and the caption says that the picture is not to scale.
+//! How places of the net become spots of the picture. Both axes have one scale; where that would hide something (a macro thinner than a
+//! line, pins upon each other, a wire too short to be seen), the gap that is too narrow is drawn wider. The order of coordinates stays,
+//! what is level or upright stays so, and the caption says that the picture is not to scale.
 
 use calzundi::{Edge, Macro, Place};
 

@@ -66,7 +66,9 @@ const LAYERS: [(&str, &str, &str, bool); 5] = [
 fn layers() -> String {
     let layer = |(class, name, colour, on): &(&str, &str, &str, bool)| {
         let checked = if *on { " checked" } else { "" };
-        format!("<label><input type=\"checkbox\" data-layer=\"{class}\"{checked}><span class=\"swatch\" style=\"border-color: {colour}\"></span>{name}</label>")
+        let tick = format!("<input type=\"checkbox\" data-layer=\"{class}\"{checked}>");
+        let swatch = format!("<span class=\"swatch\" style=\"border-color: {colour}\"></span>");
+        format!("<label>{tick}{swatch}{name}</label>")
     };
     LAYERS.iter().map(layer).collect::<Vec<String>>().join("\n")
 }
@@ -161,7 +163,8 @@ fn picture(subject: &Subject) -> (String, bool) {
     (svg.end(), frame.to_scale)
 }
 
-/// The number of the edge that each wire is of. Edges give their wires in order, a level one and an upright one, those of no length left out.
+/// The number of the edge that each wire is of. Edges give their wires in order, a level one and an upright one, those of no length left
+/// out.
 fn owners(subject: &Subject) -> Vec<usize> {
     let mut owners = Vec::new();
     for (at, Edge { first, second }) in subject.routed.refined.edges.iter().enumerate() {
@@ -236,7 +239,8 @@ impl Table {
             )
         });
         let rows: String = rows.collect();
-        format!("<details{open}><summary>{title}</summary><table><thead><tr><th></th>{head}</tr></thead><tbody>\n{rows}</tbody></table></details>\n")
+        let table = format!("<thead><tr><th></th>{head}</tr></thead><tbody>\n{rows}</tbody>");
+        format!("<details{open}><summary>{title}</summary><table>{table}</table></details>\n")
     }
 }
 

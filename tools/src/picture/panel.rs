@@ -180,11 +180,13 @@ impl Panel<'_> {
 
 /// How words that stand over lines look.
 pub fn words_look(letter: f64, colour: &str) -> String {
-    format!("{FONT} font-size=\"{letter}\" fill=\"{colour}\" stroke=\"white\" stroke-width=\"2.5\" stroke-linejoin=\"round\" paint-order=\"stroke\"")
+    let halo =
+        "stroke=\"white\" stroke-width=\"2.5\" stroke-linejoin=\"round\" paint-order=\"stroke\"";
+    format!("{FONT} font-size=\"{letter}\" fill=\"{colour}\" {halo}")
 }
 
-/// Where words may stand at an edge's wires: at the middle or the thirds of its longer leg, on either side, if it is long enough; then of the
-/// other.
+/// Where words may stand at an edge's wires: at the middle or the thirds of its longer leg, on either side, if it is long enough; then of
+/// the other.
 fn beside([start, bend, end]: &[Spot; 3], words: &str) -> Vec<Area> {
     let (width, height) = (wide(words, SMALL_LETTER) + 2.0, SMALL_LETTER + 1.0);
     let level = (start.x - bend.x).abs();

@@ -1,5 +1,5 @@
-//! The terminal paths edge by edge, for a picture. The library gives of each path its bridge and its cost; the ways from the bridge's ends to
-//! their roots are found again here, by the rules for roots and parents, and must cost what the library said.
+//! The terminal paths edge by edge, for a picture. The library gives of each path its bridge and its cost; the ways from the bridge's ends
+//! to their roots are found again here, by the rules for roots and parents, and must cost what the library said.
 
 use calzundi::{Edge, Graph, Net, Place, TerminalTree};
 
