@@ -137,6 +137,8 @@ fn prices_and_files() {
     assert_eq!(net.price(&[band(7, 500)]), Ok(4));
     assert_eq!(net.price(&[band(6, 500)]), Err(Refusal::Reach));
     assert_eq!(net.price(&[]), Err(Refusal::Bands));
+    let falls = [band(7, 500), band(7, 500)];
+    assert_eq!(net.price(&falls), Err(Refusal::BandOrder));
     assert_eq!(Net::from_file(&[]), Err(Refusal::Length));
     assert_eq!(Net::from_file(&[1; 512]), Err(Refusal::Sums));
     assert_eq!(Net::from_file(&[0; 512]), Err(Refusal::Layout));

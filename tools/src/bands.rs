@@ -36,7 +36,7 @@ fn number(name: &str, word: &str) -> Result<u64, String> {
     })
 }
 
-/// Which bands a list's refusal is about.
+/// Which bands a list's refusal is about: all that are to blame for 31 or 37, the last one for 32.
 pub fn blamed(refusal: Refusal, bands: &[Band], lines: &[usize], metal: i64) -> Blame {
     let named = |at: usize| {
         let Band { limit, rate } = bands[at];
@@ -53,32 +53,23 @@ pub fn blamed(refusal: Refusal, bands: &[Band], lines: &[usize], metal: i64) -> 
             }
         }
         Refusal::BandOrder => {
-            let back = (1..bands.len()).filter_map(|at| {
-                let fault = falls_back(bands[at - 1], bands[at])?;
-                let before = lines[at - 1];
-                Some(format!("{}: {fault} of line {before}", named(at)))
-            });
-            Blame::new(refusal, back.collect())
+            let mut reasons = Vec::new();
+            for (at, two) in bands.windows(2).enumerate() {
+                let (band, before) = (named(at + 1), named(at));
+                if two[1].limit <= two[0].limit {
+                    reasons.push(format!("{band} has a limit not above that of {before}"));
+                }
+                if two[1].rate < two[0].rate {
+                    reasons.push(format!("{band} has a rate below that of {before}"));
+                }
+            }
+            Blame::new(refusal, reasons)
         }
         _ => {
-            let greatest = (0..bands.len()).max_by_key(|&at| bands[at].limit);
-            let reason = greatest.map(|at| {
-                let entry = named(at);
-                format!("the metal is {metal}, and {entry} has the greatest limit")
-            });
+            let last = bands.len().checked_sub(1).map(named);
+            let reason = last.map(|band| format!("the metal is {metal}, and {band} is the last"));
             Blame::new(refusal, reason.into_iter().collect())
         }
-    }
-}
-
-/// In what a band falls back from the one before it.
-fn falls_back(before: Band, band: Band) -> Option<&'static str> {
-    if band.limit <= before.limit {
-        Some("its limit is not above that")
-    } else if band.rate < before.rate {
-        Some("its rate is below that")
-    } else {
-        None
     }
 }
 

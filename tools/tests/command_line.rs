@@ -373,25 +373,22 @@ fn price_says_what_is_wrong() {
             b"7 1000000\n\n8 1000001\n",
             "refused 31: a rate is above 1000000\n  line 3, band 2 (8 1000001)",
         ),
-        // Each band that falls back, also where no band reaches the metal; a rate that is too high comes first.
         (
-            b"# limit rate\n7 5\n\n7 6 # again\n8 5\n",
-            "refused 37: a band's limit is not above the one before it, or its rate is below
-  line 4, band 2 (7 6): its limit is not above that of line 2
-  line 5, band 3 (8 5): its rate is below that of line 4",
+            b"5 1\n6 1\n",
+            "refused 32: no band's limit reaches the metal\n  the metal is 7, and line 2, band 2 (6 1) is the last",
+        ),
+        // Every band that falls back, and from which; also where none reaches the metal.
+        (
+            b"# limit rate\n7 5\n\n7 4 # again\n8 9\n3 9\n",
+            "refused 37: a band's limit is not above the one before it, or its rate is below\n  \
+             line 4, band 2 (7 4) has a limit not above that of line 2, band 1 (7 5)\n  \
+             line 4, band 2 (7 4) has a rate below that of line 2, band 1 (7 5)\n  \
+             line 6, band 4 (3 9) has a limit not above that of line 5, band 3 (8 9)",
         ),
         (
             b"3 1\n2 1\n",
-            "refused 37: a band's limit is not above the one before it, or its rate is below
-  line 2, band 2 (2 1): its limit is not above that of line 1",
-        ),
-        (
-            b"7 5\n7 6\n8 1000001\n",
-            "refused 31: a rate is above 1000000\n  line 3, band 3 (8 1000001)",
-        ),
-        (
-            b"5 1\n6 1\n",
-            "refused 32: no band's limit reaches the metal\n  the metal is 7, and line 2, band 2 (6 1) has the greatest limit",
+            "refused 37: a band's limit is not above the one before it, or its rate is below\n  \
+             line 2, band 2 (2 1) has a limit not above that of line 1, band 1 (3 1)",
         ),
         (b"7 500\n8\n", "line 2: a band needs a limit and a rate"),
         (b"7 500 9\n", "line 1: '9' stands after the end of the band"),

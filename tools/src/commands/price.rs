@@ -16,7 +16,7 @@ input.
 
 The first band in the list whose limit is not below the metal to lay sets the rate. `charge`, the charge in hundredths and the same as an
 amount of the currency go to standard output, as `charge 1234 12.34`; half way between two hundredths, the even one.
-Limits must rise strictly and rates never fall down the list: so more metal is never charged less.
+Down the list limits rise strictly and rates never fall, or it is refused (37). So more metal is never charged less by one list.
 
 A bad line is reported with its number, and a net or a list that the router refuses with the number of the refusal and the lines that are
 to blame; nothing is written then.
