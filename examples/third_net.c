@@ -2,6 +2,7 @@
  * Routes document 01's third worked net with the library and prints its refined tree as the program `route` does.
  *
  *     gcc -Iinclude examples/third_net.c target/staticlib/libexports.a -o build/third_net && build/third_net
+ *     gcc -Iinclude examples/third_net.c -Llib -lcalzundi -o third_net    (in a package)
  */
 #include <inttypes.h>
 #include <stdio.h>

@@ -1,8 +1,8 @@
 /*
  * calzundi.h: the tree router as a static library, for C and C++ on x86-64.
  *
- * Link target/staticlib/libexports.a, which `rt staticlib exports` makes once every function in it is proved. The library keeps no
- * state, allocates nothing and prints nothing.
+ * Link libcalzundi.a of a package, or in the repository target/staticlib/libexports.a, which `rt staticlib exports` makes once every
+ * function in it is proved. The library keeps no state, allocates nothing and prints nothing.
  *
  *
  * A net
@@ -48,7 +48,7 @@
  *              each other.
  *   threads    While a call runs, nobody else writes its lists, and nobody else reads or writes what is lent to it. Calls at the same
  *              time, also on the same lists, do not disturb each other, since the library keeps no state.
- *   stack      The router's tables are local: a call has 512 KiB of stack to itself, which was measured and is not proved.
+ *   stack      The router's tables are local: a call has CALZUNDI_STACK_BYTES of stack to itself, which was measured and is not proved.
  *
  * No code tests any of this: a call that breaks it is undefined.
  */
@@ -70,6 +70,9 @@ extern "C" {
 #define CALZUNDI_MACROS 64
 #define CALZUNDI_COORDINATE 1000000
 #define CALZUNDI_WEIGHT 8
+
+/* The stack that a call has to itself. */
+#define CALZUNDI_STACK_BYTES (512 * 1024)
 
 /* Numbers to lend for a net of m pins and k macros: n = m + 4k, and then for each operation. */
 #define CALZUNDI_POINTS(m, k) ((m) + 4 * (k))
@@ -107,10 +110,37 @@ enum calzundi_refusal {
     CALZUNDI_BAND_ORDER = 37        /* a band's limit is not above the one before it, or its rate is below */
 };
 
+/*
+ * What a refusal's number means, in words for people; for 0 "allowed", and for a number that is none "no refusal has this number". It is
+ * here and not in the library, which has no words in it. The words are those of the Rust crate and of the program calzundi.
+ */
+static inline const char *calzundi_refusal_text(int32_t number)
+{
+    switch (number) {
+    case 0: return "allowed";
+    case CALZUNDI_LENGTH: return "the file is not 1 to 6 whole blocks";
+    case CALZUNDI_SUMS: return "a block's word 126 or 127, its sums, is wrong";
+    case CALZUNDI_LAYOUT: return "the layout is not a net file's";
+    case CALZUNDI_PIN_LIST: return "there is no pin, there are more than 64, or the list isn't whole pairs";
+    case CALZUNDI_MACRO_LIST: return "there are more than 64 macros, or the list isn't whole fours";
+    case CALZUNDI_OUT_OF_RANGE: return "a coordinate is not from -1000000 to 1000000";
+    case CALZUNDI_FLAT_MACRO: return "a macro's left is not below its right, or its bottom not below its top";
+    case CALZUNDI_PIN_TWICE: return "two pins are at one place";
+    case CALZUNDI_MACROS_OVERLAP: return "two macros' interiors meet";
+    case CALZUNDI_PIN_IN_INTERIOR: return "a pin is in a macro's interior";
+    case CALZUNDI_WEIGHTS: return "a weight is not from 1 to 8";
+    case CALZUNDI_SPACE: return "too little space was lent";
+    case CALZUNDI_BANDS: return "there is no band, the list isn't whole pairs, or a rate is above 1000000";
+    case CALZUNDI_REACH: return "no band's limit reaches the metal";
+    case CALZUNDI_BAND_ORDER: return "a band's limit is not above the one before it, or its rate is below";
+    default: return "no refusal has this number";
+    }
+}
+
 /* A band of a price list is two numbers of 64 bits, its limit and its rate; a rate is at most this. */
 #define CALZUNDI_RATE 1000000
 
-/* Lengths, totals and the numbers lent for the terminal tree are 64 bits wide. */
+/* Lengths, totals, metal and the numbers lent for the terminal tree are 64 bits wide. */
 typedef int64_t calzundi_length;
 
 /*

@@ -1,11 +1,15 @@
-//! What the programs `pack`, `unpack`, `draw` and `price` are made of. Net files are written and read by the proved router, which prices nets
-//! too; the text form is the second program's.
+//! What the program `calzundi` is made of. Every answer is the proved library's, by the crate `calzundi`; what is here reads, writes, explains
+//! and draws, and is tested and not proved.
 
 pub mod bands;
-pub mod command;
-pub mod labels;
-pub mod netfile;
+pub mod blame;
+pub mod blocks;
+pub mod commands;
+pub mod fingerprint;
+pub mod line;
 pub mod picture;
-pub mod refusal;
+pub mod program;
 pub mod routed;
-pub mod svg;
+pub mod source;
+pub mod streams;
+pub mod text;

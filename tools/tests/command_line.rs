@@ -1,91 +1,124 @@
-//! The four programs: what they write, what they say where something is wrong, and their exit status.
+//! The commands: what they write, what they say where something is wrong, and their exit status.
+
+mod common;
 
 use std::fs;
-use std::io::Write;
-use std::path::{Path, PathBuf};
-use std::process::{Command, Output, Stdio};
 
-use reference::generate::{damaged, net, Damage, Kind};
+use calzundi::{Net, Refusal};
+use common::{example, folder, printed, root, run, said, word, written, COMMANDS};
+use reference::generate::{damaged_weighted as damaged, weighted as net, Damage, Kind};
+use reference::lists::Lists;
 use reference::route::route;
-use reference::text;
-use tools::netfile::{packed, unpacked};
+use tools::routed::{wires_text, Routed};
+use tools::source::source;
+use tools::text;
 
-const PACK: &str = env!("CARGO_BIN_EXE_pack");
-const UNPACK: &str = env!("CARGO_BIN_EXE_unpack");
-const DRAW: &str = env!("CARGO_BIN_EXE_draw");
-const PRICE: &str = env!("CARGO_BIN_EXE_price");
-const PROGRAMS: [(&str, &str); 4] = [
-    (PACK, "pack"),
-    (UNPACK, "unpack"),
-    (DRAW, "draw"),
-    (PRICE, "price"),
-];
-
-/// Runs a program with words and an input.
-fn run(program: &str, words: &[&str], input: &[u8]) -> Output {
-    let mut child = Command::new(program)
-        .args(words)
-        .stdin(Stdio::piped())
-        .stdout(Stdio::piped())
-        .stderr(Stdio::piped())
-        .spawn()
-        .unwrap();
-    // A program that reads a file instead may be gone before its input is written.
-    let _ = child.stdin.take().unwrap().write_all(input);
-    child.wait_with_output().unwrap()
+/// A generated net by the crate's own kind.
+fn made(lists: &Lists) -> Net {
+    let pins = lists.pins.chunks_exact(2).map(|p| (p[0], p[1]));
+    let macros = lists
+        .macros
+        .chunks_exact(4)
+        .map(|m| (m[0], m[1], m[2], m[3]));
+    Net::new(pins, macros).with_weights(lists.weights.x, lists.weights.y)
 }
 
-/// What a program that succeeds writes.
-fn written(program: &str, words: &[&str], input: &[u8]) -> Vec<u8> {
-    let output = run(program, words, input);
-    let wrong = String::from_utf8_lossy(&output.stderr).into_owned();
-    assert_eq!(output.status.code(), Some(0), "{words:?}: {wrong}");
-    assert_eq!(wrong, "", "{words:?}");
-    output.stdout
+/// So many seeds of a kind, and one of those that take long to make or to route.
+fn seeds(kind: Kind, usual: u64) -> u64 {
+    use Kind::{BoundEnds, Largest, LargestFar, LargestMaze};
+    match kind {
+        BoundEnds | Largest | LargestFar | LargestMaze => 1,
+        _ => usual,
+    }
 }
 
-/// What a program that fails says, with nothing written.
-fn said(program: &str, words: &[&str], input: &[u8], status: i32) -> String {
-    let output = run(program, words, input);
-    assert_eq!(output.status.code(), Some(status), "{words:?}");
-    assert_eq!(output.stdout, b"", "{words:?}");
-    String::from_utf8(output.stderr).unwrap()
-}
-
-fn root() -> PathBuf {
-    Path::new(env!("CARGO_MANIFEST_DIR")).join("..")
-}
-
-/// A folder of a test's own, empty.
-fn folder(name: &str) -> PathBuf {
-    let folder = Path::new(env!("CARGO_TARGET_TMPDIR")).join(name);
-    let _ = fs::remove_dir_all(&folder);
-    fs::create_dir_all(&folder).unwrap();
-    folder
-}
-
-fn word(path: &Path) -> &str {
-    path.to_str().unwrap()
-}
-
-/// Text to file to text, and file to text to file, for nets of every kind.
+/// Text to net to text, and net to file to net, for nets of every kind; the second program reads the same texts alike.
 #[test]
 fn round_trips() {
     for &kind in Kind::ALL {
-        for seed in 0..if kind == Kind::BoundEnds { 3 } else { 20 } {
+        for seed in 0..seeds(kind, 10) {
             let lists = net(kind, seed);
-            let bytes = packed(&lists).unwrap();
-            assert_eq!(unpacked(&bytes), Ok(lists.clone()), "{}", kind.name());
-            let said = text::print(&lists);
-            assert_eq!(text::parse(&said), Ok(lists), "{}", kind.name());
+            let net = made(&lists);
+            let said = text::print(&net);
+            assert_eq!(text::parse(said.as_bytes()).unwrap().0, net);
+            assert_eq!(reference::text::parse(&said), Ok(lists));
+            let bytes = net.to_file().unwrap();
+            let read = source("a net".into(), &bytes).unwrap();
+            assert_eq!(read.net, net, "{}", kind.name());
+            assert_eq!(read.verdict, Ok(()));
         }
     }
     for kind in [Kind::TinyFour, Kind::Largest, Kind::Far] {
-        let said = text::print(&net(kind, 3)).into_bytes();
-        let bytes = written(PACK, &[], &said);
-        assert_eq!(written(UNPACK, &[], &bytes), said);
-        assert_eq!(written(PACK, &["-", "-"], &said), bytes);
+        let said = text::print(&made(&net(kind, 3))).into_bytes();
+        let bytes = written(&["pack", "-"], &said);
+        assert_eq!(written(&["unpack", "-"], &bytes), said);
+        assert_eq!(written(&["pack", "-", "-"], &bytes), bytes);
     }
+}
+
+/// `route` prints what the second program's does, and so what the program `route` prints; text and net file alike.
+#[test]
+fn route_prints_what_the_program_prints() {
+    for &kind in Kind::ALL {
+        for seed in 0..seeds(kind, 8) {
+            let net = made(&net(kind, seed));
+            let expected = route(&net.to_file().unwrap());
+            assert_eq!(
+                Routed::of(&net).unwrap().text(),
+                expected,
+                "{}",
+                kind.name()
+            );
+        }
+    }
+    let name = example("eight-pins");
+    let file = root().join("examples/files/eight-pins.net");
+    let expected = route(&fs::read(&file).unwrap());
+    assert_eq!(printed(&["route", word(&name)], b""), expected);
+    assert_eq!(printed(&["route", word(&file)], b""), expected);
+    let bytes = fs::read(&file).unwrap();
+    assert_eq!(printed(&["route", "-"], &bytes), expected);
+}
+
+/// A refusal is printed as the program prints it, and standard error says more.
+#[test]
+fn route_refuses() {
+    let output = run(&["route", word(&example("overlapping"))], b"");
+    assert_eq!(output.status.code(), Some(1));
+    assert_eq!(output.stdout, b"refused 16\n");
+    let wrong = String::from_utf8(output.stderr).unwrap();
+    assert!(
+        wrong.contains("line 3, macro 1 (0 0 2 2) and line 4, macro 2"),
+        "{wrong}"
+    );
+    let output = run(&["route", "--json", word(&example("no-pin"))], b"");
+    assert_eq!(output.status.code(), Some(1));
+    let object = String::from_utf8(output.stdout).unwrap();
+    assert!(object.contains("\"refused\": 11,"), "{object}");
+}
+
+#[test]
+fn route_as_wires_and_as_json() {
+    let name = example("three-pins");
+    assert_eq!(
+        printed(&["route", "--wires", word(&name)], b""),
+        "0 0 2 0\n2 0 2 3\n2 0 4 0\n"
+    );
+    let object = printed(&["route", "--json", word(&name)], b"");
+    for part in [
+        "\"terminal\": 9,",
+        "\"refined\": 7,",
+        "\"metal\": 7,",
+        "\"weights\": [1, 1],",
+        "\"fingerprint\": \"314d-ed04-9810-bef2\",",
+        "\"macros\": [],",
+        "{\"from\": [2, 0], \"to\": [2, 3], \"length\": 3, \"cost\": 3}",
+        "    [2, 0, 4, 0]\n  ]\n}\n",
+    ] {
+        assert!(object.contains(part), "{part} is not in\n{object}");
+    }
+    let wrong = said(&["route", "--json", "--wires", word(&name)], b"", 2);
+    assert!(wrong.contains("take one of the two"), "{wrong}");
 }
 
 /// The example files are what `pack` makes of the example texts, by names and by standard input.
@@ -96,15 +129,14 @@ fn examples_are_packed() {
     for entry in fs::read_dir(root().join("examples/files")).unwrap() {
         let file = entry.unwrap().path();
         let name = file.file_stem().unwrap().to_str().unwrap();
-        let from = root().join(format!("examples/nets/{name}.txt"));
-        let to = folder.join(name);
-        assert_eq!(written(PACK, &[word(&from), word(&to)], b""), b"");
+        let (from, to) = (example(name), folder.join(name));
+        assert_eq!(written(&["pack", word(&from), word(&to)], b""), b"");
         let bytes = fs::read(&file).unwrap();
         assert_eq!(fs::read(&to).unwrap(), bytes, "{name}");
-        assert_eq!(written(PACK, &[word(&from)], b""), bytes, "{name}");
-        let lists = text::parse_bytes(&fs::read(&from).unwrap()).unwrap();
-        let back = written(UNPACK, &[word(&file)], b"");
-        assert_eq!(text::parse_bytes(&back), Ok(lists), "{name}");
+        assert_eq!(written(&["pack", "-"], &fs::read(&from).unwrap()), bytes);
+        let back = written(&["unpack", word(&file)], b"");
+        assert_eq!(written(&["unpack", word(&from)], b""), back, "{name}");
+        assert_eq!(written(&["pack", "-"], &back), bytes, "{name}");
         count += 1;
     }
     assert!(count >= 6);
@@ -120,7 +152,7 @@ fn bad_lines_are_numbered() {
         ),
         (
             b"pin 0 0\npan 1 1\n",
-            "line 2: 'pan' is neither 'pin' nor 'macro' nor 'weights'",
+            "line 2: 'pan' is neither 'pin', 'macro' nor 'weights'",
         ),
         (
             b"macro 0 0 1 1 1\n",
@@ -131,173 +163,176 @@ fn bad_lines_are_numbered() {
             "line 1: '99999999999' for y is no whole number of 32 bits",
         ),
         (b"pin 0 0\npin \xff 1\n", "line 2: not UTF-8 text"),
+        (
+            b"weights 1 1\npin 0 0\nweights 1 1\n",
+            "line 3: the weights stand on line 1 already",
+        ),
     ] {
-        assert_eq!(
-            said(PACK, &[], input, 1),
-            format!("pack: standard input: {wrong}\n")
-        );
+        let expected = format!("calzundi pack: standard input: {wrong}\n");
+        assert_eq!(said(&["pack", "-"], input, 1), expected);
         let (from, to) = (folder.join("net.txt"), folder.join("net.net"));
         fs::write(&from, input).unwrap();
-        let expected = format!("pack: {}: {wrong}\n", from.display());
-        assert_eq!(said(PACK, &[word(&from), word(&to)], b"", 1), expected);
+        let expected = format!("calzundi pack: {}: {wrong}\n", from.display());
+        assert_eq!(said(&["pack", word(&from), word(&to)], b"", 1), expected);
         assert!(!to.exists());
     }
 }
 
+/// Net files that are refused, with the block and the word that are wrong.
 #[test]
-fn refusals_are_explained() {
-    let refused = |input: &[u8]| said(PACK, &[], input, 1);
-    assert!(refused(b"").starts_with("pack: standard input: refused 11: there is no pin"));
-    let twice = refused(b"pin 1 1\npin 1 1\n");
-    assert_eq!(
-        twice,
-        "pack: standard input: refused 15: two pins are at one place\n"
-    );
-    assert!(refused(b"pin 1000001 1\n").contains("refused 13: a coordinate"));
-    assert!(refused(b"pin 0 0\nmacro 3 0 3 5\n").contains("refused 14: a macro's left"));
-    for (bytes, number) in [
-        (vec![], 1),
-        (vec![0; 3_585], 1),
-        (vec![0; 100_000], 1),
-        (damaged(Damage::BitFlipped, 1), 2),
-        (vec![0; 512], 3),
+fn bad_files_are_explained() {
+    let three = fs::read(root().join("examples/files/three-pins.net")).unwrap();
+    let mut flipped = three.clone();
+    flipped[536] ^= 1;
+    let sums = "word 126 is 15 and should be 16";
+    for (bytes, number, reason) in [
+        (vec![0; 3_585], 1, "it has 3585 bytes"),
+        (three[..700].to_vec(), 1, "it has 700 bytes"),
+        (flipped, 2, sums),
+        (
+            vec![0; 512],
+            3,
+            "block 0: word 0, the kind, is 0 and should be 1",
+        ),
+        (
+            three[..512].to_vec(),
+            3,
+            "the head's 3 pins and 0 macros have 2 blocks, and the file has 1",
+        ),
     ] {
-        let wrong = said(UNPACK, &[], &bytes, 1);
-        let expected = format!("unpack: standard input: refused {number}: ");
+        let wrong = said(&["unpack", "-"], &bytes, 1);
+        let expected = format!("calzundi unpack: standard input: refused {number}: ");
         assert!(wrong.starts_with(&expected), "{wrong}");
+        assert!(wrong.contains(reason), "{wrong}");
     }
-}
-
-#[test]
-fn version_of_the_header() {
-    let header = include_str!("../../include/calzundi.h");
-    for (program, name) in PROGRAMS {
-        let said = String::from_utf8(written(program, &["--version"], b"")).unwrap();
-        let version = said
-            .strip_prefix(&format!("{name} of Calzundi "))
-            .and_then(|rest| rest.strip_suffix('\n'))
-            .unwrap();
-        assert!(
-            header.contains(&format!("#define CALZUNDI_VERSION \"{version}\"\n")),
-            "{said}"
-        );
-    }
-}
-
-#[test]
-fn help_and_usage() {
-    for (program, name) in PROGRAMS {
-        for flag in ["--help", "-h"] {
-            let help = String::from_utf8(written(program, &[flag], b"")).unwrap();
-            assert!(help.starts_with(&format!("{name} ")), "{help}");
-            assert!(help.contains("Exit status: 0 written; 1 "), "{help}");
+    // Every damage that the generator knows is refused by the router and explained here, and none of the two falls over.
+    for &kind in Damage::ALL {
+        for seed in 0..20 {
+            let bytes = damaged(kind, seed);
+            let Ok(read) = source("a net".into(), &bytes) else {
+                continue;
+            };
+            let Err(refused) = &read.verdict else {
+                continue;
+            };
+            let lines = refused.blame.lines();
+            let lone = refused.refusal == Refusal::PinList;
+            assert!(lines.len() > 1 || lone, "{}: {lines:?}", kind.name());
         }
-        let wrong = said(program, &["a", "b", "c", "d"], b"", 2);
-        assert!(wrong.starts_with(&format!("{name}: too many words; ")));
-        let wrong = said(program, &["--fast"], b"", 2);
-        assert!(wrong.starts_with(&format!("{name}: there is no option '--fast'; ")));
-        let wrong = said(program, &["no/such/file", "no/such/other"], b"", 1);
-        assert!(
-            wrong.starts_with(&format!("{name}: no/such/file: ")),
-            "{wrong}"
-        );
-    }
-    assert!(said(DRAW, &["one"], b"", 2).starts_with("draw: a file is missing; "));
-    assert!(said(DRAW, &["-", "-"], b"", 2).contains("the two files are the same one"));
-    assert!(said(PRICE, &["one"], b"", 2).starts_with("price: a file is missing; "));
-    assert!(said(PRICE, &["-", "-"], b"", 2).contains("the two files are the same one"));
-    let folder = folder("usage");
-    let to = folder.join("no/such/folder");
-    let wrong = said(PACK, &["-", word(&to)], b"pin 0 0\n", 1);
-    assert!(wrong.contains("no/such/folder: "), "{wrong}");
-}
-
-/// `draw` takes what `route` prints for its net and nothing else.
-#[test]
-fn draw_reads_what_route_prints() {
-    let folder = folder("draw");
-    let (file, printed) = (folder.join("net"), folder.join("routed"));
-    let bytes = packed(&text::parse("pin 0 0\npin 4 0\npin 2 3\n").unwrap()).unwrap();
-    fs::write(&file, &bytes).unwrap();
-    let right = route(&bytes);
-    fs::write(&printed, &right).unwrap();
-    let picture = written(DRAW, &[word(&file), word(&printed)], b"");
-    assert!(picture.starts_with(b"<svg ") && picture.ends_with(b"</svg>\n"));
-    assert_eq!(
-        written(DRAW, &[word(&file), "-"], right.as_bytes()),
-        picture
-    );
-    assert_eq!(written(DRAW, &["-", word(&printed)], &bytes), picture);
-    for (changed, wrong) in [
-        (
-            "refused 11\n".to_string(),
-            "refused 11: there is no pin, there are more than 64, or the list isn't whole pairs",
-        ),
-        (
-            String::new(),
-            "line 1: the header is not 'pins M macros K terminal T refined R metal L' or 'refused N'",
-        ),
-        ("refused x\n".into(), "line 1: 'x' is no refusal's number"),
-        ("refused 11\n11\n".into(), "line 2: a refusal is one line"),
-        (
-            right.replace("pins 3", "pins three"),
-            "line 1: the header is not 'pins M macros K terminal T refined R metal L' or 'refused N'",
-        ),
-        (
-            right.replace("pins 3", "pins 4"),
-            "line 1: the net has pins 3 macros 0",
-        ),
-        (
-            right.replace("refined 7", "refined 6"),
-            "line 1: refined is 6, and the edges' costs add up to 7",
-        ),
-        (
-            right.replace("metal 7", "metal 8"),
-            "line 1: metal is 8, and the edges' lengths add up to 7",
-        ),
-        (
-            right.replace("0 0 2 0 2", "0 0 2 0"),
-            "line 2: an edge is five whole numbers, x1 y1 x2 y2 cost",
-        ),
-        (
-            right.replace("2 0 2 3 3", "2 0 2 3 4"),
-            "line 3: the cost is 3 and not 4",
-        ),
-        (
-            right.replace("2 0 4 0 2", "4 0 2 0 2"),
-            "line 4: the smaller place of an edge comes first",
-        ),
-        (
-            right.replace("2 0 2 3 3", "2 0 2 -3 3"),
-            "line 3: the smaller place of an edge comes first",
-        ),
-        (
-            right.replace("2 0 2 3 3", "2 0 5 0 3"),
-            "line 1: no edge leads to the pin 2 3",
-        ),
-    ] {
-        fs::write(&printed, changed).unwrap();
-        let expected = format!("draw: {}: {wrong}\n", printed.display());
-        assert_eq!(said(DRAW, &[word(&file), word(&printed)], b"", 1), expected);
     }
 }
 
-/// Weights go from text to file and back; 1 and 1 leave no line, and others are in the file.
+/// Several nets in one call: each has its answer, also after one that cannot be read.
 #[test]
-fn weights_go_both_ways() {
-    let plain = b"pin 0 0\npin 4 0\npin 2 3\n".to_vec();
-    let weighed = [b"weights 1 3\n", &plain[..]].concat();
-    let ones = [&plain[..], b"weights 1 1\n"].concat();
-    let file = written(PACK, &[], &weighed);
-    assert_eq!(written(UNPACK, &[], &file), weighed);
-    assert_eq!(written(PACK, &[], &ones), written(PACK, &[], &plain));
-    assert_eq!(written(UNPACK, &[], &written(PACK, &[], &ones)), plain);
-    let nine = [&plain[..], b"weights 9 1\n"].concat();
-    let told = said(PACK, &[], &nine, 1);
+fn check_takes_several() {
+    let (three, overlapping) = (example("three-pins"), example("overlapping"));
+    let words = ["check", word(&three), "no/such", word(&overlapping)];
+    let output = run(&words, b"");
+    assert_eq!(output.status.code(), Some(1));
+    let text = String::from_utf8(output.stdout).unwrap();
     assert!(
-        told.contains("refused 18: a weight is not from 1 to 8"),
-        "{told}"
+        text.contains("three-pins.txt: allowed, pins 3 macros 0\n"),
+        "{text}"
     );
+    assert!(text.contains("overlapping.txt: refused 16: "), "{text}");
+    let wrong = String::from_utf8(output.stderr).unwrap();
+    assert!(wrong.starts_with("calzundi check: no/such: "), "{wrong}");
+    printed(&["check", word(&three), word(&three)], b"");
+}
+
+/// A line of weights: at most one, told by `check`, kept by `pack` and `unpack`, left out where both are 1, and refused by 18 with its line.
+#[test]
+fn weights_of_a_net() {
+    let three = "pin 0 0\npin 4 0\npin 2 3\n";
+    let weighed = format!("weights 1 3\n{three}");
+    let answer = printed(&["route", "-"], weighed.as_bytes());
+    let net = Net::new([(0, 0), (4, 0), (2, 3)], []).with_weights(1, 3);
+    assert_eq!(answer, route(&net.to_file().unwrap()));
+    assert!(
+        answer.starts_with("pins 3 macros 0 terminal 15 refined 13 metal 7\n"),
+        "{answer}"
+    );
+    assert!(answer.contains("\n2 0 2 3 9\n"), "{answer}");
+    let bytes = written(&["pack", "-"], weighed.as_bytes());
+    assert_eq!(printed(&["unpack", "-"], &bytes), weighed);
+    let ones = format!("{three}weights 1 1\n");
+    assert_eq!(printed(&["unpack", "-"], ones.as_bytes()), three);
+    let said = printed(&["check", "-"], weighed.as_bytes());
+    assert_eq!(
+        said,
+        "standard input: allowed, pins 3 macros 0 weights 1 3\n"
+    );
+    let output = run(&["check", "-"], format!("{three}weights 0 9\n").as_bytes());
+    assert_eq!(
+        String::from_utf8(output.stdout).unwrap(),
+        "standard input: refused 18: a weight is not from 1 to 8\n  \
+         line 4, weights 0 9: that of x is 0\n  line 4, weights 0 9: that of y is 9\n"
+    );
+    let object = printed(&["route", "--json", "-"], weighed.as_bytes());
+    let edge = "{\"from\": [2, 0], \"to\": [2, 3], \"length\": 3, \"cost\": 9}";
+    assert!(
+        object.contains("\"weights\": [1, 3],") && object.contains(edge),
+        "{object}"
+    );
+    // A written 1 is refused as 3; it is told apart from other words of the head.
+    let mut block: Vec<u32> = vec![0; 128];
+    (block[0], block[4], block[6]) = (1, 3, 1);
+    let mut sums = (0u32, 0u32);
+    for word in &block[..126] {
+        sums.0 = sums.0.wrapping_add(*word);
+        sums.1 = sums.1.wrapping_add(sums.0);
+    }
+    (block[126], block[127]) = sums;
+    let head: Vec<u8> = block.iter().flat_map(|word| word.to_le_bytes()).collect();
+    let file = [&head, &bytes[512..]].concat();
+    let output = run(&["check", "-"], &file);
+    let text = String::from_utf8(output.stdout).unwrap();
+    assert!(text.contains("refused 3: "), "{text}");
+    assert!(
+        text.contains("words 6 and 7, the weights, are 1 and 0"),
+        "{text}"
+    );
+}
+
+#[test]
+fn compare_says_what_differs() {
+    let folder = folder("compare");
+    let (one, other) = (folder.join("one"), folder.join("other"));
+    fs::write(&one, "pin 0 0\npin 4 0\npin 2 3\n").unwrap();
+    fs::write(&other, "pin 2 3\npin 4 0\npin 0 0\n").unwrap();
+    let same = printed(&["compare", word(&one), word(&other)], b"");
+    let line = "wires 3 metal 7 fingerprint 314d-ed04-9810-bef2";
+    let (a, b) = (one.display(), other.display());
+    assert_eq!(same, format!("same metal\n{a}: {line}\n{b}: {line}\n"));
+    fs::write(&other, "pin 2 3\npin 5 0\npin 0 0\n").unwrap();
+    let output = run(&["compare", word(&one), word(&other)], b"");
+    assert_eq!(output.status.code(), Some(1));
+    let text = String::from_utf8(output.stdout).unwrap();
+    assert!(text.starts_with("other metal\n"), "{text}");
+    assert!(
+        text.contains(&format!("only in {a}: wire 3, 2 0 4 0\n")),
+        "{text}"
+    );
+    assert!(
+        text.contains(&format!("only in {b}: wire 3, 2 0 5 0\n")),
+        "{text}"
+    );
+    assert!(said(&["compare", "-", "-"], b"", 2).contains("only one of the two"));
+    let refused = said(&["compare", word(&one), "-"], b"pin 0 0\npin 0 0\n", 1);
+    assert!(refused.contains("refused 15"), "{refused}");
+}
+
+/// The order of the lists is not the metal's, and the fingerprint is the wires' alone.
+#[test]
+fn fingerprints_are_of_wires() {
+    for kind in [Kind::TinyFour, Kind::Comb, Kind::Small] {
+        for seed in 0..10 {
+            let lists = net(kind, seed);
+            let turned = reference::generate::permuted(&lists, seed);
+            let wires = |lists: &Lists| wires_text(&made(lists).wires().unwrap());
+            assert_eq!(wires(&lists), wires(&turned));
+        }
+    }
 }
 
 /// `price` says the charge of a net by a list of bands, either one from standard input.
@@ -311,7 +346,7 @@ fn price_charges_by_a_list() {
         // Metal 7: 3.5 hundredths and 24.5, each half way: the even one.
         ("7 500\n", "charge 4 0.04\n"),
         ("7 3500\n", "charge 24 0.24\n"),
-        // The first band is too short, the last one sets no rate.
+        // The first band is too short, the last one is not looked at.
         (
             "# limit rate\n6 1\n\n  100 999999 # dear\n200 1000000",
             "charge 7000 70.00\n",
@@ -319,64 +354,41 @@ fn price_charges_by_a_list() {
         ("18446744073709551615 0\r\n", "charge 0 0.00\n"),
     ] {
         fs::write(&list, bands).unwrap();
-        let words = [word(&net), word(&list)];
-        assert_eq!(written(PRICE, &words, b""), charge.as_bytes());
-        assert_eq!(
-            written(PRICE, &["-", word(&list)], three),
-            charge.as_bytes()
-        );
-        assert_eq!(
-            written(PRICE, &[word(&net), "-"], bands.as_bytes()),
-            charge.as_bytes()
-        );
+        assert_eq!(printed(&["price", word(&net), word(&list)], b""), charge);
+        assert_eq!(printed(&["price", "-", word(&list)], three), charge);
+        let by_input = printed(&["price", word(&net), "-"], bands.as_bytes());
+        assert_eq!(by_input, charge);
     }
 }
 
-/// Bad lines and refusals of the net and of the list, each with the file that it is of.
+/// Bad lines and refusals of the net and of the list, each with the file and the lines that it is of.
 #[test]
 fn price_says_what_is_wrong() {
     let folder = folder("price-wrong");
     let (net, list) = (folder.join("net.txt"), folder.join("bands.txt"));
     fs::write(&net, "pin 0 0\npin 4 0\npin 2 3\n").unwrap();
     for (bands, wrong) in [
+        (&b""[..], "refused 31: there is no band"),
         (
-            &b""[..],
-            "refused 31: there is no band, the list isn't whole pairs, or a rate is above 1000000",
-        ),
-        // The first rate that is too high, on its line, also where a limit falls before it or after it.
-        (
-            b"7 1000000\n\n8 1000001\n9 1000002\n",
-            "line 3: refused 31: the rate 1000001 is above 1000000",
+            b"7 1000000\n\n8 1000001\n",
+            "refused 31: a rate is above 1000000\n  line 3, band 2 (8 1000001)",
         ),
         (
-            b"7 5\n7 6\n8 1000001\n8 1\n",
-            "line 3: refused 31: the rate 1000001 is above 1000000",
+            b"5 1\n6 1\n",
+            "refused 32: no band's limit reaches the metal\n  the metal is 7, and line 2, band 2 (6 1) is the last",
         ),
-        // The first band that falls back, and the line that it falls back from; also where no band reaches the metal.
+        // Every band that falls back, and from which; also where none reaches the metal.
         (
-            b"# limit rate\n7 5\n\n7 6 # again\n",
-            "line 4: refused 37: the limit 7 is not above 7, that of line 2",
-        ),
-        (
-            b"7 5\n70 6\n8 7\n9 7\n9 7\n",
-            "line 3: refused 37: the limit 8 is not above 70, that of line 2",
-        ),
-        (
-            b"7 500\n8 600\n9 60\n10 6\n",
-            "line 3: refused 37: the rate 60 is below 600, that of line 2",
-        ),
-        (
-            b"7 2\n6 1\n",
-            "line 2: refused 37: the limit 6 is not above 7, that of line 1",
+            b"# limit rate\n7 5\n\n7 4 # again\n8 9\n3 9\n",
+            "refused 37: a band's limit is not above the one before it, or its rate is below\n  \
+             line 4, band 2 (7 4) has a limit not above that of line 2, band 1 (7 5)\n  \
+             line 4, band 2 (7 4) has a rate below that of line 2, band 1 (7 5)\n  \
+             line 6, band 4 (3 9) has a limit not above that of line 5, band 3 (8 9)",
         ),
         (
             b"3 1\n2 1\n",
-            "line 2: refused 37: the limit 2 is not above 3, that of line 1",
-        ),
-        // The last band, which falls short.
-        (
-            b"5 1\n6 1\n# no more\n",
-            "line 2: refused 32: the last limit, 6, is below the metal",
+            "refused 37: a band's limit is not above the one before it, or its rate is below\n  \
+             line 2, band 2 (2 1) has a limit not above that of line 1, band 1 (3 1)",
         ),
         (b"7 500\n8\n", "line 2: a band needs a limit and a rate"),
         (b"7 500 9\n", "line 1: '9' stands after the end of the band"),
@@ -395,20 +407,73 @@ fn price_says_what_is_wrong() {
         (b"7 500\n\xff 1\n", "line 2: not UTF-8 text"),
     ] {
         fs::write(&list, bands).unwrap();
-        let expected = format!("price: {}: {wrong}\n", list.display());
-        assert_eq!(said(PRICE, &[word(&net), word(&list)], b"", 1), expected);
+        let expected = format!("calzundi price: {}: {wrong}\n", list.display());
+        assert_eq!(said(&["price", word(&net), word(&list)], b"", 1), expected);
     }
     // The net's own refusal comes first, and is of the net.
-    for (bad, wrong) in [
-        (
-            "pin 0 0\npin 0 0\n",
-            "refused 15: two pins are at one place",
-        ),
-        ("pin 0\n", "line 1: a pin needs a number for y"),
-    ] {
-        fs::write(&net, bad).unwrap();
-        fs::write(&list, "").unwrap();
-        let expected = format!("price: {}: {wrong}\n", net.display());
-        assert_eq!(said(PRICE, &[word(&net), word(&list)], b"", 1), expected);
+    fs::write(&net, "pin 0 0\npin 0 0\n").unwrap();
+    fs::write(&list, "").unwrap();
+    let wrong = said(&["price", word(&net), word(&list)], b"", 1);
+    let expected = format!("calzundi price: {}: refused 15: ", net.display());
+    assert!(wrong.starts_with(&expected), "{wrong}");
+}
+
+#[test]
+fn version_of_the_header() {
+    let header = include_str!("../../include/calzundi.h");
+    let said = printed(&["--version"], b"");
+    let version = said.strip_prefix("calzundi ").unwrap().trim_end();
+    let line = format!("#define CALZUNDI_VERSION \"{version}\"\n");
+    assert!(header.contains(&line), "{said}");
+}
+
+#[test]
+fn help_and_usage() {
+    let help = printed(&["--help"], b"");
+    for command in COMMANDS {
+        assert!(help.contains(&format!("\n    {command} ")), "{help}");
+        for flag in ["--help", "-h"] {
+            let help = printed(&[command, flag], b"");
+            assert!(help.starts_with(&format!("calzundi {command} ")), "{help}");
+            assert!(help.contains("Exit status: 0 "), "{help}");
+            let wide = help.lines().map(|line| line.chars().count()).max();
+            assert!(wide.unwrap() <= 140, "{help}");
+        }
+        let wrong = said(&[command, "--fast"], b"", 2);
+        let expected = format!("calzundi {command}: there is no option '--fast'; ");
+        assert!(wrong.starts_with(&expected), "{wrong}");
+        let missing = if command == "batch" {
+            "a net"
+        } else {
+            "a file"
+        };
+        let wrong = said(&[command], b"", 2);
+        assert!(
+            wrong.contains(&format!(": {missing} is missing; ")),
+            "{wrong}"
+        );
+        if command != "check" && command != "batch" {
+            let wrong = said(&[command, "a", "b", "c", "d"], b"", 2);
+            assert!(wrong.contains(": too many words; "), "{wrong}");
+        }
+        if command != "batch" {
+            let words = [command, "no/such/file", "no/such/other"];
+            let words = if command == "route" {
+                &words[..2]
+            } else {
+                &words
+            };
+            let wrong = said(words, b"", 1);
+            let expected = format!("calzundi {command}: no/such/file: ");
+            assert!(wrong.starts_with(&expected), "{wrong}");
+        }
     }
+    assert!(said(&[], b"", 2).contains("a command is missing"));
+    assert!(said(&["rout"], b"", 2).contains("there is no command 'rout'"));
+    assert!(said(&["price", "-", "-"], b"", 2).contains("the same one"));
+    let to = folder("usage").join("no/such/folder");
+    let wrong = said(&["pack", "-", word(&to)], b"pin 0 0\n", 1);
+    assert!(wrong.contains("no/such/folder: "), "{wrong}");
+    // After `--` a word is a file, whatever it looks like.
+    assert!(said(&["check", "--", "--help"], b"", 1).contains("--help: "));
 }

@@ -1,42 +1,50 @@
-//! The pictures: those in docs are made anew and compared byte for byte, and what every picture must have is looked for in nets of each kind.
+//! The pictures: those in docs are made anew and compared byte for byte, and what every picture must have is looked for in nets of each kind
+//! and in those that were hard to read.
+
+mod common;
 
 use std::fs;
-use std::path::Path;
 
-use reference::generate::{net, Kind};
+use calzundi::Net;
+use common::{example, folder, printed, root, word};
+use reference::generate::{weighted as net, Kind};
 use reference::lists::Lists;
-use reference::route::route;
-use reference::text;
-use tools::netfile::packed;
-use tools::picture::draw;
-use tools::routed::{fits, parse, Routed, Said};
+use tools::commands::{html, svg};
+use tools::picture::Subject;
 
-/// The routed net and its picture.
-fn drawn(lists: &Lists) -> (Routed, String) {
-    let printed = route(&packed(lists).unwrap());
-    let Said::Routed(routed) = parse(printed.as_bytes()).unwrap() else {
-        panic!("{printed}");
-    };
-    fits(lists, &routed).unwrap();
-    let picture = draw(lists, &routed);
-    (routed, picture)
+fn made(lists: &Lists) -> Net {
+    let pins = lists.pins.chunks_exact(2).map(|p| (p[0], p[1]));
+    let macros = lists
+        .macros
+        .chunks_exact(4)
+        .map(|m| (m[0], m[1], m[2], m[3]));
+    Net::new(pins, macros).with_weights(lists.weights.x, lists.weights.y)
 }
 
-/// Stored beside the documents; `draw` made them.
+/// So many seeds of a kind, and one of those that take long to make or to route.
+fn seeds(kind: Kind, usual: u64) -> u64 {
+    use Kind::{BoundEnds, Largest, LargestFar, LargestMaze};
+    match kind {
+        BoundEnds | Largest | LargestFar | LargestMaze => 1,
+        _ => usual,
+    }
+}
+
+/// Stored beside the documents; `calzundi draw` made them.
 #[test]
 fn stored_pictures() {
-    let root = Path::new(env!("CARGO_MANIFEST_DIR")).join("..");
+    let folder = folder("stored");
     for (name, picture) in [
         ("three-pins", "third_net.svg"),
         ("eight-pins", "eight_pins.svg"),
     ] {
-        let said = fs::read(root.join(format!("examples/nets/{name}.txt"))).unwrap();
-        let lists = text::parse_bytes(&said).unwrap();
-        let stored = fs::read_to_string(root.join("docs").join(picture)).unwrap();
-        let (_, anew) = drawn(&lists);
+        let anew = folder.join(picture);
+        printed(&["draw", word(&example(name)), word(&anew)], b"");
+        let stored = fs::read(root().join("docs").join(picture)).unwrap();
         assert!(
-            anew == stored,
-            "docs/{picture} is not what draw makes of examples/nets/{name}.txt; this is:\n{anew}"
+            fs::read(&anew).unwrap() == stored,
+            "docs/{picture} is not what `calzundi draw examples/nets/{name}.txt` makes; {} is",
+            anew.display()
         );
     }
 }
@@ -59,7 +67,7 @@ fn texts(picture: &str) -> Vec<(String, [f64; 4])> {
         if line.contains("<text ") {
             let (x, y) = (attribute(line, "x"), attribute(line, "y"));
             let words = line[line.find('>').unwrap() + 1..line.rfind('<').unwrap()].to_string();
-            let width = words.len() as f64 * size * 0.61;
+            let width = words.chars().count() as f64 * size * 0.61;
             found.push((words, [x, y - 0.8 * size, x + width, y + 0.2 * size]));
         }
     }
@@ -70,84 +78,167 @@ fn overlap(a: &[f64; 4], b: &[f64; 4]) -> bool {
     a[0] < b[2] && b[0] < a[2] && a[1] < b[3] && b[1] < a[3]
 }
 
-/// Each net has its macros, then its metal, then its points; every pin and every other point of the tree has its coordinates; nothing is cut
-/// off, and no label is in the caption.
-#[test]
-fn nothing_is_missing_or_cut_off() {
-    let (mut labels, mut covered) = (0, 0);
-    for &kind in Kind::ALL {
-        let slow = matches!(kind, Kind::BoundEnds | Kind::Largest | Kind::LargestMaze);
-        for seed in 0..if slow { 2 } else { 12 } {
-            let lists = net(kind, seed);
-            let (routed, picture) = drawn(&lists);
-            let name = format!("{} {seed}", kind.name());
-            let head = picture.lines().next().unwrap();
-            let whole = [
-                0.0,
-                0.0,
-                attribute(head, "width"),
-                attribute(head, "height"),
-            ];
-            let all = texts(&picture);
-            let within =
-                |b: &[f64; 4]| b[0] >= 0.0 && b[1] >= 0.0 && b[2] <= whole[2] && b[3] <= whole[3];
-            assert!(all.iter().all(|(_, room)| within(room)), "{name}");
-            let at = |words: &str| all.iter().position(|(said, _)| said == words);
-            let Routed {
-                pins,
-                macros,
-                terminal,
-                refined,
-                metal,
-                ..
-            } = routed;
-            let caption = format!(
-                "pins {pins} macros {macros} terminal {terminal} refined {refined} metal {metal}"
-            );
-            let caption = at(&caption).expect("the totals are the caption");
-            let upper = &all[..caption];
-            let mut points: Vec<String> = lists
-                .pins
-                .chunks(2)
-                .map(|p| format!("{}, {}", p[0], p[1]))
-                .collect();
-            for edge in &routed.edges {
-                for end in [edge.first(), edge.second()] {
-                    points.push(format!("{}, {}", end.x, end.y));
-                }
-            }
-            points.sort();
-            points.dedup();
-            let mut said: Vec<String> = upper.iter().map(|(words, _)| words.clone()).collect();
-            said.sort();
-            assert_eq!(said, points, "{name}");
-            let top = all[caption].1[1];
-            assert!(upper.iter().all(|(_, room)| room[3] < top), "{name}");
-            for (number, (_, one)) in upper.iter().enumerate() {
-                covered += upper[..number]
-                    .iter()
-                    .filter(|(_, other)| overlap(one, other))
-                    .count();
-            }
-            labels += upper.len();
-            marks(&lists, &routed, &picture, &name);
-        }
-    }
-    println!("{labels} labels, {covered} over another one");
-    assert_eq!(covered, 0, "of {labels} labels stand over another one");
+/// Every disc of a pin: its spot in the picture, panel after panel.
+fn discs(picture: &str) -> Vec<(f64, f64)> {
+    let lines = picture
+        .lines()
+        .filter(|line| line.contains("<circle ") && line.contains("<title>"));
+    lines
+        .map(|line| (attribute(line, "cx"), attribute(line, "cy")))
+        .collect()
 }
 
-/// Macros, metal and points are there, in this order, each as often as the net has it; the last of each kind is the legend's.
-fn marks(lists: &Lists, routed: &Routed, picture: &str, name: &str) {
-    let count = |what: &str| picture.matches(what).count();
-    assert_eq!(count("<rect "), 1 + lists.macros.len() / 4 + 1, "{name}");
-    assert_eq!(count("<circle "), lists.pins.len() / 2 + 1, "{name}");
-    let first = |what: &str| picture.find(what).expect(what);
-    if !lists.macros.is_empty() && !routed.edges.is_empty() {
-        assert!(
-            first("fill=\"#d5dbe1\"") < first("stroke=\"#b4501e\""),
-            "{name}"
-        );
+/// What holds of every picture: nothing is cut off, no words stand over others, each macro and each pin is seen in both panels, pins apart from
+/// each other, and the metal to lay is said.
+fn seen(net: &Net, name: &str) {
+    let picture = svg(net).unwrap();
+    let head = picture.lines().next().unwrap();
+    let (width, height) = (attribute(head, "width"), attribute(head, "height"));
+    let all = texts(&picture);
+    for (words, room) in &all {
+        let within = room[0] >= 0.0 && room[1] >= 0.0 && room[2] <= width && room[3] <= height;
+        assert!(within, "{name}: '{words}' is cut off");
     }
-    assert!(first("<circle ") < first("<text "), "{name}");
+    for (at, (words, one)) in all.iter().enumerate() {
+        for (other, room) in &all[..at] {
+            assert!(
+                !overlap(one, room),
+                "{name}: '{words}' stands over '{other}'"
+            );
+        }
+    }
+    let subject = Subject::of(net).unwrap();
+    let (m, k) = (net.pins.len(), net.macros.len());
+    let metal = format!(
+        "metal to lay {}",
+        tools::picture::grouped(subject.routed.refined.metal)
+    );
+    assert!(
+        all.iter().any(|(words, _)| *words == metal),
+        "{name}: {metal}"
+    );
+    let macros: Vec<&str> = picture
+        .lines()
+        .filter(|line| line.contains("<rect ") && !line.contains("<title>"))
+        .collect();
+    // The ground, the macros of two panels and the legend's macro and corner.
+    assert_eq!(macros.len(), 1 + 2 * k + 2, "{name}");
+    for line in &macros[1..1 + 2 * k] {
+        let (width, height) = (attribute(line, "width"), attribute(line, "height"));
+        assert!(width >= 7.5 && height >= 7.5, "{name}: {line}");
+    }
+    let pins = discs(&picture);
+    assert_eq!(pins.len(), 2 * m, "{name}");
+    for (at, one) in pins.iter().enumerate() {
+        for other in &pins[..at] {
+            let apart = (one.0 - other.0).abs().max((one.1 - other.1).abs());
+            assert!(apart >= 13.0, "{name}: two pins are drawn {apart} apart");
+        }
+    }
+    let edges = &subject.routed.refined.edges;
+    let (corners, steiner) = subject.other_points(edges);
+    let count = |what: &str| picture.matches(what).count();
+    let (terminal_corners, none) = subject.other_points(&subject.paths.concat());
+    assert_eq!(none, vec![], "{name}: the terminal tree has corners only");
+    assert_eq!(
+        count("<title>corner "),
+        corners.len() + terminal_corners.len(),
+        "{name}"
+    );
+    assert_eq!(count("<title>Steiner point "), steiner.len(), "{name}");
+}
+
+#[test]
+fn nothing_is_missing_or_cut_off() {
+    for &kind in Kind::ALL {
+        for seed in 0..seeds(kind, 10) {
+            seen(&made(&net(kind, seed)), &format!("{} {seed}", kind.name()));
+        }
+    }
+}
+
+/// Nets that could not be read: macros that vanished, pins that hid the metal, pins on one line.
+#[test]
+fn what_could_not_be_seen() {
+    let none: [(i32, i32, i32, i32); 0] = [];
+    let thin = (-100, -1_000_000, 100, 900_000);
+    let ends = [(-1_000_000, -1_000_000), (1_000_000, 1_000_000)];
+    seen(&Net::new(ends, [thin]), "a macro 200 wide on two million");
+    let line = (0..64).map(|x| (x, 0));
+    seen(&Net::new(line, none), "64 pins on a line");
+    let column = (0..64).map(|y| (-1_000_000, -1_000_000 + y * 31_000));
+    seen(&Net::new(column, none), "64 pins on an upright line");
+    let near = (0..63).map(|at| (7 * at % 64, 11 * at % 61));
+    let far = near.chain([(1_000_000, 1_000_000)]);
+    seen(
+        &Net::new(far, none),
+        "63 pins near one place and one far away",
+    );
+    let slits = (0..20).map(|at| (at * 2, 0, at * 2 + 1, 1_000_000));
+    let pins = [(-1_000_000, 5), (1_000_000, 6)];
+    seen(&Net::new(pins, slits), "twenty macros with slits of one");
+    seen(&Net::new([(5, 5)], none), "one pin");
+}
+
+/// The terminal paths in a picture are those of the second program, vertex for vertex.
+#[test]
+fn terminal_paths_are_the_routers() {
+    for &kind in Kind::ALL {
+        for seed in 0..seeds(kind, 12) {
+            let lists = net(kind, seed);
+            let subject = Subject::of(&made(&lists)).unwrap();
+            let checked = reference::net::check(&lists.pins, &lists.macros, lists.weights).unwrap();
+            let tree = reference::terminal::terminal(&checked);
+            assert_eq!(subject.paths.len(), tree.paths.len());
+            for (ours, theirs) in subject.paths.iter().zip(&tree.paths) {
+                let weights = subject.net.weights;
+                let cost: i64 = ours.iter().map(|edge| edge.cost(weights)).sum();
+                assert_eq!(cost, theirs.cost, "{} {seed}", kind.name());
+                let mut places: Vec<(i64, i64)> = Vec::new();
+                for edge in ours {
+                    for end in [edge.first, edge.second] {
+                        places.push((end.x.into(), end.y.into()));
+                    }
+                }
+                places.sort_unstable();
+                places.dedup();
+                let mut right: Vec<(i64, i64)> =
+                    theirs.vertices.iter().map(|v| (v.x, v.y)).collect();
+                right.sort_unstable();
+                assert_eq!(places, right, "{} {seed}", kind.name());
+            }
+        }
+    }
+}
+
+/// The page has every layer and every entry once in its table and once in the picture, and asks for nothing from elsewhere.
+#[test]
+fn the_page_is_whole() {
+    for (kind, seed) in [(Kind::Comb, 1), (Kind::Largest, 1), (Kind::OnePin, 2)] {
+        let net = made(&net(kind, seed));
+        let page = html("a <net> & more", &net).unwrap();
+        let subject = Subject::of(&net).unwrap();
+        for layer in ["graph", "terminal", "refined", "wires", "numbers"] {
+            assert_eq!(page.matches(&format!("<g class=\"{layer}\"")).count(), 1);
+            assert_eq!(page.matches(&format!("data-layer=\"{layer}\"")).count(), 1);
+        }
+        for (kind, count) in [
+            ("edge", subject.routed.refined.edges.len()),
+            ("path", subject.paths.len()),
+            ("wire", subject.wires.len()),
+            ("pin", net.pins.len()),
+            ("macro", net.macros.len()),
+        ] {
+            for number in 1..=count {
+                let id = format!("data-id=\"{kind}-{number}\"");
+                assert_eq!(page.matches(&id).count(), 2, "{id}");
+            }
+            assert!(!page.contains(&format!("data-id=\"{kind}-{}\"", count + 1)));
+        }
+        assert!(page.contains("<title>a &lt;net&gt; &amp; more: metal to lay "));
+        let outside = page.replace("http://www.w3.org/2000/svg", "");
+        for asked in ["http:", "https:", "src=", "url(", "@TITLE@", "@SVG@"] {
+            assert!(!outside.contains(asked), "{asked}");
+        }
+    }
 }

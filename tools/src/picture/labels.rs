@@ -1,7 +1,7 @@
 //! Where the labels of a picture's points stand: close to their points, within the picture, and if at all possible not over each other or
 //! over a point.
 
-use crate::svg::{Area, Spot};
+use super::svg::{Area, Spot};
 
 /// A label to be placed: its point and how much room its text takes.
 #[derive(Clone, Copy, Debug)]

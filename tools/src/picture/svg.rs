@@ -158,6 +158,29 @@ impl Svg {
     }
 }
 
+/// Text as it may stand between tags and in attributes.
+pub fn escaped(text: &str) -> String {
+    let mut said = String::new();
+    for letter in text.chars() {
+        match letter {
+            '&' => said += "&amp;",
+            '<' => said += "&lt;",
+            '>' => said += "&gt;",
+            '"' => said += "&quot;",
+            letter => said.push(letter),
+        }
+    }
+    said
+}
+
+/// A shape with what is said of it where it is pointed at.
+pub fn titled(shape: &str, attributes: &str, title: &str) -> String {
+    let shape = shape.strip_suffix("/>").unwrap_or(shape);
+    let tag = shape[1..].split(' ').next().unwrap_or("");
+    let title = escaped(title);
+    format!("{shape}{attributes}><title>{title}</title></{tag}>")
+}
+
 pub fn rectangle(area: &Area) -> String {
     format!(
         r#"<rect x="{}" y="{}" width="{}" height="{}"/>"#,
@@ -180,13 +203,28 @@ pub fn diamond(middle: Spot, reach: f64) -> String {
     format!(r#"<path d="M {left} {y} L {x} {top} L {right} {y} L {x} {bottom} Z"/>"#)
 }
 
-pub fn segment(from: Spot, to: Spot) -> String {
-    let [x1, y1, x2, y2] = [from.x, from.y, to.x, to.y].map(unit);
-    format!(r#"<path d="M {x1} {y1} L {x2} {y2}"/>"#)
+/// A line through spots; those that are alike one after the other are one.
+pub fn polyline(spots: &[Spot]) -> String {
+    let mut steps = String::new();
+    let mut last: Option<Spot> = None;
+    for spot in spots {
+        if last != Some(*spot) {
+            let letter = if last.is_none() { "M" } else { " L" };
+            let (x, y) = (unit(spot.x), unit(spot.y));
+            steps += &format!("{letter} {x} {y}");
+            last = Some(*spot);
+        }
+    }
+    format!(r#"<path d="{steps}"/>"#)
 }
 
-/// Text that begins at a spot of its base line. It holds letters, digits, spaces, commas and minus signs alone, so nothing is escaped.
+pub fn segment(from: Spot, to: Spot) -> String {
+    polyline(&[from, to])
+}
+
+/// Text that begins at a spot of its base line.
 pub fn text(start: Spot, words: &str) -> String {
     let (x, y) = (unit(start.x), unit(start.y));
+    let words = escaped(words);
     format!(r#"<text x="{x}" y="{y}">{words}</text>"#)
 }

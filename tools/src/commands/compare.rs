@@ -1,0 +1,90 @@
+//! `compare`: whether two nets get the same metal.
+
+use calzundi::Wire;
+
+use crate::fingerprint::fingerprint;
+use crate::program::{Command, Failure, Words};
+use crate::routed::{drawn, wires_text};
+use crate::source::open;
+use crate::streams::write;
+
+const HELP: &str = "\
+calzundi compare A B: says whether two nets get the same metal
+
+A and B are nets, text or net files; one of them may be -, standard input. The same metal is the same wires, as `calzundi route --wires`
+prints them; the order of a net's lists does not matter to it. Printed is `same metal` or `other metal`, for each net how many wires it has,
+how much metal and a fingerprint, and where they differ the first wires that only one of them has, each with its number.
+
+    calzundi compare ordered.txt delivered.net
+
+The fingerprint is short enough for a job card: the first 16 digits of the SHA-256 of the wires, so that
+`calzundi route --wires net.txt | sha256sum` shows the same ones.
+Exit status: 0 the same metal; 1 other metal, a refused net, or a file that cannot be read; 2 a wrong command line.
+";
+
+pub const COMMAND: Command = Command {
+    name: "compare",
+    help: HELP,
+    options: &[],
+    files: (2, 2),
+    act: compare,
+};
+
+/// A net by its wires.
+struct Laid {
+    name: String,
+    wires: Vec<Wire>,
+}
+
+impl Laid {
+    fn line(&self) -> String {
+        let metal: i64 = self.wires.iter().map(Wire::length).sum();
+        let print = fingerprint(&wires_text(&self.wires));
+        let (name, count) = (&self.name, self.wires.len());
+        format!("{name}: wires {count} metal {metal} fingerprint {print}\n")
+    }
+
+    /// The first wires that the other one has not.
+    fn own(&self, other: &Laid) -> String {
+        let (name, wires) = (&self.name, self.wires.iter().enumerate());
+        let own = wires.filter(|(_, wire)| !other.wires.contains(wire));
+        own.take(SHOWN)
+            .map(|(at, wire)| format!("only in {name}: wire {}, {}\n", at + 1, drawn(wire)))
+            .collect()
+    }
+}
+
+/// How many wires of each net are shown.
+const SHOWN: usize = 3;
+
+fn compare(words: &Words) -> Result<(), Failure> {
+    if words.files.iter().all(|file| file == "-") {
+        let both = "only one of the two can be standard input";
+        return Err(Failure::Usage(both.into()));
+    }
+    let mut both = Vec::new();
+    for file in &words.files {
+        let source = open(Some(file))?;
+        let wires = source.allowed()?.wires();
+        let wires = wires.map_err(|refusal| Failure::wrong(&source.name, refusal))?;
+        let name = source.name;
+        both.push(Laid { name, wires });
+    }
+    let (one, other) = (&both[0], &both[1]);
+    let same = one.wires == other.wires;
+    let word = if same {
+        "same metal\n"
+    } else {
+        "other metal\n"
+    };
+    let mut said = [word, &one.line(), &other.line()].concat();
+    if !same {
+        said += &[one.own(other), other.own(one)].concat();
+    }
+    write(None, said.as_bytes(), &[])?;
+    if same {
+        Ok(())
+    } else {
+        Err(Failure::No)
+    }
+}

@@ -1,0 +1,26 @@
+//! The commands of the program.
+
+use crate::program::Command;
+
+mod batch;
+mod check;
+mod compare;
+mod draw;
+mod pack;
+mod price;
+mod route;
+mod unpack;
+
+pub use draw::{html, svg};
+
+/// Every command, in the order in which the help lists them.
+pub const ALL: &[Command] = &[
+    check::COMMAND,
+    route::COMMAND,
+    draw::COMMAND,
+    compare::COMMAND,
+    batch::COMMAND,
+    price::COMMAND,
+    pack::COMMAND,
+    unpack::COMMAND,
+];
