@@ -1,0 +1,15 @@
+pub mod WalkLaws
+pub mod AxisLaws
+pub mod LineLaws
+pub mod ClearLines
+pub mod Retract
+pub mod BoxWalk
+pub mod EdgeLaws
+pub mod CrossingLaws
+pub mod DistanceLaws
+pub mod GridCost
+pub mod NearestLaws
+pub mod RowLaws
+pub mod Spread
+pub mod PassLaws
+pub mod SegmentLaws
