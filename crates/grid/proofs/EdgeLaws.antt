@@ -178,19 +178,19 @@ upper-in (n ∷ ms) m (there i) = there (there (upper-in ms m i))
 
 module _ (net : Net) where
   -- the coordinates of marks are lines
-  x-line : (p : Place) → p ∈ marks net → p .x ∈ xLines net
+  x-line : (p : Place) → p ∈ marks (net .pins) (net .macros) → p .x ∈ xLines net
   unfolding linesOf coordinate
-  x-line p m = in-sorted ltZ line-order (map (coordinate Across) (marks net)) (p .x) (in-map (coordinate Across) m)
+  x-line p m = in-sorted ltZ line-order (map (coordinate Across) (marks (net .pins) (net .macros))) (p .x) (in-map (coordinate Across) m)
 
-  y-line : (p : Place) → p ∈ marks net → p .y ∈ yLines net
+  y-line : (p : Place) → p ∈ marks (net .pins) (net .macros) → p .y ∈ yLines net
   unfolding linesOf coordinate
-  y-line p m = in-sorted ltZ line-order (map (coordinate Along) (marks net)) (p .y) (in-map (coordinate Along) m)
+  y-line p m = in-sorted ltZ line-order (map (coordinate Along) (marks (net .pins) (net .macros))) (p .y) (in-map (coordinate Along) m)
 
-  lower-mark : (m : Macro) → m ∈ net .macros → place (m .left) (m .bottom) ∈ marks net
+  lower-mark : (m : Macro) → m ∈ net .macros → place (m .left) (m .bottom) ∈ marks (net .pins) (net .macros)
   unfolding marks
   lower-mark m i = Memᴰ·append-right (net .pins) (lower-in (net .macros) m i)
 
-  upper-mark : (m : Macro) → m ∈ net .macros → place (m .right) (m .top) ∈ marks net
+  upper-mark : (m : Macro) → m ∈ net .macros → place (m .right) (m .top) ∈ marks (net .pins) (net .macros)
   unfolding marks
   upper-mark m i = Memᴰ·append-right (net .pins) (upper-in (net .macros) m i)
 
@@ -208,11 +208,11 @@ module _ (net : Net) where
 
   pub x-ascending : Ascending ltZ (xLines net)
   unfolding linesOf
-  x-ascending = sorted-ascending ltZ line-order (map (coordinate Across) (marks net))
+  x-ascending = sorted-ascending ltZ line-order (map (coordinate Across) (marks (net .pins) (net .macros)))
 
   pub y-ascending : Ascending ltZ (yLines net)
   unfolding linesOf
-  y-ascending = sorted-ascending ltZ line-order (map (coordinate Along) (marks net))
+  y-ascending = sorted-ascending ltZ line-order (map (coordinate Along) (marks (net .pins) (net .macros)))
 
   pub grid-link : (a b : Place) → GridStep (xLines net) (yLines net) (net .macros) a b → Link (gridEdges net) a b
   unfolding gridEdges

@@ -2,7 +2,7 @@
 -- So the bounds of lines, coordinates and weights bound what they cost together, and no edge costs more than that.
 -- Assumes nothing.
 use mathlib.Core.Path.{_≡_, refl}
-use mathlib.Core.Bool.{Bool}
+use mathlib.Core.Bool.{Bool, false}
 use mathlib.Core.List.{List, [], _∷_, _++_, map, List·Memᴰ·append-cases}
 use Prim.Native.Nat.{ℕ, _+_, _*_, _≤_, _<_}
 use native.Mathlib.Nat.{suc-mul, mul-le-mul, mul-le-mul-right}
@@ -125,54 +125,56 @@ near-highest c n =
     let le : Le c (pos coordinateBound) = omega (signed, n .above, up-pos coordinateBound, down-pos coordinateBound) in
     (le, omega (signed, n .below, n .above, apart-ordered c (pos coordinateBound) le, up-pos coordinateBound, down-pos coordinateBound))
 
-sides-count : (ms : List Macro) → length (sides ms) ≡ length ms * 2
+pub sides-count : (ms : List Macro) → length (sides ms) ≡ length ms * 2
 unfolding sides
 sides-count [] = refl
 sides-count (m ∷ ms) = omega (arith, sides-count ms)
 
-pub line-count : (axis : Axis) (net : Net) → length (linesOf axis net) ≤ length (net .pins) + length (net .macros) * 2
+pub line-count : (axis : Axis) (net : Net) → length (linesOf axis (net .pins) (net .macros)) ≤ length (net .pins) + length (net .macros) * 2
 unfolding linesOf marks
 line-count axis net =
     omega (
       arith,
-      length-sorted ltZ (map (coordinate axis) (marks net)),
-      length-map (marks net) (coordinate axis),
+      length-sorted ltZ (map (coordinate axis) (marks (net .pins) (net .macros))),
+      length-map (marks (net .pins) (net .macros)) (coordinate axis),
       length-append (net .pins) (sides (net .macros)),
       sides-count (net .macros),
     )
 
 module _ {net : Net} (a : Allowed net) where
-  side-near : (axis : Axis) (ms : List Macro) → ((m : Macro) → m ∈ ms → m ∈ net .macros) → (p : Place) → p ∈ sides ms → Near (coordinate axis p)
+  side-range : (axis : Axis) (ms : List Macro) → ((m : Macro) → m ∈ ms → m ∈ net .macros) → (p : Place) → p ∈ sides ms →
+      outOfRange (coordinate axis p) ≡ false
   unfolding sides coordinate
-  side-near Across (m ∷ ms) h p (here e) = rw e (in-range-near (m .left) (a .macros-in-range m (h m (here refl)) .left))
-  side-near Across (m ∷ ms) h p (there (here e)) = rw e (in-range-near (m .right) (a .macros-in-range m (h m (here refl)) .right))
-  side-near Across (m ∷ ms) h p (there (there i)) = side-near Across ms (λ n k. h n (there k)) p i
-  side-near Along (m ∷ ms) h p (here e) = rw e (in-range-near (m .bottom) (a .macros-in-range m (h m (here refl)) .bottom))
-  side-near Along (m ∷ ms) h p (there (here e)) = rw e (in-range-near (m .top) (a .macros-in-range m (h m (here refl)) .top))
-  side-near Along (m ∷ ms) h p (there (there i)) = side-near Along ms (λ n k. h n (there k)) p i
+  side-range Across (m ∷ ms) h p (here e) = rw e (a .macros-in-range m (h m (here refl)) .left)
+  side-range Across (m ∷ ms) h p (there (here e)) = rw e (a .macros-in-range m (h m (here refl)) .right)
+  side-range Across (m ∷ ms) h p (there (there i)) = side-range Across ms (λ n k. h n (there k)) p i
+  side-range Along (m ∷ ms) h p (here e) = rw e (a .macros-in-range m (h m (here refl)) .bottom)
+  side-range Along (m ∷ ms) h p (there (here e)) = rw e (a .macros-in-range m (h m (here refl)) .top)
+  side-range Along (m ∷ ms) h p (there (there i)) = side-range Along ms (λ n k. h n (there k)) p i
 
-  pin-near : (axis : Axis) (p : Place) → p ∈ net .pins → Near (coordinate axis p)
+  pin-range : (axis : Axis) (p : Place) → p ∈ net .pins → outOfRange (coordinate axis p) ≡ false
   unfolding coordinate
-  pin-near Across p i = in-range-near (p .x) (a .pins-in-range p i .x)
-  pin-near Along p i = in-range-near (p .y) (a .pins-in-range p i .y)
+  pin-range Across p i = a .pins-in-range p i .x
+  pin-range Along p i = a .pins-in-range p i .y
 
-  mark-near : (axis : Axis) (p : Place) → p ∈ marks net → Near (coordinate axis p)
+  mark-range : (axis : Axis) (p : Place) → p ∈ marks (net .pins) (net .macros) → outOfRange (coordinate axis p) ≡ false
   unfolding marks
-  mark-near axis p m =
-      either (pin-near axis p) (side-near axis (net .macros) (λ n k. k) p) (List·Memᴰ·append-cases (net .pins) m)
+  mark-range axis p m =
+      either (pin-range axis p) (side-range axis (net .macros) (λ n k. k) p) (List·Memᴰ·append-cases (net .pins) m)
 
-  pub line-near : (axis : Axis) (c : ℤ) → c ∈ linesOf axis net → Near c
+  pub line-range : (axis : Axis) (c : ℤ) → c ∈ linesOf axis (net .pins) (net .macros) → outOfRange c ≡ false
   unfolding linesOf
-  line-near axis c m =
-      let s = of-map (coordinate axis) (marks net) (of-sorted ltZ (map (coordinate axis) (marks net)) c m) in
-      rw (s .is) (mark-near axis (s .entry) (s .stands))
+  line-range axis c m =
+      let s = of-map (coordinate axis) (marks (net .pins) (net .macros))
+      (of-sorted ltZ (map (coordinate axis) (marks (net .pins) (net .macros))) c m) in
+      rw (s .is) (mark-range axis (s .entry) (s .stands))
 
-  extent : (axis : Axis) → Extent (linesOf axis net) (pos coordinateBound) (coordinateBound * 2)
+  extent : (axis : Axis) → Extent (linesOf axis (net .pins) (net .macros)) (pos coordinateBound) (coordinateBound * 2)
   unfolding linesOf
   extent axis = record {
-    ascending = sorted-ascending ltZ line-order (map (coordinate axis) (marks net));
-    below = λ c m. near-highest c (line-near axis c m) .0;
-    near = λ c m. near-highest c (line-near axis c m) .1;
+    ascending = sorted-ascending ltZ line-order (map (coordinate axis) (marks (net .pins) (net .macros)));
+    below = λ c m. near-highest c (in-range-near c (line-range axis c m)) .0;
+    near = λ c m. near-highest c (in-range-near c (line-range axis c m)) .1;
   }
 
   bound : (k w : ℕ) → k ≤ lineBound → w ≤ weightBound → k * (coordinateBound * 2 * w) ≤ lineBound * (coordinateBound * 2 * weightBound)

@@ -13,3 +13,10 @@ pub mod RowLaws
 pub mod Spread
 pub mod PassLaws
 pub mod SegmentLaws
+pub mod LineTable
+pub mod TableLaws
+pub mod GivenLaws
+pub mod PinOrder
+pub mod TableGrid
+pub mod NetDistance
+pub mod WholeLaws

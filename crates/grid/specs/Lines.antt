@@ -29,18 +29,18 @@ unfoldable pub sides : List Macro → List Place
 sides [] = []
 sides (m ∷ ms) = place (m .left) (m .bottom) ∷ (place (m .right) (m .top) ∷ sides ms)
 
-unfoldable pub marks : Net → List Place
-marks net = net .pins ++ sides (net .macros)
+unfoldable pub marks : List Place → List Macro → List Place
+marks pins ms = pins ++ sides ms
 
 -- L1: all x values, or all y values, of pins and macro sides, in order and each once
-unfoldable pub linesOf : Axis → Net → List ℤ
-linesOf axis net = sorted ltZ (map (coordinate axis) (marks net))
+unfoldable pub linesOf : Axis → List Place → List Macro → List ℤ
+linesOf axis pins ms = sorted ltZ (map (coordinate axis) (marks pins ms))
 
 abbrev pub xLines : Net → List ℤ
-xLines net = linesOf Across net
+xLines net = linesOf Across (net .pins) (net .macros)
 
 abbrev pub yLines : Net → List ℤ
-yLines net = linesOf Along net
+yLines net = linesOf Along (net .pins) (net .macros)
 
 -- the sides of all macros are lines
 pub record Sides (xs ys : List ℤ) (ms : List Macro) : Type 0 where

@@ -4,7 +4,7 @@ use mathlib.Core.Path.{_≡_}
 use mathlib.Core.Bool.{true, false}
 use mathlib.Core.Logic.{_⊎_}
 use mathlib.Core.List.{List}
-use Prim.Native.Nat.{ℕ, _+_, _≤_}
+use Prim.Native.Nat.{ℕ, _+_, _≤_, _<_}
 use lib.Dec.{ltb}
 use lib.ListN.{getD, set, length}
 
@@ -27,3 +27,7 @@ module _ (near : ℕ → ℕ → ℕ → Type 0) where
   -- no edge lowers a value any more
   abbrev pub Quiet : List ℕ → Type 0
   Quiet t = (v w c : ℕ) → near v w c → at t v ≤ at t w + c
+
+-- all numbers of a list are below n, and so is what is read past its end
+abbrev pub Below : ℕ → List ℕ → Type 0
+Below n t = (i : ℕ) → at t i < n
