@@ -20,3 +20,4 @@ pub mod PinOrder
 pub mod TableGrid
 pub mod NetDistance
 pub mod WholeLaws
+pub mod SquareLaws

@@ -4,12 +4,15 @@ use mathlib.Core.List.{List, map}
 use Prim.Native.Nat.{ℕ, _+_, _*_, _≤_, _<_}
 use lib.IntN.{ℤ, pos}
 use lib.ListN.{length, getD}
+use Rattle.lists.specs.Member.{_∈_}
 use Rattle.lists.specs.Sorted.{sorted}
+use Rattle.joined.specs.Joined.{Joined}
 use Rattle.joined.specs.Way.{Way, long}
 use Rattle.lent.specs.Over.{over}
 use Rattle.plane.specs.declared.Place.{Place}
 use Rattle.plane.specs.Place.{place, before}
 use Rattle.net.specs.Net.{Net, costIn}
+use Rattle.graph.specs.Spanning.{spanning}
 use Rattle.grid.specs.Walk.{Walk}
 use Rattle.grid.specs.Lines.{UnitStep}
 use Rattle.grid.specs.Edges.{gridEdges}
@@ -35,11 +38,15 @@ pinsInOrder net = sorted before (net .pins)
 abbrev pub pinInOrder : Net → ℕ → Place
 pinInOrder net i = getD (pinsInOrder net) i (place (pos 0) (pos 0))
 
+-- the number at i·m + j of a table of m numbers a row
+abbrev pub entryAt : Net → List ℕ → ℕ → ℕ → ℕ
+entryAt net numbers i j = getD numbers (i * length (net .pins) + j) 0
+
 -- the first r rows of the table: the number at i·m + j is the distance of the pins i and j
 pub record Rows (net : Net) (r : ℕ) (numbers : List ℕ) : Type 0 where
   pub size : length numbers ≡ r * length (net .pins)
   pub each : (i j : ℕ) → i < r → j < length (net .pins) →
-      GridDistance net (pinInOrder net i) (pinInOrder net j) (getD numbers (i * length (net .pins) + j) 0)
+      GridDistance net (pinInOrder net i) (pinInOrder net j) (entryAt net numbers i j)
 
 -- L6: the square table of a net
 abbrev pub Square : Net → List ℕ → Type 0
@@ -50,3 +57,17 @@ pub record SquareOver (net : Net) (lent lent′ : List ℤ) : Type 0 where
   pub numbers : List ℕ
   pub square : Square net numbers
   pub list : lent′ ≡ over (map pos numbers) lent
+
+-- L7, L8: what holds of the square table of an allowed net
+pub record TrueSquare (net : Net) (numbers : List ℕ) : Type 0 where
+  -- no walk in clear unit steps joins two pins for less, and one costs just that
+  pub each : (i j : ℕ) → i < length (net .pins) → j < length (net .pins) →
+      TrueDistance net (pinInOrder net i) (pinInOrder net j) (entryAt net numbers i j)
+  -- the same both ways, with 0 from each pin to itself
+  pub even : (i j : ℕ) → i < length (net .pins) → j < length (net .pins) → entryAt net numbers i j ≡ entryAt net numbers j i
+  pub diagonal : (i : ℕ) → i < length (net .pins) → entryAt net numbers i i ≡ 0
+  -- a way along the spanning graph is never cheaper
+  pub graph : (i j : ℕ) → i < length (net .pins) → j < length (net .pins) → (ps : List Place) →
+      Way (spanning net) (pinInOrder net i) ps (pinInOrder net j) → entryAt net numbers i j ≤ long (costIn net) (pinInOrder net i) ps
+  -- each two pins are joined along the grid
+  pub joined : (p q : Place) → p ∈ net .pins → q ∈ net .pins → Joined (gridEdges net) p q
