@@ -1,4 +1,5 @@
--- Two places that are clear of each other are joined by a walk in clear unit steps of just their cost: along x, then along y, inside the box.
+-- Two places that are clear of each other are joined by a walk in clear unit steps of just their cost: along x, then along y, inside the
+-- box.
 -- Assumes nothing.
 use mathlib.Core.Path.{_≡_, refl, sym, ap₂}
 use mathlib.Core.Bool.{true}
@@ -46,7 +47,14 @@ toward a b =
     (λ e. by (ltZ b a)
     (λ f. inr let s = sub-sides a (pos 1) in record {
       next = a -ℤ pos 1;
-      unit = omega (signed, s, up-pos 1, down-pos 1, apart-comm a (a -ℤ pos 1), apart-ordered (a -ℤ pos 1) a (omega (signed, s, up-pos 1, down-pos 1)));
+      unit = omega (
+        signed,
+        s,
+        up-pos 1,
+        down-pos 1,
+        apart-comm a (a -ℤ pos 1),
+        apart-ordered (a -ℤ pos 1) a (omega (signed, s, up-pos 1, down-pos 1)),
+      );
       between = (omega (signed, f, s, up-pos 1, down-pos 1, min-sides a b), omega (signed, f, s, up-pos 1, down-pos 1, max-sides a b));
     })
     (λ f. inl (eq-of a b (omega (signed, e, f)))))

@@ -55,7 +55,8 @@ module _ (xs ys : List ℤ) (hx : Ascending ltZ xs) (hy : Ascending ltZ ys) wher
 
   -- no more lines than a row of crossings has numbers
   module _ (few-x : length xs ≤ lineBound) (few-y : length ys ≤ lineBound) where
-    pub numbers-single : (a b : Place) → isCrossing xs ys a ≡ true → isCrossing xs ys b ≡ true → crossingNumber xs ys a ≡ crossingNumber xs ys b → a ≡ b
+    pub numbers-single : (a b : Place) → isCrossing xs ys a ≡ true → isCrossing xs ys b ≡ true →
+        crossingNumber xs ys a ≡ crossingNumber xs ys b → a ≡ b
     unfolding crossingNumber
     numbers-single a b i k e =
         let p = crossing-is a i in
@@ -75,7 +76,8 @@ module _ (xs ys : List ℤ) (hx : Ascending ltZ xs) (hy : Ascending ltZ ys) wher
 
 -- both ends of a step are crossings
 pub step-crossings : (xs ys : List ℤ) (ms : List Macro) (a b : Place) → GridStep xs ys ms a b → Crossing xs ys a × Crossing xs ys b
-step-crossings xs ys ms a b (across s e m h) = (record { across = firstOf s; along = m }, record { across = secondOf s; along = rw (← e) m })
+step-crossings xs ys ms a b (across s e m h) =
+    (record { across = firstOf s; along = m }, record { across = secondOf s; along = rw (← e) m })
   where
     firstOf : Beside xs (a .x) (b .x) → a .x ∈ xs
     firstOf (inl n) = n .first

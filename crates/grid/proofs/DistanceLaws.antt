@@ -49,11 +49,13 @@ module _ (net : Net) where
       record { points = r .points; way = walk-way (walk-map (grid-link net) (r .walk)); within = r .within }
 
   -- and a way along the grid is such a walk
-  pub grid-way-walk : {p q : Place} {ps : List Place} → Way (gridEdges net) p ps q → Exactly (UnitStep (net .macros)) price p q (long price p ps)
+  pub grid-way-walk : {p q : Place} {ps : List Place} → Way (gridEdges net) p ps q → Exactly (UnitStep (net .macros)) price p q
+      (long price p ps)
   grid-way-walk w = grid-walk (net .macros) (net .weights) (xLines net) (yLines net) (walk-map (link-grid net) (way-walk w))
 
   -- a walk over clear edges, whose inner places may be anywhere
-  pub no-clear-walk-cheaper : {p q : Place} {ps : List Place} → IsCrossing net p → IsCrossing net q → Walk (ClearStep (net .macros)) p ps q →
+  pub no-clear-walk-cheaper : {p q : Place} {ps : List Place} → IsCrossing net p → IsCrossing net q →
+      Walk (ClearStep (net .macros)) p ps q →
       GridWay p q (long price p ps)
   no-clear-walk-cheaper {p} {q} a c w =
       let u = clear-walk (net .macros) (net .weights) w in

@@ -3,7 +3,8 @@
 use mathlib.Core.Path.{_≡_, refl, sym, ap, ap₂, _∙_}
 use mathlib.Core.Bool.{true}
 use mathlib.Core.Logic.{_⊎_, inl, inr}
-use mathlib.Core.List.{List, [], _∷_, _++_, map, List·Memᴰ·cases-cons, List·Memᴰ·append-cases, Memᴰ·append-left, Memᴰ·append-right, Memᴰ·cast}
+use mathlib.Core.List.{List, [], _∷_, _++_, map, List·Memᴰ·cases-cons, List·Memᴰ·append-cases, Memᴰ·append-left, Memᴰ·append-right}
+use mathlib.Core.List.{Memᴰ·cast}
 use lib.IntN.{ℤ}
 use lib.Signed.{ltZ}
 use Rattle.lists.specs.Member.{_∈_, here, there}
@@ -62,7 +63,8 @@ pub of-nexts : (L : List ℤ) → Ascending ltZ L → (a b : ℤ) → (a, b) ∈
 unfolding nexts
 of-nexts [] h a b m = elim m [ ]
 of-nexts (x ∷ []) h a b m = elim m [ ]
-of-nexts (x ∷ (y ∷ l)) h a b m = either (λ e. head (firsts e) (seconds e)) (λ i. further (of-nexts (y ∷ l) (h .1) a b i)) (List·Memᴰ·cases-cons m)
+of-nexts (x ∷ (y ∷ l)) h a b m = either (λ e. head (firsts e) (seconds e)) (λ i. further (of-nexts (y ∷ l) (h .1) a b i))
+    (List·Memᴰ·cases-cons m)
   where
     none : (c : ℤ) → (c ≡ x) ⊎ (c ∈ (y ∷ l)) → Lt x c → Lt c y → ⊥
     none c (inl e) k i = let r : Lt x x = rw e at k in omega (signed, r)
@@ -126,10 +128,12 @@ module _ (xs ys : List ℤ) (ms : List Macro) where
     step-link a b (along (inr n) e m h) = inr (in-column b a n (sym e) (rw (← e) m) (clear-comm b a ms ∙ h))
 
     -- and back
-    across-at : (a b : Place) (p q y : ℤ) → a ≡ place p y → b ≡ place q y → Neighbours xs p q → y ∈ ys → clear a b ms ≡ true → GridStep xs ys ms a b
+    across-at : (a b : Place) (p q y : ℤ) → a ≡ place p y → b ≡ place q y → Neighbours xs p q → y ∈ ys → clear a b ms ≡ true →
+        GridStep xs ys ms a b
     across-at a b p q y e f n m h = across (inl (rw (e, f) n)) (rw (e, f) refl) (rw e m) h
 
-    along-at : (a b : Place) (p q x : ℤ) → a ≡ place x p → b ≡ place x q → Neighbours ys p q → x ∈ xs → clear a b ms ≡ true → GridStep xs ys ms a b
+    along-at : (a b : Place) (p q x : ℤ) → a ≡ place x p → b ≡ place x q → Neighbours ys p q → x ∈ xs → clear a b ms ≡ true →
+        GridStep xs ys ms a b
     along-at a b p q x e f n m h = along (inl (rw (e, f) n)) (rw (e, f) refl) (rw e m) h
 
     of-row : (a b : Place) → clear a b ms ≡ true → (a, b) ∈ rows xs ys → GridStep xs ys ms a b

@@ -10,7 +10,8 @@ use native.Mathlib.Omega.{arith}
 use lib.Dec.{ltb}
 use borrow.Author.Tests.{ltb-true, ltb-false}
 use lib.IntN.{ℤ, pos}
-use lib.ListN.{length, getD, set, take, replicate, length-set, length-replicate, getD-replicate, length-append, length-map, List·getD-eq-default, List·getD-append}
+use lib.ListN.{length, getD, set, take, replicate, length-set, length-replicate, getD-replicate, length-append, length-map}
+use lib.ListN.{List·getD-eq-default, List·getD-append}
 use lib.Seq.{sets, getD-set-same, getD-set-other, getD-take, getD-append-add, length-take-le}
 use Rattle.lists.proofs.TestLaws.{by}
 use Rattle.lists.proofs.MapLaws.{getD-map}
@@ -95,7 +96,14 @@ module _ (near : ℕ → ℕ → ℕ → Type 0) (numbers : List ℕ) (m : ℕ) 
     each i j h k = pick (ℕ-discrete i r)
       where
         pick : Dec (i ≡ r) → Settled near (getD numbers i 0) (getD numbers j 0) (getD (o .done ++ new) (i * m + j) 0)
-        pick (yes e) = rw e (record { start = p .start; starts = p .starts; row = p .row; held = p .held; quiet = p .quiet; is = latest j k })
+        pick (yes e) = rw e (record {
+          start = p .start;
+          starts = p .starts;
+          row = p .row;
+          held = p .held;
+          quiet = p .quiet;
+          is = latest j k;
+        })
         pick (no n) =
             let g : i < r = omega (arith, h, n) in
             rw (earlier i j g k) (o .each i j g k)

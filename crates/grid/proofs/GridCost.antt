@@ -81,7 +81,8 @@ module _ (w : Weights) where
       omega (arith, sum, axis-self (w .across) x, column-cost hi x z l (h .1) up (λ c m. k c (there m)))
 
   -- n lines, each within some extent
-  rows-cost : (xs : List ℤ) (most : ℕ) → ((y : ℤ) → lengths price (row xs y) ≤ most) → (ys : List ℤ) → lengths price (rows xs ys) ≤ length ys * most
+  rows-cost : (xs : List ℤ) (most : ℕ) → ((y : ℤ) → lengths price (row xs y) ≤ most) → (ys : List ℤ) →
+      lengths price (rows xs ys) ≤ length ys * most
   unfolding rows lengths total
   rows-cost xs most h [] = omega arith
   rows-cost xs most h (y ∷ ys) =
@@ -98,13 +99,21 @@ module _ (w : Weights) where
   unfolding lengths total row nexts
   any-row [] hi span e y = omega arith
   any-row (x ∷ l) hi span e y =
-      omega (arith, row-cost hi y x l (e .ascending) (e .below x (here refl)) (λ c m. e .below c (there m)), mul-le-mul-right (w .across) (e .near x (here refl)))
+      omega (
+        arith,
+        row-cost hi y x l (e .ascending) (e .below x (here refl)) (λ c m. e .below c (there m)),
+        mul-le-mul-right (w .across) (e .near x (here refl)),
+      )
 
   any-column : (ys : List ℤ) (hi : ℤ) (span : ℕ) → Extent ys hi span → (x : ℤ) → lengths price (column ys x) ≤ span * w .along
   unfolding lengths total column nexts
   any-column [] hi span e x = omega arith
   any-column (y ∷ l) hi span e x =
-      omega (arith, column-cost hi x y l (e .ascending) (e .below y (here refl)) (λ c m. e .below c (there m)), mul-le-mul-right (w .along) (e .near y (here refl)))
+      omega (
+        arith,
+        column-cost hi x y l (e .ascending) (e .below y (here refl)) (λ c m. e .below c (there m)),
+        mul-le-mul-right (w .along) (e .near y (here refl)),
+      )
 
   pub edges-cost : (xs ys : List ℤ) (ms : List Macro) (hi : ℤ) (span : ℕ) → Extent xs hi span → Extent ys hi span →
       lengths price (edgesOf xs ys ms) ≤ length ys * (span * w .across) + length xs * (span * w .along)
@@ -186,7 +195,8 @@ module _ {net : Net} (a : Allowed net) where
   grid-cost h k =
       omega (
         arith,
-        edges-cost (net .weights) (xLines net) (yLines net) (net .macros) (pos coordinateBound) (coordinateBound * 2) (extent Across) (extent Along),
+        edges-cost (net .weights) (xLines net) (yLines net) (net .macros) (pos coordinateBound) (coordinateBound * 2) (extent Across)
+            (extent Along),
         bound (length (yLines net)) (net .weights .across) (omega (arith, h, k, line-count Along net)) (a .weighted .across),
         bound (length (xLines net)) (net .weights .along) (omega (arith, h, k, line-count Across net)) (a .weighted .along),
       )

@@ -60,7 +60,8 @@ module _ (L : List ℤ) (b x y : ℤ) (a : About L b x) (unit : apart x y ≡ 1)
   moved-up : up y + down x ≡ up x + down y + 1 → Dec (y ∈ L) → Moved L b x y
   moved-up h (no n) = stays record {
     line = a .line;
-    below = λ c i k l. by (ltZ x c) (λ e. n (Memᴰ·cast (eq-of y c (omega (signed, h, l, ltZ-true x c e))) i)) (λ e. a .below c i k (omega (signed, e)));
+    below = λ c i k l. by (ltZ x c) (λ e. n (Memᴰ·cast (eq-of y c (omega (signed, h, l, ltZ-true x c e))) i))
+        (λ e. a .below c i k (omega (signed, e)));
     above = λ c i k l. a .above c i (omega (signed, h, k)) l;
   } nearly
   moved-up h (yes m) =
@@ -78,7 +79,8 @@ module _ (L : List ℤ) (b x y : ℤ) (a : About L b x) (unit : apart x y ≡ 1)
   moved-down h (no n) = stays record {
     line = a .line;
     below = λ c i k l. a .below c i k (omega (signed, h, l));
-    above = λ c i k l. by (ltZ c x) (λ e. n (Memᴰ·cast (eq-of y c (omega (signed, h, k, ltZ-true c x e))) i)) (λ e. a .above c i (omega (signed, e)) l);
+    above = λ c i k l. by (ltZ c x) (λ e. n (Memᴰ·cast (eq-of y c (omega (signed, h, k, ltZ-true c x e))) i))
+        (λ e. a .above c i (omega (signed, e)) l);
   } nearly
   moved-down h (yes m) =
       by (ltZ y b)

@@ -1,6 +1,6 @@
 -- A settled table of distances is the least cost of a way along the pairs: never above a way, by induction on the way, and the cost of one,
--- by induction on the number. Pairs that join v with the point cost no less together: one of them at v is taken out, and the others join the
--- point with v still, or with its other end.
+-- by induction on the number. Pairs that join v with the point cost no less together: one of them at v is taken out, and the others join
+-- the point with v still, or with its other end.
 -- Assumes nothing.
 use mathlib.Core.Path.{_≡_, refl, sym}
 use mathlib.Core.Logic.{_⊎_, inl, inr}

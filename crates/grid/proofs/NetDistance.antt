@@ -1,5 +1,5 @@
--- An allowed net of a size that gets a grid: its tables fit, and what stands at a pin of a row settled from another is the cheapest cost along
--- the grid between the two. There is a way, since the spanning graph joins all pins, and it costs no more than all edges of the grid.
+-- An allowed net of a size that gets a grid: its tables fit, and what stands at a pin of a row settled from another is the cheapest cost
+-- along the grid between the two. There is a way, since the spanning graph joins all pins, and it costs no more than all edges of the grid.
 -- Assumes nothing.
 use mathlib.Core.Path.{_≡_, refl, sym, ap, subst, _∙_}
 use mathlib.Core.Bool.{Bool, true, false}
@@ -103,7 +103,8 @@ range-at L lent h z room i =
 pub zeros-read : {A : Type 0} (n : ℕ) (d : A) (i : ℕ) → getD (replicate n d) i d ≡ d
 zeros-read n d i =
     by (ltb i n) (λ e. getD-replicate n i d d (ltb-true i n e))
-    (λ e. List·getD-eq-default (replicate n d) d (let z : length (replicate n d) ≤ i = omega (arith, ltb-false i n e, length-replicate n d) in z))
+    (λ e. List·getD-eq-default (replicate n d) d
+    (let z : length (replicate n d) ≤ i = omega (arith, ltb-false i n e, length-replicate n d) in z))
 
 -- as many in order as in the list
 pub order-count : {net : Net} → Allowed net → length (pinsInOrder net) ≡ length (net .pins)
@@ -148,9 +149,11 @@ module _ {net : Net} (a : Allowed net) (few-pins : length (net .pins) ≤ gridPi
 
   pub pin-below : (p : Place) → p ∈ net .pins → name p < crossingBound
   pin-below p i =
-      number-below (xLines net) (yLines net) (x-ascending net) (y-ascending net) (few-lines Across) (few-lines Along) p (pin-crossing net p i)
+      number-below (xLines net) (yLines net) (x-ascending net) (y-ascending net) (few-lines Across) (few-lines Along) p
+      (pin-crossing net p i)
 
-  module _ (g : Grid) (xs ys : List ℤ) (costs : List ℕ) (e : ℕ) (made : Made net g xs ys costs e) (p q : Place) (i : p ∈ net .pins) (k : q ∈ net .pins)
+  module _ (g : Grid) (xs ys : List ℤ) (costs : List ℕ) (e : ℕ) (made : Made net g xs ys costs e) (p q : Place) (i : p ∈ net .pins)
+      (k : q ∈ net .pins)
       (n : ℕ) (s : Settled (Near costs e) (name q) (name p) n) where
     abbrev G : List (Place × Place)
     G = gridEdges net
@@ -172,7 +175,8 @@ module _ {net : Net} (a : Allowed net) (few-pins : length (net .pins) ≤ gridPi
 
     quiet : Quiet (NearGrid net g xs ys costs e made) (s .row)
     quiet =
-        quiet-near (Near costs e) (NearGrid net g xs ys costs e made) (grid-near net g xs ys costs e made (allowed-positive a)) (s .row) (s .quiet)
+        quiet-near (Near costs e) (NearGrid net g xs ys costs e made) (grid-near net g xs ys costs e made (allowed-positive a)) (s .row)
+        (s .quiet)
 
     start-at : values (s .start) q ≡ 0
     start-at = spread-on G (costIn net) unreached on name (s .start) q (on-pin q k) ∙ s .starts .here
@@ -206,7 +210,8 @@ module _ {net : Net} (a : Allowed net) (few-pins : length (net .pins) ≤ gridPi
         omega (
           arith,
           grid-cost a few-pins few-macros,
-          nearest-joined G (costIn net) (cost-length (net .weights)) unreached q (values (s .row)) nearest G p (λ u v m. inl m) (pins-joined a i k),
+          nearest-joined G (costIn net) (cost-length (net .weights)) unreached q (values (s .row)) nearest G p (λ u v m. inl m)
+              (pins-joined a i k),
         )
 
     pub settled-distance : GridDistance net p q n
@@ -228,7 +233,8 @@ module _ {net : Net} (a : Allowed net) (few-pins : length (net .pins) ≤ gridPi
 
     in-order : (i : ℕ) → i < length (net .pins) → pinInOrder net i ∈ net .pins
     in-order i h =
-        of-sorted before (net .pins) (pinInOrder net i) (getD-in (pinsInOrder net) i (place (pos 0) (pos 0)) (omega (arith, h, order-count a)))
+        of-sorted before (net .pins) (pinInOrder net i)
+        (getD-in (pinsInOrder net) i (place (pos 0) (pos 0)) (omega (arith, h, order-count a)))
 
     number-at : (i : ℕ) → i < length (net .pins) → getD numbers i 0 ≡ name (pinInOrder net i)
     unfolding over
@@ -254,7 +260,8 @@ module _ {net : Net} (a : Allowed net) (few-pins : length (net .pins) ≤ gridPi
         (λ e. omega (arith, past i (ltb-false i (length (net .pins)) e)))
 
     pub numbers-count : length numbers ≡ gridPins
-    numbers-count = length-over (map name (pinsInOrder net)) zeros (omega (arith, room, few-pins, length-map (pinsInOrder net) name, order-count a)) ∙ room
+    numbers-count = length-over (map name (pinsInOrder net)) zeros
+        (omega (arith, room, few-pins, length-map (pinsInOrder net) name, order-count a)) ∙ room
 
     pub square-over : (g : Grid) (xs ys : List ℤ) (costs : List ℕ) (e : ℕ) → Made net g xs ys costs e → (lent lent′ : List ℤ) →
         RowsOver (Near costs e) numbers (length (net .pins)) (length (net .pins)) lent lent′ → SquareOver net lent lent′
@@ -271,7 +278,8 @@ module _ {net : Net} (a : Allowed net) (few-pins : length (net .pins) ≤ gridPi
     }
       where
         renamed : (i j : ℕ) → i < length (net .pins) → j < length (net .pins) → {n : ℕ} →
-            Settled (Near costs e) (getD numbers i 0) (getD numbers j 0) n → Settled (Near costs e) (name (pinInOrder net i)) (name (pinInOrder net j)) n
+            Settled (Near costs e) (getD numbers i 0) (getD numbers j 0) n → Settled (Near costs e) (name (pinInOrder net i))
+            (name (pinInOrder net j)) n
         renamed i j h k s = record {
           start = s .start;
           starts = subst (λ (v : ℕ). Starts v (s .start)) (number-at i h) (s .starts);

@@ -103,7 +103,8 @@ module _ (costs : List ℕ) (e : ℕ) where
       in-a = omega (arith, long, fits .count, inside)
 
       held-first : Held (Near costs e) s first
-      held-first = held-lowered (Near costs e) s t (p .held) a b c (k, (inside, record { ends = inl (refl, refl); price = refl; is = is })) in-a
+      held-first = held-lowered (Near costs e) s t (p .held) a b c
+          (k, (inside, record { ends = inl (refl, refl); price = refl; is = is })) in-a
 
       in-b : b < length first
       in-b = omega (arith, held-first .size, row .size, fits .ends k inside is)

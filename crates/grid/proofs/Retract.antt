@@ -44,7 +44,8 @@ module _ (xs ys : List ℤ) (ms : List Macro) (sides : Sides xs ys ms) (w : Weig
     pub within : long price (place lineX lineY) points + price (place lineX lineY) z ≤ n
 
   -- a step from z along x to z', by what becomes of the line about z'
-  module _ (z t q : Place) (n : ℕ) (unit : apart (z .x) (t .x) ≡ 1) (level : z .y ≡ t .y) (free : clear z t ms ≡ true) (b : Behind t q n) where
+  module _ (z t q : Place) (n : ℕ) (unit : apart (z .x) (t .x) ≡ 1) (level : z .y ≡ t .y) (free : clear z t ms ≡ true)
+      (b : Behind t q n) where
     flat : place (z .x) (t .y) ≡ z
     flat = ap (λ (y : ℤ). place (z .x) y) (sym level)
 
@@ -83,7 +84,12 @@ module _ (xs ys : List ℤ) (ms : List Macro) (sides : Sides xs ys ms) (w : Weig
       about-y = rw level (b .about-y);
       points = b .points;
       walk = b .walk;
-      within = rw level (omega (arith, b .within, axis-le (w .across) (b .lineX) (z .x) (b .lineX) (t .x) e, axis-one (w .across) (z .x) (t .x) unit));
+      within = rw level (omega (
+        arith,
+        b .within,
+        axis-le (w .across) (b .lineX) (z .x) (b .lineX) (t .x) e,
+        axis-one (w .across) (z .x) (t .x) unit,
+      ));
     }
     stepped-across (rises s h k e) =
         crossed (inr s)
@@ -96,7 +102,8 @@ module _ (xs ys : List ℤ) (ms : List Macro) (sides : Sides xs ys ms) (w : Weig
         (s .first) e
 
   -- the same along y
-  module _ (z t q : Place) (n : ℕ) (plumb : z .x ≡ t .x) (unit : apart (z .y) (t .y) ≡ 1) (free : clear z t ms ≡ true) (b : Behind t q n) where
+  module _ (z t q : Place) (n : ℕ) (plumb : z .x ≡ t .x) (unit : apart (z .y) (t .y) ≡ 1) (free : clear z t ms ≡ true)
+      (b : Behind t q n) where
     upright : place (t .x) (z .y) ≡ z
     upright = ap (λ (x : ℤ). place x (z .y)) (sym plumb)
 
@@ -130,7 +137,12 @@ module _ (xs ys : List ℤ) (ms : List Macro) (sides : Sides xs ys ms) (w : Weig
       about-y = a;
       points = b .points;
       walk = b .walk;
-      within = rw plumb (omega (arith, b .within, axis-le (w .along) (b .lineY) (z .y) (b .lineY) (t .y) e, axis-one (w .along) (z .y) (t .y) unit));
+      within = rw plumb (omega (
+        arith,
+        b .within,
+        axis-le (w .along) (b .lineY) (z .y) (b .lineY) (t .y) e,
+        axis-one (w .along) (z .y) (t .y) unit,
+      ));
     }
     stepped-along (rises s h k e) =
         climbed (inr s)
@@ -145,8 +157,10 @@ module _ (xs ys : List ℤ) (ms : List Macro) (sides : Sides xs ys ms) (w : Weig
   stepped : (z t q : Place) (n : ℕ) → UnitStep ms z t → Behind t q n → Behind z q (price z t + n)
   stepped z t q n u b =
       either
-      (λ h. stepped-across z t q n (h .0) (h .1) (u .free) b (moved xs (b .lineX) (t .x) (z .x) (b .about-x) (apart-comm (t .x) (z .x) ∙ h .0)))
-      (λ h. stepped-along z t q n (h .0) (h .1) (u .free) b (moved ys (b .lineY) (t .y) (z .y) (b .about-y) (apart-comm (t .y) (z .y) ∙ h .1)))
+      (λ h. stepped-across z t q n (h .0) (h .1) (u .free) b
+      (moved xs (b .lineX) (t .x) (z .x) (b .about-x) (apart-comm (t .x) (z .x) ∙ h .0)))
+      (λ h. stepped-along z t q n (h .0) (h .1) (u .free) b
+      (moved ys (b .lineY) (t .y) (z .y) (b .about-y) (apart-comm (t .y) (z .y) ∙ h .1)))
       (unit-axes z t (u .unit))
 
   behind : {z q : Place} {ps : List Place} → Crossing xs ys q → Walk (UnitStep ms) z ps q → Behind z q (long price z ps)

@@ -105,7 +105,8 @@ module _ (near : ℕ → ℕ → ℕ → Type 0) where
       pick (inr r) = inr (r .0, (r .1 .0, (r .1 .1 .0, omega (arith, r .1 .1 .1, q v (r .0) (r .1 .0) (r .1 .1 .0)))))
 
 -- the same edges, said in another way
-pub held-near : (near other : ℕ → ℕ → ℕ → Type 0) → ((v w c : ℕ) → near v w c → other v w c) → (s t : List ℕ) → Held near s t → Held other s t
+pub held-near : (near other : ℕ → ℕ → ℕ → Type 0) → ((v w c : ℕ) → near v w c → other v w c) → (s t : List ℕ) → Held near s t →
+    Held other s t
 held-near near other f s t h = record { size = h .size; below = h .below; why = λ v. pick v (h .why v) }
   where
     pick : (v : ℕ) → (at t v ≡ at s v) ⊎ ((w : ℕ) × ((c : ℕ) × (near v w c × (at t w + c ≤ at t v)))) →

@@ -87,7 +87,8 @@ module _ (w : Weights) (ms : List Macro) (g : Grid) (xs ys : List ℤ) (k : ℕ)
   unfolding edgeCost
   edge-none e = rw (edgeCost, e) refl
 
-  pub edge-there : isSegment g k ≡ true → edgeCost w ms g xs ys k ≡ segmentCost w ms (crossingAt xs ys (k / 2)) (crossingAt xs ys (target k))
+  pub edge-there : isSegment g k ≡ true → edgeCost w ms g xs ys k ≡ segmentCost w ms (crossingAt xs ys (k / 2))
+      (crossingAt xs ys (target k))
   unfolding edgeCost
   edge-there e = rw (edgeCost, e) refl
 
@@ -101,6 +102,11 @@ module _ (w : Weights) (ms : List Macro) (g : Grid) (xs ys : List ℤ) (k : ℕ)
   edge-low p =
       by (isSegment g k)
       (λ s. by (clear (crossingAt xs ys (k / 2)) (crossingAt xs ys (target k)) ms)
-      (λ f. omega (arith, edge-there s, segment-clear w ms (crossingAt xs ys (k / 2)) (crossingAt xs ys (target k)) f, p (k / 2) (target k)))
+      (λ f. omega (
+        arith,
+        edge-there s,
+        segment-clear w ms (crossingAt xs ys (k / 2)) (crossingAt xs ys (target k)) f,
+        p (k / 2) (target k),
+      ))
       (λ f. omega (arith, edge-there s, segment-met w ms (crossingAt xs ys (k / 2)) (crossingAt xs ys (target k)) f)))
       (λ s. omega (arith, edge-none s))

@@ -37,7 +37,8 @@ module _ {A : Type 0} (G : List (A × A)) (d : A → A → ℕ) (cap : ℕ) (on 
       (ends-on : (a b : A) → Link G a b → (on a ≡ true) × (on b ≡ true)) (s t : List ℕ) (h : Held NearOf s t) where
     pub spread-below : (v : A) → spread t v ≤ spread s v
     spread-below v =
-        by (on v) (λ e. omega (arith, spread-on t v e, spread-on s v e, h .below (number v))) (λ e. omega (arith, spread-off t v e, spread-off s v e))
+        by (on v) (λ e. omega (arith, spread-on t v e, spread-on s v e, h .below (number v)))
+        (λ e. omega (arith, spread-off t v e, spread-off s v e))
 
     pub spread-quiet : Quiet NearOf t → (v w : A) → Link G v w → spread t v ≤ spread t w + d v w
     spread-quiet q v w l =
@@ -63,7 +64,8 @@ module _ {A : Type 0} (G : List (A × A)) (d : A → A → ℕ) (cap : ℕ) (on 
             let there : at t x ≡ spread t (n .to) = ap (at t) (n .to-is) ∙ sym (spread-on t (n .to) (o .1)) in
             (n .to, (l, omega (arith, k, cost, there, spread-on t v e)))
 
-        pick : on v ≡ true → (at t (number v) ≡ at s (number v)) ⊎ ((w : ℕ) × ((c : ℕ) × (NearOf (number v) w c × (at t w + c ≤ at t (number v))))) →
+        pick : on v ≡ true → (at t (number v) ≡ at s (number v)) ⊎
+            ((w : ℕ) × ((c : ℕ) × (NearOf (number v) w c × (at t w + c ≤ at t (number v))))) →
             (spread t v ≡ spread s v) ⊎ ((w : A) × (Link G v w × (spread t w + d v w ≤ spread t v)))
         pick e (inl k) = inl (spread-on t v e ∙ k ∙ sym (spread-on s v e))
         pick e (inr r) = inr (over e (r .0) (r .1 .0) (r .1 .1 .0) (r .1 .1 .1))

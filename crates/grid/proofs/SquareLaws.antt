@@ -114,9 +114,11 @@ module _ (w : Weights) {ps qs : List Place} {ms ns : List Macro} (same : SameGro
   module _ (a : Allowed net) (b : Allowed net′) (t u : List ℕ) (s : Square net t) (r : Square net′ u) where
     same-entry : (i j : ℕ) → i < length ps → j < length ps → entryAt net t i j ≡ entryAt net′ u i j
     same-entry i j h k =
-        let one : TrueDistance net′ (pinInOrder net i) (pinInOrder net j) (entryAt net t i j) = true-there (square-true a t s .each i j h k) in
+        let one : TrueDistance net′ (pinInOrder net i) (pinInOrder net j) (entryAt net t i j) = true-there
+        (square-true a t s .each i j h k) in
         let two = square-true b u r .each i j (omega (arith, h, same .count)) (omega (arith, k, same .count)) in
-        true-only (subst (λ (l : List Place). TrueDistance net′ (getD l i (place (pos 0) (pos 0))) (getD l j (place (pos 0) (pos 0))) (entryAt net t i j))
+        true-only (subst (λ (l : List Place). TrueDistance net′ (getD l i (place (pos 0) (pos 0))) (getD l j (place (pos 0) (pos 0)))
+        (entryAt net t i j))
         same-order one) two
 
     square-length : length t ≡ length u

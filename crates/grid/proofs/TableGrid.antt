@@ -37,7 +37,8 @@ use Rattle.grid.specs.Crossings.{isCrossing, crossingNumber}
 use Rattle.grid.specs.Tables.{FewLines, crossingAt, target, isSegment, segmentCost, edgeCost, CostsTo, Reads, Near}
 use Rattle.grid.proofs.LineLaws.{line-order}
 use Rattle.grid.proofs.EdgeLaws.{in-nexts, of-nexts, x-ascending, y-ascending, grid-link, link-grid}
-use Rattle.grid.proofs.SegmentLaws.{target-even, target-odd, segment-clear, segment-met, even-segment, odd-segment, segment-inside, edge-none, edge-there}
+use Rattle.grid.proofs.SegmentLaws.{target-even, target-odd, segment-clear, segment-met, even-segment, odd-segment, segment-inside}
+use Rattle.grid.proofs.SegmentLaws.{edge-none, edge-there}
 use Rattle.grid.proofs.Spread.{NearOf}
 
 -- a number of a crossing, taken apart
@@ -142,10 +143,12 @@ module _ (net : Net) (g : Grid) (xs ys : List ℤ) (costs : List ℕ) (e : ℕ) 
           price =
               made .filled .each k inside
               ∙ edge-there (net .weights) (net .macros) g xs ys k there
-              ∙ ap₂ (segmentCost (net .weights) (net .macros)) (at-crossing (k / 2) i j half (omega (arith, h)) l) (at-crossing (target k) (i + 1) j to h l);
+              ∙ ap₂ (segmentCost (net .weights) (net .macros)) (at-crossing (k / 2) i j half (omega (arith, h)) l)
+              (at-crossing (target k) (i + 1) j to h l);
         }
 
-    odd-facts : i < length (xLines net) → j + 1 < length (yLines net) → Facts ((i * lineBound + j) * 2 + 1) (crossing i j) (crossing i (j + 1))
+    odd-facts : i < length (xLines net) → j + 1 < length (yLines net) → Facts ((i * lineBound + j) * 2 + 1) (crossing i j)
+        (crossing i (j + 1))
     odd-facts h l =
         let k = (i * lineBound + j) * 2 + 1 in
         let half : k / 2 ≡ i * lineBound + j = omega arith in
@@ -161,7 +164,8 @@ module _ (net : Net) (g : Grid) (xs ys : List ℤ) (costs : List ℕ) (e : ℕ) 
           price =
               made .filled .each k inside
               ∙ edge-there (net .weights) (net .macros) g xs ys k there
-              ∙ ap₂ (segmentCost (net .weights) (net .macros)) (at-crossing (k / 2) i j half h (omega (arith, l))) (at-crossing (target k) i (j + 1) to h l);
+              ∙ ap₂ (segmentCost (net .weights) (net .macros)) (at-crossing (k / 2) i j half h (omega (arith, l)))
+              (at-crossing (target k) i (j + 1) to h l);
         }
 
   -- From the tables to the grid
@@ -204,13 +208,15 @@ module _ (net : Net) (g : Grid) (xs ys : List ℤ) (costs : List ℕ) (e : ℕ) 
     even-near h l s =
         facts-near ((i * lineBound + j) * 2) v w c (crossing i j) (crossing (i + 1) j) (even-facts i j h l)
         (λ free. grid-link net (crossing i j) (crossing (i + 1) j)
-        (across (inl (of-nexts (xLines net) (x-ascending net) _ _ (next-at (xLines net) i h))) refl (getD-in (yLines net) j (pos 0) l) free)) s
+        (across (inl (of-nexts (xLines net) (x-ascending net) _ _ (next-at (xLines net) i h))) refl
+        (getD-in (yLines net) j (pos 0) l) free)) s
 
     odd-near : i < length (xLines net) → j + 1 < length (yLines net) → Reads costs e ((i * lineBound + j) * 2 + 1) v w c → NearGrid v w c
     odd-near h l s =
         facts-near ((i * lineBound + j) * 2 + 1) v w c (crossing i j) (crossing i (j + 1)) (odd-facts i j h l)
         (λ free. grid-link net (crossing i j) (crossing i (j + 1))
-        (along (inl (of-nexts (yLines net) (y-ascending net) _ _ (next-at (yLines net) j l))) refl (getD-in (xLines net) i (pos 0) h) free)) s
+        (along (inl (of-nexts (yLines net) (y-ascending net) _ _ (next-at (yLines net) j l))) refl
+        (getD-in (xLines net) i (pos 0) h) free)) s
 
   pub near-grid : (v w c : ℕ) → Near costs e v w c → NearGrid v w c
   near-grid v w c (k, (inside, r)) = at (ℕ-discrete (k % 2) 0)
@@ -218,7 +224,8 @@ module _ (net : Net) (g : Grid) (xs ys : List ℤ) (costs : List ℕ) (e : ℕ) 
       there : isSegment g k ≡ true
       there =
           by (isSegment g k) (λ f. f)
-          (λ f. let z : ⊥ = omega (arith, r .is, made .filled .each k inside, edge-none (net .weights) (net .macros) g xs ys k f) in absurd z)
+          (λ f. let z : ⊥ = omega (arith, r .is, made .filled .each k inside, edge-none (net .weights) (net .macros) g xs ys k f) in
+          absurd z)
 
       at : Dec (k % 2 ≡ 0) → NearGrid v w c
       at (yes z) =
@@ -237,8 +244,19 @@ module _ (net : Net) (g : Grid) (xs ys : List ℤ) (costs : List ℕ) (e : ℕ) 
   facts-reads : (k : ℕ) (a b c d : Place) → Facts k c d → a ≡ c → b ≡ d → clear a b (net .macros) ≡ true → 1 ≤ costIn net a b →
       Near costs e (name a) (name b) (costIn net a b)
   facts-reads k a b c d f g h free some =
-      let price : getD costs k 0 ≡ costIn net a b = rw (g, h) (f .price ∙ segment-clear (net .weights) (net .macros) c d (rw (g, h) at free)) in
-      (k, (f .inside, record { ends = inl (rw g (sym (f .from-is)), rw h (sym (f .to-is))); price = sym price; is = omega (arith, price, some) }))
+      let price : getD costs k 0 ≡ costIn net a b = rw (g, h)
+      (f .price ∙ segment-clear (net .weights) (net .macros) c d (rw (g, h) at free)) in (
+        k,
+        (
+          f .inside,
+          record {
+            ends = inl (rw g (sym (f .from-is)), rw h (sym (f .to-is)));
+            price = sym price;
+            is = omega
+                (arith, price, some);
+          },
+        ),
+      )
 
   near-turn : (v w c d : ℕ) → c ≡ d → Near costs e v w c → Near costs e w v d
   near-turn v w c d f (k, (h, r)) = (k, (h, record { ends = at (r .ends); price = sym f ∙ r .price; is = r .is }))
@@ -256,7 +274,8 @@ module _ (net : Net) (g : Grid) (xs ys : List ℤ) (costs : List ℕ) (e : ℕ) 
         let y = at-position ltZ line-order (yLines net) (y-ascending net) (a .y) (pos 0) m in
         facts-reads ((p .number * lineBound + j) * 2) a b (crossing (p .number) j) (crossing (p .number + 1) j)
         (even-facts (p .number) j (omega (arith, p .inside)) (position-small ltZ line-order (yLines net) (y-ascending net) (a .y) m))
-        (ap₂ place (p .first) (sym y)) (ap₂ place (p .second ∙ ap (λ (n : ℕ). getD (xLines net) n (pos 0)) (sym (add-one (p .number)))) (sym (y ∙ f))) free some
+        (ap₂ place (p .first) (sym y)) (ap₂ place (p .second ∙ ap (λ (n : ℕ). getD (xLines net) n (pos 0)) (sym (add-one (p .number))))
+        (sym (y ∙ f))) free some
 
     up-along : (a b : Place) → Neighbours (yLines net) (a .y) (b .y) → a .x ≡ b .x → a .x ∈ xLines net → clear a b (net .macros) ≡ true →
         1 ≤ costIn net a b → Near costs e (name a) (name b) (costIn net a b)
@@ -266,9 +285,11 @@ module _ (net : Net) (g : Grid) (xs ys : List ℤ) (costs : List ℕ) (e : ℕ) 
         let x = at-position ltZ line-order (xLines net) (x-ascending net) (a .x) (pos 0) m in
         facts-reads ((i * lineBound + p .number) * 2 + 1) a b (crossing i (p .number)) (crossing i (p .number + 1))
         (odd-facts i (p .number) (position-small ltZ line-order (xLines net) (x-ascending net) (a .x) m) (omega (arith, p .inside)))
-        (ap₂ place (sym x) (p .first)) (ap₂ place (sym (x ∙ f)) (p .second ∙ ap (λ (n : ℕ). getD (yLines net) n (pos 0)) (sym (add-one (p .number))))) free some
+        (ap₂ place (sym x) (p .first)) (ap₂ place (sym (x ∙ f))
+        (p .second ∙ ap (λ (n : ℕ). getD (yLines net) n (pos 0)) (sym (add-one (p .number))))) free some
 
-    step-near : (a b : Place) → GridStep (xLines net) (yLines net) (net .macros) a b → 1 ≤ costIn net a b → Near costs e (name a) (name b) (costIn net a b)
+    step-near : (a b : Place) → GridStep (xLines net) (yLines net) (net .macros) a b → 1 ≤ costIn net a b →
+        Near costs e (name a) (name b) (costIn net a b)
     step-near a b (across (inl n) f m free) some = up-across a b n f m free some
     step-near a b (across (inr n) f m free) some =
         near-turn (name b) (name a) (costIn net b a) (costIn net a b) (cost-comm (net .weights) b a)

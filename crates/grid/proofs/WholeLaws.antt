@@ -28,7 +28,8 @@ use Rattle.grid.specs.Rows.{Below}
 use Rattle.grid.specs.Tables.{FewLines, Priced, CostsTo, Fits, Near, RowsOver}
 use Rattle.grid.specs.Distance.{SquareOver}
 use Rattle.grid.proofs.TableGrid.{Made}
-use Rattle.grid.proofs.NetDistance.{over-at, zeros-read, few-lines, lines-priced, costs-fit, numbers-below, numbers-count, square-over}
+use Rattle.grid.proofs.NetDistance.{over-at, zeros-read, few-lines, lines-priced, costs-fit, numbers-below, numbers-count}
+use Rattle.grid.proofs.NetDistance.{square-over}
 
 -- a net of flat lists that gets a grid
 pub record Small (w : Weights) (pins macros : List ℤ) : Type 0 where
@@ -80,7 +81,8 @@ module _ {w : Weights} {pins macros : List ℤ} (s : Small w pins macros) where
     pub whole-priced : Priced w xs ys
     whole-priced u v =
         subst (λ (t : List ℤ × List ℤ). Priced w (t .0) (t .1)) (sym (ap₂ (λ (a b : List ℤ). (a, b)) (lx .list) (ly .list)))
-        (lines-priced (s .allowed) pins-few macros-few (lx .lent) (ly .lent) (zeros-at lx) (zeros-at ly) (zeros-long lx) (zeros-long ly)) u v
+        (lines-priced (s .allowed) pins-few macros-few (lx .lent) (ly .lent) (zeros-at lx) (zeros-at ly) (zeros-long lx) (zeros-long ly)) u
+        v
 
     module _ {costs : List ℕ} {e : ℕ} (count : e ≡ g .across * lineBound * 2) (c : CostsTo w (macrosOf macros) g xs ys e costs) where
       pub whole-fits : Fits costs e
@@ -99,27 +101,31 @@ module _ {w : Weights} {pins macros : List ℤ} (s : Small w pins macros) where
 
       -- the numbers of the pins, in a table of zeros
       module _ (zeros numbers : List ℕ) (fresh : zeros ≡ replicate gridPins 0)
-          (n : numbers ≡ over (map (crossingNumber (take (g .across) xs) (take (g .along) ys)) (sorted before (pinPlaces pins))) zeros) where
-        zero-at : (i : ℕ) → getD zeros i 0 ≡ 0
-        zero-at i = ap (λ (t : List ℕ). getD t i 0) fresh ∙ zeros-read gridPins 0 i
+          (n : numbers ≡ over (map (crossingNumber (take (g .across) xs) (take (g .along) ys)) (sorted before (pinPlaces pins))) zeros)
+        where
+          zero-at : (i : ℕ) → getD zeros i 0 ≡ 0
+          zero-at i = ap (λ (t : List ℕ). getD t i 0) fresh ∙ zeros-read gridPins 0 i
 
-        zero-long : length zeros ≡ gridPins
-        zero-long = ap length fresh ∙ length-replicate {A = ℕ} gridPins 0
+          zero-long : length zeros ≡ gridPins
+          zero-long = ap length fresh ∙ length-replicate {A = ℕ} gridPins 0
 
-        renamed : numbers ≡ over (map (crossingNumber (linesOf Across (pinPlaces pins) (macrosOf macros)) (linesOf Along (pinPlaces pins) (macrosOf macros)))
-            (sorted before (pinPlaces pins))) zeros
-        renamed =
-            n ∙ ap₂ (λ (a b : List ℤ). over (map (crossingNumber a b) (sorted before (pinPlaces pins))) zeros) (lines-taken lx) (lines-taken ly)
+          renamed : numbers ≡ over (map (crossingNumber (linesOf Across (pinPlaces pins) (macrosOf macros))
+              (linesOf Along (pinPlaces pins) (macrosOf macros)))
+              (sorted before (pinPlaces pins))) zeros
+          renamed =
+              n ∙ ap₂ (λ (a b : List ℤ). over (map (crossingNumber a b) (sorted before (pinPlaces pins))) zeros) (lines-taken lx)
+              (lines-taken ly)
 
-        pub whole-below : Below crossingBound numbers
-        whole-below i =
-            subst (Below crossingBound) (sym renamed) (numbers-below (s .allowed) pins-few macros-few zeros zero-at zero-long) i
+          pub whole-below : Below crossingBound numbers
+          whole-below i =
+              subst (Below crossingBound) (sym renamed) (numbers-below (s .allowed) pins-few macros-few zeros zero-at zero-long) i
 
-        pub whole-count : length numbers ≡ gridPins
-        whole-count = ap length renamed ∙ numbers-count (s .allowed) pins-few macros-few zeros zero-at zero-long
+          pub whole-count : length numbers ≡ gridPins
+          whole-count = ap length renamed ∙ numbers-count (s .allowed) pins-few macros-few zeros zero-at zero-long
 
-        pub whole-square : (lent lent′ : List ℤ) → RowsOver (Near costs e) numbers (pinCount pins) (pinCount pins) lent lent′ → SquareOver net lent lent′
-        whole-square lent lent′ o =
-            square-over (s .allowed) pins-few macros-few zeros zero-at zero-long g xs ys costs e made lent lent′
-            (subst (λ (t : List ℕ). RowsOver (Near costs e) t (length (pinPlaces pins)) (length (pinPlaces pins)) lent lent′) renamed
-            (subst (λ (m : ℕ). RowsOver (Near costs e) numbers m m lent lent′) (sym (length-pins pins)) o))
+          pub whole-square : (lent lent′ : List ℤ) → RowsOver (Near costs e) numbers (pinCount pins) (pinCount pins) lent lent′ →
+              SquareOver net lent lent′
+          whole-square lent lent′ o =
+              square-over (s .allowed) pins-few macros-few zeros zero-at zero-long g xs ys costs e made lent lent′
+              (subst (λ (t : List ℕ). RowsOver (Near costs e) t (length (pinPlaces pins)) (length (pinPlaces pins)) lent lent′) renamed
+              (subst (λ (m : ℕ). RowsOver (Near costs e) numbers m m lent lent′) (sym (length-pins pins)) o))

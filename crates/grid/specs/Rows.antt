@@ -1,5 +1,5 @@
--- A row of numbers, one for each crossing, lowered along the edges until nothing changes. What is said of it does not say in which order the
--- edges were taken: the rules fix the numbers and not the way to them.
+-- A row of numbers, one for each crossing, lowered along the edges until nothing changes. What is said of it does not say in which order
+-- the edges were taken: the rules fix the numbers and not the way to them.
 use mathlib.Core.Path.{_≡_}
 use mathlib.Core.Bool.{true, false}
 use mathlib.Core.Logic.{_⊎_}

@@ -4,7 +4,8 @@ use mathlib.Core.Path.{_≡_, refl, subst, sym}
 use native.Mathlib.Omega.{arith}
 use denote.Ref.{now}
 use Rattle.grid.specs.declared.Axis.the-variants.{Across, Along}
-use Rattle.grid.proofs.WholeLaws.{Small, Lined, table-long, whole-few, whole-priced, whole-fits, whole-below, whole-count, whole-square}
+use Rattle.grid.proofs.WholeLaws.{Small, Lined, table-long, whole-few, whole-priced, whole-fits, whole-below, whole-count}
+use Rattle.grid.proofs.WholeLaws.{whole-square}
 use borrow.Author.Needs.{needs}
 use Rattle.grid.proofs.distances.Statement.{statement}
 use Rattle.grid.proofs.distances.Tie as tie
@@ -43,8 +44,15 @@ abbrev lines-of : tie.After-put-costs → tie.After-lines2
 lines-of p = p .before .before .before .before .before
 
 across-of : (d : tie.After-lines2) → let s = start-of d in
-    Lined Across (now (s .args .pins)) (now (s .args .macros)) (d .before .before .before .lines .result) (d .before .before .before .lines .last .1 .1 .1 .0)
-across-of d = record { lent = _; fresh = refl; count = d .before .before .before .lines .ensures .0; list = d .before .before .before .lines .ensures .1 }
+    Lined Across (now (s .args .pins)) (now (s .args .macros)) (d .before .before .before .lines .result)
+    (d .before .before .before .lines .last .1 .1 .1 .0)
+across-of d = record {
+  lent = _;
+  fresh = refl;
+  count = d .before .before .before .lines .ensures .0;
+  list =
+      d .before .before .before .lines .ensures .1;
+}
 
 along-of : (d : tie.After-lines2) → let s = start-of d in
     Lined Along (now (s .args .pins)) (now (s .args .macros)) (d .lines2 .result) (d .lines2 .last .1 .1 .1 .0)
@@ -69,8 +77,10 @@ slice-aggregate-number-pins-2 c = search needs
 number-pins-requires : tie.Need-number-pins-requires
 number-pins-requires c κs =
     let d = lines-of (c .before .before .before) in
-    let s = start-of d in
-    ((whole-few (small s) (across-of d) (along-of d), (table-long (small s) (across-of d), table-long (small s) (along-of d))), (s .pre .1 .0 .0, refl))
+    let s = start-of d in (
+      (whole-few (small s) (across-of d) (along-of d), (table-long (small s) (across-of d), table-long (small s) (along-of d))),
+      (s .pre .1 .0 .0, refl),
+    )
 
 -- src/lib.rt:527:36
 pin-count-requires : tie.Need-pin-count-requires
@@ -84,9 +94,14 @@ give-rows-requires c κs =
     let d = lines-of p in
     let s = start-of d in
     let m = c .before .pin-count .ensures in
-    let below = whole-below (small s) (across-of d) (along-of d) (p .put-costs .ensures .0) (p .put-costs .ensures .1) _ _ refl (n .number-pins .ensures) in
-    let count = whole-count (small s) (across-of d) (along-of d) (p .put-costs .ensures .0) (p .put-costs .ensures .1) _ _ refl (n .number-pins .ensures) in (
-      (whole-fits (small s) (across-of d) (along-of d) (p .put-costs .ensures .0) (p .put-costs .ensures .1), (rw m (s .pre .1 .0 .0), (below, count))),
+    let below = whole-below (small s) (across-of d) (along-of d) (p .put-costs .ensures .0) (p .put-costs .ensures .1) _ _ refl
+    (n .number-pins .ensures) in
+    let count = whole-count (small s) (across-of d) (along-of d) (p .put-costs .ensures .0) (p .put-costs .ensures .1) _ _ refl
+    (n .number-pins .ensures) in (
+      (
+        whole-fits (small s) (across-of d) (along-of d) (p .put-costs .ensures .0) (p .put-costs .ensures .1),
+        (rw m (s .pre .1 .0 .0), (below, count)),
+      ),
       rw m (s .pre .1 .1),
     )
 
@@ -101,7 +116,8 @@ returns c =
     let n = g .before .before .before .before .before in
     let p = n .before .before .before .before in
     let d = lines-of p in
-    whole-square (small (start-of d)) (across-of d) (along-of d) (p .put-costs .ensures .0) (p .put-costs .ensures .1) _ _ refl (n .number-pins .ensures)
+    whole-square (small (start-of d)) (across-of d) (along-of d) (p .put-costs .ensures .0) (p .put-costs .ensures .1) _ _ refl
+    (n .number-pins .ensures)
     _ _ (rw (g .before .before .pin-count .ensures) at (g .give-rows .ensures))
 
 pub distances-spec : {M : Type 1} → statement M

@@ -15,7 +15,8 @@ use Rattle.grid.proofs.put_costs.Lts as lts
 use Rattle.grid.proofs.edge_cost.Reads as edge-cost-reads
 
 abbrev Inv-loop : tie.InvT-loop
-Inv-loop w macros grid xs ys costs₀ e k₀ costs k = ((k ≤ e) × (e ≤ segmentBound)) × ((length costs ≡ segmentBound) × CostsTo w (macrosOf macros) grid xs ys k costs)
+Inv-loop w macros grid xs ys costs₀ e k₀ costs k = ((k ≤ e) × (e ≤ segmentBound)) ×
+    ((length costs ≡ segmentBound) × CostsTo w (macrosOf macros) grid xs ys k costs)
 
 abbrev μ-loop : tie.MeasureT-loop
 μ-loop w macros grid xs ys costs₀ e k₀ costs k = e - k
@@ -63,8 +64,13 @@ loop-again c =
     let l = c .before .before in
     let i = l .loop .inv in
     let h = c .before .loop-test .taken in
-    let room : l .loop .k < length (l .loop .costs) = omega (arith, h, i .0 .1, i .1 .0) in
-    ((omega (arith, h), i .0 .1), (length-set (l .loop .costs) (l .loop .k) (c .edge-cost .result) ∙ i .1 .0, costs-more _ _ _ _ _ _ _ _ (i .1 .1) room (c .edge-cost .ensures)))
+    let room : l .loop .k < length (l .loop .costs) = omega (arith, h, i .0 .1, i .1 .0) in (
+      (omega (arith, h), i .0 .1),
+      (
+        length-set (l .loop .costs) (l .loop .k) (c .edge-cost .result) ∙ i .1 .0,
+        costs-more _ _ _ _ _ _ _ _ (i .1 .1) room (c .edge-cost .ensures),
+      ),
+    )
 
 -- src/lib.rt:273:1
 returns : tie.Need-returns Inv-loop μ-loop

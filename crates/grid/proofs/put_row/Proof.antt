@@ -20,7 +20,8 @@ use Rattle.grid.proofs.put_row.Lts as lts
 use Rattle.grid.proofs.wide.Reads as wide-reads
 
 abbrev Inv-loop : tie.InvT-loop
-Inv-loop row numbers m from table₀ j₀ table j = (j ≤ m) × ((length table ≡ length table₀) × (table ≡ sets table₀ from (map pos (picked row (take j numbers)))))
+Inv-loop row numbers m from table₀ j₀ table j = (j ≤ m) ×
+    ((length table ≡ length table₀) × (table ≡ sets table₀ from (map pos (picked row (take j numbers)))))
 
 abbrev μ-loop : tie.MeasureT-loop
 μ-loop row numbers m from table₀ j₀ table j = m - j
@@ -99,7 +100,8 @@ same-length c = c .before .loop .inv .1 .0
 returns : tie.Need-returns Inv-loop μ-loop
 returns c =
     let a = c .before .before .args in
-    put-end (now (a .row)) (now (a .numbers)) (now (a .table)) (a .from) (c .before .loop .j) (a .m) (c .before .loop .table) (c .before .loop .inv .0) (c .loop-test .left) (c .before .loop .inv .1 .1)
+    put-end (now (a .row)) (now (a .numbers)) (now (a .table)) (a .from) (c .before .loop .j) (a .m) (c .before .loop .table)
+    (c .before .loop .inv .0) (c .loop-test .left) (c .before .loop .inv .1 .1)
 
 pub put-row-spec : {M : Type 1} → statement M
 put-row-spec =
