@@ -17,11 +17,14 @@ static int refused(int32_t number)
     return 0;
 }
 
-static calzundi_length distance(const int32_t *edge)
+/* What a unit of metal costs along either axis. */
+enum { WEIGHT_X = 1, WEIGHT_Y = 1 };
+
+static calzundi_length cost(const int32_t *edge)
 {
     calzundi_length across = (calzundi_length)edge[2] - edge[0];
     calzundi_length up = (calzundi_length)edge[3] - edge[1];
-    return (across < 0 ? -across : across) + (up < 0 ? -up : up);
+    return WEIGHT_X * (across < 0 ? -across : across) + WEIGHT_Y * (up < 0 ? -up : up);
 }
 
 int main(void)
@@ -32,20 +35,22 @@ int main(void)
     int64_t paths[CALZUNDI_PATH_NUMBERS(M)];
     int32_t edges[CALZUNDI_TREE_NUMBERS(M, K)];
     size_t path_count, edge_count;
-    calzundi_length terminal, refined;
+    calzundi_length terminal, refined, metal;
     int32_t answer;
 
-    answer = calzundi_terminal_tree(pins, 2 * M, macros, 4 * K, paths, CALZUNDI_PATH_NUMBERS(M), &path_count, &terminal);
+    answer = calzundi_terminal_tree(pins, 2 * M, macros, 4 * K, WEIGHT_X, WEIGHT_Y, paths, CALZUNDI_PATH_NUMBERS(M), &path_count,
+                                    &terminal);
     if (answer != 0)
         return refused(answer);
-    answer = calzundi_refined_tree(pins, 2 * M, macros, 4 * K, edges, CALZUNDI_TREE_NUMBERS(M, K), &edge_count, &refined);
+    answer = calzundi_refined_tree(pins, 2 * M, macros, 4 * K, WEIGHT_X, WEIGHT_Y, edges, CALZUNDI_TREE_NUMBERS(M, K), &edge_count,
+                                   &refined, &metal);
     if (answer != 0)
         return refused(answer);
 
-    printf("pins %d macros %d terminal %" PRId64 " refined %" PRId64 "\n", M, K, terminal, refined);
+    printf("pins %d macros %d terminal %" PRId64 " refined %" PRId64 " metal %" PRId64 "\n", M, K, terminal, refined, metal);
     for (size_t i = 0; i < edge_count; i++) {
         const int32_t *edge = &edges[4 * i];
-        printf("%" PRId32 " %" PRId32 " %" PRId32 " %" PRId32 " %" PRId64 "\n", edge[0], edge[1], edge[2], edge[3], distance(edge));
+        printf("%" PRId32 " %" PRId32 " %" PRId32 " %" PRId32 " %" PRId64 "\n", edge[0], edge[1], edge[2], edge[3], cost(edge));
     }
     return 0;
 }

@@ -7,15 +7,23 @@
  *
  * A net
  *
- * A net is two lists of 32-bit numbers: `pins`, two numbers for each of its m pins (x, y), and `macros`, four for each of its k macros
- * (left, bottom, right, top). Any two lists of any length may be handed over. A list is a pointer and the count of numbers behind it, not
- * of entries: three pins are six numbers. Write n for m + 4k.
+ * A net is two lists of 32-bit numbers and two weights. `pins` has two numbers for each of its m pins (x, y), `macros` four for each of its
+ * k macros (left, bottom, right, top). Any two lists of any length may be handed over. A list is a pointer and the count of numbers behind
+ * it, not of entries: three pins are six numbers. Write n for m + 4k. The weights, weight_x and weight_y, are what a unit of metal costs
+ * along either axis: whole numbers from 1 to 8, 1 and 1 for a machine whose stage is as quick in y as in x. Any two may be handed over.
+ *
+ *
+ * Cost and metal
+ *
+ * The cost of two places is their distance in x times weight_x plus that in y times weight_y. Trees are chosen by cost, and what is called
+ * a length of a path or a total is cost. Metal to lay is plain length, whatever the weights; with weights 1 and 1 both are the same.
  *
  *
  * What is lent
  *
  * Answers go to space that the caller lends, again a pointer and a count of numbers. Each operation below says how much it asks for; the
- * macros CALZUNDI_..._NUMBERS work it out. More may be lent. Counts, totals and the charge go through a pointer each.
+ * macros CALZUNDI_..._NUMBERS work it out. More may be lent. Counts, totals, metal, the charge and a file's weights go through a pointer
+ * each.
  *
  *
  * Answers
@@ -25,19 +33,19 @@
  *
  *   0          The answer stands at the front of each lent space, and the counts say how many entries it has (not how many numbers).
  *              Lent space past the answer is as it was.
- *   a refusal  Nothing lent is altered, counts, totals and the charge included.
+ *   a refusal  Nothing lent is altered, counts and the like included.
  *
  *
  * What the caller sees to
  *
  *   null       A list or a lent space with a count of 0 may be null, or any other address: it is not followed, and the call answers as
- *              for an empty one. No other pointer is null; those to counts, totals and the charge never are, whatever the answer.
+ *              for an empty one. No other pointer is null; those to counts and the like never are, whatever the answer.
  *   length     Behind every other pointer stands as much as its count says. Nothing past it is touched, and lists are only read. What
  *              lent space held before does not matter.
  *   alignment  Every other pointer is aligned for its type: 4 bytes for int32_t, 8 for int64_t, uint64_t and size_t, 1 for bytes. One that
  *              is not is outside what is proved, also where x86-64 lets it pass.
- *   overlap    What is lent to be written, counts, totals and the charge included, overlaps nothing else that is handed over. Lists may overlap each
- *              other.
+ *   overlap    What is lent to be written, counts and the like included, overlaps nothing else that is handed over. Lists may overlap
+ *              each other.
  *   threads    While a call runs, nobody else writes its lists, and nobody else reads or writes what is lent to it. Calls at the same
  *              time, also on the same lists, do not disturb each other, since the library keeps no state.
  *   stack      The router's tables are local: a call has 512 KiB of stack to itself, which was measured and is not proved.
@@ -48,7 +56,7 @@
 #define CALZUNDI_H
 
 /* The version. It stands here and nowhere else; the tools take it from this line, and each change request raises the second number. */
-#define CALZUNDI_VERSION "1.2"
+#define CALZUNDI_VERSION "1.3"
 
 #include <stddef.h>
 #include <stdint.h>
@@ -57,10 +65,11 @@
 extern "C" {
 #endif
 
-/* A net has 1 to 64 pins and 0 to 64 macros, with coordinates from -1,000,000 to 1,000,000. */
+/* A net has 1 to 64 pins and 0 to 64 macros, with coordinates from -1,000,000 to 1,000,000 and weights from 1 to 8. */
 #define CALZUNDI_PINS 64
 #define CALZUNDI_MACROS 64
 #define CALZUNDI_COORDINATE 1000000
+#define CALZUNDI_WEIGHT 8
 
 /* Numbers to lend for a net of m pins and k macros: n = m + 4k, and then for each operation. */
 #define CALZUNDI_POINTS(m, k) ((m) + 4 * (k))
@@ -83,7 +92,7 @@ extern "C" {
 enum calzundi_refusal {
     CALZUNDI_LENGTH = 1,            /* the file is not 1 to 6 whole blocks */
     CALZUNDI_SUMS = 2,              /* a block's word 126 or 127 is wrong */
-    CALZUNDI_LAYOUT = 3,            /* anything else in the file's layout, the head's counts against the blocks included */
+    CALZUNDI_LAYOUT = 3,            /* anything else in the file's layout, the head's counts and weights included */
     CALZUNDI_PIN_LIST = 11,         /* the pin list isn't whole pairs, or m is 0 or above 64 */
     CALZUNDI_MACRO_LIST = 12,       /* the macro list isn't whole fours, or k is above 64 */
     CALZUNDI_OUT_OF_RANGE = 13,     /* a coordinate is out of range */
@@ -91,6 +100,7 @@ enum calzundi_refusal {
     CALZUNDI_PIN_TWICE = 15,        /* two pins are at one place */
     CALZUNDI_MACROS_OVERLAP = 16,   /* two macros' interiors meet; touching is allowed */
     CALZUNDI_PIN_IN_INTERIOR = 17,  /* a pin is in a macro's interior; on its boundary is allowed */
+    CALZUNDI_WEIGHTS = 18,          /* a weight is below 1 or above 8 */
     CALZUNDI_SPACE = 21,            /* too little space is lent */
     CALZUNDI_BANDS = 31,            /* the list of bands is odd or empty, or a rate in it is above 1,000,000 */
     CALZUNDI_REACH = 32             /* no band's limit reaches the metal */
@@ -105,9 +115,10 @@ typedef int64_t calzundi_length;
 /*
  * Check a net: 0 where it is allowed.
  *
- * Refusals: 11 to 17, in this order, each for the whole net before the next.
+ * Refusals: 11 to 18, in this order, each for the whole net before the next.
  */
-int32_t calzundi_check(const int32_t *pins, size_t pin_numbers, const int32_t *macros, size_t macro_numbers);
+int32_t calzundi_check(const int32_t *pins, size_t pin_numbers, const int32_t *macros, size_t macro_numbers, int32_t weight_x,
+                       int32_t weight_y);
 
 /*
  * Graph: the spanning graph's vertices and edges, each in order.
@@ -117,10 +128,11 @@ int32_t calzundi_check(const int32_t *pins, size_t pin_numbers, const int32_t *m
  * vertex_count  how many vertices were given
  * edge_count    how many edges were given
  *
- * Refusals: 11 to 17, then 21.
+ * Refusals: 11 to 18, then 21.
  */
-int32_t calzundi_graph(const int32_t *pins, size_t pin_numbers, const int32_t *macros, size_t macro_numbers, int32_t *vertices,
-                       size_t vertex_numbers, int32_t *edges, size_t edge_numbers, size_t *vertex_count, size_t *edge_count);
+int32_t calzundi_graph(const int32_t *pins, size_t pin_numbers, const int32_t *macros, size_t macro_numbers, int32_t weight_x,
+                       int32_t weight_y, int32_t *vertices, size_t vertex_numbers, int32_t *edges, size_t edge_numbers,
+                       size_t *vertex_count, size_t *edge_count);
 
 /*
  * Terminal tree: the m - 1 terminal paths that join all pins, in the order kept.
@@ -129,22 +141,25 @@ int32_t calzundi_graph(const int32_t *pins, size_t pin_numbers, const int32_t *m
  * count  how many paths were given
  * total  the sum of their lengths
  *
- * Refusals: 11 to 17, then 21.
+ * Refusals: 11 to 18, then 21.
  */
-int32_t calzundi_terminal_tree(const int32_t *pins, size_t pin_numbers, const int32_t *macros, size_t macro_numbers, int64_t *paths,
-                               size_t path_numbers, size_t *count, calzundi_length *total);
+int32_t calzundi_terminal_tree(const int32_t *pins, size_t pin_numbers, const int32_t *macros, size_t macro_numbers,
+                               int32_t weight_x, int32_t weight_y, int64_t *paths, size_t path_numbers, size_t *count,
+                               calzundi_length *total);
 
 /*
  * Refined tree: its edges in order.
  *
  * edges  lent, at least CALZUNDI_TREE_NUMBERS(m, k); an edge is four numbers, its smaller place first
  * count  how many edges were given
- * total  the sum of their lengths, the metal to lay
+ * total  the sum of their costs
+ * metal  the sum of their plain lengths, the metal to lay
  *
- * Refusals: 11 to 17, then 21.
+ * Refusals: 11 to 18, then 21.
  */
-int32_t calzundi_refined_tree(const int32_t *pins, size_t pin_numbers, const int32_t *macros, size_t macro_numbers, int32_t *edges,
-                              size_t edge_numbers, size_t *count, calzundi_length *total);
+int32_t calzundi_refined_tree(const int32_t *pins, size_t pin_numbers, const int32_t *macros, size_t macro_numbers,
+                              int32_t weight_x, int32_t weight_y, int32_t *edges, size_t edge_numbers, size_t *count,
+                              calzundi_length *total, calzundi_length *metal);
 
 /*
  * Wires: the refined tree as it is drawn. Each edge, in order, gives a horizontal wire from its smaller place and then a vertical one to
@@ -153,10 +168,10 @@ int32_t calzundi_refined_tree(const int32_t *pins, size_t pin_numbers, const int
  * wires  lent, at least CALZUNDI_WIRE_NUMBERS(m, k); a wire is four numbers, its start and its end as drawn
  * count  how many wires were given
  *
- * Refusals: 11 to 17, then 21.
+ * Refusals: 11 to 18, then 21.
  */
-int32_t calzundi_wires(const int32_t *pins, size_t pin_numbers, const int32_t *macros, size_t macro_numbers, int32_t *wires,
-                       size_t wire_numbers, size_t *count);
+int32_t calzundi_wires(const int32_t *pins, size_t pin_numbers, const int32_t *macros, size_t macro_numbers, int32_t weight_x,
+                       int32_t weight_y, int32_t *wires, size_t wire_numbers, size_t *count);
 
 /*
  * Price: what a bureau charges for the metal to lay, which is the sum of the refined tree's plain lengths.
@@ -169,21 +184,21 @@ int32_t calzundi_wires(const int32_t *pins, size_t pin_numbers, const int32_t *m
  * Where limits rise strictly and rates never fall down the list, more metal is never charged less; keeping the list so is the bureau's
  * duty and is not tested.
  *
- * Refusals: 11 to 17, then 31, then 32.
+ * Refusals: 11 to 18, then 31, then 32.
  */
-int32_t calzundi_price(const int32_t *pins, size_t pin_numbers, const int32_t *macros, size_t macro_numbers, const uint64_t *bands,
-                       size_t band_numbers, uint64_t *charge);
+int32_t calzundi_price(const int32_t *pins, size_t pin_numbers, const int32_t *macros, size_t macro_numbers, int32_t weight_x,
+                       int32_t weight_y, const uint64_t *bands, size_t band_numbers, uint64_t *charge);
 
 /*
- * Write a net file, which keeps the order of both lists.
+ * Write a net file, which keeps the order of both lists. Weights of 1 are stored as a file without weights has them.
  *
  * bytes  lent, at least CALZUNDI_FILE_BYTES(m, k)
  * given  how many bytes the file has
  *
- * Refusals: 11 to 17, then 21.
+ * Refusals: 11 to 18, then 21.
  */
-int32_t calzundi_write_file(const int32_t *pins, size_t pin_numbers, const int32_t *macros, size_t macro_numbers, uint8_t *bytes,
-                            size_t byte_count, size_t *given);
+int32_t calzundi_write_file(const int32_t *pins, size_t pin_numbers, const int32_t *macros, size_t macro_numbers,
+                            int32_t weight_x, int32_t weight_y, uint8_t *bytes, size_t byte_count, size_t *given);
 
 /*
  * Read a net file: the two lists in the order in which they were written. Every file that is accepted holds an allowed net, and is the
@@ -192,11 +207,12 @@ int32_t calzundi_write_file(const int32_t *pins, size_t pin_numbers, const int32
  * pins    lent, at least CALZUNDI_READ_PIN_NUMBERS, whatever the file
  * macros  lent, at least CALZUNDI_READ_MACRO_NUMBERS, whatever the file
  * m, k    how many pins and macros were given
+ * weight_x, weight_y  the weights
  *
- * Refusals: 21 first, then 1, 2, 3, then 11 to 17.
+ * Refusals: 21 first, then 1, 2, 3, then 11 to 17; never 18.
  */
 int32_t calzundi_read_file(const uint8_t *bytes, size_t byte_count, int32_t *pins, size_t pin_numbers, int32_t *macros,
-                           size_t macro_numbers, size_t *m, size_t *k);
+                           size_t macro_numbers, size_t *m, size_t *k, int32_t *weight_x, int32_t *weight_y);
 
 #ifdef __cplusplus
 }

@@ -1,10 +1,11 @@
 //! The proved router from Rust, its match with the second program, and its outputs as text.
 //!
 //! `library` wraps the static library safely; `matching` runs both programs on the same seeded input and reports the first difference
-//! with its seed and its net as text. `outputs` writes all answers on an input as text, to hold them to those of the first release;
-//! `program` runs `route`.
+//! with its seed and its net as text. `outputs` writes all answers on an input as text, to hold them to those of the first release, and
+//! `requests` says in what they differ since; `program` runs `route`.
 
 pub mod library;
 pub mod matching;
 pub mod outputs;
 pub mod program;
+pub mod requests;

@@ -1,6 +1,8 @@
 //! Safe calls of the static library. A slice passes as a pointer and a length, a count as a pointer; every length and every content is
-//! taken, so there is nothing to test before a call. A refusal leaves counts as they were. The bare calls stand first, as
-//! include/calzundi.h declares them and with what it asks of pointers.
+//! taken, so there is nothing to test before a call. A refusal leaves counts, totals, the metal and the weights of a read as they were. The
+//! bare calls stand first, as include/calzundi.h declares them and with what it asks of pointers.
+
+use reference::net::Weights;
 
 extern "C" {
     pub fn calzundi_check(
@@ -8,6 +10,8 @@ extern "C" {
         pins_len: usize,
         macros: *const i32,
         macros_len: usize,
+        weight_x: i32,
+        weight_y: i32,
     ) -> i32;
 
     pub fn calzundi_graph(
@@ -15,6 +19,8 @@ extern "C" {
         pins_len: usize,
         macros: *const i32,
         macros_len: usize,
+        weight_x: i32,
+        weight_y: i32,
         vertices: *mut i32,
         vertices_len: usize,
         edges: *mut i32,
@@ -28,6 +34,8 @@ extern "C" {
         pins_len: usize,
         macros: *const i32,
         macros_len: usize,
+        weight_x: i32,
+        weight_y: i32,
         paths: *mut i64,
         paths_len: usize,
         count: *mut usize,
@@ -39,10 +47,13 @@ extern "C" {
         pins_len: usize,
         macros: *const i32,
         macros_len: usize,
+        weight_x: i32,
+        weight_y: i32,
         edges: *mut i32,
         edges_len: usize,
         count: *mut usize,
         total: *mut Total,
+        metal: *mut Total,
     ) -> i32;
 
     pub fn calzundi_wires(
@@ -50,6 +61,8 @@ extern "C" {
         pins_len: usize,
         macros: *const i32,
         macros_len: usize,
+        weight_x: i32,
+        weight_y: i32,
         wires: *mut i32,
         wires_len: usize,
         count: *mut usize,
@@ -60,6 +73,8 @@ extern "C" {
         pins_len: usize,
         macros: *const i32,
         macros_len: usize,
+        weight_x: i32,
+        weight_y: i32,
         bands: *const u64,
         bands_len: usize,
         charge: *mut u64,
@@ -70,6 +85,8 @@ extern "C" {
         pins_len: usize,
         macros: *const i32,
         macros_len: usize,
+        weight_x: i32,
+        weight_y: i32,
         bytes: *mut u8,
         bytes_len: usize,
         given: *mut usize,
@@ -84,15 +101,18 @@ extern "C" {
         macros_len: usize,
         m: *mut usize,
         k: *mut usize,
+        weight_x: *mut i32,
+        weight_y: *mut i32,
     ) -> i32;
 }
 
-/// The totals of both trees, as wide as the library writes them.
+/// The totals of both trees and the metal, as wide as the library writes them.
 type Total = i64;
 
-/// What stands in a count and in a total before a call: a refusal must leave it.
+/// What stands in a count, in a total, in the metal and in a weight before a call: a refusal must leave it.
 const UNTOUCHED: usize = 0x5eed_5eed;
 const UNTOUCHED_TOTAL: Total = UNTOUCHED as Total;
+const UNTOUCHED_WEIGHT: i32 = UNTOUCHED as i32;
 
 /// "A refusal is its number alone": 0 is success. A refusal that touched a count is no answer.
 fn answer<A>(code: i32, counts: &[usize], given: A) -> Result<A, u32> {
@@ -107,9 +127,18 @@ fn answer<A>(code: i32, counts: &[usize], given: A) -> Result<A, u32> {
 }
 
 /// "Check a net."
-pub fn check(pins: &[i32], macros: &[i32]) -> Result<(), u32> {
+pub fn check(pins: &[i32], macros: &[i32], weights: Weights) -> Result<(), u32> {
     // SAFETY: the library reads the two slices and keeps neither.
-    let code = unsafe { calzundi_check(pins.as_ptr(), pins.len(), macros.as_ptr(), macros.len()) };
+    let code = unsafe {
+        calzundi_check(
+            pins.as_ptr(),
+            pins.len(),
+            macros.as_ptr(),
+            macros.len(),
+            weights.x,
+            weights.y,
+        )
+    };
     answer(code, &[], ())
 }
 
@@ -117,6 +146,7 @@ pub fn check(pins: &[i32], macros: &[i32]) -> Result<(), u32> {
 pub fn graph(
     pins: &[i32],
     macros: &[i32],
+    weights: Weights,
     vertices: &mut [i32],
     edges: &mut [i32],
 ) -> Result<(usize, usize), u32> {
@@ -128,6 +158,8 @@ pub fn graph(
             pins.len(),
             macros.as_ptr(),
             macros.len(),
+            weights.x,
+            weights.y,
             vertices.as_mut_ptr(),
             vertices.len(),
             edges.as_mut_ptr(),
@@ -139,17 +171,22 @@ pub fn graph(
     answer(code, &[v, e], (v, e))
 }
 
-/// As `answer`, where a total goes with the count.
-fn with_total(code: i32, count: usize, total: Total) -> Result<(usize, i64), u32> {
+/// As `answer`, where totals go with the count.
+fn with_totals<A>(code: i32, count: usize, totals: &[Total], given: A) -> Result<A, u32> {
     assert!(
-        code == 0 || total == UNTOUCHED_TOTAL,
-        "refusal {code} touched the total"
+        code == 0 || totals.iter().all(|&total| total == UNTOUCHED_TOTAL),
+        "refusal {code} touched a total or the metal"
     );
-    answer(code, &[count], (count, total))
+    answer(code, &[count], given)
 }
 
 /// "Terminal tree": how many paths were given, and their total.
-pub fn terminal_tree(pins: &[i32], macros: &[i32], paths: &mut [i64]) -> Result<(usize, i64), u32> {
+pub fn terminal_tree(
+    pins: &[i32],
+    macros: &[i32],
+    weights: Weights,
+    paths: &mut [i64],
+) -> Result<(usize, i64), u32> {
     let (mut count, mut total) = (UNTOUCHED, UNTOUCHED_TOTAL);
     // SAFETY: as for `graph`.
     let code = unsafe {
@@ -158,18 +195,25 @@ pub fn terminal_tree(pins: &[i32], macros: &[i32], paths: &mut [i64]) -> Result<
             pins.len(),
             macros.as_ptr(),
             macros.len(),
+            weights.x,
+            weights.y,
             paths.as_mut_ptr(),
             paths.len(),
             &mut count,
             &mut total,
         )
     };
-    with_total(code, count, total)
+    with_totals(code, count, &[total], (count, total))
 }
 
-/// "Refined tree": how many edges were given, and their total.
-pub fn refined_tree(pins: &[i32], macros: &[i32], edges: &mut [i32]) -> Result<(usize, i64), u32> {
-    let (mut count, mut total) = (UNTOUCHED, UNTOUCHED_TOTAL);
+/// "Refined tree": how many edges were given, their total, and the metal to lay.
+pub fn refined_tree(
+    pins: &[i32],
+    macros: &[i32],
+    weights: Weights,
+    edges: &mut [i32],
+) -> Result<(usize, i64, i64), u32> {
+    let (mut count, mut total, mut metal) = (UNTOUCHED, UNTOUCHED_TOTAL, UNTOUCHED_TOTAL);
     // SAFETY: as for `graph`.
     let code = unsafe {
         calzundi_refined_tree(
@@ -177,17 +221,25 @@ pub fn refined_tree(pins: &[i32], macros: &[i32], edges: &mut [i32]) -> Result<(
             pins.len(),
             macros.as_ptr(),
             macros.len(),
+            weights.x,
+            weights.y,
             edges.as_mut_ptr(),
             edges.len(),
             &mut count,
             &mut total,
+            &mut metal,
         )
     };
-    with_total(code, count, total)
+    with_totals(code, count, &[total, metal], (count, total, metal))
 }
 
 /// "Wires": how many were given.
-pub fn wires(pins: &[i32], macros: &[i32], wires: &mut [i32]) -> Result<usize, u32> {
+pub fn wires(
+    pins: &[i32],
+    macros: &[i32],
+    weights: Weights,
+    wires: &mut [i32],
+) -> Result<usize, u32> {
     let mut count = UNTOUCHED;
     // SAFETY: as for `graph`.
     let code = unsafe {
@@ -196,6 +248,8 @@ pub fn wires(pins: &[i32], macros: &[i32], wires: &mut [i32]) -> Result<usize, u
             pins.len(),
             macros.as_ptr(),
             macros.len(),
+            weights.x,
+            weights.y,
             wires.as_mut_ptr(),
             wires.len(),
             &mut count,
@@ -205,7 +259,7 @@ pub fn wires(pins: &[i32], macros: &[i32], wires: &mut [i32]) -> Result<usize, u
 }
 
 /// "Price on the job card": the charge, in hundredths of the currency.
-pub fn price(pins: &[i32], macros: &[i32], bands: &[u64]) -> Result<u64, u32> {
+pub fn price(pins: &[i32], macros: &[i32], weights: Weights, bands: &[u64]) -> Result<u64, u32> {
     let mut charge = UNTOUCHED as u64;
     // SAFETY: the library reads the three slices and keeps none.
     let code = unsafe {
@@ -214,6 +268,8 @@ pub fn price(pins: &[i32], macros: &[i32], bands: &[u64]) -> Result<u64, u32> {
             pins.len(),
             macros.as_ptr(),
             macros.len(),
+            weights.x,
+            weights.y,
             bands.as_ptr(),
             bands.len(),
             &mut charge,
@@ -227,7 +283,12 @@ pub fn price(pins: &[i32], macros: &[i32], bands: &[u64]) -> Result<u64, u32> {
 }
 
 /// "Write a net file": how many bytes were given.
-pub fn write_file(pins: &[i32], macros: &[i32], bytes: &mut [u8]) -> Result<usize, u32> {
+pub fn write_file(
+    pins: &[i32],
+    macros: &[i32],
+    weights: Weights,
+    bytes: &mut [u8],
+) -> Result<usize, u32> {
     let mut given = UNTOUCHED;
     // SAFETY: as for `graph`.
     let code = unsafe {
@@ -236,6 +297,8 @@ pub fn write_file(pins: &[i32], macros: &[i32], bytes: &mut [u8]) -> Result<usiz
             pins.len(),
             macros.as_ptr(),
             macros.len(),
+            weights.x,
+            weights.y,
             bytes.as_mut_ptr(),
             bytes.len(),
             &mut given,
@@ -244,13 +307,14 @@ pub fn write_file(pins: &[i32], macros: &[i32], bytes: &mut [u8]) -> Result<usiz
     answer(code, &[given], given)
 }
 
-/// "Read a net file": m and k.
+/// "Read a net file": m and k, and the weights.
 pub fn read_file(
     bytes: &[u8],
     pins: &mut [i32],
     macros: &mut [i32],
-) -> Result<(usize, usize), u32> {
+) -> Result<(usize, usize, Weights), u32> {
     let (mut m, mut k) = (UNTOUCHED, UNTOUCHED);
+    let (mut x, mut y) = (UNTOUCHED_WEIGHT, UNTOUCHED_WEIGHT);
     // SAFETY: as for `graph`.
     let code = unsafe {
         calzundi_read_file(
@@ -262,7 +326,13 @@ pub fn read_file(
             macros.len(),
             &mut m,
             &mut k,
+            &mut x,
+            &mut y,
         )
     };
-    answer(code, &[m, k], (m, k))
+    assert!(
+        code == 0 || (x, y) == (UNTOUCHED_WEIGHT, UNTOUCHED_WEIGHT),
+        "refusal {code} touched a weight"
+    );
+    answer(code, &[m, k], (m, k, Weights { x, y }))
 }

@@ -1,11 +1,12 @@
-//! Both programs on the same seeded input, with the same lent space: answers and every lent number must agree.
+//! Both programs on the same seeded input, with weights of all sorts and the same lent space: answers and every lent number must agree.
 
 use std::fmt::{self, Debug};
 
 use reference::generate::{
-    bands, damaged, hostile, net, permuted, BandList, Damage, Hostile, Kind,
+    bands, damaged_weighted, hostile_weighted, permuted, weighted, BandList, Damage, Hostile, Kind,
 };
 use reference::lists::Lists;
+use reference::net::Weights;
 use reference::random::Random;
 use reference::refined::refined;
 use reference::{net as second, operations, price, text};
@@ -69,7 +70,7 @@ pub fn allowed(seed: u64) -> Case {
     Case {
         kind: kind.name(),
         seed,
-        lists: permuted(&net(kind, seed), seed),
+        lists: permuted(&weighted(kind, seed), seed),
     }
 }
 
@@ -77,7 +78,7 @@ pub fn allowed(seed: u64) -> Case {
 fn is_slow(kind: &Kind) -> bool {
     matches!(
         kind,
-        Kind::Largest | Kind::LargestMaze | Kind::Pruned | Kind::BoundEnds
+        Kind::Largest | Kind::LargestMaze | Kind::LargestFar | Kind::Pruned | Kind::BoundEnds
     )
 }
 
@@ -100,7 +101,7 @@ pub fn routed(seed: u64) -> Case {
     Case {
         kind: kind.name(),
         seed,
-        lists: net(kind, seed),
+        lists: weighted(kind, seed),
     }
 }
 
@@ -110,7 +111,7 @@ pub fn refused(seed: u64) -> Case {
     Case {
         kind: kind.name(),
         seed,
-        lists: hostile(kind, seed),
+        lists: hostile_weighted(kind, seed),
     }
 }
 
@@ -135,7 +136,7 @@ pub fn file(seed: u64) -> File {
     File {
         kind: kind.name(),
         seed,
-        bytes: damaged(kind, seed),
+        bytes: damaged_weighted(kind, seed),
     }
 }
 
@@ -172,9 +173,9 @@ impl<T: Copy> Lent<T> {
 }
 
 /// An operation on two lists with one lent space, one with two, and the reading of a file.
-type OneSpace<T, A> = fn(&[i32], &[i32], &mut [T]) -> Result<A, u32>;
-type TwoSpaces = fn(&[i32], &[i32], &mut [i32], &mut [i32]) -> Result<(usize, usize), u32>;
-type Reading = fn(&[u8], &mut [i32], &mut [i32]) -> Result<(usize, usize), u32>;
+type OneSpace<T, A> = fn(&[i32], &[i32], Weights, &mut [T]) -> Result<A, u32>;
+type TwoSpaces = fn(&[i32], &[i32], Weights, &mut [i32], &mut [i32]) -> Result<(usize, usize), u32>;
+type Reading = fn(&[u8], &mut [i32], &mut [i32]) -> Result<(usize, usize, Weights), u32>;
 
 /// What a call answered and left in lent space, as text that can be compared and read.
 fn said<A: Debug, S: Debug>(answer: A, spaces: &[S]) -> String {
@@ -204,22 +205,22 @@ impl Case {
 
     /// "Check a net."
     pub fn check(&self) -> Matched {
-        let Lists { pins, macros } = &self.lists;
+        let (pins, macros, weights) = self.lists.parts();
         self.same(
             "check",
-            format!("{:?}", library::check(pins, macros)),
-            format!("{:?}", operations::check(pins, macros)),
+            format!("{:?}", library::check(pins, macros, weights)),
+            format!("{:?}", operations::check(pins, macros, weights)),
         )
     }
 
     /// "Graph."
     pub fn graph(&self) -> Matched {
-        let Lists { pins, macros } = &self.lists;
+        let (pins, macros, weights) = self.lists.parts();
         let both = |call: TwoSpaces| {
             let random = &mut Random::new(self.seed);
             let mut vertices = Lent::new(random, self.points() * 2, |bits| bits as i32);
             let mut edges = Lent::new(random, self.points() * 16, |bits| bits as i32);
-            let answer = call(pins, macros, vertices.part(), edges.part());
+            let answer = call(pins, macros, weights, vertices.part(), edges.part());
             said(answer, &[vertices.numbers, edges.numbers])
         };
         self.same("graph", both(library::graph), both(operations::graph))
@@ -247,9 +248,10 @@ impl Case {
         let short = random.choose(&[0, asked / 2, asked.saturating_sub(1)]);
         let turned = self.turned();
         for lent in [asked + longer, short] {
-            let answer = |call: OneSpace<T, A>, Lists { pins, macros }: &Lists| {
+            let answer = |call: OneSpace<T, A>, lists: &Lists| {
                 let mut space = Lent::of(&mut Random::new(self.seed), lent, number);
-                let answer = call(pins, macros, space.part());
+                let (pins, macros, weights) = lists.parts();
+                let answer = call(pins, macros, weights, space.part());
                 said(answer, &[space.numbers])
             };
             let expected = answer(theirs, &self.lists);
@@ -291,13 +293,15 @@ impl Case {
 
     /// "Price on the job card", by a list of bands of each kind in turn, made for the net's metal where it has any. The answer.
     pub fn price(&self) -> Result<Result<u64, u32>, Box<Difference>> {
-        let Lists { pins, macros } = &self.lists;
+        let (pins, macros, weights) = self.lists.parts();
         let kind = BandList::ALL[self.seed as usize % BandList::ALL.len()];
-        let metal = second::check(pins, macros).map(|net| price::metal(&refined(&net).edges));
+        let net = second::check(pins, macros, weights);
+        let metal = net.map(|net| refined(&net).metal.unsigned_abs());
         let list = bands(kind, self.seed, metal.unwrap_or(self.seed));
         let expected = metal.and_then(|metal| price::price(metal, &list));
         for case in [self, &self.turned()] {
-            let ours = library::price(&case.lists.pins, &case.lists.macros, &list);
+            let (pins, macros, weights) = case.lists.parts();
+            let ours = library::price(pins, macros, weights, &list);
             case.same("price", format!("{ours:?}"), format!("{expected:?}"))
                 .map_err(|mut difference| {
                     difference.input += &format!("# bands, {}: {list:?}\n", kind.name());
@@ -309,12 +313,12 @@ impl Case {
 
     /// "Write a net file."
     pub fn write_file(&self) -> Matched {
-        let Lists { pins, macros } = &self.lists;
+        let (pins, macros, weights) = self.lists.parts();
         let blocks = 1 + pins.len().div_ceil(120) + macros.len().div_ceil(120);
         let both = |call: OneSpace<u8, usize>| {
             let random = &mut Random::new(self.seed);
             let mut bytes = Lent::new(random, blocks * 512, |bits| bits as u8);
-            let answer = call(pins, macros, bytes.part());
+            let answer = call(pins, macros, weights, bytes.part());
             said(answer, &[bytes.numbers])
         };
         self.same(
@@ -327,8 +331,8 @@ impl Case {
     /// "Read a net file", of the file that the second program writes of the lists.
     pub fn read_back(&self) -> Matched {
         let mut bytes = vec![0; 6 * 512];
-        let Lists { pins, macros } = &self.lists;
-        match operations::write_file(pins, macros, &mut bytes) {
+        let (pins, macros, weights) = self.lists.parts();
+        match operations::write_file(pins, macros, weights, &mut bytes) {
             Ok(length) => File {
                 kind: self.kind,
                 seed: self.seed,

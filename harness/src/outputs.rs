@@ -4,6 +4,7 @@
 use std::fmt::{self, Display};
 
 use reference::lists::Lists;
+use reference::net::Weights;
 use reference::netfile;
 
 use crate::{library, program};
@@ -11,7 +12,8 @@ use crate::{library, program};
 /// What is handed over.
 #[derive(Clone, Debug, PartialEq, Eq)]
 pub enum Input {
-    /// A net's lists, and whether answers stand in full; if not, the graph and the wires are digests.
+    /// A net's lists, with weights 1 and 1 as all nets then had, and whether answers stand in full; if not, the graph and the wires are
+    /// digests.
     Net { lists: Lists, full: bool },
     /// The bytes of a file that is not as it should be.
     File { bytes: Vec<u8> },
@@ -70,6 +72,7 @@ impl Case {
                 let lists = Lists {
                     pins: numbers(pins.strip_prefix("pins ")?)?,
                     macros: numbers(macros.strip_prefix("macros ")?)?,
+                    weights: Weights::ONE,
                 };
                 (Input::Net { lists, full }, [number, kind, name])
             }
@@ -282,8 +285,12 @@ fn number<A>(answer: &Result<A, u32>) -> u32 {
     answer.as_ref().err().copied().unwrap_or(0)
 }
 
-/// How many entries were given, and their total where there is one.
-type Given = (usize, Option<i64>);
+/// How many entries were given, their total where there is one, and what else there is to say at the end of the line.
+struct Given {
+    count: usize,
+    total: Option<i64>,
+    besides: String,
+}
 
 /// An operation with one lent space: its name, what its entries are called, how many numbers one has, how many numbers it asks for.
 struct Operation {
@@ -313,8 +320,9 @@ struct Net<'a> {
 impl Net<'_> {
     /// The lines of all operations and of the program.
     fn answers(&self) -> Vec<String> {
-        let Lists { pins, macros } = self.lists;
-        let mut lines = vec![format!("check {}", number(&library::check(pins, macros)))];
+        let (pins, macros, weights) = self.lists.parts();
+        let checked = library::check(pins, macros, weights);
+        let mut lines = vec![format!("check {}", number(&checked))];
         let mut short = "short".to_string();
         let (file, bytes) = self.file();
         for (name, said) in [
@@ -343,11 +351,11 @@ impl Net<'_> {
 
     /// "Graph", which asks for two spaces: either is one number short in turn.
     fn graph(&self) -> Said {
-        let Lists { pins, macros } = self.lists;
+        let (pins, macros, weights) = self.lists.parts();
         let call = |vertices: usize, edges: usize| {
             let mut vertices = Lent::new(vertices, |filling| filling);
             let mut edges = Lent::new(edges, |filling| filling);
-            let answer = library::graph(pins, macros, vertices.part(), edges.part());
+            let answer = library::graph(pins, macros, weights, vertices.part(), edges.part());
             (answer, vertices, edges)
         };
         let refused = |vertices: usize, edges: usize| {
@@ -373,7 +381,7 @@ impl Net<'_> {
 
     /// "Terminal tree."
     fn terminal(&self) -> Said {
-        let Lists { pins, macros } = self.lists;
+        let (pins, macros, weights) = self.lists.parts();
         let (m, _) = self.size();
         let operation = Operation {
             name: "terminal",
@@ -382,14 +390,18 @@ impl Net<'_> {
             asked: 5 * m,
         };
         operation.said(true, i64::from, |lent| {
-            let (count, total) = library::terminal_tree(pins, macros, lent)?;
-            Ok((count, Some(total)))
+            let (count, total) = library::terminal_tree(pins, macros, weights, lent)?;
+            Ok(Given {
+                count,
+                total: Some(total),
+                besides: String::new(),
+            })
         })
     }
 
-    /// "Refined tree."
+    /// "Refined tree." Metal is the total where both weights are 1; the line says so where it is not.
     fn refined(&self) -> Said {
-        let Lists { pins, macros } = self.lists;
+        let (pins, macros, weights) = self.lists.parts();
         let (m, n) = self.size();
         let operation = Operation {
             name: "refined",
@@ -398,14 +410,22 @@ impl Net<'_> {
             asked: 4 * (n + m),
         };
         operation.said(true, i32::from, |lent| {
-            let (count, total) = library::refined_tree(pins, macros, lent)?;
-            Ok((count, Some(total)))
+            let (count, total, metal) = library::refined_tree(pins, macros, weights, lent)?;
+            let besides = match metal == total {
+                true => String::new(),
+                false => format!(" and metal {metal}"),
+            };
+            Ok(Given {
+                count,
+                total: Some(total),
+                besides,
+            })
         })
     }
 
     /// "Wires."
     fn wires(&self) -> Said {
-        let Lists { pins, macros } = self.lists;
+        let (pins, macros, weights) = self.lists.parts();
         let (m, n) = self.size();
         let operation = Operation {
             name: "wires",
@@ -414,16 +434,20 @@ impl Net<'_> {
             asked: 8 * (n + m),
         };
         operation.said(self.full, i32::from, |lent| {
-            Ok((library::wires(pins, macros, lent)?, None))
+            Ok(Given {
+                count: library::wires(pins, macros, weights, lent)?,
+                total: None,
+                besides: String::new(),
+            })
         })
     }
 
     /// "Write a net file", and the bytes that the program is given. A refused net that is whole entries has a file too.
     fn file(&self) -> (Said, Option<Vec<u8>>) {
-        let Lists { pins, macros } = self.lists;
+        let (pins, macros, weights) = self.lists.parts();
         let call = |bytes: usize| {
             let mut lent = Lent::new(bytes, |filling| filling as u8);
-            let answer = library::write_file(pins, macros, lent.part());
+            let answer = library::write_file(pins, macros, weights, lent.part());
             (answer, lent)
         };
         let blocks = 1 + pins.len().div_ceil(120) + macros.len().div_ceil(120);
@@ -460,10 +484,14 @@ impl Operation {
         let Operation { name, entries, .. } = self;
         let mut exact = Lent::new(self.asked, filling);
         let line = match call(exact.part()) {
-            Ok((count, total)) => {
+            Ok(Given {
+                count,
+                total,
+                besides,
+            }) => {
                 let total = total.map_or(String::new(), |total| format!(" total {total}"));
                 let given = exact.given(count, self.width, full);
-                format!("{name} 0{total} {entries}{given}")
+                format!("{name} 0{total} {entries}{given}{besides}")
             }
             Err(number) => format!("{name} {number}{}", exact.past(0)),
         };
@@ -481,9 +509,10 @@ fn read(bytes: &[u8]) -> Vec<String> {
     let mut pins = Lent::new(128, |filling| filling);
     let mut macros = Lent::new(256, |filling| filling);
     match library::read_file(bytes, pins.part(), macros.part()) {
-        Ok((m, k)) => vec![
+        Ok((m, k, Weights { x, y })) => vec![
             format!("read 0 pins{}", pins.given(m, 2, true)),
             format!("read 0 macros{}", macros.given(k, 4, true)),
+            format!("read 0 weights {x} {y}"),
         ],
         Err(number) => vec![format!("read {number}{}{}", pins.past(0), macros.past(0))],
     }

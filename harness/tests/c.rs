@@ -69,13 +69,15 @@ fn the_example_routes_the_third_net() {
     assert_eq!(String::from_utf8(output.stdout).unwrap(), route(&file));
 }
 
-/// "The three bounds (64 pins, 64 macros, one million)", and what follows from them.
+/// "The three bounds (64 pins, 64 macros, one million)", the greatest weight, and what follows from them.
 #[test]
 fn the_header_has_the_bounds() {
     let names = [
         ("CALZUNDI_PINS", Net::PINS),
         ("CALZUNDI_MACROS", Net::MACROS),
         ("CALZUNDI_COORDINATE", Net::COORDINATE as usize),
+        ("CALZUNDI_WEIGHT", Net::GREATEST_WEIGHT as usize),
+        ("CALZUNDI_WEIGHTS", 18),
         ("CALZUNDI_BLOCK_BYTES", BLOCK_BYTES),
         ("CALZUNDI_LONGEST_FILE", BLOCKS * BLOCK_BYTES),
         ("CALZUNDI_READ_PIN_NUMBERS", 128),
@@ -111,35 +113,73 @@ fn the_header_works_out_what_to_lend() {
     assert_eq!(printed("sizes", &lines), expected);
 }
 
-/// "A list or a lent space with a count of 0 may be null": every operation answers as for an empty one, and alters no count or total.
+/// "A list or a lent space with a count of 0 may be null": every operation answers as for an empty one, and alters no count, no total, no
+/// metal and no weight.
 #[test]
 fn null_with_a_count_of_zero() {
     let calls = [
-        ("check(NULL, 0, NULL, 0)", 11),
-        ("graph(NULL, 0, NULL, 0, NULL, 0, NULL, 0, &a, &b)", 11),
-        ("terminal_tree(NULL, 0, NULL, 0, NULL, 0, &a, &t)", 11),
-        ("refined_tree(NULL, 0, NULL, 0, NULL, 0, &a, &t)", 11),
-        ("wires(NULL, 0, NULL, 0, NULL, 0, &a)", 11),
-        ("price(NULL, 0, NULL, 0, NULL, 0, &h)", 11),
-        ("write_file(NULL, 0, NULL, 0, NULL, 0, &a)", 11),
-        ("read_file(NULL, 0, NULL, 0, NULL, 0, &a, &b)", 21),
-        ("check(pin, 2, NULL, 0)", 0),
-        ("graph(pin, 2, NULL, 0, NULL, 0, NULL, 0, &a, &b)", 21),
-        ("terminal_tree(pin, 2, NULL, 0, NULL, 0, &a, &t)", 21),
-        ("refined_tree(pin, 2, NULL, 0, NULL, 0, &a, &t)", 21),
-        ("wires(pin, 2, NULL, 0, NULL, 0, &a)", 21),
-        ("price(pin, 2, NULL, 0, NULL, 0, &h)", 31),
-        ("write_file(pin, 2, NULL, 0, NULL, 0, &a)", 21),
+        ("check(NULL, 0, NULL, 0, 1, 1)", 11),
+        (
+            "graph(NULL, 0, NULL, 0, 1, 1, NULL, 0, NULL, 0, &a, &b)",
+            11,
+        ),
+        ("terminal_tree(NULL, 0, NULL, 0, 1, 1, NULL, 0, &a, &t)", 11),
+        (
+            "refined_tree(NULL, 0, NULL, 0, 1, 1, NULL, 0, &a, &t, &l)",
+            11,
+        ),
+        ("wires(NULL, 0, NULL, 0, 1, 1, NULL, 0, &a)", 11),
+        ("price(NULL, 0, NULL, 0, 1, 1, NULL, 0, &h)", 11),
+        ("write_file(NULL, 0, NULL, 0, 1, 1, NULL, 0, &a)", 11),
+        ("read_file(NULL, 0, NULL, 0, NULL, 0, &a, &b, &x, &y)", 21),
+        ("check(pin, 2, NULL, 0, 1, 1)", 0),
+        ("graph(pin, 2, NULL, 0, 1, 1, NULL, 0, NULL, 0, &a, &b)", 21),
+        ("terminal_tree(pin, 2, NULL, 0, 1, 1, NULL, 0, &a, &t)", 21),
+        (
+            "refined_tree(pin, 2, NULL, 0, 1, 1, NULL, 0, &a, &t, &l)",
+            21,
+        ),
+        ("wires(pin, 2, NULL, 0, 1, 1, NULL, 0, &a)", 21),
+        ("price(pin, 2, NULL, 0, 1, 1, NULL, 0, &h)", 31),
+        ("write_file(pin, 2, NULL, 0, 1, 1, NULL, 0, &a)", 21),
+        ("check(pin, 2, NULL, 0, 0, 1)", 18),
+        ("check(pin, 2, NULL, 0, 1, 9)", 18),
+        (
+            "refined_tree(pin, 2, NULL, 0, 9, 1, NULL, 0, &a, &t, &l)",
+            18,
+        ),
+        ("price(pin, 2, NULL, 0, 1, INT32_MIN, NULL, 0, &h)", 18),
     ];
     let mut lines = String::from(
-        "    const int32_t pin[2] = {5, 5};\n    size_t a = 7, b = 7;\n    calzundi_length t = 7;\n    uint64_t h = 7;\n",
+        "    const int32_t pin[2] = {5, 5};\n    size_t a = 7, b = 7;\n    calzundi_length t = 7, l = 7;\n    uint64_t h = 7;\n    int32_t x = 7, y = 7;\n",
     );
     let mut expected = String::new();
     for (call, number) in calls {
         lines += &format!("    printf(\"%d\\n\", (int)calzundi_{call});\n");
         expected += &format!("{number}\n");
     }
-    lines += "    printf(\"%d %d %d %d\\n\", (int)a, (int)b, (int)t, (int)h);\n";
-    expected += "7 7 7 7\n";
+    lines += "    printf(\"%d %d %d %d %d %d %d\\n\", (int)a, (int)b, (int)t, (int)l, (int)h, (int)x, (int)y);\n";
+    expected += "7 7 7 7 7 7 7\n";
     assert_eq!(printed("nulls", &lines), expected);
+}
+
+/// The net of the first request by the header's calls: the total in cost, the metal beside it, and the weights from its file.
+#[test]
+fn the_weighed_net_from_c() {
+    let lines = "    const int32_t pins[8] = {3, 1, 0, 0, 2, 0, 0, 2};
+    int32_t edges[CALZUNDI_TREE_NUMBERS(4, 0)], read_pins[CALZUNDI_READ_PIN_NUMBERS], read_macros[CALZUNDI_READ_MACRO_NUMBERS];
+    uint8_t file[CALZUNDI_FILE_BYTES(4, 0)];
+    size_t count = 0, m = 0, k = 0;
+    calzundi_length total = 0, metal = 0;
+    int32_t x = 0, y = 0;
+    int code = (int)calzundi_refined_tree(pins, 8, NULL, 0, 1, 3, edges, CALZUNDI_TREE_NUMBERS(4, 0), &count, &total, &metal);
+    printf(\"%d %d %d %d\\n\", code, (int)count, (int)total, (int)metal);
+    code = (int)calzundi_write_file(pins, 8, NULL, 0, 1, 3, file, sizeof file, &count);
+    printf(\"%d %d %d %d\\n\", code, (int)count, (int)file[24], (int)file[28]);
+    code = (int)calzundi_read_file(file, count, read_pins, CALZUNDI_READ_PIN_NUMBERS, read_macros, CALZUNDI_READ_MACRO_NUMBERS, &m, &k, &x,
+                                   &y);
+    printf(\"%d %d %d %d %d\\n\", code, (int)m, (int)k, (int)x, (int)y);
+";
+    let expected = "0 4 11 7\n0 1024 0 3\n0 4 0 1 3\n";
+    assert_eq!(printed("weighed", lines), expected);
 }

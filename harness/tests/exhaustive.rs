@@ -1,4 +1,4 @@
-//! Mission demand 3 on the proved router's answers, by every terminal path of small nets.
+//! Mission demand 3 on the proved router's answers, by every terminal path of small nets, in cost.
 
 use std::collections::BTreeSet;
 use std::io::Write;
@@ -6,15 +6,16 @@ use std::io::Write;
 use harness::library;
 use reference::edge::Edge;
 use reference::exhaustive::{Every, Given};
-use reference::generate::{net, Kind};
+use reference::generate::{net, weighted, Kind};
 use reference::lists::Lists;
 use reference::net::{check, Place};
 
 /// The terminal tree as the proved router gives it.
-fn given(Lists { pins, macros }: &Lists) -> Given {
+fn given(lists: &Lists) -> Given {
+    let (pins, macros, weights) = lists.parts();
     let mut numbers = vec![0; 5 * (pins.len() / 2)];
     let (count, total) =
-        library::terminal_tree(pins, macros, &mut numbers).expect("an allowed net");
+        library::terminal_tree(pins, macros, weights, &mut numbers).expect("an allowed net");
     let place = |two: &[i64]| Place {
         x: two[0],
         y: two[1],
@@ -26,28 +27,42 @@ fn given(Lists { pins, macros }: &Lists) -> Given {
     }
 }
 
+/// Every terminal path of a net.
+fn every_path(lists: &Lists) -> Every {
+    let (pins, macros, weights) = lists.parts();
+    Every::of(&check(pins, macros, weights).expect("generated nets are allowed"))
+}
+
+/// A small net with weights 1 and 1, and for odd seeds with weights of all sorts.
+fn small(seed: u64) -> Lists {
+    match seed % 2 {
+        0 => net(Kind::Small, seed),
+        _ => weighted(Kind::Small, seed),
+    }
+}
+
 #[test]
 fn no_joining_and_no_chain_is_shorter() {
     let (mut paths, mut few) = (0, 0);
-    for seed in 0..2_000 {
-        let lists = net(Kind::Small, seed);
-        let every = Every::of(&check(&lists.pins, &lists.macros).unwrap());
+    for seed in 0..4_000 {
+        let lists = small(seed);
+        let every = every_path(&lists);
         let faults = every.faults(&given(&lists));
         assert_eq!(faults, BTreeSet::new(), "small {seed}");
         paths += every.paths().len();
         few += usize::from(every.is_few());
     }
-    let said = format!("terminal trees of 2000 small nets beside {paths} terminal paths, in {few} nets beside every set of them");
+    let said = format!("terminal trees of 4000 small nets beside {paths} terminal paths, in {few} nets beside every set of them");
     writeln!(std::io::stderr(), "{said}").unwrap();
-    assert!(few >= 400);
+    assert!(few >= 800);
 }
 
 /// The judge is awake: a total one too great is a longer joining, and one too small is no sum.
 #[test]
 fn a_wrong_total_is_found() {
     for seed in 0..200 {
-        let lists = net(Kind::Small, seed);
-        let every = Every::of(&check(&lists.pins, &lists.macros).unwrap());
+        let lists = small(seed);
+        let every = every_path(&lists);
         for change in [-1, 1] {
             let mut wrong = given(&lists);
             wrong.total += change;

@@ -4,9 +4,9 @@ use std::io::Write;
 
 use harness::library;
 use harness::matching::{allowed, any, file, refused, routed, Case, File, Matched};
-use reference::generate::{net, Kind};
+use reference::generate::{hostile, net, weighted, Hostile, Kind};
 use reference::lists::Lists;
-use reference::net::check;
+use reference::net::{check, Weights};
 use reference::netfile::{self, BLOCK_BYTES};
 use reference::operations;
 use reference::refined::{refined, Statistics};
@@ -28,21 +28,171 @@ fn check_on_a_hundred_thousand_lists() {
 /// Every answer must have been met often, or the match above says little.
 #[test]
 fn the_lists_meet_every_answer() {
-    let mut met = [0; 18];
+    let mut met = [0; 19];
     for seed in 0..2_000 {
         let lists = any(seed).lists;
-        match operations::check(&lists.pins, &lists.macros) {
+        match operations::check(&lists.pins, &lists.macros, lists.weights) {
             Ok(()) => met[0] += 1,
             Err(number) => met[number as usize] += 1,
         }
     }
-    for number in [0, 11, 12, 13, 14, 15, 16, 17] {
+    for number in [0, 11, 12, 13, 14, 15, 16, 17, 18] {
         let times = met[number];
         assert!(
             times >= 20,
             "answer {number} was met {times} times in 2,000 lists"
         );
     }
+}
+
+/// A net of each kind with each pair of weights from −1 to 10 and with weights at the ends of 32 bits, and nets to be refused with 9.
+#[test]
+fn check_on_every_pair_of_weights() {
+    let ends = [i32::MIN, i32::MIN + 1, 257, 1 << 16, i32::MAX - 1, i32::MAX];
+    let values: Vec<i32> = (-1..=10).chain(ends).collect();
+    let case = |kind, lists: Lists, weights| Case {
+        kind,
+        seed: 1,
+        lists: Lists { weights, ..lists },
+    };
+    let quick = [Kind::TinyFour, Kind::Far, Kind::Largest, Kind::OnePin];
+    for kind in quick {
+        let lists = net(kind, 1);
+        for &x in &values {
+            for &y in &values {
+                let weighed = case(kind.name(), lists.clone(), Weights { x, y });
+                matched(weighed.check());
+                matched(weighed.write_file());
+                matched(weighed.read_back());
+            }
+        }
+    }
+    for &kind in Hostile::ALL {
+        for seed in 0..50 {
+            let weights = Weights { x: 9, y: 1 };
+            matched(case(kind.name(), hostile(kind, seed), weights).check());
+        }
+    }
+}
+
+/// 64 pins and 64 macros out to ±1,000,000: the greatest costs that there are, under the greatest weights and under each axis's alone.
+#[test]
+fn the_largest_nets_with_the_greatest_weights() {
+    let mut greatest = 0;
+    for seed in 0..8 {
+        for (x, y) in [(8, 8), (1, 8), (8, 1)] {
+            let lists = Lists {
+                weights: Weights { x, y },
+                ..net(Kind::LargestFar, seed)
+            };
+            let (pins, macros, weights) = lists.parts();
+            let (_, total) =
+                library::terminal_tree(pins, macros, weights, &mut [0; 320]).expect("space enough");
+            greatest = greatest.max(total);
+            let case = Case {
+                kind: Kind::LargestFar.name(),
+                seed,
+                lists,
+            };
+            matched(case.graph());
+            matched(case.terminal_tree());
+            matched(case.refined_tree());
+            matched(case.wires());
+            matched(case.price().map(|_| ()));
+            matched(case.write_file());
+            matched(case.read_back());
+        }
+    }
+    writeln!(
+        std::io::stderr(),
+        "terminal trees of 64 pins and 64 macros: {greatest} the greatest total"
+    )
+    .unwrap();
+    assert!(greatest > 500_000_000, "{greatest}");
+}
+
+/// Each coordinate times its axis's weight, and weights 1 and 1.
+fn stretched(lists: &Lists) -> Lists {
+    let (pins, macros, Weights { x, y }) = lists.parts();
+    let times = |list: &[i32]| {
+        let axes = [x, y].into_iter().cycle();
+        list.iter().zip(axes).map(|(c, by)| c * by).collect()
+    };
+    Lists {
+        pins: times(pins),
+        macros: times(macros),
+        ..Lists::default()
+    }
+}
+
+/// The edges of the graph, the paths, the edges of the refined tree, and both totals.
+#[derive(PartialEq)]
+struct Trees {
+    graph: Vec<i32>,
+    paths: Vec<i64>,
+    tree: Vec<i32>,
+    totals: [i64; 2],
+}
+
+/// What the proved router answers.
+fn trees(lists: &Lists) -> Result<Trees, u32> {
+    let (pins, macros, weights) = lists.parts();
+    let (m, n) = (pins.len() / 2, pins.len() / 2 + macros.len());
+    let (mut vertices, mut graph) = (vec![0; 2 * n], vec![0; 16 * n]);
+    let (mut paths, mut tree) = (vec![0; 5 * m], vec![0; 4 * (n + m)]);
+    let (_, edges) = library::graph(pins, macros, weights, &mut vertices, &mut graph)?;
+    let (kept, terminal) = library::terminal_tree(pins, macros, weights, &mut paths)?;
+    let (laid, refined, _) = library::refined_tree(pins, macros, weights, &mut tree)?;
+    graph.truncate(4 * edges);
+    paths.truncate(5 * kept);
+    tree.truncate(4 * laid);
+    Ok(Trees {
+        graph,
+        paths,
+        tree,
+        totals: [terminal, refined],
+    })
+}
+
+impl Trees {
+    /// Each coordinate times its axis's weight; costs are left.
+    fn stretched(mut self, Weights { x, y }: Weights) -> Trees {
+        let axes = [x, y];
+        for list in [&mut self.graph, &mut self.tree] {
+            for (at, coordinate) in list.iter_mut().enumerate() {
+                *coordinate *= axes[at % 2];
+            }
+        }
+        for path in self.paths.chunks_exact_mut(5) {
+            for (at, coordinate) in path[..4].iter_mut().enumerate() {
+                *coordinate *= i64::from(axes[at % 2]);
+            }
+        }
+        self
+    }
+}
+
+/// Weights are a stretch of the die, which changes no order, no clear box and no middle: the proved router gives a net stretched along each
+/// axis by its weight the stretched trees, with the same costs, under weights 1 and 1. The second program has no part in this.
+#[test]
+fn weights_are_a_stretch() {
+    let mut compared = 0;
+    for seed in 0..3_000 {
+        let case = routed(seed);
+        let weights = case.lists.weights;
+        // A net near the ends of the range does not fit once it is stretched.
+        if let Ok(wide) = trees(&stretched(&case.lists)) {
+            let ours = trees(&case.lists).expect("routed nets are allowed");
+            assert!(ours.stretched(weights) == wide, "{} {seed}", case.kind);
+            compared += usize::from(weights != Weights::ONE);
+        }
+    }
+    writeln!(
+        std::io::stderr(),
+        "weighted nets beside their stretch: {compared}"
+    )
+    .unwrap();
+    assert!(compared > 1_500, "{compared}");
 }
 
 /// Lists of every short length, whole or not, filled with each of some numbers.
@@ -61,17 +211,19 @@ fn check_on_every_short_length() {
         for pins in 0..140 {
             for macros in [0, 1, 2, 3, 4, 7, 8, 255, 256, 257, 260] {
                 let (pins, macros) = (vec![value; pins], vec![value; macros]);
-                let (ours, theirs) = (
-                    library::check(&pins, &macros),
-                    operations::check(&pins, &macros),
-                );
-                assert_eq!(
-                    ours,
-                    theirs,
-                    "{} and {} times {value}",
-                    pins.len(),
-                    macros.len()
-                );
+                for weights in [Weights::ONE, Weights { x: 1, y: value }] {
+                    let (ours, theirs) = (
+                        library::check(&pins, &macros, weights),
+                        operations::check(&pins, &macros, weights),
+                    );
+                    assert_eq!(
+                        ours,
+                        theirs,
+                        "{} and {} times {value}, {weights:?}",
+                        pins.len(),
+                        macros.len()
+                    );
+                }
             }
         }
     }
@@ -155,8 +307,8 @@ const EVENTS: [&str; 9] = [
 
 /// How often each of them happened.
 fn events(case: &Case) -> [usize; 9] {
-    let Lists { pins, macros } = &case.lists;
-    let net = check(pins, macros).expect("routed nets are allowed");
+    let (pins, macros, weights) = case.lists.parts();
+    let net = check(pins, macros, weights).expect("routed nets are allowed");
     let Statistics {
         rounds,
         bound_ended,
@@ -218,7 +370,7 @@ fn cut(bytes: &[u8], length: usize) -> File {
 #[test]
 fn read_a_file_cut_at_every_length() {
     for kind in [Kind::OnePin, Kind::Largest] {
-        let bytes = netfile::write(&net(kind, 1));
+        let bytes = netfile::write(&weighted(kind, 1));
         for length in 0..=3_600 {
             matched(cut(&bytes, length).read_file());
         }
@@ -231,6 +383,7 @@ fn read_a_file_with_each_word_changed() {
     let lists = Lists {
         pins: vec![3, -4, 5, 6],
         macros: vec![-9, -9, -7, -6],
+        weights: Weights { x: 3, y: 1 },
     };
     let bytes = netfile::write(&lists);
     for at in 0..bytes.len() / 4 {

@@ -1,10 +1,15 @@
-//! The library and the program answer as the first release did, byte for byte, on the inputs of harness/first-release/outputs.txt.
+//! The library and the program answer as the first release did, byte for byte but for what requests have changed since
+//! (harness/src/requests.rs), on the inputs of harness/first-release/outputs.txt.
 
 use std::collections::{BTreeMap, BTreeSet};
 use std::path::Path;
 use std::thread;
 
+use harness::library;
 use harness::outputs::{differences, digest, records, Case, Difference, Input};
+use harness::requests::expected;
+use reference::net::Weights;
+use reference::netfile;
 
 /// The text that was stored with the first release.
 fn stored() -> String {
@@ -22,7 +27,7 @@ fn case(record: &str) -> Case {
 /// Every difference, by two threads, in the order of the records.
 fn all_differences(records: &[String]) -> Vec<Difference> {
     let of_half = |half: &[String]| -> Vec<Difference> {
-        let of = |record: &String| differences(record, &case(record).record());
+        let of = |record: &String| differences(&expected(record), &case(record).record());
         half.iter().flat_map(of).collect()
     };
     let (first, second) = records.split_at(records.len() / 2);
@@ -54,7 +59,77 @@ fn every_output_is_that_of_the_first_release() {
     );
 }
 
-/// The file is never written again: a request that changes an answer writes its differences beside it.
+/// "With both weights 1 old outputs differ only in the added header field and a read's two weights" [1]: of the stored lines the headers
+/// alone are others, by ` metal` and the refined total, and behind the macros of each file that is read stand the weights 1 and 1. The
+/// refined total of a header is that of the call, so the metal is too.
+#[test]
+fn weights_change_two_things_and_no_other() {
+    let (mut headers, mut reads) = (0, 0);
+    for record in records(&stored()) {
+        let (mut before, now) = (record.lines(), expected(&record));
+        for line in now.lines() {
+            if line == "read 0 weights 1 1" {
+                reads += 1;
+                continue;
+            }
+            let stored = before.next().unwrap_or_default();
+            match line.split_once(" metal ") {
+                Some((header, metal)) => {
+                    assert!(header.starts_with("route pins "), "{line}");
+                    assert!(header.ends_with(&format!(" refined {metal}")), "{line}");
+                    assert_eq!(header, stored);
+                    let called = format!("\nrefined 0 total {metal} edges ");
+                    assert!(
+                        what(&record) == "damaged" || record.contains(&called),
+                        "{line}"
+                    );
+                    headers += 1;
+                }
+                None => assert_eq!(line, stored),
+            }
+        }
+        assert_eq!(before.next(), None);
+    }
+    assert_eq!((headers, reads), (HEADERS, READS));
+}
+
+/// The allowed nets, and the one damaged file that is a right one all the same.
+const HEADERS: usize = 1_756 + READS;
+const READS: usize = 1;
+
+/// A file of weights 1 and 1 is byte for byte the one that the first release wrote, by both programs. Any other weights make another.
+#[test]
+fn a_file_of_weights_one_is_that_of_the_first_release() {
+    let mut files = 0;
+    for record in records(&stored()) {
+        let Input::Net { lists, .. } = case(&record).input else {
+            continue;
+        };
+        let Some(line) = record.lines().find(|line| line.starts_with("file 0 ")) else {
+            continue;
+        };
+        let said =
+            |bytes: &[u8]| format!("file 0 bytes {} digest {:016x}", bytes.len(), digest(bytes));
+        assert_eq!(lists.weights, Weights::ONE);
+        let (pins, macros, weights) = lists.parts();
+        let write = |weights| {
+            let mut bytes = vec![0; 6 * netfile::BLOCK_BYTES];
+            let given =
+                library::write_file(pins, macros, weights, &mut bytes).expect("an allowed net");
+            bytes.truncate(given);
+            bytes
+        };
+        assert_eq!(said(&write(weights)), line);
+        assert_eq!(said(&netfile::write(&lists)), line);
+        for (x, y) in [(2, 1), (1, 2), (8, 8)] {
+            assert_ne!(said(&write(Weights { x, y })), line);
+        }
+        files += 1;
+    }
+    assert_eq!(files, 1_756);
+}
+
+/// The file is never written again: what a request changes stands beside it.
 #[test]
 fn the_stored_file_is_the_one_of_the_first_release() {
     assert_eq!(
@@ -144,6 +219,7 @@ fn a_difference_is_named() {
         .find(|record| record.starts_with("net ") && record.contains(" three-pins "))
         .expect("the third worked net");
     let now = case(record).record();
+    let record = &expected(record);
     assert_eq!(differences(record, &now), vec![]);
     let title = record.lines().next().unwrap().to_string();
     let named = |operation: &str, stored: &str, now: &str| {
@@ -160,6 +236,17 @@ fn a_difference_is_named() {
         differences(&record.replace(edges, other), &now),
         named("refined", other, edges)
     );
+    let header = "route pins 3 macros 0 terminal 9 refined 7 metal 7";
+    for other in [
+        "route pins 3 macros 0 terminal 9 refined 7",
+        "route pins 3 macros 0 terminal 9 refined 7 metal 8",
+        "route pins 3 macros 0 terminal 9 metal 7 refined 7",
+    ] {
+        assert_eq!(
+            differences(&record.replace(header, other), &now),
+            named("route", other, header)
+        );
+    }
     let last = "route 2 0 4 0 2";
     assert_eq!(
         differences(&record.replace(&format!("{last}\n"), ""), &now),

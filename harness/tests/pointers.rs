@@ -8,8 +8,10 @@ use std::{slice, thread};
 
 use harness::library;
 use harness::matching::routed;
-use reference::generate::{net, Kind};
+use reference::generate::{net, weighted, Kind};
 use reference::lists::Lists;
+use reference::net::Weights;
+use reference::netfile;
 
 // The bare calls
 
@@ -25,7 +27,7 @@ fn no_space<T>() -> Space<T> {
     (null_mut(), 0)
 }
 
-/// What a call returns, and then its counts and its total.
+/// What a call returns, and then its counts, its totals and, for a read, its weights.
 type Answer = Vec<i64>;
 
 /// What stands in counts, totals and lent numbers before a call, byte for byte.
@@ -38,77 +40,96 @@ fn answer(code: i32, counts: &[usize]) -> Answer {
     [code.into()].into_iter().chain(counts).collect()
 }
 
-fn check(p: List<i32>, q: List<i32>) -> Answer {
+fn check(p: List<i32>, q: List<i32>, w: Weights) -> Answer {
     // SAFETY: as for the calls below, a test hands over what the header asks for.
-    let code = unsafe { library::calzundi_check(p.0, p.1, q.0, q.1) };
+    let code = unsafe { library::calzundi_check(p.0, p.1, q.0, q.1, w.x, w.y) };
     answer(code, &[])
 }
 
-fn graph(p: List<i32>, q: List<i32>, v: Space<i32>, e: Space<i32>) -> Answer {
+fn graph(p: List<i32>, q: List<i32>, w: Weights, v: Space<i32>, e: Space<i32>) -> Answer {
     let (mut vs, mut es) = (COUNT, COUNT);
     let code = unsafe {
-        library::calzundi_graph(p.0, p.1, q.0, q.1, v.0, v.1, e.0, e.1, &mut vs, &mut es)
+        library::calzundi_graph(
+            p.0, p.1, q.0, q.1, w.x, w.y, v.0, v.1, e.0, e.1, &mut vs, &mut es,
+        )
     };
     answer(code, &[vs, es])
 }
 
-fn terminal_tree(p: List<i32>, q: List<i32>, t: Space<i64>) -> Answer {
+fn terminal_tree(p: List<i32>, q: List<i32>, w: Weights, t: Space<i64>) -> Answer {
     let (mut count, mut total) = (COUNT, TOTAL);
     let code = unsafe {
-        library::calzundi_terminal_tree(p.0, p.1, q.0, q.1, t.0, t.1, &mut count, &mut total)
+        library::calzundi_terminal_tree(
+            p.0, p.1, q.0, q.1, w.x, w.y, t.0, t.1, &mut count, &mut total,
+        )
     };
     answer(code, &[count, total as usize])
 }
 
-fn refined_tree(p: List<i32>, q: List<i32>, e: Space<i32>) -> Answer {
-    let (mut count, mut total) = (COUNT, TOTAL);
+fn refined_tree(p: List<i32>, q: List<i32>, w: Weights, e: Space<i32>) -> Answer {
+    let (mut count, mut total, mut metal) = (COUNT, TOTAL, TOTAL);
     let code = unsafe {
-        library::calzundi_refined_tree(p.0, p.1, q.0, q.1, e.0, e.1, &mut count, &mut total)
+        library::calzundi_refined_tree(
+            p.0, p.1, q.0, q.1, w.x, w.y, e.0, e.1, &mut count, &mut total, &mut metal,
+        )
     };
-    answer(code, &[count, total as usize])
+    answer(code, &[count, total as usize, metal as usize])
 }
 
-fn wires(p: List<i32>, q: List<i32>, w: Space<i32>) -> Answer {
+fn wires(p: List<i32>, q: List<i32>, w: Weights, d: Space<i32>) -> Answer {
     let mut count = COUNT;
-    let code = unsafe { library::calzundi_wires(p.0, p.1, q.0, q.1, w.0, w.1, &mut count) };
+    let code =
+        unsafe { library::calzundi_wires(p.0, p.1, q.0, q.1, w.x, w.y, d.0, d.1, &mut count) };
     answer(code, &[count])
 }
 
-fn price(p: List<i32>, q: List<i32>, b: List<u64>) -> Answer {
+fn price(p: List<i32>, q: List<i32>, w: Weights, b: List<u64>) -> Answer {
     let mut charge = COUNT as u64;
-    let code = unsafe { library::calzundi_price(p.0, p.1, q.0, q.1, b.0, b.1, &mut charge) };
+    let code =
+        unsafe { library::calzundi_price(p.0, p.1, q.0, q.1, w.x, w.y, b.0, b.1, &mut charge) };
     answer(code, &[charge as usize])
 }
 
-fn write_file(p: List<i32>, q: List<i32>, b: Space<u8>) -> Answer {
+fn write_file(p: List<i32>, q: List<i32>, w: Weights, b: Space<u8>) -> Answer {
     let mut given = COUNT;
-    let code = unsafe { library::calzundi_write_file(p.0, p.1, q.0, q.1, b.0, b.1, &mut given) };
+    let code =
+        unsafe { library::calzundi_write_file(p.0, p.1, q.0, q.1, w.x, w.y, b.0, b.1, &mut given) };
     answer(code, &[given])
 }
 
 fn read_file(b: List<u8>, p: Space<i32>, q: Space<i32>) -> Answer {
-    let (mut m, mut k) = (COUNT, COUNT);
-    let code = unsafe { library::calzundi_read_file(b.0, b.1, p.0, p.1, q.0, q.1, &mut m, &mut k) };
-    answer(code, &[m, k])
+    let (mut m, mut k, mut x, mut y) = (COUNT, COUNT, NUMBER, NUMBER);
+    let code = unsafe {
+        library::calzundi_read_file(b.0, b.1, p.0, p.1, q.0, q.1, &mut m, &mut k, &mut x, &mut y)
+    };
+    answer(code, &[m, k, x as usize, y as usize])
 }
 
 /// Every operation; the file is read back from what was written.
-fn all(p: List<i32>, q: List<i32>, lent: &mut Lent) -> [Answer; 7] {
-    let checked = check(p, q);
-    let graph = graph(p, q, lent.vertices.space(), lent.edges.space());
-    let terminal = terminal_tree(p, q, lent.paths.space());
-    let refined = refined_tree(p, q, lent.tree.space());
-    let wires = wires(p, q, lent.wires.space());
-    let written = write_file(p, q, lent.bytes.space());
+fn all(p: List<i32>, q: List<i32>, w: Weights, lent: &mut Lent) -> [Answer; 7] {
+    let checked = check(p, q, w);
+    let graph = graph(p, q, w, lent.vertices.space(), lent.edges.space());
+    let terminal = terminal_tree(p, q, w, lent.paths.space());
+    let refined = refined_tree(p, q, w, lent.tree.space());
+    let wires = wires(p, q, w, lent.wires.space());
+    let written = write_file(p, q, w, lent.bytes.space());
     let file = lent.bytes.list();
     let read = read_file(file, lent.pins.space(), lent.macros.space());
     [checked, graph, terminal, refined, wires, written, read]
 }
 
-/// The answers of refusals by these numbers: counts and totals are as they were.
+/// The answers of refusals by these numbers: counts, totals, the metal and the weights of a read are as they were.
 fn refused(numbers: [i32; 7]) -> [Answer; 7] {
-    let counts = [0, 2, 2, 2, 1, 1, 2];
-    std::array::from_fn(|i| answer(numbers[i], &[COUNT, COUNT][..counts[i]]))
+    let counts = [0, 2, 2, 3, 1, 1];
+    std::array::from_fn(|i| match counts.get(i) {
+        Some(&counts) => answer(numbers[i], &[COUNT; 3][..counts]),
+        None => refused_read(numbers[i]),
+    })
+}
+
+fn refused_read(number: i32) -> Answer {
+    let weight = NUMBER as usize;
+    answer(number, &[COUNT, COUNT, weight, weight])
 }
 
 // Memory between fences
@@ -284,7 +305,8 @@ impl Lent {
 }
 
 /// What the safe calls answer for an allowed net, and what they leave in lent vectors.
-fn by_slices(Lists { pins, macros }: &Lists) -> ([Answer; 7], Vec<u8>) {
+fn by_slices(lists: &Lists) -> ([Answer; 7], Vec<u8>) {
+    let (pins, macros, weights) = lists.parts();
     let (m, k) = (pins.len() / 2, macros.len() / 4);
     let n = m + 4 * k;
     let numbers = |count| vec![NUMBER; count];
@@ -293,21 +315,22 @@ fn by_slices(Lists { pins, macros }: &Lists) -> ([Answer; 7], Vec<u8>) {
     let (mut tree, mut drawn) = (numbers(4 * (n + m)), numbers(8 * (n + m)));
     let mut file = vec![BEFORE; 512 * (1 + m.div_ceil(60) + k.div_ceil(30))];
     let (mut pins_read, mut macros_read) = (numbers(128), numbers(256));
-    library::check(pins, macros).unwrap();
-    let (v, e) = library::graph(pins, macros, &mut vertices, &mut edges).unwrap();
-    let (p, terminal) = library::terminal_tree(pins, macros, &mut paths).unwrap();
-    let (t, refined) = library::refined_tree(pins, macros, &mut tree).unwrap();
-    let w = library::wires(pins, macros, &mut drawn).unwrap();
-    let given = library::write_file(pins, macros, &mut file).unwrap();
-    let (a, b) = library::read_file(&file, &mut pins_read, &mut macros_read).unwrap();
+    library::check(pins, macros, weights).unwrap();
+    let (v, e) = library::graph(pins, macros, weights, &mut vertices, &mut edges).unwrap();
+    let (p, terminal) = library::terminal_tree(pins, macros, weights, &mut paths).unwrap();
+    let (t, refined, metal) = library::refined_tree(pins, macros, weights, &mut tree).unwrap();
+    let w = library::wires(pins, macros, weights, &mut drawn).unwrap();
+    let given = library::write_file(pins, macros, weights, &mut file).unwrap();
+    let (a, b, read) = library::read_file(&file, &mut pins_read, &mut macros_read).unwrap();
+    assert_eq!(read, weights);
     let answers = [
         answer(0, &[]),
         answer(0, &[v, e]),
         answer(0, &[p, terminal as usize]),
-        answer(0, &[t, refined as usize]),
+        answer(0, &[t, refined as usize, metal as usize]),
         answer(0, &[w]),
         answer(0, &[given]),
-        answer(0, &[a, b]),
+        answer(0, &[a, b, read.x as usize, read.y as usize]),
     ];
     let lent = [
         raw(&vertices),
@@ -325,7 +348,7 @@ fn by_slices(Lists { pins, macros }: &Lists) -> ([Answer; 7], Vec<u8>) {
 fn third_net() -> Lists {
     Lists {
         pins: vec![0, 0, 4, 0, 2, 3],
-        macros: vec![],
+        ..Lists::default()
     }
 }
 
@@ -333,6 +356,7 @@ fn around_one() -> Lists {
     Lists {
         pins: vec![0, 0, 10, 0],
         macros: vec![4, -2, 6, 3],
+        weights: Weights { x: 2, y: 3 },
     }
 }
 
@@ -345,14 +369,14 @@ fn list(numbers: &[i32]) -> List<i32> {
 /// Lists and spaces that are null with a count of 0 are those of none: no pin, and where space is asked for first, too little of it.
 #[test]
 fn null_everywhere() {
-    let (p, q) = (none(), none());
+    let (p, q, w) = (none(), none(), Weights::ONE);
     let answers = [
-        check(p, q),
-        graph(p, q, no_space(), no_space()),
-        terminal_tree(p, q, no_space()),
-        refined_tree(p, q, no_space()),
-        wires(p, q, no_space()),
-        write_file(p, q, no_space()),
+        check(p, q, w),
+        graph(p, q, w, no_space(), no_space()),
+        terminal_tree(p, q, w, no_space()),
+        refined_tree(p, q, w, no_space()),
+        wires(p, q, w, no_space()),
+        write_file(p, q, w, no_space()),
         read_file(none(), no_space(), no_space()),
     ];
     assert_eq!(answers, refused([11, 11, 11, 11, 11, 11, 21]));
@@ -361,22 +385,23 @@ fn null_everywhere() {
 #[test]
 fn null_spaces() {
     for lists in [third_net(), around_one()] {
-        let (p, q) = (list(&lists.pins), list(&lists.macros));
+        let (p, q, w) = (list(&lists.pins), list(&lists.macros), lists.weights);
         let mut lent = Lent::to(&lists, At::Back);
         let answers = [
             answer(21, &[]),
-            graph(p, q, no_space(), no_space()),
-            terminal_tree(p, q, no_space()),
-            refined_tree(p, q, no_space()),
-            wires(p, q, no_space()),
-            write_file(p, q, no_space()),
+            graph(p, q, w, no_space(), no_space()),
+            terminal_tree(p, q, w, no_space()),
+            refined_tree(p, q, w, no_space()),
+            wires(p, q, w, no_space()),
+            write_file(p, q, w, no_space()),
             read_file(lent.bytes.list(), no_space(), no_space()),
         ];
         assert_eq!(answers, refused([21; 7]));
         // One of two.
         let short = answer(21, &[COUNT, COUNT]);
-        assert_eq!(graph(p, q, no_space(), lent.edges.space()), short);
-        assert_eq!(graph(p, q, lent.vertices.space(), no_space()), short);
+        assert_eq!(graph(p, q, w, no_space(), lent.edges.space()), short);
+        assert_eq!(graph(p, q, w, lent.vertices.space(), no_space()), short);
+        let short = refused_read(21);
         let file = lent.bytes.list();
         assert_eq!(read_file(file, no_space(), lent.macros.space()), short);
         assert_eq!(read_file(file, lent.pins.space(), no_space()), short);
@@ -398,12 +423,12 @@ fn lists_of_none() {
         let empty = (address, 0);
         for at in [At::Front, At::Back] {
             let mut lent = Lent::to(&third, at);
-            let answers = all(list(&third.pins), empty, &mut lent);
+            let answers = all(list(&third.pins), empty, third.weights, &mut lent);
             assert_eq!((answers, lent.bytes()), expected, "{address:?}");
         }
         let one = around_one();
         let mut lent = Lent::to(&one, At::Back);
-        let mut answers = all(empty, list(&one.macros), &mut lent);
+        let mut answers = all(empty, list(&one.macros), one.weights, &mut lent);
         // Nothing was written, so what is read is no file.
         answers[6] = read_file((address.cast(), 0), lent.pins.space(), lent.macros.space());
         assert_eq!(answers, refused([11, 11, 11, 11, 11, 11, 1]), "{address:?}");
@@ -417,14 +442,14 @@ fn lists_of_none() {
 #[test]
 fn nothing_else_is_touched() {
     let nets = (0..200).map(|seed| routed(seed).lists);
-    let named = [third_net(), around_one(), net(Kind::Largest, 1)];
+    let named = [third_net(), around_one(), weighted(Kind::LargestFar, 1)];
     for lists in nets.chain(named) {
         let expected = by_slices(&lists);
         for at in [At::Front, At::Back] {
             let pins = Fenced::of(&lists.pins, at).read_only();
             let macros = Fenced::of(&lists.macros, at).read_only();
             let mut lent = Lent::to(&lists, at);
-            let answers = all(pins.list(), macros.list(), &mut lent);
+            let answers = all(pins.list(), macros.list(), lists.weights, &mut lent);
             assert!((answers, lent.bytes()) == expected, "{at:?}: {lists:?}");
         }
     }
@@ -437,11 +462,43 @@ fn lists_that_overlap() {
     let lists = Lists {
         pins: corners.clone(),
         macros: corners,
+        ..Lists::default()
     };
     let mut lent = Lent::to(&lists, At::Back);
     let both = list(&lists.pins);
-    let answers = all(both, both, &mut lent);
+    let answers = all(both, both, lists.weights, &mut lent);
     assert_eq!((answers, lent.bytes()), by_slices(&lists));
+}
+
+/// A refusal leaves all that is lent as it was, counts, totals, the metal and a read's weights too: a weight outside 1 to 8, and a file whose
+/// weight word is.
+#[test]
+fn weights_that_are_refused() {
+    for lists in [third_net(), around_one(), net(Kind::Largest, 1)] {
+        let (p, q) = (list(&lists.pins), list(&lists.macros));
+        for (x, y) in [(0, 1), (1, 9), (i32::MIN, i32::MAX), (-1, -1)] {
+            let mut lent = Lent::to(&lists, At::Back);
+            let answers = all(p, q, Weights { x, y }, &mut lent);
+            // Nothing was written, so what is read has wrong sums.
+            assert_eq!(answers, refused([18, 18, 18, 18, 18, 18, 2]), "{x} {y}");
+            assert!(lent.untouched());
+            let bands = [u64::MAX, 1];
+            let charged = price(p, q, Weights { x, y }, (bands.as_ptr(), bands.len()));
+            assert_eq!(charged, answer(18, &[COUNT]));
+        }
+        let mut lent = Lent::to(&lists, At::Back);
+        let file = netfile::write(&lists);
+        for word in [1, 9, u32::MAX] {
+            let mut blocks = netfile::blocks_of(&file);
+            blocks[0][7] = word;
+            netfile::seal(&mut blocks[0]);
+            let bytes = netfile::bytes_of(&blocks);
+            let bytes = (bytes.as_ptr(), bytes.len());
+            let read = read_file(bytes, lent.pins.space(), lent.macros.space());
+            assert_eq!(read, refused_read(3), "{word}");
+            assert!(lent.untouched());
+        }
+    }
 }
 
 // Threads
@@ -458,9 +515,9 @@ fn threads_do_not_disturb_each_other() {
                 for turn in 0..nets.len() {
                     // Two threads are on the same net at the same time, the others on others.
                     let i = (turn + first / 2 * 25) % nets.len();
-                    let Lists { pins, macros } = &nets[i];
+                    let (pins, macros, weights) = nets[i].parts();
                     let mut lent = Lent::to(&nets[i], At::Back);
-                    let answers = all(list(pins), list(macros), &mut lent);
+                    let answers = all(list(pins), list(macros), weights, &mut lent);
                     assert!((answers, lent.bytes()) == alone[i], "{:?}", nets[i]);
                 }
             });
@@ -471,7 +528,8 @@ fn threads_do_not_disturb_each_other() {
 /// A list of bands between fences, which nobody can write: read whole, and nothing beside it.
 #[test]
 fn bands_are_read_and_nothing_else() {
-    let Lists { pins, macros } = net(Kind::Largest, 1);
+    let Lists { pins, macros, .. } = net(Kind::Largest, 1);
+    let one = Weights::ONE;
     let pins = Fenced::of(&pins, At::Back).read_only();
     let macros = Fenced::of(&macros, At::Back).read_only();
     for at in [At::Front, At::Back] {
@@ -486,12 +544,15 @@ fn bands_are_read_and_nothing_else() {
             let list = Fenced::of(bands, at).read_only();
             let charge = if code == 0 { 0 } else { COUNT };
             let expected = answer(code, &[charge]);
-            assert_eq!(price(pins.list(), macros.list(), list.list()), expected);
+            assert_eq!(
+                price(pins.list(), macros.list(), one, list.list()),
+                expected
+            );
         }
     }
-    assert_eq!(price(none(), none(), none()), answer(11, &[COUNT]));
+    assert_eq!(price(none(), none(), one, none()), answer(11, &[COUNT]));
     assert_eq!(
-        price(pins.list(), none(), none()),
+        price(pins.list(), none(), one, none()),
         answer(31, &[COUNT]),
         "the pins alone are a net"
     );

@@ -6,9 +6,8 @@ use harness::library;
 use harness::matching::{refused, routed, Case};
 use reference::generate::{bands, BandList};
 use reference::lists::Lists;
-use reference::net::check;
+use reference::net::{check, Weights};
 use reference::operations;
-use reference::price::metal;
 use reference::refined::refined;
 
 /// Allowed nets of every kind, and hostile lists by turns.
@@ -21,9 +20,10 @@ fn case(seed: u64) -> Case {
 }
 
 /// The metal of an allowed net, by the second program.
-fn metal_of(Lists { pins, macros }: &Lists) -> Option<u64> {
-    let net = check(pins, macros).ok()?;
-    Some(metal(&refined(&net).edges))
+fn metal_of(lists: &Lists) -> Option<u64> {
+    let (pins, macros, weights) = lists.parts();
+    let net = check(pins, macros, weights).ok()?;
+    Some(refined(&net).metal.unsigned_abs())
 }
 
 /// Every kind of list by turns; every answer must have been met often, or the match says little.
@@ -63,8 +63,9 @@ fn longer_nets_are_never_charged_less() {
     for seed in 0..10 {
         let list = bands(BandList::InOrder, seed, longest);
         let mut least = 0;
-        for (metal, Lists { pins, macros }) in &nets {
-            let charge = library::price(pins, macros, &list).unwrap();
+        for (metal, lists) in &nets {
+            let (pins, macros, weights) = lists.parts();
+            let charge = library::price(pins, macros, weights, &list).unwrap();
             assert!(
                 charge >= least,
                 "metal {metal} is charged {charge} by {list:?}, less metal {least}"
@@ -72,6 +73,27 @@ fn longer_nets_are_never_charged_less() {
             least = charge;
         }
     }
+}
+
+/// Metal is charged and not cost: the same tree under weights 1 and 1 and under 8 and 8, and one under 1 and 3 whose metal is 7 and whose
+/// total is 11.
+#[test]
+fn weights_are_not_charged() {
+    let eight = Weights { x: 8, y: 8 };
+    for seed in 0..400 {
+        let lists = routed(seed).lists;
+        let (pins, macros, _) = lists.parts();
+        for list in [&[u64::MAX, 1_000_000][..], &[1_000, 7, 1_000_000, 9]] {
+            assert_eq!(
+                library::price(pins, macros, eight, list),
+                library::price(pins, macros, Weights::ONE, list)
+            );
+        }
+    }
+    let pins = [3, 1, 0, 0, 2, 0, 0, 2];
+    let price = |bands: &[u64]| library::price(&pins, &[], Weights { x: 1, y: 3 }, bands);
+    assert_eq!(price(&[7, 1_000]), Ok(7));
+    assert_eq!(price(&[6, 1_000]), Err(32));
 }
 
 /// The most metal between two pins.
@@ -119,12 +141,10 @@ fn charges_at_and_beside_every_half() {
                 "{metal} at {rate}, {whole} and {} thousandths",
                 thousandths % 1_000
             );
-            assert_eq!(library::price(&pins, &[], &list), Ok(charge), "{said}");
-            assert_eq!(
-                operations::price(&pins, &[], &list),
-                Ok(charge),
-                "{said}, the second program"
-            );
+            let ours = library::price(&pins, &[], Weights::ONE, &list);
+            assert_eq!(ours, Ok(charge), "{said}");
+            let theirs = operations::price(&pins, &[], Weights::ONE, &list);
+            assert_eq!(theirs, Ok(charge), "{said}, the second program");
         }
     }
     writeln!(
@@ -138,11 +158,12 @@ fn charges_at_and_beside_every_half() {
 #[test]
 fn the_second_program_prices_from_the_lists() {
     for seed in 0..500 {
-        let Lists { pins, macros } = case(seed).lists;
+        let lists = case(seed).lists;
+        let (pins, macros, weights) = lists.parts();
         for list in [&[u64::MAX, 1_000_000][..], &[1_000, 7, 1_000_000, 9], &[1]] {
             assert_eq!(
-                library::price(&pins, &macros, list),
-                operations::price(&pins, &macros, list)
+                library::price(pins, macros, weights, list),
+                operations::price(pins, macros, weights, list)
             );
         }
     }

@@ -9,7 +9,7 @@ use std::time::{Duration, Instant};
 
 use harness::matching::{file, routed};
 use harness::program::path as program;
-use reference::generate::{net, Kind};
+use reference::generate::{net, weighted, Kind};
 use reference::lists::Lists;
 use reference::netfile;
 use reference::route::route;
@@ -85,13 +85,37 @@ fn fifty_thousand_damaged_files() {
 fn the_printed_example() {
     let lists = text::parse("pin 0 0\npin 4 0\npin 2 3\n").unwrap();
     let whole = "\
-pins 3 macros 0 terminal 9 refined 7
+pins 3 macros 0 terminal 9 refined 7 metal 7
 0 0 2 0 2
 2 0 2 3 3
 2 0 4 0 2
 ";
     let bytes = netfile::write(&lists);
     assert_eq!(printed(run(&bytes, usize::MAX), "the third net"), whole);
+}
+
+/// "Metal to lay stays plain length and is printed last in the header, after the word `metal`; the length printed after an edge is its
+/// cost."
+#[test]
+fn the_weighed_net() {
+    let lists = text::parse("weights 1 3\npin 3 1\npin 0 0\npin 2 0\npin 0 2\n").unwrap();
+    let whole = "\
+pins 4 macros 0 terminal 12 refined 11 metal 7
+0 0 0 1 3
+0 0 2 0 2
+0 1 0 2 3
+0 1 3 1 3
+";
+    let bytes = netfile::write(&lists);
+    assert_eq!(printed(run(&bytes, usize::MAX), "the weighed net"), whole);
+    let mut blocks = netfile::blocks_of(&bytes);
+    for word in [1, 9] {
+        blocks[0][6] = word;
+        netfile::seal(&mut blocks[0]);
+        let bytes = netfile::bytes_of(&blocks);
+        let name = format!("head word 6 is {word}");
+        assert_eq!(printed(run(&bytes, usize::MAX), &name), "refused 3\n");
+    }
 }
 
 /// The bytes that `third-net` (crates/report/proofs/WorkedRoute.antt) speaks of are those of the example, and of what the gate runs.
@@ -136,7 +160,7 @@ fn the_worked_nets() {
 #[test]
 fn input_in_small_pieces() {
     for lists in [
-        net(Kind::Largest, 1),
+        weighted(Kind::Largest, 1),
         net(Kind::TinyEight, 3),
         net(Kind::NoMacros, 2),
     ] {

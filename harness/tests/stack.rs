@@ -4,24 +4,25 @@ use std::thread;
 
 use harness::library;
 use harness::matching::routed;
-use reference::generate::{net, Kind};
+use reference::generate::{net, weighted, Kind};
 use reference::lists::Lists;
 
 /// What include/calzundi.h says that a call has to itself.
 const STACK: usize = 512 * 1024;
 
 /// Every operation on a net, with the space that it asks for.
-fn call_all(Lists { pins, macros }: &Lists) {
+fn call_all(lists: &Lists) {
+    let (pins, macros, weights) = lists.parts();
     let (m, n) = (pins.len() / 2, pins.len() / 2 + macros.len());
     let mut numbers = vec![0; 16 * n];
-    library::check(pins, macros).unwrap();
-    library::graph(pins, macros, &mut vec![0; 2 * n], &mut numbers).unwrap();
-    library::terminal_tree(pins, macros, &mut vec![0; 5 * m]).unwrap();
-    library::refined_tree(pins, macros, &mut numbers).unwrap();
-    library::wires(pins, macros, &mut numbers).unwrap();
-    library::price(pins, macros, &[u64::MAX, 1_000_000]).unwrap();
+    library::check(pins, macros, weights).unwrap();
+    library::graph(pins, macros, weights, &mut vec![0; 2 * n], &mut numbers).unwrap();
+    library::terminal_tree(pins, macros, weights, &mut vec![0; 5 * m]).unwrap();
+    library::refined_tree(pins, macros, weights, &mut numbers).unwrap();
+    library::wires(pins, macros, weights, &mut numbers).unwrap();
+    library::price(pins, macros, weights, &[u64::MAX, 1_000_000]).unwrap();
     let mut bytes = vec![0; 3_072];
-    let given = library::write_file(pins, macros, &mut bytes).unwrap();
+    let given = library::write_file(pins, macros, weights, &mut bytes).unwrap();
     let (mut pins, mut macros) = (vec![0; 128], vec![0; 256]);
     library::read_file(&bytes[..given], &mut pins, &mut macros).unwrap();
 }
@@ -31,6 +32,7 @@ fn long_ways() -> Lists {
     Lists {
         pins: vec![0, 1, 400, 1],
         macros: (0..64).flat_map(|i| [3 + 6 * i, 0, 6 + 6 * i, 2]).collect(),
+        ..Lists::default()
     }
 }
 
@@ -41,6 +43,8 @@ fn half_a_mebibyte_is_enough() {
     let largest = [
         net(Kind::Largest, 1),
         net(Kind::LargestMaze, 1),
+        weighted(Kind::LargestMaze, 2),
+        weighted(Kind::LargestFar, 3),
         long_ways(),
     ];
     let nets: Vec<Lists> = nets.chain(largest).collect();

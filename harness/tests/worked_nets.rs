@@ -4,6 +4,8 @@ use std::path::Path;
 
 use harness::library;
 use reference::lists::Lists;
+use reference::net::Weights;
+use reference::netfile;
 use reference::text;
 
 /// The lists of an example net.
@@ -36,12 +38,13 @@ fn files_of_the_worked_nets() {
     for name in ALLOWED {
         let (lists, bytes) = (example(name), example_file(name));
         let (mut pins, mut macros) = (vec![0; 128], vec![0; 256]);
-        let (m, k) = library::read_file(&bytes, &mut pins, &mut macros).expect(name);
+        let (m, k, weights) = library::read_file(&bytes, &mut pins, &mut macros).expect(name);
         assert_eq!(pins[..2 * m], lists.pins, "{name}");
         assert_eq!(macros[..4 * k], lists.macros, "{name}");
+        assert_eq!(weights, lists.weights, "{name}");
         let mut written = vec![0; bytes.len()];
         assert_eq!(
-            library::write_file(&lists.pins, &lists.macros, &mut written),
+            library::write_file(&lists.pins, &lists.macros, lists.weights, &mut written),
             Ok(bytes.len()),
             "{name}"
         );
@@ -52,10 +55,11 @@ fn files_of_the_worked_nets() {
 /// "eight graph edges"
 #[test]
 fn graph_of_the_second_worked_net() {
-    let Lists { pins, macros } = example("around-one");
+    let lists = example("around-one");
+    let (pins, macros, weights) = lists.parts();
     let (mut vertices, mut edges) = (vec![0; 12], vec![0; 96]);
     assert_eq!(
-        library::graph(&pins, &macros, &mut vertices, &mut edges),
+        library::graph(pins, macros, weights, &mut vertices, &mut edges),
         Ok((6, 8))
     );
     assert_eq!(edges[..4], [0, 0, 4, -2]);
@@ -77,32 +81,39 @@ fn check_of_the_worked_nets() {
         ("no-width", Err(14)),
     ];
     for (name, answer) in answers {
-        let Lists { pins, macros } = example(name);
-        assert_eq!(library::check(&pins, &macros), answer, "{name}");
+        let lists = example(name);
+        let (pins, macros, weights) = lists.parts();
+        assert_eq!(library::check(pins, macros, weights), answer, "{name}");
     }
 }
 
-/// The paths of the terminal tree with its total, and the edges of the refined tree with its total and its wires.
+/// The paths of the terminal tree with its total, and the edges of the refined tree with its total, its metal and its wires.
 #[derive(Debug, PartialEq)]
 struct Trees {
     paths: Vec<i64>,
     terminal: i64,
     edges: Vec<i32>,
     refined: i64,
+    metal: i64,
     wires: Vec<i32>,
 }
 
-/// All three operations in the space that document 01 names; they must agree on a refusal.
+/// All three operations under weights 1 and 1.
 fn trees(pins: &[i32], macros: &[i32]) -> Result<Trees, u32> {
+    weighed(pins, macros, Weights::ONE)
+}
+
+/// All three operations in the space that document 01 names; they must agree on a refusal.
+fn weighed(pins: &[i32], macros: &[i32], weights: Weights) -> Result<Trees, u32> {
     let (m, n) = (pins.len() / 2, pins.len() / 2 + macros.len());
     let mut paths = vec![0; 5 * m];
     let (mut edges, mut wires) = (vec![0; 4 * (n + m)], vec![0; 8 * (n + m)]);
-    let terminal = library::terminal_tree(pins, macros, &mut paths);
-    let refined = library::refined_tree(pins, macros, &mut edges);
-    let drawn = library::wires(pins, macros, &mut wires);
+    let terminal = library::terminal_tree(pins, macros, weights, &mut paths);
+    let refined = library::refined_tree(pins, macros, weights, &mut edges);
+    let drawn = library::wires(pins, macros, weights, &mut wires);
     assert_eq!(terminal.err(), refined.err());
     assert_eq!(terminal.err(), drawn.err());
-    let ((paths_given, terminal), (edges_given, refined)) = (terminal?, refined?);
+    let ((paths_given, terminal), (edges_given, refined, metal)) = (terminal?, refined?);
     paths.truncate(5 * paths_given);
     edges.truncate(4 * edges_given);
     wires.truncate(4 * drawn?);
@@ -111,6 +122,7 @@ fn trees(pins: &[i32], macros: &[i32]) -> Result<Trees, u32> {
         terminal,
         edges,
         refined,
+        metal,
         wires,
     })
 }
@@ -118,12 +130,13 @@ fn trees(pins: &[i32], macros: &[i32]) -> Result<Trees, u32> {
 /// "Pins (0, 0), (4, 0), (2, 3): terminal 9, refined 7", and the tree that the program prints.
 #[test]
 fn trees_of_the_third_worked_net() {
-    let Lists { pins, macros } = example("three-pins");
+    let Lists { pins, macros, .. } = example("three-pins");
     let expected = Trees {
         paths: vec![0, 0, 4, 0, 4, 0, 0, 2, 3, 5],
         terminal: 9,
         edges: vec![0, 0, 2, 0, 2, 0, 2, 3, 2, 0, 4, 0],
         refined: 7,
+        metal: 7,
         wires: vec![0, 0, 2, 0, 2, 0, 2, 3, 2, 0, 4, 0],
     };
     assert_eq!(trees(&pins, &macros), Ok(expected));
@@ -141,12 +154,13 @@ fn trees_of_the_worked_nets() {
         ("three-pins", &[0, 0, 4, 0, 4, 0, 0, 2, 3, 5], 9, 7),
     ];
     for (name, paths, terminal, refined) in answers {
-        let Lists { pins, macros } = example(name);
+        let Lists { pins, macros, .. } = example(name);
         let laid = trees(&pins, &macros).expect(name);
         assert_eq!(laid.paths, paths, "{name}");
         assert_eq!((laid.terminal, laid.refined), (terminal, refined), "{name}");
+        assert_eq!(laid.metal, refined, "{name}");
     }
-    let Lists { pins, macros } = example("one-pin");
+    let Lists { pins, macros, .. } = example("one-pin");
     let alone = trees(&pins, &macros).unwrap();
     assert_eq!((alone.edges, alone.wires), (vec![], vec![]));
 }
@@ -160,7 +174,7 @@ fn refusals_of_the_worked_nets() {
         ("twice-in-interior", 15),
         ("no-width", 14),
     ] {
-        let Lists { pins, macros } = example(name);
+        let Lists { pins, macros, .. } = example(name);
         assert_eq!(trees(&pins, &macros), Err(number), "{name}");
     }
 }
@@ -188,6 +202,88 @@ fn trees_at_the_bounds() {
     let laid = trees(&[0, 0, 64, 1], &macros(64)).unwrap();
     assert_eq!((laid.terminal, laid.refined), (65, 65));
     assert_eq!(trees(&[0, 0], &macros(65)), Err(12));
+}
+
+/// The net of the first request: weights 1 and 3, and a round that gains 1 in cost and lays 1 more metal than it removes.
+const WEIGHED: [i32; 8] = [3, 1, 0, 0, 2, 0, 0, 2];
+
+#[test]
+fn trees_of_the_weighed_net() {
+    let laid = weighed(&WEIGHED, &[], Weights { x: 1, y: 3 });
+    let expected = Trees {
+        paths: vec![0, 0, 2, 0, 2, 2, 0, 3, 1, 4, 0, 0, 0, 2, 6],
+        terminal: 12,
+        edges: vec![0, 0, 0, 1, 0, 0, 2, 0, 0, 1, 0, 2, 0, 1, 3, 1],
+        refined: 11,
+        metal: 7,
+        wires: vec![0, 0, 0, 1, 0, 0, 2, 0, 0, 1, 0, 2, 0, 1, 3, 1],
+    };
+    assert_eq!(laid, Ok(expected));
+}
+
+/// "18, a weight outside 1 to 8, after 17": 0 and 9, one or both; and a net that overlaps with weight 9 is 16.
+#[test]
+fn weights_at_the_bounds() {
+    for (x, y) in [
+        (0, 1),
+        (1, 0),
+        (9, 1),
+        (1, 9),
+        (0, 9),
+        (-1, 8),
+        (i32::MIN, i32::MAX),
+    ] {
+        let weights = Weights { x, y };
+        assert_eq!(
+            library::check(&WEIGHED, &[], weights),
+            Err(18),
+            "{weights:?}"
+        );
+        assert_eq!(weighed(&WEIGHED, &[], weights), Err(18), "{weights:?}");
+    }
+    for (x, y) in [(1, 8), (8, 1), (8, 8)] {
+        assert_eq!(library::check(&WEIGHED, &[], Weights { x, y }), Ok(()));
+    }
+    let lists = example("overlapping");
+    let nine = Weights { x: 9, y: 1 };
+    assert_eq!(weighed(&lists.pins, &lists.macros, nine), Err(16));
+    let ends = [-1_000_000, -1_000_000, 1_000_000, 1_000_000];
+    let laid = weighed(&ends, &[], Weights { x: 8, y: 8 }).unwrap();
+    assert_eq!((laid.terminal, laid.refined), (32_000_000, 32_000_000));
+    assert_eq!(laid.metal, 4_000_000);
+}
+
+/// "0 standing for 1; a written 1 or a word above 8 is refused as 3": each weight word from 0 to 10, and some far above.
+#[test]
+fn weight_words_of_the_file() {
+    let file = netfile::write(&Lists {
+        pins: WEIGHED.to_vec(),
+        ..Lists::default()
+    });
+    for word in (0..=10).chain([256 + 2, 1 << 31, u32::MAX]) {
+        for at in [6, 7] {
+            let mut blocks = netfile::blocks_of(&file);
+            blocks[0][at] = word;
+            netfile::seal(&mut blocks[0]);
+            let bytes = netfile::bytes_of(&blocks);
+            let read = library::read_file(&bytes, &mut [0; 128], &mut [0; 256]);
+            let weight = if word == 0 { 1 } else { word as i32 };
+            let weights = match at {
+                6 => Weights { x: weight, y: 1 },
+                _ => Weights { x: 1, y: weight },
+            };
+            let expected = match word {
+                0 | 2..=8 => Ok((4, 0, weights)),
+                _ => Err(3),
+            };
+            assert_eq!(read, expected, "word {at} is {word}");
+            if expected.is_ok() {
+                let mut written = vec![0; bytes.len()];
+                let given = library::write_file(&WEIGHED, &[], weights, &mut written);
+                assert_eq!((given, written), (Ok(bytes.len()), bytes));
+            }
+        }
+    }
 }
 
 /// A dropped candidate would have won: the net of docs/DECISIONS.md.

@@ -2,46 +2,53 @@
 
 use crate::edge::Edge;
 use crate::graph::graph;
-use crate::net::{Net, Place};
+use crate::net::{Net, Place, Weights};
 use crate::refined::{refined, Refined};
 use crate::terminal::terminal;
 use crate::wires::wires;
 
-/// How many pins and macros the allowed net has.
+/// How many pins and macros the allowed net has, and its weights.
 pub fn check_text(net: &Net) -> String {
-    format!("allowed: pins {} macros {}\n", net.m(), net.k())
+    let Weights { x, y } = net.weights();
+    format!(
+        "allowed: pins {} macros {} weights {x} {y}\n",
+        net.m(),
+        net.k()
+    )
 }
 
-/// Vertices and edges in order, each edge with its length.
+/// Vertices and edges in order, each edge with its cost.
 pub fn graph_text(net: &Net) -> String {
     let graph = graph(net);
     let vertices = graph.vertices.iter().map(|&v| place(v));
-    let edges = graph.edges.iter().map(|&e| edge(e));
+    let edges = graph.edges.iter().map(|&e| edge(e, net.weights()));
     section("vertices", vertices) + &section("edges", edges)
 }
 
-/// The kept paths in the order kept: bridge, length and vertices.
+/// The kept paths in the order kept: bridge, cost and vertices.
 pub fn terminal_text(net: &Net) -> String {
     let terminal = terminal(net);
     let paths = terminal.paths.iter().map(|path| {
         let vertices: Vec<String> = path.vertices.iter().map(|&v| place(v)).collect();
         let (a, b) = (place(path.bridge.first()), place(path.bridge.second()));
         let vertices = vertices.join(", ");
-        format!("bridge {a} {b} length {} vertices {vertices}", path.length)
+        format!("bridge {a} {b} cost {} vertices {vertices}", path.cost)
     });
     section("paths", paths) + &format!("total {}\n", terminal.total)
 }
 
-/// The refined tree's edges in order, their total, and what happened while refining.
+/// The refined tree's edges in order, their total, the metal, and what happened while refining.
 pub fn refined_text(net: &Net) -> String {
     let Refined {
         edges,
         total,
+        metal,
         statistics: said,
     } = refined(net);
     let yes = |fact| if fact { "yes" } else { "no" };
-    section("edges", edges.into_iter().map(edge))
-        + &format!("total {total}\n")
+    let edges = edges.into_iter().map(|e| edge(e, net.weights()));
+    section("edges", edges)
+        + &format!("total {total}\nmetal {metal}\n")
         + &format!("rounds {} of at most {}\n", said.rounds, net.m())
         + &format!("a further gain was there: {}\n", yes(said.bound_ended))
         + &format!(
@@ -69,9 +76,9 @@ fn place(place: Place) -> String {
     format!("{} {}", place.x, place.y)
 }
 
-fn edge(edge: Edge) -> String {
+fn edge(edge: Edge, weights: Weights) -> String {
     let (a, b) = (place(edge.first()), place(edge.second()));
-    format!("{a} {b} {}", edge.length())
+    format!("{a} {b} {}", edge.cost(weights))
 }
 
 /// A title with how many lines follow it, and the lines.

@@ -1,6 +1,6 @@
 //! Edges, of the graph and of the trees.
 
-use crate::net::Place;
+use crate::net::{Place, Weights};
 
 /// "An edge is written smaller place first; edges are ordered by first place, then second."
 #[derive(Clone, Copy, Debug, PartialEq, Eq, PartialOrd, Ord)]
@@ -25,8 +25,13 @@ impl Edge {
         self.second
     }
 
-    /// "Its length is their distance."
+    /// Plain length, which metal to lay is in.
     pub fn length(self) -> i64 {
         self.first.distance(self.second)
+    }
+
+    /// "Its length is their distance", which is in cost: what picks, paths, gains and totals use.
+    pub fn cost(self, weights: Weights) -> i64 {
+        weights.cost(self.first, self.second)
     }
 }

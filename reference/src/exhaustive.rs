@@ -1,26 +1,26 @@
 //! Mission demand 3 by exhaustion: every terminal path of a small net's graph is enumerated, and a
-//! terminal tree is judged by all of them. Nothing of `terminal` is used, so that a mistake there
-//! shows.
+//! terminal tree is judged by all of them, in cost. Nothing of `terminal` is used, so that a
+//! mistake there shows.
 
 use std::collections::BTreeSet;
 use std::fmt;
 
 use crate::edge::Edge;
 use crate::graph::graph;
-use crate::net::{Net, Place};
+use crate::net::{Net, Place, Weights};
 
-/// A loop-free walk along the graph, and its length with every edge counted.
+/// A loop-free walk along the graph, and its cost with every edge counted.
 #[derive(Clone, Debug, PartialEq, Eq)]
 pub struct Walk {
     pub vertices: Vec<Place>,
-    pub length: i64,
+    pub cost: i64,
 }
 
 impl Walk {
     fn at(start: Place) -> Walk {
         Walk {
             vertices: vec![start],
-            length: 0,
+            cost: 0,
         }
     }
 
@@ -40,7 +40,7 @@ impl Walk {
     }
 }
 
-/// A terminal tree as the call gives it: for each kept path its bridge and its length, and the
+/// A terminal tree as the call gives it: for each kept path its bridge and its cost, and the
 /// total.
 #[derive(Clone, Debug, PartialEq, Eq)]
 pub struct Given {
@@ -51,11 +51,11 @@ pub struct Given {
 /// What is wrong with a terminal tree.
 #[derive(Clone, Copy, Debug, PartialEq, Eq, PartialOrd, Ord)]
 pub enum Fault {
-    /// A bridge and length stand for no terminal path from root to root.
+    /// A bridge and cost stand for no terminal path from root to root.
     NoTerminalPath(Edge, i64),
     /// There are not m − 1 paths, or they do not join all pins.
     NoJoining,
-    /// The total is not the sum of the lengths.
+    /// The total is not the sum of the costs.
     Total { said: i64, sum: i64 },
     /// A joining is shorter than the total.
     ShorterJoining { said: i64, found: i64 },
@@ -66,13 +66,13 @@ pub enum Fault {
 impl fmt::Display for Fault {
     fn fmt(&self, f: &mut fmt::Formatter) -> fmt::Result {
         match self {
-            Fault::NoTerminalPath(bridge, length) => write!(
+            Fault::NoTerminalPath(bridge, cost) => write!(
                 f,
-                "no terminal path over {bridge:?} from root to root is {length} long"
+                "no terminal path over {bridge:?} from root to root costs {cost}"
             ),
             Fault::NoJoining => write!(f, "the paths are no joining of m - 1"),
             Fault::Total { said, sum } => {
-                write!(f, "the total is {said}, the lengths' sum is {sum}")
+                write!(f, "the total is {said}, the paths' sum is {sum}")
             }
             Fault::ShorterJoining { said, found } => {
                 write!(f, "a joining of {found} is shorter than {said}")
@@ -85,10 +85,11 @@ impl fmt::Display for Fault {
     }
 }
 
-/// Pins, edges and every terminal path of a net, each path once, by length.
+/// Pins, edges, weights and every terminal path of a net, each path once, by cost.
 pub struct Every {
     pins: Vec<Place>,
     edges: Vec<Edge>,
+    weights: Weights,
     paths: Vec<Walk>,
 }
 
@@ -103,6 +104,7 @@ impl Every {
         let mut every = Every {
             pins: net.pins().to_vec(),
             edges: graph(net).edges,
+            weights: net.weights(),
             paths: Vec::new(),
         };
         every.pins.sort();
@@ -111,7 +113,7 @@ impl Every {
             let once = from_here.into_iter().filter(|walk| pin < walk.last());
             every.paths.extend(once);
         }
-        every.paths.sort_by_key(|path| path.length);
+        every.paths.sort_by_key(|path| path.cost);
         every
     }
 
@@ -142,14 +144,14 @@ impl Every {
                 continue;
             }
             walk.vertices.push(next);
-            walk.length += edge.length();
+            walk.cost += edge.cost(self.weights);
             if self.pins.contains(&next) {
                 found.push(walk.clone());
             } else {
                 self.walk_on(walk, found);
             }
             walk.vertices.pop();
-            walk.length -= edge.length();
+            walk.cost -= edge.cost(self.weights);
         }
     }
 
@@ -160,21 +162,22 @@ impl Every {
             return (0, vertex);
         }
         let walks = self.walks_to_pins(vertex);
-        let nearest = walks.iter().map(|walk| (walk.length, walk.last())).min();
+        let nearest = walks.iter().map(|walk| (walk.cost, walk.last())).min();
         nearest.expect("the graph joins all its vertices")
     }
 
     /// "It stands for the path root, way, bridge, way, root": its two pins, where there is such a
-    /// terminal path of this length.
-    fn ends(&self, bridge: Edge, length: i64) -> Option<Edge> {
+    /// terminal path of this cost.
+    fn ends(&self, bridge: Edge, cost: i64) -> Option<Edge> {
         if !self.edges.contains(&bridge) {
             return None;
         }
         let (before, one) = self.root(bridge.first());
         let (after, other) = self.root(bridge.second());
         let pins = Edge::new(one, other);
-        let fits = |path: &Walk| path.ends() == pins && path.length == length && path.uses(bridge);
-        (before + bridge.length() + after == length && self.paths.iter().any(fits)).then_some(pins)
+        let fits = |path: &Walk| path.ends() == pins && path.cost == cost && path.uses(bridge);
+        let adds_up = before + bridge.cost(self.weights) + after == cost;
+        (adds_up && self.paths.iter().any(fits)).then_some(pins)
     }
 
     /// Everything that is wrong with a terminal tree, in order; for few paths by every set of them
@@ -182,15 +185,15 @@ impl Every {
     pub fn faults(&self, given: &Given) -> BTreeSet<Fault> {
         let mut faults = BTreeSet::new();
         let mut pairs = Vec::new();
-        for &(bridge, length) in &given.paths {
-            match self.ends(bridge, length) {
-                Some(pins) => pairs.push((pins, length)),
+        for &(bridge, cost) in &given.paths {
+            match self.ends(bridge, cost) {
+                Some(pins) => pairs.push((pins, cost)),
                 None => {
-                    faults.insert(Fault::NoTerminalPath(bridge, length));
+                    faults.insert(Fault::NoTerminalPath(bridge, cost));
                 }
             }
         }
-        let sum = given.paths.iter().map(|&(_, length)| length).sum();
+        let sum = given.paths.iter().map(|&(_, cost)| cost).sum();
         if sum != given.total {
             let said = given.total;
             faults.insert(Fault::Total { said, sum });
@@ -213,13 +216,13 @@ impl Every {
         self.paths.len() <= 12
     }
 
-    /// The shortest joining: of all paths, by length, each one that joins what was not yet joined.
+    /// The shortest joining: of all paths, by cost, each one that joins what was not yet joined.
     fn against_spanning(&self, said: i64, faults: &mut BTreeSet<Fault>) {
         let mut mark: Vec<usize> = (0..self.pins.len()).collect();
         let mut found = 0;
         for path in &self.paths {
             if merge(&mut mark, self.numbers(path.ends())) {
-                found += path.length;
+                found += path.cost;
             }
         }
         if found < said {
@@ -230,7 +233,7 @@ impl Every {
     /// "The longest path of every chain of terminal paths of that graph is at least as long as the
     /// longest on our way."
     fn against_chains(&self, ours: &Longest, faults: &mut BTreeSet<Fault>) {
-        let all: Vec<(Edge, i64)> = self.paths.iter().map(|p| (p.ends(), p.length)).collect();
+        let all: Vec<(Edge, i64)> = self.paths.iter().map(|p| (p.ends(), p.cost)).collect();
         let least = self.longest(&all);
         self.compare(ours, |a, b| least[a][b], faults);
     }
@@ -244,8 +247,8 @@ impl Every {
             let (mut found, mut longest) = (0, 0);
             for (_, path) in self.paths.iter().enumerate().filter(is_in) {
                 merge(&mut mark, self.numbers(path.ends()));
-                found += path.length;
-                longest = longest.max(path.length);
+                found += path.cost;
+                longest = longest.max(path.cost);
             }
             if mark.iter().all(|&m| m == mark[0]) && found < said {
                 faults.insert(Fault::ShorterJoining { said, found });
@@ -282,10 +285,10 @@ impl Every {
         for (pin, row) in table.iter_mut().enumerate() {
             row[pin] = Some(0);
         }
-        for &(ends, length) in paths {
+        for &(ends, cost) in paths {
             let (a, b) = self.numbers(ends);
             for (a, b) in [(a, b), (b, a)] {
-                table[a][b] = least(table[a][b], Some(length));
+                table[a][b] = least(table[a][b], Some(cost));
             }
         }
         for middle in 0..count {

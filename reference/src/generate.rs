@@ -2,6 +2,10 @@
 //!
 //! `Kind` names allowed nets, `Hostile` pairs of lists to be refused, `Damage` net files that are
 //! not as they should be, `BandList` lists of bands, hostile ones among them.
+//!
+//! `net`, `hostile` and `damaged` give weights 1 and 1, and `weighted`, `hostile_weighted` and
+//! `damaged_weighted` the same kinds with weights of all sorts. A new kind goes to the end of its
+//! list, so that the others' seeds keep giving what they gave.
 
 mod bands;
 mod damaged;
@@ -11,11 +15,12 @@ mod nets;
 mod permuted;
 mod searched;
 mod walls;
+mod weights;
 
 pub use bands::{bands, BandList};
-pub use damaged::{damaged, Damage};
-pub use hostile::{hostile, refusal, Hostile};
-pub use nets::{net, Kind};
+pub use damaged::{damaged, damaged_weighted, Damage};
+pub use hostile::{hostile, hostile_weighted, refusal, Hostile};
+pub use nets::{net, weighted, Kind};
 pub use permuted::permuted;
 
 /// An enum of kinds, each with a name for the command line and a line on what it gives. A macro,

@@ -3,13 +3,14 @@
 use std::collections::BTreeSet;
 
 use crate::edge::Edge;
-use crate::net::{Net, Place};
+use crate::net::{Net, Place, Weights};
 
-/// Vertices and edges, each in order.
+/// Vertices and edges, each in order, and the weights that its lengths are in.
 #[derive(Clone, Debug, PartialEq, Eq)]
 pub struct Graph {
     pub vertices: Vec<Place>,
     pub edges: Vec<Edge>,
+    pub weights: Weights,
 }
 
 /// "Each vertex u has four quadrants."
@@ -56,13 +57,13 @@ pub fn clear(net: &Net, one: Place, other: Place) -> bool {
 }
 
 /// "In each quadrant u picks the clear vertex at the smallest distance, the smallest place on a
-/// tie, or none."
+/// tie, or none." "Every pick ... is in this cost."
 pub fn pick(net: &Net, vertices: &[Place], u: Place, quadrant: Quadrant) -> Option<Place> {
     vertices
         .iter()
         .copied()
         .filter(|&v| quadrant.holds(u, v) && clear(net, u, v))
-        .min_by_key(|&v| (u.distance(v), v))
+        .min_by_key(|&v| (net.weights().cost(u, v), v))
 }
 
 /// "An edge joins u and v exactly when one of them picks the other."
@@ -79,5 +80,6 @@ pub fn graph(net: &Net) -> Graph {
     Graph {
         vertices,
         edges: edges.into_iter().collect(),
+        weights: net.weights(),
     }
 }

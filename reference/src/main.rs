@@ -4,7 +4,9 @@ use std::io::{self, Read, Write};
 use std::process::ExitCode;
 
 use reference::answers::{check_text, graph_text, refined_text, terminal_text, wires_text};
-use reference::generate::{damaged, hostile, net, Damage, Hostile, Kind};
+use reference::generate::{
+    damaged, damaged_weighted, hostile, hostile_weighted, net, weighted, Damage, Hostile, Kind,
+};
 use reference::lists::Lists;
 use reference::net::{check, Net};
 use reference::netfile;
@@ -26,11 +28,13 @@ usage: reference COMMAND, with the input on standard input
   unpack             net file  -> text form
   generate KIND SEED nothing   -> text form of a net, or of hostile lists, of this kind
   damage KIND SEED   nothing   -> a damaged net file of this kind
+                     With the word `weighted` after the seed, weights are of all sorts.
   kinds              nothing   -> the kinds that generate and damage take
   help               nothing   -> this text
 
-The text form has one entry a line, `pin x y` or `macro left bottom right top`; blank lines and
-comments from # to the end of the line are allowed. A seed is a whole number from 0 to 2^64 - 1.
+The text form has one entry a line, `pin x y` or `macro left bottom right top`, and at most one
+line `weights x y`, without which both are 1; blank lines and comments from # to the end of the
+line are allowed. A seed is a whole number from 0 to 2^64 - 1.
 A net or file that is refused prints `refused` and the number.
 
 exit codes: 0 answered, refusals included; 1 a bad line, or input or output failed; 2 bad usage
@@ -74,8 +78,10 @@ fn answer(words: &[&str]) -> Result<Vec<u8>, Failure> {
         ["route"] => Ok(route(&input()?).into_bytes()),
         ["pack"] => pack(),
         ["unpack"] => unpack(),
-        ["generate", kind, seed] => generate(kind, seed),
-        ["damage", kind, seed] => damage(kind, seed),
+        ["generate", kind, seed] => generate(kind, seed, false),
+        ["generate", kind, seed, "weighted"] => generate(kind, seed, true),
+        ["damage", kind, seed] => damage(kind, seed, false),
+        ["damage", kind, seed, "weighted"] => damage(kind, seed, true),
         ["kinds"] => Ok(kinds().into_bytes()),
         ["help" | "--help" | "-h"] => Ok(HELP.as_bytes().to_vec()),
         [] => Err(Failure::Usage("no command".into())),
@@ -111,7 +117,7 @@ fn lists() -> Result<Lists, Failure> {
 /// The answer for an allowed net in text form.
 fn on_net(answer: fn(&Net) -> String) -> Result<Vec<u8>, Failure> {
     let lists = lists()?;
-    let net = check(&lists.pins, &lists.macros);
+    let net = check(&lists.pins, &lists.macros, lists.weights);
     Ok(net.map_or_else(refused, |net| answer(&net).into_bytes()))
 }
 
@@ -121,35 +127,41 @@ fn refused(number: u32) -> Vec<u8> {
 
 fn pack() -> Result<Vec<u8>, Failure> {
     let lists = lists()?;
-    let net = check(&lists.pins, &lists.macros);
+    let net = check(&lists.pins, &lists.macros, lists.weights);
     Ok(net.map_or_else(refused, |_| netfile::write(&lists)))
 }
 
 fn unpack() -> Result<Vec<u8>, Failure> {
     let lists = netfile::read(&input()?).and_then(|lists| {
-        check(&lists.pins, &lists.macros)?;
+        check(&lists.pins, &lists.macros, lists.weights)?;
         Ok(lists)
     });
     Ok(lists.map_or_else(refused, |lists| text::print(&lists).into_bytes()))
 }
 
-fn generate(kind: &str, seed: &str) -> Result<Vec<u8>, Failure> {
+fn generate(kind: &str, seed: &str, is_weighted: bool) -> Result<Vec<u8>, Failure> {
     let number = seed_of(seed)?;
-    let lists = if let Some(kind) = Kind::named(kind) {
-        net(kind, number)
-    } else if let Some(kind) = Hostile::named(kind) {
-        hostile(kind, number)
-    } else {
-        return Err(no_kind(kind));
+    let lists = match (Kind::named(kind), Hostile::named(kind), is_weighted) {
+        (Some(kind), _, false) => net(kind, number),
+        (Some(kind), _, true) => weighted(kind, number),
+        (_, Some(kind), false) => hostile(kind, number),
+        (_, Some(kind), true) => hostile_weighted(kind, number),
+        _ => return Err(no_kind(kind)),
     };
-    let header = format!("# {kind} {seed}\n");
+    let word = if is_weighted { " weighted" } else { "" };
+    let header = format!("# {kind} {seed}{word}\n");
     Ok((header + &text::print(&lists)).into_bytes())
 }
 
-fn damage(kind: &str, seed: &str) -> Result<Vec<u8>, Failure> {
+fn damage(kind: &str, seed: &str, is_weighted: bool) -> Result<Vec<u8>, Failure> {
     let number = seed_of(seed)?;
     let kind = Damage::named(kind).ok_or_else(|| no_kind(kind))?;
-    Ok(damaged(kind, number))
+    let made = if is_weighted {
+        damaged_weighted
+    } else {
+        damaged
+    };
+    Ok(made(kind, number))
 }
 
 fn seed_of(seed: &str) -> Result<u64, Failure> {

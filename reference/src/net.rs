@@ -1,4 +1,4 @@
-//! The net and the die: places, macros, and the check of two raw lists.
+//! The net and the die: places, macros, weights, and the check of what a net arrives in.
 
 /// "A pin is a place (x, y)." "Places are ordered by x, then by y": the derived order compares
 /// the fields from the top. Held in 64 bits so that no difference or sum can overflow.
@@ -9,9 +9,30 @@ pub struct Place {
 }
 
 impl Place {
-    /// "The distance of two places is |difference in x| + |difference in y|."
+    /// Plain length, which metal to lay is in: |difference in x| + |difference in y|.
     pub fn distance(self, other: Place) -> i64 {
         (self.x - other.x).abs() + (self.y - other.y).abs()
+    }
+}
+
+/// "A net gains two weights", the first for x and the second for y. They come with the lists and
+/// may be any two numbers until the check has passed.
+#[derive(Clone, Copy, Debug, PartialEq, Eq)]
+pub struct Weights {
+    pub x: i32,
+    pub y: i32,
+}
+
+impl Weights {
+    /// Both 1: cost is plain length.
+    pub const ONE: Weights = Weights { x: 1, y: 1 };
+
+    /// Cost: "the distance of two places becomes x difference times the first plus y difference
+    /// times the second."
+    pub fn cost(self, one: Place, other: Place) -> i64 {
+        let across = (one.x - other.x).abs();
+        let up = (one.y - other.y).abs();
+        i64::from(self.x) * across + i64::from(self.y) * up
     }
 }
 
@@ -59,12 +80,13 @@ impl Macro {
     }
 }
 
-/// "A net is a list of pins and a list of macros", in list order; an allowed one, since only the
-/// check makes it.
+/// "A net is a list of pins and a list of macros", in list order, and "gains two weights"; an
+/// allowed one, since only the check makes it.
 #[derive(Clone, Debug, PartialEq, Eq)]
 pub struct Net {
     pins: Vec<Place>,
     macros: Vec<Macro>,
+    weights: Weights,
 }
 
 impl Net {
@@ -73,6 +95,9 @@ impl Net {
     pub const MACROS: usize = 64;
     /// "Coordinates are signed whole numbers from −1,000,000 to 1,000,000."
     pub const COORDINATE: i32 = 1_000_000;
+    /// "Two weights, whole numbers 1 to 8."
+    pub const LEAST_WEIGHT: i32 = 1;
+    pub const GREATEST_WEIGHT: i32 = 8;
 
     pub fn pins(&self) -> &[Place] {
         &self.pins
@@ -80,6 +105,10 @@ impl Net {
 
     pub fn macros(&self) -> &[Macro] {
         &self.macros
+    }
+
+    pub fn weights(&self) -> Weights {
+        self.weights
     }
 
     /// "Write m for pins."
@@ -100,7 +129,7 @@ impl Net {
 
 /// "Check a net." The refusals in their order; each test covers the whole net before the next
 /// begins. "A net is allowed when no number of this check applies."
-pub fn check(pins: &[i32], macros: &[i32]) -> Result<Net, u32> {
+pub fn check(pins: &[i32], macros: &[i32], weights: Weights) -> Result<Net, u32> {
     if !pins.len().is_multiple_of(2) || pins.is_empty() || pins.len() / 2 > Net::PINS {
         return Err(11);
     }
@@ -114,6 +143,7 @@ pub fn check(pins: &[i32], macros: &[i32]) -> Result<Net, u32> {
     let net = Net {
         pins: pins_of(pins),
         macros: macros_of(macros),
+        weights,
     };
     if net
         .macros
@@ -134,6 +164,11 @@ pub fn check(pins: &[i32], macros: &[i32]) -> Result<Net, u32> {
         .any(|m| net.pins.iter().any(|&pin| m.holds(pin)))
     {
         return Err(17);
+    }
+    // "18, a weight outside 1 to 8, after 17."
+    let allowed = Net::LEAST_WEIGHT..=Net::GREATEST_WEIGHT;
+    if !allowed.contains(&weights.x) || !allowed.contains(&weights.y) {
+        return Err(18);
     }
     Ok(net)
 }

@@ -1,6 +1,7 @@
 //! The net file: blocks of words, the two sums, writing and reading.
 
 use crate::lists::Lists;
+use crate::net::Weights;
 
 /// "Blocks of 512 bytes, read as 128 words of 32 bits, low byte first."
 pub const BLOCK_BYTES: usize = 512;
@@ -20,6 +21,8 @@ const PIN_WORDS: usize = 2;
 const PINS_A_BLOCK: usize = 60;
 const MACRO_WORDS: usize = 4;
 const MACROS_A_BLOCK: usize = 30;
+/// "Head words 6 and 7 of the file hold the weights", after m and k.
+const HEAD_WORDS: usize = 4;
 /// "In each block word 126 is the sum", "word 127 is the sum of the running sums".
 const SUM: usize = 126;
 const SECOND_SUM: usize = 127;
@@ -66,13 +69,15 @@ pub fn bytes_of(blocks: &[Block]) -> Vec<u8> {
         .collect()
 }
 
-/// The file of two lists of whole entries. "Order: head, pins, macros, list order kept, every
-/// block but a list's last full. A list of none has no block."
+/// The file of two lists of whole entries with weights 1 to 8. "Order: head, pins, macros, list
+/// order kept, every block but a list's last full. A list of none has no block."
 pub fn write(lists: &Lists) -> Vec<u8> {
     let mut head = [0; BLOCK_WORDS];
     head[0] = HEAD;
     head[4] = (lists.pins.len() / PIN_WORDS) as u32;
     head[5] = (lists.macros.len() / MACRO_WORDS) as u32;
+    head[6] = weight_word(lists.weights.x);
+    head[7] = weight_word(lists.weights.y);
     let mut blocks = vec![head];
     for chunk in lists.pins.chunks(PINS_A_BLOCK * PIN_WORDS) {
         blocks.push(list_block(PINS, blocks.len(), PIN_WORDS, chunk));
@@ -82,6 +87,24 @@ pub fn write(lists: &Lists) -> Vec<u8> {
     }
     blocks.iter_mut().for_each(seal);
     bytes_of(&blocks)
+}
+
+/// "0 standing for 1". A weight outside 1 to 8 has no word.
+fn weight_word(weight: i32) -> u32 {
+    match weight {
+        1 => 0,
+        2..=8 => weight as u32,
+        _ => panic!("the weight {weight} has no word"),
+    }
+}
+
+/// The weight of a word. "A written 1 or a word above 8 is refused as 3."
+fn weight_of(word: u32) -> Option<i32> {
+    match word {
+        0 => Some(1),
+        2..=8 => Some(word as i32),
+        _ => None,
+    }
 }
 
 /// A block of entries, its sums not yet put right. "Coordinates are two's complement."
@@ -96,7 +119,8 @@ fn list_block(kind: u32, number: usize, entry_words: usize, numbers: &[i32]) -> 
     block
 }
 
-/// The two lists of a file, or its refusal 1, 2 or 3. The net of the lists is not checked here.
+/// The lists and the weights of a file, or its refusal 1, 2 or 3. The net that they are is not
+/// checked here.
 pub fn read(bytes: &[u8]) -> Result<Lists, u32> {
     // "1: not 1 to 6 whole blocks."
     let count = bytes.len() / BLOCK_BYTES;
@@ -118,11 +142,17 @@ pub fn read(bytes: &[u8]) -> Result<Lists, u32> {
 fn layout(blocks: &[Block]) -> Option<Lists> {
     let mut rest = blocks.iter().enumerate();
     let (_, head) = rest.next()?;
-    entries(head, HEAD, 0, 0, 2)?;
+    entries(head, HEAD, 0, 0, HEAD_WORDS)?;
     // The head's counts may be anything up to 2^32 − 1, which 64 bits hold with room to spare.
     let mut pins_left = u64::from(head[4]);
     let mut macros_left = u64::from(head[5]);
-    let mut lists = Lists::default();
+    let mut lists = Lists {
+        weights: Weights {
+            x: weight_of(head[6])?,
+            y: weight_of(head[7])?,
+        },
+        ..Lists::default()
+    };
     for (number, block) in rest {
         if pins_left > 0 {
             let count = pins_left.min(PINS_A_BLOCK as u64);

@@ -1,20 +1,21 @@
 //! "Refusal by operation": each operation with lent space as given. "A refusal is its number
 //! alone; nothing lent is altered." On success space past the answer is unaltered; so every
-//! operation works its answer out whole and only then writes it.
+//! operation works its answer out whole and only then writes it. Where document 01 says "11 to
+//! 17", document 02's first request adds 18 after 17.
 
 use crate::edge::Edge;
 use crate::graph;
 use crate::lists::Lists;
-use crate::net::{self, Net, Place};
+use crate::net::{self, Net, Place, Weights};
 use crate::netfile;
 use crate::price;
 use crate::refined;
 use crate::terminal;
 use crate::wires;
 
-/// "Check a net." 11 to 17.
-pub fn check(pins: &[i32], macros: &[i32]) -> Result<(), u32> {
-    net::check(pins, macros).map(|_| ())
+/// "Check a net." 11 to 18.
+pub fn check(pins: &[i32], macros: &[i32], weights: Weights) -> Result<(), u32> {
+    net::check(pins, macros, weights).map(|_| ())
 }
 
 /// "Graph. 11 to 17, then 21: fewer than 2n numbers lent for vertices or 16n for edges. Both are
@@ -22,10 +23,11 @@ pub fn check(pins: &[i32], macros: &[i32]) -> Result<(), u32> {
 pub fn graph(
     pins: &[i32],
     macros: &[i32],
+    weights: Weights,
     vertices: &mut [i32],
     edges: &mut [i32],
 ) -> Result<(usize, usize), u32> {
-    let net = net::check(pins, macros)?;
+    let net = net::check(pins, macros, weights)?;
     if vertices.len() < 2 * net.n() || edges.len() < 16 * net.n() {
         return Err(21);
     }
@@ -36,36 +38,52 @@ pub fn graph(
 }
 
 /// "Terminal tree. 11 to 17, then 21: fewer than 5m numbers lent. Each path in the order kept: its
-/// bridge (four numbers) and its length, with the total." How many paths, and the total.
-pub fn terminal_tree(pins: &[i32], macros: &[i32], paths: &mut [i64]) -> Result<(usize, i64), u32> {
-    let net = net::check(pins, macros)?;
+/// bridge (four numbers) and its length, with the total", both in cost. How many paths, and the
+/// total.
+pub fn terminal_tree(
+    pins: &[i32],
+    macros: &[i32],
+    weights: Weights,
+    paths: &mut [i64],
+) -> Result<(usize, i64), u32> {
+    let net = net::check(pins, macros, weights)?;
     if paths.len() < 5 * net.m() {
         return Err(21);
     }
     let terminal = terminal::terminal(&net);
     let of_path = |path: &terminal::Path| {
         let [a, b, c, d] = edge_numbers(path.bridge).map(i64::from);
-        [a, b, c, d, path.length]
+        [a, b, c, d, path.cost]
     };
     lay(paths, terminal.paths.iter().flat_map(of_path));
     Ok((terminal.paths.len(), terminal.total))
 }
 
 /// "Refined tree. 11 to 17, then 21: fewer than 4(n + m) numbers lent. Edges in order, with their
-/// total." How many edges, and the total.
-pub fn refined_tree(pins: &[i32], macros: &[i32], edges: &mut [i32]) -> Result<(usize, i64), u32> {
-    let net = net::check(pins, macros)?;
+/// total." How many edges, the total in cost, and the metal to lay.
+pub fn refined_tree(
+    pins: &[i32],
+    macros: &[i32],
+    weights: Weights,
+    edges: &mut [i32],
+) -> Result<(usize, i64, i64), u32> {
+    let net = net::check(pins, macros, weights)?;
     if edges.len() < 4 * (net.n() + net.m()) {
         return Err(21);
     }
     let refined = refined::refined(&net);
     lay(edges, refined.edges.iter().flat_map(|&e| edge_numbers(e)));
-    Ok((refined.edges.len(), refined.total))
+    Ok((refined.edges.len(), refined.total, refined.metal))
 }
 
 /// "Wires. 11 to 17, then 21: fewer than 8(n + m) numbers lent." How many wires.
-pub fn wires(pins: &[i32], macros: &[i32], wires: &mut [i32]) -> Result<usize, u32> {
-    let net = net::check(pins, macros)?;
+pub fn wires(
+    pins: &[i32],
+    macros: &[i32],
+    weights: Weights,
+    wires: &mut [i32],
+) -> Result<usize, u32> {
+    let net = net::check(pins, macros, weights)?;
     if wires.len() < 8 * (net.n() + net.m()) {
         return Err(21);
     }
@@ -75,19 +93,26 @@ pub fn wires(pins: &[i32], macros: &[i32], wires: &mut [i32]) -> Result<usize, u
     Ok(answer.len())
 }
 
-/// "Price on the job card": 31 and 32 "both after the net's own". The charge in hundredths.
-pub fn price(pins: &[i32], macros: &[i32], bands: &[u64]) -> Result<u64, u32> {
-    let net = net::check(pins, macros)?;
-    let metal = price::metal(&refined::refined(&net).edges);
+/// "Price on the job card": "bureaus charge by metal laid", never by cost; 31 and 32 "both after
+/// the net's own". The charge in hundredths.
+pub fn price(pins: &[i32], macros: &[i32], weights: Weights, bands: &[u64]) -> Result<u64, u32> {
+    let net = net::check(pins, macros, weights)?;
+    let metal = u64::try_from(refined::refined(&net).metal).expect("metal is not below zero");
     price::price(metal, bands)
 }
 
 /// "Write a net file. 11 to 17, then 21: lent space below the file's bytes." How many bytes.
-pub fn write_file(pins: &[i32], macros: &[i32], bytes: &mut [u8]) -> Result<usize, u32> {
-    net::check(pins, macros)?;
+pub fn write_file(
+    pins: &[i32],
+    macros: &[i32],
+    weights: Weights,
+    bytes: &mut [u8],
+) -> Result<usize, u32> {
+    net::check(pins, macros, weights)?;
     let file = netfile::write(&Lists {
         pins: pins.to_vec(),
         macros: macros.to_vec(),
+        weights,
     });
     if bytes.len() < file.len() {
         return Err(21);
@@ -98,20 +123,20 @@ pub fn write_file(pins: &[i32], macros: &[i32], bytes: &mut [u8]) -> Result<usiz
 }
 
 /// "Read a net file. 21 first: fewer than 128 numbers lent for pins or 256 for macros", 1, 2, 3,
-/// "then 11 to 17". m and k.
+/// "then 11 to 17". m and k, and "a read's result gives the weights after m and k".
 pub fn read_file(
     bytes: &[u8],
     pins: &mut [i32],
     macros: &mut [i32],
-) -> Result<(usize, usize), u32> {
+) -> Result<(usize, usize, Weights), u32> {
     if pins.len() < 2 * Net::PINS || macros.len() < 4 * Net::MACROS {
         return Err(21);
     }
     let lists = netfile::read(bytes)?;
-    let net = net::check(&lists.pins, &lists.macros)?;
+    let net = net::check(&lists.pins, &lists.macros, lists.weights)?;
     lay(pins, lists.pins.into_iter());
     lay(macros, lists.macros.into_iter());
-    Ok((net.m(), net.k()))
+    Ok((net.m(), net.k(), net.weights()))
 }
 
 /// Writes an answer at the front of a lent space that is long enough for it.

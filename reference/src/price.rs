@@ -2,21 +2,8 @@
 
 use std::cmp::Ordering;
 
-use crate::edge::Edge;
-
 /// "31, an odd list, no band, or a rate above 1,000,000."
 const HIGHEST_RATE: u64 = 1_000_000;
-
-/// "Bureaus charge by metal laid": the refined tree's edges, each by its plain length.
-pub fn metal(edges: &[Edge]) -> u64 {
-    edges
-        .iter()
-        .map(|edge| {
-            let (a, b) = (edge.first(), edge.second());
-            a.x.abs_diff(b.x) + a.y.abs_diff(b.y)
-        })
-        .sum()
-}
 
 /// The charge in hundredths for so much metal, or 31 or 32.
 pub fn price(metal: u64, bands: &[u64]) -> Result<u64, u32> {

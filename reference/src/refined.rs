@@ -8,11 +8,13 @@ use crate::net::{Net, Place};
 use crate::terminal::{terminal, Terminal};
 use crate::tree::{neighbours, numbered, ways_from, Tree};
 
-/// The refined tree's edges in order, their total, and what happened on the way.
+/// The refined tree's edges in order, their total in cost, the metal to lay in plain length, and
+/// what happened on the way.
 #[derive(Clone, Debug, PartialEq, Eq)]
 pub struct Refined {
     pub edges: Vec<Edge>,
     pub total: i64,
+    pub metal: i64,
     pub statistics: Statistics,
 }
 
@@ -77,7 +79,8 @@ pub fn refine(net: &Net, terminal: &Terminal) -> Refined {
         statistics.pruned += 1;
     }
     Refined {
-        total: tree.total(),
+        total: tree.total(net.weights()),
+        metal: tree.metal(),
         edges: tree.edges.into_iter().collect(),
         statistics,
     }
@@ -98,7 +101,7 @@ pub fn candidates(net: &Net, tree: &Tree) -> Vec<Candidate> {
     let neighbours = neighbours(points.len(), &edges);
     let mut found = Vec::new();
     for (number, &u) in points.iter().enumerate() {
-        let ways = ways_from(&points, &neighbours, number);
+        let ways = ways_from(&points, &neighbours, number, net.weights());
         let clear_of_u: Vec<bool> = points.iter().map(|&p| clear(net, u, p)).collect();
         for &(a, b) in &edges {
             if number == a || number == b || !(clear_of_u[a] || clear_of_u[b]) {
@@ -117,8 +120,8 @@ pub fn candidates(net: &Net, tree: &Tree) -> Vec<Candidate> {
                 u,
                 s,
                 longest,
-                // "The gain is the length of L less the distance of s and u."
-                gain: longest.length() - s.distance(u),
+                // "The gain is the length of L less the distance of s and u", in cost.
+                gain: longest.cost(net.weights()) - net.weights().cost(s, u),
                 // "A candidate is dropped when s is the place of a tree point other than a, b
                 // and u."
                 dropped: ![points[a], points[b], u].contains(&s)

@@ -9,7 +9,7 @@ use crate::terminal::terminal;
 
 /// The text for the bytes of a net file. "A refusal prints one line, `refused` and the number."
 pub fn route(bytes: &[u8]) -> String {
-    let net = netfile::read(bytes).and_then(|lists| check(&lists.pins, &lists.macros));
+    let net = netfile::read(bytes).and_then(|l| check(&l.pins, &l.macros, l.weights));
     match net {
         Ok(net) => routed(&net),
         Err(number) => format!("refused {number}\n"),
@@ -17,20 +17,23 @@ pub fn route(bytes: &[u8]) -> String {
 }
 
 /// "The header gives m, k and the totals of the terminal and the refined tree. After the header,
-/// each line is an edge of the refined tree, in order: first place, second place, length."
+/// each line is an edge of the refined tree, in order: first place, second place, length." Metal
+/// "is printed last in the header, after the word `metal`; the length printed after an edge is its
+/// cost."
 fn routed(net: &Net) -> String {
     let terminal = terminal(net);
     let refined = refine(net, &terminal);
     let mut text = format!(
-        "pins {} macros {} terminal {} refined {}\n",
+        "pins {} macros {} terminal {} refined {} metal {}\n",
         net.m(),
         net.k(),
         terminal.total,
-        refined.total
+        refined.total,
+        refined.metal
     );
     for edge in &refined.edges {
-        let (a, b, length) = (edge.first(), edge.second(), edge.length());
-        writeln!(text, "{} {} {} {} {length}", a.x, a.y, b.x, b.y)
+        let (a, b, cost) = (edge.first(), edge.second(), edge.cost(net.weights()));
+        writeln!(text, "{} {} {} {} {cost}", a.x, a.y, b.x, b.y)
             .expect("a string takes all that is written");
     }
     text

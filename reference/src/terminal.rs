@@ -4,12 +4,12 @@ use crate::edge::Edge;
 use crate::graph::{graph, Graph};
 use crate::net::{Net, Place};
 
-/// A kept path: its bridge, its length with every edge counted, and its vertices from the root of
+/// A kept path: its bridge, its cost with every edge counted, and its vertices from the root of
 /// the bridge's first place to the root of its second.
 #[derive(Clone, Debug, PartialEq, Eq)]
 pub struct Path {
     pub bridge: Edge,
-    pub length: i64,
+    pub cost: i64,
     pub vertices: Vec<Place>,
 }
 
@@ -43,7 +43,7 @@ pub fn terminal(net: &Net) -> Terminal {
     let ways = ways(net, &graph);
     let paths = kept(&ways, bridges(&ways));
     Terminal {
-        total: paths.iter().map(|path| path.length).sum(),
+        total: paths.iter().map(|path| path.cost).sum(),
         paths,
     }
 }
@@ -56,8 +56,8 @@ fn number(graph: &Graph, place: Place) -> usize {
         .expect("pins and ends of edges are vertices")
 }
 
-/// The length of a shortest way along the graph between every two vertices: for each vertex in
-/// turn, ways may also run through it.
+/// The cost of a cheapest way along the graph between every two vertices: for each vertex in turn,
+/// ways may also run through it.
 fn distances(graph: &Graph) -> Vec<Vec<i64>> {
     let count = graph.vertices.len();
     let mut table = vec![vec![None; count]; count];
@@ -66,8 +66,8 @@ fn distances(graph: &Graph) -> Vec<Vec<i64>> {
     }
     for edge in &graph.edges {
         let (a, b) = (number(graph, edge.first()), number(graph, edge.second()));
-        table[a][b] = Some(edge.length());
-        table[b][a] = Some(edge.length());
+        table[a][b] = Some(edge.cost(graph.weights));
+        table[b][a] = Some(edge.cost(graph.weights));
     }
     for middle in 0..count {
         let onward = table[middle].clone();
@@ -75,14 +75,14 @@ fn distances(graph: &Graph) -> Vec<Vec<i64>> {
             let Some(before) = row[middle] else { continue };
             for (known, after) in row.iter_mut().zip(&onward) {
                 if let Some(after) = after {
-                    if known.is_none_or(|length: i64| before + after < length) {
+                    if known.is_none_or(|cost: i64| before + after < cost) {
                         *known = Some(before + after);
                     }
                 }
             }
         }
     }
-    let joined = |length: Option<i64>| length.expect("the graph joins all its vertices");
+    let joined = |cost: Option<i64>| cost.expect("the graph joins all its vertices");
     table
         .into_iter()
         .map(|row| row.into_iter().map(joined).collect())
@@ -107,7 +107,7 @@ fn ways<'a>(net: &Net, graph: &'a Graph) -> Ways<'a> {
     for edge in &graph.edges {
         let (a, b) = (number(graph, edge.first()), number(graph, edge.second()));
         for (v, neighbour) in [(a, b), (b, a)] {
-            let through = edge.length() + distance[neighbour][root[v]];
+            let through = edge.cost(graph.weights) + distance[neighbour][root[v]];
             let runs = root[neighbour] == root[v] && through == distance[v][root[v]];
             if runs && !pins.contains(&v) && parent[v].is_none_or(|p| neighbour < p) {
                 parent[v] = Some(neighbour);
@@ -142,15 +142,15 @@ fn bridges(ways: &Ways) -> Vec<Path> {
             let mut vertices = way(ways, a);
             vertices.reverse();
             vertices.extend(way(ways, b));
-            let length = vertices.windows(2).map(|two| two[0].distance(two[1])).sum();
+            let step = |two: &[Place]| ways.graph.weights.cost(two[0], two[1]);
             paths.push(Path {
                 bridge: edge,
-                length,
+                cost: vertices.windows(2).map(step).sum(),
                 vertices,
             });
         }
     }
-    paths.sort_by_key(|path| (path.length, path.bridge));
+    paths.sort_by_key(|path| (path.cost, path.bridge));
     paths
 }
 

@@ -1,9 +1,11 @@
 //! A text form for the two lists, one entry a line: `pin x y` and `macro left bottom right top`.
-//! Blank lines are allowed, and `#` makes the rest of its line a comment.
+//! At most one line is `weights x y`; without it both are 1. Blank lines are allowed, and `#` makes
+//! the rest of its line a comment.
 
 use std::fmt;
 
 use crate::lists::Lists;
+use crate::net::Weights;
 
 /// A line that is no entry, and what is wrong with it. Lines count from 1.
 #[derive(Clone, Debug, PartialEq, Eq)]
@@ -18,15 +20,19 @@ impl fmt::Display for BadLine {
     }
 }
 
-/// The lists that a text gives. Any 32-bit numbers and any count of lines pass, so that refused
-/// nets can be written too.
+/// The lists and weights that a text gives. Any 32-bit numbers and any count of entries pass, so
+/// that refused nets can be written too.
 pub fn parse(text: &str) -> Result<Lists, BadLine> {
     let mut lists = Lists::default();
+    let mut weights = Vec::new();
     for (number, line) in text.lines().enumerate() {
-        entry(line, &mut lists).map_err(|wrong| BadLine {
+        entry(line, &mut lists, &mut weights).map_err(|wrong| BadLine {
             line: number + 1,
             wrong,
         })?;
+    }
+    if let [x, y] = weights[..] {
+        lists.weights = Weights { x, y };
     }
     Ok(lists)
 }
@@ -43,8 +49,8 @@ pub fn parse_bytes(bytes: &[u8]) -> Result<Lists, BadLine> {
     parse(text)
 }
 
-/// Adds one line's entry to its list.
-fn entry(line: &str, lists: &mut Lists) -> Result<(), String> {
+/// Adds one line's entry to its list; the weights are a list of at most one entry.
+fn entry(line: &str, lists: &mut Lists, weights: &mut Vec<i32>) -> Result<(), String> {
     let said = line.split('#').next().unwrap_or("");
     let mut words = said.split_whitespace();
     let Some(kind) = words.next() else {
@@ -53,12 +59,18 @@ fn entry(line: &str, lists: &mut Lists) -> Result<(), String> {
     let (list, names): (&mut Vec<i32>, &[&str]) = match kind {
         "pin" => (&mut lists.pins, &["x", "y"]),
         "macro" => (&mut lists.macros, &["left", "bottom", "right", "top"]),
-        other => return Err(format!("'{other}' is neither 'pin' nor 'macro'")),
+        "weights" if weights.is_empty() => (weights, &["x", "y"]),
+        "weights" => return Err("a second line of weights".into()),
+        other => {
+            return Err(format!(
+                "'{other}' is neither 'pin' nor 'macro' nor 'weights'"
+            ))
+        }
     };
     for name in names {
         let word = words
             .next()
-            .ok_or_else(|| format!("a {kind} needs a number for {name}"))?;
+            .ok_or_else(|| format!("{} a number for {name}", needing(kind)))?;
         let number = word
             .parse()
             .map_err(|_| format!("'{word}' for {name} is no whole number of 32 bits"))?;
@@ -70,10 +82,23 @@ fn entry(line: &str, lists: &mut Lists) -> Result<(), String> {
     }
 }
 
-/// The text of two lists, which parses back to them. Numbers left over in a list that is not
-/// whole entries have no line of their own; a comment names them.
+/// An entry that lacks something, as a sentence begins.
+fn needing(kind: &str) -> String {
+    match kind {
+        "weights" => "weights need".into(),
+        _ => format!("a {kind} needs"),
+    }
+}
+
+/// The text of two lists, which parses back to them; it names the weights where they are not both
+/// 1. Numbers left over in a list that is not whole entries have no line of their own; a comment
+/// names them.
 pub fn print(lists: &Lists) -> String {
     let mut text = String::new();
+    if lists.weights != Weights::ONE {
+        let Weights { x, y } = lists.weights;
+        text.push_str(&format!("weights {x} {y}\n"));
+    }
     for (kind, list, width) in [("pin", &lists.pins, 2), ("macro", &lists.macros, 4)] {
         for chunk in list.chunks(width) {
             let numbers: Vec<String> = chunk.iter().map(i32::to_string).collect();

@@ -4,7 +4,7 @@ use std::cmp::Ordering;
 use std::collections::BTreeSet;
 
 use crate::edge::Edge;
-use crate::net::Place;
+use crate::net::{Place, Weights};
 
 /// The tree's points are the pins and the ends of its edges.
 #[derive(Clone, Debug, PartialEq, Eq)]
@@ -13,8 +13,8 @@ pub struct Tree {
     pub edges: BTreeSet<Edge>,
 }
 
-/// What the tree way from one point to another holds: how many edges, and the longest of them
-/// (none on the way from a point to itself).
+/// What the tree way from one point to another holds: how many edges, and the longest of them by
+/// cost (none on the way from a point to itself).
 #[derive(Clone, Copy, Debug, PartialEq, Eq)]
 pub struct Way {
     pub steps: usize,
@@ -29,8 +29,13 @@ impl Tree {
         points.into_iter().collect()
     }
 
-    /// The metal to lay: "the sum of edge lengths".
-    pub fn total(&self) -> i64 {
+    /// The total, in cost.
+    pub fn total(&self, weights: Weights) -> i64 {
+        self.edges.iter().map(|edge| edge.cost(weights)).sum()
+    }
+
+    /// Metal to lay: "the sum of edge lengths", which "stays plain length".
+    pub fn metal(&self) -> i64 {
         self.edges.iter().map(|edge| edge.length()).sum()
     }
 }
@@ -59,7 +64,12 @@ pub fn neighbours(count: usize, edges: &[(usize, usize)]) -> Vec<Vec<usize>> {
 }
 
 /// The tree way from one point to every point: a walk outward that never steps back.
-pub fn ways_from(points: &[Place], neighbours: &[Vec<usize>], start: usize) -> Vec<Way> {
+pub fn ways_from(
+    points: &[Place],
+    neighbours: &[Vec<usize>],
+    start: usize,
+    weights: Weights,
+) -> Vec<Way> {
     let mut ways = vec![None; points.len()];
     ways[start] = Some(Way {
         steps: 0,
@@ -73,7 +83,10 @@ pub fn ways_from(points: &[Place], neighbours: &[Vec<usize>], start: usize) -> V
                 let edge = Edge::new(points[here], points[next]);
                 ways[next] = Some(Way {
                     steps: way.steps + 1,
-                    longest: Some(way.longest.map_or(edge, |before| longer(before, edge))),
+                    longest: Some(match way.longest {
+                        Some(before) => longer(before, edge, weights),
+                        None => edge,
+                    }),
                 });
                 reached.push(next);
             }
@@ -84,9 +97,9 @@ pub fn ways_from(points: &[Place], neighbours: &[Vec<usize>], start: usize) -> V
         .collect()
 }
 
-/// "The longest edge (smallest on a tie)" of two.
-fn longer(one: Edge, other: Edge) -> Edge {
-    match one.length().cmp(&other.length()) {
+/// "The longest edge (smallest on a tie)" of two, by cost.
+fn longer(one: Edge, other: Edge, weights: Weights) -> Edge {
+    match one.cost(weights).cmp(&other.cost(weights)) {
         Ordering::Greater => one,
         Ordering::Less => other,
         Ordering::Equal => one.min(other),

@@ -34,7 +34,10 @@ fn text(words: &[&str], input: &[u8]) -> String {
 #[test]
 fn answers() {
     let net = NET.as_bytes();
-    assert_eq!(text(&["check"], net), "allowed: pins 3 macros 0\n");
+    assert_eq!(
+        text(&["check"], net),
+        "allowed: pins 3 macros 0 weights 1 1\n"
+    );
     assert_eq!(
         text(&["graph"], net),
         "vertices 3\n0 0\n2 3\n4 0\nedges 3\n0 0 2 3 5\n0 0 4 0 4\n2 3 4 0 5\n"
@@ -42,13 +45,13 @@ fn answers() {
     assert_eq!(
         text(&["terminal"], net),
         "paths 2\n\
-         bridge 0 0 4 0 length 4 vertices 0 0, 4 0\n\
-         bridge 0 0 2 3 length 5 vertices 0 0, 2 3\n\
+         bridge 0 0 4 0 cost 4 vertices 0 0, 4 0\n\
+         bridge 0 0 2 3 cost 5 vertices 0 0, 2 3\n\
          total 9\n"
     );
     assert_eq!(
         text(&["refined"], net),
-        "edges 3\n0 0 2 0 2\n2 0 2 3 3\n2 0 4 0 2\ntotal 7\n\
+        "edges 3\n0 0 2 0 2\n2 0 2 3 3\n2 0 4 0 2\ntotal 7\nmetal 7\n\
          rounds 1 of at most 3\na further gain was there: no\n\
          s at a 0 at b 0 at u 0\ncandidates dropped 0\n\
          a dropped one would have won: no\npoints pruned 0\n"
@@ -66,7 +69,7 @@ fn files() {
     assert_eq!(text(&["unpack"], &file), NET);
     assert_eq!(
         text(&["route"], &file),
-        "pins 3 macros 0 terminal 9 refined 7\n0 0 2 0 2\n2 0 2 3 3\n2 0 4 0 2\n"
+        "pins 3 macros 0 terminal 9 refined 7 metal 7\n0 0 2 0 2\n2 0 2 3 3\n2 0 4 0 2\n"
     );
 }
 
@@ -94,6 +97,25 @@ fn generated_text_is_read_back() {
     let lists = text(&["generate", "pin-twice", "12"], b"");
     assert_eq!(text(&["check"], lists.as_bytes()), "refused 15\n");
     let file = printed(&["damage", "bit-flipped", "12"], b"");
+    assert_eq!(text(&["route"], &file), "refused 2\n");
+}
+
+#[test]
+fn weights_on_the_command_line() {
+    let net = format!("weights 1 3\n{NET}");
+    let allowed = "allowed: pins 3 macros 0 weights 1 3\n";
+    assert_eq!(text(&["check"], net.as_bytes()), allowed);
+    let file = printed(&["pack"], net.as_bytes());
+    assert_eq!(text(&["unpack"], &file), net);
+    let routed = text(&["route"], &file);
+    assert!(routed.starts_with("pins 3 macros 0 terminal 15 refined 13 metal 7\n"));
+    assert_eq!(text(&["check"], b"weights 9 1\npin 0 0\n"), "refused 18\n");
+    let net = text(&["generate", "maze", "12", "weighted"], b"");
+    assert!(net.starts_with("# maze 12 weighted\nweights "));
+    assert!(text(&["check"], net.as_bytes()).starts_with("allowed: "));
+    let lists = text(&["generate", "weight-outside", "12"], b"");
+    assert_eq!(text(&["check"], lists.as_bytes()), "refused 18\n");
+    let file = printed(&["damage", "bit-flipped", "12", "weighted"], b"");
     assert_eq!(text(&["route"], &file), "refused 2\n");
 }
 
@@ -137,6 +159,10 @@ fn bad_usage_exits_with_2() {
         (
             &["generate", "maze"][..],
             "'generate' with other arguments than it takes",
+        ),
+        (
+            &["damage", "cut", "1", "weight"][..],
+            "'damage' with other arguments than it takes",
         ),
         (&["generate", "maze", "-1"][..], "'-1' is no seed"),
         (&["generate", "cut", "1"][..], "no kind 'cut' here"),

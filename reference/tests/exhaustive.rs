@@ -5,20 +5,24 @@ use std::collections::BTreeSet;
 
 use reference::edge::Edge;
 use reference::exhaustive::{Every, Fault, Given};
-use reference::generate::{net, Kind};
-use reference::net::{check, Net, Place};
+use reference::generate::{net, weighted, Kind};
+use reference::net::{check, Net, Place, Weights};
 use reference::terminal::terminal;
 
+/// A small net, every other one with weights of all sorts.
 fn small(seed: u64) -> Net {
-    let lists = net(Kind::Small, seed);
-    check(&lists.pins, &lists.macros).expect("generated nets are allowed")
+    let lists = match seed % 2 {
+        0 => net(Kind::Small, seed),
+        _ => weighted(Kind::Small, seed),
+    };
+    check(&lists.pins, &lists.macros, lists.weights).expect("generated nets are allowed")
 }
 
 /// The terminal tree of the second program, as the call gives it.
 fn given(net: &Net) -> Given {
     let tree = terminal(net);
     Given {
-        paths: tree.paths.iter().map(|p| (p.bridge, p.length)).collect(),
+        paths: tree.paths.iter().map(|p| (p.bridge, p.cost)).collect(),
         total: tree.total,
     }
 }
@@ -44,7 +48,7 @@ fn no_joining_and_no_chain_is_shorter() {
 /// left side or does not, then over to the right, and there along its right side or not.
 #[test]
 fn every_path_of_the_second_worked_net() {
-    let net = check(&[0, 0, 10, 0], &[4, -2, 6, 3]).unwrap();
+    let net = check(&[0, 0, 10, 0], &[4, -2, 6, 3], Weights::ONE).unwrap();
     let every = Every::of(&net);
     assert_eq!(every.paths().len(), 2 * 2 * 2);
     for (corners, length) in [
@@ -56,7 +60,7 @@ fn every_path_of_the_second_worked_net() {
         let along = [ends.0, corners, ends.1].concat();
         let along: Vec<Place> = along.into_iter().map(|(x, y)| Place { x, y }).collect();
         let found = every.paths().iter().find(|path| path.vertices == along);
-        assert_eq!(found.map(|path| path.length), Some(length), "{corners:?}");
+        assert_eq!(found.map(|path| path.cost), Some(length), "{corners:?}");
     }
 }
 
@@ -79,10 +83,10 @@ fn a_wrong_total_is_found() {
     }
 }
 
-/// A length that is no path's, a bridge that is no edge, a path left out and one given twice.
+/// A cost that is no path's, a bridge that is no edge, a path left out and one given twice.
 #[test]
 fn wrong_paths_are_found() {
-    let net = check(&[0, 0, 4, 0, 2, 3], &[]).unwrap();
+    let net = check(&[0, 0, 4, 0, 2, 3], &[], Weights::ONE).unwrap();
     let every = Every::of(&net);
     let right = given(&net);
     assert_eq!(every.faults(&right), BTreeSet::new());
@@ -107,21 +111,22 @@ fn wrong_paths_are_found() {
     }
 }
 
-/// A terminal tree that takes its bridges in another order: by the greatest path length, or
-/// "weighing bridges by their own length, without the ways at both ends".
-fn wrongly_kept(every: &Every, weight: impl Fn(Edge, i64) -> i64) -> Given {
+/// A terminal tree that takes its bridges in another order: by the greatest path cost, or "weighing
+/// bridges by their own length, without the ways at both ends".
+fn wrongly_kept(net: &Net, every: &Every, weight: impl Fn(Edge, i64) -> i64) -> Given {
     let mut bridges = Vec::new();
     for &edge in every.edges() {
         let (before, one) = every.root(edge.first());
         let (after, other) = every.root(edge.second());
         if one != other {
-            bridges.push((edge, before + edge.length() + after, one, other));
+            let cost = before + edge.cost(net.weights()) + after;
+            bridges.push((edge, cost, one, other));
         }
     }
-    bridges.sort_by_key(|&(edge, length, ..)| (weight(edge, length), edge));
+    bridges.sort_by_key(|&(edge, cost, ..)| (weight(edge, cost), edge));
     let mut groups: Vec<BTreeSet<Place>> = Vec::new();
     let mut paths = Vec::new();
-    for (edge, length, one, other) in bridges {
+    for (edge, cost, one, other) in bridges {
         if groups
             .iter()
             .any(|g| g.contains(&one) && g.contains(&other))
@@ -134,9 +139,9 @@ fn wrongly_kept(every: &Every, weight: impl Fn(Edge, i64) -> i64) -> Given {
         group.extend([one, other]);
         groups = apart;
         groups.push(group);
-        paths.push((edge, length));
+        paths.push((edge, cost));
     }
-    let total = paths.iter().map(|&(_, length)| length).sum();
+    let total = paths.iter().map(|&(_, cost)| cost).sum();
     Given { paths, total }
 }
 
@@ -144,21 +149,21 @@ fn wrongly_kept(every: &Every, weight: impl Fn(Edge, i64) -> i64) -> Given {
 /// with the right order this router has no fault.
 #[test]
 fn a_longer_tree_is_found() {
-    let (mut longest_first, mut own_length) = (0, 0);
+    let (mut longest_first, mut own_cost) = (0, 0);
     for seed in 0..600 {
         let net = small(seed);
         let every = Every::of(&net);
         let least = given(&net).total;
-        let right = wrongly_kept(&every, |_, length| length);
+        let right = wrongly_kept(&net, &every, |_, cost| cost);
         assert_eq!(right, given(&net), "small {seed}");
         for (wrong, count) in [
             (
-                wrongly_kept(&every, |_, length| -length),
+                wrongly_kept(&net, &every, |_, cost| -cost),
                 &mut longest_first,
             ),
             (
-                wrongly_kept(&every, |edge, _| edge.length()),
-                &mut own_length,
+                wrongly_kept(&net, &every, |edge, _| edge.cost(net.weights())),
+                &mut own_cost,
             ),
         ] {
             let faults = every.faults(&wrong);
@@ -171,6 +176,6 @@ fn a_longer_tree_is_found() {
             *count += usize::from(found < said);
         }
     }
-    println!("longer trees found: {longest_first} by longest first, {own_length} by own length");
-    assert!(longest_first > 100 && own_length > 10);
+    println!("longer trees found: {longest_first} by longest first, {own_cost} by own cost");
+    assert!(longest_first > 100 && own_cost > 10);
 }

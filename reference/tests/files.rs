@@ -2,14 +2,14 @@
 
 mod common;
 
-use reference::generate::{damaged, hostile, Damage, Hostile};
+use reference::generate::{damaged, damaged_weighted, hostile, Damage, Hostile};
 use reference::lists::Lists;
-use reference::net::check;
+use reference::net::{check, Weights};
 use reference::netfile::{blocks_of, bytes_of, read, seal, sums, write, Block};
 use reference::operations::read_file;
 
 /// What the operation answers for bytes, with space enough lent.
-fn answer(bytes: &[u8]) -> Result<(usize, usize), u32> {
+fn answer(bytes: &[u8]) -> Result<(usize, usize, Weights), u32> {
     read_file(bytes, &mut [0; 128], &mut [0; 256])
 }
 
@@ -27,17 +27,18 @@ fn words_of_a_small_file() {
     let bytes = write(&Lists {
         pins: vec![1, -2, 300, 4],
         macros: vec![5, 6, 7, 8],
+        weights: Weights { x: 3, y: 1 },
     });
     assert_eq!(bytes.len(), 3 * 512);
     assert_eq!(bytes[..8], [1, 0, 0, 0, 0, 0, 0, 0]);
     assert_eq!(bytes[512 + 20..512 + 28], [254, 255, 255, 255, 44, 1, 0, 0]);
     let blocks = blocks_of(&bytes);
-    assert_eq!(blocks[0][..8], [1, 0, 0, 0, 2, 1, 0, 0]);
+    assert_eq!(blocks[0][..9], [1, 0, 0, 0, 2, 1, 3, 0, 0]);
     assert_eq!(blocks[1][..9], [2, 1, 2, 0, 1, u32::MAX - 1, 300, 4, 0]);
     assert_eq!(blocks[2][..9], [3, 2, 1, 0, 5, 6, 7, 8, 0]);
-    // The head has 1 in word 0, 2 in word 4 and 1 in word 5; a word in place i is in 126 − i of
-    // the running sums.
-    assert_eq!(blocks[0][126..], [4, 126 + 2 * 122 + 121]);
+    // The head has 1 in word 0, 2 in word 4, 1 in word 5, 3 in word 6 and 0, which stands for 1, in
+    // word 7; a word in place i is in 126 − i of the running sums.
+    assert_eq!(blocks[0][126..], [7, 126 + 2 * 122 + 121 + 3 * 120]);
     // −2 and 300 wrap around 2^32.
     assert_eq!(blocks[1][126], 2 + 1 + 2 + 1 + 298 + 4);
 }
@@ -58,6 +59,7 @@ fn the_longest_file() {
     let file = write(&Lists {
         pins: (0..128).collect(),
         macros: (0..256).collect(),
+        ..Lists::default()
     });
     let blocks = blocks_of(&file);
     let fronts: Vec<&[u32]> = blocks.iter().map(|block| &block[..3]).collect();
@@ -78,9 +80,74 @@ fn files_read_back() {
         let bytes = write(&lists);
         assert_eq!(read(&bytes), Ok(lists.clone()), "{name}");
         assert_eq!(bytes_of(&blocks_of(&bytes)), bytes, "{name}");
-        let counts = (lists.pins.len() / 2, lists.macros.len() / 4);
-        assert_eq!(answer(&bytes), Ok(counts), "{name}");
+        let (m, k) = (lists.pins.len() / 2, lists.macros.len() / 4);
+        assert_eq!(answer(&bytes), Ok((m, k, lists.weights)), "{name}");
     }
+}
+
+/// A file of one pin whose head has these two weight words, the sums right.
+fn with_weight_words(x: u32, y: u32) -> Vec<u8> {
+    let mut blocks = blocks_of(&write(&Lists {
+        pins: vec![5, 5],
+        ..Lists::default()
+    }));
+    (blocks[0][6], blocks[0][7]) = (x, y);
+    seal(&mut blocks[0]);
+    bytes_of(&blocks)
+}
+
+/// "Head words 6 and 7 of the file hold the weights, 0 standing for 1; a written 1 or a word above
+/// 8 is refused as 3."
+#[test]
+fn weight_words() {
+    assert_eq!(answer(&with_weight_words(1, 0)), Err(3));
+    assert_eq!(answer(&with_weight_words(9, 0)), Err(3));
+    let weight = |word: u32| match word {
+        0 => Some(1),
+        2..=8 => Some(word as i32),
+        _ => None,
+    };
+    let beyond = [9, 10, 256 + 2, 1 << 16, 1 << 31, u32::MAX - 7, u32::MAX];
+    let words: Vec<u32> = (0..=8).chain(beyond).collect();
+    for &one in &words {
+        for &other in &words {
+            let bytes = with_weight_words(one, other);
+            let expected = match (weight(one), weight(other)) {
+                (Some(x), Some(y)) => Ok((1, 0, Weights { x, y })),
+                _ => Err(3),
+            };
+            assert_eq!(answer(&bytes), expected, "words {one} and {other}");
+            if let Ok(lists) = read(&bytes) {
+                assert_eq!(write(&lists), bytes, "words {one} and {other}");
+            }
+        }
+    }
+}
+
+/// "With both weights 1" a file has 0 in both words, as it had before there were weights.
+#[test]
+fn weights_of_one_are_zero_words() {
+    for (name, lists) in common::nets(6) {
+        let bytes = write(&Lists {
+            weights: Weights::ONE,
+            ..lists.clone()
+        });
+        assert_eq!(blocks_of(&bytes)[0][6..126], [0; 120], "{name}");
+        let weighted = write(&lists);
+        assert_eq!(bytes == weighted, lists.weights == Weights::ONE, "{name}");
+        assert_eq!(bytes[512..], weighted[512..], "{name}");
+    }
+}
+
+/// Weights that the check refuses have no file, so that no other net's file passes for theirs.
+#[test]
+#[should_panic(expected = "the weight 0 has no word")]
+fn a_weight_outside_has_no_word() {
+    write(&Lists {
+        pins: vec![5, 5],
+        weights: Weights { x: 0, y: 1 },
+        ..Lists::default()
+    });
 }
 
 #[test]
@@ -98,7 +165,7 @@ fn lengths_come_first() {
 fn sums_come_before_the_layout() {
     let mut blocks = blocks_of(&write(&Lists {
         pins: vec![1, 1],
-        macros: vec![],
+        ..Lists::default()
     }));
     blocks[0][0] = 9;
     seal(&mut blocks[0]);
@@ -122,15 +189,17 @@ fn a_head_alone() {
 }
 
 /// Every word of every block, changed with the sums right, makes another net or a refusal, and
-/// all words but the entries' make it 3.
+/// all words but the entries' and the weights' make it 3.
 #[test]
 fn every_word_counts() {
     let lists = Lists {
         pins: vec![0, 0, 9, 9],
         macros: vec![1, 1, 2, 2],
+        ..Lists::default()
     };
     let blocks = blocks_of(&write(&lists));
-    let entries = [4..4, 4..8, 4..8];
+    // In the head the two weight words.
+    let entries = [6..8, 4..8, 4..8];
     for (number, block) in blocks.iter().enumerate() {
         for word in 0..126 {
             let mut changed = *block;
@@ -153,6 +222,7 @@ fn every_word_counts() {
 fn outcomes(kind: Damage) -> &'static [u32] {
     match kind {
         Damage::WordChanged => &[0, 3, 13, 14, 15, 16, 17],
+        Damage::WeightWords => &[0, 3],
         Damage::SumWrong | Damage::BitFlipped | Damage::WordsExchanged => &[2],
         Damage::BlocksSwapped => &[0, 3],
         Damage::BlockDoubled | Damage::Cut | Damage::AllZero => &[1, 3],
@@ -165,22 +235,24 @@ fn outcomes(kind: Damage) -> &'static [u32] {
     }
 }
 
-/// Each kind of damage leads to what it names and, over many seeds, to each of it.
+/// Each kind of damage leads to what it names and, over many seeds, to each of it: never to 18.
 #[test]
 fn damage_leads_to_what_it_names() {
-    for &kind in Damage::ALL {
-        let mut seen = Vec::new();
-        for seed in 0..1_500 {
-            let outcome = match answer(&damaged(kind, seed)) {
-                Ok(_) => 0,
-                Err(refusal) => refusal,
-            };
-            if !seen.contains(&outcome) {
-                seen.push(outcome);
+    for made in [damaged, damaged_weighted] {
+        for &kind in Damage::ALL {
+            let mut seen = Vec::new();
+            for seed in 0..1_500 {
+                let outcome = match answer(&made(kind, seed)) {
+                    Ok(_) => 0,
+                    Err(refusal) => refusal,
+                };
+                if !seen.contains(&outcome) {
+                    seen.push(outcome);
+                }
             }
+            seen.sort();
+            assert_eq!(seen, outcomes(kind), "{}", kind.name());
         }
-        seen.sort();
-        assert_eq!(seen, outcomes(kind), "{}", kind.name());
     }
 }
 
@@ -190,7 +262,7 @@ fn only_written_files_are_read() {
     let mut right = 0;
     for &kind in Damage::ALL {
         for seed in 0..300 {
-            let bytes = damaged(kind, seed);
+            let bytes = damaged_weighted(kind, seed);
             if let Ok(lists) = read(&bytes) {
                 assert_eq!(write(&lists), bytes, "{} {seed}", kind.name());
                 right += 1;
@@ -210,7 +282,7 @@ fn the_net_is_checked_last() {
     ] {
         for seed in 0..50 {
             let lists = hostile(kind, seed);
-            let refusal = check(&lists.pins, &lists.macros).unwrap_err();
+            let refusal = check(&lists.pins, &lists.macros, lists.weights).unwrap_err();
             assert_eq!(answer(&write(&lists)), Err(refusal));
         }
     }

@@ -1,8 +1,11 @@
 //! Each kind of the generator gives what it names.
 
-use reference::generate::{bands, damaged, hostile, net, refusal, BandList, Damage, Hostile, Kind};
+use reference::generate::{
+    bands, damaged, damaged_weighted, hostile, hostile_weighted, net, refusal, weighted, BandList,
+    Damage, Hostile, Kind,
+};
 use reference::lists::Lists;
-use reference::net::{check, Macro, Net, Place};
+use reference::net::{check, Macro, Net, Place, Weights};
 use reference::price::price;
 
 /// So many nets of a kind, checked.
@@ -10,7 +13,7 @@ fn nets(kind: Kind, seeds: u64) -> Vec<Net> {
     (0..seeds)
         .map(|seed| {
             let lists = net(kind, seed);
-            let checked = check(&lists.pins, &lists.macros);
+            let checked = check(&lists.pins, &lists.macros, lists.weights);
             checked.unwrap_or_else(|refusal| panic!("{} {seed}: {refusal}", kind.name()))
         })
         .collect()
@@ -41,7 +44,8 @@ fn any_shared(net: &Net, wanted: impl Fn((i64, i64)) -> bool) -> bool {
 #[test]
 fn every_kind_is_allowed_and_varies() {
     for &kind in Kind::ALL {
-        let seeds = if kind == Kind::BoundEnds { 10 } else { 100 };
+        let slow = matches!(kind, Kind::BoundEnds | Kind::LargestFar);
+        let seeds = if slow { 10 } else { 100 };
         let nets = nets(kind, seeds);
         let distinct = nets
             .iter()
@@ -55,12 +59,15 @@ fn every_kind_is_allowed_and_varies() {
 fn the_same_seed_gives_the_same() {
     for &kind in Kind::ALL {
         assert_eq!(net(kind, 5), net(kind, 5));
+        assert_eq!(weighted(kind, 5), weighted(kind, 5));
     }
     for &kind in Hostile::ALL {
         assert_eq!(hostile(kind, 5), hostile(kind, 5));
+        assert_eq!(hostile_weighted(kind, 5), hostile_weighted(kind, 5));
     }
     for &kind in Damage::ALL {
         assert_eq!(damaged(kind, 5), damaged(kind, 5));
+        assert_eq!(damaged_weighted(kind, 5), damaged_weighted(kind, 5));
     }
 }
 
@@ -128,9 +135,25 @@ fn far_coordinates() {
     }
 }
 
+/// Nets of the most entries reach both ends of the range.
+#[test]
+fn largest_far_coordinates() {
+    for seed in 0..20 {
+        let lists = net(Kind::LargestFar, seed);
+        let end = Net::COORDINATE;
+        let near = |end: i32| numbers(&lists).any(|c| (c - end).abs() <= 250_000);
+        assert!(near(end) && near(-end), "{seed}");
+    }
+    let ends = (0..20).filter(|&seed| {
+        let lists = net(Kind::LargestFar, seed);
+        lists.macros.contains(&Net::COORDINATE) && lists.macros.contains(&-Net::COORDINATE)
+    });
+    assert!(ends.count() > 5);
+}
+
 #[test]
 fn counts() {
-    for kind in [Kind::Largest, Kind::LargestMaze] {
+    for kind in [Kind::Largest, Kind::LargestMaze, Kind::LargestFar] {
         for net in nets(kind, 50) {
             assert_eq!((net.m(), net.k()), (Net::PINS, Net::MACROS));
         }
@@ -160,7 +183,7 @@ fn walls_make_long_ways() {
             let paths = reference::terminal::terminal(net).paths;
             paths.iter().any(|path| {
                 let apart = path.vertices[0].distance(path.vertices[path.vertices.len() - 1]);
-                path.length >= 3 * apart
+                path.cost >= 3 * apart
             })
         };
         let count = nets(kind, 100).iter().filter(|net| long(net)).count();
@@ -177,6 +200,67 @@ fn wide_dies() {
     }
 }
 
+/// Weights of all sorts are allowed; every weight and many pairs come up, on each kind. Where a
+/// kind is not found by search, the lists are those of weights 1 and 1.
+#[test]
+fn weighted_nets() {
+    let mut seen = Vec::new();
+    for &kind in Kind::ALL {
+        let slow = matches!(kind, Kind::BoundEnds | Kind::Pruned);
+        let searched = slow || matches!(kind, Kind::Rounds | Kind::Dropped | Kind::DroppedWins);
+        let mut ones = 0;
+        let seeds = if slow { 10 } else { 60 };
+        for seed in 0..seeds {
+            let lists = weighted(kind, seed);
+            let checked = check(&lists.pins, &lists.macros, lists.weights);
+            assert!(checked.is_ok(), "{} {seed}: {checked:?}", kind.name());
+            let plain = net(kind, seed);
+            assert_eq!(plain.weights, Weights::ONE);
+            let same = (&lists.pins, &lists.macros) == (&plain.pins, &plain.macros);
+            assert!(same || searched, "{} {seed}", kind.name());
+            ones += usize::from(lists.weights == Weights::ONE);
+            let Weights { x, y } = lists.weights;
+            if !seen.contains(&(x, y)) {
+                seen.push((x, y));
+            }
+        }
+        assert!(ones < seeds as usize / 2, "{}", kind.name());
+    }
+    assert_eq!(seen.len(), 64);
+}
+
+/// Hostile lists with weights of all sorts are still refused with the number of their kind; where
+/// it fixes none, 18 comes up as well, and half of the weights are outside 1 to 8.
+#[test]
+fn hostile_weights() {
+    let (mut outside, mut inside) = (0, 0);
+    for &kind in Hostile::ALL {
+        let mut seen = Vec::new();
+        for seed in 0..2_000 {
+            let lists = hostile_weighted(kind, seed);
+            let result = check(&lists.pins, &lists.macros, lists.weights).err();
+            if kind != Hostile::Anything {
+                assert_eq!(result, refusal(kind, seed), "{} {seed}", kind.name());
+            }
+            let Weights { x, y } = lists.weights;
+            match [x, y].iter().all(|weight| (1..=8).contains(weight)) {
+                true => inside += 1,
+                false => outside += 1,
+            }
+            seen.push(result.unwrap_or(0));
+        }
+        seen.sort();
+        seen.dedup();
+        if kind == Hostile::Anything {
+            assert_eq!(seen, [0, 11, 12, 13, 14, 15, 16, 17, 18]);
+        }
+    }
+    assert!(
+        outside > 10_000 && inside > 10_000,
+        "{outside} and {inside}"
+    );
+}
+
 /// Hostile lists are refused with the number their kind names, the least of several.
 #[test]
 fn hostile_lists_are_refused() {
@@ -184,7 +268,7 @@ fn hostile_lists_are_refused() {
         let mut seen = Vec::new();
         for seed in 0..2_000 {
             let lists = hostile(kind, seed);
-            let result = check(&lists.pins, &lists.macros).err();
+            let result = check(&lists.pins, &lists.macros, lists.weights).err();
             if kind != Hostile::Anything {
                 assert_eq!(result, refusal(kind, seed), "{} {seed}", kind.name());
             }

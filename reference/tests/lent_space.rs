@@ -4,7 +4,7 @@ mod common;
 
 use std::fmt::Debug;
 
-use reference::generate::{hostile, net, Hostile, Kind};
+use reference::generate::{hostile_weighted, net, Hostile, Kind};
 use reference::graph::graph;
 use reference::lists::Lists;
 use reference::net::{check, Net};
@@ -49,7 +49,7 @@ fn narrow(numbers: impl Iterator<Item = i64>) -> Vec<i32> {
 
 fn allowed(seeds: u64) -> impl Iterator<Item = (String, Lists, Net)> {
     common::nets(seeds).map(|(name, lists)| {
-        let net = check(&lists.pins, &lists.macros).unwrap();
+        let net = check(&lists.pins, &lists.macros, lists.weights).unwrap();
         (name, lists, net)
     })
 }
@@ -60,12 +60,12 @@ fn terminal_tree_space() {
         let tree = terminal(&net);
         let of_path = |p: &reference::terminal::Path| {
             let (a, b) = (p.bridge.first(), p.bridge.second());
-            [a.x, a.y, b.x, b.y, p.length]
+            [a.x, a.y, b.x, b.y, p.cost]
         };
         let answer: Vec<i64> = tree.paths.iter().flat_map(of_path).collect();
         let said = (tree.paths.len(), tree.total);
         lend(5 * net.m(), &answer, said, &name, |space| {
-            operations::terminal_tree(&l.pins, &l.macros, space)
+            operations::terminal_tree(&l.pins, &l.macros, l.weights, space)
         });
     }
 }
@@ -76,9 +76,9 @@ fn refined_tree_space() {
         let laid = refined(&net);
         let ends = laid.edges.iter().flat_map(|e| [e.first(), e.second()]);
         let answer = narrow(ends.flat_map(|p| [p.x, p.y]));
-        let said = (laid.edges.len(), laid.total);
+        let said = (laid.edges.len(), laid.total, laid.metal);
         lend(4 * (net.n() + net.m()), &answer, said, &name, |space| {
-            operations::refined_tree(&l.pins, &l.macros, space)
+            operations::refined_tree(&l.pins, &l.macros, l.weights, space)
         });
     }
 }
@@ -94,7 +94,7 @@ fn wire_space() {
             &answer,
             drawn.len(),
             &name,
-            |space| operations::wires(&l.pins, &l.macros, space),
+            |space| operations::wires(&l.pins, &l.macros, l.weights, space),
         );
     }
 }
@@ -104,7 +104,7 @@ fn file_space() {
     for (name, l, _) in allowed(4) {
         let file = netfile::write(&l);
         lend(file.len(), &file, file.len(), &name, |space| {
-            operations::write_file(&l.pins, &l.macros, space)
+            operations::write_file(&l.pins, &l.macros, l.weights, space)
         });
     }
 }
@@ -118,7 +118,8 @@ fn graph_space() {
         let ends = whole.edges.iter().flat_map(|e| [e.first(), e.second()]);
         let edges = narrow(ends.flat_map(|p| [p.x, p.y]));
         let said = (whole.vertices.len(), whole.edges.len());
-        let call = |v: &mut [i32], e: &mut [i32]| operations::graph(&l.pins, &l.macros, v, e);
+        let call =
+            |v: &mut [i32], e: &mut [i32]| operations::graph(&l.pins, &l.macros, l.weights, v, e);
         let n = net.n();
         let short = &mut vec![77; 16 * n - 1];
         assert_eq!(call(&mut vec![77; 2 * n], short), Err(21), "{name}");
@@ -137,7 +138,7 @@ fn graph_space() {
 fn read_space() {
     for (name, l, net) in allowed(4) {
         let file = netfile::write(&l);
-        let said = (net.m(), net.k());
+        let said = (net.m(), net.k(), net.weights());
         lend(128, &l.pins, said, &name, |space| {
             operations::read_file(&file, space, &mut [0; 256])
         });
@@ -154,23 +155,35 @@ fn read_space() {
 fn the_net_comes_before_the_space() {
     for &kind in Hostile::ALL {
         for seed in 0..40 {
-            let Lists { pins, macros } = hostile(kind, seed);
-            let Err(number) = operations::check(&pins, &macros) else {
+            let lists = hostile_weighted(kind, seed);
+            let Lists {
+                pins,
+                macros,
+                weights,
+            } = lists;
+            let Err(number) = operations::check(&pins, &macros, weights) else {
                 continue;
             };
             let (small, big) = (&mut [77; 5_000], &mut [77; 5_000]);
             let wide = &mut [77; 5_000];
             let bytes = &mut [77; 5_000];
             let refused = Err(number);
-            assert_eq!(operations::graph(&pins, &macros, small, big), refused);
-            assert_eq!(operations::graph(&pins, &macros, &mut [], &mut []), refused);
-            let paths = operations::terminal_tree(&pins, &macros, wide);
+            assert_eq!(
+                operations::graph(&pins, &macros, weights, small, big),
+                refused
+            );
+            let none = operations::graph(&pins, &macros, weights, &mut [], &mut []);
+            assert_eq!(none, refused);
+            let paths = operations::terminal_tree(&pins, &macros, weights, wide);
             assert_eq!(paths.err(), Some(number));
-            let edges = operations::refined_tree(&pins, &macros, small);
+            let edges = operations::refined_tree(&pins, &macros, weights, small);
             assert_eq!(edges.err(), Some(number));
-            let wires = operations::wires(&pins, &macros, small);
+            let wires = operations::wires(&pins, &macros, weights, small);
             assert_eq!(wires, Err(number));
-            assert_eq!(operations::write_file(&pins, &macros, bytes), Err(number));
+            let price = operations::price(&pins, &macros, weights, &[]);
+            assert_eq!(price, Err(number));
+            let file = operations::write_file(&pins, &macros, weights, bytes);
+            assert_eq!(file, Err(number));
             assert_eq!((*small, *big), ([77; 5_000], [77; 5_000]));
             assert_eq!((*wide, *bytes), ([77; 5_000], [77; 5_000]));
         }

@@ -14,8 +14,8 @@ fn permuted_lists_give_the_same_answers() {
     let mut reordered = 0;
     for (number, (name, lists)) in common::nets(16).enumerate() {
         let other = permuted(&lists, number as u64);
-        let net = check(&lists.pins, &lists.macros).unwrap();
-        let same = check(&other.pins, &other.macros).unwrap();
+        let net = check(&lists.pins, &lists.macros, lists.weights).unwrap();
+        let same = check(&other.pins, &other.macros, other.weights).unwrap();
         assert_eq!(graph(&net), graph(&same), "{name}");
         let (tree, same_tree) = (terminal(&net), terminal(&same));
         assert_eq!(tree, same_tree, "{name}");

@@ -13,7 +13,7 @@ use reference::wires::wires;
 
 fn allowed(seeds: u64) -> impl Iterator<Item = (String, Net)> {
     common::nets(seeds).map(|(name, lists)| {
-        let net = check(&lists.pins, &lists.macros);
+        let net = check(&lists.pins, &lists.macros, lists.weights);
         (name, net.expect("generated nets are allowed"))
     })
 }
@@ -52,7 +52,9 @@ fn quadrants_part_the_other_vertices() {
 #[test]
 fn graph_joins_its_vertices() {
     for (name, net) in allowed(8) {
-        let Graph { vertices, edges } = graph(&net);
+        let Graph {
+            vertices, edges, ..
+        } = graph(&net);
         let start = net.pins()[0];
         let all: BTreeSet<Place> = vertices.iter().copied().collect();
         assert_eq!(reached(&edges, start), all, "{name}");
@@ -65,7 +67,7 @@ fn graph_joins_its_vertices() {
 }
 
 /// "A terminal path is a loop-free path of the graph whose two ends are different pins and whose
-/// inner vertices are no pins"; its length counts every edge; the m − 1 paths join all pins.
+/// inner vertices are no pins"; its cost counts every edge; the m − 1 paths join all pins.
 #[test]
 fn terminal_paths_are_terminal_paths() {
     for (name, net) in allowed(8) {
@@ -82,12 +84,12 @@ fn terminal_paths_are_terminal_paths() {
             }
             assert!(path.edges().all(|edge| edges.contains(&edge)), "{name}");
             assert!(path.edges().any(|edge| edge == path.bridge), "{name}");
-            let length: i64 = path.edges().map(|edge| edge.length()).sum();
-            assert_eq!(path.length, length, "{name}");
+            let cost: i64 = path.edges().map(|edge| edge.cost(net.weights())).sum();
+            assert_eq!(path.cost, cost, "{name}");
         }
-        let lengths: Vec<i64> = tree.paths.iter().map(|path| path.length).collect();
-        assert!(lengths.windows(2).all(|two| two[0] <= two[1]), "{name}");
-        assert_eq!(tree.total, lengths.iter().sum::<i64>(), "{name}");
+        let costs: Vec<i64> = tree.paths.iter().map(|path| path.cost).collect();
+        assert!(costs.windows(2).all(|two| two[0] <= two[1]), "{name}");
+        assert_eq!(tree.total, costs.iter().sum::<i64>(), "{name}");
         let ends = |path: &reference::terminal::Path| {
             Edge::new(path.vertices[0], path.vertices[path.vertices.len() - 1])
         };
@@ -97,7 +99,7 @@ fn terminal_paths_are_terminal_paths() {
     }
 }
 
-/// The least length along the graph from one vertex to each, worked out by other means than the
+/// The least cost along the graph from one vertex to each, worked out by other means than the
 /// terminal tree's: edges shorten until none does.
 fn shortest(graph: &Graph, start: Place) -> Vec<i64> {
     let number = |place| graph.vertices.binary_search(&place).unwrap();
@@ -108,8 +110,9 @@ fn shortest(graph: &Graph, start: Place) -> Vec<i64> {
         for edge in &graph.edges {
             let (a, b) = (number(edge.first()), number(edge.second()));
             for (from, to) in [(a, b), (b, a)] {
-                if least[from] + edge.length() < least[to] {
-                    least[to] = least[from] + edge.length();
+                let through = least[from] + edge.cost(graph.weights);
+                if through < least[to] {
+                    least[to] = through;
                     shortened = true;
                 }
             }
@@ -152,22 +155,24 @@ fn union_is_a_tree_no_longer_than_the_paths() {
         let paths = terminal(&net);
         let tree = union(&net, &paths);
         assert_eq!(tree.points().len(), tree.edges.len() + 1, "{name}");
-        assert!(tree.total() <= paths.total, "{name}");
-        shorter += usize::from(tree.total() < paths.total);
+        let total = tree.total(net.weights());
+        assert!(total <= paths.total, "{name}");
+        shorter += usize::from(total < paths.total);
     }
     assert!(shorter > 20, "only {shorter} nets share an edge");
 }
 
 /// The refined tree is one tree that holds all pins, enters no interior, has no bare point that
-/// is no pin, and is no longer than the terminal tree.
+/// is no pin, and is no dearer than the terminal tree. Its metal is its edges' plain length.
 #[test]
 fn refined_tree_is_a_tree_of_all_pins() {
     for (name, net) in allowed(8) {
         let paths = terminal(&net);
         let laid = refine(&net, &paths);
         assert!(laid.total <= paths.total, "{name}");
-        let sum: i64 = laid.edges.iter().map(|edge| edge.length()).sum();
-        assert_eq!(laid.total, sum, "{name}");
+        let cost: i64 = laid.edges.iter().map(|e| e.cost(net.weights())).sum();
+        let length: i64 = laid.edges.iter().map(|e| e.length()).sum();
+        assert_eq!((laid.total, laid.metal), (cost, length), "{name}");
         assert!(laid.edges.windows(2).all(|two| two[0] < two[1]), "{name}");
         let points = reached(&laid.edges, net.pins()[0]);
         assert!(net.pins().iter().all(|pin| points.contains(pin)), "{name}");
@@ -187,20 +192,21 @@ fn refined_tree_is_a_tree_of_all_pins() {
     }
 }
 
-/// Wires are level or upright, none is of length zero, together they are as long as the edges,
-/// and none enters an interior.
+/// Wires are level or upright, none is of length zero, together they are the metal to lay and cost
+/// as much as the edges, and none enters an interior.
 #[test]
 fn wires_lay_the_refined_tree() {
     for (name, net) in allowed(8) {
         let laid = refine(&net, &terminal(&net));
         let drawn = wires(&laid.edges);
-        let mut length = 0;
+        let (mut length, mut cost) = (0, 0);
         for wire in &drawn {
             let (dx, dy) = (wire.end.x - wire.start.x, wire.end.y - wire.start.y);
             assert!((dx > 0) != (dy != 0), "{name}");
             assert!(clear(&net, wire.start, wire.end), "{name}");
             length += wire.start.distance(wire.end);
+            cost += net.weights().cost(wire.start, wire.end);
         }
-        assert_eq!(length, laid.total, "{name}");
+        assert_eq!((length, cost), (laid.metal, laid.total), "{name}");
     }
 }

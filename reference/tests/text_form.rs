@@ -4,6 +4,7 @@ mod common;
 
 use reference::generate::{hostile, Hostile};
 use reference::lists::Lists;
+use reference::net::Weights;
 use reference::text::{parse, print};
 
 #[test]
@@ -31,10 +32,11 @@ fn the_form() {
     let lists = Lists {
         pins: vec![1, -2, i32::MIN, i32::MAX],
         macros: vec![0, 0, 3, 4],
+        weights: Weights { x: 2, y: i32::MIN },
     };
-    let text = "pin 1 -2\npin -2147483648 2147483647\nmacro 0 0 3 4\n";
+    let text = "weights 2 -2147483648\npin 1 -2\npin -2147483648 2147483647\nmacro 0 0 3 4\n";
     assert_eq!(print(&lists), text);
-    let loose = "# a net\n\n  macro 0 0\t3 4 # beside it\r\npin 1 -2\npin -2147483648 2147483647";
+    let loose = "# a net\n\n  macro 0 0\t3 4 # beside it\r\npin 1 -2\nweights 2 -2147483648\npin -2147483648 2147483647";
     assert_eq!(parse(loose), Ok(lists));
 }
 
@@ -44,6 +46,7 @@ fn left_over_numbers_show() {
     let lists = Lists {
         pins: vec![1, 2, 3],
         macros: vec![4, 5],
+        ..Lists::default()
     };
     let text = "pin 1 2\n# left over: pin 3\n# left over: macro 4 5\n";
     assert_eq!(print(&lists), text);
@@ -54,10 +57,19 @@ fn bad_lines_say_where_and_what() {
     for (text, said) in [
         (
             "pin 1 2\npan 3 4\n",
-            "line 2: 'pan' is neither 'pin' nor 'macro'",
+            "line 2: 'pan' is neither 'pin' nor 'macro' nor 'weights'",
         ),
         ("\n\npin 1", "line 3: a pin needs a number for y"),
         ("macro 1 2 3", "line 1: a macro needs a number for top"),
+        ("weights 1", "line 1: weights need a number for y"),
+        (
+            "weights 1 2\n# but\nweights 1 2",
+            "line 3: a second line of weights",
+        ),
+        (
+            "weights 1 2 3",
+            "line 1: '3' stands after the end of the weights",
+        ),
         ("pin 1 2 3", "line 1: '3' stands after the end of the pin"),
         (
             "pin 1.5 2",

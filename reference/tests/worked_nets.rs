@@ -2,7 +2,7 @@
 
 use reference::edge::Edge;
 use reference::graph::graph;
-use reference::net::{check, Place};
+use reference::net::{check, Place, Weights};
 use reference::netfile;
 use reference::operations;
 use reference::refined::refined;
@@ -21,20 +21,20 @@ fn edge(a: (i64, i64), b: (i64, i64)) -> Edge {
 
 /// The totals of both trees.
 fn totals(pins: &[i32], macros: &[i32]) -> (i64, i64) {
-    let net = check(pins, macros).expect("an allowed net");
+    let net = check(pins, macros, Weights::ONE).expect("an allowed net");
     (terminal(&net).total, refined(&net).total)
 }
 
 /// The bridges and lengths of the kept paths.
 fn paths(pins: &[i32], macros: &[i32]) -> Vec<(Edge, i64)> {
-    let net = check(pins, macros).expect("an allowed net");
+    let net = check(pins, macros, Weights::ONE).expect("an allowed net");
     let paths = terminal(&net).paths;
-    paths.iter().map(|p| (p.bridge, p.length)).collect()
+    paths.iter().map(|p| (p.bridge, p.cost)).collect()
 }
 
 #[test]
 fn one_pin() {
-    let net = check(&[5, 5], &[]).unwrap();
+    let net = check(&[5, 5], &[], Weights::ONE).unwrap();
     assert_eq!(graph(&net).vertices, [place(5, 5)]);
     assert_eq!(graph(&net).edges, []);
     assert_eq!(terminal(&net).paths, []);
@@ -44,13 +44,13 @@ fn one_pin() {
 
 #[test]
 fn no_pin() {
-    assert_eq!(operations::check(&[], &[]), Err(11));
+    assert_eq!(operations::check(&[], &[], Weights::ONE), Err(11));
 }
 
 #[test]
 fn around_a_macro() {
     let (pins, macros) = ([0, 0, 10, 0], [4, -2, 6, 3]);
-    let net = check(&pins, &macros).unwrap();
+    let net = check(&pins, &macros, Weights::ONE).unwrap();
     assert_eq!(graph(&net).edges.len(), 8);
     assert_eq!(paths(&pins, &macros), [(edge((4, -2), (6, -2)), 14)]);
     let along = [(0, 0), (4, -2), (6, -2), (10, 0)].map(|(x, y)| place(x, y));
@@ -62,7 +62,7 @@ fn around_a_macro() {
 fn three_pins() {
     let pins = [0, 0, 4, 0, 2, 3];
     assert_eq!(totals(&pins, &[]), (9, 7));
-    let net = check(&pins, &[]).unwrap();
+    let net = check(&pins, &[], Weights::ONE).unwrap();
     let drawn = wires(&refined(&net).edges);
     let expected = [((0, 0), (2, 0)), ((2, 0), (2, 3)), ((2, 0), (4, 0))].map(|(a, b)| Wire {
         start: place(a.0, a.1),
@@ -75,7 +75,7 @@ fn three_pins() {
 fn along_a_shared_side() {
     let (pins, macros) = ([2, -1, 2, 3], [0, 0, 2, 2, 2, 0, 4, 2]);
     assert_eq!(totals(&pins, &macros), (4, 4));
-    let net = check(&pins, &macros).unwrap();
+    let net = check(&pins, &macros, Weights::ONE).unwrap();
     assert!(refined(&net).edges.contains(&edge((2, 0), (2, 2))));
 }
 
@@ -89,44 +89,59 @@ fn pins_on_opposite_sides_of_a_macro() {
 #[test]
 fn overlapping_macros() {
     let macros = [0, 0, 2, 2, 1, 1, 3, 3];
-    assert_eq!(operations::check(&[9, 9], &macros), Err(16));
+    assert_eq!(operations::check(&[9, 9], &macros, Weights::ONE), Err(16));
 }
 
 #[test]
 fn pins_at_a_macro() {
     let four = [4, -2, 6, 3];
-    assert_eq!(operations::check(&[4, 0], &four), Ok(()));
-    assert_eq!(operations::check(&[5, 0], &four), Err(17));
-    assert_eq!(operations::check(&[5, 0, 5, 0], &four), Err(15));
+    assert_eq!(operations::check(&[4, 0], &four, Weights::ONE), Ok(()));
+    assert_eq!(operations::check(&[5, 0], &four, Weights::ONE), Err(17));
+    assert_eq!(
+        operations::check(&[5, 0, 5, 0], &four, Weights::ONE),
+        Err(15)
+    );
 }
 
 #[test]
 fn flat_macro() {
-    assert_eq!(operations::check(&[9, 9], &[3, 0, 3, 5]), Err(14));
+    assert_eq!(
+        operations::check(&[9, 9], &[3, 0, 3, 5], Weights::ONE),
+        Err(14)
+    );
 }
 
 #[test]
 fn bounds() {
     for bound in [1_000_000i32, -1_000_000] {
         let past = bound + bound.signum();
-        assert_eq!(operations::check(&[bound, 0, 0, bound], &[]), Ok(()));
-        assert_eq!(operations::check(&[past, 0], &[]), Err(13));
-        assert_eq!(operations::check(&[0, past], &[]), Err(13));
+        assert_eq!(
+            operations::check(&[bound, 0, 0, bound], &[], Weights::ONE),
+            Ok(())
+        );
+        assert_eq!(operations::check(&[past, 0], &[], Weights::ONE), Err(13));
+        assert_eq!(operations::check(&[0, past], &[], Weights::ONE), Err(13));
     }
     let corner = [999_999, 999_999, 1_000_000, 1_000_000];
-    assert_eq!(operations::check(&[0, 0], &corner), Ok(()));
+    assert_eq!(operations::check(&[0, 0], &corner, Weights::ONE), Ok(()));
     let past = [999_999, 999_999, 1_000_001, 1_000_000];
-    assert_eq!(operations::check(&[0, 0], &past), Err(13));
+    assert_eq!(operations::check(&[0, 0], &past, Weights::ONE), Err(13));
     let pins = |count: i32| (0..count).flat_map(|i| [i, 0]).collect::<Vec<i32>>();
-    assert_eq!(operations::check(&pins(64), &[]), Ok(()));
-    assert_eq!(operations::check(&pins(65), &[]), Err(11));
+    assert_eq!(operations::check(&pins(64), &[], Weights::ONE), Ok(()));
+    assert_eq!(operations::check(&pins(65), &[], Weights::ONE), Err(11));
     let macros = |count: i32| {
         (0..count)
             .flat_map(|i| [i, 0, i + 1, 1])
             .collect::<Vec<i32>>()
     };
-    assert_eq!(operations::check(&[0, 0], &macros(64)), Ok(()));
-    assert_eq!(operations::check(&[0, 0], &macros(65)), Err(12));
+    assert_eq!(
+        operations::check(&[0, 0], &macros(64), Weights::ONE),
+        Ok(())
+    );
+    assert_eq!(
+        operations::check(&[0, 0], &macros(65), Weights::ONE),
+        Err(12)
+    );
 }
 
 #[test]
@@ -139,7 +154,7 @@ fn distance_at_both_ends_of_the_range() {
 fn printed_example() {
     let lists = parse("pin 0 0\npin 4 0\npin 2 3\n").unwrap();
     let printed = "\
-pins 3 macros 0 terminal 9 refined 7
+pins 3 macros 0 terminal 9 refined 7 metal 7
 0 0 2 0 2
 2 0 2 3 3
 2 0 4 0 2

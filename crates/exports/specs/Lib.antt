@@ -1,1 +1,6 @@
--- The exported functions cite the definitions of the crates below.
+-- What the exports leave to a caller in C: one record each, which the contracts name.
+--
+--   Handed   GraphHanded, PathsHanded, TreeHanded     of a graph, a terminal tree, a refined tree
+--            ListHanded, ChargeHanded                 of wires and of a file that is written; of a price
+--            NetHanded, Read                          of a file that is read, and the four numbers that it gives through pointers
+pub mod Handed

@@ -9,11 +9,11 @@ use Rattle.signed.specs.Order.{minZ, maxZ}
 use Rattle.plane.specs.declared.Place.{Place}
 use Rattle.plane.specs.Place.{place, before}
 use Rattle.plane.specs.Distance.{apart}
-use Rattle.plane.specs.Cost.{cost}
+use Rattle.plane.specs.Cost.{cost, plain}
 use Rattle.plane.specs.Macro.{spanMeets, meets, clear}
 use Rattle.plane.specs.Flat.{macrosOf}
 use Rattle.net.specs.Pins.{pinPlaces}
-use Rattle.net.specs.Net.{netOf}
+use Rattle.net.specs.Net.{netWith}
 use Rattle.net.specs.WorkedNets.{Lists, onePin, aroundOne, threePins, sharedSide, onSides, onBoundary}
 use Rattle.graph.specs.Vertices.{cornersOf, corners, vertices}
 use Rattle.graph.specs.Pick.{within, nearer, better, pickFrom, pick}
@@ -24,7 +24,7 @@ use Rattle.graph.specs.Spanning.{spanning}
 unfoldable pub graphOf : Lists → List (Place × Place)
 unfolding any put sorted firstThen minZ maxZ before apart cost spanMeets meets clear pinPlaces macrosOf cornersOf corners vertices
     within nearer better pickFrom pick edgeOf beforeEdge edgeOfPick picksOf allPicks edges
-graphOf net = spanning (netOf (net .pins) (net .macros))
+graphOf net = spanning (netWith plain (net .pins) (net .macros))
 
 -- an edge by its four numbers
 abbrev edge : ℤ → ℤ → ℤ → ℤ → Place × Place

@@ -1,6 +1,7 @@
-// E12 to E14: checks nets at the bounds and one past them, and writes each answer on a line of its own.
+// E12 to E14 and E20: checks nets at the bounds and one past them, and writes each answer on a line of its own.
 use net::Checked;
 use net::Net;
+use net::Weighing;
 ghost use mathlib.Core.Path.{_≡_};
 ghost use Prim.Native.Nat.{_+_, _*_, _≤_};
 ghost use lib.ListN.{length};
@@ -17,6 +18,14 @@ fn say(answer: Checked) {
             io::print_decimal(1, refusal.number() as u64);
             io::write_all(1, b"\n");
         }
+    }
+}
+
+// Weights 1 and 1.
+fn plain() -> Weighing {
+    Weighing {
+        first: 1,
+        second: 1,
     }
 }
 
@@ -39,27 +48,33 @@ fn counted_up() -> [i32; NUMBERS]
 fn coordinates() {
     io::write_all(1, b"coordinates 1000000 and -1000000: ");
     say(router::check(
+        plain(),
         &[1000000, -1000000],
         &[-1000000, -1000000, 1000000, 1000000],
     ));
     io::write_all(1, b"coordinate 1000001: ");
-    say(router::check(&[0, 1000001], &[0i32; 0]));
+    say(router::check(plain(), &[0, 1000001], &[0i32; 0]));
     io::write_all(1, b"coordinate -1000001: ");
-    say(router::check(&[0, 0], &[-1000001, 0, 1, 1]));
+    say(router::check(plain(), &[0, 0], &[-1000001, 0, 1, 1]));
 }
 
 // The first n numbers as pins.
 fn pins(numbers: &[i32], n: usize)
     requires { ⌜ n ≤ length (now numbers) ⌝ }
 {
-    say(router::check(&numbers[..n], &[0i32; 0]));
+    say(router::check(plain(), &numbers[..n], &[0i32; 0]));
 }
 
 // The first n numbers as macros.
 fn macros(numbers: &[i32], n: usize)
     requires { ⌜ n ≤ length (now numbers) ⌝ }
 {
-    say(router::check(&[0, 0], &numbers[..n]));
+    say(router::check(plain(), &[0, 0], &numbers[..n]));
+}
+
+// One pin with these weights.
+fn weights(first: i32, second: i32) {
+    say(router::check(Weighing { first, second }, &[0, 0], &[0i32; 0]));
 }
 
 fn main() {
@@ -73,4 +88,10 @@ fn main() {
     macros(&numbers, Net::MACROS * Net::MACRO_NUMBERS);
     io::write_all(1, b"65 macros: ");
     macros(&numbers, (Net::MACROS + 1) * Net::MACRO_NUMBERS);
+    io::write_all(1, b"weights 1 and 8: ");
+    weights(1, 8);
+    io::write_all(1, b"weight 0: ");
+    weights(0, 1);
+    io::write_all(1, b"weight 9: ");
+    weights(1, Net::WEIGHT + 1);
 }

@@ -6,10 +6,11 @@ use mathlib.Core.List.{List}
 use Prim.Native.Nat.{_≤_, _%_}
 use native.Mathlib.Omega.{arith}
 use borrow.Author.Tests.{eq-eqb, ne-eqb, le-ltb, not-false}
-use lib.Dec.{lit≤}
-use lib.IntN.{ℤ}
+use lib.IntN.{ℤ, pos}
 use lib.ListN.{length}
 use lib.Signed.{ltZ}
+use Rattle.signed.specs.Sides.{up}
+use Rattle.signed.proofs.SideLaws.{ltZ-false, le-ltZ, eq-of, up-pos, down-pos, one-side, signed}
 use Rattle.lists.proofs.TestLaws.{or-none, or-neither}
 use Rattle.lists.proofs.AnyLaws.{any-none, none-any, two-none, none-two}
 use Rattle.lent.specs.Told.{given}
@@ -18,17 +19,19 @@ use Rattle.plane.specs.declared.Macro.{Macro}
 use Rattle.plane.specs.Place.{samePlace}
 use Rattle.plane.specs.Macro.{inside, interiorsMeet}
 use Rattle.plane.specs.Flat.{macrosOf}
-use Rattle.plane.specs.Cost.{plain, Positive}
+use Rattle.plane.specs.Cost.{Positive}
 use Rattle.plane.proofs.FlatLaws.{length-macros}
-use Rattle.net.specs.Bounds.{pinBound, macroBound, pinWidth, macroWidth}
+use Rattle.net.specs.Bounds.{pinBound, macroBound, weightBound, pinWidth, macroWidth}
+use Rattle.net.specs.declared.Weighing.{Weighing}
 use Rattle.net.specs.declared.Net.{Net as Counts}
 use Rattle.net.specs.Pins.{pinCount, pinPlaces, macroCount}
-use Rattle.net.specs.Net.{Net, netOf}
-use Rattle.net.specs.Check.{countsOf, pinsMiscounted, macrosMiscounted, outOfRange, notUpright, insideAny, checked}
+use Rattle.net.specs.Net.{Net, netOf, weightsOf}
+use Rattle.net.specs.Check.{countsOf, pinsMiscounted, macrosMiscounted, outOfRange, notUpright, insideAny, noWeight, weightsWrong}
+use Rattle.net.specs.Check.{checked}
 use Rattle.net.specs.Allowed.{Whole, PlaceInRange, MacroInRange, Upright, Weighted, Allowed}
 use Rattle.net.proofs.PinLaws.{length-pins}
 use Rattle.net.proofs.RangeLaws.{placeOut, macroOut, range-of-pins, range-of-macros}
-use Rattle.net.proofs.CheckLaws.{Past17, allow}
+use Rattle.net.proofs.CheckLaws.{Past18, allow}
 use Rattle.net.proofs.PassedLaws.{passed-all, pins-counted, macros-counted}
 
 -- the counts: the other way of what was counted
@@ -74,18 +77,52 @@ of-macro m r = or-neither _ _ (r .left) (or-neither _ _ (r .bottom) (or-neither 
 given-one : (v u : Counts) → given v ≡ given u → v ≡ u
 given-one v u e = cc
 
--- the weights that the check gives are allowed, and allowed ones are positive
-plain-weighted : Weighted plain
-plain-weighted = record { positive = record { across = lit≤ tt; along = lit≤ tt }; across = lit≤ tt; along = lit≤ tt }
+-- C18: what passes for a weight is from 1 to 8, and all that is
+module _ (z : ℤ) where
+  pub weight-within : noWeight z ≡ false → (1 ≤ up z) × (up z ≤ weightBound)
+  unfolding noWeight
+  weight-within e =
+      let r = or-none (ltZ z (pos 1)) (ltZ (pos weightBound) z) e in
+      let low = ltZ-false z (pos 1) (r .0) in
+      let high = ltZ-false (pos weightBound) z (r .1) in
+      (omega (signed, low, up-pos 1, down-pos 1, one-side z), omega (signed, high, up-pos weightBound, down-pos weightBound, one-side z))
 
+  -- so it is a natural number
+  pub weight-is : noWeight z ≡ false → z ≡ pos (up z)
+  weight-is e = eq-of z (pos (up z)) (omega (arith, weight-within e, one-side z, up-pos (up z), down-pos (up z)))
+
+  within-weight : 1 ≤ up z → up z ≤ weightBound → noWeight z ≡ false
+  unfolding noWeight
+  within-weight h k =
+      or-neither _ _ (le-ltZ z (pos 1) (omega (signed, h, up-pos 1, down-pos 1, one-side z)))
+      (le-ltZ (pos weightBound) z (omega (signed, k, up-pos weightBound, down-pos weightBound)))
+
+-- C18, of both
+module _ (w : Weighing) where
+  pub weights-within : weightsWrong w ≡ false → Weighted (weightsOf w)
+  unfolding weightsWrong
+  weights-within e =
+      let r = or-none (noWeight (w .first)) (noWeight (w .second)) e in
+      let a = weight-within (w .first) (r .0) in
+      let b = weight-within (w .second) (r .1) in
+      record { positive = record { across = a .0; along = b .0 }; across = a .1; along = b .1 }
+
+  pub within-weights : Weighted (weightsOf w) → weightsWrong w ≡ false
+  unfolding weightsWrong
+  within-weights h =
+      or-neither _ _ (within-weight (w .first) (h .positive .across) (h .across))
+      (within-weight (w .second) (h .positive .along) (h .along))
+
+-- allowed weights are positive
 pub allowed-positive : {net : Net} → Allowed net → Positive (net .weights)
 allowed-positive a = a .weighted .positive
 
-module _ (pins macros : List ℤ) where
+module _ (w : Weighing) (pins macros : List ℤ) where
   -- what the check allows is allowed in words
-  past-allowed : Past17 pins macros → Whole pins macros × Allowed (netOf pins macros)
+  past-allowed : Past18 w pins macros → Whole pins macros × Allowed (netOf w pins macros)
   unfolding insideAny
-  past-allowed p17 =
+  past-allowed p18 =
+      let p17 = p18 .past in
       let p16 = p17 .past in
       let p15 = p16 .past in
       let p14 = p15 .past in
@@ -99,7 +136,7 @@ module _ (pins macros : List ℤ) where
           some-pin = rw (length-pins pins) (m .some);
           few-pins = rw (length-pins pins) (m .few);
           few-macros = rw (length-macros macros) (k .few);
-          weighted = plain-weighted;
+          weighted = weights-within w (p18 .passed);
           pins-in-range = λ p i. place-of p (in-pins p i);
           macros-in-range = λ n i. macro-of n (in-macros n i);
           upright = λ n i. upright-of n (any-none notUpright (macrosOf macros) (p14 .passed) n i);
@@ -111,45 +148,49 @@ module _ (pins macros : List ℤ) where
       )
 
   -- and the other way
-  allowed-past : Whole pins macros → Allowed (netOf pins macros) → Past17 pins macros
+  allowed-past : Whole pins macros → Allowed (netOf w pins macros) → Past18 w pins macros
   unfolding insideAny
-  allowed-past w a =
+  allowed-past whole a =
       record {
-        past = record {
-          past = record {
-            past = record {
+        past =
+            record {
               past = record {
                 past = record {
                   past = record {
                     past = record {
-                      passed = pairs-whole pins (w .pairs) (rw (length-pins pins) at (a .some-pin))
-                          (rw (length-pins pins) at (a .few-pins));
+                      past = record {
+                        past = record {
+                          past = record {
+                            passed = pairs-whole pins (whole .pairs) (rw (length-pins pins) at (a .some-pin))
+                                (rw (length-pins pins) at (a .few-pins));
+                          };
+                          passed = fours-whole macros (whole .fours) (rw (length-macros macros) at (a .few-macros));
+                        };
+                        passed = range-of-pins pins (whole .pairs) ∙ none-any placeOut (pinPlaces pins) (λ p i. of-place p (a .pins-in-range p i));
+                      };
+                      passed = range-of-macros macros (whole .fours) ∙ none-any macroOut (macrosOf macros)
+                          (λ n i. of-macro n (a .macros-in-range n i));
                     };
-                    passed = fours-whole macros (w .fours) (rw (length-macros macros) at (a .few-macros));
+                    passed = none-any notUpright (macrosOf macros) (λ n i. of-upright n (a .upright n i));
                   };
-                  passed = range-of-pins pins (w .pairs) ∙ none-any placeOut (pinPlaces pins) (λ p i. of-place p (a .pins-in-range p i));
+                  passed = none-two samePlace (pinPlaces pins) (a .pins-apart);
                 };
-                passed = range-of-macros macros (w .fours) ∙ none-any macroOut (macrosOf macros)
-                    (λ n i. of-macro n (a .macros-in-range n i));
+                passed = none-two interiorsMeet (macrosOf macros) (a .macros-apart);
               };
-              passed = none-any notUpright (macrosOf macros) (λ n i. of-upright n (a .upright n i));
+              passed = none-any (insideAny (macrosOf macros)) (pinPlaces pins)
+                  (λ p i. none-any (inside p) (macrosOf macros) (a .pins-outside p i));
             };
-            passed = none-two samePlace (pinPlaces pins) (a .pins-apart);
-          };
-          passed = none-two interiorsMeet (macrosOf macros) (a .macros-apart);
-        };
-        passed = none-any (insideAny (macrosOf macros)) (pinPlaces pins)
-            (λ p i. none-any (inside p) (macrosOf macros) (a .pins-outside p i));
+        passed = within-weights w (a .weighted);
       }
 
   -- what the check gives is what the lists hold
-  pub given-counts : {v : Counts} → checked pins macros ≡ given v → v ≡ countsOf pins macros
-  given-counts {v} g = given-one v (countsOf pins macros) (sym g ∙ allow pins macros (passed-all pins macros v g))
+  pub given-counts : {v : Counts} → checked w pins macros ≡ given v → v ≡ countsOf w pins macros
+  given-counts {v} g = given-one v (countsOf w pins macros) (sym g ∙ allow w pins macros (passed-all w pins macros v g))
 
   -- the theorem, both ways
-  pub given-allowed : {v : Counts} → checked pins macros ≡ given v → Whole pins macros × Allowed (netOf pins macros)
-  given-allowed {v} g = past-allowed (passed-all pins macros v g)
+  pub given-allowed : {v : Counts} → checked w pins macros ≡ given v → Whole pins macros × Allowed (netOf w pins macros)
+  given-allowed {v} g = past-allowed (passed-all w pins macros v g)
 
-  pub allowed-given : Whole pins macros → Allowed (netOf pins macros) → checked pins macros
-      ≡ given (countsOf pins macros)
-  allowed-given w a = allow pins macros (allowed-past w a)
+  pub allowed-given : Whole pins macros → Allowed (netOf w pins macros) → checked w pins macros
+      ≡ given (countsOf w pins macros)
+  allowed-given whole a = allow w pins macros (allowed-past whole a)

@@ -22,6 +22,7 @@ use Rattle.plane.proofs.FlatLaws.{macros-flat, length-flat-macros}
 use Rattle.net.specs.Bounds.{pinWidth, macroWidth}
 use Rattle.net.specs.Pins.{pinPlaces, flatPins}
 use Rattle.net.specs.Check.{pinsMiscounted, macrosMiscounted, outOfRange, notUpright, insideAny, checked}
+use Rattle.net.specs.declared.Weighing.{Weighing}
 use Rattle.net.specs.Order.{SamePins, SameMacros}
 use Rattle.net.proofs.PinLaws.{same-pins, pins-flat, length-flat-pins}
 use Rattle.net.proofs.RangeLaws.{placeOut, macroOut, range-of-pins, range-of-macros}
@@ -32,7 +33,7 @@ inside-perm : (ms ns : List Macro) → Perm ms ns → (p : Place) → insideAny 
 unfolding insideAny
 inside-perm ms ns q p = any-perm (inside p) ms ns q
 
-module _ (pins pins′ macros macros′ : List ℤ) (p : SamePins pins pins′) (q : SameMacros macros macros′) where
+module _ (w : Weighing) (pins pins′ macros macros′ : List ℤ) (p : SamePins pins pins′) (q : SameMacros macros macros′) where
   same-pin-count : pinsMiscounted pins ≡ pinsMiscounted pins′
   unfolding pinsMiscounted
   same-pin-count = rw (p .many, same-pins pins pins′ (p .many)) refl
@@ -54,7 +55,7 @@ module _ (pins pins′ macros macros′ : List ℤ) (p : SamePins pins pins′) 
       any-perm (insideAny (macrosOf macros)) _ _ (p .order)
       ∙ any-agree (insideAny (macrosOf macros)) (insideAny (macrosOf macros′)) (inside-perm _ _ (q .order)) (pinPlaces pins′)
 
-  whole-order : length pins % pinWidth ≡ 0 → length macros % macroWidth ≡ 0 → checked pins macros ≡ checked pins′ macros′
+  whole-order : length pins % pinWidth ≡ 0 → length macros % macroWidth ≡ 0 → checked w pins macros ≡ checked w pins′ macros′
   unfolding checked
   whole-order e f =
       rw (
@@ -70,20 +71,20 @@ module _ (pins pins′ macros macros′ : List ℤ) (p : SamePins pins pins′) 
       )
       refl
 
-  pub check-order : checked pins macros ≡ checked pins′ macros′
+  pub check-order : checked w pins macros ≡ checked w pins′ macros′
   check-order =
-      by (pinsMiscounted pins) (λ e. refuse-11 pins macros e ∙ sym (refuse-11 pins′ macros′ (sym same-pin-count ∙ e))) λ e.
+      by (pinsMiscounted pins) (λ e. refuse-11 w pins macros e ∙ sym (refuse-11 w pins′ macros′ (sym same-pin-count ∙ e))) λ e.
       by (macrosMiscounted macros)
-      (λ f. refuse-12 pins macros (record { passed = e }) f
-      ∙ sym (refuse-12 pins′ macros′ (record { passed = sym same-pin-count ∙ e }) (sym same-macro-count ∙ f)))
+      (λ f. refuse-12 w pins macros (record { passed = e }) f
+      ∙ sym (refuse-12 w pins′ macros′ (record { passed = sym same-pin-count ∙ e }) (sym same-macro-count ∙ f)))
       λ f.
       whole-order (pins-counted pins e .whole) (macros-counted macros f .whole)
 
 -- of lists of places and macros
-pub check-reordered : (ps ps′ : List Place) (ms ms′ : List Macro) → Perm ps ps′ → Perm ms ms′
-    → checked (flatPins ps) (flatMacros ms) ≡ checked (flatPins ps′) (flatMacros ms′)
-check-reordered ps ps′ ms ms′ p q =
-    check-order (flatPins ps) (flatPins ps′) (flatMacros ms) (flatMacros ms′)
+pub check-reordered : (w : Weighing) (ps ps′ : List Place) (ms ms′ : List Macro) → Perm ps ps′ → Perm ms ms′
+    → checked w (flatPins ps) (flatMacros ms) ≡ checked w (flatPins ps′) (flatMacros ms′)
+check-reordered w ps ps′ ms ms′ p q =
+    check-order w (flatPins ps) (flatPins ps′) (flatMacros ms) (flatMacros ms′)
     (record {
       many = length-flat-pins ps ∙ ap (λ (n : ℕ). n * pinWidth) (length-perm ps ps′ p) ∙ sym (length-flat-pins ps′);
       order = rw (pins-flat ps, pins-flat ps′) p;

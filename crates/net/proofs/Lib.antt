@@ -4,7 +4,9 @@ pub mod CheckLaws
 pub mod PassedLaws
 pub mod RangeLaws
 pub mod AllowedLaws
+pub mod HandedLaws
 pub mod CheckOrder
 pub mod RangeBounds
 pub mod ApartLaws
+pub mod WeighingFits
 pub mod WorkedChecks

@@ -4,7 +4,7 @@ use Prim.Native.Nat.{_≤_}
 use lib.Dec.{lit≤}
 use Rattle.net.specs.declared.Refusal.{Refusal}
 use Rattle.net.specs.declared.Refusal.the-variants.{Blocks, Sums, Layout, PinList, MacroList, Range, Sides, SamePlace, Overlap}
-use Rattle.net.specs.declared.Refusal.the-variants.{PinInside, Space, Bands, Reach}
+use Rattle.net.specs.declared.Refusal.the-variants.{PinInside, WeightRange, Space, Bands, Reach}
 use Rattle.net.specs.Answer.{number}
 
 pub number-bounds : (f : Refusal) → (1 ≤ number f) × (number f ≤ 32)
@@ -19,6 +19,7 @@ number-bounds Sides = (lit≤ tt, lit≤ tt)
 number-bounds SamePlace = (lit≤ tt, lit≤ tt)
 number-bounds Overlap = (lit≤ tt, lit≤ tt)
 number-bounds PinInside = (lit≤ tt, lit≤ tt)
+number-bounds WeightRange = (lit≤ tt, lit≤ tt)
 number-bounds Space = (lit≤ tt, lit≤ tt)
 number-bounds Bands = (lit≤ tt, lit≤ tt)
 number-bounds Reach = (lit≤ tt, lit≤ tt)

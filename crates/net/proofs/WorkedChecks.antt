@@ -1,36 +1,48 @@
--- The check of the worked nets E1 to E11, by computing the definition.
+-- The check of the worked nets E1 to E11, and with weights E19 and E20, by computing the definition.
 -- Assumes nothing.
 use mathlib.Core.Path.{_≡_, refl}
+use lib.IntN.{pos, negsuc}
 use Rattle.lists.specs.Any.{any, anyTwo}
 use Rattle.signed.specs.Order.{minZ, maxZ}
 use Rattle.plane.specs.Place.{samePlace}
 use Rattle.plane.specs.Macro.{inside, openSpansMeet, interiorsMeet}
 use Rattle.plane.specs.Flat.{macrosOf}
+use Rattle.signed.specs.Sides.{up}
 use Rattle.lent.specs.Told.{Told, refused, given}
 use Rattle.net.specs.declared.Net.{Net}
+use Rattle.net.specs.declared.Weighing.{Weighing}
+use Rattle.net.specs.Net.{weighing, plainly}
 use Rattle.net.specs.Pins.{pinCount, pinPlaces}
-use Rattle.net.specs.Check.{pinsMiscounted, macrosMiscounted, outOfRange, notUpright, insideAny, counted, checked}
+use Rattle.net.specs.Check.{pinsMiscounted, macrosMiscounted, outOfRange, notUpright, insideAny, noWeight, weightsWrong}
+use Rattle.net.specs.Check.{counted, checked}
 use Rattle.net.specs.WorkedNets.{Lists, onePin, noPin, aroundOne, threePins, sharedSide, onSides, overlapping, onBoundary, inInterior}
 use Rattle.net.specs.WorkedNets.{twiceInInterior, noWidth}
 
--- the check of a net; to unfold this is to unfold all that it rests on
-unfoldable pub answer : Lists → Told Net
-unfolding any anyTwo minZ maxZ samePlace inside openSpansMeet interiorsMeet pinCount pinPlaces macrosOf pinsMiscounted macrosMiscounted
-    outOfRange notUpright insideAny checked
-answer net = checked (net .pins) (net .macros)
+-- the check of a net with these weights; to unfold this is to unfold all that it rests on
+unfoldable pub answer : Weighing → Lists → Told Net
+unfolding up any anyTwo minZ maxZ samePlace inside openSpansMeet interiorsMeet pinCount pinPlaces macrosOf pinsMiscounted macrosMiscounted
+    outOfRange notUpright insideAny noWeight weightsWrong checked
+answer w net = checked w (net .pins) (net .macros)
 
 pub record Table : Type 0 where
-  pub one-pin : answer onePin ≡ given (counted 1 0)
-  pub no-pin : answer noPin ≡ refused 11
-  pub around-one : answer aroundOne ≡ given (counted 2 1)
-  pub three-pins : answer threePins ≡ given (counted 3 0)
-  pub shared-side : answer sharedSide ≡ given (counted 2 2)
-  pub on-sides : answer onSides ≡ given (counted 2 1)
-  pub overlap : answer overlapping ≡ refused 16
-  pub on-boundary : answer onBoundary ≡ given (counted 1 1)
-  pub in-interior : answer inInterior ≡ refused 17
-  pub twice-in-interior : answer twiceInInterior ≡ refused 15
-  pub no-width : answer noWidth ≡ refused 14
+  pub one-pin : answer plainly onePin ≡ given (counted plainly 1 0)
+  pub no-pin : answer plainly noPin ≡ refused 11
+  pub around-one : answer plainly aroundOne ≡ given (counted plainly 2 1)
+  pub three-pins : answer plainly threePins ≡ given (counted plainly 3 0)
+  pub shared-side : answer plainly sharedSide ≡ given (counted plainly 2 2)
+  pub on-sides : answer plainly onSides ≡ given (counted plainly 2 1)
+  pub overlap : answer plainly overlapping ≡ refused 16
+  pub on-boundary : answer plainly onBoundary ≡ given (counted plainly 1 1)
+  pub in-interior : answer plainly inInterior ≡ refused 17
+  pub twice-in-interior : answer plainly twiceInInterior ≡ refused 15
+  pub no-width : answer plainly noWidth ≡ refused 14
+  -- E20: weights 1 and 3 are given; 0, 9 and a negative one are refused, after all that the net has of its own
+  pub weighted : answer (weighing (pos 1) (pos 3)) threePins ≡ given (counted (weighing (pos 1) (pos 3)) 3 0)
+  pub no-weight : answer (weighing (pos 0) (pos 1)) threePins ≡ refused 18
+  pub much-weight : answer (weighing (pos 8) (pos 9)) threePins ≡ refused 18
+  pub below-weight : answer (weighing (negsuc 0) (pos 1)) threePins ≡ refused 18
+  pub overlap-first : answer (weighing (pos 9) (pos 9)) overlapping ≡ refused 16
+  pub inside-first : answer (weighing (pos 9) (pos 9)) inInterior ≡ refused 17
 
 pub worked-checks : Table
 unfolding answer
@@ -46,4 +58,10 @@ worked-checks = record {
   in-interior = refl;
   twice-in-interior = refl;
   no-width = refl;
+  weighted = refl;
+  no-weight = refl;
+  much-weight = refl;
+  below-weight = refl;
+  overlap-first = refl;
+  inside-first = refl;
 }

@@ -2,7 +2,7 @@
 use Prim.Native.Nat.{ℕ}
 use Rattle.net.specs.declared.Refusal.{Refusal}
 use Rattle.net.specs.declared.Refusal.the-variants.{Blocks, Sums, Layout, PinList, MacroList, Range, Sides, SamePlace, Overlap}
-use Rattle.net.specs.declared.Refusal.the-variants.{PinInside, Space, Bands, Reach}
+use Rattle.net.specs.declared.Refusal.the-variants.{PinInside, WeightRange, Space, Bands, Reach}
 
 unfoldable pub number : Refusal → ℕ
 number Blocks = 1
@@ -15,6 +15,7 @@ number Sides = 14
 number SamePlace = 15
 number Overlap = 16
 number PinInside = 17
+number WeightRange = 18
 number Space = 21
 number Bands = 31
 number Reach = 32

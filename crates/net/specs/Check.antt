@@ -1,4 +1,4 @@
--- The check of a net: rules C11 to C17, in the order of C60.
+-- The check of a net: rules C11 to C18, in the order of C60.
 use mathlib.Core.Bool.{Bool, not, cond, _||_}
 use mathlib.Core.List.{List}
 use Prim.Native.Nat.{ℕ, _+_, _*_, _%_}
@@ -12,21 +12,22 @@ use Rattle.plane.specs.declared.Macro.{Macro}
 use Rattle.plane.specs.Place.{samePlace}
 use Rattle.plane.specs.Macro.{inside, interiorsMeet}
 use Rattle.plane.specs.Flat.{macrosOf}
-use Rattle.plane.specs.Cost.{plain}
 use Rattle.lent.specs.Told.{Told, refused, given}
-use Rattle.net.specs.Bounds.{pinBound, macroBound, coordinateBound, pinWidth, macroWidth}
+use Rattle.net.specs.Bounds.{pinBound, macroBound, coordinateBound, weightBound, pinWidth, macroWidth}
 use Rattle.net.specs.Pins.{pinCount, pinPlaces, macroCount}
 use Rattle.net.specs.Answer.{number}
+use Rattle.net.specs.Net.{weightsOf}
+use Rattle.net.specs.declared.Weighing.{Weighing}
 use Rattle.net.specs.declared.Net.{Net as Counts}
 use Rattle.net.specs.declared.Checked.{Checked}
 use Rattle.net.specs.declared.Checked.the-variants.{Allowed, Refused}
 
 -- N7: m and k, and the weights, in the code's own struct; and the points of the graph at most, n = m + 4k
-abbrev pub counted : ℕ → ℕ → Counts
-counted m k = record { pins = m; macros = k; weights = plain }
+abbrev pub counted : Weighing → ℕ → ℕ → Counts
+counted w m k = record { pins = m; macros = k; weights = weightsOf w }
 
-abbrev pub countsOf : List ℤ → List ℤ → Counts
-countsOf pins macros = counted (pinCount pins) (macroCount macros)
+abbrev pub countsOf : Weighing → List ℤ → List ℤ → Counts
+countsOf w pins macros = counted w (pinCount pins) (macroCount macros)
 
 abbrev pub pointCount : Counts → ℕ
 pointCount net = net .pins + net .macros * 4
@@ -51,9 +52,17 @@ notUpright m = not (ltZ (m .left) (m .right)) || not (ltZ (m .bottom) (m .top))
 unfoldable pub insideAny : List Macro → Place → Bool
 insideAny macros p = any (inside p) macros
 
+-- C18, for one of the two: outside 1 to 8
+unfoldable pub noWeight : ℤ → Bool
+noWeight z = ltZ z (pos 1) || ltZ (pos weightBound) z
+
+-- C18: one of the two
+unfoldable pub weightsWrong : Weighing → Bool
+weightsWrong w = noWeight (w .first) || noWeight (w .second)
+
 -- C51, C60: each test is over the whole net, and the first that applies is the answer
-unfoldable pub checked : List ℤ → List ℤ → Told Counts
-checked pins macros =
+unfoldable pub checked : Weighing → List ℤ → List ℤ → Told Counts
+checked w pins macros =
     cond (pinsMiscounted pins) (refused 11)
     (cond (macrosMiscounted macros) (refused 12)
     (cond (any outOfRange pins || any outOfRange macros) (refused 13)
@@ -63,8 +72,9 @@ checked pins macros =
     -- C16: interiors that meet
     (cond (anyTwo interiorsMeet (macrosOf macros)) (refused 16)
     (cond (any (insideAny (macrosOf macros)) (pinPlaces pins)) (refused 17)
+    (cond (weightsWrong w) (refused 18)
     -- C56: none applies, so the net is allowed
-    (given (countsOf pins macros))))))))
+    (given (countsOf w pins macros)))))))))
 
 -- what the code's answer says
 unfoldable pub told : Checked → Told Counts

@@ -10,17 +10,19 @@
 --              costBound                                 and 32,000,000
 --   Pins       pinCount, pinPlaces, pinAt, flatPins      a flat list's pins: how many, where, the i-th; and a flat list of places
 --              macroCount                                how many macros a flat list holds
---   Net        Net, netOf pins macros                    the record, and the net of two flat lists
+--   Net        Net, netOf w pins macros                  the record, and the net of two weights and two flat lists
+--              weighing a b, plainly                     two weights as handed over, and those of 1
+--              weightsOf w, handed w                     the weights that they are, and the other way
 --              costIn net a b                            what metal between two places costs in a net
 --   Answer     number f                                  the number of a refusal
---   Check      counted m k, countsOf pins macros         what the code's check gives: m, k and the weights
+--   Check      counted w m k, countsOf w pins macros     what the code's check gives: m, k and the weights
 --              pointCount counts                         m + 4k
---              pinsMiscounted .. insideAny               the tests, 11 to 17
---              checked pins macros                       the first number that applies, or what is given
+--              pinsMiscounted .. weightsWrong            the tests, 11 to 18
+--              checked w pins macros                     the first number that applies, or what is given
 --              told r                                    what the code's answer says
 --   Allowed    Allowed net                               an allowed net in words, for the theory above
 --   Order      SamePins, SameMacros                      the same entries in another order
---   WorkedNets onePin .. noWidth                         the worked nets E1 to E11
+--   WorkedNets onePin .. fourPins                        the worked nets E1 to E11 and E19
 pub mod Bounds
 pub mod Pins
 pub mod Net

@@ -1,4 +1,4 @@
--- The worked nets E1 to E11 as flat lists, named once; each crate above proves of them what it defines.
+-- The worked nets E1 to E11 and E19 as flat lists, named once; each crate above proves of them what it defines.
 use mathlib.Core.List.{List, [], _∷_, _++_}
 use lib.IntN.{ℤ, pos, negsuc}
 
@@ -60,3 +60,10 @@ twiceInInterior = record { pins = pin (pos 5) (pos 0) ++ pin (pos 5) (pos 0); ma
 -- E11: a macro without width
 abbrev pub noWidth : Lists
 noWidth = record { pins = pin (pos 9) (pos 9); macros = block (pos 3) (pos 0) (pos 3) (pos 5) }
+
+-- E19: four pins, which with weights 1 and 3 are refined to a tree of more metal than the kept paths have
+abbrev pub fourPins : Lists
+fourPins = record {
+  pins = pin (pos 3) (pos 1) ++ (pin (pos 0) (pos 0) ++ (pin (pos 2) (pos 0) ++ pin (pos 0) (pos 2)));
+  macros = [];
+}

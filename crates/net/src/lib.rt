@@ -2,16 +2,19 @@
 use plane::Macro;
 use plane::Place;
 use plane::Weights;
+ghost use mathlib.Core.Bool.{false};
 ghost use mathlib.Core.Path.{_≡_};
 ghost use Prim.Native.Nat.{_≤_, _<_};
 ghost use lib.IntN.{pos};
 ghost use lib.ListN.{drop};
 ghost use Rattle.lists.specs.Any.{any, anyTwo};
+ghost use Rattle.signed.specs.Sides.{up};
 ghost use Rattle.plane.specs.Place.{samePlace};
 ghost use Rattle.plane.specs.Macro.{interiorsMeet};
 ghost use Rattle.plane.specs.Flat.{macrosOf};
 ghost use Rattle.net.specs.Bounds.{pinBound, macroBound};
 ghost use Rattle.net.specs.Pins.{pinCount, pinPlaces, pinAt, macroCount};
+ghost use Rattle.net.specs.Net.{weightsOf, handed};
 ghost use Rattle.net.specs.Answer.{number};
 ghost use Rattle.net.specs.Check.{
   pinsMiscounted,
@@ -19,6 +22,8 @@ ghost use Rattle.net.specs.Check.{
   outOfRange,
   notUpright,
   insideAny,
+  noWeight,
+  weightsWrong,
   pointCount,
   checked,
   told,
@@ -47,7 +52,7 @@ impl Net {
     pub const COORDINATE: i32 = 1000000;
 
     // A unit of metal costs from 1 to this, along either axis.
-    pub const WEIGHT: u8 = 8;
+    pub const WEIGHT: i32 = 8;
 
     // Points of the graph: the pins and four corners of each macro.
     pub const POINTS: usize = Net::PINS + Net::MACROS * 4;
@@ -62,6 +67,12 @@ impl Net {
     pub const COST: u64 = Net::COORDINATE as u64 * 4 * Net::WEIGHT as u64;
 }
 
+// The two weights as a caller hands them over, with the lists: any two numbers. The first is that of x, the second that of y.
+pub struct Weighing {
+    pub first: i32,
+    pub second: i32,
+}
+
 // Why an operation refuses; `number` in specs/Answer.antt has the number of each (C1 to C32).
 pub enum Refusal {
     Blocks,
@@ -74,6 +85,7 @@ pub enum Refusal {
     SamePlace,
     Overlap,
     PinInside,
+    WeightRange,
     Space,
     Bands,
     Reach,
@@ -94,6 +106,7 @@ impl Refusal {
             Refusal::SamePlace => 15,
             Refusal::Overlap => 16,
             Refusal::PinInside => 17,
+            Refusal::WeightRange => 18,
             Refusal::Space => 21,
             Refusal::Bands => 31,
             Refusal::Reach => 32,
@@ -262,9 +275,49 @@ fn any_pin_inside(pins: &[i32], macros: &[i32]) -> bool
     false
 }
 
+fn is_no_weight(z: i32) -> bool
+    ensures { λ r. ⌜ r ≡ noWeight z ⌝ }
+{
+    (z < 1) | (Net::WEIGHT < z)
+}
+
+fn are_weights_wrong(w: Weighing) -> bool
+    ensures { λ r. ⌜ r ≡ weightsWrong w ⌝ }
+{
+    is_no_weight(w.first) | is_no_weight(w.second)
+}
+
+// A weight from 1 to 8 as the net's own struct has it.
+fn weight_of(z: i32) -> u8
+    requires { ⌜ noWeight z ≡ false ⌝ }
+    ensures { λ r. ⌜ r ≡ up z ⌝ }
+{
+    z as u8
+}
+
+fn weights_of(w: Weighing) -> Weights
+    requires { ⌜ weightsWrong w ≡ false ⌝ }
+    ensures { λ r. ⌜ r ≡ weightsOf w ⌝ }
+{
+    Weights {
+        across: weight_of(w.first),
+        along: weight_of(w.second),
+    }
+}
+
+// The two weights of a net as a caller hands them over.
+pub fn handed(w: Weights) -> Weighing
+    ensures { λ r. ⌜ r ≡ handed w ⌝ }
+{
+    Weighing {
+        first: w.across as i32,
+        second: w.along as i32,
+    }
+}
+
 // Check a net: the first refusal that applies, each test over the whole net before the next begins.
-pub fn check(pins: &[i32], macros: &[i32]) -> Checked
-    ensures { λ r. ⌜ told r ≡ checked (now (pins .entry)) (now (macros .entry)) ⌝ }
+pub fn check(w: Weighing, pins: &[i32], macros: &[i32]) -> Checked
+    ensures { λ r. ⌜ told r ≡ checked w (now (pins .entry)) (now (macros .entry)) ⌝ }
 {
     if pins_miscounted(pins) {
         return Checked::Refused(Refusal::PinList);
@@ -290,13 +343,12 @@ pub fn check(pins: &[i32], macros: &[i32]) -> Checked
     if any_pin_inside(pins, macros) {
         return Checked::Refused(Refusal::PinInside);
     }
-    // A unit of metal costs 1 along both axes: no caller can ask for other weights.
+    if are_weights_wrong(w) {
+        return Checked::Refused(Refusal::WeightRange);
+    }
     Checked::Allowed(Net {
         pins: pin_count(pins),
         macros: macro_count(macros),
-        weights: Weights {
-            across: 1,
-            along: 1,
-        },
+        weights: weights_of(w),
     })
 }

@@ -12,14 +12,18 @@ use Rattle.lists.proofs.TestLaws.{by, or-none}
 use Rattle.lent.specs.Told.{Told, refused, given}
 use Rattle.lent.specs.Over.{after}
 use Rattle.lent.proofs.AfterLaws.{after-refused, told-apart}
+use Rattle.plane.specs.declared.Weights.{Weights}
 use Rattle.net.specs.declared.Net.{Net as Counts}
+use Rattle.net.specs.Net.{handed}
+use Rattle.net.specs.Bounds.{weightBound}
 use Rattle.net.specs.Check.{checked}
 use Rattle.net.proofs.PinLaws.{pin-numbers}
 use Rattle.net.proofs.PassedLaws.{passed-all, pins-counted, macros-counted}
-use Rattle.netfile.specs.Sizes.{blockBytes, pinListBound, macroListBound, blocksFor, fileBlocks}
+use Rattle.netfile.specs.Sizes.{blockBytes, firstWeightWord, secondWeightWord, pinListBound, macroListBound, blocksFor, fileBlocks}
 use Rattle.netfile.specs.Layout.{fileBytes}
-use Rattle.netfile.specs.Read.{blocksMiscounted, sumsWrong, pinLength, macroLength, numbersIn, pinsIn, macrosIn, sameNumbers}
-use Rattle.netfile.specs.Read.{countsWrong, Sized, laidOut, roomShort, readFile}
+use Rattle.netfile.specs.Read.{blocksMiscounted, sumsWrong, headWord, pinLength, macroLength, numbersIn, pinsIn, macrosIn}
+use Rattle.netfile.specs.Read.{sameNumbers, weightsIn, countsWrong, weightsMiswritten, headWrong, Sized, laidOut, answerIn}
+use Rattle.netfile.specs.Read.{roomShort, readFile}
 use Rattle.netfile.proofs.ReadLaws.{length-numbers}
 
 -- The lists of a file
@@ -68,6 +72,19 @@ sized-by-head bytes b e =
     let n = eqb-true (length bytes / blockBytes) _ (not-false _ e) in
     record { few = omega (arith, b .whole, b .few); fit = omega (arith, b .whole, n) }
 
+-- C3: a head that is right has right counts and right weights
+pub head-right : (bytes : List ℕ) → headWrong bytes ≡ false → (countsWrong bytes ≡ false) × (weightsMiswritten bytes ≡ false)
+unfolding headWrong
+head-right bytes e = or-none (countsWrong bytes) (weightsMiswritten bytes) e
+
+-- each word that stands for a weight is at most the greatest
+pub weight-words : (bytes : List ℕ) → weightsMiswritten bytes ≡ false
+    → (headWord firstWeightWord bytes ≤ weightBound) × (headWord secondWeightWord bytes ≤ weightBound)
+unfolding weightsMiswritten
+weight-words bytes e =
+    let r = or-none _ _ e in
+    (ltb-false weightBound (headWord firstWeightWord bytes) (r .0), ltb-false weightBound (headWord secondWeightWord bytes) (r .1))
+
 room-enough : (p q : ℕ) → roomShort p q ≡ false → (pinListBound ≤ p) × (macroListBound ≤ q)
 unfolding roomShort
 room-enough p q e =
@@ -76,28 +93,28 @@ room-enough p q e =
 
 -- The answer
 
-module _ (bytes : List ℕ) (pins macros : List ℤ) where
-  pub laid-out : sameNumbers bytes (fileBytes pins macros) ≡ true → laidOut bytes pins macros ≡ checked pins macros
+module _ (bytes : List ℕ) (w : Weights) (pins macros : List ℤ) where
+  pub laid-out : sameNumbers bytes (fileBytes w pins macros) ≡ true → laidOut bytes w pins macros ≡ checked (handed w) pins macros
   unfolding laidOut
   laid-out e = rw e refl
 
-  pub laid-wrong : sameNumbers bytes (fileBytes pins macros) ≡ false → laidOut bytes pins macros ≡ refused 3
+  pub laid-wrong : sameNumbers bytes (fileBytes w pins macros) ≡ false → laidOut bytes w pins macros ≡ refused 3
   unfolding laidOut
   laid-wrong e = rw e refl
 
   -- an accepted file is the one that the layout makes of its lists, and these are allowed
-  pub laid-same : (net : Counts) → laidOut bytes pins macros ≡ given net → sameNumbers bytes (fileBytes pins macros) ≡ true
-  laid-same net e = by (sameNumbers bytes (fileBytes pins macros)) (λ h. h) (λ h. told-apart 3 net (sym (laid-wrong h) ∙ e))
+  pub laid-same : (net : Counts) → laidOut bytes w pins macros ≡ given net → sameNumbers bytes (fileBytes w pins macros) ≡ true
+  laid-same net e = by (sameNumbers bytes (fileBytes w pins macros)) (λ h. h) (λ h. told-apart 3 net (sym (laid-wrong h) ∙ e))
 
-  pub laid-allowed : (net : Counts) → laidOut bytes pins macros ≡ given net → checked pins macros ≡ given net
+  pub laid-allowed : (net : Counts) → laidOut bytes w pins macros ≡ given net → checked (handed w) pins macros ≡ given net
   laid-allowed net e = sym (laid-out (laid-same net e)) ∙ e
 
 -- the lists of an accepted file fit where the largest net does
-pub lists-fit : (bytes : List ℕ) (p q : ℕ) (net : Counts) → laidOut bytes (pinsIn bytes) (macrosIn bytes) ≡ given net
+pub lists-fit : (bytes : List ℕ) (p q : ℕ) (net : Counts) → answerIn bytes ≡ given net
     → roomShort p q ≡ false → (pinLength bytes ≤ p) × (macroLength bytes ≤ q)
 lists-fit bytes p q net e f =
-    let a = passed-all (pinsIn bytes) (macrosIn bytes) net
-    (laid-allowed bytes (pinsIn bytes) (macrosIn bytes) net e) .past .past .past .past .past .past in
+    let a = passed-all _ (pinsIn bytes) (macrosIn bytes) net
+    (laid-allowed bytes (weightsIn bytes) (pinsIn bytes) (macrosIn bytes) net e) .past .past .past .past .past .past .past in
     let m = pins-counted (pinsIn bytes) (a .past .passed) in
     let k = macros-counted (macrosIn bytes) (a .passed) in
     let r = room-enough p q f in (
@@ -118,13 +135,13 @@ module _ (bytes : List ℕ) (p q : ℕ) where
   unfolding readFile
   refuse-2 r b e = rw (r, b, e) refl
 
-  pub refuse-3 : roomShort p q ≡ false → blocksMiscounted bytes ≡ false → sumsWrong bytes ≡ false → countsWrong bytes ≡ true
+  pub refuse-3 : roomShort p q ≡ false → blocksMiscounted bytes ≡ false → sumsWrong bytes ≡ false → headWrong bytes ≡ true
       → readFile bytes p q ≡ refused 3
   unfolding readFile
   refuse-3 r b s e = rw (r, b, s, e) refl
 
-  pub read-on : roomShort p q ≡ false → blocksMiscounted bytes ≡ false → sumsWrong bytes ≡ false → countsWrong bytes ≡ false
-      → readFile bytes p q ≡ laidOut bytes (pinsIn bytes) (macrosIn bytes)
+  pub read-on : roomShort p q ≡ false → blocksMiscounted bytes ≡ false → sumsWrong bytes ≡ false → headWrong bytes ≡ false
+      → readFile bytes p q ≡ answerIn bytes
   unfolding readFile
   read-on r b s e = rw (r, b, s, e) refl
 

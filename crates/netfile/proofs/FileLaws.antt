@@ -1,4 +1,4 @@
--- The file of two lists, read: its bytes give back its words, each block's sums are right, and each number stands at its place.
+-- The file of a net, read: its bytes give back its words, each block's sums are right, and each number stands at its place.
 -- Assumes nothing.
 use mathlib.Core.Path.{_≡_, refl, sym, ap, ap₂, _∙_}
 use mathlib.Core.Bool.{false}
@@ -18,6 +18,7 @@ use Rattle.lists.specs.Any.{any}
 use Rattle.lists.proofs.TestLaws.{by}
 use Rattle.lent.specs.Over.{over}
 use Rattle.lent.proofs.OverLaws.{length-over}
+use Rattle.plane.specs.declared.Weights.{Weights}
 use Rattle.netfile.specs.Sizes.{blockWords, summedWords, secondSum, firstEntry, perBlock, headKind}
 use Rattle.netfile.specs.Words.{wordsOf, bytesOfWord, bytesOf, wordOf, coordinate}
 use Rattle.netfile.specs.Sums.{plainSum, sumOfSums, sealed, wrongSums}
@@ -136,16 +137,17 @@ module _ (b rest : List ℕ) (n : ℕ) (long : length b ≡ blockWords) (right :
   unfolding any blocksOf
   pass-block = rw (take-at b rest blockWords long, drop-at b rest blockWords long, right) refl
 
-right-head : (m k : ℕ) → wrongSums (headBlock m k) ≡ false
+right-head : (m k : ℕ) (w : Weights) → wrongSums (headBlock m k w) ≡ false
 unfolding headBlock
-right-head m k = right-block headKind 0 0 (m ∷ (k ∷ [])) (omega arith)
+right-head m k w = right-block headKind 0 0 _ (omega arith)
 
 right-list : (kind w number : ℕ) (zs : List ℤ) → length zs ≤ perBlock → wrongSums (listBlock kind w number zs) ≡ false
 unfolding listBlock
 right-list kind w number zs h = right-block kind number (length zs / w) (map wordOf zs) (omega (arith, length-map zs wordOf))
 
-pub pass-head : (m k n : ℕ) (rest : List ℕ) → any wrongSums (blocksOf (suc n) (headBlock m k ++ rest)) ≡ any wrongSums (blocksOf n rest)
-pass-head m k n rest = pass-block (headBlock m k) rest n (length-head m k) (right-head m k)
+pub pass-head : (m k : ℕ) (w : Weights) (n : ℕ) (rest : List ℕ)
+    → any wrongSums (blocksOf (suc n) (headBlock m k w ++ rest)) ≡ any wrongSums (blocksOf n rest)
+pass-head m k w n rest = pass-block (headBlock m k w) rest n (length-head m k w) (right-head m k w)
 
 pub pass-list : (kind w number n k : ℕ) (zs : List ℤ) (rest : List ℕ)
     → any wrongSums (blocksOf (n + k) (listBlocks kind w number n zs ++ rest)) ≡ any wrongSums (blocksOf k rest)

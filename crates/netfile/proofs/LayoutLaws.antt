@@ -10,6 +10,7 @@ use lib.ListN.{length, take, drop, replicate, length-append, length-map, length-
 use lib.Seq.{drop-drop, sets, sets-eq}
 use Rattle.lent.specs.Over.{over}
 use Rattle.lent.proofs.OverLaws.{length-over}
+use Rattle.plane.specs.declared.Weights.{Weights}
 use Rattle.net.specs.Bounds.{pinWidth, macroWidth}
 use Rattle.net.specs.Pins.{pinCount, macroCount}
 use Rattle.netfile.specs.Sizes.{blockWords, blockBytes, summedWords, perBlock, headKind, pinKind, macroKind}
@@ -29,9 +30,9 @@ length-block kind number count entries h =
     let e = length-over ws (replicate summedWords 0) (omega arith) in
     length-append (over ws (replicate summedWords 0)) _ ∙ ap (λ (n : ℕ). n + 2) e
 
-pub length-head : (m k : ℕ) → length (headBlock m k) ≡ blockWords
+pub length-head : (m k : ℕ) (w : Weights) → length (headBlock m k w) ≡ blockWords
 unfolding headBlock
-length-head m k = length-block headKind 0 0 (m ∷ (k ∷ [])) (omega arith)
+length-head m k w = length-block headKind 0 0 _ (omega arith)
 
 pub length-list-block : (kind w number : ℕ) (numbers : List ℤ) → length numbers ≤ perBlock
     → length (listBlock kind w number numbers) ≡ blockWords
@@ -52,17 +53,19 @@ length-list-blocks kind w number (suc n) numbers =
     ∙ ap₂ (λ (a b : ℕ). a + b) (length-next-block kind w number numbers) (length-list-blocks kind w (suc number) n (drop perBlock numbers))
     ∙ omega arith
 
-pub length-words : (pins macros : List ℤ) → length (fileWords pins macros) ≡ blockCount (length pins) (length macros) * blockWords
+pub length-words : (w : Weights) (pins macros : List ℤ)
+    → length (fileWords w pins macros) ≡ blockCount (length pins) (length macros) * blockWords
 unfolding fileWords
-length-words pins macros =
+length-words w pins macros =
     let e = length-list-blocks pinKind pinWidth 1 (blocksFor (length pins)) pins in
     let f = length-list-blocks macroKind macroWidth (1 + blocksFor (length pins)) (blocksFor (length macros)) macros in
-    length-append (headBlock _ _) _
-    ∙ omega (arith, length-head (pinCount pins) (macroCount macros), length-append (pinBlocks pins) (macroBlocks pins macros), e, f)
+    length-append (headBlock _ _ _) _
+    ∙ omega (arith, length-head (pinCount pins) (macroCount macros) w, length-append (pinBlocks pins) (macroBlocks pins macros), e, f)
 
-pub length-file : (pins macros : List ℤ) → length (fileBytes pins macros) ≡ blockCount (length pins) (length macros) * blockBytes
+pub length-file : (w : Weights) (pins macros : List ℤ)
+    → length (fileBytes w pins macros) ≡ blockCount (length pins) (length macros) * blockBytes
 unfolding fileBytes
-length-file pins macros = length-bytes (fileWords pins macros) ∙ omega (arith, length-words pins macros)
+length-file w pins macros = length-bytes (fileWords w pins macros) ∙ omega (arith, length-words w pins macros)
 
 -- One block more
 
@@ -111,21 +114,21 @@ unfolding over
 sets-over xs l h = sets-eq xs l 0 (omega arith) ∙ ap (λ (n : ℕ). xs ++ drop n l) (let e : 0 + length xs ≡ length xs = omega arith in e)
 
 -- head, pins and macros, one behind the other, are the file
-pub file-laid : (l : List ℕ) (pins macros : List ℤ) → blockCount (length pins) (length macros) * blockBytes ≤ length l
-    → sets (sets (sets l 0 (bytesOf (headBlock (pinCount pins) (macroCount macros)))) blockBytes (bytesOf (pinBlocks pins)))
+pub file-laid : (l : List ℕ) (w : Weights) (pins macros : List ℤ) → blockCount (length pins) (length macros) * blockBytes ≤ length l
+    → sets (sets (sets l 0 (bytesOf (headBlock (pinCount pins) (macroCount macros) w))) blockBytes (bytesOf (pinBlocks pins)))
     ((1 + blocksFor (length pins)) * blockBytes) (bytesOf (macroBlocks pins macros))
-    ≡ over (fileBytes pins macros) l
+    ≡ over (fileBytes w pins macros) l
 unfolding fileWords fileBytes
-file-laid l pins macros h =
-    let b = headBlock (pinCount pins) (macroCount macros) in
+file-laid l w pins macros h =
+    let b = headBlock (pinCount pins) (macroCount macros) w in
     let p = pinBlocks pins in
     let q = macroBlocks pins macros in
     let k = (1 + blocksFor (length pins)) * blockBytes in
-    let e : length b ≡ blockWords = length-head (pinCount pins) (macroCount macros) in
+    let e : length b ≡ blockWords = length-head (pinCount pins) (macroCount macros) w in
     let g = length-list-blocks pinKind pinWidth 1 (blocksFor (length pins)) pins in
     let f : length (b ++ p) * 4 ≡ k = omega (arith, length-append b p, g) in
     ap (λ (s : List ℕ). sets s k (bytesOf q)) (words-after l b p 0 blockBytes (omega arith))
     ∙ ap (λ (i : ℕ). sets (sets l 0 (bytesOf (b ++ p))) i (bytesOf q)) (sym (zero-add k))
     ∙ words-after l (b ++ p) q 0 k f
     ∙ ap (λ (ws : List ℕ). sets l 0 (bytesOf ws)) (append-assoc b p q)
-    ∙ sets-over (bytesOf (b ++ (p ++ q))) l (omega (arith, length-file pins macros))
+    ∙ sets-over (bytesOf (b ++ (p ++ q))) l (omega (arith, length-file w pins macros))

@@ -6,7 +6,9 @@ pub mod LayoutLaws
 pub mod WriteLaws
 pub mod ReadLaws
 pub mod AnswerLaws
+pub mod WeightLaws
 pub mod CutLaws
 pub mod FileLaws
 pub mod RoundTrip
+pub mod FirstRelease
 pub mod WorkedFiles

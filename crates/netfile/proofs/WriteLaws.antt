@@ -9,7 +9,9 @@ use borrow.Author.Tests.{lt-ltb, le-ltb}
 use lib.IntN.{ℤ}
 use lib.ListN.{length}
 use Rattle.lent.specs.Told.{Told, refused, given, onlyIf}
+use Rattle.net.specs.declared.Weighing.{Weighing}
 use Rattle.net.specs.declared.Net.{Net as Counts}
+use Rattle.net.specs.Net.{weightsOf}
 use Rattle.net.specs.Check.{checked}
 use Rattle.net.proofs.PinLaws.{pin-numbers}
 use Rattle.net.proofs.PassedLaws.{PinsCounted, MacrosCounted, passed-all, pins-counted, macros-counted}
@@ -26,23 +28,23 @@ pub fitted-given : (needed room : ℕ) → needed ≤ room → fitted needed roo
 unfolding fitted
 fitted-given needed room h = rw (le-ltb room needed h) refl
 
-module _ (pins macros : List ℤ) (room : ℕ) where
-  pub written-refused : (n : ℕ) → checked pins macros ≡ refused n → written pins macros room ≡ refused n
+module _ (w : Weighing) (pins macros : List ℤ) (room : ℕ) where
+  pub written-refused : (n : ℕ) → checked w pins macros ≡ refused n → written w pins macros room ≡ refused n
   unfolding written onlyIf
-  written-refused n e = ap (λ (t : Told Counts). onlyIf t (fitted (length (fileBytes pins macros)) room)) e
+  written-refused n e = ap (λ (t : Told Counts). onlyIf t (fitted (length (fileBytes (weightsOf w) pins macros)) room)) e
 
-  pub written-allowed : (net : Counts) → checked pins macros ≡ given net → written pins macros room
-      ≡ fitted (length (fileBytes pins macros)) room
+  pub written-allowed : (net : Counts) → checked w pins macros ≡ given net → written w pins macros room
+      ≡ fitted (length (fileBytes (weightsOf w) pins macros)) room
   unfolding written onlyIf
-  written-allowed net e = ap (λ (t : Told Counts). onlyIf t (fitted (length (fileBytes pins macros)) room)) e
+  written-allowed net e = ap (λ (t : Told Counts). onlyIf t (fitted (length (fileBytes (weightsOf w) pins macros)) room)) e
 
 -- lists that passed the check, by their lengths
-module _ (pins macros : List ℤ) (net : Counts) (allowed : checked pins macros ≡ given net) where
+module _ (w : Weighing) (pins macros : List ℤ) (net : Counts) (allowed : checked w pins macros ≡ given net) where
   pub pins-ok : PinsCounted pins
-  pins-ok = pins-counted pins (passed-all pins macros net allowed .past .past .past .past .past .past .past .passed)
+  pins-ok = pins-counted pins (passed-all w pins macros net allowed .past .past .past .past .past .past .past .past .passed)
 
   pub macros-ok : MacrosCounted macros
-  macros-ok = macros-counted macros (passed-all pins macros net allowed .past .past .past .past .past .past .passed)
+  macros-ok = macros-counted macros (passed-all w pins macros net allowed .past .past .past .past .past .past .past .passed)
 
   -- F16: no allowed net takes more blocks than the longest file has
   pub allowed-blocks : blockCount (length pins) (length macros) ≤ fileBlocks

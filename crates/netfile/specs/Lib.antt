@@ -1,16 +1,21 @@
 -- The net file: what a file holds, byte for byte, and what its writer and its reader answer.
 --
--- A file is a list of bytes, a byte is a natural below 256, a word one below 2^32. The layout is one definition, `fileBytes pins macros`:
--- the head's block, the blocks of the pins and those of the macros, each 128 words, low byte first. Pins and macros are flat lists of
--- coordinates, and a block holds 120 of them, 60 pins or 30 macros; so one definition of a list's blocks serves both kinds. The format's
--- own numbers stand in Sizes, each once; the longest file and what a read asks to be lent follow there from them and from the net's bounds.
--- Reading is defined by writing: a file gives two lists (as many numbers as its head says, at their places), and its layout is right
--- exactly when it is the file that the layout makes of these two lists. That each accepted file is what the writer makes of the lists
--- read is then the definition, and that reading gives back what was written is a theorem (../proofs/RoundTrip.antt).
+-- A file is a list of bytes, a byte is a natural below 256, a word one below 2^32. The layout is one definition, `fileBytes w pins macros`:
+-- the head's block, the blocks of the pins and those of the macros, each 128 words, low byte first. The head has how many there are, and the
+-- two weights, of which 1 is written as 0: so nets that know no weights have the files that they had before there were any
+-- (../proofs/FirstRelease.antt). Pins and macros are flat lists of coordinates, and a block holds 120 of them, 60 pins or 30 macros; so one
+-- definition of a list's blocks serves both kinds. The format's own numbers stand in Sizes, each once; the longest file and what a read asks
+-- to be lent follow there from them and from the net's bounds.
+-- Reading is defined by writing: a file gives two weights and two lists (as many numbers as its head says, at their places), and its layout
+-- is right exactly when it is the file that the layout makes of these. That each accepted file is what the writer makes of the net read is
+-- then the definition, and that reading gives back what was written is a theorem (../proofs/RoundTrip.antt). So a written 1 needs no test:
+-- the layout makes a 0 of it. A word above 8 needs one, or it would be given back as a weight and refused by the check, as 18; with it no
+-- read is ever refused so (../proofs/WeightLaws.antt).
 --
 --   Sizes    blockWords, blockBytes, summedWords    a block's words, its bytes, its words before the sums
 --            secondSum, firstEntry, perBlock        where the second sum stands and entries begin; the numbers of a full block
 --            pinCountWord, macroCountWord           where the head has m and k
+--            firstWeightWord, secondWeightWord      and its two weights
 --            headKind, pinKind, macroKind           the kinds of blocks
 --            pinsPerBlock, macrosPerBlock           the entries of a full block
 --            pinListBound, macroListBound           the numbers of the longest lists
@@ -18,29 +23,36 @@
 --            fileBlocks, fileBound, fileNumbers     the longest file: its blocks, its bytes, the numbers that it has room for
 --   Words    wordsOf bytes, bytesOf words           words from bytes and back, low byte first
 --            wordOf z, coordinate w                 a coordinate's two's complement word, and the coordinate of a word
+--            weightWord n, weightIn w               a weight's word, and the weight of a word
 --   Sums     plainSum ws, sumOfSums ws              the two sums modulo 2^32
 --            sealed ws, wrongSums block             words with their sums behind them; a block whose sums are wrong
 --   Layout   block kind number count entries        one block
---            headBlock m k, listBlock               the head, and a block of entries
+--            headBlock m k w, listBlock             the head, and a block of entries
 --            listBlocks, allBlocks                  some blocks of a list, and all of them
 --            pinBlocks pins, macroBlocks            the blocks of the two lists
---            fileWords pins macros, fileBytes       the whole file
+--            fileWords w pins macros, fileBytes     the whole file
 --   Write    fitted needed room                     21, or the number of bytes
---            written pins macros room               the answer of a write into so many lent bytes
+--            written w pins macros room             the answer of a write into so many lent bytes
 --            toldBytes r                            what the code's answer says
 --   Read     roomShort p q                          refusal 21
 --            blocksMiscounted, sumsWrong            refusals 1 and 2
 --            blockOf b words, blocksOf n words      the block b, and the first n blocks
+--            headWord i bytes                       a word of the head
 --            pinLength bytes, macroLength bytes     the lengths of the two lists, by the head
+--            weightsIn bytes                        the weights, by the head
 --            placeIn j                              the word of the number j among those of its list's blocks
 --            numberIn bytes b j                     the number j of the list whose blocks begin at the block b
 --            pinsIn bytes, macrosIn bytes           the lists that a file holds
---            countsWrong bytes                      refusal 3 for the head's counts
---            laidOut bytes pins macros              refusal 3 for anything else, or the answer of the check
+--            countsWrong, weightsMiswritten         refusal 3 for the head's counts, and for a weight above 8
+--            headWrong bytes                        for either
+--            laidOut bytes w pins macros            refusal 3 for anything else, or the answer of the check
+--            answerIn bytes                         so for the weights and lists that a file holds
 --            readFile bytes pinRoom macroRoom       the answer of a read into so many lent numbers
+--   FirstRelease  firstHead m k, firstFile pins macros   the head and the file of the first release, without weights
 pub mod Sizes
 pub mod Words
 pub mod Sums
 pub mod Layout
 pub mod Write
 pub mod Read
+pub mod FirstRelease

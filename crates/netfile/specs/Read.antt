@@ -8,12 +8,14 @@ use lib.IntN.{ℤ}
 use lib.ListN.{length, take, drop, getD}
 use Rattle.lent.specs.Told.{Told, refused}
 use Rattle.lists.specs.Any.{any}
+use Rattle.plane.specs.declared.Weights.{Weights}
 use Rattle.net.specs.declared.Net.{Net as Counts}
-use Rattle.net.specs.Bounds.{pinWidth, macroWidth}
+use Rattle.net.specs.Bounds.{weightBound, pinWidth, macroWidth}
+use Rattle.net.specs.Net.{handed}
 use Rattle.net.specs.Check.{checked}
-use Rattle.netfile.specs.Sizes.{blockWords, blockBytes, firstEntry, pinCountWord, macroCountWord, perBlock}
-use Rattle.netfile.specs.Sizes.{pinListBound, macroListBound, blocksFor, blockCount, fileBlocks, fileBound}
-use Rattle.netfile.specs.Words.{wordsOf, coordinate}
+use Rattle.netfile.specs.Sizes.{blockWords, blockBytes, firstEntry, pinCountWord, macroCountWord, firstWeightWord, secondWeightWord}
+use Rattle.netfile.specs.Sizes.{perBlock, pinListBound, macroListBound, blocksFor, blockCount, fileBlocks, fileBound}
+use Rattle.netfile.specs.Words.{wordsOf, coordinate, weightIn}
 use Rattle.netfile.specs.Sums.{wrongSums}
 use Rattle.netfile.specs.Layout.{fileBytes}
 
@@ -35,16 +37,23 @@ blocksOf (suc n) words = take blockWords words ∷ blocksOf n (drop blockWords w
 unfoldable pub sumsWrong : List ℕ → Bool
 sumsWrong bytes = any wrongSums (blocksOf (length bytes / blockBytes) (wordsOf bytes))
 
--- a word of the head, as a count
-unfoldable pub headCount : ℕ → List ℕ → ℕ
-headCount i bytes = getD (wordsOf bytes) i 0
+-- a word of the head
+unfoldable pub headWord : ℕ → List ℕ → ℕ
+headWord i bytes = getD (wordsOf bytes) i 0
 
 -- F9: the lengths of the two lists, by m and k in the head
 abbrev pub pinLength : List ℕ → ℕ
-pinLength bytes = headCount pinCountWord bytes * pinWidth
+pinLength bytes = headWord pinCountWord bytes * pinWidth
 
 abbrev pub macroLength : List ℕ → ℕ
-macroLength bytes = headCount macroCountWord bytes * macroWidth
+macroLength bytes = headWord macroCountWord bytes * macroWidth
+
+-- F17: the two weights, by the head
+abbrev pub weightsIn : List ℕ → Weights
+weightsIn bytes = record {
+  across = weightIn (headWord firstWeightWord bytes);
+  along = weightIn (headWord secondWeightWord bytes);
+}
 
 -- F6, F14: the word of the number j among those of its list's blocks
 abbrev pub placeIn : ℕ → ℕ
@@ -77,14 +86,26 @@ sameNumbers (x ∷ xs) (y ∷ ys) = eqb x y && sameNumbers xs ys
 unfoldable pub countsWrong : List ℕ → Bool
 countsWrong bytes = not (eqb (length bytes / blockBytes) (blockCount (pinLength bytes) (macroLength bytes)))
 
+-- C3, F18: a word that stands for a weight is above the greatest. A written 1 is below: it is refused because the layout makes a 0 of it.
+unfoldable pub weightsMiswritten : List ℕ → Bool
+weightsMiswritten bytes = ltb weightBound (headWord firstWeightWord bytes) || ltb weightBound (headWord secondWeightWord bytes)
+
+-- C3: the head's own words, before anything is read by them
+unfoldable pub headWrong : List ℕ → Bool
+headWrong bytes = countsWrong bytes || weightsMiswritten bytes
+
 -- a file of as many bytes as n numbers of pins and k of macros take, and no longer than the longest; the code's own condition
 pub record Sized (bytes : List ℕ) (n k : ℕ) : Type 0 where
   pub few : length bytes ≤ fileBound
   pub fit : length bytes ≡ blockCount n k * blockBytes
 
--- C3: the file is not the one that the layout makes of the lists that it holds. C73: after that, the net's own refusals.
-unfoldable pub laidOut : List ℕ → List ℤ → List ℤ → Told Counts
-laidOut bytes pins macros = cond (sameNumbers bytes (fileBytes pins macros)) (checked pins macros) (refused 3)
+-- C3: the file is not the one that the layout makes of the weights and lists that it holds. C73: after that, the net's own refusals.
+unfoldable pub laidOut : List ℕ → Weights → List ℤ → List ℤ → Told Counts
+laidOut bytes w pins macros = cond (sameNumbers bytes (fileBytes w pins macros)) (checked (handed w) pins macros) (refused 3)
+
+-- so for the weights and lists that a file holds
+abbrev pub answerIn : List ℕ → Told Counts
+answerIn bytes = laidOut bytes (weightsIn bytes) (pinsIn bytes) (macrosIn bytes)
 
 -- C71: fewer numbers for pins or for macros than the longest lists have
 unfoldable pub roomShort : ℕ → ℕ → Bool
@@ -96,5 +117,5 @@ readFile bytes pinRoom macroRoom =
     cond (roomShort pinRoom macroRoom) (refused 21)
     (cond (blocksMiscounted bytes) (refused 1)
     (cond (sumsWrong bytes) (refused 2)
-    (cond (countsWrong bytes) (refused 3)
-    (laidOut bytes (pinsIn bytes) (macrosIn bytes)))))
+    (cond (headWrong bytes) (refused 3)
+    (answerIn bytes))))

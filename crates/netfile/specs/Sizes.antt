@@ -1,5 +1,5 @@
--- The numbers of the net file: those that the format has of its own (F1 to F12), each named once, and those that follow from them and from
--- the net's bounds.
+-- The numbers of the net file: those that the format has of its own (F1 to F12, F17), each named once, and those that follow from them and
+-- from the net's bounds.
 use Prim.Native.Nat.{ℕ, _+_, _*_, _-_, _/_}
 use Rattle.net.specs.Bounds.{pinBound, macroBound, pinWidth, macroWidth}
 
@@ -19,7 +19,7 @@ summedWords = blockWords - 2
 abbrev pub secondSum : ℕ
 secondSum = summedWords + 1
 
--- F6: the word at which entries begin; F9: the head has m and k there
+-- F6: the word at which entries begin; F9, F17: the head has m, k and the two weights there
 abbrev pub firstEntry : ℕ
 firstEntry = 4
 
@@ -28,6 +28,12 @@ pinCountWord = firstEntry
 
 abbrev pub macroCountWord : ℕ
 macroCountWord = firstEntry + 1
+
+abbrev pub firstWeightWord : ℕ
+firstWeightWord = firstEntry + 2
+
+abbrev pub secondWeightWord : ℕ
+secondWeightWord = firstEntry + 3
 
 -- F6, F7: the numbers of a full block, whatever its entries are: 60 pins of two, 30 macros of four. It is the format's own and no
 -- consequence of the words between the entries' first and the sums: these are 122, and 61 pins would fit.

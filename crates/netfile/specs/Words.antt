@@ -1,8 +1,8 @@
--- Bytes, words and coordinates.
-use mathlib.Core.Bool.{true, false}
+-- Bytes and words; coordinates and weights as words.
+use mathlib.Core.Bool.{true, false, cond}
 use mathlib.Core.List.{List, [], _∷_, _++_}
 use Prim.Native.Nat.{ℕ, suc, _+_, _*_, _-_, _/_, _%_}
-use lib.Dec.{ltb}
+use lib.Dec.{eqb, ltb}
 use lib.IntN.{ℤ, pos, negsuc}
 use lib.ListN.{getD}
 
@@ -33,3 +33,10 @@ wordOf (negsuc n) = 4294967296 - suc n
 
 unfoldable pub coordinate : ℕ → ℤ
 coordinate w = elim (ltb w 2147483648) [ true ↦ pos w | false ↦ negsuc (4294967296 - suc w) ]
+
+-- F18: a weight is itself, but for 1, which is 0; and the weight of a word
+unfoldable pub weightWord : ℕ → ℕ
+weightWord n = cond (eqb n 1) 0 n
+
+unfoldable pub weightIn : ℕ → ℕ
+weightIn w = cond (eqb w 0) 1 w

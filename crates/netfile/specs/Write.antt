@@ -6,6 +6,8 @@ use lib.Dec.{ltb}
 use lib.IntN.{ℤ}
 use lib.ListN.{length}
 use Rattle.lent.specs.Told.{Told, refused, given, onlyIf}
+use Rattle.net.specs.declared.Weighing.{Weighing}
+use Rattle.net.specs.Net.{weightsOf}
 use Rattle.net.specs.Answer.{number}
 use Rattle.net.specs.Check.{checked}
 use Rattle.netfile.specs.Layout.{fileBytes}
@@ -17,8 +19,8 @@ unfoldable pub fitted : ℕ → ℕ → Told ℕ
 fitted needed room = cond (ltb room needed) (refused 21) (given needed)
 
 -- C69: the answer of a write into `room` lent bytes
-unfoldable pub written : List ℤ → List ℤ → ℕ → Told ℕ
-written pins macros room = onlyIf (checked pins macros) (fitted (length (fileBytes pins macros)) room)
+unfoldable pub written : Weighing → List ℤ → List ℤ → ℕ → Told ℕ
+written w pins macros room = onlyIf (checked w pins macros) (fitted (length (fileBytes (weightsOf w) pins macros)) room)
 
 -- what the code's answer says
 unfoldable pub toldBytes : Written → Told ℕ

@@ -2,16 +2,20 @@
 //
 // A block is 512 bytes, 128 words of 32 bits: four words that say what it is, then up to 120 numbers, zeros, and two sums. A table of its
 // 128 words is made and sealed in one place, and the reader sums it by the same function. The reader takes the lists out of a file into
-// tables of its own, writes the file of these lists beside it, and compares.
+// tables of its own, writes the file of these lists and of the head's weights beside it, and compares.
 use net::Checked;
 use net::Net;
 use net::Refusal;
+use net::Weighing;
+use plane::Weights;
 ghost use mathlib.Core.Bool.{false};
 ghost use mathlib.Core.Path.{_≡_};
 ghost use Prim.Native.Nat.{_+_, _*_, _/_, _≤_, _<_};
 ghost use lib.ListN.{length, take, drop};
 ghost use lib.Seq.{sets};
 ghost use Rattle.lent.specs.Over.{over, after};
+ghost use Rattle.net.specs.Bounds.{weightBound};
+ghost use Rattle.net.specs.Net.{weightsOf};
 ghost use Rattle.net.specs.Check.{told};
 ghost use Rattle.netfile.specs.Sizes.{
   blockWords,
@@ -23,7 +27,7 @@ ghost use Rattle.netfile.specs.Sizes.{
   fileBlocks,
   fileNumbers,
 };
-ghost use Rattle.netfile.specs.Words.{wordsOf, wordFrom, bytesOfWord, bytesOf, wordOf, coordinate};
+ghost use Rattle.netfile.specs.Words.{wordsOf, wordFrom, bytesOfWord, bytesOf, wordOf, coordinate, weightWord, weightIn};
 ghost use Rattle.netfile.specs.Sums.{plainSum, sumOfSums, sealed, wrongSums};
 ghost use Rattle.netfile.specs.Layout.{headBlock, listBlock, allBlocks, fileBytes};
 ghost use Rattle.netfile.specs.Write.{fitted, written, toldBytes};
@@ -31,9 +35,10 @@ ghost use Rattle.netfile.specs.Read.{
   blocksMiscounted,
   blockOf,
   sumsWrong,
-  headCount,
+  headWord,
   pinLength,
   macroLength,
+  weightsIn,
   numberIn,
   numbersIn,
   pinsIn,
@@ -41,13 +46,16 @@ ghost use Rattle.netfile.specs.Read.{
   sameNumbers,
   Sized,
   countsWrong,
+  weightsMiswritten,
+  headWrong,
   laidOut,
+  answerIn,
   roomShort,
   readFile,
 };
 
 // The format's own numbers, as in specs/Sizes.antt: a block's words, those before its two sums, the word at which entries begin (and the
-// counts in the head), the numbers of a full block, and the kinds of blocks.
+// counts and weights in the head), the numbers of a full block, and the kinds of blocks.
 const BLOCK_WORDS: usize = 128;
 
 const BLOCK_BYTES: usize = BLOCK_WORDS * 4;
@@ -62,6 +70,10 @@ const PIN_COUNT_WORD: usize = FIRST_ENTRY;
 
 const MACRO_COUNT_WORD: usize = FIRST_ENTRY + 1;
 
+const FIRST_WEIGHT_WORD: usize = FIRST_ENTRY + 2;
+
+const SECOND_WEIGHT_WORD: usize = FIRST_ENTRY + 3;
+
 const PER_BLOCK: usize = 120;
 
 const HEAD_KIND: u32 = 1;
@@ -69,6 +81,9 @@ const HEAD_KIND: u32 = 1;
 const PIN_KIND: u32 = 2;
 
 const MACRO_KIND: u32 = 3;
+
+// The greatest weight, as a word of the head may have it.
+const WEIGHT: usize = Net::WEIGHT as usize;
 
 // The entries of a full block.
 const PINS_PER_BLOCK: usize = PER_BLOCK / Net::PIN_NUMBERS;
@@ -154,6 +169,27 @@ fn coordinate_of(w: u32) -> i32
     (w as i64 - 4294967296) as i32
 }
 
+// The word of a weight.
+fn weight_word(weight: u8) -> u32
+    ensures { λ r. ⌜ r ≡ weightWord weight ⌝ }
+{
+    if weight == 1 {
+        return 0;
+    }
+    weight as u32
+}
+
+// The weight that a word stands for.
+fn weight_of(word: usize) -> u8
+    requires { ⌜ word ≤ weightBound ⌝ }
+    ensures { λ r. ⌜ r ≡ weightIn word ⌝ }
+{
+    if word == 0 {
+        return 1;
+    }
+    word as u8
+}
+
 // The sums of the words before them: a wrapping sum, and a wrapping sum of the running sums.
 fn sums_of(block: &[u32; BLOCK_WORDS]) -> Sums
     requires { ⌜ length (now block) ≡ blockWords ⌝ }
@@ -183,15 +219,17 @@ fn seal(block: [u32; BLOCK_WORDS]) -> [u32; BLOCK_WORDS]
     t
 }
 
-// The head of a file of m pins and k macros.
-fn head_block(m: usize, k: usize) -> [u32; BLOCK_WORDS]
+// The head of a file of m pins, k macros and two weights.
+fn head_block(m: usize, k: usize, w: Weights) -> [u32; BLOCK_WORDS]
     requires { ⌜ (m ≤ fileNumbers) × (k ≤ fileNumbers) ⌝ }
-    ensures { λ r. ⌜ r ≡ headBlock m k ⌝ }
+    ensures { λ r. ⌜ r ≡ headBlock m k w ⌝ }
 {
     let mut t = [0u32; BLOCK_WORDS];
     t[0] = HEAD_KIND;
     t[PIN_COUNT_WORD] = m as u32;
     t[MACRO_COUNT_WORD] = k as u32;
+    t[FIRST_WEIGHT_WORD] = weight_word(w.across);
+    t[SECOND_WEIGHT_WORD] = weight_word(w.along);
     seal(t)
 }
 
@@ -269,49 +307,49 @@ fn put_list(bytes: &mut [u8], kind: u32, w: usize, first: usize, numbers: &[i32]
     }
 }
 
-// The file of two lists, from the first lent byte on.
-fn put_file(bytes: &mut [u8], pins: &[i32], macros: &[i32])
+// The file of two weights and two lists, from the first lent byte on.
+fn put_file(bytes: &mut [u8], w: Weights, pins: &[i32], macros: &[i32])
     requires { ⌜ (blockCount (length (now pins)) (length (now macros)) ≤ fileBlocks)
         × (blockCount (length (now pins)) (length (now macros)) * blockBytes ≤ length (now bytes)) ⌝ }
-    ensures { λ _. ⌜ now (bytes .exit) ≡ over (fileBytes (now (pins .entry)) (now (macros .entry))) (now (bytes .entry)) ⌝ }
+    ensures { λ _. ⌜ now (bytes .exit) ≡ over (fileBytes w (now (pins .entry)) (now (macros .entry))) (now (bytes .entry)) ⌝ }
 {
     let first = 1 + blocks_for(pins.len());
     put_block(
         &mut *bytes,
         0,
-        head_block(net::pin_count(pins), net::macro_count(macros)),
+        head_block(net::pin_count(pins), net::macro_count(macros), w),
     );
     put_list(&mut *bytes, PIN_KIND, Net::PIN_NUMBERS, 1, pins);
     put_list(&mut *bytes, MACRO_KIND, Net::MACRO_NUMBERS, first, macros);
 }
 
 // Write the file of a checked net.
-fn write_checked(pins: &[i32], macros: &[i32], bytes: &mut [u8]) -> Written
+fn write_checked(w: Weights, pins: &[i32], macros: &[i32], bytes: &mut [u8]) -> Written
     requires { ⌜ blockCount (length (now pins)) (length (now macros)) ≤ fileBlocks ⌝ }
-    ensures answer { λ r. ⌜ toldBytes r ≡ fitted (length (fileBytes (now (pins .entry)) (now (macros .entry))))
+    ensures answer { λ r. ⌜ toldBytes r ≡ fitted (length (fileBytes w (now (pins .entry)) (now (macros .entry))))
         (length (now (bytes .entry))) ⌝ }
     ensures lent { λ _. ⌜ now (bytes .exit)
-        ≡ after (fitted (length (fileBytes (now (pins .entry)) (now (macros .entry)))) (length (now (bytes .entry))))
-        (fileBytes (now (pins .entry)) (now (macros .entry))) (now (bytes .entry)) ⌝ }
+        ≡ after (fitted (length (fileBytes w (now (pins .entry)) (now (macros .entry)))) (length (now (bytes .entry))))
+        (fileBytes w (now (pins .entry)) (now (macros .entry))) (now (bytes .entry)) ⌝ }
 {
     let n = (1 + blocks_for(pins.len()) + blocks_for(macros.len())) * BLOCK_BYTES;
     if bytes.len() < n {
         return Written::Refused(Refusal::Space);
     }
-    put_file(&mut *bytes, pins, macros);
+    put_file(&mut *bytes, w, pins, macros);
     Written::Bytes(n)
 }
 
-// Write a net file: 11 to 17, then 21 where the lent bytes are fewer than the file's.
-pub fn write(pins: &[i32], macros: &[i32], bytes: &mut [u8]) -> Written
-    ensures answer { λ r. ⌜ toldBytes r ≡ written (now (pins .entry)) (now (macros .entry)) (length (now (bytes .entry))) ⌝ }
+// Write a net file: 11 to 18, then 21 where the lent bytes are fewer than the file's.
+pub fn write(w: Weighing, pins: &[i32], macros: &[i32], bytes: &mut [u8]) -> Written
+    ensures answer { λ r. ⌜ toldBytes r ≡ written w (now (pins .entry)) (now (macros .entry)) (length (now (bytes .entry))) ⌝ }
     ensures lent { λ _. ⌜ now (bytes .exit)
-        ≡ after (written (now (pins .entry)) (now (macros .entry)) (length (now (bytes .entry))))
-        (fileBytes (now (pins .entry)) (now (macros .entry))) (now (bytes .entry)) ⌝ }
+        ≡ after (written w (now (pins .entry)) (now (macros .entry)) (length (now (bytes .entry))))
+        (fileBytes (weightsOf w) (now (pins .entry)) (now (macros .entry))) (now (bytes .entry)) ⌝ }
 {
-    let answer = net::check(pins, macros);
+    let answer = net::check(w, pins, macros);
     match answer {
-        Checked::Allowed(_) => write_checked(pins, macros, &mut *bytes),
+        Checked::Allowed(net) => write_checked(net.weights, pins, macros, &mut *bytes),
         Checked::Refused(refusal) => Written::Refused(refusal),
     }
 }
@@ -362,10 +400,10 @@ fn any_wrong_sums(bytes: &[u8]) -> bool
     false
 }
 
-// The i-th word of the head, as a count.
-fn head_count(bytes: &[u8], i: usize) -> usize
+// The i-th word of the head.
+fn head_word(bytes: &[u8], i: usize) -> usize
     requires { ⌜ i * 4 + 4 ≤ length (now bytes) ⌝ }
-    ensures { λ r. ⌜ (r ≡ headCount i (now (bytes .entry))) × (r < 4294967296) ⌝ }
+    ensures { λ r. ⌜ (r ≡ headWord i (now (bytes .entry))) × (r < 4294967296) ⌝ }
 {
     word_at(bytes, i) as usize
 }
@@ -375,7 +413,7 @@ fn pin_length(bytes: &[u8]) -> usize
     requires { ⌜ blockBytes ≤ length (now bytes) ⌝ }
     ensures { λ r. ⌜ r ≡ pinLength (now (bytes .entry)) ⌝ }
 {
-    head_count(bytes, PIN_COUNT_WORD) * Net::PIN_NUMBERS
+    head_word(bytes, PIN_COUNT_WORD) * Net::PIN_NUMBERS
 }
 
 // The numbers of the macros that it counts.
@@ -383,7 +421,7 @@ fn macro_length(bytes: &[u8]) -> usize
     requires { ⌜ blockBytes ≤ length (now bytes) ⌝ }
     ensures { λ r. ⌜ r ≡ macroLength (now (bytes .entry)) ⌝ }
 {
-    head_count(bytes, MACRO_COUNT_WORD) * Net::MACRO_NUMBERS
+    head_word(bytes, MACRO_COUNT_WORD) * Net::MACRO_NUMBERS
 }
 
 // The head's counts do not fit the blocks.
@@ -394,6 +432,35 @@ fn counts_wrong(bytes: &[u8]) -> bool
     let pin_blocks = blocks_for(pin_length(bytes));
     let macro_blocks = blocks_for(macro_length(bytes));
     bytes.len() / BLOCK_BYTES != 1 + pin_blocks + macro_blocks
+}
+
+// One of the words that stand for weights is above the greatest weight.
+fn weights_miswritten(bytes: &[u8]) -> bool
+    requires { ⌜ blockBytes ≤ length (now bytes) ⌝ }
+    ensures { λ r. ⌜ r ≡ weightsMiswritten (now (bytes .entry)) ⌝ }
+{
+    let first = head_word(bytes, FIRST_WEIGHT_WORD);
+    let second = head_word(bytes, SECOND_WEIGHT_WORD);
+    (WEIGHT < first) | (WEIGHT < second)
+}
+
+// The head's counts or its weights are wrong.
+fn head_wrong(bytes: &[u8]) -> bool
+    requires { ⌜ blockBytes ≤ length (now bytes) ⌝ }
+    ensures { λ r. ⌜ r ≡ headWrong (now (bytes .entry)) ⌝ }
+{
+    counts_wrong(bytes) | weights_miswritten(bytes)
+}
+
+// The weights that the head has.
+fn weights_in(bytes: &[u8]) -> Weights
+    requires { ⌜ (blockBytes ≤ length (now bytes)) × (weightsMiswritten (now bytes) ≡ false) ⌝ }
+    ensures { λ r. ⌜ r ≡ weightsIn (now (bytes .entry)) ⌝ }
+{
+    Weights {
+        across: weight_of(head_word(bytes, FIRST_WEIGHT_WORD)),
+        along: weight_of(head_word(bytes, SECOND_WEIGHT_WORD)),
+    }
 }
 
 // The number j of the list whose blocks begin at the block b.
@@ -433,24 +500,24 @@ fn same_bytes(a: &[u8], b: &[u8]) -> bool
     true
 }
 
-// Whether the bytes are the file of two lists: that file is written, and compared.
-fn is_file_of(bytes: &[u8], pins: &[i32], macros: &[i32]) -> bool
+// Whether the bytes are the file of two weights and two lists: that file is written, and compared.
+fn is_file_of(bytes: &[u8], w: Weights, pins: &[i32], macros: &[i32]) -> bool
     requires { ⌜ Sized (now bytes) (length (now pins)) (length (now macros)) ⌝ }
-    ensures { λ r. ⌜ r ≡ sameNumbers (now (bytes .entry)) (fileBytes (now (pins .entry)) (now (macros .entry))) ⌝ }
+    ensures { λ r. ⌜ r ≡ sameNumbers (now (bytes .entry)) (fileBytes w (now (pins .entry)) (now (macros .entry))) ⌝ }
 {
     let mut file = [0u8; LONGEST];
-    put_file(&mut file, pins, macros);
+    put_file(&mut file, w, pins, macros);
     let n = bytes.len();
     same_bytes(bytes, &file[0..n])
 }
 
-// The layout of a file against the lists that it holds, and then the check of these lists.
-fn check_lists(bytes: &[u8], pins: &[i32], macros: &[i32]) -> Checked
+// The layout of a file against the weights and lists that it holds, and then the check of these.
+fn check_lists(bytes: &[u8], w: Weights, pins: &[i32], macros: &[i32]) -> Checked
     requires { ⌜ Sized (now bytes) (length (now pins)) (length (now macros)) ⌝ }
-    ensures { λ r. ⌜ told r ≡ laidOut (now (bytes .entry)) (now (pins .entry)) (now (macros .entry)) ⌝ }
+    ensures { λ r. ⌜ told r ≡ laidOut (now (bytes .entry)) w (now (pins .entry)) (now (macros .entry)) ⌝ }
 {
-    if is_file_of(bytes, pins, macros) {
-        return net::check(pins, macros);
+    if is_file_of(bytes, w, pins, macros) {
+        return net::check(net::handed(w), pins, macros);
     }
     Checked::Refused(Refusal::Layout)
 }
@@ -468,31 +535,30 @@ fn take_lists(bytes: &[u8], pins: &mut [i32], macros: &mut [i32])
     take_numbers(bytes, 1 + blocks_for(n), k, &mut *macros);
 }
 
-// The check of such a file: of its layout, and then of its lists. Nothing is lent for these yet, so they go into tables that no list of a
-// file is too long for.
+// The check of a file whose head is right: of its layout, and then of its weights and lists. Nothing is lent for the lists yet, so they go
+// into tables that no list of a file is too long for.
 fn check_file(bytes: &[u8]) -> Checked
-    requires { ⌜ Sized (now bytes) (pinLength (now bytes)) (macroLength (now bytes)) ⌝ }
-    ensures { λ r. ⌜ told r ≡ laidOut (now (bytes .entry)) (pinsIn (now (bytes .entry))) (macrosIn (now (bytes .entry))) ⌝ }
+    requires { ⌜ (Sized (now bytes) (pinLength (now bytes)) (macroLength (now bytes))) × (weightsMiswritten (now bytes) ≡ false) ⌝ }
+    ensures { λ r. ⌜ told r ≡ answerIn (now (bytes .entry)) ⌝ }
 {
+    let w = weights_in(bytes);
     let n = pin_length(bytes);
     let k = macro_length(bytes);
     let mut pins = [0i32; FILE_NUMBERS];
     let mut macros = [0i32; FILE_NUMBERS];
     take_lists(bytes, &mut pins, &mut macros);
-    check_lists(bytes, &pins[0..n], &macros[0..k])
+    check_lists(bytes, w, &pins[0..n], &macros[0..k])
 }
 
-// Read a file whose head's counts fit its blocks, into room for the largest net.
+// Read a file whose head is right, into room for the largest net.
 fn read_counted(bytes: &[u8], pins: &mut [i32], macros: &mut [i32]) -> Checked
-    requires { ⌜ (Sized (now bytes) (pinLength (now bytes)) (macroLength (now bytes)))
+    requires { ⌜ ((Sized (now bytes) (pinLength (now bytes)) (macroLength (now bytes))) × (weightsMiswritten (now bytes) ≡ false))
         × (roomShort (length (now pins)) (length (now macros)) ≡ false) ⌝ }
-    ensures answer { λ r. ⌜ told r ≡ laidOut (now (bytes .entry)) (pinsIn (now (bytes .entry))) (macrosIn (now (bytes .entry))) ⌝ }
+    ensures answer { λ r. ⌜ told r ≡ answerIn (now (bytes .entry)) ⌝ }
     ensures pins { λ _. ⌜ now (pins .exit)
-        ≡ after (laidOut (now (bytes .entry)) (pinsIn (now (bytes .entry))) (macrosIn (now (bytes .entry))))
-        (pinsIn (now (bytes .entry))) (now (pins .entry)) ⌝ }
+        ≡ after (answerIn (now (bytes .entry))) (pinsIn (now (bytes .entry))) (now (pins .entry)) ⌝ }
     ensures macros { λ _. ⌜ now (macros .exit)
-        ≡ after (laidOut (now (bytes .entry)) (pinsIn (now (bytes .entry))) (macrosIn (now (bytes .entry))))
-        (macrosIn (now (bytes .entry))) (now (macros .entry)) ⌝ }
+        ≡ after (answerIn (now (bytes .entry))) (macrosIn (now (bytes .entry))) (now (macros .entry)) ⌝ }
 {
     let answer = check_file(bytes);
     match answer {
@@ -511,7 +577,8 @@ fn room_short(pins: &[i32], macros: &[i32]) -> bool
     (pins.len() < PIN_LIST) | (macros.len() < MACRO_LIST)
 }
 
-// Read a net file: 21 where less than the largest net is lent, 1 to 3 for the file, then 11 to 17 for its lists.
+// Read a net file: 21 where less than the largest net is lent, 1 to 3 for the file, then 11 to 17 for its lists. No file is refused by 18:
+// weights that would be are 3.
 pub fn read(bytes: &[u8], pins: &mut [i32], macros: &mut [i32]) -> Checked
     ensures answer { λ r. ⌜ told r ≡ readFile (now (bytes .entry)) (length (now (pins .entry))) (length (now (macros .entry))) ⌝ }
     ensures pins { λ _. ⌜ now (pins .exit)
@@ -530,7 +597,7 @@ pub fn read(bytes: &[u8], pins: &mut [i32], macros: &mut [i32]) -> Checked
     if any_wrong_sums(bytes) {
         return Checked::Refused(Refusal::Sums);
     }
-    if counts_wrong(bytes) {
+    if head_wrong(bytes) {
         return Checked::Refused(Refusal::Layout);
     }
     read_counted(bytes, &mut *pins, &mut *macros)

@@ -1,5 +1,5 @@
--- Cost: what everything above knows of it. The same both ways, 0 exactly at equal places, additive through a place in the box, the
--- triangle, and how much at most. Each is the gaps' own law, multiplied by a weight on both sides.
+-- Cost: what everything above knows of it. The same both ways, 0 exactly at equal places, no less than the distance, additive through a
+-- place in the box, the triangle, and how much at most. Each is the gaps' own law, multiplied by a weight on both sides.
 -- Assumes nothing.
 use mathlib.Core.Path.{_≡_, sym, ap, ap₂, _∙_}
 use Prim.Native.Nat.{ℕ, _+_, _*_, _^_, _≤_, _<_}
@@ -57,6 +57,14 @@ module _ (w : Weights) where
       let across : a .x ≡ b .x = apart-none _ _ (product-none (apart (a .x) (b .x)) (w .across) (p .across) (omega (arith, e))) in
       let along : a .y ≡ b .y = apart-none _ _ (product-none (apart (a .y) (b .y)) (w .along) (p .along) (omega (arith, e))) in
       ap₂ place across along
+
+  -- no less than the distance
+  pub distance-cost : Positive w → (a b : Place) → distance a b ≤ cost w a b
+  unfolding cost distance
+  distance-cost p a b =
+      let across : apart (a .x) (b .x) ≤ apart (a .x) (b .x) * w .across = le-mul-of-pos-right _ (omega (arith, p .across)) in
+      let along : apart (a .y) (b .y) ≤ apart (a .y) (b .y) * w .along = le-mul-of-pos-right _ (omega (arith, p .along)) in
+      omega (arith, across, along)
 
   -- a way through a place in the box costs no more
   pub cost-through : (s a b : Place) → InBox s a b → cost w s a + cost w s b ≡ cost w a b

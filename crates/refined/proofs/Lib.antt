@@ -1,4 +1,5 @@
 pub mod GivenLaws
+pub mod MetalLaws
 pub mod WireLaws
 pub mod WorkedWires
 pub mod WireSound

@@ -4,6 +4,7 @@
 -- are a listing from the last to the first; what is promised there depends on which edges there are, and is carried over. The total is in
 -- cost, as the refiner chooses; wires are metal, and measured by plain length.
 --
+--   Metal      metal es                    R22: the metal to lay for edges, their plain lengths added up
 --   Wires      drawn a b                   the wire from a to b, unless its length is zero
 --              bend a b                    where the horizontal wire ends and the vertical one begins
 --              wiresOfEdge e, wires es     the wires of an edge; of edges one after the other
@@ -13,8 +14,10 @@
 --              Given                       what is promised of the edges and the total that are given for a refined tree
 --
 -- THE THEOREMS
+--   MetalLaws      total-plain             the refiner's sum at weights of 1 is metal;  metal-low: never more than the cost
 --   WireSound      edge-wired              the wires of every edge keep `EdgeWires`;  wired: those of edges keep `Wired`
 --   EdgeSound      given-edges             the edges of a refined tree, with the refiner's total, keep `Given`
 --   NetRefined     union-promise           the refined tree of an allowed net's union keeps `Promise`;  union-tabled: and `Tabled`
+pub mod Metal
 pub mod Wires
 pub mod Promise

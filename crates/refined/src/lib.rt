@@ -1,5 +1,6 @@
-// The refined tree's edges and its wires, from the refiner's tables into lent space.
+// The refined tree's edges and its wires, from the refiner's tables into lent space, and its metal.
 use plane::Place;
+use plane::Weights;
 use tree::NUMBERS;
 use tree::POINTS;
 ghost use mathlib.Core.Path.{_≡_};
@@ -11,6 +12,7 @@ ghost use Rattle.lent.specs.Entries.{flat};
 ghost use Rattle.graph.specs.Numbers.{edgeNumbers};
 ghost use Rattle.tree.specs.Table.{treeBound, pairBound, Small};
 ghost use Rattle.tree.specs.Edges.{tableEdges};
+ghost use Rattle.refined.specs.Metal.{metal};
 ghost use Rattle.refined.specs.Wires.{drawn, bend, wiresOfEdge, wires};
 
 // The first e edges, in order.
@@ -27,6 +29,18 @@ pub fn give_edges(pts: &[i32; NUMBERS], keys: &[usize; POINTS], e: usize, lent: 
         graph::put_edge(&mut *lent, k, a, b);
         k += 1;
     }
+}
+
+// The metal to lay for the first e edges: their lengths added up, whatever the net's weights.
+pub fn metal(pts: &[i32; NUMBERS], keys: &[usize; POINTS], e: usize) -> u64
+    requires { ⌜ (e ≤ treeBound) × (Small pairBound (now keys)) ⌝ }
+    ensures { λ r. ⌜ r ≡ metal (tableEdges (now (pts .entry)) (now (keys .entry)) e) ⌝ }
+{
+    let plain = Weights {
+        across: 1,
+        along: 1,
+    };
+    refiner::total(plain, pts, keys, e)
 }
 
 // Where the horizontal wire from a ends and the vertical one to b begins.

@@ -13,12 +13,16 @@ use Rattle.lent.specs.Entries.{flat, entries}
 use Rattle.lent.proofs.OverLaws.{take-over}
 use Rattle.lent.proofs.EntryTable.{length-flat, entries-over}
 use Rattle.plane.specs.declared.Place.{Place}
+use Rattle.plane.specs.declared.Weights.{Weights}
 use Rattle.net.specs.declared.Net.{Net as Counts}
 use Rattle.net.specs.Bounds.{pinBound, macroBound, pinWidth, macroWidth, treeBound}
+use Rattle.net.specs.declared.Weighing.{Weighing}
+use Rattle.net.specs.Net.{handed}
 use Rattle.net.specs.Pins.{pinCount, macroCount}
 use Rattle.net.specs.Check.{checked, countsOf}
 use Rattle.net.proofs.PassedLaws.{passed-all, pins-counted, macros-counted}
 use Rattle.net.proofs.CheckLaws.{allow}
+use Rattle.net.proofs.AllowedLaws.{given-counts}
 use Rattle.net.proofs.PinLaws as pin-laws
 use Rattle.graph.specs.Numbers.{edgeNumbers, edgeFrom}
 use Rattle.graph.proofs.WidthLaws.{edge-width}
@@ -27,7 +31,7 @@ use Rattle.netfile.specs.Read.{pinsIn, macrosIn, readFile}
 use Rattle.netfile.proofs.RoundTrip.{accepted-is-ours}
 use Rattle.router.specs.Graph.{pointCount}
 use Rattle.router.specs.Terminal.{pathsOf, pathsTotal, terminalGiven, terminalTree}
-use Rattle.router.specs.Refined.{laidOf, laidTotal, refinedGiven, refinedTree}
+use Rattle.router.specs.Refined.{laidAnswer, refinedGiven, refinedTree}
 use Rattle.router.proofs.AnswerLaws.{only-given, room-enough}
 use Rattle.report.specs.Text.{treeText, refusedText}
 use Rattle.report.specs.Route.{treesText, answerText, routeText}
@@ -41,39 +45,45 @@ same-parts {A} {B} a c b d e =
     let f = same-given {A = A × B} (a, b) (c, d) e in
     (ap (λ (v : A × B). v .0) f, ap (λ (v : A × B). v .1) f)
 
+pub same-three : {A B C : Type 0} {a a′ : A} {b b′ : B} {c c′ : C}
+    → _≡_ {A = Told (A × (B × C))} (given (a, (b, c))) (given (a′, (b′, c′))) → (a ≡ a′) × ((b ≡ b′) × (c ≡ c′))
+same-three {A} {B} {C} {a} {a′} {b} {b′} {c} {c′} e =
+    let f = same-given {A = A × (B × C)} (a, (b, c)) (a′, (b′, c′)) e in
+    (ap (λ (v : A × (B × C)). v .0) f, (ap (λ (v : A × (B × C)). v .1 .0) f, ap (λ (v : A × (B × C)). v .1 .1) f))
+
 -- the counts of an allowed net
-pub record Counted (pins macros : List ℤ) : Type 0 where
-  pub allowed : checked pins macros ≡ given (countsOf pins macros)
+pub record Counted (w : Weighing) (pins macros : List ℤ) : Type 0 where
+  pub allowed : checked w pins macros ≡ given (countsOf w pins macros)
   pub pin-numbers : pinCount pins * pinWidth ≡ length pins
   pub macro-numbers : macroCount macros * macroWidth ≡ length macros
   pub few-pins : pinCount pins ≤ pinBound
   pub few-macros : macroCount macros ≤ macroBound
 
-module _ (pins macros : List ℤ) where
-  pub counted : (net : Counts) → checked pins macros ≡ given net → Counted pins macros
+module _ (w : Weighing) (pins macros : List ℤ) where
+  pub counted : (net : Counts) → checked w pins macros ≡ given net → Counted w pins macros
   counted net e =
-      let past = passed-all pins macros net e in
-      let p = pins-counted pins (past .past .past .past .past .past .past .past .passed) in
-      let m = macros-counted macros (past .past .past .past .past .past .past .passed) in
+      let past = passed-all w pins macros net e in
+      let p = pins-counted pins (past .past .past .past .past .past .past .past .past .passed) in
+      let m = macros-counted macros (past .past .past .past .past .past .past .past .passed) in
       record {
-        allowed = allow pins macros past;
+        allowed = allow w pins macros past;
         pin-numbers = pin-laws.pin-numbers pins (p .whole);
         macro-numbers = pin-laws.macro-numbers macros (m .whole);
         few-pins = p .few;
         few-macros = m .few;
       }
 
-  module _ (c : Counted pins macros) where
-    pub terminal-given : terminalTree pins macros (pinBound * 5) ≡ given (length (pathsOf pins macros), pos (pathsTotal pins macros))
+  module _ (c : Counted w pins macros) where
+    pub terminal-given : terminalTree w pins macros (pinBound * 5) ≡ given (length (pathsOf w pins macros), pos (pathsTotal w pins macros))
     unfolding terminalTree terminalGiven
     terminal-given =
-        only-given (checked pins macros) (terminalGiven pins macros (pinBound * 5)) _ (c .allowed)
+        only-given (checked w pins macros) (terminalGiven w pins macros (pinBound * 5)) _ (c .allowed)
         ∙ room-enough (pinCount pins * 5) (pinBound * 5) _ (omega (arith, c .few-pins))
 
-    pub refined-given : refinedTree pins macros (treeBound * 4) ≡ given (length (laidOf pins macros), pos (laidTotal pins macros))
+    pub refined-given : refinedTree w pins macros (treeBound * 4) ≡ given (laidAnswer w pins macros)
     unfolding refinedTree refinedGiven
     refined-given =
-        only-given (checked pins macros) (refinedGiven pins macros (treeBound * 4)) _ (c .allowed)
+        only-given (checked w pins macros) (refinedGiven w pins macros (treeBound * 4)) _ (c .allowed)
         ∙ room-enough ((pointCount pins macros + pinCount pins) * 4) (treeBound * 4) _ (omega (arith, c .few-pins, c .few-macros))
 
 -- the edges given, read back from the table that they were given in
@@ -98,15 +108,17 @@ front xs lent table n t e = rw (t, e) (take-over xs lent)
 
 -- an accepted file
 module _ (file : List ℕ) (net : Counts) (given-net : readFile file pinListBound macroListBound ≡ given net) where
-  pub lists : Counted (pinsIn file) (macrosIn file)
-  lists = counted (pinsIn file) (macrosIn file) net (accepted-is-ours file pinListBound macroListBound net given-net .lists)
+  pub lists : checked (handed (net .weights)) (pinsIn file) (macrosIn file) ≡ given net
+  lists =
+      let ours = accepted-is-ours file pinListBound macroListBound net given-net in
+      ap (λ (v : Weights). checked (handed v) (pinsIn file) (macrosIn file)) (ours .weights) ∙ ours .lists
 
-  pub net-is : net ≡ countsOf (pinsIn file) (macrosIn file)
-  net-is = same-given _ _ (sym (accepted-is-ours file pinListBound macroListBound net given-net .lists) ∙ lists .allowed)
+  pub net-is : net ≡ countsOf (handed (net .weights)) (pinsIn file) (macrosIn file)
+  net-is = given-counts (handed (net .weights)) (pinsIn file) (macrosIn file) lists
 
-  pub route-given : treesText (pinCount (pinsIn file)) (macroCount (macrosIn file)) (pinsIn file) (macrosIn file) ≡ routeText file
+  pub route-given : treesText net (pinsIn file) (macrosIn file) ≡ routeText file
   unfolding routeText answerText
-  route-given = rw given-net (ap (λ (v : Counts). treesText (v .pins) (v .macros) (pinsIn file) (macrosIn file)) (sym net-is))
+  route-given = rw given-net refl
 
 pub route-refused : (file : List ℕ) (n : ℕ) → readFile file pinListBound macroListBound ≡ refused n → refusedText (pos n)
     ≡ routeText file
@@ -114,6 +126,7 @@ unfolding routeText answerText
 route-refused file n e = rw e refl
 
 -- texts of the same numbers
-pub same-text : {m m′ k k′ : ℕ} {t t′ r r′ : ℤ} {es es′ : List (Place × Place)} → m ≡ m′ → k ≡ k′ → t ≡ t′ → r ≡ r′ → es ≡ es′
-    → treeText m k t r es ≡ treeText m′ k′ t′ r′ es′
-same-text a b c d e = cc
+pub same-text : (w : Weights) (m k : ℕ) {t t′ r r′ l l′ : ℤ} {es es′ : List (Place × Place)} → t ≡ t′ → r ≡ r′ → l ≡ l′ → es ≡ es′
+    → treeText w (record { pins = m; macros = k; terminal = t; refined = r; metal = l }) es
+    ≡ treeText w (record { pins = m; macros = k; terminal = t′; refined = r′; metal = l′ }) es′
+same-text w m k a b c d = cc

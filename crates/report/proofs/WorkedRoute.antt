@@ -4,16 +4,17 @@ use mathlib.Core.Path.{_≡_, refl}
 use mathlib.Core.List.{List, [], _∷_, _++_}
 use Prim.Native.Nat.{ℕ}
 use lib.ListN.{replicate}
+use Rattle.plane.specs.Cost.{plain}
 use Rattle.net.specs.WorkedNets.{threePins}
 use Rattle.netfile.specs.Layout.{fileBytes}
 use Rattle.netfile.proofs.WorkedFiles.{words, readWords}
-use Rattle.router.proofs.WorkedNets.{trees}
+use Rattle.router.proofs.WorkedNets.{treesBy}
 use Rattle.report.specs.Route.{treesText, answerText, routeText}
 use Rattle.report.proofs.WorkedTexts.{threeLines, shown, shownRefused}
 
 -- what is printed for a file; to unfold this is to unfold all that it rests on
 unfoldable pub printed : List ℕ → List ℕ
-unfolding words readWords trees shown shownRefused treesText answerText routeText
+unfolding words readWords treesBy shown shownRefused treesText answerText routeText
 printed file = routeText file
 
 -- The bytes of examples/files/three-pins.net
@@ -38,10 +39,10 @@ pinBytes =
 
 pub record ThirdNet : Type 0 where
   -- the file's bytes are those that the layout makes of the net
-  pub file : fileBytes (threePins .pins) (threePins .macros) ≡ headBytes ++ pinBytes
+  pub file : fileBytes plain (threePins .pins) (threePins .macros) ≡ headBytes ++ pinBytes
   -- and this is printed for them
   pub text : routeText (headBytes ++ pinBytes) ≡ threeLines
-  pub routed : routeText (fileBytes (threePins .pins) (threePins .macros)) ≡ threeLines
+  pub routed : routeText (fileBytes plain (threePins .pins) (threePins .macros)) ≡ threeLines
 
 pub third-net : ThirdNet
 unfolding printed

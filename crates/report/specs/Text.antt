@@ -6,7 +6,9 @@ use lib.Dec.{ltb}
 use lib.IntN.{ℤ, pos, negsuc}
 use Rattle.lent.specs.Entries.{flat}
 use Rattle.plane.specs.declared.Place.{Place}
-use Rattle.plane.specs.Distance.{distance}
+use Rattle.plane.specs.declared.Weights.{Weights}
+use Rattle.plane.specs.Cost.{cost}
+use Rattle.report.specs.declared.Header.{Header}
 
 -- Numbers
 
@@ -38,9 +40,9 @@ line [] = newline ∷ []
 line (z ∷ []) = whole z ++ (newline ∷ [])
 line (z ∷ (y ∷ rest)) = whole z ++ (space ∷ line (y ∷ rest))
 
--- P3: the line of an edge, its two places and its length
-unfoldable pub edgeLine : Place × Place → List ℕ
-edgeLine e = line (e .0 .x ∷ (e .0 .y ∷ (e .1 .x ∷ (e .1 .y ∷ (pos (distance (e .0) (e .1)) ∷ [])))))
+-- P3: the line of an edge, its two places and its cost
+unfoldable pub edgeLine : Weights → Place × Place → List ℕ
+edgeLine w e = line (e .0 .x ∷ (e .0 .y ∷ (e .1 .x ∷ (e .1 .y ∷ (pos (cost w (e .0) (e .1)) ∷ [])))))
 
 -- Words, each with the spaces that stand around it
 
@@ -60,23 +62,30 @@ terminalWord = 32 ∷ (116 ∷ (101 ∷ (114 ∷ (109 ∷ (105 ∷ (110 ∷ (97 
 abbrev pub refinedWord : List ℕ
 refinedWord = 32 ∷ (114 ∷ (101 ∷ (102 ∷ (105 ∷ (110 ∷ (101 ∷ (100 ∷ (32 ∷ []))))))))
 
+-- " metal "
+abbrev pub metalWord : List ℕ
+metalWord = 32 ∷ (109 ∷ (101 ∷ (116 ∷ (97 ∷ (108 ∷ (32 ∷ []))))))
+
 -- "refused "
 abbrev pub refusedWord : List ℕ
 refusedWord = 114 ∷ (101 ∷ (102 ∷ (117 ∷ (115 ∷ (101 ∷ (100 ∷ (32 ∷ [])))))))
 
 -- The text
 
--- P2: the header, with m, k and the two totals
-unfoldable pub header : ℕ → ℕ → ℤ → ℤ → List ℕ
-header m k terminal refined =
-    pinsWord ++ (decimal m
-    ++ (macrosWord ++ (decimal k
-    ++ (terminalWord ++ (whole terminal
-    ++ (refinedWord ++ (whole refined ++ (newline ∷ []))))))))
+-- P2: the header, with m and k, and then the two totals and the metal to lay
+unfoldable pub countsText : ℕ → ℕ → List ℕ
+countsText m k = pinsWord ++ (decimal m ++ (macrosWord ++ decimal k))
+
+unfoldable pub totalsText : ℤ → ℤ → ℤ → List ℕ
+totalsText terminal refined metal =
+    terminalWord ++ (whole terminal ++ (refinedWord ++ (whole refined ++ (metalWord ++ (whole metal ++ (newline ∷ []))))))
+
+unfoldable pub header : Header → List ℕ
+header h = countsText (h .pins) (h .macros) ++ totalsText (h .terminal) (h .refined) (h .metal)
 
 -- P3: the header, then a line for each edge in order
-unfoldable pub treeText : ℕ → ℕ → ℤ → ℤ → List (Place × Place) → List ℕ
-treeText m k terminal refined edges = header m k terminal refined ++ flat edgeLine edges
+unfoldable pub treeText : Weights → Header → List (Place × Place) → List ℕ
+treeText w h edges = header h ++ flat (edgeLine w) edges
 
 -- P4: the word and the number
 unfoldable pub refusedText : ℤ → List ℕ

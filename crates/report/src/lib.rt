@@ -3,6 +3,8 @@
 use net::Checked;
 use net::Net;
 use plane::Place;
+use plane::Weights;
+use router::TerminalAnswer;
 use router::TreeAnswer;
 ghost use mathlib.Core.Path.{_≡_};
 ghost use mathlib.Core.List.{[], _∷_, _++_};
@@ -11,14 +13,33 @@ ghost use lib.IntN.{pos, natAbs};
 ghost use lib.ListN.{length};
 ghost use Rattle.lent.specs.Told.{given};
 ghost use Rattle.lent.specs.Entries.{flat, entries};
-ghost use Rattle.plane.specs.Distance.{distance};
-ghost use Rattle.net.specs.Pins.{pinCount, macroCount};
-ghost use Rattle.net.specs.Check.{checked, countsOf};
+ghost use Rattle.plane.specs.Cost.{cost};
+ghost use Rattle.net.specs.Net.{handed};
+ghost use Rattle.net.specs.Check.{checked};
 ghost use Rattle.graph.specs.Numbers.{edgeFrom};
-ghost use Rattle.router.specs.Refined.{laidOf, laidTotal};
-ghost use Rattle.report.specs.Route.{treesText, routeText};
-ghost use Rattle.report.specs.Text.{decimal, whole, space, edgeLine, header, treeText, refusedText};
+ghost use Rattle.router.specs.Refined.{laidOf};
+ghost use Rattle.report.specs.Route.{headerOf, treesText, routeText};
+ghost use Rattle.report.specs.Text.{
+  decimal,
+  whole,
+  space,
+  edgeLine,
+  countsText,
+  totalsText,
+  header,
+  treeText,
+  refusedText,
+};
 ghost use Rattle.report.specs.Put.{Put, Filled};
+
+// What the first line says: m, k, the totals of both trees, and the metal to lay.
+pub struct Header {
+    pub pins: usize,
+    pub macros: usize,
+    pub terminal: i64,
+    pub refined: i64,
+    pub metal: i64,
+}
 
 // Pieces
 
@@ -115,28 +136,29 @@ fn put_place(out: &mut [u8], at: usize, p: Place) -> usize
     put_coordinate(&mut *out, next, p.y)
 }
 
-// How much metal lies between two places, as a number to print.
-fn length(a: Place, b: Place) -> i64
-    ensures { λ r. ⌜ r ≡ pos (distance a b) ⌝ }
+// What metal between two places costs, as a number to print.
+fn cost(w: Weights, a: Place, b: Place) -> i64
+    ensures { λ r. ⌜ r ≡ pos (cost w a b) ⌝ }
 {
-    plane::distance(a, b) as i64
+    plane::cost(w, a, b) as i64
 }
 
-// The line of an edge: its places and its length.
-fn put_edge(out: &mut [u8], at: usize, a: Place, b: Place) -> usize
+// The line of an edge: its places and its cost.
+fn put_edge(out: &mut [u8], at: usize, w: Weights, a: Place, b: Place) -> usize
     requires { ⌜ at + 105 ≤ length (now out) ⌝ }
-    ensures put { λ r. ⌜ Put (now (out .entry)) at (edgeLine (a, b)) (now (out .exit)) r ⌝ }
+    ensures put { λ r. ⌜ Put (now (out .entry)) at (edgeLine w (a, b)) (now (out .exit)) r ⌝ }
     ensures within { λ r. ⌜ r ≤ at + 105 ⌝ }
 {
     let second = put_place(&mut *out, at, a);
     let third = put_place(&mut *out, second, b);
-    put_number(&mut *out, third, length(a, b), b'\n')
+    put_number(&mut *out, third, cost(w, a, b), b'\n')
 }
 
 // The lines of the first `count` edges of a flat list.
-fn put_edges(out: &mut [u8], at: usize, edges: &[i32], count: usize) -> usize
+fn put_edges(out: &mut [u8], at: usize, w: Weights, edges: &[i32], count: usize) -> usize
     requires { ⌜ (at + count * 105 ≤ length (now out)) × (count * 4 ≤ length (now edges)) ⌝ }
-    ensures put { λ r. ⌜ Put (now (out .entry)) at (flat edgeLine (entries edgeFrom 4 (now (edges .entry)) count)) (now (out .exit)) r ⌝ }
+    ensures put { λ r. ⌜ Put (now (out .entry)) at (flat (edgeLine w) (entries edgeFrom 4 (now (edges .entry)) count))
+        (now (out .exit)) r ⌝ }
     ensures within { λ r. ⌜ r ≤ at + count * 105 ⌝ }
 {
     let mut next = at;
@@ -144,7 +166,7 @@ fn put_edges(out: &mut [u8], at: usize, edges: &[i32], count: usize) -> usize
     while i < count {
         let a = plane::place_at(edges, i * 2);
         let b = plane::place_at(edges, i * 2 + 1);
-        next = put_edge(&mut *out, next, a, b);
+        next = put_edge(&mut *out, next, w, a, b);
         i += 1;
     }
     next
@@ -172,36 +194,46 @@ fn put_total(out: &mut [u8], at: usize, word: &[u8], z: i64) -> usize
     put_whole(&mut *out, next, z)
 }
 
-fn put_header(out: &mut [u8], m: usize, k: usize, terminal: i64, refined: i64) -> usize
-    requires { ⌜ 120 ≤ length (now out) ⌝ }
-    ensures put { λ r. ⌜ Put (now (out .entry)) 0 (header m k terminal refined) (now (out .exit)) r ⌝ }
-    ensures within { λ r. ⌜ r ≤ 120 ⌝ }
+// The header's counts, at the front.
+fn put_counts(out: &mut [u8], m: usize, k: usize) -> usize
+    requires { ⌜ 53 ≤ length (now out) ⌝ }
+    ensures put { λ r. ⌜ Put (now (out .entry)) 0 (countsText m k) (now (out .exit)) r ⌝ }
+    ensures within { λ r. ⌜ r ≤ 53 ⌝ }
 {
-    let first = put_count(&mut *out, 0, b"pins ", m);
-    let second = put_count(&mut *out, first, b" macros ", k);
-    let third = put_total(&mut *out, second, b" terminal ", terminal);
-    let fourth = put_total(&mut *out, third, b" refined ", refined);
+    let next = put_count(&mut *out, 0, b"pins ", m);
+    put_count(&mut *out, next, b" macros ", k)
+}
+
+// Its totals and the metal, and the line's end.
+fn put_totals(out: &mut [u8], at: usize, h: Header) -> usize
+    requires { ⌜ at + 87 ≤ length (now out) ⌝ }
+    ensures put { λ r. ⌜ Put (now (out .entry)) at (totalsText (h .terminal) (h .refined) (h .metal)) (now (out .exit)) r ⌝ }
+    ensures within { λ r. ⌜ r ≤ at + 87 ⌝ }
+{
+    let second = put_total(&mut *out, at, b" terminal ", h.terminal);
+    let third = put_total(&mut *out, second, b" refined ", h.refined);
+    let fourth = put_total(&mut *out, third, b" metal ", h.metal);
     put_byte(&mut *out, fourth, b'\n')
+}
+
+fn put_header(out: &mut [u8], h: Header) -> usize
+    requires { ⌜ 140 ≤ length (now out) ⌝ }
+    ensures put { λ r. ⌜ Put (now (out .entry)) 0 (header h) (now (out .exit)) r ⌝ }
+    ensures within { λ r. ⌜ r ≤ 140 ⌝ }
+{
+    let next = put_counts(&mut *out, h.pins, h.macros);
+    put_totals(&mut *out, next, h)
 }
 
 // Texts
 
-// The text of a net of m pins and k macros, its totals, and the first `count` edges of a flat list; how many bytes it has.
-pub fn tree(
-    m: usize,
-    k: usize,
-    terminal: i64,
-    refined: i64,
-    edges: &[i32],
-    count: usize,
-    out: &mut [u8],
-) -> usize
-    requires { ⌜ (120 + count * 105 ≤ length (now out)) × (count * 4 ≤ length (now edges)) ⌝ }
-    ensures { λ r. ⌜ Filled (treeText m k terminal refined (entries edgeFrom 4 (now (edges .entry)) count)) (now (out .entry))
-        (now (out .exit)) r ⌝ }
+// The text of a tree: its header, and the first `count` edges of a flat list, by these weights; how many bytes it has.
+pub fn tree(w: Weights, h: Header, edges: &[i32], count: usize, out: &mut [u8]) -> usize
+    requires { ⌜ (140 + count * 105 ≤ length (now out)) × (count * 4 ≤ length (now edges)) ⌝ }
+    ensures { λ r. ⌜ Filled (treeText w h (entries edgeFrom 4 (now (edges .entry)) count)) (now (out .entry)) (now (out .exit)) r ⌝ }
 {
-    let next = put_header(&mut *out, m, k, terminal, refined);
-    put_edges(&mut *out, next, edges, count)
+    let next = put_header(&mut *out, h);
+    put_edges(&mut *out, next, w, edges, count)
 }
 
 // The text of a refusal; how many bytes it has.
@@ -224,44 +256,48 @@ const EDGE_NUMBERS: usize = Net::TREE_POINTS * 4;
 pub const FILE: usize = netfile::LONGEST + 1;
 
 // Bytes for the longest text: a header, and a line for each edge.
-pub const TEXT: usize = 120 + Net::TREE_POINTS * 105;
+pub const TEXT: usize = 140 + Net::TREE_POINTS * 105;
 
 // The text of an allowed net whose terminal tree has the total `terminal`; how many bytes it has. With room for the largest tree no allowed
 // net is refused, here or for the terminal tree.
-fn refined_text(pins: &[i32], macros: &[i32], terminal: i64, out: &mut [u8; TEXT]) -> usize
-    requires { ⌜ checked (now pins) (now macros) ≡ given (countsOf (now pins) (now macros)) ⌝ }
-    ensures { λ r. ⌜ Filled (treeText (pinCount (now (pins .entry))) (macroCount (now (macros .entry))) terminal
-        (pos (laidTotal (now (pins .entry)) (now (macros .entry)))) (laidOf (now (pins .entry)) (now (macros .entry))))
-        (now (out .entry)) (now (out .exit)) r ⌝ }
+fn refined_text(
+    net: Net,
+    pins: &[i32],
+    macros: &[i32],
+    terminal: i64,
+    out: &mut [u8; TEXT],
+) -> usize
+    requires { ⌜ checked (handed (net .weights)) (now pins) (now macros) ≡ given net ⌝ }
+    ensures { λ r. ⌜ Filled (treeText (net .weights) (headerOf net terminal (now (pins .entry)) (now (macros .entry)))
+        (laidOf (handed (net .weights)) (now (pins .entry)) (now (macros .entry)))) (now (out .entry)) (now (out .exit)) r ⌝ }
 {
     let mut edges = [0i32; EDGE_NUMBERS];
-    let answer = router::refined_tree(pins, macros, &mut edges);
+    let answer = router::refined_tree(net::handed(net.weights), pins, macros, &mut edges);
     match answer {
-        TreeAnswer::Given(count, total) => tree(
-            net::pin_count(pins),
-            net::macro_count(macros),
-            terminal,
-            total,
-            &edges,
-            count,
-            out,
-        ),
+        TreeAnswer::Given(count, refined, metal) => {
+            let header = Header {
+                pins: net.pins,
+                macros: net.macros,
+                terminal,
+                refined,
+                metal,
+            };
+            tree(net.weights, header, &edges, count, out)
+        }
         TreeAnswer::Refused(refusal) => refused(refusal.number(), out),
     }
 }
 
 // The text of an allowed net; how many bytes it has.
-fn trees_text(pins: &[i32], macros: &[i32], out: &mut [u8; TEXT]) -> usize
-    requires { ⌜ checked (now pins) (now macros) ≡ given (countsOf (now pins) (now macros)) ⌝ }
-    ensures { λ r. ⌜ Filled (treesText (pinCount (now (pins .entry))) (macroCount (now (macros .entry))) (now (pins .entry))
-        (now (macros .entry)))
-        (now (out .entry)) (now (out .exit)) r ⌝ }
+fn trees_text(net: Net, pins: &[i32], macros: &[i32], out: &mut [u8; TEXT]) -> usize
+    requires { ⌜ checked (handed (net .weights)) (now pins) (now macros) ≡ given net ⌝ }
+    ensures { λ r. ⌜ Filled (treesText net (now (pins .entry)) (now (macros .entry))) (now (out .entry)) (now (out .exit)) r ⌝ }
 {
     let mut paths = [0i64; PATH_NUMBERS];
-    let answer = router::terminal_tree(pins, macros, &mut paths);
+    let answer = router::terminal_tree(net::handed(net.weights), pins, macros, &mut paths);
     match answer {
-        TreeAnswer::Given(_, total) => refined_text(pins, macros, total, out),
-        TreeAnswer::Refused(refusal) => refused(refusal.number(), out),
+        TerminalAnswer::Given(_, total) => refined_text(net, pins, macros, total, out),
+        TerminalAnswer::Refused(refusal) => refused(refusal.number(), out),
     }
 }
 
@@ -276,7 +312,7 @@ pub fn route(file: &[u8], out: &mut [u8; TEXT]) -> usize
         Checked::Allowed(net) => {
             let m = net.pins * Net::PIN_NUMBERS;
             let k = net.macros * Net::MACRO_NUMBERS;
-            trees_text(&pins[..m], &macros[..k], out)
+            trees_text(net, &pins[..m], &macros[..k], out)
         }
         Checked::Refused(refusal) => refused(refusal.number(), out),
     }

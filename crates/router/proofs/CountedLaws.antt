@@ -1,4 +1,4 @@
--- What the check has counted: the code's struct of an allowed net says the net's numbers, and its weights are 1 and 1.
+-- What the check has counted: the code's struct of an allowed net says the net's numbers, and its weights are those handed over.
 -- Assumes nothing.
 use mathlib.Core.Path.{_≡_, sym, ap, subst}
 use mathlib.Core.List.{List}
@@ -10,10 +10,12 @@ use Rattle.plane.proofs.FlatLaws.{length-macros}
 use Rattle.net.specs.declared.Net.{Net as Counts}
 use Rattle.net.specs.Bounds.{pinBound, macroBound, pointBound}
 use Rattle.net.specs.Pins.{pinCount}
-use Rattle.net.specs.Net.{Net, netOf, netWith}
+use Rattle.net.specs.declared.Weighing.{Weighing}
+use Rattle.net.specs.Net.{Net, netOf, netWith, handed}
 use Rattle.net.specs.Check.{checked, pointCount as countedPoints}
 use Rattle.net.specs.Allowed.{Allowed}
 use Rattle.net.proofs.AllowedLaws.{given-allowed, given-counts}
+use Rattle.net.proofs.HandedLaws.{handed-back}
 use Rattle.net.proofs.PinLaws.{length-pins}
 use Rattle.terminal.specs.declared.TerminalTree.{TerminalTree}
 use Rattle.terminal.specs.Tables.{Tables, Worked}
@@ -24,12 +26,17 @@ use Rattle.router.specs.Counted.{Counted}
 use Rattle.router.specs.Graph.{pointCount}
 
 -- what the check gives is what was counted, of an allowed net
-pub counted-of : (pins macros : List ℤ) {n : Counts} → checked pins macros ≡ given n → Counted n pins macros
-counted-of pins macros g = record { counts = given-counts pins macros g; allowed = given-allowed pins macros g .1 }
+module _ (w : Weighing) (pins macros : List ℤ) {n : Counts} (g : checked w pins macros ≡ given n) where
+  counted : Counted n w pins macros
+  counted = record { counts = given-counts w pins macros g; allowed = given-allowed w pins macros g .1 }
 
-module _ {n : Counts} {pins macros : List ℤ} (c : Counted n pins macros) where
+  -- by the weights that it gives
+  pub counted-of : Counted n (handed (n .weights)) pins macros
+  counted-of = subst (λ (z : Weighing). Counted n z pins macros) (sym (handed-back w pins macros g)) counted
+
+module _ {n : Counts} {w : Weighing} {pins macros : List ℤ} (c : Counted n w pins macros) where
   -- the net of its weights
-  pub as-net : netWith (n .weights) pins macros ≡ netOf pins macros
+  pub as-net : netWith (n .weights) pins macros ≡ netOf w pins macros
   as-net = ap (λ (k : Counts). netWith (k .weights) pins macros) (c .counts)
 
   pub as-allowed : Allowed (netWith (n .weights) pins macros)
@@ -53,10 +60,10 @@ module _ {n : Counts} {pins macros : List ℤ} (c : Counted n pins macros) where
 
   -- what is worked out for these weights
   pub as-worked : {lent t : Tables} {r : TerminalTree} → Worked (netWith (n .weights) pins macros) lent t r →
-      Worked (netOf pins macros) lent t r
-  as-worked {lent} {t} {r} w = subst (λ (z : Net). Worked z lent t r) as-net w
+      Worked (netOf w pins macros) lent t r
+  as-worked {lent} {t} {r} x = subst (λ (z : Net). Worked z lent t r) as-net x
 
   pub as-answer : {pts : List ℤ} {ks : List ℕ} {r : Refined}
       → Answer (netWith (n .weights) pins macros) (unionOf (netWith (n .weights) pins macros)) pts ks r
-      → Answer (netOf pins macros) (unionOf (netOf pins macros)) pts ks r
-  as-answer {pts} {ks} {r} w = subst (λ (z : Net). Answer z (unionOf z) pts ks r) as-net w
+      → Answer (netOf w pins macros) (unionOf (netOf w pins macros)) pts ks r
+  as-answer {pts} {ks} {r} x = subst (λ (z : Net). Answer z (unionOf z) pts ks r) as-net x

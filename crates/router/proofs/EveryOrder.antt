@@ -19,14 +19,13 @@ use Rattle.lent.specs.Over.{after}
 use Rattle.lent.specs.Entries.{flat}
 use Rattle.lent.proofs.AfterLaws.{after-refused}
 use Rattle.joined.specs.Cost.{lengths}
-use Rattle.plane.specs.Distance.{distance}
-use Rattle.plane.specs.Cost.{cost, plain}
 use Rattle.plane.specs.Flat.{macrosOf}
 use Rattle.plane.proofs.PlaceOrder.{place-order}
 use Rattle.plane.proofs.MacroLaws.{clear-perm}
 use Rattle.net.specs.declared.Net.{Net as Counts}
 use Rattle.net.specs.Bounds.{macroWidth}
-use Rattle.net.specs.Net.{netOf}
+use Rattle.net.specs.declared.Weighing.{Weighing}
+use Rattle.net.specs.Net.{netOf, weightsOf, costIn}
 use Rattle.net.specs.Allowed.{Allowed}
 use Rattle.net.specs.Pins.{pinCount, pinPlaces}
 use Rattle.net.proofs.PinLaws.{same-pins as as-many}
@@ -38,6 +37,7 @@ use Rattle.graph.specs.Numbers.{placeNumbers, edgeNumbers}
 use Rattle.terminal.specs.Tree.{pathNumbers}
 use Rattle.terminal.proofs.BestJoiningLaws.{paths-sum}
 use Rattle.price.specs.Price.{priced}
+use Rattle.refined.specs.Metal.{metal}
 use Rattle.refined.specs.Wires.{wires}
 use Rattle.rules.specs.Edges.{Edge, edgeBefore}
 use Rattle.rules.specs.Terminal.{givenFor}
@@ -49,8 +49,8 @@ use Rattle.router.specs.Graph.{netVertices, netEdges, pointCount, graphR
 use Rattle.router.specs.Room.{ifRoom}
 use Rattle.router.specs.Terminal.{pathsOf, pathsTotal, terminalGiven, terminalTree}
 use Rattle.router.specs.Refined.{refinedOf, edgesIn, totalIn, laidOf, laidTotal, refinedGiven, refinedTree}
-use Rattle.router.specs.Refined.{wiresGiven, wired}
-use Rattle.router.specs.Price.{metalOf, netPrice}
+use Rattle.router.specs.Wires.{wiresGiven, wired}
+use Rattle.router.specs.Price.{netPrice}
 use Rattle.router.specs.EveryOrder.{SameForBoth}
 use Rattle.router.proofs.AnswerLaws.{only-refused}
 
@@ -58,9 +58,9 @@ use Rattle.router.proofs.AnswerLaws.{only-refused}
 given-order : Order (firstThen edgeBefore ltb)
 given-order = pair-order edgeBefore ltb edge-order number-order
 
-module _ (pins pins′ macros macros′ : List ℤ) (p : SamePins pins pins′) (q : SameMacros macros macros′) where
-  same-check : checked pins macros ≡ checked pins′ macros′
-  same-check = check-order pins pins′ macros macros′ p q
+module _ (w : Weighing) (pins pins′ macros macros′ : List ℤ) (p : SamePins pins pins′) (q : SameMacros macros macros′) where
+  same-check : checked w pins macros ≡ checked w pins′ macros′
+  same-check = check-order w pins pins′ macros macros′ p q
 
   -- What is asked for
 
@@ -75,16 +75,16 @@ module _ (pins pins′ macros macros′ : List ℤ) (p : SamePins pins pins′) 
 
   -- Refused
 
-  module _ (n : ℕ) (r : checked pins macros ≡ refused n) where
-    both : {A : Type 0} (x y : Told A) → onlyIf (checked pins macros) x ≡ onlyIf (checked pins′ macros′) y
+  module _ (n : ℕ) (r : checked w pins macros ≡ refused n) where
+    both : {A : Type 0} (x y : Told A) → onlyIf (checked w pins macros) x ≡ onlyIf (checked w pins′ macros′) y
     both x y = only-refused _ x n r ∙ sym (only-refused _ y n (sym same-check ∙ r))
 
     untouched : {A X : Type 0} (x y : Told A) (xs ys lent : List X) →
-        after (onlyIf (checked pins macros) x) xs lent ≡ after (onlyIf (checked pins′ macros′) y) ys lent
+        after (onlyIf (checked w pins macros) x) xs lent ≡ after (onlyIf (checked w pins′ macros′) y) ys lent
     untouched x y xs ys lent =
         sym (after-refused _ xs lent n (only-refused _ x n r)) ∙ after-refused _ ys lent n (only-refused _ y n (sym same-check ∙ r))
 
-    refused-both : SameForBoth pins pins′ macros macros′
+    refused-both : SameForBoth w pins pins′ macros macros′
     unfolding graphed terminalTree refinedTree wired netPrice
     refused-both = record {
       check = same-check;
@@ -102,16 +102,16 @@ module _ (pins pins′ macros macros′ : List ℤ) (p : SamePins pins pins′) 
 
   -- Allowed
 
-  module _ (net : Counts) (g : checked pins macros ≡ given net) where
-    a : Allowed (netOf pins macros)
-    a = given-allowed pins macros g .1
+  module _ (net : Counts) (g : checked w pins macros ≡ given net) where
+    a : Allowed (netOf w pins macros)
+    a = given-allowed w pins macros g .1
 
-    b : Allowed (netOf pins′ macros′)
-    b = given-allowed pins′ macros′ (sym same-check ∙ g) .1
+    b : Allowed (netOf w pins′ macros′)
+    b = given-allowed w pins′ macros′ (sym same-check ∙ g) .1
 
     -- by the rules the two nets are alike
     alike : List·Permᴰ (pinPlaces pins) (pinPlaces pins′) → List·Permᴰ (macrosOf macros) (macrosOf macros′) →
-        SameNet plain (pinPlaces pins) (pinPlaces pins′) (macrosOf macros) (macrosOf macros′)
+        SameNet (weightsOf w) (pinPlaces pins) (pinPlaces pins′) (macrosOf macros) (macrosOf macros′)
     alike d e = record {
       to = perm-among d;
       from = perm-among (Permᴰ·symm d);
@@ -121,72 +121,72 @@ module _ (pins pins′ macros macros′ : List ℤ) (p : SamePins pins pins′) 
       clears = λ x y. clear-perm x y _ _ (q .order);
     }
 
-    same-vertices : netVertices pins macros ≡ netVertices pins′ macros′
+    same-vertices : netVertices w pins macros ≡ netVertices w pins′ macros′
     unfolding netVertices
     same-vertices =
         ∥∥₁-elim (p .order) (order-lists-set place-order _ _) λ d.
         ∥∥₁-elim (q .order) (order-lists-set place-order _ _) λ e. trees-same (alike d e) a b .vertices
 
-    same-edges : netEdges pins macros ≡ netEdges pins′ macros′
+    same-edges : netEdges w pins macros ≡ netEdges w pins′ macros′
     unfolding netEdges netVertices
     same-edges =
         ∥∥₁-elim (p .order) (order-lists-set edge-order _ _) λ d.
         ∥∥₁-elim (q .order) (order-lists-set edge-order _ _) λ e. trees-same (alike d e) a b .edges
 
-    same-paths : pathsOf pins macros ≡ pathsOf pins′ macros′
+    same-paths : pathsOf w pins macros ≡ pathsOf w pins′ macros′
     unfolding pathsOf
     same-paths =
         ∥∥₁-elim (p .order) (order-lists-set given-order _ _) λ d.
         ∥∥₁-elim (q .order) (order-lists-set given-order _ _) λ e.
-        sym (paths-given a) ∙ ap (map (givenFor (netOf pins macros))) (trees-same (alike d e) a b .paths) ∙ paths-given b
+        sym (paths-given a) ∙ ap (map (givenFor (netOf w pins macros))) (trees-same (alike d e) a b .paths) ∙ paths-given b
 
-    same-laid : laidOf pins macros ≡ laidOf pins′ macros′
+    same-laid : laidOf w pins macros ≡ laidOf w pins′ macros′
     unfolding edgesIn refinedOf
     same-laid =
         ∥∥₁-elim (p .order) (order-lists-set edge-order _ _) λ d.
         ∥∥₁-elim (q .order) (order-lists-set edge-order _ _) λ e. trees-same (alike d e) a b .refined
 
-    same-total : pathsTotal pins macros ≡ pathsTotal pins′ macros′
+    same-total : pathsTotal w pins macros ≡ pathsTotal w pins′ macros′
     unfolding pathsTotal pathsOf
     same-total = paths-sum a ∙ ap (λ (l : List (Edge × ℕ)). total (map (λ k. k .1) l)) same-paths ∙ sym (paths-sum b)
 
-    same-metal : laidTotal pins macros ≡ laidTotal pins′ macros′
+    same-cost : laidTotal w pins macros ≡ laidTotal w pins′ macros′
     unfolding totalIn
-    same-metal = ap (lengths (cost plain)) same-laid
+    same-cost = ap (lengths (costIn (netOf w pins macros))) same-laid
 
     -- so the answers are the same
 
-    same-graph : (v e : ℕ) → graphed pins macros v e ≡ graphed pins′ macros′ v e
+    same-graph : (v e : ℕ) → graphed w pins macros v e ≡ graphed w pins′ macros′ v e
     unfolding graphed graphGiven
     same-graph v e =
         ap₂ onlyIf same-check
         (ap₂ (λ (n : ℕ) (counts : ℕ × ℕ). cond (graphRoomShort n v e) (refused 21) (given counts)) same-points
         (ap₂ (λ (m n : ℕ). (m, n)) (ap length same-vertices) (ap length same-edges)))
 
-    same-terminal : (room : ℕ) → terminalTree pins macros room ≡ terminalTree pins′ macros′ room
+    same-terminal : (room : ℕ) → terminalTree w pins macros room ≡ terminalTree w pins′ macros′ room
     unfolding terminalTree terminalGiven
     same-terminal room =
         ap₂ onlyIf same-check
         (ap₂ (λ (m : ℕ) (z : ℕ × ℤ). ifRoom (m * 5) room z) same-pins
         (ap₂ (λ (l : List (Edge × ℕ)) (t : ℕ). (length l, pos t)) same-paths same-total))
 
-    same-refined : (room : ℕ) → refinedTree pins macros room ≡ refinedTree pins′ macros′ room
+    same-refined : (room : ℕ) → refinedTree w pins macros room ≡ refinedTree w pins′ macros′ room
     unfolding refinedTree refinedGiven
     same-refined room =
         ap₂ onlyIf same-check
-        (ap₂ (λ (n : ℕ) (z : ℕ × ℤ). ifRoom (n * 4) room z) same-room
-        (ap₂ (λ (l : List Edge) (t : ℕ). (length l, pos t)) same-laid same-metal))
+        (ap₂ (λ (n : ℕ) (z : ℕ × (ℤ × ℤ)). ifRoom (n * 4) room z) same-room
+        (ap₂ (λ (l : List Edge) (t : ℕ). (length l, (pos t, pos (metal l)))) same-laid same-cost))
 
-    same-wires : (room : ℕ) → wired pins macros room ≡ wired pins′ macros′ room
+    same-wires : (room : ℕ) → wired w pins macros room ≡ wired w pins′ macros′ room
     unfolding wired wiresGiven
     same-wires room =
         ap₂ onlyIf same-check (ap₂ (λ (n : ℕ) (l : List Edge). ifRoom (n * 8) room (length (wires l))) same-room same-laid)
 
-    same-price : (bands : List ℕ) → netPrice pins macros bands ≡ netPrice pins′ macros′ bands
-    unfolding netPrice metalOf
-    same-price bands = ap₂ onlyIf same-check (ap (λ (l : List Edge). priced (lengths distance l) bands) same-laid)
+    same-price : (bands : List ℕ) → netPrice w pins macros bands ≡ netPrice w pins′ macros′ bands
+    unfolding netPrice
+    same-price bands = ap₂ onlyIf same-check (ap (λ (l : List Edge). priced (metal l) bands) same-laid)
 
-    given-both : SameForBoth pins pins′ macros macros′
+    given-both : SameForBoth w pins pins′ macros macros′
     given-both = record {
       check = same-check;
       graph = same-graph;
@@ -201,9 +201,9 @@ module _ (pins pins′ macros macros′ : List ℤ) (p : SamePins pins pins′) 
       price = same-price;
     }
 
-  pub every-order : SameForBoth pins pins′ macros macros′
-  every-order = at (checked pins macros) refl
+  pub every-order : SameForBoth w pins pins′ macros macros′
+  every-order = at (checked w pins macros) refl
     where
-      at : (t : Told Counts) → checked pins macros ≡ t → SameForBoth pins pins′ macros macros′
+      at : (t : Told Counts) → checked w pins macros ≡ t → SameForBoth w pins pins′ macros macros′
       at (refused n) r = refused-both n r
       at (given net) g = given-both net g

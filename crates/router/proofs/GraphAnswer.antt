@@ -13,28 +13,29 @@ use Rattle.lists.proofs.TestLaws.{or-none}
 use Rattle.lent.specs.Told.{refused, given, onlyIf}
 use Rattle.plane.proofs.FlatLaws.{length-macros}
 use Rattle.net.specs.declared.Net.{Net as Counts}
+use Rattle.net.specs.declared.Weighing.{Weighing}
 use Rattle.net.specs.Net.{netOf}
 use Rattle.net.proofs.PinLaws.{length-pins}
 use Rattle.net.specs.Check.{checked}
 use Rattle.graph.proofs.VertexLaws.{length-vertices}
 use Rattle.router.specs.Graph.{netVertices, netEdges, pointCount, graphRoomShort, graphGiven, graphed}
 
-module _ (pins macros : List ℤ) (v e : ℕ) where
-  pub graphed-refused : (n : ℕ) → checked pins macros ≡ refused n → graphed pins macros v e ≡ refused n
+module _ (w : Weighing) (pins macros : List ℤ) (v e : ℕ) where
+  pub graphed-refused : (n : ℕ) → checked w pins macros ≡ refused n → graphed w pins macros v e ≡ refused n
   unfolding graphed onlyIf
   graphed-refused n r = rw r refl
 
-  pub graphed-allowed : (net : Counts) → checked pins macros ≡ given net → graphed pins macros v e ≡ graphGiven pins macros v e
+  pub graphed-allowed : (net : Counts) → checked w pins macros ≡ given net → graphed w pins macros v e ≡ graphGiven w pins macros v e
   unfolding graphed onlyIf
   graphed-allowed net r = rw r refl
 
-  pub graph-short : (ltb v (pointCount pins macros * 2) || ltb e (pointCount pins macros * 16)) ≡ true → graphGiven pins macros v e
+  pub graph-short : (ltb v (pointCount pins macros * 2) || ltb e (pointCount pins macros * 16)) ≡ true → graphGiven w pins macros v e
       ≡ refused 21
   unfolding graphGiven graphRoomShort
   graph-short r = rw r refl
 
   pub graph-fits : (ltb v (pointCount pins macros * 2) || ltb e (pointCount pins macros * 16)) ≡ false
-      → graphGiven pins macros v e ≡ given (length (netVertices pins macros), length (netEdges pins macros))
+      → graphGiven w pins macros v e ≡ given (length (netVertices w pins macros), length (netEdges w pins macros))
   unfolding graphGiven graphRoomShort
   graph-fits r = rw r refl
 
@@ -46,7 +47,7 @@ module _ (pins macros : List ℤ) (v e : ℕ) where
       (ltb-false v (pointCount pins macros * 2) (s .0), ltb-false e (pointCount pins macros * 16) (s .1))
 
 -- at most n vertices
-pub vertices-few : (pins macros : List ℤ) → length (netVertices pins macros) ≤ pointCount pins macros
+pub vertices-few : (w : Weighing) (pins macros : List ℤ) → length (netVertices w pins macros) ≤ pointCount pins macros
 unfolding netVertices
-vertices-few pins macros =
-    omega (arith, length-vertices (netOf pins macros), length-pins pins, length-macros macros)
+vertices-few w pins macros =
+    omega (arith, length-vertices (netOf w pins macros), length-pins pins, length-macros macros)

@@ -9,3 +9,4 @@ pub mod EveryOrder
 pub mod WorkedNets
 pub mod WorkedPrices
 pub mod Published
+pub mod FirstRelease

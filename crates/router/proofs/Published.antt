@@ -11,8 +11,8 @@ use Rattle.lists.proofs.TestLaws.{or-neither}
 use Rattle.lent.specs.Told.{given}
 use Rattle.lent.specs.Entries.{flat}
 use Rattle.plane.specs.Flat.{macrosOf}
-use Rattle.plane.proofs.CostLaws.{cost-plain}
 use Rattle.net.specs.Pins.{pinCount}
+use Rattle.net.specs.declared.Weighing.{Weighing}
 use Rattle.net.specs.Check.{checked}
 use Rattle.net.specs.declared.Net.{Net as Counts}
 use Rattle.net.proofs.AllowedLaws.{given-allowed}
@@ -27,11 +27,11 @@ use Rattle.rules.proofs.RefinedOurs.{between-trees, falls-between, refined-tree
 use Rattle.rules.proofs.TreesOurs.{trees-ours, trees-only}
 use Rattle.router.specs.Graph.{netVertices, netEdges, pointCount}
 use Rattle.router.specs.Terminal.{pathsOf, pathsTotal, terminalGiven, terminalTree}
-use Rattle.router.specs.Refined.{refinedOf, edgesIn, totalIn, laidOf, laidTotal, refinedGiven, refinedTree}
-use Rattle.router.specs.Refined.{wiresOf, wiresGiven, wired}
+use Rattle.router.specs.Refined.{refinedOf, edgesIn, totalIn, laidOf, laidTotal, laidAnswer, refinedGiven, refinedTree}
+use Rattle.router.specs.Wires.{wiresOf, wiresGiven, wired}
 use Rattle.router.specs.Published.{Promised}
 use Rattle.router.proofs.AnswerLaws.{only-given, room-enough}
-use Rattle.router.proofs.RefinedLaws.{length-plain}
+use Rattle.router.proofs.RefinedLaws.{metal-low}
 use Rattle.router.proofs.GraphAnswer.{graphed-allowed, graph-fits}
 
 wires-flat : (es : List Edge) → wires es ≡ flat wiresOfEdge es
@@ -39,39 +39,39 @@ unfolding wires flat
 wires-flat [] = refl
 wires-flat (e ∷ es) = ap (λ (l : List Edge). wiresOfEdge e ++ l) (wires-flat es)
 
-pub promised : (pins macros : List ℤ) {net : Counts} → checked pins macros ≡ given net → Promised pins macros
+pub promised : (w : Weighing) (pins macros : List ℤ) {net : Counts} → checked w pins macros ≡ given net → Promised w pins macros
 unfolding netVertices netEdges pathsOf pathsTotal refinedOf edgesIn totalIn terminalTree terminalGiven refinedTree refinedGiven wired
     wiresGiven
-promised pins macros {net} g =
-    let t = checked pins macros in
-    let a = given-allowed pins macros g .1 in
-    let laws = wired-laws (laidOf pins macros) in
+promised w pins macros {net} g =
+    let t = checked w pins macros in
+    let a = given-allowed w pins macros g .1 in
+    let laws = wired-laws (laidOf w pins macros) in
     record {
       graph-given =
           λ v e h k.
-          graphed-allowed pins macros v e net g
-          ∙ graph-fits pins macros v e (or-neither _ _ (le-ltb v (pointCount pins macros * 2) h)
+          graphed-allowed w pins macros v e net g
+          ∙ graph-fits w pins macros v e (or-neither _ _ (le-ltb v (pointCount pins macros * 2) h)
           (le-ltb e (pointCount pins macros * 16) k));
       terminal-given =
           λ room h.
-          only-given t (terminalGiven pins macros room) net g
-          ∙ room-enough {A = ℕ × ℤ} (pinCount pins * 5) room (length (pathsOf pins macros), pos (pathsTotal pins macros)) h;
+          only-given t (terminalGiven w pins macros room) net g
+          ∙ room-enough {A = ℕ × ℤ} (pinCount pins * 5) room (length (pathsOf w pins macros), pos (pathsTotal w pins macros)) h;
       refined-given =
           λ room h.
-          only-given t (refinedGiven pins macros room) net g
-          ∙ room-enough {A = ℕ × ℤ} ((pointCount pins macros + pinCount pins) * 4) room
-          (length (laidOf pins macros), pos (laidTotal pins macros)) h;
+          only-given t (refinedGiven w pins macros room) net g
+          ∙ room-enough {A = ℕ × (ℤ × ℤ)} ((pointCount pins macros + pinCount pins) * 4) room (laidAnswer w pins macros) h;
       wires-given =
           λ room h.
-          only-given t (wiresGiven pins macros room) net g
-          ∙ room-enough ((pointCount pins macros + pinCount pins) * 8) room (length (wiresOf pins macros)) h;
+          only-given t (wiresGiven w pins macros room) net g
+          ∙ room-enough ((pointCount pins macros + pinCount pins) * 8) room (length (wiresOf w pins macros)) h;
       kept = ourPaths a;
       trees = trees-ours a;
       only = trees-only a;
       paths = sym (paths-given a);
       paths-sum = paths-total a;
-      cost-is = cost-plain;
-      metal = length-plain (laidOf pins macros);
+      total-sum = refl;
+      metal-sum = refl;
+      metal-low = metal-low a;
       connected = connected a;
       best = best-joining a;
       tree = refined-tree a;
@@ -79,9 +79,9 @@ promised pins macros {net} g =
       outside = λ e i. clear-points (e .0) (e .1) (macrosOf macros) (a .upright) .0 (refined-tree a .clear-edges e i);
       between = λ {rs} r. between-trees a rs r;
       falls = λ {rs} r. falls-between a rs r;
-      wires-of-edges = wires-flat (laidOf pins macros);
+      wires-of-edges = wires-flat (laidOf w pins macros);
       edge-wires = λ e m. edge-wired e;
       wires-straight = laws .axis;
       wires-clear = laws .free (macrosOf macros) (refined-tree a .clear-edges);
-      wires-sum = laws .long ∙ sym (length-plain (laidOf pins macros));
+      wires-sum = laws .long;
     }

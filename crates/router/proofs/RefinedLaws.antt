@@ -1,45 +1,43 @@
--- The refiner's answer reads as the definition's edges, and its total fits.
+-- The refiner's answer reads as the definition's edges; its total fits, and its metal is no more.
 -- Assumes nothing.
-use mathlib.Core.Path.{_≡_, refl, sym, ap, ap₂, _∙_}
-use mathlib.Core.List.{List, [], _∷_}
+use mathlib.Core.Path.{_≡_, sym, ap, _∙_}
+use mathlib.Core.List.{List}
 use Prim.Native.Nat.{ℕ, _+_, _*_, _≤_, _<_}
 use native.Mathlib.Omega.{arith}
 use lib.IntN.{ℤ}
 use lib.ListN.{length}
-use Rattle.lists.specs.Total.{total}
 use Rattle.plane.specs.declared.Place.{Place}
-use Rattle.plane.specs.Distance.{distance}
-use Rattle.plane.specs.Cost.{cost, plain}
-use Rattle.plane.proofs.CostLaws.{cost-plain}
 use Rattle.joined.specs.Cost.{lengths}
 use Rattle.net.specs.Net.{Net, costIn}
 use Rattle.net.specs.Allowed.{Allowed}
+use Rattle.net.proofs.AllowedLaws.{allowed-positive}
 use Rattle.net.specs.Bounds.{pinBound}
 use Rattle.forest.specs.Bounds.{pathBound}
 use Rattle.terminal.proofs.PathLaws.{total-small}
 use Rattle.refiner.specs.declared.Refined.{Refined}
-use Rattle.tree.specs.Table.{pairBound, Small}
+use Rattle.tree.specs.Table.{treeBound, pairBound, Small}
 use Rattle.refiner.specs.Refined.{Answer}
 use Rattle.refiner.proofs.WithinLaws.{within-small}
 use Rattle.union.specs.Union.{unionOf}
 use Rattle.tree.specs.Edges.{tableEdges, treeEdges}
 use Rattle.tree.proofs.EdgeLaws.{edges-count, edges-total}
 use Rattle.refiner.proofs.RoundSound.{total-of}
+use Rattle.refined.specs.Metal.{metal}
+use Rattle.refined.proofs.MetalLaws.{metal-low as metal-lengths}
 use Rattle.rules.proofs.BestLaws.{paths-total}
 use Rattle.rules.proofs.RefinedOurs.{refined-tree}
 use Rattle.router.specs.Refined.{refinedOf, edgesIn, totalIn}
-
--- with weights 1 and 1 costs are lengths
-pub length-plain : (es : List (Place × Place)) → lengths (cost plain) es ≡ lengths distance es
-unfolding lengths total
-length-plain [] = refl
-length-plain (e ∷ es) = ap₂ _+_ (cost-plain (e .0) (e .1)) (length-plain es)
 
 module _ {net : Net} (a : Allowed net) where
   -- it fits 63 bits
   pub total-low : totalIn net ≤ pinBound * pathBound
   unfolding totalIn edgesIn refinedOf
   total-low = omega (arith, refined-tree a .no-longer, paths-total a, total-small a)
+
+  -- and so does its metal
+  pub metal-low : metal (edgesIn net) ≤ totalIn net
+  unfolding totalIn
+  metal-low = metal-lengths (net .weights) (allowed-positive a) (edgesIn net)
 
   -- What the refiner's tables and its answer hold
 
@@ -65,3 +63,10 @@ module _ {net : Net} (a : Allowed net) where
     pub answer-few : r .edges < length (net .pins) + length (net .macros) * 4 + length (net .pins)
     unfolding edgesIn refinedOf
     answer-few = omega (arith, answer-count, refined-tree a .few)
+
+    -- and what `refined::metal` makes of them
+    pub answer-metal : {l : ℕ} → l ≡ metal (tableEdges pts ks (r .edges)) → l ≡ metal (edgesIn net)
+    answer-metal e = e ∙ ap metal answer-edges
+
+    pub metal-asks : (r .edges ≤ treeBound) × Small pairBound ks
+    metal-asks = (answer .few .1, answer-small)

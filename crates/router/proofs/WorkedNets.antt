@@ -1,4 +1,5 @@
--- S10: the worked nets E1 to E11, together, as one table of the definitions: what every operation answers, and what it gives.
+-- S10: the worked nets E1 to E11, together, and E19 and E20, with weights, as one table of the definitions: what every operation answers,
+-- and what it gives.
 -- Assumes nothing.
 use mathlib.Core.Path.{_≡_, refl}
 use mathlib.Core.List.{List, [], _∷_}
@@ -7,10 +8,13 @@ use lib.IntN.{ℤ, pos, negsuc}
 use Rattle.lent.specs.Told.{Told, refused, given, onlyIf}
 use Rattle.plane.specs.declared.Place.{Place}
 use Rattle.plane.specs.Place.{place}
+use Rattle.plane.specs.Distance.{distance}
 use Rattle.joined.specs.Cost.{lengths}
 use Rattle.net.specs.WorkedNets.{Lists, onePin, noPin, aroundOne, threePins, sharedSide, onSides, overlapping, onBoundary, inInterior}
-use Rattle.net.specs.WorkedNets.{twiceInInterior, noWidth}
+use Rattle.net.specs.WorkedNets.{twiceInInterior, noWidth, fourPins}
 use Rattle.net.specs.declared.Net.{Net as Counts}
+use Rattle.net.specs.declared.Weighing.{Weighing}
+use Rattle.net.specs.Net.{weighing, plainly}
 use Rattle.net.specs.Check.{counted, checked}
 use Rattle.net.proofs.WorkedChecks.{answer}
 use Rattle.terminal.proofs.WorkedPaths.{treeIn}
@@ -21,27 +25,31 @@ use Rattle.refined.proofs.WorkedWires.{given as wired-given}
 use Rattle.router.specs.Graph.{netVertices, netEdges, graphRoomShort, graphGiven, graphed}
 use Rattle.router.specs.Room.{ifRoom}
 use Rattle.router.specs.Terminal.{pathsOf, pathsTotal, terminalGiven, terminalTree}
-use Rattle.router.specs.Refined.{refinedOf, edgesIn, totalIn, laidOf, refinedGiven, refinedTree, wiresOf, wiresGiven, wired}
+use Rattle.router.specs.Refined.{refinedOf, edgesIn, totalIn, laidOf, refinedGiven, refinedTree}
+use Rattle.router.specs.Wires.{wiresOf, wiresGiven, wired}
 
 -- what the operations answer when the space of the largest net is lent
 pub record Answers : Type 0 where
   pub check : Told Counts
   pub graph : Told (ℕ × ℕ)
   pub terminal : Told (ℕ × ℤ)
-  pub refined : Told (ℕ × ℤ)
+  pub refined : Told (ℕ × (ℤ × ℤ))
   pub wires : Told ℕ
 
 -- to unfold this is to unfold all that it rests on
-unfoldable pub answers : Lists → Answers
-unfolding answer treeIn union worked wired-given onlyIf lengths edgesFrom netVertices netEdges graphRoomShort graphGiven graphed ifRoom
+unfoldable pub answersBy : Weighing → Lists → Answers
+unfolding answer treeIn union worked wired-given onlyIf distance lengths edgesFrom netVertices netEdges graphRoomShort graphGiven graphed ifRoom
     pathsOf pathsTotal terminalGiven terminalTree refinedOf edgesIn totalIn refinedGiven refinedTree wiresGiven wired
-answers net = record {
-  check = checked (net .pins) (net .macros);
-  graph = graphed (net .pins) (net .macros) 640 5120;
-  terminal = terminalTree (net .pins) (net .macros) 320;
-  refined = refinedTree (net .pins) (net .macros) 1536;
-  wires = wired (net .pins) (net .macros) 3072;
+answersBy w net = record {
+  check = checked w (net .pins) (net .macros);
+  graph = graphed w (net .pins) (net .macros) 640 5120;
+  terminal = terminalTree w (net .pins) (net .macros) 320;
+  refined = refinedTree w (net .pins) (net .macros) 1536;
+  wires = wired w (net .pins) (net .macros) 3072;
 }
+
+abbrev answers : Lists → Answers
+answers = answersBy plainly
 
 -- what a tree's operations give
 pub record Trees : Type 0 where
@@ -49,14 +57,16 @@ pub record Trees : Type 0 where
   pub edges : List (Place × Place)
   pub wires : List (Place × Place)
 
-unfoldable pub trees : Lists → Trees
-unfolding answers
-trees net = record {
-  paths = pathsOf (net .pins) (net .macros);
-  edges = laidOf (net .pins) (net .macros);
-  wires = wiresOf (net .pins)
-      (net .macros);
+unfoldable pub treesBy : Weighing → Lists → Trees
+unfolding answersBy
+treesBy w net = record {
+  paths = pathsOf w (net .pins) (net .macros);
+  edges = laidOf w (net .pins) (net .macros);
+  wires = wiresOf w (net .pins) (net .macros);
 }
+
+abbrev trees : Lists → Trees
+trees = treesBy plainly
 
 -- every operation refuses with the same number
 abbrev none : ℕ → Answers
@@ -68,28 +78,28 @@ edge a b c d = (place a b, place c d)
 pub record Table : Type 0 where
   -- E1: no edges, both totals 0; E2: refused 11
   pub one-pin : answers onePin ≡ record {
-    check = given (counted 1 0);
+    check = given (counted plainly 1 0);
     graph = given (1, 0);
     terminal = given (0, pos 0);
-    refined = given (0, pos 0);
+    refined = given (0, (pos 0, pos 0));
     wires = given 0;
   }
   pub no-pin : answers noPin ≡ none 11
   -- E3: eight graph edges; one path, of length 14, below the macro; refined 14
   pub around-one : answers aroundOne ≡ record {
-    check = given (counted 2 1);
+    check = given (counted plainly 2 1);
     graph = given (6, 8);
     terminal = given (1, pos 14);
-    refined = given (3, pos 14);
+    refined = given (3, (pos 14, pos 14));
     wires = given 5;
   }
   pub around-one-path : trees aroundOne .paths ≡ (edge (pos 4) (negsuc 1) (pos 6) (negsuc 1), 14) ∷ []
   -- E4: terminal 9, refined 7
   pub three-pins : answers threePins ≡ record {
-    check = given (counted 3 0);
+    check = given (counted plainly 3 0);
     graph = given (3, 3);
     terminal = given (2, pos 9);
-    refined = given (3, pos 7);
+    refined = given (3, (pos 7, pos 7));
     wires = given 3;
   }
   pub three-pins-trees : trees threePins ≡ record {
@@ -99,32 +109,44 @@ pub record Table : Type 0 where
   }
   -- E5: allowed; both totals 4, along the shared side
   pub shared-side : answers sharedSide ≡ record {
-    check = given (counted 2 2);
+    check = given (counted plainly 2 2);
     graph = given (8, 13);
     terminal = given (1, pos 4);
-    refined = given (3, pos 4);
+    refined = given (3, (pos 4, pos 4));
     wires = given 3;
   }
   -- E6: one path, below the macro; both totals 3
   pub on-sides : answers onSides ≡ record {
-    check = given (counted 2 1);
+    check = given (counted plainly 2 1);
     graph = given (6, 6);
     terminal = given (1, pos 3);
-    refined = given (3, pos 3);
+    refined = given (3, (pos 3, pos 3));
     wires = given 3;
   }
   pub on-sides-path : trees onSides .paths ≡ (edge (pos 0) (pos 0) (pos 1) (pos 0), 3) ∷ []
   -- E7: refused 16
   pub overlap : answers overlapping ≡ none 16
   -- E8: allowed; E9: refused 17; E10: refused 15
-  pub on-boundary : answers onBoundary .check ≡ given (counted 1 1)
+  pub on-boundary : answers onBoundary .check ≡ given (counted plainly 1 1)
   pub in-interior : answers inInterior ≡ none 17
   pub twice : answers twiceInInterior ≡ none 15
   -- E11: refused 14
   pub no-width : answers noWidth ≡ none 14
+  -- E19: weights 1 and 3: terminal 12, refined 11, metal 7; the kept paths' plain length, by weights 1 and 1, is 6
+  pub weighted : answersBy (weighing (pos 1) (pos 3)) fourPins ≡ record {
+    check = given (counted (weighing (pos 1) (pos 3)) 4 0);
+    graph = given (4, 5);
+    terminal = given (3, pos 12);
+    refined = given (4, (pos 11, pos 7));
+    wires = given 4;
+  }
+  -- E20: 16 before 18, and 18 of every operation
+  pub overlap-first : answersBy (weighing (pos 9) (pos 9)) overlapping ≡ none 16
+  pub no-weight : answersBy (weighing (pos 0) (pos 1)) threePins ≡ none 18
+  pub much-weight : answersBy (weighing (pos 1) (pos 9)) threePins ≡ none 18
 
 pub worked-nets : Table
-unfolding trees
+unfolding treesBy
 worked-nets = record {
   one-pin = refl;
   no-pin = refl;
@@ -140,4 +162,8 @@ worked-nets = record {
   in-interior = refl;
   twice = refl;
   no-width = refl;
+  weighted = refl;
+  overlap-first = refl;
+  no-weight = refl;
+  much-weight = refl;
 }

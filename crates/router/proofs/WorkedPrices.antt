@@ -4,16 +4,16 @@ use mathlib.Core.Path.{_≡_, refl}
 use mathlib.Core.List.{List, [], _∷_}
 use Prim.Native.Nat.{ℕ}
 use Rattle.lent.specs.Told.{Told, refused, given}
-use Rattle.plane.specs.Distance.{distance}
+use Rattle.net.specs.Net.{plainly}
 use Rattle.net.specs.WorkedNets.{Lists, onePin, noPin, threePins, overlapping}
 use Rattle.price.proofs.WorkedPrices.{answer}
-use Rattle.router.specs.Price.{metalOf, netPrice}
-use Rattle.router.proofs.WorkedNets.{answers}
+use Rattle.router.specs.Price.{netPrice}
+use Rattle.router.proofs.WorkedNets.{answersBy}
 
 -- to unfold this is to unfold all that it rests on
 unfoldable pub priceOf : Lists → List ℕ → Told ℕ
-unfolding answers answer metalOf netPrice distance
-priceOf net bands = netPrice (net .pins) (net .macros) bands
+unfolding answersBy answer netPrice
+priceOf net bands = netPrice plainly (net .pins) (net .macros) bands
 
 pub record Table : Type 0 where
   -- E1: one pin, no metal: any first band reaches it

@@ -8,6 +8,8 @@ use Rattle.lent.specs.Told.{Told}
 use Rattle.lent.specs.Over.{after}
 use Rattle.lent.specs.Entries.{flat}
 use Rattle.net.specs.declared.Checked.{Checked}
+use Rattle.net.specs.declared.Weighing.{Weighing}
+use Rattle.net.specs.Net.{weightsOf}
 use Rattle.net.specs.Check.{told}
 use Rattle.netfile.specs.declared.Written.{Written}
 use Rattle.netfile.specs.Layout.{fileBytes}
@@ -16,11 +18,13 @@ use Rattle.netfile.specs.Read.{pinsIn, macrosIn, readFile}
 use Rattle.graph.specs.Numbers.{placeNumbers, edgeNumbers}
 use Rattle.terminal.specs.Tree.{pathNumbers}
 use Rattle.router.specs.declared.Graphed.{Graphed}
+use Rattle.router.specs.declared.TerminalAnswer.{TerminalAnswer}
 use Rattle.router.specs.declared.TreeAnswer.{TreeAnswer}
 use Rattle.router.specs.declared.Wired.{Wired}
 use Rattle.router.specs.Graph.{netVertices, netEdges, toldGraph}
-use Rattle.router.specs.Terminal.{pathsOf, toldTree}
-use Rattle.router.specs.Refined.{laidOf, wiresOf, toldWires}
+use Rattle.router.specs.Terminal.{pathsOf, toldTerminal}
+use Rattle.router.specs.Refined.{laidOf, toldTree}
+use Rattle.router.specs.Wires.{wiresOf, toldWires}
 
 -- the answer r says t, and one list was lent: where t is given, xs stands at its front (C53); where t is refused, it is as it was (C50)
 pub record Gives {A R X : Type 0} (saying : R → Told A) (t : Told A) (xs lent : List X) (r : R) (lent′ : List X) : Type 0 where
@@ -34,30 +38,37 @@ pub record GivesTwo {A R X : Type 0} (saying : R → Told A) (t : Told A) (xs ys
   pub first : lent′ ≡ after t xs lent
   pub second : other′ ≡ after t ys other
 
+-- What each operation says of two weights, two lists and the room that was lent
+
+abbrev pub Saying : Type 0 → Type 0
+Saying A = Weighing → List ℤ → List ℤ → ℕ → Told A
+
 -- C61, C62: a graph that answers as `said` has it
-abbrev pub GraphCall : (List ℤ → List ℤ → ℕ → ℕ → Told (ℕ × ℕ)) → (pins macros vertices edges : List ℤ) → Graphed → List ℤ → List ℤ → Type 0
-GraphCall said pins macros vertices edges r vertices′ edges′ =
-    GivesTwo toldGraph (said pins macros (length vertices) (length edges))
-    (flat placeNumbers (netVertices pins macros)) (flat edgeNumbers (netEdges pins macros)) vertices edges r vertices′ edges′
+abbrev pub GraphCall : (Weighing → List ℤ → List ℤ → ℕ → ℕ → Told (ℕ × ℕ)) → (w : Weighing) (pins macros vertices edges : List ℤ) → Graphed
+    → List ℤ → List ℤ → Type 0
+GraphCall said w pins macros vertices edges r vertices′ edges′ =
+    GivesTwo toldGraph (said w pins macros (length vertices) (length edges))
+    (flat placeNumbers (netVertices w pins macros)) (flat edgeNumbers (netEdges w pins macros)) vertices edges r vertices′ edges′
 
 -- C63, C64: a terminal tree
-abbrev pub TerminalCall : (List ℤ → List ℤ → ℕ → Told (ℕ × ℤ)) → (pins macros paths : List ℤ) → TreeAnswer → List ℤ → Type 0
-TerminalCall said pins macros paths r paths′ =
-    Gives toldTree (said pins macros (length paths)) (flat pathNumbers (pathsOf pins macros)) paths r paths′
+abbrev pub TerminalCall : Saying (ℕ × ℤ) → (w : Weighing) (pins macros paths : List ℤ) → TerminalAnswer → List ℤ → Type 0
+TerminalCall said w pins macros paths r paths′ =
+    Gives toldTerminal (said w pins macros (length paths)) (flat pathNumbers (pathsOf w pins macros)) paths r paths′
 
 -- C65, C66: a refined tree
-abbrev pub RefinedCall : (List ℤ → List ℤ → ℕ → Told (ℕ × ℤ)) → (pins macros edges : List ℤ) → TreeAnswer → List ℤ → Type 0
-RefinedCall said pins macros edges r edges′ =
-    Gives toldTree (said pins macros (length edges)) (flat edgeNumbers (laidOf pins macros)) edges r edges′
+abbrev pub RefinedCall : Saying (ℕ × (ℤ × ℤ)) → (w : Weighing) (pins macros edges : List ℤ) → TreeAnswer → List ℤ → Type 0
+RefinedCall said w pins macros edges r edges′ =
+    Gives toldTree (said w pins macros (length edges)) (flat edgeNumbers (laidOf w pins macros)) edges r edges′
 
 -- C67, C68: wires
-abbrev pub WiresCall : (List ℤ → List ℤ → ℕ → Told ℕ) → (pins macros wires : List ℤ) → Wired → List ℤ → Type 0
-WiresCall said pins macros wires r wires′ =
-    Gives toldWires (said pins macros (length wires)) (flat edgeNumbers (wiresOf pins macros)) wires r wires′
+abbrev pub WiresCall : Saying ℕ → (w : Weighing) (pins macros wires : List ℤ) → Wired → List ℤ → Type 0
+WiresCall said w pins macros wires r wires′ =
+    Gives toldWires (said w pins macros (length wires)) (flat edgeNumbers (wiresOf w pins macros)) wires r wires′
 
 -- C69, C70: a net file written
-abbrev pub WriteCall : (pins macros : List ℤ) (bytes : List ℕ) → Written → List ℕ → Type 0
-WriteCall pins macros bytes r bytes′ = Gives toldBytes (written pins macros (length bytes)) (fileBytes pins macros) bytes r bytes′
+abbrev pub WriteCall : (w : Weighing) (pins macros : List ℤ) (bytes : List ℕ) → Written → List ℕ → Type 0
+WriteCall w pins macros bytes r bytes′ =
+    Gives toldBytes (written w pins macros (length bytes)) (fileBytes (weightsOf w) pins macros) bytes r bytes′
 
 -- C71, C72: a net file read
 abbrev pub ReadCall : (bytes : List ℕ) (pins macros : List ℤ) → Checked → List ℤ → List ℤ → Type 0

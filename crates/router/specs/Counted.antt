@@ -3,11 +3,12 @@ use mathlib.Core.Path.{_≡_}
 use mathlib.Core.List.{List}
 use lib.IntN.{ℤ}
 use Rattle.net.specs.declared.Net.{Net as Counts}
+use Rattle.net.specs.declared.Weighing.{Weighing}
 use Rattle.net.specs.Net.{netOf}
 use Rattle.net.specs.Check.{countsOf}
 use Rattle.net.specs.Allowed.{Allowed}
 
--- n is what was counted of the two lists, and their net is allowed
-pub record Counted (n : Counts) (pins macros : List ℤ) : Type 0 where
-  pub counts : n ≡ countsOf pins macros
-  pub allowed : Allowed (netOf pins macros)
+-- n is what was counted of the two lists, with the weights, and their net is allowed
+pub record Counted (n : Counts) (w : Weighing) (pins macros : List ℤ) : Type 0 where
+  pub counts : n ≡ countsOf w pins macros
+  pub allowed : Allowed (netOf w pins macros)

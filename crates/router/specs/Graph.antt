@@ -9,17 +9,18 @@ use Rattle.lent.specs.Told.{Told, refused, given, onlyIf}
 use Rattle.plane.specs.declared.Place.{Place}
 use Rattle.net.specs.Answer.{number}
 use Rattle.net.specs.Pins.{pinCount, macroCount}
+use Rattle.net.specs.declared.Weighing.{Weighing}
 use Rattle.net.specs.Check.{checked}
 use Rattle.net.specs.Net.{netOf}
 use Rattle.graph.specs.Spanning.{verticesOf, spanning}
 use Rattle.router.specs.declared.Graphed.{Graphed}
 use Rattle.router.specs.declared.Graphed.the-variants.{Given, Refused}
 
-unfoldable pub netVertices : List ℤ → List ℤ → List Place
-netVertices pins macros = verticesOf (netOf pins macros)
+unfoldable pub netVertices : Weighing → List ℤ → List ℤ → List Place
+netVertices w pins macros = verticesOf (netOf w pins macros)
 
-unfoldable pub netEdges : List ℤ → List ℤ → List (Place × Place)
-netEdges pins macros = spanning (netOf pins macros)
+unfoldable pub netEdges : Weighing → List ℤ → List ℤ → List (Place × Place)
+netEdges w pins macros = spanning (netOf w pins macros)
 
 -- N7: n = m + 4k
 abbrev pub pointCount : List ℤ → List ℤ → ℕ
@@ -30,14 +31,14 @@ unfoldable pub graphRoomShort : ℕ → ℕ → ℕ → Bool
 graphRoomShort n vertexRoom edgeRoom = ltb vertexRoom (n * 2) || ltb edgeRoom (n * 16)
 
 -- C62, C52: how many vertices and how many edges are given
-unfoldable pub graphGiven : List ℤ → List ℤ → ℕ → ℕ → Told (ℕ × ℕ)
-graphGiven pins macros vertexRoom edgeRoom =
+unfoldable pub graphGiven : Weighing → List ℤ → List ℤ → ℕ → ℕ → Told (ℕ × ℕ)
+graphGiven w pins macros vertexRoom edgeRoom =
     cond (graphRoomShort (pointCount pins macros) vertexRoom edgeRoom) (refused 21)
-    (given (length (netVertices pins macros), length (netEdges pins macros)))
+    (given (length (netVertices w pins macros), length (netEdges w pins macros)))
 
--- C61: 11 to 17, then 21
-unfoldable pub graphed : List ℤ → List ℤ → ℕ → ℕ → Told (ℕ × ℕ)
-graphed pins macros vertexRoom edgeRoom = onlyIf (checked pins macros) (graphGiven pins macros vertexRoom edgeRoom)
+-- C61: 11 to 18, then 21
+unfoldable pub graphed : Weighing → List ℤ → List ℤ → ℕ → ℕ → Told (ℕ × ℕ)
+graphed w pins macros vertexRoom edgeRoom = onlyIf (checked w pins macros) (graphGiven w pins macros vertexRoom edgeRoom)
 
 -- what the code's answer says
 unfoldable pub toldGraph : Graphed → Told (ℕ × ℕ)

@@ -1,4 +1,4 @@
--- The refined tree and its wires among the operations: rules C65 to C68.
+-- The refined tree among the operations: rules C65 and C66.
 use mathlib.Core.List.{List}
 use Prim.Native.Nat.{ℕ, _+_, _*_}
 use lib.IntN.{ℤ, pos}
@@ -7,6 +7,7 @@ use Rattle.lent.specs.Told.{Told, refused, given, onlyIf}
 use Rattle.plane.specs.declared.Place.{Place}
 use Rattle.net.specs.Answer.{number}
 use Rattle.net.specs.Pins.{pinCount}
+use Rattle.net.specs.declared.Weighing.{Weighing}
 use Rattle.net.specs.Check.{checked}
 use Rattle.net.specs.Net.{Net, netOf, costIn}
 use Rattle.joined.specs.Cost.{lengths}
@@ -14,11 +15,11 @@ use Rattle.tree.specs.Table as table
 use Rattle.refiner.specs.Refined.{refined}
 use Rattle.union.specs.Union.{unionOf}
 use Rattle.tree.specs.Edges.{treeEdges}
-use Rattle.refined.specs.Wires.{wires}
+use Rattle.refined.specs.Metal.{metal}
 use Rattle.router.specs.Room.{ifRoom}
 use Rattle.router.specs.Graph.{pointCount}
-use Rattle.router.specs.declared.Wired.{Wired}
-use Rattle.router.specs.declared.Wired.the-variants.{Given, Refused}
+use Rattle.router.specs.declared.TreeAnswer.{TreeAnswer}
+use Rattle.router.specs.declared.TreeAnswer.the-variants.{Given, Refused}
 
 -- The tree of a net
 
@@ -37,34 +38,29 @@ totalIn net = lengths (costIn net) (edgesIn net)
 -- The operations
 
 -- C66: the edges in order, and their total
-abbrev pub laidOf : List ℤ → List ℤ → List (Place × Place)
-laidOf pins macros = edgesIn (netOf pins macros)
+abbrev pub laidOf : Weighing → List ℤ → List ℤ → List (Place × Place)
+laidOf w pins macros = edgesIn (netOf w pins macros)
 
-abbrev pub laidTotal : List ℤ → List ℤ → ℕ
-laidTotal pins macros = totalIn (netOf pins macros)
+abbrev pub laidTotal : Weighing → List ℤ → List ℤ → ℕ
+laidTotal w pins macros = totalIn (netOf w pins macros)
+
+-- R22: the metal to lay, which is neither the terminal tree's total nor any other cost
+abbrev pub metalOf : Weighing → List ℤ → List ℤ → ℕ
+metalOf w pins macros = metal (laidOf w pins macros)
+
+-- C52, C66: how many edges are given, their total, and their metal
+abbrev pub laidAnswer : Weighing → List ℤ → List ℤ → ℕ × (ℤ × ℤ)
+laidAnswer w pins macros = (length (laidOf w pins macros), (pos (laidTotal w pins macros), pos (metalOf w pins macros)))
 
 -- C65: fewer than 4(n + m) numbers
-unfoldable pub refinedGiven : List ℤ → List ℤ → ℕ → Told (ℕ × ℤ)
-refinedGiven pins macros room =
-    ifRoom ((pointCount pins macros + pinCount pins) * 4) room (length (laidOf pins macros), pos (laidTotal pins macros))
+unfoldable pub refinedGiven : Weighing → List ℤ → List ℤ → ℕ → Told (ℕ × (ℤ × ℤ))
+refinedGiven w pins macros room = ifRoom ((pointCount pins macros + pinCount pins) * 4) room (laidAnswer w pins macros)
 
--- C65: 11 to 17, then 21
-unfoldable pub refinedTree : List ℤ → List ℤ → ℕ → Told (ℕ × ℤ)
-refinedTree pins macros room = onlyIf (checked pins macros) (refinedGiven pins macros room)
-
--- W1, W2: edge after edge in order, first the horizontal wire, then the vertical one
-abbrev pub wiresOf : List ℤ → List ℤ → List (Place × Place)
-wiresOf pins macros = wires (laidOf pins macros)
-
--- C67: fewer than 8(n + m) numbers
-unfoldable pub wiresGiven : List ℤ → List ℤ → ℕ → Told ℕ
-wiresGiven pins macros room = ifRoom ((pointCount pins macros + pinCount pins) * 8) room (length (wiresOf pins macros))
-
--- C67: 11 to 17, then 21
-unfoldable pub wired : List ℤ → List ℤ → ℕ → Told ℕ
-wired pins macros room = onlyIf (checked pins macros) (wiresGiven pins macros room)
+-- C65: 11 to 18, then 21
+unfoldable pub refinedTree : Weighing → List ℤ → List ℤ → ℕ → Told (ℕ × (ℤ × ℤ))
+refinedTree w pins macros room = onlyIf (checked w pins macros) (refinedGiven w pins macros room)
 
 -- what the code's answer says
-unfoldable pub toldWires : Wired → Told ℕ
-toldWires (Given n) = given n
-toldWires (Refused f) = refused (number f)
+unfoldable pub toldTree : TreeAnswer → Told (ℕ × (ℤ × ℤ))
+toldTree (Given n total metal) = given (n, (total, metal))
+toldTree (Refused f) = refused (number f)

@@ -8,30 +8,31 @@ use Rattle.lent.specs.Told.{Told, refused, given, onlyIf}
 use Rattle.plane.specs.declared.Place.{Place}
 use Rattle.net.specs.Answer.{number}
 use Rattle.net.specs.Pins.{pinCount}
+use Rattle.net.specs.declared.Weighing.{Weighing}
 use Rattle.net.specs.Check.{checked}
 use Rattle.net.specs.Net.{netOf}
 use Rattle.terminal.specs.Tree as terminal
 use Rattle.router.specs.Room.{ifRoom}
-use Rattle.router.specs.declared.TreeAnswer.{TreeAnswer}
-use Rattle.router.specs.declared.TreeAnswer.the-variants.{Given, Refused}
+use Rattle.router.specs.declared.TerminalAnswer.{TerminalAnswer}
+use Rattle.router.specs.declared.TerminalAnswer.the-variants.{Given, Refused}
 
 -- C64: each path in the order kept, by its bridge and its length
-unfoldable pub pathsOf : List ℤ → List ℤ → List ((Place × Place) × ℕ)
-pathsOf pins macros = terminal.pathsOf (netOf pins macros)
+unfoldable pub pathsOf : Weighing → List ℤ → List ℤ → List ((Place × Place) × ℕ)
+pathsOf w pins macros = terminal.pathsOf (netOf w pins macros)
 
 -- C64: and the total
-unfoldable pub pathsTotal : List ℤ → List ℤ → ℕ
-pathsTotal pins macros = terminal.totalOf (netOf pins macros)
+unfoldable pub pathsTotal : Weighing → List ℤ → List ℤ → ℕ
+pathsTotal w pins macros = terminal.totalOf (netOf w pins macros)
 
 -- C63: fewer than 5m numbers; otherwise how many paths, and their total
-unfoldable pub terminalGiven : List ℤ → List ℤ → ℕ → Told (ℕ × ℤ)
-terminalGiven pins macros room = ifRoom (pinCount pins * 5) room (length (pathsOf pins macros), pos (pathsTotal pins macros))
+unfoldable pub terminalGiven : Weighing → List ℤ → List ℤ → ℕ → Told (ℕ × ℤ)
+terminalGiven w pins macros room = ifRoom (pinCount pins * 5) room (length (pathsOf w pins macros), pos (pathsTotal w pins macros))
 
--- C63: 11 to 17, then 21
-unfoldable pub terminalTree : List ℤ → List ℤ → ℕ → Told (ℕ × ℤ)
-terminalTree pins macros room = onlyIf (checked pins macros) (terminalGiven pins macros room)
+-- C63: 11 to 18, then 21
+unfoldable pub terminalTree : Weighing → List ℤ → List ℤ → ℕ → Told (ℕ × ℤ)
+terminalTree w pins macros room = onlyIf (checked w pins macros) (terminalGiven w pins macros room)
 
--- what the code's answer says: of a terminal tree the paths and their total, of a refined tree the edges and theirs
-unfoldable pub toldTree : TreeAnswer → Told (ℕ × ℤ)
-toldTree (Given n total) = given (n, total)
-toldTree (Refused f) = refused (number f)
+-- what the code's answer says: how many paths, and their total
+unfoldable pub toldTerminal : TerminalAnswer → Told (ℕ × ℤ)
+toldTerminal (Given n total) = given (n, total)
+toldTerminal (Refused f) = refused (number f)

@@ -1,5 +1,6 @@
 // What the operations do with an allowed net: each asks for what the check has shown, refuses by 21 where too little is lent, and gives.
 use crate::Graphed;
+use crate::TerminalAnswer;
 use crate::TreeAnswer;
 use crate::Wired;
 use net::Net;
@@ -14,7 +15,7 @@ ghost use mathlib.Core.Path.{_≡_};
 ghost use Prim.Native.Nat.{_*_};
 ghost use lib.IntN.{pos};
 ghost use lib.ListN.{length, replicate};
-ghost use Rattle.net.specs.Net.{netOf};
+ghost use Rattle.net.specs.Net.{netOf, handed};
 ghost use Rattle.net.specs.Bounds.{treeBound};
 ghost use Rattle.price.specs.Price.{priced, toldPrice};
 ghost use Rattle.refiner.specs.Refined.{Answer};
@@ -22,8 +23,8 @@ ghost use Rattle.union.specs.Union.{unionOf};
 ghost use Rattle.router.specs.Counted.{Counted};
 ghost use Rattle.router.specs.Graph.{graphGiven};
 ghost use Rattle.router.specs.Terminal.{terminalGiven};
-ghost use Rattle.router.specs.Refined.{refinedGiven, wiresGiven};
-ghost use Rattle.router.specs.Price.{metalOf};
+ghost use Rattle.router.specs.Refined.{refinedGiven, metalOf};
+ghost use Rattle.router.specs.Wires.{wiresGiven};
 ghost use Rattle.router.specs.Call.{GraphCall, TerminalCall, RefinedCall, WiresCall};
 
 // The graph.
@@ -34,9 +35,9 @@ pub fn graph(
     vertices: &mut [i32],
     edges: &mut [i32],
 ) -> Graphed
-    requires { ⌜ Counted net (now pins) (now macros) ⌝ }
-    ensures { λ r. ⌜ GraphCall graphGiven (now (pins .entry)) (now (macros .entry)) (now (vertices .entry)) (now (edges .entry)) r
-        (now (vertices .exit)) (now (edges .exit)) ⌝ }
+    requires { ⌜ Counted net (handed (net .weights)) (now pins) (now macros) ⌝ }
+    ensures { λ r. ⌜ GraphCall graphGiven (handed (net .weights)) (now (pins .entry)) (now (macros .entry)) (now (vertices .entry))
+        (now (edges .entry)) r (now (vertices .exit)) (now (edges .exit)) ⌝ }
 {
     let n = net::point_count(net);
     if (vertices.len() < n * 2) | (edges.len() < n * 16) {
@@ -48,12 +49,13 @@ pub fn graph(
 }
 
 // The terminal tree.
-pub fn terminal_tree(net: Net, pins: &[i32], macros: &[i32], paths: &mut [i64]) -> TreeAnswer
-    requires { ⌜ Counted net (now pins) (now macros) ⌝ }
-    ensures { λ r. ⌜ TerminalCall terminalGiven (now (pins .entry)) (now (macros .entry)) (now (paths .entry)) r (now (paths .exit)) ⌝ }
+pub fn terminal_tree(net: Net, pins: &[i32], macros: &[i32], paths: &mut [i64]) -> TerminalAnswer
+    requires { ⌜ Counted net (handed (net .weights)) (now pins) (now macros) ⌝ }
+    ensures { λ r. ⌜ TerminalCall terminalGiven (handed (net .weights)) (now (pins .entry)) (now (macros .entry)) (now (paths .entry)) r
+        (now (paths .exit)) ⌝ }
 {
     if paths.len() < net.pins * 5 {
-        return TreeAnswer::Refused(Refusal::Space);
+        return TerminalAnswer::Refused(Refusal::Space);
     }
     let mut vertices = [0i32; VERTEX_NUMBERS];
     let mut edges = [0i32; EDGE_NUMBERS];
@@ -85,13 +87,14 @@ pub fn terminal_tree(net: Net, pins: &[i32], macros: &[i32], paths: &mut [i64]) 
         &mut long,
     );
     terminal::give_paths(&edges, &kept, &long, tree.kept, &mut *paths);
-    TreeAnswer::Given(tree.kept, tree.total as i64)
+    TerminalAnswer::Given(tree.kept, tree.total as i64)
 }
 
 // The refined tree.
 pub fn refined_tree(net: Net, pins: &[i32], macros: &[i32], edges: &mut [i32]) -> TreeAnswer
-    requires { ⌜ Counted net (now pins) (now macros) ⌝ }
-    ensures { λ r. ⌜ RefinedCall refinedGiven (now (pins .entry)) (now (macros .entry)) (now (edges .entry)) r (now (edges .exit)) ⌝ }
+    requires { ⌜ Counted net (handed (net .weights)) (now pins) (now macros) ⌝ }
+    ensures { λ r. ⌜ RefinedCall refinedGiven (handed (net .weights)) (now (pins .entry)) (now (macros .entry)) (now (edges .entry)) r
+        (now (edges .exit)) ⌝ }
 {
     if edges.len() < (net::point_count(net) + net.pins) * 4 {
         return TreeAnswer::Refused(Refusal::Space);
@@ -99,14 +102,16 @@ pub fn refined_tree(net: Net, pins: &[i32], macros: &[i32], edges: &mut [i32]) -
     let mut points = [0i32; tree::NUMBERS];
     let mut keys = [0usize; tree::POINTS];
     let tree = refine(net, pins, macros, &mut points, &mut keys);
+    let metal = refined::metal(&points, &keys, tree.edges);
     refined::give_edges(&points, &keys, tree.edges, &mut *edges);
-    TreeAnswer::Given(tree.edges, tree.total as i64)
+    TreeAnswer::Given(tree.edges, tree.total as i64, metal as i64)
 }
 
 // The wires.
 pub fn wires(net: Net, pins: &[i32], macros: &[i32], wires: &mut [i32]) -> Wired
-    requires { ⌜ Counted net (now pins) (now macros) ⌝ }
-    ensures { λ r. ⌜ WiresCall wiresGiven (now (pins .entry)) (now (macros .entry)) (now (wires .entry)) r (now (wires .exit)) ⌝ }
+    requires { ⌜ Counted net (handed (net .weights)) (now pins) (now macros) ⌝ }
+    ensures { λ r. ⌜ WiresCall wiresGiven (handed (net .weights)) (now (pins .entry)) (now (macros .entry)) (now (wires .entry)) r
+        (now (wires .exit)) ⌝ }
 {
     if wires.len() < (net::point_count(net) + net.pins) * 8 {
         return Wired::Refused(Refusal::Space);
@@ -120,13 +125,15 @@ pub fn wires(net: Net, pins: &[i32], macros: &[i32], wires: &mut [i32]) -> Wired
 
 // The price.
 pub fn price(net: Net, pins: &[i32], macros: &[i32], bands: &[u64]) -> Priced
-    requires { ⌜ Counted net (now pins) (now macros) ⌝ }
-    ensures { λ r. ⌜ toldPrice r ≡ priced (metalOf (now (pins .entry)) (now (macros .entry))) (now (bands .entry)) ⌝ }
+    requires { ⌜ Counted net (handed (net .weights)) (now pins) (now macros) ⌝ }
+    ensures { λ r. ⌜ toldPrice r ≡ priced (metalOf (handed (net .weights)) (now (pins .entry)) (now (macros .entry)))
+        (now (bands .entry)) ⌝ }
 {
     let mut points = [0i32; tree::NUMBERS];
     let mut keys = [0usize; tree::POINTS];
     let tree = refine(net, pins, macros, &mut points, &mut keys);
-    price::price(tree.total, bands)
+    let metal = refined::metal(&points, &keys, tree.edges);
+    price::price(metal, bands)
 }
 
 // The refined tree of an allowed net, in tables that are fresh.
@@ -137,10 +144,10 @@ fn refine(
     points: &mut [i32; tree::NUMBERS],
     keys: &mut [usize; tree::POINTS],
 ) -> Refined
-    requires { ⌜ Counted net (now pins) (now macros) ⌝ }
+    requires { ⌜ Counted net (handed (net .weights)) (now pins) (now macros) ⌝ }
     requires { ⌜ (now points ≡ replicate (treeBound * 2) (pos 0)) × (now keys ≡ replicate treeBound 0) ⌝ }
-    ensures { λ r. ⌜ Answer (netOf (now (pins .entry)) (now (macros .entry)))
-        (unionOf (netOf (now (pins .entry)) (now (macros .entry)))) (now (points .exit)) (now (keys .exit)) r ⌝ }
+    ensures { λ r. ⌜ Answer (netOf (handed (net .weights)) (now (pins .entry)) (now (macros .entry)))
+        (unionOf (netOf (handed (net .weights)) (now (pins .entry)) (now (macros .entry)))) (now (points .exit)) (now (keys .exit)) r ⌝ }
 {
     let mut vertices = [0i32; VERTEX_NUMBERS];
     let mut edges = [0i32; EDGE_NUMBERS];

@@ -1,4 +1,5 @@
-// The published operations of the router. Each takes any lists and any lent space and answers; nothing is asked of the caller.
+// The published operations of the router. Each takes any two weights, any lists and any lent space and answers; nothing is asked of the
+// caller. Totals are in cost, which the weights decide; metal is plain length.
 //
 // The contract of one that is lent space names one record (specs/Call.antt): the answer, as the rules have it, and what each lent list then
 // holds, refused calls too. Those of check and price, which are lent none, are one equation each.
@@ -7,6 +8,7 @@ mod allowed; // allowed.rt: what goes on once the check has passed
 
 use net::Checked;
 use net::Refusal;
+use net::Weighing;
 use netfile::Written;
 use price::Priced;
 ghost use mathlib.Core.Path.{_≡_};
@@ -14,7 +16,8 @@ ghost use Rattle.net.specs.Check.{checked, told};
 ghost use Rattle.price.specs.Price.{toldPrice};
 ghost use Rattle.router.specs.Graph.{graphed};
 ghost use Rattle.router.specs.Terminal.{terminalTree};
-ghost use Rattle.router.specs.Refined.{refinedTree, wired};
+ghost use Rattle.router.specs.Refined.{refinedTree};
+ghost use Rattle.router.specs.Wires.{wired};
 ghost use Rattle.router.specs.Price.{netPrice};
 ghost use Rattle.router.specs.Call.{GraphCall, TerminalCall, RefinedCall, WiresCall, WriteCall, ReadCall};
 
@@ -24,9 +27,15 @@ pub enum Graphed {
     Refused(Refusal),
 }
 
-// The answer of a terminal tree or of a refined tree: how many paths or edges were given, and their total.
-pub enum TreeAnswer {
+// The answer of a terminal tree: how many paths were given, and their total.
+pub enum TerminalAnswer {
     Given(usize, i64),
+    Refused(Refusal),
+}
+
+// The answer of a refined tree: how many edges were given, their total, and the metal to lay.
+pub enum TreeAnswer {
+    Given(usize, i64, i64),
     Refused(Refusal),
 }
 
@@ -36,84 +45,90 @@ pub enum Wired {
     Refused(Refusal),
 }
 
-// Check a net: allowed, with its numbers of pins and macros, or the first of the refusals 11 to 17 that applies.
-pub fn check(pins: &[i32], macros: &[i32]) -> Checked
-    ensures { λ r. ⌜ told r ≡ checked (now (pins .entry)) (now (macros .entry)) ⌝ }
+// Check a net: allowed, with its numbers of pins and macros, or the first of the refusals 11 to 18 that applies.
+pub fn check(w: Weighing, pins: &[i32], macros: &[i32]) -> Checked
+    ensures { λ r. ⌜ told r ≡ checked w (now (pins .entry)) (now (macros .entry)) ⌝ }
 {
-    net::check(pins, macros)
+    net::check(w, pins, macros)
 }
 
-// Graph: the vertices and the edges of the spanning graph, in order, or 11 to 17, then 21 where fewer than 2n numbers are lent for
+// Graph: the vertices and the edges of the spanning graph, in order, or 11 to 18, then 21 where fewer than 2n numbers are lent for
 // vertices or 16n for edges.
-pub fn graph(pins: &[i32], macros: &[i32], vertices: &mut [i32], edges: &mut [i32]) -> Graphed
-    ensures { λ r. ⌜ GraphCall graphed (now (pins .entry)) (now (macros .entry)) (now (vertices .entry)) (now (edges .entry)) r
+pub fn graph(
+    w: Weighing,
+    pins: &[i32],
+    macros: &[i32],
+    vertices: &mut [i32],
+    edges: &mut [i32],
+) -> Graphed
+    ensures { λ r. ⌜ GraphCall graphed w (now (pins .entry)) (now (macros .entry)) (now (vertices .entry)) (now (edges .entry)) r
         (now (vertices .exit)) (now (edges .exit)) ⌝ }
 {
-    let answer = net::check(pins, macros);
+    let answer = net::check(w, pins, macros);
     match answer {
         Checked::Allowed(net) => allowed::graph(net, pins, macros, &mut *vertices, &mut *edges),
         Checked::Refused(refusal) => Graphed::Refused(refusal),
     }
 }
 
-// Terminal tree: each kept path's bridge and length in the order kept, how many there are and their total, or 11 to 17, then 21 where
+// Terminal tree: each kept path's bridge and length in the order kept, how many there are and their total, or 11 to 18, then 21 where
 // fewer than 5m numbers are lent. That no joining is shorter and no chain has a lower longest path: `Promised`.
-pub fn terminal_tree(pins: &[i32], macros: &[i32], paths: &mut [i64]) -> TreeAnswer
-    ensures { λ r. ⌜ TerminalCall terminalTree (now (pins .entry)) (now (macros .entry)) (now (paths .entry)) r (now (paths .exit)) ⌝ }
+pub fn terminal_tree(w: Weighing, pins: &[i32], macros: &[i32], paths: &mut [i64]) -> TerminalAnswer
+    ensures { λ r. ⌜ TerminalCall terminalTree w (now (pins .entry)) (now (macros .entry)) (now (paths .entry)) r (now (paths .exit)) ⌝ }
 {
-    let answer = net::check(pins, macros);
+    let answer = net::check(w, pins, macros);
     match answer {
         Checked::Allowed(net) => allowed::terminal_tree(net, pins, macros, &mut *paths),
-        Checked::Refused(refusal) => TreeAnswer::Refused(refusal),
+        Checked::Refused(refusal) => TerminalAnswer::Refused(refusal),
     }
 }
 
-// Refined tree: its edges in order, how many there are and their total, or 11 to 17, then 21 where fewer than 4(n + m) numbers are lent.
+// Refined tree: its edges in order, how many there are, their total and the metal to lay, or 11 to 18, then 21 where fewer than 4(n + m) numbers are lent.
 // That they hold all pins as one tree, enter no interior and are no longer than the terminal tree: `Promised`.
-pub fn refined_tree(pins: &[i32], macros: &[i32], edges: &mut [i32]) -> TreeAnswer
-    ensures { λ r. ⌜ RefinedCall refinedTree (now (pins .entry)) (now (macros .entry)) (now (edges .entry)) r (now (edges .exit)) ⌝ }
+pub fn refined_tree(w: Weighing, pins: &[i32], macros: &[i32], edges: &mut [i32]) -> TreeAnswer
+    ensures { λ r. ⌜ RefinedCall refinedTree w (now (pins .entry)) (now (macros .entry)) (now (edges .entry)) r (now (edges .exit)) ⌝ }
 {
-    let answer = net::check(pins, macros);
+    let answer = net::check(w, pins, macros);
     match answer {
         Checked::Allowed(net) => allowed::refined_tree(net, pins, macros, &mut *edges),
         Checked::Refused(refusal) => TreeAnswer::Refused(refusal),
     }
 }
 
-// Wires: those of the refined tree's edges, in order, and how many there are, or 11 to 17, then 21 where fewer than 8(n + m) numbers are
+// Wires: those of the refined tree's edges, in order, and how many there are, or 11 to 18, then 21 where fewer than 8(n + m) numbers are
 // lent. That each is along one axis, in its edge's box and clear: `Promised`.
-pub fn wires(pins: &[i32], macros: &[i32], wires: &mut [i32]) -> Wired
-    ensures { λ r. ⌜ WiresCall wired (now (pins .entry)) (now (macros .entry)) (now (wires .entry)) r (now (wires .exit)) ⌝ }
+pub fn wires(w: Weighing, pins: &[i32], macros: &[i32], wires: &mut [i32]) -> Wired
+    ensures { λ r. ⌜ WiresCall wired w (now (pins .entry)) (now (macros .entry)) (now (wires .entry)) r (now (wires .exit)) ⌝ }
 {
-    let answer = net::check(pins, macros);
+    let answer = net::check(w, pins, macros);
     match answer {
         Checked::Allowed(net) => allowed::wires(net, pins, macros, &mut *wires),
         Checked::Refused(refusal) => Wired::Refused(refusal),
     }
 }
 
-// Price: what a bureau charges for the metal to lay, in hundredths of the currency, or 11 to 17, then 31 and 32 for the bands: two numbers
+// Price: what a bureau charges for the metal to lay, in hundredths of the currency, or 11 to 18, then 31 and 32 for the bands: two numbers
 // each, the most metal that the band reaches and its rate per 1,000 units. Metal is the refined tree's plain length (R22). That more metal
 // is never charged less where limits rise strictly and rates never fall: `LongerNeverLess` (specs/Price.antt).
-pub fn price(pins: &[i32], macros: &[i32], bands: &[u64]) -> Priced
-    ensures { λ r. ⌜ toldPrice r ≡ netPrice (now (pins .entry)) (now (macros .entry)) (now (bands .entry)) ⌝ }
+pub fn price(w: Weighing, pins: &[i32], macros: &[i32], bands: &[u64]) -> Priced
+    ensures { λ r. ⌜ toldPrice r ≡ netPrice w (now (pins .entry)) (now (macros .entry)) (now (bands .entry)) ⌝ }
 {
-    let answer = net::check(pins, macros);
+    let answer = net::check(w, pins, macros);
     match answer {
         Checked::Allowed(net) => allowed::price(net, pins, macros, bands),
         Checked::Refused(refusal) => Priced::Refused(refusal),
     }
 }
 
-// Write a net file: its number of bytes, or 11 to 17, then 21 where fewer bytes are lent than the file has.
-pub fn write_file(pins: &[i32], macros: &[i32], bytes: &mut [u8]) -> Written
-    ensures { λ r. ⌜ WriteCall (now (pins .entry)) (now (macros .entry)) (now (bytes .entry)) r (now (bytes .exit)) ⌝ }
+// Write a net file: its number of bytes, or 11 to 18, then 21 where fewer bytes are lent than the file has.
+pub fn write_file(w: Weighing, pins: &[i32], macros: &[i32], bytes: &mut [u8]) -> Written
+    ensures { λ r. ⌜ WriteCall w (now (pins .entry)) (now (macros .entry)) (now (bytes .entry)) r (now (bytes .exit)) ⌝ }
 {
-    netfile::write(pins, macros, &mut *bytes)
+    netfile::write(w, pins, macros, &mut *bytes)
 }
 
-// Read a net file: its numbers of pins and macros, or 21 where less than the largest net is lent, 1 to 3 for the file, 11 to 17 for its
-// lists.
+// Read a net file: its numbers of pins and macros and its weights, or 21 where less than the largest net is lent, 1 to 3 for the file, 11
+// to 17 for its lists.
 pub fn read_file(bytes: &[u8], pins: &mut [i32], macros: &mut [i32]) -> Checked
     ensures { λ r. ⌜ ReadCall (now (bytes .entry)) (now (pins .entry)) (now (macros .entry)) r (now (pins .exit)) (now (macros .exit)) ⌝ }
 {

@@ -22,7 +22,7 @@ use Rattle.net.specs.Allowed.{Allowed}
 use Rattle.net.specs.WorkedNets.{threePins, onSides}
 use Rattle.net.proofs.AllowedLaws.{given-allowed}
 use Rattle.net.proofs.WorkedChecks.{answer, worked-checks}
-use Rattle.net.specs.Net.{Net}
+use Rattle.net.specs.Net.{Net, plainly}
 use Rattle.graph.proofs.WorkedGraphs.{graphOf}
 use Rattle.terminal.proofs.WorkedPaths.{treeIn}
 use Rattle.union.proofs.WorkedUnions.{union}
@@ -50,7 +50,7 @@ three = plainNet (at 0 0 ∷ at 4 0 ∷ at 2 3 ∷ []) ([])
 
 three-allowed : Allowed three
 unfolding answer
-three-allowed = given-allowed (threePins .pins) (threePins .macros) (worked-checks .three-pins) .1
+three-allowed = given-allowed plainly (threePins .pins) (threePins .macros) (worked-checks .three-pins) .1
 
 -- four pins on the tips of a cross: two rounds
 abbrev pub cross : Net
@@ -59,7 +59,7 @@ cross = plainNet (at 0 1 ∷ at 1 0 ∷ at 1 2 ∷ at 2 1 ∷ []) ([])
 cross-allowed : Allowed cross
 unfolding answer
 cross-allowed =
-    given-allowed (pos 0 ∷ pos 1 ∷ pos 1 ∷ pos 0 ∷ pos 1 ∷ pos 2 ∷ pos 2 ∷ pos 1 ∷ []) [] {v = counted 4 0} refl .1
+    given-allowed plainly (pos 0 ∷ pos 1 ∷ pos 1 ∷ pos 0 ∷ pos 1 ∷ pos 2 ∷ pos 2 ∷ pos 1 ∷ []) [] {v = counted plainly 4 0} refl .1
 
 -- three pins and a macro, one of whose corners is left bare by the round
 abbrev slab : List Macro
@@ -71,7 +71,7 @@ bare = plainNet (at 0 0 ∷ at 1 3 ∷ at 3 1 ∷ []) (slab)
 bare-allowed : Allowed bare
 unfolding answer
 bare-allowed =
-    given-allowed (pos 0 ∷ pos 0 ∷ pos 1 ∷ pos 3 ∷ pos 3 ∷ pos 1 ∷ []) (pos 0 ∷ pos 0 ∷ pos 1 ∷ pos 2 ∷ []) {v = counted 3 1} refl .1
+    given-allowed plainly (pos 0 ∷ pos 0 ∷ pos 1 ∷ pos 3 ∷ pos 3 ∷ pos 1 ∷ []) (pos 0 ∷ pos 0 ∷ pos 1 ∷ pos 2 ∷ []) {v = counted plainly 3 1} refl .1
 
 -- E6: a pin on the left side of that macro and one on the right
 abbrev pub sides : Net
@@ -79,7 +79,7 @@ sides = plainNet (at 0 1 ∷ at 1 1 ∷ []) (slab)
 
 sides-allowed : Allowed sides
 unfolding answer
-sides-allowed = given-allowed (onSides .pins) (onSides .macros) (worked-checks .on-sides) .1
+sides-allowed = given-allowed plainly (onSides .pins) (onSides .macros) (worked-checks .on-sides) .1
 
 -- three pins and a macro, where two points tie as u
 abbrev pub tied : Net
@@ -88,7 +88,7 @@ tied = plainNet (at 0 3 ∷ at 1 0 ∷ at 3 2 ∷ []) (macro (pos 3) (pos 1) (po
 tied-allowed : Allowed tied
 unfolding answer
 tied-allowed =
-    given-allowed (pos 0 ∷ pos 3 ∷ pos 1 ∷ pos 0 ∷ pos 3 ∷ pos 2 ∷ []) (pos 3 ∷ pos 1 ∷ pos 4 ∷ pos 4 ∷ []) {v = counted 3 1} refl .1
+    given-allowed plainly (pos 0 ∷ pos 3 ∷ pos 1 ∷ pos 0 ∷ pos 3 ∷ pos 2 ∷ []) (pos 3 ∷ pos 1 ∷ pos 4 ∷ pos 4 ∷ []) {v = counted plainly 3 1} refl .1
 
 -- three pins and a macro, where no candidate has a gain above zero
 abbrev pub even : Net
@@ -97,7 +97,7 @@ even = plainNet (at 0 3 ∷ at 1 0 ∷ at 2 2 ∷ []) (macro (pos 1) (pos 1) (po
 even-allowed : Allowed even
 unfolding answer
 even-allowed =
-    given-allowed (pos 0 ∷ pos 3 ∷ pos 1 ∷ pos 0 ∷ pos 2 ∷ pos 2 ∷ []) (pos 1 ∷ pos 1 ∷ pos 2 ∷ pos 2 ∷ []) {v = counted 3 1} refl .1
+    given-allowed plainly (pos 0 ∷ pos 3 ∷ pos 1 ∷ pos 0 ∷ pos 2 ∷ pos 2 ∷ []) (pos 1 ∷ pos 1 ∷ pos 2 ∷ pos 2 ∷ []) {v = counted plainly 3 1} refl .1
 
 -- Graphs
 

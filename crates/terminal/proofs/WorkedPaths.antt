@@ -8,7 +8,8 @@ use Rattle.lists.specs.Sorted.{position}
 use Rattle.lent.specs.Over.{over}
 use Rattle.plane.specs.declared.Place.{Place}
 use Rattle.plane.specs.Place.{place}
-use Rattle.net.specs.Net.{netOf}
+use Rattle.plane.specs.Cost.{plain}
+use Rattle.net.specs.Net.{netWith}
 use Rattle.net.specs.WorkedNets.{Lists, onePin, aroundOne, threePins, sharedSide, onSides, onBoundary}
 use Rattle.graph.proofs.WorkedGraphs.{graphOf as worked}
 use Rattle.terminal.proofs.WorkedTrees.{tree}
@@ -23,8 +24,8 @@ pub record Paths : Type 0 where
 unfoldable pub treeIn : Lists → Paths
 unfolding worked tree position over numbered pinNumbers treeOf pathsOf
 treeIn lists = record {
-  paths = pathsOf (netOf (lists .pins) (lists .macros));
-  total = totalOf (netOf (lists .pins) (lists .macros));
+  paths = pathsOf (netWith plain (lists .pins) (lists .macros));
+  total = totalOf (netWith plain (lists .pins) (lists .macros));
 }
 
 -- a path by its bridge's four numbers and its length

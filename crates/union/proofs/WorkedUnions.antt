@@ -15,12 +15,12 @@ use Rattle.lent.specs.Entries.{flat}
 use Rattle.joined.specs.Table.{changed, keptBy}
 use Rattle.plane.specs.Place.{before}
 use Rattle.plane.specs.Distance.{apart}
-use Rattle.plane.specs.Cost.{cost}
+use Rattle.plane.specs.Cost.{cost, plain}
 use Rattle.plane.specs.Macro.{spanMeets, meets, clear}
 use Rattle.plane.specs.Flat.{macrosOf}
 use Rattle.net.specs.WorkedNets.{Lists, onePin, aroundOne, threePins}
 use Rattle.net.specs.Pins.{pinPlaces}
-use Rattle.net.specs.Net.{netOf}
+use Rattle.net.specs.Net.{netWith}
 use Rattle.graph.specs.Vertices.{cornersOf, corners, vertices}
 use Rattle.graph.specs.Pick.{within, nearer as nearerPlace, better as betterPick, pickFrom, pick}
 use Rattle.graph.specs.Edges.{edgeOf, beforeEdge, edgeOfPick, picksOf, allPicks, edges}
@@ -45,7 +45,7 @@ unfolding any put sorted firstThen position those total minZ maxZ over flat chan
     edges from filled better gains offer relaxEdge moves relax changes settled starts labelled leads nearer through parentAmong parent
     adopted parented wayOf way oneRoot path pathLength pathLengths earlier bridgesFrom bridges keptBridges keptLengths terminal numbered
     pinNumbers treeOf listed keptEdges unionEdges unionPoints startOf unionOf shown
-union lists = shown (unionOf (netOf (lists .pins) (lists .macros)))
+union lists = shown (unionOf (netWith plain (lists .pins) (lists .macros)))
 
 -- A graph whose kept paths share an edge: the pins 0, 2 and 3 hang on the vertex 1, 1 away from pin 0 and 5 from the others. The tree's
 -- two paths both go over edge 0.

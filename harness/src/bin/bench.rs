@@ -10,17 +10,19 @@ use reference::operations;
 
 const HELP: &str = "bench graph|terminal|refined|nothing proved|second SIZE TIMES: one operation of one program on a net of SIZE pins and SIZE macros.";
 
-/// The first SIZE pins and SIZE macros of a largest net: still allowed, since taking entries away breaks no rule.
+/// The first SIZE pins and SIZE macros of a largest net, with weights 1 and 1: still allowed, since taking entries away breaks no rule.
 fn sized(size: usize) -> Lists {
-    let Lists { pins, macros } = net(Kind::Largest, 1);
+    let Lists { pins, macros, .. } = net(Kind::Largest, 1);
     Lists {
         pins: pins[..2 * size].to_vec(),
         macros: macros[..4 * size].to_vec(),
+        ..Lists::default()
     }
 }
 
 /// Runs an operation of a program once: how many entries it gave, or none where there is no such operation or program.
-fn run(operation: &str, program: &str, Lists { pins, macros }: &Lists) -> Option<u64> {
+fn run(operation: &str, program: &str, lists: &Lists) -> Option<u64> {
+    let (pins, macros, weights) = lists.parts();
     let (m, n) = (pins.len() / 2, pins.len() / 2 + macros.len());
     let is_proved = match program {
         "proved" => true,
@@ -35,7 +37,7 @@ fn run(operation: &str, program: &str, Lists { pins, macros }: &Lists) -> Option
                 operations::graph
             };
             let (mut vertices, mut edges) = (vec![0; 2 * n], vec![0; 16 * n]);
-            call(pins, macros, &mut vertices, &mut edges).map(|(v, e)| v + e)
+            call(pins, macros, weights, &mut vertices, &mut edges).map(|(v, e)| v + e)
         }
         "terminal" => {
             let call = if is_proved {
@@ -43,7 +45,7 @@ fn run(operation: &str, program: &str, Lists { pins, macros }: &Lists) -> Option
             } else {
                 operations::terminal_tree
             };
-            call(pins, macros, &mut vec![0; 5 * m]).map(|(paths, _)| paths)
+            call(pins, macros, weights, &mut vec![0; 5 * m]).map(|(paths, _)| paths)
         }
         "refined" => {
             let call = if is_proved {
@@ -51,7 +53,7 @@ fn run(operation: &str, program: &str, Lists { pins, macros }: &Lists) -> Option
             } else {
                 operations::refined_tree
             };
-            call(pins, macros, &mut vec![0; 4 * (n + m)]).map(|(edges, _)| edges)
+            call(pins, macros, weights, &mut vec![0; 4 * (n + m)]).map(|(edges, ..)| edges)
         }
         "nothing" => Ok(0),
         _ => return None,

@@ -1,9 +1,9 @@
 //! Net files that are not as they should be.
 
-use super::kinds;
 use super::nets::{net, Kind};
-use super::{hostile, Hostile};
+use super::{hostile, kinds, weights, Hostile};
 use crate::lists::Lists;
+use crate::net::Weights;
 use crate::netfile::{self, Block, BLOCKS, BLOCK_BYTES, BLOCK_WORDS};
 use crate::random::Random;
 
@@ -26,34 +26,46 @@ kinds! {
         RandomBytes "random-bytes" "any bytes, at any length",
         RandomWords "random-words" "blocks of any words with both sums right",
         NetRefused "net-refused" "a right file of a net that is refused with 13 to 17",
+        WeightWords "weight-words" "one or both weight words of the head are others, the sums right",
     }
 }
 
-/// The bytes of a kind and a seed.
+/// The bytes of a kind and a seed, of a file with weights 1 and 1.
 pub fn damaged(kind: Damage, seed: u64) -> Vec<u8> {
+    made(kind, seed, Weights::ONE)
+}
+
+/// The same of a file with weights of all sorts.
+pub fn damaged_weighted(kind: Damage, seed: u64) -> Vec<u8> {
+    let weights = weights::weights(&mut kind.random(!seed));
+    made(kind, seed, weights)
+}
+
+fn made(kind: Damage, seed: u64, weights: Weights) -> Vec<u8> {
     let random = &mut kind.random(seed);
     match kind {
-        Damage::WordChanged => word_changed(random),
-        Damage::SumWrong => sum_wrong(random),
-        Damage::BitFlipped => bit_flipped(random),
-        Damage::WordsExchanged => words_exchanged(random),
-        Damage::BlocksSwapped => blocks_swapped(random),
-        Damage::BlockDoubled => block_doubled(random),
-        Damage::BlockMissing => block_missing(random),
-        Damage::Cut => cut(random),
-        Damage::TooLong => too_long(random),
-        Damage::CountsAbove => counts_above(random),
-        Damage::HeadCounts => head_counts(random),
+        Damage::WordChanged => word_changed(random, weights),
+        Damage::SumWrong => sum_wrong(random, weights),
+        Damage::BitFlipped => bit_flipped(random, weights),
+        Damage::WordsExchanged => words_exchanged(random, weights),
+        Damage::BlocksSwapped => blocks_swapped(random, weights),
+        Damage::BlockDoubled => block_doubled(random, weights),
+        Damage::BlockMissing => block_missing(random, weights),
+        Damage::Cut => cut(random, weights),
+        Damage::TooLong => too_long(random, weights),
+        Damage::CountsAbove => counts_above(random, weights),
+        Damage::HeadCounts => head_counts(random, weights),
         Damage::AllZero => vec![0; any_length(random)],
         Damage::AllOnes => vec![255; any_length(random)],
         Damage::RandomBytes => random_bytes(random),
         Damage::RandomWords => random_words(random),
-        Damage::NetRefused => net_refused(random),
+        Damage::NetRefused => net_refused(random, weights),
+        Damage::WeightWords => weight_words(random, weights),
     }
 }
 
 /// The blocks of an allowed net's file, of two to six blocks.
-fn file(random: &mut Random) -> Vec<Block> {
+fn file(random: &mut Random, weights: Weights) -> Vec<Block> {
     let kind = random.choose(&[
         Kind::TinyFour,
         Kind::SideBySide,
@@ -62,7 +74,8 @@ fn file(random: &mut Random) -> Vec<Block> {
         Kind::NoMacros,
         Kind::GridOne,
     ]);
-    netfile::blocks_of(&netfile::write(&net(kind, random.bits())))
+    let lists = net(kind, random.bits());
+    netfile::blocks_of(&netfile::write(&Lists { weights, ..lists }))
 }
 
 /// A word unlike the one given: close to it, small, or any.
@@ -82,8 +95,8 @@ fn other_word(random: &mut Random, word: u32) -> u32 {
 }
 
 /// The first words carry the layout, so they are struck as often as all others together.
-fn word_changed(random: &mut Random) -> Vec<u8> {
-    let mut blocks = file(random);
+fn word_changed(random: &mut Random, weights: Weights) -> Vec<u8> {
+    let mut blocks = file(random, weights);
     let block = random.below(blocks.len());
     let word = if random.one_in(2) {
         random.below(6)
@@ -95,24 +108,24 @@ fn word_changed(random: &mut Random) -> Vec<u8> {
     netfile::bytes_of(&blocks)
 }
 
-fn sum_wrong(random: &mut Random) -> Vec<u8> {
-    let mut blocks = file(random);
+fn sum_wrong(random: &mut Random, weights: Weights) -> Vec<u8> {
+    let mut blocks = file(random, weights);
     let block = random.below(blocks.len());
     let word = BLOCK_WORDS - 1 - random.below(2);
     blocks[block][word] = other_word(random, blocks[block][word]);
     netfile::bytes_of(&blocks)
 }
 
-fn bit_flipped(random: &mut Random) -> Vec<u8> {
-    let mut bytes = netfile::bytes_of(&file(random));
+fn bit_flipped(random: &mut Random, weights: Weights) -> Vec<u8> {
+    let mut bytes = netfile::bytes_of(&file(random, weights));
     let byte = random.below(bytes.len());
     bytes[byte] ^= 1 << random.below(8);
     bytes
 }
 
 /// The first sum stays right; the running sums tell.
-fn words_exchanged(random: &mut Random) -> Vec<u8> {
-    let mut blocks = file(random);
+fn words_exchanged(random: &mut Random, weights: Weights) -> Vec<u8> {
+    let mut blocks = file(random, weights);
     let block = random.below(blocks.len());
     loop {
         let (one, other) = (random.below(BLOCK_WORDS - 2), random.below(BLOCK_WORDS - 2));
@@ -123,23 +136,23 @@ fn words_exchanged(random: &mut Random) -> Vec<u8> {
     }
 }
 
-fn blocks_swapped(random: &mut Random) -> Vec<u8> {
-    let mut blocks = file(random);
+fn blocks_swapped(random: &mut Random, weights: Weights) -> Vec<u8> {
+    let mut blocks = file(random, weights);
     let one = random.below(blocks.len());
     let other = (one + 1 + random.below(blocks.len() - 1)) % blocks.len();
     blocks.swap(one, other);
     maybe_renumbered(random, blocks)
 }
 
-fn block_doubled(random: &mut Random) -> Vec<u8> {
-    let mut blocks = file(random);
+fn block_doubled(random: &mut Random, weights: Weights) -> Vec<u8> {
+    let mut blocks = file(random, weights);
     let block = random.below(blocks.len());
     blocks.insert(block, blocks[block]);
     maybe_renumbered(random, blocks)
 }
 
-fn block_missing(random: &mut Random) -> Vec<u8> {
-    let mut blocks = file(random);
+fn block_missing(random: &mut Random, weights: Weights) -> Vec<u8> {
+    let mut blocks = file(random, weights);
     blocks.remove(random.below(blocks.len()));
     maybe_renumbered(random, blocks)
 }
@@ -156,8 +169,8 @@ fn maybe_renumbered(random: &mut Random, mut blocks: Vec<Block>) -> Vec<u8> {
 }
 
 /// At any length, and at a whole block as often as not.
-fn cut(random: &mut Random) -> Vec<u8> {
-    let mut bytes = netfile::bytes_of(&file(random));
+fn cut(random: &mut Random, weights: Weights) -> Vec<u8> {
+    let mut bytes = netfile::bytes_of(&file(random, weights));
     let length = if random.one_in(2) {
         random.below(bytes.len())
     } else {
@@ -168,19 +181,19 @@ fn cut(random: &mut Random) -> Vec<u8> {
 }
 
 /// A right layout of seven blocks or more, or a right file with bytes after it.
-fn too_long(random: &mut Random) -> Vec<u8> {
+fn too_long(random: &mut Random, weights: Weights) -> Vec<u8> {
     if random.one_in(2) {
         let pins = 60 * BLOCKS + random.below(500);
-        return netfile::write(&numbers(random, pins, 0));
+        return netfile::write(&numbers(random, (pins, 0), weights));
     }
-    let mut bytes = netfile::bytes_of(&file(random));
+    let mut bytes = netfile::bytes_of(&file(random, weights));
     let longer = bytes.len() + 1 + random.below(BLOCK_BYTES - 1);
     bytes.resize(longer, 0);
     bytes
 }
 
 /// Six blocks hold 300 pins, or 150 macros, or some of each.
-fn counts_above(random: &mut Random) -> Vec<u8> {
+fn counts_above(random: &mut Random, weights: Weights) -> Vec<u8> {
     let (pins, macros) = match random.below(5) {
         0 => (65 + random.below(236), 0),
         1 => (65 + random.below(56), 1 + random.below(90)),
@@ -188,21 +201,22 @@ fn counts_above(random: &mut Random) -> Vec<u8> {
         3 => (61 + random.below(4), 65 + random.below(26)),
         _ => (0, random.below(151)),
     };
-    netfile::write(&numbers(random, pins, macros))
+    netfile::write(&numbers(random, (pins, macros), weights))
 }
 
 /// Lists of so many entries of small numbers.
-fn numbers(random: &mut Random, pins: usize, macros: usize) -> Lists {
+fn numbers(random: &mut Random, (pins, macros): (usize, usize), weights: Weights) -> Lists {
     let mut list = |count: usize| (0..count).map(|_| random.between(-99, 99)).collect();
     Lists {
         pins: list(2 * pins),
         macros: list(4 * macros),
+        weights,
     }
 }
 
 /// Either count, or both, with the sums right; now and then the head stands alone.
-fn head_counts(random: &mut Random) -> Vec<u8> {
-    let mut blocks = file(random);
+fn head_counts(random: &mut Random, weights: Weights) -> Vec<u8> {
+    let mut blocks = file(random, weights);
     if random.one_in(4) {
         blocks.truncate(1);
     }
@@ -250,7 +264,7 @@ fn random_words(random: &mut Random) -> Vec<u8> {
 }
 
 /// A list that isn't whole entries has no file, and one that is too long belongs to counts above.
-fn net_refused(random: &mut Random) -> Vec<u8> {
+fn net_refused(random: &mut Random, weights: Weights) -> Vec<u8> {
     let kind = random.choose(&[
         Hostile::JustOutOfRange,
         Hostile::Extreme,
@@ -261,5 +275,21 @@ fn net_refused(random: &mut Random) -> Vec<u8> {
         Hostile::Overlap,
         Hostile::PinInside,
     ]);
-    netfile::write(&hostile(kind, random.bits()))
+    let lists = hostile(kind, random.bits());
+    netfile::write(&Lists { weights, ..lists })
+}
+
+/// A word that stands for a weight, a written 1, one above 8, or any, with the sums right.
+fn weight_words(random: &mut Random, weights: Weights) -> Vec<u8> {
+    let mut blocks = file(random, weights);
+    for word in random.choose(&[[6, 6], [7, 7], [6, 7]]) {
+        blocks[0][word] = match random.below(4) {
+            0 => random.choose(&[0, 2, 3, 4, 5, 6, 7, 8]),
+            1 => 1,
+            2 => random.choose(&[9, 10, 16, 256 + 2, 1 << 16, 1 << 31, u32::MAX - 6, u32::MAX]),
+            _ => other_word(random, blocks[0][word]),
+        };
+    }
+    netfile::seal(&mut blocks[0]);
+    netfile::bytes_of(&blocks)
 }

@@ -130,6 +130,7 @@ impl Draft {
                 .flat_map(|p| [p.x as i32, p.y as i32])
                 .collect(),
             macros: self.macros.iter().flat_map(numbers).collect(),
+            ..Lists::default()
         }
     }
 }

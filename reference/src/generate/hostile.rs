@@ -1,7 +1,7 @@
 //! Pairs of lists that are to be refused, and lists of anything.
 
 use super::draft::Draft;
-use super::kinds;
+use super::{kinds, weights};
 use crate::lists::Lists;
 use crate::net::Net;
 use crate::random::Random;
@@ -24,10 +24,11 @@ kinds! {
         PinInside "pin-inside" "refused 17: a pin in an interior",
         Several "several" "several faults at once: refused with the least number",
         Anything "anything" "lists of any lengths and numbers, most of them refused",
+        WeightOutside "weight-outside" "refused 18: a weight outside 1 to 8",
     }
 }
 
-/// The lists of a kind and a seed.
+/// The lists of a kind and a seed; the weights are 1 and 1 where they are not the fault.
 pub fn hostile(kind: Hostile, seed: u64) -> Lists {
     let random = &mut kind.random(seed);
     if kind == Hostile::Anything {
@@ -43,6 +44,18 @@ pub fn hostile(kind: Hostile, seed: u64) -> Lists {
     lists
 }
 
+/// The same lists with weights of all sorts, outside 1 to 8 as often as not. Where the kind fixes a
+/// number it stays, since no number of the check comes after 18.
+pub fn hostile_weighted(kind: Hostile, seed: u64) -> Lists {
+    let lists = hostile(kind, seed);
+    let random = &mut kind.random(!seed);
+    let weights = match kind {
+        Hostile::WeightOutside => weights::outside(random),
+        _ => weights::any(random),
+    };
+    Lists { weights, ..lists }
+}
+
 /// The number the lists of a kind and a seed are refused with, where the kind fixes it: the least
 /// number of their faults.
 pub fn refusal(kind: Hostile, seed: u64) -> Option<u32> {
@@ -55,7 +68,8 @@ fn faults(kind: Hostile, random: &mut Random) -> Vec<Hostile> {
     if kind != Hostile::Several {
         return vec![kind];
     }
-    let single = |fault: &Hostile| number(*fault).is_some();
+    // A weight that is wrong as well is left to `hostile_weighted`.
+    let single = |fault: &Hostile| number(*fault).is_some_and(|number| number < 18);
     let mut faults: Vec<Hostile> = Hostile::ALL.iter().copied().filter(single).collect();
     random.shuffle(&mut faults);
     faults.truncate(2 + random.below(3));
@@ -73,11 +87,13 @@ fn number(fault: Hostile) -> Option<u32> {
         Hostile::PinTwice => Some(15),
         Hostile::MacroTwice | Hostile::Overlap => Some(16),
         Hostile::PinInside => Some(17),
+        Hostile::WeightOutside => Some(18),
         Hostile::Several | Hostile::Anything => None,
     }
 }
 
-/// A small allowed net with a pin and a macro at least, with room for a few entries more.
+/// A small allowed net with a pin and a macro at least, with room for a few entries more, and
+/// weights 1 and 1.
 fn base(random: &mut Random) -> Lists {
     let mut draft = Draft::default();
     let tries = random.between(1, 8);
@@ -128,6 +144,7 @@ fn spoil(lists: &mut Lists, fault: Hostile, random: &mut Random) {
             insert(&mut lists.macros, &[x, 0, x + 2, 2], random);
             insert(&mut lists.pins, &[x + 1, 1], random);
         }
+        Hostile::WeightOutside => lists.weights = weights::outside(random),
         Hostile::Several | Hostile::Anything => unreachable!("these are no single fault"),
     }
 }
@@ -218,6 +235,7 @@ fn anything(random: &mut Random) -> Lists {
     let mut lists = Lists {
         pins: numbers(pins),
         macros: numbers(macros),
+        ..Lists::default()
     };
     if tame {
         lists.macros.chunks_exact_mut(4).for_each(put_upright);

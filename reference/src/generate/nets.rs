@@ -1,9 +1,9 @@
 //! Allowed nets of many kinds.
 
 use super::draft::Draft;
-use super::{kinds, searched, walls};
+use super::{kinds, searched, walls, weights};
 use crate::lists::Lists;
-use crate::net::Net;
+use crate::net::{Net, Weights};
 use crate::random::Random;
 
 kinds! {
@@ -32,13 +32,24 @@ kinds! {
         DroppedWins "dropped-wins" "a dropped candidate would have won a round",
         BoundEnds "bound-ends" "m rounds are done and a further gain is still there",
         Small "small" "at most five pins and three macros, so that every path can be tried",
+        LargestFar "largest-far" "64 pins and 64 macros from -1,000,000 to 1,000,000",
     }
 }
 
-/// The net of a kind and a seed. By construction or by search, it is allowed.
+/// The net of a kind and a seed, with weights 1 and 1. By construction or by search, it is allowed.
 pub fn net(kind: Kind, seed: u64) -> Lists {
+    made(kind, seed, Weights::ONE)
+}
+
+/// The same with weights of all sorts. Where the kind is found by search, it is found under them.
+pub fn weighted(kind: Kind, seed: u64) -> Lists {
+    let weights = weights::weights(&mut kind.random(!seed));
+    made(kind, seed, weights)
+}
+
+fn made(kind: Kind, seed: u64, weights: Weights) -> Lists {
     let random = &mut kind.random(seed);
-    match kind {
+    let lists = match kind {
         Kind::TinyFour => tiny(random, 4),
         Kind::TinyEight => tiny(random, 8),
         Kind::SideBySide => side_by_side(random),
@@ -56,13 +67,15 @@ pub fn net(kind: Kind, seed: u64) -> Lists {
         Kind::Wide => wide(random),
         Kind::GridOne => walls::grid(random, 1),
         Kind::GridTouching => walls::grid(random, 0),
-        Kind::Rounds => searched::rounds(random),
-        Kind::Pruned => searched::pruned(random),
-        Kind::Dropped => searched::dropped(random),
-        Kind::DroppedWins => searched::dropped_wins(random),
-        Kind::BoundEnds => searched::bound_ends(random),
+        Kind::Rounds => searched::rounds(random, weights),
+        Kind::Pruned => searched::pruned(random, weights),
+        Kind::Dropped => searched::dropped(random, weights),
+        Kind::DroppedWins => searched::dropped_wins(random, weights),
+        Kind::BoundEnds => searched::bound_ends(random, weights),
         Kind::Small => small(random),
-    }
+        Kind::LargestFar => largest_far(random),
+    };
+    Lists { weights, ..lists }
 }
 
 /// Coordinates from 0 to `high`.
@@ -202,9 +215,22 @@ fn far_coordinate(random: &mut Random) -> i32 {
     }
 }
 
-/// One macro in each of 64 cells, and pins until there are 64.
 fn largest(random: &mut Random) -> Lists {
     let cell = random.choose(&[3, 5, 10, 1_000, 200_000]);
+    cells(random, cell)
+}
+
+/// Cells that fill the die, or walls right across it.
+fn largest_far(random: &mut Random) -> Lists {
+    if random.one_in(2) {
+        cells(random, Net::COORDINATE / 4)
+    } else {
+        walls::across(random)
+    }
+}
+
+/// One macro in each of 64 cells, and pins until there are 64.
+fn cells(random: &mut Random, cell: i32) -> Lists {
     let corner = -4 * cell;
     let mut draft = Draft::default();
     for column in 0..8 {

@@ -1,4 +1,4 @@
-//! The same net with its lists in another order.
+//! The same net with its lists in another order; the weights have none.
 
 use crate::lists::Lists;
 use crate::random::Random;
@@ -9,6 +9,7 @@ pub fn permuted(lists: &Lists, seed: u64) -> Lists {
     Lists {
         pins: shuffled(&lists.pins, 2, &mut random),
         macros: shuffled(&lists.macros, 4, &mut random),
+        weights: lists.weights,
     }
 }
 

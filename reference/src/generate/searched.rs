@@ -1,44 +1,52 @@
-//! Nets on which something rare happens while refining, found by trying.
+//! Nets on which something rare happens while refining under some weights, found by trying.
 
 use super::draft::Draft;
 use super::nets;
 use crate::lists::Lists;
-use crate::net::check;
+use crate::net::{check, Weights};
 use crate::random::Random;
 use crate::refined::{refined, Statistics};
 
 /// At least three rounds gain.
-pub fn rounds(random: &mut Random) -> Lists {
-    find(random, |random| nets::tiny(random, 8), |s| s.rounds >= 3)
+pub fn rounds(random: &mut Random, weights: Weights) -> Lists {
+    find(random, weights, tiny, |s| s.rounds >= 3)
 }
 
 /// At least one point is pruned.
-pub fn pruned(random: &mut Random) -> Lists {
-    find(random, |random| nets::tiny(random, 8), |s| s.pruned > 0)
+pub fn pruned(random: &mut Random, weights: Weights) -> Lists {
+    find(random, weights, tiny, |s| s.pruned > 0)
 }
 
 /// At least one candidate is dropped.
-pub fn dropped(random: &mut Random) -> Lists {
-    find(random, |random| nets::tiny(random, 8), |s| s.dropped > 0)
+pub fn dropped(random: &mut Random, weights: Weights) -> Lists {
+    find(random, weights, tiny, |s| s.dropped > 0)
+}
+
+fn tiny(random: &mut Random) -> Lists {
+    nets::tiny(random, 8)
 }
 
 /// A dropped candidate would have won a round. On random nets that is too rare to wait for, so
-/// entries are added to a net known for it, and the whole is stretched and moved, which changes no
-/// order and no comparison of lengths.
-pub fn dropped_wins(random: &mut Random) -> Lists {
-    let lists = find(random, about_a_dropped_winner, |s| s.dropped_would_win);
-    let stretch = random.choose(&[1, 2, 30_000]);
+/// entries are added to a net known for it under weights 1 and 1, and the whole is stretched and
+/// moved, which changes no order and no comparison of lengths: along x by the weight of y and along
+/// y by that of x, so that every cost is the plain length times both.
+pub fn dropped_wins(random: &mut Random, weights: Weights) -> Lists {
+    let lists = find(random, Weights::ONE, about_a_dropped_winner, |s| {
+        s.dropped_would_win
+    });
+    let stretch = random.choose(&[1, 2, 30_000 / weights.x.max(weights.y)]);
     let (right, up) = (random.between(-999, 999), random.between(-999, 999));
     let moved = |list: &[i32]| {
-        let axes = [right, up].into_iter().cycle();
+        let axes = [(weights.y, right), (weights.x, up)].into_iter().cycle();
         list.iter()
             .zip(axes)
-            .map(|(c, by)| c * stretch + by)
+            .map(|(c, (weight, by))| c * stretch * weight + by)
             .collect()
     };
     Lists {
         pins: moved(&lists.pins),
         macros: moved(&lists.macros),
+        weights,
     }
 }
 
@@ -60,8 +68,32 @@ fn about_a_dropped_winner(random: &mut Random) -> Lists {
 
 /// m rounds are done and a further gain is still there: ways that zigzag over many small macros
 /// gain at every bend, and there are few pins to count rounds by.
-pub fn bound_ends(random: &mut Random) -> Lists {
-    find(random, few_pins_far_apart, |s| s.bound_ended)
+pub fn bound_ends(random: &mut Random, weights: Weights) -> Lists {
+    let drawn = |random: &mut Random| {
+        let lists = few_pins_far_apart(random);
+        match weights {
+            Weights::ONE => lists,
+            _ => roughly_stretched(&lists, random, weights),
+        }
+    };
+    find(random, weights, drawn, |s| s.bound_ended)
+}
+
+/// The net stretched by the weights as above, so that neither axis is far dearer than it was, and
+/// each coordinate then moved on by less than its stretch, so that it is a net of its own. A macro
+/// that would now meet something is left out.
+fn roughly_stretched(lists: &Lists, random: &mut Random, weights: Weights) -> Lists {
+    let mut moved = |c: i32, stretch: i32| c * stretch + random.between(0, stretch - 1);
+    let mut draft = Draft::default();
+    for pin in lists.pins.chunks_exact(2) {
+        draft.pin(moved(pin[0], weights.y), moved(pin[1], weights.x));
+    }
+    for four in lists.macros.chunks_exact(4) {
+        let (left, bottom) = (moved(four[0], weights.y), moved(four[1], weights.x));
+        let (right, top) = (moved(four[2], weights.y), moved(four[3], weights.x));
+        draft.macro_box(left, bottom, right, top);
+    }
+    draft.lists()
 }
 
 fn few_pins_far_apart(random: &mut Random) -> Lists {
@@ -82,12 +114,13 @@ fn few_pins_far_apart(random: &mut Random) -> Lists {
 /// Draws nets until one is refined in the way asked for.
 fn find(
     random: &mut Random,
+    weights: Weights,
     draw: impl Fn(&mut Random) -> Lists,
     wanted: impl Fn(&Statistics) -> bool,
 ) -> Lists {
     loop {
         let lists = draw(random);
-        let net = check(&lists.pins, &lists.macros).expect("drawn nets are allowed");
+        let net = check(&lists.pins, &lists.macros, weights).expect("drawn nets are allowed");
         if wanted(&refined(&net).statistics) {
             return lists;
         }

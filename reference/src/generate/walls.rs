@@ -76,6 +76,19 @@ pub fn largest_maze(random: &mut Random) -> Lists {
     draft.turned(random)
 }
 
+/// 64 walls from one end of the die to the other, so that every way past one leads to an end, and
+/// pins near the middle of the corridors.
+pub fn across(random: &mut Random) -> Lists {
+    let end = Net::COORDINATE;
+    let mut draft = Draft::default();
+    for wall in 0..Net::MACROS as i32 {
+        let bottom = -end + 1 + wall * 31_250;
+        draft.macro_box(-end, bottom, end, bottom + random.between(1, 31_248));
+        draft.pin(random.between(-9, 9), bottom - random.between(0, 1));
+    }
+    draft.turned(random)
+}
+
 /// Rows and columns of macros with channels of one width, or none; pins in the channels.
 pub fn grid(random: &mut Random, channel: i32) -> Lists {
     let columns = widths(random);

@@ -1,13 +1,22 @@
 -- `exports::calzundi_terminal_tree` meets its contract: each arm passes on what the router's answer says, its count and its total.
 -- Assumes nothing.
-use mathlib.Core.Path.{_∙_}
+use mathlib.Core.Path.{_∙_, subst}
 use denote.Ref.{now}
 use mir.Syntax.{w32, w64}
 use mir.ValLaws.{toZ-ofZ}
-use Rattle.exports.proofs.HandedLaws.{tree-given, tree-refused}
+use Rattle.lent.specs.Told.{code}
+use Rattle.lent.specs.Over.{valueAfter}
+use Rattle.net.specs.declared.Weighing.{Weighing}
+use Rattle.net.specs.Net.{weighing}
+use Rattle.router.specs.Terminal.{terminalTree, toldTerminal}
+use Rattle.router.specs.Call.{TerminalCall}
+use Rattle.exports.proofs.HandedLaws.{code-handed, value-handed, read-back}
 use borrow.Author.Needs.{needs}
 use Rattle.exports.proofs.calzundi_terminal_tree.Statement.{statement}
 use Rattle.exports.proofs.calzundi_terminal_tree.Tie as tie
+
+weighing-requires : tie.Need-weighing-requires
+weighing-requires c κs = search needs
 
 terminal-tree-requires : tie.Need-terminal-tree-requires
 terminal-tree-requires c κs = search needs
@@ -24,27 +33,51 @@ number-requires c κs = search needs
 same-length : tie.Need-same-length
 same-length c = search needs
 
+abbrev start : tie.After-terminal-tree → tie.Start
+start d = d .before .before .before
+
+-- the call, by the weights as they were handed over
+call : (d : tie.After-terminal-tree) → TerminalCall terminalTree (weighing (start d .args .x) (start d .args .y)) (now (start d .args .pins)) (now (start d .args .macros))
+    (now (start d .args .paths)) (d .terminal-tree .result) (d .terminal-tree .last .1 .1 .1 .0)
+call d =
+    let a = start d .args in
+    subst (λ (w : Weighing). TerminalCall terminalTree w (now (a .pins)) (now (a .macros)) (now (a .paths)) (d .terminal-tree .result) (d .terminal-tree .last .1 .1 .1 .0))
+    (read-back (a .x) (a .y) (start d .fits .x) (start d .fits .y) (d .before .before .weighing .ensures))
+    (d .terminal-tree .ensures)
+
 returns : tie.Need-returns
+unfolding code valueAfter toldTerminal
 returns c =
-    let d = c .before .before .before .before in
-    let s = d .before .before .args in
-    tree-given (d .terminal-tree .ensures) (now (s .count)) (now (s .total)) (c .before .answer .given .1) (toZ-ofZ w64 _ (search needs))
+    let g = call (c .before .before .before .before) in
+    let i = c .before .answer .given .1 in
+    record {
+      answer = code-handed toldTerminal (g .answer) i;
+      list = g .list;
+      count = value-handed toldTerminal (g .answer) i (λ tree. tree .0) _;
+      total = toZ-ofZ w64 _ (search needs) ∙ value-handed toldTerminal (g .answer) i (λ tree. tree .1) _;
+    }
 
 same-length-2 : tie.Need-same-length-2
 same-length-2 c = search needs
 
 returns-2 : tie.Need-returns-2
+unfolding code valueAfter toldTerminal
 returns-2 c =
     let a = c .before .before in
-    let d = a .before .before .before in
-    let s = d .before .before .args in
-    tree-refused (d .terminal-tree .ensures) (now (s .count)) (now (s .total)) (a .answer2 .given .1)
-    (toZ-ofZ w32 _ (search needs) ∙ c .number .ensures)
+    let g = call (a .before .before .before) in
+    let i = a .answer2 .given .1 in
+    record {
+      answer = toZ-ofZ w32 _ (search needs) ∙ c .number .ensures ∙ code-handed toldTerminal (g .answer) i;
+      list = g .list;
+      count = value-handed toldTerminal (g .answer) i (λ tree. tree .0) _;
+      total = value-handed toldTerminal (g .answer) i (λ tree. tree .1) _;
+    }
 
 pub calzundi-terminal-tree-spec : {M : Type 1} → statement M
 calzundi-terminal-tree-spec =
     tie.close
     (tie.spec
+    weighing-requires
     terminal-tree-requires
     enum-known-answer
     enum-known-answer-2

@@ -1,15 +1,22 @@
 -- `exports::calzundi_wires` meets its contract: each arm passes on what the router's answer says and its count.
 -- Assumes nothing.
-use mathlib.Core.Path.{_∙_}
+use mathlib.Core.Path.{_∙_, subst}
+use denote.Ref.{now}
 use mir.Syntax.{w32}
 use mir.ValLaws.{toZ-ofZ}
 use Rattle.lent.specs.Told.{code}
 use Rattle.lent.specs.Over.{valueAfter}
-use Rattle.router.specs.Refined.{toldWires}
-use Rattle.exports.proofs.HandedLaws.{code-handed, value-handed}
+use Rattle.net.specs.declared.Weighing.{Weighing}
+use Rattle.net.specs.Net.{weighing}
+use Rattle.router.specs.Wires.{wired, toldWires}
+use Rattle.router.specs.Call.{WiresCall}
+use Rattle.exports.proofs.HandedLaws.{code-handed, value-handed, read-back}
 use borrow.Author.Needs.{needs}
 use Rattle.exports.proofs.calzundi_wires.Statement.{statement}
 use Rattle.exports.proofs.calzundi_wires.Tie as tie
+
+weighing-requires : tie.Need-weighing-requires
+weighing-requires c κs = search needs
 
 wires-requires : tie.Need-wires-requires
 wires-requires c κs = search needs
@@ -26,15 +33,28 @@ number-requires c κs = search needs
 same-length : tie.Need-same-length
 same-length c = search needs
 
+abbrev start : tie.After-wires → tie.Start
+start d = d .before .before .before
+
+-- the call, by the weights as they were handed over
+call : (d : tie.After-wires) → WiresCall wired (weighing (start d .args .x) (start d .args .y)) (now (start d .args .pins)) (now (start d .args .macros))
+    (now (start d .args .wires)) (d .wires .result) (d .wires .last .1 .1 .1 .0)
+call d =
+    let a = start d .args in
+    subst (λ (w : Weighing). WiresCall wired w (now (a .pins)) (now (a .macros)) (now (a .wires)) (d .wires .result) (d .wires .last .1 .1 .1 .0))
+    (read-back (a .x) (a .y) (start d .fits .x) (start d .fits .y) (d .before .before .weighing .ensures))
+    (d .wires .ensures)
+
 returns : tie.Need-returns
 unfolding code valueAfter toldWires
 returns c =
-    let d = c .before .before .before .before in
-    let g = d .wires .ensures in
-    let i = c .before .answer .given .1 in (
-      code-handed toldWires (g .answer) i,
-      (g .list, value-handed toldWires (g .answer) i (λ n. n) _),
-    )
+    let g = call (c .before .before .before .before) in
+    let i = c .before .answer .given .1 in
+    record {
+      answer = code-handed toldWires (g .answer) i;
+      list = g .list;
+      count = value-handed toldWires (g .answer) i (λ n. n) _;
+    }
 
 same-length-2 : tie.Need-same-length-2
 same-length-2 c = search needs
@@ -43,17 +63,19 @@ returns-2 : tie.Need-returns-2
 unfolding code valueAfter toldWires
 returns-2 c =
     let a = c .before .before in
-    let d = a .before .before .before in
-    let g = d .wires .ensures in
-    let i = a .answer2 .given .1 in (
-      toZ-ofZ w32 _ (search needs) ∙ c .number .ensures ∙ code-handed toldWires (g .answer) i,
-      (g .list, value-handed toldWires (g .answer) i (λ n. n) _),
-    )
+    let g = call (a .before .before .before) in
+    let i = a .answer2 .given .1 in
+    record {
+      answer = toZ-ofZ w32 _ (search needs) ∙ c .number .ensures ∙ code-handed toldWires (g .answer) i;
+      list = g .list;
+      count = value-handed toldWires (g .answer) i (λ n. n) _;
+    }
 
 pub calzundi-wires-spec : {M : Type 1} → statement M
 calzundi-wires-spec =
     tie.close
     (tie.spec
+    weighing-requires
     wires-requires
     enum-known-answer
     enum-known-answer-2

@@ -7,6 +7,7 @@ use native.Mathlib.Omega.{arith}
 use lib.IntN.{ℤ, pos}
 use lib.ListN.{length, take, replicate}
 use denote.Ref.{now}
+use Rattle.plane.specs.declared.Weights.{Weights}
 use Rattle.netfile.specs.Sizes.{blockCount, fileBlocks, fileNumbers}
 use Rattle.netfile.specs.Read.{pinsIn, macrosIn, pinLength, macroLength, Sized, laidOut}
 use Rattle.netfile.proofs.SizeLaws.{pins-few, macros-few}
@@ -22,10 +23,10 @@ zeros = replicate fileNumbers (pos 0)
 -- the tables after the lists were taken: as long as they were, and the lists stand at their beginnings
 module _ (t : tie.After-take-lists) where
   abbrev bytes : List ℕ
-  bytes = now (t .before .before .before .before .before .before .args .bytes)
+  bytes = now (t .before .before .before .before .before .before .before .args .bytes)
 
   sized : Sized bytes (pinLength bytes) (macroLength bytes)
-  sized = t .before .before .before .before .before .before .pre
+  sized = t .before .before .before .before .before .before .before .pre .0
 
   few : blockCount (pinLength bytes) (macroLength bytes) ≤ fileBlocks
   few = blocks-few bytes _ _ sized
@@ -48,6 +49,9 @@ module _ (t : tie.After-take-lists) where
       part-of-over _ _ zeros _ (t .take-lists .ensures .1)
       (length-macros-in bytes ∙ sym (t .before .before .before .macro-length .ensures))
 
+weights-in-requires : tie.Need-weights-in-requires
+weights-in-requires c κs = (omega (arith, c .before .pre .0 .fit), c .before .pre .1)
+
 pin-length-requires : tie.Need-pin-length-requires
 pin-length-requires c κs = search needs
 
@@ -62,7 +66,7 @@ slice-aggregate-take-lists-2 c = search needs
 
 take-lists-requires : tie.Need-take-lists-requires
 take-lists-requires c κs =
-    let s = c .before .before .before .before .before .pre in
+    let s = c .before .before .before .before .before .before .pre .0 in
     let f = blocks-few _ _ _ s in
     (s, (pins-few _ _ f, macros-few _ _ f))
 
@@ -96,12 +100,16 @@ check-lists-requires c κs =
 returns : tie.Need-returns
 returns c =
     let t = c .before .before .before .before .before .before .before in
-    c .check-lists .ensures ∙ ap₂ (laidOut (bytes t)) (pins-part t) (macros-part t)
+    c .check-lists .ensures
+    ∙ ap₂ (laidOut (bytes t) _) (pins-part t) (macros-part t)
+    ∙ ap (λ (w : Weights). laidOut (bytes t) w (pinsIn (bytes t)) (macrosIn (bytes t)))
+    (t .before .before .before .before .before .weights-in .ensures)
 
 pub check-file-spec : {M : Type 1} → statement M
 check-file-spec =
     tie.close
     (tie.spec
+    weights-in-requires
     pin-length-requires
     macro-length-requires
     slice-aggregate-take-lists

@@ -38,10 +38,10 @@ returns : tie.Need-returns
 returns c =
     let s = c .before .before .before .before .before .before .before in
     let b = now (s .args .bytes) in
-    let f = fileBytes (now (s .args .pins)) (now (s .args .macros)) in
+    let f = fileBytes (s .args .w) (now (s .args .pins)) (now (s .args .macros)) in
     c .same-bytes .ensures
     ∙ ap (sameNumbers b) (part-of-over f _ (replicate fileBound 0) (length b) (c .before .before .before .before .put-file .ensures)
-    (length-file _ _ ∙ sym (s .pre .fit)))
+    (length-file (s .args .w) _ _ ∙ sym (s .pre .fit)))
 
 pub is-file-of-spec : {M : Type 1} → statement M
 is-file-of-spec =

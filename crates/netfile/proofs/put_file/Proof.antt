@@ -63,9 +63,9 @@ returns c =
     (q .put-list .ensures
     ∙ ap (λ (l : List ℕ). sets l blockBytes (bytesOf (listBlocks pinKind pinWidth 1 (blocksFor (length p)) p)))
     (h .put-block .ensures ∙ ap (λ (b : List ℕ). sets (now (s .args .bytes)) 0 (bytesOf b)) (h .before .head-block .ensures
-    ∙ ap₂ headBlock (k .before .pin-count .ensures) (k .macro-count .ensures))))
+    ∙ ap₂ (λ (m k : ℕ). headBlock m k (s .args .w)) (k .before .pin-count .ensures) (k .macro-count .ensures))))
     (ap (λ (n : ℕ). 1 + n) (b .blocks-for .ensures))
-    ∙ file-laid (now (s .args .bytes)) p m (omega arith)
+    ∙ file-laid (now (s .args .bytes)) (s .args .w) p m (omega arith)
 
 pub put-file-spec : {M : Type 1} → statement M
 put-file-spec =

@@ -14,8 +14,9 @@ use Rattle.lent.specs.Over.{after}
 use Rattle.net.specs.declared.Net.{Net as Counts}
 use Rattle.net.specs.Answer.{number}
 use Rattle.net.specs.Check.{told}
-use Rattle.netfile.specs.Read.{blocksMiscounted, sumsWrong, countsWrong, pinsIn, macrosIn, roomShort, readFile}
-use Rattle.netfile.proofs.AnswerLaws.{blocks-counted, sized-by-head, refuse-21, refuse-1, refuse-2, refuse-3, read-on, unaltered}
+use Rattle.netfile.specs.Read.{blocksMiscounted, sumsWrong, headWrong, pinsIn, macrosIn, roomShort, readFile}
+use Rattle.netfile.proofs.AnswerLaws.{blocks-counted, head-right, sized-by-head, refuse-21, refuse-1, refuse-2, refuse-3, read-on}
+use Rattle.netfile.proofs.AnswerLaws.{unaltered}
 use borrow.Author.Needs.{needs}
 use Rattle.netfile.proofs.read.Statement.{statement}
 use Rattle.netfile.proofs.read.Tie as tie
@@ -54,8 +55,8 @@ blocks c = sym (c .before .blocks-miscounted .ensures) ∙ c .if2 .left
 sums : (c : tie.Else3) → sumsWrong (bytes-of (start3 c)) ≡ false
 sums c = sym (c .before .any-wrong-sums .ensures) ∙ c .if3 .left
 
-counts : (c : tie.Else4) → countsWrong (bytes-of (start4 c)) ≡ false
-counts c = sym (c .before .counts-wrong .ensures) ∙ c .if4 .left
+head : (c : tie.Else4) → headWrong (bytes-of (start4 c)) ≡ false
+head c = sym (c .before .head-wrong .ensures) ∙ c .if4 .left
 
 -- a refusal
 abbrev Turned : tie.Start → ℕ → Type 0
@@ -114,8 +115,8 @@ returns-3 c =
     let s = start2 p in
     turned s 2 (refuse-2 (bytes-of s) _ _ (room (p .before .before)) (blocks p) (sym (c .before .any-wrong-sums .ensures) ∙ c .if3 .taken))
 
-counts-wrong-requires : tie.Need-counts-wrong-requires
-counts-wrong-requires c κs =
+head-wrong-requires : tie.Need-head-wrong-requires
+head-wrong-requires c κs =
     let b = blocks-counted (bytes-of (start3 c)) (blocks (c .before .before)) in
     omega (arith, b .some)
 
@@ -132,7 +133,7 @@ returns-4 c =
     let q = p .before .before in
     let s = start3 p in
     turned s 3
-    (refuse-3 (bytes-of s) _ _ (room (q .before .before)) (blocks q) (sums p) (sym (c .before .counts-wrong .ensures) ∙ c .if4 .taken))
+    (refuse-3 (bytes-of s) _ _ (room (q .before .before)) (blocks q) (sums p) (sym (c .before .head-wrong .ensures) ∙ c .if4 .taken))
 
 read-counted-requires : tie.Need-read-counted-requires
 read-counted-requires c κs =
@@ -140,7 +141,8 @@ read-counted-requires c κs =
     let p = r .before .before in
     let q = p .before .before in
     let s = start4 r in
-    (sized-by-head (bytes-of s) (blocks-counted (bytes-of s) (blocks q)) (counts r), room (q .before .before))
+    let h = head-right (bytes-of s) (head r) in
+    ((sized-by-head (bytes-of s) (blocks-counted (bytes-of s) (blocks q)) (h .0), h .1), room (q .before .before))
 
 same-length-9 : tie.Need-same-length-9
 same-length-9 c = search needs
@@ -155,7 +157,7 @@ returns-5 c =
     let p = r .before .before in
     let q = p .before .before in
     let s = start4 r in
-    let e = sym (read-on (bytes-of s) _ _ (room (q .before .before)) (blocks q) (sums p) (counts r)) in (
+    let e = sym (read-on (bytes-of s) _ _ (room (q .before .before)) (blocks q) (sums p) (head r)) in (
       d .read-counted .ensures .0 ∙ e,
       (
         d .read-counted .ensures .1 .0 ∙ ap (λ (t : Told Counts). after t (pinsIn (bytes-of s)) (pins-of s)) e,
@@ -179,7 +181,7 @@ read-spec =
     same-length-5
     same-length-6
     returns-3
-    counts-wrong-requires
+    head-wrong-requires
     same-length-7
     same-length-8
     returns-4

@@ -7,7 +7,7 @@ use Rattle.lent.specs.Told.{Told, given}
 use Rattle.lent.proofs.AfterLaws.{after-given}
 use Rattle.net.specs.declared.Net.{Net as Counts}
 use Rattle.net.specs.Check.{told}
-use Rattle.netfile.specs.Read.{pinsIn, macrosIn, laidOut}
+use Rattle.netfile.specs.Read.{pinsIn, macrosIn, answerIn}
 use Rattle.netfile.proofs.AnswerLaws.{lists-fit, unaltered}
 use borrow.Author.Needs.{needs}
 use Rattle.netfile.proofs.read_counted.Statement.{statement}
@@ -15,7 +15,7 @@ use Rattle.netfile.proofs.read_counted.Tie as tie
 
 -- the answer for the file, where it is accepted
 abbrev answer-of : tie.Start → Told Counts
-answer-of s = laidOut (now (s .args .bytes)) (pinsIn (now (s .args .bytes))) (macrosIn (now (s .args .bytes)))
+answer-of s = answerIn (now (s .args .bytes))
 
 accepted : (c : tie.After-enum-told) → answer-of (c .before .before .before .before)
     ≡ given (c .enum-told .given .0 .0)
@@ -32,7 +32,8 @@ take-lists-requires : tie.Need-take-lists-requires
 take-lists-requires c κs =
     let k = c .before .before in
     let s = k .before .before .before .before in
-    (s .pre .0, lists-fit (now (s .args .bytes)) (length (now (s .args .pins))) (length (now (s .args .macros))) _ (accepted k) (s .pre .1))
+    let a = s .args in
+    (s .pre .0 .0, lists-fit (now (a .bytes)) (length (now (a .pins))) (length (now (a .macros))) _ (accepted k) (s .pre .1))
 
 enum-told-2 : tie.Need-enum-told-2
 enum-told-2 c = search needs

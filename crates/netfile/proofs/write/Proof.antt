@@ -1,43 +1,69 @@
--- `netfile::write` meets its contract: what the check refuses is refused, and a checked net is written.
+-- `netfile::write` meets its contract: what the check refuses is refused, and a checked net is written, with the weights that it was given.
 -- Assumes nothing.
-use mathlib.Core.Path.{_≡_, sym, ap, _∙_}
+use mathlib.Core.Path.{_≡_, sym, ap, ap₂, _∙_}
+use mathlib.Core.List.{List}
 use Prim.Native.Nat.{ℕ}
+use lib.IntN.{ℤ}
 use lib.ListN.{length}
 use denote.Ref.{now}
 use Rattle.lent.specs.Told.{Told, given}
 use Rattle.lent.specs.Over.{after}
 use Rattle.lent.proofs.AfterLaws.{after-refused}
+use Rattle.plane.specs.declared.Weights.{Weights}
 use Rattle.net.specs.declared.Net.{Net as Counts}
+use Rattle.net.specs.Net.{weightsOf}
 use Rattle.net.specs.Check.{checked, told}
+use Rattle.net.proofs.AllowedLaws.{given-counts}
 use Rattle.netfile.specs.Layout.{fileBytes}
-use Rattle.netfile.specs.Write.{toldBytes}
+use Rattle.netfile.specs.Write.{fitted, toldBytes}
 use Rattle.netfile.proofs.WriteLaws.{written-refused, written-allowed, allowed-blocks}
 use borrow.Author.Needs.{needs}
 use Rattle.netfile.proofs.write.Statement.{statement}
 use Rattle.netfile.proofs.write.Tie as tie
 
+abbrev pins-of : tie.Start → List ℤ
+pins-of s = now (s .args .pins)
+
+abbrev macros-of : tie.Start → List ℤ
+macros-of s = now (s .args .macros)
+
+abbrev bytes-of : tie.Start → List ℕ
+bytes-of s = now (s .args .bytes)
+
+-- the file of a net with these weights
+abbrev file-of : tie.Start → Weights → List ℕ
+file-of s w = fileBytes w (pins-of s) (macros-of s)
+
 -- the answer of the check, where the net is allowed
 abbrev checked-of : tie.Start → Told Counts
-checked-of s = checked (now (s .args .pins)) (now (s .args .macros))
+checked-of s = checked (s .args .w) (pins-of s) (macros-of s)
 
-allowed : (c : tie.After-enum-told) → checked-of (c .before .before .before .before)
-    ≡ given (c .enum-told .given .0 .0)
-unfolding told
-allowed c = sym (c .before .before .check .ensures) ∙ ap told (c .enum-told .given .1)
+module _ (c : tie.After-write-checked-arg) where
+  abbrev start : tie.Start
+  start = c .before .before .before .before .before .before
+
+  abbrev net : Counts
+  net = c .before .before .answer .given .0 .0
+
+  allowed : checked-of start ≡ given net
+  unfolding told
+  allowed = sym (c .before .before .before .before .check .ensures) ∙ ap told (c .before .before .answer .given .1)
+
+  -- the weights found are those handed over
+  found : net .weights ≡ weightsOf (start .args .w)
+  found = ap (λ (n : Counts). n .weights) (given-counts _ _ _ allowed)
 
 check-requires : tie.Need-check-requires
 check-requires c κs = search needs
 
-enum-told : tie.Need-enum-told
-enum-told c = search needs
-
-write-checked-requires : tie.Need-write-checked-requires
-write-checked-requires c κs =
-    let a = c .before .before .before .before .before .args in
-    allowed-blocks (now (a .pins)) (now (a .macros)) _ (allowed (c .before))
-
 enum-known-answer : tie.Need-enum-known-answer
 enum-known-answer c = search needs
+
+write-checked-requires : tie.Need-write-checked-requires
+write-checked-requires c κs = allowed-blocks (start c .args .w) (pins-of (start c)) (macros-of (start c)) _ (allowed c)
+
+enum-known-answer-2 : tie.Need-enum-known-answer-2
+enum-known-answer-2 c = search needs
 
 same-length : tie.Need-same-length
 same-length c = search needs
@@ -45,30 +71,35 @@ same-length c = search needs
 returns : tie.Need-returns
 returns c =
     let r = c .before .before in
-    let a = r .before .before .before .before .before .before .args in
-    let f = fileBytes (now (a .pins)) (now (a .macros)) in
-    let e = sym (written-allowed (now (a .pins)) (now (a .macros)) (length (now (a .bytes))) _ (allowed (r .before .before))) in
-    (r .write-checked .ensures .0 ∙ e, r .write-checked .ensures .1 ∙ ap (λ (t : Told ℕ). after t f (now (a .bytes))) e)
+    let s = start (r .before) in
+    let e =
+    ap (λ (w : Weights). fitted (length (file-of s w)) (length (bytes-of s))) (found (r .before))
+    ∙ sym (written-allowed (s .args .w) (pins-of s) (macros-of s) (length (bytes-of s)) _ (allowed (r .before)))
+    in (
+      r .write-checked .ensures .0 ∙ e,
+      r .write-checked .ensures .1
+          ∙ ap₂ (λ (t : Told ℕ) (w : Weights). after t (file-of s w) (bytes-of s)) e (found (r .before)),
+    )
 
 returns-2 : tie.Need-returns-2
 unfolding toldBytes told
 returns-2 c =
-    let s = c .before .before .before in
-    let a = s .before .before .args in
+    let k = c .before .before .before in
+    let s = k .before .before in
     let e =
-    written-refused (now (a .pins)) (now (a .macros)) (length (now (a .bytes))) _
-    (sym (s .check .ensures) ∙ ap told (c .before .answer .given .1))
+    written-refused (s .args .w) (pins-of s) (macros-of s) (length (bytes-of s)) _
+    (sym (k .check .ensures) ∙ ap told (c .before .answer2 .given .1))
     in
-    (sym e, after-refused _ (fileBytes (now (a .pins)) (now (a .macros))) (now (a .bytes)) _ e)
+    (sym e, after-refused _ (file-of s (weightsOf (s .args .w))) (bytes-of s) _ e)
 
 pub write-spec : {M : Type 1} → statement M
 write-spec =
     tie.close
     (tie.spec
     check-requires
-    enum-told
-    write-checked-requires
     enum-known-answer
+    write-checked-requires
+    enum-known-answer-2
     same-length
     returns
     returns-2)

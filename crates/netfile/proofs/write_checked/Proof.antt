@@ -36,8 +36,8 @@ returns : tie.Need-returns
 unfolding toldBytes number
 returns c =
     let a = c .before .before .before .before .args in
-    let f = fileBytes (now (a .pins)) (now (a .macros)) in
-    let e = fitted-short (length f) (length (now (a .bytes))) (omega (arith, length-file (now (a .pins)) (now (a .macros)))) in
+    let f = fileBytes (a .w) (now (a .pins)) (now (a .macros)) in
+    let e = fitted-short (length f) (length (now (a .bytes))) (omega (arith, length-file (a .w) (now (a .pins)) (now (a .macros)))) in
     (sym e, after-refused _ f (now (a .bytes)) 21 e)
 
 put-file-requires : tie.Need-put-file-requires
@@ -52,8 +52,8 @@ returns-2 c =
     let p = c .before .before in
     let s = p .before .before .before .before .before .before in
     let b = now (s .args .bytes) in
-    let f = fileBytes (now (s .args .pins)) (now (s .args .macros)) in
-    let n = length-file (now (s .args .pins)) (now (s .args .macros)) in
+    let f = fileBytes (s .args .w) (now (s .args .pins)) (now (s .args .macros)) in
+    let n = length-file (s .args .w) (now (s .args .pins)) (now (s .args .macros)) in
     let k = p .before .before .before in
     let e : (1 + k .before .blocks-for .result + k .blocks-for2 .result) * blockBytes ≡ length f = omega (arith, n) in
     let g = fitted-given (length f) (length b) (omega (arith, n)) in

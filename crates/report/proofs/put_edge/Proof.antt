@@ -1,4 +1,4 @@
--- `report::put_edge` meets its contract: two places, and the length between them with the line's end behind it.
+-- `report::put_edge` meets its contract: two places, and the cost between them with the line's end behind it.
 -- Assumes nothing.
 use mathlib.Core.Path.{ap, _∙_}
 use native.Mathlib.Omega.{arith}
@@ -18,8 +18,8 @@ put-place-requires c κs = search needs
 put-place-requires-2 : tie.Need-put-place-requires-2
 put-place-requires-2 c κs = search needs
 
-length-requires : tie.Need-length-requires
-length-requires c κs = search needs
+cost-requires : tie.Need-cost-requires
+cost-requires c κs = search needs
 
 put-number-requires : tie.Need-put-number-requires
 put-number-requires c κs = search needs
@@ -33,9 +33,9 @@ returns c =
     let q = n .before .before .before .before .before in
     let p = q .before .before .before .before in
     let s = p .before .before .before in
-    let d = toZ-ofZ w64 _ (search needs) ∙ n .before .length .ensures in
+    let d = toZ-ofZ w64 _ (search needs) ∙ n .before .cost .ensures in
     let l = put-as (ap (λ (z : ℤ). number z newline) d) (n .put-number .ensures .0) in (
-      put-as (edge-line (s .args .a) (s .args .b)) (put-then (put-then (p .put-place .ensures .0) (q .put-place2 .ensures .0)) l),
+      put-as (edge-line (s .args .w) (s .args .a) (s .args .b)) (put-then (put-then (p .put-place .ensures .0) (q .put-place2 .ensures .0)) l),
       omega (arith, p .put-place .ensures .1, q .put-place2 .ensures .1, n .put-number .ensures .1),
     )
 
@@ -45,7 +45,7 @@ put-edge-spec =
     (tie.spec
     put-place-requires
     put-place-requires-2
-    length-requires
+    cost-requires
     put-number-requires
     same-length
     returns)

@@ -16,14 +16,14 @@ use Rattle.report.proofs.put_edges.Statement.{statement}
 use Rattle.report.proofs.put_edges.Tie as tie
 
 abbrev Inv-loop : tie.InvT-loop
-Inv-loop out₀ at edges count next₀ i₀ out next i =
-    ((i ≤ count) × (length out ≡ length out₀)) × ((next ≤ at + i * 105) × Put out₀ at (flat edgeLine (entries edgeFrom 4 edges i)) out next)
+Inv-loop out₀ at w edges count next₀ i₀ out next i =
+    ((i ≤ count) × (length out ≡ length out₀)) × ((next ≤ at + i * 105) × Put out₀ at (flat (edgeLine w) (entries edgeFrom 4 edges i)) out next)
 
 abbrev μ-loop : tie.MeasureT-loop
-μ-loop out₀ at edges count next₀ i₀ out next i = count - i
+μ-loop out₀ at w edges count next₀ i₀ out next i = count - i
 
 loop-holds : tie.Need-loop-holds Inv-loop μ-loop
-loop-holds c = ((omega arith, refl), (omega arith, no-lines _ _ _))
+loop-holds c = ((omega arith, refl), (omega arith, no-lines _ _ _ _))
 
 mul-place-at : tie.Need-mul-place-at Inv-loop μ-loop
 mul-place-at c = omega arith
@@ -57,9 +57,9 @@ loop-again c =
     let l = p .before .before in
     let a = l .before .before .args in
     let line =
-    put-as (ap₂ (λ (u v : Place). edgeLine (u, v)) (p .place-at .ensures) (q .place-at2 .ensures)) (e .put-edge .ensures .0)
+    put-as (ap₂ (λ (u v : Place). edgeLine (a .w) (u, v)) (p .place-at .ensures) (q .place-at2 .ensures)) (e .put-edge .ensures .0)
     in
-    let text = put-as (lines-more (now (a .edges)) (l .loop .i)) (put-then (l .loop .inv .1 .1) line) in
+    let text = put-as (lines-more (a .w) (now (a .edges)) (l .loop .i)) (put-then (l .loop .inv .1 .1) line) in
     ((omega arith, e .put-edge .kept .0 ∙ l .loop .inv .0 .1), (omega (arith, e .put-edge .ensures .1, l .loop .inv .1 .0), text))
 
 same-length : tie.Need-same-length Inv-loop μ-loop
@@ -70,7 +70,7 @@ returns c =
     let l = c .before in
     let a = l .before .before .args in
     let e : l .loop .i ≡ a .count = omega arith in
-    (put-as (ap (λ (n : ℕ). flat edgeLine (entries edgeFrom 4 (now (a .edges)) n)) e) (l .loop .inv .1 .1), omega (arith, l .loop .inv .1 .0))
+    (put-as (ap (λ (n : ℕ). flat (edgeLine (a .w)) (entries edgeFrom 4 (now (a .edges)) n)) e) (l .loop .inv .1 .1), omega (arith, l .loop .inv .1 .0))
 
 pub put-edges-spec : {M : Type 1} → statement M
 put-edges-spec =

@@ -1,79 +1,27 @@
--- `report::put_header` meets its contract: four words with their numbers, and the line's end.
+-- `report::put_header` meets its contract: its two halves, one behind the other.
 -- Assumes nothing.
 use native.Mathlib.Omega.{arith}
-use mir.Syntax.{w64}
-use mir.ValLaws.{toZ-ofZ}
-use Rattle.report.proofs.PutLaws.{put-then, put-as}
-use Rattle.report.proofs.LineLaws.{header-line}
+use Rattle.report.specs.Text.{header}
+use Rattle.report.proofs.PutLaws.{put-then}
 use borrow.Author.Needs.{needs}
 use Rattle.report.proofs.put_header.Statement.{statement}
 use Rattle.report.proofs.put_header.Tie as tie
 
-slice-aggregate-put-count : tie.Need-slice-aggregate-put-count
-slice-aggregate-put-count c = search needs
+put-counts-requires : tie.Need-put-counts-requires
+put-counts-requires c κs = search needs
 
-put-count-requires : tie.Need-put-count-requires
-put-count-requires c κs = search needs
-
-slice-aggregate-put-count-2 : tie.Need-slice-aggregate-put-count-2
-slice-aggregate-put-count-2 c = search needs
-
-put-count-requires-2 : tie.Need-put-count-requires-2
-put-count-requires-2 c κs = search needs
-
-slice-aggregate-put-total : tie.Need-slice-aggregate-put-total
-slice-aggregate-put-total c = search needs
-
-put-total-requires : tie.Need-put-total-requires
-put-total-requires c κs = search needs
-
-slice-aggregate-put-total-2 : tie.Need-slice-aggregate-put-total-2
-slice-aggregate-put-total-2 c = search needs
-
-put-total-requires-2 : tie.Need-put-total-requires-2
-put-total-requires-2 c κs = search needs
-
-put-byte-requires : tie.Need-put-byte-requires
-put-byte-requires c κs = search needs
+put-totals-requires : tie.Need-put-totals-requires
+put-totals-requires c κs = search needs
 
 same-length : tie.Need-same-length
 same-length c = search needs
 
 returns : tie.Need-returns
+unfolding header
 returns c =
-    let e = c .before .before in
-    let r = e .before .before .before .before in
-    let t = r .before .before .before .before .before in
-    let k = t .before .before .before .before .before in
-    let m = k .before .before .before .before .before in
-    let s = m .before .before .before .before in
-    let a = s .args in
-    let terminal = rw (toZ-ofZ w64 _ (s .fits .terminal)) at (t .put-total .ensures .0) in
-    let refined = rw (toZ-ofZ w64 _ (s .fits .refined)) at (r .put-total2 .ensures .0) in (
-      put-as (header-line (a .m) (a .k) (a .terminal) (a .refined))
-          (put-then (put-then (put-then (put-then (m .put-count .ensures .0) (k .put-count2 .ensures .0)) terminal) refined) (e .put-byte .ensures)),
-      omega (
-        arith,
-        m .put-count .ensures .1,
-        k .put-count2 .ensures .1,
-        t .put-total .ensures .1,
-        r .put-total2 .ensures .1,
-        e .put-byte .ensures .moves,
-      ),
-    )
+    let t = c .before .before in
+    let k = t .before .before .before .before in
+    (put-then (k .put-counts .ensures .0) (t .put-totals .ensures .0), omega (arith, k .put-counts .ensures .1, t .put-totals .ensures .1))
 
 pub put-header-spec : {M : Type 1} → statement M
-put-header-spec =
-    tie.close
-    (tie.spec
-    slice-aggregate-put-count
-    put-count-requires
-    slice-aggregate-put-count-2
-    put-count-requires-2
-    slice-aggregate-put-total
-    put-total-requires
-    slice-aggregate-put-total-2
-    put-total-requires-2
-    put-byte-requires
-    same-length
-    returns)
+put-header-spec = tie.close (tie.spec put-counts-requires put-totals-requires same-length returns)

@@ -1,7 +1,7 @@
 -- `report::refined_text` meets its contract: the refined tree of an allowed net is given, and its edges are read back
 -- from the table that they were given in.
 -- Assumes nothing.
-use mathlib.Core.Path.{_≡_, sym, ap, _∙_}
+use mathlib.Core.Path.{_≡_, sym, ap, _∙_, subst}
 use native.Mathlib.Omega.{arith}
 use Prim.Native.Nat.{_*_}
 use lib.IntN.{pos}
@@ -16,42 +16,53 @@ use Rattle.lent.specs.Entries.{flat}
 use Rattle.lent.proofs.AfterLaws.{after-given, told-apart}
 use Rattle.net.specs.Bounds.{treeBound}
 use Rattle.graph.specs.Numbers.{edgeNumbers}
-use Rattle.router.specs.Terminal.{toldTree}
-use Rattle.router.specs.Refined.{laidOf, laidTotal}
+use Rattle.net.specs.declared.Weighing.{Weighing}
+use Rattle.net.specs.Net.{handed}
+use Rattle.router.specs.Refined.{laidOf, laidTotal, metalOf, laidAnswer, refinedTree, toldTree}
+use Rattle.router.specs.Call.{RefinedCall}
 use Rattle.report.proofs.PutLaws.{filled-as}
-use Rattle.report.proofs.RouteLaws.{same-parts, Counted, counted, refined-given, edges-fit, edges-back, same-text}
+use Rattle.report.proofs.RouteLaws.{same-three, Counted, counted, refined-given, edges-fit, edges-back, same-text}
 use borrow.Author.Needs.{needs}
 use Rattle.report.proofs.refined_text.Statement.{statement}
 use Rattle.report.proofs.refined_text.Tie as tie
 
-net : (s : tie.Start) → Counted (now (s .args .pins)) (now (s .args .macros))
-net s = counted _ _ _ (s .pre)
+net : (s : tie.Start) → Counted (handed (s .args .net .weights)) (now (s .args .pins)) (now (s .args .macros))
+net s = counted _ _ _ _ (s .pre)
+
+abbrev begin : tie.After-refined-tree → tie.Start
+begin c = c .before .before .before
+
+-- the call, by the net's weights
+call : (c : tie.After-refined-tree) → RefinedCall refinedTree (handed (begin c .args .net .weights)) (now (begin c .args .pins))
+    (now (begin c .args .macros)) (replicate (treeBound * 4) (pos 0)) (c .refined-tree .result) (c .refined-tree .last .1 .1 .1 .0)
+call c =
+    let a = begin c .args in
+    subst (λ (w : Weighing). RefinedCall refinedTree w (now (a .pins)) (now (a .macros)) (replicate (treeBound * 4) (pos 0)) (c .refined-tree .result)
+    (c .refined-tree .last .1 .1 .1 .0)) (c .before .before .handed .ensures) (c .refined-tree .ensures)
 
 -- the answer, and the table of edges
 answer : (c : tie.After-refined-tree) → toldTree (c .refined-tree .result)
-    ≡ given (
-      length (laidOf (now (c .before .before .args .pins)) (now (c .before .before .args .macros))),
-      pos (laidTotal (now (c .before .before .args .pins)) (now (c .before .before .args .macros))),
-    )
-answer c = c .refined-tree .ensures .answer ∙ refined-given _ _ (net (c .before .before))
+    ≡ given (laidAnswer (handed (begin c .args .net .weights)) (now (begin c .args .pins)) (now (begin c .args .macros)))
+answer c = call c .answer ∙ refined-given _ _ _ (net (begin c))
 
-table : (c : tie.After-refined-tree) → c .refined-tree .last .1 .1 .0
-    ≡ over (flat edgeNumbers (laidOf (now (c .before .before .args .pins)) (now (c .before .before .args .macros))))
+table : (c : tie.After-refined-tree) → c .refined-tree .last .1 .1 .1 .0
+    ≡ over (flat edgeNumbers (laidOf (handed (begin c .args .net .weights)) (now (begin c .args .pins)) (now (begin c .args .macros))))
     (replicate (treeBound * 4) (pos 0))
-table c = c .refined-tree .ensures .list ∙ sym (after-given _ _ _ _ (refined-given _ _ (net (c .before .before))))
+table c = call c .list ∙ sym (after-given _ _ _ _ (refined-given _ _ _ (net (begin c))))
 
 abbrev start : tie.After-answer → tie.Start
-start c = c .before .before .before .before .before
+start c = begin (c .before .before .before)
 
--- how many edges were given, and their total
+-- how many edges were given, their total and their metal
 given-is : (c : tie.After-answer) →
-    (c .answer .given .0 .0 ≡ length (laidOf (now (start c .args .pins)) (now (start c .args .macros))))
-    × (c .answer .given .0 .1 .0 ≡ pos (laidTotal (now (start c .args .pins)) (now (start c .args .macros))))
+    (c .answer .given .0 .0 ≡ length (laidOf (handed (start c .args .net .weights)) (now (start c .args .pins)) (now (start c .args .macros))))
+    × ((c .answer .given .0 .1 .0 ≡ pos (laidTotal (handed (start c .args .net .weights)) (now (start c .args .pins)) (now (start c .args .macros))))
+    × (c .answer .given .0 .1 .1 .0 ≡ pos (metalOf (handed (start c .args .net .weights)) (now (start c .args .pins)) (now (start c .args .macros)))))
 unfolding toldTree
-given-is c = same-parts _ _ _ _ (sym (ap toldTree (c .answer .given .1)) ∙ answer (c .before .before .before))
+given-is c = same-three (sym (ap toldTree (c .answer .given .1)) ∙ answer (c .before .before .before))
 
-fits : (c : tie.After-known-told) → SFits w64 (c .before .answer .given .0 .1 .0)
-fits c = search needs
+handed-requires : tie.Need-handed-requires
+handed-requires c κs = search needs
 
 slice-aggregate-refined-tree : tie.Need-slice-aggregate-refined-tree
 slice-aggregate-refined-tree c = search needs
@@ -62,21 +73,15 @@ refined-tree-requires c κs = search needs
 enum-known-answer : tie.Need-enum-known-answer
 enum-known-answer c = search needs
 
-pin-count-requires : tie.Need-pin-count-requires
-pin-count-requires c κs = search needs
-
-macro-count-requires : tie.Need-macro-count-requires
-macro-count-requires c κs = search needs
-
 slice-aggregate-tree : tie.Need-slice-aggregate-tree
 slice-aggregate-tree c = search needs
 
 tree-requires : tie.Need-tree-requires
 tree-requires c κs =
-    let a = c .before .before .before .before .before in
+    let a = c .before .before .before in
     let r = a .before .before .before in
     let f = edges-fit _ _ _ (a .answer .given .0 .0) (table r) (given-is a .0) in
-    (omega (arith, f, r .refined-tree .kept .1 .1 .0), f)
+    (omega (arith, f, r .refined-tree .kept .1 .1 .1 .0), f)
 
 enum-known-answer-2 : tie.Need-enum-known-answer-2
 enum-known-answer-2 c = search needs
@@ -87,16 +92,21 @@ number-requires c κs = search needs
 refused-requires : tie.Need-refused-requires
 refused-requires c κs = search needs
 
+total-fits : (c : tie.After-known-told) → SFits w64 (c .before .answer .given .0 .1 .0)
+total-fits c = search needs
+
+metal-fits : (c : tie.After-known-told) → SFits w64 (c .before .answer .given .0 .1 .1 .0)
+metal-fits c = search needs
+
 returns : tie.Need-returns
 returns c =
-    let k = c .before .before .before in
-    let t = k .before .before in
-    let a = t .before in
+    let a = c .before .before .before .before in
     let r = a .before .before .before in
-    let s = r .before .before in
+    let s = begin r in
+    let g = given-is a in
     filled-as
-    (same-text (k .before .pin-count .ensures) (k .macro-count .ensures) (toZ-ofZ w64 _ (s .fits .terminal))
-    (toZ-ofZ w64 _ (fits t) ∙ given-is a .1) (edges-back _ _ _ _ (table r) (given-is a .0)))
+    (same-text (s .args .net .weights) (s .args .net .pins) (s .args .net .macros) (toZ-ofZ w64 _ (s .fits .terminal))
+    (toZ-ofZ w64 _ (total-fits (c .before .before .before)) ∙ g .1 .0) (toZ-ofZ w64 _ (metal-fits (c .before .before .before)) ∙ g .1 .1) (edges-back _ _ _ _ (table r) (g .0)))
     (c .tree .ensures)
 
 returns-2 : tie.Need-returns-2
@@ -109,11 +119,10 @@ pub refined-text-spec : {M : Type 1} → statement M
 refined-text-spec =
     tie.close
     (tie.spec
+    handed-requires
     slice-aggregate-refined-tree
     refined-tree-requires
     enum-known-answer
-    pin-count-requires
-    macro-count-requires
     slice-aggregate-tree
     tree-requires
     enum-known-answer-2

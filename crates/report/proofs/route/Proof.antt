@@ -14,14 +14,14 @@ use Rattle.lent.specs.Told.{given}
 use Rattle.lent.proofs.AfterLaws.{after-given}
 use Rattle.net.specs.declared.Net.{Net as Counts}
 use Rattle.net.specs.Bounds.{pinWidth, macroWidth}
-use Rattle.net.specs.Pins.{pinCount, macroCount}
+use Rattle.net.specs.Net.{handed}
 use Rattle.net.specs.Check.{told}
 use Rattle.netfile.specs.Sizes.{pinListBound, macroListBound}
 use Rattle.netfile.specs.Read.{pinsIn, macrosIn, readFile}
 use Rattle.report.specs.Text.{refusedText}
 use Rattle.report.specs.Route.{treesText}
 use Rattle.report.proofs.PutLaws.{filled-as}
-use Rattle.report.proofs.RouteLaws.{Counted, lists, net-is, front, route-given, route-refused}
+use Rattle.report.proofs.RouteLaws.{Counted, counted, lists, net-is, front, route-given, route-refused}
 use borrow.Author.Needs.{needs}
 use Rattle.report.proofs.route.Statement.{statement}
 use Rattle.report.proofs.route.Tie as tie
@@ -35,8 +35,9 @@ read : (c : tie.After-answer) → readFile (now (start c .args .file)) pinListBo
 unfolding told
 read c = sym (c .before .before .before .before .read-file .ensures .answer) ∙ ap told (c .answer .given .1)
 
-net : (c : tie.After-answer) → Counted (pinsIn (now (start c .args .file))) (macrosIn (now (start c .args .file)))
-net c = lists _ _ (read c)
+net : (c : tie.After-answer)
+    → Counted (handed (c .answer .given .0 .0 .weights)) (pinsIn (now (start c .args .file))) (macrosIn (now (start c .args .file)))
+net c = counted _ _ _ _ (lists _ _ (read c))
 
 pin-numbers : (c : tie.After-answer) → c .answer .given .0 .0 .pins * pinWidth ≡ length (pinsIn (now (start c .args .file)))
 pin-numbers c = omega (arith, ap (λ (v : Counts). v .pins) (net-is _ _ (read c)), net c .pin-numbers)
@@ -95,7 +96,7 @@ slice-aggregate-trees-text-2 : tie.Need-slice-aggregate-trees-text-2
 slice-aggregate-trees-text-2 c = let a = c .before .before .before .before .before in macro-numbers a ∙ sym (ap length (macro-list a))
 
 trees-text-requires : tie.Need-trees-text-requires
-trees-text-requires c κs = let a = c .before .before .before .before .before .before in rw (pin-list a, macro-list a) (net a .allowed)
+trees-text-requires c κs = let a = c .before .before .before .before .before .before in rw (pin-list a, macro-list a) (lists _ _ (read a))
 
 enum-known-answer-2 : tie.Need-enum-known-answer-2
 enum-known-answer-2 c = search needs
@@ -110,7 +111,7 @@ returns : tie.Need-returns
 returns c =
     let a = c .before .before .before .before .before .before .before in
     filled-as
-    (ap₂ (λ (p m : List ℤ). treesText (pinCount p) (macroCount m) p m) (pin-list a) (macro-list a) ∙ route-given _ _ (read a))
+    (ap₂ (treesText (a .answer .given .0 .0)) (pin-list a) (macro-list a) ∙ route-given _ _ (read a))
     (c .trees-text .ensures)
 
 returns-2 : tie.Need-returns-2

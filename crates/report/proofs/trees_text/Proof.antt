@@ -1,14 +1,19 @@
 -- `report::trees_text` meets its contract: the terminal tree of an allowed net is given.
 -- Assumes nothing.
-use mathlib.Core.Path.{_≡_, refl, sym, ap, _∙_}
+use mathlib.Core.Path.{_≡_, refl, sym, ap, _∙_, subst}
 use lib.IntN.{pos}
-use lib.ListN.{length}
+use Prim.Native.Nat.{_*_}
+use lib.ListN.{length, replicate}
 use mir.Syntax.{w64}
 use mir.ValLaws.{toZ-ofZ}
 use denote.Ref.{now}
 use Rattle.lent.specs.Told.{given}
 use Rattle.lent.proofs.AfterLaws.{told-apart}
-use Rattle.router.specs.Terminal.{toldTree, pathsOf, pathsTotal}
+use Rattle.net.specs.declared.Weighing.{Weighing}
+use Rattle.net.specs.Bounds.{pinBound}
+use Rattle.net.specs.Net.{handed}
+use Rattle.router.specs.Terminal.{terminalTree, toldTerminal, pathsOf, pathsTotal}
+use Rattle.router.specs.Call.{TerminalCall}
 use Rattle.report.specs.Route.{treesText}
 use Rattle.report.proofs.PutLaws.{filled-as}
 use Rattle.report.proofs.RouteLaws.{same-parts, counted, terminal-given, same-text}
@@ -16,12 +21,26 @@ use borrow.Author.Needs.{needs}
 use Rattle.report.proofs.trees_text.Statement.{statement}
 use Rattle.report.proofs.trees_text.Tie as tie
 
-answer : (c : tie.After-terminal-tree) → toldTree (c .terminal-tree .result)
+abbrev start : tie.After-terminal-tree → tie.Start
+start c = c .before .before .before
+
+-- the call, by the net's weights
+call : (c : tie.After-terminal-tree) → TerminalCall terminalTree (handed (start c .args .net .weights)) (now (start c .args .pins))
+    (now (start c .args .macros)) (replicate (pinBound * 5) (pos 0)) (c .terminal-tree .result) (c .terminal-tree .last .1 .1 .1 .0)
+call c =
+    let a = start c .args in
+    subst (λ (w : Weighing). TerminalCall terminalTree w (now (a .pins)) (now (a .macros)) (replicate (pinBound * 5) (pos 0)) (c .terminal-tree .result)
+    (c .terminal-tree .last .1 .1 .1 .0)) (c .before .before .handed .ensures) (c .terminal-tree .ensures)
+
+answer : (c : tie.After-terminal-tree) → toldTerminal (c .terminal-tree .result)
     ≡ given (
-      length (pathsOf (now (c .before .before .args .pins)) (now (c .before .before .args .macros))),
-      pos (pathsTotal (now (c .before .before .args .pins)) (now (c .before .before .args .macros))),
+      length (pathsOf (handed (start c .args .net .weights)) (now (start c .args .pins)) (now (start c .args .macros))),
+      pos (pathsTotal (handed (start c .args .net .weights)) (now (start c .args .pins)) (now (start c .args .macros))),
     )
-answer c = c .terminal-tree .ensures .answer ∙ terminal-given _ _ (counted _ _ _ (c .before .before .pre))
+answer c = call c .answer ∙ terminal-given _ _ _ (counted _ _ _ _ (start c .pre))
+
+handed-requires : tie.Need-handed-requires
+handed-requires c κs = search needs
 
 slice-aggregate-terminal-tree : tie.Need-slice-aggregate-terminal-tree
 slice-aggregate-terminal-tree c = search needs
@@ -45,23 +64,24 @@ refused-requires : tie.Need-refused-requires
 refused-requires c κs = search needs
 
 returns : tie.Need-returns
-unfolding toldTree treesText
+unfolding toldTerminal treesText
 returns c =
     let a = c .before .before .before in
     let t = a .before .before .before in
-    let v = same-parts _ _ _ _ (sym (ap toldTree (a .answer .given .1)) ∙ answer t) in
-    filled-as (same-text refl refl (toZ-ofZ w64 _ (search needs) ∙ v .1) refl refl) (c .refined-text .ensures)
+    let v = same-parts _ _ _ _ (sym (ap toldTerminal (a .answer .given .1)) ∙ answer t) in
+    filled-as (same-text _ _ _ (toZ-ofZ w64 _ (search needs) ∙ v .1) refl refl refl) (c .refined-text .ensures)
 
 returns-2 : tie.Need-returns-2
-unfolding toldTree
+unfolding toldTerminal
 returns-2 c =
     let a = c .before .before .before .before in
-    told-apart _ _ (sym (ap toldTree (a .answer2 .given .1)) ∙ answer (a .before .before .before))
+    told-apart _ _ (sym (ap toldTerminal (a .answer2 .given .1)) ∙ answer (a .before .before .before))
 
 pub trees-text-spec : {M : Type 1} → statement M
 trees-text-spec =
     tie.close
     (tie.spec
+    handed-requires
     slice-aggregate-terminal-tree
     terminal-tree-requires
     enum-known-answer

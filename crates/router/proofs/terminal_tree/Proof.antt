@@ -1,11 +1,14 @@
 -- `router::terminal_tree` meets its contract: the refusals of the check first, then what the terminal tree of an allowed net says.
 -- Assumes nothing.
-use mathlib.Core.Path.{_≡_, refl, sym, ap, _∙_}
+use mathlib.Core.Path.{_≡_, refl, sym, ap, _∙_, subst}
 use lib.ListN.{length}
 use denote.Ref.{now}
 use Rattle.lent.specs.Told.{given}
+use Rattle.net.specs.declared.Weighing.{Weighing}
 use Rattle.net.specs.Check.{checked, told}
-use Rattle.router.specs.Terminal.{terminalGiven, terminalTree, toldTree}
+use Rattle.net.proofs.HandedLaws.{handed-back}
+use Rattle.router.specs.Terminal.{terminalGiven, terminalTree, toldTerminal}
+use Rattle.router.specs.Call.{TerminalCall}
 use Rattle.router.proofs.AnswerLaws.{only-refused, only-given}
 use Rattle.router.proofs.CountedLaws.{counted-of}
 use Rattle.router.proofs.CallLaws.{gives-refused, gives-as}
@@ -24,13 +27,13 @@ enum-known-answer-2 c = search needs
 
 -- the answer of the check, where the net is allowed
 allowed : (c : tie.After-answer)
-    → checked (now (c .before .before .before .args .pins)) (now (c .before .before .before .args .macros))
+    → checked (c .before .before .before .args .w) (now (c .before .before .before .args .pins)) (now (c .before .before .before .args .macros))
     ≡ given (c .answer .given .0 .0)
 unfolding told
 allowed c = sym (c .before .before .check .ensures) ∙ ap told (c .answer .given .1)
 
 terminal-tree-requires : tie.Need-terminal-tree-requires
-terminal-tree-requires c κs = counted-of _ _ (allowed (c .before .before))
+terminal-tree-requires c κs = counted-of _ _ _ (allowed (c .before .before))
 
 same-length : tie.Need-same-length
 same-length c = search needs
@@ -41,17 +44,19 @@ returns c =
     let r = c .before in
     let d = r .before .before .before in
     let a = d .before .before .before .args in
-    let next = terminalGiven (now (a .pins)) (now (a .macros)) (length (now (a .paths))) in
-    gives-as (sym (only-given (checked (now (a .pins)) (now (a .macros))) next _ (allowed d))) (r .terminal-tree .ensures)
+    let next = terminalGiven (a .w) (now (a .pins)) (now (a .macros)) (length (now (a .paths))) in
+    gives-as (sym (only-given (checked (a .w) (now (a .pins)) (now (a .macros))) next _ (allowed d)))
+    (subst (λ (z : Weighing). TerminalCall terminalGiven z (now (a .pins)) (now (a .macros)) (now (a .paths)) (r .terminal-tree .result) (r .terminal-tree .last .1 .1 .1 .0))
+    (handed-back _ _ _ (allowed d)) (r .terminal-tree .ensures))
 
 returns-2 : tie.Need-returns-2
-unfolding terminalTree toldTree told
+unfolding terminalTree toldTerminal told
 returns-2 c =
     let s = c .before .before .before in
     let a = s .before .args in
-    let next = terminalGiven (now (a .pins)) (now (a .macros)) (length (now (a .paths))) in
+    let next = terminalGiven (a .w) (now (a .pins)) (now (a .macros)) (length (now (a .paths))) in
     let check = sym (s .check .ensures) ∙ ap told (c .before .answer2 .given .1) in
-    gives-refused refl (only-refused (checked (now (a .pins)) (now (a .macros))) next _ check)
+    gives-refused refl (only-refused (checked (a .w) (now (a .pins)) (now (a .macros))) next _ check)
 
 pub terminal-tree-spec : {M : Type 1} → statement M
 terminal-tree-spec =

@@ -14,6 +14,7 @@ use Rattle.lent.specs.Over.{over}
 use Rattle.lent.specs.Entries.{flat}
 use Rattle.plane.specs.declared.Place.{Place}
 use Rattle.plane.specs.Flat.{placesOf, macrosOf}
+use Rattle.net.specs.Net.{handed}
 use Rattle.net.specs.Answer.{number}
 use Rattle.graph.specs.Spanning.{spanning}
 use Rattle.graph.specs.Edges.{edges}
@@ -54,7 +55,7 @@ returns : tie.Need-returns
 unfolding toldGraph number
 returns c =
     let a = c .before .before .args in
-    two-refused refl (graph-short (now (a .pins)) (now (a .macros)) (length (now (a .vertices))) (length (now (a .edges)))
+    two-refused refl (graph-short (handed (a .net .weights)) (now (a .pins)) (now (a .macros)) (length (now (a .vertices))) (length (now (a .edges)))
     (tested (c .before) true (c .if1 .taken)))
 
 -- the room that is there, and how many vertices there are
@@ -64,14 +65,14 @@ room : (c : tie.Else1) → (pointCount (now (c .before .before .args .pins)) (no
     ≤ length (now (c .before .before .args .edges)))
 room c =
     let a = c .before .before .args in
-    graph-room (now (a .pins)) (now (a .macros)) (length (now (a .vertices))) (length (now (a .edges)))
+    graph-room (handed (a .net .weights)) (now (a .pins)) (now (a .macros)) (length (now (a .vertices))) (length (now (a .edges)))
     (tested (c .before) false (c .if1 .left))
 
 few : (d : tie.After-vertices) → d .vertices .result ≤ pointCount (now (d .before .before .before .before .args .pins)) (now (d .before .before .before .before .args .macros))
 unfolding netVertices
 few d =
     let a = d .before .before .before .before .args in
-    omega (arith, d .vertices .ensures .0, vertices-few (now (a .pins)) (now (a .macros)))
+    omega (arith, d .vertices .ensures .0, vertices-few (handed (a .net .weights)) (now (a .pins)) (now (a .macros)))
 
 fits : (d : tie.After-vertices) → d .vertices .result * 2 ≤ length (d .vertices .last .1 .1 .0)
 fits d = omega (arith, few d, room (d .before .before), d .vertices .kept .1 .1 .0)
@@ -108,14 +109,14 @@ unfolding toldGraph netVertices netEdges
 returns-2 c =
     let d = c .before .before .before .before .before in
     let a = d .before .before .before .before .args in
-    let vs = netVertices (now (a .pins)) (now (a .macros)) in
+    let vs = netVertices (handed (a .net .weights)) (now (a .pins)) (now (a .macros)) in
     let seen = take (d .vertices .result * 2) (d .vertices .last .1 .1 .0) in
     let back : placesOf seen ≡ vs = vertices-back vs (now (a .vertices)) _ _ (d .vertices .ensures .1) (d .vertices .ensures .0) in
-    let these : edges (a .net .weights) (macrosOf (now (a .macros))) (placesOf seen) ≡ netEdges (now (a .pins)) (now (a .macros))
+    let these : edges (a .net .weights) (macrosOf (now (a .macros))) (placesOf seen) ≡ netEdges (handed (a .net .weights)) (now (a .pins)) (now (a .macros))
     = ap (edges (a .net .weights) (macrosOf (now (a .macros)))) back ∙ ap spanning (as-net (d .before .before .before .before .pre)) in
     two-given
     (ap₂ (λ (v w : ℕ). given (v, w)) (d .vertices .ensures .0) (c .before .edges .ensures .0 ∙ ap length these))
-    (graph-fits (now (a .pins)) (now (a .macros)) (length (now (a .vertices))) (length (now (a .edges))) (tested (d .before .before .before) false (d .before .before .if1 .left)))
+    (graph-fits (handed (a .net .weights)) (now (a .pins)) (now (a .macros)) (length (now (a .vertices))) (length (now (a .edges))) (tested (d .before .before .before) false (d .before .before .if1 .left)))
     (d .vertices .ensures .1)
     (c .before .edges .ensures .1 ∙ ap (λ (es : List (Place × Place)). over (flat edgeNumbers es) (now (a .edges))) these)
 

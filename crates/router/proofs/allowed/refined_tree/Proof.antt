@@ -2,7 +2,7 @@
 -- Assumes nothing.
 use mathlib.Core.Path.{_≡_, refl, ap, ap₂, _∙_, subst}
 use mathlib.Core.List.{List}
-use Prim.Native.Nat.{ℕ, _+_, _*_, _≤_, _<_}
+use Prim.Native.Nat.{ℕ, _+_, _*_, _^_, _≤_, _<_}
 use native.Mathlib.Omega.{arith}
 use lib.IntN.{ℤ, pos}
 use lib.ListN.{length}
@@ -17,13 +17,14 @@ use Rattle.plane.specs.declared.Place.{Place}
 use Rattle.plane.proofs.FlatLaws.{length-macros}
 use Rattle.net.specs.Answer.{number}
 use Rattle.net.specs.Pins.{pinCount}
+use Rattle.net.specs.Net.{netOf, handed}
+use Rattle.net.specs.Allowed.{Allowed}
 use Rattle.net.proofs.PinLaws.{length-pins}
 use Rattle.graph.specs.Numbers.{edgeNumbers}
 use Rattle.router.specs.Graph.{pointCount}
-use Rattle.router.specs.Terminal.{toldTree}
-use Rattle.router.specs.Refined.{laidOf, laidTotal, refinedGiven}
+use Rattle.router.specs.Refined.{laidTotal, metalOf, laidAnswer, refinedGiven, toldTree}
 use Rattle.router.proofs.AnswerLaws.{room-short, room-enough}
-use Rattle.router.proofs.RefinedLaws.{total-low, answer-edges, answer-count, answer-total, answer-small, answer-few}
+use Rattle.router.proofs.RefinedLaws.{total-low, answer-edges, answer-count, answer-total, answer-small, answer-few, answer-metal, metal-asks, metal-low}
 use Rattle.router.proofs.CountedLaws.{as-points, as-pins, counts-few, points-few}
 use Rattle.router.proofs.CallLaws.{gives-refused, gives-given}
 use borrow.Author.Needs.{needs}
@@ -57,24 +58,44 @@ returns c =
 refine-requires : tie.Need-refine-requires
 refine-requires c κs = (c .before .before .before .before .before .pre, (refl, refl))
 
+abbrev start : tie.After-refine → tie.Start
+start d = d .before .before .before .before .before .before
+
+-- what the refiner has left in its tables
+abbrev allowed : (d : tie.After-refine) → Allowed (netOf (handed (start d .args .net .weights)) (now (start d .args .pins)) (now (start d .args .macros)))
+allowed d = start d .pre .allowed
+
+metal-requires : tie.Need-metal-requires
+metal-requires c κs = let d = c .before .before in metal-asks (allowed d) (d .refine .ensures)
+
 give-edges-requires : tie.Need-give-edges-requires
 give-edges-requires c κs =
-    let d = c .before .before .before in
-    let s = d .before .before .before .before .before .before in
-    let a = s .args in
-    let few = answer-few (s .pre .allowed) (d .refine .ensures) in (
+    let d = c .before .before .before .before .before .before in
+    let a = start d .args in
+    let few = answer-few (allowed d) (d .refine .ensures) in (
       omega (arith, d .refine .ensures .few .1),
       (
-        answer-small (s .pre .allowed) (d .refine .ensures),
+        answer-small (allowed d) (d .refine .ensures),
         omega (arith, few, asked (d .before .before .before .before), length-pins (now (a .pins)), length-macros (now (a .macros)), d .before .before .before .if1 .left),
       ),
     )
 
-cast-t21 : tie.Need-cast-t21
-cast-t21 c =
-    let d = c .before .before .before .before .before .before in
-    let s = d .before .before .before .before .before .before in
-    record { sfits = omega (arith, answer-total (s .pre .allowed) (d .refine .ensures), total-low (s .pre .allowed)) }
+-- the total and the metal fit
+total-fits : (d : tie.After-refine) → d .refine .result .total < 2 ^ 63
+total-fits d = omega (arith, answer-total (allowed d) (d .refine .ensures), total-low (allowed d))
+
+metal-is : (d : tie.After-metal) → d .metal .result
+    ≡ metalOf (handed (start (d .before .before .before) .args .net .weights)) (now (start (d .before .before .before) .args .pins)) (now (start (d .before .before .before) .args .macros))
+metal-is d = let r = d .before .before .before in answer-metal (allowed r) (r .refine .ensures) (d .metal .ensures)
+
+metal-fits : (d : tie.After-metal) → d .metal .result < 2 ^ 63
+metal-fits d = let r = d .before .before .before in omega (arith, metal-is d, metal-low (allowed r), total-low (allowed r))
+
+cast-t24 : tie.Need-cast-t24
+cast-t24 c = record { sfits = total-fits (c .before .before .before .before .before .before .before .before .before) }
+
+cast-t25 : tie.Need-cast-t25
+cast-t25 c = record { sfits = metal-fits (c .before .before .before .before .before .before) }
 
 same-length : tie.Need-same-length
 same-length c = search needs
@@ -82,19 +103,20 @@ same-length c = search needs
 returns-2 : tie.Need-returns-2
 unfolding refinedGiven toldTree
 returns-2 c =
-    let d = c .before .before .before .before .before .before in
-    let s = d .before .before .before .before .before .before in
-    let a = s .args in
+    let l = c .before .before .before .before .before .before in
+    let d = l .before .before .before in
+    let a = start d .args in
     let w = d .refine .ensures in
-    let edges = answer-edges (s .pre .allowed) w in
     let need = (pointCount (now (a .pins)) (now (a .macros)) + pinCount (now (a .pins))) * 4 in
-    let given-is : ℕ × ℤ = (length (laidOf (now (a .pins)) (now (a .macros))), pos (laidTotal (now (a .pins)) (now (a .macros)))) in
-    let sum : toZ w64 (d .refine .result .total) ≡ pos (laidTotal (now (a .pins)) (now (a .macros))) =
-    toZ-pos w64 (d .refine .result .total) (omega (arith, answer-total (s .pre .allowed) w, total-low (s .pre .allowed))) ∙ ap pos (answer-total (s .pre .allowed) w) in
+    let given-is : ℕ × (ℤ × ℤ) = laidAnswer (handed (a .net .weights)) (now (a .pins)) (now (a .macros)) in
+    let sum : toZ w64 (d .refine .result .total) ≡ pos (laidTotal (handed (a .net .weights)) (now (a .pins)) (now (a .macros))) =
+    toZ-pos w64 (d .refine .result .total) (total-fits d) ∙ ap pos (answer-total (allowed d) w) in
+    let laid : toZ w64 (l .metal .result) ≡ pos (metalOf (handed (a .net .weights)) (now (a .pins)) (now (a .macros))) =
+    toZ-pos w64 (l .metal .result) (metal-fits l) ∙ ap pos (metal-is l) in
     gives-given
-    (ap₂ (λ (n : ℕ) (z : ℤ). given (n, z)) (answer-count (s .pre .allowed) w) sum)
-    (room-enough {A = ℕ × ℤ} need (length (now (a .edges))) given-is (subst (λ (z : ℕ). z ≤ length (now (a .edges))) (asked (d .before .before .before .before)) (d .before .before .before .if1 .left)))
-    (c .before .before .give-edges .ensures ∙ ap (λ (es : List (Place × Place)). over (flat edgeNumbers es) (now (a .edges))) edges)
+    (ap₂ (λ (n : ℕ) (z : ℤ × ℤ). given (n, z)) (answer-count (allowed d) w) (ap₂ (λ (t u : ℤ). (t, u)) sum laid))
+    (room-enough {A = ℕ × (ℤ × ℤ)} need (length (now (a .edges))) given-is (subst (λ (z : ℕ). z ≤ length (now (a .edges))) (asked (d .before .before .before .before)) (d .before .before .before .if1 .left)))
+    (c .before .before .give-edges .ensures ∙ ap (λ (es : List (Place × Place)). over (flat edgeNumbers es) (now (a .edges))) (answer-edges (allowed d) w))
 
 pub refined-tree-spec : {M : Type 1} → statement M
 refined-tree-spec =
@@ -105,7 +127,9 @@ refined-tree-spec =
     mul-if1
     returns
     refine-requires
+    metal-requires
     give-edges-requires
-    cast-t21
+    cast-t24
+    cast-t25
     same-length
     returns-2)

@@ -16,10 +16,11 @@ use Rattle.lent.specs.Entries.{flat}
 use Rattle.plane.specs.declared.Place.{Place}
 use Rattle.net.specs.Answer.{number}
 use Rattle.net.specs.Pins.{pinCount, pinPlaces}
+use Rattle.net.specs.Net.{handed}
 use Rattle.net.proofs.PinLaws.{length-pins}
 use Rattle.terminal.specs.Tree.{pathNumbers}
 use Rattle.terminal.proofs.PathLaws.{total-small, paths-one-fewer, kept-fewer, worked-paths, worked-givable}
-use Rattle.router.specs.Terminal.{pathsOf, pathsTotal, terminalGiven, toldTree}
+use Rattle.router.specs.Terminal.{pathsOf, pathsTotal, terminalGiven, toldTerminal}
 use Rattle.router.proofs.AnswerLaws.{room-short, room-enough}
 use Rattle.router.proofs.FreshTables.{fresh}
 use Rattle.router.proofs.CountedLaws.{as-allowed, as-pins, as-worked, counts-few}
@@ -32,7 +33,7 @@ mul-if1 : tie.Need-mul-if1
 mul-if1 c = record { fits = omega (arith, counts-few (c .before .pre)) }
 
 returns : tie.Need-returns
-unfolding terminalGiven toldTree number
+unfolding terminalGiven toldTerminal number
 returns c =
     let a = c .before .before .args in
     gives-refused refl (room-short (pinCount (now (a .pins)) * 5) (length (now (a .paths))) _ (omega (arith, as-pins (c .before .before .pre), c .if1 .taken)))
@@ -59,7 +60,7 @@ same-length : tie.Need-same-length
 same-length c = search needs
 
 returns-2 : tie.Need-returns-2
-unfolding terminalGiven toldTree pathsTotal pathsOf
+unfolding terminalGiven toldTerminal pathsTotal pathsOf
 returns-2 c =
     let d = c .before .before .before .before .before .before .before in
     let s = d .before .before .before .before .before .before .before .before .before .before .before .before .before .before .before in
@@ -67,11 +68,11 @@ returns-2 c =
     let w = as-worked (s .pre) (d .terminal-tree .ensures) in
     let al = s .pre .allowed in
     let paths = worked-paths al fresh w in
-    let given-is : ℕ × ℤ = (length (pathsOf (now (a .pins)) (now (a .macros))), pos (pathsTotal (now (a .pins)) (now (a .macros)))) in
+    let given-is : ℕ × ℤ = (length (pathsOf (handed (a .net .weights)) (now (a .pins)) (now (a .macros))), pos (pathsTotal (handed (a .net .weights)) (now (a .pins)) (now (a .macros)))) in
     let enough = d .before .before .before .before .before .before .before .before .before .before .before .before .before .if1 .left in
-    let many : d .terminal-tree .result .kept ≡ length (pathsOf (now (a .pins)) (now (a .macros)))
+    let many : d .terminal-tree .result .kept ≡ length (pathsOf (handed (a .net .weights)) (now (a .pins)) (now (a .macros)))
     = omega (arith, kept-fewer al fresh w, paths-one-fewer al) in
-    let sum : toZ w64 (d .terminal-tree .result .total) ≡ pos (pathsTotal (now (a .pins)) (now (a .macros))) =
+    let sum : toZ w64 (d .terminal-tree .result .total) ≡ pos (pathsTotal (handed (a .net .weights)) (now (a .pins)) (now (a .macros))) =
     toZ-pos w64 (d .terminal-tree .result .total) (omega (arith, w .total-is, total-small al)) ∙ ap pos (w .total-is) in
     gives-given
     (ap₂ (λ (n : ℕ) (z : ℤ). given (n, z)) many sum)

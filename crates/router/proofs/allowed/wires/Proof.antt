@@ -13,11 +13,12 @@ use Rattle.plane.specs.declared.Place.{Place}
 use Rattle.plane.proofs.FlatLaws.{length-macros}
 use Rattle.net.specs.Answer.{number}
 use Rattle.net.specs.Pins.{pinCount}
+use Rattle.net.specs.Net.{handed}
 use Rattle.net.proofs.PinLaws.{length-pins}
 use Rattle.graph.specs.Numbers.{edgeNumbers}
 use Rattle.refined.specs.Wires.{wires}
 use Rattle.router.specs.Graph.{pointCount}
-use Rattle.router.specs.Refined.{wiresOf, wiresGiven, toldWires}
+use Rattle.router.specs.Wires.{wiresOf, wiresGiven, toldWires}
 use Rattle.router.proofs.AnswerLaws.{room-short, room-enough}
 use Rattle.router.proofs.RefinedLaws.{answer-edges, answer-small, answer-few}
 use Rattle.router.proofs.CountedLaws.{as-points, as-pins, counts-few, points-few}
@@ -80,7 +81,7 @@ returns-2 c =
     let need = (pointCount (now (a .pins)) (now (a .macros)) + pinCount (now (a .pins))) * 8 in
     gives-given
     (ap (λ (n : ℕ). given n) (g .give-wires .ensures .0 ∙ ap (λ (es : List (Place × Place)). length (wires es)) edges))
-    (room-enough need (length (now (a .wires))) (length (wiresOf (now (a .pins)) (now (a .macros)))) (subst (λ (z : ℕ). z ≤ length (now (a .wires))) (asked (d .before .before .before .before)) (d .before .before .before .if1 .left)))
+    (room-enough need (length (now (a .wires))) (length (wiresOf (handed (a .net .weights)) (now (a .pins)) (now (a .macros)))) (subst (λ (z : ℕ). z ≤ length (now (a .wires))) (asked (d .before .before .before .before)) (d .before .before .before .if1 .left)))
     (g .give-wires .ensures .1 ∙ ap (λ (es : List (Place × Place)). over (flat edgeNumbers (wires es)) (now (a .wires))) edges)
 
 pub wires-spec : {M : Type 1} → statement M

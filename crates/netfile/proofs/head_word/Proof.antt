@@ -1,14 +1,14 @@
--- `netfile::head_count` meets its contract: a word of the head is one of the file's words.
+-- `netfile::head_word` meets its contract: a word of the head is one of the file's words.
 -- Assumes nothing.
 use mathlib.Core.Path.{sym, _∙_}
 use Prim.Native.Nat.{_-_}
 use native.Mathlib.Omega.{arith}
 use denote.Ref.{now}
-use Rattle.netfile.specs.Read.{headCount}
+use Rattle.netfile.specs.Read.{headWord}
 use Rattle.netfile.proofs.ReadLaws.{word-is}
 use borrow.Author.Needs.{needs}
-use Rattle.netfile.proofs.head_count.Statement.{statement}
-use Rattle.netfile.proofs.head_count.Tie as tie
+use Rattle.netfile.proofs.head_word.Statement.{statement}
+use Rattle.netfile.proofs.head_word.Tie as tie
 
 word-at-requires : tie.Need-word-at-requires
 word-at-requires c κs = search needs
@@ -17,10 +17,10 @@ cast-result : tie.Need-cast-result
 cast-result c = search needs
 
 returns : tie.Need-returns
-unfolding headCount
+unfolding headWord
 returns c =
     let s = c .before .before in
     (c .word-at .ensures ∙ sym (word-is (now (s .args .bytes)) (s .args .i) (s .pre)), omega arith)
 
-pub head-count-spec : {M : Type 1} → statement M
-head-count-spec = tie.close (tie.spec word-at-requires cast-result returns)
+pub head-word-spec : {M : Type 1} → statement M
+head-word-spec = tie.close (tie.spec word-at-requires cast-result returns)

@@ -1,0 +1,61 @@
+-- What an export leaves to its caller: the code that it returns, each lent list, and each number that goes through a pointer. `t` is what the
+-- operation says, so that every field is an equation for refused calls too. A prime marks what stands there after the call.
+use mathlib.Core.Path.{_≡_}
+use mathlib.Core.List.{List}
+use Prim.Native.Nat.{ℕ}
+use lib.IntN.{ℤ, pos}
+use Rattle.lent.specs.Told.{Told, code}
+use Rattle.lent.specs.Over.{after, valueAfter}
+use Rattle.net.specs.declared.Net.{Net as Counts}
+
+-- a graph: two lists and two counts
+pub record GraphHanded (t : Told (ℕ × ℕ)) (xs ys lent other : List ℤ) (v e : ℕ) (r : ℤ) (lent′ other′ : List ℤ) (v′ e′ : ℕ) : Type 0 where
+  pub answer : r ≡ pos (code t)
+  pub vertices : lent′ ≡ after t xs lent
+  pub edges : other′ ≡ after t ys other
+  pub vertex-count : v′ ≡ valueAfter (λ counts. counts .0) t v
+  pub edge-count : e′ ≡ valueAfter (λ counts. counts .1) t e
+
+-- a terminal tree: a list, a count and a total
+pub record PathsHanded (t : Told (ℕ × ℤ)) (xs lent : List ℤ) (n : ℕ) (z : ℤ) (r : ℤ) (lent′ : List ℤ) (n′ : ℕ) (z′ : ℤ) : Type 0 where
+  pub answer : r ≡ pos (code t)
+  pub list : lent′ ≡ after t xs lent
+  pub count : n′ ≡ valueAfter (λ tree. tree .0) t n
+  pub total : z′ ≡ valueAfter (λ tree. tree .1) t z
+
+-- a refined tree: a list, a count, a total and the metal to lay
+pub record TreeHanded (t : Told (ℕ × (ℤ × ℤ))) (xs lent : List ℤ) (n : ℕ) (z l : ℤ) (r : ℤ) (lent′ : List ℤ) (n′ : ℕ) (z′ l′ : ℤ) : Type 0
+  where
+    pub answer : r ≡ pos (code t)
+    pub list : lent′ ≡ after t xs lent
+    pub count : n′ ≡ valueAfter (λ tree. tree .0) t n
+    pub total : z′ ≡ valueAfter (λ tree. tree .1 .0) t z
+    pub metal : l′ ≡ valueAfter (λ tree. tree .1 .1) t l
+
+-- wires, and a net file that is written: a list and a count
+pub record ListHanded {X : Type 0} (t : Told ℕ) (xs lent : List X) (n : ℕ) (r : ℤ) (lent′ : List X) (n′ : ℕ) : Type 0 where
+  pub answer : r ≡ pos (code t)
+  pub list : lent′ ≡ after t xs lent
+  pub count : n′ ≡ valueAfter (λ m. m) t n
+
+-- a charge
+pub record ChargeHanded (t : Told ℕ) (h : ℕ) (r : ℤ) (h′ : ℕ) : Type 0 where
+  pub answer : r ≡ pos (code t)
+  pub charge : h′ ≡ valueAfter (λ m. m) t h
+
+-- the four numbers that a read gives through pointers
+pub record Read : Type 0 where
+  pub m : ℕ
+  pub k : ℕ
+  pub x : ℤ
+  pub y : ℤ
+
+-- a net file that is read: two lists, m, k and the two weights
+pub record NetHanded (t : Told Counts) (xs ys lent other : List ℤ) (n : Read) (r : ℤ) (lent′ other′ : List ℤ) (n′ : Read) : Type 0 where
+  pub answer : r ≡ pos (code t)
+  pub pins : lent′ ≡ after t xs lent
+  pub macros : other′ ≡ after t ys other
+  pub pin-count : n′ .m ≡ valueAfter (λ net. net .pins) t (n .m)
+  pub macro-count : n′ .k ≡ valueAfter (λ net. net .macros) t (n .k)
+  pub first : n′ .x ≡ valueAfter (λ net. pos (net .weights .across)) t (n .x)
+  pub second : n′ .y ≡ valueAfter (λ net. pos (net .weights .along)) t (n .y)

@@ -1,0 +1,21 @@
+-- `netfile::head_wrong` meets its contract: its two tests are those of the definition.
+-- Assumes nothing.
+use mathlib.Core.Path.{ap₂}
+use mathlib.Core.Bool.{_||_}
+use Rattle.netfile.specs.Read.{headWrong}
+use borrow.Author.Needs.{needs}
+use Rattle.netfile.proofs.head_wrong.Statement.{statement}
+use Rattle.netfile.proofs.head_wrong.Tie as tie
+
+counts-wrong-requires : tie.Need-counts-wrong-requires
+counts-wrong-requires c κs = search needs
+
+weights-miswritten-requires : tie.Need-weights-miswritten-requires
+weights-miswritten-requires c κs = search needs
+
+returns : tie.Need-returns
+unfolding headWrong
+returns c = ap₂ _||_ (c .before .counts-wrong .ensures) (c .weights-miswritten .ensures)
+
+pub head-wrong-spec : {M : Type 1} → statement M
+head-wrong-spec = tie.close (tie.spec counts-wrong-requires weights-miswritten-requires returns)
