@@ -73,7 +73,7 @@ pub struct Weighing {
     pub second: i32,
 }
 
-// Why an operation refuses; `number` in specs/Answer.antt has the number of each (C1 to C32).
+// Why an operation refuses; `number` in specs/Answer.antt has the number of each (C1 to C36).
 pub enum Refusal {
     Blocks,
     Sums,
@@ -89,6 +89,7 @@ pub enum Refusal {
     Space,
     Bands,
     Reach,
+    GridSize,
 }
 
 impl Refusal {
@@ -110,6 +111,7 @@ impl Refusal {
             Refusal::Space => 21,
             Refusal::Bands => 31,
             Refusal::Reach => 32,
+            Refusal::GridSize => 36,
         }
     }
 }
