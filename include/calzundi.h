@@ -56,7 +56,7 @@
 #define CALZUNDI_H
 
 /* The version. It stands here and nowhere else; the tools take it from this line, and each change request raises the second number. */
-#define CALZUNDI_VERSION "1.3"
+#define CALZUNDI_VERSION "1.4"
 
 #include <stddef.h>
 #include <stdint.h>
@@ -103,7 +103,8 @@ enum calzundi_refusal {
     CALZUNDI_WEIGHTS = 18,          /* a weight is below 1 or above 8 */
     CALZUNDI_SPACE = 21,            /* too little space is lent */
     CALZUNDI_BANDS = 31,            /* the list of bands is odd or empty, or a rate in it is above 1,000,000 */
-    CALZUNDI_REACH = 32             /* no band's limit reaches the metal */
+    CALZUNDI_REACH = 32,            /* no band's limit reaches the metal */
+    CALZUNDI_BAND_ORDER = 37        /* a band's limit is not above the one before it, or its rate is below */
 };
 
 /* A band of a price list is two numbers of 64 bits, its limit and its rate; a rate is at most this. */
@@ -177,14 +178,13 @@ int32_t calzundi_wires(const int32_t *pins, size_t pin_numbers, const int32_t *m
  * Price: what a bureau charges for the metal to lay, which is the sum of the refined tree's plain lengths.
  *
  * bands   a list, two numbers for each band: its limit, in units of metal, and its rate, in hundredths of the currency per 1,000 units.
- *         Limits may be any numbers of 64 bits.
+ *         Limits may be any numbers of 64 bits. Down the list they rise strictly, and rates never fall.
  * charge  metal times rate over 1,000 at the first band of the list whose limit is not below the metal, in hundredths of the currency,
  *         to the nearest; half way between two hundredths, the even one
  *
- * Where limits rise strictly and rates never fall down the list, more metal is never charged less; keeping the list so is the bureau's
- * duty and is not tested.
+ * By one list more metal is never charged less.
  *
- * Refusals: 11 to 18, then 31, then 32.
+ * Refusals: 11 to 18, then 31, then 37, then 32, each for the whole list before the next.
  */
 int32_t calzundi_price(const int32_t *pins, size_t pin_numbers, const int32_t *macros, size_t macro_numbers, int32_t weight_x,
                        int32_t weight_y, const uint64_t *bands, size_t band_numbers, uint64_t *charge);

@@ -1,5 +1,6 @@
 //! The price by both programs: nets of every kind and lists of bands of every kind, hostile ones among them.
 
+use std::collections::BTreeMap;
 use std::io::Write;
 
 use harness::library;
@@ -8,6 +9,7 @@ use reference::generate::{bands, BandList};
 use reference::lists::Lists;
 use reference::net::{check, Weights};
 use reference::operations;
+use reference::random::Random;
 use reference::refined::refined;
 
 /// Allowed nets of every kind, and hostile lists by turns.
@@ -29,27 +31,72 @@ fn metal_of(lists: &Lists) -> Option<u64> {
 /// Every kind of list by turns; every answer must have been met often, or the match says little.
 #[test]
 fn price_on_twenty_thousand_nets_and_lists() {
-    let mut met = [0; 4];
+    let mut met = [0; 5];
     for seed in 0..20_000 {
         let answer = case(seed).price();
         let place = match answer.unwrap_or_else(|difference| panic!("{difference}")) {
             Ok(_) => 0,
             Err(31) => 2,
-            Err(32) => 3,
+            Err(37) => 3,
+            Err(32) => 4,
             Err(_) => 1,
         };
         met[place] += 1;
     }
-    let [charged, of_net, bands, reach] = met;
+    let [charged, of_net, bands, order, reach] = met;
     let said = format!(
-        "prices of 20000 nets and lists: {charged} charged, {of_net} nets refused, {bands} lists refused 31, {reach} refused 32"
+        "prices of 20000 nets and lists: {charged} charged, {of_net} nets refused, {bands} lists refused 31, {order} 37, {reach} 32"
     );
     // Past the capture of what a test prints, so that the counts are in the gate's log.
     writeln!(std::io::stderr(), "{said}").unwrap();
     assert!(met.iter().all(|&times| times >= 1_000), "{said}");
 }
 
-/// One list for many nets, in order: more metal is never charged less.
+/// What the library and the second program say of a net with so much metal by a list.
+fn by_both(metal: u64, list: &[u64]) -> [Result<u64, u32>; 2] {
+    let pins = net_of(metal);
+    [library::price, operations::price].map(|price| price(&pins, &[], list))
+}
+
+/// Lists in order, each broken at one place but for every eighth: the answer of both programs, and the refusal that the kind names.
+#[test]
+fn twenty_thousand_lists_broken_at_one_place() {
+    let kinds = [
+        BandList::EqualLimits,
+        BandList::FallingLimit,
+        BandList::FallingRate,
+        BandList::Exchanged,
+        BandList::OneBelow,
+        BandList::RateAbove,
+        BandList::Mistyped,
+        BandList::InOrder,
+    ];
+    let mut met = BTreeMap::new();
+    let mut broken = 0;
+    for seed in 0..20_000 {
+        let kind = kinds[seed as usize % kinds.len()];
+        let metal = 1 + Random::new(seed).bits() % APART as u64;
+        let list = bands(kind, seed, metal);
+        let [ours, theirs] = by_both(metal, &list);
+        let said = || format!("{} {seed}: metal {metal} by {list:?}", kind.name());
+        assert_eq!(ours, theirs, "{}", said());
+        let refused = ours.map_or_else(|number| number, |_| 0);
+        if kind.about().starts_with("refused") {
+            let named = format!("refused {refused}:");
+            assert!(kind.about().starts_with(&named), "{}: {ours:?}", said());
+        }
+        broken += usize::from(kind != BandList::InOrder);
+        *met.entry(refused).or_insert(0) += 1;
+    }
+    let said = format!("prices by 20000 lists, {broken} of them broken at one place; refusals, 0 for a charge, and how often: {met:?}");
+    writeln!(std::io::stderr(), "{said}").unwrap();
+    assert!(
+        met.values().all(|&times| times >= 1_000) && met.len() == 4,
+        "{said}"
+    );
+}
+
+/// One list for many nets: more metal is never charged less, whatever the list, of all that it charges.
 #[test]
 fn longer_nets_are_never_charged_less() {
     let mut nets: Vec<(u64, Lists)> = (0..400)
@@ -60,12 +107,17 @@ fn longer_nets_are_never_charged_less() {
         .collect();
     nets.sort_by_key(|&(metal, _)| metal);
     let longest = nets.last().map_or(0, |&(metal, _)| metal);
-    for seed in 0..10 {
-        let list = bands(BandList::InOrder, seed, longest);
+    let in_order = (0..10).map(|seed| (BandList::InOrder, seed));
+    let every_kind = BandList::ALL.iter().map(|&kind| (kind, 10));
+    for (kind, seed) in in_order.chain(every_kind) {
+        let list = bands(kind, seed, longest);
         let mut least = 0;
         for (metal, lists) in &nets {
             let (pins, macros, weights) = lists.parts();
-            let charge = library::price(pins, macros, weights, &list).unwrap();
+            let Ok(charge) = library::price(pins, macros, weights, &list) else {
+                assert!(kind != BandList::InOrder, "{metal} by {list:?}");
+                continue;
+            };
             assert!(
                 charge >= least,
                 "metal {metal} is charged {charge} by {list:?}, less metal {least}"
@@ -160,7 +212,12 @@ fn the_second_program_prices_from_the_lists() {
     for seed in 0..500 {
         let lists = case(seed).lists;
         let (pins, macros, weights) = lists.parts();
-        for list in [&[u64::MAX, 1_000_000][..], &[1_000, 7, 1_000_000, 9], &[1]] {
+        for list in [
+            &[u64::MAX, 1_000_000][..],
+            &[1_000, 7, 1_000_000, 9],
+            &[1_000, 7, 1_000, 9],
+            &[1],
+        ] {
             assert_eq!(
                 library::price(pins, macros, weights, list),
                 operations::price(pins, macros, weights, list)

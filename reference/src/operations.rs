@@ -94,7 +94,7 @@ pub fn wires(
 }
 
 /// "Price on the job card": "bureaus charge by metal laid", never by cost; 31 and 32 "both after
-/// the net's own". The charge in hundredths.
+/// the net's own", and 37 "between 31 and 32". The charge in hundredths.
 pub fn price(pins: &[i32], macros: &[i32], weights: Weights, bands: &[u64]) -> Result<u64, u32> {
     let net = net::check(pins, macros, weights)?;
     let metal = u64::try_from(refined::refined(&net).metal).expect("metal is not below zero");

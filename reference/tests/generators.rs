@@ -288,7 +288,7 @@ fn hostile_lists_are_refused() {
     }
 }
 
-/// Lists of bands: the answer that each kind names, and lists in order that are.
+/// Lists of bands: the answer that each kind names, lists in order that are, and lists broken at one place that are broken there alone.
 #[test]
 fn lists_of_bands() {
     for &kind in BandList::ALL {
@@ -297,18 +297,33 @@ fn lists_of_bands() {
             let list = bands(kind, seed, metal);
             let answer = price(metal, &list);
             let name = kind.name();
+            let bands: Vec<&[u64]> = list.chunks(2).collect();
+            let falls = |two: &&[&[u64]]| two[0][0] >= two[1][0] || two[0][1] > two[1][1];
+            let fallen = || bands.windows(2).filter(falls).count();
             match kind {
-                BandList::RateAbove | BandList::HugeRate | BandList::Odd | BandList::Empty => {
-                    assert_eq!(answer, Err(31), "{name} {seed}");
+                BandList::Short | BandList::OneBelow if metal == 0 => {}
+                BandList::InOrder
+                | BandList::Half
+                | BandList::JustReaches
+                | BandList::Huge
+                | BandList::Long => {
+                    assert!(answer.is_ok(), "{name} {seed}: {answer:?}");
+                    assert_eq!(fallen(), 0, "{name} {seed}: {list:?}");
                 }
-                BandList::Short if metal > 0 => assert_eq!(answer, Err(32), "{name} {seed}"),
-                BandList::Anything | BandList::Short => {}
-                _ => assert!(answer.is_ok(), "{name} {seed}: {answer:?}"),
-            }
-            if kind == BandList::InOrder {
-                let pairs: Vec<&[u64]> = list.chunks(2).collect();
-                let onward = |pair: &[&[u64]]| pair[0][0] < pair[1][0] && pair[0][1] <= pair[1][1];
-                assert!(pairs.windows(2).all(onward), "{name} {seed}: {list:?}");
+                BandList::EqualLimits
+                | BandList::FallingLimit
+                | BandList::FallingRate
+                | BandList::Exchanged
+                | BandList::FallingShort => {
+                    assert_eq!(answer, Err(37), "{name} {seed}");
+                    assert_eq!(fallen(), 1, "{name} {seed}: {list:?}");
+                }
+                _ => {
+                    let number = answer.err().map(|number| format!("refused {number}:"));
+                    let named = kind.about().starts_with("refused");
+                    let said = number.is_some_and(|number| kind.about().starts_with(&number));
+                    assert!(said || !named, "{name} {seed}: {answer:?}");
+                }
             }
         }
     }

@@ -285,10 +285,11 @@ fn caption(routed: &Routed, stretched: bool) -> Vec<String> {
         macros,
         terminal,
         refined,
+        metal,
         ..
     } = routed;
     let mut lines = vec![format!(
-        "pins {pins} macros {macros} terminal {terminal} refined {refined}"
+        "pins {pins} macros {macros} terminal {terminal} refined {refined} metal {metal}"
     )];
     if stretched {
         lines.push("x and y are drawn to different scales".into());

@@ -13,9 +13,11 @@ pub fn meaning(number: u32) -> &'static str {
         15 => "two pins are at one place",
         16 => "two macros' interiors meet",
         17 => "a pin is in a macro's interior",
+        18 => "a weight is not from 1 to 8",
         21 => "too little space was lent",
         31 => "there is no band, the list isn't whole pairs, or a rate is above 1000000",
         32 => "no band's limit reaches the metal",
+        37 => "a band's limit is not above the one before it, or its rate is below",
         _ => "a number that no document has",
     }
 }

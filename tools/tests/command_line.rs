@@ -120,7 +120,7 @@ fn bad_lines_are_numbered() {
         ),
         (
             b"pin 0 0\npan 1 1\n",
-            "line 2: 'pan' is neither 'pin' nor 'macro'",
+            "line 2: 'pan' is neither 'pin' nor 'macro' nor 'weights'",
         ),
         (
             b"macro 0 0 1 1 1\n",
@@ -235,13 +235,13 @@ fn draw_reads_what_route_prints() {
         ),
         (
             String::new(),
-            "line 1: the header is not 'pins M macros K terminal T refined R' or 'refused N'",
+            "line 1: the header is not 'pins M macros K terminal T refined R metal L' or 'refused N'",
         ),
         ("refused x\n".into(), "line 1: 'x' is no refusal's number"),
         ("refused 11\n11\n".into(), "line 2: a refusal is one line"),
         (
             right.replace("pins 3", "pins three"),
-            "line 1: the header is not 'pins M macros K terminal T refined R' or 'refused N'",
+            "line 1: the header is not 'pins M macros K terminal T refined R metal L' or 'refused N'",
         ),
         (
             right.replace("pins 3", "pins 4"),
@@ -249,15 +249,19 @@ fn draw_reads_what_route_prints() {
         ),
         (
             right.replace("refined 7", "refined 6"),
-            "line 1: refined is 6, and the edges' lengths add up to 7",
+            "line 1: refined is 6, and the edges' costs add up to 7",
+        ),
+        (
+            right.replace("metal 7", "metal 8"),
+            "line 1: metal is 8, and the edges' lengths add up to 7",
         ),
         (
             right.replace("0 0 2 0 2", "0 0 2 0"),
-            "line 2: an edge is five whole numbers, x1 y1 x2 y2 length",
+            "line 2: an edge is five whole numbers, x1 y1 x2 y2 cost",
         ),
         (
             right.replace("2 0 2 3 3", "2 0 2 3 4"),
-            "line 3: the length is 3 and not 4",
+            "line 3: the cost is 3 and not 4",
         ),
         (
             right.replace("2 0 4 0 2", "4 0 2 0 2"),
@@ -278,6 +282,24 @@ fn draw_reads_what_route_prints() {
     }
 }
 
+/// Weights go from text to file and back; 1 and 1 leave no line, and others are in the file.
+#[test]
+fn weights_go_both_ways() {
+    let plain = b"pin 0 0\npin 4 0\npin 2 3\n".to_vec();
+    let weighed = [b"weights 1 3\n", &plain[..]].concat();
+    let ones = [&plain[..], b"weights 1 1\n"].concat();
+    let file = written(PACK, &[], &weighed);
+    assert_eq!(written(UNPACK, &[], &file), weighed);
+    assert_eq!(written(PACK, &[], &ones), written(PACK, &[], &plain));
+    assert_eq!(written(UNPACK, &[], &written(PACK, &[], &ones)), plain);
+    let nine = [&plain[..], b"weights 9 1\n"].concat();
+    let told = said(PACK, &[], &nine, 1);
+    assert!(
+        told.contains("refused 18: a weight is not from 1 to 8"),
+        "{told}"
+    );
+}
+
 /// `price` says the charge of a net by a list of bands, either one from standard input.
 #[test]
 fn price_charges_by_a_list() {
@@ -289,9 +311,9 @@ fn price_charges_by_a_list() {
         // Metal 7: 3.5 hundredths and 24.5, each half way: the even one.
         ("7 500\n", "charge 4 0.04\n"),
         ("7 3500\n", "charge 24 0.24\n"),
-        // The first band is too short, the last one is not looked at.
+        // The first band is too short, the last one sets no rate.
         (
-            "# limit rate\n6 1\n\n  100 1000000 # dear\n200 2",
+            "# limit rate\n6 1\n\n  100 999999 # dear\n200 1000000",
             "charge 7000 70.00\n",
         ),
         ("18446744073709551615 0\r\n", "charge 0 0.00\n"),
@@ -316,14 +338,45 @@ fn price_says_what_is_wrong() {
     let folder = folder("price-wrong");
     let (net, list) = (folder.join("net.txt"), folder.join("bands.txt"));
     fs::write(&net, "pin 0 0\npin 4 0\npin 2 3\n").unwrap();
-    let none =
-        "refused 31: there is no band, the list isn't whole pairs, or a rate is above 1000000";
     for (bands, wrong) in [
-        (&b""[..], none),
-        (b"7 1000000\n8 1000001\n", none),
         (
-            b"5 1\n6 1\n",
-            "refused 32: no band's limit reaches the metal",
+            &b""[..],
+            "refused 31: there is no band, the list isn't whole pairs, or a rate is above 1000000",
+        ),
+        // The first rate that is too high, on its line, also where a limit falls before it or after it.
+        (
+            b"7 1000000\n\n8 1000001\n9 1000002\n",
+            "line 3: refused 31: the rate 1000001 is above 1000000",
+        ),
+        (
+            b"7 5\n7 6\n8 1000001\n8 1\n",
+            "line 3: refused 31: the rate 1000001 is above 1000000",
+        ),
+        // The first band that falls back, and the line that it falls back from; also where no band reaches the metal.
+        (
+            b"# limit rate\n7 5\n\n7 6 # again\n",
+            "line 4: refused 37: the limit 7 is not above 7, that of line 2",
+        ),
+        (
+            b"7 5\n70 6\n8 7\n9 7\n9 7\n",
+            "line 3: refused 37: the limit 8 is not above 70, that of line 2",
+        ),
+        (
+            b"7 500\n8 600\n9 60\n10 6\n",
+            "line 3: refused 37: the rate 60 is below 600, that of line 2",
+        ),
+        (
+            b"7 2\n6 1\n",
+            "line 2: refused 37: the limit 6 is not above 7, that of line 1",
+        ),
+        (
+            b"3 1\n2 1\n",
+            "line 2: refused 37: the limit 2 is not above 3, that of line 1",
+        ),
+        // The last band, which falls short.
+        (
+            b"5 1\n6 1\n# no more\n",
+            "line 2: refused 32: the last limit, 6, is below the metal",
         ),
         (b"7 500\n8\n", "line 2: a band needs a limit and a rate"),
         (b"7 500 9\n", "line 1: '9' stands after the end of the band"),

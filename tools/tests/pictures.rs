@@ -98,10 +98,12 @@ fn nothing_is_missing_or_cut_off() {
                 macros,
                 terminal,
                 refined,
+                metal,
                 ..
             } = routed;
-            let caption =
-                format!("pins {pins} macros {macros} terminal {terminal} refined {refined}");
+            let caption = format!(
+                "pins {pins} macros {macros} terminal {terminal} refined {refined} metal {metal}"
+            );
             let caption = at(&caption).expect("the totals are the caption");
             let upper = &all[..caption];
             let mut points: Vec<String> = lists

@@ -7,7 +7,7 @@ use mathlib.Core.Logic.{_⊎_, inl, inr}
 use mathlib.Core.List.{List, [], _∷_, _++_, List·Memᴰ·append-cases, Memᴰ·cast, Memᴰ·append-left, Memᴰ·append-right}
 use Prim.Native.Nat.{_*_, _≤_}
 use native.Mathlib.Omega.{arith}
-use lib.ListN.{length, length-append}
+use lib.ListN.{length}
 use Rattle.lists.specs.Member.{_∈_, here, there, Once}
 use Rattle.lists.specs.Sorted.{Order, Ascending}
 use Rattle.lists.proofs.TestLaws.{by, either}
@@ -32,6 +32,7 @@ use Rattle.graph.specs.declared.Picked.{Picked}
 use Rattle.graph.specs.declared.Picked.the-variants.{At, Nothing}
 use Rattle.graph.specs.Pick.{pick}
 use Rattle.graph.specs.Edges.{edgeOf, beforeEdge, edgeOfPick, picksOf, allPicks, edges}
+use Rattle.graph.proofs.GraphSteps.{picks-none, picks-more, picks-few}
 use Rattle.graph.proofs.QuadrantLaws.{within-differs}
 use Rattle.graph.proofs.PickLaws.{pick-at}
 
@@ -98,26 +99,18 @@ module _ (w : Weights) (ms : List Macro) (vs : List Place) where
       (Memᴰ·append-right (edgeOfPick u (pick w ms Second u vs))
       (Memᴰ·append-right (edgeOfPick u (pick w ms Third u vs)) (in-one Fourth u v e)))
 
-  none : allPicks w ms vs [] ≡ []
-  unfolding allPicks
-  none = refl
-
-  more : (u : Place) (us : List Place) → allPicks w ms vs (u ∷ us) ≡ picksOf w ms vs u ++ allPicks w ms vs us
-  unfolding allPicks
-  more u us = refl
-
   -- e is an edge exactly when it is the edge of a pick
   pub of-edges : {e : Place × Place} → e ∈ edges w ms vs → OfPick e
   unfolding edges
   of-edges m =
-      let p = of-each (picksOf w ms vs) (allPicks w ms vs) none more vs (of-sorted beforeEdge (allPicks w ms vs vs) _ m) in
+      let p = of-each (picksOf w ms vs) (allPicks w ms vs) (picks-none w ms vs) (picks-more w ms vs) vs (of-sorted beforeEdge (allPicks w ms vs vs) _ m) in
       of-picks (p .entry) (p .stands) (p .holds)
 
   pub pick-edge : {u v : Place} → PickedBy u v → edgeOf u v ∈ edges w ms vs
   unfolding edges
   pick-edge {u} {v} p =
       in-sorted beforeEdge edge-order (allPicks w ms vs vs) _
-      (in-each (picksOf w ms vs) (allPicks w ms vs) none more vs (p .stands) (in-picks (p .quadrant) u v (p .picks)))
+      (in-each (picksOf w ms vs) (allPicks w ms vs) (picks-none w ms vs) (picks-more w ms vs) vs (p .stands) (in-picks (p .quadrant) u v (p .picks)))
 
   pub in-edges : {e : Place × Place} → OfPick e → e ∈ edges w ms vs
   in-edges r = Memᴰ·cast (r .is) (pick-edge (r .picked))
@@ -155,30 +148,13 @@ module _ (w : Weights) (ms : List Macro) (vs : List Place) where
   pub edges-once : Once (edges w ms vs)
   edges-once = ascending-once beforeEdge edge-order (edges w ms vs) edges-ascending
 
-  at-most-one : (u : Place) (p : Picked) → length (edgeOfPick u p) ≤ 1
-  unfolding edgeOfPick
-  at-most-one u Nothing = omega arith
-  at-most-one u (At v) = omega arith
-
-  at-most-four : (u : Place) → length (picksOf w ms vs u) ≤ 4
-  unfolding picksOf
-  at-most-four u =
-      simp length-append
-      (omega (
-        arith,
-        at-most-one u (pick w ms First u vs),
-        at-most-one u (pick w ms Second u vs),
-        at-most-one u (pick w ms Third u vs),
-        at-most-one u (pick w ms Fourth u vs),
-      ))
-
   pub length-edges : length (edges w ms vs) ≤ 4 * length vs
   unfolding edges
   length-edges =
       omega (
         arith,
         length-sorted beforeEdge (allPicks w ms vs vs),
-        length-each (picksOf w ms vs) (allPicks w ms vs) none more 4 at-most-four vs,
+        length-each (picksOf w ms vs) (allPicks w ms vs) (picks-none w ms vs) (picks-more w ms vs) 4 (picks-few w ms vs) vs,
       )
 
 -- What holds of each edge

@@ -19,6 +19,7 @@ use Rattle.plane.proofs.PlaceOrder.{place-order}
 use Rattle.net.specs.Net.{Net}
 use Rattle.graph.specs.Vertices.{cornersOf, corners, vertices}
 use Rattle.graph.specs.Spanning.{verticesOf}
+use Rattle.graph.proofs.GraphSteps.{corners-none, corners-more, corners-few}
 
 -- The corners of a macro
 
@@ -52,23 +53,11 @@ module _ (m : Macro) where
 
 -- The corners of all macros
 
-none : corners [] ≡ []
-unfolding corners
-none = refl
-
-more : (m : Macro) (ms : List Macro) → corners (m ∷ ms) ≡ cornersOf m ++ corners ms
-unfolding corners
-more m ms = refl
-
 pub of-corners : (ms : List Macro) {c : Place} → c ∈ corners ms → Piece cornersOf ms c
-of-corners = of-each cornersOf corners none more
+of-corners = of-each cornersOf corners corners-none corners-more
 
 pub in-corners : (ms : List Macro) {m : Macro} {c : Place} → m ∈ ms → c ∈ cornersOf m → c ∈ corners ms
-in-corners = in-each cornersOf corners none more
-
-four : (m : Macro) → length (cornersOf m) ≤ 4
-unfolding cornersOf
-four m = omega arith
+in-corners = in-each cornersOf corners corners-none corners-more
 
 -- Vertices
 
@@ -102,5 +91,5 @@ module _ (net : Net) where
         arith,
         length-sorted before (net .pins ++ corners (net .macros)),
         length-append (net .pins) (corners (net .macros)),
-        length-each cornersOf corners none more 4 four (net .macros),
+        length-each cornersOf corners corners-none corners-more 4 corners-few (net .macros),
       )

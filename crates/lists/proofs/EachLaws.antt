@@ -1,8 +1,9 @@
--- A list made of a piece for each entry of another one: what it holds, and how long it gets. `all` is any function with the two equations
+-- A list made of a piece for each entry of another one: what it holds, how long it gets, and one entry more at the end. `all` is any function with the two equations
 -- of such a list, so each definition of this form has the laws.
 -- Assumes nothing.
-use mathlib.Core.Path.{_≡_, refl}
-use mathlib.Core.List.{List, [], _∷_, _++_, List·Memᴰ·cases-cons, List·Memᴰ·append-cases, Memᴰ·append-left, Memᴰ·append-right}
+use mathlib.Core.Path.{_≡_, refl, sym, ap, _∙_}
+use mathlib.Core.List.{List, [], _∷_, _++_, append-assoc, append-nil}
+use mathlib.Core.List.{List·Memᴰ·cases-cons, List·Memᴰ·append-cases, Memᴰ·append-left, Memᴰ·append-right}
 use Prim.Native.Nat.{ℕ, _*_, _≤_}
 use native.Mathlib.Nat.{mul-suc}
 use native.Mathlib.Omega.{arith}
@@ -36,3 +37,7 @@ module _ {A B : Type 0} (of : A → List B) (all : List A → List B)
   pub length-each : (n : ℕ) → ((a : A) → length (of a) ≤ n) → (l : List A) → length (all l) ≤ n * length l
   length-each n h [] = rw none (omega arith)
   length-each n h (a ∷ l) = rw (more, length-append) (omega (arith, h a, length-each n h l, mul-suc n (length l)))
+
+  pub each-snoc : (l : List A) (a : A) → all (l ++ (a ∷ [])) ≡ all l ++ of a
+  each-snoc [] a = rw (more, none) (append-nil (of a))
+  each-snoc (b ∷ l) a = rw (more, more, each-snoc l a) (sym (append-assoc (of b) (all l) (of a)))

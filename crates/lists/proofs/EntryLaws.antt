@@ -1,14 +1,16 @@
--- The entries of a flat list, w numbers each: `of` reads them all, `at` the one that begins at a number's place.
--- A scan of entries goes by `drop i (of s)`: what is left after i of them.
+-- The entries of a flat list, w numbers each: `of` reads them all, `at` the one that begins at a number's place. Then those of two and of
+-- four numbers. A scan of entries goes by `drop i (of s)`: what is left after i of them.
 -- Assumes nothing.
 use mathlib.Core.Path.{_≡_, refl, sym, ap, _∙_}
 use mathlib.Core.List.{List, [], _∷_}
-use Prim.Native.Nat.{ℕ, zero, suc, _+_, _*_, _-_, _≤_, _<_}
-use native.Mathlib.Nat.{zero-mul, suc-mul, add-comm}
+use Prim.Native.Nat.{ℕ, zero, suc, _+_, _*_, _-_, _/_, _≤_, _<_}
+use native.Mathlib.Nat.{zero-mul, suc-mul, add-comm, add-assoc}
 use native.Mathlib.Omega.{arith}
 use borrow.Author.Tests.{leb-true, leb-false}
 use lib.Dec.{leb}
-use lib.ListN.{length, drop, length-drop}
+use lib.ListN.{length, getD, drop, length-drop}
+use lib.Seq.{getD-drop}
+use Rattle.lists.specs.Entries.{twos, fours}
 use Rattle.lists.proofs.TestLaws.{by}
 
 module _ {A B : Type 0} (w : ℕ) (of : List A → List B) (at : List A → ℕ → B)
@@ -19,7 +21,7 @@ module _ {A B : Type 0} (w : ℕ) (of : List A → List B) (at : List A → ℕ 
   left-suc : (s : List A) (i : ℕ) → w ≤ length s → drop (suc i) (of s) ≡ drop i (of (drop w s))
   left-suc s i h = ap (drop (suc i)) (step s h)
 
-  pub entry-next : (s : List A) (i : ℕ) → i * w + w ≤ length s → drop i (of s) ≡ at s (i * w) ∷ drop (i + 1) (of s)
+  entry-next : (s : List A) (i : ℕ) → i * w + w ≤ length s → drop i (of s) ≡ at s (i * w) ∷ drop (i + 1) (of s)
   entry-next s zero h =
       let e : zero * w ≡ 0 = zero-mul w in
       let r : w ≤ length s = omega (arith, e) in
@@ -34,9 +36,87 @@ module _ {A B : Type 0} (w : ℕ) (of : List A → List B) (at : List A → ℕ 
       ∙ ap (λ (b : B). b ∷ drop (i + 1) (of (drop w s))) (past s (i * w) ∙ ap (at s) (add-comm w (i * w) ∙ sym e))
       ∙ ap (λ (l : List B). at s (suc i * w) ∷ l) (sym (left-suc s (i + 1) r) ∙ ap (λ (m : ℕ). drop m (of s)) n)
 
-  pub entry-end : (s : List A) (i : ℕ) → length s < i * w + w → drop i (of s) ≡ []
+  entry-end : (s : List A) (i : ℕ) → length s < i * w + w → drop i (of s) ≡ []
   entry-end s zero h = short s (omega (arith, zero-mul w))
   entry-end s (suc i) h =
       by (leb w (length s))
       (λ e. let r = leb-true w (length s) e in left-suc s i r ∙ entry-end (drop w s) i (simp length-drop (omega (arith, suc-mul i w))))
       (λ e. ap (drop (suc i)) (short s (leb-false w (length s) e)))
+
+-- a number past a part that is dropped; z stands past the end
+at-past : {A : Type 0} (z : A) (w : ℕ) (s : List A) (i k : ℕ) → getD (drop w s) (i + k) z ≡ getD s (w + i + k) z
+at-past z w s i k = getD-drop w s (i + k) z ∙ ap (λ (n : ℕ). getD s n z) (sym (add-assoc w i k))
+
+module _ {A B : Type 0} (z : A) where
+  module _ (entry : A → A → B) where
+    -- the entry of the two numbers from the k-th on
+    abbrev two : List A → ℕ → B
+    two s k = entry (getD s k z) (getD s (k + 1) z)
+
+    two-step : (s : List A) → 2 ≤ length s → twos entry s ≡ two s 0 ∷ twos entry (drop 2 s)
+    unfolding twos
+    two-step [] h = absurd (let f : ⊥ = omega arith in f)
+    two-step (a ∷ []) h = absurd (let f : ⊥ = omega arith in f)
+    two-step (a ∷ (b ∷ s)) h = refl
+
+    two-short : (s : List A) → length s < 2 → twos entry s ≡ []
+    unfolding twos
+    two-short [] h = refl
+    two-short (a ∷ []) h = refl
+    two-short (a ∷ (b ∷ s)) h = absurd (let f : ⊥ = omega arith in f)
+
+    two-past : (s : List A) (i : ℕ) → two (drop 2 s) i ≡ two s (2 + i)
+    two-past s i = rw (getD-drop 2 s i z, at-past z 2 s i 1) refl
+
+    pub twos-next : (s : List A) (i : ℕ) → i * 2 + 2 ≤ length s → drop i (twos entry s) ≡ two s (i * 2) ∷ drop (i + 1) (twos entry s)
+    twos-next = entry-next 2 (twos entry) two two-step two-short two-past
+
+    pub twos-end : (s : List A) (i : ℕ) → length s < i * 2 + 2 → drop i (twos entry s) ≡ []
+    twos-end = entry-end 2 (twos entry) two two-step two-short two-past
+
+  module _ (entry : A → A → A → A → B) where
+    -- the entry of the four numbers from the k-th on
+    abbrev four : List A → ℕ → B
+    four s k = entry (getD s k z) (getD s (k + 1) z) (getD s (k + 2) z) (getD s (k + 3) z)
+
+    four-step : (s : List A) → 4 ≤ length s → fours entry s ≡ four s 0 ∷ fours entry (drop 4 s)
+    unfolding fours
+    four-step [] h = absurd (let f : ⊥ = omega arith in f)
+    four-step (a ∷ []) h = absurd (let f : ⊥ = omega arith in f)
+    four-step (a ∷ (b ∷ [])) h = absurd (let f : ⊥ = omega arith in f)
+    four-step (a ∷ (b ∷ (c ∷ []))) h = absurd (let f : ⊥ = omega arith in f)
+    four-step (a ∷ (b ∷ (c ∷ (d ∷ s)))) h = refl
+
+    four-short : (s : List A) → length s < 4 → fours entry s ≡ []
+    unfolding fours
+    four-short [] h = refl
+    four-short (a ∷ []) h = refl
+    four-short (a ∷ (b ∷ [])) h = refl
+    four-short (a ∷ (b ∷ (c ∷ []))) h = refl
+    four-short (a ∷ (b ∷ (c ∷ (d ∷ s)))) h = absurd (let f : ⊥ = omega arith in f)
+
+    four-past : (s : List A) (i : ℕ) → four (drop 4 s) i ≡ four s (4 + i)
+    four-past s i = rw (getD-drop 4 s i z, at-past z 4 s i 1, at-past z 4 s i 2, at-past z 4 s i 3) refl
+
+    pub fours-next : (s : List A) (i : ℕ) → i * 4 + 4 ≤ length s
+        → drop i (fours entry s) ≡ four s (i * 4) ∷ drop (i + 1) (fours entry s)
+    fours-next = entry-next 4 (fours entry) four four-step four-short four-past
+
+    pub fours-end : (s : List A) (i : ℕ) → length s < i * 4 + 4 → drop i (fours entry s) ≡ []
+    fours-end = entry-end 4 (fours entry) four four-step four-short four-past
+
+-- how many there are
+module _ {A B : Type 0} where
+  pub length-twos : (entry : A → A → B) (s : List A) → length (twos entry s) ≡ length s / 2
+  unfolding twos
+  length-twos entry [] = refl
+  length-twos entry (a ∷ []) = refl
+  length-twos entry (a ∷ (b ∷ s)) = omega (arith, length-twos entry s)
+
+  pub length-fours : (entry : A → A → A → A → B) (s : List A) → length (fours entry s) ≡ length s / 4
+  unfolding fours
+  length-fours entry [] = refl
+  length-fours entry (a ∷ []) = refl
+  length-fours entry (a ∷ (b ∷ [])) = refl
+  length-fours entry (a ∷ (b ∷ (c ∷ []))) = refl
+  length-fours entry (a ∷ (b ∷ (c ∷ (d ∷ s)))) = omega (arith, length-fours entry s)

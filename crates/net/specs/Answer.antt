@@ -1,8 +1,8 @@
--- The number of each refusal: rules C1 to C36.
+-- The number of each refusal: rules C1 to C37.
 use Prim.Native.Nat.{ℕ}
 use Rattle.net.specs.declared.Refusal.{Refusal}
 use Rattle.net.specs.declared.Refusal.the-variants.{Blocks, Sums, Layout, PinList, MacroList, Range, Sides, SamePlace, Overlap}
-use Rattle.net.specs.declared.Refusal.the-variants.{PinInside, WeightRange, Space, Bands, Reach, GridSize}
+use Rattle.net.specs.declared.Refusal.the-variants.{PinInside, WeightRange, Space, Bands, Reach, BandOrder, GridSize}
 
 unfoldable pub number : Refusal → ℕ
 number Blocks = 1
@@ -19,4 +19,5 @@ number WeightRange = 18
 number Space = 21
 number Bands = 31
 number Reach = 32
+number BandOrder = 37
 number GridSize = 36

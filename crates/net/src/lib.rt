@@ -73,7 +73,7 @@ pub struct Weighing {
     pub second: i32,
 }
 
-// Why an operation refuses; `number` in specs/Answer.antt has the number of each (C1 to C36).
+// Why an operation refuses; `number` in specs/Answer.antt has the number of each (C1 to C37).
 pub enum Refusal {
     Blocks,
     Sums,
@@ -89,6 +89,7 @@ pub enum Refusal {
     Space,
     Bands,
     Reach,
+    BandOrder,
     GridSize,
 }
 
@@ -111,6 +112,7 @@ impl Refusal {
             Refusal::Space => 21,
             Refusal::Bands => 31,
             Refusal::Reach => 32,
+            Refusal::BandOrder => 37,
             Refusal::GridSize => 36,
         }
     }

@@ -12,46 +12,20 @@ use lib.Dec.{eqb}
 use lib.IntN.{ℤ}
 use lib.ListN.{length, take, drop, getD, set, replicate, drop-of-length-le, length-take, length-drop}
 use lib.Seq.{getD-drop, drop-drop, drop-cons}
-use Rattle.lists.proofs.EntryLaws.{entry-next}
+use Rattle.lists.proofs.EntryLaws.{fours-next, length-fours}
 use Rattle.lists.proofs.TestLaws.{and-left, and-right, differ}
 use Rattle.lent.specs.Over.{over}
 use Rattle.lent.proofs.OverLaws.{length-over, over-more, take-over}
 use Rattle.netfile.specs.Sizes.{blockWords, blockBytes, blockCount, fileBlocks}
-use Rattle.netfile.specs.Words.{wordsOf, wordFrom}
+use Rattle.netfile.specs.Words.{word, wordsOf, wordFrom}
 use Rattle.netfile.specs.Read.{blockOf, blocksOf, numberIn, numbersIn, sameNumbers, Sized}
 use Rattle.netfile.proofs.SumLaws.{word-more}
 
 -- Words
 
-words-step : (s : List ℕ) → 4 ≤ length s → wordsOf s ≡ wordFrom s 0 ∷ wordsOf (drop 4 s)
-unfolding wordsOf
-words-step [] h = absurd (let f : ⊥ = omega arith in f)
-words-step (a ∷ []) h = absurd (let f : ⊥ = omega arith in f)
-words-step (a ∷ (b ∷ [])) h = absurd (let f : ⊥ = omega arith in f)
-words-step (a ∷ (b ∷ (c ∷ []))) h = absurd (let f : ⊥ = omega arith in f)
-words-step (a ∷ (b ∷ (c ∷ (d ∷ s)))) h = refl
-
-words-short : (s : List ℕ) → length s < 4 → wordsOf s ≡ []
-unfolding wordsOf
-words-short [] h = refl
-words-short (a ∷ []) h = refl
-words-short (a ∷ (b ∷ [])) h = refl
-words-short (a ∷ (b ∷ (c ∷ []))) h = refl
-words-short (a ∷ (b ∷ (c ∷ (d ∷ s)))) h = absurd (let f : ⊥ = omega arith in f)
-
-byte-past : (s : List ℕ) (i k : ℕ) → getD (drop 4 s) (i + k) 0 ≡ getD s (4 + i + k) 0
-byte-past s i k = getD-drop 4 s (i + k) 0 ∙ ap (λ (n : ℕ). getD s n 0) (sym (add-assoc 4 i k))
-
-word-past : (s : List ℕ) (i : ℕ) → wordFrom (drop 4 s) i ≡ wordFrom s (4 + i)
-word-past s i =
-    ap₂ (λ (a b : ℕ). a + b)
-    (ap₂ (λ (a b : ℕ). a + b)
-    (ap₂ (λ (a b : ℕ). a + b * 256) (getD-drop 4 s i 0) (byte-past s i 1))
-    (ap (λ (a : ℕ). a * 65536) (byte-past s i 2)))
-    (ap (λ (a : ℕ). a * 16777216) (byte-past s i 3))
-
 words-next : (s : List ℕ) (i : ℕ) → i * 4 + 4 ≤ length s → drop i (wordsOf s) ≡ wordFrom s (i * 4) ∷ drop (i + 1) (wordsOf s)
-words-next = entry-next 4 wordsOf wordFrom words-step words-short word-past
+unfolding wordsOf
+words-next = fours-next 0 word
 
 -- the i-th word
 pub word-is : (s : List ℕ) (i : ℕ) → i * 4 + 4 ≤ length s → getD (wordsOf s) i 0 ≡ wordFrom s (i * 4)
@@ -61,11 +35,7 @@ word-is s i h =
 
 pub length-words-of : (s : List ℕ) → length (wordsOf s) ≡ length s / 4
 unfolding wordsOf
-length-words-of [] = refl
-length-words-of (a ∷ []) = refl
-length-words-of (a ∷ (b ∷ [])) = refl
-length-words-of (a ∷ (b ∷ (c ∷ []))) = refl
-length-words-of (a ∷ (b ∷ (c ∷ (d ∷ s)))) = omega (arith, length-words-of s)
+length-words-of = length-fours word
 
 -- Blocks
 

@@ -5,18 +5,20 @@ use Prim.Native.Nat.{ℕ, suc, _+_, _*_, _-_, _/_, _%_}
 use lib.Dec.{eqb, ltb}
 use lib.IntN.{ℤ, pos, negsuc}
 use lib.ListN.{getD}
+use Rattle.lists.specs.Entries.{fours}
+
+-- F1: the word of four bytes
+abbrev pub word : ℕ → ℕ → ℕ → ℕ → ℕ
+word a b c d = a + b * 256 + c * 65536 + d * 16777216
 
 -- F1: words of 32 bits with the low byte first; up to three bytes left over at the end are no word
 unfoldable pub wordsOf : List ℕ → List ℕ
-wordsOf [] = []
-wordsOf (a ∷ []) = []
-wordsOf (a ∷ (b ∷ [])) = []
-wordsOf (a ∷ (b ∷ (c ∷ []))) = []
-wordsOf (a ∷ (b ∷ (c ∷ (d ∷ rest)))) = (a + b * 256 + c * 65536 + d * 16777216) ∷ wordsOf rest
+unfolding fours
+wordsOf s = fours word s
 
 -- the word that begins at the byte k
 abbrev pub wordFrom : List ℕ → ℕ → ℕ
-wordFrom bytes k = getD bytes k 0 + getD bytes (k + 1) 0 * 256 + getD bytes (k + 2) 0 * 65536 + getD bytes (k + 3) 0 * 16777216
+wordFrom bytes k = word (getD bytes k 0) (getD bytes (k + 1) 0) (getD bytes (k + 2) 0) (getD bytes (k + 3) 0)
 
 -- the bytes of words, low byte first
 unfoldable pub bytesOfWord : ℕ → List ℕ

@@ -3,6 +3,7 @@ use mathlib.Core.List.{List, [], _∷_}
 use Prim.Native.Nat.{ℕ, _+_, _*_}
 use lib.IntN.{ℤ, pos}
 use lib.ListN.{getD}
+use Rattle.lists.specs.Entries.{twos, fours}
 use Rattle.plane.specs.declared.Place.{Place}
 use Rattle.plane.specs.declared.Macro.{Macro}
 use Rattle.plane.specs.Place.{place}
@@ -10,17 +11,13 @@ use Rattle.plane.specs.Macro.{macro}
 
 -- the places that a flat list holds; a number left over at its end is no place
 unfoldable pub placesOf : List ℤ → List Place
-placesOf [] = []
-placesOf (x ∷ []) = []
-placesOf (x ∷ (y ∷ rest)) = place x y ∷ placesOf rest
+unfolding twos
+placesOf s = twos place s
 
 -- the macros that a flat list holds; up to three numbers left over at its end are no macro
 unfoldable pub macrosOf : List ℤ → List Macro
-macrosOf [] = []
-macrosOf (l ∷ []) = []
-macrosOf (l ∷ (b ∷ [])) = []
-macrosOf (l ∷ (b ∷ (r ∷ []))) = []
-macrosOf (l ∷ (b ∷ (r ∷ (t ∷ rest)))) = macro l b r t ∷ macrosOf rest
+unfolding fours
+macrosOf s = fours macro s
 
 -- the place that begins at the number k of a flat list, and the i-th place
 abbrev pub placeFrom : List ℤ → ℕ → Place

@@ -1,5 +1,6 @@
--- B6: more metal is never charged less by one list in which rates never fall. A band that reaches the longer metal reaches the shorter, so
--- the first that reaches the longer stands no earlier; its rate is no lower, and the charge rises with metal and with the rate.
+-- B6: more metal is never charged less by one list. A list that charges anything has passed the test of its order, so its rates never fall.
+-- A band that reaches the longer metal reaches the shorter, so the first that reaches the longer stands no earlier; its rate is no lower,
+-- and the charge rises with metal and with the rate.
 -- Assumes nothing. That limits rise is not used.
 use mathlib.Core.Path.{_≡_, refl, sym, _∙_}
 use mathlib.Core.Bool.{true, false, not}
@@ -9,7 +10,6 @@ use native.Mathlib.Nat.{le-refl}
 use native.Mathlib.Omega.{arith}
 use borrow.Author.Tests.{ltb-false, le-ltb}
 use lib.Dec.{ltb}
-use Rattle.lists.specs.Any.{any}
 use Rattle.lists.specs.Member.{_∈_, here, there}
 use Rattle.lists.proofs.TestLaws.{by, not-true, contrapose}
 use Rattle.lent.specs.Told.{given}
@@ -18,10 +18,11 @@ use Rattle.price.specs.declared.Band.{Band}
 use Rattle.price.specs.Band.{bandsOf}
 use Rattle.price.specs.Charge.{charge, reaches, byFirst}
 use Rattle.price.specs.Order.{NeverFalling, WellKept}
-use Rattle.price.specs.Price.{bandsMiscounted, rateAbove, priced}
+use Rattle.price.specs.Price.{priced}
 use Rattle.price.proofs.ChargeLaws.{charge-rises}
 use Rattle.price.proofs.FirstLaws.{first-hit, first-miss, first-end}
-use Rattle.price.proofs.PriceLaws.{price-miscounted, price-above, price-first}
+use Rattle.price.proofs.OrderLaws.{kept}
+use Rattle.price.proofs.PriceLaws.{price-first, given-passed}
 
 -- a charge is one at the rate of some band
 pub record AtRate (metal : ℕ) (bs : List Band) (h : ℕ) : Type 0 where
@@ -46,6 +47,10 @@ reaches-less : {m n : ℕ} (b : Band) → m ≤ n → reaches n b ≡ true → r
 unfolding reaches
 reaches-less {m} {n} b h t = rw (le-ltb (b .limit) m (omega (arith, ltb-false (b .limit) n (not-true (ltb (b .limit) n) t)))) refl
 
+-- B5: a list that charges anything is kept in order
+pub kept-in-order : (metal : ℕ) (s : List ℕ) {h : ℕ} → priced metal s ≡ given h → WellKept (bandsOf s)
+kept-in-order metal s e = kept (bandsOf s) (given-passed metal s e .onward)
+
 module _ {m n : ℕ} (more : m ≤ n) where
   pub first-rises : {h k : ℕ} (bs : List Band) → NeverFalling bs → byFirst m bs ≡ given h → byFirst n bs ≡ given k → h ≤ k
   first-rises {h} {k} [] never e f = told-apart 32 h (sym (first-end m [] refl) ∙ e)
@@ -61,16 +66,8 @@ module _ {m n : ℕ} (more : m ≤ n) where
       (λ t. first-rises bs (never .1) (sym (first-miss m (b ∷ bs) b bs refl t) ∙ e)
       (sym (first-miss n (b ∷ bs) b bs refl (contrapose (reaches n b) (reaches m b) (reaches-less b more) t)) ∙ f))
 
-  -- the stronger form: only rates that never fall are asked for
-  pub longer-by-rates : {h k : ℕ} (s : List ℕ) → NeverFalling (bandsOf s) → priced m s ≡ given h → priced n s ≡ given k → h ≤ k
-  longer-by-rates {h} {k} s never e f =
-      by (bandsMiscounted s)
-      (λ t. told-apart 31 h (sym (price-miscounted m s t) ∙ e))
-      (λ t.
-      by (any rateAbove (bandsOf s))
-      (λ u. told-apart 31 h (sym (price-above m s t u) ∙ e))
-      (λ u. first-rises (bandsOf s) never (sym (price-first m s t u) ∙ e) (sym (price-first n s t u) ∙ f)))
-
-  -- with the premise as document 02 has it
-  pub longer-never-less : {h k : ℕ} (s : List ℕ) → WellKept (bandsOf s) → priced m s ≡ given h → priced n s ≡ given k → h ≤ k
-  longer-never-less s kept = longer-by-rates s (kept .never-falling)
+  -- B6, without a premise
+  pub longer-never-less : {h k : ℕ} (s : List ℕ) → priced m s ≡ given h → priced n s ≡ given k → h ≤ k
+  longer-never-less s e f =
+      let p = given-passed m s e in
+      first-rises (bandsOf s) (kept-in-order m s e .never-falling) (sym (price-first m s p) ∙ e) (sym (price-first n s p) ∙ f)

@@ -1,5 +1,5 @@
 -- The test of neighbours says what keeping a list in order means: a limit below the next one's is below all further down, and so with
--- rates.
+-- rates. And the test as a scan runs it, whose position is the list that is left.
 -- Assumes nothing.
 use mathlib.Core.Path.{_≡_, refl, sym}
 use mathlib.Core.Bool.{Bool, true, false, not}
@@ -8,6 +8,7 @@ use Prim.Native.Nat.{_<_, _≤_}
 use native.Mathlib.Omega.{arith}
 use borrow.Author.Tests.{ltb-true, ltb-false, lt-ltb, le-ltb}
 use lib.Dec.{ltb}
+use lib.ListN.{drop}
 use Rattle.lists.specs.Member.{_∈_, here, there}
 use Rattle.lists.proofs.TestLaws.{or-none, or-neither}
 use Rattle.price.specs.declared.Band.{Band}
@@ -73,3 +74,19 @@ pub not-back-kept : (bs : List Band) → WellKept bs → fallsBack bs ≡ false
 unfolding fallsBack
 not-back-kept [] k = refl
 not-back-kept (b ∷ bs) k = after-kept b bs k
+
+-- `left` begins with b and c, and `rest` is what follows b
+module _ (left : List Band) (b : Band) (rest : List Band) (c : Band) (more : List Band) (at : left ≡ b ∷ rest) (next : rest ≡ c ∷ more) where
+  pub back-hit : stepsBack b c ≡ true → fallsBack left ≡ true
+  unfolding fallsBack fallsAfter
+  back-hit e = rw (at, next, e) refl
+
+  pub back-miss : stepsBack b c ≡ false → fallsBack left ≡ fallsBack rest
+  unfolding fallsBack fallsAfter
+  back-miss e = rw (at, next, e) refl
+
+-- at most one band is left
+pub back-end : (left : List Band) → drop 1 left ≡ [] → fallsBack left ≡ false
+unfolding fallsBack fallsAfter
+back-end [] e = refl
+back-end (b ∷ bs) e = rw e refl

@@ -1,7 +1,8 @@
 -- Bands in a flat list of numbers, two a band: rule B1.
-use mathlib.Core.List.{List, [], _∷_}
+use mathlib.Core.List.{List}
 use Prim.Native.Nat.{ℕ, _+_, _*_}
 use lib.ListN.{getD}
+use Rattle.lists.specs.Entries.{twos}
 use Rattle.price.specs.declared.Band.{Band}
 
 -- B1: a band by its limit and its rate
@@ -10,9 +11,8 @@ band l r = record { limit = l; rate = r }
 
 -- the bands that a flat list holds; a number left over at its end is no band
 unfoldable pub bandsOf : List ℕ → List Band
-bandsOf [] = []
-bandsOf (l ∷ []) = []
-bandsOf (l ∷ (r ∷ rest)) = band l r ∷ bandsOf rest
+unfolding twos
+bandsOf s = twos band s
 
 -- the band that begins at the number k of a flat list, and the i-th band
 abbrev pub bandFrom : List ℕ → ℕ → Band

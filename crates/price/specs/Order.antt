@@ -1,4 +1,4 @@
--- What it means that a bureau keeps its list in order: rule B5. In words, over all bands further down, and as a test of neighbours.
+-- Lists kept in order: rule B5. In words, over all bands further down, and as a test of neighbours, which is what a price runs: rule C37.
 use mathlib.Core.Bool.{Bool, false, not, _||_}
 use mathlib.Core.List.{List, [], _∷_}
 use Prim.Native.Nat.{_<_, _≤_}
@@ -30,7 +30,7 @@ unfoldable pub fallsAfter : Band → List Band → Bool
 fallsAfter b [] = false
 fallsAfter b (c ∷ cs) = stepsBack b c || fallsAfter c cs
 
--- the test: it is false exactly where the list is `WellKept` (proofs/OrderLaws.antt)
+-- C37: the test. It is false exactly where the list is `WellKept` (proofs/OrderLaws.antt)
 unfoldable pub fallsBack : List Band → Bool
 fallsBack [] = false
 fallsBack (b ∷ bs) = fallsAfter b bs

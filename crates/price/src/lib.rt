@@ -1,7 +1,8 @@
 // The price of a net's metal by the list of bands that a bureau lends, two numbers a band.
 //
-// The list is tested before a charge is worked out: a rate above the highest one is refused wherever it stands (31), so that no product
-// can overflow. Limits are compared and never multiplied: they may be any numbers of 64 bits.
+// The list is tested before a charge is worked out. A rate above the highest one is refused wherever it stands (31), so that no product
+// can overflow; a list that falls back is refused wherever it does (37), so that more metal is never charged less. Limits are compared and
+// never multiplied: they may be any numbers of 64 bits.
 use net::Refusal;
 ghost use mathlib.Core.Path.{_≡_};
 ghost use mathlib.Core.Bool.{false};
@@ -10,6 +11,7 @@ ghost use lib.ListN.{length};
 ghost use Rattle.lists.specs.Any.{any};
 ghost use Rattle.price.specs.Band.{bandsOf, bandAt};
 ghost use Rattle.price.specs.Charge.{rateBound, metalBound, charge, reaches, byFirst};
+ghost use Rattle.price.specs.Order.{stepsBack, fallsBack};
 ghost use Rattle.price.specs.Price.{bandsMiscounted, rateAbove, priced, toldPrice};
 
 // The highest rate.
@@ -69,6 +71,28 @@ fn any_rate_above(bands: &[u64]) -> bool
     false
 }
 
+// Whether a band falls back from the one before it: its limit is not above, or its rate is below.
+fn is_step_back(before: Band, band: Band) -> bool
+    ensures { λ r. ⌜ r ≡ stepsBack before band ⌝ }
+{
+    !(before.limit < band.limit) | (band.rate < before.rate)
+}
+
+// Whether the list falls back at any band, used or not.
+fn any_step_back(bands: &[u64]) -> bool
+    ensures { λ r. ⌜ r ≡ fallsBack (bandsOf (now (bands .entry))) ⌝ }
+{
+    let k = bands.len() / 2;
+    let mut i = 0;
+    while i + 1 < k {
+        if is_step_back(band_at(bands, i), band_at(bands, i + 1)) {
+            return true;
+        }
+        i += 1;
+    }
+    false
+}
+
 fn is_reaching(metal: u64, band: Band) -> bool
     ensures { λ r. ⌜ r ≡ reaches metal band ⌝ }
 {
@@ -113,7 +137,7 @@ fn by_first(metal: u64, bands: &[u64]) -> Priced
     Priced::Refused(Refusal::Reach)
 }
 
-// The charge for so much metal by a list of bands: 31, then 32, then the charge.
+// The charge for so much metal by a list of bands: 31, then 37, then 32, then the charge.
 pub fn price(metal: u64, bands: &[u64]) -> Priced
     requires { ⌜ metal ≤ metalBound ⌝ }
     ensures { λ r. ⌜ toldPrice r ≡ priced metal (now (bands .entry)) ⌝ }
@@ -123,6 +147,9 @@ pub fn price(metal: u64, bands: &[u64]) -> Priced
     }
     if any_rate_above(bands) {
         return Priced::Refused(Refusal::Bands);
+    }
+    if any_step_back(bands) {
+        return Priced::Refused(Refusal::BandOrder);
     }
     by_first(metal, bands)
 }

@@ -9,12 +9,10 @@ use Rattle.lent.proofs.AfterLaws.{told-apart}
 use Rattle.net.specs.declared.Net.{Net as Counts}
 use Rattle.net.specs.declared.Weighing.{Weighing}
 use Rattle.net.specs.Check.{checked}
-use Rattle.price.specs.Band.{bandsOf}
-use Rattle.price.specs.Order.{NeverFalling}
 use Rattle.price.specs.Price.{priced}
 use Rattle.price.proofs.LongerLaws as longer
 use Rattle.router.specs.Refined.{metalOf}
-use Rattle.router.specs.Price.{netPrice, NeverLess, LongerNeverLess}
+use Rattle.router.specs.Price.{netPrice, NeverLess}
 use Rattle.router.proofs.AnswerLaws.{only-given}
 
 -- an answer that is given is the next one's
@@ -35,11 +33,7 @@ module _ (w : Weighing) (pins macros : List ℤ) where
   unfolding netPrice
   charged-by bands h e = given-past (checked w pins macros) (priced (metalOf w pins macros) bands) h e
 
--- B6: the stronger form asks only that rates never fall
-pub never-less-by-rates : (bands : List ℕ) → NeverFalling (bandsOf bands) → NeverLess bands
-never-less-by-rates bands never w w′ pins macros pins′ macros′ h h′ more e f =
-    longer.longer-by-rates more bands never (charged-by w pins macros bands h e) (charged-by w′ pins′ macros′ bands h′ f)
-
--- B6, with the premise as document 02 has it
-pub never-less : LongerNeverLess
-never-less bands kept = never-less-by-rates bands (kept .never-falling)
+-- B6: by every list, with no premise
+pub never-less : (bands : List ℕ) → NeverLess bands
+never-less bands w w′ pins macros pins′ macros′ h h′ more e f =
+    longer.longer-never-less more bands (charged-by w pins macros bands h e) (charged-by w′ pins′ macros′ bands h′ f)

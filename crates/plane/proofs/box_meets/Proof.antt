@@ -9,12 +9,6 @@ use Rattle.plane.specs.Macro.{spanMeets, meets}
 use Rattle.plane.proofs.box_meets.Statement.{statement}
 use Rattle.plane.proofs.box_meets.Tie as tie
 
-span-meets-requires : tie.Need-span-meets-requires
-span-meets-requires c κs = search needs
-
-span-meets-requires-2 : tie.Need-span-meets-requires-2
-span-meets-requires-2 c κs = search needs
-
 -- every field fits an i32
 module _ (s : tie.Start) where
   of-a : SFits w32 (s .args .a .x) × SFits w32 (s .args .a .y)
@@ -44,4 +38,4 @@ unfolding meets
 returns-2 c = rw (← across (c .before), c .if1 .left) refl
 
 pub box-meets-spec : {M : Type 1} → statement M
-box-meets-spec = tie.close (tie.spec span-meets-requires span-meets-requires-2 returns returns-2)
+box-meets-spec = tie.close (tie.spec (λ c κs. search needs) (λ c κs. search needs) returns returns-2)

@@ -12,18 +12,6 @@ use Rattle.plane.proofs.Fits.{PlaceFits}
 use Rattle.plane.proofs.cost.Statement.{statement}
 use Rattle.plane.proofs.cost.Tie as tie
 
-gap-requires : tie.Need-gap-requires
-gap-requires c κs = search needs
-
-axis-cost-requires : tie.Need-axis-cost-requires
-axis-cost-requires c κs = search needs
-
-gap-requires-2 : tie.Need-gap-requires-2
-gap-requires-2 c κs = search needs
-
-axis-cost-requires-2 : tie.Need-axis-cost-requires-2
-axis-cost-requires-2 c κs = search needs
-
 module _ (s : tie.Start) where
   of-a : PlaceFits (s .args .a)
   of-a = record { x = search needs; y = search needs }
@@ -48,9 +36,6 @@ along c =
     ∙ ap (λ (n : ℕ). n * s .args .w .along)
     (rw (toZ-ofZ w32 _ (of-a s .y), toZ-ofZ w32 _ (of-b s .y)) at (c .before .gap2 .ensures .0))
 
-add-result : tie.Need-add-result
-add-result c = search needs
-
 returns : tie.Need-returns
 unfolding cost
 returns c =
@@ -60,4 +45,4 @@ returns c =
 pub cost-spec : {M : Type 1} → statement M
 cost-spec =
     tie.close
-    (tie.spec gap-requires axis-cost-requires gap-requires-2 axis-cost-requires-2 add-result returns)
+    (tie.spec (λ c κs. search needs) (λ c κs. search needs) (λ c κs. search needs) (λ c κs. search needs) (λ c. search needs) returns)

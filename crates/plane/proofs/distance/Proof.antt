@@ -10,12 +10,6 @@ use Rattle.plane.proofs.Fits.{PlaceFits}
 use Rattle.plane.proofs.distance.Statement.{statement}
 use Rattle.plane.proofs.distance.Tie as tie
 
-gap-requires : tie.Need-gap-requires
-gap-requires c κs = search needs
-
-gap-requires-2 : tie.Need-gap-requires-2
-gap-requires-2 c κs = search needs
-
 module _ (s : tie.Start) where
   of-a : PlaceFits (s .args .a)
   of-a = record { x = search needs; y = search needs }
@@ -35,12 +29,9 @@ along c =
     let s = c .before .before .before .before .before .before in
     rw (toZ-ofZ w32 _ (of-a s .y), toZ-ofZ w32 _ (of-b s .y)) at (c .gap2 .ensures .0)
 
-add-result : tie.Need-add-result
-add-result c = search needs
-
 returns : tie.Need-returns
 unfolding distance
 returns c = ap₂ _+_ (across (c .before .before .before)) (along c)
 
 pub distance-spec : {M : Type 1} → statement M
-distance-spec = tie.close (tie.spec gap-requires gap-requires-2 add-result returns)
+distance-spec = tie.close (tie.spec (λ c κs. search needs) (λ c κs. search needs) (λ c. search needs) returns)

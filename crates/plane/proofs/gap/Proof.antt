@@ -12,9 +12,6 @@ use Rattle.plane.proofs.DistanceLaws.{difference-fits, apart-fits}
 use Rattle.plane.proofs.gap.Statement.{statement}
 use Rattle.plane.proofs.gap.Tie as tie
 
-difference-requires : tie.Need-difference-requires
-difference-requires c κs = search needs
-
 -- what the machine reads back of the difference
 read-back : (c : tie.After-difference) → toZ w64 (ofZ w64 (c .difference .result)) ≡ c .before .args .a -ℤ c .before .args .b
 read-back c =
@@ -46,4 +43,4 @@ returns c =
     (d, rw d (apart-fits _ _ (s .fits .a) (s .fits .b)))
 
 pub gap-spec : {M : Type 1} → statement M
-gap-spec = tie.close (tie.spec difference-requires absolute-requires cast-result returns)
+gap-spec = tie.close (tie.spec (λ c κs. search needs) absolute-requires cast-result returns)

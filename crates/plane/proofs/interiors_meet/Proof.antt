@@ -10,12 +10,6 @@ use Rattle.plane.specs.Macro.{openSpansMeet, interiorsMeet}
 use Rattle.plane.proofs.interiors_meet.Statement.{statement}
 use Rattle.plane.proofs.interiors_meet.Tie as tie
 
-open-spans-meet-requires : tie.Need-open-spans-meet-requires
-open-spans-meet-requires c κs = search needs
-
-open-spans-meet-requires-2 : tie.Need-open-spans-meet-requires-2
-open-spans-meet-requires-2 c κs = search needs
-
 record Fit (m : Macro) : Type 0 where
   l : SFits w32 (m .left)
   r : SFits w32 (m .right)
@@ -46,4 +40,4 @@ unfolding interiorsMeet
 returns-2 c = rw (← across (c .before), c .if1 .left) refl
 
 pub interiors-meet-spec : {M : Type 1} → statement M
-interiors-meet-spec = tie.close (tie.spec open-spans-meet-requires open-spans-meet-requires-2 returns returns-2)
+interiors-meet-spec = tie.close (tie.spec (λ c κs. search needs) (λ c κs. search needs) returns returns-2)

@@ -21,15 +21,6 @@ Inv-loop a b macros k i₀ i = (i ≤ k) × (any (meets a b) (macrosOf macros) �
 abbrev μ-loop : tie.MeasureT-loop
 μ-loop a b macros k i₀ i = k - i
 
-loop-holds : tie.Need-loop-holds Inv-loop μ-loop
-loop-holds c = (omega arith, refl)
-
-macro-at-requires : tie.Need-macro-at-requires Inv-loop μ-loop
-macro-at-requires c κs = omega arith
-
-box-meets-requires : tie.Need-box-meets-requires Inv-loop μ-loop
-box-meets-requires c κs = tt
-
 -- what the call says, of the list
 met : (c : tie.After-box-meets Inv-loop μ-loop) → c .box-meets .result ≡ meets (c .before .before .before .before .args .a) (c .before .before .before .before .args .b) (macroAt (now (c .before .before .before .before .args .macros)) (c .before .before .before .loop .i))
 met c =
@@ -41,12 +32,6 @@ returns c =
     let l = c .before .before .before .before in
     let s = now (l .before .args .macros) in
     clear-is _ _ (macrosOf s) (l .loop .inv .1 ∙ any-hit _ _ _ _ (macros-next s (l .loop .i) (omega arith)) (sym (met (c .before)) ∙ c .if1 .taken))
-
-add-i : tie.Need-add-i Inv-loop μ-loop
-add-i c = omega arith
-
-loop-less : tie.Need-loop-less Inv-loop μ-loop
-loop-less c = omega arith
 
 loop-again : tie.Need-loop-again Inv-loop μ-loop
 loop-again c =
@@ -66,11 +51,11 @@ is-clear-spec =
     (tie.spec
     Inv-loop
     μ-loop
-    loop-holds
-    macro-at-requires
-    box-meets-requires
+    (λ c. (omega arith, refl))
+    (λ c κs. omega arith)
+    (λ c κs. tt)
     returns
-    add-i
-    loop-less
+    (λ c. omega arith)
+    (λ c. omega arith)
     loop-again
     returns-2)

@@ -10,18 +10,6 @@ use Rattle.plane.specs.Middle.{middle}
 use Rattle.plane.proofs.median.Statement.{statement}
 use Rattle.plane.proofs.median.Tie as tie
 
-smaller-requires : tie.Need-smaller-requires
-smaller-requires c κs = search needs
-
-greater-requires : tie.Need-greater-requires
-greater-requires c κs = search needs
-
-smaller-requires-2 : tie.Need-smaller-requires-2
-smaller-requires-2 c κs = search needs
-
-greater-requires-2 : tie.Need-greater-requires-2
-greater-requires-2 c κs = search needs
-
 low : (c : tie.After-smaller) → c .smaller .result ≡ minZ (c .before .args .a) (c .before .args .b)
 low c = rw (toZ-ofZ w32 _ (c .before .fits .a), toZ-ofZ w32 _ (c .before .fits .b)) at (c .smaller .ensures)
 
@@ -49,4 +37,4 @@ returns c =
 pub median-spec : {M : Type 1} → statement M
 median-spec =
     tie.close
-    (tie.spec smaller-requires greater-requires smaller-requires-2 greater-requires-2 returns)
+    (tie.spec (λ c κs. search needs) (λ c κs. search needs) (λ c κs. search needs) (λ c κs. search needs) returns)

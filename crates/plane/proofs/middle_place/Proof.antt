@@ -11,12 +11,6 @@ use Rattle.plane.proofs.Fits.{PlaceFits}
 use Rattle.plane.proofs.middle_place.Statement.{statement}
 use Rattle.plane.proofs.middle_place.Tie as tie
 
-median-requires : tie.Need-median-requires
-median-requires c κs = search needs
-
-median-requires-2 : tie.Need-median-requires-2
-median-requires-2 c κs = search needs
-
 module _ (s : tie.Start) where
   of-a : PlaceFits (s .args .a)
   of-a = record { x = search needs; y = search needs }
@@ -37,4 +31,4 @@ returns c =
     (toZ-ofZ w32 _ (search needs) ∙ (rw (toZ-ofZ w32 _ (of-a s .y), toZ-ofZ w32 _ (of-b s .y), toZ-ofZ w32 _ (of-u s .y)) at (c .median2 .ensures)))
 
 pub middle-place-spec : {M : Type 1} → statement M
-middle-place-spec = tie.close (tie.spec median-requires median-requires-2 returns)
+middle-place-spec = tie.close (tie.spec (λ c κs. search needs) (λ c κs. search needs) returns)

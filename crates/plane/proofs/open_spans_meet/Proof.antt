@@ -10,12 +10,6 @@ use Rattle.plane.specs.Macro.{openSpansMeet}
 use Rattle.plane.proofs.open_spans_meet.Statement.{statement}
 use Rattle.plane.proofs.open_spans_meet.Tie as tie
 
-greater-requires : tie.Need-greater-requires
-greater-requires c κs = search needs
-
-smaller-requires : tie.Need-smaller-requires
-smaller-requires c κs = search needs
-
 returns : tie.Need-returns
 unfolding openSpansMeet
 returns c =
@@ -27,4 +21,4 @@ returns c =
     rw (toZ-ofZ w32 _ gf, toZ-ofZ w32 _ mf, g, m) refl
 
 pub open-spans-meet-spec : {M : Type 1} → statement M
-open-spans-meet-spec = tie.close (tie.spec greater-requires smaller-requires returns)
+open-spans-meet-spec = tie.close (tie.spec (λ c κs. search needs) (λ c κs. search needs) returns)

@@ -14,12 +14,6 @@ use Rattle.plane.specs.Macro.{spanMeets}
 use Rattle.plane.proofs.span_meets.Statement.{statement}
 use Rattle.plane.proofs.span_meets.Tie as tie
 
-smaller-requires : tie.Need-smaller-requires
-smaller-requires c κs = search needs
-
-greater-requires : tie.Need-greater-requires
-greater-requires c κs = search needs
-
 small-is : (c : tie.After-smaller) → c .smaller .result ≡ minZ (c .before .args .a) (c .before .args .b)
 small-is c = rw (toZ-ofZ w32 _ (c .before .fits .a), toZ-ofZ w32 _ (c .before .fits .b)) at (c .smaller .ensures)
 
@@ -45,4 +39,4 @@ returns-2 c =
     c .if1 .left ∙ rw t refl
 
 pub span-meets-spec : {M : Type 1} → statement M
-span-meets-spec = tie.close (tie.spec smaller-requires greater-requires returns returns-2)
+span-meets-spec = tie.close (tie.spec (λ c κs. search needs) (λ c κs. search needs) returns returns-2)

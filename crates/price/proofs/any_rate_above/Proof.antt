@@ -19,15 +19,6 @@ Inv-loop bands k i₀ i = (i ≤ k) × (any rateAbove (bandsOf bands) ≡ any ra
 abbrev μ-loop : tie.MeasureT-loop
 μ-loop bands k i₀ i = k - i
 
-loop-holds : tie.Need-loop-holds Inv-loop μ-loop
-loop-holds c = (omega arith, refl)
-
-band-at-requires : tie.Need-band-at-requires Inv-loop μ-loop
-band-at-requires c κs = omega arith
-
-is-rate-above-requires : tie.Need-is-rate-above-requires Inv-loop μ-loop
-is-rate-above-requires c κs = tt
-
 -- what the call says, of the list
 told : (c : tie.After-is-rate-above Inv-loop μ-loop)
     → c .is-rate-above .result
@@ -39,12 +30,6 @@ returns c =
     let l = c .before .before .before .before in
     let next = bands-next (now (l .before .before .args .bands)) (l .loop .i) (omega arith) in
     sym (l .loop .inv .1 ∙ any-hit rateAbove _ _ _ next (sym (told (c .before)) ∙ c .if1 .taken))
-
-add-i : tie.Need-add-i Inv-loop μ-loop
-add-i c = omega arith
-
-loop-less : tie.Need-loop-less Inv-loop μ-loop
-loop-less c = omega arith
 
 loop-again : tie.Need-loop-again Inv-loop μ-loop
 loop-again c =
@@ -63,11 +48,11 @@ any-rate-above-spec =
     (tie.spec
     Inv-loop
     μ-loop
-    loop-holds
-    band-at-requires
-    is-rate-above-requires
+    (λ c. (omega arith, refl))
+    (λ c κs. omega arith)
+    (λ c κs. tt)
     returns
-    add-i
-    loop-less
+    (λ c. omega arith)
+    (λ c. omega arith)
     loop-again
     returns-2)

@@ -33,12 +33,6 @@ abbrev μ-loop : tie.MeasureT-loop
 loop-holds : tie.Need-loop-holds Inv-loop μ-loop
 loop-holds c = (omega arith, (refl, c .before .pre .1))
 
-band-at-requires : tie.Need-band-at-requires Inv-loop μ-loop
-band-at-requires c κs = omega arith
-
-is-reaching-requires : tie.Need-is-reaching-requires Inv-loop μ-loop
-is-reaching-requires c κs = tt
-
 -- the next band of the scan
 next : (l : tie.At-loop Inv-loop μ-loop) → l .loop .i * 2 + 2 ≤ length (now (l .before .before .args .bands))
     → drop (l .loop .i) (bandsOf (now (l .before .before .args .bands)))
@@ -69,12 +63,6 @@ returns c =
     ap (λ (h : ℕ). given h) (c .charge .ensures ∙ ap (λ (d : Band). charge metal (d .rate)) b)
     ∙ sym (l .loop .inv .1 .0 ∙ first-hit metal _ _ _ (next l (omega arith)) (sym (told (t .before)) ∙ t .if1 .taken))
 
-add-i : tie.Need-add-i Inv-loop μ-loop
-add-i c = omega arith
-
-loop-less : tie.Need-loop-less Inv-loop μ-loop
-loop-less c = omega arith
-
 loop-again : tie.Need-loop-again Inv-loop μ-loop
 loop-again c =
     let l = c .before .before .before .before in
@@ -101,11 +89,11 @@ by-first-spec =
     Inv-loop
     μ-loop
     loop-holds
-    band-at-requires
-    is-reaching-requires
+    (λ c κs. omega arith)
+    (λ c κs. tt)
     charge-requires
     returns
-    add-i
-    loop-less
+    (λ c. omega arith)
+    (λ c. omega arith)
     loop-again
     returns-2)

@@ -16,9 +16,6 @@ mul-whole c = omega (arith, thousands-fit (c .args .metal) (c .args .rate) (c .p
 add-whole : tie.Need-add-whole
 add-whole c = omega (arith, whole-fits (c .args .metal) (c .args .rate) (c .pre .0) (c .pre .1))
 
-mul-over : tie.Need-mul-over
-mul-over c = search needs
-
 returns : tie.Need-returns
 returns c = charge-down (c .before .args .metal) (c .before .args .rate) (c .if1 .taken)
 
@@ -46,4 +43,4 @@ returns-4 c =
 pub charge-spec : {M : Type 1} → statement M
 charge-spec =
     tie.close
-    (tie.spec mul-part mul-whole add-whole mul-over returns add-result returns-2 returns-3 add-result-2 returns-4)
+    (tie.spec mul-part mul-whole add-whole (λ c. search needs) returns add-result returns-2 returns-3 add-result-2 returns-4)

@@ -1,4 +1,5 @@
--- `price::price` meets its contract: 31 by either test over the whole list, then what the first band that reaches the metal says.
+-- `price::price` meets its contract: 31 by either test over the whole list, 37 over the whole list, then what the first band that reaches the
+-- metal says.
 -- Assumes nothing.
 use borrow.Author.Needs.{needs}
 use mathlib.Core.Path.{_≡_, sym, _∙_}
@@ -8,7 +9,7 @@ use Rattle.lists.specs.Any.{any}
 use Rattle.net.specs.Answer.{number}
 use Rattle.price.specs.Band.{bandsOf}
 use Rattle.price.specs.Price.{bandsMiscounted, rateAbove, toldPrice}
-use Rattle.price.proofs.PriceLaws.{price-miscounted, price-above, price-first}
+use Rattle.price.proofs.PriceLaws.{Passed, price-miscounted, price-above, price-back, price-first}
 use Rattle.price.proofs.price.Statement.{statement}
 use Rattle.price.proofs.price.Tie as tie
 
@@ -20,33 +21,41 @@ counted c = sym (c .before .bands-miscounted .ensures) ∙ c .if1 .left
 low : (c : tie.Else2) → any rateAbove (bandsOf (now (c .before .before .before .before .before .args .bands))) ≡ false
 low c = sym (c .before .any-rate-above .ensures) ∙ c .if2 .left
 
-bands-miscounted-requires : tie.Need-bands-miscounted-requires
-bands-miscounted-requires c κs = search needs
+-- and it does not fall back
+passed : (c : tie.Else3) → Passed (now (c .before .before .before .before .before .before .before .args .bands))
+passed c =
+    let d = c .before .before in
+    record { counted = counted (d .before .before); low = low d; onward = sym (c .before .any-step-back .ensures) ∙ c .if3 .left }
 
 returns : tie.Need-returns
 unfolding toldPrice number
 returns c = sym (price-miscounted _ _ (sym (c .before .bands-miscounted .ensures) ∙ c .if1 .taken))
 
-any-rate-above-requires : tie.Need-any-rate-above-requires
-any-rate-above-requires c κs = search needs
-
 returns-2 : tie.Need-returns-2
 unfolding toldPrice number
 returns-2 c = sym (price-above _ _ (counted (c .before .before)) (sym (c .before .any-rate-above .ensures) ∙ c .if2 .taken))
 
-by-first-requires : tie.Need-by-first-requires
-by-first-requires c κs = (c .before .before .before .before .before .pre, low c)
-
 returns-3 : tie.Need-returns-3
-returns-3 c = c .by-first .ensures ∙ sym (price-first _ _ (counted (c .before .before .before)) (low (c .before)))
+unfolding toldPrice number
+returns-3 c =
+    let d = c .before .before in
+    sym (price-back _ _ (counted (d .before .before)) (low d) (sym (c .before .any-step-back .ensures) ∙ c .if3 .taken))
+
+by-first-requires : tie.Need-by-first-requires
+by-first-requires c κs = (c .before .before .before .before .before .before .before .pre, low (c .before .before))
+
+returns-4 : tie.Need-returns-4
+returns-4 c = c .by-first .ensures ∙ sym (price-first _ _ (passed (c .before)))
 
 pub price-spec : {M : Type 1} → statement M
 price-spec =
     tie.close
     (tie.spec
-    bands-miscounted-requires
+    (λ c κs. search needs)
     returns
-    any-rate-above-requires
+    (λ c κs. search needs)
     returns-2
+    (λ c κs. search needs)
+    returns-3
     by-first-requires
-    returns-3)
+    returns-4)
