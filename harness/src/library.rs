@@ -68,6 +68,18 @@ extern "C" {
         count: *mut usize,
     ) -> i32;
 
+    pub fn calzundi_grid_distances(
+        pins: *const i32,
+        pins_len: usize,
+        macros: *const i32,
+        macros_len: usize,
+        weight_x: i32,
+        weight_y: i32,
+        table: *mut i64,
+        table_len: usize,
+        count: *mut usize,
+    ) -> i32;
+
     pub fn calzundi_price(
         pins: *const i32,
         pins_len: usize,
@@ -252,6 +264,31 @@ pub fn wires(
             weights.y,
             wires.as_mut_ptr(),
             wires.len(),
+            &mut count,
+        )
+    };
+    answer(code, &[count], count)
+}
+
+/// "True distance on the grid": how many numbers were given.
+pub fn grid_distances(
+    pins: &[i32],
+    macros: &[i32],
+    weights: Weights,
+    table: &mut [i64],
+) -> Result<usize, u32> {
+    let mut count = UNTOUCHED;
+    // SAFETY: as for `graph`.
+    let code = unsafe {
+        calzundi_grid_distances(
+            pins.as_ptr(),
+            pins.len(),
+            macros.as_ptr(),
+            macros.len(),
+            weights.x,
+            weights.y,
+            table.as_mut_ptr(),
+            table.len(),
             &mut count,
         )
     };

@@ -14,7 +14,9 @@ pub const MACROS: usize = 16;
 /// order of places."
 pub fn distances(net: &Net) -> Vec<i64> {
     let (xs, ys) = lines(net);
-    table(net, |from| search(from, |place| grid_steps(net, &xs, &ys, place)))
+    table(net, |from| {
+        search(from, |place| grid_steps(net, &xs, &ys, place))
+    })
 }
 
 /// The same table by "walks in unit steps, each clear of the interiors", over all whole places at
@@ -22,9 +24,17 @@ pub fn distances(net: &Net) -> Vec<i64> {
 /// 0 would do; a larger one shows it.
 pub fn distances_by_units(net: &Net, margin: i64) -> Vec<i64> {
     let (xs, ys) = lines(net);
-    let low = Place { x: xs[0] - margin, y: ys[0] - margin };
-    let high = Place { x: xs[xs.len() - 1] + margin, y: ys[ys.len() - 1] + margin };
-    table(net, |from| search(from, |place| unit_steps(net, low, high, place)))
+    let low = Place {
+        x: xs[0] - margin,
+        y: ys[0] - margin,
+    };
+    let high = Place {
+        x: xs[xs.len() - 1] + margin,
+        y: ys[ys.len() - 1] + margin,
+    };
+    table(net, |from| {
+        search(from, |place| unit_steps(net, low, high, place))
+    })
 }
 
 /// A row for each pin in the order of places, each with a number for each pin in that order.
@@ -43,8 +53,13 @@ fn table(net: &Net, costs_from: impl Fn(Place) -> BTreeMap<Place, i64>) -> Vec<i
 fn lines(net: &Net) -> (Vec<i64>, Vec<i64>) {
     let pins = net.pins().iter();
     let macros = net.macros().iter();
-    let xs = pins.clone().map(|p| p.x).chain(macros.clone().flat_map(|m| [m.left, m.right]));
-    let ys = pins.map(|p| p.y).chain(macros.flat_map(|m| [m.bottom, m.top]));
+    let xs = pins
+        .clone()
+        .map(|p| p.x)
+        .chain(macros.clone().flat_map(|m| [m.left, m.right]));
+    let ys = pins
+        .map(|p| p.y)
+        .chain(macros.flat_map(|m| [m.bottom, m.top]));
     (in_order(xs), in_order(ys))
 }
 
@@ -72,7 +87,10 @@ fn beside(lines: &[i64], line: i64) -> impl Iterator<Item = i64> + '_ {
 /// One unit along one axis, within a box.
 fn unit_steps(net: &Net, low: Place, high: Place, at: Place) -> Vec<(Place, i64)> {
     let steps = [(1, 0), (-1, 0), (0, 1), (0, -1)]
-        .map(|(x, y)| Place { x: at.x + x, y: at.y + y })
+        .map(|(x, y)| Place {
+            x: at.x + x,
+            y: at.y + y,
+        })
         .into_iter()
         .filter(move |to| (low.x..=high.x).contains(&to.x) && (low.y..=high.y).contains(&to.y));
     priced(net, at, steps)
@@ -123,14 +141,15 @@ mod tests {
         assert_eq!(table, distances_by_units(&net, 2));
     }
 
-    /// A pin in a notch that touching macros leave open at one side only.
+    /// A pin in a notch between three macros that touch: down a side that two of them share, and not
+    /// out at the open side.
     #[test]
     fn out_of_a_notch() {
         let macros = [0, 0, 2, 6, 4, 0, 6, 6, 2, 0, 4, 2];
         let net = net(&[3, 3, 3, -2], &macros, 1, 1);
         let table = distances(&net);
         assert_eq!(table, distances_by_units(&net, 3));
-        assert_eq!(table[1], 5);
+        assert_eq!(table[1], 7);
     }
 
     /// Along the sides that touching macros share, weights 1 and 8.
