@@ -1,6 +1,6 @@
 -- The distances on the grid among the operations: the answer by its cases, and what is promised of the table of an allowed net.
 -- Assumes nothing.
-use mathlib.Core.Path.{_≡_, refl, sym, ap, _∙_}
+use mathlib.Core.Path.{_≡_, refl, sym, ap, ap₂, _∙_}
 use mathlib.Core.Bool.{true, false, _||_}
 use mathlib.Core.List.{List}
 use Prim.Native.Nat.{ℕ, _*_, _≤_, _<_}
@@ -52,3 +52,9 @@ promised-distances w pins macros {v} g =
       table-only = λ t u s r. squares-same (weightsOf w)
           (record { to = λ p m. m; from = λ p m. m; count = refl; clears = λ x y. refl }) a a t u s r;
     }
+
+-- the test of the code, by what the check has counted
+pub above-of : (pins macros : List ℤ) (m k : ℕ) → m ≡ pinCount pins → k ≡ macroCount macros →
+    (ltb gridPins m || ltb gridMacros k) ≡ aboveGrid pins macros
+unfolding aboveGrid
+above-of pins macros m k e f = ap₂ (λ (a b : ℕ). ltb gridPins a || ltb gridMacros b) e f
