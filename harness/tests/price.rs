@@ -55,7 +55,7 @@ fn price_on_twenty_thousand_nets_and_lists() {
 /// What the library and the second program say of a net with so much metal by a list.
 fn by_both(metal: u64, list: &[u64]) -> [Result<u64, u32>; 2] {
     let pins = net_of(metal);
-    [library::price, operations::price].map(|price| price(&pins, &[], list))
+    [library::price, operations::price].map(|price| price(&pins, &[], Weights::ONE, list))
 }
 
 /// Lists in order, each broken at one place but for every eighth: the answer of both programs, and the refusal that the kind names.

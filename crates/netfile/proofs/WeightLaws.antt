@@ -50,6 +50,9 @@ module _ (n : ℕ) where
 
 -- Both weights of a file
 
+abbrev pub twoWeights : ℕ → ℕ → Weights
+twoWeights a b = record { across = a; along = b }
+
 -- where the two words stand in the file that the layout makes
 module _ (w : Weights) (pins macros : List ℤ) (within : Weighted w) where
   first-word : headWord firstWeightWord (fileBytes w pins macros) ≡ weightWord (w .across)
@@ -62,11 +65,8 @@ module _ (w : Weights) (pins macros : List ℤ) (within : Weighted w) where
 
   pub weights-read : weightsIn (fileBytes w pins macros) ≡ w
   weights-read =
-      ap₂ weights (ap weightIn first-word ∙ weight-back (w .across) (within .positive .across))
+      ap₂ twoWeights (ap weightIn first-word ∙ weight-back (w .across) (within .positive .across))
       (ap weightIn second-word ∙ weight-back (w .along) (within .positive .along))
-    where
-      weights : ℕ → ℕ → Weights
-      weights a b = record { across = a; along = b }
 
   pub weights-written : weightsMiswritten (fileBytes w pins macros) ≡ false
   unfolding weightsMiswritten

@@ -1,11 +1,11 @@
 -- The net file: what a file holds, byte for byte, and what its writer and its reader answer.
 --
 -- A file is a list of bytes, a byte is a natural below 256, a word one below 2^32. The layout is one definition, `fileBytes w pins macros`:
--- the head's block, the blocks of the pins and those of the macros, each 128 words, low byte first. The head has how many there are, and the
--- two weights, of which 1 is written as 0: so nets that know no weights have the files that they had before there were any
--- (../proofs/FirstRelease.antt). Pins and macros are flat lists of coordinates, and a block holds 120 of them, 60 pins or 30 macros; so one
--- definition of a list's blocks serves both kinds. The format's own numbers stand in Sizes, each once; the longest file and what a read asks
--- to be lent follow there from them and from the net's bounds.
+-- the head's block, the blocks of the pins and those of the macros, each 128 words, low byte first. The head has how many there are and
+-- the two weights, of which 1 is written as 0: so a net with both weights 1 has the file that it had before there were any
+-- (../proofs/FirstRelease.antt). Pins and macros are flat lists of coordinates, and a block holds 120 of them, 60 pins or 30 macros; so
+-- one definition of a list's blocks serves both kinds. The format's own numbers stand in Sizes, each once; the longest file and what a
+-- read asks to be lent follow there from them and from the net's bounds.
 -- Reading is defined by writing: a file gives two weights and two lists (as many numbers as its head says, at their places), and its layout
 -- is right exactly when it is the file that the layout makes of these. That each accepted file is what the writer makes of the net read is
 -- then the definition, and that reading gives back what was written is a theorem (../proofs/RoundTrip.antt). So a written 1 needs no test:

@@ -169,7 +169,7 @@ fn coordinate_of(w: u32) -> i32
     (w as i64 - 4294967296) as i32
 }
 
-// The word of a weight.
+// The word of a weight: 0 for 1, so that a net with both weights 1 has the file that it had before there were weights.
 fn weight_word(weight: u8) -> u32
     ensures { λ r. ⌜ r ≡ weightWord weight ⌝ }
 {
@@ -179,7 +179,7 @@ fn weight_word(weight: u8) -> u32
     weight as u32
 }
 
-// The weight that a word stands for.
+// The weight that a word of the head stands for.
 fn weight_of(word: usize) -> u8
     requires { ⌜ word ≤ weightBound ⌝ }
     ensures { λ r. ⌜ r ≡ weightIn word ⌝ }
@@ -434,7 +434,7 @@ fn counts_wrong(bytes: &[u8]) -> bool
     bytes.len() / BLOCK_BYTES != 1 + pin_blocks + macro_blocks
 }
 
-// One of the words that stand for weights is above the greatest weight.
+// A word that stands for a weight is above the greatest. A written 1 is found with the layout: the file made anew has a 0 there.
 fn weights_miswritten(bytes: &[u8]) -> bool
     requires { ⌜ blockBytes ≤ length (now bytes) ⌝ }
     ensures { λ r. ⌜ r ≡ weightsMiswritten (now (bytes .entry)) ⌝ }

@@ -15,21 +15,6 @@ use Rattle.exports.proofs.HandedLaws.{read-back}
 use Rattle.exports.proofs.calzundi_check.Statement.{statement}
 use Rattle.exports.proofs.calzundi_check.Tie as tie
 
-weighing-requires : tie.Need-weighing-requires
-weighing-requires c κs = search needs
-
-check-requires : tie.Need-check-requires
-check-requires c κs = search needs
-
-enum-told : tie.Need-enum-told
-enum-told c = search needs
-
-enum-known-answer : tie.Need-enum-known-answer
-enum-known-answer c = search needs
-
-number-requires : tie.Need-number-requires
-number-requires c κs = search needs
-
 -- what the check says, of the weights as they were handed over
 said : (d : tie.After-check) → told (d .check .result) ≡ checked (weighing (d .before .before .args .x) (d .before .before .args .y))
     (now (d .before .before .args .pins)) (now (d .before .before .args .macros))
@@ -56,4 +41,4 @@ returns-2 c =
 pub calzundi-check-spec : {M : Type 1} → statement M
 calzundi-check-spec =
     tie.close
-    (tie.spec weighing-requires check-requires enum-told enum-known-answer number-requires returns returns-2)
+    (tie.spec (λ c κs. search needs) (λ c κs. search needs) (λ c. search needs) (λ c. search needs) (λ c κs. search needs) returns returns-2)

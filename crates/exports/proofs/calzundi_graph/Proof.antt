@@ -15,27 +15,6 @@ use borrow.Author.Needs.{needs}
 use Rattle.exports.proofs.calzundi_graph.Statement.{statement}
 use Rattle.exports.proofs.calzundi_graph.Tie as tie
 
-weighing-requires : tie.Need-weighing-requires
-weighing-requires c κs = search needs
-
-graph-requires : tie.Need-graph-requires
-graph-requires c κs = search needs
-
-enum-known-answer : tie.Need-enum-known-answer
-enum-known-answer c = search needs
-
-enum-known-answer-2 : tie.Need-enum-known-answer-2
-enum-known-answer-2 c = search needs
-
-number-requires : tie.Need-number-requires
-number-requires c κs = search needs
-
-same-length : tie.Need-same-length
-same-length c = search needs
-
-same-length-2 : tie.Need-same-length-2
-same-length-2 c = search needs
-
 abbrev start : tie.After-graph → tie.Start
 start d = d .before .before .before .before
 
@@ -63,12 +42,6 @@ returns c =
       edge-count = value-handed toldGraph (g .answer) i (λ counts. counts .1) _;
     }
 
-same-length-3 : tie.Need-same-length-3
-same-length-3 c = search needs
-
-same-length-4 : tie.Need-same-length-4
-same-length-4 c = search needs
-
 returns-2 : tie.Need-returns-2
 unfolding code valueAfter toldGraph
 returns-2 c =
@@ -87,14 +60,14 @@ pub calzundi-graph-spec : {M : Type 1} → statement M
 calzundi-graph-spec =
     tie.close
     (tie.spec
-    weighing-requires
-    graph-requires
-    enum-known-answer
-    enum-known-answer-2
-    number-requires
-    same-length
-    same-length-2
+    (λ c κs. search needs)
+    (λ c κs. search needs)
+    (λ c. search needs)
+    (λ c. search needs)
+    (λ c κs. search needs)
+    (λ c. search needs)
+    (λ c. search needs)
     returns
-    same-length-3
-    same-length-4
+    (λ c. search needs)
+    (λ c. search needs)
     returns-2)

@@ -15,21 +15,6 @@ use borrow.Author.Needs.{needs}
 use Rattle.exports.proofs.calzundi_price.Statement.{statement}
 use Rattle.exports.proofs.calzundi_price.Tie as tie
 
-weighing-requires : tie.Need-weighing-requires
-weighing-requires c κs = search needs
-
-price-requires : tie.Need-price-requires
-price-requires c κs = search needs
-
-enum-known-answer : tie.Need-enum-known-answer
-enum-known-answer c = search needs
-
-enum-known-answer-2 : tie.Need-enum-known-answer-2
-enum-known-answer-2 c = search needs
-
-number-requires : tie.Need-number-requires
-number-requires c κs = search needs
-
 abbrev start : tie.After-price → tie.Start
 start d = d .before .before .before
 
@@ -64,10 +49,10 @@ pub calzundi-price-spec : {M : Type 1} → statement M
 calzundi-price-spec =
     tie.close
     (tie.spec
-    weighing-requires
-    price-requires
-    enum-known-answer
-    enum-known-answer-2
-    number-requires
+    (λ c κs. search needs)
+    (λ c κs. search needs)
+    (λ c. search needs)
+    (λ c. search needs)
+    (λ c κs. search needs)
     returns
     returns-2)

@@ -13,27 +13,6 @@ use borrow.Author.Needs.{needs}
 use Rattle.exports.proofs.calzundi_read_file.Statement.{statement}
 use Rattle.exports.proofs.calzundi_read_file.Tie as tie
 
-read-file-requires : tie.Need-read-file-requires
-read-file-requires c κs = search needs
-
-enum-known-answer : tie.Need-enum-known-answer
-enum-known-answer c = search needs
-
-enum-known-answer-2 : tie.Need-enum-known-answer-2
-enum-known-answer-2 c = search needs
-
-handed-requires : tie.Need-handed-requires
-handed-requires c κs = search needs
-
-number-requires : tie.Need-number-requires
-number-requires c κs = search needs
-
-same-length : tie.Need-same-length
-same-length c = search needs
-
-same-length-2 : tie.Need-same-length-2
-same-length-2 c = search needs
-
 returns : tie.Need-returns
 unfolding code valueAfter told
 returns c =
@@ -53,12 +32,6 @@ returns c =
           toZ-ofZ w32 _ (search needs) ∙ ap (λ (z : Weighing). z .second) w
           ∙ value-handed told (g .answer) i (λ net. pos (net .weights .along)) _;
     }
-
-same-length-3 : tie.Need-same-length-3
-same-length-3 c = search needs
-
-same-length-4 : tie.Need-same-length-4
-same-length-4 c = search needs
 
 returns-2 : tie.Need-returns-2
 unfolding code valueAfter told
@@ -80,14 +53,14 @@ pub calzundi-read-file-spec : {M : Type 1} → statement M
 calzundi-read-file-spec =
     tie.close
     (tie.spec
-    read-file-requires
-    enum-known-answer
-    handed-requires
-    enum-known-answer-2
-    number-requires
-    same-length
-    same-length-2
+    (λ c κs. search needs)
+    (λ c. search needs)
+    (λ c κs. search needs)
+    (λ c. search needs)
+    (λ c κs. search needs)
+    (λ c. search needs)
+    (λ c. search needs)
     returns
-    same-length-3
-    same-length-4
+    (λ c. search needs)
+    (λ c. search needs)
     returns-2)

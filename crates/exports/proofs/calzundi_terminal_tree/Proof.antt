@@ -15,24 +15,6 @@ use borrow.Author.Needs.{needs}
 use Rattle.exports.proofs.calzundi_terminal_tree.Statement.{statement}
 use Rattle.exports.proofs.calzundi_terminal_tree.Tie as tie
 
-weighing-requires : tie.Need-weighing-requires
-weighing-requires c κs = search needs
-
-terminal-tree-requires : tie.Need-terminal-tree-requires
-terminal-tree-requires c κs = search needs
-
-enum-known-answer : tie.Need-enum-known-answer
-enum-known-answer c = search needs
-
-enum-known-answer-2 : tie.Need-enum-known-answer-2
-enum-known-answer-2 c = search needs
-
-number-requires : tie.Need-number-requires
-number-requires c κs = search needs
-
-same-length : tie.Need-same-length
-same-length c = search needs
-
 abbrev start : tie.After-terminal-tree → tie.Start
 start d = d .before .before .before
 
@@ -57,9 +39,6 @@ returns c =
       total = toZ-ofZ w64 _ (search needs) ∙ value-handed toldTerminal (g .answer) i (λ tree. tree .1) _;
     }
 
-same-length-2 : tie.Need-same-length-2
-same-length-2 c = search needs
-
 returns-2 : tie.Need-returns-2
 unfolding code valueAfter toldTerminal
 returns-2 c =
@@ -77,12 +56,12 @@ pub calzundi-terminal-tree-spec : {M : Type 1} → statement M
 calzundi-terminal-tree-spec =
     tie.close
     (tie.spec
-    weighing-requires
-    terminal-tree-requires
-    enum-known-answer
-    enum-known-answer-2
-    number-requires
-    same-length
+    (λ c κs. search needs)
+    (λ c κs. search needs)
+    (λ c. search needs)
+    (λ c. search needs)
+    (λ c κs. search needs)
+    (λ c. search needs)
     returns
-    same-length-2
+    (λ c. search needs)
     returns-2)

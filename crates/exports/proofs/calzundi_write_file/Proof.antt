@@ -15,24 +15,6 @@ use borrow.Author.Needs.{needs}
 use Rattle.exports.proofs.calzundi_write_file.Statement.{statement}
 use Rattle.exports.proofs.calzundi_write_file.Tie as tie
 
-weighing-requires : tie.Need-weighing-requires
-weighing-requires c κs = search needs
-
-write-file-requires : tie.Need-write-file-requires
-write-file-requires c κs = search needs
-
-enum-known-answer : tie.Need-enum-known-answer
-enum-known-answer c = search needs
-
-enum-known-answer-2 : tie.Need-enum-known-answer-2
-enum-known-answer-2 c = search needs
-
-number-requires : tie.Need-number-requires
-number-requires c κs = search needs
-
-same-length : tie.Need-same-length
-same-length c = search needs
-
 abbrev start : tie.After-write-file → tie.Start
 start d = d .before .before .before .before
 
@@ -56,9 +38,6 @@ returns c =
       count = value-handed toldBytes (g .answer) i (λ n. n) _;
     }
 
-same-length-2 : tie.Need-same-length-2
-same-length-2 c = search needs
-
 returns-2 : tie.Need-returns-2
 unfolding code valueAfter toldBytes
 returns-2 c =
@@ -75,12 +54,12 @@ pub calzundi-write-file-spec : {M : Type 1} → statement M
 calzundi-write-file-spec =
     tie.close
     (tie.spec
-    weighing-requires
-    write-file-requires
-    enum-known-answer
-    enum-known-answer-2
-    number-requires
-    same-length
+    (λ c κs. search needs)
+    (λ c κs. search needs)
+    (λ c. search needs)
+    (λ c. search needs)
+    (λ c κs. search needs)
+    (λ c. search needs)
     returns
-    same-length-2
+    (λ c. search needs)
     returns-2)

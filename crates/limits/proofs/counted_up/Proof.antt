@@ -23,18 +23,6 @@ loop-holds c = (omega arith, refl)
 cast-numbers : tie.Need-cast-numbers Inv-loop μ-loop
 cast-numbers c = record { sfits = omega arith }
 
-mul-numbers : tie.Need-mul-numbers Inv-loop μ-loop
-mul-numbers c = omega arith
-
-array-set-from-numbers : tie.Need-array-set-from-numbers Inv-loop μ-loop
-array-set-from-numbers c = omega arith
-
-add-i : tie.Need-add-i Inv-loop μ-loop
-add-i c = omega arith
-
-loop-less : tie.Need-loop-less Inv-loop μ-loop
-loop-less c = omega arith
-
 loop-again : tie.Need-loop-again Inv-loop μ-loop
 loop-again c = (omega arith, simp length-set (omega arith))
 
@@ -49,9 +37,9 @@ counted-up-spec =
     μ-loop
     loop-holds
     cast-numbers
-    mul-numbers
-    array-set-from-numbers
-    add-i
-    loop-less
+    (λ c. omega arith)
+    (λ c. omega arith)
+    (λ c. omega arith)
+    (λ c. omega arith)
     loop-again
     returns)

@@ -6,25 +6,10 @@ use borrow.Author.Needs.{needs}
 use Rattle.limits.proofs.pins.Statement.{statement}
 use Rattle.limits.proofs.pins.Tie as tie
 
-plain-requires : tie.Need-plain-requires
-plain-requires c κs = search needs
-
 slice-aggregate-check : tie.Need-slice-aggregate-check
 slice-aggregate-check c = sym (length-take-le _ _ (c .before .before .pre))
-
-slice-aggregate-check-2 : tie.Need-slice-aggregate-check-2
-slice-aggregate-check-2 c = search needs
-
-check-requires : tie.Need-check-requires
-check-requires c κs = search needs
-
-say-requires : tie.Need-say-requires
-say-requires c κs = search needs
-
-returns : tie.Need-returns
-returns c = search needs
 
 pub pins-spec : {M : Type 1} → statement M
 pins-spec =
     tie.close
-    (tie.spec plain-requires slice-aggregate-check slice-aggregate-check-2 check-requires say-requires returns)
+    (tie.spec (λ c κs. search needs) slice-aggregate-check (λ c. search needs) (λ c κs. search needs) (λ c κs. search needs) (λ c. search needs))

@@ -25,9 +25,6 @@ macro-count-requires c κs = tt
 loop-holds : tie.Need-loop-holds Inv-loop μ-loop
 loop-holds c = (omega arith, refl)
 
-macro-at-requires : tie.Need-macro-at-requires Inv-loop μ-loop
-macro-at-requires c κs = omega arith
-
 is-not-upright-requires : tie.Need-is-not-upright-requires Inv-loop μ-loop
 is-not-upright-requires c κs = tt
 
@@ -39,12 +36,6 @@ returns : tie.Need-returns Inv-loop μ-loop
 returns c =
     let l = c .before .before .before .before in
     sym (l .loop .inv .1 ∙ any-hit notUpright _ _ _ (macros-next (now (l .before .before .args .macros)) (l .loop .i) (omega arith)) (sym (told (c .before)) ∙ c .if1 .taken))
-
-add-i : tie.Need-add-i Inv-loop μ-loop
-add-i c = omega arith
-
-loop-less : tie.Need-loop-less Inv-loop μ-loop
-loop-less c = omega arith
 
 loop-again : tie.Need-loop-again Inv-loop μ-loop
 loop-again c =
@@ -64,10 +55,10 @@ any-not-upright-spec =
     μ-loop
     macro-count-requires
     loop-holds
-    macro-at-requires
+    (λ c κs. omega arith)
     is-not-upright-requires
     returns
-    add-i
-    loop-less
+    (λ c. omega arith)
+    (λ c. omega arith)
     loop-again
     returns-2)

@@ -28,9 +28,6 @@ abbrev μ-loop : tie.MeasureT-loop
 loop-holds : tie.Need-loop-holds Inv-loop μ-loop
 loop-holds c = (omega arith, refl)
 
-mul-is-out-of-range : tie.Need-mul-is-out-of-range Inv-loop μ-loop
-mul-is-out-of-range c = omega arith
-
 shared-slice-copy-out-is-out-of-range :
     tie.Need-shared-slice-copy-out-is-out-of-range Inv-loop μ-loop
 shared-slice-copy-out-is-out-of-range c = omega arith
@@ -54,12 +51,6 @@ returns c =
     let l = c .before .before .before .before in
     sym (l .loop .inv .1 ∙ any-hit outOfRange _ _ _ (next (now (l .before .args .numbers)) (l .loop .i) (omega arith)) (sym (told (c .before)) ∙ c .if1 .taken))
 
-add-i : tie.Need-add-i Inv-loop μ-loop
-add-i c = omega arith
-
-loop-less : tie.Need-loop-less Inv-loop μ-loop
-loop-less c = omega arith
-
 loop-again : tie.Need-loop-again Inv-loop μ-loop
 loop-again c =
     let l = c .before .before .before .before in
@@ -79,11 +70,11 @@ any-out-of-range-spec =
     Inv-loop
     μ-loop
     loop-holds
-    mul-is-out-of-range
+    (λ c. omega arith)
     shared-slice-copy-out-is-out-of-range
     is-out-of-range-requires
     returns
-    add-i
-    loop-less
+    (λ c. omega arith)
+    (λ c. omega arith)
     loop-again
     returns-2)

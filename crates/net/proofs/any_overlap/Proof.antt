@@ -36,17 +36,8 @@ macro-count-requires c κs = tt
 search-holds : tie.Need-search-holds Inv-loop μ-loop Inv-search μ-search
 search-holds c = (omega arith, refl, refl)
 
-macro-at-requires : tie.Need-macro-at-requires Inv-loop μ-loop Inv-search μ-search
-macro-at-requires c κs = omega arith
-
-add-j : tie.Need-add-j Inv-loop μ-loop Inv-search μ-search
-add-j c = omega arith
-
 loop-holds : tie.Need-loop-holds Inv-loop μ-loop Inv-search μ-search
 loop-holds c = (omega arith, c .before .before .search .inv .1, refl)
-
-macro-at-requires-2 : tie.Need-macro-at-requires-2 Inv-loop μ-loop Inv-search μ-search
-macro-at-requires-2 c κs = omega arith
 
 interiors-meet-requires : tie.Need-interiors-meet-requires Inv-loop μ-loop Inv-search μ-search
 interiors-meet-requires c κs = tt
@@ -55,23 +46,11 @@ interiors-meet-requires c κs = tt
 told : (c : tie.After-interiors-meet Inv-loop μ-loop Inv-search μ-search) → c .interiors-meet .result ≡ interiorsMeet (c .before .before .before .before .macro-at .result) (macroAt (now (c .before .before .before .before .before .before .before .before .args .macros)) (c .before .before .before .loop .j))
 told c = c .interiors-meet .ensures ∙ ap (interiorsMeet (c .before .before .before .before .macro-at .result)) (c .before .macro-at2 .ensures)
 
-add-j-2 : tie.Need-add-j-2 Inv-loop μ-loop Inv-search μ-search
-add-j-2 c = omega arith
-
-loop-less : tie.Need-loop-less Inv-loop μ-loop Inv-search μ-search
-loop-less c = omega arith
-
 loop-again : tie.Need-loop-again Inv-loop μ-loop Inv-search μ-search
 loop-again c =
     let l = c .before .before .before .before in
     let s = now (l .before .before .before .before .before .args .macros) in
     (omega arith, l .loop .inv .1, l .loop .inv .2 ∙ any-miss (interiorsMeet (l .before .macro-at .result)) _ _ _ (macros-next s (l .loop .j) (omega arith)) (sym (told (c .before)) ∙ c .if1 .left))
-
-add-i : tie.Need-add-i Inv-loop μ-loop Inv-search μ-search
-add-i c = omega arith
-
-search-less : tie.Need-search-less Inv-loop μ-loop Inv-search μ-search
-search-less c = omega arith
 
 search-again : tie.Need-search-again Inv-loop μ-loop Inv-search μ-search
 search-again c =
@@ -104,16 +83,16 @@ any-overlap-spec =
     μ-search
     macro-count-requires
     search-holds
-    macro-at-requires
-    add-j
+    (λ c κs. omega arith)
+    (λ c. omega arith)
     loop-holds
-    macro-at-requires-2
+    (λ c κs. omega arith)
     interiors-meet-requires
-    add-j-2
-    loop-less
+    (λ c. omega arith)
+    (λ c. omega arith)
     loop-again
-    add-i
-    search-less
+    (λ c. omega arith)
+    (λ c. omega arith)
     search-again
     returns
     returns-2)

@@ -26,9 +26,6 @@ pin-count-requires c κs = tt
 loop-holds : tie.Need-loop-holds Inv-loop μ-loop
 loop-holds c = (omega arith, refl)
 
-pin-at-requires : tie.Need-pin-at-requires Inv-loop μ-loop
-pin-at-requires c κs = omega arith
-
 add-is-among : tie.Need-add-is-among Inv-loop μ-loop
 unfolding pinCount
 add-is-among c = omega arith
@@ -46,12 +43,6 @@ returns : tie.Need-returns Inv-loop μ-loop
 returns c =
     let l = c .before .before .before .before in
     sym (l .loop .inv .1 ∙ two-hit samePlace _ _ _ (pins-next (now (l .before .before .args .pins)) (l .loop .i) (omega arith)) (sym (told (c .before)) ∙ c .if1 .taken))
-
-add-i : tie.Need-add-i Inv-loop μ-loop
-add-i c = omega arith
-
-loop-less : tie.Need-loop-less Inv-loop μ-loop
-loop-less c = omega arith
 
 loop-again : tie.Need-loop-again Inv-loop μ-loop
 loop-again c =
@@ -71,11 +62,11 @@ any-same-place-spec =
     μ-loop
     pin-count-requires
     loop-holds
-    pin-at-requires
+    (λ c κs. omega arith)
     add-is-among
     is-among-requires
     returns
-    add-i
-    loop-less
+    (λ c. omega arith)
+    (λ c. omega arith)
     loop-again
     returns-2)

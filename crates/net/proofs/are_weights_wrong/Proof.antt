@@ -10,12 +10,6 @@ use Rattle.net.proofs.WeighingFits.{WeighingFits}
 use Rattle.net.proofs.are_weights_wrong.Statement.{statement}
 use Rattle.net.proofs.are_weights_wrong.Tie as tie
 
-is-no-weight-requires : tie.Need-is-no-weight-requires
-is-no-weight-requires c κs = search needs
-
-is-no-weight-requires-2 : tie.Need-is-no-weight-requires-2
-is-no-weight-requires-2 c κs = search needs
-
 of-w : (s : tie.Start) → WeighingFits (s .args .w)
 of-w s = record { first = search needs; second = search needs }
 
@@ -29,4 +23,4 @@ returns c =
     (rw (toZ-ofZ w32 _ (of-w s .second)) at (c .is-no-weight2 .ensures))
 
 pub are-weights-wrong-spec : {M : Type 1} → statement M
-are-weights-wrong-spec = tie.close (tie.spec is-no-weight-requires is-no-weight-requires-2 returns)
+are-weights-wrong-spec = tie.close (tie.spec (λ c κs. search needs) (λ c κs. search needs) returns)

@@ -85,74 +85,41 @@ past8 c = record { past = past7 (c .before .before); passed = sym (c .before .an
 past9 : (c : tie.Else9) → Past18 (w-of (start9 c)) (pins-of (start9 c)) (macros-of (start9 c))
 past9 c = record { past = past8 (c .before .before); passed = sym (c .before .are-weights-wrong .ensures) ∙ c .if9 .left }
 
-pins-miscounted-requires : tie.Need-pins-miscounted-requires
-pins-miscounted-requires c κs = search needs
-
 returns : tie.Need-returns
 unfolding told number
 returns c = sym (refuse-11 _ _ _ (sym (c .before .pins-miscounted .ensures) ∙ c .if1 .taken))
-
-macros-miscounted-requires : tie.Need-macros-miscounted-requires
-macros-miscounted-requires c κs = search needs
 
 returns-2 : tie.Need-returns-2
 unfolding told number
 returns-2 c = sym (refuse-12 _ _ _ (past1 (c .before .before)) (sym (c .before .macros-miscounted .ensures) ∙ c .if2 .taken))
 
-any-out-of-range-requires : tie.Need-any-out-of-range-requires
-any-out-of-range-requires c κs = search needs
-
 returns-3 : tie.Need-returns-3
 unfolding told number
 returns-3 c = sym (refuse-13-pins _ _ _ (past2 (c .before .before)) (sym (c .before .any-out-of-range .ensures) ∙ c .if3 .taken))
-
-any-out-of-range-requires-2 : tie.Need-any-out-of-range-requires-2
-any-out-of-range-requires-2 c κs = search needs
 
 returns-4 : tie.Need-returns-4
 unfolding told number
 returns-4 c = sym (refuse-13 _ _ _ (past3 (c .before .before)) (sym (c .before .any-out-of-range2 .ensures) ∙ c .if4 .taken))
 
-any-not-upright-requires : tie.Need-any-not-upright-requires
-any-not-upright-requires c κs = search needs
-
 returns-5 : tie.Need-returns-5
 unfolding told number
 returns-5 c = sym (refuse-14 _ _ _ (past4 (c .before .before)) (sym (c .before .any-not-upright .ensures) ∙ c .if5 .taken))
-
-any-same-place-requires : tie.Need-any-same-place-requires
-any-same-place-requires c κs = search needs
 
 returns-6 : tie.Need-returns-6
 unfolding told number
 returns-6 c = sym (refuse-15 _ _ _ (past5 (c .before .before)) (sym (c .before .any-same-place .ensures) ∙ c .if6 .taken))
 
-any-overlap-requires : tie.Need-any-overlap-requires
-any-overlap-requires c κs = search needs
-
 returns-7 : tie.Need-returns-7
 unfolding told number
 returns-7 c = sym (refuse-16 _ _ _ (past6 (c .before .before)) (sym (c .before .any-overlap .ensures) ∙ c .if7 .taken))
-
-any-pin-inside-requires : tie.Need-any-pin-inside-requires
-any-pin-inside-requires c κs = search needs
 
 returns-8 : tie.Need-returns-8
 unfolding told number
 returns-8 c = sym (refuse-17 _ _ _ (past7 (c .before .before)) (sym (c .before .any-pin-inside .ensures) ∙ c .if8 .taken))
 
-are-weights-wrong-requires : tie.Need-are-weights-wrong-requires
-are-weights-wrong-requires c κs = search needs
-
 returns-9 : tie.Need-returns-9
 unfolding told number
 returns-9 c = sym (refuse-18 _ _ _ (past8 (c .before .before)) (sym (c .before .are-weights-wrong .ensures) ∙ c .if9 .taken))
-
-pin-count-requires : tie.Need-pin-count-requires
-pin-count-requires c κs = search needs
-
-macro-count-requires : tie.Need-macro-count-requires
-macro-count-requires c κs = search needs
 
 weights-of-requires : tie.Need-weights-of-requires
 weights-of-requires c κs = past9 (c .before .before) .passed
@@ -169,25 +136,25 @@ pub check-spec : {M : Type 1} → statement M
 check-spec =
     tie.close
     (tie.spec
-    pins-miscounted-requires
+    (λ c κs. search needs)
     returns
-    macros-miscounted-requires
+    (λ c κs. search needs)
     returns-2
-    any-out-of-range-requires
+    (λ c κs. search needs)
     returns-3
-    any-out-of-range-requires-2
+    (λ c κs. search needs)
     returns-4
-    any-not-upright-requires
+    (λ c κs. search needs)
     returns-5
-    any-same-place-requires
+    (λ c κs. search needs)
     returns-6
-    any-overlap-requires
+    (λ c κs. search needs)
     returns-7
-    any-pin-inside-requires
+    (λ c κs. search needs)
     returns-8
-    are-weights-wrong-requires
+    (λ c κs. search needs)
     returns-9
-    pin-count-requires
-    macro-count-requires
+    (λ c κs. search needs)
+    (λ c κs. search needs)
     weights-of-requires
     returns-10)

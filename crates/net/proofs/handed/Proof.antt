@@ -15,14 +15,8 @@ use Rattle.net.proofs.handed.Tie as tie
 byte-signed : (n : ℕ) → n < 256 → toZ w32 n ≡ pos n
 byte-signed n h = toZ-ofZ w32 (pos n) (record { sfits = omega arith })
 
-cast-t2 : tie.Need-cast-t2
-cast-t2 c = search needs
-
-cast-t3 : tie.Need-cast-t3
-cast-t3 c = search needs
-
 returns : tie.Need-returns
 returns c = ap₂ weighing (byte-signed _ (search needs)) (byte-signed _ (search needs))
 
 pub handed-spec : {M : Type 1} → statement M
-handed-spec = tie.close (tie.spec cast-t2 cast-t3 returns)
+handed-spec = tie.close (tie.spec (λ c. search needs) (λ c. search needs) returns)

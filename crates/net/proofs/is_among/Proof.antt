@@ -22,12 +22,6 @@ abbrev μ-loop : tie.MeasureT-loop
 pin-count-requires : tie.Need-pin-count-requires Inv-loop μ-loop
 pin-count-requires c κs = tt
 
-loop-holds : tie.Need-loop-holds Inv-loop μ-loop
-loop-holds c = refl
-
-pin-at-requires : tie.Need-pin-at-requires Inv-loop μ-loop
-pin-at-requires c κs = omega arith
-
 is-same-place-requires : tie.Need-is-same-place-requires Inv-loop μ-loop
 is-same-place-requires c κs = tt
 
@@ -39,12 +33,6 @@ returns : tie.Need-returns Inv-loop μ-loop
 returns c =
     let l = c .before .before .before .before in
     sym (l .loop .inv ∙ any-hit (samePlace (l .before .before .args .p)) _ _ _ (pins-next (now (l .before .before .args .pins)) (l .loop .j) (omega arith)) (sym (told (c .before)) ∙ c .if1 .taken))
-
-add-j : tie.Need-add-j Inv-loop μ-loop
-add-j c = omega arith
-
-loop-less : tie.Need-loop-less Inv-loop μ-loop
-loop-less c = omega arith
 
 loop-again : tie.Need-loop-again Inv-loop μ-loop
 loop-again c =
@@ -63,11 +51,11 @@ is-among-spec =
     Inv-loop
     μ-loop
     pin-count-requires
-    loop-holds
-    pin-at-requires
+    (λ c. refl)
+    (λ c κs. omega arith)
     is-same-place-requires
     returns
-    add-j
-    loop-less
+    (λ c. omega arith)
+    (λ c. omega arith)
     loop-again
     returns-2)

@@ -8,12 +8,9 @@ use Rattle.net.specs.Check.{outOfRange}
 use Rattle.net.proofs.is_out_of_range.Statement.{statement}
 use Rattle.net.proofs.is_out_of_range.Tie as tie
 
-sub-result : tie.Need-sub-result
-sub-result c = search needs
-
 returns : tie.Need-returns
 unfolding outOfRange
 returns c = rw (toZ-ofZ w32 _ (c .fits .z)) refl
 
 pub is-out-of-range-spec : {M : Type 1} → statement M
-is-out-of-range-spec = tie.close (tie.spec sub-result returns)
+is-out-of-range-spec = tie.close (tie.spec (λ c. search needs) returns)

@@ -30,10 +30,7 @@ shared-slice-copy-out-t10 : tie.Need-shared-slice-copy-out-t10
 unfolding pinCount
 shared-slice-copy-out-t10 c = omega arith
 
-returns : tie.Need-returns
-returns c = search needs
-
 pub pin-at-spec : {M : Type 1} → statement M
 pin-at-spec =
     tie.close
-    (tie.spec mul-k mul-t4 shared-slice-copy-out-t6 add-t7 mul-t8 shared-slice-copy-out-t10 returns)
+    (tie.spec mul-k mul-t4 shared-slice-copy-out-t6 add-t7 mul-t8 shared-slice-copy-out-t10 (λ c. search needs))

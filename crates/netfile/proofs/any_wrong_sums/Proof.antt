@@ -28,9 +28,6 @@ loop-holds c =
     let e : n ≡ n - 0 = omega arith in
     (omega arith, ap (λ (k : ℕ). any wrongSums (blocksOf k (wordsOf (now (c .before .args .bytes))))) e)
 
-block-at-requires : tie.Need-block-at-requires Inv-loop μ-loop
-block-at-requires c κs = omega arith
-
 has-wrong-sums-requires : tie.Need-has-wrong-sums-requires Inv-loop μ-loop
 has-wrong-sums-requires c κs =
     let l = c .before .before in
@@ -50,12 +47,6 @@ returns c =
     (l .loop .inv .1
     ∙ any-hit wrongSums _ _ _ (blocks-next (length s / blockBytes) (l .loop .b) (wordsOf s) (omega arith))
     (sym (met (c .before)) ∙ c .if1 .taken))
-
-add-b : tie.Need-add-b Inv-loop μ-loop
-add-b c = omega arith
-
-loop-less : tie.Need-loop-less Inv-loop μ-loop
-loop-less c = omega arith
 
 loop-again : tie.Need-loop-again Inv-loop μ-loop
 loop-again c =
@@ -81,10 +72,10 @@ any-wrong-sums-spec =
     Inv-loop
     μ-loop
     loop-holds
-    block-at-requires
+    (λ c κs. omega arith)
     has-wrong-sums-requires
     returns
-    add-b
-    loop-less
+    (λ c. omega arith)
+    (λ c. omega arith)
     loop-again
     returns-2)

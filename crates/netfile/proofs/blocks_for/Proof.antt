@@ -8,18 +8,9 @@ use Rattle.netfile.proofs.blocks_for.Tie as tie
 use Rattle.netfile.proofs.blocks_for.Reads as reads
 use Rattle.netfile.proofs.blocks_for.Lts as lts
 
-sub-result : tie.Need-sub-result
-sub-result c = search needs
-
-add-result : tie.Need-add-result
-add-result c = search needs
-
-add-result-2 : tie.Need-add-result-2
-add-result-2 c = search needs
-
 returns : tie.Need-returns
 unfolding blocksFor
 returns c = omega arith
 
 pub blocks-for-spec : {M : Type 1} → statement M
-blocks-for-spec = tie.close (tie.spec sub-result add-result add-result-2 returns)
+blocks-for-spec = tie.close (tie.spec (λ c. search needs) (λ c. search needs) (λ c. search needs) returns)

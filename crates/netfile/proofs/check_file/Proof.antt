@@ -52,40 +52,16 @@ module _ (t : tie.After-take-lists) where
 weights-in-requires : tie.Need-weights-in-requires
 weights-in-requires c κs = (omega (arith, c .before .pre .0 .fit), c .before .pre .1)
 
-pin-length-requires : tie.Need-pin-length-requires
-pin-length-requires c κs = search needs
-
-macro-length-requires : tie.Need-macro-length-requires
-macro-length-requires c κs = search needs
-
-slice-aggregate-take-lists : tie.Need-slice-aggregate-take-lists
-slice-aggregate-take-lists c = search needs
-
-slice-aggregate-take-lists-2 : tie.Need-slice-aggregate-take-lists-2
-slice-aggregate-take-lists-2 c = search needs
-
 take-lists-requires : tie.Need-take-lists-requires
 take-lists-requires c κs =
     let s = c .before .before .before .before .before .before .pre .0 in
     let f = blocks-few _ _ _ s in
     (s, (pins-few _ _ f, macros-few _ _ f))
 
-sub-check-lists : tie.Need-sub-check-lists
-sub-check-lists c = search needs
-
-part-check-lists-start : tie.Need-part-check-lists-start
-part-check-lists-start c = search needs
-
 part-check-lists-end : tie.Need-part-check-lists-end
 part-check-lists-end c =
     let t = c .before .before .before in
     omega (arith, pins-few _ _ (few t), pins-long t)
-
-sub-check-lists-2 : tie.Need-sub-check-lists-2
-sub-check-lists-2 c = search needs
-
-part-check-lists-start-2 : tie.Need-part-check-lists-start-2
-part-check-lists-start-2 c = search needs
 
 part-check-lists-end-2 : tie.Need-part-check-lists-end-2
 part-check-lists-end-2 c =
@@ -110,16 +86,16 @@ check-file-spec =
     tie.close
     (tie.spec
     weights-in-requires
-    pin-length-requires
-    macro-length-requires
-    slice-aggregate-take-lists
-    slice-aggregate-take-lists-2
+    (λ c κs. search needs)
+    (λ c κs. search needs)
+    (λ c. search needs)
+    (λ c. search needs)
     take-lists-requires
-    sub-check-lists
-    part-check-lists-start
+    (λ c. search needs)
+    (λ c. search needs)
     part-check-lists-end
-    sub-check-lists-2
-    part-check-lists-start-2
+    (λ c. search needs)
+    (λ c. search needs)
     part-check-lists-end-2
     check-lists-requires
     returns)

@@ -10,15 +10,6 @@ use borrow.Author.Needs.{needs}
 use Rattle.netfile.proofs.check_lists.Statement.{statement}
 use Rattle.netfile.proofs.check_lists.Tie as tie
 
-is-file-of-requires : tie.Need-is-file-of-requires
-is-file-of-requires c κs = search needs
-
-handed-requires : tie.Need-handed-requires
-handed-requires c κs = search needs
-
-check-requires : tie.Need-check-requires
-check-requires c κs = search needs
-
 returns : tie.Need-returns
 returns c =
     let h = c .before in
@@ -33,4 +24,4 @@ unfolding told number
 returns-2 c = sym (laid-wrong _ _ _ _ (sym (c .before .is-file-of .ensures) ∙ c .if1 .left))
 
 pub check-lists-spec : {M : Type 1} → statement M
-check-lists-spec = tie.close (tie.spec is-file-of-requires handed-requires check-requires returns returns-2)
+check-lists-spec = tie.close (tie.spec (λ c κs. search needs) (λ c κs. search needs) (λ c κs. search needs) returns returns-2)

@@ -13,14 +13,8 @@ use Rattle.netfile.proofs.coordinate_of.Tie as tie
 small : (c : tie.Else1) → c .before .args .w < 4294967296
 small c = omega arith
 
-cast-result : tie.Need-cast-result
-cast-result c = search needs
-
 returns : tie.Need-returns
 returns c = sym (coordinate-is _)
-
-cast-result-2 : tie.Need-cast-result-2
-cast-result-2 c = search needs
 
 sub-result : tie.Need-sub-result
 sub-result c = lowered-fits _ (small c) (c .if1 .left)
@@ -33,4 +27,4 @@ returns-2 c = toZ-ofZ w32 _ (cast-result-3 c) ∙ lowered-back _ (small c) (c .i
 
 pub coordinate-of-spec : {M : Type 1} → statement M
 coordinate-of-spec =
-    tie.close (tie.spec cast-result returns cast-result-2 sub-result cast-result-3 returns-2)
+    tie.close (tie.spec (λ c. search needs) returns (λ c. search needs) sub-result cast-result-3 returns-2)

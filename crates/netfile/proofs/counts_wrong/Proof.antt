@@ -15,18 +15,6 @@ use borrow.Author.Needs.{needs}
 use Rattle.netfile.proofs.counts_wrong.Statement.{statement}
 use Rattle.netfile.proofs.counts_wrong.Tie as tie
 
-pin-length-requires : tie.Need-pin-length-requires
-pin-length-requires c κs = search needs
-
-blocks-for-requires : tie.Need-blocks-for-requires
-blocks-for-requires c κs = search needs
-
-macro-length-requires : tie.Need-macro-length-requires
-macro-length-requires c κs = search needs
-
-blocks-for-requires-2 : tie.Need-blocks-for-requires-2
-blocks-for-requires-2 c κs = search needs
-
 add-result : tie.Need-add-result
 add-result c = omega (arith, no-more (c .before .before .before .pin-length .result))
 
@@ -47,10 +35,10 @@ pub counts-wrong-spec : {M : Type 1} → statement M
 counts-wrong-spec =
     tie.close
     (tie.spec
-    pin-length-requires
-    blocks-for-requires
-    macro-length-requires
-    blocks-for-requires-2
+    (λ c κs. search needs)
+    (λ c κs. search needs)
+    (λ c κs. search needs)
+    (λ c κs. search needs)
     add-result
     add-result-2
     returns)

@@ -11,15 +11,6 @@ use borrow.Author.Needs.{needs}
 use Rattle.netfile.proofs.has_wrong_sums.Statement.{statement}
 use Rattle.netfile.proofs.has_wrong_sums.Tie as tie
 
-sums-of-requires : tie.Need-sums-of-requires
-sums-of-requires c κs = search needs
-
-array-read-result : tie.Need-array-read-result
-array-read-result c = search needs
-
-array-read-result-2 : tie.Need-array-read-result-2
-array-read-result-2 c = search needs
-
 returns : tie.Need-returns
 unfolding wrongSums
 returns c =
@@ -29,4 +20,4 @@ returns c =
 
 pub has-wrong-sums-spec : {M : Type 1} → statement M
 has-wrong-sums-spec =
-    tie.close (tie.spec sums-of-requires array-read-result array-read-result-2 returns)
+    tie.close (tie.spec (λ c κs. search needs) (λ c. search needs) (λ c. search needs) returns)

@@ -10,12 +10,6 @@ use borrow.Author.Needs.{needs}
 use Rattle.netfile.proofs.head_word.Statement.{statement}
 use Rattle.netfile.proofs.head_word.Tie as tie
 
-word-at-requires : tie.Need-word-at-requires
-word-at-requires c κs = search needs
-
-cast-result : tie.Need-cast-result
-cast-result c = search needs
-
 returns : tie.Need-returns
 unfolding headWord
 returns c =
@@ -23,4 +17,4 @@ returns c =
     (c .word-at .ensures ∙ sym (word-is (now (s .args .bytes)) (s .args .i) (s .pre)), omega arith)
 
 pub head-word-spec : {M : Type 1} → statement M
-head-word-spec = tie.close (tie.spec word-at-requires cast-result returns)
+head-word-spec = tie.close (tie.spec (λ c κs. search needs) (λ c. search needs) returns)

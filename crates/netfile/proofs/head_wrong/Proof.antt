@@ -7,15 +7,9 @@ use borrow.Author.Needs.{needs}
 use Rattle.netfile.proofs.head_wrong.Statement.{statement}
 use Rattle.netfile.proofs.head_wrong.Tie as tie
 
-counts-wrong-requires : tie.Need-counts-wrong-requires
-counts-wrong-requires c κs = search needs
-
-weights-miswritten-requires : tie.Need-weights-miswritten-requires
-weights-miswritten-requires c κs = search needs
-
 returns : tie.Need-returns
 unfolding headWrong
 returns c = ap₂ _||_ (c .before .counts-wrong .ensures) (c .weights-miswritten .ensures)
 
 pub head-wrong-spec : {M : Type 1} → statement M
-head-wrong-spec = tie.close (tie.spec counts-wrong-requires weights-miswritten-requires returns)
+head-wrong-spec = tie.close (tie.spec (λ c κs. search needs) (λ c κs. search needs) returns)

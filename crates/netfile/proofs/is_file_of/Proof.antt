@@ -13,26 +13,11 @@ use borrow.Author.Needs.{needs}
 use Rattle.netfile.proofs.is_file_of.Statement.{statement}
 use Rattle.netfile.proofs.is_file_of.Tie as tie
 
-slice-aggregate-put-file : tie.Need-slice-aggregate-put-file
-slice-aggregate-put-file c = search needs
-
 put-file-requires : tie.Need-put-file-requires
 put-file-requires c κs =
     let s = c .before .before in
     let b = now (s .args .bytes) in
     (blocks-few b _ _ (s .pre), omega (arith, s .pre .few, s .pre .fit))
-
-sub-same-bytes : tie.Need-sub-same-bytes
-sub-same-bytes c = search needs
-
-part-same-bytes-start : tie.Need-part-same-bytes-start
-part-same-bytes-start c = search needs
-
-part-same-bytes-end : tie.Need-part-same-bytes-end
-part-same-bytes-end c = search needs
-
-same-bytes-requires : tie.Need-same-bytes-requires
-same-bytes-requires c κs = search needs
 
 returns : tie.Need-returns
 returns c =
@@ -47,10 +32,10 @@ pub is-file-of-spec : {M : Type 1} → statement M
 is-file-of-spec =
     tie.close
     (tie.spec
-    slice-aggregate-put-file
+    (λ c. search needs)
     put-file-requires
-    sub-same-bytes
-    part-same-bytes-start
-    part-same-bytes-end
-    same-bytes-requires
+    (λ c. search needs)
+    (λ c. search needs)
+    (λ c. search needs)
+    (λ c κs. search needs)
     returns)

@@ -31,51 +31,15 @@ Inv-loop kind w number numbers t₀ i₀ t i =
 abbrev μ-loop : tie.MeasureT-loop
 μ-loop kind w number numbers t₀ i₀ t i = length numbers - i
 
-array-write-t : tie.Need-array-write-t Inv-loop μ-loop
-array-write-t c = omega arith
-
-cast-t : tie.Need-cast-t Inv-loop μ-loop
-cast-t c = omega arith
-
-array-write-t-2 : tie.Need-array-write-t-2 Inv-loop μ-loop
-array-write-t-2 c = omega arith
-
-div-t : tie.Need-div-t Inv-loop μ-loop
-div-t c = omega arith
-
 cast-t-2 : tie.Need-cast-t-2 Inv-loop μ-loop
 cast-t-2 c = omega (arith, div-le-self (length (now (c .args .numbers))) (c .args .w))
-
-array-write-t-3 : tie.Need-array-write-t-3 Inv-loop μ-loop
-array-write-t-3 c = omega arith
 
 loop-holds : tie.Need-loop-holds Inv-loop μ-loop
 unfolding over
 loop-holds c = (omega arith, refl)
 
-mul-word-of : tie.Need-mul-word-of Inv-loop μ-loop
-mul-word-of c = omega arith
-
-shared-slice-copy-out-word-of : tie.Need-shared-slice-copy-out-word-of Inv-loop μ-loop
-shared-slice-copy-out-word-of c = omega arith
-
 word-of-requires : tie.Need-word-of-requires Inv-loop μ-loop
 word-of-requires c κs = tt
-
-add-t : tie.Need-add-t Inv-loop μ-loop
-add-t c = omega arith
-
-mul-t : tie.Need-mul-t Inv-loop μ-loop
-mul-t c = omega arith
-
-array-write-t-4 : tie.Need-array-write-t-4 Inv-loop μ-loop
-array-write-t-4 c = omega arith
-
-add-i : tie.Need-add-i Inv-loop μ-loop
-add-i c = omega arith
-
-loop-less : tie.Need-loop-less Inv-loop μ-loop
-loop-less c = omega arith
 
 loop-again : tie.Need-loop-again Inv-loop μ-loop
 loop-again c =
@@ -112,21 +76,21 @@ list-block-spec =
     (tie.spec
     Inv-loop
     μ-loop
-    array-write-t
-    cast-t
-    array-write-t-2
-    div-t
+    (λ c. omega arith)
+    (λ c. omega arith)
+    (λ c. omega arith)
+    (λ c. omega arith)
     cast-t-2
-    array-write-t-3
+    (λ c. omega arith)
     loop-holds
-    mul-word-of
-    shared-slice-copy-out-word-of
+    (λ c. omega arith)
+    (λ c. omega arith)
     word-of-requires
-    add-t
-    mul-t
-    array-write-t-4
-    add-i
-    loop-less
+    (λ c. omega arith)
+    (λ c. omega arith)
+    (λ c. omega arith)
+    (λ c. omega arith)
+    (λ c. omega arith)
     loop-again
     seal-requires
     returns)

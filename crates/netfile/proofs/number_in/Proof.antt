@@ -14,27 +14,6 @@ use borrow.Author.Needs.{needs}
 use Rattle.netfile.proofs.number_in.Statement.{statement}
 use Rattle.netfile.proofs.number_in.Tie as tie
 
-mul-place : tie.Need-mul-place
-mul-place c = search needs
-
-add-place : tie.Need-add-place
-add-place c = search needs
-
-add-place-2 : tie.Need-add-place-2
-add-place-2 c = search needs
-
-mul-word-at : tie.Need-mul-word-at
-mul-word-at c = search needs
-
-add-word-at : tie.Need-add-word-at
-add-word-at c = search needs
-
-word-at-requires : tie.Need-word-at-requires
-word-at-requires c κs = search needs
-
-coordinate-of-requires : tie.Need-coordinate-of-requires
-coordinate-of-requires c κs = search needs
-
 returns : tie.Need-returns
 unfolding numberIn
 returns c =
@@ -49,11 +28,11 @@ pub number-in-spec : {M : Type 1} → statement M
 number-in-spec =
     tie.close
     (tie.spec
-    mul-place
-    add-place
-    add-place-2
-    mul-word-at
-    add-word-at
-    word-at-requires
-    coordinate-of-requires
+    (λ c. search needs)
+    (λ c. search needs)
+    (λ c. search needs)
+    (λ c. search needs)
+    (λ c. search needs)
+    (λ c κs. search needs)
+    (λ c κs. search needs)
     returns)

@@ -18,35 +18,14 @@ use borrow.Author.Needs.{needs}
 use Rattle.netfile.proofs.put_file.Statement.{statement}
 use Rattle.netfile.proofs.put_file.Tie as tie
 
-blocks-for-requires : tie.Need-blocks-for-requires
-blocks-for-requires c κs = search needs
-
-add-first : tie.Need-add-first
-add-first c = search needs
-
-pin-count-requires : tie.Need-pin-count-requires
-pin-count-requires c κs = search needs
-
-macro-count-requires : tie.Need-macro-count-requires
-macro-count-requires c κs = search needs
-
 head-block-requires : tie.Need-head-block-requires
 unfolding pinCount
 head-block-requires c κs =
     let f = c .before .before .before .before .before .pre .0 in
     (omega (arith, pins-few _ _ f), omega (arith, macros-few _ _ f))
 
-put-block-requires : tie.Need-put-block-requires
-put-block-requires c κs = search needs
-
-put-list-requires : tie.Need-put-list-requires
-put-list-requires c κs = search needs
-
 put-list-requires-2 : tie.Need-put-list-requires-2
 put-list-requires-2 c κs = (omega arith, (omega arith, omega arith))
-
-same-length : tie.Need-same-length
-same-length c = search needs
 
 returns : tie.Need-returns
 returns c =
@@ -71,13 +50,13 @@ pub put-file-spec : {M : Type 1} → statement M
 put-file-spec =
     tie.close
     (tie.spec
-    blocks-for-requires
-    add-first
-    pin-count-requires
-    macro-count-requires
+    (λ c κs. search needs)
+    (λ c. search needs)
+    (λ c κs. search needs)
+    (λ c κs. search needs)
     head-block-requires
-    put-block-requires
-    put-list-requires
+    (λ c κs. search needs)
+    (λ c κs. search needs)
     put-list-requires-2
-    same-length
+    (λ c. search needs)
     returns)

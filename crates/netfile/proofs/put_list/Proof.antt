@@ -24,15 +24,9 @@ Inv-loop bytes₀ kind w first numbers count j₀ bytes j =
 abbrev μ-loop : tie.MeasureT-loop
 μ-loop bytes₀ kind w first numbers count j₀ bytes j = count - j
 
-blocks-for-requires : tie.Need-blocks-for-requires Inv-loop μ-loop
-blocks-for-requires c κs = omega arith
-
 loop-holds : tie.Need-loop-holds Inv-loop μ-loop
 unfolding bytesOf listBlocks
 loop-holds c = (omega arith, (refl, refl))
-
-add-number : tie.Need-add-number Inv-loop μ-loop
-add-number c = omega arith
 
 -- where the block begins that is laid out in a turn
 begins : (c : tie.After-put-block-arg Inv-loop μ-loop)
@@ -53,12 +47,6 @@ put-block-requires c κs =
           ∙ length-next-block (a .kind) (a .w) _ (drop (l .loop .j * perBlock) (now (a .numbers))),
       omega arith,
     )
-
-add-j : tie.Need-add-j Inv-loop μ-loop
-add-j c = omega arith
-
-loop-less : tie.Need-loop-less Inv-loop μ-loop
-loop-less c = omega arith
 
 loop-again : tie.Need-loop-again Inv-loop μ-loop
 loop-again c =
@@ -92,14 +80,14 @@ put-list-spec =
     (tie.spec
     Inv-loop
     μ-loop
-    blocks-for-requires
+    (λ c κs. omega arith)
     loop-holds
-    add-number
+    (λ c. omega arith)
     mul-next-block
     next-block-requires
     put-block-requires
-    add-j
-    loop-less
+    (λ c. omega arith)
+    (λ c. omega arith)
     loop-again
     same-length
     returns)

@@ -68,29 +68,11 @@ Turned s n =
 turned : (s : tie.Start) (n : ℕ) → answer-of s ≡ refused n → Turned s n
 turned s n e = unaltered (answer-of s) (pinsIn (bytes-of s)) (macrosIn (bytes-of s)) (pins-of s) (macros-of s) n e
 
-room-short-requires : tie.Need-room-short-requires
-room-short-requires c κs = search needs
-
-same-length : tie.Need-same-length
-same-length c = search needs
-
-same-length-2 : tie.Need-same-length-2
-same-length-2 c = search needs
-
 returns : tie.Need-returns
 unfolding told number
 returns c =
     let s = c .before .before .before .before .before in
     turned s 21 (refuse-21 (bytes-of s) _ _ (sym (c .before .room-short .ensures) ∙ c .if1 .taken))
-
-blocks-miscounted-requires : tie.Need-blocks-miscounted-requires
-blocks-miscounted-requires c κs = search needs
-
-same-length-3 : tie.Need-same-length-3
-same-length-3 c = search needs
-
-same-length-4 : tie.Need-same-length-4
-same-length-4 c = search needs
 
 returns-2 : tie.Need-returns-2
 unfolding told number
@@ -98,15 +80,6 @@ returns-2 c =
     let p = c .before .before in
     let s = start1 p in
     turned s 1 (refuse-1 (bytes-of s) _ _ (room p) (sym (c .before .blocks-miscounted .ensures) ∙ c .if2 .taken))
-
-any-wrong-sums-requires : tie.Need-any-wrong-sums-requires
-any-wrong-sums-requires c κs = search needs
-
-same-length-5 : tie.Need-same-length-5
-same-length-5 c = search needs
-
-same-length-6 : tie.Need-same-length-6
-same-length-6 c = search needs
 
 returns-3 : tie.Need-returns-3
 unfolding told number
@@ -119,12 +92,6 @@ head-wrong-requires : tie.Need-head-wrong-requires
 head-wrong-requires c κs =
     let b = blocks-counted (bytes-of (start3 c)) (blocks (c .before .before)) in
     omega (arith, b .some)
-
-same-length-7 : tie.Need-same-length-7
-same-length-7 c = search needs
-
-same-length-8 : tie.Need-same-length-8
-same-length-8 c = search needs
 
 returns-4 : tie.Need-returns-4
 unfolding told number
@@ -143,12 +110,6 @@ read-counted-requires c κs =
     let s = start4 r in
     let h = head-right (bytes-of s) (head r) in
     ((sized-by-head (bytes-of s) (blocks-counted (bytes-of s) (blocks q)) (h .0), h .1), room (q .before .before))
-
-same-length-9 : tie.Need-same-length-9
-same-length-9 c = search needs
-
-same-length-10 : tie.Need-same-length-10
-same-length-10 c = search needs
 
 returns-5 : tie.Need-returns-5
 returns-5 c =
@@ -169,23 +130,23 @@ pub read-spec : {M : Type 1} → statement M
 read-spec =
     tie.close
     (tie.spec
-    room-short-requires
-    same-length
-    same-length-2
+    (λ c κs. search needs)
+    (λ c. search needs)
+    (λ c. search needs)
     returns
-    blocks-miscounted-requires
-    same-length-3
-    same-length-4
+    (λ c κs. search needs)
+    (λ c. search needs)
+    (λ c. search needs)
     returns-2
-    any-wrong-sums-requires
-    same-length-5
-    same-length-6
+    (λ c κs. search needs)
+    (λ c. search needs)
+    (λ c. search needs)
     returns-3
     head-wrong-requires
-    same-length-7
-    same-length-8
+    (λ c. search needs)
+    (λ c. search needs)
     returns-4
     read-counted-requires
-    same-length-9
-    same-length-10
+    (λ c. search needs)
+    (λ c. search needs)
     returns-5)

@@ -22,27 +22,12 @@ accepted : (c : tie.After-enum-told) → answer-of (c .before .before .before .b
 unfolding told
 accepted c = sym (c .before .before .check-file .ensures) ∙ ap told (c .enum-told .given .1)
 
-check-file-requires : tie.Need-check-file-requires
-check-file-requires c κs = search needs
-
-enum-told : tie.Need-enum-told
-enum-told c = search needs
-
 take-lists-requires : tie.Need-take-lists-requires
 take-lists-requires c κs =
     let k = c .before .before in
     let s = k .before .before .before .before in
     let a = s .args in
     (s .pre .0 .0, lists-fit (now (a .bytes)) (length (now (a .pins))) (length (now (a .macros))) _ (accepted k) (s .pre .1))
-
-enum-told-2 : tie.Need-enum-told-2
-enum-told-2 c = search needs
-
-same-length : tie.Need-same-length
-same-length c = search needs
-
-same-length-2 : tie.Need-same-length-2
-same-length-2 c = search needs
 
 returns : tie.Need-returns
 returns c =
@@ -71,11 +56,11 @@ pub read-counted-spec : {M : Type 1} → statement M
 read-counted-spec =
     tie.close
     (tie.spec
-    check-file-requires
-    enum-told
+    (λ c κs. search needs)
+    (λ c. search needs)
     take-lists-requires
-    enum-told-2
-    same-length
-    same-length-2
+    (λ c. search needs)
+    (λ c. search needs)
+    (λ c. search needs)
     returns
     returns-2)

@@ -11,15 +11,6 @@ use borrow.Author.Needs.{needs}
 use Rattle.netfile.proofs.seal.Statement.{statement}
 use Rattle.netfile.proofs.seal.Tie as tie
 
-sums-of-requires : tie.Need-sums-of-requires
-sums-of-requires c κs = search needs
-
-array-write-t : tie.Need-array-write-t
-array-write-t c = search needs
-
-array-write-t-2 : tie.Need-array-write-t-2
-array-write-t-2 c = search needs
-
 returns : tie.Need-returns
 unfolding sealed
 returns c =
@@ -28,4 +19,4 @@ returns c =
     ∙ ap₂ (λ (a b : ℕ). take summedWords ws ++ (a ∷ (b ∷ []))) (c .sums-of .ensures .0) (c .sums-of .ensures .1)
 
 pub seal-spec : {M : Type 1} → statement M
-seal-spec = tie.close (tie.spec sums-of-requires array-write-t array-write-t-2 returns)
+seal-spec = tie.close (tie.spec (λ c κs. search needs) (λ c. search needs) (λ c. search needs) returns)

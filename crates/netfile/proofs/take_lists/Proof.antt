@@ -19,19 +19,10 @@ sized : (c : tie.After-macro-length) → Sized (now (c .before .before .before .
     (c .macro-length .result)
 sized c = rw (c .before .pin-length .ensures, c .macro-length .ensures) (c .before .before .before .pre .0)
 
-pin-length-requires : tie.Need-pin-length-requires
-pin-length-requires c κs = search needs
-
-macro-length-requires : tie.Need-macro-length-requires
-macro-length-requires c κs = search needs
-
 -- the blocks of other counts would be known here too: a wrong count is refused by `returns`, for what it gives
 take-numbers-requires : tie.Need-take-numbers-requires
 unfolding blocksFor
 take-numbers-requires c κs = (omega (arith, sized (c .before) .fit), omega arith)
-
-blocks-for-requires : tie.Need-blocks-for-requires
-blocks-for-requires c κs = search needs
 
 add-take-numbers : tie.Need-add-take-numbers
 add-take-numbers c =
@@ -41,12 +32,6 @@ add-take-numbers c =
 take-numbers-requires-2 : tie.Need-take-numbers-requires-2
 unfolding blocksFor
 take-numbers-requires-2 c κs = (omega (arith, sized (c .before .before .before .before .before) .fit), omega arith)
-
-same-length : tie.Need-same-length
-same-length c = search needs
-
-same-length-2 : tie.Need-same-length-2
-same-length-2 c = search needs
 
 returns : tie.Need-returns
 returns c =
@@ -66,12 +51,12 @@ pub take-lists-spec : {M : Type 1} → statement M
 take-lists-spec =
     tie.close
     (tie.spec
-    pin-length-requires
-    macro-length-requires
+    (λ c κs. search needs)
+    (λ c κs. search needs)
     take-numbers-requires
-    blocks-for-requires
+    (λ c κs. search needs)
     add-take-numbers
     take-numbers-requires-2
-    same-length
-    same-length-2
+    (λ c. search needs)
+    (λ c. search needs)
     returns)

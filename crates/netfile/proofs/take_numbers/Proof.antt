@@ -34,18 +34,6 @@ number-in-requires c κs =
     let l = c .before in
     omega (arith, block-within (l .before .before .args .n) (l .loop .j) (omega arith))
 
-mul-z : tie.Need-mul-z Inv-loop μ-loop
-mul-z c = omega arith
-
-slice-set-from-z : tie.Need-slice-set-from-z Inv-loop μ-loop
-slice-set-from-z c = omega arith
-
-add-j : tie.Need-add-j Inv-loop μ-loop
-add-j c = omega arith
-
-loop-less : tie.Need-loop-less Inv-loop μ-loop
-loop-less c = omega arith
-
 loop-again : tie.Need-loop-again Inv-loop μ-loop
 loop-again c =
     let l = c .before .before in
@@ -76,10 +64,10 @@ take-numbers-spec =
     μ-loop
     loop-holds
     number-in-requires
-    mul-z
-    slice-set-from-z
-    add-j
-    loop-less
+    (λ c. omega arith)
+    (λ c. omega arith)
+    (λ c. omega arith)
+    (λ c. omega arith)
     loop-again
     same-length
     returns)

@@ -11,12 +11,9 @@ returns : tie.Need-returns
 unfolding weightIn
 returns c = rw (c .if1 .taken) refl
 
-cast-result : tie.Need-cast-result
-cast-result c = search needs
-
 returns-2 : tie.Need-returns-2
 unfolding weightIn
 returns-2 c = rw (ne-eqb _ 0 (c .if1 .left)) refl
 
 pub weight-of-spec : {M : Type 1} → statement M
-weight-of-spec = tie.close (tie.spec returns cast-result returns-2)
+weight-of-spec = tie.close (tie.spec returns (λ c. search needs) returns-2)

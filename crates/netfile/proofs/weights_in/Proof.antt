@@ -1,14 +1,14 @@
 -- `netfile::weights_in` meets its contract: each weight is that of its word, which is at most the greatest.
 -- Assumes nothing.
 use mathlib.Core.Path.{ap, ap₂, _∙_}
-use Prim.Native.Nat.{ℕ, _≤_}
+use Prim.Native.Nat.{_≤_}
 use denote.Ref.{now}
-use Rattle.plane.specs.declared.Weights.{Weights}
 use Rattle.net.specs.Bounds.{weightBound}
 use Rattle.netfile.specs.Sizes.{firstWeightWord, secondWeightWord}
 use Rattle.netfile.specs.Words.{weightIn}
 use Rattle.netfile.specs.Read.{headWord}
 use Rattle.netfile.proofs.AnswerLaws.{weight-words}
+use Rattle.netfile.proofs.WeightLaws.{twoWeights}
 use borrow.Author.Needs.{needs}
 use Rattle.netfile.proofs.weights_in.Statement.{statement}
 use Rattle.netfile.proofs.weights_in.Tie as tie
@@ -18,34 +18,24 @@ words-of : (s : tie.Start) → (headWord firstWeightWord (now (s .args .bytes)) 
     × (headWord secondWeightWord (now (s .args .bytes)) ≤ weightBound)
 words-of s = weight-words (now (s .args .bytes)) (s .pre .1)
 
-weights : ℕ → ℕ → Weights
-weights a b = record { across = a; along = b }
-
-head-word-requires : tie.Need-head-word-requires
-head-word-requires c κs = search needs
-
 weight-of-requires : tie.Need-weight-of-requires
 weight-of-requires c κs = rw (c .head-word .ensures .0) (words-of (c .before .before) .0)
-
-head-word-requires-2 : tie.Need-head-word-requires-2
-head-word-requires-2 c κs = search needs
 
 weight-of-requires-2 : tie.Need-weight-of-requires-2
 weight-of-requires-2 c κs = rw (c .head-word2 .ensures .0) (words-of (c .before .before .before .before) .1)
 
 returns : tie.Need-returns
-unfolding weights
 returns c =
     let d = c .before .before in
-    ap₂ weights (d .weight-of .ensures ∙ ap weightIn (d .before .head-word .ensures .0))
+    ap₂ twoWeights (d .weight-of .ensures ∙ ap weightIn (d .before .head-word .ensures .0))
     (c .weight-of2 .ensures ∙ ap weightIn (c .before .head-word2 .ensures .0))
 
 pub weights-in-spec : {M : Type 1} → statement M
 weights-in-spec =
     tie.close
     (tie.spec
-    head-word-requires
+    (λ c κs. search needs)
     weight-of-requires
-    head-word-requires-2
+    (λ c κs. search needs)
     weight-of-requires-2
     returns)

@@ -10,16 +10,10 @@ use borrow.Author.Needs.{needs}
 use Rattle.netfile.proofs.weights_miswritten.Statement.{statement}
 use Rattle.netfile.proofs.weights_miswritten.Tie as tie
 
-head-word-requires : tie.Need-head-word-requires
-head-word-requires c κs = search needs
-
-head-word-requires-2 : tie.Need-head-word-requires-2
-head-word-requires-2 c κs = search needs
-
 returns : tie.Need-returns
 unfolding weightsMiswritten
 returns c =
     ap₂ (λ (a b : ℕ). ltb weightBound a || ltb weightBound b) (c .before .head-word .ensures .0) (c .head-word2 .ensures .0)
 
 pub weights-miswritten-spec : {M : Type 1} → statement M
-weights-miswritten-spec = tie.close (tie.spec head-word-requires head-word-requires-2 returns)
+weights-miswritten-spec = tie.close (tie.spec (λ c κs. search needs) (λ c κs. search needs) returns)

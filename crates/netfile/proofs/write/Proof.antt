@@ -53,20 +53,8 @@ module _ (c : tie.After-write-checked-arg) where
   found : net .weights ≡ weightsOf (start .args .w)
   found = ap (λ (n : Counts). n .weights) (given-counts _ _ _ allowed)
 
-check-requires : tie.Need-check-requires
-check-requires c κs = search needs
-
-enum-known-answer : tie.Need-enum-known-answer
-enum-known-answer c = search needs
-
 write-checked-requires : tie.Need-write-checked-requires
 write-checked-requires c κs = allowed-blocks (start c .args .w) (pins-of (start c)) (macros-of (start c)) _ (allowed c)
-
-enum-known-answer-2 : tie.Need-enum-known-answer-2
-enum-known-answer-2 c = search needs
-
-same-length : tie.Need-same-length
-same-length c = search needs
 
 returns : tie.Need-returns
 returns c =
@@ -96,10 +84,10 @@ pub write-spec : {M : Type 1} → statement M
 write-spec =
     tie.close
     (tie.spec
-    check-requires
-    enum-known-answer
+    (λ c κs. search needs)
+    (λ c. search needs)
     write-checked-requires
-    enum-known-answer-2
-    same-length
+    (λ c. search needs)
+    (λ c. search needs)
     returns
     returns-2)

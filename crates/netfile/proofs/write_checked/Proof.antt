@@ -17,21 +17,6 @@ use borrow.Author.Needs.{needs}
 use Rattle.netfile.proofs.write_checked.Statement.{statement}
 use Rattle.netfile.proofs.write_checked.Tie as tie
 
-blocks-for-requires : tie.Need-blocks-for-requires
-blocks-for-requires c κs = search needs
-
-add-n : tie.Need-add-n
-add-n c = omega arith
-
-blocks-for-requires-2 : tie.Need-blocks-for-requires-2
-blocks-for-requires-2 c κs = search needs
-
-add-n-2 : tie.Need-add-n-2
-add-n-2 c = omega arith
-
-mul-n : tie.Need-mul-n
-mul-n c = omega arith
-
 returns : tie.Need-returns
 unfolding toldBytes number
 returns c =
@@ -39,12 +24,6 @@ returns c =
     let f = fileBytes (a .w) (now (a .pins)) (now (a .macros)) in
     let e = fitted-short (length f) (length (now (a .bytes))) (omega (arith, length-file (a .w) (now (a .pins)) (now (a .macros)))) in
     (sym e, after-refused _ f (now (a .bytes)) 21 e)
-
-put-file-requires : tie.Need-put-file-requires
-put-file-requires c κs = search needs
-
-same-length : tie.Need-same-length
-same-length c = search needs
 
 returns-2 : tie.Need-returns-2
 unfolding toldBytes
@@ -63,12 +42,12 @@ pub write-checked-spec : {M : Type 1} → statement M
 write-checked-spec =
     tie.close
     (tie.spec
-    blocks-for-requires
-    add-n
-    blocks-for-requires-2
-    add-n-2
-    mul-n
+    (λ c κs. search needs)
+    (λ c. omega arith)
+    (λ c κs. search needs)
+    (λ c. omega arith)
+    (λ c. omega arith)
     returns
-    put-file-requires
-    same-length
+    (λ c κs. search needs)
+    (λ c. search needs)
     returns-2)

@@ -9,9 +9,6 @@ use borrow.Author.Needs.{needs}
 use Rattle.report.proofs.cost.Statement.{statement}
 use Rattle.report.proofs.cost.Tie as tie
 
-cost-requires : tie.Need-cost-requires
-cost-requires c κs = search needs
-
 cast-result : tie.Need-cast-result
 cast-result c = record { sfits = omega (arith, c .cost .ensures .1) }
 
@@ -19,4 +16,4 @@ returns : tie.Need-returns
 returns c = toZ-pos w64 (c .cost .result) (omega (arith, c .cost .ensures .1)) ∙ ap pos (c .cost .ensures .0)
 
 pub cost-spec : {M : Type 1} → statement M
-cost-spec = tie.close (tie.spec cost-requires cast-result returns)
+cost-spec = tie.close (tie.spec (λ c κs. search needs) cast-result returns)

@@ -42,10 +42,7 @@ cast-result-2 c =
     let e = toZ-ofZ w64 z f ∙ unturned z (flag-lt w64 z (pos 0) f (record { sfits = omega arith }) (c .if1 .left)) in
     rw e (tt, above-fits z f)
 
-returns-2 : tie.Need-returns-2
-returns-2 c = search needs
-
 pub magnitude-spec : {M : Type 1} → statement M
 magnitude-spec =
     tie.close
-    (tie.spec add-result sub-result cast-result add-result-2 returns cast-result-2 returns-2)
+    (tie.spec add-result sub-result cast-result add-result-2 returns cast-result-2 (λ c. search needs))

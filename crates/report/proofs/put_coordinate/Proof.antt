@@ -13,12 +13,6 @@ use Rattle.report.proofs.put_coordinate.Tie as tie
 cast-put-number : tie.Need-cast-put-number
 cast-put-number c = cast-wide _ (c .before .before .fits .z)
 
-put-number-requires : tie.Need-put-number-requires
-put-number-requires c κs = search needs
-
-same-length : tie.Need-same-length
-same-length c = search needs
-
 returns : tie.Need-returns
 returns c =
     let p = c .before .before in
@@ -26,4 +20,4 @@ returns c =
     (put-as (ap (λ (z : ℤ). whole z ++ (space ∷ [])) (wide-is _ (s .fits .z))) (p .put-number .ensures .0), p .put-number .ensures .1)
 
 pub put-coordinate-spec : {M : Type 1} → statement M
-put-coordinate-spec = tie.close (tie.spec cast-put-number put-number-requires same-length returns)
+put-coordinate-spec = tie.close (tie.spec cast-put-number (λ c κs. search needs) (λ c. search needs) returns)

@@ -13,15 +13,9 @@ use Rattle.report.proofs.put_count.Tie as tie
 short : (s : tie.Start) → length (decimal (s .args .n)) ≤ 20
 short s = decimal-short 19 (s .args .n) (omega (arith, s .fits .n))
 
-put-bytes-requires : tie.Need-put-bytes-requires
-put-bytes-requires c κs = search needs
-
 put-decimal-requires : tie.Need-put-decimal-requires
 put-decimal-requires c κs =
     omega (arith, short (c .before .before .before .before .before .before .before), c .before .before .before .put-bytes .ensures .moves)
-
-same-length : tie.Need-same-length
-same-length c = search needs
 
 returns : tie.Need-returns
 returns c =
@@ -33,4 +27,4 @@ returns c =
     )
 
 pub put-count-spec : {M : Type 1} → statement M
-put-count-spec = tie.close (tie.spec put-bytes-requires put-decimal-requires same-length returns)
+put-count-spec = tie.close (tie.spec (λ c κs. search needs) put-decimal-requires (λ c. search needs) returns)

@@ -25,30 +25,6 @@ abbrev μ-loop : tie.MeasureT-loop
 loop-holds : tie.Need-loop-holds Inv-loop μ-loop
 loop-holds c = ((omega arith, refl), (omega arith, no-lines _ _ _ _))
 
-mul-place-at : tie.Need-mul-place-at Inv-loop μ-loop
-mul-place-at c = omega arith
-
-place-at-requires : tie.Need-place-at-requires Inv-loop μ-loop
-place-at-requires c κs = omega arith
-
-mul-place-at-2 : tie.Need-mul-place-at-2 Inv-loop μ-loop
-mul-place-at-2 c = omega arith
-
-add-place-at : tie.Need-add-place-at Inv-loop μ-loop
-add-place-at c = omega arith
-
-place-at-requires-2 : tie.Need-place-at-requires-2 Inv-loop μ-loop
-place-at-requires-2 c κs = omega arith
-
-put-edge-requires : tie.Need-put-edge-requires Inv-loop μ-loop
-put-edge-requires c κs = omega arith
-
-add-i : tie.Need-add-i Inv-loop μ-loop
-add-i c = omega arith
-
-loop-less : tie.Need-loop-less Inv-loop μ-loop
-loop-less c = omega arith
-
 loop-again : tie.Need-loop-again Inv-loop μ-loop
 loop-again c =
     let e = c .before .before in
@@ -79,14 +55,14 @@ put-edges-spec =
     Inv-loop
     μ-loop
     loop-holds
-    mul-place-at
-    place-at-requires
-    mul-place-at-2
-    add-place-at
-    place-at-requires-2
-    put-edge-requires
-    add-i
-    loop-less
+    (λ c. omega arith)
+    (λ c κs. omega arith)
+    (λ c. omega arith)
+    (λ c. omega arith)
+    (λ c κs. omega arith)
+    (λ c κs. omega arith)
+    (λ c. omega arith)
+    (λ c. omega arith)
     loop-again
     same-length
     returns)

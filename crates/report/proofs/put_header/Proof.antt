@@ -7,15 +7,6 @@ use borrow.Author.Needs.{needs}
 use Rattle.report.proofs.put_header.Statement.{statement}
 use Rattle.report.proofs.put_header.Tie as tie
 
-put-counts-requires : tie.Need-put-counts-requires
-put-counts-requires c κs = search needs
-
-put-totals-requires : tie.Need-put-totals-requires
-put-totals-requires c κs = search needs
-
-same-length : tie.Need-same-length
-same-length c = search needs
-
 returns : tie.Need-returns
 unfolding header
 returns c =
@@ -24,4 +15,4 @@ returns c =
     (put-then (k .put-counts .ensures .0) (t .put-totals .ensures .0), omega (arith, k .put-counts .ensures .1, t .put-totals .ensures .1))
 
 pub put-header-spec : {M : Type 1} → statement M
-put-header-spec = tie.close (tie.spec put-counts-requires put-totals-requires same-length returns)
+put-header-spec = tie.close (tie.spec (λ c κs. search needs) (λ c κs. search needs) (λ c. search needs) returns)

@@ -8,15 +8,6 @@ use borrow.Author.Needs.{needs}
 use Rattle.report.proofs.put_total.Statement.{statement}
 use Rattle.report.proofs.put_total.Tie as tie
 
-put-bytes-requires : tie.Need-put-bytes-requires
-put-bytes-requires c κs = search needs
-
-put-whole-requires : tie.Need-put-whole-requires
-put-whole-requires c κs = search needs
-
-same-length : tie.Need-same-length
-same-length c = search needs
-
 returns : tie.Need-returns
 returns c =
     let d = c .before .before in
@@ -27,4 +18,4 @@ returns c =
     )
 
 pub put-total-spec : {M : Type 1} → statement M
-put-total-spec = tie.close (tie.spec put-bytes-requires put-whole-requires same-length returns)
+put-total-spec = tie.close (tie.spec (λ c κs. search needs) (λ c κs. search needs) (λ c. search needs) returns)

@@ -10,30 +10,6 @@ use borrow.Author.Needs.{needs}
 use Rattle.report.proofs.put_totals.Statement.{statement}
 use Rattle.report.proofs.put_totals.Tie as tie
 
-slice-aggregate-put-total : tie.Need-slice-aggregate-put-total
-slice-aggregate-put-total c = search needs
-
-put-total-requires : tie.Need-put-total-requires
-put-total-requires c κs = search needs
-
-slice-aggregate-put-total-2 : tie.Need-slice-aggregate-put-total-2
-slice-aggregate-put-total-2 c = search needs
-
-put-total-requires-2 : tie.Need-put-total-requires-2
-put-total-requires-2 c κs = search needs
-
-slice-aggregate-put-total-3 : tie.Need-slice-aggregate-put-total-3
-slice-aggregate-put-total-3 c = search needs
-
-put-total-requires-3 : tie.Need-put-total-requires-3
-put-total-requires-3 c κs = search needs
-
-put-byte-requires : tie.Need-put-byte-requires
-put-byte-requires c κs = search needs
-
-same-length : tie.Need-same-length
-same-length c = search needs
-
 module _ (s : tie.Start) where
   terminal-fits : SFits w64 (s .args .h .terminal)
   terminal-fits = search needs
@@ -63,12 +39,12 @@ pub put-totals-spec : {M : Type 1} → statement M
 put-totals-spec =
     tie.close
     (tie.spec
-    slice-aggregate-put-total
-    put-total-requires
-    slice-aggregate-put-total-2
-    put-total-requires-2
-    slice-aggregate-put-total-3
-    put-total-requires-3
-    put-byte-requires
-    same-length
+    (λ c. search needs)
+    (λ c κs. search needs)
+    (λ c. search needs)
+    (λ c κs. search needs)
+    (λ c. search needs)
+    (λ c κs. search needs)
+    (λ c κs. search needs)
+    (λ c. search needs)
     returns)

@@ -35,18 +35,9 @@ above c =
     ap decimal (size (c .before))
     ∙ sym (whole-above _ (flag-lt w64 _ (pos 0) (s .fits .z) (record { sfits = omega arith }) (c .if1 .left)))
 
-magnitude-requires : tie.Need-magnitude-requires
-magnitude-requires c κs = search needs
-
-put-byte-requires : tie.Need-put-byte-requires
-put-byte-requires c κs = search needs
-
 put-decimal-requires : tie.Need-put-decimal-requires
 put-decimal-requires c κs =
     omega (arith, short (c .before .before .before .before .before .before), c .before .before .before .put-byte .ensures .moves)
-
-same-length : tie.Need-same-length
-same-length c = search needs
 
 returns : tie.Need-returns
 returns c =
@@ -60,9 +51,6 @@ returns c =
 put-decimal-requires-2 : tie.Need-put-decimal-requires-2
 put-decimal-requires-2 c κs = omega (arith, short (c .before .before))
 
-same-length-2 : tie.Need-same-length-2
-same-length-2 c = search needs
-
 returns-2 : tie.Need-returns-2
 returns-2 c =
     let d = c .before .before in
@@ -73,11 +61,11 @@ pub put-whole-spec : {M : Type 1} → statement M
 put-whole-spec =
     tie.close
     (tie.spec
-    magnitude-requires
-    put-byte-requires
+    (λ c κs. search needs)
+    (λ c κs. search needs)
     put-decimal-requires
-    same-length
+    (λ c. search needs)
     returns
     put-decimal-requires-2
-    same-length-2
+    (λ c. search needs)
     returns-2)

@@ -61,36 +61,12 @@ given-is : (c : tie.After-answer) →
 unfolding toldTree
 given-is c = same-three (sym (ap toldTree (c .answer .given .1)) ∙ answer (c .before .before .before))
 
-handed-requires : tie.Need-handed-requires
-handed-requires c κs = search needs
-
-slice-aggregate-refined-tree : tie.Need-slice-aggregate-refined-tree
-slice-aggregate-refined-tree c = search needs
-
-refined-tree-requires : tie.Need-refined-tree-requires
-refined-tree-requires c κs = search needs
-
-enum-known-answer : tie.Need-enum-known-answer
-enum-known-answer c = search needs
-
-slice-aggregate-tree : tie.Need-slice-aggregate-tree
-slice-aggregate-tree c = search needs
-
 tree-requires : tie.Need-tree-requires
 tree-requires c κs =
     let a = c .before .before .before in
     let r = a .before .before .before in
     let f = edges-fit _ _ _ (a .answer .given .0 .0) (table r) (given-is a .0) in
     (omega (arith, f, r .refined-tree .kept .1 .1 .1 .0), f)
-
-enum-known-answer-2 : tie.Need-enum-known-answer-2
-enum-known-answer-2 c = search needs
-
-number-requires : tie.Need-number-requires
-number-requires c κs = search needs
-
-refused-requires : tie.Need-refused-requires
-refused-requires c κs = search needs
 
 total-fits : (c : tie.After-known-told) → SFits w64 (c .before .answer .given .0 .1 .0)
 total-fits c = search needs
@@ -119,14 +95,14 @@ pub refined-text-spec : {M : Type 1} → statement M
 refined-text-spec =
     tie.close
     (tie.spec
-    handed-requires
-    slice-aggregate-refined-tree
-    refined-tree-requires
-    enum-known-answer
-    slice-aggregate-tree
+    (λ c κs. search needs)
+    (λ c. search needs)
+    (λ c κs. search needs)
+    (λ c. search needs)
+    (λ c. search needs)
     tree-requires
-    enum-known-answer-2
-    number-requires
-    refused-requires
+    (λ c. search needs)
+    (λ c κs. search needs)
+    (λ c κs. search needs)
     returns
     returns-2)

@@ -57,18 +57,6 @@ macro-list : (c : tie.After-answer)
 macro-list c =
     front _ _ _ _ (c .before .before .before .before .read-file .ensures .second ∙ sym (after-given _ _ _ _ (read c))) (macro-numbers c)
 
-slice-aggregate-read-file : tie.Need-slice-aggregate-read-file
-slice-aggregate-read-file c = search needs
-
-slice-aggregate-read-file-2 : tie.Need-slice-aggregate-read-file-2
-slice-aggregate-read-file-2 c = search needs
-
-read-file-requires : tie.Need-read-file-requires
-read-file-requires c κs = search needs
-
-enum-known-answer : tie.Need-enum-known-answer
-enum-known-answer c = search needs
-
 mul-m : tie.Need-mul-m
 mul-m c =
     let a = c .before .before in
@@ -98,15 +86,6 @@ slice-aggregate-trees-text-2 c = let a = c .before .before .before .before .befo
 trees-text-requires : tie.Need-trees-text-requires
 trees-text-requires c κs = let a = c .before .before .before .before .before .before in rw (pin-list a, macro-list a) (lists _ _ (read a))
 
-enum-known-answer-2 : tie.Need-enum-known-answer-2
-enum-known-answer-2 c = search needs
-
-number-requires : tie.Need-number-requires
-number-requires c κs = search needs
-
-refused-requires : tie.Need-refused-requires
-refused-requires c κs = search needs
-
 returns : tie.Need-returns
 returns c =
     let a = c .before .before .before .before .before .before .before in
@@ -128,10 +107,10 @@ pub route-spec : {M : Type 1} → statement M
 route-spec =
     tie.close
     (tie.spec
-    slice-aggregate-read-file
-    slice-aggregate-read-file-2
-    read-file-requires
-    enum-known-answer
+    (λ c. search needs)
+    (λ c. search needs)
+    (λ c κs. search needs)
+    (λ c. search needs)
     mul-m
     mul-k
     array-share-prefix-pins
@@ -139,8 +118,8 @@ route-spec =
     array-share-prefix-macros
     slice-aggregate-trees-text-2
     trees-text-requires
-    enum-known-answer-2
-    number-requires
-    refused-requires
+    (λ c. search needs)
+    (λ c κs. search needs)
+    (λ c κs. search needs)
     returns
     returns-2)

@@ -7,15 +7,6 @@ use borrow.Author.Needs.{needs}
 use Rattle.report.proofs.tree.Statement.{statement}
 use Rattle.report.proofs.tree.Tie as tie
 
-put-header-requires : tie.Need-put-header-requires
-put-header-requires c κs = search needs
-
-put-edges-requires : tie.Need-put-edges-requires
-put-edges-requires c κs = search needs
-
-same-length : tie.Need-same-length
-same-length c = search needs
-
 returns : tie.Need-returns
 unfolding treeText
 returns c =
@@ -25,4 +16,4 @@ returns c =
     put-filled t (omega (arith, t .moves, l .put-edges .ensures .1, h .put-header .ensures .1))
 
 pub tree-spec : {M : Type 1} → statement M
-tree-spec = tie.close (tie.spec put-header-requires put-edges-requires same-length returns)
+tree-spec = tie.close (tie.spec (λ c κs. search needs) (λ c κs. search needs) (λ c. search needs) returns)

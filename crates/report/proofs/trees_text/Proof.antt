@@ -39,30 +39,6 @@ answer : (c : tie.After-terminal-tree) → toldTerminal (c .terminal-tree .resul
     )
 answer c = call c .answer ∙ terminal-given _ _ _ (counted _ _ _ _ (start c .pre))
 
-handed-requires : tie.Need-handed-requires
-handed-requires c κs = search needs
-
-slice-aggregate-terminal-tree : tie.Need-slice-aggregate-terminal-tree
-slice-aggregate-terminal-tree c = search needs
-
-terminal-tree-requires : tie.Need-terminal-tree-requires
-terminal-tree-requires c κs = search needs
-
-enum-known-answer : tie.Need-enum-known-answer
-enum-known-answer c = search needs
-
-refined-text-requires : tie.Need-refined-text-requires
-refined-text-requires c κs = search needs
-
-enum-known-answer-2 : tie.Need-enum-known-answer-2
-enum-known-answer-2 c = search needs
-
-number-requires : tie.Need-number-requires
-number-requires c κs = search needs
-
-refused-requires : tie.Need-refused-requires
-refused-requires c κs = search needs
-
 returns : tie.Need-returns
 unfolding toldTerminal treesText
 returns c =
@@ -81,13 +57,13 @@ pub trees-text-spec : {M : Type 1} → statement M
 trees-text-spec =
     tie.close
     (tie.spec
-    handed-requires
-    slice-aggregate-terminal-tree
-    terminal-tree-requires
-    enum-known-answer
-    refined-text-requires
-    enum-known-answer-2
-    number-requires
-    refused-requires
+    (λ c κs. search needs)
+    (λ c. search needs)
+    (λ c κs. search needs)
+    (λ c. search needs)
+    (λ c κs. search needs)
+    (λ c. search needs)
+    (λ c κs. search needs)
+    (λ c κs. search needs)
     returns
     returns-2)

@@ -16,15 +16,6 @@ use borrow.Author.Needs.{needs}
 use Rattle.router.proofs.graph.Statement.{statement}
 use Rattle.router.proofs.graph.Tie as tie
 
-check-requires : tie.Need-check-requires
-check-requires c κs = search needs
-
-enum-known-answer : tie.Need-enum-known-answer
-enum-known-answer c = search needs
-
-enum-known-answer-2 : tie.Need-enum-known-answer-2
-enum-known-answer-2 c = search needs
-
 -- the answer of the check, where the net is allowed
 allowed : (c : tie.After-answer)
     → checked (c .before .before .before .args .w) (now (c .before .before .before .args .pins)) (now (c .before .before .before .args .macros))
@@ -34,12 +25,6 @@ allowed c = sym (c .before .before .check .ensures) ∙ ap told (c .answer .give
 
 graph-requires : tie.Need-graph-requires
 graph-requires c κs = counted-of _ _ _ (allowed (c .before .before .before))
-
-same-length : tie.Need-same-length
-same-length c = search needs
-
-same-length-2 : tie.Need-same-length-2
-same-length-2 c = search needs
 
 returns : tie.Need-returns
 returns c =
@@ -63,11 +48,11 @@ pub graph-spec : {M : Type 1} → statement M
 graph-spec =
     tie.close
     (tie.spec
-    check-requires
-    enum-known-answer
+    (λ c κs. search needs)
+    (λ c. search needs)
     graph-requires
-    enum-known-answer-2
-    same-length
-    same-length-2
+    (λ c. search needs)
+    (λ c. search needs)
+    (λ c. search needs)
     returns
     returns-2)

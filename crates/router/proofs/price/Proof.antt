@@ -15,15 +15,6 @@ use borrow.Author.Needs.{needs}
 use Rattle.router.proofs.price.Statement.{statement}
 use Rattle.router.proofs.price.Tie as tie
 
-check-requires : tie.Need-check-requires
-check-requires c κs = search needs
-
-enum-known-answer : tie.Need-enum-known-answer
-enum-known-answer c = search needs
-
-enum-known-answer-2 : tie.Need-enum-known-answer-2
-enum-known-answer-2 c = search needs
-
 -- the answer of the check, where the net is allowed
 allowed : (c : tie.After-answer)
     → checked (c .before .before .before .before .args .w) (now (c .before .before .before .before .args .pins)) (now (c .before .before .before .before .args .macros))
@@ -54,4 +45,4 @@ returns-2 c =
     sym (only-refused (checked (a .w) (now (a .pins)) (now (a .macros))) next _ check)
 
 pub price-spec : {M : Type 1} → statement M
-price-spec = tie.close (tie.spec check-requires enum-known-answer price-requires enum-known-answer-2 returns returns-2)
+price-spec = tie.close (tie.spec (λ c κs. search needs) (λ c. search needs) price-requires (λ c. search needs) returns returns-2)

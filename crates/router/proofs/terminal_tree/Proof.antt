@@ -16,15 +16,6 @@ use borrow.Author.Needs.{needs}
 use Rattle.router.proofs.terminal_tree.Statement.{statement}
 use Rattle.router.proofs.terminal_tree.Tie as tie
 
-check-requires : tie.Need-check-requires
-check-requires c κs = search needs
-
-enum-known-answer : tie.Need-enum-known-answer
-enum-known-answer c = search needs
-
-enum-known-answer-2 : tie.Need-enum-known-answer-2
-enum-known-answer-2 c = search needs
-
 -- the answer of the check, where the net is allowed
 allowed : (c : tie.After-answer)
     → checked (c .before .before .before .args .w) (now (c .before .before .before .args .pins)) (now (c .before .before .before .args .macros))
@@ -34,9 +25,6 @@ allowed c = sym (c .before .before .check .ensures) ∙ ap told (c .answer .give
 
 terminal-tree-requires : tie.Need-terminal-tree-requires
 terminal-tree-requires c κs = counted-of _ _ _ (allowed (c .before .before))
-
-same-length : tie.Need-same-length
-same-length c = search needs
 
 returns : tie.Need-returns
 unfolding terminalTree
@@ -62,10 +50,10 @@ pub terminal-tree-spec : {M : Type 1} → statement M
 terminal-tree-spec =
     tie.close
     (tie.spec
-    check-requires
-    enum-known-answer
+    (λ c κs. search needs)
+    (λ c. search needs)
     terminal-tree-requires
-    enum-known-answer-2
-    same-length
+    (λ c. search needs)
+    (λ c. search needs)
     returns
     returns-2)

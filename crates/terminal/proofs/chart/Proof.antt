@@ -58,12 +58,6 @@ edges-requires c κs =
     let n = length-take-le (d .vertices .result * 2) (d .vertices .last .1 .1 .0) (fits d) in
     omega (arith, n, few d, d .before .before .pre .1)
 
-same-length : tie.Need-same-length
-same-length c = search needs
-
-same-length-2 : tie.Need-same-length-2
-same-length-2 c = search needs
-
 returns : tie.Need-returns
 returns c =
     let d = c .before .before .before .before .before in
@@ -89,6 +83,6 @@ chart-spec =
     slice-reshare-prefix-edges
     slice-aggregate-edges
     edges-requires
-    same-length
-    same-length-2
+    (λ c. search needs)
+    (λ c. search needs)
     returns)

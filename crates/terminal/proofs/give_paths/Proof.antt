@@ -25,12 +25,6 @@ abbrev μ-loop : tie.MeasureT-loop
 loop-holds : tie.Need-loop-holds Inv-loop μ-loop
 loop-holds c = (omega arith, refl, give-none _ _ _ _)
 
-mul-k : tie.Need-mul-k Inv-loop μ-loop
-mul-k c = omega arith
-
-element-copy-out-k : tie.Need-element-copy-out-k Inv-loop μ-loop
-element-copy-out-k c = omega arith
-
 -- the bridge that is read is an edge
 bridge : (d : tie.In-loop Inv-loop μ-loop) → getD (now (d .before .before .args .kept)) (d .before .loop .i) 0 < edgeBound
 bridge d = d .before .before .pre .bridge _ (d .loop-test .taken)
@@ -54,23 +48,11 @@ place-at-requires-2 c κs =
     let d = c .before .before .before .before in
     omega (arith, bridge d, d .before .before .pre .edges-known)
 
-mul-put-path : tie.Need-mul-put-path Inv-loop μ-loop
-mul-put-path c = omega arith
-
-element-copy-out-put-path : tie.Need-element-copy-out-put-path Inv-loop μ-loop
-element-copy-out-put-path c = omega arith
-
 put-path-requires : tie.Need-put-path-requires Inv-loop μ-loop
 put-path-requires c κs =
     let d = c .before .before .before .before .before .before .before in
     let s = d .before .before in
     (omega (arith, d .loop-test .taken, s .pre .space, d .before .loop .inv), s .pre .short _ (d .loop-test .taken))
-
-add-i : tie.Need-add-i Inv-loop μ-loop
-add-i c = omega arith
-
-loop-less : tie.Need-loop-less Inv-loop μ-loop
-loop-less c = omega arith
 
 loop-again : tie.Need-loop-again Inv-loop μ-loop
 loop-again c =
@@ -101,18 +83,18 @@ give-paths-spec =
     Inv-loop
     μ-loop
     loop-holds
-    mul-k
-    element-copy-out-k
+    (λ c. omega arith)
+    (λ c. omega arith)
     mul-place-at
     place-at-requires
     mul-place-at-2
     add-place-at
     place-at-requires-2
-    mul-put-path
-    element-copy-out-put-path
+    (λ c. omega arith)
+    (λ c. omega arith)
     put-path-requires
-    add-i
-    loop-less
+    (λ c. omega arith)
+    (λ c. omega arith)
     loop-again
     same-length
     returns)

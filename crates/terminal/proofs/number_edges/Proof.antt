@@ -26,53 +26,8 @@ loop-holds c =
     let q = c .pre .1 .1 in
     (omega arith, number-none _ _ _ _ _ _ (q .0) (q .1 .0) (q .1 .1))
 
-mul-place-at : tie.Need-mul-place-at Inv-loop μ-loop
-mul-place-at c = omega arith
-
-place-at-requires : tie.Need-place-at-requires Inv-loop μ-loop
-place-at-requires c κs = omega arith
-
-mul-place-at-2 : tie.Need-mul-place-at-2 Inv-loop μ-loop
-mul-place-at-2 c = omega arith
-
-add-place-at : tie.Need-add-place-at Inv-loop μ-loop
-add-place-at c = omega arith
-
-place-at-requires-2 : tie.Need-place-at-requires-2 Inv-loop μ-loop
-place-at-requires-2 c κs = omega arith
-
-number-of-requires : tie.Need-number-of-requires Inv-loop μ-loop
-number-of-requires c κs = omega arith
-
-mul-ea : tie.Need-mul-ea Inv-loop μ-loop
-mul-ea c = omega arith
-
-element-write-ea : tie.Need-element-write-ea Inv-loop μ-loop
-element-write-ea c = omega arith
-
-number-of-requires-2 : tie.Need-number-of-requires-2 Inv-loop μ-loop
-number-of-requires-2 c κs = omega arith
-
-mul-eb : tie.Need-mul-eb Inv-loop μ-loop
-mul-eb c = omega arith
-
-element-write-eb : tie.Need-element-write-eb Inv-loop μ-loop
-element-write-eb c = omega arith
-
 cost-requires : tie.Need-cost-requires Inv-loop μ-loop
 cost-requires c κs = tt
-
-mul-el : tie.Need-mul-el Inv-loop μ-loop
-mul-el c = omega arith
-
-element-write-el : tie.Need-element-write-el Inv-loop μ-loop
-element-write-el c = omega arith
-
-add-k : tie.Need-add-k Inv-loop μ-loop
-add-k c = omega arith
-
-loop-less : tie.Need-loop-less Inv-loop μ-loop
-loop-less c = omega arith
 
 loop-again : tie.Need-loop-again Inv-loop μ-loop
 loop-again c =
@@ -105,21 +60,21 @@ number-edges-spec =
     Inv-loop
     μ-loop
     loop-holds
-    mul-place-at
-    place-at-requires
-    mul-place-at-2
-    add-place-at
-    place-at-requires-2
-    number-of-requires
-    mul-ea
-    element-write-ea
-    number-of-requires-2
-    mul-eb
-    element-write-eb
+    (λ c. omega arith)
+    (λ c κs. omega arith)
+    (λ c. omega arith)
+    (λ c. omega arith)
+    (λ c κs. omega arith)
+    (λ c κs. omega arith)
+    (λ c. omega arith)
+    (λ c. omega arith)
+    (λ c κs. omega arith)
+    (λ c. omega arith)
+    (λ c. omega arith)
     cost-requires
-    mul-el
-    element-write-el
-    add-k
-    loop-less
+    (λ c. omega arith)
+    (λ c. omega arith)
+    (λ c. omega arith)
+    (λ c. omega arith)
     loop-again
     returns)

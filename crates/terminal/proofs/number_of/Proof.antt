@@ -22,9 +22,6 @@ abbrev μ-loop : tie.MeasureT-loop
 loop-holds : tie.Need-loop-holds Inv-loop μ-loop
 loop-holds c = count-none _ _ _
 
-place-at-requires : tie.Need-place-at-requires Inv-loop μ-loop
-place-at-requires c κs = omega arith
-
 is-before-requires : tie.Need-is-before-requires Inv-loop μ-loop
 is-before-requires c κs = tt
 
@@ -42,12 +39,6 @@ returns c =
     let l = c .before .before .before .before in
     count-stop _ _ _ _ (l .loop .inv) (c .before .before .before .loop-test .taken) (test (c .before) ∙ not-true _ (c .if1 .taken))
 
-add-i : tie.Need-add-i Inv-loop μ-loop
-add-i c = omega arith
-
-loop-less : tie.Need-loop-less Inv-loop μ-loop
-loop-less c = omega arith
-
 loop-again : tie.Need-loop-again Inv-loop μ-loop
 loop-again c =
     let l = c .before .before .before .before in
@@ -63,10 +54,10 @@ number-of-spec =
     Inv-loop
     μ-loop
     loop-holds
-    place-at-requires
+    (λ c κs. omega arith)
     is-before-requires
     returns
-    add-i
-    loop-less
+    (λ c. omega arith)
+    (λ c. omega arith)
     loop-again
     returns-2)

@@ -11,18 +11,6 @@ use borrow.Author.Needs.{needs}
 use Rattle.terminal.proofs.number_pins.Statement.{statement}
 use Rattle.terminal.proofs.number_pins.Tie as tie
 
-slice-aggregate-vertices : tie.Need-slice-aggregate-vertices
-slice-aggregate-vertices c = search needs
-
-slice-aggregate-vertices-2 : tie.Need-slice-aggregate-vertices-2
-slice-aggregate-vertices-2 c = search needs
-
-vertices-requires : tie.Need-vertices-requires
-vertices-requires c κs = search needs
-
-slice-aggregate-number-places : tie.Need-slice-aggregate-number-places
-slice-aggregate-number-places c = search needs
-
 few : (d : tie.After-vertices) → d .vertices .result ≤ pinBound
 few d =
     let s = d .before .before .before in
@@ -43,9 +31,9 @@ pub number-pins-spec : {M : Type 1} → statement M
 number-pins-spec =
     tie.close
     (tie.spec
-    slice-aggregate-vertices
-    slice-aggregate-vertices-2
-    vertices-requires
-    slice-aggregate-number-places
+    (λ c. search needs)
+    (λ c. search needs)
+    (λ c κs. search needs)
+    (λ c. search needs)
     number-places-requires
     returns)

@@ -14,68 +14,17 @@ use borrow.Author.Needs.{needs}
 use Rattle.terminal.proofs.put_path.Statement.{statement}
 use Rattle.terminal.proofs.put_path.Tie as tie
 
-mul-k : tie.Need-mul-k
-mul-k c = search needs
-
-wide-requires : tie.Need-wide-requires
-wide-requires c κs = search needs
-
-mul-paths : tie.Need-mul-paths
-mul-paths c = search needs
-
-slice-set-from-paths : tie.Need-slice-set-from-paths
-slice-set-from-paths c = search needs
-
-wide-requires-2 : tie.Need-wide-requires-2
-wide-requires-2 c κs = search needs
-
-add-paths : tie.Need-add-paths
-add-paths c = search needs
-
-mul-paths-2 : tie.Need-mul-paths-2
-mul-paths-2 c = search needs
-
 slice-set-from-paths-2 : tie.Need-slice-set-from-paths-2
 slice-set-from-paths-2 c = simp length-set (omega arith)
-
-wide-requires-3 : tie.Need-wide-requires-3
-wide-requires-3 c κs = search needs
-
-add-paths-2 : tie.Need-add-paths-2
-add-paths-2 c = search needs
-
-mul-paths-3 : tie.Need-mul-paths-3
-mul-paths-3 c = search needs
 
 slice-set-from-paths-3 : tie.Need-slice-set-from-paths-3
 slice-set-from-paths-3 c = simp length-set (omega arith)
 
-wide-requires-4 : tie.Need-wide-requires-4
-wide-requires-4 c κs = search needs
-
-add-paths-3 : tie.Need-add-paths-3
-add-paths-3 c = search needs
-
-mul-paths-4 : tie.Need-mul-paths-4
-mul-paths-4 c = search needs
-
 slice-set-from-paths-4 : tie.Need-slice-set-from-paths-4
 slice-set-from-paths-4 c = simp length-set (omega arith)
 
-signed-requires : tie.Need-signed-requires
-signed-requires c κs = search needs
-
-add-t10 : tie.Need-add-t10
-add-t10 c = search needs
-
-mul-t8 : tie.Need-mul-t8
-mul-t8 c = search needs
-
 slice-set-from-paths-5 : tie.Need-slice-set-from-paths-5
 slice-set-from-paths-5 c = simp length-set (omega arith)
-
-same-length : tie.Need-same-length
-same-length c = search needs
 
 returns : tie.Need-returns
 returns c =
@@ -100,25 +49,25 @@ pub put-path-spec : {M : Type 1} → statement M
 put-path-spec =
     tie.close
     (tie.spec
-    mul-k
-    wide-requires
-    mul-paths
-    slice-set-from-paths
-    wide-requires-2
-    add-paths
-    mul-paths-2
+    (λ c. search needs)
+    (λ c κs. search needs)
+    (λ c. search needs)
+    (λ c. search needs)
+    (λ c κs. search needs)
+    (λ c. search needs)
+    (λ c. search needs)
     slice-set-from-paths-2
-    wide-requires-3
-    add-paths-2
-    mul-paths-3
+    (λ c κs. search needs)
+    (λ c. search needs)
+    (λ c. search needs)
     slice-set-from-paths-3
-    wide-requires-4
-    add-paths-3
-    mul-paths-4
+    (λ c κs. search needs)
+    (λ c. search needs)
+    (λ c. search needs)
     slice-set-from-paths-4
-    signed-requires
-    add-t10
-    mul-t8
+    (λ c κs. search needs)
+    (λ c. search needs)
+    (λ c. search needs)
     slice-set-from-paths-5
-    same-length
+    (λ c. search needs)
     returns)

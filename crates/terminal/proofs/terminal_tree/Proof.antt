@@ -37,9 +37,6 @@ module _ (d : tie.After-chart) where
       let e = d .chart .ensures in
       record { vertex-count = e .0 .0; edge-count = e .0 .1; vertices-are = e .1 .0; edges-are = e .1 .1 }
 
-chart-requires : tie.Need-chart-requires
-chart-requires c κs = search needs
-
 number-edges-requires : tie.Need-number-edges-requires
 number-edges-requires c κs =
     let d = c .before .before .before .before .before .before .before in
@@ -81,7 +78,7 @@ pub terminal-tree-spec : {M : Type 1} → statement M
 terminal-tree-spec =
     tie.close
     (tie.spec
-    chart-requires
+    (λ c κs. search needs)
     number-edges-requires
     number-pins-requires
     kept-tree-requires

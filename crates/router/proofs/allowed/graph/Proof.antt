@@ -98,12 +98,6 @@ edges-requires c κs =
     let n = length-take-le (d .vertices .result * 2) (d .vertices .last .1 .1 .0) (fits d) in
     omega (arith, n, few d, room (d .before .before))
 
-same-length : tie.Need-same-length
-same-length c = search needs
-
-same-length-2 : tie.Need-same-length-2
-same-length-2 c = search needs
-
 returns-2 : tie.Need-returns-2
 unfolding toldGraph netVertices netEdges
 returns-2 c =
@@ -133,6 +127,6 @@ graph-spec =
     slice-reshare-prefix-edges
     slice-aggregate-edges
     edges-requires
-    same-length
-    same-length-2
+    (λ c. search needs)
+    (λ c. search needs)
     returns-2)

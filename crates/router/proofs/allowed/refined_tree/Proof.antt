@@ -97,9 +97,6 @@ cast-t24 c = record { sfits = total-fits (c .before .before .before .before .bef
 cast-t25 : tie.Need-cast-t25
 cast-t25 c = record { sfits = metal-fits (c .before .before .before .before .before .before) }
 
-same-length : tie.Need-same-length
-same-length c = search needs
-
 returns-2 : tie.Need-returns-2
 unfolding refinedGiven toldTree
 returns-2 c =
@@ -131,5 +128,5 @@ refined-tree-spec =
     give-edges-requires
     cast-t24
     cast-t25
-    same-length
+    (λ c. search needs)
     returns-2)

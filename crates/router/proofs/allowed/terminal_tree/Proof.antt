@@ -56,9 +56,6 @@ cast-t40 c =
     let d = c .before .before .before .before .before .before .before in
     record { sfits = omega (arith, d .terminal-tree .ensures .total-is, total-small (as-allowed (d .before .before .before .before .before .before .before .before .before .before .before .before .before .before .before .pre))) }
 
-same-length : tie.Need-same-length
-same-length c = search needs
-
 returns-2 : tie.Need-returns-2
 unfolding terminalGiven toldTerminal pathsTotal pathsOf
 returns-2 c =
@@ -88,5 +85,5 @@ terminal-tree-spec =
     terminal-tree-requires
     give-paths-requires
     cast-t40
-    same-length
+    (λ c. search needs)
     returns-2)

@@ -67,9 +67,6 @@ give-wires-requires c κs =
       ),
     )
 
-same-length : tie.Need-same-length
-same-length c = search needs
-
 returns-2 : tie.Need-returns-2
 unfolding wiresGiven toldWires
 returns-2 c =
@@ -94,5 +91,5 @@ wires-spec =
     returns
     refine-requires
     give-wires-requires
-    same-length
+    (λ c. search needs)
     returns-2)

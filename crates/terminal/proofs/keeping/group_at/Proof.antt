@@ -6,18 +6,6 @@ use borrow.Author.Needs.{needs}
 use Rattle.terminal.proofs.keeping.group_at.Statement.{statement}
 use Rattle.terminal.proofs.keeping.group_at.Tie as tie
 
-mul-result : tie.Need-mul-result
-mul-result c = search needs
-
-element-copy-out-result : tie.Need-element-copy-out-result
-element-copy-out-result c = search needs
-
-mul-result-2 : tie.Need-mul-result-2
-mul-result-2 c = search needs
-
-element-copy-out-result-2 : tie.Need-element-copy-out-result-2
-element-copy-out-result-2 c = search needs
-
 mul-result-3 : tie.Need-mul-result-3
 mul-result-3 c =
     let s = c .before .before in
@@ -28,17 +16,14 @@ element-copy-out-result-3 c =
     let s = c .before .before in
     s .pre .1 .1 .below (getD (s .args .ends .now) (s .args .k) 0)
 
-returns : tie.Need-returns
-returns c = search needs
-
 pub group-at-spec : {M : Type 1} → statement M
 group-at-spec =
     tie.close
     (tie.spec
-    mul-result
-    element-copy-out-result
-    mul-result-2
-    element-copy-out-result-2
+    (λ c. search needs)
+    (λ c. search needs)
+    (λ c. search needs)
+    (λ c. search needs)
     mul-result-3
     element-copy-out-result-3
-    returns)
+    (λ c. search needs))

@@ -18,9 +18,6 @@ weigh-requires c κs =
 sort-bridges-requires : tie.Need-sort-bridges-requires
 sort-bridges-requires c κs = (ends-of _ (c .before .before .before .before .pre .0 .0), (below-replicate edgeBound edgeBound 0 (omega arith), refl))
 
-number-requires : tie.Need-number-requires
-number-requires c κs = search needs
-
 keep-requires : tie.Need-keep-requires
 keep-requires c κs =
     let s = c .before .before .before .before .before .before .before .before .before .before in
@@ -62,7 +59,7 @@ kept-paths-spec =
     (tie.spec
     weigh-requires
     sort-bridges-requires
-    number-requires
+    (λ c κs. search needs)
     keep-requires
     measure-requires
     returns)

@@ -23,12 +23,6 @@ abbrev μ-loop : tie.MeasureT-loop
 loop-holds : tie.Need-loop-holds Inv-loop μ-loop
 loop-holds c = (omega arith, rw (all-left (c .args .n)) (measure-none _ _ _ _))
 
-mul-d : tie.Need-mul-d Inv-loop μ-loop
-mul-d c = omega arith
-
-element-copy-out-d : tie.Need-element-copy-out-d Inv-loop μ-loop
-element-copy-out-d c = omega arith
-
 mul-d-2 : tie.Need-mul-d-2 Inv-loop μ-loop
 mul-d-2 c =
     let s = c .before .before .before in
@@ -38,12 +32,6 @@ element-copy-out-d-2 : tie.Need-element-copy-out-d-2 Inv-loop μ-loop
 element-copy-out-d-2 c =
     let s = c .before .before .before in
     s .pre .0 .1 .0 .inside _ (c .before .loop-test .taken)
-
-mul-long : tie.Need-mul-long Inv-loop μ-loop
-mul-long c = omega arith
-
-element-write-long : tie.Need-element-write-long Inv-loop μ-loop
-element-write-long c = omega arith
 
 -- a length that is read is small
 light : (c : tie.After-d2 Inv-loop μ-loop) →
@@ -59,12 +47,6 @@ add-sum c =
     let l = c .before .before .before in
     let w = light c in
     omega (arith, l .loop .inv .1 .small, l .before .pre .0 .0)
-
-add-i : tie.Need-add-i Inv-loop μ-loop
-add-i c = omega arith
-
-loop-less : tie.Need-loop-less Inv-loop μ-loop
-loop-less c = omega arith
 
 loop-again : tie.Need-loop-again Inv-loop μ-loop
 loop-again c =
@@ -86,14 +68,14 @@ measure-spec =
     Inv-loop
     μ-loop
     loop-holds
-    mul-d
-    element-copy-out-d
+    (λ c. omega arith)
+    (λ c. omega arith)
     mul-d-2
     element-copy-out-d-2
-    mul-long
-    element-write-long
+    (λ c. omega arith)
+    (λ c. omega arith)
     add-sum
-    add-i
-    loop-less
+    (λ c. omega arith)
+    (λ c. omega arith)
     loop-again
     returns)

@@ -19,27 +19,6 @@ abbrev μ-loop : tie.MeasureT-loop
 loop-holds : tie.Need-loop-holds Inv-loop μ-loop
 loop-holds c = (omega arith, refl)
 
-mul-changed : tie.Need-mul-changed Inv-loop μ-loop
-mul-changed c = omega arith
-
-element-copy-out-changed : tie.Need-element-copy-out-changed Inv-loop μ-loop
-element-copy-out-changed c = omega arith
-
-changed-requires : tie.Need-changed-requires Inv-loop μ-loop
-changed-requires c κs = omega arith
-
-mul-group : tie.Need-mul-group Inv-loop μ-loop
-mul-group c = omega arith
-
-element-write-group : tie.Need-element-write-group Inv-loop μ-loop
-element-write-group c = omega arith
-
-add-i : tie.Need-add-i Inv-loop μ-loop
-add-i c = omega arith
-
-loop-less : tie.Need-loop-less Inv-loop μ-loop
-loop-less c = omega arith
-
 loop-again : tie.Need-loop-again Inv-loop μ-loop
 loop-again c =
     let l = c .before .before .before in
@@ -57,12 +36,12 @@ merge-spec =
     Inv-loop
     μ-loop
     loop-holds
-    mul-changed
-    element-copy-out-changed
-    changed-requires
-    mul-group
-    element-write-group
-    add-i
-    loop-less
+    (λ c. omega arith)
+    (λ c. omega arith)
+    (λ c κs. omega arith)
+    (λ c. omega arith)
+    (λ c. omega arith)
+    (λ c. omega arith)
+    (λ c. omega arith)
     loop-again
     returns)
