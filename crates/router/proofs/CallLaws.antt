@@ -47,7 +47,8 @@ module _ {net : Net} {t : Told ℕ} {lent : List ℤ} {r : DistanceAnswer} where
     square = λ k g. told-apart n k (sym e ∙ g);
   }
 
-  pub square-given : {n : ℕ} {lent′ : List ℤ} → toldDistances r ≡ given n → t ≡ given n → SquareOver net lent lent′ → GivesSquare net t lent r lent′
+  pub square-given : {n : ℕ} {lent′ : List ℤ} → toldDistances r ≡ given n → t ≡ given n → SquareOver net lent lent′ →
+      GivesSquare net t lent r lent′
   square-given {n} s e o = record {
     numbers = o .numbers;
     answer = s ∙ sym e;

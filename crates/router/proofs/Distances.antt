@@ -40,7 +40,8 @@ unfolding aboveGrid
 within-grid pins macros h k = or-neither _ _ (le-ltb gridPins (pinCount pins) h) (le-ltb gridMacros (macroCount macros) k)
 
 -- L7, L8, from the check alone
-pub promised-distances : (w : Weighing) (pins macros : List ℤ) {v : Counts} → checked w pins macros ≡ given v → PromisedDistances w pins macros
+pub promised-distances : (w : Weighing) (pins macros : List ℤ) {v : Counts} → checked w pins macros ≡ given v →
+    PromisedDistances w pins macros
 unfolding gridDistances
 promised-distances w pins macros {v} g =
     let a = given-allowed w pins macros g .1 in

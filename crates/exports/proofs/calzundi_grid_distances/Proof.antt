@@ -15,33 +15,17 @@ use borrow.Author.Needs.{needs}
 use Rattle.exports.proofs.calzundi_grid_distances.Statement.{statement}
 use Rattle.exports.proofs.calzundi_grid_distances.Tie as tie
 
-weighing-requires : tie.Need-weighing-requires
-weighing-requires c κs = search needs
-
-grid-distances-requires : tie.Need-grid-distances-requires
-grid-distances-requires c κs = search needs
-
-enum-known-answer : tie.Need-enum-known-answer
-enum-known-answer c = search needs
-
-enum-known-answer-2 : tie.Need-enum-known-answer-2
-enum-known-answer-2 c = search needs
-
-number-requires : tie.Need-number-requires
-number-requires c κs = search needs
-
-same-length : tie.Need-same-length
-same-length c = search needs
-
 abbrev start : tie.After-grid-distances → tie.Start
 start d = d .before .before .before
 
 -- the call, by the weights as they were handed over
-call : (d : tie.After-grid-distances) → DistancesCall gridDistances (weighing (start d .args .x) (start d .args .y)) (now (start d .args .pins)) (now (start d .args .macros))
+call : (d : tie.After-grid-distances) → DistancesCall gridDistances (weighing (start d .args .x) (start d .args .y))
+    (now (start d .args .pins)) (now (start d .args .macros))
     (now (start d .args .table)) (d .grid-distances .result) (d .grid-distances .last .1 .1 .1 .0)
 call d =
     let a = start d .args in
-    subst (λ (w : Weighing). DistancesCall gridDistances w (now (a .pins)) (now (a .macros)) (now (a .table)) (d .grid-distances .result) (d .grid-distances .last .1 .1 .1 .0))
+    subst (λ (w : Weighing). DistancesCall gridDistances w (now (a .pins)) (now (a .macros)) (now (a .table)) (d .grid-distances .result)
+    (d .grid-distances .last .1 .1 .1 .0))
     (read-back (a .x) (a .y) (start d .fits .x) (start d .fits .y) (d .before .before .weighing .ensures))
     (d .grid-distances .ensures)
 
@@ -57,9 +41,6 @@ returns c =
       square = g .square;
       count = value-handed toldDistances (g .answer) i (λ n. n) _;
     }
-
-same-length-2 : tie.Need-same-length-2
-same-length-2 c = search needs
 
 returns-2 : tie.Need-returns-2
 unfolding code valueAfter toldDistances
@@ -79,12 +60,12 @@ pub calzundi-grid-distances-spec : {M : Type 1} → statement M
 calzundi-grid-distances-spec =
     tie.close
     (tie.spec
-    weighing-requires
-    grid-distances-requires
-    enum-known-answer
-    enum-known-answer-2
-    number-requires
-    same-length
+    (λ c κs. search needs)
+    (λ c κs. search needs)
+    (λ c. search needs)
+    (λ c. search needs)
+    (λ c κs. search needs)
+    (λ c. search needs)
     returns
-    same-length-2
+    (λ c. search needs)
     returns-2)

@@ -1,7 +1,6 @@
 -- `grid::distances` meets its contract: lines, costs and numbers are the net's, and the rows settled from its pins are the square.
 -- Assumes nothing.
 use mathlib.Core.Path.{_≡_, refl, subst, sym}
-use native.Mathlib.Omega.{arith}
 use denote.Ref.{now}
 use Rattle.grid.specs.declared.Axis.the-variants.{Across, Along}
 use Rattle.grid.proofs.WholeLaws.{Small, Lined, table-long, whole-few, whole-priced, whole-fits, whole-below, whole-count}
@@ -10,28 +9,9 @@ use borrow.Author.Needs.{needs}
 use Rattle.grid.proofs.distances.Statement.{statement}
 use Rattle.grid.proofs.distances.Tie as tie
 use Rattle.grid.proofs.distances.Reads as reads
-use Rattle.grid.proofs.distances.Lts as lts
 use Rattle.grid.proofs.give_rows.Reads as give-rows-reads
-use Rattle.grid.proofs.lines.Reads as lines-reads
 use Rattle.grid.proofs.number_pins.Reads as number-pins-reads
-use Rattle.grid.proofs.put_costs.Reads as put-costs-reads
 use Rattle.net.proofs.pin_count.Reads as pin-count-reads
-
--- src/lib.rt:517:52
-slice-aggregate-lines : tie.Need-slice-aggregate-lines
-slice-aggregate-lines c = search needs
-
--- src/lib.rt:517:9
-lines-requires : tie.Need-lines-requires
-lines-requires c κs = search needs
-
--- src/lib.rt:518:50
-slice-aggregate-lines-2 : tie.Need-slice-aggregate-lines-2
-slice-aggregate-lines-2 c = search needs
-
--- src/lib.rt:518:9
-lines-requires-2 : tie.Need-lines-requires-2
-lines-requires-2 c κs = search needs
 
 -- the net, and its lines
 small : (s : tie.Start) → Small (s .args .w) (now (s .args .pins)) (now (s .args .macros))
@@ -58,22 +38,12 @@ along-of : (d : tie.After-lines2) → let s = start-of d in
     Lined Along (now (s .args .pins)) (now (s .args .macros)) (d .lines2 .result) (d .lines2 .last .1 .1 .1 .0)
 along-of d = record { lent = _; fresh = refl; count = d .lines2 .ensures .0; list = d .lines2 .ensures .1 }
 
--- src/lib.rt:524:9
 put-costs-requires : tie.Need-put-costs-requires
 put-costs-requires c κs =
     let d = c .before .before .before .before in
     let s = small (start-of d) in
     ((whole-few s (across-of d) (along-of d), refl), whole-priced s (across-of d) (along-of d))
 
--- src/lib.rt:526:23
-slice-aggregate-number-pins : tie.Need-slice-aggregate-number-pins
-slice-aggregate-number-pins c = search needs
-
--- src/lib.rt:526:28
-slice-aggregate-number-pins-2 : tie.Need-slice-aggregate-number-pins-2
-slice-aggregate-number-pins-2 c = search needs
-
--- src/lib.rt:526:5
 number-pins-requires : tie.Need-number-pins-requires
 number-pins-requires c κs =
     let d = lines-of (c .before .before .before) in
@@ -82,11 +52,6 @@ number-pins-requires c κs =
       (s .pre .1 .0 .0, refl),
     )
 
--- src/lib.rt:527:36
-pin-count-requires : tie.Need-pin-count-requires
-pin-count-requires c κs = search needs
-
--- src/lib.rt:527:5
 give-rows-requires : tie.Need-give-rows-requires
 give-rows-requires c κs =
     let n = c .before .before .before .before in
@@ -105,11 +70,6 @@ give-rows-requires c κs =
       rw m (s .pre .1 .1),
     )
 
--- src/lib.rt:509:1
-same-length : tie.Need-same-length
-same-length c = search needs
-
--- src/lib.rt:509:1
 returns : tie.Need-returns
 returns c =
     let g = c .before in
@@ -124,15 +84,15 @@ pub distances-spec : {M : Type 1} → statement M
 distances-spec =
     tie.close
     (tie.spec
-    slice-aggregate-lines
-    lines-requires
-    slice-aggregate-lines-2
-    lines-requires-2
+    (λ c. search needs)
+    (λ c κs. search needs)
+    (λ c. search needs)
+    (λ c κs. search needs)
     put-costs-requires
-    slice-aggregate-number-pins
-    slice-aggregate-number-pins-2
+    (λ c. search needs)
+    (λ c. search needs)
     number-pins-requires
-    pin-count-requires
+    (λ c κs. search needs)
     give-rows-requires
-    same-length
+    (λ c. search needs)
     returns)

@@ -7,29 +7,12 @@ use borrow.Author.Needs.{needs}
 use Rattle.grid.proofs.edge_cost.Statement.{statement}
 use Rattle.grid.proofs.edge_cost.Tie as tie
 use Rattle.grid.proofs.edge_cost.Reads as reads
-use Rattle.grid.proofs.edge_cost.Lts as lts
 use Rattle.grid.proofs.crossing.Reads as crossing-reads
-use Rattle.grid.proofs.is_segment.Reads as is-segment-reads
 use Rattle.grid.proofs.segment_cost.Reads as segment-cost-reads
-use Rattle.grid.proofs.target.Reads as target-reads
 
--- src/lib.rt:264:9
-is-segment-requires : tie.Need-is-segment-requires
-is-segment-requires c κs = search needs
-
--- src/lib.rt:265:9
 returns : tie.Need-returns
 returns c = sym (edge-none _ _ _ _ _ _ (sym (c .before .is-segment .ensures) ∙ not-true _ (c .if1 .taken)))
 
--- src/lib.rt:267:9
-crossing-requires : tie.Need-crossing-requires
-crossing-requires c κs = search needs
-
--- src/lib.rt:268:30
-target-requires : tie.Need-target-requires
-target-requires c κs = search needs
-
--- src/lib.rt:268:9
 crossing-requires-2 : tie.Need-crossing-requires-2
 crossing-requires-2 c κs =
     let d = c .before .before in
@@ -41,7 +24,6 @@ segment-cost-requires c κs =
     let s = c .before .before .before .before .before in
     rw (c .before .before .crossing .ensures, c .crossing2 .ensures) (s .pre .1 _ _)
 
--- src/lib.rt:252:1
 returns-2 : tie.Need-returns-2
 returns-2 c =
     let b = c .before in
@@ -55,10 +37,10 @@ pub edge-cost-spec : {M : Type 1} → statement M
 edge-cost-spec =
     tie.close
     (tie.spec
-    is-segment-requires
+    (λ c κs. search needs)
     returns
-    crossing-requires
-    target-requires
+    (λ c κs. search needs)
+    (λ c κs. search needs)
     crossing-requires-2
     segment-cost-requires
     returns-2)

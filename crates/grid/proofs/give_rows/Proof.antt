@@ -10,7 +10,6 @@ use Rattle.grid.proofs.GivenLaws.{rows-none, rows-more, rows-end, row-r
 use Rattle.grid.proofs.give_rows.Statement.{statement}
 use Rattle.grid.proofs.give_rows.Tie as tie
 use Rattle.grid.proofs.give_rows.Reads as reads
-use Rattle.grid.proofs.give_rows.Lts as lts
 use Rattle.grid.proofs.give_row.Reads as give-row-reads
 
 abbrev Inv-loop : tie.InvT-loop
@@ -19,11 +18,9 @@ Inv-loop costs e numbers m table₀ i₀ table i = (i ≤ m) × ((length table �
 abbrev μ-loop : tie.MeasureT-loop
 μ-loop costs e numbers m table₀ i₀ table i = m - i
 
--- src/lib.rt:493:5
 loop-holds : tie.Need-loop-holds Inv-loop μ-loop
 loop-holds c = (omega arith, (refl, rows-none _ _ _ _))
 
--- src/lib.rt:494:9
 give-row-requires : tie.Need-give-row-requires Inv-loop μ-loop
 give-row-requires c κs =
     let l = c .before .before in
@@ -31,15 +28,6 @@ give-row-requires c κs =
     let h = c .before .loop-test .taken in
     (s .pre .0, (h, row-room _ _ _ h (omega (arith, s .pre .1, l .loop .inv .1 .0))))
 
--- src/lib.rt:495:9
-add-i : tie.Need-add-i Inv-loop μ-loop
-add-i c = omega arith
-
--- src/lib.rt:493:5
-loop-less : tie.Need-loop-less Inv-loop μ-loop
-loop-less c = omega arith
-
--- src/lib.rt:493:5
 loop-again : tie.Need-loop-again Inv-loop μ-loop
 loop-again c =
     let d = c .before in
@@ -54,11 +42,9 @@ loop-again c =
       ),
     )
 
--- src/lib.rt:481:1
 same-length : tie.Need-same-length Inv-loop μ-loop
 same-length c = c .before .loop .inv .1 .0
 
--- src/lib.rt:481:1
 returns : tie.Need-returns Inv-loop μ-loop
 returns c =
     let i = c .before .loop .inv in
@@ -72,8 +58,8 @@ give-rows-spec =
     μ-loop
     loop-holds
     give-row-requires
-    add-i
-    loop-less
+    (λ c. omega arith)
+    (λ c. omega arith)
     loop-again
     same-length
     returns)

@@ -7,17 +7,8 @@ use borrow.Author.Needs.{needs}
 use Rattle.grid.proofs.lower_edge.Statement.{statement}
 use Rattle.grid.proofs.lower_edge.Tie as tie
 
-mul-c : tie.Need-mul-c
-mul-c c = search needs
-
-element-copy-out-c : tie.Need-element-copy-out-c
-element-copy-out-c c = search needs
-
 returns : tie.Need-returns
 returns c = inl (c .if1 .taken, (refl, refl))
-
-target-requires : tie.Need-target-requires
-target-requires c κs = search needs
 
 lower-both-requires : tie.Need-lower-both-requires
 lower-both-requires c κs =
@@ -36,4 +27,4 @@ returns-2 c =
 pub lower-edge-spec : {M : Type 1} → statement M
 lower-edge-spec =
     tie.close
-    (tie.spec mul-c element-copy-out-c returns target-requires lower-both-requires returns-2)
+    (tie.spec (λ c. search needs) (λ c. search needs) returns (λ c κs. search needs) lower-both-requires returns-2)

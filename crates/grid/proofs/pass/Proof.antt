@@ -22,12 +22,6 @@ lower-edge-requires c κs =
     let f = l .before .pre in
     ((f .0, c .before .loop-test .taken), held-row _ _ _ (f .1) (l .loop .inv .1 .held))
 
-add-k : tie.Need-add-k Inv-loop μ-loop
-add-k c = omega arith
-
-loop-less : tie.Need-loop-less Inv-loop μ-loop
-loop-less c = omega arith
-
 loop-again : tie.Need-loop-again Inv-loop μ-loop
 loop-again c =
     let l = c .before .before .before in
@@ -40,4 +34,4 @@ returns c = pass-end _ _ _ _ _ _ (c .before .loop .inv .0) (c .loop-test .left) 
 
 pub pass-spec : {M : Type 1} → statement M
 pass-spec =
-    tie.close (tie.spec Inv-loop μ-loop loop-holds lower-edge-requires add-k loop-less loop-again returns)
+    tie.close (tie.spec Inv-loop μ-loop loop-holds lower-edge-requires (λ c. omega arith) (λ c. omega arith) loop-again returns)

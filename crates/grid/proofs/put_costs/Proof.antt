@@ -11,7 +11,6 @@ use Rattle.grid.proofs.TableLaws.{costs-none, costs-more, costs-end}
 use Rattle.grid.proofs.put_costs.Statement.{statement}
 use Rattle.grid.proofs.put_costs.Tie as tie
 use Rattle.grid.proofs.put_costs.Reads as reads
-use Rattle.grid.proofs.put_costs.Lts as lts
 use Rattle.grid.proofs.edge_cost.Reads as edge-cost-reads
 
 abbrev Inv-loop : tie.InvT-loop
@@ -21,44 +20,17 @@ Inv-loop w macros grid xs ys costs₀ e k₀ costs k = ((k ≤ e) × (e ≤ segm
 abbrev μ-loop : tie.MeasureT-loop
 μ-loop w macros grid xs ys costs₀ e k₀ costs k = e - k
 
--- src/lib.rt:286:13
-mul-e : tie.Need-mul-e Inv-loop μ-loop
-mul-e c = omega arith
-
--- src/lib.rt:286:13
-mul-e-2 : tie.Need-mul-e-2 Inv-loop μ-loop
-mul-e-2 c = omega arith
-
--- src/lib.rt:288:5
 loop-holds : tie.Need-loop-holds Inv-loop μ-loop
 loop-holds c =
     let s = c .before in
     ((omega arith, omega (arith, s .pre .0 .0 .across)), (s .pre .0 .1, costs-none _ _ _ _ _ _))
 
--- src/lib.rt:289:20
 edge-cost-requires : tie.Need-edge-cost-requires Inv-loop μ-loop
 edge-cost-requires c κs =
     let l = c .before in
     let s = l .before .before in
     ((s .pre .0 .0, omega (arith, c .loop-test .taken, l .loop .inv .0)), s .pre .1)
 
--- src/lib.rt:289:9
-mul-costs : tie.Need-mul-costs Inv-loop μ-loop
-mul-costs c = omega arith
-
--- src/lib.rt:289:9
-element-write-costs : tie.Need-element-write-costs Inv-loop μ-loop
-element-write-costs c = omega arith
-
--- src/lib.rt:290:9
-add-k : tie.Need-add-k Inv-loop μ-loop
-add-k c = omega arith
-
--- src/lib.rt:288:5
-loop-less : tie.Need-loop-less Inv-loop μ-loop
-loop-less c = omega arith
-
--- src/lib.rt:288:5
 loop-again : tie.Need-loop-again Inv-loop μ-loop
 loop-again c =
     let l = c .before .before in
@@ -72,7 +44,6 @@ loop-again c =
       ),
     )
 
--- src/lib.rt:273:1
 returns : tie.Need-returns Inv-loop μ-loop
 returns c =
     let i = c .before .loop .inv in
@@ -84,13 +55,13 @@ put-costs-spec =
     (tie.spec
     Inv-loop
     μ-loop
-    mul-e
-    mul-e-2
+    (λ c. omega arith)
+    (λ c. omega arith)
     loop-holds
     edge-cost-requires
-    mul-costs
-    element-write-costs
-    add-k
-    loop-less
+    (λ c. omega arith)
+    (λ c. omega arith)
+    (λ c. omega arith)
+    (λ c. omega arith)
     loop-again
     returns)

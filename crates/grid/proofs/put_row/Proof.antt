@@ -12,11 +12,9 @@ use lib.Seq.{sets}
 use denote.Ref.{now}
 use Rattle.grid.specs.Tables.{picked}
 use Rattle.grid.proofs.TableLaws.{put-none, put-more, put-end}
-use borrow.Author.Needs.{needs}
 use Rattle.grid.proofs.put_row.Statement.{statement}
 use Rattle.grid.proofs.put_row.Tie as tie
 use Rattle.grid.proofs.put_row.Reads as reads
-use Rattle.grid.proofs.put_row.Lts as lts
 use Rattle.grid.proofs.wide.Reads as wide-reads
 
 abbrev Inv-loop : tie.InvT-loop
@@ -26,57 +24,21 @@ Inv-loop row numbers m from table₀ j₀ table j = (j ≤ m) ×
 abbrev μ-loop : tie.MeasureT-loop
 μ-loop row numbers m from table₀ j₀ table j = m - j
 
--- src/lib.rt:454:5
 loop-holds : tie.Need-loop-holds Inv-loop μ-loop
 loop-holds c =
     let a = c .args in
     (omega arith, (refl, put-none (now (a .row)) (now (a .numbers)) (now (a .table)) (a .from)))
 
--- src/lib.rt:455:36
-mul-wide : tie.Need-mul-wide Inv-loop μ-loop
-mul-wide c = omega arith
-
--- src/lib.rt:455:36
-element-copy-out-wide : tie.Need-element-copy-out-wide Inv-loop μ-loop
-element-copy-out-wide c = omega arith
-
--- src/lib.rt:455:32
 mul-wide-2 : tie.Need-mul-wide-2 Inv-loop μ-loop
 mul-wide-2 c =
     let l = c .before .before in
     omega (arith, l .before .pre .0 .1 (l .loop .j))
 
--- src/lib.rt:455:32
 element-copy-out-wide-2 : tie.Need-element-copy-out-wide-2 Inv-loop μ-loop
 element-copy-out-wide-2 c =
     let l = c .before .before in
     l .before .pre .0 .1 (l .loop .j)
 
--- src/lib.rt:455:27
-wide-requires : tie.Need-wide-requires Inv-loop μ-loop
-wide-requires c κs = tt
-
--- src/lib.rt:455:15
-add-t17 : tie.Need-add-t17 Inv-loop μ-loop
-add-t17 c = omega arith
-
--- src/lib.rt:455:9
-mul-t18 : tie.Need-mul-t18 Inv-loop μ-loop
-mul-t18 c = omega arith
-
--- src/lib.rt:455:9
-slice-set-from-table : tie.Need-slice-set-from-table Inv-loop μ-loop
-slice-set-from-table c = omega arith
-
--- src/lib.rt:456:9
-add-j : tie.Need-add-j Inv-loop μ-loop
-add-j c = omega arith
-
--- src/lib.rt:454:5
-loop-less : tie.Need-loop-less Inv-loop μ-loop
-loop-less c = omega arith
-
--- src/lib.rt:454:5
 loop-again : tie.Need-loop-again Inv-loop μ-loop
 loop-again c =
     let l = c .before .before .before .before in
@@ -92,11 +54,9 @@ loop-again c =
       ),
     )
 
--- src/lib.rt:442:1
 same-length : tie.Need-same-length Inv-loop μ-loop
 same-length c = c .before .loop .inv .1 .0
 
--- src/lib.rt:442:1
 returns : tie.Need-returns Inv-loop μ-loop
 returns c =
     let a = c .before .before .args in
@@ -110,16 +70,16 @@ put-row-spec =
     Inv-loop
     μ-loop
     loop-holds
-    mul-wide
-    element-copy-out-wide
+    (λ c. omega arith)
+    (λ c. omega arith)
     mul-wide-2
     element-copy-out-wide-2
-    wide-requires
-    add-t17
-    mul-t18
-    slice-set-from-table
-    add-j
-    loop-less
+    (λ c κs. tt)
+    (λ c. omega arith)
+    (λ c. omega arith)
+    (λ c. omega arith)
+    (λ c. omega arith)
+    (λ c. omega arith)
     loop-again
     same-length
     returns)

@@ -11,25 +11,20 @@ Inv-loop costs e row₀ more₀ row more = Settling costs e row₀ row more
 abbrev μ-loop : tie.MeasureT-loop
 μ-loop costs e row₀ more₀ row more = measure costs e row more
 
--- src/lib.rt:63:5
 loop-holds : tie.Need-loop-holds Inv-loop μ-loop
 loop-holds c = settle-none _ _ _
 
--- src/lib.rt:64:9
 pass-requires : tie.Need-pass-requires Inv-loop μ-loop
 pass-requires c κs =
     let l = c .before .before in
     (l .before .pre .0, held-row _ _ _ (l .before .pre .1) (l .loop .inv .held))
 
--- src/lib.rt:63:5
 loop-less : tie.Need-loop-less Inv-loop μ-loop
 loop-less c = settle-less _ _ _ _ _ _ (c .before .before .loop-test .taken) (c .pass .ensures)
 
--- src/lib.rt:63:5
 loop-again : tie.Need-loop-again Inv-loop μ-loop
 loop-again c = settle-more _ _ _ _ _ _ _ (c .before .before .before .loop .inv) (c .pass .ensures)
 
--- src/lib.rt:57:1
 returns : tie.Need-returns Inv-loop μ-loop
 returns c = (c .before .loop .inv .held, c .before .loop .inv .quiet (c .loop-test .left))
 

@@ -5,14 +5,8 @@ use borrow.Author.Needs.{needs}
 use Rattle.grid.proofs.start.Statement.{statement}
 use Rattle.grid.proofs.start.Tie as tie
 
-mul-row : tie.Need-mul-row
-mul-row c = search needs
-
-element-write-row : tie.Need-element-write-row
-element-write-row c = search needs
-
 returns : tie.Need-returns
 returns c = start-set _ _ (c .pre .0) (c .pre .1)
 
 pub start-spec : {M : Type 1} → statement M
-start-spec = tie.close (tie.spec mul-row element-write-row returns)
+start-spec = tie.close (tie.spec (λ c. search needs) (λ c. search needs) returns)

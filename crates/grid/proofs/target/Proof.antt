@@ -6,17 +6,11 @@ use borrow.Author.Needs.{needs}
 use Rattle.grid.proofs.target.Statement.{statement}
 use Rattle.grid.proofs.target.Tie as tie
 
-add-result : tie.Need-add-result
-add-result c = search needs
-
 returns : tie.Need-returns
 returns c = sym (target-even _ (c .if1 .taken))
-
-add-result-2 : tie.Need-add-result-2
-add-result-2 c = search needs
 
 returns-2 : tie.Need-returns-2
 returns-2 c = sym (target-odd _ (c .if1 .left))
 
 pub target-spec : {M : Type 1} → statement M
-target-spec = tie.close (tie.spec add-result returns add-result-2 returns-2)
+target-spec = tie.close (tie.spec (λ c. search needs) returns (λ c. search needs) returns-2)

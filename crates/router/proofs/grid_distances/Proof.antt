@@ -16,27 +16,16 @@ use borrow.Author.Needs.{needs}
 use Rattle.router.proofs.grid_distances.Statement.{statement}
 use Rattle.router.proofs.grid_distances.Tie as tie
 
-check-requires : tie.Need-check-requires
-check-requires c κs = search needs
-
-enum-known-answer : tie.Need-enum-known-answer
-enum-known-answer c = search needs
-
-enum-known-answer-2 : tie.Need-enum-known-answer-2
-enum-known-answer-2 c = search needs
-
 -- the answer of the check, where the net is allowed
 allowed : (c : tie.After-answer)
-    → checked (c .before .before .before .args .w) (now (c .before .before .before .args .pins)) (now (c .before .before .before .args .macros))
+    → checked (c .before .before .before .args .w) (now (c .before .before .before .args .pins))
+    (now (c .before .before .before .args .macros))
     ≡ given (c .answer .given .0 .0)
 unfolding told
 allowed c = sym (c .before .before .check .ensures) ∙ ap told (c .answer .given .1)
 
 grid-distances-requires : tie.Need-grid-distances-requires
 grid-distances-requires c κs = counted-of _ _ _ (allowed (c .before .before))
-
-same-length : tie.Need-same-length
-same-length c = search needs
 
 returns : tie.Need-returns
 unfolding gridDistances
@@ -46,7 +35,8 @@ returns c =
     let a = d .before .before .before .args in
     let next = distancesGiven (a .w) (now (a .pins)) (now (a .macros)) (length (now (a .table))) in
     square-as (sym (only-given (checked (a .w) (now (a .pins)) (now (a .macros))) next _ (allowed d)))
-    (subst (λ (z : Weighing). DistancesCall distancesGiven z (now (a .pins)) (now (a .macros)) (now (a .table)) (r .grid-distances .result) (r .grid-distances .last .1 .1 .1 .0))
+    (subst (λ (z : Weighing). DistancesCall distancesGiven z (now (a .pins)) (now (a .macros)) (now (a .table)) (r .grid-distances .result)
+    (r .grid-distances .last .1 .1 .1 .0))
     (handed-back _ _ _ (allowed d)) (r .grid-distances .ensures))
 
 returns-2 : tie.Need-returns-2
@@ -62,10 +52,10 @@ pub grid-distances-spec : {M : Type 1} → statement M
 grid-distances-spec =
     tie.close
     (tie.spec
-    check-requires
-    enum-known-answer
+    (λ c κs. search needs)
+    (λ c. search needs)
     grid-distances-requires
-    enum-known-answer-2
-    same-length
+    (λ c. search needs)
+    (λ c. search needs)
     returns
     returns-2)

@@ -43,15 +43,18 @@ module _ (s : tie.Start) where
   size-few : (ltb gridPins (s .args .net .pins) || ltb gridMacros (s .args .net .macros)) ≡ false →
       (pinCount (now (s .args .pins)) ≤ gridPins) × (macroCount (now (s .args .macros)) ≤ gridMacros)
   size-few e =
-      let r = or-none (ltb gridPins (s .args .net .pins)) (ltb gridMacros (s .args .net .macros)) e in
-      (omega (arith, ltb-false gridPins (s .args .net .pins) (r .0), pins-are), omega (arith, ltb-false gridMacros (s .args .net .macros) (r .1), macros-are))
+      let r = or-none (ltb gridPins (s .args .net .pins)) (ltb gridMacros (s .args .net .macros)) e in (
+        omega (arith, ltb-false gridPins (s .args .net .pins) (r .0), pins-are),
+        omega (arith, ltb-false gridMacros (s .args .net .macros) (r .1), macros-are),
+      )
 
 returns : tie.Need-returns
 unfolding toldDistances number
 returns c =
     let s = c .before .before .before in
     let a = s .args in
-    square-refused refl (grid-above (handed (a .net .weights)) (now (a .pins)) (now (a .macros)) (length (now (a .table))) (size s (c .if1 .taken)))
+    square-refused refl (grid-above (handed (a .net .weights)) (now (a .pins)) (now (a .macros)) (length (now (a .table)))
+    (size s (c .if1 .taken)))
 
 mul-n : tie.Need-mul-n
 mul-n c =
@@ -77,9 +80,6 @@ distances-requires c κs =
     let few = size-few s (d .if1 .left) in
     (as-allowed (s .pre), (few, subst (λ (n : ℕ). n ≤ length (now (s .args .table))) (square-are s) (e .if2 .left)))
 
-same-length : tie.Need-same-length
-same-length c = search needs
-
 returns-3 : tie.Need-returns-3
 unfolding toldDistances
 returns-3 c =
@@ -95,4 +95,4 @@ returns-3 c =
 
 pub grid-distances-spec : {M : Type 1} → statement M
 grid-distances-spec =
-    tie.close (tie.spec returns mul-n returns-2 distances-requires same-length returns-3)
+    tie.close (tie.spec returns mul-n returns-2 distances-requires (λ c. search needs) returns-3)
