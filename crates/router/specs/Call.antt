@@ -76,7 +76,7 @@ abbrev pub WiresCall : Saying ℕ → (w : Weighing) (pins macros wires : List �
 WiresCall said w pins macros wires r wires′ =
     Gives toldWires (said w pins macros (length wires)) (flat edgeNumbers (wiresOf w pins macros)) wires r wires′
 
--- C78, C79: distances on the grid
+-- C77, C78: distances on the grid
 abbrev pub DistancesCall : Saying ℕ → (w : Weighing) (pins macros table : List ℤ) → DistanceAnswer → List ℤ → Type 0
 DistancesCall said w pins macros table r table′ =
     GivesSquare (netOf w pins macros) (said w pins macros (length table)) table r table′

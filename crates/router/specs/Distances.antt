@@ -1,4 +1,4 @@
--- The distances on the grid among the operations: rules C36, C78 and C79. What they are stands in `grid` (specs/Distance.antt).
+-- The distances on the grid among the operations: rules C36, C77 and C78. What they are stands in `grid` (specs/Distance.antt).
 use mathlib.Core.Path.{_≡_}
 use mathlib.Core.Bool.{Bool, cond, _||_}
 use mathlib.Core.List.{List}
@@ -21,12 +21,12 @@ use Rattle.router.specs.declared.DistanceAnswer.the-variants.{Given, Ref
 unfoldable pub aboveGrid : List ℤ → List ℤ → Bool
 aboveGrid pins macros = ltb gridPins (pinCount pins) || ltb gridMacros (macroCount macros)
 
--- C78: 36, then fewer than m · m numbers; otherwise how many numbers
+-- C77: 36, then fewer than m · m numbers; otherwise how many numbers
 unfoldable pub distancesGiven : Weighing → List ℤ → List ℤ → ℕ → Told ℕ
 distancesGiven w pins macros room =
     cond (aboveGrid pins macros) (refused 36) (ifRoom (pinCount pins * pinCount pins) room (pinCount pins * pinCount pins))
 
--- C78: 11 to 18, then 36, then 21
+-- C77: 11 to 18, then 36, then 21
 unfoldable pub gridDistances : Weighing → List ℤ → List ℤ → ℕ → Told ℕ
 gridDistances w pins macros room = onlyIf (checked w pins macros) (distancesGiven w pins macros room)
 
