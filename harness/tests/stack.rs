@@ -8,7 +8,7 @@ use reference::generate::{net, weighted, Kind};
 use reference::lists::Lists;
 
 /// What include/calzundi.h says that a call has to itself.
-const STACK: usize = 512 * 1024;
+const STACK: usize = calzundi::STACK_BYTES;
 
 /// Every operation on a net, with the space that it asks for.
 fn call_all(lists: &Lists) {

@@ -445,6 +445,9 @@ fn version_of_the_header() {
     let version = said.strip_prefix("calzundi ").unwrap().trim_end();
     let line = format!("#define CALZUNDI_VERSION \"{version}\"\n");
     assert!(header.contains(&line), "{said}");
+    for command in COMMANDS {
+        assert_eq!(printed(&[command, "--version"], b""), said);
+    }
 }
 
 #[test]
