@@ -21,3 +21,4 @@ pub mod TableGrid
 pub mod NetDistance
 pub mod WholeLaws
 pub mod SquareLaws
+pub mod WorkedGrids
