@@ -1,6 +1,6 @@
 //! The proved router from Rust, its match with the second program, and its outputs as text.
 //!
-//! `library` wraps the static library safely; `matching` runs both programs on the same seeded input and reports the first difference
+//! `library` calls the crate `calzundi` as the second program is called; `matching` runs both programs on the same seeded input and reports the first difference
 //! with its seed and its net as text. `outputs` writes all answers on an input as text, to hold them to those of the first release, and
 //! `requests` says in what they differ since; `program` runs `route`.
 

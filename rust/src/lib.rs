@@ -349,6 +349,18 @@ impl Net {
         Ok(numbers[..4 * count].chunks_exact(4).map(wire).collect())
     }
 
+    /// The cheapest cost between every two pins, by any clear way and not only along the graph: a row for each pin in the order of places, and
+    /// in it a number for each. For nets of up to 16 pins and 16 macros.
+    pub fn grid_distances(&self) -> Result<Vec<Vec<i64>>, Refusal> {
+        let m = self.pins.len();
+        let mut table = vec![0; m * m];
+        let given = lent::grid_distances(self.flat().lists(), &mut table)?;
+        Ok(table[..given]
+            .chunks(m.max(1))
+            .map(<[i64]>::to_vec)
+            .collect())
+    }
+
     /// What a bureau charges for the metal to lay, in hundredths of the currency.
     pub fn price(&self, bands: &[Band]) -> Result<u64, Refusal> {
         let pairs = bands.iter().flat_map(|band| [band.limit, band.rate]);

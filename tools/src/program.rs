@@ -108,6 +108,9 @@ impl Command {
         if asks(given, &["--help", "-h"]) {
             return write(None, self.help.as_bytes(), &[]);
         }
+        if asks(given, &["--version", "-V"]) {
+            return version();
+        }
         (self.act)(&self.words(given)?)
     }
 }
@@ -156,6 +159,12 @@ pub fn run() -> ExitCode {
 /// What the library asks for, and what is around it.
 pub const STACK: usize = calzundi::STACK_BYTES + (1 << 20);
 
+/// The version is the header's, by the crate.
+fn version() -> Result<(), Failure> {
+    let line = format!("calzundi {}\n", calzundi::VERSION);
+    write(None, line.as_bytes(), &[])
+}
+
 /// The exit status of a command line.
 fn command(given: &[OsString]) -> u8 {
     let Some((first, rest)) = given.split_first() else {
@@ -164,10 +173,7 @@ fn command(given: &[OsString]) -> u8 {
     };
     let (name, done) = match first.to_str() {
         Some("--help" | "-h" | "help") => (String::new(), write(None, HELP.as_bytes(), &[])),
-        Some("--version" | "-V") => {
-            let version = format!("calzundi {}\n", calzundi::VERSION);
-            (String::new(), write(None, version.as_bytes(), &[]))
-        }
+        Some("--version" | "-V") => (String::new(), version()),
         word => match commands::ALL
             .iter()
             .find(|command| Some(command.name) == word)

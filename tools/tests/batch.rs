@@ -62,7 +62,7 @@ fn a_line_for_each_net() {
     assert_eq!(lines.len(), 1 + files.len());
     assert_eq!(
         lines[0],
-        "net,pins,macros,weight x,weight y,terminal,refined,metal,wires,fingerprint,refused,reason"
+        "net,pins,macros,weight_x,weight_y,terminal,refined,metal,wires,fingerprint,refused,reason"
     );
     for (line, file) in lines[1..].iter().zip(&files).take(40) {
         let read = fs::read(file).unwrap();

@@ -335,6 +335,26 @@ fn fingerprints_are_of_wires() {
     }
 }
 
+/// `distances` prints the cost between every two pins, the pins in the order of places; the graph's way between the third and the fourth is 5.
+#[test]
+fn distances_are_a_table() {
+    let net = b"pin 1 0\npin 1 3\npin 0 1\npin 2 2\n";
+    let table = "     0 1  1 0  1 3  2 2
+0 1    0    2    3    3
+1 0    2    0    3    3
+1 3    3    3    0    2
+2 2    3    3    2    0
+";
+    assert_eq!(printed(&["distances", "-"], net), table);
+    let many: String = (0..17).map(|x| format!("pin {x} 0\n")).collect();
+    let wrong = said(&["distances", "-"], many.as_bytes(), 1);
+    let refused = "refused 36: there are more than 16 pins or more than 16 macros";
+    assert_eq!(
+        wrong,
+        format!("calzundi distances: standard input: {refused}\n")
+    );
+}
+
 /// `price` says the charge of a net by a list of bands, either one from standard input.
 #[test]
 fn price_charges_by_a_list() {
@@ -425,6 +445,9 @@ fn version_of_the_header() {
     let version = said.strip_prefix("calzundi ").unwrap().trim_end();
     let line = format!("#define CALZUNDI_VERSION \"{version}\"\n");
     assert!(header.contains(&line), "{said}");
+    for command in COMMANDS {
+        assert_eq!(printed(&[command, "--version"], b""), said);
+    }
 }
 
 #[test]

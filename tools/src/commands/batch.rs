@@ -179,7 +179,7 @@ impl Row {
 }
 
 const NAMES: &str =
-    "net,pins,macros,weight x,weight y,terminal,refined,metal,wires,fingerprint,refused,reason\n";
+    "net,pins,macros,weight_x,weight_y,terminal,refined,metal,wires,fingerprint,refused,reason\n";
 
 /// A field of comma-separated values, in quotes where it needs them.
 fn field(text: &str) -> String {

@@ -32,6 +32,7 @@ pub fn page(name: &str, subject: &Subject) -> String {
     let header = format!("{} fingerprint {mark}{weights}{scale}", routed.header());
     let headline = format!("{name}: metal to lay {metal}");
     let parts = [
+        ("@VERSION@", calzundi::VERSION.to_string()),
         ("@TITLE@", escaped(&headline)),
         ("@HEADLINE@", escaped(&headline)),
         ("@HEADER@", escaped(&header)),
