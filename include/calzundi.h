@@ -56,7 +56,7 @@
 #define CALZUNDI_H
 
 /* The version. It stands here and nowhere else; the tools take it from this line, and each change request raises the second number. */
-#define CALZUNDI_VERSION "1.4"
+#define CALZUNDI_VERSION "1.5"
 
 #include <stddef.h>
 #include <stdint.h>
@@ -74,6 +74,10 @@ extern "C" {
 /* The stack that a call has to itself. */
 #define CALZUNDI_STACK_BYTES (512 * 1024)
 
+/* Distances on the grid are for nets of up to 16 pins and 16 macros. */
+#define CALZUNDI_GRID_PINS 16
+#define CALZUNDI_GRID_MACROS 16
+
 /* Numbers to lend for a net of m pins and k macros: n = m + 4k, and then for each operation. */
 #define CALZUNDI_POINTS(m, k) ((m) + 4 * (k))
 #define CALZUNDI_VERTEX_NUMBERS(m, k) (2 * CALZUNDI_POINTS(m, k))
@@ -81,6 +85,7 @@ extern "C" {
 #define CALZUNDI_PATH_NUMBERS(m) (5 * (m))
 #define CALZUNDI_TREE_NUMBERS(m, k) (4 * (CALZUNDI_POINTS(m, k) + (m)))
 #define CALZUNDI_WIRE_NUMBERS(m, k) (8 * (CALZUNDI_POINTS(m, k) + (m)))
+#define CALZUNDI_DISTANCE_NUMBERS(m) ((m) * (m))
 
 /* A net file is 1 to 6 blocks of 512 bytes: a head, a block for each 60 pins begun and one for each 30 macros begun. */
 #define CALZUNDI_BLOCK_BYTES 512
@@ -107,6 +112,7 @@ enum calzundi_refusal {
     CALZUNDI_SPACE = 21,            /* too little space is lent */
     CALZUNDI_BANDS = 31,            /* the list of bands is odd or empty, or a rate in it is above 1,000,000 */
     CALZUNDI_REACH = 32,            /* no band's limit reaches the metal */
+    CALZUNDI_GRID_SIZE = 36,        /* above 16 pins or 16 macros, for distances on the grid */
     CALZUNDI_BAND_ORDER = 37        /* a band's limit is not above the one before it, or its rate is below */
 };
 
@@ -132,6 +138,7 @@ static inline const char *calzundi_refusal_text(int32_t number)
     case CALZUNDI_SPACE: return "too little space was lent";
     case CALZUNDI_BANDS: return "there is no band, the list isn't whole pairs, or a rate is above 1000000";
     case CALZUNDI_REACH: return "no band's limit reaches the metal";
+    case CALZUNDI_GRID_SIZE: return "there are more than 16 pins or more than 16 macros";
     case CALZUNDI_BAND_ORDER: return "a band's limit is not above the one before it, or its rate is below";
     default: return "no refusal has this number";
     }
@@ -140,7 +147,7 @@ static inline const char *calzundi_refusal_text(int32_t number)
 /* A band of a price list is two numbers of 64 bits, its limit and its rate; a rate is at most this. */
 #define CALZUNDI_RATE 1000000
 
-/* Lengths, totals and the numbers lent for the terminal tree are 64 bits wide. */
+/* Lengths, totals, metal and the numbers lent for the terminal tree and for distances are 64 bits wide. */
 typedef int64_t calzundi_length;
 
 /*
@@ -203,6 +210,20 @@ int32_t calzundi_refined_tree(const int32_t *pins, size_t pin_numbers, const int
  */
 int32_t calzundi_wires(const int32_t *pins, size_t pin_numbers, const int32_t *macros, size_t macro_numbers, int32_t weight_x,
                        int32_t weight_y, int32_t *wires, size_t wire_numbers, size_t *count);
+
+/*
+ * Distances on the grid: from all x and all y values of pins and macro sides form a grid, and join neighbouring crossings where the segment
+ * between them meets no interior. The table has the cheapest cost along the grid between every two pins. No walk in unit steps, each clear of
+ * the interiors, joins two pins for less, whether it stays on the die or not; nor does any way along the spanning graph.
+ *
+ * table  lent, at least CALZUNDI_DISTANCE_NUMBERS(m) of 64 bits: m rows of m numbers, rows and columns in the order of places (by x, then
+ *        by y), the same both ways and 0 from each pin to itself
+ * count  how many numbers were given, m times m
+ *
+ * Refusals: 11 to 18, then 36, then 21.
+ */
+int32_t calzundi_grid_distances(const int32_t *pins, size_t pin_numbers, const int32_t *macros, size_t macro_numbers,
+                                int32_t weight_x, int32_t weight_y, int64_t *table, size_t table_numbers, size_t *count);
 
 /*
  * Price: what a bureau charges for the metal to lay, which is the sum of the refined tree's plain lengths.

@@ -67,6 +67,16 @@ pub fn wires(
     lent::wires(lists(pins, macros, weights), wires).map_err(number)
 }
 
+/// "True distance on the grid": how many numbers were given.
+pub fn grid_distances(
+    pins: &[i32],
+    macros: &[i32],
+    weights: Weights,
+    table: &mut [i64],
+) -> Result<usize, u32> {
+    lent::grid_distances(lists(pins, macros, weights), table).map_err(number)
+}
+
 /// "Price on the job card": the charge, in hundredths of the currency.
 pub fn price(pins: &[i32], macros: &[i32], weights: Weights, bands: &[u64]) -> Result<u64, u32> {
     lent::price(lists(pins, macros, weights), bands).map_err(number)

@@ -9,7 +9,7 @@ use reference::lists::Lists;
 use reference::net::Weights;
 use reference::random::Random;
 use reference::refined::refined;
-use reference::{net as second, operations, price, text};
+use reference::{grid, net as second, operations, price, text};
 
 use crate::library;
 
@@ -113,6 +113,29 @@ pub fn refused(seed: u64) -> Case {
         seed,
         lists: hostile_weighted(kind, seed),
     }
+}
+
+/// The first sixteen pins and macros of the allowed nets of every kind: what is left of an allowed net is allowed.
+pub fn on_grid(seed: u64) -> Case {
+    let case = routed(seed);
+    let lists = Lists {
+        pins: case
+            .lists
+            .pins
+            .iter()
+            .copied()
+            .take(2 * grid::PINS)
+            .collect(),
+        macros: case
+            .lists
+            .macros
+            .iter()
+            .copied()
+            .take(4 * grid::MACROS)
+            .collect(),
+        weights: case.lists.weights,
+    };
+    Case { lists, ..case }
 }
 
 /// Allowed nets and hostile lists by turns.
@@ -288,6 +311,17 @@ impl Case {
             8 * (self.points() + self.lists.pins.len() / 2),
             |bits| bits as i32,
             [library::wires, operations::wires],
+        )
+    }
+
+    /// "True distance on the grid."
+    pub fn grid_distances(&self) -> Matched {
+        let m = self.lists.pins.len() / 2;
+        self.one_space(
+            "distances on the grid",
+            m * m,
+            |bits| bits as i64,
+            [library::grid_distances, operations::grid_distances],
         )
     }
 

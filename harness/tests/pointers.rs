@@ -558,3 +558,24 @@ fn bands_are_read_and_nothing_else() {
         "the pins alone are a net"
     );
 }
+
+/// Distances on the grid, into space that ends at the fence: nothing past it is touched, given or refused.
+#[test]
+fn distances_within_their_space() {
+    fn distances(p: List<i32>, q: List<i32>, t: Space<i64>) -> Answer {
+        let mut count = COUNT;
+        let code = unsafe {
+            library::calzundi_grid_distances(p.0, p.1, q.0, q.1, 1, 1, t.0, t.1, &mut count)
+        };
+        answer(code, &[count])
+    }
+    for at in [At::Front, At::Back] {
+        let pins = Fenced::of(&[1, 0, 1, 3, 0, 1, 2, 2], at).read_only();
+        let mut exact = Fenced::of(&[7i64; 16], at);
+        let given = distances(pins.list(), none(), exact.space());
+        assert_eq!(given, answer(0, &[16]));
+        let mut short = Fenced::of(&[7i64; 15], at);
+        let refused = distances(pins.list(), none(), short.space());
+        assert_eq!(refused, answer(21, &[COUNT]));
+    }
+}

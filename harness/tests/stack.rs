@@ -21,6 +21,8 @@ fn call_all(lists: &Lists) {
     library::refined_tree(pins, macros, weights, &mut numbers).unwrap();
     library::wires(pins, macros, weights, &mut numbers).unwrap();
     library::price(pins, macros, weights, &[u64::MAX, 1_000_000]).unwrap();
+    let (few_pins, few_macros) = (&pins[..pins.len().min(32)], &macros[..macros.len().min(64)]);
+    library::grid_distances(few_pins, few_macros, weights, &mut vec![0; 256]).unwrap();
     let mut bytes = vec![0; 3_072];
     let given = library::write_file(pins, macros, weights, &mut bytes).unwrap();
     let (mut pins, mut macros) = (vec![0; 128], vec![0; 256]);

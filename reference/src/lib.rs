@@ -9,6 +9,7 @@ pub mod edge;
 pub mod exhaustive;
 pub mod generate;
 pub mod graph;
+pub mod grid;
 pub mod lists;
 pub mod net;
 pub mod netfile;

@@ -5,6 +5,7 @@
 
 use crate::edge::Edge;
 use crate::graph;
+use crate::grid;
 use crate::lists::Lists;
 use crate::net::{self, Net, Place, Weights};
 use crate::netfile;
@@ -91,6 +92,27 @@ pub fn wires(
     let of_wire = |wire: &wires::Wire| [numbers(wire.start), numbers(wire.end)].concat();
     lay(wires, answer.iter().flat_map(of_wire));
     Ok(answer.len())
+}
+
+/// "True distance on the grid." 11 to 18, then "36, above 16 pins or macros, after 18 and before 21",
+/// then 21 where fewer than m × m numbers are lent. How many numbers.
+pub fn grid_distances(
+    pins: &[i32],
+    macros: &[i32],
+    weights: Weights,
+    table: &mut [i64],
+) -> Result<usize, u32> {
+    let net = net::check(pins, macros, weights)?;
+    if net.m() > grid::PINS || net.k() > grid::MACROS {
+        return Err(36);
+    }
+    if table.len() < net.m() * net.m() {
+        return Err(21);
+    }
+    let distances = grid::distances(&net);
+    let count = distances.len();
+    lay(table, distances.into_iter());
+    Ok(count)
 }
 
 /// "Price on the job card": "bureaus charge by metal laid", never by cost; 31 and 32 "both after

@@ -74,6 +74,18 @@ pub mod bare {
             count: *mut usize,
         ) -> i32;
 
+        pub fn calzundi_grid_distances(
+            pins: *const i32,
+            pins_len: usize,
+            macros: *const i32,
+            macros_len: usize,
+            weight_x: i32,
+            weight_y: i32,
+            table: *mut i64,
+            table_len: usize,
+            count: *mut usize,
+        ) -> i32;
+
         pub fn calzundi_price(
             pins: *const i32,
             pins_len: usize,
@@ -277,6 +289,31 @@ pub fn wires(lists: Lists, wires: &mut [i32]) -> Result<usize, Refusal> {
             weights.y,
             wires.as_mut_ptr(),
             wires.len(),
+            &mut count,
+        )
+    };
+    answer(code, &[count as u64], count)
+}
+
+/// Distances on the grid: how many numbers were given.
+pub fn grid_distances(lists: Lists, table: &mut [i64]) -> Result<usize, Refusal> {
+    let Lists {
+        pins,
+        macros,
+        weights,
+    } = lists;
+    let mut count = UNTOUCHED as usize;
+    // SAFETY: as for `graph`.
+    let code = unsafe {
+        bare::calzundi_grid_distances(
+            pins.as_ptr(),
+            pins.len(),
+            macros.as_ptr(),
+            macros.len(),
+            weights.x,
+            weights.y,
+            table.as_mut_ptr(),
+            table.len(),
             &mut count,
         )
     };

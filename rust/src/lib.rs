@@ -39,6 +39,10 @@ pub const MACROS: usize = 64;
 pub const COORDINATE: i32 = 1_000_000;
 /// A weight is from 1 to this.
 pub const WEIGHT: i32 = 8;
+/// The most pins of a net whose distances on the grid are given.
+pub const GRID_PINS: usize = 16;
+/// The most macros of such a net.
+pub const GRID_MACROS: usize = 16;
 /// A band's rate is at most this.
 pub const RATE: u64 = 1_000_000;
 /// A net file is blocks of so many bytes.
@@ -347,6 +351,18 @@ impl Net {
             end: place(numbers[2], numbers[3]),
         };
         Ok(numbers[..4 * count].chunks_exact(4).map(wire).collect())
+    }
+
+    /// The cheapest cost between every two pins, by any clear way and not only along the graph: a row for each pin in the order of places, and
+    /// in it a number for each. For nets of up to 16 pins and 16 macros.
+    pub fn grid_distances(&self) -> Result<Vec<Vec<i64>>, Refusal> {
+        let m = self.pins.len();
+        let mut table = vec![0; m * m];
+        let given = lent::grid_distances(self.flat().lists(), &mut table)?;
+        Ok(table[..given]
+            .chunks(m.max(1))
+            .map(<[i64]>::to_vec)
+            .collect())
     }
 
     /// What a bureau charges for the metal to lay, in hundredths of the currency.

@@ -35,6 +35,8 @@ pub enum Refusal {
     Bands,
     /// 32: no band's limit reaches the metal.
     Reach,
+    /// 36: more than 16 pins or 16 macros, of which distances on the grid are not given.
+    GridSize,
     /// 37: a band's limit is not above the one before it, or its rate is below.
     BandOrder,
 }
@@ -56,6 +58,7 @@ impl Refusal {
         Refusal::Space,
         Refusal::Bands,
         Refusal::Reach,
+        Refusal::GridSize,
         Refusal::BandOrder,
     ];
 
@@ -88,6 +91,7 @@ impl Refusal {
                 "there is no band, the list isn't whole pairs, or a rate is above 1000000",
             ),
             Refusal::Reach => (32, "no band's limit reaches the metal"),
+            Refusal::GridSize => (36, "there are more than 16 pins or more than 16 macros"),
             Refusal::BandOrder => (
                 37,
                 "a band's limit is not above the one before it, or its rate is below",

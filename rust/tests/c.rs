@@ -68,6 +68,8 @@ fn header_and_crate_say_the_same() {
         ("CALZUNDI_PINS", calzundi::PINS),
         ("CALZUNDI_MACROS", calzundi::MACROS),
         ("CALZUNDI_COORDINATE", calzundi::COORDINATE as usize),
+        ("CALZUNDI_GRID_PINS", calzundi::GRID_PINS),
+        ("CALZUNDI_GRID_MACROS", calzundi::GRID_MACROS),
         ("CALZUNDI_WEIGHT", calzundi::WEIGHT as usize),
         ("CALZUNDI_RATE", calzundi::RATE as usize),
         ("CALZUNDI_BLOCK_BYTES", calzundi::BLOCK_BYTES),

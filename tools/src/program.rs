@@ -132,6 +132,7 @@ calzundi COMMAND ..: a tree router whose every answer is proved
     compare A B            whether two nets get the same metal, and its fingerprint
     batch NET..            a line for each of many nets; --csv, --jobs, --shard
     price NET BANDS        what a bureau charges for the metal
+    distances NET          what metal between every two pins costs at least
     pack NET [FILE]        a net file of a net
     unpack NET [TEXT]      a net as text
 

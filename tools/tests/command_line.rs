@@ -336,6 +336,39 @@ fn fingerprints_are_of_wires() {
     }
 }
 
+/// `distances` prints the cost between every two pins, the pins in the order of places; the graph's way between the third and the fourth is 5.
+#[test]
+fn distances_are_a_table() {
+    let net = b"pin 1 0\npin 1 3\npin 0 1\npin 2 2\n";
+    let table = "     0 1  1 0  1 3  2 2
+0 1    0    2    3    3
+1 0    2    0    3    3
+1 3    3    3    0    2
+2 2    3    3    2    0
+";
+    assert_eq!(printed(&["distances", "-"], net), table);
+    let many: String = (0..17).map(|x| format!("pin {x} 0\n")).collect();
+    let wrong = said(&["distances", "-"], many.as_bytes(), 1);
+    let refused = "refused 36: there are 17 pins, and at most 16 are allowed\n  \
+                   line 17, pin 17 (16 0) is the first that is too many";
+    assert_eq!(
+        wrong,
+        format!("calzundi distances: standard input: {refused}\n")
+    );
+    let many: String = (0..17)
+        .map(|x| format!("macro {x} 0 {} 1\n", x + 1))
+        .collect();
+    let wrong = said(
+        &["distances", "-"],
+        format!("pin 0 9\n{many}").as_bytes(),
+        1,
+    );
+    assert!(
+        wrong.contains("refused 36: there are 17 macros, and at most 16"),
+        "{wrong}"
+    );
+}
+
 /// `price` says the charge of a net by a list of bands, either one from standard input.
 #[test]
 fn price_charges_by_a_list() {
@@ -462,7 +495,7 @@ fn help_and_usage() {
         }
         if command != "batch" {
             let words = [command, "no/such/file", "no/such/other"];
-            let words = if command == "route" {
+            let words = if ["route", "distances"].contains(&command) {
                 &words[..2]
             } else {
                 &words

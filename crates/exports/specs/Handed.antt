@@ -1,12 +1,14 @@
 -- What an export leaves to its caller: the code that it returns, each lent list, and each number that goes through a pointer. `t` is what
 -- the operation says, so that every field is an equation for refused calls too. A prime marks what stands there after the call.
 use mathlib.Core.Path.{_≡_}
-use mathlib.Core.List.{List}
+use mathlib.Core.List.{List, map}
 use Prim.Native.Nat.{ℕ}
 use lib.IntN.{ℤ, pos}
-use Rattle.lent.specs.Told.{Told, code}
+use Rattle.lent.specs.Told.{Told, given, code}
 use Rattle.lent.specs.Over.{after, valueAfter}
 use Rattle.net.specs.declared.Net.{Net as Counts}
+use Rattle.net.specs.Net.{Net}
+use Rattle.grid.specs.Distance.{Square}
 
 -- a graph: two lists and two counts
 pub record GraphHanded (t : Told (ℕ × ℕ)) (xs ys lent other : List ℤ) (v e : ℕ) (r : ℤ) (lent′ other′ : List ℤ) (v′ e′ : ℕ) : Type 0 where
@@ -36,6 +38,14 @@ pub record TreeHanded (t : Told (ℕ × (ℤ × ℤ))) (xs lent : List ℤ) (n :
 pub record ListHanded {X : Type 0} (t : Told ℕ) (xs lent : List X) (n : ℕ) (r : ℤ) (lent′ : List X) (n′ : ℕ) : Type 0 where
   pub answer : r ≡ pos (code t)
   pub list : lent′ ≡ after t xs lent
+  pub count : n′ ≡ valueAfter (λ m. m) t n
+
+-- distances on the grid: a table of numbers that are fixed by what they mean, and how many there are
+pub record SquareHanded (net : Net) (t : Told ℕ) (lent : List ℤ) (n : ℕ) (r : ℤ) (lent′ : List ℤ) (n′ : ℕ) : Type 0 where
+  pub numbers : List ℕ
+  pub answer : r ≡ pos (code t)
+  pub list : lent′ ≡ after t (map pos numbers) lent
+  pub square : (k : ℕ) → t ≡ given k → Square net numbers
   pub count : n′ ≡ valueAfter (λ m. m) t n
 
 -- a charge

@@ -2,5 +2,6 @@
 --
 --   Handed   GraphHanded, PathsHanded, TreeHanded     of a graph, a terminal tree, a refined tree
 --            ListHanded, ChargeHanded                 of wires and of a file that is written; of a price
+--            SquareHanded                             of distances on the grid
 --            NetHanded, Read                          of a file that is read, and the four numbers that it gives through pointers
 pub mod Handed

@@ -5,6 +5,7 @@ use net::Checked;
 use net::Weighing;
 use netfile::Written;
 use price::Priced;
+use router::DistanceAnswer;
 use router::Graphed;
 use router::TerminalAnswer;
 use router::TreeAnswer;
@@ -14,7 +15,7 @@ ghost use lib.IntN.{pos};
 ghost use lib.ListN.{length};
 ghost use Rattle.lent.specs.Told.{code};
 ghost use Rattle.lent.specs.Entries.{flat};
-ghost use Rattle.net.specs.Net.{weighing, weightsOf};
+ghost use Rattle.net.specs.Net.{weighing, weightsOf, netOf};
 ghost use Rattle.net.specs.Check.{checked};
 ghost use Rattle.graph.specs.Numbers.{placeNumbers, edgeNumbers};
 ghost use Rattle.terminal.specs.Tree.{pathNumbers};
@@ -22,11 +23,12 @@ ghost use Rattle.router.specs.Graph.{netVertices, netEdges, graphed};
 ghost use Rattle.router.specs.Terminal.{pathsOf, terminalTree};
 ghost use Rattle.router.specs.Refined.{laidOf, refinedTree};
 ghost use Rattle.router.specs.Wires.{wiresOf, wired};
+ghost use Rattle.router.specs.Distances.{gridDistances};
 ghost use Rattle.router.specs.Price.{netPrice};
 ghost use Rattle.netfile.specs.Layout.{fileBytes};
 ghost use Rattle.netfile.specs.Write.{written};
 ghost use Rattle.netfile.specs.Read.{pinsIn, macrosIn, readFile};
-ghost use Rattle.exports.specs.Handed.{GraphHanded, PathsHanded, TreeHanded, ListHanded, ChargeHanded, NetHanded};
+ghost use Rattle.exports.specs.Handed.{GraphHanded, PathsHanded, TreeHanded, ListHanded, SquareHanded, ChargeHanded, NetHanded};
 
 // The two weights as one.
 fn weighing(x: i32, y: i32) -> Weighing
@@ -166,6 +168,31 @@ pub extern "C" fn calzundi_wires(
             0
         }
         Wired::Refused(refusal) => refusal.number(),
+    }
+}
+
+// 0 and how many numbers were given, or the number of the refusal.
+#[no_mangle]
+pub extern "C" fn calzundi_grid_distances(
+    pins: &[i32],
+    macros: &[i32],
+    x: i32,
+    y: i32,
+    table: &mut [i64],
+    count: &mut usize,
+) -> i32
+    ensures { λ r. ⌜ SquareHanded (netOf (weighing x y) (now (pins .entry)) (now (macros .entry)))
+        (gridDistances (weighing x y) (now (pins .entry)) (now (macros .entry)) (length (now (table .entry))))
+        (now (table .entry)) (now (count .entry)) r (now (table .exit)) (now (count .exit)) ⌝ }
+{
+    let weights = weighing(x, y);
+    let answer = router::grid_distances(weights, pins, macros, &mut *table);
+    match answer {
+        DistanceAnswer::Given(given) => {
+            *count = given;
+            0
+        }
+        DistanceAnswer::Refused(refusal) => refusal.number(),
     }
 }
 

@@ -4,7 +4,7 @@ use Prim.Native.Nat.{_≤_}
 use lib.Dec.{lit≤}
 use Rattle.net.specs.declared.Refusal.{Refusal}
 use Rattle.net.specs.declared.Refusal.the-variants.{Blocks, Sums, Layout, PinList, MacroList, Range, Sides, SamePlace, Overlap}
-use Rattle.net.specs.declared.Refusal.the-variants.{PinInside, WeightRange, Space, Bands, Reach, BandOrder}
+use Rattle.net.specs.declared.Refusal.the-variants.{PinInside, WeightRange, Space, Bands, Reach, BandOrder, GridSize}
 use Rattle.net.specs.Answer.{number}
 
 pub number-bounds : (f : Refusal) → (1 ≤ number f) × (number f ≤ 37)
@@ -24,3 +24,4 @@ number-bounds Space = (lit≤ tt, lit≤ tt)
 number-bounds Bands = (lit≤ tt, lit≤ tt)
 number-bounds Reach = (lit≤ tt, lit≤ tt)
 number-bounds BandOrder = (lit≤ tt, lit≤ tt)
+number-bounds GridSize = (lit≤ tt, lit≤ tt)

@@ -2,7 +2,7 @@
 use Prim.Native.Nat.{ℕ}
 use Rattle.net.specs.declared.Refusal.{Refusal}
 use Rattle.net.specs.declared.Refusal.the-variants.{Blocks, Sums, Layout, PinList, MacroList, Range, Sides, SamePlace, Overlap}
-use Rattle.net.specs.declared.Refusal.the-variants.{PinInside, WeightRange, Space, Bands, Reach, BandOrder}
+use Rattle.net.specs.declared.Refusal.the-variants.{PinInside, WeightRange, Space, Bands, Reach, BandOrder, GridSize}
 
 unfoldable pub number : Refusal → ℕ
 number Blocks = 1
@@ -20,3 +20,4 @@ number Space = 21
 number Bands = 31
 number Reach = 32
 number BandOrder = 37
+number GridSize = 36

@@ -90,6 +90,7 @@ pub enum Refusal {
     Bands,
     Reach,
     BandOrder,
+    GridSize,
 }
 
 impl Refusal {
@@ -112,6 +113,7 @@ impl Refusal {
             Refusal::Bands => 31,
             Refusal::Reach => 32,
             Refusal::BandOrder => 37,
+            Refusal::GridSize => 36,
         }
     }
 }

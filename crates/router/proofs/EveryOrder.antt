@@ -2,7 +2,7 @@
 -- trees of one order are trees of the other by the rules, which speak of no order, and there is only one solution (`trees-same`).
 -- Assumes nothing.
 use mathlib.Core.Path.{_≡_, refl, sym, ap, ap₂, _∙_}
-use mathlib.Core.Bool.{cond}
+use mathlib.Core.Bool.{cond, _||_}
 use mathlib.Core.Logic.{∥∥₁-elim}
 use mathlib.Core.List.{List, map, List·Permᴰ, Permᴰ·symm}
 use Prim.Native.Nat.{ℕ, _+_, _*_, _/_}
@@ -51,6 +51,10 @@ use Rattle.router.specs.Terminal.{pathsOf, pathsTotal, terminalGiven, te
 use Rattle.router.specs.Refined.{refinedOf, edgesIn, totalIn, laidOf, laidTotal, refinedGiven, refinedTree}
 use Rattle.router.specs.Wires.{wiresGiven, wired}
 use Rattle.router.specs.Price.{netPrice}
+use Rattle.grid.specs.Bounds.{gridPins, gridMacros}
+use Rattle.grid.specs.Distance.{Square}
+use Rattle.grid.proofs.SquareLaws.{SameGround, squares-same}
+use Rattle.router.specs.Distances.{aboveGrid, distancesGiven, gridDistances}
 use Rattle.router.specs.EveryOrder.{SameForBoth}
 use Rattle.router.proofs.AnswerLaws.{only-refused}
 
@@ -85,7 +89,7 @@ module _ (w : Weighing) (pins pins′ macros macros′ : List ℤ) (p : SamePins
         sym (after-refused _ xs lent n (only-refused _ x n r)) ∙ after-refused _ ys lent n (only-refused _ y n (sym same-check ∙ r))
 
     refused-both : SameForBoth w pins pins′ macros macros′
-    unfolding graphed terminalTree refinedTree wired netPrice
+    unfolding graphed terminalTree refinedTree wired netPrice gridDistances
     refused-both = record {
       check = same-check;
       graph = λ v e. both _ _;
@@ -98,6 +102,8 @@ module _ (w : Weighing) (pins pins′ macros macros′ : List ℤ) (p : SamePins
       wires = λ room. both _ _;
       drawn = λ room lent. untouched _ _ _ _ lent;
       price = λ bands. both _ _;
+      distances = λ room. both _ _;
+      table = λ t u s r room lent. untouched _ _ _ _ lent;
     }
 
   -- Allowed
@@ -186,6 +192,25 @@ module _ (w : Weighing) (pins pins′ macros macros′ : List ℤ) (p : SamePins
     unfolding netPrice
     same-price bands = ap₂ onlyIf same-check (ap (λ (l : List Edge). priced (metal l) bands) same-laid)
 
+    same-distances : (room : ℕ) → gridDistances w pins macros room ≡ gridDistances w pins′ macros′ room
+    unfolding gridDistances distancesGiven aboveGrid
+    same-distances room =
+        ap₂ onlyIf same-check
+        (ap₂ (λ (m k : ℕ). cond (ltb gridPins m || ltb gridMacros k) (refused 36) (ifRoom (m * m) room (m * m))) same-pins
+        (ap (λ (k : ℕ). k / macroWidth) (q .many)))
+
+    -- a walk in clear unit steps knows no order of the lists
+    same-table : (t u : List ℕ) → Square (netOf w pins macros) t → Square (netOf w pins′ macros′) u → t ≡ u
+    same-table t u s r =
+        ∥∥₁-elim (p .order) (order-lists-set number-order _ _) λ d.
+        squares-same (weightsOf w)
+        (record {
+          to = perm-among d;
+          from = perm-among (Permᴰ·symm d);
+          count = length-perm _ _ (p .order);
+          clears = λ x y. clear-perm x y _ _ (q .order);
+        }) a b t u s r
+
     given-both : SameForBoth w pins pins′ macros macros′
     given-both = record {
       check = same-check;
@@ -199,6 +224,8 @@ module _ (w : Weighing) (pins pins′ macros macros′ : List ℤ) (p : SamePins
       wires = same-wires;
       drawn = λ room lent. ap₂ (λ t l. after t (flat edgeNumbers (wires l)) lent) (same-wires room) same-laid;
       price = same-price;
+      distances = same-distances;
+      table = λ t u s r room lent. ap₂ (λ (z : Told ℕ) (l : List ℕ). after z (map pos l) lent) (same-distances room) (same-table t u s r);
     }
 
   pub every-order : SameForBoth w pins pins′ macros macros′

@@ -4,6 +4,7 @@ pub mod CallLaws
 pub mod CountedLaws
 pub mod FreshTables
 pub mod RefinedLaws
+pub mod Distances
 pub mod PriceLaws
 pub mod EveryOrder
 pub mod WorkedNets

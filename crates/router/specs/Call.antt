@@ -1,15 +1,15 @@
 -- What a call answers, and what then stands in each list that it was lent: the contracts of the published operations, one record each.
 use mathlib.Core.Path.{_≡_}
-use mathlib.Core.List.{List}
+use mathlib.Core.List.{List, map}
 use Prim.Native.Nat.{ℕ}
-use lib.IntN.{ℤ}
+use lib.IntN.{ℤ, pos}
 use lib.ListN.{length}
-use Rattle.lent.specs.Told.{Told}
+use Rattle.lent.specs.Told.{Told, given}
 use Rattle.lent.specs.Over.{after}
 use Rattle.lent.specs.Entries.{flat}
 use Rattle.net.specs.declared.Checked.{Checked}
 use Rattle.net.specs.declared.Weighing.{Weighing}
-use Rattle.net.specs.Net.{weightsOf}
+use Rattle.net.specs.Net.{Net, netOf, weightsOf}
 use Rattle.net.specs.Check.{told}
 use Rattle.netfile.specs.declared.Written.{Written}
 use Rattle.netfile.specs.Layout.{fileBytes}
@@ -17,14 +17,17 @@ use Rattle.netfile.specs.Write.{written, toldBytes}
 use Rattle.netfile.specs.Read.{pinsIn, macrosIn, readFile}
 use Rattle.graph.specs.Numbers.{placeNumbers, edgeNumbers}
 use Rattle.terminal.specs.Tree.{pathNumbers}
+use Rattle.grid.specs.Distance.{Square}
 use Rattle.router.specs.declared.Graphed.{Graphed}
 use Rattle.router.specs.declared.TerminalAnswer.{TerminalAnswer}
 use Rattle.router.specs.declared.TreeAnswer.{TreeAnswer}
 use Rattle.router.specs.declared.Wired.{Wired}
+use Rattle.router.specs.declared.DistanceAnswer.{DistanceAnswer}
 use Rattle.router.specs.Graph.{netVertices, netEdges, toldGraph}
 use Rattle.router.specs.Terminal.{pathsOf, toldTerminal}
 use Rattle.router.specs.Refined.{laidOf, toldTree}
 use Rattle.router.specs.Wires.{wiresOf, toldWires}
+use Rattle.router.specs.Distances.{toldDistances}
 
 -- the answer r says t, and one list was lent: where t is given, xs stands at its front (C53); where t is refused, it is as it was (C50)
 pub record Gives {A R X : Type 0} (saying : R → Told A) (t : Told A) (xs lent : List X) (r : R) (lent′ : List X) : Type 0 where
@@ -37,6 +40,14 @@ pub record GivesTwo {A R X : Type 0} (saying : R → Told A) (t : Told A) (xs ys
   pub answer : saying r ≡ t
   pub first : lent′ ≡ after t xs lent
   pub second : other′ ≡ after t ys other
+
+-- the same where what is given is a table whose numbers the rules fix by what they mean (L5): the answer is an equation, and so is the lent
+-- list with these numbers
+pub record GivesSquare (net : Net) (t : Told ℕ) (lent : List ℤ) (r : DistanceAnswer) (lent′ : List ℤ) : Type 0 where
+  pub numbers : List ℕ
+  pub answer : toldDistances r ≡ t
+  pub list : lent′ ≡ after t (map pos numbers) lent
+  pub square : (n : ℕ) → t ≡ given n → Square net numbers
 
 -- What each operation says of two weights, two lists and the room that was lent
 
@@ -64,6 +75,11 @@ RefinedCall said w pins macros edges r edges′ =
 abbrev pub WiresCall : Saying ℕ → (w : Weighing) (pins macros wires : List ℤ) → Wired → List ℤ → Type 0
 WiresCall said w pins macros wires r wires′ =
     Gives toldWires (said w pins macros (length wires)) (flat edgeNumbers (wiresOf w pins macros)) wires r wires′
+
+-- C77, C78: distances on the grid
+abbrev pub DistancesCall : Saying ℕ → (w : Weighing) (pins macros table : List ℤ) → DistanceAnswer → List ℤ → Type 0
+DistancesCall said w pins macros table r table′ =
+    GivesSquare (netOf w pins macros) (said w pins macros (length table)) table r table′
 
 -- C69, C70: a net file written
 abbrev pub WriteCall : (w : Weighing) (pins macros : List ℤ) (bytes : List ℕ) → Written → List ℕ → Type 0

@@ -1,19 +1,22 @@
 -- D2b: what two calls have in common that have the same weights, and lists with the same entries in another order. It speaks of the
 -- answers, and of what each lent list holds after the call, refused or not.
 use mathlib.Core.Path.{_≡_}
-use mathlib.Core.List.{List}
+use mathlib.Core.List.{List, map}
 use Prim.Native.Nat.{ℕ}
-use lib.IntN.{ℤ}
+use lib.IntN.{ℤ, pos}
 use Rattle.lent.specs.Over.{after}
 use Rattle.lent.specs.Entries.{flat}
 use Rattle.net.specs.declared.Weighing.{Weighing}
+use Rattle.net.specs.Net.{netOf}
 use Rattle.net.specs.Check.{checked}
 use Rattle.graph.specs.Numbers.{placeNumbers, edgeNumbers}
 use Rattle.terminal.specs.Tree.{pathNumbers}
+use Rattle.grid.specs.Distance.{Square}
 use Rattle.router.specs.Graph.{netVertices, netEdges, graphed}
 use Rattle.router.specs.Terminal.{pathsOf, terminalTree}
 use Rattle.router.specs.Refined.{laidOf, refinedTree}
 use Rattle.router.specs.Wires.{wiresOf, wired}
+use Rattle.router.specs.Distances.{gridDistances}
 use Rattle.router.specs.Price.{netPrice}
 
 pub record SameForBoth (w : Weighing) (pins pins′ macros macros′ : List ℤ) : Type 0 where
@@ -33,3 +36,6 @@ pub record SameForBoth (w : Weighing) (pins pins′ macros macros′ : List ℤ)
   pub drawn : (room : ℕ) (lent : List ℤ) → after (wired w pins macros room) (flat edgeNumbers (wiresOf w pins macros)) lent
       ≡ after (wired w pins′ macros′ room) (flat edgeNumbers (wiresOf w pins′ macros′)) lent
   pub price : (bands : List ℕ) → netPrice w pins macros bands ≡ netPrice w pins′ macros′ bands
+  pub distances : (room : ℕ) → gridDistances w pins macros room ≡ gridDistances w pins′ macros′ room
+  pub table : (t u : List ℕ) → Square (netOf w pins macros) t → Square (netOf w pins′ macros′) u → (room : ℕ) (lent : List ℤ) →
+      after (gridDistances w pins macros room) (map pos t) lent ≡ after (gridDistances w pins′ macros′ room) (map pos u) lent

@@ -15,9 +15,13 @@
 --                toldTree r                           what the code's answer says
 --   Wires        wiresOf, wired w pins macros r       the wires, and the answer of wires into r lent numbers
 --                toldWires r                          what the code's answer says
+--   Distances    gridDistances w pins macros r        the answer of distances on the grid into r lent numbers
+--                toldDistances r                      what the code's answer says
+--                PromisedDistances w pins macros      what is promised of the table of an allowed net
 --   Price        netPrice w pins macros bands         the answer of a price by a list of bands
 --                NeverLess bands                      of two nets that the list prices, the one with more metal is charged no less
 --   Call         Gives, GivesTwo                      what a call answers and leaves in one lent list, in two: the contracts
+--                GivesSquare                          the same of a table whose numbers are fixed by what they mean
 --   Published    Promised w pins macros               all that is promised of an allowed net: the trees of the rules, the only ones, and D3
 --   EveryOrder   SameForBoth                          what two calls have in common whose lists have the same entries in another order
 --   FirstRelease AsFirst pins macros                  with weights 1 and 1 every cost is a length, and files are those of the first release
@@ -27,6 +31,7 @@ pub mod Room
 pub mod Terminal
 pub mod Refined
 pub mod Wires
+pub mod Distances
 pub mod Price
 pub mod Call
 pub mod Published

@@ -1,8 +1,10 @@
 // What the operations do with an allowed net: each asks for what the check has shown, refuses by 21 where too little is lent, and gives.
+use crate::DistanceAnswer;
 use crate::Graphed;
 use crate::TerminalAnswer;
 use crate::TreeAnswer;
 use crate::Wired;
+use grid::Grid;
 use net::Net;
 use net::Refusal;
 use price::Priced;
@@ -25,7 +27,8 @@ ghost use Rattle.router.specs.Graph.{graphGiven};
 ghost use Rattle.router.specs.Terminal.{terminalGiven};
 ghost use Rattle.router.specs.Refined.{refinedGiven, metalOf};
 ghost use Rattle.router.specs.Wires.{wiresGiven};
-ghost use Rattle.router.specs.Call.{GraphCall, TerminalCall, RefinedCall, WiresCall};
+ghost use Rattle.router.specs.Distances.{distancesGiven};
+ghost use Rattle.router.specs.Call.{GraphCall, TerminalCall, RefinedCall, WiresCall, DistancesCall};
 
 // The graph.
 pub fn graph(
@@ -204,4 +207,21 @@ fn refine(
         &mut *keys,
         start.edges,
     )
+}
+
+// The distances on the grid.
+pub fn grid_distances(net: Net, pins: &[i32], macros: &[i32], table: &mut [i64]) -> DistanceAnswer
+    requires { ⌜ Counted net (handed (net .weights)) (now pins) (now macros) ⌝ }
+    ensures { λ r. ⌜ DistancesCall distancesGiven (handed (net .weights)) (now (pins .entry)) (now (macros .entry)) (now (table .entry)) r
+        (now (table .exit)) ⌝ }
+{
+    if (Grid::PINS < net.pins) | (Grid::MACROS < net.macros) {
+        return DistanceAnswer::Refused(Refusal::GridSize);
+    }
+    let n = net.pins * net.pins;
+    if table.len() < n {
+        return DistanceAnswer::Refused(Refusal::Space);
+    }
+    grid::distances(net.weights, pins, macros, &mut *table);
+    DistanceAnswer::Given(n)
 }

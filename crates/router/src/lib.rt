@@ -18,8 +18,9 @@ ghost use Rattle.router.specs.Graph.{graphed};
 ghost use Rattle.router.specs.Terminal.{terminalTree};
 ghost use Rattle.router.specs.Refined.{refinedTree};
 ghost use Rattle.router.specs.Wires.{wired};
+ghost use Rattle.router.specs.Distances.{gridDistances};
 ghost use Rattle.router.specs.Price.{netPrice};
-ghost use Rattle.router.specs.Call.{GraphCall, TerminalCall, RefinedCall, WiresCall, WriteCall, ReadCall};
+ghost use Rattle.router.specs.Call.{GraphCall, TerminalCall, RefinedCall, WiresCall, DistancesCall, WriteCall, ReadCall};
 
 // The answer of a graph: how many vertices and how many edges were given.
 pub enum Graphed {
@@ -41,6 +42,12 @@ pub enum TreeAnswer {
 
 // The answer of wires: how many were given.
 pub enum Wired {
+    Given(usize),
+    Refused(Refusal),
+}
+
+// The answer of distances on the grid: how many numbers were given.
+pub enum DistanceAnswer {
     Given(usize),
     Refused(Refusal),
 }
@@ -104,6 +111,24 @@ pub fn wires(w: Weighing, pins: &[i32], macros: &[i32], wires: &mut [i32]) -> Wi
     match answer {
         Checked::Allowed(net) => allowed::wires(net, pins, macros, &mut *wires),
         Checked::Refused(refusal) => Wired::Refused(refusal),
+    }
+}
+
+// Distances on the grid: the cheapest cost along the grid between every two pins, row by row in the order of places, and how many numbers
+// that is, or 11 to 18, then 36 above 16 pins or 16 macros, then 21 where fewer than m times m numbers are lent. That no walk in clear unit
+// steps is cheaper, nor any way along the spanning graph: `PromisedDistances` (specs/Distances.antt).
+pub fn grid_distances(
+    w: Weighing,
+    pins: &[i32],
+    macros: &[i32],
+    table: &mut [i64],
+) -> DistanceAnswer
+    ensures { λ r. ⌜ DistancesCall gridDistances w (now (pins .entry)) (now (macros .entry)) (now (table .entry)) r (now (table .exit)) ⌝ }
+{
+    let answer = net::check(w, pins, macros);
+    match answer {
+        Checked::Allowed(net) => allowed::grid_distances(net, pins, macros, &mut *table),
+        Checked::Refused(refusal) => DistanceAnswer::Refused(refusal),
     }
 }
 

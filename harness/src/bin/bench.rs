@@ -8,7 +8,7 @@ use reference::generate::{net, Kind};
 use reference::lists::Lists;
 use reference::operations;
 
-const HELP: &str = "bench graph|terminal|refined|nothing proved|second SIZE TIMES: one operation of one program on a net of SIZE pins and SIZE macros.";
+const HELP: &str = "bench graph|terminal|refined|distances|nothing proved|second SIZE TIMES: one operation of one program on a net of SIZE pins and SIZE macros.";
 
 /// The first SIZE pins and SIZE macros of a largest net, with weights 1 and 1: still allowed, since taking entries away breaks no rule.
 fn sized(size: usize) -> Lists {
@@ -55,10 +55,18 @@ fn run(operation: &str, program: &str, lists: &Lists) -> Option<u64> {
             };
             call(pins, macros, weights, &mut vec![0; 4 * (n + m)]).map(|(edges, ..)| edges)
         }
+        "distances" => {
+            let call = if is_proved {
+                library::grid_distances
+            } else {
+                operations::grid_distances
+            };
+            call(pins, macros, weights, &mut vec![0; m * m])
+        }
         "nothing" => Ok(0),
         _ => return None,
     };
-    Some(entries.expect("the net is allowed, and the space is what is asked for") as u64)
+    Some(entries.expect("the net is allowed and of a size that the operation takes, and the space is what is asked for") as u64)
 }
 
 fn main() -> ExitCode {

@@ -3,7 +3,7 @@
 use std::process::ExitCode;
 use std::time::{Duration, Instant};
 
-use harness::matching::{any, file, routed, Matched};
+use harness::matching::{any, file, on_grid, routed, Matched};
 
 const HELP: &str = "match SECONDS [SEED]: matches the proved router with the second program on random lists for some seconds, from a seed on (0).
 It prints how many were matched, or the first difference with its seed and its net.";
@@ -16,6 +16,7 @@ fn all(seed: u64) -> Matched {
     case.write_file()?;
     case.read_back()?;
     file(seed).read_file()?;
+    on_grid(seed).grid_distances()?;
     for case in [case, routed(seed)] {
         case.terminal_tree()?;
         case.refined_tree()?;

@@ -5,6 +5,7 @@ use crate::program::Command;
 mod batch;
 mod check;
 mod compare;
+mod distances;
 mod draw;
 mod pack;
 mod price;
@@ -21,6 +22,7 @@ pub const ALL: &[Command] = &[
     compare::COMMAND,
     batch::COMMAND,
     price::COMMAND,
+    distances::COMMAND,
     pack::COMMAND,
     unpack::COMMAND,
 ];

@@ -7,8 +7,16 @@ use std::path::{Path, PathBuf};
 use std::process::{Command, Output, Stdio};
 
 pub const CALZUNDI: &str = env!("CARGO_BIN_EXE_calzundi");
-pub const COMMANDS: [&str; 8] = [
-    "check", "route", "draw", "compare", "batch", "price", "pack", "unpack",
+pub const COMMANDS: [&str; 9] = [
+    "check",
+    "route",
+    "draw",
+    "compare",
+    "batch",
+    "price",
+    "distances",
+    "pack",
+    "unpack",
 ];
 
 /// Runs the program with words and an input.

@@ -1,0 +1,33 @@
+-- `grid::settle` meets its contract. The loop's invariant: what became of the row, and that it is quiet after a pass with no change.
+-- The measure is twice the sum of the row, and one more while a pass is to come.
+-- Assumes nothing.
+use Rattle.grid.proofs.PassLaws.{Settling, measure, settle-none, settle-more, settle-less, held-row}
+use Rattle.grid.proofs.settle.Statement.{statement}
+use Rattle.grid.proofs.settle.Tie as tie
+
+abbrev Inv-loop : tie.InvT-loop
+Inv-loop costs e row₀ more₀ row more = Settling costs e row₀ row more
+
+abbrev μ-loop : tie.MeasureT-loop
+μ-loop costs e row₀ more₀ row more = measure costs e row more
+
+loop-holds : tie.Need-loop-holds Inv-loop μ-loop
+loop-holds c = settle-none _ _ _
+
+pass-requires : tie.Need-pass-requires Inv-loop μ-loop
+pass-requires c κs =
+    let l = c .before .before in
+    (l .before .pre .0, held-row _ _ _ (l .before .pre .1) (l .loop .inv .held))
+
+loop-less : tie.Need-loop-less Inv-loop μ-loop
+loop-less c = settle-less _ _ _ _ _ _ (c .before .before .loop-test .taken) (c .pass .ensures)
+
+loop-again : tie.Need-loop-again Inv-loop μ-loop
+loop-again c = settle-more _ _ _ _ _ _ _ (c .before .before .before .loop .inv) (c .pass .ensures)
+
+returns : tie.Need-returns Inv-loop μ-loop
+returns c = (c .before .loop .inv .held, c .before .loop .inv .quiet (c .loop-test .left))
+
+pub settle-spec : {M : Type 1} → statement M
+settle-spec =
+    tie.close (tie.spec Inv-loop μ-loop loop-holds pass-requires loop-less loop-again returns)
