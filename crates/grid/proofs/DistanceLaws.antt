@@ -10,7 +10,6 @@ use Rattle.lists.specs.Member.{_∈_}
 use Rattle.lists.proofs.TestLaws.{either}
 use Rattle.joined.specs.Joined.{Link}
 use Rattle.plane.specs.declared.Place.{Place}
-use Rattle.plane.specs.declared.Macro.{Macro}
 use Rattle.plane.specs.Macro.{clear}
 use Rattle.plane.proofs.MacroLaws.{clear-comm}
 use Rattle.joined.specs.Joined.{Joined}

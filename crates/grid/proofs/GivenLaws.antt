@@ -1,8 +1,8 @@
 -- The row that a crossing starts with, and settled rows put into a lent list one after the other.
 -- Assumes nothing.
-use mathlib.Core.Path.{_≡_, refl, sym, ap, ap₂, subst, _∙_}
+use mathlib.Core.Path.{_≡_, sym, ap, subst, _∙_}
 use mathlib.Core.List.{List, [], _++_, map, map-append}
-use Prim.Native.Nat.{ℕ, zero, suc, _+_, _*_, _≤_, _<_}
+use Prim.Native.Nat.{ℕ, suc, _+_, _*_, _≤_, _<_}
 use native.Mathlib.Decide.{ℕ-discrete}
 use native.Mathlib.Nat.{suc-mul, zero-mul, mul-le-mul-right}
 use native.Mathlib.Numerals.{add-one}
@@ -20,7 +20,7 @@ use Rattle.lent.proofs.OverLaws.{over-none}
 use Rattle.terminal.proofs.FillLaws.{over-sets}
 use Rattle.grid.specs.Bounds.{crossingBound, unreached}
 use Rattle.grid.specs.Rows.{at}
-use Rattle.grid.specs.Tables.{Row, Starts, picked, Settled, RowPut, RowsOver}
+use Rattle.grid.specs.Tables.{Starts, picked, Settled, RowPut, RowsOver}
 
 -- The start
 

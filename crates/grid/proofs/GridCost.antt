@@ -26,7 +26,7 @@ use Rattle.plane.specs.declared.Macro.{Macro}
 use Rattle.plane.specs.declared.Weights.{Weights}
 use Rattle.plane.specs.Distance.{apart}
 use Rattle.plane.specs.Cost.{cost}
-use Rattle.net.specs.Bounds.{coordinateBound, weightBound, costBound}
+use Rattle.net.specs.Bounds.{coordinateBound, weightBound}
 use Rattle.net.specs.Net.{Net, costIn}
 use Rattle.net.specs.Check.{outOfRange}
 use Rattle.net.specs.Allowed.{Allowed}

@@ -2,7 +2,7 @@
 -- by induction on the number. Pairs that join v with the point cost no less together: one of them at v is taken out, and the others join
 -- the point with v still, or with its other end.
 -- Assumes nothing.
-use mathlib.Core.Path.{_≡_, refl, sym}
+use mathlib.Core.Path.{_≡_, sym}
 use mathlib.Core.Logic.{_⊎_, inl, inr}
 use mathlib.Core.List.{List, [], _∷_}
 use Prim.Native.Nat.{ℕ, zero, suc, _+_, _≤_, _<_}

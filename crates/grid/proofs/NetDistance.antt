@@ -14,20 +14,17 @@ use lib.IntN.{ℤ, pos}
 use lib.ListN.{length, getD, drop, replicate, length-map, length-replicate, getD-replicate, List·getD-append, List·getD-eq-default}
 use lib.Seq.{getD-drop, getD-append-add}
 use Rattle.lists.specs.Member.{_∈_}
-use Rattle.lists.specs.Sorted.{sorted}
 use Rattle.lists.proofs.TestLaws.{by}
 use Rattle.lists.proofs.MemberLaws.{getD-in, once-length}
 use Rattle.lists.proofs.MapLaws.{getD-map}
 use Rattle.lists.proofs.SortedLaws.{of-sorted, in-sorted, length-sorted}
 use Rattle.joined.specs.Joined.{Joined}
-use Rattle.joined.specs.Cost.{lengths}
 use Rattle.lent.specs.Over.{over}
 use Rattle.lent.proofs.OverLaws.{length-over}
 use Rattle.plane.specs.declared.Place.{Place}
 use Rattle.plane.specs.Place.{place, before}
 use Rattle.plane.specs.Macro.{clear}
 use Rattle.plane.proofs.PlaceOrder.{place-order}
-use Rattle.net.specs.Bounds.{costBound}
 use Rattle.net.specs.Net.{Net, costIn}
 use Rattle.net.specs.Check.{outOfRange}
 use Rattle.net.specs.Allowed.{Allowed, PlaceInRange}
@@ -41,22 +38,22 @@ use Rattle.terminal.proofs.NumberLaws.{apart-once}
 use Rattle.grid.specs.declared.Grid.{Grid}
 use Rattle.grid.specs.declared.Axis.{Axis}
 use Rattle.grid.specs.declared.Axis.the-variants.{Across, Along}
-use Rattle.grid.specs.Bounds.{gridPins, gridMacros, lineBound, crossingBound, segmentBound, unreached}
+use Rattle.grid.specs.Bounds.{gridPins, gridMacros, lineBound, crossingBound, unreached}
 use Rattle.grid.specs.Lines.{linesOf, xLines, yLines}
 use Rattle.grid.specs.Edges.{gridEdges}
 use Rattle.grid.specs.Crossings.{isCrossing, crossingNumber}
 use Rattle.grid.specs.Rows.{at, Held, Quiet, Below}
 use Rattle.grid.specs.Nearest.{Nearest}
-use Rattle.grid.specs.Tables.{FewLines, crossingAt, isSegment, edgeCost, Priced, CostsTo, Fits, Near, Starts, Settled, RowsOver}
+use Rattle.grid.specs.Tables.{FewLines, crossingAt, isSegment, Priced, CostsTo, Fits, Near, Starts, Settled, RowsOver}
 use Rattle.grid.specs.Distance.{GridDistance, pinsInOrder, pinInOrder, SquareOver}
 use Rattle.grid.proofs.AxisLaws.{cost-length}
-use Rattle.grid.proofs.EdgeLaws.{pin-crossing, x-ascending, y-ascending, link-grid}
+use Rattle.grid.proofs.EdgeLaws.{pin-crossing, x-ascending, y-ascending}
 use Rattle.grid.proofs.CrossingLaws.{is-crossing, crossing-is, numbers-single, number-below, ends-crossings}
 use Rattle.grid.proofs.GridCost.{line-count, line-range, grid-cost}
 use Rattle.grid.proofs.DistanceLaws.{grid-joins, grid-turn}
 use Rattle.grid.proofs.NearestLaws.{nearest-least, nearest-way, nearest-joined}
 use Rattle.grid.proofs.RowLaws.{held-near, quiet-near}
-use Rattle.grid.proofs.Spread.{NearOf, spread, spread-on, spread-off, row-nearest}
+use Rattle.grid.proofs.Spread.{spread, spread-on, spread-off, row-nearest}
 use Rattle.grid.proofs.SegmentLaws.{segment-ends, edge-none, edge-low}
 use Rattle.grid.proofs.TableGrid.{Made, NearGrid, near-grid, grid-near, link-cost}
 

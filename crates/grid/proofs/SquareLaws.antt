@@ -1,9 +1,9 @@
 -- What holds of the square table of an allowed net, and that it does not depend on the order of the lists: a walk in clear unit steps knows
 -- the macros by what is clear of them, and the pins in the order of places are the same.
 -- Assumes nothing.
-use mathlib.Core.Path.{_≡_, refl, sym, ap, subst, _∙_}
+use mathlib.Core.Path.{_≡_, sym, ap, subst, _∙_}
 use mathlib.Core.List.{List}
-use Prim.Native.Nat.{ℕ, zero, suc, _+_, _*_, _-_, _≤_, _<_}
+use Prim.Native.Nat.{ℕ, zero, suc, _+_, _*_, _-_, _<_}
 use native.Mathlib.Nat.{suc-mul}
 use native.Mathlib.Omega.{arith}
 use borrow.Author.Tests.{ltb-true, ltb-false}
@@ -22,11 +22,11 @@ use Rattle.plane.specs.Place.{place, before}
 use Rattle.plane.specs.declared.Weights.{Weights}
 use Rattle.plane.specs.Macro.{clear}
 use Rattle.plane.proofs.PlaceOrder.{place-order}
-use Rattle.net.specs.Net.{Net, costIn}
+use Rattle.net.specs.Net.{Net}
 use Rattle.net.specs.Allowed.{Allowed}
 use Rattle.graph.specs.Spanning.{spanning}
 use Rattle.grid.specs.Lines.{UnitStep}
-use Rattle.grid.specs.Distance.{GridDistance, TrueDistance, pinsInOrder, pinInOrder, entryAt, Square, TrueSquare}
+use Rattle.grid.specs.Distance.{TrueDistance, pinsInOrder, pinInOrder, entryAt, Square, TrueSquare}
 use Rattle.grid.proofs.WalkLaws.{walk-map}
 use Rattle.grid.proofs.EdgeLaws.{pin-crossing}
 use Rattle.grid.proofs.DistanceLaws.{no-way-cheaper, grid-true, grid-only, true-only, grid-turn, grid-self}

@@ -2,7 +2,7 @@
 -- the grid has one. So a row that is settled by the tables is a table of distances along the grid.
 -- Assumes nothing.
 use mathlib.Core.Path.{_≡_, refl, sym, ap, ap₂, subst, _∙_}
-use mathlib.Core.Bool.{Bool, true, false}
+use mathlib.Core.Bool.{Bool, true}
 use mathlib.Core.Logic.{_⊎_, inl, inr}
 use mathlib.Core.List.{List, [], _∷_}
 use Prim.Native.Nat.{ℕ, zero, suc, _+_, _*_, _/_, _%_, _≤_, _<_}
@@ -34,7 +34,7 @@ use Rattle.grid.specs.Bounds.{lineBound, unreached}
 use Rattle.grid.specs.Lines.{xLines, yLines, Neighbours, Beside, GridStep, across, along}
 use Rattle.grid.specs.Edges.{nexts, gridEdges}
 use Rattle.grid.specs.Crossings.{isCrossing, crossingNumber}
-use Rattle.grid.specs.Tables.{FewLines, crossingAt, target, isSegment, segmentCost, edgeCost, CostsTo, Reads, Near}
+use Rattle.grid.specs.Tables.{FewLines, crossingAt, target, isSegment, segmentCost, CostsTo, Reads, Near}
 use Rattle.grid.proofs.LineLaws.{line-order}
 use Rattle.grid.proofs.EdgeLaws.{in-nexts, of-nexts, x-ascending, y-ascending, grid-link, link-grid}
 use Rattle.grid.proofs.SegmentLaws.{target-even, target-odd, segment-clear, segment-met, even-segment, odd-segment, segment-inside}

@@ -1,6 +1,6 @@
 -- The tables as the program has made them, for an allowed net of flat lists: what each call is handed, and what the last one gives.
 -- Assumes nothing.
-use mathlib.Core.Path.{_≡_, refl, sym, ap, ap₂, subst, _∙_}
+use mathlib.Core.Path.{_≡_, sym, ap, ap₂, subst, _∙_}
 use mathlib.Core.List.{List, map}
 use Prim.Native.Nat.{ℕ, _*_, _≤_}
 use native.Mathlib.Omega.{arith}
@@ -9,7 +9,6 @@ use lib.ListN.{length, getD, take, replicate, length-replicate}
 use Rattle.lists.specs.Sorted.{sorted}
 use Rattle.lent.specs.Over.{over}
 use Rattle.lent.proofs.OverLaws.{take-over, length-over}
-use Rattle.plane.specs.declared.Place.{Place}
 use Rattle.plane.specs.declared.Weights.{Weights}
 use Rattle.plane.specs.Place.{before}
 use Rattle.plane.specs.Flat.{macrosOf}

@@ -1,6 +1,6 @@
 -- Worked grids: the definitions tried out by computing. Four pins without a macro (E22), and two macros that touch (E23).
 -- Assumes nothing.
-use mathlib.Core.Path.{_≡_, refl, _∙_}
+use mathlib.Core.Path.{_≡_, refl}
 use mathlib.Core.Bool.{true}
 use mathlib.Core.List.{List, [], _∷_}
 use Prim.Native.Nat.{ℕ, _≤_}

@@ -1,6 +1,6 @@
 -- The distances on the grid among the operations: the answer by its cases, and what is promised of the table of an allowed net.
 -- Assumes nothing.
-use mathlib.Core.Path.{_≡_, refl, sym, ap, ap₂, _∙_}
+use mathlib.Core.Path.{_≡_, refl, ap₂, _∙_}
 use mathlib.Core.Bool.{true, false, _||_}
 use mathlib.Core.List.{List}
 use Prim.Native.Nat.{ℕ, _*_, _≤_, _<_}
@@ -9,15 +9,14 @@ use lib.Dec.{ltb}
 use lib.IntN.{ℤ}
 use Rattle.lists.proofs.TestLaws.{or-neither}
 use Rattle.lent.specs.Told.{given, refused}
-use Rattle.plane.specs.Flat.{macrosOf}
 use Rattle.net.specs.declared.Net.{Net as Counts}
 use Rattle.net.specs.declared.Weighing.{Weighing}
-use Rattle.net.specs.Pins.{pinCount, pinPlaces, macroCount}
+use Rattle.net.specs.Pins.{pinCount, macroCount}
 use Rattle.net.specs.Net.{weightsOf}
 use Rattle.net.specs.Check.{checked}
 use Rattle.net.proofs.AllowedLaws.{given-allowed}
 use Rattle.grid.specs.Bounds.{gridPins, gridMacros}
-use Rattle.grid.proofs.SquareLaws.{SameGround, square-true, squares-same}
+use Rattle.grid.proofs.SquareLaws.{square-true, squares-same}
 use Rattle.router.specs.Distances.{aboveGrid, distancesGiven, gridDistances, PromisedDistances}
 use Rattle.router.proofs.AnswerLaws.{only-given, room-short, room-enough}
 

@@ -1,6 +1,6 @@
 -- `grid::distances` meets its contract: lines, costs and numbers are the net's, and the rows settled from its pins are the square.
 -- Assumes nothing.
-use mathlib.Core.Path.{_≡_, refl, subst, sym}
+use mathlib.Core.Path.{refl}
 use denote.Ref.{now}
 use Rattle.grid.specs.declared.Axis.the-variants.{Across, Along}
 use Rattle.grid.proofs.WholeLaws.{Small, Lined, table-long, whole-few, whole-priced, whole-fits, whole-below, whole-count}
@@ -8,10 +8,6 @@ use Rattle.grid.proofs.WholeLaws.{whole-square}
 use borrow.Author.Needs.{needs}
 use Rattle.grid.proofs.distances.Statement.{statement}
 use Rattle.grid.proofs.distances.Tie as tie
-use Rattle.grid.proofs.distances.Reads as reads
-use Rattle.grid.proofs.give_rows.Reads as give-rows-reads
-use Rattle.grid.proofs.number_pins.Reads as number-pins-reads
-use Rattle.net.proofs.pin_count.Reads as pin-count-reads
 
 -- the net, and its lines
 small : (s : tie.Start) → Small (s .args .w) (now (s .args .pins)) (now (s .args .macros))

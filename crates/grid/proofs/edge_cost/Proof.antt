@@ -6,9 +6,6 @@ use Rattle.grid.proofs.SegmentLaws.{segment-ends, edge-none, edge-made}
 use borrow.Author.Needs.{needs}
 use Rattle.grid.proofs.edge_cost.Statement.{statement}
 use Rattle.grid.proofs.edge_cost.Tie as tie
-use Rattle.grid.proofs.edge_cost.Reads as reads
-use Rattle.grid.proofs.crossing.Reads as crossing-reads
-use Rattle.grid.proofs.segment_cost.Reads as segment-cost-reads
 
 returns : tie.Need-returns
 returns c = sym (edge-none _ _ _ _ _ _ (sym (c .before .is-segment .ensures) ∙ not-true _ (c .if1 .taken)))

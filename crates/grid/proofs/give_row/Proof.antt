@@ -4,9 +4,6 @@ use mathlib.Core.Path.{refl}
 use borrow.Author.Needs.{needs}
 use Rattle.grid.proofs.give_row.Statement.{statement}
 use Rattle.grid.proofs.give_row.Tie as tie
-use Rattle.grid.proofs.give_row.Reads as reads
-use Rattle.grid.proofs.put_row.Reads as put-row-reads
-use Rattle.grid.proofs.start.Reads as start-reads
 
 start-requires : tie.Need-start-requires
 start-requires c κs = (refl, c .before .before .pre .0 .1 .1 .0 _)

@@ -4,13 +4,10 @@ use mathlib.Core.Path.{_≡_, refl, _∙_}
 use Prim.Native.Nat.{_≤_, _-_}
 use native.Mathlib.Omega.{arith}
 use lib.ListN.{length}
-use denote.Ref.{now}
 use Rattle.grid.specs.Tables.{Near, RowsOver}
 use Rattle.grid.proofs.GivenLaws.{rows-none, rows-more, rows-end, row-room}
 use Rattle.grid.proofs.give_rows.Statement.{statement}
 use Rattle.grid.proofs.give_rows.Tie as tie
-use Rattle.grid.proofs.give_rows.Reads as reads
-use Rattle.grid.proofs.give_row.Reads as give-row-reads
 
 abbrev Inv-loop : tie.InvT-loop
 Inv-loop costs e numbers m table₀ i₀ table i = (i ≤ m) × ((length table ≡ length table₀) × RowsOver (Near costs e) numbers m i table₀ table)

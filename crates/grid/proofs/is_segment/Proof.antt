@@ -4,7 +4,6 @@ use Rattle.grid.proofs.SegmentLaws.{segment-even, segment-odd}
 use borrow.Author.Needs.{needs}
 use Rattle.grid.proofs.is_segment.Statement.{statement}
 use Rattle.grid.proofs.is_segment.Tie as tie
-use Rattle.grid.proofs.is_segment.Reads as reads
 
 returns : tie.Need-returns
 returns c = segment-even _ _ (c .before .before .if1 .taken)

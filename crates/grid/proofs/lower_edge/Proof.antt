@@ -1,6 +1,6 @@
 -- `grid::lower_edge` meets its contract: its two answers are the two cases of a visit.
 -- Assumes nothing.
-use mathlib.Core.Path.{refl, _∙_}
+use mathlib.Core.Path.{refl}
 use mathlib.Core.Logic.{inl, inr}
 use native.Mathlib.Omega.{arith}
 use borrow.Author.Needs.{needs}

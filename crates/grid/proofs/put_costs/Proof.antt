@@ -10,8 +10,6 @@ use Rattle.grid.specs.Tables.{CostsTo}
 use Rattle.grid.proofs.TableLaws.{costs-none, costs-more, costs-end}
 use Rattle.grid.proofs.put_costs.Statement.{statement}
 use Rattle.grid.proofs.put_costs.Tie as tie
-use Rattle.grid.proofs.put_costs.Reads as reads
-use Rattle.grid.proofs.edge_cost.Reads as edge-cost-reads
 
 abbrev Inv-loop : tie.InvT-loop
 Inv-loop w macros grid xs ys costs₀ e k₀ costs k = ((k ≤ e) × (e ≤ segmentBound)) ×

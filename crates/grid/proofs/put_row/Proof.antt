@@ -1,6 +1,6 @@
 -- `grid::put_row` meets its contract. The loop's invariant: the numbers of the first j crossings are stored.
 -- Assumes nothing.
-use mathlib.Core.Path.{_≡_, refl, sym, ap, _∙_}
+use mathlib.Core.Path.{_≡_, refl, _∙_}
 use mathlib.Core.List.{map}
 use mir.Syntax.{w64}
 use mir.ValLaws.{toZ-ofZ}
@@ -14,8 +14,6 @@ use Rattle.grid.specs.Tables.{picked}
 use Rattle.grid.proofs.TableLaws.{put-none, put-more, put-end}
 use Rattle.grid.proofs.put_row.Statement.{statement}
 use Rattle.grid.proofs.put_row.Tie as tie
-use Rattle.grid.proofs.put_row.Reads as reads
-use Rattle.grid.proofs.wide.Reads as wide-reads
 
 abbrev Inv-loop : tie.InvT-loop
 Inv-loop row numbers m from table₀ j₀ table j = (j ≤ m) ×

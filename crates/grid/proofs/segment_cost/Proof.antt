@@ -5,8 +5,6 @@ use Rattle.grid.proofs.SegmentLaws.{segment-clear, segment-met}
 use borrow.Author.Needs.{needs}
 use Rattle.grid.proofs.segment_cost.Statement.{statement}
 use Rattle.grid.proofs.segment_cost.Tie as tie
-use Rattle.grid.proofs.segment_cost.Reads as reads
-use Rattle.plane.proofs.cost.Reads as cost-reads
 
 returns : tie.Need-returns
 returns c = c .cost .ensures .0 ∙ sym (segment-clear _ _ _ _ (sym (c .before .before .is-clear .ensures) ∙ c .before .if1 .taken))
