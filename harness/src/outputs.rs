@@ -129,11 +129,15 @@ impl Display for Difference {
     }
 }
 
+/// The operation that a line is of: its first word.
+pub fn operation(line: &str) -> &str {
+    line.trim_end().split(' ').next().unwrap_or_default()
+}
+
 /// In which operations a record differs from the stored one. Without one, the two are equal byte for byte.
 pub fn differences(stored: &str, now: &str) -> Vec<Difference> {
     let title = stored.split('\n').next().unwrap_or_default();
-    let operation = |line: &'_ str| line.split(' ').next().unwrap_or_default().to_string();
-    let mut operations: Vec<String> = Vec::new();
+    let mut operations: Vec<&str> = Vec::new();
     for line in stored.split('\n').chain(now.split('\n')) {
         if !operations.contains(&operation(line)) {
             operations.push(operation(line));
@@ -151,7 +155,7 @@ pub fn differences(stored: &str, now: &str) -> Vec<Difference> {
             let line = |lines: &[String]| lines.get(at).cloned().unwrap_or_default();
             found.push(Difference {
                 title: title.to_string(),
-                operation: name,
+                operation: name.to_string(),
                 stored: line(&before),
                 now: line(&after),
             });

@@ -269,13 +269,12 @@ fn wires_on_five_thousand_nets() {
     }
 }
 
-/// The refined tree, and what the second program saw while it refined: every sentence of document 01 on rounds must have been met, or the
-/// match says little.
+/// The refined tree, and what the second program saw while it refined: every sentence of document 01 on rounds and of [3] must have
+/// been met, or the match says little.
 #[test]
 fn refined_tree_on_five_thousand_nets() {
-    let mut met = [0; 9];
-    for seed in 0..5_000 {
-        let case = routed(seed);
+    let mut met = [0; EVENTS.len()];
+    for case in (0..5_000).map(routed).chain(found_by_trying()) {
         matched(case.refined_tree());
         for (times, now) in met.iter_mut().zip(events(&case)) {
             *times += now;
@@ -292,8 +291,82 @@ fn refined_tree_on_five_thousand_nets() {
     }
 }
 
-/// What can happen while a net is refined.
-const EVENTS: [&str; 9] = [
+/// Nets found by trying, for what no kind brings about. In the first two a round puts its s on the place of a vertex and a later one beside
+/// the tree is joined there; in the third a candidate beside the tree would win, were it not dropped since its s is on a tree point.
+fn found_by_trying() -> [Case; 3] {
+    let case = |seed, pins: &[[i32; 2]], macros: &[[i32; 4]], weights| Case {
+        kind: "found-by-trying",
+        seed,
+        lists: Lists {
+            pins: pins.concat(),
+            macros: macros.concat(),
+            weights,
+        },
+    };
+    [
+        case(
+            0,
+            &[
+                [6, 3],
+                [10, 9],
+                [16, -1],
+                [11, 20],
+                [5, 19],
+                [-2, 15],
+                [9, 20],
+                [19, 2],
+                [2, 17],
+            ],
+            &[
+                [0, 9, 10, 17],
+                [16, 13, 23, 16],
+                [10, 13, 16, 16],
+                [6, 1, 16, 3],
+                [16, 2, 19, 12],
+                [11, 18, 18, 19],
+            ],
+            Weights::ONE,
+        ),
+        case(
+            1,
+            &[[1, 21], [0, 16], [9, 17], [1, 2], [7, 11], [0, 6], [-2, 8]],
+            &[
+                [2, 13, 5, 21],
+                [4, 4, 7, 12],
+                [5, 1, 9, 3],
+                [6, 17, 9, 24],
+                [1, 1, 2, 3],
+                [5, 12, 7, 16],
+                [0, 8, 1, 10],
+                [1, 8, 2, 15],
+                [1, 19, 2, 26],
+            ],
+            Weights::ONE,
+        ),
+        case(
+            2,
+            &[[6, 5], [2, 2], [-1, 4], [2, 7]],
+            &[
+                [0, 2, 2, 3],
+                [3, 2, 7, 5],
+                [3, 5, 4, 9],
+                [5, 5, 9, 9],
+                [1, 3, 3, 5],
+                [1, 5, 2, 7],
+                [3, 0, 5, 2],
+                [0, 3, 1, 4],
+                [2, 5, 3, 8],
+                [0, 0, 2, 2],
+                [5, 0, 9, 2],
+            ],
+            Weights { x: 5, y: 8 },
+        ),
+    ]
+}
+
+/// What can happen while a net is refined. A candidate beside the tree that is dropped for a point of its way never would have won: that point
+/// gains more (docs/DECISIONS.md).
+const EVENTS: [&str; 16] = [
     "rounds",
     "nets where the bound of m rounds ended the rounds",
     "nets with something pruned",
@@ -303,10 +376,17 @@ const EVENTS: [&str; 9] = [
     "rounds with s equal to u",
     "candidates dropped",
     "nets where a dropped candidate would have won",
+    "rounds that took a point beside the tree",
+    "rounds where points on the tree and beside it tied",
+    "candidates beside the tree dropped, v being a or b",
+    "candidates beside the tree dropped, s being on the way",
+    "candidates beside the tree dropped, s being on a tree point",
+    "rounds beside the tree joined at the s of a former one",
+    "nets where one beside the tree would have won, were s not on a tree point",
 ];
 
 /// How often each of them happened.
-fn events(case: &Case) -> [usize; 9] {
+fn events(case: &Case) -> [usize; EVENTS.len()] {
     let (pins, macros, weights) = case.lists.parts();
     let net = check(pins, macros, weights).expect("routed nets are allowed");
     let Statistics {
@@ -318,7 +398,16 @@ fn events(case: &Case) -> [usize; 9] {
         s_at_u,
         dropped,
         dropped_would_win,
+        beside,
+        tied,
+        joined_at_end,
+        s_on_way,
+        s_on_tree,
+        joined_at_s,
+        s_on_way_would_win,
+        s_on_tree_would_win,
     } = refined(&net).statistics;
+    assert!(!s_on_way_would_win);
     [
         rounds,
         bound_ended.into(),
@@ -329,6 +418,13 @@ fn events(case: &Case) -> [usize; 9] {
         s_at_u,
         dropped,
         dropped_would_win.into(),
+        beside,
+        tied,
+        joined_at_end,
+        s_on_way,
+        s_on_tree,
+        joined_at_s,
+        s_on_tree_would_win.into(),
     ]
 }
 

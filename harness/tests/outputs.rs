@@ -1,5 +1,5 @@
 //! The library and the program answer as the first release did, byte for byte but for what requests have changed since
-//! (harness/src/requests.rs), on the inputs of harness/first-release/outputs.txt.
+//! (harness/src/requests.rs and the files of differences), on the inputs of harness/first-release/outputs.txt.
 
 use std::collections::{BTreeMap, BTreeSet};
 use std::path::Path;
@@ -7,14 +7,36 @@ use std::thread;
 
 use harness::library;
 use harness::outputs::{differences, digest, records, Case, Difference, Input};
-use harness::requests::expected;
-use reference::net::Weights;
+use harness::requests::{weights, Change, Differences};
+use reference::edge::Edge;
+use reference::net::{check, Weights};
 use reference::netfile;
+use reference::refined::{refine_by, Rule};
+use reference::terminal::terminal;
+
+/// A text of the folder first-release.
+fn text(name: &str) -> String {
+    let folder = Path::new(env!("CARGO_MANIFEST_DIR")).join("first-release");
+    let file = folder.join(name);
+    std::fs::read_to_string(&file).unwrap_or_else(|error| panic!("{}: {error}", file.display()))
+}
 
 /// The text that was stored with the first release.
 fn stored() -> String {
-    let file = Path::new(env!("CARGO_MANIFEST_DIR")).join("first-release/outputs.txt");
-    std::fs::read_to_string(&file).unwrap_or_else(|error| panic!("{}: {error}", file.display()))
+    text("outputs.txt")
+}
+
+/// What [3] changed.
+fn beside() -> Differences {
+    Differences::parse(&text("beside.txt"))
+}
+
+/// A stored record as it is expected now: with the rule of [1], then the differences of [3].
+fn expected(stored: &str, beside: &Differences) -> String {
+    let weighed = weights(stored);
+    beside
+        .apply(&weighed)
+        .unwrap_or_else(|wrong| panic!("{wrong}"))
 }
 
 /// The input of a stored record, which must stand there as it would be written now.
@@ -26,8 +48,9 @@ fn case(record: &str) -> Case {
 
 /// Every difference, by two threads, in the order of the records.
 fn all_differences(records: &[String]) -> Vec<Difference> {
+    let beside = &beside();
     let of_half = |half: &[String]| -> Vec<Difference> {
-        let of = |record: &String| differences(&expected(record), &case(record).record());
+        let of = |record: &String| differences(&expected(record, beside), &case(record).record());
         half.iter().flat_map(of).collect()
     };
     let (first, second) = records.split_at(records.len() / 2);
@@ -66,7 +89,7 @@ fn every_output_is_that_of_the_first_release() {
 fn weights_change_two_things_and_no_other() {
     let (mut headers, mut reads) = (0, 0);
     for record in records(&stored()) {
-        let (mut before, now) = (record.lines(), expected(&record));
+        let (mut before, now) = (record.lines(), weights(&record));
         for line in now.lines() {
             if line == "read 0 weights 1 1" {
                 reads += 1;
@@ -96,6 +119,102 @@ fn weights_change_two_things_and_no_other() {
 /// The allowed nets, and the one damaged file that is a right one all the same.
 const HEADERS: usize = 1_756 + READS;
 const READS: usize = 1;
+
+/// "Refined outputs are matched with this rule from here on" [3]: the records that the file names are stored ones, in each of them the
+/// refined tree, the wires and what the program prints are others and nothing else is, and the refined total is still at most the
+/// terminal one.
+#[test]
+fn points_beside_the_tree_change_refined_outputs_and_no_other() {
+    let beside = beside();
+    let (mut named, mut shorter, mut longer) = (0, 0, 0);
+    for record in records(&stored()) {
+        let before = weights(&record);
+        let after = expected(&record, &beside);
+        let title = record.lines().next().unwrap_or_default();
+        let changes = Change::between(&before, &after);
+        assert_eq!(beside.of.get(title).unwrap_or(&vec![]), &changes);
+        if changes.is_empty() {
+            continue;
+        }
+        let operations: Vec<&str> = changes.iter().map(|c| c.operation.as_str()).collect();
+        assert_eq!(operations, ["refined", "wires", "route"], "{title}");
+        let total = |text: &str, of: &str| {
+            let (_, rest) = text.split_once(&format!("\n{of} 0 total ")).expect(title);
+            let number = rest.split(' ').next().unwrap_or_default();
+            number.parse::<i64>().expect(title)
+        };
+        let (was, now) = (total(&before, "refined"), total(&after, "refined"));
+        assert!(now <= total(&after, "terminal"), "{title}");
+        named += 1;
+        shorter += usize::from(now < was);
+        longer += usize::from(now > was);
+    }
+    assert_eq!(named, beside.of.len(), "a title that no stored record has");
+    assert_eq!((named, shorter, longer), CHANGED);
+}
+
+/// Records that [3] changes, those whose refined tree is shorter than it was, and those where it is longer.
+const CHANGED: (usize, usize, usize) = (39, 36, 2);
+
+/// The differences of [3] are those of its rule: by the second program the stored refined tree is that of the rule of document 01, and the
+/// expected one that of [3], on every allowed net.
+#[test]
+fn the_second_program_gives_both_by_their_rules() {
+    let beside = beside();
+    let mut nets = 0;
+    for record in records(&stored()) {
+        let Input::Net { lists, .. } = case(&record).input else {
+            continue;
+        };
+        let (pins, macros, weights) = lists.parts();
+        let Ok(net) = check(pins, macros, weights) else {
+            continue;
+        };
+        let paths = terminal(&net);
+        let now = expected(&record, &beside);
+        for (rule, record) in [(Rule::OnTree, &record), (Rule::Beside, &now)] {
+            let tree = refine_by(rule, &net, &paths);
+            let edge = |edge: &Edge| {
+                let (a, b) = (edge.first(), edge.second());
+                format!("{} {} {} {}", a.x, a.y, b.x, b.y)
+            };
+            let edges: Vec<String> = tree.edges.iter().map(edge).collect();
+            let (total, count) = (tree.total, edges.len());
+            let line = format!(
+                "refined 0 total {total} edges {count}: {}",
+                edges.join(", ")
+            );
+            let said = record.lines().find(|line| line.starts_with("refined "));
+            assert_eq!(said, Some(line.trim_end()), "{rule:?}");
+        }
+        nets += 1;
+    }
+    assert_eq!(nets, 1_756);
+}
+
+/// The judge is awake: a change left out, one too many, one of a record that is not stored and lines before that are others are each found.
+#[test]
+fn a_wrong_file_of_differences_is_found() {
+    let before = weights(&records(&stored())[1]);
+    let title = before.lines().next().unwrap_or_default();
+    let file = |said: &str| Differences::parse(&format!("{title}\n{said}"));
+    assert_eq!(Differences::default().apply(&before).as_ref(), Ok(&before));
+    let right = file("was check 0\nnow check 11\n").apply(&before);
+    assert_eq!(right, Ok(before.replace("check 0\n", "check 11\n")));
+    for (said, wrong) in [
+        ("was check 0\nnow check 0\n", "check does not change"),
+        (
+            "was check 1\nnow check 0\n",
+            "check was not as the file says",
+        ),
+        ("now check 1\n", "check was not as the file says"),
+        ("was route 2 3 4 4 3\n", "route was not as the file says"),
+        ("", "no operation changes"),
+    ] {
+        let found = file(said).apply(&before);
+        assert_eq!(found, Err(format!("{title}: {wrong}")));
+    }
+}
 
 /// A file of weights 1 and 1 is byte for byte the one that the first release wrote, by both programs. Any other weights make another.
 #[test]
@@ -129,12 +248,16 @@ fn a_file_of_weights_one_is_that_of_the_first_release() {
     assert_eq!(files, 1_756);
 }
 
-/// The file is never written again: what a request changes stands beside it.
+/// Neither file is written again: what a request changes stands beside them.
 #[test]
 fn the_stored_file_is_the_one_of_the_first_release() {
     assert_eq!(
         format!("{:016x}", digest(stored().as_bytes())),
         "93c8ecd33ffc9eab"
+    );
+    assert_eq!(
+        format!("{:016x}", digest(text("beside.txt").as_bytes())),
+        "d1f3fa32eb832bb6"
     );
 }
 
@@ -219,7 +342,7 @@ fn a_difference_is_named() {
         .find(|record| record.starts_with("net ") && record.contains(" three-pins "))
         .expect("the third worked net");
     let now = case(record).record();
-    let record = &expected(record);
+    let record = &expected(record, &beside());
     assert_eq!(differences(record, &now), vec![]);
     let title = record.lines().next().unwrap().to_string();
     let named = |operation: &str, stored: &str, now: &str| {

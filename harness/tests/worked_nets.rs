@@ -294,3 +294,53 @@ fn a_dropped_candidate_changes_the_tree() {
     assert_eq!(laid.edges[..8], [0, 9, 2, 10, 2, 10, 2, 11]);
     assert_eq!((laid.edges.len(), laid.refined), (40, 29));
 }
+
+/// [3]: the corner (5, 8), which no path uses, is joined to (4, 7) over (4, 8) for 2; the edge from (5, 0) to (8, 4) meets it at (5, 4)
+/// for 4 more, and the edge from (4, 0) to (4, 7), which is 7, goes.
+#[test]
+fn a_corner_beside_the_tree() {
+    let laid = trees(&[4, 0, 4, 7, 8, 4], &[4, 0, 5, 8]).unwrap();
+    assert_eq!((laid.terminal, laid.refined, laid.metal), (15, 14, 14));
+    let edges = [
+        [4, 0, 5, 0],
+        [4, 7, 4, 8],
+        [4, 8, 5, 8],
+        [5, 0, 5, 4],
+        [5, 4, 5, 8],
+        [5, 4, 8, 4],
+    ];
+    assert_eq!(laid.edges, edges.concat());
+    assert_eq!(laid.wires, edges.concat());
+}
+
+/// Walls that leave one gap at y = 0, and between two of them two macros that offer a gain of 10, with 30 more by pruning.
+fn chambers(count: i32) -> Vec<i32> {
+    let mut macros = Vec::new();
+    let wall = |x: i32| [x, 0, x + 10, 40_000, x, -40_000, x + 10, 0];
+    for at in 0..count {
+        let x = 100 * at;
+        macros.extend(wall(x));
+        macros.extend([x + 60, 20, x + 90, 30, x + 60, -40, x + 70, -20]);
+    }
+    macros.extend(wall(100 * count));
+    macros
+}
+
+/// The rule of [3] does not always give the shorter tree: by that of document 01 this one is 990.
+#[test]
+fn a_round_beside_the_tree_takes_a_round_on_it() {
+    let mut macros = chambers(4);
+    macros.extend([-412, 0, -400, 96]);
+    let laid = trees(&[-400, 0, -400, 84, -448, 48, 410, 0], &macros).unwrap();
+    assert_eq!((laid.terminal, laid.refined), (1150, 1018));
+}
+
+/// With one pin there is no edge and so no candidate, however many vertices stand beside the tree.
+#[test]
+fn one_pin_with_vertices_beside_it() {
+    for macros in [vec![], vec![0, 0, 3, 3], chambers(4)] {
+        let laid = trees(&[-5, 5], &macros).unwrap();
+        assert_eq!((laid.terminal, laid.refined, laid.metal), (0, 0, 0));
+        assert_eq!((laid.edges, laid.wires), (vec![], vec![]));
+    }
+}

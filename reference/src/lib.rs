@@ -5,6 +5,7 @@
 //! the two programs are matched by; `generate` makes the nets, lists and files to match them on.
 
 pub mod answers;
+pub mod beside;
 pub mod edge;
 pub mod exhaustive;
 pub mod generate;

@@ -2,6 +2,7 @@
 
 use std::cmp::Reverse;
 
+use crate::beside::{Ground, Joint};
 use crate::edge::Edge;
 use crate::graph::clear;
 use crate::net::{Net, Place};
@@ -35,6 +36,27 @@ pub struct Statistics {
     pub dropped: usize,
     /// Whether in some round a dropped candidate would have been taken.
     pub dropped_would_win: bool,
+    /// Rounds that took a point beside the tree.
+    pub beside: usize,
+    /// Rounds in which a candidate on the tree and one beside it had the same greatest gain.
+    pub tied: usize,
+    /// Candidates beside the tree dropped, over all rounds: v is a or b; s is the place of a way's point other than u; s is the
+    /// place of a tree point other than a and b.
+    pub joined_at_end: usize,
+    pub s_on_way: usize,
+    pub s_on_tree: usize,
+    /// Whether one of the latter two would have been taken in some round.
+    pub s_on_way_would_win: bool,
+    pub s_on_tree_would_win: bool,
+    /// Rounds beside the tree whose v was put in as s by a former round.
+    pub joined_at_s: usize,
+}
+
+/// Which points may be the third: those of the tree (document 01), or graph vertices beside it too (document 02, [3]).
+#[derive(Clone, Copy, Debug, PartialEq, Eq)]
+pub enum Rule {
+    OnTree,
+    Beside,
 }
 
 /// "A candidate is a tree edge (a, b) and a tree point u, other than a and b, that is clear of a
@@ -49,32 +71,42 @@ pub struct Candidate {
     pub dropped: bool,
 }
 
+/// A candidate whose u stands beside the tree, with how it is joined, and the kind of dropping.
+#[derive(Clone, Copy, Debug, PartialEq, Eq)]
+struct Beside<'a> {
+    candidate: Candidate,
+    joint: &'a Joint,
+    on_way: bool,
+}
+
+/// The rule that the proved router goes by.
+pub const RULE: Rule = Rule::Beside;
+
 /// The refined tree of a net.
 pub fn refined(net: &Net) -> Refined {
     refine(net, &terminal(net))
 }
 
-/// "There are at most m rounds; the first one with no gain above zero is the last." Then pruning.
 pub fn refine(net: &Net, terminal: &Terminal) -> Refined {
+    refine_by(RULE, net, terminal)
+}
+
+/// "There are at most m rounds; the first one with no gain above zero is the last." Then pruning.
+pub fn refine_by(rule: Rule, net: &Net, terminal: &Terminal) -> Refined {
+    let ground = Ground::new(net);
     let mut tree = union(net, terminal);
     let mut statistics = Statistics::default();
+    let mut put_in = Vec::new();
     for _ in 0..net.m() {
-        let candidates = candidates(net, &tree);
-        statistics.dropped += candidates.iter().filter(|c| c.dropped).count();
-        if best(candidates.iter()).is_some_and(|winner| winner.dropped) {
-            statistics.dropped_would_win = true;
-        }
-        let Some(winner) = best(candidates.iter().filter(|c| !c.dropped)) else {
+        let Some(s) = round(rule, net, &ground, &mut tree, &put_in, &mut statistics) else {
             break;
         };
+        put_in.extend(s);
         statistics.rounds += 1;
-        statistics.s_at_a += usize::from(winner.s == winner.edge.first());
-        statistics.s_at_b += usize::from(winner.s == winner.edge.second());
-        statistics.s_at_u += usize::from(winner.s == winner.u);
-        take(&mut tree, winner);
     }
-    let further = candidates(net, &tree);
-    statistics.bound_ended = best(further.iter().filter(|c| !c.dropped)).is_some();
+    let mut left = tree.clone();
+    let further = &mut Statistics::default();
+    statistics.bound_ended = round(rule, net, &ground, &mut left, &put_in, further).is_some();
     while prune(&mut tree) {
         statistics.pruned += 1;
     }
@@ -84,6 +116,53 @@ pub fn refine(net: &Net, terminal: &Terminal) -> Refined {
         edges: tree.edges.into_iter().collect(),
         statistics,
     }
+}
+
+/// A round, where there is a gain: what it laid as s, unless that was a tree point before.
+fn round(
+    rule: Rule,
+    net: &Net,
+    ground: &Ground,
+    tree: &mut Tree,
+    put_in: &[Place],
+    statistics: &mut Statistics,
+) -> Option<Option<Place>> {
+    let on_tree = candidates(net, tree);
+    statistics.dropped += on_tree.iter().filter(|c| c.dropped).count();
+    let first = best(on_tree.iter().filter(|c| !c.dropped));
+    statistics.dropped_would_win |= best(on_tree.iter()).is_some_and(|winner| winner.dropped);
+    let joints = match rule {
+        Rule::OnTree => Vec::new(),
+        Rule::Beside if tree.edges.is_empty() => Vec::new(),
+        Rule::Beside => ground.joints(tree),
+    };
+    let beside = beside_candidates(net, tree, &joints, statistics);
+    let second = best_beside(beside.iter().filter(|c| !c.candidate.dropped));
+    // "On-tree candidates come first at equal gain."
+    let gain = first.map_or(0, |c| c.gain);
+    let beside_gain = second.map_or(0, |c| c.candidate.gain);
+    statistics.tied += usize::from(gain > 0 && gain == beside_gain);
+    if let Some(all) = best_beside(beside.iter()) {
+        let wins = all.candidate.gain > gain && all.candidate.dropped;
+        statistics.s_on_way_would_win |= wins && all.on_way;
+        statistics.s_on_tree_would_win |= wins && !all.on_way;
+    }
+    let winner = match second {
+        Some(second) if second.candidate.gain > gain => {
+            statistics.beside += 1;
+            statistics.joined_at_s += usize::from(put_in.contains(&second.joint.v()));
+            // "And the way is laid."
+            tree.edges.extend(second.joint.edges());
+            &second.candidate
+        }
+        _ => first?,
+    };
+    statistics.s_at_a += usize::from(winner.s == winner.edge.first());
+    statistics.s_at_b += usize::from(winner.s == winner.edge.second());
+    statistics.s_at_u += usize::from(winner.s == winner.u);
+    take(tree, winner);
+    let ends = [winner.edge.first(), winner.edge.second(), winner.u];
+    Some((!ends.contains(&winner.s)).then_some(winner.s))
 }
 
 /// "Start with the union of the kept paths, each edge once."
@@ -132,6 +211,65 @@ pub fn candidates(net: &Net, tree: &Tree) -> Vec<Candidate> {
     found
 }
 
+/// "A graph vertex u that is no tree point, clear of a or b, is now a candidate too." "L is sought from v to the edge, the way's cost is
+/// taken off the gain." The dropped ones are marked, but for those whose v is a or b, which have no L.
+fn beside_candidates<'a>(
+    net: &Net,
+    tree: &Tree,
+    joints: &'a [Joint],
+    statistics: &mut Statistics,
+) -> Vec<Beside<'a>> {
+    let weights = net.weights();
+    let points = tree.points();
+    let edges = numbered(tree, &points);
+    let neighbours = neighbours(points.len(), &edges);
+    let mut found = Vec::new();
+    for joint in joints {
+        let (u, v, cost) = (joint.u(), joint.v(), joint.cost(weights));
+        let from = points.binary_search(&v).expect("v is a tree point");
+        let ways = ways_from(&points, &neighbours, from, weights);
+        let clear_of_u: Vec<bool> = points.iter().map(|&p| clear(net, u, p)).collect();
+        for &(a, b) in &edges {
+            if !(clear_of_u[a] || clear_of_u[b]) {
+                continue;
+            }
+            // "The candidate is dropped when v is a or b."
+            if from == a || from == b {
+                statistics.joined_at_end += 1;
+                continue;
+            }
+            let way = if ways[a].steps < ways[b].steps {
+                ways[a]
+            } else {
+                ways[b]
+            };
+            let longest = way.longest.expect("v is neither a nor b");
+            let s = middle(points[a], points[b], u);
+            // "Or when s is the place of a way's point other than u."
+            let on_way = joint.way[1..].contains(&s);
+            // "When s is the place of a tree point other than a, b and u."
+            let on_tree =
+                ![points[a], points[b], u].contains(&s) && points.binary_search(&s).is_ok();
+            statistics.s_on_way += usize::from(on_way && !on_tree);
+            statistics.s_on_tree += usize::from(on_tree);
+            let candidate = Candidate {
+                edge: Edge::new(points[a], points[b]),
+                u,
+                s,
+                longest,
+                gain: longest.cost(weights) - weights.cost(s, u) - cost,
+                dropped: on_way || on_tree,
+            };
+            found.push(Beside {
+                candidate,
+                joint,
+                on_way: on_way && !on_tree,
+            });
+        }
+    }
+    found
+}
+
 /// "Let s take the middle of the three x values and the middle of the three y values."
 fn middle(a: Place, b: Place, u: Place) -> Place {
     let mut xs = [a.x, b.x, u.x];
@@ -147,6 +285,15 @@ fn best<'a>(candidates: impl Iterator<Item = &'a Candidate>) -> Option<&'a Candi
     candidates
         .filter(|c| c.gain > 0)
         .min_by_key(|c| (Reverse(c.gain), c.edge, c.u))
+}
+
+/// The same of those beside the tree.
+fn best_beside<'a, 'b: 'a>(
+    candidates: impl Iterator<Item = &'a Beside<'b>>,
+) -> Option<&'a Beside<'b>> {
+    candidates
+        .filter(|c| c.candidate.gain > 0)
+        .min_by_key(|c| (Reverse(c.candidate.gain), c.candidate.edge, c.candidate.u))
 }
 
 /// "It removes (a, b) and L and lays s–a, s–b and s–u, except any of length zero."

@@ -58,7 +58,7 @@ fn number(graph: &Graph, place: Place) -> usize {
 
 /// The cost of a cheapest way along the graph between every two vertices: for each vertex in turn,
 /// ways may also run through it.
-fn distances(graph: &Graph) -> Vec<Vec<i64>> {
+pub fn distances(graph: &Graph) -> Vec<Vec<i64>> {
     let count = graph.vertices.len();
     let mut table = vec![vec![None; count]; count];
     for (v, row) in table.iter_mut().enumerate() {

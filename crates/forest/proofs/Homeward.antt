@@ -23,27 +23,13 @@ use Rattle.forest.specs.declared.Step.{Step}
 use Rattle.forest.specs.Bounds.{pointBound}
 use Rattle.forest.specs.Edges.{Graph, one, two, len, from}
 use Rattle.forest.specs.Labels.{Labels, far, root, labelled}
-use Rattle.forest.specs.Parents.{none, parent, Parents, up, via, parented, wayOf, way, wayLength}
+use Rattle.forest.specs.Parents.{none, parent, Parents, up, via, parented, wayOf, way, wayLength, climb}
 use Rattle.forest.specs.Setting.{ends, pairs, Setting, Whole}
 use Rattle.forest.proofs.EdgeLaws.{below-from, in-from}
 use Rattle.forest.proofs.ParentLaws.{Candidate, Found, parent-found, parented-up, parented-via}
-use Rattle.forest.proofs.WayLaws.{way-go, way-none}
+use Rattle.forest.proofs.WayLaws.{way-go, way-none, climb-go, climb-none}
 use Rattle.forest.proofs.Nearest.{fits, edges-among, joint, edge-link, edge-long, link-in, best, closed, Reached, reached}
 use Rattle.forest.proofs.Nearest.{all-reached}
-
--- the vertices after v on its way, n at most
-unfoldable pub climb : Parents → ℕ → ℕ → List ℕ
-climb p zero v = []
-climb p (suc n) v = elim (ltb (up p v) pointBound) [ true ↦ up p v ∷ climb p n (up p v) | false ↦ [] ]
-
-climb-go : (p : Parents) (n v : ℕ) → up p v < pointBound → climb p (suc n) v ≡ up p v ∷ climb p n (up p v)
-unfolding climb
-climb-go p n v h = rw (climb, lt-ltb (up p v) pointBound h) refl
-
-climb-none : (p : Parents) (n v : ℕ) → pointBound ≤ up p v → climb p n v ≡ []
-unfolding climb
-climb-none p zero v h = refl
-climb-none p (suc n) v h = rw (climb, le-ltb (up p v) pointBound h) refl
 
 module _ {g : Graph} {n : ℕ} {d : ℕ → ℕ → ℕ} {sources : List ℕ} (s : Setting g n d sources) (whole : Whole g n sources) where
   abbrev T : Labels
@@ -92,7 +78,7 @@ module _ {g : Graph} {n : ℕ} {d : ℕ → ℕ → ℕ} {sources : List ℕ} (s
     pub same-root : root T w ≡ root T v
 
   -- the next vertex of a shortest way
-  onward-of : (v w : ℕ) (ps : List ℕ) → Link (pairs g) v w → Way (pairs g) w ps (root T v) → root T v ∈ sources →
+  pub onward-of : (v w : ℕ) (ps : List ℕ) → Link (pairs g) v w → Way (pairs g) w ps (root T v) → root T v ∈ sources →
       d v w + long d w ps ≡ far T v → Onward v w
   onward-of v w ps l y m e =
       let i = link-in s v w l in
@@ -278,48 +264,48 @@ module _ {g : Graph} {n : ℕ} {d : ℕ → ℕ → ℕ} {sources : List ℕ} (s
   lower : (k v : ℕ) → far T v ≤ suc k → Parent v → far T (up P v) ≤ k
   lower k v l p = let c = link-in s v (up P v) (p .is .link) .some in omega (arith, p .is .nearer)
 
-  home : (k v : ℕ) → v < n → far T v ≤ k → Home v (climb P k v) (wayOf P k v)
+  home : (k v : ℕ) → v < n → far T v ≤ k → Home v (climb (P .ups) k v) (wayOf P k v)
   home zero v h l = at (is-in ℕ-discrete v sources)
     where
-      at : Dec (v ∈ sources) → Home v (climb P zero v) (wayOf P zero v)
+      at : Dec (v ∈ sources) → Home v (climb (P .ups) zero v) (wayOf P zero v)
       at (yes m) =
           let u : pointBound ≤ up P v = omega (arith, source-parent v m) in
-          rw (climb-none P zero v u, way-none P zero v u) (at-source v m)
+          rw (climb-none (P .ups) zero v u, way-none P zero v u) (at-source v m)
       at (no m) = absurd (let z : ⊥ = omega (arith, far-off v h m) in z)
   home (suc k) v h l = at (λ p. home k (up P v) (p .inside) (lower k v l p)) (is-in ℕ-discrete v sources)
     where
-      at : (Parent v → Home (up P v) (climb P k (up P v)) (wayOf P k (up P v))) → Dec (v ∈ sources) →
-          Home v (climb P (suc k) v) (wayOf P (suc k) v)
+      at : (Parent v → Home (up P v) (climb (P .ups) k (up P v)) (wayOf P k (up P v))) → Dec (v ∈ sources) →
+          Home v (climb (P .ups) (suc k) v) (wayOf P (suc k) v)
       at up-home (yes m) =
           let u : pointBound ≤ up P v = omega (arith, source-parent v m) in
-          rw (climb-none P (suc k) v u, way-none P (suc k) v u) (at-source v m)
+          rw (climb-none (P .ups) (suc k) v u, way-none P (suc k) v u) (at-source v m)
       at up-home (no m) =
           let p = parent-is v h m in
           let u : up P v < pointBound = omega (arith, p .inside, s .vertices) in
-          rw (climb-go P k v u, way-go P k v u) (one-up v _ _ p (up-home p))
+          rw (climb-go (P .ups) k v u, way-go P k v u) (one-up v _ _ p (up-home p))
 
   -- T8: a way goes from parent to parent and ends at the root
   pub data Upward : ℕ → List ℕ → Type 0 where
     arrived : {v : ℕ} → v ∈ sources → Upward v []
     onto : {v : ℕ} {ps : List ℕ} → (v ∈ sources → ⊥) → Upward (up P v) ps → Upward v (up P v ∷ ps)
 
-  climbs : (k v : ℕ) → v < n → far T v ≤ k → Upward v (climb P k v)
+  climbs : (k v : ℕ) → v < n → far T v ≤ k → Upward v (climb (P .ups) k v)
   climbs zero v h l = at (is-in ℕ-discrete v sources)
     where
-      at : Dec (v ∈ sources) → Upward v (climb P zero v)
-      at (yes m) = let u : pointBound ≤ up P v = omega (arith, source-parent v m) in rw (climb-none P zero v u) (arrived m)
+      at : Dec (v ∈ sources) → Upward v (climb (P .ups) zero v)
+      at (yes m) = let u : pointBound ≤ up P v = omega (arith, source-parent v m) in rw (climb-none (P .ups) zero v u) (arrived m)
       at (no m) = absurd (let z : ⊥ = omega (arith, far-off v h m) in z)
   climbs (suc k) v h l = at (λ p. climbs k (up P v) (p .inside) (lower k v l p)) (is-in ℕ-discrete v sources)
     where
-      at : (Parent v → Upward (up P v) (climb P k (up P v))) → Dec (v ∈ sources) → Upward v (climb P (suc k) v)
-      at above (yes m) = let u : pointBound ≤ up P v = omega (arith, source-parent v m) in rw (climb-none P (suc k) v u) (arrived m)
+      at : (Parent v → Upward (up P v) (climb (P .ups) k (up P v))) → Dec (v ∈ sources) → Upward v (climb (P .ups) (suc k) v)
+      at above (yes m) = let u : pointBound ≤ up P v = omega (arith, source-parent v m) in rw (climb-none (P .ups) (suc k) v u) (arrived m)
       at above (no m) =
           let p = parent-is v h m in
           let u : up P v < pointBound = omega (arith, p .inside, s .vertices) in
-          rw (climb-go P k v u) (onto m (above p))
+          rw (climb-go (P .ups) k v u) (onto m (above p))
 
   -- a way goes on, from each of its vertices, with that vertex's parent
-  goes-on : (k v : ℕ) → v < n → far T v ≤ k → (z : ℕ) → z ∈ (v ∷ climb P k v) → (z ∈ sources → ⊥) → up P z ∈ climb P k v
+  goes-on : (k v : ℕ) → v < n → far T v ≤ k → (z : ℕ) → z ∈ (v ∷ climb (P .ups) k v) → (z ∈ sources → ⊥) → up P z ∈ climb (P .ups) k v
   unfolding climb
   goes-on zero v h l z m o =
       either
@@ -329,21 +315,21 @@ module _ {g : Graph} {n : ℕ} {d : ℕ → ℕ → ℕ} {sources : List ℕ} (s
   goes-on (suc k) v h l z m o =
       at (λ p i. goes-on k (up P v) (p .inside) (lower k v l p) z i o) (is-in ℕ-discrete v sources) (List·Memᴰ·cases-cons m)
     where
-      at : (Parent v → z ∈ (up P v ∷ climb P k (up P v)) → up P z ∈ climb P k (up P v)) → Dec (v ∈ sources) →
-          (z ≡ v) ⊎ (z ∈ climb P (suc k) v) → up P z ∈ climb P (suc k) v
+      at : (Parent v → z ∈ (up P v ∷ climb (P .ups) k (up P v)) → up P z ∈ climb (P .ups) k (up P v)) → Dec (v ∈ sources) →
+          (z ≡ v) ⊎ (z ∈ climb (P .ups) (suc k) v) → up P z ∈ climb (P .ups) (suc k) v
       at next (yes i) (inl e) = absurd (o (rw e i))
       at next (yes i) (inr j) =
           let u : pointBound ≤ up P v = omega (arith, source-parent v i) in
-          elim (rw (climb-none P (suc k) v u) at j) [ ]
+          elim (rw (climb-none (P .ups) (suc k) v u) at j) [ ]
       at next (no i) c =
           let p = parent-is v h i in
           let u : up P v < pointBound = omega (arith, p .inside, s .vertices) in
-          rw (climb-go P k v u)
-          (either (λ e. here (ap (up P) e)) (λ j. there (next p (rw (climb-go P k v u) at j))) c)
+          rw (climb-go (P .ups) k v u)
+          (either (λ e. here (ap (up P) e)) (λ j. there (next p (rw (climb-go (P .ups) k v u) at j))) c)
 
   -- the vertices after v on its way
   abbrev pub wayPoints : ℕ → List ℕ
-  wayPoints v = climb P (far T v) v
+  wayPoints v = climb (P .ups) (far T v) v
 
   pub way-home : (v : ℕ) → v < n → Home v (wayPoints v) (way (T .fars) P v)
   unfolding way

@@ -1,4 +1,5 @@
 pub mod EdgeLaws
+pub mod ListedLaws
 pub mod LabelLaws
 pub mod Offers
 pub mod Nearest

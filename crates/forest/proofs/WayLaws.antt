@@ -11,7 +11,7 @@ use borrow.Author.Tests.{ltb-true, ltb-false, lt-ltb, le-ltb}
 use Rattle.lists.specs.Total.{total}
 use Rattle.lists.proofs.TestLaws.{by}
 use Rattle.forest.specs.Bounds.{pointBound}
-use Rattle.forest.specs.Parents.{Parents, up, via, wayOf, way, wayLength, Falls}
+use Rattle.forest.specs.Parents.{Parents, up, via, wayOf, way, wayLength, climb, wayAfter, Falls, Nearing}
 
 module _ (p : Parents) (n v : ℕ) where
   pub way-stop : pointBound ≤ up p v → wayOf p (suc n) v ≡ []
@@ -83,3 +83,59 @@ module _ (lengths fars : List ℕ) (p : Parents) (f : Falls lengths fars p) wher
 
   pub way-low : (v : ℕ) → v < pointBound → wayLength lengths fars p v ≤ getD fars v 0
   way-low v h = low-to (away v) v (omega arith) h
+
+-- a step makes the distance smaller: of distances and parents alone
+pub falls-nearing : {lengths fars : List ℕ} {p : Parents} → Falls lengths fars p → Nearing fars (p .ups)
+falls-nearing f = record { nearer = λ v h u. omega (arith, f .falls v h u, f .some v h u) }
+
+-- The vertices on a way
+
+module _ (ups : List ℕ) (n v : ℕ) where
+  pub climb-go : getD ups v 0 < pointBound → climb ups (suc n) v ≡ getD ups v 0 ∷ climb ups n (getD ups v 0)
+  unfolding climb
+  climb-go h = rw (climb, lt-ltb (getD ups v 0) pointBound h) refl
+
+  pub climb-stop : pointBound ≤ getD ups v 0 → climb ups (suc n) v ≡ []
+  unfolding climb
+  climb-stop h = rw (climb, le-ltb (getD ups v 0) pointBound h) refl
+
+pub climb-none : (ups : List ℕ) (n v : ℕ) → pointBound ≤ getD ups v 0 → climb ups n v ≡ []
+unfolding climb
+climb-none ups zero v h = refl
+climb-none ups (suc n) v h = climb-stop ups n v h
+
+module _ (fars ups : List ℕ) (f : Nearing fars ups) where
+  ended : (v : ℕ) → v < pointBound → getD fars v 0 ≤ 0 → pointBound ≤ getD ups v 0
+  ended v h a =
+      by (ltb (getD ups v 0) pointBound)
+      (λ e. absurd (let z : ⊥ = omega (arith, f .nearer v h (ltb-true _ _ e)) in z))
+      (λ e. ltb-false _ _ e)
+
+  -- as many steps as the distance are enough
+  climb-enough : (n m v : ℕ) → v < pointBound → getD fars v 0 ≤ n → getD fars v 0 ≤ m → climb ups n v ≡ climb ups m v
+  climb-enough zero m v h a b = let u = ended v h a in climb-none ups zero v u ∙ sym (climb-none ups m v u)
+  climb-enough (suc n) zero v h a b = let u = ended v h b in climb-none ups (suc n) v u ∙ sym (climb-none ups zero v u)
+  climb-enough (suc n) (suc m) v h a b =
+      by (ltb (getD ups v 0) pointBound)
+      (λ e.
+      let u = ltb-true _ _ e in
+      let l = f .nearer v h u in
+      climb-go ups n v u
+      ∙ ap (λ (r : List ℕ). getD ups v 0 ∷ r) (climb-enough n m (getD ups v 0) u (omega arith) (omega arith))
+      ∙ sym (climb-go ups m v u))
+      (λ e. let u = ltb-false _ _ e in climb-stop ups n v u ∙ sym (climb-stop ups m v u))
+
+  pub after-go : (v : ℕ) → v < pointBound → getD ups v 0 < pointBound →
+      wayAfter fars ups v ≡ getD ups v 0 ∷ wayAfter fars ups (getD ups v 0)
+  unfolding wayAfter
+  after-go v h u =
+      let l = f .nearer v h u in
+      let e : getD fars v 0 ≡ suc (getD fars v 0 - 1) = omega arith in
+      ap (λ (n : ℕ). climb ups n v) e
+      ∙ climb-go ups (getD fars v 0 - 1) v u
+      ∙ ap (λ (r : List ℕ). getD ups v 0 ∷ r)
+      (climb-enough (getD fars v 0 - 1) (getD fars (getD ups v 0) 0) (getD ups v 0) u (omega arith) (omega arith))
+
+pub after-none : (fars ups : List ℕ) (v : ℕ) → pointBound ≤ getD ups v 0 → wayAfter fars ups v ≡ []
+unfolding wayAfter
+after-none fars ups v h = climb-none ups (getD fars v 0) v h

@@ -80,8 +80,21 @@ way fars p v = wayOf p (getD fars v 0) v
 unfoldable pub wayLength : List ℕ → List ℕ → Parents → ℕ → ℕ
 wayLength lengths fars p v = total (map (λ k. getD lengths k 0) (way fars p v))
 
+-- T8: the vertices after v on its way, n at most, by the table of parents alone
+unfoldable pub climb : List ℕ → ℕ → ℕ → List ℕ
+climb ups zero v = []
+climb ups (suc n) v = elim (ltb (getD ups v 0) pointBound) [ true ↦ getD ups v 0 ∷ climb ups n (getD ups v 0) | false ↦ [] ]
+
+-- all of them
+unfoldable pub wayAfter : List ℕ → List ℕ → ℕ → List ℕ
+wayAfter fars ups v = climb ups (getD fars v 0) v
+
 -- What the recursion along parents leans on: a step goes over an edge, and the distance falls by its length, which is not 0
 pub record Falls (lengths fars : List ℕ) (p : Parents) : Type 0 where
   pub edge : (v : ℕ) → v < pointBound → up p v < pointBound → via p v < edgeBound
   pub some : (v : ℕ) → v < pointBound → up p v < pointBound → 1 ≤ getD lengths (via p v) 0
   pub falls : (v : ℕ) → v < pointBound → up p v < pointBound → getD fars (up p v) 0 + getD lengths (via p v) 0 ≡ getD fars v 0
+
+-- the same of distances and parents alone: a parent is nearer
+pub record Nearing (fars ups : List ℕ) : Type 0 where
+  pub nearer : (v : ℕ) → v < pointBound → getD ups v 0 < pointBound → getD fars (getD ups v 0) 0 < getD fars v 0

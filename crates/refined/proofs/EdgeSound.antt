@@ -32,6 +32,9 @@ use Rattle.refiner.specs.Promise.{Promise, Tabled}
 use Rattle.tree.proofs.EdgeLaws.{edges-count, edges-in, edges-of, edge-number, edges-smaller, tree-total}
 use Rattle.refiner.proofs.RoundSound.{total-of}
 use Rattle.refiner.proofs.RefinedSound.{refined-promise, refined-tabled}
+use Rattle.refiner.specs.Beside.{Ground}
+use Rattle.refiner.specs.Ready.{verticesOf, Ready}
+use Rattle.tree.specs.Outside.{strangers}
 use Rattle.refined.specs.Promise.{Given}
 
 -- The edges of the tables in order
@@ -80,9 +83,9 @@ one-tree-same {A} pins T U more back tree x y i k n =
 
 -- The refined tree's
 
-pub promised-edges : (net : Net) (t r : Tree) → Promise net t r → Tabled net t r → (sum : ℕ)
-    → sum ≡ total (net .weights) (r .points) (r .edges .keys) (r .edges .size) → Given net t (treeEdges r) sum
-promised-edges net t r p g sum is =
+pub promised-edges : (net : Net) (g : Ground) (t r : Tree) → Promise net t r → Tabled net g r → (sum : ℕ)
+    → sum ≡ total (net .weights) (r .points) (r .edges .keys) (r .edges .size) → Given net g t (treeEdges r) sum
+promised-edges net ground t r p g sum is =
     let pts = r .points in
     let ks = r .edges .keys in
     let e = r .edges .size in
@@ -102,12 +105,11 @@ promised-edges net t r p g sum is =
     }
 
 -- what the refiner's contract says is enough
-pub given-edges : (net : Net) (t : Tree) → Sound net t → t .count + length (net .pins) ≤ treeBound →
-    length (t .points) ≡ treeBound * 2 → length (t .edges .keys) ≡ treeBound → Ranked (t .edges .keys) (t .edges .size) →
-    (pts : List ℤ) (ks : List ℕ) (r : Refined) → Answer net t pts ks r → Given net t (tableEdges pts ks (r .edges)) (r .total)
-given-edges net t sound few room rooms ranked pts ks r answer =
+pub given-edges : (net : Net) (g : Ground) (t : Tree) → Ready net g t (length (net .pins)) → strangers (verticesOf g) t ≡ 0 →
+    (pts : List ℤ) (ks : List ℕ) (r : Refined) → Answer net g t pts ks r → Given net g t (tableEdges pts ks (r .edges)) (r .total)
+given-edges net g t ready none pts ks r answer =
     let new = tree pts (r .points) ks (r .edges) in
-    promised-edges net t new
-    (subst (Promise net t) (sym (answer .whole)) (refined-promise net t sound few room rooms))
-    (subst (Tabled net t) (sym (answer .whole)) (refined-tabled net t sound few room rooms ranked))
+    promised-edges net g t new
+    (subst (Promise net t) (sym (answer .whole)) (refined-promise net g t ready))
+    (subst (Tabled net g) (sym (answer .whole)) (refined-tabled net g t ready none))
     (r .total) (answer .sum)

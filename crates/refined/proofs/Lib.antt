@@ -4,4 +4,5 @@ pub mod WireLaws
 pub mod WorkedWires
 pub mod WireSound
 pub mod EdgeSound
+pub mod NetGround
 pub mod NetRefined

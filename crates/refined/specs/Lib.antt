@@ -5,6 +5,7 @@
 -- cost, as the refiner chooses; wires are metal, and measured by plain length.
 --
 --   Metal      metal es                    R22: the metal to lay for edges, their plain lengths added up
+--   Ground     groundOf net                the net's spanning graph as the tables hold it, which its tree is refined on
 --   Wires      drawn a b                   the wire from a to b, unless its length is zero
 --              bend a b                    where the horizontal wire ends and the vertical one begins
 --              wiresOfEdge e, wires es     the wires of an edge; of edges one after the other
@@ -17,7 +18,9 @@
 --   MetalLaws      total-plain             the refiner's sum at weights of 1 is metal;  metal-low: never more than the cost
 --   WireSound      edge-wired              the wires of every edge keep `EdgeWires`;  wired: those of edges keep `Wired`
 --   EdgeSound      given-edges             the edges of a refined tree, with the refiner's total, keep `Given`
+--   NetGround      union-ready             an allowed net's union is ready for its rounds;  net-grounded
 --   NetRefined     union-promise           the refined tree of an allowed net's union keeps `Promise`;  union-tabled: and `Tabled`
 pub mod Metal
+pub mod Ground
 pub mod Wires
 pub mod Promise

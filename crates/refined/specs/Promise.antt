@@ -19,6 +19,7 @@ use Rattle.joined.specs.Cost.{lengths}
 use Rattle.joined.specs.OneTree.{OneTree}
 use Rattle.graph.specs.Edges.{beforeEdge}
 use Rattle.tree.specs.Table.{Tree}
+use Rattle.refiner.specs.Beside.{Ground}
 use Rattle.tree.specs.Edges.{treeEdges}
 
 -- Wires
@@ -65,8 +66,8 @@ pub record Wired (es ws : List (Place × Place)) : Type 0 where
 
 -- Edges
 
--- what is promised of the edges es and the total that are given when the tree t of a net is refined
-pub record Given (net : Net) (t : Tree) (es : List (Place × Place)) (total : ℕ) : Type 0 where
+-- what is promised of the edges es and the total that are given when the tree t of a net is refined on the ground g
+pub record Given (net : Net) (g : Ground) (t : Tree) (es : List (Place × Place)) (total : ℕ) : Type 0 where
   -- R20: one loop-free way along the edges from each point to each other one
   pub one : OneTree (net .pins) es
   -- R21: the ends of each edge are clear of each other
@@ -77,5 +78,5 @@ pub record Given (net : Net) (t : Tree) (es : List (Place × Place)) (total : �
   -- C66: the total is what they cost together, no more than those of the tree
   pub sum : total ≡ lengths (costIn net) es
   pub less : total ≤ lengths (costIn net) (treeEdges t)
-  -- fewer than the points that there can be
-  pub few : length es < t .count + length (net .pins)
+  -- fewer than the points that there can be: the graph's vertices, and one further point for each pin
+  pub few : length es < g .count + length (net .pins)

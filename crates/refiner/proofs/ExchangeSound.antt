@@ -95,7 +95,7 @@ module _ (pts : List ℤ) (n : ℕ) (ks : List ℕ) (e k l a b u p : ℕ) (s : P
 ones-not : (p x : ℕ) → (p ≡ x → ⊥) → between (λ _. 1) p x ≡ 1
 ones-not p x n = either (λ q. q) (λ q. q) (between-is (λ _. 1) p x n)
 
-bump-not : (p x : ℕ) → p ≡ bump p x → ⊥
+pub bump-not : (p x : ℕ) → p ≡ bump p x → ⊥
 bump-not p x e =
     by (ltb x p)
     (λ t. let h : x < p = ltb-true x p t in let q = bump-lt p x h in let z : ⊥ = omega (arith, q, e) in z)

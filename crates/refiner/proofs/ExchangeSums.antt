@@ -86,7 +86,7 @@ over-closed g k n xs h =
 
 -- One put in
 
-carrying-low : (n i q : ℕ) (xs : List ℕ) (j : ℕ) → j < i → getD (carrying i n q xs) j 0 ≡ getD xs j 0
+pub carrying-low : (n i q : ℕ) (xs : List ℕ) (j : ℕ) → j < i → getD (carrying i n q xs) j 0 ≡ getD xs j 0
 unfolding carrying
 carrying-low zero i q xs j h = other xs i j q (λ e. let z : ⊥ = omega arith in z)
 carrying-low (suc n) i q xs j h =
@@ -146,7 +146,7 @@ over-lay g p a r h =
     (r .keys) h))
     (λ s. rw (lay, between, t, s) (omega arith)))
 
-length-carrying : (i n q : ℕ) (xs : List ℕ) → length (carrying i n q xs) ≡ length xs
+pub length-carrying : (i n q : ℕ) (xs : List ℕ) → length (carrying i n q xs) ≡ length xs
 unfolding carrying
 length-carrying i zero q xs = length-set xs i q
 length-carrying i (suc n) q xs =

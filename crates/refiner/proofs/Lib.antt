@@ -27,3 +27,15 @@ pub mod CutSound
 pub mod TakesLaws
 pub mod RoundSteps
 pub mod LeftLaws
+pub mod BesideLaws
+pub mod GraftLaws
+pub mod ReadyLaws
+pub mod CarriedLaws
+pub mod LeafSound
+pub mod GraftSound
+pub mod WayFound
+pub mod WayBeside
+pub mod BesideWins
+pub mod TakenKept
+pub mod GraftTaken
+pub mod RoundReady

@@ -16,7 +16,9 @@ use Rattle.plane.specs.Flat.{placeAt}
 use Rattle.net.specs.Net.{Net}
 use Rattle.refiner.specs.Exchange.{closed}
 use Rattle.refiner.specs.Prune.{countEnds, firstLoose, loose, looseEdge, prune, markOf, mark, marks}
-use Rattle.refiner.specs.Refined.{pruned, rounds, refined}
+use Rattle.refiner.specs.Beside.{Ground}
+use Rattle.refiner.specs.Round.{roundsIn}
+use Rattle.refiner.specs.Refined.{pruned, refined}
 use Rattle.tree.specs.Table.{Low, Row, firstEnd, treeBound, row, secondEnd, Tree, tree}
 use Rattle.refiner.specs.Turns.{seek, turns}
 
@@ -112,10 +114,10 @@ pub pruned-is : (pins : List Place) (pts : List ℤ) (n : ℕ) (ks : List ℕ) (
 unfolding pruned marks
 pruned-is pins pts n ks e pin r f g = rw f at g
 
-pub answer-is : (net : Net) (t : Tree) (pts : List ℤ) (n : ℕ) (ks : List ℕ) (e : ℕ) (ls : List ℕ) (f m : ℕ)
-    → length (net .pins) ≡ m → tree pts n ks e ≡ rounds (net .weights) (net .macros) m t
-    → row ls f ≡ pruned (net .pins) (tree pts n ks e) .edges → tree pts n ls f ≡ refined net t
+pub answer-is : (net : Net) (g : Ground) (t : Tree) (pts : List ℤ) (n : ℕ) (ks : List ℕ) (e : ℕ) (ls : List ℕ) (f m : ℕ)
+    → length (net .pins) ≡ m → tree pts n ks e ≡ roundsIn (net .weights) (net .macros) g m t
+    → row ls f ≡ pruned (net .pins) (tree pts n ks e) .edges → tree pts n ls f ≡ refined net g t
 unfolding refined pruned
-answer-is net t pts n ks e ls f m l h g =
+answer-is net q t pts n ks e ls f m l h g =
     ap (λ (r : Row). record { points = pts; count = n; edges = r }) g
-    ∙ ap (pruned (net .pins)) (h ∙ ap (λ (k : ℕ). rounds (net .weights) (net .macros) k t) (sym l))
+    ∙ ap (pruned (net .pins)) (h ∙ ap (λ (k : ℕ). roundsIn (net .weights) (net .macros) q k t) (sym l))

@@ -92,7 +92,7 @@ bump-key-less n p j k few hj hk h =
     let f : bump p (firstEnd j) ≡ bump p (firstEnd k) = ap (bump p) e in
     omega (arith, f, bump-less p (secondEnd j) (secondEnd k) (omega (arith, e))))
 
-bumped-ranked : (n p e : ℕ) (ks : List ℕ) → n < treeBound → e ≤ length ks → Within n ks → Ranked ks e → Ranked (turns (bumpAt p) 0 e ks) e
+pub bumped-ranked : (n p e : ℕ) (ks : List ℕ) → n < treeBound → e ≤ length ks → Within n ks → Ranked ks e → Ranked (turns (bumpAt p) 0 e ks) e
 bumped-ranked n p e ks few room w r = record {
   upward =
       λ i h.
@@ -123,7 +123,7 @@ pub record Level (ks : List ℕ) (e : ℕ) : Type 0 where
   pub upward : (i : ℕ) → i < e → firstEnd (getD ks i 0) < secondEnd (getD ks i 0)
   pub level : (i j : ℕ) → i < j → j < e → getD ks i 0 ≤ getD ks j 0
 
-ranked-level : {ks : List ℕ} {e : ℕ} → Ranked ks e → Level ks e
+pub ranked-level : {ks : List ℕ} {e : ℕ} → Ranked ks e → Level ks e
 ranked-level r = record { upward = r .upward; level = λ i j h l. omega (arith, r .rising i j h l) }
 
 -- q in the place of an entry, not below those before it nor above those after it
@@ -157,7 +157,7 @@ module _ (xs : List ℕ) (i n q : ℕ) (room : i < length xs) (up : firstEnd q <
       let f : i ≡ k → ⊥ = eqb-false i k v in
       omega (arith, other xs i j q d, other xs i k q f, old j k h l d f)))
 
-carry-level : (c i q : ℕ) (xs : List ℕ) → i + c < length xs → firstEnd q < secondEnd q → ((j : ℕ) → j < i → getD xs j 0 ≤ q) →
+pub carry-level : (c i q : ℕ) (xs : List ℕ) → i + c < length xs → firstEnd q < secondEnd q → ((j : ℕ) → j < i → getD xs j 0 ≤ q) →
     Level xs (i + c)
     → Level (carrying i c q xs) (suc (i + c))
 unfolding carrying

@@ -24,7 +24,7 @@ use Rattle.joined.proofs.OneTreeLaws.{tree-one}
 use Rattle.refiner.specs.Turns.{turns}
 use Rattle.tree.specs.Table.{treeBound, Tree}
 use Rattle.refiner.specs.Prune.{markOf, mark, marks}
-use Rattle.refiner.specs.Refined.{rounds, pruned, refined}
+use Rattle.refiner.specs.Refined.{pruned, refined}
 use Rattle.refiner.specs.Promise.{Promise, Tabled}
 use Rattle.tree.specs.Places.{endsOf, pointsOf, keyCost, Ranked, Sound}
 use Rattle.tree.proofs.SumLaws.{other, here}
@@ -33,7 +33,12 @@ use Rattle.tree.proofs.PointLaws.{same-place}
 use Rattle.refiner.proofs.WithinLaws.{pruned-few, pruned-within}
 use Rattle.refiner.proofs.RankedLaws.{prune-ranked}
 use Rattle.refiner.proofs.PruneSound.{Whole, prune-whole, pruned-was, pruned-over}
-use Rattle.refiner.proofs.RoundSound.{kept-count, own-room, rounds-kept}
+use Rattle.refiner.specs.Beside.{Ground}
+use Rattle.refiner.specs.Round.{roundsIn}
+use Rattle.refiner.specs.Ready.{verticesOf, Ready}
+use Rattle.tree.specs.Outside.{strangers}
+use Rattle.refiner.proofs.CutSound.{tree-size}
+use Rattle.refiner.proofs.RoundReady.{rounds-ready, rounds-count, ready-few}
 
 -- The marks of pins
 
@@ -73,25 +78,24 @@ unmarked pins pts n few v h e m =
 
 -- The refined tree
 
-pub refined-promise : (net : Net) (t : Tree) → Sound net t → t .count + length (net .pins) ≤ treeBound →
-    length (t .points) ≡ treeBound * 2 → length (t .edges .keys) ≡ treeBound → Promise net t (refined net t)
+pub refined-promise : (net : Net) (g : Ground) (t : Tree) → Ready net g t (length (net .pins)) → Promise net t (refined net g t)
 unfolding refined pruned
-refined-promise net t sound few room rooms =
-    let r = rounds (net .weights) (net .macros) (length (net .pins)) t in
-    let k = rounds-kept net (length (net .pins)) t sound _ (own-room t (length (net .pins)) few) room rooms in
+refined-promise net g t ready =
+    let r = roundsIn (net .weights) (net .macros) g (length (net .pins)) t in
+    let k = rounds-ready net g (length (net .pins)) t ready in
+    let sound = k .0 .sound in
     let pin = marks (net .pins) (r .points) (r .count) in
-    let least : r .count ≤ treeBound = omega (arith, kept-count k) in
-    let whole = prune-whole (r .points) (r .count) (k .sound .ordered) least (net .pins) pin
-    (unmarked (net .pins) (r .points) (r .count) least) (r .edges .size) (r .edges .keys) (k .sound .within) (held r (k .sound)) in
+    let least : r .count ≤ treeBound = ready-few (k .0) in
+    let whole = prune-whole (r .points) (r .count) (sound .ordered) least (net .pins) pin
+    (unmarked (net .pins) (r .points) (r .count) least) (r .edges .size) (r .edges .keys) (sound .within) (held r sound) in
     record {
       one = tree-one same-place (whole .tree) (whole .inside) (net .pins) (whole .pinned);
       free =
           λ i h.
           let q = pruned-was pin (r .edges .size) (r .edges .keys) i h in
           subst (λ (j : ℕ). clear (endsOf (r .points) j .0) (endsOf (r .points) j .1) (net .macros) ≡ true) (sym (q .1 .1))
-          (k .sound .free (q .0) (q .1 .0));
-      total = omega (arith, k .total, pruned-over (keyCost (net .weights) (r .points)) pin (r .edges .size) (r .edges .keys));
-      points = k .points;
+          (sound .free (q .0) (q .1 .0));
+      total = omega (arith, k .1, pruned-over (keyCost (net .weights) (r .points)) pin (r .edges .size) (r .edges .keys));
     }
   where
     held : (r : Tree) → Sound net r → Whole (r .points) (net .pins) (r .edges)
@@ -111,26 +115,23 @@ refined-promise net t sound few room rooms =
 
 -- Its edges in order
 
-pub refined-tabled : (net : Net) (t : Tree) → Sound net t → t .count + length (net .pins) ≤ treeBound →
-    length (t .points) ≡ treeBound * 2 → length (t .edges .keys) ≡ treeBound → Ranked (t .edges .keys) (t .edges .size) →
-    Tabled net t (refined net t)
+pub refined-tabled : (net : Net) (g : Ground) (t : Tree) → Ready net g t (length (net .pins)) →
+    strangers (verticesOf g) t ≡ 0 → Tabled net g (refined net g t)
 unfolding refined pruned
-refined-tabled net t sound few room rooms ranked =
-    let r = rounds (net .weights) (net .macros) (length (net .pins)) t in
-    let k = rounds-kept net (length (net .pins)) t sound _ (own-room t (length (net .pins)) few) room rooms in
+refined-tabled net g t ready none =
+    let r = roundsIn (net .weights) (net .macros) g (length (net .pins)) t in
+    let k = rounds-ready net g (length (net .pins)) t ready .0 in
     let pin = marks (net .pins) (r .points) (r .count) in
-    let edges = listing-length (λ j. endsOf (r .points) (getD (r .edges .keys) j 0)) (r .edges .size) in
     record {
       ordered = k .sound .ordered;
       within = pruned-within (r .count) pin (r .edges .keys) (r .edges .size) (k .sound .within);
-      ranked = prune-ranked pin (r .edges .size) (r .edges .keys) (k .ranked ranked);
+      ranked = prune-ranked pin (r .edges .size) (r .edges .keys) (k .ranked);
       few =
           omega (
             arith,
             pruned-few pin (r .edges .keys) (r .edges .size),
-            k .sound .whole .size,
-            edges,
-            listing-length (placeAt (r .points)) (r .count),
-            kept-count k,
+            tree-size net r (k .sound),
+            rounds-count net g (length (net .pins)) t ready,
+            none,
           );
     }

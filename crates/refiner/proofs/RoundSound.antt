@@ -1,5 +1,5 @@
--- The rounds keep a tree over its points in order, with all pins, every edge clear and the edges in order; each adds at most one
--- point, so that at most as many points as there are rounds are none of known places, and the total falls by each gain.
+-- A round on the tree keeps a tree over its points in order, with all pins, every edge clear and the edges in order; it adds at most one
+-- point, and the total falls by the gain.
 -- Assumes nothing.
 use mathlib.Core.Path.{_≡_, refl, sym, ap, _∙_, subst}
 use mathlib.Core.List.{List, []}
@@ -20,7 +20,7 @@ use Rattle.tree.specs.Table.{treeBound, firstEnd, secondEnd, row, Tree, tree}
 use Rattle.refiner.specs.Longest.{edgeCost, costs, longest}
 use Rattle.refiner.specs.Candidate.{middleOf, found}
 use Rattle.refiner.specs.Exchange.{dropTwo, rank, stands, bump, bumpAt, star, laidAt, exchange}
-use Rattle.refiner.specs.Refined.{rounds, addCost, total}
+use Rattle.refiner.specs.Refined.{addCost, total}
 use Rattle.tree.specs.Sum.{below, sumOver}
 use Rattle.tree.specs.Places.{pointsOf, keyCost, treeTotal, Ranked, Sound}
 use Rattle.tree.specs.Outside.{strangers}
@@ -29,14 +29,14 @@ use Rattle.refiner.proofs.ExchangeSums.{length-lays, length-bumps, leng
 use Rattle.refiner.proofs.OpenedLaws.{opened-length}
 use Rattle.tree.proofs.ListingLaws.{listing-length}
 use Rattle.tree.proofs.PointLaws.{order-once}
-use Rattle.tree.proofs.OutsideLaws.{outside-more, count-strangers, strangers-own}
+use Rattle.tree.proofs.OutsideLaws.{outside-more}
 use Rattle.refiner.proofs.WithinLaws.{rank-le, within-dropped}
 use Rattle.refiner.proofs.RankedLaws.{dropped-ranked, laid-level, ranked-of}
 use Rattle.refiner.proofs.ExchangeSound.{laid-sound, laid-known, laid-costs}
 use Rattle.refiner.proofs.CutLaws.{Is, cut-is, the-way}
 use Rattle.refiner.proofs.WinnerLaws.{Winner, found-wins, cost-at, no-cost}
 
--- what m rounds keep
+-- what is kept where at most m points are new
 pub record Lasting (net : Net) (t r : Tree) (m : ℕ) : Type 0 where
   pub sound : Sound net r
   pub total : treeTotal (net .weights) r ≤ treeTotal (net .weights) t
@@ -48,11 +48,11 @@ pub record Lasting (net : Net) (t r : Tree) (m : ℕ) : Type 0 where
 -- The size of the tables
 
 module _ (pts : List ℤ) (n : ℕ) (ks : List ℕ) (e p a b u : ℕ) (s : Place) where
-  laid-places : length (laidAt pts n ks e p a b u s .points) ≡ length pts
+  pub laid-places : length (laidAt pts n ks e p a b u s .points) ≡ length pts
   unfolding laidAt
   laid-places = by (stands pts n p s) (λ t. rw (laidAt, t) refl) (λ t. rw (laidAt, t) (opened-length pts n p s))
 
-  laid-rows : length (laidAt pts n ks e p a b u s .edges .keys) ≡ length ks
+  pub laid-rows : length (laidAt pts n ks e p a b u s .edges .keys) ≡ length ks
   unfolding laidAt
   laid-rows =
       by (stands pts n p s) (λ t. rw (laidAt, t) (length-lays (star p a b u) (row ks e)))
@@ -168,64 +168,6 @@ module _ (net : Net) (pts : List ℤ) (n : ℕ) (ks : List ℕ) (few : n < treeB
             (sound .within .ends (c .edge) .0) (sound .within .ends (c .edge) .1) (win .point)
             (within-dropped n e (c .edge) (c .cut) ks (sound .within)) (dropped-ranked e (c .edge) (c .cut) ks r));
       })
-
--- The rounds
-
-kept-then : {net : Net} {t r q : Tree} (m : ℕ) → Lasting net t r 1 → Lasting net r q m → Lasting net t q (suc m)
-kept-then m a b = record {
-  sound = b .sound;
-  total = omega (arith, a .total, b .total);
-  points = λ vs. omega (arith, a .points vs, b .points vs);
-  places = b .places ∙ a .places;
-  rows = b .rows ∙ a .rows;
-  ranked = λ r. b .ranked (a .ranked r);
-}
-
--- so there is a point more for each round at most
-pub kept-count : {net : Net} {t r : Tree} {m : ℕ} → Lasting net t r m → r .count ≤ t .count + m
-kept-count {net} {t} {r} k =
-    let own = pointsOf (t .points) (t .count) in
-    omega (
-      arith,
-      count-strangers own r (k .sound .ordered),
-      k .points own,
-      strangers-own t,
-      listing-length (placeAt (t .points)) (t .count),
-    )
-
--- there is room for known places, for the other points of now and for one more a round
-pub record Room (vs : List Place) (t : Tree) (m : ℕ) : Type 0 where
-  pub room : length vs + (strangers vs t + m) ≤ treeBound
-
--- where only its own points are known, for its points
-pub own-room : (t : Tree) (m : ℕ) → t .count + m ≤ treeBound → Room (pointsOf (t .points) (t .count)) t m
-own-room t m few = record { room = omega (arith, few, strangers-own t, listing-length (placeAt (t .points)) (t .count)) }
-
-pub rounds-kept : (net : Net) (m : ℕ) (t : Tree) → Sound net t → (vs : List Place) → Room vs t m →
-    length (t .points) ≡ treeBound * 2 → length (t .edges .keys) ≡ treeBound → Lasting net t (rounds (net .weights) (net .macros) m t) m
-unfolding rounds
-rounds-kept net zero t sound vs few room rooms = record {
-  sound = sound;
-  total = omega arith;
-  points = λ xs. omega arith;
-  places = refl;
-  rows = refl;
-  ranked = λ r. r;
-}
-rounds-kept net (suc m) t sound vs few room rooms =
-    let low : t .count < treeBound = omega (arith, few .room, count-strangers vs t (sound .ordered)) in
-    let c = found (net .weights) (net .macros) (t .points) (t .count) (t .edges .keys) (t .edges .size) in
-    by (eqb (c .gain) 0)
-    (λ q. rw (rounds, q)
-    (record { sound = sound; total = omega arith; points = λ xs. omega arith; places = refl; rows = refl; ranked = λ r. r }))
-    (λ q.
-    let some : c .gain ≡ 0 → ⊥ = eqb-false _ _ q in
-    let win = found-wins (net .weights) (net .macros) (t .points) (t .count) (t .edges .keys) (t .edges .size) (omega arith) in
-    let one = round-kept net (t .points) (t .count) (t .edges .keys) low room rooms c (t .edges .size) sound win in
-    let next = exchange c (t .points) (t .count) (t .edges .keys) (t .edges .size) in
-    rw (rounds, q)
-    (kept-then m one (rounds-kept net m next (one .sound) vs (record { room = omega (arith, few .room, one .points vs) })
-    (one .places ∙ room) (one .rows ∙ rooms))))
 
 -- the sum that the contract speaks of is this one
 sum-last : (w : Weights) (pts : List ℤ) (ks : List ℕ) (c i s : ℕ) → turns (addCost w pts ks) i (suc c) s ≡ keyCost w pts (getD ks (i + c) 0)

@@ -11,9 +11,11 @@ use Rattle.lists.proofs.TestLaws.{by}
 use Rattle.plane.specs.Flat.{placeAt}
 use Rattle.net.specs.Net.{Net}
 use Rattle.tree.specs.Table.{firstEnd, secondEnd, Tree}
-use Rattle.refiner.specs.Refined.{rounds}
+use Rattle.refiner.specs.declared.Choice.{Choice}
+use Rattle.refiner.specs.Beside.{Ground, chosenIn}
+use Rattle.refiner.specs.Round.{exchangeIn, roundsIn}
 use Rattle.tree.specs.Places.{Ranked, Sound}
-use Rattle.refiner.specs.Sentences.{keyAt, foundIn, exchanged, Numbered}
+use Rattle.refiner.specs.Sentences.{keyAt, Numbered}
 
 -- Edges and points in order
 
@@ -34,15 +36,18 @@ numbered net t sound ranked = record {
 
 -- Rounds one by one
 
-module _ (net : Net) where
+module _ (net : Net) (g : Ground) where
   abbrev turned : ℕ → Tree → Tree
-  turned = rounds (net .weights) (net .macros)
+  turned = roundsIn (net .weights) (net .macros) g
 
-  pub rounds-none : (i : ℕ) (t : Tree) → foundIn net t .gain ≡ 0 → turned i t ≡ t
-  unfolding rounds
+  abbrev pub choiceIn : Tree → Choice
+  choiceIn t = chosenIn (net .weights) (net .macros) g t
+
+  pub rounds-none : (i : ℕ) (t : Tree) → choiceIn t .gain ≡ 0 → turned i t ≡ t
+  unfolding roundsIn
   rounds-none zero t q = refl
-  rounds-none (suc i) t q = rw (rounds, eq-eqb (foundIn net t .gain) 0 q) refl
+  rounds-none (suc i) t q = rw (roundsIn, eq-eqb (choiceIn t .gain) 0 q) refl
 
-  pub rounds-some : (i : ℕ) (t : Tree) → (foundIn net t .gain ≡ 0 → ⊥) → turned (suc i) t ≡ turned i (exchanged net t)
-  unfolding rounds
-  rounds-some i t q = rw (rounds, ne-eqb (foundIn net t .gain) 0 q) refl
+  pub rounds-some : (i : ℕ) (t : Tree) → (choiceIn t .gain ≡ 0 → ⊥) → turned (suc i) t ≡ turned i (exchangeIn g t (choiceIn t))
+  unfolding roundsIn
+  rounds-some i t q = rw (roundsIn, ne-eqb (choiceIn t .gain) 0 q) refl

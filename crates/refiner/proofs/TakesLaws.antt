@@ -36,7 +36,7 @@ use Rattle.refiner.proofs.CutSound.{tree-size, cut-at, cut-one, cut-ano
 -- The first of the greatest
 
 -- before the next one, or it
-last-or : (k u i v : ℕ) → k ≤ i → (i ≤ k → u < suc v) → ((k ≡ i) × (u ≡ v)) ⊎ (i ≤ k → u < v)
+pub last-or : (k u i v : ℕ) → k ≤ i → (i ≤ k → u < suc v) → ((k ≡ i) × (u ≡ v)) ⊎ (i ≤ k → u < v)
 last-or k u i v a b =
     by (ltb k i) (λ t. inr (λ q. absurd (let z : ⊥ = omega (arith, ltb-true k i t) in z)))
     (λ t.
@@ -139,7 +139,7 @@ module _ (w : Weights) (ms : List Macro) (pts : List ℤ) (n : ℕ) (ks : List �
 
 -- R6: a point other than a, b and u stands at s
 module _ (pts : List ℤ) (n a b u : ℕ) (s : Place) where
-  abbrev Other : ℕ → Type 0
+  abbrev pub Other : ℕ → Type 0
   Other i = ((i ≡ a → ⊥) × ((i ≡ b → ⊥) × (i ≡ u → ⊥))) × (s ≡ placeAt pts i)
 
   taken-yes : (i : ℕ) → Other i → taken pts a b u s i ≡ true
@@ -159,7 +159,7 @@ module _ (pts : List ℤ) (n a b u : ℕ) (s : Place) where
       )
 
   -- a candidate is not dropped where it is no such place
-  not-dropped : ((i : ℕ) → i < n → Other i → ⊥) → dropped pts n a b u s ≡ false
+  pub not-dropped : ((i : ℕ) → i < n → Other i → ⊥) → dropped pts n a b u s ≡ false
   unfolding dropped
   not-dropped f =
       let i = seek (taken pts a b u s) 0 n in
@@ -167,18 +167,18 @@ module _ (pts : List ℤ) (n a b u : ℕ) (s : Place) where
       (λ t. absurd (f i (ltb-true i n t) (taken-is i (seek-hit (taken pts a b u s) n 0 (omega (arith, ltb-true i n t))))))
       (λ t. t)
 
-  dropped-not : dropped pts n a b u s ≡ false → (i : ℕ) → i < n → Other i → ⊥
+  pub dropped-not : dropped pts n a b u s ≡ false → (i : ℕ) → i < n → Other i → ⊥
   unfolding dropped
   dropped-not t i h q =
       differ (taken-yes i q) (seek-before (taken pts a b u s) n 0 i (omega arith)
       (omega (arith, ltb-false (seek (taken pts a b u s) 0 n) n t)))
 
 -- R3: u is clear of a or of b
-sees-one : (ms : List Macro) (a b u : Place) → sees ms a b u ≡ true → (clear u a ms ≡ true) ⊎ (clear u b ms ≡ true)
+pub sees-one : (ms : List Macro) (a b u : Place) → sees ms a b u ≡ true → (clear u a ms ≡ true) ⊎ (clear u b ms ≡ true)
 unfolding sees
 sees-one ms a b u t = by (clear u a ms) inl (λ f. inr (rw f at t))
 
-one-sees : (ms : List Macro) (a b u : Place) → (clear u a ms ≡ true) ⊎ (clear u b ms ≡ true) → sees ms a b u ≡ true
+pub one-sees : (ms : List Macro) (a b u : Place) → (clear u a ms ≡ true) ⊎ (clear u b ms ≡ true) → sees ms a b u ≡ true
 unfolding sees
 one-sees ms a b u (inl t) = rw t refl
 one-sees ms a b u (inr t) = by (clear u a ms) (λ f. rw f refl) (λ f. rw (f, t) refl)

@@ -20,7 +20,7 @@ use Rattle.refiner.specs.Candidate.{found}
 use Rattle.refiner.specs.Exchange.{bump, bumpAt, carrying, closed, dropTwo, exchange, laidAt, later}
 use Rattle.refiner.specs.Exchange.{lay, lays, star, rank, shift, stands}
 use Rattle.refiner.specs.Longest.{costs, measure}
-use Rattle.refiner.specs.Refined.{rounds, pruned}
+use Rattle.refiner.specs.Refined.{pruned}
 use Rattle.refiner.specs.Prune.{marks, firstLoose, prune}
 use Rattle.tree.specs.Table.{In, Row, Small, Tree, Within, key, pairBound, treeBound, row, tree}
 use Rattle.refiner.specs.Turns.{seek, turns}
@@ -37,14 +37,14 @@ all-set P (y ∷ ys) (suc v) x h l (suc i) = all-set P ys v x h (λ j. l (suc j)
 within-set : (n : ℕ) (xs : List ℕ) (v x : ℕ) → In n x → Within n xs → Within n (set xs v x)
 within-set n xs v x h w = record { ends = all-set (In n) xs v x h (w .ends) }
 
-in-key : (n p a : ℕ) → p < n → a < n → n ≤ treeBound → In n (key p a)
+pub in-key : (n p a : ℕ) → p < n → a < n → n ≤ treeBound → In n (key p a)
 in-key n p a h i l =
     let b : a < treeBound = omega arith in
     let d : (key p a) / treeBound ≡ p = omega arith in
     let m : (key p a) % treeBound ≡ a = omega arith in
     (rw d h, rw m i)
 
-within-carrying : (n i c q : ℕ) (xs : List ℕ) → In n q → Within n xs → Within n (carrying i c q xs)
+pub within-carrying : (n i c q : ℕ) (xs : List ℕ) → In n q → Within n xs → Within n (carrying i c q xs)
 unfolding carrying
 within-carrying n i zero q xs h w = within-set n xs i q h w
 within-carrying n i (suc c) q xs h w =
@@ -93,7 +93,7 @@ past (y ∷ ys) i zero x h = absurd (let z : ⊥ = omega arith in z)
 past (y ∷ ys) zero (suc j) x h = refl
 past (y ∷ ys) (suc i) (suc j) x h = past ys i j x (omega arith)
 
-within-bumped : (n p : ℕ) → n < treeBound → (c i : ℕ) (xs : List ℕ) → Within (n + 1) xs → ((j : ℕ) → i ≤ j → In n (getD xs j 0))
+pub within-bumped : (n p : ℕ) → n < treeBound → (c i : ℕ) (xs : List ℕ) → Within (n + 1) xs → ((j : ℕ) → i ≤ j → In n (getD xs j 0))
     → Within (n + 1) (turns (bumpAt p) i c xs)
 unfolding turns bumpAt
 within-bumped n p l zero i xs w h = w
@@ -103,7 +103,7 @@ within-bumped n p l (suc c) i xs w h =
     (within-set (n + 1) xs i _ (in-key (n + 1) _ _ (bump-in n p _ (q .0)) (bump-in n p _ (q .1)) (omega arith)) w)
     (λ j g. subst (In n) (sym (past xs i j _ (omega arith))) (h j (omega arith)))
 
-within-more : (n : ℕ) (xs : List ℕ) → Within n xs → Within (n + 1) xs
+pub within-more : (n : ℕ) (xs : List ℕ) → Within n xs → Within (n + 1) xs
 within-more n xs w = record { ends = λ i. (omega (arith, w .ends i .0), omega (arith, w .ends i .1)) }
 
 module _ (pts : List ℤ) (n : ℕ) (ks : List ℕ) (e p a b u : ℕ) (s : Place) (l : n < treeBound) (hp : p ≤ n) (ha : a < n) (hb : b < n)
@@ -156,7 +156,7 @@ zeros-at zero i = refl
 zeros-at (suc n) zero = refl
 zeros-at (suc n) (suc i) = zeros-at n i
 
-cut-in : (w : Weights) (pts : List ℤ) (ks : List ℕ) (e l : ℕ) → 0 < getD (costs w pts ks e) l 0 → l < e
+pub cut-in : (w : Weights) (pts : List ℤ) (ks : List ℕ) (e l : ℕ) → 0 < getD (costs w pts ks e) l 0 → l < e
 unfolding costs
 cut-in w pts ks e l h =
     by (ltb l e) (λ t. ltb-true l e t)
@@ -177,23 +177,6 @@ fine-found w ms pts n ks e c q g =
 
 pub within-small : (n : ℕ) (ks : List ℕ) → n ≤ treeBound → Within n ks → Small pairBound ks
 within-small n ks h w = record { small = λ i. omega (arith, w .ends i .0, w .ends i .1) }
-
-module _ (w : Weights) (ms : List Macro) (pts : List ℤ) (n : ℕ) (ks : List ℕ) (e k : ℕ) (all : Tree) (c : Best)
-    (h : rounds w ms k (tree pts n ks e) ≡ all)
-    (q : c ≡ found w ms pts n ks e) where
-  pub rounds-stop : (less : ℕ) → k ≡ suc less → c .gain ≡ 0 → tree pts n ks e ≡ all
-  unfolding rounds
-  rounds-stop less i g = sym (rw (i, rounds, eq-eqb _ _ (rw q at g)) refl) ∙ h
-
-  pub rounds-more : (less : ℕ) → k ≡ suc less → (c .gain ≡ 0 → ⊥) → (t : Tree) → t ≡ exchange c pts n ks e → rounds w ms less t ≡ all
-  unfolding rounds
-  rounds-more less i g t r =
-      let d : found w ms pts n ks e .gain ≡ 0 → ⊥ = λ z. g (ap (λ (b : Best). b .gain) q ∙ z) in
-      rw (r, q) (sym (rw (i, rounds, ne-eqb _ _ d) refl) ∙ h)
-
-pub rounds-end : (w : Weights) (ms : List Macro) (k : ℕ) (t all : Tree) → rounds w ms k t ≡ all → k ≡ 0 → t ≡ all
-unfolding rounds
-rounds-end w ms k t all h e = sym (rw e refl) ∙ h
 
 -- pruning adds no edge
 pub pruned-few : (pin ks : List ℕ) (e : ℕ) → prune pin ks e .size ≤ e

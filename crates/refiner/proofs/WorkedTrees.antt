@@ -23,7 +23,13 @@ use Rattle.refiner.specs.Candidate.{sees, taken, dropped, allowed, weigh
 use Rattle.refiner.specs.Exchange.{shift, closed, dropTwo, later, rank, stands, push, closing, opened}
 use Rattle.refiner.specs.Exchange.{bump, bumpAt, carrying, lay, lays, laidAt, exchange}
 use Rattle.refiner.specs.Prune.{markOf, mark, marks, countEnds, loose, looseEdge, firstLoose, prune}
-use Rattle.refiner.specs.Refined.{rounds, pruned, refined, addCost, total}
+use Rattle.refiner.specs.Beside.{Ground, ground, sourcesFrom, seats, offers as offersOff, search as searchOff, either, chosenOf}
+use Rattle.refiner.specs.Beside.{labelsIn, parentsIn, seatsIn, chosenIn}
+use Rattle.refiner.specs.Round.{exchangeWith, exchangeIn, roundsIn}
+use Rattle.refiner.specs.Refined.{pruned, refined, addCost, total}
+use Rattle.forest.specs.Edges.{graph, from, filled}
+use Rattle.forest.specs.Labels.{settled, starts, labelled}
+use Rattle.forest.specs.Parents.{adopted, parented}
 
 -- a table with room for more
 unfoldable roomy : List ℤ → ℕ → List ℤ
@@ -42,15 +48,21 @@ edgesFrom pts ks zero = []
 edgesFrom pts [] (suc n) = []
 edgesFrom pts (k ∷ ks) (suc n) = (placeAt pts (firstEnd k), placeAt pts (secondEnd k)) ∷ edgesFrom pts ks n
 
+-- no vertex beside the tree
+abbrev nowhere : Ground
+nowhere = ground [] 0 (graph [] [] [] 0)
+
 -- the refined edges and their total; to unfold this is to unfold all that it rests on
 unfoldable pub refinedOf : List Macro → List Place → List Place → List ℕ → List (Place × Place) × ℕ
 unfolding any minZ maxZ before samePlace apart cost middle middlePlace spanMeets meets clear flatPlaces roomy roomyKeys edgesFrom turns
     seek edgeCost measure costs wins longer shorter spread spreads hang attach pass reached start longest cutOf sees taken dropped
     allowed weighed offer offers search found shift closed dropTwo later rank stands push closing opened bump bumpAt carrying lay lays
-    laidAt exchange markOf mark marks countEnds loose looseEdge firstLoose prune rounds pruned refined addCost total
+    laidAt exchange markOf mark marks countEnds loose looseEdge firstLoose prune pruned refined addCost total
+    sourcesFrom seats offersOff searchOff either chosenOf labelsIn parentsIn seatsIn chosenIn exchangeWith exchangeIn roundsIn from filled
+    settled starts labelled adopted parented
 refinedOf ms pins points keys =
     let t = tree (roomy (flatPlaces points) (length pins)) (length points) (roomyKeys keys (length pins)) (length keys) in
-    let r = refined (record { pins = pins; macros = ms; weights = plain }) t in
+    let r = refined (record { pins = pins; macros = ms; weights = plain }) nowhere t in
     (edgesFrom (r .points) (r .edges .keys) (r .edges .size), total plain (r .points) (r .edges .keys) (r .edges .size))
 
 abbrev at : ℕ → ℕ → Place

@@ -1,4 +1,4 @@
--- The refiner: rules R3 to R22 on the tables of a tree.
+-- The refiner: rules R3 to R18 and R23 to R27 on the tables of a tree.
 --
 -- WHICH REPRESENTATION, AND WHY. The points of the tree are a table in the order of places, and a point is its number there. An edge is one
 -- number, the key of its ends, and the edges are a table in the order of keys, so an edge is its position. Then the order of numbers is the
@@ -25,7 +25,11 @@
 --              exchange                    what a round does with its candidate
 --   Prune      marks                       which points are pins
 --              loose, prune                no pin and a single edge; what is left when all such points are gone
---   Refined    rounds, pruned, refined     at most m rounds, then pruning
+--   Beside     Ground, chosenIn            the graph that a tree is refined on; the candidate that a round takes, on the tree or beside it
+--   Graft      grafted                     the way laid from the tree, leaf by leaf
+--   Round      exchangeIn, roundsIn        what a round does; at most m of them
+--   Ready      Ready                       what the tables hold before each round
+--   Refined    pruned, refined             at most m rounds, then pruning
 --              total w                     the sum of what the edges cost
 --              Answer                      what the tables and the answer hold when a tree is refined
 --   Taken      Taken                       what is known of a candidate that a round takes
@@ -41,8 +45,8 @@
 --   CutLaws        cut-is              `cutOf` is the longest edge, the smallest on a tie, of the way to whichever end is met first
 --   ExchangeSound  laid-sound          a round keeps `Sound`;  laid-costs: the total falls by the gain
 --   RankedLaws     laid-level          edges stay smaller place first and in order;  ranked-of: each once, since they are a tree
---   RoundSound     rounds-kept         so do the rounds, each with at most one point more that is none of known places
---                  total-of            the contract's sum is `treeTotal`
+--   RoundReady     rounds-ready        so do the rounds, each with at most one point more that is no vertex
+--   RoundSound     total-of            the contract's sum is `treeTotal`
 --   PruneSound     prune-whole         pruning keeps a tree with all pins;  pruned-over: it raises no sum
 --   RefinedSound   refined-promise     the refined tree of a sound tree keeps `Promise`
 --                  refined-tabled      and `Tabled`, where the tree's edges are in order
@@ -56,8 +60,12 @@ pub mod Turns
 pub mod Longest
 pub mod Candidate
 pub mod Exchange
+pub mod Beside
+pub mod Graft
+pub mod Round
 pub mod Prune
 pub mod Refined
 pub mod Taken
 pub mod Promise
 pub mod Sentences
+pub mod Ready

@@ -1,6 +1,5 @@
 // Candidates, and the one that a round takes.
 use crate::Best;
-use crate::NONE;
 use crate::PAIRS;
 use crate::longest;
 use plane::Place;
@@ -12,9 +11,9 @@ ghost use Prim.Native.Nat.{_≤_, _<_};
 ghost use Rattle.plane.specs.Flat.{macrosOf};
 ghost use Rattle.refiner.specs.Turns.{seek};
 ghost use Rattle.tree.specs.Table.{treeBound, pairBound, Small};
-ghost use Rattle.refiner.specs.Candidate.{sees, taken, dropped, allowed, weighed, offer, offers, search, found};
+ghost use Rattle.refiner.specs.Candidate.{sees, taken, dropped, allowed, weighed, offer, offers, search};
 
-fn sees(macros: &[i32], a: Place, b: Place, u: Place) -> bool
+pub fn sees(macros: &[i32], a: Place, b: Place, u: Place) -> bool
     ensures { λ r. ⌜ r ≡ sees (macrosOf (now (macros .entry))) a b u ⌝ }
 {
     if plane::is_clear(u, a, macros) {
@@ -48,7 +47,7 @@ fn find_taken(pts: &[i32; NUMBERS], n: usize, a: usize, b: usize, u: usize, s: P
     i
 }
 
-fn is_dropped(pts: &[i32; NUMBERS], n: usize, a: usize, b: usize, u: usize, s: Place) -> bool
+pub fn is_dropped(pts: &[i32; NUMBERS], n: usize, a: usize, b: usize, u: usize, s: Place) -> bool
     requires { ⌜ n ≤ treeBound ⌝ }
     ensures { λ r. ⌜ r ≡ dropped (now (pts .entry)) n a b u s ⌝ }
 {
@@ -172,7 +171,7 @@ fn offers(
     found
 }
 
-fn search(
+pub fn search(
     w: Weights,
     pts: &[i32; NUMBERS],
     n: usize,
@@ -199,24 +198,4 @@ fn search(
         k += 1;
     }
     found
-}
-
-pub fn found(
-    w: Weights,
-    pts: &[i32; NUMBERS],
-    n: usize,
-    macros: &[i32],
-    keys: &[usize; POINTS],
-    e: usize,
-) -> Best
-    requires { ⌜ ((e ≤ treeBound) × (n ≤ treeBound)) × (Small pairBound (now keys)) ⌝ }
-    ensures { λ r. ⌜ r ≡ found w (macrosOf (now (macros .entry))) (now (pts .entry)) n (now (keys .entry)) e ⌝ }
-{
-    let mut el = [0u64; POINTS];
-    longest::costs(w, pts, keys, e, &mut el);
-    let mut seen = [0usize; POINTS];
-    seen[0] = 1;
-    let mut top = [NONE; PAIRS];
-    longest::reached(keys, &el, e, n, &mut seen, &mut top);
-    search(w, pts, n, macros, keys, e, &el, &top)
 }

@@ -2,10 +2,13 @@
 //
 // A point is its number in the table of points, which is in the order of places; an edge is the key of its ends' numbers, in a table in the
 // order of edges. So every tie is settled by scanning upwards and giving way only to what is strictly better.
+mod beside; // beside.rt: vertices beside the tree, and the candidates with them
 mod candidate; // candidate.rt: candidates, and the one that a round takes
 mod exchange; // exchange.rt: what a round does with it
+mod graft; // graft.rt: a way to a vertex beside the tree, laid
 mod longest; // longest.rt: the longest edge between every two points
 mod prune; // prune.rt: points that go at the end
+mod round; // round.rt: a round
 
 use net::Net;
 use plane::Weights;
@@ -13,15 +16,26 @@ use tree::NUMBERS;
 use tree::POINTS;
 use tree::Size;
 ghost use mathlib.Core.Path.{_≡_};
-ghost use Prim.Native.Nat.{_+_, _≤_};
+ghost use Prim.Native.Nat.{_≤_};
 ghost use Rattle.plane.specs.Flat.{macrosOf};
 ghost use Rattle.net.specs.Pins.{pinCount};
 ghost use Rattle.net.specs.Net.{netWith};
 ghost use Rattle.tree.specs.Table.{treeBound, pairBound, tree, Small, Within};
-ghost use Rattle.refiner.specs.Refined.{rounds, total, Answer};
+ghost use Rattle.forest.specs.Edges.{graph};
+ghost use Rattle.refiner.specs.Beside.{ground};
+ghost use Rattle.refiner.specs.Round.{roundsIn};
+ghost use Rattle.refiner.specs.Refined.{total, Answer};
+ghost use Rattle.refiner.specs.Ready.{Ready};
 
 // All pairs of points.
 pub const PAIRS: usize = POINTS * POINTS;
+
+// Vertices of the graph, and the numbers of their places.
+pub const VERTICES: usize = forest::POINTS;
+
+pub const VERTEX_NUMBERS: usize = VERTICES * 2;
+
+pub const EDGES: usize = forest::EDGES;
 
 // The number that stands for no edge.
 pub const NONE: u16 = (POINTS - 1) as u16;
@@ -34,6 +48,33 @@ pub struct Best {
     pub cut: usize,
 }
 
+// The candidate that a round takes: on the tree its point is the number of a tree point, beside it that of a vertex. With gain 0 there is
+// none.
+pub struct Choice {
+    pub beside: bool,
+    pub gain: u64,
+    pub edge: usize,
+    pub point: usize,
+    pub cut: usize,
+}
+
+// A tree while a way is laid: how many points and edges it has, the last point that was put in, and the two edges that the exchange will
+// take out, by their numbers.
+pub struct Growth {
+    pub points: usize,
+    pub edges: usize,
+    pub last: usize,
+    pub edge: usize,
+    pub cut: usize,
+}
+
+// What a round did: whether a candidate gained, and how many points and edges there are then.
+pub struct Turn {
+    pub moved: bool,
+    pub points: usize,
+    pub edges: usize,
+}
+
 // A refined tree: how many points and edges it has, and what its edges cost together.
 pub struct Refined {
     pub points: usize,
@@ -41,32 +82,58 @@ pub struct Refined {
     pub total: u64,
 }
 
-// At most m rounds; the first that finds no gain is the last.
+// At most m rounds, one for each pin; the first that finds no gain is the last.
 pub fn rounds(
     w: Weights,
+    pins: &[i32],
+    macros: &[i32],
     pts: &mut [i32; NUMBERS],
     n: usize,
-    macros: &[i32],
     keys: &mut [usize; POINTS],
     e: usize,
-    m: usize,
+    vertices: &[i32; VERTEX_NUMBERS],
+    v: usize,
+    ea: &[usize; EDGES],
+    eb: &[usize; EDGES],
+    el: &[u64; EDGES],
+    f: usize,
 ) -> Size
-    requires { ⌜ ((n + m ≤ treeBound) × (e + m ≤ treeBound)) × (Within n (now keys)) ⌝ }
+    requires { ⌜ Ready (netWith w (now pins) (now macros)) (ground (now vertices) v (graph (now ea) (now eb) (now el) f))
+        (tree (now pts) n (now keys) e) (pinCount (now pins)) ⌝ }
     ensures { λ r. ⌜ (tree (now (pts .exit)) (r .points) (now (keys .exit)) (r .edges)
-        ≡ rounds w (macrosOf (now (macros .entry))) m (tree (now (pts .entry)) n (now (keys .entry)) e))
-        × (((r .points ≤ n + m) × (r .edges ≤ e + m)) × (Within (r .points) (now (keys .exit)))) ⌝ }
+        ≡ roundsIn w (macrosOf (now (macros .entry)))
+        (ground (now (vertices .entry)) v (graph (now (ea .entry)) (now (eb .entry)) (now (el .entry)) f))
+        (pinCount (now (pins .entry))) (tree (now (pts .entry)) n (now (keys .entry)) e))
+        × (((r .points ≤ treeBound) × (r .edges ≤ treeBound)) × (Within (r .points) (now (keys .exit)))) ⌝ }
 {
+    let m = net::pin_count(pins);
     let mut z = Size {
         points: n,
         edges: e,
     };
     let mut r = 0;
     while r < m {
-        let c = candidate::found(w, &*pts, z.points, macros, &*keys, z.edges);
-        if c.gain == 0 {
+        let y = round::round(
+            w,
+            &mut *pts,
+            z.points,
+            macros,
+            &mut *keys,
+            z.edges,
+            vertices,
+            v,
+            ea,
+            eb,
+            el,
+            f,
+        );
+        if !y.moved {
             return z;
         }
-        z = exchange::exchange(&mut *pts, z.points, &mut *keys, z.edges, c);
+        z = Size {
+            points: y.points,
+            edges: y.edges,
+        };
         r += 1;
     }
     z
@@ -95,18 +162,39 @@ pub fn refine(
     n: usize,
     keys: &mut [usize; POINTS],
     e: usize,
+    vertices: &[i32; VERTEX_NUMBERS],
+    v: usize,
+    ea: &[usize; EDGES],
+    eb: &[usize; EDGES],
+    el: &[u64; EDGES],
+    f: usize,
 ) -> Refined
-    requires { ⌜ ((n + pinCount (now pins) ≤ treeBound) × (e + pinCount (now pins) ≤ treeBound)) × (Within n (now keys)) ⌝ }
+    requires { ⌜ Ready (netWith (net .weights) (now pins) (now macros)) (ground (now vertices) v (graph (now ea) (now eb) (now el) f))
+        (tree (now pts) n (now keys) e) (pinCount (now pins)) ⌝ }
     ensures { λ r. ⌜ Answer (netWith (net .weights) (now (pins .entry)) (now (macros .entry)))
+        (ground (now (vertices .entry)) v (graph (now (ea .entry)) (now (eb .entry)) (now (el .entry)) f))
         (tree (now (pts .entry)) n (now (keys .entry)) e) (now (pts .exit)) (now (keys .exit)) r ⌝ }
 {
     let w = net.weights;
-    let m = net::pin_count(pins);
-    let z = rounds(w, &mut *pts, n, macros, &mut *keys, e, m);
-    let f = prune::prune_points(pins, &*pts, z.points, &mut *keys, z.edges);
+    let z = rounds(
+        w,
+        pins,
+        macros,
+        &mut *pts,
+        n,
+        &mut *keys,
+        e,
+        vertices,
+        v,
+        ea,
+        eb,
+        el,
+        f,
+    );
+    let left = prune::prune_points(pins, &*pts, z.points, &mut *keys, z.edges);
     Refined {
         points: z.points,
-        edges: f,
-        total: total(w, &*pts, &*keys, f),
+        edges: left,
+        total: total(w, &*pts, &*keys, left),
     }
 }

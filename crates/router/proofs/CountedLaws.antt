@@ -20,8 +20,10 @@ use Rattle.net.proofs.PinLaws.{length-pins}
 use Rattle.terminal.specs.declared.TerminalTree.{TerminalTree}
 use Rattle.terminal.specs.Tables.{Tables, Worked}
 use Rattle.union.specs.Union.{unionOf}
+use Rattle.refined.specs.Ground.{groundOf}
 use Rattle.refiner.specs.declared.Refined.{Refined}
 use Rattle.refiner.specs.Refined.{Answer}
+use Rattle.refined.specs.Ground.{groundOf}
 use Rattle.router.specs.Counted.{Counted}
 use Rattle.router.specs.Graph.{pointCount}
 
@@ -64,6 +66,7 @@ module _ {n : Counts} {w : Weighing} {pins macros : List ℤ} (c : Counted n w p
   as-worked {lent} {t} {r} x = subst (λ (z : Net). Worked z lent t r) as-net x
 
   pub as-answer : {pts : List ℤ} {ks : List ℕ} {r : Refined}
-      → Answer (netWith (n .weights) pins macros) (unionOf (netWith (n .weights) pins macros)) pts ks r
-      → Answer (netOf w pins macros) (unionOf (netOf w pins macros)) pts ks r
-  as-answer {pts} {ks} {r} x = subst (λ (z : Net). Answer z (unionOf z) pts ks r) as-net x
+      → Answer (netWith (n .weights) pins macros) (groundOf (netWith (n .weights) pins macros)) (unionOf (netWith (n .weights) pins macros))
+      pts ks r
+      → Answer (netOf w pins macros) (groundOf (netOf w pins macros)) (unionOf (netOf w pins macros)) pts ks r
+  as-answer {pts} {ks} {r} x = subst (λ (z : Net). Answer z (groundOf z) (unionOf z) pts ks r) as-net x

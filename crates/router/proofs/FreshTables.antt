@@ -1,11 +1,16 @@
--- The tables that an operation lends for a terminal tree are as it asks for them.
+-- The tables that an operation lends for a terminal tree are as it asks for them, and then hold the ground to refine on.
 -- Assumes nothing.
-use mathlib.Core.Path.{refl}
+use mathlib.Core.Path.{_≡_, refl}
 use Prim.Native.Nat.{_*_}
 use lib.IntN.{pos}
 use lib.ListN.{replicate}
 use Rattle.forest.specs.Bounds.{pointBound, edgeBound, unreached}
-use Rattle.terminal.specs.Tables.{tables, Fresh}
+use Rattle.forest.specs.Edges.{graph}
+use Rattle.net.specs.Net.{Net}
+use Rattle.terminal.specs.declared.TerminalTree.{TerminalTree}
+use Rattle.terminal.specs.Tables.{Tables, tables, Fresh, Worked}
+use Rattle.refiner.specs.Beside.{ground}
+use Rattle.refined.specs.Ground.{groundOf}
 
 -- the tables that are lent
 pub fresh : Fresh
@@ -24,3 +29,9 @@ fresh = record {
   kept = refl;
   longs = refl;
 }
+
+-- once the terminal tree is worked out in them, they hold the ground to refine on
+pub worked-ground : {net : Net} {lent t : Tables} {r : TerminalTree} → lent .points ≡ replicate (pointBound * 2) (pos 0) →
+    Worked net lent t r → ground (t .points) (r .points) (graph (t .ones) (t .twos) (t .spans) (r .edges)) ≡ groundOf net
+unfolding groundOf
+worked-ground h w = rw (w .vertices-are, w .vertex-count, w .graph-is, h) refl

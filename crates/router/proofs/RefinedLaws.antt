@@ -19,9 +19,11 @@ use Rattle.tree.specs.Table.{treeBound, pairBound, Small}
 use Rattle.refiner.specs.Refined.{Answer}
 use Rattle.refiner.proofs.WithinLaws.{within-small}
 use Rattle.union.specs.Union.{unionOf}
+use Rattle.refined.specs.Ground.{groundOf}
 use Rattle.tree.specs.Edges.{tableEdges, treeEdges}
 use Rattle.tree.proofs.EdgeLaws.{edges-count, edges-total}
 use Rattle.refiner.proofs.RoundSound.{total-of}
+use Rattle.refined.specs.Ground.{groundOf}
 use Rattle.refined.specs.Metal.{metal}
 use Rattle.refined.proofs.MetalLaws.{metal-low as metal-lengths}
 use Rattle.rules.proofs.BestLaws.{paths-total}
@@ -41,7 +43,7 @@ module _ {net : Net} (a : Allowed net) where
 
   -- What the refiner's tables and its answer hold
 
-  module _ {pts : List ℤ} {ks : List ℕ} {r : Refined} (answer : Answer net (unionOf net) pts ks r) where
+  module _ {pts : List ℤ} {ks : List ℕ} {r : Refined} (answer : Answer net (groundOf net) (unionOf net) pts ks r) where
     pub answer-edges : tableEdges pts ks (r .edges) ≡ edgesIn net
     unfolding edgesIn refinedOf
     answer-edges = ap treeEdges (answer .whole)

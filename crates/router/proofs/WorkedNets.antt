@@ -2,7 +2,7 @@
 -- and what it gives.
 -- Assumes nothing.
 use mathlib.Core.Path.{_≡_, refl}
-use mathlib.Core.List.{List, [], _∷_, map}
+use mathlib.Core.List.{List, [], _∷_, _++_, map}
 use Prim.Native.Nat.{ℕ}
 use lib.IntN.{ℤ, pos, negsuc}
 use Rattle.lent.specs.Told.{Told, refused, given, onlyIf}
@@ -11,7 +11,7 @@ use Rattle.plane.specs.Place.{place}
 use Rattle.plane.specs.Distance.{distance}
 use Rattle.joined.specs.Cost.{lengths}
 use Rattle.net.specs.WorkedNets.{Lists, onePin, noPin, aroundOne, threePins, sharedSide, onSides, overlapping, onBoundary, inInterior}
-use Rattle.net.specs.WorkedNets.{twiceInInterior, noWidth, fourPins}
+use Rattle.net.specs.WorkedNets.{twiceInInterior, noWidth, fourPins, pin, block}
 use Rattle.net.specs.declared.Net.{Net as Counts}
 use Rattle.net.specs.declared.Weighing.{Weighing}
 use Rattle.net.specs.Net.{weighing, plainly}
@@ -19,6 +19,10 @@ use Rattle.net.specs.Check.{counted, checked}
 use Rattle.net.proofs.WorkedChecks.{answer}
 use Rattle.terminal.proofs.WorkedPaths.{treeIn}
 use Rattle.union.proofs.WorkedUnions.{union}
+use Rattle.refiner.specs.Beside.{offer, isPoint, takeSeat, weighed, onWay, free}
+use Rattle.refiner.specs.Graft.{pairKey, notBelow, keyRank, leaf, grafted}
+use Rattle.forest.specs.Parents.{climb, wayAfter}
+use Rattle.refined.specs.Ground.{groundOf}
 use Rattle.refiner.proofs.WorkedTrees.{refinedOf as worked}
 use Rattle.tree.specs.Edges.{edgesFrom}
 use Rattle.refined.proofs.WorkedWires.{given as wired-given}
@@ -38,7 +42,8 @@ pub record Answers : Type 0 where
 
 -- to unfold this is to unfold all that it rests on
 unfoldable pub answersBy : Weighing → Lists → Answers
-unfolding answer treeIn union worked wired-given onlyIf distance lengths edgesFrom netVertices netEdges graphRoomShort graphGiven graphed ifRoom
+unfolding groundOf offer isPoint takeSeat weighed onWay free pairKey notBelow keyRank leaf grafted climb wayAfter answer treeIn union worked
+    wired-given onlyIf distance lengths edgesFrom netVertices netEdges graphRoomShort graphGiven graphed ifRoom
     pathsOf pathsTotal terminalGiven terminalTree refinedOf edgesIn totalIn refinedGiven refinedTree wiresGiven wired
 answersBy w net = record {
   check = checked w (net .pins) (net .macros);
@@ -74,6 +79,13 @@ none n = record { check = refused n; graph = refused n; terminal = refused n; re
 
 abbrev edge : ℤ → ℤ → ℤ → ℤ → Place × Place
 edge a b c d = (place a b, place c d)
+
+-- E25: a macro between the pins, whose corners on the far side no path uses
+abbrev cornerBeside : Lists
+cornerBeside = record {
+  pins = pin (pos 4) (pos 0) ++ (pin (pos 4) (pos 7) ++ pin (pos 8) (pos 4));
+  macros = block (pos 4) (pos 0) (pos 5) (pos 8);
+}
 
 pub record Table : Type 0 where
   -- E1: no edges, both totals 0; E2: refused 11
@@ -150,6 +162,11 @@ pub record Table : Type 0 where
   pub no-weight : answersBy (weighing (pos 0) (pos 1)) threePins ≡ none 18
   pub below-weight : answersBy (weighing (negsuc 0) (pos 1)) threePins ≡ none 18
   pub much-weight : answersBy (weighing (pos 1) (pos 9)) threePins ≡ none 18
+  -- E25: by a corner beside the tree; on the tree alone it would be 15
+  pub corner-beside : answers cornerBeside .refined ≡ given (6, (pos 14, pos 14))
+  pub corner-edges : trees cornerBeside .edges
+      ≡ edge (pos 4) (pos 0) (pos 5) (pos 0) ∷ edge (pos 4) (pos 7) (pos 4) (pos 8) ∷ edge (pos 4) (pos 8) (pos 5) (pos 8)
+      ∷ edge (pos 5) (pos 0) (pos 5) (pos 4) ∷ edge (pos 5) (pos 4) (pos 5) (pos 8) ∷ edge (pos 5) (pos 4) (pos 8) (pos 4) ∷ []
 
 pub worked-nets : Table
 unfolding treesBy
@@ -176,4 +193,6 @@ worked-nets = record {
   no-weight = refl;
   below-weight = refl;
   much-weight = refl;
+  corner-beside = refl;
+  corner-edges = refl;
 }

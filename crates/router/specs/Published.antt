@@ -52,7 +52,7 @@ pub record Promised (w : Weighing) (pins macros : List ℤ) : Type 0 where
   -- T14 to T16: each kept path is given by its bridge and its length, and the total is their sum
   pub paths : pathsOf w pins macros ≡ map (givenFor (netOf w pins macros)) kept
   pub paths-sum : pathsTotal w pins macros ≡ total (map (pathCost (netOf w pins macros)) kept)
-  -- R22: the total is the sum of what the edges cost, and the metal to lay that of their plain lengths, which is no more
+  -- C66: the total is the sum of what the edges cost;  R22: the metal to lay that of their plain lengths, which is no more
   pub total-sum : laidTotal w pins macros ≡ lengths (costIn (netOf w pins macros)) (laidOf w pins macros)
   pub metal-sum : metalOf w pins macros ≡ lengths distance (laidOf w pins macros)
   pub metal-low : metalOf w pins macros ≤ laidTotal w pins macros
@@ -67,10 +67,12 @@ pub record Promised (w : Weighing) (pins macros : List ℤ) : Type 0 where
   pub outside : (e : Edge) → e ∈ laidOf w pins macros → (m : Macro) → m ∈ macrosOf macros → (q : PlanePoint) →
       Box (e .0) (e .1) q → Interior m q → ⊥
   -- R20: every tree on the way there is one tree as well;  R14, D2f: each exchange is for a tree shorter by the gain
-  pub between : {rs : List Edge} (r : Refined (netOf w pins macros) kept rs)
-      → TreesThrough (netOf w pins macros) (length (pinPlaces pins)) (r .start) (r .refines .rounded) (r .refines .rounds)
-  pub falls : {rs : List Edge} (r : Refined (netOf w pins macros) kept rs)
-      → FallsThrough (netOf w pins macros) (length (pinPlaces pins)) (r .start) (r .refines .rounded) (r .refines .rounds)
+  pub between : {rs : List Edge} (r : Refined (netOf w pins macros) (netEdges w pins macros) kept rs)
+      → TreesThrough (netOf w pins macros) (netEdges w pins macros) (length (pinPlaces pins)) (r .start) (r .refines .rounded)
+      (r .refines .rounds)
+  pub falls : {rs : List Edge} (r : Refined (netOf w pins macros) (netEdges w pins macros) kept rs)
+      → FallsThrough (netOf w pins macros) (netEdges w pins macros) (length (pinPlaces pins)) (r .start) (r .refines .rounded)
+      (r .refines .rounds)
   -- W1: the wires are those of the edges, edge after edge
   pub wires-of-edges : wiresOf w pins macros ≡ flat wiresOfEdge (laidOf w pins macros)
   -- D2c, W2 to W4: an edge's wires lead from its smaller place to its larger one in the edge's box, first across and then up

@@ -15,6 +15,7 @@ use Rattle.tree.specs.Table as table
 use Rattle.refiner.specs.Refined.{refined}
 use Rattle.union.specs.Union.{unionOf}
 use Rattle.tree.specs.Edges.{treeEdges}
+use Rattle.refined.specs.Ground.{groundOf}
 use Rattle.refined.specs.Metal.{metal}
 use Rattle.router.specs.Room.{ifRoom}
 use Rattle.router.specs.Graph.{pointCount}
@@ -23,9 +24,9 @@ use Rattle.router.specs.declared.TreeAnswer.the-variants.{Given, Refused
 
 -- The tree of a net
 
--- R1: from the union of the kept paths, by rounds, then pruning
+-- R1: from the union of the kept paths, by rounds on the spanning graph, then pruning
 unfoldable pub refinedOf : Net → table.Tree
-refinedOf net = refined net (unionOf net)
+refinedOf net = refined net (groundOf net) (unionOf net)
 
 -- its edges, in order
 unfoldable pub edgesIn : Net → List (Place × Place)

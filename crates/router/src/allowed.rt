@@ -22,6 +22,7 @@ ghost use Rattle.net.specs.Bounds.{treeBound};
 ghost use Rattle.price.specs.Price.{priced, toldPrice};
 ghost use Rattle.refiner.specs.Refined.{Answer};
 ghost use Rattle.union.specs.Union.{unionOf};
+ghost use Rattle.refined.specs.Ground.{groundOf};
 ghost use Rattle.router.specs.Counted.{Counted};
 ghost use Rattle.router.specs.Graph.{graphGiven};
 ghost use Rattle.router.specs.Terminal.{terminalGiven};
@@ -150,6 +151,7 @@ fn refine(
     requires { ⌜ Counted net (handed (net .weights)) (now pins) (now macros) ⌝ }
     requires { ⌜ (now points ≡ replicate (treeBound * 2) (pos 0)) × (now keys ≡ replicate treeBound 0) ⌝ }
     ensures { λ r. ⌜ Answer (netOf (handed (net .weights)) (now (pins .entry)) (now (macros .entry)))
+        (groundOf (netOf (handed (net .weights)) (now (pins .entry)) (now (macros .entry))))
         (unionOf (netOf (handed (net .weights)) (now (pins .entry)) (now (macros .entry)))) (now (points .exit)) (now (keys .exit)) r ⌝ }
 {
     let mut vertices = [0i32; VERTEX_NUMBERS];
@@ -206,6 +208,12 @@ fn refine(
         start.points,
         &mut *keys,
         start.edges,
+        &vertices,
+        tree.points,
+        &ea,
+        &eb,
+        &el,
+        tree.edges,
     )
 }
 

@@ -4,12 +4,12 @@
 use mathlib.Core.Path.{_≡_, refl, sym, ap, _∙_, subst}
 use mathlib.Core.Bool.{Bool, true, false}
 use mathlib.Core.Logic.{_⊎_, inl, inr}
-use mathlib.Core.List.{List}
-use Prim.Native.Nat.{ℕ, _≤_, _<_}
+use mathlib.Core.List.{List, [], Memᴰ·cast}
+use Prim.Native.Nat.{ℕ, _+_, _≤_, _<_}
 use native.Mathlib.Omega.{arith}
-use lib.Dec.{ltb}
+use lib.Dec.{ltb, eqb}
 use lib.ListN.{getD}
-use borrow.Author.Tests.{ltb-true, ltb-false}
+use borrow.Author.Tests.{ltb-true, ltb-false, eqb-true, eqb-false}
 use Rattle.lists.specs.Member.{_∈_}
 use Rattle.lists.specs.Sorted.{Order, firstThen}
 use Rattle.lists.proofs.TestLaws.{by, differ, either}
@@ -18,16 +18,17 @@ use Rattle.plane.specs.Place.{before}
 use Rattle.plane.specs.Flat.{placeAt}
 use Rattle.plane.proofs.PlaceOrder.{place-order}
 use Rattle.joined.specs.OneTree.{Point}
+use Rattle.joined.specs.Way.{long}
 use Rattle.joined.proofs.JoinedLaws.{firsts, seconds, has-link}
 use Rattle.net.specs.Net.{Net}
 use Rattle.tree.specs.Table.{firstEnd, secondEnd, Tree}
-use Rattle.tree.specs.Places.{endsOf, edgesOf, Ranked, Sound}
+use Rattle.tree.specs.Places.{endsOf, pointsOf, edgesOf, Ranked, Sound}
 use Rattle.refiner.specs.Sentences as tables
 use Rattle.tree.proofs.ListingLaws.{in-listing, of-listing}
 use Rattle.refiner.proofs.PruneSound.{order-same}
 use Rattle.refiner.proofs.RoundSteps.{numbered}
 use Rattle.rules.specs.Edges.{Edge, edgeBefore, edgeCost}
-use Rattle.rules.specs.Refined.{Step, Longest, Gain}
+use Rattle.rules.specs.Refined.{Reach, Step, Longest, Gain}
 use Rattle.rules.proofs.EdgeLaws.{edge-order}
 
 -- what comes before does not come after
@@ -87,7 +88,7 @@ module _ {net : Net} (t : Tree) (sound : Sound net t) (ranked : Ranked (t .edges
       let e : j ≡ i = omega (arith, ltb-false i j q) in
       ap (λ (x : ℕ). edgeBefore (edgeAt t x) (edgeAt t i)) e ∙ edge-order .never (edgeAt t i))
 
-  edge-least : (i j : ℕ) → i < t .edges .size → edgeBefore (edgeAt t j) (edgeAt t i) ≡ false → i ≤ j
+  pub edge-least : (i j : ℕ) → i < t .edges .size → edgeBefore (edgeAt t j) (edgeAt t i) ≡ false → i ≤ j
   edge-least i j h n = by (ltb j i) (λ q. differ (edge-before j i (ltb-true j i q) h) n) (λ q. ltb-false j i q)
 
   pub edge-one : (i j : ℕ) → i < t .edges .size → j < t .edges .size → edgeAt t i ≡ edgeAt t j → i ≡ j
@@ -119,7 +120,7 @@ module _ {net : Net} (t : Tree) (sound : Sound net t) (ranked : Ranked (t .edges
   step-from : {x : Place} {qs : List Place} (j : ℕ) → j < t .edges .size → Step (edgesIn t) x qs (edgeAt t j) → tables.StepOf t x qs j
   step-from j h s = record { edge = h; one = s .one; other = s .other; on = s .on; ends = s .ends }
 
-  longest-to : {x : Place} {qs : List Place} (l : ℕ) → tables.LongestOn net t x qs l → Longest net (edgesIn t) x qs (edgeAt t l)
+  pub longest-to : {x : Place} {qs : List Place} (l : ℕ) → tables.LongestOn net t x qs l → Longest net (edgesIn t) x qs (edgeAt t l)
   longest-to {x} {qs} l p = record {
     step = step-to l (p .step);
     longest = λ e s. let r = edge-of t e (s .edge) in
@@ -132,7 +133,7 @@ module _ {net : Net} (t : Tree) (sound : Sound net t) (ranked : Ranked (t .edges
       at : (e : Edge) → Step (edgesIn t) x qs e → (r : (k : ℕ) × ((k < t .edges .size) × (e ≡ edgeAt t k))) → tables.StepOf t x qs (r .0)
       at e s r = step-from (r .0) (r .1 .0) (subst (Step (edgesIn t) x qs) (r .1 .1) s)
 
-  longest-from : {x : Place} {qs : List Place} (l : ℕ) → l < t .edges .size → Longest net (edgesIn t) x qs (edgeAt t l) →
+  pub longest-from : {x : Place} {qs : List Place} (l : ℕ) → l < t .edges .size → Longest net (edgesIn t) x qs (edgeAt t l) →
       tables.LongestOn net t x qs l
   longest-from l h p = record {
     step = step-from l h (p .step);
@@ -140,73 +141,105 @@ module _ {net : Net} (t : Tree) (sound : Sound net t) (ranked : Ranked (t .edges
     smallest = λ j s q. edge-least l j h (p .smallest (edgeAt t j) (step-to j s) q);
   }
 
-  -- Candidates with their gains
+  -- a point of a tree with an edge
+  pub point-some : (k i : ℕ) → k < t .edges .size → i < t .count → Point (net .pins) (edgesIn t) (pointAt t i)
+  point-some k i hk h =
+      let up = ranked .upward k hk in
+      let ends = sound .within .ends k in
+      by (eqb i (firstEnd (tables.keyAt t k)))
+      (λ q. point-in i (secondEnd (tables.keyAt t k)) h (ends .1) (λ e. let z : ⊥ = omega (arith, up, e, eqb-true i (firstEnd (tables.keyAt t k)) q) in z))
+      (λ q. point-in i (firstEnd (tables.keyAt t k)) h (ends .0) (eqb-false _ _ q))
 
-  pub gain-to : (k u l g : ℕ) → tables.Gains net t k u l g →
-      Gain net (edgesIn t) (tables.endA t k) (tables.endB t k) (pointAt t u) (edgeAt t l) g
-  gain-to k u l g x =
-      let c = x .candidate in
-      record {
-        candidate = record {
-          edge = edge-in t k (c .edge);
-          point = point-in u (firstEnd (tables.keyAt t k)) (c .point) (sound .within .ends k .0) (λ q. c .third (inl q));
-          notFirst = λ q. c .third (end-one u k (c .point) (inl q));
-          notSecond = λ q. c .third (end-one u k (c .point) (inr q));
-          seen = c .seen;
-          kept =
-              λ v p na nb nu q.
-              let r = point-of v p in
-              c .kept (r .0) (r .1 .0) (λ z. either (λ y. na (r .1 .1 ∙ y)) (λ y. nb (r .1 .1 ∙ y)) (one-end (r .0) k z))
-              (λ z. nu (r .1 .1 ∙ ap (pointAt t) z)) (q ∙ r .1 .1);
-        };
-        cut = record { way = x .cut .way; longest = longest-to l (x .cut .longest) };
-        gain = x .gain;
-        above = x .above;
-      }
+  pub point-listed : (v : Place) → Point (net .pins) (edgesIn t) v → v ∈ pointsOf (t .points) (t .count)
+  point-listed v p = let r = point-of v p in Memᴰ·cast (r .1 .1) (in-listing (placeAt (t .points)) (t .count) (r .0) (r .1 .0))
 
-  gain-from : (k u l g : ℕ) → k < t .edges .size → u < t .count → l < t .edges .size →
-      Gain net (edgesIn t) (tables.endA t k) (tables.endB t k) (pointAt t u) (edgeAt t l) g → tables.Gains net t k u l g
-  gain-from k u l g hk hu hl x =
-      let c = x .candidate in
-      record {
-        candidate = record {
-          edge = hk;
-          point = hu;
-          third = λ q. either (c .notFirst) (c .notSecond) (one-end u k q);
-          seen = c .seen;
-          kept =
-              λ i h n nu q.
-              c .kept (pointAt t i) (point-in i u h hu nu) (λ z. n (end-one i k h (inl z))) (λ z. n (end-one i k h (inr z)))
-              (λ z. nu (point-one i u h hu z)) q;
-        };
-        cut = record { way = x .cut .way; longest = longest-from l hl (x .cut .longest) };
-        gain = x .gain;
-        above = x .above;
-      }
+  pub listed-point : (k : ℕ) → k < t .edges .size → (v : Place) → v ∈ pointsOf (t .points) (t .count) → Point (net .pins) (edgesIn t) v
+  listed-point k hk v m =
+      let r = of-listing (placeAt (t .points)) (t .count) v m in
+      subst (Point (net .pins) (edgesIn t)) (sym (r .1 .1)) (point-some k (r .0) hk (r .1 .0))
 
-  -- a candidate by its numbers
-  pub record ByNumber (a b v : Place) (e : Edge) (g : ℕ) : Type 0 where
-    pub k : ℕ
-    pub u : ℕ
-    pub l : ℕ
-    pub edge : _≡_ {A = Edge} (a, b) (edgeAt t k)
-    pub point : v ≡ pointAt t u
-    pub gains : tables.Gains net t k u l g
+  -- Candidates on the tree with their gains
 
-  pub gain-of : (a b v : Place) (e : Edge) (g : ℕ) → Gain net (edgesIn t) a b v e g → ByNumber a b v e g
-  gain-of a b v e g x =
-      let r = edge-of t (a, b) (x .candidate .edge) in
-      let p = point-of v (x .candidate .point) in
-      let q = edge-of t e (x .cut .longest .step .edge) in
-      record {
-        k = r .0;
-        u = p .0;
-        l = q .0;
-        edge = r .1 .1;
-        point = p .1 .1;
-        gains =
-            gain-from (r .0) (p .0) (q .0) g (r .1 .0) (p .1 .0) (q .1 .0)
-            (subst (λ (z : Edge). Gain net (edgesIn t) (tables.endA t (r .0)) (tables.endB t (r .0)) (pointAt t (p .0)) z g) (q .1 .1)
-            (subst (λ (z : Place). Gain net (edgesIn t) (tables.endA t (r .0)) (tables.endB t (r .0)) z e g) (p .1 .1)
-            (subst (λ (z : Edge). Gain net (edgesIn t) (z .0) (z .1) v e g) (r .1 .1) x)));
-      }
+  module _ (G : List Edge) where
+    pub gain-to : (k u l g : ℕ) → tables.Gains net t k u l g →
+        Gain net G (edgesIn t) false (tables.endA t k) (tables.endB t k) (pointAt t u) (pointAt t u) [] (edgeAt t l) g
+    unfolding long
+    gain-to k u l g x =
+        let c = x .candidate in
+        record {
+          candidate = record {
+            edge = edge-in t k (c .edge);
+            reach = inl (refl, (point-some k u (c .edge) (c .point), (refl, refl)));
+            notFirst = λ q. c .third (end-one u k (c .point) (inl q));
+            notSecond = λ q. c .third (end-one u k (c .point) (inr q));
+            seen = c .seen;
+            kept =
+                λ v p na nb nu q.
+                let r = point-of v p in
+                c .kept (r .0) (r .1 .0) (λ z. either (λ y. na (r .1 .1 ∙ y)) (λ y. nb (r .1 .1 ∙ y)) (one-end (r .0) k z))
+                (λ z. nu (r .1 .1 ∙ ap (pointAt t) z)) (q ∙ r .1 .1);
+            away = λ w m. elim m [ ];
+          };
+          cut = record { way = x .cut .way; longest = longest-to l (x .cut .longest) };
+          gain = omega (arith, x .gain);
+          above = x .above;
+        }
+
+    gain-from : (k u l g : ℕ) → k < t .edges .size → u < t .count → l < t .edges .size →
+        Gain net G (edgesIn t) false (tables.endA t k) (tables.endB t k) (pointAt t u) (pointAt t u) [] (edgeAt t l) g →
+        tables.Gains net t k u l g
+    unfolding long
+    gain-from k u l g hk hu hl x =
+        let c = x .candidate in
+        record {
+          candidate = record {
+            edge = hk;
+            point = hu;
+            third = λ q. either (c .notFirst) (c .notSecond) (one-end u k q);
+            seen = c .seen;
+            kept =
+                λ i h n nu q.
+                c .kept (pointAt t i) (point-in i u h hu nu) (λ z. n (end-one i k h (inl z))) (λ z. n (end-one i k h (inr z)))
+                (λ z. nu (point-one i u h hu z)) q;
+          };
+          cut = record { way = x .cut .way; longest = longest-from l hl (x .cut .longest) };
+          gain = omega (arith, x .gain);
+          above = x .above;
+        }
+
+    -- a candidate on the tree by its numbers
+    pub record ByNumber (a b v : Place) (e : Edge) (g : ℕ) : Type 0 where
+      pub k : ℕ
+      pub u : ℕ
+      pub l : ℕ
+      pub edge : _≡_ {A = Edge} (a, b) (edgeAt t k)
+      pub point : v ≡ pointAt t u
+      pub gains : tables.Gains net t k u l g
+
+    on-tree : {u v : Place} {qs : List Place} → Reach net G (edgesIn t) false u v qs →
+        Point (net .pins) (edgesIn t) u × ((v ≡ u) × (qs ≡ []))
+    on-tree (inl h) = h .1
+    on-tree (inr h) = differ (h .0) refl
+
+    pub gain-of : (a b u v : Place) (qs : List Place) (e : Edge) (g : ℕ) → Gain net G (edgesIn t) false a b u v qs e g → ByNumber a b u e g
+    gain-of a b u v qs e g x =
+        let h = on-tree (x .candidate .reach) in
+        let r = edge-of t (a, b) (x .candidate .edge) in
+        let p = point-of u (h .0) in
+        let q = edge-of t e (x .cut .longest .step .edge) in
+        let y : Gain net G (edgesIn t) false a b u u [] e g
+        = subst (λ (z : List Place). Gain net G (edgesIn t) false a b u u z e g) (h .1 .1)
+        (subst (λ (z : Place). Gain net G (edgesIn t) false a b u z qs e g) (h .1 .0) x) in
+        record {
+          k = r .0;
+          u = p .0;
+          l = q .0;
+          edge = r .1 .1;
+          point = p .1 .1;
+          gains =
+              gain-from (r .0) (p .0) (q .0) g (r .1 .0) (p .1 .0) (q .1 .0)
+              (subst (λ (z : Edge). Gain net G (edgesIn t) false (tables.endA t (r .0)) (tables.endB t (r .0)) (pointAt t (p .0))
+              (pointAt t (p .0)) [] z g) (q .1 .1)
+              (subst (λ (z : Place). Gain net G (edgesIn t) false (tables.endA t (r .0)) (tables.endB t (r .0)) z z [] e g) (p .1 .1)
+              (subst (λ (z : Edge). Gain net G (edgesIn t) false (z .0) (z .1) u u [] e g) (r .1 .1) y)));
+        }

@@ -6,7 +6,9 @@ pub mod InteriorLaws
 pub mod EdgeLaws
 pub mod SpanningOnly
 pub mod TerminalOnly
+pub mod BesideOnly
 pub mod RoundOnly
+pub mod ReachOurs
 pub mod PrunesOnly
 -- Every order
 pub mod TreesOrder
@@ -15,12 +17,15 @@ pub mod SpanningOurs
 pub mod TerminalOurs
 pub mod BestLaws
 pub mod GainOurs
+pub mod GainBeside
 pub mod RoundOurs
+pub mod RoundEdges
 pub mod PrunesOurs
 pub mod RefinesOurs
 pub mod RefinesTree
 pub mod RefinesFall
 pub mod StartOurs
+pub mod ChartsOurs
 pub mod RefinedOurs
 pub mod TreesOurs
 -- Wrong trees

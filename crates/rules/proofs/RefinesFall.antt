@@ -20,20 +20,20 @@ use Rattle.net.specs.Net.{Net, costIn}
 use Rattle.graph.specs.Edges.{beforeEdge}
 use Rattle.tree.specs.Table.{Tree}
 use Rattle.tree.specs.Places.{treeTotal}
-use Rattle.refiner.specs.Sentences.{foundIn, exchanged}
-use Rattle.refiner.proofs.WinnerLaws.{found-wins}
-use Rattle.refiner.proofs.TakesLaws.{found-takes}
-use Rattle.refiner.proofs.RoundSound.{round-falls}
+use Rattle.refiner.specs.Beside.{Ground}
+use Rattle.refiner.specs.Ready.{Ready}
+use Rattle.refiner.proofs.RoundSteps.{choiceIn}
+use Rattle.refiner.proofs.RoundReady.{round-onward}
 use Rattle.tree.specs.Edges.{treeEdges}
 use Rattle.refined.proofs.EdgeSound.{edges-ascending}
 use Rattle.tree.proofs.EdgeLaws.{edges-reversed, tree-total}
 use Rattle.rules.specs.Edges.{Edge, edgeBefore, Same}
 use Rattle.rules.specs.Refined.{Rounds, FallsThrough}
 use Rattle.rules.proofs.EdgeLaws.{edge-order, same-turn, same-then}
-use Rattle.rules.proofs.RoundOnly.{gain-same, takes-same, gains-one, round-only}
+use Rattle.rules.proofs.RoundOnly.{gain-same, takes-same, takes-only, round-only}
 use Rattle.rules.proofs.GainOurs.{edgesIn}
-use Rattle.rules.proofs.RoundOurs.{takes-ours}
-use Rattle.rules.proofs.RefinesOurs.{Fit, no-gain, some-gain, fit-next}
+use Rattle.rules.proofs.ReachOurs.{Charts, charts-lawful}
+use Rattle.rules.proofs.RefinesOurs.{nextIn, no-gain, some-gain, mine-gain}
 
 -- the edges of a tree from either end
 pub edges-same : (t : Tree) → Same (edgesIn t) (treeEdges t)
@@ -45,47 +45,42 @@ edges-same t = (
     reversed : reverse (treeEdges t) ≡ edgesIn t
     reversed = edges-reversed (t .points) (t .edges .keys) (t .edges .size)
 
-module _ {net : Net} where
-  tree-in-order : (m : ℕ) (t : Tree) → Fit net m t → Ascending edgeBefore (treeEdges t)
+module _ {net : Net} {G : List Edge} {g : Ground} (charts : Charts net G g) where
+  tree-in-order : (m : ℕ) (t : Tree) → Ready net g t m → Ascending edgeBefore (treeEdges t)
   unfolding beforeEdge
-  tree-in-order m t fit =
-      edges-ascending (t .points) (t .edges .keys) (t .count) (fit .sound .ordered) (fit .sound .within) (t .edges .size) (fit .ranked)
-      (t .edges .size) 0 (omega arith)
+  tree-in-order m t ready =
+      edges-ascending (t .points) (t .edges .keys) (t .count) (ready .sound .ordered) (ready .sound .within) (t .edges .size)
+      (ready .ranked) (t .edges .size) 0 (omega arith)
 
   -- an ascending list of a table's edges has their sum
-  sum-is : (m : ℕ) (t : Tree) → Fit net m t → (T : List Edge) → Ascending edgeBefore T → Same (edgesIn t) T → lengths (costIn net) T
+  sum-is : (m : ℕ) (t : Tree) → Ready net g t m → (T : List Edge) → Ascending edgeBefore T → Same (edgesIn t) T → lengths (costIn net) T
       ≡ treeTotal (net .weights) t
-  sum-is m t fit T o h =
+  sum-is m t ready T o h =
       let k = same-then (same-turn h) (edges-same t) in
-      ap (lengths (costIn net)) (ascending-same edgeBefore edge-order T (treeEdges t) o (tree-in-order m t fit) (k .0) (k .1)) ∙
+      ap (lengths (costIn net)) (ascending-same edgeBefore edge-order T (treeEdges t) o (tree-in-order m t ready) (k .0) (k .1)) ∙
       tree-total (net .weights) t
 
-  tables-fall : (m : ℕ) (t : Tree) → Fit net (suc m) t → (foundIn net t .gain ≡ 0 → ⊥) →
-      treeTotal (net .weights) (exchanged net t) + foundIn net t .gain
-      ≡ treeTotal (net .weights) t
-  tables-fall m t fit some =
-      let few = fit .few in
-      let win = found-wins (net .weights) (net .macros) (t .points) (t .count) (t .edges .keys) (t .edges .size) (omega arith) in
-      round-falls net (t .points) (t .count) (t .edges .keys) (omega arith) (fit .room) (fit .rooms) (foundIn net t) (t .edges .size)
-      (fit .sound) win
-
-  pub rounds-fall : (m : ℕ) (t : Tree) → Fit net m t → (T U : List Edge) → Same (edgesIn t) T →
-      (r : Rounds net m T U) → FallsThrough net m T U r
-  rounds-fall zero t fit T U h r = tt
-  rounds-fall (suc m) t fit T U h (inl r) = tt
-  rounds-fall (suc m) t fit T U h (inr (X, (r, more))) =
-      by (eqb (foundIn net t .gain) 0)
-      (λ q. absurd (no-gain (suc m) t fit (eqb-true _ _ q) (r .a) (r .b) (r .u) (r .l) (r .g) (gain-same (same-turn h) (r .takes .taken))))
+  pub rounds-fall : (m : ℕ) (t : Tree) → Ready net g t m → (T U : List Edge) → Same (edgesIn t) T →
+      (r : Rounds net G m T U) → FallsThrough net G m T U r
+  rounds-fall zero t ready T U h r = tt
+  rounds-fall (suc m) t ready T U h (inl r) = tt
+  rounds-fall (suc m) t ready T U h (inr (X, (r, more))) =
+      by (eqb (choiceIn net g t .gain) 0)
       (λ q.
-      let some : foundIn net t .gain ≡ 0 → ⊥ = eqb-false _ _ q in
-      let cuts = tree-cuts place-same (fit .sound .whole) in
-      let next = round-only cuts h (some-gain m t fit some) r in
-      let few = fit .few in
-      let mine = takes-ours t (fit .sound) (fit .ranked) (foundIn net t) (found-takes net t (fit .sound) (omega arith)) (omega arith) in
-      let g : r .g ≡ foundIn net t .gain = gains-one cuts mine (takes-same (same-turn h) (r .takes)) in (
-        λ before after o p s u.
-            let old = sum-is (suc m) t fit before o (same-then h s) in
-            let new = sum-is m (exchanged net t) (fit-next m t fit some) after p (same-then next u) in
-            omega (arith, old, new, g, tables-fall m t fit some),
-        rounds-fall m (exchanged net t) (fit-next m t fit some) X U next more,
+      absurd (no-gain charts m t ready (eqb-true _ _ q) (r .k) (r .a) (r .b) (r .u) (r .v) (r .qs) (r .l) (r .g)
+      (gain-same (same-turn h) (r .takes .taken))))
+      (λ q.
+      let some : choiceIn net g t .gain ≡ 0 → ⊥ = eqb-false _ _ q in
+      let law = charts-lawful charts t (ready .sound) in
+      let cuts = tree-cuts place-same (ready .sound .whole) in
+      let mine = some-gain charts m t ready some in
+      let next = round-only law cuts h mine r in
+      let o = round-onward net g t m ready some in
+      let same = takes-only law cuts (mine .takes) (takes-same (same-turn h) (r .takes)) .gains in
+      let gain = mine-gain charts m t ready some in (
+        λ before after p s v w.
+            let old = sum-is (suc m) t ready before p (same-then h v) in
+            let new = sum-is m (nextIn charts t) (o .ready) after s (same-then next w) in
+            omega (arith, old, new, same, gain, o .falls),
+        rounds-fall m (nextIn charts t) (o .ready) X U next more,
       ))

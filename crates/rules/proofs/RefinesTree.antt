@@ -20,14 +20,17 @@ use Rattle.joined.proofs.OneTreeLaws.{tree-one}
 use Rattle.net.specs.Net.{Net}
 use Rattle.tree.specs.Table.{Tree}
 use Rattle.tree.specs.Places.{pointsOf, Sound}
-use Rattle.refiner.specs.Sentences.{foundIn, exchanged}
+use Rattle.refiner.specs.Beside.{Ground}
+use Rattle.refiner.specs.Ready.{Ready}
+use Rattle.refiner.proofs.RoundSteps.{choiceIn}
 use Rattle.tree.proofs.ListingLaws.{in-listing}
 use Rattle.rules.specs.Edges.{Edge, Same}
 use Rattle.rules.specs.Refined.{Rounds, TreesThrough}
 use Rattle.rules.proofs.EdgeLaws.{same-turn}
 use Rattle.rules.proofs.RoundOnly.{point-same, gain-same, round-only}
 use Rattle.rules.proofs.GainOurs.{edgesIn, edge-of}
-use Rattle.rules.proofs.RefinesOurs.{Fit, no-gain, some-gain, fit-next}
+use Rattle.rules.proofs.ReachOurs.{Charts, charts-lawful}
+use Rattle.rules.proofs.RefinesOurs.{nextIn, no-gain, some-gain, ready-next}
 
 -- one tree, by whichever list of the same edges
 one-tree-same : (ps : List Place) {T U : List Edge} → Same T U → OneTree ps T → OneTree ps U
@@ -48,16 +51,20 @@ sound-tree {net} t s = tree-one place-same (s .whole) inside (net .pins) (s .pin
           Memᴰ·cast (seconds (r .1 .1)) (in-listing (placeAt (t .points)) (t .count) _ (s .within .ends (r .0) .1)),
         )
 
-pub rounds-trees : {net : Net} (m : ℕ) (t : Tree) → Fit net m t → (T U : List Edge) → Same (edgesIn t) T →
-    (r : Rounds net m T U) → TreesThrough net m T U r
-rounds-trees {net} zero t fit T U h r = one-tree-same (net .pins) h (sound-tree t (fit .sound))
-rounds-trees {net} (suc m) t fit T U h (inl r) = one-tree-same (net .pins) h (sound-tree t (fit .sound))
-rounds-trees {net} (suc m) t fit T U h (inr (X, (r, more))) = (
-  one-tree-same (net .pins) h (sound-tree t (fit .sound)),
-  by (eqb (foundIn net t .gain) 0)
-      (λ q. absurd (no-gain (suc m) t fit (eqb-true _ _ q) (r .a) (r .b) (r .u) (r .l) (r .g) (gain-same (same-turn h) (r .takes .taken))))
-      (λ q.
-      let some : foundIn net t .gain ≡ 0 → ⊥ = eqb-false _ _ q in
-      rounds-trees m (exchanged net t) (fit-next m t fit some) X U
-      (round-only (tree-cuts place-same (fit .sound .whole)) h (some-gain m t fit some) r) more),
-)
+module _ {net : Net} {G : List Edge} {g : Ground} (charts : Charts net G g) where
+  pub rounds-trees : (m : ℕ) (t : Tree) → Ready net g t m → (T U : List Edge) → Same (edgesIn t) T →
+      (r : Rounds net G m T U) → TreesThrough net G m T U r
+  rounds-trees zero t ready T U h r = one-tree-same (net .pins) h (sound-tree t (ready .sound))
+  rounds-trees (suc m) t ready T U h (inl r) = one-tree-same (net .pins) h (sound-tree t (ready .sound))
+  rounds-trees (suc m) t ready T U h (inr (X, (r, more))) = (
+    one-tree-same (net .pins) h (sound-tree t (ready .sound)),
+    by (eqb (choiceIn net g t .gain) 0)
+        (λ q.
+        absurd (no-gain charts m t ready (eqb-true _ _ q) (r .k) (r .a) (r .b) (r .u) (r .v) (r .qs) (r .l) (r .g)
+        (gain-same (same-turn h) (r .takes .taken))))
+        (λ q.
+        let some : choiceIn net g t .gain ≡ 0 → ⊥ = eqb-false _ _ q in
+        rounds-trees m (nextIn charts t) (ready-next charts m t ready some) X U
+        (round-only (charts-lawful charts t (ready .sound)) (tree-cuts place-same (ready .sound .whole)) h (some-gain charts m t ready some) r)
+        more),
+  )

@@ -2,9 +2,9 @@
 -- `After` says so.
 -- Assumes nothing.
 use mathlib.Core.Path.{_≡_, refl, sym, ap, ap₂, _∙_, subst}
-use mathlib.Core.Bool.{true, false}
+use mathlib.Core.Bool.{Bool, true, false}
 use mathlib.Core.Logic.{_⊎_, inl, inr, _↔_}
-use mathlib.Core.List.{List, Memᴰ·cast}
+use mathlib.Core.List.{List, [], _∷_, Memᴰ·cast}
 use Prim.Native.Nat.{ℕ, zero, suc, _*_, _≤_, _<_}
 use native.Mathlib.Omega.{arith}
 use lib.Dec.{ltb, eqb}
@@ -12,6 +12,7 @@ use lib.IntN.{ℤ}
 use lib.ListN.{length, getD}
 use borrow.Author.Tests.{ltb-true, ltb-false, eqb-true, eqb-false}
 use Rattle.lists.specs.Member.{_∈_}
+use Rattle.lists.specs.Sorted.{firstThen}
 use Rattle.lists.proofs.TestLaws.{by, differ, either}
 use Rattle.plane.specs.declared.Place.{Place}
 use Rattle.plane.specs.Place.{before}
@@ -20,24 +21,28 @@ use Rattle.plane.proofs.PlaceOrder.{place-order}
 use Rattle.joined.specs.Joined.{Link}
 use Rattle.joined.proofs.JoinedLaws.{firsts, seconds}
 use Rattle.net.specs.Net.{Net}
-use Rattle.refiner.specs.declared.Best.{Best}
 use Rattle.tree.specs.Table.{treeBound, key, firstEnd, secondEnd, Tree, tree, Within}
-use Rattle.refiner.specs.Exchange.{dropTwo, exchange}
 use Rattle.tree.specs.Sum.{below, sumOver}
 use Rattle.tree.specs.Places.{endsOf, edgesOf, Ranked, Sound}
-use Rattle.refiner.specs.Sentences as tables
 use Rattle.tree.proofs.SumLaws.{below-some, one, one-same, one-some, one-not, in-table, of-table}
+use Rattle.refiner.specs.declared.Best.{Best}
+use Rattle.refiner.specs.Candidate.{found}
+use Rattle.refiner.specs.Exchange.{dropTwo, exchange}
+use Rattle.refiner.specs.Sentences as tables
+use Rattle.refiner.specs.Beside.{Ground, labelsIn, parentsIn, seatsIn}
+use Rattle.refiner.specs.Ready.{vertexAt, Ready}
 use Rattle.refiner.proofs.ExchangeSums.{between, over-dropped}
 use Rattle.refiner.proofs.WithinLaws.{within-dropped}
 use Rattle.refiner.proofs.AfterLaws as moved
-use Rattle.refiner.proofs.ExchangeSound.{laid-after}
-use Rattle.refiner.proofs.WinnerLaws.{found-wins}
-use Rattle.refiner.proofs.RoundSound.{Won, taken, sized, exchange-laid, round-kept}
 use Rattle.refiner.proofs.TakesLaws.{found-takes}
+use Rattle.refiner.proofs.BesideWins.{LeadsOff, search-leads-off}
+use Rattle.refiner.proofs.RoundReady.{ready-roomy, el, top, on, off}
 use Rattle.rules.specs.Edges.{Edge, edgeBefore}
-use Rattle.rules.specs.Refined.{Lays, Takes, After, Round}
-use Rattle.rules.proofs.GainOurs.{not-after, edgesIn, pointAt, edgeAt, edge-in, edge-of, point-not, edge-not, edge-one, gain-to}
-use Rattle.rules.proofs.GainOurs.{gain-of}
+use Rattle.rules.specs.Refined.{Gain, onFirst, earlier, Lays, Takes}
+use Rattle.rules.proofs.GainOurs.{not-after, edgesIn, pointAt, edgeAt, edge-in, edge-of, point-not, edge-not, edge-one, edge-least}
+use Rattle.rules.proofs.GainOurs.{gain-to, gain-of}
+use Rattle.rules.proofs.ReachOurs.{Charts, vertex-not}
+use Rattle.rules.proofs.GainBeside.{joint, laid, off-to, off-of}
 
 -- "An edge is written smaller place first"
 pub upward : {net : Net} (t : Tree) → Sound net t → Ranked (t .edges .keys) (t .edges .size) →
@@ -50,30 +55,125 @@ upward t sound ranked e m =
 
 -- The candidate that is taken
 
-module _ {net : Net} (t : Tree) (sound : Sound net t) (ranked : Ranked (t .edges .keys) (t .edges .size))
-    (c : Best) (takes : tables.Takes net t c) (above : 0 < c .gain) where
-  pub takes-ours : Takes net (edgesIn t) (tables.endA t (c .edge)) (tables.endB t (c .edge)) (pointAt t (c .point)) (edgeAt t (c .cut))
-      (c .gain)
-  takes-ours = record {
-    taken = gain-to t sound ranked (c .edge) (c .point) (c .cut) (c .gain) mine;
-    greatest = λ a b v e g x. let r = gain-of t sound ranked a b v e g x in takes .greatest (r .k) (r .u) (r .l) g (r .gains);
-    first =
-        λ a b v e x.
-        let r = gain-of t sound ranked a b v e (c .gain) x in
-        subst (λ (z : Edge). edgeBefore z (edgeAt t (c .edge)) ≡ false) (sym (r .edge))
-        (edge-not t sound ranked (c .edge) (r .k) (takes .smallest (r .k) (r .u) (r .l) (c .gain) (r .gains) refl .0)
-        (r .gains .candidate .edge));
-    smallest =
-        λ v e x.
-        let r = gain-of t sound ranked _ _ v e (c .gain) x in
-        let q : c .edge ≡ r .k = edge-one t sound ranked (c .edge) (r .k) (mine .candidate .edge) (r .gains .candidate .edge) (r .edge) in
-        subst (λ (z : Place). before z (pointAt t (c .point)) ≡ false) (sym (r .point))
-        (point-not t sound ranked (c .point) (r .u)
-        (takes .smallest (r .k) (r .u) (r .l) (c .gain) (r .gains) refl .1 (omega (arith, q))) (r .gains .candidate .point));
+-- of the same kind, by edge and then by place
+kind-first : (k : Bool) (e f : Edge) (w u : Place) → edgeBefore e f ≡ false → (edgeBefore f e ≡ false → before w u ≡ false) →
+    earlier (k, (e, w)) (k, (f, u)) ≡ false
+unfolding firstThen onFirst
+kind-first true e f w u p q =
+    by (edgeBefore f e) (λ t. rw (firstThen, p, t) refl) (λ t. rw (firstThen, p, t) (q t))
+kind-first false e f w u p q =
+    by (edgeBefore f e) (λ t. rw (firstThen, p, t) refl) (λ t. rw (firstThen, p, t) (q t))
+
+-- beside the tree comes after
+tree-first : (e f : Edge) (w u : Place) → earlier (true, (e, w)) (false, (f, u)) ≡ false
+unfolding firstThen onFirst
+tree-first e f w u = refl
+
+module _ {net : Net} {G : List Edge} {g : Ground} (charts : Charts net G g) (t : Tree) (m : ℕ) (ready : Ready net g t (suc m)) where
+  abbrev sound : Sound net t
+  sound = ready .sound
+
+  abbrev ranked : Ranked (t .edges .keys) (t .edges .size)
+  ranked = ready .ranked
+
+  pub few : t .count ≤ treeBound
+  few = omega (arith, ready-roomy net g t m ready .few)
+
+  abbrev pub found-on : Best
+  found-on = on net g t m ready
+
+  abbrev pub found-off : Best
+  found-off = off net g t m ready
+
+  on-takes : tables.Takes net t found-on
+  unfolding found
+  on-takes = found-takes net t sound few
+
+  leads : LeadsOff (net .weights) (net .macros) (t .points) (t .count) (t .edges .keys) (t .edges .size) (el net g t m ready)
+      (top net g t m ready) (g .places) (g .count) (labelsIn g t .fars) (parentsIn g t .ups) (seatsIn g t) (found-on .gain) found-off
+      (t .edges .size) 0
+  leads =
+      search-leads-off (net .weights) (net .macros) (t .points) (t .count) (t .edges .keys) (t .edges .size) (el net g t m ready)
+      (top net g t m ready) (g .places) (g .count) (labelsIn g t .fars) (parentsIn g t .ups) (seatsIn g t) (found-on .gain) found-on refl
+
+  -- no candidate on the tree gains more
+  pub on-most : (a b u v : Place) (qs : List Place) (e : Edge) (h : ℕ) → Gain net G (edgesIn t) false a b u v qs e h → h ≤ found-on .gain
+  on-most a b u v qs e h x =
+      let r = gain-of t sound ranked G a b u v qs e h x in on-takes .greatest (r .k) (r .u) (r .l) h (r .gains)
+
+  pub off-most : (a b u v : Place) (qs : List Place) (e : Edge) (h : ℕ) → Gain net G (edgesIn t) true a b u v qs e h → h ≤ found-off .gain
+  off-most a b u v qs e h x =
+      let r = off-of charts t sound ranked few a b u v qs e h x in
+      by (ltb (found-on .gain) h)
+      (λ q.
+      leads .most h (r .k) (r .i) (r .l) (ltb-true _ _ q) (r .wins) (omega (arith, r .wins .edge))
+      (λ z. absurd (let y : ⊥ = omega (arith, z, r .wins .edge) in y)) .0)
+      (λ q. omega (arith, ltb-false (found-on .gain) h q, leads .more))
+
+  -- on the tree
+  pub takes-on : 0 < found-on .gain → found-off .gain ≤ found-on .gain →
+      Takes net G (edgesIn t) false (tables.endA t (found-on .edge)) (tables.endB t (found-on .edge)) (pointAt t (found-on .point))
+      (pointAt t (found-on .point)) [] (edgeAt t (found-on .cut)) (found-on .gain)
+  takes-on above less = record {
+    taken = gain-to t sound ranked G (found-on .edge) (found-on .point) (found-on .cut) (found-on .gain) mine;
+    greatest = greatest;
+    first = first;
   }
     where
-      mine : tables.Gains net t (c .edge) (c .point) (c .cut) (c .gain)
-      mine = takes .taken above
+      mine : tables.Gains net t (found-on .edge) (found-on .point) (found-on .cut) (found-on .gain)
+      mine = on-takes .taken above
+
+      greatest : (j : Bool) (c d w x : Place) (rs : List Place) (e : Edge) (h : ℕ) → Gain net G (edgesIn t) j c d w x rs e h →
+          h ≤ found-on .gain
+      greatest false c d w x rs e h y = on-most c d w x rs e h y
+      greatest true c d w x rs e h y = omega (arith, off-most c d w x rs e h y, less)
+
+      first : (j : Bool) (c d w x : Place) (rs : List Place) (e : Edge) → Gain net G (edgesIn t) j c d w x rs e (found-on .gain) →
+          earlier (j, ((c, d), w)) (false, (edgeAt t (found-on .edge), pointAt t (found-on .point))) ≡ false
+      first true c d w x rs e y = tree-first (c, d) (edgeAt t (found-on .edge)) w (pointAt t (found-on .point))
+      first false c d w x rs e y =
+          let r = gain-of t sound ranked G c d w x rs e (found-on .gain) y in
+          let s = on-takes .smallest (r .k) (r .u) (r .l) (found-on .gain) (r .gains) refl in
+          kind-first false (c, d) (edgeAt t (found-on .edge)) w (pointAt t (found-on .point))
+          (subst (λ (z : Edge). edgeBefore z (edgeAt t (found-on .edge)) ≡ false) (sym (r .edge))
+          (edge-not t sound ranked (found-on .edge) (r .k) (s .0) (r .gains .candidate .edge)))
+          (λ q.
+          subst (λ (z : Place). before z (pointAt t (found-on .point)) ≡ false) (sym (r .point))
+          (point-not t sound ranked (found-on .point) (r .u)
+          (s .1 (edge-least t sound ranked (r .k) (found-on .edge) (r .gains .candidate .edge)
+          (subst (λ (z : Edge). edgeBefore (edgeAt t (found-on .edge)) z ≡ false) (r .edge) q))) (r .gains .candidate .point)))
+
+  -- beside it
+  pub takes-off : found-on .gain < found-off .gain →
+      Takes net G (edgesIn t) true (tables.endA t (found-off .edge)) (tables.endB t (found-off .edge)) (vertexAt g (found-off .point))
+      (joint charts t sound ranked few (found-off .point)) (laid charts t sound ranked few (found-off .point)) (edgeAt t (found-off .cut))
+      (found-off .gain)
+  takes-off more = record {
+    taken = off-to charts t sound ranked few (found-off .gain) (found-off .edge) (found-off .point) (found-off .cut) (omega arith) (leads .wins more);
+    greatest = greatest;
+    first = first;
+  }
+    where
+      greatest : (j : Bool) (c d w x : Place) (rs : List Place) (e : Edge) (h : ℕ) → Gain net G (edgesIn t) j c d w x rs e h →
+          h ≤ found-off .gain
+      greatest false c d w x rs e h y = omega (arith, on-most c d w x rs e h y, more)
+      greatest true c d w x rs e h y = off-most c d w x rs e h y
+
+      first : (j : Bool) (c d w x : Place) (rs : List Place) (e : Edge) → Gain net G (edgesIn t) j c d w x rs e (found-off .gain) →
+          earlier (j, ((c, d), w)) (true, (edgeAt t (found-off .edge), vertexAt g (found-off .point))) ≡ false
+      first false c d w x rs e y = absurd (let z : ⊥ = omega (arith, on-most c d w x rs e (found-off .gain) y, more) in z)
+      first true c d w x rs e y =
+          let r = off-of charts t sound ranked few c d w x rs e (found-off .gain) y in
+          let s = leads .most (found-off .gain) (r .k) (r .i) (r .l) more (r .wins) (omega (arith, r .wins .edge))
+          (λ z. absurd (let y : ⊥ = omega (arith, z, r .wins .edge) in y)) .1 refl in
+          kind-first true (c, d) (edgeAt t (found-off .edge)) w (vertexAt g (found-off .point))
+          (subst (λ (z : Edge). edgeBefore z (edgeAt t (found-off .edge)) ≡ false) (sym (r .edge))
+          (edge-not t sound ranked (found-off .edge) (r .k) (s .0) (r .wins .edge)))
+          (λ q.
+          subst (λ (z : Place). before z (vertexAt g (found-off .point)) ≡ false) (sym (r .vertex))
+          (vertex-not charts t sound (found-off .point) (r .i)
+          (s .1 (edge-least t sound ranked (r .k) (found-off .edge) (r .wins .edge)
+          (subst (λ (z : Edge). edgeBefore (edgeAt t (found-off .edge)) z ≡ false) (r .edge) q))) (r .wins .vertex)))
 
 -- Each key once
 
@@ -109,7 +209,7 @@ module _ {pts : List ℤ} {n : ℕ} {ks : List ℕ} {e k l a b u p : ℕ} {s : P
   abbrev T : List Edge
   T = edgesOf pts ks (suc (suc e))
 
-  abbrev Outcome : Edge → Type 0
+  abbrev pub Outcome : Edge → Type 0
   Outcome x =
       ((x ∈ T) × ((x ≡ endsOf pts (getD ks k 0) → ⊥) × (x ≡ endsOf pts (getD ks l 0) → ⊥))) ⊎
       (Lays s (placeAt pts a) x ⊎ (Lays s (placeAt pts b) x ⊎ Lays s (placeAt pts u) x))
@@ -224,55 +324,3 @@ module _ {pts : List ℤ} {n : ℕ} {ks : List ℕ} {e k l a b u p : ℕ} {s : P
 
   pub of-after : (x : Edge) → x ∈ edgesIn t → Outcome x
   of-after x i = let r = edge-of t x i in subst Outcome (sym (r .1 .1)) (at-key (r .0) (r .1 .0))
-
--- The round
-
-module _ {net : Net} (pts : List ℤ) (n : ℕ) (ks : List ℕ) (few : n < treeBound)
-    (room : length pts ≡ treeBound * 2)
-    (rooms : length ks ≡ treeBound) (c : Best) (above : 0 < c .gain) where
-  round-at : (e : ℕ) → Sound net (tree pts n ks e) → Ranked ks e → Won net pts n ks few room rooms e c →
-      tables.Takes net (tree pts n ks e) c →
-      Round net (edgesOf pts ks e) (edgesIn (exchange c pts n ks e))
-  round-at zero sound ranked win takes = absurd (let z : ⊥ = omega (arith, win .edge) in z)
-  round-at (suc zero) sound ranked win takes =
-      let t = taken net pts n ks 0 sound few (c .gain) (c .edge) (c .point) (c .cut) win in
-      absurd (win .two (let z : c .cut ≡ c .edge = omega (arith, t .edge, t .cut) in z))
-  round-at (suc (suc e)) sound ranked win takes =
-      let before = tree pts n ks (suc (suc e)) in
-      let t = taken net pts n ks (suc e) sound few (c .gain) (c .edge) (c .point) (c .cut) win in
-      let s = sized net pts n ks (suc e) sound few (c .gain) (c .edge) (c .point) (c .cut) win in
-      let kept = round-kept net pts n ks few room rooms c (suc (suc e)) sound win in
-      let q = exchange-laid net pts n ks few room rooms c e in
-      let laid = laid-after net pts n ks e (c .edge) (c .cut) (c .point) sound t few (omega arith) (omega (arith, s)) in
-      let up = upward _ (subst (Sound net) q (kept .sound))
-      (subst (λ (z : Tree). Ranked (z .edges .keys) (z .edges .size)) q (kept .ranked ranked)) in
-      let one-key = edge-one before sound ranked in
-      record {
-        a = tables.endA before (c .edge);
-        b = tables.endB before (c .edge);
-        u = pointAt before (c .point);
-        l = edgeAt before (c .cut);
-        g = c .gain;
-        takes = takes-ours before sound ranked c takes above;
-        edges =
-            λ x.
-            subst (λ (z : Tree). _↔_ (x ∈ edgesIn z) (After (edgesIn before) (tables.endA before (c .edge)) (tables.endB before (c .edge))
-            (pointAt before (c .point)) (edgeAt before (c .cut)) x)) (sym q) (
-              of-after (laid .1) (sound .within) (t .edge) (t .cut) (t .two) (sound .within .ends (c .edge) .0)
-                  (sound .within .ends (c .edge) .1)
-                  (t .point) (ranked .rising) one-key up x,
-              in-after (laid .1) (sound .within) (t .edge) (t .cut) (t .two) (sound .within .ends (c .edge) .0)
-                  (sound .within .ends (c .edge) .1)
-                  (t .point) (ranked .rising) one-key up x,
-            );
-      }
-
--- where the greatest gain is above zero, the exchange of the tables is the round
-pub round-ours : {net : Net} (t : Tree) → Sound net t → Ranked (t .edges .keys) (t .edges .size) → t .count
-    < treeBound →
-    length (t .points) ≡ treeBound * 2 → length (t .edges .keys) ≡ treeBound → 0 < tables.foundIn net t .gain →
-    Round net (edgesIn t) (edgesIn (tables.exchanged net t))
-round-ours {net} t sound ranked few room rooms above =
-    round-at (t .points) (t .count) (t .edges .keys) few room rooms (tables.foundIn net t) above (t .edges .size) sound ranked
-    (found-wins (net .weights) (net .macros) (t .points) (t .count) (t .edges .keys) (t .edges .size) above)
-    (found-takes net t sound (omega arith))

@@ -2,8 +2,9 @@
 -- the macros have and what is clear, and of nothing else of the two lists. So a solution for one order is one for every other.
 -- Assumes nothing.
 use mathlib.Core.Path.{_≡_, sym, _∙_, subst}
+use mathlib.Core.Bool.{Bool}
 use mathlib.Core.Logic.{inl, inr}
-use mathlib.Core.List.{List}
+use mathlib.Core.List.{List, [], _∷_}
 use Prim.Native.Nat.{ℕ, zero, suc}
 use lib.ListN.{length}
 use Rattle.lists.specs.Member.{Among}
@@ -18,7 +19,7 @@ use Rattle.graph.specs.Spanning.{spanning}
 use Rattle.rules.specs.Edges.{Edge}
 use Rattle.rules.specs.Spanning.{Vertex, Quadrant, May, Picks, Neighbours, Spanning}
 use Rattle.rules.specs.Terminal.{Path, Root, Through, Parent, Up, arrived, upward, Bridge, Terminal}
-use Rattle.rules.specs.Refined.{Gain, Round, Rounds, Loose, Strips, same, strip, Refines}
+use Rattle.rules.specs.Refined.{Lowest, Beside, Reach, Gain, Round, Rounds, Loose, Strips, same, strip, Refines}
 use Rattle.rules.specs.Trees.{Trees}
 
 -- the net of these pins, macros and weights
@@ -140,19 +141,43 @@ point-in : {ps qs : List Place} {T : List Edge} → Among ps qs → (v : Place) 
 point-in h v (inl m) = inl (h v m)
 point-in h v (inr l) = inr l
 
-gain-in : {W : Weights} {ps qs : List Place} {ms ns : List Macro} {T : List Edge} → SameNet W ps qs ms ns →
-    (a b u : Place) (l : Edge) (g : ℕ) →
-    Gain (netBy W ps ms) T a b u l g → Gain (netBy W qs ns) T a b u l g
-gain-in h a b u l g x =
+lowest-in : (W : Weights) (ps qs : List Place) (ms ns : List Macro) (G : List Edge) (x : Place) (l : List Place) (v : Place) →
+    Lowest (netBy W ps ms) G x l v → Lowest (netBy W qs ns) G x l v
+lowest-in W ps qs ms ns G x [] v h = h
+lowest-in W ps qs ms ns G x (y ∷ l) v h = (λ z rs s. h .0 z rs s, lowest-in W ps qs ms ns G y l v (h .1))
+
+beside-in : {W : Weights} {G : List Edge} {ps qs : List Place} {ms ns : List Macro} {T : List Edge} → SameNet W ps qs ms ns →
+    {u v : Place} {l : List Place} → Beside (netBy W ps ms) G T u v l → Beside (netBy W qs ns) G T u v l
+beside-in {W} {G} {ps} {qs} {ms} {ns} h {u} {v} {l} b = record {
+  vertex = vertex-in h u (b .vertex);
+  off = λ p. b .off (point-in (h .from) u p);
+  point = point-in (h .to) v (b .point);
+  itself = vertex-in h v (b .itself);
+  way = b .way;
+  nearest = λ w rs p i. b .nearest w rs (point-in (h .from) w p) (vertex-in (turned h) w i);
+  smallest = λ w rs p i. b .smallest w rs (point-in (h .from) w p) (vertex-in (turned h) w i);
+  lowest = lowest-in W ps qs ms ns G u l v (b .lowest);
+}
+
+reach-in : {W : Weights} {G : List Edge} {ps qs : List Place} {ms ns : List Macro} {T : List Edge} → SameNet W ps qs ms ns →
+    {k : Bool} {u v : Place} {l : List Place} → Reach (netBy W ps ms) G T k u v l → Reach (netBy W qs ns) G T k u v l
+reach-in h {u = u} (inl (e, (p, f))) = inl (e, (point-in (h .to) u p, f))
+reach-in h (inr (e, b)) = inr (e, beside-in h b)
+
+gain-in : {W : Weights} {G : List Edge} {ps qs : List Place} {ms ns : List Macro} {T : List Edge} → SameNet W ps qs ms ns →
+    (k : Bool) (a b u v : Place) (rs : List Place) (l : Edge) (g : ℕ) →
+    Gain (netBy W ps ms) G T k a b u v rs l g → Gain (netBy W qs ns) G T k a b u v rs l g
+gain-in h k a b u v rs l g x =
     let c = x .candidate in
     record {
       candidate = record {
         edge = c .edge;
-        point = point-in (h .to) u (c .point);
+        reach = reach-in h (c .reach);
         notFirst = c .notFirst;
         notSecond = c .notSecond;
         seen = either (λ q. inl (sym (h .clears u a) ∙ q)) (λ q. inr (sym (h .clears u b) ∙ q)) (c .seen);
-        kept = λ v p. c .kept v (point-in (h .from) v p);
+        kept = λ w p. c .kept w (point-in (h .from) w p);
+        away = c .away;
       };
       cut = record {
         way = x .cut .way;
@@ -166,29 +191,32 @@ gain-in h a b u l g x =
       above = x .above;
     }
 
-round-in : {W : Weights} {ps qs : List Place} {ms ns : List Macro} {T U : List Edge} → SameNet W ps qs ms ns →
-    Round (netBy W ps ms) T U → Round (netBy W qs ns) T U
+round-in : {W : Weights} {G : List Edge} {ps qs : List Place} {ms ns : List Macro} {T U : List Edge} → SameNet W ps qs ms ns →
+    Round (netBy W ps ms) G T U → Round (netBy W qs ns) G T U
 round-in h r = record {
+  k = r .k;
   a = r .a;
   b = r .b;
   u = r .u;
+  v = r .v;
+  qs = r .qs;
   l = r .l;
   g = r .g;
   takes = record {
-    taken = gain-in h (r .a) (r .b) (r .u) (r .l) (r .g) (r .takes .taken);
-    greatest = λ c d v k f x. r .takes .greatest c d v k f (gain-in (turned h) c d v k f x);
-    first = λ c d v k x. r .takes .first c d v k (gain-in (turned h) c d v k (r .g) x);
-    smallest = λ v k x. r .takes .smallest v k (gain-in (turned h) (r .a) (r .b) v k (r .g) x);
+    taken = gain-in h (r .k) (r .a) (r .b) (r .u) (r .v) (r .qs) (r .l) (r .g) (r .takes .taken);
+    greatest = λ j c d w y rs k f x. r .takes .greatest j c d w y rs k f (gain-in (turned h) j c d w y rs k f x);
+    first = λ j c d w y rs k x. r .takes .first j c d w y rs k (gain-in (turned h) j c d w y rs k (r .g) x);
   };
   edges = r .edges;
 }
 
-rounds-in : {W : Weights} {ps qs : List Place} {ms ns : List Macro} → SameNet W ps qs ms ns →
-    (m : ℕ) (T U : List Edge) → Rounds (netBy W ps ms) m T U →
-    Rounds (netBy W qs ns) m T U
-rounds-in h zero T U r = r
-rounds-in h (suc m) T U (inl r) = inl (λ a b u l g x. r .0 a b u l g (gain-in (turned h) a b u l g x), r .1)
-rounds-in h (suc m) T U (inr (X, (r, more))) = inr (X, (round-in h r, rounds-in h m X U more))
+rounds-in : {W : Weights} {ps qs : List Place} {ms ns : List Macro} (G : List Edge) → SameNet W ps qs ms ns →
+    (m : ℕ) (T U : List Edge) → Rounds (netBy W ps ms) G m T U →
+    Rounds (netBy W qs ns) G m T U
+rounds-in G h zero T U r = r
+rounds-in G h (suc m) T U (inl r) =
+    inl (λ k a b u v rs l g x. r .0 k a b u v rs l g (gain-in (turned h) k a b u v rs l g x), r .1)
+rounds-in G h (suc m) T U (inr (X, (r, more))) = inr (X, (round-in h r, rounds-in G h m X U more))
 
 loose-in : {W : Weights} {ps qs : List Place} {ms ns : List Macro} {T : List Edge} → Among qs ps →
     (v : Place) (e : Edge) → Loose (netBy W ps ms) T v e → Loose (netBy W qs ns) T v e
@@ -199,11 +227,11 @@ strips-in : {W : Weights} {ps qs : List Place} {ms ns : List Macro} {T R : List 
 strips-in h (same k) = same k
 strips-in h (strip v e l k s) = strip v e (loose-in h v e l) k (strips-in h s)
 
-refines-in : {W : Weights} {ps qs : List Place} {ms ns : List Macro} {T R : List Edge} → SameNet W ps qs ms ns →
-    Refines (netBy W ps ms) T R → Refines (netBy W qs ns) T R
-refines-in {W} {ps} {qs} {ms} {ns} {T} {R} h r = record {
+refines-in : {W : Weights} {G : List Edge} {ps qs : List Place} {ms ns : List Macro} {T R : List Edge} → SameNet W ps qs ms ns →
+    Refines (netBy W ps ms) G T R → Refines (netBy W qs ns) G T R
+refines-in {W} {G} {ps} {qs} {ms} {ns} {T} {R} h r = record {
   rounded = r .rounded;
-  rounds = subst (λ (m : ℕ). Rounds (netBy W qs ns) m T (r .rounded)) (h .count) (rounds-in h (length ps) T (r .rounded) (r .rounds));
+  rounds = subst (λ (m : ℕ). Rounds (netBy W qs ns) G m T (r .rounded)) (h .count) (rounds-in G h (length ps) T (r .rounded) (r .rounds));
   prunes = record {
     strips = strips-in (h .from) (r .prunes .strips);
     none = λ v e l. r .prunes .none v e (loose-in (h .to) v e l);

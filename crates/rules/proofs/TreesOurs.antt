@@ -12,6 +12,7 @@ use Rattle.graph.specs.Spanning.{verticesOf, spanning}
 use Rattle.refiner.specs.Refined.{refined}
 use Rattle.union.specs.Union.{unionOf}
 use Rattle.tree.specs.Edges.{treeEdges}
+use Rattle.refined.specs.Ground.{groundOf}
 use Rattle.rules.specs.Edges.{Edge}
 use Rattle.rules.specs.Terminal.{Path, Terminal}
 use Rattle.rules.specs.Refined.{Refined}
@@ -23,7 +24,7 @@ use Rattle.rules.proofs.RefinedOurs.{refined-ours, refined-only}
 
 module _ {net : Net} (a : Allowed net) where
   abbrev ours : List Edge
-  ours = treeEdges (refined net (unionOf net))
+  ours = treeEdges (refined net (groundOf net) (unionOf net))
 
   pub trees-ours : Trees net (verticesOf net) (spanning net) (ourPaths a) ours
   trees-ours = record { spanning = graph-ours net; terminal = terminal-ours a; refined = refined-ours a }
@@ -38,7 +39,9 @@ module _ {net : Net} (a : Allowed net) where
         vertices = g .0;
         edges = g .1;
         paths = k;
-        refined = refined-only a rs (subst (λ (l : List Path). Refined net l rs) k (t .refined));
+        refined =
+            refined-only a rs
+            (subst (λ (l : List Path). Refined net (spanning net) l rs) k (subst (λ (l : List Edge). Refined net l ks rs) (g .1) (t .refined)));
       }
 
 -- So the trees of two nets that have the same pins, macros and weights are the same.

@@ -35,6 +35,8 @@ use Rattle.rules.specs.Trees.{Trees}
 use Rattle.rules.proofs.SpanningOurs.{graph-only}
 use Rattle.rules.proofs.TerminalOurs.{paths-given}
 use Rattle.rules.proofs.TreesOurs.{trees-only}
+use Rattle.refined.specs.Ground.{groundOf}
+use Rattle.refiner.specs.Beside.{offer, isPoint, takeSeat, weighed}
 
 abbrev at : ℕ → ℕ → Place
 at x y = place (pos x) (pos y)
@@ -137,12 +139,12 @@ other-side vs es rs k b t =
 module _ {vs : List Place} {es : List Edge} {ks : List Path} where
   -- E4, `keeps` and `union`: no edge at all
   pub no-edge : Trees three vs es ks [] → ⊥
-  unfolding answer treeIn union refinedOf lengths edgesFrom distance
+  unfolding answer treeIn union refinedOf lengths edgesFrom distance groundOf offer isPoint takeSeat weighed
   no-edge t = let e : _≡_ {A = ℕ} 0 7 = ap (lengths distance) (trees-only three-allowed t .refined) in omega (arith, e)
 
   -- E4, `rounds`: no gain is reported without trying, so it is the union
   pub never-refined : Trees three vs es ks ((at 0 0, at 2 3) ∷ (at 0 0, at 4 0) ∷ []) → ⊥
-  unfolding answer treeIn union refinedOf lengths edgesFrom distance
+  unfolding answer treeIn union refinedOf lengths edgesFrom distance groundOf offer isPoint takeSeat weighed
   never-refined t = let e : _≡_ {A = ℕ} 9 7 = ap (lengths distance) (trees-only three-allowed t .refined) in omega (arith, e)
 
   -- E4, `in-order` of Refined: the right edges in another order
@@ -152,21 +154,21 @@ module _ {vs : List Place} {es : List Edge} {ks : List Path} where
 
   -- the cross, `rounds`: one round, and idle in the second
   pub one-round : Trees cross vs es ks ((at 0 1, at 1 1) ∷ (at 0 1, at 2 1) ∷ (at 1 0, at 1 1) ∷ (at 1 1, at 1 2) ∷ []) → ⊥
-  unfolding answer treeIn union refinedOf lengths edgesFrom distance
+  unfolding answer treeIn union refinedOf lengths edgesFrom distance groundOf offer isPoint takeSeat weighed
   one-round t = let e : _≡_ {A = ℕ} 5 4 = ap (lengths distance) (trees-only cross-allowed t .refined) in omega (arith, e)
 
   -- the bare corner, `none` of Prunes: (0, 2), no pin, stays with its single edge
   pub never-pruned : Trees bare vs es ks
       ((at 0 0, at 1 0) ∷ (at 0 2, at 1 2) ∷ (at 1 0, at 1 1) ∷ (at 1 1, at 1 2) ∷ (at 1 1, at 3 1) ∷ (at 1 2, at 1 3) ∷ []) → ⊥
-  unfolding answer treeIn union refinedOf lengths edgesFrom distance
+  unfolding answer treeIn union refinedOf lengths edgesFrom distance groundOf offer isPoint takeSeat weighed
   never-pruned t = let e : _≡_ {A = ℕ} 7 6 = ap (lengths distance) (trees-only bare-allowed t .refined) in omega (arith, e)
 
   -- `smallest` of Takes: of two points with the same gain the later one, though the tree is then shorter
   pub later-point : Trees tied vs es ks ((at 0 3, at 1 2) ∷ (at 1 0, at 1 2) ∷ (at 1 2, at 3 2) ∷ []) → ⊥
-  unfolding answer treeIn union refinedOf lengths edgesFrom distance
+  unfolding answer treeIn union refinedOf lengths edgesFrom distance groundOf offer isPoint takeSeat weighed
   later-point t = let e : _≡_ {A = ℕ} 6 7 = ap (lengths distance) (trees-only tied-allowed t .refined) in omega (arith, e)
 
   -- `above` of Gain: an exchange for nothing, though pruning then makes the tree shorter
   pub exchange-for-nothing : Trees even vs es ks ((at 0 3, at 1 2) ∷ (at 1 0, at 1 2) ∷ (at 1 2, at 2 2) ∷ []) → ⊥
-  unfolding answer treeIn union refinedOf lengths edgesFrom distance
+  unfolding answer treeIn union refinedOf lengths edgesFrom distance groundOf offer isPoint takeSeat weighed
   exchange-for-nothing t = let e : _≡_ {A = ℕ} 5 6 = ap (lengths distance) (trees-only even-allowed t .refined) in omega (arith, e)

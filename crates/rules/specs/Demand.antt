@@ -53,7 +53,7 @@ pub record RefinedTree (net : Net) (ks : List Path) (rs : List Edge) : Type 0 wh
   -- N16: each edge smaller place first, and edges in order, so none twice
   pub smaller-first : (e : Edge) → e ∈ rs → before (e .0) (e .1) ≡ true
   pub in-order : Ascending edgeBefore rs
-  -- D3g, R22: the total is at most our joining's
+  -- D3g: the total is at most our joining's
   pub no-longer : lengths (costIn net) rs ≤ total (map (pathCost net) ks)
   -- C65: fewer edges than n + m, so that 4(n + m) numbers hold them
   pub few : length rs < length (net .pins) + length (net .macros) * 4 + length (net .pins)

@@ -19,11 +19,12 @@
 --              Root, Parent, Up, Bridge         roots, parents and ways; what a bridge stands for
 --              Terminal net G ks                ks are the kept paths, in the order kept
 --   Refined    OnSome, Union                    an edge of one of the paths; the start
+--              Shortest, Lowest, Beside, Reach  a vertex beside the tree, the tree point that it is joined to, and the way
 --              Candidate, Cut, Gain, Takes      a candidate, its L and its gain; the one that a round takes
 --              After, Round, Rounds             which edges are there after a round; at most m of them
 --              TreesThrough, FallsThrough       the trees between are trees; each round makes them shorter by its gain
 --              Loose, Strips, Prunes            points that go, in any order, until there is none
---              Refined net ks rs                rs are the edges of the refined tree, in order
+--              Refined net G ks rs              rs are the edges of the refined tree, in order
 --   Trees      Trees net vs es ks rs            all three;  Equal: the same four lists
 --   Demand     BestJoining net G ks             D3 of the kept paths;  RefinedTree: D3 of the refined tree
 --

@@ -12,7 +12,7 @@ use Rattle.rules.specs.Refined.{Refined}
 pub record Trees (net : Net) (vs : List Place) (es : List Edge) (ks : List Path) (rs : List Edge) : Type 0 where
   pub spanning : Spanning net vs es
   pub terminal : Terminal net es ks
-  pub refined : Refined net ks rs
+  pub refined : Refined net es ks rs
 
 -- two such fours of lists are the same
 pub record Equal (vs ws : List Place) (es fs : List Edge) (ks js : List Path) (rs qs : List Edge) : Type 0 where

@@ -84,6 +84,15 @@ module _ (vs : List Place) where
           let r = of-outside qs y i in
           either (λ e. here e) (λ j. there (either (λ k. absurd (r .1 k)) (λ k. k) (in-outside ps y j))) (known y (r .0))
 
+  -- points that are known or were there bring none
+  pub outside-fewer : (ps qs : List Place) → Once qs → ((y : Place) → y ∈ qs → (y ∈ vs) ⊎ (y ∈ ps))
+      → length (outside vs qs) ≤ length (outside vs ps)
+  outside-fewer ps qs o known =
+      once-length (outside vs qs) (outside vs ps) (outside-once qs o)
+      (λ y i.
+      let r = of-outside qs y i in
+      either (λ k. absurd (r .1 k)) (λ j. either (λ k. absurd (r .1 k)) (λ k. k) (in-outside ps y j)) (known y (r .0)))
+
 -- Of a tree
 
 pub count-strangers : (vs : List Place) (t : Tree) → InOrder (t .points) (t .count) → t .count ≤ length vs + strangers vs t

@@ -46,7 +46,7 @@ pub record Ranked (ks : List ℕ) (e : ℕ) : Type 0 where
   pub upward : (i : ℕ) → i < e → firstEnd (getD ks i 0) < secondEnd (getD ks i 0)
   pub rising : (i j : ℕ) → i < j → j < e → getD ks i 0 < getD ks j 0
 
--- R22: the total, the costs of the edges added up
+-- C66: the total, the costs of the edges added up
 abbrev pub treeTotal : Weights → Tree → ℕ
 treeTotal w t = sumOver (keyCost w (t .points)) (t .edges .keys) (t .edges .size)
 

@@ -42,7 +42,7 @@ use Rattle.forest.specs.Setting.{ends}
 use Rattle.forest.proofs.EdgeLaws.{length-from}
 use Rattle.terminal.specs.Number.{edgeAt, numberOf, vertexAt, pinNumbers}
 use Rattle.terminal.specs.Tree.{graphOf, treeOf, totalOf}
-use Rattle.terminal.proofs.NumberLaws.{ascending-at, count-of, one-of, vertex-order, vertex-of-number, pin-number-in}
+use Rattle.terminal.proofs.NumberLaws.{vertex-in, ascending-at, count-of, one-of, vertex-order, vertex-of-number, pin-number-in}
 use Rattle.terminal.proofs.SettingOf.{setting, whole, edge-at, one-vertex, two-vertex}
 use Rattle.tree.specs.Table.{key, firstEnd, secondEnd, treeBound, Tree}
 use Rattle.tree.specs.Places.{endsOf, pointsOf, edgesOf, keyCost, InOrder, Ranked, Sound}
@@ -234,6 +234,14 @@ module _ {net : Net} (a : Allowed net) where
     free = edge-free;
     pinned = pin-stands;
   }
+
+  -- its points are vertices
+  pub union-vertices : Among (pointsOf (unionOf net .points) (unionOf net .count)) (verticesOf net)
+  unfolding unionOf startOf
+  union-vertices p m =
+      let r = of-listing (placeAt points) (length W) p m in
+      Memᴰ·cast (r .1 .1 ∙ point-at at g W E points-ascending room union-less one-at two-at (r .0) (r .1 .0))
+      (vertex-in vs (getD W (r .0) 0) (union-below (getD W (r .0) 0) (getD-in W (r .0) 0 (r .1 .0))))
 
   -- Its edges in order
 

@@ -28,13 +28,11 @@ use Rattle.terminal.specs.Number.{vertexAt, pinNumbers}
 use Rattle.terminal.specs.Tree.{graphOf, treeOf}
 use Rattle.terminal.specs.Tables.{Tables, Worked}
 use Rattle.terminal.proofs.SettingOf.{setting, paths-count}
-use Rattle.tree.specs.Table.{tree, Within, Tree as Table}
-use Rattle.tree.specs.Table as tables
 use Rattle.union.specs.Union.{unionPoints, startOf, unionOf}
 use Rattle.union.specs.Marks.{Startable}
 use Rattle.union.proofs.StartLaws.{map-agree}
 use Rattle.union.proofs.PlacedLaws.{place-at}
-use Rattle.union.proofs.UnionSound.{union-less, union-below, union-sound, union-room, union-size-is}
+use Rattle.union.proofs.UnionSound.{union-less, union-below}
 
 -- the start depends on the places of the union's points alone
 start-agree : (g : Graph) (fars : List ℕ) (p : Parents) (ks : List ℕ) (f h : ℕ → Place) (n : ℕ) (pins : List ℕ) →
@@ -84,15 +82,3 @@ module _ {net : Net} (a : Allowed net) {lent t : Tables} {r : TerminalTree} (w :
       (pinNumbers (verticesOf net) (net .pins))
       (λ v m.
       ap (λ (l : List ℤ). placeAt l v) (w .vertices-are) ∙ place-at (verticesOf net) (lent .points) v (union-below a v m)))
-
--- what the refiner asks of the tables that hold the union
-pub refinable : {net : Net} → Allowed net → (pts : List ℤ) (points : ℕ) (keys : List ℕ) (edges : ℕ) →
-    tree pts points keys edges ≡ unionOf net →
-    ((points + length (net .pins) ≤ tables.treeBound) × (edges + length (net .pins) ≤ tables.treeBound)) × Within points keys
-refinable {net} a pts points keys edges e =
-    let n : points ≡ unionOf _ .count = ap (λ (t : Table). t .count) e in
-    let m : edges ≡ unionOf _ .edges .size = ap (λ (t : Table). t .edges .size) e in
-    let k : keys ≡ unionOf _ .edges .keys = ap (λ (t : Table). t .edges .keys) e in (
-      (omega (arith, n, union-room a), omega (arith, n, m, union-room a, union-size-is a)),
-      rw (n, k) (union-sound a .within),
-    )

@@ -1,6 +1,5 @@
 -- `refiner::refine` meets its contract: the rounds, then the pruning, then the sum.
 -- Assumes nothing.
-use mathlib.Core.Path.{_≡_, sym, _∙_}
 use native.Mathlib.Omega.{arith}
 use Rattle.net.proofs.PinLaws.{length-pins}
 use Rattle.refiner.proofs.PruneLaws.{answer-is}
@@ -9,43 +8,32 @@ use borrow.Author.Needs.{needs}
 use Rattle.refiner.proofs.refine.Statement.{statement}
 use Rattle.refiner.proofs.refine.Tie as tie
 
-pin-count-requires : tie.Need-pin-count-requires
-pin-count-requires c κs = search needs
-
 rounds-requires : tie.Need-rounds-requires
 rounds-requires c κs = search needs
 
 prune-points-requires : tie.Need-prune-points-requires
 prune-points-requires c κs =
     let r = c .before .before .rounds .ensures in
-    let i = r .1 .0 in
-    (omega arith, (omega arith, within-small _ _ (omega arith) (r .1 .1)))
+    (r .1 .0 .0, (r .1 .0 .1, within-small _ _ (r .1 .0 .0) (r .1 .1)))
 
 total-requires : tie.Need-total-requires
 total-requires c κs =
     let p = c .before .before in
-    let q = p .before .before .before in
-    let r = q .rounds .ensures in
-    let m = q .before .before .before .pin-count .ensures in
-    let i = r .1 .0 in
+    let r = p .before .before .before .rounds .ensures in
     let w = after-pruning _ _ _ _ _ _ _ _ (p .prune-points .ensures) (r .1 .1) in
-    (omega (arith, w .0, m), within-small _ _ (omega (arith, m)) (w .1))
+    (omega (arith, w .0, r .1 .0 .1), within-small _ _ (r .1 .0 .0) (w .1))
 
 returns : tie.Need-returns
 returns c =
     let p = c .before .before .before in
-    let q = p .before .before .before in
-    let r = q .rounds .ensures in
-    let m = q .before .before .before .pin-count .ensures in
-    let room = q .before .before .before .before .before .pre .0 in
-    let i = r .1 .0 in
+    let r = p .before .before .before .rounds .ensures in
     let w = after-pruning _ _ _ _ _ _ _ _ (p .prune-points .ensures) (r .1 .1) in
     record {
-      whole = answer-is _ _ _ _ _ _ _ _ _ (length-pins _ ∙ sym m) (r .0) (p .prune-points .ensures);
+      whole = answer-is _ _ _ _ _ _ _ _ _ _ (length-pins _) (r .0) (p .prune-points .ensures);
       sum = c .total .ensures;
-      few = (omega (arith, m, room .0, i .0), omega (arith, w .0, m, room .1, i .1));
+      few = (r .1 .0 .0, omega (arith, w .0, r .1 .0 .1));
       inside = w .1;
     }
 
 pub refine-spec : {M : Type 1} → statement M
-refine-spec = tie.close (tie.spec pin-count-requires rounds-requires prune-points-requires total-requires returns)
+refine-spec = tie.close (tie.spec rounds-requires prune-points-requires total-requires returns)

@@ -1,72 +1,125 @@
--- `refiner::rounds` meets its contract. The loop's invariant: the rounds that are left decide; each adds at most one point and one edge.
--- The measure is how many they are.
+-- `refiner::rounds` meets its contract. The loop's invariant: the tree is ready for the rounds that are left, and they decide. The measure
+-- is how many they are.
 -- Assumes nothing.
-use mathlib.Core.Path.{_≡_, refl}
-use Prim.Native.Nat.{_≤_, _-_, _+_}
+use denote.Ref.{now}
+use mathlib.Core.Path.{_≡_, refl, sym, ap, _∙_, subst}
+use mathlib.Core.Bool.{Bool, true, false, not}
+use Prim.Native.Nat.{ℕ, suc, _≤_, _<_, _-_, _+_}
 use native.Mathlib.Omega.{arith}
 use Rattle.plane.specs.Flat.{macrosOf}
-use Rattle.refiner.specs.Refined.{rounds}
-use Rattle.tree.specs.Table.{Within, tree}
-use Rattle.refiner.proofs.WithinLaws.{within-small, within-after, fine-found, rounds-stop, rounds-more, rounds-end}
+use Rattle.net.specs.Net.{Net, netWith}
+use Rattle.forest.specs.Edges.{graph}
+use Rattle.forest.proofs.Nearest.{fits}
+use Rattle.tree.specs.Table.{treeBound, Tree, Within, tree}
+use Rattle.refiner.specs.Beside.{Ground, ground}
+use Rattle.refiner.specs.Round.{roundsIn}
+use Rattle.refiner.specs.Ready.{Ready}
+use Rattle.refiner.proofs.CutSound.{tree-size}
+use Rattle.refiner.proofs.RoundReady.{ready-roomy, ready-few, round-onward, rounds-stop, rounds-more, rounds-end}
 use Rattle.refiner.proofs.rounds.Statement.{statement}
 use Rattle.refiner.proofs.rounds.Tie as tie
 
 abbrev Inv-loop : tie.InvT-loop
-Inv-loop w pts₀ n macros keys₀ e m z₀ r₀ pts keys z r = ((r ≤ m) × ((z .points ≤ n + r) × (z .edges ≤ e + r))) ×
-    (Within (z .points) keys ×
-    (rounds w (macrosOf macros) (m - r) (tree pts (z .points) keys (z .edges)) ≡ rounds w (macrosOf macros) m (tree pts₀ n keys₀ e)))
+Inv-loop w pins macros pts₀ n keys₀ e vertices v ea eb el f m z₀ r₀ pts keys z r =
+    (r ≤ m) × (Ready (netWith w pins macros) (ground vertices v (graph ea eb el f)) (tree pts (z .points) keys (z .edges)) (m - r)
+    × (roundsIn w (macrosOf macros) (ground vertices v (graph ea eb el f)) (m - r) (tree pts (z .points) keys (z .edges))
+    ≡ roundsIn w (macrosOf macros) (ground vertices v (graph ea eb el f)) m (tree pts₀ n keys₀ e)))
 
 abbrev μ-loop : tie.MeasureT-loop
-μ-loop w pts₀ n macros keys₀ e m z₀ r₀ pts keys z r = m - r
+μ-loop w pins macros pts₀ n keys₀ e vertices v ea eb el f m z₀ r₀ pts keys z r = m - r
+
+not-false : (t : Bool) → not t ≡ false → t ≡ true
+not-false true e = refl
+not-false false e = sym e
+
+not-true : (t : Bool) → not t ≡ true → t ≡ false
+not-true true e = sym e
+not-true false e = refl
+
+-- the net and the ground as they are lent
+abbrev netIn : tie.Start Inv-loop μ-loop → Net
+netIn s = netWith (s .args .w) (now (s .args .pins)) (now (s .args .macros))
+
+abbrev groundIn : tie.Start Inv-loop μ-loop → Ground
+groundIn s = ground (now (s .args .vertices)) (s .args .v) (graph (now (s .args .ea)) (now (s .args .eb)) (now (s .args .el)) (s .args .f))
+
+-- so many rounds from the tree as it is lent
+abbrev allIn : tie.Start Inv-loop μ-loop → ℕ → Tree
+allIn s k = roundsIn (s .args .w) (macrosOf (now (s .args .macros))) (groundIn s) k
+    (tree (now (s .args .pts)) (s .args .n) (now (s .args .keys)) (s .args .e))
+
+-- one round more is to come
+one-more : {net : Net} {g : Ground} {t : Tree} (m r : ℕ) → r < m → Ready net g t (m - r) → Ready net g t (suc (m - (r + 1)))
+one-more {net} {g} {t} m r h x = subst (Ready net g t) (let z : m - r ≡ suc (m - (r + 1)) = omega arith in z) x
+
+edges-few : {net : Net} {g : Ground} {t : Tree} {m : ℕ} → Ready net g t m → t .edges .size ≤ treeBound
+edges-few {net} {g} {t} r = omega (arith, tree-size net t (r .sound), ready-few r)
+
+pin-count-requires : tie.Need-pin-count-requires Inv-loop μ-loop
+pin-count-requires c κs = tt
 
 loop-holds : tie.Need-loop-holds Inv-loop μ-loop
 loop-holds c =
-    let z : c .args .m ≡ c .args .m - 0 = omega arith in
-    ((omega arith, (omega arith, omega arith)), (c .pre .1, rw (← z) refl))
+    let q = c .pin-count .ensures in
+    let s = c .before in (
+      omega arith,
+      (
+        subst (Ready (netIn s) (groundIn s) _) (let z : _ ≡ c .pin-count .result - 0 = omega (arith, q) in z) (s .pre),
+        ap (allIn s) (let z : c .pin-count .result - 0 ≡ c .pin-count .result = omega arith in z),
+      ),
+    )
 
-found-requires : tie.Need-found-requires Inv-loop μ-loop
-found-requires c κs =
+round-requires : tie.Need-round-requires Inv-loop μ-loop
+round-requires c κs =
     let l = c .before .before .before in
-    ((omega arith, omega arith), within-small _ _ (omega arith) (l .loop .inv .1 .0))
+    let s = l .before .before in
+    let x = one-more _ _ (c .before .before .loop-test .taken) (l .loop .inv .1 .0) in
+    ((fits (x .grounded .setting), x .grounded .setting .vertices), ready-roomy (netIn s) (groundIn s) _ _ x)
 
 returns : tie.Need-returns Inv-loop μ-loop
 returns c =
-    let l = c .before .before .before .before .before .before in (
-      rounds-stop _ _ _ _ _ _ _ _ _ (l .loop .inv .1 .1) (c .before .before .found .ensures) (l .before .args .m - (l .loop .r + 1)) (omega arith)
-          (c .if1 .taken),
-      ((omega arith, omega arith), l .loop .inv .1 .0),
+    let l = c .before .before .before .before .before .before in
+    let i = l .loop .inv in
+    let q = l .before .pin-count .ensures in
+    let t = c .before .before .round .ensures .still (not-true _ (c .if1 .taken)) in
+    let all = rounds-stop _ _ _ _ _ _ (i .1 .1) (l .before .pin-count .result - (l .loop .r + 1)) (omega (arith, c .before .before .before .before .before .loop-test .taken)) (t .0) in (
+      ap (λ (x : Tree). tree (x .points) (l .loop .z .points) (x .edges .keys) (l .loop .z .edges)) (t .1)
+          ∙ all ∙ ap (allIn (l .before .before)) q,
+      (
+        (ready-few (i .1 .0), edges-few (i .1 .0)),
+        subst (Within (l .loop .z .points)) (sym (ap (λ (x : Tree). x .edges .keys) (t .1))) (i .1 .0 .sound .within),
+      ),
     )
 
-exchange-requires : tie.Need-exchange-requires Inv-loop μ-loop
-exchange-requires c κs =
-    let l = c .before .before .before .before .before .before .before .before in
-    let f = fine-found _ _ _ _ _ _ _ (c .before .before .before .before .found .ensures) (c .before .before .if1 .left) in
-    (((omega arith, omega arith), f), within-small _ _ (omega arith) (l .loop .inv .1 .0))
-
 add-r : tie.Need-add-r Inv-loop μ-loop
-add-r c = omega arith
+add-r c = omega (arith, c .before .before .before .before .before .loop-test .taken)
 
 loop-less : tie.Need-loop-less Inv-loop μ-loop
-loop-less c = omega arith
+loop-less c = omega (arith, c .before .before .before .before .before .loop-test .taken)
 
 loop-again : tie.Need-loop-again Inv-loop μ-loop
 loop-again c =
-    let l = c .before .before .before .before .before .before .before .before .before in
-    let f = fine-found _ _ _ _ _ _ _ (c .before .before .before .before .before .found .ensures) (c .before .before .before .if1 .left) in
-    let x = c .exchange .ensures in (
-      (omega arith, (omega (arith, x .1 .0), omega (arith, x .1 .1))),
+    let l = c .before .before .before .before .before .before in
+    let s = l .before .before in
+    let i = l .loop .inv in
+    let h = c .before .before .before .before .before .loop-test .taken in
+    let t = c .before .before .round .ensures .moved (not-false _ (c .if1 .left)) in
+    let o = round-onward (netIn s) (groundIn s) _ _ (one-more _ _ h (i .1 .0)) (t .0) in (
+      omega (arith, h),
       (
-        within-after _ _ _ _ _ _ _ _ _ (x .0) (omega arith) (f .1 .1)
-            (l .loop .inv .1 .0),
-        rounds-more _ _ _ _ _ _ _ _ _ (l .loop .inv .1 .1) (c .before .before .before .before .before .found .ensures) _
-            (omega arith) (c .before .before .before .if1 .left) _ (x .0),
+        subst (λ (x : Tree). Ready (netIn s) (groundIn s) x (l .before .pin-count .result - (l .loop .r + 1))) (sym (t .1)) (o .ready),
+        rounds-more _ _ _ _ _ _ (i .1 .1) _ (omega (arith, h)) (t .0) _ (t .1),
       ),
     )
 
 returns-2 : tie.Need-returns-2 Inv-loop μ-loop
 returns-2 c =
     let l = c .before in
-    (rounds-end _ _ _ _ _ (l .loop .inv .1 .1) (omega arith), ((omega arith, omega arith), l .loop .inv .1 .0))
+    let i = l .loop .inv in
+    let q = l .before .pin-count .ensures in (
+      rounds-end _ _ _ _ _ _ (i .1 .1) (omega (arith, c .loop-test .left)) ∙ ap (allIn (l .before .before)) q,
+      ((ready-few (i .1 .0), edges-few (i .1 .0)), i .1 .0 .sound .within),
+    )
 
 pub rounds-spec : {M : Type 1} → statement M
 rounds-spec =
@@ -74,10 +127,10 @@ rounds-spec =
     (tie.spec
     Inv-loop
     μ-loop
+    pin-count-requires
     loop-holds
-    found-requires
+    round-requires
     returns
-    exchange-requires
     add-r
     loop-less
     loop-again

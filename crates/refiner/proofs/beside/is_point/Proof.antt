@@ -1,0 +1,18 @@
+-- `refiner::beside::is_point` meets its contract: a place is looked for where it would stand.
+-- Assumes nothing.
+use Rattle.refiner.proofs.BesideLaws.{is-point-is}
+use borrow.Author.Needs.{needs}
+use Rattle.refiner.proofs.beside.is_point.Statement.{statement}
+use Rattle.refiner.proofs.beside.is_point.Tie as tie
+
+rank-requires : tie.Need-rank-requires
+rank-requires c κs = search needs
+
+stands-requires : tie.Need-stands-requires
+stands-requires c κs = search needs
+
+returns : tie.Need-returns
+returns c = is-point-is _ _ _ _ _ (c .before .rank .ensures .0) (c .stands .ensures)
+
+pub is-point-spec : {M : Type 1} → statement M
+is-point-spec = tie.close (tie.spec rank-requires stands-requires returns)

@@ -1,0 +1,101 @@
+-- `refiner::round::round` meets its contract: sources, roots and ways, seats, then the choice, and its exchange where it gains.
+-- Assumes nothing.
+use mathlib.Core.Path.{refl, sym, ap, _∙_}
+use native.Mathlib.Omega.{arith}
+use Rattle.forest.specs.Bounds.{pointBound}
+use denote.Ref.{now}
+use Rattle.tree.specs.Table.{treeBound, Tree, tree}
+use Rattle.lists.proofs.TestLaws.{differ}
+use Rattle.refiner.specs.declared.Choice.{Choice}
+use Rattle.refiner.proofs.RoundLaws.{small-all}
+use Rattle.refiner.proofs.WithinLaws.{within-small}
+use Rattle.refiner.proofs.BesideLaws.{small-seats}
+use Rattle.refiner.proofs.ReadyLaws.{made-labels, made-nearing, chosen-in, exchanged-in, exchangeable}
+use borrow.Author.Needs.{needs}
+use Rattle.refiner.proofs.round.round.Statement.{statement}
+use Rattle.refiner.proofs.round.round.Tie as tie
+
+-- the tree as it is lent
+abbrev begun : tie.Start → Tree
+begun s = tree (now (s .args .pts)) (s .args .n) (now (s .args .keys)) (s .args .e)
+
+sources-requires : tie.Need-sources-requires
+sources-requires c κs = search needs
+
+forest-requires : tie.Need-forest-requires
+forest-requires c κs = search needs
+
+seats-requires : tie.Need-seats-requires
+seats-requires c κs =
+    let s = c .before .before .before .before .before .before .before .before .before .before .before .before in
+    let o = c .before .before .before .before .before .before .before .before .before in
+    let f = c .before .before .before in
+    ((s .pre .1 .few, s .pre .0 .1), made-labels _ (begun s) (s .pre .0 .0) (s .pre .0 .1) (o .sources .ensures .0) (o .sources .ensures .1 .1) (f .forest .ensures .0) (f .forest .ensures .1) .rooted)
+
+found-requires : tie.Need-found-requires
+found-requires c κs =
+    let s = c .before .before .before .before .before .before .before .before .before .before .before .before .before .before .before .before .before .before in
+    let o = c .before .before .before .before .before .before .before .before .before .before .before .before .before .before .before in
+    let f = c .before .before .before .before .before .before .before .before .before in
+    let e = c .before .before .before .before .before .seats .ensures in
+    let r = s .pre .1 in (
+      ((omega (arith, r .few, r .edges), omega (arith, r .few)), within-small _ _ (omega (arith, r .few)) (r .within)),
+      (
+        (
+          s .pre .0 .1,
+          small-seats _ _ _ _ _ _ _ (r .few) e (small-all treeBound pointBound 0 (omega arith) (omega arith)),
+        ),
+        (made-labels _ (begun s) (s .pre .0 .0) (s .pre .0 .1) (o .sources .ensures .0) (o .sources .ensures .1 .1) (f .forest .ensures .0) (f .forest .ensures .1) .low, made-nearing _ (begun s) (s .pre .0 .0) (s .pre .0 .1) (o .sources .ensures .0) (o .sources .ensures .1 .1) (f .forest .ensures .0) (f .forest .ensures .1)),
+      ),
+    )
+
+returns : tie.Need-returns
+returns c =
+    let s = c .before .before .before .before .before .before .before .before .before .before .before .before .before .before .before .before .before .before .before .before .before in
+    let o = c .before .before .before .before .before .before .before .before .before .before .before .before .before .before .before .before .before .before in
+    let f = c .before .before .before .before .before .before .before .before .before .before .before .before in
+    let e = c .before .before .before .before .before .before .before .before .seats .ensures in
+    let r = s .pre .1 in
+    let q = chosen-in _ (begun s) (s .pre .0 .0) (s .pre .0 .1) (o .sources .ensures .0) (o .sources .ensures .1 .1) (f .forest .ensures .0) (f .forest .ensures .1) e _ _ _ (c .before .before .found .ensures) in
+    record {
+      still = λ _. (ap (λ (x : Choice). x .gain) (sym q) ∙ c .if1 .taken, refl);
+      moved = λ t. differ t refl;
+      few = (omega (arith, r .few), omega (arith, r .few, r .edges));
+      within = r .within;
+    }
+
+exchanged-requires : tie.Need-exchanged-requires
+exchanged-requires c κs =
+    let s = c .before .before .before .before .before .before .before .before .before .before .before .before .before .before .before .before .before .before .before .before .before .before .before .before .before .before in
+    let o = c .before .before .before .before .before .before .before .before .before .before .before .before .before .before .before .before .before .before .before .before .before .before .before in
+    let f = c .before .before .before .before .before .before .before .before .before .before .before .before .before .before .before .before .before in
+    let e = c .before .before .before .before .before .before .before .before .before .before .before .before .before .seats .ensures in
+    exchangeable _ (begun s) (s .pre .0 .0) (s .pre .0 .1) (o .sources .ensures .0) (o .sources .ensures .1 .1) (f .forest .ensures .0) (f .forest .ensures .1) e _ _ _ (c .before .before .before .before .before .before .before .found .ensures) (s .pre .1) (c .before .before .before .before .before .if1 .left)
+
+returns-2 : tie.Need-returns-2
+returns-2 c =
+    let s = c .before .before .before .before .before .before .before .before .before .before .before .before .before .before .before .before .before .before .before .before .before .before .before .before .before .before .before in
+    let o = c .before .before .before .before .before .before .before .before .before .before .before .before .before .before .before .before .before .before .before .before .before .before .before .before in
+    let f = c .before .before .before .before .before .before .before .before .before .before .before .before .before .before .before .before .before .before in
+    let e = c .before .before .before .before .before .before .before .before .before .before .before .before .before .before .seats .ensures in
+    let n = c .before .before .before .before .before .before .before .before .found .ensures in
+    let q = chosen-in _ (begun s) (s .pre .0 .0) (s .pre .0 .1) (o .sources .ensures .0) (o .sources .ensures .1 .1) (f .forest .ensures .0) (f .forest .ensures .1) e _ _ _ n in
+    let x = c .exchanged .ensures in
+    record {
+      still = λ t. differ refl t;
+      moved = λ _. (λ z. c .before .before .before .before .before .before .if1 .left (ap (λ (y : Choice). y .gain) q ∙ z), x .0 ∙ exchanged-in _ (begun s) (s .pre .0 .0) (s .pre .0 .1) (o .sources .ensures .0) (o .sources .ensures .1 .1) (f .forest .ensures .0) (f .forest .ensures .1) e _ _ _ n);
+      few = x .1 .0;
+      within = x .1 .1;
+    }
+
+pub round-spec : {M : Type 1} → statement M
+round-spec =
+    tie.close
+    (tie.spec
+    sources-requires
+    forest-requires
+    seats-requires
+    found-requires
+    returns
+    exchanged-requires
+    returns-2)

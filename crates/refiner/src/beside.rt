@@ -1,0 +1,384 @@
+// Vertices of the graph beside the tree, and the candidates with them.
+//
+// Roots and parents with the tree's own vertices as sources: the root of a vertex beside the tree is the tree point v that it is joined to,
+// and its way to the root is the way that is laid.
+use crate::Best;
+use crate::Choice;
+use crate::NONE;
+use crate::PAIRS;
+use crate::VERTEX_NUMBERS;
+use crate::VERTICES;
+use crate::candidate;
+use crate::exchange;
+use crate::longest;
+use plane::Place;
+use plane::Weights;
+use tree::NUMBERS;
+use tree::POINTS;
+ghost use mathlib.Core.Path.{_≡_};
+ghost use Prim.Native.Nat.{_≤_, _<_};
+ghost use lib.ListN.{length};
+ghost use Rattle.plane.specs.Flat.{placeAt, macrosOf};
+ghost use Rattle.forest.specs.Bounds.{pointBound};
+ghost use Rattle.forest.specs.Edges.{entries, Below, FirstBelow};
+ghost use Rattle.forest.specs.Labels.{Low};
+ghost use Rattle.forest.specs.Parents.{wayAfter, Nearing};
+ghost use Rattle.refiner.specs.Turns.{turns};
+ghost use Rattle.tree.specs.Table.{treeBound, pairBound, Small};
+ghost use Rattle.refiner.specs.Beside.{isPoint, sourcesFrom, takeSeat, onWay, free, weighed, offer, offers, search, chosenOf};
+
+pub fn vertex_at(vertices: &[i32; VERTEX_NUMBERS], v: usize) -> Place
+    requires { ⌜ v < pointBound ⌝ }
+    ensures { λ r. ⌜ r ≡ placeAt (now (vertices .entry)) v ⌝ }
+{
+    Place {
+        x: vertices[v * 2],
+        y: vertices[v * 2 + 1],
+    }
+}
+
+// Whether p is the place of a tree point.
+fn is_point(pts: &[i32; NUMBERS], n: usize, p: Place) -> bool
+    requires { ⌜ n ≤ treeBound ⌝ }
+    ensures { λ r. ⌜ r ≡ isPoint (now (pts .entry)) n p ⌝ }
+{
+    exchange::stands(pts, n, exchange::rank(pts, n, p), p)
+}
+
+// The vertices that are tree points, in order; how many they are.
+pub fn sources(
+    pts: &[i32; NUMBERS],
+    n: usize,
+    vertices: &[i32; VERTEX_NUMBERS],
+    v: usize,
+    source: &mut [usize; VERTICES],
+) -> usize
+    requires { ⌜ (n ≤ treeBound) × (v ≤ pointBound) ⌝ }
+    requires { ⌜ length (now source) ≡ pointBound ⌝ }
+    ensures { λ r. ⌜ entries (now (source .exit)) 0 r ≡ sourcesFrom (now (pts .entry)) n (now (vertices .entry)) 0 v ⌝ }
+    ensures { λ r. ⌜ (r ≤ pointBound) × (FirstBelow (now (source .exit)) r pointBound) ⌝ }
+{
+    let mut c = 0;
+    let mut i = 0;
+    while i < v {
+        let at = i;
+        i += 1;
+        if is_point(pts, n, vertex_at(vertices, at)) {
+            source[c] = at;
+            c += 1;
+        }
+    }
+    c
+}
+
+// For each vertex the number of its root among the tree's points.
+pub fn seats(
+    pts: &[i32; NUMBERS],
+    n: usize,
+    vertices: &[i32; VERTEX_NUMBERS],
+    v: usize,
+    root: &[usize; VERTICES],
+    seat: &mut [usize; VERTICES],
+)
+    requires { ⌜ (n < treeBound) × (v ≤ pointBound) ⌝ }
+    requires { ⌜ Below pointBound (now root) ⌝ }
+    ensures { λ _. ⌜ now (seat .exit) ≡ turns (takeSeat (now (pts .entry)) n (now (vertices .entry)) (now (root .entry))) 0 v
+        (now (seat .entry)) ⌝ }
+{
+    let mut i = 0;
+    while i < v {
+        seat[i] = exchange::rank(pts, n, vertex_at(vertices, root[i]));
+        i += 1;
+    }
+}
+
+// Whether s is the place of a vertex after u on its way to its root. The distance falls with each call.
+fn on_way(
+    vertices: &[i32; VERTEX_NUMBERS],
+    far: &[u64; VERTICES],
+    up: &[usize; VERTICES],
+    u: usize,
+    s: Place,
+) -> bool
+    requires { ⌜ (Nearing (now far) (now up)) × (u < pointBound) ⌝ }
+    ensures { λ r. ⌜ r ≡ onWay (now (vertices .entry)) s (wayAfter (now (far .entry)) (now (up .entry)) u) ⌝ }
+{
+    let y = up[u];
+    if y < VERTICES {
+        if plane::is_same_place(s, vertex_at(vertices, y)) {
+            return true;
+        }
+        return on_way(vertices, far, up, y, s);
+    }
+    false
+}
+
+// Whether the vertex u at r, beside the tree, sees a or b, and s is the place of no other tree point and of none on the way.
+fn is_free(
+    pts: &[i32; NUMBERS],
+    n: usize,
+    macros: &[i32],
+    vertices: &[i32; VERTEX_NUMBERS],
+    far: &[u64; VERTICES],
+    up: &[usize; VERTICES],
+    a: usize,
+    b: usize,
+    u: usize,
+    s: Place,
+) -> bool
+    requires { ⌜ ((a < treeBound) × (b < treeBound)) × ((u < pointBound) × (n ≤ treeBound)) ⌝ }
+    requires { ⌜ Nearing (now far) (now up) ⌝ }
+    ensures { λ r. ⌜ r ≡ free (now (pts .entry)) n (macrosOf (now (macros .entry))) (now (vertices .entry)) (now (far .entry))
+        (now (up .entry)) a b u s ⌝ }
+{
+    if candidate::sees(
+        macros,
+        tree::point_at(pts, a),
+        tree::point_at(pts, b),
+        vertex_at(vertices, u),
+    ) {
+        if candidate::is_dropped(pts, n, a, b, a, s) {
+            return false;
+        }
+        return !on_way(vertices, far, up, u, s);
+    }
+    false
+}
+
+// The best so far, or the candidate of edge k from a to b and the vertex u, whose L is l.
+fn weigh(
+    w: Weights,
+    pts: &[i32; NUMBERS],
+    n: usize,
+    macros: &[i32],
+    vertices: &[i32; VERTEX_NUMBERS],
+    far: &[u64; VERTICES],
+    up: &[usize; VERTICES],
+    a: usize,
+    b: usize,
+    k: usize,
+    u: usize,
+    l: usize,
+    long: u64,
+    c: Best,
+) -> Best
+    requires { ⌜ ((a < treeBound) × (b < treeBound)) × ((u < pointBound) × (n ≤ treeBound)) ⌝ }
+    requires { ⌜ (Low (now far)) × (Nearing (now far) (now up)) ⌝ }
+    ensures { λ r. ⌜ r ≡ weighed w (now (pts .entry)) n (macrosOf (now (macros .entry))) (now (vertices .entry)) (now (far .entry))
+        (now (up .entry)) a b k u l long c ⌝ }
+{
+    let r = vertex_at(vertices, u);
+    let s = plane::middle_place(tree::point_at(pts, a), tree::point_at(pts, b), r);
+    let d = plane::cost(w, s, r) + far[u];
+    if long <= d {
+        return c;
+    }
+    let g = long - d;
+    if g <= c.gain {
+        return c;
+    }
+    if is_free(pts, n, macros, vertices, far, up, a, b, u, s) {
+        return Best {
+            gain: g,
+            edge: k,
+            point: u,
+            cut: l,
+        };
+    }
+    c
+}
+
+fn offer(
+    w: Weights,
+    pts: &[i32; NUMBERS],
+    n: usize,
+    macros: &[i32],
+    el: &[u64; POINTS],
+    top: &[u16; PAIRS],
+    vertices: &[i32; VERTEX_NUMBERS],
+    far: &[u64; VERTICES],
+    up: &[usize; VERTICES],
+    seat: &[usize; VERTICES],
+    a: usize,
+    b: usize,
+    k: usize,
+    u: usize,
+    c: Best,
+) -> Best
+    requires { ⌜ ((a < treeBound) × (b < treeBound)) × ((u < pointBound) × (n ≤ treeBound)) ⌝ }
+    requires { ⌜ (Small treeBound (now top)) × (Small treeBound (now seat)) ⌝ }
+    requires { ⌜ (Low (now far)) × (Nearing (now far) (now up)) ⌝ }
+    ensures { λ r. ⌜ r ≡ offer w (now (pts .entry)) n (macrosOf (now (macros .entry))) (now (el .entry)) (now (top .entry))
+        (now (vertices .entry)) (now (far .entry)) (now (up .entry)) (now (seat .entry)) a b k u c ⌝ }
+{
+    if far[u] == 0 {
+        return c;
+    }
+    let v = seat[u];
+    let l = longest::cut_of(el, top, a, b, v);
+    if (v == a) | ((v == b) | (l == k)) {
+        return c;
+    }
+    let long = el[l];
+    if long <= c.gain {
+        return c;
+    }
+    weigh(w, pts, n, macros, vertices, far, up, a, b, k, u, l, long, c)
+}
+
+fn offers(
+    w: Weights,
+    pts: &[i32; NUMBERS],
+    n: usize,
+    macros: &[i32],
+    keys: &[usize; POINTS],
+    el: &[u64; POINTS],
+    top: &[u16; PAIRS],
+    vertices: &[i32; VERTEX_NUMBERS],
+    v: usize,
+    far: &[u64; VERTICES],
+    up: &[usize; VERTICES],
+    seat: &[usize; VERTICES],
+    k: usize,
+    c: Best,
+) -> Best
+    requires { ⌜ (k < treeBound) × ((n ≤ treeBound) × (v ≤ pointBound)) ⌝ }
+    requires { ⌜ (Small pairBound (now keys)) × ((Small treeBound (now top)) × (Small treeBound (now seat))) ⌝ }
+    requires { ⌜ (Low (now far)) × (Nearing (now far) (now up)) ⌝ }
+    ensures { λ r. ⌜ r ≡ offers w (now (pts .entry)) n (macrosOf (now (macros .entry))) (now (keys .entry)) (now (el .entry))
+        (now (top .entry)) (now (vertices .entry)) v (now (far .entry)) (now (up .entry)) (now (seat .entry)) k c ⌝ }
+{
+    let a = keys[k] / POINTS;
+    let b = keys[k] % POINTS;
+    let mut found = c;
+    let mut u = 0;
+    while u < v {
+        found = offer(
+            w,
+            pts,
+            n,
+            macros,
+            el,
+            top,
+            vertices,
+            far,
+            up,
+            seat,
+            a,
+            b,
+            k,
+            u,
+            found,
+        );
+        u += 1;
+    }
+    found
+}
+
+// The best candidate with a vertex beside the tree whose gain is above that of c; c, where there is none.
+pub fn search(
+    w: Weights,
+    pts: &[i32; NUMBERS],
+    n: usize,
+    macros: &[i32],
+    keys: &[usize; POINTS],
+    e: usize,
+    el: &[u64; POINTS],
+    top: &[u16; PAIRS],
+    vertices: &[i32; VERTEX_NUMBERS],
+    v: usize,
+    far: &[u64; VERTICES],
+    up: &[usize; VERTICES],
+    seat: &[usize; VERTICES],
+    c: Best,
+) -> Best
+    requires { ⌜ (e ≤ treeBound) × ((n ≤ treeBound) × (v ≤ pointBound)) ⌝ }
+    requires { ⌜ (Small pairBound (now keys)) × ((Small treeBound (now top)) × (Small treeBound (now seat))) ⌝ }
+    requires { ⌜ (Low (now far)) × (Nearing (now far) (now up)) ⌝ }
+    ensures { λ r. ⌜ r ≡ search w (now (pts .entry)) n (macrosOf (now (macros .entry))) (now (keys .entry)) e (now (el .entry))
+        (now (top .entry)) (now (vertices .entry)) v (now (far .entry)) (now (up .entry)) (now (seat .entry)) c ⌝ }
+{
+    let mut found = c;
+    let mut k = 0;
+    while k < e {
+        found = offers(
+            w,
+            pts,
+            n,
+            macros,
+            keys,
+            el,
+            top,
+            vertices,
+            v,
+            far,
+            up,
+            seat,
+            k,
+            found,
+        );
+        k += 1;
+    }
+    found
+}
+
+// The candidate that a round takes: of those on the tree the best, unless one beside it gains more.
+pub fn found(
+    w: Weights,
+    pts: &[i32; NUMBERS],
+    n: usize,
+    macros: &[i32],
+    keys: &[usize; POINTS],
+    e: usize,
+    vertices: &[i32; VERTEX_NUMBERS],
+    v: usize,
+    far: &[u64; VERTICES],
+    up: &[usize; VERTICES],
+    seat: &[usize; VERTICES],
+) -> Choice
+    requires { ⌜ ((e ≤ treeBound) × (n ≤ treeBound)) × (Small pairBound (now keys)) ⌝ }
+    requires { ⌜ (v ≤ pointBound) × (Small treeBound (now seat)) ⌝ }
+    requires { ⌜ (Low (now far)) × (Nearing (now far) (now up)) ⌝ }
+    ensures { λ r. ⌜ r ≡ chosenOf w (macrosOf (now (macros .entry))) (now (pts .entry)) n (now (keys .entry)) e (now (vertices .entry)) v
+        (now (far .entry)) (now (up .entry)) (now (seat .entry)) ⌝ }
+{
+    let mut el = [0u64; POINTS];
+    longest::costs(w, pts, keys, e, &mut el);
+    let mut seen = [0usize; POINTS];
+    seen[0] = 1;
+    let mut top = [NONE; PAIRS];
+    longest::reached(keys, &el, e, n, &mut seen, &mut top);
+    let on = candidate::search(w, pts, n, macros, keys, e, &el, &top);
+    let off = search(
+        w,
+        pts,
+        n,
+        macros,
+        keys,
+        e,
+        &el,
+        &top,
+        vertices,
+        v,
+        far,
+        up,
+        seat,
+        on,
+    );
+    if on.gain < off.gain {
+        return Choice {
+            beside: true,
+            gain: off.gain,
+            edge: off.edge,
+            point: off.point,
+            cut: off.cut,
+        };
+    }
+    Choice {
+        beside: false,
+        gain: on.gain,
+        edge: on.edge,
+        point: on.point,
+        cut: on.cut,
+    }
+}

@@ -1,0 +1,158 @@
+// A round: roots and ways of the vertices beside the tree, the candidate that is taken, and its exchange.
+use crate::Best;
+use crate::Choice;
+use crate::EDGES;
+use crate::Growth;
+use crate::Turn;
+use crate::VERTEX_NUMBERS;
+use crate::VERTICES;
+use crate::beside;
+use crate::exchange;
+use crate::graft;
+use plane::Weights;
+use tree::NUMBERS;
+use tree::POINTS;
+use tree::Size;
+ghost use mathlib.Core.Path.{_≡_};
+ghost use Prim.Native.Nat.{_≤_};
+ghost use Rattle.plane.specs.Flat.{macrosOf};
+ghost use Rattle.forest.specs.Bounds.{pointBound};
+ghost use Rattle.forest.specs.Edges.{graph, Fits};
+ghost use Rattle.tree.specs.Table.{treeBound, tree, Within};
+ghost use Rattle.refiner.specs.Beside.{ground};
+ghost use Rattle.refiner.specs.Round.{exchangeWith};
+ghost use Rattle.refiner.specs.Ready.{Exchangeable, Roomy, Turned};
+
+// The exchange of a choice, once the way to a vertex beside the tree is laid.
+pub fn exchanged(
+    vertices: &[i32; VERTEX_NUMBERS],
+    far: &[u64; VERTICES],
+    up: &[usize; VERTICES],
+    seat: &[usize; VERTICES],
+    pts: &mut [i32; NUMBERS],
+    n: usize,
+    keys: &mut [usize; POINTS],
+    e: usize,
+    c: Choice,
+) -> Size
+    requires { ⌜ Exchangeable (now far) (now up) (now seat) (now keys) n e c ⌝ }
+    ensures { λ r. ⌜ (tree (now (pts .exit)) (r .points) (now (keys .exit)) (r .edges)
+        ≡ exchangeWith (now (vertices .entry)) (now (far .entry)) (now (up .entry)) (now (seat .entry))
+        (tree (now (pts .entry)) n (now (keys .entry)) e) c)
+        × (((r .points ≤ treeBound) × (r .edges ≤ treeBound)) × (Within (r .points) (now (keys .exit)))) ⌝ }
+{
+    let u = c.point;
+    if c.beside {
+        let last = seat[u];
+        let g = graft::graft(
+            vertices,
+            far,
+            up,
+            u,
+            &mut *pts,
+            &mut *keys,
+            Growth {
+                points: n,
+                edges: e,
+                last: last,
+                edge: c.edge,
+                cut: c.cut,
+            },
+        );
+        return exchange::exchange(
+            &mut *pts,
+            g.points,
+            &mut *keys,
+            g.edges,
+            Best {
+                gain: c.gain,
+                edge: g.edge,
+                point: g.last,
+                cut: g.cut,
+            },
+        );
+    }
+    exchange::exchange(
+        &mut *pts,
+        n,
+        &mut *keys,
+        e,
+        Best {
+            gain: c.gain,
+            edge: c.edge,
+            point: u,
+            cut: c.cut,
+        },
+    )
+}
+
+// A round: whether a candidate gained, and the tree after it.
+pub fn round(
+    w: Weights,
+    pts: &mut [i32; NUMBERS],
+    n: usize,
+    macros: &[i32],
+    keys: &mut [usize; POINTS],
+    e: usize,
+    vertices: &[i32; VERTEX_NUMBERS],
+    v: usize,
+    ea: &[usize; EDGES],
+    eb: &[usize; EDGES],
+    el: &[u64; EDGES],
+    f: usize,
+) -> Turn
+    requires { ⌜ (Fits (graph (now ea) (now eb) (now el) f)) × (v ≤ pointBound) ⌝ }
+    requires { ⌜ Roomy (ground (now vertices) v (graph (now ea) (now eb) (now el) f)) (tree (now pts) n (now keys) e) ⌝ }
+    ensures { λ r. ⌜ Turned w (macrosOf (now (macros .entry)))
+        (ground (now (vertices .entry)) v (graph (now (ea .entry)) (now (eb .entry)) (now (el .entry)) f))
+        (tree (now (pts .entry)) n (now (keys .entry)) e) r
+        (tree (now (pts .exit)) (r .points) (now (keys .exit)) (r .edges)) ⌝ }
+{
+    let mut source = [0usize; VERTICES];
+    let s = beside::sources(&*pts, n, vertices, v, &mut source);
+    let mut far = [forest::UNREACHED; VERTICES];
+    let mut root = [0usize; VERTICES];
+    let mut up = [VERTICES; VERTICES];
+    let mut via = [EDGES; VERTICES];
+    forest::forest(
+        ea,
+        eb,
+        el,
+        f,
+        v,
+        &source,
+        s,
+        &mut far,
+        &mut root,
+        &mut up,
+        &mut via,
+    );
+    let mut seat = [0usize; VERTICES];
+    beside::seats(&*pts, n, vertices, v, &root, &mut seat);
+    let c = beside::found(
+        w,
+        &*pts,
+        n,
+        macros,
+        &*keys,
+        e,
+        vertices,
+        v,
+        &far,
+        &up,
+        &seat,
+    );
+    if c.gain == 0 {
+        return Turn {
+            moved: false,
+            points: n,
+            edges: e,
+        };
+    }
+    let z = exchanged(vertices, &far, &up, &seat, &mut *pts, n, &mut *keys, e, c);
+    Turn {
+        moved: true,
+        points: z.points,
+        edges: z.edges,
+    }
+}
