@@ -15,3 +15,4 @@ pub mod EachLaws
 pub mod PermLaws
 pub mod TwoLaws
 pub mod LeastOf
+pub mod TurnLaws

@@ -30,6 +30,8 @@
 --   Least le l        an entry of l that is `le` each entry
 --   total l, most l   the sum and the greatest of a list of numbers
 --   above t l         how many numbers of a list are above t
+--   turns f i n s     the state s after f at the n numbers from i on
+--   seek t i n        the first of these numbers that passes t
 pub mod Any
 pub mod Entries
 pub mod Member
@@ -38,3 +40,4 @@ pub mod Sorted
 pub mod Carry
 pub mod Least
 pub mod Total
+pub mod Turns

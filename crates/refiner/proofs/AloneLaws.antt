@@ -20,9 +20,9 @@ use Rattle.joined.proofs.JoinedLaws.{one, through}
 use Rattle.joined.proofs.OtherLaws.{alike-sym, alike-trans, alike-joined}
 use Rattle.joined.proofs.CountLaws.{enough}
 use Rattle.tree.specs.Table.{firstEnd, secondEnd}
-use Rattle.refiner.specs.Exchange.{closed}
+use Rattle.exchanges.specs.Exchange.{closed}
 use Rattle.tree.specs.Places.{listing, endsOf, pointsOf, edgesOf}
-use Rattle.refiner.proofs.ExchangeSums.{closed-at, skip, skip-low, skip-high}
+use Rattle.exchanges.proofs.ExchangeSums.{closed-at, skip, skip-low, skip-high}
 use Rattle.tree.proofs.ListingLaws.{listing-length, in-listing, of-listing}
 use Rattle.tree.proofs.PointLaws.{same-place}
 

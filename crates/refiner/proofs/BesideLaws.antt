@@ -26,18 +26,18 @@ use Rattle.forest.specs.Parents.{wayAfter, Nearing}
 use Rattle.forest.proofs.ListedLaws.{read-listed, entry-listed, listed-none, listed-more}
 use Rattle.forest.proofs.WayLaws.{after-go, after-none}
 use Rattle.tree.specs.Table.{treeBound, pairBound, Small}
-use Rattle.refiner.specs.declared.Best.{Best}
+use Rattle.candidates.specs.declared.Best.{Best}
 use Rattle.refiner.specs.declared.Choice.{Choice}
-use Rattle.refiner.specs.Turns.{turns}
-use Rattle.refiner.specs.Longest.{Reach, reach, reached, start, measure, costs, longest, noEdge, cutOf}
-use Rattle.refiner.specs.Candidate.{best, chosen, sees, dropped}
-use Rattle.refiner.specs.Candidate as tree
-use Rattle.refiner.specs.Exchange.{rank, stands}
+use Rattle.lists.specs.Turns.{turns}
+use Rattle.candidates.specs.Longest.{Reach, reach, reached, start, measure, costs, longest, noEdge, cutOf}
+use Rattle.candidates.specs.Candidate.{best, chosen, sees, dropped}
+use Rattle.candidates.specs.Candidate as tree
+use Rattle.exchanges.specs.Exchange.{rank, stands}
 use Rattle.refiner.specs.Beside.{isPoint, sourcesFrom, takeSeat, onWay, free, weighed, offer, search, chosenOf}
 use Rattle.refiner.specs.Beside.{choice, either as chosenEither}
-use Rattle.refiner.proofs.LongestLaws.{small-set}
-use Rattle.refiner.proofs.TurnLaws.{turns-keep}
-use Rattle.refiner.proofs.WithinLaws.{rank-le}
+use Rattle.candidates.proofs.LongestLaws.{small-set}
+use Rattle.lists.proofs.TurnLaws.{turns-keep}
+use Rattle.exchanges.proofs.WithinLaws.{rank-le}
 
 and-false : (a : Bool) → (a && false) ≡ false
 and-false true = refl

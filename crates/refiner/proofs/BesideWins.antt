@@ -19,10 +19,10 @@ use Rattle.plane.specs.Cost.{cost}
 use Rattle.plane.specs.Flat.{placeAt}
 use Rattle.forest.specs.Parents.{wayAfter}
 use Rattle.tree.specs.Table.{firstEnd, secondEnd}
-use Rattle.refiner.specs.declared.Best.{Best}
-use Rattle.refiner.specs.Turns.{turns}
-use Rattle.refiner.specs.Longest.{cutOf}
-use Rattle.refiner.specs.Candidate.{best, sees, dropped}
+use Rattle.candidates.specs.declared.Best.{Best}
+use Rattle.lists.specs.Turns.{turns}
+use Rattle.candidates.specs.Longest.{cutOf}
+use Rattle.candidates.specs.Candidate.{best, sees, dropped}
 use Rattle.refiner.specs.Beside.{onWay, free, middleBeside, weighed, offer, offers, search}
 use Rattle.refiner.proofs.TakesLaws.{last-or}
 

@@ -10,13 +10,13 @@ use lib.ListN.{length, getD, set, length-set}
 use borrow.Author.Tests.{ltb-true, ltb-false, lt-ltb, le-ltb}
 use Rattle.lists.proofs.TestLaws.{by, differ}
 use Rattle.tree.proofs.SumLaws.{other, here}
-use Rattle.refiner.specs.Turns.{seek}
-use Rattle.refiner.specs.Exchange.{bump, carrying}
+use Rattle.lists.specs.Turns.{seek}
+use Rattle.exchanges.specs.Exchange.{bump, carrying}
 use Rattle.refiner.specs.Graft.{notBelow, keyRank}
-use Rattle.refiner.proofs.ExchangeLaws.{bump-lt, bump-ge}
-use Rattle.refiner.proofs.ExchangeSums.{carrying-low}
-use Rattle.refiner.proofs.OpenedLaws.{seek-before, seek-hit}
-use Rattle.refiner.proofs.WithinLaws.{seek-le}
+use Rattle.exchanges.proofs.ExchangeLaws.{bump-lt, bump-ge}
+use Rattle.exchanges.proofs.ExchangeSums.{carrying-low}
+use Rattle.exchanges.proofs.OpenedLaws.{seek-before, seek-hit}
+use Rattle.exchanges.proofs.WithinLaws.{seek-le}
 
 -- the entries from i on, n of them, rise
 abbrev Rises : List ℕ → ℕ → ℕ → Type 0

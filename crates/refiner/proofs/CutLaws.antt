@@ -21,13 +21,13 @@ use Rattle.joined.proofs.TreeLaws.{tree-cuts}
 use Rattle.joined.proofs.OneTreeLaws.{tree-simple}
 use Rattle.joined.proofs.OnlyWay.{only-way}
 use Rattle.tree.specs.Table.{treeBound, key, firstEnd, secondEnd, Within}
-use Rattle.refiner.specs.Longest.{wins, shorter, noEdge, start, reached, cutOf}
+use Rattle.candidates.specs.Longest.{wins, shorter, noEdge, start, reached, cutOf}
 use Rattle.tree.specs.Places.{endsOf, pointsOf, edgesOf, InOrder}
-use Rattle.refiner.proofs.LongestLaws.{shorter-yes, shorter-no}
-use Rattle.refiner.proofs.WinsLaws.{Under, wins-under, wins-not, under-same}
+use Rattle.candidates.proofs.LongestLaws.{shorter-yes, shorter-no}
+use Rattle.candidates.proofs.WinsLaws.{Under, wins-under, wins-not, under-same}
 use Rattle.tree.proofs.ListingLaws.{in-listing}
 use Rattle.tree.proofs.PointLaws.{same-place}
-use Rattle.refiner.proofs.PruneSound.{order-same}
+use Rattle.exchanges.proofs.PruneSound.{order-same}
 use Rattle.refiner.proofs.LongestSound.{Ends, Top, Known, steps-old}
 use Rattle.refiner.proofs.ReachedLaws.{all-known, all-even}
 use Rattle.refiner.proofs.AloneLaws.{alone}

@@ -20,13 +20,13 @@ use Rattle.joined.specs.Joined.{Alike}
 use Rattle.joined.proofs.TreeLaws.{tree-cuts}
 use Rattle.joined.proofs.TowardLaws.{toward-only}
 use Rattle.joined.proofs.ExchangeLaws.{step-other}
-use Rattle.refiner.specs.declared.Best.{Best}
+use Rattle.candidates.specs.declared.Best.{Best}
 use Rattle.tree.specs.Table.{treeBound, firstEnd, secondEnd, Tree, tree}
-use Rattle.refiner.specs.Longest.{costs, longest, noEdge}
-use Rattle.refiner.specs.Candidate.{chosen, weighed, offer}
+use Rattle.candidates.specs.Longest.{costs, longest, noEdge}
+use Rattle.candidates.specs.Candidate.{chosen, weighed, offer}
 use Rattle.tree.specs.Places.{endsOf, edgesOf, Sound}
 use Rattle.refiner.specs.Sentences.{keyAt, endA, endB, costAt, EndOf, StepOf, LongestOn, CutAt, cutIn}
-use Rattle.refiner.proofs.WinsLaws.{Under}
+use Rattle.candidates.proofs.WinsLaws.{Under}
 use Rattle.tree.proofs.ListingLaws.{listing-length, in-listing}
 use Rattle.tree.proofs.PointLaws.{same-place}
 use Rattle.refiner.proofs.CutLaws.{Is, cut-is, the-way}

@@ -17,11 +17,11 @@ use Rattle.forest.specs.Parents.{wayAfter, Nearing}
 use Rattle.forest.proofs.WayLaws.{after-go, after-none}
 use Rattle.tree.specs.Table.{treeBound, key, In, Within}
 use Rattle.refiner.specs.declared.Growth.{Growth}
-use Rattle.refiner.specs.Turns.{turns, seek}
-use Rattle.refiner.specs.Exchange.{rank, opened, bump, bumpAt, carrying}
+use Rattle.lists.specs.Turns.{turns, seek}
+use Rattle.exchanges.specs.Exchange.{rank, opened, bump, bumpAt, carrying}
 use Rattle.refiner.specs.Graft.{Grown, grown, pairKey, notBelow, keyRank, leaf, grafted, Growing}
-use Rattle.refiner.proofs.ExchangeLaws.{bump-lt, bump-ge}
-use Rattle.refiner.proofs.WithinLaws.{bump-in, in-key, within-more, within-bumped, within-carrying, rank-le}
+use Rattle.exchanges.proofs.ExchangeLaws.{bump-lt, bump-ge}
+use Rattle.exchanges.proofs.WithinLaws.{bump-in, in-key, within-more, within-bumped, within-carrying, rank-le}
 
 -- Keys
 

@@ -23,7 +23,7 @@ use Rattle.tree.specs.Table.{treeBound, Tree}
 use Rattle.tree.specs.Places.{endsOf, pointsOf, edgesOf, treeTotal, Ranked, Sound}
 use Rattle.tree.proofs.ListingLaws.{in-listing}
 use Rattle.refiner.specs.Graft.{Grown, leaf, grafted}
-use Rattle.refiner.proofs.WithinLaws.{bump-in, rank-le}
+use Rattle.exchanges.proofs.WithinLaws.{bump-in, rank-le}
 use Rattle.refiner.proofs.LeafSound as leafed
 
 -- z is a step of the way from x through qs, made either way

@@ -31,13 +31,13 @@ use Rattle.forest.specs.Setting.{pairs}
 use Rattle.tree.specs.Table.{treeBound, firstEnd, secondEnd, Tree}
 use Rattle.tree.specs.Places.{endsOf, pointsOf, edgesOf, InOrder, Ranked, Sound}
 use Rattle.tree.proofs.ListingLaws.{in-listing, of-listing}
-use Rattle.refiner.specs.Longest.{costs, longest}
-use Rattle.refiner.specs.Candidate.{middleOf, sees, dropped}
+use Rattle.candidates.specs.Longest.{costs, longest}
+use Rattle.candidates.specs.Candidate.{middleOf, sees, dropped}
 use Rattle.refiner.specs.Beside.{Ground, onWay, middleBeside, labelsIn, parentsIn, seatsIn}
 use Rattle.refiner.specs.Graft.{Grown, grafted}
 use Rattle.refiner.specs.Ready.{verticesOf, vertexAt, Grounded}
 use Rattle.refiner.specs.Sentences.{keyAt, endA, endB, EndOf, CutAt}
-use Rattle.refiner.specs.Taken.{Taken}
+use Rattle.candidates.specs.Taken.{Taken}
 use Rattle.refiner.proofs.CutSound.{cut-at}
 use Rattle.refiner.proofs.TakesLaws.{not-dropped, dropped-not, Other}
 use Rattle.refiner.proofs.GraftSound.{Grows, grows-way}

@@ -34,16 +34,16 @@ use Rattle.tree.specs.Places.{endsOf, pointsOf, edgesOf, keyCost, treeTotal, In
 use Rattle.tree.proofs.SumLaws.{below-same, below-some, one, one-same, one-some, in-table, of-table}
 use Rattle.tree.proofs.ListingLaws.{listing-length, in-listing, of-listing}
 use Rattle.tree.proofs.PointLaws.{order-once}
-use Rattle.refiner.specs.Turns.{turns}
-use Rattle.refiner.specs.Exchange.{rank, stands, opened, bump, bumpAt, carrying}
+use Rattle.lists.specs.Turns.{turns}
+use Rattle.exchanges.specs.Exchange.{rank, stands, opened, bump, bumpAt, carrying}
 use Rattle.refiner.specs.Graft.{Grown, pairKey, keyRank, leaf}
-use Rattle.refiner.proofs.WithinLaws.{rank-le, bump-in, within-more, within-bumped, within-carrying}
-use Rattle.refiner.proofs.ExchangeSums.{bumpKey, bumps-at, over-carrying, over-bumped, length-bumps, length-carrying}
-use Rattle.refiner.proofs.OpenedLaws.{opened-length, opened-low, opened-new, opened-past, opened-bump, opened-order}
-use Rattle.refiner.proofs.AfterLaws.{first-of, second-of}
-use Rattle.refiner.proofs.RankedLaws.{Level, carry-level, bumped-ranked, ranked-level, ranked-of}
+use Rattle.exchanges.proofs.WithinLaws.{rank-le, bump-in, within-more, within-bumped, within-carrying}
+use Rattle.exchanges.proofs.ExchangeSums.{bumpKey, bumps-at, over-carrying, over-bumped, length-bumps, length-carrying}
+use Rattle.exchanges.proofs.OpenedLaws.{opened-length, opened-low, opened-new, opened-past, opened-bump, opened-order}
+use Rattle.exchanges.proofs.AfterLaws.{first-of, second-of}
+use Rattle.exchanges.proofs.RankedLaws.{Level, carry-level, bumped-ranked, ranked-level, ranked-of}
 use Rattle.refiner.proofs.CutSound.{tree-size}
-use Rattle.refiner.proofs.ExchangeSound.{bump-not}
+use Rattle.exchanges.proofs.ExchangeSound.{bump-not}
 use Rattle.refiner.proofs.GraftLaws.{in-pair, bump-apart}
 use Rattle.refiner.proofs.CarriedLaws.{carried-at}
 

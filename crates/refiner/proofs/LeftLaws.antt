@@ -20,20 +20,19 @@ use Rattle.plane.specs.Flat.{placeAt}
 use Rattle.net.specs.Net.{Net}
 use Rattle.plane.proofs.PlaceLaws.{same-true}
 use Rattle.joined.proofs.OneTreeLaws.{tree-simple}
-use Rattle.refiner.specs.Turns.{turns}
+use Rattle.lists.specs.Turns.{turns}
 use Rattle.tree.specs.Table.{treeBound, firstEnd, secondEnd, Tree, Within}
-use Rattle.refiner.specs.Exchange.{closed}
-use Rattle.refiner.specs.Prune.{markOf, marks, countEnds, loose, looseEdge, firstLoose, prune}
-use Rattle.refiner.specs.Refined.{pruned}
+use Rattle.exchanges.specs.Exchange.{closed}
+use Rattle.exchanges.specs.Prune.{markOf, marks, countEnds, loose, looseEdge, firstLoose, prune, pruned}
 use Rattle.tree.specs.Sum.{below, sumOver}
 use Rattle.tree.specs.Places.{endsOf, Sound}
 use Rattle.refiner.specs.Sentences.{NoneLeft}
 use Rattle.tree.proofs.SumLaws.{below-at, below-some, one, one-same, one-some, one-not}
-use Rattle.refiner.proofs.OpenedLaws.{seek-before}
-use Rattle.refiner.proofs.WithinLaws.{seek-le, pruned-within}
+use Rattle.exchanges.proofs.OpenedLaws.{seek-before}
+use Rattle.exchanges.proofs.WithinLaws.{seek-le, pruned-within}
 use Rattle.tree.proofs.ListingLaws.{in-listing}
 use Rattle.tree.proofs.PointLaws.{same-place}
-use Rattle.refiner.proofs.PruneSound.{endCount, degree, pruned-was}
+use Rattle.exchanges.proofs.PruneSound.{endCount, degree, pruned-was}
 use Rattle.refiner.proofs.RefinedSound.{marks-at, zeros-length}
 
 first-none : (pin ks : List ℕ) → firstLoose pin ks 0 ≡ 0

@@ -22,14 +22,14 @@ use Rattle.joined.specs.Exchange.{steps}
 use Rattle.joined.proofs.JoinedLaws.{firsts, seconds}
 use Rattle.joined.proofs.OtherLaws.{alike-trans}
 use Rattle.tree.specs.Table.{treeBound, pairBound, key, firstEnd, secondEnd}
-use Rattle.refiner.specs.Longest.{wins, longer, noEdge, spreads, Reach, reach}
+use Rattle.candidates.specs.Longest.{wins, longer, noEdge, spreads, Reach, reach}
 use Rattle.tree.specs.Places.{endsOf, edgesOf, InOrder}
-use Rattle.refiner.proofs.LongestLaws.{longer-yes, longer-no}
-use Rattle.refiner.proofs.WinsLaws.{Under, wins-under, under-trans, longer-first, longer-second}
-use Rattle.refiner.proofs.ReadingLaws.{untouched, spreads-length, spreads-row, spreads-column, spreads-self}
+use Rattle.candidates.proofs.LongestLaws.{longer-yes, longer-no}
+use Rattle.candidates.proofs.WinsLaws.{Under, wins-under, under-trans, longer-first, longer-second}
+use Rattle.candidates.proofs.ReadingLaws.{untouched, spreads-length, spreads-row, spreads-column, spreads-self}
 use Rattle.tree.proofs.SumLaws.{other, here as put-here}
 use Rattle.tree.proofs.ListingLaws.{in-listing}
-use Rattle.refiner.proofs.PruneSound.{order-same}
+use Rattle.exchanges.proofs.PruneSound.{order-same}
 
 -- a way with one step more at its end
 way-end : {T : List (Place × Place)} {x y z : Place} {ps : List Place} → Way T x ps y → Link T y z → Way T x (ps ++ (z ∷ [])) z

@@ -20,15 +20,15 @@ use Rattle.joined.specs.Tree as joined
 use Rattle.joined.specs.Way.{Way, stop, go}
 use Rattle.joined.specs.Exchange.{steps}
 use Rattle.joined.proofs.WayLaws.{joined-free}
-use Rattle.refiner.specs.Turns.{turns}
+use Rattle.lists.specs.Turns.{turns}
 use Rattle.tree.specs.Table.{treeBound, pairBound, key, firstEnd, secondEnd, Within}
-use Rattle.refiner.specs.Longest.{noEdge, Reach, hang, attach, pass, reached, start}
+use Rattle.candidates.specs.Longest.{noEdge, Reach, hang, attach, pass, reached, start}
 use Rattle.tree.specs.Places.{endsOf, pointsOf, edgesOf, InOrder}
-use Rattle.refiner.proofs.TurnLaws.{turns-keep, turns-below}
+use Rattle.lists.proofs.TurnLaws.{turns-keep, turns-below}
 use Rattle.tree.proofs.SumLaws.{other, here as put-here}
 use Rattle.tree.proofs.ListingLaws.{listing-length, in-listing, of-listing}
 use Rattle.tree.proofs.PointLaws.{same-place}
-use Rattle.refiner.proofs.PruneSound.{order-same}
+use Rattle.exchanges.proofs.PruneSound.{order-same}
 use Rattle.refiner.proofs.LongestSound.{Ends, Known, Good, hung}
 
 same-entry : (m x i : ℕ) → i < m → getD (replicate m x) i 0 ≡ x

@@ -22,20 +22,20 @@ use Rattle.forest.proofs.LabelLaws.{Fine}
 use Rattle.forest.proofs.ForestLaws.{made-fine, made-falls}
 use Rattle.forest.proofs.WayLaws.{falls-nearing}
 use Rattle.tree.specs.Table.{firstEnd, secondEnd, Tree}
-use Rattle.refiner.specs.declared.Best.{Best}
+use Rattle.candidates.specs.declared.Best.{Best}
 use Rattle.refiner.specs.declared.Choice.{Choice}
-use Rattle.refiner.specs.Turns.{turns}
-use Rattle.refiner.specs.Longest.{cutOf, costs, longest}
-use Rattle.refiner.specs.Candidate.{best, found}
-use Rattle.refiner.specs.Candidate as tree
-use Rattle.refiner.specs.Exchange.{exchange}
+use Rattle.lists.specs.Turns.{turns}
+use Rattle.candidates.specs.Longest.{cutOf, costs, longest}
+use Rattle.candidates.specs.Candidate.{best, found}
+use Rattle.candidates.specs.Candidate as tree
+use Rattle.exchanges.specs.Exchange.{exchange}
 use Rattle.refiner.specs.Beside.{Ground, sourcesFrom, takeSeat, seats, middleBeside, free, weighed, offer, offers, search}
 use Rattle.refiner.specs.Beside.{either, chosenOf, labelsIn, parentsIn, seatsIn, chosenIn}
 use Rattle.refiner.specs.Graft.{Grown, grafted}
 use Rattle.refiner.specs.Round.{exchangeWith, exchangeIn}
 use Rattle.refiner.specs.Ready.{Roomy, Exchangeable}
-use Rattle.refiner.proofs.TurnLaws.{turns-below}
-use Rattle.refiner.proofs.WithinLaws.{cut-in, fine-found}
+use Rattle.lists.proofs.TurnLaws.{turns-below}
+use Rattle.exchanges.proofs.WithinLaws.{cut-in, fine-found}
 
 -- What the search finds is in range
 

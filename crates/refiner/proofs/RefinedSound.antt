@@ -21,18 +21,18 @@ use Rattle.plane.specs.Flat.{placeAt}
 use Rattle.net.specs.Net.{Net}
 use Rattle.plane.proofs.PlaceLaws.{same-refl}
 use Rattle.joined.proofs.OneTreeLaws.{tree-one}
-use Rattle.refiner.specs.Turns.{turns}
+use Rattle.lists.specs.Turns.{turns}
 use Rattle.tree.specs.Table.{treeBound, Tree}
-use Rattle.refiner.specs.Prune.{markOf, mark, marks}
-use Rattle.refiner.specs.Refined.{pruned, refined}
+use Rattle.exchanges.specs.Prune.{markOf, mark, marks, pruned}
+use Rattle.refiner.specs.Refined.{refined}
 use Rattle.refiner.specs.Promise.{Promise, Tabled}
 use Rattle.tree.specs.Places.{endsOf, pointsOf, keyCost, Ranked, Sound}
 use Rattle.tree.proofs.SumLaws.{other, here}
 use Rattle.tree.proofs.ListingLaws.{listing-length, in-listing, of-listing}
 use Rattle.tree.proofs.PointLaws.{same-place}
-use Rattle.refiner.proofs.WithinLaws.{pruned-few, pruned-within}
-use Rattle.refiner.proofs.RankedLaws.{prune-ranked}
-use Rattle.refiner.proofs.PruneSound.{Whole, prune-whole, pruned-was, pruned-over}
+use Rattle.exchanges.proofs.WithinLaws.{pruned-few, pruned-within}
+use Rattle.exchanges.proofs.RankedLaws.{prune-ranked}
+use Rattle.exchanges.proofs.PruneSound.{Whole, prune-whole, pruned-was, pruned-over}
 use Rattle.refiner.specs.Beside.{Ground}
 use Rattle.refiner.specs.Round.{roundsIn}
 use Rattle.refiner.specs.Ready.{verticesOf, Ready}

@@ -14,25 +14,25 @@ use Rattle.plane.specs.declared.Place.{Place}
 use Rattle.plane.specs.declared.Weights.{Weights}
 use Rattle.plane.specs.Flat.{placeAt}
 use Rattle.net.specs.Net.{Net}
-use Rattle.refiner.specs.declared.Best.{Best}
-use Rattle.refiner.specs.Turns.{turns}
+use Rattle.candidates.specs.declared.Best.{Best}
+use Rattle.lists.specs.Turns.{turns}
 use Rattle.tree.specs.Table.{treeBound, firstEnd, secondEnd, row, Tree, tree}
-use Rattle.refiner.specs.Longest.{edgeCost, costs, longest}
-use Rattle.refiner.specs.Candidate.{middleOf, found}
-use Rattle.refiner.specs.Exchange.{dropTwo, rank, stands, bump, bumpAt, star, laidAt, exchange}
+use Rattle.candidates.specs.Longest.{edgeCost, costs, longest}
+use Rattle.candidates.specs.Candidate.{middleOf, found}
+use Rattle.exchanges.specs.Exchange.{dropTwo, rank, stands, bump, bumpAt, star, laidAt, exchange}
 use Rattle.refiner.specs.Refined.{addCost, total}
 use Rattle.tree.specs.Sum.{below, sumOver}
 use Rattle.tree.specs.Places.{pointsOf, keyCost, treeTotal, Ranked, Sound}
 use Rattle.tree.specs.Outside.{strangers}
-use Rattle.refiner.specs.Taken.{Taken}
-use Rattle.refiner.proofs.ExchangeSums.{length-lays, length-bumps, length-dropped}
-use Rattle.refiner.proofs.OpenedLaws.{opened-length}
+use Rattle.candidates.specs.Taken.{Taken}
+use Rattle.exchanges.proofs.ExchangeSums.{length-lays, length-bumps, length-dropped}
+use Rattle.exchanges.proofs.OpenedLaws.{opened-length}
 use Rattle.tree.proofs.ListingLaws.{listing-length}
 use Rattle.tree.proofs.PointLaws.{order-once}
 use Rattle.tree.proofs.OutsideLaws.{outside-more}
-use Rattle.refiner.proofs.WithinLaws.{rank-le, within-dropped}
-use Rattle.refiner.proofs.RankedLaws.{dropped-ranked, laid-level, ranked-of}
-use Rattle.refiner.proofs.ExchangeSound.{laid-sound, laid-known, laid-costs}
+use Rattle.exchanges.proofs.WithinLaws.{rank-le, within-dropped}
+use Rattle.exchanges.proofs.RankedLaws.{dropped-ranked, laid-level, ranked-of}
+use Rattle.exchanges.proofs.ExchangeSound.{laid-sound, laid-known, laid-costs}
 use Rattle.refiner.proofs.CutLaws.{Is, cut-is, the-way}
 use Rattle.refiner.proofs.WinnerLaws.{Winner, found-wins, cost-at, no-cost}
 

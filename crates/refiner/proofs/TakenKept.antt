@@ -13,14 +13,14 @@ use Rattle.plane.specs.Flat.{placeAt}
 use Rattle.net.specs.Net.{Net, costIn}
 use Rattle.tree.specs.Table.{treeBound, firstEnd, secondEnd, Tree, tree}
 use Rattle.tree.specs.Places.{pointsOf, keyCost, treeTotal, Ranked, Sound}
-use Rattle.refiner.specs.declared.Best.{Best}
-use Rattle.refiner.specs.Candidate.{middleOf}
-use Rattle.refiner.specs.Exchange.{dropTwo, rank, laidAt, exchange}
-use Rattle.refiner.specs.Taken.{Taken}
-use Rattle.refiner.proofs.ExchangeSums.{length-dropped}
-use Rattle.refiner.proofs.WithinLaws.{rank-le, within-dropped}
-use Rattle.refiner.proofs.RankedLaws.{dropped-ranked, laid-level, ranked-of}
-use Rattle.refiner.proofs.ExchangeSound.{laid-sound, laid-known, laid-costs}
+use Rattle.candidates.specs.declared.Best.{Best}
+use Rattle.candidates.specs.Candidate.{middleOf}
+use Rattle.exchanges.specs.Exchange.{dropTwo, rank, laidAt, exchange}
+use Rattle.candidates.specs.Taken.{Taken}
+use Rattle.exchanges.proofs.ExchangeSums.{length-dropped}
+use Rattle.exchanges.proofs.WithinLaws.{rank-le, within-dropped}
+use Rattle.exchanges.proofs.RankedLaws.{dropped-ranked, laid-level, ranked-of}
+use Rattle.exchanges.proofs.ExchangeSound.{laid-sound, laid-known, laid-costs}
 use Rattle.refiner.proofs.CutSound.{tree-size}
 use Rattle.refiner.proofs.RoundSound.{exchange-laid, laid-places, laid-rows}
 

@@ -22,14 +22,14 @@ use Rattle.plane.specs.Macro.{clear}
 use Rattle.plane.specs.Flat.{placeAt}
 use Rattle.net.specs.Net.{Net}
 use Rattle.plane.proofs.PlaceLaws.{same-true, same-refl}
-use Rattle.refiner.specs.declared.Best.{Best}
-use Rattle.refiner.specs.Turns.{turns, seek}
+use Rattle.candidates.specs.declared.Best.{Best}
+use Rattle.lists.specs.Turns.{turns, seek}
 use Rattle.tree.specs.Table.{treeBound, firstEnd, secondEnd, Tree}
-use Rattle.refiner.specs.Longest.{costs, longest, cutOf}
-use Rattle.refiner.specs.Candidate.{best, middleOf, sees, taken, dropped, allowed, weighed, offer, offers, search, found}
+use Rattle.candidates.specs.Longest.{costs, longest, cutOf}
+use Rattle.candidates.specs.Candidate.{best, middleOf, sees, taken, dropped, allowed, weighed, offer, offers, search, found}
 use Rattle.tree.specs.Places.{Sound}
 use Rattle.refiner.specs.Sentences.{keyAt, endA, endB, costAt, EndOf, middleAt, CutAt, cutIn, Gains, Takes}
-use Rattle.refiner.proofs.OpenedLaws.{seek-before, seek-hit}
+use Rattle.exchanges.proofs.OpenedLaws.{seek-before, seek-hit}
 use Rattle.refiner.proofs.WinnerLaws.{Winner, found-wins, cost-at}
 use Rattle.refiner.proofs.CutSound.{tree-size, cut-at, cut-one, cut-another}
 

@@ -39,8 +39,8 @@ use Rattle.tree.proofs.SumLaws.{other, here as set-here}
 use Rattle.tree.proofs.ListingLaws.{listing-length, in-listing}
 use Rattle.tree.proofs.PointLaws.{order-once}
 use Rattle.tree.proofs.OutsideLaws.{outside-rest}
-use Rattle.refiner.specs.Turns.{turns}
-use Rattle.refiner.specs.Exchange.{rank}
+use Rattle.lists.specs.Turns.{turns}
+use Rattle.exchanges.specs.Exchange.{rank}
 use Rattle.refiner.specs.Beside.{Ground, takeSeat, seats, labelsIn, parentsIn, seatsIn}
 use Rattle.refiner.specs.Ready.{verticesOf, vertexAt, Grounded}
 use Rattle.refiner.proofs.WayFound.{point-is, is-seated, sources, distance, source-in, in-source, setting, whole}

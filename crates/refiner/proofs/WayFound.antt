@@ -33,12 +33,12 @@ use Rattle.forest.proofs.Homeward.{source-label, far-off, root-source, wayPoint
 use Rattle.tree.specs.Table.{treeBound, Tree}
 use Rattle.tree.specs.Places.{pointsOf, InOrder, Sound}
 use Rattle.tree.proofs.ListingLaws.{in-listing, of-listing}
-use Rattle.refiner.specs.Turns.{turns, seek}
-use Rattle.refiner.specs.Exchange.{rank, later, stands}
+use Rattle.lists.specs.Turns.{turns, seek}
+use Rattle.exchanges.specs.Exchange.{rank, later, stands}
 use Rattle.refiner.specs.Beside.{Ground, isPoint, sourcesFrom, takeSeat, seats, labelsIn, parentsIn, seatsIn}
 use Rattle.refiner.specs.Ready.{verticesOf, vertexAt, Grounded}
-use Rattle.refiner.proofs.OpenedLaws.{rank-below, rank-above}
-use Rattle.refiner.proofs.WithinLaws.{rank-le}
+use Rattle.exchanges.proofs.OpenedLaws.{rank-below, rank-above}
+use Rattle.exchanges.proofs.WithinLaws.{rank-le}
 use Rattle.tree.proofs.SumLaws.{other, here as set-here}
 
 -- Points by their rank

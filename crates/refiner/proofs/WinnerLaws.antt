@@ -15,15 +15,15 @@ use Rattle.plane.specs.declared.Macro.{Macro}
 use Rattle.plane.specs.declared.Weights.{Weights}
 use Rattle.plane.specs.Cost.{cost}
 use Rattle.plane.specs.Flat.{placeAt}
-use Rattle.refiner.specs.declared.Best.{Best}
-use Rattle.refiner.specs.Turns.{turns}
+use Rattle.candidates.specs.declared.Best.{Best}
+use Rattle.lists.specs.Turns.{turns}
 use Rattle.tree.specs.Table.{treeBound, firstEnd, secondEnd}
-use Rattle.refiner.specs.Longest.{edgeCost, measure, costs, cutOf, longest, noEdge}
-use Rattle.refiner.specs.Candidate.{best, middleOf, sees, dropped, allowed, weighed, offer, offers, search, found}
+use Rattle.candidates.specs.Longest.{edgeCost, measure, costs, cutOf, longest, noEdge}
+use Rattle.candidates.specs.Candidate.{best, middleOf, sees, dropped, allowed, weighed, offer, offers, search, found}
 use Rattle.tree.specs.Places.{keyCost}
-use Rattle.refiner.proofs.TurnLaws.{turns-below}
+use Rattle.lists.proofs.TurnLaws.{turns-below}
 use Rattle.tree.proofs.SumLaws.{other, here}
-use Rattle.refiner.proofs.WithinLaws.{measured-past, zeros-at}
+use Rattle.exchanges.proofs.WithinLaws.{measured-past, zeros-at}
 
 -- the candidate of the edge k and the point u, with L and gain
 pub record Winner (w : Weights) (ms : List Macro) (pts : List ℤ) (n : ℕ) (ks : List ℕ) (e : ℕ) (el top : List ℕ)

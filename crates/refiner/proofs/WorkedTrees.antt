@@ -15,18 +15,18 @@ use Rattle.plane.specs.Cost.{cost, plain}
 use Rattle.plane.specs.Middle.{middle, middlePlace}
 use Rattle.plane.specs.Macro.{macro, spanMeets, meets, clear}
 use Rattle.plane.specs.Flat.{placeAt, flatPlaces}
-use Rattle.refiner.specs.Turns.{turns, seek}
+use Rattle.lists.specs.Turns.{turns, seek}
 use Rattle.tree.specs.Table.{key, firstEnd, secondEnd, tree}
-use Rattle.refiner.specs.Longest.{edgeCost, measure, costs, wins, longer, shorter}
-use Rattle.refiner.specs.Longest.{spread, spreads, hang, attach, pass, reached, start, longest, cutOf}
-use Rattle.refiner.specs.Candidate.{sees, taken, dropped, allowed, weighed, offer, offers, search, found}
-use Rattle.refiner.specs.Exchange.{shift, closed, dropTwo, later, rank, stands, push, closing, opened}
-use Rattle.refiner.specs.Exchange.{bump, bumpAt, carrying, lay, lays, laidAt, exchange}
-use Rattle.refiner.specs.Prune.{markOf, mark, marks, countEnds, loose, looseEdge, firstLoose, prune}
+use Rattle.candidates.specs.Longest.{edgeCost, measure, costs, wins, longer, shorter}
+use Rattle.candidates.specs.Longest.{spread, spreads, hang, attach, pass, reached, start, longest, cutOf}
+use Rattle.candidates.specs.Candidate.{sees, taken, dropped, allowed, weighed, offer, offers, search, found}
+use Rattle.exchanges.specs.Exchange.{shift, closed, dropTwo, later, rank, stands, push, closing, opened}
+use Rattle.exchanges.specs.Exchange.{bump, bumpAt, carrying, lay, lays, laidAt, exchange}
+use Rattle.exchanges.specs.Prune.{markOf, mark, marks, countEnds, loose, looseEdge, firstLoose, prune, pruned}
 use Rattle.refiner.specs.Beside.{Ground, ground, sourcesFrom, seats, offers as offersOff, search as searchOff, either, chosenOf}
 use Rattle.refiner.specs.Beside.{labelsIn, parentsIn, seatsIn, chosenIn}
 use Rattle.refiner.specs.Round.{exchangeWith, exchangeIn, roundsIn}
-use Rattle.refiner.specs.Refined.{pruned, refined, addCost, total}
+use Rattle.refiner.specs.Refined.{refined, addCost, total}
 use Rattle.forest.specs.Edges.{graph, from, filled}
 use Rattle.forest.specs.Labels.{settled, starts, labelled}
 use Rattle.forest.specs.Parents.{adopted, parented}

@@ -20,13 +20,13 @@ use Rattle.forest.specs.Edges.{Graph}
 use Rattle.forest.specs.Labels.{Labels, labelled}
 use Rattle.forest.specs.Parents.{Parents, parented, wayAfter}
 use Rattle.tree.specs.Table.{firstEnd, secondEnd, Tree}
-use Rattle.refiner.specs.declared.Best.{Best}
+use Rattle.candidates.specs.declared.Best.{Best}
 use Rattle.refiner.specs.declared.Choice.{Choice}
-use Rattle.refiner.specs.Turns.{turns}
-use Rattle.refiner.specs.Longest.{cutOf, costs, longest}
-use Rattle.refiner.specs.Candidate.{best, chosen, sees, dropped}
-use Rattle.refiner.specs.Candidate as tree
-use Rattle.refiner.specs.Exchange.{rank, stands}
+use Rattle.lists.specs.Turns.{turns}
+use Rattle.candidates.specs.Longest.{cutOf, costs, longest}
+use Rattle.candidates.specs.Candidate.{best, chosen, sees, dropped}
+use Rattle.candidates.specs.Candidate as tree
+use Rattle.exchanges.specs.Exchange.{rank, stands}
 
 -- The ground: the graph's vertices, two numbers each, in order, how many they are, and its edges by the numbers of their ends
 pub record Ground : Type 0 where

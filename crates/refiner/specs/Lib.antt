@@ -9,30 +9,13 @@
 -- end included, so that contracts speak of every number lent.
 -- Machines take the weights first and then what they need of the net; sentences and promises take the net.
 --
---   Turns      turns f i n s               the state s after f at the n numbers from i on
---              seek t i n                  the first of these numbers that passes t
---   Longest    edgeCost w, costs w         what an edge costs; all of them
---              wins, longer, shorter       the longer edge, by cost, the smaller on a tie
---              longest                     the table of the longest edge between every two points
---              cutOf                       L for an edge and a point
---   Candidate  middleOf                    s
---              sees, dropped, allowed      what a candidate must be
---              weighed, offer, search      the best candidate so far with one more; the one that a round takes
---              found                       the same from the tables of a tree
---   Exchange   closed, dropTwo             edges taken out
---              rank, opened, bump          where s belongs; the points with s put in; numbers moved on
---              lay, lays, star, laidAt     edges laid, except any of length zero; those from s
---              exchange                    what a round does with its candidate
---   Prune      marks                       which points are pins
---              loose, prune                no pin and a single edge; what is left when all such points are gone
 --   Beside     Ground, chosenIn            the graph that a tree is refined on; the candidate that a round takes, on the tree or beside it
 --   Graft      grafted                     the way laid from the tree, leaf by leaf
 --   Round      exchangeIn, roundsIn        what a round does; at most m of them
 --   Ready      Ready                       what the tables hold before each round
---   Refined    pruned, refined             at most m rounds, then pruning
+--   Refined    refined                     at most m rounds, then pruning
 --              total w                     the sum of what the edges cost
 --              Answer                      what the tables and the answer hold when a tree is refined
---   Taken      Taken                       what is known of a candidate that a round takes
 --   Promise    Promise                     what is promised of a refined tree
 --              Tabled                      what is promised of its tables: edges in order
 --   Sentences  CandidateOf                 an edge and a point are a candidate
@@ -43,11 +26,8 @@
 --
 -- THE THEOREMS, in the order of their proof.
 --   CutLaws        cut-is              `cutOf` is the longest edge, the smallest on a tie, of the way to whichever end is met first
---   ExchangeSound  laid-sound          a round keeps `Sound`;  laid-costs: the total falls by the gain
---   RankedLaws     laid-level          edges stay smaller place first and in order;  ranked-of: each once, since they are a tree
 --   RoundReady     rounds-ready        so do the rounds, each with at most one point more that is no vertex
 --   RoundSound     total-of            the contract's sum is `treeTotal`
---   PruneSound     prune-whole         pruning keeps a tree with all pins;  pruned-over: it raises no sum
 --   RefinedSound   refined-promise     the refined tree of a sound tree keeps `Promise`
 --                  refined-tabled      and `Tabled`, where the tree's edges are in order
 --   CutSound       cut-at              in a sound tree `cutOf` is `CutAt`;  cut-one: it alone is;
@@ -56,16 +36,10 @@
 --   TakesLaws      found-takes         in a sound tree `found` is the candidate that a round takes: `Takes`
 --   RoundSteps     rounds-none, -some  rounds one by one;  numbered: the order of numbers is that of edges and of places
 --   LeftLaws       none-loose          pruning ends with none left to go;  pruned-left: `NoneLeft` of what is left
-pub mod Turns
-pub mod Longest
-pub mod Candidate
-pub mod Exchange
 pub mod Beside
 pub mod Graft
 pub mod Round
-pub mod Prune
 pub mod Refined
-pub mod Taken
 pub mod Promise
 pub mod Sentences
 pub mod Ready

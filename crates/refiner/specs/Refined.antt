@@ -9,21 +9,12 @@ use Rattle.plane.specs.declared.Macro.{Macro}
 use Rattle.plane.specs.declared.Weights.{Weights}
 use Rattle.net.specs.Net.{Net}
 use Rattle.refiner.specs.declared.Refined.{Refined}
-use Rattle.refiner.specs.Turns.{turns}
+use Rattle.lists.specs.Turns.{turns}
 use Rattle.tree.specs.Table.{treeBound, Tree, tree, Within}
-use Rattle.refiner.specs.Longest.{edgeCost}
+use Rattle.candidates.specs.Longest.{edgeCost}
 use Rattle.refiner.specs.Beside.{Ground}
 use Rattle.refiner.specs.Round.{roundsIn}
-use Rattle.refiner.specs.Prune.{marks, prune}
-
--- the edges that are left of a tree's; its points stay in their table, also those that went
-unfoldable pub pruned : List Place → Tree → Tree
-pruned pins t =
-    record {
-      points = t .points;
-      count = t .count;
-      edges = prune (marks pins (t .points) (t .count)) (t .edges .keys) (t .edges .size);
-    }
+use Rattle.exchanges.specs.Prune.{pruned}
 
 unfoldable pub refined : Net → Ground → Tree → Tree
 refined net g t = pruned (net .pins) (roundsIn (net .weights) (net .macros) g (length (net .pins)) t)

@@ -10,8 +10,8 @@ use Rattle.plane.specs.declared.Weights.{Weights}
 use Rattle.forest.specs.Parents.{wayAfter}
 use Rattle.tree.specs.Table.{Tree}
 use Rattle.refiner.specs.declared.Choice.{Choice}
-use Rattle.refiner.specs.Candidate.{best}
-use Rattle.refiner.specs.Exchange.{exchange}
+use Rattle.candidates.specs.Candidate.{best}
+use Rattle.exchanges.specs.Exchange.{exchange}
 use Rattle.refiner.specs.Beside.{Ground, labelsIn, parentsIn, seatsIn, chosenIn}
 use Rattle.refiner.specs.Graft.{grafted}
 

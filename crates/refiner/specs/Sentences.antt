@@ -14,11 +14,11 @@ use Rattle.plane.specs.Flat.{placeAt}
 use Rattle.net.specs.Net.{Net, costIn}
 use Rattle.joined.specs.Joined.{Alike}
 use Rattle.joined.specs.Exchange.{Toward, steps}
-use Rattle.refiner.specs.declared.Best.{Best}
+use Rattle.candidates.specs.declared.Best.{Best}
 use Rattle.tree.specs.Table.{firstEnd, secondEnd, Tree}
-use Rattle.refiner.specs.Longest.{costs, longest, cutOf}
-use Rattle.refiner.specs.Candidate.{middleOf, found}
-use Rattle.refiner.specs.Exchange.{exchange}
+use Rattle.candidates.specs.Longest.{costs, longest, cutOf}
+use Rattle.candidates.specs.Candidate.{middleOf, found}
+use Rattle.exchanges.specs.Exchange.{exchange}
 use Rattle.tree.specs.Places.{endsOf, edgesOf, keyCost}
 
 -- the key of the edge k, and its ends a and b

@@ -2,15 +2,15 @@
 //
 // Roots and parents with the tree's own vertices as sources: the root of a vertex beside the tree is the tree point v that it is joined to,
 // and its way to the root is the way that is laid.
-use crate::Best;
+use candidates::Best;
 use crate::Choice;
-use crate::NONE;
-use crate::PAIRS;
+use candidates::NONE;
+use candidates::PAIRS;
 use crate::VERTEX_NUMBERS;
 use crate::VERTICES;
-use crate::candidate;
-use crate::exchange;
-use crate::longest;
+use candidates::candidate;
+use exchanges::exchange;
+use candidates::longest;
 use plane::Place;
 use plane::Weights;
 use tree::NUMBERS;
@@ -23,7 +23,7 @@ ghost use Rattle.forest.specs.Bounds.{pointBound};
 ghost use Rattle.forest.specs.Edges.{entries, Below, FirstBelow};
 ghost use Rattle.forest.specs.Labels.{Low};
 ghost use Rattle.forest.specs.Parents.{wayAfter, Nearing};
-ghost use Rattle.refiner.specs.Turns.{turns};
+ghost use Rattle.lists.specs.Turns.{turns};
 ghost use Rattle.tree.specs.Table.{treeBound, pairBound, Small};
 ghost use Rattle.refiner.specs.Beside.{isPoint, sourcesFrom, takeSeat, onWay, free, weighed, offer, offers, search, chosenOf};
 

@@ -3,7 +3,7 @@ use crate::Growth;
 use crate::VERTEX_NUMBERS;
 use crate::VERTICES;
 use crate::beside;
-use crate::exchange;
+use exchanges::exchange;
 use plane::Place;
 use tree::NUMBERS;
 use tree::POINTS;

@@ -3,13 +3,11 @@
 // A point is its number in the table of points, which is in the order of places; an edge is the key of its ends' numbers, in a table in the
 // order of edges. So every tie is settled by scanning upwards and giving way only to what is strictly better.
 mod beside; // beside.rt: vertices beside the tree, and the candidates with them
-mod candidate; // candidate.rt: candidates, and the one that a round takes
-mod exchange; // exchange.rt: what a round does with it
 mod graft; // graft.rt: a way to a vertex beside the tree, laid
-mod longest; // longest.rt: the longest edge between every two points
-mod prune; // prune.rt: points that go at the end
 mod round; // round.rt: a round
 
+use candidates::longest;
+use exchanges::prune;
 use net::Net;
 use plane::Weights;
 use tree::NUMBERS;
@@ -27,26 +25,12 @@ ghost use Rattle.refiner.specs.Round.{roundsIn};
 ghost use Rattle.refiner.specs.Refined.{total, Answer};
 ghost use Rattle.refiner.specs.Ready.{Ready};
 
-// All pairs of points.
-pub const PAIRS: usize = POINTS * POINTS;
-
 // Vertices of the graph, and the numbers of their places.
 pub const VERTICES: usize = forest::POINTS;
 
 pub const VERTEX_NUMBERS: usize = VERTICES * 2;
 
 pub const EDGES: usize = forest::EDGES;
-
-// The number that stands for no edge.
-pub const NONE: u16 = (POINTS - 1) as u16;
-
-// A candidate: its gain, the edge (a, b), the point u and the edge L, by their numbers. With gain 0 there is none.
-pub struct Best {
-    pub gain: u64,
-    pub edge: usize,
-    pub point: usize,
-    pub cut: usize,
-}
 
 // The candidate that a round takes: on the tree its point is the number of a tree point, beside it that of a vertex. With gain 0 there is
 // none.

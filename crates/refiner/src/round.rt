@@ -1,5 +1,5 @@
 // A round: roots and ways of the vertices beside the tree, the candidate that is taken, and its exchange.
-use crate::Best;
+use candidates::Best;
 use crate::Choice;
 use crate::EDGES;
 use crate::Growth;
@@ -7,7 +7,7 @@ use crate::Turn;
 use crate::VERTEX_NUMBERS;
 use crate::VERTICES;
 use crate::beside;
-use crate::exchange;
+use exchanges::exchange;
 use crate::graft;
 use plane::Weights;
 use tree::NUMBERS;

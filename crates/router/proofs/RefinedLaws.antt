@@ -17,7 +17,7 @@ use Rattle.terminal.proofs.PathLaws.{total-small}
 use Rattle.refiner.specs.declared.Refined.{Refined}
 use Rattle.tree.specs.Table.{treeBound, pairBound, Small}
 use Rattle.refiner.specs.Refined.{Answer}
-use Rattle.refiner.proofs.WithinLaws.{within-small}
+use Rattle.exchanges.proofs.WithinLaws.{within-small}
 use Rattle.union.specs.Union.{unionOf}
 use Rattle.refined.specs.Ground.{groundOf}
 use Rattle.tree.specs.Edges.{tableEdges, treeEdges}

@@ -25,7 +25,7 @@ use Rattle.tree.specs.Table.{firstEnd, secondEnd, Tree}
 use Rattle.tree.specs.Places.{endsOf, pointsOf, edgesOf, Ranked, Sound}
 use Rattle.refiner.specs.Sentences as tables
 use Rattle.tree.proofs.ListingLaws.{in-listing, of-listing}
-use Rattle.refiner.proofs.PruneSound.{order-same}
+use Rattle.exchanges.proofs.PruneSound.{order-same}
 use Rattle.refiner.proofs.RoundSteps.{numbered}
 use Rattle.rules.specs.Edges.{Edge, edgeBefore, edgeCost}
 use Rattle.rules.specs.Refined.{Reach, Step, Longest, Gain}

@@ -16,19 +16,18 @@ use Rattle.plane.specs.declared.Place.{Place}
 use Rattle.plane.specs.Flat.{placeAt}
 use Rattle.joined.specs.Joined.{Alike}
 use Rattle.net.specs.Net.{Net}
-use Rattle.refiner.specs.Turns.{turns}
+use Rattle.lists.specs.Turns.{turns}
 use Rattle.tree.specs.Table.{treeBound, firstEnd, secondEnd, Tree, Within}
-use Rattle.refiner.specs.Exchange.{closed}
-use Rattle.refiner.specs.Prune.{marks, countEnds, loose, looseEdge, firstLoose, prune}
-use Rattle.refiner.specs.Refined.{pruned}
+use Rattle.exchanges.specs.Exchange.{closed}
+use Rattle.exchanges.specs.Prune.{marks, countEnds, loose, looseEdge, firstLoose, prune, pruned}
 use Rattle.tree.specs.Sum.{sumOver}
 use Rattle.tree.specs.Places.{endsOf, edgesOf, InOrder, Ranked, Sound}
 use Rattle.refiner.specs.Sentences as tables
-use Rattle.refiner.proofs.ExchangeSums.{closed-at, skip}
-use Rattle.refiner.proofs.WithinLaws.{within-closed}
+use Rattle.exchanges.proofs.ExchangeSums.{closed-at, skip}
+use Rattle.exchanges.proofs.WithinLaws.{within-closed}
 use Rattle.tree.proofs.ListingLaws.{in-listing, of-listing}
-use Rattle.refiner.proofs.RankedLaws.{prune-ranked}
-use Rattle.refiner.proofs.PruneSound.{endCount, degree, kept, gone, skip-in, first-le, first-hit, pruned-was}
+use Rattle.exchanges.proofs.RankedLaws.{prune-ranked}
+use Rattle.exchanges.proofs.PruneSound.{endCount, degree, kept, gone, skip-in, first-le, first-hit, pruned-was}
 use Rattle.refiner.proofs.RefinedSound.{unmarked}
 use Rattle.refiner.proofs.LeftLaws.{pruned-left}
 use Rattle.rules.specs.Edges.{Edge}

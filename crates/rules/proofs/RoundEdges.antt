@@ -24,17 +24,17 @@ use Rattle.joined.proofs.JoinedLaws.{firsts, seconds}
 use Rattle.tree.specs.Table.{treeBound, firstEnd, secondEnd, Tree, tree}
 use Rattle.tree.specs.Places.{endsOf, pointsOf, edgesOf, Ranked, Sound}
 use Rattle.tree.proofs.ListingLaws.{in-listing}
-use Rattle.refiner.specs.declared.Best.{Best}
+use Rattle.candidates.specs.declared.Best.{Best}
 use Rattle.plane.specs.Middle.{middlePlace}
-use Rattle.refiner.specs.Candidate.{found}
-use Rattle.refiner.specs.Longest.{costs, longest}
-use Rattle.refiner.specs.Exchange.{exchange}
-use Rattle.refiner.specs.Taken.{Taken}
+use Rattle.candidates.specs.Candidate.{found}
+use Rattle.candidates.specs.Longest.{costs, longest}
+use Rattle.exchanges.specs.Exchange.{exchange}
+use Rattle.candidates.specs.Taken.{Taken}
 use Rattle.refiner.specs.Sentences as tables
 use Rattle.refiner.specs.Beside.{Ground, labelsIn, parentsIn, seatsIn}
 use Rattle.refiner.specs.Ready.{vertexAt, Ready}
 use Rattle.refiner.proofs.CutSound.{tree-size}
-use Rattle.refiner.proofs.ExchangeSound.{laid-after}
+use Rattle.exchanges.proofs.ExchangeSound.{laid-after}
 use Rattle.refiner.proofs.WinnerLaws.{Winner, found-wins}
 use Rattle.refiner.proofs.RoundSound.{taken, exchange-laid}
 use Rattle.refiner.specs.Graft.{Grown}

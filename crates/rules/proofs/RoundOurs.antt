@@ -25,15 +25,15 @@ use Rattle.tree.specs.Table.{treeBound, key, firstEnd, secondEnd, Tree, tree, W
 use Rattle.tree.specs.Sum.{below, sumOver}
 use Rattle.tree.specs.Places.{endsOf, edgesOf, Ranked, Sound}
 use Rattle.tree.proofs.SumLaws.{below-some, one, one-same, one-some, one-not, in-table, of-table}
-use Rattle.refiner.specs.declared.Best.{Best}
-use Rattle.refiner.specs.Candidate.{found}
-use Rattle.refiner.specs.Exchange.{dropTwo, exchange}
+use Rattle.candidates.specs.declared.Best.{Best}
+use Rattle.candidates.specs.Candidate.{found}
+use Rattle.exchanges.specs.Exchange.{dropTwo, exchange}
 use Rattle.refiner.specs.Sentences as tables
 use Rattle.refiner.specs.Beside.{Ground, labelsIn, parentsIn, seatsIn}
 use Rattle.refiner.specs.Ready.{vertexAt, Ready}
-use Rattle.refiner.proofs.ExchangeSums.{between, over-dropped}
-use Rattle.refiner.proofs.WithinLaws.{within-dropped}
-use Rattle.refiner.proofs.AfterLaws as moved
+use Rattle.exchanges.proofs.ExchangeSums.{between, over-dropped}
+use Rattle.exchanges.proofs.WithinLaws.{within-dropped}
+use Rattle.exchanges.proofs.AfterLaws as moved
 use Rattle.refiner.proofs.TakesLaws.{found-takes}
 use Rattle.refiner.proofs.BesideWins.{LeadsOff, search-leads-off}
 use Rattle.refiner.proofs.RoundReady.{ready-roomy, el, top, on, off}

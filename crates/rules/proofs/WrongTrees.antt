@@ -163,7 +163,7 @@ module _ {vs : List Place} {es : List Edge} {ks : List Path} where
   unfolding answer treeIn union refinedOf lengths edgesFrom distance groundOf offer isPoint takeSeat weighed
   never-pruned t = let e : _≡_ {A = ℕ} 7 6 = ap (lengths distance) (trees-only bare-allowed t .refined) in omega (arith, e)
 
-  -- `smallest` of Takes: of two points with the same gain the later one, though the tree is then shorter
+  -- `first` of Takes: of two points with the same gain the later one, though the tree is then shorter
   pub later-point : Trees tied vs es ks ((at 0 3, at 1 2) ∷ (at 1 0, at 1 2) ∷ (at 1 2, at 3 2) ∷ []) → ⊥
   unfolding answer treeIn union refinedOf lengths edgesFrom distance groundOf offer isPoint takeSeat weighed
   later-point t = let e : _≡_ {A = ℕ} 6 7 = ap (lengths distance) (trees-only tied-allowed t .refined) in omega (arith, e)

@@ -2,8 +2,8 @@
 -- Assumes nothing.
 use native.Mathlib.Omega.{arith}
 use Rattle.net.proofs.PinLaws.{length-pins}
-use Rattle.refiner.proofs.PruneLaws.{answer-is}
-use Rattle.refiner.proofs.WithinLaws.{within-small, after-pruning}
+use Rattle.refiner.proofs.RoundLaws.{answer-is}
+use Rattle.exchanges.proofs.WithinLaws.{within-small, after-pruning}
 use borrow.Author.Needs.{needs}
 use Rattle.refiner.proofs.refine.Statement.{statement}
 use Rattle.refiner.proofs.refine.Tie as tie

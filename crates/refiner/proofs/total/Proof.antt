@@ -4,10 +4,10 @@
 use mathlib.Core.Path.{_≡_}
 use Prim.Native.Nat.{_≤_, _-_, _*_}
 use native.Mathlib.Omega.{arith}
-use Rattle.refiner.specs.Turns.{turns}
+use Rattle.lists.specs.Turns.{turns}
 use Rattle.plane.specs.Cost.{costLimit}
 use Rattle.refiner.specs.Refined.{addCost, total}
-use Rattle.refiner.proofs.TurnLaws.{turns-next, turns-end}
+use Rattle.lists.proofs.TurnLaws.{turns-next, turns-end}
 use Rattle.refiner.proofs.RoundLaws.{total-none, total-next}
 use Rattle.refiner.proofs.total.Statement.{statement}
 use Rattle.refiner.proofs.total.Tie as tie

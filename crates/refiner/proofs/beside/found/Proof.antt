@@ -2,8 +2,8 @@
 -- Assumes nothing.
 use native.Mathlib.Omega.{arith}
 use Rattle.tree.specs.Table.{treeBound, pairBound}
-use Rattle.refiner.specs.Longest.{noEdge}
-use Rattle.refiner.proofs.RoundLaws.{small-all, small-reached}
+use Rattle.candidates.specs.Longest.{noEdge}
+use Rattle.candidates.proofs.FoundLaws.{small-all, small-reached}
 use Rattle.refiner.proofs.BesideLaws.{either-off, either-on, chosen-is}
 use borrow.Author.Needs.{needs}
 use Rattle.refiner.proofs.beside.found.Statement.{statement}

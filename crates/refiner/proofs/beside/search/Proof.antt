@@ -4,9 +4,9 @@ use mathlib.Core.Path.{_≡_}
 use Prim.Native.Nat.{_≤_, _-_}
 use native.Mathlib.Omega.{arith}
 use Rattle.plane.specs.Flat.{macrosOf}
-use Rattle.refiner.specs.Turns.{turns}
+use Rattle.lists.specs.Turns.{turns}
 use Rattle.refiner.specs.Beside.{offers, search}
-use Rattle.refiner.proofs.TurnLaws.{turns-none, turns-next, turns-end}
+use Rattle.lists.proofs.TurnLaws.{turns-none, turns-next, turns-end}
 use Rattle.refiner.proofs.beside.search.Statement.{statement}
 use Rattle.refiner.proofs.beside.search.Tie as tie
 

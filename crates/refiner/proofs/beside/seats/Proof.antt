@@ -3,9 +3,9 @@
 use mathlib.Core.Path.{_≡_, refl}
 use Prim.Native.Nat.{_≤_, _-_}
 use native.Mathlib.Omega.{arith}
-use Rattle.refiner.specs.Turns.{turns}
+use Rattle.lists.specs.Turns.{turns}
 use Rattle.refiner.specs.Beside.{takeSeat}
-use Rattle.refiner.proofs.TurnLaws.{turns-none, turns-next, turns-end}
+use Rattle.lists.proofs.TurnLaws.{turns-none, turns-next, turns-end}
 use Rattle.refiner.proofs.BesideLaws.{take-seat-is}
 use Rattle.refiner.proofs.beside.seats.Statement.{statement}
 use Rattle.refiner.proofs.beside.seats.Tie as tie

@@ -4,8 +4,8 @@ use mathlib.Core.Path.{_≡_}
 use Prim.Native.Nat.{_≤_, _-_}
 use native.Mathlib.Omega.{arith}
 use Rattle.refiner.specs.Graft.{notBelow, keyRank}
-use Rattle.refiner.specs.Turns.{seek}
-use Rattle.refiner.proofs.TurnLaws.{seek-none, seek-stop, seek-next, seek-end}
+use Rattle.lists.specs.Turns.{seek}
+use Rattle.lists.proofs.TurnLaws.{seek-none, seek-stop, seek-next, seek-end}
 use Rattle.refiner.proofs.GraftLaws.{not-below-yes, not-below-no}
 use Rattle.refiner.proofs.graft.key_rank.Statement.{statement}
 use Rattle.refiner.proofs.graft.key_rank.Tie as tie

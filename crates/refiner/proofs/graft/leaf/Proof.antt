@@ -2,7 +2,7 @@
 -- Assumes nothing.
 use native.Mathlib.Omega.{arith}
 use mathlib.Core.Path.{refl}
-use Rattle.refiner.proofs.WithinLaws.{within-small}
+use Rattle.exchanges.proofs.WithinLaws.{within-small}
 use Rattle.refiner.proofs.GraftLaws.{leaf-is, leaf-growing}
 use borrow.Author.Needs.{needs}
 use Rattle.refiner.proofs.graft.leaf.Statement.{statement}

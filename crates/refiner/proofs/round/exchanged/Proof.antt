@@ -1,7 +1,7 @@
 -- `refiner::round::exchanged` meets its contract: beside the tree the way is laid first; then the exchange.
 -- Assumes nothing.
 use native.Mathlib.Omega.{arith}
-use Rattle.refiner.proofs.WithinLaws.{within-small, within-after}
+use Rattle.exchanges.proofs.WithinLaws.{within-small, within-after}
 use Rattle.refiner.proofs.ReadyLaws.{exchange-off, exchange-on}
 use Rattle.refiner.proofs.round.exchanged.Statement.{statement}
 use Rattle.refiner.proofs.round.exchanged.Tie as tie

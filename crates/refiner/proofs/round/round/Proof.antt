@@ -7,8 +7,8 @@ use denote.Ref.{now}
 use Rattle.tree.specs.Table.{treeBound, Tree, tree}
 use Rattle.lists.proofs.TestLaws.{differ}
 use Rattle.refiner.specs.declared.Choice.{Choice}
-use Rattle.refiner.proofs.RoundLaws.{small-all}
-use Rattle.refiner.proofs.WithinLaws.{within-small}
+use Rattle.candidates.proofs.FoundLaws.{small-all}
+use Rattle.exchanges.proofs.WithinLaws.{within-small}
 use Rattle.refiner.proofs.BesideLaws.{small-seats}
 use Rattle.refiner.proofs.ReadyLaws.{made-labels, made-nearing, chosen-in, exchanged-in, exchangeable}
 use borrow.Author.Needs.{needs}

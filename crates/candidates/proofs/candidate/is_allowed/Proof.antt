@@ -1,0 +1,47 @@
+-- `refiner::candidate::is_allowed` meets its contract, arm by arm.
+-- Assumes nothing.
+use mathlib.Core.Path.{_≡_, sym, _∙_}
+use Rattle.candidates.proofs.CandidateLaws.{allowed-yes, allowed-no}
+use borrow.Author.Needs.{needs}
+use Rattle.candidates.proofs.candidate.is_allowed.Statement.{statement}
+use Rattle.candidates.proofs.candidate.is_allowed.Tie as tie
+
+point-at-requires : tie.Need-point-at-requires
+point-at-requires c κs = search needs
+
+point-at-requires-2 : tie.Need-point-at-requires-2
+point-at-requires-2 c κs = search needs
+
+point-at-requires-3 : tie.Need-point-at-requires-3
+point-at-requires-3 c κs = search needs
+
+sees-requires : tie.Need-sees-requires
+sees-requires c κs = search needs
+
+is-dropped-requires : tie.Need-is-dropped-requires
+is-dropped-requires c κs = search needs
+
+returns : tie.Need-returns
+returns c =
+    let s = c .before .before in
+    let p = s .before in
+    allowed-yes _ _ _ _ _ _ _ _ _ _ (p .before .before .point-at .ensures) (p .before .point-at2 .ensures) (p .point-at3 .ensures)
+    (sym (s .sees .ensures) ∙ c .before .if1 .taken) _ (c .is-dropped .ensures)
+
+returns-2 : tie.Need-returns-2
+returns-2 c =
+    let p = c .before .before in
+    allowed-no _ _ _ _ _ _ _ _ _ _ (p .before .before .point-at .ensures) (p .before .point-at2 .ensures) (p .point-at3 .ensures)
+    (sym (c .before .sees .ensures) ∙ c .if1 .left)
+
+pub is-allowed-spec : {M : Type 1} → statement M
+is-allowed-spec =
+    tie.close
+    (tie.spec
+    point-at-requires
+    point-at-requires-2
+    point-at-requires-3
+    sees-requires
+    is-dropped-requires
+    returns
+    returns-2)

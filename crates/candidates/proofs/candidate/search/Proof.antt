@@ -1,0 +1,47 @@
+-- `refiner::candidate::search` meets its contract. The loop's invariant: the edges that are left decide. The measure is how many they are.
+-- Assumes nothing.
+use mathlib.Core.Path.{_≡_}
+use Prim.Native.Nat.{_≤_, _-_}
+use native.Mathlib.Omega.{arith}
+use Rattle.plane.specs.Flat.{macrosOf}
+use Rattle.candidates.specs.Candidate.{best, offers, search}
+use Rattle.lists.specs.Turns.{turns}
+use Rattle.lists.proofs.TurnLaws.{turns-none, turns-next, turns-end}
+use Rattle.candidates.proofs.candidate.search.Statement.{statement}
+use Rattle.candidates.proofs.candidate.search.Tie as tie
+
+abbrev Inv-loop : tie.InvT-loop
+Inv-loop w pts n macros keys e el top found₀ k₀ found k =
+    (k ≤ e) × (turns (offers w pts n (macrosOf macros) keys el top) k (e - k) found
+    ≡ turns (offers w pts n (macrosOf macros) keys el top) 0 e (best 0 0 0 0))
+
+abbrev μ-loop : tie.MeasureT-loop
+μ-loop w pts n macros keys e el top found₀ k₀ found k = e - k
+
+loop-holds : tie.Need-loop-holds Inv-loop μ-loop
+loop-holds c = (omega arith, turns-none _ _ _)
+
+offers-requires : tie.Need-offers-requires Inv-loop μ-loop
+offers-requires c κs =
+    let s = c .before .before in
+    ((omega arith, omega arith), s .pre .1)
+
+add-k : tie.Need-add-k Inv-loop μ-loop
+add-k c = omega arith
+
+loop-less : tie.Need-loop-less Inv-loop μ-loop
+loop-less c = omega arith
+
+loop-again : tie.Need-loop-again Inv-loop μ-loop
+loop-again c =
+    let l = c .before .before in
+    (omega arith, turns-next _ _ _ _ _ _ (l .loop .inv .1) (omega arith) (c .offers .ensures))
+
+returns : tie.Need-returns Inv-loop μ-loop
+unfolding search
+returns c = turns-end _ _ _ _ _ (c .before .loop .inv .1) (omega arith)
+
+pub search-spec : {M : Type 1} → statement M
+search-spec =
+    tie.close
+    (tie.spec Inv-loop μ-loop loop-holds offers-requires add-k loop-less loop-again returns)

@@ -1,0 +1,201 @@
+// Candidates, and the one that a round takes.
+use crate::Best;
+use crate::PAIRS;
+use crate::longest;
+use plane::Place;
+use plane::Weights;
+use tree::NUMBERS;
+use tree::POINTS;
+ghost use mathlib.Core.Path.{_≡_};
+ghost use Prim.Native.Nat.{_≤_, _<_};
+ghost use Rattle.plane.specs.Flat.{macrosOf};
+ghost use Rattle.lists.specs.Turns.{seek};
+ghost use Rattle.tree.specs.Table.{treeBound, pairBound, Small};
+ghost use Rattle.candidates.specs.Candidate.{sees, taken, dropped, allowed, weighed, offer, offers, search};
+
+pub fn sees(macros: &[i32], a: Place, b: Place, u: Place) -> bool
+    ensures { λ r. ⌜ r ≡ sees (macrosOf (now (macros .entry))) a b u ⌝ }
+{
+    if plane::is_clear(u, a, macros) {
+        return true;
+    }
+    plane::is_clear(u, b, macros)
+}
+
+// The point i stands at s and is none of a, b and u.
+fn is_taken(pts: &[i32; NUMBERS], a: usize, b: usize, u: usize, s: Place, i: usize) -> bool
+    requires { ⌜ i < treeBound ⌝ }
+    ensures { λ r. ⌜ r ≡ taken (now (pts .entry)) a b u s i ⌝ }
+{
+    if (i == a) | ((i == b) | (i == u)) {
+        return false;
+    }
+    plane::is_same_place(s, tree::point_at(pts, i))
+}
+
+fn find_taken(pts: &[i32; NUMBERS], n: usize, a: usize, b: usize, u: usize, s: Place) -> usize
+    requires { ⌜ n ≤ treeBound ⌝ }
+    ensures { λ r. ⌜ r ≡ seek (taken (now (pts .entry)) a b u s) 0 n ⌝ }
+{
+    let mut i = 0;
+    while i < n {
+        if is_taken(pts, a, b, u, s, i) {
+            return i;
+        }
+        i += 1;
+    }
+    i
+}
+
+pub fn is_dropped(pts: &[i32; NUMBERS], n: usize, a: usize, b: usize, u: usize, s: Place) -> bool
+    requires { ⌜ n ≤ treeBound ⌝ }
+    ensures { λ r. ⌜ r ≡ dropped (now (pts .entry)) n a b u s ⌝ }
+{
+    find_taken(pts, n, a, b, u, s) < n
+}
+
+fn is_allowed(
+    pts: &[i32; NUMBERS],
+    n: usize,
+    macros: &[i32],
+    a: usize,
+    b: usize,
+    u: usize,
+    s: Place,
+) -> bool
+    requires { ⌜ ((a < treeBound) × (b < treeBound)) × ((u < treeBound) × (n ≤ treeBound)) ⌝ }
+    ensures { λ r. ⌜ r ≡ allowed (now (pts .entry)) n (macrosOf (now (macros .entry))) a b u s ⌝ }
+{
+    if sees(
+        macros,
+        tree::point_at(pts, a),
+        tree::point_at(pts, b),
+        tree::point_at(pts, u),
+    ) {
+        return !is_dropped(pts, n, a, b, u, s);
+    }
+    false
+}
+
+// The best so far, or the candidate of edge k from a to b and the point u, whose L is l. What is clear is asked last: it looks at every
+// macro.
+fn weigh(
+    w: Weights,
+    pts: &[i32; NUMBERS],
+    n: usize,
+    macros: &[i32],
+    a: usize,
+    b: usize,
+    k: usize,
+    u: usize,
+    l: usize,
+    long: u64,
+    c: Best,
+) -> Best
+    requires { ⌜ ((a < treeBound) × (b < treeBound)) × ((u < treeBound) × (n ≤ treeBound)) ⌝ }
+    ensures { λ r. ⌜ r ≡ weighed w (now (pts .entry)) n (macrosOf (now (macros .entry))) a b k u l long c ⌝ }
+{
+    let r = tree::point_at(pts, u);
+    let s = plane::middle_place(tree::point_at(pts, a), tree::point_at(pts, b), r);
+    let d = plane::cost(w, s, r);
+    if long <= d {
+        return c;
+    }
+    let g = long - d;
+    if g <= c.gain {
+        return c;
+    }
+    if is_allowed(pts, n, macros, a, b, u, s) {
+        return Best {
+            gain: g,
+            edge: k,
+            point: u,
+            cut: l,
+        };
+    }
+    c
+}
+
+fn offer(
+    w: Weights,
+    pts: &[i32; NUMBERS],
+    n: usize,
+    macros: &[i32],
+    el: &[u64; POINTS],
+    top: &[u16; PAIRS],
+    a: usize,
+    b: usize,
+    k: usize,
+    u: usize,
+    c: Best,
+) -> Best
+    requires { ⌜ ((a < treeBound) × (b < treeBound)) × ((u < treeBound) × (n ≤ treeBound)) ⌝ }
+    requires { ⌜ Small treeBound (now top) ⌝ }
+    ensures { λ r. ⌜ r ≡ offer w (now (pts .entry)) n (macrosOf (now (macros .entry))) (now (el .entry)) (now (top .entry)) a b k u c ⌝ }
+{
+    let l = longest::cut_of(el, top, a, b, u);
+    if (u == a) | ((u == b) | (l == k)) {
+        return c;
+    }
+    let long = el[l];
+    if long <= c.gain {
+        return c;
+    }
+    weigh(w, pts, n, macros, a, b, k, u, l, long, c)
+}
+
+fn offers(
+    w: Weights,
+    pts: &[i32; NUMBERS],
+    n: usize,
+    macros: &[i32],
+    keys: &[usize; POINTS],
+    el: &[u64; POINTS],
+    top: &[u16; PAIRS],
+    k: usize,
+    c: Best,
+) -> Best
+    requires { ⌜ (k < treeBound) × (n ≤ treeBound) ⌝ }
+    requires { ⌜ (Small pairBound (now keys)) × (Small treeBound (now top)) ⌝ }
+    ensures { λ r. ⌜ r ≡ offers w (now (pts .entry)) n (macrosOf (now (macros .entry))) (now (keys .entry)) (now (el .entry))
+        (now (top .entry)) k c ⌝ }
+{
+    let a = keys[k] / POINTS;
+    let b = keys[k] % POINTS;
+    let mut found = c;
+    let mut u = 0;
+    while u < n {
+        found = offer(w, pts, n, macros, el, top, a, b, k, u, found);
+        u += 1;
+    }
+    found
+}
+
+pub fn search(
+    w: Weights,
+    pts: &[i32; NUMBERS],
+    n: usize,
+    macros: &[i32],
+    keys: &[usize; POINTS],
+    e: usize,
+    el: &[u64; POINTS],
+    top: &[u16; PAIRS],
+) -> Best
+    requires { ⌜ (e ≤ treeBound) × (n ≤ treeBound) ⌝ }
+    requires { ⌜ (Small pairBound (now keys)) × (Small treeBound (now top)) ⌝ }
+    ensures { λ r. ⌜ r ≡ search w (now (pts .entry)) n (macrosOf (now (macros .entry))) (now (keys .entry)) e (now (el .entry))
+        (now (top .entry)) ⌝ }
+{
+    let mut found = Best {
+        gain: 0,
+        edge: 0,
+        point: 0,
+        cut: 0,
+    };
+    let mut k = 0;
+    while k < e {
+        found = offers(w, pts, n, macros, keys, el, top, k, found);
+        k += 1;
+    }
+    found
+}

@@ -1,0 +1,11 @@
+pub mod SortedTable
+pub mod ExchangeLaws
+pub mod LaidLaws
+pub mod PruneLaws
+pub mod WithinLaws
+pub mod ExchangeSums
+pub mod OpenedLaws
+pub mod AfterLaws
+pub mod ExchangeSound
+pub mod PruneSound
+pub mod RankedLaws
