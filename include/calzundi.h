@@ -56,7 +56,7 @@
 #define CALZUNDI_H
 
 /* The version. It stands here and nowhere else; the tools take it from this line, and each change request raises the second number. */
-#define CALZUNDI_VERSION "1.6"
+#define CALZUNDI_VERSION "1.7"
 
 #include <stddef.h>
 #include <stdint.h>

@@ -1,6 +1,6 @@
 -- Laws of the search for the best candidate.
 -- Assumes nothing.
-use mathlib.Core.Path.{_≡_, refl, sym, _∙_}
+use mathlib.Core.Path.{_≡_, refl, sym, ap, ap₂, _∙_}
 use mathlib.Core.Bool.{Bool, true, false, not, _&&_, _||_}
 use mathlib.Core.List.{List, []}
 use Prim.Native.Nat.{ℕ, _+_, _-_, _≤_, _<_}
@@ -8,7 +8,8 @@ use native.Mathlib.Omega.{arith}
 use lib.Dec.{ltb, eqb}
 use lib.IntN.{ℤ}
 use lib.ListN.{getD}
-use borrow.Author.Tests.{lt-ltb, le-ltb}
+use borrow.Author.Tests.{lt-ltb, le-ltb, ltb-true, ltb-false}
+use Rattle.lists.proofs.TestLaws.{by}
 use Rattle.plane.specs.declared.Place.{Place}
 use Rattle.plane.specs.declared.Macro.{Macro}
 use Rattle.plane.specs.declared.Weights.{Weights}
@@ -17,10 +18,13 @@ use Rattle.plane.specs.Place.{samePlace}
 use Rattle.plane.specs.Cost.{cost}
 use Rattle.plane.specs.Middle.{middlePlace}
 use Rattle.plane.specs.Macro.{clear}
+use Rattle.plane.specs.Box.{boxOf, boxCost}
 use Rattle.plane.specs.Flat.{placeAt}
+use Rattle.plane.proofs.CostLaws.{box-cost}
+use Rattle.tree.specs.Table.{Low}
 use Rattle.lists.specs.Turns.{seek}
 use Rattle.candidates.specs.Longest.{cutOf}
-use Rattle.candidates.specs.Candidate.{best, sees, taken, dropped, allowed, chosen, weighed, offer}
+use Rattle.candidates.specs.Candidate.{best, sees, taken, dropped, allowed, chosen, weighed, offer, mayGain}
 
 and-false : (a : Bool) → (a && false) ≡ false
 and-false true = refl
@@ -50,9 +54,6 @@ module _ (w : Weights) (pts : List ℤ) (n : ℕ) (ms : List Macro) (a b k u l x
     pub weigh-yes : (g : ℕ) → g ≡ x - d → c .gain + d < x → allowed pts n ms a b u s ≡ true
         → best g k u l ≡ weighed w pts n ms a b k u l x c
     weigh-yes g f i e = sym (named p q r s d h ∙ rw (lt-ltb _ _ i, e, f) refl)
-
-  pub weigh-short : x ≤ c .gain → c ≡ weighed w pts n ms a b k u l x c
-  weigh-short i = weigh-low _ _ _ _ _ (record { one = refl; two = refl; three = refl; mid = refl; far = refl }) (omega arith)
 
 pub sees-yes : (ms : List Macro) (a b u : Place) → clear u a ms ≡ true → true ≡ sees ms a b u
 unfolding sees
@@ -97,5 +98,47 @@ module _ (w : Weights) (pts : List ℤ) (n : ℕ) (ms : List Macro) (el top : Li
     unfolding offer
     offer-is = rw (← e, d) refl
 
-    pub offer-short : getD el l 0 ≤ c .gain → c ≡ offer w pts n ms el top a b k u c
-    offer-short h = weigh-short w pts n ms a b k u l (getD el l 0) c h ∙ offer-is
+-- What is skipped
+
+pub may-gain-not : (w : Weights) (m : Macro) (p : Place) (f g x : ℕ) → x ≤ g + f → false ≡ mayGain w m p f g x
+unfolding mayGain
+may-gain-not w m p f g x h = sym (le-ltb (g + (boxCost w m p + f)) x (omega arith))
+
+pub may-gain-is : (w : Weights) (m : Macro) (p : Place) (f g x : ℕ) → f + g < x → ltb (boxCost w m p) (x - f - g) ≡ mayGain w m p f g x
+unfolding mayGain
+may-gain-is w m p f g x h =
+    let d = boxCost w m p in
+    by (ltb d (x - f - g))
+    (λ t. t ∙ sym (lt-ltb (g + (d + f)) x (omega (arith, ltb-true d (x - f - g) t))))
+    (λ t. t ∙ sym (le-ltb (g + (d + f)) x (omega (arith, ltb-false d (x - f - g) t))))
+
+-- a point so far from the box of an edge that L is not long enough, or no edge is
+module _ (w : Weights) (pts : List ℤ) (n : ℕ) (ms : List Macro) (el top : List ℕ) (a b k u : ℕ) (c : Best)
+    (m : Macro) (i : m ≡ boxOf (placeAt pts a) (placeAt pts b)) (r : Place) (h : r ≡ placeAt pts u) where
+  far-low : (l x : ℕ) → getD el l 0 ≤ x → (t : Bool) → t ≡ mayGain w m r 0 (c .gain) x → t ≡ false →
+      c ≡ weighed w pts n ms a b k u l (getD el l 0) c
+  unfolding mayGain
+  far-low l x v t j z =
+      let p = placeAt pts a in
+      let q = placeAt pts b in
+      let d : boxCost w m r ≡ cost w (middlePlace p q r) r = ap (λ (o : Macro). boxCost w o r) i ∙ box-cost w p q r in
+      let y : x ≤ c .gain + (boxCost w m r + 0) = ltb-false _ _ (sym j ∙ z) in
+      weigh-low w pts n ms a b k u l (getD el l 0) c p q r (middlePlace p q r) (cost w (middlePlace p q r) r)
+      (record { one = refl; two = refl; three = h; mid = refl; far = refl }) (omega (arith, v, y, d))
+
+  pub offer-near : (l : ℕ) → l ≡ cutOf el top a b u → (eqb u a || (eqb u b || eqb l k)) ≡ false →
+      (t : Bool) → t ≡ mayGain w m r 0 (c .gain) (getD el l 0) → t ≡ false → c ≡ offer w pts n ms el top a b k u c
+  offer-near l e o t j z = far-low l (getD el l 0) (omega arith) t j z ∙ offer-is w pts n ms el top a b k u l c e o
+
+  pub offer-far : (x : ℕ) → Low x el → (t : Bool) → t ≡ mayGain w m r 0 (c .gain) x → t ≡ false →
+      c ≡ offer w pts n ms el top a b k u c
+  offer-far x low t j z =
+      let l = cutOf el top a b u in
+      by (eqb u a || (eqb u b || eqb l k))
+      (λ e. offer-none w pts n ms el top a b k u l c refl e)
+      (λ e. far-low l x (low .low l) t j z ∙ offer-is w pts n ms el top a b k u l c refl e)
+
+-- the box of two points
+pub box-is : (pts : List ℤ) (a b : ℕ) (p q : Place) (m : Macro) → p ≡ placeAt pts a → q ≡ placeAt pts b → m ≡ boxOf p q →
+    m ≡ boxOf (placeAt pts a) (placeAt pts b)
+box-is pts a b p q m e f g = g ∙ ap₂ boxOf e f

@@ -1,9 +1,9 @@
 -- Laws of the longer of two edges and of the table of longest edges.
 -- Assumes nothing.
-use mathlib.Core.Path.{_≡_, refl, ap}
-use mathlib.Core.Bool.{true, false}
+use mathlib.Core.Path.{_≡_, refl, sym, ap, _∙_}
+use mathlib.Core.Bool.{Bool, true, false, _||_}
 use mathlib.Core.List.{List, [], _∷_}
-use Prim.Native.Nat.{ℕ, zero, suc, _≤_, _<_}
+use Prim.Native.Nat.{ℕ, zero, suc, _-_, _≤_, _<_}
 use native.Mathlib.Omega.{arith}
 use lib.Dec.{ltb, eqb}
 use lib.ListN.{getD, set}
@@ -13,12 +13,12 @@ use Rattle.plane.specs.declared.Place.{Place}
 use Rattle.plane.specs.declared.Weights.{Weights}
 use Rattle.plane.specs.Cost.{cost}
 use Rattle.plane.specs.Flat.{placeAt}
-use Rattle.lists.proofs.TestLaws.{by}
+use Rattle.lists.proofs.TestLaws.{by, or-none}
 use Rattle.candidates.specs.Longest.{Reach, attach, hang, longer, measure, edgeCost, noEdge, pass, reach, shorter, spread}
 use Rattle.candidates.specs.Longest.{spreads, wins}
 use Rattle.tree.specs.Table.{Small, firstEnd, key, treeBound, secondEnd}
 use Rattle.lists.specs.Turns.{turns}
-use Rattle.lists.proofs.TurnLaws.{turns-keep, turns-below}
+use Rattle.lists.proofs.TurnLaws.{turns-still, turns-keep, turns-below}
 
 pub cost-is : (w : Weights) (pts : List ℤ) (keys : List ℕ) (k d : ℕ) (p q : Place) → p ≡ placeAt pts (firstEnd (getD keys k 0))
     → q ≡ placeAt pts (secondEnd (getD keys k 0)) → d ≡ cost w p q → d ≡ edgeCost w pts keys k
@@ -127,6 +127,15 @@ pub pass-is : (keys el : List ℕ) (n k : ℕ) (r : Reach) → attach el n (firs
     ≡ pass keys el n k r
 unfolding pass
 pass-is keys el n k r = refl
+
+-- a pass that hangs nothing, so far and with one edge more
+pub still-more : (m m′ : Bool) (r₀ r r′ : Reach) → (m ≡ false → r ≡ r₀) → (m′ ≡ false → r′ ≡ r) → (m || m′) ≡ false → r′ ≡ r₀
+still-more m m′ r₀ r r′ h i e = let n = or-none m m′ e in i (n .1) ∙ h (n .0)
+
+-- the passes that are left after one that hangs nothing
+pub still-end : (keys el : List ℕ) (e n i : ℕ) (r r′ all : Reach) →
+    turns (λ (_ : ℕ) (q : Reach). turns (pass keys el n) 0 e q) i (e - i) r ≡ all → r′ ≡ turns (pass keys el n) 0 e r → r′ ≡ r → r′ ≡ all
+still-end keys el e n i r r′ all p f s = s ∙ sym (turns-still _ (e - i) i r (λ j. sym f ∙ s)) ∙ p
 
 pub small-passed : (keys el : List ℕ) (n e : ℕ) (s t s′ t′ : List ℕ) → reach s′ t′ ≡ turns (pass keys el n) 0 e (reach s t) → e ≤ treeBound
     → Small treeBound t → Small treeBound t′

@@ -11,6 +11,7 @@ use Rattle.plane.specs.declared.Weights.{Weights}
 use Rattle.plane.specs.Place.{samePlace}
 use Rattle.plane.specs.Cost.{cost}
 use Rattle.plane.specs.Middle.{middlePlace}
+use Rattle.plane.specs.Box.{boxCost}
 use Rattle.plane.specs.Macro.{clear}
 use Rattle.plane.specs.Flat.{placeAt}
 use Rattle.candidates.specs.declared.Best.{Best}
@@ -57,6 +58,10 @@ unfoldable pub offer : Weights → List ℤ → ℕ → List Macro → List ℕ 
 offer w pts n ms el top a b k u c =
     let l = cutOf el top a b u in
     chosen (eqb u a || (eqb u b || eqb l k)) c (weighed w pts n ms a b k u l (getD el l 0) c)
+
+-- more than g can be gained with a place p that is f away from the tree, of an edge in the box m, where no edge costs more than x
+unfoldable pub mayGain : Weights → Macro → Place → ℕ → ℕ → ℕ → Bool
+mayGain w m p f g x = ltb (g + (boxCost w m p + f)) x
 
 -- edge k with all points
 unfoldable pub offers : Weights → List ℤ → ℕ → List Macro → List ℕ → List ℕ → List ℕ → ℕ → Best → Best

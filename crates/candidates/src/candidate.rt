@@ -2,16 +2,18 @@
 use crate::Best;
 use crate::PAIRS;
 use crate::longest;
+use plane::Macro;
 use plane::Place;
 use plane::Weights;
 use tree::NUMBERS;
 use tree::POINTS;
 ghost use mathlib.Core.Path.{_≡_};
 ghost use Prim.Native.Nat.{_≤_, _<_};
-ghost use Rattle.plane.specs.Flat.{macrosOf};
+ghost use Rattle.plane.specs.Flat.{placeAt, macrosOf};
+ghost use Rattle.plane.specs.Box.{boxOf};
 ghost use Rattle.lists.specs.Turns.{seek};
-ghost use Rattle.tree.specs.Table.{treeBound, pairBound, Small};
-ghost use Rattle.candidates.specs.Candidate.{sees, taken, dropped, allowed, weighed, offer, offers, search};
+ghost use Rattle.tree.specs.Table.{treeBound, pairBound, Small, Low};
+ghost use Rattle.candidates.specs.Candidate.{sees, taken, dropped, allowed, weighed, offer, mayGain, offers, search};
 
 pub fn sees(macros: &[i32], a: Place, b: Place, u: Place) -> bool
     ensures { λ r. ⌜ r ≡ sees (macrosOf (now (macros .entry))) a b u ⌝ }
@@ -116,6 +118,21 @@ fn weigh(
     c
 }
 
+// Whether more than g can be gained with a place p that is f away from the tree, of edges in the box m, where none costs more than most.
+// The box is asked last, and before L, what is clear and what is dropped.
+pub fn may_gain(w: Weights, m: Macro, p: Place, f: u64, g: u64, most: u64) -> bool
+    ensures { λ r. ⌜ r ≡ mayGain w m p f g most ⌝ }
+{
+    if most <= f {
+        return false;
+    }
+    let left = most - f;
+    if left <= g {
+        return false;
+    }
+    plane::is_near_box(w, m, p, left - g)
+}
+
 fn offer(
     w: Weights,
     pts: &[i32; NUMBERS],
@@ -123,6 +140,7 @@ fn offer(
     macros: &[i32],
     el: &[u64; POINTS],
     top: &[u16; PAIRS],
+    m: Macro,
     a: usize,
     b: usize,
     k: usize,
@@ -130,7 +148,7 @@ fn offer(
     c: Best,
 ) -> Best
     requires { ⌜ ((a < treeBound) × (b < treeBound)) × ((u < treeBound) × (n ≤ treeBound)) ⌝ }
-    requires { ⌜ Small treeBound (now top) ⌝ }
+    requires { ⌜ (Small treeBound (now top)) × (m ≡ boxOf (placeAt (now pts) a) (placeAt (now pts) b)) ⌝ }
     ensures { λ r. ⌜ r ≡ offer w (now (pts .entry)) n (macrosOf (now (macros .entry))) (now (el .entry)) (now (top .entry)) a b k u c ⌝ }
 {
     let l = longest::cut_of(el, top, a, b, u);
@@ -138,10 +156,10 @@ fn offer(
         return c;
     }
     let long = el[l];
-    if long <= c.gain {
-        return c;
+    if may_gain(w, m, tree::point_at(pts, u), 0, c.gain, long) {
+        return weigh(w, pts, n, macros, a, b, k, u, l, long, c);
     }
-    weigh(w, pts, n, macros, a, b, k, u, l, long, c)
+    c
 }
 
 fn offers(
@@ -151,26 +169,33 @@ fn offers(
     macros: &[i32],
     keys: &[usize; POINTS],
     el: &[u64; POINTS],
+    most: u64,
     top: &[u16; PAIRS],
     k: usize,
     c: Best,
 ) -> Best
     requires { ⌜ (k < treeBound) × (n ≤ treeBound) ⌝ }
     requires { ⌜ (Small pairBound (now keys)) × (Small treeBound (now top)) ⌝ }
+    requires { ⌜ Low most (now el) ⌝ }
     ensures { λ r. ⌜ r ≡ offers w (now (pts .entry)) n (macrosOf (now (macros .entry))) (now (keys .entry)) (now (el .entry))
         (now (top .entry)) k c ⌝ }
 {
     let a = keys[k] / POINTS;
     let b = keys[k] % POINTS;
+    let m = plane::box_of(tree::point_at(pts, a), tree::point_at(pts, b));
     let mut found = c;
     let mut u = 0;
     while u < n {
-        found = offer(w, pts, n, macros, el, top, a, b, k, u, found);
+        let at = u;
         u += 1;
+        if may_gain(w, m, tree::point_at(pts, at), 0, found.gain, most) {
+            found = offer(w, pts, n, macros, el, top, m, a, b, k, at, found);
+        }
     }
     found
 }
 
+// The best candidate on the tree, where no edge costs more than most.
 pub fn search(
     w: Weights,
     pts: &[i32; NUMBERS],
@@ -179,10 +204,12 @@ pub fn search(
     keys: &[usize; POINTS],
     e: usize,
     el: &[u64; POINTS],
+    most: u64,
     top: &[u16; PAIRS],
 ) -> Best
     requires { ⌜ (e ≤ treeBound) × (n ≤ treeBound) ⌝ }
     requires { ⌜ (Small pairBound (now keys)) × (Small treeBound (now top)) ⌝ }
+    requires { ⌜ Low most (now el) ⌝ }
     ensures { λ r. ⌜ r ≡ search w (now (pts .entry)) n (macrosOf (now (macros .entry))) (now (keys .entry)) e (now (el .entry))
         (now (top .entry)) ⌝ }
 {
@@ -194,7 +221,7 @@ pub fn search(
     };
     let mut k = 0;
     while k < e {
-        found = offers(w, pts, n, macros, keys, el, top, k, found);
+        found = offers(w, pts, n, macros, keys, el, most, top, k, found);
         k += 1;
     }
     found

@@ -5,11 +5,12 @@ use plane::Weights;
 use tree::NUMBERS;
 use tree::POINTS;
 ghost use mathlib.Core.Path.{_≡_};
+ghost use mathlib.Core.Bool.{false};
 ghost use Prim.Native.Nat.{_≤_, _<_};
 ghost use lib.ListN.{getD};
 ghost use Rattle.plane.specs.Cost.{costLimit};
 ghost use Rattle.lists.specs.Turns.{turns};
-ghost use Rattle.tree.specs.Table.{treeBound, pairBound, key, Small};
+ghost use Rattle.tree.specs.Table.{treeBound, pairBound, key, Small, Low};
 ghost use Rattle.candidates.specs.Longest.{
   edgeCost,
   measure,
@@ -38,21 +39,30 @@ pub fn edge_cost(w: Weights, pts: &[i32; NUMBERS], keys: &[usize; POINTS], k: us
     )
 }
 
+// The costs of all edges, in a table of zeros; the greatest of them.
 pub fn costs(
     w: Weights,
     pts: &[i32; NUMBERS],
     keys: &[usize; POINTS],
     e: usize,
     el: &mut [u64; POINTS],
-)
+) -> u64
     requires { ⌜ (e ≤ treeBound) × (Small pairBound (now keys)) ⌝ }
-    ensures { λ _. ⌜ now (el .exit) ≡ turns (measure w (now (pts .entry)) (now (keys .entry))) 0 e (now (el .entry)) ⌝ }
+    requires { ⌜ Low 0 (now el) ⌝ }
+    ensures { λ r. ⌜ now (el .exit) ≡ turns (measure w (now (pts .entry)) (now (keys .entry))) 0 e (now (el .entry)) ⌝ }
+    ensures { λ r. ⌜ Low r (now (el .exit)) ⌝ }
 {
+    let mut most = 0;
     let mut k = 0;
     while k < e {
-        el[k] = edge_cost(w, pts, keys, k);
+        let d = edge_cost(w, pts, keys, k);
+        el[k] = d;
         k += 1;
+        if most < d {
+            most = d;
+        }
     }
+    most
 }
 
 fn wins(el: &[u64; POINTS], k: usize, l: usize) -> bool
@@ -124,6 +134,7 @@ fn spreads(el: &[u64; POINTS], n: usize, v: usize, p: usize, k: usize, top: &mut
     top[v * POINTS + v] = NONE;
 }
 
+// The edge k hangs a point on what is reached; whether there was one to hang.
 fn attach(
     el: &[u64; POINTS],
     n: usize,
@@ -132,24 +143,27 @@ fn attach(
     k: usize,
     seen: &mut [usize; POINTS],
     top: &mut [u16; PAIRS],
-)
+) -> bool
     requires { ⌜ ((a < treeBound) × (b < treeBound)) × ((k < treeBound) × (n ≤ treeBound)) ⌝ }
     requires { ⌜ Small treeBound (now top) ⌝ }
-    ensures { λ _. ⌜ reach (now (seen .exit)) (now (top .exit)) ≡ attach (now (el .entry)) n a b k
+    ensures { λ m. ⌜ reach (now (seen .exit)) (now (top .exit)) ≡ attach (now (el .entry)) n a b k
         (reach (now (seen .entry)) (now (top .entry))) ⌝ }
+    ensures { λ m. ⌜ (m ≡ false → reach (now (seen .exit)) (now (top .exit)) ≡ reach (now (seen .entry)) (now (top .entry))) ⌝ }
 {
     if seen[a] == seen[b] {
-        return;
+        return false;
     }
     if seen[a] == 0 {
         spreads(el, n, a, b, k, &mut *top);
         seen[a] = 1;
-        return;
+        return true;
     }
     spreads(el, n, b, a, k, &mut *top);
     seen[b] = 1;
+    true
 }
 
+// A pass over all edges; whether it hung a point.
 fn pass(
     keys: &[usize; POINTS],
     el: &[u64; POINTS],
@@ -157,20 +171,25 @@ fn pass(
     n: usize,
     seen: &mut [usize; POINTS],
     top: &mut [u16; PAIRS],
-)
+) -> bool
     requires { ⌜ (e ≤ treeBound) × (n ≤ treeBound) ⌝ }
     requires { ⌜ (Small pairBound (now keys)) × (Small treeBound (now top)) ⌝ }
-    ensures { λ _. ⌜ reach (now (seen .exit)) (now (top .exit))
+    ensures { λ m. ⌜ reach (now (seen .exit)) (now (top .exit))
         ≡ turns (pass (now (keys .entry)) (now (el .entry)) n) 0 e (reach (now (seen .entry)) (now (top .entry))) ⌝ }
+    ensures { λ m. ⌜ (m ≡ false → reach (now (seen .exit)) (now (top .exit)) ≡ reach (now (seen .entry)) (now (top .entry))) ⌝ }
 {
+    let mut moved = false;
     let mut k = 0;
     while k < e {
         let q = keys[k];
-        attach(el, n, q / POINTS, q % POINTS, k, &mut *seen, &mut *top);
+        let m = attach(el, n, q / POINTS, q % POINTS, k, &mut *seen, &mut *top);
+        moved = moved | m;
         k += 1;
     }
+    moved
 }
 
+// Passes until one hangs nothing, e at most.
 pub fn reached(
     keys: &[usize; POINTS],
     el: &[u64; POINTS],
@@ -186,7 +205,9 @@ pub fn reached(
 {
     let mut i = 0;
     while i < e {
-        pass(keys, el, e, n, &mut *seen, &mut *top);
+        if !pass(keys, el, e, n, &mut *seen, &mut *top) {
+            return;
+        }
         i += 1;
     }
 }

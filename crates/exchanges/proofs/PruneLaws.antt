@@ -2,8 +2,8 @@
 -- Assumes nothing.
 use mathlib.Core.Path.{_≡_, refl, sym, _∙_}
 use mathlib.Core.Bool.{Bool, true, false, _&&_, _||_}
-use mathlib.Core.List.{List, [], _∷_}
-use Prim.Native.Nat.{ℕ, zero, suc, _+_, _-_, _≤_, _<_}
+use mathlib.Core.List.{List}
+use Prim.Native.Nat.{ℕ, suc, _+_, _-_, _<_}
 use native.Mathlib.Omega.{arith}
 use lib.Dec.{eqb}
 use lib.ListN.{getD, set, replicate}
@@ -17,34 +17,11 @@ use Rattle.exchanges.specs.Exchange.{closed}
 use Rattle.exchanges.specs.Prune.{countEnds, firstLoose, loose, looseEdge, prune, markOf, mark, marks, pruned}
 use Rattle.tree.specs.Table.{Low, Row, firstEnd, treeBound, row, secondEnd, tree}
 use Rattle.lists.specs.Turns.{seek, turns}
-
-low-at : (n : ℕ) (xs : List ℕ) (v x : ℕ) → x ≤ n → ((i : ℕ) → getD xs i 0 ≤ n) → (i : ℕ) → getD (set xs v x) i 0 ≤ n
-low-at n [] v x h l i = l i
-low-at n (y ∷ ys) zero x h l zero = h
-low-at n (y ∷ ys) zero x h l (suc i) = l (suc i)
-low-at n (y ∷ ys) (suc v) x h l zero = l zero
-low-at n (y ∷ ys) (suc v) x h l (suc i) = low-at n ys v x h (λ j. l (suc j)) i
-
-pub low-set : (n : ℕ) (xs : List ℕ) (v x : ℕ) → x ≤ n → Low n xs → Low n (set xs v x)
-low-set n xs v x h s = record { low = low-at n xs v x h (s .low) }
-
-pub low-more : (m n : ℕ) (xs : List ℕ) → m ≤ n → Low m xs → Low n xs
-low-more m n xs h s = record { low = λ i. omega (arith, s .low i) }
-
-pub low-step : (n : ℕ) (d : List ℕ) (a : ℕ) → Low n d → Low (n + 1) (set d a (getD d a 0 + 1))
-low-step n d a l = low-set (n + 1) d a (getD d a 0 + 1) (omega (arith, l .low a)) (low-more n (n + 1) d (omega arith) l)
+use Rattle.tree.proofs.LowLaws.{low-more, low-step}
 
 pub low-count : (n m : ℕ) (ks : List ℕ) (i : ℕ) (d e : List ℕ) → e ≡ countEnds ks i d → Low n d → n + 2 ≡ m → Low m e
 unfolding countEnds
 low-count n m ks i d e q l h = rw q (low-more (n + 1 + 1) m _ (omega arith) (low-step (n + 1) _ _ (low-step n d _ l)))
-
-low-replicate : (n i : ℕ) → getD (replicate n 0) i 0 ≤ 0
-low-replicate zero i = omega arith
-low-replicate (suc n) zero = omega arith
-low-replicate (suc n) (suc i) = low-replicate n i
-
-pub low-zeros : (n : ℕ) → Low 0 (replicate n 0)
-low-zeros n = record { low = low-replicate n }
 
 pub count-is : (ks : List ℕ) (i : ℕ) (d : List ℕ) → (set (set d (firstEnd (getD ks i 0)) (getD d (firstEnd (getD ks i 0)) 0 + 1))
     (secondEnd (getD ks i 0)) (getD (set d (firstEnd (getD ks i 0)) (getD d (firstEnd (getD ks i 0)) 0 + 1))

@@ -1,4 +1,5 @@
--- The scan for a parent: a step taken or not, one more edge, the end; and what a step found tells: it leads, over an edge of the graph.
+-- Parents in one pass over the edges: an offer taken or not, what both offers of an edge are to each vertex's scan, one more edge, the end;
+-- and what a scan finds: a step that leads, over an edge of the graph.
 -- Assumes nothing.
 use mathlib.Core.Path.{_≡_, refl, sym, ap, ap₂, _∙_}
 use mathlib.Core.Bool.{Bool, true, false, _&&_}
@@ -7,8 +8,9 @@ use mathlib.Core.List.{List, [], _∷_, List·Memᴰ·cases-cons, List·Memᴰ·
 use Prim.Native.Nat.{ℕ, _+_, _-_, _≤_, _<_}
 use native.Mathlib.Omega.{arith}
 use lib.Dec.{ltb, eqb}
-use lib.ListN.{set, length-replicate, getD-replicate}
-use borrow.Author.Tests.{eq-eqb, ne-eqb, eqb-true, eqb-false, ltb-true, ltb-false}
+use lib.ListN.{length, getD, set, length-set, length-replicate, getD-replicate}
+use lib.Seq.{getD-set-same, getD-set-other, ext-getD}
+use borrow.Author.Tests.{eq-eqb, eqb-true, eqb-false, lt-ltb, le-ltb, ltb-true, ltb-false}
 use Rattle.lists.specs.Member.{_∈_, here, there}
 use Rattle.lists.proofs.TestLaws.{by, either, and-left, and-right}
 use Rattle.joined.specs.Joined.{Alike}
@@ -16,68 +18,186 @@ use Rattle.forest.specs.declared.Step.{Step}
 use Rattle.forest.specs.Bounds.{pointBound, edgeBound}
 use Rattle.forest.specs.Edges.{Graph, one, two, len, from, filled, Fits}
 use Rattle.forest.specs.Labels.{Labels, far, root}
-use Rattle.forest.specs.Parents.{step, none, leads, nearer, through, parentAmong, parent}
+use Rattle.forest.specs.Parents.{step, none, leads, nearer, through, parentAmong, parent, adoptBy}
 use Rattle.forest.specs.Parents.{Parents, parents, up, via, orphans, adopted, parented, Falls}
-use Rattle.forest.proofs.EdgeLaws.{below-from, fill-more, fill-end, fill-all, filled-here, filled-beyond}
+use Rattle.forest.proofs.EdgeLaws.{all-left, from-next, from-end, below-from, length-filled, filled-here, filled-beyond}
 
-module _ (t : Labels) (v w k d : ℕ) (best : Step) (m : Bool) (is : m ≡ leads t w v d) where
-  pub nearer-yes : (m && ltb w (best .to)) ≡ true → step w k ≡ nearer t v w k d best
+-- An edge at a time
+
+-- the step from v that a table of parents holds
+abbrev at : Parents → ℕ → Step
+at p v = step (up p v) (via p v)
+
+-- tables of as many entries as there are points
+abbrev Sized : Parents → Type 0
+Sized p = (length (p .ups) ≡ pointBound) × (length (p .vias) ≡ pointBound)
+
+module _ (n : ℕ) (t : Labels) (v w k d : ℕ) (p : Parents) where
+  pub adopt-yes : (m : Bool) → m ≡ leads t w v d → (ltb v n && (m && ltb w (up p v))) ≡ true →
+      parents (set (p .ups) v w) (set (p .vias) v k) ≡ adoptBy n t v w k d p
+  unfolding adoptBy
+  adopt-yes m is h = let e : (ltb v n && (leads t w v d && ltb w (up p v))) ≡ true = rw (← is) h in rw (adoptBy, e) refl
+
+  pub adopt-no : (m : Bool) → m ≡ leads t w v d → (ltb v n && (m && ltb w (up p v))) ≡ false → p ≡ adoptBy n t v w k d p
+  unfolding adoptBy
+  adopt-no m is h = let e : (ltb v n && (leads t w v d && ltb w (up p v))) ≡ false = rw (← is) h in rw (adoptBy, e) refl
+
+  adopt-sized : Sized p → Sized (adoptBy n t v w k d p)
+  unfolding adoptBy
+  adopt-sized z =
+      by (ltb v n && (leads t w v d && ltb w (up p v)))
+      (λ e. rw (adoptBy, e) (length-set (p .ups) v w ∙ z .0, length-set (p .vias) v k ∙ z .1))
+      (λ e. rw (adoptBy, e) z)
+
+  -- v gets the nearer step
+  adopt-here : Sized p → v < n → v < pointBound → at (adoptBy n t v w k d p) v ≡ nearer t v w k d (at p v)
+  unfolding adoptBy nearer
+  adopt-here z h i =
+      by (leads t w v d && ltb w (up p v))
+      (λ e.
+      rw (adoptBy, nearer, lt-ltb v n h, e)
+      (ap₂ step (getD-set-same (p .ups) v w 0 (omega (arith, z .0))) (getD-set-same (p .vias) v k 0 (omega (arith, z .1)))))
+      (λ e. rw (adoptBy, nearer, lt-ltb v n h, e) refl)
+
+  -- every other vertex keeps its step, and so does one that is not below n
+  adopt-other : (x : ℕ) → (x ≡ v → ⊥) → at (adoptBy n t v w k d p) x ≡ at p x
+  unfolding adoptBy
+  adopt-other x o =
+      by (ltb v n && (leads t w v d && ltb w (up p v)))
+      (λ e. rw (adoptBy, e) (ap₂ step (getD-set-other (p .ups) v x w 0 o) (getD-set-other (p .vias) v x k 0 o)))
+      (λ e. rw (adoptBy, e) refl)
+
+  adopt-beyond : (x : ℕ) → n ≤ x → at (adoptBy n t v w k d p) x ≡ at p x
+  unfolding adoptBy
+  adopt-beyond x h =
+      by (eqb x v)
+      (λ e. let q = eqb-true x v e in let l : n ≤ v = omega arith in rw (adoptBy, le-ltb v n l) refl)
+      (λ e. adopt-other x (eqb-false x v e))
+
+-- an offer made twice is made once
+module _ (t : Labels) (v w k d : ℕ) where
+  nearer-taken : (best : Step) → (leads t w v d && ltb w (best .to)) ≡ true → nearer t v w k d best ≡ step w k
   unfolding nearer
-  nearer-yes h = let e : (leads t w v d && ltb w (best .to)) ≡ true = rw (← is) h in rw (nearer, e) refl
+  nearer-taken best e = rw (nearer, e) refl
 
-  pub nearer-no : (m && ltb w (best .to)) ≡ false → best ≡ nearer t v w k d best
+  nearer-left : (best : Step) → (leads t w v d && ltb w (best .to)) ≡ false → nearer t v w k d best ≡ best
   unfolding nearer
-  nearer-no h = let e : (leads t w v d && ltb w (best .to)) ≡ false = rw (← is) h in rw (nearer, e) refl
+  nearer-left best e = rw (nearer, e) refl
 
-module _ (t : Labels) (v a b k d : ℕ) (best : Step) where
-  pub through-one : (r : Step) → v ≡ a → r ≡ nearer t v b k d best → r ≡ through t v a b k d best
+  nearer-twice : (best : Step) → nearer t v w k d (nearer t v w k d best) ≡ nearer t v w k d best
+  nearer-twice best =
+      by (leads t w v d && ltb w (best .to))
+      (λ e.
+      let l = and-left (leads t w v d) (ltb w (best .to)) e in
+      let own : (leads t w v d && ltb w w) ≡ false = rw (l, le-ltb w w (omega arith)) refl in
+      ap (nearer t v w k d) (nearer-taken best e) ∙ nearer-left (step w k) own ∙ sym (nearer-taken best e))
+      (λ e. ap (nearer t v w k d) (nearer-left best e))
+
+-- both offers of edge k, from a to b: what the scan of any vertex makes of it
+module _ (n : ℕ) (t : Labels) (a b k d : ℕ) (p : Parents) (z : Sized p) where
+  abbrev once : Parents
+  once = adoptBy n t a b k d p
+
+  abbrev both : Parents
+  both = adoptBy n t b a k d once
+
+  adopt-both : (v : ℕ) → v < n → v < pointBound → at both v ≡ through t v a b k d (at p v)
   unfolding through
-  through-one r e h = rw (through, eq-eqb v a e) h
+  adopt-both v h i =
+      by (eqb v a)
+      (λ e.
+      let q = eqb-true v a e in
+      let first : at once v ≡ nearer t v b k d (at p v) = rw q (adopt-here n t a b k d p z (rw q at h) (rw q at i)) in
+      by (eqb v b)
+      (λ f. let r = eqb-true v b f in rw (through, e) (twice q r h i first))
+      (λ f. rw (through, e) (adopt-other n t b a k d once v (eqb-false v b f) ∙ first)))
+      (λ e.
+      let still = adopt-other n t a b k d p v (eqb-false v a e) in
+      by (eqb v b)
+      (λ f.
+      let r = eqb-true v b f in
+      let z′ = adopt-sized n t a b k d p z in
+      let next : at both v ≡ nearer t v a k d (at once v) = rw r (adopt-here n t b a k d once z′ (rw r at h) (rw r at i)) in
+      rw (through, e, f) (next ∙ ap (nearer t v a k d) still))
+      (λ f. rw (through, e, f) (adopt-other n t b a k d once v (eqb-false v b f) ∙ still)))
+    where
+      twice : v ≡ a → v ≡ b → v < n → v < pointBound → at once v ≡ nearer t v b k d (at p v) → at both v ≡ nearer t v b k d (at p v)
+      twice q r l j first =
+          let z′ = adopt-sized n t a b k d p z in
+          let next : at both v ≡ nearer t v a k d (at once v) = rw r (adopt-here n t b a k d once z′ (rw r at l) (rw r at j)) in
+          let same : a ≡ b = sym q ∙ r in
+          next ∙ ap (λ (x : ℕ). nearer t v x k d (at once v)) same ∙ ap (nearer t v b k d) first ∙ nearer-twice t v b k d (at p v)
 
-  pub through-two : (r : Step) → (v ≡ a → ⊥) → v ≡ b → r ≡ nearer t v a k d best → r ≡ through t v a b k d best
-  unfolding through
-  through-two r n e h = rw (through, ne-eqb v a n, eq-eqb v b e) h
+-- In one pass
 
-  pub through-none : (v ≡ a → ⊥) → (v ≡ b → ⊥) → best ≡ through t v a b k d best
-  unfolding through
-  through-none n o = rw (through, ne-eqb v a n, ne-eqb v b o) refl
+-- the edges from k on are still to come: each vertex's scan goes on from the step that the tables hold
+pub record Adopting (g : Graph) (n : ℕ) (t : Labels) (k : ℕ) (p : Parents) : Type 0 where
+  pub sized : Sized p
+  pub inside : (v : ℕ) → v < n → parentAmong g t v (from k (g .count - k)) (at p v) ≡ parent g t v
+  pub beyond : (v : ℕ) → n ≤ v → at p v ≡ at orphans v
 
-module _ (g : Graph) (t : Labels) (v : ℕ) where
-  pub scan-none : (e : ℕ) → g .count ≡ e → parentAmong g t v (from 0 e) none ≡ parent g t v
+module _ (g : Graph) (n : ℕ) (t : Labels) (small : n ≤ pointBound) where
+  pub adopt-none : (p : Parents) → p ≡ orphans → Adopting g n t 0 p
   unfolding parent
-  scan-none e h = rw (← h) refl
+  adopt-none p e =
+      rw e (record {
+        sized = (length-replicate pointBound pointBound, length-replicate pointBound edgeBound);
+        inside = λ v h. ap₂ (parentAmong g t v) (ap (from 0) (all-left (g .count))) (orphan v (omega arith));
+        beyond = λ v h. refl;
+      })
+    where
+      orphan : (v : ℕ) → v < pointBound → at orphans v ≡ none
+      orphan v i = ap₂ step (getD-replicate pointBound v pointBound 0 i) (getD-replicate pointBound v edgeBound 0 i)
 
-  pub scan-more : (left : List ℕ) (k : ℕ) (ks : List ℕ) (best next all : Step) → parentAmong g t v left best ≡ all → left ≡ k ∷ ks →
-      next ≡ through t v (one g k) (two g k) k (len g k) best → parentAmong g t v ks next ≡ all
-  unfolding parentAmong
-  scan-more left k ks best next all p q r = rw r (ap (λ (l : List ℕ). parentAmong g t v l best) (sym q) ∙ p)
+  module _ (k : ℕ) (p : Parents) (o : Adopting g n t k p) where
+    pub adopt-more : (p′ p″ : Parents) → k < g .count → p′ ≡ adoptBy n t (one g k) (two g k) k (len g k) p →
+        p″ ≡ adoptBy n t (two g k) (one g k) k (len g k) p′ → Adopting g n t (k + 1) p″
+    unfolding parentAmong
+    adopt-more p′ p″ h e f =
+        rw (f, e) (record {
+          sized = adopt-sized n t _ _ k _ _ (adopt-sized n t _ _ k _ p (o .sized));
+          inside = λ v i. next v i;
+          beyond = λ v i. adopt-beyond n t _ _ k _ _ v i ∙ adopt-beyond n t _ _ k _ p v i ∙ o .beyond v i;
+        })
+      where
+        next : (v : ℕ) → v < n →
+            parentAmong g t v (from (k + 1) (g .count - (k + 1))) (at (both n t (one g k) (two g k) k (len g k) p (o .sized)) v)
+            ≡ parent g t v
+        next v i =
+            ap (parentAmong g t v (from (k + 1) (g .count - (k + 1)))) (adopt-both n t (one g k) (two g k) k (len g k) p (o .sized) v i (omega arith))
+            ∙ ap (λ (l : List ℕ). parentAmong g t v l (at p v)) (sym (from-next k (g .count) h)) ∙ o .inside v i
 
-  pub scan-end : (left : List ℕ) (best all : Step) → parentAmong g t v left best ≡ all → left ≡ [] → best ≡ all
-  unfolding parentAmong
-  scan-end left best all p q = ap (λ (l : List ℕ). parentAmong g t v l best) (sym q) ∙ p
+    pub adopt-end : g .count ≤ k → p ≡ parented g n t
+    unfolding parented adopted parentAmong
+    adopt-end h =
+        ap₂ parents
+        (ext-getD 0 _ _ (o .sized .0 ∙ sym (length-filled _ 0 n _ ∙ length-replicate pointBound pointBound)) (λ v i. ups v))
+        (ext-getD 0 _ _ (o .sized .1 ∙ sym (length-filled _ 0 n _ ∙ length-replicate pointBound edgeBound)) (λ v i. vias v))
+      where
+        found : (v : ℕ) → v < n → at p v ≡ parent g t v
+        found v i = ap (λ (l : List ℕ). parentAmong g t v l (at p v)) (sym (from-end k (g .count) h)) ∙ o .inside v i
 
--- Parents of vertices, one after the other
+        ups : (v : ℕ) → up p v ≡ getD (filled (λ w. parent g t w .to) 0 n (orphans .ups)) v 0
+        ups v =
+            by (ltb v n)
+            (λ e.
+            let i = ltb-true v n e in
+            ap (λ (s : Step). s .to) (found v i)
+            ∙ sym (filled-here _ n (orphans .ups) v (omega (arith, length-replicate pointBound pointBound)) i))
+            (λ e.
+            let i = ltb-false v n e in
+            ap (λ (s : Step). s .to) (o .beyond v i) ∙ sym (filled-beyond (λ w. parent g t w .to) n (orphans .ups) v i))
 
--- those from v on are still to come
-pub record Adopting (g : Graph) (n : ℕ) (t : Labels) (start : Parents) (v : ℕ) (p : Parents) : Type 0 where
-  pub ups : filled (λ w. parent g t w .to) v (n - v) (p .ups) ≡ filled (λ w. parent g t w .to) 0 n (start .ups)
-  pub vias : filled (λ w. parent g t w .via) v (n - v) (p .vias) ≡ filled (λ w. parent g t w .via) 0 n (start .vias)
-
-module _ (g : Graph) (n : ℕ) (t : Labels) (start : Parents) where
-  pub adopt-none : Adopting g n t start 0 start
-  adopt-none = record { ups = fill-all _ n (start .ups); vias = fill-all _ n (start .vias) }
-
-  module _ (v : ℕ) (p : Parents) (a : Adopting g n t start v p) where
-    pub adopt-more : (s : Step) → s ≡ parent g t v → v < n →
-        Adopting g n t start (v + 1) (parents (set (p .ups) v (s .to)) (set (p .vias) v (s .via)))
-    adopt-more s e h = record {
-      ups = fill-more _ v n _ _ _ (a .ups) h (ap (λ (r : Step). r .to) e);
-      vias = fill-more _ v n _ _ _ (a .vias) h (ap (λ (r : Step). r .via) e);
-    }
-
-    pub adopt-end : n ≤ v → p ≡ adopted g n t start
-    unfolding adopted
-    adopt-end h = ap₂ parents (fill-end _ v n _ _ (a .ups) h) (fill-end _ v n _ _ (a .vias) h)
+        vias : (v : ℕ) → via p v ≡ getD (filled (λ w. parent g t w .via) 0 n (orphans .vias)) v 0
+        vias v =
+            by (ltb v n)
+            (λ e.
+            let i = ltb-true v n e in
+            ap (λ (s : Step). s .via) (found v i)
+            ∙ sym (filled-here _ n (orphans .vias) v (omega (arith, length-replicate pointBound edgeBound)) i))
+            (λ e.
+            let i = ltb-false v n e in
+            ap (λ (s : Step). s .via) (o .beyond v i) ∙ sym (filled-beyond (λ w. parent g t w .via) n (orphans .vias) v i))
 
 -- What the scan finds
 

@@ -19,6 +19,7 @@
 --              labelled g n sources                 the labels of a graph of n vertices, by relaxation until nothing changes
 --   Parents    parent g t v                         the step from v to its parent: the vertex, and the edge to it
 --              parented g n t, up p v, via p v      the table of these steps, read
+--              adoptBy n t v w k d p                the same table, an edge at a time
 --              way fars p v, wayLength ..           the edges on v's way to its root, and the sum of their lengths
 --   Setting    Setting g n d sources, Whole ..      what the theorems suppose: lengths by d, vertices below n; joined, with a source
 pub mod Bounds

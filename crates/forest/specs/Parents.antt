@@ -8,7 +8,7 @@ use mathlib.Core.Bool.{Bool, true, false, _&&_}
 use mathlib.Core.List.{List, [], _∷_, map}
 use Prim.Native.Nat.{ℕ, zero, suc, _+_, _≤_, _<_}
 use lib.Dec.{ltb, eqb}
-use lib.ListN.{getD, replicate}
+use lib.ListN.{getD, set, replicate}
 use Rattle.lists.specs.Total.{total}
 use Rattle.forest.specs.declared.Step.{Step}
 use Rattle.forest.specs.Bounds.{pointBound, edgeBound}
@@ -67,6 +67,11 @@ adopted g n t p = parents (filled (λ v. parent g t v .to) 0 n (p .ups)) (filled
 
 unfoldable pub parented : Graph → ℕ → Labels → Parents
 parented g n t = adopted g n t orphans
+
+-- In one pass over the edges: w becomes the parent of v over edge k of length d, where v is below n, that leads and w is smaller
+unfoldable pub adoptBy : ℕ → Labels → ℕ → ℕ → ℕ → ℕ → Parents → Parents
+adoptBy n t v w k d p =
+    elim (ltb v n && (leads t w v d && ltb w (up p v))) [ true ↦ parents (set (p .ups) v w) (set (p .vias) v k) | false ↦ p ]
 
 -- T8: a way goes from parent to parent and ends at the root: the edges on it, n at most
 unfoldable pub wayOf : Parents → ℕ → ℕ → List ℕ

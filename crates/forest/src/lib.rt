@@ -8,7 +8,7 @@ ghost use lib.ListN.{getD};
 ghost use Rattle.forest.specs.Bounds.{pointBound, costBound};
 ghost use Rattle.forest.specs.Edges.{graph, from, entries, Fits, FirstBelow};
 ghost use Rattle.forest.specs.Labels.{labels, better, gains, offer, relax, changes, settled, starts, unlabelled, labelled, Low};
-ghost use Rattle.forest.specs.Parents.{leads, nearer, through, parent, parents, orphans, adopted, parented, wayLength, Falls};
+ghost use Rattle.forest.specs.Parents.{leads, parents, orphans, adoptBy, parented, wayLength, Falls};
 
 // The bounds of the tables are the net's.
 pub const POINTS: usize = Net::POINTS;
@@ -145,77 +145,31 @@ fn leads(far: &[u64; POINTS], root: &[usize; POINTS], w: usize, v: usize, d: u64
     (root[w] == root[v]) & (far[w] + d == far[v])
 }
 
-// The step from v to w over edge k, of length d, where that leads and w is smaller than where the best step so far goes.
-fn nearer(
+// w becomes the parent of v, below n, over edge k, of length d, where that leads and w is smaller than the parent so far.
+fn adopt_by(
     far: &[u64; POINTS],
     root: &[usize; POINTS],
+    n: usize,
     v: usize,
     w: usize,
     k: usize,
     d: u64,
-    best: Step,
-) -> Step
+    up: &mut [usize; POINTS],
+    via: &mut [usize; POINTS],
+)
     requires { ⌜ (w < pointBound) × (v < pointBound) ⌝ }
     requires { ⌜ (Low (now far)) × (d ≤ costBound) ⌝ }
-    ensures { λ r. ⌜ r ≡ nearer (labels (now (far .entry)) (now (root .entry))) v w k d best ⌝ }
+    ensures { λ _. ⌜ parents (now (up .exit)) (now (via .exit)) ≡ adoptBy n (labels (now (far .entry)) (now (root .entry))) v w k d
+        (parents (now (up .entry)) (now (via .entry))) ⌝ }
 {
-    if leads(far, root, w, v, d) & (w < best.to) {
-        return Step { to: w, via: k };
+    let is_smaller = w < up[v];
+    if (v < n) & (leads(far, root, w, v, d) & is_smaller) {
+        up[v] = w;
+        via[v] = k;
     }
-    best
 }
 
-// The same for the other end of edge k, which joins a and b, where v is an end of it.
-fn through(
-    far: &[u64; POINTS],
-    root: &[usize; POINTS],
-    v: usize,
-    a: usize,
-    b: usize,
-    k: usize,
-    d: u64,
-    best: Step,
-) -> Step
-    requires { ⌜ (v < pointBound) × ((a < pointBound) × (b < pointBound)) ⌝ }
-    requires { ⌜ (Low (now far)) × (d ≤ costBound) ⌝ }
-    ensures { λ r. ⌜ r ≡ through (labels (now (far .entry)) (now (root .entry))) v a b k d best ⌝ }
-{
-    if v == a {
-        return nearer(far, root, v, b, k, d, best);
-    }
-    if v == b {
-        return nearer(far, root, v, a, k, d, best);
-    }
-    best
-}
-
-// The step from v to its parent.
-fn parent_of(
-    ea: &[usize; EDGES],
-    eb: &[usize; EDGES],
-    el: &[u64; EDGES],
-    e: usize,
-    far: &[u64; POINTS],
-    root: &[usize; POINTS],
-    v: usize,
-) -> Step
-    requires { ⌜ (Fits (graph (now ea) (now eb) (now el) e)) × ((Low (now far)) × (v < pointBound)) ⌝ }
-    ensures { λ r. ⌜ r ≡ parent (graph (now (ea .entry)) (now (eb .entry)) (now (el .entry)) e)
-        (labels (now (far .entry)) (now (root .entry))) v ⌝ }
-{
-    let mut best = Step {
-        to: POINTS,
-        via: EDGES,
-    };
-    let mut k = 0;
-    while k < e {
-        best = through(far, root, v, ea[k], eb[k], k, el[k], best);
-        k += 1;
-    }
-    best
-}
-
-// The parents of the vertices below n, and the edges to them.
+// The parents of the vertices below n, and the edges to them, in one pass over the edges: each offers each of its ends the other one.
 fn adopt(
     ea: &[usize; EDGES],
     eb: &[usize; EDGES],
@@ -228,15 +182,18 @@ fn adopt(
     via: &mut [usize; POINTS],
 )
     requires { ⌜ (Fits (graph (now ea) (now eb) (now el) e)) × ((Low (now far)) × (n ≤ pointBound)) ⌝ }
-    ensures { λ _. ⌜ parents (now (up .exit)) (now (via .exit)) ≡ adopted (graph (now (ea .entry)) (now (eb .entry)) (now (el .entry)) e) n
-        (labels (now (far .entry)) (now (root .entry))) (parents (now (up .entry)) (now (via .entry))) ⌝ }
+    requires { ⌜ parents (now up) (now via) ≡ orphans ⌝ }
+    ensures { λ _. ⌜ parents (now (up .exit)) (now (via .exit)) ≡ parented (graph (now (ea .entry)) (now (eb .entry)) (now (el .entry)) e) n
+        (labels (now (far .entry)) (now (root .entry))) ⌝ }
 {
-    let mut v = 0;
-    while v < n {
-        let s = parent_of(ea, eb, el, e, far, root, v);
-        up[v] = s.to;
-        via[v] = s.via;
-        v += 1;
+    let mut k = 0;
+    while k < e {
+        let a = ea[k];
+        let b = eb[k];
+        let d = el[k];
+        adopt_by(far, root, n, a, b, k, d, &mut *up, &mut *via);
+        adopt_by(far, root, n, b, a, k, d, &mut *up, &mut *via);
+        k += 1;
     }
 }
 

@@ -1,12 +1,15 @@
 pub mod GraphSteps
-pub mod PickSteps
 pub mod WidthLaws
 pub mod ReadBack
 pub mod WorkedGraphs
 pub mod QuadrantLaws
 pub mod VertexLaws
 pub mod PickLaws
+pub mod VertexNumbers
+pub mod PassLaws
 pub mod EdgeLaws
+pub mod LinkLaws
+pub mod GivenEdges
 pub mod OutsideLaws
 pub mod AheadLaws
 pub mod Connected

@@ -24,6 +24,12 @@ module _ {S : Type 0} (f : ℕ → S → S) where
       let k : n - i ≡ 0 = omega arith in
       sym (rw k refl) ∙ p
 
+  -- turns that change nothing
+  pub turns-still : (n i : ℕ) (s : S) → ((j : ℕ) → f j s ≡ s) → turns f i n s ≡ s
+  unfolding turns
+  turns-still zero i s h = refl
+  turns-still (suc n) i s h = ap (turns f (suc i) n) (h i) ∙ turns-still n (suc i) s h
+
   -- what every turn keeps
   pub turns-keep : (P : S → Type 0) (n i : ℕ) (s : S) → ((j : ℕ) (t : S) → P t → P (f j t)) → P s → P (turns f i n s)
   unfolding turns

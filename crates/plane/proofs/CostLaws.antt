@@ -1,16 +1,27 @@
 -- Cost: what everything above knows of it. The same both ways, 0 exactly at equal places, no less than the distance, additive through a
 -- place in the box, the triangle, and how much at most. Each is the gaps' own law, multiplied by a weight on both sides.
 -- Assumes nothing.
-use mathlib.Core.Path.{_≡_, sym, ap, ap₂, _∙_}
-use Prim.Native.Nat.{ℕ, _+_, _*_, _^_, _≤_, _<_}
+use mathlib.Core.Path.{_≡_, refl, sym, ap, ap₂, _∙_}
+use mathlib.Core.Bool.{true, false}
+use lib.IntN.{ℤ}
+use lib.Signed.{ltZ}
+use lib.Dec.{ltb}
+use borrow.Author.Tests.{lt-ltb, le-ltb, ltb-true, ltb-false}
+use Rattle.lists.proofs.TestLaws.{by}
+use Rattle.signed.specs.Sides.{Le}
+use Rattle.signed.specs.Order.{minZ, maxZ}
+use Rattle.signed.proofs.SideLaws.{eq-of, signed}
+use Rattle.signed.proofs.OrderLaws.{min-sides, max-sides}
+use Prim.Native.Nat.{ℕ, _+_, _*_, _-_, _^_, _≤_, _<_}
 use native.Mathlib.Nat.{add-mul, zero-mul, mul-one, mul-le-mul, mul-le-mul-right, le-mul-of-pos-right}
 use native.Mathlib.Omega.{arith}
 use Rattle.plane.specs.declared.Place.{Place}
+use Rattle.plane.specs.declared.Macro.{Macro}
 use Rattle.plane.specs.declared.Weights.{Weights}
 use Rattle.plane.specs.Place.{place}
-use Rattle.plane.specs.Box.{InBox}
+use Rattle.plane.specs.Box.{InBox, boxOf, outside, boxCost}
 use Rattle.plane.specs.Distance.{apart, distance}
-use Rattle.plane.specs.Middle.{middlePlace}
+use Rattle.plane.specs.Middle.{middle, middlePlace}
 use Rattle.plane.specs.Cost.{cost, plain, costLimit, Positive}
 use Rattle.plane.proofs.Fits.{PlaceFits}
 use Rattle.plane.proofs.DistanceLaws.{apart-comm, apart-self, apart-none, apart-through, apart-triangle, apart-fits}
@@ -115,3 +126,45 @@ module _ (w : Weights) where
 pub cost-plain : (a b : Place) → cost plain a b ≡ distance a b
 unfolding cost distance
 cost-plain a b = ap₂ _+_ (mul-one (apart (a .x) (b .x))) (mul-one (apart (a .y) (b .y)))
+
+-- To a box
+
+-- outside a span by as much as its nearest number is away
+outside-nearest : (l h z : ℤ) → Le l h → outside l h z ≡ apart (maxZ l (minZ h z)) z
+unfolding outside
+outside-nearest l h z i =
+    by (ltZ z l)
+    (λ e.
+    let n : maxZ l (minZ h z) ≡ l = eq-of _ _ (omega (signed, i, max-sides l (minZ h z), min-sides h z)) in
+    rw (outside, e, n) refl)
+    (λ e. by (ltZ h z)
+    (λ f.
+    let n : maxZ l (minZ h z) ≡ h = eq-of _ _ (omega (signed, i, max-sides l (minZ h z), min-sides h z)) in
+    rw (outside, e, f, n) refl)
+    (λ f.
+    let n : maxZ l (minZ h z) ≡ z = eq-of _ _ (omega (signed, i, max-sides l (minZ h z), min-sides h z)) in
+    rw (outside, e, f, n) (sym (apart-self z))))
+
+outside-middle : (a b z : ℤ) → outside (minZ a b) (maxZ a b) z ≡ apart (middle a b z) z
+unfolding middle
+outside-middle a b z = outside-nearest (minZ a b) (maxZ a b) z (omega (signed, min-sides a b, max-sides a b))
+
+-- the nearest place of the box of two places is the middle of the three
+pub box-cost : (w : Weights) (a b u : Place) → boxCost w (boxOf a b) u ≡ cost w (middlePlace a b u) u
+unfolding boxCost boxOf cost middlePlace
+box-cost w a b u =
+    ap₂ (λ (m n : ℕ). m * w .across + n * w .along) (outside-middle (a .x) (b .x) (u .x)) (outside-middle (a .y) (b .y) (u .y))
+
+-- the test that asks the gap across first
+pub box-far : (w : Weights) (m : Macro) (u : Place) (limit x : ℕ) → x ≡ outside (m .left) (m .right) (u .x) * w .across → limit ≤ x →
+    false ≡ ltb (boxCost w m u) limit
+unfolding boxCost
+box-far w m u limit x e h = sym (le-ltb (boxCost w m u) limit (omega (arith, e, h)))
+
+pub box-near : (w : Weights) (m : Macro) (u : Place) (limit x y : ℕ) → x ≡ outside (m .left) (m .right) (u .x) * w .across →
+    y ≡ outside (m .bottom) (m .top) (u .y) * w .along → x < limit → ltb y (limit - x) ≡ ltb (boxCost w m u) limit
+unfolding boxCost
+box-near w m u limit x y e f h =
+    by (ltb y (limit - x))
+    (λ t. t ∙ sym (lt-ltb (boxCost w m u) limit (omega (arith, e, f, ltb-true y (limit - x) t))))
+    (λ t. t ∙ sym (le-ltb (boxCost w m u) limit (omega (arith, e, f, h, ltb-false y (limit - x) t))))

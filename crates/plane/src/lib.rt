@@ -4,12 +4,14 @@
 ghost use mathlib.Core.Path.{_≡_};
 ghost use Prim.Native.Nat.{_+_, _*_, _≤_, _^_, _<_};
 ghost use lib.IntN.{pos, _-ℤ_, natAbs};
+ghost use lib.Dec.{ltb};
 ghost use lib.ListN.{length};
 ghost use lib.Seq.{sets};
 ghost use Rattle.plane.specs.Place.{before, samePlace};
 ghost use Rattle.plane.specs.Distance.{apart, distance};
 ghost use Rattle.plane.specs.Cost.{cost, costLimit};
 ghost use Rattle.plane.specs.Middle.{middle, middlePlace};
+ghost use Rattle.plane.specs.Box.{boxOf, outside, boxCost};
 ghost use Rattle.plane.specs.Macro.{spanMeets, meets, openSpansMeet, interiorsMeet, clear};
 ghost use Rattle.plane.specs.Flat.{macrosOf, macroAt, placeAt, placeNumbers};
 ghost use Rattle.signed.specs.Order.{minZ, maxZ};
@@ -122,6 +124,42 @@ pub fn middle_place(a: Place, b: Place, u: Place) -> Place
         x: median(a.x, b.x, u.x),
         y: median(a.y, b.y, u.y),
     }
+}
+
+// The closed upright box of two places.
+pub fn box_of(a: Place, b: Place) -> Macro
+    ensures { λ r. ⌜ r ≡ boxOf a b ⌝ }
+{
+    Macro {
+        left: smaller(a.x, b.x),
+        bottom: smaller(a.y, b.y),
+        right: greater(a.x, b.x),
+        top: greater(a.y, b.y),
+    }
+}
+
+// How far z lies outside the closed span from low to high.
+fn outside(low: i32, high: i32, z: i32) -> u64
+    ensures { λ r. ⌜ (r ≡ outside low high z) × (r < 2 ^ 32) ⌝ }
+{
+    if z < low {
+        return gap(low, z);
+    }
+    if high < z {
+        return gap(high, z);
+    }
+    0
+}
+
+// Whether metal from u to the nearest place of a box costs less than limit. Most places are too far across already.
+pub fn is_near_box(w: Weights, m: Macro, u: Place, limit: u64) -> bool
+    ensures { λ r. ⌜ r ≡ ltb (boxCost w m u) limit ⌝ }
+{
+    let across = axis_cost(outside(m.left, m.right, u.x), w.across);
+    if limit <= across {
+        return false;
+    }
+    axis_cost(outside(m.bottom, m.top, u.y), w.along) < limit - across
 }
 
 // The closed span of a and b meets the open one between from and to.

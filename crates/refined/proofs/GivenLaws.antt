@@ -7,39 +7,17 @@ use Prim.Native.Nat.{ℕ, suc, _+_, _-_, _*_, _≤_, _<_}
 use native.Mathlib.Omega.{arith}
 use native.Mathlib.Numerals.{add-one}
 use lib.IntN.{ℤ}
-use lib.ListN.{length, getD, set, length-append}
+use lib.ListN.{length, getD, length-append}
 use lib.Seq.{sets}
 use Rattle.lent.specs.Over.{over}
 use Rattle.lent.specs.Entries.{flat}
-use Rattle.lent.proofs.OverLaws.{over-none, over-more}
-use Rattle.lent.proofs.EntryTable.{flat-append, length-flat}
+use Rattle.lent.proofs.OverLaws.{over-none}
+use Rattle.lent.proofs.EntryTable.{flat-append}
 use Rattle.plane.specs.declared.Place.{Place}
-use Rattle.graph.specs.Numbers.{edgeNumbers, edgeFrom}
-use Rattle.graph.proofs.WidthLaws.{edge-width}
+use Rattle.graph.specs.Numbers.{edgeNumbers}
+pub use Rattle.graph.proofs.GivenEdges.{Edge, sets-append, over-sets, edges-long}
 use Rattle.tree.specs.Places.{endsOf}
 use Rattle.tree.specs.Edges.{edgesFrom, tableEdges}
-
--- Stores one after the other
-
-module _ {X : Type 0} where
-  pub sets-append : (l : List X) (i j : ℕ) (xs ys : List X) → j ≡ i + length xs → sets (sets l i xs) j ys ≡ sets l i (xs ++ ys)
-  sets-append l i j [] ys e = let f : j ≡ i = omega arith in rw f refl
-  sets-append l i j (x ∷ xs) ys e = sets-append (set l i x) (suc i) j xs ys (omega arith)
-
-  -- just past what is written
-  over-sets : (xs ys lent : List X) (k : ℕ) → length xs ≡ k → k + length ys ≤ length lent → sets (over xs lent) k ys ≡ over (xs ++ ys) lent
-  over-sets xs [] lent k e h = ap (λ (l : List X). over l lent) (sym (append-nil xs))
-  over-sets xs (y ∷ ys) lent k e h =
-      let n : length (xs ++ (y ∷ [])) ≡ suc k = length-append xs (y ∷ []) ∙ omega (arith, e) in
-      ap (λ (l : List X). sets l (suc k) ys) (over-more xs lent k y e (omega arith))
-      ∙ over-sets (xs ++ (y ∷ [])) ys lent (suc k) n (omega arith)
-      ∙ ap (λ (l : List X). over l lent) (append-assoc xs (y ∷ []) ys)
-
-abbrev pub Edge : Type 0
-Edge = Place × Place
-
-pub edges-long : (es : List Edge) → length (flat edgeNumbers es) ≡ length es * 4
-edges-long es = length-flat edgeNumbers edgeFrom 4 edge-width es
 
 -- `part` gives some entries for an edge, `give` those of edges one after the other
 module _ (part : Edge → List Edge) (give : List Edge → List Edge) (pts : List ℤ) (ks : List ℕ) (e : ℕ) (lent : List ℤ) where

@@ -11,7 +11,8 @@ use lib.Dec.{ltb, eqb}
 use lib.IntN.{ℤ}
 use lib.ListN.{length, getD, set, replicate}
 use lib.Seq.{append-snoc}
-use borrow.Author.Tests.{lt-ltb, le-ltb}
+use borrow.Author.Tests.{eq-eqb, lt-ltb, le-ltb, ltb-false}
+use Rattle.lists.proofs.TestLaws.{by}
 use Rattle.lists.specs.Member.{_∈_}
 use Rattle.plane.specs.declared.Place.{Place}
 use Rattle.plane.specs.declared.Macro.{Macro}
@@ -19,18 +20,20 @@ use Rattle.plane.specs.declared.Weights.{Weights}
 use Rattle.plane.specs.Place.{samePlace}
 use Rattle.plane.specs.Cost.{cost}
 use Rattle.plane.specs.Middle.{middlePlace}
+use Rattle.plane.specs.Box.{boxOf, boxCost}
 use Rattle.plane.specs.Flat.{placeAt}
+use Rattle.plane.proofs.CostLaws.{box-cost}
 use Rattle.forest.specs.Bounds.{pointBound}
 use Rattle.forest.specs.Edges.{entries, FirstBelow, Listed}
 use Rattle.forest.specs.Parents.{wayAfter, Nearing}
 use Rattle.forest.proofs.ListedLaws.{read-listed, entry-listed, listed-none, listed-more}
 use Rattle.forest.proofs.WayLaws.{after-go, after-none}
-use Rattle.tree.specs.Table.{treeBound, pairBound, Small}
+use Rattle.tree.specs.Table.{treeBound, pairBound, Small, Low}
 use Rattle.candidates.specs.declared.Best.{Best}
 use Rattle.refiner.specs.declared.Choice.{Choice}
 use Rattle.lists.specs.Turns.{turns}
 use Rattle.candidates.specs.Longest.{Reach, reach, reached, start, measure, costs, longest, noEdge, cutOf}
-use Rattle.candidates.specs.Candidate.{best, chosen, sees, dropped}
+use Rattle.candidates.specs.Candidate.{best, chosen, sees, dropped, mayGain}
 use Rattle.candidates.specs.Candidate as tree
 use Rattle.exchanges.specs.Exchange.{rank, stands}
 use Rattle.refiner.specs.Beside.{isPoint, sourcesFrom, takeSeat, onWay, free, weighed, offer, search, chosenOf}
@@ -202,7 +205,7 @@ module _ (w : Weights) (pts : List ℤ) (n : ℕ) (ms : List Macro) (vs : List �
     pub weigh-yes : (g : ℕ) → g ≡ x - (m + f) → c .gain + (m + f) < x → free pts n ms vs fars ups a b u s ≡ true → best g k u l ≡ Weighed
     weigh-yes g e i t = sym (named ∙ rw (lt-ltb _ _ i, t, e) refl)
 
-  pub weigh-short : x ≤ c .gain → c ≡ Weighed
+  pub weigh-short : x ≤ c .gain + getD fars u 0 → c ≡ Weighed
   weigh-short i =
       weigh-low _ _ _ _ _ _ (record { one = refl; two = refl; three = refl; mid = refl; metal = refl; far = refl }) (omega arith)
 
@@ -215,6 +218,9 @@ module _ (w : Weights) (pts : List ℤ) (n : ℕ) (ms : List Macro) (el top : Li
   unfolding offer
   offer-on t = rw t refl
 
+  pub offer-zero : getD fars u 0 ≤ 0 → c ≡ Offered
+  offer-zero h = offer-on (eq-eqb (getD fars u 0) 0 (omega (arith, h)))
+
   module _ (o : eqb (getD fars u 0) 0 ≡ false) (v l : ℕ) (d : v ≡ getD seat u 0) (e : l ≡ cutOf el top a b v) where
     pub offer-none : (eqb v a || (eqb v b || eqb l k)) ≡ true → c ≡ Offered
     unfolding offer
@@ -225,8 +231,30 @@ module _ (w : Weights) (pts : List ℤ) (n : ℕ) (ms : List Macro) (el top : Li
       unfolding offer
       offer-is = rw (o, ← d, ← e, h) refl
 
-      pub offer-short : getD el l 0 ≤ c .gain → c ≡ Offered
+      pub offer-short : getD el l 0 ≤ c .gain + getD fars u 0 → c ≡ Offered
       offer-short i = weigh-short w pts n ms vs fars ups a b k u l (getD el l 0) c i ∙ offer-is
+
+-- a vertex so far from the box of an edge, with its way, that no edge is long enough
+module _ (w : Weights) (pts : List ℤ) (n : ℕ) (ms : List Macro) (el top : List ℕ) (vs : List ℤ) (fars ups seat : List ℕ)
+    (a b k u : ℕ) (c : Best) (x : ℕ) (low : Low x el) (p q r : Place) (f : p ≡ placeAt pts a) (g : q ≡ placeAt pts b)
+    (h : r ≡ placeAt vs u) where
+  pub offer-far : (m : Macro) (t : Bool) → m ≡ boxOf p q → t ≡ mayGain w m r (getD fars u 0) (c .gain) x → t ≡ false →
+      c ≡ offer w pts n ms el top vs fars ups seat a b k u c
+  unfolding mayGain
+  offer-far m t i j z =
+      let v = getD seat u 0 in
+      let l = cutOf el top a b v in
+      let s = middlePlace p q r in
+      let d : boxCost w m r ≡ cost w s r = ap (λ (o : Macro). boxCost w o r) i ∙ box-cost w p q r in
+      let y : x ≤ c .gain + (boxCost w m r + getD fars u 0) = ltb-false _ _ (sym j ∙ z) in
+      by (eqb (getD fars u 0) 0)
+      (λ e. offer-on w pts n ms el top vs fars ups seat a b k u c e)
+      (λ o. by (eqb v a || (eqb v b || eqb l k))
+      (λ e. offer-none w pts n ms el top vs fars ups seat a b k u c o v l refl refl e)
+      (λ e.
+      weigh-low w pts n ms vs fars ups a b k u l (getD el l 0) c p q r s (cost w s r) (getD fars u 0)
+      (record { one = f; two = g; three = h; mid = refl; metal = refl; far = refl }) (omega (arith, low .low l, y, d))
+      ∙ offer-is w pts n ms el top vs fars ups seat a b k u c o v l refl refl e))
 
 -- On the tree or beside it
 

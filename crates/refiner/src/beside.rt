@@ -2,15 +2,15 @@
 //
 // Roots and parents with the tree's own vertices as sources: the root of a vertex beside the tree is the tree point v that it is joined to,
 // and its way to the root is the way that is laid.
-use candidates::Best;
 use crate::Choice;
-use candidates::NONE;
-use candidates::PAIRS;
 use crate::VERTEX_NUMBERS;
 use crate::VERTICES;
+use candidates::Best;
+use candidates::NONE;
+use candidates::PAIRS;
 use candidates::candidate;
-use exchanges::exchange;
 use candidates::longest;
+use exchanges::exchange;
 use plane::Place;
 use plane::Weights;
 use tree::NUMBERS;
@@ -25,6 +25,7 @@ ghost use Rattle.forest.specs.Labels.{Low};
 ghost use Rattle.forest.specs.Parents.{wayAfter, Nearing};
 ghost use Rattle.lists.specs.Turns.{turns};
 ghost use Rattle.tree.specs.Table.{treeBound, pairBound, Small};
+ghost use Rattle.tree.specs.Table as table;
 ghost use Rattle.refiner.specs.Beside.{isPoint, sourcesFrom, takeSeat, onWay, free, weighed, offer, offers, search, chosenOf};
 
 pub fn vertex_at(vertices: &[i32; VERTEX_NUMBERS], v: usize) -> Place
@@ -223,6 +224,9 @@ fn offer(
     if long <= c.gain {
         return c;
     }
+    if long - c.gain <= far[u] {
+        return c;
+    }
     weigh(w, pts, n, macros, vertices, far, up, a, b, k, u, l, long, c)
 }
 
@@ -233,6 +237,7 @@ fn offers(
     macros: &[i32],
     keys: &[usize; POINTS],
     el: &[u64; POINTS],
+    most: u64,
     top: &[u16; PAIRS],
     vertices: &[i32; VERTEX_NUMBERS],
     v: usize,
@@ -245,32 +250,40 @@ fn offers(
     requires { ⌜ (k < treeBound) × ((n ≤ treeBound) × (v ≤ pointBound)) ⌝ }
     requires { ⌜ (Small pairBound (now keys)) × ((Small treeBound (now top)) × (Small treeBound (now seat))) ⌝ }
     requires { ⌜ (Low (now far)) × (Nearing (now far) (now up)) ⌝ }
+    requires { ⌜ table.Low most (now el) ⌝ }
     ensures { λ r. ⌜ r ≡ offers w (now (pts .entry)) n (macrosOf (now (macros .entry))) (now (keys .entry)) (now (el .entry))
         (now (top .entry)) (now (vertices .entry)) v (now (far .entry)) (now (up .entry)) (now (seat .entry)) k c ⌝ }
 {
     let a = keys[k] / POINTS;
     let b = keys[k] % POINTS;
+    let m = plane::box_of(tree::point_at(pts, a), tree::point_at(pts, b));
     let mut found = c;
     let mut u = 0;
     while u < v {
-        found = offer(
-            w,
-            pts,
-            n,
-            macros,
-            el,
-            top,
-            vertices,
-            far,
-            up,
-            seat,
-            a,
-            b,
-            k,
-            u,
-            found,
-        );
+        let at = u;
         u += 1;
+        let f = far[at];
+        if 0 < f {
+            if candidate::may_gain(w, m, vertex_at(vertices, at), f, found.gain, most) {
+                found = offer(
+                    w,
+                    pts,
+                    n,
+                    macros,
+                    el,
+                    top,
+                    vertices,
+                    far,
+                    up,
+                    seat,
+                    a,
+                    b,
+                    k,
+                    at,
+                    found,
+                );
+            }
+        }
     }
     found
 }
@@ -284,6 +297,7 @@ pub fn search(
     keys: &[usize; POINTS],
     e: usize,
     el: &[u64; POINTS],
+    most: u64,
     top: &[u16; PAIRS],
     vertices: &[i32; VERTEX_NUMBERS],
     v: usize,
@@ -295,6 +309,7 @@ pub fn search(
     requires { ⌜ (e ≤ treeBound) × ((n ≤ treeBound) × (v ≤ pointBound)) ⌝ }
     requires { ⌜ (Small pairBound (now keys)) × ((Small treeBound (now top)) × (Small treeBound (now seat))) ⌝ }
     requires { ⌜ (Low (now far)) × (Nearing (now far) (now up)) ⌝ }
+    requires { ⌜ table.Low most (now el) ⌝ }
     ensures { λ r. ⌜ r ≡ search w (now (pts .entry)) n (macrosOf (now (macros .entry))) (now (keys .entry)) e (now (el .entry))
         (now (top .entry)) (now (vertices .entry)) v (now (far .entry)) (now (up .entry)) (now (seat .entry)) c ⌝ }
 {
@@ -308,6 +323,7 @@ pub fn search(
             macros,
             keys,
             el,
+            most,
             top,
             vertices,
             v,
@@ -343,12 +359,12 @@ pub fn found(
         (now (far .entry)) (now (up .entry)) (now (seat .entry)) ⌝ }
 {
     let mut el = [0u64; POINTS];
-    longest::costs(w, pts, keys, e, &mut el);
+    let most = longest::costs(w, pts, keys, e, &mut el);
     let mut seen = [0usize; POINTS];
     seen[0] = 1;
     let mut top = [NONE; PAIRS];
     longest::reached(keys, &el, e, n, &mut seen, &mut top);
-    let on = candidate::search(w, pts, n, macros, keys, e, &el, &top);
+    let on = candidate::search(w, pts, n, macros, keys, e, &el, most, &top);
     let off = search(
         w,
         pts,
@@ -357,6 +373,7 @@ pub fn found(
         keys,
         e,
         &el,
+        most,
         &top,
         vertices,
         v,

@@ -1,5 +1,4 @@
 // A round: roots and ways of the vertices beside the tree, the candidate that is taken, and its exchange.
-use candidates::Best;
 use crate::Choice;
 use crate::EDGES;
 use crate::Growth;
@@ -7,8 +6,9 @@ use crate::Turn;
 use crate::VERTEX_NUMBERS;
 use crate::VERTICES;
 use crate::beside;
-use exchanges::exchange;
 use crate::graft;
+use candidates::Best;
+use exchanges::exchange;
 use plane::Weights;
 use tree::NUMBERS;
 use tree::POINTS;

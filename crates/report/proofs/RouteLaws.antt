@@ -30,8 +30,7 @@ use Rattle.netfile.specs.Sizes.{pinListBound, macroListBound}
 use Rattle.netfile.specs.Read.{pinsIn, macrosIn, readFile}
 use Rattle.netfile.proofs.RoundTrip.{accepted-is-ours}
 use Rattle.router.specs.Graph.{pointCount}
-use Rattle.router.specs.Terminal.{pathsOf, pathsTotal, terminalGiven, terminalTree}
-use Rattle.router.specs.Refined.{laidAnswer, refinedGiven, refinedTree}
+use Rattle.router.specs.Both.{bothAnswer, bothGiven, bothTrees}
 use Rattle.router.proofs.AnswerLaws.{only-given, room-enough}
 use Rattle.report.specs.Text.{treeText, refusedText}
 use Rattle.report.specs.Route.{treesText, answerText, routeText}
@@ -40,16 +39,17 @@ use Rattle.report.specs.Route.{treesText, answerText, routeText}
 pub same-given : {A : Type 0} (a b : A) → given a ≡ given b → a ≡ b
 same-given a b e = cc
 
-pub same-parts : {A B : Type 0} (a c : A) (b d : B) → _≡_ {A = Told (A × B)} (given (a, b)) (given (c, d)) → (a ≡ c) × (b ≡ d)
-same-parts {A} {B} a c b d e =
-    let f = same-given {A = A × B} (a, b) (c, d) e in
-    (ap (λ (v : A × B). v .0) f, ap (λ (v : A × B). v .1) f)
-
-pub same-three : {A B C : Type 0} {a a′ : A} {b b′ : B} {c c′ : C}
-    → _≡_ {A = Told (A × (B × C))} (given (a, (b, c))) (given (a′, (b′, c′))) → (a ≡ a′) × ((b ≡ b′) × (c ≡ c′))
-same-three {A} {B} {C} {a} {a′} {b} {b′} {c} {c′} e =
-    let f = same-given {A = A × (B × C)} (a, (b, c)) (a′, (b′, c′)) e in
-    (ap (λ (v : A × (B × C)). v .0) f, (ap (λ (v : A × (B × C)). v .1 .0) f, ap (λ (v : A × (B × C)). v .1 .1) f))
+pub same-four : {A B C D : Type 0} {a a′ : A} {b b′ : B} {c c′ : C} {d d′ : D}
+    → _≡_ {A = Told (A × (B × (C × D)))} (given (a, (b, (c, d)))) (given (a′, (b′, (c′, d′))))
+    → (a ≡ a′) × ((b ≡ b′) × ((c ≡ c′) × (d ≡ d′)))
+same-four {A} {B} {C} {D} {a} {a′} {b} {b′} {c} {c′} {d} {d′} e =
+    let f = same-given {A = A × (B × (C × D))} (a, (b, (c, d))) (a′, (b′, (c′, d′))) e in (
+      ap (λ (v : A × (B × (C × D))). v .0) f,
+      (
+        ap (λ (v : A × (B × (C × D))). v .1 .0) f,
+        (ap (λ (v : A × (B × (C × D))). v .1 .1 .0) f, ap (λ (v : A × (B × (C × D))). v .1 .1 .1) f),
+      ),
+    )
 
 -- the counts of an allowed net
 pub record Counted (w : Weighing) (pins macros : List ℤ) : Type 0 where
@@ -74,16 +74,10 @@ module _ (w : Weighing) (pins macros : List ℤ) where
       }
 
   module _ (c : Counted w pins macros) where
-    pub terminal-given : terminalTree w pins macros (pinBound * 5) ≡ given (length (pathsOf w pins macros), pos (pathsTotal w pins macros))
-    unfolding terminalTree terminalGiven
-    terminal-given =
-        only-given (checked w pins macros) (terminalGiven w pins macros (pinBound * 5)) _ (c .allowed)
-        ∙ room-enough (pinCount pins * 5) (pinBound * 5) _ (omega (arith, c .few-pins))
-
-    pub refined-given : refinedTree w pins macros (treeBound * 4) ≡ given (laidAnswer w pins macros)
-    unfolding refinedTree refinedGiven
-    refined-given =
-        only-given (checked w pins macros) (refinedGiven w pins macros (treeBound * 4)) _ (c .allowed)
+    pub both-given : bothTrees w pins macros (treeBound * 4) ≡ given (bothAnswer w pins macros)
+    unfolding bothTrees bothGiven
+    both-given =
+        only-given (checked w pins macros) (bothGiven w pins macros (treeBound * 4)) _ (c .allowed)
         ∙ room-enough ((pointCount pins macros + pinCount pins) * 4) (treeBound * 4) _ (omega (arith, c .few-pins, c .few-macros))
 
 -- the edges given, read back from the table that they were given in

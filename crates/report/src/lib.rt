@@ -4,8 +4,7 @@ use net::Checked;
 use net::Net;
 use plane::Place;
 use plane::Weights;
-use router::TerminalAnswer;
-use router::TreeAnswer;
+use router::BothAnswer;
 ghost use mathlib.Core.Path.{_≡_};
 ghost use mathlib.Core.List.{[], _∷_, _++_};
 ghost use Prim.Native.Nat.{_+_, _*_, _≤_};
@@ -17,8 +16,7 @@ ghost use Rattle.plane.specs.Cost.{cost};
 ghost use Rattle.net.specs.Net.{handed};
 ghost use Rattle.net.specs.Check.{checked};
 ghost use Rattle.graph.specs.Numbers.{edgeFrom};
-ghost use Rattle.router.specs.Refined.{laidOf};
-ghost use Rattle.report.specs.Route.{headerOf, treesText, routeText};
+ghost use Rattle.report.specs.Route.{treesText, routeText};
 ghost use Rattle.report.specs.Text.{
   decimal,
   whole,
@@ -247,8 +245,6 @@ pub fn refused(n: i32, out: &mut [u8]) -> usize
 
 // A file's text
 
-const PATH_NUMBERS: usize = Net::PINS * 5;
-
 const EDGE_NUMBERS: usize = Net::TREE_POINTS * 4;
 
 // Bytes to read of a file: one more than the longest has, so that a longer one is refused as such. No text depends on what follows
@@ -258,23 +254,15 @@ pub const FILE: usize = netfile::LONGEST + 1;
 // Bytes for the longest text: a header, and a line for each edge.
 pub const TEXT: usize = 140 + Net::TREE_POINTS * 105;
 
-// The text of an allowed net whose terminal tree has the total `terminal`; how many bytes it has. With room for the largest tree no allowed
-// net is refused, here or for the terminal tree.
-fn refined_text(
-    net: Net,
-    pins: &[i32],
-    macros: &[i32],
-    terminal: i64,
-    out: &mut [u8; TEXT],
-) -> usize
+// The text of an allowed net; how many bytes it has. With room for the largest tree no allowed net is refused here.
+fn trees_text(net: Net, pins: &[i32], macros: &[i32], out: &mut [u8; TEXT]) -> usize
     requires { ⌜ checked (handed (net .weights)) (now pins) (now macros) ≡ given net ⌝ }
-    ensures { λ r. ⌜ Filled (treeText (net .weights) (headerOf net terminal (now (pins .entry)) (now (macros .entry)))
-        (laidOf (handed (net .weights)) (now (pins .entry)) (now (macros .entry)))) (now (out .entry)) (now (out .exit)) r ⌝ }
+    ensures { λ r. ⌜ Filled (treesText net (now (pins .entry)) (now (macros .entry))) (now (out .entry)) (now (out .exit)) r ⌝ }
 {
     let mut edges = [0i32; EDGE_NUMBERS];
-    let answer = router::refined_tree(net::handed(net.weights), pins, macros, &mut edges);
+    let answer = router::both_trees(net::handed(net.weights), pins, macros, &mut edges);
     match answer {
-        TreeAnswer::Given(count, refined, metal) => {
+        BothAnswer::Given(count, terminal, refined, metal) => {
             let header = Header {
                 pins: net.pins,
                 macros: net.macros,
@@ -284,20 +272,7 @@ fn refined_text(
             };
             tree(net.weights, header, &edges, count, out)
         }
-        TreeAnswer::Refused(refusal) => refused(refusal.number(), out),
-    }
-}
-
-// The text of an allowed net; how many bytes it has.
-fn trees_text(net: Net, pins: &[i32], macros: &[i32], out: &mut [u8; TEXT]) -> usize
-    requires { ⌜ checked (handed (net .weights)) (now pins) (now macros) ≡ given net ⌝ }
-    ensures { λ r. ⌜ Filled (treesText net (now (pins .entry)) (now (macros .entry))) (now (out .entry)) (now (out .exit)) r ⌝ }
-{
-    let mut paths = [0i64; PATH_NUMBERS];
-    let answer = router::terminal_tree(net::handed(net.weights), pins, macros, &mut paths);
-    match answer {
-        TerminalAnswer::Given(_, total) => refined_text(net, pins, macros, total, out),
-        TerminalAnswer::Refused(refusal) => refused(refusal.number(), out),
+        BothAnswer::Refused(refusal) => refused(refusal.number(), out),
     }
 }
 

@@ -1,17 +1,34 @@
 -- Calls by the cases of their answer: what one refused call, one that gives, and one that only hands on another's answer must show.
 -- Assumes nothing.
-use mathlib.Core.Path.{_≡_, sym, _∙_, subst}
+use mathlib.Core.Path.{_≡_, refl, sym, ap, _∙_, subst}
 use mathlib.Core.List.{List, [], map}
-use Prim.Native.Nat.{ℕ}
+use Prim.Native.Nat.{ℕ, _+_, _*_}
+use lib.Dec.{ltb}
 use lib.IntN.{ℤ, pos}
-use Rattle.lent.specs.Told.{Told, refused, given}
-use Rattle.lent.specs.Over.{over}
+use lib.ListN.{length}
+use Rattle.lists.proofs.TestLaws.{by}
+use Rattle.lent.specs.Told.{Told, refused, given, onlyIf}
+use Rattle.lent.specs.Over.{over, after}
+use Rattle.lent.specs.Entries.{flat}
 use Rattle.lent.proofs.AfterLaws.{after-refused, after-given, told-apart}
+use Rattle.net.specs.declared.Refusal.{Refusal}
+use Rattle.net.specs.declared.Weighing.{Weighing}
+use Rattle.net.specs.Answer.{number}
+use Rattle.net.specs.Pins.{pinCount}
+use Rattle.net.specs.Check.{checked}
 use Rattle.net.specs.Net.{Net}
+use Rattle.graph.specs.Numbers.{edgeNumbers}
 use Rattle.grid.specs.Distance.{SquareOver}
 use Rattle.router.specs.declared.DistanceAnswer.{DistanceAnswer}
 use Rattle.router.specs.Distances.{toldDistances}
-use Rattle.router.specs.Call.{Gives, GivesTwo, GivesSquare}
+use Rattle.router.specs.declared.TreeAnswer.{TreeAnswer}
+use Rattle.router.specs.declared.BothAnswer.{BothAnswer}
+use Rattle.router.specs.declared.BothAnswer.the-variants.{Given, Refused}
+use Rattle.router.specs.Room.{ifRoom}
+use Rattle.router.specs.Graph.{pointCount}
+use Rattle.router.specs.Refined.{laidOf, refinedGiven, refinedTree, toldTree}
+use Rattle.router.specs.Both.{bothAnswer, bothGiven, bothTrees, toldBoth}
+use Rattle.router.specs.Call.{Gives, GivesTwo, GivesSquare, RefinedCall, BothCall}
 
 module _ {A R X : Type 0} {saying : R → Told A} {t : Told A} {xs lent : List X} {r : R} where
   -- refused, and nothing altered
@@ -58,3 +75,49 @@ module _ {net : Net} {t : Told ℕ} {lent : List ℤ} {r : DistanceAnswer} where
 
   pub square-as : {u : Told ℕ} {lent′ : List ℤ} → t ≡ u → GivesSquare net t lent r lent′ → GivesSquare net u lent r lent′
   square-as {lent′ = lent′} e g = subst (λ (z : Told ℕ). GivesSquare net z lent r lent′) e g
+
+-- Both trees answered, and of that the refined tree alone
+
+unfoldable pub alone : Told (ℕ × (ℤ × (ℤ × ℤ))) → Told (ℕ × (ℤ × ℤ))
+alone (refused n) = refused n
+alone (given a) = given (a .0, a .1 .1)
+
+alone-after : {X : Type 0} (t : Told (ℕ × (ℤ × (ℤ × ℤ)))) (xs lent : List X) → after t xs lent ≡ after (alone t) xs lent
+unfolding alone after
+alone-after (refused n) xs lent = refl
+alone-after (given a) xs lent = refl
+
+alone-only : {B : Type 0} (t : Told B) (u : Told (ℕ × (ℤ × (ℤ × ℤ)))) → alone (onlyIf t u) ≡ onlyIf t (alone u)
+unfolding alone onlyIf
+alone-only (refused n) u = refl
+alone-only (given a) u = refl
+
+alone-room : (need room : ℕ) (a : ℕ × (ℤ × (ℤ × ℤ))) → alone (ifRoom need room a) ≡ ifRoom need room (a .0, a .1 .1)
+unfolding alone ifRoom
+alone-room need room a = by (ltb room need) (λ e. rw e refl) (λ e. rw e refl)
+
+module _ (w : Weighing) (pins macros : List ℤ) (room : ℕ) where
+  both-refined : alone (bothTrees w pins macros room) ≡ refinedTree w pins macros room
+  unfolding bothTrees bothGiven refinedTree refinedGiven
+  both-refined =
+      alone-only (checked w pins macros) (bothGiven w pins macros room)
+      ∙ ap (onlyIf (checked w pins macros)) (alone-room ((pointCount pins macros + pinCount pins) * 4) room (bothAnswer w pins macros))
+
+-- an answer that leaves the terminal tree's total out
+pub refined-alone : (w : Weighing) (pins macros : List ℤ) {edges : List ℤ} {b : BothAnswer} {edges′ : List ℤ} → BothCall bothTrees w pins macros edges b edges′
+    → (r : TreeAnswer) → toldTree r ≡ alone (toldBoth b) → RefinedCall refinedTree w pins macros edges r edges′
+refined-alone w pins macros {edges} g r e = record {
+  answer = e ∙ ap alone (g .answer) ∙ both-refined w pins macros (length edges);
+  list =
+      g .list
+      ∙ alone-after (bothTrees w pins macros (length edges)) _ edges
+      ∙ ap (λ (t : Told (ℕ × (ℤ × ℤ))). after t (flat edgeNumbers (laidOf w pins macros)) edges) (both-refined w pins macros (length edges));
+}
+
+pub alone-given : {b : BothAnswer} (n : ℕ) (terminal total metal : ℤ) → b ≡ Given n terminal total metal → given (n, (total, metal)) ≡ alone (toldBoth b)
+unfolding alone toldBoth
+alone-given n terminal total metal e = rw e refl
+
+pub alone-refused : {b : BothAnswer} (f : Refusal) → b ≡ Refused f → refused (number f) ≡ alone (toldBoth b)
+unfolding alone toldBoth
+alone-refused f e = rw e refl

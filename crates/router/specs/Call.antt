@@ -21,11 +21,13 @@ use Rattle.grid.specs.Distance.{Square}
 use Rattle.router.specs.declared.Graphed.{Graphed}
 use Rattle.router.specs.declared.TerminalAnswer.{TerminalAnswer}
 use Rattle.router.specs.declared.TreeAnswer.{TreeAnswer}
+use Rattle.router.specs.declared.BothAnswer.{BothAnswer}
 use Rattle.router.specs.declared.Wired.{Wired}
 use Rattle.router.specs.declared.DistanceAnswer.{DistanceAnswer}
 use Rattle.router.specs.Graph.{netVertices, netEdges, toldGraph}
 use Rattle.router.specs.Terminal.{pathsOf, toldTerminal}
 use Rattle.router.specs.Refined.{laidOf, toldTree}
+use Rattle.router.specs.Both.{toldBoth}
 use Rattle.router.specs.Wires.{wiresOf, toldWires}
 use Rattle.router.specs.Distances.{toldDistances}
 
@@ -70,6 +72,11 @@ TerminalCall said w pins macros paths r paths′ =
 abbrev pub RefinedCall : Saying (ℕ × (ℤ × ℤ)) → (w : Weighing) (pins macros edges : List ℤ) → TreeAnswer → List ℤ → Type 0
 RefinedCall said w pins macros edges r edges′ =
     Gives toldTree (said w pins macros (length edges)) (flat edgeNumbers (laidOf w pins macros)) edges r edges′
+
+-- C63 to C66: both trees
+abbrev pub BothCall : Saying (ℕ × (ℤ × (ℤ × ℤ))) → (w : Weighing) (pins macros edges : List ℤ) → BothAnswer → List ℤ → Type 0
+BothCall said w pins macros edges r edges′ =
+    Gives toldBoth (said w pins macros (length edges)) (flat edgeNumbers (laidOf w pins macros)) edges r edges′
 
 -- C67, C68: wires
 abbrev pub WiresCall : Saying ℕ → (w : Weighing) (pins macros wires : List ℤ) → Wired → List ℤ → Type 0

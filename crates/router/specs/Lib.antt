@@ -13,6 +13,7 @@
 --                laidOf, laidTotal, metalOf           the edges, their total, and the metal to lay
 --                refinedTree w pins macros r          the answer of a refined tree into r lent numbers
 --                toldTree r                           what the code's answer says
+--   Both         bothTrees w pins macros r            the same answer with the terminal tree's total
 --   Wires        wiresOf, wired w pins macros r       the wires, and the answer of wires into r lent numbers
 --                toldWires r                          what the code's answer says
 --   Distances    gridDistances w pins macros r        the answer of distances on the grid into r lent numbers
@@ -30,6 +31,7 @@ pub mod Graph
 pub mod Room
 pub mod Terminal
 pub mod Refined
+pub mod Both
 pub mod Wires
 pub mod Distances
 pub mod Price

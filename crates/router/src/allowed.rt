@@ -1,14 +1,14 @@
 // What the operations do with an allowed net: each asks for what the check has shown, refuses by 21 where too little is lent, and gives.
+use crate::BothAnswer;
 use crate::DistanceAnswer;
 use crate::Graphed;
 use crate::TerminalAnswer;
-use crate::TreeAnswer;
+use crate::Trees;
 use crate::Wired;
 use grid::Grid;
 use net::Net;
 use net::Refusal;
 use price::Priced;
-use refiner::Refined;
 use terminal::EDGE_NUMBERS;
 use terminal::EDGES;
 use terminal::POINTS;
@@ -25,11 +25,12 @@ ghost use Rattle.union.specs.Union.{unionOf};
 ghost use Rattle.refined.specs.Ground.{groundOf};
 ghost use Rattle.router.specs.Counted.{Counted};
 ghost use Rattle.router.specs.Graph.{graphGiven};
-ghost use Rattle.router.specs.Terminal.{terminalGiven};
-ghost use Rattle.router.specs.Refined.{refinedGiven, metalOf};
+ghost use Rattle.router.specs.Terminal.{terminalGiven, pathsTotal};
+ghost use Rattle.router.specs.Refined.{metalOf};
+ghost use Rattle.router.specs.Both.{bothGiven, refinedPart};
 ghost use Rattle.router.specs.Wires.{wiresGiven};
 ghost use Rattle.router.specs.Distances.{distancesGiven};
-ghost use Rattle.router.specs.Call.{GraphCall, TerminalCall, RefinedCall, WiresCall, DistancesCall};
+ghost use Rattle.router.specs.Call.{GraphCall, TerminalCall, BothCall, WiresCall, DistancesCall};
 
 // The graph.
 pub fn graph(
@@ -94,21 +95,26 @@ pub fn terminal_tree(net: Net, pins: &[i32], macros: &[i32], paths: &mut [i64]) 
     TerminalAnswer::Given(tree.kept, tree.total as i64)
 }
 
-// The refined tree.
-pub fn refined_tree(net: Net, pins: &[i32], macros: &[i32], edges: &mut [i32]) -> TreeAnswer
+// Both trees: the edges of the refined one, and the totals of both.
+pub fn both_trees(net: Net, pins: &[i32], macros: &[i32], edges: &mut [i32]) -> BothAnswer
     requires { ⌜ Counted net (handed (net .weights)) (now pins) (now macros) ⌝ }
-    ensures { λ r. ⌜ RefinedCall refinedGiven (handed (net .weights)) (now (pins .entry)) (now (macros .entry)) (now (edges .entry)) r
+    ensures { λ r. ⌜ BothCall bothGiven (handed (net .weights)) (now (pins .entry)) (now (macros .entry)) (now (edges .entry)) r
         (now (edges .exit)) ⌝ }
 {
     if edges.len() < (net::point_count(net) + net.pins) * 4 {
-        return TreeAnswer::Refused(Refusal::Space);
+        return BothAnswer::Refused(Refusal::Space);
     }
     let mut points = [0i32; tree::NUMBERS];
     let mut keys = [0usize; tree::POINTS];
     let tree = refine(net, pins, macros, &mut points, &mut keys);
     let metal = refined::metal(&points, &keys, tree.edges);
     refined::give_edges(&points, &keys, tree.edges, &mut *edges);
-    TreeAnswer::Given(tree.edges, tree.total as i64, metal as i64)
+    BothAnswer::Given(
+        tree.edges,
+        tree.terminal as i64,
+        tree.total as i64,
+        metal as i64,
+    )
 }
 
 // The wires.
@@ -140,19 +146,21 @@ pub fn price(net: Net, pins: &[i32], macros: &[i32], bands: &[u64]) -> Priced
     price::price(metal, bands)
 }
 
-// The refined tree of an allowed net, in tables that are fresh.
+// The refined tree of an allowed net, in tables that are fresh, and the total of the terminal tree that it is refined from.
 fn refine(
     net: Net,
     pins: &[i32],
     macros: &[i32],
     points: &mut [i32; tree::NUMBERS],
     keys: &mut [usize; tree::POINTS],
-) -> Refined
+) -> Trees
     requires { ⌜ Counted net (handed (net .weights)) (now pins) (now macros) ⌝ }
     requires { ⌜ (now points ≡ replicate (treeBound * 2) (pos 0)) × (now keys ≡ replicate treeBound 0) ⌝ }
     ensures { λ r. ⌜ Answer (netOf (handed (net .weights)) (now (pins .entry)) (now (macros .entry)))
         (groundOf (netOf (handed (net .weights)) (now (pins .entry)) (now (macros .entry))))
-        (unionOf (netOf (handed (net .weights)) (now (pins .entry)) (now (macros .entry)))) (now (points .exit)) (now (keys .exit)) r ⌝ }
+        (unionOf (netOf (handed (net .weights)) (now (pins .entry)) (now (macros .entry)))) (now (points .exit)) (now (keys .exit))
+        (refinedPart r) ⌝ }
+    ensures { λ r. ⌜ r .terminal ≡ pathsTotal (handed (net .weights)) (now (pins .entry)) (now (macros .entry)) ⌝ }
 {
     let mut vertices = [0i32; VERTEX_NUMBERS];
     let mut edges = [0i32; EDGE_NUMBERS];
@@ -200,7 +208,7 @@ fn refine(
         &mut *points,
         &mut *keys,
     );
-    refiner::refine(
+    let refined = refiner::refine(
         net,
         pins,
         macros,
@@ -214,7 +222,13 @@ fn refine(
         &eb,
         &el,
         tree.edges,
-    )
+    );
+    Trees {
+        points: refined.points,
+        edges: refined.edges,
+        total: refined.total,
+        terminal: tree.total,
+    }
 }
 
 // The distances on the grid.

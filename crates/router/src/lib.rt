@@ -17,10 +17,11 @@ ghost use Rattle.price.specs.Price.{toldPrice};
 ghost use Rattle.router.specs.Graph.{graphed};
 ghost use Rattle.router.specs.Terminal.{terminalTree};
 ghost use Rattle.router.specs.Refined.{refinedTree};
+ghost use Rattle.router.specs.Both.{bothTrees};
 ghost use Rattle.router.specs.Wires.{wired};
 ghost use Rattle.router.specs.Distances.{gridDistances};
 ghost use Rattle.router.specs.Price.{netPrice};
-ghost use Rattle.router.specs.Call.{GraphCall, TerminalCall, RefinedCall, WiresCall, DistancesCall, WriteCall, ReadCall};
+ghost use Rattle.router.specs.Call.{GraphCall, TerminalCall, RefinedCall, BothCall, WiresCall, DistancesCall, WriteCall, ReadCall};
 
 // The answer of a graph: how many vertices and how many edges were given.
 pub enum Graphed {
@@ -38,6 +39,21 @@ pub enum TerminalAnswer {
 pub enum TreeAnswer {
     Given(usize, i64, i64),
     Refused(Refusal),
+}
+
+// The answer of both trees: how many edges of the refined tree were given, the terminal tree's total, the refined tree's, and the metal.
+pub enum BothAnswer {
+    Given(usize, i64, i64, i64),
+    Refused(Refusal),
+}
+
+// What is known of both trees besides the refined tree's tables: how many points and edges these hold, their total, and the terminal
+// tree's.
+pub struct Trees {
+    pub points: usize,
+    pub edges: usize,
+    pub total: u64,
+    pub terminal: u64,
 }
 
 // The answer of wires: how many were given.
@@ -95,10 +111,22 @@ pub fn terminal_tree(w: Weighing, pins: &[i32], macros: &[i32], paths: &mut [i64
 pub fn refined_tree(w: Weighing, pins: &[i32], macros: &[i32], edges: &mut [i32]) -> TreeAnswer
     ensures { λ r. ⌜ RefinedCall refinedTree w (now (pins .entry)) (now (macros .entry)) (now (edges .entry)) r (now (edges .exit)) ⌝ }
 {
+    let answer = both_trees(w, pins, macros, &mut *edges);
+    match answer {
+        BothAnswer::Given(count, _, total, metal) => TreeAnswer::Given(count, total, metal),
+        BothAnswer::Refused(refusal) => TreeAnswer::Refused(refusal),
+    }
+}
+
+// Both trees, from one graph: what the refined tree gives, and with it the terminal tree's total, or 11 to 18, then 21 as for the refined
+// tree.
+pub fn both_trees(w: Weighing, pins: &[i32], macros: &[i32], edges: &mut [i32]) -> BothAnswer
+    ensures { λ r. ⌜ BothCall bothTrees w (now (pins .entry)) (now (macros .entry)) (now (edges .entry)) r (now (edges .exit)) ⌝ }
+{
     let answer = net::check(w, pins, macros);
     match answer {
-        Checked::Allowed(net) => allowed::refined_tree(net, pins, macros, &mut *edges),
-        Checked::Refused(refusal) => TreeAnswer::Refused(refusal),
+        Checked::Allowed(net) => allowed::both_trees(net, pins, macros, &mut *edges),
+        Checked::Refused(refusal) => BothAnswer::Refused(refusal),
     }
 }
 

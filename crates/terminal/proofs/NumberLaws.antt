@@ -26,15 +26,8 @@ use Rattle.plane.specs.declared.Weights.{Weights}
 use Rattle.plane.specs.Cost.{cost}
 use Rattle.forest.specs.Bounds.{edgeBound}
 use Rattle.forest.specs.Edges.{one, two, len}
+pub use Rattle.graph.proofs.VertexNumbers.{ascending-at}
 use Rattle.terminal.specs.Number.{numberOf, vertexAt, edgeAt, table, numbered, pinNumbers}
-
--- an earlier entry of an ascending list comes before a later one
-pub ascending-at : {A : Type 0} (test : A → A → Bool) (l : List A) → Ascending test l → (i j : ℕ) (d : A) → i < j → j < length l
-    → test (getD l i d) (getD l j d) ≡ true
-ascending-at test [] h i j d e f = absurd (let z : ⊥ = omega arith in z)
-ascending-at test (a ∷ l) h i zero d e f = absurd (let z : ⊥ = omega arith in z)
-ascending-at test (a ∷ l) h zero (suc j) d e f = h .0 (getD l j d) (getD-in l j d (omega arith))
-ascending-at test (a ∷ l) h (suc i) (suc j) d e f = ascending-at test l (h .1) i j d (omega arith) (omega arith)
 
 -- Vertices
 

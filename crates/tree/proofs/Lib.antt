@@ -3,3 +3,4 @@ pub mod ListingLaws
 pub mod PointLaws
 pub mod EdgeLaws
 pub mod OutsideLaws
+pub mod LowLaws

@@ -1,5 +1,5 @@
-//! `bench OPERATION PROGRAM SIZE TIMES`: runs one operation of one program on a net of a size, for an instruction count from outside.
-//! The script `bench` beside the README runs it under callgrind for both programs and prints the ratio.
+//! `bench OPERATION PROGRAM KIND SIZE TIMES`: runs one operation of one program on a net of a kind and size, for an instruction count from
+//! outside. The script `bench` beside the README runs it under callgrind for both programs and prints the ratio.
 
 use std::process::ExitCode;
 
@@ -8,16 +8,64 @@ use reference::generate::{net, Kind};
 use reference::lists::Lists;
 use reference::operations;
 
-const HELP: &str = "bench graph|terminal|refined|distances|nothing proved|second SIZE TIMES: one operation of one program on a net of SIZE pins and SIZE macros.";
+const HELP: &str = "bench graph|terminal|refined|distances|nothing proved|second random|bars|combs|clusters SIZE TIMES: one operation of one program on a net of SIZE pins and SIZE macros.";
 
-/// The first SIZE pins and SIZE macros of a largest net, with weights 1 and 1: still allowed, since taking entries away breaks no rule.
-fn sized(size: usize) -> Lists {
-    let Lists { pins, macros, .. } = net(Kind::Largest, 1);
-    Lists {
-        pins: pins[..2 * size].to_vec(),
-        macros: macros[..4 * size].to_vec(),
+/// SIZE pins and SIZE macros with weights 1 and 1, of a kind: random ones are the first of a largest net, still allowed, since taking
+/// entries away breaks no rule.
+fn sized(kind: &str, size: usize) -> Option<Lists> {
+    let (pins, macros) = match kind {
+        "random" => {
+            let Lists { pins, macros, .. } = net(Kind::Largest, 1);
+            (pins[..2 * size].to_vec(), macros[..4 * size].to_vec())
+        }
+        "bars" => bars(size as i32),
+        "combs" => combs(size as i32),
+        "clusters" => clusters(size),
+        _ => return None,
+    };
+    Some(Lists {
+        pins,
+        macros,
         ..Lists::default()
-    }
+    })
+}
+
+/// Long level bars one above the other, their ends staggered, with a pin in each channel.
+fn bars(size: i32) -> (Vec<i32>, Vec<i32>) {
+    let stagger = |i: i32| i * 37 % 101;
+    let macros = |i: i32| [stagger(i), 10 * i, 1_000 + stagger(i + 7), 10 * i + 6];
+    let pins = |i: i32| [i * 389 % 1_000, 10 * i + 8];
+    (
+        (0..size).flat_map(pins).collect(),
+        (0..size).flat_map(macros).collect(),
+    )
+}
+
+/// Tall teeth side by side, with a pin high or low in each gap.
+fn combs(size: i32) -> (Vec<i32>, Vec<i32>) {
+    let macros = |i: i32| [10 * i, 0, 10 * i + 6, 1_000 + i * 53 % 89];
+    let pins = |i: i32| [10 * i + 8, i * 389 % 1_000];
+    (
+        (0..size).flat_map(pins).collect(),
+        (0..size).flat_map(macros).collect(),
+    )
+}
+
+/// Two halves of a net of small cells, far apart.
+fn clusters(size: usize) -> (Vec<i32>, Vec<i32>) {
+    let Lists { pins, macros, .. } = sized("random", size).expect("random is a kind");
+    let apart = |list: Vec<i32>, width: usize| {
+        let near = list.len() / 2 / width * width;
+        let moved = |(i, z): (usize, i32)| {
+            if i < near && i % 2 == 0 {
+                z - 150_000
+            } else {
+                z
+            }
+        };
+        list.into_iter().enumerate().map(moved).collect()
+    };
+    (apart(pins, 2), apart(macros, 4))
 }
 
 /// Runs an operation of a program once: how many entries it gave, or none where there is no such operation or program.
@@ -71,7 +119,7 @@ fn run(operation: &str, program: &str, lists: &Lists) -> Option<u64> {
 
 fn main() -> ExitCode {
     let words: Vec<String> = std::env::args().skip(1).collect();
-    let [operation, program, size, times] = words.as_slice() else {
+    let [operation, program, kind, size, times] = words.as_slice() else {
         eprintln!("{HELP}");
         return ExitCode::from(2);
     };
@@ -83,7 +131,10 @@ fn main() -> ExitCode {
         eprintln!("a net has 1 to 64 pins and macros here");
         return ExitCode::from(2);
     }
-    let lists = sized(size);
+    let Some(lists) = sized(kind, size) else {
+        eprintln!("{HELP}");
+        return ExitCode::from(2);
+    };
     let mut sum = 0;
     for _ in 0..times {
         match run(operation, program, &lists) {

@@ -1,5 +1,5 @@
--- `forest::adopt` meets its contract. The loop's invariant: filling in the parents that are left gives what filling in all gives.
--- The measure is how many they are.
+-- `forest::adopt` meets its contract. The loop's invariant: over the edges that are left, from the step that the tables hold, each
+-- vertex's scan finds its parent. The measure is how many they are.
 -- Assumes nothing.
 use Prim.Native.Nat.{_≤_, _-_}
 use native.Mathlib.Omega.{arith}
@@ -11,44 +11,65 @@ use Rattle.forest.proofs.adopt.Statement.{statement}
 use Rattle.forest.proofs.adopt.Tie as tie
 
 abbrev Inv-loop : tie.InvT-loop
-Inv-loop ea eb el e far root n up₀ via₀ v₀ up via v = (v ≤ n) × Adopting (graph ea eb el e) n (labels far root) (parents up₀ via₀) v (parents up via)
+Inv-loop ea eb el e far root n up₀ via₀ k₀ up via k = (k ≤ e) × Adopting (graph ea eb el e) n (labels far root) k (parents up via)
 
 abbrev μ-loop : tie.MeasureT-loop
-μ-loop ea eb el e far root n up₀ via₀ v₀ up via v = n - v
+μ-loop ea eb el e far root n up₀ via₀ k₀ up via k = e - k
 
 loop-holds : tie.Need-loop-holds Inv-loop μ-loop
-loop-holds c = (omega arith, adopt-none _ _ _ _)
+loop-holds c = (omega arith, adopt-none _ _ _ (c .pre .0 .1 .1) _ (c .pre .1))
 
-parent-of-requires : tie.Need-parent-of-requires Inv-loop μ-loop
-parent-of-requires c κs =
-    let s = c .before .before in
-    (s .pre .0, (s .pre .1 .0, omega arith))
+mul-a : tie.Need-mul-a Inv-loop μ-loop
+mul-a c = omega arith
 
-mul-up : tie.Need-mul-up Inv-loop μ-loop
-mul-up c = omega arith
+element-copy-out-a : tie.Need-element-copy-out-a Inv-loop μ-loop
+element-copy-out-a c = omega arith
 
-element-write-up : tie.Need-element-write-up Inv-loop μ-loop
-element-write-up c = omega arith
+mul-b : tie.Need-mul-b Inv-loop μ-loop
+mul-b c = omega arith
 
-mul-via : tie.Need-mul-via Inv-loop μ-loop
-mul-via c = omega arith
+element-copy-out-b : tie.Need-element-copy-out-b Inv-loop μ-loop
+element-copy-out-b c = omega arith
 
-element-write-via : tie.Need-element-write-via Inv-loop μ-loop
-element-write-via c = omega arith
+mul-d : tie.Need-mul-d Inv-loop μ-loop
+mul-d c = omega arith
 
-add-v : tie.Need-add-v Inv-loop μ-loop
-add-v c = omega arith
+element-copy-out-d : tie.Need-element-copy-out-d Inv-loop μ-loop
+element-copy-out-d c = omega arith
+
+adopt-by-requires : tie.Need-adopt-by-requires Inv-loop μ-loop
+adopt-by-requires c κs =
+    let s = c .before .before .before .before .before .before .before in
+    let f = s .pre .0 .0 in
+    let h = c .before .before .before .before .before .loop-test .taken in
+    ((f .two-in _ h, f .one-in _ h), (s .pre .0 .1 .0, f .short _ h))
+
+adopt-by-requires-2 : tie.Need-adopt-by-requires-2 Inv-loop μ-loop
+adopt-by-requires-2 c κs =
+    let s = c .before .before .before .before .before .before .before .before .before .before in
+    let f = s .pre .0 .0 in
+    let h = c .before .before .before .before .before .before .before .before .loop-test .taken in
+    let one = f .one-in _ h in
+    let two = f .two-in _ h in
+    ((omega (arith, one, two), omega (arith, one, two)), (s .pre .0 .1 .0, f .short _ h))
+
+add-k : tie.Need-add-k Inv-loop μ-loop
+add-k c = omega arith
 
 loop-less : tie.Need-loop-less Inv-loop μ-loop
 loop-less c = omega arith
 
 loop-again : tie.Need-loop-again Inv-loop μ-loop
 loop-again c =
-    let l = c .before .before in
-    (omega arith, adopt-more _ _ _ _ _ _ (l .loop .inv .1) _ (c .parent-of .ensures) (c .before .loop-test .taken))
+    let t = c .before .before .before .before .before .before .before .before .before in
+    let s = t .before .before in (
+      omega (arith, t .loop-test .taken),
+      adopt-more _ _ _ (s .pre .0 .1 .1) _ _ (t .before .loop .inv .1) _ _ (t .loop-test .taken)
+          (c .before .before .before .adopt-by .ensures) (c .adopt-by2 .ensures),
+    )
 
 returns : tie.Need-returns Inv-loop μ-loop
-returns c = adopt-end _ _ _ _ _ _ (c .before .loop .inv .1) (c .loop-test .left)
+returns c = adopt-end _ _ _ (c .before .before .pre .0 .1 .1) _ _ (c .before .loop .inv .1) (c .loop-test .left)
 
 pub adopt-spec : {M : Type 1} → statement M
 adopt-spec =
@@ -57,12 +78,15 @@ adopt-spec =
     Inv-loop
     μ-loop
     loop-holds
-    parent-of-requires
-    mul-up
-    element-write-up
-    mul-via
-    element-write-via
-    add-v
+    mul-a
+    element-copy-out-a
+    mul-b
+    element-copy-out-b
+    mul-d
+    element-copy-out-d
+    adopt-by-requires
+    adopt-by-requires-2
+    add-k
     loop-less
     loop-again
     returns)

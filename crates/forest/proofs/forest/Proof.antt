@@ -23,12 +23,12 @@ settle-requires c κs = (c .before .before .before .before .before .pre .0 .0, f
 adopt-requires : tie.Need-adopt-requires
 adopt-requires c κs =
     let s = c .before .before .before .before .before .before .before .before .before .before in
-    (s .pre .0 .0, (fine-settle (c .before .before .before .before) .low, s .pre .0 .1 .0))
+    ((s .pre .0 .0, (fine-settle (c .before .before .before .before) .low, s .pre .0 .1 .0)), s .pre .1 .1)
 
 returns : tie.Need-returns
 returns c =
     let s = c .before .before .before .before .before .before .before .before .before .before .before in
-    staged _ _ _ _ _ _ _ _ (s .pre .1 .0) (s .pre .1 .1)
+    staged _ _ _ _ _ _ _ (s .pre .1 .0)
     (c .before .before .before .before .before .before .before .before .start .ensures)
     (c .before .before .before .before .before .settle .ensures) (c .adopt .ensures)
 

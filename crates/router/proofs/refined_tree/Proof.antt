@@ -1,50 +1,40 @@
--- `router::refined_tree` meets its contract: the refusals of the check first, then what the refined tree of an allowed net says.
+-- `router::refined_tree` meets its contract: what both trees answer, without the terminal tree's total.
 -- Assumes nothing.
-use mathlib.Core.Path.{_≡_, refl, sym, ap, _∙_, subst}
-use lib.ListN.{length}
+use borrow.Author.Needs.{needs}
+use mathlib.Core.Path.{_≡_, refl, ap₂, _∙_}
+use lib.IntN.{ℤ}
+use mir.Syntax.{w64}
+use mir.Val.{SFits}
+use mir.ValLaws.{toZ-ofZ}
 use denote.Ref.{now}
 use Rattle.lent.specs.Told.{given}
-use Rattle.net.specs.declared.Weighing.{Weighing}
-use Rattle.net.specs.Check.{checked, told}
-use Rattle.net.proofs.HandedLaws.{handed-back}
-use Rattle.router.specs.Refined.{refinedGiven, refinedTree, toldTree}
-use Rattle.router.specs.Call.{RefinedCall}
-use Rattle.router.proofs.AnswerLaws.{only-refused, only-given}
-use Rattle.router.proofs.CountedLaws.{counted-of}
-use Rattle.router.proofs.CallLaws.{gives-refused, gives-as}
-use borrow.Author.Needs.{needs}
+use Rattle.router.specs.Refined.{toldTree}
+use Rattle.router.proofs.CallLaws.{alone, refined-alone, alone-given, alone-refused}
 use Rattle.router.proofs.refined_tree.Statement.{statement}
 use Rattle.router.proofs.refined_tree.Tie as tie
 
--- the answer of the check, where the net is allowed
-allowed : (c : tie.After-answer)
-    → checked (c .before .before .before .args .w) (now (c .before .before .before .args .pins)) (now (c .before .before .before .args .macros))
-    ≡ given (c .answer .given .0 .0)
-unfolding told
-allowed c = sym (c .before .before .check .ensures) ∙ ap told (c .answer .given .1)
+total-fits : (c : tie.After-known-told) → SFits w64 (c .before .answer .given .0 .1 .1 .0)
+total-fits c = search needs
 
-refined-tree-requires : tie.Need-refined-tree-requires
-refined-tree-requires c κs = counted-of _ _ _ (allowed (c .before .before))
+metal-fits : (c : tie.After-known-told) → SFits w64 (c .before .answer .given .0 .1 .1 .1 .0)
+metal-fits c = search needs
 
 returns : tie.Need-returns
-unfolding refinedTree
+unfolding toldTree
 returns c =
-    let r = c .before in
-    let d = r .before .before .before in
-    let a = d .before .before .before .args in
-    let next = refinedGiven (a .w) (now (a .pins)) (now (a .macros)) (length (now (a .edges))) in
-    gives-as (sym (only-given (checked (a .w) (now (a .pins)) (now (a .macros))) next _ (allowed d)))
-    (subst (λ (z : Weighing). RefinedCall refinedGiven z (now (a .pins)) (now (a .macros)) (now (a .edges)) (r .refined-tree .result) (r .refined-tree .last .1 .1 .1 .0))
-    (handed-back _ _ _ (allowed d)) (r .refined-tree .ensures))
+    let v = c .before .answer .given in
+    let a = c .before .before .before .before .before .before .args in
+    refined-alone (a .w) (now (a .pins)) (now (a .macros)) (c .before .before .before .before .both-trees .ensures) _
+    (ap₂ (λ (t m : ℤ). given (v .0 .0, (t, m))) (toZ-ofZ w64 _ (total-fits c)) (toZ-ofZ w64 _ (metal-fits c))
+    ∙ alone-given (v .0 .0) (v .0 .1 .0) (v .0 .1 .1 .0) (v .0 .1 .1 .1 .0) (v .1))
 
 returns-2 : tie.Need-returns-2
-unfolding refinedTree toldTree told
+unfolding toldTree
 returns-2 c =
-    let s = c .before .before .before in
-    let a = s .before .args in
-    let next = refinedGiven (a .w) (now (a .pins)) (now (a .macros)) (length (now (a .edges))) in
-    let check = sym (s .check .ensures) ∙ ap told (c .before .answer2 .given .1) in
-    gives-refused refl (only-refused (checked (a .w) (now (a .pins)) (now (a .macros))) next _ check)
+    let v = c .before .answer2 .given in
+    let a = c .before .before .before .before .before .before .args in
+    refined-alone (a .w) (now (a .pins)) (now (a .macros)) (c .before .before .before .before .both-trees .ensures) _
+    (alone-refused (v .0 .0) (v .1))
 
 pub refined-tree-spec : {M : Type 1} → statement M
 refined-tree-spec =
@@ -52,8 +42,8 @@ refined-tree-spec =
     (tie.spec
     (λ c κs. search needs)
     (λ c. search needs)
-    refined-tree-requires
     (λ c. search needs)
     (λ c. search needs)
     returns
+    (λ c. search needs)
     returns-2)

@@ -1,6 +1,6 @@
 -- `terminal::chart` meets its contract: an allowed net's vertices and edges fit the tables, and the edges are those of just these vertices.
 -- Assumes nothing.
-use mathlib.Core.Path.{_≡_, sym, ap, _∙_}
+use mathlib.Core.Path.{_≡_, sym, ap, _∙_, subst}
 use mathlib.Core.List.{List}
 use Prim.Native.Nat.{_*_, _≤_}
 use native.Mathlib.Omega.{arith}
@@ -8,9 +8,11 @@ use lib.ListN.{length, take}
 use lib.Seq.{length-take-le}
 use denote.Ref.{now}
 use Rattle.net.specs.Bounds.{pointBound}
+use Rattle.lists.specs.Sorted.{Ascending}
 use Rattle.lent.specs.Over.{over}
 use Rattle.lent.specs.Entries.{flat}
 use Rattle.plane.specs.declared.Place.{Place}
+use Rattle.plane.specs.Place.{before}
 use Rattle.plane.specs.Flat.{placesOf, macrosOf}
 use Rattle.plane.proofs.FlatLaws.{length-macros}
 use Rattle.net.specs.Net.{netWith}
@@ -18,6 +20,7 @@ use Rattle.net.proofs.PinLaws.{length-pins}
 use Rattle.graph.specs.Spanning.{spanning}
 use Rattle.graph.specs.Edges.{edges}
 use Rattle.graph.specs.Numbers.{edgeNumbers}
+use Rattle.graph.proofs.VertexLaws.{vertices-ascending}
 use Rattle.graph.proofs.GraphBounds.{few-vertices}
 use Rattle.graph.proofs.ReadBack.{vertices-back}
 use borrow.Author.Needs.{needs}
@@ -55,8 +58,13 @@ slice-aggregate-edges c = sym (length-take-le _ _ (fits (c .before .before)))
 edges-requires : tie.Need-edges-requires
 edges-requires c κs =
     let d = c .before .before .before in
+    let a = d .before .before .args in
+    let v = d .vertices .ensures in
     let n = length-take-le (d .vertices .result * 2) (d .vertices .last .1 .1 .0) (fits d) in
-    omega (arith, n, few d, d .before .before .pre .1)
+    let back = vertices-back _ (now (a .points)) (d .vertices .last .1 .1 .0) (d .vertices .result) (v .1) (v .0) in (
+      (subst (Ascending before) (sym back) (vertices-ascending (netWith (a .w) (now (a .pins)) (now (a .macros)))), omega (arith, n, few d)),
+      omega (arith, n, few d, d .before .before .pre .1),
+    )
 
 returns : tie.Need-returns
 returns c =

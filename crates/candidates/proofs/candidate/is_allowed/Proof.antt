@@ -1,4 +1,4 @@
--- `refiner::candidate::is_allowed` meets its contract, arm by arm.
+-- `candidates::candidate::is_allowed` meets its contract, arm by arm.
 -- Assumes nothing.
 use mathlib.Core.Path.{_≡_, sym, _∙_}
 use Rattle.candidates.proofs.CandidateLaws.{allowed-yes, allowed-no}

@@ -1,4 +1,4 @@
--- `refiner::candidate::is_dropped` meets its contract: the search ends before the last point.
+-- `candidates::candidate::is_dropped` meets its contract: the search ends before the last point.
 -- Assumes nothing.
 use Rattle.candidates.proofs.CandidateLaws.{dropped-is}
 use borrow.Author.Needs.{needs}

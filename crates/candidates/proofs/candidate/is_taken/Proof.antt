@@ -1,4 +1,4 @@
--- `refiner::candidate::is_taken` meets its contract, arm by arm.
+-- `candidates::candidate::is_taken` meets its contract, arm by arm.
 -- Assumes nothing.
 use Rattle.candidates.proofs.CandidateLaws.{taken-self, taken-other}
 use borrow.Author.Needs.{needs}

@@ -1,7 +1,7 @@
--- `refiner::candidate::offer` meets its contract: an edge no longer than the best gain gives no greater one.
+-- `candidates::candidate::offer` meets its contract: where L leaves no greater gain the best so far stays.
 -- Assumes nothing.
 use mathlib.Core.Path.{_≡_, _∙_}
-use Rattle.candidates.proofs.CandidateLaws.{offer-none, offer-short, offer-is}
+use Rattle.candidates.proofs.CandidateLaws.{offer-none, offer-is, offer-near}
 use borrow.Author.Needs.{needs}
 use Rattle.candidates.proofs.candidate.offer.Statement.{statement}
 use Rattle.candidates.proofs.candidate.offer.Tie as tie
@@ -18,19 +18,25 @@ mul-long c = search needs
 element-copy-out-long : tie.Need-element-copy-out-long
 element-copy-out-long c = search needs
 
-returns-2 : tie.Need-returns-2
-returns-2 c =
-    offer-short _ _ _ _ _ _ _ _ _ _ _ _ (c .before .before .before .before .cut-of .ensures .0)
-    (c .before .before .before .if1 .left) (c .if2 .taken)
+point-at-requires : tie.Need-point-at-requires
+point-at-requires c κs = search needs
+
+may-gain-requires : tie.Need-may-gain-requires
+may-gain-requires c κs = search needs
 
 weigh-requires : tie.Need-weigh-requires
 weigh-requires c κs = search needs
 
+returns-2 : tie.Need-returns-2
+returns-2 c =
+    let i = c .before .before .before .before .before in
+    c .weigh .ensures ∙ offer-is _ _ _ _ _ _ _ _ _ _ _ _ (i .before .cut-of .ensures .0) (i .if1 .left)
+
 returns-3 : tie.Need-returns-3
 returns-3 c =
-    c .weigh .ensures
-    ∙ offer-is _ _ _ _ _ _ _ _ _ _ _ _ (c .before .before .before .before .before .cut-of .ensures .0)
-    (c .before .before .before .before .if1 .left)
+    let i = c .before .before .before .before in
+    offer-near _ _ _ _ _ _ _ _ _ _ _ _ (i .before .before .pre .1 .1) _ (c .before .before .point-at .ensures) _
+    (i .before .cut-of .ensures .0) (i .if1 .left) _ (c .before .may-gain .ensures) (c .if2 .left)
 
 pub offer-spec : {M : Type 1} → statement M
 offer-spec =
@@ -40,6 +46,8 @@ offer-spec =
     returns
     mul-long
     element-copy-out-long
-    returns-2
+    point-at-requires
+    may-gain-requires
     weigh-requires
+    returns-2
     returns-3)

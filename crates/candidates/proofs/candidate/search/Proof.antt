@@ -1,4 +1,4 @@
--- `refiner::candidate::search` meets its contract. The loop's invariant: the edges that are left decide. The measure is how many they are.
+-- `candidates::candidate::search` meets its contract. The loop's invariant: the edges that are left decide. The measure is how many they are.
 -- Assumes nothing.
 use mathlib.Core.Path.{_≡_}
 use Prim.Native.Nat.{_≤_, _-_}
@@ -11,12 +11,12 @@ use Rattle.candidates.proofs.candidate.search.Statement.{statement}
 use Rattle.candidates.proofs.candidate.search.Tie as tie
 
 abbrev Inv-loop : tie.InvT-loop
-Inv-loop w pts n macros keys e el top found₀ k₀ found k =
+Inv-loop w pts n macros keys e el most top found₀ k₀ found k =
     (k ≤ e) × (turns (offers w pts n (macrosOf macros) keys el top) k (e - k) found
     ≡ turns (offers w pts n (macrosOf macros) keys el top) 0 e (best 0 0 0 0))
 
 abbrev μ-loop : tie.MeasureT-loop
-μ-loop w pts n macros keys e el top found₀ k₀ found k = e - k
+μ-loop w pts n macros keys e el most top found₀ k₀ found k = e - k
 
 loop-holds : tie.Need-loop-holds Inv-loop μ-loop
 loop-holds c = (omega arith, turns-none _ _ _)

@@ -1,4 +1,4 @@
--- `refiner::candidate::sees` meets its contract, arm by arm.
+-- `candidates::candidate::sees` meets its contract, arm by arm.
 -- Assumes nothing.
 use mathlib.Core.Path.{_≡_, sym, _∙_}
 use Rattle.candidates.proofs.CandidateLaws.{sees-yes, sees-no}

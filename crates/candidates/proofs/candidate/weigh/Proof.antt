@@ -1,4 +1,4 @@
--- `refiner::candidate::weigh` meets its contract: each early answer is one in which the candidate does not beat the best so far, or is not allowed.
+-- `candidates::candidate::weigh` meets its contract: each early answer is one in which the candidate does not beat the best so far, or is not allowed.
 -- Assumes nothing.
 use denote.Ref.{now}
 use mathlib.Core.Path.{_≡_, refl, sym, _∙_}

@@ -1,4 +1,4 @@
--- `refiner::longest::cut_of` meets its contract: every entry of the table is the number of an edge.
+-- `candidates::longest::cut_of` meets its contract: every entry of the table is the number of an edge.
 -- Assumes nothing.
 use mathlib.Core.Path.{_≡_, refl, _∙_}
 use Rattle.candidates.specs.Longest.{cutOf}

@@ -1,13 +1,14 @@
--- `refiner::longest::reached` meets its contract. The loop's invariant: the passes that are left decide, and every entry is the number of an edge.
--- The measure is how many they are.
+-- `candidates::longest::reached` meets its contract. The loop's invariant: the passes that are left decide, and every entry is the number of
+-- an edge; after a pass that hangs nothing those that are left hang nothing. The measure is how many they are.
 -- Assumes nothing.
 use mathlib.Core.Path.{_≡_}
 use Prim.Native.Nat.{ℕ, _≤_, _<_, _-_}
 use native.Mathlib.Omega.{arith}
+use Rattle.lists.proofs.TestLaws.{not-true}
 use Rattle.candidates.specs.Longest.{Reach, pass, reach, reached}
 use Rattle.tree.specs.Table.{Small, treeBound}
 use Rattle.lists.specs.Turns.{turns}
-use Rattle.candidates.proofs.LongestLaws.{small-passed}
+use Rattle.candidates.proofs.LongestLaws.{small-passed, still-end}
 use Rattle.lists.proofs.TurnLaws.{turns-none, turns-next, turns-end}
 use Rattle.candidates.proofs.longest.reached.Statement.{statement}
 use Rattle.candidates.proofs.longest.reached.Tie as tie
@@ -28,6 +29,13 @@ pass-requires c κs =
     let l = c .before .before .before in
     ((omega arith, omega arith), (l .before .pre .1 .0, l .loop .inv .1 .0))
 
+returns : tie.Need-returns Inv-loop μ-loop
+unfolding reached
+returns c =
+    let l = c .before .before .before .before .before in
+    let call = c .before .pass .ensures in
+    still-end _ _ _ _ _ _ _ _ (l .loop .inv .1 .1) (call .0) (call .1 (not-true _ (c .if1 .taken)))
+
 add-i : tie.Need-add-i Inv-loop μ-loop
 add-i c = omega arith
 
@@ -36,21 +44,20 @@ loop-less c = omega arith
 
 loop-again : tie.Need-loop-again Inv-loop μ-loop
 loop-again c =
-    let l = c .before .before .before .before in
+    let l = c .before .before .before .before .before in
     let h : l .loop .i < l .before .args .e = omega arith in (
       omega arith,
       (
-        small-passed _ _ _ _ _ _ _ _ (c .pass .ensures) (l .before .pre .0 .0) (l .loop .inv .1 .0),
-        turns-next _ _ _ _ _ _
-            (l .loop .inv .1 .1) h (c .pass .ensures),
+        small-passed _ _ _ _ _ _ _ _ (c .before .pass .ensures .0) (l .before .pre .0 .0) (l .loop .inv .1 .0),
+        turns-next _ _ _ _ _ _ (l .loop .inv .1 .1) h (c .before .pass .ensures .0),
       ),
     )
 
-returns : tie.Need-returns Inv-loop μ-loop
+returns-2 : tie.Need-returns-2 Inv-loop μ-loop
 unfolding reached
-returns c = turns-end _ _ _ _ _ (c .before .loop .inv .1 .1) (omega arith)
+returns-2 c = turns-end _ _ _ _ _ (c .before .loop .inv .1 .1) (omega arith)
 
 pub reached-spec : {M : Type 1} → statement M
 reached-spec =
     tie.close
-    (tie.spec Inv-loop μ-loop loop-holds pass-requires add-i loop-less loop-again returns)
+    (tie.spec Inv-loop μ-loop loop-holds pass-requires returns add-i loop-less loop-again returns-2)

@@ -1,4 +1,4 @@
--- `refiner::longest::spread` meets its contract: what is written is the longer of the two edges, in 16 bits.
+-- `candidates::longest::spread` meets its contract: what is written is the longer of the two edges, in 16 bits.
 -- Assumes nothing.
 use Rattle.candidates.proofs.LongestLaws.{spread-is}
 use borrow.Author.Needs.{needs}

@@ -1,4 +1,4 @@
--- `refiner::longest::spreads` meets its contract. The loop's invariant: the points that are left decide, and every entry is the number of an edge.
+-- `candidates::longest::spreads` meets its contract. The loop's invariant: the points that are left decide, and every entry is the number of an edge.
 -- The measure is how many they are.
 -- Assumes nothing.
 use mathlib.Core.Path.{_≡_}

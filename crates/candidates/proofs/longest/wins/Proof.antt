@@ -1,4 +1,4 @@
--- `refiner::longest::wins` meets its contract, arm by arm.
+-- `candidates::longest::wins` meets its contract, arm by arm.
 -- Assumes nothing.
 use borrow.Author.Needs.{needs}
 use Rattle.candidates.proofs.LongestLaws.{wins-lt, wins-gt, wins-eq}

@@ -1,4 +1,4 @@
--- `refiner::prune::count_ends` meets its contract: one more for each end, the first end first.
+-- `exchanges::prune::count_ends` meets its contract: one more for each end, the first end first.
 -- Assumes nothing.
 use denote.Ref.{now}
 use lib.ListN.{getD}
@@ -7,7 +7,8 @@ use mathlib.Core.Path.{_≡_}
 use native.Mathlib.Omega.{arith}
 use borrow.Author.Needs.{needs}
 use Rattle.tree.specs.Table.{treeBound}
-use Rattle.exchanges.proofs.PruneLaws.{count-is, low-step}
+use Rattle.exchanges.proofs.PruneLaws.{count-is}
+use Rattle.tree.proofs.LowLaws.{low-step}
 use Rattle.exchanges.proofs.prune.count_ends.Statement.{statement}
 use Rattle.exchanges.proofs.prune.count_ends.Tie as tie
 

@@ -1,4 +1,4 @@
--- `refiner::prune::degrees` meets its contract. The loop's invariant: the edges that are left decide, and no count is above twice those passed.
+-- `exchanges::prune::degrees` meets its contract. The loop's invariant: the edges that are left decide, and no count is above twice those passed.
 -- The measure is how many they are.
 -- Assumes nothing.
 use mathlib.Core.Path.{_≡_}
@@ -7,7 +7,8 @@ use native.Mathlib.Omega.{arith}
 use Rattle.exchanges.specs.Prune.{countEnds}
 use Rattle.tree.specs.Table.{treeBound, Low}
 use Rattle.lists.specs.Turns.{turns}
-use Rattle.exchanges.proofs.PruneLaws.{low-more, low-count}
+use Rattle.exchanges.proofs.PruneLaws.{low-count}
+use Rattle.tree.proofs.LowLaws.{low-more}
 use Rattle.lists.proofs.TurnLaws.{turns-none, turns-next, turns-end}
 use Rattle.exchanges.proofs.prune.degrees.Statement.{statement}
 use Rattle.exchanges.proofs.prune.degrees.Tie as tie

@@ -1,9 +1,10 @@
--- `refiner::prune::first_loose` meets its contract: the ends are counted, then searched.
+-- `exchanges::prune::first_loose` meets its contract: the ends are counted, then searched.
 -- Assumes nothing.
 use mathlib.Core.Path.{_≡_}
 use borrow.Author.Needs.{needs}
 use Rattle.tree.specs.Table.{treeBound}
-use Rattle.exchanges.proofs.PruneLaws.{first-loose-is, low-zeros}
+use Rattle.exchanges.proofs.PruneLaws.{first-loose-is}
+use Rattle.tree.proofs.LowLaws.{low-zeros}
 use Rattle.exchanges.proofs.prune.first_loose.Statement.{statement}
 use Rattle.exchanges.proofs.prune.first_loose.Tie as tie
 

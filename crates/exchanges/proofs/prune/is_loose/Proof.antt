@@ -1,4 +1,4 @@
--- `refiner::prune::is_loose` meets its contract, by its definition.
+-- `exchanges::prune::is_loose` meets its contract, by its definition.
 -- Assumes nothing.
 use mathlib.Core.Path.{_≡_}
 use borrow.Author.Needs.{needs}

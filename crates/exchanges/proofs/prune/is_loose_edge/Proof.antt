@@ -1,4 +1,4 @@
--- `refiner::prune::is_loose_edge` meets its contract, by its definition.
+-- `exchanges::prune::is_loose_edge` meets its contract, by its definition.
 -- Assumes nothing.
 use mathlib.Core.Path.{_≡_}
 use native.Mathlib.Omega.{arith}

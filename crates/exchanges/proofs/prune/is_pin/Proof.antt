@@ -1,4 +1,4 @@
--- `refiner::prune::is_pin` meets its contract. The loop's invariant: the pins that are left decide. The measure is how many they are.
+-- `exchanges::prune::is_pin` meets its contract. The loop's invariant: the pins that are left decide. The measure is how many they are.
 -- Assumes nothing.
 use mathlib.Core.Path.{_≡_, refl, sym, ap, _∙_}
 use Prim.Native.Nat.{_-_}

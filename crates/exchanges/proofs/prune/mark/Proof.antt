@@ -1,4 +1,4 @@
--- `refiner::prune::mark` meets its contract, arm by arm.
+-- `exchanges::prune::mark` meets its contract, arm by arm.
 -- Assumes nothing.
 use mathlib.Core.Path.{_≡_, sym, _∙_}
 use Rattle.exchanges.proofs.PruneLaws.{mark-pin, mark-none}

@@ -1,4 +1,4 @@
--- `refiner::prune::prune` meets its contract. The loop's invariant: what pruning leaves of the edges is the same. The measure is how many edges are left.
+-- `exchanges::prune::prune` meets its contract. The loop's invariant: what pruning leaves of the edges is the same. The measure is how many edges are left.
 -- Assumes nothing.
 use mathlib.Core.Path.{_≡_, refl}
 use Prim.Native.Nat.{_≤_}

@@ -1,4 +1,4 @@
--- `refiner::prune::prune_points` meets its contract: marks of pins, then pruning.
+-- `exchanges::prune::prune_points` meets its contract: marks of pins, then pruning.
 -- Assumes nothing.
 use Rattle.exchanges.proofs.PruneLaws.{pruned-is}
 use borrow.Author.Needs.{needs}

@@ -1,4 +1,4 @@
--- `refiner::prune::seek_loose` meets its contract. The loop's invariant: the edges that are left decide. The measure is how many they are.
+-- `exchanges::prune::seek_loose` meets its contract. The loop's invariant: the edges that are left decide. The measure is how many they are.
 -- Assumes nothing.
 use mathlib.Core.Path.{_≡_, sym, _∙_}
 use Prim.Native.Nat.{_≤_, _-_}

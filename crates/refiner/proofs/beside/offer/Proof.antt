@@ -1,6 +1,7 @@
--- `refiner::beside::offer` meets its contract: an edge no longer than the best gain gives no greater one.
+-- `refiner::beside::offer` meets its contract: an edge no longer than the best gain and the way gives no greater one.
 -- Assumes nothing.
 use mathlib.Core.Path.{refl, _∙_}
+use native.Mathlib.Omega.{arith}
 use borrow.Author.Tests.{eq-eqb, ne-eqb}
 use Rattle.refiner.proofs.BesideLaws.{offer-on, offer-none, offer-is, offer-short}
 use borrow.Author.Needs.{needs}
@@ -36,17 +37,34 @@ element-copy-out-long c = search needs
 
 returns-3 : tie.Need-returns-3
 returns-3 c =
-    offer-short _ _ _ _ _ _ _ _ _ _ _ _ _ _ _ (ne-eqb _ _ (c .before .before .before .before .before .before .if1 .left)) _ _ refl (c .before .before .before .before .cut-of .ensures .0)
-    (c .before .before .before .if2 .left) (c .if3 .taken)
+    let s = c .before .before .before .before in
+    offer-short _ _ _ _ _ _ _ _ _ _ _ _ _ _ _ (ne-eqb _ _ (s .before .before .if1 .left)) _ _ refl (s .cut-of .ensures .0)
+    (c .before .before .before .if2 .left) (omega (arith, c .if3 .taken))
+
+sub-if4 : tie.Need-sub-if4
+sub-if4 c = omega (arith, c .before .if3 .left)
+
+mul-if4 : tie.Need-mul-if4
+mul-if4 c = search needs
+
+element-copy-out-if4 : tie.Need-element-copy-out-if4
+element-copy-out-if4 c = search needs
+
+returns-4 : tie.Need-returns-4
+returns-4 c =
+    let s = c .before .before .before .before .before .before .before in
+    offer-short _ _ _ _ _ _ _ _ _ _ _ _ _ _ _ (ne-eqb _ _ (s .before .before .if1 .left)) _ _ refl (s .cut-of .ensures .0)
+    (c .before .before .before .before .before .before .if2 .left) (omega (arith, c .if4 .taken, c .before .before .before .if3 .left))
 
 weigh-requires : tie.Need-weigh-requires
 weigh-requires c κs = search needs
 
-returns-4 : tie.Need-returns-4
-returns-4 c =
+returns-5 : tie.Need-returns-5
+returns-5 c =
+    let s = c .before .before .before .before .before .before .before .before in
     c .weigh .ensures
-    ∙ offer-is _ _ _ _ _ _ _ _ _ _ _ _ _ _ _ (ne-eqb _ _ (c .before .before .before .before .before .before .before .if1 .left)) _ _ refl (c .before .before .before .before .before .cut-of .ensures .0)
-    (c .before .before .before .before .if2 .left)
+    ∙ offer-is _ _ _ _ _ _ _ _ _ _ _ _ _ _ _ (ne-eqb _ _ (s .before .before .if1 .left)) _ _ refl (s .cut-of .ensures .0)
+    (c .before .before .before .before .before .before .before .if2 .left)
 
 pub offer-spec : {M : Type 1} → statement M
 offer-spec =
@@ -62,5 +80,9 @@ offer-spec =
     mul-long
     element-copy-out-long
     returns-3
+    sub-if4
+    mul-if4
+    element-copy-out-if4
+    returns-4
     weigh-requires
-    returns-4)
+    returns-5)

@@ -11,12 +11,12 @@ use Rattle.refiner.proofs.beside.search.Statement.{statement}
 use Rattle.refiner.proofs.beside.search.Tie as tie
 
 abbrev Inv-loop : tie.InvT-loop
-Inv-loop w pts n macros keys e el top vertices v far up seat found₀ k₀ found k =
+Inv-loop w pts n macros keys e el most top vertices v far up seat found₀ k₀ found k =
     (k ≤ e) × (turns (offers w pts n (macrosOf macros) keys el top vertices v far up seat) k (e - k) found
     ≡ turns (offers w pts n (macrosOf macros) keys el top vertices v far up seat) 0 e found₀)
 
 abbrev μ-loop : tie.MeasureT-loop
-μ-loop w pts n macros keys e el top vertices v far up seat found₀ k₀ found k = e - k
+μ-loop w pts n macros keys e el most top vertices v far up seat found₀ k₀ found k = e - k
 
 loop-holds : tie.Need-loop-holds Inv-loop μ-loop
 loop-holds c = (omega arith, turns-none _ _ _)

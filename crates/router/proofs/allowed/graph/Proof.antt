@@ -9,16 +9,19 @@ use lib.Dec.{ltb}
 use lib.ListN.{length, take}
 use lib.Seq.{length-take-le}
 use denote.Ref.{now}
+use Rattle.lists.specs.Sorted.{Ascending}
 use Rattle.lent.specs.Told.{given}
 use Rattle.lent.specs.Over.{over}
 use Rattle.lent.specs.Entries.{flat}
 use Rattle.plane.specs.declared.Place.{Place}
+use Rattle.plane.specs.Place.{before}
 use Rattle.plane.specs.Flat.{placesOf, macrosOf}
-use Rattle.net.specs.Net.{handed}
+use Rattle.net.specs.Net.{netOf, handed}
 use Rattle.net.specs.Answer.{number}
 use Rattle.graph.specs.Spanning.{spanning}
 use Rattle.graph.specs.Edges.{edges}
 use Rattle.graph.specs.Numbers.{edgeNumbers}
+use Rattle.graph.proofs.VertexLaws.{vertices-ascending}
 use Rattle.graph.proofs.ReadBack.{vertices-back}
 use Rattle.router.specs.Graph.{netVertices, netEdges, pointCount, toldGraph}
 use Rattle.router.proofs.GraphAnswer.{graph-short, graph-fits, graph-room, vertices-few}
@@ -93,10 +96,20 @@ slice-aggregate-edges : tie.Need-slice-aggregate-edges
 slice-aggregate-edges c = sym (length-take-le _ _ (fits (c .before .before)))
 
 edges-requires : tie.Need-edges-requires
+unfolding netVertices
 edges-requires c κs =
     let d = c .before .before .before in
+    let s = d .before .before .before .before in
+    let a = s .args in
+    let vs = netVertices (handed (a .net .weights)) (now (a .pins)) (now (a .macros)) in
     let n = length-take-le (d .vertices .result * 2) (d .vertices .last .1 .1 .0) (fits d) in
-    omega (arith, n, few d, room (d .before .before))
+    let back = vertices-back vs (now (a .vertices)) _ _ (d .vertices .ensures .1) (d .vertices .ensures .0) in (
+      (
+        subst (Ascending before) (sym back) (vertices-ascending (netOf (handed (a .net .weights)) (now (a .pins)) (now (a .macros)))),
+        omega (arith, n, few d, points-few (s .pre)),
+      ),
+      omega (arith, n, few d, room (d .before .before)),
+    )
 
 returns-2 : tie.Need-returns-2
 unfolding toldGraph netVertices netEdges

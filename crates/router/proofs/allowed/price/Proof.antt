@@ -18,18 +18,18 @@ abbrev start : tie.After-refine → tie.Start
 start c = c .before .before .before .before
 
 metal-requires : tie.Need-metal-requires
-metal-requires c κs = let r = c .before .before in metal-asks (start r .pre .allowed) (r .refine .ensures)
+metal-requires c κs = let r = c .before .before in metal-asks (start r .pre .allowed) (r .refine .ensures .0)
 
 -- the metal to lay
 metal-is : (c : tie.After-metal) → c .metal .result
     ≡ metalOf (handed (start (c .before .before .before) .args .net .weights)) (now (start (c .before .before .before) .args .pins)) (now (start (c .before .before .before) .args .macros))
-metal-is c = let r = c .before .before .before in answer-metal (start r .pre .allowed) (r .refine .ensures) (c .metal .ensures)
+metal-is c = let r = c .before .before .before in answer-metal (start r .pre .allowed) (r .refine .ensures .0) (c .metal .ensures)
 
 price-requires : tie.Need-price-requires
 price-requires c κs =
     let r = c .before .before .before in
     let a = start r .pre .allowed in
-    omega (arith, metal-is c, metal-low a, answer-total a (r .refine .ensures), total-low a)
+    omega (arith, metal-is c, metal-low a, answer-total a (r .refine .ensures .0), total-low a)
 
 returns : tie.Need-returns
 returns c =

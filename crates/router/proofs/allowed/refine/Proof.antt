@@ -13,8 +13,9 @@ use Rattle.refined.specs.Ground.{groundOf}
 use Rattle.refined.proofs.NetGround.{union-ready}
 use Rattle.refiner.specs.Beside.{Ground}
 use Rattle.refiner.specs.Ready.{Ready}
+use Rattle.router.specs.Terminal.{pathsTotal}
 use Rattle.router.proofs.FreshTables.{fresh, worked-ground}
-use Rattle.router.proofs.CountedLaws.{as-allowed, as-answer}
+use Rattle.router.proofs.CountedLaws.{as-allowed, as-answer, as-worked}
 use Rattle.router.proofs.allowed.refine.Statement.{statement}
 use Rattle.router.proofs.allowed.refine.Tie as tie
 
@@ -51,17 +52,20 @@ refine-requires c κs =
     (subst (Ready net (groundOf net) (unionOf net)) (length-pins (now (a .pins))) (union-ready (as-allowed (s .pre .0)))))
 
 returns : tie.Need-returns
+unfolding pathsTotal
 returns c =
     let u = c .before .before .before .before .before .before .before in
     let d = u .before .before .before .before .before .before .before .before .before .before .before .before in
     let s = d .before .before .before .before .before .before .before .before .before .before .before .before .before in
     let a = s .args in
-    let net = netWith (a .net .weights) (now (a .pins)) (now (a .macros)) in
-    as-answer (s .pre .0)
-    (subst (λ (t : Tree). Answer net (groundOf net) t (c .refine .last .1 .1 .1 .0) (c .refine .last .1 .1 .1 .1 .1 .0) (c .refine .result))
-    (union-is u)
-    (subst (λ (g : Ground). Answer net g (unionTree u) (c .refine .last .1 .1 .1 .0) (c .refine .last .1 .1 .1 .1 .1 .0) (c .refine .result))
-    (worked-ground refl (d .terminal-tree .ensures)) (c .refine .ensures)))
+    let net = netWith (a .net .weights) (now (a .pins)) (now (a .macros)) in (
+      as-answer (s .pre .0)
+          (subst (λ (t : Tree). Answer net (groundOf net) t (c .refine .last .1 .1 .1 .0) (c .refine .last .1 .1 .1 .1 .1 .0) (c .refine .result))
+          (union-is u)
+          (subst (λ (g : Ground). Answer net g (unionTree u) (c .refine .last .1 .1 .1 .0) (c .refine .last .1 .1 .1 .1 .1 .0) (c .refine .result))
+          (worked-ground refl (d .terminal-tree .ensures)) (c .refine .ensures))),
+      as-worked (s .pre .0) (d .terminal-tree .ensures) .total-is,
+    )
 
 pub refine-spec : {M : Type 1} → statement M
 refine-spec = tie.close (tie.spec terminal-tree-requires start-requires refine-requires returns)

@@ -59,10 +59,10 @@ give-wires-requires c κs =
     let d = c .before .before .before in
     let s = d .before .before .before .before .before .before in
     let a = s .args in
-    let few = answer-few (s .pre .allowed) (d .refine .ensures) in (
-      d .refine .ensures .few .1,
+    let few = answer-few (s .pre .allowed) (d .refine .ensures .0) in (
+      d .refine .ensures .0 .few .1,
       (
-        answer-small (s .pre .allowed) (d .refine .ensures),
+        answer-small (s .pre .allowed) (d .refine .ensures .0),
         omega (arith, few, asked (d .before .before .before .before), length-pins (now (a .pins)), length-macros (now (a .macros)), d .before .before .before .if1 .left),
       ),
     )
@@ -74,7 +74,7 @@ returns-2 c =
     let d = g .before .before .before .before in
     let s = d .before .before .before .before .before .before in
     let a = s .args in
-    let edges = answer-edges (s .pre .allowed) (d .refine .ensures) in
+    let edges = answer-edges (s .pre .allowed) (d .refine .ensures .0) in
     let need = (pointCount (now (a .pins)) (now (a .macros)) + pinCount (now (a .pins))) * 8 in
     gives-given
     (ap (λ (n : ℕ). given n) (g .give-wires .ensures .0 ∙ ap (λ (es : List (Place × Place)). length (wires es)) edges))

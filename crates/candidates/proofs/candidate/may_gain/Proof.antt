@@ -1,0 +1,31 @@
+-- `candidates::candidate::may_gain` meets its contract: what is left of the greatest cost is compared piece by piece, so that no sum is made.
+-- Assumes nothing.
+use mathlib.Core.Path.{_∙_}
+use native.Mathlib.Omega.{arith}
+use Rattle.candidates.proofs.CandidateLaws.{may-gain-not, may-gain-is}
+use borrow.Author.Needs.{needs}
+use Rattle.candidates.proofs.candidate.may_gain.Statement.{statement}
+use Rattle.candidates.proofs.candidate.may_gain.Tie as tie
+
+returns : tie.Need-returns
+returns c = may-gain-not _ _ _ _ _ _ (omega (arith, c .if1 .taken))
+
+sub-left : tie.Need-sub-left
+sub-left c = search needs
+
+returns-2 : tie.Need-returns-2
+returns-2 c = may-gain-not _ _ _ _ _ _ (omega (arith, c .if2 .taken))
+
+sub-is-near-box : tie.Need-sub-is-near-box
+sub-is-near-box c = search needs
+
+is-near-box-requires : tie.Need-is-near-box-requires
+is-near-box-requires c κs = search needs
+
+returns-3 : tie.Need-returns-3
+returns-3 c =
+    c .is-near-box .ensures
+    ∙ may-gain-is _ _ _ _ _ _ (omega (arith, c .before .if2 .left, c .before .before .if1 .left))
+
+pub may-gain-spec : {M : Type 1} → statement M
+may-gain-spec = tie.close (tie.spec returns sub-left returns-2 sub-is-near-box is-near-box-requires returns-3)

@@ -1,0 +1,146 @@
+-- `router::allowed::both_trees` meets its contract: where there is room, the edges given are those of the net's refined tree, with both totals.
+-- Assumes nothing.
+use mathlib.Core.Path.{_≡_, refl, ap, ap₂, _∙_, subst}
+use mathlib.Core.List.{List}
+use Prim.Native.Nat.{ℕ, _+_, _*_, _^_, _≤_, _<_}
+use native.Mathlib.Omega.{arith}
+use lib.IntN.{ℤ, pos}
+use lib.ListN.{length}
+use mir.Syntax.{w64}
+use mir.Val.{toZ}
+use mir.ValLaws.{toZ-pos}
+use denote.Ref.{now}
+use Rattle.lent.specs.Told.{given}
+use Rattle.lent.specs.Over.{over}
+use Rattle.lent.specs.Entries.{flat}
+use Rattle.plane.specs.declared.Place.{Place}
+use Rattle.plane.proofs.FlatLaws.{length-macros}
+use Rattle.net.specs.Answer.{number}
+use Rattle.net.specs.Pins.{pinCount}
+use Rattle.net.specs.Net.{netOf, handed}
+use Rattle.net.specs.Allowed.{Allowed}
+use Rattle.net.proofs.PinLaws.{length-pins}
+use Rattle.graph.specs.Numbers.{edgeNumbers}
+use Rattle.router.specs.Graph.{pointCount}
+use Rattle.router.specs.Terminal.{pathsTotal}
+use Rattle.router.specs.Refined.{laidTotal, metalOf}
+use Rattle.router.specs.Both.{bothAnswer, bothGiven, toldBoth}
+use Rattle.terminal.proofs.PathLaws.{total-small}
+use Rattle.router.proofs.AnswerLaws.{room-short, room-enough}
+use Rattle.router.proofs.RefinedLaws.{total-low, answer-edges, answer-count, answer-total, answer-small, answer-few, answer-metal, metal-asks, metal-low}
+use Rattle.router.proofs.CountedLaws.{as-points, as-pins, counts-few, points-few}
+use Rattle.router.proofs.CallLaws.{gives-refused, gives-given}
+use borrow.Author.Needs.{needs}
+use Rattle.router.proofs.allowed.both_trees.Statement.{statement}
+use Rattle.router.proofs.allowed.both_trees.Tie as tie
+
+point-count-requires : tie.Need-point-count-requires
+point-count-requires c κs = counts-few (c .pre)
+
+-- n and m, as the check has counted them
+asked : (d : tie.After-struct-known) → (d .before .point-count .result + d .before .before .args .net .pins) * 4
+    ≡ (pointCount (now (d .before .before .args .pins)) (now (d .before .before .args .macros)) + pinCount (now (d .before .before .args .pins))) * 4
+asked d =
+    let s = d .before .before in
+    omega (arith, d .before .point-count .ensures, as-points (s .pre), as-pins (s .pre))
+
+add-if1 : tie.Need-add-if1
+add-if1 c = record { fits = omega (arith, points-few (c .before .before .pre), as-points (c .before .before .pre), c .before .point-count .ensures, counts-few (c .before .before .pre)) }
+
+mul-if1 : tie.Need-mul-if1
+mul-if1 c = record { fits = omega (arith, points-few (c .before .before .pre), as-points (c .before .before .pre), c .before .point-count .ensures, counts-few (c .before .before .pre)) }
+
+returns : tie.Need-returns
+unfolding bothGiven toldBoth number
+returns c =
+    let d = c .before in
+    let a = d .before .before .args in
+    let need = (pointCount (now (a .pins)) (now (a .macros)) + pinCount (now (a .pins))) * 4 in
+    gives-refused refl (room-short need (length (now (a .edges))) _ (subst (λ (z : ℕ). length (now (a .edges)) < z) (asked d) (c .if1 .taken)))
+
+refine-requires : tie.Need-refine-requires
+refine-requires c κs = (c .before .before .before .before .before .pre, (refl, refl))
+
+abbrev start : tie.After-refine → tie.Start
+start d = d .before .before .before .before .before .before
+
+-- what the refiner has left in its tables
+abbrev allowed : (d : tie.After-refine) → Allowed (netOf (handed (start d .args .net .weights)) (now (start d .args .pins)) (now (start d .args .macros)))
+allowed d = start d .pre .allowed
+
+metal-requires : tie.Need-metal-requires
+metal-requires c κs = let d = c .before .before in metal-asks (allowed d) (d .refine .ensures .0)
+
+give-edges-requires : tie.Need-give-edges-requires
+give-edges-requires c κs =
+    let d = c .before .before .before .before .before .before in
+    let a = start d .args in
+    let few = answer-few (allowed d) (d .refine .ensures .0) in (
+      omega (arith, d .refine .ensures .0 .few .1),
+      (
+        answer-small (allowed d) (d .refine .ensures .0),
+        omega (arith, few, asked (d .before .before .before .before), length-pins (now (a .pins)), length-macros (now (a .macros)), d .before .before .before .if1 .left),
+      ),
+    )
+
+-- the total and the metal fit
+total-fits : (d : tie.After-refine) → d .refine .result .total < 2 ^ 63
+total-fits d = omega (arith, answer-total (allowed d) (d .refine .ensures .0), total-low (allowed d))
+
+terminal-fits : (d : tie.After-refine) → d .refine .result .terminal < 2 ^ 63
+unfolding pathsTotal
+terminal-fits d = omega (arith, d .refine .ensures .1, total-small (allowed d))
+
+metal-is : (d : tie.After-metal) → d .metal .result
+    ≡ metalOf (handed (start (d .before .before .before) .args .net .weights)) (now (start (d .before .before .before) .args .pins)) (now (start (d .before .before .before) .args .macros))
+metal-is d = let r = d .before .before .before in answer-metal (allowed r) (r .refine .ensures .0) (d .metal .ensures)
+
+metal-fits : (d : tie.After-metal) → d .metal .result < 2 ^ 63
+metal-fits d = let r = d .before .before .before in omega (arith, metal-is d, metal-low (allowed r), total-low (allowed r))
+
+cast-t24 : tie.Need-cast-t24
+cast-t24 c = record { sfits = terminal-fits (c .before .before .before .before .before .before .before .before .before) }
+
+cast-t25 : tie.Need-cast-t25
+cast-t25 c = record { sfits = total-fits (c .before .before .before .before .before .before .before .before .before .before) }
+
+cast-t26 : tie.Need-cast-t26
+cast-t26 c = record { sfits = metal-fits (c .before .before .before .before .before .before .before) }
+
+returns-2 : tie.Need-returns-2
+unfolding bothGiven toldBoth
+returns-2 c =
+    let l = c .before .before .before .before .before .before .before in
+    let d = l .before .before .before in
+    let a = start d .args in
+    let w = d .refine .ensures .0 in
+    let need = (pointCount (now (a .pins)) (now (a .macros)) + pinCount (now (a .pins))) * 4 in
+    let given-is : ℕ × (ℤ × (ℤ × ℤ)) = bothAnswer (handed (a .net .weights)) (now (a .pins)) (now (a .macros)) in
+    let sum : toZ w64 (d .refine .result .total) ≡ pos (laidTotal (handed (a .net .weights)) (now (a .pins)) (now (a .macros))) =
+    toZ-pos w64 (d .refine .result .total) (total-fits d) ∙ ap pos (answer-total (allowed d) w) in
+    let paths : toZ w64 (d .refine .result .terminal) ≡ pos (pathsTotal (handed (a .net .weights)) (now (a .pins)) (now (a .macros))) =
+    toZ-pos w64 (d .refine .result .terminal) (terminal-fits d) ∙ ap pos (d .refine .ensures .1) in
+    let laid : toZ w64 (l .metal .result) ≡ pos (metalOf (handed (a .net .weights)) (now (a .pins)) (now (a .macros))) =
+    toZ-pos w64 (l .metal .result) (metal-fits l) ∙ ap pos (metal-is l) in
+    gives-given
+    (ap₂ (λ (n : ℕ) (z : ℤ × (ℤ × ℤ)). given (n, z)) (answer-count (allowed d) w)
+    (ap₂ (λ (p : ℤ) (z : ℤ × ℤ). (p, z)) paths (ap₂ (λ (t u : ℤ). (t, u)) sum laid)))
+    (room-enough {A = ℕ × (ℤ × (ℤ × ℤ))} need (length (now (a .edges))) given-is (subst (λ (z : ℕ). z ≤ length (now (a .edges))) (asked (d .before .before .before .before)) (d .before .before .before .if1 .left)))
+    (c .before .before .before .give-edges .ensures ∙ ap (λ (es : List (Place × Place)). over (flat edgeNumbers es) (now (a .edges))) (answer-edges (allowed d) w))
+
+pub both-trees-spec : {M : Type 1} → statement M
+both-trees-spec =
+    tie.close
+    (tie.spec
+    point-count-requires
+    add-if1
+    mul-if1
+    returns
+    refine-requires
+    metal-requires
+    give-edges-requires
+    cast-t24
+    cast-t25
+    cast-t26
+    (λ c. search needs)
+    returns-2)
