@@ -56,7 +56,7 @@
 #define CALZUNDI_H
 
 /* The version. It stands here and nowhere else; the tools take it from this line, and each change request raises the second number. */
-#define CALZUNDI_VERSION "1.7"
+#define CALZUNDI_VERSION "1.8"
 
 #include <stddef.h>
 #include <stdint.h>
@@ -77,6 +77,9 @@ extern "C" {
 /* Distances on the grid are for nets of up to 16 pins and 16 macros. */
 #define CALZUNDI_GRID_PINS 16
 #define CALZUNDI_GRID_MACROS 16
+
+/* The check of a bought-in tree takes up to 1,279 edges. */
+#define CALZUNDI_BOUGHT_EDGES 1279
 
 /* Numbers to lend for a net of m pins and k macros: n = m + 4k, and then for each operation. */
 #define CALZUNDI_POINTS(m, k) ((m) + 4 * (k))
@@ -112,6 +115,9 @@ enum calzundi_refusal {
     CALZUNDI_SPACE = 21,            /* too little space is lent */
     CALZUNDI_BANDS = 31,            /* the list of bands is odd or empty, or a rate in it is above 1,000,000 */
     CALZUNDI_REACH = 32,            /* no band's limit reaches the metal */
+    CALZUNDI_EDGE_LIST = 33,        /* the edge list isn't whole fours, has more than 1,279 edges, or a coordinate is out of range */
+    CALZUNDI_EDGE_NOT_CLEAR = 34,   /* an edge has equal ends, or ends that are not clear of each other */
+    CALZUNDI_NOT_A_TREE = 35,       /* the edges and the pins are not one tree, or a point with a single edge is no pin */
     CALZUNDI_GRID_SIZE = 36,        /* above 16 pins or 16 macros, for distances on the grid */
     CALZUNDI_BAND_ORDER = 37        /* a band's limit is not above the one before it, or its rate is below */
 };
@@ -138,6 +144,10 @@ static inline const char *calzundi_refusal_text(int32_t number)
     case CALZUNDI_SPACE: return "too little space was lent";
     case CALZUNDI_BANDS: return "there is no band, the list isn't whole pairs, or a rate is above 1000000";
     case CALZUNDI_REACH: return "no band's limit reaches the metal";
+    case CALZUNDI_EDGE_LIST:
+        return "there are more than 1279 edges, the list isn't whole fours, or a coordinate is not from -1000000 to 1000000";
+    case CALZUNDI_EDGE_NOT_CLEAR: return "an edge has equal ends, or ends that are not clear of each other";
+    case CALZUNDI_NOT_A_TREE: return "the edges and the pins are not one tree, or a point with a single edge is no pin";
     case CALZUNDI_GRID_SIZE: return "there are more than 16 pins or more than 16 macros";
     case CALZUNDI_BAND_ORDER: return "a band's limit is not above the one before it, or its rate is below";
     default: return "no refusal has this number";
@@ -239,6 +249,22 @@ int32_t calzundi_grid_distances(const int32_t *pins, size_t pin_numbers, const i
  */
 int32_t calzundi_price(const int32_t *pins, size_t pin_numbers, const int32_t *macros, size_t macro_numbers, int32_t weight_x,
                        int32_t weight_y, const uint64_t *bands, size_t band_numbers, uint64_t *charge);
+
+/*
+ * Check a bought-in tree: 0 where it passes for the net.
+ *
+ * edges  a list, four numbers for each edge: x and y of its ends, given from either end and in any order, at most CALZUNDI_BOUGHT_EDGES
+ * cost   what the edges cost together
+ * metal  the sum of their plain lengths
+ *
+ * It passes exactly when every pin is among its points, its points and edges form one tree, every edge joins two different places clear of
+ * each other, and every point with a single edge is a pin. A lone pin with no edges passes. Every refined tree passes.
+ *
+ * Refusals: 11 to 18, then 33, then 34, then 35, each for the whole list before the next.
+ */
+int32_t calzundi_check_tree(const int32_t *pins, size_t pin_numbers, const int32_t *macros, size_t macro_numbers, int32_t weight_x,
+                            int32_t weight_y, const int32_t *edges, size_t edge_numbers, calzundi_length *cost,
+                            calzundi_length *metal);
 
 /*
  * Write a net file, which keeps the order of both lists. Weights of 1 are stored as a file without weights has them.

@@ -57,6 +57,16 @@ pub fn refined_tree(
     Ok((given.edges, given.total, given.metal))
 }
 
+/// "Pass or fail for bought-in trees": the cost and the metal.
+pub fn check_tree(
+    pins: &[i32],
+    macros: &[i32],
+    weights: Weights,
+    edges: &[i32],
+) -> Result<(i64, i64), u32> {
+    lent::check_tree(lists(pins, macros, weights), edges).map_err(number)
+}
+
 /// "Wires": how many were given.
 pub fn wires(
     pins: &[i32],

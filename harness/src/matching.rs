@@ -304,6 +304,30 @@ impl Case {
         )
     }
 
+    /// "Pass or fail for bought-in trees", of a list of edges; and the proved one once more with the net's lists and the edges in another
+    /// order. The answer.
+    pub fn check_tree(
+        &self,
+        kind: &'static str,
+        edges: &[i32],
+    ) -> Result<Result<(i64, i64), u32>, Box<Difference>> {
+        let (pins, macros, weights) = self.lists.parts();
+        let expected = operations::check_tree(pins, macros, weights, edges);
+        for (case, edges) in [
+            (self, edges.to_vec()),
+            (&self.turned(), turned_edges(edges, self.seed)),
+        ] {
+            let (pins, macros, weights) = case.lists.parts();
+            let ours = library::check_tree(pins, macros, weights, &edges);
+            case.same("check a tree", format!("{ours:?}"), format!("{expected:?}"))
+                .map_err(|mut difference| {
+                    difference.input += &format!("# edges, {kind}: {edges:?}\n");
+                    difference
+                })?;
+        }
+        Ok(expected)
+    }
+
     /// "Wires."
     pub fn wires(&self) -> Matched {
         self.one_space(
@@ -376,6 +400,15 @@ impl Case {
             Err(_) => Ok(()),
         }
     }
+}
+
+/// Edges in another order, each from its other end; numbers left over stay behind them.
+fn turned_edges(edges: &[i32], seed: u64) -> Vec<i32> {
+    let whole = edges.chunks_exact(4);
+    let rest = whole.remainder();
+    let mut fours: Vec<[i32; 4]> = whole.map(|e| [e[2], e[3], e[0], e[1]]).collect();
+    Random::new(seed).shuffle(&mut fours);
+    [&fours.concat(), rest].concat()
 }
 
 impl File {

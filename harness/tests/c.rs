@@ -84,6 +84,7 @@ fn the_header_has_the_bounds() {
         ("CALZUNDI_READ_MACRO_NUMBERS", 256),
         ("sizeof(calzundi_length)", 8),
         ("CALZUNDI_RATE", 1_000_000),
+        ("CALZUNDI_BOUGHT_EDGES", reference::bought::EDGES),
     ];
     let lines = names.map(|(name, _)| format!("    printf(\"%d\\n\", (int)({name}));\n"));
     let expected = names.map(|(_, number)| format!("{number}\n"));
@@ -128,6 +129,7 @@ fn null_with_a_count_of_zero() {
             "refined_tree(NULL, 0, NULL, 0, 1, 1, NULL, 0, &a, &t, &l)",
             11,
         ),
+        ("check_tree(NULL, 0, NULL, 0, 1, 1, NULL, 0, &t, &l)", 11),
         ("wires(NULL, 0, NULL, 0, 1, 1, NULL, 0, &a)", 11),
         ("grid_distances(NULL, 0, NULL, 0, 1, 1, NULL, 0, &a)", 11),
         ("price(NULL, 0, NULL, 0, 1, 1, NULL, 0, &h)", 11),
@@ -140,6 +142,10 @@ fn null_with_a_count_of_zero() {
             "refined_tree(pin, 2, NULL, 0, 1, 1, NULL, 0, &a, &t, &l)",
             21,
         ),
+        ("check_tree(pin, 2, NULL, 0, 1, 1, pin, 2, &t, &l)", 33),
+        ("check_tree(pin, 2, NULL, 0, 1, 1, equal, 4, &t, &l)", 34),
+        ("check_tree(two, 4, NULL, 0, 1, 1, NULL, 0, &t, &l)", 35),
+        ("check_tree(pin, 2, NULL, 0, 1, 1, NULL, 0, &c, &c)", 0),
         ("wires(pin, 2, NULL, 0, 1, 1, NULL, 0, &a)", 21),
         ("grid_distances(pin, 2, NULL, 0, 1, 1, NULL, 0, &a)", 21),
         ("price(pin, 2, NULL, 0, 1, 1, NULL, 0, &h)", 31),
@@ -153,7 +159,11 @@ fn null_with_a_count_of_zero() {
         ("price(pin, 2, NULL, 0, 1, INT32_MIN, NULL, 0, &h)", 18),
     ];
     let mut lines = String::from(
-        "    const int32_t pin[2] = {5, 5};\n    size_t a = 7, b = 7;\n    calzundi_length t = 7, l = 7;\n    uint64_t h = 7;\n    int32_t x = 7, y = 7;\n",
+        "    const int32_t pin[2] = {5, 5}, two[4] = {5, 5, 6, 6}, equal[4] = {5, 5, 5, 5};
+    calzundi_length c = 7, t = 7, l = 7;
+    size_t a = 7, b = 7;
+    uint64_t h = 7;
+    int32_t x = 7, y = 7;\n",
     );
     let mut expected = String::new();
     for (call, number) in calls {

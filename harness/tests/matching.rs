@@ -2,6 +2,7 @@
 
 use std::io::Write;
 
+use harness::counted::Counted;
 use harness::library;
 use harness::matching::{allowed, any, file, refused, routed, Case, File, Matched};
 use reference::generate::{hostile, net, weighted, Hostile, Kind};
@@ -273,22 +274,14 @@ fn wires_on_five_thousand_nets() {
 /// been met, or the match says little.
 #[test]
 fn refined_tree_on_five_thousand_nets() {
-    let mut met = [0; EVENTS.len()];
+    let mut met = Counted::new("refined trees of 5000 nets");
     for case in (0..5_000).map(routed).chain(found_by_trying()) {
         matched(case.refined_tree());
-        for (times, now) in met.iter_mut().zip(events(&case)) {
-            *times += now;
+        for (event, times) in events(&case) {
+            met.add(event, times);
         }
     }
-    let mut said = "refined trees of 5000 nets:".to_string();
-    for (event, times) in EVENTS.iter().zip(met) {
-        said += &format!("\n    {times:>6} {event}");
-    }
-    // Past the capture of what a test prints, so that the counts are in the gate's log.
-    writeln!(std::io::stderr(), "{said}").unwrap();
-    for (event, times) in EVENTS.iter().zip(met) {
-        assert!(times > 0, "never met: {event}");
-    }
+    met.all_met(1);
 }
 
 /// Nets found by trying, for what no kind brings about. In the first two a round puts its s on the place of a vertex and a later one beside
@@ -364,29 +357,9 @@ fn found_by_trying() -> [Case; 3] {
     ]
 }
 
-/// What can happen while a net is refined. A candidate beside the tree that is dropped for a point of its way never would have won: that point
-/// gains more (docs/DECISIONS.md).
-const EVENTS: [&str; 16] = [
-    "rounds",
-    "nets where the bound of m rounds ended the rounds",
-    "nets with something pruned",
-    "points pruned",
-    "rounds with s equal to a",
-    "rounds with s equal to b",
-    "rounds with s equal to u",
-    "candidates dropped",
-    "nets where a dropped candidate would have won",
-    "rounds that took a point beside the tree",
-    "rounds where points on the tree and beside it tied",
-    "candidates beside the tree dropped, v being a or b",
-    "candidates beside the tree dropped, s being on the way",
-    "candidates beside the tree dropped, s being on a tree point",
-    "rounds beside the tree joined at the s of a former one",
-    "nets where one beside the tree would have won, were s not on a tree point",
-];
-
-/// How often each of them happened.
-fn events(case: &Case) -> [usize; EVENTS.len()] {
+/// What can happen while a net is refined, and how often it did. A candidate beside the tree that is dropped for a point of its way never
+/// would have won: that point gains more (docs/DECISIONS.md).
+fn events(case: &Case) -> [(&'static str, usize); 16] {
     let (pins, macros, weights) = case.lists.parts();
     let net = check(pins, macros, weights).expect("routed nets are allowed");
     let Statistics {
@@ -409,22 +382,43 @@ fn events(case: &Case) -> [usize; EVENTS.len()] {
     } = refined(&net).statistics;
     assert!(!s_on_way_would_win);
     [
-        rounds,
-        bound_ended.into(),
-        (pruned > 0).into(),
-        pruned,
-        s_at_a,
-        s_at_b,
-        s_at_u,
-        dropped,
-        dropped_would_win.into(),
-        beside,
-        tied,
-        joined_at_end,
-        s_on_way,
-        s_on_tree,
-        joined_at_s,
-        s_on_tree_would_win.into(),
+        ("rounds", rounds),
+        (
+            "nets where the bound of m rounds ended the rounds",
+            bound_ended.into(),
+        ),
+        ("nets with something pruned", (pruned > 0).into()),
+        ("points pruned", pruned),
+        ("rounds with s equal to a", s_at_a),
+        ("rounds with s equal to b", s_at_b),
+        ("rounds with s equal to u", s_at_u),
+        ("candidates dropped", dropped),
+        (
+            "nets where a dropped candidate would have won",
+            dropped_would_win.into(),
+        ),
+        ("rounds that took a point beside the tree", beside),
+        ("rounds where points on the tree and beside it tied", tied),
+        (
+            "candidates beside the tree dropped, v being a or b",
+            joined_at_end,
+        ),
+        (
+            "candidates beside the tree dropped, s being on the way",
+            s_on_way,
+        ),
+        (
+            "candidates beside the tree dropped, s being on a tree point",
+            s_on_tree,
+        ),
+        (
+            "rounds beside the tree joined at the s of a former one",
+            joined_at_s,
+        ),
+        (
+            "nets where one beside the tree would have won, were s not on a tree point",
+            s_on_tree_would_win.into(),
+        ),
     ]
 }
 

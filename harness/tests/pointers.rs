@@ -76,6 +76,16 @@ fn refined_tree(p: List<i32>, q: List<i32>, w: Weights, e: Space<i32>) -> Answer
     answer(code, &[count, total as usize, metal as usize])
 }
 
+fn check_tree(p: List<i32>, q: List<i32>, w: Weights, e: List<i32>) -> Answer {
+    let (mut cost, mut metal) = (TOTAL, TOTAL);
+    let code = unsafe {
+        library::calzundi_check_tree(
+            p.0, p.1, q.0, q.1, w.x, w.y, e.0, e.1, &mut cost, &mut metal,
+        )
+    };
+    answer(code, &[cost as usize, metal as usize])
+}
+
 fn wires(p: List<i32>, q: List<i32>, w: Weights, d: Space<i32>) -> Answer {
     let mut count = COUNT;
     let code =
@@ -485,6 +495,8 @@ fn weights_that_are_refused() {
             let bands = [u64::MAX, 1];
             let charged = price(p, q, Weights { x, y }, (bands.as_ptr(), bands.len()));
             assert_eq!(charged, answer(18, &[COUNT]));
+            let checked = check_tree(p, q, Weights { x, y }, p);
+            assert_eq!(checked, answer(18, &[COUNT, COUNT]));
         }
         let mut lent = Lent::to(&lists, At::Back);
         let file = netfile::write(&lists);
@@ -556,6 +568,49 @@ fn bands_are_read_and_nothing_else() {
         price(pins.list(), none(), one, none()),
         answer(31, &[COUNT]),
         "the pins alone are a net"
+    );
+}
+
+/// The edges of a tree between fences, which nobody can write: read whole, and nothing beside them; a refusal leaves cost and metal.
+#[test]
+fn edges_are_read_and_nothing_else() {
+    let Lists { pins, macros, .. } = net(Kind::Largest, 1);
+    let one = Weights::ONE;
+    let mut space = vec![0; 4 * 384];
+    let (count, total, metal) = library::refined_tree(&pins, &macros, one, &mut space).unwrap();
+    let tree = &space[..4 * count];
+    let passed = answer(0, &[total as usize, metal as usize]);
+    let refused = |number| answer(number, &[COUNT, COUNT]);
+    let longest = vec![0; 4 * 1_279];
+    let too_long = vec![0; 4 * 1_280];
+    let pins = Fenced::of(&pins, At::Back).read_only();
+    let macros = Fenced::of(&macros, At::Back).read_only();
+    for at in [At::Front, At::Back] {
+        for (edges, expected) in [
+            (tree, &passed),
+            (&tree[..tree.len() - 1], &refused(33)),
+            (&tree[..3], &refused(33)),
+            (&too_long, &refused(33)),
+            (&longest, &refused(34)),
+            (&tree[4..], &refused(35)),
+            (&[], &refused(35)),
+        ] {
+            let list = Fenced::of(edges, at).read_only();
+            let checked = check_tree(pins.list(), macros.list(), one, list.list());
+            assert_eq!(checked, *expected);
+        }
+    }
+    let alone = [5, 5];
+    assert_eq!(check_tree(none(), none(), one, none()), refused(11));
+    assert_eq!(
+        check_tree(list(&alone), none(), one, none()),
+        answer(0, &[0, 0]),
+        "a lone pin with no edges"
+    );
+    // Lists may overlap each other: the net's own pins as edges.
+    assert_eq!(
+        check_tree(list(&alone), none(), one, list(&alone)),
+        refused(33)
     );
 }
 

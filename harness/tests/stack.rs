@@ -6,6 +6,7 @@ use harness::library;
 use harness::matching::routed;
 use reference::generate::{net, weighted, Kind};
 use reference::lists::Lists;
+use reference::net::Weights;
 
 /// What include/calzundi.h says that a call has to itself.
 const STACK: usize = calzundi::STACK_BYTES;
@@ -18,7 +19,8 @@ fn call_all(lists: &Lists) {
     library::check(pins, macros, weights).unwrap();
     library::graph(pins, macros, weights, &mut vec![0; 2 * n], &mut numbers).unwrap();
     library::terminal_tree(pins, macros, weights, &mut vec![0; 5 * m]).unwrap();
-    library::refined_tree(pins, macros, weights, &mut numbers).unwrap();
+    let (edges, ..) = library::refined_tree(pins, macros, weights, &mut numbers).unwrap();
+    library::check_tree(pins, macros, weights, &numbers[..4 * edges]).unwrap();
     library::wires(pins, macros, weights, &mut numbers).unwrap();
     library::price(pins, macros, weights, &[u64::MAX, 1_000_000]).unwrap();
     let (few_pins, few_macros) = (&pins[..pins.len().min(32)], &macros[..macros.len().min(64)]);
@@ -38,6 +40,13 @@ fn long_ways() -> Lists {
     }
 }
 
+/// As many edges as a tree may have: a way of unit steps between two pins.
+fn longest_tree() -> ([i32; 4], Vec<i32>) {
+    let end = calzundi::BOUGHT_EDGES as i32;
+    let steps = (0..end).flat_map(|x| [x, 0, x + 1, 0]);
+    ([0, 0, end, 0], steps.collect())
+}
+
 /// A stack overflow would end the test, and with it the gate.
 #[test]
 fn half_a_mebibyte_is_enough() {
@@ -50,7 +59,13 @@ fn half_a_mebibyte_is_enough() {
         long_ways(),
     ];
     let nets: Vec<Lists> = nets.chain(largest).collect();
-    let run = move || nets.iter().for_each(call_all);
+    let (ends, steps) = longest_tree();
+    let run = move || {
+        nets.iter().for_each(call_all);
+        let length = i64::from(ends[2]);
+        let passed = library::check_tree(&ends, &[], Weights::ONE, &steps);
+        assert_eq!(passed, Ok((length, length)));
+    };
     let small = thread::Builder::new().stack_size(STACK).spawn(run);
     small.unwrap().join().unwrap();
 }

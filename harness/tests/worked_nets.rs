@@ -3,6 +3,7 @@
 use std::path::Path;
 
 use harness::library;
+use reference::generate::chambers;
 use reference::lists::Lists;
 use reference::net::Weights;
 use reference::netfile;
@@ -311,19 +312,6 @@ fn a_corner_beside_the_tree() {
     ];
     assert_eq!(laid.edges, edges.concat());
     assert_eq!(laid.wires, edges.concat());
-}
-
-/// Walls that leave one gap at y = 0, and between two of them two macros that offer a gain of 10, with 30 more by pruning.
-fn chambers(count: i32) -> Vec<i32> {
-    let mut macros = Vec::new();
-    let wall = |x: i32| [x, 0, x + 10, 40_000, x, -40_000, x + 10, 0];
-    for at in 0..count {
-        let x = 100 * at;
-        macros.extend(wall(x));
-        macros.extend([x + 60, 20, x + 90, 30, x + 60, -40, x + 70, -20]);
-    }
-    macros.extend(wall(100 * count));
-    macros
 }
 
 /// The rule of [3] does not always give the shorter tree: by that of document 01 this one is 990.

@@ -4,6 +4,7 @@ use crate::edge::Edge;
 use crate::graph::graph;
 use crate::net::{Net, Place, Weights};
 use crate::refined::{refined, Refined};
+use crate::slide::{slid, Slid};
 use crate::terminal::terminal;
 use crate::wires::wires;
 
@@ -61,6 +62,28 @@ pub fn refined_text(net: &Net) -> String {
             yes(said.dropped_would_win)
         )
         + &format!("points pruned {}\n", said.pruned)
+}
+
+/// The slid tree's edges in order, their total, the metal, and what happened while bending and sliding.
+pub fn slid_text(net: &Net) -> String {
+    let Slid {
+        edges,
+        total,
+        metal,
+        statistics: said,
+    } = slid(net);
+    let edges = edges.into_iter().map(|e| edge(e, net.weights()));
+    let bends = match said.given_back {
+        true => "given back as it was".into(),
+        false => format!("bends {} y first {}", said.bends, said.y_first),
+    };
+    section("edges", edges)
+        + &format!("total {total}\nmetal {metal}\n{bends}\n")
+        + &format!("moves {} merges {}\n", said.moves, said.merges)
+        + &format!(
+            "stopped by a macro {} by metal {}\n",
+            said.short_by_macro, said.short_by_metal
+        )
 }
 
 /// The wires of the refined tree, start and end.

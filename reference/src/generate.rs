@@ -1,13 +1,14 @@
 //! Seeded nets, lists and files to match two routers on. Each is a pure function of seed and kind.
 //!
 //! `Kind` names allowed nets, `Hostile` pairs of lists to be refused, `Damage` net files that are
-//! not as they should be, `BandList` lists of bands, hostile ones among them.
+//! not as they should be, `BandList` lists of bands and `Bought` lists of edges, hostile ones among them.
 //!
 //! `net`, `hostile` and `damaged` give weights 1 and 1, and `weighted`, `hostile_weighted` and
 //! `damaged_weighted` the same kinds with weights of all sorts. A new kind goes to the end of its
 //! list, so that the others' seeds keep giving what they gave.
 
 mod bands;
+mod bought;
 mod damaged;
 mod draft;
 mod hostile;
@@ -18,10 +19,12 @@ mod walls;
 mod weights;
 
 pub use bands::{bands, BandList};
+pub use bought::{bought, Bought, Ours};
 pub use damaged::{damaged, damaged_weighted, Damage};
 pub use hostile::{hostile, hostile_weighted, refusal, Hostile};
 pub use nets::{net, weighted, Kind};
 pub use permuted::permuted;
+pub use walls::chambers;
 
 /// An enum of kinds, each with a name for the command line and a line on what it gives. A macro,
 /// so that no kind can be left out of the list of all of them.

@@ -3,7 +3,9 @@
 use std::io::{self, Read, Write};
 use std::process::ExitCode;
 
-use reference::answers::{check_text, graph_text, refined_text, terminal_text, wires_text};
+use reference::answers::{
+    check_text, graph_text, refined_text, slid_text, terminal_text, wires_text,
+};
 use reference::generate::{
     damaged, damaged_weighted, hostile, hostile_weighted, net, weighted, Damage, Hostile, Kind,
 };
@@ -22,6 +24,7 @@ usage: reference COMMAND, with the input on standard input
   graph              text form -> the spanning graph's vertices and edges
   terminal           text form -> the terminal tree's paths: bridge, length, vertices
   refined            text form -> the refined tree's edges and what happened in its rounds
+  slid               text form -> the slid tree's edges and what happened in its rounds
   wires              text form -> the refined tree's wires
   route              net file  -> what the program route prints
   pack               text form -> net file
@@ -74,6 +77,7 @@ fn answer(words: &[&str]) -> Result<Vec<u8>, Failure> {
         ["graph"] => on_net(graph_text),
         ["terminal"] => on_net(terminal_text),
         ["refined"] => on_net(refined_text),
+        ["slid"] => on_net(slid_text),
         ["wires"] => on_net(wires_text),
         ["route"] => Ok(route(&input()?).into_bytes()),
         ["pack"] => pack(),

@@ -3,6 +3,7 @@
 //! operation works its answer out whole and only then writes it. Where document 01 says "11 to
 //! 17", document 02's first request adds 18 after 17.
 
+use crate::bought;
 use crate::edge::Edge;
 use crate::graph;
 use crate::grid;
@@ -11,6 +12,7 @@ use crate::net::{self, Net, Place, Weights};
 use crate::netfile;
 use crate::price;
 use crate::refined;
+use crate::slide;
 use crate::terminal;
 use crate::wires;
 
@@ -75,6 +77,34 @@ pub fn refined_tree(
     let refined = refined::refined(&net);
     lay(edges, refined.edges.iter().flat_map(|&e| edge_numbers(e)));
     Ok((refined.edges.len(), refined.total, refined.metal))
+}
+
+/// "Sliding bars": "a separate call with 8(n + m) numbers to lend, fewer being 21, and answers as the refined tree does."
+pub fn slid_tree(
+    pins: &[i32],
+    macros: &[i32],
+    weights: Weights,
+    edges: &mut [i32],
+) -> Result<(usize, i64, i64), u32> {
+    let net = net::check(pins, macros, weights)?;
+    if edges.len() < 8 * (net.n() + net.m()) {
+        return Err(21);
+    }
+    let slid = slide::slid(&net);
+    lay(edges, slid.edges.iter().flat_map(|&e| edge_numbers(e)));
+    Ok((slid.edges.len(), slid.total, slid.metal))
+}
+
+/// "Pass or fail for bought-in trees." 11 to 18, then 33, 34 and 35. The cost and the metal.
+pub fn check_tree(
+    pins: &[i32],
+    macros: &[i32],
+    weights: Weights,
+    edges: &[i32],
+) -> Result<(i64, i64), u32> {
+    let net = net::check(pins, macros, weights)?;
+    let passed = bought::check(&net, edges)?;
+    Ok((passed.cost, passed.metal))
 }
 
 /// "Wires. 11 to 17, then 21: fewer than 8(n + m) numbers lent." How many wires.
@@ -174,7 +204,7 @@ fn numbers(place: Place) -> [i32; 2] {
 }
 
 /// "An edge as four numbers."
-fn edge_numbers(edge: Edge) -> [i32; 4] {
+pub fn edge_numbers(edge: Edge) -> [i32; 4] {
     let ([a, b], [c, d]) = (numbers(edge.first()), numbers(edge.second()));
     [a, b, c, d]
 }

@@ -1,6 +1,6 @@
 //! Points beside the tree: worked nets, and what holds of both rules on random ones.
 
-use reference::generate::{net, Kind};
+use reference::generate::{chambers, net, Kind};
 use reference::net::{check, Net, Weights};
 use reference::refined::{refine_by, Rule};
 use reference::terminal::terminal;
@@ -14,19 +14,6 @@ fn totals(net: &Net) -> [i64; 3] {
     let terminal = terminal(net);
     let by = |rule| refine_by(rule, net, &terminal).total;
     [terminal.total, by(Rule::OnTree), by(Rule::Beside)]
-}
-
-/// Walls that leave one gap at y = 0, and between two of them two macros that offer a gain of 10, with 30 more by pruning.
-fn chambers(count: i32) -> Vec<i32> {
-    let mut macros = Vec::new();
-    let wall = |x: i32| [x, 0, x + 10, 40_000, x, -40_000, x + 10, 0];
-    for at in 0..count {
-        let x = 100 * at;
-        macros.extend(wall(x));
-        macros.extend([x + 60, 20, x + 90, 30, x + 60, -40, x + 70, -20]);
-    }
-    macros.extend(wall(100 * count));
-    macros
 }
 
 /// A corner that no path uses is a shortcut.

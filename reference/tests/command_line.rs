@@ -57,6 +57,10 @@ fn answers() {
          a dropped one would have won: no\npoints pruned 0\n"
     );
     assert_eq!(
+        text(&["slid"], net),
+        "edges 3\n0 0 2 0 2\n2 0 2 3 3\n2 0 4 0 2\ntotal 7\nmetal 7\nbends 0 y first 0\nmoves 0 merges 0\nstopped by a macro 0 by metal 0\n"
+    );
+    assert_eq!(
         text(&["wires"], net),
         "wires 3\n0 0 2 0\n2 0 2 3\n2 0 4 0\n"
     );
@@ -75,7 +79,9 @@ fn files() {
 
 #[test]
 fn refusals_are_answers() {
-    for command in ["check", "graph", "terminal", "refined", "wires", "pack"] {
+    for command in [
+        "check", "graph", "terminal", "refined", "slid", "wires", "pack",
+    ] {
         assert_eq!(text(&[command], b""), "refused 11\n");
         assert_eq!(text(&[command], b"pin 0 0\npin 0 0\n"), "refused 15\n");
     }
@@ -123,8 +129,8 @@ fn weights_on_the_command_line() {
 fn help_names_every_command() {
     let help = text(&["help"], b"");
     for command in [
-        "check", "graph", "terminal", "refined", "wires", "route", "pack", "unpack", "generate",
-        "damage", "kinds", "help",
+        "check", "graph", "terminal", "refined", "slid", "wires", "route", "pack", "unpack",
+        "generate", "damage", "kinds", "help",
     ] {
         assert!(help.contains(&format!("\n  {command} ")), "{command}");
     }

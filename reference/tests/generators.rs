@@ -7,6 +7,7 @@ use reference::generate::{
 use reference::lists::Lists;
 use reference::net::{check, Macro, Net, Place, Weights};
 use reference::price::price;
+use reference::slide::slid;
 
 /// So many nets of a kind, checked.
 fn nets(kind: Kind, seeds: u64) -> Vec<Net> {
@@ -189,6 +190,16 @@ fn walls_make_long_ways() {
         let count = nets(kind, 100).iter().filter(|net| long(net)).count();
         assert!(count > 10, "{}: {count} of 100", kind.name());
     }
+}
+
+/// Bars move on nets whose ways bend between macros; behind a chain of chambers bends find the place of another one.
+#[test]
+fn bars_move_and_bends_collide() {
+    let slid = |kind| nets(kind, 200).into_iter().map(|net| slid(&net).statistics);
+    let moves: usize = slid(Kind::Bars).map(|said| said.moves).sum();
+    assert!(moves > 50, "{moves}");
+    let turned = slid(Kind::Chambers).filter(|said| said.y_first > 0 || said.given_back);
+    assert!(turned.count() > 2);
 }
 
 #[test]

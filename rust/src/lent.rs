@@ -62,6 +62,19 @@ pub mod bare {
             metal: *mut Length,
         ) -> i32;
 
+        pub fn calzundi_check_tree(
+            pins: *const i32,
+            pins_len: usize,
+            macros: *const i32,
+            macros_len: usize,
+            weight_x: i32,
+            weight_y: i32,
+            edges: *const i32,
+            edges_len: usize,
+            cost: *mut Length,
+            metal: *mut Length,
+        ) -> i32;
+
         pub fn calzundi_wires(
             pins: *const i32,
             pins_len: usize,
@@ -268,6 +281,32 @@ pub fn refined_tree(lists: Lists, edges: &mut [i32]) -> Result<Refined, Refusal>
         metal,
     };
     answer(code, &[count as u64, total as u64, metal as u64], given)
+}
+
+/// Check a bought-in tree: its cost and its metal. An edge is four numbers, from either end.
+pub fn check_tree(lists: Lists, edges: &[i32]) -> Result<(i64, i64), Refusal> {
+    let Lists {
+        pins,
+        macros,
+        weights,
+    } = lists;
+    let (mut cost, mut metal) = (UNTOUCHED as i64, UNTOUCHED as i64);
+    // SAFETY: the library reads the three slices and keeps none.
+    let code = unsafe {
+        bare::calzundi_check_tree(
+            pins.as_ptr(),
+            pins.len(),
+            macros.as_ptr(),
+            macros.len(),
+            weights.x,
+            weights.y,
+            edges.as_ptr(),
+            edges.len(),
+            &mut cost,
+            &mut metal,
+        )
+    };
+    answer(code, &[cost as u64, metal as u64], (cost, metal))
 }
 
 /// Wires: how many were given.

@@ -1,8 +1,8 @@
 //! A tree router whose every answer is proved, from Rust.
 //!
-//! A [`Net`] is pins, macros and weights; its calls give trees, wires, a net file or a price as values of their own, or a [`Refusal`] that
-//! says why not. All the work is the static library's, of which every function is proved to do what the documents say; this crate only
-//! lends the space and sorts the numbers into structs, and is tested.
+//! A [`Net`] is pins, macros and weights; its calls give trees, wires, a net file or a price as values of their own, or check the tree of
+//! another router, or give a [`Refusal`] that says why not. All the work is the static library's, of which every function is proved to do
+//! what the documents say; this crate only lends the space and sorts the numbers into structs, and is tested.
 //!
 //! ```
 //! use calzundi::{Net, Refusal};
@@ -43,6 +43,8 @@ pub const WEIGHT: i32 = 8;
 pub const GRID_PINS: usize = 16;
 /// The most macros of such a net.
 pub const GRID_MACROS: usize = 16;
+/// The most edges of a bought-in tree.
+pub const BOUGHT_EDGES: usize = 1_279;
 /// A band's rate is at most this.
 pub const RATE: u64 = 1_000_000;
 /// A net file is blocks of so many bytes.
@@ -239,6 +241,15 @@ pub struct RefinedTree {
     pub metal: i64,
 }
 
+/// What a bought-in tree that passes comes to.
+#[derive(Clone, Copy, Debug, Default, PartialEq, Eq)]
+pub struct Passed {
+    /// The sum of its edges' costs.
+    pub cost: i64,
+    /// The metal to lay: the sum of their plain lengths.
+    pub metal: i64,
+}
+
 /// A band of a price list.
 #[derive(Clone, Copy, Debug, PartialEq, Eq, PartialOrd, Ord, Hash)]
 pub struct Band {
@@ -340,6 +351,15 @@ impl Net {
             total: given.total,
             metal: given.metal,
         })
+    }
+
+    /// Whether a tree of another router passes for this net: one tree of clear edges that holds every pin, and every point with a single
+    /// edge a pin. An edge may be given from either end.
+    pub fn check_tree(&self, edges: &[Edge]) -> Result<Passed, Refusal> {
+        let ends = |edge: &Edge| [edge.first.x, edge.first.y, edge.second.x, edge.second.y];
+        let numbers: Vec<i32> = edges.iter().flat_map(ends).collect();
+        let (cost, metal) = lent::check_tree(self.flat().lists(), &numbers)?;
+        Ok(Passed { cost, metal })
     }
 
     /// The wires of the refined tree, in the order in which they are drawn.

@@ -35,6 +35,12 @@ pub enum Refusal {
     Bands,
     /// 32: no band's limit reaches the metal.
     Reach,
+    /// 33: the edge list isn't whole fours, has more than 1,279 edges, or a coordinate is out of range.
+    EdgeList,
+    /// 34: an edge has equal ends, or ends that are not clear of each other.
+    EdgeNotClear,
+    /// 35: the edges and the pins are not one tree, or a point with a single edge is no pin.
+    NotATree,
     /// 36: more than 16 pins or 16 macros, of which distances on the grid are not given.
     GridSize,
     /// 37: a band's limit is not above the one before it, or its rate is below.
@@ -58,6 +64,9 @@ impl Refusal {
         Refusal::Space,
         Refusal::Bands,
         Refusal::Reach,
+        Refusal::EdgeList,
+        Refusal::EdgeNotClear,
+        Refusal::NotATree,
         Refusal::GridSize,
         Refusal::BandOrder,
     ];
@@ -91,6 +100,18 @@ impl Refusal {
                 "there is no band, the list isn't whole pairs, or a rate is above 1000000",
             ),
             Refusal::Reach => (32, "no band's limit reaches the metal"),
+            Refusal::EdgeList => (
+                33,
+                "there are more than 1279 edges, the list isn't whole fours, or a coordinate is not from -1000000 to 1000000",
+            ),
+            Refusal::EdgeNotClear => (
+                34,
+                "an edge has equal ends, or ends that are not clear of each other",
+            ),
+            Refusal::NotATree => (
+                35,
+                "the edges and the pins are not one tree, or a point with a single edge is no pin",
+            ),
             Refusal::GridSize => (36, "there are more than 16 pins or more than 16 macros"),
             Refusal::BandOrder => (
                 37,

@@ -72,6 +72,7 @@ fn header_and_crate_say_the_same() {
         ("CALZUNDI_GRID_MACROS", calzundi::GRID_MACROS),
         ("CALZUNDI_WEIGHT", calzundi::WEIGHT as usize),
         ("CALZUNDI_RATE", calzundi::RATE as usize),
+        ("CALZUNDI_BOUGHT_EDGES", calzundi::BOUGHT_EDGES),
         ("CALZUNDI_BLOCK_BYTES", calzundi::BLOCK_BYTES),
         ("CALZUNDI_LONGEST_FILE", calzundi::LONGEST_FILE),
         ("CALZUNDI_STACK_BYTES", calzundi::STACK_BYTES),

@@ -1,6 +1,6 @@
 //! The owned calls beside the second program, on nets of every kind, and refused nets of every kind.
 
-use calzundi::{Band, Edge, Net, Place, Refusal, Wire};
+use calzundi::{Band, Edge, Net, Passed, Place, Refusal, Wire};
 use reference::generate::{hostile_weighted as hostile, weighted as net, Hostile, Kind};
 use reference::lists::Lists;
 use reference::operations;
@@ -80,6 +80,12 @@ fn answers_are_the_second_programs() {
                     .sum::<i64>()
             );
 
+            let passed = Passed {
+                cost: tree.total,
+                metal: tree.metal,
+            };
+            assert_eq!(net.check_tree(&tree.edges), Ok(passed), "{name}");
+
             let wires = net.wires().unwrap();
             let count = operations::wires(pins, macros, weights, &mut numbers).unwrap();
             let ends = |wire: &Wire| [wire.start.x, wire.start.y, wire.end.x, wire.end.y];
@@ -119,6 +125,7 @@ fn every_call_refuses_alike() {
             assert_eq!(net.graph(), Err(refusal));
             assert_eq!(net.terminal_tree(), Err(refusal));
             assert_eq!(net.refined_tree(), Err(refusal));
+            assert_eq!(net.check_tree(&[]), Err(refusal));
             assert_eq!(net.wires(), Err(refusal));
             assert_eq!(net.price(&bands), Err(refusal));
             assert_eq!(net.to_file(), Err(refusal));
@@ -142,6 +149,31 @@ fn prices_and_files() {
     assert_eq!(Net::from_file(&[]), Err(Refusal::Length));
     assert_eq!(Net::from_file(&[1; 512]), Err(Refusal::Sums));
     assert_eq!(Net::from_file(&[0; 512]), Err(Refusal::Layout));
+}
+
+/// A tree of another router passes or gets its number; either end of an edge may come first.
+#[test]
+fn trees_of_others() {
+    let net = Net::new([(0, 0), (4, 0), (2, 3)], [(0, 1, 1, 3)]).with_weights(2, 3);
+    let edge = |a: (i32, i32), b: (i32, i32)| {
+        let place = |(x, y)| Place { x, y };
+        let (first, second) = (place(a), place(b));
+        Edge { first, second }
+    };
+    let tree = [
+        edge((2, 0), (0, 0)),
+        edge((2, 0), (2, 3)),
+        edge((4, 0), (2, 0)),
+    ];
+    assert_eq!(net.check_tree(&tree), Ok(Passed { cost: 17, metal: 7 }));
+    assert_eq!(net.check_tree(&tree[1..]), Err(Refusal::NotATree));
+    let with = |more| [&tree[..], &[more]].concat();
+    let through = with(edge((0, 0), (2, 3)));
+    assert_eq!(net.check_tree(&through), Err(Refusal::EdgeNotClear));
+    let far = with(edge((0, 0), (1_000_001, 0)));
+    assert_eq!(net.check_tree(&far), Err(Refusal::EdgeList));
+    let many = vec![tree[0]; calzundi::BOUGHT_EDGES + 1];
+    assert_eq!(net.check_tree(&many), Err(Refusal::EdgeList));
 }
 
 /// A refusal is an error like others: it goes through `?` and says what it means.

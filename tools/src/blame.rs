@@ -80,20 +80,20 @@ pub fn blamed(net: &Net, lines: Option<&Lines>, refusal: Refusal) -> Blame {
 }
 
 /// A net's entries, each with its name.
-struct Entries<'a> {
-    net: &'a Net,
-    lines: Option<&'a Lines>,
+pub struct Entries<'a> {
+    pub net: &'a Net,
+    pub lines: Option<&'a Lines>,
 }
 
 impl Entries<'_> {
     /// `line 7, pin 3 (5 5)`, or without its line where it has none.
-    fn named_pin(&self, at: usize) -> String {
+    pub fn named_pin(&self, at: usize) -> String {
         let Pin { place, .. } = self.net.pins[at];
         let line = self.lines.map(|lines| lines.pins[at]);
         named(line, "pin", at, &format!("{} {}", place.x, place.y))
     }
 
-    fn named_macro(&self, at: usize) -> String {
+    pub fn named_macro(&self, at: usize) -> String {
         let line = self.lines.map(|lines| lines.macros[at]);
         named(line, "macro", at, &sides(&self.net.macros[at]))
     }
@@ -232,7 +232,8 @@ impl Entries<'_> {
     }
 }
 
-fn named(line: Option<usize>, kind: &str, at: usize, numbers: &str) -> String {
+/// `line 7, pin 3 (5 5)`, or without its line where it has none.
+pub fn named(line: Option<usize>, kind: &str, at: usize, numbers: &str) -> String {
     let entry = format!("{kind} {} ({numbers})", at + 1);
     line.map_or(entry.clone(), |line| format!("line {line}, {entry}"))
 }

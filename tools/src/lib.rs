@@ -13,3 +13,4 @@ pub mod routed;
 pub mod source;
 pub mod streams;
 pub mod text;
+pub mod tree;

@@ -49,7 +49,8 @@ pub fn parse(bytes: &[u8]) -> Result<(Net, Lines), BadLine> {
     Ok((net, lines))
 }
 
-fn numbers<const N: usize>(
+/// So many whole numbers, each with its name.
+pub fn numbers<const N: usize>(
     kind: &str,
     names: [&str; N],
     words: &[&str],

@@ -6,7 +6,7 @@ use std::fs;
 use std::path::PathBuf;
 
 use calzundi::Net;
-use common::{folder, printed, run, said, word};
+use common::{folder, printed, run, said, seeds, word};
 use reference::generate::{hostile, weighted as net, Hostile, Kind};
 use reference::lists::Lists;
 use reference::text::print;
@@ -39,15 +39,6 @@ fn words<'a>(options: &[&'a str], files: &'a [PathBuf]) -> Vec<&'a str> {
         .into_iter()
         .chain(files)
         .collect()
-}
-
-/// So many seeds of a kind, and one of those that take long to make or to route.
-fn seeds(kind: Kind, usual: u64) -> u64 {
-    use Kind::{BoundEnds, Largest, LargestFar, LargestMaze};
-    match kind {
-        BoundEnds | Largest | LargestFar | LargestMaze => 1,
-        _ => usual,
-    }
 }
 
 /// A line for each net in their order, whatever the threads; those that are not routed say why.

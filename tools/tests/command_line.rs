@@ -5,32 +5,15 @@ mod common;
 use std::fs;
 
 use calzundi::{Net, Refusal};
-use common::{example, folder, printed, root, run, said, word, written, COMMANDS};
-use reference::generate::{damaged_weighted as damaged, weighted as net, Damage, Kind};
+use common::{example, folder, made, printed, root, run, said, seeds, word, written, COMMANDS};
+use reference::generate::{
+    bought, damaged_weighted as damaged, weighted as net, Bought, Damage, Kind, Ours,
+};
 use reference::lists::Lists;
 use reference::route::route;
 use tools::routed::{wires_text, Routed};
 use tools::source::source;
-use tools::text;
-
-/// A generated net by the crate's own kind.
-fn made(lists: &Lists) -> Net {
-    let pins = lists.pins.chunks_exact(2).map(|p| (p[0], p[1]));
-    let macros = lists
-        .macros
-        .chunks_exact(4)
-        .map(|m| (m[0], m[1], m[2], m[3]));
-    Net::new(pins, macros).with_weights(lists.weights.x, lists.weights.y)
-}
-
-/// So many seeds of a kind, and one of those that take long to make or to route.
-fn seeds(kind: Kind, usual: u64) -> u64 {
-    use Kind::{BoundEnds, Largest, LargestFar, LargestMaze};
-    match kind {
-        BoundEnds | Largest | LargestFar | LargestMaze => 1,
-        _ => usual,
-    }
-}
+use tools::{text, tree};
 
 /// Text to net to text, and net to file to net, for nets of every kind; the second program reads the same texts alike.
 #[test]
@@ -369,6 +352,168 @@ fn distances_are_a_table() {
     );
 }
 
+/// A net with a shorter tree than ours.
+const SHORTER: &[u8] = b"pin 2 3\npin 3 0\npin 0 1\nmacro 0 2 1 4\n";
+
+/// `verify` passes what `route` prints, and edges alone, from either end; costs are worked out.
+#[test]
+fn verify_passes_trees() {
+    let folder = folder("verify");
+    let net = folder.join("net.txt");
+    fs::write(&net, SHORTER).unwrap();
+    let passes = |tree: &[u8], said: &str| {
+        let answer = printed(&["verify", word(&net), "-"], tree);
+        assert_eq!(answer, format!("standard input: passes, {said}\n"));
+    };
+    passes(
+        &written(&["route", word(&net)], b""),
+        "edges 4 cost 7 metal 7",
+    );
+    let own = b"# mine\n3 0 3 1\n\n3 1 2 1 99 # any cost\n2 1 0 1\n2 1 2 3\n";
+    passes(own, "edges 4 cost 6 metal 6");
+    let tree = folder.join("tree.txt");
+    fs::write(&tree, own).unwrap();
+    let answer = printed(&["verify", "-", word(&tree)], SHORTER);
+    let expected = format!("{}: passes, edges 4 cost 6 metal 6\n", tree.display());
+    assert_eq!(answer, expected);
+    let weighed = [&b"weights 2 3\n"[..], SHORTER].concat();
+    let answer = printed(&["verify", "-", word(&tree)], &weighed);
+    assert!(answer.ends_with("cost 15 metal 6\n"), "{answer}");
+    let (three, tree_of_another) = (example("three-pins"), root().join("examples/tree.txt"));
+    let answer = printed(&["verify", word(&three), word(&tree_of_another)], b"");
+    assert!(
+        answer.ends_with("passes, edges 2 cost 9 metal 9\n"),
+        "{answer}"
+    );
+    fs::write(&tree, "").unwrap();
+    let answer = printed(&["verify", "-", word(&tree)], b"pin 5 5\n");
+    assert!(
+        answer.ends_with("passes, edges 0 cost 0 metal 0\n"),
+        "{answer}"
+    );
+}
+
+/// A tree that does not pass: the number, and each edge that is to blame with its line.
+#[test]
+fn verify_says_what_is_wrong() {
+    let folder = folder("verify-wrong");
+    let net = folder.join("net.txt");
+    fs::write(&net, "pin 0 0\npin 10 0\nmacro 4 -2 6 3\n").unwrap();
+    let around = "0 0 4 -2\n4 -2 6 -2\n6 -2 10 0\n";
+    let tree_35 =
+        "35: the edges and the pins are not one tree, or a point with a single edge is no pin";
+    for (more, number, reasons) in [
+        (
+            "0 0 1000001 0\n",
+            "33: a coordinate is not from -1000000 to 1000000",
+            "line 4, edge 4 (0 0 1000001 0): the second x is 1000001",
+        ),
+        (
+            "10 0 0 0\n5 5 5 5\n",
+            "34: an edge has equal ends, or ends that are not clear of each other",
+            "line 4, edge 4 (10 0 0 0) is not clear of macro 1 (4 -2 6 3)\n  line 5, edge 5 (5 5 5 5) has equal ends",
+        ),
+        (
+            "4 -2 0 0\n",
+            tree_35,
+            "line 4, edge 4 (4 -2 0 0) is line 1, edge 1 (0 0 4 -2) again",
+        ),
+        (
+            "# bare\n4 -2 4 -9\n",
+            tree_35,
+            "line 5, edge 4 (4 -2 4 -9) ends at 4 -9, which is no pin and has no other edge",
+        ),
+        (
+            "0 0 4 -9\n4 -9 4 -2\n",
+            tree_35,
+            "line 5, edge 5 (4 -9 4 -2) closes a cycle of the edges before it",
+        ),
+        (
+            "9 9 9 8\n9 8 8 8\n8 8 9 9\n",
+            tree_35,
+            "line 6, edge 6 (8 8 9 9) closes a cycle of the edges before it\n  \
+             line 4, edge 4 (9 9 9 8) begins a part that is not joined with line 1, edge 1 (0 0 4 -2)",
+        ),
+    ] {
+        let output = run(
+            &["verify", word(&net), "-"],
+            format!("{around}{more}").as_bytes(),
+        );
+        assert_eq!(output.status.code(), Some(1), "{more}");
+        assert_eq!(output.stderr, b"", "{more}");
+        let expected = format!("standard input: refused {number}\n  {reasons}\n");
+        assert_eq!(String::from_utf8(output.stdout).unwrap(), expected);
+    }
+    let output = run(
+        &["verify", word(&net), "-"],
+        b"0 0 4 -2\n4 -2 0 -9\n0 -9 0 0\n",
+    );
+    let text = String::from_utf8(output.stdout).unwrap();
+    let pin = "pin 2 (10 0) is at no edge's end";
+    assert!(text.contains(pin), "{text}");
+    let many = "0 0 4 -2\n".repeat(1_280);
+    let output = run(&["verify", word(&net), "-"], many.as_bytes());
+    let text = String::from_utf8(output.stdout).unwrap();
+    let first = "33: there are 1280 edges, and at most 1279 are allowed\n  line 1280, edge 1280 (0 0 4 -2) is the first that is too many\n";
+    assert!(text.ends_with(first), "{text}");
+    // Bad lines, and the net's own refusal, which comes first.
+    for (tree, wrong) in [
+        (
+            "0 0 4\n",
+            "line 1: a tree's edge needs a number for the second y",
+        ),
+        (
+            "0 0 4 a\n",
+            "line 1: 'a' for the second y is no whole number of 32 bits",
+        ),
+        ("0 0 4 0 x\n", "line 1: 'x' for its cost is no whole number"),
+        (
+            "\n0 0 4 0 4 9\n",
+            "line 2: '9' stands after the end of the tree's edge",
+        ),
+        (
+            "0 0 4 0\npins 2\n",
+            "line 2: a header after line 1, which begins the tree",
+        ),
+        (
+            "refused 11\n",
+            "line 1: 'refused' for the first x is no whole number of 32 bits",
+        ),
+    ] {
+        let said = said(&["verify", word(&net), "-"], tree.as_bytes(), 1);
+        assert_eq!(said, format!("calzundi verify: standard input: {wrong}\n"));
+    }
+    fs::write(&net, "pin 0 0\npin 0 0\n").unwrap();
+    let wrong = said(&["verify", word(&net), "-"], b"0 0 4\n", 1);
+    assert!(wrong.contains("net.txt: refused 15: "), "{wrong}");
+}
+
+/// Every kind of list that the generator knows: `verify` says the router's number, and a reason for each.
+#[test]
+fn verify_explains_every_refusal() {
+    for (number, kind) in [Kind::Small, Kind::PinsOnSides, Kind::Comb, Kind::Bars]
+        .into_iter()
+        .enumerate()
+    {
+        let lists = net(kind, number as u64);
+        let (pins, macros, weights) = lists.parts();
+        let second = reference::net::check(pins, macros, weights).unwrap();
+        let ours = Ours::of(&second);
+        let source = source("a net".into(), text::print(&made(&lists)).as_bytes()).unwrap();
+        for &kind in Bought::ALL {
+            let list = bought(kind, number as u64, &ours).unwrap_or_default();
+            let lines = list
+                .chunks_exact(4)
+                .map(|e| format!("{} {} {} {}\n", e[0], e[1], e[2], e[3]));
+            let given = tree::parse("a tree".into(), lines.collect::<String>().as_bytes()).unwrap();
+            if let Err(refusal) = source.net.check_tree(&given.edges) {
+                let lines = given.blamed(&source, refusal).lines();
+                assert!(lines.len() > 1, "{}: {lines:?}", kind.name());
+            }
+        }
+    }
+}
+
 /// `price` says the charge of a net by a list of bands, either one from standard input.
 #[test]
 fn price_charges_by_a_list() {
@@ -507,7 +652,9 @@ fn help_and_usage() {
     }
     assert!(said(&[], b"", 2).contains("a command is missing"));
     assert!(said(&["rout"], b"", 2).contains("there is no command 'rout'"));
-    assert!(said(&["price", "-", "-"], b"", 2).contains("the same one"));
+    for command in ["price", "verify"] {
+        assert!(said(&[command, "-", "-"], b"", 2).contains("the same one"));
+    }
     let to = folder("usage").join("no/such/folder");
     let wrong = said(&["pack", "-", word(&to)], b"pin 0 0\n", 1);
     assert!(wrong.contains("no/such/folder: "), "{wrong}");

@@ -15,6 +15,7 @@ fn words_of(command: &str) -> Vec<String> {
     let more = match command {
         "compare" => vec![net.clone()],
         "price" => vec![word(&root().join("examples/bands.txt")).to_string()],
+        "verify" => vec![word(&root().join("examples/tree.txt")).to_string()],
         "batch" => vec!["--quiet".to_string()],
         _ => vec![],
     };

@@ -6,29 +6,11 @@ mod common;
 use std::fs;
 
 use calzundi::Net;
-use common::{example, folder, printed, root, word};
+use common::{example, folder, made, printed, root, said, seeds, word};
 use reference::generate::{weighted as net, Kind};
-use reference::lists::Lists;
-use tools::commands::{html, svg};
+use tools::commands::html;
+use tools::picture::sheet::sheet;
 use tools::picture::Subject;
-
-fn made(lists: &Lists) -> Net {
-    let pins = lists.pins.chunks_exact(2).map(|p| (p[0], p[1]));
-    let macros = lists
-        .macros
-        .chunks_exact(4)
-        .map(|m| (m[0], m[1], m[2], m[3]));
-    Net::new(pins, macros).with_weights(lists.weights.x, lists.weights.y)
-}
-
-/// So many seeds of a kind, and one of those that take long to make or to route.
-fn seeds(kind: Kind, usual: u64) -> u64 {
-    use Kind::{BoundEnds, Largest, LargestFar, LargestMaze};
-    match kind {
-        BoundEnds | Largest | LargestFar | LargestMaze => 1,
-        _ => usual,
-    }
-}
 
 /// Stored beside the documents; `calzundi draw` made them.
 #[test]
@@ -91,7 +73,15 @@ fn discs(picture: &str) -> Vec<(f64, f64)> {
 /// What holds of every picture: nothing is cut off, no words stand over others, each macro and each pin is seen in both panels, pins apart
 /// from each other, and the metal to lay is said.
 fn seen(net: &Net, name: &str) {
-    let picture = svg(net).unwrap();
+    let subject = Subject::of(net).unwrap();
+    drawn(&subject, subject.routed.refined.metal, name);
+    let refined = subject.routed.refined.clone();
+    let metal = refined.metal;
+    drawn(&subject.beside("same tree", refined), metal, name);
+}
+
+fn drawn(subject: &Subject, metal: i64, name: &str) {
+    let picture = sheet(subject);
     let head = picture.lines().next().unwrap();
     let (width, height) = (attribute(head, "width"), attribute(head, "height"));
     let all = texts(&picture);
@@ -107,12 +97,10 @@ fn seen(net: &Net, name: &str) {
             );
         }
     }
-    let subject = Subject::of(net).unwrap();
-    let (m, k) = (net.pins.len(), net.macros.len());
-    let metal = format!(
-        "metal to lay {}",
-        tools::picture::grouped(subject.routed.refined.metal)
-    );
+    let (m, k) = (subject.net.pins.len(), subject.net.macros.len());
+    let by = subject.other.as_ref();
+    let by = by.map_or(String::new(), |other| format!(" by the {}", other.name));
+    let metal = format!("metal to lay {}{by}", tools::picture::grouped(metal));
     assert!(
         all.iter().any(|(words, _)| *words == metal),
         "{name}: {metal}"
@@ -135,17 +123,22 @@ fn seen(net: &Net, name: &str) {
             assert!(apart >= 13.0, "{name}: two pins are drawn {apart} apart");
         }
     }
-    let edges = &subject.routed.refined.edges;
-    let (corners, steiner) = subject.other_points(edges);
-    let count = |what: &str| picture.matches(what).count();
-    let (terminal_corners, none) = subject.other_points(&subject.paths.concat());
+    let terminal = subject.paths.concat();
+    let (_, none) = subject.other_points(&terminal);
     assert_eq!(none, vec![], "{name}: the terminal tree has corners only");
-    assert_eq!(
-        count("<title>corner "),
-        corners.len() + terminal_corners.len(),
-        "{name}"
-    );
-    assert_eq!(count("<title>Steiner point "), steiner.len(), "{name}");
+    let other = subject.other.as_ref();
+    let trees = [
+        &subject.routed.refined.edges,
+        other.map_or(&terminal, |other| &other.tree.edges),
+    ];
+    let points = trees.map(|edges| subject.other_points(edges));
+    let count = |what: &str| picture.matches(what).count();
+    let [corners, steiner] = [
+        points[0].0.len() + points[1].0.len(),
+        points[0].1.len() + points[1].1.len(),
+    ];
+    assert_eq!(count("<title>corner "), corners, "{name}");
+    assert_eq!(count("<title>Steiner point "), steiner, "{name}");
 }
 
 #[test]
@@ -241,4 +234,34 @@ fn the_page_is_whole() {
             assert!(!outside.contains(asked), "{asked}");
         }
     }
+}
+
+/// `draw --tree` has the refined tree and one of another router, and only where it passes for the net.
+#[test]
+fn another_tree_beside_the_refined_one() {
+    let folder = folder("beside");
+    let [net, tree, picture] = ["net.txt", "tree.txt", "net.svg"].map(|name| folder.join(name));
+    fs::write(&net, "pin 2 3\npin 3 0\npin 0 1\nmacro 0 2 1 4\n").unwrap();
+    fs::write(&tree, "3 0 3 1\n3 1 2 1\n2 1 0 1\n2 1 2 3\n").unwrap();
+    let words = ["draw", "--tree", word(&tree), word(&net), word(&picture)];
+    assert_eq!(printed(&words, b""), "");
+    let drawn = fs::read_to_string(&picture).unwrap();
+    assert!(drawn.contains(">tree of another router 6<"), "{drawn}");
+    fs::remove_file(&picture).unwrap();
+    for (edges, wrong) in [
+        ("3 0 3 1\n", "refused 35: "),
+        ("0 1 2 3\n", "refused 34: "),
+        ("0 1 2\n", "line 1: "),
+    ] {
+        fs::write(&tree, edges).unwrap();
+        let said = said(&words, b"", 1);
+        let expected = format!("calzundi draw: {}: {wrong}", tree.display());
+        assert!(said.starts_with(&expected), "{said}");
+        assert!(!picture.exists());
+    }
+    let over = ["draw", "--tree", word(&tree), word(&net), word(&tree)];
+    fs::write(&tree, printed(&["route", word(&net)], b"")).unwrap();
+    assert!(said(&over, b"", 2).contains("is not written over"));
+    let wrong = said(&["draw", "--html", "--tree=x", word(&net)], b"", 2);
+    assert!(wrong.contains("take one of them"), "{wrong}");
 }

@@ -53,6 +53,12 @@ pub record ChargeHanded (t : Told ℕ) (h : ℕ) (r : ℤ) (h′ : ℕ) : Type 0
   pub answer : r ≡ pos (code t)
   pub charge : h′ ≡ valueAfter (λ m. m) t h
 
+-- a bought-in tree that passes: its cost and its metal
+pub record SumsHanded (t : Told (ℤ × ℤ)) (z l : ℤ) (r : ℤ) (z′ l′ : ℤ) : Type 0 where
+  pub answer : r ≡ pos (code t)
+  pub cost : z′ ≡ valueAfter (λ sums. sums .0) t z
+  pub metal : l′ ≡ valueAfter (λ sums. sums .1) t l
+
 -- the four numbers that a read gives through pointers
 pub record Read : Type 0 where
   pub m : ℕ

@@ -1,6 +1,7 @@
 // The router's operations for C: the static library. A slice passes as a pointer and a length, the weights as a number each. The caller
 // sees to it that each pointer has that length behind it, and that what is lent to be written overlaps nothing else that is handed over.
 // Each contract names one record of specs/Handed.antt: the code, each lent list and each number that goes through a pointer.
+use bought::Verdict;
 use net::Checked;
 use net::Weighing;
 use netfile::Written;
@@ -25,10 +26,12 @@ ghost use Rattle.router.specs.Refined.{laidOf, refinedTree};
 ghost use Rattle.router.specs.Wires.{wiresOf, wired};
 ghost use Rattle.router.specs.Distances.{gridDistances};
 ghost use Rattle.router.specs.Price.{netPrice};
+ghost use Rattle.router.specs.Bought.{checkedTree};
 ghost use Rattle.netfile.specs.Layout.{fileBytes};
 ghost use Rattle.netfile.specs.Write.{written};
 ghost use Rattle.netfile.specs.Read.{pinsIn, macrosIn, readFile};
-ghost use Rattle.exports.specs.Handed.{GraphHanded, PathsHanded, TreeHanded, ListHanded, SquareHanded, ChargeHanded, NetHanded};
+ghost use Rattle.exports.specs.Handed.{GraphHanded, PathsHanded, TreeHanded, ListHanded, SquareHanded};
+ghost use Rattle.exports.specs.Handed.{ChargeHanded, SumsHanded, NetHanded};
 
 // The two weights as one.
 fn weighing(x: i32, y: i32) -> Weighing
@@ -218,6 +221,33 @@ pub extern "C" fn calzundi_price(
             0
         }
         Priced::Refused(refusal) => refusal.number(),
+    }
+}
+
+// 0, what the edges cost and their metal, or the number of the refusal.
+#[no_mangle]
+pub extern "C" fn calzundi_check_tree(
+    pins: &[i32],
+    macros: &[i32],
+    x: i32,
+    y: i32,
+    edges: &[i32],
+    cost: &mut i64,
+    metal: &mut i64,
+) -> i32
+    ensures { λ r. ⌜ SumsHanded
+        (checkedTree (weighing x y) (now (pins .entry)) (now (macros .entry)) (now (edges .entry)))
+        (now (cost .entry)) (now (metal .entry)) r (now (cost .exit)) (now (metal .exit)) ⌝ }
+{
+    let weights = weighing(x, y);
+    let answer = router::check_tree(weights, pins, macros, edges);
+    match answer {
+        Verdict::Passed(sum, length) => {
+            *cost = sum;
+            *metal = length;
+            0
+        }
+        Verdict::Refused(refusal) => refusal.number(),
     }
 }
 

@@ -12,9 +12,12 @@ use lib.ListN.{length, length-map, getD}
 use Rattle.lists.specs.Member.{here, there}
 use Rattle.lists.proofs.TestLaws.{by}
 use Rattle.lists.proofs.MapLaws.{getD-map}
+use Rattle.lists.proofs.MemberLaws.{in-reverse, of-reverse}
+use Rattle.joined.specs.Joined.{Joined}
 use Rattle.joined.specs.Labels.{renamed, merge, labels}
 use Rattle.joined.specs.Keep.{keep, kept}
-use Rattle.joined.specs.Table.{changed, keptBy, Below}
+use Rattle.joined.specs.Table.{changed, keptBy, mergedBy, Below}
+use Rattle.joined.proofs.JoinedLaws.{more}
 use Rattle.joined.proofs.LabelLaws.{renamed-hit, renamed-miss, labelled, joined-same, same-joined}
 use Rattle.joined.proofs.KeepLaws.{Keeps, dropped, taken, keeps, keep-none}
 
@@ -102,3 +105,46 @@ module _ {B : Type 0} (ends : B → ℕ × ℕ) (n : ℕ) where
     pub table-keeps : keptBy ends L t ≡ kept ℕ-discrete ends L
     unfolding kept
     table-keeps = sym (reverse-reverse (keptBy ends L t)) ∙ ap reverse (sym turned)
+
+-- All items taken: two numbers have one label exactly when the items join them
+
+module _ {B : Type 0} (ends : B → ℕ × ℕ) (n : ℕ) where
+  -- the table holds the labels that the pairs give
+  abbrev Shows : List ℕ → List (ℕ × ℕ) → Type 0
+  Shows t M = (n ≤ length t) × ((x : ℕ) → x < n → getD t x 0 ≡ labels ℕ-discrete M x)
+
+  shows-more : (e : B) → ends e .0 < n → ends e .1 < n → (t : List ℕ) (M : List (ℕ × ℕ)) → Shows t M →
+      Shows (map (changed (getD t (ends e .0) 0) (getD t (ends e .1) 0)) t) (ends e ∷ M)
+  unfolding labels merge
+  shows-more e a b t M h =
+      let p = getD t (ends e .0) 0 in
+      let q = getD t (ends e .1) 0 in (
+        omega (arith, length-map t (changed p q), h .0),
+        λ x l.
+            getD-map (changed p q) t x 0 0 (omega (arith, h .0))
+            ∙ changed-renamed p q (getD t x 0)
+            ∙ rw (h .1 x l, h .1 _ a, h .1 _ b) refl,
+      )
+
+  shows-all : (L : List B) → Below ends n L → (t : List ℕ) (M : List (ℕ × ℕ)) → Shows t M →
+      Shows (mergedBy ends L t) (reverseAux (map ends L) M)
+  unfolding mergedBy
+  shows-all [] s t M h = h
+  shows-all (e ∷ L) s t M h =
+      let i = s e (here refl) in
+      shows-all L (λ d m. s d (there m)) _ (ends e ∷ M) (shows-more e (i .0) (i .1) t M h)
+
+  -- from a table in which each number is its own label
+  module _ (L : List B) (s : Below ends n L) (t : List ℕ) (room : n ≤ length t) (own : (x : ℕ) → x < n → getD t x 0 ≡ x) where
+    shows : Shows (mergedBy ends L t) (reverse (map ends L))
+    unfolding labels
+    shows = shows-all L s t [] (room, own)
+
+    pub merged-joined : (x y : ℕ) → x < n → y < n → getD (mergedBy ends L t) x 0 ≡ getD (mergedBy ends L t) y 0 → Joined (map ends L) x y
+    merged-joined x y h k e =
+        more (of-reverse (map ends L))
+        (same-joined (labelled ℕ-discrete _) x y (sym (shows .1 x h) ∙ e ∙ shows .1 y k))
+
+    pub joined-merged : (x y : ℕ) → x < n → y < n → Joined (map ends L) x y → getD (mergedBy ends L t) x 0 ≡ getD (mergedBy ends L t) y 0
+    joined-merged x y h k j =
+        shows .1 x h ∙ joined-same (labelled ℕ-discrete _) (more (in-reverse (map ends L)) j) ∙ sym (shows .1 y k)

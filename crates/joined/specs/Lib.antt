@@ -62,6 +62,7 @@
 --   Offered ends w X L        the items L join X, the lighter offered first
 --   Dominated ends w L e t    items of weight t at most join the ends e
 --   keptBy ends L t           what a pass over L keeps by the table of labels t, which it relabels by `changed`
+--   mergedBy ends L t         the table of labels after all of L
 -- EXCHANGE AND UNION (Exchange.antt, Graft.antt)
 --   Parted T x p q y ps       a way parted at its step from p to q
 --   grown, rooted, Hangs      points that hang on roots by their parents, and items whose roots are a tree

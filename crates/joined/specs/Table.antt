@@ -19,6 +19,11 @@ keptBy ends (e ∷ L) t =
     let q = getD t (ends e .1) 0 in
     elim (eqb p q) [ true ↦ keptBy ends L t | false ↦ e ∷ keptBy ends L (map (changed p q) t) ]
 
+-- Items that are all taken, one after another: the label of the second end becomes that of the first, throughout the table.
+unfoldable pub mergedBy : {B : Type 0} → (B → ℕ × ℕ) → List B → List ℕ → List ℕ
+mergedBy ends [] t = t
+mergedBy ends (e ∷ L) t = mergedBy ends L (map (changed (getD t (ends e .0) 0) (getD t (ends e .1) 0)) t)
+
 -- both ends of each item are numbers below n
 abbrev pub Below : {B : Type 0} → (B → ℕ × ℕ) → ℕ → List B → Type 0
 Below {B} ends n L = (e : B) → e ∈ L → (ends e .0 < n) × (ends e .1 < n)

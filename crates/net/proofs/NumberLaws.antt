@@ -5,6 +5,7 @@ use lib.Dec.{lit≤}
 use Rattle.net.specs.declared.Refusal.{Refusal}
 use Rattle.net.specs.declared.Refusal.the-variants.{Blocks, Sums, Layout, PinList, MacroList, Range, Sides, SamePlace, Overlap}
 use Rattle.net.specs.declared.Refusal.the-variants.{PinInside, WeightRange, Space, Bands, Reach, BandOrder, GridSize}
+use Rattle.net.specs.declared.Refusal.the-variants.{EdgeList, EdgeNotClear, NotATree}
 use Rattle.net.specs.Answer.{number}
 
 pub number-bounds : (f : Refusal) → (1 ≤ number f) × (number f ≤ 37)
@@ -25,3 +26,6 @@ number-bounds Bands = (lit≤ tt, lit≤ tt)
 number-bounds Reach = (lit≤ tt, lit≤ tt)
 number-bounds BandOrder = (lit≤ tt, lit≤ tt)
 number-bounds GridSize = (lit≤ tt, lit≤ tt)
+number-bounds EdgeList = (lit≤ tt, lit≤ tt)
+number-bounds EdgeNotClear = (lit≤ tt, lit≤ tt)
+number-bounds NotATree = (lit≤ tt, lit≤ tt)

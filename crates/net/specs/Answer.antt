@@ -3,6 +3,7 @@ use Prim.Native.Nat.{ℕ}
 use Rattle.net.specs.declared.Refusal.{Refusal}
 use Rattle.net.specs.declared.Refusal.the-variants.{Blocks, Sums, Layout, PinList, MacroList, Range, Sides, SamePlace, Overlap}
 use Rattle.net.specs.declared.Refusal.the-variants.{PinInside, WeightRange, Space, Bands, Reach, BandOrder, GridSize}
+use Rattle.net.specs.declared.Refusal.the-variants.{EdgeList, EdgeNotClear, NotATree}
 
 unfoldable pub number : Refusal → ℕ
 number Blocks = 1
@@ -21,3 +22,6 @@ number Bands = 31
 number Reach = 32
 number BandOrder = 37
 number GridSize = 36
+number EdgeList = 33
+number EdgeNotClear = 34
+number NotATree = 35

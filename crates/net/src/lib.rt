@@ -91,6 +91,9 @@ pub enum Refusal {
     Reach,
     BandOrder,
     GridSize,
+    EdgeList,
+    EdgeNotClear,
+    NotATree,
 }
 
 impl Refusal {
@@ -114,6 +117,9 @@ impl Refusal {
             Refusal::Reach => 32,
             Refusal::BandOrder => 37,
             Refusal::GridSize => 36,
+            Refusal::EdgeList => 33,
+            Refusal::EdgeNotClear => 34,
+            Refusal::NotATree => 35,
         }
     }
 }
@@ -179,7 +185,8 @@ fn is_out_of_range(z: i32) -> bool
     (z < -Net::COORDINATE) | (Net::COORDINATE < z)
 }
 
-fn any_out_of_range(numbers: &[i32]) -> bool
+// Whether a number is farther from 0 than coordinates go.
+pub fn any_out_of_range(numbers: &[i32]) -> bool
     ensures { λ r. ⌜ r ≡ any outOfRange (now (numbers .entry)) ⌝ }
 {
     let mut i = 0;
@@ -213,7 +220,7 @@ fn any_not_upright(macros: &[i32]) -> bool
 }
 
 // Whether p is among the pins from the one numbered `from` on.
-fn is_among(p: Place, pins: &[i32], from: usize) -> bool
+pub fn is_among(p: Place, pins: &[i32], from: usize) -> bool
     ensures { λ r. ⌜ r ≡ any (samePlace p) (drop from (pinPlaces (now (pins .entry)))) ⌝ }
 {
     let m = pin_count(pins);

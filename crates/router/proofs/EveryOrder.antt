@@ -51,6 +51,10 @@ use Rattle.router.specs.Terminal.{pathsOf, pathsTotal, terminalGiven, te
 use Rattle.router.specs.Refined.{refinedOf, edgesIn, totalIn, laidOf, laidTotal, refinedGiven, refinedTree}
 use Rattle.router.specs.Wires.{wiresGiven, wired}
 use Rattle.router.specs.Price.{netPrice}
+use Rattle.bought.specs.Rearranged.{SameEdges}
+use Rattle.bought.proofs.OrderLaws.{same-bought}
+use Rattle.bought.proofs.GivenLaws.{first-pin}
+use Rattle.router.specs.Bought.{checkedTree}
 use Rattle.grid.specs.Bounds.{gridPins, gridMacros}
 use Rattle.grid.specs.Distance.{Square}
 use Rattle.grid.proofs.SquareLaws.{SameGround, squares-same}
@@ -89,7 +93,7 @@ module _ (w : Weighing) (pins pins′ macros macros′ : List ℤ) (p : SamePins
         sym (after-refused _ xs lent n (only-refused _ x n r)) ∙ after-refused _ ys lent n (only-refused _ y n (sym same-check ∙ r))
 
     refused-both : SameForBoth w pins pins′ macros macros′
-    unfolding graphed terminalTree refinedTree wired netPrice gridDistances
+    unfolding graphed terminalTree refinedTree wired netPrice gridDistances checkedTree
     refused-both = record {
       check = same-check;
       graph = λ v e. both _ _;
@@ -104,6 +108,7 @@ module _ (w : Weighing) (pins pins′ macros macros′ : List ℤ) (p : SamePins
       price = λ bands. both _ _;
       distances = λ room. both _ _;
       table = λ t u s r room lent. untouched _ _ _ _ lent;
+      bought = λ edges edges′ s. both _ _;
     }
 
   -- Allowed
@@ -211,6 +216,13 @@ module _ (w : Weighing) (pins pins′ macros macros′ : List ℤ) (p : SamePins
           clears = λ x y. clear-perm x y _ _ (q .order);
         }) a b t u s r
 
+    same-checked : (edges edges′ : List ℤ) → SameEdges edges edges′ → checkedTree w pins macros edges ≡ checkedTree w pins′ macros′ edges′
+    unfolding checkedTree
+    same-checked edges edges′ s =
+        ap₂ onlyIf same-check
+        (same-bought (p .order) (first-pin a) (first-pin b) (weightsOf w) (macrosOf macros) (macrosOf macros′)
+        (λ x y. clear-perm x y _ _ (q .order)) edges edges′ s)
+
     given-both : SameForBoth w pins pins′ macros macros′
     given-both = record {
       check = same-check;
@@ -226,6 +238,7 @@ module _ (w : Weighing) (pins pins′ macros macros′ : List ℤ) (p : SamePins
       price = same-price;
       distances = same-distances;
       table = λ t u s r room lent. ap₂ (λ (z : Told ℕ) (l : List ℕ). after z (map pos l) lent) (same-distances room) (same-table t u s r);
+      bought = same-checked;
     }
 
   pub every-order : SameForBoth w pins pins′ macros macros′

@@ -12,12 +12,14 @@ use Rattle.net.specs.Check.{checked}
 use Rattle.graph.specs.Numbers.{placeNumbers, edgeNumbers}
 use Rattle.terminal.specs.Tree.{pathNumbers}
 use Rattle.grid.specs.Distance.{Square}
+use Rattle.bought.specs.Rearranged.{SameEdges}
 use Rattle.router.specs.Graph.{netVertices, netEdges, graphed}
 use Rattle.router.specs.Terminal.{pathsOf, terminalTree}
 use Rattle.router.specs.Refined.{laidOf, refinedTree}
 use Rattle.router.specs.Wires.{wiresOf, wired}
 use Rattle.router.specs.Distances.{gridDistances}
 use Rattle.router.specs.Price.{netPrice}
+use Rattle.router.specs.Bought.{checkedTree}
 
 pub record SameForBoth (w : Weighing) (pins pins′ macros macros′ : List ℤ) : Type 0 where
   pub check : checked w pins macros ≡ checked w pins′ macros′
@@ -39,3 +41,5 @@ pub record SameForBoth (w : Weighing) (pins pins′ macros macros′ : List ℤ)
   pub distances : (room : ℕ) → gridDistances w pins macros room ≡ gridDistances w pins′ macros′ room
   pub table : (t u : List ℕ) → Square (netOf w pins macros) t → Square (netOf w pins′ macros′) u → (room : ℕ) (lent : List ℤ) →
       after (gridDistances w pins macros room) (map pos t) lent ≡ after (gridDistances w pins′ macros′ room) (map pos u) lent
+  -- and the edges of a bought-in tree in any order, each from either end
+  pub bought : (edges edges′ : List ℤ) → SameEdges edges edges′ → checkedTree w pins macros edges ≡ checkedTree w pins′ macros′ edges′

@@ -21,6 +21,8 @@
 --                PromisedDistances w pins macros      what is promised of the table of an allowed net
 --   Price        netPrice w pins macros bands         the answer of a price by a list of bands
 --                NeverLess bands                      of two nets that the list prices, the one with more metal is charged no less
+--   Bought       checkedTree w pins macros edges      the answer of the check of a bought-in tree
+--                PromisedCheck w pins macros          what is promised of it for an allowed net
 --   Call         Gives, GivesTwo                      what a call answers and leaves in one lent list, in two: the contracts
 --                GivesSquare                          the same of a table whose numbers are fixed by what they mean
 --   Published    Promised w pins macros               all that is promised of an allowed net: the trees of the rules, the only ones, and D3
@@ -35,6 +37,7 @@ pub mod Both
 pub mod Wires
 pub mod Distances
 pub mod Price
+pub mod Bought
 pub mod Call
 pub mod Published
 pub mod EveryOrder

@@ -2,10 +2,11 @@
 // caller. Totals are in cost, which the weights decide; metal is plain length.
 //
 // The contract of one that is lent space names one record (specs/Call.antt): the answer, as the rules have it, and what each lent list then
-// holds, refused calls too. Those of check and price, which are lent none, are one equation each.
+// holds, refused calls too. Those of check, price and check_tree, which are lent none, are one equation each.
 // What the trees that are given are, and what is promised of them, is `Promised` (specs/Published.antt).
 mod allowed; // allowed.rt: what goes on once the check has passed
 
+use bought::Verdict;
 use net::Checked;
 use net::Refusal;
 use net::Weighing;
@@ -14,6 +15,7 @@ use price::Priced;
 ghost use mathlib.Core.Path.{_≡_};
 ghost use Rattle.net.specs.Check.{checked, told};
 ghost use Rattle.price.specs.Price.{toldPrice};
+ghost use Rattle.bought.specs.Verdict.{toldVerdict};
 ghost use Rattle.router.specs.Graph.{graphed};
 ghost use Rattle.router.specs.Terminal.{terminalTree};
 ghost use Rattle.router.specs.Refined.{refinedTree};
@@ -21,6 +23,7 @@ ghost use Rattle.router.specs.Both.{bothTrees};
 ghost use Rattle.router.specs.Wires.{wired};
 ghost use Rattle.router.specs.Distances.{gridDistances};
 ghost use Rattle.router.specs.Price.{netPrice};
+ghost use Rattle.router.specs.Bought.{checkedTree};
 ghost use Rattle.router.specs.Call.{GraphCall, TerminalCall, RefinedCall, BothCall, WiresCall, DistancesCall, WriteCall, ReadCall};
 
 // The answer of a graph: how many vertices and how many edges were given.
@@ -170,6 +173,19 @@ pub fn price(w: Weighing, pins: &[i32], macros: &[i32], bands: &[u64]) -> Priced
     match answer {
         Checked::Allowed(net) => allowed::price(net, pins, macros, bands),
         Checked::Refused(refusal) => Priced::Refused(refusal),
+    }
+}
+
+// Check a bought-in tree: what its edges, four numbers each, cost and their metal, or 11 to 18, then 33, 34 and 35, each over the whole
+// list. Which lists pass, that the order of the edges and of their ends does not matter, and that our own trees pass: `PromisedCheck`
+// (specs/Bought.antt).
+pub fn check_tree(w: Weighing, pins: &[i32], macros: &[i32], edges: &[i32]) -> Verdict
+    ensures { λ r. ⌜ toldVerdict r ≡ checkedTree w (now (pins .entry)) (now (macros .entry)) (now (edges .entry)) ⌝ }
+{
+    let answer = net::check(w, pins, macros);
+    match answer {
+        Checked::Allowed(net) => bought::check_tree(net.weights, pins, macros, edges),
+        Checked::Refused(refusal) => Verdict::Refused(refusal),
     }
 }
 

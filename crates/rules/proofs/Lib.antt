@@ -28,5 +28,6 @@ pub mod StartOurs
 pub mod ChartsOurs
 pub mod RefinedOurs
 pub mod TreesOurs
+pub mod RefinedRange
 -- Wrong trees
 pub mod WrongTrees

@@ -16,27 +16,6 @@ ghost use Rattle.terminal.specs.Kept.{keptBridges, keptLengths, terminal
 ghost use Rattle.lists.specs.Total.{total};
 ghost use Rattle.joined.specs.Table.{changed, keptBy};
 
-fn changed(a: usize, b: usize, x: usize) -> usize
-    ensures { λ r. ⌜ r ≡ changed a b x ⌝ }
-{
-    if x == b {
-        return a;
-    }
-    x
-}
-
-// The group b becomes the group a.
-fn merge(group: &mut [usize; POINTS], a: usize, b: usize)
-    requires { ⌜ length (now group) ≡ pointBound ⌝ }
-    ensures { λ _. ⌜ now (group .exit) ≡ map (changed a b) (now (group .entry)) ⌝ }
-{
-    let mut i = 0;
-    while i < POINTS {
-        group[i] = changed(a, b, group[i]);
-        i += 1;
-    }
-}
-
 // The group of the root of one end of edge k.
 fn group_at(
     ends: &[usize; EDGES],
@@ -74,23 +53,12 @@ fn keep(
         let a = group_at(ea, root, &*group, k);
         let b = group_at(eb, root, &*group, k);
         if a != b {
-            merge(&mut *group, a, b);
+            crate::merge(&mut *group, a, b);
             kept[count] = k;
             count += 1;
         }
     }
     count
-}
-
-// Each vertex is its own group.
-fn number(group: &mut [usize; POINTS])
-    ensures { λ _. ⌜ now (group .exit) ≡ filled (λ k. k) 0 pointBound (now (group .entry)) ⌝ }
-{
-    let mut k = 0;
-    while k < POINTS {
-        group[k] = k;
-        k += 1;
-    }
 }
 
 // The lengths of the first n paths that are kept; their sum.
@@ -142,7 +110,7 @@ fn kept_paths(
     let mut order = [0usize; EDGES];
     let n = bridges::sort_bridges(ea, eb, e, root, &w, &mut order);
     let mut group = [0usize; POINTS];
-    number(&mut group);
+    crate::number(&mut group, POINTS);
     let count = keep(ea, eb, root, &order, n, &mut group, &mut *kept);
     let total = measure(&w, &*kept, count, &mut *long);
     Kept {

@@ -4,9 +4,25 @@ use std::process::ExitCode;
 use std::time::{Duration, Instant};
 
 use harness::matching::{any, file, on_grid, routed, Matched};
+use reference::generate::{bought, Bought, Ours};
+use reference::net::check;
 
 const HELP: &str = "match SECONDS [SEED]: matches the proved router with the second program on random lists for some seconds, from a seed on (0).
 It prints how many were matched, or the first difference with its seed and its net.";
+
+/// Lists of edges of every kind, for an allowed net.
+fn trees(seed: u64) -> Matched {
+    let case = routed(seed);
+    let (pins, macros, weights) = case.lists.parts();
+    let net = check(pins, macros, weights).expect("routed nets are allowed");
+    let ours = Ours::of(&net);
+    for &kind in Bought::ALL {
+        if let Some(list) = bought(kind, seed, &ours) {
+            case.check_tree(kind.name(), &list).map(|_| ())?;
+        }
+    }
+    Ok(())
+}
 
 /// Every operation on the input of one seed.
 fn all(seed: u64) -> Matched {
@@ -17,6 +33,7 @@ fn all(seed: u64) -> Matched {
     case.read_back()?;
     file(seed).read_file()?;
     on_grid(seed).grid_distances()?;
+    trees(seed)?;
     for case in [case, routed(seed)] {
         case.terminal_tree()?;
         case.refined_tree()?;

@@ -33,6 +33,8 @@ kinds! {
         BoundEnds "bound-ends" "m rounds are done and a further gain is still there",
         Small "small" "at most five pins and three macros, so that every path can be tried",
         LargestFar "largest-far" "64 pins and 64 macros from -1,000,000 to 1,000,000",
+        Bars "bars" "few pins and small macros far apart, so that bars slide",
+        Chambers "chambers" "a chain of chambers that takes up all rounds, with pins close together before it",
     }
 }
 
@@ -74,6 +76,8 @@ fn made(kind: Kind, seed: u64, weights: Weights) -> Lists {
         Kind::BoundEnds => searched::bound_ends(random, weights),
         Kind::Small => small(random),
         Kind::LargestFar => largest_far(random),
+        Kind::Bars => bars(random),
+        Kind::Chambers => walls::chain(random),
     };
     Lists { weights, ..lists }
 }
@@ -246,6 +250,17 @@ fn cells(random: &mut Random, cell: i32) -> Lists {
     while draft.pins.len() < Net::PINS {
         draft.pins_between(random, 1, corner, -corner);
     }
+    draft.lists()
+}
+
+/// Macros that are passed at a distance, so that ways bend between them.
+fn bars(random: &mut Random) -> Lists {
+    let mut draft = Draft::default();
+    draft.pins_between(random, 2, -4, 104);
+    let tries = random.between(3, 20);
+    draft.macros_between(random, tries, (0, 110), 10);
+    let tries = random.between(1, 10);
+    draft.pins_between(random, tries, -4, 104);
     draft.lists()
 }
 

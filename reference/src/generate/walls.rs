@@ -89,6 +89,37 @@ pub fn across(random: &mut Random) -> Lists {
     draft.turned(random)
 }
 
+/// Walls that leave one gap at y = 0, and between two of them two macros that offer a gain of 10, with 30 more by pruning. The chain begins
+/// at x = 0; its far end is the place (100 count + 10, 0).
+pub fn chambers(count: i32) -> Vec<i32> {
+    let mut macros = Vec::new();
+    let wall = |x: i32| [x, 0, x + 10, 40_000, x, -40_000, x + 10, 0];
+    for at in 0..count {
+        let x = 100 * at;
+        macros.extend(wall(x));
+        macros.extend([x + 60, 20, x + 90, 30, x + 60, -40, x + 70, -20]);
+    }
+    macros.extend(wall(100 * count));
+    macros
+}
+
+/// A chain of chambers, which takes up all rounds, and before it a few pins close together: what refining would have mended there is left
+/// as it is, so that bends find their places taken and bars are crossed.
+pub fn chain(random: &mut Random) -> Lists {
+    let pins = random.between(3, 7);
+    let count = pins + 1 + random.between(0, 1);
+    let mut draft = Draft::default();
+    for four in chambers(count).chunks_exact(4) {
+        draft.macro_box(four[0], four[1], four[2], four[3]);
+    }
+    let reach = random.between(2, 4);
+    for _ in 0..pins {
+        draft.pin(-20 + random.between(0, reach), random.between(-2, 2));
+    }
+    draft.pin(100 * count + 10, 0);
+    draft.turned(random)
+}
+
 /// Rows and columns of macros with channels of one width, or none; pins in the channels.
 pub fn grid(random: &mut Random, channel: i32) -> Lists {
     let columns = widths(random);

@@ -2,15 +2,16 @@
 
 use std::ffi::OsString;
 
-use calzundi::{Net, Refusal};
+use calzundi::{Edge, Net, Passed, RefinedTree, Refusal};
 
 use crate::picture::page::page;
 use crate::picture::sheet::sheet;
 use crate::picture::Subject;
 use crate::program::{Command, Failure, Switch, Words};
 use crate::routed::Routed;
-use crate::source::open;
+use crate::source::{open, Source};
 use crate::streams::{name, read, write};
+use crate::tree::parse;
 
 const HELP: &str = "\
 calzundi draw NET [PICTURE]: draws a net and its trees
@@ -23,12 +24,14 @@ caption says so.
 
     --html          a page instead, for a browser: layers to switch on and off (graph, terminal tree, refined tree, wires) and tables
                     whose entries light up in the picture; PAGE#edge-3 shows the third edge lit
+    --tree FILE     the refined tree and one of another router, as `calzundi verify` takes it: it must pass for this net
     --routed FILE   what `route` or `calzundi route` printed: it must be this net's, line for line
 
     calzundi draw net.txt net.svg
     calzundi draw --html net.txt net.html
+    calzundi draw --tree tree.txt net.txt net.svg
 
-A refused net, or a FILE that is not this net's, is reported; nothing is written then.
+A refused net, a FILE that is not this net's, or a tree that does not pass, is reported; nothing is written then.
 Exit status: 0 written; 1 something that is read is wrong, or a file cannot be read or written; 2 a wrong command line.
 ";
 
@@ -39,6 +42,10 @@ pub const COMMAND: Command = Command {
         Switch {
             name: "--html",
             value: None,
+        },
+        Switch {
+            name: "--tree",
+            value: Some("a file"),
         },
         Switch {
             name: "--routed",
@@ -59,10 +66,21 @@ pub fn html(name: &str, net: &Net) -> Result<String, Refusal> {
     Ok(page(name, &Subject::of(net)?))
 }
 
+/// The picture of an allowed net with another tree beside the refined one.
+fn svg_beside(net: &Net, name: &'static str, tree: RefinedTree) -> Result<String, Refusal> {
+    Ok(sheet(&Subject::of(net)?.beside(name, tree)))
+}
+
 fn draw(words: &Words) -> Result<(), Failure> {
     let from = words.files.first();
-    let printed = words.value("--routed").map(OsString::from);
-    if printed.as_ref() == from {
+    if words.has("--html") && words.has("--tree") {
+        let both = "--html and --tree each draw something else; take one of them";
+        return Err(Failure::Usage(both.into()));
+    }
+    let [printed, tree] =
+        ["--routed", "--tree"].map(|option| words.value(option).map(OsString::from));
+    let others = [printed.as_ref(), tree.as_ref()];
+    if others.contains(&from) || (printed.is_some() && printed == tree) {
         return Err(Failure::Usage("the two files are the same one".into()));
     }
     let source = open(from)?;
@@ -72,11 +90,12 @@ fn draw(words: &Words) -> Result<(), Failure> {
         let text = Routed::of(net).map_err(wrong)?.text();
         same(&name(Some(printed)), &read(Some(printed))?, &text)?;
     }
-    let picture = match words.has("--html") {
-        true => html(&source.name, net),
-        false => svg(net),
+    let picture = match &tree {
+        _ if words.has("--html") => html(&source.name, net),
+        Some(tree) => svg_beside(net, "tree of another router", passed(&source, tree)?),
+        None => svg(net),
     };
-    let inputs: Vec<Option<&OsString>> = [from, printed.as_ref()]
+    let inputs: Vec<Option<&OsString>> = [from, printed.as_ref(), tree.as_ref()]
         .into_iter()
         .flatten()
         .map(Some)
@@ -86,6 +105,27 @@ fn draw(words: &Words) -> Result<(), Failure> {
         picture.map_err(wrong)?.as_bytes(),
         &inputs,
     )
+}
+
+/// A tree of another router, in order as ours are, where it passes for the net.
+fn passed(source: &Source, file: &OsString) -> Result<RefinedTree, Failure> {
+    let given = parse(name(Some(file)), &read(Some(file))?)?;
+    let checked = source.net.check_tree(&given.edges);
+    let Passed { cost, metal } = checked.map_err(|refusal| {
+        let blame = given.blamed(source, refusal);
+        Failure::wrong(&given.name, blame.lines().join("\n"))
+    })?;
+    let in_order = |edge: &Edge| Edge {
+        first: edge.first.min(edge.second),
+        second: edge.first.max(edge.second),
+    };
+    let mut edges: Vec<Edge> = given.edges.iter().map(in_order).collect();
+    edges.sort_unstable();
+    Ok(RefinedTree {
+        edges,
+        total: cost,
+        metal,
+    })
 }
 
 /// What was printed must be what this net gives.

@@ -11,6 +11,7 @@ mod pack;
 mod price;
 mod route;
 mod unpack;
+mod verify;
 
 pub use draw::{html, svg};
 
@@ -18,6 +19,7 @@ pub use draw::{html, svg};
 pub const ALL: &[Command] = &[
     check::COMMAND,
     route::COMMAND,
+    verify::COMMAND,
     draw::COMMAND,
     compare::COMMAND,
     batch::COMMAND,

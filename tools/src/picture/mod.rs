@@ -10,7 +10,7 @@ pub mod ways;
 
 use std::collections::BTreeSet;
 
-use calzundi::{Edge, Graph, Net, Place, Refusal, Wire};
+use calzundi::{Edge, Graph, Net, Place, RefinedTree, Refusal, Wire};
 
 use crate::routed::Routed;
 
@@ -23,6 +23,16 @@ pub struct Subject {
     pub wires: Vec<Wire>,
     /// The edges of each terminal path.
     pub paths: Vec<Vec<Edge>>,
+    /// A tree to stand beside the refined one; without it that one stands beside the terminal tree.
+    pub other: Option<Other>,
+}
+
+/// A tree that is not the router's refined one.
+#[derive(Clone, Debug)]
+pub struct Other {
+    /// What it is called in titles.
+    pub name: &'static str,
+    pub tree: RefinedTree,
 }
 
 impl Subject {
@@ -36,9 +46,16 @@ impl Subject {
             net: net.clone(),
             wires: net.wires()?,
             paths: paths.unwrap_or_else(|| bridges().collect()),
+            other: None,
             graph,
             routed,
         })
+    }
+
+    /// The same with another tree beside the refined one.
+    pub fn beside(self, name: &'static str, tree: RefinedTree) -> Subject {
+        let other = Some(Other { name, tree });
+        Subject { other, ..self }
     }
 
     /// The pins in the order of the list.

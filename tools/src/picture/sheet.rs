@@ -1,6 +1,7 @@
-//! The picture: the terminal tree and the refined tree beside each other, and a caption with the metal to lay.
+//! The picture: the terminal tree and the refined tree, or the refined one and another, beside each other, and a caption with the metal to
+//! lay.
 
-use calzundi::{Edge, Weights};
+use calzundi::{Edge, RefinedTree, Weights};
 
 use super::frame::{Drawn, Frame};
 use super::labels::POINT;
@@ -9,12 +10,14 @@ use super::panel::{
     PIN_COLOUR, TERMINAL,
 };
 use super::svg::{escaped, rectangle, segment, text, Area, Spot, Svg};
-use super::{coordinates, grouped, Subject};
+use super::{coordinates, grouped, Other, Subject};
 
 const EDGE: f64 = 16.0;
 const LINE: f64 = 22.0;
 const TITLE: f64 = 34.0;
 const CAPTION_LETTER: f64 = 15.0;
+/// What the tree of each panel is drawn in.
+const COLOURS: [&str; 2] = [TERMINAL, METAL];
 
 /// Up to so many points have their coordinates beside them. In a larger net pins have numbers, and a table below has the coordinates.
 const FEW_POINTS: usize = 24;
@@ -29,11 +32,13 @@ pub fn side(points: usize) -> f64 {
     (95.0 * (points as f64).sqrt()).clamp(420.0, 1100.0)
 }
 
-/// A frame for a net and both its trees.
+/// A frame for a net and both trees that are drawn.
 pub fn frame(subject: &Subject, and: &[calzundi::Place]) -> (Frame, usize) {
-    let refined = &subject.routed.refined.edges;
-    let mut edges: Vec<Edge> = subject.terminal_edges().iter().map(|one| one.0).collect();
-    edges.extend(refined);
+    let mut edges: Vec<Edge> = match &subject.other {
+        None => subject.terminal_edges().iter().map(|one| one.0).collect(),
+        Some(other) => other.tree.edges.clone(),
+    };
+    edges.extend(&subject.routed.refined.edges);
     let (corners, steiner) = subject.other_points(&edges);
     let mut points = [subject.pins(), corners, steiner, and.to_vec()].concat();
     points.sort_unstable();
@@ -136,7 +141,7 @@ impl Sheet<'_> {
                     y: height * number_f,
                 },
             };
-            self.draw_title(&mut svg, corner, title, [TERMINAL, METAL][number]);
+            self.draw_title(&mut svg, corner, title, COLOURS[number]);
             self.panel(corner, (width, height), number).draw(&mut svg);
         }
         self.draw_rules(&mut svg, (whole_width, top), (width, height));
@@ -156,23 +161,26 @@ impl Sheet<'_> {
             right: corner.x + width - 4.0,
             bottom: corner.y + height - 4.0,
         };
-        let weights = self.subject.net.weights;
-        let (colour, edges) = match number {
-            0 => (TERMINAL, self.terminal_edges()),
-            _ => {
-                let edges = self.subject.routed.refined.edges.iter();
-                let written = edges.map(|edge| (*edge, grouped(edge.cost(weights))));
-                (METAL, written.collect())
-            }
+        let refined = &self.subject.routed.refined;
+        let edges = match (number, &self.subject.other) {
+            (0, None) => self.terminal_edges(),
+            (0, Some(_)) | (_, None) => self.costs(refined),
+            (_, Some(other)) => self.costs(&other.tree),
         };
         Panel {
             subject: self.subject,
             frame,
-            colour,
+            colour: COLOURS[number],
             edges,
             by_coordinates: self.by_coordinates,
             within,
         }
+    }
+
+    /// At an edge stands what it costs.
+    fn costs(&self, tree: &RefinedTree) -> Vec<(Edge, String)> {
+        let cost = |edge: &Edge| grouped(edge.cost(self.subject.net.weights));
+        tree.edges.iter().map(|edge| (*edge, cost(edge))).collect()
     }
 
     /// At a path's bridge stands what the path costs; an edge on several paths says on how many.
@@ -196,11 +204,12 @@ impl Sheet<'_> {
 
     fn titles(&self) -> [String; 2] {
         let routed = &self.subject.routed;
-        let (terminal, refined) = (routed.terminal.total, routed.refined.total);
-        [
-            format!("terminal tree {}", grouped(terminal)),
-            format!("refined tree {}", grouped(refined)),
-        ]
+        let terminal = format!("terminal tree {}", grouped(routed.terminal.total));
+        let refined = format!("refined tree {}", grouped(routed.refined.total));
+        match &self.subject.other {
+            None => [terminal, refined],
+            Some(Other { name, tree }) => [refined, format!("{name} {}", grouped(tree.total))],
+        }
     }
 
     fn draw_title(&self, svg: &mut Svg, corner: Spot, title: &str, colour: &str) {
@@ -228,14 +237,24 @@ impl Sheet<'_> {
     fn caption(&self) -> Vec<String> {
         let routed = &self.subject.routed;
         let Weights { x, y } = routed.weights;
-        let metal = grouped(routed.refined.metal);
-        let mut lines = vec![format!("metal to lay {metal}"), routed.header()];
+        let mut lines = match &self.subject.other {
+            None => vec![
+                format!("metal to lay {}", grouped(routed.refined.metal)),
+                routed.header(),
+            ],
+            Some(Other { name, tree }) => vec![
+                format!("metal to lay {} by the {name}", grouped(tree.metal)),
+                routed.header(),
+                format!("{name} {} metal {}", tree.total, tree.metal),
+            ],
+        };
         if routed.weights != Weights::default() {
             lines.push(format!(
                 "totals and numbers at edges are costs: a unit costs {x} across and {y} up"
             ));
         }
-        if self.subject.terminal_edges().iter().any(|one| one.1 > 1) {
+        let is_shared = self.subject.terminal_edges().iter().any(|one| one.1 > 1);
+        if self.subject.other.is_none() && is_shared {
             lines.push("x2: on two terminal paths, and counted for each".into());
         }
         if !self.frame.to_scale {

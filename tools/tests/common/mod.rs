@@ -6,10 +6,15 @@ use std::io::Write;
 use std::path::{Path, PathBuf};
 use std::process::{Command, Output, Stdio};
 
+use calzundi::Net;
+use reference::generate::Kind;
+use reference::lists::Lists;
+
 pub const CALZUNDI: &str = env!("CARGO_BIN_EXE_calzundi");
-pub const COMMANDS: [&str; 9] = [
+pub const COMMANDS: [&str; 10] = [
     "check",
     "route",
+    "verify",
     "draw",
     "compare",
     "batch",
@@ -86,4 +91,23 @@ pub fn word(path: &Path) -> &str {
 /// An example as text.
 pub fn example(name: &str) -> PathBuf {
     root().join(format!("examples/nets/{name}.txt"))
+}
+
+/// A generated net by the crate's own kind.
+pub fn made(lists: &Lists) -> Net {
+    let pins = lists.pins.chunks_exact(2).map(|p| (p[0], p[1]));
+    let macros = lists
+        .macros
+        .chunks_exact(4)
+        .map(|m| (m[0], m[1], m[2], m[3]));
+    Net::new(pins, macros).with_weights(lists.weights.x, lists.weights.y)
+}
+
+/// So many seeds of a kind, and one of those that take long to make or to route.
+pub fn seeds(kind: Kind, usual: u64) -> u64 {
+    use Kind::{BoundEnds, Largest, LargestFar, LargestMaze};
+    match kind {
+        BoundEnds | Largest | LargestFar | LargestMaze => 1,
+        _ => usual,
+    }
 }

@@ -72,10 +72,25 @@ returns-16 : tie.Need-returns-16
 unfolding number
 returns-16 c = sym (ap (λ (f : Refusal). pos (number f)) (c .enum-told16 .given .1))
 
+returns-17 : tie.Need-returns-17
+unfolding number
+returns-17 c = sym (ap (λ (f : Refusal). pos (number f)) (c .enum-told17 .given .1))
+
+returns-18 : tie.Need-returns-18
+unfolding number
+returns-18 c = sym (ap (λ (f : Refusal). pos (number f)) (c .enum-told18 .given .1))
+
+returns-19 : tie.Need-returns-19
+unfolding number
+returns-19 c = sym (ap (λ (f : Refusal). pos (number f)) (c .enum-told19 .given .1))
+
 pub number-spec : {M : Type 1} → statement M
 number-spec =
     tie.close
     (tie.spec
+    (λ c. search needs)
+    (λ c. search needs)
+    (λ c. search needs)
     (λ c. search needs)
     (λ c. search needs)
     (λ c. search needs)
@@ -107,4 +122,7 @@ number-spec =
     returns-13
     returns-14
     returns-15
-    returns-16)
+    returns-16
+    returns-17
+    returns-18
+    returns-19)

@@ -41,7 +41,7 @@ group-at-requires-2 c κs =
     (f .edge _ h, (f .two-in _ h, s .pre .0 .1 .0))
 
 merge-requires : tie.Need-merge-requires Inv-loop μ-loop
-merge-requires c κs = c .before .before .before .before .before .before .before .before .loop .inv .1 .0
+merge-requires c κs = tt
 
 loop-again : tie.Need-loop-again Inv-loop μ-loop
 loop-again c =

@@ -1,8 +1,8 @@
--- `terminal::keeping::changed` meets its contract: each of its two answers is a case of the definition.
+-- `terminal::changed` meets its contract: each of its two answers is a case of the definition.
 -- Assumes nothing.
 use Rattle.terminal.proofs.KeptLaws.{changed-yes, changed-no}
-use Rattle.terminal.proofs.keeping.changed.Statement.{statement}
-use Rattle.terminal.proofs.keeping.changed.Tie as tie
+use Rattle.terminal.proofs.changed.Statement.{statement}
+use Rattle.terminal.proofs.changed.Tie as tie
 
 returns : tie.Need-returns
 returns c = changed-yes _ _ _ (c .if1 .taken)

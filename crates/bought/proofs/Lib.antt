@@ -1,0 +1,11 @@
+pub mod EdgeLaws
+pub mod ScanLaws
+pub mod TreeTest
+pub mod TreeSteps
+pub mod VerdictLaws
+pub mod BareLaws
+pub mod PassLaws
+pub mod LoneLaws
+pub mod OrderLaws
+pub mod GivenLaws
+pub mod WorkedTrees

@@ -1,0 +1,56 @@
+//! `verify`: whether a tree of another router passes for a net.
+
+use calzundi::Passed;
+
+use crate::program::{Command, Failure, Words};
+use crate::source::open;
+use crate::streams::{name, read, write};
+use crate::tree::parse;
+
+const HELP: &str = "\
+calzundi verify NET TREE: says whether a tree of another router passes for a net
+
+NET is text or a net file. TREE has one edge a line, the four numbers of its two places, either one first; a cost may stand behind them, and
+a first line that begins with `pins` is passed over: so what `route` prints is a tree too. Blank lines are allowed, and # makes
+the rest of its line a comment. One of the two may be -, standard input.
+
+    calzundi verify net.txt tree.txt
+    calzundi route net.txt | calzundi verify net.txt -
+
+It passes when its edges are one tree that holds every pin, each joins two different places clear of each other, and every point with a
+single edge is a pin. Then `TREE: passes, edges E cost C metal M` is printed; costs and metal are worked out, whatever stands in TREE.
+Otherwise the number of the refusal is, and below it every edge that is to blame, with its line: 33, more than 1279 edges or a coordinate
+out of range; 34, equal ends or ends that are not clear of each other; 35, no such tree.
+Exit status: 0 it passes; 1 it does not, a refused net, a bad line, or a file that cannot be read; 2 a wrong command line.
+";
+
+pub const COMMAND: Command = Command {
+    name: "verify",
+    help: HELP,
+    options: &[],
+    files: (2, 2),
+    act: verify,
+};
+
+fn verify(words: &Words) -> Result<(), Failure> {
+    let (from, tree) = (words.files.first(), words.files.get(1));
+    if from == tree {
+        return Err(Failure::Usage("the two files are the same one".into()));
+    }
+    let source = open(from)?;
+    let net = source.allowed()?;
+    let given = parse(name(tree), &read(tree)?)?;
+    let (said, done) = match net.check_tree(&given.edges) {
+        Ok(Passed { cost, metal }) => {
+            let edges = given.edges.len();
+            let said = format!("passes, edges {edges} cost {cost} metal {metal}");
+            (said, Ok(()))
+        }
+        Err(refusal) => {
+            let blame = given.blamed(&source, refusal);
+            (blame.lines().join("\n"), Err(Failure::No))
+        }
+    };
+    write(None, format!("{}: {said}\n", given.name).as_bytes(), &[])?;
+    done
+}
