@@ -1,6 +1,8 @@
 //! `bench OPERATION PROGRAM KIND SIZE TIMES`: runs one operation of one program on a net of a kind and size, for an instruction count from
-//! outside. The script `bench` beside the README runs it under callgrind for both programs and prints the ratio.
+//! outside. The script `bench` beside the README runs it under callgrind for both programs and prints the ratio. The operation `file` writes
+//! the net's file to standard output, for the program `route`.
 
+use std::io::Write;
 use std::process::ExitCode;
 
 use harness::library;
@@ -8,7 +10,9 @@ use reference::generate::{net, Kind};
 use reference::lists::Lists;
 use reference::operations;
 
-const HELP: &str = "bench graph|terminal|refined|distances|nothing proved|second random|bars|combs|clusters SIZE TIMES: one operation of one program on a net of SIZE pins and SIZE macros.";
+const HELP: &str = "\
+bench graph|terminal|refined|distances|file|nothing proved|second random|bars|combs|clusters SIZE TIMES
+one operation of one program on a net of SIZE pins and SIZE macros";
 
 /// SIZE pins and SIZE macros with weights 1 and 1, of a kind: random ones are the first of a largest net, still allowed, since taking
 /// entries away breaks no rule.
@@ -66,6 +70,15 @@ fn clusters(size: usize) -> (Vec<i32>, Vec<i32>) {
         list.into_iter().enumerate().map(moved).collect()
     };
     (apart(pins, 2), apart(macros, 4))
+}
+
+/// The net's file.
+fn file(lists: &Lists) -> Vec<u8> {
+    let (pins, macros, weights) = lists.parts();
+    let mut bytes = vec![0; 3_072];
+    let given = library::write_file(pins, macros, weights, &mut bytes);
+    bytes.truncate(given.expect("the net is allowed, and no file is longer"));
+    bytes
 }
 
 /// Runs an operation of a program once: how many entries it gave, or none where there is no such operation or program.
@@ -135,6 +148,10 @@ fn main() -> ExitCode {
         eprintln!("{HELP}");
         return ExitCode::from(2);
     };
+    if operation == "file" {
+        let written = std::io::stdout().write_all(&file(&lists));
+        return written.map_or(ExitCode::FAILURE, |()| ExitCode::SUCCESS);
+    }
     let mut sum = 0;
     for _ in 0..times {
         match run(operation, program, &lists) {
