@@ -177,8 +177,8 @@ pub fn price(w: Weighing, pins: &[i32], macros: &[i32], bands: &[u64]) -> Priced
 }
 
 // Check a bought-in tree: what its edges, four numbers each, cost and their metal, or 11 to 18, then 33, 34 and 35, each over the whole
-// list. Which lists pass, that the order of the edges and of their ends does not matter, and that our own trees pass: `PromisedCheck`
-// (specs/Bought.antt).
+// list. Which lists pass, that the order of the edges and of their ends does not matter, and that every refined tree passes:
+// `PromisedCheck` (specs/Bought.antt).
 pub fn check_tree(w: Weighing, pins: &[i32], macros: &[i32], edges: &[i32]) -> Verdict
     ensures { λ r. ⌜ toldVerdict r ≡ checkedTree w (now (pins .entry)) (now (macros .entry)) (now (edges .entry)) ⌝ }
 {
