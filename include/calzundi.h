@@ -56,7 +56,7 @@
 #define CALZUNDI_H
 
 /* The version. It stands here and nowhere else; the tools take it from this line, and each change request raises the second number. */
-#define CALZUNDI_VERSION "1.8"
+#define CALZUNDI_VERSION "1.9"
 
 #include <stddef.h>
 #include <stdint.h>
@@ -87,6 +87,7 @@ extern "C" {
 #define CALZUNDI_EDGE_NUMBERS(m, k) (16 * CALZUNDI_POINTS(m, k))
 #define CALZUNDI_PATH_NUMBERS(m) (5 * (m))
 #define CALZUNDI_TREE_NUMBERS(m, k) (4 * (CALZUNDI_POINTS(m, k) + (m)))
+#define CALZUNDI_SLID_NUMBERS(m, k) (8 * (CALZUNDI_POINTS(m, k) + (m)))
 #define CALZUNDI_WIRE_NUMBERS(m, k) (8 * (CALZUNDI_POINTS(m, k) + (m)))
 #define CALZUNDI_DISTANCE_NUMBERS(m) ((m) * (m))
 
@@ -210,6 +211,23 @@ int32_t calzundi_refined_tree(const int32_t *pins, size_t pin_numbers, const int
                               calzundi_length *total, calzundi_length *metal);
 
 /*
+ * Slid tree: the refined tree with its slanted edges bent, and its bars, connected edges on one line, moved where that saves; its edges
+ * in order. It joins all pins as one tree, enters no interior and costs no more than the refined tree. Each edge is along one axis, a wire
+ * as it stands. Only where both places for some slanted edge's bend are taken is the refined tree given back as it was; its wires are then
+ * those of calzundi_wires. To draw each edge from its smaller place along x and then along y is right in both cases.
+ *
+ * edges  lent, at least CALZUNDI_SLID_NUMBERS(m, k); an edge is four numbers, its smaller place first
+ * count  how many edges were given
+ * total  the sum of their costs
+ * metal  the sum of their plain lengths, the metal to lay
+ *
+ * Refusals: 11 to 18, then 21.
+ */
+int32_t calzundi_slid_tree(const int32_t *pins, size_t pin_numbers, const int32_t *macros, size_t macro_numbers,
+                           int32_t weight_x, int32_t weight_y, int32_t *edges, size_t edge_numbers, size_t *count,
+                           calzundi_length *total, calzundi_length *metal);
+
+/*
  * Wires: the refined tree as it is drawn. Each edge, in order, gives a horizontal wire from its smaller place and then a vertical one to
  * its larger place; one of length zero is left out.
  *
@@ -258,7 +276,7 @@ int32_t calzundi_price(const int32_t *pins, size_t pin_numbers, const int32_t *m
  * metal  the sum of their plain lengths
  *
  * It passes exactly when every pin is among its points, its points and edges form one tree, every edge joins two different places clear of
- * each other, and every point with a single edge is a pin. A lone pin with no edges passes. Every refined tree passes.
+ * each other, and every point with a single edge is a pin. A lone pin with no edges passes. Every refined tree and every slid tree passes.
  *
  * Refusals: 11 to 18, then 33, then 34, then 35, each for the whole list before the next.
  */

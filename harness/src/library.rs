@@ -46,6 +46,15 @@ pub fn terminal_tree(
     lent::terminal_tree(lists(pins, macros, weights), paths).map_err(number)
 }
 
+fn given(tree: Result<lent::Tree, Refusal>) -> Result<(usize, i64, i64), u32> {
+    let lent::Tree {
+        edges,
+        total,
+        metal,
+    } = tree.map_err(number)?;
+    Ok((edges, total, metal))
+}
+
 /// "Refined tree": how many edges were given, their total, and the metal to lay.
 pub fn refined_tree(
     pins: &[i32],
@@ -53,8 +62,17 @@ pub fn refined_tree(
     weights: Weights,
     edges: &mut [i32],
 ) -> Result<(usize, i64, i64), u32> {
-    let given = lent::refined_tree(lists(pins, macros, weights), edges).map_err(number)?;
-    Ok((given.edges, given.total, given.metal))
+    given(lent::refined_tree(lists(pins, macros, weights), edges))
+}
+
+/// "Sliding bars": the same of the slid tree.
+pub fn slid_tree(
+    pins: &[i32],
+    macros: &[i32],
+    weights: Weights,
+    edges: &mut [i32],
+) -> Result<(usize, i64, i64), u32> {
+    given(lent::slid_tree(lists(pins, macros, weights), edges))
 }
 
 /// "Pass or fail for bought-in trees": the cost and the metal.

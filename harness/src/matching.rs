@@ -304,6 +304,16 @@ impl Case {
         )
     }
 
+    /// "Sliding bars."
+    pub fn slid_tree(&self) -> Matched {
+        self.one_space(
+            "slid tree",
+            8 * (self.points() + self.lists.pins.len() / 2),
+            |bits| bits as i32,
+            [library::slid_tree, operations::slid_tree],
+        )
+    }
+
     /// "Pass or fail for bought-in trees", of a list of edges; and the proved one once more with the net's lists and the edges in another
     /// order. The answer.
     pub fn check_tree(

@@ -104,6 +104,7 @@ fn the_header_works_out_what_to_lend() {
             (format!("EDGE_NUMBERS({sum_m}, {sum_k})"), 16 * n),
             (format!("PATH_NUMBERS({sum_m})"), 5 * m),
             (format!("TREE_NUMBERS({sum_m}, {sum_k})"), 4 * (n + m)),
+            (format!("SLID_NUMBERS({sum_m}, {sum_k})"), 8 * (n + m)),
             (format!("WIRE_NUMBERS({sum_m}, {sum_k})"), 8 * (n + m)),
             (format!("FILE_BYTES({sum_m}, {sum_k})"), 512 * blocks),
         ] {
@@ -129,6 +130,7 @@ fn null_with_a_count_of_zero() {
             "refined_tree(NULL, 0, NULL, 0, 1, 1, NULL, 0, &a, &t, &l)",
             11,
         ),
+        ("slid_tree(NULL, 0, NULL, 0, 1, 1, NULL, 0, &a, &t, &l)", 11),
         ("check_tree(NULL, 0, NULL, 0, 1, 1, NULL, 0, &t, &l)", 11),
         ("wires(NULL, 0, NULL, 0, 1, 1, NULL, 0, &a)", 11),
         ("grid_distances(NULL, 0, NULL, 0, 1, 1, NULL, 0, &a)", 11),
@@ -142,6 +144,7 @@ fn null_with_a_count_of_zero() {
             "refined_tree(pin, 2, NULL, 0, 1, 1, NULL, 0, &a, &t, &l)",
             21,
         ),
+        ("slid_tree(pin, 2, NULL, 0, 1, 1, NULL, 0, &a, &t, &l)", 21),
         ("check_tree(pin, 2, NULL, 0, 1, 1, pin, 2, &t, &l)", 33),
         ("check_tree(pin, 2, NULL, 0, 1, 1, equal, 4, &t, &l)", 34),
         ("check_tree(two, 4, NULL, 0, 1, 1, NULL, 0, &t, &l)", 35),

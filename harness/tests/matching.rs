@@ -98,6 +98,7 @@ fn the_largest_nets_with_the_greatest_weights() {
             matched(case.graph());
             matched(case.terminal_tree());
             matched(case.refined_tree());
+            matched(case.slid_tree());
             matched(case.wires());
             matched(case.price().map(|_| ()));
             matched(case.write_file());
@@ -259,6 +260,7 @@ fn trees_and_wires_on_refused_lists() {
         let case = refused(seed);
         matched(case.terminal_tree());
         matched(case.refined_tree());
+        matched(case.slid_tree());
         matched(case.wires());
     }
 }

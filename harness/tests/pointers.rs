@@ -66,14 +66,23 @@ fn terminal_tree(p: List<i32>, q: List<i32>, w: Weights, t: Space<i64>) -> Answe
     answer(code, &[count, total as usize])
 }
 
-fn refined_tree(p: List<i32>, q: List<i32>, w: Weights, e: Space<i32>) -> Answer {
+/// The refined or the slid tree, which are called alike.
+fn tree(call: library::Tree, p: List<i32>, q: List<i32>, w: Weights, e: Space<i32>) -> Answer {
     let (mut count, mut total, mut metal) = (COUNT, TOTAL, TOTAL);
     let code = unsafe {
-        library::calzundi_refined_tree(
+        call(
             p.0, p.1, q.0, q.1, w.x, w.y, e.0, e.1, &mut count, &mut total, &mut metal,
         )
     };
     answer(code, &[count, total as usize, metal as usize])
+}
+
+fn refined_tree(p: List<i32>, q: List<i32>, w: Weights, e: Space<i32>) -> Answer {
+    tree(library::calzundi_refined_tree, p, q, w, e)
+}
+
+fn slid_tree(p: List<i32>, q: List<i32>, w: Weights, e: Space<i32>) -> Answer {
+    tree(library::calzundi_slid_tree, p, q, w, e)
 }
 
 fn check_tree(p: List<i32>, q: List<i32>, w: Weights, e: List<i32>) -> Answer {
@@ -116,21 +125,24 @@ fn read_file(b: List<u8>, p: Space<i32>, q: Space<i32>) -> Answer {
 }
 
 /// Every operation; the file is read back from what was written.
-fn all(p: List<i32>, q: List<i32>, w: Weights, lent: &mut Lent) -> [Answer; 7] {
+fn all(p: List<i32>, q: List<i32>, w: Weights, lent: &mut Lent) -> [Answer; 8] {
     let checked = check(p, q, w);
     let graph = graph(p, q, w, lent.vertices.space(), lent.edges.space());
     let terminal = terminal_tree(p, q, w, lent.paths.space());
     let refined = refined_tree(p, q, w, lent.tree.space());
+    let slid = slid_tree(p, q, w, lent.slid.space());
     let wires = wires(p, q, w, lent.wires.space());
     let written = write_file(p, q, w, lent.bytes.space());
     let file = lent.bytes.list();
     let read = read_file(file, lent.pins.space(), lent.macros.space());
-    [checked, graph, terminal, refined, wires, written, read]
+    [
+        checked, graph, terminal, refined, slid, wires, written, read,
+    ]
 }
 
 /// The answers of refusals by these numbers: counts, totals, the metal and the weights of a read are as they were.
-fn refused(numbers: [i32; 7]) -> [Answer; 7] {
-    let counts = [0, 2, 2, 3, 1, 1];
+fn refused(numbers: [i32; 8]) -> [Answer; 8] {
+    let counts = [0, 2, 2, 3, 3, 1, 1];
     std::array::from_fn(|i| match counts.get(i) {
         Some(&counts) => answer(numbers[i], &[COUNT; 3][..counts]),
         None => refused_read(numbers[i]),
@@ -269,6 +281,7 @@ struct Lent {
     edges: Fenced<i32>,
     paths: Fenced<i64>,
     tree: Fenced<i32>,
+    slid: Fenced<i32>,
     wires: Fenced<i32>,
     bytes: Fenced<u8>,
     pins: Fenced<i32>,
@@ -285,6 +298,7 @@ impl Lent {
             edges: numbers(16 * n),
             paths: Fenced::of(&vec![TOTAL; 5 * m], at),
             tree: numbers(4 * (n + m)),
+            slid: numbers(8 * (n + m)),
             wires: numbers(8 * (n + m)),
             bytes: Fenced::of(
                 &vec![BEFORE; 512 * (1 + m.div_ceil(60) + k.div_ceil(30))],
@@ -301,6 +315,7 @@ impl Lent {
             self.edges.bytes(),
             self.paths.bytes(),
             self.tree.bytes(),
+            self.slid.bytes(),
             self.wires.bytes(),
             self.bytes.bytes(),
             self.pins.bytes(),
@@ -315,7 +330,7 @@ impl Lent {
 }
 
 /// What the safe calls answer for an allowed net, and what they leave in lent vectors.
-fn by_slices(lists: &Lists) -> ([Answer; 7], Vec<u8>) {
+fn by_slices(lists: &Lists) -> ([Answer; 8], Vec<u8>) {
     let (pins, macros, weights) = lists.parts();
     let (m, k) = (pins.len() / 2, macros.len() / 4);
     let n = m + 4 * k;
@@ -323,12 +338,14 @@ fn by_slices(lists: &Lists) -> ([Answer; 7], Vec<u8>) {
     let (mut vertices, mut edges, mut paths) =
         (numbers(2 * n), numbers(16 * n), vec![TOTAL; 5 * m]);
     let (mut tree, mut drawn) = (numbers(4 * (n + m)), numbers(8 * (n + m)));
+    let mut moved = numbers(8 * (n + m));
     let mut file = vec![BEFORE; 512 * (1 + m.div_ceil(60) + k.div_ceil(30))];
     let (mut pins_read, mut macros_read) = (numbers(128), numbers(256));
     library::check(pins, macros, weights).unwrap();
     let (v, e) = library::graph(pins, macros, weights, &mut vertices, &mut edges).unwrap();
     let (p, terminal) = library::terminal_tree(pins, macros, weights, &mut paths).unwrap();
     let (t, refined, metal) = library::refined_tree(pins, macros, weights, &mut tree).unwrap();
+    let (l, slid, slid_metal) = library::slid_tree(pins, macros, weights, &mut moved).unwrap();
     let w = library::wires(pins, macros, weights, &mut drawn).unwrap();
     let given = library::write_file(pins, macros, weights, &mut file).unwrap();
     let (a, b, read) = library::read_file(&file, &mut pins_read, &mut macros_read).unwrap();
@@ -338,6 +355,7 @@ fn by_slices(lists: &Lists) -> ([Answer; 7], Vec<u8>) {
         answer(0, &[v, e]),
         answer(0, &[p, terminal as usize]),
         answer(0, &[t, refined as usize, metal as usize]),
+        answer(0, &[l, slid as usize, slid_metal as usize]),
         answer(0, &[w]),
         answer(0, &[given]),
         answer(0, &[a, b, read.x as usize, read.y as usize]),
@@ -347,6 +365,7 @@ fn by_slices(lists: &Lists) -> ([Answer; 7], Vec<u8>) {
         raw(&edges),
         raw(&paths),
         raw(&tree),
+        raw(&moved),
         raw(&drawn),
         raw(&file),
         raw(&pins_read),
@@ -385,11 +404,12 @@ fn null_everywhere() {
         graph(p, q, w, no_space(), no_space()),
         terminal_tree(p, q, w, no_space()),
         refined_tree(p, q, w, no_space()),
+        slid_tree(p, q, w, no_space()),
         wires(p, q, w, no_space()),
         write_file(p, q, w, no_space()),
         read_file(none(), no_space(), no_space()),
     ];
-    assert_eq!(answers, refused([11, 11, 11, 11, 11, 11, 21]));
+    assert_eq!(answers, refused([11, 11, 11, 11, 11, 11, 11, 21]));
 }
 
 #[test]
@@ -402,11 +422,12 @@ fn null_spaces() {
             graph(p, q, w, no_space(), no_space()),
             terminal_tree(p, q, w, no_space()),
             refined_tree(p, q, w, no_space()),
+            slid_tree(p, q, w, no_space()),
             wires(p, q, w, no_space()),
             write_file(p, q, w, no_space()),
             read_file(lent.bytes.list(), no_space(), no_space()),
         ];
-        assert_eq!(answers, refused([21; 7]));
+        assert_eq!(answers, refused([21; 8]));
         // One of two.
         let short = answer(21, &[COUNT, COUNT]);
         assert_eq!(graph(p, q, w, no_space(), lent.edges.space()), short);
@@ -440,8 +461,12 @@ fn lists_of_none() {
         let mut lent = Lent::to(&one, At::Back);
         let mut answers = all(empty, list(&one.macros), one.weights, &mut lent);
         // Nothing was written, so what is read is no file.
-        answers[6] = read_file((address.cast(), 0), lent.pins.space(), lent.macros.space());
-        assert_eq!(answers, refused([11, 11, 11, 11, 11, 11, 1]), "{address:?}");
+        answers[7] = read_file((address.cast(), 0), lent.pins.space(), lent.macros.space());
+        assert_eq!(
+            answers,
+            refused([11, 11, 11, 11, 11, 11, 11, 1]),
+            "{address:?}"
+        );
         assert!(lent.untouched());
     }
 }
@@ -490,7 +515,7 @@ fn weights_that_are_refused() {
             let mut lent = Lent::to(&lists, At::Back);
             let answers = all(p, q, Weights { x, y }, &mut lent);
             // Nothing was written, so what is read has wrong sums.
-            assert_eq!(answers, refused([18, 18, 18, 18, 18, 18, 2]), "{x} {y}");
+            assert_eq!(answers, refused([18, 18, 18, 18, 18, 18, 18, 2]), "{x} {y}");
             assert!(lent.untouched());
             let bands = [u64::MAX, 1];
             let charged = price(p, q, Weights { x, y }, (bands.as_ptr(), bands.len()));
@@ -576,8 +601,8 @@ fn bands_are_read_and_nothing_else() {
 fn edges_are_read_and_nothing_else() {
     let Lists { pins, macros, .. } = net(Kind::Largest, 1);
     let one = Weights::ONE;
-    let mut space = vec![0; 4 * 384];
-    let (count, total, metal) = library::refined_tree(&pins, &macros, one, &mut space).unwrap();
+    let mut space = vec![0; 8 * 384];
+    let (count, total, metal) = library::slid_tree(&pins, &macros, one, &mut space).unwrap();
     let tree = &space[..4 * count];
     let passed = answer(0, &[total as usize, metal as usize]);
     let refused = |number| answer(number, &[COUNT, COUNT]);

@@ -15,11 +15,12 @@ const STACK: usize = calzundi::STACK_BYTES;
 fn call_all(lists: &Lists) {
     let (pins, macros, weights) = lists.parts();
     let (m, n) = (pins.len() / 2, pins.len() / 2 + macros.len());
-    let mut numbers = vec![0; 16 * n];
+    let mut numbers = vec![0; 16 * n + 8 * m];
     library::check(pins, macros, weights).unwrap();
     library::graph(pins, macros, weights, &mut vec![0; 2 * n], &mut numbers).unwrap();
     library::terminal_tree(pins, macros, weights, &mut vec![0; 5 * m]).unwrap();
-    let (edges, ..) = library::refined_tree(pins, macros, weights, &mut numbers).unwrap();
+    library::refined_tree(pins, macros, weights, &mut numbers).unwrap();
+    let (edges, ..) = library::slid_tree(pins, macros, weights, &mut numbers).unwrap();
     library::check_tree(pins, macros, weights, &numbers[..4 * edges]).unwrap();
     library::wires(pins, macros, weights, &mut numbers).unwrap();
     library::price(pins, macros, weights, &[u64::MAX, 1_000_000]).unwrap();

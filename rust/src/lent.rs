@@ -7,8 +7,23 @@ use crate::{Refusal, Weights};
 
 /// The bare calls, as include/calzundi.h declares them and with what it asks of pointers.
 pub mod bare {
-    /// The totals of both trees, as wide as the library writes them.
+    /// The totals of trees, as wide as the library writes them.
     pub type Length = i64;
+
+    /// The calls of the refined and of the slid tree have one form.
+    pub type Tree = unsafe extern "C" fn(
+        *const i32,
+        usize,
+        *const i32,
+        usize,
+        i32,
+        i32,
+        *mut i32,
+        usize,
+        *mut usize,
+        *mut Length,
+        *mut Length,
+    ) -> i32;
 
     extern "C" {
         pub fn calzundi_check(
@@ -49,6 +64,20 @@ pub mod bare {
         ) -> i32;
 
         pub fn calzundi_refined_tree(
+            pins: *const i32,
+            pins_len: usize,
+            macros: *const i32,
+            macros_len: usize,
+            weight_x: i32,
+            weight_y: i32,
+            edges: *mut i32,
+            edges_len: usize,
+            count: *mut usize,
+            total: *mut Length,
+            metal: *mut Length,
+        ) -> i32;
+
+        pub fn calzundi_slid_tree(
             pins: *const i32,
             pins_len: usize,
             macros: *const i32,
@@ -242,16 +271,15 @@ pub fn terminal_tree(lists: Lists, paths: &mut [i64]) -> Result<(usize, i64), Re
     answer(code, &[count as u64, total as u64], (count, total))
 }
 
-/// What a refined tree gives: how many edges, their total, and the metal to lay.
+/// What a refined or a slid tree gives: how many edges, their total, and the metal to lay.
 #[derive(Clone, Copy, Debug, PartialEq, Eq)]
-pub struct Refined {
+pub struct Tree {
     pub edges: usize,
     pub total: i64,
     pub metal: i64,
 }
 
-/// Refined tree.
-pub fn refined_tree(lists: Lists, edges: &mut [i32]) -> Result<Refined, Refusal> {
+fn tree(call: bare::Tree, lists: Lists, edges: &mut [i32]) -> Result<Tree, Refusal> {
     let Lists {
         pins,
         macros,
@@ -261,7 +289,7 @@ pub fn refined_tree(lists: Lists, edges: &mut [i32]) -> Result<Refined, Refusal>
     let (mut total, mut metal) = (UNTOUCHED as i64, UNTOUCHED as i64);
     // SAFETY: as for `graph`.
     let code = unsafe {
-        bare::calzundi_refined_tree(
+        call(
             pins.as_ptr(),
             pins.len(),
             macros.as_ptr(),
@@ -275,12 +303,22 @@ pub fn refined_tree(lists: Lists, edges: &mut [i32]) -> Result<Refined, Refusal>
             &mut metal,
         )
     };
-    let given = Refined {
+    let given = Tree {
         edges: count,
         total,
         metal,
     };
     answer(code, &[count as u64, total as u64, metal as u64], given)
+}
+
+/// Refined tree.
+pub fn refined_tree(lists: Lists, edges: &mut [i32]) -> Result<Tree, Refusal> {
+    tree(bare::calzundi_refined_tree, lists, edges)
+}
+
+/// Slid tree.
+pub fn slid_tree(lists: Lists, edges: &mut [i32]) -> Result<Tree, Refusal> {
+    tree(bare::calzundi_slid_tree, lists, edges)
 }
 
 /// Check a bought-in tree: its cost and its metal. An edge is four numbers, from either end.

@@ -1,8 +1,8 @@
 //! A tree router whose every answer is proved, from Rust.
 //!
-//! A [`Net`] is pins, macros and weights; its calls give trees, wires, a net file or a price as values of their own, or check the tree of
-//! another router, or give a [`Refusal`] that says why not. All the work is the static library's, of which every function is proved to do
-//! what the documents say; this crate only lends the space and sorts the numbers into structs, and is tested.
+//! A [`Net`] is pins, macros and weights; its calls give trees, wires, distances, a net file or a price as values of their own, or check
+//! the tree of another router, or give a [`Refusal`] that says why not. All the work is the static library's, of which every function is
+//! proved to do what the documents say; this crate only lends the space and sorts the numbers into structs, and is tested.
 //!
 //! ```
 //! use calzundi::{Net, Refusal};
@@ -230,9 +230,9 @@ pub struct TerminalTree {
     pub total: i64,
 }
 
-/// The refined tree: what is laid.
+/// A tree that can be laid.
 #[derive(Clone, Debug, Default, PartialEq, Eq)]
-pub struct RefinedTree {
+pub struct Tree {
     /// The edges in order.
     pub edges: Vec<Edge>,
     /// The sum of their costs.
@@ -240,6 +240,13 @@ pub struct RefinedTree {
     /// The metal to lay: the sum of their plain lengths.
     pub metal: i64,
 }
+
+/// The refined tree: what is laid unless bars slide.
+pub type RefinedTree = Tree;
+
+/// The slid tree: the refined one with its slanted edges bent, whose bars have moved where that saves; or the refined one as it was, where
+/// both places for a bend are taken.
+pub type SlidTree = Tree;
 
 /// What a bought-in tree that passes comes to.
 #[derive(Clone, Copy, Debug, Default, PartialEq, Eq)]
@@ -344,17 +351,17 @@ impl Net {
 
     /// The refined tree, with the metal to lay.
     pub fn refined_tree(&self) -> Result<RefinedTree, Refusal> {
-        let mut numbers = vec![0; 4 * self.tree_points()];
-        let given = lent::refined_tree(self.flat().lists(), &mut numbers)?;
-        Ok(RefinedTree {
-            edges: edges_of(&numbers[..4 * given.edges]),
-            total: given.total,
-            metal: given.metal,
-        })
+        self.tree(lent::refined_tree, 4 * self.tree_points())
+    }
+
+    /// The slid tree: never dearer than the refined one. Its edges are level or upright, so each is a wire; only where both places for the
+    /// bend of a slanted edge are taken is it the refined tree as it was, with [`Net::wires`] as its wires.
+    pub fn slid_tree(&self) -> Result<SlidTree, Refusal> {
+        self.tree(lent::slid_tree, 8 * self.tree_points())
     }
 
     /// Whether a tree of another router passes for this net: one tree of clear edges that holds every pin, and every point with a single
-    /// edge a pin. An edge may be given from either end.
+    /// edge a pin. An edge may be given from either end. Every refined tree and every slid tree passes.
     pub fn check_tree(&self, edges: &[Edge]) -> Result<Passed, Refusal> {
         let ends = |edge: &Edge| [edge.first.x, edge.first.y, edge.second.x, edge.second.y];
         let numbers: Vec<i32> = edges.iter().flat_map(ends).collect();
@@ -409,6 +416,21 @@ impl Net {
             pins: pins.map(|pin| Pin::new(pin[0], pin[1])).collect(),
             macros: macros.map(|m| Macro::new(m[0], m[1], m[2], m[3])).collect(),
             weights: read.weights,
+        })
+    }
+
+    /// A tree by one of the two calls that give one, into so many numbers.
+    fn tree(
+        &self,
+        call: fn(lent::Lists, &mut [i32]) -> Result<lent::Tree, Refusal>,
+        numbers: usize,
+    ) -> Result<Tree, Refusal> {
+        let mut numbers = vec![0; numbers];
+        let given = call(self.flat().lists(), &mut numbers)?;
+        Ok(Tree {
+            edges: edges_of(&numbers[..4 * given.edges]),
+            total: given.total,
+            metal: given.metal,
         })
     }
 

@@ -80,11 +80,15 @@ fn answers_are_the_second_programs() {
                     .sum::<i64>()
             );
 
-            let passed = Passed {
-                cost: tree.total,
-                metal: tree.metal,
-            };
-            assert_eq!(net.check_tree(&tree.edges), Ok(passed), "{name}");
+            let slid = net.slid_tree().unwrap();
+            let (count, total, metal) =
+                operations::slid_tree(pins, macros, weights, &mut numbers).unwrap();
+            assert_eq!(flat(slid.edges.iter()), numbers[..4 * count], "{name}");
+            assert_eq!((slid.total, slid.metal), (total, metal), "{name}");
+            for tree in [tree, slid] {
+                let (cost, metal) = (tree.total, tree.metal);
+                assert_eq!(net.check_tree(&tree.edges), Ok(Passed { cost, metal }));
+            }
 
             let wires = net.wires().unwrap();
             let count = operations::wires(pins, macros, weights, &mut numbers).unwrap();
@@ -125,6 +129,7 @@ fn every_call_refuses_alike() {
             assert_eq!(net.graph(), Err(refusal));
             assert_eq!(net.terminal_tree(), Err(refusal));
             assert_eq!(net.refined_tree(), Err(refusal));
+            assert_eq!(net.slid_tree(), Err(refusal));
             assert_eq!(net.check_tree(&[]), Err(refusal));
             assert_eq!(net.wires(), Err(refusal));
             assert_eq!(net.price(&bands), Err(refusal));

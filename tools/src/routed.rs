@@ -1,6 +1,8 @@
 //! A routed net, as text and as JSON.
 
-use calzundi::{Edge, Net, Path, Place, RefinedTree, Refusal, TerminalTree, Weights, Wire};
+use calzundi::{
+    Edge, Net, Path, Place, RefinedTree, Refusal, SlidTree, TerminalTree, Weights, Wire,
+};
 
 use crate::fingerprint::fingerprint;
 use crate::source::{Refused, Source};
@@ -37,13 +39,29 @@ impl Routed {
 
     /// All that the program `route` prints.
     pub fn text(&self) -> String {
-        let mut text = self.header() + "\n";
-        for edge in &self.refined.edges {
-            let Edge { first, second } = edge;
-            let (a, b) = (pair(*first), pair(*second));
-            text += &format!("{a} {b} {}\n", edge.cost(self.weights));
-        }
-        text
+        self.header() + "\n" + &self.edges(&self.refined.edges)
+    }
+
+    /// The first line that `slide` prints.
+    pub fn slid_header(&self, slid: &SlidTree) -> String {
+        let Routed { pins, macros, .. } = self;
+        let (terminal, refined) = (self.terminal.total, self.refined.total);
+        let (total, metal) = (slid.total, slid.metal);
+        format!("pins {pins} macros {macros} terminal {terminal} refined {refined} slid {total} metal {metal}")
+    }
+
+    /// All that `slide` prints.
+    pub fn slid_text(&self, slid: &SlidTree) -> String {
+        self.slid_header(slid) + "\n" + &self.edges(&slid.edges)
+    }
+
+    /// A line for each edge: its two places and its cost.
+    fn edges(&self, edges: &[Edge]) -> String {
+        let line = |edge: &Edge| {
+            let (a, b) = (pair(edge.first), pair(edge.second));
+            format!("{a} {b} {}\n", edge.cost(self.weights))
+        };
+        edges.iter().map(line).collect()
     }
 }
 

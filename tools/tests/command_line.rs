@@ -11,6 +11,7 @@ use reference::generate::{
 };
 use reference::lists::Lists;
 use reference::route::route;
+use reference::worked::sliding;
 use tools::routed::{wires_text, Routed};
 use tools::source::source;
 use tools::{text, tree};
@@ -352,15 +353,37 @@ fn distances_are_a_table() {
     );
 }
 
-/// A net with a shorter tree than ours.
-const SHORTER: &[u8] = b"pin 2 3\npin 3 0\npin 0 1\nmacro 0 2 1 4\n";
+/// The first worked net of [5]: its upright bar moves, and the tree is one cheaper.
+const SLIDING: &[u8] = b"pin 2 3\npin 3 0\npin 0 1\nmacro 0 2 1 4\n";
 
-/// `verify` passes what `route` prints, and edges alone, from either end; costs are worked out.
+/// `slide` prints the slid tree as `route` does the refined one; a refusal as `route` does.
+#[test]
+fn slide_prints_the_slid_tree() {
+    let tree = "pins 3 macros 1 terminal 8 refined 7 slid 6 metal 6
+0 1 2 1 2
+2 1 2 2 1
+2 1 3 1 1
+2 2 2 3 1
+3 0 3 1 1
+";
+    assert_eq!(printed(&["slide", "-"], SLIDING), tree);
+    for worked in sliding() {
+        let net = made(&worked.lists);
+        let said = printed(&["slide", "-"], text::print(&net).as_bytes());
+        let totals = format!(" refined {} slid {} metal ", worked.refined, worked.slid);
+        assert!(said.contains(&totals), "{}: {said}", worked.name);
+    }
+    let output = run(&["slide", "-"], b"pin 0 0\npin 0 0\n");
+    assert_eq!(output.status.code(), Some(1));
+    assert_eq!(output.stdout, b"refused 15\n");
+}
+
+/// `verify` passes what `route` and `slide` print, and edges alone, from either end; costs are worked out.
 #[test]
 fn verify_passes_trees() {
     let folder = folder("verify");
     let net = folder.join("net.txt");
-    fs::write(&net, SHORTER).unwrap();
+    fs::write(&net, SLIDING).unwrap();
     let passes = |tree: &[u8], said: &str| {
         let answer = printed(&["verify", word(&net), "-"], tree);
         assert_eq!(answer, format!("standard input: passes, {said}\n"));
@@ -369,14 +392,18 @@ fn verify_passes_trees() {
         &written(&["route", word(&net)], b""),
         "edges 4 cost 7 metal 7",
     );
+    passes(
+        &written(&["slide", word(&net)], b""),
+        "edges 5 cost 6 metal 6",
+    );
     let own = b"# mine\n3 0 3 1\n\n3 1 2 1 99 # any cost\n2 1 0 1\n2 1 2 3\n";
     passes(own, "edges 4 cost 6 metal 6");
     let tree = folder.join("tree.txt");
     fs::write(&tree, own).unwrap();
-    let answer = printed(&["verify", "-", word(&tree)], SHORTER);
+    let answer = printed(&["verify", "-", word(&tree)], SLIDING);
     let expected = format!("{}: passes, edges 4 cost 6 metal 6\n", tree.display());
     assert_eq!(answer, expected);
-    let weighed = [&b"weights 2 3\n"[..], SHORTER].concat();
+    let weighed = [&b"weights 2 3\n"[..], SLIDING].concat();
     let answer = printed(&["verify", "-", word(&tree)], &weighed);
     assert!(answer.ends_with("cost 15 metal 6\n"), "{answer}");
     let (three, tree_of_another) = (example("three-pins"), root().join("examples/tree.txt"));
@@ -640,7 +667,7 @@ fn help_and_usage() {
         }
         if command != "batch" {
             let words = [command, "no/such/file", "no/such/other"];
-            let words = if ["route", "distances"].contains(&command) {
+            let words = if ["route", "slide", "distances"].contains(&command) {
                 &words[..2]
             } else {
                 &words

@@ -75,9 +75,9 @@ fn discs(picture: &str) -> Vec<(f64, f64)> {
 fn seen(net: &Net, name: &str) {
     let subject = Subject::of(net).unwrap();
     drawn(&subject, subject.routed.refined.metal, name);
-    let refined = subject.routed.refined.clone();
-    let metal = refined.metal;
-    drawn(&subject.beside("same tree", refined), metal, name);
+    let slid = net.slid_tree().unwrap();
+    let metal = slid.metal;
+    drawn(&subject.beside("slid tree", slid), metal, name);
 }
 
 fn drawn(subject: &Subject, metal: i64, name: &str) {
@@ -236,12 +236,21 @@ fn the_page_is_whole() {
     }
 }
 
-/// `draw --tree` has the refined tree and one of another router, and only where it passes for the net.
+/// `draw --slid` has the refined and the slid tree; `draw --tree` a tree of another router, and only where it passes for the net.
 #[test]
 fn another_tree_beside_the_refined_one() {
     let folder = folder("beside");
     let [net, tree, picture] = ["net.txt", "tree.txt", "net.svg"].map(|name| folder.join(name));
     fs::write(&net, "pin 2 3\npin 3 0\npin 0 1\nmacro 0 2 1 4\n").unwrap();
+    let slid = printed(&["draw", "--slid", word(&net)], b"");
+    for words in [
+        ">refined tree 7<",
+        ">slid tree 6<",
+        ">metal to lay 6 by the slid tree<",
+    ] {
+        assert!(slid.contains(words), "{words}");
+    }
+    assert!(!slid.contains(">terminal tree"));
     fs::write(&tree, "3 0 3 1\n3 1 2 1\n2 1 0 1\n2 1 2 3\n").unwrap();
     let words = ["draw", "--tree", word(&tree), word(&net), word(&picture)];
     assert_eq!(printed(&words, b""), "");
@@ -262,6 +271,8 @@ fn another_tree_beside_the_refined_one() {
     let over = ["draw", "--tree", word(&tree), word(&net), word(&tree)];
     fs::write(&tree, printed(&["route", word(&net)], b"")).unwrap();
     assert!(said(&over, b"", 2).contains("is not written over"));
-    let wrong = said(&["draw", "--html", "--tree=x", word(&net)], b"", 2);
-    assert!(wrong.contains("take one of them"), "{wrong}");
+    for words in [["--html", "--slid"], ["--slid", "--tree=x"]] {
+        let wrong = said(&["draw", words[0], words[1], word(&net)], b"", 2);
+        assert!(wrong.contains("take one of them"), "{wrong}");
+    }
 }

@@ -23,6 +23,7 @@ ghost use Rattle.terminal.specs.Tree.{pathNumbers};
 ghost use Rattle.router.specs.Graph.{netVertices, netEdges, graphed};
 ghost use Rattle.router.specs.Terminal.{pathsOf, terminalTree};
 ghost use Rattle.router.specs.Refined.{laidOf, refinedTree};
+ghost use Rattle.router.specs.Slid.{slidOf, slidTree};
 ghost use Rattle.router.specs.Wires.{wiresOf, wired};
 ghost use Rattle.router.specs.Distances.{gridDistances};
 ghost use Rattle.router.specs.Price.{netPrice};
@@ -137,6 +138,37 @@ pub extern "C" fn calzundi_refined_tree(
 {
     let weights = weighing(x, y);
     let answer = router::refined_tree(weights, pins, macros, &mut *edges);
+    match answer {
+        TreeAnswer::Given(given, cost, length) => {
+            *count = given;
+            *total = cost;
+            *metal = length;
+            0
+        }
+        TreeAnswer::Refused(refusal) => refusal.number(),
+    }
+}
+
+// 0, the number of edges given, their total and the metal to lay, or the number of the refusal.
+#[no_mangle]
+pub extern "C" fn calzundi_slid_tree(
+    pins: &[i32],
+    macros: &[i32],
+    x: i32,
+    y: i32,
+    edges: &mut [i32],
+    count: &mut usize,
+    total: &mut i64,
+    metal: &mut i64,
+) -> i32
+    ensures { λ r. ⌜ TreeHanded
+        (slidTree (weighing x y) (now (pins .entry)) (now (macros .entry)) (length (now (edges .entry))))
+        (flat edgeNumbers (slidOf (weighing x y) (now (pins .entry)) (now (macros .entry))))
+        (now (edges .entry)) (now (count .entry)) (now (total .entry)) (now (metal .entry)) r
+        (now (edges .exit)) (now (count .exit)) (now (total .exit)) (now (metal .exit)) ⌝ }
+{
+    let weights = weighing(x, y);
+    let answer = router::slid_tree(weights, pins, macros, &mut *edges);
     match answer {
         TreeAnswer::Given(given, cost, length) => {
             *count = given;

@@ -1,28 +1,27 @@
--- The check of a bought-in tree: what is promised of it, from the check of the net alone; and that the refined tree passes. Its edges are
--- in order, so none stands twice; pruning has left no loose end; all its points are in range.
+-- The check of a bought-in tree: what is promised of it, from the check of the net alone; and that the refined tree and the slid tree
+-- pass. Their edges are in order, so none stands twice; neither has a loose end; all their points are in range.
 -- Assumes nothing.
-use mathlib.Core.Path.{_≡_, refl, sym, ap₂, _∙_}
-use mathlib.Core.Logic.{inl, inr}
+use mathlib.Core.Path.{_≡_, refl, sym, _∙_}
 use mathlib.Core.List.{List, [], _∷_, Perm·refl}
-use Prim.Native.Nat.{ℕ, _≤_}
+use Prim.Native.Nat.{_≤_}
 use native.Mathlib.Omega.{arith}
 use lib.IntN.{ℤ, pos}
 use lib.ListN.{length}
 use Rattle.lists.specs.Any.{any}
-use Rattle.lists.specs.Member.{_∈_, Once}
+use Rattle.lists.specs.Member.{_∈_}
 use Rattle.lists.specs.Total.{total}
-use Rattle.lists.proofs.MemberLaws.{rest-or, rest-in, rest-gone, is-in}
-use Rattle.lists.proofs.PermLaws.{before-differs}
-use Rattle.lists.proofs.SortedLaws.{ascending-once}
-use Rattle.lists.proofs.TestLaws.{by, either, differ}
+use Rattle.lists.proofs.MemberLaws.{is-in}
+use Rattle.lists.proofs.TestLaws.{by, either}
 use Rattle.lent.specs.Told.{refused, given}
 use Rattle.lent.specs.Entries.{flat}
 use Rattle.lent.proofs.AfterLaws.{told-apart}
 use Rattle.joined.specs.Cost.{lengths}
 use Rattle.joined.specs.Joined.{Link, others}
+use Rattle.joined.specs.OneTree.{Simple}
+use Rattle.joined.proofs.OtherLaws.{link-others}
 use Rattle.plane.specs.declared.Place.{Place}
 use Rattle.plane.specs.Flat.{macrosOf}
-use Rattle.plane.proofs.PlaceOrder.{place-order, place-same}
+use Rattle.plane.proofs.PlaceOrder.{place-same}
 use Rattle.net.specs.Net.{Net, netOf, weightsOf}
 use Rattle.net.specs.declared.Net.{Net as Counts}
 use Rattle.net.specs.declared.Weighing.{Weighing}
@@ -32,7 +31,6 @@ use Rattle.net.specs.Allowed.{Allowed}
 use Rattle.net.proofs.AllowedLaws.{given-allowed}
 use Rattle.net.proofs.PinLaws.{length-pins}
 use Rattle.graph.specs.Numbers.{edgeNumbers}
-use Rattle.graph.proofs.GraphBounds.{spanning-inside, vertex-in-range}
 use Rattle.bought.specs.Bounds.{boughtBound}
 use Rattle.bought.specs.Edges.{edgesOf}
 use Rattle.bought.specs.Passes.{Single, Passes}
@@ -42,75 +40,39 @@ use Rattle.bought.proofs.PassLaws.{passes-given, given-passes, pin-held, twice-
 use Rattle.bought.proofs.LoneLaws.{lone-passes, lone-fails}
 use Rattle.bought.proofs.OrderLaws.{same-bought}
 use Rattle.bought.proofs.GivenLaws.{numbers-pass, firstPin, first-pin}
-use Rattle.rules.specs.Edges.{Edge, edgeBefore}
-use Rattle.rules.specs.Terminal.{Path}
-use Rattle.rules.specs.Refined.{EndOf, Loose, Refined}
-use Rattle.rules.specs.Demand.{RefinedTree}
-use Rattle.rules.proofs.EdgeLaws.{edge-order}
-use Rattle.rules.proofs.RefinedRange.{Ranged, refined-in-range}
-use Rattle.router.specs.Graph.{netEdges}
-use Rattle.router.specs.Refined.{laidOf, laidTotal, metalOf}
+use Rattle.rules.specs.Edges.{Edge}
+use Rattle.rules.proofs.RefinedRange.{Ranged}
+use Rattle.slide.specs.Promise.{Given}
+use Rattle.slide.proofs.SlidSound.{simple}
+use Rattle.router.specs.Refined.{totalIn, laidOf, laidTotal, metalOf}
+use Rattle.router.specs.Slid.{slidOf, slidTotal, slidMetal}
 use Rattle.router.specs.Bought.{checkedTree, Listed, sumsOf, PromisedCheck}
-use Rattle.router.specs.Published.{Promised}
 use Rattle.router.proofs.AnswerLaws.{only-given}
-use Rattle.router.proofs.Published.{promised}
+use Rattle.router.proofs.SlidLaws.{refined-given, refined-ranged, refined-few, slid-refined, slid-few, promised-slid}
 
--- Our refined tree
+-- Our trees
 
-module _ {net : Net} {G : List Edge} {ks : List Path} {rs : List Edge} (t : RefinedTree net ks rs) (r : Refined net G ks rs) where
-  once-each : Once rs
-  once-each = ascending-once edgeBefore edge-order rs (t .in-order)
+module _ {net : Net} {T : List Edge} (g : Given net T) where
+  simple-edges : Simple T
+  simple-edges = simple (g .smaller) (g .ordered)
 
-  one-way : (a b : Place) → (a, b) ∈ rs → (b, a) ∈ rs → ⊥
-  one-way a b m k =
-      differ (place-order .along a b a (t .smaller-first (a, b) m) (t .smaller-first (b, a) k)) (place-order .never a)
-
-  no-twice : (a b : Place) (l : Link rs a b) → Link (others l) a b → ⊥
-  unfolding others
-  no-twice a b (inl m) (inl i) = rest-gone m once-each i
-  no-twice a b (inl m) (inr i) = one-way a b m (rest-in m i)
-  no-twice a b (inr m) (inl i) = one-way a b (rest-in m i) m
-  no-twice a b (inr m) (inr i) = rest-gone m once-each i
-
-  -- a point with a single edge that is no pin would be a loose end
-  all-pinned : (v : Place) → Single rs v → v ∈ net .pins
-  unfolding others
+  all-pinned : (v : Place) → Single T v → v ∈ net .pins
   all-pinned v s = at (is-in place-same v (net .pins))
     where
-      link-of : (f : Edge) {L : List Edge} → f ∈ L → EndOf v f → (w : Place) × Link L v w
-      link-of f i (inl e) = (f .1, inl (rw e i))
-      link-of f i (inr e) = (f .0, inr (rw e i))
-
-      loose : (v ∈ net .pins → ⊥) → (l : Link rs v (s .other)) → ((w : Place) → Link (others l) v w → ⊥) → (e : Edge) × Loose net rs v e
-      loose n (inl m) alone = (
-        (v, s .other),
-        record {
-          free = n;
-          edge = m;
-          end = inl refl;
-          single = λ f i k. either (λ e. e) (λ j. let w = link-of f j k in absurd (alone (w .0) (w .1))) (rest-or m i);
-        },
-      )
-      loose n (inr m) alone = (
-        (s .other, v),
-        record {
-          free = n;
-          edge = m;
-          end = inr refl;
-          single = λ f i k. either (λ e. e) (λ j. let w = link-of f j k in absurd (alone (w .0) (w .1))) (rest-or m i);
-        },
-      )
+      -- an edge to another place is one of the others
+      another : (y : Place) × (Link T v y × (y ≡ s .other → ⊥)) → ⊥
+      another (y, (l, n)) = s .alone y (link-others (s .link) (either (λ e. n (e .1)) (λ e. n (e .1 ∙ e .0))) l)
 
       at : Dec (v ∈ net .pins) → v ∈ net .pins
       at (yes m) = m
-      at (no n) = let d = loose n (s .link) (s .alone) in absurd (r .refines .prunes .none v (d .0) (d .1))
+      at (no n) = absurd (another (g .ends v (s .other) (s .link) n))
 
-  pub refined-passes : Passes net rs
-  refined-passes = record {
-    one = t .one;
-    once = no-twice;
-    apart = λ e m k. before-differs place-order (e .0) (e .1) (t .smaller-first e m) k;
-    free = t .clear-edges;
+  pub tree-passes : Passes net T
+  tree-passes = record {
+    one = g .one;
+    once = simple-edges .single;
+    apart = λ e m. simple-edges .apart (e .0) (e .1) m;
+    free = λ e m. g .free (e .0) (e .1) m;
     pinned = all-pinned;
   }
 
@@ -160,24 +122,21 @@ module _ (w : Weighing) (pins macros : List ℤ) {v : Counts} (g : checked w pin
       checkedTree w pins macros (flat edgeNumbers T) ≡ given (sumsOf w pins macros T)
   by-numbers T ranged few ps = past (flat edgeNumbers T) ∙ numbers-pass net pin T ranged few ps
 
-  ours : Promised w pins macros
-  ours = promised w pins macros g
-
-  laid-ranged : Ranged (laidOf w pins macros)
-  unfolding netEdges
-  laid-ranged =
-      refined-in-range a
-      (λ e m. let i = spanning-inside net (e .0) (e .1) m in (vertex-in-range a (e .0) (i .0), vertex-in-range a (e .1) (i .1)))
-      (ours .best .terminal) (ours .trees .refined)
-
   laid-few : length (laidOf w pins macros) ≤ boughtBound
-  laid-few = omega (arith, ours .tree .few, a .few-pins, a .few-macros)
+  laid-few = omega (arith, refined-few a, a .few-pins, a .few-macros)
 
   laid-passes : checkedTree w pins macros (flat edgeNumbers (laidOf w pins macros))
       ≡ given (pos (laidTotal w pins macros), pos (metalOf w pins macros))
-  laid-passes =
-      by-numbers (laidOf w pins macros) laid-ranged laid-few (refined-passes (ours .tree) (ours .trees .refined))
-      ∙ ap₂ (λ (m n : ℕ). given (pos m, pos n)) (sym (ours .total-sum)) (sym (ours .metal-sum))
+  unfolding totalIn
+  laid-passes = by-numbers (laidOf w pins macros) (refined-ranged a) laid-few (tree-passes (refined-given a))
+
+  slid-bought : length (slidOf w pins macros) ≤ boughtBound
+  slid-bought = omega (arith, slid-few a, a .few-pins, a .few-macros)
+
+  slid-passes : checkedTree w pins macros (flat edgeNumbers (slidOf w pins macros))
+      ≡ given (pos (slidTotal w pins macros), pos (slidMetal w pins macros))
+  slid-passes =
+      by-numbers (slidOf w pins macros) (promised-slid w pins macros g .in-range) slid-bought (tree-passes (slid-refined a .given))
 
   lone-pin : pinCount pins ≡ 1 → (p : Place) × (pinPlaces pins ≡ p ∷ [])
   lone-pin h = lone-list (pinPlaces pins) (length-pins pins ∙ h)
@@ -203,4 +162,5 @@ module _ (w : Weighing) (pins macros : List ℤ) {v : Counts} (g : checked w pin
         ∙ sym (past edges′);
     numbers = by-numbers;
     refined = laid-passes;
+    slid = slid-passes;
   }

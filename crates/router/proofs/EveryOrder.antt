@@ -39,6 +39,8 @@ use Rattle.terminal.proofs.BestJoiningLaws.{paths-sum}
 use Rattle.price.specs.Price.{priced}
 use Rattle.refined.specs.Metal.{metal}
 use Rattle.refined.specs.Wires.{wires}
+use Rattle.slide.specs.Slide.{slid}
+use Rattle.slide.proofs.ListOrder.{slid-same}
 use Rattle.rules.specs.Edges.{Edge, edgeBefore}
 use Rattle.rules.specs.Terminal.{givenFor}
 use Rattle.rules.proofs.EdgeLaws.{edge-order}
@@ -49,6 +51,7 @@ use Rattle.router.specs.Graph.{netVertices, netEdges, pointCount, graphR
 use Rattle.router.specs.Room.{ifRoom}
 use Rattle.router.specs.Terminal.{pathsOf, pathsTotal, terminalGiven, terminalTree}
 use Rattle.router.specs.Refined.{refinedOf, edgesIn, totalIn, laidOf, laidTotal, refinedGiven, refinedTree}
+use Rattle.router.specs.Slid.{slidIn, slidOf, slidGiven, slidTree}
 use Rattle.router.specs.Wires.{wiresGiven, wired}
 use Rattle.router.specs.Price.{netPrice}
 use Rattle.bought.specs.Rearranged.{SameEdges}
@@ -93,7 +96,7 @@ module _ (w : Weighing) (pins pins′ macros macros′ : List ℤ) (p : SamePins
         sym (after-refused _ xs lent n (only-refused _ x n r)) ∙ after-refused _ ys lent n (only-refused _ y n (sym same-check ∙ r))
 
     refused-both : SameForBoth w pins pins′ macros macros′
-    unfolding graphed terminalTree refinedTree wired netPrice gridDistances checkedTree
+    unfolding graphed terminalTree refinedTree slidTree wired netPrice gridDistances checkedTree
     refused-both = record {
       check = same-check;
       graph = λ v e. both _ _;
@@ -103,6 +106,8 @@ module _ (w : Weighing) (pins pins′ macros macros′ : List ℤ) (p : SamePins
       paths = λ room lent. untouched _ _ _ _ lent;
       refined = λ room. both _ _;
       laid = λ room lent. untouched _ _ _ _ lent;
+      slid = λ room. both _ _;
+      slid-edges = λ room lent. untouched _ _ _ _ lent;
       wires = λ room. both _ _;
       drawn = λ room lent. untouched _ _ _ _ lent;
       price = λ bands. both _ _;
@@ -157,6 +162,16 @@ module _ (w : Weighing) (pins pins′ macros macros′ : List ℤ) (p : SamePins
         ∥∥₁-elim (p .order) (order-lists-set edge-order _ _) λ d.
         ∥∥₁-elim (q .order) (order-lists-set edge-order _ _) λ e. trees-same (alike d e) a b .refined
 
+    -- pins are looked for and put in order, macros are looked for
+    same-slid : slidOf w pins macros ≡ slidOf w pins′ macros′
+    unfolding slidIn
+    same-slid =
+        ∥∥₁-elim (p .order) (order-lists-set edge-order _ _) λ d.
+        ∥∥₁-elim (q .order) (order-lists-set edge-order _ _) λ e.
+        slid-same (netOf w pins macros) (netOf w pins′ macros′) (perm-among e) (perm-among (Permᴰ·symm e)) (perm-among d)
+        (perm-among (Permᴰ·symm d)) refl (laidOf w pins macros)
+        ∙ ap (slid (netOf w pins′ macros′)) same-laid
+
     same-total : pathsTotal w pins macros ≡ pathsTotal w pins′ macros′
     unfolding pathsTotal pathsOf
     same-total = paths-sum a ∙ ap (λ (l : List (Edge × ℕ)). total (map (λ k. k .1) l)) same-paths ∙ sym (paths-sum b)
@@ -187,6 +202,15 @@ module _ (w : Weighing) (pins pins′ macros macros′ : List ℤ) (p : SamePins
         ap₂ onlyIf same-check
         (ap₂ (λ (n : ℕ) (z : ℕ × (ℤ × ℤ)). ifRoom (n * 4) room z) same-room
         (ap₂ (λ (l : List Edge) (t : ℕ). (length l, (pos t, pos (metal l)))) same-laid same-cost))
+
+    same-slid-tree : (room : ℕ) → slidTree w pins macros room ≡ slidTree w pins′ macros′ room
+    unfolding slidTree slidGiven
+    same-slid-tree room =
+        ap₂ onlyIf same-check
+        (ap₂ (λ (n : ℕ) (l : List Edge). slidInto n room l) same-room same-slid)
+      where
+        slidInto : ℕ → ℕ → List Edge → Told (ℕ × (ℤ × ℤ))
+        slidInto n room l = ifRoom (n * 8) room (length l, (pos (lengths (costIn (netOf w pins macros)) l), pos (metal l)))
 
     same-wires : (room : ℕ) → wired w pins macros room ≡ wired w pins′ macros′ room
     unfolding wired wiresGiven
@@ -233,6 +257,8 @@ module _ (w : Weighing) (pins pins′ macros macros′ : List ℤ) (p : SamePins
       paths = λ room lent. ap₂ (λ t l. after t (flat pathNumbers l) lent) (same-terminal room) same-paths;
       refined = same-refined;
       laid = λ room lent. ap₂ (λ t l. after t (flat edgeNumbers l) lent) (same-refined room) same-laid;
+      slid = same-slid-tree;
+      slid-edges = λ room lent. ap₂ (λ t l. after t (flat edgeNumbers l) lent) (same-slid-tree room) same-slid;
       wires = same-wires;
       drawn = λ room lent. ap₂ (λ t l. after t (flat edgeNumbers (wires l)) lent) (same-wires room) same-laid;
       price = same-price;

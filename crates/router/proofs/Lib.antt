@@ -6,10 +6,12 @@ pub mod FreshTables
 pub mod RefinedLaws
 pub mod Distances
 pub mod PriceLaws
-pub mod BoughtLaws
 pub mod EveryOrder
 pub mod WorkedNets
 pub mod WorkedPrices
 pub mod WorkedBought
 pub mod Published
 pub mod FirstRelease
+pub mod SlidLaws
+pub mod BoughtLaws
+pub mod SlidTable

@@ -25,6 +25,7 @@ use Rattle.bought.specs.Passes.{Passes}
 use Rattle.bought.specs.Rearranged.{SameEdges}
 use Rattle.bought.specs.Verdict.{edgesMiscounted, bought}
 use Rattle.router.specs.Refined.{laidOf, laidTotal, metalOf}
+use Rattle.router.specs.Slid.{slidOf, slidTotal, slidMetal}
 
 -- C79: 11 to 18, then 33, 34 and 35; otherwise what the edges cost, and their metal
 unfoldable pub checkedTree : Weighing → List ℤ → List ℤ → List ℤ → Told (ℤ × ℤ)
@@ -64,3 +65,6 @@ pub record PromisedCheck (w : Weighing) (pins macros : List ℤ) : Type 0 where
   -- V9: the refined tree passes, with the cost and the metal that it was given with
   pub refined : checkedTree w pins macros (flat edgeNumbers (laidOf w pins macros))
       ≡ given (pos (laidTotal w pins macros), pos (metalOf w pins macros))
+  -- V9: and so does the slid tree
+  pub slid : checkedTree w pins macros (flat edgeNumbers (slidOf w pins macros))
+      ≡ given (pos (slidTotal w pins macros), pos (slidMetal w pins macros))

@@ -28,6 +28,7 @@ use Rattle.router.specs.Graph.{netVertices, netEdges, toldGraph}
 use Rattle.router.specs.Terminal.{pathsOf, toldTerminal}
 use Rattle.router.specs.Refined.{laidOf, toldTree}
 use Rattle.router.specs.Both.{toldBoth}
+use Rattle.router.specs.Slid.{slidOf}
 use Rattle.router.specs.Wires.{wiresOf, toldWires}
 use Rattle.router.specs.Distances.{toldDistances}
 
@@ -77,6 +78,11 @@ RefinedCall said w pins macros edges r edges′ =
 abbrev pub BothCall : Saying (ℕ × (ℤ × (ℤ × ℤ))) → (w : Weighing) (pins macros edges : List ℤ) → BothAnswer → List ℤ → Type 0
 BothCall said w pins macros edges r edges′ =
     Gives toldBoth (said w pins macros (length edges)) (flat edgeNumbers (laidOf w pins macros)) edges r edges′
+
+-- C81, C82: a slid tree
+abbrev pub SlidCall : Saying (ℕ × (ℤ × ℤ)) → (w : Weighing) (pins macros edges : List ℤ) → TreeAnswer → List ℤ → Type 0
+SlidCall said w pins macros edges r edges′ =
+    Gives toldTree (said w pins macros (length edges)) (flat edgeNumbers (slidOf w pins macros)) edges r edges′
 
 -- C67, C68: wires
 abbrev pub WiresCall : Saying ℕ → (w : Weighing) (pins macros wires : List ℤ) → Wired → List ℤ → Type 0

@@ -16,6 +16,7 @@ use Rattle.bought.specs.Rearranged.{SameEdges}
 use Rattle.router.specs.Graph.{netVertices, netEdges, graphed}
 use Rattle.router.specs.Terminal.{pathsOf, terminalTree}
 use Rattle.router.specs.Refined.{laidOf, refinedTree}
+use Rattle.router.specs.Slid.{slidOf, slidTree}
 use Rattle.router.specs.Wires.{wiresOf, wired}
 use Rattle.router.specs.Distances.{gridDistances}
 use Rattle.router.specs.Price.{netPrice}
@@ -34,6 +35,9 @@ pub record SameForBoth (w : Weighing) (pins pins′ macros macros′ : List ℤ)
   pub refined : (room : ℕ) → refinedTree w pins macros room ≡ refinedTree w pins′ macros′ room
   pub laid : (room : ℕ) (lent : List ℤ) → after (refinedTree w pins macros room) (flat edgeNumbers (laidOf w pins macros)) lent
       ≡ after (refinedTree w pins′ macros′ room) (flat edgeNumbers (laidOf w pins′ macros′)) lent
+  pub slid : (room : ℕ) → slidTree w pins macros room ≡ slidTree w pins′ macros′ room
+  pub slid-edges : (room : ℕ) (lent : List ℤ) → after (slidTree w pins macros room) (flat edgeNumbers (slidOf w pins macros)) lent
+      ≡ after (slidTree w pins′ macros′ room) (flat edgeNumbers (slidOf w pins′ macros′)) lent
   pub wires : (room : ℕ) → wired w pins macros room ≡ wired w pins′ macros′ room
   pub drawn : (room : ℕ) (lent : List ℤ) → after (wired w pins macros room) (flat edgeNumbers (wiresOf w pins macros)) lent
       ≡ after (wired w pins′ macros′ room) (flat edgeNumbers (wiresOf w pins′ macros′)) lent

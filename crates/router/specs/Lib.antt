@@ -14,6 +14,9 @@
 --                refinedTree w pins macros r          the answer of a refined tree into r lent numbers
 --                toldTree r                           what the code's answer says
 --   Both         bothTrees w pins macros r            the same answer with the terminal tree's total
+--   Slid         slidIn, slidOf, slidTotal, slidMetal the slid tree of a net: its edges in order, their total, and their metal
+--                slidTree w pins macros r             the answer of a slid tree into r lent numbers
+--                PromisedSlid w pins macros           what is promised of the slid tree of an allowed net
 --   Wires        wiresOf, wired w pins macros r       the wires, and the answer of wires into r lent numbers
 --                toldWires r                          what the code's answer says
 --   Distances    gridDistances w pins macros r        the answer of distances on the grid into r lent numbers
@@ -34,6 +37,7 @@ pub mod Room
 pub mod Terminal
 pub mod Refined
 pub mod Both
+pub mod Slid
 pub mod Wires
 pub mod Distances
 pub mod Price

@@ -3,12 +3,14 @@ use crate::BothAnswer;
 use crate::DistanceAnswer;
 use crate::Graphed;
 use crate::TerminalAnswer;
+use crate::TreeAnswer;
 use crate::Trees;
 use crate::Wired;
 use grid::Grid;
 use net::Net;
 use net::Refusal;
 use price::Priced;
+use straight::EDGE_NUMBERS as EDGE_TABLE;
 use terminal::EDGE_NUMBERS;
 use terminal::EDGES;
 use terminal::POINTS;
@@ -28,9 +30,11 @@ ghost use Rattle.router.specs.Graph.{graphGiven};
 ghost use Rattle.router.specs.Terminal.{terminalGiven, pathsTotal};
 ghost use Rattle.router.specs.Refined.{metalOf};
 ghost use Rattle.router.specs.Both.{bothGiven, refinedPart};
+ghost use Rattle.laid.specs.Edges.{edgesOf, laidBound};
+ghost use Rattle.router.specs.Slid.{slidOf, slidGiven};
 ghost use Rattle.router.specs.Wires.{wiresGiven};
 ghost use Rattle.router.specs.Distances.{distancesGiven};
-ghost use Rattle.router.specs.Call.{GraphCall, TerminalCall, BothCall, WiresCall, DistancesCall};
+ghost use Rattle.router.specs.Call.{GraphCall, TerminalCall, BothCall, SlidCall, WiresCall, DistancesCall};
 
 // The graph.
 pub fn graph(
@@ -115,6 +119,23 @@ pub fn both_trees(net: Net, pins: &[i32], macros: &[i32], edges: &mut [i32]) -> 
         tree.total as i64,
         metal as i64,
     )
+}
+
+// The slid tree.
+pub fn slid_tree(net: Net, pins: &[i32], macros: &[i32], edges: &mut [i32]) -> TreeAnswer
+    requires { ⌜ Counted net (handed (net .weights)) (now pins) (now macros) ⌝ }
+    ensures { λ r. ⌜ SlidCall slidGiven (handed (net .weights)) (now (pins .entry)) (now (macros .entry)) (now (edges .entry)) r
+        (now (edges .exit)) ⌝ }
+{
+    if edges.len() < (net::point_count(net) + net.pins) * 8 {
+        return TreeAnswer::Refused(Refusal::Space);
+    }
+    let mut table = [0i32; EDGE_TABLE];
+    let count = slide(net, pins, macros, &mut table);
+    let total = laid::total(net.weights, &table, count);
+    let metal = laid::metal(&table, count);
+    laid::give(&table, count, &mut *edges);
+    TreeAnswer::Given(count, total as i64, metal as i64)
 }
 
 // The wires.
@@ -229,6 +250,19 @@ fn refine(
         total: refined.total,
         terminal: tree.total,
     }
+}
+
+// The slid tree of an allowed net as a flat list of edges, in a table that is fresh; how many there are.
+fn slide(net: Net, pins: &[i32], macros: &[i32], table: &mut [i32]) -> usize
+    requires { ⌜ Counted net (handed (net .weights)) (now pins) (now macros) ⌝ }
+    requires { ⌜ length (now table) ≡ laidBound * 4 ⌝ }
+    ensures { λ r. ⌜ edgesOf (now (table .exit)) r ≡ slidOf (handed (net .weights)) (now (pins .entry)) (now (macros .entry)) ⌝ }
+{
+    let mut points = [0i32; tree::NUMBERS];
+    let mut keys = [0usize; tree::POINTS];
+    let tree = refine(net, pins, macros, &mut points, &mut keys);
+    refined::give_edges(&points, &keys, tree.edges, &mut *table);
+    slider::slide(net.weights, pins, macros, &mut *table, tree.edges)
 }
 
 // The distances on the grid.

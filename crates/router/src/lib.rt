@@ -20,11 +20,13 @@ ghost use Rattle.router.specs.Graph.{graphed};
 ghost use Rattle.router.specs.Terminal.{terminalTree};
 ghost use Rattle.router.specs.Refined.{refinedTree};
 ghost use Rattle.router.specs.Both.{bothTrees};
+ghost use Rattle.router.specs.Slid.{slidTree};
 ghost use Rattle.router.specs.Wires.{wired};
 ghost use Rattle.router.specs.Distances.{gridDistances};
 ghost use Rattle.router.specs.Price.{netPrice};
 ghost use Rattle.router.specs.Bought.{checkedTree};
-ghost use Rattle.router.specs.Call.{GraphCall, TerminalCall, RefinedCall, BothCall, WiresCall, DistancesCall, WriteCall, ReadCall};
+ghost use Rattle.router.specs.Call.{GraphCall, TerminalCall, RefinedCall, BothCall, SlidCall, WiresCall, DistancesCall};
+ghost use Rattle.router.specs.Call.{WriteCall, ReadCall};
 
 // The answer of a graph: how many vertices and how many edges were given.
 pub enum Graphed {
@@ -38,7 +40,7 @@ pub enum TerminalAnswer {
     Refused(Refusal),
 }
 
-// The answer of a refined tree: how many edges were given, their total, and the metal to lay.
+// The answer of a refined tree and of a slid tree: how many edges were given, their total, and the metal to lay.
 pub enum TreeAnswer {
     Given(usize, i64, i64),
     Refused(Refusal),
@@ -133,6 +135,19 @@ pub fn both_trees(w: Weighing, pins: &[i32], macros: &[i32], edges: &mut [i32]) 
     }
 }
 
+// Slid tree: the refined tree's edges made straight, bars of them moved where that saves: its edges in order, how many there are, their
+// total and the metal to lay, or 11 to 18, then 21 where fewer than 8(n + m) numbers are lent. That they hold all pins as one tree, enter no
+// interior, are along one axis unless the refined tree is given back, and cost no more than it: `PromisedSlid` (specs/Slid.antt).
+pub fn slid_tree(w: Weighing, pins: &[i32], macros: &[i32], edges: &mut [i32]) -> TreeAnswer
+    ensures { λ r. ⌜ SlidCall slidTree w (now (pins .entry)) (now (macros .entry)) (now (edges .entry)) r (now (edges .exit)) ⌝ }
+{
+    let answer = net::check(w, pins, macros);
+    match answer {
+        Checked::Allowed(net) => allowed::slid_tree(net, pins, macros, &mut *edges),
+        Checked::Refused(refusal) => TreeAnswer::Refused(refusal),
+    }
+}
+
 // Wires: those of the refined tree's edges, in order, and how many there are, or 11 to 18, then 21 where fewer than 8(n + m) numbers are
 // lent. That each is along one axis, in its edge's box and clear: `Promised`.
 pub fn wires(w: Weighing, pins: &[i32], macros: &[i32], wires: &mut [i32]) -> Wired
@@ -177,8 +192,8 @@ pub fn price(w: Weighing, pins: &[i32], macros: &[i32], bands: &[u64]) -> Priced
 }
 
 // Check a bought-in tree: what its edges, four numbers each, cost and their metal, or 11 to 18, then 33, 34 and 35, each over the whole
-// list. Which lists pass, that the order of the edges and of their ends does not matter, and that every refined tree passes:
-// `PromisedCheck` (specs/Bought.antt).
+// list. Which lists pass, that the order of the edges and of their ends does not matter, and that every refined tree and every slid tree
+// passes: `PromisedCheck` (specs/Bought.antt).
 pub fn check_tree(w: Weighing, pins: &[i32], macros: &[i32], edges: &[i32]) -> Verdict
     ensures { λ r. ⌜ toldVerdict r ≡ checkedTree w (now (pins .entry)) (now (macros .entry)) (now (edges .entry)) ⌝ }
 {

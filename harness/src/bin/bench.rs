@@ -11,7 +11,7 @@ use reference::lists::Lists;
 use reference::operations;
 
 const HELP: &str = "\
-bench graph|terminal|refined|distances|file|nothing proved|second random|bars|combs|clusters SIZE TIMES
+bench graph|terminal|refined|slid|distances|file|nothing proved|second random|bars|combs|clusters SIZE TIMES
 one operation of one program on a net of SIZE pins and SIZE macros";
 
 /// SIZE pins and SIZE macros with weights 1 and 1, of a kind: random ones are the first of a largest net, still allowed, since taking
@@ -115,6 +115,14 @@ fn run(operation: &str, program: &str, lists: &Lists) -> Option<u64> {
                 operations::refined_tree
             };
             call(pins, macros, weights, &mut vec![0; 4 * (n + m)]).map(|(edges, ..)| edges)
+        }
+        "slid" => {
+            let call = if is_proved {
+                library::slid_tree
+            } else {
+                operations::slid_tree
+            };
+            call(pins, macros, weights, &mut vec![0; 8 * (n + m)]).map(|(edges, ..)| edges)
         }
         "distances" => {
             let call = if is_proved {

@@ -37,6 +37,7 @@ fn all(seed: u64) -> Matched {
     for case in [case, routed(seed)] {
         case.terminal_tree()?;
         case.refined_tree()?;
+        case.slid_tree()?;
         case.wires()?;
         case.price().map(|_| ())?;
     }

@@ -2,7 +2,7 @@
 
 use std::ffi::OsString;
 
-use calzundi::{Edge, Net, Passed, RefinedTree, Refusal};
+use calzundi::{Edge, Net, Passed, Refusal, Tree};
 
 use crate::picture::page::page;
 use crate::picture::sheet::sheet;
@@ -18,12 +18,13 @@ calzundi draw NET [PICTURE]: draws a net and its trees
 
 NET is text or a net file; for - it is standard input. Without PICTURE, or for -, the picture goes to standard output. It is SVG: the
 terminal tree, with each path's length at its bridge, and the refined tree, with the length of each edge where there is room, and the
-metal to lay. Pins are discs, corners of macros squares, Steiner points diamonds. Up to 24 points have their coordinates beside them; in a
-larger net pins have numbers, and a table below has their places. What is too close or too thin to be seen is drawn apart, and the
-caption says so.
+metal to lay. Pins are discs, corners of macros squares, Steiner points diamonds, and so are bends that are points of a tree. Up to 24
+points have their coordinates beside them; in a larger net pins have numbers, and a table below has their places. What is too close or too
+thin to be seen is drawn apart, and the caption says so.
 
     --html          a page instead, for a browser: layers to switch on and off (graph, terminal tree, refined tree, wires) and tables
                     whose entries light up in the picture; PAGE#edge-3 shows the third edge lit
+    --slid          the refined and the slid tree instead, which `calzundi slide` prints
     --tree FILE     the refined tree and one of another router, as `calzundi verify` takes it: it must pass for this net
     --routed FILE   what `route` or `calzundi route` printed: it must be this net's, line for line
 
@@ -41,6 +42,10 @@ pub const COMMAND: Command = Command {
     options: &[
         Switch {
             name: "--html",
+            value: None,
+        },
+        Switch {
+            name: "--slid",
             value: None,
         },
         Switch {
@@ -67,15 +72,16 @@ pub fn html(name: &str, net: &Net) -> Result<String, Refusal> {
 }
 
 /// The picture of an allowed net with another tree beside the refined one.
-fn svg_beside(net: &Net, name: &'static str, tree: RefinedTree) -> Result<String, Refusal> {
+fn svg_beside(net: &Net, name: &'static str, tree: Tree) -> Result<String, Refusal> {
     Ok(sheet(&Subject::of(net)?.beside(name, tree)))
 }
 
 fn draw(words: &Words) -> Result<(), Failure> {
     let from = words.files.first();
-    if words.has("--html") && words.has("--tree") {
-        let both = "--html and --tree each draw something else; take one of them";
-        return Err(Failure::Usage(both.into()));
+    let chosen = ["--html", "--slid", "--tree"].map(|option| words.has(option));
+    if chosen.iter().filter(|option| **option).count() > 1 {
+        let several = "--html, --slid and --tree each draw something else; take one of them";
+        return Err(Failure::Usage(several.into()));
     }
     let [printed, tree] =
         ["--routed", "--tree"].map(|option| words.value(option).map(OsString::from));
@@ -90,10 +96,13 @@ fn draw(words: &Words) -> Result<(), Failure> {
         let text = Routed::of(net).map_err(wrong)?.text();
         same(&name(Some(printed)), &read(Some(printed))?, &text)?;
     }
-    let picture = match &tree {
-        _ if words.has("--html") => html(&source.name, net),
-        Some(tree) => svg_beside(net, "tree of another router", passed(&source, tree)?),
-        None => svg(net),
+    let picture = match (chosen, &tree) {
+        ([true, ..], _) => html(&source.name, net),
+        ([_, true, _], _) => net
+            .slid_tree()
+            .and_then(|tree| svg_beside(net, "slid tree", tree)),
+        (_, Some(tree)) => svg_beside(net, "tree of another router", passed(&source, tree)?),
+        _ => svg(net),
     };
     let inputs: Vec<Option<&OsString>> = [from, printed.as_ref(), tree.as_ref()]
         .into_iter()
@@ -108,7 +117,7 @@ fn draw(words: &Words) -> Result<(), Failure> {
 }
 
 /// A tree of another router, in order as ours are, where it passes for the net.
-fn passed(source: &Source, file: &OsString) -> Result<RefinedTree, Failure> {
+fn passed(source: &Source, file: &OsString) -> Result<Tree, Failure> {
     let given = parse(name(Some(file)), &read(Some(file))?)?;
     let checked = source.net.check_tree(&given.edges);
     let Passed { cost, metal } = checked.map_err(|refusal| {
@@ -121,7 +130,7 @@ fn passed(source: &Source, file: &OsString) -> Result<RefinedTree, Failure> {
     };
     let mut edges: Vec<Edge> = given.edges.iter().map(in_order).collect();
     edges.sort_unstable();
-    Ok(RefinedTree {
+    Ok(Tree {
         edges,
         total: cost,
         metal,

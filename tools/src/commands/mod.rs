@@ -10,6 +10,7 @@ mod draw;
 mod pack;
 mod price;
 mod route;
+mod slide;
 mod unpack;
 mod verify;
 
@@ -19,6 +20,7 @@ pub use draw::{html, svg};
 pub const ALL: &[Command] = &[
     check::COMMAND,
     route::COMMAND,
+    slide::COMMAND,
     verify::COMMAND,
     draw::COMMAND,
     compare::COMMAND,

@@ -10,7 +10,7 @@ pub mod ways;
 
 use std::collections::BTreeSet;
 
-use calzundi::{Edge, Graph, Net, Place, RefinedTree, Refusal, Wire};
+use calzundi::{Edge, Graph, Net, Place, Refusal, Tree, Wire};
 
 use crate::routed::Routed;
 
@@ -30,9 +30,9 @@ pub struct Subject {
 /// A tree that is not the router's refined one.
 #[derive(Clone, Debug)]
 pub struct Other {
-    /// What it is called in titles.
+    /// `slid tree`, `tree of another router`.
     pub name: &'static str,
-    pub tree: RefinedTree,
+    pub tree: Tree,
 }
 
 impl Subject {
@@ -53,7 +53,7 @@ impl Subject {
     }
 
     /// The same with another tree beside the refined one.
-    pub fn beside(self, name: &'static str, tree: RefinedTree) -> Subject {
+    pub fn beside(self, name: &'static str, tree: Tree) -> Subject {
         let other = Some(Other { name, tree });
         Subject { other, ..self }
     }
@@ -71,6 +71,14 @@ impl Subject {
         let ends = edges.iter().flat_map(|edge| [edge.first, edge.second]);
         let others: BTreeSet<Place> = ends.filter(|end| !pins.contains(end)).collect();
         others.into_iter().partition(|end| corners.contains(end))
+    }
+
+    /// What a diamond stands for: a slid tree and one of another router have points at bends too.
+    pub fn diamond(&self) -> &'static str {
+        match self.other {
+            None => "Steiner point",
+            Some(_) => "Steiner point or bend",
+        }
     }
 
     /// Every edge on a terminal path once, with how many paths it is on.

@@ -130,7 +130,8 @@ fn picture(subject: &Subject) -> (String, bool) {
     });
     layer(&mut svg, "wires", wires);
     let (corners, steiner) = subject.other_points(&subject.routed.refined.edges);
-    draw_points(&mut svg, &frame, &[], &corners, &steiner, METAL);
+    let diamonds = (subject.diamond(), &steiner[..]);
+    draw_points(&mut svg, &frame, &[], &corners, diamonds, METAL);
     let pins = subject.pins();
     let look = format!("fill=\"{PIN_COLOUR}\" stroke=\"white\" stroke-width=\"1\"");
     let marks = pins.iter().enumerate().map(|(at, &pin)| {

@@ -72,7 +72,7 @@ impl Panel<'_> {
             &self.frame,
             &self.subject.pins(),
             &corners,
-            &steiner,
+            (self.subject.diamond(), &steiner),
             colour,
         );
         let taken = self.draw_labels(svg, &[corners, steiner].concat());
@@ -229,7 +229,7 @@ pub fn draw_points(
     frame: &Frame,
     pins: &[Place],
     corners: &[Place],
-    steiner: &[Place],
+    (kind, steiner): (&str, &[Place]),
     colour: &str,
 ) {
     let open = format!("fill=\"white\" stroke=\"{colour}\" stroke-width=\"1.5\"");
@@ -243,9 +243,7 @@ pub fn draw_points(
         .iter()
         .map(|&place| mark(place, corner_mark, "corner"));
     svg.group(&open, corners);
-    let steiner = steiner
-        .iter()
-        .map(|&place| mark(place, steiner_mark, "Steiner point"));
+    let steiner = steiner.iter().map(|&place| mark(place, steiner_mark, kind));
     svg.group(&full, steiner);
     let pins = pins.iter().enumerate().map(|(at, &place)| {
         let title = format!("pin {}: {}", at + 1, coordinates(place));

@@ -1,7 +1,7 @@
 //! The picture: the terminal tree and the refined tree, or the refined one and another, beside each other, and a caption with the metal to
 //! lay.
 
-use calzundi::{Edge, RefinedTree, Weights};
+use calzundi::{Edge, Tree, Weights};
 
 use super::frame::{Drawn, Frame};
 use super::labels::POINT;
@@ -178,7 +178,7 @@ impl Sheet<'_> {
     }
 
     /// At an edge stands what it costs.
-    fn costs(&self, tree: &RefinedTree) -> Vec<(Edge, String)> {
+    fn costs(&self, tree: &Tree) -> Vec<(Edge, String)> {
         let cost = |edge: &Edge| grouped(edge.cost(self.subject.net.weights));
         tree.edges.iter().map(|edge| (*edge, cost(edge))).collect()
     }
@@ -286,16 +286,17 @@ impl Sheet<'_> {
         let open = format!("fill=\"white\" stroke=\"{METAL}\" stroke-width=\"1.5\"");
         group(open, corner_mark(at(78.0)));
         group(format!("fill=\"{METAL}\""), steiner_mark(at(226.0)));
-        let area = Area::about(at(346.0), 12.0, 10.0);
+        let longer = wide(self.subject.diamond(), LETTER) - wide("Steiner point", LETTER);
+        let area = Area::about(at(346.0 + longer), 12.0, 10.0);
         group(MACRO_LOOK.into(), rectangle(&area));
         let metal = format!("stroke=\"{METAL}\" stroke-width=\"2.5\" stroke-linecap=\"round\"");
-        group(metal, segment(at(412.0), at(428.0)));
+        group(metal, segment(at(412.0 + longer), at(428.0 + longer)));
         let words = [
             (30.0, "pin"),
             (88.0, "corner of a macro"),
-            (236.0, "Steiner point"),
-            (358.0, "macro"),
-            (436.0, "metal"),
+            (236.0, self.subject.diamond()),
+            (358.0 + longer, "macro"),
+            (436.0 + longer, "metal"),
         ];
         let words = words.map(|(x, word)| text(Spot { x, y }, word));
         let look = format!("{FONT} font-size=\"{LETTER}\" fill=\"black\"");

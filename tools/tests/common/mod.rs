@@ -11,9 +11,10 @@ use reference::generate::Kind;
 use reference::lists::Lists;
 
 pub const CALZUNDI: &str = env!("CARGO_BIN_EXE_calzundi");
-pub const COMMANDS: [&str; 10] = [
+pub const COMMANDS: [&str; 11] = [
     "check",
     "route",
+    "slide",
     "verify",
     "draw",
     "compare",

@@ -1,0 +1,155 @@
+-- `bars::search::offer` meets its contract, each answer by the law of its case.
+-- Assumes nothing.
+use mathlib.Core.Path.{_≡_, ap}
+use native.Mathlib.Omega.{arith}
+use Prim.Native.Nat.{ℕ, _-_, _*_, _≤_}
+use denote.Ref.{now}
+use Rattle.lists.proofs.TestLaws.{not-true}
+use Rattle.bars.specs.declared.Bar.{Bar}
+use Rattle.bars.specs.declared.Size.{Size}
+use Rattle.bars.specs.Turned.{View, view}
+use Rattle.bars.specs.Offers.{held, lastOn, moveBy, move}
+use Rattle.bars.proofs.CodeLaws.{off, rate-fits, saving-fits, move-is, reach-of, reach-less}
+use Rattle.bars.proofs.CodeLaws.{offer-equal, offer-weak, offer-held, offer-taken, offer-left}
+use Rattle.bars.proofs.search.offer.Statement.{statement}
+use Rattle.bars.proofs.search.offer.Tie as tie
+
+-- what hangs on the bar is known
+module _ (h : tie.After-hang) where
+  abbrev seen : View
+  seen =
+      view (now (h .before .args .pts)) (now (h .before .args .keys)) (now (h .before .args .lab)) (h .before .args .s) (h .before .args .l)
+
+  abbrev size : Size
+  size = h .before .args .z
+
+  surplus-fits : h .hang .result .ahead - h .hang .result .behind ≤ 768
+  surplus-fits = omega (arith, h .hang .ensures .1, h .before .pre)
+
+-- and what its move saves by a unit, and its first place
+module _ (p : tie.After-point-at) where
+  abbrev hung : tie.After-hang
+  hung = p .before .before .before .before .before
+
+  move-by : (d : ℕ) → move (d * ((hung .hang .result .ahead - hung .hang .result .behind) * p .before .weight-of .result))
+      (p .point-at .result) (hung .before .args .s) d
+      ≡ moveBy (seen hung) (size hung) d
+  move-by d =
+      move-is (seen hung) (size hung) (hung .hang .result) (hung .hang .ensures .0) _ _ d (p .before .weight-of .ensures .0)
+      (p .point-at .ensures)
+
+hang-requires : tie.Need-hang-requires
+hang-requires c κs = (omega (arith, c .pre), c .pre .0 .1 .0)
+
+returns : tie.Need-returns
+returns c =
+    let h = c .before .before in
+    offer-equal (seen h) (size h) (h .hang .result) (h .hang .ensures .0) _ _ _ (c .if1 .taken)
+
+sub-rate : tie.Need-sub-rate
+sub-rate c = omega (arith, c .before .if1 .left)
+
+weight-of-requires : tie.Need-weight-of-requires
+weight-of-requires c κs = tt
+
+mul-rate : tie.Need-mul-rate
+mul-rate c =
+    let h = c .before .before .before .before in
+    omega (arith, rate-fits _ _ (surplus-fits h) (c .weight-of .ensures .1))
+
+point-at-requires : tie.Need-point-at-requires
+point-at-requires c κs = c .before .before .before .before .before .pre .0 .1 .1
+
+mul-t18 : tie.Need-mul-t18
+mul-t18 c =
+    let h = c .before .before .before .before .before .before in
+    omega (arith, saving-fits _ _ _ (h .hang .ensures .1 .1) (surplus-fits h) (c .before .before .weight-of .ensures .1))
+
+is-better-requires : tie.Need-is-better-requires
+is-better-requires c κs = tt
+
+returns-2 : tie.Need-returns-2
+returns-2 c =
+    let p = c .before .before .before in
+    let h = hung p in
+    offer-weak (seen h) (size h) (h .hang .result) (h .hang .ensures .0) _ _ _ (p .before .before .before .if1 .left) _ (move-by p _) _
+    (c .before .is-better .ensures) (not-true _ (c .if2 .taken))
+
+is-held-requires : tie.Need-is-held-requires
+is-held-requires c κs = c .before .before .before .before .before .before .before .before .before .pre .1
+
+returns-3 : tie.Need-returns-3
+unfolding held
+returns-3 c =
+    let d = c .before .before in
+    let p = d .before .before .before in
+    let h = hung p in
+    offer-held (seen h) (size h) (h .hang .result) (h .hang .ensures .0) _ _ _ (p .before .before .before .if1 .left) _ (move-by p _) _
+    (d .before .is-better .ensures) (off _ (d .if2 .left)) _ (c .before .is-held .ensures) (c .if3 .taken)
+
+bar-of-requires : tie.Need-bar-of-requires
+bar-of-requires c κs =
+    let h = c .before .before .before .before .before .before .before .before .before .before in
+    ((h .before .pre .0 .0 .0, h .before .pre .0 .1 .1), h .hang .ensures .1 .1)
+
+reach-requires : tie.Need-reach-requires
+reach-requires c κs =
+    let h = c .before .before .before .before .before .before .before .before .before .before .before in
+    (h .before .pre .0 .0, h .before .pre .0 .1 .0)
+
+mul-t18-2 : tie.Need-mul-t18-2
+mul-t18-2 c =
+    let p = c .before .before .before .before .before .before .before in
+    let h = hung p in
+    let m = ap (λ (x : Bar). x .most) (c .before .bar-of .ensures) in
+    let l : c .reach .result ≤ 4294967296 = omega (arith, m, reach-less _ _ _ _ _ _ (c .reach .ensures), h .hang .ensures .1) in
+    omega (arith, saving-fits _ _ _ l (surplus-fits h) (p .before .weight-of .ensures .1))
+
+is-better-requires-2 : tie.Need-is-better-requires-2
+is-better-requires-2 c κs = tt
+
+returns-4 : tie.Need-returns-4
+unfolding held lastOn
+returns-4 c =
+    let b = c .before .before .before in
+    let d = b .before .before .before in
+    let p = d .before .before .before in
+    let h = hung p in
+    offer-taken (seen h) (size h) (h .hang .result) (h .hang .ensures .0) _ _ _ (p .before .before .before .if1 .left) _ (move-by p _) _
+    (d .before .is-better .ensures) (off _ (d .if2 .left)) _ (b .before .before .is-held .ensures) (b .before .if3 .left) _ _ (move-by p _)
+    (reach-of (seen h) (size h) (h .hang .result) (h .hang .ensures .0) _ _ _ (b .bar-of .ensures) (c .before .before .reach .ensures)) _
+    (c .before .is-better2 .ensures) (c .if4 .taken)
+
+returns-5 : tie.Need-returns-5
+unfolding held lastOn
+returns-5 c =
+    let b = c .before .before .before in
+    let d = b .before .before .before in
+    let p = d .before .before .before in
+    let h = hung p in
+    offer-left (seen h) (size h) (h .hang .result) (h .hang .ensures .0) _ _ _ (p .before .before .before .if1 .left) _ (move-by p _) _
+    (d .before .is-better .ensures) (off _ (d .if2 .left)) _ (b .before .before .is-held .ensures) (b .before .if3 .left) _ _ (move-by p _)
+    (reach-of (seen h) (size h) (h .hang .result) (h .hang .ensures .0) _ _ _ (b .bar-of .ensures) (c .before .before .reach .ensures)) _
+    (c .before .is-better2 .ensures) (c .if4 .left)
+
+pub offer-spec : {M : Type 1} → statement M
+offer-spec =
+    tie.close
+    (tie.spec
+    hang-requires
+    returns
+    sub-rate
+    weight-of-requires
+    mul-rate
+    point-at-requires
+    mul-t18
+    is-better-requires
+    returns-2
+    is-held-requires
+    returns-3
+    bar-of-requires
+    reach-requires
+    mul-t18-2
+    is-better-requires-2
+    returns-4
+    returns-5)

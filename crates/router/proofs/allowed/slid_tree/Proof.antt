@@ -1,0 +1,188 @@
+-- `router::allowed::slid_tree` meets its contract: where there is room, the edges given are those of the net's slid tree.
+-- Assumes nothing.
+use mathlib.Core.Path.{_≡_, refl, sym, ap, ap₂, _∙_, subst}
+use mathlib.Core.List.{List}
+use Prim.Native.Nat.{ℕ, _+_, _*_, _^_, _≤_, _<_}
+use native.Mathlib.Omega.{arith}
+use lib.IntN.{ℤ, pos}
+use lib.ListN.{length, length-replicate}
+use mir.Syntax.{w64}
+use mir.Val.{toZ}
+use mir.ValLaws.{toZ-pos}
+use denote.Ref.{now}
+use Rattle.lent.specs.Told.{given}
+use Rattle.lent.specs.Over.{over}
+use Rattle.lent.specs.Entries.{flat}
+use Rattle.joined.specs.Cost.{lengths}
+use Rattle.plane.specs.declared.Place.{Place}
+use Rattle.plane.specs.declared.Weights.{Weights}
+use Rattle.plane.specs.Cost.{cost}
+use Rattle.plane.specs.Distance.{distance}
+use Rattle.plane.proofs.FlatLaws.{length-macros}
+use Rattle.net.specs.Answer.{number}
+use Rattle.net.specs.Pins.{pinCount}
+use Rattle.net.specs.Net.{Net, netOf, handed}
+use Rattle.net.specs.Allowed.{Allowed}
+use Rattle.net.proofs.PinLaws.{length-pins}
+use Rattle.graph.specs.Numbers.{edgeNumbers}
+use Rattle.laid.specs.Edges.{laidBound}
+use Rattle.router.specs.Graph.{pointCount}
+use Rattle.router.specs.Refined.{toldTree}
+use Rattle.router.specs.Slid.{slidTotal, slidMetal, slidAnswer, slidGiven}
+use Rattle.router.proofs.AnswerLaws.{room-short, room-enough}
+use Rattle.router.proofs.CountedLaws.{as-net, as-points, as-pins, counts-few, points-few}
+use Rattle.router.proofs.CallLaws.{gives-refused, gives-given}
+use Rattle.router.proofs.SlidLaws.{slid-few}
+use Rattle.router.proofs.SlidTable.{slid-low, slid-metal-low, slid-count, slid-within}
+use borrow.Author.Needs.{needs}
+use Rattle.router.proofs.allowed.slid_tree.Statement.{statement}
+use Rattle.router.proofs.allowed.slid_tree.Tie as tie
+
+point-count-requires : tie.Need-point-count-requires
+point-count-requires c κs = counts-few (c .pre)
+
+-- n and m, as the check has counted them
+asked : (d : tie.After-struct-known) → (d .before .point-count .result + d .before .before .args .net .pins) * 8
+    ≡ (pointCount (now (d .before .before .args .pins)) (now (d .before .before .args .macros)) + pinCount
+    (now (d .before .before .args .pins)))
+    * 8
+asked d =
+    let s = d .before .before in
+    omega (arith, d .before .point-count .ensures, as-points (s .pre), as-pins (s .pre))
+
+add-if1 : tie.Need-add-if1
+add-if1 c = record {
+  fits = omega (
+    arith,
+    points-few (c .before .before .pre),
+    as-points (c .before .before .pre),
+    c .before .point-count .ensures,
+    counts-few (c .before .before .pre),
+  );
+}
+
+mul-if1 : tie.Need-mul-if1
+mul-if1 c = record {
+  fits = omega (
+    arith,
+    points-few (c .before .before .pre),
+    as-points (c .before .before .pre),
+    c .before .point-count .ensures,
+    counts-few (c .before .before .pre),
+  );
+}
+
+returns : tie.Need-returns
+unfolding slidGiven toldTree number
+returns c =
+    let d = c .before in
+    let a = d .before .before .args in
+    let need = (pointCount (now (a .pins)) (now (a .macros)) + pinCount (now (a .pins))) * 8 in
+    gives-refused refl (room-short need (length (now (a .edges))) _ (subst (λ (z : ℕ). length (now (a .edges)) < z) (asked d)
+    (c .if1 .taken)))
+
+abbrev start : tie.After-slide → tie.Start
+start d = d .before .before .before .before .before
+
+-- n and m, and that as many numbers are lent
+abbrev counted : tie.After-slide → tie.After-struct-known
+counted d = d .before .before .before
+
+abbrev allowed : (d : tie.After-slide) →
+    Allowed (netOf (handed (start d .args .net .weights)) (now (start d .args .pins)) (now (start d .args .macros)))
+allowed d = start d .pre .allowed
+
+-- the table is as long as it was made, and holds the slid tree's edges
+size : (d : tie.After-slide) → length (d .slide .last .1 .1 .1 .0) ≡ 3072
+size d = d .slide .kept .1 .1 .1 .0 ∙ length-replicate 3072 (pos 0)
+
+asks : (d : tie.After-slide) → (d .slide .result * 4 ≤ length (d .slide .last .1 .1 .1 .0)) × (d .slide .result ≤ laidBound)
+asks d =
+    let w = slid-within (allowed d) _ _ (d .slide .ensures) in (omega (arith, w, size d), w)
+
+total-requires : tie.Need-total-requires
+total-requires c κs = asks (c .before .before)
+
+metal-requires : tie.Need-metal-requires
+metal-requires c κs = asks (c .before .before .before .before)
+
+give-requires : tie.Need-give-requires
+give-requires c κs =
+    let d = c .before .before .before .before .before .before .before in
+    let a = start d .args in (
+      asks d .0,
+      omega (
+        arith,
+        slid-count (allowed d) _ _ (d .slide .ensures),
+        slid-few (allowed d),
+        asked (counted d),
+        length-pins (now (a .pins)),
+        length-macros (now (a .macros)),
+        d .before .before .if1 .left,
+      ),
+    )
+
+-- the total and the metal, which fit
+total-is : (t : tie.After-total) → let d = t .before .before .before in let a = start d .args in
+    t .total .result ≡ slidTotal (handed (a .net .weights)) (now (a .pins)) (now (a .macros))
+total-is t =
+    let d = t .before .before .before in
+    t .total .ensures .0
+    ∙ ap₂ (λ (w : Weights) (es : List (Place × Place)). lengths (cost w) es) (ap (λ (z : Net). z .weights) (as-net (start d .pre)))
+    (d .slide .ensures)
+
+total-fits : (t : tie.After-total) → t .total .result < 2 ^ 63
+total-fits t = omega (arith, total-is t, slid-low (allowed (t .before .before .before)))
+
+metal-is : (m : tie.After-metal) → let a = start (m .before .before .before .before .before) .args in
+    m .metal .result ≡ slidMetal (handed (a .net .weights)) (now (a .pins)) (now (a .macros))
+metal-is m = m .metal .ensures .0 ∙ ap (lengths distance) (m .before .before .before .before .before .slide .ensures)
+
+metal-fits : (m : tie.After-metal) → m .metal .result < 2 ^ 63
+metal-fits m = omega (arith, metal-is m, slid-metal-low (allowed (m .before .before .before .before .before)))
+
+cast-t26 : tie.Need-cast-t26
+cast-t26 c = record { sfits = total-fits (c .before .before .before .before .before .before) }
+
+cast-t27 : tie.Need-cast-t27
+cast-t27 c = record { sfits = metal-fits (c .before .before .before .before) }
+
+returns-2 : tie.Need-returns-2
+unfolding slidGiven toldTree
+returns-2 c =
+    let m = c .before .before .before .before in
+    let t = m .before .before in
+    let d = t .before .before .before in
+    let a = start d .args in
+    let need = (pointCount (now (a .pins)) (now (a .macros)) + pinCount (now (a .pins))) * 8 in
+    let given-is : ℕ × (ℤ × ℤ) = slidAnswer (handed (a .net .weights)) (now (a .pins)) (now (a .macros)) in
+    let sum : toZ w64 (t .total .result) ≡ pos (slidTotal (handed (a .net .weights)) (now (a .pins)) (now (a .macros))) =
+    toZ-pos w64 (t .total .result) (total-fits t) ∙ ap pos (total-is t) in
+    let laid : toZ w64 (m .metal .result) ≡ pos (slidMetal (handed (a .net .weights)) (now (a .pins)) (now (a .macros))) =
+    toZ-pos w64 (m .metal .result) (metal-fits m) ∙ ap pos (metal-is m) in
+    gives-given
+    (ap₂ (λ (n : ℕ) (z : ℤ × ℤ). given (n, z)) (slid-count (allowed d) _ _ (d .slide .ensures)) (ap₂ (λ (x y : ℤ). (x, y)) sum laid))
+    (room-enough {A = ℕ × (ℤ × ℤ)} need (length (now (a .edges))) given-is
+    (subst (λ (z : ℕ). z ≤ length (now (a .edges))) (asked (counted d)) (d .before .before .if1 .left)))
+    (c .before .give .ensures ∙ ap (λ (es : List (Place × Place)). over (flat edgeNumbers es) (now (a .edges))) (d .slide .ensures))
+
+pub slid-tree-spec : {M : Type 1} → statement M
+slid-tree-spec =
+    tie.close
+    (tie.spec
+    point-count-requires
+    add-if1
+    mul-if1
+    returns
+    (λ c. search needs)
+    (λ c κs. search needs)
+    (λ c. search needs)
+    total-requires
+    (λ c. search needs)
+    metal-requires
+    (λ c. search needs)
+    give-requires
+    cast-t26
+    cast-t27
+    (λ c. search needs)
+    returns-2)

@@ -1,0 +1,7 @@
+pub mod ShiftedLaws
+pub mod PlaceLaws
+pub mod SettledPoints
+pub mod RoundLaws
+pub mod FoundLaws
+pub mod TurnLaws
+pub mod SlidLaws
