@@ -56,7 +56,7 @@
 #define CALZUNDI_H
 
 /* The version. It stands here and nowhere else; the tools take it from this line, and each change request raises the second number. */
-#define CALZUNDI_VERSION "1.9"
+#define CALZUNDI_VERSION "1.10"
 
 #include <stddef.h>
 #include <stdint.h>
@@ -65,9 +65,9 @@
 extern "C" {
 #endif
 
-/* A net has 1 to 64 pins and 0 to 64 macros, with coordinates from -1,000,000 to 1,000,000 and weights from 1 to 8. */
-#define CALZUNDI_PINS 64
-#define CALZUNDI_MACROS 64
+/* A net has 1 to 128 pins and 0 to 128 macros, with coordinates from -1,000,000 to 1,000,000 and weights from 1 to 8. */
+#define CALZUNDI_PINS 128
+#define CALZUNDI_MACROS 128
 #define CALZUNDI_COORDINATE 1000000
 #define CALZUNDI_WEIGHT 8
 
@@ -78,8 +78,8 @@ extern "C" {
 #define CALZUNDI_GRID_PINS 16
 #define CALZUNDI_GRID_MACROS 16
 
-/* The check of a bought-in tree takes up to 1,279 edges. */
-#define CALZUNDI_BOUGHT_EDGES 1279
+/* The check of a bought-in tree takes up to 1,535 edges. */
+#define CALZUNDI_BOUGHT_EDGES 1535
 
 /* Numbers to lend for a net of m pins and k macros: n = m + 4k, and then for each operation. */
 #define CALZUNDI_POINTS(m, k) ((m) + 4 * (k))
@@ -91,7 +91,7 @@ extern "C" {
 #define CALZUNDI_WIRE_NUMBERS(m, k) (8 * (CALZUNDI_POINTS(m, k) + (m)))
 #define CALZUNDI_DISTANCE_NUMBERS(m) ((m) * (m))
 
-/* A net file is 1 to 6 blocks of 512 bytes: a head, a block for each 60 pins begun and one for each 30 macros begun. */
+/* A net file is 1 to 9 blocks of 512 bytes: a head, a block for each 60 pins begun and one for each 30 macros begun. */
 #define CALZUNDI_BLOCK_BYTES 512
 #define CALZUNDI_FILE_BYTES(m, k) (CALZUNDI_BLOCK_BYTES * (1 + ((m) + 59) / 60 + ((k) + 29) / 30))
 #define CALZUNDI_LONGEST_FILE CALZUNDI_FILE_BYTES(CALZUNDI_PINS, CALZUNDI_MACROS)
@@ -102,11 +102,11 @@ extern "C" {
 
 /* The numbers of refusals. */
 enum calzundi_refusal {
-    CALZUNDI_LENGTH = 1,            /* the file is not 1 to 6 whole blocks */
+    CALZUNDI_LENGTH = 1,            /* the file is not 1 to 9 whole blocks */
     CALZUNDI_SUMS = 2,              /* a block's word 126 or 127 is wrong */
     CALZUNDI_LAYOUT = 3,            /* anything else in the file's layout, the head's counts and weights included */
-    CALZUNDI_PIN_LIST = 11,         /* the pin list isn't whole pairs, or m is 0 or above 64 */
-    CALZUNDI_MACRO_LIST = 12,       /* the macro list isn't whole fours, or k is above 64 */
+    CALZUNDI_PIN_LIST = 11,         /* the pin list isn't whole pairs, or m is 0 or above 128 */
+    CALZUNDI_MACRO_LIST = 12,       /* the macro list isn't whole fours, or k is above 128 */
     CALZUNDI_OUT_OF_RANGE = 13,     /* a coordinate is out of range */
     CALZUNDI_FLAT_MACRO = 14,       /* a macro's left is not below its right, or its bottom not below its top */
     CALZUNDI_PIN_TWICE = 15,        /* two pins are at one place */
@@ -116,7 +116,7 @@ enum calzundi_refusal {
     CALZUNDI_SPACE = 21,            /* too little space is lent */
     CALZUNDI_BANDS = 31,            /* the list of bands is odd or empty, or a rate in it is above 1,000,000 */
     CALZUNDI_REACH = 32,            /* no band's limit reaches the metal */
-    CALZUNDI_EDGE_LIST = 33,        /* the edge list isn't whole fours, has more than 1,279 edges, or a coordinate is out of range */
+    CALZUNDI_EDGE_LIST = 33,        /* the edge list isn't whole fours, has more than 1,535 edges, or a coordinate is out of range */
     CALZUNDI_EDGE_NOT_CLEAR = 34,   /* an edge has equal ends, or ends that are not clear of each other */
     CALZUNDI_NOT_A_TREE = 35,       /* the edges and the pins are not one tree, or a point with a single edge is no pin */
     CALZUNDI_GRID_SIZE = 36,        /* above 16 pins or 16 macros, for distances on the grid */
@@ -131,11 +131,11 @@ static inline const char *calzundi_refusal_text(int32_t number)
 {
     switch (number) {
     case 0: return "allowed";
-    case CALZUNDI_LENGTH: return "the file is not 1 to 6 whole blocks";
+    case CALZUNDI_LENGTH: return "the file is not 1 to 9 whole blocks";
     case CALZUNDI_SUMS: return "a block's word 126 or 127, its sums, is wrong";
     case CALZUNDI_LAYOUT: return "the layout is not a net file's";
-    case CALZUNDI_PIN_LIST: return "there is no pin, there are more than 64, or the list isn't whole pairs";
-    case CALZUNDI_MACRO_LIST: return "there are more than 64 macros, or the list isn't whole fours";
+    case CALZUNDI_PIN_LIST: return "there is no pin, there are more than 128, or the list isn't whole pairs";
+    case CALZUNDI_MACRO_LIST: return "there are more than 128 macros, or the list isn't whole fours";
     case CALZUNDI_OUT_OF_RANGE: return "a coordinate is not from -1000000 to 1000000";
     case CALZUNDI_FLAT_MACRO: return "a macro's left is not below its right, or its bottom not below its top";
     case CALZUNDI_PIN_TWICE: return "two pins are at one place";
@@ -146,7 +146,7 @@ static inline const char *calzundi_refusal_text(int32_t number)
     case CALZUNDI_BANDS: return "there is no band, the list isn't whole pairs, or a rate is above 1000000";
     case CALZUNDI_REACH: return "no band's limit reaches the metal";
     case CALZUNDI_EDGE_LIST:
-        return "there are more than 1279 edges, the list isn't whole fours, or a coordinate is not from -1000000 to 1000000";
+        return "there are more than 1535 edges, the list isn't whole fours, or a coordinate is not from -1000000 to 1000000";
     case CALZUNDI_EDGE_NOT_CLEAR: return "an edge has equal ends, or ends that are not clear of each other";
     case CALZUNDI_NOT_A_TREE: return "the edges and the pins are not one tree, or a point with a single edge is no pin";
     case CALZUNDI_GRID_SIZE: return "there are more than 16 pins or more than 16 macros";

@@ -59,6 +59,30 @@ fn is_searched(kind: &Kind) -> bool {
     )
 }
 
+/// In how many turns a kind comes up once: those that take a tenth of a second to make or to route in one of sixteen, and the largest,
+/// which take the second program a second and more, in one of sixty-four.
+fn turns(kind: &Kind) -> usize {
+    match kind {
+        Kind::Largest | Kind::LargestMaze | Kind::LargestFar => 64,
+        Kind::Pruned | Kind::BoundEnds => 16,
+        _ => 1,
+    }
+}
+
+/// One of these kinds after the other; where a slow one does not come up in its turn, one of the others instead.
+fn in_turn(kinds: &[Kind], seed: u64) -> Kind {
+    let (turn, number) = (seed as usize / kinds.len(), seed as usize % kinds.len());
+    let quick: Vec<Kind> = kinds
+        .iter()
+        .copied()
+        .filter(|kind| turns(kind) == 1)
+        .collect();
+    match kinds[number] {
+        kind if !turn.is_multiple_of(turns(&kind)) => quick[turn % quick.len()],
+        kind => kind,
+    }
+}
+
 /// An allowed net of each kind in turn, its entries in another order.
 pub fn allowed(seed: u64) -> Case {
     let kinds: Vec<Kind> = Kind::ALL
@@ -66,7 +90,7 @@ pub fn allowed(seed: u64) -> Case {
         .copied()
         .filter(|kind| !is_searched(kind))
         .collect();
-    let kind = kinds[seed as usize % kinds.len()];
+    let kind = in_turn(&kinds, seed);
     Case {
         kind: kind.name(),
         seed,
@@ -74,30 +98,9 @@ pub fn allowed(seed: u64) -> Case {
     }
 }
 
-/// Kinds that take a tenth of a second to make or to route.
-fn is_slow(kind: &Kind) -> bool {
-    matches!(
-        kind,
-        Kind::Largest | Kind::LargestMaze | Kind::LargestFar | Kind::Pruned | Kind::BoundEnds
-    )
-}
-
-/// An allowed net of every kind in turn, those included that are found by search; of the slow kinds in one turn of sixteen, with one of
-/// the others instead.
+/// An allowed net of every kind in turn, those included that are found by search.
 pub fn routed(seed: u64) -> Case {
-    let (turn, number) = (
-        seed as usize / Kind::ALL.len(),
-        seed as usize % Kind::ALL.len(),
-    );
-    let quick: Vec<Kind> = Kind::ALL
-        .iter()
-        .copied()
-        .filter(|kind| !is_slow(kind))
-        .collect();
-    let kind = match Kind::ALL[number] {
-        kind if is_slow(&kind) && !turn.is_multiple_of(16) => quick[turn % quick.len()],
-        kind => kind,
-    };
+    let kind = in_turn(Kind::ALL, seed);
     Case {
         kind: kind.name(),
         seed,
@@ -426,8 +429,8 @@ impl File {
     pub fn read_file(&self) -> Matched {
         let both = |call: Reading| {
             let random = &mut Random::new(self.seed);
-            let mut pins = Lent::new(random, 128, |bits| bits as i32);
-            let mut macros = Lent::new(random, 256, |bits| bits as i32);
+            let mut pins = Lent::new(random, 256, |bits| bits as i32);
+            let mut macros = Lent::new(random, 512, |bits| bits as i32);
             let answer = call(&self.bytes, pins.part(), macros.part());
             said(answer, &[pins.numbers, macros.numbers])
         };

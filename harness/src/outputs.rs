@@ -510,8 +510,8 @@ impl Operation {
 
 /// "Read a net file."
 fn read(bytes: &[u8]) -> Vec<String> {
-    let mut pins = Lent::new(128, |filling| filling);
-    let mut macros = Lent::new(256, |filling| filling);
+    let mut pins = Lent::new(256, |filling| filling);
+    let mut macros = Lent::new(512, |filling| filling);
     match library::read_file(bytes, pins.part(), macros.part()) {
         Ok((m, k, Weights { x, y })) => vec![
             format!("read 0 pins{}", pins.given(m, 2, true)),

@@ -69,7 +69,7 @@ fn the_example_routes_the_third_net() {
     assert_eq!(String::from_utf8(output.stdout).unwrap(), route(&file));
 }
 
-/// "The three bounds (64 pins, 64 macros, one million)", the greatest weight, and what follows from them.
+/// The three bounds (128 pins, 128 macros, one million), the greatest weight, and what follows from them.
 #[test]
 fn the_header_has_the_bounds() {
     let names = [
@@ -80,8 +80,8 @@ fn the_header_has_the_bounds() {
         ("CALZUNDI_WEIGHTS", 18),
         ("CALZUNDI_BLOCK_BYTES", BLOCK_BYTES),
         ("CALZUNDI_LONGEST_FILE", BLOCKS * BLOCK_BYTES),
-        ("CALZUNDI_READ_PIN_NUMBERS", 128),
-        ("CALZUNDI_READ_MACRO_NUMBERS", 256),
+        ("CALZUNDI_READ_PIN_NUMBERS", 256),
+        ("CALZUNDI_READ_MACRO_NUMBERS", 512),
         ("sizeof(calzundi_length)", 8),
         ("CALZUNDI_RATE", 1_000_000),
         ("CALZUNDI_BOUGHT_EDGES", reference::bought::EDGES),
@@ -95,7 +95,15 @@ fn the_header_has_the_bounds() {
 #[test]
 fn the_header_works_out_what_to_lend() {
     let (mut lines, mut expected) = (String::new(), String::new());
-    for (m, k) in [(1, 0), (3, 0), (2, 1), (60, 30), (61, 31), (64, 64)] {
+    for (m, k) in [
+        (1, 0),
+        (3, 0),
+        (2, 1),
+        (60, 30),
+        (61, 31),
+        (64, 64),
+        (128, 128),
+    ] {
         let n = m + 4 * k;
         let blocks = 1 + usize::div_ceil(m, 60) + usize::div_ceil(k, 30);
         let (sum_m, sum_k) = (format!("1 + {}", m - 1), format!("0 + {k}"));

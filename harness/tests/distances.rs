@@ -149,7 +149,7 @@ fn bounds_and_the_order_of_refusals() {
     assert_eq!(call(16, 16, one, 255), Err(21));
     assert_eq!(call(17, 17, one, 0), Err(36));
     assert_eq!(call(17, 17, Weights { x: 1, y: 9 }, 0), Err(18));
-    assert_eq!(call(65, 17, Weights { x: 0, y: 9 }, 0), Err(11));
+    assert_eq!(call(129, 17, Weights { x: 0, y: 9 }, 0), Err(11));
     let mut lent = vec![7; 300];
     assert_eq!(
         library::grid_distances(&pins(16), &macros(16), one, &mut lent),

@@ -26,17 +26,31 @@ fn stored() -> String {
     text("outputs.txt")
 }
 
-/// What [3] changed.
-fn beside() -> Differences {
-    Differences::parse(&text("beside.txt"))
+/// What has changed since in files of differences: by [3], and then by [8].
+struct Since {
+    beside: Differences,
+    twice: Differences,
 }
 
-/// A stored record as it is expected now: with the rule of [1], then the differences of [3].
-fn expected(stored: &str, beside: &Differences) -> String {
-    let weighed = weights(stored);
-    beside
-        .apply(&weighed)
-        .unwrap_or_else(|wrong| panic!("{wrong}"))
+impl Since {
+    fn read() -> Since {
+        Since {
+            beside: Differences::parse(&text("beside.txt")),
+            twice: Differences::parse(&text("twice.txt")),
+        }
+    }
+
+    /// A stored record with the rule of [1], then the differences of [3].
+    fn third(&self, stored: &str) -> String {
+        let changed = self.beside.apply(&weights(stored));
+        changed.unwrap_or_else(|wrong| panic!("{wrong}"))
+    }
+
+    /// A stored record as it is expected now.
+    fn expected(&self, stored: &str) -> String {
+        let changed = self.twice.apply(&self.third(stored));
+        changed.unwrap_or_else(|wrong| panic!("{wrong}"))
+    }
 }
 
 /// The input of a stored record, which must stand there as it would be written now.
@@ -48,9 +62,9 @@ fn case(record: &str) -> Case {
 
 /// Every difference, by two threads, in the order of the records.
 fn all_differences(records: &[String]) -> Vec<Difference> {
-    let beside = &beside();
+    let since = &Since::read();
     let of_half = |half: &[String]| -> Vec<Difference> {
-        let of = |record: &String| differences(&expected(record, beside), &case(record).record());
+        let of = |record: &String| differences(&since.expected(record), &case(record).record());
         half.iter().flat_map(of).collect()
     };
     let (first, second) = records.split_at(records.len() / 2);
@@ -125,11 +139,12 @@ const READS: usize = 1;
 /// terminal one.
 #[test]
 fn points_beside_the_tree_change_refined_outputs_and_no_other() {
-    let beside = beside();
+    let since = Since::read();
+    let beside = &since.beside;
     let (mut named, mut shorter, mut longer) = (0, 0, 0);
     for record in records(&stored()) {
         let before = weights(&record);
-        let after = expected(&record, &beside);
+        let after = since.third(&record);
         let title = record.lines().next().unwrap_or_default();
         let changes = Change::between(&before, &after);
         assert_eq!(beside.of.get(title).unwrap_or(&vec![]), &changes);
@@ -156,22 +171,72 @@ fn points_beside_the_tree_change_refined_outputs_and_no_other() {
 /// Records that [3] changes, those whose refined tree is shorter than it was, and those where it is longer.
 const CHANGED: (usize, usize, usize) = (39, 36, 2);
 
+/// "Blocks keep their layout, so old files read as before" [8]: what changes was refused for its numbers of pins or macros, or for its length.
+/// A net was refused 11 or 12; it has at most 128 of either now, or a file of 7 to 9 blocks, of which the program alone says something else. A
+/// damaged file was refused 1, 11 or 12 and has at most 9 blocks. Every other record stands as it stood.
+#[test]
+fn twice_the_net_changes_what_was_too_large_and_no_other() {
+    let since = Since::read();
+    let (mut nets, mut files) = (0, 0);
+    for record in records(&stored()) {
+        let (before, after) = (since.third(&record), since.expected(&record));
+        let title = record.lines().next().unwrap_or_default();
+        let changes = Change::between(&before, &after);
+        assert_eq!(since.twice.of.get(title).unwrap_or(&vec![]), &changes);
+        if changes.is_empty() {
+            continue;
+        }
+        let refused = |numbers: &[u32], of: &str| {
+            let said = |number: &u32| before.contains(&format!("\n{of} {number}\n"));
+            numbers.iter().any(said)
+        };
+        match case(&record).input {
+            Input::Net { lists, .. } => {
+                let (m, k) = (lists.pins.len() / 2, lists.macros.len() / 4);
+                let blocks = 1 + m.div_ceil(60) + k.div_ceil(30);
+                let is_route = changes.iter().all(|change| change.operation == "route");
+                assert!(refused(&[11, 12], "check"), "{title}");
+                assert!(
+                    m.max(k) <= 128 || (is_route && (7..=9).contains(&blocks)),
+                    "{title}"
+                );
+                nets += 1;
+            }
+            Input::File { bytes } => {
+                assert!(refused(&[1, 11, 12], "read"), "{title}");
+                assert!(bytes.len() <= 9 * netfile::BLOCK_BYTES, "{title}");
+                files += 1;
+            }
+        }
+    }
+    assert_eq!(
+        nets + files,
+        since.twice.of.len(),
+        "a title that no record has"
+    );
+    assert_eq!((nets, files), GROWN);
+}
+
+/// Nets and files that [8] changes.
+const GROWN: (usize, usize) = (34, 5);
+
 /// The differences of [3] are those of its rule: by the second program the stored refined tree is that of the rule of document 01, and the
-/// expected one that of [3], on every allowed net.
+/// expected one that of [3], on every net that was allowed then.
 #[test]
 fn the_second_program_gives_both_by_their_rules() {
-    let beside = beside();
+    let since = Since::read();
     let mut nets = 0;
     for record in records(&stored()) {
         let Input::Net { lists, .. } = case(&record).input else {
             continue;
         };
-        let (pins, macros, weights) = lists.parts();
-        let Ok(net) = check(pins, macros, weights) else {
+        if !record.contains("\ncheck 0\n") {
             continue;
-        };
+        }
+        let (pins, macros, weights) = lists.parts();
+        let net = check(pins, macros, weights).expect("a net that was allowed still is");
         let paths = terminal(&net);
-        let now = expected(&record, &beside);
+        let now = since.third(&record);
         for (rule, record) in [(Rule::OnTree, &record), (Rule::Beside, &now)] {
             let tree = refine_by(rule, &net, &paths);
             let edge = |edge: &Edge| {
@@ -232,7 +297,7 @@ fn a_file_of_weights_one_is_that_of_the_first_release() {
         assert_eq!(lists.weights, Weights::ONE);
         let (pins, macros, weights) = lists.parts();
         let write = |weights| {
-            let mut bytes = vec![0; 6 * netfile::BLOCK_BYTES];
+            let mut bytes = vec![0; netfile::BLOCKS * netfile::BLOCK_BYTES];
             let given =
                 library::write_file(pins, macros, weights, &mut bytes).expect("an allowed net");
             bytes.truncate(given);
@@ -248,7 +313,7 @@ fn a_file_of_weights_one_is_that_of_the_first_release() {
     assert_eq!(files, 1_756);
 }
 
-/// Neither file is written again: what a request changes stands beside them.
+/// No file is written again: what a request changes stands beside them.
 #[test]
 fn the_stored_file_is_the_one_of_the_first_release() {
     assert_eq!(
@@ -258,6 +323,10 @@ fn the_stored_file_is_the_one_of_the_first_release() {
     assert_eq!(
         format!("{:016x}", digest(text("beside.txt").as_bytes())),
         "d1f3fa32eb832bb6"
+    );
+    assert_eq!(
+        format!("{:016x}", digest(text("twice.txt").as_bytes())),
+        "c8af8dc07970fb21"
     );
 }
 
@@ -342,7 +411,7 @@ fn a_difference_is_named() {
         .find(|record| record.starts_with("net ") && record.contains(" three-pins "))
         .expect("the third worked net");
     let now = case(record).record();
-    let record = &expected(record, &beside());
+    let record = &Since::read().expected(record);
     assert_eq!(differences(record, &now), vec![]);
     let title = record.lines().next().unwrap().to_string();
     let named = |operation: &str, stored: &str, now: &str| {

@@ -304,8 +304,8 @@ impl Lent {
                 &vec![BEFORE; 512 * (1 + m.div_ceil(60) + k.div_ceil(30))],
                 at,
             ),
-            pins: numbers(128),
-            macros: numbers(256),
+            pins: numbers(256),
+            macros: numbers(512),
         }
     }
 
@@ -340,7 +340,7 @@ fn by_slices(lists: &Lists) -> ([Answer; 8], Vec<u8>) {
     let (mut tree, mut drawn) = (numbers(4 * (n + m)), numbers(8 * (n + m)));
     let mut moved = numbers(8 * (n + m));
     let mut file = vec![BEFORE; 512 * (1 + m.div_ceil(60) + k.div_ceil(30))];
-    let (mut pins_read, mut macros_read) = (numbers(128), numbers(256));
+    let (mut pins_read, mut macros_read) = (numbers(256), numbers(512));
     library::check(pins, macros, weights).unwrap();
     let (v, e) = library::graph(pins, macros, weights, &mut vertices, &mut edges).unwrap();
     let (p, terminal) = library::terminal_tree(pins, macros, weights, &mut paths).unwrap();
@@ -601,13 +601,13 @@ fn bands_are_read_and_nothing_else() {
 fn edges_are_read_and_nothing_else() {
     let Lists { pins, macros, .. } = net(Kind::Largest, 1);
     let one = Weights::ONE;
-    let mut space = vec![0; 8 * 384];
+    let mut space = vec![0; 8 * 768];
     let (count, total, metal) = library::slid_tree(&pins, &macros, one, &mut space).unwrap();
     let tree = &space[..4 * count];
     let passed = answer(0, &[total as usize, metal as usize]);
     let refused = |number| answer(number, &[COUNT, COUNT]);
-    let longest = vec![0; 4 * 1_279];
-    let too_long = vec![0; 4 * 1_280];
+    let longest = vec![0; 4 * 1_535];
+    let too_long = vec![0; 4 * 1_536];
     let pins = Fenced::of(&pins, At::Back).read_only();
     let macros = Fenced::of(&macros, At::Back).read_only();
     for at in [At::Front, At::Back] {

@@ -172,12 +172,13 @@ fn input_in_small_pieces() {
     }
 }
 
-/// Nothing, a byte less or more than whole blocks, and much more than six blocks.
+/// Nothing, a byte less or more than whole blocks, and much more than nine blocks.
 #[test]
 fn inputs_of_every_length() {
     let largest = netfile::write(&net(Kind::Largest, 1));
     for length in [
-        0, 1, 511, 512, 513, 3_071, 3_072, 3_073, 3_583, 3_584, 4_096, 65_536, 1_000_000,
+        0, 1, 511, 512, 513, 3_071, 3_072, 3_073, 4_607, 4_608, 4_609, 5_119, 5_120, 65_536,
+        1_000_000,
     ] {
         let mut bytes = largest.clone();
         bytes.resize(length, 0);
@@ -228,7 +229,7 @@ fn outputs_that_cannot_be_written() {
     }
 }
 
-/// An input without end is longer than six blocks, and the answer does not wait for more.
+/// An input without end is longer than nine blocks, and the answer does not wait for more.
 #[test]
 fn an_endless_input() {
     let zeros = File::open("/dev/zero").unwrap();

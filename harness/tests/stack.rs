@@ -1,12 +1,15 @@
 //! How much stack a call takes, as the header says it: the tables of the router are local, so a caller with small stacks wants to know.
 
+use std::io::Write;
+use std::process::{Command, Stdio};
 use std::thread;
 
-use harness::library;
 use harness::matching::routed;
+use harness::{library, program};
 use reference::generate::{net, weighted, Kind};
 use reference::lists::Lists;
 use reference::net::Weights;
+use reference::netfile;
 
 /// What include/calzundi.h says that a call has to itself.
 const STACK: usize = calzundi::STACK_BYTES;
@@ -26,17 +29,19 @@ fn call_all(lists: &Lists) {
     library::price(pins, macros, weights, &[u64::MAX, 1_000_000]).unwrap();
     let (few_pins, few_macros) = (&pins[..pins.len().min(32)], &macros[..macros.len().min(64)]);
     library::grid_distances(few_pins, few_macros, weights, &mut vec![0; 256]).unwrap();
-    let mut bytes = vec![0; 3_072];
+    let mut bytes = vec![0; calzundi::LONGEST_FILE];
     let given = library::write_file(pins, macros, weights, &mut bytes).unwrap();
-    let (mut pins, mut macros) = (vec![0; 128], vec![0; 256]);
+    let (mut pins, mut macros) = (vec![0; 256], vec![0; 512]);
     library::read_file(&bytes[..given], &mut pins, &mut macros).unwrap();
 }
 
-/// Pins at both ends of a row of 64 macros: ways of more than a hundred vertices.
+/// Pins at both ends of a row of 128 macros: ways of more than two hundred vertices.
 fn long_ways() -> Lists {
     Lists {
-        pins: vec![0, 1, 400, 1],
-        macros: (0..64).flat_map(|i| [3 + 6 * i, 0, 6 + 6 * i, 2]).collect(),
+        pins: vec![0, 1, 800, 1],
+        macros: (0..128)
+            .flat_map(|i| [3 + 6 * i, 0, 6 + 6 * i, 2])
+            .collect(),
         ..Lists::default()
     }
 }
@@ -48,18 +53,23 @@ fn longest_tree() -> ([i32; 4], Vec<i32>) {
     ([0, 0, end, 0], steps.collect())
 }
 
+/// 128 pins and 128 macros, or ways as long as they get.
+fn largest() -> [Lists; 6] {
+    [
+        net(Kind::Largest, 1),
+        net(Kind::LargestMaze, 1),
+        weighted(Kind::LargestMaze, 2),
+        weighted(Kind::LargestFar, 2),
+        weighted(Kind::LargestFar, 3),
+        long_ways(),
+    ]
+}
+
 /// A stack overflow would end the test, and with it the gate.
 #[test]
 fn half_a_mebibyte_is_enough() {
     let nets = (0..300).map(|seed| routed(seed).lists);
-    let largest = [
-        net(Kind::Largest, 1),
-        net(Kind::LargestMaze, 1),
-        weighted(Kind::LargestMaze, 2),
-        weighted(Kind::LargestFar, 3),
-        long_ways(),
-    ];
-    let nets: Vec<Lists> = nets.chain(largest).collect();
+    let nets: Vec<Lists> = nets.chain(largest()).collect();
     let (ends, steps) = longest_tree();
     let run = move || {
         nets.iter().for_each(call_all);
@@ -69,4 +79,26 @@ fn half_a_mebibyte_is_enough() {
     };
     let small = thread::Builder::new().stack_size(STACK).spawn(run);
     small.unwrap().join().unwrap();
+}
+
+/// The program `route` as a whole, with what it was started with, has no more either.
+#[test]
+fn half_a_mebibyte_is_enough_for_route() {
+    for lists in largest() {
+        let mut route = Command::new("sh")
+            .args(["-c", "ulimit -s \"$1\" && exec \"$2\"", "sh"])
+            .arg((STACK / 1024).to_string())
+            .arg(program::path())
+            .env_clear()
+            .env("PATH", "/usr/bin:/bin")
+            .stdin(Stdio::piped())
+            .stdout(Stdio::piped())
+            .spawn()
+            .unwrap();
+        let file = netfile::write(&lists);
+        route.stdin.take().unwrap().write_all(&file).unwrap();
+        let output = route.wait_with_output().unwrap();
+        assert!(output.status.success(), "{}", output.status);
+        assert!(output.stdout.starts_with(b"pins "), "{lists:?}");
+    }
 }

@@ -38,7 +38,7 @@ fn example_file(name: &str) -> Vec<u8> {
 fn files_of_the_worked_nets() {
     for name in ALLOWED {
         let (lists, bytes) = (example(name), example_file(name));
-        let (mut pins, mut macros) = (vec![0; 128], vec![0; 256]);
+        let (mut pins, mut macros) = (vec![0; 256], vec![0; 512]);
         let (m, k, weights) = library::read_file(&bytes, &mut pins, &mut macros).expect(name);
         assert_eq!(pins[..2 * m], lists.pins, "{name}");
         assert_eq!(macros[..4 * k], lists.macros, "{name}");
@@ -180,7 +180,7 @@ fn refusals_of_the_worked_nets() {
     }
 }
 
-/// "Coordinate 1,000,000 passes, 1,000,001 is 13; 64 pins pass, 65 are 11; 64 macros pass, 65 are 12."
+/// "Coordinate 1,000,000 passes, 1,000,001 is 13", and by [8] 128 pins pass, 129 are 11; 128 macros pass, 129 are 12.
 #[test]
 fn trees_at_the_bounds() {
     let ends = [-1_000_000, -1_000_000, 1_000_000, 1_000_000];
@@ -197,12 +197,43 @@ fn trees_at_the_bounds() {
             .flat_map(|i| [i, 0, i + 1, 1])
             .collect::<Vec<i32>>()
     };
-    let laid = trees(&pins(64), &[]).unwrap();
-    assert_eq!((laid.terminal, laid.refined), (63, 63));
-    assert_eq!(trees(&pins(65), &[]), Err(11));
-    let laid = trees(&[0, 0, 64, 1], &macros(64)).unwrap();
-    assert_eq!((laid.terminal, laid.refined), (65, 65));
-    assert_eq!(trees(&[0, 0], &macros(65)), Err(12));
+    let laid = trees(&pins(128), &[]).unwrap();
+    assert_eq!((laid.terminal, laid.refined), (127, 127));
+    assert_eq!(trees(&pins(129), &[]), Err(11));
+    let laid = trees(&[0, 0, 128, 1], &macros(128)).unwrap();
+    assert_eq!((laid.terminal, laid.refined), (129, 129));
+    assert_eq!(trees(&[0, 0], &macros(129)), Err(12));
+}
+
+/// [8]: a file may have 9 blocks, and with 10 it is 1 whatever it counts. A right layout of 9 with 129 pins or macros is 11 or 12.
+#[test]
+fn files_at_the_bounds() {
+    for (m, k, blocks, answer) in [
+        (128, 128, 9, Ok((128, 128, Weights::ONE))),
+        (129, 128, 9, Err(11)),
+        (128, 129, 9, Err(12)),
+        (480, 0, 9, Err(11)),
+        (1, 129, 7, Err(12)),
+        (128, 151, 10, Err(1)),
+        (481, 0, 10, Err(1)),
+    ] {
+        // Pins on a diagonal below squares along another.
+        let file = netfile::write(&Lists {
+            pins: (0..m).flat_map(|i| [i, i - 9]).collect(),
+            macros: (0..k)
+                .flat_map(|i| [2 * i, 2 * i, 2 * i + 1, 2 * i + 1])
+                .collect(),
+            ..Lists::default()
+        });
+        assert_eq!(file.len(), blocks * netfile::BLOCK_BYTES, "{m} and {k}");
+        let (mut pins, mut macros) = (vec![0; 256], vec![0; 512]);
+        let read = library::read_file(&file, &mut pins, &mut macros);
+        assert_eq!(read, answer, "{m} and {k}");
+        for (fewer, short) in [((255, 512), "pins"), ((256, 511), "macros")] {
+            let read = library::read_file(&file, &mut pins[..fewer.0], &mut macros[..fewer.1]);
+            assert_eq!(read, Err(21), "{m} and {k}, too little for {short}");
+        }
+    }
 }
 
 /// The net of the first request: weights 1 and 3, and a round that gains 1 in cost and lays 1 more metal than it removes.
@@ -267,7 +298,7 @@ fn weight_words_of_the_file() {
             blocks[0][at] = word;
             netfile::seal(&mut blocks[0]);
             let bytes = netfile::bytes_of(&blocks);
-            let read = library::read_file(&bytes, &mut [0; 128], &mut [0; 256]);
+            let read = library::read_file(&bytes, &mut [0; 256], &mut [0; 512]);
             let weight = if word == 0 { 1 } else { word as i32 };
             let weights = match at {
                 6 => Weights { x: weight, y: 1 },

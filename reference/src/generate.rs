@@ -22,7 +22,7 @@ pub use bands::{bands, BandList};
 pub use bought::{bought, Bought, Ours};
 pub use damaged::{damaged, damaged_weighted, Damage};
 pub use hostile::{hostile, hostile_weighted, refusal, Hostile};
-pub use nets::{net, weighted, Kind};
+pub use nets::{half, net, weighted, Kind};
 pub use permuted::permuted;
 pub use walls::chambers;
 

@@ -90,9 +90,9 @@ pub struct Net {
 }
 
 impl Net {
-    /// "There are 1 to 64 pins and 0 to 64 macros."
-    pub const PINS: usize = 64;
-    pub const MACROS: usize = 64;
+    /// "Pins and macros may now be 128 each", and there is at least 1 pin.
+    pub const PINS: usize = 128;
+    pub const MACROS: usize = 128;
     /// "Coordinates are signed whole numbers from −1,000,000 to 1,000,000."
     pub const COORDINATE: i32 = 1_000_000;
     /// "Two weights, whole numbers 1 to 8."

@@ -6,8 +6,8 @@ use crate::net::Weights;
 /// "Blocks of 512 bytes, read as 128 words of 32 bits, low byte first."
 pub const BLOCK_BYTES: usize = 512;
 pub const BLOCK_WORDS: usize = 128;
-/// "The longest file is 6 blocks."
-pub const BLOCKS: usize = 6;
+/// "A file up to 9 blocks."
+pub const BLOCKS: usize = 9;
 
 /// "Word 0 is the kind (1 head, 2 pins, 3 macros)."
 const HEAD: u32 = 1;
@@ -122,7 +122,7 @@ fn list_block(kind: u32, number: usize, entry_words: usize, numbers: &[i32]) -> 
 /// The lists and the weights of a file, or its refusal 1, 2 or 3. The net that they are is not
 /// checked here.
 pub fn read(bytes: &[u8]) -> Result<Lists, u32> {
-    // "1: not 1 to 6 whole blocks."
+    // "1: not whole blocks", none, or more than 9.
     let count = bytes.len() / BLOCK_BYTES;
     if !bytes.len().is_multiple_of(BLOCK_BYTES) || !(1..=BLOCKS).contains(&count) {
         return Err(1);

@@ -174,7 +174,7 @@ pub fn write_file(
     Ok(length)
 }
 
-/// "Read a net file. 21 first: fewer than 128 numbers lent for pins or 256 for macros", 1, 2, 3,
+/// "Read a net file. 21 first"; "the reader asks for 256 and 512 numbers", 1, 2, 3,
 /// "then 11 to 17". m and k, and "a read's result gives the weights after m and k".
 pub fn read_file(
     bytes: &[u8],

@@ -31,7 +31,7 @@ fn cost_and_metal() {
     assert_eq!(checked(&[5, 5], &[], &[]), Ok((0, 0)));
 }
 
-/// "33, not whole fours, above 1,279 edges, or a coordinate out of range."
+/// "33, not whole fours", above 1,535 edges, "or a coordinate out of range."
 #[test]
 fn refused_33() {
     let three = net(&THREE, &[]);
@@ -170,7 +170,7 @@ fn kinds_give_what_they_name() {
 fn our_trees_pass() {
     for (name, lists) in common::nets(8) {
         let (pins, macros, weights) = lists.parts();
-        let mut edges = vec![0; 8 * 384];
+        let mut edges = vec![0; 8 * 768];
         for given in [refined_tree, slid_tree] {
             let (count, total, metal) = given(pins, macros, weights, &mut edges).unwrap();
             let checked = check_tree(pins, macros, weights, &edges[..4 * count]);

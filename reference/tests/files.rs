@@ -10,7 +10,7 @@ use reference::operations::read_file;
 
 /// What the operation answers for bytes, with space enough lent.
 fn answer(bytes: &[u8]) -> Result<(usize, usize, Weights), u32> {
-    read_file(bytes, &mut [0; 128], &mut [0; 256])
+    read_file(bytes, &mut [0; 256], &mut [0; 512])
 }
 
 fn head(m: u32, k: u32) -> Block {
@@ -53,12 +53,12 @@ fn sums_wrap() {
     );
 }
 
-/// 64 pins are blocks of 60 and 4, 64 macros of 30, 30 and 4: "the longest file is 6 blocks".
+/// 128 pins are blocks of 60, 60 and 8, 128 macros of 30, 30, 30, 30 and 8: "a file up to 9 blocks".
 #[test]
 fn the_longest_file() {
     let file = write(&Lists {
-        pins: (0..128).collect(),
-        macros: (0..256).collect(),
+        pins: (0..256).collect(),
+        macros: (0..512).collect(),
         ..Lists::default()
     });
     let blocks = blocks_of(&file);
@@ -66,10 +66,13 @@ fn the_longest_file() {
     let expected = [
         [1, 0, 0],
         [2, 1, 60],
-        [2, 2, 4],
-        [3, 3, 30],
+        [2, 2, 60],
+        [2, 3, 8],
         [3, 4, 30],
-        [3, 5, 4],
+        [3, 5, 30],
+        [3, 6, 30],
+        [3, 7, 30],
+        [3, 8, 8],
     ];
     assert_eq!(fronts, expected);
 }
@@ -152,10 +155,10 @@ fn a_weight_outside_has_no_word() {
 
 #[test]
 fn lengths_come_first() {
-    for blocks in [0, 7, 8, 100] {
+    for blocks in [0, 10, 11, 100] {
         assert_eq!(answer(&vec![1; 512 * blocks]), Err(1));
     }
-    for length in [1, 511, 513, 3071, 3073] {
+    for length in [1, 511, 513, 3071, 3073, 4607, 4609] {
         assert_eq!(answer(&vec![0; length]), Err(1));
     }
 }

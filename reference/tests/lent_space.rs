@@ -139,14 +139,17 @@ fn read_space() {
     for (name, l, net) in allowed(4) {
         let file = netfile::write(&l);
         let said = (net.m(), net.k(), net.weights());
-        lend(128, &l.pins, said, &name, |space| {
-            operations::read_file(&file, space, &mut [0; 256])
+        lend(256, &l.pins, said, &name, |space| {
+            operations::read_file(&file, space, &mut [0; 512])
         });
-        lend(256, &l.macros, said, &name, |space| {
-            operations::read_file(&file, &mut [0; 128], space)
+        lend(512, &l.macros, said, &name, |space| {
+            operations::read_file(&file, &mut [0; 256], space)
         });
     }
-    let (pins, macros) = (&mut [0; 127], &mut [0; 256]);
+    let (pins, macros) = (&mut [0; 255], &mut [0; 512]);
+    assert_eq!(operations::read_file(&[], pins, macros), Err(21));
+    // What the reader asked for before [8] is too little now, for any file.
+    let (pins, macros) = (&mut [0; 128], &mut [0; 256]);
     assert_eq!(operations::read_file(&[], pins, macros), Err(21));
 }
 
@@ -164,9 +167,9 @@ fn the_net_comes_before_the_space() {
             let Err(number) = operations::check(&pins, &macros, weights) else {
                 continue;
             };
-            let (small, big) = (&mut [77; 5_000], &mut [77; 5_000]);
-            let wide = &mut [77; 5_000];
-            let bytes = &mut [77; 5_000];
+            let (small, big) = (&mut [77; 12_000], &mut [77; 12_000]);
+            let wide = &mut [77; 12_000];
+            let bytes = &mut [77; 12_000];
             let refused = Err(number);
             assert_eq!(
                 operations::graph(&pins, &macros, weights, small, big),
@@ -184,8 +187,8 @@ fn the_net_comes_before_the_space() {
             assert_eq!(price, Err(number));
             let file = operations::write_file(&pins, &macros, weights, bytes);
             assert_eq!(file, Err(number));
-            assert_eq!((*small, *big), ([77; 5_000], [77; 5_000]));
-            assert_eq!((*wide, *bytes), ([77; 5_000], [77; 5_000]));
+            assert_eq!((*small, *big), ([77; 12_000], [77; 12_000]));
+            assert_eq!((*wide, *bytes), ([77; 12_000], [77; 12_000]));
         }
     }
 }
@@ -195,7 +198,7 @@ fn the_net_comes_before_the_space() {
 fn a_refused_file_alters_nothing() {
     let mut file = netfile::write(&net(Kind::Largest, 1));
     file[513] ^= 1;
-    let (pins, macros) = (&mut [77; 128], &mut [77; 256]);
+    let (pins, macros) = (&mut [77; 256], &mut [77; 512]);
     assert_eq!(operations::read_file(&file, pins, macros), Err(2));
-    assert_eq!((*pins, *macros), ([77; 128], [77; 256]));
+    assert_eq!((*pins, *macros), ([77; 256], [77; 512]));
 }

@@ -127,19 +127,19 @@ fn bounds() {
     let past = [999_999, 999_999, 1_000_001, 1_000_000];
     assert_eq!(operations::check(&[0, 0], &past, Weights::ONE), Err(13));
     let pins = |count: i32| (0..count).flat_map(|i| [i, 0]).collect::<Vec<i32>>();
-    assert_eq!(operations::check(&pins(64), &[], Weights::ONE), Ok(()));
-    assert_eq!(operations::check(&pins(65), &[], Weights::ONE), Err(11));
+    assert_eq!(operations::check(&pins(128), &[], Weights::ONE), Ok(()));
+    assert_eq!(operations::check(&pins(129), &[], Weights::ONE), Err(11));
     let macros = |count: i32| {
         (0..count)
             .flat_map(|i| [i, 0, i + 1, 1])
             .collect::<Vec<i32>>()
     };
     assert_eq!(
-        operations::check(&[0, 0], &macros(64), Weights::ONE),
+        operations::check(&[0, 0], &macros(128), Weights::ONE),
         Ok(())
     );
     assert_eq!(
-        operations::check(&[0, 0], &macros(65), Weights::ONE),
+        operations::check(&[0, 0], &macros(129), Weights::ONE),
         Err(12)
     );
 }

@@ -32,9 +32,9 @@ pub use refusal::Refusal;
 pub const VERSION: &str = env!("CALZUNDI_VERSION");
 
 /// The most pins that a net may have.
-pub const PINS: usize = 64;
+pub const PINS: usize = 128;
 /// The most macros that a net may have.
-pub const MACROS: usize = 64;
+pub const MACROS: usize = 128;
 /// A coordinate is from minus this to this.
 pub const COORDINATE: i32 = 1_000_000;
 /// A weight is from 1 to this.
@@ -44,7 +44,7 @@ pub const GRID_PINS: usize = 16;
 /// The most macros of such a net.
 pub const GRID_MACROS: usize = 16;
 /// The most edges of a bought-in tree.
-pub const BOUGHT_EDGES: usize = 1_279;
+pub const BOUGHT_EDGES: usize = 1_535;
 /// A band's rate is at most this.
 pub const RATE: u64 = 1_000_000;
 /// A net file is blocks of so many bytes.

@@ -7,7 +7,7 @@ use std::fmt;
 #[derive(Clone, Copy, Debug, PartialEq, Eq, PartialOrd, Ord, Hash)]
 #[non_exhaustive]
 pub enum Refusal {
-    /// 1: the file is not 1 to 6 whole blocks.
+    /// 1: the file is not 1 to 9 whole blocks.
     Length,
     /// 2: a block's word 126 or 127 is wrong.
     Sums,
@@ -35,7 +35,7 @@ pub enum Refusal {
     Bands,
     /// 32: no band's limit reaches the metal.
     Reach,
-    /// 33: the edge list isn't whole fours, has more than 1,279 edges, or a coordinate is out of range.
+    /// 33: the edge list isn't whole fours, has more than 1,535 edges, or a coordinate is out of range.
     EdgeList,
     /// 34: an edge has equal ends, or ends that are not clear of each other.
     EdgeNotClear,
@@ -74,16 +74,16 @@ impl Refusal {
     /// The number and its meaning, as include/calzundi.h has them for C.
     const fn told(self) -> (i32, &'static str) {
         match self {
-            Refusal::Length => (1, "the file is not 1 to 6 whole blocks"),
+            Refusal::Length => (1, "the file is not 1 to 9 whole blocks"),
             Refusal::Sums => (2, "a block's word 126 or 127, its sums, is wrong"),
             Refusal::Layout => (3, "the layout is not a net file's"),
             Refusal::PinList => (
                 11,
-                "there is no pin, there are more than 64, or the list isn't whole pairs",
+                "there is no pin, there are more than 128, or the list isn't whole pairs",
             ),
             Refusal::MacroList => (
                 12,
-                "there are more than 64 macros, or the list isn't whole fours",
+                "there are more than 128 macros, or the list isn't whole fours",
             ),
             Refusal::OutOfRange => (13, "a coordinate is not from -1000000 to 1000000"),
             Refusal::FlatMacro => (
@@ -102,7 +102,7 @@ impl Refusal {
             Refusal::Reach => (32, "no band's limit reaches the metal"),
             Refusal::EdgeList => (
                 33,
-                "there are more than 1279 edges, the list isn't whole fours, or a coordinate is not from -1000000 to 1000000",
+                "there are more than 1535 edges, the list isn't whole fours, or a coordinate is not from -1000000 to 1000000",
             ),
             Refusal::EdgeNotClear => (
                 34,

@@ -36,8 +36,8 @@ fn answers_are_the_second_programs() {
             let (pins, macros, weights) = lists.parts();
             let name = format!("{} {seed}", kind.name());
             let net = made(&lists);
-            let mut numbers = vec![0; 16 * 320];
-            let mut vertices = vec![0; 2 * 320];
+            let mut numbers = vec![0; 16 * 640];
+            let mut vertices = vec![0; 2 * 640];
             assert_eq!(net.check(), Ok(()), "{name}");
 
             let graph = net.graph().unwrap();
@@ -48,7 +48,7 @@ fn answers_are_the_second_programs() {
             assert_eq!(flat(graph.edges.iter()), numbers[..4 * e], "{name}");
 
             let tree = net.terminal_tree().unwrap();
-            let mut paths = vec![0; 5 * 64];
+            let mut paths = vec![0; 5 * 128];
             let (count, total) =
                 operations::terminal_tree(pins, macros, weights, &mut paths).unwrap();
             assert_eq!((tree.paths.len(), tree.total), (count, total), "{name}");

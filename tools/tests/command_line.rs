@@ -478,10 +478,10 @@ fn verify_says_what_is_wrong() {
     let text = String::from_utf8(output.stdout).unwrap();
     let pin = "pin 2 (10 0) is at no edge's end";
     assert!(text.contains(pin), "{text}");
-    let many = "0 0 4 -2\n".repeat(1_280);
+    let many = "0 0 4 -2\n".repeat(1_536);
     let output = run(&["verify", word(&net), "-"], many.as_bytes());
     let text = String::from_utf8(output.stdout).unwrap();
-    let first = "33: there are 1280 edges, and at most 1279 are allowed\n  line 1280, edge 1280 (0 0 4 -2) is the first that is too many\n";
+    let first = "33: there are 1536 edges, and at most 1535 are allowed\n  line 1536, edge 1536 (0 0 4 -2) is the first that is too many\n";
     assert!(text.ends_with(first), "{text}");
     // Bad lines, and the net's own refusal, which comes first.
     for (tree, wrong) in [

@@ -198,19 +198,19 @@ fn refusals_say_their_cause() {
         first("macro 0 0 1 1\n".into()),
         "standard input: refused 11: there is no pin\n"
     );
-    let many: String = (0..70).map(|x| format!("\npin {x} 0")).collect();
+    let many: String = (0..140).map(|x| format!("\npin {x} 0")).collect();
     assert_eq!(
         first(many),
-        "standard input: refused 11: there are 70 pins, and at most 64 are allowed\n  \
-         line 66, pin 65 (64 0) is the first that is too many\n"
+        "standard input: refused 11: there are 140 pins, and at most 128 are allowed\n  \
+         line 130, pin 129 (128 0) is the first that is too many\n"
     );
-    let many: String = (0..65)
+    let many: String = (0..129)
         .map(|x| format!("macro {x} 0 {} 1\n", x + 1))
         .collect();
     assert_eq!(
         first(format!("pin 0 5\n{many}")),
-        "standard input: refused 12: there are 65 macros, and at most 64 are allowed\n  \
-         line 66, macro 65 (64 0 65 1) is the first that is too many\n"
+        "standard input: refused 12: there are 129 macros, and at most 128 are allowed\n  \
+         line 130, macro 129 (128 0 129 1) is the first that is too many\n"
     );
 }
 

@@ -157,15 +157,15 @@ fn what_could_not_be_seen() {
     let thin = (-100, -1_000_000, 100, 900_000);
     let ends = [(-1_000_000, -1_000_000), (1_000_000, 1_000_000)];
     seen(&Net::new(ends, [thin]), "a macro 200 wide on two million");
-    let line = (0..64).map(|x| (x, 0));
-    seen(&Net::new(line, none), "64 pins on a line");
-    let column = (0..64).map(|y| (-1_000_000, -1_000_000 + y * 31_000));
-    seen(&Net::new(column, none), "64 pins on an upright line");
-    let near = (0..63).map(|at| (7 * at % 64, 11 * at % 61));
+    let line = (0..128).map(|x| (x, 0));
+    seen(&Net::new(line, none), "128 pins on a line");
+    let column = (0..128).map(|y| (-1_000_000, -1_000_000 + y * 15_500));
+    seen(&Net::new(column, none), "128 pins on an upright line");
+    let near = (0..127).map(|at| (7 * at % 128, 11 * at % 61));
     let far = near.chain([(1_000_000, 1_000_000)]);
     seen(
         &Net::new(far, none),
-        "63 pins near one place and one far away",
+        "127 pins near one place and one far away",
     );
     let slits = (0..20).map(|at| (at * 2, 0, at * 2 + 1, 1_000_000));
     let pins = [(-1_000_000, 5), (1_000_000, 6)];

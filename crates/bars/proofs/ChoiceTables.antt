@@ -124,7 +124,7 @@ module _ {net : Net} {pts : List ℤ} {ks : List ℕ} {z : Size} {pins ms : List
   T = edgesIn pts ks (z .edges)
 
   abbrev seats : List ℕ
-  seats = seatsOf pts (z .points) pins (z .pins) (replicate 64 0)
+  seats = seatsOf pts (z .points) pins (z .pins) (replicate pinBound 0)
 
   within : (k : ℕ) → k < e → (firstEnd (getD ks k 0) < n) × (secondEnd (getD ks k 0) < n)
   within k h = g .held .within .ends k
@@ -154,8 +154,8 @@ module _ {net : Net} {pts : List ℤ} {ks : List ℕ} {z : Size} {pins ms : List
   seat-at : (j : ℕ) → j < z .pins → getD seats j 0 ≡ seatOf pts n (pinAt pins j)
   unfolding seatsOf
   seat-at j h =
-      set-below (λ i y. seatOf pts n (pinAt pins i)) (replicate 64 0) (z .pins) j
-      (omega (arith, g .few-pins, length-replicate {A = ℕ} 64 0)) h
+      set-below (λ i y. seatOf pts n (pinAt pins i)) (replicate pinBound 0) (z .pins) j
+      (omega (arith, g .few-pins, length-replicate {A = ℕ} pinBound 0)) h
 
   module _ (v : View) (on : Place → Bool) (is : (i : ℕ) → i < n → on (placeAt pts i) ≡ onIt v i) where
     pin-on : (j : ℕ) → j < z .pins → on (pinAt pins j) ≡ onIt v (getD seats j 0)

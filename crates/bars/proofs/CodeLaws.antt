@@ -35,7 +35,7 @@ use Rattle.bars.specs.Hanging.{hang}
 use Rattle.plane.specs.Flat.{macroAt}
 use Rattle.bars.specs.Steps.{upTo, setUpTo}
 use Rattle.bars.specs.Turned.{raised, spot, face, View, view, onIt, spotAt, seen, seenEdge, seenPoint}
-use Rattle.straight.specs.Table.{firstEnd, secondEnd}
+use Rattle.straight.specs.Table.{straightBound, firstEnd, secondEnd}
 use Rattle.bars.specs.Labelling.{levelAt, united, joinedBy, leads}
 use Rattle.bars.specs.Hanging.{aheadOf, behindOf, longOf, counted, shorter, hung}
 use Rattle.bars.specs.Passing.{seenBy, pastMacros, pastPoints, pastEdges, wayOf, sameSpot, ownOf, frontOf, lowOf, highOf, endsAt}
@@ -309,10 +309,10 @@ reach-less v n e ms b d q =
 
 -- Products that fit
 
-pub rate-fits : (b c : ℕ) → b ≤ 768 → c < 256 → b * c ≤ 768 * 255
+pub rate-fits : (b c : ℕ) → b ≤ straightBound → c < 256 → b * c ≤ straightBound * 255
 rate-fits b c h k = mul-le-mul h (let z : c ≤ 255 = omega (arith, k) in z)
 
-pub saving-fits : (a b c : ℕ) → a ≤ 4294967296 → b ≤ 768 → c < 256 → a * (b * c) ≤ 4294967296 * (768 * 255)
+pub saving-fits : (a b c : ℕ) → a ≤ 4294967296 → b ≤ straightBound → c < 256 → a * (b * c) ≤ 4294967296 * (straightBound * 255)
 saving-fits a b c h k l = mul-le-mul h (rate-fits b c k l)
 
 pub off : (p : Bool) → not p ≡ false → p ≡ true

@@ -104,7 +104,7 @@ pub fn choice(
     ensures { λ r. ⌜ r ≡ searched (now (pts .entry)) (now (keys .entry))
         (labelled Above (now (pts .entry)) (now (keys .entry)) (z .points) (z .edges) (now (rows .entry)))
         (labelled Right (now (pts .entry)) (now (keys .entry)) (z .points) (z .edges) (now (columns .entry))) z (now (macros .entry))
-        (seatsOf (now (pts .entry)) (z .points) (now (pins .entry)) (z .pins) (replicate 64 0)) ⌝ }
+        (seatsOf (now (pts .entry)) (z .points) (now (pins .entry)) (z .pins) (replicate pinBound 0)) ⌝ }
 {
     label::label(pts, keys, z.points, z.edges, Side::Above, &mut *rows);
     label::label(pts, keys, z.points, z.edges, Side::Right, &mut *columns);

@@ -69,11 +69,11 @@ pub record Table : Type 0 where
   -- a lone pin: with no edge it passes, with an edge it never does
   pub lone : judged plain onePin [] ≡ given (pos 0, pos 0)
   pub lone-edge : judged plain onePin (edge (pos 5) (pos 5) (pos 6) (pos 5)) ≡ refused 35
-  -- 33: not whole fours; a coordinate out of range, in the last edge too, and before any 34; more than 1,279 edges
+  -- 33: not whole fours; a coordinate out of range, in the last edge too, and before any 34; more than 1,535 edges
   pub not-whole : judged plain aroundOne (tree ++ (pos 0 ∷ [])) ≡ refused 33
   pub out-of-range : judged plain aroundOne (still ++ far) ≡ refused 33
-  pub too-many : judged plain aroundOne (replicate 5120 (pos 0)) ≡ refused 33
-  pub as-many : judged plain aroundOne (replicate 5116 (pos 0)) ≡ refused 34
+  pub too-many : judged plain aroundOne (replicate 6144 (pos 0)) ≡ refused 33
+  pub as-many : judged plain aroundOne (replicate 6140 (pos 0)) ≡ refused 34
   -- 34: through a macro, inside one, with an end inside, and with equal ends, also twice; before any 35
   pub not-clear : judged plain aroundOne through ≡ refused 34
   pub within : judged plain aroundOne (edge (pos 5) (pos 0) (pos 5) (pos 1)) ≡ refused 34

@@ -4,7 +4,7 @@ use Rattle.net.specs.Bounds.{pinBound}
 
 -- C33: at most so many edges
 abbrev pub boughtBound : ℕ
-boughtBound = 1279
+boughtBound = 1535
 
 -- pins, and two ends an edge
 abbrev pub pointLimit : ℕ

@@ -5,7 +5,7 @@
 -- one edge fewer than points; each edge in its turn gives its two ends one label, and in the end there is one label. That the two say the
 -- same is proved (proofs/PassLaws).
 --
---   Bounds     boughtBound, pointLimit         1,279 edges; the points that they and the pins can have
+--   Bounds     boughtBound, pointLimit         1,535 edges; the points that they and the pins can have
 --   Edges      edgesOf s, edgeAt s i           the edges of a flat list, and the i-th
 --              endsOf T                        the ends of edges, one after the other
 --              pointsOf pins T                 pins and ends in the order of places, each once

@@ -4,3 +4,6 @@ pub mod CandidateBounds
 pub mod FoundLaws
 pub mod ReadingLaws
 pub mod WinsLaws
+pub mod HungLaws
+pub mod RowLaws
+pub mod PairLaws

@@ -1,24 +1,22 @@
 -- Laws of the longer of two edges and of the table of longest edges.
 -- Assumes nothing.
-use mathlib.Core.Path.{_≡_, refl, sym, ap, _∙_}
-use mathlib.Core.Bool.{Bool, true, false, _||_}
+use mathlib.Core.Path.{_≡_, refl}
+use mathlib.Core.Bool.{true, false}
 use mathlib.Core.List.{List, [], _∷_}
 use Prim.Native.Nat.{ℕ, zero, suc, _-_, _≤_, _<_}
 use native.Mathlib.Omega.{arith}
 use lib.Dec.{ltb, eqb}
 use lib.ListN.{getD, set}
-use borrow.Author.Tests.{lt-ltb, le-ltb, eq-eqb, ne-eqb}
+use borrow.Author.Tests.{lt-ltb, le-ltb}
 use lib.IntN.{ℤ}
 use Rattle.plane.specs.declared.Place.{Place}
 use Rattle.plane.specs.declared.Weights.{Weights}
 use Rattle.plane.specs.Cost.{cost}
 use Rattle.plane.specs.Flat.{placeAt}
-use Rattle.lists.proofs.TestLaws.{by, or-none}
-use Rattle.candidates.specs.Longest.{Reach, attach, hang, longer, measure, edgeCost, noEdge, pass, reach, shorter, spread}
-use Rattle.candidates.specs.Longest.{spreads, wins}
+use Rattle.lists.proofs.TestLaws.{by}
+use Rattle.candidates.specs.Longest.{Reach, attach, hang, longer, measure, edgeCost, noEdge, shorter, spread, spreads, wins}
 use Rattle.tree.specs.Table.{Small, firstEnd, key, treeBound, secondEnd}
-use Rattle.lists.specs.Turns.{turns}
-use Rattle.lists.proofs.TurnLaws.{turns-still, turns-keep, turns-below}
+use Rattle.lists.proofs.TurnLaws.{turns-keep}
 
 pub cost-is : (w : Weights) (pts : List ℤ) (keys : List ℕ) (k d : ℕ) (p q : Place) → p ≡ placeAt pts (firstEnd (getD keys k 0))
     → q ≡ placeAt pts (secondEnd (getD keys k 0)) → d ≡ cost w p q → d ≡ edgeCost w pts keys k
@@ -58,11 +56,6 @@ pub shorter-no : (w : List ℕ) (k l : ℕ) → wins w k l ≡ false → k ≡ s
 unfolding shorter
 shorter-no w k l e = rw (shorter, e) refl
 
-pub spread-is : (el : List ℕ) (v p k w x y z z′ : ℕ) (t : List ℕ) → y ≡ getD t (key p w) 0 → x ≡ longer el y k → z ≡ x → z′ ≡ x
-    → set (set t (key v w) z) (key w v) z′ ≡ spread el v p k w t
-unfolding spread
-spread-is el v p k w x y z z′ t d e f g = rw (f, g, e, d) refl
-
 -- numbers stay small
 small-at : (n : ℕ) (xs : List ℕ) (v x : ℕ) → x < n → ((i : ℕ) → getD xs i 0 < n) → (i : ℕ) → getD (set xs v x) i 0 < n
 small-at n [] v x h l i = l i
@@ -89,27 +82,6 @@ small-spreads el n v p k t h s =
     small-set treeBound _ _ _ (omega arith) (turns-keep (spread el v p k) (Small treeBound) n 0 t
     (λ j u q. small-spread treeBound el v p k j u h q) s)
 
-pub spreads-is : (el : List ℕ) (n v p k : ℕ) (t u : List ℕ) → u ≡ turns (spread el v p k) 0 n t → set u (key v v) noEdge
-    ≡ spreads el n v p k t
-unfolding spreads
-spreads-is el n v p k t u e = rw e refl
-
--- an edge's cases
-module _ (el : List ℕ) (n a b k : ℕ) (s t : List ℕ) where
-  pub attach-none : getD s a 0 ≡ getD s b 0 → reach s t ≡ attach el n a b k (reach s t)
-  unfolding attach
-  attach-none e = rw (attach, eq-eqb _ _ e) refl
-
-  pub attach-one : (getD s a 0 ≡ getD s b 0 → ⊥) → getD s a 0 ≡ 0 → (u : List ℕ) → u ≡ spreads el n a b k t
-      → reach (set s a 1) u ≡ attach el n a b k (reach s t)
-  unfolding attach hang
-  attach-one d e u h = rw (h, attach, ne-eqb _ _ d, eq-eqb _ _ e) refl
-
-  pub attach-two : (getD s a 0 ≡ getD s b 0 → ⊥) → (getD s a 0 ≡ 0 → ⊥) → (u : List ℕ) → u ≡ spreads el n b a k t
-      → reach (set s b 1) u ≡ attach el n a b k (reach s t)
-  unfolding attach hang
-  attach-two d e u h = rw (h, attach, ne-eqb _ _ d, ne-eqb _ _ e) refl
-
 pub small-attach : (el : List ℕ) (n a b k : ℕ) (r : Reach) → k < treeBound → Small treeBound (r .top) →
     Small treeBound (attach el n a b k r .top)
 unfolding attach hang
@@ -118,28 +90,3 @@ small-attach el n a b k r h s =
     (λ e. rw (attach, e) s)
     (λ e. by (eqb (getD (r .seen) a 0) 0) (λ f. rw (attach, e, f) (small-spreads el n a b k (r .top) h s))
     (λ f. rw (attach, e, f) (small-spreads el n b a k (r .top) h s)))
-
-pub small-attached : (el : List ℕ) (n a b k : ℕ) (s t s′ t′ : List ℕ) → reach s′ t′ ≡ attach el n a b k (reach s t) → k < treeBound
-    → Small treeBound t → Small treeBound t′
-small-attached el n a b k s t s′ t′ e h q = rw (ap (λ (r : Reach). r .top) e) (small-attach el n a b k (reach s t) h q)
-
-pub pass-is : (keys el : List ℕ) (n k : ℕ) (r : Reach) → attach el n (firstEnd (getD keys k 0)) (secondEnd (getD keys k 0)) k r
-    ≡ pass keys el n k r
-unfolding pass
-pass-is keys el n k r = refl
-
--- a pass that hangs nothing, so far and with one edge more
-pub still-more : (m m′ : Bool) (r₀ r r′ : Reach) → (m ≡ false → r ≡ r₀) → (m′ ≡ false → r′ ≡ r) → (m || m′) ≡ false → r′ ≡ r₀
-still-more m m′ r₀ r r′ h i e = let n = or-none m m′ e in i (n .1) ∙ h (n .0)
-
--- the passes that are left after one that hangs nothing
-pub still-end : (keys el : List ℕ) (e n i : ℕ) (r r′ all : Reach) →
-    turns (λ (_ : ℕ) (q : Reach). turns (pass keys el n) 0 e q) i (e - i) r ≡ all → r′ ≡ turns (pass keys el n) 0 e r → r′ ≡ r → r′ ≡ all
-still-end keys el e n i r r′ all p f s = s ∙ sym (turns-still _ (e - i) i r (λ j. sym f ∙ s)) ∙ p
-
-pub small-passed : (keys el : List ℕ) (n e : ℕ) (s t s′ t′ : List ℕ) → reach s′ t′ ≡ turns (pass keys el n) 0 e (reach s t) → e ≤ treeBound
-    → Small treeBound t → Small treeBound t′
-unfolding pass
-small-passed keys el n e s t s′ t′ q h i =
-    rw (ap (λ (r : Reach). r .top) q) (turns-below (pass keys el n) (λ r. Small treeBound (r .top)) treeBound
-    (λ j r b k. small-attach el n _ _ j r b k) e 0 (reach s t) (omega arith) i)

@@ -1,6 +1,6 @@
 // Candidates, and the one that a round takes.
 use crate::Best;
-use crate::PAIRS;
+use crate::UNKNOWN;
 use crate::longest;
 use plane::Macro;
 use plane::Place;
@@ -8,11 +8,14 @@ use plane::Weights;
 use tree::NUMBERS;
 use tree::POINTS;
 ghost use mathlib.Core.Path.{_≡_};
-ghost use Prim.Native.Nat.{_≤_, _<_};
+ghost use mathlib.Core.List.{List};
+ghost use Prim.Native.Nat.{ℕ, _≤_, _<_};
 ghost use Rattle.plane.specs.Flat.{placeAt, macrosOf};
 ghost use Rattle.plane.specs.Box.{boxOf};
 ghost use Rattle.lists.specs.Turns.{seek};
-ghost use Rattle.tree.specs.Table.{treeBound, pairBound, Small, Low};
+ghost use Rattle.tree.specs.Table.{treeBound, Low, Within};
+ghost use Rattle.candidates.specs.Longest.{cutOf, longest};
+ghost use Rattle.candidates.specs.Hung.{ties, Hanging};
 ghost use Rattle.candidates.specs.Candidate.{sees, taken, dropped, allowed, weighed, offer, mayGain, offers, search};
 
 pub fn sees(macros: &[i32], a: Place, b: Place, u: Place) -> bool
@@ -133,25 +136,26 @@ pub fn may_gain(w: Weights, m: Macro, p: Place, f: u64, g: u64, most: u64) -> bo
     plane::is_near_box(w, m, p, left - g)
 }
 
+// The candidate of edge k from a to b, in the box m, and the point u, whose L is l.
 fn offer(
     w: Weights,
     pts: &[i32; NUMBERS],
     n: usize,
     macros: &[i32],
     el: &[u64; POINTS],
-    top: &[u16; PAIRS],
     m: Macro,
     a: usize,
     b: usize,
     k: usize,
     u: usize,
+    l: usize,
     c: Best,
 ) -> Best
-    requires { ⌜ ((a < treeBound) × (b < treeBound)) × ((u < treeBound) × (n ≤ treeBound)) ⌝ }
-    requires { ⌜ (Small treeBound (now top)) × (m ≡ boxOf (placeAt (now pts) a) (placeAt (now pts) b)) ⌝ }
-    ensures { λ r. ⌜ r ≡ offer w (now (pts .entry)) n (macrosOf (now (macros .entry))) (now (el .entry)) (now (top .entry)) a b k u c ⌝ }
+    requires { ⌜ ((a < treeBound) × (b < treeBound)) × ((u < treeBound) × ((l < treeBound) × (n ≤ treeBound))) ⌝ }
+    requires { ⌜ m ≡ boxOf (placeAt (now pts) a) (placeAt (now pts) b) ⌝ }
+    ensures { λ r. ⌜ ((t : List ℕ) → l ≡ cutOf (now (el .entry)) t a b u
+        → r ≡ offer w (now (pts .entry)) n (macrosOf (now (macros .entry))) (now (el .entry)) t a b k u c) ⌝ }
 {
-    let l = longest::cut_of(el, top, a, b, u);
     if (u == a) | ((u == b) | (l == k)) {
         return c;
     }
@@ -168,28 +172,33 @@ fn offers(
     n: usize,
     macros: &[i32],
     keys: &[usize; POINTS],
+    e: usize,
     el: &[u64; POINTS],
     most: u64,
-    top: &[u16; PAIRS],
+    onto: &[usize; POINTS],
+    link: &[usize; POINTS],
+    turn: &[usize; POINTS],
     k: usize,
     c: Best,
 ) -> Best
-    requires { ⌜ (k < treeBound) × (n ≤ treeBound) ⌝ }
-    requires { ⌜ (Small pairBound (now keys)) × (Small treeBound (now top)) ⌝ }
-    requires { ⌜ Low most (now el) ⌝ }
+    requires { ⌜ ((k < e) × (e ≤ treeBound)) × ((n ≤ treeBound) × (Within n (now keys))) ⌝ }
+    requires { ⌜ (Low most (now el)) × (Hanging (now keys) (now el) e n (ties (now onto) (now link) (now turn))) ⌝ }
     ensures { λ r. ⌜ r ≡ offers w (now (pts .entry)) n (macrosOf (now (macros .entry))) (now (keys .entry)) (now (el .entry))
-        (now (top .entry)) k c ⌝ }
+        (longest (now (keys .entry)) (now (el .entry)) e n) k c ⌝ }
 {
     let a = keys[k] / POINTS;
     let b = keys[k] % POINTS;
     let m = plane::box_of(tree::point_at(pts, a), tree::point_at(pts, b));
+    let mut row = [UNKNOWN; POINTS];
+    longest::start(el, onto, link, turn, a, b, &mut row);
     let mut found = c;
     let mut u = 0;
     while u < n {
         let at = u;
         u += 1;
         if may_gain(w, m, tree::point_at(pts, at), 0, found.gain, most) {
-            found = offer(w, pts, n, macros, el, top, m, a, b, k, at, found);
+            let l = longest::cut_at(el, onto, link, turn, at, &mut row);
+            found = offer(w, pts, n, macros, el, m, a, b, k, at, l, found);
         }
     }
     found
@@ -205,13 +214,14 @@ pub fn search(
     e: usize,
     el: &[u64; POINTS],
     most: u64,
-    top: &[u16; PAIRS],
+    onto: &[usize; POINTS],
+    link: &[usize; POINTS],
+    turn: &[usize; POINTS],
 ) -> Best
-    requires { ⌜ (e ≤ treeBound) × (n ≤ treeBound) ⌝ }
-    requires { ⌜ (Small pairBound (now keys)) × (Small treeBound (now top)) ⌝ }
-    requires { ⌜ Low most (now el) ⌝ }
+    requires { ⌜ (e ≤ treeBound) × ((n ≤ treeBound) × (Within n (now keys))) ⌝ }
+    requires { ⌜ (Low most (now el)) × (Hanging (now keys) (now el) e n (ties (now onto) (now link) (now turn))) ⌝ }
     ensures { λ r. ⌜ r ≡ search w (now (pts .entry)) n (macrosOf (now (macros .entry))) (now (keys .entry)) e (now (el .entry))
-        (now (top .entry)) ⌝ }
+        (longest (now (keys .entry)) (now (el .entry)) e n) ⌝ }
 {
     let mut found = Best {
         gain: 0,
@@ -221,7 +231,21 @@ pub fn search(
     };
     let mut k = 0;
     while k < e {
-        found = offers(w, pts, n, macros, keys, el, most, top, k, found);
+        found = offers(
+            w,
+            pts,
+            n,
+            macros,
+            keys,
+            e,
+            el,
+            most,
+            onto,
+            link,
+            turn,
+            k,
+            found,
+        );
         k += 1;
     }
     found

@@ -7,11 +7,11 @@ pub mod longest; // longest.rt: the longest edge between every two points
 
 use tree::POINTS;
 
-// All pairs of points.
-pub const PAIRS: usize = POINTS * POINTS;
-
 // The number that stands for no edge.
 pub const NONE: u16 = (POINTS - 1) as u16;
+
+// What stands in a row where it is not known yet.
+pub const UNKNOWN: u16 = POINTS as u16;
 
 // A candidate: its gain, the edge (a, b), the point u and the edge L, by their numbers. With gain 0 there is none.
 pub struct Best {

@@ -1,30 +1,17 @@
-// What edges cost, and the longest edge between every two points.
+// What edges cost, and the longest edge between points, from rows: what hangs on what, and L of an edge for each point.
 use crate::NONE;
-use crate::PAIRS;
 use plane::Weights;
 use tree::NUMBERS;
 use tree::POINTS;
 ghost use mathlib.Core.Path.{_≡_};
-ghost use mathlib.Core.Bool.{false};
-ghost use Prim.Native.Nat.{_≤_, _<_};
-ghost use lib.ListN.{getD};
+ghost use mathlib.Core.List.{List};
+ghost use Prim.Native.Nat.{ℕ, _+_, _≤_, _<_};
+ghost use lib.ListN.{length, getD, set};
 ghost use Rattle.plane.specs.Cost.{costLimit};
 ghost use Rattle.lists.specs.Turns.{turns};
-ghost use Rattle.tree.specs.Table.{treeBound, pairBound, key, Small, Low};
-ghost use Rattle.candidates.specs.Longest.{
-  edgeCost,
-  measure,
-  wins,
-  longer,
-  shorter,
-  spread,
-  spreads,
-  reach,
-  attach,
-  pass,
-  reached,
-  cutOf,
-};
+ghost use Rattle.tree.specs.Table.{treeBound, pairBound, firstEnd, secondEnd, Small, Low, Within};
+ghost use Rattle.candidates.specs.Longest.{edgeCost, measure, wins, longer, Reach, pass, reached, cutOf};
+ghost use Rattle.candidates.specs.Hung.{ties, Tied, Hung, Told, Paired, Begun, Fresh, Row, Climbed};
 
 // What the edge k costs.
 pub fn edge_cost(w: Weights, pts: &[i32; NUMBERS], keys: &[usize; POINTS], k: usize) -> u64
@@ -88,16 +75,6 @@ fn longer(el: &[u64; POINTS], k: usize, l: usize) -> usize
     l
 }
 
-fn shorter(el: &[u64; POINTS], k: usize, l: usize) -> usize
-    requires { ⌜ (k < treeBound) × (l < treeBound) ⌝ }
-    ensures { λ r. ⌜ (r ≡ shorter (now (el .entry)) k l) × (r < treeBound) ⌝ }
-{
-    if wins(el, k, l) {
-        return l;
-    }
-    k
-}
-
 fn wide(x: u16) -> usize
     ensures { λ r. ⌜ r ≡ x ⌝ }
 {
@@ -111,111 +88,197 @@ fn narrow(x: usize) -> u16
     x as u16
 }
 
-fn spread(el: &[u64; POINTS], v: usize, p: usize, k: usize, w: usize, top: &mut [u16; PAIRS])
-    requires { ⌜ ((v < treeBound) × (p < treeBound)) × ((k < treeBound) × (w < treeBound)) ⌝ }
-    requires { ⌜ getD (now top) (key p w) 0 < treeBound ⌝ }
-    ensures { λ _. ⌜ now (top .exit) ≡ spread (now (el .entry)) v p k w (now (top .entry)) ⌝ }
+// The point v hangs on p by the edge k, at turn c.
+fn hang(
+    v: usize,
+    p: usize,
+    k: usize,
+    c: usize,
+    onto: &mut [usize; POINTS],
+    link: &mut [usize; POINTS],
+    turn: &mut [usize; POINTS],
+)
+    requires { ⌜ v < treeBound ⌝ }
+    ensures { λ _. ⌜ ties (now (onto .exit)) (now (link .exit)) (now (turn .exit))
+        ≡ ties (set (now (onto .entry)) v p) (set (now (link .entry)) v k) (set (now (turn .entry)) v c) ⌝ }
 {
-    let x = longer(el, wide(top[p * POINTS + w]), k);
-    top[v * POINTS + w] = narrow(x);
-    top[w * POINTS + v] = narrow(x);
+    onto[v] = p;
+    link[v] = k;
+    turn[v] = c;
 }
 
-fn spreads(el: &[u64; POINTS], n: usize, v: usize, p: usize, k: usize, top: &mut [u16; PAIRS])
-    requires { ⌜ ((v < treeBound) × (p < treeBound)) × ((k < treeBound) × (n ≤ treeBound)) ⌝ }
-    requires { ⌜ Small treeBound (now top) ⌝ }
-    ensures { λ _. ⌜ now (top .exit) ≡ spreads (now (el .entry)) n v p k (now (top .entry)) ⌝ }
-{
-    let mut w = 0;
-    while w < n {
-        spread(el, v, p, k, w, &mut *top);
-        w += 1;
-    }
-    top[v * POINTS + v] = NONE;
-}
-
-// The edge k hangs a point on what is reached; whether there was one to hang.
+// The edge k from a to b hangs one of them on the other, where that one hangs already; c have hung so far. How many have then.
 fn attach(
-    el: &[u64; POINTS],
-    n: usize,
     a: usize,
     b: usize,
     k: usize,
-    seen: &mut [usize; POINTS],
-    top: &mut [u16; PAIRS],
-) -> bool
-    requires { ⌜ ((a < treeBound) × (b < treeBound)) × ((k < treeBound) × (n ≤ treeBound)) ⌝ }
-    requires { ⌜ Small treeBound (now top) ⌝ }
-    ensures { λ m. ⌜ reach (now (seen .exit)) (now (top .exit)) ≡ attach (now (el .entry)) n a b k
-        (reach (now (seen .entry)) (now (top .entry))) ⌝ }
-    ensures { λ m. ⌜ (m ≡ false → reach (now (seen .exit)) (now (top .exit)) ≡ reach (now (seen .entry)) (now (top .entry))) ⌝ }
+    c: usize,
+    onto: &mut [usize; POINTS],
+    link: &mut [usize; POINTS],
+    turn: &mut [usize; POINTS],
+) -> usize
+    requires { ⌜ ((a < treeBound) × (b < treeBound)) × (c ≤ pairBound + pairBound) ⌝ }
+    ensures { λ d. ⌜ (c ≤ d) × (d ≤ c + 1) ⌝ }
+    ensures { λ d. ⌜ ((ks el : List ℕ) (e n : ℕ) (r : Reach) → n ≤ treeBound → e ≤ treeBound → Within n ks → k < e
+        → a ≡ firstEnd (getD ks k 0) → b ≡ secondEnd (getD ks k 0)
+        → Hung ks el e n c (ties (now (onto .entry)) (now (link .entry)) (now (turn .entry))) r
+        → (Hung ks el e n d (ties (now (onto .exit)) (now (link .exit)) (now (turn .exit))) (pass ks el n k r))
+        × (d ≡ c → pass ks el n k r ≡ r)) ⌝ }
 {
-    if seen[a] == seen[b] {
-        return false;
+    if turn[a] == 0 {
+        if turn[b] == 0 {
+            return c;
+        }
+        hang(a, b, k, c + 1, &mut *onto, &mut *link, &mut *turn);
+        return c + 1;
     }
-    if seen[a] == 0 {
-        spreads(el, n, a, b, k, &mut *top);
-        seen[a] = 1;
-        return true;
+    if turn[b] == 0 {
+        hang(b, a, k, c + 1, &mut *onto, &mut *link, &mut *turn);
+        return c + 1;
     }
-    spreads(el, n, b, a, k, &mut *top);
-    seen[b] = 1;
-    true
+    c
 }
 
-// A pass over all edges; whether it hung a point.
+// A pass over all edges; how many points hang after it.
 fn pass(
     keys: &[usize; POINTS],
-    el: &[u64; POINTS],
     e: usize,
-    n: usize,
-    seen: &mut [usize; POINTS],
-    top: &mut [u16; PAIRS],
-) -> bool
-    requires { ⌜ (e ≤ treeBound) × (n ≤ treeBound) ⌝ }
-    requires { ⌜ (Small pairBound (now keys)) × (Small treeBound (now top)) ⌝ }
-    ensures { λ m. ⌜ reach (now (seen .exit)) (now (top .exit))
-        ≡ turns (pass (now (keys .entry)) (now (el .entry)) n) 0 e (reach (now (seen .entry)) (now (top .entry))) ⌝ }
-    ensures { λ m. ⌜ (m ≡ false → reach (now (seen .exit)) (now (top .exit)) ≡ reach (now (seen .entry)) (now (top .entry))) ⌝ }
+    c: usize,
+    onto: &mut [usize; POINTS],
+    link: &mut [usize; POINTS],
+    turn: &mut [usize; POINTS],
+) -> usize
+    requires { ⌜ ((e ≤ treeBound) × (Small pairBound (now keys))) × (c ≤ pairBound) ⌝ }
+    ensures { λ d. ⌜ (c ≤ d) × (d ≤ c + e) ⌝ }
+    ensures { λ d. ⌜ ((el : List ℕ) (n : ℕ) (r : Reach) → n ≤ treeBound → Within n (now (keys .entry))
+        → Hung (now (keys .entry)) el e n c (ties (now (onto .entry)) (now (link .entry)) (now (turn .entry))) r
+        → (Hung (now (keys .entry)) el e n d (ties (now (onto .exit)) (now (link .exit)) (now (turn .exit)))
+        (turns (pass (now (keys .entry)) el n) 0 e r))
+        × (d ≡ c → turns (pass (now (keys .entry)) el n) 0 e r ≡ r)) ⌝ }
 {
-    let mut moved = false;
+    let mut d = c;
     let mut k = 0;
     while k < e {
         let q = keys[k];
-        let m = attach(el, n, q / POINTS, q % POINTS, k, &mut *seen, &mut *top);
-        moved = moved | m;
+        d = attach(
+            q / POINTS,
+            q % POINTS,
+            k,
+            d,
+            &mut *onto,
+            &mut *link,
+            &mut *turn,
+        );
         k += 1;
     }
-    moved
+    d
 }
 
-// Passes until one hangs nothing, e at most.
+// Passes until one hangs nothing, e at most; how many points hang then.
 pub fn reached(
     keys: &[usize; POINTS],
-    el: &[u64; POINTS],
     e: usize,
-    n: usize,
-    seen: &mut [usize; POINTS],
-    top: &mut [u16; PAIRS],
-)
-    requires { ⌜ (e ≤ treeBound) × (n ≤ treeBound) ⌝ }
-    requires { ⌜ (Small pairBound (now keys)) × (Small treeBound (now top)) ⌝ }
-    ensures { λ _. ⌜ reach (now (seen .exit)) (now (top .exit))
-        ≡ reached (now (keys .entry)) (now (el .entry)) e n (reach (now (seen .entry)) (now (top .entry))) ⌝ }
+    onto: &mut [usize; POINTS],
+    link: &mut [usize; POINTS],
+    turn: &mut [usize; POINTS],
+) -> usize
+    requires { ⌜ (e < treeBound) × (Small pairBound (now keys)) ⌝ }
+    ensures { λ d. ⌜ ((el : List ℕ) (n : ℕ) (r : Reach) → n ≤ treeBound → Within n (now (keys .entry))
+        → Hung (now (keys .entry)) el e n 1 (ties (now (onto .entry)) (now (link .entry)) (now (turn .entry))) r
+        → Hung (now (keys .entry)) el e n d (ties (now (onto .exit)) (now (link .exit)) (now (turn .exit)))
+        (reached (now (keys .entry)) el e n r)) ⌝ }
 {
+    let mut c = 1;
     let mut i = 0;
     while i < e {
-        if !pass(keys, el, e, n, &mut *seen, &mut *top) {
-            return;
+        let d = pass(keys, e, c, &mut *onto, &mut *link, &mut *turn);
+        if d == c {
+            return c;
         }
+        c = d;
         i += 1;
+    }
+    c
+}
+
+// The row of x at x and at all that it hangs on.
+fn climb(
+    el: &[u64; POINTS],
+    onto: &[usize; POINTS],
+    link: &[usize; POINTS],
+    turn: &[usize; POINTS],
+    x: usize,
+    row: &mut [u16; POINTS],
+)
+    requires { ⌜ (Tied (ties (now onto) (now link) (now turn))) × ((0 < getD (now turn) x 0) × (length (now row) ≡ treeBound)) ⌝ }
+    ensures { λ _. ⌜ Begun (ties (now (onto .entry)) (now (link .entry)) (now (turn .entry))) (now (row .exit)) ⌝ }
+    ensures { λ _. ⌜ ((t : List ℕ) → Told (now (el .entry)) (ties (now (onto .entry)) (now (link .entry)) (now (turn .entry))) t
+        → Fresh (ties (now (onto .entry)) (now (link .entry)) (now (turn .entry))) (now (row .entry))
+        → Climbed (ties (now (onto .entry)) (now (link .entry)) (now (turn .entry))) t x (now (row .exit))) ⌝ }
+{
+    row[x] = NONE;
+    let mut l = POINTS - 1;
+    let mut v = x;
+    while 1 < turn[v] {
+        l = longer(el, l, link[v]);
+        v = onto[v];
+        row[v] = narrow(l);
     }
 }
 
-pub fn cut_of(el: &[u64; POINTS], top: &[u16; PAIRS], a: usize, b: usize, u: usize) -> usize
-    requires { ⌜ (a < treeBound) × ((b < treeBound) × (u < treeBound)) ⌝ }
-    requires { ⌜ Small treeBound (now top) ⌝ }
-    ensures { λ r. ⌜ (r ≡ cutOf (now (el .entry)) (now (top .entry)) a b u) × (r < treeBound) ⌝ }
+// The row of the edge from a to b at both of them and at all that they hang on.
+pub fn start(
+    el: &[u64; POINTS],
+    onto: &[usize; POINTS],
+    link: &[usize; POINTS],
+    turn: &[usize; POINTS],
+    a: usize,
+    b: usize,
+    row: &mut [u16; POINTS],
+)
+    requires { ⌜ (Tied (ties (now onto) (now link) (now turn)))
+        × (((0 < getD (now turn) a 0) × (0 < getD (now turn) b 0)) × (length (now row) ≡ treeBound)) ⌝ }
+    ensures { λ _. ⌜ Begun (ties (now (onto .entry)) (now (link .entry)) (now (turn .entry))) (now (row .exit)) ⌝ }
+    ensures { λ _. ⌜ ((t : List ℕ) → Told (now (el .entry)) (ties (now (onto .entry)) (now (link .entry)) (now (turn .entry))) t
+        → Fresh (ties (now (onto .entry)) (now (link .entry)) (now (turn .entry))) (now (row .entry))
+        → Paired (ties (now (onto .entry)) (now (link .entry)) (now (turn .entry))) a b
+        → Row (now (el .entry)) (ties (now (onto .entry)) (now (link .entry)) (now (turn .entry)))
+        (cutOf (now (el .entry)) t a b) (now (row .exit))) ⌝ }
 {
-    shorter(el, wide(top[a * POINTS + u]), wide(top[b * POINTS + u]))
+    if turn[a] < turn[b] {
+        climb(el, onto, link, turn, a, &mut *row);
+        row[b] = NONE;
+        return;
+    }
+    climb(el, onto, link, turn, b, &mut *row);
+    row[a] = NONE;
+}
+
+// The row at v, filled in at v and at what v hangs on where it is not known. The turn falls with each call.
+pub fn cut_at(
+    el: &[u64; POINTS],
+    onto: &[usize; POINTS],
+    link: &[usize; POINTS],
+    turn: &[usize; POINTS],
+    v: usize,
+    row: &mut [u16; POINTS],
+) -> usize
+    requires { ⌜ (Tied (ties (now onto) (now link) (now turn)))
+        × ((0 < getD (now turn) v 0) × (Begun (ties (now onto) (now link) (now turn)) (now row))) ⌝ }
+    ensures { λ r. ⌜ (r < treeBound) × (Begun (ties (now (onto .entry)) (now (link .entry)) (now (turn .entry))) (now (row .exit))) ⌝ }
+    ensures { λ r. ⌜ ((f : ℕ → ℕ) → Row (now (el .entry)) (ties (now (onto .entry)) (now (link .entry)) (now (turn .entry))) f
+        (now (row .entry))
+        → (r ≡ f v) × (Row (now (el .entry)) (ties (now (onto .entry)) (now (link .entry)) (now (turn .entry))) f (now (row .exit)))) ⌝ }
+{
+    let x = wide(row[v]);
+    if x < POINTS {
+        return x;
+    }
+    let l = longer(
+        el,
+        cut_at(el, onto, link, turn, onto[v], &mut *row),
+        link[v],
+    );
+    row[v] = narrow(l);
+    l
 }

@@ -2,7 +2,7 @@
 use Prim.Native.Nat.{ℕ, _+_, _*_}
 use Rattle.net.specs.Bounds as net
 
--- N23: at most 320 points and 1,280 edges
+-- N23: at most 640 points and 2,560 edges
 abbrev pub pointBound : ℕ
 pointBound = net.pointBound
 

@@ -7,7 +7,7 @@
 -- computing on these tables, the same that the code goes; that they are what rules T6 to T8 say is proved beside them, in ../proofs: that
 -- labels are nearest sources (Nearest), that parents are the smallest neighbours on shortest ways and lead to the root (Homeward).
 --
---   Bounds     pointBound, edgeBound, costBound     320 points and 1,280 edges, each at most 32,000,000 long
+--   Bounds     pointBound, edgeBound, costBound     640 points and 2,560 edges, each at most 32,000,000 long
 --              unreached, pathBound                 the distance of a vertex that no source has reached; a path's length at most
 --   Edges      graph ea eb el e                     a graph by its tables
 --              one g k, two g k, len g k            the ends of edge k and its length

@@ -19,6 +19,7 @@ use Rattle.graph.specs.declared.Quadrant.{Quadrant}
 use Rattle.graph.specs.declared.Picked.{Picked}
 use Rattle.graph.specs.declared.Picked.the-variants.{At, Nothing}
 use Rattle.graph.specs.declared.Near.{Near}
+use Rattle.graph.specs.declared.Standing.{Standing}
 use Rattle.graph.specs.Pick.{within}
 
 -- the i-th of the vertices in a flat list, or none where there is no such vertex
@@ -28,6 +29,10 @@ vertexPicked s i = cond (ltb i (length s / 2)) (At (placeAt s i)) Nothing
 -- G4's order, by cost and then by place: in order of places a smaller one has the smaller number
 unfoldable pub leads : Near → ℕ → ℕ → Bool
 leads best far i = ltb (best .far) far || (eqb (best .far) far && leb (best .at) i)
+
+-- the best of a pass, without the macro that blocked last
+abbrev pub bestOf : Standing → Near
+bestOf s = record { at = s .at; far = s .far }
 
 -- the best so far with the i-th vertex v more, which takes its place where it is in the quadrant, comes earlier, and is clear
 unfoldable pub nearest : Weights → List Macro → Quadrant → Place → Near → ℕ → Place → Near

@@ -80,13 +80,13 @@ fn weights(first: i32, second: i32) {
 fn main() {
     coordinates();
     let numbers = counted_up();
-    io::write_all(1, b"64 pins: ");
+    io::write_all(1, b"128 pins: ");
     pins(&numbers, Net::PINS * Net::PIN_NUMBERS);
-    io::write_all(1, b"65 pins: ");
+    io::write_all(1, b"129 pins: ");
     pins(&numbers, (Net::PINS + 1) * Net::PIN_NUMBERS);
-    io::write_all(1, b"64 macros: ");
+    io::write_all(1, b"128 macros: ");
     macros(&numbers, Net::MACROS * Net::MACRO_NUMBERS);
-    io::write_all(1, b"65 macros: ");
+    io::write_all(1, b"129 macros: ");
     macros(&numbers, (Net::MACROS + 1) * Net::MACRO_NUMBERS);
     io::write_all(1, b"weights 1 and 8: ");
     weights(1, 8);

@@ -26,7 +26,8 @@ use Rattle.net.specs.declared.Weighing.{Weighing}
 use Rattle.net.specs.declared.Net.{Net as Counts}
 use Rattle.net.specs.Pins.{pinCount, pinPlaces, macroCount}
 use Rattle.net.specs.Net.{Net, netOf, weightsOf}
-use Rattle.net.specs.Check.{countsOf, pinsMiscounted, macrosMiscounted, outOfRange, notUpright, insideAny, noWeight, weightsWrong}
+use Rattle.net.specs.Check.{countsOf, pinsMiscounted, pinsMiscountedWithin, macrosMiscounted, macrosMiscountedWithin, outOfRange}
+use Rattle.net.specs.Check.{notUpright, insideAny, noWeight, weightsWrong}
 use Rattle.net.specs.Check.{checked}
 use Rattle.net.specs.Allowed.{Whole, PlaceInRange, MacroInRange, Upright, Weighted, Allowed}
 use Rattle.net.proofs.PinLaws.{length-pins}
@@ -37,13 +38,13 @@ use Rattle.net.proofs.PassedLaws.{passed-all, pins-counted, macros-coun
 -- the counts: the other way of what was counted
 module _ (s : List ℤ) where
   pairs-whole : length s % pinWidth ≡ 0 → 1 ≤ pinCount s → pinCount s ≤ pinBound → pinsMiscounted s ≡ false
-  unfolding pinsMiscounted
+  unfolding pinsMiscountedWithin
   pairs-whole e l h =
       or-neither _ _ (ap not (eq-eqb (length s % pinWidth) 0 e))
       (or-neither _ _ (ne-eqb (pinCount s) 0 (λ z. omega arith)) (le-ltb pinBound (pinCount s) h))
 
   fours-whole : length s % macroWidth ≡ 0 → macroCount s ≤ macroBound → macrosMiscounted s ≡ false
-  unfolding macrosMiscounted
+  unfolding macrosMiscountedWithin
   fours-whole e h = or-neither _ _ (ap not (eq-eqb (length s % macroWidth) 0 e)) (le-ltb macroBound (macroCount s) h)
 
 -- the entries' own tests

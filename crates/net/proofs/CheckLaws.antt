@@ -12,6 +12,7 @@ use Rattle.lent.specs.Told.{refused, given}
 use Rattle.net.specs.Pins.{pinPlaces}
 use Rattle.net.specs.declared.Weighing.{Weighing}
 use Rattle.net.specs.Check.{countsOf, pinsMiscounted, macrosMiscounted, outOfRange, notUpright, insideAny, weightsWrong, checked}
+use Rattle.net.specs.Check.{checkedWithin}
 
 module _ (w : Weighing) (pins macros : List ℤ) where
   -- no number up to the one named applies; 13 is tested list by list
@@ -51,39 +52,39 @@ module _ (w : Weighing) (pins macros : List ℤ) where
     pub passed : weightsWrong w ≡ false
 
   pub refuse-11 : pinsMiscounted pins ≡ true → checked w pins macros ≡ refused 11
-  unfolding checked
+  unfolding checkedWithin
   refuse-11 e = rw e refl
 
   pub refuse-12 : Past11 → macrosMiscounted macros ≡ true → checked w pins macros ≡ refused 12
-  unfolding checked
+  unfolding checkedWithin
   refuse-12 p e = rw (p .passed, e) refl
 
   pub refuse-13-pins : Past12 → any outOfRange pins ≡ true → checked w pins macros ≡ refused 13
-  unfolding checked
+  unfolding checkedWithin
   refuse-13-pins p e = rw (p .past .passed, p .passed, e) refl
 
   pub refuse-13 : Past13-pins → any outOfRange macros ≡ true → checked w pins macros ≡ refused 13
-  unfolding checked
+  unfolding checkedWithin
   refuse-13 p e = rw (p .past .past .passed, p .past .passed, p .passed, e) refl
 
   pub refuse-14 : Past13 → any notUpright (macrosOf macros) ≡ true → checked w pins macros ≡ refused 14
-  unfolding checked
+  unfolding checkedWithin
   refuse-14 p e = rw (p .past .past .past .passed, p .past .past .passed, p .past .passed, p .passed, e) refl
 
   pub refuse-15 : Past14 → anyTwo samePlace (pinPlaces pins) ≡ true → checked w pins macros ≡ refused 15
-  unfolding checked
+  unfolding checkedWithin
   refuse-15 p e =
       let q = p .past in
       rw (q .past .past .past .passed, q .past .past .passed, q .past .passed, q .passed, p .passed, e) refl
 
   pub refuse-16 : Past15 → anyTwo interiorsMeet (macrosOf macros) ≡ true → checked w pins macros ≡ refused 16
-  unfolding checked
+  unfolding checkedWithin
   refuse-16 p e =
       let q = p .past .past in
       rw (q .past .past .past .passed, q .past .past .passed, q .past .passed, q .passed, p .past .passed, p .passed, e) refl
 
   pub refuse-17 : Past16 → any (insideAny (macrosOf macros)) (pinPlaces pins) ≡ true → checked w pins macros ≡ refused 17
-  unfolding checked
+  unfolding checkedWithin
   refuse-17 p e =
       let q = p .past .past .past in
       rw (
@@ -99,7 +100,7 @@ module _ (w : Weighing) (pins macros : List ℤ) where
 
   -- past 17, what is left is the test of the weights
   past-17 : Past17 → checked w pins macros ≡ cond (weightsWrong w) (refused 18) (given (countsOf w pins macros))
-  unfolding checked
+  unfolding checkedWithin
   past-17 p =
       let q = p .past .past .past .past in
       rw (

@@ -21,7 +21,8 @@ use Rattle.plane.proofs.MacroLaws.{interiors-comm}
 use Rattle.plane.proofs.FlatLaws.{macros-flat, length-flat-macros}
 use Rattle.net.specs.Bounds.{pinWidth, macroWidth}
 use Rattle.net.specs.Pins.{pinPlaces, flatPins}
-use Rattle.net.specs.Check.{pinsMiscounted, macrosMiscounted, outOfRange, notUpright, insideAny, checked}
+use Rattle.net.specs.Check.{pinsMiscounted, pinsMiscountedWithin, macrosMiscounted, macrosMiscountedWithin, outOfRange}
+use Rattle.net.specs.Check.{notUpright, insideAny, checked, checkedWithin}
 use Rattle.net.specs.declared.Weighing.{Weighing}
 use Rattle.net.specs.Order.{SamePins, SameMacros}
 use Rattle.net.proofs.PinLaws.{same-pins, pins-flat, length-flat-pins}
@@ -35,11 +36,11 @@ inside-perm ms ns q p = any-perm (inside p) ms ns q
 
 module _ (w : Weighing) (pins pins′ macros macros′ : List ℤ) (p : SamePins pins pins′) (q : SameMacros macros macros′) where
   same-pin-count : pinsMiscounted pins ≡ pinsMiscounted pins′
-  unfolding pinsMiscounted
+  unfolding pinsMiscountedWithin
   same-pin-count = rw (p .many, same-pins pins pins′ (p .many)) refl
 
   same-macro-count : macrosMiscounted macros ≡ macrosMiscounted macros′
-  unfolding macrosMiscounted
+  unfolding macrosMiscountedWithin
   same-macro-count = rw (q .many) refl
 
   -- of whole lists
@@ -56,7 +57,7 @@ module _ (w : Weighing) (pins pins′ macros macros′ : List ℤ) (p : SamePins
       ∙ any-agree (insideAny (macrosOf macros)) (insideAny (macrosOf macros′)) (inside-perm _ _ (q .order)) (pinPlaces pins′)
 
   whole-order : length pins % pinWidth ≡ 0 → length macros % macroWidth ≡ 0 → checked w pins macros ≡ checked w pins′ macros′
-  unfolding checked
+  unfolding checkedWithin
   whole-order e f =
       rw (
         same-pin-count,

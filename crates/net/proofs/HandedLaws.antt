@@ -20,7 +20,7 @@ use Rattle.net.specs.declared.Net.{Net as Counts}
 use Rattle.net.specs.Pins.{pinPlaces}
 use Rattle.net.specs.Net.{weighing, weightsOf, handed}
 use Rattle.net.specs.Check.{countsOf, pinsMiscounted, macrosMiscounted, outOfRange, notUpright, insideAny, noWeight, weightsWrong}
-use Rattle.net.specs.Check.{checked}
+use Rattle.net.specs.Check.{checked, checkedWithin}
 use Rattle.net.specs.Allowed.{Weighted}
 use Rattle.net.proofs.PassedLaws.{passed-all}
 use Rattle.net.proofs.AllowedLaws.{weight-is, within-weights, given-counts}
@@ -63,7 +63,7 @@ another false m n next d f = f
 
 -- C18: weights that pass are never what a net is refused for
 pub not-18 : (w : Weighing) (pins macros : List ℤ) → weightsWrong w ≡ false → code (checked w pins macros) ≡ 18 → ⊥
-unfolding checked
+unfolding checkedWithin
 not-18 w pins macros e =
     rw e
     (another (pinsMiscounted pins) 11 18 _ refl

@@ -2,6 +2,7 @@ pub mod PinLaws
 pub mod NumberLaws
 pub mod CheckLaws
 pub mod PassedLaws
+pub mod BoundLaws
 pub mod RangeLaws
 pub mod AllowedLaws
 pub mod HandedLaws

@@ -19,7 +19,8 @@ use Rattle.net.specs.Bounds.{pinBound, macroBound, pinWidth, macroWidth}
 use Rattle.net.specs.declared.Net.{Net}
 use Rattle.net.specs.Pins.{pinCount, pinPlaces, macroCount}
 use Rattle.net.specs.declared.Weighing.{Weighing}
-use Rattle.net.specs.Check.{pinsMiscounted, macrosMiscounted, outOfRange, notUpright, insideAny, weightsWrong, checked}
+use Rattle.net.specs.Check.{pinsMiscounted, pinsMiscountedWithin, macrosMiscounted, macrosMiscountedWithin, outOfRange}
+use Rattle.net.specs.Check.{notUpright, insideAny, weightsWrong, checked}
 use Rattle.net.proofs.CheckLaws.{Past11, Past12, Past13-pins, Past13, Past14, Past15, Past16, Past17, Past18}
 use Rattle.net.proofs.CheckLaws.{refuse-11, refuse-12}
 use Rattle.net.proofs.CheckLaws.{refuse-13-pins, refuse-13, refuse-14, refuse-15, refuse-16, refuse-17, refuse-18}
@@ -84,7 +85,7 @@ pub record MacrosCounted (macros : List ℤ) : Type 0 where
   pub few : macroCount macros ≤ macroBound
 
 pub pins-counted : (pins : List ℤ) → pinsMiscounted pins ≡ false → PinsCounted pins
-unfolding pinsMiscounted
+unfolding pinsMiscountedWithin
 pins-counted pins e =
     let r = or-none _ _ e in
     let s = or-none _ _ (r .1) in
@@ -96,7 +97,7 @@ pins-counted pins e =
     }
 
 pub macros-counted : (macros : List ℤ) → macrosMiscounted macros ≡ false → MacrosCounted macros
-unfolding macrosMiscounted
+unfolding macrosMiscountedWithin
 macros-counted macros e =
     let r = or-none _ _ e in
     record { whole = eqb-true (length macros % macroWidth) 0 (not-false _ (r .0)); few = ltb-false macroBound (macroCount macros) (r .1) }

@@ -13,15 +13,15 @@ use Rattle.net.specs.declared.Net.{Net}
 use Rattle.net.specs.declared.Weighing.{Weighing}
 use Rattle.net.specs.Net.{weighing, plainly}
 use Rattle.net.specs.Pins.{pinCount, pinPlaces}
-use Rattle.net.specs.Check.{pinsMiscounted, macrosMiscounted, outOfRange, notUpright, insideAny, noWeight, weightsWrong}
-use Rattle.net.specs.Check.{counted, checked}
+use Rattle.net.specs.Check.{pinsMiscountedWithin, macrosMiscountedWithin, outOfRange, notUpright, insideAny, noWeight, weightsWrong}
+use Rattle.net.specs.Check.{counted, checked, checkedWithin}
 use Rattle.net.specs.WorkedNets.{Lists, onePin, noPin, aroundOne, threePins, sharedSide, onSides, overlapping, onBoundary, inInterior}
 use Rattle.net.specs.WorkedNets.{twiceInInterior, noWidth}
 
 -- the check of a net with these weights; to unfold this is to unfold all that it rests on
 unfoldable pub answer : Weighing → Lists → Told Net
-unfolding up any anyTwo minZ maxZ samePlace inside openSpansMeet interiorsMeet pinCount pinPlaces macrosOf pinsMiscounted macrosMiscounted
-    outOfRange notUpright insideAny noWeight weightsWrong checked
+unfolding up any anyTwo minZ maxZ samePlace inside openSpansMeet interiorsMeet pinCount pinPlaces macrosOf pinsMiscountedWithin
+    macrosMiscountedWithin outOfRange notUpright insideAny noWeight weightsWrong checkedWithin
 answer w net = checked w (net .pins) (net .macros)
 
 pub record Table : Type 0 where

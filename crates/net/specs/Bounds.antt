@@ -2,12 +2,22 @@
 -- code on tables fail where the two differ.
 use Prim.Native.Nat.{ℕ, _+_, _*_}
 
--- N5: from 1 pin to 64, and up to 64 macros
+-- N5: from 1 pin to 128, and up to 128 macros
 abbrev pub pinBound : ℕ
-pinBound = 64
+pinBound = 128
 
 abbrev pub macroBound : ℕ
-macroBound = 64
+macroBound = 128
+
+-- The two as one value: what a machine takes at most. The check, the writer and the reader are defined for any, so that another machine is
+-- the same definitions with other numbers.
+pub record Bounds : Type 0 where
+  pub pins : ℕ
+  pub macros : ℕ
+
+-- those of this release
+abbrev pub today : Bounds
+today = record { pins = pinBound; macros = macroBound }
 
 -- N4: coordinates are at most this far from 0, on both sides
 abbrev pub coordinateBound : ℕ
@@ -24,8 +34,8 @@ pinWidth = 2
 abbrev pub macroWidth : ℕ
 macroWidth = 4
 
--- N7, N23, N24: what follows from them. The points of a graph are the pins and four corners a macro (320), each picks at most four
--- (1,280), and refining brings at most one point a round (384).
+-- N7, N23, N24: what follows from them. The points of a graph are the pins and four corners a macro (640), each picks at most four
+-- (2,560), and refining brings at most one point a round (768).
 abbrev pub pointBound : ℕ
 pointBound = pinBound + macroBound * 4
 

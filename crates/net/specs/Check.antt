@@ -13,7 +13,7 @@ use Rattle.plane.specs.Place.{samePlace}
 use Rattle.plane.specs.Macro.{inside, interiorsMeet}
 use Rattle.plane.specs.Flat.{macrosOf}
 use Rattle.lent.specs.Told.{Told, refused, given}
-use Rattle.net.specs.Bounds.{pinBound, macroBound, coordinateBound, weightBound, pinWidth, macroWidth}
+use Rattle.net.specs.Bounds.{Bounds, today, coordinateBound, weightBound, pinWidth, macroWidth}
 use Rattle.net.specs.Pins.{pinCount, pinPlaces, macroCount}
 use Rattle.net.specs.Answer.{number}
 use Rattle.net.specs.Net.{weightsOf}
@@ -32,13 +32,19 @@ countsOf w pins macros = counted w (pinCount pins) (macroCount macros)
 abbrev pub pointCount : Counts → ℕ
 pointCount net = net .pins + net .macros * 4
 
--- C11: not whole pairs, no pin, or more than 64
-unfoldable pub pinsMiscounted : List ℤ → Bool
-pinsMiscounted pins = not (eqb (length pins % pinWidth) 0) || (eqb (pinCount pins) 0 || ltb pinBound (pinCount pins))
+-- C11: not whole pairs, no pin, or more than the bound, which is 128
+unfoldable pub pinsMiscountedWithin : Bounds → List ℤ → Bool
+pinsMiscountedWithin b pins = not (eqb (length pins % pinWidth) 0) || (eqb (pinCount pins) 0 || ltb (b .pins) (pinCount pins))
 
--- C12: not whole fours, or more than 64 macros
-unfoldable pub macrosMiscounted : List ℤ → Bool
-macrosMiscounted macros = not (eqb (length macros % macroWidth) 0) || ltb macroBound (macroCount macros)
+abbrev pub pinsMiscounted : List ℤ → Bool
+pinsMiscounted = pinsMiscountedWithin today
+
+-- C12: not whole fours, or more macros than the bound, which is 128
+unfoldable pub macrosMiscountedWithin : Bounds → List ℤ → Bool
+macrosMiscountedWithin b macros = not (eqb (length macros % macroWidth) 0) || ltb (b .macros) (macroCount macros)
+
+abbrev pub macrosMiscounted : List ℤ → Bool
+macrosMiscounted = macrosMiscountedWithin today
 
 -- C13: farther from 0 than coordinates go
 unfoldable pub outOfRange : ℤ → Bool
@@ -61,10 +67,10 @@ unfoldable pub weightsWrong : Weighing → Bool
 weightsWrong w = noWeight (w .first) || noWeight (w .second)
 
 -- C51, C60: each test is over the whole net, and the first that applies is the answer
-unfoldable pub checked : Weighing → List ℤ → List ℤ → Told Counts
-checked w pins macros =
-    cond (pinsMiscounted pins) (refused 11)
-    (cond (macrosMiscounted macros) (refused 12)
+unfoldable pub checkedWithin : Bounds → Weighing → List ℤ → List ℤ → Told Counts
+checkedWithin b w pins macros =
+    cond (pinsMiscountedWithin b pins) (refused 11)
+    (cond (macrosMiscountedWithin b macros) (refused 12)
     (cond (any outOfRange pins || any outOfRange macros) (refused 13)
     (cond (any notUpright (macrosOf macros)) (refused 14)
     -- C15: a place with two pins
@@ -75,6 +81,9 @@ checked w pins macros =
     (cond (weightsWrong w) (refused 18)
     -- C56: none applies, so the net is allowed
     (given (countsOf w pins macros)))))))))
+
+abbrev pub checked : Weighing → List ℤ → List ℤ → Told Counts
+checked = checkedWithin today
 
 -- what the code's answer says
 unfoldable pub told : Checked → Told Counts

@@ -4,9 +4,10 @@
 -- with places and macros. `netOf` takes the lists to the record. Definitions speak the numbers of the rules; the code speaks enums, and
 -- `number` and `told` translate. A check goes through its tests in the order of C60, each over the whole net.
 --
---   Bounds     pinBound, macroBound, coordinateBound     64, 64 and 1,000,000
+--   Bounds     pinBound, macroBound, coordinateBound     128, 128 and 1,000,000
+--              Bounds, today                             the first two as one value: those of any machine, and of this one
 --              weightBound, pinWidth, macroWidth         8; a pin has 2 numbers and a macro 4: with those above the only literals
---              pointBound, edgeBound, treeBound          what follows from them: 320, 1,280 and 384
+--              pointBound, edgeBound, treeBound          what follows from them: 640, 2,560 and 768
 --              costBound                                 and 32,000,000
 --   Pins       pinCount, pinPlaces, pinAt, flatPins      a flat list's pins: how many, where, the i-th; and a flat list of places
 --              macroCount                                how many macros a flat list holds
@@ -19,6 +20,7 @@
 --              pointCount counts                         m + 4k
 --              pinsMiscounted .. weightsWrong            the tests, 11 to 18
 --              checked w pins macros                     the first number that applies, or what is given
+--              checkedWithin b ..                        the same within any bounds, of which it is an instance
 --              told r                                    what the code's answer says
 --   Allowed    Allowed net                               an allowed net in words, for the theory above
 --   Order      SamePins, SameMacros                      the same entries in another order

@@ -44,9 +44,9 @@ impl Net {
     // Numbers of a macro in the list of macros: left, bottom, right, top.
     pub const MACRO_NUMBERS: usize = 4;
 
-    pub const PINS: usize = 64;
+    pub const PINS: usize = 128;
 
-    pub const MACROS: usize = 64;
+    pub const MACROS: usize = 128;
 
     // A coordinate lies between this and its negative.
     pub const COORDINATE: i32 = 1000000;

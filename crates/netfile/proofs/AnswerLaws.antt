@@ -5,7 +5,7 @@ use mathlib.Core.Bool.{true, false}
 use mathlib.Core.List.{List}
 use Prim.Native.Nat.{ℕ, _+_, _/_, _%_, _≤_}
 use native.Mathlib.Omega.{arith}
-use borrow.Author.Tests.{eqb-true, eqb-false, ltb-false, not-false}
+use borrow.Author.Tests.{eqb-true, eqb-false, eq-eqb, ne-eqb, le-ltb, ltb-false, not-false}
 use lib.IntN.{ℤ}
 use lib.ListN.{length}
 use Rattle.lists.proofs.TestLaws.{by, or-none}
@@ -15,15 +15,16 @@ use Rattle.lent.proofs.AfterLaws.{after-refused, told-apart}
 use Rattle.plane.specs.declared.Weights.{Weights}
 use Rattle.net.specs.declared.Net.{Net as Counts}
 use Rattle.net.specs.Net.{handed}
-use Rattle.net.specs.Bounds.{weightBound}
-use Rattle.net.specs.Check.{checked}
+use Rattle.net.specs.Bounds.{Bounds, today, weightBound}
+use Rattle.net.specs.Check.{checkedWithin}
 use Rattle.net.proofs.PinLaws.{pin-numbers}
 use Rattle.net.proofs.PassedLaws.{passed-all, pins-counted, macros-counted}
-use Rattle.netfile.specs.Sizes.{blockBytes, firstWeightWord, secondWeightWord, pinListBound, macroListBound, blocksFor, fileBlocks}
+use Rattle.netfile.specs.Sizes.{blockBytes, firstWeightWord, secondWeightWord, pinListBound, macroListBound, blocksFor}
+use Rattle.netfile.specs.Sizes.{fileBlocksWithin}
 use Rattle.netfile.specs.Layout.{fileBytes}
-use Rattle.netfile.specs.Read.{blocksMiscounted, sumsWrong, headWord, pinLength, macroLength, numbersIn, pinsIn, macrosIn}
-use Rattle.netfile.specs.Read.{sameNumbers, weightsIn, countsWrong, weightsMiswritten, headWrong, Sized, laidOut, answerIn}
-use Rattle.netfile.specs.Read.{roomShort, readFile}
+use Rattle.netfile.specs.Read.{blocksMiscountedWithin, sumsWrong, headWord, pinLength, macroLength, numbersIn, pinsIn, macrosIn}
+use Rattle.netfile.specs.Read.{sameNumbers, weightsIn, countsWrong, weightsMiswritten, headWrong, Sized, laidOutWithin}
+use Rattle.netfile.specs.Read.{answerWithin, answerIn, roomShort, roomShortWithin, readFileWithin}
 use Rattle.netfile.proofs.ReadLaws.{length-numbers}
 
 -- The lists of a file
@@ -48,24 +49,32 @@ length-macros-in bytes = length-numbers bytes _ 0 (macroLength bytes)
 -- Tests passed
 
 -- whole blocks, from one to those of the longest file
-pub record BlocksCounted (bytes : List ℕ) : Type 0 where
+pub record BlocksCounted (b : Bounds) (bytes : List ℕ) : Type 0 where
   pub whole : length bytes % blockBytes ≡ 0
   pub some : 1 ≤ length bytes / blockBytes
-  pub few : length bytes / blockBytes ≤ fileBlocks
+  pub few : length bytes / blockBytes ≤ fileBlocksWithin b
 
-pub blocks-counted : (bytes : List ℕ) → blocksMiscounted bytes ≡ false → BlocksCounted bytes
-unfolding blocksMiscounted
-blocks-counted bytes e =
+pub blocks-counted : {b : Bounds} (bytes : List ℕ) → blocksMiscountedWithin b bytes ≡ false → BlocksCounted b bytes
+unfolding blocksMiscountedWithin
+blocks-counted {b} bytes e =
     let r = or-none _ _ e in
     let s = or-none _ _ (r .1) in
     let n : length bytes / blockBytes ≡ 0 → ⊥ = eqb-false (length bytes / blockBytes) 0 (s .0) in
     record {
       whole = eqb-true (length bytes % blockBytes) 0 (not-false _ (r .0));
       some = omega (arith, n);
-      few = ltb-false fileBlocks (length bytes / blockBytes) (s .1);
+      few = ltb-false (fileBlocksWithin b) (length bytes / blockBytes) (s .1);
     }
 
-pub sized-by-head : (bytes : List ℕ) → BlocksCounted bytes → countsWrong bytes ≡ false → Sized bytes (pinLength bytes)
+-- and the other way, within any bounds that allow as many
+pub blocks-pass : (b c : Bounds) (bytes : List ℕ) → BlocksCounted c bytes → length bytes / blockBytes ≤ fileBlocksWithin b
+    → blocksMiscountedWithin b bytes ≡ false
+unfolding blocksMiscountedWithin
+blocks-pass b c bytes n h =
+    let some : length bytes / blockBytes ≡ 0 → ⊥ = λ e. omega (arith, n .some, e) in
+    rw (eq-eqb _ 0 (n .whole), ne-eqb _ 0 some, le-ltb (fileBlocksWithin b) _ h) refl
+
+pub sized-by-head : (bytes : List ℕ) → BlocksCounted today bytes → countsWrong bytes ≡ false → Sized bytes (pinLength bytes)
     (macroLength bytes)
 unfolding countsWrong
 sized-by-head bytes b e =
@@ -86,27 +95,30 @@ weight-words bytes e =
     (ltb-false weightBound (headWord firstWeightWord bytes) (r .0), ltb-false weightBound (headWord secondWeightWord bytes) (r .1))
 
 room-enough : (p q : ℕ) → roomShort p q ≡ false → (pinListBound ≤ p) × (macroListBound ≤ q)
-unfolding roomShort
+unfolding roomShortWithin
 room-enough p q e =
     let r = or-none _ _ e in
     (ltb-false p pinListBound (r .0), ltb-false q macroListBound (r .1))
 
 -- The answer
 
-module _ (bytes : List ℕ) (w : Weights) (pins macros : List ℤ) where
-  pub laid-out : sameNumbers bytes (fileBytes w pins macros) ≡ true → laidOut bytes w pins macros ≡ checked (handed w) pins macros
-  unfolding laidOut
+module _ (b : Bounds) (bytes : List ℕ) (w : Weights) (pins macros : List ℤ) where
+  pub laid-out : sameNumbers bytes (fileBytes w pins macros) ≡ true
+      → laidOutWithin b bytes w pins macros ≡ checkedWithin b (handed w) pins macros
+  unfolding laidOutWithin
   laid-out e = rw e refl
 
-  pub laid-wrong : sameNumbers bytes (fileBytes w pins macros) ≡ false → laidOut bytes w pins macros ≡ refused 3
-  unfolding laidOut
+  pub laid-wrong : sameNumbers bytes (fileBytes w pins macros) ≡ false → laidOutWithin b bytes w pins macros ≡ refused 3
+  unfolding laidOutWithin
   laid-wrong e = rw e refl
 
   -- an accepted file is the one that the layout makes of its lists, and these are allowed
-  pub laid-same : (net : Counts) → laidOut bytes w pins macros ≡ given net → sameNumbers bytes (fileBytes w pins macros) ≡ true
+  pub laid-same : (net : Counts) → laidOutWithin b bytes w pins macros ≡ given net
+      → sameNumbers bytes (fileBytes w pins macros) ≡ true
   laid-same net e = by (sameNumbers bytes (fileBytes w pins macros)) (λ h. h) (λ h. told-apart 3 net (sym (laid-wrong h) ∙ e))
 
-  pub laid-allowed : (net : Counts) → laidOut bytes w pins macros ≡ given net → checked (handed w) pins macros ≡ given net
+  pub laid-allowed : (net : Counts) → laidOutWithin b bytes w pins macros ≡ given net
+      → checkedWithin b (handed w) pins macros ≡ given net
   laid-allowed net e = sym (laid-out (laid-same net e)) ∙ e
 
 -- the lists of an accepted file fit where the largest net does
@@ -114,7 +126,7 @@ pub lists-fit : (bytes : List ℕ) (p q : ℕ) (net : Counts) → answerIn bytes
     → roomShort p q ≡ false → (pinLength bytes ≤ p) × (macroLength bytes ≤ q)
 lists-fit bytes p q net e f =
     let a = passed-all _ (pinsIn bytes) (macrosIn bytes) net
-    (laid-allowed bytes (weightsIn bytes) (pinsIn bytes) (macrosIn bytes) net e) .past .past .past .past .past .past .past in
+    (laid-allowed today bytes (weightsIn bytes) (pinsIn bytes) (macrosIn bytes) net e) .past .past .past .past .past .past .past in
     let m = pins-counted (pinsIn bytes) (a .past .passed) in
     let k = macros-counted (macrosIn bytes) (a .passed) in
     let r = room-enough p q f in (
@@ -122,28 +134,53 @@ lists-fit bytes p q net e f =
       omega (arith, k .few, length-macros-in bytes, r .1),
     )
 
-module _ (bytes : List ℕ) (p q : ℕ) where
-  pub refuse-21 : roomShort p q ≡ true → readFile bytes p q ≡ refused 21
-  unfolding readFile
+module _ (b : Bounds) (bytes : List ℕ) (p q : ℕ) where
+  pub refuse-21 : roomShortWithin b p q ≡ true → readFileWithin b bytes p q ≡ refused 21
+  unfolding readFileWithin
   refuse-21 e = rw e refl
 
-  pub refuse-1 : roomShort p q ≡ false → blocksMiscounted bytes ≡ true → readFile bytes p q ≡ refused 1
-  unfolding readFile
+  pub refuse-1 : roomShortWithin b p q ≡ false → blocksMiscountedWithin b bytes ≡ true
+      → readFileWithin b bytes p q ≡ refused 1
+  unfolding readFileWithin
   refuse-1 r e = rw (r, e) refl
 
-  pub refuse-2 : roomShort p q ≡ false → blocksMiscounted bytes ≡ false → sumsWrong bytes ≡ true → readFile bytes p q ≡ refused 2
-  unfolding readFile
-  refuse-2 r b e = rw (r, b, e) refl
+  pub refuse-2 : roomShortWithin b p q ≡ false → blocksMiscountedWithin b bytes ≡ false → sumsWrong bytes ≡ true
+      → readFileWithin b bytes p q ≡ refused 2
+  unfolding readFileWithin
+  refuse-2 r n e = rw (r, n, e) refl
 
-  pub refuse-3 : roomShort p q ≡ false → blocksMiscounted bytes ≡ false → sumsWrong bytes ≡ false → headWrong bytes ≡ true
-      → readFile bytes p q ≡ refused 3
-  unfolding readFile
-  refuse-3 r b s e = rw (r, b, s, e) refl
+  pub refuse-3 : roomShortWithin b p q ≡ false → blocksMiscountedWithin b bytes ≡ false → sumsWrong bytes ≡ false
+      → headWrong bytes ≡ true → readFileWithin b bytes p q ≡ refused 3
+  unfolding readFileWithin
+  refuse-3 r n s e = rw (r, n, s, e) refl
 
-  pub read-on : roomShort p q ≡ false → blocksMiscounted bytes ≡ false → sumsWrong bytes ≡ false → headWrong bytes ≡ false
-      → readFile bytes p q ≡ answerIn bytes
-  unfolding readFile
-  read-on r b s e = rw (r, b, s, e) refl
+  pub read-on : roomShortWithin b p q ≡ false → blocksMiscountedWithin b bytes ≡ false → sumsWrong bytes ≡ false
+      → headWrong bytes ≡ false → readFileWithin b bytes p q ≡ answerWithin b bytes
+  unfolding readFileWithin
+  read-on r n s e = rw (r, n, s, e) refl
+
+-- what an accepted file has passed
+pub record Passed (b : Bounds) (bytes : List ℕ) (net : Counts) : Type 0 where
+  pub blocks : BlocksCounted b bytes
+  pub sums : sumsWrong bytes ≡ false
+  pub head : headWrong bytes ≡ false
+  pub same : sameNumbers bytes (fileBytes (weightsIn bytes) (pinsIn bytes) (macrosIn bytes)) ≡ true
+  pub lists : checkedWithin b (handed (weightsIn bytes)) (pinsIn bytes) (macrosIn bytes) ≡ given net
+
+pub accepted-passed : {b : Bounds} (bytes : List ℕ) (p q : ℕ) (net : Counts) → readFileWithin b bytes p q ≡ given net → Passed b bytes net
+accepted-passed {b} bytes p q net e =
+    by (roomShortWithin b p q) (λ t. told-apart 21 net (sym (refuse-21 b bytes p q t) ∙ e)) (λ r.
+    by (blocksMiscountedWithin b bytes) (λ t. told-apart 1 net (sym (refuse-1 b bytes p q r t) ∙ e)) (λ n.
+    by (sumsWrong bytes) (λ t. told-apart 2 net (sym (refuse-2 b bytes p q r n t) ∙ e)) (λ s.
+    by (headWrong bytes) (λ t. told-apart 3 net (sym (refuse-3 b bytes p q r n s t) ∙ e)) (λ c.
+    let l = sym (read-on b bytes p q r n s c) ∙ e in
+    record {
+      blocks = blocks-counted bytes n;
+      sums = s;
+      head = c;
+      same = laid-same b bytes (weightsIn bytes) (pinsIn bytes) (macrosIn bytes) net l;
+      lists = laid-allowed b bytes (weightsIn bytes) (pinsIn bytes) (macrosIn bytes) net l;
+    }))))
 
 -- a refusal's number, and both lent lists as they were
 pub unaltered : (t : Told Counts) (ps ms p q : List ℤ) (n : ℕ) → t ≡ refused n → (refused n ≡ t)

@@ -4,7 +4,7 @@
 use mathlib.Core.Path.{_≡_, sym, ap, _∙_}
 use mathlib.Core.Bool.{true, false}
 use mathlib.Core.List.{List}
-use Prim.Native.Nat.{ℕ, suc, _≤_, _<_}
+use Prim.Native.Nat.{ℕ, suc, _*_, _≤_, _<_}
 use native.Mathlib.Omega.{arith}
 use borrow.Author.Tests.{ltb-true, ltb-false}
 use lib.Dec.{ltb}
@@ -12,8 +12,9 @@ use lib.ListN.{length, take, length-take}
 use lib.Seq.{take-all}
 use Rattle.lists.proofs.TestLaws.{by}
 use Rattle.lent.specs.Told.{refused}
-use Rattle.netfile.specs.Sizes.{fileBound}
-use Rattle.netfile.specs.Read.{blocksMiscounted, roomShort, readFile}
+use Rattle.net.specs.Bounds.{Bounds, today}
+use Rattle.netfile.specs.Sizes.{blockBytes, fileBlocksWithin, fileBound}
+use Rattle.netfile.specs.Read.{blocksMiscountedWithin, roomShort, readFile}
 use Rattle.netfile.proofs.AnswerLaws.{blocks-counted, refuse-21, refuse-1}
 
 -- the first bytes of a file: one more than the longest has
@@ -31,19 +32,20 @@ cut-short bytes h = take-all (suc fileBound) bytes (omega arith)
 pub cut-long : (bytes : List ℕ) → fileBound < length bytes → fileBound < length (cut bytes)
 cut-long bytes h = omega (arith, length-take (suc fileBound) bytes)
 
-too-long : (bytes : List ℕ) → fileBound < length bytes → blocksMiscounted bytes ≡ true
-too-long bytes h =
-    by (blocksMiscounted bytes) (λ e. e)
-    (λ e. let b = blocks-counted bytes e in absurd (let f : ⊥ = omega (arith, b .whole, b .few) in f))
+-- C1, within any bounds
+pub too-long : (b : Bounds) (bytes : List ℕ) → fileBlocksWithin b * blockBytes < length bytes → blocksMiscountedWithin b bytes ≡ true
+too-long b bytes h =
+    by (blocksMiscountedWithin b bytes) (λ e. e)
+    (λ e. let n = blocks-counted bytes e in absurd (let f : ⊥ = omega (arith, n .whole, n .few) in f))
 
 pub read-too-long : (bytes : List ℕ) (p q : ℕ) → roomShort p q ≡ false → fileBound < length bytes → readFile bytes p q ≡ refused 1
-read-too-long bytes p q r h = refuse-1 bytes p q r (too-long bytes h)
+read-too-long bytes p q r h = refuse-1 today bytes p q r (too-long today bytes h)
 
 -- the answer of a read
 module _ (bytes : List ℕ) (p q : ℕ) where
   long-cut : fileBound < length bytes → readFile (cut bytes) p q ≡ readFile bytes p q
   long-cut h =
-      by (roomShort p q) (λ r. refuse-21 (cut bytes) p q r ∙ sym (refuse-21 bytes p q r))
+      by (roomShort p q) (λ r. refuse-21 today (cut bytes) p q r ∙ sym (refuse-21 today bytes p q r))
       (λ r. read-too-long (cut bytes) p q r (cut-long bytes h) ∙ sym (read-too-long bytes p q r h))
 
   pub read-cut : readFile (cut bytes) p q ≡ readFile bytes p q

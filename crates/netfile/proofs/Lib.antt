@@ -11,4 +11,6 @@ pub mod CutLaws
 pub mod FileLaws
 pub mod RoundTrip
 pub mod FirstRelease
+pub mod OlderLaws
 pub mod WorkedFiles
+pub mod WorkedOlder

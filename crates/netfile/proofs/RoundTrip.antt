@@ -14,17 +14,16 @@ use lib.ListN.{length, getD, length-append}
 use mir.Syntax.{w32}
 use mir.Val.{SFits}
 use Rattle.lists.specs.Any.{any}
-use Rattle.lists.proofs.TestLaws.{by, or-none, or-neither}
+use Rattle.lists.proofs.TestLaws.{or-none, or-neither}
 use Rattle.signed.specs.Sides.{up, down}
 use Rattle.signed.proofs.SideLaws.{signed, one-side, to-sfits}
 use Rattle.lent.specs.Over.{over}
 use Rattle.lent.specs.Told.{given}
-use Rattle.lent.proofs.AfterLaws.{told-apart}
 use Rattle.plane.specs.declared.Weights.{Weights}
 use Rattle.net.specs.declared.Weighing.{Weighing}
 use Rattle.net.specs.declared.Net.{Net as Counts}
 use Rattle.net.specs.Net.{weightsOf, handed}
-use Rattle.net.specs.Bounds.{coordinateBound, pinWidth, macroWidth}
+use Rattle.net.specs.Bounds.{today, coordinateBound, pinWidth, macroWidth}
 use Rattle.net.specs.Pins.{pinCount, macroCount}
 use Rattle.net.specs.Check.{outOfRange, weightsWrong, checked}
 use Rattle.net.specs.Allowed.{Weighted}
@@ -37,13 +36,14 @@ use Rattle.netfile.specs.Sizes.{blocksFor, blockCount, fileBlocks, fileB
 use Rattle.netfile.specs.Words.{wordsOf}
 use Rattle.netfile.specs.Sums.{sealed, wrongSums}
 use Rattle.netfile.specs.Layout.{block, headBlock, pinBlocks, macroBlocks, fileWords, fileBytes}
-use Rattle.netfile.specs.Read.{blocksMiscounted, blocksOf, sumsWrong, headWord, pinLength, macroLength, weightsIn, numbersIn, pinsIn}
+use Rattle.netfile.specs.Read.{blocksMiscounted, blocksMiscountedWithin, blocksOf, sumsWrong, headWord, pinLength, macroLength}
+use Rattle.netfile.specs.Read.{weightsIn, numbersIn, pinsIn}
 use Rattle.netfile.specs.Read.{macrosIn, countsWrong, headWrong, laidOut, roomShort, readFile}
 use Rattle.netfile.proofs.SizeLaws.{enough, pins-few, macros-few}
 use Rattle.netfile.proofs.LayoutLaws.{length-head, length-list-blocks, length-file}
 use Rattle.netfile.proofs.WriteLaws.{pins-ok, macros-ok, allowed-blocks}
 use Rattle.netfile.proofs.ReadLaws.{same-true, same-refl}
-use Rattle.netfile.proofs.AnswerLaws.{laid-out, laid-same, laid-allowed, refuse-21, refuse-1, refuse-2, refuse-3, read-on}
+use Rattle.netfile.proofs.AnswerLaws.{laid-out, read-on, accepted-passed}
 use Rattle.netfile.proofs.FileLaws.{Small, Fit, words-bytes, small-append, small-block, small-list-blocks, pass-head, pass-list}
 use Rattle.netfile.proofs.FileLaws.{list-read}
 use Rattle.netfile.proofs.WeightLaws.{word-within, weights-read, weights-written}
@@ -170,7 +170,7 @@ module _ (w : Weighing) (pins macros : List ℤ) (lists : Storable w pins macros
       (enough (length macros)) (lists .macros-fit)
 
   blocks-right : blocksMiscounted file ≡ false
-  unfolding blocksMiscounted
+  unfolding blocksMiscountedWithin
   blocks-right =
       let n = length-file weights pins macros in
       let a : length file % blockBytes ≡ 0 = omega (arith, n) in
@@ -224,10 +224,10 @@ read-laid w pins macros l =
       pins-back = p;
       macros-back = m;
       answer = λ a b r.
-          read-on f a b r (blocks-right w pins macros l) (sums-right w pins macros l) (head-right w pins macros l)
+          read-on today f a b r (blocks-right w pins macros l) (sums-right w pins macros l) (head-right w pins macros l)
           ∙ ap₂ (laidOut f (weightsIn f)) p m
           ∙ ap (λ (u : Weights). laidOut f u pins macros) v
-          ∙ laid-out f (weightsOf w) pins macros (same-refl f)
+          ∙ laid-out today f (weightsOf w) pins macros (same-refl f)
           ∙ ap (λ (u : Weighing). checked u pins macros) (handed-weights w (l .weights));
     }
 
@@ -249,17 +249,12 @@ pub record Ours (bytes : List ℕ) (net : Counts) : Type 0 where
 
 pub accepted-is-ours : (bytes : List ℕ) (p q : ℕ) (net : Counts) → readFile bytes p q ≡ given net → Ours bytes net
 accepted-is-ours bytes p q net e =
-    by (roomShort p q) (λ t. told-apart 21 net (sym (refuse-21 bytes p q t) ∙ e)) (λ r.
-    by (blocksMiscounted bytes) (λ t. told-apart 1 net (sym (refuse-1 bytes p q r t) ∙ e)) (λ b.
-    by (sumsWrong bytes) (λ t. told-apart 2 net (sym (refuse-2 bytes p q r b t) ∙ e)) (λ s.
-    by (headWrong bytes) (λ t. told-apart 3 net (sym (refuse-3 bytes p q r b s t) ∙ e)) (λ c.
-    let l = sym (read-on bytes p q r b s c) ∙ e in
-    let a = laid-allowed bytes (weightsIn bytes) (pinsIn bytes) (macrosIn bytes) net l in
+    let l = accepted-passed bytes p q net e in
     record {
-      file = same-true bytes _ (laid-same bytes (weightsIn bytes) (pinsIn bytes) (macrosIn bytes) net l);
-      lists = a;
-      weights = ap (λ (n : Counts). n .weights) (given-counts _ _ _ a) ∙ weights-handed (weightsIn bytes);
-    }))))
+      file = same-true bytes _ (l .same);
+      lists = l .lists;
+      weights = ap (λ (n : Counts). n .weights) (given-counts _ _ _ (l .lists)) ∙ weights-handed (weightsIn bytes);
+    }
 
 -- two allowed nets with one file are one net
 pub record SameNet (w w′ : Weighing) (pins macros pins′ macros′ : List ℤ) : Type 0 where

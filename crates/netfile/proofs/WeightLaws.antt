@@ -14,7 +14,7 @@ use Rattle.lists.proofs.TestLaws.{by, either, or-neither}
 use Rattle.lent.specs.Over.{over}
 use Rattle.lent.specs.Told.{refused, code}
 use Rattle.plane.specs.declared.Weights.{Weights}
-use Rattle.net.specs.Bounds.{weightBound}
+use Rattle.net.specs.Bounds.{today, weightBound}
 use Rattle.net.specs.Allowed.{Weighted}
 use Rattle.net.proofs.HandedLaws.{weighted-passes, one-number, another, not-18}
 use Rattle.netfile.specs.Sizes.{firstWeightWord, secondWeightWord}
@@ -22,7 +22,7 @@ use Rattle.netfile.specs.Words.{wordsOf, bytesOfWord, bytesOf, weightWor
 use Rattle.netfile.specs.Sums.{sealed}
 use Rattle.netfile.specs.Layout.{block, headBlock, fileWords, fileBytes}
 use Rattle.netfile.specs.Read.{blocksMiscounted, sumsWrong, headWord, weightsIn, pinsIn, macrosIn, sameNumbers, weightsMiswritten}
-use Rattle.netfile.specs.Read.{headWrong, answerIn, roomShort, readFile}
+use Rattle.netfile.specs.Read.{headWrong, answerIn, roomShort, readFile, readFileWithin}
 use Rattle.netfile.proofs.ReadLaws.{same-true}
 use Rattle.netfile.proofs.AnswerLaws.{head-right, weight-words, laid-out, laid-wrong, refuse-3, read-on}
 
@@ -89,14 +89,14 @@ module _ (bytes : List ℕ) (p q : ℕ) where
   laid-not-18 : weightsMiswritten bytes ≡ false → code (answerIn bytes) ≡ 18 → ⊥
   laid-not-18 e =
       by (sameNumbers bytes (fileBytes (weightsIn bytes) (pinsIn bytes) (macrosIn bytes)))
-      (λ t. rw (laid-out _ _ _ _ t) (not-18 _ (pinsIn bytes) (macrosIn bytes) (weighted-passes _ (weighted-in bytes e))))
-      (λ t. rw (laid-wrong _ _ _ _ t) (one-number 3 18 refl))
+      (λ t. rw (laid-out today _ _ _ _ t) (not-18 _ (pinsIn bytes) (macrosIn bytes) (weighted-passes _ (weighted-in bytes e))))
+      (λ t. rw (laid-wrong today _ _ _ _ t) (one-number 3 18 refl))
 
   head-not-18 : code (cond (headWrong bytes) (refused 3) (answerIn bytes)) ≡ 18 → ⊥
   head-not-18 = by (headWrong bytes) (λ t. rw t (one-number 3 18 refl)) (λ t. rw t (laid-not-18 (head-right bytes t .1)))
 
   number-not-18 : code (readFile bytes p q) ≡ 18 → ⊥
-  unfolding readFile
+  unfolding readFileWithin
   number-not-18 =
       another (roomShort p q) 21 18 _ refl
       (another (blocksMiscounted bytes) 1 18 _ refl
@@ -136,5 +136,5 @@ module _ (bytes : List ℕ) where
   pub wrong-weight : (p q : ℕ) → roomShort p q ≡ false → blocksMiscounted bytes ≡ false → sumsWrong bytes ≡ false → WrongWeights
       → readFile bytes p q ≡ refused 3
   wrong-weight p q r b s wrong =
-      by (headWrong bytes) (λ t. refuse-3 bytes p q r b s t)
-      (λ t. read-on bytes p q r b s t ∙ laid-wrong _ _ _ _ (made-otherwise (head-right bytes t .1) wrong))
+      by (headWrong bytes) (λ t. refuse-3 today bytes p q r b s t)
+      (λ t. read-on today bytes p q r b s t ∙ laid-wrong today _ _ _ _ (made-otherwise (head-right bytes t .1) wrong))

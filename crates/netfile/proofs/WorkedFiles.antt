@@ -20,18 +20,19 @@ use Rattle.netfile.specs.Sizes.{blocksFor, fileBlocks, fileBound}
 use Rattle.netfile.specs.Words.{wordsOf, bytesOfWord, bytesOf, wordOf, coordinate, weightWord, weightIn}
 use Rattle.netfile.specs.Sums.{total, runningSums, plainSum, sumOfSums, sealed, wrongSums}
 use Rattle.netfile.specs.Layout.{block, headBlock, listBlock, listBlocks, fileWords, fileBytes}
-use Rattle.netfile.specs.Read.{blocksMiscounted, blocksOf, sumsWrong, headWord, numberIn, numbersIn, pinsIn, macrosIn, sameNumbers}
-use Rattle.netfile.specs.Read.{countsWrong, weightsMiswritten, headWrong, laidOut, roomShort, readFile}
+use Rattle.netfile.specs.Read.{blocksMiscountedWithin, blocksOf, sumsWrong, headWord, numberIn, numbersIn, pinsIn, macrosIn}
+use Rattle.netfile.specs.Read.{sameNumbers}
+use Rattle.netfile.specs.Read.{countsWrong, weightsMiswritten, headWrong, laidOutWithin, roomShortWithin, readFile, readFileWithin}
 
 -- the numbers that the document gives, each worked out from the net's bounds and the format's own numbers
 pub record Limits : Type 0 where
   pub bytes-a-block : blockBytes ≡ 512
   pub pins-a-block : pinsPerBlock ≡ 60
   pub macros-a-block : macrosPerBlock ≡ 30
-  pub longest-blocks : fileBlocks ≡ 6
-  pub longest-bytes : fileBound ≡ 3072
-  pub pins-lent : pinListBound ≡ 128
-  pub macros-lent : macroListBound ≡ 256
+  pub longest-blocks : fileBlocks ≡ 9
+  pub longest-bytes : fileBound ≡ 4608
+  pub pins-lent : pinListBound ≡ 256
+  pub macros-lent : macroListBound ≡ 512
 
 pub worked-limits : Limits
 worked-limits = record {
@@ -51,8 +52,8 @@ words w net = fileWords w (net .pins) (net .macros)
 
 unfoldable pub readWords : List ℕ → ℕ → ℕ → Told Counts
 unfolding answer over wordsOf bytesOfWord bytesOf wordOf coordinate weightWord weightIn total runningSums plainSum sumOfSums sealed
-    wrongSums block headBlock listBlock blocksFor listBlocks fileWords fileBytes blocksMiscounted blocksOf sumsWrong headWord numberIn
-    numbersIn pinsIn macrosIn sameNumbers countsWrong weightsMiswritten headWrong laidOut roomShort readFile
+    wrongSums block headBlock listBlock blocksFor listBlocks fileWords fileBytes blocksMiscountedWithin blocksOf sumsWrong headWord numberIn
+    numbersIn pinsIn macrosIn sameNumbers countsWrong weightsMiswritten headWrong laidOutWithin roomShortWithin readFileWithin
 readWords ws p q = readFile (bytesOf ws) p q
 
 -- the answer of a read into room for the largest net

@@ -17,7 +17,7 @@ use Rattle.net.proofs.PinLaws.{pin-numbers}
 use Rattle.net.proofs.PassedLaws.{PinsCounted, MacrosCounted, passed-all, pins-counted, macros-counted}
 use Rattle.netfile.specs.Sizes.{blockCount, fileBlocks}
 use Rattle.netfile.specs.Layout.{fileBytes}
-use Rattle.netfile.specs.Write.{fitted, written}
+use Rattle.netfile.specs.Write.{fitted, written, writtenWithin}
 use Rattle.netfile.proofs.SizeLaws.{lists-in-file}
 
 pub fitted-short : (needed room : ℕ) → room < needed → fitted needed room ≡ refused 21
@@ -30,12 +30,12 @@ fitted-given needed room h = rw (le-ltb room needed h) refl
 
 module _ (w : Weighing) (pins macros : List ℤ) (room : ℕ) where
   pub written-refused : (n : ℕ) → checked w pins macros ≡ refused n → written w pins macros room ≡ refused n
-  unfolding written onlyIf
+  unfolding writtenWithin onlyIf
   written-refused n e = ap (λ (t : Told Counts). onlyIf t (fitted (length (fileBytes (weightsOf w) pins macros)) room)) e
 
   pub written-allowed : (net : Counts) → checked w pins macros ≡ given net → written w pins macros room
       ≡ fitted (length (fileBytes (weightsOf w) pins macros)) room
-  unfolding written onlyIf
+  unfolding writtenWithin onlyIf
   written-allowed net e = ap (λ (t : Told Counts). onlyIf t (fitted (length (fileBytes (weightsOf w) pins macros)) room)) e
 
 -- lists that passed the check, by their lengths

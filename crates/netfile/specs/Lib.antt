@@ -21,6 +21,7 @@
 --            pinListBound, macroListBound           the numbers of the longest lists
 --            blocksFor n, blockCount n k            how many blocks n numbers take, and a file of n and k
 --            fileBlocks, fileBound, fileNumbers     the longest file: its blocks, its bytes, the numbers that it has room for
+--            fileBlocksWithin b                     its blocks for a machine of other bounds
 --   Words    wordsOf bytes, bytesOf words           words from bytes and back, low byte first
 --            wordOf z, coordinate w                 a coordinate's two's complement word, and the coordinate of a word
 --            weightWord n, weightIn w               a weight's word, and the weight of a word
@@ -32,7 +33,7 @@
 --            pinBlocks pins, macroBlocks            the blocks of the two lists
 --            fileWords w pins macros, fileBytes     the whole file
 --   Write    fitted needed room                     21, or the number of bytes
---            written w pins macros room             the answer of a write into so many lent bytes
+--            written w pins macros room             the answer of a write into so many lent bytes; writtenWithin b within any bounds
 --            toldBytes r                            what the code's answer says
 --   Read     roomShort p q                          refusal 21
 --            blocksMiscounted, sumsWrong            refusals 1 and 2
@@ -48,7 +49,12 @@
 --            laidOut bytes w pins macros            refusal 3 for anything else, or the answer of the check
 --            answerIn bytes                         so for the weights and lists that a file holds
 --            readFile bytes pinRoom macroRoom       the answer of a read into so many lent numbers
+--            readFileWithin b, answerWithin b ..    the same within any bounds, of which those above are instances
 --   FirstRelease  firstHead m k, firstFile pins macros   the head and the file of the first release, without weights
+--   Older    older, olderBytes, Old pins macros     an older machine's bounds and longest file, and lists that it takes
+--            leftBy b w pins macros lent            what a machine's writer leaves in lent bytes
+--            Reads b bytes answer                   its reader's answer, where it is lent enough
+--            OlderOf, OldAndNew                     what an older machine says to today's files, and all that is said of both
 pub mod Sizes
 pub mod Words
 pub mod Sums
@@ -56,3 +62,4 @@ pub mod Layout
 pub mod Write
 pub mod Read
 pub mod FirstRelease
+pub mod Older

@@ -10,19 +10,22 @@ use Rattle.lent.specs.Told.{Told, refused}
 use Rattle.lists.specs.Any.{any}
 use Rattle.plane.specs.declared.Weights.{Weights}
 use Rattle.net.specs.declared.Net.{Net as Counts}
-use Rattle.net.specs.Bounds.{weightBound, pinWidth, macroWidth}
+use Rattle.net.specs.Bounds.{Bounds, today, weightBound, pinWidth, macroWidth}
 use Rattle.net.specs.Net.{handed}
-use Rattle.net.specs.Check.{checked}
+use Rattle.net.specs.Check.{checkedWithin}
 use Rattle.netfile.specs.Sizes.{blockWords, blockBytes, firstEntry, pinCountWord, macroCountWord, firstWeightWord, secondWeightWord}
-use Rattle.netfile.specs.Sizes.{perBlock, pinListBound, macroListBound, blocksFor, blockCount, fileBlocks, fileBound}
+use Rattle.netfile.specs.Sizes.{perBlock, blocksFor, blockCount, fileBlocksWithin, fileBound}
 use Rattle.netfile.specs.Words.{wordsOf, coordinate, weightIn}
 use Rattle.netfile.specs.Sums.{wrongSums}
 use Rattle.netfile.specs.Layout.{fileBytes}
 
 -- C1: the length is not that of whole blocks, from one to those of the longest file
-unfoldable pub blocksMiscounted : List ℕ → Bool
-blocksMiscounted bytes =
-    not (eqb (length bytes % blockBytes) 0) || (eqb (length bytes / blockBytes) 0 || ltb fileBlocks (length bytes / blockBytes))
+unfoldable pub blocksMiscountedWithin : Bounds → List ℕ → Bool
+blocksMiscountedWithin b bytes =
+    not (eqb (length bytes % blockBytes) 0) || (eqb (length bytes / blockBytes) 0 || ltb (fileBlocksWithin b) (length bytes / blockBytes))
+
+abbrev pub blocksMiscounted : List ℕ → Bool
+blocksMiscounted = blocksMiscountedWithin today
 
 -- F1: the words of the block b
 abbrev pub blockOf : ℕ → List ℕ → List ℕ
@@ -100,22 +103,35 @@ pub record Sized (bytes : List ℕ) (n k : ℕ) : Type 0 where
   pub fit : length bytes ≡ blockCount n k * blockBytes
 
 -- C3: the file is not the one that the layout makes of the weights and lists that it holds. C73: after that, the net's own refusals.
-unfoldable pub laidOut : List ℕ → Weights → List ℤ → List ℤ → Told Counts
-laidOut bytes w pins macros = cond (sameNumbers bytes (fileBytes w pins macros)) (checked (handed w) pins macros) (refused 3)
+unfoldable pub laidOutWithin : Bounds → List ℕ → Weights → List ℤ → List ℤ → Told Counts
+laidOutWithin b bytes w pins macros =
+    cond (sameNumbers bytes (fileBytes w pins macros)) (checkedWithin b (handed w) pins macros) (refused 3)
+
+abbrev pub laidOut : List ℕ → Weights → List ℤ → List ℤ → Told Counts
+laidOut = laidOutWithin today
 
 -- so for the weights and lists that a file holds
+abbrev pub answerWithin : Bounds → List ℕ → Told Counts
+answerWithin b bytes = laidOutWithin b bytes (weightsIn bytes) (pinsIn bytes) (macrosIn bytes)
+
 abbrev pub answerIn : List ℕ → Told Counts
-answerIn bytes = laidOut bytes (weightsIn bytes) (pinsIn bytes) (macrosIn bytes)
+answerIn = answerWithin today
 
 -- C71: fewer numbers for pins or for macros than the longest lists have
-unfoldable pub roomShort : ℕ → ℕ → Bool
-roomShort pinRoom macroRoom = ltb pinRoom pinListBound || ltb macroRoom macroListBound
+unfoldable pub roomShortWithin : Bounds → ℕ → ℕ → Bool
+roomShortWithin b pinRoom macroRoom = ltb pinRoom (b .pins * pinWidth) || ltb macroRoom (b .macros * macroWidth)
+
+abbrev pub roomShort : ℕ → ℕ → Bool
+roomShort = roomShortWithin today
 
 -- C71, C52: the answer of a read into `pinRoom` and `macroRoom` lent numbers, with what the check gives
-unfoldable pub readFile : List ℕ → ℕ → ℕ → Told Counts
-readFile bytes pinRoom macroRoom =
-    cond (roomShort pinRoom macroRoom) (refused 21)
-    (cond (blocksMiscounted bytes) (refused 1)
+unfoldable pub readFileWithin : Bounds → List ℕ → ℕ → ℕ → Told Counts
+readFileWithin b bytes pinRoom macroRoom =
+    cond (roomShortWithin b pinRoom macroRoom) (refused 21)
+    (cond (blocksMiscountedWithin b bytes) (refused 1)
     (cond (sumsWrong bytes) (refused 2)
     (cond (headWrong bytes) (refused 3)
-    (answerIn bytes))))
+    (answerWithin b bytes))))
+
+abbrev pub readFile : List ℕ → ℕ → ℕ → Told Counts
+readFile = readFileWithin today

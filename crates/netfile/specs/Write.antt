@@ -9,7 +9,8 @@ use Rattle.lent.specs.Told.{Told, refused, given, onlyIf}
 use Rattle.net.specs.declared.Weighing.{Weighing}
 use Rattle.net.specs.Net.{weightsOf}
 use Rattle.net.specs.Answer.{number}
-use Rattle.net.specs.Check.{checked}
+use Rattle.net.specs.Bounds.{Bounds, today}
+use Rattle.net.specs.Check.{checkedWithin}
 use Rattle.netfile.specs.Layout.{fileBytes}
 use Rattle.netfile.specs.declared.Written.{Written}
 use Rattle.netfile.specs.declared.Written.the-variants.{Bytes, Refused}
@@ -19,8 +20,11 @@ unfoldable pub fitted : ℕ → ℕ → Told ℕ
 fitted needed room = cond (ltb room needed) (refused 21) (given needed)
 
 -- C69: the answer of a write into `room` lent bytes
-unfoldable pub written : Weighing → List ℤ → List ℤ → ℕ → Told ℕ
-written w pins macros room = onlyIf (checked w pins macros) (fitted (length (fileBytes (weightsOf w) pins macros)) room)
+unfoldable pub writtenWithin : Bounds → Weighing → List ℤ → List ℤ → ℕ → Told ℕ
+writtenWithin b w pins macros room = onlyIf (checkedWithin b w pins macros) (fitted (length (fileBytes (weightsOf w) pins macros)) room)
+
+abbrev pub written : Weighing → List ℤ → List ℤ → ℕ → Told ℕ
+written = writtenWithin today
 
 -- what the code's answer says
 unfoldable pub toldBytes : Written → Told ℕ

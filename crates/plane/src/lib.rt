@@ -2,6 +2,7 @@
 //
 // Coordinates are i32 and any value is taken; differences and sums of them are worked out in 64 bits, where none can overflow.
 ghost use mathlib.Core.Path.{_≡_};
+ghost use mathlib.Core.Bool.{true};
 ghost use Prim.Native.Nat.{_+_, _*_, _≤_, _^_, _<_};
 ghost use lib.IntN.{pos, _-ℤ_, natAbs};
 ghost use lib.Dec.{ltb};
@@ -14,6 +15,7 @@ ghost use Rattle.plane.specs.Middle.{middle, middlePlace};
 ghost use Rattle.plane.specs.Box.{boxOf, outside, boxCost};
 ghost use Rattle.plane.specs.Macro.{spanMeets, meets, openSpansMeet, interiorsMeet, clear};
 ghost use Rattle.plane.specs.Flat.{macrosOf, macroAt, placeAt, placeNumbers};
+ghost use Rattle.lists.specs.Any.{any};
 ghost use Rattle.signed.specs.Order.{minZ, maxZ};
 ghost use Rattle.signed.specs.Sides.{down};
 
@@ -229,17 +231,54 @@ pub fn macro_at(macros: &[i32], i: usize) -> Macro
     }
 }
 
-// The box of a and b meets no macro's interior.
-pub fn is_clear(a: Place, b: Place, macros: &[i32]) -> bool
-    ensures { λ r. ⌜ r ≡ clear a b (macrosOf (now (macros .entry))) ⌝ }
+// Whether two places are clear of each other, and the macro to ask first the next time: the one that blocks, if one does.
+pub struct Sight {
+    pub free: bool,
+    pub by: usize,
+}
+
+// The i-th macro is one that blocks.
+fn is_blocked(a: Place, b: Place, macros: &[i32], i: usize) -> bool
+    ensures { λ r. ⌜ (r ≡ true → any (meets a b) (macrosOf (now (macros .entry))) ≡ true) ⌝ }
+{
+    if i < macros.len() / 4 {
+        return box_meets(a, b, macro_at(macros, i));
+    }
+    false
+}
+
+// All macros are asked. Where none blocks, the answer names `by`.
+fn look_around(a: Place, b: Place, macros: &[i32], by: usize) -> Sight
+    ensures { λ r. ⌜ r .free ≡ clear a b (macrosOf (now (macros .entry))) ⌝ }
 {
     let k = macros.len() / 4;
     let mut i = 0;
     while i < k {
         if box_meets(a, b, macro_at(macros, i)) {
-            return false;
+            return Sight { free: false, by: i };
         }
         i += 1;
     }
-    true
+    Sight { free: true, by: by }
+}
+
+// The box of a and b meets no macro's interior.
+pub fn is_clear(a: Place, b: Place, macros: &[i32]) -> bool
+    ensures { λ r. ⌜ r ≡ clear a b (macrosOf (now (macros .entry))) ⌝ }
+{
+    let sight = look_around(a, b, macros, 0);
+    sight.free
+}
+
+// What `is_clear` says, whatever `by` is: the macro of that number is asked first, since what blocked once often blocks again.
+pub fn look(a: Place, b: Place, macros: &[i32], by: usize) -> Sight
+    ensures { λ r. ⌜ r .free ≡ clear a b (macrosOf (now (macros .entry))) ⌝ }
+{
+    if is_blocked(a, b, macros, by) {
+        return Sight {
+            free: false,
+            by: by,
+        };
+    }
+    look_around(a, b, macros, by)
 }

@@ -11,7 +11,7 @@ use lib.Dec.{ltb, eqb}
 use lib.IntN.{ℤ}
 use lib.ListN.{length, getD, set, replicate}
 use lib.Seq.{append-snoc}
-use borrow.Author.Tests.{eq-eqb, lt-ltb, le-ltb, ltb-false}
+use borrow.Author.Tests.{eq-eqb, ne-eqb, lt-ltb, le-ltb, ltb-false}
 use Rattle.lists.proofs.TestLaws.{by}
 use Rattle.lists.specs.Member.{_∈_}
 use Rattle.plane.specs.declared.Place.{Place}
@@ -28,19 +28,16 @@ use Rattle.forest.specs.Edges.{entries, FirstBelow, Listed}
 use Rattle.forest.specs.Parents.{wayAfter, Nearing}
 use Rattle.forest.proofs.ListedLaws.{read-listed, entry-listed, listed-none, listed-more}
 use Rattle.forest.proofs.WayLaws.{after-go, after-none}
-use Rattle.tree.specs.Table.{treeBound, pairBound, Small, Low}
+use Rattle.tree.specs.Table.{treeBound, Low}
 use Rattle.candidates.specs.declared.Best.{Best}
 use Rattle.refiner.specs.declared.Choice.{Choice}
 use Rattle.lists.specs.Turns.{turns}
-use Rattle.candidates.specs.Longest.{Reach, reach, reached, start, measure, costs, longest, noEdge, cutOf}
+use Rattle.candidates.specs.Longest.{measure, costs, longest, cutOf}
 use Rattle.candidates.specs.Candidate.{best, chosen, sees, dropped, mayGain}
 use Rattle.candidates.specs.Candidate as tree
 use Rattle.exchanges.specs.Exchange.{rank, stands}
 use Rattle.refiner.specs.Beside.{isPoint, sourcesFrom, takeSeat, onWay, free, weighed, offer, search, chosenOf}
 use Rattle.refiner.specs.Beside.{choice, either as chosenEither}
-use Rattle.candidates.proofs.LongestLaws.{small-set}
-use Rattle.lists.proofs.TurnLaws.{turns-keep}
-use Rattle.exchanges.proofs.WithinLaws.{rank-le}
 
 and-false : (a : Bool) → (a && false) ≡ false
 and-false true = refl
@@ -133,13 +130,6 @@ pub take-seat-is : (pts : List ℤ) (n : ℕ) (vs : List ℤ) (roots : List ℕ)
     → p ≡ placeAt vs x → r ≡ rank pts n p → set t i r ≡ takeSeat pts n vs roots i t
 unfolding takeSeat
 take-seat-is pts n vs roots i x r p t e f g = rw (g, f, e) refl
-
-pub small-seats : (pts : List ℤ) (n : ℕ) (vs : List ℤ) (roots : List ℕ) (v : ℕ) (lent t : List ℕ) → n < treeBound
-    → t ≡ turns (takeSeat pts n vs roots) 0 v lent → Small treeBound lent → Small treeBound t
-unfolding takeSeat
-small-seats pts n vs roots v lent t h e s =
-    rw e (turns-keep (takeSeat pts n vs roots) (Small treeBound) v 0 lent
-    (λ j q k. small-set treeBound q j _ (omega (arith, rank-le pts n (placeAt vs (getD roots j 0)))) k) s)
 
 -- Ways
 
@@ -234,6 +224,10 @@ module _ (w : Weights) (pts : List ℤ) (n : ℕ) (ms : List Macro) (el top : Li
       pub offer-short : getD el l 0 ≤ c .gain + getD fars u 0 → c ≡ Offered
       offer-short i = weigh-short w pts n ms vs fars ups a b k u l (getD el l 0) c i ∙ offer-is
 
+-- beside the tree
+pub off-tree : (x : ℕ) → 0 < x → eqb x 0 ≡ false
+off-tree x h = ne-eqb x 0 (λ q. let z : ⊥ = omega (arith, h, q) in z)
+
 -- a vertex so far from the box of an edge, with its way, that no edge is long enough
 module _ (w : Weights) (pts : List ℤ) (n : ℕ) (ms : List Macro) (el top : List ℕ) (vs : List ℤ) (fars ups seat : List ℕ)
     (a b k u : ℕ) (c : Best) (x : ℕ) (low : Low x el) (p q r : Place) (f : p ≡ placeAt pts a) (g : q ≡ placeAt pts b)
@@ -267,9 +261,9 @@ unfolding chosenEither
 either-on on off h = rw (chosenEither, le-ltb _ _ h) refl
 
 module _ (w : Weights) (ms : List Macro) (pts : List ℤ) (n : ℕ) (ks : List ℕ) (e : ℕ) (vs : List ℤ) (v : ℕ) (fars ups seat : List ℕ)
-    (el s t : List ℕ) (on off : Best) (el-is : el ≡ turns (measure w pts ks) 0 e (replicate treeBound 0))
-    (top-is : reach s t ≡ reached ks el e n (reach (set (replicate treeBound 0) 0 1) (replicate pairBound noEdge)))
-    (on-is : on ≡ tree.search w pts n ms ks e el t) (off-is : off ≡ search w pts n ms ks e el t vs v fars ups seat on) where
+    (el : List ℕ) (on off : Best) (el-is : el ≡ turns (measure w pts ks) 0 e (replicate treeBound 0))
+    (on-is : on ≡ tree.search w pts n ms ks e el (longest ks el e n))
+    (off-is : off ≡ search w pts n ms ks e el (longest ks el e n) vs v fars ups seat on) where
   pub chosen-is : (r : Choice) → r ≡ chosenEither on off → r ≡ chosenOf w ms pts n ks e vs v fars ups seat
-  unfolding chosenOf costs longest start
-  chosen-is r h = h ∙ rw (off-is, on-is, ap (λ (q : Reach). q .top) top-is, el-is) refl
+  unfolding chosenOf costs
+  chosen-is r h = h ∙ rw (off-is, on-is, el-is) refl

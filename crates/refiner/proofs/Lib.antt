@@ -5,6 +5,7 @@ pub mod ReachedLaws
 pub mod AloneLaws
 pub mod CutLaws
 pub mod WinnerLaws
+pub mod SpanLaws
 pub mod RoundSound
 pub mod RefinedSound
 pub mod CutSound

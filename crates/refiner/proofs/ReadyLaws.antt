@@ -33,7 +33,7 @@ use Rattle.refiner.specs.Beside.{Ground, sourcesFrom, takeSeat, seats, m
 use Rattle.refiner.specs.Beside.{either, chosenOf, labelsIn, parentsIn, seatsIn, chosenIn}
 use Rattle.refiner.specs.Graft.{Grown, grafted}
 use Rattle.refiner.specs.Round.{exchangeWith, exchangeIn}
-use Rattle.refiner.specs.Ready.{Roomy, Exchangeable}
+use Rattle.refiner.specs.Ready.{Roomy, Seated, Exchangeable}
 use Rattle.lists.proofs.TurnLaws.{turns-below}
 use Rattle.exchanges.proofs.WithinLaws.{cut-in, fine-found}
 
@@ -168,6 +168,9 @@ module _ (g : Ground) (t : Tree) {source fars roots ups vias : List ℕ} {m : �
         seats-are
         ∙ ap (λ (l : Labels). turns (takeSeat (t .points) (t .count) (g .places) (l .roots)) 0 (g .count) (replicate pointBound 0)) labels-in
 
+    pub made-seated : Roomy g t → Seated seat (g .count) (t .count)
+    made-seated r = record { seated = λ u h. rw seats-in (r .seated u h) }
+
     module _ (w : Weights) (ms : List Macro) (c : Choice)
         (chosen : c ≡ chosenOf w ms (t .points) (t .count) (t .edges .keys) (t .edges .size) (g .places) (g .count) fars ups seat) where
       pub chosen-in : c ≡ chosenIn w ms g t
@@ -182,8 +185,8 @@ module _ (g : Ground) (t : Tree) {source fars roots ups vias : List ℕ} {m : �
       exchangeable r h =
           let i = chosen-range w ms (t .points) (t .count) (t .edges .keys) (t .edges .size) (g .places) (g .count) fars ups seat c chosen h in
           record {
-            within = r .within;
-            few = (r .few, omega (arith, r .few, r .edges));
+            within = r .spanned .within;
+            few = (r .few, omega (arith, r .few, r .spanned .size));
             edge = i .0 .0;
             cut = i .0 .1;
             two = i .1 .0;
@@ -194,5 +197,5 @@ module _ (g : Ground) (t : Tree) {source fars roots ups vias : List ℕ} {m : �
             room =
                 λ b.
                 let far = rw (← fars-in, ← ups-in) at (r .room (c .point) (i .1 .1 .1 b)) in
-                (far, omega (arith, far, r .edges));
+                (far, omega (arith, far, r .spanned .size));
           }

@@ -41,6 +41,7 @@ use Rattle.refiner.specs.Sentences.{keyAt}
 use Rattle.refiner.proofs.WinnerLaws.{Winner, found-wins, cost-at}
 use Rattle.refiner.proofs.RoundSound.{Won, round-falls, round-kept}
 use Rattle.refiner.proofs.CutSound.{tree-size}
+use Rattle.refiner.proofs.SpanLaws.{tree-reaches}
 use Rattle.refiner.proofs.WayBeside.{seated, way-low, way-along, way-long, way-room}
 use Rattle.refiner.proofs.BesideWins.{WinnerOff, search-leads-off}
 use Rattle.refiner.proofs.GraftTaken as graft
@@ -53,8 +54,16 @@ ready-roomy net g t m r =
     let size = tree-size net t (r .sound) in
     let vertices = listing-length (vertexAt g) (g .count) in
     record {
-      within = r .sound .within;
-      edges = omega (arith, size);
+      spanned = record {
+        size = size;
+        few = omega (arith, count-strangers (verticesOf g) t (r .sound .ordered), vertices, r .room);
+        within = r .sound .within;
+        reaches = λ el none v h.
+            tree-reaches (t .points) (t .count) (t .edges .keys) (t .edges .size) el (r .sound .ordered)
+            (omega (arith, count-strangers (verticesOf g) t (r .sound .ordered), vertices, r .room))
+            (omega (arith, size, count-strangers (verticesOf g) t (r .sound .ordered), vertices, r .room)) none (r .sound .within)
+            (r .sound .whole) v h;
+      };
       room = λ u h. omega (arith, way-room net g t (r .grounded) (r .sound) u h, r .room);
       seated = λ u h. seated net g t (r .grounded) (r .sound) u h .0;
       few = omega (arith, count-strangers (verticesOf g) t (r .sound .ordered), vertices, r .room);

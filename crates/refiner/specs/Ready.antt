@@ -19,6 +19,7 @@ use Rattle.forest.specs.Setting.{pairs, Setting}
 use Rattle.tree.specs.Table.{treeBound, Tree, Within}
 use Rattle.tree.specs.Places.{pointsOf, InOrder, Ranked, Sound}
 use Rattle.tree.specs.Outside.{strangers}
+use Rattle.candidates.specs.Hung.{Spanned}
 use Rattle.refiner.specs.Beside.{Ground, labelsIn, parentsIn, seatsIn, chosenIn}
 use Rattle.refiner.specs.Round.{exchangeIn}
 use Rattle.refiner.specs.declared.Turn.{Turn}
@@ -50,10 +51,14 @@ pub record Ready (net : Net) (g : Ground) (t : Tree) (m : ℕ) : Type 0 where
   pub places : length (t .points) ≡ treeBound * 2
   pub rows : length (t .edges .keys) ≡ treeBound
 
--- what the code needs of that: no way to a vertex is too long to be laid, and each vertex has its root among the tree's points
+-- the first v vertices have their roots among n points of a tree
+pub record Seated (seat : List ℕ) (v n : ℕ) : Type 0 where
+  pub seated : (u : ℕ) → u < v → getD seat u 0 < n
+
+-- what the code needs of that: all points are reached, no way to a vertex is too long to be laid, and each vertex has its root among the
+-- tree's points
 pub record Roomy (g : Ground) (t : Tree) : Type 0 where
-  pub within : Within (t .count) (t .edges .keys)
-  pub edges : t .edges .size < t .count
+  pub spanned : Spanned (t .edges .keys) (t .edges .size) (t .count)
   pub room : (u : ℕ) → u < g .count → t .count + length (wayAfter (labelsIn g t .fars) (parentsIn g t .ups) u) < treeBound
   pub seated : (u : ℕ) → u < g .count → getD (seatsIn g t) u 0 < t .count
   pub few : t .count < treeBound

@@ -6,8 +6,7 @@ use crate::Choice;
 use crate::VERTEX_NUMBERS;
 use crate::VERTICES;
 use candidates::Best;
-use candidates::NONE;
-use candidates::PAIRS;
+use candidates::UNKNOWN;
 use candidates::candidate;
 use candidates::longest;
 use exchanges::exchange;
@@ -16,16 +15,20 @@ use plane::Weights;
 use tree::NUMBERS;
 use tree::POINTS;
 ghost use mathlib.Core.Path.{_≡_};
-ghost use Prim.Native.Nat.{_≤_, _<_};
-ghost use lib.ListN.{length};
+ghost use mathlib.Core.List.{List};
+ghost use Prim.Native.Nat.{ℕ, _≤_, _<_};
+ghost use lib.ListN.{length, getD};
 ghost use Rattle.plane.specs.Flat.{placeAt, macrosOf};
 ghost use Rattle.forest.specs.Bounds.{pointBound};
 ghost use Rattle.forest.specs.Edges.{entries, Below, FirstBelow};
 ghost use Rattle.forest.specs.Labels.{Low};
 ghost use Rattle.forest.specs.Parents.{wayAfter, Nearing};
 ghost use Rattle.lists.specs.Turns.{turns};
-ghost use Rattle.tree.specs.Table.{treeBound, pairBound, Small};
+ghost use Rattle.tree.specs.Table.{treeBound, Within};
 ghost use Rattle.tree.specs.Table as table;
+ghost use Rattle.candidates.specs.Longest.{cutOf, longest};
+ghost use Rattle.candidates.specs.Hung.{ties, Hanging, Spanned};
+ghost use Rattle.refiner.specs.Ready.{Seated};
 ghost use Rattle.refiner.specs.Beside.{isPoint, sourcesFrom, takeSeat, onWay, free, weighed, offer, offers, search, chosenOf};
 
 pub fn vertex_at(vertices: &[i32; VERTEX_NUMBERS], v: usize) -> Place
@@ -189,34 +192,30 @@ fn weigh(
     c
 }
 
+// The candidate of edge k from a to b and the vertex u beside the tree, whose root is the tree point v and whose L is l.
 fn offer(
     w: Weights,
     pts: &[i32; NUMBERS],
     n: usize,
     macros: &[i32],
     el: &[u64; POINTS],
-    top: &[u16; PAIRS],
     vertices: &[i32; VERTEX_NUMBERS],
     far: &[u64; VERTICES],
     up: &[usize; VERTICES],
-    seat: &[usize; VERTICES],
     a: usize,
     b: usize,
     k: usize,
     u: usize,
+    v: usize,
+    l: usize,
     c: Best,
 ) -> Best
-    requires { ⌜ ((a < treeBound) × (b < treeBound)) × ((u < pointBound) × (n ≤ treeBound)) ⌝ }
-    requires { ⌜ (Small treeBound (now top)) × (Small treeBound (now seat)) ⌝ }
+    requires { ⌜ ((a < treeBound) × (b < treeBound)) × ((u < pointBound) × ((l < treeBound) × (n ≤ treeBound))) ⌝ }
     requires { ⌜ (Low (now far)) × (Nearing (now far) (now up)) ⌝ }
-    ensures { λ r. ⌜ r ≡ offer w (now (pts .entry)) n (macrosOf (now (macros .entry))) (now (el .entry)) (now (top .entry))
-        (now (vertices .entry)) (now (far .entry)) (now (up .entry)) (now (seat .entry)) a b k u c ⌝ }
+    ensures { λ r. ⌜ ((t seat : List ℕ) → 0 < getD (now (far .entry)) u 0 → v ≡ getD seat u 0 → l ≡ cutOf (now (el .entry)) t a b v
+        → r ≡ offer w (now (pts .entry)) n (macrosOf (now (macros .entry))) (now (el .entry)) t (now (vertices .entry))
+        (now (far .entry)) (now (up .entry)) seat a b k u c) ⌝ }
 {
-    if far[u] == 0 {
-        return c;
-    }
-    let v = seat[u];
-    let l = longest::cut_of(el, top, a, b, v);
     if (v == a) | ((v == b) | (l == k)) {
         return c;
     }
@@ -236,9 +235,12 @@ fn offers(
     n: usize,
     macros: &[i32],
     keys: &[usize; POINTS],
+    e: usize,
     el: &[u64; POINTS],
     most: u64,
-    top: &[u16; PAIRS],
+    onto: &[usize; POINTS],
+    link: &[usize; POINTS],
+    turn: &[usize; POINTS],
     vertices: &[i32; VERTEX_NUMBERS],
     v: usize,
     far: &[u64; VERTICES],
@@ -247,16 +249,19 @@ fn offers(
     k: usize,
     c: Best,
 ) -> Best
-    requires { ⌜ (k < treeBound) × ((n ≤ treeBound) × (v ≤ pointBound)) ⌝ }
-    requires { ⌜ (Small pairBound (now keys)) × ((Small treeBound (now top)) × (Small treeBound (now seat))) ⌝ }
+    requires { ⌜ ((k < e) × (e ≤ treeBound)) × ((n ≤ treeBound) × (Within n (now keys))) ⌝ }
+    requires { ⌜ (v ≤ pointBound) × (Seated (now seat) v n) ⌝ }
     requires { ⌜ (Low (now far)) × (Nearing (now far) (now up)) ⌝ }
-    requires { ⌜ table.Low most (now el) ⌝ }
+    requires { ⌜ (table.Low most (now el)) × (Hanging (now keys) (now el) e n (ties (now onto) (now link) (now turn))) ⌝ }
     ensures { λ r. ⌜ r ≡ offers w (now (pts .entry)) n (macrosOf (now (macros .entry))) (now (keys .entry)) (now (el .entry))
-        (now (top .entry)) (now (vertices .entry)) v (now (far .entry)) (now (up .entry)) (now (seat .entry)) k c ⌝ }
+        (longest (now (keys .entry)) (now (el .entry)) e n) (now (vertices .entry)) v (now (far .entry)) (now (up .entry))
+        (now (seat .entry)) k c ⌝ }
 {
     let a = keys[k] / POINTS;
     let b = keys[k] % POINTS;
     let m = plane::box_of(tree::point_at(pts, a), tree::point_at(pts, b));
+    let mut row = [UNKNOWN; POINTS];
+    longest::start(el, onto, link, turn, a, b, &mut row);
     let mut found = c;
     let mut u = 0;
     while u < v {
@@ -265,21 +270,23 @@ fn offers(
         let f = far[at];
         if 0 < f {
             if candidate::may_gain(w, m, vertex_at(vertices, at), f, found.gain, most) {
+                let s = seat[at];
+                let l = longest::cut_at(el, onto, link, turn, s, &mut row);
                 found = offer(
                     w,
                     pts,
                     n,
                     macros,
                     el,
-                    top,
                     vertices,
                     far,
                     up,
-                    seat,
                     a,
                     b,
                     k,
                     at,
+                    s,
+                    l,
                     found,
                 );
             }
@@ -298,7 +305,9 @@ pub fn search(
     e: usize,
     el: &[u64; POINTS],
     most: u64,
-    top: &[u16; PAIRS],
+    onto: &[usize; POINTS],
+    link: &[usize; POINTS],
+    turn: &[usize; POINTS],
     vertices: &[i32; VERTEX_NUMBERS],
     v: usize,
     far: &[u64; VERTICES],
@@ -306,12 +315,13 @@ pub fn search(
     seat: &[usize; VERTICES],
     c: Best,
 ) -> Best
-    requires { ⌜ (e ≤ treeBound) × ((n ≤ treeBound) × (v ≤ pointBound)) ⌝ }
-    requires { ⌜ (Small pairBound (now keys)) × ((Small treeBound (now top)) × (Small treeBound (now seat))) ⌝ }
+    requires { ⌜ (e ≤ treeBound) × ((n ≤ treeBound) × (Within n (now keys))) ⌝ }
+    requires { ⌜ (v ≤ pointBound) × (Seated (now seat) v n) ⌝ }
     requires { ⌜ (Low (now far)) × (Nearing (now far) (now up)) ⌝ }
-    requires { ⌜ table.Low most (now el) ⌝ }
+    requires { ⌜ (table.Low most (now el)) × (Hanging (now keys) (now el) e n (ties (now onto) (now link) (now turn))) ⌝ }
     ensures { λ r. ⌜ r ≡ search w (now (pts .entry)) n (macrosOf (now (macros .entry))) (now (keys .entry)) e (now (el .entry))
-        (now (top .entry)) (now (vertices .entry)) v (now (far .entry)) (now (up .entry)) (now (seat .entry)) c ⌝ }
+        (longest (now (keys .entry)) (now (el .entry)) e n) (now (vertices .entry)) v (now (far .entry)) (now (up .entry))
+        (now (seat .entry)) c ⌝ }
 {
     let mut found = c;
     let mut k = 0;
@@ -322,9 +332,12 @@ pub fn search(
             n,
             macros,
             keys,
+            e,
             el,
             most,
-            top,
+            onto,
+            link,
+            turn,
             vertices,
             v,
             far,
@@ -352,19 +365,20 @@ pub fn found(
     up: &[usize; VERTICES],
     seat: &[usize; VERTICES],
 ) -> Choice
-    requires { ⌜ ((e ≤ treeBound) × (n ≤ treeBound)) × (Small pairBound (now keys)) ⌝ }
-    requires { ⌜ (v ≤ pointBound) × (Small treeBound (now seat)) ⌝ }
+    requires { ⌜ Spanned (now keys) e n ⌝ }
+    requires { ⌜ (v ≤ pointBound) × (Seated (now seat) v n) ⌝ }
     requires { ⌜ (Low (now far)) × (Nearing (now far) (now up)) ⌝ }
     ensures { λ r. ⌜ r ≡ chosenOf w (macrosOf (now (macros .entry))) (now (pts .entry)) n (now (keys .entry)) e (now (vertices .entry)) v
         (now (far .entry)) (now (up .entry)) (now (seat .entry)) ⌝ }
 {
     let mut el = [0u64; POINTS];
     let most = longest::costs(w, pts, keys, e, &mut el);
-    let mut seen = [0usize; POINTS];
-    seen[0] = 1;
-    let mut top = [NONE; PAIRS];
-    longest::reached(keys, &el, e, n, &mut seen, &mut top);
-    let on = candidate::search(w, pts, n, macros, keys, e, &el, most, &top);
+    let mut onto = [0usize; POINTS];
+    let mut link = [0usize; POINTS];
+    let mut turn = [0usize; POINTS];
+    turn[0] = 1;
+    longest::reached(keys, e, &mut onto, &mut link, &mut turn);
+    let on = candidate::search(w, pts, n, macros, keys, e, &el, most, &onto, &link, &turn);
     let off = search(
         w,
         pts,
@@ -374,7 +388,9 @@ pub fn found(
         e,
         &el,
         most,
-        &top,
+        &onto,
+        &link,
+        &turn,
         vertices,
         v,
         far,

@@ -7,14 +7,14 @@ use Prim.Native.Nat.{ℕ, suc, _<_}
 use lib.IntN.{pos}
 use lib.ListN.{length, take}
 use Rattle.netfile.specs.Sizes.{pinListBound, macroListBound, fileBound}
-use Rattle.netfile.specs.Read.{roomShort}
+use Rattle.netfile.specs.Read.{roomShort, roomShortWithin}
 use Rattle.netfile.proofs.CutLaws.{by-length, cut-short, cut-long, read-too-long}
 use Rattle.report.specs.Text.{refusedText}
 use Rattle.report.specs.Route.{routeText}
 use Rattle.report.proofs.RouteLaws.{route-refused}
 
 full-room : roomShort pinListBound macroListBound ≡ false
-unfolding roomShort
+unfolding roomShortWithin
 full-room = refl
 
 -- a file that is too long is refused as such

@@ -3,7 +3,7 @@
 -- Assumes nothing.
 use mathlib.Core.Path.{_≡_, refl}
 use mathlib.Core.List.{List, [], _∷_, _++_, map}
-use Prim.Native.Nat.{ℕ}
+use Prim.Native.Nat.{ℕ, _*_}
 use lib.IntN.{ℤ, pos, negsuc}
 use Rattle.lent.specs.Told.{Told, refused, given, onlyIf}
 use Rattle.plane.specs.declared.Place.{Place}
@@ -14,6 +14,7 @@ use Rattle.net.specs.WorkedNets.{Lists, onePin, noPin, aroundOne, threePins, sh
 use Rattle.net.specs.WorkedNets.{twiceInInterior, noWidth, fourPins, pin, block}
 use Rattle.net.specs.declared.Net.{Net as Counts}
 use Rattle.net.specs.declared.Weighing.{Weighing}
+use Rattle.net.specs.Bounds.{pinBound, pointBound, edgeBound, treeBound}
 use Rattle.net.specs.Net.{weighing, plainly}
 use Rattle.net.specs.Check.{counted, checked}
 use Rattle.net.proofs.WorkedChecks.{answer}
@@ -47,10 +48,10 @@ unfolding groundOf offer isPoint takeSeat weighed onWay free pairKey notBelow ke
     pathsOf pathsTotal terminalGiven terminalTree refinedOf edgesIn totalIn refinedGiven refinedTree wiresGiven wired
 answersBy w net = record {
   check = checked w (net .pins) (net .macros);
-  graph = graphed w (net .pins) (net .macros) 640 5120;
-  terminal = terminalTree w (net .pins) (net .macros) 320;
-  refined = refinedTree w (net .pins) (net .macros) 1536;
-  wires = wired w (net .pins) (net .macros) 3072;
+  graph = graphed w (net .pins) (net .macros) (pointBound * 2) (edgeBound * 4);
+  terminal = terminalTree w (net .pins) (net .macros) (pinBound * 5);
+  refined = refinedTree w (net .pins) (net .macros) (treeBound * 4);
+  wires = wired w (net .pins) (net .macros) (treeBound * 8);
 }
 
 abbrev answers : Lists → Answers

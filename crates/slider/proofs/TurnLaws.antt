@@ -115,7 +115,7 @@ module _ (w : Weights) (pins macros list : List ℤ) (e : ℕ) (s : State (netWi
       C = labelled Right pts keys n k zerosTable
 
       abbrev best : Best
-      best = searched pts keys R C size macros (seatsOf pts n pins m (replicate 64 0))
+      best = searched pts keys R C size macros (seatsOf pts n pins m (replicate pinBound 0))
 
       room : n ≤ length zerosTable
       room = omega (arith, t .held .few, length-replicate {A = ℕ} straightBound 0)

@@ -34,7 +34,7 @@ fn keep(
     ea: &[usize; EDGES],
     eb: &[usize; EDGES],
     root: &[usize; POINTS],
-    order: &[usize; EDGES],
+    order: &[u16; EDGES],
     n: usize,
     group: &mut [usize; POINTS],
     kept: &mut [usize; EDGES],
@@ -48,7 +48,7 @@ fn keep(
     let mut count = 0;
     let mut i = 0;
     while i < n {
-        let k = order[i];
+        let k = order[i] as usize;
         i += 1;
         let a = group_at(ea, root, &*group, k);
         let b = group_at(eb, root, &*group, k);
@@ -107,7 +107,7 @@ fn kept_paths(
 {
     let mut w = [0u64; EDGES];
     bridges::weigh(ea, eb, el, e, far, up, via, &mut w);
-    let mut order = [0usize; EDGES];
+    let mut order = [0u16; EDGES];
     let n = bridges::sort_bridges(ea, eb, e, root, &w, &mut order);
     let mut group = [0usize; POINTS];
     crate::number(&mut group, POINTS);

@@ -4,7 +4,7 @@
 -- and the edges are a table in the order of keys, so an edge is its position. Then the order of numbers is the order of places and of
 -- edges, and every tie is settled by scanning upwards and giving way only to what is strictly better.
 --
---   Table      treeBound                  how many points a tree may have, n + m = 384
+--   Table      treeBound                  how many points a tree may have, n + m = 768
 --              key a b, firstEnd, secondEnd    the number of an edge, and its ends
 --              setPoint                    a place written as a point
 --              Row, Tree                   the edges with how many they are; the points with theirs, and the edges

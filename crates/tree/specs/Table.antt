@@ -4,7 +4,7 @@ use mathlib.Core.List.{List}
 use lib.IntN.{ℤ}
 use lib.ListN.{getD, set}
 use Rattle.plane.specs.declared.Place.{Place}
--- N24: at most n + m = 384 points of the refined tree
+-- N24: at most n + m = 768 points of the refined tree
 pub use Rattle.net.specs.Bounds.{treeBound}
 
 -- keys of edges, and entries of a table of all pairs of points, are below this

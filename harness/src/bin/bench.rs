@@ -6,7 +6,7 @@ use std::io::Write;
 use std::process::ExitCode;
 
 use harness::library;
-use reference::generate::{net, Kind};
+use reference::generate::{half, net, Kind};
 use reference::lists::Lists;
 use reference::operations;
 
@@ -15,11 +15,14 @@ bench graph|terminal|refined|slid|distances|file|nothing proved|second random|ba
 one operation of one program on a net of SIZE pins and SIZE macros";
 
 /// SIZE pins and SIZE macros with weights 1 and 1, of a kind: random ones are the first of a largest net, still allowed, since taking
-/// entries away breaks no rule.
+/// entries away breaks no rule; up to 64 of the net that was the largest once, so that counts can be held to those of earlier landings.
 fn sized(kind: &str, size: usize) -> Option<Lists> {
     let (pins, macros) = match kind {
         "random" => {
-            let Lists { pins, macros, .. } = net(Kind::Largest, 1);
+            let Lists { pins, macros, .. } = match size {
+                ..=64 => half(1),
+                _ => net(Kind::Largest, 1),
+            };
             (pins[..2 * size].to_vec(), macros[..4 * size].to_vec())
         }
         "bars" => bars(size as i32),
@@ -75,7 +78,7 @@ fn clusters(size: usize) -> (Vec<i32>, Vec<i32>) {
 /// The net's file.
 fn file(lists: &Lists) -> Vec<u8> {
     let (pins, macros, weights) = lists.parts();
-    let mut bytes = vec![0; 3_072];
+    let mut bytes = vec![0; calzundi::LONGEST_FILE];
     let given = library::write_file(pins, macros, weights, &mut bytes);
     bytes.truncate(given.expect("the net is allowed, and no file is longer"));
     bytes
@@ -148,8 +151,8 @@ fn main() -> ExitCode {
         eprintln!("{HELP}");
         return ExitCode::from(2);
     };
-    if !(1..=64).contains(&size) {
-        eprintln!("a net has 1 to 64 pins and macros here");
+    if !(1..=calzundi::PINS).contains(&size) {
+        eprintln!("a net has 1 to {} pins and macros here", calzundi::PINS);
         return ExitCode::from(2);
     }
     let Some(lists) = sized(kind, size) else {

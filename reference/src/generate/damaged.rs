@@ -18,7 +18,7 @@ kinds! {
         BlockDoubled "block-doubled" "one block stands twice, the numbers put right or not",
         BlockMissing "block-missing" "one block left out, the numbers put right or not",
         Cut "cut" "cut short at any length",
-        TooLong "too-long" "more than six blocks, or bytes past the last block",
+        TooLong "too-long" "more than nine blocks, or bytes past the last block",
         CountsAbove "counts-above" "a right layout with more pins or macros than a net may have",
         HeadCounts "head-counts" "the head's counts are others, up to the greatest word",
         AllZero "all-zero" "blocks of zero words alone",
@@ -64,7 +64,7 @@ fn made(kind: Damage, seed: u64, weights: Weights) -> Vec<u8> {
     }
 }
 
-/// The blocks of an allowed net's file, of two to six blocks.
+/// The blocks of an allowed net's file, of two to nine blocks.
 fn file(random: &mut Random, weights: Weights) -> Vec<Block> {
     let kind = random.choose(&[
         Kind::TinyFour,
@@ -83,7 +83,7 @@ fn other_word(random: &mut Random, word: u32) -> u32 {
     let other = match random.below(5) {
         0 => word.wrapping_add(1),
         1 => word.wrapping_sub(1),
-        2 => random.below(70) as u32,
+        2 => random.below(140) as u32,
         3 => u32::MAX,
         _ => random.bits() as u32,
     };
@@ -180,7 +180,7 @@ fn cut(random: &mut Random, weights: Weights) -> Vec<u8> {
     bytes
 }
 
-/// A right layout of seven blocks or more, or a right file with bytes after it.
+/// A right layout of ten blocks or more, or a right file with bytes after it.
 fn too_long(random: &mut Random, weights: Weights) -> Vec<u8> {
     if random.one_in(2) {
         let pins = 60 * BLOCKS + random.below(500);
@@ -192,14 +192,14 @@ fn too_long(random: &mut Random, weights: Weights) -> Vec<u8> {
     bytes
 }
 
-/// Six blocks hold 300 pins, or 150 macros, or some of each.
+/// Nine blocks hold 480 pins, or 240 macros, or some of each.
 fn counts_above(random: &mut Random, weights: Weights) -> Vec<u8> {
     let (pins, macros) = match random.below(5) {
-        0 => (65 + random.below(236), 0),
-        1 => (65 + random.below(56), 1 + random.below(90)),
-        2 => (1 + random.below(60), 65 + random.below(56)),
-        3 => (61 + random.below(4), 65 + random.below(26)),
-        _ => (0, random.below(151)),
+        0 => (129 + random.below(352), 0),
+        1 => (129 + random.below(52), 1 + random.below(150)),
+        2 => (1 + random.below(60), 129 + random.below(82)),
+        3 => (121 + random.below(8), 129 + random.below(22)),
+        _ => (0, random.below(241)),
     };
     netfile::write(&numbers(random, (pins, macros), weights))
 }
@@ -223,7 +223,7 @@ fn head_counts(random: &mut Random, weights: Weights) -> Vec<u8> {
     let which = random.choose(&[[4, 4], [5, 5], [4, 5]]);
     for word in which {
         blocks[0][word] = match random.below(4) {
-            0 => random.choose(&[0, 1, 60, 61, 64, 65, 300, u32::MAX - 1, u32::MAX]),
+            0 => random.choose(&[0, 1, 60, 61, 128, 129, 480, u32::MAX - 1, u32::MAX]),
             // So many that the blocks or bytes they need are beyond 32 bits.
             1 => random.choose(&[1 << 31, (1 << 31) + 60, u32::MAX - 58, 1 << 26]),
             _ => other_word(random, blocks[0][word]),

@@ -11,9 +11,9 @@ kinds! {
     Hostile {
         PinsNotPairs "pins-not-pairs" "refused 11: an odd count of numbers in the pin list",
         NoPins "no-pins" "refused 11: an empty pin list",
-        ManyPins "many-pins" "refused 11: 65 pins or more",
+        ManyPins "many-pins" "refused 11: 129 pins or more",
         MacrosNotFours "macros-not-fours" "refused 12: a macro list that isn't whole fours",
-        ManyMacros "many-macros" "refused 12: 65 macros or more",
+        ManyMacros "many-macros" "refused 12: 129 macros or more",
         JustOutOfRange "just-out-of-range" "refused 13: a coordinate one past the range",
         Extreme "extreme" "refused 13: the least and the greatest 32-bit numbers",
         FlatMacro "flat-macro" "refused 14: left equals right or bottom equals top",
@@ -245,7 +245,7 @@ fn anything(random: &mut Random) -> Lists {
 
 /// Lengths about whole entries and about the bounds, and one beyond all of them.
 const LENGTHS: [usize; 19] = [
-    0, 1, 2, 3, 4, 5, 6, 7, 8, 12, 127, 128, 129, 130, 255, 256, 257, 260, 1_000,
+    0, 1, 2, 3, 4, 5, 6, 7, 8, 12, 255, 256, 257, 258, 511, 512, 513, 516, 1_000,
 ];
 
 /// Left not above right and bottom not above top.

@@ -18,8 +18,8 @@ kinds! {
         Far "far" "coordinates at and near one million, either sign",
         Comb "comb" "long teeth with pins between them, so that ways are long",
         Maze "maze" "long walls with gaps at changing ends, so that ways are long",
-        Largest "largest" "64 pins and 64 macros, spread evenly",
-        LargestMaze "largest-maze" "64 pins and 64 macros that stand as long walls",
+        Largest "largest" "128 pins and 128 macros, spread evenly",
+        LargestMaze "largest-maze" "128 pins and 128 macros that stand as long walls",
         OnePin "one-pin" "one pin and any macros",
         NoMacros "no-macros" "pins alone",
         Collinear "collinear" "all pins on one line, with macros about it",
@@ -32,7 +32,7 @@ kinds! {
         DroppedWins "dropped-wins" "a dropped candidate would have won a round",
         BoundEnds "bound-ends" "m rounds are done and a further gain is still there",
         Small "small" "at most five pins and three macros, so that every path can be tried",
-        LargestFar "largest-far" "64 pins and 64 macros from -1,000,000 to 1,000,000",
+        LargestFar "largest-far" "128 pins and 128 macros from -1,000,000 to 1,000,000",
         Bars "bars" "few pins and small macros far apart, so that bars slide",
         Chambers "chambers" "a chain of chambers that takes up all rounds, with pins close together before it",
     }
@@ -220,35 +220,46 @@ fn far_coordinate(random: &mut Random) -> i32 {
 }
 
 fn largest(random: &mut Random) -> Lists {
+    let width = random.choose(&[3, 5, 10, 1_000, 100_000]);
+    let height = 2 * width;
+    cells(random, (16, width), (8, height))
+}
+
+/// 64 pins and 64 macros with weights 1 and 1, spread evenly: what the largest net of a seed was before there could be 128 of each.
+pub fn half(seed: u64) -> Lists {
+    let random = &mut Kind::Largest.random(seed);
     let cell = random.choose(&[3, 5, 10, 1_000, 200_000]);
-    cells(random, cell)
+    cells(random, (8, cell), (8, cell))
 }
 
 /// Cells that fill the die, or walls right across it.
 fn largest_far(random: &mut Random) -> Lists {
     if random.one_in(2) {
-        cells(random, Net::COORDINATE / 4)
+        cells(random, (16, Net::COORDINATE / 8), (8, Net::COORDINATE / 4))
     } else {
         walls::across(random)
     }
 }
 
-/// One macro in each of 64 cells, and pins until there are 64.
-fn cells(random: &mut Random, cell: i32) -> Lists {
-    let corner = -4 * cell;
+/// Cells about the middle of the die, so many columns of a width and rows of a height: one macro in each, and as many pins.
+fn cells(random: &mut Random, (columns, width): (i32, i32), (rows, height): (i32, i32)) -> Lists {
+    let (reach_x, reach_y) = (columns * width / 2, rows * height / 2);
     let mut draft = Draft::default();
-    for column in 0..8 {
-        for row in 0..8 {
-            let (x, y) = (corner + column * cell, corner + row * cell);
-            let left = random.between(0, cell - 1);
-            let bottom = random.between(0, cell - 1);
-            let right = random.between(left + 1, cell);
-            let top = random.between(bottom + 1, cell);
+    for column in 0..columns {
+        for row in 0..rows {
+            let (x, y) = (column * width - reach_x, row * height - reach_y);
+            let left = random.between(0, width - 1);
+            let bottom = random.between(0, height - 1);
+            let right = random.between(left + 1, width);
+            let top = random.between(bottom + 1, height);
             draft.macro_box(x + left, y + bottom, x + right, y + top);
         }
     }
-    while draft.pins.len() < Net::PINS {
-        draft.pins_between(random, 1, corner, -corner);
+    while draft.pins.len() < draft.macros.len() {
+        draft.pin(
+            random.between(-reach_x, reach_x),
+            random.between(-reach_y, reach_y),
+        );
     }
     draft.lists()
 }
@@ -275,7 +286,7 @@ fn one_pin(random: &mut Random) -> Lists {
 fn no_macros(random: &mut Random) -> Lists {
     let reach = random.choose(&[3, 10, 100, Net::COORDINATE]);
     let mut draft = Draft::default();
-    let tries = random.between(1, 64);
+    let tries = random.between(1, Net::PINS as i32);
     draft.pins_between(random, tries, -reach, reach);
     draft.lists()
 }

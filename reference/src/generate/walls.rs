@@ -52,12 +52,12 @@ pub fn maze(random: &mut Random) -> Lists {
     draft.turned(random)
 }
 
-/// 64 walls with gaps at changing ends and 64 pins in the corridors.
+/// As many macros as there may be, as walls with gaps at changing ends, and as many pins in the corridors.
 pub fn largest_maze(random: &mut Random) -> Lists {
     let width = random.choose(&[70, 1_000, 100_000]);
     let mut draft = Draft::default();
     let mut bottom = 0;
-    for wall in 0..32 {
+    for wall in 0..Net::MACROS / 2 {
         let top = bottom + random.between(1, 2);
         let gap = random.between(1, 2);
         let at = random.between(1, width - gap - 1);
@@ -76,14 +76,16 @@ pub fn largest_maze(random: &mut Random) -> Lists {
     draft.turned(random)
 }
 
-/// 64 walls from one end of the die to the other, so that every way past one leads to an end, and
-/// pins near the middle of the corridors.
+/// As many walls as there may be macros, from one end of the die to the other, so that every way past one leads to an end, and pins near the
+/// middle of the corridors.
 pub fn across(random: &mut Random) -> Lists {
     let end = Net::COORDINATE;
     let mut draft = Draft::default();
-    for wall in 0..Net::MACROS as i32 {
-        let bottom = -end + 1 + wall * 31_250;
-        draft.macro_box(-end, bottom, end, bottom + random.between(1, 31_248));
+    let walls = Net::MACROS as i32;
+    let apart = 2 * end / walls;
+    for wall in 0..walls {
+        let bottom = -end + 1 + wall * apart;
+        draft.macro_box(-end, bottom, end, bottom + random.between(1, apart - 2));
         draft.pin(random.between(-9, 9), bottom - random.between(0, 1));
     }
     draft.turned(random)

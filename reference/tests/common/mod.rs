@@ -8,7 +8,7 @@ use reference::lists::Lists;
 pub fn nets(seeds: u64) -> impl Iterator<Item = (String, Lists)> {
     Kind::ALL.iter().flat_map(move |&kind| {
         let slow = matches!(kind, Kind::Largest | Kind::LargestMaze | Kind::LargestFar);
-        let seeds = if slow { seeds.min(3) } else { seeds };
+        let seeds = if slow { seeds.min(2) } else { seeds };
         let of = move |seed| match seed % 2 {
             0 => (format!("{} {seed}", kind.name()), net(kind, seed)),
             _ => (

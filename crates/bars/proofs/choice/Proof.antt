@@ -4,6 +4,7 @@ use borrow.Author.Needs.{needs}
 use Prim.Native.Nat.{ℕ, _≤_}
 use native.Mathlib.Omega.{arith}
 use lib.ListN.{length, replicate, length-replicate}
+use Rattle.net.specs.Bounds.{pinBound}
 use Rattle.straight.proofs.TableLaws.{within-small}
 use Rattle.bars.proofs.CallLaws.{labelled-numbers, seated, searched-by}
 use Rattle.bars.proofs.choice.Statement.{statement}
@@ -26,7 +27,8 @@ search-requires c κs =
       (
         (
           p .0 .1 .0,
-          rw (c .before .before .before .seat .ensures) (seated _ _ _ _ _ (h .few) (omega (arith, p .0 .1, length-replicate {A = ℕ} 64 0))),
+          rw (c .before .before .before .seat .ensures)
+              (seated _ _ _ _ _ (h .few) (omega (arith, p .0 .1, length-replicate {A = ℕ} pinBound 0))),
         ),
         (
           rw (c .before .before .before .before .before .before .before .label .ensures)

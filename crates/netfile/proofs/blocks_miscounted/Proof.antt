@@ -1,12 +1,12 @@
 -- `netfile::blocks_miscounted` meets its contract: its tests are those of the definition.
 -- Assumes nothing.
 use mathlib.Core.Path.{refl}
-use Rattle.netfile.specs.Read.{blocksMiscounted}
+use Rattle.netfile.specs.Read.{blocksMiscountedWithin}
 use Rattle.netfile.proofs.blocks_miscounted.Statement.{statement}
 use Rattle.netfile.proofs.blocks_miscounted.Tie as tie
 
 returns : tie.Need-returns
-unfolding blocksMiscounted
+unfolding blocksMiscountedWithin
 returns c = refl
 
 pub blocks-miscounted-spec : {M : Type 1} → statement M

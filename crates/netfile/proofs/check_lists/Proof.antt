@@ -3,6 +3,7 @@
 use mathlib.Core.Path.{sym, ap, _∙_}
 use denote.Ref.{now}
 use Rattle.net.specs.declared.Weighing.{Weighing}
+use Rattle.net.specs.Bounds.{today}
 use Rattle.net.specs.Answer.{number}
 use Rattle.net.specs.Check.{checked, told}
 use Rattle.netfile.proofs.AnswerLaws.{laid-out, laid-wrong}
@@ -17,11 +18,11 @@ returns c =
     let s = f .before .before in
     c .check .ensures
     ∙ ap (λ (v : Weighing). checked v (now (s .args .pins)) (now (s .args .macros))) (h .handed .ensures)
-    ∙ sym (laid-out _ _ _ _ (sym (f .is-file-of .ensures) ∙ h .before .if1 .taken))
+    ∙ sym (laid-out today _ _ _ _ (sym (f .is-file-of .ensures) ∙ h .before .if1 .taken))
 
 returns-2 : tie.Need-returns-2
 unfolding told number
-returns-2 c = sym (laid-wrong _ _ _ _ (sym (c .before .is-file-of .ensures) ∙ c .if1 .left))
+returns-2 c = sym (laid-wrong today _ _ _ _ (sym (c .before .is-file-of .ensures) ∙ c .if1 .left))
 
 pub check-lists-spec : {M : Type 1} → statement M
 check-lists-spec = tie.close (tie.spec (λ c κs. search needs) (λ c κs. search needs) (λ c κs. search needs) returns returns-2)

@@ -12,6 +12,7 @@ use denote.Ref.{now}
 use Rattle.lent.specs.Told.{Told, refused}
 use Rattle.lent.specs.Over.{after}
 use Rattle.net.specs.declared.Net.{Net as Counts}
+use Rattle.net.specs.Bounds.{today}
 use Rattle.net.specs.Answer.{number}
 use Rattle.net.specs.Check.{told}
 use Rattle.netfile.specs.Read.{blocksMiscounted, sumsWrong, headWrong, pinsIn, macrosIn, roomShort, readFile}
@@ -72,21 +73,22 @@ returns : tie.Need-returns
 unfolding told number
 returns c =
     let s = c .before .before .before .before .before in
-    turned s 21 (refuse-21 (bytes-of s) _ _ (sym (c .before .room-short .ensures) ∙ c .if1 .taken))
+    turned s 21 (refuse-21 today (bytes-of s) _ _ (sym (c .before .room-short .ensures) ∙ c .if1 .taken))
 
 returns-2 : tie.Need-returns-2
 unfolding told number
 returns-2 c =
     let p = c .before .before in
     let s = start1 p in
-    turned s 1 (refuse-1 (bytes-of s) _ _ (room p) (sym (c .before .blocks-miscounted .ensures) ∙ c .if2 .taken))
+    turned s 1 (refuse-1 today (bytes-of s) _ _ (room p) (sym (c .before .blocks-miscounted .ensures) ∙ c .if2 .taken))
 
 returns-3 : tie.Need-returns-3
 unfolding told number
 returns-3 c =
     let p = c .before .before in
     let s = start2 p in
-    turned s 2 (refuse-2 (bytes-of s) _ _ (room (p .before .before)) (blocks p) (sym (c .before .any-wrong-sums .ensures) ∙ c .if3 .taken))
+    turned s 2
+    (refuse-2 today (bytes-of s) _ _ (room (p .before .before)) (blocks p) (sym (c .before .any-wrong-sums .ensures) ∙ c .if3 .taken))
 
 head-wrong-requires : tie.Need-head-wrong-requires
 head-wrong-requires c κs =
@@ -100,7 +102,7 @@ returns-4 c =
     let q = p .before .before in
     let s = start3 p in
     turned s 3
-    (refuse-3 (bytes-of s) _ _ (room (q .before .before)) (blocks q) (sums p) (sym (c .before .head-wrong .ensures) ∙ c .if4 .taken))
+    (refuse-3 today (bytes-of s) _ _ (room (q .before .before)) (blocks q) (sums p) (sym (c .before .head-wrong .ensures) ∙ c .if4 .taken))
 
 read-counted-requires : tie.Need-read-counted-requires
 read-counted-requires c κs =
@@ -118,7 +120,7 @@ returns-5 c =
     let p = r .before .before in
     let q = p .before .before in
     let s = start4 r in
-    let e = sym (read-on (bytes-of s) _ _ (room (q .before .before)) (blocks q) (sums p) (head r)) in (
+    let e = sym (read-on today (bytes-of s) _ _ (room (q .before .before)) (blocks q) (sums p) (head r)) in (
       d .read-counted .ensures .0 ∙ e,
       (
         d .read-counted .ensures .1 .0 ∙ ap (λ (t : Told Counts). after t (pinsIn (bytes-of s)) (pins-of s)) e,

@@ -5,6 +5,7 @@ use native.Mathlib.Omega.{arith}
 use Prim.Native.Nat.{ℕ, _-_, _*_, _≤_}
 use denote.Ref.{now}
 use Rattle.lists.proofs.TestLaws.{not-true}
+use Rattle.straight.specs.Table.{straightBound}
 use Rattle.bars.specs.declared.Bar.{Bar}
 use Rattle.bars.specs.declared.Size.{Size}
 use Rattle.bars.specs.Turned.{View, view}
@@ -23,7 +24,7 @@ module _ (h : tie.After-hang) where
   abbrev size : Size
   size = h .before .args .z
 
-  surplus-fits : h .hang .result .ahead - h .hang .result .behind ≤ 768
+  surplus-fits : h .hang .result .ahead - h .hang .result .behind ≤ straightBound
   surplus-fits = omega (arith, h .hang .ensures .1, h .before .pre)
 
 -- and what its move saves by a unit, and its first place

@@ -6,11 +6,8 @@ use borrow.Author.Needs.{needs}
 use Rattle.candidates.proofs.candidate.offer.Statement.{statement}
 use Rattle.candidates.proofs.candidate.offer.Tie as tie
 
-cut-of-requires : tie.Need-cut-of-requires
-cut-of-requires c κs = search needs
-
 returns : tie.Need-returns
-returns c = offer-none _ _ _ _ _ _ _ _ _ _ _ _ (c .before .cut-of .ensures .0) (c .if1 .taken)
+returns c = λ t q. offer-none _ _ _ _ _ t _ _ _ _ _ _ q (c .if1 .taken)
 
 mul-long : tie.Need-mul-long
 mul-long c = search needs
@@ -29,20 +26,21 @@ weigh-requires c κs = search needs
 
 returns-2 : tie.Need-returns-2
 returns-2 c =
+    λ t q.
     let i = c .before .before .before .before .before in
-    c .weigh .ensures ∙ offer-is _ _ _ _ _ _ _ _ _ _ _ _ (i .before .cut-of .ensures .0) (i .if1 .left)
+    c .weigh .ensures ∙ offer-is _ _ _ _ _ t _ _ _ _ _ _ q (i .if1 .left)
 
 returns-3 : tie.Need-returns-3
 returns-3 c =
+    λ t q.
     let i = c .before .before .before .before in
-    offer-near _ _ _ _ _ _ _ _ _ _ _ _ (i .before .before .pre .1 .1) _ (c .before .before .point-at .ensures) _
-    (i .before .cut-of .ensures .0) (i .if1 .left) _ (c .before .may-gain .ensures) (c .if2 .left)
+    offer-near _ _ _ _ _ t _ _ _ _ _ _ (i .before .pre .1) _ (c .before .before .point-at .ensures) _ q (i .if1 .left) _
+    (c .before .may-gain .ensures) (c .if2 .left)
 
 pub offer-spec : {M : Type 1} → statement M
 offer-spec =
     tie.close
     (tie.spec
-    cut-of-requires
     returns
     mul-long
     element-copy-out-long

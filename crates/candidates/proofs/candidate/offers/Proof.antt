@@ -1,5 +1,5 @@
--- `candidates::candidate::offers` meets its contract. The loop's invariant: the points that are left decide; a point too far from the
--- box of the edge changes nothing. The measure is how many they are.
+-- `candidates::candidate::offers` meets its contract. The loop's invariant: the points that are left decide, and the row is that of the
+-- edge; a point too far from the box of the edge changes nothing. The measure is how many they are.
 -- Assumes nothing.
 use mathlib.Core.Path.{_≡_}
 use Prim.Native.Nat.{_≤_, _-_}
@@ -7,60 +7,86 @@ use native.Mathlib.Omega.{arith}
 use borrow.Author.Needs.{needs}
 use denote.Ref.{now}
 use lib.ListN.{getD}
-use Rattle.tree.specs.Table.{firstEnd, secondEnd}
+use Rattle.tree.specs.Table.{treeBound, firstEnd, secondEnd}
 use Rattle.plane.specs.Box.{boxOf}
 use Rattle.plane.specs.Flat.{placeAt, macrosOf}
+use Rattle.candidates.specs.Longest.{cutOf, longest}
+use Rattle.candidates.specs.Hung.{ties, Begun, Row}
 use Rattle.candidates.specs.Candidate.{offer, offers}
 use Rattle.lists.specs.Turns.{turns}
 use Rattle.candidates.proofs.CandidateLaws.{offer-far, box-is}
+use Rattle.candidates.proofs.HungLaws.{same-length}
+use Rattle.candidates.proofs.RowLaws.{fresh-start}
 use Rattle.lists.proofs.TurnLaws.{turns-none, turns-next, turns-end}
 use Rattle.candidates.proofs.candidate.offers.Statement.{statement}
 use Rattle.candidates.proofs.candidate.offers.Tie as tie
 
 abbrev Inv-loop : tie.InvT-loop
-Inv-loop w pts n macros keys el most top k a b m found₀ u₀ found u =
-    (u ≤ n) × (turns (offer w pts n (macrosOf macros) el top a b k) u (n - u) found
-    ≡ turns (offer w pts n (macrosOf macros) el top a b k) 0 n found₀)
+Inv-loop w pts n macros keys e el most onto link turn k a b m row₀ found₀ u₀ row found u =
+    (u ≤ n) × ((Begun (ties onto link turn) row × Row el (ties onto link turn) (cutOf el (longest keys el e n) a b) row)
+    × (turns (offer w pts n (macrosOf macros) el (longest keys el e n) a b k) u (n - u) found
+    ≡ turns (offer w pts n (macrosOf macros) el (longest keys el e n) a b k) 0 n found₀))
 
 abbrev μ-loop : tie.MeasureT-loop
-μ-loop w pts n macros keys el most top k a b m found₀ u₀ found u = n - u
+μ-loop w pts n macros keys e el most onto link turn k a b m row₀ found₀ u₀ row found u = n - u
 
 mul-a : tie.Need-mul-a Inv-loop μ-loop
-mul-a c = omega arith
+mul-a c = omega (arith, c .pre .0 .0)
 
 element-copy-out-a : tie.Need-element-copy-out-a Inv-loop μ-loop
-element-copy-out-a c = omega arith
+element-copy-out-a c = omega (arith, c .pre .0 .0)
 
 mul-b : tie.Need-mul-b Inv-loop μ-loop
-mul-b c = omega arith
+mul-b c = omega (arith, c .before .pre .0 .0)
 
 element-copy-out-b : tie.Need-element-copy-out-b Inv-loop μ-loop
-element-copy-out-b c = omega arith
+element-copy-out-b c = omega (arith, c .before .pre .0 .0)
 
 point-at-requires : tie.Need-point-at-requires Inv-loop μ-loop
 point-at-requires c κs =
     let s = c .before .before in
-    omega (arith, s .pre .1 .0 .0 .small (s .args .k))
+    let w = s .pre .0 .1 .1 .ends (s .args .k) in
+    omega (arith, w .0, s .pre .0 .1 .0)
 
 point-at-requires-2 : tie.Need-point-at-requires-2 Inv-loop μ-loop
 point-at-requires-2 c κs =
     let s = c .before .before .before in
-    omega (arith, s .pre .1 .0 .0 .small (s .args .k))
+    let w = s .pre .0 .1 .1 .ends (s .args .k) in
+    omega (arith, w .1, s .pre .0 .1 .0)
 
 box-of-requires : tie.Need-box-of-requires Inv-loop μ-loop
 box-of-requires c κs = search needs
 
+start-requires : tie.Need-start-requires Inv-loop μ-loop
+start-requires c κs =
+    let s = c .before .before .before .before .before .before in
+    let w = s .pre .0 .1 .1 .ends (s .args .k) in
+    let h = s .pre .1 .1 in
+    (h .tied, ((h .all _ (w .0), h .all _ (w .1)), same-length treeBound treeBound))
+
 loop-holds : tie.Need-loop-holds Inv-loop μ-loop
-loop-holds c = (omega arith, turns-none _ _ _)
+loop-holds c =
+    let s = c .before .before .before .before .before .before .before in
+    let h = s .pre .1 .1 in
+    let m = c .start .ensures in
+    (omega arith, ((m .0, m .1 _ (h .told) (fresh-start _ (h .tied)) (h .paired (s .args .k) (s .pre .0 .0 .0))), turns-none _ _ _))
 
 add-u : tie.Need-add-u Inv-loop μ-loop
 add-u c = omega arith
 
 point-at-requires-3 : tie.Need-point-at-requires-3 Inv-loop μ-loop
-point-at-requires-3 c κs = omega arith
+point-at-requires-3 c κs =
+    let s = c .before .before .before .before .before .before .before .before .before in
+    omega (arith, s .pre .0 .1 .0)
 
 may-gain-requires : tie.Need-may-gain-requires Inv-loop μ-loop
 may-gain-requires c κs = search needs
+
+cut-at-requires : tie.Need-cut-at-requires Inv-loop μ-loop
+cut-at-requires c κs =
+    let l = c .before .before .before .before .before in
+    let h = l .before .before .before .before .before .before .before .before .pre .1 .1 in
+    (h .tied, (h .all (l .loop .u) (c .before .before .before .before .loop-test .taken), l .loop .inv .1 .0 .0))
 
 -- the box is that of the edge's ends
 edge-box : (c : tie.After-box-of Inv-loop μ-loop) → let s = c .before .before .before .before .before .args in
@@ -74,11 +100,14 @@ edge-box c =
 
 offer-requires : tie.Need-offer-requires Inv-loop μ-loop
 offer-requires c κs =
-    let s = c .before .before .before .before .before .before .before .before .before .before in
-    let q = s .pre .1 .0 .0 .small (s .args .k) in
-    let h = c .before .before .before .loop-test .taken in (
-      ((omega (arith, q), omega (arith, q)), (omega (arith, h, s .pre .0 .1), s .pre .0 .1)),
-      (s .pre .1 .0 .1, edge-box (c .before .before .before .before .before)),
+    let s = c .before .before .before .before .before .before .before .before .before .before .before .before .before .before in
+    let w = s .pre .0 .1 .1 .ends (s .args .k) in
+    let n = s .pre .0 .1 .0 in (
+      (
+        (omega (arith, w .0, n), omega (arith, w .1, n)),
+        (omega (arith, c .before .before .before .before .before .loop-test .taken, n), (c .cut-at .ensures .0 .0, n)),
+      ),
+      edge-box (c .before .before .before .before .before .before .before .before .before),
     )
 
 loop-less : tie.Need-loop-less Inv-loop μ-loop
@@ -86,9 +115,12 @@ loop-less c = omega arith
 
 loop-again : tie.Need-loop-again Inv-loop μ-loop
 loop-again c =
-    let t = c .before .before .before .before in
+    let t = c .before .before .before .before .before .before in
     let h = t .loop-test .taken in
-    (omega (arith, h), turns-next _ _ _ _ _ _ (t .before .loop .inv .1) h (c .offer .ensures))
+    let i = t .before .loop .inv in
+    let m = c .before .cut-at .ensures in
+    let k = m .1 _ (i .1 .0 .1) in
+    (omega (arith, h), ((m .0 .1, k .1), turns-next _ _ _ _ _ _ (i .1 .1) h (c .offer .ensures _ (k .0))))
 
 loop-less-2 : tie.Need-loop-less-2 Inv-loop μ-loop
 loop-less-2 c = omega arith
@@ -98,16 +130,21 @@ loop-again-2 c =
     let t = c .before .before .before in
     let h = t .loop-test .taken in
     let l = t .before in
-    let s = l .before .before .before .before .before .before in (
+    let s = l .before .before .before .before .before .before .before .before in (
       omega (arith, h),
-      turns-next _ _ _ _ _ _ (l .loop .inv .1) h
-          (offer-far _ _ _ _ _ _ _ _ _ _ _ _ (edge-box (l .before)) _ (c .before .before .point-at3 .ensures) _ (s .pre .1 .1) _
-          (c .before .may-gain .ensures) (c .if1 .left)),
+      (
+        l .loop .inv .1 .0,
+        turns-next _ _ _ _ _ _ (l .loop .inv .1 .1) h
+            (offer-far _ _ _ _ _ _ _ _ _ _ _ _ (edge-box (l .before .before .before)) _ (c .before .before .point-at3 .ensures) _
+            (s .pre .1 .0) _
+            (c .before .may-gain .ensures) (c .if1 .left)),
+      ),
     )
 
 returns : tie.Need-returns Inv-loop μ-loop
 unfolding offers
-returns c = turns-end _ _ _ _ _ (c .before .loop .inv .1) (omega arith)
+returns c =
+    turns-end _ _ _ _ _ (c .before .loop .inv .1 .1) (omega arith)
 
 pub offers-spec : {M : Type 1} → statement M
 offers-spec =
@@ -122,10 +159,12 @@ offers-spec =
     point-at-requires
     point-at-requires-2
     box-of-requires
+    start-requires
     loop-holds
     add-u
     point-at-requires-3
     may-gain-requires
+    cut-at-requires
     offer-requires
     loop-less
     loop-again

@@ -1,9 +1,11 @@
--- `candidates::candidate::search` meets its contract. The loop's invariant: the edges that are left decide. The measure is how many they are.
+-- `candidates::candidate::search` meets its contract. The loop's invariant: the edges that are left decide. The measure is how
+-- many they are.
 -- Assumes nothing.
 use mathlib.Core.Path.{_≡_}
 use Prim.Native.Nat.{_≤_, _-_}
 use native.Mathlib.Omega.{arith}
 use Rattle.plane.specs.Flat.{macrosOf}
+use Rattle.candidates.specs.Longest.{longest}
 use Rattle.candidates.specs.Candidate.{best, offers, search}
 use Rattle.lists.specs.Turns.{turns}
 use Rattle.lists.proofs.TurnLaws.{turns-none, turns-next, turns-end}
@@ -11,12 +13,12 @@ use Rattle.candidates.proofs.candidate.search.Statement.{statement}
 use Rattle.candidates.proofs.candidate.search.Tie as tie
 
 abbrev Inv-loop : tie.InvT-loop
-Inv-loop w pts n macros keys e el most top found₀ k₀ found k =
-    (k ≤ e) × (turns (offers w pts n (macrosOf macros) keys el top) k (e - k) found
-    ≡ turns (offers w pts n (macrosOf macros) keys el top) 0 e (best 0 0 0 0))
+Inv-loop w pts n macros keys e el most onto link turn found₀ k₀ found k =
+    (k ≤ e) × (turns (offers w pts n (macrosOf macros) keys el (longest keys el e n)) k (e - k) found
+    ≡ turns (offers w pts n (macrosOf macros) keys el (longest keys el e n)) 0 e (best 0 0 0 0))
 
 abbrev μ-loop : tie.MeasureT-loop
-μ-loop w pts n macros keys e el most top found₀ k₀ found k = e - k
+μ-loop w pts n macros keys e el most onto link turn found₀ k₀ found k = e - k
 
 loop-holds : tie.Need-loop-holds Inv-loop μ-loop
 loop-holds c = (omega arith, turns-none _ _ _)
@@ -24,7 +26,7 @@ loop-holds c = (omega arith, turns-none _ _ _)
 offers-requires : tie.Need-offers-requires Inv-loop μ-loop
 offers-requires c κs =
     let s = c .before .before in
-    ((omega arith, omega arith), s .pre .1)
+    (((omega arith, s .pre .0 .0), s .pre .0 .1), s .pre .1)
 
 add-k : tie.Need-add-k Inv-loop μ-loop
 add-k c = omega arith

@@ -1,9 +1,8 @@
--- `candidates::longest::attach` meets its contract, in each of the three cases of an edge; where it says so, nothing was hung.
+-- `candidates::longest::attach` meets its contract, in each of the four cases of an edge: neither end hangs, one of them, or both.
 -- Assumes nothing.
-use mathlib.Core.Path.{_≡_, refl}
-use Rattle.lists.proofs.TestLaws.{differ}
+use native.Mathlib.Omega.{arith}
+use Rattle.candidates.proofs.HungLaws.{pass-neither, pass-both, pass-first, pass-second}
 use borrow.Author.Needs.{needs}
-use Rattle.candidates.proofs.LongestLaws.{attach-none, attach-one, attach-two}
 use Rattle.candidates.proofs.longest.attach.Statement.{statement}
 use Rattle.candidates.proofs.longest.attach.Tie as tie
 
@@ -13,49 +12,64 @@ mul-if1 c = search needs
 element-copy-out-if1 : tie.Need-element-copy-out-if1
 element-copy-out-if1 c = search needs
 
-mul-if1-2 : tie.Need-mul-if1-2
-mul-if1-2 c = search needs
-
-element-copy-out-if1-2 : tie.Need-element-copy-out-if1-2
-element-copy-out-if1-2 c = search needs
-
-returns : tie.Need-returns
-returns c = (attach-none _ _ _ _ _ _ _ (c .if1 .taken), λ _. refl)
-
 mul-if2 : tie.Need-mul-if2
 mul-if2 c = search needs
 
 element-copy-out-if2 : tie.Need-element-copy-out-if2
 element-copy-out-if2 c = search needs
 
-spreads-requires : tie.Need-spreads-requires
-spreads-requires c κs = search needs
+returns : tie.Need-returns
+returns c = (
+  (omega arith, omega arith),
+  λ ks el e n r few fewer w hk ea eb h.
+      pass-neither ks el e n _ _ r h few fewer w _ _ _ hk ea eb (c .before .before .if1 .taken) (c .if2 .taken),
+)
 
-mul-seen : tie.Need-mul-seen
-mul-seen c = search needs
+add-hang : tie.Need-add-hang
+add-hang c = search needs
 
-element-write-seen : tie.Need-element-write-seen
-element-write-seen c = search needs
+hang-requires : tie.Need-hang-requires
+hang-requires c κs = search needs
+
+add-result : tie.Need-add-result
+add-result c = search needs
 
 returns-2 : tie.Need-returns-2
 returns-2 c = (
-  attach-one _ _ _ _ _ _ _ (c .before .before .before .before .if1 .left) (c .before .before .if2 .taken) _ (c .spreads .ensures),
-  λ e. differ refl e,
+  (omega arith, omega arith),
+  λ ks el e n r few fewer w hk ea eb h.
+      pass-first ks el e n _ _ r h few fewer w _ _ _ hk ea eb
+      (c .before .before .before .before .before .before .if1 .taken) (c .before .before .before .before .if2 .left) _ (c .hang .ensures),
 )
 
-spreads-requires-2 : tie.Need-spreads-requires-2
-spreads-requires-2 c κs = search needs
+mul-if3 : tie.Need-mul-if3
+mul-if3 c = search needs
 
-mul-seen-2 : tie.Need-mul-seen-2
-mul-seen-2 c = search needs
+element-copy-out-if3 : tie.Need-element-copy-out-if3
+element-copy-out-if3 c = search needs
 
-element-write-seen-2 : tie.Need-element-write-seen-2
-element-write-seen-2 c = search needs
+add-hang-2 : tie.Need-add-hang-2
+add-hang-2 c = search needs
+
+hang-requires-2 : tie.Need-hang-requires-2
+hang-requires-2 c κs = search needs
+
+add-result-2 : tie.Need-add-result-2
+add-result-2 c = search needs
 
 returns-3 : tie.Need-returns-3
 returns-3 c = (
-  attach-two _ _ _ _ _ _ _ (c .before .before .before .before .if1 .left) (c .before .before .if2 .left) _ (c .spreads2 .ensures),
-  λ e. differ refl e,
+  (omega arith, omega arith),
+  λ ks el e n r few fewer w hk ea eb h.
+      pass-second ks el e n _ _ r h few fewer w _ _ _ hk ea eb
+      (c .before .before .before .before .before .before .if1 .left) (c .before .before .before .before .if3 .taken) _ (c .hang2 .ensures),
+)
+
+returns-4 : tie.Need-returns-4
+returns-4 c = (
+  (omega arith, omega arith),
+  λ ks el e n r few fewer w hk ea eb h.
+      pass-both ks el e n _ _ r h few fewer w _ _ _ hk ea eb (c .before .before .if1 .left) (c .if3 .left),
 )
 
 pub attach-spec : {M : Type 1} → statement M
@@ -64,16 +78,17 @@ attach-spec =
     (tie.spec
     mul-if1
     element-copy-out-if1
-    mul-if1-2
-    element-copy-out-if1-2
-    returns
     mul-if2
     element-copy-out-if2
-    spreads-requires
-    mul-seen
-    element-write-seen
+    returns
+    add-hang
+    hang-requires
+    add-result
     returns-2
-    spreads-requires-2
-    mul-seen-2
-    element-write-seen-2
-    returns-3)
+    mul-if3
+    element-copy-out-if3
+    add-hang-2
+    hang-requires-2
+    add-result-2
+    returns-3
+    returns-4)

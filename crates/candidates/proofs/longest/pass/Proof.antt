@@ -1,29 +1,27 @@
--- `candidates::longest::pass` meets its contract. The loop's invariant: the edges that are left decide, every entry is the number of an
--- edge, and as long as no edge has hung a point nothing has changed.
--- The measure is how many they are.
+-- `candidates::longest::pass` meets its contract. The loop's invariant: the edges that are left decide, and what hangs agrees with what is
+-- reached; as long as no edge has hung a point nothing has changed. The measure is how many they are.
 -- Assumes nothing.
-use mathlib.Core.Path.{_≡_, refl, _∙_}
-use mathlib.Core.Bool.{false}
-use Prim.Native.Nat.{_≤_, _<_, _-_}
+use mathlib.Core.Path.{_≡_, refl}
+use mathlib.Core.List.{List}
+use Prim.Native.Nat.{ℕ, _+_, _-_, _≤_, _<_}
 use native.Mathlib.Omega.{arith}
-use Rattle.candidates.specs.Longest.{pass, reach}
-use Rattle.tree.specs.Table.{Small, treeBound}
-use Rattle.lists.specs.Turns.{turns}
-use Rattle.candidates.proofs.LongestLaws.{small-attached, pass-is, still-more}
-use Rattle.lists.proofs.TurnLaws.{turns-none, turns-next, turns-end}
+use Rattle.tree.specs.Table.{treeBound, Within}
+use Rattle.candidates.specs.Longest.{Reach}
+use Rattle.candidates.specs.Hung.{ties, Hung}
+use Rattle.candidates.proofs.HungLaws.{Going, going-start, going-next, going-end}
 use Rattle.candidates.proofs.longest.pass.Statement.{statement}
 use Rattle.candidates.proofs.longest.pass.Tie as tie
 
 abbrev Inv-loop : tie.InvT-loop
-Inv-loop keys el e n seen₀ top₀ moved₀ k₀ seen top moved k = (k ≤ e) × (Small treeBound top ×
-    ((turns (pass keys el n) k (e - k) (reach seen top) ≡ turns (pass keys el n) 0 e (reach seen₀ top₀))
-    × (moved ≡ false → reach seen top ≡ reach seen₀ top₀)))
+Inv-loop keys e c onto₀ link₀ turn₀ d₀ k₀ onto link turn d k =
+    (k ≤ e) × (((c ≤ d) × (d ≤ c + k)) × ((el : List ℕ) (n : ℕ) (r : Reach) → n ≤ treeBound → Within n keys →
+    Hung keys el e n c (ties onto₀ link₀ turn₀) r → Going keys el e n c d k (ties onto link turn) r))
 
 abbrev μ-loop : tie.MeasureT-loop
-μ-loop keys el e n seen₀ top₀ moved₀ k₀ seen top moved k = e - k
+μ-loop keys e c onto₀ link₀ turn₀ d₀ k₀ onto link turn d k = e - k
 
 loop-holds : tie.Need-loop-holds Inv-loop μ-loop
-loop-holds c = (omega arith, (c .pre .1 .1, (turns-none _ _ _, λ _. refl)))
+loop-holds c = (omega arith, ((omega arith, omega arith), λ el n r few w h. going-start _ _ _ _ _ _ _ h))
 
 mul-q : tie.Need-mul-q Inv-loop μ-loop
 mul-q c = omega arith
@@ -33,9 +31,9 @@ element-copy-out-q c = omega arith
 
 attach-requires : tie.Need-attach-requires Inv-loop μ-loop
 attach-requires c κs =
-    let l = c .before .before .before .before in
-    let q = l .before .pre .1 .0 .small (l .loop .k) in
-    ((((omega arith), (omega arith)), ((omega arith), (omega arith))), l .loop .inv .1 .0)
+    let l = c .before .before .before .before .before in
+    let q = l .before .pre .0 .1 .small (l .loop .k) in
+    (((omega (arith, q)), (omega (arith, q))), omega arith)
 
 add-k : tie.Need-add-k Inv-loop μ-loop
 add-k c = omega arith
@@ -45,20 +43,26 @@ loop-less c = omega arith
 
 loop-again : tie.Need-loop-again Inv-loop μ-loop
 loop-again c =
-    let l = c .before .before .before .before .before in
-    let h : l .loop .k < l .before .args .e = omega arith in (
+    let l = c .before .before .before .before .before .before in
+    let s = l .before in
+    let h : l .loop .k < s .args .e = omega arith in
+    let i = l .loop .inv in
+    let m = c .attach .ensures in (
       omega arith,
       (
-        small-attached _ _ _ _ _ _ _ _ _ (c .attach .ensures .0) (omega arith) (l .loop .inv .1 .0),
-        (
-          turns-next _ _ _ _ _ _ (l .loop .inv .1 .1 .0) h (c .attach .ensures .0 ∙ pass-is _ _ _ _ _),
-          still-more _ _ _ _ _ (l .loop .inv .1 .1 .1) (c .attach .ensures .1),
-        ),
+        (omega (arith, m .0 .0), omega (arith, m .0 .1)),
+        λ el n r few w z.
+            let g = i .1 .1 el n r few w z in
+            going-next _ _ _ _ _ _ _ _ _ _ _ g h (i .1 .0 .0) (m .0 .0) (m .1 _ el _ n _ few (s .pre .0 .0) w h refl refl (g .hung)),
       ),
     )
 
 returns : tie.Need-returns Inv-loop μ-loop
-returns c = (turns-end _ _ _ _ _ (c .before .loop .inv .1 .1 .0) (omega arith), c .before .loop .inv .1 .1 .1)
+returns c =
+    let i = c .before .loop .inv in (
+      (i .1 .0 .0, omega arith),
+      λ el n r few w h. going-end _ _ _ _ _ _ _ _ _ (i .1 .1 el n r few w h) (omega arith),
+    )
 
 pub pass-spec : {M : Type 1} → statement M
 pass-spec =

@@ -5,18 +5,19 @@ use Prim.Native.Nat.{_≤_, _-_}
 use native.Mathlib.Omega.{arith}
 use Rattle.plane.specs.Flat.{macrosOf}
 use Rattle.lists.specs.Turns.{turns}
+use Rattle.candidates.specs.Longest.{longest}
 use Rattle.refiner.specs.Beside.{offers, search}
 use Rattle.lists.proofs.TurnLaws.{turns-none, turns-next, turns-end}
 use Rattle.refiner.proofs.beside.search.Statement.{statement}
 use Rattle.refiner.proofs.beside.search.Tie as tie
 
 abbrev Inv-loop : tie.InvT-loop
-Inv-loop w pts n macros keys e el most top vertices v far up seat found₀ k₀ found k =
-    (k ≤ e) × (turns (offers w pts n (macrosOf macros) keys el top vertices v far up seat) k (e - k) found
-    ≡ turns (offers w pts n (macrosOf macros) keys el top vertices v far up seat) 0 e found₀)
+Inv-loop w pts n macros keys e el most onto link turn vertices v far up seat found₀ k₀ found k =
+    (k ≤ e) × (turns (offers w pts n (macrosOf macros) keys el (longest keys el e n) vertices v far up seat) k (e - k) found
+    ≡ turns (offers w pts n (macrosOf macros) keys el (longest keys el e n) vertices v far up seat) 0 e found₀)
 
 abbrev μ-loop : tie.MeasureT-loop
-μ-loop w pts n macros keys e el most top vertices v far up seat found₀ k₀ found k = e - k
+μ-loop w pts n macros keys e el most onto link turn vertices v far up seat found₀ k₀ found k = e - k
 
 loop-holds : tie.Need-loop-holds Inv-loop μ-loop
 loop-holds c = (omega arith, turns-none _ _ _)
@@ -24,7 +25,7 @@ loop-holds c = (omega arith, turns-none _ _ _)
 offers-requires : tie.Need-offers-requires Inv-loop μ-loop
 offers-requires c κs =
     let s = c .before .before in
-    ((omega arith, s .pre .0 .1), s .pre .1)
+    (((omega arith, s .pre .0 .0), s .pre .0 .1), s .pre .1)
 
 add-k : tie.Need-add-k Inv-loop μ-loop
 add-k c = omega arith

@@ -2,15 +2,11 @@
 -- Assumes nothing.
 use mathlib.Core.Path.{refl, sym, ap, _∙_}
 use native.Mathlib.Omega.{arith}
-use Rattle.forest.specs.Bounds.{pointBound}
 use denote.Ref.{now}
-use Rattle.tree.specs.Table.{treeBound, Tree, tree}
+use Rattle.tree.specs.Table.{Tree, tree}
 use Rattle.lists.proofs.TestLaws.{differ}
 use Rattle.refiner.specs.declared.Choice.{Choice}
-use Rattle.candidates.proofs.FoundLaws.{small-all}
-use Rattle.exchanges.proofs.WithinLaws.{within-small}
-use Rattle.refiner.proofs.BesideLaws.{small-seats}
-use Rattle.refiner.proofs.ReadyLaws.{made-labels, made-nearing, chosen-in, exchanged-in, exchangeable}
+use Rattle.refiner.proofs.ReadyLaws.{made-labels, made-nearing, made-seated, chosen-in, exchanged-in, exchangeable}
 use borrow.Author.Needs.{needs}
 use Rattle.refiner.proofs.round.round.Statement.{statement}
 use Rattle.refiner.proofs.round.round.Tie as tie
@@ -39,11 +35,11 @@ found-requires c κs =
     let f = c .before .before .before .before .before .before .before .before .before in
     let e = c .before .before .before .before .before .seats .ensures in
     let r = s .pre .1 in (
-      ((omega (arith, r .few, r .edges), omega (arith, r .few)), within-small _ _ (omega (arith, r .few)) (r .within)),
+      r .spanned,
       (
         (
           s .pre .0 .1,
-          small-seats _ _ _ _ _ _ _ (r .few) e (small-all treeBound pointBound 0 (omega arith) (omega arith)),
+          made-seated _ (begun s) (s .pre .0 .0) (s .pre .0 .1) (o .sources .ensures .0) (o .sources .ensures .1 .1) (f .forest .ensures .0) (f .forest .ensures .1) e r,
         ),
         (made-labels _ (begun s) (s .pre .0 .0) (s .pre .0 .1) (o .sources .ensures .0) (o .sources .ensures .1 .1) (f .forest .ensures .0) (f .forest .ensures .1) .low, made-nearing _ (begun s) (s .pre .0 .0) (s .pre .0 .1) (o .sources .ensures .0) (o .sources .ensures .1 .1) (f .forest .ensures .0) (f .forest .ensures .1)),
       ),
@@ -60,8 +56,8 @@ returns c =
     record {
       still = λ _. (ap (λ (x : Choice). x .gain) (sym q) ∙ c .if1 .taken, refl);
       moved = λ t. differ t refl;
-      few = (omega (arith, r .few), omega (arith, r .few, r .edges));
-      within = r .within;
+      few = (omega (arith, r .few), omega (arith, r .few, r .spanned .size));
+      within = r .spanned .within;
     }
 
 exchanged-requires : tie.Need-exchanged-requires

@@ -93,8 +93,8 @@ abbrev allowed : (d : tie.After-slide) →
 allowed d = start d .pre .allowed
 
 -- the table is as long as it was made, and holds the slid tree's edges
-size : (d : tie.After-slide) → length (d .slide .last .1 .1 .1 .0) ≡ 3072
-size d = d .slide .kept .1 .1 .1 .0 ∙ length-replicate 3072 (pos 0)
+size : (d : tie.After-slide) → length (d .slide .last .1 .1 .1 .0) ≡ laidBound * 4
+size d = d .slide .kept .1 .1 .1 .0 ∙ length-replicate (laidBound * 4) (pos 0)
 
 asks : (d : tie.After-slide) → (d .slide .result * 4 ≤ length (d .slide .last .1 .1 .1 .0)) × (d .slide .result ≤ laidBound)
 asks d =

@@ -2,11 +2,11 @@
 -- from the present groups it is what all give. The measure is how many are left.
 -- Assumes nothing.
 use mathlib.Core.Path.{_≡_}
-use Prim.Native.Nat.{_≤_, _<_, _-_}
+use Prim.Native.Nat.{_≤_, _<_, _-_, _^_}
 use native.Mathlib.Omega.{arith}
-use lib.ListN.{length}
+use lib.ListN.{length, getD}
 use denote.Ref.{now}
-use Rattle.forest.specs.Bounds.{pointBound}
+use Rattle.forest.specs.Bounds.{pointBound, edgeBound}
 use Rattle.forest.specs.Edges.{entries}
 use Rattle.terminal.specs.Bridges.{rootsIn}
 use Rattle.forest.proofs.EdgeLaws.{all-left, entries-next, entries-end}
@@ -25,6 +25,14 @@ abbrev μ-loop : tie.MeasureT-loop
 
 loop-holds : tie.Need-loop-holds Inv-loop μ-loop
 loop-holds c = ((omega arith, omega arith), (c .pre .1 .0, rw (all-left (c .args .n)) (keep-none _ _ _ _)))
+
+-- an edge's number is small
+wide-k : tie.Need-cast-k Inv-loop μ-loop
+wide-k c =
+    let s = c .before .before .before in
+    let h : getD (now (s .args .order)) (c .before .before .loop .i) 0 < edgeBound = s .pre .0 .0 .edge _ (c .before .loop-test .taken) in
+    let f : getD (now (s .args .order)) (c .before .before .loop .i) 0 < 2 ^ 64 = omega (arith, h) in
+    record { fits = f }
 
 group-at-requires : tie.Need-group-at-requires Inv-loop μ-loop
 group-at-requires c κs =
@@ -83,6 +91,7 @@ keep-spec =
     loop-holds
     (λ c. omega arith)
     (λ c. omega arith)
+    wide-k
     (λ c. omega arith)
     group-at-requires
     group-at-requires-2
