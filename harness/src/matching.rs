@@ -1,6 +1,7 @@
 //! Both programs on the same seeded input, with weights of all sorts and the same lent space: answers and every lent number must agree.
 
 use std::fmt::{self, Debug};
+use std::thread;
 
 use reference::generate::{
     bands, damaged_weighted, hostile_weighted, permuted, weighted, BandList, Damage, Hostile, Kind,
@@ -60,7 +61,7 @@ fn is_searched(kind: &Kind) -> bool {
 }
 
 /// In how many turns a kind comes up once: those that take a tenth of a second to make or to route in one of sixteen, and the largest,
-/// which take the second program a second and more, in one of sixty-four.
+/// which take the second program up to a second, in one of sixty-four.
 fn turns(kind: &Kind) -> usize {
     match kind {
         Kind::Largest | Kind::LargestMaze | Kind::LargestFar => 64,
@@ -164,6 +165,16 @@ pub fn file(seed: u64) -> File {
         seed,
         bytes: damaged_weighted(kind, seed),
     }
+}
+
+/// Every number below one, by two threads.
+pub fn each_of(count: u64, check: impl Fn(u64) + Sync) {
+    let check = &check;
+    thread::scope(|scope| {
+        for first in 0..2 {
+            scope.spawn(move || (first..count).step_by(2).for_each(check));
+        }
+    });
 }
 
 /// Lent space with a guard behind what is lent: none, one short of what is asked for, exact, or longer. The numbers in it are random, so that a

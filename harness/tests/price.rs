@@ -2,9 +2,10 @@
 
 use std::collections::BTreeMap;
 use std::io::Write;
+use std::sync::Mutex;
 
 use harness::library;
-use harness::matching::{refused, routed, Case};
+use harness::matching::{each_of, refused, routed, Case};
 use reference::generate::{bands, BandList};
 use reference::lists::Lists;
 use reference::net::{check, Weights};
@@ -31,8 +32,8 @@ fn metal_of(lists: &Lists) -> Option<u64> {
 /// Every kind of list by turns; every answer must have been met often, or the match says little.
 #[test]
 fn price_on_twenty_thousand_nets_and_lists() {
-    let mut met = [0; 5];
-    for seed in 0..20_000 {
+    let met = Mutex::new([0; 5]);
+    each_of(20_000, |seed| {
         let answer = case(seed).price();
         let place = match answer.unwrap_or_else(|difference| panic!("{difference}")) {
             Ok(_) => 0,
@@ -41,8 +42,9 @@ fn price_on_twenty_thousand_nets_and_lists() {
             Err(32) => 4,
             Err(_) => 1,
         };
-        met[place] += 1;
-    }
+        met.lock().unwrap()[place] += 1;
+    });
+    let met = met.into_inner().unwrap();
     let [charged, of_net, bands, order, reach] = met;
     let said = format!(
         "prices of 20000 nets and lists: {charged} charged, {of_net} nets refused, {bands} lists refused 31, {order} 37, {reach} 32"

@@ -7,7 +7,7 @@ use std::process::{Command, Output, Stdio};
 use std::thread;
 use std::time::{Duration, Instant};
 
-use harness::matching::{file, routed};
+use harness::matching::{each_of, file, routed};
 use harness::program::path as program;
 use reference::generate::{net, weighted, Kind};
 use reference::lists::Lists;
@@ -51,16 +51,6 @@ fn matched(bytes: &[u8], name: &str) {
         ours == theirs,
         "{name}\nthe proved program:\n{ours}\nthe second program:\n{theirs}\nthe file: {bytes:?}"
     );
-}
-
-/// The seeds below a number, by two threads.
-fn each_of(seeds: u64, check: impl Fn(u64) + Sync) {
-    let check = &check;
-    thread::scope(|scope| {
-        for first in 0..2 {
-            scope.spawn(move || (first..seeds).step_by(2).for_each(check));
-        }
-    });
 }
 
 #[test]

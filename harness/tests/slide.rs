@@ -1,8 +1,10 @@
 //! Slid trees by both programs, with what the second one saw while it bent and slid.
 
+use std::sync::Mutex;
+
 use harness::counted::Counted;
 use harness::library;
-use harness::matching::{routed, Case};
+use harness::matching::{each_of, routed, Case};
 use reference::generate::{weighted, Kind};
 use reference::lists::Lists;
 use reference::net::{check, Weights};
@@ -92,16 +94,20 @@ fn events(lists: &Lists) -> [(&'static str, usize); 18] {
 /// have been met, or the match says little.
 #[test]
 fn slid_trees_on_nine_thousand_nets() {
-    let mut met = Counted::new("slid trees of 9000 nets and the worked ones");
-    let random = (0..5_000).map(routed).chain((0..4_000).map(combs));
-    for case in random.chain(worked()) {
+    let met = Mutex::new(Counted::new("slid trees of 9000 nets and the worked ones"));
+    let matched = |case: &Case| {
         case.slid_tree()
             .unwrap_or_else(|difference| panic!("{difference}"));
-        for (event, times) in events(&case.lists) {
+        let events = events(&case.lists);
+        let mut met = met.lock().unwrap();
+        for (event, times) in events {
             met.add(event, times);
         }
-    }
-    met.all_met(1);
+    };
+    each_of(5_000, |seed| matched(&routed(seed)));
+    each_of(4_000, |seed| matched(&combs(seed)));
+    worked().iter().for_each(matched);
+    met.into_inner().unwrap().all_met(1);
 }
 
 /// The totals that are worked out, and the space that is asked for: one number less is 21.

@@ -66,7 +66,7 @@ fn is_one_tree(tree: &Tree) -> bool {
 }
 
 /// A walk outward that never turns back on the edge that it came by comes to each point once.
-fn one_way_to_each(neighbours: &[Vec<usize>], start: usize) -> bool {
+fn one_way_to_each(neighbours: &[Vec<(usize, usize)>], start: usize) -> bool {
     let mut reached = vec![false; neighbours.len()];
     let mut steps = vec![(start, start)];
     while let Some((from, here)) = steps.pop() {
@@ -74,8 +74,8 @@ fn one_way_to_each(neighbours: &[Vec<usize>], start: usize) -> bool {
             return false;
         }
         reached[here] = true;
-        let onward = neighbours[here].iter().filter(|&&next| next != from);
-        steps.extend(onward.map(|&next| (here, next)));
+        let onward = neighbours[here].iter().filter(|(next, _)| *next != from);
+        steps.extend(onward.map(|&(next, _)| (here, next)));
     }
     reached.into_iter().all(|point| point)
 }

@@ -1,6 +1,6 @@
 //! The spanning graph.
 
-use std::collections::BTreeSet;
+use std::collections::{BTreeMap, BTreeSet};
 
 use crate::edge::Edge;
 use crate::net::{Net, Place, Weights};
@@ -54,6 +54,45 @@ pub fn vertices(net: &Net) -> Vec<Place> {
 /// point included) meets no macro's interior."
 pub fn clear(net: &Net, one: Place, other: Place) -> bool {
     net.macros().iter().all(|m| !m.meets_box(one, other))
+}
+
+/// Which places are clear of each other, each pair asked about once: most points of a round are those of the round before.
+pub struct Sight<'a> {
+    net: &'a Net,
+    numbers: BTreeMap<Place, usize>,
+    places: Vec<Place>,
+    known: Vec<Vec<Option<bool>>>,
+}
+
+impl<'a> Sight<'a> {
+    pub fn new(net: &'a Net) -> Sight<'a> {
+        Sight {
+            net,
+            numbers: BTreeMap::new(),
+            places: Vec::new(),
+            known: Vec::new(),
+        }
+    }
+
+    /// The number under which a place is known here.
+    pub fn number(&mut self, place: Place) -> usize {
+        *self.numbers.entry(place).or_insert_with(|| {
+            self.places.push(place);
+            self.known.push(Vec::new());
+            self.places.len() - 1
+        })
+    }
+
+    /// Whether each of some places is clear of a place, all by number.
+    pub fn clear_of(&mut self, place: usize, others: &[usize]) -> Vec<bool> {
+        let (net, places) = (self.net, &self.places);
+        let row = &mut self.known[place];
+        row.resize(places.len(), None);
+        let mut ask = |other: usize| {
+            *row[other].get_or_insert_with(|| clear(net, places[place], places[other]))
+        };
+        others.iter().map(|&other| ask(other)).collect()
+    }
 }
 
 /// "In each quadrant u picks the clear vertex at the smallest distance, the smallest place on a

@@ -12,6 +12,7 @@ pub mod exhaustive;
 pub mod generate;
 pub mod graph;
 pub mod grid;
+pub mod ground;
 pub mod lists;
 pub mod net;
 pub mod netfile;

@@ -2,12 +2,13 @@
 
 use std::cmp::Reverse;
 
-use crate::beside::{Ground, Joint};
+use crate::beside::{joints, Joint};
 use crate::edge::Edge;
-use crate::graph::clear;
-use crate::net::{Net, Place};
-use crate::terminal::{terminal, Terminal};
-use crate::tree::{neighbours, numbered, ways_from, Tree};
+use crate::graph::Sight;
+use crate::ground::Ground;
+use crate::net::{Net, Place, Weights};
+use crate::terminal::{terminal_on, Terminal};
+use crate::tree::{neighbours, numbered, ways_from, Tree, Way};
 
 /// The refined tree's edges in order, their total in cost, the metal to lay in plain length, and
 /// what happened on the way.
@@ -84,29 +85,44 @@ pub const RULE: Rule = Rule::Beside;
 
 /// The refined tree of a net.
 pub fn refined(net: &Net) -> Refined {
-    refine(net, &terminal(net))
+    let ground = Ground::new(net);
+    refine_on(RULE, &ground, net, &terminal_on(&ground, net))
 }
 
 pub fn refine(net: &Net, terminal: &Terminal) -> Refined {
     refine_by(RULE, net, terminal)
 }
 
-/// "There are at most m rounds; the first one with no gain above zero is the last." Then pruning.
 pub fn refine_by(rule: Rule, net: &Net, terminal: &Terminal) -> Refined {
-    let ground = Ground::new(net);
+    refine_on(rule, &Ground::new(net), net, terminal)
+}
+
+/// "There are at most m rounds; the first one with no gain above zero is the last." Then pruning.
+pub fn refine_on(rule: Rule, ground: &Ground, net: &Net, terminal: &Terminal) -> Refined {
+    let mut sight = Sight::new(net);
     let mut tree = union(net, terminal);
     let mut statistics = Statistics::default();
     let mut put_in = Vec::new();
-    for _ in 0..net.m() {
-        let Some(s) = round(rule, net, &ground, &mut tree, &put_in, &mut statistics) else {
+    while statistics.rounds < net.m() {
+        let Some(s) = round(
+            rule,
+            ground,
+            &mut sight,
+            &mut tree,
+            &put_in,
+            &mut statistics,
+        ) else {
             break;
         };
         put_in.extend(s);
         statistics.rounds += 1;
     }
-    let mut left = tree.clone();
-    let further = &mut Statistics::default();
-    statistics.bound_ended = round(rule, net, &ground, &mut left, &put_in, further).is_some();
+    if statistics.rounds == net.m() {
+        let mut left = tree.clone();
+        let further = &mut Statistics::default();
+        let next = round(rule, ground, &mut sight, &mut left, &put_in, further);
+        statistics.bound_ended = next.is_some();
+    }
     while prune(&mut tree) {
         statistics.pruned += 1;
     }
@@ -121,22 +137,31 @@ pub fn refine_by(rule: Rule, net: &Net, terminal: &Terminal) -> Refined {
 /// A round, where there is a gain: what it laid as s, unless that was a tree point before.
 fn round(
     rule: Rule,
-    net: &Net,
     ground: &Ground,
+    sight: &mut Sight,
     tree: &mut Tree,
     put_in: &[Place],
     statistics: &mut Statistics,
 ) -> Option<Option<Place>> {
-    let on_tree = candidates(net, tree);
-    statistics.dropped += on_tree.iter().filter(|c| c.dropped).count();
+    let view = View::new(tree, ground.graph.weights, sight);
+    // One that gains less than another that is not dropped is out of the question.
+    let mut least = 1;
+    let on_tree = view.candidates(sight, |c| {
+        statistics.dropped += usize::from(c.dropped);
+        let asked = c.gain >= least;
+        if asked && !c.dropped {
+            least = c.gain;
+        }
+        asked
+    });
     let first = best(on_tree.iter().filter(|c| !c.dropped));
     statistics.dropped_would_win |= best(on_tree.iter()).is_some_and(|winner| winner.dropped);
     let joints = match rule {
         Rule::OnTree => Vec::new(),
         Rule::Beside if tree.edges.is_empty() => Vec::new(),
-        Rule::Beside => ground.joints(tree),
+        Rule::Beside => joints(ground, tree),
     };
-    let beside = beside_candidates(net, tree, &joints, statistics);
+    let beside = view.beside(&joints, sight, statistics);
     let second = best_beside(beside.iter().filter(|c| !c.candidate.dropped));
     // "On-tree candidates come first at equal gain."
     let gain = first.map_or(0, |c| c.gain);
@@ -175,108 +200,143 @@ pub fn union(net: &Net, terminal: &Terminal) -> Tree {
 
 /// All candidates of a tree, the dropped ones marked.
 pub fn candidates(net: &Net, tree: &Tree) -> Vec<Candidate> {
-    let points = tree.points();
-    let edges = numbered(tree, &points);
-    let neighbours = neighbours(points.len(), &edges);
-    let mut found = Vec::new();
-    for (number, &u) in points.iter().enumerate() {
-        let ways = ways_from(&points, &neighbours, number, net.weights());
-        let clear_of_u: Vec<bool> = points.iter().map(|&p| clear(net, u, p)).collect();
-        for &(a, b) in &edges {
-            if number == a || number == b || !(clear_of_u[a] || clear_of_u[b]) {
-                continue;
-            }
-            // "The tree way from u to whichever of a and b it meets first."
-            let way = if ways[a].steps < ways[b].steps {
-                ways[a]
-            } else {
-                ways[b]
-            };
-            let longest = way.longest.expect("u is neither a nor b");
-            let s = middle(points[a], points[b], u);
-            found.push(Candidate {
-                edge: Edge::new(points[a], points[b]),
-                u,
-                s,
-                longest,
-                // "The gain is the length of L less the distance of s and u", in cost.
-                gain: longest.cost(net.weights()) - net.weights().cost(s, u),
-                // "A candidate is dropped when s is the place of a tree point other than a, b
-                // and u."
-                dropped: ![points[a], points[b], u].contains(&s)
-                    && points.binary_search(&s).is_ok(),
-            });
-        }
-    }
-    found
+    let mut sight = Sight::new(net);
+    View::new(tree, net.weights(), &mut sight).candidates(&mut sight, |_| true)
 }
 
-/// "A graph vertex u that is no tree point, clear of a or b, is now a candidate too." "L is sought from v to the edge, the way's cost is
-/// taken off the gain." The dropped ones are marked, but for those whose v is a or b, which have no L.
-fn beside_candidates<'a>(
-    net: &Net,
-    tree: &Tree,
-    joints: &'a [Joint],
-    statistics: &mut Statistics,
-) -> Vec<Beside<'a>> {
-    let weights = net.weights();
-    let points = tree.points();
-    let edges = numbered(tree, &points);
-    let neighbours = neighbours(points.len(), &edges);
-    let mut found = Vec::new();
-    for joint in joints {
-        let (u, v, cost) = (joint.u(), joint.v(), joint.cost(weights));
-        let from = points.binary_search(&v).expect("v is a tree point");
-        let ways = ways_from(&points, &neighbours, from, weights);
-        let clear_of_u: Vec<bool> = points.iter().map(|&p| clear(net, u, p)).collect();
-        for &(a, b) in &edges {
-            if !(clear_of_u[a] || clear_of_u[b]) {
-                continue;
-            }
-            // "The candidate is dropped when v is a or b."
-            if from == a || from == b {
-                statistics.joined_at_end += 1;
-                continue;
-            }
-            let way = if ways[a].steps < ways[b].steps {
-                ways[a]
-            } else {
-                ways[b]
-            };
-            let longest = way.longest.expect("v is neither a nor b");
-            let s = middle(points[a], points[b], u);
-            // "Or when s is the place of a way's point other than u."
-            let on_way = joint.way[1..].contains(&s);
-            // "When s is the place of a tree point other than a, b and u."
-            let on_tree =
-                ![points[a], points[b], u].contains(&s) && points.binary_search(&s).is_ok();
-            statistics.s_on_way += usize::from(on_way && !on_tree);
-            statistics.s_on_tree += usize::from(on_tree);
-            let candidate = Candidate {
-                edge: Edge::new(points[a], points[b]),
-                u,
-                s,
-                longest,
-                gain: longest.cost(weights) - weights.cost(s, u) - cost,
-                dropped: on_way || on_tree,
-            };
-            found.push(Beside {
-                candidate,
-                joint,
-                on_way: on_way && !on_tree,
-            });
+/// A tree as a round sees it: points and edges by number, in order, and the tree way between every two points.
+struct View {
+    weights: Weights,
+    points: Vec<Place>,
+    /// The points' numbers in the sight.
+    seen: Vec<usize>,
+    edges: Vec<(usize, usize)>,
+    costs: Vec<i64>,
+    ways: Vec<Vec<Way>>,
+}
+
+impl View {
+    fn new(tree: &Tree, weights: Weights, sight: &mut Sight) -> View {
+        let points = tree.points();
+        let edges = numbered(tree, &points);
+        let neighbours = neighbours(points.len(), &edges);
+        let costs: Vec<i64> = tree.edges.iter().map(|edge| edge.cost(weights)).collect();
+        let ways = |start: usize| ways_from(&neighbours, start, &costs);
+        View {
+            weights,
+            seen: points.iter().map(|&point| sight.number(point)).collect(),
+            ways: (0..points.len()).map(ways).collect(),
+            points,
+            edges,
+            costs,
         }
     }
-    found
+
+    fn edge(&self, number: usize) -> Edge {
+        let (a, b) = self.edges[number];
+        Edge::new(self.points[a], self.points[b])
+    }
+
+    /// The candidates whose u is a tree point, of those that are asked for.
+    fn candidates(
+        &self,
+        sight: &mut Sight,
+        mut asked: impl FnMut(&Candidate) -> bool,
+    ) -> Vec<Candidate> {
+        let mut found = Vec::new();
+        for (u, &seen) in self.seen.iter().enumerate() {
+            let clear_of_u = sight.clear_of(seen, &self.seen);
+            for (number, &(a, b)) in self.edges.iter().enumerate() {
+                if u != a && u != b && (clear_of_u[a] || clear_of_u[b]) {
+                    let candidate = self.candidate(number, self.points[u], u);
+                    if asked(&candidate) {
+                        found.push(candidate);
+                    }
+                }
+            }
+        }
+        found
+    }
+
+    /// The candidate of an edge and a place u, whose L is sought from a tree point that is no end of the edge.
+    fn candidate(&self, edge: usize, u: Place, from: usize) -> Candidate {
+        let (a, b) = self.edges[edge];
+        // "The tree way from u to whichever of a and b it meets first."
+        let (to_a, to_b) = (self.ways[from][a], self.ways[from][b]);
+        let way = if to_a.steps < to_b.steps { to_a } else { to_b };
+        let longest = way.longest.expect("it is neither a nor b");
+        let (a, b) = (self.points[a], self.points[b]);
+        let s = middle(a, b, u);
+        Candidate {
+            edge: Edge::new(a, b),
+            u,
+            s,
+            longest: self.edge(longest),
+            // "The gain is the length of L less the distance of s and u", in cost.
+            gain: self.costs[longest] - self.weights.cost(s, u),
+            // "A candidate is dropped when s is the place of a tree point other than a, b and u."
+            dropped: ![a, b, u].contains(&s) && self.points.binary_search(&s).is_ok(),
+        }
+    }
+
+    /// "A graph vertex u that is no tree point, clear of a or b, is now a candidate too." "L is sought from v to the edge, the way's cost
+    /// is taken off the gain." The dropped ones are marked, but for those whose v is a or b, which have no L. Those left out gain nothing
+    /// or less than one that is not dropped.
+    fn beside<'a>(
+        &self,
+        joints: &'a [Joint],
+        sight: &mut Sight,
+        statistics: &mut Statistics,
+    ) -> Vec<Beside<'a>> {
+        let mut least = 1;
+        let mut found = Vec::new();
+        for joint in joints {
+            let (u, cost) = (joint.u(), joint.cost(self.weights));
+            let from = self.points.binary_search(&joint.v());
+            let from = from.expect("v is a tree point");
+            let seen = sight.number(u);
+            let clear_of_u = sight.clear_of(seen, &self.seen);
+            for (number, &(a, b)) in self.edges.iter().enumerate() {
+                if !(clear_of_u[a] || clear_of_u[b]) {
+                    continue;
+                }
+                // "The candidate is dropped when v is a or b."
+                if from == a || from == b {
+                    statistics.joined_at_end += 1;
+                    continue;
+                }
+                let mut candidate = self.candidate(number, u, from);
+                candidate.gain -= cost;
+                // "Or when s is the place of a way's point other than u."
+                let on_way = joint.way[1..].contains(&candidate.s);
+                // "When s is the place of a tree point other than a, b and u."
+                let on_tree = candidate.dropped;
+                statistics.s_on_way += usize::from(on_way && !on_tree);
+                statistics.s_on_tree += usize::from(on_tree);
+                candidate.dropped = on_way || on_tree;
+                if candidate.gain >= least {
+                    if !candidate.dropped {
+                        least = candidate.gain;
+                    }
+                    found.push(Beside {
+                        candidate,
+                        joint,
+                        on_way: on_way && !on_tree,
+                    });
+                }
+            }
+        }
+        found
+    }
 }
 
 /// "Let s take the middle of the three x values and the middle of the three y values."
 fn middle(a: Place, b: Place, u: Place) -> Place {
-    let mut xs = [a.x, b.x, u.x];
-    let mut ys = [a.y, b.y, u.y];
-    xs.sort();
-    ys.sort();
-    Place { x: xs[1], y: ys[1] }
+    let of = |one: i64, other: i64, third: i64| third.clamp(one.min(other), one.max(other));
+    Place {
+        x: of(a.x, b.x, u.x),
+        y: of(a.y, b.y, u.y),
+    }
 }
 
 /// "A round takes the candidate with the greatest gain above zero, then smallest (a, b), then

@@ -2,10 +2,11 @@
 
 use std::fmt::Write;
 
+use crate::ground::Ground;
 use crate::net::{check, Net};
 use crate::netfile;
-use crate::refined::refine;
-use crate::terminal::terminal;
+use crate::refined::{refine_on, RULE};
+use crate::terminal::terminal_on;
 
 /// The text for the bytes of a net file. "A refusal prints one line, `refused` and the number."
 pub fn route(bytes: &[u8]) -> String {
@@ -21,8 +22,9 @@ pub fn route(bytes: &[u8]) -> String {
 /// "is printed last in the header, after the word `metal`; the length printed after an edge is its
 /// cost."
 fn routed(net: &Net) -> String {
-    let terminal = terminal(net);
-    let refined = refine(net, &terminal);
+    let ground = Ground::new(net);
+    let terminal = terminal_on(&ground, net);
+    let refined = refine_on(RULE, &ground, net, &terminal);
     let mut text = format!(
         "pins {} macros {} terminal {} refined {} metal {}\n",
         net.m(),

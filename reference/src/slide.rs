@@ -134,6 +134,11 @@ impl ClosedBox {
         }
     }
 
+    fn holds(&self, place: Place) -> bool {
+        let Place { x, y } = place;
+        (self.low.x..=self.high.x).contains(&x) && (self.low.y..=self.high.y).contains(&y)
+    }
+
     /// What it shares with another one, where they meet.
     fn shared(&self, other: &ClosedBox) -> Option<ClosedBox> {
         let both = ClosedBox {
@@ -154,6 +159,10 @@ impl Bar {
     /// "The smallest first place on a tie."
     pub fn first(&self) -> Place {
         *self.points.first().expect("a bar has an edge")
+    }
+
+    fn last(&self) -> Place {
+        *self.points.last().expect("a bar has an edge")
     }
 
     fn line(&self) -> i64 {
@@ -243,14 +252,12 @@ impl Slide {
         })
     }
 
-    /// "The closed box it sweeps."
+    /// "The closed box it sweeps": around the bar's ends, before and after.
     fn swept(&self, distance: i64) -> ClosedBox {
         let by = self.side * distance;
-        let points = self.bar.points.iter().copied();
-        let moved = points
-            .clone()
-            .map(|point| self.bar.direction.moved(point, by));
-        ClosedBox::around(points.chain(moved))
+        let (first, last) = (self.bar.first(), self.bar.last());
+        let moved = |point: Place| self.bar.direction.moved(point, by);
+        ClosedBox::around([first, last, moved(first), moved(last)].into_iter())
     }
 
     fn met(&self, net: &Net, tree: &Tree, distance: i64) -> Met {
@@ -260,18 +267,16 @@ impl Slide {
         let is_other =
             |point: &Place| !self.bar.points.contains(point) && !self.far_ends.contains(point);
         let meets = |places: [Place; 2]| swept.shared(&ClosedBox::around(places.into_iter()));
-        let points = tree.points();
-        let point = points
-            .iter()
-            .filter(|point| is_other(point))
-            .any(|&point| meets([point, point]).is_some());
-        let others = tree
-            .edges
-            .iter()
-            .filter(|edge| !self.bar.edges.contains(edge) && !self.hanging.contains(edge));
-        let edge = others
-            .filter_map(|edge| meets([edge.first(), edge.second()]))
-            .any(|shared| shared.low != shared.high || !self.far_ends.contains(&shared.low));
+        let ends = tree.edges.iter().flat_map(|e| [e.first(), e.second()]);
+        let mut points = tree.pins.iter().copied().chain(ends);
+        let point = points.any(|point| swept.holds(point) && is_other(&point));
+        let is_own = |edge: &Edge| self.bar.edges.contains(edge) || self.hanging.contains(edge);
+        let in_far_end =
+            |shared: ClosedBox| shared.low == shared.high && self.far_ends.contains(&shared.low);
+        let edge = tree.edges.iter().any(|edge| {
+            let shared = meets([edge.first(), edge.second()]);
+            shared.is_some_and(|shared| !in_far_end(shared) && !is_own(edge))
+        });
         Met {
             interior: net
                 .macros()
@@ -338,13 +343,16 @@ pub fn slide(net: &Net, start: Tree) -> Slid {
         // "The refined tree is given back as it was, without any bend."
         None => start,
         Some(mut tree) => {
-            for _ in 0..tree.points().len() {
+            let bound = tree.points().len();
+            while statistics.moves < bound {
                 let Some(next) = round(net, &tree, &mut statistics) else {
                     break;
                 };
                 tree = next;
             }
-            statistics.bound_ended = round(net, &tree, &mut Statistics::default()).is_some();
+            if statistics.moves == bound {
+                statistics.bound_ended = round(net, &tree, &mut Statistics::default()).is_some();
+            }
             tree
         }
     };

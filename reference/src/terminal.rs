@@ -1,7 +1,7 @@
 //! The terminal tree: roots, parents, ways, bridges and the kept paths.
 
 use crate::edge::Edge;
-use crate::graph::{graph, Graph};
+use crate::ground::Ground;
 use crate::net::{Net, Place};
 
 /// A kept path: its bridge, its cost with every edge counted, and its vertices from the root of
@@ -32,15 +32,19 @@ pub struct Terminal {
 /// Root and parent of each vertex, by the vertex's number in the graph's ordered list; the order
 /// of numbers is the order of places.
 struct Ways<'a> {
-    graph: &'a Graph,
+    ground: &'a Ground,
     root: Vec<usize>,
     parent: Vec<Option<usize>>,
 }
 
 /// Bridges taken in order, each kept where it joins what was not yet joined.
 pub fn terminal(net: &Net) -> Terminal {
-    let graph = graph(net);
-    let ways = ways(net, &graph);
+    terminal_on(&Ground::new(net), net)
+}
+
+/// The same on a net's own ground.
+pub fn terminal_on(ground: &Ground, net: &Net) -> Terminal {
+    let ways = ways(net, ground);
     let paths = kept(&ways, bridges(&ways));
     Terminal {
         total: paths.iter().map(|path| path.cost).sum(),
@@ -48,74 +52,32 @@ pub fn terminal(net: &Net) -> Terminal {
     }
 }
 
-/// The number of a place in the ordered list of vertices.
-fn number(graph: &Graph, place: Place) -> usize {
-    graph
-        .vertices
-        .binary_search(&place)
-        .expect("pins and ends of edges are vertices")
-}
-
-/// The cost of a cheapest way along the graph between every two vertices: for each vertex in turn,
-/// ways may also run through it.
-pub fn distances(graph: &Graph) -> Vec<Vec<i64>> {
-    let count = graph.vertices.len();
-    let mut table = vec![vec![None; count]; count];
-    for (v, row) in table.iter_mut().enumerate() {
-        row[v] = Some(0);
-    }
-    for edge in &graph.edges {
-        let (a, b) = (number(graph, edge.first()), number(graph, edge.second()));
-        table[a][b] = Some(edge.cost(graph.weights));
-        table[b][a] = Some(edge.cost(graph.weights));
-    }
-    for middle in 0..count {
-        let onward = table[middle].clone();
-        for row in &mut table {
-            let Some(before) = row[middle] else { continue };
-            for (known, after) in row.iter_mut().zip(&onward) {
-                if let Some(after) = after {
-                    if known.is_none_or(|cost: i64| before + after < cost) {
-                        *known = Some(before + after);
-                    }
-                }
-            }
-        }
-    }
-    let joined = |cost: Option<i64>| cost.expect("the graph joins all its vertices");
-    table
-        .into_iter()
-        .map(|row| row.into_iter().map(joined).collect())
-        .collect()
-}
-
 /// "The root of a vertex is its nearest pin along the graph, the smallest on a tie. Its parent,
 /// where it is no pin, is the smallest neighbour with the same root through which a shortest way
 /// to that root runs."
-fn ways<'a>(net: &Net, graph: &'a Graph) -> Ways<'a> {
-    let distance = distances(graph);
-    let pins: Vec<usize> = net.pins().iter().map(|&pin| number(graph, pin)).collect();
+fn ways<'a>(net: &Net, ground: &'a Ground) -> Ways<'a> {
+    let count = ground.graph.vertices.len();
+    let mut pins: Vec<usize> = net.pins().iter().map(|&pin| ground.number(pin)).collect();
+    pins.sort();
     let nearest = |v: usize| {
         pins.iter()
             .copied()
-            .min_by_key(|&pin| (distance[v][pin], pin))
+            .min_by_key(|&pin| (ground.costs(pin)[v], pin))
     };
-    let root: Vec<usize> = (0..graph.vertices.len())
+    let root: Vec<usize> = (0..count)
         .map(|v| nearest(v).expect("a net has a pin"))
         .collect();
-    let mut parent = vec![None; graph.vertices.len()];
-    for edge in &graph.edges {
-        let (a, b) = (number(graph, edge.first()), number(graph, edge.second()));
-        for (v, neighbour) in [(a, b), (b, a)] {
-            let through = edge.cost(graph.weights) + distance[neighbour][root[v]];
-            let runs = root[neighbour] == root[v] && through == distance[v][root[v]];
-            if runs && !pins.contains(&v) && parent[v].is_none_or(|p| neighbour < p) {
-                parent[v] = Some(neighbour);
-            }
-        }
+    let mut parent = vec![None; count];
+    for v in (0..count).filter(|v| pins.binary_search(v).is_err()) {
+        let to_root = ground.costs(root[v]);
+        let runs = |&(next, cost): &(usize, i64)| {
+            root[next] == root[v] && cost + to_root[next] == to_root[v]
+        };
+        let through = ground.neighbours(v).iter().copied().filter(runs);
+        parent[v] = through.map(|(next, _)| next).min();
     }
     Ways {
-        graph,
+        ground,
         root,
         parent,
     }
@@ -123,7 +85,7 @@ fn ways<'a>(net: &Net, graph: &'a Graph) -> Ways<'a> {
 
 /// "A vertex's way to its root follows parents until the root."
 fn way(ways: &Ways, v: usize) -> Vec<Place> {
-    let mut places = vec![ways.graph.vertices[v]];
+    let mut places = vec![ways.ground.graph.vertices[v]];
     if v != ways.root[v] {
         let parent = ways.parent[v].expect("a vertex that is no pin has a parent");
         places.extend(way(ways, parent));
@@ -135,14 +97,15 @@ fn way(ways: &Ways, v: usize) -> Vec<Place> {
 /// bridge, way, root. Bridges are taken by path length, ties by the order of edges."
 fn bridges(ways: &Ways) -> Vec<Path> {
     let mut paths = Vec::new();
-    for &edge in &ways.graph.edges {
-        let a = number(ways.graph, edge.first());
-        let b = number(ways.graph, edge.second());
+    let graph = &ways.ground.graph;
+    for &edge in &graph.edges {
+        let a = ways.ground.number(edge.first());
+        let b = ways.ground.number(edge.second());
         if ways.root[a] != ways.root[b] {
             let mut vertices = way(ways, a);
             vertices.reverse();
             vertices.extend(way(ways, b));
-            let step = |two: &[Place]| ways.graph.weights.cost(two[0], two[1]);
+            let step = |two: &[Place]| graph.weights.cost(two[0], two[1]);
             paths.push(Path {
                 bridge: edge,
                 cost: vertices.windows(2).map(step).sum(),
@@ -160,8 +123,8 @@ fn kept(ways: &Ways, bridges: Vec<Path>) -> Vec<Path> {
     let mut mark = ways.root.clone();
     let mut paths = Vec::new();
     for path in bridges {
-        let one = mark[number(ways.graph, path.bridge.first())];
-        let other = mark[number(ways.graph, path.bridge.second())];
+        let one = mark[ways.ground.number(path.bridge.first())];
+        let other = mark[ways.ground.number(path.bridge.second())];
         if one != other {
             for m in &mut mark {
                 if *m == other {

@@ -13,12 +13,12 @@ pub struct Tree {
     pub edges: BTreeSet<Edge>,
 }
 
-/// What the tree way from one point to another holds: how many edges, and the longest of them by
-/// cost (none on the way from a point to itself).
+/// What the tree way from one point to another holds: how many edges, and the number of the longest of them by cost (none on the way
+/// from a point to itself).
 #[derive(Clone, Copy, Debug, PartialEq, Eq)]
 pub struct Way {
     pub steps: usize,
-    pub longest: Option<Edge>,
+    pub longest: Option<usize>,
 }
 
 impl Tree {
@@ -53,24 +53,19 @@ pub fn numbered(tree: &Tree, points: &[Place]) -> Vec<(usize, usize)> {
         .collect()
 }
 
-/// The neighbours of each of so many points.
-pub fn neighbours(count: usize, edges: &[(usize, usize)]) -> Vec<Vec<usize>> {
+/// The neighbours of each of so many points, each with the number of the edge that leads there.
+pub fn neighbours(count: usize, edges: &[(usize, usize)]) -> Vec<Vec<(usize, usize)>> {
     let mut lists = vec![Vec::new(); count];
-    for &(a, b) in edges {
-        lists[a].push(b);
-        lists[b].push(a);
+    for (number, &(a, b)) in edges.iter().enumerate() {
+        lists[a].push((b, number));
+        lists[b].push((a, number));
     }
     lists
 }
 
-/// The tree way from one point to every point: a walk outward that never steps back.
-pub fn ways_from(
-    points: &[Place],
-    neighbours: &[Vec<usize>],
-    start: usize,
-    weights: Weights,
-) -> Vec<Way> {
-    let mut ways = vec![None; points.len()];
+/// The tree way from one point to every point: a walk outward that never steps back. Costs are those of the edges.
+pub fn ways_from(neighbours: &[Vec<(usize, usize)>], start: usize, costs: &[i64]) -> Vec<Way> {
+    let mut ways = vec![None; neighbours.len()];
     ways[start] = Some(Way {
         steps: 0,
         longest: None,
@@ -78,13 +73,12 @@ pub fn ways_from(
     let mut reached = vec![start];
     while let Some(here) = reached.pop() {
         let way: Way = ways[here].expect("a point has its way before it is walked on from");
-        for &next in &neighbours[here] {
+        for &(next, edge) in &neighbours[here] {
             if ways[next].is_none() {
-                let edge = Edge::new(points[here], points[next]);
                 ways[next] = Some(Way {
                     steps: way.steps + 1,
                     longest: Some(match way.longest {
-                        Some(before) => longer(before, edge, weights),
+                        Some(before) => longer(before, edge, costs),
                         None => edge,
                     }),
                 });
@@ -97,9 +91,9 @@ pub fn ways_from(
         .collect()
 }
 
-/// "The longest edge (smallest on a tie)" of two, by cost.
-fn longer(one: Edge, other: Edge, weights: Weights) -> Edge {
-    match one.cost(weights).cmp(&other.cost(weights)) {
+/// "The longest edge (smallest on a tie)" of two, by cost: the order of numbers is the order of edges.
+fn longer(one: usize, other: usize, costs: &[i64]) -> usize {
+    match costs[one].cmp(&costs[other]) {
         Ordering::Greater => one,
         Ordering::Less => other,
         Ordering::Equal => one.min(other),
