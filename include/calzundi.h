@@ -29,7 +29,7 @@
  * Answers
  *
  * Every operation returns 0, or the number of a refusal, the first of those listed for it that applies. The answer of an allowed net is
- * the same for every order of its lists; only a net file keeps that order.
+ * the same for every order of its lists; only a net file keeps that order, and a best tree may then be another of the same cost.
  *
  *   0          The answer stands at the front of each lent space, and the counts say how many entries it has (not how many numbers).
  *              Lent space past the answer is as it was.
@@ -42,8 +42,8 @@
  *              for an empty one. No other pointer is null; those to counts and the like never are, whatever the answer.
  *   length     Behind every other pointer stands as much as its count says. Nothing past it is touched, and lists are only read. What
  *              lent space held before does not matter.
- *   alignment  Every other pointer is aligned for its type: 4 bytes for int32_t, 8 for int64_t, uint64_t and size_t, 1 for bytes. One that
- *              is not is outside what is proved, also where x86-64 lets it pass.
+ *   alignment  Every other pointer is aligned for its type: 4 bytes for int32_t and uint32_t, 8 for int64_t, uint64_t and size_t, 1 for
+ *              bytes. One that is not is outside what is proved, also where x86-64 lets it pass.
  *   overlap    What is lent to be written, counts and the like included, overlaps nothing else that is handed over. Lists may overlap
  *              each other.
  *   threads    While a call runs, nobody else writes its lists, and nobody else reads or writes what is lent to it. Calls at the same
@@ -56,7 +56,7 @@
 #define CALZUNDI_H
 
 /* The version. It stands here and nowhere else; the tools take it from this line, and each change request raises the second number. */
-#define CALZUNDI_VERSION "1.10"
+#define CALZUNDI_VERSION "1.11"
 
 #include <stddef.h>
 #include <stdint.h>
@@ -78,6 +78,11 @@ extern "C" {
 #define CALZUNDI_GRID_PINS 16
 #define CALZUNDI_GRID_MACROS 16
 
+/* A best tree is for nets of up to 5 pins and 16 macros, with so many numbers of 32 bits as work. */
+#define CALZUNDI_BEST_PINS 5
+#define CALZUNDI_BEST_MACROS 16
+#define CALZUNDI_BEST_WORK 65536
+
 /* The check of a bought-in tree takes up to 1,535 edges. */
 #define CALZUNDI_BOUGHT_EDGES 1535
 
@@ -90,6 +95,7 @@ extern "C" {
 #define CALZUNDI_SLID_NUMBERS(m, k) (8 * (CALZUNDI_POINTS(m, k) + (m)))
 #define CALZUNDI_WIRE_NUMBERS(m, k) (8 * (CALZUNDI_POINTS(m, k) + (m)))
 #define CALZUNDI_DISTANCE_NUMBERS(m) ((m) * (m))
+#define CALZUNDI_BEST_NUMBERS(m, k) (4 * ((m) + 2 * (k)) * ((m) + 2 * (k)))
 
 /* A net file is 1 to 9 blocks of 512 bytes: a head, a block for each 60 pins begun and one for each 30 macros begun. */
 #define CALZUNDI_BLOCK_BYTES 512
@@ -120,7 +126,8 @@ enum calzundi_refusal {
     CALZUNDI_EDGE_NOT_CLEAR = 34,   /* an edge has equal ends, or ends that are not clear of each other */
     CALZUNDI_NOT_A_TREE = 35,       /* the edges and the pins are not one tree, or a point with a single edge is no pin */
     CALZUNDI_GRID_SIZE = 36,        /* above 16 pins or 16 macros, for distances on the grid */
-    CALZUNDI_BAND_ORDER = 37        /* a band's limit is not above the one before it, or its rate is below */
+    CALZUNDI_BAND_ORDER = 37,       /* a band's limit is not above the one before it, or its rate is below */
+    CALZUNDI_BEST_SIZE = 41         /* above 5 pins or 16 macros, for a best tree */
 };
 
 /*
@@ -151,6 +158,7 @@ static inline const char *calzundi_refusal_text(int32_t number)
     case CALZUNDI_NOT_A_TREE: return "the edges and the pins are not one tree, or a point with a single edge is no pin";
     case CALZUNDI_GRID_SIZE: return "there are more than 16 pins or more than 16 macros";
     case CALZUNDI_BAND_ORDER: return "a band's limit is not above the one before it, or its rate is below";
+    case CALZUNDI_BEST_SIZE: return "there are more than 5 pins or more than 16 macros";
     default: return "no refusal has this number";
     }
 }
@@ -226,6 +234,24 @@ int32_t calzundi_refined_tree(const int32_t *pins, size_t pin_numbers, const int
 int32_t calzundi_slid_tree(const int32_t *pins, size_t pin_numbers, const int32_t *macros, size_t macro_numbers,
                            int32_t weight_x, int32_t weight_y, int32_t *edges, size_t edge_numbers, size_t *count,
                            calzundi_length *total, calzundi_length *metal);
+
+/*
+ * Best tree: a cheapest tree along the grid of all x and all y values of pins and macro sides, its edges in order. No edges of that grid
+ * that join all pins cost less, so the refined tree never does. Which tree is given, where several cost the same, is left to the library;
+ * what it costs is fixed. Its edges are along one axis, each a wire as it stands, and the check of bought-in trees passes it.
+ *
+ * work   lent, at least CALZUNDI_BEST_WORK of 32 bits, whatever they hold; after a success the first CALZUNDI_BEST_WORK are 0 and any
+ *        others as they were, after a refusal all are as they were
+ * edges  lent, at least CALZUNDI_BEST_NUMBERS(m, k); an edge is four numbers, its smaller place first
+ * count  how many edges were given
+ * total  the sum of their costs
+ * metal  the sum of their plain lengths, the metal to lay
+ *
+ * Refusals: 11 to 18, then 41, then 21.
+ */
+int32_t calzundi_best_tree(const int32_t *pins, size_t pin_numbers, const int32_t *macros, size_t macro_numbers,
+                           int32_t weight_x, int32_t weight_y, uint32_t *work, size_t work_numbers, int32_t *edges,
+                           size_t edge_numbers, size_t *count, calzundi_length *total, calzundi_length *metal);
 
 /*
  * Wires: the refined tree as it is drawn. Each edge, in order, gives a horizontal wire from its smaller place and then a vertical one to

@@ -75,6 +75,17 @@ pub fn slid_tree(
     given(lent::slid_tree(lists(pins, macros, weights), edges))
 }
 
+/// "Best tree for five pins": the same of a best tree.
+pub fn best_tree(
+    pins: &[i32],
+    macros: &[i32],
+    weights: Weights,
+    work: &mut [u32],
+    edges: &mut [i32],
+) -> Result<(usize, i64, i64), u32> {
+    given(lent::best_tree(lists(pins, macros, weights), work, edges))
+}
+
 /// "Pass or fail for bought-in trees": the cost and the metal.
 pub fn check_tree(
     pins: &[i32],

@@ -85,6 +85,9 @@ fn the_header_has_the_bounds() {
         ("sizeof(calzundi_length)", 8),
         ("CALZUNDI_RATE", 1_000_000),
         ("CALZUNDI_BOUGHT_EDGES", reference::bought::EDGES),
+        ("CALZUNDI_BEST_PINS", reference::best::PINS),
+        ("CALZUNDI_BEST_MACROS", reference::best::MACROS),
+        ("CALZUNDI_BEST_WORK", reference::best::WORK),
     ];
     let lines = names.map(|(name, _)| format!("    printf(\"%d\\n\", (int)({name}));\n"));
     let expected = names.map(|(_, number)| format!("{number}\n"));
@@ -114,6 +117,10 @@ fn the_header_works_out_what_to_lend() {
             (format!("TREE_NUMBERS({sum_m}, {sum_k})"), 4 * (n + m)),
             (format!("SLID_NUMBERS({sum_m}, {sum_k})"), 8 * (n + m)),
             (format!("WIRE_NUMBERS({sum_m}, {sum_k})"), 8 * (n + m)),
+            (
+                format!("BEST_NUMBERS({sum_m}, {sum_k})"),
+                4 * (m + 2 * k) * (m + 2 * k),
+            ),
             (format!("FILE_BYTES({sum_m}, {sum_k})"), 512 * blocks),
         ] {
             lines += &format!("    printf(\"%d\\n\", CALZUNDI_{name});\n");
@@ -142,6 +149,10 @@ fn null_with_a_count_of_zero() {
         ("check_tree(NULL, 0, NULL, 0, 1, 1, NULL, 0, &t, &l)", 11),
         ("wires(NULL, 0, NULL, 0, 1, 1, NULL, 0, &a)", 11),
         ("grid_distances(NULL, 0, NULL, 0, 1, 1, NULL, 0, &a)", 11),
+        (
+            "best_tree(NULL, 0, NULL, 0, 1, 1, NULL, 0, NULL, 0, &a, &t, &l)",
+            11,
+        ),
         ("price(NULL, 0, NULL, 0, 1, 1, NULL, 0, &h)", 11),
         ("write_file(NULL, 0, NULL, 0, 1, 1, NULL, 0, &a)", 11),
         ("read_file(NULL, 0, NULL, 0, NULL, 0, &a, &b, &x, &y)", 21),
@@ -159,6 +170,10 @@ fn null_with_a_count_of_zero() {
         ("check_tree(pin, 2, NULL, 0, 1, 1, NULL, 0, &c, &c)", 0),
         ("wires(pin, 2, NULL, 0, 1, 1, NULL, 0, &a)", 21),
         ("grid_distances(pin, 2, NULL, 0, 1, 1, NULL, 0, &a)", 21),
+        (
+            "best_tree(pin, 2, NULL, 0, 1, 1, NULL, 0, NULL, 0, &a, &t, &l)",
+            21,
+        ),
         ("price(pin, 2, NULL, 0, 1, 1, NULL, 0, &h)", 31),
         ("write_file(pin, 2, NULL, 0, 1, 1, NULL, 0, &a)", 21),
         ("check(pin, 2, NULL, 0, 0, 1)", 18),

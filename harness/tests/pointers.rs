@@ -8,6 +8,7 @@ use std::{slice, thread};
 
 use harness::library;
 use harness::matching::routed;
+use reference::best;
 use reference::generate::{net, weighted, Kind};
 use reference::lists::Lists;
 use reference::net::Weights;
@@ -83,6 +84,17 @@ fn refined_tree(p: List<i32>, q: List<i32>, w: Weights, e: Space<i32>) -> Answer
 
 fn slid_tree(p: List<i32>, q: List<i32>, w: Weights, e: Space<i32>) -> Answer {
     tree(library::calzundi_slid_tree, p, q, w, e)
+}
+
+fn best_tree(p: List<i32>, q: List<i32>, w: Weights, work: Space<u32>, e: Space<i32>) -> Answer {
+    let (mut count, mut total, mut metal) = (COUNT, TOTAL, TOTAL);
+    let code = unsafe {
+        library::calzundi_best_tree(
+            p.0, p.1, q.0, q.1, w.x, w.y, work.0, work.1, e.0, e.1, &mut count, &mut total,
+            &mut metal,
+        )
+    };
+    answer(code, &[count, total as usize, metal as usize])
 }
 
 fn check_tree(p: List<i32>, q: List<i32>, w: Weights, e: List<i32>) -> Answer {
@@ -658,4 +670,45 @@ fn distances_within_their_space() {
         let refused = distances(pins.list(), none(), short.space());
         assert_eq!(refused, answer(21, &[COUNT]));
     }
+}
+
+// Best trees
+
+/// A best tree with fences about all that is handed over: work and edges as much as is asked for, one number less of either, and none.
+#[test]
+fn best_trees_between_fences() {
+    let five = Lists {
+        pins: vec![2, 0, 1, 3, 0, 1, 3, 1, 0, 0],
+        ..Lists::default()
+    };
+    for (lists, total) in [(five, 7), (around_one(), 32)] {
+        let asked = best::edge_numbers(lists.pins.len() / 2, lists.macros.len() / 4);
+        for at in [At::Front, At::Back] {
+            let pins = Fenced::of(&lists.pins, at).read_only();
+            let macros = Fenced::of(&lists.macros, at).read_only();
+            let call = |work: usize, edges: usize| {
+                let mut work = Fenced::of(&vec![NUMBER as u32; work], at);
+                let mut edges = Fenced::of(&vec![NUMBER; edges], at);
+                let (work_lent, edges_lent) = (work.space(), edges.space());
+                let said = best_tree(
+                    pins.list(),
+                    macros.list(),
+                    lists.weights,
+                    work_lent,
+                    edges_lent,
+                );
+                (said, work.bytes().to_vec(), edges.bytes().to_vec())
+            };
+            let (said, work, _) = call(best::WORK, asked);
+            assert_eq!([said[0], said[2]], [0, total]);
+            assert!(work.iter().all(|&byte| byte == 0));
+            for (work, edges) in [(best::WORK - 1, asked), (best::WORK, asked - 1), (0, 0)] {
+                let (said, work, edges) = call(work, edges);
+                assert_eq!(said, answer(21, &[COUNT; 3]));
+                assert!(work.iter().chain(&edges).all(|&byte| byte == BEFORE));
+            }
+        }
+    }
+    let said = best_tree(none(), none(), Weights::ONE, no_space(), no_space());
+    assert_eq!(said, answer(11, &[COUNT; 3]));
 }

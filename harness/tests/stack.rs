@@ -6,6 +6,7 @@ use std::thread;
 
 use harness::matching::routed;
 use harness::{library, program};
+use reference::best;
 use reference::generate::{net, weighted, Kind};
 use reference::lists::Lists;
 use reference::net::Weights;
@@ -29,6 +30,9 @@ fn call_all(lists: &Lists) {
     library::price(pins, macros, weights, &[u64::MAX, 1_000_000]).unwrap();
     let (few_pins, few_macros) = (&pins[..pins.len().min(32)], &macros[..macros.len().min(64)]);
     library::grid_distances(few_pins, few_macros, weights, &mut vec![0; 256]).unwrap();
+    let (pins_five, mut work) = (&few_pins[..few_pins.len().min(10)], vec![0; best::WORK]);
+    let mut edges = vec![0; best::edge_numbers(pins_five.len() / 2, few_macros.len() / 4)];
+    library::best_tree(pins_five, few_macros, weights, &mut work, &mut edges).unwrap();
     let mut bytes = vec![0; calzundi::LONGEST_FILE];
     let given = library::write_file(pins, macros, weights, &mut bytes).unwrap();
     let (mut pins, mut macros) = (vec![0; 256], vec![0; 512]);

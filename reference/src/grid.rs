@@ -50,7 +50,7 @@ fn table(net: &Net, costs_from: impl Fn(Place) -> BTreeMap<Place, i64>) -> Vec<i
 }
 
 /// "From all x and all y values of pins and macro sides form a grid."
-fn lines(net: &Net) -> (Vec<i64>, Vec<i64>) {
+pub(crate) fn lines(net: &Net) -> (Vec<i64>, Vec<i64>) {
     let pins = net.pins().iter();
     let macros = net.macros().iter();
     let xs = pins
@@ -71,7 +71,7 @@ fn in_order(values: impl Iterator<Item = i64>) -> Vec<i64> {
 }
 
 /// "Neighbouring crossings are joined when the segment between them meets no interior."
-fn grid_steps(net: &Net, xs: &[i64], ys: &[i64], at: Place) -> Vec<(Place, i64)> {
+pub(crate) fn grid_steps(net: &Net, xs: &[i64], ys: &[i64], at: Place) -> Vec<(Place, i64)> {
     let across = beside(xs, at.x).map(|x| Place { x, ..at });
     let along = beside(ys, at.y).map(|y| Place { y, ..at });
     priced(net, at, across.chain(along))

@@ -6,6 +6,7 @@
 
 pub mod answers;
 pub mod beside;
+pub mod best;
 pub mod bought;
 pub mod edge;
 pub mod exhaustive;

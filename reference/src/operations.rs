@@ -3,6 +3,7 @@
 //! operation works its answer out whole and only then writes it. Where document 01 says "11 to
 //! 17", document 02's first request adds 18 after 17.
 
+use crate::best;
 use crate::bought;
 use crate::edge::Edge;
 use crate::graph;
@@ -143,6 +144,26 @@ pub fn grid_distances(
     let count = distances.len();
     lay(table, distances.into_iter());
     Ok(count)
+}
+
+/// "Best tree for five pins." 11 to 18, then "41, above 5 pins or 16 macros, after 18 and before 21",
+/// then 21 for so many numbers of work and for edges. What the tree costs: "which tree is given is
+/// left to the program".
+pub fn best_cost(
+    pins: &[i32],
+    macros: &[i32],
+    weights: Weights,
+    work: usize,
+    edges: usize,
+) -> Result<i64, u32> {
+    let net = net::check(pins, macros, weights)?;
+    if net.m() > best::PINS || net.k() > best::MACROS {
+        return Err(41);
+    }
+    if work < best::WORK || edges < best::edge_numbers(net.m(), net.k()) {
+        return Err(21);
+    }
+    Ok(best::cost(&net))
 }
 
 /// "Price on the job card": "bureaus charge by metal laid", never by cost; 31 and 32 "both after

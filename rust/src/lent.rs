@@ -91,6 +91,22 @@ pub mod bare {
             metal: *mut Length,
         ) -> i32;
 
+        pub fn calzundi_best_tree(
+            pins: *const i32,
+            pins_len: usize,
+            macros: *const i32,
+            macros_len: usize,
+            weight_x: i32,
+            weight_y: i32,
+            work: *mut u32,
+            work_len: usize,
+            edges: *mut i32,
+            edges_len: usize,
+            count: *mut usize,
+            total: *mut Length,
+            metal: *mut Length,
+        ) -> i32;
+
         pub fn calzundi_check_tree(
             pins: *const i32,
             pins_len: usize,
@@ -271,7 +287,7 @@ pub fn terminal_tree(lists: Lists, paths: &mut [i64]) -> Result<(usize, i64), Re
     answer(code, &[count as u64, total as u64], (count, total))
 }
 
-/// What a refined or a slid tree gives: how many edges, their total, and the metal to lay.
+/// What a refined, a slid or a best tree gives: how many edges, their total, and the metal to lay.
 #[derive(Clone, Copy, Debug, PartialEq, Eq)]
 pub struct Tree {
     pub edges: usize,
@@ -319,6 +335,41 @@ pub fn refined_tree(lists: Lists, edges: &mut [i32]) -> Result<Tree, Refusal> {
 /// Slid tree.
 pub fn slid_tree(lists: Lists, edges: &mut [i32]) -> Result<Tree, Refusal> {
     tree(bare::calzundi_slid_tree, lists, edges)
+}
+
+/// Best tree, with work that is cleared.
+pub fn best_tree(lists: Lists, work: &mut [u32], edges: &mut [i32]) -> Result<Tree, Refusal> {
+    let Lists {
+        pins,
+        macros,
+        weights,
+    } = lists;
+    let mut count = UNTOUCHED as usize;
+    let (mut total, mut metal) = (UNTOUCHED as i64, UNTOUCHED as i64);
+    // SAFETY: as for `graph`.
+    let code = unsafe {
+        bare::calzundi_best_tree(
+            pins.as_ptr(),
+            pins.len(),
+            macros.as_ptr(),
+            macros.len(),
+            weights.x,
+            weights.y,
+            work.as_mut_ptr(),
+            work.len(),
+            edges.as_mut_ptr(),
+            edges.len(),
+            &mut count,
+            &mut total,
+            &mut metal,
+        )
+    };
+    let given = Tree {
+        edges: count,
+        total,
+        metal,
+    };
+    answer(code, &[count as u64, total as u64, metal as u64], given)
 }
 
 /// Check a bought-in tree: its cost and its metal. An edge is four numbers, from either end.

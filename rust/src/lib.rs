@@ -43,6 +43,10 @@ pub const WEIGHT: i32 = 8;
 pub const GRID_PINS: usize = 16;
 /// The most macros of such a net.
 pub const GRID_MACROS: usize = 16;
+/// The most pins of a net that gets a best tree; its macros are at most [`GRID_MACROS`].
+pub const BEST_PINS: usize = 5;
+/// The numbers of work that are lent for a best tree.
+pub const BEST_WORK: usize = 65_536;
 /// The most edges of a bought-in tree.
 pub const BOUGHT_EDGES: usize = 1_535;
 /// A band's rate is at most this.
@@ -248,6 +252,9 @@ pub type RefinedTree = Tree;
 /// both places for a bend are taken.
 pub type SlidTree = Tree;
 
+/// A best tree: none along the grid of all pins and sides is cheaper. Which one, where several cost the same, is left to the library.
+pub type BestTree = Tree;
+
 /// What a bought-in tree that passes comes to.
 #[derive(Clone, Copy, Debug, Default, PartialEq, Eq)]
 pub struct Passed {
@@ -360,6 +367,18 @@ impl Net {
         self.tree(lent::slid_tree, 8 * self.tree_points())
     }
 
+    /// A best tree of up to 5 pins and 16 macros: no edges of the grid of all pins and sides that join the pins cost less, so the refined
+    /// tree never does. Which one is given, where several cost the same, is left to the library; its cost is fixed.
+    pub fn best_tree(&self) -> Result<BestTree, Refusal> {
+        let lines = self.pins.len() + 2 * self.macros.len();
+        let of_size = self.pins.len() <= BEST_PINS && self.macros.len() <= GRID_MACROS;
+        // A larger net is refused before anything that is lent is looked at.
+        let lent = if of_size { 4 * lines * lines } else { 0 };
+        let mut work = vec![0; if of_size { BEST_WORK } else { 0 }];
+        let call = |lists: lent::Lists, edges: &mut [i32]| lent::best_tree(lists, &mut work, edges);
+        self.tree(call, lent)
+    }
+
     /// Whether a tree of another router passes for this net: one tree of clear edges that holds every pin, and every point with a single
     /// edge a pin. An edge may be given from either end. Every refined tree and every slid tree passes.
     pub fn check_tree(&self, edges: &[Edge]) -> Result<Passed, Refusal> {
@@ -419,10 +438,10 @@ impl Net {
         })
     }
 
-    /// A tree by one of the two calls that give one, into so many numbers.
+    /// A tree by one of the calls that give one, into so many numbers.
     fn tree(
         &self,
-        call: fn(lent::Lists, &mut [i32]) -> Result<lent::Tree, Refusal>,
+        call: impl FnOnce(lent::Lists, &mut [i32]) -> Result<lent::Tree, Refusal>,
         numbers: usize,
     ) -> Result<Tree, Refusal> {
         let mut numbers = vec![0; numbers];

@@ -45,6 +45,8 @@ pub enum Refusal {
     GridSize,
     /// 37: a band's limit is not above the one before it, or its rate is below.
     BandOrder,
+    /// 41: more than 5 pins or 16 macros, of which no best tree is given.
+    BestSize,
 }
 
 impl Refusal {
@@ -69,6 +71,7 @@ impl Refusal {
         Refusal::NotATree,
         Refusal::GridSize,
         Refusal::BandOrder,
+        Refusal::BestSize,
     ];
 
     /// The number and its meaning, as include/calzundi.h has them for C.
@@ -117,6 +120,7 @@ impl Refusal {
                 37,
                 "a band's limit is not above the one before it, or its rate is below",
             ),
+            Refusal::BestSize => (41, "there are more than 5 pins or more than 16 macros"),
         }
     }
 

@@ -1,7 +1,7 @@
 //! Which entries a refusal is about. The number is the proved router's; what is to blame is found here, and for 13 to 18 all of it.
 
 use calzundi::{Macro, Net, Pin, Refusal, Weights};
-use calzundi::{COORDINATE, GRID_MACROS, GRID_PINS, MACROS, PINS, WEIGHT};
+use calzundi::{BEST_PINS, COORDINATE, GRID_MACROS, GRID_PINS, MACROS, PINS, WEIGHT};
 
 use crate::text::{sides, Lines};
 
@@ -63,7 +63,12 @@ pub fn blamed(net: &Net, lines: Option<&Lines>, refusal: Refusal) -> Blame {
         Refusal::GridSize if net.pins.len() > GRID_PINS => {
             entries.miscounted(refusal, "pin", net.pins.len(), GRID_PINS)
         }
-        Refusal::GridSize => entries.miscounted(refusal, "macro", net.macros.len(), GRID_MACROS),
+        Refusal::BestSize if net.pins.len() > BEST_PINS => {
+            entries.miscounted(refusal, "pin", net.pins.len(), BEST_PINS)
+        }
+        Refusal::GridSize | Refusal::BestSize => {
+            entries.miscounted(refusal, "macro", net.macros.len(), GRID_MACROS)
+        }
         _ => {
             let mut found = BY_ENTRY.iter().filter_map(|&refusal| {
                 let reasons = entries.reasons(refusal);

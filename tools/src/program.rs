@@ -129,8 +129,9 @@ calzundi COMMAND ..: a tree router whose every answer is proved
     check NET..            allowed, or why not: the number and the lines that are to blame
     route NET              totals and edges, as the program route prints them; or --json, or --wires
     slide NET              the slid tree: level and upright edges, whose bars have moved where that saves
+    best NET               a best tree of up to 5 pins and 16 macros, and how much more the others cost
     verify NET TREE        whether a tree of another router passes for a net, and what it costs
-    draw NET [PICTURE]     a picture of both trees, as SVG; with --html a page to look into; --slid, --tree
+    draw NET [PICTURE]     a picture of both trees, as SVG; with --html a page to look into; --slid, --best, --tree
     compare A B            whether two nets get the same metal, and its fingerprint
     batch NET..            a line for each of many nets; --csv, --jobs, --shard
     price NET BANDS        what a bureau charges for the metal

@@ -1,7 +1,7 @@
 //! A routed net, as text and as JSON.
 
 use calzundi::{
-    Edge, Net, Path, Place, RefinedTree, Refusal, SlidTree, TerminalTree, Weights, Wire,
+    BestTree, Edge, Net, Path, Place, RefinedTree, Refusal, SlidTree, TerminalTree, Weights, Wire,
 };
 
 use crate::fingerprint::fingerprint;
@@ -55,6 +55,17 @@ impl Routed {
         self.slid_header(slid) + "\n" + &self.edges(&slid.edges)
     }
 
+    /// All that `best` prints.
+    pub fn best_text(&self, slid: &SlidTree, best: &BestTree) -> String {
+        let Routed { pins, macros, .. } = self;
+        let BestTree { total, metal, .. } = best;
+        let [refined, slid] = [self.refined.total, slid.total].map(|cost| above(cost, *total));
+        let header = format!(
+            "pins {pins} macros {macros} refined {refined} slid {slid} best {total} metal {metal}"
+        );
+        header + "\n" + &self.edges(&best.edges)
+    }
+
     /// A line for each edge: its two places and its cost.
     fn edges(&self, edges: &[Edge]) -> String {
         let line = |edge: &Edge| {
@@ -63,6 +74,12 @@ impl Routed {
         };
         edges.iter().map(line).collect()
     }
+}
+
+/// A cost, and how much more than the best it is: `8 +14.3%`.
+fn above(cost: i64, best: i64) -> String {
+    let more = (cost - best) as f64 * 100.0 / best.max(1) as f64;
+    format!("{cost} +{more:.1}%")
 }
 
 /// A place as two numbers.

@@ -1,4 +1,5 @@
-//! A tree as text: one edge a line, its two places, with its cost behind them or not; so what `route` and `slide` print is one too.
+//! A tree as text: one edge a line, its two places, with its cost behind them or not; so what `route`, `slide` and `best`
+//! print is one too.
 
 use std::collections::{BTreeMap, BTreeSet};
 

@@ -378,6 +378,34 @@ fn slide_prints_the_slid_tree() {
     assert_eq!(output.stdout, b"refused 15\n");
 }
 
+/// `best` prints a best tree, and how much more the refined and the slid one cost; a larger net is told with what is to blame.
+#[test]
+fn best_prints_a_best_tree() {
+    let five = b"pin 2 0\npin 1 3\npin 0 1\npin 3 1\npin 0 0\n";
+    let tree = printed(&["best", "-"], five);
+    let header = tree.lines().next().unwrap();
+    let start = "pins 5 macros 0 refined 8 +14.3% slid ";
+    assert!(header.starts_with(start), "{header}");
+    assert!(header.ends_with(" best 7 metal 7"), "{header}");
+    let folder = folder("best");
+    let net = folder.join("net.txt");
+    fs::write(&net, five).unwrap();
+    let passed = printed(&["verify", word(&net), "-"], tree.as_bytes());
+    assert!(passed.ends_with("cost 7 metal 7\n"), "{passed}");
+    let one = "pins 1 macros 0 refined 0 +0.0% slid 0 +0.0% best 0 metal 0\n";
+    assert_eq!(printed(&["best", "-"], b"pin 5 5\n"), one);
+    let many: String = (0..6).map(|x| format!("pin {x} 0\n")).collect();
+    let output = run(&["best", "-"], many.as_bytes());
+    assert_eq!(output.status.code(), Some(1));
+    assert_eq!(output.stdout, b"refused 41\n");
+    let wrong = String::from_utf8(output.stderr).unwrap();
+    let refused = "refused 41: there are 6 pins, and at most 5 are allowed\n  \
+                   line 6, pin 6 (5 0) is the first that is too many";
+    assert_eq!(wrong, format!("calzundi best: standard input: {refused}\n"));
+    let output = run(&["best", "-"], b"pin 0 0\npin 0 0\n");
+    assert_eq!(output.stdout, b"refused 15\n");
+}
+
 /// `verify` passes what `route` and `slide` print, and edges alone, from either end; costs are worked out.
 #[test]
 fn verify_passes_trees() {
@@ -667,7 +695,7 @@ fn help_and_usage() {
         }
         if command != "batch" {
             let words = [command, "no/such/file", "no/such/other"];
-            let words = if ["route", "slide", "distances"].contains(&command) {
+            let words = if ["route", "slide", "best", "distances"].contains(&command) {
                 &words[..2]
             } else {
                 &words

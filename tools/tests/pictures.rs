@@ -251,6 +251,14 @@ fn another_tree_beside_the_refined_one() {
         assert!(slid.contains(words), "{words}");
     }
     assert!(!slid.contains(">terminal tree"));
+    let best = printed(&["draw", "--best", word(&net)], b"");
+    for words in [
+        ">refined tree 7<",
+        ">best tree 6<",
+        ">metal to lay 6 by the best tree<",
+    ] {
+        assert!(best.contains(words), "{words}");
+    }
     fs::write(&tree, "3 0 3 1\n3 1 2 1\n2 1 0 1\n2 1 2 3\n").unwrap();
     let words = ["draw", "--tree", word(&tree), word(&net), word(&picture)];
     assert_eq!(printed(&words, b""), "");
@@ -271,7 +279,11 @@ fn another_tree_beside_the_refined_one() {
     let over = ["draw", "--tree", word(&tree), word(&net), word(&tree)];
     fs::write(&tree, printed(&["route", word(&net)], b"")).unwrap();
     assert!(said(&over, b"", 2).contains("is not written over"));
-    for words in [["--html", "--slid"], ["--slid", "--tree=x"]] {
+    for words in [
+        ["--html", "--slid"],
+        ["--slid", "--tree=x"],
+        ["--best", "--slid"],
+    ] {
         let wrong = said(&["draw", words[0], words[1], word(&net)], b"", 2);
         assert!(wrong.contains("take one of them"), "{wrong}");
     }

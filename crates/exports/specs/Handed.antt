@@ -4,11 +4,17 @@ use mathlib.Core.Path.{_≡_}
 use mathlib.Core.List.{List, map}
 use Prim.Native.Nat.{ℕ}
 use lib.IntN.{ℤ, pos}
+use lib.ListN.{replicate}
 use Rattle.lent.specs.Told.{Told, given, code}
 use Rattle.lent.specs.Over.{after, valueAfter}
+use Rattle.lent.specs.Entries.{flat}
 use Rattle.net.specs.declared.Net.{Net as Counts}
 use Rattle.net.specs.Net.{Net}
+use Rattle.graph.specs.Numbers.{edgeNumbers}
 use Rattle.grid.specs.Distance.{Square}
+use Rattle.grid.specs.Edges.{Edge}
+use Rattle.best.specs.Bounds.{workBound}
+use Rattle.best.specs.Tree.{BestTree}
 
 -- a graph: two lists and two counts
 pub record GraphHanded (t : Told (ℕ × ℕ)) (xs ys lent other : List ℤ) (v e : ℕ) (r : ℤ) (lent′ other′ : List ℤ) (v′ e′ : ℕ) : Type 0 where
@@ -25,7 +31,7 @@ pub record PathsHanded (t : Told (ℕ × ℤ)) (xs lent : List ℤ) (n : ℕ) (z
   pub count : n′ ≡ valueAfter (λ tree. tree .0) t n
   pub total : z′ ≡ valueAfter (λ tree. tree .1) t z
 
--- a refined tree: a list, a count, a total and the metal to lay
+-- a refined tree and a slid one: a list, a count, a total and the metal to lay
 pub record TreeHanded (t : Told (ℕ × (ℤ × ℤ))) (xs lent : List ℤ) (n : ℕ) (z l : ℤ) (r : ℤ) (lent′ : List ℤ) (n′ : ℕ) (z′ l′ : ℤ) : Type 0
   where
     pub answer : r ≡ pos (code t)
@@ -33,6 +39,14 @@ pub record TreeHanded (t : Told (ℕ × (ℤ × ℤ))) (xs lent : List ℤ) (n :
     pub count : n′ ≡ valueAfter (λ tree. tree .0) t n
     pub total : z′ ≡ valueAfter (λ tree. tree .1 .0) t z
     pub metal : l′ ≡ valueAfter (λ tree. tree .1 .1) t l
+
+-- a best tree: as a refined one, of the tree that the program has chosen, where `said T` is what is said if that is T; and the work
+pub record BestHanded (net : Net) (said : List Edge → Told (ℕ × (ℤ × ℤ))) (work : List ℕ) (lent : List ℤ) (n : ℕ) (z l : ℤ) (r : ℤ)
+    (work′ : List ℕ) (lent′ : List ℤ) (n′ : ℕ) (z′ l′ : ℤ) : Type 0 where
+  pub tree : List Edge
+  pub handed : TreeHanded (said tree) (flat edgeNumbers tree) lent n z l r lent′ n′ z′ l′
+  pub cleared : work′ ≡ after (said tree) (replicate workBound 0) work
+  pub best : (a : ℕ × (ℤ × ℤ)) → said tree ≡ given a → BestTree net tree
 
 -- wires, and a net file that is written: a list and a count
 pub record ListHanded {X : Type 0} (t : Told ℕ) (xs lent : List X) (n : ℕ) (r : ℤ) (lent′ : List X) (n′ : ℕ) : Type 0 where

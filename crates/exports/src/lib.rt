@@ -26,12 +26,13 @@ ghost use Rattle.router.specs.Refined.{laidOf, refinedTree};
 ghost use Rattle.router.specs.Slid.{slidOf, slidTree};
 ghost use Rattle.router.specs.Wires.{wiresOf, wired};
 ghost use Rattle.router.specs.Distances.{gridDistances};
+ghost use Rattle.router.specs.Best.{bestTree};
 ghost use Rattle.router.specs.Price.{netPrice};
 ghost use Rattle.router.specs.Bought.{checkedTree};
 ghost use Rattle.netfile.specs.Layout.{fileBytes};
 ghost use Rattle.netfile.specs.Write.{written};
 ghost use Rattle.netfile.specs.Read.{pinsIn, macrosIn, readFile};
-ghost use Rattle.exports.specs.Handed.{GraphHanded, PathsHanded, TreeHanded, ListHanded, SquareHanded};
+ghost use Rattle.exports.specs.Handed.{GraphHanded, PathsHanded, TreeHanded, BestHanded, ListHanded, SquareHanded};
 ghost use Rattle.exports.specs.Handed.{ChargeHanded, SumsHanded, NetHanded};
 
 // The two weights as one.
@@ -169,6 +170,37 @@ pub extern "C" fn calzundi_slid_tree(
 {
     let weights = weighing(x, y);
     let answer = router::slid_tree(weights, pins, macros, &mut *edges);
+    match answer {
+        TreeAnswer::Given(given, cost, length) => {
+            *count = given;
+            *total = cost;
+            *metal = length;
+            0
+        }
+        TreeAnswer::Refused(refusal) => refusal.number(),
+    }
+}
+
+// 0, the number of edges given, their total and the metal to lay, or the number of the refusal.
+#[no_mangle]
+pub extern "C" fn calzundi_best_tree(
+    pins: &[i32],
+    macros: &[i32],
+    x: i32,
+    y: i32,
+    work: &mut [u32],
+    edges: &mut [i32],
+    count: &mut usize,
+    total: &mut i64,
+    metal: &mut i64,
+) -> i32
+    ensures { λ r. ⌜ BestHanded (netOf (weighing x y) (now (pins .entry)) (now (macros .entry)))
+        (bestTree (weighing x y) (now (pins .entry)) (now (macros .entry)) (length (now (work .entry))) (length (now (edges .entry))))
+        (now (work .entry)) (now (edges .entry)) (now (count .entry)) (now (total .entry)) (now (metal .entry)) r
+        (now (work .exit)) (now (edges .exit)) (now (count .exit)) (now (total .exit)) (now (metal .exit)) ⌝ }
+{
+    let weights = weighing(x, y);
+    let answer = router::best_tree(weights, pins, macros, &mut *work, &mut *edges);
     match answer {
         TreeAnswer::Given(given, cost, length) => {
             *count = given;

@@ -52,7 +52,7 @@ module _ {A : Type 0} (G : List (A × A)) (d : A → A → ℕ) (cap : ℕ) (p :
 
 -- one pair less: what it was joined with is still joined with one of its ends
 module _ {A : Type 0} where
-  end-or-end : {F : List (A × A)} {v w p : A} (l : Link F v w) → Joined F v p → Joined (others l) v p ⊎ Joined (others l) w p
+  pub end-or-end : {F : List (A × A)} {v w p : A} (l : Link F v w) → Joined F v p → Joined (others l) v p ⊎ Joined (others l) w p
   unfolding others
   end-or-end (inl m) j = at (without m j)
     where

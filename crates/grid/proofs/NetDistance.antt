@@ -233,7 +233,7 @@ module _ {net : Net} (a : Allowed net) (few-pins : length (net .pins) ≤ gridPi
         of-sorted before (net .pins) (pinInOrder net i)
         (getD-in (pinsInOrder net) i (place (pos 0) (pos 0)) (omega (arith, h, order-count a)))
 
-    number-at : (i : ℕ) → i < length (net .pins) → getD numbers i 0 ≡ name (pinInOrder net i)
+    pub number-at : (i : ℕ) → i < length (net .pins) → getD numbers i 0 ≡ name (pinInOrder net i)
     unfolding over
     number-at i h =
         let l : i < length (pinsInOrder net) = omega (arith, h, order-count a) in

@@ -47,10 +47,10 @@ module _ {w : Weights} {pins macros : List ℤ} (s : Small w pins macros) where
   abbrev net : Net
   net = netWith w pins macros
 
-  pins-few : length (pinPlaces pins) ≤ gridPins
+  pub pins-few : length (pinPlaces pins) ≤ gridPins
   pins-few = omega (arith, s .few-pins, length-pins pins)
 
-  macros-few : length (macrosOf macros) ≤ gridMacros
+  pub macros-few : length (macrosOf macros) ≤ gridMacros
   macros-few = omega (arith, s .few-macros, length-macros macros)
 
   few-on : (axis : Axis) → length (linesOf axis (pinPlaces pins) (macrosOf macros)) ≤ lineBound
@@ -87,7 +87,7 @@ module _ {w : Weights} {pins macros : List ℤ} (s : Small w pins macros) where
       pub whole-fits : Fits costs e
       whole-fits = costs-fit (s .allowed) pins-few macros-few g xs ys costs e whole-few whole-priced count c
 
-      made : Made net g xs ys costs e
+      pub made : Made net g xs ys costs e
       made = record {
         x-count = lx .count;
         y-count = ly .count;
@@ -102,13 +102,13 @@ module _ {w : Weights} {pins macros : List ℤ} (s : Small w pins macros) where
       module _ (zeros numbers : List ℕ) (fresh : zeros ≡ replicate gridPins 0)
           (n : numbers ≡ over (map (crossingNumber (take (g .across) xs) (take (g .along) ys)) (sorted before (pinPlaces pins))) zeros)
         where
-          zero-at : (i : ℕ) → getD zeros i 0 ≡ 0
+          pub zero-at : (i : ℕ) → getD zeros i 0 ≡ 0
           zero-at i = ap (λ (t : List ℕ). getD t i 0) fresh ∙ zeros-read gridPins 0 i
 
-          zero-long : length zeros ≡ gridPins
+          pub zero-long : length zeros ≡ gridPins
           zero-long = ap length fresh ∙ length-replicate {A = ℕ} gridPins 0
 
-          renamed : numbers ≡ over (map (crossingNumber (linesOf Across (pinPlaces pins) (macrosOf macros))
+          pub renamed : numbers ≡ over (map (crossingNumber (linesOf Across (pinPlaces pins) (macrosOf macros))
               (linesOf Along (pinPlaces pins) (macrosOf macros)))
               (sorted before (pinPlaces pins))) zeros
           renamed =

@@ -5,10 +5,10 @@ use lib.Dec.{lit≤}
 use Rattle.net.specs.declared.Refusal.{Refusal}
 use Rattle.net.specs.declared.Refusal.the-variants.{Blocks, Sums, Layout, PinList, MacroList, Range, Sides, SamePlace, Overlap}
 use Rattle.net.specs.declared.Refusal.the-variants.{PinInside, WeightRange, Space, Bands, Reach, BandOrder, GridSize}
-use Rattle.net.specs.declared.Refusal.the-variants.{EdgeList, EdgeNotClear, NotATree}
+use Rattle.net.specs.declared.Refusal.the-variants.{EdgeList, EdgeNotClear, NotATree, BestSize}
 use Rattle.net.specs.Answer.{number}
 
-pub number-bounds : (f : Refusal) → (1 ≤ number f) × (number f ≤ 37)
+pub number-bounds : (f : Refusal) → (1 ≤ number f) × (number f ≤ 41)
 unfolding number
 number-bounds Blocks = (lit≤ tt, lit≤ tt)
 number-bounds Sums = (lit≤ tt, lit≤ tt)
@@ -29,3 +29,4 @@ number-bounds GridSize = (lit≤ tt, lit≤ tt)
 number-bounds EdgeList = (lit≤ tt, lit≤ tt)
 number-bounds EdgeNotClear = (lit≤ tt, lit≤ tt)
 number-bounds NotATree = (lit≤ tt, lit≤ tt)
+number-bounds BestSize = (lit≤ tt, lit≤ tt)

@@ -1,9 +1,9 @@
--- The number of each refusal: rules C1 to C37.
+-- The number of each refusal: rules C1 to C41.
 use Prim.Native.Nat.{ℕ}
 use Rattle.net.specs.declared.Refusal.{Refusal}
 use Rattle.net.specs.declared.Refusal.the-variants.{Blocks, Sums, Layout, PinList, MacroList, Range, Sides, SamePlace, Overlap}
 use Rattle.net.specs.declared.Refusal.the-variants.{PinInside, WeightRange, Space, Bands, Reach, BandOrder, GridSize}
-use Rattle.net.specs.declared.Refusal.the-variants.{EdgeList, EdgeNotClear, NotATree}
+use Rattle.net.specs.declared.Refusal.the-variants.{EdgeList, EdgeNotClear, NotATree, BestSize}
 
 unfoldable pub number : Refusal → ℕ
 number Blocks = 1
@@ -25,3 +25,4 @@ number GridSize = 36
 number EdgeList = 33
 number EdgeNotClear = 34
 number NotATree = 35
+number BestSize = 41

@@ -73,7 +73,7 @@ pub struct Weighing {
     pub second: i32,
 }
 
-// Why an operation refuses; `number` in specs/Answer.antt has the number of each (C1 to C37).
+// Why an operation refuses; `number` in specs/Answer.antt has the number of each (C1 to C41).
 pub enum Refusal {
     Blocks,
     Sums,
@@ -94,6 +94,7 @@ pub enum Refusal {
     EdgeList,
     EdgeNotClear,
     NotATree,
+    BestSize,
 }
 
 impl Refusal {
@@ -120,6 +121,7 @@ impl Refusal {
             Refusal::EdgeList => 33,
             Refusal::EdgeNotClear => 34,
             Refusal::NotATree => 35,
+            Refusal::BestSize => 41,
         }
     }
 }

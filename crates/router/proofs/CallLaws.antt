@@ -1,11 +1,11 @@
 -- Calls by the cases of their answer: what one refused call, one that gives, and one that only hands on another's answer must show.
 -- Assumes nothing.
-use mathlib.Core.Path.{_≡_, refl, sym, ap, _∙_, subst}
+use mathlib.Core.Path.{_≡_, refl, sym, ap, ap₂, _∙_, subst}
 use mathlib.Core.List.{List, [], map}
 use Prim.Native.Nat.{ℕ, _+_, _*_}
 use lib.Dec.{ltb}
 use lib.IntN.{ℤ, pos}
-use lib.ListN.{length}
+use lib.ListN.{length, replicate}
 use Rattle.lists.proofs.TestLaws.{by}
 use Rattle.lent.specs.Told.{Told, refused, given, onlyIf}
 use Rattle.lent.specs.Over.{over, after}
@@ -16,9 +16,14 @@ use Rattle.net.specs.declared.Weighing.{Weighing}
 use Rattle.net.specs.Answer.{number}
 use Rattle.net.specs.Pins.{pinCount}
 use Rattle.net.specs.Check.{checked}
-use Rattle.net.specs.Net.{Net}
+use Rattle.net.specs.Net.{Net, costIn}
+use Rattle.joined.specs.Cost.{lengths}
+use Rattle.plane.specs.Distance.{distance}
 use Rattle.graph.specs.Numbers.{edgeNumbers}
 use Rattle.grid.specs.Distance.{SquareOver}
+use Rattle.grid.specs.Edges.{Edge}
+use Rattle.best.specs.Bounds.{workBound}
+use Rattle.best.specs.Tree.{BestOver}
 use Rattle.router.specs.declared.DistanceAnswer.{DistanceAnswer}
 use Rattle.router.specs.Distances.{toldDistances}
 use Rattle.router.specs.declared.TreeAnswer.{TreeAnswer}
@@ -28,7 +33,7 @@ use Rattle.router.specs.Room.{ifRoom}
 use Rattle.router.specs.Graph.{pointCount}
 use Rattle.router.specs.Refined.{laidOf, refinedGiven, refinedTree, toldTree}
 use Rattle.router.specs.Both.{bothAnswer, bothGiven, bothTrees, toldBoth}
-use Rattle.router.specs.Call.{Gives, GivesTwo, GivesSquare, RefinedCall, BothCall}
+use Rattle.router.specs.Call.{Gives, GivesTwo, GivesSquare, GivesBest, RefinedCall, BothCall}
 
 module _ {A R X : Type 0} {saying : R → Told A} {t : Told A} {xs lent : List X} {r : R} where
   -- refused, and nothing altered
@@ -75,6 +80,42 @@ module _ {net : Net} {t : Told ℕ} {lent : List ℤ} {r : DistanceAnswer} where
 
   pub square-as : {u : Told ℕ} {lent′ : List ℤ} → t ≡ u → GivesSquare net t lent r lent′ → GivesSquare net u lent r lent′
   square-as {lent′ = lent′} e g = subst (λ (z : Told ℕ). GivesSquare net z lent r lent′) e g
+
+module _ {net : Net} {said : List Edge → Told (ℕ × (ℤ × ℤ))} {work : List ℕ} {lent : List ℤ} {r : TreeAnswer} where
+  pub best-refused : {n : ℕ} → toldTree r ≡ refused n → said [] ≡ refused n → GivesBest net said work lent r work lent
+  best-refused {n} s e = record {
+    tree = [];
+    answer = s ∙ sym e;
+    list = after-refused (said []) (flat edgeNumbers []) lent n e;
+    cleared = after-refused (said []) (replicate workBound 0) work n e;
+    best = λ a g. told-apart n a (sym e ∙ g);
+  }
+
+  pub best-given : {work′ : List ℕ} {lent′ : List ℤ} {count total metal : ℕ} (o : BestOver net lent lent′ count total metal) →
+      toldTree r ≡ given (count, (pos total, pos metal)) →
+      said (o .tree) ≡ given (length (o .tree), (pos (lengths (costIn net) (o .tree)), pos (lengths distance (o .tree)))) →
+      work′ ≡ over (replicate workBound 0) work → GivesBest net said work lent r work′ lent′
+  best-given o s e z = record {
+    tree = o .tree;
+    answer =
+        s
+        ∙ ap₂ (λ (n : ℕ) (sums : ℤ × ℤ). given (n, sums)) (o .count)
+        (ap₂ (λ (t m : ℕ). (pos t, pos m)) (o .cost) (o .plain))
+        ∙ sym e;
+    list = o .list ∙ after-given (said (o .tree)) (flat edgeNumbers (o .tree)) lent _ e;
+    cleared = z ∙ after-given (said (o .tree)) (replicate workBound 0) work _ e;
+    best = λ a g. o .is-best;
+  }
+
+  pub best-as : {other : List Edge → Told (ℕ × (ℤ × ℤ))} {work′ : List ℕ} {lent′ : List ℤ} → ((T : List Edge) → said T ≡ other T) →
+      GivesBest net said work lent r work′ lent′ → GivesBest net other work lent r work′ lent′
+  best-as e g = record {
+    tree = g .tree;
+    answer = g .answer ∙ e (g .tree);
+    list = g .list ∙ ap (λ (t : Told (ℕ × (ℤ × ℤ))). after t (flat edgeNumbers (g .tree)) lent) (e (g .tree));
+    cleared = g .cleared ∙ ap (λ (t : Told (ℕ × (ℤ × ℤ))). after t (replicate workBound 0) work) (e (g .tree));
+    best = λ a h. g .best a (e (g .tree) ∙ h);
+  }
 
 -- Both trees answered, and of that the refined tree alone
 

@@ -2,19 +2,20 @@
 -- trees of one order are trees of the other by the rules, which speak of no order, and there is only one solution (`trees-same`).
 -- Assumes nothing.
 use mathlib.Core.Path.{_≡_, refl, sym, ap, ap₂, _∙_}
-use mathlib.Core.Bool.{cond, _||_}
+use mathlib.Core.Bool.{Bool, true, false, cond, _||_}
 use mathlib.Core.Logic.{∥∥₁-elim}
 use mathlib.Core.List.{List, map, List·Permᴰ, Permᴰ·symm}
 use Prim.Native.Nat.{ℕ, _+_, _*_, _/_}
+use native.Mathlib.Nat.{ℕ-set}
 use lib.Dec.{ltb}
 use lib.IntN.{ℤ, pos}
-use lib.ListN.{length}
+use lib.ListN.{length, replicate}
 use Rattle.lists.specs.Sorted.{Order, firstThen}
 use Rattle.lists.specs.Total.{total}
 use Rattle.lists.proofs.AnyOrder.{length-perm}
 use Rattle.lists.proofs.OrderLaws.{number-order, pair-order}
 use Rattle.lists.proofs.PermLaws.{perm-among, order-lists-set}
-use Rattle.lent.specs.Told.{Told, refused, given, onlyIf}
+use Rattle.lent.specs.Told.{Told, refused, given, code, onlyIf}
 use Rattle.lent.specs.Over.{after}
 use Rattle.lent.specs.Entries.{flat}
 use Rattle.lent.proofs.AfterLaws.{after-refused}
@@ -27,7 +28,7 @@ use Rattle.net.specs.Bounds.{macroWidth}
 use Rattle.net.specs.declared.Weighing.{Weighing}
 use Rattle.net.specs.Net.{netOf, weightsOf, costIn}
 use Rattle.net.specs.Allowed.{Allowed}
-use Rattle.net.specs.Pins.{pinCount, pinPlaces}
+use Rattle.net.specs.Pins.{pinCount, macroCount, pinPlaces}
 use Rattle.net.proofs.PinLaws.{same-pins as as-many}
 use Rattle.net.specs.Check.{checked}
 use Rattle.net.proofs.AllowedLaws.{given-allowed}
@@ -62,12 +63,37 @@ use Rattle.grid.specs.Bounds.{gridPins, gridMacros}
 use Rattle.grid.specs.Distance.{Square}
 use Rattle.grid.proofs.SquareLaws.{SameGround, squares-same}
 use Rattle.router.specs.Distances.{aboveGrid, distancesGiven, gridDistances}
+use Rattle.best.specs.Bounds.{bestPins, workBound}
+use Rattle.best.specs.Tree.{BestTree}
+use Rattle.best.proofs.OrderLaws.{best-any-order}
+use Rattle.router.specs.Best.{aboveBest, bestNumbers, bestRoomShort, bestAnswer, bestGiven, bestTree}
 use Rattle.router.specs.EveryOrder.{SameForBoth}
 use Rattle.router.proofs.AnswerLaws.{only-refused}
 
 -- bridges with lengths, in an order
 given-order : Order (firstThen edgeBefore ltb)
 given-order = pair-order edgeBefore ltb edge-order number-order
+
+-- an answer by its refusals, and by what is given: the number of the refusal, and a list that holds the same in each success, do not
+-- depend on what is given
+
+abbrev shown : {A : Type 0} → Told Counts → Bool → Bool → A → Told A
+shown c above short a = onlyIf c (cond above (refused 41) (cond short (refused 21) (given a)))
+
+shown-code : {A : Type 0} (c : Told Counts) (above short : Bool) (a b : A) → code (shown c above short a) ≡ code (shown c above short b)
+unfolding code onlyIf
+shown-code (refused n) above short a b = refl
+shown-code (given net) true short a b = refl
+shown-code (given net) false true a b = refl
+shown-code (given net) false false a b = refl
+
+shown-after : {A X : Type 0} (c : Told Counts) (above short : Bool) (a b : A) (xs lent : List X) →
+    after (shown c above short a) xs lent ≡ after (shown c above short b) xs lent
+unfolding after onlyIf
+shown-after (refused n) above short a b xs lent = refl
+shown-after (given net) true short a b xs lent = refl
+shown-after (given net) false true a b xs lent = refl
+shown-after (given net) false false a b xs lent = refl
 
 module _ (w : Weighing) (pins pins′ macros macros′ : List ℤ) (p : SamePins pins pins′) (q : SameMacros macros macros′) where
   same-check : checked w pins macros ≡ checked w pins′ macros′
@@ -78,11 +104,57 @@ module _ (w : Weighing) (pins pins′ macros macros′ : List ℤ) (p : SamePins
   same-pins : pinCount pins ≡ pinCount pins′
   same-pins = as-many pins pins′ (p .many)
 
+  same-macros : macroCount macros ≡ macroCount macros′
+  same-macros = ap (λ (k : ℕ). k / macroWidth) (q .many)
+
   same-points : pointCount pins macros ≡ pointCount pins′ macros′
   same-points = ap₂ (λ (a b : ℕ). a + b / macroWidth * 4) same-pins (q .many)
 
   same-room : pointCount pins macros + pinCount pins ≡ pointCount pins′ macros′ + pinCount pins′
   same-room = ap₂ _+_ same-points same-pins
+
+  -- by the rules the two nets are alike
+  alike : List·Permᴰ (pinPlaces pins) (pinPlaces pins′) → List·Permᴰ (macrosOf macros) (macrosOf macros′) →
+      SameNet (weightsOf w) (pinPlaces pins) (pinPlaces pins′) (macrosOf macros) (macrosOf macros′)
+  alike d e = record {
+    to = perm-among d;
+    from = perm-among (Permᴰ·symm d);
+    count = length-perm _ _ (p .order);
+    macros-to = perm-among e;
+    macros-from = perm-among (Permᴰ·symm e);
+    clears = λ x y. clear-perm x y _ _ (q .order);
+  }
+
+  -- Best trees: which is given is left to the program, and neither the refusal nor the work tells
+
+  same-best : (work room : ℕ) (T : List Edge) → bestTree w pins macros work room T
+      ≡ shown (checked w pins′ macros′) (aboveBest pins′ macros′) (bestRoomShort (bestNumbers pins′ macros′) work room)
+      (bestAnswer w pins macros T)
+  unfolding bestTree bestGiven aboveBest
+  same-best work room T =
+      ap₂ onlyIf same-check
+      (ap₂ (λ (m k : ℕ). cond (ltb bestPins m || ltb gridMacros k) (refused 41)
+      (cond (bestRoomShort ((m + k * 2) * (m + k * 2) * 4) work room) (refused 21) (given (bestAnswer w pins macros T))))
+      same-pins same-macros)
+
+  same-code : (T U : List Edge) (work room : ℕ) → code (bestTree w pins macros work room T) ≡ code (bestTree w pins′ macros′ work room U)
+  unfolding bestTree bestGiven
+  same-code T U work room = ap code (same-best work room T) ∙ shown-code (checked w pins′ macros′) (aboveBest pins′ macros′)
+      (bestRoomShort (bestNumbers pins′ macros′) work room) (bestAnswer w pins macros T) (bestAnswer w pins′ macros′ U)
+
+  same-work : (T U : List Edge) (work room : ℕ) (lent : List ℕ) → after (bestTree w pins macros work room T) (replicate workBound 0) lent
+      ≡ after (bestTree w pins′ macros′ work room U) (replicate workBound 0) lent
+  unfolding bestTree bestGiven
+  same-work T U work room lent =
+      ap (λ (t : Told (ℕ × (ℤ × ℤ))). after t (replicate workBound 0) lent) (same-best work room T)
+      ∙ shown-after (checked w pins′ macros′) (aboveBest pins′ macros′) (bestRoomShort (bestNumbers pins′ macros′) work room)
+      (bestAnswer w pins macros T) (bestAnswer w pins′ macros′ U) (replicate workBound 0) lent
+
+  same-best-cost : (T U : List Edge) → BestTree (netOf w pins macros) T → BestTree (netOf w pins′ macros′) U →
+      lengths (costIn (netOf w pins macros)) T ≡ lengths (costIn (netOf w pins′ macros′)) U
+  same-best-cost T U t u =
+      ∥∥₁-elim (p .order) (ℕ-set _ _) λ d.
+      ∥∥₁-elim (q .order) (ℕ-set _ _) λ e. best-any-order (alike d e) T U (t .best) (u .best)
 
   -- Refused
 
@@ -114,6 +186,9 @@ module _ (w : Weighing) (pins pins′ macros macros′ : List ℤ) (p : SamePins
       distances = λ room. both _ _;
       table = λ t u s r room lent. untouched _ _ _ _ lent;
       bought = λ edges edges′ s. both _ _;
+      best = same-code;
+      best-work = same-work;
+      best-cost = same-best-cost;
     }
 
   -- Allowed
@@ -124,18 +199,6 @@ module _ (w : Weighing) (pins pins′ macros macros′ : List ℤ) (p : SamePins
 
     b : Allowed (netOf w pins′ macros′)
     b = given-allowed w pins′ macros′ (sym same-check ∙ g) .1
-
-    -- by the rules the two nets are alike
-    alike : List·Permᴰ (pinPlaces pins) (pinPlaces pins′) → List·Permᴰ (macrosOf macros) (macrosOf macros′) →
-        SameNet (weightsOf w) (pinPlaces pins) (pinPlaces pins′) (macrosOf macros) (macrosOf macros′)
-    alike d e = record {
-      to = perm-among d;
-      from = perm-among (Permᴰ·symm d);
-      count = length-perm _ _ (p .order);
-      macros-to = perm-among e;
-      macros-from = perm-among (Permᴰ·symm e);
-      clears = λ x y. clear-perm x y _ _ (q .order);
-    }
 
     same-vertices : netVertices w pins macros ≡ netVertices w pins′ macros′
     unfolding netVertices
@@ -226,7 +289,7 @@ module _ (w : Weighing) (pins pins′ macros macros′ : List ℤ) (p : SamePins
     same-distances room =
         ap₂ onlyIf same-check
         (ap₂ (λ (m k : ℕ). cond (ltb gridPins m || ltb gridMacros k) (refused 36) (ifRoom (m * m) room (m * m))) same-pins
-        (ap (λ (k : ℕ). k / macroWidth) (q .many)))
+        same-macros)
 
     -- a walk in clear unit steps knows no order of the lists
     same-table : (t u : List ℕ) → Square (netOf w pins macros) t → Square (netOf w pins′ macros′) u → t ≡ u
@@ -265,6 +328,9 @@ module _ (w : Weighing) (pins pins′ macros macros′ : List ℤ) (p : SamePins
       distances = same-distances;
       table = λ t u s r room lent. ap₂ (λ (z : Told ℕ) (l : List ℕ). after z (map pos l) lent) (same-distances room) (same-table t u s r);
       bought = same-checked;
+      best = same-code;
+      best-work = same-work;
+      best-cost = same-best-cost;
     }
 
   pub every-order : SameForBoth w pins pins′ macros macros′

@@ -6,10 +6,12 @@ pub mod FreshTables
 pub mod RefinedLaws
 pub mod Distances
 pub mod PriceLaws
+pub mod BestLaws
 pub mod EveryOrder
 pub mod WorkedNets
 pub mod WorkedPrices
 pub mod WorkedBought
+pub mod WorkedBest
 pub mod Published
 pub mod FirstRelease
 pub mod SlidLaws

@@ -3,7 +3,7 @@ use mathlib.Core.Path.{_≡_}
 use mathlib.Core.List.{List, map}
 use Prim.Native.Nat.{ℕ}
 use lib.IntN.{ℤ, pos}
-use lib.ListN.{length}
+use lib.ListN.{length, replicate}
 use Rattle.lent.specs.Told.{Told, given}
 use Rattle.lent.specs.Over.{after}
 use Rattle.lent.specs.Entries.{flat}
@@ -18,6 +18,9 @@ use Rattle.netfile.specs.Read.{pinsIn, macrosIn, readFile}
 use Rattle.graph.specs.Numbers.{placeNumbers, edgeNumbers}
 use Rattle.terminal.specs.Tree.{pathNumbers}
 use Rattle.grid.specs.Distance.{Square}
+use Rattle.grid.specs.Edges.{Edge}
+use Rattle.best.specs.Bounds.{workBound}
+use Rattle.best.specs.Tree.{BestTree}
 use Rattle.router.specs.declared.Graphed.{Graphed}
 use Rattle.router.specs.declared.TerminalAnswer.{TerminalAnswer}
 use Rattle.router.specs.declared.TreeAnswer.{TreeAnswer}
@@ -51,6 +54,16 @@ pub record GivesSquare (net : Net) (t : Told ℕ) (lent : List ℤ) (r : Distanc
   pub answer : toldDistances r ≡ t
   pub list : lent′ ≡ after t (map pos numbers) lent
   pub square : (n : ℕ) → t ≡ given n → Square net numbers
+
+-- the same where what is given is one of several trees, and which of them is left to the program (L12): `said T` is what is said where the
+-- tree is T. The work that was lent is cleared (L16)
+pub record GivesBest (net : Net) (said : List Edge → Told (ℕ × (ℤ × ℤ))) (work : List ℕ) (lent : List ℤ) (r : TreeAnswer)
+    (work′ : List ℕ) (lent′ : List ℤ) : Type 0 where
+  pub tree : List Edge
+  pub answer : toldTree r ≡ said tree
+  pub list : lent′ ≡ after (said tree) (flat edgeNumbers tree) lent
+  pub cleared : work′ ≡ after (said tree) (replicate workBound 0) work
+  pub best : (a : ℕ × (ℤ × ℤ)) → said tree ≡ given a → BestTree net tree
 
 -- What each operation says of two weights, two lists and the room that was lent
 
@@ -93,6 +106,12 @@ WiresCall said w pins macros wires r wires′ =
 abbrev pub DistancesCall : Saying ℕ → (w : Weighing) (pins macros table : List ℤ) → DistanceAnswer → List ℤ → Type 0
 DistancesCall said w pins macros table r table′ =
     GivesSquare (netOf w pins macros) (said w pins macros (length table)) table r table′
+
+-- C87, C88: a best tree
+abbrev pub BestCall : (Weighing → List ℤ → List ℤ → ℕ → ℕ → List Edge → Told (ℕ × (ℤ × ℤ))) → (w : Weighing) (pins macros : List ℤ)
+    (work : List ℕ) (edges : List ℤ) → TreeAnswer → List ℕ → List ℤ → Type 0
+BestCall said w pins macros work edges r work′ edges′ =
+    GivesBest (netOf w pins macros) (said w pins macros (length work) (length edges)) work edges r work′ edges′
 
 -- C69, C70: a net file written
 abbrev pub WriteCall : (w : Weighing) (pins macros : List ℤ) (bytes : List ℕ) → Written → List ℕ → Type 0

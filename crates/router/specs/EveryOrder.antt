@@ -4,14 +4,20 @@ use mathlib.Core.Path.{_≡_}
 use mathlib.Core.List.{List, map}
 use Prim.Native.Nat.{ℕ}
 use lib.IntN.{ℤ, pos}
+use lib.ListN.{replicate}
+use Rattle.lent.specs.Told.{code}
 use Rattle.lent.specs.Over.{after}
 use Rattle.lent.specs.Entries.{flat}
 use Rattle.net.specs.declared.Weighing.{Weighing}
-use Rattle.net.specs.Net.{netOf}
+use Rattle.net.specs.Net.{netOf, costIn}
 use Rattle.net.specs.Check.{checked}
 use Rattle.graph.specs.Numbers.{placeNumbers, edgeNumbers}
 use Rattle.terminal.specs.Tree.{pathNumbers}
+use Rattle.joined.specs.Cost.{lengths}
 use Rattle.grid.specs.Distance.{Square}
+use Rattle.grid.specs.Edges.{Edge}
+use Rattle.best.specs.Bounds.{workBound}
+use Rattle.best.specs.Tree.{BestTree}
 use Rattle.bought.specs.Rearranged.{SameEdges}
 use Rattle.router.specs.Graph.{netVertices, netEdges, graphed}
 use Rattle.router.specs.Terminal.{pathsOf, terminalTree}
@@ -21,6 +27,7 @@ use Rattle.router.specs.Wires.{wiresOf, wired}
 use Rattle.router.specs.Distances.{gridDistances}
 use Rattle.router.specs.Price.{netPrice}
 use Rattle.router.specs.Bought.{checkedTree}
+use Rattle.router.specs.Best.{bestTree}
 
 pub record SameForBoth (w : Weighing) (pins pins′ macros macros′ : List ℤ) : Type 0 where
   pub check : checked w pins macros ≡ checked w pins′ macros′
@@ -47,3 +54,10 @@ pub record SameForBoth (w : Weighing) (pins pins′ macros macros′ : List ℤ)
       after (gridDistances w pins macros room) (map pos t) lent ≡ after (gridDistances w pins′ macros′ room) (map pos u) lent
   -- and the edges of a bought-in tree in any order, each from either end
   pub bought : (edges edges′ : List ℤ) → SameEdges edges edges′ → checkedTree w pins macros edges ≡ checkedTree w pins′ macros′ edges′
+  -- L15: which best trees T and U are given is left to the program; the refusal, the work and what the trees cost are the same
+  pub best : (T U : List Edge) (work room : ℕ) → code (bestTree w pins macros work room T) ≡ code (bestTree w pins′ macros′ work room U)
+  pub best-work : (T U : List Edge) (work room : ℕ) (lent : List ℕ)
+      → after (bestTree w pins macros work room T) (replicate workBound 0) lent
+      ≡ after (bestTree w pins′ macros′ work room U) (replicate workBound 0) lent
+  pub best-cost : (T U : List Edge) → BestTree (netOf w pins macros) T → BestTree (netOf w pins′ macros′) U
+      → lengths (costIn (netOf w pins macros)) T ≡ lengths (costIn (netOf w pins′ macros′)) U

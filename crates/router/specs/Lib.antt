@@ -22,12 +22,15 @@
 --   Distances    gridDistances w pins macros r        the answer of distances on the grid into r lent numbers
 --                toldDistances r                      what the code's answer says
 --                PromisedDistances w pins macros      what is promised of the table of an allowed net
+--   Best         bestTree w pins macros work r T      the answer of a best tree into so much lent work and r lent numbers, if it is T
+--                PromisedBest w pins macros           what is promised of the best tree of an allowed net, whichever is given
 --   Price        netPrice w pins macros bands         the answer of a price by a list of bands
 --                NeverLess bands                      of two nets that the list prices, the one with more metal is charged no less
 --   Bought       checkedTree w pins macros edges      the answer of the check of a bought-in tree
 --                PromisedCheck w pins macros          what is promised of it for an allowed net
 --   Call         Gives, GivesTwo                      what a call answers and leaves in one lent list, in two: the contracts
 --                GivesSquare                          the same of a table whose numbers are fixed by what they mean
+--                GivesBest                            the same of a best tree, where which one is left to the program
 --   Published    Promised w pins macros               all that is promised of an allowed net: the trees of the rules, the only ones, and D3
 --   EveryOrder   SameForBoth                          what two calls have in common whose lists have the same entries in another order
 --   FirstRelease AsFirst pins macros                  with weights 1 and 1 every cost is a length, and files are those of the first release
@@ -42,6 +45,7 @@ pub mod Wires
 pub mod Distances
 pub mod Price
 pub mod Bought
+pub mod Best
 pub mod Call
 pub mod Published
 pub mod EveryOrder

@@ -6,6 +6,7 @@ use crate::TerminalAnswer;
 use crate::TreeAnswer;
 use crate::Trees;
 use crate::Wired;
+use best::Best;
 use grid::Grid;
 use net::Net;
 use net::Refusal;
@@ -34,7 +35,8 @@ ghost use Rattle.laid.specs.Edges.{edgesOf, laidBound};
 ghost use Rattle.router.specs.Slid.{slidOf, slidGiven};
 ghost use Rattle.router.specs.Wires.{wiresGiven};
 ghost use Rattle.router.specs.Distances.{distancesGiven};
-ghost use Rattle.router.specs.Call.{GraphCall, TerminalCall, BothCall, SlidCall, WiresCall, DistancesCall};
+ghost use Rattle.router.specs.Best.{bestGiven};
+ghost use Rattle.router.specs.Call.{GraphCall, TerminalCall, BothCall, SlidCall, WiresCall, DistancesCall, BestCall};
 
 // The graph.
 pub fn graph(
@@ -280,4 +282,28 @@ pub fn grid_distances(net: Net, pins: &[i32], macros: &[i32], table: &mut [i64])
     }
     grid::distances(net.weights, pins, macros, &mut *table);
     DistanceAnswer::Given(n)
+}
+
+// A best tree.
+pub fn best_tree(
+    net: Net,
+    pins: &[i32],
+    macros: &[i32],
+    work: &mut [u32],
+    edges: &mut [i32],
+) -> TreeAnswer
+    requires { ⌜ Counted net (handed (net .weights)) (now pins) (now macros) ⌝ }
+    ensures { λ r. ⌜ BestCall bestGiven (handed (net .weights)) (now (pins .entry)) (now (macros .entry)) (now (work .entry))
+        (now (edges .entry)) r (now (work .exit)) (now (edges .exit)) ⌝ }
+{
+    if (Best::PINS < net.pins) | (Grid::MACROS < net.macros) {
+        return TreeAnswer::Refused(Refusal::BestSize);
+    }
+    let lines = net.pins + net.macros * 2;
+    let n = lines * lines * 4;
+    if (work.len() < Best::WORK) | (edges.len() < n) {
+        return TreeAnswer::Refused(Refusal::Space);
+    }
+    let best = best::best_tree(net.weights, pins, macros, &mut *work, &mut *edges);
+    TreeAnswer::Given(best.edges, best.total as i64, best.metal as i64)
 }

@@ -23,10 +23,11 @@ ghost use Rattle.router.specs.Both.{bothTrees};
 ghost use Rattle.router.specs.Slid.{slidTree};
 ghost use Rattle.router.specs.Wires.{wired};
 ghost use Rattle.router.specs.Distances.{gridDistances};
+ghost use Rattle.router.specs.Best.{bestTree};
 ghost use Rattle.router.specs.Price.{netPrice};
 ghost use Rattle.router.specs.Bought.{checkedTree};
 ghost use Rattle.router.specs.Call.{GraphCall, TerminalCall, RefinedCall, BothCall, SlidCall, WiresCall, DistancesCall};
-ghost use Rattle.router.specs.Call.{WriteCall, ReadCall};
+ghost use Rattle.router.specs.Call.{BestCall, WriteCall, ReadCall};
 
 // The answer of a graph: how many vertices and how many edges were given.
 pub enum Graphed {
@@ -40,7 +41,7 @@ pub enum TerminalAnswer {
     Refused(Refusal),
 }
 
-// The answer of a refined tree and of a slid tree: how many edges were given, their total, and the metal to lay.
+// The answer of a refined tree, of a slid tree and of a best tree: how many edges were given, their total, and the metal to lay.
 pub enum TreeAnswer {
     Given(usize, i64, i64),
     Refused(Refusal),
@@ -175,6 +176,28 @@ pub fn grid_distances(
     match answer {
         Checked::Allowed(net) => allowed::grid_distances(net, pins, macros, &mut *table),
         Checked::Refused(refusal) => DistanceAnswer::Refused(refusal),
+    }
+}
+
+// Best tree: of up to five pins and sixteen macros, the edges in order of a tree along the grid, how many there are, their total and the
+// metal to lay, or 11 to 18, then 41 for a larger net, then 21 where fewer than 65,536 numbers of work are lent, or fewer than 4(m + 2k)²
+// for the edges. Which tree, where several cost the same, is left to the program, and the contract says so; that no edges of the grid that
+// join all pins cost less, that the check of bought-in trees passes it, and that the refined tree is never cheaper: `PromisedBest`
+// (specs/Best.antt). Of the work the first 65,536 numbers are then 0 and the others as they were.
+pub fn best_tree(
+    w: Weighing,
+    pins: &[i32],
+    macros: &[i32],
+    work: &mut [u32],
+    edges: &mut [i32],
+) -> TreeAnswer
+    ensures { λ r. ⌜ BestCall bestTree w (now (pins .entry)) (now (macros .entry)) (now (work .entry)) (now (edges .entry)) r
+        (now (work .exit)) (now (edges .exit)) ⌝ }
+{
+    let answer = net::check(w, pins, macros);
+    match answer {
+        Checked::Allowed(net) => allowed::best_tree(net, pins, macros, &mut *work, &mut *edges),
+        Checked::Refused(refusal) => TreeAnswer::Refused(refusal),
     }
 }
 

@@ -6,13 +6,14 @@ use std::io::Write;
 use std::process::ExitCode;
 
 use harness::library;
+use reference::best;
 use reference::generate::{half, net, Kind};
 use reference::lists::Lists;
 use reference::operations;
 
 const HELP: &str = "\
-bench graph|terminal|refined|slid|distances|file|nothing proved|second random|bars|combs|clusters SIZE TIMES
-one operation of one program on a net of SIZE pins and SIZE macros";
+bench graph|terminal|refined|slid|distances|best|file|nothing proved|second random|bars|combs|clusters SIZE TIMES
+one operation of one program on a net of SIZE pins and SIZE macros, of which best takes 5 pins";
 
 /// SIZE pins and SIZE macros with weights 1 and 1, of a kind: random ones are the first of a largest net, still allowed, since taking
 /// entries away breaks no rule; up to 64 of the net that was the largest once, so that counts can be held to those of earlier landings.
@@ -134,6 +135,18 @@ fn run(operation: &str, program: &str, lists: &Lists) -> Option<u64> {
                 operations::grid_distances
             };
             call(pins, macros, weights, &mut vec![0; m * m])
+        }
+        "best" => {
+            let pins = &pins[..pins.len().min(2 * best::PINS)];
+            let numbers = best::edge_numbers(pins.len() / 2, macros.len() / 4);
+            if is_proved {
+                let (mut work, mut edges) = (vec![0; best::WORK], vec![0; numbers]);
+                library::best_tree(pins, macros, weights, &mut work, &mut edges)
+                    .map(|(edges, ..)| edges)
+            } else {
+                operations::best_cost(pins, macros, weights, best::WORK, numbers)
+                    .map(|cost| usize::from(cost > 0))
+            }
         }
         "nothing" => Ok(0),
         _ => return None,

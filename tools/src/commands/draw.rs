@@ -25,6 +25,7 @@ thin to be seen is drawn apart, and the caption says so.
     --html          a page instead, for a browser: layers to switch on and off (graph, terminal tree, refined tree, wires) and tables
                     whose entries light up in the picture; PAGE#edge-3 shows the third edge lit
     --slid          the refined and the slid tree instead, which `calzundi slide` prints
+    --best          the refined and a best tree, which `calzundi best` prints, of a net of up to 5 pins and 16 macros
     --tree FILE     the refined tree and one of another router, as `calzundi verify` takes it: it must pass for this net
     --routed FILE   what `route` or `calzundi route` printed: it must be this net's, line for line
 
@@ -46,6 +47,10 @@ pub const COMMAND: Command = Command {
         },
         Switch {
             name: "--slid",
+            value: None,
+        },
+        Switch {
+            name: "--best",
             value: None,
         },
         Switch {
@@ -78,9 +83,10 @@ fn svg_beside(net: &Net, name: &'static str, tree: Tree) -> Result<String, Refus
 
 fn draw(words: &Words) -> Result<(), Failure> {
     let from = words.files.first();
-    let chosen = ["--html", "--slid", "--tree"].map(|option| words.has(option));
+    let chosen = ["--html", "--slid", "--best", "--tree"].map(|option| words.has(option));
     if chosen.iter().filter(|option| **option).count() > 1 {
-        let several = "--html, --slid and --tree each draw something else; take one of them";
+        let several =
+            "--html, --slid, --best and --tree each draw something else; take one of them";
         return Err(Failure::Usage(several.into()));
     }
     let [printed, tree] =
@@ -98,9 +104,12 @@ fn draw(words: &Words) -> Result<(), Failure> {
     }
     let picture = match (chosen, &tree) {
         ([true, ..], _) => html(&source.name, net),
-        ([_, true, _], _) => net
+        ([_, true, ..], _) => net
             .slid_tree()
             .and_then(|tree| svg_beside(net, "slid tree", tree)),
+        ([_, _, true, _], _) => net
+            .best_tree()
+            .and_then(|tree| svg_beside(net, "best tree", tree)),
         (_, Some(tree)) => svg_beside(net, "tree of another router", passed(&source, tree)?),
         _ => svg(net),
     };

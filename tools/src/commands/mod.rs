@@ -3,6 +3,7 @@
 use crate::program::Command;
 
 mod batch;
+mod best;
 mod check;
 mod compare;
 mod distances;
@@ -21,6 +22,7 @@ pub const ALL: &[Command] = &[
     check::COMMAND,
     route::COMMAND,
     slide::COMMAND,
+    best::COMMAND,
     verify::COMMAND,
     draw::COMMAND,
     compare::COMMAND,

@@ -11,8 +11,8 @@ const HELP: &str = "\
 calzundi verify NET TREE: says whether a tree of another router passes for a net
 
 NET is text or a net file. TREE has one edge a line, the four numbers of its two places, either one first; a cost may stand behind them, and
-a first line that begins with `pins` is passed over: so what `route` and `slide` print is a tree too. Blank lines are allowed, and # makes
-the rest of its line a comment. One of the two may be -, standard input.
+a first line that begins with `pins` is passed over: so what `route`, `slide` and `best` print is a tree too. Blank lines are allowed,
+and # makes the rest of its line a comment. One of the two may be -, standard input.
 
     calzundi verify net.txt tree.txt
     calzundi route net.txt | calzundi verify net.txt -

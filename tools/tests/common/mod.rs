@@ -11,10 +11,11 @@ use reference::generate::Kind;
 use reference::lists::Lists;
 
 pub const CALZUNDI: &str = env!("CARGO_BIN_EXE_calzundi");
-pub const COMMANDS: [&str; 11] = [
+pub const COMMANDS: [&str; 12] = [
     "check",
     "route",
     "slide",
+    "best",
     "verify",
     "draw",
     "compare",

@@ -1,0 +1,54 @@
+-- What is promised of the number that a call gives as the cost of its tree (L11, L14, L15), and how many edges there can be.
+-- Assumes nothing.
+use mathlib.Core.Path.{_≡_}
+use mathlib.Core.List.{List}
+use Prim.Native.Nat.{ℕ, _+_, _*_, _≤_, _<_}
+use native.Mathlib.Nat.{mul-le-mul}
+use native.Mathlib.Omega.{arith}
+use lib.IntN.{ℤ}
+use lib.ListN.{length}
+use Rattle.joined.specs.Cost.{lengths}
+use Rattle.plane.specs.declared.Place.{Place}
+use Rattle.plane.specs.declared.Macro.{Macro}
+use Rattle.plane.specs.declared.Weights.{Weights}
+use Rattle.net.specs.Net.{Net, costIn}
+use Rattle.net.specs.Allowed.{Allowed}
+use Rattle.grid.specs.declared.Axis.the-variants.{Across, Along}
+use Rattle.grid.specs.Bounds.{gridMacros}
+use Rattle.grid.specs.Lines.{xLines, yLines}
+use Rattle.grid.specs.Edges.{Edge}
+use Rattle.grid.proofs.GridCost.{line-count}
+use Rattle.rules.specs.Terminal.{Path}
+use Rattle.rules.specs.Trees.{Trees}
+use Rattle.rules.proofs.TreesOrder.{netBy, SameNet}
+use Rattle.best.specs.Bounds.{bestPins}
+use Rattle.best.specs.Tree.{JoinsPins, IsBest, BestOver}
+use Rattle.best.proofs.OrderLaws.{best-any-order}
+use Rattle.best.proofs.RefinedLaws.{refined-not-cheaper}
+
+module _ {net : Net} {lent lent′ : List ℤ} {edges total metal : ℕ} (b : BestOver net lent lent′ edges total metal) where
+  -- L11: no edges of the grid that join all pins cost less
+  pub total-least : (F : List Edge) → JoinsPins net F → total ≤ lengths (costIn net) F
+  total-least F j = let r = b .is-best .best .least F j in omega (arith, r, b .cost)
+
+  -- L14: nor does the refined tree
+  pub total-refined : Allowed net → {vs : List Place} {es : List Edge} {ks : List Path} {rs : List Edge} → Trees net vs es ks rs →
+      total ≤ lengths (costIn net) rs
+  total-refined a t = let r = refined-not-cheaper a (b .is-best .best) t in omega (arith, r, b .cost)
+
+-- L15: the cost is the same for every order of the lists
+pub total-any-order : {W : Weights} {ps qs : List Place} {ms ns : List Macro} → SameNet W ps qs ms ns →
+    {lent lent′ other other′ : List ℤ} {m n t u x y : ℕ} → BestOver (netBy W ps ms) lent lent′ m t x → BestOver
+    (netBy W qs ns) other other′ n u y →
+    t ≡ u
+total-any-order h b c =
+    let r = best-any-order h (b .tree) (c .tree) (b .is-best .best) (c .is-best .best) in
+    omega (arith, r, b .cost, c .cost)
+
+-- five pins and sixteen macros have 37 lines along either axis at most, so a best tree has fewer edges than 37 times 37
+pub best-few : (net : Net) (O : List Edge) → IsBest net O → length (net .pins) ≤ bestPins → length (net .macros) ≤ gridMacros →
+    length O < (bestPins + gridMacros * 2) * (bestPins + gridMacros * 2)
+best-few net O b few-pins few-macros =
+    let x : length (xLines net) ≤ bestPins + gridMacros * 2 = omega (arith, few-pins, few-macros, line-count Across net) in
+    let y : length (yLines net) ≤ bestPins + gridMacros * 2 = omega (arith, few-pins, few-macros, line-count Along net) in
+    omega (arith, b .few, mul-le-mul x y)
