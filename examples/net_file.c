@@ -27,12 +27,12 @@ static int refused(int32_t number)
 /* The bytes of a file, or of a net with two pins on either side of a macro, where a unit upwards costs three across. */
 static int32_t get(int words, char **word, size_t *length)
 {
-    static const int32_t two_pins[4] = {0, 0, 10, 0};
+    static const int32_t two_pins[2 * CALZUNDI_PIN_NUMBERS] = {0, 0, 0, 10, 0, 0};
     static const int32_t one_macro[4] = {4, -2, 6, 3};
     FILE *stream;
 
     if (words < 2)
-        return calzundi_write_file(two_pins, 4, one_macro, 4, 1, 3, file, sizeof file, length);
+        return calzundi_write_file(two_pins, 2 * CALZUNDI_PIN_NUMBERS, one_macro, 4, 1, 3, file, sizeof file, length);
     stream = fopen(word[1], "rb");
     *length = stream == NULL ? 0 : fread(file, 1, sizeof file, stream);
     if (stream != NULL)
@@ -51,7 +51,7 @@ int main(int words, char **word)
     answer = calzundi_read_file(file, length, pins, CALZUNDI_READ_PIN_NUMBERS, macros, CALZUNDI_READ_MACRO_NUMBERS, &m, &k, &x, &y);
     if (answer != 0)
         return refused(answer);
-    answer = calzundi_wires(pins, 2 * m, macros, 4 * k, x, y, wires, CALZUNDI_WIRE_NUMBERS(m, k), &count);
+    answer = calzundi_wires(pins, CALZUNDI_PIN_NUMBERS * m, macros, 4 * k, x, y, wires, CALZUNDI_WIRE_NUMBERS(m, k), &count);
     if (answer != 0)
         return refused(answer);
     for (size_t i = 0; i < count; i++) {
@@ -59,7 +59,7 @@ int main(int words, char **word)
         printf("%" PRId32 " %" PRId32 " %" PRId32 " %" PRId32 "\n", wire[0], wire[1], wire[2], wire[3]);
     }
 
-    answer = calzundi_write_file(pins, 2 * m, macros, 4 * k, x, y, again, sizeof again, &given);
+    answer = calzundi_write_file(pins, CALZUNDI_PIN_NUMBERS * m, macros, 4 * k, x, y, again, sizeof again, &given);
     if (answer != 0)
         return refused(answer);
     if (given != length || memcmp(file, again, length) != 0) {

@@ -30,7 +30,7 @@ static calzundi_length cost(const int32_t *edge)
 
 int main(void)
 {
-    const int32_t pins[2 * M] = {0, 0, 4, 0, 2, 3};
+    const int32_t pins[CALZUNDI_PIN_NUMBERS * M] = {0, 0, 0, 4, 0, 0, 2, 3, 0};
     /* A list of none may be null. */
     const int32_t *macros = NULL;
     int64_t paths[CALZUNDI_PATH_NUMBERS(M)];
@@ -39,12 +39,12 @@ int main(void)
     calzundi_length terminal, refined, metal;
     int32_t answer;
 
-    answer = calzundi_terminal_tree(pins, 2 * M, macros, 4 * K, WEIGHT_X, WEIGHT_Y, paths, CALZUNDI_PATH_NUMBERS(M), &path_count,
-                                    &terminal);
+    answer = calzundi_terminal_tree(pins, CALZUNDI_PIN_NUMBERS * M, macros, 4 * K, WEIGHT_X, WEIGHT_Y, paths, CALZUNDI_PATH_NUMBERS(M),
+                                    &path_count, &terminal);
     if (answer != 0)
         return refused(answer);
-    answer = calzundi_refined_tree(pins, 2 * M, macros, 4 * K, WEIGHT_X, WEIGHT_Y, edges, CALZUNDI_TREE_NUMBERS(M, K), &edge_count,
-                                   &refined, &metal);
+    answer = calzundi_refined_tree(pins, CALZUNDI_PIN_NUMBERS * M, macros, 4 * K, WEIGHT_X, WEIGHT_Y, edges, CALZUNDI_TREE_NUMBERS(M, K),
+                                   &edge_count, &refined, &metal);
     if (answer != 0)
         return refused(answer);
 

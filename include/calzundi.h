@@ -7,10 +7,12 @@
  *
  * A net
  *
- * A net is two lists of 32-bit numbers and two weights. `pins` has two numbers for each of its m pins (x, y), `macros` four for each of its
- * k macros (left, bottom, right, top). Any two lists of any length may be handed over. A list is a pointer and the count of numbers behind
- * it, not of entries: three pins are six numbers. Write n for m + 4k. The weights, weight_x and weight_y, are what a unit of metal costs
- * along either axis: whole numbers from 1 to 8, 1 and 1 for a machine whose stage is as quick in y as in x. Any two may be handed over.
+ * A net is two lists of 32-bit numbers and two weights. `pins` has three numbers for each of its m pins (x, y, load), `macros` four for
+ * each of its k macros (left, bottom, right, top). A load is a whole number from 0 to 1,000,000, in units of capacitance; no tree, wire,
+ * price or distance depends on it, and only a net file keeps it. Any two lists of any length may be handed over. A list is a pointer and
+ * the count of numbers behind it, not of entries: three pins are nine numbers. Write n for m + 4k. The weights, weight_x and weight_y, are what
+ * a unit of metal costs along either axis: whole numbers from 1 to 8, 1 and 1 for a machine whose stage is as quick in y as in x. Any two
+ * may be handed over.
  *
  *
  * Cost and metal
@@ -56,7 +58,7 @@
 #define CALZUNDI_H
 
 /* The version. It stands here and nowhere else; the tools take it from this line, and each change request raises the second number. */
-#define CALZUNDI_VERSION "1.11"
+#define CALZUNDI_VERSION "1.12"
 
 #include <stddef.h>
 #include <stdint.h>
@@ -65,11 +67,16 @@
 extern "C" {
 #endif
 
-/* A net has 1 to 128 pins and 0 to 128 macros, with coordinates from -1,000,000 to 1,000,000 and weights from 1 to 8. */
+/* A net has 1 to 128 pins and 0 to 128 macros, with coordinates from -1,000,000 to 1,000,000, loads from 0 to 1,000,000 and weights
+ * from 1 to 8. */
 #define CALZUNDI_PINS 128
 #define CALZUNDI_MACROS 128
 #define CALZUNDI_COORDINATE 1000000
 #define CALZUNDI_WEIGHT 8
+#define CALZUNDI_LOAD 1000000
+
+/* Numbers of a pin in a list: x, y, load. */
+#define CALZUNDI_PIN_NUMBERS 3
 
 /* The stack that a call has to itself. */
 #define CALZUNDI_STACK_BYTES (512 * 1024)
@@ -97,23 +104,25 @@ extern "C" {
 #define CALZUNDI_DISTANCE_NUMBERS(m) ((m) * (m))
 #define CALZUNDI_BEST_NUMBERS(m, k) (4 * ((m) + 2 * (k)) * ((m) + 2 * (k)))
 
-/* A net file is 1 to 9 blocks of 512 bytes: a head, a block for each 60 pins begun and one for each 30 macros begun. */
+/* A net file is 1 to 10 blocks of 512 bytes: a head, a block for each 60 pins begun, or for each 40 where a pin has a load above 0, and one
+ * for each 30 macros begun. */
 #define CALZUNDI_BLOCK_BYTES 512
 #define CALZUNDI_FILE_BYTES(m, k) (CALZUNDI_BLOCK_BYTES * (1 + ((m) + 59) / 60 + ((k) + 29) / 30))
-#define CALZUNDI_LONGEST_FILE CALZUNDI_FILE_BYTES(CALZUNDI_PINS, CALZUNDI_MACROS)
+#define CALZUNDI_LOADED_FILE_BYTES(m, k) (CALZUNDI_BLOCK_BYTES * (1 + ((m) + 39) / 40 + ((k) + 29) / 30))
+#define CALZUNDI_LONGEST_FILE CALZUNDI_LOADED_FILE_BYTES(CALZUNDI_PINS, CALZUNDI_MACROS)
 
 /* Numbers to lend for reading any net file. */
-#define CALZUNDI_READ_PIN_NUMBERS (2 * CALZUNDI_PINS)
+#define CALZUNDI_READ_PIN_NUMBERS (CALZUNDI_PIN_NUMBERS * CALZUNDI_PINS)
 #define CALZUNDI_READ_MACRO_NUMBERS (4 * CALZUNDI_MACROS)
 
 /* The numbers of refusals. */
 enum calzundi_refusal {
-    CALZUNDI_LENGTH = 1,            /* the file is not 1 to 9 whole blocks */
+    CALZUNDI_LENGTH = 1,            /* the file is not 1 to 10 whole blocks */
     CALZUNDI_SUMS = 2,              /* a block's word 126 or 127 is wrong */
     CALZUNDI_LAYOUT = 3,            /* anything else in the file's layout, the head's counts and weights included */
-    CALZUNDI_PIN_LIST = 11,         /* the pin list isn't whole pairs, or m is 0 or above 128 */
+    CALZUNDI_PIN_LIST = 11,         /* the pin list isn't whole threes, or m is 0 or above 128 */
     CALZUNDI_MACRO_LIST = 12,       /* the macro list isn't whole fours, or k is above 128 */
-    CALZUNDI_OUT_OF_RANGE = 13,     /* a coordinate is out of range */
+    CALZUNDI_OUT_OF_RANGE = 13,     /* a coordinate or a load is out of range */
     CALZUNDI_FLAT_MACRO = 14,       /* a macro's left is not below its right, or its bottom not below its top */
     CALZUNDI_PIN_TWICE = 15,        /* two pins are at one place */
     CALZUNDI_MACROS_OVERLAP = 16,   /* two macros' interiors meet; touching is allowed */
@@ -138,12 +147,12 @@ static inline const char *calzundi_refusal_text(int32_t number)
 {
     switch (number) {
     case 0: return "allowed";
-    case CALZUNDI_LENGTH: return "the file is not 1 to 9 whole blocks";
+    case CALZUNDI_LENGTH: return "the file is not 1 to 10 whole blocks";
     case CALZUNDI_SUMS: return "a block's word 126 or 127, its sums, is wrong";
     case CALZUNDI_LAYOUT: return "the layout is not a net file's";
-    case CALZUNDI_PIN_LIST: return "there is no pin, there are more than 128, or the list isn't whole pairs";
+    case CALZUNDI_PIN_LIST: return "there is no pin, there are more than 128, or the list isn't whole threes";
     case CALZUNDI_MACRO_LIST: return "there are more than 128 macros, or the list isn't whole fours";
-    case CALZUNDI_OUT_OF_RANGE: return "a coordinate is not from -1000000 to 1000000";
+    case CALZUNDI_OUT_OF_RANGE: return "a coordinate is not from -1000000 to 1000000, or a load not from 0 to 1000000";
     case CALZUNDI_FLAT_MACRO: return "a macro's left is not below its right, or its bottom not below its top";
     case CALZUNDI_PIN_TWICE: return "two pins are at one place";
     case CALZUNDI_MACROS_OVERLAP: return "two macros' interiors meet";
@@ -311,9 +320,10 @@ int32_t calzundi_check_tree(const int32_t *pins, size_t pin_numbers, const int32
                             calzundi_length *metal);
 
 /*
- * Write a net file, which keeps the order of both lists. Weights of 1 are stored as a file without weights has them.
+ * Write a net file, which keeps the order of both lists. Weights of 1 are stored as a file without weights has them, and loads of 0 as one
+ * without loads.
  *
- * bytes  lent, at least CALZUNDI_FILE_BYTES(m, k)
+ * bytes  lent, at least CALZUNDI_FILE_BYTES(m, k), or CALZUNDI_LOADED_FILE_BYTES(m, k) where a pin has a load above 0
  * given  how many bytes the file has
  *
  * Refusals: 11 to 18, then 21.
@@ -322,8 +332,8 @@ int32_t calzundi_write_file(const int32_t *pins, size_t pin_numbers, const int32
                             int32_t weight_x, int32_t weight_y, uint8_t *bytes, size_t byte_count, size_t *given);
 
 /*
- * Read a net file: the two lists in the order in which they were written. Every file that is accepted holds an allowed net, and is the
- * one that calzundi_write_file makes of it.
+ * Read a net file: the two lists in the order in which they were written, three numbers a pin whatever the file. Every file that is
+ * accepted holds an allowed net, and is the one that calzundi_write_file makes of it.
  *
  * pins    lent, at least CALZUNDI_READ_PIN_NUMBERS, whatever the file
  * macros  lent, at least CALZUNDI_READ_MACRO_NUMBERS, whatever the file

@@ -1,16 +1,18 @@
-//! Both programs on the same seeded input, with weights of all sorts and the same lent space: answers and every lent number must agree.
+//! Both programs on the same seeded input, with weights and loads of all sorts and the same lent space: answers and every lent number must
+//! agree.
 
 use std::fmt::{self, Debug};
 use std::thread;
 
 use reference::generate::{
-    bands, damaged_weighted, hostile_weighted, permuted, weighted, BandList, Damage, Hostile, Kind,
+    bands, damaged_loaded, damaged_weighted, hostile_weighted, loaded, permuted, weighted,
+    BandList, Damage, Hostile, Kind,
 };
 use reference::lists::Lists;
-use reference::net::Weights;
+use reference::net::{Net, Weights};
 use reference::random::Random;
 use reference::refined::refined;
-use reference::{grid, net as second, operations, price, text};
+use reference::{grid, net as second, netfile, operations, price, text};
 
 use crate::library;
 
@@ -84,6 +86,14 @@ fn in_turn(kinds: &[Kind], seed: u64) -> Kind {
     }
 }
 
+/// One net of three of each kind has loads on its pins.
+fn maybe_loaded(lists: Lists, seed: u64) -> Lists {
+    match Random::new(!seed).one_in(3) {
+        true => loaded(&lists, seed),
+        false => lists,
+    }
+}
+
 /// An allowed net of each kind in turn, its entries in another order.
 pub fn allowed(seed: u64) -> Case {
     let kinds: Vec<Kind> = Kind::ALL
@@ -95,7 +105,7 @@ pub fn allowed(seed: u64) -> Case {
     Case {
         kind: kind.name(),
         seed,
-        lists: permuted(&weighted(kind, seed), seed),
+        lists: permuted(&maybe_loaded(weighted(kind, seed), seed), seed),
     }
 }
 
@@ -105,7 +115,7 @@ pub fn routed(seed: u64) -> Case {
     Case {
         kind: kind.name(),
         seed,
-        lists: weighted(kind, seed),
+        lists: maybe_loaded(weighted(kind, seed), seed),
     }
 }
 
@@ -128,14 +138,14 @@ pub fn on_grid(seed: u64) -> Case {
             .pins
             .iter()
             .copied()
-            .take(2 * grid::PINS)
+            .take(Net::PIN_NUMBERS * grid::PINS)
             .collect(),
         macros: case
             .lists
             .macros
             .iter()
             .copied()
-            .take(4 * grid::MACROS)
+            .take(Net::MACRO_NUMBERS * grid::MACROS)
             .collect(),
         weights: case.lists.weights,
     };
@@ -151,7 +161,7 @@ pub fn any(seed: u64) -> Case {
     }
 }
 
-/// A damaged net file of each kind in turn.
+/// A damaged net file of each kind in turn, as often of a net with loads as not.
 pub struct File {
     pub kind: &'static str,
     pub seed: u64,
@@ -163,7 +173,10 @@ pub fn file(seed: u64) -> File {
     File {
         kind: kind.name(),
         seed,
-        bytes: damaged_weighted(kind, seed),
+        bytes: match Random::new(!seed).one_in(2) {
+            true => damaged_loaded(kind, seed),
+            false => damaged_weighted(kind, seed),
+        },
     }
 }
 
@@ -237,7 +250,12 @@ impl Case {
 
     /// n = m + 4k, as the lists have it, whole or not.
     fn points(&self) -> usize {
-        self.lists.pins.len() / 2 + self.lists.macros.len() / 4 * 4
+        self.pins() + self.lists.macros.len() / Net::MACRO_NUMBERS * 4
+    }
+
+    /// m, as the list has it, whole or not.
+    fn pins(&self) -> usize {
+        self.lists.pins.len() / Net::PIN_NUMBERS
     }
 
     /// "Check a net."
@@ -302,7 +320,7 @@ impl Case {
     pub fn terminal_tree(&self) -> Matched {
         self.one_space(
             "terminal tree",
-            5 * (self.lists.pins.len() / 2),
+            5 * self.pins(),
             |bits| bits as i64,
             [library::terminal_tree, operations::terminal_tree],
         )
@@ -312,7 +330,7 @@ impl Case {
     pub fn refined_tree(&self) -> Matched {
         self.one_space(
             "refined tree",
-            4 * (self.points() + self.lists.pins.len() / 2),
+            4 * (self.points() + self.pins()),
             |bits| bits as i32,
             [library::refined_tree, operations::refined_tree],
         )
@@ -322,7 +340,7 @@ impl Case {
     pub fn slid_tree(&self) -> Matched {
         self.one_space(
             "slid tree",
-            8 * (self.points() + self.lists.pins.len() / 2),
+            8 * (self.points() + self.pins()),
             |bits| bits as i32,
             [library::slid_tree, operations::slid_tree],
         )
@@ -356,7 +374,7 @@ impl Case {
     pub fn wires(&self) -> Matched {
         self.one_space(
             "wires",
-            8 * (self.points() + self.lists.pins.len() / 2),
+            8 * (self.points() + self.pins()),
             |bits| bits as i32,
             [library::wires, operations::wires],
         )
@@ -364,7 +382,7 @@ impl Case {
 
     /// "True distance on the grid."
     pub fn grid_distances(&self) -> Matched {
-        let m = self.lists.pins.len() / 2;
+        let m = self.pins();
         self.one_space(
             "distances on the grid",
             m * m,
@@ -396,7 +414,9 @@ impl Case {
     /// "Write a net file."
     pub fn write_file(&self) -> Matched {
         let (pins, macros, weights) = self.lists.parts();
-        let blocks = 1 + pins.len().div_ceil(120) + macros.len().div_ceil(120);
+        let loaded = pins.chunks_exact(3).any(|pin| pin[2] != 0);
+        let stored = self.pins() * if loaded { 3 } else { 2 };
+        let blocks = 1 + stored.div_ceil(120) + macros.len().div_ceil(120);
         let both = |call: OneSpace<u8, usize>| {
             let random = &mut Random::new(self.seed);
             let mut bytes = Lent::new(random, blocks * 512, |bits| bits as u8);
@@ -412,7 +432,7 @@ impl Case {
 
     /// "Read a net file", of the file that the second program writes of the lists.
     pub fn read_back(&self) -> Matched {
-        let mut bytes = vec![0; 6 * 512];
+        let mut bytes = vec![0; netfile::BLOCKS * netfile::BLOCK_BYTES];
         let (pins, macros, weights) = self.lists.parts();
         match operations::write_file(pins, macros, weights, &mut bytes) {
             Ok(length) => File {
@@ -440,8 +460,9 @@ impl File {
     pub fn read_file(&self) -> Matched {
         let both = |call: Reading| {
             let random = &mut Random::new(self.seed);
-            let mut pins = Lent::new(random, 256, |bits| bits as i32);
-            let mut macros = Lent::new(random, 512, |bits| bits as i32);
+            let mut pins = Lent::new(random, Net::PIN_NUMBERS * Net::PINS, |bits| bits as i32);
+            let mut macros =
+                Lent::new(random, Net::MACRO_NUMBERS * Net::MACROS, |bits| bits as i32);
             let answer = call(&self.bytes, pins.part(), macros.part());
             said(answer, &[pins.numbers, macros.numbers])
         };

@@ -3,7 +3,7 @@
 
 use std::fmt::{self, Display};
 
-use reference::lists::Lists;
+use reference::lists::{unloaded, Lists};
 use reference::net::Weights;
 use reference::netfile;
 
@@ -12,8 +12,8 @@ use crate::{library, program};
 /// What is handed over.
 #[derive(Clone, Debug, PartialEq, Eq)]
 pub enum Input {
-    /// A net's lists, with weights 1 and 1 as all nets then had, and whether answers stand in full; if not, the graph and the wires are
-    /// digests.
+    /// A net's lists, with weights 1 and 1 as all nets then had and two numbers a pin, since there were no loads, and whether answers stand
+    /// in full; if not, the graph and the wires are digests.
     Net { lists: Lists, full: bool },
     /// The bytes of a file that is not as it should be.
     File { bytes: Vec<u8> },
@@ -32,7 +32,14 @@ impl Case {
     /// The record: its head, and all that is answered. Each line ends with a line feed.
     pub fn record(&self) -> String {
         let answers = match &self.input {
-            Input::Net { lists, full } => Net { lists, full: *full }.answers(),
+            Input::Net { lists, full } => {
+                let lists = Lists {
+                    pins: unloaded(&lists.pins),
+                    ..lists.clone()
+                };
+                let (lists, full) = (&lists, *full);
+                Net { lists, full }.answers()
+            }
             Input::File { bytes } => [read(bytes), routed(bytes)].concat(),
         };
         let lines = answers.iter().map(|line| format!("{line}\n"));
@@ -349,7 +356,7 @@ impl Net<'_> {
 
     /// m and n = m + 4k, as the lists have them, whole or not.
     fn size(&self) -> (usize, usize) {
-        let m = self.lists.pins.len() / 2;
+        let m = self.lists.pins.len() / 3;
         (m, m + self.lists.macros.len() / 4 * 4)
     }
 
@@ -454,7 +461,8 @@ impl Net<'_> {
             let answer = library::write_file(pins, macros, weights, lent.part());
             (answer, lent)
         };
-        let blocks = 1 + pins.len().div_ceil(120) + macros.len().div_ceil(120);
+        let (m, _) = self.size();
+        let blocks = 1 + m.div_ceil(60) + macros.len().div_ceil(120);
         let asked = blocks * netfile::BLOCK_BYTES;
         let (line, bytes) = match call(asked) {
             (Ok(given), lent) => {
@@ -463,7 +471,7 @@ impl Net<'_> {
                 (line + &lent.past(given), Some(bytes))
             }
             (Err(number), lent) => {
-                let whole = pins.len().is_multiple_of(2) && macros.len().is_multiple_of(4);
+                let whole = pins.len().is_multiple_of(3) && macros.len().is_multiple_of(4);
                 let line = format!("file {number}{}", lent.past(0));
                 (line, whole.then(|| netfile::write(self.lists)))
             }
@@ -510,11 +518,11 @@ impl Operation {
 
 /// "Read a net file."
 fn read(bytes: &[u8]) -> Vec<String> {
-    let mut pins = Lent::new(256, |filling| filling);
+    let mut pins = Lent::new(384, |filling| filling);
     let mut macros = Lent::new(512, |filling| filling);
     match library::read_file(bytes, pins.part(), macros.part()) {
         Ok((m, k, Weights { x, y })) => vec![
-            format!("read 0 pins{}", pins.given(m, 2, true)),
+            format!("read 0 pins{}", pins.given(m, 3, true)),
             format!("read 0 macros{}", macros.given(k, 4, true)),
             format!("read 0 weights {x} {y}"),
         ],

@@ -25,6 +25,20 @@ pub fn weights(stored: &str) -> String {
     now
 }
 
+/// "Outputs of nets without loads" are what they were, but that a pin that is read has three numbers, the third of them 0 [11].
+pub fn loads(stored: &str) -> String {
+    let loaded = |line: &str| -> Option<String> {
+        let pins = line.strip_prefix("read 0 pins ")?;
+        let (count, list) = pins.strip_suffix('\n')?.split_once(':')?;
+        let pins: Vec<String> = list.split(',').map(|pin| format!("{pin} 0")).collect();
+        Some(format!("read 0 pins {count}:{}\n", pins.join(",")))
+    };
+    let lines = stored.split_inclusive('\n');
+    lines
+        .map(|line| loaded(line).unwrap_or_else(|| line.to_string()))
+        .collect()
+}
+
 /// One operation of one record that a request changes: its lines before and after, each with its line feed.
 #[derive(Clone, Debug, PartialEq, Eq)]
 pub struct Change {

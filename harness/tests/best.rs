@@ -6,8 +6,8 @@ use harness::library;
 use harness::matching::{refused, routed};
 use reference::best::{cost_by_edge_sets, edge_numbers, MACROS, PINS, WORK};
 use reference::generate::permuted;
-use reference::lists::Lists;
-use reference::net::{check, Weights};
+use reference::lists::{unloaded, Lists};
+use reference::net::{check, Net, Weights};
 use reference::operations;
 use reference::random::Random;
 use reference::text;
@@ -91,14 +91,17 @@ fn cut(lists: &Lists, part: usize, pins: usize, macros: usize) -> Lists {
         turned.flatten().copied().collect()
     };
     Lists {
-        pins: some(&lists.pins, 2, pins),
-        macros: some(&lists.macros, 4, macros),
+        pins: some(&lists.pins, Net::PIN_NUMBERS, pins),
+        macros: some(&lists.macros, Net::MACRO_NUMBERS, macros),
         weights: lists.weights,
     }
 }
 
 fn counts(lists: &Lists) -> (usize, usize) {
-    (lists.pins.len() / 2, lists.macros.len() / 4)
+    (
+        lists.pins.len() / Net::PIN_NUMBERS,
+        lists.macros.len() / Net::MACRO_NUMBERS,
+    )
 }
 
 /// What both programs say of the lists with enough space, with more, and with too little of either, also in another order; the tree is the
@@ -183,7 +186,7 @@ fn five_hundred_tiny_nets_by_every_set_of_edges() {
         seed += 1;
         let random = &mut Random::new(seed);
         let m = 2 + random.below(4);
-        let pins = (0..2 * m).map(|_| random.between(0, 3)).collect();
+        let places: Vec<i32> = (0..2 * m).map(|_| random.between(0, 3)).collect();
         let macros = if random.one_in(2) {
             let (x, y) = (random.between(0, 2), random.between(0, 2));
             vec![x, y, random.between(x + 1, 3), random.between(y + 1, 3)]
@@ -195,7 +198,7 @@ fn five_hundred_tiny_nets_by_every_set_of_edges() {
             y: random.between(1, 3),
         };
         let lists = Lists {
-            pins,
+            pins: unloaded(&places),
             macros,
             weights,
         };
@@ -217,7 +220,7 @@ fn five_hundred_tiny_nets_by_every_set_of_edges() {
 
 fn lists(pins: &[i32], macros: &[i32]) -> Lists {
     Lists {
-        pins: pins.to_vec(),
+        pins: unloaded(pins),
         macros: macros.to_vec(),
         weights: Weights::ONE,
     }
@@ -244,7 +247,7 @@ fn bounds_and_the_order_of_refusals() {
     let pins = |m: i32| (0..m).flat_map(|i| [i, 2 * i]).collect::<Vec<i32>>();
     let macros = |k: i32| (0..k).flat_map(|i| [100 + 2 * i, 0, 101 + 2 * i, 5]);
     let net = |m, k, y| Lists {
-        pins: pins(m),
+        pins: unloaded(&pins(m)),
         macros: macros(k).collect(),
         weights: Weights { x: 1, y },
     };

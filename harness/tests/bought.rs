@@ -110,9 +110,13 @@ fn every_length_and_number() {
                 }
                 _ => Err(34),
             };
-            assert_eq!(call(&[5, 5]), expected, "{length} times {number}");
+            assert_eq!(call(&[5, 5, 0]), expected, "{length} times {number}");
             let expected = if length == 0 { Err(35) } else { expected };
-            assert_eq!(call(&[5, 5, 6, 6]), expected, "{length} times {number}");
+            assert_eq!(
+                call(&[5, 5, 0, 6, 6, 0]),
+                expected,
+                "{length} times {number}"
+            );
             assert_eq!(call(&[5]), Err(11));
         }
     }
@@ -123,7 +127,7 @@ fn every_length_and_number() {
 fn the_dearest_tree() {
     let end = 1_000_000;
     // A fan: from each of two corners of the die to points on the side across, so that every edge is nearly as long as any.
-    let pins = [-end, -end, end, end];
+    let pins = [-end, -end, 0, end, end, 0];
     let mut edges = vec![-end, -end, end, end];
     let mut at = [-end, -end];
     for number in 1..EDGES as i32 {
@@ -148,7 +152,7 @@ fn the_dearest_tree() {
     assert_eq!(answer(&case, "bare at its end", &edges), 35);
     let case = Case {
         lists: reference::lists::Lists {
-            pins: [&pins[..], &at].concat(),
+            pins: [&pins[..], &at, &[0]].concat(),
             ..case.lists
         },
         ..case

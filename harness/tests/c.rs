@@ -80,7 +80,9 @@ fn the_header_has_the_bounds() {
         ("CALZUNDI_WEIGHTS", 18),
         ("CALZUNDI_BLOCK_BYTES", BLOCK_BYTES),
         ("CALZUNDI_LONGEST_FILE", BLOCKS * BLOCK_BYTES),
-        ("CALZUNDI_READ_PIN_NUMBERS", 256),
+        ("CALZUNDI_LOAD", Net::LOAD as usize),
+        ("CALZUNDI_PIN_NUMBERS", Net::PIN_NUMBERS),
+        ("CALZUNDI_READ_PIN_NUMBERS", Net::PIN_NUMBERS * Net::PINS),
         ("CALZUNDI_READ_MACRO_NUMBERS", 512),
         ("sizeof(calzundi_length)", 8),
         ("CALZUNDI_RATE", 1_000_000),
@@ -108,7 +110,7 @@ fn the_header_works_out_what_to_lend() {
         (128, 128),
     ] {
         let n = m + 4 * k;
-        let blocks = 1 + usize::div_ceil(m, 60) + usize::div_ceil(k, 30);
+        let blocks = |a_block| 1 + usize::div_ceil(m, a_block) + usize::div_ceil(k, 30);
         let (sum_m, sum_k) = (format!("1 + {}", m - 1), format!("0 + {k}"));
         for (name, number) in [
             (format!("VERTEX_NUMBERS({sum_m}, {sum_k})"), 2 * n),
@@ -121,7 +123,11 @@ fn the_header_works_out_what_to_lend() {
                 format!("BEST_NUMBERS({sum_m}, {sum_k})"),
                 4 * (m + 2 * k) * (m + 2 * k),
             ),
-            (format!("FILE_BYTES({sum_m}, {sum_k})"), 512 * blocks),
+            (format!("FILE_BYTES({sum_m}, {sum_k})"), 512 * blocks(60)),
+            (
+                format!("LOADED_FILE_BYTES({sum_m}, {sum_k})"),
+                512 * blocks(40),
+            ),
         ] {
             lines += &format!("    printf(\"%d\\n\", CALZUNDI_{name});\n");
             expected += &format!("{number}\n");
@@ -156,36 +162,36 @@ fn null_with_a_count_of_zero() {
         ("price(NULL, 0, NULL, 0, 1, 1, NULL, 0, &h)", 11),
         ("write_file(NULL, 0, NULL, 0, 1, 1, NULL, 0, &a)", 11),
         ("read_file(NULL, 0, NULL, 0, NULL, 0, &a, &b, &x, &y)", 21),
-        ("check(pin, 2, NULL, 0, 1, 1)", 0),
-        ("graph(pin, 2, NULL, 0, 1, 1, NULL, 0, NULL, 0, &a, &b)", 21),
-        ("terminal_tree(pin, 2, NULL, 0, 1, 1, NULL, 0, &a, &t)", 21),
+        ("check(pin, 3, NULL, 0, 1, 1)", 0),
+        ("graph(pin, 3, NULL, 0, 1, 1, NULL, 0, NULL, 0, &a, &b)", 21),
+        ("terminal_tree(pin, 3, NULL, 0, 1, 1, NULL, 0, &a, &t)", 21),
         (
-            "refined_tree(pin, 2, NULL, 0, 1, 1, NULL, 0, &a, &t, &l)",
+            "refined_tree(pin, 3, NULL, 0, 1, 1, NULL, 0, &a, &t, &l)",
             21,
         ),
-        ("slid_tree(pin, 2, NULL, 0, 1, 1, NULL, 0, &a, &t, &l)", 21),
-        ("check_tree(pin, 2, NULL, 0, 1, 1, pin, 2, &t, &l)", 33),
-        ("check_tree(pin, 2, NULL, 0, 1, 1, equal, 4, &t, &l)", 34),
-        ("check_tree(two, 4, NULL, 0, 1, 1, NULL, 0, &t, &l)", 35),
-        ("check_tree(pin, 2, NULL, 0, 1, 1, NULL, 0, &c, &c)", 0),
-        ("wires(pin, 2, NULL, 0, 1, 1, NULL, 0, &a)", 21),
-        ("grid_distances(pin, 2, NULL, 0, 1, 1, NULL, 0, &a)", 21),
+        ("slid_tree(pin, 3, NULL, 0, 1, 1, NULL, 0, &a, &t, &l)", 21),
+        ("check_tree(pin, 3, NULL, 0, 1, 1, pin, 3, &t, &l)", 33),
+        ("check_tree(pin, 3, NULL, 0, 1, 1, equal, 4, &t, &l)", 34),
+        ("check_tree(two, 6, NULL, 0, 1, 1, NULL, 0, &t, &l)", 35),
+        ("check_tree(pin, 3, NULL, 0, 1, 1, NULL, 0, &c, &c)", 0),
+        ("wires(pin, 3, NULL, 0, 1, 1, NULL, 0, &a)", 21),
+        ("grid_distances(pin, 3, NULL, 0, 1, 1, NULL, 0, &a)", 21),
         (
-            "best_tree(pin, 2, NULL, 0, 1, 1, NULL, 0, NULL, 0, &a, &t, &l)",
+            "best_tree(pin, 3, NULL, 0, 1, 1, NULL, 0, NULL, 0, &a, &t, &l)",
             21,
         ),
-        ("price(pin, 2, NULL, 0, 1, 1, NULL, 0, &h)", 31),
-        ("write_file(pin, 2, NULL, 0, 1, 1, NULL, 0, &a)", 21),
-        ("check(pin, 2, NULL, 0, 0, 1)", 18),
-        ("check(pin, 2, NULL, 0, 1, 9)", 18),
+        ("price(pin, 3, NULL, 0, 1, 1, NULL, 0, &h)", 31),
+        ("write_file(pin, 3, NULL, 0, 1, 1, NULL, 0, &a)", 21),
+        ("check(pin, 3, NULL, 0, 0, 1)", 18),
+        ("check(pin, 3, NULL, 0, 1, 9)", 18),
         (
-            "refined_tree(pin, 2, NULL, 0, 9, 1, NULL, 0, &a, &t, &l)",
+            "refined_tree(pin, 3, NULL, 0, 9, 1, NULL, 0, &a, &t, &l)",
             18,
         ),
-        ("price(pin, 2, NULL, 0, 1, INT32_MIN, NULL, 0, &h)", 18),
+        ("price(pin, 3, NULL, 0, 1, INT32_MIN, NULL, 0, &h)", 18),
     ];
     let mut lines = String::from(
-        "    const int32_t pin[2] = {5, 5}, two[4] = {5, 5, 6, 6}, equal[4] = {5, 5, 5, 5};
+        "    const int32_t pin[3] = {5, 5, 0}, two[6] = {5, 5, 0, 6, 6, 0}, equal[4] = {5, 5, 5, 5};
     calzundi_length c = 7, t = 7, l = 7;
     size_t a = 7, b = 7;
     uint64_t h = 7;
@@ -204,15 +210,15 @@ fn null_with_a_count_of_zero() {
 /// The net of the first request by the header's calls: the total in cost, the metal beside it, and the weights from its file.
 #[test]
 fn the_weighed_net_from_c() {
-    let lines = "    const int32_t pins[8] = {3, 1, 0, 0, 2, 0, 0, 2};
+    let lines = "    const int32_t pins[12] = {3, 1, 0, 0, 0, 0, 2, 0, 0, 0, 2, 0};
     int32_t edges[CALZUNDI_TREE_NUMBERS(4, 0)], read_pins[CALZUNDI_READ_PIN_NUMBERS], read_macros[CALZUNDI_READ_MACRO_NUMBERS];
     uint8_t file[CALZUNDI_FILE_BYTES(4, 0)];
     size_t count = 0, m = 0, k = 0;
     calzundi_length total = 0, metal = 0;
     int32_t x = 0, y = 0;
-    int code = (int)calzundi_refined_tree(pins, 8, NULL, 0, 1, 3, edges, CALZUNDI_TREE_NUMBERS(4, 0), &count, &total, &metal);
+    int code = (int)calzundi_refined_tree(pins, 12, NULL, 0, 1, 3, edges, CALZUNDI_TREE_NUMBERS(4, 0), &count, &total, &metal);
     printf(\"%d %d %d %d\\n\", code, (int)count, (int)total, (int)metal);
-    code = (int)calzundi_write_file(pins, 8, NULL, 0, 1, 3, file, sizeof file, &count);
+    code = (int)calzundi_write_file(pins, 12, NULL, 0, 1, 3, file, sizeof file, &count);
     printf(\"%d %d %d %d\\n\", code, (int)count, (int)file[24], (int)file[28]);
     code = (int)calzundi_read_file(file, count, read_pins, CALZUNDI_READ_PIN_NUMBERS, read_macros, CALZUNDI_READ_MACRO_NUMBERS, &m, &k, &x,
                                    &y);

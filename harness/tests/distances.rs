@@ -6,14 +6,14 @@ use harness::library;
 use harness::matching::{on_grid, refused, routed};
 use reference::generate::{weighted, Kind};
 use reference::grid::{distances, distances_by_units, MACROS, PINS};
-use reference::lists::Lists;
+use reference::lists::{unloaded, Lists};
 use reference::net::{check, Weights};
 use reference::terminal::terminal;
 
 /// What the library gives for a net that is allowed and of that size.
 fn table(lists: &Lists) -> Vec<i64> {
     let (pins, macros, weights) = lists.parts();
-    let m = pins.len() / 2;
+    let m = pins.len() / 3;
     let mut table = vec![-1; m * m];
     let given = library::grid_distances(pins, macros, weights, &mut table);
     assert_eq!(given, Ok(m * m));
@@ -68,9 +68,10 @@ fn two_thousand_small_nets_by_unit_steps() {
         let lists = weighted(kind, seed);
         seed += 1;
         let (pins, macros, weights) = lists.parts();
-        let spread =
-            pins.iter().chain(macros).max().unwrap() - pins.iter().chain(macros).min().unwrap();
-        if pins.len() / 2 > PINS || macros.len() / 4 > MACROS || spread > 40 {
+        let places = pins.chunks(3).flat_map(|pin| &pin[..2]);
+        let all: Vec<&i32> = places.chain(macros).collect();
+        let spread = *all.iter().max().unwrap() - *all.iter().min().unwrap();
+        if pins.len() / 3 > PINS || macros.len() / 4 > MACROS || spread > 40 {
             continue;
         }
         let net = check(pins, macros, weights).expect("an allowed net");
@@ -102,7 +103,7 @@ fn two_thousand_small_nets_by_unit_steps() {
 
 fn lists(pins: &[i32], macros: &[i32], x: i32, y: i32) -> Lists {
     Lists {
-        pins: pins.to_vec(),
+        pins: unloaded(pins),
         macros: macros.to_vec(),
         weights: Weights { x, y },
     }
@@ -133,7 +134,7 @@ fn worked_tables() {
 /// Sixteen pins and sixteen macros pass, one more of either is 36; 18 before 36 before 21.
 #[test]
 fn bounds_and_the_order_of_refusals() {
-    let pins = |m: i32| (0..m).flat_map(|i| [i, 2 * i]).collect::<Vec<i32>>();
+    let pins = |m: i32| (0..m).flat_map(|i| [i, 2 * i, 0]).collect::<Vec<i32>>();
     let macros = |k: i32| {
         (0..k)
             .flat_map(|i| [100 + 2 * i, 0, 101 + 2 * i, 5])

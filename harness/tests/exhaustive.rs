@@ -13,7 +13,7 @@ use reference::net::{check, Place};
 /// The terminal tree as the proved router gives it.
 fn given(lists: &Lists) -> Given {
     let (pins, macros, weights) = lists.parts();
-    let mut numbers = vec![0; 5 * (pins.len() / 2)];
+    let mut numbers = vec![0; 5 * (pins.len() / 3)];
     let (count, total) =
         library::terminal_tree(pins, macros, weights, &mut numbers).expect("an allowed net");
     let place = |two: &[i64]| Place {

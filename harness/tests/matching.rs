@@ -5,8 +5,8 @@ use std::io::Write;
 use harness::counted::Counted;
 use harness::library;
 use harness::matching::{allowed, any, file, refused, routed, Case, File, Matched};
-use reference::generate::{hostile, net, weighted, Hostile, Kind};
-use reference::lists::Lists;
+use reference::generate::{hostile, loaded, net, weighted, Hostile, Kind};
+use reference::lists::{unloaded, Lists};
 use reference::net::{check, Weights};
 use reference::netfile::{self, BLOCK_BYTES};
 use reference::operations;
@@ -116,13 +116,13 @@ fn the_largest_nets_with_the_greatest_weights() {
 /// Each coordinate times its axis's weight, and weights 1 and 1.
 fn stretched(lists: &Lists) -> Lists {
     let (pins, macros, Weights { x, y }) = lists.parts();
-    let times = |list: &[i32]| {
-        let axes = [x, y].into_iter().cycle();
+    let times = |list: &[i32], axes: &[i32]| {
+        let axes = axes.iter().cycle();
         list.iter().zip(axes).map(|(c, by)| c * by).collect()
     };
     Lists {
-        pins: times(pins),
-        macros: times(macros),
+        pins: times(pins, &[x, y, 1]),
+        macros: times(macros, &[x, y, x, y]),
         ..Lists::default()
     }
 }
@@ -139,7 +139,7 @@ struct Trees {
 /// What the proved router answers.
 fn trees(lists: &Lists) -> Result<Trees, u32> {
     let (pins, macros, weights) = lists.parts();
-    let (m, n) = (pins.len() / 2, pins.len() / 2 + macros.len());
+    let (m, n) = (pins.len() / 3, pins.len() / 3 + macros.len());
     let (mut vertices, mut graph) = (vec![0; 2 * n], vec![0; 16 * n]);
     let (mut paths, mut tree) = (vec![0; 5 * m], vec![0; 4 * (n + m)]);
     let (_, edges) = library::graph(pins, macros, weights, &mut vertices, &mut graph)?;
@@ -210,7 +210,7 @@ fn check_on_every_short_length() {
         i32::MIN,
         i32::MAX,
     ] {
-        for pins in 0..270 {
+        for pins in 0..400 {
             for macros in [0, 1, 2, 3, 4, 7, 8, 511, 512, 513, 516] {
                 let (pins, macros) = (vec![value; pins], vec![value; macros]);
                 for weights in [Weights::ONE, Weights { x: 1, y: value }] {
@@ -293,7 +293,7 @@ fn found_by_trying() -> [Case; 3] {
         kind: "found-by-trying",
         seed,
         lists: Lists {
-            pins: pins.concat(),
+            pins: unloaded(&pins.concat()),
             macros: macros.concat(),
             weights,
         },
@@ -462,9 +462,11 @@ fn cut(bytes: &[u8], length: usize) -> File {
 #[test]
 fn read_a_file_cut_at_every_length() {
     for kind in [Kind::OnePin, Kind::Largest] {
-        let bytes = netfile::write(&weighted(kind, 1));
-        for length in 0..=3_600 {
-            matched(cut(&bytes, length).read_file());
+        for lists in [weighted(kind, 1), loaded(&weighted(kind, 1), 1)] {
+            let bytes = netfile::write(&lists);
+            for length in 0..=11 * BLOCK_BYTES {
+                matched(cut(&bytes, length).read_file());
+            }
         }
     }
 }
@@ -472,8 +474,15 @@ fn read_a_file_cut_at_every_length() {
 /// Each word of a small file changed, with the sums put right again: by one bit, to zero, to all ones.
 #[test]
 fn read_a_file_with_each_word_changed() {
+    for load in [0, 7] {
+        each_word_changed(load);
+    }
+}
+
+/// Of a file of two pins, the first of them with this load.
+fn each_word_changed(load: i32) {
     let lists = Lists {
-        pins: vec![3, -4, 5, 6],
+        pins: vec![3, -4, load, 5, 6, 0],
         macros: vec![-9, -9, -7, -6],
         weights: Weights { x: 3, y: 1 },
     };
@@ -507,7 +516,7 @@ fn read_a_file_with_each_word_changed() {
 #[test]
 fn read_blocks_of_zeros_and_ones() {
     for fill in [0u8, 0xff] {
-        for blocks in 0..=10 {
+        for blocks in 0..=11 {
             let bytes = vec![fill; blocks * BLOCK_BYTES];
             matched(
                 File {

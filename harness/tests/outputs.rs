@@ -7,8 +7,9 @@ use std::thread;
 
 use harness::library;
 use harness::outputs::{differences, digest, records, Case, Difference, Input};
-use harness::requests::{weights, Change, Differences};
+use harness::requests::{loads, weights, Change, Differences};
 use reference::edge::Edge;
+use reference::lists::{unloaded, Lists};
 use reference::net::{check, Weights};
 use reference::netfile;
 use reference::refined::{refine_by, Rule};
@@ -26,10 +27,11 @@ fn stored() -> String {
     text("outputs.txt")
 }
 
-/// What has changed since in files of differences: by [3], and then by [8].
+/// What has changed since in files of differences: by [3], then by [8], and then by [11].
 struct Since {
     beside: Differences,
     twice: Differences,
+    loaded: Differences,
 }
 
 impl Since {
@@ -37,6 +39,7 @@ impl Since {
         Since {
             beside: Differences::parse(&text("beside.txt")),
             twice: Differences::parse(&text("twice.txt")),
+            loaded: Differences::parse(&text("loads.txt")),
         }
     }
 
@@ -46,10 +49,24 @@ impl Since {
         changed.unwrap_or_else(|wrong| panic!("{wrong}"))
     }
 
-    /// A stored record as it is expected now.
-    fn expected(&self, stored: &str) -> String {
+    /// The same with the differences of [8].
+    fn eighth(&self, stored: &str) -> String {
         let changed = self.twice.apply(&self.third(stored));
         changed.unwrap_or_else(|wrong| panic!("{wrong}"))
+    }
+
+    /// A stored record as it is expected now: with the rule of [11] too, and its differences.
+    fn expected(&self, stored: &str) -> String {
+        let changed = self.loaded.apply(&loads(&self.eighth(stored)));
+        changed.unwrap_or_else(|wrong| panic!("{wrong}"))
+    }
+}
+
+/// A stored net, whose pins have two numbers each, as it is handed over now [11].
+fn with_loads_of_0(lists: Lists) -> Lists {
+    Lists {
+        pins: unloaded(&lists.pins),
+        ..lists
     }
 }
 
@@ -179,7 +196,7 @@ fn twice_the_net_changes_what_was_too_large_and_no_other() {
     let since = Since::read();
     let (mut nets, mut files) = (0, 0);
     for record in records(&stored()) {
-        let (before, after) = (since.third(&record), since.expected(&record));
+        let (before, after) = (since.third(&record), since.eighth(&record));
         let title = record.lines().next().unwrap_or_default();
         let changes = Change::between(&before, &after);
         assert_eq!(since.twice.of.get(title).unwrap_or(&vec![]), &changes);
@@ -220,6 +237,46 @@ fn twice_the_net_changes_what_was_too_large_and_no_other() {
 /// Nets and files that [8] changes.
 const GROWN: (usize, usize) = (34, 5);
 
+/// "A net of loads all 0 is stored as before", and a file may have 10 blocks [11]: a pin that is read has a third number, which is 0, and
+/// all else stands as it stood, but for what `route` says to a net's file of 10 blocks, which was refused 1 for its length.
+#[test]
+fn loads_change_pins_that_are_read_and_files_of_ten_blocks() {
+    let since = Since::read();
+    let (mut reads, mut longer) = (0, 0);
+    for record in records(&stored()) {
+        let before = since.eighth(&record);
+        let (ruled, after) = (loads(&before), since.expected(&record));
+        let title = record.lines().next().unwrap_or_default();
+        for (line, now) in before.lines().zip(ruled.lines()) {
+            if line != now {
+                let bare = |pin: &str| pin.strip_suffix(" 0").expect(title).to_string();
+                let bare: Vec<String> = now.split(", ").map(bare).collect();
+                assert_eq!(line, bare.join(", "), "{title}");
+                assert!(line.starts_with("read 0 pins "), "{title}");
+                reads += 1;
+            }
+        }
+        assert_eq!(before.lines().count(), ruled.lines().count(), "{title}");
+        let changes = Change::between(&ruled, &after);
+        assert_eq!(since.loaded.of.get(title).unwrap_or(&vec![]), &changes);
+        if let [change] = &changes[..] {
+            let Input::Net { lists, .. } = case(&record).input else {
+                panic!("{title} is no net")
+            };
+            let (m, k) = (lists.pins.len() / 2, lists.macros.len() / 4);
+            assert_eq!(1 + m.div_ceil(60) + k.div_ceil(30), 10, "{title}");
+            assert_eq!(change.was, "route refused 1\n", "{title}");
+            longer += 1;
+        }
+        assert!(changes.len() <= 1, "{title}");
+    }
+    assert_eq!(longer, since.loaded.of.len(), "a title that no record has");
+    assert_eq!((reads, longer), LOADED);
+}
+
+/// Files whose pins [11] reads with a load of 0, and nets whose file of 10 blocks it looks into.
+const LOADED: (usize, usize) = (3, 1);
+
 /// The differences of [3] are those of its rule: by the second program the stored refined tree is that of the rule of document 01, and the
 /// expected one that of [3], on every net that was allowed then.
 #[test]
@@ -230,6 +287,7 @@ fn the_second_program_gives_both_by_their_rules() {
         let Input::Net { lists, .. } = case(&record).input else {
             continue;
         };
+        let lists = with_loads_of_0(lists);
         if !record.contains("\ncheck 0\n") {
             continue;
         }
@@ -295,6 +353,7 @@ fn a_file_of_weights_one_is_that_of_the_first_release() {
         let said =
             |bytes: &[u8]| format!("file 0 bytes {} digest {:016x}", bytes.len(), digest(bytes));
         assert_eq!(lists.weights, Weights::ONE);
+        let lists = with_loads_of_0(lists);
         let (pins, macros, weights) = lists.parts();
         let write = |weights| {
             let mut bytes = vec![0; netfile::BLOCKS * netfile::BLOCK_BYTES];
@@ -327,6 +386,10 @@ fn the_stored_file_is_the_one_of_the_first_release() {
     assert_eq!(
         format!("{:016x}", digest(text("twice.txt").as_bytes())),
         "c8af8dc07970fb21"
+    );
+    assert_eq!(
+        format!("{:016x}", digest(text("loads.txt").as_bytes())),
+        "30a6d9de9c1768d5"
     );
 }
 

@@ -10,7 +10,7 @@ use harness::library;
 use harness::matching::routed;
 use reference::best;
 use reference::generate::{net, weighted, Kind};
-use reference::lists::Lists;
+use reference::lists::{unloaded, Lists};
 use reference::net::Weights;
 use reference::netfile;
 
@@ -302,7 +302,7 @@ struct Lent {
 
 impl Lent {
     fn to(lists: &Lists, at: At) -> Lent {
-        let (m, k) = (lists.pins.len() / 2, lists.macros.len() / 4);
+        let (m, k) = (lists.pins.len() / 3, lists.macros.len() / 4);
         let n = m + 4 * k;
         let numbers = |count| Fenced::of(&vec![NUMBER; count], at);
         Lent {
@@ -312,11 +312,8 @@ impl Lent {
             tree: numbers(4 * (n + m)),
             slid: numbers(8 * (n + m)),
             wires: numbers(8 * (n + m)),
-            bytes: Fenced::of(
-                &vec![BEFORE; 512 * (1 + m.div_ceil(60) + k.div_ceil(30))],
-                at,
-            ),
-            pins: numbers(256),
+            bytes: Fenced::of(&vec![BEFORE; netfile::write(lists).len()], at),
+            pins: numbers(384),
             macros: numbers(512),
         }
     }
@@ -344,15 +341,15 @@ impl Lent {
 /// What the safe calls answer for an allowed net, and what they leave in lent vectors.
 fn by_slices(lists: &Lists) -> ([Answer; 8], Vec<u8>) {
     let (pins, macros, weights) = lists.parts();
-    let (m, k) = (pins.len() / 2, macros.len() / 4);
+    let (m, k) = (pins.len() / 3, macros.len() / 4);
     let n = m + 4 * k;
     let numbers = |count| vec![NUMBER; count];
     let (mut vertices, mut edges, mut paths) =
         (numbers(2 * n), numbers(16 * n), vec![TOTAL; 5 * m]);
     let (mut tree, mut drawn) = (numbers(4 * (n + m)), numbers(8 * (n + m)));
     let mut moved = numbers(8 * (n + m));
-    let mut file = vec![BEFORE; 512 * (1 + m.div_ceil(60) + k.div_ceil(30))];
-    let (mut pins_read, mut macros_read) = (numbers(256), numbers(512));
+    let mut file = vec![BEFORE; netfile::write(lists).len()];
+    let (mut pins_read, mut macros_read) = (numbers(384), numbers(512));
     library::check(pins, macros, weights).unwrap();
     let (v, e) = library::graph(pins, macros, weights, &mut vertices, &mut edges).unwrap();
     let (p, terminal) = library::terminal_tree(pins, macros, weights, &mut paths).unwrap();
@@ -388,14 +385,14 @@ fn by_slices(lists: &Lists) -> ([Answer; 8], Vec<u8>) {
 
 fn third_net() -> Lists {
     Lists {
-        pins: vec![0, 0, 4, 0, 2, 3],
+        pins: vec![0, 0, 0, 4, 0, 0, 2, 3, 0],
         ..Lists::default()
     }
 }
 
 fn around_one() -> Lists {
     Lists {
-        pins: vec![0, 0, 10, 0],
+        pins: vec![0, 0, 0, 10, 0, 0],
         macros: vec![4, -2, 6, 3],
         weights: Weights { x: 2, y: 3 },
     }
@@ -502,18 +499,18 @@ fn nothing_else_is_touched() {
     }
 }
 
-/// Lists are only read, so both may be the same numbers: two corners of a macro as pins.
+/// Lists are only read, so they may share numbers: two corners of a macro as pins, the first with a load.
 #[test]
 fn lists_that_overlap() {
-    let corners = vec![0, 0, 2, 2];
+    let corners = vec![0, 0, 2, 2, 2, 0];
     let lists = Lists {
-        pins: corners.clone(),
-        macros: corners,
+        macros: corners[..4].to_vec(),
+        pins: corners,
         ..Lists::default()
     };
     let mut lent = Lent::to(&lists, At::Back);
-    let both = list(&lists.pins);
-    let answers = all(both, both, lists.weights, &mut lent);
+    let (pins, macros) = (list(&lists.pins), list(&lists.pins[..4]));
+    let answers = all(pins, macros, lists.weights, &mut lent);
     assert_eq!((answers, lent.bytes()), by_slices(&lists));
 }
 
@@ -637,7 +634,7 @@ fn edges_are_read_and_nothing_else() {
             assert_eq!(checked, *expected);
         }
     }
-    let alone = [5, 5];
+    let alone = [5, 5, 0];
     assert_eq!(check_tree(none(), none(), one, none()), refused(11));
     assert_eq!(
         check_tree(list(&alone), none(), one, none()),
@@ -662,7 +659,7 @@ fn distances_within_their_space() {
         answer(code, &[count])
     }
     for at in [At::Front, At::Back] {
-        let pins = Fenced::of(&[1, 0, 1, 3, 0, 1, 2, 2], at).read_only();
+        let pins = Fenced::of(&[1, 0, 0, 1, 3, 0, 0, 1, 0, 2, 2, 0], at).read_only();
         let mut exact = Fenced::of(&[7i64; 16], at);
         let given = distances(pins.list(), none(), exact.space());
         assert_eq!(given, answer(0, &[16]));
@@ -678,11 +675,11 @@ fn distances_within_their_space() {
 #[test]
 fn best_trees_between_fences() {
     let five = Lists {
-        pins: vec![2, 0, 1, 3, 0, 1, 3, 1, 0, 0],
+        pins: unloaded(&[2, 0, 1, 3, 0, 1, 3, 1, 0, 0]),
         ..Lists::default()
     };
     for (lists, total) in [(five, 7), (around_one(), 32)] {
-        let asked = best::edge_numbers(lists.pins.len() / 2, lists.macros.len() / 4);
+        let asked = best::edge_numbers(lists.pins.len() / 3, lists.macros.len() / 4);
         for at in [At::Front, At::Back] {
             let pins = Fenced::of(&lists.pins, at).read_only();
             let macros = Fenced::of(&lists.macros, at).read_only();

@@ -7,7 +7,7 @@ use std::sync::Mutex;
 use harness::library;
 use harness::matching::{each_of, refused, routed, Case};
 use reference::generate::{bands, BandList};
-use reference::lists::Lists;
+use reference::lists::{unloaded, Lists};
 use reference::net::{check, Weights};
 use reference::operations;
 use reference::random::Random;
@@ -144,7 +144,7 @@ fn weights_are_not_charged() {
             );
         }
     }
-    let pins = [3, 1, 0, 0, 2, 0, 0, 2];
+    let pins = [3, 1, 0, 0, 0, 0, 2, 0, 0, 0, 2, 0];
     let price = |bands: &[u64]| library::price(&pins, &[], Weights { x: 1, y: 3 }, bands);
     assert_eq!(price(&[7, 1_000]), Ok(7));
     assert_eq!(price(&[6, 1_000]), Err(32));
@@ -158,9 +158,7 @@ fn net_of(metal: u64) -> Vec<i32> {
     let metal = i32::try_from(metal).unwrap();
     if metal <= APART {
         let across = metal.min(2_000_000);
-        return [0, 0, across, metal - across]
-            .map(|at| at - 1_000_000)
-            .to_vec();
+        return unloaded(&[0, 0, across, metal - across].map(|at| at - 1_000_000));
     }
     // 24 steps join the 25 pins of the grid, and the pin beside it is nearer to its corner than a step.
     let (step, left) = (metal / 24, metal % 24);
@@ -168,7 +166,8 @@ fn net_of(metal: u64) -> Vec<i32> {
     if left > 0 {
         pins.extend([-left, 0]);
     }
-    pins.iter().map(|at| at - 900_000).collect()
+    let moved: Vec<i32> = pins.iter().map(|at| at - 900_000).collect();
+    unloaded(&moved)
 }
 
 /// A thousandth below each half from 0.5 to 9,999.5 hundredths, at it and a thousandth above: the library, the second program and the rule.
@@ -189,7 +188,7 @@ fn charges_at_and_beside_every_half() {
             };
             let rate = (1..4_000).find(fits).unwrap_or(1);
             let (metal, pins) = (thousandths / rate, net_of(thousandths / rate));
-            grids += usize::from(pins.len() > 4);
+            grids += usize::from(pins.len() > 6);
             let list = [metal, rate];
             let said = format!(
                 "{metal} at {rate}, {whole} and {} thousandths",

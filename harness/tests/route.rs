@@ -9,7 +9,7 @@ use std::time::{Duration, Instant};
 
 use harness::matching::{each_of, file, routed};
 use harness::program::path as program;
-use reference::generate::{net, weighted, Kind};
+use reference::generate::{loaded, net, weighted, Kind};
 use reference::lists::Lists;
 use reference::netfile;
 use reference::route::route;
@@ -136,6 +136,7 @@ fn the_worked_nets() {
         "shared-side",
         "on-sides",
         "on-boundary",
+        "loads",
         "eight-pins",
     ] {
         let path =
@@ -162,12 +163,12 @@ fn input_in_small_pieces() {
     }
 }
 
-/// Nothing, a byte less or more than whole blocks, and much more than nine blocks.
+/// Nothing, a byte less or more than whole blocks, and much more than ten blocks.
 #[test]
 fn inputs_of_every_length() {
-    let largest = netfile::write(&net(Kind::Largest, 1));
+    let largest = netfile::write(&loaded(&net(Kind::Largest, 1), 1));
     for length in [
-        0, 1, 511, 512, 513, 3_071, 3_072, 3_073, 4_607, 4_608, 4_609, 5_119, 5_120, 65_536,
+        0, 1, 511, 512, 513, 3_071, 3_072, 3_073, 4_608, 5_119, 5_120, 5_121, 5_631, 5_632, 65_536,
         1_000_000,
     ] {
         let mut bytes = largest.clone();
@@ -219,7 +220,7 @@ fn outputs_that_cannot_be_written() {
     }
 }
 
-/// An input without end is longer than nine blocks, and the answer does not wait for more.
+/// An input without end is longer than ten blocks, and the answer does not wait for more.
 #[test]
 fn an_endless_input() {
     let zeros = File::open("/dev/zero").unwrap();

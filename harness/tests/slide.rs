@@ -121,7 +121,7 @@ fn worked_nets() {
     } in sliding()
     {
         let (pins, macros, weights) = lists.parts();
-        let (m, n) = (pins.len() / 2, pins.len() / 2 + macros.len());
+        let (m, n) = (pins.len() / 3, pins.len() / 3 + macros.len());
         let mut edges = vec![7; 8 * (n + m)];
         let given = library::refined_tree(pins, macros, weights, &mut edges);
         assert_eq!(given.map(|(_, total, _)| total), Ok(refined), "{name}");
@@ -138,7 +138,7 @@ fn worked_nets() {
 #[test]
 fn edges_of_the_first_worked_net() {
     let mut edges = vec![0; 80];
-    let (pins, macros) = ([2, 3, 3, 0, 0, 1], [0, 2, 1, 4]);
+    let (pins, macros) = ([2, 3, 0, 3, 0, 0, 0, 1, 0], [0, 2, 1, 4]);
     let given = library::slid_tree(&pins, &macros, Weights::ONE, &mut edges);
     let expected = [
         [0, 1, 2, 1],

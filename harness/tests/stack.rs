@@ -18,7 +18,7 @@ const STACK: usize = calzundi::STACK_BYTES;
 /// Every operation on a net, with the space that it asks for.
 fn call_all(lists: &Lists) {
     let (pins, macros, weights) = lists.parts();
-    let (m, n) = (pins.len() / 2, pins.len() / 2 + macros.len());
+    let (m, n) = (pins.len() / 3, pins.len() / 3 + macros.len());
     let mut numbers = vec![0; 16 * n + 8 * m];
     library::check(pins, macros, weights).unwrap();
     library::graph(pins, macros, weights, &mut vec![0; 2 * n], &mut numbers).unwrap();
@@ -28,21 +28,21 @@ fn call_all(lists: &Lists) {
     library::check_tree(pins, macros, weights, &numbers[..4 * edges]).unwrap();
     library::wires(pins, macros, weights, &mut numbers).unwrap();
     library::price(pins, macros, weights, &[u64::MAX, 1_000_000]).unwrap();
-    let (few_pins, few_macros) = (&pins[..pins.len().min(32)], &macros[..macros.len().min(64)]);
+    let (few_pins, few_macros) = (&pins[..pins.len().min(48)], &macros[..macros.len().min(64)]);
     library::grid_distances(few_pins, few_macros, weights, &mut vec![0; 256]).unwrap();
-    let (pins_five, mut work) = (&few_pins[..few_pins.len().min(10)], vec![0; best::WORK]);
-    let mut edges = vec![0; best::edge_numbers(pins_five.len() / 2, few_macros.len() / 4)];
+    let (pins_five, mut work) = (&few_pins[..few_pins.len().min(15)], vec![0; best::WORK]);
+    let mut edges = vec![0; best::edge_numbers(pins_five.len() / 3, few_macros.len() / 4)];
     library::best_tree(pins_five, few_macros, weights, &mut work, &mut edges).unwrap();
     let mut bytes = vec![0; calzundi::LONGEST_FILE];
     let given = library::write_file(pins, macros, weights, &mut bytes).unwrap();
-    let (mut pins, mut macros) = (vec![0; 256], vec![0; 512]);
+    let (mut pins, mut macros) = (vec![0; 384], vec![0; 512]);
     library::read_file(&bytes[..given], &mut pins, &mut macros).unwrap();
 }
 
 /// Pins at both ends of a row of 128 macros: ways of more than two hundred vertices.
 fn long_ways() -> Lists {
     Lists {
-        pins: vec![0, 1, 800, 1],
+        pins: vec![0, 1, 0, 800, 1, 0],
         macros: (0..128)
             .flat_map(|i| [3 + 6 * i, 0, 6 + 6 * i, 2])
             .collect(),
@@ -51,10 +51,10 @@ fn long_ways() -> Lists {
 }
 
 /// As many edges as a tree may have: a way of unit steps between two pins.
-fn longest_tree() -> ([i32; 4], Vec<i32>) {
+fn longest_tree() -> ([i32; 6], Vec<i32>) {
     let end = calzundi::BOUGHT_EDGES as i32;
     let steps = (0..end).flat_map(|x| [x, 0, x + 1, 0]);
-    ([0, 0, end, 0], steps.collect())
+    ([0, 0, 0, end, 0, 0], steps.collect())
 }
 
 /// 128 pins and 128 macros, or ways as long as they get.
@@ -77,7 +77,7 @@ fn half_a_mebibyte_is_enough() {
     let (ends, steps) = longest_tree();
     let run = move || {
         nets.iter().for_each(call_all);
-        let length = i64::from(ends[2]);
+        let length = i64::from(ends[3]);
         let passed = library::check_tree(&ends, &[], Weights::ONE, &steps);
         assert_eq!(passed, Ok((length, length)));
     };

@@ -18,13 +18,14 @@ fn example(name: &str) -> Lists {
 }
 
 /// The allowed ones, which have a net file too.
-const ALLOWED: [&str; 6] = [
+const ALLOWED: [&str; 7] = [
     "one-pin",
     "around-one",
     "three-pins",
     "shared-side",
     "on-sides",
     "on-boundary",
+    "loads",
 ];
 
 /// The bytes of an example net file.
@@ -38,9 +39,9 @@ fn example_file(name: &str) -> Vec<u8> {
 fn files_of_the_worked_nets() {
     for name in ALLOWED {
         let (lists, bytes) = (example(name), example_file(name));
-        let (mut pins, mut macros) = (vec![0; 256], vec![0; 512]);
+        let (mut pins, mut macros) = (vec![0; 384], vec![0; 512]);
         let (m, k, weights) = library::read_file(&bytes, &mut pins, &mut macros).expect(name);
-        assert_eq!(pins[..2 * m], lists.pins, "{name}");
+        assert_eq!(pins[..3 * m], lists.pins, "{name}");
         assert_eq!(macros[..4 * k], lists.macros, "{name}");
         assert_eq!(weights, lists.weights, "{name}");
         let mut written = vec![0; bytes.len()];
@@ -77,6 +78,7 @@ fn check_of_the_worked_nets() {
         ("on-sides", Ok(())),
         ("overlapping", Err(16)),
         ("on-boundary", Ok(())),
+        ("loads", Ok(())),
         ("in-interior", Err(17)),
         ("twice-in-interior", Err(15)),
         ("no-width", Err(14)),
@@ -106,7 +108,7 @@ fn trees(pins: &[i32], macros: &[i32]) -> Result<Trees, u32> {
 
 /// All three operations in the space that document 01 names; they must agree on a refusal.
 fn weighed(pins: &[i32], macros: &[i32], weights: Weights) -> Result<Trees, u32> {
-    let (m, n) = (pins.len() / 2, pins.len() / 2 + macros.len());
+    let (m, n) = (pins.len() / 3, pins.len() / 3 + macros.len());
     let mut paths = vec![0; 5 * m];
     let (mut edges, mut wires) = (vec![0; 4 * (n + m)], vec![0; 8 * (n + m)]);
     let terminal = library::terminal_tree(pins, macros, weights, &mut paths);
@@ -183,15 +185,15 @@ fn refusals_of_the_worked_nets() {
 /// "Coordinate 1,000,000 passes, 1,000,001 is 13", and by [8] 128 pins pass, 129 are 11; 128 macros pass, 129 are 12.
 #[test]
 fn trees_at_the_bounds() {
-    let ends = [-1_000_000, -1_000_000, 1_000_000, 1_000_000];
+    let ends = [-1_000_000, -1_000_000, 0, 1_000_000, 1_000_000, 0];
     let laid = trees(&ends, &[]).unwrap();
     assert_eq!((laid.terminal, laid.refined), (4_000_000, 4_000_000));
     assert_eq!(
         laid.wires[..4],
         [-1_000_000, -1_000_000, 1_000_000, -1_000_000]
     );
-    assert_eq!(trees(&[0, 0, 1_000_001, 0], &[]), Err(13));
-    let pins = |count: i32| (0..count).flat_map(|i| [i, 0]).collect::<Vec<i32>>();
+    assert_eq!(trees(&[0, 0, 0, 1_000_001, 0, 0], &[]), Err(13));
+    let pins = |count: i32| (0..count).flat_map(|i| [i, 0, 0]).collect::<Vec<i32>>();
     let macros = |count: i32| {
         (0..count)
             .flat_map(|i| [i, 0, i + 1, 1])
@@ -200,12 +202,12 @@ fn trees_at_the_bounds() {
     let laid = trees(&pins(128), &[]).unwrap();
     assert_eq!((laid.terminal, laid.refined), (127, 127));
     assert_eq!(trees(&pins(129), &[]), Err(11));
-    let laid = trees(&[0, 0, 128, 1], &macros(128)).unwrap();
+    let laid = trees(&[0, 0, 0, 128, 1, 0], &macros(128)).unwrap();
     assert_eq!((laid.terminal, laid.refined), (129, 129));
-    assert_eq!(trees(&[0, 0], &macros(129)), Err(12));
+    assert_eq!(trees(&[0, 0, 0], &macros(129)), Err(12));
 }
 
-/// [8]: a file may have 9 blocks, and with 10 it is 1 whatever it counts. A right layout of 9 with 129 pins or macros is 11 or 12.
+/// A file may have 10 blocks since [11], and with 11 it is 1 whatever it counts. A right layout of 9 with 129 pins or macros is 11 or 12.
 #[test]
 fn files_at_the_bounds() {
     for (m, k, blocks, answer) in [
@@ -214,22 +216,24 @@ fn files_at_the_bounds() {
         (128, 129, 9, Err(12)),
         (480, 0, 9, Err(11)),
         (1, 129, 7, Err(12)),
-        (128, 151, 10, Err(1)),
-        (481, 0, 10, Err(1)),
+        (128, 151, 10, Err(12)),
+        (481, 0, 10, Err(11)),
+        (128, 181, 11, Err(1)),
+        (541, 0, 11, Err(1)),
     ] {
         // Pins on a diagonal below squares along another.
         let file = netfile::write(&Lists {
-            pins: (0..m).flat_map(|i| [i, i - 9]).collect(),
+            pins: (0..m).flat_map(|i| [i, i - 9, 0]).collect(),
             macros: (0..k)
                 .flat_map(|i| [2 * i, 2 * i, 2 * i + 1, 2 * i + 1])
                 .collect(),
             ..Lists::default()
         });
         assert_eq!(file.len(), blocks * netfile::BLOCK_BYTES, "{m} and {k}");
-        let (mut pins, mut macros) = (vec![0; 256], vec![0; 512]);
+        let (mut pins, mut macros) = (vec![0; 384], vec![0; 512]);
         let read = library::read_file(&file, &mut pins, &mut macros);
         assert_eq!(read, answer, "{m} and {k}");
-        for (fewer, short) in [((255, 512), "pins"), ((256, 511), "macros")] {
+        for (fewer, short) in [((383, 512), "pins"), ((384, 511), "macros")] {
             let read = library::read_file(&file, &mut pins[..fewer.0], &mut macros[..fewer.1]);
             assert_eq!(read, Err(21), "{m} and {k}, too little for {short}");
         }
@@ -237,7 +241,7 @@ fn files_at_the_bounds() {
 }
 
 /// The net of the first request: weights 1 and 3, and a round that gains 1 in cost and lays 1 more metal than it removes.
-const WEIGHED: [i32; 8] = [3, 1, 0, 0, 2, 0, 0, 2];
+const WEIGHED: [i32; 12] = [3, 1, 0, 0, 0, 0, 2, 0, 0, 0, 2, 0];
 
 #[test]
 fn trees_of_the_weighed_net() {
@@ -279,7 +283,7 @@ fn weights_at_the_bounds() {
     let lists = example("overlapping");
     let nine = Weights { x: 9, y: 1 };
     assert_eq!(weighed(&lists.pins, &lists.macros, nine), Err(16));
-    let ends = [-1_000_000, -1_000_000, 1_000_000, 1_000_000];
+    let ends = [-1_000_000, -1_000_000, 0, 1_000_000, 1_000_000, 0];
     let laid = weighed(&ends, &[], Weights { x: 8, y: 8 }).unwrap();
     assert_eq!((laid.terminal, laid.refined), (32_000_000, 32_000_000));
     assert_eq!(laid.metal, 4_000_000);
@@ -298,7 +302,7 @@ fn weight_words_of_the_file() {
             blocks[0][at] = word;
             netfile::seal(&mut blocks[0]);
             let bytes = netfile::bytes_of(&blocks);
-            let read = library::read_file(&bytes, &mut [0; 256], &mut [0; 512]);
+            let read = library::read_file(&bytes, &mut [0; 384], &mut [0; 512]);
             let weight = if word == 0 { 1 } else { word as i32 };
             let weights = match at {
                 6 => Weights { x: weight, y: 1 },
@@ -321,7 +325,7 @@ fn weight_words_of_the_file() {
 /// A dropped candidate would have won: the net of docs/DECISIONS.md.
 #[test]
 fn a_dropped_candidate_changes_the_tree() {
-    let pins = [0, 9, 2, 11, 3, 18, 4, 10, 9, 15, 13, 11];
+    let pins = [0, 9, 0, 2, 11, 0, 3, 18, 0, 4, 10, 0, 9, 15, 0, 13, 11, 0];
     let laid = trees(&pins, &[0, 11, 4, 18, 4, 11, 9, 18]).unwrap();
     assert_eq!(laid.edges[..8], [0, 9, 2, 10, 2, 10, 2, 11]);
     assert_eq!((laid.edges.len(), laid.refined), (40, 29));
@@ -331,7 +335,7 @@ fn a_dropped_candidate_changes_the_tree() {
 /// for 4 more, and the edge from (4, 0) to (4, 7), which is 7, goes.
 #[test]
 fn a_corner_beside_the_tree() {
-    let laid = trees(&[4, 0, 4, 7, 8, 4], &[4, 0, 5, 8]).unwrap();
+    let laid = trees(&[4, 0, 0, 4, 7, 0, 8, 4, 0], &[4, 0, 5, 8]).unwrap();
     assert_eq!((laid.terminal, laid.refined, laid.metal), (15, 14, 14));
     let edges = [
         [4, 0, 5, 0],
@@ -350,7 +354,7 @@ fn a_corner_beside_the_tree() {
 fn a_round_beside_the_tree_takes_a_round_on_it() {
     let mut macros = chambers(4);
     macros.extend([-412, 0, -400, 96]);
-    let laid = trees(&[-400, 0, -400, 84, -448, 48, 410, 0], &macros).unwrap();
+    let laid = trees(&[-400, 0, 0, -400, 84, 0, -448, 48, 0, 410, 0, 0], &macros).unwrap();
     assert_eq!((laid.terminal, laid.refined), (1150, 1018));
 }
 
@@ -358,7 +362,7 @@ fn a_round_beside_the_tree_takes_a_round_on_it() {
 #[test]
 fn one_pin_with_vertices_beside_it() {
     for macros in [vec![], vec![0, 0, 3, 3], chambers(4)] {
-        let laid = trees(&[-5, 5], &macros).unwrap();
+        let laid = trees(&[-5, 5, 0], &macros).unwrap();
         assert_eq!((laid.terminal, laid.refined, laid.metal), (0, 0, 0));
         assert_eq!((laid.edges, laid.wires), (vec![], vec![]));
     }

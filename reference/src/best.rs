@@ -148,10 +148,12 @@ pub fn cost_by_edge_sets(net: &Net, most: usize) -> Option<i64> {
 #[cfg(test)]
 mod tests {
     use super::*;
+    use crate::lists::unloaded;
     use crate::net::{check, Weights};
 
-    fn both(pins: &[i32], macros: &[i32], x: i32, y: i32) -> (i64, Option<i64>) {
-        let net = check(pins, macros, Weights { x, y }).expect("an allowed net");
+    fn both(places: &[i32], macros: &[i32], x: i32, y: i32) -> (i64, Option<i64>) {
+        let pins = unloaded(places);
+        let net = check(&pins, macros, Weights { x, y }).expect("an allowed net");
         (cost(&net), cost_by_edge_sets(&net, 17))
     }
 

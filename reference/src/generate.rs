@@ -4,7 +4,8 @@
 //! not as they should be, `BandList` lists of bands and `Bought` lists of edges, hostile ones among them.
 //!
 //! `net`, `hostile` and `damaged` give weights 1 and 1, and `weighted`, `hostile_weighted` and
-//! `damaged_weighted` the same kinds with weights of all sorts. A new kind goes to the end of its
+//! `damaged_weighted` the same kinds with weights of all sorts. All of these have loads of 0;
+//! `loaded` gives loads to any of them, and `damaged_loaded` damages files of such nets. A new kind goes to the end of its
 //! list, so that the others' seeds keep giving what they gave.
 
 mod bands;
@@ -12,6 +13,7 @@ mod bought;
 mod damaged;
 mod draft;
 mod hostile;
+mod loads;
 mod nets;
 mod permuted;
 mod searched;
@@ -20,8 +22,9 @@ mod weights;
 
 pub use bands::{bands, BandList};
 pub use bought::{bought, Bought, Ours};
-pub use damaged::{damaged, damaged_weighted, Damage};
+pub use damaged::{damaged, damaged_loaded, damaged_weighted, Damage};
 pub use hostile::{hostile, hostile_weighted, refusal, Hostile};
+pub use loads::loaded;
 pub use nets::{half, net, weighted, Kind};
 pub use permuted::permuted;
 pub use walls::chambers;

@@ -125,10 +125,11 @@ fn search(from: Place, steps: impl Fn(Place) -> Vec<(Place, i64)>) -> BTreeMap<P
 #[cfg(test)]
 mod tests {
     use super::*;
+    use crate::lists::unloaded;
     use crate::net::{check, Weights};
 
     fn net(pins: &[i32], macros: &[i32], x: i32, y: i32) -> Net {
-        check(pins, macros, Weights { x, y }).expect("an allowed net")
+        check(&unloaded(pins), macros, Weights { x, y }).expect("an allowed net")
     }
 
     /// Between the first two of four pins the graph's way is 5; on the grid it is 3.

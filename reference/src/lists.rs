@@ -2,13 +2,24 @@
 
 use crate::net::Weights;
 
-/// Pins as pairs (x, y) and macros as fours (left, bottom, right, top), if they are whole at all,
-/// and the two weights.
+/// Pins as threes (x, y, load) and macros as fours (left, bottom, right, top), if they are whole at
+/// all, and the two weights.
 #[derive(Clone, Debug, PartialEq, Eq)]
 pub struct Lists {
     pub pins: Vec<i32>,
     pub macros: Vec<i32>,
     pub weights: Weights,
+}
+
+/// Pins without a load at places that are given as pairs (x, y); a number left over stays.
+pub fn unloaded(places: &[i32]) -> Vec<i32> {
+    places
+        .chunks(2)
+        .flat_map(|place| match place {
+            [x, y] => vec![*x, *y, 0],
+            left_over => left_over.to_vec(),
+        })
+        .collect()
 }
 
 impl Lists {

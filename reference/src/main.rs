@@ -7,7 +7,8 @@ use reference::answers::{
     check_text, graph_text, refined_text, slid_text, terminal_text, wires_text,
 };
 use reference::generate::{
-    damaged, damaged_weighted, hostile, hostile_weighted, net, weighted, Damage, Hostile, Kind,
+    damaged, damaged_loaded, damaged_weighted, hostile, hostile_weighted, loaded, net, weighted,
+    Damage, Hostile, Kind,
 };
 use reference::lists::Lists;
 use reference::net::{check, Net};
@@ -31,13 +32,14 @@ usage: reference COMMAND, with the input on standard input
   unpack             net file  -> text form
   generate KIND SEED nothing   -> text form of a net, or of hostile lists, of this kind
   damage KIND SEED   nothing   -> a damaged net file of this kind
-                     With the word `weighted` after the seed, weights are of all sorts.
+                     With the word `weighted` after the seed, weights are of all sorts;
+                     with `loaded` the loads of nets and of damaged files are too.
   kinds              nothing   -> the kinds that generate and damage take
   help               nothing   -> this text
 
-The text form has one entry a line, `pin x y` or `macro left bottom right top`, and at most one
-line `weights x y`, without which both are 1; blank lines and comments from # to the end of the
-line are allowed. A seed is a whole number from 0 to 2^64 - 1.
+The text form has one entry a line, `pin x y load` or `macro left bottom right top`, and at most
+one line `weights x y`, without which both are 1; a load of 0 may be left out; blank lines and
+comments from # to the end of the line are allowed. A seed is a whole number from 0 to 2^64 - 1.
 A net or file that is refused prints `refused` and the number.
 
 exit codes: 0 answered, refusals included; 1 a bad line, or input or output failed; 2 bad usage
@@ -82,10 +84,10 @@ fn answer(words: &[&str]) -> Result<Vec<u8>, Failure> {
         ["route"] => Ok(route(&input()?).into_bytes()),
         ["pack"] => pack(),
         ["unpack"] => unpack(),
-        ["generate", kind, seed] => generate(kind, seed, false),
-        ["generate", kind, seed, "weighted"] => generate(kind, seed, true),
-        ["damage", kind, seed] => damage(kind, seed, false),
-        ["damage", kind, seed, "weighted"] => damage(kind, seed, true),
+        ["generate", kind, seed] => generate(kind, seed, ""),
+        ["generate", kind, seed, word @ ("weighted" | "loaded")] => generate(kind, seed, word),
+        ["damage", kind, seed] => damage(kind, seed, ""),
+        ["damage", kind, seed, word @ ("weighted" | "loaded")] => damage(kind, seed, word),
         ["kinds"] => Ok(kinds().into_bytes()),
         ["help" | "--help" | "-h"] => Ok(HELP.as_bytes().to_vec()),
         [] => Err(Failure::Usage("no command".into())),
@@ -143,27 +145,28 @@ fn unpack() -> Result<Vec<u8>, Failure> {
     Ok(lists.map_or_else(refused, |lists| text::print(&lists).into_bytes()))
 }
 
-fn generate(kind: &str, seed: &str, is_weighted: bool) -> Result<Vec<u8>, Failure> {
+fn generate(kind: &str, seed: &str, word: &str) -> Result<Vec<u8>, Failure> {
     let number = seed_of(seed)?;
-    let lists = match (Kind::named(kind), Hostile::named(kind), is_weighted) {
-        (Some(kind), _, false) => net(kind, number),
-        (Some(kind), _, true) => weighted(kind, number),
-        (_, Some(kind), false) => hostile(kind, number),
-        (_, Some(kind), true) => hostile_weighted(kind, number),
+    let lists = match (Kind::named(kind), Hostile::named(kind), word) {
+        (Some(kind), _, "") => net(kind, number),
+        (Some(kind), _, "weighted") => weighted(kind, number),
+        (Some(kind), _, _) => loaded(&weighted(kind, number), number),
+        (_, Some(kind), "") => hostile(kind, number),
+        (_, Some(kind), _) => hostile_weighted(kind, number),
         _ => return Err(no_kind(kind)),
     };
-    let word = if is_weighted { " weighted" } else { "" };
-    let header = format!("# {kind} {seed}{word}\n");
+    let said = format!("# {kind} {seed} {word}");
+    let header = format!("{}\n", said.trim_end());
     Ok((header + &text::print(&lists)).into_bytes())
 }
 
-fn damage(kind: &str, seed: &str, is_weighted: bool) -> Result<Vec<u8>, Failure> {
+fn damage(kind: &str, seed: &str, word: &str) -> Result<Vec<u8>, Failure> {
     let number = seed_of(seed)?;
     let kind = Damage::named(kind).ok_or_else(|| no_kind(kind))?;
-    let made = if is_weighted {
-        damaged_weighted
-    } else {
-        damaged
+    let made = match word {
+        "" => damaged,
+        "weighted" => damaged_weighted,
+        _ => damaged_loaded,
     };
     Ok(made(kind, number))
 }

@@ -81,10 +81,12 @@ impl Macro {
 }
 
 /// "A net is a list of pins and a list of macros", in list order, and "gains two weights"; an
-/// allowed one, since only the check makes it.
+/// allowed one, since only the check makes it. "A pin becomes three numbers: x, y and load." Trees
+/// are made of the places, so these stand alone; the loads are beside them, in the same order.
 #[derive(Clone, Debug, PartialEq, Eq)]
 pub struct Net {
     pins: Vec<Place>,
+    loads: Vec<i32>,
     macros: Vec<Macro>,
     weights: Weights,
 }
@@ -95,12 +97,21 @@ impl Net {
     pub const MACROS: usize = 128;
     /// "Coordinates are signed whole numbers from −1,000,000 to 1,000,000."
     pub const COORDINATE: i32 = 1_000_000;
+    /// "A pin becomes three numbers: x, y and load, a whole number from 0 to 1,000,000."
+    pub const PIN_NUMBERS: usize = 3;
+    pub const MACRO_NUMBERS: usize = 4;
+    pub const LOAD: i32 = 1_000_000;
     /// "Two weights, whole numbers 1 to 8."
     pub const LEAST_WEIGHT: i32 = 1;
     pub const GREATEST_WEIGHT: i32 = 8;
 
     pub fn pins(&self) -> &[Place] {
         &self.pins
+    }
+
+    /// The pins' loads, in the order of the pins.
+    pub fn loads(&self) -> &[i32] {
+        &self.loads
     }
 
     pub fn macros(&self) -> &[Macro] {
@@ -130,18 +141,26 @@ impl Net {
 /// "Check a net." The refusals in their order; each test covers the whole net before the next
 /// begins. "A net is allowed when no number of this check applies."
 pub fn check(pins: &[i32], macros: &[i32], weights: Weights) -> Result<Net, u32> {
-    if !pins.len().is_multiple_of(2) || pins.is_empty() || pins.len() / 2 > Net::PINS {
+    // "11 means whole threes."
+    let whole = |list: &[i32], width| list.len().is_multiple_of(width);
+    let m = pins.len() / Net::PIN_NUMBERS;
+    if !whole(pins, Net::PIN_NUMBERS) || m == 0 || m > Net::PINS {
         return Err(11);
     }
-    if !macros.len().is_multiple_of(4) || macros.len() / 4 > Net::MACROS {
+    if !whole(macros, Net::MACRO_NUMBERS) || macros.len() / Net::MACRO_NUMBERS > Net::MACROS {
         return Err(12);
     }
+    // "13 covers a load out of range."
     let range = -Net::COORDINATE..=Net::COORDINATE;
-    if pins.iter().chain(macros).any(|c| !range.contains(c)) {
+    let is_wrong = |pin: &[i32]| {
+        !pin[..2].iter().all(|c| range.contains(c)) || !(0..=Net::LOAD).contains(&pin[2])
+    };
+    if pins.chunks(Net::PIN_NUMBERS).any(is_wrong) || macros.iter().any(|c| !range.contains(c)) {
         return Err(13);
     }
     let net = Net {
         pins: pins_of(pins),
+        loads: pins.chunks(Net::PIN_NUMBERS).map(|pin| pin[2]).collect(),
         macros: macros_of(macros),
         weights,
     };
@@ -152,6 +171,7 @@ pub fn check(pins: &[i32], macros: &[i32], weights: Weights) -> Result<Net, u32>
     {
         return Err(14);
     }
+    // "Pins are the same if their places are, whatever the load."
     if any_pair(&net.pins, |one, other| one == other) {
         return Err(15);
     }
@@ -173,12 +193,12 @@ pub fn check(pins: &[i32], macros: &[i32], weights: Weights) -> Result<Net, u32>
     Ok(net)
 }
 
-/// The pins of a list of whole pairs.
+/// The places of the pins of a list of whole threes.
 fn pins_of(list: &[i32]) -> Vec<Place> {
-    list.chunks_exact(2)
-        .map(|pair| Place {
-            x: i64::from(pair[0]),
-            y: i64::from(pair[1]),
+    list.chunks_exact(Net::PIN_NUMBERS)
+        .map(|pin| Place {
+            x: i64::from(pin[0]),
+            y: i64::from(pin[1]),
         })
         .collect()
 }

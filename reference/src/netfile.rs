@@ -1,24 +1,28 @@
 //! The net file: blocks of words, the two sums, writing and reading.
 
-use crate::lists::Lists;
-use crate::net::Weights;
+use crate::lists::{unloaded, Lists};
+use crate::net::{Net, Weights};
 
 /// "Blocks of 512 bytes, read as 128 words of 32 bits, low byte first."
 pub const BLOCK_BYTES: usize = 512;
 pub const BLOCK_WORDS: usize = 128;
-/// "A file up to 9 blocks."
-pub const BLOCKS: usize = 9;
+/// "Up to 10 blocks in all": a head, 128 pins "40 a block" and 128 macros 30 a block.
+pub const BLOCKS: usize = 10;
 
 /// "Word 0 is the kind (1 head, 2 pins, 3 macros)."
 const HEAD: u32 = 1;
 const PINS: u32 = 2;
 const MACROS: u32 = 3;
+/// "Any other uses pin blocks of kind 4, entries of three words, 40 a block."
+const LOADED: u32 = 4;
 
 /// "Entries begin at word 4."
 const ENTRIES: usize = 4;
 /// "A pin is two words (x, y), at most 60 a block; a macro four, at most 30."
 const PIN_WORDS: usize = 2;
 const PINS_A_BLOCK: usize = 60;
+const LOADED_WORDS: usize = 3;
+const LOADED_A_BLOCK: usize = 40;
 const MACRO_WORDS: usize = 4;
 const MACROS_A_BLOCK: usize = 30;
 /// "Head words 6 and 7 of the file hold the weights", after m and k.
@@ -70,17 +74,26 @@ pub fn bytes_of(blocks: &[Block]) -> Vec<u8> {
 }
 
 /// The file of two lists of whole entries with weights 1 to 8. "Order: head, pins, macros, list
-/// order kept, every block but a list's last full. A list of none has no block."
+/// order kept, every block but a list's last full. A list of none has no block." "A net of loads all
+/// 0 is stored as before. Any other uses pin blocks of kind 4."
 pub fn write(lists: &Lists) -> Vec<u8> {
     let mut head = [0; BLOCK_WORDS];
     head[0] = HEAD;
-    head[4] = (lists.pins.len() / PIN_WORDS) as u32;
+    head[4] = (lists.pins.len() / Net::PIN_NUMBERS) as u32;
     head[5] = (lists.macros.len() / MACRO_WORDS) as u32;
     head[6] = weight_word(lists.weights.x);
     head[7] = weight_word(lists.weights.y);
     let mut blocks = vec![head];
-    for chunk in lists.pins.chunks(PINS_A_BLOCK * PIN_WORDS) {
-        blocks.push(list_block(PINS, blocks.len(), PIN_WORDS, chunk));
+    let pins = lists.pins.chunks_exact(Net::PIN_NUMBERS);
+    if pins.clone().all(|pin| pin[2] == 0) {
+        let places: Vec<i32> = pins.flat_map(|pin| [pin[0], pin[1]]).collect();
+        for chunk in places.chunks(PINS_A_BLOCK * PIN_WORDS) {
+            blocks.push(list_block(PINS, blocks.len(), PIN_WORDS, chunk));
+        }
+    } else {
+        for chunk in lists.pins.chunks(LOADED_A_BLOCK * LOADED_WORDS) {
+            blocks.push(list_block(LOADED, blocks.len(), LOADED_WORDS, chunk));
+        }
     }
     for chunk in lists.macros.chunks(MACROS_A_BLOCK * MACRO_WORDS) {
         blocks.push(list_block(MACROS, blocks.len(), MACRO_WORDS, chunk));
@@ -153,13 +166,21 @@ fn layout(blocks: &[Block]) -> Option<Lists> {
         },
         ..Lists::default()
     };
+    // The head does not tell how the pins are stored; the first of their blocks does, and all others
+    // are like it.
+    let loaded = blocks.get(1).is_some_and(|block| block[0] == LOADED);
+    let (kind, words, a_block) = if loaded {
+        (LOADED, LOADED_WORDS, LOADED_A_BLOCK)
+    } else {
+        (PINS, PIN_WORDS, PINS_A_BLOCK)
+    };
     for (number, block) in rest {
         if pins_left > 0 {
-            let count = pins_left.min(PINS_A_BLOCK as u64);
-            let used = count as usize * PIN_WORDS;
+            let count = pins_left.min(a_block as u64);
+            let used = count as usize * words;
             lists
                 .pins
-                .extend(entries(block, PINS, number, count, used)?);
+                .extend(entries(block, kind, number, count, used)?);
             pins_left -= count;
         } else if macros_left > 0 {
             let count = macros_left.min(MACROS_A_BLOCK as u64);
@@ -172,6 +193,15 @@ fn layout(blocks: &[Block]) -> Option<Lists> {
             // A block that neither list has entries for.
             return None;
         }
+    }
+    if loaded {
+        // "A kind 4 file with all loads 0 is refused as 3."
+        let pins = lists.pins.chunks_exact(LOADED_WORDS);
+        if pins.clone().all(|pin| pin[2] == 0) {
+            return None;
+        }
+    } else {
+        lists.pins = unloaded(&lists.pins);
     }
     (pins_left == 0 && macros_left == 0).then_some(lists)
 }

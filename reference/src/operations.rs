@@ -195,14 +195,16 @@ pub fn write_file(
     Ok(length)
 }
 
-/// "Read a net file. 21 first"; "the reader asks for 256 and 512 numbers", 1, 2, 3,
+/// "Read a net file. 21 first": fewer numbers lent for pins than three for each that a net may have,
+/// or fewer than 512 for macros; 1, 2, 3,
 /// "then 11 to 17". m and k, and "a read's result gives the weights after m and k".
 pub fn read_file(
     bytes: &[u8],
     pins: &mut [i32],
     macros: &mut [i32],
 ) -> Result<(usize, usize, Weights), u32> {
-    if pins.len() < 2 * Net::PINS || macros.len() < 4 * Net::MACROS {
+    if pins.len() < Net::PIN_NUMBERS * Net::PINS || macros.len() < Net::MACRO_NUMBERS * Net::MACROS
+    {
         return Err(21);
     }
     let lists = netfile::read(bytes)?;

@@ -1,11 +1,11 @@
-//! A text form for the two lists, one entry a line: `pin x y` and `macro left bottom right top`.
-//! At most one line is `weights x y`; without it both are 1. Blank lines are allowed, and `#` makes
-//! the rest of its line a comment.
+//! A text form for the two lists, one entry a line: `pin x y load` and `macro left bottom right top`;
+//! a load of 0 may be left out, and is left out in print. At most one line is `weights x y`; without
+//! it both are 1. Blank lines are allowed, and `#` makes the rest of its line a comment.
 
 use std::fmt;
 
 use crate::lists::Lists;
-use crate::net::Weights;
+use crate::net::{Net, Weights};
 
 /// A line that is no entry, and what is wrong with it. Lines count from 1.
 #[derive(Clone, Debug, PartialEq, Eq)]
@@ -57,7 +57,7 @@ fn entry(line: &str, lists: &mut Lists, weights: &mut Vec<i32>) -> Result<(), St
         return Ok(());
     };
     let (list, names): (&mut Vec<i32>, &[&str]) = match kind {
-        "pin" => (&mut lists.pins, &["x", "y"]),
+        "pin" => (&mut lists.pins, &["x", "y", "load"]),
         "macro" => (&mut lists.macros, &["left", "bottom", "right", "top"]),
         "weights" if weights.is_empty() => (weights, &["x", "y"]),
         "weights" => return Err("a second line of weights".into()),
@@ -67,10 +67,12 @@ fn entry(line: &str, lists: &mut Lists, weights: &mut Vec<i32>) -> Result<(), St
             ))
         }
     };
-    for name in names {
-        let word = words
-            .next()
-            .ok_or_else(|| format!("{} a number for {name}", needing(kind)))?;
+    for &name in names {
+        let word = match words.next() {
+            Some(word) => word,
+            None if name == "load" => "0",
+            None => return Err(format!("{} a number for {name}", needing(kind))),
+        };
         let number = word
             .parse()
             .map_err(|_| format!("'{word}' for {name} is no whole number of 32 bits"))?;
@@ -99,9 +101,17 @@ pub fn print(lists: &Lists) -> String {
         let Weights { x, y } = lists.weights;
         text.push_str(&format!("weights {x} {y}\n"));
     }
-    for (kind, list, width) in [("pin", &lists.pins, 2), ("macro", &lists.macros, 4)] {
+    let widths = [
+        ("pin", &lists.pins, Net::PIN_NUMBERS),
+        ("macro", &lists.macros, Net::MACRO_NUMBERS),
+    ];
+    for (kind, list, width) in widths {
         for chunk in list.chunks(width) {
-            let numbers: Vec<String> = chunk.iter().map(i32::to_string).collect();
+            let said = match chunk {
+                [x, y, 0] if kind == "pin" => &[*x, *y],
+                numbers => numbers,
+            };
+            let numbers: Vec<String> = said.iter().map(i32::to_string).collect();
             let start = if chunk.len() == width {
                 ""
             } else {

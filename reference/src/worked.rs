@@ -1,7 +1,7 @@
 //! Nets whose slid trees are worked out, to be run by every program.
 
 use crate::generate::chambers;
-use crate::lists::Lists;
+use crate::lists::{unloaded, Lists};
 use crate::net::Weights;
 
 /// A net with the totals of its refined and its slid tree.
@@ -18,7 +18,7 @@ pub fn sliding() -> Vec<Worked> {
         |name, pins: &[i32], macros: &[i32], [x, y]: [i32; 2], [refined, slid]: [i64; 2]| Worked {
             name,
             lists: Lists {
-                pins: pins.to_vec(),
+                pins: unloaded(pins),
                 macros: macros.to_vec(),
                 weights: Weights { x, y },
             },

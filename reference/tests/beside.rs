@@ -19,7 +19,7 @@ fn totals(net: &Net) -> [i64; 3] {
 /// A corner that no path uses is a shortcut.
 #[test]
 fn a_corner_beside_the_tree() {
-    let net = allowed(&[4, 0, 4, 7, 8, 4], &[4, 0, 5, 8]);
+    let net = allowed(&[4, 0, 0, 4, 7, 0, 8, 4, 0], &[4, 0, 5, 8]);
     assert_eq!(totals(&net), [15, 15, 14]);
 }
 
@@ -29,14 +29,14 @@ fn a_corner_beside_the_tree() {
 fn not_always_shorter_than_by_the_old_rule() {
     let mut macros = chambers(4);
     macros.extend([-412, 0, -400, 96]);
-    let net = allowed(&[-400, 0, -400, 84, -448, 48, 410, 0], &macros);
+    let net = allowed(&[-400, 0, 0, -400, 84, 0, -448, 48, 0, 410, 0, 0], &macros);
     assert_eq!(totals(&net), [1150, 990, 1018]);
 }
 
 #[test]
 fn one_pin_has_no_candidate() {
-    assert_eq!(totals(&allowed(&[5, 5], &[])), [0, 0, 0]);
-    assert_eq!(totals(&allowed(&[5, 5], &[0, 0, 3, 3])), [0, 0, 0]);
+    assert_eq!(totals(&allowed(&[5, 5, 0], &[])), [0, 0, 0]);
+    assert_eq!(totals(&allowed(&[5, 5, 0], &[0, 0, 3, 3])), [0, 0, 0]);
 }
 
 /// Neither rule makes the tree longer than the terminal tree.

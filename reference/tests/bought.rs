@@ -19,7 +19,7 @@ fn checked(pins: &[i32], macros: &[i32], edges: &[[i32; 4]]) -> Result<(i64, i64
     check_tree(pins, macros, weights, &edges.concat())
 }
 
-const THREE: [i32; 6] = [0, 0, 4, 0, 2, 3];
+const THREE: [i32; 9] = [0, 0, 0, 4, 0, 0, 2, 3, 0];
 const TREE: [[i32; 4]; 3] = [[0, 0, 2, 0], [2, 0, 2, 3], [2, 0, 4, 0]];
 
 /// Cost weighs the axes, metal does not; either end may come first, and edges in any order.
@@ -28,7 +28,7 @@ fn cost_and_metal() {
     assert_eq!(checked(&THREE, &[], &TREE), Ok((17, 7)));
     let turned = [[4, 0, 2, 0], [2, 3, 2, 0], [0, 0, 2, 0]];
     assert_eq!(checked(&THREE, &[], &turned), Ok((17, 7)));
-    assert_eq!(checked(&[5, 5], &[], &[]), Ok((0, 0)));
+    assert_eq!(checked(&[5, 5, 0], &[], &[]), Ok((0, 0)));
 }
 
 /// "33, not whole fours", above 1,535 edges, "or a coordinate out of range."
@@ -53,14 +53,14 @@ fn refused_33() {
             metal: end.into(),
         };
         let expected = answer.map_or(Ok(passed), Err);
-        assert_eq!(bought_in(&net(&[0, 0, end, 0], &[]), &way), expected);
+        assert_eq!(bought_in(&net(&[0, 0, 0, end, 0, 0], &[]), &way), expected);
     }
 }
 
 /// "34, equal ends or ends not clear": also an edge inside a macro, or with one end in it; along its side is clear.
 #[test]
 fn refused_34() {
-    let (pins, macros) = ([0, 0, 10, 0], [4, -2, 6, 3]);
+    let (pins, macros) = ([0, 0, 0, 10, 0, 0], [4, -2, 6, 3]);
     let around = [[0, 0, 4, -2], [4, -2, 6, -2], [6, -2, 10, 0]];
     assert_eq!(checked(&pins, &macros, &around), Ok((32, 14)));
     for wrong in [
@@ -106,18 +106,18 @@ fn refused_35() {
         assert_eq!(checked(&THREE, &[], &edges), Err(35), "{name}");
     }
     // The fourth pin is left out; a way past it that does not stop there does not reach it.
-    let four = [&THREE[..], &[3, 0]].concat();
+    let four = [&THREE[..], &[3, 0, 0]].concat();
     assert_eq!(checked(&four, &[], &TREE), Err(35));
     // A lone pin with any edge.
-    assert_eq!(checked(&[5, 5], &[], &[[5, 5, 5, 6]]), Err(35));
-    assert_eq!(checked(&[5, 5], &[], &[[0, 0, 1, 1]]), Err(35));
+    assert_eq!(checked(&[5, 5, 0], &[], &[[5, 5, 5, 6]]), Err(35));
+    assert_eq!(checked(&[5, 5, 0], &[], &[[0, 0, 1, 1]]), Err(35));
 }
 
 /// Each test covers the whole list before the next: the net's own numbers, 33, 34, 35.
 #[test]
 fn the_order_of_numbers() {
     let (equal, twice, far) = ([1, 1, 1, 1], [0, 0, 2, 0], [0, 0, 0, 1_000_001]);
-    let pins = [0, 0, 0, 0];
+    let pins = [0, 0, 0, 0, 0, 0];
     assert_eq!(checked(&pins, &[], &[far]), Err(15));
     assert_eq!(
         check_tree(&THREE, &[], Weights { x: 9, y: 1 }, &[0]),

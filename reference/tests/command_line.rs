@@ -126,6 +126,23 @@ fn weights_on_the_command_line() {
 }
 
 #[test]
+fn loads_on_the_command_line() {
+    let net = "pin 0 0 7\npin 4 0\npin 2 3\n";
+    let file = printed(&["pack"], net.as_bytes());
+    assert_eq!(text(&["unpack"], &file), net);
+    let bare = printed(&["pack"], NET.as_bytes());
+    assert_ne!(file, bare);
+    assert_eq!(text(&["route"], &file), text(&["route"], &bare));
+    assert_eq!(text(&["check"], b"pin 0 0 -1\n"), "refused 13\n");
+    let net = text(&["generate", "one-pin", "12", "loaded"], b"");
+    assert!(net.starts_with("# one-pin 12 loaded\n"));
+    assert!(text(&["check"], net.as_bytes()).starts_with("allowed: "));
+    assert_eq!(printed(&["pack"], net.as_bytes())[512], 4);
+    let file = printed(&["damage", "loads-zero", "12", "loaded"], b"");
+    assert_eq!(text(&["route"], &file), "refused 3\n");
+}
+
+#[test]
 fn help_names_every_command() {
     let help = text(&["help"], b"");
     for command in [

@@ -48,7 +48,7 @@ fn no_joining_and_no_chain_is_shorter() {
 /// left side or does not, then over to the right, and there along its right side or not.
 #[test]
 fn every_path_of_the_second_worked_net() {
-    let net = check(&[0, 0, 10, 0], &[4, -2, 6, 3], Weights::ONE).unwrap();
+    let net = check(&[0, 0, 0, 10, 0, 0], &[4, -2, 6, 3], Weights::ONE).unwrap();
     let every = Every::of(&net);
     assert_eq!(every.paths().len(), 2 * 2 * 2);
     for (corners, length) in [
@@ -86,7 +86,7 @@ fn a_wrong_total_is_found() {
 /// A cost that is no path's, a bridge that is no edge, a path left out and one given twice.
 #[test]
 fn wrong_paths_are_found() {
-    let net = check(&[0, 0, 4, 0, 2, 3], &[], Weights::ONE).unwrap();
+    let net = check(&[0, 0, 0, 4, 0, 0, 2, 3, 0], &[], Weights::ONE).unwrap();
     let every = Every::of(&net);
     let right = given(&net);
     assert_eq!(every.faults(&right), BTreeSet::new());

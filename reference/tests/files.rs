@@ -2,15 +2,17 @@
 
 mod common;
 
-use reference::generate::{damaged, damaged_weighted, hostile, Damage, Hostile};
-use reference::lists::Lists;
+use reference::generate::{
+    damaged, damaged_loaded, damaged_weighted, hostile, loaded, Damage, Hostile,
+};
+use reference::lists::{unloaded, Lists};
 use reference::net::{check, Weights};
 use reference::netfile::{blocks_of, bytes_of, read, seal, sums, write, Block};
 use reference::operations::read_file;
 
 /// What the operation answers for bytes, with space enough lent.
 fn answer(bytes: &[u8]) -> Result<(usize, usize, Weights), u32> {
-    read_file(bytes, &mut [0; 256], &mut [0; 512])
+    read_file(bytes, &mut [0; 384], &mut [0; 512])
 }
 
 fn head(m: u32, k: u32) -> Block {
@@ -25,7 +27,7 @@ fn head(m: u32, k: u32) -> Block {
 #[test]
 fn words_of_a_small_file() {
     let bytes = write(&Lists {
-        pins: vec![1, -2, 300, 4],
+        pins: vec![1, -2, 0, 300, 4, 0],
         macros: vec![5, 6, 7, 8],
         weights: Weights { x: 3, y: 1 },
     });
@@ -53,45 +55,96 @@ fn sums_wrap() {
     );
 }
 
-/// 128 pins are blocks of 60, 60 and 8, 128 macros of 30, 30, 30, 30 and 8: "a file up to 9 blocks".
+/// 128 pins are blocks of 60, 60 and 8, or with loads of 40, 40, 40 and 8, 128 macros of 30, 30, 30, 30 and 8: "up to 10 blocks in all".
 #[test]
 fn the_longest_file() {
-    let file = write(&Lists {
-        pins: (0..256).collect(),
-        macros: (0..512).collect(),
-        ..Lists::default()
-    });
-    let blocks = blocks_of(&file);
-    let fronts: Vec<&[u32]> = blocks.iter().map(|block| &block[..3]).collect();
-    let expected = [
-        [1, 0, 0],
-        [2, 1, 60],
-        [2, 2, 60],
-        [2, 3, 8],
-        [3, 4, 30],
-        [3, 5, 30],
-        [3, 6, 30],
-        [3, 7, 30],
-        [3, 8, 8],
-    ];
-    assert_eq!(fronts, expected);
+    let fronts = |pins: Vec<i32>| -> Vec<[u32; 3]> {
+        let file = write(&Lists {
+            pins,
+            macros: (0..512).collect(),
+            ..Lists::default()
+        });
+        let blocks = blocks_of(&file);
+        blocks.iter().map(|b| [b[0], b[1], b[2]]).collect()
+    };
+    let macros = |from: u32| {
+        [30, 30, 30, 30, 8]
+            .iter()
+            .zip(from..)
+            .map(|(n, k)| [3, k, *n])
+            .collect::<Vec<_>>()
+    };
+    let places: Vec<i32> = (0..256).collect();
+    let without = [
+        &[[1, 0, 0], [2, 1, 60], [2, 2, 60], [2, 3, 8]][..],
+        &macros(4),
+    ]
+    .concat();
+    assert_eq!(fronts(unloaded(&places)), without);
+    let with = [
+        &[[1, 0, 0], [4, 1, 40], [4, 2, 40], [4, 3, 40], [4, 4, 8]][..],
+        &macros(5),
+    ]
+    .concat();
+    assert_eq!(fronts((0..384).collect()), with);
 }
 
+/// With loads and without.
 #[test]
 fn files_read_back() {
     for (name, lists) in common::nets(20) {
-        let bytes = write(&lists);
-        assert_eq!(read(&bytes), Ok(lists.clone()), "{name}");
-        assert_eq!(bytes_of(&blocks_of(&bytes)), bytes, "{name}");
-        let (m, k) = (lists.pins.len() / 2, lists.macros.len() / 4);
-        assert_eq!(answer(&bytes), Ok((m, k, lists.weights)), "{name}");
+        let with = loaded(&lists, lists.pins.len() as u64);
+        for lists in [lists, with] {
+            let bytes = write(&lists);
+            assert_eq!(read(&bytes), Ok(lists.clone()), "{name}");
+            assert_eq!(bytes_of(&blocks_of(&bytes)), bytes, "{name}");
+            let (m, k) = (lists.pins.len() / 3, lists.macros.len() / 4);
+            assert_eq!(answer(&bytes), Ok((m, k, lists.weights)), "{name}");
+        }
     }
+}
+
+/// "A kind 4 file with all loads 0 is refused as 3", before 11 to 18 and by its words; a pin block of
+/// each kind in one file is 3 too; loads out of range are 13.
+#[test]
+fn kinds_of_pin_blocks() {
+    let file = |pins: Vec<i32>| {
+        blocks_of(&write(&Lists {
+            pins,
+            ..Lists::default()
+        }))
+    };
+    let with_load = |load: u32| {
+        let mut blocks = file(vec![5, 5, 1]);
+        blocks[1][6] = load;
+        seal(&mut blocks[1]);
+        bytes_of(&blocks)
+    };
+    assert_eq!(answer(&with_load(1)), Ok((1, 0, Weights::ONE)));
+    assert_eq!(answer(&with_load(1_000_000)), Ok((1, 0, Weights::ONE)));
+    assert_eq!(answer(&with_load(0)), Err(3));
+    assert_eq!(answer(&with_load(1_000_001)), Err(13));
+    assert_eq!(answer(&with_load(u32::MAX)), Err(13));
+    let far = |load: i32| bytes_of(&file(vec![2_000_000, 5, load]));
+    assert_eq!(answer(&far(1)), Err(13));
+    let entries = |m: i32| (0..m).flat_map(|x| [x, 0, 1]).collect::<Vec<i32>>();
+    for (m, blocks) in [(40, 2), (41, 3), (60, 3), (61, 3), (64, 3)] {
+        assert_eq!(file(entries(m)).len(), blocks, "{m} pins with loads");
+        let bare: Vec<i32> = (0..m).flat_map(|x| [x, 0, 0]).collect();
+        assert_eq!(file(bare).len(), 1 + (m as usize).div_ceil(60), "{m} pins");
+    }
+    let mut blocks = file(entries(41));
+    let other = file(vec![40, 0, 0]);
+    blocks[2] = other[1];
+    blocks[2][1] = 2;
+    seal(&mut blocks[2]);
+    assert_eq!(answer(&bytes_of(&blocks)), Err(3));
 }
 
 /// A file of one pin whose head has these two weight words, the sums right.
 fn with_weight_words(x: u32, y: u32) -> Vec<u8> {
     let mut blocks = blocks_of(&write(&Lists {
-        pins: vec![5, 5],
+        pins: vec![5, 5, 0],
         ..Lists::default()
     }));
     (blocks[0][6], blocks[0][7]) = (x, y);
@@ -147,7 +200,7 @@ fn weights_of_one_are_zero_words() {
 #[should_panic(expected = "the weight 0 has no word")]
 fn a_weight_outside_has_no_word() {
     write(&Lists {
-        pins: vec![5, 5],
+        pins: vec![5, 5, 0],
         weights: Weights { x: 0, y: 1 },
         ..Lists::default()
     });
@@ -155,10 +208,11 @@ fn a_weight_outside_has_no_word() {
 
 #[test]
 fn lengths_come_first() {
-    for blocks in [0, 10, 11, 100] {
+    for blocks in [0, 11, 12, 100] {
         assert_eq!(answer(&vec![1; 512 * blocks]), Err(1));
     }
-    for length in [1, 511, 513, 3071, 3073, 4607, 4609] {
+    assert_eq!(answer(&[1; 512 * 10]), Err(2));
+    for length in [1, 511, 513, 3071, 3073, 4607, 4609, 5119, 5121] {
         assert_eq!(answer(&vec![0; length]), Err(1));
     }
 }
@@ -167,7 +221,7 @@ fn lengths_come_first() {
 #[test]
 fn sums_come_before_the_layout() {
     let mut blocks = blocks_of(&write(&Lists {
-        pins: vec![1, 1],
+        pins: vec![1, 1, 0],
         ..Lists::default()
     }));
     blocks[0][0] = 9;
@@ -196,7 +250,7 @@ fn a_head_alone() {
 #[test]
 fn every_word_counts() {
     let lists = Lists {
-        pins: vec![0, 0, 9, 9],
+        pins: vec![0, 0, 0, 9, 9, 0],
         macros: vec![1, 1, 2, 2],
         ..Lists::default()
     };
@@ -221,13 +275,16 @@ fn every_word_counts() {
     }
 }
 
-/// The refusals that a kind of damage may lead to; 0 stands for a file that is still right.
-fn outcomes(kind: Damage) -> &'static [u32] {
+/// The refusals that a kind of damage may lead to, of a file with loads or without; 0 stands for a file that is still right. One block more
+/// is too long only where there may be ten.
+fn outcomes(kind: Damage, loaded: bool) -> &'static [u32] {
     match kind {
         Damage::WordChanged => &[0, 3, 13, 14, 15, 16, 17],
         Damage::WeightWords => &[0, 3],
+        Damage::LoadsZero => &[3],
         Damage::SumWrong | Damage::BitFlipped | Damage::WordsExchanged => &[2],
         Damage::BlocksSwapped => &[0, 3],
+        Damage::BlockDoubled if !loaded => &[3],
         Damage::BlockDoubled | Damage::Cut | Damage::AllZero => &[1, 3],
         Damage::BlockMissing | Damage::RandomWords => &[3],
         Damage::TooLong => &[1],
@@ -241,7 +298,12 @@ fn outcomes(kind: Damage) -> &'static [u32] {
 /// Each kind of damage leads to what it names and, over many seeds, to each of it: never to 18.
 #[test]
 fn damage_leads_to_what_it_names() {
-    for made in [damaged, damaged_weighted] {
+    let makers: [(fn(Damage, u64) -> Vec<u8>, bool); 3] = [
+        (damaged, false),
+        (damaged_weighted, false),
+        (damaged_loaded, true),
+    ];
+    for (made, loaded) in makers {
         for &kind in Damage::ALL {
             let mut seen = Vec::new();
             for seed in 0..1_500 {
@@ -254,7 +316,7 @@ fn damage_leads_to_what_it_names() {
                 }
             }
             seen.sort();
-            assert_eq!(seen, outcomes(kind), "{}", kind.name());
+            assert_eq!(seen, outcomes(kind, loaded), "{}", kind.name());
         }
     }
 }
@@ -265,14 +327,15 @@ fn only_written_files_are_read() {
     let mut right = 0;
     for &kind in Damage::ALL {
         for seed in 0..300 {
-            let bytes = damaged_weighted(kind, seed);
-            if let Ok(lists) = read(&bytes) {
-                assert_eq!(write(&lists), bytes, "{} {seed}", kind.name());
-                right += 1;
+            for bytes in [damaged_weighted(kind, seed), damaged_loaded(kind, seed)] {
+                if let Ok(lists) = read(&bytes) {
+                    assert_eq!(write(&lists), bytes, "{} {seed}", kind.name());
+                    right += 1;
+                }
             }
         }
     }
-    assert!(right > 100, "only {right} files were read");
+    assert!(right > 200, "only {right} files were read");
 }
 
 /// A file of a refused net is refused with the net's own number.

@@ -139,17 +139,17 @@ fn read_space() {
     for (name, l, net) in allowed(4) {
         let file = netfile::write(&l);
         let said = (net.m(), net.k(), net.weights());
-        lend(256, &l.pins, said, &name, |space| {
+        lend(384, &l.pins, said, &name, |space| {
             operations::read_file(&file, space, &mut [0; 512])
         });
         lend(512, &l.macros, said, &name, |space| {
-            operations::read_file(&file, &mut [0; 256], space)
+            operations::read_file(&file, &mut [0; 384], space)
         });
     }
-    let (pins, macros) = (&mut [0; 255], &mut [0; 512]);
+    let (pins, macros) = (&mut [0; 383], &mut [0; 512]);
     assert_eq!(operations::read_file(&[], pins, macros), Err(21));
     // What the reader asked for before [8] is too little now, for any file.
-    let (pins, macros) = (&mut [0; 128], &mut [0; 256]);
+    let (pins, macros) = (&mut [0; 128], &mut [0; 384]);
     assert_eq!(operations::read_file(&[], pins, macros), Err(21));
 }
 
@@ -198,7 +198,7 @@ fn the_net_comes_before_the_space() {
 fn a_refused_file_alters_nothing() {
     let mut file = netfile::write(&net(Kind::Largest, 1));
     file[513] ^= 1;
-    let (pins, macros) = (&mut [77; 256], &mut [77; 512]);
+    let (pins, macros) = (&mut [77; 384], &mut [77; 512]);
     assert_eq!(operations::read_file(&file, pins, macros), Err(2));
-    assert_eq!((*pins, *macros), ([77; 256], [77; 512]));
+    assert_eq!((*pins, *macros), ([77; 384], [77; 512]));
 }

@@ -1,8 +1,8 @@
-//! The order of the entries in the lists changes no answer.
+//! The order of the entries in the lists and the loads of the pins change no answer.
 
 mod common;
 
-use reference::generate::permuted;
+use reference::generate::{loaded, permuted};
 use reference::graph::graph;
 use reference::net::check;
 use reference::refined::refine;
@@ -13,7 +13,10 @@ use reference::wires::wires;
 fn permuted_lists_give_the_same_answers() {
     let mut reordered = 0;
     for (number, (name, lists)) in common::nets(16).enumerate() {
-        let other = permuted(&lists, number as u64);
+        let other = match number % 2 {
+            0 => permuted(&lists, number as u64),
+            _ => permuted(&loaded(&lists, number as u64), number as u64),
+        };
         let net = check(&lists.pins, &lists.macros, lists.weights).unwrap();
         let same = check(&other.pins, &other.macros, other.weights).unwrap();
         assert_eq!(graph(&net), graph(&same), "{name}");
@@ -32,7 +35,7 @@ fn permuted_lists_have_the_same_entries() {
     for (name, lists) in common::nets(4) {
         let other = permuted(&lists, 7);
         for (before, after, width) in [
-            (&lists.pins, &other.pins, 2),
+            (&lists.pins, &other.pins, 3),
             (&lists.macros, &other.macros, 4),
         ] {
             let mut before: Vec<&[i32]> = before.chunks(width).collect();

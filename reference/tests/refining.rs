@@ -21,7 +21,7 @@ fn edge(a: (i64, i64), b: (i64, i64)) -> Edge {
 /// the other.
 #[test]
 fn candidates_of_three_pins() {
-    let net = check(&[0, 0, 4, 0, 2, 3], &[], Weights::ONE).unwrap();
+    let net = check(&[0, 0, 0, 4, 0, 0, 2, 3, 0], &[], Weights::ONE).unwrap();
     let tree = Tree {
         pins: net.pins().to_vec(),
         edges: BTreeSet::from([edge((0, 0), (4, 0)), edge((0, 0), (2, 3))]),
@@ -52,7 +52,7 @@ fn candidates_of_three_pins() {
 /// A macro between u and both ends of the edge leaves no candidate.
 #[test]
 fn a_candidate_needs_a_clear_end() {
-    let net = check(&[0, 0, 0, 4, 9, 1], &[2, -5, 6, 8], Weights::ONE).unwrap();
+    let net = check(&[0, 0, 0, 0, 4, 0, 9, 1, 0], &[2, -5, 6, 8], Weights::ONE).unwrap();
     let corner = (2, 8);
     let tree = Tree {
         pins: net.pins().to_vec(),
@@ -74,7 +74,7 @@ fn a_candidate_needs_a_clear_end() {
 /// first": two edges of length 5 lie on the way from (10, 0) to (0, 0).
 #[test]
 fn the_smallest_of_the_longest_edges_goes() {
-    let net = check(&[0, 0, 5, 0, 10, 0, 0, 3], &[], Weights::ONE).unwrap();
+    let net = check(&[0, 0, 0, 5, 0, 0, 10, 0, 0, 0, 3, 0], &[], Weights::ONE).unwrap();
     let tree = Tree {
         pins: net.pins().to_vec(),
         edges: BTreeSet::from([
@@ -109,7 +109,12 @@ fn paths(edges: &[Edge]) -> Terminal {
 /// (2, 0)–(4, 0), of the same gain, is taken, and (0, 0)–(4, 0) waits for the next round.
 #[test]
 fn a_dropped_candidate_does_not_win() {
-    let net = check(&[0, 0, 2, 0, 2, 3, 4, 0, 20, 3], &[], Weights::ONE).unwrap();
+    let net = check(
+        &[0, 0, 0, 2, 0, 0, 2, 3, 0, 4, 0, 0, 20, 3, 0],
+        &[],
+        Weights::ONE,
+    )
+    .unwrap();
     let before = paths(&[
         edge((0, 0), (4, 0)),
         edge((2, 0), (4, 0)),
@@ -135,7 +140,7 @@ fn a_dropped_candidate_does_not_win() {
 /// (4, 10)–(4, 11) and (9, 11), which comes later by order and is taken; then (2, 10) gains 1.
 #[test]
 fn dropping_a_candidate_changes_the_answer() {
-    let pins = [0, 9, 2, 11, 3, 18, 4, 10, 9, 15, 13, 11];
+    let pins = [0, 9, 0, 2, 11, 0, 3, 18, 0, 4, 10, 0, 9, 15, 0, 13, 11, 0];
     let net = check(&pins, &[0, 11, 4, 18, 4, 11, 9, 18], Weights::ONE).unwrap();
     let laid = refined(&net);
     let edges = [
@@ -160,7 +165,12 @@ fn dropping_a_candidate_changes_the_answer() {
 /// (3, 4) first would spoil that of 2 and end at 15.
 #[test]
 fn the_greatest_gain_goes_first() {
-    let net = check(&[2, 0, 7, 2, 4, 4, 3, 7, 5, 7], &[], Weights::ONE).unwrap();
+    let net = check(
+        &[2, 0, 0, 7, 2, 0, 4, 4, 0, 3, 7, 0, 5, 7, 0],
+        &[],
+        Weights::ONE,
+    )
+    .unwrap();
     let laid = refined(&net);
     let edges = [
         edge((2, 0), (4, 2)),
@@ -179,7 +189,7 @@ fn the_greatest_gain_goes_first() {
 /// here, has two rounds to gain, and m is 1. All other points are bare in the end, one by one.
 #[test]
 fn the_pins_bound_the_rounds() {
-    let net = check(&[2, 0], &[], Weights::ONE).unwrap();
+    let net = check(&[2, 0, 0], &[], Weights::ONE).unwrap();
     let before = paths(&[
         edge((2, 0), (4, 4)),
         edge((4, 4), (7, 2)),
@@ -198,7 +208,7 @@ fn the_pins_bound_the_rounds() {
 /// spur of two points goes, the point (5, 0) through which the metal goes straight stays.
 #[test]
 fn spurs_go_and_through_points_stay() {
-    let net = check(&[0, 0, 10, 0], &[], Weights::ONE).unwrap();
+    let net = check(&[0, 0, 0, 10, 0, 0], &[], Weights::ONE).unwrap();
     let before = paths(&[
         edge((0, 0), (5, 0)),
         edge((5, 0), (10, 0)),

@@ -23,7 +23,7 @@ fn edge(a: (i64, i64), b: (i64, i64)) -> Edge {
 
 /// A tree of edges and a net of its pins and some macros.
 fn by_hand(pins: &[(i32, i32)], macros: &[i32], edges: &[((i64, i64), (i64, i64))]) -> (Net, Tree) {
-    let flat: Vec<i32> = pins.iter().flat_map(|&(x, y)| [x, y]).collect();
+    let flat: Vec<i32> = pins.iter().flat_map(|&(x, y)| [x, y, 0]).collect();
     let net = check(&flat, macros, Weights { x: 2, y: 3 }).unwrap();
     let tree = Tree {
         pins: net.pins().to_vec(),

@@ -20,7 +20,7 @@ fn hostile_lists_print_and_parse_back() {
     for &kind in Hostile::ALL {
         for seed in 0..50 {
             let lists = hostile(kind, seed);
-            let whole = lists.pins.len().is_multiple_of(2) && lists.macros.len().is_multiple_of(4);
+            let whole = lists.pins.len().is_multiple_of(3) && lists.macros.len().is_multiple_of(4);
             let same = parse(&print(&lists)) == Ok(lists);
             assert_eq!(same, whole, "{} {seed}", kind.name());
         }
@@ -30,13 +30,13 @@ fn hostile_lists_print_and_parse_back() {
 #[test]
 fn the_form() {
     let lists = Lists {
-        pins: vec![1, -2, i32::MIN, i32::MAX],
+        pins: vec![1, -2, 0, i32::MIN, i32::MAX, 7],
         macros: vec![0, 0, 3, 4],
         weights: Weights { x: 2, y: i32::MIN },
     };
-    let text = "weights 2 -2147483648\npin 1 -2\npin -2147483648 2147483647\nmacro 0 0 3 4\n";
+    let text = "weights 2 -2147483648\npin 1 -2\npin -2147483648 2147483647 7\nmacro 0 0 3 4\n";
     assert_eq!(print(&lists), text);
-    let loose = "# a net\n\n  macro 0 0\t3 4 # beside it\r\npin 1 -2\nweights 2 -2147483648\npin -2147483648 2147483647";
+    let loose = "# a net\n\n  macro 0 0\t3 4 # beside it\r\npin 1 -2 0\nweights 2 -2147483648\npin -2147483648 2147483647 7";
     assert_eq!(parse(loose), Ok(lists));
 }
 
@@ -44,7 +44,7 @@ fn the_form() {
 #[test]
 fn left_over_numbers_show() {
     let lists = Lists {
-        pins: vec![1, 2, 3],
+        pins: vec![1, 2, 0, 3],
         macros: vec![4, 5],
         ..Lists::default()
     };
@@ -70,7 +70,7 @@ fn bad_lines_say_where_and_what() {
             "weights 1 2 3",
             "line 1: '3' stands after the end of the weights",
         ),
-        ("pin 1 2 3", "line 1: '3' stands after the end of the pin"),
+        ("pin 1 2 3 4", "line 1: '4' stands after the end of the pin"),
         (
             "pin 1.5 2",
             "line 1: '1.5' for x is no whole number of 32 bits",

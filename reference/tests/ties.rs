@@ -24,7 +24,7 @@ fn orders() {
 /// Two vertices of the first quadrant at distance 3, and the smaller is picked.
 #[test]
 fn the_smallest_place_is_picked() {
-    let net = check(&[0, 0, 2, 1, 1, 2], &[], Weights::ONE).unwrap();
+    let net = check(&[0, 0, 0, 2, 1, 0, 1, 2, 0], &[], Weights::ONE).unwrap();
     let picked = pick(&net, &vertices(&net), place(0, 0), Quadrant::First);
     assert_eq!(picked, Some(place(1, 2)));
 }
@@ -32,7 +32,7 @@ fn the_smallest_place_is_picked() {
 /// The corner (2, 0) is 2 from either pin, so its root is the smaller and the bridge is beyond it.
 #[test]
 fn the_smallest_pin_is_root() {
-    let net = check(&[4, 0, 0, 0], &[2, 0, 4, 5], Weights::ONE).unwrap();
+    let net = check(&[4, 0, 0, 0, 0, 0], &[2, 0, 4, 5], Weights::ONE).unwrap();
     let paths = terminal(&net).paths;
     assert_eq!(paths[0].bridge, Edge::new(place(2, 0), place(4, 0)));
     assert_eq!(paths[0].cost, 4);
@@ -42,7 +42,12 @@ fn the_smallest_pin_is_root() {
 /// parent. The second macro's corner keeps (2, 0) from picking the pin (5, 5).
 #[test]
 fn the_smallest_neighbour_is_parent() {
-    let net = check(&[5, 5, 0, 0], &[0, 0, 2, 2, 3, -5, 9, 1], Weights::ONE).unwrap();
+    let net = check(
+        &[5, 5, 0, 0, 0, 0],
+        &[0, 0, 2, 2, 3, -5, 9, 1],
+        Weights::ONE,
+    )
+    .unwrap();
     let paths = terminal(&net).paths;
     let along = [place(0, 0), place(0, 2), place(2, 2), place(5, 5)];
     assert_eq!(paths[0].vertices, along);
@@ -51,7 +56,7 @@ fn the_smallest_neighbour_is_parent() {
 /// Four pins of a square: four edges of length 2, kept in their order until all is joined.
 #[test]
 fn the_smallest_bridge_is_kept_first() {
-    let net = check(&[2, 2, 0, 2, 2, 0, 0, 0], &[], Weights::ONE).unwrap();
+    let net = check(&[2, 2, 0, 0, 2, 0, 2, 0, 0, 0, 0, 0], &[], Weights::ONE).unwrap();
     let bridges: Vec<Edge> = terminal(&net).paths.iter().map(|p| p.bridge).collect();
     let expected = [
         Edge::new(place(0, 0), place(0, 2)),

@@ -24,7 +24,7 @@ fn edge(a: (i64, i64), b: (i64, i64)) -> Edge {
 /// Weights 1 and 3: a round takes the edge (0, 0)–(0, 2) and the pin (3, 1), s = (0, 1), and gains
 /// 1, the cost 4 of (2, 0)–(3, 1) less the cost 3 from s. It lays 3 for 2 that it removes.
 const WEIGHTS: Weights = Weights { x: 1, y: 3 };
-const PINS: [i32; 8] = [3, 1, 0, 0, 2, 0, 0, 2];
+const PINS: [i32; 12] = [3, 1, 0, 0, 0, 0, 2, 0, 0, 0, 2, 0];
 
 #[test]
 fn the_worked_net() {
@@ -117,7 +117,7 @@ fn picks_are_in_cost() {
         (1, 3, place(4, 0)),
         (2, 3, place(1, 2)),
     ] {
-        let net = check(&[0, 0, 4, 0, 1, 2], &[], Weights { x, y }).unwrap();
+        let net = check(&[0, 0, 0, 4, 0, 0, 1, 2, 0], &[], Weights { x, y }).unwrap();
         let found = pick(&net, &vertices(&net), place(0, 0), Quadrant::First);
         assert_eq!(found, Some(picked), "weights {x} and {y}");
     }
@@ -129,14 +129,14 @@ fn a_weight_outside_is_refused() {
     for bad in [0, 9, -1, -8, 10, 257, i32::MIN, i32::MAX] {
         for good in 1..=8 {
             for (x, y) in [(bad, good), (good, bad), (bad, bad)] {
-                let answer = operations::check(&[5, 5], &[], Weights { x, y });
+                let answer = operations::check(&[5, 5, 0], &[], Weights { x, y });
                 assert_eq!(answer, Err(18), "weights {x} and {y}");
             }
         }
     }
     for x in 1..=8 {
         for y in 1..=8 {
-            assert_eq!(operations::check(&[5, 5], &[], Weights { x, y }), Ok(()));
+            assert_eq!(operations::check(&[5, 5, 0], &[], Weights { x, y }), Ok(()));
         }
     }
 }
@@ -146,7 +146,7 @@ fn a_weight_outside_is_refused() {
 fn other_numbers_come_before_18() {
     let nine = Weights { x: 1, y: 9 };
     let overlap = [0, 0, 2, 2, 1, 1, 3, 3];
-    assert_eq!(operations::check(&[9, 9], &overlap, nine), Err(16));
+    assert_eq!(operations::check(&[9, 9, 0], &overlap, nine), Err(16));
     for &kind in Hostile::ALL {
         for seed in 0..100 {
             let Some(number) = refusal(kind, seed) else {
@@ -163,7 +163,7 @@ fn other_numbers_come_before_18() {
 #[test]
 fn eighteen_comes_before_the_space_and_the_bands() {
     let weights = Weights { x: 9, y: 1 };
-    let (pins, none) = (&[5, 5], &[]);
+    let (pins, none) = (&[5, 5, 0], &[]);
     let graph = operations::graph(pins, none, weights, &mut [], &mut []);
     assert_eq!(graph, Err(18));
     let terminal = operations::terminal_tree(pins, none, weights, &mut []);
@@ -189,11 +189,12 @@ fn with_both_weights_one_metal_is_the_total() {
 
 /// The net with each coordinate times a number for its axis, and weights 1 and 1.
 fn stretched(lists: &Lists, across: i32, up: i32) -> Option<Net> {
-    let times = |list: &[i32]| -> Vec<i32> {
-        let axes = [across, up].into_iter().cycle();
+    let times = |list: &[i32], axes: &[i32]| -> Vec<i32> {
+        let axes = axes.iter().cycle();
         list.iter().zip(axes).map(|(c, by)| c * by).collect()
     };
-    let (pins, macros) = (times(&lists.pins), times(&lists.macros));
+    let pins = times(&lists.pins, &[across, up, 1]);
+    let macros = times(&lists.macros, &[across, up]);
     check(&pins, &macros, Weights::ONE).ok()
 }
 

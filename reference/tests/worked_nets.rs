@@ -34,12 +34,12 @@ fn paths(pins: &[i32], macros: &[i32]) -> Vec<(Edge, i64)> {
 
 #[test]
 fn one_pin() {
-    let net = check(&[5, 5], &[], Weights::ONE).unwrap();
+    let net = check(&[5, 5, 0], &[], Weights::ONE).unwrap();
     assert_eq!(graph(&net).vertices, [place(5, 5)]);
     assert_eq!(graph(&net).edges, []);
     assert_eq!(terminal(&net).paths, []);
     assert_eq!(refined(&net).edges, []);
-    assert_eq!(totals(&[5, 5], &[]), (0, 0));
+    assert_eq!(totals(&[5, 5, 0], &[]), (0, 0));
 }
 
 #[test]
@@ -49,7 +49,7 @@ fn no_pin() {
 
 #[test]
 fn around_a_macro() {
-    let (pins, macros) = ([0, 0, 10, 0], [4, -2, 6, 3]);
+    let (pins, macros) = ([0, 0, 0, 10, 0, 0], [4, -2, 6, 3]);
     let net = check(&pins, &macros, Weights::ONE).unwrap();
     assert_eq!(graph(&net).edges.len(), 8);
     assert_eq!(paths(&pins, &macros), [(edge((4, -2), (6, -2)), 14)]);
@@ -60,7 +60,7 @@ fn around_a_macro() {
 
 #[test]
 fn three_pins() {
-    let pins = [0, 0, 4, 0, 2, 3];
+    let pins = [0, 0, 0, 4, 0, 0, 2, 3, 0];
     assert_eq!(totals(&pins, &[]), (9, 7));
     let net = check(&pins, &[], Weights::ONE).unwrap();
     let drawn = wires(&refined(&net).edges);
@@ -73,7 +73,7 @@ fn three_pins() {
 
 #[test]
 fn along_a_shared_side() {
-    let (pins, macros) = ([2, -1, 2, 3], [0, 0, 2, 2, 2, 0, 4, 2]);
+    let (pins, macros) = ([2, -1, 0, 2, 3, 0], [0, 0, 2, 2, 2, 0, 4, 2]);
     assert_eq!(totals(&pins, &macros), (4, 4));
     let net = check(&pins, &macros, Weights::ONE).unwrap();
     assert!(refined(&net).edges.contains(&edge((2, 0), (2, 2))));
@@ -81,7 +81,7 @@ fn along_a_shared_side() {
 
 #[test]
 fn pins_on_opposite_sides_of_a_macro() {
-    let (pins, macros) = ([0, 1, 1, 1], [0, 0, 1, 2]);
+    let (pins, macros) = ([0, 1, 0, 1, 1, 0], [0, 0, 1, 2]);
     assert_eq!(paths(&pins, &macros), [(edge((0, 0), (1, 0)), 3)]);
     assert_eq!(totals(&pins, &macros), (3, 3));
 }
@@ -89,16 +89,19 @@ fn pins_on_opposite_sides_of_a_macro() {
 #[test]
 fn overlapping_macros() {
     let macros = [0, 0, 2, 2, 1, 1, 3, 3];
-    assert_eq!(operations::check(&[9, 9], &macros, Weights::ONE), Err(16));
+    assert_eq!(
+        operations::check(&[9, 9, 0], &macros, Weights::ONE),
+        Err(16)
+    );
 }
 
 #[test]
 fn pins_at_a_macro() {
     let four = [4, -2, 6, 3];
-    assert_eq!(operations::check(&[4, 0], &four, Weights::ONE), Ok(()));
-    assert_eq!(operations::check(&[5, 0], &four, Weights::ONE), Err(17));
+    assert_eq!(operations::check(&[4, 0, 0], &four, Weights::ONE), Ok(()));
+    assert_eq!(operations::check(&[5, 0, 0], &four, Weights::ONE), Err(17));
     assert_eq!(
-        operations::check(&[5, 0, 5, 0], &four, Weights::ONE),
+        operations::check(&[5, 0, 0, 5, 0, 0], &four, Weights::ONE),
         Err(15)
     );
 }
@@ -106,7 +109,7 @@ fn pins_at_a_macro() {
 #[test]
 fn flat_macro() {
     assert_eq!(
-        operations::check(&[9, 9], &[3, 0, 3, 5], Weights::ONE),
+        operations::check(&[9, 9, 0], &[3, 0, 3, 5], Weights::ONE),
         Err(14)
     );
 }
@@ -116,17 +119,17 @@ fn bounds() {
     for bound in [1_000_000i32, -1_000_000] {
         let past = bound + bound.signum();
         assert_eq!(
-            operations::check(&[bound, 0, 0, bound], &[], Weights::ONE),
+            operations::check(&[bound, 0, 0, 0, bound, 0], &[], Weights::ONE),
             Ok(())
         );
-        assert_eq!(operations::check(&[past, 0], &[], Weights::ONE), Err(13));
-        assert_eq!(operations::check(&[0, past], &[], Weights::ONE), Err(13));
+        assert_eq!(operations::check(&[past, 0, 0], &[], Weights::ONE), Err(13));
+        assert_eq!(operations::check(&[0, past, 0], &[], Weights::ONE), Err(13));
     }
     let corner = [999_999, 999_999, 1_000_000, 1_000_000];
-    assert_eq!(operations::check(&[0, 0], &corner, Weights::ONE), Ok(()));
+    assert_eq!(operations::check(&[0, 0, 0], &corner, Weights::ONE), Ok(()));
     let past = [999_999, 999_999, 1_000_001, 1_000_000];
-    assert_eq!(operations::check(&[0, 0], &past, Weights::ONE), Err(13));
-    let pins = |count: i32| (0..count).flat_map(|i| [i, 0]).collect::<Vec<i32>>();
+    assert_eq!(operations::check(&[0, 0, 0], &past, Weights::ONE), Err(13));
+    let pins = |count: i32| (0..count).flat_map(|i| [i, 0, 0]).collect::<Vec<i32>>();
     assert_eq!(operations::check(&pins(128), &[], Weights::ONE), Ok(()));
     assert_eq!(operations::check(&pins(129), &[], Weights::ONE), Err(11));
     let macros = |count: i32| {
@@ -135,18 +138,18 @@ fn bounds() {
             .collect::<Vec<i32>>()
     };
     assert_eq!(
-        operations::check(&[0, 0], &macros(128), Weights::ONE),
+        operations::check(&[0, 0, 0], &macros(128), Weights::ONE),
         Ok(())
     );
     assert_eq!(
-        operations::check(&[0, 0], &macros(129), Weights::ONE),
+        operations::check(&[0, 0, 0], &macros(129), Weights::ONE),
         Err(12)
     );
 }
 
 #[test]
 fn distance_at_both_ends_of_the_range() {
-    let pins = [-1_000_000, -1_000_000, 1_000_000, 1_000_000];
+    let pins = [-1_000_000, -1_000_000, 0, 1_000_000, 1_000_000, 0];
     assert_eq!(totals(&pins, &[]), (4_000_000, 4_000_000));
 }
 
@@ -173,21 +176,21 @@ fn printed_refusals() {
 /// way leads around the right end: 14 to the corner (10, −1), 2 up its side, 13 to the pin.
 #[test]
 fn a_wide_macro_cuts_the_box() {
-    let (pins, macros) = ([0, -5, 1, 5], [-10, -1, 10, 1]);
+    let (pins, macros) = ([0, -5, 0, 1, 5, 0], [-10, -1, 10, 1]);
     assert_eq!(totals(&pins, &macros), (29, 29));
 }
 
 /// "Treating a boundary as blocked": both pins stand on one side of the macro.
 #[test]
 fn a_boundary_is_free() {
-    assert_eq!(totals(&[0, 1, 0, 9], &[0, 0, 5, 10]), (8, 8));
+    assert_eq!(totals(&[0, 1, 0, 0, 9, 0], &[0, 0, 5, 10]), (8, 8));
 }
 
 /// "Counting the shared edge of two terminal paths once": the pin above a wall reaches both pins
 /// below through the seam of two macros that touch, from (0, 12) to (0, 10).
 #[test]
 fn a_shared_edge_counts_in_both_paths() {
-    let pins = [-3, 9, 3, 9, 0, 13];
+    let pins = [-3, 9, 0, 3, 9, 0, 0, 13, 0];
     let macros = [-20, 10, 0, 12, 0, 10, 20, 12, -1, -9, 1, 10];
     let kept = [(edge((-1, 10), (0, 10)), 7), (edge((0, 10), (1, 10)), 7)];
     assert_eq!(paths(&pins, &macros), kept);
@@ -198,6 +201,6 @@ fn a_shared_edge_counts_in_both_paths() {
 /// between two corners of the macro far above would stand for a path of length 50.
 #[test]
 fn a_bridge_weighs_its_whole_path() {
-    let (pins, macros) = ([0, 0, 10, 0], [4, 20, 6, 21]);
+    let (pins, macros) = ([0, 0, 0, 10, 0, 0], [4, 20, 6, 21]);
     assert_eq!(paths(&pins, &macros), [(edge((0, 0), (10, 0)), 10)]);
 }

@@ -183,7 +183,7 @@ pub mod bare {
     }
 }
 
-/// A net as the library takes it: two numbers a pin (x, y), four a macro (left, bottom, right, top), whole or not, and the weights.
+/// A net as the library takes it: three numbers a pin (x, y, load), four a macro (left, bottom, right, top), whole or not, and the weights.
 #[derive(Clone, Copy, Debug)]
 pub struct Lists<'a> {
     pub pins: &'a [i32],

@@ -37,6 +37,10 @@ pub const PINS: usize = 128;
 pub const MACROS: usize = 128;
 /// A coordinate is from minus this to this.
 pub const COORDINATE: i32 = 1_000_000;
+/// A pin's load is from 0 to this.
+pub const LOAD: i32 = 1_000_000;
+/// The numbers of a pin in a list that is handed over or lent: x, y, load.
+pub const PIN_NUMBERS: usize = 3;
 /// A weight is from 1 to this.
 pub const WEIGHT: i32 = 8;
 /// The most pins of a net whose distances on the grid are given.
@@ -53,18 +57,21 @@ pub const BOUGHT_EDGES: usize = 1_535;
 pub const RATE: u64 = 1_000_000;
 /// A net file is blocks of so many bytes.
 pub const BLOCK_BYTES: usize = 512;
-/// So many pins are in a full block, and so many macros.
+/// So many pins are in a full block, where none has a load.
 pub const PINS_A_BLOCK: usize = 60;
+/// So many pins with their loads are in a full block.
+pub const LOADED_A_BLOCK: usize = 40;
 /// So many macros are in a full block.
 pub const MACROS_A_BLOCK: usize = 30;
 /// The bytes of the longest net file.
-pub const LONGEST_FILE: usize = file_bytes(PINS, MACROS);
+pub const LONGEST_FILE: usize = file_bytes(PINS, MACROS, true);
 /// The stack that a call has to itself.
 pub const STACK_BYTES: usize = 512 * 1024;
 
-/// The bytes of the net file of so many pins and macros.
-const fn file_bytes(pins: usize, macros: usize) -> usize {
-    BLOCK_BYTES * (1 + pins.div_ceil(PINS_A_BLOCK) + macros.div_ceil(MACROS_A_BLOCK))
+/// The bytes of the net file of so many pins and macros, and whether a pin has a load.
+const fn file_bytes(pins: usize, macros: usize, loaded: bool) -> usize {
+    let a_block = if loaded { LOADED_A_BLOCK } else { PINS_A_BLOCK };
+    BLOCK_BYTES * (1 + pins.div_ceil(a_block) + macros.div_ceil(MACROS_A_BLOCK))
 }
 
 /// A place of the die. Places are ordered by x, then by y.
@@ -82,14 +89,22 @@ pub struct Place {
 pub struct Pin {
     /// Where it is.
     pub place: Place,
+    /// Its load in units of capacitance, 0 to [`LOAD`]. Of all answers only a net file has it.
+    pub load: i32,
 }
 
 impl Pin {
-    /// The pin at a place.
+    /// The pin at a place, without a load.
     pub const fn new(x: i32, y: i32) -> Pin {
         Pin {
             place: Place { x, y },
+            load: 0,
         }
+    }
+
+    /// The same pin with a load.
+    pub const fn with_load(self, load: i32) -> Pin {
+        Pin { load, ..self }
     }
 }
 
@@ -419,7 +434,8 @@ impl Net {
 
     /// The net's file, which keeps the order of both lists.
     pub fn to_file(&self) -> Result<Vec<u8>, Refusal> {
-        let mut bytes = vec![0; file_bytes(self.pins.len(), self.macros.len())];
+        let loaded = self.pins.iter().any(|pin| pin.load != 0);
+        let mut bytes = vec![0; file_bytes(self.pins.len(), self.macros.len(), loaded)];
         let given = lent::write_file(self.flat().lists(), &mut bytes)?;
         bytes.truncate(given);
         Ok(bytes)
@@ -427,12 +443,14 @@ impl Net {
 
     /// The net of a file. An accepted file is, byte for byte, the one that [`Net::to_file`] makes of it.
     pub fn from_file(bytes: &[u8]) -> Result<Net, Refusal> {
-        let (mut pins, mut macros) = (vec![0; 2 * PINS], vec![0; 4 * MACROS]);
+        let (mut pins, mut macros) = (vec![0; PIN_NUMBERS * PINS], vec![0; 4 * MACROS]);
         let read = lent::read_file(bytes, &mut pins, &mut macros)?;
-        let pins = pins[..2 * read.pins].chunks_exact(2);
+        let pins = pins[..PIN_NUMBERS * read.pins].chunks_exact(PIN_NUMBERS);
         let macros = macros[..4 * read.macros].chunks_exact(4);
         Ok(Net {
-            pins: pins.map(|pin| Pin::new(pin[0], pin[1])).collect(),
+            pins: pins
+                .map(|pin| Pin::new(pin[0], pin[1]).with_load(pin[2]))
+                .collect(),
             macros: macros.map(|m| Macro::new(m[0], m[1], m[2], m[3])).collect(),
             weights: read.weights,
         })
@@ -464,7 +482,8 @@ impl Net {
     }
 
     fn flat(&self) -> Flat {
-        let pins = self.pins.iter().flat_map(|pin| [pin.place.x, pin.place.y]);
+        let numbers = |pin: &Pin| [pin.place.x, pin.place.y, pin.load];
+        let pins = self.pins.iter().flat_map(numbers);
         let sides = |m: &Macro| [m.left, m.bottom, m.right, m.top];
         Flat {
             pins: pins.collect(),

@@ -7,17 +7,17 @@ use std::fmt;
 #[derive(Clone, Copy, Debug, PartialEq, Eq, PartialOrd, Ord, Hash)]
 #[non_exhaustive]
 pub enum Refusal {
-    /// 1: the file is not 1 to 9 whole blocks.
+    /// 1: the file is not 1 to 10 whole blocks.
     Length,
     /// 2: a block's word 126 or 127 is wrong.
     Sums,
     /// 3: anything else in the file's layout, the head's counts against the blocks included.
     Layout,
-    /// 11: no pin, too many, or a list that isn't whole pairs.
+    /// 11: no pin, too many, or a list that isn't whole threes.
     PinList,
     /// 12: too many macros, or a list that isn't whole fours.
     MacroList,
-    /// 13: a coordinate is out of range.
+    /// 13: a coordinate or a load is out of range.
     OutOfRange,
     /// 14: a macro's left is not below its right, or its bottom not below its top.
     FlatMacro,
@@ -77,18 +77,18 @@ impl Refusal {
     /// The number and its meaning, as include/calzundi.h has them for C.
     const fn told(self) -> (i32, &'static str) {
         match self {
-            Refusal::Length => (1, "the file is not 1 to 9 whole blocks"),
+            Refusal::Length => (1, "the file is not 1 to 10 whole blocks"),
             Refusal::Sums => (2, "a block's word 126 or 127, its sums, is wrong"),
             Refusal::Layout => (3, "the layout is not a net file's"),
             Refusal::PinList => (
                 11,
-                "there is no pin, there are more than 128, or the list isn't whole pairs",
+                "there is no pin, there are more than 128, or the list isn't whole threes",
             ),
             Refusal::MacroList => (
                 12,
                 "there are more than 128 macros, or the list isn't whole fours",
             ),
-            Refusal::OutOfRange => (13, "a coordinate is not from -1000000 to 1000000"),
+            Refusal::OutOfRange => (13, "a coordinate is not from -1000000 to 1000000, or a load not from 0 to 1000000"),
             Refusal::FlatMacro => (
                 14,
                 "a macro's left is not below its right, or its bottom not below its top",

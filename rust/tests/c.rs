@@ -115,7 +115,7 @@ fn the_example_with_a_file_and_wires() {
     assert_eq!(output.status.code(), Some(1));
     assert_eq!(
         String::from_utf8(output.stderr).unwrap(),
-        "refused 1: the file is not 1 to 9 whole blocks\n"
+        "refused 1: the file is not 1 to 10 whole blocks\n"
     );
 }
 

@@ -1,17 +1,22 @@
 //! The owned calls beside the second program, on nets of every kind, and refused nets of every kind.
 
-use calzundi::{Band, Edge, Net, Passed, Place, Refusal, Wire};
-use reference::generate::{hostile_weighted as hostile, weighted as net, Hostile, Kind};
+use calzundi::{Band, Edge, Net, Passed, Pin, Place, Refusal, Wire};
+use reference::generate::{hostile_weighted as hostile, loaded, weighted as net, Hostile, Kind};
 use reference::lists::Lists;
 use reference::operations;
 
 fn made(lists: &Lists) -> Net {
-    let pins = lists.pins.chunks_exact(2).map(|p| (p[0], p[1]));
+    let pins = lists.pins.chunks_exact(3);
+    let pins = pins.map(|p| Pin::new(p[0], p[1]).with_load(p[2]));
     let macros = lists
         .macros
         .chunks_exact(4)
         .map(|m| (m[0], m[1], m[2], m[3]));
-    Net::new(pins, macros).with_weights(lists.weights.x, lists.weights.y)
+    let net = Net::new([], macros).with_weights(lists.weights.x, lists.weights.y);
+    Net {
+        pins: pins.collect(),
+        ..net
+    }
 }
 
 fn flat<'a>(edges: impl Iterator<Item = &'a Edge>) -> Vec<i32> {
@@ -32,7 +37,10 @@ fn seeds(kind: Kind, usual: u64) -> u64 {
 fn answers_are_the_second_programs() {
     for &kind in Kind::ALL {
         for seed in 0..seeds(kind, 8) {
-            let lists = net(kind, seed);
+            let lists = match seed % 2 {
+                0 => net(kind, seed),
+                _ => loaded(&net(kind, seed), seed),
+            };
             let (pins, macros, weights) = lists.parts();
             let name = format!("{} {seed}", kind.name());
             let net = made(&lists);
@@ -116,7 +124,7 @@ fn every_call_refuses_alike() {
     for &kind in Hostile::ALL {
         for seed in 0..5 {
             let lists = hostile(kind, seed);
-            let whole = lists.pins.len().is_multiple_of(2) && lists.macros.len().is_multiple_of(4);
+            let whole = lists.pins.len().is_multiple_of(3) && lists.macros.len().is_multiple_of(4);
             if !whole {
                 continue;
             }

@@ -1,9 +1,9 @@
 //! Which entries a refusal is about. The number is the proved router's; what is to blame is found here, and for 13 to 18 all of it.
 
 use calzundi::{Macro, Net, Pin, Refusal, Weights};
-use calzundi::{BEST_PINS, COORDINATE, GRID_MACROS, GRID_PINS, MACROS, PINS, WEIGHT};
+use calzundi::{BEST_PINS, COORDINATE, GRID_MACROS, GRID_PINS, LOAD, MACROS, PINS, WEIGHT};
 
-use crate::text::{sides, Lines};
+use crate::text::{numbers_of, sides, Lines};
 
 /// What is said of a refusal: its line, a line for each entry that is to blame, and the same for the numbers that would come next.
 #[derive(Clone, Debug, Default, PartialEq, Eq)]
@@ -93,9 +93,8 @@ pub struct Entries<'a> {
 impl Entries<'_> {
     /// `line 7, pin 3 (5 5)`, or without its line where it has none.
     pub fn named_pin(&self, at: usize) -> String {
-        let Pin { place, .. } = self.net.pins[at];
         let line = self.lines.map(|lines| lines.pins[at]);
-        named(line, "pin", at, &format!("{} {}", place.x, place.y))
+        named(line, "pin", at, &numbers_of(&self.net.pins[at]))
     }
 
     pub fn named_macro(&self, at: usize) -> String {
@@ -136,15 +135,18 @@ impl Entries<'_> {
         let mut found = Vec::new();
         let mut look = |entry: String, numbers: &[(&str, i32)]| {
             for (name, number) in numbers {
-                if number.unsigned_abs() > COORDINATE.unsigned_abs() {
+                let least = if *name == "load" { 0 } else { -COORDINATE };
+                let most = if *name == "load" { LOAD } else { COORDINATE };
+                if !(least..=most).contains(number) {
                     found.push(format!("{entry}: {name} is {number}"));
                 }
             }
         };
         for (at, pin) in self.net.pins.iter().enumerate() {
+            let place = [("x", pin.place.x), ("y", pin.place.y)];
             look(
                 self.named_pin(at),
-                &[("x", pin.place.x), ("y", pin.place.y)],
+                &[&place[..], &[("load", pin.load)]].concat(),
             );
         }
         for (at, one) in self.net.macros.iter().enumerate() {

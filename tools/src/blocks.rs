@@ -1,7 +1,7 @@
 //! What is wrong with the bytes of a net file, block by block. That something is the proved reader says; this only finds where.
 
 use calzundi::{Macro, Net, Pin, Refusal, Weights};
-use calzundi::{BLOCK_BYTES, LONGEST_FILE, MACROS_A_BLOCK, PINS_A_BLOCK, WEIGHT};
+use calzundi::{BLOCK_BYTES, LOADED_A_BLOCK, LONGEST_FILE, MACROS_A_BLOCK, PINS_A_BLOCK, WEIGHT};
 
 use crate::blame::Blame;
 
@@ -11,6 +11,7 @@ const SUMS: usize = WORDS - 2;
 const HEAD: u32 = 1;
 const PINS: u32 = 2;
 const MACROS: u32 = 3;
+const LOADED: u32 = 4;
 
 /// The words of each whole block.
 fn blocks(bytes: &[u8]) -> Vec<Vec<u32>> {
@@ -59,7 +60,12 @@ fn wrong_sums(bytes: &[u8]) -> Vec<String> {
 fn wrong_layout(blocks: &[Vec<u32>]) -> Option<String> {
     let head = blocks.first()?;
     let (m, k) = (head[4] as usize, head[5] as usize);
-    let lists = [(PINS, m, PINS_A_BLOCK, 2), (MACROS, k, MACROS_A_BLOCK, 4)];
+    // The first block of pins tells how they are stored.
+    let pins = match blocks.get(1).map(|words| words[0]) {
+        Some(LOADED) => (LOADED, m, LOADED_A_BLOCK, 3),
+        _ => (PINS, m, PINS_A_BLOCK, 2),
+    };
+    let lists = [pins, (MACROS, k, MACROS_A_BLOCK, 4)];
     let mut expected = vec![(HEAD, 0, 0)];
     for (kind, count, full, width) in lists {
         // A count that no file has room for shows as blocks that are missing.
@@ -100,6 +106,11 @@ fn wrong_layout(blocks: &[Vec<u32>]) -> Option<String> {
             blocks.len()
         ));
     }
+    let loads = blocks.iter().filter(|words| words[0] == LOADED);
+    let mut loads = loads.flat_map(|words| words[FIRST_ENTRY..SUMS].chunks_exact(3));
+    if pins.0 == LOADED && loads.all(|pin| pin[2] == 0) {
+        return Some("block 1: its kind is 4, for pins with loads, and all loads are 0".into());
+    }
     let (x, y) = (head[6], head[7]);
     Some(format!(
         "block 0: words 6 and 7, the weights, are {x} and {y}; each is 2 to {WEIGHT}, or 0, which stands for 1"
@@ -122,6 +133,11 @@ pub fn net_in(bytes: &[u8]) -> Net {
             PINS => {
                 let pins = entries.chunks_exact(2).take(count);
                 net.pins.extend(pins.map(|pin| Pin::new(pin[0], pin[1])));
+            }
+            LOADED => {
+                let pins = entries.chunks_exact(3).take(count);
+                net.pins
+                    .extend(pins.map(|pin| Pin::new(pin[0], pin[1]).with_load(pin[2])));
             }
             MACROS => {
                 let macros = entries.chunks_exact(4).take(count);

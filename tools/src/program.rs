@@ -139,9 +139,9 @@ calzundi COMMAND ..: a tree router whose every answer is proved
     pack NET [FILE]        a net file of a net
     unpack NET [TEXT]      a net as text
 
-`calzundi COMMAND --help` says more. A NET is text, one `pin x y` or `macro left bottom right top` a line, or a net file; for - it is
-standard input. A line `weights x y`, 1 to 8 each, says what a unit of metal costs along each axis; without it both are 1. Blank lines
-are allowed, and # makes the rest of its line a comment.
+`calzundi COMMAND --help` says more. A NET is text, one `pin x y load` or `macro left bottom right top` a line, or a net file; for - it is
+standard input. A load, 0 to 1000000, may be left out where it is 0; no tree depends on it. A line `weights x y`, 1 to 8 each, says what a
+unit of metal costs along each axis; without it both are 1. Blank lines are allowed, and # makes the rest of its line a comment.
 
     printf 'pin 0 0\\npin 4 0\\npin 2 3\\n' | calzundi route -
 

@@ -1,6 +1,7 @@
-//! A net as text, one entry a line: `pin x y`, `macro left bottom right top` and, at most once, `weights x y`.
+//! A net as text, one entry a line: `pin x y load`, `macro left bottom right top` and, at most once, `weights x y`. A load of 0 may be
+//! left out, and is left out in print.
 
-use calzundi::{Macro, Net, Pin, Weights};
+use calzundi::{Macro, Net, Pin, Place, Weights};
 
 use crate::line::{each_line, quoted, BadLine};
 
@@ -21,8 +22,7 @@ pub fn parse(bytes: &[u8]) -> Result<(Net, Lines), BadLine> {
         };
         match *kind {
             "pin" => {
-                let [x, y] = numbers("pin", ["x", "y"], rest)?;
-                net.pins.push(Pin::new(x, y));
+                net.pins.push(pin(rest)?);
                 lines.pins.push(line);
             }
             "macro" => {
@@ -47,6 +47,15 @@ pub fn parse(bytes: &[u8]) -> Result<(Net, Lines), BadLine> {
         Ok(())
     })?;
     Ok((net, lines))
+}
+
+/// A pin of its numbers; a load that is left out is 0.
+fn pin(words: &[&str]) -> Result<Pin, String> {
+    if let [x, y] = *words {
+        return pin(&[x, y, "0"]);
+    }
+    let [x, y, load] = numbers("pin", ["x", "y", "load"], words)?;
+    Ok(Pin::new(x, y).with_load(load))
 }
 
 /// So many whole numbers, each with its name.
@@ -81,12 +90,21 @@ pub fn print(net: &Net) -> String {
         text += &format!("weights {x} {y}\n");
     }
     for pin in &net.pins {
-        text += &format!("pin {} {}\n", pin.place.x, pin.place.y);
+        text += &format!("pin {}\n", numbers_of(pin));
     }
     for one in &net.macros {
         text += &format!("macro {}\n", sides(one));
     }
     text
+}
+
+/// The numbers of a pin, its load where it has one.
+pub fn numbers_of(pin: &Pin) -> String {
+    let Place { x, y } = pin.place;
+    match pin.load {
+        0 => format!("{x} {y}"),
+        load => format!("{x} {y} {load}"),
+    }
 }
 
 /// The four numbers of a macro.

@@ -5,8 +5,7 @@ mod common;
 use std::fs;
 use std::path::PathBuf;
 
-use calzundi::Net;
-use common::{folder, printed, run, said, seeds, word};
+use common::{folder, made, printed, run, said, seeds, word};
 use reference::generate::{hostile, weighted as net, Hostile, Kind};
 use reference::lists::Lists;
 use reference::text::print;
@@ -151,13 +150,7 @@ fn lists_and_progress() {
 fn wires_add_up_to_the_tree() {
     for &kind in Kind::ALL {
         for seed in 0..seeds(kind, 6) {
-            let lists = net(kind, seed);
-            let pins = lists.pins.chunks_exact(2).map(|p| (p[0], p[1]));
-            let macros = lists
-                .macros
-                .chunks_exact(4)
-                .map(|m| (m[0], m[1], m[2], m[3]));
-            let net = Net::new(pins, macros).with_weights(lists.weights.x, lists.weights.y);
+            let net = made(&net(kind, seed));
             let (tree, wires) = (net.refined_tree().unwrap(), net.wires().unwrap());
             let metal: i64 = wires.iter().map(|wire| wire.length()).sum();
             let cost: i64 = wires.iter().map(|wire| wire.cost(net.weights)).sum();

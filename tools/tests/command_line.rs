@@ -7,9 +7,10 @@ use std::fs;
 use calzundi::{Net, Refusal};
 use common::{example, folder, made, printed, root, run, said, seeds, word, written, COMMANDS};
 use reference::generate::{
-    bought, damaged_weighted as damaged, weighted as net, Bought, Damage, Kind, Ours,
+    bought, damaged_loaded, damaged_weighted, loaded, weighted as net, Bought, Damage, Kind, Ours,
 };
 use reference::lists::Lists;
+use reference::netfile;
 use reference::route::route;
 use reference::worked::sliding;
 use tools::routed::{wires_text, Routed};
@@ -21,7 +22,10 @@ use tools::{text, tree};
 fn round_trips() {
     for &kind in Kind::ALL {
         for seed in 0..seeds(kind, 10) {
-            let lists = net(kind, seed);
+            let lists = match seed % 2 {
+                0 => net(kind, seed),
+                _ => loaded(&net(kind, seed), seed),
+            };
             let net = made(&lists);
             let said = text::print(&net);
             assert_eq!(text::parse(said.as_bytes()).unwrap().0, net);
@@ -33,10 +37,12 @@ fn round_trips() {
         }
     }
     for kind in [Kind::TinyFour, Kind::Largest, Kind::Far] {
-        let said = text::print(&made(&net(kind, 3))).into_bytes();
-        let bytes = written(&["pack", "-"], &said);
-        assert_eq!(written(&["unpack", "-"], &bytes), said);
-        assert_eq!(written(&["pack", "-", "-"], &bytes), bytes);
+        for lists in [net(kind, 3), loaded(&net(kind, 3), 3)] {
+            let said = text::print(&made(&lists)).into_bytes();
+            let bytes = written(&["pack", "-"], &said);
+            assert_eq!(written(&["unpack", "-"], &bytes), said);
+            assert_eq!(written(&["pack", "-", "-"], &bytes), bytes);
+        }
     }
 }
 
@@ -45,7 +51,10 @@ fn round_trips() {
 fn route_prints_what_the_program_prints() {
     for &kind in Kind::ALL {
         for seed in 0..seeds(kind, 8) {
-            let net = made(&net(kind, seed));
+            let net = made(&match seed % 2 {
+                0 => net(kind, seed),
+                _ => loaded(&net(kind, seed), seed),
+            });
             let expected = route(&net.to_file().unwrap());
             assert_eq!(
                 Routed::of(&net).unwrap().text(),
@@ -162,6 +171,18 @@ fn bad_lines_are_numbered() {
     }
 }
 
+/// The file of so many pins with a load of 1, a word of a block changed and the sums right.
+fn with_loads(m: i32, (block, word): (usize, usize), number: u32) -> Vec<u8> {
+    let lists = Lists {
+        pins: (0..m).flat_map(|x| [x, 0, 1]).collect(),
+        ..Lists::default()
+    };
+    let mut blocks = netfile::blocks_of(&netfile::write(&lists));
+    blocks[block][word] = number;
+    netfile::seal(&mut blocks[block]);
+    netfile::bytes_of(&blocks)
+}
+
 /// Net files that are refused, with the block and the word that are wrong.
 #[test]
 fn bad_files_are_explained() {
@@ -183,6 +204,17 @@ fn bad_files_are_explained() {
             3,
             "the head's 3 pins and 0 macros have 2 blocks, and the file has 1",
         ),
+        (
+            with_loads(1, (1, 6), 0),
+            3,
+            "block 1: its kind is 4, for pins with loads, and all loads are 0",
+        ),
+        (
+            with_loads(41, (2, 0), 2),
+            3,
+            "block 2: word 0, the kind, is 2 and should be 4",
+        ),
+        (with_loads(1, (1, 6), 1_000_001), 13, "load is 1000001"),
     ] {
         let wrong = said(&["unpack", "-"], &bytes, 1);
         let expected = format!("calzundi unpack: standard input: refused {number}: ");
@@ -191,8 +223,11 @@ fn bad_files_are_explained() {
     }
     // Every damage that the generator knows is refused by the router and explained here, and none of the two falls over.
     for &kind in Damage::ALL {
-        for seed in 0..20 {
-            let bytes = damaged(kind, seed);
+        for seed in 0..40 {
+            let bytes = match seed % 2 {
+                0 => damaged_weighted(kind, seed),
+                _ => damaged_loaded(kind, seed),
+            };
             let Ok(read) = source("a net".into(), &bytes) else {
                 continue;
             };

@@ -167,10 +167,18 @@ fn refusals_name_their_lines() {
     );
     assert_eq!(
         checked("pin 0 1000001\nmacro -1000001 0 1 1\npin -2147483648 0\n"),
-        "refused 13: a coordinate is not from -1000000 to 1000000\n\
+        "refused 13: a coordinate is not from -1000000 to 1000000, or a load not from 0 to 1000000\n\
          \u{20} line 1, pin 1 (0 1000001): y is 1000001\n\
          \u{20} line 3, pin 2 (-2147483648 0): x is -2147483648\n\
          \u{20} line 2, macro 1 (-1000001 0 1 1): left is -1000001\n"
+    );
+    assert_eq!(
+        checked("pin 0 0 -1\npin 5 5 1000000\npin 9 9 1000001\npin 5 5\n"),
+        "refused 13: a coordinate is not from -1000000 to 1000000, or a load not from 0 to 1000000\n\
+         \u{20} line 1, pin 1 (0 0 -1): load is -1\n\
+         \u{20} line 3, pin 3 (9 9 1000001): load is 1000001\n\
+         then refused 15: two pins are at one place\n\
+         \u{20} line 4, pin 4 (5 5) stands where line 2, pin 2 (5 5 1000000) does\n"
     );
     assert_eq!(
         checked("macro 3 0 3 5\nmacro 0 9 1 8\npin 1 1\npin 1 1\npin 1 1\nmacro 0 0 2 2\n"),

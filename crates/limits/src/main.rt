@@ -32,7 +32,7 @@ fn plain() -> Weighing {
 // Numbers of one macro more than a net may have: enough for one pin more too.
 const NUMBERS: usize = (Net::MACROS + 1) * Net::MACRO_NUMBERS;
 
-// 0, 1, 2 and so on: read as pins, places on a diagonal; read as macros, squares along it that do not touch.
+// 0, 1, 2 and so on: read as pins, places on a diagonal, each with a load; read as macros, squares along it that do not touch.
 fn counted_up() -> [i32; NUMBERS]
     ensures { λ r. ⌜ (macroBound + 1) * macroWidth ≡ length r ⌝ }
 {
@@ -49,13 +49,18 @@ fn coordinates() {
     io::write_all(1, b"coordinates 1000000 and -1000000: ");
     say(router::check(
         plain(),
-        &[1000000, -1000000],
+        &[1000000, -1000000, 0],
         &[-1000000, -1000000, 1000000, 1000000],
     ));
     io::write_all(1, b"coordinate 1000001: ");
-    say(router::check(plain(), &[0, 1000001], &[0i32; 0]));
+    say(router::check(plain(), &[0, 1000001, 0], &[0i32; 0]));
     io::write_all(1, b"coordinate -1000001: ");
-    say(router::check(plain(), &[0, 0], &[-1000001, 0, 1, 1]));
+    say(router::check(plain(), &[0, 0, 0], &[-1000001, 0, 1, 1]));
+}
+
+// One pin with this load.
+fn load(z: i32) {
+    say(router::check(plain(), &[0, 0, z], &[0i32; 0]));
 }
 
 // The first n numbers as pins.
@@ -69,16 +74,22 @@ fn pins(numbers: &[i32], n: usize)
 fn macros(numbers: &[i32], n: usize)
     requires { ⌜ n ≤ length (now numbers) ⌝ }
 {
-    say(router::check(plain(), &[0, 0], &numbers[..n]));
+    say(router::check(plain(), &[0, 0, 0], &numbers[..n]));
 }
 
 // One pin with these weights.
 fn weights(first: i32, second: i32) {
-    say(router::check(Weighing { first, second }, &[0, 0], &[0i32; 0]));
+    say(router::check(Weighing { first, second }, &[0, 0, 0], &[0i32; 0]));
 }
 
 fn main() {
     coordinates();
+    io::write_all(1, b"load 1000000: ");
+    load(Net::LOAD);
+    io::write_all(1, b"load 1000001: ");
+    load(Net::LOAD + 1);
+    io::write_all(1, b"load -1: ");
+    load(-1);
     let numbers = counted_up();
     io::write_all(1, b"128 pins: ");
     pins(&numbers, Net::PINS * Net::PIN_NUMBERS);

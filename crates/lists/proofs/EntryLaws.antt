@@ -1,5 +1,5 @@
--- The entries of a flat list, w numbers each: `of` reads them all, `at` the one that begins at a number's place. Then those of two and of
--- four numbers. A scan of entries goes by `drop i (of s)`: what is left after i of them.
+-- The entries of a flat list, w numbers each: `of` reads them all, `at` the one that begins at a number's place. Then those of two, of
+-- three and of four numbers. A scan of entries goes by `drop i (of s)`: what is left after i of them.
 -- Assumes nothing.
 use mathlib.Core.Path.{_≡_, refl, sym, ap, _∙_}
 use mathlib.Core.List.{List, [], _∷_}
@@ -10,7 +10,7 @@ use borrow.Author.Tests.{leb-true, leb-false}
 use lib.Dec.{leb}
 use lib.ListN.{length, getD, drop, length-drop}
 use lib.Seq.{getD-drop}
-use Rattle.lists.specs.Entries.{twos, fours}
+use Rattle.lists.specs.Entries.{twos, threes, fours}
 use Rattle.lists.proofs.TestLaws.{by}
 
 module _ {A B : Type 0} (w : ℕ) (of : List A → List B) (at : List A → ℕ → B)
@@ -74,6 +74,35 @@ module _ {A B : Type 0} (z : A) where
     pub twos-end : (s : List A) (i : ℕ) → length s < i * 2 + 2 → drop i (twos entry s) ≡ []
     twos-end = entry-end 2 (twos entry) two two-step two-short two-past
 
+  module _ (entry : A → A → A → B) where
+    -- the entry of the three numbers from the k-th on
+    abbrev three : List A → ℕ → B
+    three s k = entry (getD s k z) (getD s (k + 1) z) (getD s (k + 2) z)
+
+    three-step : (s : List A) → 3 ≤ length s → threes entry s ≡ three s 0 ∷ threes entry (drop 3 s)
+    unfolding threes
+    three-step [] h = absurd (let f : ⊥ = omega arith in f)
+    three-step (a ∷ []) h = absurd (let f : ⊥ = omega arith in f)
+    three-step (a ∷ (b ∷ [])) h = absurd (let f : ⊥ = omega arith in f)
+    three-step (a ∷ (b ∷ (c ∷ s))) h = refl
+
+    three-short : (s : List A) → length s < 3 → threes entry s ≡ []
+    unfolding threes
+    three-short [] h = refl
+    three-short (a ∷ []) h = refl
+    three-short (a ∷ (b ∷ [])) h = refl
+    three-short (a ∷ (b ∷ (c ∷ s))) h = absurd (let f : ⊥ = omega arith in f)
+
+    three-past : (s : List A) (i : ℕ) → three (drop 3 s) i ≡ three s (3 + i)
+    three-past s i = rw (getD-drop 3 s i z, at-past z 3 s i 1, at-past z 3 s i 2) refl
+
+    pub threes-next : (s : List A) (i : ℕ) → i * 3 + 3 ≤ length s
+        → drop i (threes entry s) ≡ three s (i * 3) ∷ drop (i + 1) (threes entry s)
+    threes-next = entry-next 3 (threes entry) three three-step three-short three-past
+
+    pub threes-end : (s : List A) (i : ℕ) → length s < i * 3 + 3 → drop i (threes entry s) ≡ []
+    threes-end = entry-end 3 (threes entry) three three-step three-short three-past
+
   module _ (entry : A → A → A → A → B) where
     -- the entry of the four numbers from the k-th on
     abbrev four : List A → ℕ → B
@@ -112,6 +141,13 @@ module _ {A B : Type 0} where
   length-twos entry [] = refl
   length-twos entry (a ∷ []) = refl
   length-twos entry (a ∷ (b ∷ s)) = omega (arith, length-twos entry s)
+
+  pub length-threes : (entry : A → A → A → B) (s : List A) → length (threes entry s) ≡ length s / 3
+  unfolding threes
+  length-threes entry [] = refl
+  length-threes entry (a ∷ []) = refl
+  length-threes entry (a ∷ (b ∷ [])) = refl
+  length-threes entry (a ∷ (b ∷ (c ∷ s))) = omega (arith, length-threes entry s)
 
   pub length-fours : (entry : A → A → A → A → B) (s : List A) → length (fours entry s) ≡ length s / 4
   unfolding fours

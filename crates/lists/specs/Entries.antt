@@ -1,4 +1,4 @@
--- The entries of a flat list, two or four numbers each.
+-- The entries of a flat list, two, three or four numbers each.
 use mathlib.Core.List.{List, [], _∷_}
 
 module _ {A B : Type 0} where
@@ -7,6 +7,13 @@ module _ {A B : Type 0} where
   twos entry [] = []
   twos entry (a ∷ []) = []
   twos entry (a ∷ (b ∷ rest)) = entry a b ∷ twos entry rest
+
+  -- an entry of each three numbers; up to two that are left over at the end are none
+  unfoldable pub threes : (A → A → A → B) → List A → List B
+  threes entry [] = []
+  threes entry (a ∷ []) = []
+  threes entry (a ∷ (b ∷ [])) = []
+  threes entry (a ∷ (b ∷ (c ∷ rest))) = entry a b c ∷ threes entry rest
 
   -- an entry of each four numbers; up to three that are left over at the end are none
   unfoldable pub fours : (A → A → A → A → B) → List A → List B

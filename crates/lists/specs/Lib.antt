@@ -14,7 +14,7 @@
 --   any f xs          some entry of xs passes f
 --   anyTwo f xs       two entries at different positions pass f, the earlier one as its first argument
 --   NoTwo f xs        no entry passes f together with one after it, in words
---   twos entry s, fours entry s    the entries of a flat list, of two or of four numbers each
+--   twos, threes, fours entry s    the entries of a flat list, of two, three or four numbers each
 --   x ∈ l             x stands in l: `here e` at the head, to which it is equal by e, `there m` further on
 --   Among l m         each entry of l stands in m
 --   Once l            no entry stands twice in l

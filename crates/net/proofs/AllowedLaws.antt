@@ -12,6 +12,7 @@ use lib.Signed.{ltZ}
 use Rattle.signed.specs.Sides.{up}
 use Rattle.signed.proofs.SideLaws.{ltZ-false, le-ltZ, eq-of, up-pos, down-pos, one-side, signed}
 use Rattle.lists.proofs.TestLaws.{or-none, or-neither}
+use Rattle.lists.specs.Any.{any}
 use Rattle.lists.proofs.AnyLaws.{any-none, none-any, two-none, none-two}
 use Rattle.lent.specs.Told.{given}
 use Rattle.plane.specs.declared.Place.{Place}
@@ -24,22 +25,21 @@ use Rattle.plane.proofs.FlatLaws.{length-macros}
 use Rattle.net.specs.Bounds.{pinBound, macroBound, weightBound, pinWidth, macroWidth}
 use Rattle.net.specs.declared.Weighing.{Weighing}
 use Rattle.net.specs.declared.Net.{Net as Counts}
-use Rattle.net.specs.Pins.{pinCount, pinPlaces, macroCount}
+use Rattle.net.specs.Pins.{pinCount, pinPlaces, pinLoads, macroCount}
 use Rattle.net.specs.Net.{Net, netOf, weightsOf}
 use Rattle.net.specs.Check.{countsOf, pinsMiscounted, pinsMiscountedWithin, macrosMiscounted, macrosMiscountedWithin, outOfRange}
-use Rattle.net.specs.Check.{notUpright, insideAny, noWeight, weightsWrong}
-use Rattle.net.specs.Check.{checked}
+use Rattle.net.specs.Check.{placeOut, noLoad, pinsOutOfRange, notUpright, insideAny, noWeight, weightsWrong, checked}
 use Rattle.net.specs.Allowed.{Whole, PlaceInRange, MacroInRange, Upright, Weighted, Allowed}
 use Rattle.net.proofs.PinLaws.{length-pins}
-use Rattle.net.proofs.RangeLaws.{placeOut, macroOut, range-of-pins, range-of-macros}
+use Rattle.net.proofs.RangeLaws.{macroOut, range-of-macros}
 use Rattle.net.proofs.CheckLaws.{Past18, allow}
 use Rattle.net.proofs.PassedLaws.{passed-all, pins-counted, macros-counted}
 
 -- the counts: the other way of what was counted
 module _ (s : List ℤ) where
-  pairs-whole : length s % pinWidth ≡ 0 → 1 ≤ pinCount s → pinCount s ≤ pinBound → pinsMiscounted s ≡ false
+  threes-whole : length s % pinWidth ≡ 0 → 1 ≤ pinCount s → pinCount s ≤ pinBound → pinsMiscounted s ≡ false
   unfolding pinsMiscountedWithin
-  pairs-whole e l h =
+  threes-whole e l h =
       or-neither _ _ (ap not (eq-eqb (length s % pinWidth) 0 e))
       (or-neither _ _ (ne-eqb (pinCount s) 0 (λ z. omega arith)) (le-ltb pinBound (pinCount s) h))
 
@@ -121,7 +121,7 @@ allowed-positive a = a .weighted .positive
 module _ (w : Weighing) (pins macros : List ℤ) where
   -- what the check allows is allowed in words
   past-allowed : Past18 w pins macros → Whole pins macros × Allowed (netOf w pins macros)
-  unfolding insideAny
+  unfolding insideAny pinsOutOfRange
   past-allowed p18 =
       let p17 = p18 .past in
       let p16 = p17 .past in
@@ -130,9 +130,10 @@ module _ (w : Weighing) (pins macros : List ℤ) where
       let p13 = p14 .past in
       let m = pins-counted pins (p13 .past .past .past .passed) in
       let k = macros-counted macros (p13 .past .past .passed) in
-      let in-pins = any-none placeOut (pinPlaces pins) (sym (range-of-pins pins (m .whole)) ∙ p13 .past .passed) in
+      let ranges = or-none (any placeOut (pinPlaces pins)) (any noLoad (pinLoads pins)) (p13 .past .passed) in
+      let in-pins = any-none placeOut (pinPlaces pins) (ranges .0) in
       let in-macros = any-none macroOut (macrosOf macros) (sym (range-of-macros macros (k .whole)) ∙ p13 .passed) in (
-        record { pairs = m .whole; fours = k .whole },
+        record { threes = m .whole; fours = k .whole; loads = any-none noLoad (pinLoads pins) (ranges .1) },
         record {
           some-pin = rw (length-pins pins) (m .some);
           few-pins = rw (length-pins pins) (m .few);
@@ -150,7 +151,7 @@ module _ (w : Weighing) (pins macros : List ℤ) where
 
   -- and the other way
   allowed-past : Whole pins macros → Allowed (netOf w pins macros) → Past18 w pins macros
-  unfolding insideAny
+  unfolding insideAny pinsOutOfRange
   allowed-past whole a =
       record {
         past =
@@ -162,12 +163,14 @@ module _ (w : Weighing) (pins macros : List ℤ) where
                       past = record {
                         past = record {
                           past = record {
-                            passed = pairs-whole pins (whole .pairs) (rw (length-pins pins) at (a .some-pin))
+                            passed = threes-whole pins (whole .threes) (rw (length-pins pins) at (a .some-pin))
                                 (rw (length-pins pins) at (a .few-pins));
                           };
                           passed = fours-whole macros (whole .fours) (rw (length-macros macros) at (a .few-macros));
                         };
-                        passed = range-of-pins pins (whole .pairs) ∙ none-any placeOut (pinPlaces pins) (λ p i. of-place p (a .pins-in-range p i));
+                        passed = or-neither _ _
+                            (none-any placeOut (pinPlaces pins) (λ p i. of-place p (a .pins-in-range p i)))
+                            (none-any noLoad (pinLoads pins) (whole .loads));
                       };
                       passed = range-of-macros macros (whole .fours) ∙ none-any macroOut (macrosOf macros)
                           (λ n i. of-macro n (a .macros-in-range n i));

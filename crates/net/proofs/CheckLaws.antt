@@ -11,7 +11,8 @@ use Rattle.plane.specs.Flat.{macrosOf}
 use Rattle.lent.specs.Told.{refused, given}
 use Rattle.net.specs.Pins.{pinPlaces}
 use Rattle.net.specs.declared.Weighing.{Weighing}
-use Rattle.net.specs.Check.{countsOf, pinsMiscounted, macrosMiscounted, outOfRange, notUpright, insideAny, weightsWrong, checked}
+use Rattle.net.specs.Check.{countsOf, pinsMiscounted, macrosMiscounted, outOfRange, pinsOutOfRange, notUpright, insideAny}
+use Rattle.net.specs.Check.{weightsWrong, checked}
 use Rattle.net.specs.Check.{checkedWithin}
 
 module _ (w : Weighing) (pins macros : List ℤ) where
@@ -25,7 +26,7 @@ module _ (w : Weighing) (pins macros : List ℤ) where
 
   pub record Past13-pins : Type 0 where
     pub past : Past12
-    pub passed : any outOfRange pins ≡ false
+    pub passed : pinsOutOfRange pins ≡ false
 
   pub record Past13 : Type 0 where
     pub past : Past13-pins
@@ -59,7 +60,7 @@ module _ (w : Weighing) (pins macros : List ℤ) where
   unfolding checkedWithin
   refuse-12 p e = rw (p .passed, e) refl
 
-  pub refuse-13-pins : Past12 → any outOfRange pins ≡ true → checked w pins macros ≡ refused 13
+  pub refuse-13-pins : Past12 → pinsOutOfRange pins ≡ true → checked w pins macros ≡ refused 13
   unfolding checkedWithin
   refuse-13-pins p e = rw (p .past .passed, p .passed, e) refl
 

@@ -1,9 +1,10 @@
 -- The check gives the same answer for every order of the entries, whatever the lists: a list that is not whole is refused by its length,
--- and the tests of a whole one are searches of its entries.
+-- and the tests of a whole one are searches of its entries. Of pins they are searches of places, and one of loads: so all loads in range
+-- are alike to it [11].
 -- Assumes nothing.
 use mathlib.Core.Path.{_≡_, refl, sym, ap, ap₂, _∙_}
-use mathlib.Core.Bool.{_||_}
-use mathlib.Core.List.{List, Perm}
+use mathlib.Core.Bool.{false, _||_}
+use mathlib.Core.List.{List, [], _∷_, Perm, Perm·map}
 use Prim.Native.Nat.{ℕ, _%_, _*_}
 use lib.IntN.{ℤ}
 use lib.ListN.{length}
@@ -20,21 +21,21 @@ use Rattle.plane.proofs.PlaceLaws.{same-comm}
 use Rattle.plane.proofs.MacroLaws.{interiors-comm}
 use Rattle.plane.proofs.FlatLaws.{macros-flat, length-flat-macros}
 use Rattle.net.specs.Bounds.{pinWidth, macroWidth}
-use Rattle.net.specs.Pins.{pinPlaces, flatPins}
-use Rattle.net.specs.Check.{pinsMiscounted, pinsMiscountedWithin, macrosMiscounted, macrosMiscountedWithin, outOfRange}
-use Rattle.net.specs.Check.{notUpright, insideAny, checked, checkedWithin}
+use Rattle.net.specs.Pins.{pinPlaces, pinLoads, flatPins}
+use Rattle.net.specs.Check.{pinsMiscounted, pinsMiscountedWithin, macrosMiscounted, macrosMiscountedWithin, outOfRange, placeOut, noLoad}
+use Rattle.net.specs.Check.{pinsOutOfRange, notUpright, insideAny, checked, checkedWithin}
 use Rattle.net.specs.declared.Weighing.{Weighing}
-use Rattle.net.specs.Order.{SamePins, SameMacros}
-use Rattle.net.proofs.PinLaws.{same-pins, pins-flat, length-flat-pins}
-use Rattle.net.proofs.RangeLaws.{placeOut, macroOut, range-of-pins, range-of-macros}
+use Rattle.net.specs.Order.{SamePins, SamePlaces, SameMacros}
+use Rattle.net.proofs.PinLaws.{same-pins, entry-places, entry-loads, pins-flat, length-flat-pins}
+use Rattle.net.proofs.RangeLaws.{macroOut, range-of-macros}
 use Rattle.net.proofs.CheckLaws.{refuse-11, refuse-12}
-use Rattle.net.proofs.PassedLaws.{pins-counted, macros-counted}
+use Rattle.net.proofs.PassedLaws.{macros-counted}
 
 inside-perm : (ms ns : List Macro) → Perm ms ns → (p : Place) → insideAny ms p ≡ insideAny ns p
 unfolding insideAny
 inside-perm ms ns q p = any-perm (inside p) ms ns q
 
-module _ (w : Weighing) (pins pins′ macros macros′ : List ℤ) (p : SamePins pins pins′) (q : SameMacros macros macros′) where
+module _ (w : Weighing) (pins pins′ macros macros′ : List ℤ) (p : SamePlaces pins pins′) (q : SameMacros macros macros′) where
   same-pin-count : pinsMiscounted pins ≡ pinsMiscounted pins′
   unfolding pinsMiscountedWithin
   same-pin-count = rw (p .many, same-pins pins pins′ (p .many)) refl
@@ -43,26 +44,28 @@ module _ (w : Weighing) (pins pins′ macros macros′ : List ℤ) (p : SamePins
   unfolding macrosMiscountedWithin
   same-macro-count = rw (q .many) refl
 
-  -- of whole lists
-  ranges : length pins % pinWidth ≡ 0 → length macros % macroWidth ≡ 0 → (any outOfRange pins || any outOfRange macros)
-      ≡ (any outOfRange pins′ || any outOfRange macros′)
-  ranges e f =
-      ap₂ _||_
-      (range-of-pins pins e ∙ any-perm placeOut _ _ (p .order) ∙ sym (range-of-pins pins′ (rw (p .many) at e)))
-      (range-of-macros macros f ∙ any-perm macroOut _ _ (q .order) ∙ sym (range-of-macros macros′ (rw (q .many) at f)))
+  same-pin-range : pinsOutOfRange pins ≡ pinsOutOfRange pins′
+  unfolding pinsOutOfRange
+  same-pin-range = ap₂ _||_ (any-perm placeOut _ _ (p .order)) (p .loads)
+
+  -- of whole macros
+  same-macro-range : length macros % macroWidth ≡ 0 → any outOfRange macros ≡ any outOfRange macros′
+  same-macro-range f =
+      range-of-macros macros f ∙ any-perm macroOut _ _ (q .order) ∙ sym (range-of-macros macros′ (rw (q .many) at f))
 
   insides : any (insideAny (macrosOf macros)) (pinPlaces pins) ≡ any (insideAny (macrosOf macros′)) (pinPlaces pins′)
   insides =
       any-perm (insideAny (macrosOf macros)) _ _ (p .order)
       ∙ any-agree (insideAny (macrosOf macros)) (insideAny (macrosOf macros′)) (inside-perm _ _ (q .order)) (pinPlaces pins′)
 
-  whole-order : length pins % pinWidth ≡ 0 → length macros % macroWidth ≡ 0 → checked w pins macros ≡ checked w pins′ macros′
+  whole-order : length macros % macroWidth ≡ 0 → checked w pins macros ≡ checked w pins′ macros′
   unfolding checkedWithin
-  whole-order e f =
+  whole-order f =
       rw (
         same-pin-count,
         same-macro-count,
-        ranges e f,
+        same-pin-range,
+        same-macro-range f,
         any-perm notUpright _ _ (q .order),
         two-perm samePlace same-comm _ _ (p .order),
         two-perm interiorsMeet interiors-comm _ _ (q .order),
@@ -79,7 +82,22 @@ module _ (w : Weighing) (pins pins′ macros macros′ : List ℤ) (p : SamePins
       (λ f. refuse-12 w pins macros (record { passed = e }) f
       ∙ sym (refuse-12 w pins′ macros′ (record { passed = sym same-pin-count ∙ e }) (sym same-macro-count ∙ f)))
       λ f.
-      whole-order (pins-counted pins e .whole) (macros-counted macros f .whole)
+      whole-order (macros-counted macros f .whole)
+
+-- the same entries are at the same places
+pub same-places : (pins pins′ : List ℤ) → SamePins pins pins′ → SamePlaces pins pins′
+same-places pins pins′ p = record {
+  many = p .many;
+  order = rw (sym (entry-places pins), sym (entry-places pins′)) (Perm·map (λ (e : Place × ℤ). e .0) (p .order));
+  loads = rw (sym (entry-loads pins), sym (entry-loads pins′))
+      (any-perm noLoad _ _ (Perm·map (λ (e : Place × ℤ). e .1) (p .order)));
+}
+
+-- pins without a load
+no-loads : (ps : List Place) → any noLoad (pinLoads (flatPins ps)) ≡ false
+unfolding any pinLoads flatPins noLoad
+no-loads [] = refl
+no-loads (p ∷ ps) = no-loads ps
 
 -- of lists of places and macros
 pub check-reordered : (w : Weighing) (ps ps′ : List Place) (ms ms′ : List Macro) → Perm ps ps′ → Perm ms ms′
@@ -89,6 +107,7 @@ check-reordered w ps ps′ ms ms′ p q =
     (record {
       many = length-flat-pins ps ∙ ap (λ (n : ℕ). n * pinWidth) (length-perm ps ps′ p) ∙ sym (length-flat-pins ps′);
       order = rw (pins-flat ps, pins-flat ps′) p;
+      loads = no-loads ps ∙ sym (no-loads ps′);
     })
     (record {
       many = length-flat-macros ms ∙ ap (λ (n : ℕ). n * macroWidth) (length-perm ms ms′ q) ∙ sym (length-flat-macros ms′);

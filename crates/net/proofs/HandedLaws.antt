@@ -19,8 +19,8 @@ use Rattle.net.specs.declared.Weighing.{Weighing}
 use Rattle.net.specs.declared.Net.{Net as Counts}
 use Rattle.net.specs.Pins.{pinPlaces}
 use Rattle.net.specs.Net.{weighing, weightsOf, handed}
-use Rattle.net.specs.Check.{countsOf, pinsMiscounted, macrosMiscounted, outOfRange, notUpright, insideAny, noWeight, weightsWrong}
-use Rattle.net.specs.Check.{checked, checkedWithin}
+use Rattle.net.specs.Check.{countsOf, pinsMiscounted, macrosMiscounted, outOfRange, pinsOutOfRange, notUpright, insideAny}
+use Rattle.net.specs.Check.{noWeight, weightsWrong, checked, checkedWithin}
 use Rattle.net.specs.Allowed.{Weighted}
 use Rattle.net.proofs.PassedLaws.{passed-all}
 use Rattle.net.proofs.AllowedLaws.{weight-is, within-weights, given-counts}
@@ -68,7 +68,7 @@ not-18 w pins macros e =
     rw e
     (another (pinsMiscounted pins) 11 18 _ refl
     (another (macrosMiscounted macros) 12 18 _ refl
-    (another (any outOfRange pins || any outOfRange macros) 13 18 _ refl
+    (another (pinsOutOfRange pins || any outOfRange macros) 13 18 _ refl
     (another (any notUpright (macrosOf macros)) 14 18 _ refl
     (another (anyTwo samePlace (pinPlaces pins)) 15 18 _ refl
     (another (anyTwo interiorsMeet (macrosOf macros)) 16 18 _ refl

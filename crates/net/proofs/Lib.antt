@@ -1,3 +1,4 @@
+pub mod WidthLaws
 pub mod PinLaws
 pub mod NumberLaws
 pub mod CheckLaws

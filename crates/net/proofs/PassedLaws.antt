@@ -20,7 +20,7 @@ use Rattle.net.specs.declared.Net.{Net}
 use Rattle.net.specs.Pins.{pinCount, pinPlaces, macroCount}
 use Rattle.net.specs.declared.Weighing.{Weighing}
 use Rattle.net.specs.Check.{pinsMiscounted, pinsMiscountedWithin, macrosMiscounted, macrosMiscountedWithin, outOfRange}
-use Rattle.net.specs.Check.{notUpright, insideAny, weightsWrong, checked}
+use Rattle.net.specs.Check.{pinsOutOfRange, notUpright, insideAny, weightsWrong, checked}
 use Rattle.net.proofs.CheckLaws.{Past11, Past12, Past13-pins, Past13, Past14, Past15, Past16, Past17, Past18}
 use Rattle.net.proofs.CheckLaws.{refuse-11, refuse-12}
 use Rattle.net.proofs.CheckLaws.{refuse-13-pins, refuse-13, refuse-14, refuse-15, refuse-16, refuse-17, refuse-18}
@@ -37,7 +37,7 @@ module _ (w : Weighing) (pins macros : List ℤ) (net : Net) (allowed : checked 
   past-12 = by (macrosMiscounted macros) (λ e. apart 12 (refuse-12 w pins macros past-11 e)) (λ e. record { past = past-11; passed = e })
 
   past-13-pins : Past13-pins w pins macros
-  past-13-pins = by (any outOfRange pins) (λ e. apart 13 (refuse-13-pins w pins macros past-12 e))
+  past-13-pins = by (pinsOutOfRange pins) (λ e. apart 13 (refuse-13-pins w pins macros past-12 e))
       (λ e. record { past = past-12; passed = e })
 
   past-13 : Past13 w pins macros

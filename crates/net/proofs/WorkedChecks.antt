@@ -1,7 +1,8 @@
--- The check of the worked nets E1 to E11, and with weights E19 and E20, by computing the definition.
+-- The check of the worked nets E1 to E11, with weights E19 and E20, and with loads E33, by computing the definition.
 -- Assumes nothing.
 use mathlib.Core.Path.{_≡_, refl}
-use lib.IntN.{pos, negsuc}
+use mathlib.Core.List.{[], _∷_, _++_}
+use lib.IntN.{ℤ, pos, negsuc}
 use Rattle.lists.specs.Any.{any, anyTwo}
 use Rattle.signed.specs.Order.{minZ, maxZ}
 use Rattle.plane.specs.Place.{samePlace}
@@ -12,17 +13,28 @@ use Rattle.lent.specs.Told.{Told, refused, given}
 use Rattle.net.specs.declared.Net.{Net}
 use Rattle.net.specs.declared.Weighing.{Weighing}
 use Rattle.net.specs.Net.{weighing, plainly}
-use Rattle.net.specs.Pins.{pinCount, pinPlaces}
-use Rattle.net.specs.Check.{pinsMiscountedWithin, macrosMiscountedWithin, outOfRange, notUpright, insideAny, noWeight, weightsWrong}
-use Rattle.net.specs.Check.{counted, checked, checkedWithin}
-use Rattle.net.specs.WorkedNets.{Lists, onePin, noPin, aroundOne, threePins, sharedSide, onSides, overlapping, onBoundary, inInterior}
-use Rattle.net.specs.WorkedNets.{twiceInInterior, noWidth}
+use Rattle.net.specs.Pins.{pinCount, pinPlaces, pinLoads}
+use Rattle.net.specs.Check.{pinsMiscountedWithin, macrosMiscountedWithin, outOfRange, noLoad, pinsOutOfRange, notUpright, insideAny}
+use Rattle.net.specs.Check.{noWeight, weightsWrong, counted, checked, checkedWithin}
+use Rattle.net.specs.WorkedNets.{Lists, loadedPin, onePin, noPin, aroundOne, threePins, sharedSide, onSides, overlapping}
+use Rattle.net.specs.WorkedNets.{onBoundary, inInterior, twiceInInterior, noWidth}
 
 -- the check of a net with these weights; to unfold this is to unfold all that it rests on
 unfoldable pub answer : Weighing → Lists → Told Net
-unfolding up any anyTwo minZ maxZ samePlace inside openSpansMeet interiorsMeet pinCount pinPlaces macrosOf pinsMiscountedWithin
-    macrosMiscountedWithin outOfRange notUpright insideAny noWeight weightsWrong checkedWithin
+unfolding up any anyTwo minZ maxZ samePlace inside openSpansMeet interiorsMeet pinCount pinPlaces pinLoads macrosOf pinsMiscountedWithin
+    macrosMiscountedWithin outOfRange noLoad pinsOutOfRange notUpright insideAny noWeight weightsWrong checkedWithin
 answer w net = checked w (net .pins) (net .macros)
+
+-- one pin with this load, and two at one place with these
+abbrev onePinOf : ℤ → Lists
+onePinOf load = record { pins = loadedPin (pos 5) (pos 5) load; macros = [] }
+
+abbrev onePlaceOf : ℤ → ℤ → Lists
+onePlaceOf a b = record { pins = loadedPin (pos 5) (pos 5) a ++ loadedPin (pos 5) (pos 5) b; macros = [] }
+
+-- a coordinate that passes for no load, as x of the second pin, so that numbers are not taken for one another
+abbrev leftPin : Lists
+leftPin = record { pins = loadedPin (pos 5) (pos 5) (pos 1) ++ loadedPin (negsuc 6) (negsuc 6) (pos 0); macros = [] }
 
 pub record Table : Type 0 where
   pub one-pin : answer plainly onePin ≡ given (counted plainly 1 0)
@@ -43,6 +55,13 @@ pub record Table : Type 0 where
   pub below-weight : answer (weighing (negsuc 0) (pos 1)) threePins ≡ refused 18
   pub overlap-first : answer (weighing (pos 9) (pos 9)) overlapping ≡ refused 16
   pub inside-first : answer (weighing (pos 9) (pos 9)) inInterior ≡ refused 17
+  -- E33: loads from 0 to 1,000,000; pins at one place are the same, whatever their loads [11]
+  pub greatest-load : answer plainly (onePinOf (pos 1000000)) ≡ given (counted plainly 1 0)
+  pub load-above : answer plainly (onePinOf (pos 1000001)) ≡ refused 13
+  pub load-below : answer plainly (onePinOf (negsuc 0)) ≡ refused 13
+  pub left-pin : answer plainly leftPin ≡ given (counted plainly 2 0)
+  pub two-loads : answer plainly (onePlaceOf (pos 1) (pos 2)) ≡ refused 15
+  pub not-whole : answer plainly (record { pins = pos 5 ∷ (pos 5 ∷ []); macros = [] }) ≡ refused 11
 
 pub worked-checks : Table
 unfolding answer
@@ -64,4 +83,10 @@ worked-checks = record {
   below-weight = refl;
   overlap-first = refl;
   inside-first = refl;
+  greatest-load = refl;
+  load-above = refl;
+  load-below = refl;
+  left-pin = refl;
+  two-loads = refl;
+  not-whole = refl;
 }

@@ -14,13 +14,15 @@ use Rattle.plane.specs.Place.{samePlace}
 use Rattle.plane.specs.Cost.{Positive}
 use Rattle.plane.specs.Macro.{inside, interiorsMeet}
 use Rattle.net.specs.Bounds.{pinBound, macroBound, weightBound, pinWidth, macroWidth}
+use Rattle.net.specs.Pins.{pinLoads}
 use Rattle.net.specs.Net.{Net}
-use Rattle.net.specs.Check.{outOfRange}
+use Rattle.net.specs.Check.{outOfRange, noLoad}
 
--- the lists hold whole entries only
+-- the lists hold whole entries only, and the loads, of which the net itself knows nothing, are in range [11]
 pub record Whole (pins macros : List ℤ) : Type 0 where
-  pub pairs : length pins % pinWidth ≡ 0
+  pub threes : length pins % pinWidth ≡ 0
   pub fours : length macros % macroWidth ≡ 0
+  pub loads : (z : ℤ) → List·Memᴰ z (pinLoads pins) → noLoad z ≡ false
 
 pub record PlaceInRange (p : Place) : Type 0 where
   pub x : outOfRange (p .x) ≡ false

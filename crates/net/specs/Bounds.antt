@@ -23,13 +23,17 @@ today = record { pins = pinBound; macros = macroBound }
 abbrev pub coordinateBound : ℕ
 coordinateBound = 1000000
 
+-- N28: a pin's load is from 0 to this [11]
+abbrev pub loadBound : ℕ
+loadBound = 1000000
+
 -- a unit of metal costs from 1 to this, along either axis
 abbrev pub weightBound : ℕ
 weightBound = 8
 
 -- N2, N3: numbers of a pin and of a macro in the flat lists
 abbrev pub pinWidth : ℕ
-pinWidth = 2
+pinWidth = 3
 
 abbrev pub macroWidth : ℕ
 macroWidth = 4

@@ -13,8 +13,8 @@ use Rattle.plane.specs.Place.{samePlace}
 use Rattle.plane.specs.Macro.{inside, interiorsMeet}
 use Rattle.plane.specs.Flat.{macrosOf}
 use Rattle.lent.specs.Told.{Told, refused, given}
-use Rattle.net.specs.Bounds.{Bounds, today, coordinateBound, weightBound, pinWidth, macroWidth}
-use Rattle.net.specs.Pins.{pinCount, pinPlaces, macroCount}
+use Rattle.net.specs.Bounds.{Bounds, today, coordinateBound, loadBound, weightBound, pinWidth, macroWidth}
+use Rattle.net.specs.Pins.{pinCount, pinPlaces, pinLoads, macroCount}
 use Rattle.net.specs.Answer.{number}
 use Rattle.net.specs.Net.{weightsOf}
 use Rattle.net.specs.declared.Weighing.{Weighing}
@@ -32,7 +32,7 @@ countsOf w pins macros = counted w (pinCount pins) (macroCount macros)
 abbrev pub pointCount : Counts → ℕ
 pointCount net = net .pins + net .macros * 4
 
--- C11: not whole pairs, no pin, or more than the bound, which is 128
+-- C11: not whole threes [11], no pin, or more than the bound, which is 128
 unfoldable pub pinsMiscountedWithin : Bounds → List ℤ → Bool
 pinsMiscountedWithin b pins = not (eqb (length pins % pinWidth) 0) || (eqb (pinCount pins) 0 || ltb (b .pins) (pinCount pins))
 
@@ -49,6 +49,17 @@ macrosMiscounted = macrosMiscountedWithin today
 -- C13: farther from 0 than coordinates go
 unfoldable pub outOfRange : ℤ → Bool
 outOfRange z = ltZ z (negℤ (pos coordinateBound)) || ltZ (pos coordinateBound) z
+
+abbrev pub placeOut : Place → Bool
+placeOut p = outOfRange (p .x) || outOfRange (p .y)
+
+-- C13, for one load: below 0 or above the greatest [11]
+unfoldable pub noLoad : ℤ → Bool
+noLoad z = ltZ z (pos 0) || ltZ (pos loadBound) z
+
+-- C13, for the pins: a place or a load
+unfoldable pub pinsOutOfRange : List ℤ → Bool
+pinsOutOfRange pins = any placeOut (pinPlaces pins) || any noLoad (pinLoads pins)
 
 -- C14: a macro without width or without height
 unfoldable pub notUpright : Macro → Bool
@@ -71,7 +82,7 @@ unfoldable pub checkedWithin : Bounds → Weighing → List ℤ → List ℤ →
 checkedWithin b w pins macros =
     cond (pinsMiscountedWithin b pins) (refused 11)
     (cond (macrosMiscountedWithin b macros) (refused 12)
-    (cond (any outOfRange pins || any outOfRange macros) (refused 13)
+    (cond (pinsOutOfRange pins || any outOfRange macros) (refused 13)
     (cond (any notUpright (macrosOf macros)) (refused 14)
     -- C15: a place with two pins
     (cond (anyTwo samePlace (pinPlaces pins)) (refused 15)

@@ -6,10 +6,13 @@
 --
 --   Bounds     pinBound, macroBound, coordinateBound     128, 128 and 1,000,000
 --              Bounds, today                             the first two as one value: those of any machine, and of this one
---              weightBound, pinWidth, macroWidth         8; a pin has 2 numbers and a macro 4: with those above the only literals
+--              loadBound, weightBound                    1,000,000 and 8
+--              pinWidth, macroWidth                      a pin has 3 numbers and a macro 4: with those above the only literals
 --              pointBound, edgeBound, treeBound          what follows from them: 640, 2,560 and 768
 --              costBound                                 and 32,000,000
---   Pins       pinCount, pinPlaces, pinAt, flatPins      a flat list's pins: how many, where, the i-th; and a flat list of places
+--   Pins       pinCount, pinPlaces, pinAt                a flat list's pins: how many, where, the i-th
+--              pinLoads, loadAt, pinEntries              their loads, and places and loads together
+--              bare, flatPins                            a pin without a load, and such pins as a flat list
 --              macroCount                                how many macros a flat list holds
 --   Net        Net, netOf w pins macros                  the record, and the net of two weights and two flat lists
 --              weighing a b, plainly                     two weights as handed over, and those of 1
@@ -24,6 +27,7 @@
 --              told r                                    what the code's answer says
 --   Allowed    Allowed net                               an allowed net in words, for the theory above
 --   Order      SamePins, SameMacros                      the same entries in another order
+--              SamePlaces                                pins at the same places, in another order and with other loads
 --   WorkedNets onePin .. fourPins                        the worked nets E1 to E11 and E19
 pub mod Bounds
 pub mod Pins

@@ -2,9 +2,12 @@
 use mathlib.Core.List.{List, [], _∷_, _++_}
 use lib.IntN.{ℤ, pos, negsuc}
 
--- a pin and a macro as flat lists of their numbers
+-- a pin with a load, one without, and a macro, as flat lists of their numbers
+abbrev pub loadedPin : ℤ → ℤ → ℤ → List ℤ
+loadedPin x y load = x ∷ (y ∷ (load ∷ []))
+
 abbrev pub pin : ℤ → ℤ → List ℤ
-pin x y = x ∷ (y ∷ [])
+pin x y = loadedPin x y (pos 0)
 
 abbrev pub block : ℤ → ℤ → ℤ → ℤ → List ℤ
 block l b r t = l ∷ (b ∷ (r ∷ (t ∷ [])))

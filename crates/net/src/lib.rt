@@ -4,22 +4,26 @@ use plane::Place;
 use plane::Weights;
 ghost use mathlib.Core.Bool.{false};
 ghost use mathlib.Core.Path.{_≡_};
-ghost use Prim.Native.Nat.{_≤_, _<_};
+ghost use Prim.Native.Nat.{_+_, _*_, _≤_, _<_};
 ghost use lib.IntN.{pos};
-ghost use lib.ListN.{drop};
+ghost use lib.ListN.{length, drop};
+ghost use lib.Seq.{sets};
 ghost use Rattle.lists.specs.Any.{any, anyTwo};
 ghost use Rattle.signed.specs.Sides.{up};
 ghost use Rattle.plane.specs.Place.{samePlace};
 ghost use Rattle.plane.specs.Macro.{interiorsMeet};
 ghost use Rattle.plane.specs.Flat.{macrosOf};
-ghost use Rattle.net.specs.Bounds.{pinBound, macroBound};
-ghost use Rattle.net.specs.Pins.{pinCount, pinPlaces, pinAt, macroCount};
+ghost use Rattle.net.specs.Bounds.{pinBound, macroBound, pinWidth};
+ghost use Rattle.net.specs.Pins.{pinCount, pinPlaces, pinAt, pinLoads, loadAt, pinNumbers, bare, macroCount};
 ghost use Rattle.net.specs.Net.{weightsOf, handed};
 ghost use Rattle.net.specs.Answer.{number};
 ghost use Rattle.net.specs.Check.{
   pinsMiscounted,
   macrosMiscounted,
   outOfRange,
+  placeOut,
+  noLoad,
+  pinsOutOfRange,
   notUpright,
   insideAny,
   noWeight,
@@ -36,10 +40,10 @@ pub struct Net {
     pub weights: Weights,
 }
 
-// The bounds of pins, macros, coordinates and weights, and how many numbers a pin and a macro have, are literals; the others follow.
+// The bounds of pins, macros, coordinates, loads and weights, and how many numbers a pin and a macro have, are literals; the others follow.
 impl Net {
-    // Numbers of a pin in the list of pins: its x and y. Above this crate it has only this name.
-    pub const PIN_NUMBERS: usize = 2;
+    // Numbers of a pin in the list of pins: its x, its y and its load. Above this crate it has only this name.
+    pub const PIN_NUMBERS: usize = 3;
 
     // Numbers of a macro in the list of macros: left, bottom, right, top.
     pub const MACRO_NUMBERS: usize = 4;
@@ -50,6 +54,9 @@ impl Net {
 
     // A coordinate lies between this and its negative.
     pub const COORDINATE: i32 = 1000000;
+
+    // A pin's load is from 0 to this, in units of capacitance.
+    pub const LOAD: i32 = 1000000;
 
     // A unit of metal costs from 1 to this, along either axis.
     pub const WEIGHT: i32 = 8;
@@ -151,6 +158,27 @@ pub fn pin_at(pins: &[i32], i: usize) -> Place
     }
 }
 
+// The load of the pin numbered i.
+pub fn load_at(pins: &[i32], i: usize) -> i32
+    requires { ⌜ i < pinCount (now pins) ⌝ }
+    ensures { λ r. ⌜ r ≡ loadAt (now (pins .entry)) i ⌝ }
+{
+    pins[i * Net::PIN_NUMBERS + 2]
+}
+
+// p as the i-th pin of a list, without a load.
+pub fn put_bare_pin(pins: &mut [i32], i: usize, p: Place)
+    requires { ⌜ i * pinWidth + pinWidth ≤ length (now pins) ⌝ }
+    ensures { λ _. ⌜ now (pins .exit) ≡ sets (now (pins .entry)) (i * pinWidth) (pinNumbers (bare p)) ⌝ }
+{
+    let k = i * Net::PIN_NUMBERS;
+    let x = p.x;
+    let y = p.y;
+    pins[k] = x;
+    pins[k + 1] = y;
+    pins[k + 2] = 0;
+}
+
 // How many macros a list holds.
 pub fn macro_count(macros: &[i32]) -> usize
     ensures { λ r. ⌜ r ≡ macroCount (now (macros .entry)) ⌝ }
@@ -199,6 +227,53 @@ pub fn any_out_of_range(numbers: &[i32]) -> bool
         i += 1;
     }
     false
+}
+
+fn is_place_out(p: Place) -> bool
+    ensures { λ r. ⌜ r ≡ placeOut p ⌝ }
+{
+    is_out_of_range(p.x) | is_out_of_range(p.y)
+}
+
+fn any_place_out(pins: &[i32]) -> bool
+    ensures { λ r. ⌜ r ≡ any placeOut (pinPlaces (now (pins .entry))) ⌝ }
+{
+    let m = pin_count(pins);
+    let mut i = 0;
+    while i < m {
+        if is_place_out(pin_at(pins, i)) {
+            return true;
+        }
+        i += 1;
+    }
+    false
+}
+
+fn is_no_load(z: i32) -> bool
+    ensures { λ r. ⌜ r ≡ noLoad z ⌝ }
+{
+    (z < 0) | (Net::LOAD < z)
+}
+
+fn any_no_load(pins: &[i32]) -> bool
+    ensures { λ r. ⌜ r ≡ any noLoad (pinLoads (now (pins .entry))) ⌝ }
+{
+    let m = pin_count(pins);
+    let mut i = 0;
+    while i < m {
+        if is_no_load(load_at(pins, i)) {
+            return true;
+        }
+        i += 1;
+    }
+    false
+}
+
+// Whether a pin's place or its load is out of range.
+fn are_pins_out(pins: &[i32]) -> bool
+    ensures { λ r. ⌜ r ≡ pinsOutOfRange (now (pins .entry)) ⌝ }
+{
+    any_place_out(pins) | any_no_load(pins)
 }
 
 fn is_not_upright(m: Macro) -> bool
@@ -338,7 +413,7 @@ pub fn check(w: Weighing, pins: &[i32], macros: &[i32]) -> Checked
     if macros_miscounted(macros) {
         return Checked::Refused(Refusal::MacroList);
     }
-    if any_out_of_range(pins) {
+    if are_pins_out(pins) {
         return Checked::Refused(Refusal::Range);
     }
     if any_out_of_range(macros) {

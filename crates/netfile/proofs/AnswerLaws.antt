@@ -22,25 +22,21 @@ use Rattle.net.proofs.PassedLaws.{passed-all, pins-counted, macros-counted}
 use Rattle.netfile.specs.Sizes.{blockBytes, firstWeightWord, secondWeightWord, pinListBound, macroListBound, blocksFor}
 use Rattle.netfile.specs.Sizes.{fileBlocksWithin}
 use Rattle.netfile.specs.Layout.{fileBytes}
-use Rattle.netfile.specs.Read.{blocksMiscountedWithin, sumsWrong, headWord, pinLength, macroLength, numbersIn, pinsIn, macrosIn}
-use Rattle.netfile.specs.Read.{sameNumbers, weightsIn, countsWrong, weightsMiswritten, headWrong, Sized, laidOutWithin}
+use Rattle.netfile.specs.Read.{blocksMiscountedWithin, sumsWrong, headWord, pinLength, macroLength, numbersIn, storedIn, pinsIn}
+use Rattle.netfile.specs.Read.{macrosIn, sameNumbers, weightsIn, countsWrong, weightsMiswritten, headWrong, Sized, laidOutWithin}
 use Rattle.netfile.specs.Read.{answerWithin, answerIn, roomShort, roomShortWithin, readFileWithin}
 use Rattle.netfile.proofs.ReadLaws.{length-numbers}
 
 -- The lists of a file
 
-pub pins-taken : (bytes : List ℕ) (n : ℕ) → n ≡ pinLength bytes → numbersIn bytes 1 0 n ≡ pinsIn bytes
-unfolding pinsIn
-pins-taken bytes n e = ap (numbersIn bytes 1 0) e
+pub stored-taken : (bytes : List ℕ) (n : ℕ) → n ≡ pinLength bytes → numbersIn bytes 1 0 n ≡ storedIn bytes
+unfolding storedIn
+stored-taken bytes n e = ap (numbersIn bytes 1 0) e
 
 pub macros-taken : (bytes : List ℕ) (n k b : ℕ) → n ≡ pinLength bytes → k ≡ macroLength bytes → b ≡ blocksFor n
     → numbersIn bytes (1 + b) 0 k ≡ macrosIn bytes
 unfolding macrosIn
 macros-taken bytes n k b e f g = ap₂ (λ (i j : ℕ). numbersIn bytes (1 + i) 0 j) (g ∙ ap blocksFor e) f
-
-pub length-pins-in : (bytes : List ℕ) → length (pinsIn bytes) ≡ pinLength bytes
-unfolding pinsIn
-length-pins-in bytes = length-numbers bytes 1 0 (pinLength bytes)
 
 pub length-macros-in : (bytes : List ℕ) → length (macrosIn bytes) ≡ macroLength bytes
 unfolding macrosIn
@@ -123,14 +119,14 @@ module _ (b : Bounds) (bytes : List ℕ) (w : Weights) (pins macros : List ℤ) 
 
 -- the lists of an accepted file fit where the largest net does
 pub lists-fit : (bytes : List ℕ) (p q : ℕ) (net : Counts) → answerIn bytes ≡ given net
-    → roomShort p q ≡ false → (pinLength bytes ≤ p) × (macroLength bytes ≤ q)
+    → roomShort p q ≡ false → (length (pinsIn bytes) ≤ p) × (macroLength bytes ≤ q)
 lists-fit bytes p q net e f =
     let a = passed-all _ (pinsIn bytes) (macrosIn bytes) net
     (laid-allowed today bytes (weightsIn bytes) (pinsIn bytes) (macrosIn bytes) net e) .past .past .past .past .past .past .past in
     let m = pins-counted (pinsIn bytes) (a .past .passed) in
     let k = macros-counted (macrosIn bytes) (a .passed) in
     let r = room-enough p q f in (
-      omega (arith, pin-numbers (pinsIn bytes) (m .whole), m .few, length-pins-in bytes, r .0),
+      omega (arith, pin-numbers (pinsIn bytes) (m .whole), m .few, r .0),
       omega (arith, k .few, length-macros-in bytes, r .1),
     )
 

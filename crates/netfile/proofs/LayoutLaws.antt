@@ -2,7 +2,7 @@
 -- Assumes nothing.
 use mathlib.Core.Path.{_≡_, refl, sym, ap, ap₂, _∙_}
 use mathlib.Core.List.{List, [], _∷_, _++_, map, append-nil, append-assoc}
-use Prim.Native.Nat.{ℕ, zero, suc, _+_, _*_, _≤_}
+use Prim.Native.Nat.{ℕ, zero, suc, _+_, _*_, _/_, _≤_}
 use native.Mathlib.Nat.{add-zero, zero-add, suc-add}
 use native.Mathlib.Omega.{arith}
 use lib.IntN.{ℤ}
@@ -11,13 +11,13 @@ use lib.Seq.{drop-drop, sets, sets-eq}
 use Rattle.lent.specs.Over.{over}
 use Rattle.lent.proofs.OverLaws.{length-over}
 use Rattle.plane.specs.declared.Weights.{Weights}
-use Rattle.net.specs.Bounds.{pinWidth, macroWidth}
-use Rattle.net.specs.Pins.{pinCount, macroCount}
-use Rattle.netfile.specs.Sizes.{blockWords, blockBytes, summedWords, perBlock, headKind, pinKind, macroKind}
+use Rattle.net.specs.Bounds.{macroWidth}
+use Rattle.net.specs.Pins.{macroCount}
+use Rattle.netfile.specs.Sizes.{blockWords, blockBytes, summedWords, perBlock, headKind, macroKind}
 use Rattle.netfile.specs.Sizes.{blocksFor, blockCount}
 use Rattle.netfile.specs.Words.{wordOf, bytesOf}
 use Rattle.netfile.specs.Sums.{sealed}
-use Rattle.netfile.specs.Layout.{block, headBlock, listBlock, listBlocks, pinBlocks, macroBlocks, fileWords, fileBytes}
+use Rattle.netfile.specs.Layout.{block, headBlock, listBlock, listBlocks, Stored, pinBlocks, macroBlocks, fileWords, laidBytes}
 use Rattle.netfile.proofs.BlockLaws.{sets-after, length-bytes, bytes-append}
 
 -- Lengths
@@ -53,19 +53,20 @@ length-list-blocks kind w number (suc n) numbers =
     ∙ ap₂ (λ (a b : ℕ). a + b) (length-next-block kind w number numbers) (length-list-blocks kind w (suc number) n (drop perBlock numbers))
     ∙ omega arith
 
-pub length-words : (w : Weights) (pins macros : List ℤ)
-    → length (fileWords w pins macros) ≡ blockCount (length pins) (length macros) * blockWords
-unfolding fileWords
-length-words w pins macros =
-    let e = length-list-blocks pinKind pinWidth 1 (blocksFor (length pins)) pins in
-    let f = length-list-blocks macroKind macroWidth (1 + blocksFor (length pins)) (blocksFor (length macros)) macros in
-    length-append (headBlock _ _ _) _
-    ∙ omega (arith, length-head (pinCount pins) (macroCount macros) w, length-append (pinBlocks pins) (macroBlocks pins macros), e, f)
+module _ (w : Weights) (s : Stored) (macros : List ℤ) where
+  pub length-words : length (fileWords w s macros) ≡ blockCount (length (s .numbers)) (length macros) * blockWords
+  unfolding fileWords
+  length-words =
+      let n = blocksFor (length (s .numbers)) in
+      let e = length-list-blocks (s .kind) (s .width) 1 n (s .numbers) in
+      let f = length-list-blocks macroKind macroWidth (1 + n) (blocksFor (length macros)) macros in
+      length-append (headBlock _ _ _) _
+      ∙ omega
+      (arith, length-head (length (s .numbers) / s .width) (macroCount macros) w, length-append (pinBlocks s) (macroBlocks s macros), e, f)
 
-pub length-file : (w : Weights) (pins macros : List ℤ)
-    → length (fileBytes w pins macros) ≡ blockCount (length pins) (length macros) * blockBytes
-unfolding fileBytes
-length-file w pins macros = length-bytes (fileWords w pins macros) ∙ omega (arith, length-words w pins macros)
+  pub length-file : length (laidBytes w s macros) ≡ blockCount (length (s .numbers)) (length macros) * blockBytes
+  unfolding laidBytes
+  length-file = length-bytes (fileWords w s macros) ∙ omega (arith, length-words)
 
 -- One block more
 
@@ -114,21 +115,23 @@ unfolding over
 sets-over xs l h = sets-eq xs l 0 (omega arith) ∙ ap (λ (n : ℕ). xs ++ drop n l) (let e : 0 + length xs ≡ length xs = omega arith in e)
 
 -- head, pins and macros, one behind the other, are the file
-pub file-laid : (l : List ℕ) (w : Weights) (pins macros : List ℤ) → blockCount (length pins) (length macros) * blockBytes ≤ length l
-    → sets (sets (sets l 0 (bytesOf (headBlock (pinCount pins) (macroCount macros) w))) blockBytes (bytesOf (pinBlocks pins)))
-    ((1 + blocksFor (length pins)) * blockBytes) (bytesOf (macroBlocks pins macros))
-    ≡ over (fileBytes w pins macros) l
-unfolding fileWords fileBytes
-file-laid l w pins macros h =
-    let b = headBlock (pinCount pins) (macroCount macros) w in
-    let p = pinBlocks pins in
-    let q = macroBlocks pins macros in
-    let k = (1 + blocksFor (length pins)) * blockBytes in
-    let e : length b ≡ blockWords = length-head (pinCount pins) (macroCount macros) w in
-    let g = length-list-blocks pinKind pinWidth 1 (blocksFor (length pins)) pins in
+pub file-laid : (l : List ℕ) (w : Weights) (s : Stored) (macros : List ℤ)
+    → blockCount (length (s .numbers)) (length macros) * blockBytes ≤ length l
+    → sets (sets (sets l 0 (bytesOf (headBlock (length (s .numbers) / s .width) (macroCount macros) w))) blockBytes (bytesOf (pinBlocks s)))
+    ((1 + blocksFor (length (s .numbers))) * blockBytes) (bytesOf (macroBlocks s macros))
+    ≡ over (laidBytes w s macros) l
+unfolding fileWords laidBytes
+file-laid l w s macros h =
+    let m = length (s .numbers) / s .width in
+    let b = headBlock m (macroCount macros) w in
+    let p = pinBlocks s in
+    let q = macroBlocks s macros in
+    let k = (1 + blocksFor (length (s .numbers))) * blockBytes in
+    let e : length b ≡ blockWords = length-head m (macroCount macros) w in
+    let g = length-list-blocks (s .kind) (s .width) 1 (blocksFor (length (s .numbers))) (s .numbers) in
     let f : length (b ++ p) * 4 ≡ k = omega (arith, length-append b p, g) in
-    ap (λ (s : List ℕ). sets s k (bytesOf q)) (words-after l b p 0 blockBytes (omega arith))
+    ap (λ (t : List ℕ). sets t k (bytesOf q)) (words-after l b p 0 blockBytes (omega arith))
     ∙ ap (λ (i : ℕ). sets (sets l 0 (bytesOf (b ++ p))) i (bytesOf q)) (sym (zero-add k))
     ∙ words-after l (b ++ p) q 0 k f
     ∙ ap (λ (ws : List ℕ). sets l 0 (bytesOf ws)) (append-assoc b p q)
-    ∙ sets-over (bytesOf (b ++ (p ++ q))) l (omega (arith, length-file w pins macros))
+    ∙ sets-over (bytesOf (b ++ (p ++ q))) l (omega (arith, length-file w s macros))

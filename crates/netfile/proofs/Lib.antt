@@ -5,6 +5,8 @@ pub mod BlockLaws
 pub mod LayoutLaws
 pub mod WriteLaws
 pub mod ReadLaws
+pub mod StoredLaws
+pub mod FillLaws
 pub mod AnswerLaws
 pub mod WeightLaws
 pub mod CutLaws

@@ -22,11 +22,12 @@ use Rattle.net.proofs.CheckLaws.{Past11}
 use Rattle.net.proofs.PassedLaws.{passed-all}
 use Rattle.net.proofs.AllowedLaws.{given-counts}
 use Rattle.netfile.specs.Sizes.{pinListBound, macroListBound, blockBytes, blocksFor, blockCount, fileBlocksWithin}
-use Rattle.netfile.specs.Layout.{fileBytes}
+use Rattle.netfile.specs.Layout.{stored, fileBytes}
 use Rattle.netfile.specs.Write.{fitted, writtenWithin}
 use Rattle.netfile.specs.Read.{weightsIn, pinsIn, macrosIn, roomShortWithin, roomShort}
 use Rattle.netfile.specs.Older.{older, olderBytes, Old, leftBy, Reads, OlderOf, OldAndNew}
 use Rattle.netfile.proofs.LayoutLaws.{length-file}
+use Rattle.netfile.proofs.StoredLaws.{stored-few}
 use Rattle.netfile.proofs.WriteLaws.{pins-ok, macros-ok}
 use Rattle.netfile.proofs.AnswerLaws.{blocks-pass, laid-out, refuse-21, refuse-1, read-on, Passed, accepted-passed}
 use Rattle.netfile.proofs.CutLaws.{too-long}
@@ -125,8 +126,8 @@ module _ (w : Weighing) (pins macros : List ℤ) (net : Counts) (allowed : check
       accepted-passed file pinListBound macroListBound net
       (read-written w pins macros net allowed .answer pinListBound macroListBound room-today ∙ allowed)
 
-  size : length file ≡ blockCount (length pins) (length macros) * blockBytes
-  size = length-file (weightsOf w) pins macros
+  size : length file ≡ blockCount (length (stored pins .numbers)) (length macros) * blockBytes
+  size = length-file (weightsOf w) (stored pins) macros
 
   pins-given : net .pins ≡ pinCount pins
   pins-given = ap (λ (n : Counts). n .pins) (given-counts w pins macros allowed)
@@ -139,7 +140,7 @@ module _ (w : Weighing) (pins macros : List ℤ) (net : Counts) (allowed : check
   few-blocks o =
       let n = pin-numbers pins (pins-ok w pins macros net allowed .whole) in
       let k = macros-ok w pins macros net allowed .whole in
-      omega (arith, size, n, k, o .few-pins, o .few-macros)
+      omega (arith, size, stored-few pins, n, k, o .few-pins, o .few-macros)
 
   older-of : OlderOf w pins macros net
   older-of = record {
@@ -153,11 +154,11 @@ module _ (w : Weighing) (pins macros : List ℤ) (net : Counts) (allowed : check
 
 -- Theorem
 
-room-older : roomShortWithin older 128 256 ≡ false
+room-older : roomShortWithin older 192 256 ≡ false
 unfolding roomShortWithin
 room-older = refl
 
-room-short : roomShort 128 256 ≡ true
+room-short : roomShort 192 256 ≡ true
 unfolding roomShortWithin
 room-short = refl
 
@@ -169,7 +170,7 @@ old-and-new = record {
   allowed-old = was-old;
   reads-before = λ bytes p q net e. before bytes net (accepted-passed bytes p q net e);
   old-room = room-older;
-  more-room = λ bytes. refuse-21 today bytes 128 256 room-short;
+  more-room = λ bytes. refuse-21 today bytes 192 256 room-short;
   longer = long;
   more-pins = λ bytes p q net e f h. eleven bytes net (accepted-passed bytes p q net e) f h;
   more-macros = λ bytes p q net e f h g. twelve bytes net (accepted-passed bytes p q net e) f h g;

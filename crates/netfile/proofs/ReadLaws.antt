@@ -13,7 +13,7 @@ use lib.IntN.{ℤ}
 use lib.ListN.{length, take, drop, getD, set, replicate, drop-of-length-le, length-take, length-drop}
 use lib.Seq.{getD-drop, drop-drop, drop-cons}
 use Rattle.lists.proofs.EntryLaws.{fours-next, length-fours}
-use Rattle.lists.proofs.TestLaws.{and-left, and-right, differ}
+use Rattle.lists.proofs.TestLaws.{by, and-left, and-right, differ}
 use Rattle.lent.specs.Over.{over}
 use Rattle.lent.proofs.OverLaws.{length-over, over-more, take-over}
 use Rattle.netfile.specs.Sizes.{blockWords, blockBytes, blockCount, fileBlocks}
@@ -36,6 +36,13 @@ word-is s i h =
 pub length-words-of : (s : List ℕ) → length (wordsOf s) ≡ length s / 4
 unfolding wordsOf
 length-words-of = length-fours word
+
+-- no word past the end
+pub word-none : (s : List ℕ) (i : ℕ) → length s < i * 4 + 4 → getD (wordsOf s) i 0 ≡ 0
+word-none s i h =
+    let n : length (wordsOf s) ≤ i = omega (arith, length-words-of s) in
+    sym (getD-drop i (wordsOf s) 0 0 ∙ ap (λ (k : ℕ). getD (wordsOf s) k 0) (add-zero i))
+    ∙ ap (λ (l : List ℕ). getD l 0 0) (drop-of-length-le (wordsOf s) n)
 
 -- Blocks
 
@@ -121,6 +128,10 @@ pub same-refl : (xs : List ℕ) → sameNumbers xs xs ≡ true
 unfolding sameNumbers
 same-refl [] = refl
 same-refl (x ∷ xs) = rw (eq-eqb x x refl) (same-refl xs)
+
+-- lists of two lengths are not the same
+pub same-not : (xs ys : List ℕ) → (length xs ≡ length ys → ⊥) → sameNumbers xs ys ≡ false
+same-not xs ys d = by (sameNumbers xs ys) (λ e. absurd (d (ap length (same-true xs ys e)))) (λ e. e)
 
 -- two lists of one length, from the place i on
 module _ (xs ys : List ℕ) (i : ℕ) (same-length : length xs ≡ length ys) where

@@ -25,6 +25,11 @@ pub no-more : (n : ℕ) → blocksFor n * perBlock < n + perBlock
 unfolding blocksFor
 no-more n = omega arith
 
+-- fewer numbers take no more blocks
+pub fewer : (n m : ℕ) → n ≤ m → blocksFor n ≤ blocksFor m
+unfolding blocksFor
+fewer n m h = omega arith
+
 -- F16: the longest lists of a net fit into the longest file
 pub lists-in-file : (n k : ℕ) → n ≤ pinListBound → k ≤ macroListBound → blockCount n k ≤ fileBlocks
 unfolding blocksFor

@@ -20,7 +20,7 @@ use Rattle.net.proofs.HandedLaws.{weighted-passes, one-number, another, not-18}
 use Rattle.netfile.specs.Sizes.{firstWeightWord, secondWeightWord}
 use Rattle.netfile.specs.Words.{wordsOf, bytesOfWord, bytesOf, weightWord, weightIn}
 use Rattle.netfile.specs.Sums.{sealed}
-use Rattle.netfile.specs.Layout.{block, headBlock, fileWords, fileBytes}
+use Rattle.netfile.specs.Layout.{block, headBlock, Stored, fileWords, laidBytes, fileBytes}
 use Rattle.netfile.specs.Read.{blocksMiscounted, sumsWrong, headWord, weightsIn, pinsIn, macrosIn, sameNumbers, weightsMiswritten}
 use Rattle.netfile.specs.Read.{headWrong, answerIn, roomShort, readFile, readFileWithin}
 use Rattle.netfile.proofs.ReadLaws.{same-true}
@@ -54,25 +54,25 @@ abbrev pub twoWeights : ℕ → ℕ → Weights
 twoWeights a b = record { across = a; along = b }
 
 -- where the two words stand in the file that the layout makes
-module _ (w : Weights) (pins macros : List ℤ) (within : Weighted w) where
-  first-word : headWord firstWeightWord (fileBytes w pins macros) ≡ weightWord (w .across)
-  unfolding headWord wordsOf fileBytes bytesOf bytesOfWord fileWords headBlock block sealed over
+module _ (w : Weights) (s : Stored) (macros : List ℤ) (within : Weighted w) where
+  first-word : headWord firstWeightWord (laidBytes w s macros) ≡ weightWord (w .across)
+  unfolding headWord wordsOf laidBytes bytesOf bytesOfWord fileWords headBlock block sealed over
   first-word = let h = word-within (w .across) (within .across) in omega arith
 
-  second-word : headWord secondWeightWord (fileBytes w pins macros) ≡ weightWord (w .along)
-  unfolding headWord wordsOf fileBytes bytesOf bytesOfWord fileWords headBlock block sealed over
+  second-word : headWord secondWeightWord (laidBytes w s macros) ≡ weightWord (w .along)
+  unfolding headWord wordsOf laidBytes bytesOf bytesOfWord fileWords headBlock block sealed over
   second-word = let h = word-within (w .along) (within .along) in omega arith
 
-  pub weights-read : weightsIn (fileBytes w pins macros) ≡ w
+  pub weights-read : weightsIn (laidBytes w s macros) ≡ w
   weights-read =
       ap₂ twoWeights (ap weightIn first-word ∙ weight-back (w .across) (within .positive .across))
       (ap weightIn second-word ∙ weight-back (w .along) (within .positive .along))
 
-  pub weights-written : weightsMiswritten (fileBytes w pins macros) ≡ false
+  pub weights-written : weightsMiswritten (laidBytes w s macros) ≡ false
   unfolding weightsMiswritten
   weights-written =
-      let a : headWord firstWeightWord (fileBytes w pins macros) ≤ weightBound = rw first-word (word-within (w .across) (within .across)) in
-      let b : headWord secondWeightWord (fileBytes w pins macros) ≤ weightBound = rw second-word (word-within (w .along) (within .along)) in
+      let a : headWord firstWeightWord (laidBytes w s macros) ≤ weightBound = rw first-word (word-within (w .across) (within .across)) in
+      let b : headWord secondWeightWord (laidBytes w s macros) ≤ weightBound = rw second-word (word-within (w .along) (within .along)) in
       or-neither _ _ (le-ltb weightBound _ a) (le-ltb weightBound _ b)
 
 -- the weights of a file whose head is right are from 1 to 8

@@ -8,37 +8,53 @@ use lib.IntN.{pos}
 use lib.ListN.{take, drop, set}
 use Rattle.lent.specs.Told.{Told, refused, given}
 use Rattle.lent.specs.Over.{over}
+use Rattle.lent.specs.Entries.{flat}
 use Rattle.plane.specs.declared.Weights.{Weights}
 use Rattle.plane.specs.Cost.{plain}
+use Rattle.plane.specs.Flat.{placesOf}
 use Rattle.net.specs.declared.Net.{Net as Counts}
 use Rattle.net.specs.Net.{weighing, plainly}
+use Rattle.net.specs.Pins.{flatPins}
 use Rattle.net.specs.Check.{counted}
-use Rattle.net.specs.WorkedNets.{Lists, aroundOne}
+use Rattle.net.specs.WorkedNets.{Lists, loadedPin, aroundOne}
 use Rattle.net.proofs.WorkedChecks.{answer}
-use Rattle.netfile.specs.Sizes.{blockWords, blockBytes, summedWords, pinsPerBlock, macrosPerBlock, pinListBound, macroListBound}
-use Rattle.netfile.specs.Sizes.{blocksFor, fileBlocks, fileBound}
+use Rattle.netfile.specs.Sizes.{blockWords, blockBytes, summedWords, pinsPerBlock, loadedPerBlock, macrosPerBlock, pinListBound}
+use Rattle.netfile.specs.Sizes.{macroListBound, placeWidth, blocksFor, fileBlocks, fileBound}
+use Rattle.net.specs.Bounds.{pinWidth}
 use Rattle.netfile.specs.Words.{wordsOf, bytesOfWord, bytesOf, wordOf, coordinate, weightWord, weightIn}
 use Rattle.netfile.specs.Sums.{total, runningSums, plainSum, sumOfSums, sealed, wrongSums}
-use Rattle.netfile.specs.Layout.{block, headBlock, listBlock, listBlocks, fileWords, fileBytes}
-use Rattle.netfile.specs.Read.{blocksMiscountedWithin, blocksOf, sumsWrong, headWord, numberIn, numbersIn, pinsIn, macrosIn}
-use Rattle.netfile.specs.Read.{sameNumbers}
-use Rattle.netfile.specs.Read.{countsWrong, weightsMiswritten, headWrong, laidOutWithin, roomShortWithin, readFile, readFileWithin}
+use Rattle.netfile.specs.Layout.{block, headBlock, listBlock, listBlocks, isLoad, loaded, stored, fileWords, laidBytes}
+use Rattle.netfile.specs.Read.{blocksMiscountedWithin, blocksOf, sumsWrong, headWord, loadedIn, pinLength, numberIn, numbersIn}
+use Rattle.netfile.specs.Read.{storedIn, pinsIn, macrosIn, sameNumbers, countsWrong, weightsMiswritten, headWrong}
+use Rattle.netfile.specs.Read.{laidOutWithin, roomShortWithin, readFile, readFileWithin}
 
 -- the numbers that the document gives, each worked out from the net's bounds and the format's own numbers
 pub record Limits : Type 0 where
   pub bytes-a-block : blockBytes ≡ 512
   pub pins-a-block : pinsPerBlock ≡ 60
+  pub loaded-a-block : loadedPerBlock ≡ 40
   pub macros-a-block : macrosPerBlock ≡ 30
-  pub longest-blocks : fileBlocks ≡ 9
-  pub longest-bytes : fileBound ≡ 4608
-  pub pins-lent : pinListBound ≡ 256
+  -- 60 pins without a load are one block and 61 two, with loads 40 and 41 [11]
+  pub sixty : blocksFor (60 * placeWidth) ≡ 1
+  pub sixty-one : blocksFor (61 * placeWidth) ≡ 2
+  pub forty : blocksFor (40 * pinWidth) ≡ 1
+  pub forty-one : blocksFor (41 * pinWidth) ≡ 2
+  pub longest-blocks : fileBlocks ≡ 10
+  pub longest-bytes : fileBound ≡ 5120
+  pub pins-lent : pinListBound ≡ 384
   pub macros-lent : macroListBound ≡ 512
 
 pub worked-limits : Limits
+unfolding blocksFor
 worked-limits = record {
   bytes-a-block = refl;
   pins-a-block = refl;
+  loaded-a-block = refl;
   macros-a-block = refl;
+  sixty = refl;
+  sixty-one = refl;
+  forty = refl;
+  forty-one = refl;
   longest-blocks = refl;
   longest-bytes = refl;
   pins-lent = refl;
@@ -47,13 +63,15 @@ worked-limits = record {
 
 -- the file of a net as words, and the answer of a read of words; to unfold these is to unfold all that they rest on
 unfoldable pub words : Weights → Lists → List ℕ
-unfolding over wordOf weightWord total runningSums plainSum sumOfSums sealed block headBlock listBlock blocksFor listBlocks fileWords
-words w net = fileWords w (net .pins) (net .macros)
+unfolding answer flat over wordOf weightWord total runningSums plainSum sumOfSums sealed block headBlock listBlock blocksFor listBlocks
+    isLoad loaded stored fileWords
+words w net = fileWords w (stored (net .pins)) (net .macros)
 
 unfoldable pub readWords : List ℕ → ℕ → ℕ → Told Counts
 unfolding answer over wordsOf bytesOfWord bytesOf wordOf coordinate weightWord weightIn total runningSums plainSum sumOfSums sealed
-    wrongSums block headBlock listBlock blocksFor listBlocks fileWords fileBytes blocksMiscountedWithin blocksOf sumsWrong headWord numberIn
-    numbersIn pinsIn macrosIn sameNumbers countsWrong weightsMiswritten headWrong laidOutWithin roomShortWithin readFileWithin
+    wrongSums block headBlock listBlock blocksFor listBlocks flat placesOf flatPins isLoad loaded stored fileWords laidBytes
+    blocksMiscountedWithin blocksOf sumsWrong headWord loadedIn pinLength numberIn numbersIn storedIn pinsIn macrosIn
+    sameNumbers countsWrong weightsMiswritten headWrong laidOutWithin roomShortWithin readFileWithin
 readWords ws p q = readFile (bytesOf ws) p q
 
 -- the answer of a read into room for the largest net
@@ -71,6 +89,16 @@ onePinIn kind number count = block kind number count (5 ∷ (5 ∷ []))
 -- the same pin in a file whose head has these two words for its weights
 abbrev onePinWith : ℕ → ℕ → List ℕ
 onePinWith first second = block 1 0 0 (1 ∷ (0 ∷ (first ∷ (second ∷ [])))) ++ onePinIn 2 1 1
+
+-- files of pins with loads [11]: one block of kind 4, or of each kind one
+abbrev loadedIn4 : ℕ → ℕ → ℕ → List ℕ
+loadedIn4 x y load = block 4 1 1 (x ∷ (y ∷ (load ∷ [])))
+
+abbrev oneLoaded : ℕ → List ℕ
+oneLoaded load = headBlock 1 0 plain ++ loadedIn4 5 5 load
+
+abbrev twoLoads : Lists
+twoLoads = record { pins = loadedPin (pos 0) (pos 0) (pos 7) ++ loadedPin (pos 10) (pos 0) (pos 0); macros = aroundOne .macros }
 
 abbrev oneAndThree : Weights
 oneAndThree = record { across = 1; along = 3 }
@@ -107,6 +135,20 @@ pub record Table : Type 0 where
   pub above : readAll (onePinWith 9 0) ≡ refused 3
   pub second-above : readAll (onePinWith 0 9) ≡ refused 3
   pub far-above : readAll (onePinWith 4294967295 0) ≡ refused 3
+  -- the net of E3 with a load of 7 on its first pin: its blocks of pins and macros, and a read of it [11]
+  pub loads : shown (words plain twoLoads) 1 ≡ 4 ∷ (1 ∷ (2 ∷ (0 ∷ (0 ∷ (0 ∷ (7 ∷ (10 ∷ (24 ∷ (2907 ∷ [])))))))))
+  pub macros-behind : shown (words plain twoLoads) 2 ≡ 3 ∷ (2 ∷ (1 ∷ (0 ∷ (4 ∷ (4294967294 ∷ (6 ∷ (3 ∷ (17 ∷ (2075 ∷ [])))))))))
+  pub loads-read : readAll (words plain twoLoads) ≡ given (counted plainly 2 1)
+  pub one-loaded : readAll (oneLoaded 1) ≡ given (counted plainly 1 0)
+  -- a kind 4 file whose loads are all 0 is 3, also where a coordinate is out of range; so are blocks of both kinds, and a block of kind 4
+  -- that the head counts no pin of
+  pub loads-zero : readAll (oneLoaded 0) ≡ refused 3
+  pub zero-first : readAll (headBlock 1 0 plain ++ loadedIn4 1000001 5 0) ≡ refused 3
+  pub both-kinds : readAll (headBlock 2 0 plain ++ (loadedIn4 5 5 1 ++ block 2 2 1 (6 ∷ (6 ∷ [])))) ≡ refused 3
+  pub no-pin-loaded : readAll (headBlock 0 0 plain ++ loadedIn4 5 5 1) ≡ refused 3
+  -- a load out of range is 13
+  pub load-above : readAll (oneLoaded 1000001) ≡ refused 13
+  pub load-below : readAll (oneLoaded 4294967295) ≡ refused 13
 
 pub worked-files : Table
 unfolding words readWords shown
@@ -138,4 +180,14 @@ worked-files = record {
   above = refl;
   second-above = refl;
   far-above = refl;
+  loads = refl;
+  macros-behind = refl;
+  loads-read = refl;
+  one-loaded = refl;
+  loads-zero = refl;
+  zero-first = refl;
+  both-kinds = refl;
+  no-pin-loaded = refl;
+  load-above = refl;
+  load-below = refl;
 }

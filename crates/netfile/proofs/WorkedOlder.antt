@@ -19,10 +19,10 @@ use Rattle.netfile.specs.Read.{readFileWithin}
 use Rattle.netfile.specs.Older.{older, leftBy}
 use Rattle.netfile.proofs.WorkedFiles.{words, readWords}
 
--- n pins on a diagonal, and n squares along it with their corners there
+-- n pins without a load on a diagonal, and n squares along it with their corners there
 unfoldable pub diagonal : ℕ → ℕ → List ℤ
 diagonal zero i = []
-diagonal (suc n) i = pos i ∷ (pos i ∷ diagonal n (suc i))
+diagonal (suc n) i = pos i ∷ (pos i ∷ (pos 0 ∷ diagonal n (suc i)))
 
 unfoldable pub squares : ℕ → ℕ → List ℤ
 squares zero i = []
@@ -45,17 +45,17 @@ pub record Table : Type 0 where
   pub old-file : left older aroundOne 1540 ≡ left today aroundOne 1540
   pub one-short : left today aroundOne 1535 ≡ replicate 1535 7
   -- its file read by both, and now with what was lent before
-  pub read-then : readBy older aroundOne 128 256 ≡ given (counted plainly 2 1)
-  pub read-before : readBy today aroundOne 256 512 ≡ given (counted plainly 2 1)
-  pub less-room : readBy today aroundOne 128 256 ≡ refused 21
+  pub read-then : readBy older aroundOne 192 256 ≡ given (counted plainly 2 1)
+  pub read-before : readBy today aroundOne 384 512 ≡ given (counted plainly 2 1)
+  pub less-room : readBy today aroundOne 192 256 ≡ refused 21
   -- 65 pins in three blocks
-  pub more-pins-now : readBy today (many 65 0) 256 512 ≡ given (counted plainly 65 0)
-  pub more-pins : readBy older (many 65 0) 128 256 ≡ refused 11
+  pub more-pins-now : readBy today (many 65 0) 384 512 ≡ given (counted plainly 65 0)
+  pub more-pins : readBy older (many 65 0) 192 256 ≡ refused 11
   -- one pin and 65 macros in five
-  pub more-macros-now : readBy today (many 1 65) 256 512 ≡ given (counted plainly 1 65)
-  pub more-macros : readBy older (many 1 65) 128 256 ≡ refused 12
+  pub more-macros-now : readBy today (many 1 65) 384 512 ≡ given (counted plainly 1 65)
+  pub more-macros : readBy older (many 1 65) 192 256 ≡ refused 12
   -- 121 pins and 65 macros in seven
-  pub longer : readBy older (many 121 65) 128 256 ≡ refused 1
+  pub longer : readBy older (many 121 65) 192 256 ≡ refused 1
 
 pub worked-older : Table
 unfolding readBy left

@@ -16,9 +16,10 @@ use Rattle.net.specs.Check.{checked}
 use Rattle.net.proofs.PinLaws.{pin-numbers}
 use Rattle.net.proofs.PassedLaws.{PinsCounted, MacrosCounted, passed-all, pins-counted, macros-counted}
 use Rattle.netfile.specs.Sizes.{blockCount, fileBlocks}
-use Rattle.netfile.specs.Layout.{fileBytes}
+use Rattle.netfile.specs.Layout.{stored, fileBytes}
 use Rattle.netfile.specs.Write.{fitted, written, writtenWithin}
 use Rattle.netfile.proofs.SizeLaws.{lists-in-file}
+use Rattle.netfile.proofs.StoredLaws.{stored-few}
 
 pub fitted-short : (needed room : ℕ) → room < needed → fitted needed room ≡ refused 21
 unfolding fitted
@@ -47,7 +48,8 @@ module _ (w : Weighing) (pins macros : List ℤ) (net : Counts) (allowed : check
   macros-ok = macros-counted macros (passed-all w pins macros net allowed .past .past .past .past .past .past .past .passed)
 
   -- F16: no allowed net takes more blocks than the longest file has
-  pub allowed-blocks : blockCount (length pins) (length macros) ≤ fileBlocks
+  pub allowed-blocks : blockCount (length (stored pins .numbers)) (length macros) ≤ fileBlocks
   allowed-blocks =
-      lists-in-file (length pins) (length macros) (omega (arith, pin-numbers pins (pins-ok .whole), pins-ok .few))
+      lists-in-file (length (stored pins .numbers)) (length macros)
+      (omega (arith, stored-few pins, pin-numbers pins (pins-ok .whole), pins-ok .few))
       (omega (arith, macros-ok .whole, macros-ok .few))

@@ -1,6 +1,6 @@
--- An older machine beside this one: rules F20 to F23. A machine is the check, the writer and the reader within its bounds; the one
--- before this release took 64 pins and 64 macros and differed in nothing else that is said of files. What each makes of the other's
--- files stands here, for every net and every file; ../proofs/OlderLaws.antt has the proof.
+-- An older machine beside this one: rules F20 to F23. A machine is the check, the writer and the reader within its bounds; the older one
+-- lacks [8] and nothing else that is said of files: it takes 64 pins and 64 macros. What each makes of the other's files stands here, for
+-- every net and every file; ../proofs/OlderLaws.antt has the proof. Files from before there were loads [11]: ../proofs/FirstRelease.antt.
 use mathlib.Core.Path.{_≡_}
 use mathlib.Core.Bool.{false}
 use mathlib.Core.List.{List}
@@ -16,7 +16,7 @@ use Rattle.net.specs.Pins.{pinCount, macroCount}
 use Rattle.net.specs.Net.{weightsOf}
 use Rattle.net.specs.Check.{checked, checkedWithin}
 use Rattle.netfile.specs.Sizes.{blockBytes, blockCount, fileBlocksWithin}
-use Rattle.netfile.specs.Layout.{fileBytes}
+use Rattle.netfile.specs.Layout.{stored, fileBytes}
 use Rattle.netfile.specs.Write.{writtenWithin}
 use Rattle.netfile.specs.Read.{roomShortWithin, readFileWithin, readFile}
 
@@ -43,11 +43,11 @@ pub record Reads (b : Bounds) (bytes : List ℕ) (answer : Told Counts) : Type 0
 
 -- what the older machine says to the file of a net that is allowed today
 pub record OlderOf (w : Weighing) (pins macros : List ℤ) (net : Counts) : Type 0 where
-  pub long : fileBlocksWithin older < blockCount (length pins) (length macros)
+  pub long : fileBlocksWithin older < blockCount (length (stored pins .numbers)) (length macros)
       → Reads older (fileBytes (weightsOf w) pins macros) (refused 1)
-  pub many-pins : blockCount (length pins) (length macros) ≤ fileBlocksWithin older → older .pins < pinCount pins
+  pub many-pins : blockCount (length (stored pins .numbers)) (length macros) ≤ fileBlocksWithin older → older .pins < pinCount pins
       → Reads older (fileBytes (weightsOf w) pins macros) (refused 11)
-  pub many-macros : blockCount (length pins) (length macros) ≤ fileBlocksWithin older → pinCount pins ≤ older .pins
+  pub many-macros : blockCount (length (stored pins .numbers)) (length macros) ≤ fileBlocksWithin older → pinCount pins ≤ older .pins
       → older .macros < macroCount macros → Reads older (fileBytes (weightsOf w) pins macros) (refused 12)
   pub old : Old pins macros → Reads older (fileBytes (weightsOf w) pins macros) (given net)
 
@@ -63,8 +63,8 @@ pub record OldAndNew : Type 0 where
   -- a file that was accepted reads as it did, given the space now asked for: its lists, `pinsIn` and `macrosIn`, have no bound in them; what was
   -- asked for before is too little for any file
   pub reads-before : (bytes : List ℕ) (p q : ℕ) (net : Counts) → readFileWithin older bytes p q ≡ given net → Reads today bytes (given net)
-  pub old-room : roomShortWithin older 128 256 ≡ false
-  pub more-room : (bytes : List ℕ) → readFile bytes 128 256 ≡ refused 21
+  pub old-room : roomShortWithin older 192 256 ≡ false
+  pub more-room : (bytes : List ℕ) → readFile bytes 192 256 ≡ refused 21
   -- every longer file is 1 to the older machine; of those accepted today in as many blocks, more pins are 11, and else more macros 12
   pub longer : (bytes : List ℕ) → olderBytes < length bytes → Reads older bytes (refused 1)
   pub more-pins : (bytes : List ℕ) (p q : ℕ) (net : Counts) → readFile bytes p q ≡ given net → length bytes ≤ olderBytes

@@ -1,4 +1,4 @@
--- Read a net file: rules C71 to C74.
+-- Read a net file: rules C71 to C74, and F26 [11].
 use mathlib.Core.Path.{_≡_}
 use mathlib.Core.Bool.{Bool, true, false, not, cond, _&&_, _||_}
 use mathlib.Core.List.{List, [], _∷_}
@@ -10,11 +10,13 @@ use Rattle.lent.specs.Told.{Told, refused}
 use Rattle.lists.specs.Any.{any}
 use Rattle.plane.specs.declared.Weights.{Weights}
 use Rattle.net.specs.declared.Net.{Net as Counts}
+use Rattle.plane.specs.Flat.{placesOf}
 use Rattle.net.specs.Bounds.{Bounds, today, weightBound, pinWidth, macroWidth}
+use Rattle.net.specs.Pins.{flatPins}
 use Rattle.net.specs.Net.{handed}
 use Rattle.net.specs.Check.{checkedWithin}
 use Rattle.netfile.specs.Sizes.{blockWords, blockBytes, firstEntry, pinCountWord, macroCountWord, firstWeightWord, secondWeightWord}
-use Rattle.netfile.specs.Sizes.{perBlock, blocksFor, blockCount, fileBlocksWithin, fileBound}
+use Rattle.netfile.specs.Sizes.{loadedKind, placeWidth, perBlock, blocksFor, blockCount, fileBlocksWithin, fileBound}
 use Rattle.netfile.specs.Words.{wordsOf, coordinate, weightIn}
 use Rattle.netfile.specs.Sums.{wrongSums}
 use Rattle.netfile.specs.Layout.{fileBytes}
@@ -44,9 +46,14 @@ sumsWrong bytes = any wrongSums (blocksOf (length bytes / blockBytes) (wordsOf b
 unfoldable pub headWord : ℕ → List ℕ → ℕ
 headWord i bytes = getD (wordsOf bytes) i 0
 
--- F9: the lengths of the two lists, by m and k in the head
-abbrev pub pinLength : List ℕ → ℕ
-pinLength bytes = headWord pinCountWord bytes * pinWidth
+-- F26: the block after the head is one of pins with loads. The head does not tell, so this is asked of every file; where it counts no
+-- pin it makes no difference what that block is [11]
+unfoldable pub loadedIn : List ℕ → Bool
+loadedIn bytes = eqb (getD (wordsOf bytes) blockWords 0) loadedKind
+
+-- F9: how many numbers are stored for the pins and for the macros, by m and k in the head
+unfoldable pub pinLength : List ℕ → ℕ
+pinLength bytes = cond (loadedIn bytes) (headWord pinCountWord bytes * pinWidth) (headWord pinCountWord bytes * placeWidth)
 
 abbrev pub macroLength : List ℕ → ℕ
 macroLength bytes = headWord macroCountWord bytes * macroWidth
@@ -72,8 +79,12 @@ numbersIn bytes b j zero = []
 numbersIn bytes b j (suc n) = numberIn bytes b j ∷ numbersIn bytes b (suc j) n
 
 -- the lists that a file holds: as many pins and macros as its head says, the pins from block 1 on, the macros in the blocks after theirs
+unfoldable pub storedIn : List ℕ → List ℤ
+storedIn bytes = numbersIn bytes 1 0 (pinLength bytes)
+
+-- pins are three numbers each, however they are stored: those of places alone have a load of 0 [11]
 unfoldable pub pinsIn : List ℕ → List ℤ
-pinsIn bytes = numbersIn bytes 1 0 (pinLength bytes)
+pinsIn bytes = cond (loadedIn bytes) (storedIn bytes) (flatPins (placesOf (storedIn bytes)))
 
 unfoldable pub macrosIn : List ℕ → List ℤ
 macrosIn bytes = numbersIn bytes (1 + blocksFor (pinLength bytes)) 0 (macroLength bytes)

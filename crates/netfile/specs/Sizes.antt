@@ -35,8 +35,8 @@ firstWeightWord = firstEntry + 2
 abbrev pub secondWeightWord : ℕ
 secondWeightWord = firstEntry + 3
 
--- F6, F7: the numbers of a full block, whatever its entries are: 60 pins of two, 30 macros of four. It is the format's own and no
--- consequence of the words between the entries' first and the sums: these are 122, and 61 pins would fit.
+-- F6, F7, F24: the numbers of a full block, whatever its entries are: 60 pins of two, 40 of three, 30 macros of four. It is the format's
+-- own and no consequence of the words between the entries' first and the sums: these are 122, and 61 pins would fit.
 abbrev pub perBlock : ℕ
 perBlock = 120
 
@@ -50,11 +50,22 @@ pinKind = 2
 abbrev pub macroKind : ℕ
 macroKind = 3
 
+-- F24: pins with their loads [11]
+abbrev pub loadedKind : ℕ
+loadedKind = 4
+
+-- F6: the numbers of a pin that is stored without its load: x and y
+abbrev pub placeWidth : ℕ
+placeWidth = 2
+
 -- What follows
 
--- F6, F7: the entries of a full block
+-- F6, F7, F24: the entries of a full block
 abbrev pub pinsPerBlock : ℕ
-pinsPerBlock = perBlock / pinWidth
+pinsPerBlock = perBlock / placeWidth
+
+abbrev pub loadedPerBlock : ℕ
+loadedPerBlock = perBlock / pinWidth
 
 abbrev pub macrosPerBlock : ℕ
 macrosPerBlock = perBlock / macroWidth
@@ -78,9 +89,9 @@ blocksFor n = groups n perBlock
 abbrev pub blockCount : ℕ → ℕ → ℕ
 blockCount n k = 1 + blocksFor n + blocksFor k
 
--- F16: the blocks of the longest file, and its bytes
+-- F16: the blocks of the longest file, whose pins have loads, and its bytes
 abbrev pub fileBlocksWithin : Bounds → ℕ
-fileBlocksWithin b = 1 + groups (b .pins) pinsPerBlock + groups (b .macros) macrosPerBlock
+fileBlocksWithin b = 1 + groups (b .pins) loadedPerBlock + groups (b .macros) macrosPerBlock
 
 abbrev pub fileBlocks : ℕ
 fileBlocks = fileBlocksWithin today
@@ -91,3 +102,7 @@ fileBound = fileBlocks * blockBytes
 -- the numbers that its blocks after the head have room for: no list of a file has more
 abbrev pub fileNumbers : ℕ
 fileNumbers = (fileBlocks - 1) * perBlock
+
+-- and the numbers of as many pins, were they all stored without loads: no list of pins read from a file has more
+abbrev pub filePins : ℕ
+filePins = fileNumbers / placeWidth * pinWidth

@@ -2,7 +2,8 @@
 //
 // A block is 512 bytes, 128 words of 32 bits: four words that say what it is, then up to 120 numbers, zeros, and two sums. A table of its
 // 128 words is made and sealed in one place, and the reader sums it by the same function. The reader takes the lists out of a file into
-// tables of its own, writes the file of these lists and of the head's weights beside it, and compares.
+// tables of its own, writes the file of these lists and of the head's weights beside it, and compares. Pins are three numbers each for
+// callers; a file has their places alone where none has a load, and then its blocks are of another kind, with two numbers an entry.
 use net::Checked;
 use net::Net;
 use net::Refusal;
@@ -14,7 +15,10 @@ ghost use Prim.Native.Nat.{_+_, _*_, _/_, _≤_, _<_};
 ghost use lib.ListN.{length, take, drop};
 ghost use lib.Seq.{sets};
 ghost use Rattle.lent.specs.Over.{over, after};
+ghost use Rattle.lent.specs.Entries.{flat};
+ghost use Rattle.plane.specs.Flat.{placesOf, placeNumbers};
 ghost use Rattle.net.specs.Bounds.{weightBound};
+ghost use Rattle.net.specs.Pins.{pinPlaces, pinNumbers, flatPins, bare};
 ghost use Rattle.net.specs.Net.{weightsOf};
 ghost use Rattle.net.specs.Check.{told};
 ghost use Rattle.netfile.specs.Sizes.{
@@ -25,22 +29,26 @@ ghost use Rattle.netfile.specs.Sizes.{
   blocksFor,
   blockCount,
   fileBlocks,
+  fileBound,
   fileNumbers,
 };
 ghost use Rattle.netfile.specs.Words.{wordsOf, wordFrom, bytesOfWord, bytesOf, wordOf, coordinate, weightWord, weightIn};
 ghost use Rattle.netfile.specs.Sums.{plainSum, sumOfSums, sealed, wrongSums};
-ghost use Rattle.netfile.specs.Layout.{headBlock, listBlock, allBlocks, fileBytes};
+ghost use Rattle.netfile.specs.Layout.{headBlock, listBlock, allBlocks, Stored, isLoad, loaded, stored};
+ghost use Rattle.netfile.specs.Layout.{laidBytes, fileBytes};
 ghost use Rattle.netfile.specs.Write.{fitted, written, toldBytes};
 ghost use Rattle.netfile.specs.Read.{
   blocksMiscounted,
   blockOf,
   sumsWrong,
   headWord,
+  loadedIn,
   pinLength,
   macroLength,
   weightsIn,
   numberIn,
   numbersIn,
+  storedIn,
   pinsIn,
   macrosIn,
   sameNumbers,
@@ -82,11 +90,16 @@ const PIN_KIND: u32 = 2;
 
 const MACRO_KIND: u32 = 3;
 
+const LOADED_KIND: u32 = 4;
+
+// Numbers of a pin that is stored without its load.
+const PLACE_NUMBERS: usize = 2;
+
 // The greatest weight, as a word of the head may have it.
 const WEIGHT: usize = Net::WEIGHT as usize;
 
-// The entries of a full block.
-const PINS_PER_BLOCK: usize = PER_BLOCK / Net::PIN_NUMBERS;
+// The entries of a full block, of pins with their loads and of macros: what the longest file has.
+const LOADED_PER_BLOCK: usize = PER_BLOCK / Net::PIN_NUMBERS;
 
 const MACROS_PER_BLOCK: usize = PER_BLOCK / Net::MACRO_NUMBERS;
 
@@ -97,7 +110,7 @@ pub const MACRO_LIST: usize = Net::MACROS * Net::MACRO_NUMBERS;
 
 // The blocks of the longest file: the head, and as many as the largest net takes.
 const FILE_BLOCKS: usize = 1
-    + (Net::PINS + PINS_PER_BLOCK - 1) / PINS_PER_BLOCK
+    + (Net::PINS + LOADED_PER_BLOCK - 1) / LOADED_PER_BLOCK
     + (Net::MACROS + MACROS_PER_BLOCK - 1) / MACROS_PER_BLOCK;
 
 // The bytes of the longest file.
@@ -105,6 +118,9 @@ pub const LONGEST: usize = FILE_BLOCKS * BLOCK_BYTES;
 
 // The numbers that its blocks after the head have room for.
 const FILE_NUMBERS: usize = (FILE_BLOCKS - 1) * PER_BLOCK;
+
+// The numbers of the pins that are read from them, were they all stored without loads.
+const FILE_PINS: usize = FILE_NUMBERS / PLACE_NUMBERS * Net::PIN_NUMBERS;
 
 // The answer of a write.
 pub enum Written {
@@ -307,32 +323,116 @@ fn put_list(bytes: &mut [u8], kind: u32, w: usize, first: usize, numbers: &[i32]
     }
 }
 
-// The file of two weights and two lists, from the first lent byte on.
-fn put_file(bytes: &mut [u8], w: Weights, pins: &[i32], macros: &[i32])
-    requires { ⌜ (blockCount (length (now pins)) (length (now macros)) ≤ fileBlocks)
-        × (blockCount (length (now pins)) (length (now macros)) * blockBytes ≤ length (now bytes)) ⌝ }
-    ensures { λ _. ⌜ now (bytes .exit) ≡ over (fileBytes w (now (pins .entry)) (now (macros .entry))) (now (bytes .entry)) ⌝ }
+// The file of two weights, of pins as they are stored and of a list of macros, from the first lent byte on.
+fn put_lists(
+    bytes: &mut [u8],
+    weights: Weights,
+    kind: u32,
+    w: usize,
+    numbers: &[i32],
+    macros: &[i32],
+)
+    requires { ⌜ (0 < w) × ((blockCount (length (now numbers)) (length (now macros)) ≤ fileBlocks)
+        × (blockCount (length (now numbers)) (length (now macros)) * blockBytes ≤ length (now bytes))) ⌝ }
+    ensures { λ _. ⌜ now (bytes .exit) ≡ over (laidBytes weights (record { kind = kind; width = w; numbers = now (numbers .entry) })
+        (now (macros .entry))) (now (bytes .entry)) ⌝ }
 {
-    let first = 1 + blocks_for(pins.len());
+    let first = 1 + blocks_for(numbers.len());
     put_block(
         &mut *bytes,
         0,
-        head_block(net::pin_count(pins), net::macro_count(macros), w),
+        head_block(numbers.len() / w, net::macro_count(macros), weights),
     );
-    put_list(&mut *bytes, PIN_KIND, Net::PIN_NUMBERS, 1, pins);
+    put_list(&mut *bytes, kind, w, 1, numbers);
     put_list(&mut *bytes, MACRO_KIND, Net::MACRO_NUMBERS, first, macros);
+}
+
+// Whether a number is a load: any number but 0.
+fn is_load(z: i32) -> bool
+    ensures { λ r. ⌜ r ≡ isLoad z ⌝ }
+{
+    (z < 0) | (0 < z)
+}
+
+// Whether some pin has a load.
+fn are_loaded(pins: &[i32]) -> bool
+    ensures { λ r. ⌜ r ≡ loaded (now (pins .entry)) ⌝ }
+{
+    let m = net::pin_count(pins);
+    let mut i = 0;
+    while i < m {
+        if is_load(net::load_at(pins, i)) {
+            return true;
+        }
+        i += 1;
+    }
+    false
+}
+
+// The numbers that are stored for the pins.
+fn stored_length(pins: &[i32]) -> usize
+    ensures { λ r. ⌜ r ≡ length (stored (now (pins .entry)) .numbers) ⌝ }
+{
+    if are_loaded(pins) {
+        return pins.len();
+    }
+    net::pin_count(pins) * PLACE_NUMBERS
+}
+
+// The pins' places alone.
+fn put_places(pins: &[i32], places: &mut [i32])
+    requires { ⌜ length (flat placeNumbers (pinPlaces (now pins))) ≤ length (now places) ⌝ }
+    ensures { λ _. ⌜ now (places .exit) ≡ over (flat placeNumbers (pinPlaces (now (pins .entry)))) (now (places .entry)) ⌝ }
+{
+    let m = net::pin_count(pins);
+    let mut i = 0;
+    while i < m {
+        plane::put_place(&mut *places, i, net::pin_at(pins, i));
+        i += 1;
+    }
+}
+
+// The file of two weights and two lists, from the first lent byte on.
+fn put_file(bytes: &mut [u8], w: Weights, pins: &[i32], macros: &[i32])
+    requires { ⌜ (blockCount (length (stored (now pins) .numbers)) (length (now macros)) ≤ fileBlocks)
+        × (blockCount (length (stored (now pins) .numbers)) (length (now macros)) * blockBytes ≤ length (now bytes)) ⌝ }
+    ensures { λ _. ⌜ now (bytes .exit) ≡ over (fileBytes w (now (pins .entry)) (now (macros .entry))) (now (bytes .entry)) ⌝ }
+{
+    if are_loaded(pins) {
+        put_lists(&mut *bytes, w, LOADED_KIND, Net::PIN_NUMBERS, pins, macros);
+        return;
+    }
+    let n = net::pin_count(pins) * PLACE_NUMBERS;
+    let mut places = [0i32; FILE_NUMBERS];
+    put_places(pins, &mut places);
+    put_lists(
+        &mut *bytes,
+        w,
+        PIN_KIND,
+        PLACE_NUMBERS,
+        &places[0..n],
+        macros,
+    );
+}
+
+// The bytes of the file of two lists, which its weights do not change.
+fn file_length(pins: &[i32], macros: &[i32]) -> usize
+    requires { ⌜ blockCount (length (stored (now pins) .numbers)) (length (now macros)) ≤ fileBlocks ⌝ }
+    ensures { λ r. ⌜ r ≡ blockCount (length (stored (now (pins .entry)) .numbers)) (length (now (macros .entry))) * blockBytes ⌝ }
+{
+    (1 + blocks_for(stored_length(pins)) + blocks_for(macros.len())) * BLOCK_BYTES
 }
 
 // Write the file of a checked net.
 fn write_checked(w: Weights, pins: &[i32], macros: &[i32], bytes: &mut [u8]) -> Written
-    requires { ⌜ blockCount (length (now pins)) (length (now macros)) ≤ fileBlocks ⌝ }
+    requires { ⌜ blockCount (length (stored (now pins) .numbers)) (length (now macros)) ≤ fileBlocks ⌝ }
     ensures answer { λ r. ⌜ toldBytes r ≡ fitted (length (fileBytes w (now (pins .entry)) (now (macros .entry))))
         (length (now (bytes .entry))) ⌝ }
     ensures lent { λ _. ⌜ now (bytes .exit)
         ≡ after (fitted (length (fileBytes w (now (pins .entry)) (now (macros .entry)))) (length (now (bytes .entry))))
         (fileBytes w (now (pins .entry)) (now (macros .entry))) (now (bytes .entry)) ⌝ }
 {
-    let n = (1 + blocks_for(pins.len()) + blocks_for(macros.len())) * BLOCK_BYTES;
+    let n = file_length(pins, macros);
     if bytes.len() < n {
         return Written::Refused(Refusal::Space);
     }
@@ -408,12 +508,26 @@ fn head_word(bytes: &[u8], i: usize) -> usize
     word_at(bytes, i) as usize
 }
 
-// The numbers of the pins that the head counts.
+// Whether the block after the head has pins with loads; a file of a head alone has no such block.
+fn are_loaded_in(bytes: &[u8]) -> bool
+    ensures { λ r. ⌜ r ≡ loadedIn (now (bytes .entry)) ⌝ }
+{
+    if bytes.len() < BLOCK_BYTES + 4 {
+        return false;
+    }
+    word_at(bytes, BLOCK_WORDS) == LOADED_KIND
+}
+
+// The numbers that are stored for the pins that the head counts.
 fn pin_length(bytes: &[u8]) -> usize
     requires { ⌜ blockBytes ≤ length (now bytes) ⌝ }
     ensures { λ r. ⌜ r ≡ pinLength (now (bytes .entry)) ⌝ }
 {
-    head_word(bytes, PIN_COUNT_WORD) * Net::PIN_NUMBERS
+    let m = head_word(bytes, PIN_COUNT_WORD);
+    if are_loaded_in(bytes) {
+        return m * Net::PIN_NUMBERS;
+    }
+    m * PLACE_NUMBERS
 }
 
 // The numbers of the macros that it counts.
@@ -485,11 +599,13 @@ fn take_numbers(bytes: &[u8], b: usize, n: usize, numbers: &mut [i32])
     }
 }
 
-// Two slices of one length hold the same bytes.
+// Two slices hold the same bytes.
 fn same_bytes(a: &[u8], b: &[u8]) -> bool
-    requires { ⌜ length (now a) ≡ length (now b) ⌝ }
     ensures { λ r. ⌜ r ≡ sameNumbers (now (a .entry)) (now (b .entry)) ⌝ }
 {
+    if a.len() != b.len() {
+        return false;
+    }
     let mut at = 0;
     while at < a.len() {
         if a[at] != b[at] {
@@ -502,18 +618,18 @@ fn same_bytes(a: &[u8], b: &[u8]) -> bool
 
 // Whether the bytes are the file of two weights and two lists: that file is written, and compared.
 fn is_file_of(bytes: &[u8], w: Weights, pins: &[i32], macros: &[i32]) -> bool
-    requires { ⌜ Sized (now bytes) (length (now pins)) (length (now macros)) ⌝ }
+    requires { ⌜ blockCount (length (stored (now pins) .numbers)) (length (now macros)) ≤ fileBlocks ⌝ }
     ensures { λ r. ⌜ r ≡ sameNumbers (now (bytes .entry)) (fileBytes w (now (pins .entry)) (now (macros .entry))) ⌝ }
 {
     let mut file = [0u8; LONGEST];
     put_file(&mut file, w, pins, macros);
-    let n = bytes.len();
+    let n = file_length(pins, macros);
     same_bytes(bytes, &file[0..n])
 }
 
 // The layout of a file against the weights and lists that it holds, and then the check of these.
 fn check_lists(bytes: &[u8], w: Weights, pins: &[i32], macros: &[i32]) -> Checked
-    requires { ⌜ Sized (now bytes) (length (now pins)) (length (now macros)) ⌝ }
+    requires { ⌜ blockCount (length (stored (now pins) .numbers)) (length (now macros)) ≤ fileBlocks ⌝ }
     ensures { λ r. ⌜ told r ≡ laidOut (now (bytes .entry)) w (now (pins .entry)) (now (macros .entry)) ⌝ }
 {
     if is_file_of(bytes, w, pins, macros) {
@@ -522,16 +638,45 @@ fn check_lists(bytes: &[u8], w: Weights, pins: &[i32], macros: &[i32]) -> Checke
     Checked::Refused(Refusal::Layout)
 }
 
+// Pins without a load at places that stand in a list of their own.
+fn put_bare(places: &[i32], pins: &mut [i32])
+    requires { ⌜ length (flatPins (placesOf (now places))) ≤ length (now pins) ⌝ }
+    ensures { λ _. ⌜ now (pins .exit) ≡ over (flatPins (placesOf (now (places .entry)))) (now (pins .entry)) ⌝ }
+{
+    let m = places.len() / PLACE_NUMBERS;
+    let mut i = 0;
+    while i < m {
+        net::put_bare_pin(&mut *pins, i, plane::place_at(places, i));
+        i += 1;
+    }
+}
+
+// The pins of a file whose head's counts fit its blocks.
+fn take_pins(bytes: &[u8], pins: &mut [i32])
+    requires { ⌜ ((1 + blocksFor (pinLength (now bytes))) * blockBytes ≤ length (now bytes))
+        × ((pinLength (now bytes) ≤ fileNumbers) × (length (pinsIn (now bytes)) ≤ length (now pins))) ⌝ }
+    ensures { λ _. ⌜ now (pins .exit) ≡ over (pinsIn (now (bytes .entry))) (now (pins .entry)) ⌝ }
+{
+    let n = pin_length(bytes);
+    if are_loaded_in(bytes) {
+        take_numbers(bytes, 1, n, &mut *pins);
+        return;
+    }
+    let mut places = [0i32; FILE_NUMBERS];
+    take_numbers(bytes, 1, n, &mut places);
+    put_bare(&places[0..n], &mut *pins);
+}
+
 // The lists of a file whose head's counts fit its blocks, into tables that they fit.
 fn take_lists(bytes: &[u8], pins: &mut [i32], macros: &mut [i32])
     requires { ⌜ (Sized (now bytes) (pinLength (now bytes)) (macroLength (now bytes)))
-        × ((pinLength (now bytes) ≤ length (now pins)) × (macroLength (now bytes) ≤ length (now macros))) ⌝ }
+        × ((length (pinsIn (now bytes)) ≤ length (now pins)) × (macroLength (now bytes) ≤ length (now macros))) ⌝ }
     ensures pins { λ _. ⌜ now (pins .exit) ≡ over (pinsIn (now (bytes .entry))) (now (pins .entry)) ⌝ }
     ensures macros { λ _. ⌜ now (macros .exit) ≡ over (macrosIn (now (bytes .entry))) (now (macros .entry)) ⌝ }
 {
     let n = pin_length(bytes);
     let k = macro_length(bytes);
-    take_numbers(bytes, 1, n, &mut *pins);
+    take_pins(bytes, &mut *pins);
     take_numbers(bytes, 1 + blocks_for(n), k, &mut *macros);
 }
 
@@ -542,9 +687,9 @@ fn check_file(bytes: &[u8]) -> Checked
     ensures { λ r. ⌜ told r ≡ answerIn (now (bytes .entry)) ⌝ }
 {
     let w = weights_in(bytes);
-    let n = pin_length(bytes);
+    let n = head_word(bytes, PIN_COUNT_WORD) * Net::PIN_NUMBERS;
     let k = macro_length(bytes);
-    let mut pins = [0i32; FILE_NUMBERS];
+    let mut pins = [0i32; FILE_PINS];
     let mut macros = [0i32; FILE_NUMBERS];
     take_lists(bytes, &mut pins, &mut macros);
     check_lists(bytes, w, &pins[0..n], &macros[0..k])

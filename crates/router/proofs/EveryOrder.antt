@@ -1,10 +1,11 @@
--- D2b, the same for every order of the lists. Where the check refuses, it refuses both, and nothing lent is altered. Where it allows, the
--- trees of one order are trees of the other by the rules, which speak of no order, and there is only one solution (`trees-same`).
+-- D2b, the same for every order of the lists, and D2g, the same for all loads [11]: both are that what is answered depends on the pins by
+-- their places alone. Where the check refuses, it refuses both, and nothing lent is altered. Where it allows, the trees of one order are
+-- trees of the other by the rules, which speak of no order and no load, and there is only one solution (`trees-same`).
 -- Assumes nothing.
 use mathlib.Core.Path.{_≡_, refl, sym, ap, ap₂, _∙_}
 use mathlib.Core.Bool.{Bool, true, false, cond, _||_}
 use mathlib.Core.Logic.{∥∥₁-elim}
-use mathlib.Core.List.{List, map, List·Permᴰ, Permᴰ·symm}
+use mathlib.Core.List.{List, map, Perm, Perm·refl, List·Permᴰ, Permᴰ·symm}
 use Prim.Native.Nat.{ℕ, _+_, _*_, _/_}
 use native.Mathlib.Nat.{ℕ-set}
 use lib.Dec.{ltb}
@@ -12,6 +13,7 @@ use lib.IntN.{ℤ, pos}
 use lib.ListN.{length, replicate}
 use Rattle.lists.specs.Sorted.{Order, firstThen}
 use Rattle.lists.specs.Total.{total}
+use Rattle.lists.proofs.AnyLaws.{none-any}
 use Rattle.lists.proofs.AnyOrder.{length-perm}
 use Rattle.lists.proofs.OrderLaws.{number-order, pair-order}
 use Rattle.lists.proofs.PermLaws.{perm-among, order-lists-set}
@@ -24,16 +26,16 @@ use Rattle.plane.specs.Flat.{macrosOf}
 use Rattle.plane.proofs.PlaceOrder.{place-order}
 use Rattle.plane.proofs.MacroLaws.{clear-perm}
 use Rattle.net.specs.declared.Net.{Net as Counts}
-use Rattle.net.specs.Bounds.{macroWidth}
+use Rattle.net.specs.Bounds.{pinWidth, macroWidth}
 use Rattle.net.specs.declared.Weighing.{Weighing}
 use Rattle.net.specs.Net.{netOf, weightsOf, costIn}
 use Rattle.net.specs.Allowed.{Allowed}
-use Rattle.net.specs.Pins.{pinCount, macroCount, pinPlaces}
-use Rattle.net.proofs.PinLaws.{same-pins as as-many}
-use Rattle.net.specs.Check.{checked}
+use Rattle.net.specs.Pins.{pinCount, macroCount, pinPlaces, pinLoads}
+use Rattle.net.proofs.PinLaws.{length-pins, pin-numbers, same-pins as as-many}
+use Rattle.net.specs.Check.{noLoad, checked}
 use Rattle.net.proofs.AllowedLaws.{given-allowed}
-use Rattle.net.specs.Order.{SamePins, SameMacros}
-use Rattle.net.proofs.CheckOrder.{check-order}
+use Rattle.net.specs.Order.{SamePins, SamePlaces, SameMacros}
+use Rattle.net.proofs.CheckOrder.{check-order, same-places}
 use Rattle.graph.specs.Numbers.{placeNumbers, edgeNumbers}
 use Rattle.terminal.specs.Tree.{pathNumbers}
 use Rattle.terminal.proofs.BestJoiningLaws.{paths-sum}
@@ -67,7 +69,7 @@ use Rattle.best.specs.Bounds.{bestPins, workBound}
 use Rattle.best.specs.Tree.{BestTree}
 use Rattle.best.proofs.OrderLaws.{best-any-order}
 use Rattle.router.specs.Best.{aboveBest, bestNumbers, bestRoomShort, bestAnswer, bestGiven, bestTree}
-use Rattle.router.specs.EveryOrder.{SameForBoth}
+use Rattle.router.specs.EveryOrder.{SameForBoth, ByPlaces}
 use Rattle.router.proofs.AnswerLaws.{only-refused}
 
 -- bridges with lengths, in an order
@@ -95,7 +97,7 @@ shown-after (given net) true short a b xs lent = refl
 shown-after (given net) false true a b xs lent = refl
 shown-after (given net) false false a b xs lent = refl
 
-module _ (w : Weighing) (pins pins′ macros macros′ : List ℤ) (p : SamePins pins pins′) (q : SameMacros macros macros′) where
+module _ (w : Weighing) (pins pins′ macros macros′ : List ℤ) (p : SamePlaces pins pins′) (q : SameMacros macros macros′) where
   same-check : checked w pins macros ≡ checked w pins′ macros′
   same-check = check-order w pins pins′ macros macros′ p q
 
@@ -333,9 +335,48 @@ module _ (w : Weighing) (pins pins′ macros macros′ : List ℤ) (p : SamePins
       best-cost = same-best-cost;
     }
 
-  pub every-order : SameForBoth w pins pins′ macros macros′
-  every-order = at (checked w pins macros) refl
+  pub by-places : SameForBoth w pins pins′ macros macros′
+  by-places = at (checked w pins macros) refl
     where
       at : (t : Told Counts) → checked w pins macros ≡ t → SameForBoth w pins pins′ macros macros′
       at (refused n) r = refused-both n r
       at (given net) g = given-both net g
+
+-- Theorems
+
+-- D2b: the same entries in another order
+pub every-order : (w : Weighing) (pins pins′ macros macros′ : List ℤ) → SamePins pins pins′ → SameMacros macros macros′
+    → SameForBoth w pins pins′ macros macros′
+every-order w pins pins′ macros macros′ p q = by-places w pins pins′ macros macros′ (same-places pins pins′ p) q
+
+-- the pins of two allowed nets that are at the same places: loads that pass are alike to the check
+allowed-places : (w : Weighing) (pins pins′ macros macros′ : List ℤ) {net net′ : Counts} → checked w pins macros ≡ given net
+    → checked w pins′ macros′ ≡ given net′ → Perm (pinPlaces pins) (pinPlaces pins′) → SamePlaces pins pins′
+allowed-places w pins pins′ macros macros′ g g′ p =
+    let a = given-allowed w pins macros g .0 in
+    let b = given-allowed w pins′ macros′ g′ .0 in
+    record {
+      many =
+          sym (pin-numbers pins (a .threes))
+          ∙ ap (λ (n : ℕ). n * pinWidth) (sym (length-pins pins) ∙ length-perm _ _ p ∙ length-pins pins′)
+          ∙ pin-numbers pins′ (b .threes);
+      order = p;
+      loads = none-any noLoad (pinLoads pins) (a .loads) ∙ sym (none-any noLoad (pinLoads pins′) (b .loads));
+    }
+
+-- D2g: two allowed nets with pins at the same places, whatever their loads, in whatever order
+pub whatever-loads : (w : Weighing) (pins pins′ macros macros′ : List ℤ) {net net′ : Counts} → checked w pins macros ≡ given net
+    → checked w pins′ macros′ ≡ given net′ → Perm (pinPlaces pins) (pinPlaces pins′) → SameMacros macros macros′
+    → SameForBoth w pins pins′ macros macros′
+whatever-loads w pins pins′ macros macros′ g g′ p q =
+    by-places w pins pins′ macros macros′ (allowed-places w pins pins′ macros macros′ g g′ p) q
+
+-- and so two that differ in loads alone
+pub loads-alone : (w : Weighing) (pins pins′ macros : List ℤ) {net net′ : Counts} → checked w pins macros ≡ given net
+    → checked w pins′ macros ≡ given net′ → pinPlaces pins ≡ pinPlaces pins′ → SameForBoth w pins pins′ macros macros
+loads-alone w pins pins′ macros g g′ e =
+    whatever-loads w pins pins′ macros macros g g′ (rw e (Perm·refl (pinPlaces pins′)))
+    (record { many = refl; order = Perm·refl (macrosOf macros) })
+
+pub all-by-places : ByPlaces
+all-by-places = record { every-order = every-order; loads-alone = loads-alone; whatever-loads = whatever-loads }

@@ -1,4 +1,4 @@
--- Weights of 1 weigh nothing: what they are is `plain`, and costs, totals and files follow.
+-- Weights of 1 weigh nothing: what they are is `plain`, and costs, totals and, where no pin has a load, files follow.
 -- Assumes nothing.
 use mathlib.Core.Path.{refl, ap, _∙_}
 use mathlib.Core.List.{List}
@@ -24,5 +24,5 @@ as-first pins macros = record {
   metal-is =
       ap (λ (v : Weights). lengths (cost v) (laidOf plainly pins macros)) (weights-handed plain)
       ∙ length-plain (laidOf plainly pins macros);
-  file-is = ap (λ (v : Weights). fileBytes v pins macros) (weights-handed plain) ∙ plain-file pins macros;
+  file-is = λ e. ap (λ (v : Weights). fileBytes v pins macros) (weights-handed plain) ∙ plain-file pins macros e;
 }

@@ -25,7 +25,8 @@ bestOf w net work room T = bestTree w (net .pins) (net .macros) work room T
 -- five pins whose refined tree costs 8, and a tree of 7 for them
 abbrev fivePins : Lists
 fivePins = record {
-  pins = pos 2 ∷ pos 0 ∷ pos 1 ∷ pos 3 ∷ pos 0 ∷ pos 1 ∷ pos 3 ∷ pos 1 ∷ pos 0 ∷ pos 0 ∷ [];
+  pins =
+      pos 2 ∷ pos 0 ∷ pos 0 ∷ pos 1 ∷ pos 3 ∷ pos 0 ∷ pos 0 ∷ pos 1 ∷ pos 0 ∷ pos 3 ∷ pos 1 ∷ pos 0 ∷ pos 0 ∷ pos 0 ∷ pos 0 ∷ [];
   macros = [];
 }
 
@@ -37,7 +38,9 @@ sevenLong =
 -- six pins in a row
 abbrev sixPins : Lists
 sixPins = record {
-  pins = pos 0 ∷ pos 0 ∷ pos 1 ∷ pos 0 ∷ pos 2 ∷ pos 0 ∷ pos 3 ∷ pos 0 ∷ pos 4 ∷ pos 0 ∷ pos 5 ∷ pos 0 ∷ [];
+  pins =
+      pos 0 ∷ pos 0 ∷ pos 0 ∷ pos 1 ∷ pos 0 ∷ pos 0 ∷ pos 2 ∷ pos 0 ∷ pos 0 ∷ pos 3 ∷ pos 0 ∷ pos 0 ∷ pos 4 ∷ pos 0 ∷ pos 0 ∷ pos 5 ∷ pos 0
+      ∷ pos 0 ∷ [];
   macros = [];
 }
 
@@ -47,7 +50,7 @@ squares zero = []
 squares (suc n) = pos 0 ∷ pos (suc n) ∷ pos 1 ∷ pos (suc (suc n)) ∷ squares n
 
 abbrev macros : ℕ → Lists
-macros n = record { pins = pos 0 ∷ pos 0 ∷ []; macros = squares n }
+macros n = record { pins = pos 0 ∷ pos 0 ∷ pos 0 ∷ []; macros = squares n }
 
 pub record Table : Type 0 where
   -- a lone pin: no edge; it asks for as much work as any

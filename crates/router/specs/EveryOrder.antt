@@ -1,16 +1,19 @@
--- D2b: what two calls have in common that have the same weights, and lists with the same entries in another order. It speaks of the
--- answers, and of what each lent list holds after the call, refused or not.
+-- D2b: what two calls have in common that have the same weights, and lists with the same entries in another order; and D2g: or with other
+-- loads [11]. It speaks of the answers, and of what each lent list holds after the call, refused or not.
 use mathlib.Core.Path.{_≡_}
-use mathlib.Core.List.{List, map}
+use mathlib.Core.List.{List, Perm, map}
 use Prim.Native.Nat.{ℕ}
 use lib.IntN.{ℤ, pos}
 use lib.ListN.{replicate}
-use Rattle.lent.specs.Told.{code}
+use Rattle.lent.specs.Told.{given, code}
 use Rattle.lent.specs.Over.{after}
 use Rattle.lent.specs.Entries.{flat}
 use Rattle.net.specs.declared.Weighing.{Weighing}
+use Rattle.net.specs.declared.Net.{Net as Counts}
+use Rattle.net.specs.Pins.{pinPlaces}
 use Rattle.net.specs.Net.{netOf, costIn}
 use Rattle.net.specs.Check.{checked}
+use Rattle.net.specs.Order.{SamePins, SameMacros}
 use Rattle.graph.specs.Numbers.{placeNumbers, edgeNumbers}
 use Rattle.terminal.specs.Tree.{pathNumbers}
 use Rattle.joined.specs.Cost.{lengths}
@@ -61,3 +64,16 @@ pub record SameForBoth (w : Weighing) (pins pins′ macros macros′ : List ℤ)
       ≡ after (bestTree w pins′ macros′ work room U) (replicate workBound 0) lent
   pub best-cost : (T U : List Edge) → BestTree (netOf w pins macros) T → BestTree (netOf w pins′ macros′) U
       → lengths (costIn (netOf w pins macros)) T ≡ lengths (costIn (netOf w pins′ macros′)) U
+
+-- The theorems, of any two calls; ../proofs/EveryOrder.antt has the proof
+pub record ByPlaces : Type 0 where
+  -- D2b: the same entries in another order, allowed or not
+  pub every-order : (w : Weighing) (pins pins′ macros macros′ : List ℤ) → SamePins pins pins′ → SameMacros macros macros′
+      → SameForBoth w pins pins′ macros macros′
+  -- D2g: two allowed nets that differ in loads alone [11]
+  pub loads-alone : (w : Weighing) (pins pins′ macros : List ℤ) {net net′ : Counts} → checked w pins macros ≡ given net
+      → checked w pins′ macros ≡ given net′ → pinPlaces pins ≡ pinPlaces pins′ → SameForBoth w pins pins′ macros macros
+  -- and so where the order of the lists is another too
+  pub whatever-loads : (w : Weighing) (pins pins′ macros macros′ : List ℤ) {net net′ : Counts} → checked w pins macros ≡ given net
+      → checked w pins′ macros′ ≡ given net′ → Perm (pinPlaces pins) (pinPlaces pins′) → SameMacros macros macros′
+      → SameForBoth w pins pins′ macros macros′

@@ -32,7 +32,8 @@
 --                GivesSquare                          the same of a table whose numbers are fixed by what they mean
 --                GivesBest                            the same of a best tree, where which one is left to the program
 --   Published    Promised w pins macros               all that is promised of an allowed net: the trees of the rules, the only ones, and D3
---   EveryOrder   SameForBoth                          what two calls have in common whose lists have the same entries in another order
+--   EveryOrder   SameForBoth                          what two calls have in common whose pins are at the same places, in whatever order
+--                ByPlaces                             that calls with the same entries in another order, or with other loads, have it
 --   FirstRelease AsFirst pins macros                  with weights 1 and 1 every cost is a length, and files are those of the first release
 pub mod Counted
 pub mod Graph

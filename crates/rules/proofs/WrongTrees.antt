@@ -20,6 +20,7 @@ use Rattle.plane.specs.Macro.{macro}
 use Rattle.net.specs.Check.{counted}
 use Rattle.net.specs.Allowed.{Allowed}
 use Rattle.net.specs.WorkedNets.{threePins, onSides}
+use Rattle.net.specs.Pins.{flatPins}
 use Rattle.net.proofs.AllowedLaws.{given-allowed}
 use Rattle.net.proofs.WorkedChecks.{answer, worked-checks}
 use Rattle.net.specs.Net.{Net, plainly}
@@ -59,9 +60,9 @@ abbrev pub cross : Net
 cross = plainNet (at 0 1 ∷ at 1 0 ∷ at 1 2 ∷ at 2 1 ∷ []) ([])
 
 cross-allowed : Allowed cross
-unfolding answer
+unfolding answer flatPins
 cross-allowed =
-    given-allowed plainly (pos 0 ∷ pos 1 ∷ pos 1 ∷ pos 0 ∷ pos 1 ∷ pos 2 ∷ pos 2 ∷ pos 1 ∷ []) [] {v = counted plainly 4 0} refl .1
+    given-allowed plainly (flatPins (cross .pins)) [] {v = counted plainly 4 0} refl .1
 
 -- three pins and a macro, one of whose corners is left bare by the round
 abbrev slab : List Macro
@@ -71,9 +72,9 @@ abbrev pub bare : Net
 bare = plainNet (at 0 0 ∷ at 1 3 ∷ at 3 1 ∷ []) (slab)
 
 bare-allowed : Allowed bare
-unfolding answer
+unfolding answer flatPins
 bare-allowed =
-    given-allowed plainly (pos 0 ∷ pos 0 ∷ pos 1 ∷ pos 3 ∷ pos 3 ∷ pos 1 ∷ []) (pos 0 ∷ pos 0 ∷ pos 1 ∷ pos 2 ∷ []) {v = counted plainly 3 1} refl .1
+    given-allowed plainly (flatPins (bare .pins)) (pos 0 ∷ pos 0 ∷ pos 1 ∷ pos 2 ∷ []) {v = counted plainly 3 1} refl .1
 
 -- E6: a pin on the left side of that macro and one on the right
 abbrev pub sides : Net
@@ -88,18 +89,18 @@ abbrev pub tied : Net
 tied = plainNet (at 0 3 ∷ at 1 0 ∷ at 3 2 ∷ []) (macro (pos 3) (pos 1) (pos 4) (pos 4) ∷ [])
 
 tied-allowed : Allowed tied
-unfolding answer
+unfolding answer flatPins
 tied-allowed =
-    given-allowed plainly (pos 0 ∷ pos 3 ∷ pos 1 ∷ pos 0 ∷ pos 3 ∷ pos 2 ∷ []) (pos 3 ∷ pos 1 ∷ pos 4 ∷ pos 4 ∷ []) {v = counted plainly 3 1} refl .1
+    given-allowed plainly (flatPins (tied .pins)) (pos 3 ∷ pos 1 ∷ pos 4 ∷ pos 4 ∷ []) {v = counted plainly 3 1} refl .1
 
 -- three pins and a macro, where no candidate has a gain above zero
 abbrev pub even : Net
 even = plainNet (at 0 3 ∷ at 1 0 ∷ at 2 2 ∷ []) (macro (pos 1) (pos 1) (pos 2) (pos 2) ∷ [])
 
 even-allowed : Allowed even
-unfolding answer
+unfolding answer flatPins
 even-allowed =
-    given-allowed plainly (pos 0 ∷ pos 3 ∷ pos 1 ∷ pos 0 ∷ pos 2 ∷ pos 2 ∷ []) (pos 1 ∷ pos 1 ∷ pos 2 ∷ pos 2 ∷ []) {v = counted plainly 3 1} refl .1
+    given-allowed plainly (flatPins (even .pins)) (pos 1 ∷ pos 1 ∷ pos 2 ∷ pos 2 ∷ []) {v = counted plainly 3 1} refl .1
 
 -- Graphs
 

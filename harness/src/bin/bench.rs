@@ -9,6 +9,7 @@ use harness::library;
 use reference::best;
 use reference::generate::{half, net, Kind};
 use reference::lists::Lists;
+use reference::net::Net;
 use reference::operations;
 
 const HELP: &str = "\
@@ -24,7 +25,7 @@ fn sized(kind: &str, size: usize) -> Option<Lists> {
                 ..=64 => half(1),
                 _ => net(Kind::Largest, 1),
             };
-            (pins[..2 * size].to_vec(), macros[..4 * size].to_vec())
+            (pins[..3 * size].to_vec(), macros[..4 * size].to_vec())
         }
         "bars" => bars(size as i32),
         "combs" => combs(size as i32),
@@ -42,7 +43,7 @@ fn sized(kind: &str, size: usize) -> Option<Lists> {
 fn bars(size: i32) -> (Vec<i32>, Vec<i32>) {
     let stagger = |i: i32| i * 37 % 101;
     let macros = |i: i32| [stagger(i), 10 * i, 1_000 + stagger(i + 7), 10 * i + 6];
-    let pins = |i: i32| [i * 389 % 1_000, 10 * i + 8];
+    let pins = |i: i32| [i * 389 % 1_000, 10 * i + 8, 0];
     (
         (0..size).flat_map(pins).collect(),
         (0..size).flat_map(macros).collect(),
@@ -52,7 +53,7 @@ fn bars(size: i32) -> (Vec<i32>, Vec<i32>) {
 /// Tall teeth side by side, with a pin high or low in each gap.
 fn combs(size: i32) -> (Vec<i32>, Vec<i32>) {
     let macros = |i: i32| [10 * i, 0, 10 * i + 6, 1_000 + i * 53 % 89];
-    let pins = |i: i32| [10 * i + 8, i * 389 % 1_000];
+    let pins = |i: i32| [10 * i + 8, i * 389 % 1_000, 0];
     (
         (0..size).flat_map(pins).collect(),
         (0..size).flat_map(macros).collect(),
@@ -65,7 +66,8 @@ fn clusters(size: usize) -> (Vec<i32>, Vec<i32>) {
     let apart = |list: Vec<i32>, width: usize| {
         let near = list.len() / 2 / width * width;
         let moved = |(i, z): (usize, i32)| {
-            if i < near && i % 2 == 0 {
+            let x = i % width == 0 || i % width == 2 && width == 4;
+            if i < near && x {
                 z - 150_000
             } else {
                 z
@@ -73,7 +75,7 @@ fn clusters(size: usize) -> (Vec<i32>, Vec<i32>) {
         };
         list.into_iter().enumerate().map(moved).collect()
     };
-    (apart(pins, 2), apart(macros, 4))
+    (apart(pins, 3), apart(macros, 4))
 }
 
 /// The net's file.
@@ -88,7 +90,7 @@ fn file(lists: &Lists) -> Vec<u8> {
 /// Runs an operation of a program once: how many entries it gave, or none where there is no such operation or program.
 fn run(operation: &str, program: &str, lists: &Lists) -> Option<u64> {
     let (pins, macros, weights) = lists.parts();
-    let (m, n) = (pins.len() / 2, pins.len() / 2 + macros.len());
+    let (m, n) = (pins.len() / 3, pins.len() / 3 + macros.len());
     let is_proved = match program {
         "proved" => true,
         "second" => false,
@@ -137,8 +139,11 @@ fn run(operation: &str, program: &str, lists: &Lists) -> Option<u64> {
             call(pins, macros, weights, &mut vec![0; m * m])
         }
         "best" => {
-            let pins = &pins[..pins.len().min(2 * best::PINS)];
-            let numbers = best::edge_numbers(pins.len() / 2, macros.len() / 4);
+            let pins = &pins[..pins.len().min(Net::PIN_NUMBERS * best::PINS)];
+            let numbers = best::edge_numbers(
+                pins.len() / Net::PIN_NUMBERS,
+                macros.len() / Net::MACRO_NUMBERS,
+            );
             if is_proved {
                 let (mut work, mut edges) = (vec![0; best::WORK], vec![0; numbers]);
                 library::best_tree(pins, macros, weights, &mut work, &mut edges)

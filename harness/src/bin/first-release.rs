@@ -8,7 +8,7 @@ use std::process::ExitCode;
 
 use harness::outputs::{Case, Input};
 use reference::generate::{damaged, hostile, net, permuted, Damage, Hostile, Kind};
-use reference::lists::Lists;
+use reference::lists::{unloaded, Lists};
 use reference::text;
 
 const HELP: &str = "first-release OUT: writes the records of 2,000 nets and of some damaged files, with what the library and the program answer
@@ -66,6 +66,10 @@ struct Chosen {
 impl Chosen {
     /// Adds a net, or says that it is there already.
     fn add(&mut self, kind: &str, name: String, lists: Lists) -> bool {
+        let lists = Lists {
+            pins: places(&lists.pins),
+            ..lists
+        };
         let input = Input::Net { lists, full: true };
         if self.cases.iter().any(|case| case.input == input) {
             return false;
@@ -88,6 +92,12 @@ impl Chosen {
                 .expect("seeds do not end");
         }
     }
+}
+
+/// The places of pins, which a record has without their loads; numbers left over stay.
+fn places(pins: &[i32]) -> Vec<i32> {
+    let place = |pin: &[i32]| pin[..pin.len().min(2)].to_vec();
+    pins.chunks(3).flat_map(place).collect()
 }
 
 /// The nets of examples/nets, by name.
@@ -114,7 +124,7 @@ fn at_the_bounds() -> [(&'static str, Lists); 8] {
     let row = |count: i32| (0..count).flat_map(|i| [i, 0, i + 1, 1]).collect();
     let apart = (0..64).flat_map(|i| [3 + 6 * i, 0, 6 + 6 * i, 2]).collect();
     let lists = |pins: &[i32], macros: Vec<i32>| Lists {
-        pins: pins.to_vec(),
+        pins: unloaded(pins),
         macros,
         ..Lists::default()
     };

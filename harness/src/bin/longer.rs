@@ -3,8 +3,8 @@
 
 use harness::library;
 use reference::best::{edge_numbers, WORK};
-use reference::lists::Lists;
-use reference::net::{check, Weights};
+use reference::lists::{unloaded, Lists};
+use reference::net::{check, Net, Weights};
 use reference::random::Random;
 
 /// An allowed net of m pins and k macros on a square of 1,000 units.
@@ -17,9 +17,10 @@ fn net(random: &mut Random, m: usize, k: usize) -> Lists {
         let (pins, macros, weights) = lists.parts();
         check(pins, macros, weights).is_ok()
     };
-    while lists.pins.len() < 2 * m {
+    while lists.pins.len() < Net::PIN_NUMBERS * m {
         let before = lists.pins.len();
-        lists.pins.extend([0; 2].map(|_| random.between(0, 1_000)));
+        let place = [0; 2].map(|_| random.between(0, 1_000));
+        lists.pins.extend(unloaded(&place));
         if !whole(&lists) {
             lists.pins.truncate(before);
         }
@@ -39,7 +40,10 @@ fn net(random: &mut Random, m: usize, k: usize) -> Lists {
 /// What the refined, the slid and a best tree cost.
 fn costs(lists: &Lists) -> [i64; 3] {
     let (pins, macros, weights) = lists.parts();
-    let (m, k) = (pins.len() / 2, macros.len() / 4);
+    let (m, k) = (
+        pins.len() / Net::PIN_NUMBERS,
+        macros.len() / Net::MACRO_NUMBERS,
+    );
     let mut edges = vec![0; 8 * (2 * m + 4 * k)];
     let refined = library::refined_tree(pins, macros, weights, &mut edges);
     let slid = library::slid_tree(pins, macros, weights, &mut edges);

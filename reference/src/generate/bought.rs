@@ -269,7 +269,7 @@ fn bare(net: &Net, edges: &[Edge], random: &mut Random) -> Option<Edge> {
 
 /// The net with one pin less.
 fn without_a_pin(net: &Net, random: &mut Random) -> Option<Net> {
-    let flat = |place: &Place| [place.x as i32, place.y as i32];
+    let flat = |place: &Place| [place.x as i32, place.y as i32, 0];
     let mut pins = net.pins().to_vec();
     pins.remove(random.below(pins.len()));
     let pins: Vec<i32> = pins.iter().flat_map(flat).collect();

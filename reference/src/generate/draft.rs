@@ -127,7 +127,7 @@ impl Draft {
             pins: self
                 .pins
                 .iter()
-                .flat_map(|p| [p.x as i32, p.y as i32])
+                .flat_map(|p| [p.x as i32, p.y as i32, 0])
                 .collect(),
             macros: self.macros.iter().flat_map(numbers).collect(),
             ..Lists::default()

@@ -9,7 +9,7 @@ use crate::random::Random;
 kinds! {
     /// A kind of hostile lists.
     Hostile {
-        PinsNotPairs "pins-not-pairs" "refused 11: an odd count of numbers in the pin list",
+        PinsNotThrees "pins-not-threes" "refused 11: a pin list that isn't whole threes",
         NoPins "no-pins" "refused 11: an empty pin list",
         ManyPins "many-pins" "refused 11: 129 pins or more",
         MacrosNotFours "macros-not-fours" "refused 12: a macro list that isn't whole fours",
@@ -25,6 +25,7 @@ kinds! {
         Several "several" "several faults at once: refused with the least number",
         Anything "anything" "lists of any lengths and numbers, most of them refused",
         WeightOutside "weight-outside" "refused 18: a weight outside 1 to 8",
+        LoadOutside "load-outside" "refused 13: a load below 0 or above 1,000,000",
     }
 }
 
@@ -80,9 +81,9 @@ fn faults(kind: Hostile, random: &mut Random) -> Vec<Hostile> {
 /// The refusal that a single fault is for.
 fn number(fault: Hostile) -> Option<u32> {
     match fault {
-        Hostile::PinsNotPairs | Hostile::NoPins | Hostile::ManyPins => Some(11),
+        Hostile::PinsNotThrees | Hostile::NoPins | Hostile::ManyPins => Some(11),
         Hostile::MacrosNotFours | Hostile::ManyMacros => Some(12),
-        Hostile::JustOutOfRange | Hostile::Extreme => Some(13),
+        Hostile::JustOutOfRange | Hostile::Extreme | Hostile::LoadOutside => Some(13),
         Hostile::FlatMacro | Hostile::InsideOut => Some(14),
         Hostile::PinTwice => Some(15),
         Hostile::MacroTwice | Hostile::Overlap => Some(16),
@@ -108,9 +109,18 @@ fn base(random: &mut Random) -> Lists {
 /// Works one fault into the lists.
 fn spoil(lists: &mut Lists, fault: Hostile, random: &mut Random) {
     match fault {
-        Hostile::PinsNotPairs => lists.pins.push(random.between(-9, 9)),
+        Hostile::PinsNotThrees => {
+            for _ in 0..random.between(1, 2) {
+                lists.pins.push(random.between(-9, 9));
+            }
+        }
         Hostile::NoPins => lists.pins.clear(),
-        Hostile::ManyPins => fill(&mut lists.pins, 2 * Net::PINS, 2, random),
+        Hostile::ManyPins => fill(
+            &mut lists.pins,
+            Net::PIN_NUMBERS * Net::PINS,
+            Net::PIN_NUMBERS,
+            random,
+        ),
         Hostile::MacrosNotFours => {
             for _ in 0..random.between(1, 3) {
                 lists.macros.push(random.between(-9, 9));
@@ -129,7 +139,9 @@ fn spoil(lists: &mut Lists, fault: Hostile, random: &mut Random) {
         Hostile::FlatMacro => add_flat(lists, random),
         Hostile::InsideOut => add_inside_out(lists, random),
         Hostile::PinTwice => {
-            let pin = entry(&lists.pins, 2, random);
+            // "Whatever the load."
+            let mut pin = entry(&lists.pins, Net::PIN_NUMBERS, random);
+            pin[2] = random.choose(&[pin[2], 0, 1, Net::LOAD]);
             insert(&mut lists.pins, &pin, random);
         }
         Hostile::MacroTwice => {
@@ -142,9 +154,14 @@ fn spoil(lists: &mut Lists, fault: Hostile, random: &mut Random) {
             // from all others.
             let x = random.between(100, 200);
             insert(&mut lists.macros, &[x, 0, x + 2, 2], random);
-            insert(&mut lists.pins, &[x + 1, 1], random);
+            insert(&mut lists.pins, &[x + 1, 1, 0], random);
         }
         Hostile::WeightOutside => lists.weights = weights::outside(random),
+        Hostile::LoadOutside => {
+            let pin = random.below(lists.pins.len() / Net::PIN_NUMBERS);
+            lists.pins[pin * Net::PIN_NUMBERS + 2] =
+                random.choose(&[-1, Net::LOAD + 1, i32::MIN, i32::MAX]);
+        }
         Hostile::Several | Hostile::Anything => unreachable!("these are no single fault"),
     }
 }
@@ -226,7 +243,7 @@ fn replace(lists: &mut Lists, number: i32, random: &mut Random) {
 fn anything(random: &mut Random) -> Lists {
     let tame = random.one_in(2);
     let (pins, macros) = if tame {
-        (random.choose(&[2, 4, 6]), random.choose(&[0, 4, 8, 12]))
+        (random.choose(&[3, 6, 9]), random.choose(&[0, 4, 8, 12]))
     } else {
         (random.choose(&LENGTHS), random.choose(&LENGTHS))
     };
@@ -239,13 +256,15 @@ fn anything(random: &mut Random) -> Lists {
     };
     if tame {
         lists.macros.chunks_exact_mut(4).for_each(put_upright);
+        let loads = lists.pins.iter_mut().skip(2).step_by(Net::PIN_NUMBERS);
+        loads.for_each(|load| *load = load.saturating_abs());
     }
     lists
 }
 
 /// Lengths about whole entries and about the bounds, and one beyond all of them.
 const LENGTHS: [usize; 19] = [
-    0, 1, 2, 3, 4, 5, 6, 7, 8, 12, 255, 256, 257, 258, 511, 512, 513, 516, 1_000,
+    0, 1, 2, 3, 4, 5, 6, 7, 9, 12, 383, 384, 385, 387, 511, 512, 513, 516, 1_000,
 ];
 
 /// Left not above right and bottom not above top.

@@ -1,14 +1,15 @@
 //! The same net with its lists in another order; the weights have none.
 
 use crate::lists::Lists;
+use crate::net::Net;
 use crate::random::Random;
 
 /// The entries of both lists in another order; lists must be whole entries.
 pub fn permuted(lists: &Lists, seed: u64) -> Lists {
     let mut random = Random::new(seed);
     Lists {
-        pins: shuffled(&lists.pins, 2, &mut random),
-        macros: shuffled(&lists.macros, 4, &mut random),
+        pins: shuffled(&lists.pins, Net::PIN_NUMBERS, &mut random),
+        macros: shuffled(&lists.macros, Net::MACRO_NUMBERS, &mut random),
         weights: lists.weights,
     }
 }

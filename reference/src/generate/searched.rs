@@ -3,7 +3,7 @@
 use super::draft::Draft;
 use super::nets;
 use crate::lists::Lists;
-use crate::net::{check, Weights};
+use crate::net::{check, Net, Weights};
 use crate::random::Random;
 use crate::refined::{refined, Statistics};
 
@@ -36,16 +36,17 @@ pub fn dropped_wins(random: &mut Random, weights: Weights) -> Lists {
     });
     let stretch = random.choose(&[1, 2, 30_000 / weights.x.max(weights.y)]);
     let (right, up) = (random.between(-999, 999), random.between(-999, 999));
-    let moved = |list: &[i32]| {
-        let axes = [(weights.y, right), (weights.x, up)].into_iter().cycle();
-        list.iter()
-            .zip(axes)
-            .map(|(c, (weight, by))| c * stretch * weight + by)
-            .collect()
-    };
+    let across = |x: i32| x * stretch * weights.y + right;
+    let along = |y: i32| y * stretch * weights.x + up;
+    let pin = |pin: &[i32]| [across(pin[0]), along(pin[1]), pin[2]];
+    let sides = |m: &[i32]| [across(m[0]), along(m[1]), across(m[2]), along(m[3])];
     Lists {
-        pins: moved(&lists.pins),
-        macros: moved(&lists.macros),
+        pins: lists.pins.chunks(Net::PIN_NUMBERS).flat_map(pin).collect(),
+        macros: lists
+            .macros
+            .chunks(Net::MACRO_NUMBERS)
+            .flat_map(sides)
+            .collect(),
         weights,
     }
 }
@@ -85,10 +86,10 @@ pub fn bound_ends(random: &mut Random, weights: Weights) -> Lists {
 fn roughly_stretched(lists: &Lists, random: &mut Random, weights: Weights) -> Lists {
     let mut moved = |c: i32, stretch: i32| c * stretch + random.between(0, stretch - 1);
     let mut draft = Draft::default();
-    for pin in lists.pins.chunks_exact(2) {
+    for pin in lists.pins.chunks_exact(Net::PIN_NUMBERS) {
         draft.pin(moved(pin[0], weights.y), moved(pin[1], weights.x));
     }
-    for four in lists.macros.chunks_exact(4) {
+    for four in lists.macros.chunks_exact(Net::MACRO_NUMBERS) {
         let (left, bottom) = (moved(four[0], weights.y), moved(four[1], weights.x));
         let (right, top) = (moved(four[2], weights.y), moved(four[3], weights.x));
         draft.macro_box(left, bottom, right, top);

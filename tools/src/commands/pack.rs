@@ -7,8 +7,8 @@ use crate::streams::write;
 const HELP: &str = "\
 calzundi pack NET [FILE]: makes a net file of a net
 
-NET is text, one `pin x y` or `macro left bottom right top` a line and at most one `weights x y`, or a net file; for - it is standard
-input. Without FILE, or for -, the net file goes to standard output.
+NET is text, one `pin x y load` or `macro left bottom right top` a line and at most one `weights x y`, or a net file; for - it is standard
+input. A load of 0 may be left out. Without FILE, or for -, the net file goes to standard output.
 
     calzundi pack net.txt net.net
     calzundi pack net.txt | calzundi route -

@@ -8,8 +8,9 @@ use crate::text::print;
 const HELP: &str = "\
 calzundi unpack NET [TEXT]: writes a net as text
 
-NET is a net file or text; for - it is standard input. The text has one entry a line, `pin x y` or `macro left bottom right top`, in the
-order of the net, and a line `weights x y` where they are not both 1. Without TEXT, or for -, it goes to standard output.
+NET is a net file or text; for - it is standard input. The text has one entry a line, `pin x y load` or `macro left bottom right top`, in
+the order of the net, without the load where it is 0, and a line `weights x y` where they are not both 1. Without TEXT, or for -, it goes to
+standard output.
 
     calzundi unpack net.net net.txt
 

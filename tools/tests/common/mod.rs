@@ -6,7 +6,7 @@ use std::io::Write;
 use std::path::{Path, PathBuf};
 use std::process::{Command, Output, Stdio};
 
-use calzundi::Net;
+use calzundi::{Net, Pin};
 use reference::generate::Kind;
 use reference::lists::Lists;
 
@@ -97,12 +97,16 @@ pub fn example(name: &str) -> PathBuf {
 
 /// A generated net by the crate's own kind.
 pub fn made(lists: &Lists) -> Net {
-    let pins = lists.pins.chunks_exact(2).map(|p| (p[0], p[1]));
+    let pins = lists.pins.chunks_exact(3);
     let macros = lists
         .macros
         .chunks_exact(4)
         .map(|m| (m[0], m[1], m[2], m[3]));
-    Net::new(pins, macros).with_weights(lists.weights.x, lists.weights.y)
+    let net = Net::new([], macros).with_weights(lists.weights.x, lists.weights.y);
+    Net {
+        pins: pins.map(|p| Pin::new(p[0], p[1]).with_load(p[2])).collect(),
+        ..net
+    }
 }
 
 /// So many seeds of a kind, and one of those that take long to make or to route.

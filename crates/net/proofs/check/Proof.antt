@@ -65,10 +65,10 @@ past2 : (c : tie.Else2) → Past12 (w-of (start2 c)) (pins-of (start2 c)) (macro
 past2 c = record { past = past1 (c .before .before); passed = sym (c .before .macros-miscounted .ensures) ∙ c .if2 .left }
 
 past3 : (c : tie.Else3) → Past13-pins (w-of (start3 c)) (pins-of (start3 c)) (macros-of (start3 c))
-past3 c = record { past = past2 (c .before .before); passed = sym (c .before .any-out-of-range .ensures) ∙ c .if3 .left }
+past3 c = record { past = past2 (c .before .before); passed = sym (c .before .are-pins-out .ensures) ∙ c .if3 .left }
 
 past4 : (c : tie.Else4) → Past13 (w-of (start4 c)) (pins-of (start4 c)) (macros-of (start4 c))
-past4 c = record { past = past3 (c .before .before); passed = sym (c .before .any-out-of-range2 .ensures) ∙ c .if4 .left }
+past4 c = record { past = past3 (c .before .before); passed = sym (c .before .any-out-of-range .ensures) ∙ c .if4 .left }
 
 past5 : (c : tie.Else5) → Past14 (w-of (start5 c)) (pins-of (start5 c)) (macros-of (start5 c))
 past5 c = record { past = past4 (c .before .before); passed = sym (c .before .any-not-upright .ensures) ∙ c .if5 .left }
@@ -95,11 +95,11 @@ returns-2 c = sym (refuse-12 _ _ _ (past1 (c .before .before)) (sym (c .before .
 
 returns-3 : tie.Need-returns-3
 unfolding told number
-returns-3 c = sym (refuse-13-pins _ _ _ (past2 (c .before .before)) (sym (c .before .any-out-of-range .ensures) ∙ c .if3 .taken))
+returns-3 c = sym (refuse-13-pins _ _ _ (past2 (c .before .before)) (sym (c .before .are-pins-out .ensures) ∙ c .if3 .taken))
 
 returns-4 : tie.Need-returns-4
 unfolding told number
-returns-4 c = sym (refuse-13 _ _ _ (past3 (c .before .before)) (sym (c .before .any-out-of-range2 .ensures) ∙ c .if4 .taken))
+returns-4 c = sym (refuse-13 _ _ _ (past3 (c .before .before)) (sym (c .before .any-out-of-range .ensures) ∙ c .if4 .taken))
 
 returns-5 : tie.Need-returns-5
 unfolding told number

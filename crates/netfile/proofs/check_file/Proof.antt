@@ -2,23 +2,44 @@
 -- Assumes nothing.
 use mathlib.Core.Path.{_≡_, refl, sym, ap, ap₂, _∙_}
 use mathlib.Core.List.{List}
-use Prim.Native.Nat.{ℕ, _-_, _≤_}
+use Prim.Native.Nat.{ℕ, _*_, _-_, _≤_}
 use native.Mathlib.Omega.{arith}
 use lib.IntN.{ℤ, pos}
 use lib.ListN.{length, take, replicate}
 use denote.Ref.{now}
+use Rattle.lists.proofs.TestLaws.{by}
 use Rattle.plane.specs.declared.Weights.{Weights}
-use Rattle.netfile.specs.Sizes.{blockCount, fileBlocks, fileNumbers}
-use Rattle.netfile.specs.Read.{pinsIn, macrosIn, pinLength, macroLength, Sized, laidOut}
-use Rattle.netfile.proofs.SizeLaws.{pins-few, macros-few}
+use Rattle.net.specs.Bounds.{pinWidth}
+use Rattle.netfile.specs.Sizes.{blockCount, fileBlocks, fileNumbers, filePins}
+use Rattle.netfile.specs.Layout.{stored}
+use Rattle.netfile.specs.Read.{loadedIn, pinsIn, macrosIn, pinLength, macroLength, Sized, laidOut}
+use Rattle.netfile.proofs.SizeLaws.{fewer, pins-few, macros-few}
 use Rattle.netfile.proofs.ReadLaws.{part-of-over, over-long, blocks-few}
-use Rattle.netfile.proofs.AnswerLaws.{length-pins-in, length-macros-in}
+use Rattle.netfile.proofs.StoredLaws.{length-pins-in, long-with, long-alone, stored-within}
+use Rattle.netfile.proofs.AnswerLaws.{length-macros-in}
 use borrow.Author.Needs.{needs}
 use Rattle.netfile.proofs.check_file.Statement.{statement}
 use Rattle.netfile.proofs.check_file.Tie as tie
 
+-- the two tables
+abbrev pinZeros : List ℤ
+pinZeros = replicate filePins (pos 0)
+
 abbrev zeros : List ℤ
 zeros = replicate fileNumbers (pos 0)
+
+-- the pins of a file fit into the first
+fits-table : (bytes : List ℕ) → Sized bytes (pinLength bytes) (macroLength bytes) → length (pinsIn bytes) ≤ filePins
+fits-table bytes sized =
+    let few = pins-few _ _ (blocks-few bytes _ _ sized) in
+    by (loadedIn bytes)
+    (λ e. omega (arith, length-pins-in bytes, long-with bytes e, few))
+    (λ e. omega (arith, length-pins-in bytes, long-alone bytes e, few))
+
+-- and their file into the longest
+stored-blocks : (bytes : List ℕ) → blockCount (pinLength bytes) (macroLength bytes) ≤ fileBlocks
+    → blockCount (length (stored (pinsIn bytes) .numbers)) (macroLength bytes) ≤ fileBlocks
+stored-blocks bytes few = omega (arith, fewer _ _ (stored-within bytes))
 
 -- the tables after the lists were taken: as long as they were, and the lists stand at their beginnings
 module _ (t : tie.After-take-lists) where
@@ -31,18 +52,21 @@ module _ (t : tie.After-take-lists) where
   few : blockCount (pinLength bytes) (macroLength bytes) ≤ fileBlocks
   few = blocks-few bytes _ _ sized
 
-  pins-long : length (t .take-lists .last .1 .0) ≡ fileNumbers
-  pins-long =
-      over-long _ _ zeros fileNumbers (t .take-lists .ensures .0) (omega (arith, length-pins-in bytes, pins-few _ _ few)) refl
+  pins-fit : length (pinsIn bytes) ≤ filePins
+  pins-fit = fits-table bytes sized
+
+  pins-long : length (t .take-lists .last .1 .0) ≡ filePins
+  pins-long = over-long _ _ pinZeros filePins (t .take-lists .ensures .0) pins-fit refl
 
   macros-long : length (t .take-lists .last .1 .1 .0) ≡ fileNumbers
   macros-long =
       over-long _ _ zeros fileNumbers (t .take-lists .ensures .1) (omega (arith, length-macros-in bytes, macros-few _ _ few)) refl
 
-  pins-part : take (t .before .before .before .before .pin-length .result - 0) (t .take-lists .last .1 .0) ≡ pinsIn bytes
-  pins-part =
-      part-of-over _ _ zeros _ (t .take-lists .ensures .0)
-      (length-pins-in bytes ∙ sym (t .before .before .before .before .pin-length .ensures))
+  pins-counted : length (pinsIn bytes) ≡ t .before .before .before .before .head-word .result * pinWidth
+  pins-counted = length-pins-in bytes ∙ ap (λ (n : ℕ). n * pinWidth) (sym (t .before .before .before .before .head-word .ensures .0))
+
+  pins-part : take (t .before .before .before .before .head-word .result * pinWidth - 0) (t .take-lists .last .1 .0) ≡ pinsIn bytes
+  pins-part = part-of-over _ _ pinZeros _ (t .take-lists .ensures .0) pins-counted
 
   macros-part : take (t .before .before .before .macro-length .result - 0) (t .take-lists .last .1 .1 .0) ≡ macrosIn bytes
   macros-part =
@@ -54,14 +78,13 @@ weights-in-requires c κs = (omega (arith, c .before .pre .0 .fit), c .before .p
 
 take-lists-requires : tie.Need-take-lists-requires
 take-lists-requires c κs =
-    let s = c .before .before .before .before .before .before .pre .0 in
-    let f = blocks-few _ _ _ s in
-    (s, (pins-few _ _ f, macros-few _ _ f))
+    let s = c .before .before .before .before .before .before in
+    (s .pre .0, (fits-table (now (s .args .bytes)) (s .pre .0), macros-few _ _ (blocks-few _ _ _ (s .pre .0))))
 
 part-check-lists-end : tie.Need-part-check-lists-end
 part-check-lists-end c =
     let t = c .before .before .before in
-    omega (arith, pins-few _ _ (few t), pins-long t)
+    omega (arith, pins-fit t, pins-counted t, pins-long t)
 
 part-check-lists-end-2 : tie.Need-part-check-lists-end-2
 part-check-lists-end-2 c =
@@ -71,7 +94,7 @@ part-check-lists-end-2 c =
 check-lists-requires : tie.Need-check-lists-requires
 check-lists-requires c κs =
     let t = c .before .before .before .before .before .before in
-    rw (ap length (pins-part t) ∙ length-pins-in _, ap length (macros-part t) ∙ length-macros-in _) (sized t)
+    rw (pins-part t, ap length (macros-part t) ∙ length-macros-in _) (stored-blocks (bytes t) (few t))
 
 returns : tie.Need-returns
 returns c =
@@ -87,6 +110,7 @@ check-file-spec =
     (tie.spec
     weights-in-requires
     (λ c κs. search needs)
+    (λ c. search needs)
     (λ c κs. search needs)
     (λ c. search needs)
     (λ c. search needs)

@@ -8,8 +8,9 @@ use denote.Ref.{now}
 use Rattle.lent.specs.Over.{over}
 use Rattle.netfile.specs.Sizes.{blocksFor}
 use Rattle.netfile.specs.Read.{Sized}
+use Rattle.netfile.proofs.SizeLaws.{pins-few}
 use Rattle.netfile.proofs.ReadLaws.{blocks-few}
-use Rattle.netfile.proofs.AnswerLaws.{pins-taken, macros-taken}
+use Rattle.netfile.proofs.AnswerLaws.{macros-taken}
 use borrow.Author.Needs.{needs}
 use Rattle.netfile.proofs.take_lists.Statement.{statement}
 use Rattle.netfile.proofs.take_lists.Tie as tie
@@ -19,19 +20,20 @@ sized : (c : tie.After-macro-length) → Sized (now (c .before .before .before .
     (c .macro-length .result)
 sized c = rw (c .before .pin-length .ensures, c .macro-length .ensures) (c .before .before .before .pre .0)
 
--- the blocks of other counts would be known here too: a wrong count is refused by `returns`, for what it gives
-take-numbers-requires : tie.Need-take-numbers-requires
-unfolding blocksFor
-take-numbers-requires c κs = (omega (arith, sized (c .before) .fit), omega arith)
+take-pins-requires : tie.Need-take-pins-requires
+take-pins-requires c κs =
+    let s = c .before .before .before .before in
+    let f = blocks-few (now (s .args .bytes)) _ _ (s .pre .0) in
+    (omega (arith, s .pre .0 .fit), (pins-few _ _ f, s .pre .1 .0))
 
 add-take-numbers : tie.Need-add-take-numbers
 add-take-numbers c =
     let h = c .before .before .before .before in
     omega (arith, blocks-few (now (h .before .before .before .args .bytes)) _ _ (sized h))
 
-take-numbers-requires-2 : tie.Need-take-numbers-requires-2
+take-numbers-requires : tie.Need-take-numbers-requires
 unfolding blocksFor
-take-numbers-requires-2 c κs = (omega (arith, sized (c .before .before .before .before .before) .fit), omega arith)
+take-numbers-requires c κs = (omega (arith, sized (c .before .before .before .before .before) .fit), omega arith)
 
 returns : tie.Need-returns
 returns c =
@@ -41,8 +43,8 @@ returns c =
     let h = p .before .before in
     let a = h .before .before .before .args in
     let m = h .before .pin-length .ensures in (
-      p .take-numbers .ensures ∙ ap (λ (l : List ℤ). over l (now (a .pins))) (pins-taken (now (a .bytes)) _ m),
-      q .take-numbers2 .ensures
+      p .take-pins .ensures,
+      q .take-numbers .ensures
           ∙ ap (λ (l : List ℤ). over l (now (a .macros)))
           (macros-taken (now (a .bytes)) _ _ _ m (h .macro-length .ensures) (b .blocks-for .ensures)),
     )
@@ -53,10 +55,10 @@ take-lists-spec =
     (tie.spec
     (λ c κs. search needs)
     (λ c κs. search needs)
-    take-numbers-requires
+    take-pins-requires
     (λ c κs. search needs)
     add-take-numbers
-    take-numbers-requires-2
+    take-numbers-requires
     (λ c. search needs)
     (λ c. search needs)
     returns)
