@@ -9,10 +9,10 @@
  *
  * A net is two lists of 32-bit numbers and two weights. `pins` has three numbers for each of its m pins (x, y, load), `macros` four for
  * each of its k macros (left, bottom, right, top). A load is a whole number from 0 to 1,000,000, in units of capacitance; no tree, wire,
- * price or distance depends on it, and only a net file keeps it. Any two lists of any length may be handed over. A list is a pointer and
- * the count of numbers behind it, not of entries: three pins are nine numbers. Write n for m + 4k. The weights, weight_x and weight_y, are what
- * a unit of metal costs along either axis: whole numbers from 1 to 8, 1 and 1 for a machine whose stage is as quick in y as in x. Any two
- * may be handed over.
+ * price or distance depends on it; delays do, and a net file keeps it. Any two lists of any length may be handed over. A list is a pointer
+ * and the count of numbers behind it, not of entries: three pins are nine numbers. Write n for m + 4k. The weights, weight_x and weight_y,
+ * are what a unit of metal costs along either axis: whole numbers from 1 to 8, 1 and 1 for a machine whose stage is as quick in y as in x.
+ * Any two may be handed over.
  *
  *
  * Cost and metal
@@ -44,8 +44,8 @@
  *              for an empty one. No other pointer is null; those to counts and the like never are, whatever the answer.
  *   length     Behind every other pointer stands as much as its count says. Nothing past it is touched, and lists are only read. What
  *              lent space held before does not matter.
- *   alignment  Every other pointer is aligned for its type: 4 bytes for int32_t and uint32_t, 8 for int64_t, uint64_t and size_t, 1 for
- *              bytes. One that is not is outside what is proved, also where x86-64 lets it pass.
+ *   alignment  Every other pointer is aligned for its type: 4 bytes for int32_t and uint32_t, 8 for int64_t, uint64_t, double and size_t,
+ *              1 for bytes. One that is not is outside what is proved, also where x86-64 lets it pass.
  *   overlap    What is lent to be written, counts and the like included, overlaps nothing else that is handed over. Lists may overlap
  *              each other.
  *   threads    While a call runs, nobody else writes its lists, and nobody else reads or writes what is lent to it. Calls at the same
@@ -58,7 +58,7 @@
 #define CALZUNDI_H
 
 /* The version. It stands here and nowhere else; the tools take it from this line, and each change request raises the second number. */
-#define CALZUNDI_VERSION "1.12"
+#define CALZUNDI_VERSION "1.13"
 
 #include <stddef.h>
 #include <stdint.h>
@@ -102,6 +102,7 @@ extern "C" {
 #define CALZUNDI_SLID_NUMBERS(m, k) (8 * (CALZUNDI_POINTS(m, k) + (m)))
 #define CALZUNDI_WIRE_NUMBERS(m, k) (8 * (CALZUNDI_POINTS(m, k) + (m)))
 #define CALZUNDI_DISTANCE_NUMBERS(m) ((m) * (m))
+#define CALZUNDI_DELAY_NUMBERS(m) (m)
 #define CALZUNDI_BEST_NUMBERS(m, k) (4 * ((m) + 2 * (k)) * ((m) + 2 * (k)))
 
 /* A net file is 1 to 10 blocks of 512 bytes: a head, a block for each 60 pins begun, or for each 40 where a pin has a load above 0, and one
@@ -136,6 +137,9 @@ enum calzundi_refusal {
     CALZUNDI_NOT_A_TREE = 35,       /* the edges and the pins are not one tree, or a point with a single edge is no pin */
     CALZUNDI_GRID_SIZE = 36,        /* above 16 pins or 16 macros, for distances on the grid */
     CALZUNDI_BAND_ORDER = 37,       /* a band's limit is not above the one before it, or its rate is below */
+    CALZUNDI_TECHNOLOGY = 38,       /* a resistance or capacitance is not finite, or not above zero */
+    CALZUNDI_DRIVER = 39,           /* the driver is no pin */
+    CALZUNDI_DELAY_NOT_FINITE = 40, /* a delay is not finite */
     CALZUNDI_BEST_SIZE = 41         /* above 5 pins or 16 macros, for a best tree */
 };
 
@@ -167,6 +171,9 @@ static inline const char *calzundi_refusal_text(int32_t number)
     case CALZUNDI_NOT_A_TREE: return "the edges and the pins are not one tree, or a point with a single edge is no pin";
     case CALZUNDI_GRID_SIZE: return "there are more than 16 pins or more than 16 macros";
     case CALZUNDI_BAND_ORDER: return "a band's limit is not above the one before it, or its rate is below";
+    case CALZUNDI_TECHNOLOGY: return "a resistance or capacitance is not finite, or not above zero";
+    case CALZUNDI_DRIVER: return "the driver is no pin";
+    case CALZUNDI_DELAY_NOT_FINITE: return "a delay is not finite";
     case CALZUNDI_BEST_SIZE: return "there are more than 5 pins or more than 16 macros";
     default: return "no refusal has this number";
     }
@@ -287,6 +294,25 @@ int32_t calzundi_wires(const int32_t *pins, size_t pin_numbers, const int32_t *m
  */
 int32_t calzundi_grid_distances(const int32_t *pins, size_t pin_numbers, const int32_t *macros, size_t macro_numbers,
                                 int32_t weight_x, int32_t weight_y, int64_t *table, size_t table_numbers, size_t *count);
+
+/*
+ * Delay: the Elmore delay of the refined tree from a driver to each pin. Rooted at the driver, a point's capacitance is its load (0 if no
+ * pin) plus, child by child in the order of places, the child's capacitance added to that of the edge. A child's delay is its parent's plus
+ * the edge's resistance times (half the edge's capacitance plus the child's capacitance). Edge values are the technology's number times
+ * plain length. Each operation rounds once, in the order written, as IEEE 754 has it for 64 bits and to the nearest: the caller has not
+ * set another rounding, and subnormal numbers are kept.
+ *
+ * driver_x, driver_y       the place of the driver, which is a pin; its own delay is 0
+ * resistance, capacitance  the technology, for each unit of length: both finite and above zero
+ * delays                   lent, at least CALZUNDI_DELAY_NUMBERS(m) of 64-bit floats: a delay for each pin in the order of places (by x,
+ *                          then by y)
+ * count                    how many delays were given, m
+ *
+ * Refusals: 11 to 18, then 21, then 38, then 39, then 40.
+ */
+int32_t calzundi_delay(const int32_t *pins, size_t pin_numbers, const int32_t *macros, size_t macro_numbers, int32_t weight_x,
+                       int32_t weight_y, int32_t driver_x, int32_t driver_y, double resistance, double capacitance, double *delays,
+                       size_t delay_numbers, size_t *count);
 
 /*
  * Price: what a bureau charges for the metal to lay, which is the sum of the refined tree's plain lengths.

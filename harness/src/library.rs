@@ -4,6 +4,7 @@
 pub use calzundi::lent::bare::*;
 use calzundi::lent::{self, Lists};
 use calzundi::Refusal;
+use reference::delay::Technology;
 use reference::net::Weights;
 
 /// The number that document 01 has for a refusal.
@@ -114,6 +115,28 @@ pub fn grid_distances(
     table: &mut [i64],
 ) -> Result<usize, u32> {
     lent::grid_distances(lists(pins, macros, weights), table).map_err(number)
+}
+
+/// "Delay to each pin": how many delays were given.
+pub fn delay(
+    pins: &[i32],
+    macros: &[i32],
+    weights: Weights,
+    driver: (i32, i32),
+    technology: Technology,
+    delays: &mut [f64],
+) -> Result<usize, u32> {
+    let (x, y) = driver;
+    let Technology {
+        resistance,
+        capacitance,
+    } = technology;
+    let technology = calzundi::Technology {
+        resistance,
+        capacitance,
+    };
+    let driver = calzundi::Place { x, y };
+    lent::delay(lists(pins, macros, weights), driver, technology, delays).map_err(number)
 }
 
 /// "Price on the job card": the charge, in hundredths of the currency.

@@ -5,14 +5,14 @@ use std::fmt::{self, Debug};
 use std::thread;
 
 use reference::generate::{
-    bands, damaged_loaded, damaged_weighted, hostile_weighted, loaded, permuted, weighted,
-    BandList, Damage, Hostile, Kind,
+    bands, damaged_loaded, damaged_weighted, driver, hostile_weighted, loaded, permuted,
+    technology, weighted, BandList, Damage, Hostile, Kind,
 };
 use reference::lists::Lists;
 use reference::net::{Net, Weights};
 use reference::random::Random;
 use reference::refined::refined;
-use reference::{grid, net as second, netfile, operations, price, text};
+use reference::{delay, grid, net as second, netfile, operations, price, text};
 
 use crate::library;
 
@@ -148,6 +148,24 @@ pub fn on_grid(seed: u64) -> Case {
             .take(Net::MACRO_NUMBERS * grid::MACROS)
             .collect(),
         weights: case.lists.weights,
+    };
+    Case { lists, ..case }
+}
+
+/// Up to nine pins and six macros of the allowed nets, with loads in two of three.
+pub fn few(seed: u64) -> Case {
+    let case = allowed(seed);
+    let random = &mut Random::new(seed ^ 0xfe3);
+    let (m, k) = (1 + random.below(9), random.below(7));
+    let cut = |list: &[i32], numbers: usize| list.iter().copied().take(numbers).collect();
+    let lists = Lists {
+        pins: cut(&case.lists.pins, Net::PIN_NUMBERS * m),
+        macros: cut(&case.lists.macros, Net::MACRO_NUMBERS * k),
+        weights: case.lists.weights,
+    };
+    let lists = match random.one_in(3) {
+        true => lists,
+        false => loaded(&lists, seed),
     };
     Case { lists, ..case }
 }
@@ -389,6 +407,51 @@ impl Case {
             |bits| bits as i64,
             [library::grid_distances, operations::grid_distances],
         )
+    }
+
+    /// "Delay to each pin", from a driver and by a technology of all sorts, bit for bit; and the proved one once more with the lists in another
+    /// order. The answer with enough space.
+    pub fn delay(&self) -> Result<Result<usize, u32>, Box<Difference>> {
+        let random = &mut Random::new(self.seed ^ 0xde1a);
+        let (driver, technology) = (driver(random, &self.lists), technology(random));
+        let (asked, longer) = (self.pins(), random.choose(&[0, 0, 1, 40]));
+        let short = random.choose(&[0, asked / 2, asked.saturating_sub(1)]);
+        let turned = self.turned();
+        let (pins, macros, weights) = self.lists.parts();
+        let tree = second::check(pins, macros, weights).map(|net| (refined(&net).edges, net));
+        let at = reference::net::Place {
+            x: driver.0.into(),
+            y: driver.1.into(),
+        };
+        let mut answers = Vec::new();
+        for lent in [asked + longer, short] {
+            let space = || Lent::of(&mut Random::new(self.seed), lent, f64::from_bits);
+            let bits = |space: Lent<f64>| space.numbers.into_iter().map(f64::to_bits).collect();
+            let given = match &tree {
+                Ok((edges, net)) => delay::of_net(net, edges, at, technology, lent),
+                Err(refusal) => Err(*refusal),
+            };
+            let mut theirs = space();
+            for (number, delay) in theirs.part().iter_mut().zip(given.iter().flatten()) {
+                *number = *delay;
+            }
+            let given = given.map(|delays| delays.len());
+            let theirs: Vec<u64> = bits(theirs);
+            let expected = said(given, &[theirs]);
+            for case in [self, &turned] {
+                let (pins, macros, weights) = case.lists.parts();
+                let mut ours = space();
+                let answer = library::delay(pins, macros, weights, driver, technology, ours.part());
+                let ours: Vec<u64> = bits(ours);
+                case.same("delay", said(answer, &[ours]), expected.clone())
+                    .map_err(|mut difference| {
+                        difference.input += &format!("# driver {driver:?} {technology:?}\n");
+                        difference
+                    })?;
+            }
+            answers.push(given);
+        }
+        Ok(answers[0])
     }
 
     /// "Price on the job card", by a list of bands of each kind in turn, made for the net's metal where it has any. The answer.

@@ -156,6 +156,10 @@ fn null_with_a_count_of_zero() {
         ("wires(NULL, 0, NULL, 0, 1, 1, NULL, 0, &a)", 11),
         ("grid_distances(NULL, 0, NULL, 0, 1, 1, NULL, 0, &a)", 11),
         (
+            "delay(NULL, 0, NULL, 0, 1, 1, 5, 5, 1.0, 1.0, NULL, 0, &a)",
+            11,
+        ),
+        (
             "best_tree(NULL, 0, NULL, 0, 1, 1, NULL, 0, NULL, 0, &a, &t, &l)",
             11,
         ),
@@ -177,6 +181,22 @@ fn null_with_a_count_of_zero() {
         ("wires(pin, 3, NULL, 0, 1, 1, NULL, 0, &a)", 21),
         ("grid_distances(pin, 3, NULL, 0, 1, 1, NULL, 0, &a)", 21),
         (
+            "delay(pin, 3, NULL, 0, 1, 1, 5, 5, 1.0, 1.0, NULL, 0, &a)",
+            21,
+        ),
+        (
+            "delay(pin, 3, NULL, 0, 1, 1, 5, 6, 1.0, -0.0, &d, 1, &a)",
+            38,
+        ),
+        (
+            "delay(pin, 3, NULL, 0, 1, 1, 5, 6, 1.0, 1.0, &d, 1, &a)",
+            39,
+        ),
+        (
+            "delay(two, 6, NULL, 0, 1, 1, 5, 5, 1.0, 1e308, e, 2, &a)",
+            40,
+        ),
+        (
             "best_tree(pin, 3, NULL, 0, 1, 1, NULL, 0, NULL, 0, &a, &t, &l)",
             21,
         ),
@@ -195,6 +215,7 @@ fn null_with_a_count_of_zero() {
     calzundi_length c = 7, t = 7, l = 7;
     size_t a = 7, b = 7;
     uint64_t h = 7;
+    double d = 7, e[2] = {7, 7};
     int32_t x = 7, y = 7;\n",
     );
     let mut expected = String::new();
@@ -202,6 +223,8 @@ fn null_with_a_count_of_zero() {
         lines += &format!("    printf(\"%d\\n\", (int)calzundi_{call});\n");
         expected += &format!("{number}\n");
     }
+    lines += "    printf(\"%g %g %g\\n\", d, e[0], e[1]);\n";
+    expected += "7 7 7\n";
     lines += "    printf(\"%d %d %d %d %d %d %d\\n\", (int)a, (int)b, (int)t, (int)l, (int)h, (int)x, (int)y);\n";
     expected += "7 7 7 7 7 7 7\n";
     assert_eq!(printed("nulls", &lines), expected);
@@ -226,4 +249,17 @@ fn the_weighed_net_from_c() {
 ";
     let expected = "0 4 11 7\n0 1024 0 3\n0 4 0 1 3\n";
     assert_eq!(printed("weighed", lines), expected);
+}
+
+/// Four pins in a row by the header's call: the delay at the second is 1 + 2^-52.
+#[test]
+fn delays_from_c() {
+    let lines = "    const int32_t pins[12] = {2, 0, 0, 0, 0, 1, -1, 0, 0, 1, 0, 0};
+    double delays[CALZUNDI_DELAY_NUMBERS(4)];
+    size_t count = 0;
+    int code = (int)calzundi_delay(pins, 12, NULL, 0, 1, 1, -1, 0, 1.0, 1.0 / 9007199254740992.0, delays, 4, &count);
+    printf(\"%d %d %a %a %a\\n\", code, (int)count, delays[0], delays[1], delays[3]);
+    printf(\"%s\\n\", calzundi_refusal_text(40));\n";
+    let expected = "0 4 0x0p+0 0x1.0000000000001p+0 0x1.0000000000002p+0\na delay is not finite\n";
+    assert_eq!(printed("delays", lines), expected);
 }

@@ -1,4 +1,4 @@
-//! Loads on pins [11]: the worked cases of both programs, and that loads change nothing but a net's file.
+//! Loads on pins [11]: the worked cases of both programs, and that loads change nothing but a net's file and delays.
 
 use harness::library;
 use harness::matching::{Case, File, Matched};

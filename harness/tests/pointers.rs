@@ -669,6 +669,39 @@ fn distances_within_their_space() {
     }
 }
 
+/// Delays, into space that ends at the fence: nothing past it is touched, given or refused.
+#[test]
+fn delays_within_their_space() {
+    fn delays(p: List<i32>, q: List<i32>, r: f64, d: Space<f64>) -> Answer {
+        let mut count = COUNT;
+        let code = unsafe {
+            library::calzundi_delay(p.0, p.1, q.0, q.1, 1, 1, 0, 1, r, 1.0, d.0, d.1, &mut count)
+        };
+        answer(code, &[count])
+    }
+    for at in [At::Front, At::Back] {
+        let pins = Fenced::of(&[1, 0, 0, 1, 3, 8, 0, 1, 2, 2, 2, 5], at).read_only();
+        let mut exact = Fenced::of(&[7f64; 4], at);
+        let given = delays(pins.list(), none(), 1.0, exact.space());
+        assert_eq!(given, answer(0, &[4]));
+        for (r, code) in [(0.0, 38), (f64::MAX, 40)] {
+            let mut space = Fenced::of(&[7f64; 4], at);
+            let refused = delays(pins.list(), none(), r, space.space());
+            assert_eq!(refused, answer(code, &[COUNT]));
+            // SAFETY: the space is of four floats, and nobody else holds it.
+            let kept = unsafe { slice::from_raw_parts(space.space().0, 4) };
+            assert_eq!(kept, [7.0; 4]);
+        }
+        let mut short = Fenced::of(&[7f64; 3], at);
+        let refused = delays(pins.list(), none(), 1.0, short.space());
+        assert_eq!(refused, answer(21, &[COUNT]));
+    }
+    assert_eq!(
+        delays(none(), none(), 1.0, no_space()),
+        answer(11, &[COUNT])
+    );
+}
+
 // Best trees
 
 /// A best tree with fences about all that is handed over: work and edges as much as is asked for, one number less of either, and none.

@@ -7,6 +7,7 @@ use std::thread;
 use harness::matching::routed;
 use harness::{library, program};
 use reference::best;
+use reference::delay::Technology;
 use reference::generate::{net, weighted, Kind};
 use reference::lists::Lists;
 use reference::net::Weights;
@@ -30,6 +31,12 @@ fn call_all(lists: &Lists) {
     library::price(pins, macros, weights, &[u64::MAX, 1_000_000]).unwrap();
     let (few_pins, few_macros) = (&pins[..pins.len().min(48)], &macros[..macros.len().min(64)]);
     library::grid_distances(few_pins, few_macros, weights, &mut vec![0; 256]).unwrap();
+    let technology = Technology {
+        resistance: 1.0,
+        capacitance: 1.0,
+    };
+    let driver = (pins[0], pins[1]);
+    library::delay(pins, macros, weights, driver, technology, &mut vec![0.0; m]).unwrap();
     let (pins_five, mut work) = (&few_pins[..few_pins.len().min(15)], vec![0; best::WORK]);
     let mut edges = vec![0; best::edge_numbers(pins_five.len() / 3, few_macros.len() / 4)];
     library::best_tree(pins_five, few_macros, weights, &mut work, &mut edges).unwrap();

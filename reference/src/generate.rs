@@ -1,7 +1,8 @@
 //! Seeded nets, lists and files to match two routers on. Each is a pure function of seed and kind.
 //!
 //! `Kind` names allowed nets, `Hostile` pairs of lists to be refused, `Damage` net files that are
-//! not as they should be, `BandList` lists of bands and `Bought` lists of edges, hostile ones among them.
+//! not as they should be, `BandList` lists of bands and `Bought` lists of edges, hostile ones among them;
+//! `technology` and `driver` give both for delays.
 //!
 //! `net`, `hostile` and `damaged` give weights 1 and 1, and `weighted`, `hostile_weighted` and
 //! `damaged_weighted` the same kinds with weights of all sorts. All of these have loads of 0;
@@ -17,6 +18,7 @@ mod loads;
 mod nets;
 mod permuted;
 mod searched;
+mod technology;
 mod walls;
 mod weights;
 
@@ -27,6 +29,7 @@ pub use hostile::{hostile, hostile_weighted, refusal, Hostile};
 pub use loads::loaded;
 pub use nets::{half, net, weighted, Kind};
 pub use permuted::permuted;
+pub use technology::{driver, technology};
 pub use walls::chambers;
 
 /// An enum of kinds, each with a name for the command line and a line on what it gives. A macro,

@@ -8,6 +8,7 @@ pub mod answers;
 pub mod beside;
 pub mod best;
 pub mod bought;
+pub mod delay;
 pub mod edge;
 pub mod exhaustive;
 pub mod generate;

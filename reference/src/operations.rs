@@ -5,6 +5,7 @@
 
 use crate::best;
 use crate::bought;
+use crate::delay::{self, Technology};
 use crate::edge::Edge;
 use crate::graph;
 use crate::grid;
@@ -143,6 +144,27 @@ pub fn grid_distances(
     let distances = grid::distances(&net);
     let count = distances.len();
     lay(table, distances.into_iter());
+    Ok(count)
+}
+
+/// "Delay to each pin": 11 to 18, then 21, "new numbers, after 21: 38", 39 and 40. How many delays. The driver may be any place.
+pub fn delay(
+    pins: &[i32],
+    macros: &[i32],
+    weights: Weights,
+    driver: (i32, i32),
+    technology: Technology,
+    delays: &mut [f64],
+) -> Result<usize, u32> {
+    let net = net::check(pins, macros, weights)?;
+    let refined = refined::refined(&net);
+    let driver = Place {
+        x: driver.0.into(),
+        y: driver.1.into(),
+    };
+    let given = delay::of_net(&net, &refined.edges, driver, technology, delays.len())?;
+    let count = given.len();
+    lay(delays, given.into_iter());
     Ok(count)
 }
 

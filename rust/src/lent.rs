@@ -3,7 +3,7 @@
 //!
 //! This is the one file that knows how the library is called.
 
-use crate::{Refusal, Weights};
+use crate::{Place, Refusal, Technology, Weights};
 
 /// The bare calls, as include/calzundi.h declares them and with what it asks of pointers.
 pub mod bare {
@@ -141,6 +141,22 @@ pub mod bare {
             weight_y: i32,
             table: *mut i64,
             table_len: usize,
+            count: *mut usize,
+        ) -> i32;
+
+        pub fn calzundi_delay(
+            pins: *const i32,
+            pins_len: usize,
+            macros: *const i32,
+            macros_len: usize,
+            weight_x: i32,
+            weight_y: i32,
+            driver_x: i32,
+            driver_y: i32,
+            resistance: f64,
+            capacitance: f64,
+            delays: *mut f64,
+            delays_len: usize,
             count: *mut usize,
         ) -> i32;
 
@@ -442,6 +458,40 @@ pub fn grid_distances(lists: Lists, table: &mut [i64]) -> Result<usize, Refusal>
             weights.y,
             table.as_mut_ptr(),
             table.len(),
+            &mut count,
+        )
+    };
+    answer(code, &[count as u64], count)
+}
+
+/// Delay: how many delays were given, one for each pin in the order of places.
+pub fn delay(
+    lists: Lists,
+    driver: Place,
+    technology: Technology,
+    delays: &mut [f64],
+) -> Result<usize, Refusal> {
+    let Lists {
+        pins,
+        macros,
+        weights,
+    } = lists;
+    let mut count = UNTOUCHED as usize;
+    // SAFETY: as for `graph`.
+    let code = unsafe {
+        bare::calzundi_delay(
+            pins.as_ptr(),
+            pins.len(),
+            macros.as_ptr(),
+            macros.len(),
+            weights.x,
+            weights.y,
+            driver.x,
+            driver.y,
+            technology.resistance,
+            technology.capacitance,
+            delays.as_mut_ptr(),
+            delays.len(),
             &mut count,
         )
     };

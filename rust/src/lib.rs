@@ -1,6 +1,6 @@
 //! A tree router whose every answer is proved, from Rust.
 //!
-//! A [`Net`] is pins, macros and weights; its calls give trees, wires, distances, a net file or a price as values of their own, or check
+//! A [`Net`] is pins, macros and weights; its calls give trees, wires, distances, delays, a net file or a price as values of their own, or check
 //! the tree of another router, or give a [`Refusal`] that says why not. All the work is the static library's, of which every function is
 //! proved to do what the documents say; this crate only lends the space and sorts the numbers into structs, and is tested.
 //!
@@ -89,7 +89,7 @@ pub struct Place {
 pub struct Pin {
     /// Where it is.
     pub place: Place,
-    /// Its load in units of capacitance, 0 to [`LOAD`]. Of all answers only a net file has it.
+    /// Its load in units of capacitance, 0 to [`LOAD`]. Of all answers only delays depend on it, and a net file has it.
     pub load: i32,
 }
 
@@ -288,6 +288,24 @@ pub struct Band {
     pub rate: u64,
 }
 
+/// What a unit of length has, for delays: both numbers finite and above zero.
+#[derive(Clone, Copy, Debug, PartialEq)]
+pub struct Technology {
+    /// Resistance for each unit of length.
+    pub resistance: f64,
+    /// Capacitance for each unit of length, in the units of loads.
+    pub capacitance: f64,
+}
+
+/// A pin and the delay to it.
+#[derive(Clone, Copy, Debug, PartialEq)]
+pub struct PinDelay {
+    /// Where the pin is.
+    pub place: Place,
+    /// Its Elmore delay from the driver.
+    pub delay: f64,
+}
+
 /// Pins that are to be joined, macros that are in the way, and what metal costs along each axis.
 ///
 /// Any net can be made; a call says whether it is allowed. Answers are the same for every order of the lists; only a net file keeps it.
@@ -423,6 +441,19 @@ impl Net {
         Ok(table[..given]
             .chunks(m.max(1))
             .map(<[i64]>::to_vec)
+            .collect())
+    }
+
+    /// The Elmore delay of the refined tree from a driver, which is a pin, to each pin, in the order of places. Each operation rounds once,
+    /// in the order that the documents write it, so that the same call gives the same bits everywhere.
+    pub fn delays(&self, driver: Place, technology: Technology) -> Result<Vec<PinDelay>, Refusal> {
+        let mut numbers = vec![0.0; self.pins.len()];
+        let given = lent::delay(self.flat().lists(), driver, technology, &mut numbers)?;
+        let mut places: Vec<Place> = self.pins.iter().map(|pin| pin.place).collect();
+        places.sort_unstable();
+        let pairs = places.into_iter().zip(numbers).take(given);
+        Ok(pairs
+            .map(|(place, delay)| PinDelay { place, delay })
             .collect())
     }
 

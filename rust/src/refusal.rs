@@ -45,6 +45,12 @@ pub enum Refusal {
     GridSize,
     /// 37: a band's limit is not above the one before it, or its rate is below.
     BandOrder,
+    /// 38: a resistance or a capacitance is not finite, or not above zero.
+    Technology,
+    /// 39: the driver is no pin.
+    Driver,
+    /// 40: a delay is not finite.
+    DelayNotFinite,
     /// 41: more than 5 pins or 16 macros, of which no best tree is given.
     BestSize,
 }
@@ -71,6 +77,9 @@ impl Refusal {
         Refusal::NotATree,
         Refusal::GridSize,
         Refusal::BandOrder,
+        Refusal::Technology,
+        Refusal::Driver,
+        Refusal::DelayNotFinite,
         Refusal::BestSize,
     ];
 
@@ -120,6 +129,12 @@ impl Refusal {
                 37,
                 "a band's limit is not above the one before it, or its rate is below",
             ),
+            Refusal::Technology => (
+                38,
+                "a resistance or capacitance is not finite, or not above zero",
+            ),
+            Refusal::Driver => (39, "the driver is no pin"),
+            Refusal::DelayNotFinite => (40, "a delay is not finite"),
             Refusal::BestSize => (41, "there are more than 5 pins or more than 16 macros"),
         }
     }

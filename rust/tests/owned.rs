@@ -1,6 +1,6 @@
 //! The owned calls beside the second program, on nets of every kind, and refused nets of every kind.
 
-use calzundi::{Band, Edge, Net, Passed, Pin, Place, Refusal, Wire};
+use calzundi::{Band, Edge, Net, Passed, Pin, PinDelay, Place, Refusal, Technology, Wire};
 use reference::generate::{hostile_weighted as hostile, loaded, weighted as net, Hostile, Kind};
 use reference::lists::Lists;
 use reference::operations;
@@ -103,6 +103,25 @@ fn answers_are_the_second_programs() {
             let ends = |wire: &Wire| [wire.start.x, wire.start.y, wire.end.x, wire.end.y];
             let drawn: Vec<i32> = wires.iter().flat_map(ends).collect();
             assert_eq!(drawn, numbers[..4 * count], "{name}");
+
+            let (resistance, capacitance) = (0.03, 0.0002);
+            let technology = Technology {
+                resistance,
+                capacitance,
+            };
+            let delays = net.delays(net.pins[0].place, technology).unwrap();
+            let mut floats = vec![0.0; delays.len()];
+            let technology = reference::delay::Technology {
+                resistance,
+                capacitance,
+            };
+            let driver = (pins[0], pins[1]);
+            let count =
+                operations::delay(pins, macros, weights, driver, technology, &mut floats).unwrap();
+            assert_eq!(delays.len(), count, "{name}");
+            assert!(delays.is_sorted_by(|a, b| a.place < b.place), "{name}");
+            let same = |(ours, theirs): (&PinDelay, &f64)| ours.delay.to_bits() == theirs.to_bits();
+            assert!(delays.iter().zip(&floats).all(same), "{name}");
 
             let file = net.to_file().unwrap();
             let mut bytes = vec![0; calzundi::LONGEST_FILE];

@@ -5,6 +5,7 @@ pub mod bands;
 pub mod blame;
 pub mod blocks;
 pub mod commands;
+pub mod delay;
 pub mod fingerprint;
 pub mod line;
 pub mod picture;

@@ -64,14 +64,14 @@ impl Words {
 }
 
 impl Command {
-    /// Sorts the words of a command line. `--` ends the options.
+    /// Sorts the words of a command line. `--` ends the options, and a number below zero is none.
     fn words(&self, given: &[OsString]) -> Result<Words, Failure> {
         let mut words = Words::default();
         let mut given = given.iter();
         let mut plain = false;
         while let Some(word) = given.next() {
             let said = word.to_string_lossy();
-            if plain || said == "-" || !said.starts_with('-') {
+            if plain || !is_option(&said) {
                 words.files.push(word.clone());
                 continue;
             }
@@ -115,6 +115,12 @@ impl Command {
     }
 }
 
+/// Whether a word is an option: it begins with `-`, but is neither that alone nor a number below zero.
+fn is_option(word: &str) -> bool {
+    let rest = word.strip_prefix('-');
+    rest.is_some_and(|rest| !rest.is_empty() && !rest.starts_with(|c: char| c.is_ascii_digit()))
+}
+
 /// Whether one of some words stands in a command line, before `--`.
 fn asks(given: &[OsString], wanted: &[&str]) -> bool {
     let options = given.iter().take_while(|word| *word != "--");
@@ -131,11 +137,12 @@ calzundi COMMAND ..: a tree router whose every answer is proved
     slide NET              the slid tree: level and upright edges, whose bars have moved where that saves
     best NET               a best tree of up to 5 pins and 16 macros, and how much more the others cost
     verify NET TREE        whether a tree of another router passes for a net, and what it costs
-    draw NET [PICTURE]     a picture of both trees, as SVG; with --html a page to look into; --slid, --best, --tree
+    draw NET [PICTURE]     a picture of both trees, as SVG; with --html a page to look into; --slid, --best, --tree, --delay
     compare A B            whether two nets get the same metal, and its fingerprint
     batch NET..            a line for each of many nets; --csv, --jobs, --shard
     price NET BANDS        what a bureau charges for the metal
     distances NET          what metal between every two pins costs at least
+    delay NET DRIVER R C   the Elmore delay from a driver to each pin
     pack NET [FILE]        a net file of a net
     unpack NET [TEXT]      a net as text
 

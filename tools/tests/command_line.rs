@@ -355,6 +355,34 @@ fn fingerprints_are_of_wires() {
     }
 }
 
+/// `delay` prints a line for each pin in the order of places, in digits that are read back as the same bits; a driver or a number that
+/// begins with a minus is no option.
+#[test]
+fn delays_are_a_table() {
+    let row = b"pin 2 0\npin 0 0 1\npin -1 0\npin 1 0\n";
+    let tiny = "1.1102230246251565e-16";
+    let table =
+        "-1 0  0\n0 0   1.0000000000000002\n1 0   1.0000000000000004\n2 0   1.0000000000000004\n";
+    assert_eq!(printed(&["delay", "-", "-1,0", "1", tiny], row), table);
+    let halves = "-1 0  0\n0 0   3.5\n1 0   5\n2 0   5.5\n";
+    assert_eq!(printed(&["delay", "-", "-1,0", "1", "1"], row), halves);
+    for (words, line) in [
+        (
+            ["-1,0", "0", "-1"],
+            "refused 38: a resistance or capacitance is not finite, or not above zero\n  the resistance is 0\n  the capacitance is -1",
+        ),
+        (["-2,0", "1", "1"], "refused 39: the driver is no pin\n  no pin is at -2 0"),
+        (["-1,0", "1e308", "1e308"], "refused 40: a delay is not finite"),
+        (["-1,0", "NaN", "inf"], "refused 38: a resistance or capacitance is not finite, or not above zero\n  the resistance is NaN\n  the capacitance is inf"),
+    ] {
+        let wrong = said(&["delay", "-", words[0], words[1], words[2]], row, 1);
+        assert_eq!(wrong, format!("calzundi delay: standard input: {line}\n"));
+    }
+    for words in [["0", "1", "1"], ["0,0", "one", "1"], ["0,0", "1", ""]] {
+        said(&["delay", "-", words[0], words[1], words[2]], row, 2);
+    }
+}
+
 /// `distances` prints the cost between every two pins, the pins in the order of places; the graph's way between the third and the fourth is 5.
 #[test]
 fn distances_are_a_table() {
@@ -724,11 +752,19 @@ fn help_and_usage() {
             wrong.contains(&format!(": {missing} is missing; ")),
             "{wrong}"
         );
-        if command != "check" && command != "batch" {
+        if !["check", "batch", "delay"].contains(&command) {
             let wrong = said(&[command, "a", "b", "c", "d"], b"", 2);
             assert!(wrong.contains(": too many words; "), "{wrong}");
         }
-        if command != "batch" {
+        if command == "delay" {
+            let wrong = said(&[command, "no/such/file", "0,0", "1", "1"], b"", 1);
+            assert!(
+                wrong.starts_with("calzundi delay: no/such/file: "),
+                "{wrong}"
+            );
+            let wrong = said(&[command, "a", "b", "c", "d", "e"], b"", 2);
+            assert!(wrong.contains(": too many words; "), "{wrong}");
+        } else if command != "batch" {
             let words = [command, "no/such/file", "no/such/other"];
             let words = if ["route", "slide", "best", "distances"].contains(&command) {
                 &words[..2]

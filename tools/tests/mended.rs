@@ -17,6 +17,7 @@ fn words_of(command: &str) -> Vec<String> {
         "price" => vec![word(&root().join("examples/bands.txt")).to_string()],
         "verify" => vec![word(&root().join("examples/tree.txt")).to_string()],
         "batch" => vec!["--quiet".to_string()],
+        "delay" => ["0,0", "1", "1"].map(str::to_string).to_vec(),
         _ => vec![],
     };
     [vec![command.to_string(), net], more].concat()

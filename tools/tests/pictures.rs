@@ -5,7 +5,7 @@ mod common;
 
 use std::fs;
 
-use calzundi::Net;
+use calzundi::{Net, Technology};
 use common::{example, folder, made, printed, root, said, seeds, word};
 use reference::generate::{weighted as net, Kind};
 use tools::commands::html;
@@ -75,6 +75,13 @@ fn discs(picture: &str) -> Vec<(f64, f64)> {
 fn seen(net: &Net, name: &str) {
     let subject = Subject::of(net).unwrap();
     drawn(&subject, subject.routed.refined.metal, name);
+    let technology = Technology {
+        resistance: 0.03,
+        capacitance: 0.0002,
+    };
+    let delays = net.delays(net.pins[0].place, technology).unwrap();
+    let delayed = subject.clone().delayed(&delays);
+    drawn(&delayed, subject.routed.refined.metal, name);
     let slid = net.slid_tree().unwrap();
     let metal = slid.metal;
     drawn(&subject.beside("slid tree", slid), metal, name);
@@ -286,5 +293,23 @@ fn another_tree_beside_the_refined_one() {
     ] {
         let wrong = said(&["draw", words[0], words[1], word(&net)], b"", 2);
         assert!(wrong.contains("take one of them"), "{wrong}");
+    }
+}
+
+/// `draw --delay` has the delays at the refined tree's pins, and refuses what `delay` refuses.
+#[test]
+fn delays_at_the_pins() {
+    let net = b"pin 2 0\npin 0 0 1\npin -1 0\npin 1 0\n";
+    let picture = printed(&["draw", "--delay", "-1,0,1,1", "-"], net);
+    for words in [">-1, 0: 0<", ">0, 0: 3.5<", ">2, 0: 5.5<", ">0, 0<"] {
+        assert!(picture.contains(words), "{words}");
+    }
+    let wrong = said(&["draw", "--delay", "-2,0,1,1", "-"], net, 1);
+    assert!(wrong.contains("refused 39: "), "{wrong}");
+    for words in [
+        ["--delay=0,0,1", "--routed=x"],
+        ["--delay=0,0,1,1", "--slid"],
+    ] {
+        said(&["draw", words[0], words[1], "-"], net, 2);
     }
 }

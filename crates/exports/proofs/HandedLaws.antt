@@ -7,6 +7,8 @@ use mir.Val.{SFits, toZ, ofZ}
 use mir.ValLaws.{toZ-ofZ}
 use Rattle.lent.specs.Told.{Told, code}
 use Rattle.lent.specs.Over.{valueAfter}
+use Rattle.plane.specs.declared.Place.{Place}
+use Rattle.plane.specs.Place.{place}
 use Rattle.net.specs.declared.Weighing.{Weighing}
 use Rattle.net.specs.Net.{weighing}
 
@@ -21,3 +23,7 @@ module _ {A R : Type 0} (saying : R → Told A) {t : Told A} {r r′ : R} (said 
 -- the two weights, which the machine reads back as they were handed over
 pub read-back : (x y : ℤ) {w : Weighing} → SFits w32 x → SFits w32 y → w ≡ weighing (toZ w32 (ofZ w32 x)) (toZ w32 (ofZ w32 y)) → w ≡ weighing x y
 read-back x y f g e = e ∙ ap₂ weighing (toZ-ofZ w32 x f) (toZ-ofZ w32 y g)
+
+-- and so a place
+pub place-back : (x y : ℤ) {p : Place} → SFits w32 x → SFits w32 y → p ≡ place (toZ w32 (ofZ w32 x)) (toZ w32 (ofZ w32 y)) → p ≡ place x y
+place-back x y f g e = e ∙ ap₂ place (toZ-ofZ w32 x f) (toZ-ofZ w32 y g)

@@ -48,7 +48,7 @@ pub record BestHanded (net : Net) (said : List Edge → Told (ℕ × (ℤ × ℤ
   pub cleared : work′ ≡ after (said tree) (replicate workBound 0) work
   pub best : (a : ℕ × (ℤ × ℤ)) → said tree ≡ given a → BestTree net tree
 
--- wires, and a net file that is written: a list and a count
+-- wires, delays, and a net file that is written: a list and a count
 pub record ListHanded {X : Type 0} (t : Told ℕ) (xs lent : List X) (n : ℕ) (r : ℤ) (lent′ : List X) (n′ : ℕ) : Type 0 where
   pub answer : r ≡ pos (code t)
   pub list : lent′ ≡ after t xs lent

@@ -2,9 +2,12 @@
 // sees to it that each pointer has that length behind it, and that what is lent to be written overlaps nothing else that is handed over.
 // Each contract names one record of specs/Handed.antt: the code, each lent list and each number that goes through a pointer.
 use bought::Verdict;
+use delay::Delayed;
+use delay::Technology;
 use net::Checked;
 use net::Weighing;
 use netfile::Written;
+use plane::Place;
 use price::Priced;
 use router::DistanceAnswer;
 use router::Graphed;
@@ -16,6 +19,7 @@ ghost use lib.IntN.{pos};
 ghost use lib.ListN.{length};
 ghost use Rattle.lent.specs.Told.{code};
 ghost use Rattle.lent.specs.Entries.{flat};
+ghost use Rattle.plane.specs.Place.{place};
 ghost use Rattle.net.specs.Net.{weighing, weightsOf, netOf};
 ghost use Rattle.net.specs.Check.{checked};
 ghost use Rattle.graph.specs.Numbers.{placeNumbers, edgeNumbers};
@@ -26,6 +30,9 @@ ghost use Rattle.router.specs.Refined.{laidOf, refinedTree};
 ghost use Rattle.router.specs.Slid.{slidOf, slidTree};
 ghost use Rattle.router.specs.Wires.{wiresOf, wired};
 ghost use Rattle.router.specs.Distances.{gridDistances};
+ghost use Rattle.delay.specs.Elmore.{technology};
+ghost use Rattle.delay.specs.Answer.{finites};
+ghost use Rattle.router.specs.Delay.{delaysOf, pinDelays};
 ghost use Rattle.router.specs.Best.{bestTree};
 ghost use Rattle.router.specs.Price.{netPrice};
 ghost use Rattle.router.specs.Bought.{checkedTree};
@@ -42,6 +49,23 @@ fn weighing(x: i32, y: i32) -> Weighing
     Weighing {
         first: x,
         second: y,
+    }
+}
+
+// The driver's place as one.
+fn place(x: i32, y: i32) -> Place
+    ensures { λ r. ⌜ r ≡ place x y ⌝ }
+{
+    Place { x: x, y: y }
+}
+
+// The two numbers of a technology as one.
+fn technology(resistance: f64, capacitance: f64) -> Technology
+    ensures { λ r. ⌜ r ≡ technology resistance capacitance ⌝ }
+{
+    Technology {
+        resistance: resistance,
+        capacitance: capacitance,
     }
 }
 
@@ -260,6 +284,40 @@ pub extern "C" fn calzundi_grid_distances(
             0
         }
         DistanceAnswer::Refused(refusal) => refusal.number(),
+    }
+}
+
+// 0 and the number of delays given, or the number of the refusal. The driver's place is u and v.
+#[no_mangle]
+pub extern "C" fn calzundi_delay(
+    pins: &[i32],
+    macros: &[i32],
+    x: i32,
+    y: i32,
+    u: i32,
+    v: i32,
+    resistance: f64,
+    capacitance: f64,
+    delays: &mut [f64],
+    count: &mut usize,
+) -> i32
+    ensures { λ r. ⌜ ListHanded
+        (pinDelays (weighing x y) (now (pins .entry)) (now (macros .entry)) (place u v) (technology resistance capacitance)
+        (length (now (delays .entry))))
+        (finites (delaysOf (weighing x y) (now (pins .entry)) (now (macros .entry)) (place u v)
+        (technology resistance capacitance)))
+        (now (delays .entry)) (now (count .entry)) r (now (delays .exit)) (now (count .exit)) ⌝ }
+{
+    let weights = weighing(x, y);
+    let driver = place(u, v);
+    let t = technology(resistance, capacitance);
+    let answer = router::delay(weights, pins, macros, driver, t, &mut *delays);
+    match answer {
+        Delayed::Given(given) => {
+            *count = given;
+            0
+        }
+        Delayed::Refused(refusal) => refusal.number(),
     }
 }
 

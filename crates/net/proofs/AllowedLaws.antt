@@ -9,7 +9,7 @@ use borrow.Author.Tests.{eq-eqb, ne-eqb, le-ltb, not-false}
 use lib.IntN.{ℤ, pos}
 use lib.ListN.{length}
 use lib.Signed.{ltZ}
-use Rattle.signed.specs.Sides.{up}
+use Rattle.signed.specs.Sides.{up, down}
 use Rattle.signed.proofs.SideLaws.{ltZ-false, le-ltZ, eq-of, up-pos, down-pos, one-side, signed}
 use Rattle.lists.proofs.TestLaws.{or-none, or-neither}
 use Rattle.lists.specs.Any.{any}
@@ -22,7 +22,7 @@ use Rattle.plane.specs.Macro.{inside, interiorsMeet}
 use Rattle.plane.specs.Flat.{macrosOf}
 use Rattle.plane.specs.Cost.{Positive}
 use Rattle.plane.proofs.FlatLaws.{length-macros}
-use Rattle.net.specs.Bounds.{pinBound, macroBound, weightBound, pinWidth, macroWidth}
+use Rattle.net.specs.Bounds.{pinBound, macroBound, loadBound, weightBound, pinWidth, macroWidth}
 use Rattle.net.specs.declared.Weighing.{Weighing}
 use Rattle.net.specs.declared.Net.{Net as Counts}
 use Rattle.net.specs.Pins.{pinCount, pinPlaces, pinLoads, macroCount}
@@ -97,6 +97,19 @@ module _ (z : ℤ) where
   within-weight h k =
       or-neither _ _ (le-ltZ z (pos 1) (omega (signed, h, up-pos 1, down-pos 1, one-side z)))
       (le-ltZ (pos weightBound) z (omega (signed, k, up-pos weightBound, down-pos weightBound)))
+
+-- C13: what passes for a load is a natural number, and small
+module _ (z : ℤ) where
+  pub load-within : noLoad z ≡ false → (down z ≡ 0) × (up z ≤ loadBound)
+  unfolding noLoad
+  load-within e =
+      let r = or-none (ltZ z (pos 0)) (ltZ (pos loadBound) z) e in
+      let low = ltZ-false z (pos 0) (r .0) in
+      let high = ltZ-false (pos loadBound) z (r .1) in
+      (omega (signed, low, up-pos 0, down-pos 0, one-side z), omega (signed, high, up-pos loadBound, down-pos loadBound, one-side z))
+
+  pub load-is : noLoad z ≡ false → z ≡ pos (up z)
+  load-is e = eq-of z (pos (up z)) (omega (arith, load-within e, one-side z, up-pos (up z), down-pos (up z)))
 
 -- C18, of both
 module _ (w : Weighing) where

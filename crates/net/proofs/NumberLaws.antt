@@ -5,7 +5,8 @@ use lib.Dec.{lit≤}
 use Rattle.net.specs.declared.Refusal.{Refusal}
 use Rattle.net.specs.declared.Refusal.the-variants.{Blocks, Sums, Layout, PinList, MacroList, Range, Sides, SamePlace, Overlap}
 use Rattle.net.specs.declared.Refusal.the-variants.{PinInside, WeightRange, Space, Bands, Reach, BandOrder, GridSize}
-use Rattle.net.specs.declared.Refusal.the-variants.{EdgeList, EdgeNotClear, NotATree, BestSize}
+use Rattle.net.specs.declared.Refusal.the-variants.{EdgeList, EdgeNotClear, NotATree, BestSize, TechnologyRange}
+use Rattle.net.specs.declared.Refusal.the-variants.{DriverNotPin, DelayNotFinite}
 use Rattle.net.specs.Answer.{number}
 
 pub number-bounds : (f : Refusal) → (1 ≤ number f) × (number f ≤ 41)
@@ -30,3 +31,6 @@ number-bounds EdgeList = (lit≤ tt, lit≤ tt)
 number-bounds EdgeNotClear = (lit≤ tt, lit≤ tt)
 number-bounds NotATree = (lit≤ tt, lit≤ tt)
 number-bounds BestSize = (lit≤ tt, lit≤ tt)
+number-bounds TechnologyRange = (lit≤ tt, lit≤ tt)
+number-bounds DriverNotPin = (lit≤ tt, lit≤ tt)
+number-bounds DelayNotFinite = (lit≤ tt, lit≤ tt)

@@ -38,6 +38,15 @@ module _ (pins : List ℤ) where
   unfolding pinCount pinLoads
   loads-end i h = threes-end (pos 0) (λ x y load. load) pins i (omega arith)
 
+  -- and of both together
+  pub entries-next : (i : ℕ) → i < pinCount pins → drop i (pinEntries pins) ≡ (pinAt pins i, loadAt pins i) ∷ drop (i + 1) (pinEntries pins)
+  unfolding pinCount pinEntries
+  entries-next i h = threes-next (pos 0) (λ x y load. (place x y, load)) pins i (omega arith)
+
+  pub entries-end : (i : ℕ) → pinCount pins ≤ i → drop i (pinEntries pins) ≡ []
+  unfolding pinCount pinEntries
+  entries-end i h = threes-end (pos 0) (λ x y load. (place x y, load)) pins i (omega arith)
+
   -- the i-th, whatever stands past the end
   pub pin-is : (i : ℕ) (past : Place) → i < pinCount pins → getD (pinPlaces pins) i past ≡ pinAt pins i
   pin-is i past h = ap (λ (l : List Place). getD l 0 past) (sym (drop-cons (pinPlaces pins) i past (rw length-pins h)) ∙ pins-next i h)

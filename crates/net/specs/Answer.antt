@@ -3,7 +3,8 @@ use Prim.Native.Nat.{ℕ}
 use Rattle.net.specs.declared.Refusal.{Refusal}
 use Rattle.net.specs.declared.Refusal.the-variants.{Blocks, Sums, Layout, PinList, MacroList, Range, Sides, SamePlace, Overlap}
 use Rattle.net.specs.declared.Refusal.the-variants.{PinInside, WeightRange, Space, Bands, Reach, BandOrder, GridSize}
-use Rattle.net.specs.declared.Refusal.the-variants.{EdgeList, EdgeNotClear, NotATree, BestSize}
+use Rattle.net.specs.declared.Refusal.the-variants.{EdgeList, EdgeNotClear, NotATree, BestSize, TechnologyRange}
+use Rattle.net.specs.declared.Refusal.the-variants.{DriverNotPin, DelayNotFinite}
 
 unfoldable pub number : Refusal → ℕ
 number Blocks = 1
@@ -26,3 +27,6 @@ number EdgeList = 33
 number EdgeNotClear = 34
 number NotATree = 35
 number BestSize = 41
+number TechnologyRange = 38
+number DriverNotPin = 39
+number DelayNotFinite = 40

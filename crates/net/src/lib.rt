@@ -102,6 +102,9 @@ pub enum Refusal {
     EdgeNotClear,
     NotATree,
     BestSize,
+    TechnologyRange,
+    DriverNotPin,
+    DelayNotFinite,
 }
 
 impl Refusal {
@@ -129,6 +132,9 @@ impl Refusal {
             Refusal::EdgeNotClear => 34,
             Refusal::NotATree => 35,
             Refusal::BestSize => 41,
+            Refusal::TechnologyRange => 38,
+            Refusal::DriverNotPin => 39,
+            Refusal::DelayNotFinite => 40,
         }
     }
 }

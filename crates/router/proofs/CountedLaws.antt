@@ -30,7 +30,9 @@ use Rattle.router.specs.Graph.{pointCount}
 -- what the check gives is what was counted, of an allowed net
 module _ (w : Weighing) (pins macros : List ℤ) {n : Counts} (g : checked w pins macros ≡ given n) where
   counted : Counted n w pins macros
-  counted = record { counts = given-counts w pins macros g; allowed = given-allowed w pins macros g .1 }
+  counted =
+      let a = given-allowed w pins macros g in
+      record { counts = given-counts w pins macros g; whole = a .0; allowed = a .1 }
 
   -- by the weights that it gives
   pub counted-of : Counted n (handed (n .weights)) pins macros

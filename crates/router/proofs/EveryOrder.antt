@@ -221,7 +221,7 @@ module _ (w : Weighing) (pins pins′ macros macros′ : List ℤ) (p : SamePlac
         ∥∥₁-elim (q .order) (order-lists-set given-order _ _) λ e.
         sym (paths-given a) ∙ ap (map (givenFor (netOf w pins macros))) (trees-same (alike d e) a b .paths) ∙ paths-given b
 
-    same-laid : laidOf w pins macros ≡ laidOf w pins′ macros′
+    pub same-laid : laidOf w pins macros ≡ laidOf w pins′ macros′
     unfolding edgesIn refinedOf
     same-laid =
         ∥∥₁-elim (p .order) (order-lists-set edge-order _ _) λ d.

@@ -17,3 +17,5 @@ pub mod FirstRelease
 pub mod SlidLaws
 pub mod BoughtLaws
 pub mod SlidTable
+pub mod DelayLaws
+pub mod DelayOrder

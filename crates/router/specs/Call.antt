@@ -4,9 +4,11 @@ use mathlib.Core.List.{List, map}
 use Prim.Native.Nat.{ℕ}
 use lib.IntN.{ℤ, pos}
 use lib.ListN.{length, replicate}
+use lib.Ieee.{Float}
 use Rattle.lent.specs.Told.{Told, given}
 use Rattle.lent.specs.Over.{after}
 use Rattle.lent.specs.Entries.{flat}
+use Rattle.plane.specs.declared.Place.{Place}
 use Rattle.net.specs.declared.Checked.{Checked}
 use Rattle.net.specs.declared.Weighing.{Weighing}
 use Rattle.net.specs.Net.{Net, netOf, weightsOf}
@@ -18,6 +20,9 @@ use Rattle.netfile.specs.Read.{pinsIn, macrosIn, readFile}
 use Rattle.graph.specs.Numbers.{placeNumbers, edgeNumbers}
 use Rattle.terminal.specs.Tree.{pathNumbers}
 use Rattle.grid.specs.Distance.{Square}
+use Rattle.delay.specs.declared.Delayed.{Delayed}
+use Rattle.delay.specs.declared.Technology.{Technology}
+use Rattle.delay.specs.Answer.{finites, toldDelays}
 use Rattle.grid.specs.Edges.{Edge}
 use Rattle.best.specs.Bounds.{workBound}
 use Rattle.best.specs.Tree.{BestTree}
@@ -34,6 +39,7 @@ use Rattle.router.specs.Both.{toldBoth}
 use Rattle.router.specs.Slid.{slidOf}
 use Rattle.router.specs.Wires.{wiresOf, toldWires}
 use Rattle.router.specs.Distances.{toldDistances}
+use Rattle.router.specs.Delay.{delaysOf}
 
 -- the answer r says t, and one list was lent: where t is given, xs stands at its front (C53); where t is refused, it is as it was (C50)
 pub record Gives {A R X : Type 0} (saying : R → Told A) (t : Told A) (xs lent : List X) (r : R) (lent′ : List X) : Type 0 where
@@ -106,6 +112,12 @@ WiresCall said w pins macros wires r wires′ =
 abbrev pub DistancesCall : Saying ℕ → (w : Weighing) (pins macros table : List ℤ) → DistanceAnswer → List ℤ → Type 0
 DistancesCall said w pins macros table r table′ =
     GivesSquare (netOf w pins macros) (said w pins macros (length table)) table r table′
+
+-- C85, C86: delays from a driver, by a technology
+abbrev pub DelayCall : (Weighing → List ℤ → List ℤ → Place → Technology → ℕ → Told ℕ) → (w : Weighing) (pins macros : List ℤ)
+    (driver : Place) (t : Technology) (delays : List Float) → Delayed → List Float → Type 0
+DelayCall said w pins macros driver t delays r delays′ =
+    Gives toldDelays (said w pins macros driver t (length delays)) (finites (delaysOf w pins macros driver t)) delays r delays′
 
 -- C87, C88: a best tree
 abbrev pub BestCall : (Weighing → List ℤ → List ℤ → ℕ → ℕ → List Edge → Told (ℕ × (ℤ × ℤ))) → (w : Weighing) (pins macros : List ℤ)

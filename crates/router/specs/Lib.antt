@@ -22,6 +22,10 @@
 --   Distances    gridDistances w pins macros r        the answer of distances on the grid into r lent numbers
 --                toldDistances r                      what the code's answer says
 --                PromisedDistances w pins macros      what is promised of the table of an allowed net
+--   Delay        delaysOf w pins macros driver t      for each pin its delay, or the mark that it is not finite
+--                pinDelays w pins macros driver t r   the answer of delays into r lent numbers
+--                PromisedDelay w pins macros          what is promised of the delays of an allowed net
+--                SameDelays                           what two calls have in common whose lists are in other orders
 --   Best         bestTree w pins macros work r T      the answer of a best tree into so much lent work and r lent numbers, if it is T
 --                PromisedBest w pins macros           what is promised of the best tree of an allowed net, whichever is given
 --   Price        netPrice w pins macros bands         the answer of a price by a list of bands
@@ -44,6 +48,7 @@ pub mod Both
 pub mod Slid
 pub mod Wires
 pub mod Distances
+pub mod Delay
 pub mod Price
 pub mod Bought
 pub mod Best

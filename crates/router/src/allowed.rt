@@ -7,15 +7,19 @@ use crate::TreeAnswer;
 use crate::Trees;
 use crate::Wired;
 use best::Best;
+use delay::Delayed;
+use delay::Technology;
 use grid::Grid;
 use net::Net;
 use net::Refusal;
+use plane::Place;
 use price::Priced;
 use straight::EDGE_NUMBERS as EDGE_TABLE;
 use terminal::EDGE_NUMBERS;
 use terminal::EDGES;
 use terminal::POINTS;
 use terminal::VERTEX_NUMBERS;
+use tree::Size;
 ghost use mathlib.Core.Path.{_≡_};
 ghost use Prim.Native.Nat.{_*_};
 ghost use lib.IntN.{pos};
@@ -35,8 +39,9 @@ ghost use Rattle.laid.specs.Edges.{edgesOf, laidBound};
 ghost use Rattle.router.specs.Slid.{slidOf, slidGiven};
 ghost use Rattle.router.specs.Wires.{wiresGiven};
 ghost use Rattle.router.specs.Distances.{distancesGiven};
+ghost use Rattle.router.specs.Delay.{delayGiven};
 ghost use Rattle.router.specs.Best.{bestGiven};
-ghost use Rattle.router.specs.Call.{GraphCall, TerminalCall, BothCall, SlidCall, WiresCall, DistancesCall, BestCall};
+ghost use Rattle.router.specs.Call.{GraphCall, TerminalCall, BothCall, SlidCall, WiresCall, DistancesCall, DelayCall, BestCall};
 
 // The graph.
 pub fn graph(
@@ -154,6 +159,42 @@ pub fn wires(net: Net, pins: &[i32], macros: &[i32], wires: &mut [i32]) -> Wired
     let tree = refine(net, pins, macros, &mut points, &mut keys);
     let count = refined::give_wires(&points, &keys, tree.edges, &mut *wires);
     Wired::Given(count)
+}
+
+// The delays.
+pub fn delay(
+    net: Net,
+    pins: &[i32],
+    macros: &[i32],
+    driver: Place,
+    t: Technology,
+    delays: &mut [f64],
+) -> Delayed
+    requires { ⌜ Counted net (handed (net .weights)) (now pins) (now macros) ⌝ }
+    ensures { λ r. ⌜ DelayCall delayGiven (handed (net .weights)) (now (pins .entry)) (now (macros .entry)) driver t (now (delays .entry)) r
+        (now (delays .exit)) ⌝ }
+{
+    let mut points = [0i32; tree::NUMBERS];
+    let mut keys = [0usize; tree::POINTS];
+    let tree = refine(net, pins, macros, &mut points, &mut keys);
+    let mut pin = [0usize; tree::POINTS];
+    let mut loads = [0u64; tree::POINTS];
+    delay::loads::load(pins, &points, tree.points, &mut pin, &mut loads);
+    let size = Size {
+        points: tree.points,
+        edges: tree.edges,
+    };
+    delay::delays(
+        &points,
+        &keys,
+        size,
+        &pin,
+        &loads,
+        driver,
+        t,
+        net.pins,
+        &mut *delays,
+    )
 }
 
 // The price.

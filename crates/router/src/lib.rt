@@ -7,10 +7,13 @@
 mod allowed; // allowed.rt: what goes on once the check has passed
 
 use bought::Verdict;
+use delay::Delayed;
+use delay::Technology;
 use net::Checked;
 use net::Refusal;
 use net::Weighing;
 use netfile::Written;
+use plane::Place;
 use price::Priced;
 ghost use mathlib.Core.Path.{_≡_};
 ghost use Rattle.net.specs.Check.{checked, told};
@@ -23,11 +26,12 @@ ghost use Rattle.router.specs.Both.{bothTrees};
 ghost use Rattle.router.specs.Slid.{slidTree};
 ghost use Rattle.router.specs.Wires.{wired};
 ghost use Rattle.router.specs.Distances.{gridDistances};
+ghost use Rattle.router.specs.Delay.{pinDelays};
 ghost use Rattle.router.specs.Best.{bestTree};
 ghost use Rattle.router.specs.Price.{netPrice};
 ghost use Rattle.router.specs.Bought.{checkedTree};
 ghost use Rattle.router.specs.Call.{GraphCall, TerminalCall, RefinedCall, BothCall, SlidCall, WiresCall, DistancesCall};
-ghost use Rattle.router.specs.Call.{BestCall, WriteCall, ReadCall};
+ghost use Rattle.router.specs.Call.{DelayCall, BestCall, WriteCall, ReadCall};
 
 // The answer of a graph: how many vertices and how many edges were given.
 pub enum Graphed {
@@ -176,6 +180,28 @@ pub fn grid_distances(
     match answer {
         Checked::Allowed(net) => allowed::grid_distances(net, pins, macros, &mut *table),
         Checked::Refused(refusal) => DistanceAnswer::Refused(refusal),
+    }
+}
+
+// Delay: the Elmore delay of the refined tree from a driver to each pin, in the order of places, and how many there are, or 11 to 18, then
+// 21 where fewer than m numbers are lent, 38 for a technology that is not usable, 39 where the driver is no pin, 40 where a delay is not
+// finite. That each point hangs once from the driver, and that delays are the same for every order of the lists: `PromisedDelay`,
+// `SameDelays` (specs/Delay.antt).
+pub fn delay(
+    w: Weighing,
+    pins: &[i32],
+    macros: &[i32],
+    driver: Place,
+    t: Technology,
+    delays: &mut [f64],
+) -> Delayed
+    ensures { λ r. ⌜ DelayCall pinDelays w (now (pins .entry)) (now (macros .entry)) driver t (now (delays .entry)) r
+        (now (delays .exit)) ⌝ }
+{
+    let answer = net::check(w, pins, macros);
+    match answer {
+        Checked::Allowed(net) => allowed::delay(net, pins, macros, driver, t, &mut *delays),
+        Checked::Refused(refusal) => Delayed::Refused(refusal),
     }
 }
 

@@ -7,13 +7,14 @@ use std::process::ExitCode;
 
 use harness::library;
 use reference::best;
+use reference::delay::Technology;
 use reference::generate::{half, net, Kind};
 use reference::lists::Lists;
 use reference::net::Net;
 use reference::operations;
 
 const HELP: &str = "\
-bench graph|terminal|refined|slid|distances|best|file|nothing proved|second random|bars|combs|clusters SIZE TIMES
+bench graph|terminal|refined|slid|delay|distances|best|file|nothing proved|second random|bars|combs|clusters SIZE TIMES
 one operation of one program on a net of SIZE pins and SIZE macros, of which best takes 5 pins";
 
 /// SIZE pins and SIZE macros with weights 1 and 1, of a kind: random ones are the first of a largest net, still allowed, since taking
@@ -129,6 +130,19 @@ fn run(operation: &str, program: &str, lists: &Lists) -> Option<u64> {
                 operations::slid_tree
             };
             call(pins, macros, weights, &mut vec![0; 8 * (n + m)]).map(|(edges, ..)| edges)
+        }
+        "delay" => {
+            let call = if is_proved {
+                library::delay
+            } else {
+                operations::delay
+            };
+            let technology = Technology {
+                resistance: 0.03,
+                capacitance: 0.0002,
+            };
+            let driver = (pins[0], pins[1]);
+            call(pins, macros, weights, driver, technology, &mut vec![0.0; m])
         }
         "distances" => {
             let call = if is_proved {

@@ -40,6 +40,7 @@ fn all(seed: u64) -> Matched {
         case.slid_tree()?;
         case.wires()?;
         case.price().map(|_| ())?;
+        case.delay().map(|_| ())?;
     }
     Ok(())
 }

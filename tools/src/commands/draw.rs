@@ -4,6 +4,7 @@ use std::ffi::OsString;
 
 use calzundi::{Edge, Net, Passed, Refusal, Tree};
 
+use crate::delay::Asked;
 use crate::picture::page::page;
 use crate::picture::sheet::sheet;
 use crate::picture::Subject;
@@ -27,11 +28,14 @@ thin to be seen is drawn apart, and the caption says so.
     --slid          the refined and the slid tree instead, which `calzundi slide` prints
     --best          the refined and a best tree, which `calzundi best` prints, of a net of up to 5 pins and 16 macros
     --tree FILE     the refined tree and one of another router, as `calzundi verify` takes it: it must pass for this net
+    --delay ASKED   the refined tree's pins with their delays too, which `calzundi delay` prints; ASKED is the driver and the technology as
+                    `x,y,R,C`
     --routed FILE   what `route` or `calzundi route` printed: it must be this net's, line for line
 
     calzundi draw net.txt net.svg
     calzundi draw --html net.txt net.html
     calzundi draw --tree tree.txt net.txt net.svg
+    calzundi draw --delay 0,0,0.03,0.0002 net.txt net.svg
 
 A refused net, a FILE that is not this net's, or a tree that does not pass, is reported; nothing is written then.
 Exit status: 0 written; 1 something that is read is wrong, or a file cannot be read or written; 2 a wrong command line.
@@ -58,6 +62,10 @@ pub const COMMAND: Command = Command {
             value: Some("a file"),
         },
         Switch {
+            name: "--delay",
+            value: Some("a driver and a technology, as x,y,R,C"),
+        },
+        Switch {
             name: "--routed",
             value: Some("a file"),
         },
@@ -81,12 +89,23 @@ fn svg_beside(net: &Net, name: &'static str, tree: Tree) -> Result<String, Refus
     Ok(sheet(&Subject::of(net)?.beside(name, tree)))
 }
 
+/// The picture of an allowed net with the delays at its pins.
+fn svg_delayed(source: &Source, asked: Asked) -> Result<String, Failure> {
+    let drawn = || Ok(Subject::of(&source.net)?.delayed(&asked.of(&source.net)?));
+    let subject = drawn().map_err(|refusal| {
+        let blame = asked.blamed(refusal);
+        Failure::wrong(&source.name, blame.lines().join("\n"))
+    })?;
+    Ok(sheet(&subject))
+}
+
 fn draw(words: &Words) -> Result<(), Failure> {
     let from = words.files.first();
-    let chosen = ["--html", "--slid", "--best", "--tree"].map(|option| words.has(option));
+    let chosen =
+        ["--html", "--slid", "--best", "--tree", "--delay"].map(|option| words.has(option));
     if chosen.iter().filter(|option| **option).count() > 1 {
         let several =
-            "--html, --slid, --best and --tree each draw something else; take one of them";
+            "--html, --slid, --best, --tree and --delay each draw something else; take one of them";
         return Err(Failure::Usage(several.into()));
     }
     let [printed, tree] =
@@ -95,6 +114,8 @@ fn draw(words: &Words) -> Result<(), Failure> {
     if others.contains(&from) || (printed.is_some() && printed == tree) {
         return Err(Failure::Usage("the two files are the same one".into()));
     }
+    let asked = words.value("--delay").map(Asked::parse_word).transpose();
+    let asked = asked.map_err(Failure::Usage)?;
     let source = open(from)?;
     let net = source.allowed()?;
     let wrong = |refusal| Failure::wrong(&source.name, refusal);
@@ -107,11 +128,14 @@ fn draw(words: &Words) -> Result<(), Failure> {
         ([_, true, ..], _) => net
             .slid_tree()
             .and_then(|tree| svg_beside(net, "slid tree", tree)),
-        ([_, _, true, _], _) => net
+        ([_, _, true, ..], _) => net
             .best_tree()
             .and_then(|tree| svg_beside(net, "best tree", tree)),
         (_, Some(tree)) => svg_beside(net, "tree of another router", passed(&source, tree)?),
-        _ => svg(net),
+        _ => match asked {
+            Some(asked) => Ok(svg_delayed(&source, asked)?),
+            None => svg(net),
+        },
     };
     let inputs: Vec<Option<&OsString>> = [from, printed.as_ref(), tree.as_ref()]
         .into_iter()

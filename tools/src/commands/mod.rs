@@ -6,6 +6,7 @@ mod batch;
 mod best;
 mod check;
 mod compare;
+mod delay;
 mod distances;
 mod draw;
 mod pack;
@@ -29,6 +30,7 @@ pub const ALL: &[Command] = &[
     batch::COMMAND,
     price::COMMAND,
     distances::COMMAND,
+    delay::COMMAND,
     pack::COMMAND,
     unpack::COMMAND,
 ];

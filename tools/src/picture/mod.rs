@@ -8,10 +8,11 @@ pub mod sheet;
 pub mod svg;
 pub mod ways;
 
-use std::collections::BTreeSet;
+use std::collections::{BTreeMap, BTreeSet};
 
-use calzundi::{Edge, Graph, Net, Place, Refusal, Tree, Wire};
+use calzundi::{Edge, Graph, Net, PinDelay, Place, Refusal, Tree, Wire};
 
+use crate::delay::rounded;
 use crate::routed::Routed;
 
 /// All that a picture shows of a net.
@@ -25,6 +26,8 @@ pub struct Subject {
     pub paths: Vec<Vec<Edge>>,
     /// A tree to stand beside the refined one; without it that one stands beside the terminal tree.
     pub other: Option<Other>,
+    /// The delays to the pins, where they are asked for, as they are written at the refined tree's.
+    pub delays: BTreeMap<Place, String>,
 }
 
 /// A tree that is not the router's refined one.
@@ -47,6 +50,7 @@ impl Subject {
             wires: net.wires()?,
             paths: paths.unwrap_or_else(|| bridges().collect()),
             other: None,
+            delays: BTreeMap::new(),
             graph,
             routed,
         })
@@ -56,6 +60,23 @@ impl Subject {
     pub fn beside(self, name: &'static str, tree: Tree) -> Subject {
         let other = Some(Other { name, tree });
         Subject { other, ..self }
+    }
+
+    /// The same with the delays at the pins.
+    pub fn delayed(self, delays: &[PinDelay]) -> Subject {
+        let delays = delays.iter().map(|one| (one.place, rounded(one.delay)));
+        Subject {
+            delays: delays.collect(),
+            ..self
+        }
+    }
+
+    /// What is written at a point of the refined tree: its coordinates, and its delay where that is asked for.
+    pub fn label(&self, place: Place) -> String {
+        match self.delays.get(&place) {
+            Some(delay) => format!("{}: {delay}", coordinates(place)),
+            None => coordinates(place),
+        }
     }
 
     /// The pins in the order of the list.

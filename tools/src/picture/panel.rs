@@ -47,6 +47,8 @@ pub struct Panel<'a> {
     pub edges: Vec<(Edge, String)>,
     /// Whether every point has its coordinates; else pins have their numbers.
     pub by_coordinates: bool,
+    /// Whether the delays that are asked for stand at the pins.
+    pub with_delays: bool,
     /// Where labels may stand.
     pub within: Area,
 }
@@ -95,9 +97,10 @@ impl Panel<'_> {
         let pins = self.subject.pins();
         let mut points: Vec<(Place, String, &str)> = Vec::new();
         for (at, pin) in pins.iter().enumerate() {
-            let words = match self.by_coordinates {
-                true => coordinates(*pin),
-                false => (at + 1).to_string(),
+            let words = match (self.by_coordinates, self.with_delays) {
+                (true, true) => self.subject.label(*pin),
+                (true, false) => coordinates(*pin),
+                (false, _) => (at + 1).to_string(),
             };
             points.push((*pin, words, PIN_COLOUR));
         }

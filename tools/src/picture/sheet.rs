@@ -10,7 +10,7 @@ use super::panel::{
     PIN_COLOUR, TERMINAL,
 };
 use super::svg::{escaped, rectangle, segment, text, Area, Spot, Svg};
-use super::{coordinates, grouped, Other, Subject};
+use super::{grouped, Other, Subject};
 
 const EDGE: f64 = 16.0;
 const LINE: f64 = 22.0;
@@ -69,7 +69,7 @@ impl Sheet<'_> {
             .graph
             .vertices
             .iter()
-            .map(|&place| coordinates(place));
+            .map(|&place| subject.label(place));
         let widest = match by_coordinates {
             true => places.map(|words| wide(&words, LETTER)).fold(0.0, f64::max),
             false => wide("64", LETTER),
@@ -173,6 +173,7 @@ impl Sheet<'_> {
             colour: COLOURS[number],
             edges,
             by_coordinates: self.by_coordinates,
+            with_delays: number == 1,
             within,
         }
     }
@@ -257,6 +258,11 @@ impl Sheet<'_> {
         if self.subject.other.is_none() && is_shared {
             lines.push("x2: on two terminal paths, and counted for each".into());
         }
+        if !self.subject.delays.is_empty() {
+            lines.push(
+                "at the refined tree's pins, after the colon: the delay, to five digits".into(),
+            );
+        }
         if !self.frame.to_scale {
             lines.push("not to scale: what is too close to be seen is drawn apart".into());
         }
@@ -311,7 +317,7 @@ impl Sheet<'_> {
         let pins = self.subject.pins();
         let lines = pins.iter().enumerate();
         let lines: Vec<String> = lines
-            .map(|(at, &pin)| format!("{:>3}  {}", at + 1, coordinates(pin)))
+            .map(|(at, &pin)| format!("{:>3}  {}", at + 1, self.subject.label(pin)))
             .collect();
         let widest = lines
             .iter()

@@ -11,7 +11,7 @@ use reference::generate::Kind;
 use reference::lists::Lists;
 
 pub const CALZUNDI: &str = env!("CARGO_BIN_EXE_calzundi");
-pub const COMMANDS: [&str; 12] = [
+pub const COMMANDS: [&str; 13] = [
     "check",
     "route",
     "slide",
@@ -22,6 +22,7 @@ pub const COMMANDS: [&str; 12] = [
     "batch",
     "price",
     "distances",
+    "delay",
     "pack",
     "unpack",
 ];

@@ -88,10 +88,25 @@ returns-20 : tie.Need-returns-20
 unfolding number
 returns-20 c = sym (ap (λ (f : Refusal). pos (number f)) (c .enum-told20 .given .1))
 
+returns-21 : tie.Need-returns-21
+unfolding number
+returns-21 c = sym (ap (λ (f : Refusal). pos (number f)) (c .enum-told21 .given .1))
+
+returns-22 : tie.Need-returns-22
+unfolding number
+returns-22 c = sym (ap (λ (f : Refusal). pos (number f)) (c .enum-told22 .given .1))
+
+returns-23 : tie.Need-returns-23
+unfolding number
+returns-23 c = sym (ap (λ (f : Refusal). pos (number f)) (c .enum-told23 .given .1))
+
 pub number-spec : {M : Type 1} → statement M
 number-spec =
     tie.close
     (tie.spec
+    (λ c. search needs)
+    (λ c. search needs)
+    (λ c. search needs)
     (λ c. search needs)
     (λ c. search needs)
     (λ c. search needs)
@@ -131,4 +146,7 @@ number-spec =
     returns-17
     returns-18
     returns-19
-    returns-20)
+    returns-20
+    returns-21
+    returns-22
+    returns-23)

@@ -1,0 +1,28 @@
+-- `delay::is_driver` meets its contract: a pin, then its place.
+-- Assumes nothing.
+use borrow.Author.Needs.{needs}
+use Rattle.delay.proofs.FindLaws.{driver-if, driver-not}
+use Rattle.delay.proofs.is_driver.Statement.{statement}
+use Rattle.delay.proofs.is_driver.Tie as tie
+
+mul-if1 : tie.Need-mul-if1
+mul-if1 c = search needs
+
+element-copy-out-if1 : tie.Need-element-copy-out-if1
+element-copy-out-if1 c = search needs
+
+point-at-requires : tie.Need-point-at-requires
+point-at-requires c κs = search needs
+
+is-same-place-requires : tie.Need-is-same-place-requires
+is-same-place-requires c κs = search needs
+
+returns : tie.Need-returns
+returns c = driver-if _ _ _ _ _ _ (c .before .before .if1 .taken) (c .before .point-at .ensures) (c .is-same-place .ensures)
+
+returns-2 : tie.Need-returns-2
+returns-2 c = driver-not _ _ _ _ (c .if1 .left)
+
+pub is-driver-spec : {M : Type 1} → statement M
+is-driver-spec =
+    tie.close (tie.spec mul-if1 element-copy-out-if1 point-at-requires is-same-place-requires returns returns-2)

@@ -1,0 +1,115 @@
+// The Elmore delay from a driver to each pin of a tree.
+mod child; // child.rt: the children of a point
+pub mod elmore; // elmore.rt: capacitance and delay
+pub mod loads; // loads.rt: the pins among a tree's points, and their loads
+pub mod mark; // mark.rt: floats tested, delays marked and given
+
+use net::Refusal;
+use plane::Place;
+use tree::NUMBERS;
+use tree::POINTS;
+use tree::Size;
+ghost use mathlib.Core.Path.{_≡_};
+ghost use Prim.Native.Nat.{_≤_, _<_};
+ghost use lib.Dec.{ltb};
+ghost use lib.ListN.{length};
+ghost use Rattle.lent.specs.Over.{after};
+ghost use Rattle.tree.specs.Table.{treeBound};
+ghost use Rattle.delay.specs.Answer.{finites, delayed, toldDelays};
+ghost use Rattle.delay.specs.Table.{isDriver, driverIn, pinsFrom, marksFrom, tableFrom};
+
+// A technology: resistance and capacitance for each unit of length.
+pub struct Technology {
+    pub resistance: f64,
+    pub capacitance: f64,
+}
+
+// A point on the way down the rooted tree: its parent, its number, and how many steps further down there may be points.
+pub struct Visit {
+    pub up: usize,
+    pub point: usize,
+    pub left: usize,
+}
+
+// The delay to a pin, or the mark that it is not finite.
+pub enum Delay {
+    Finite(f64),
+    NotFinite,
+}
+
+// The answer: how many delays were given, or why none.
+pub enum Delayed {
+    Given(usize),
+    Refused(Refusal),
+}
+
+// Whether point i is the pin at q.
+fn is_driver(pts: &[i32; NUMBERS], pin: &[usize; POINTS], q: Place, i: usize) -> bool
+    requires { ⌜ i < treeBound ⌝ }
+    ensures { λ r. ⌜ r ≡ isDriver (now (pts .entry)) (now (pin .entry)) q i ⌝ }
+{
+    if pin[i] == 1 {
+        return plane::is_same_place(tree::point_at(pts, i), q);
+    }
+    false
+}
+
+// The number of the pin at q, or n.
+fn find(pts: &[i32; NUMBERS], pin: &[usize; POINTS], n: usize, q: Place) -> usize
+    requires { ⌜ n ≤ treeBound ⌝ }
+    ensures { λ r. ⌜ (r ≡ driverIn (now (pts .entry)) (now (pin .entry)) n q) × (r ≤ n) ⌝ }
+{
+    let mut i = 0;
+    while i < n {
+        if is_driver(pts, pin, q, i) {
+            return i;
+        }
+        i += 1;
+    }
+    i
+}
+
+// The delays to the m pins of a tree from the driver, in the order of places; all are worked out before the first is stored.
+pub fn delays(
+    pts: &[i32; NUMBERS],
+    keys: &[usize; POINTS],
+    z: Size,
+    pin: &[usize; POINTS],
+    loads: &[u64; POINTS],
+    driver: Place,
+    t: Technology,
+    m: usize,
+    lent: &mut [f64],
+) -> Delayed
+    requires { ⌜ (z .points ≤ treeBound) × ((z .edges ≤ treeBound) × (m ≡ length (pinsFrom (now pin) 0 (z .points)))) ⌝ }
+    ensures { λ r. ⌜ toldDelays r ≡ delayed (length (now (lent .entry))) m t
+        (ltb (driverIn (now (pts .entry)) (now (pin .entry)) (z .points) driver) (z .points))
+        (marksFrom (tableFrom (now (pts .entry)) (now (keys .entry)) (z .edges) (now (loads .entry)) t
+        (driverIn (now (pts .entry)) (now (pin .entry)) (z .points) driver)) (now (pin .entry)) 0 (z .points)) ⌝ }
+    ensures { λ r. ⌜ now (lent .exit) ≡ after (toldDelays r)
+        (finites (marksFrom (tableFrom (now (pts .entry)) (now (keys .entry)) (z .edges) (now (loads .entry)) t
+        (driverIn (now (pts .entry)) (now (pin .entry)) (z .points) driver)) (now (pin .entry)) 0 (z .points))) (now (lent .entry)) ⌝ }
+{
+    if lent.len() < m {
+        return Delayed::Refused(Refusal::Space);
+    }
+    if !mark::is_usable(t) {
+        return Delayed::Refused(Refusal::TechnologyRange);
+    }
+    let d = find(pts, pin, z.points, driver);
+    if d == z.points {
+        return Delayed::Refused(Refusal::DriverNotPin);
+    }
+    let mut table = [0.0f64; POINTS];
+    let top = Visit {
+        up: d,
+        point: d,
+        left: z.edges,
+    };
+    elmore::lay(pts, keys, z.edges, loads, t, top, 0.0, &mut table);
+    if mark::has_mark(&table, pin, z.points) {
+        return Delayed::Refused(Refusal::DelayNotFinite);
+    }
+    mark::give(&table, pin, z.points, &mut *lent);
+    Delayed::Given(m)
+}

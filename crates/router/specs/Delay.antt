@@ -1,0 +1,61 @@
+-- The delay to each pin among the operations: rules C38 to C40, C85 and C86. What delays are stands in `delay` (specs/Answer.antt).
+use mathlib.Core.Path.{_≡_}
+use mathlib.Core.Bool.{true, false}
+use mathlib.Core.List.{List}
+use Prim.Native.Nat.{ℕ, _≤_}
+use lib.IntN.{ℤ}
+use lib.ListN.{length}
+use lib.Ieee.{Float}
+use Rattle.lists.specs.Any.{any}
+use Rattle.lists.specs.Member.{_∈_}
+use Rattle.lent.specs.Told.{Told, given, onlyIf}
+use Rattle.lent.specs.Over.{after}
+use Rattle.plane.specs.declared.Place.{Place}
+use Rattle.net.specs.declared.Weighing.{Weighing}
+use Rattle.net.specs.Pins.{pinCount, pinPlaces, pinEntries}
+use Rattle.net.specs.Check.{checked}
+use Rattle.net.specs.Net.{netOf}
+use Rattle.slide.specs.Slide.{treePoints}
+use Rattle.delay.specs.declared.Technology.{Technology}
+use Rattle.delay.specs.declared.Delay.{Delay}
+use Rattle.delay.specs.Load.{loadOf}
+use Rattle.delay.specs.Answer.{isMark, marksOf, finites, usable, delayAnswer}
+use Rattle.delay.specs.Promise.{Timed}
+use Rattle.router.specs.Refined.{laidOf}
+
+-- Y4: the load of a point of the tree
+abbrev pub loadsOf : List ℤ → Place → ℕ
+loadsOf pins q = loadOf (pinEntries pins) q
+
+-- C86: for each pin, in the order of places, its delay along the refined tree or the mark that it is not finite
+unfoldable pub delaysOf : Weighing → List ℤ → List ℤ → Place → Technology → List Delay
+delaysOf w pins macros driver t = marksOf (laidOf w pins macros) (loadsOf pins) t driver (pinPlaces pins)
+
+-- C85: 21, fewer than m numbers; 38, 39, 40
+unfoldable pub delayGiven : Weighing → List ℤ → List ℤ → Place → Technology → ℕ → Told ℕ
+delayGiven w pins macros driver t room = delayAnswer (laidOf w pins macros) (loadsOf pins) (pinPlaces pins) t driver room
+
+-- C85: 11 to 18, then 21, then 38 to 40
+unfoldable pub pinDelays : Weighing → List ℤ → List ℤ → Place → Technology → ℕ → Told ℕ
+pinDelays w pins macros driver t room = onlyIf (checked w pins macros) (delayGiven w pins macros driver t room)
+
+-- What is promised of the delays of an allowed net; the check is the only premise (`promised-delay`, proofs/DelayLaws.antt)
+pub record PromisedDelay (w : Weighing) (pins macros : List ℤ) : Type 0 where
+  -- D1b: a usable technology and a driver that is a pin are given the delays, unless one is not finite
+  pub delay-given : (driver : Place) (t : Technology) (room : ℕ) → pinCount pins ≤ room → usable t ≡ true → driver ∈ pinPlaces pins
+      → any isMark (delaysOf w pins macros driver t) ≡ false → pinDelays w pins macros driver t room ≡ given (pinCount pins)
+  -- and one for each pin
+  pub as-many : (driver : Place) (t : Technology) → any isMark (delaysOf w pins macros driver t) ≡ false
+      → length (finites (delaysOf w pins macros driver t)) ≡ pinCount pins
+  -- Y2: each pin and each end of an edge hangs once from the driver, and none is left out;  Y5: each child's delay is made of its parent's;
+  -- Y6: the driver's own is 0
+  pub timed : (driver : Place) → driver ∈ pinPlaces pins → (t : Technology)
+      → Timed (treePoints (netOf w pins macros) (laidOf w pins macros)) (laidOf w pins macros) (loadsOf pins) t driver
+
+-- D2b, Y8: what two calls have in common that have the same weights, driver and technology, and lists with the same entries in another
+-- order (`delay-order`, proofs/DelayOrder.antt)
+pub record SameDelays (w : Weighing) (pins pins′ macros macros′ : List ℤ) (driver : Place) (t : Technology) : Type 0 where
+  pub answer : (room : ℕ) → pinDelays w pins macros driver t room ≡ pinDelays w pins′ macros′ driver t room
+  pub delays : (room : ℕ) (lent : List Float)
+      → after (pinDelays w pins macros driver t room) (finites (delaysOf w pins macros driver t)) lent
+      ≡ after (pinDelays w pins′ macros′ driver t room) (finites (delaysOf w pins′ macros′ driver t)) lent
