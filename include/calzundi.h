@@ -57,8 +57,9 @@
 #ifndef CALZUNDI_H
 #define CALZUNDI_H
 
-/* The version. It stands here and nowhere else; the tools take it from this line, and each change request raises the second number. */
-#define CALZUNDI_VERSION "1.13"
+/* The version. It stands here and nowhere else; the tools take it from this line. Each change request raised the second number, and the last
+ * of the fourteen the first. */
+#define CALZUNDI_VERSION "2.0"
 
 #include <stddef.h>
 #include <stdint.h>

@@ -6,7 +6,7 @@ use std::thread;
 
 use reference::generate::{
     bands, damaged_loaded, damaged_weighted, driver, hostile_weighted, loaded, permuted,
-    technology, weighted, BandList, Damage, Hostile, Kind,
+    technology, weighted, BandList, Damage, Hostile, Kind, Shift,
 };
 use reference::lists::Lists;
 use reference::net::{Net, Weights};
@@ -52,6 +52,12 @@ pub struct Case {
     pub kind: &'static str,
     pub seed: u64,
     pub lists: Lists,
+}
+
+/// A case on another site, its lists in another order, and by how much it has moved.
+struct Moved {
+    case: Case,
+    by: Shift,
 }
 
 /// Kinds whose nets are found by running the refiner many times are left to the operations that need them.
@@ -279,57 +285,89 @@ impl Case {
     /// "Check a net."
     pub fn check(&self) -> Matched {
         let (pins, macros, weights) = self.lists.parts();
-        self.same(
-            "check",
-            format!("{:?}", library::check(pins, macros, weights)),
-            format!("{:?}", operations::check(pins, macros, weights)),
-        )
+        let expected = format!("{:?}", operations::check(pins, macros, weights));
+        for case in [self, &self.moved().case] {
+            let (pins, macros, weights) = case.lists.parts();
+            let ours = library::check(pins, macros, weights);
+            case.same("check", format!("{ours:?}"), expected.clone())?;
+        }
+        Ok(())
     }
 
     /// "Graph."
     pub fn graph(&self) -> Matched {
-        let (pins, macros, weights) = self.lists.parts();
-        let both = |call: TwoSpaces| {
+        let answer = |call: TwoSpaces, lists: &Lists, by: Shift| {
             let random = &mut Random::new(self.seed);
             let mut vertices = Lent::new(random, self.points() * 2, |bits| bits as i32);
             let mut edges = Lent::new(random, self.points() * 16, |bits| bits as i32);
+            let (pins, macros, weights) = lists.parts();
             let answer = call(pins, macros, weights, vertices.part(), edges.part());
+            if let Ok((n, e)) = answer {
+                by.places(&mut vertices.numbers[..2 * n]);
+                by.places(&mut edges.numbers[..4 * e]);
+            }
             said(answer, &[vertices.numbers, edges.numbers])
         };
-        self.same("graph", both(library::graph), both(operations::graph))
+        let here = Shift::default();
+        let ours = answer(library::graph, &self.lists, here);
+        self.same("graph", ours, answer(operations::graph, &self.lists, here))?;
+        let Moved { case, by } = self.moved();
+        let ours = answer(library::graph, &case.lists, here);
+        case.same("graph", ours, answer(operations::graph, &self.lists, by))
     }
 
-    /// The same net with the entries of both lists in another order.
-    fn turned(&self) -> Case {
-        Case {
-            lists: permuted(&self.lists, !self.seed),
-            ..*self
+    /// The same net on another site, with the entries of both lists in another order.
+    fn moved(&self) -> Moved {
+        self.moved_with(&[])
+    }
+
+    /// The same where edges are to stay in range too.
+    fn moved_with(&self, edges: &[i32]) -> Moved {
+        let by = Shift::of(&self.lists, edges, self.seed);
+        let lists = permuted(&by.lists(&self.lists), !self.seed);
+        Moved {
+            case: Case { lists, ..*self },
+            by,
         }
     }
 
     /// An operation with one lent space, exact or longer, then too little or none: both programs on the lists, and the proved one once more
-    /// with the lists in another order, which must not change its answer.
+    /// on the net moved, with its lists in another order, which must move what is given and change nothing else.
     fn one_space<T: Copy + Debug, A: Debug>(
         &self,
         operation: &'static str,
         asked: usize,
         number: fn(u64) -> T,
         [ours, theirs]: [OneSpace<T, A>; 2],
+        there: fn(&A, Shift, &mut [T]),
     ) -> Matched {
         let random = &mut Random::new(self.seed);
         let longer = random.choose(&[0, 0, 1, 40]);
         let short = random.choose(&[0, asked / 2, asked.saturating_sub(1)]);
-        let turned = self.turned();
+        let Moved { case, by } = self.moved();
         for lent in [asked + longer, short] {
             let answer = |call: OneSpace<T, A>, lists: &Lists| {
                 let mut space = Lent::of(&mut Random::new(self.seed), lent, number);
                 let (pins, macros, weights) = lists.parts();
                 let answer = call(pins, macros, weights, space.part());
-                said(answer, &[space.numbers])
+                (answer, space.numbers)
             };
-            let expected = answer(theirs, &self.lists);
-            self.same(operation, answer(ours, &self.lists), expected.clone())?;
-            turned.same(operation, answer(ours, &turned.lists), expected)?;
+            let (expected, mut numbers) = answer(theirs, &self.lists);
+            let (found, space) = answer(ours, &self.lists);
+            self.same(
+                operation,
+                said(found, &[space]),
+                said(&expected, &[&numbers]),
+            )?;
+            if let Ok(given) = &expected {
+                there(given, by, &mut numbers);
+            }
+            let (found, space) = answer(ours, &case.lists);
+            case.same(
+                operation,
+                said(found, &[space]),
+                said(&expected, &[&numbers]),
+            )?;
         }
         Ok(())
     }
@@ -341,6 +379,7 @@ impl Case {
             5 * self.pins(),
             |bits| bits as i64,
             [library::terminal_tree, operations::terminal_tree],
+            |(paths, _), by, numbers| by.paths(&mut numbers[..5 * paths]),
         )
     }
 
@@ -351,6 +390,7 @@ impl Case {
             4 * (self.points() + self.pins()),
             |bits| bits as i32,
             [library::refined_tree, operations::refined_tree],
+            |(edges, ..), by, numbers| by.places(&mut numbers[..4 * edges]),
         )
     }
 
@@ -361,11 +401,12 @@ impl Case {
             8 * (self.points() + self.pins()),
             |bits| bits as i32,
             [library::slid_tree, operations::slid_tree],
+            |(edges, ..), by, numbers| by.places(&mut numbers[..4 * edges]),
         )
     }
 
-    /// "Pass or fail for bought-in trees", of a list of edges; and the proved one once more with the net's lists and the edges in another
-    /// order. The answer.
+    /// "Pass or fail for bought-in trees", of a list of edges; and the proved one once more on another site, with the net's lists and the
+    /// edges in another order. The answer.
     pub fn check_tree(
         &self,
         kind: &'static str,
@@ -373,10 +414,11 @@ impl Case {
     ) -> Result<Result<(i64, i64), u32>, Box<Difference>> {
         let (pins, macros, weights) = self.lists.parts();
         let expected = operations::check_tree(pins, macros, weights, edges);
-        for (case, edges) in [
-            (self, edges.to_vec()),
-            (&self.turned(), turned_edges(edges, self.seed)),
-        ] {
+        let moved = self.moved_with(edges);
+        let mut there = edges.to_vec();
+        moved.by.places(&mut there);
+        let turned = turned_edges(&there, self.seed);
+        for (case, edges) in [(self, edges.to_vec()), (&moved.case, turned)] {
             let (pins, macros, weights) = case.lists.parts();
             let ours = library::check_tree(pins, macros, weights, &edges);
             case.same("check a tree", format!("{ours:?}"), format!("{expected:?}"))
@@ -395,6 +437,7 @@ impl Case {
             8 * (self.points() + self.pins()),
             |bits| bits as i32,
             [library::wires, operations::wires],
+            |wires, by, numbers| by.places(&mut numbers[..4 * wires]),
         )
     }
 
@@ -406,17 +449,19 @@ impl Case {
             m * m,
             |bits| bits as i64,
             [library::grid_distances, operations::grid_distances],
+            |_, _, _| (),
         )
     }
 
-    /// "Delay to each pin", from a driver and by a technology of all sorts, bit for bit; and the proved one once more with the lists in another
-    /// order. The answer with enough space.
+    /// "Delay to each pin", from a driver and by a technology of all sorts, bit for bit; and the proved one once more on another site, with
+    /// the lists in another order. The answer with enough space.
     pub fn delay(&self) -> Result<Result<usize, u32>, Box<Difference>> {
         let random = &mut Random::new(self.seed ^ 0xde1a);
         let (driver, technology) = (driver(random, &self.lists), technology(random));
         let (asked, longer) = (self.pins(), random.choose(&[0, 0, 1, 40]));
         let short = random.choose(&[0, asked / 2, asked.saturating_sub(1)]);
-        let turned = self.turned();
+        let moved = self.moved();
+        let there = moved.by.place(driver);
         let (pins, macros, weights) = self.lists.parts();
         let tree = second::check(pins, macros, weights).map(|net| (refined(&net).edges, net));
         let at = reference::net::Place {
@@ -438,7 +483,7 @@ impl Case {
             let given = given.map(|delays| delays.len());
             let theirs: Vec<u64> = bits(theirs);
             let expected = said(given, &[theirs]);
-            for case in [self, &turned] {
+            for (case, driver) in [(self, driver), (&moved.case, there)] {
                 let (pins, macros, weights) = case.lists.parts();
                 let mut ours = space();
                 let answer = library::delay(pins, macros, weights, driver, technology, ours.part());
@@ -462,7 +507,7 @@ impl Case {
         let metal = net.map(|net| refined(&net).metal.unsigned_abs());
         let list = bands(kind, self.seed, metal.unwrap_or(self.seed));
         let expected = metal.and_then(|metal| price::price(metal, &list));
-        for case in [self, &self.turned()] {
+        for case in [self, &self.moved().case] {
             let (pins, macros, weights) = case.lists.parts();
             let ours = library::price(pins, macros, weights, &list);
             case.same("price", format!("{ours:?}"), format!("{expected:?}"))

@@ -5,7 +5,7 @@ use harness::counted::Counted;
 use harness::library;
 use harness::matching::{refused, routed};
 use reference::best::{cost_by_edge_sets, edge_numbers, MACROS, PINS, WORK};
-use reference::generate::permuted;
+use reference::generate::{permuted, Shift};
 use reference::lists::{unloaded, Lists};
 use reference::net::{check, Net, Weights};
 use reference::operations;
@@ -116,7 +116,8 @@ fn matched(lists: &Lists, seed: u64) -> Result<(usize, i64, i64), u32> {
     let said = ours.answer.map(|(_, total, _)| total);
     assert_eq!(said, expected, "seed {seed}\n{}", text::print(lists));
     ours.lent_as_it_should_be(lists);
-    let turned = call(&permuted(lists, !seed), WORK, asked, seed);
+    let there = Shift::of(lists, &[], seed).lists(lists);
+    let turned = call(&permuted(&there, !seed), WORK, asked, seed);
     assert_eq!(turned.answer.map(|(_, total, _)| total), expected);
     turned.lent_as_it_should_be(lists);
     for (work, edges) in [(WORK - 1, asked), (WORK, asked.saturating_sub(1)), (0, 0)] {

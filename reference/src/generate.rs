@@ -18,6 +18,7 @@ mod loads;
 mod nets;
 mod permuted;
 mod searched;
+mod shifted;
 mod technology;
 mod walls;
 mod weights;
@@ -29,6 +30,7 @@ pub use hostile::{hostile, hostile_weighted, refusal, Hostile};
 pub use loads::loaded;
 pub use nets::{half, net, weighted, Kind};
 pub use permuted::permuted;
+pub use shifted::Shift;
 pub use technology::{driver, technology};
 pub use walls::chambers;
 

@@ -1,8 +1,8 @@
 //! A tree router whose every answer is proved, from Rust.
 //!
-//! A [`Net`] is pins, macros and weights; its calls give trees, wires, distances, delays, a net file or a price as values of their own, or check
-//! the tree of another router, or give a [`Refusal`] that says why not. All the work is the static library's, of which every function is
-//! proved to do what the documents say; this crate only lends the space and sorts the numbers into structs, and is tested.
+//! A [`Net`] is pins, macros and weights; its calls give trees, wires, distances, delays, a net file or a price as values of their own, or
+//! check the tree of another router, or give a [`Refusal`] that says why not. All the work is the static library's, of which every function
+//! is proved to do what the documents say; this crate only lends the space and sorts the numbers into structs, and is tested.
 //!
 //! ```
 //! use calzundi::{Net, Refusal};

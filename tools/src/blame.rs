@@ -1,6 +1,6 @@
 //! Which entries a refusal is about. The number is the proved router's; what is to blame is found here, and for 13 to 18 all of it.
 
-use calzundi::{Macro, Net, Pin, Refusal, Weights};
+use calzundi::{Macro, Net, Refusal, Weights};
 use calzundi::{BEST_PINS, COORDINATE, GRID_MACROS, GRID_PINS, LOAD, MACROS, PINS, WEIGHT};
 
 use crate::text::{numbers_of, sides, Lines};

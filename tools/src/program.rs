@@ -138,7 +138,7 @@ calzundi COMMAND ..: a tree router whose every answer is proved
     best NET               a best tree of up to 5 pins and 16 macros, and how much more the others cost
     verify NET TREE        whether a tree of another router passes for a net, and what it costs
     draw NET [PICTURE]     a picture of both trees, as SVG; with --html a page to look into; --slid, --best, --tree, --delay
-    compare A B            whether two nets get the same metal, and its fingerprint
+    compare A B            whether two nets get the same metal, and its fingerprint; --shift, on another site too
     batch NET..            a line for each of many nets; --csv, --jobs, --shard
     price NET BANDS        what a bureau charges for the metal
     distances NET          what metal between every two pins costs at least

@@ -342,6 +342,41 @@ fn compare_says_what_differs() {
     assert!(refused.contains("refused 15"), "{refused}");
 }
 
+/// A net on another site, its lists in another order; one that only nearly is; and nets with no wires, which no shift tells apart.
+#[test]
+fn compare_knows_a_shift() {
+    let folder = folder("shift");
+    let (one, other) = (folder.join("one"), folder.join("other"));
+    fs::write(&one, "pin 0 0\npin 4 0\npin 2 3\nmacro 1 1 3 2\n").unwrap();
+    fs::write(
+        &other,
+        "pin -98 -2\npin -96 -5\nmacro -99 -4 -97 -3\npin -100 -5\n",
+    )
+    .unwrap();
+    let shifted = printed(&["compare", "--shift", word(&one), word(&other)], b"");
+    let line = "same metal, shifted by -100 -5\n";
+    assert!(shifted.starts_with(line), "{shifted}");
+    let plain = run(&["compare", word(&one), word(&other)], b"");
+    assert_eq!(plain.status.code(), Some(1));
+    assert!(plain.stdout.starts_with(b"other metal\n"));
+    let same = printed(&["compare", "--shift", word(&one), word(&one)], b"");
+    assert!(same.starts_with("same metal\n"), "{same}");
+    let back = printed(&["compare", "--shift", word(&other), word(&one)], b"");
+    assert!(back.starts_with("same metal, shifted by 100 5\n"), "{back}");
+    fs::write(
+        &other,
+        "pin -98 -2\npin -96 -5\nmacro -99 -4 -97 -3\npin -100 -6\n",
+    )
+    .unwrap();
+    let nearly = run(&["compare", "--shift", word(&one), word(&other)], b"");
+    assert_eq!(nearly.status.code(), Some(1));
+    assert!(nearly.stdout.starts_with(b"other metal\n"));
+    fs::write(&one, "pin 0 0\n").unwrap();
+    fs::write(&other, "pin 7 7\n").unwrap();
+    let none = printed(&["compare", "--shift", word(&one), word(&other)], b"");
+    assert!(none.starts_with("same metal\n"), "{none}");
+}
+
 /// The order of the lists is not the metal's, and the fingerprint is the wires' alone.
 #[test]
 fn fingerprints_are_of_wires() {

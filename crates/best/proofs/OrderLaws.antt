@@ -61,7 +61,7 @@ module _ {W : Weights} {ps qs : List Place} {ms ns : List Macro} (h : SameNet W 
   step-same xs ys a b (across s e m c) = across s e m (sym (h .clears a b) ∙ c)
   step-same xs ys a b (along s e m c) = along s e m (sym (h .clears a b) ∙ c)
 
-  link-same : (a b : Place) → Link (gridEdges (netBy W ps ms)) a b → Link (gridEdges (netBy W qs ns)) a b
+  pub link-same : (a b : Place) → Link (gridEdges (netBy W ps ms)) a b → Link (gridEdges (netBy W qs ns)) a b
   link-same a b l =
       grid-link (netBy W qs ns) a b
       (subst (λ (xs : List ℤ). GridStep xs (yLines (netBy W qs ns)) ns a b) (lines-same Across)

@@ -121,7 +121,7 @@ module _ (pts : List ℤ) (ks : List ℕ) (N e : ℕ) (order : InOrder pts N) (w
         ∙ delayIn-renamed at eqb samePlace q float.zero list
         (λ x m. sym (same-number pts ks N e order within ranked few (x .0) q (small x m) hq))
         ∙ ap (delayIn samePlace (at q) float.zero)
-        (delays-renamed at distance (loadIn loads) load t (λ c. c < N) loaded tree every d float.zero
+        (delays-renamed at (apartIn pts) distance (λ a b. refl) (loadIn loads) load t (λ c. c < N) loaded tree every d float.zero
         ∙ ap (delays distance load t (at d) float.zero)
         (hung-places pts ks N e order within ranked few e d d hd hd
         ∙ ap (λ (n : ℕ). hanging edges n (at d) (at d)) (sym (edges-count pts ks e))))

@@ -15,7 +15,7 @@ use Rattle.lists.proofs.TestLaws.{by, either}
 use Rattle.delay.specs.declared.Technology.{Technology}
 use Rattle.delay.specs.Float.{whole}
 use Rattle.delay.specs.Rooted.{Branches, none, branch, sprout, renamed, Every}
-use Rattle.delay.specs.Elmore.{withChild, childDelay, edgeResistance, edgeCapacitance, capacitance, gathered}
+use Rattle.delay.specs.Elmore.{edgeValue, withChild, childDelay, edgeCapacitance, capacitance, gathered}
 use Rattle.delay.specs.Elmore.{delayOfChild, delays, delayIn}
 use Rattle.delay.specs.Table.{stored}
 
@@ -36,42 +36,39 @@ module _ {A B : Type 0} (f : A → B) where
   abbrev pub named : A × Float → B × Float
   named x = (f (x .0), x .1)
 
-  module _ (apart : B → B → ℕ) (load : A → ℕ) (load′ : B → ℕ) (t : Technology) (P : A → Type 0)
-      (h : (a : A) → P a → load a ≡ load′ (f a)) where
-    abbrev apartBy : A → A → ℕ
-    apartBy a b = apart (f a) (f b)
-
+  module _ (apart : A → A → ℕ) (apart′ : B → B → ℕ) (far : (a b : A) → apart a b ≡ apart′ (f a) (f b)) (load : A → ℕ) (load′ : B → ℕ)
+      (t : Technology) (P : A → Type 0) (h : (a : A) → P a → load a ≡ load′ (f a)) where
     gathered-renamed : (b : Branches A) → Every P b → (p : A) (s : Float)
-        → gathered apartBy load t p s b ≡ gathered apart load′ t (f p) s (renamed f b)
+        → gathered apart load t p s b ≡ gathered apart′ load′ t (f p) s (renamed f b)
     unfolding gathered renamed
     gathered-renamed none e p s = refl
     gathered-renamed (branch c below beside) e p s =
-        let one : gathered apartBy load t c (whole (load c)) below ≡ gathered apart load′ t (f c) (whole (load′ (f c))) (renamed f below) =
+        let one : gathered apart load t c (whole (load c)) below ≡ gathered apart′ load′ t (f c) (whole (load′ (f c))) (renamed f below) =
         gathered-renamed below (e .1 .0) c (whole (load c))
-        ∙ ap (λ (n : ℕ). gathered apart load′ t (f c) (whole n) (renamed f below)) (h c (e .0)) in
+        ∙ ap (λ (n : ℕ). gathered apart′ load′ t (f c) (whole n) (renamed f below)) (h c (e .0)) in
         gathered-renamed beside (e .1 .1) p
-        (withChild s (gathered apartBy load t c (whole (load c)) below) (edgeCapacitance apartBy load t p c))
-        ∙ ap (λ (x : Float). gathered apart load′ t (f p) (withChild s x (edgeCapacitance apart load′ t (f p) (f c))) (renamed f beside))
-        one
+        (withChild s (gathered apart load t c (whole (load c)) below) (edgeCapacitance apart load t p c))
+        ∙ ap₂ (λ (x : Float) (n : ℕ). gathered apart′ load′ t (f p) (withChild s x (edgeValue (t .capacitance) n)) (renamed f beside))
+        one (far p c)
 
     pub capacitance-renamed : (c : A) (b : Branches A) → P c → Every P b
-        → capacitance apartBy load t c b ≡ capacitance apart load′ t (f c) (renamed f b)
+        → capacitance apart load t c b ≡ capacitance apart′ load′ t (f c) (renamed f b)
     capacitance-renamed c b o e =
-        gathered-renamed b e c (whole (load c)) ∙ ap (λ (n : ℕ). gathered apart load′ t (f c) (whole n) (renamed f b)) (h c o)
+        gathered-renamed b e c (whole (load c)) ∙ ap (λ (n : ℕ). gathered apart′ load′ t (f c) (whole n) (renamed f b)) (h c o)
 
     pub delays-renamed : (b : Branches A) → Every P b → (p : A) (d : Float)
-        → map named (delays apartBy load t p d b) ≡ delays apart load′ t (f p) d (renamed f b)
+        → map named (delays apart load t p d b) ≡ delays apart′ load′ t (f p) d (renamed f b)
     unfolding delays renamed
     delays-renamed none e p d = refl
     delays-renamed (branch c below beside) e p d =
-        let mine = delayOfChild apartBy load t p d c below in
-        let one : mine ≡ delayOfChild apart load′ t (f p) d (f c) (renamed f below) =
-        ap (childDelay d (edgeResistance apart load′ t (f p) (f c)) (edgeCapacitance apart load′ t (f p) (f c)))
+        let mine = delayOfChild apart load t p d c below in
+        let one : mine ≡ delayOfChild apart′ load′ t (f p) d (f c) (renamed f below) =
+        ap₂ (λ (n : ℕ) (x : Float). childDelay d (edgeValue (t .resistance) n) (edgeValue (t .capacitance) n) x) (far p c)
         (capacitance-renamed c below (e .0) (e .1 .0)) in
         ap₂ (λ (x : B × Float) (l : List (B × Float)). x ∷ l) (ap (λ (x : Float). (f c, x)) one)
-        (map-append named (delays apartBy load t c mine below) (delays apartBy load t p d beside)
+        (map-append named (delays apart load t c mine below) (delays apart load t p d beside)
         ∙ ap₂ (λ (k l : List (B × Float)). k ++ l)
-        (delays-renamed below (e .1 .0) c mine ∙ ap (λ (x : Float). delays apart load′ t (f c) x (renamed f below)) one)
+        (delays-renamed below (e .1 .0) c mine ∙ ap (λ (x : Float). delays apart′ load′ t (f c) x (renamed f below)) one)
         (delays-renamed beside (e .1 .1) p d))
 
   -- the delay that a list has for a point

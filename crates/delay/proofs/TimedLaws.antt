@@ -110,6 +110,14 @@ module _ {X : List Place} {es : List (Place × Place)} (tree : TreeOn X es) (ins
 
 -- Every order of the edges and of the pins
 
+-- the same places are the same in order
+pub same-sorted : (pins qins : List Place) → Among pins qins → Among qins pins → sorted before pins ≡ sorted before qins
+same-sorted pins qins i j =
+    ascending-same before place-order (sorted before pins) (sorted before qins) (sorted-ascending before place-order pins)
+    (sorted-ascending before place-order qins)
+    (λ q m. in-sorted before place-order qins q (i q (of-sorted before pins q m)))
+    (λ q m. in-sorted before place-order pins q (j q (of-sorted before qins q m)))
+
 module _ (es fs : List (Place × Place)) (h : Among es fs) (k : Among fs es) where
   sprout-same : {A : Type 0} (f g : A → Branches A) (cs : List A) → ((c : A) → f c ≡ g c) → sprout f cs ≡ sprout g cs
   unfolding sprout
@@ -141,12 +149,7 @@ module _ (es fs : List (Place × Place)) (h : Among es fs) (k : Among fs es) whe
         → marksOf es load t driver pins ≡ marksOf fs load′ t driver qins
     unfolding marksOf
     marksOf-same pins qins i j =
-        each (sorted before pins)
-        ∙ ap (map (λ q. marked (delayOf fs load′ t driver q)))
-        (ascending-same before place-order (sorted before pins) (sorted before qins) (sorted-ascending before place-order pins)
-        (sorted-ascending before place-order qins)
-        (λ q m. in-sorted before place-order qins q (i q (of-sorted before pins q m)))
-        (λ q m. in-sorted before place-order pins q (j q (of-sorted before qins q m))))
+        each (sorted before pins) ∙ ap (map (λ q. marked (delayOf fs load′ t driver q))) (same-sorted pins qins i j)
       where
         each : (l : List Place) → map (λ q. marked (delayOf es load t driver q)) l ≡ map (λ q. marked (delayOf fs load′ t driver q)) l
         each [] = refl

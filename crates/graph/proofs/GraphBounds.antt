@@ -55,7 +55,7 @@ module _ {net : Net} (a : Allowed net) where
       let r = spanning-edge net e m in
       cost-in-range a (e .0) (e .1) (vertex-in-range _ (r .first)) (vertex-in-range _ (r .second))
 
-  -- N23: at most 320 points and 1,280 edges
+  -- N23: at most 640 points and 2,560 edges
   pub few-vertices : length (verticesOf net) ≤ pointBound
   few-vertices = omega (arith, length-vertices net, a .few-pins, a .few-macros)
 

@@ -1,4 +1,4 @@
-// E12 to E14 and E20: checks nets at the bounds and one past them, and writes each answer on a line of its own.
+// E12 to E14, E20 and E33: checks nets at the bounds and one past them, and writes each answer on a line of its own.
 use net::Checked;
 use net::Net;
 use net::Weighing;

@@ -5,17 +5,7 @@ pub mod CountedLaws
 pub mod FreshTables
 pub mod RefinedLaws
 pub mod Distances
-pub mod PriceLaws
 pub mod BestLaws
-pub mod EveryOrder
-pub mod WorkedNets
-pub mod WorkedPrices
-pub mod WorkedBought
-pub mod WorkedBest
-pub mod Published
-pub mod FirstRelease
 pub mod SlidLaws
-pub mod BoughtLaws
 pub mod SlidTable
 pub mod DelayLaws
-pub mod DelayOrder

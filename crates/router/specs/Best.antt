@@ -55,7 +55,7 @@ unfoldable pub bestTree : Weighing → List ℤ → List ℤ → ℕ → ℕ →
 bestTree w pins macros work room T = onlyIf (checked w pins macros) (bestGiven w pins macros work room T)
 
 -- What is promised of the best tree of an allowed net, whichever is given; the check is the only premise (`promised-best`,
--- proofs/BestLaws.antt)
+-- promises/proofs/BestPromise.antt)
 pub record PromisedBest (w : Weighing) (pins macros : List ℤ) : Type 0 where
   -- D1b: a net of that size is given one, where there is room for it
   pub best-given : pinCount pins ≤ bestPins → macroCount macros ≤ gridMacros → (work room : ℕ) → workBound ≤ work

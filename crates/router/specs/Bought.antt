@@ -40,7 +40,8 @@ pub record Listed (edges : List ℤ) : Type 0 where
 abbrev pub sumsOf : Weighing → List ℤ → List ℤ → List Edge → ℤ × ℤ
 sumsOf w pins macros T = (pos (lengths (costIn (netOf w pins macros)) T), pos (lengths distance T))
 
--- What is promised of the check for an allowed net; the check of the net is the only premise (`promised-check`, proofs/BoughtLaws.antt)
+-- What is promised of the check for an allowed net; the check of the net is the only premise (`promised-check`,
+-- promises/proofs/BoughtLaws.antt)
 pub record PromisedCheck (w : Weighing) (pins macros : List ℤ) : Type 0 where
   -- V3 to V6: unless 33 applies, a list passes exactly when it does in words, and is then given its cost and its metal
   pub passes : (edges : List ℤ) → Listed edges → Passes (netOf w pins macros) (edgesOf edges)

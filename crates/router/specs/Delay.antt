@@ -53,7 +53,7 @@ pub record PromisedDelay (w : Weighing) (pins macros : List ℤ) : Type 0 where
       → Timed (treePoints (netOf w pins macros) (laidOf w pins macros)) (laidOf w pins macros) (loadsOf pins) t driver
 
 -- D2b, Y8: what two calls have in common that have the same weights, driver and technology, and lists with the same entries in another
--- order (`delay-order`, proofs/DelayOrder.antt)
+-- order (`delay-order`, promises/proofs/DelayOrder.antt)
 pub record SameDelays (w : Weighing) (pins pins′ macros macros′ : List ℤ) (driver : Place) (t : Technology) : Type 0 where
   pub answer : (room : ℕ) → pinDelays w pins macros driver t room ≡ pinDelays w pins′ macros′ driver t room
   pub delays : (room : ℕ) (lent : List Float)

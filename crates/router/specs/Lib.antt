@@ -35,10 +35,7 @@
 --   Call         Gives, GivesTwo                      what a call answers and leaves in one lent list, in two: the contracts
 --                GivesSquare                          the same of a table whose numbers are fixed by what they mean
 --                GivesBest                            the same of a best tree, where which one is left to the program
---   Published    Promised w pins macros               all that is promised of an allowed net: the trees of the rules, the only ones, and D3
---   EveryOrder   SameForBoth                          what two calls have in common whose pins are at the same places, in whatever order
---                ByPlaces                             that calls with the same entries in another order, or with other loads, have it
---   FirstRelease AsFirst pins macros                  with weights 1 and 1 every cost is a length, and files are those of the first release
+-- All that is promised of these answers, of all orders and of all sites, stands in `promises`.
 pub mod Counted
 pub mod Graph
 pub mod Room
@@ -53,6 +50,3 @@ pub mod Price
 pub mod Bought
 pub mod Best
 pub mod Call
-pub mod Published
-pub mod EveryOrder
-pub mod FirstRelease

@@ -3,7 +3,7 @@
 //
 // The contract of one that is lent space names one record (specs/Call.antt): the answer, as the rules have it, and what each lent list then
 // holds, refused calls too. Those of check, price and check_tree, which are lent none, are one equation each.
-// What the trees that are given are, and what is promised of them, is `Promised` (specs/Published.antt).
+// What the trees that are given are, and what is promised of them, is `Promised` (promises/specs/Published.antt).
 mod allowed; // allowed.rt: what goes on once the check has passed
 
 use bought::Verdict;

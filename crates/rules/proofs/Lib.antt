@@ -10,7 +10,9 @@ pub mod BesideOnly
 pub mod RoundOnly
 pub mod ReachOurs
 pub mod PrunesOnly
--- Every order
+-- Moved, and in every order
+pub mod TreesMoved
+pub mod RefinedMoved
 pub mod TreesOrder
 -- Ours
 pub mod SpanningOurs

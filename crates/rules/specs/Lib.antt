@@ -26,6 +26,7 @@
 --              Loose, Strips, Prunes            points that go, in any order, until there is none
 --              Refined net G ks rs              rs are the edges of the refined tree, in order
 --   Trees      Trees net vs es ks rs            all three;  Equal: the same four lists
+--   Moved      movedEdge, movedPath             where a map of the plane takes them
 --   Demand     BestJoining net G ks             D3 of the kept paths;  RefinedTree: D3 of the refined tree
 --
 -- THE THEOREMS (proofs/)
@@ -34,6 +35,7 @@
 --   TerminalOurs   terminal-ours, terminal-only               the same of the terminal tree
 --   RefinedOurs    refined-ours, refined-only, refined-tree   the same of the refined tree, and D3 of it;  between-trees
 --   TreesOurs      trees-ours, trees-only                     all three at once;  trees-same: for every order of pins and macros
+--   RefinedMoved   trees-there                                a map of the plane that keeps what the rules ask carries the trees along
 --   BestLaws       best-joining                               D3 of the kept paths
 --   PrunesOnly     prunes-only                                every order of pruning leaves the same edges
 pub mod Interior
@@ -42,4 +44,5 @@ pub mod Spanning
 pub mod Terminal
 pub mod Refined
 pub mod Trees
+pub mod Moved
 pub mod Demand

@@ -16,7 +16,6 @@ use Rattle.lists.specs.Sorted.{sorted}
 use Rattle.lists.proofs.AnyOrder.{any-perm, length-perm}
 use Rattle.lists.proofs.OrderLaws.{number-order}
 use Rattle.lists.proofs.PermLaws.{perm-among, order-same, order-lists-set}
-use Rattle.lists.proofs.SortedLaws.{of-sorted, in-sorted, sorted-ascending, ascending-same}
 use Rattle.lent.specs.Told.{Told, refused, given, onlyIf}
 use Rattle.lent.specs.Over.{after}
 use Rattle.lent.proofs.AfterLaws.{after-refused}
@@ -38,14 +37,14 @@ use Rattle.delay.specs.declared.Technology.{Technology}
 use Rattle.delay.specs.declared.Delay.{Delay}
 use Rattle.delay.specs.Answer.{marked, delayOf, marksOf, finites, delayed, delayAnswer}
 use Rattle.delay.proofs.LoadLaws.{loads-same}
-use Rattle.delay.proofs.TimedLaws.{marksOf-same}
+use Rattle.delay.proofs.TimedLaws.{same-sorted, marksOf-same}
 use Rattle.router.specs.Refined.{laidOf}
 use Rattle.router.specs.Delay.{loadsOf, delaysOf, delayGiven, pinDelays, SameDelays}
 use Rattle.router.proofs.AnswerLaws.{only-refused}
-use Rattle.router.proofs.EveryOrder.{same-laid}
+use Rattle.promises.proofs.EveryOrder.{same-laid}
 
 -- no two pins of an allowed net are at one place
-places-once : (w : Weighing) (pins macros : List ℤ) → Allowed (netOf w pins macros) →
+pub places-once : (w : Weighing) (pins macros : List ℤ) → Allowed (netOf w pins macros) →
     Once (map (λ (e : Place × ℤ). e .0) (pinEntries pins))
 places-once w pins macros a = rw (entry-places pins) (apart-once (pinPlaces pins) (a .pins-apart))
 
@@ -76,13 +75,10 @@ module _ (w : Weighing) (pins pins′ macros macros′ : List ℤ) (p : SamePins
     b : Allowed (netOf w pins′ macros′)
     b = given-allowed w pins′ macros′ (sym same-check ∙ g) .1
 
-    same-sorted : sorted before (pinPlaces pins) ≡ sorted before (pinPlaces pins′)
-    same-sorted =
+    same-order : sorted before (pinPlaces pins) ≡ sorted before (pinPlaces pins′)
+    same-order =
         ∥∥₁-elim (places .order) (order-lists-set place-order _ _) λ d.
-        ascending-same before place-order (sorted before (pinPlaces pins)) (sorted before (pinPlaces pins′))
-        (sorted-ascending before place-order (pinPlaces pins)) (sorted-ascending before place-order (pinPlaces pins′))
-        (λ x m. in-sorted before place-order (pinPlaces pins′) x (perm-among d x (of-sorted before (pinPlaces pins) x m)))
-        (λ x m. in-sorted before place-order (pinPlaces pins) x (perm-among (Permᴰ·symm d) x (of-sorted before (pinPlaces pins′) x m)))
+        same-sorted (pinPlaces pins) (pinPlaces pins′) (perm-among d) (perm-among (Permᴰ·symm d))
 
     same-load : (x : Place) → loadsOf pins x ≡ loadsOf pins′ x
     same-load x =
@@ -96,7 +92,7 @@ module _ (w : Weighing) (pins pins′ macros macros′ : List ℤ) (p : SamePins
         marksOf-same (laidOf w pins macros) (laidOf w pins macros) (λ x m. m) (λ x m. m) refl (loadsOf pins) (loadsOf pins′) same-load t
         driver (pinPlaces pins) (pinPlaces pins) (λ x m. m) (λ x m. m)
         ∙ ap₂ (λ (es : List (Place × Place)) (l : List Place). map (λ x. marked (delayOf es (loadsOf pins′) t driver x)) l)
-        (same-laid w pins pins′ macros macros′ places q net g) same-sorted
+        (same-laid w pins pins′ macros macros′ places q net g) same-order
 
     same-given : (room : ℕ) → delayGiven w pins macros driver t room ≡ delayGiven w pins′ macros′ driver t room
     unfolding delayGiven delayAnswer delaysOf

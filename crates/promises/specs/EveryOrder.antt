@@ -22,15 +22,16 @@ use Rattle.grid.specs.Edges.{Edge}
 use Rattle.best.specs.Bounds.{workBound}
 use Rattle.best.specs.Tree.{BestTree}
 use Rattle.bought.specs.Rearranged.{SameEdges}
 use Rattle.router.specs.Graph.{netVertices, netEdges, graphed}
 use Rattle.router.specs.Terminal.{pathsOf, terminalTree}
 use Rattle.router.specs.Refined.{laidOf, refinedTree}
+use Rattle.router.specs.Both.{bothTrees}
 use Rattle.router.specs.Slid.{slidOf, slidTree}
 use Rattle.router.specs.Wires.{wiresOf, wired}
 use Rattle.router.specs.Distances.{gridDistances}
 use Rattle.router.specs.Price.{netPrice}
 use Rattle.router.specs.Bought.{checkedTree}
 use Rattle.router.specs.Best.{bestTree}
 
 pub record SameForBoth (w : Weighing) (pins pins′ macros macros′ : List ℤ) : Type 0 where
   pub check : checked w pins macros ≡ checked w pins′ macros′
@@ -45,6 +46,9 @@ pub record SameForBoth (w : Weighing) (pins pins′ macros macros′ : List ℤ)
   pub refined : (room : ℕ) → refinedTree w pins macros room ≡ refinedTree w pins′ macros′ room
   pub laid : (room : ℕ) (lent : List ℤ) → after (refinedTree w pins macros room) (flat edgeNumbers (laidOf w pins macros)) lent
       ≡ after (refinedTree w pins′ macros′ room) (flat edgeNumbers (laidOf w pins′ macros′)) lent
+  pub both : (room : ℕ) → bothTrees w pins macros room ≡ bothTrees w pins′ macros′ room
+  pub both-laid : (room : ℕ) (lent : List ℤ) → after (bothTrees w pins macros room) (flat edgeNumbers (laidOf w pins macros)) lent
+      ≡ after (bothTrees w pins′ macros′ room) (flat edgeNumbers (laidOf w pins′ macros′)) lent
   pub slid : (room : ℕ) → slidTree w pins macros room ≡ slidTree w pins′ macros′ room
   pub slid-edges : (room : ℕ) (lent : List ℤ) → after (slidTree w pins macros room) (flat edgeNumbers (slidOf w pins macros)) lent
       ≡ after (slidTree w pins′ macros′ room) (flat edgeNumbers (slidOf w pins′ macros′)) lent

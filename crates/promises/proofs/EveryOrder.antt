@@ -3,21 +3,21 @@
 -- trees of the other by the rules, which speak of no order and no load, and there is only one solution (`trees-same`).
 -- Assumes nothing.
 use mathlib.Core.Path.{_≡_, refl, sym, ap, ap₂, _∙_}
-use mathlib.Core.Bool.{Bool, true, false, cond, _||_}
+use mathlib.Core.Bool.{cond, _||_}
 use mathlib.Core.Logic.{∥∥₁-elim}
 use mathlib.Core.List.{List, map, Perm, Perm·refl, List·Permᴰ, Permᴰ·symm}
 use Prim.Native.Nat.{ℕ, _+_, _*_, _/_}
 use native.Mathlib.Nat.{ℕ-set}
 use lib.Dec.{ltb}
 use lib.IntN.{ℤ, pos}
-use lib.ListN.{length, replicate}
+use lib.ListN.{length}
 use Rattle.lists.specs.Sorted.{Order, firstThen}
 use Rattle.lists.specs.Total.{total}
 use Rattle.lists.proofs.AnyLaws.{none-any}
 use Rattle.lists.proofs.AnyOrder.{length-perm}
 use Rattle.lists.proofs.OrderLaws.{number-order, pair-order}
 use Rattle.lists.proofs.PermLaws.{perm-among, order-lists-set}
-use Rattle.lent.specs.Told.{Told, refused, given, code, onlyIf}
+use Rattle.lent.specs.Told.{Told, refused, given, onlyIf}
 use Rattle.lent.specs.Over.{after}
 use Rattle.lent.specs.Entries.{flat}
 use Rattle.lent.proofs.AfterLaws.{after-refused}
@@ -50,52 +50,31 @@ use Rattle.rules.proofs.EdgeLaws.{edge-order}
 use Rattle.rules.proofs.TreesOrder.{SameNet}
 use Rattle.rules.proofs.TerminalOurs.{paths-given}
 use Rattle.rules.proofs.TreesOurs.{trees-same}
 use Rattle.router.specs.Graph.{netVertices, netEdges, pointCount, graphRoomShort, graphGiven, graphed}
 use Rattle.router.specs.Room.{ifRoom}
 use Rattle.router.specs.Terminal.{pathsOf, pathsTotal, terminalGiven, terminalTree}
 use Rattle.router.specs.Refined.{refinedOf, edgesIn, totalIn, laidOf, laidTotal, refinedGiven, refinedTree}
+use Rattle.router.specs.Both.{bothGiven, bothTrees}
 use Rattle.router.specs.Slid.{slidIn, slidOf, slidGiven, slidTree}
 use Rattle.router.specs.Wires.{wiresGiven, wired}
 use Rattle.router.specs.Price.{netPrice}
 use Rattle.bought.specs.Rearranged.{SameEdges}
 use Rattle.bought.proofs.OrderLaws.{same-bought}
 use Rattle.bought.proofs.GivenLaws.{first-pin}
 use Rattle.router.specs.Bought.{checkedTree}
 use Rattle.grid.specs.Bounds.{gridPins, gridMacros}
 use Rattle.grid.specs.Distance.{Square}
 use Rattle.grid.proofs.SquareLaws.{SameGround, squares-same}
 use Rattle.router.specs.Distances.{aboveGrid, distancesGiven, gridDistances}
-use Rattle.best.specs.Bounds.{bestPins, workBound}
 use Rattle.best.specs.Tree.{BestTree}
 use Rattle.best.proofs.OrderLaws.{best-any-order}
-use Rattle.router.specs.Best.{aboveBest, bestNumbers, bestRoomShort, bestAnswer, bestGiven, bestTree}
-use Rattle.router.specs.EveryOrder.{SameForBoth, ByPlaces}
+use Rattle.promises.specs.EveryOrder.{SameForBoth, ByPlaces}
 use Rattle.router.proofs.AnswerLaws.{only-refused}
+use Rattle.promises.proofs.BestAlike.{same-code, same-work}
 
 -- bridges with lengths, in an order
 given-order : Order (firstThen edgeBefore ltb)
 given-order = pair-order edgeBefore ltb edge-order number-order
-
--- an answer by its refusals, and by what is given: the number of the refusal, and a list that holds the same in each success, do not
--- depend on what is given
-
-abbrev shown : {A : Type 0} → Told Counts → Bool → Bool → A → Told A
-shown c above short a = onlyIf c (cond above (refused 41) (cond short (refused 21) (given a)))
-
-shown-code : {A : Type 0} (c : Told Counts) (above short : Bool) (a b : A) → code (shown c above short a) ≡ code (shown c above short b)
-unfolding code onlyIf
-shown-code (refused n) above short a b = refl
-shown-code (given net) true short a b = refl
-shown-code (given net) false true a b = refl
-shown-code (given net) false false a b = refl
-
-shown-after : {A X : Type 0} (c : Told Counts) (above short : Bool) (a b : A) (xs lent : List X) →
-    after (shown c above short a) xs lent ≡ after (shown c above short b) xs lent
-unfolding after onlyIf
-shown-after (refused n) above short a b xs lent = refl
-shown-after (given net) true short a b xs lent = refl
-shown-after (given net) false true a b xs lent = refl
-shown-after (given net) false false a b xs lent = refl
 
 module _ (w : Weighing) (pins pins′ macros macros′ : List ℤ) (p : SamePlaces pins pins′) (q : SameMacros macros macros′) where
   same-check : checked w pins macros ≡ checked w pins′ macros′
@@ -129,29 +108,6 @@ module _ (w : Weighing) (pins pins′ macros macros′ : List ℤ) (p : SamePlac
 
   -- Best trees: which is given is left to the program, and neither the refusal nor the work tells
 
-  same-best : (work room : ℕ) (T : List Edge) → bestTree w pins macros work room T
-      ≡ shown (checked w pins′ macros′) (aboveBest pins′ macros′) (bestRoomShort (bestNumbers pins′ macros′) work room)
-      (bestAnswer w pins macros T)
-  unfolding bestTree bestGiven aboveBest
-  same-best work room T =
-      ap₂ onlyIf same-check
-      (ap₂ (λ (m k : ℕ). cond (ltb bestPins m || ltb gridMacros k) (refused 41)
-      (cond (bestRoomShort ((m + k * 2) * (m + k * 2) * 4) work room) (refused 21) (given (bestAnswer w pins macros T))))
-      same-pins same-macros)
-
-  same-code : (T U : List Edge) (work room : ℕ) → code (bestTree w pins macros work room T) ≡ code (bestTree w pins′ macros′ work room U)
-  unfolding bestTree bestGiven
-  same-code T U work room = ap code (same-best work room T) ∙ shown-code (checked w pins′ macros′) (aboveBest pins′ macros′)
-      (bestRoomShort (bestNumbers pins′ macros′) work room) (bestAnswer w pins macros T) (bestAnswer w pins′ macros′ U)
-
-  same-work : (T U : List Edge) (work room : ℕ) (lent : List ℕ) → after (bestTree w pins macros work room T) (replicate workBound 0) lent
-      ≡ after (bestTree w pins′ macros′ work room U) (replicate workBound 0) lent
-  unfolding bestTree bestGiven
-  same-work T U work room lent =
-      ap (λ (t : Told (ℕ × (ℤ × ℤ))). after t (replicate workBound 0) lent) (same-best work room T)
-      ∙ shown-after (checked w pins′ macros′) (aboveBest pins′ macros′) (bestRoomShort (bestNumbers pins′ macros′) work room)
-      (bestAnswer w pins macros T) (bestAnswer w pins′ macros′ U) (replicate workBound 0) lent
-
   same-best-cost : (T U : List Edge) → BestTree (netOf w pins macros) T → BestTree (netOf w pins′ macros′) U →
       lengths (costIn (netOf w pins macros)) T ≡ lengths (costIn (netOf w pins′ macros′)) U
   same-best-cost T U t u =
@@ -170,7 +126,7 @@ module _ (w : Weighing) (pins pins′ macros macros′ : List ℤ) (p : SamePlac
         sym (after-refused _ xs lent n (only-refused _ x n r)) ∙ after-refused _ ys lent n (only-refused _ y n (sym same-check ∙ r))
 
     refused-both : SameForBoth w pins pins′ macros macros′
-    unfolding graphed terminalTree refinedTree slidTree wired netPrice gridDistances checkedTree
+    unfolding graphed terminalTree refinedTree bothTrees slidTree wired netPrice gridDistances checkedTree
     refused-both = record {
       check = same-check;
       graph = λ v e. both _ _;
@@ -180,6 +136,8 @@ module _ (w : Weighing) (pins pins′ macros macros′ : List ℤ) (p : SamePlac
       paths = λ room lent. untouched _ _ _ _ lent;
       refined = λ room. both _ _;
       laid = λ room lent. untouched _ _ _ _ lent;
+      both = λ room. both _ _;
+      both-laid = λ room lent. untouched _ _ _ _ lent;
       slid = λ room. both _ _;
       slid-edges = λ room lent. untouched _ _ _ _ lent;
       wires = λ room. both _ _;
@@ -188,8 +146,8 @@ module _ (w : Weighing) (pins pins′ macros macros′ : List ℤ) (p : SamePlac
       distances = λ room. both _ _;
       table = λ t u s r room lent. untouched _ _ _ _ lent;
       bought = λ edges edges′ s. both _ _;
-      best = same-code;
-      best-work = same-work;
+      best = same-code w pins pins′ macros macros′ same-check same-pins same-macros;
+      best-work = same-work w pins pins′ macros macros′ same-check same-pins same-macros;
       best-cost = same-best-cost;
     }
 
@@ -268,6 +226,14 @@ module _ (w : Weighing) (pins pins′ macros macros′ : List ℤ) (p : SamePlac
         (ap₂ (λ (n : ℕ) (z : ℕ × (ℤ × ℤ)). ifRoom (n * 4) room z) same-room
         (ap₂ (λ (l : List Edge) (t : ℕ). (length l, (pos t, pos (metal l)))) same-laid same-cost))
 
+    same-both : (room : ℕ) → bothTrees w pins macros room ≡ bothTrees w pins′ macros′ room
+    unfolding bothTrees bothGiven
+    same-both room =
+        ap₂ onlyIf same-check
+        (ap₂ (λ (n : ℕ) (z : ℕ × (ℤ × (ℤ × ℤ))). ifRoom (n * 4) room z) same-room
+        (ap₂ (λ (t : ℕ) (z : ℕ × (ℤ × ℤ)). (z .0, (pos t, z .1))) same-total
+        (ap₂ (λ (l : List Edge) (t : ℕ). (length l, (pos t, pos (metal l)))) same-laid same-cost)))
+
     same-slid-tree : (room : ℕ) → slidTree w pins macros room ≡ slidTree w pins′ macros′ room
     unfolding slidTree slidGiven
     same-slid-tree room =
@@ -322,6 +288,8 @@ module _ (w : Weighing) (pins pins′ macros macros′ : List ℤ) (p : SamePlac
       paths = λ room lent. ap₂ (λ t l. after t (flat pathNumbers l) lent) (same-terminal room) same-paths;
       refined = same-refined;
       laid = λ room lent. ap₂ (λ t l. after t (flat edgeNumbers l) lent) (same-refined room) same-laid;
+      both = same-both;
+      both-laid = λ room lent. ap₂ (λ t l. after t (flat edgeNumbers l) lent) (same-both room) same-laid;
       slid = same-slid-tree;
       slid-edges = λ room lent. ap₂ (λ t l. after t (flat edgeNumbers l) lent) (same-slid-tree room) same-slid;
       wires = same-wires;
@@ -330,8 +298,8 @@ module _ (w : Weighing) (pins pins′ macros macros′ : List ℤ) (p : SamePlac
       distances = same-distances;
       table = λ t u s r room lent. ap₂ (λ (z : Told ℕ) (l : List ℕ). after z (map pos l) lent) (same-distances room) (same-table t u s r);
       bought = same-checked;
-      best = same-code;
-      best-work = same-work;
+      best = same-code w pins pins′ macros macros′ same-check same-pins same-macros;
+      best-work = same-work w pins pins′ macros macros′ same-check same-pins same-macros;
       best-cost = same-best-cost;
     }
 

@@ -13,8 +13,8 @@ use Rattle.netfile.specs.Layout.{fileBytes}
 use Rattle.netfile.proofs.FirstRelease.{plain-file}
 use Rattle.joined.specs.Cost.{lengths}
 use Rattle.refined.proofs.MetalLaws.{length-plain}
 use Rattle.router.specs.Refined.{totalIn, laidOf}
-use Rattle.router.specs.FirstRelease.{AsFirst}
+use Rattle.promises.specs.FirstRelease.{AsFirst}
 
 pub as-first : (pins macros : List ℤ) → AsFirst pins macros
 unfolding noWeight weightsWrong totalIn

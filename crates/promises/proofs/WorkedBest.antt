@@ -12,10 +12,10 @@ use Rattle.net.specs.Net.{weighing, plainly}
 use Rattle.net.specs.WorkedNets.{Lists, onePin, noPin, overlapping}
 use Rattle.net.proofs.WorkedChecks.{answer}
 use Rattle.grid.specs.Edges.{Edge}
 use Rattle.router.specs.Refined.{laidTotal}
 use Rattle.router.specs.Best.{aboveBest, bestRoomShort, bestGiven, bestTree}
-use Rattle.router.proofs.WorkedNets.{answersBy}
-use Rattle.router.proofs.WorkedBought.{checkOf}
+use Rattle.promises.proofs.WorkedNets.{answersBy}
+use Rattle.promises.proofs.WorkedBought.{checkOf}
 
 -- to unfold this is to unfold all that it rests on
 unfoldable pub bestOf : Weighing → Lists → ℕ → ℕ → List Edge → Told (ℕ × (ℤ × ℤ))

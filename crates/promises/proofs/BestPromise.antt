@@ -1,0 +1,78 @@
+-- What is promised of the best tree of an allowed net, whichever is given.
+-- Assumes nothing.
+use mathlib.Core.Path.{_≡_, _∙_}
+use mathlib.Core.List.{List}
+use Prim.Native.Nat.{_+_, _*_, _≤_}
+use native.Mathlib.Nat.{mul-le-mul}
+use native.Mathlib.Omega.{arith}
+use borrow.Author.Tests.{le-ltb}
+use lib.IntN.{ℤ}
+use lib.ListN.{length}
+use Rattle.lists.proofs.TestLaws.{or-neither}
+use Rattle.lent.specs.Told.{given}
+use Rattle.plane.specs.Flat.{macrosOf}
+use Rattle.plane.proofs.FlatLaws.{length-macros}
+use Rattle.net.specs.declared.Net.{Net as Counts}
+use Rattle.net.specs.declared.Weighing.{Weighing}
+use Rattle.net.specs.Pins.{pinCount, macroCount}
+use Rattle.net.specs.Net.{Net, netOf}
+use Rattle.net.specs.Check.{checked}
+use Rattle.net.proofs.AllowedLaws.{given-allowed, allowed-positive}
+use Rattle.net.proofs.PinLaws.{length-pins}
+use Rattle.refined.proofs.MetalLaws.{metal-low}
+use Rattle.grid.specs.declared.Axis.the-variants.{Across, Along}
+use Rattle.grid.specs.Lines.{xLines, yLines}
+use Rattle.grid.specs.Edges.{Edge}
+use Rattle.grid.proofs.GridCost.{line-count}
+use Rattle.bought.specs.Passes.{Passes}
+use Rattle.rules.proofs.InteriorLaws.{clear-points}
+use Rattle.best.specs.Bounds.{workBound}
+use Rattle.best.specs.Tree.{IsBest}
+use Rattle.best.proofs.BestLaws.{best-pinned}
+use Rattle.best.proofs.BestTree.{best-alike}
+use Rattle.best.proofs.CallLaws.{best-few}
+use Rattle.router.specs.Best.{bestNumbers, bestGiven, bestTree, PromisedBest}
+use Rattle.router.proofs.AnswerLaws.{only-given}
+use Rattle.router.proofs.BestLaws.{best-enough, within-best, no-dearer}
+use Rattle.promises.proofs.BoughtLaws.{promised-check}
+
+pub best-passes : (net : Net) (T : List Edge) → IsBest net T → Passes net T
+best-passes net T b = record {
+  one = b .one-tree;
+  once = b .simple .single;
+  apart = λ e m. b .simple .apart (e .0) (e .1) m;
+  free = λ e m. b .free (e .0) (e .1) m;
+  pinned = λ v s. best-pinned net T b v (s .other) (s .link) (s .alone);
+}
+
+-- L11 to L14, from the check alone
+pub promised-best : (w : Weighing) (pins macros : List ℤ) {v : Counts} → checked w pins macros ≡ given v → PromisedBest w pins macros
+unfolding bestTree
+promised-best w pins macros {v} g =
+    let net = netOf w pins macros in
+    let a = given-allowed w pins macros g .1 in
+    record {
+      best-given = λ h k work room l n T.
+          only-given (checked w pins macros) (bestGiven w pins macros work room T) v g
+          ∙ best-enough w pins macros work room T (within-best pins macros h k)
+          (or-neither _ _ (le-ltb work workBound l) (le-ltb room (bestNumbers pins macros) n));
+      least = λ T b. b .best .least;
+      alike = λ T U b c. best-alike net T U (b .best) (c .best);
+      passes = λ T b. best-passes net T (b .best);
+      checks = λ h k T b.
+          promised-check w pins macros g .numbers T (λ e m. b .in-range (e .0) (e .1) m)
+          (omega (
+            arith,
+            best-few net T (b .best) (omega (arith, h, length-pins pins)) (omega (arith, k, length-macros macros)),
+          ))
+          (best-passes net T (b .best));
+      outside = λ T b e m. clear-points (e .0) (e .1) (macrosOf macros) (a .upright) .0 (b .best .free (e .0) (e .1) m);
+      refined = λ T b. no-dearer a T (b .best);
+      metal-low = λ T b. metal-low (net .weights) (allowed-positive a) T;
+      few = λ T b.
+          let x : length (xLines net) ≤ pinCount pins + macroCount macros * 2 =
+          omega (arith, line-count Across net, length-pins pins, length-macros macros) in
+          let y : length (yLines net) ≤ pinCount pins + macroCount macros * 2 =
+          omega (arith, line-count Along net, length-pins pins, length-macros macros) in
+          omega (arith, b .best .few, mul-le-mul x y);
+    }

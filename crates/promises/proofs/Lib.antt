@@ -1,0 +1,13 @@
+pub mod PriceLaws
+pub mod BoughtLaws
+pub mod BestPromise
+pub mod BestAlike
+pub mod EveryOrder
+pub mod DelayOrder
+pub mod EverySite
+pub mod Published
+pub mod FirstRelease
+pub mod WorkedNets
+pub mod WorkedPrices
+pub mod WorkedBought
+pub mod WorkedBest

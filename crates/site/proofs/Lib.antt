@@ -1,0 +1,12 @@
+pub mod ShiftLaws
+pub mod NetShift
+pub mod ListShift
+pub mod BarShift
+pub mod SlidShift
+pub mod TreeShift
+pub mod KeptLaws
+pub mod GridShift
+pub mod CheckShift
+pub mod DelayShift
+pub mod BestShift
+pub mod WorkedSites
