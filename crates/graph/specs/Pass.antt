@@ -34,6 +34,14 @@ leads best far i = ltb (best .far) far || (eqb (best .far) far && leb (best .at)
 abbrev pub bestOf : Standing → Near
 bestOf s = record { at = s .at; far = s .far }
 
+-- the i-th vertex v is in the quadrant and comes before the best so far
+unfoldable pub isNext : Weights → Quadrant → Place → Near → ℕ → Place → Bool
+isNext w q u best i v = within q u v && not (leads best (cost w u v) i)
+
+-- it takes the place of the best so far where it is clear
+unfoldable pub ifClear : Weights → List Macro → Place → Near → ℕ → Place → Near
+ifClear w ms u best i v = cond (clear u v ms) (record { at = i; far = cost w u v }) best
+
 -- the best so far with the i-th vertex v more, which takes its place where it is in the quadrant, comes earlier, and is clear
 unfoldable pub nearest : Weights → List Macro → Quadrant → Place → Near → ℕ → Place → Near
 nearest w ms q u best i v =
