@@ -9,6 +9,7 @@ pub mod VertexNumbers
 pub mod PassLaws
 pub mod EdgeLaws
 pub mod LinkLaws
+pub mod ReachLaws
 pub mod GivenEdges
 pub mod OutsideLaws
 pub mod AheadLaws

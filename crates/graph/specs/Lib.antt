@@ -12,9 +12,11 @@
 --              picksOf w ms vs u                the edges that u picks, quadrant by quadrant
 --              edges w ms vs                    all edges, sorted, each once
 --   Pass       vertexPicked s i                 the i-th of the vertices in a flat list, or none
+--              isNext w q u best i v            a vertex is in the quadrant and comes before the best so far
 --              nearest w ms q u best i v        the best of a pass with one vertex more
 --   Links      PicksHeld w ms s picked n        a table has what each of n vertices picks
 --              rows picked s n a m              the edges that such a table gives
+--              Reached picked last n k          a table has how far the links of a vertex go
 --   Spanning   verticesOf net, spanning net     the vertices and the edges of a net's graph
 --   Numbers    placeNumbers, edgeNumbers        a place and an edge as the numbers that are given
 pub mod Vertices
