@@ -21,7 +21,8 @@ use Rattle.bars.specs.declared.Best.{Best}
 use Rattle.bars.specs.declared.Size.{Size}
 use Rattle.bars.specs.Steps.{upTo, setUpTo}
 use Rattle.bars.specs.Labelling.{levelAt, united, joinedBy, labelled}
-use Rattle.bars.specs.Offers.{searched, chosen, seatOf, seatsOf, Seated, Numbers}
+use Rattle.bars.specs.Offers.{searched, chosen, seatOf, seatsOf, Seated}
+use Rattle.bars.specs.Steps.{Numbers}
 use Rattle.bars.proofs.CodeLaws.{chosen-less}
 use Rattle.bars.proofs.LabelLaws.{set-above, set-below, labelled-is}
 

@@ -3,6 +3,7 @@ pub mod RaisedLaws
 pub mod CodeLaws
 pub mod SeenLaws
 pub mod HangLaws
+pub mod TallyLaws
 pub mod LabelLaws
 pub mod OnLaws
 pub mod CornerLaws

@@ -1,11 +1,17 @@
 -- What hangs from a bar, of edges as it sees them.
 use mathlib.Core.Bool.{Bool, true, false, _&&_, _||_}
-use Prim.Native.Nat.{ℕ, _+_, _-_, min}
+use mathlib.Core.Path.{_≡_}
+use mathlib.Core.List.{List}
+use Prim.Native.Nat.{ℕ, _+_, _-_, _*_, _/_, _%_, _^_, _≤_, _<_, min}
 use lib.Dec.{eqb, ltb}
+use lib.IntN.{ℤ}
+use lib.ListN.{length, getD, set}
+use Rattle.slide.specs.declared.Side.{Side}
+use Rattle.straight.specs.Table.{straightBound}
 use Rattle.bars.specs.declared.Seen.{Seen}
 use Rattle.bars.specs.declared.Hang.{Hang}
 use Rattle.bars.specs.Steps.{upTo}
-use Rattle.bars.specs.Turned.{View, seenEdge}
+use Rattle.bars.specs.Turned.{View, view, seenEdge}
 
 unfoldable pub aheadOf : Seen → Bool
 aheadOf e =
@@ -43,3 +49,27 @@ noneHung = record { ahead = 0; behind = 0; shortest = 0 }
 
 unfoldable pub hang : View → ℕ → Hang
 hang v e = upTo (λ k. hung (seenEdge v k)) e noneHung
+
+-- What hangs as one number: the counts above the length, which is below 2^33
+
+abbrev pub code : Hang → ℕ
+code h = (h .ahead * 2048 + h .behind) * 8589934592 + h .shortest
+
+abbrev pub uncode : ℕ → Hang
+uncode c = record { ahead = c / 8589934592 / 2048; behind = c / 8589934592 % 2048; shortest = c % 8589934592 }
+
+-- c is what hangs after k edges
+pub record Coded (k : ℕ) (h : Hang) (c : ℕ) : Type 0 where
+  pub coded : c ≡ code h
+  pub counts : (h .ahead ≤ k) × (h .behind ≤ k)
+  pub short : h .shortest ≤ 2 ^ 32
+
+-- the entry of the bar with edge k hung on it
+pub record Added (v : View) (k : ℕ) (t u : List ℕ) : Type 0 where
+  pub written : u ≡ set t (v .label) (code (hang v (k + 1)))
+  pub next : Coded (k + 1) (hang v (k + 1)) (code (hang v (k + 1)))
+
+-- a table of what hangs, by label, from the bars that move to side s, of the first k edges
+pub record Tallied (pts : List ℤ) (ks lab : List ℕ) (s : Side) (k : ℕ) (t : List ℕ) : Type 0 where
+  pub room : length t ≡ straightBound
+  pub each : (l : ℕ) → l < straightBound → Coded k (hang (view pts ks lab s l) k) (getD t l 0)
