@@ -36,9 +36,10 @@ ghost use Rattle.router.specs.Delay.{delaysOf, pinDelays};
 ghost use Rattle.router.specs.Best.{bestTree};
 ghost use Rattle.router.specs.Price.{netPrice};
 ghost use Rattle.router.specs.Bought.{checkedTree};
-ghost use Rattle.netfile.specs.Layout.{fileBytes};
+ghost use Rattle.encoded.specs.Layout.{fileBytes};
+ghost use Rattle.decoded.specs.Held.{pinsIn, macrosIn};
 ghost use Rattle.netfile.specs.Write.{written};
-ghost use Rattle.netfile.specs.Read.{pinsIn, macrosIn, readFile};
+ghost use Rattle.netfile.specs.Read.{readFile};
 ghost use Rattle.exports.specs.Handed.{GraphHanded, PathsHanded, TreeHanded, BestHanded, ListHanded, SquareHanded};
 ghost use Rattle.exports.specs.Handed.{ChargeHanded, SumsHanded, NetHanded};
 

@@ -13,10 +13,11 @@ use Rattle.net.specs.declared.Checked.{Checked}
 use Rattle.net.specs.declared.Weighing.{Weighing}
 use Rattle.net.specs.Net.{Net, netOf, weightsOf}
 use Rattle.net.specs.Check.{told}
+use Rattle.encoded.specs.Layout.{fileBytes}
+use Rattle.decoded.specs.Held.{pinsIn, macrosIn}
 use Rattle.netfile.specs.declared.Written.{Written}
-use Rattle.netfile.specs.Layout.{fileBytes}
 use Rattle.netfile.specs.Write.{written, toldBytes}
-use Rattle.netfile.specs.Read.{pinsIn, macrosIn, readFile}
+use Rattle.netfile.specs.Read.{readFile}
 use Rattle.graph.specs.Numbers.{placeNumbers, edgeNumbers}
 use Rattle.terminal.specs.Tree.{pathNumbers}
 use Rattle.grid.specs.Distance.{Square}
