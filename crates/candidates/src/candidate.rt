@@ -1,7 +1,6 @@
 // Candidates, and the one that a round takes.
 use crate::Best;
-use crate::UNKNOWN;
-use crate::longest;
+use longest::UNKNOWN;
 use plane::Macro;
 use plane::Place;
 use plane::Weights;
@@ -14,8 +13,8 @@ ghost use Rattle.plane.specs.Flat.{placeAt, macrosOf};
 ghost use Rattle.plane.specs.Box.{boxOf};
 ghost use Rattle.lists.specs.Turns.{seek};
 ghost use Rattle.tree.specs.Table.{treeBound, Low, Within};
-ghost use Rattle.candidates.specs.Longest.{cutOf, longest};
-ghost use Rattle.candidates.specs.Hung.{ties, Hanging};
+ghost use Rattle.longest.specs.Longest.{cutOf, longest};
+ghost use Rattle.longest.specs.Hung.{ties, Hanging};
 ghost use Rattle.candidates.specs.Candidate.{sees, taken, dropped, allowed, weighed, offer, mayGain, offers, search};
 
 pub fn sees(macros: &[i32], a: Place, b: Place, u: Place) -> bool

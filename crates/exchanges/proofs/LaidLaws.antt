@@ -16,7 +16,7 @@ use Rattle.candidates.specs.declared.Best.{Best}
 use Rattle.exchanges.specs.Exchange.{bump, bumpAt, closed, dropTwo, exchange, laidAt, lays, star, opened, rank, shift, stands}
 use Rattle.tree.specs.Table.{Row, Small, Tree, firstEnd, row, secondEnd, tree}
 use Rattle.lists.specs.Turns.{turns}
-use Rattle.candidates.proofs.LongestLaws.{small-set}
+use Rattle.longest.proofs.LongestLaws.{small-set}
 use Rattle.lists.proofs.TurnLaws.{turns-keep}
 
 -- entries stay small

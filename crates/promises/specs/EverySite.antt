@@ -19,8 +19,8 @@ use Rattle.graph.specs.Numbers.{placeNumbers, edgeNumbers}
 use Rattle.terminal.specs.Tree.{pathNumbers}
 use Rattle.joined.specs.Cost.{lengths}
 use Rattle.grid.specs.Distance.{Square}
-use Rattle.delay.specs.declared.Technology.{Technology}
-use Rattle.delay.specs.Answer.{finites}
+use Rattle.floats.specs.declared.Technology.{Technology}
+use Rattle.floats.specs.Mark.{finites}
 use Rattle.best.specs.Bounds.{workBound}
 use Rattle.best.specs.Tree.{BestTree}
 use Rattle.bought.specs.Edges.{edgesOf}

@@ -32,7 +32,7 @@ use Rattle.tree.specs.Table.{treeBound, Low}
 use Rattle.candidates.specs.declared.Best.{Best}
 use Rattle.refiner.specs.declared.Choice.{Choice}
 use Rattle.lists.specs.Turns.{turns}
-use Rattle.candidates.specs.Longest.{measure, costs, longest, cutOf}
+use Rattle.longest.specs.Longest.{measure, costs, longest, cutOf}
 use Rattle.candidates.specs.Candidate.{best, chosen, sees, dropped, mayGain}
 use Rattle.candidates.specs.Candidate as tree
 use Rattle.exchanges.specs.Exchange.{rank, stands}

@@ -21,7 +21,7 @@ use Rattle.forest.specs.Parents.{wayAfter}
 use Rattle.tree.specs.Table.{firstEnd, secondEnd}
 use Rattle.candidates.specs.declared.Best.{Best}
 use Rattle.lists.specs.Turns.{turns}
-use Rattle.candidates.specs.Longest.{cutOf}
+use Rattle.longest.specs.Longest.{cutOf}
 use Rattle.candidates.specs.Candidate.{best, sees, dropped}
 use Rattle.refiner.specs.Beside.{onWay, free, middleBeside, weighed, offer, offers, search}
 use Rattle.refiner.proofs.TakesLaws.{last-or}

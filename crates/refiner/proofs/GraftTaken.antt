@@ -31,7 +31,7 @@ use Rattle.forest.specs.Setting.{pairs}
 use Rattle.tree.specs.Table.{treeBound, firstEnd, secondEnd, Tree}
 use Rattle.tree.specs.Places.{endsOf, pointsOf, edgesOf, InOrder, Ranked, Sound}
 use Rattle.tree.proofs.ListingLaws.{in-listing, of-listing}
-use Rattle.candidates.specs.Longest.{costs, longest}
+use Rattle.longest.specs.Longest.{costs, longest}
 use Rattle.candidates.specs.Candidate.{middleOf, sees, dropped}
 use Rattle.refiner.specs.Beside.{Ground, onWay, middleBeside, labelsIn, parentsIn, seatsIn}
 use Rattle.refiner.specs.Graft.{Grown, grafted}

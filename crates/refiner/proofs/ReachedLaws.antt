@@ -22,7 +22,7 @@ use Rattle.joined.specs.Exchange.{steps}
 use Rattle.joined.proofs.WayLaws.{joined-free}
 use Rattle.lists.specs.Turns.{turns}
 use Rattle.tree.specs.Table.{treeBound, pairBound, key, firstEnd, secondEnd, Within}
-use Rattle.candidates.specs.Longest.{noEdge, Reach, hang, attach, pass, reached, start}
+use Rattle.longest.specs.Longest.{noEdge, Reach, hang, attach, pass, reached, start}
 use Rattle.tree.specs.Places.{endsOf, pointsOf, edgesOf, InOrder}
 use Rattle.lists.proofs.TurnLaws.{turns-keep, turns-below}
 use Rattle.tree.proofs.SumLaws.{other, here as put-here}

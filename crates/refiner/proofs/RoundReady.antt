@@ -29,7 +29,7 @@ use Rattle.tree.proofs.PointLaws.{order-once}
 use Rattle.tree.proofs.OutsideLaws.{outside-more, outside-fewer, count-strangers}
 use Rattle.candidates.specs.declared.Best.{Best}
 use Rattle.refiner.specs.declared.Choice.{Choice}
-use Rattle.candidates.specs.Longest.{costs, longest}
+use Rattle.longest.specs.Longest.{costs, longest}
 use Rattle.candidates.specs.Candidate.{best, found, middleOf}
 use Rattle.candidates.specs.Candidate as tree
 use Rattle.exchanges.specs.Exchange.{exchange}

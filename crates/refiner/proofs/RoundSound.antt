@@ -17,7 +17,7 @@ use Rattle.net.specs.Net.{Net}
 use Rattle.candidates.specs.declared.Best.{Best}
 use Rattle.lists.specs.Turns.{turns}
 use Rattle.tree.specs.Table.{treeBound, firstEnd, secondEnd, row, Tree, tree}
-use Rattle.candidates.specs.Longest.{edgeCost, costs, longest}
+use Rattle.longest.specs.Longest.{edgeCost, costs, longest}
 use Rattle.candidates.specs.Candidate.{middleOf, found}
 use Rattle.exchanges.specs.Exchange.{dropTwo, rank, stands, bump, bumpAt, star, laidAt, exchange}
 use Rattle.refiner.specs.Refined.{addCost, total}

@@ -11,10 +11,10 @@ use Rattle.plane.specs.declared.Weights.{Weights}
 use Rattle.joined.specs.Tree as joined
 use Rattle.tree.specs.Table.{treeBound, Within}
 use Rattle.tree.specs.Places.{pointsOf, edgesOf, InOrder}
-use Rattle.candidates.specs.Longest.{noEdge, measure, costs, Reach, reached, start}
-use Rattle.candidates.specs.Hung.{Ties, Hung, Hanging, Spanned}
-use Rattle.candidates.proofs.HungLaws.{begun, hung-start}
-use Rattle.candidates.proofs.PairLaws.{hanging}
+use Rattle.longest.specs.Longest.{noEdge, measure, costs, Reach, reached, start}
+use Rattle.longest.specs.Hung.{Ties, Hung, Hanging, Spanned}
+use Rattle.longest.proofs.HungLaws.{begun, hung-start}
+use Rattle.longest.proofs.PairLaws.{hanging}
 use Rattle.refiner.proofs.WinnerLaws.{no-cost}
 use Rattle.refiner.proofs.AloneLaws.{alone}
 use Rattle.refiner.proofs.ReachedLaws.{last-seen}

@@ -18,7 +18,7 @@ use Rattle.plane.specs.Flat.{placeAt}
 use Rattle.candidates.specs.declared.Best.{Best}
 use Rattle.lists.specs.Turns.{turns}
 use Rattle.tree.specs.Table.{treeBound, firstEnd, secondEnd}
-use Rattle.candidates.specs.Longest.{edgeCost, measure, costs, cutOf, longest, noEdge}
+use Rattle.longest.specs.Longest.{edgeCost, measure, costs, cutOf, longest, noEdge}
 use Rattle.candidates.specs.Candidate.{best, middleOf, sees, dropped, allowed, weighed, offer, offers, search, found}
 use Rattle.tree.specs.Places.{keyCost}
 use Rattle.lists.proofs.TurnLaws.{turns-below}

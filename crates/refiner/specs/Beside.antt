@@ -23,7 +23,7 @@ use Rattle.tree.specs.Table.{firstEnd, secondEnd, Tree}
 use Rattle.candidates.specs.declared.Best.{Best}
 use Rattle.refiner.specs.declared.Choice.{Choice}
 use Rattle.lists.specs.Turns.{turns}
-use Rattle.candidates.specs.Longest.{cutOf, costs, longest}
+use Rattle.longest.specs.Longest.{cutOf, costs, longest}
 use Rattle.candidates.specs.Candidate.{best, chosen, sees, dropped}
 use Rattle.candidates.specs.Candidate as tree
 use Rattle.exchanges.specs.Exchange.{rank, stands}

@@ -19,7 +19,7 @@ use Rattle.forest.specs.Setting.{pairs, Setting}
 use Rattle.tree.specs.Table.{treeBound, Tree, Within}
 use Rattle.tree.specs.Places.{pointsOf, InOrder, Ranked, Sound}
 use Rattle.tree.specs.Outside.{strangers}
-use Rattle.candidates.specs.Hung.{Spanned}
+use Rattle.longest.specs.Hung.{Spanned}
 use Rattle.refiner.specs.Beside.{Ground, labelsIn, parentsIn, seatsIn, chosenIn}
 use Rattle.refiner.specs.Round.{exchangeIn}
 use Rattle.refiner.specs.declared.Turn.{Turn}

@@ -6,7 +6,6 @@ mod beside; // beside.rt: vertices beside the tree, and the candidates with them
 mod graft; // graft.rt: a way to a vertex beside the tree, laid
 mod round; // round.rt: a round
 
-use candidates::longest;
 use exchanges::prune;
 use net::Net;
 use plane::Weights;

@@ -22,8 +22,9 @@ use Rattle.graph.specs.Numbers.{placeNumbers, edgeNumbers}
 use Rattle.terminal.specs.Tree.{pathNumbers}
 use Rattle.grid.specs.Distance.{Square}
 use Rattle.delay.specs.declared.Delayed.{Delayed}
-use Rattle.delay.specs.declared.Technology.{Technology}
-use Rattle.delay.specs.Answer.{finites, toldDelays}
+use Rattle.floats.specs.declared.Technology.{Technology}
+use Rattle.floats.specs.Mark.{finites}
+use Rattle.delay.specs.Answer.{toldDelays}
 use Rattle.grid.specs.Edges.{Edge}
 use Rattle.best.specs.Bounds.{workBound}
 use Rattle.best.specs.Tree.{BestTree}

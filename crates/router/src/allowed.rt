@@ -8,7 +8,7 @@ use crate::Trees;
 use crate::Wired;
 use best::Best;
 use delay::Delayed;
-use delay::Technology;
+use floats::Technology;
 use grid::Grid;
 use net::Net;
 use net::Refusal;

@@ -8,7 +8,7 @@ mod allowed; // allowed.rt: what goes on once the check has passed
 
 use bought::Verdict;
 use delay::Delayed;
-use delay::Technology;
+use floats::Technology;
 use net::Checked;
 use net::Refusal;
 use net::Weighing;

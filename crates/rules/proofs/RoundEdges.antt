@@ -27,7 +27,7 @@ use Rattle.tree.proofs.ListingLaws.{in-listing}
 use Rattle.candidates.specs.declared.Best.{Best}
 use Rattle.plane.specs.Middle.{middlePlace}
 use Rattle.candidates.specs.Candidate.{found}
-use Rattle.candidates.specs.Longest.{costs, longest}
+use Rattle.longest.specs.Longest.{costs, longest}
 use Rattle.exchanges.specs.Exchange.{exchange}
 use Rattle.candidates.specs.Taken.{Taken}
 use Rattle.refiner.specs.Sentences as tables

@@ -28,8 +28,8 @@ use Rattle.forest.specs.Bounds.{pointBound, edgeBound}
 use Rattle.forest.specs.Edges.{graph, entries as entriesIn, Fits, FirstBelow, Listed}
 use Rattle.forest.specs.Labels.{labels}
 use Rattle.forest.specs.Parents.{parents}
-use Rattle.terminal.specs.Kept.{Terminal, terminal}
-use Rattle.terminal.proofs.KeptLaws.{read-listed, entry-listed}
+use Rattle.keeping.specs.Kept.{Terminal, terminal}
+use Rattle.keeping.proofs.KeptLaws.{read-listed, entry-listed}
 use Rattle.forest.proofs.Nearest.{fits}
 use Rattle.terminal.specs.declared.TerminalTree.{TerminalTree}
 use Rattle.terminal.specs.Number.{numberOf, numbered, pinNumbers}

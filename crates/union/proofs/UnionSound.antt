@@ -37,7 +37,7 @@ use Rattle.graph.specs.Edges.{beforeEdge}
 use Rattle.graph.proofs.VertexLaws.{pin-vertex, vertices-ascending}
 use Rattle.graph.proofs.GraphBounds.{few-vertices, spanning-ascending}
 use Rattle.forest.specs.Edges.{Graph, one, two, len, from}
-use Rattle.terminal.specs.Kept.{terminal}
+use Rattle.keeping.specs.Kept.{terminal}
 use Rattle.forest.specs.Setting.{ends}
 use Rattle.forest.proofs.EdgeLaws.{length-from}
 use Rattle.terminal.specs.Number.{edgeAt, numberOf, vertexAt, pinNumbers}

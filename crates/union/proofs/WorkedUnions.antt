@@ -27,8 +27,8 @@ use Rattle.graph.specs.Edges.{edgeOf, beforeEdge, edgeOfPick, picksOf, allPicks
 use Rattle.forest.specs.Edges.{Graph, graph, from, filled}
 use Rattle.forest.specs.Labels.{better, gains, offer, relaxEdge, moves, relax, changes, settled, starts, labelled}
 use Rattle.forest.specs.Parents.{leads, nearer, through, parentAmong, parent, adopted, parented, wayOf, way}
-use Rattle.terminal.specs.Bridges.{oneRoot, path, pathLength, pathLengths, earlier, bridgesFrom, bridges}
-use Rattle.terminal.specs.Kept.{keptBridges, keptLengths, terminal}
+use Rattle.bridges.specs.Bridges.{oneRoot, path, pathLength, pathLengths, earlier, bridgesFrom, bridges}
+use Rattle.keeping.specs.Kept.{keptBridges, keptLengths, terminal}
 use Rattle.terminal.specs.Number.{numbered, pinNumbers}
 use Rattle.terminal.specs.Tree.{treeOf}
 use Rattle.tree.specs.Table.{key, Tree}

@@ -10,13 +10,13 @@ use lib.ListN.{getD}
 use Rattle.tree.specs.Table.{treeBound, firstEnd, secondEnd}
 use Rattle.plane.specs.Box.{boxOf}
 use Rattle.plane.specs.Flat.{placeAt, macrosOf}
-use Rattle.candidates.specs.Longest.{cutOf, longest}
-use Rattle.candidates.specs.Hung.{ties, Begun, Row}
+use Rattle.longest.specs.Longest.{cutOf, longest}
+use Rattle.longest.specs.Hung.{ties, Begun, Row}
 use Rattle.candidates.specs.Candidate.{offer, offers}
 use Rattle.lists.specs.Turns.{turns}
 use Rattle.candidates.proofs.CandidateLaws.{offer-far, box-is}
-use Rattle.candidates.proofs.HungLaws.{same-length}
-use Rattle.candidates.proofs.RowLaws.{fresh-start}
+use Rattle.longest.proofs.HungLaws.{same-length}
+use Rattle.longest.proofs.RowLaws.{fresh-start}
 use Rattle.lists.proofs.TurnLaws.{turns-none, turns-next, turns-end}
 use Rattle.candidates.proofs.candidate.offers.Statement.{statement}
 use Rattle.candidates.proofs.candidate.offers.Tie as tie

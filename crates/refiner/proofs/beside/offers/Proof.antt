@@ -8,10 +8,10 @@ use borrow.Author.Needs.{needs}
 use denote.Ref.{now}
 use Rattle.plane.specs.Flat.{macrosOf}
 use Rattle.tree.specs.Table.{treeBound}
-use Rattle.candidates.specs.Longest.{cutOf, longest}
-use Rattle.candidates.specs.Hung.{ties, Begun, Row}
-use Rattle.candidates.proofs.HungLaws.{same-length}
-use Rattle.candidates.proofs.RowLaws.{fresh-start}
+use Rattle.longest.specs.Longest.{cutOf, longest}
+use Rattle.longest.specs.Hung.{ties, Begun, Row}
+use Rattle.longest.proofs.HungLaws.{same-length}
+use Rattle.longest.proofs.RowLaws.{fresh-start}
 use Rattle.lists.specs.Turns.{turns}
 use Rattle.refiner.specs.Beside.{offer, offers}
 use Rattle.refiner.proofs.BesideLaws.{offer-zero, offer-far}

@@ -5,7 +5,7 @@ use Prim.Native.Nat.{_≤_, _-_}
 use native.Mathlib.Omega.{arith}
 use Rattle.plane.specs.Flat.{macrosOf}
 use Rattle.lists.specs.Turns.{turns}
-use Rattle.candidates.specs.Longest.{longest}
+use Rattle.longest.specs.Longest.{longest}
 use Rattle.refiner.specs.Beside.{offers, search}
 use Rattle.lists.proofs.TurnLaws.{turns-none, turns-next, turns-end}
 use Rattle.refiner.proofs.beside.search.Statement.{statement}

@@ -1,0 +1,1 @@
+-- Nothing is defined here, and nothing rests on what is worked out.
