@@ -12,8 +12,8 @@
 --   Passing    past, pastFace, reached    the way past an edge, a point, a macro; how far the bar may move
 --   Offers     offered, searched          a bar's move offered to the best so far; all bars;  seatsOf: the pins' points
 --
--- ../proofs/ChoiceTables.antt: on the tables of a straight tree of a net, `searched` agrees with the choice of crate slide, and the label of
--- the best move tells the points of its bar.
+-- ../proofs/ChoiceTables.antt: on the tables of a straight tree of a net, `searched` agrees with the choice of crate slide, and the label
+-- of the best move tells the points of its bar.
 pub mod Turned
 pub mod Steps
 pub mod Labelling

@@ -103,14 +103,16 @@ module _ (w : Weights) (ms : List Macro) (vs : List Place) where
   pub of-edges : {e : Place × Place} → e ∈ edges w ms vs → OfPick e
   unfolding edges
   of-edges m =
-      let p = of-each (picksOf w ms vs) (allPicks w ms vs) (picks-none w ms vs) (picks-more w ms vs) vs (of-sorted beforeEdge (allPicks w ms vs vs) _ m) in
+      let p = of-each (picksOf w ms vs) (allPicks w ms vs) (picks-none w ms vs) (picks-more w ms vs) vs
+      (of-sorted beforeEdge (allPicks w ms vs vs) _ m) in
       of-picks (p .entry) (p .stands) (p .holds)
 
   pub pick-edge : {u v : Place} → PickedBy u v → edgeOf u v ∈ edges w ms vs
   unfolding edges
   pick-edge {u} {v} p =
       in-sorted beforeEdge edge-order (allPicks w ms vs vs) _
-      (in-each (picksOf w ms vs) (allPicks w ms vs) (picks-none w ms vs) (picks-more w ms vs) vs (p .stands) (in-picks (p .quadrant) u v (p .picks)))
+      (in-each (picksOf w ms vs) (allPicks w ms vs) (picks-none w ms vs) (picks-more w ms vs) vs (p .stands)
+      (in-picks (p .quadrant) u v (p .picks)))
 
   pub in-edges : {e : Place × Place} → OfPick e → e ∈ edges w ms vs
   in-edges r = Memᴰ·cast (r .is) (pick-edge (r .picked))

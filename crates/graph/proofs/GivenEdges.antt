@@ -46,7 +46,8 @@ module _ {X : Type 0} where
   sets-append l i j (x ∷ xs) ys e = sets-append (set l i x) (suc i) j xs ys (omega arith)
 
   -- just past what is written
-  pub over-sets : (xs ys lent : List X) (k : ℕ) → length xs ≡ k → k + length ys ≤ length lent → sets (over xs lent) k ys ≡ over (xs ++ ys) lent
+  pub over-sets : (xs ys lent : List X) (k : ℕ) → length xs ≡ k → k + length ys ≤ length lent
+      → sets (over xs lent) k ys ≡ over (xs ++ ys) lent
   over-sets xs [] lent k e h = ap (λ (l : List X). over l lent) (sym (append-nil xs))
   over-sets xs (y ∷ ys) lent k e h =
       let n : length (xs ++ (y ∷ [])) ≡ suc k = length-append xs (y ∷ []) ∙ omega (arith, e) in
@@ -63,7 +64,8 @@ module _ {X : Type 0} where
   sets-before l i [] j d h = refl
   sets-before l i (x ∷ xs) j d h = sets-before (set l i x) (suc i) xs j d (omega arith) ∙ getD-set-other l i j x d (λ e. omega arith)
 
-  sets-at : (l : List X) (i : ℕ) (xs : List X) (c : ℕ) (d : X) → c < length xs → i + length xs ≤ length l → getD (sets l i xs) (i + c) d ≡ getD xs c d
+  sets-at : (l : List X) (i : ℕ) (xs : List X) (c : ℕ) (d : X) → c < length xs → i + length xs ≤ length l
+      → getD (sets l i xs) (i + c) d ≡ getD xs c d
   sets-at l i [] c d h r = absurd (let z : ⊥ = omega arith in z)
   sets-at l i (x ∷ xs) zero d h r =
       ap (λ (k : ℕ). getD (sets (set l i x) (suc i) xs) k d) (add-zero i)
@@ -198,8 +200,11 @@ module _ (picked : List ℕ) (s : List ℤ) (n a i : ℕ) (lent : List ℤ) wher
         ∙ g .goal
 
     pub row-end : (count ≡ i + length (row picked s a n)) × (table ≡ sets lent (i * 4) (flat edgeNumbers (row picked s a n)))
-    row-end =
-        (g .counted ∙ ap (λ (l : List Edge). i + length l) whole, g .written ∙ ap (λ (l : List Edge). sets lent (i * 4) (flat edgeNumbers l)) whole)
+    row-end = (
+      g .counted ∙ ap (λ (l : List Edge). i + length l) whole,
+      g .written
+          ∙ ap (λ (l : List Edge). sets lent (i * 4) (flat edgeNumbers l)) whole,
+    )
 
 -- All rows
 

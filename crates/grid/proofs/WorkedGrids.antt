@@ -53,7 +53,8 @@ lines-along = refl
 
 -- what has to be unfolded to count edges
 unfoldable pub edgeCount : Net → ℕ
-unfolding gridEdges edgesOf rows columns row column nexts linesOf marks sides coordinate sorted put those clear any meets spanMeets minZ maxZ
+unfolding gridEdges edgesOf rows columns row column nexts linesOf marks sides coordinate sorted put those clear any meets spanMeets minZ
+    maxZ
 edgeCount net = length (gridEdges net)
 
 -- 4 rows of 2 and 3 columns of 3

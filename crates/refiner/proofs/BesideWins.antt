@@ -157,7 +157,8 @@ module _ (w : Weights) (ms : List Macro) (pts : List ℤ) (n : ℕ) (ks : List �
         (λ q. win .vertex);
   }
 
-  edges-lead : (m i : ℕ) (c : Best) → i + m ≡ e → LeadsOff c i 0 → LeadsOff (turns (offers w pts n ms ks el top vs v fars ups seat) i m c) e 0
+  edges-lead : (m i : ℕ) (c : Best) → i + m ≡ e → LeadsOff c i 0
+      → LeadsOff (turns (offers w pts n ms ks el top vs v fars ups seat) i m c) e 0
   unfolding turns offers
   edges-lead zero i c q h = subst (λ (x : ℕ). LeadsOff c x 0) (omega arith) h
   edges-lead (suc m) i c q h = edges-lead m (suc i) _ (omega arith) (edge-leads _ i (vertices-lead i (omega arith) v 0 c (omega arith) h))

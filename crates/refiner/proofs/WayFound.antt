@@ -1,5 +1,5 @@
--- R23: the sources are the vertices that are points of the tree. So a vertex beside it is at some distance, its root is the tree point v that
--- it is joined to, and its way meets the tree there alone.
+-- R23: the sources are the vertices that are points of the tree. So a vertex beside it is at some distance, its root is the tree point v
+-- that it is joined to, and its way meets the tree there alone.
 -- Assumes nothing.
 use mathlib.Core.Path.{_≡_, refl, sym, ap, _∙_, subst}
 use mathlib.Core.Bool.{true, false, _&&_}
@@ -29,7 +29,8 @@ use Rattle.forest.specs.Labels.{Labels, far, root, labelled}
 use Rattle.forest.specs.Parents.{Parents, up, parented, wayAfter}
 use Rattle.forest.specs.Setting.{pairs, Setting, Whole}
 use Rattle.forest.proofs.Nearest.{joint}
-use Rattle.forest.proofs.Homeward.{source-label, far-off, root-source, wayPoints, Home, way-home, way-runs, way-once, way-source, Upward, arrived, onto, way-upward}
+use Rattle.forest.proofs.Homeward.{source-label, far-off, root-source, wayPoints, Home, way-home, way-runs, way-once, way-source, Upward}
+use Rattle.forest.proofs.Homeward.{arrived, onto, way-upward}
 use Rattle.tree.specs.Table.{treeBound, Tree}
 use Rattle.tree.specs.Places.{pointsOf, InOrder, Sound}
 use Rattle.tree.proofs.ListingLaws.{in-listing, of-listing}

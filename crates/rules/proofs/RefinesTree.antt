@@ -65,6 +65,7 @@ module _ {net : Net} {G : List Edge} {g : Ground} (charts : Charts net G g) wher
         (λ q.
         let some : choiceIn net g t .gain ≡ 0 → ⊥ = eqb-false _ _ q in
         rounds-trees m (nextIn charts t) (ready-next charts m t ready some) X U
-        (round-only (charts-lawful charts t (ready .sound)) (tree-cuts place-same (ready .sound .whole)) h (some-gain charts m t ready some) r)
+        (round-only (charts-lawful charts t (ready .sound)) (tree-cuts place-same (ready .sound .whole)) h
+        (some-gain charts m t ready some) r)
         more),
   )

@@ -149,7 +149,8 @@ module _ {net : Net} {G : List Edge} {g : Ground} (charts : Charts net G g) (t :
       (joint charts t sound ranked few (found-off .point)) (laid charts t sound ranked few (found-off .point)) (edgeAt t (found-off .cut))
       (found-off .gain)
   takes-off more = record {
-    taken = off-to charts t sound ranked few (found-off .gain) (found-off .edge) (found-off .point) (found-off .cut) (omega arith) (leads .wins more);
+    taken = off-to charts t sound ranked few (found-off .gain) (found-off .edge) (found-off .point) (found-off .cut) (omega arith)
+        (leads .wins more);
     greatest = greatest;
     first = first;
   }
