@@ -1,0 +1,2 @@
+pub mod RefinedTrees
+pub mod SlidTrees

@@ -1,0 +1,1 @@
+// Trees of worked nets, worked out from the definitions. There is no code here.
