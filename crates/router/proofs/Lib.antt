@@ -1,8 +1,6 @@
 pub mod GraphAnswer
 pub mod AnswerLaws
 pub mod CallLaws
-pub mod CountedLaws
-pub mod FreshTables
 pub mod RefinedLaws
 pub mod Distances
 pub mod BestLaws

@@ -8,14 +8,12 @@ use Rattle.net.specs.Answer.{number}
 use Rattle.net.specs.Pins.{pinCount}
 use Rattle.net.specs.declared.Weighing.{Weighing}
 use Rattle.net.specs.Check.{checked}
-use Rattle.refiner.specs.declared.Refined.{Refined}
 use Rattle.router.specs.Room.{ifRoom}
 use Rattle.router.specs.Graph.{pointCount}
 use Rattle.router.specs.Terminal.{pathsTotal}
 use Rattle.router.specs.Refined.{laidOf, laidTotal, metalOf, laidAnswer}
 use Rattle.router.specs.declared.BothAnswer.{BothAnswer}
 use Rattle.router.specs.declared.BothAnswer.the-variants.{Given, Refused}
-use Rattle.router.specs.declared.Trees.{Trees}
 
 -- C64, C66: how many edges of the refined tree are given, and the terminal tree's total before what the refined tree answers
 abbrev pub bothAnswer : Weighing → List ℤ → List ℤ → ℕ × (ℤ × (ℤ × ℤ))
@@ -33,7 +31,3 @@ bothTrees w pins macros room = onlyIf (checked w pins macros) (bothGiven w pins 
 unfoldable pub toldBoth : BothAnswer → Told (ℕ × (ℤ × (ℤ × ℤ)))
 toldBoth (Given n terminal total metal) = given (n, (terminal, (total, metal)))
 toldBoth (Refused f) = refused (number f)
-
--- the refined tree's part of what is known of both
-abbrev pub refinedPart : Trees → Refined
-refinedPart t = record { points = t .points; edges = t .edges; total = t .total }

@@ -57,15 +57,6 @@ pub enum BothAnswer {
     Refused(Refusal),
 }
 
-// What is known of both trees besides the refined tree's tables: how many points and edges these hold, their total, and the terminal
-// tree's.
-pub struct Trees {
-    pub points: usize,
-    pub edges: usize,
-    pub total: u64,
-    pub terminal: u64,
-}
-
 // The answer of wires: how many were given.
 pub enum Wired {
     Given(usize),

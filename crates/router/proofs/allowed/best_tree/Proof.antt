@@ -26,7 +26,7 @@ use Rattle.best.specs.Tree.{BestOver}
 use Rattle.router.specs.Refined.{toldTree}
 use Rattle.router.specs.Best.{aboveBest, bestNumbers}
 use Rattle.router.proofs.BestLaws.{best-above, best-short, best-enough, best-room, above-best, best-low, best-metal-low}
-use Rattle.router.proofs.CountedLaws.{as-net, as-allowed, as-pins, counts-few}
+use Rattle.made.proofs.CountedLaws.{as-net, as-allowed, as-pins, counts-few}
 use Rattle.router.proofs.CallLaws.{best-refused, best-given}
 use borrow.Author.Needs.{needs}
 use Rattle.router.proofs.allowed.best_tree.Statement.{statement}

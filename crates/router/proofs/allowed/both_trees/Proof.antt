@@ -28,7 +28,7 @@ use Rattle.router.specs.Both.{bothAnswer, bothGiven, toldBoth}
 use Rattle.terminal.proofs.PathLaws.{total-small}
 use Rattle.router.proofs.AnswerLaws.{room-short, room-enough}
 use Rattle.router.proofs.RefinedLaws.{total-low, answer-edges, answer-count, answer-total, answer-small, answer-few, answer-metal, metal-asks, metal-low}
-use Rattle.router.proofs.CountedLaws.{as-points, as-pins, counts-few, points-few}
+use Rattle.made.proofs.CountedLaws.{as-points, as-pins, counts-few, points-few}
 use Rattle.router.proofs.CallLaws.{gives-refused, gives-given}
 use borrow.Author.Needs.{needs}
 use Rattle.router.proofs.allowed.both_trees.Statement.{statement}
@@ -108,7 +108,7 @@ cast-t26 : tie.Need-cast-t26
 cast-t26 c = record { sfits = metal-fits (c .before .before .before .before .before .before .before) }
 
 returns-2 : tie.Need-returns-2
-unfolding bothGiven toldBoth
+unfolding bothGiven toldBoth pathsTotal
 returns-2 c =
     let l = c .before .before .before .before .before .before .before in
     let d = l .before .before .before in

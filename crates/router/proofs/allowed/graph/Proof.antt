@@ -25,7 +25,7 @@ use Rattle.graph.proofs.VertexLaws.{vertices-ascending}
 use Rattle.graph.proofs.ReadBack.{vertices-back}
 use Rattle.router.specs.Graph.{netVertices, netEdges, pointCount, toldGraph}
 use Rattle.router.proofs.GraphAnswer.{graph-short, graph-fits, graph-room, vertices-few}
-use Rattle.router.proofs.CountedLaws.{as-net, as-points, counts-few, points-few}
+use Rattle.made.proofs.CountedLaws.{as-net, as-points, counts-few, points-few}
 use Rattle.router.proofs.CallLaws.{two-refused, two-given}
 use borrow.Author.Needs.{needs}
 use Rattle.router.proofs.allowed.graph.Statement.{statement}

@@ -30,7 +30,7 @@ use Rattle.router.specs.Graph.{pointCount}
 use Rattle.router.specs.Refined.{toldTree}
 use Rattle.router.specs.Slid.{slidTotal, slidMetal, slidAnswer, slidGiven}
 use Rattle.router.proofs.AnswerLaws.{room-short, room-enough}
-use Rattle.router.proofs.CountedLaws.{as-net, as-points, as-pins, counts-few, points-few}
+use Rattle.made.proofs.CountedLaws.{as-net, as-points, as-pins, counts-few, points-few}
 use Rattle.router.proofs.CallLaws.{gives-refused, gives-given}
 use Rattle.router.proofs.SlidLaws.{slid-few}
 use Rattle.router.proofs.SlidTable.{slid-low, slid-metal-low, slid-count, slid-within}

@@ -21,7 +21,7 @@ use Rattle.router.specs.Graph.{pointCount}
 use Rattle.router.specs.Wires.{wiresOf, wiresGiven, toldWires}
 use Rattle.router.proofs.AnswerLaws.{room-short, room-enough}
 use Rattle.router.proofs.RefinedLaws.{answer-edges, answer-small, answer-few}
-use Rattle.router.proofs.CountedLaws.{as-points, as-pins, counts-few, points-few}
+use Rattle.made.proofs.CountedLaws.{as-points, as-pins, counts-few, points-few}
 use Rattle.router.proofs.CallLaws.{gives-refused, gives-given}
 use borrow.Author.Needs.{needs}
 use Rattle.router.proofs.allowed.wires.Statement.{statement}

@@ -2,14 +2,14 @@
 -- Assumes nothing.
 use mathlib.Core.Path.{_≡_, sym, ap, subst}
 use mathlib.Core.List.{List}
-use Prim.Native.Nat.{ℕ, _≤_}
+use Prim.Native.Nat.{ℕ, _+_, _*_, _≤_}
 use native.Mathlib.Omega.{arith}
 use lib.IntN.{ℤ}
 use Rattle.lent.specs.Told.{given}
 use Rattle.plane.proofs.FlatLaws.{length-macros}
 use Rattle.net.specs.declared.Net.{Net as Counts}
 use Rattle.net.specs.Bounds.{pinBound, macroBound, pointBound}
-use Rattle.net.specs.Pins.{pinCount}
+use Rattle.net.specs.Pins.{pinCount, macroCount}
 use Rattle.net.specs.declared.Weighing.{Weighing}
 use Rattle.net.specs.Net.{Net, netOf, netWith, handed}
 use Rattle.net.specs.Check.{checked, pointCount as countedPoints}
@@ -23,9 +23,7 @@ use Rattle.union.specs.Union.{unionOf}
 use Rattle.refined.specs.Ground.{groundOf}
 use Rattle.refiner.specs.declared.Refined.{Refined}
 use Rattle.refiner.specs.Refined.{Answer}
-use Rattle.refined.specs.Ground.{groundOf}
-use Rattle.router.specs.Counted.{Counted}
-use Rattle.router.specs.Graph.{pointCount}
+use Rattle.made.specs.Counted.{Counted}
 
 -- what the check gives is what was counted, of an allowed net
 module _ (w : Weighing) (pins macros : List ℤ) {n : Counts} (g : checked w pins macros ≡ given n) where
@@ -50,7 +48,7 @@ module _ {n : Counts} {w : Weighing} {pins macros : List ℤ} (c : Counted n w p
   pub as-pins : n .pins ≡ pinCount pins
   as-pins = ap (λ (k : Counts). k .pins) (c .counts)
 
-  pub as-points : countedPoints n ≡ pointCount pins macros
+  pub as-points : countedPoints n ≡ pinCount pins + macroCount macros * 4
   as-points = ap countedPoints (c .counts)
 
   pub counts-few : (n .pins ≤ pinBound) × (n .macros ≤ macroBound)
@@ -59,7 +57,7 @@ module _ {n : Counts} {w : Weighing} {pins macros : List ℤ} (c : Counted n w p
     omega (arith, ap (λ (k : Counts). k .macros) (c .counts), c .allowed .few-macros, length-macros macros),
   )
 
-  pub points-few : pointCount pins macros ≤ pointBound
+  pub points-few : pinCount pins + macroCount macros * 4 ≤ pointBound
   points-few = omega (arith, c .allowed .few-pins, length-pins pins, c .allowed .few-macros, length-macros macros)
 
   -- what is worked out for these weights
