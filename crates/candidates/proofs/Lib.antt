@@ -1,5 +1,6 @@
 pub mod LongestLaws
 pub mod CandidateLaws
+pub mod NearLaws
 pub mod CandidateBounds
 pub mod FoundLaws
 pub mod ReadingLaws

@@ -2,6 +2,7 @@
 use crate::Best;
 use crate::UNKNOWN;
 use crate::longest;
+use crate::near;
 use plane::Macro;
 use plane::Place;
 use plane::Weights;
@@ -9,9 +10,11 @@ use tree::NUMBERS;
 use tree::POINTS;
 ghost use mathlib.Core.Path.{_≡_};
 ghost use mathlib.Core.List.{List};
-ghost use Prim.Native.Nat.{ℕ, _≤_, _<_};
+ghost use Prim.Native.Nat.{ℕ, _*_, _≤_, _<_};
+ghost use lib.ListN.{length};
 ghost use Rattle.plane.specs.Flat.{placeAt, macrosOf};
 ghost use Rattle.plane.specs.Box.{boxOf};
+ghost use Rattle.plane.specs.Rank.{InOrder};
 ghost use Rattle.lists.specs.Turns.{seek};
 ghost use Rattle.tree.specs.Table.{treeBound, Low, Within};
 ghost use Rattle.candidates.specs.Longest.{cutOf, longest};
@@ -182,6 +185,7 @@ fn offers(
     c: Best,
 ) -> Best
     requires { ⌜ ((k < e) × (e ≤ treeBound)) × ((n ≤ treeBound) × (Within n (now keys))) ⌝ }
+    requires { ⌜ (n * 2 ≤ length (now pts)) × (InOrder (now pts) n) ⌝ }
     requires { ⌜ (Low most (now el)) × (Hanging (now keys) (now el) e n (ties (now onto) (now link) (now turn))) ⌝ }
     ensures { λ r. ⌜ r ≡ offers w (now (pts .entry)) n (macrosOf (now (macros .entry))) (now (keys .entry)) (now (el .entry))
         (longest (now (keys .entry)) (now (el .entry)) e n) k c ⌝ }
@@ -189,11 +193,15 @@ fn offers(
     let a = keys[k] / POINTS;
     let b = keys[k] % POINTS;
     let m = plane::box_of(tree::point_at(pts, a), tree::point_at(pts, b));
+    if most <= c.gain {
+        return c;
+    }
+    let last = near::to(w, m, pts, n, most - c.gain);
+    let mut u = near::from(w, m, pts, n, most - c.gain);
     let mut row = [UNKNOWN; POINTS];
     longest::start(el, onto, link, turn, a, b, &mut row);
     let mut found = c;
-    let mut u = 0;
-    while u < n {
+    while u < last {
         let at = u;
         u += 1;
         if may_gain(w, m, tree::point_at(pts, at), 0, found.gain, most) {
@@ -219,6 +227,7 @@ pub fn search(
     turn: &[usize; POINTS],
 ) -> Best
     requires { ⌜ (e ≤ treeBound) × ((n ≤ treeBound) × (Within n (now keys))) ⌝ }
+    requires { ⌜ (n * 2 ≤ length (now pts)) × (InOrder (now pts) n) ⌝ }
     requires { ⌜ (Low most (now el)) × (Hanging (now keys) (now el) e n (ties (now onto) (now link) (now turn))) ⌝ }
     ensures { λ r. ⌜ r ≡ search w (now (pts .entry)) n (macrosOf (now (macros .entry))) (now (keys .entry)) e (now (el .entry))
         (longest (now (keys .entry)) (now (el .entry)) e n) ⌝ }

@@ -4,6 +4,7 @@
 // order of edges. So every tie is settled by scanning upwards and giving way only to what is strictly better.
 pub mod candidate; // candidate.rt: candidates on the tree, and the best of them
 pub mod longest; // longest.rt: the longest edge between every two points
+pub mod near; // near.rt: which points are near a box
 
 use tree::POINTS;
 
