@@ -17,10 +17,10 @@ use Rattle.lists.proofs.ThoseLaws.{in-those, of-those}
 use Rattle.plane.specs.declared.Place.{Place}
 use Rattle.plane.specs.Place.{before}
 use Rattle.plane.specs.Flat.{placeAt}
+use Rattle.plane.specs.Rank.{InOrder}
 use Rattle.plane.proofs.PlaceLaws.{before-irrefl}
 use Rattle.plane.proofs.PlaceOrder.{place-order}
 use Rattle.net.specs.Net.{Net}
-use Rattle.tree.specs.Places.{InOrder}
 use Rattle.slide.specs.declared.Side.{Side}
 use Rattle.slide.specs.declared.Side.the-variants.{Above, Below, Right, Left}
 use Rattle.slide.specs.Side.{horizontal, weight}

@@ -21,9 +21,9 @@ use Rattle.signed.proofs.OrderLaws.{eqZ-true, eqZ-refl}
 use Rattle.plane.specs.declared.Place.{Place}
 use Rattle.plane.specs.Place.{before, samePlace}
 use Rattle.plane.specs.Flat.{placeAt}
+use Rattle.plane.specs.Rank.{InOrder}
 use Rattle.plane.proofs.Fits.{PlaceFits}
 use Rattle.plane.proofs.PlaceLaws.{same-true, same-refl, before-irrefl}
-use Rattle.tree.specs.Places.{InOrder}
 use Rattle.joined.specs.Labels.{equal, labels}
 use Rattle.joined.proofs.JoinedLaws.{firsts, seconds}
 use Rattle.joined.proofs.LabelLaws.{equal-true, equal-false}

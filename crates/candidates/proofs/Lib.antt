@@ -1,2 +1,3 @@
 pub mod CandidateLaws
+pub mod NearLaws
 pub mod CandidateBounds

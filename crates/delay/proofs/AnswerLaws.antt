@@ -24,10 +24,11 @@ use Rattle.plane.specs.declared.Place.{Place}
 use Rattle.plane.specs.Place.{before, samePlace}
 use Rattle.plane.specs.Distance.{distance}
 use Rattle.plane.specs.Flat.{placeAt}
+use Rattle.plane.specs.Rank.{InOrder}
 use Rattle.plane.proofs.PlaceLaws.{same-true, same-refl, same-comm}
 use Rattle.plane.proofs.PlaceOrder.{place-order}
 use Rattle.tree.specs.Table.{treeBound, Within}
-use Rattle.tree.specs.Places.{InOrder, Ranked}
+use Rattle.tree.specs.Places.{Ranked}
 use Rattle.tree.specs.Edges.{tableEdges}
 use Rattle.tree.proofs.EdgeLaws.{edges-count}
 use Rattle.exchanges.proofs.OpenedLaws.{seek-before, seek-hit}

@@ -21,9 +21,10 @@ use Rattle.lists.proofs.ThoseLaws.{those-hit, those-miss, those-none, those-map
 use Rattle.plane.specs.declared.Place.{Place}
 use Rattle.plane.specs.Place.{before, samePlace}
 use Rattle.plane.specs.Flat.{placeAt}
+use Rattle.plane.specs.Rank.{InOrder}
 use Rattle.plane.proofs.PlaceLaws.{same-true, same-refl, before-irrefl}
 use Rattle.tree.specs.Table.{treeBound, firstEnd, secondEnd, Within}
-use Rattle.tree.specs.Places.{InOrder, Ranked}
+use Rattle.tree.specs.Places.{Ranked}
 use Rattle.tree.specs.Edges.{edgesFrom, tableEdges}
 use Rattle.elmore.specs.Rooted.{Branches, renamed, Every, sprout, neighbours, children, hanging}
 use Rattle.elmore.specs.Table.{otherEnd, childAt, childrenFrom, hung}

@@ -11,8 +11,8 @@ use lib.Dec.{ltb, eqb}
 use lib.IntN.{ℤ}
 use lib.ListN.{length, getD, set, replicate}
 use lib.Seq.{append-snoc}
-use borrow.Author.Tests.{eq-eqb, ne-eqb, lt-ltb, le-ltb, ltb-false}
-use Rattle.lists.proofs.TestLaws.{by}
+use borrow.Author.Tests.{eq-eqb, ne-eqb, lt-ltb, le-ltb, ltb-true, ltb-false}
+use Rattle.lists.proofs.TestLaws.{by, and-left}
 use Rattle.lists.specs.Member.{_∈_}
 use Rattle.plane.specs.declared.Place.{Place}
 use Rattle.plane.specs.declared.Macro.{Macro}
@@ -22,6 +22,7 @@ use Rattle.plane.specs.Cost.{cost}
 use Rattle.plane.specs.Middle.{middlePlace}
 use Rattle.plane.specs.Box.{boxOf, boxCost}
 use Rattle.plane.specs.Flat.{placeAt}
+use Rattle.plane.specs.Rank.{rank}
 use Rattle.plane.proofs.CostLaws.{box-cost}
 use Rattle.forest.specs.Bounds.{pointBound}
 use Rattle.forest.specs.Edges.{entries, FirstBelow, Listed}
@@ -35,8 +36,9 @@ use Rattle.lists.specs.Turns.{turns}
 use Rattle.longest.specs.Longest.{measure, costs, longest, cutOf}
 use Rattle.candidates.specs.Candidate.{best, chosen, sees, dropped, mayGain}
 use Rattle.candidates.specs.Candidate as tree
-use Rattle.exchanges.specs.Exchange.{rank, stands}
-use Rattle.refiner.specs.Beside.{isPoint, sourcesFrom, takeSeat, onWay, free, weighed, offer, search, chosenOf}
+use Rattle.exchanges.specs.Exchange.{stands}
+use Rattle.refiner.specs.Beside.{isPoint, sourcesFrom, takeSeat, onWay, free, middleBeside, weighed, offer, search}
+use Rattle.refiner.specs.Beside.{chosenOf}
 use Rattle.refiner.specs.Beside.{choice, either as chosenEither}
 
 and-false : (a : Bool) → (a && false) ≡ false
@@ -249,6 +251,34 @@ module _ (w : Weights) (pts : List ℤ) (n : ℕ) (ms : List Macro) (el top : Li
       weigh-low w pts n ms vs fars ups a b k u l (getD el l 0) c p q r s (cost w s r) (getD fars u 0)
       (record { one = f; two = g; three = h; mid = refl; metal = refl; far = refl }) (omega (arith, low .low l, y, d))
       ∙ offer-is w pts n ms el top vs fars ups seat a b k u c o v l refl refl e))
+
+-- a vertex too far across is so whatever its way costs; and what is chosen gains no less
+module _ (w : Weights) (pts : List ℤ) (n : ℕ) (ms : List Macro) (el top : List ℕ) (vs : List ℤ) (fars ups seat : List ℕ)
+    (a b k u : ℕ) (c : Best) where
+  pub offer-beyond : (x : ℕ) → Low x el → (m : Macro) → m ≡ boxOf (placeAt pts a) (placeAt pts b) → (g : ℕ) → g ≤ c .gain
+      → x - g ≤ boxCost w m (placeAt vs u) → offer w pts n ms el top vs fars ups seat a b k u c ≡ c
+  unfolding mayGain
+  offer-beyond x low m i g h f =
+      sym (offer-far w pts n ms el top vs fars ups seat a b k u c x low (placeAt pts a) (placeAt pts b) (placeAt vs u)
+      refl refl refl m false i
+      (sym (le-ltb (c .gain + (boxCost w m (placeAt vs u) + getD fars u 0)) x (omega (arith, h, f)))) refl)
+
+  weighed-more : (l x : ℕ) → c .gain ≤ weighed w pts n ms vs fars ups a b k u l x c .gain
+  unfolding weighed
+  weighed-more l x =
+      let s = middleBeside pts vs a b u in
+      let d = cost w s (placeAt vs u) + getD fars u 0 in
+      let o = free pts n ms vs fars ups a b u s in
+      by (ltb (c .gain + d) x && o)
+      (λ t. rw t (omega (arith, ltb-true (c .gain + d) x (and-left (ltb (c .gain + d) x) o t))))
+      (λ t. rw t (omega arith))
+
+  pub offer-more : c .gain ≤ offer w pts n ms el top vs fars ups seat a b k u c .gain
+  unfolding offer
+  offer-more =
+      let v = getD seat u 0 in
+      let l = cutOf el top a b v in
+      by (eqb (getD fars u 0) 0 || (eqb v a || (eqb v b || eqb l k))) (λ t. rw t (omega arith)) (λ t. rw t (weighed-more l (getD el l 0)))
 
 -- On the tree or beside it
 

@@ -67,6 +67,11 @@ ready-roomy net g t m r =
       room = λ u h. omega (arith, way-room net g t (r .grounded) (r .sound) u h, r .room);
       seated = λ u h. seated net g t (r .grounded) (r .sound) u h .0;
       few = omega (arith, count-strangers (verticesOf g) t (r .sound .ordered), vertices, r .room);
+      points = (
+        omega (arith, count-strangers (verticesOf g) t (r .sound .ordered), vertices, r .room, r .places),
+        r .sound .ordered,
+      );
+      vertices = (omega (arith, r .grounded .sized, r .grounded .few-vertices), r .grounded .ordered);
     }
 
 -- One round

@@ -13,13 +13,14 @@ use Rattle.lists.proofs.TestLaws.{by}
 use Rattle.plane.specs.declared.Place.{Place}
 use Rattle.plane.specs.declared.Weights.{Weights}
 use Rattle.plane.specs.Flat.{placeAt}
+use Rattle.plane.specs.Rank.{rank}
 use Rattle.net.specs.Net.{Net}
 use Rattle.candidates.specs.declared.Best.{Best}
 use Rattle.lists.specs.Turns.{turns}
 use Rattle.tree.specs.Table.{treeBound, firstEnd, secondEnd, row, Tree, tree}
 use Rattle.longest.specs.Longest.{edgeCost, costs, longest}
 use Rattle.candidates.specs.Candidate.{middleOf, found}
-use Rattle.exchanges.specs.Exchange.{dropTwo, rank, stands, bump, bumpAt, star, laidAt, exchange}
+use Rattle.exchanges.specs.Exchange.{dropTwo, stands, bump, bumpAt, star, laidAt, exchange}
 use Rattle.refiner.specs.Refined.{addCost, total}
 use Rattle.tree.specs.Sum.{below, sumOver}
 use Rattle.tree.specs.Places.{pointsOf, keyCost, treeTotal, Ranked, Sound}

@@ -8,9 +8,10 @@ use lib.IntN.{ℤ}
 use lib.ListN.{getD, replicate}
 use Rattle.lists.specs.Turns.{turns}
 use Rattle.plane.specs.declared.Weights.{Weights}
+use Rattle.plane.specs.Rank.{InOrder}
 use Rattle.joined.specs.Tree as joined
 use Rattle.tree.specs.Table.{treeBound, Within}
-use Rattle.tree.specs.Places.{pointsOf, edgesOf, InOrder}
+use Rattle.tree.specs.Places.{pointsOf, edgesOf}
 use Rattle.longest.specs.Longest.{noEdge, measure, costs, Reach, reached, start}
 use Rattle.longest.specs.Hung.{Ties, Hung, Hanging, Spanned}
 use Rattle.longest.proofs.HungLaws.{begun, hung-start}

@@ -20,6 +20,7 @@ use Rattle.plane.specs.declared.Place.{Place}
 use Rattle.plane.specs.Place.{before, samePlace}
 use Rattle.plane.specs.Macro.{clear}
 use Rattle.plane.specs.Flat.{placeAt}
+use Rattle.plane.specs.Rank.{rank}
 use Rattle.plane.proofs.PlaceLaws.{same-refl, before-irrefl}
 use Rattle.plane.proofs.MacroLaws.{clear-comm}
 use Rattle.net.specs.Net.{Net, costIn}
@@ -40,7 +41,6 @@ use Rattle.tree.proofs.ListingLaws.{listing-length, in-listing}
 use Rattle.tree.proofs.PointLaws.{order-once}
 use Rattle.tree.proofs.OutsideLaws.{outside-rest}
 use Rattle.lists.specs.Turns.{turns}
-use Rattle.exchanges.specs.Exchange.{rank}
 use Rattle.refiner.specs.Beside.{Ground, takeSeat, seats, labelsIn, parentsIn, seatsIn}
 use Rattle.refiner.specs.Ready.{verticesOf, vertexAt, Grounded}
 use Rattle.refiner.proofs.WayFound.{point-is, is-seated, sources, distance, source-in, in-source, setting, whole}

@@ -14,12 +14,13 @@ use Rattle.plane.specs.Cost.{cost, plain}
 use Rattle.plane.specs.Middle.{middle, middlePlace}
 use Rattle.plane.specs.Macro.{spanMeets, meets, clear}
 use Rattle.plane.specs.Flat.{placeAt, flatPlaces}
+use Rattle.plane.specs.Rank.{later, rank}
 use Rattle.lists.specs.Turns.{turns, seek}
 use Rattle.tree.specs.Table.{firstEnd, secondEnd, tree}
 use Rattle.longest.specs.Longest.{edgeCost, measure, costs, wins, longer, shorter}
 use Rattle.longest.specs.Longest.{spread, spreads, hang, attach, pass, reached, start, longest, cutOf}
 use Rattle.candidates.specs.Candidate.{sees, taken, dropped, allowed, weighed, offer, offers, search, found}
-use Rattle.exchanges.specs.Exchange.{shift, closed, dropTwo, later, rank, stands, push, closing, opened}
+use Rattle.exchanges.specs.Exchange.{shift, closed, dropTwo, stands, push, closing, opened}
 use Rattle.exchanges.specs.Exchange.{bump, bumpAt, carrying, lay, lays, laidAt, exchange}
 use Rattle.exchanges.specs.Prune.{markOf, mark, marks, countEnds, loose, looseEdge, firstLoose, prune, pruned}
 use Rattle.refiner.specs.Beside.{Ground, ground, sourcesFrom, seats, offers as offersOff, search as searchOff, either, chosenOf}

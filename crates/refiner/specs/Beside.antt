@@ -15,6 +15,7 @@ use Rattle.plane.specs.Place.{samePlace}
 use Rattle.plane.specs.Cost.{cost}
 use Rattle.plane.specs.Middle.{middlePlace}
 use Rattle.plane.specs.Flat.{placeAt}
+use Rattle.plane.specs.Rank.{rank}
 use Rattle.forest.specs.Bounds.{pointBound}
 use Rattle.forest.specs.Edges.{Graph}
 use Rattle.forest.specs.Labels.{Labels, labelled}
@@ -26,7 +27,7 @@ use Rattle.lists.specs.Turns.{turns}
 use Rattle.longest.specs.Longest.{cutOf, costs, longest}
 use Rattle.candidates.specs.Candidate.{best, chosen, sees, dropped}
 use Rattle.candidates.specs.Candidate as tree
-use Rattle.exchanges.specs.Exchange.{rank, stands}
+use Rattle.exchanges.specs.Exchange.{stands}
 
 -- The ground: the graph's vertices, two numbers each, in order, how many they are, and its edges by the numbers of their ends
 pub record Ground : Type 0 where

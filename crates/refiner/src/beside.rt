@@ -7,6 +7,7 @@ use crate::VERTEX_NUMBERS;
 use crate::VERTICES;
 use candidates::Best;
 use candidates::candidate;
+use candidates::near;
 use exchanges::exchange;
 use longest::UNKNOWN;
 use plane::Place;
@@ -15,9 +16,10 @@ use tree::NUMBERS;
 use tree::POINTS;
 ghost use mathlib.Core.Path.{_≡_};
 ghost use mathlib.Core.List.{List};
-ghost use Prim.Native.Nat.{ℕ, _≤_, _<_};
+ghost use Prim.Native.Nat.{ℕ, _*_, _≤_, _<_};
 ghost use lib.ListN.{length, getD};
 ghost use Rattle.plane.specs.Flat.{placeAt, macrosOf};
+ghost use Rattle.plane.specs.Rank.{InOrder};
 ghost use Rattle.forest.specs.Bounds.{pointBound};
 ghost use Rattle.forest.specs.Edges.{entries, Below, FirstBelow};
 ghost use Rattle.forest.specs.Labels.{Low};
@@ -43,9 +45,10 @@ pub fn vertex_at(vertices: &[i32; VERTEX_NUMBERS], v: usize) -> Place
 // Whether p is the place of a tree point.
 fn is_point(pts: &[i32; NUMBERS], n: usize, p: Place) -> bool
     requires { ⌜ n ≤ treeBound ⌝ }
+    requires { ⌜ (n * 2 ≤ length (now pts)) × (InOrder (now pts) n) ⌝ }
     ensures { λ r. ⌜ r ≡ isPoint (now (pts .entry)) n p ⌝ }
 {
-    exchange::stands(pts, n, exchange::rank(pts, n, p), p)
+    exchange::stands(pts, n, plane::rank(pts, n, p), p)
 }
 
 // The vertices that are tree points, in order; how many they are.
@@ -57,6 +60,7 @@ pub fn sources(
     source: &mut [usize; VERTICES],
 ) -> usize
     requires { ⌜ (n ≤ treeBound) × (v ≤ pointBound) ⌝ }
+    requires { ⌜ (n * 2 ≤ length (now pts)) × (InOrder (now pts) n) ⌝ }
     requires { ⌜ length (now source) ≡ pointBound ⌝ }
     ensures { λ r. ⌜ entries (now (source .exit)) 0 r ≡ sourcesFrom (now (pts .entry)) n (now (vertices .entry)) 0 v ⌝ }
     ensures { λ r. ⌜ (r ≤ pointBound) × (FirstBelow (now (source .exit)) r pointBound) ⌝ }
@@ -84,13 +88,14 @@ pub fn seats(
     seat: &mut [usize; VERTICES],
 )
     requires { ⌜ (n < treeBound) × (v ≤ pointBound) ⌝ }
+    requires { ⌜ (n * 2 ≤ length (now pts)) × (InOrder (now pts) n) ⌝ }
     requires { ⌜ Below pointBound (now root) ⌝ }
     ensures { λ _. ⌜ now (seat .exit) ≡ turns (takeSeat (now (pts .entry)) n (now (vertices .entry)) (now (root .entry))) 0 v
         (now (seat .entry)) ⌝ }
 {
     let mut i = 0;
     while i < v {
-        seat[i] = exchange::rank(pts, n, vertex_at(vertices, root[i]));
+        seat[i] = plane::rank(pts, n, vertex_at(vertices, root[i]));
         i += 1;
     }
 }
@@ -250,6 +255,7 @@ fn offers(
 ) -> Best
     requires { ⌜ ((k < e) × (e ≤ treeBound)) × ((n ≤ treeBound) × (Within n (now keys))) ⌝ }
     requires { ⌜ (v ≤ pointBound) × (Seated (now seat) v n) ⌝ }
+    requires { ⌜ (v * 2 ≤ length (now vertices)) × (InOrder (now vertices) v) ⌝ }
     requires { ⌜ (Low (now far)) × (Nearing (now far) (now up)) ⌝ }
     requires { ⌜ (table.Low most (now el)) × (Hanging (now keys) (now el) e n (ties (now onto) (now link) (now turn))) ⌝ }
     ensures { λ r. ⌜ r ≡ offers w (now (pts .entry)) n (macrosOf (now (macros .entry))) (now (keys .entry)) (now (el .entry))
@@ -259,11 +265,15 @@ fn offers(
     let a = keys[k] / POINTS;
     let b = keys[k] % POINTS;
     let m = plane::box_of(tree::point_at(pts, a), tree::point_at(pts, b));
+    if most <= c.gain {
+        return c;
+    }
+    let last = near::to(w, m, vertices, v, most - c.gain);
+    let mut u = near::from(w, m, vertices, v, most - c.gain);
     let mut row = [UNKNOWN; POINTS];
     longest::start(el, onto, link, turn, a, b, &mut row);
     let mut found = c;
-    let mut u = 0;
-    while u < v {
+    while u < last {
         let at = u;
         u += 1;
         let f = far[at];
@@ -316,6 +326,7 @@ pub fn search(
 ) -> Best
     requires { ⌜ (e ≤ treeBound) × ((n ≤ treeBound) × (Within n (now keys))) ⌝ }
     requires { ⌜ (v ≤ pointBound) × (Seated (now seat) v n) ⌝ }
+    requires { ⌜ (v * 2 ≤ length (now vertices)) × (InOrder (now vertices) v) ⌝ }
     requires { ⌜ (Low (now far)) × (Nearing (now far) (now up)) ⌝ }
     requires { ⌜ (table.Low most (now el)) × (Hanging (now keys) (now el) e n (ties (now onto) (now link) (now turn))) ⌝ }
     ensures { λ r. ⌜ r ≡ search w (now (pts .entry)) n (macrosOf (now (macros .entry))) (now (keys .entry)) e (now (el .entry))
@@ -366,6 +377,8 @@ pub fn found(
 ) -> Choice
     requires { ⌜ Spanned (now keys) e n ⌝ }
     requires { ⌜ (v ≤ pointBound) × (Seated (now seat) v n) ⌝ }
+    requires { ⌜ (n * 2 ≤ length (now pts)) × (InOrder (now pts) n) ⌝ }
+    requires { ⌜ (v * 2 ≤ length (now vertices)) × (InOrder (now vertices) v) ⌝ }
     requires { ⌜ (Low (now far)) × (Nearing (now far) (now up)) ⌝ }
     ensures { λ r. ⌜ r ≡ chosenOf w (macrosOf (now (macros .entry))) (now (pts .entry)) n (now (keys .entry)) e (now (vertices .entry)) v
         (now (far .entry)) (now (up .entry)) (now (seat .entry)) ⌝ }

@@ -27,9 +27,10 @@ search-requires : tie.Need-search-requires
 search-requires c κs =
     let r = c .before .before .before .before in
     let k = r .before .before .before .before in
-    let p = k .before .before .pre .0 in (
+    let s = k .before .before in
+    let p = s .pre .0 in (
       (omega (arith, p .size, p .few), (p .few, p .within)),
-      (k .costs .ensures .1, found-hanging _ _ _ _ _ _ _ _ (k .costs .ensures .0) p (r .reached .ensures)),
+      (s .pre .1 .1 .0, (k .costs .ensures .1, found-hanging _ _ _ _ _ _ _ _ (k .costs .ensures .0) p (r .reached .ensures))),
     )
 
 search-requires-2 : tie.Need-search-requires-2
@@ -42,8 +43,11 @@ search-requires-2 c κs =
       (
         s .pre .1 .0,
         (
-          s .pre .1 .1,
-          (k .costs .ensures .1, found-hanging _ _ _ _ _ _ _ _ (k .costs .ensures .0) p (r .reached .ensures)),
+          s .pre .1 .1 .1 .0,
+          (
+            s .pre .1 .1 .1 .1,
+            (k .costs .ensures .1, found-hanging _ _ _ _ _ _ _ _ (k .costs .ensures .0) p (r .reached .ensures)),
+          ),
         ),
       ),
     )

@@ -6,10 +6,10 @@ use Rattle.refiner.proofs.beside.is_point.Statement.{statement}
 use Rattle.refiner.proofs.beside.is_point.Tie as tie
 
 rank-requires : tie.Need-rank-requires
-rank-requires c κs = search needs
+rank-requires c κs = c .before .pre .1
 
 stands-requires : tie.Need-stands-requires
-stands-requires c κs = search needs
+stands-requires c κs = c .before .before .pre .0
 
 returns : tie.Need-returns
 returns c = is-point-is _ _ _ _ _ (c .before .rank .ensures .0) (c .stands .ensures)

@@ -26,10 +26,10 @@ element-copy-out-vertex-at : tie.Need-element-copy-out-vertex-at Inv-loop μ-loo
 element-copy-out-vertex-at c = omega arith
 
 vertex-at-requires : tie.Need-vertex-at-requires Inv-loop μ-loop
-vertex-at-requires c κs = c .before .before .before .pre .1 .below _
+vertex-at-requires c κs = c .before .before .before .before .pre .1 .1 .below _
 
 rank-requires : tie.Need-rank-requires Inv-loop μ-loop
-rank-requires c κs = omega arith
+rank-requires c κs = c .before .before .before .before .before .pre .1 .0
 
 mul-seat : tie.Need-mul-seat Inv-loop μ-loop
 mul-seat c = omega arith
@@ -46,7 +46,7 @@ loop-less c = omega arith
 loop-again : tie.Need-loop-again Inv-loop μ-loop
 loop-again c = (
   omega arith,
-  turns-next _ _ _ _ _ _ (c .before .before .before .before .loop .inv .1) (omega arith)
+  turns-next _ _ _ _ _ _ (c .before .before .before .before .before .loop .inv .1) (omega arith)
       (take-seat-is _ _ _ _ _ _ _ _ _ refl (c .before .vertex-at .ensures) (c .rank .ensures .0)),
 )
 

@@ -25,7 +25,9 @@ vertex-at-requires : tie.Need-vertex-at-requires Inv-loop μ-loop
 vertex-at-requires c κs = omega arith
 
 is-point-requires : tie.Need-is-point-requires Inv-loop μ-loop
-is-point-requires c κs = omega arith
+is-point-requires c κs =
+    let s = c .before .before .before in
+    (s .pre .0 .0, s .pre .1 .0)
 
 mul-source : tie.Need-mul-source Inv-loop μ-loop
 mul-source c = omega (arith, c .before .before .before .before .loop .inv .few)
@@ -44,7 +46,7 @@ loop-again c =
     let l = c .before .before .before .before in
     gather-more _ _ _ _ _ _ _ _ (l .loop .inv) (omega arith)
     (ap (isPoint _ _) (sym (c .before .before .vertex-at .ensures)) ∙ sym (c .before .is-point .ensures) ∙ c .if1 .taken)
-    (omega (arith, l .loop .inv .few, l .before .pre .1))
+    (omega (arith, l .loop .inv .few, l .before .pre .1 .1))
 
 loop-less-2 : tie.Need-loop-less-2 Inv-loop μ-loop
 loop-less-2 c = omega arith
