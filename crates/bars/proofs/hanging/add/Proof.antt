@@ -17,16 +17,18 @@ seen-edge-requires c κs = search needs
 hung-requires : tie.Need-hung-requires
 hung-requires c κs =
     let h = c .before in
-    let few = was-few _ _ (now (h .before .before .args .hangs)) (h .before .before .pre .0 .0 .0) (h .before .before .pre .1) _ (h .hang-at .ensures) in
-    (omega (arith, few, h .before .before .pre .0 .0), omega (arith, few, h .before .before .pre .0 .0))
+    let s = h .before .before in
+    let few = was-few _ _ (now (s .args .hangs)) (s .pre .0 .0 .0) (s .pre .1) _ (h .hang-at .ensures) in
+    (omega (arith, few, s .pre .0 .0), omega (arith, few, s .pre .0 .0))
 
 code-requires : tie.Need-code-requires
 code-requires c κs =
     let t = c .before in
     let h = t .before in
-    let few = now-few _ _ (now (h .before .before .args .hangs)) (h .before .before .pre .0 .0 .0) (h .before .before .pre .1) _ (h .hang-at .ensures) _ (t .seen-edge .ensures .0)
+    let s = h .before .before in
+    let few = now-few _ _ (now (s .args .hangs)) (s .pre .0 .0 .0) (s .pre .1) _ (h .hang-at .ensures) _ (t .seen-edge .ensures .0)
     (t .seen-edge .ensures .1 .0) (t .seen-edge .ensures .1 .1) _ (c .hung .ensures) in
-    ((omega (arith, few, h .before .before .pre .0 .0), omega (arith, few, h .before .before .pre .0 .0)), few .1)
+    ((omega (arith, few, s .pre .0 .0), omega (arith, few, s .pre .0 .0)), few .1)
 
 mul-hangs : tie.Need-mul-hangs
 mul-hangs c = search needs
@@ -38,7 +40,8 @@ returns : tie.Need-returns
 returns c =
     let t = c .before .before in
     let h = t .before in
-    added _ _ (now (h .before .before .args .hangs)) (h .before .before .pre .0 .0 .0) (h .before .before .pre .1) _ (h .hang-at .ensures) _ (t .seen-edge .ensures .0)
+    let s = h .before .before in
+    added _ _ (now (s .args .hangs)) (s .pre .0 .0 .0) (s .pre .1) _ (h .hang-at .ensures) _ (t .seen-edge .ensures .0)
     (t .seen-edge .ensures .1 .0) (t .seen-edge .ensures .1 .1) _ (c .before .hung .ensures) _ _ (c .code .ensures) refl
 
 pub add-spec : {M : Type 1} → statement M
