@@ -6,7 +6,7 @@ ghost use lib.ListN.{getD, length};
 ghost use Rattle.lists.specs.Sorted.{position};
 ghost use Rattle.plane.specs.Place.{before};
 ghost use Rattle.plane.specs.Flat.{placeAt};
-ghost use Rattle.tree.specs.Places.{InOrder};
+ghost use Rattle.plane.specs.Rank.{InOrder};
 ghost use Rattle.straight.specs.Table.{straightBound, keyBound, firstEnd, secondEnd, endsOf, pointsIn};
 
 // Points after bending, fewer than twice those of a refined tree; the numbers of their places, and of edges as two places each.
