@@ -57,20 +57,10 @@ pub fn second_place(pts: &[i32; NUMBERS], keys: &[usize; POINTS], i: usize) -> P
     point_at(pts, second_end(keys, i))
 }
 
-// How many of n places, which are in order, come before p: its number, if it is one of them. By halves.
+// How many of n places, which are in order, come before p: its number, if it is one of them.
 pub fn rank(pts: &[i32], n: usize, p: Place) -> usize
     requires { ⌜ (n * 2 ≤ length (now pts)) × (InOrder (now pts) n) ⌝ }
     ensures { λ r. ⌜ (r ≡ position before (pointsIn (now (pts .entry)) n) p) × (r ≤ n) ⌝ }
 {
-    let mut low = 0;
-    let mut high = n;
-    while low < high {
-        let middle = low + (high - low) / 2;
-        if plane::is_before(plane::place_at(pts, middle), p) {
-            low = middle + 1;
-        } else {
-            high = middle;
-        }
-    }
-    low
+    plane::rank(pts, n, p)
 }
