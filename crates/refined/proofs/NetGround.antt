@@ -1,5 +1,5 @@
--- The spanning graph of an allowed net is a ground to refine on, and the union of its kept paths is ready for its rounds: its points are all
--- vertices, so there is room for one further point for each pin.
+-- The spanning graph of an allowed net is a ground to refine on, and the union of its kept paths is ready for its rounds: its points are
+-- all vertices, so there is room for one further point for each pin.
 -- Assumes nothing.
 use mathlib.Core.Path.{_≡_, refl, sym, ap, ap₂, _∙_}
 use mathlib.Core.Bool.{true}

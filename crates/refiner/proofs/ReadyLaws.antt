@@ -166,7 +166,8 @@ module _ (g : Ground) (t : Tree) {source fars roots ups vias : List ℕ} {m : �
     unfolding seatsIn seats
     seats-in =
         seats-are
-        ∙ ap (λ (l : Labels). turns (takeSeat (t .points) (t .count) (g .places) (l .roots)) 0 (g .count) (replicate pointBound 0)) labels-in
+        ∙ ap (λ (l : Labels). turns (takeSeat (t .points) (t .count) (g .places) (l .roots)) 0 (g .count) (replicate pointBound 0))
+        labels-in
 
     pub made-seated : Roomy g t → Seated seat (g .count) (t .count)
     made-seated r = record { seated = λ u h. rw seats-in (r .seated u h) }
@@ -183,7 +184,8 @@ module _ (g : Ground) (t : Tree) {source fars roots ups vias : List ℕ} {m : �
 
       pub exchangeable : Roomy g t → (c .gain ≡ 0 → ⊥) → Exchangeable fars ups seat (t .edges .keys) (t .count) (t .edges .size) c
       exchangeable r h =
-          let i = chosen-range w ms (t .points) (t .count) (t .edges .keys) (t .edges .size) (g .places) (g .count) fars ups seat c chosen h in
+          let i = chosen-range w ms (t .points) (t .count) (t .edges .keys) (t .edges .size) (g .places)
+          (g .count) fars ups seat c chosen h in
           record {
             within = r .spanned .within;
             few = (r .few, omega (arith, r .few, r .spanned .size));
