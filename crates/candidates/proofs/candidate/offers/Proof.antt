@@ -113,8 +113,9 @@ loop-holds c =
     let b = f .before .before .before .before .before .before .before .before in
     let s = b .before .before .before .before .before in
     let h = s .pre .1 .1 .1 in
-    let m = c .start .ensures in (
-      (f .from .ensures .0, f .before .before .before .to .ensures .0),
+    let m = c .start .ensures in
+    let last = f .before .before .before .to .ensures .0 in (
+      (omega (arith, f .from .ensures .0, last), last),
       (
         (m .0, m .1 _ (h .told) (fresh-start _ (h .tied)) (h .paired (s .args .k) (s .pre .0 .0 .0))),
         (
