@@ -26,15 +26,15 @@ use Rattle.plane.specs.Macro.{clear}
 use Rattle.plane.proofs.PlaceOrder.{place-order}
 use Rattle.plane.proofs.CostLaws.{cost-comm, cost-none}
 use Rattle.plane.proofs.MacroLaws.{clear-comm}
-use Rattle.graph.specs.declared.Quadrant.{Quadrant}
-use Rattle.graph.specs.declared.Quadrant.the-variants.{First, Second, Third, Fourth}
-use Rattle.graph.specs.declared.Picked.{Picked}
-use Rattle.graph.specs.declared.Picked.the-variants.{At, Nothing}
-use Rattle.graph.specs.Pick.{pick}
+use Rattle.picks.specs.declared.Quadrant.{Quadrant}
+use Rattle.picks.specs.declared.Quadrant.the-variants.{First, Second, Third, Fourth}
+use Rattle.picks.specs.declared.Picked.{Picked}
+use Rattle.picks.specs.declared.Picked.the-variants.{At, Nothing}
+use Rattle.picks.specs.Pick.{pick}
 use Rattle.graph.specs.Edges.{edgeOf, beforeEdge, edgeOfPick, picksOf, allPicks, edges}
 use Rattle.graph.proofs.GraphSteps.{picks-none, picks-more, picks-few}
-use Rattle.graph.proofs.QuadrantLaws.{within-differs}
-use Rattle.graph.proofs.PickLaws.{pick-at}
+use Rattle.picks.proofs.QuadrantLaws.{within-differs}
+use Rattle.picks.proofs.PickLaws.{pick-at}
 
 -- The order of edges, and the edge of two places
 

@@ -24,7 +24,7 @@ use Rattle.plane.specs.Flat.{placeFrom, placeAt}
 use Rattle.plane.specs.Rank.{InOrder, later, rank}
 use Rattle.graph.specs.Numbers.{placeNumbers}
 use Rattle.graph.proofs.WidthLaws.{place-width}
-use Rattle.graph.proofs.VertexNumbers.{ascending-at}
+use Rattle.picks.proofs.VertexNumbers.{ascending-at}
 use Rattle.terminal.specs.Number.{numberOf}
 
 -- Entries
