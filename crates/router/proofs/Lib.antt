@@ -1,5 +1,6 @@
 pub mod GraphAnswer
 pub mod AnswerLaws
+pub mod RoomLaws
 pub mod CallLaws
 pub mod RefinedLaws
 pub mod Distances

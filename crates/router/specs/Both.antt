@@ -1,6 +1,6 @@
 -- Both trees by one call: rules C63 to C66, whose totals come from one graph.
 use mathlib.Core.List.{List}
-use Prim.Native.Nat.{ℕ, _+_, _*_}
+use Prim.Native.Nat.{ℕ}
 use lib.IntN.{ℤ, pos}
 use lib.ListN.{length}
 use Rattle.lent.specs.Told.{Told, refused, given, onlyIf}
@@ -8,6 +8,7 @@ use Rattle.net.specs.Answer.{number}
 use Rattle.net.specs.Pins.{pinCount}
 use Rattle.net.specs.declared.Weighing.{Weighing}
 use Rattle.net.specs.Check.{checked}
+use Rattle.room.specs.Needs.{edgeNeed}
 use Rattle.router.specs.Room.{ifRoom}
 use Rattle.router.specs.Graph.{pointCount}
 use Rattle.router.specs.Terminal.{pathsTotal}
@@ -21,7 +22,7 @@ bothAnswer w pins macros = (length (laidOf w pins macros), (pos (pathsTotal w pi
 
 -- C65: fewer than 4(n + m) numbers
 unfoldable pub bothGiven : Weighing → List ℤ → List ℤ → ℕ → Told (ℕ × (ℤ × (ℤ × ℤ)))
-bothGiven w pins macros room = ifRoom ((pointCount pins macros + pinCount pins) * 4) room (bothAnswer w pins macros)
+bothGiven w pins macros room = ifRoom (edgeNeed (pointCount pins macros) (pinCount pins)) room (bothAnswer w pins macros)
 
 -- C65: 11 to 18, then 21
 unfoldable pub bothTrees : Weighing → List ℤ → List ℤ → ℕ → Told (ℕ × (ℤ × (ℤ × ℤ)))

@@ -45,8 +45,7 @@ pub fn graph(
     ensures { λ r. ⌜ GraphCall graphGiven (handed (net .weights)) (now (pins .entry)) (now (macros .entry)) (now (vertices .entry))
         (now (edges .entry)) r (now (vertices .exit)) (now (edges .exit)) ⌝ }
 {
-    let n = net::point_count(net);
-    if (vertices.len() < n * 2) | (edges.len() < n * 16) {
+    if room::graph_short(net, vertices.len(), edges.len()) {
         return Graphed::Refused(Refusal::Space);
     }
     let v = graph::vertices(pins, macros, &mut *vertices);
@@ -60,7 +59,7 @@ pub fn terminal_tree(net: Net, pins: &[i32], macros: &[i32], paths: &mut [i64]) 
     ensures { λ r. ⌜ TerminalCall terminalGiven (handed (net .weights)) (now (pins .entry)) (now (macros .entry)) (now (paths .entry)) r
         (now (paths .exit)) ⌝ }
 {
-    if paths.len() < net.pins * 5 {
+    if room::paths_short(net, paths.len()) {
         return TerminalAnswer::Refused(Refusal::Space);
     }
     let tree = made::terminal_tree(net, pins, macros, &mut *paths);
@@ -73,7 +72,7 @@ pub fn both_trees(net: Net, pins: &[i32], macros: &[i32], edges: &mut [i32]) -> 
     ensures { λ r. ⌜ BothCall bothGiven (handed (net .weights)) (now (pins .entry)) (now (macros .entry)) (now (edges .entry)) r
         (now (edges .exit)) ⌝ }
 {
-    if edges.len() < (net::point_count(net) + net.pins) * 4 {
+    if room::edges_short(net, edges.len()) {
         return BothAnswer::Refused(Refusal::Space);
     }
     let mut points = [0i32; tree::NUMBERS];
@@ -95,7 +94,7 @@ pub fn slid_tree(net: Net, pins: &[i32], macros: &[i32], edges: &mut [i32]) -> T
     ensures { λ r. ⌜ SlidCall slidGiven (handed (net .weights)) (now (pins .entry)) (now (macros .entry)) (now (edges .entry)) r
         (now (edges .exit)) ⌝ }
 {
-    if edges.len() < (net::point_count(net) + net.pins) * 8 {
+    if room::wires_short(net, edges.len()) {
         return TreeAnswer::Refused(Refusal::Space);
     }
     let mut table = [0i32; EDGE_TABLE];
@@ -112,7 +111,7 @@ pub fn wires(net: Net, pins: &[i32], macros: &[i32], wires: &mut [i32]) -> Wired
     ensures { λ r. ⌜ WiresCall wiresGiven (handed (net .weights)) (now (pins .entry)) (now (macros .entry)) (now (wires .entry)) r
         (now (wires .exit)) ⌝ }
 {
-    if wires.len() < (net::point_count(net) + net.pins) * 8 {
+    if room::wires_short(net, wires.len()) {
         return Wired::Refused(Refusal::Space);
     }
     let mut points = [0i32; tree::NUMBERS];

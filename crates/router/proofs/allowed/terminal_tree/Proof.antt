@@ -1,8 +1,10 @@
 -- `router::allowed::terminal_tree` meets its contract: where there is room, the paths given are those of the net's terminal tree.
 -- Assumes nothing.
-use mathlib.Core.Path.{_≡_, refl, ap, ap₂, _∙_}
-use Prim.Native.Nat.{ℕ, _*_, _^_, _≤_, _<_}
+use mathlib.Core.Path.{_≡_, refl, sym, ap, ap₂, _∙_}
+use Prim.Native.Nat.{ℕ, _^_, _≤_, _<_}
 use native.Mathlib.Omega.{arith}
+use borrow.Author.Tests.{ltb-true, ltb-false}
+use lib.Dec.{ltb}
 use lib.IntN.{ℤ, pos}
 use lib.ListN.{length}
 use mir.Syntax.{w64}
@@ -12,28 +14,35 @@ use Rattle.lent.specs.Told.{given}
 use Rattle.net.specs.Answer.{number}
 use Rattle.net.specs.Pins.{pinCount}
 use Rattle.net.specs.Net.{handed}
+use Rattle.room.specs.Needs.{pathNeed}
 use Rattle.terminal.proofs.PathLaws.{total-small}
-use Rattle.made.proofs.CountedLaws.{as-pins, counts-few}
+use Rattle.made.proofs.CountedLaws.{counts-few}
 use Rattle.router.specs.Terminal.{pathsOf, pathsTotal, terminalGiven, toldTerminal}
 use Rattle.router.proofs.AnswerLaws.{room-short, room-enough}
+use Rattle.router.proofs.RoomLaws.{paths-ask}
 use Rattle.router.proofs.CallLaws.{gives-refused, gives-given}
 use borrow.Author.Needs.{needs}
 use Rattle.router.proofs.allowed.terminal_tree.Statement.{statement}
 use Rattle.router.proofs.allowed.terminal_tree.Tie as tie
 
-mul-if1 : tie.Need-mul-if1
-mul-if1 c = record { fits = omega (arith, counts-few (c .before .pre)) }
+paths-short-requires : tie.Need-paths-short-requires
+paths-short-requires c κs = counts-few (c .pre) .0
+
+-- whether too little is lent, in the numbers of the lists
+short : (d : tie.After-paths-short) → let a = d .before .args in
+    d .paths-short .result ≡ ltb (length (now (a .paths))) (pathNeed (pinCount (now (a .pins))))
+short d = d .paths-short .ensures ∙ paths-ask (d .before .pre) _
 
 returns : tie.Need-returns
 unfolding terminalGiven toldTerminal number
 returns c =
     let a = c .before .before .args in
     gives-refused refl
-    (room-short (pinCount (now (a .pins)) * 5) (length (now (a .paths))) _ (omega (arith, as-pins (c .before .before .pre), c .if1 .taken)))
+    (room-short (pathNeed (pinCount (now (a .pins)))) (length (now (a .paths))) _ (ltb-true _ _ (sym (short (c .before)) ∙ c .if1 .taken)))
 
 -- the room that there is
-room : (c : tie.After-terminal-tree-arg) → let a = c .before .before .before .args in pinCount (now (a .pins)) * 5 ≤ length (now (a .paths))
-room c = omega (arith, as-pins (c .before .before .before .pre), c .before .if1 .left)
+room : (c : tie.After-terminal-tree-arg) → let a = c .before .before .before .args in pathNeed (pinCount (now (a .pins))) ≤ length (now (a .paths))
+room c = ltb-false _ _ (sym (short (c .before .before)) ∙ c .before .if1 .left)
 
 terminal-tree-requires : tie.Need-terminal-tree-requires
 terminal-tree-requires c κs = (c .before .before .before .pre, room c)
@@ -42,8 +51,8 @@ terminal-tree-requires c κs = (c .before .before .before .pre, room c)
 total-fits : (d : tie.After-terminal-tree) → d .terminal-tree .result .total < 2 ^ 63
 total-fits d = omega (arith, d .terminal-tree .ensures .1 .0, total-small (d .before .before .before .before .pre .allowed))
 
-cast-t12 : tie.Need-cast-t12
-cast-t12 c = record { sfits = total-fits (c .before .before) }
+cast-t11 : tie.Need-cast-t11
+cast-t11 c = record { sfits = total-fits (c .before .before) }
 
 returns-2 : tie.Need-returns-2
 unfolding terminalGiven toldTerminal pathsTotal pathsOf
@@ -56,8 +65,8 @@ returns-2 c =
     gives-given
     (ap₂ (λ (n : ℕ) (z : ℤ). given (n, z)) (d .terminal-tree .ensures .0)
     (toZ-pos w64 (d .terminal-tree .result .total) (total-fits d) ∙ ap pos (d .terminal-tree .ensures .1 .0)))
-    (room-enough {A = ℕ × ℤ} (pinCount (now (a .pins)) * 5) (length (now (a .paths))) given-is (room (d .before)))
+    (room-enough {A = ℕ × ℤ} (pathNeed (pinCount (now (a .pins)))) (length (now (a .paths))) given-is (room (d .before)))
     (d .terminal-tree .ensures .1 .1)
 
 pub terminal-tree-spec : {M : Type 1} → statement M
-terminal-tree-spec = tie.close (tie.spec mul-if1 returns terminal-tree-requires cast-t12 (λ c. search needs) returns-2)
+terminal-tree-spec = tie.close (tie.spec paths-short-requires returns terminal-tree-requires cast-t11 (λ c. search needs) returns-2)
