@@ -34,7 +34,8 @@ module _ {X : Type 0} where
   sets-before l i [] j d h = refl
   sets-before l i (x ∷ xs) j d h = sets-before (set l i x) (suc i) xs j d (omega arith) ∙ getD-set-other l i j x d (λ e. omega arith)
 
-  sets-at : (l : List X) (i : ℕ) (xs : List X) (c : ℕ) (d : X) → c < length xs → i + length xs ≤ length l → getD (sets l i xs) (i + c) d ≡ getD xs c d
+  sets-at : (l : List X) (i : ℕ) (xs : List X) (c : ℕ) (d : X) → c < length xs → i + length xs ≤ length l
+      → getD (sets l i xs) (i + c) d ≡ getD xs c d
   sets-at l i [] c d h r = absurd (let z : ⊥ = omega arith in z)
   sets-at l i (x ∷ xs) zero d h r =
       ap (λ (k : ℕ). getD (sets (set l i x) (suc i) xs) k d) (add-zero i)
