@@ -9,7 +9,7 @@ use Rattle.forest.specs.Edges.{graph}
 use Rattle.net.specs.Net.{Net}
 use Rattle.terminal.specs.declared.TerminalTree.{TerminalTree}
 use Rattle.terminal.specs.Tables.{Tables, tables, Fresh, Worked}
-use Rattle.refiner.specs.Beside.{ground}
+use Rattle.beside.specs.Beside.{ground}
 use Rattle.refined.specs.Ground.{groundOf}
 
 -- the tables that are lent

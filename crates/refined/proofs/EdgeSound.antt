@@ -33,7 +33,7 @@ use Rattle.refiner.specs.Promise.{Promise, Tabled}
 use Rattle.tree.proofs.EdgeLaws.{edges-count, edges-in, edges-of, edge-number, edges-smaller, tree-total}
 use Rattle.refiner.proofs.RoundSound.{total-of}
 use Rattle.refiner.proofs.RefinedSound.{refined-promise, refined-tabled}
-use Rattle.refiner.specs.Beside.{Ground}
+use Rattle.beside.specs.Beside.{Ground}
 use Rattle.refiner.specs.Ready.{verticesOf, Ready}
 use Rattle.tree.specs.Outside.{strangers}
 use Rattle.refined.specs.Promise.{Given}

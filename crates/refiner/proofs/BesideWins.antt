@@ -23,7 +23,7 @@ use Rattle.candidates.specs.declared.Best.{Best}
 use Rattle.lists.specs.Turns.{turns}
 use Rattle.longest.specs.Longest.{cutOf}
 use Rattle.candidates.specs.Candidate.{best, sees, dropped}
-use Rattle.refiner.specs.Beside.{onWay, free, middleBeside, weighed, offer, offers, search}
+use Rattle.beside.specs.Beside.{onWay, free, middleBeside, weighed, offer, offers, search}
 use Rattle.refiner.proofs.TakesLaws.{last-or}
 
 -- the candidate of the edge k and the vertex u, with L and gain

@@ -23,17 +23,17 @@ use Rattle.forest.proofs.ForestLaws.{made-fine, made-falls}
 use Rattle.forest.proofs.WayLaws.{falls-nearing}
 use Rattle.tree.specs.Table.{firstEnd, secondEnd, Tree}
 use Rattle.candidates.specs.declared.Best.{Best}
-use Rattle.refiner.specs.declared.Choice.{Choice}
+use Rattle.beside.specs.declared.Choice.{Choice}
 use Rattle.lists.specs.Turns.{turns}
 use Rattle.longest.specs.Longest.{cutOf, costs, longest}
 use Rattle.candidates.specs.Candidate.{best, found}
 use Rattle.candidates.specs.Candidate as tree
 use Rattle.exchanges.specs.Exchange.{exchange}
-use Rattle.refiner.specs.Beside.{Ground, sourcesFrom, takeSeat, seats, middleBeside, free, weighed, offer, offers, search}
-use Rattle.refiner.specs.Beside.{either, chosenOf, labelsIn, parentsIn, seatsIn, chosenIn}
+use Rattle.beside.specs.Beside.{Ground, sourcesFrom, takeSeat, seats, middleBeside, free, weighed, offer, offers, search}
+use Rattle.beside.specs.Beside.{Seated, either, chosenOf, labelsIn, parentsIn, seatsIn, chosenIn}
 use Rattle.refiner.specs.Graft.{Grown, grafted}
 use Rattle.refiner.specs.Round.{exchangeWith, exchangeIn}
-use Rattle.refiner.specs.Ready.{Roomy, Seated, Exchangeable}
+use Rattle.refiner.specs.Ready.{Roomy, Exchangeable}
 use Rattle.lists.proofs.TurnLaws.{turns-below}
 use Rattle.exchanges.proofs.WithinLaws.{cut-in, fine-found}
 

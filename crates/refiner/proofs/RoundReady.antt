@@ -28,12 +28,12 @@ use Rattle.tree.proofs.ListingLaws.{listing-length, in-listing}
 use Rattle.tree.proofs.PointLaws.{order-once}
 use Rattle.tree.proofs.OutsideLaws.{outside-more, outside-fewer, count-strangers}
 use Rattle.candidates.specs.declared.Best.{Best}
-use Rattle.refiner.specs.declared.Choice.{Choice}
+use Rattle.beside.specs.declared.Choice.{Choice}
 use Rattle.longest.specs.Longest.{costs, longest}
 use Rattle.candidates.specs.Candidate.{best, found, middleOf}
 use Rattle.candidates.specs.Candidate as tree
 use Rattle.exchanges.specs.Exchange.{exchange}
-use Rattle.refiner.specs.Beside.{Ground, search, middleBeside, either, chosenOf, chosenIn, labelsIn, parentsIn, seatsIn}
+use Rattle.beside.specs.Beside.{Ground, search, middleBeside, either, chosenOf, chosenIn, labelsIn, parentsIn, seatsIn}
 use Rattle.refiner.specs.Graft.{Grown}
 use Rattle.refiner.specs.Round.{exchangeWith, exchangeIn, roundsIn}
 use Rattle.refiner.specs.Ready.{verticesOf, vertexAt, Grounded, Ready, Roomy}

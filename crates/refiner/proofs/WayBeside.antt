@@ -41,7 +41,7 @@ use Rattle.tree.proofs.ListingLaws.{listing-length, in-listing}
 use Rattle.tree.proofs.PointLaws.{order-once}
 use Rattle.tree.proofs.OutsideLaws.{outside-rest}
 use Rattle.lists.specs.Turns.{turns}
-use Rattle.refiner.specs.Beside.{Ground, takeSeat, seats, labelsIn, parentsIn, seatsIn}
+use Rattle.beside.specs.Beside.{Ground, takeSeat, seats, labelsIn, parentsIn, seatsIn}
 use Rattle.refiner.specs.Ready.{verticesOf, vertexAt, Grounded}
 use Rattle.refiner.proofs.WayFound.{point-is, is-seated, sources, distance, source-in, in-source, setting, whole}
 use Rattle.refiner.proofs.GraftSound.{Hanging}

@@ -37,7 +37,7 @@ use Rattle.tree.specs.Places.{pointsOf, Sound}
 use Rattle.tree.proofs.ListingLaws.{in-listing, of-listing}
 use Rattle.lists.specs.Turns.{turns, seek}
 use Rattle.exchanges.specs.Exchange.{stands}
-use Rattle.refiner.specs.Beside.{Ground, isPoint, sourcesFrom, takeSeat, seats, labelsIn, parentsIn, seatsIn}
+use Rattle.beside.specs.Beside.{Ground, isPoint, sourcesFrom, takeSeat, seats, labelsIn, parentsIn, seatsIn}
 use Rattle.refiner.specs.Ready.{verticesOf, vertexAt, Grounded}
 use Rattle.exchanges.proofs.OpenedLaws.{rank-below, rank-above}
 use Rattle.exchanges.proofs.WithinLaws.{rank-le}

@@ -23,8 +23,8 @@ use Rattle.candidates.specs.Candidate.{sees, taken, dropped, allowed, weighed, 
 use Rattle.exchanges.specs.Exchange.{shift, closed, dropTwo, stands, push, closing, opened}
 use Rattle.exchanges.specs.Exchange.{bump, bumpAt, carrying, lay, lays, laidAt, exchange}
 use Rattle.exchanges.specs.Prune.{markOf, mark, marks, countEnds, loose, looseEdge, firstLoose, prune, pruned}
-use Rattle.refiner.specs.Beside.{Ground, ground, sourcesFrom, seats, offers as offersOff, search as searchOff, either, chosenOf}
-use Rattle.refiner.specs.Beside.{labelsIn, parentsIn, seatsIn, chosenIn}
+use Rattle.beside.specs.Beside.{Ground, ground, sourcesFrom, seats, offers as offersOff, search as searchOff, either, chosenOf}
+use Rattle.beside.specs.Beside.{labelsIn, parentsIn, seatsIn, chosenIn}
 use Rattle.refiner.specs.Round.{exchangeWith, exchangeIn, roundsIn}
 use Rattle.refiner.specs.Refined.{refined, addCost, total}
 use Rattle.forest.specs.Edges.{graph, from, filled}

@@ -11,7 +11,7 @@ use Rattle.net.specs.Net.{Net}
 use Rattle.joined.specs.OneTree.{OneTree}
 use Rattle.tree.specs.Table.{Tree, Within}
 use Rattle.tree.specs.Places.{endsOf, edgesOf, treeTotal, Ranked}
-use Rattle.refiner.specs.Beside.{Ground}
+use Rattle.beside.specs.Beside.{Ground}
 
 -- what is promised of the tree r that refines the tree t
 pub record Promise (net : Net) (t r : Tree) : Type 0 where

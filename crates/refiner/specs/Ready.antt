@@ -21,10 +21,10 @@ use Rattle.tree.specs.Table.{treeBound, Tree, Within}
 use Rattle.tree.specs.Places.{pointsOf, Ranked, Sound}
 use Rattle.tree.specs.Outside.{strangers}
 use Rattle.longest.specs.Hung.{Spanned}
-use Rattle.refiner.specs.Beside.{Ground, labelsIn, parentsIn, seatsIn, chosenIn}
+use Rattle.beside.specs.Beside.{Ground, labelsIn, parentsIn, seatsIn, chosenIn}
 use Rattle.refiner.specs.Round.{exchangeIn}
 use Rattle.refiner.specs.declared.Turn.{Turn}
-use Rattle.refiner.specs.declared.Choice.{Choice}
+use Rattle.beside.specs.declared.Choice.{Choice}
 
 -- the places of its vertices
 abbrev pub verticesOf : Ground → List Place
@@ -53,10 +53,6 @@ pub record Ready (net : Net) (g : Ground) (t : Tree) (m : ℕ) : Type 0 where
   pub room : g .count + (strangers (verticesOf g) t + m) ≤ treeBound
   pub places : length (t .points) ≡ treeBound * 2
   pub rows : length (t .edges .keys) ≡ treeBound
-
--- the first v vertices have their roots among n points of a tree
-pub record Seated (seat : List ℕ) (v n : ℕ) : Type 0 where
-  pub seated : (u : ℕ) → u < v → getD seat u 0 < n
 
 -- what the code needs of that: all points are reached, no way to a vertex is too long to be laid, and each vertex has its root among the
 -- tree's points

@@ -12,7 +12,7 @@ use Rattle.refiner.specs.declared.Refined.{Refined}
 use Rattle.lists.specs.Turns.{turns}
 use Rattle.tree.specs.Table.{treeBound, Tree, tree, Within}
 use Rattle.longest.specs.Longest.{edgeCost}
-use Rattle.refiner.specs.Beside.{Ground}
+use Rattle.beside.specs.Beside.{Ground}
 use Rattle.refiner.specs.Round.{roundsIn}
 use Rattle.exchanges.specs.Prune.{pruned}
 

@@ -25,7 +25,7 @@ use Rattle.tree.specs.Table.{treeBound, firstEnd, secondEnd, Tree}
 use Rattle.tree.specs.Places.{pointsOf, edgesOf, Ranked, Sound}
 use Rattle.tree.proofs.ListingLaws.{in-listing}
 use Rattle.longest.specs.Longest.{costs, longest}
-use Rattle.refiner.specs.Beside.{Ground, onWay, labelsIn, parentsIn, seatsIn}
+use Rattle.beside.specs.Beside.{Ground, onWay, labelsIn, parentsIn, seatsIn}
 use Rattle.refiner.specs.Ready.{vertexAt}
 use Rattle.refiner.specs.Sentences as tables
 use Rattle.refiner.proofs.CutSound.{cut-at, cut-one, cut-another, tree-size}

@@ -15,7 +15,7 @@ use Rattle.plane.proofs.PlaceOrder.{place-same}
 use Rattle.net.specs.Net.{Net}
 use Rattle.tree.specs.Table.{Tree}
 use Rattle.refiner.specs.Refined as tables
-use Rattle.refiner.specs.Beside.{Ground, either, chosenOf, chosenIn}
+use Rattle.beside.specs.Beside.{Ground, either, chosenOf, chosenIn}
 use Rattle.refiner.specs.Round.{exchangeWith, exchangeIn, roundsIn}
 use Rattle.refiner.specs.Ready.{Ready}
 use Rattle.refiner.proofs.RoundSteps.{choiceIn, rounds-none, rounds-some}

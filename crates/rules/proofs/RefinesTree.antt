@@ -20,7 +20,7 @@ use Rattle.joined.proofs.OneTreeLaws.{tree-one}
 use Rattle.net.specs.Net.{Net}
 use Rattle.tree.specs.Table.{Tree}
 use Rattle.tree.specs.Places.{pointsOf, Sound}
-use Rattle.refiner.specs.Beside.{Ground}
+use Rattle.beside.specs.Beside.{Ground}
 use Rattle.refiner.specs.Ready.{Ready}
 use Rattle.refiner.proofs.RoundSteps.{choiceIn}
 use Rattle.tree.proofs.ListingLaws.{in-listing}

@@ -31,7 +31,7 @@ use Rattle.longest.specs.Longest.{costs, longest}
 use Rattle.exchanges.specs.Exchange.{exchange}
 use Rattle.candidates.specs.Taken.{Taken}
 use Rattle.refiner.specs.Sentences as tables
-use Rattle.refiner.specs.Beside.{Ground, labelsIn, parentsIn, seatsIn}
+use Rattle.beside.specs.Beside.{Ground, labelsIn, parentsIn, seatsIn}
 use Rattle.refiner.specs.Ready.{vertexAt, Ready}
 use Rattle.refiner.proofs.CutSound.{tree-size}
 use Rattle.exchanges.proofs.ExchangeSound.{laid-after}

@@ -29,7 +29,7 @@ use Rattle.candidates.specs.declared.Best.{Best}
 use Rattle.candidates.specs.Candidate.{found}
 use Rattle.exchanges.specs.Exchange.{dropTwo, exchange}
 use Rattle.refiner.specs.Sentences as tables
-use Rattle.refiner.specs.Beside.{Ground, labelsIn, parentsIn, seatsIn}
+use Rattle.beside.specs.Beside.{Ground, labelsIn, parentsIn, seatsIn}
 use Rattle.refiner.specs.Ready.{vertexAt, Ready}
 use Rattle.exchanges.proofs.ExchangeSums.{between, over-dropped}
 use Rattle.exchanges.proofs.WithinLaws.{within-dropped}

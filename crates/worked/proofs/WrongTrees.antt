@@ -37,7 +37,7 @@ use Rattle.rules.proofs.SpanningOurs.{graph-only}
 use Rattle.rules.proofs.TerminalOurs.{paths-given}
 use Rattle.rules.proofs.TreesOurs.{trees-only}
 use Rattle.refined.specs.Ground.{groundOf}
-use Rattle.refiner.specs.Beside.{offer, isPoint, takeSeat, weighed}
+use Rattle.beside.specs.Beside.{offer, isPoint, takeSeat, weighed}
 
 abbrev at : ℕ → ℕ → Place
 at x y = place (pos x) (pos y)

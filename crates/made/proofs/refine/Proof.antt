@@ -11,7 +11,7 @@ use Rattle.union.specs.Union.{unionOf}
 use Rattle.union.proofs.WorkedStart.{worked-startable, worked-start}
 use Rattle.refined.specs.Ground.{groundOf}
 use Rattle.refined.proofs.NetGround.{union-ready}
-use Rattle.refiner.specs.Beside.{Ground}
+use Rattle.beside.specs.Beside.{Ground}
 use Rattle.refiner.specs.Ready.{Ready}
 use Rattle.made.proofs.FreshTables.{fresh, worked-ground}
 use Rattle.made.proofs.CountedLaws.{as-allowed, as-answer, as-worked}

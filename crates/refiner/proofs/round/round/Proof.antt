@@ -5,7 +5,7 @@ use native.Mathlib.Omega.{arith}
 use denote.Ref.{now}
 use Rattle.tree.specs.Table.{Tree, tree}
 use Rattle.lists.proofs.TestLaws.{differ}
-use Rattle.refiner.specs.declared.Choice.{Choice}
+use Rattle.beside.specs.declared.Choice.{Choice}
 use Rattle.refiner.proofs.ReadyLaws.{made-labels, made-nearing, made-seated, chosen-in, exchanged-in, exchangeable}
 use borrow.Author.Needs.{needs}
 use Rattle.refiner.proofs.round.round.Statement.{statement}

@@ -1,11 +1,11 @@
--- `refiner::beside::offer` meets its contract: an edge no longer than the best gain and the way gives no greater one.
+-- `beside::offer` meets its contract: an edge no longer than the best gain and the way gives no greater one.
 -- Assumes nothing.
 use mathlib.Core.Path.{_∙_}
 use native.Mathlib.Omega.{arith}
-use Rattle.refiner.proofs.BesideLaws.{off-tree, offer-none, offer-is, offer-short}
+use Rattle.beside.proofs.BesideLaws.{off-tree, offer-none, offer-is, offer-short}
 use borrow.Author.Needs.{needs}
-use Rattle.refiner.proofs.beside.offer.Statement.{statement}
-use Rattle.refiner.proofs.beside.offer.Tie as tie
+use Rattle.beside.proofs.offer.Statement.{statement}
+use Rattle.beside.proofs.offer.Tie as tie
 
 returns : tie.Need-returns
 returns c = λ t seat g d q. offer-none _ _ _ _ _ t _ _ _ seat _ _ _ _ _ (off-tree _ g) _ _ d q (c .if1 .taken)

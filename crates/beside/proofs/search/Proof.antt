@@ -1,4 +1,4 @@
--- `refiner::beside::search` meets its contract. The loop's invariant: the edges that are left decide. The measure is how many they are.
+-- `beside::search` meets its contract. The loop's invariant: the edges that are left decide. The measure is how many they are.
 -- Assumes nothing.
 use mathlib.Core.Path.{_≡_}
 use Prim.Native.Nat.{_≤_, _-_}
@@ -6,10 +6,10 @@ use native.Mathlib.Omega.{arith}
 use Rattle.plane.specs.Flat.{macrosOf}
 use Rattle.lists.specs.Turns.{turns}
 use Rattle.longest.specs.Longest.{longest}
-use Rattle.refiner.specs.Beside.{offers, search}
+use Rattle.beside.specs.Beside.{offers, search}
 use Rattle.lists.proofs.TurnLaws.{turns-none, turns-next, turns-end}
-use Rattle.refiner.proofs.beside.search.Statement.{statement}
-use Rattle.refiner.proofs.beside.search.Tie as tie
+use Rattle.beside.proofs.search.Statement.{statement}
+use Rattle.beside.proofs.search.Tie as tie
 
 abbrev Inv-loop : tie.InvT-loop
 Inv-loop w pts n macros keys e el most onto link turn vertices v far up seat found₀ k₀ found k =

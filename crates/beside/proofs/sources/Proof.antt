@@ -1,13 +1,13 @@
--- `refiner::beside::sources` meets its contract. The loop's invariant: the vertices that are left are still to come. The measure is how many
+-- `beside::sources` meets its contract. The loop's invariant: the vertices that are left are still to come. The measure is how many
 -- they are.
 -- Assumes nothing.
 use Prim.Native.Nat.{_-_}
 use mathlib.Core.Path.{sym, _∙_, ap}
-use Rattle.refiner.specs.Beside.{isPoint}
+use Rattle.beside.specs.Beside.{isPoint}
 use native.Mathlib.Omega.{arith}
-use Rattle.refiner.proofs.BesideLaws.{Gathering, gather-none, gather-pass, gather-more, gather-end, gather-low}
-use Rattle.refiner.proofs.beside.sources.Statement.{statement}
-use Rattle.refiner.proofs.beside.sources.Tie as tie
+use Rattle.beside.proofs.BesideLaws.{Gathering, gather-none, gather-pass, gather-more, gather-end, gather-low}
+use Rattle.beside.proofs.sources.Statement.{statement}
+use Rattle.beside.proofs.sources.Tie as tie
 
 abbrev Inv-loop : tie.InvT-loop
 Inv-loop pts n vertices v source₀ c₀ i₀ source c i = Gathering pts n vertices v source₀ source c i

@@ -1,19 +1,19 @@
--- `refiner::beside::on_way` meets its contract: it recurses along parents, and the distance is the number that falls at each call.
+-- `beside::on_way` meets its contract: it recurses along parents, and the distance is the number that falls at each call.
 -- Assumes nothing.
 use mathlib.Core.Path.{sym, _∙_}
 use native.Mathlib.Omega.{arith}
 use lib.ListN.{getD}
-use Rattle.refiner.proofs.BesideLaws.{way-stop, way-here, way-there}
+use Rattle.beside.proofs.BesideLaws.{way-stop, way-here, way-there}
 use Prim.Native.Nat.{ℕ, _<_}
 use borrow.Fn.Kinds.{In}
 use borrow.Fn.PlainCycle.{Measures, is, falls, and}
-use Rattle.refiner.proofs.beside.on_way.Reads as on-way
-use Rattle.refiner.proofs.beside.on_way.Kinds as on-way-kinds
-use Rattle.refiner.proofs.beside.+on_way.Lts-on_way as on-way-lts
+use Rattle.beside.proofs.on_way.Reads as on-way
+use Rattle.beside.proofs.on_way.Kinds as on-way-kinds
+use Rattle.beside.proofs.+on_way.Lts-on_way as on-way-lts
 use Rattle.plane.proofs.is_same_place.Reads as is-same-place-reads
-use Rattle.refiner.proofs.beside.vertex_at.Reads as vertex-at-reads
-use Rattle.refiner.proofs.beside.+on_way.{statement}
-use Rattle.refiner.proofs.beside.+on_way.Tie.{close}
+use Rattle.beside.proofs.vertex_at.Reads as vertex-at-reads
+use Rattle.beside.proofs.+on_way.{statement}
+use Rattle.beside.proofs.+on_way.Tie.{close}
 
 abbrev μ-on-way : Measures 3 on-way-kinds.ps ℕ
 μ-on-way κs a = getD (a .1 .0 .now) (a .1 .1 .1 .0) 0

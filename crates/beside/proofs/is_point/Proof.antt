@@ -1,9 +1,9 @@
--- `refiner::beside::is_point` meets its contract: a place is looked for where it would stand.
+-- `beside::is_point` meets its contract: a place is looked for where it would stand.
 -- Assumes nothing.
-use Rattle.refiner.proofs.BesideLaws.{is-point-is}
+use Rattle.beside.proofs.BesideLaws.{is-point-is}
 use borrow.Author.Needs.{needs}
-use Rattle.refiner.proofs.beside.is_point.Statement.{statement}
-use Rattle.refiner.proofs.beside.is_point.Tie as tie
+use Rattle.beside.proofs.is_point.Statement.{statement}
+use Rattle.beside.proofs.is_point.Tie as tie
 
 rank-requires : tie.Need-rank-requires
 rank-requires c κs = c .before .pre .1

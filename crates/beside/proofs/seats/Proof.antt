@@ -1,14 +1,14 @@
--- `refiner::beside::seats` meets its contract. The loop's invariant: the vertices that are left decide. The measure is how many they are.
+-- `beside::seats` meets its contract. The loop's invariant: the vertices that are left decide. The measure is how many they are.
 -- Assumes nothing.
 use mathlib.Core.Path.{_≡_, refl}
 use Prim.Native.Nat.{_≤_, _-_}
 use native.Mathlib.Omega.{arith}
 use Rattle.lists.specs.Turns.{turns}
-use Rattle.refiner.specs.Beside.{takeSeat}
+use Rattle.beside.specs.Beside.{takeSeat}
 use Rattle.lists.proofs.TurnLaws.{turns-none, turns-next, turns-end}
-use Rattle.refiner.proofs.BesideLaws.{take-seat-is}
-use Rattle.refiner.proofs.beside.seats.Statement.{statement}
-use Rattle.refiner.proofs.beside.seats.Tie as tie
+use Rattle.beside.proofs.BesideLaws.{take-seat-is}
+use Rattle.beside.proofs.seats.Statement.{statement}
+use Rattle.beside.proofs.seats.Tie as tie
 
 abbrev Inv-loop : tie.InvT-loop
 Inv-loop pts n vertices v root seat₀ i₀ seat i = (i ≤ v) × (turns (takeSeat pts n vertices root) i (v - i) seat ≡ turns (takeSeat pts n vertices root) 0 v seat₀)

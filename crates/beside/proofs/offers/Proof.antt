@@ -1,4 +1,4 @@
--- `refiner::beside::offers` meets its contract. The loop's invariant: the vertices that are left decide; one on the tree, and one too
+-- `beside::offers` meets its contract. The loop's invariant: the vertices that are left decide; one on the tree, and one too
 -- far from it or from the box of the edge, changes nothing; the row is that of the edge. The measure is how many they are.
 -- Assumes nothing.
 use mathlib.Core.Path.{_≡_, refl, sym, subst, _∙_}
@@ -18,11 +18,11 @@ use Rattle.longest.specs.Hung.{ties, Begun, Row}
 use Rattle.longest.proofs.HungLaws.{same-length}
 use Rattle.longest.proofs.RowLaws.{fresh-start}
 use Rattle.lists.specs.Turns.{turns}
-use Rattle.refiner.specs.Beside.{offer, offers}
-use Rattle.refiner.proofs.BesideLaws.{offer-zero, offer-far, offer-beyond, offer-more}
+use Rattle.beside.specs.Beside.{offer, offers}
+use Rattle.beside.proofs.BesideLaws.{offer-zero, offer-far, offer-beyond, offer-more}
 use Rattle.lists.proofs.TurnLaws.{turns-none, turns-next, turns-end}
-use Rattle.refiner.proofs.beside.offers.Statement.{statement}
-use Rattle.refiner.proofs.beside.offers.Tie as tie
+use Rattle.beside.proofs.offers.Statement.{statement}
+use Rattle.beside.proofs.offers.Tie as tie
 
 abbrev Inv-loop : tie.InvT-loop
 Inv-loop w pts n macros keys e el most onto link turn vertices v far up seat k a b m last u₀ row₀ found₀ u row found =

@@ -31,15 +31,15 @@ use Rattle.forest.proofs.ListedLaws.{read-listed, entry-listed, listed-none, li
 use Rattle.forest.proofs.WayLaws.{after-go, after-none}
 use Rattle.tree.specs.Table.{treeBound, Low}
 use Rattle.candidates.specs.declared.Best.{Best}
-use Rattle.refiner.specs.declared.Choice.{Choice}
+use Rattle.beside.specs.declared.Choice.{Choice}
 use Rattle.lists.specs.Turns.{turns}
 use Rattle.longest.specs.Longest.{measure, costs, longest, cutOf}
 use Rattle.candidates.specs.Candidate.{best, chosen, sees, dropped, mayGain}
 use Rattle.candidates.specs.Candidate as tree
 use Rattle.exchanges.specs.Exchange.{stands}
-use Rattle.refiner.specs.Beside.{isPoint, sourcesFrom, takeSeat, onWay, free, middleBeside, weighed, offer, search}
-use Rattle.refiner.specs.Beside.{chosenOf}
-use Rattle.refiner.specs.Beside.{choice, either as chosenEither}
+use Rattle.beside.specs.Beside.{isPoint, sourcesFrom, takeSeat, onWay, free, middleBeside, weighed, offer, search}
+use Rattle.beside.specs.Beside.{chosenOf}
+use Rattle.beside.specs.Beside.{choice, either as chosenEither}
 
 and-false : (a : Bool) → (a && false) ≡ false
 and-false true = refl

@@ -4,7 +4,7 @@
 -- tree is the tree point v that it is joined to, and its way to the root is the way that is laid.
 use mathlib.Core.Bool.{Bool, true, false, not, _&&_, _||_}
 use mathlib.Core.List.{List, [], _∷_}
-use Prim.Native.Nat.{ℕ, zero, suc, _+_, _-_}
+use Prim.Native.Nat.{ℕ, zero, suc, _+_, _-_, _<_}
 use lib.Dec.{ltb, eqb}
 use lib.IntN.{ℤ}
 use lib.ListN.{getD, set, replicate}
@@ -22,7 +22,7 @@ use Rattle.forest.specs.Labels.{Labels, labelled}
 use Rattle.forest.specs.Parents.{Parents, parented, wayAfter}
 use Rattle.tree.specs.Table.{firstEnd, secondEnd, Tree}
 use Rattle.candidates.specs.declared.Best.{Best}
-use Rattle.refiner.specs.declared.Choice.{Choice}
+use Rattle.beside.specs.declared.Choice.{Choice}
 use Rattle.lists.specs.Turns.{turns}
 use Rattle.longest.specs.Longest.{cutOf, costs, longest}
 use Rattle.candidates.specs.Candidate.{best, chosen, sees, dropped}
@@ -54,6 +54,10 @@ takeSeat pts n vs roots i t = set t i (rank pts n (placeAt vs (getD roots i 0)))
 
 unfoldable pub seats : List ℤ → ℕ → List ℤ → ℕ → List ℕ → List ℕ
 seats pts n vs v roots = turns (takeSeat pts n vs roots) 0 v (replicate pointBound 0)
+
+-- the first v vertices have their roots among n points of a tree
+pub record Seated (seat : List ℕ) (v n : ℕ) : Type 0 where
+  pub seated : (u : ℕ) → u < v → getD seat u 0 < n
 
 -- R24: s is the place of one of these vertices
 unfoldable pub onWay : List ℤ → Place → List ℕ → Bool

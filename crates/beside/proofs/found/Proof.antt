@@ -1,14 +1,14 @@
--- `refiner::beside::found` meets its contract: costs, then what hangs on what, then both searches.
+-- `beside::found` meets its contract: costs, then what hangs on what, then both searches.
 -- Assumes nothing.
 use native.Mathlib.Omega.{arith}
 use Rattle.tree.specs.Table.{treeBound}
 use Rattle.tree.proofs.LowLaws.{low-zeros}
 use Rattle.exchanges.proofs.WithinLaws.{within-small}
-use Rattle.refiner.proofs.BesideLaws.{either-off, either-on, chosen-is}
-use Rattle.refiner.proofs.SpanLaws.{found-hanging}
+use Rattle.beside.proofs.BesideLaws.{either-off, either-on, chosen-is}
+use Rattle.beside.proofs.HangingLaws.{found-hanging}
 use borrow.Author.Needs.{needs}
-use Rattle.refiner.proofs.beside.found.Statement.{statement}
-use Rattle.refiner.proofs.beside.found.Tie as tie
+use Rattle.beside.proofs.found.Statement.{statement}
+use Rattle.beside.proofs.found.Tie as tie
 
 costs-requires : tie.Need-costs-requires
 costs-requires c κs =

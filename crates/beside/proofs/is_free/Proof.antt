@@ -1,10 +1,10 @@
--- `refiner::beside::is_free` meets its contract, arm by arm.
+-- `beside::is_free` meets its contract, arm by arm.
 -- Assumes nothing.
 use mathlib.Core.Path.{sym, _∙_}
-use Rattle.refiner.proofs.BesideLaws.{free-unseen, free-dropped, free-way}
+use Rattle.beside.proofs.BesideLaws.{free-unseen, free-dropped, free-way}
 use borrow.Author.Needs.{needs}
-use Rattle.refiner.proofs.beside.is_free.Statement.{statement}
-use Rattle.refiner.proofs.beside.is_free.Tie as tie
+use Rattle.beside.proofs.is_free.Statement.{statement}
+use Rattle.beside.proofs.is_free.Tie as tie
 
 point-at-requires : tie.Need-point-at-requires
 point-at-requires c κs = search needs

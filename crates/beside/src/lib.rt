@@ -2,9 +2,6 @@
 //
 // Roots and parents with the tree's own vertices as sources: the root of a vertex beside the tree is the tree point v that it is joined to,
 // and its way to the root is the way that is laid.
-use crate::Choice;
-use crate::VERTEX_NUMBERS;
-use crate::VERTICES;
 use candidates::Best;
 use candidates::candidate;
 use candidates::near;
@@ -29,8 +26,22 @@ ghost use Rattle.tree.specs.Table.{treeBound, Within};
 ghost use Rattle.tree.specs.Table as table;
 ghost use Rattle.longest.specs.Longest.{cutOf, longest};
 ghost use Rattle.longest.specs.Hung.{ties, Hanging, Spanned};
-ghost use Rattle.refiner.specs.Ready.{Seated};
-ghost use Rattle.refiner.specs.Beside.{isPoint, sourcesFrom, takeSeat, onWay, free, weighed, offer, offers, search, chosenOf};
+ghost use Rattle.beside.specs.Beside.{isPoint, sourcesFrom, takeSeat, Seated, onWay, free, weighed, offer, offers, search, chosenOf};
+
+// Vertices of the graph, and the numbers of their places.
+pub const VERTICES: usize = forest::POINTS;
+
+pub const VERTEX_NUMBERS: usize = VERTICES * 2;
+
+// The candidate that a round takes: on the tree its point is the number of a tree point, beside it that of a vertex. With gain 0 there is
+// none.
+pub struct Choice {
+    pub beside: bool,
+    pub gain: u64,
+    pub edge: usize,
+    pub point: usize,
+    pub cut: usize,
+}
 
 pub fn vertex_at(vertices: &[i32; VERTEX_NUMBERS], v: usize) -> Place
     requires { ⌜ v < pointBound ⌝ }
@@ -305,7 +316,7 @@ fn offers(
 }
 
 // The best candidate with a vertex beside the tree whose gain is above that of c; c, where there is none.
-pub fn search(
+fn search(
     w: Weights,
     pts: &[i32; NUMBERS],
     n: usize,

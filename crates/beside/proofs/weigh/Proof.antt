@@ -1,13 +1,13 @@
--- `refiner::beside::weigh` meets its contract: each early answer is one in which the candidate does not beat the best so far, or is not free.
+-- `beside::weigh` meets its contract: each early answer is one in which the candidate does not beat the best so far, or is not free.
 -- Assumes nothing.
 use denote.Ref.{now}
 use mathlib.Core.Path.{_≡_, refl, sym, _∙_}
 use native.Mathlib.Omega.{arith}
 use lib.ListN.{getD}
-use Rattle.refiner.proofs.BesideLaws.{Spots, weigh-low, weigh-no, weigh-yes}
+use Rattle.beside.proofs.BesideLaws.{Spots, weigh-low, weigh-no, weigh-yes}
 use borrow.Author.Needs.{needs}
-use Rattle.refiner.proofs.beside.weigh.Statement.{statement}
-use Rattle.refiner.proofs.beside.weigh.Tie as tie
+use Rattle.beside.proofs.weigh.Statement.{statement}
+use Rattle.beside.proofs.weigh.Tie as tie
 
 vertex-at-requires : tie.Need-vertex-at-requires
 vertex-at-requires c κs = search needs
