@@ -21,7 +21,7 @@ use Rattle.grid.proofs.GridCost.{line-count}
 use Rattle.rules.specs.Terminal.{Path}
 use Rattle.rules.specs.Trees.{Trees}
 use Rattle.rules.proofs.TreesOrder.{netBy, SameNet}
-use Rattle.best.specs.Bounds.{bestPins}
+use Rattle.parts.specs.Bounds.{bestPins}
 use Rattle.best.specs.Tree.{JoinsPins, IsBest, BestOver}
 use Rattle.best.proofs.OrderLaws.{best-any-order}
 use Rattle.best.proofs.RefinedLaws.{refined-not-cheaper}

@@ -37,11 +37,11 @@ use Rattle.grid.specs.Distance.{pinsInOrder}
 use Rattle.grid.proofs.GridCost.{line-count}
 use Rattle.grid.proofs.NetDistance.{order-count, number-at, zeros-read}
 use Rattle.grid.proofs.WholeLaws.{Small, Lined, pins-few, macros-few, whole-fits, made, zero-at, zero-long, renamed}
-use Rattle.best.specs.Bounds.{bestPins, maskBound, workBound}
-use Rattle.best.specs.Tables.{valueAt, MaskRow, FilledTo}
-use Rattle.best.specs.Routes.{inOrder, markedEdges, Traced, ReadBack}
+use Rattle.parts.specs.Bounds.{bestPins, maskBound, workBound}
+use Rattle.parts.specs.Tables.{valueAt, MaskRow, FilledTo}
+use Rattle.traced.specs.Routes.{inOrder, markedEdges, Traced, ReadBack}
 use Rattle.best.specs.Tree.{BestTree, BestOver}
-use Rattle.best.proofs.RouteLaws.{EdgeOf, turns}
+use Rattle.traced.proofs.RouteLaws.{EdgeOf, turns}
 use Rattle.best.proofs.NetBest.{Tabled}
 use Rattle.best.proofs.BestGiven.{traced-real, traced-best, traced-cost, lone-best, lone-cost}
 

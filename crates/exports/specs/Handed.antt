@@ -13,7 +13,7 @@ use Rattle.net.specs.Net.{Net}
 use Rattle.graph.specs.Numbers.{edgeNumbers}
 use Rattle.grid.specs.Distance.{Square}
 use Rattle.grid.specs.Edges.{Edge}
-use Rattle.best.specs.Bounds.{workBound}
+use Rattle.parts.specs.Bounds.{workBound}
 use Rattle.best.specs.Tree.{BestTree}
 
 -- a graph: two lists and two counts

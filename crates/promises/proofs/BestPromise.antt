@@ -26,7 +26,7 @@ use Rattle.grid.specs.Edges.{Edge}
 use Rattle.grid.proofs.GridCost.{line-count}
 use Rattle.bought.specs.Passes.{Passes}
 use Rattle.rules.proofs.InteriorLaws.{clear-points}
-use Rattle.best.specs.Bounds.{workBound}
+use Rattle.parts.specs.Bounds.{workBound}
 use Rattle.best.specs.Tree.{IsBest}
 use Rattle.best.proofs.BestLaws.{best-pinned}
 use Rattle.best.proofs.BestTree.{best-alike}

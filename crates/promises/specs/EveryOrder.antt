@@ -19,7 +19,7 @@ use Rattle.terminal.specs.Tree.{pathNumbers}
 use Rattle.joined.specs.Cost.{lengths}
 use Rattle.grid.specs.Distance.{Square}
 use Rattle.grid.specs.Edges.{Edge}
-use Rattle.best.specs.Bounds.{workBound}
+use Rattle.parts.specs.Bounds.{workBound}
 use Rattle.best.specs.Tree.{BestTree}
 use Rattle.bought.specs.Rearranged.{SameEdges}
 use Rattle.router.specs.Graph.{netVertices, netEdges, graphed}

@@ -21,7 +21,7 @@ use Rattle.joined.specs.Cost.{lengths}
 use Rattle.grid.specs.Distance.{Square}
 use Rattle.floats.specs.declared.Technology.{Technology}
 use Rattle.floats.specs.Mark.{finites}
-use Rattle.best.specs.Bounds.{workBound}
+use Rattle.parts.specs.Bounds.{workBound}
 use Rattle.best.specs.Tree.{BestTree}
 use Rattle.bought.specs.Edges.{edgesOf}
 use Rattle.rules.specs.Edges.{Edge}

@@ -26,7 +26,7 @@ use Rattle.floats.specs.declared.Technology.{Technology}
 use Rattle.floats.specs.Mark.{finites}
 use Rattle.delay.specs.Answer.{toldDelays}
 use Rattle.grid.specs.Edges.{Edge}
-use Rattle.best.specs.Bounds.{workBound}
+use Rattle.parts.specs.Bounds.{workBound}
 use Rattle.best.specs.Tree.{BestTree}
 use Rattle.router.specs.declared.Graphed.{Graphed}
 use Rattle.router.specs.declared.TerminalAnswer.{TerminalAnswer}
