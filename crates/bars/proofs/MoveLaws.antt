@@ -32,12 +32,12 @@ use Rattle.slide.proofs.BarLaws.{first-one, first-least}
 use Rattle.slide.proofs.RoundLaws.{on-itself}
 use Rattle.straight.specs.Table.{edgeAt, edgesIn, pointsIn}
 use Rattle.straight.proofs.RunLaws.{in-run, of-run}
-use Rattle.bars.specs.declared.Size.{Size}
-use Rattle.bars.specs.Turned.{View, onIt}
-use Rattle.bars.specs.Hanging.{hang}
+use Rattle.reach.specs.declared.Size.{Size}
+use Rattle.turned.specs.Turned.{View, onIt}
+use Rattle.hanging.specs.Hanging.{hang}
 use Rattle.bars.specs.Offers.{weightIn, held, move, moveBy, reachOf}
-use Rattle.bars.proofs.SeenLaws.{Sees}
-use Rattle.bars.proofs.HangLaws.{hang-is}
+use Rattle.turned.proofs.SeenLaws.{Sees}
+use Rattle.hanging.proofs.HangLaws.{hang-is}
 
 pub weight-is : (net : Net) (s : Side) → weight net s ≡ weightIn (net .weights) s
 unfolding weight weightIn horizontal

@@ -1,14 +1,10 @@
 // The best move of all bars.
-use crate::Bar;
 use crate::Best;
 use crate::PINS;
-use crate::Size;
-use crate::hanging;
-use crate::label;
-use crate::reach;
-use crate::turned;
 use plane::Place;
 use plane::Weights;
+use reach::Bar;
+use reach::Size;
 use slide::Move;
 use slide::Side;
 use straight::NUMBERS;
@@ -22,9 +18,9 @@ ghost use Rattle.slide.specs.Slide.{better};
 ghost use Rattle.straight.specs.Table.{straightBound, Small};
 ghost use lib.ListN.{getD};
 ghost use Rattle.slide.specs.declared.Side.the-variants.{Above, Below, Right, Left};
-ghost use Rattle.bars.specs.Steps.{Numbers};
-ghost use Rattle.bars.specs.Turned.{view};
-ghost use Rattle.bars.specs.Hanging.{hang, Coded, Tallied};
+ghost use Rattle.turned.specs.Steps.{Numbers};
+ghost use Rattle.turned.specs.Turned.{view};
+ghost use Rattle.hanging.specs.Hanging.{hang, Coded, Tallied};
 ghost use Rattle.net.specs.Pins.{pinCount};
 ghost use Rattle.bars.specs.Offers.{weightIn, chosen, held, Seated, labelView, lastOn, bar, offered, opposite, offeredBoth};
 ghost use Rattle.bars.specs.Offers.{searched, seatOf, seatsOf};
@@ -204,7 +200,7 @@ fn offer_both(
     ensures { λ r. ⌜ r ≡ offeredBoth (now (pts .entry)) (now (keys .entry)) (now (lab .entry)) z (now (macros .entry))
         (now (seats .entry)) s k c ⌝ }
 {
-    if label::leads(pts, keys, lab, s, k) {
+    if labels::leads(pts, keys, lab, s, k) {
         let l = lab[straight::first_end(keys, k)];
         let b = offer(pts, keys, z, macros, seats, lab, there, s, l, c);
         return offer(pts, keys, z, macros, seats, lab, back, opposite(s), l, b);

@@ -6,15 +6,16 @@ use Prim.Native.Nat.{ℕ, _-_, _*_, _^_, _≤_}
 use denote.Ref.{now}
 use Rattle.lists.proofs.TestLaws.{not-true}
 use Rattle.straight.specs.Table.{straightBound}
-use Rattle.bars.specs.declared.Bar.{Bar}
-use Rattle.bars.specs.declared.Hang.{Hang}
-use Rattle.bars.specs.declared.Size.{Size}
-use Rattle.bars.specs.Turned.{View, view}
-use Rattle.bars.specs.Hanging.{hang}
+use Rattle.reach.specs.declared.Bar.{Bar}
+use Rattle.hanging.specs.declared.Hang.{Hang}
+use Rattle.reach.specs.declared.Size.{Size}
+use Rattle.turned.specs.Turned.{View, view}
+use Rattle.hanging.specs.Hanging.{hang}
 use Rattle.bars.specs.Offers.{held, lastOn, moveBy, move}
-use Rattle.bars.proofs.CodeLaws.{off, rate-fits, saving-fits, move-is, reach-of, reach-less}
+use Rattle.bars.proofs.CodeLaws.{off, rate-fits, saving-fits, move-is, reach-of}
+use Rattle.reach.proofs.CodeLaws.{reach-less}
 use Rattle.bars.proofs.CodeLaws.{offer-equal, offer-weak, offer-held, offer-taken, offer-left}
-use Rattle.bars.proofs.TallyLaws.{read-back}
+use Rattle.hanging.proofs.TallyLaws.{read-back}
 use Rattle.bars.proofs.search.offer.Statement.{statement}
 use Rattle.bars.proofs.search.offer.Tie as tie
 

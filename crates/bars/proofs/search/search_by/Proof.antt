@@ -4,11 +4,11 @@
 use mathlib.Core.Path.{_≡_, refl, sym, ap, ap₂, _∙_}
 use native.Mathlib.Omega.{arith}
 use Prim.Native.Nat.{_+_, _-_, _^_, _≤_, _<_, min, max}
-use Rattle.bars.proofs.StepLaws.{up-start, up-next, up-end}
+use Rattle.turned.proofs.StepLaws.{up-start, up-next, up-end}
 use denote.Ref.{now}
 use Rattle.slide.specs.declared.Side.the-variants.{Above, Right}
 use Rattle.bars.specs.declared.Best.{Best}
-use Rattle.bars.specs.Steps.{upTo}
+use Rattle.turned.specs.Steps.{upTo}
 use Rattle.bars.specs.Offers.{opposite, offeredBoth, noMove, searched}
 use Rattle.bars.proofs.search.search_by.Statement.{statement}
 use Rattle.bars.proofs.search.search_by.Tie as tie
