@@ -10,7 +10,8 @@ ghost use mathlib.Core.Path.{_≡_};
 ghost use Prim.Native.Nat.{_≤_};
 ghost use Rattle.straight.specs.Table.{straightBound, Small};
 ghost use Rattle.turned.specs.Turned.{face};
-ghost use Rattle.reach.specs.Passing.{ownOf, frontOf, lowOf, highOf, endsAt, seenBy, isFar, exempt, past, pastPoints, pastEdges, pastFace, pastMacros, reached, wayOf};
+ghost use Rattle.reach.specs.Passing.{ownOf, frontOf, lowOf, highOf, endsAt, seenBy, isFar};
+ghost use Rattle.reach.specs.Passing.{exempt, past, pastPoints, pastEdges, pastFace, pastMacros, reached, wayOf};
 
 // A bar that may move to a side: the label of its points, its first and last spot, the shortest edge ahead, and where the box that it
 // sweeps by that much ends.
