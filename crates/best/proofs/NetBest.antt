@@ -28,19 +28,19 @@ use Rattle.plane.proofs.PlaceOrder.{place-order}
 use Rattle.net.specs.Net.{Net, costIn}
 use Rattle.net.specs.Allowed.{Allowed}
 use Rattle.net.proofs.AllowedLaws.{allowed-positive}
-use Rattle.grid.specs.declared.Grid.{Grid}
-use Rattle.grid.specs.declared.Axis.the-variants.{Across, Along}
-use Rattle.grid.specs.Bounds.{gridPins, gridMacros, lineBound, crossingBound, unreached}
-use Rattle.grid.specs.Lines.{xLines, yLines, Crossing}
-use Rattle.grid.specs.Edges.{Edge, gridEdges}
-use Rattle.grid.specs.Crossings.{isCrossing, crossingNumber}
+use Rattle.lines.specs.declared.Grid.{Grid}
+use Rattle.lines.specs.declared.Axis.the-variants.{Across, Along}
+use Rattle.lines.specs.Bounds.{gridPins, gridMacros, lineBound, crossingBound, unreached}
+use Rattle.lines.specs.Lines.{xLines, yLines, Crossing}
+use Rattle.lines.specs.Edges.{Edge, gridEdges}
+use Rattle.lines.specs.Crossings.{isCrossing, crossingNumber}
 use Rattle.grid.specs.Rows.{at}
 use Rattle.grid.specs.Tables.{crossingAt, target, Near}
 use Rattle.grid.specs.Distance.{pinsInOrder}
-use Rattle.grid.proofs.AxisLaws.{cost-length}
-use Rattle.grid.proofs.EdgeLaws.{pin-crossing, x-ascending, y-ascending}
-use Rattle.grid.proofs.CrossingLaws.{is-crossing, crossing-is, numbers-single, number-below, ends-crossings}
-use Rattle.grid.proofs.LineLaws.{line-order}
+use Rattle.lines.proofs.AxisLaws.{cost-length}
+use Rattle.lines.proofs.EdgeLaws.{pin-crossing, x-ascending, y-ascending}
+use Rattle.lines.proofs.CrossingLaws.{is-crossing, crossing-is, numbers-single, number-below, ends-crossings}
+use Rattle.lines.proofs.LineLaws.{line-order}
 use Rattle.grid.proofs.RowLaws.{held-near, quiet-near, quiet-why}
 use Rattle.grid.proofs.Spread.{spread, spread-on, spread-off}
 use Rattle.grid.proofs.TableGrid.{Made, NearGrid, near-grid, grid-near}

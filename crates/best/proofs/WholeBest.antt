@@ -27,14 +27,14 @@ use Rattle.net.specs.Pins.{pinCount, pinPlaces, macroCount}
 use Rattle.net.specs.Net.{Net, netWith, costIn}
 use Rattle.net.proofs.PinLaws.{length-pins}
 use Rattle.graph.specs.Numbers.{edgeNumbers}
-use Rattle.grid.specs.declared.Grid.{Grid}
-use Rattle.grid.specs.declared.Axis.the-variants.{Across, Along}
-use Rattle.grid.specs.Bounds.{gridPins, lineBound, crossingBound, segmentBound}
-use Rattle.grid.specs.Lines.{xLines, yLines}
-use Rattle.grid.specs.Crossings.{crossingNumber}
+use Rattle.lines.specs.declared.Grid.{Grid}
+use Rattle.lines.specs.declared.Axis.the-variants.{Across, Along}
+use Rattle.lines.specs.Bounds.{gridPins, lineBound, crossingBound, segmentBound}
+use Rattle.lines.specs.Lines.{xLines, yLines}
+use Rattle.lines.specs.Crossings.{crossingNumber}
 use Rattle.grid.specs.Tables.{target, CostsTo, Near}
 use Rattle.grid.specs.Distance.{pinsInOrder}
-use Rattle.grid.proofs.GridCost.{line-count}
+use Rattle.lines.proofs.GridCost.{line-count}
 use Rattle.grid.proofs.NetDistance.{order-count, number-at, zeros-read}
 use Rattle.grid.proofs.WholeLaws.{Small, Lined, pins-few, macros-few, whole-fits, made, zero-at, zero-long, renamed}
 use Rattle.parts.specs.Bounds.{bestPins, maskBound, workBound}

@@ -1,6 +1,6 @@
 // The best tree of a net of up to five pins: read back from the rows of its table, and given; the table is cleared.
-use grid::Axis;
-use grid::Grid;
+use lines::Axis;
+use lines::Grid;
 use plane::Weights;
 ghost use mathlib.Core.Path.{_≡_};
 ghost use Prim.Native.Nat.{_+_, _*_, _-_, _^_, _≤_, _<_};
@@ -14,7 +14,7 @@ ghost use Rattle.graph.specs.Numbers.{edgeNumbers};
 ghost use Rattle.net.specs.Pins.{pinCount, macroCount};
 ghost use Rattle.net.specs.Net.{netWith};
 ghost use Rattle.net.specs.Allowed.{Allowed};
-ghost use Rattle.grid.specs.Bounds.{gridMacros, crossingBound, segmentBound};
+ghost use Rattle.lines.specs.Bounds.{gridMacros, crossingBound, segmentBound};
 ghost use Rattle.grid.specs.Tables.{target};
 ghost use Rattle.parts.specs.Bounds.{bestPins, workBound};
 ghost use Rattle.traced.specs.Routes.{inOrder, markedEdges, LengthOf, MarkedPut};
@@ -182,8 +182,8 @@ pub fn best_tree(
 {
     let mut xs = [0i32; Grid::LINES];
     let mut ys = [0i32; Grid::LINES];
-    let across = grid::lines(Axis::Across, pins, macros, &mut xs);
-    let along = grid::lines(Axis::Along, pins, macros, &mut ys);
+    let across = lines::lines(Axis::Across, pins, macros, &mut xs);
+    let along = lines::lines(Axis::Along, pins, macros, &mut ys);
     let grid = Grid {
         across: across,
         along: along,
@@ -191,7 +191,7 @@ pub fn best_tree(
     let mut costs = [0u32; Grid::SEGMENTS];
     let e = grid::put_costs(w, macros, grid, &xs, &ys, &mut costs);
     let mut numbers = [0usize; Grid::PINS];
-    grid::number_pins(grid, &xs, &ys, pins, &mut numbers);
+    lines::number_pins(grid, &xs, &ys, pins, &mut numbers);
     let m = net::pin_count(pins);
     let n = masks(m);
     parts::fill(&costs, e, &numbers, m - 1, n, &mut *work);

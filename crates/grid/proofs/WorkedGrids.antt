@@ -21,8 +21,8 @@ use Rattle.plane.specs.Macro.{macro, spanMeets, meets, clear}
 use Rattle.plane.proofs.CostLaws.{cost-self, cost-triangle}
 use Rattle.net.specs.Net.{Net, costIn}
 use Rattle.grid.specs.Walk.{Walk, stop, go}
-use Rattle.grid.specs.Lines.{coordinate, sides, marks, linesOf, xLines, yLines}
-use Rattle.grid.specs.Edges.{nexts, row, column, rows, columns, edgesOf, gridEdges}
+use Rattle.lines.specs.Lines.{coordinate, sides, marks, linesOf, xLines, yLines}
+use Rattle.lines.specs.Edges.{nexts, row, column, rows, columns, edgesOf, gridEdges}
 use Rattle.grid.specs.Distance.{TrueDistance}
 use Rattle.grid.proofs.BoxWalk.{box-walk}
 

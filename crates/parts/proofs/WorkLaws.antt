@@ -15,7 +15,7 @@ use Rattle.lists.specs.Member.{_∈_, here, there}
 use Rattle.lists.specs.Those.{those}
 use Rattle.lists.proofs.TestLaws.{by, and-left}
 use Rattle.lists.proofs.ThoseLaws.{of-those}
-use Rattle.grid.specs.Bounds.{crossingBound, unreached}
+use Rattle.lines.specs.Bounds.{crossingBound, unreached}
 use Rattle.grid.specs.Rows.{at, Held, Quiet}
 use Rattle.grid.specs.Tables.{Row, Starts}
 use Rattle.grid.proofs.PassLaws.{held-row}

@@ -6,7 +6,7 @@ use mathlib.Core.List.{List}
 use Prim.Native.Nat.{ℕ, _+_, _*_, _≤_, _<_}
 use lib.Dec.{eqb}
 use lib.ListN.{length, getD, take, drop}
-use Rattle.grid.specs.Bounds.{crossingBound, unreached}
+use Rattle.lines.specs.Bounds.{crossingBound, unreached}
 use Rattle.grid.specs.Rows.{at, Held, Quiet}
 use Rattle.grid.specs.Tables.{Row, Starts}
 use Rattle.parts.specs.Bounds.{maskBound, workBound}

@@ -2,11 +2,11 @@
 //
 // A set is a number, a bit a pin. Its row in the lent work has a number for each crossing: what it costs to join that crossing with the
 // pins of the set.
-use grid::Grid;
+use lines::Grid;
 ghost use mathlib.Core.Path.{_≡_};
 ghost use Prim.Native.Nat.{_+_, _≤_, _<_};
 ghost use lib.ListN.{length, replicate};
-ghost use Rattle.grid.specs.Bounds.{crossingBound, unreached};
+ghost use Rattle.lines.specs.Bounds.{crossingBound, unreached};
 ghost use Rattle.grid.specs.Rows.{Below};
 ghost use Rattle.grid.specs.Tables.{Fits, Near};
 ghost use Rattle.parts.specs.Bounds.{bestPins, maskBound, workBound};

@@ -15,7 +15,7 @@ use Rattle.net.specs.declared.Weighing.{Weighing}
 use Rattle.net.specs.Pins.{pinCount, macroCount}
 use Rattle.net.specs.Check.{checked}
 use Rattle.rules.specs.Edges.{Edge}
-use Rattle.grid.specs.Bounds.{gridMacros}
+use Rattle.lines.specs.Bounds.{gridMacros}
 use Rattle.parts.specs.Bounds.{bestPins, workBound}
 use Rattle.router.specs.Best.{aboveBest, bestNumbers, bestRoomShort, bestAnswer, bestGiven, bestTree}
 

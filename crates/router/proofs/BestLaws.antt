@@ -20,8 +20,8 @@ use Rattle.net.specs.Allowed.{Allowed}
 use Rattle.net.proofs.AllowedLaws.{allowed-positive}
 use Rattle.forest.specs.Bounds.{pathBound}
 use Rattle.refined.proofs.MetalLaws.{metal-low}
-use Rattle.grid.specs.Bounds.{gridMacros}
-use Rattle.grid.specs.Edges.{Edge}
+use Rattle.lines.specs.Bounds.{gridMacros}
+use Rattle.lines.specs.Edges.{Edge}
 use Rattle.rules.proofs.TreesOurs.{trees-ours}
 use Rattle.parts.specs.Bounds.{bestPins, workBound}
 use Rattle.best.specs.Tree.{IsBest}

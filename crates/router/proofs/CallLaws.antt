@@ -21,7 +21,7 @@ use Rattle.joined.specs.Cost.{lengths}
 use Rattle.plane.specs.Distance.{distance}
 use Rattle.graph.specs.Numbers.{edgeNumbers}
 use Rattle.grid.specs.Distance.{SquareOver}
-use Rattle.grid.specs.Edges.{Edge}
+use Rattle.lines.specs.Edges.{Edge}
 use Rattle.parts.specs.Bounds.{workBound}
 use Rattle.best.specs.Tree.{BestOver}
 use Rattle.router.specs.declared.DistanceAnswer.{DistanceAnswer}

@@ -25,7 +25,7 @@ use Rattle.delay.specs.declared.Delayed.{Delayed}
 use Rattle.floats.specs.declared.Technology.{Technology}
 use Rattle.floats.specs.Mark.{finites}
 use Rattle.delay.specs.Answer.{toldDelays}
-use Rattle.grid.specs.Edges.{Edge}
+use Rattle.lines.specs.Edges.{Edge}
 use Rattle.parts.specs.Bounds.{workBound}
 use Rattle.best.specs.Tree.{BestTree}
 use Rattle.router.specs.declared.Graphed.{Graphed}

@@ -8,7 +8,7 @@ use crate::Wired;
 use best::Best;
 use delay::Delayed;
 use floats::Technology;
-use grid::Grid;
+use lines::Grid;
 use net::Net;
 use net::Refusal;
 use plane::Place;

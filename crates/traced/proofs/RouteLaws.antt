@@ -14,7 +14,7 @@ use lib.Seq.{getD-set-same, getD-set-other}
 use Rattle.lists.specs.Member.{_∈_, here, there}
 use Rattle.lists.proofs.TestLaws.{by, either, and-left, and-right}
 use Rattle.lists.proofs.MemberLaws.{in-turned, of-turned}
-use Rattle.grid.specs.Bounds.{crossingBound, segmentBound}
+use Rattle.lines.specs.Bounds.{crossingBound, segmentBound}
 use Rattle.grid.specs.Rows.{at}
 use Rattle.grid.specs.Tables.{target, Fits, Reads}
 use Rattle.grid.proofs.SegmentLaws.{target-even, target-odd}

@@ -14,7 +14,7 @@ use Rattle.lists.specs.Member.{_∈_}
 use Rattle.plane.specs.Distance.{distance}
 use Rattle.graph.specs.Numbers.{edgeNumbers}
 use Rattle.union.specs.Marks.{marks}
-use Rattle.grid.specs.Edges.{Edge}
+use Rattle.lines.specs.Edges.{Edge}
 use Rattle.grid.specs.Rows.{at}
 use Rattle.grid.specs.Tables.{crossingAt, target}
 use Rattle.parts.specs.Numbers.{partOf}

@@ -1,9 +1,9 @@
 // A tree read back from the rows of a table of costs: its edges marked, in the order of edges.
-use grid::Grid;
+use lines::Grid;
 ghost use mathlib.Core.Path.{_≡_};
 ghost use Prim.Native.Nat.{_+_, _≤_, _<_};
 ghost use lib.ListN.{length};
-ghost use Rattle.grid.specs.Bounds.{crossingBound, segmentBound};
+ghost use Rattle.lines.specs.Bounds.{crossingBound, segmentBound};
 ghost use Rattle.grid.specs.Tables.{Row, Fits};
 ghost use Rattle.parts.specs.Bounds.{maskBound};
 ghost use Rattle.parts.specs.Tables.{RowsTo};

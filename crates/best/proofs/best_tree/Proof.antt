@@ -7,7 +7,7 @@ use Prim.Native.Nat.{_≤_}
 use native.Mathlib.Omega.{arith}
 use denote.Ref.{now}
 use Rattle.net.proofs.PinLaws.{length-pins}
-use Rattle.grid.specs.declared.Axis.the-variants.{Across, Along}
+use Rattle.lines.specs.declared.Axis.the-variants.{Across, Along}
 use Rattle.grid.proofs.WholeLaws.{Small, Lined, table-long, whole-few, whole-priced, whole-fits, whole-below}
 use Rattle.parts.specs.Bounds.{bestPins}
 use Rattle.parts.proofs.WorkLaws.{fill-rows}

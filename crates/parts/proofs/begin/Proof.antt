@@ -4,7 +4,7 @@
 use mathlib.Core.Path.{_≡_}
 use Prim.Native.Nat.{_≤_, _-_}
 use native.Mathlib.Omega.{arith}
-use Rattle.grid.specs.Bounds.{crossingBound}
+use Rattle.lines.specs.Bounds.{crossingBound}
 use Rattle.parts.specs.Tables.{lonePin}
 use Rattle.parts.proofs.WorkLaws.{fresh-row, Beginning, begin-none, begin-more, begin-end, begin-lone}
 use borrow.Author.Needs.{needs}

@@ -3,7 +3,7 @@
 use mathlib.Core.Path.{refl}
 use Prim.Native.Nat.{_≤_, _-_}
 use native.Mathlib.Omega.{arith}
-use Rattle.grid.specs.Bounds.{crossingBound}
+use Rattle.lines.specs.Bounds.{crossingBound}
 use Rattle.parts.proofs.WorkLaws.{Taking, take-none, take-more, take-end}
 use Rattle.parts.proofs.get_row.Statement.{statement}
 use Rattle.parts.proofs.get_row.Tie as tie

@@ -4,7 +4,7 @@ use mathlib.Core.Path.{_≡_, refl}
 use Prim.Native.Nat.{_≤_, _-_}
 use native.Mathlib.Omega.{arith}
 use lib.ListN.{length}
-use Rattle.grid.specs.Bounds.{crossingBound}
+use Rattle.lines.specs.Bounds.{crossingBound}
 use Rattle.parts.proofs.WorkLaws.{Putting, put-none, put-more, put-end}
 use Rattle.parts.proofs.put_row.Statement.{statement}
 use Rattle.parts.proofs.put_row.Tie as tie

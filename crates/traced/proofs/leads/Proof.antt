@@ -7,7 +7,7 @@ use Prim.Native.Nat.{_≤_, _<_}
 use lib.ListN.{getD}
 use denote.Ref.{now}
 use Rattle.traced.specs.Routes.{otherEnd}
-use Rattle.grid.specs.Bounds.{crossingBound}
+use Rattle.lines.specs.Bounds.{crossingBound}
 use Rattle.traced.proofs.RouteLaws.{other-inside, leads-none, leads-away, leads-there}
 use borrow.Author.Needs.{needs}
 use Rattle.traced.proofs.leads.Statement.{statement}

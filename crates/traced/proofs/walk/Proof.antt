@@ -4,7 +4,7 @@ use mathlib.Core.Path.{_≡_, _∙_}
 use Prim.Native.Nat.{_<_}
 use native.Mathlib.Omega.{arith}
 use lib.ListN.{length}
-use Rattle.grid.specs.Bounds.{crossingBound, segmentBound}
+use Rattle.lines.specs.Bounds.{crossingBound, segmentBound}
 use Rattle.grid.specs.Rows.{at}
 use Rattle.traced.specs.Routes.{StepFound}
 use Rattle.traced.proofs.RouteLaws.{Walking, walk-none, walk-more, walk-end, step-none, step-some, step-down, step-inside}

@@ -20,7 +20,7 @@ use Rattle.net.specs.declared.Net.{Net as Counts}
 use Rattle.net.specs.Answer.{number}
 use Rattle.net.specs.Pins.{pinCount, macroCount}
 use Rattle.net.specs.Net.{Net, handed, netOf}
-use Rattle.grid.specs.Bounds.{gridMacros}
+use Rattle.lines.specs.Bounds.{gridMacros}
 use Rattle.parts.specs.Bounds.{bestPins, workBound}
 use Rattle.best.specs.Tree.{BestOver}
 use Rattle.router.specs.Refined.{toldTree}

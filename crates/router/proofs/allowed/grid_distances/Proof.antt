@@ -15,7 +15,7 @@ use Rattle.net.specs.declared.Net.{Net as Counts}
 use Rattle.net.specs.Answer.{number}
 use Rattle.net.specs.Pins.{pinCount, macroCount}
 use Rattle.net.specs.Net.{Net, handed}
-use Rattle.grid.specs.Bounds.{gridPins, gridMacros}
+use Rattle.lines.specs.Bounds.{gridPins, gridMacros}
 use Rattle.grid.specs.Distance.{SquareOver}
 use Rattle.router.specs.Distances.{aboveGrid, toldDistances}
 use Rattle.router.proofs.Distances.{grid-above, grid-short, grid-enough, above-of}
