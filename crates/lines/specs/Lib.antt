@@ -10,10 +10,10 @@
 --   Lines      coordinate axis p, sides, marks           a place's coordinate; the places whose coordinates are lines
 --              linesOf axis pins ms, xLines, yLines      the lines in order, each once
 --              Crossing, Neighbours, Beside              a place on two lines; two lines with none between
---              GridStep, UnitStep, ClearStep             neighbouring crossings that are clear; one clear unit; two places clear of each
--- other   Edges      gridEdges net                             the grid's edges as a list that computes   Crossings  isCrossing,
--- crossingNumber                the test, and the number of a crossing: numbers go as places do   Tables     lineFrom, InsertedLines,
--- FewLines         lines in tables, put in; no more than there is room for
+--              GridStep, UnitStep, ClearStep             neighbouring crossings that are clear; one clear unit; two clear places
+--   Edges      gridEdges net                             the grid's edges as a list that computes
+--   Crossings  isCrossing, crossingNumber                the test, and the number of a crossing: numbers go as places do
+--   Tables     lineFrom, InsertedLines, FewLines         lines in tables, put in; no more than there is room for
 pub mod Bounds
 pub mod Lines
 pub mod Edges
