@@ -1,6 +1,5 @@
--- The tables as the program has made them, for an allowed net of flat lists of at most five pins: what each call is handed, and that what
--- is
--- given at last is a best tree.
+-- The tables as the program has made them, for an allowed net of flat lists of at most five pins: what each call is handed, and that
+-- what is given at last is a best tree.
 -- Assumes nothing.
 use mathlib.Core.Path.{_≡_, refl, sym, ap, ap₂, subst, _∙_}
 use mathlib.Core.Logic.{inl, inr}

@@ -1,6 +1,6 @@
 -- The longest edge between every two points of a tree: rules R7 and R8 on its tables, and what edges cost.
 --
--- Points and edges are numbers, as crate candidates says.
+-- A point is its number in the tree's table of points, an edge its position in the table of keys.
 -- L is asked for every edge with every point. One table a round says it: the longest edge on the way between every two points, filled by
 -- hanging one point after the other on those that are reached. The code has no such table. It keeps what hangs on what, and of each edge a
 -- row, filled in where it is asked; that these say what the table says is proved.

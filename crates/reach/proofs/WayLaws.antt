@@ -1,6 +1,5 @@
--- The way of a bar is the closed form of its distance: past every macro, point and edge the stop is the least so far, and the way is free
--- as
--- long as nothing bars it.
+-- The way of a bar is the closed form of its distance: past every macro, point and edge the stop is the least so far, and the way is
+-- free as long as nothing bars it.
 -- Assumes nothing.
 use mathlib.Core.Path.{_≡_, refl, sym, ap, ap₂, _∙_}
 use mathlib.Core.Bool.{Bool, true, false, not, _&&_, _||_}

@@ -1,4 +1,4 @@
--- Refined trees of worked nets, by computing the definitions: each from the union of its kept paths. The nets are in crate worked.
+-- The refined tree of places and keys, by computing the definitions: what crate worked works out, net by net.
 -- Assumes nothing.
 use mathlib.Core.List.{List, [], _∷_}
 use Prim.Native.Nat.{ℕ, zero, suc}

@@ -1,4 +1,4 @@
--- The mission's demand on the terminal tree, over places: it is proved over vertex numbers (terminal/proofs/OurTree.antt) and carried over,
+-- The mission's demand on the terminal tree, over places: it is proved over vertex numbers (keeping/proofs/OurTree.antt) and carried over,
 -- our paths and our way from numbers to places, the joinings and chains that they are compared with from places to numbers.
 -- Assumes nothing.
 use mathlib.Core.Path.{_≡_, refl, sym, ap, ap₂, _∙_, subst}

@@ -1,5 +1,5 @@
 -- The tables of an allowed net's terminal tree are what `union::start` asks for, what it makes of them is the net's union, and that is what
--- `refined::refine` asks for.
+-- `refiner::refine` asks for.
 -- Assumes nothing.
 use mathlib.Core.Path.{_≡_, refl, ap, _∙_}
 use mathlib.Core.List.{List}

@@ -1,1 +1,1 @@
--- Nothing is defined here, and nothing rests on what is worked out.
+-- Trees of worked nets and wrong trees of small nets, worked out from the definitions. Nothing is defined here, and nothing rests on it.

@@ -1,4 +1,4 @@
--- `delay::elmore::capacitance` meets its contract: it recurses on the steps left below a point, which fall at each call. The loop's
+-- `elmore::capacitance` meets its contract: it recurses on the steps left below a point, which fall at each call. The loop's
 -- invariant: the children still to come, added to the sum so far, make the capacitance of the point.
 -- Assumes nothing.
 use mathlib.Core.Path.{_≡_}

@@ -1,4 +1,4 @@
--- `delay::elmore::lay` meets its contract: it recurses on the steps left below a point, which fall at each call. The loop's invariant: the
+-- `elmore::lay` meets its contract: it recurses on the steps left below a point, which fall at each call. The loop's invariant: the
 -- delays of the children still to come, stored over the table as it is, make the table that the contract names.
 -- Assumes nothing.
 use mathlib.Core.Path.{_≡_}

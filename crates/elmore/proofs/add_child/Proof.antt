@@ -1,4 +1,4 @@
--- `delay::elmore::add_child` meets its contract: the edge's length, its capacitance, then the sum.
+-- `elmore::add_child` meets its contract: the edge's length, its capacitance, then the sum.
 -- Assumes nothing.
 use borrow.Author.Needs.{needs}
 use Rattle.elmore.proofs.TableLaws.{child-added}

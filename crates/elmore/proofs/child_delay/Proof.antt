@@ -1,4 +1,4 @@
--- `delay::elmore::child_delay` meets its contract: the operations in the order written, 0.5 by its bits.
+-- `elmore::child_delay` meets its contract: the operations in the order written, 0.5 by its bits.
 -- Assumes nothing.
 use mathlib.Core.Path.{ap}
 use lib.Ieee.{Float}

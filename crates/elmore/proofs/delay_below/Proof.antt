@@ -1,4 +1,4 @@
--- `delay::elmore::delay_below` meets its contract: the edge's length, its two values, then the child's delay.
+-- `elmore::delay_below` meets its contract: the edge's length, its two values, then the child's delay.
 -- Assumes nothing.
 use borrow.Author.Needs.{needs}
 use Rattle.elmore.proofs.TableLaws.{child-delayed}

@@ -1,4 +1,4 @@
--- `delay::elmore::edge_value` meets its contract: one product, of a whole number that the library makes a float.
+-- `elmore::edge_value` meets its contract: one product, of a whole number that the library makes a float.
 -- Assumes nothing.
 use mathlib.Core.Path.{ap}
 use borrow.Author.Needs.{needs}

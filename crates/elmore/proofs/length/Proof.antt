@@ -1,4 +1,4 @@
--- `delay::elmore::length` meets its contract: the distance of two points of the table.
+-- `elmore::length` meets its contract: the distance of two points of the table.
 -- Assumes nothing.
 use mathlib.Core.Path.{ap₂, _∙_}
 use borrow.Author.Needs.{needs}

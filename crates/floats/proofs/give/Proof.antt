@@ -1,4 +1,4 @@
--- `delay::mark::give` meets its contract. The loop's invariant: the delays of the pins passed are given. The measure is how many points are
+-- `floats::give` meets its contract. The loop's invariant: the delays of the pins passed are given. The measure is how many points are
 -- left.
 -- Assumes nothing.
 use mathlib.Core.Path.{_≡_, refl, _∙_}

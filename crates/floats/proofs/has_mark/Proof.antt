@@ -1,4 +1,4 @@
--- `delay::mark::has_mark` meets its contract. The loop's invariant: the search from here on finds what the whole search does. The
+-- `floats::has_mark` meets its contract. The loop's invariant: the search from here on finds what the whole search does. The
 -- measure is how many points are left.
 -- Assumes nothing.
 use mathlib.Core.Path.{_≡_, sym, _∙_}

@@ -1,4 +1,4 @@
--- `delay::mark::is_fair` meets its contract: above zero, then finite.
+-- `floats::is_fair` meets its contract: above zero, then finite.
 -- Assumes nothing.
 use borrow.Author.Needs.{needs}
 use Rattle.floats.proofs.MarkLaws.{fair-if, fair-not}

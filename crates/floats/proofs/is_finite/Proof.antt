@@ -1,4 +1,4 @@
--- `delay::mark::is_finite` meets its contract: a float is finite when it is below infinity and above minus infinity.
+-- `floats::is_finite` meets its contract: a float is finite when it is below infinity and above minus infinity.
 -- Assumes nothing.
 use lib.Ieee.{nanBits}
 use Rattle.floats.proofs.MarkLaws.{finite-below, finite-not}

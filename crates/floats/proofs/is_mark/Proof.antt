@@ -1,4 +1,4 @@
--- `delay::mark::is_mark` meets its contract, each answer by its case.
+-- `floats::is_mark` meets its contract, each answer by its case.
 -- Assumes nothing.
 use mathlib.Core.Path.{sym, ap}
 use borrow.Author.Needs.{needs}

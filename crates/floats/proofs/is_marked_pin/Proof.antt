@@ -1,4 +1,4 @@
--- `delay::mark::is_marked_pin` meets its contract: a pin, then its mark.
+-- `floats::is_marked_pin` meets its contract: a pin, then its mark.
 -- Assumes nothing.
 use borrow.Author.Needs.{needs}
 use Rattle.floats.proofs.MarkLaws.{pin-marked, pin-none}

@@ -1,4 +1,4 @@
--- `delay::mark::is_usable` meets its contract: one number, then the other.
+-- `floats::is_usable` meets its contract: one number, then the other.
 -- Assumes nothing.
 use borrow.Author.Needs.{needs}
 use Rattle.floats.proofs.MarkLaws.{usable-if, usable-not}

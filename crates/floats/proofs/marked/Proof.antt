@@ -1,4 +1,4 @@
--- `delay::mark::marked` meets its contract, by the law of each answer.
+-- `floats::marked` meets its contract, by the law of each answer.
 -- Assumes nothing.
 use borrow.Author.Needs.{needs}
 use Rattle.floats.proofs.MarkLaws.{marked-finite, marked-not}

@@ -1,4 +1,4 @@
--- `delay::mark::put` meets its contract: a delay is stored, a mark is passed over.
+-- `floats::put` meets its contract: a delay is stored, a mark is passed over.
 -- Assumes nothing.
 use native.Mathlib.Omega.{arith}
 use borrow.Author.Needs.{needs}

@@ -1,4 +1,4 @@
--- `terminal::changed` meets its contract: each of its two answers is a case of the definition.
+-- `keeping::changed` meets its contract: each of its two answers is a case of the definition.
 -- Assumes nothing.
 use Rattle.keeping.proofs.KeptLaws.{changed-yes, changed-no}
 use Rattle.keeping.proofs.changed.Statement.{statement}

@@ -1,4 +1,4 @@
--- `terminal::keeping::group_at` meets its contract: the code is the definition, and each entry is a number of a vertex.
+-- `keeping::group_at` meets its contract: the code is the definition, and each entry is a number of a vertex.
 -- Assumes nothing.
 use native.Mathlib.Omega.{arith}
 use lib.ListN.{getD}

@@ -1,4 +1,4 @@
--- `terminal::keeping::keep` meets its contract. The loop's invariant: what is kept so far is written, and with what the bridges that are left give
+-- `keeping::keep` meets its contract. The loop's invariant: what is kept so far is written, and with what the bridges that are left give
 -- from the present groups it is what all give. The measure is how many are left.
 -- Assumes nothing.
 use mathlib.Core.Path.{_≡_}

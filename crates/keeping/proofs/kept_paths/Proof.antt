@@ -1,4 +1,4 @@
--- `terminal::keeping::kept_paths` meets its contract: its calls are the definitions' stages, and each leaves what the next one asks.
+-- `keeping::kept_paths` meets its contract: its calls are the definitions' stages, and each leaves what the next one asks.
 -- Assumes nothing.
 use mathlib.Core.Path.{refl, ap, _∙_}
 use native.Mathlib.Omega.{arith}

@@ -1,4 +1,4 @@
--- `terminal::keeping::kept_tree` meets its contract: it is the forest and what is kept by it.
+-- `keeping::kept_tree` meets its contract: it is the forest and what is kept by it.
 -- Assumes nothing.
 use Rattle.forest.proofs.ForestLaws.{made-fine, made-falls}
 use Rattle.keeping.proofs.WholeLaws.{whole}

@@ -1,4 +1,4 @@
--- `terminal::keeping::measure` meets its contract. The loop's invariant: the lengths so far are written and added, and those that are left make up
+-- `keeping::measure` meets its contract. The loop's invariant: the lengths so far are written and added, and those that are left make up
 -- the rest. The measure is how many are left.
 -- Assumes nothing.
 use mathlib.Core.Path.{_≡_}

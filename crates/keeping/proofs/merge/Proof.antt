@@ -1,4 +1,4 @@
--- `terminal::merge` meets its contract. The loop's invariant: changing the entries that are left gives what changing all gives.
+-- `keeping::merge` meets its contract. The loop's invariant: changing the entries that are left gives what changing all gives.
 -- The measure is how many they are.
 -- Assumes nothing.
 use mathlib.Core.Path.{_≡_, refl, ap, _∙_}

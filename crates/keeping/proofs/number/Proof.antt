@@ -1,4 +1,4 @@
--- `terminal::number` meets its contract. The loop's invariant: filling in the numbers that are left gives what filling in all gives.
+-- `keeping::number` meets its contract. The loop's invariant: filling in the numbers that are left gives what filling in all gives.
 -- The measure is how many they are.
 -- Assumes nothing.
 use mathlib.Core.Path.{_≡_, refl, _∙_}

@@ -1,4 +1,4 @@
--- `candidates::longest::cut_at` meets its contract: it recurses along what a point hangs on, and the turn falls at each call.
+-- `longest::cut_at` meets its contract: it recurses along what a point hangs on, and the turn falls at each call.
 -- Assumes nothing.
 use mathlib.Core.Path.{_≡_, refl, sym, _∙_}
 use native.Mathlib.Omega.{arith}

@@ -1,4 +1,4 @@
--- `candidates::longest::attach` meets its contract, in each of the four cases of an edge: neither end hangs, one of them, or both.
+-- `longest::attach` meets its contract, in each of the four cases of an edge: neither end hangs, one of them, or both.
 -- Assumes nothing.
 use native.Mathlib.Omega.{arith}
 use Rattle.longest.proofs.HungLaws.{pass-neither, pass-both, pass-first, pass-second}

@@ -1,4 +1,4 @@
--- `candidates::longest::climb` meets its contract. The loop's invariant: the row is known from x up to v, and l is the longest edge on that
+-- `longest::climb` meets its contract. The loop's invariant: the row is known from x up to v, and l is the longest edge on that
 -- way. The measure is the turn of v, which falls.
 -- Assumes nothing.
 use mathlib.Core.Path.{_≡_, refl, _∙_}

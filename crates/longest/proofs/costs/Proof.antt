@@ -1,4 +1,4 @@
--- `candidates::longest::costs` meets its contract. The loop's invariant: the edges that are left decide, and no cost so far is above
+-- `longest::costs` meets its contract. The loop's invariant: the edges that are left decide, and no cost so far is above
 -- the greatest. The measure is how many they are.
 -- Assumes nothing.
 use mathlib.Core.Path.{_≡_}

@@ -1,4 +1,4 @@
--- `candidates::longest::edge_cost` meets its contract: both ends of a key are points, and what metal between them costs is small.
+-- `longest::edge_cost` meets its contract: both ends of a key are points, and what metal between them costs is small.
 -- Assumes nothing.
 use mathlib.Core.Path.{_≡_}
 use native.Mathlib.Omega.{arith}

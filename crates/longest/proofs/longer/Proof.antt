@@ -1,4 +1,4 @@
--- `candidates::longest::longer` meets its contract, arm by arm.
+-- `longest::longer` meets its contract, arm by arm.
 -- Assumes nothing.
 use mathlib.Core.Path.{_≡_, sym, _∙_}
 use native.Mathlib.Omega.{arith}

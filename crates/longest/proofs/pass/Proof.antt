@@ -1,4 +1,4 @@
--- `candidates::longest::pass` meets its contract. The loop's invariant: the edges that are left decide, and what hangs agrees with what is
+-- `longest::pass` meets its contract. The loop's invariant: the edges that are left decide, and what hangs agrees with what is
 -- reached; as long as no edge has hung a point nothing has changed. The measure is how many they are.
 -- Assumes nothing.
 use mathlib.Core.Path.{_≡_, refl}

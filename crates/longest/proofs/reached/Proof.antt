@@ -1,4 +1,4 @@
--- `candidates::longest::reached` meets its contract. The loop's invariant: the passes that are left decide, and what hangs agrees with what
+-- `longest::reached` meets its contract. The loop's invariant: the passes that are left decide, and what hangs agrees with what
 -- is reached; after a pass that hangs nothing those that are left hang nothing. The measure is how many they are.
 -- Assumes nothing.
 use mathlib.Core.List.{List}

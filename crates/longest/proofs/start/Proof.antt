@@ -1,4 +1,4 @@
--- `candidates::longest::start` meets its contract: the later of the two hangs on the other, and so the row is that of the edge.
+-- `longest::start` meets its contract: the later of the two hangs on the other, and so the row is that of the edge.
 -- Assumes nothing.
 use native.Mathlib.Omega.{arith}
 use Rattle.lists.proofs.TestLaws.{either}

@@ -1,4 +1,4 @@
--- `candidates::longest::wins` meets its contract, arm by arm.
+-- `longest::wins` meets its contract, arm by arm.
 -- Assumes nothing.
 use borrow.Author.Needs.{needs}
 use Rattle.longest.proofs.LongestLaws.{wins-lt, wins-gt, wins-eq}

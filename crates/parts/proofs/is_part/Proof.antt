@@ -13,27 +13,21 @@ Inv-loop m p s i₀ a₀ b₀ i a b = partOf m p s ≡ partOf i a b
 abbrev μ-loop : tie.MeasureT-loop
 μ-loop m p s i₀ a₀ b₀ i a b = i
 
--- src/lib.rt:81:5
 loop-holds : tie.Need-loop-holds Inv-loop μ-loop
 loop-holds c = refl
 
--- src/lib.rt:83:13
 returns : tie.Need-returns Inv-loop μ-loop
 returns c = sym (c .before .before .loop .inv ∙ part-stop _ _ _ (c .before .loop-test .taken) (c .if1 .taken))
 
--- src/lib.rt:87:9
 sub-i : tie.Need-sub-i Inv-loop μ-loop
 sub-i c = omega arith
 
--- src/lib.rt:81:5
 loop-less : tie.Need-loop-less Inv-loop μ-loop
 loop-less c = omega arith
 
--- src/lib.rt:81:5
 loop-again : tie.Need-loop-again Inv-loop μ-loop
 loop-again c = c .before .before .loop .inv ∙ part-pass _ _ _ (c .before .loop-test .taken) (c .if1 .left)
 
--- src/lib.rt:75:1
 returns-2 : tie.Need-returns-2 Inv-loop μ-loop
 returns-2 c = sym (c .before .loop .inv ∙ part-end _ _ _ (c .loop-test .left))
 

@@ -15,35 +15,29 @@ Inv-loop work m s v best₀ p₀ best p = ((1 ≤ p) × (p ≤ s)) × (best ≡ 
 abbrev μ-loop : tie.MeasureT-loop
 μ-loop work m s v best₀ p₀ best p = s - p
 
--- src/lib.rt:125:5
 loop-holds : tie.Need-loop-holds Inv-loop μ-loop
 loop-holds c =
     let s = c .before in
     ((omega arith, s .pre .1 .0 .0), sym (sofar-none _ _ _ _))
 
--- src/lib.rt:126:9
 tried-requires : tie.Need-tried-requires Inv-loop μ-loop
 tried-requires c κs =
     let l = c .before in
     let s = l .before .before in
     ((s .pre .0, (s .pre .1 .0 .1, s .pre .1 .1)), (l .loop .inv .0 .0, c .loop-test .taken))
 
--- src/lib.rt:127:9
 add-p : tie.Need-add-p Inv-loop μ-loop
 add-p c = omega arith
 
--- src/lib.rt:125:5
 loop-less : tie.Need-loop-less Inv-loop μ-loop
 loop-less c = omega arith
 
--- src/lib.rt:125:5
 loop-again : tie.Need-loop-again Inv-loop μ-loop
 loop-again c =
     let l = c .before .before in
     let i = l .loop .inv in
     ((omega arith, omega arith), c .tried .ensures ∙ ap (trying _ _ _ _ _) (i .1) ∙ sofar-more _ _ _ _ _ (i .0 .0))
 
--- src/lib.rt:118:1
 returns : tie.Need-returns Inv-loop μ-loop
 returns c =
     let i = c .before .loop .inv in

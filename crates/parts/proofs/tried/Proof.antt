@@ -8,19 +8,15 @@ use borrow.Author.Needs.{needs}
 use Rattle.parts.proofs.tried.Statement.{statement}
 use Rattle.parts.proofs.tried.Tie as tie
 
--- src/lib.rt:107:9
 is-part-requires : tie.Need-is-part-requires
 is-part-requires c κs = search needs
 
--- src/lib.rt:108:9
 returns : tie.Need-returns
 returns c = sym (try-none _ _ _ _ _ _ (sym (c .before .is-part .ensures) ∙ not-true _ (c .if1 .taken)))
 
--- src/lib.rt:110:29
 sub-sum-at : tie.Need-sub-sum-at
 sub-sum-at c = search needs
 
--- src/lib.rt:110:9
 sum-at-requires : tie.Need-sum-at-requires
 sum-at-requires c κs =
     let s = c .before .before .before in
@@ -33,13 +29,11 @@ sum-at-requires c κs =
       ),
     )
 
--- src/lib.rt:112:9
 returns-2 : tie.Need-returns-2
 returns-2 c =
     let e = sym (c .before .before .before .is-part .ensures) ∙ not-false _ (c .before .before .if1 .left) in
     sym (try-less _ _ _ _ _ _ _ e (c .before .sum-at .ensures) (c .if2 .taken))
 
--- src/lib.rt:102:1
 returns-3 : tie.Need-returns-3
 returns-3 c =
     let e = sym (c .before .before .before .is-part .ensures) ∙ not-false _ (c .before .before .if1 .left) in

@@ -1,4 +1,4 @@
--- `delay::child::child_at` meets its contract: the other end, unless it is the parent.
+-- `elmore::child::child_at` meets its contract: the other end, unless it is the parent.
 -- Assumes nothing.
 use borrow.Author.Needs.{needs}
 use Rattle.elmore.proofs.TableLaws.{child-parent, child-other}

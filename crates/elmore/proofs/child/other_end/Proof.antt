@@ -1,4 +1,4 @@
--- `delay::child::other_end` meets its contract, by one law for each of its answers.
+-- `elmore::child::other_end` meets its contract, by one law for each of its answers.
 -- Assumes nothing.
 use Rattle.elmore.proofs.TableLaws.{other-first, other-second, other-none}
 use Rattle.elmore.proofs.child.other_end.Statement.{statement}
