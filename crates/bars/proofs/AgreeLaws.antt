@@ -19,9 +19,9 @@ use Rattle.slide.specs.declared.Move.{Move}
 use Rattle.slide.specs.Side.{horizontal}
 use Rattle.slide.specs.Slide.{flatter, better, bestOf}
 use Rattle.bars.specs.declared.Best.{Best}
-use Rattle.bars.specs.declared.Size.{Size}
-use Rattle.bars.specs.Turned.{View}
-use Rattle.bars.specs.Hanging.{hang}
+use Rattle.reach.specs.declared.Size.{Size}
+use Rattle.turned.specs.Turned.{View}
+use Rattle.hanging.specs.Hanging.{hang}
 use Rattle.bars.specs.Offers.{held, move, moveBy, rateOf, best, reachOf, taken, offered}
 use Rattle.bars.proofs.CodeLaws.{better-more}
 

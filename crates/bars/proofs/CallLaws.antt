@@ -18,12 +18,13 @@ use Rattle.slide.specs.declared.Side.{Side}
 use Rattle.joined.specs.Table.{changed}
 use Rattle.straight.specs.Table.{straightBound, firstEnd, secondEnd}
 use Rattle.bars.specs.declared.Best.{Best}
-use Rattle.bars.specs.declared.Size.{Size}
-use Rattle.bars.specs.Steps.{upTo, setUpTo}
-use Rattle.bars.specs.Labelling.{levelAt, united, joinedBy, labelled}
-use Rattle.bars.specs.Offers.{searched, chosen, seatOf, seatsOf, Seated, Numbers}
+use Rattle.reach.specs.declared.Size.{Size}
+use Rattle.turned.specs.Steps.{upTo, setUpTo, Numbers}
+use Rattle.turned.specs.Turned.{levelAt}
+use Rattle.labels.specs.Labelling.{united, joinedBy, labelled}
+use Rattle.bars.specs.Offers.{searched, chosen, seatOf, seatsOf, Seated}
 use Rattle.bars.proofs.CodeLaws.{chosen-less}
-use Rattle.bars.proofs.LabelLaws.{set-above, set-below, labelled-is}
+use Rattle.labels.proofs.LabelLaws.{set-above, set-below, labelled-is}
 
 module _ (s : Side) (pts : List ℤ) (ks : List ℕ) (n : ℕ) (t : List ℕ) where
   above : (k x : ℕ) → n ≤ x → getD (upTo (joinedBy s pts ks n) k (setUpTo (λ i x. i) n t)) x 0 ≡ getD t x 0

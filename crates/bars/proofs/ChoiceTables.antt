@@ -37,17 +37,17 @@ use Rattle.slide.proofs.OneMove.{one-move}
 use Rattle.straight.specs.Table.{run, firstEnd, secondEnd, edgeAt, edgesIn, pointsIn, Held}
 use Rattle.straight.proofs.RunLaws.{run-length, in-run, of-run}
 use Rattle.bars.specs.declared.Best.{Best}
-use Rattle.bars.specs.declared.Size.{Size}
-use Rattle.bars.specs.Steps.{upTo}
-use Rattle.bars.specs.Turned.{View, view, onIt}
-use Rattle.bars.specs.Labelling.{levelAt, leads, labelled, labelsFor}
-use Rattle.bars.specs.Hanging.{hang}
+use Rattle.reach.specs.declared.Size.{Size}
+use Rattle.turned.specs.Steps.{upTo}
+use Rattle.turned.specs.Turned.{View, view, onIt, levelAt}
+use Rattle.labels.specs.Labelling.{leads, labelled, labelsFor}
+use Rattle.hanging.specs.Hanging.{hang}
 use Rattle.bars.specs.Offers.{held, best, moveBy, bar, reachOf, taken, offered, opposite, offeredBoth, noMove, searched, seatOf}
 use Rattle.bars.specs.Offers.{seatsOf}
-use Rattle.bars.proofs.CodeLaws.{reach-less}
-use Rattle.bars.proofs.LabelLaws.{levelPairs, Labelled, labelled-is, set-below}
+use Rattle.reach.proofs.CodeLaws.{reach-less}
+use Rattle.labels.proofs.LabelLaws.{levelPairs, Labelled, labelled-is, set-below}
 use Rattle.bars.proofs.OnLaws.{seat-is, of-pairs, level-at, on-is, sees, level-opposite, on-opposite}
-use Rattle.bars.proofs.ExemptLaws.{any-run}
+use Rattle.reach.proofs.ExemptLaws.{any-run}
 use Rattle.bars.proofs.AgreeLaws.{Agrees}
 use Rattle.bars.proofs.MoveLaws.{not-after, Stood, Ready}
 use Rattle.bars.proofs.DistanceLaws.{reach-is}

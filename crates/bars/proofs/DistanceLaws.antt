@@ -31,21 +31,21 @@ use Rattle.slide.proofs.RoundLaws.{on-itself}
 use Rattle.slide.proofs.StopLaws.{closed-is}
 use Rattle.straight.specs.Table.{run, firstEnd, secondEnd, edgeAt, edgesIn}
 use Rattle.straight.proofs.RunLaws.{in-run, of-run}
-use Rattle.bars.specs.declared.Bar.{Bar}
-use Rattle.bars.specs.declared.Seen.{Seen}
-use Rattle.bars.specs.declared.Size.{Size}
-use Rattle.bars.specs.declared.Way.{Way}
-use Rattle.bars.specs.Turned.{raised, spot, face, View, spotAt, seenEdge, seenPoint}
-use Rattle.bars.specs.Hanging.{hang}
-use Rattle.bars.specs.Passing.{way, past, pastFace, pastMacros, pastPoints, pastEdges, reached, wayOf}
+use Rattle.reach.specs.declared.Bar.{Bar}
+use Rattle.turned.specs.declared.Seen.{Seen}
+use Rattle.reach.specs.declared.Size.{Size}
+use Rattle.reach.specs.declared.Way.{Way}
+use Rattle.turned.specs.Turned.{raised, spot, face, View, spotAt, seenEdge, seenPoint}
+use Rattle.hanging.specs.Hanging.{hang}
+use Rattle.reach.specs.Passing.{way, past, pastFace, pastMacros, pastPoints, pastEdges, reached, wayOf}
 use Rattle.bars.specs.Offers.{lastOn, bar, reachOf}
-use Rattle.bars.proofs.HangLaws.{hang-is}
+use Rattle.hanging.proofs.HangLaws.{hang-is}
 use Rattle.bars.proofs.MoveLaws.{Stood, first-is}
 use Rattle.bars.proofs.LastLaws.{last-low, last-is}
-use Rattle.bars.proofs.PassLaws.{and-three, Stands, asSeen}
-use Rattle.bars.proofs.WayLaws.{list-passed, least-most, past-is}
-use Rattle.bars.proofs.PointWay.{pointBarring, point-past}
-use Rattle.bars.proofs.MacroWay.{macro-past, macros-run}
+use Rattle.reach.proofs.PassLaws.{and-three, Stands, asSeen}
+use Rattle.reach.proofs.WayLaws.{list-passed, least-most, past-is}
+use Rattle.reach.proofs.PointWay.{pointBarring, point-past}
+use Rattle.reach.proofs.MacroWay.{macro-past, macros-run}
 
 module _ {net : Net} {v : View} {z : Size} {ms : List ℤ} {seats : List ℕ} {k a : ℕ} (r : Stood net v z ms seats k a)
     (macros-are : net .macros ≡ macrosOf ms) (macro-fits : (m : Macro) → m ∈ net .macros → MacroFits m) where

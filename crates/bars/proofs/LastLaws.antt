@@ -26,9 +26,9 @@ use Rattle.slide.specs.Slide.{treePoints}
 use Rattle.slide.proofs.BarLaws.{last-one, last-greatest}
 use Rattle.straight.specs.Table.{edgeAt, edgesIn, pointsIn}
 use Rattle.straight.proofs.RunLaws.{in-run, of-run}
-use Rattle.bars.specs.declared.Size.{Size}
-use Rattle.bars.specs.Steps.{upTo}
-use Rattle.bars.specs.Turned.{View, onIt}
+use Rattle.reach.specs.declared.Size.{Size}
+use Rattle.turned.specs.Steps.{upTo}
+use Rattle.turned.specs.Turned.{View, onIt}
 use Rattle.bars.specs.Offers.{chosen, lastOn}
 use Rattle.bars.proofs.MoveLaws.{Stood, self, later, not-after}
 

@@ -3,27 +3,23 @@
 use mathlib.Core.Path.{_≡_, refl, sym, ap, ap₂, _∙_}
 use mathlib.Core.Bool.{Bool, true, false}
 use mathlib.Core.List.{List, [], _∷_, List·Memᴰ·cases-cons, Memᴰ·cast}
-use Prim.Native.Nat.{ℕ, zero, suc, _+_, _≤_, _<_}
+use Prim.Native.Nat.{ℕ, zero, suc, _≤_, _<_}
 use native.Mathlib.Decide.{ℕ-discrete}
 use native.Mathlib.Omega.{arith}
 use borrow.Author.Tests.{eqb-true, eqb-false, eq-eqb, ne-eqb, ltb-true, ltb-false}
 use lib.Dec.{eqb, ltb}
-use lib.IntN.{ℤ, pos, _-ℤ_}
+use lib.IntN.{ℤ}
 use lib.ListN.{getD}
 use Rattle.lists.specs.Member.{_∈_, here, there}
 use Rattle.lists.specs.Those.{those}
 use Rattle.lists.proofs.TestLaws.{by, differ, either}
 use Rattle.lists.proofs.ThoseLaws.{in-those, of-those}
-use Rattle.signed.specs.Sides.{up, down}
-use Rattle.signed.specs.Order.{eqZ}
-use Rattle.signed.proofs.SideLaws.{sub-sides, eq-of, up-pos, down-pos}
-use Rattle.signed.proofs.OrderLaws.{eqZ-true, eqZ-refl}
 use Rattle.plane.specs.declared.Place.{Place}
 use Rattle.plane.specs.Place.{before, samePlace}
 use Rattle.plane.specs.Flat.{placeAt}
+use Rattle.plane.specs.Rank.{InOrder}
 use Rattle.plane.proofs.Fits.{PlaceFits}
 use Rattle.plane.proofs.PlaceLaws.{same-true, same-refl, before-irrefl}
-use Rattle.tree.specs.Places.{InOrder}
 use Rattle.joined.specs.Labels.{equal, labels}
 use Rattle.joined.proofs.JoinedLaws.{firsts, seconds}
 use Rattle.joined.proofs.LabelLaws.{equal-true, equal-false}
@@ -35,13 +31,12 @@ use Rattle.slide.specs.Bar.{same, level, onBar}
 use Rattle.slide.proofs.LabelledBars.{on-by-labels}
 use Rattle.straight.specs.Table.{run, firstEnd, secondEnd, edgeAt, edgesIn}
 use Rattle.straight.proofs.RunLaws.{in-run, of-run}
-use Rattle.bars.specs.Steps.{upTo}
-use Rattle.bars.specs.Turned.{raised, View, view, onIt}
-use Rattle.bars.specs.Labelling.{levelAt}
+use Rattle.turned.specs.Steps.{upTo}
+use Rattle.turned.specs.Turned.{view, levelAt}
 use Rattle.bars.specs.Offers.{chosen, seatOf, opposite}
-use Rattle.bars.proofs.RaisedLaws.{raised-eq}
-use Rattle.bars.proofs.SeenLaws.{across-high, Sees}
-use Rattle.bars.proofs.LabelLaws.{levelPairs, Labelled}
+use Rattle.turned.proofs.RaisedLaws.{raised-eq, negated}
+use Rattle.turned.proofs.SeenLaws.{across-high, Sees}
+use Rattle.labels.proofs.LabelLaws.{levelPairs, Labelled}
 
 -- Numbers of places
 
@@ -173,19 +168,6 @@ module _ (s : Side) (pts : List ℤ) (ks : List ℕ) (n e : ℕ)
     sees a h = record { is = λ i k. on-is a i h k; within = within; fits = fits }
 
 -- The other side
-
-pub negated : (a b : ℤ) → eqZ (pos 0 -ℤ a) (pos 0 -ℤ b) ≡ eqZ a b
-negated a b =
-    by (eqZ a b)
-    (λ e. let q = eqZ-true a b e in ap (λ (z : ℤ). eqZ (pos 0 -ℤ z) (pos 0 -ℤ b)) q ∙ eqZ-refl (pos 0 -ℤ b) ∙ sym e)
-    (λ e. by (eqZ (pos 0 -ℤ a) (pos 0 -ℤ b))
-    (λ g.
-    let q = eqZ-true (pos 0 -ℤ a) (pos 0 -ℤ b) g in
-    let u = ap up q in
-    let d = ap down q in
-    let w : a ≡ b = eq-of a b (omega (arith, u, d, sub-sides (pos 0) a, sub-sides (pos 0) b)) in
-    differ (ap (λ (z : ℤ). eqZ z b) w ∙ eqZ-refl b) e)
-    (λ g. g ∙ sym e))
 
 pub level-opposite : (s : Side) (x : Edge) → level (opposite s) x ≡ level s x
 unfolding level across opposite

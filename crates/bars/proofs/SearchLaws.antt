@@ -22,13 +22,13 @@ use Rattle.slide.proofs.ChoiceLaws.{best-scan, best-again, in-moves}
 use Rattle.straight.specs.Table.{run, firstEnd, edgeAt, edgesIn}
 use Rattle.straight.proofs.RunLaws.{in-run}
 use Rattle.bars.specs.declared.Best.{Best}
-use Rattle.bars.specs.declared.Size.{Size}
-use Rattle.bars.specs.Steps.{upTo}
-use Rattle.bars.specs.Turned.{view}
-use Rattle.bars.specs.Labelling.{levelAt, leads}
+use Rattle.reach.specs.declared.Size.{Size}
+use Rattle.turned.specs.Steps.{upTo}
+use Rattle.turned.specs.Turned.{view, levelAt}
+use Rattle.labels.specs.Labelling.{leads}
 use Rattle.bars.specs.Offers.{noMove, opposite, offeredBoth, searched}
 use Rattle.bars.proofs.CodeLaws.{better-more}
-use Rattle.bars.proofs.HangLaws.{run-more}
+use Rattle.turned.proofs.StepLaws.{run-more}
 use Rattle.bars.proofs.AgreeLaws.{Agrees, none-agrees, agrees-none, agrees-taken, offered-agrees}
 use Rattle.bars.proofs.MoveLaws.{still, Ready, even, pins-stay, moves-so}
 

@@ -17,14 +17,14 @@ use Rattle.slide.specs.declared.Side.the-variants.{Above, Below, Right, Left}
 use Rattle.slide.specs.Side.{horizontal}
 use Rattle.straight.specs.Table.{straightBound, firstEnd}
 use Rattle.slide.specs.Slide.{better}
-use Rattle.bars.specs.declared.Bar.{Bar}
+use Rattle.reach.specs.declared.Bar.{Bar}
 use Rattle.bars.specs.declared.Best.{Best}
-use Rattle.bars.specs.declared.Size.{Size}
-use Rattle.bars.specs.Steps.{upTo, setUpTo}
-use Rattle.bars.specs.Turned.{View, view, onIt, spotAt}
-use Rattle.bars.specs.Labelling.{leads}
-use Rattle.bars.specs.Hanging.{hang}
-use Rattle.bars.specs.Passing.{reached, wayOf}
+use Rattle.reach.specs.declared.Size.{Size}
+use Rattle.turned.specs.Steps.{upTo, setUpTo, Numbers}
+use Rattle.turned.specs.Turned.{View, view, onIt, spotAt}
+use Rattle.labels.specs.Labelling.{leads}
+use Rattle.hanging.specs.Hanging.{hang}
+use Rattle.reach.specs.Passing.{reached, wayOf}
 
 -- what a unit of a hanging edge costs
 unfoldable pub weightIn : Weights → Side → ℕ
@@ -124,10 +124,6 @@ seatOf pts n p = upTo (λ i x. chosen (samePlace p (placeAt pts i)) i x) n 0
 
 unfoldable pub seatsOf : List ℤ → ℕ → List ℤ → ℕ → List ℕ → List ℕ
 seatsOf pts n pins m t = setUpTo (λ j x. seatOf pts n (pinAt pins j)) m t
-
--- every entry is a number of a point
-pub record Numbers (t : List ℕ) : Type 0 where
-  pub number : (i : ℕ) → getD t i 0 < straightBound
 
 -- a table for labels as it is lent
 pub record Fresh (t : List ℕ) : Type 0 where

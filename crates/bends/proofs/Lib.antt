@@ -1,6 +1,6 @@
 pub mod EntryScan
-pub mod RankLaws
 pub mod InsertLaws
+pub mod FromLaws
 pub mod KeyLaws
 pub mod BendingLaws
 pub mod SettledLaws

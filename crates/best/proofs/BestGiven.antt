@@ -37,32 +37,32 @@ use Rattle.graph.specs.Edges.{beforeEdge}
 use Rattle.forest.specs.Edges.{from}
 use Rattle.forest.proofs.EdgeLaws.{of-from, in-from}
 use Rattle.union.specs.Marks.{marks, isMarked}
-use Rattle.grid.specs.declared.Grid.{Grid}
-use Rattle.grid.specs.declared.Axis.the-variants.{Across, Along}
-use Rattle.grid.specs.Bounds.{lineBound, unreached}
-use Rattle.grid.specs.Lines.{xLines, yLines, Crossing}
-use Rattle.grid.specs.Edges.{Edge, gridEdges}
-use Rattle.grid.specs.Crossings.{isCrossing, crossingNumber}
+use Rattle.lines.specs.declared.Grid.{Grid}
+use Rattle.lines.specs.declared.Axis.the-variants.{Across, Along}
+use Rattle.lines.specs.Bounds.{lineBound, unreached}
+use Rattle.lines.specs.Lines.{xLines, yLines, Crossing}
+use Rattle.lines.specs.Edges.{Edge, gridEdges}
+use Rattle.lines.specs.Crossings.{isCrossing, crossingNumber}
 use Rattle.grid.specs.Tables.{crossingAt, target}
-use Rattle.grid.proofs.EdgeLaws.{x-ascending, y-ascending}
-use Rattle.grid.proofs.LineLaws.{line-order}
-use Rattle.grid.proofs.GridCost.{grid-cost, line-range}
+use Rattle.lines.proofs.EdgeLaws.{x-ascending, y-ascending}
+use Rattle.lines.proofs.LineLaws.{line-order}
+use Rattle.lines.proofs.GridCost.{grid-cost, line-range}
 use Rattle.grid.proofs.NetDistance.{pins-joined}
 use Rattle.grid.proofs.SegmentLaws.{target-even, target-odd}
-use Rattle.best.specs.Numbers.{number}
+use Rattle.parts.specs.Numbers.{number}
 use Rattle.best.specs.Sets.{Edges, Reaches, JoinsAt}
 use Rattle.best.specs.Masks.{maskPins}
-use Rattle.best.specs.Tables.{valueAt}
-use Rattle.best.specs.Routes.{inOrder, edgeAt, markedEdges, Traced}
+use Rattle.parts.specs.Tables.{valueAt}
+use Rattle.traced.specs.Routes.{inOrder, edgeAt, markedEdges, Traced}
 use Rattle.best.specs.Tree.{BestTree, IsBest}
 use Rattle.best.proofs.CheapestTree.{Cheapest}
 use Rattle.best.proofs.BestTree.{allPins, chosen-ones, ones, table-finite, table-least, cheapest-best}
 use Rattle.best.proofs.LoneLaws.{ones-number}
-use Rattle.best.proofs.RouteLaws.{turns, target-above, EdgeOf, route-edges}
+use Rattle.traced.proofs.RouteLaws.{turns, target-above, EdgeOf, route-edges}
 use Rattle.best.proofs.NetBest.{Tabled, Values, filled, route-joins, crossing-of, pin-on, place-back}
 use Rattle.best.proofs.NetBest.{first-pin, goals-pins, all-pins, value-at, single}
 use Rattle.grid.proofs.TableGrid.{near-grid}
-use Rattle.grid.proofs.CrossingLaws.{ends-crossings}
+use Rattle.lines.proofs.CrossingLaws.{ends-crossings}
 
 -- numbers from k on, each once
 from-once : (k n : ℕ) → Once (from k n)

@@ -7,7 +7,7 @@ use Rattle.joined.specs.Joined.{Link, others}
 use Rattle.plane.specs.declared.Place.{Place}
 use Rattle.plane.proofs.PlaceOrder.{place-same}
 use Rattle.net.specs.Net.{Net}
-use Rattle.grid.specs.Edges.{Edge}
+use Rattle.lines.specs.Edges.{Edge}
 use Rattle.best.specs.Tree.{IsBest}
 
 pub best-pinned : (net : Net) (O : List Edge) → IsBest net O → (v w : Place) (l : Link O v w) → ((z : Place) → Link (others l) v z → ⊥) →

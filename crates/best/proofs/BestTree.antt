@@ -27,12 +27,12 @@ use Rattle.plane.specs.Place.{place}
 use Rattle.plane.specs.Cost.{Positive}
 use Rattle.plane.proofs.PlaceOrder.{place-same}
 use Rattle.net.specs.Net.{Net, costIn}
-use Rattle.grid.specs.Lines.{xLines, yLines, Crossing, ClearStep}
+use Rattle.lines.specs.Lines.{xLines, yLines, Crossing, ClearStep}
 use Rattle.grid.specs.Walk.{stop as halt, go as onward}
-use Rattle.grid.specs.Edges.{Edge, gridEdges}
-use Rattle.grid.proofs.AxisLaws.{cost-length}
-use Rattle.grid.proofs.EdgeLaws.{link-grid, pin-crossing}
-use Rattle.grid.proofs.CrossingLaws.{step-crossings}
+use Rattle.lines.specs.Edges.{Edge, gridEdges}
+use Rattle.lines.proofs.AxisLaws.{cost-length}
+use Rattle.lines.proofs.EdgeLaws.{link-grid, pin-crossing}
+use Rattle.lines.proofs.CrossingLaws.{step-crossings}
 use Rattle.grid.proofs.BoxWalk.{grid-clear}
 use Rattle.grid.proofs.DistanceLaws.{IsCrossing, GridWay, no-clear-walk-cheaper}
 use Rattle.grid.proofs.TableGrid.{link-cost}

@@ -13,15 +13,15 @@ use Rattle.plane.specs.declared.Macro.{Macro}
 use Rattle.plane.specs.declared.Weights.{Weights}
 use Rattle.net.specs.Net.{Net, costIn}
 use Rattle.net.specs.Allowed.{Allowed}
-use Rattle.grid.specs.declared.Axis.the-variants.{Across, Along}
-use Rattle.grid.specs.Bounds.{gridMacros}
-use Rattle.grid.specs.Lines.{xLines, yLines}
-use Rattle.grid.specs.Edges.{Edge}
-use Rattle.grid.proofs.GridCost.{line-count}
+use Rattle.lines.specs.declared.Axis.the-variants.{Across, Along}
+use Rattle.lines.specs.Bounds.{gridMacros}
+use Rattle.lines.specs.Lines.{xLines, yLines}
+use Rattle.lines.specs.Edges.{Edge}
+use Rattle.lines.proofs.GridCost.{line-count}
 use Rattle.rules.specs.Terminal.{Path}
 use Rattle.rules.specs.Trees.{Trees}
 use Rattle.rules.proofs.TreesOrder.{netBy, SameNet}
-use Rattle.best.specs.Bounds.{bestPins}
+use Rattle.parts.specs.Bounds.{bestPins}
 use Rattle.best.specs.Tree.{JoinsPins, IsBest, BestOver}
 use Rattle.best.proofs.OrderLaws.{best-any-order}
 use Rattle.best.proofs.RefinedLaws.{refined-not-cheaper}

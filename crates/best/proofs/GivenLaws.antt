@@ -25,10 +25,10 @@ use Rattle.graph.specs.Numbers.{edgeNumbers, edgeFrom}
 use Rattle.graph.proofs.WidthLaws.{edge-width}
 use Rattle.union.specs.Marks.{marks}
 use Rattle.union.proofs.MarkLaws.{marks-none, marks-hit, marks-miss, marks-room}
-use Rattle.grid.specs.Bounds.{crossingBound}
-use Rattle.grid.specs.Edges.{Edge}
+use Rattle.lines.specs.Bounds.{crossingBound}
+use Rattle.lines.specs.Edges.{Edge}
 use Rattle.grid.specs.Tables.{crossingAt, target}
-use Rattle.best.specs.Routes.{inOrder, edgeAt, markedEdges, LengthOf, MarkedPut}
+use Rattle.traced.specs.Routes.{inOrder, edgeAt, markedEdges, LengthOf, MarkedPut}
 
 pub marked-inside : (j k b : ℕ) → k ≡ inOrder j → b ≡ target k → target (inOrder j) < crossingBound → b < crossingBound
 marked-inside j k b e f h = subst (λ (z : ℕ). z < crossingBound) (sym (f ∙ ap target e)) h

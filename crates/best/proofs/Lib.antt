@@ -4,13 +4,11 @@ pub mod JoinsLaws
 pub mod CheapestTree
 pub mod MaskLaws
 pub mod NumberLaws
-pub mod Under
 pub mod StartLaws
 pub mod BestTree
 pub mod RefinedLaws
 pub mod OrderLaws
-pub mod WorkLaws
-pub mod RouteLaws
+pub mod SizeLaws
 pub mod GivenLaws
 pub mod LoneLaws
 pub mod NetBest

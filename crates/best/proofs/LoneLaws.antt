@@ -13,11 +13,11 @@ use Rattle.lists.specs.Member.{_∈_, here, there, Once}
 use Rattle.lists.specs.Those.{those}
 use Rattle.lists.proofs.TestLaws.{either}
 use Rattle.best.specs.Masks.{chosen}
-use Rattle.best.specs.Numbers.{number, partOf}
-use Rattle.best.specs.Starts.{under, properPart, sums}
-use Rattle.best.specs.Tables.{lonePin}
+use Rattle.parts.specs.Numbers.{number, partOf}
+use Rattle.parts.specs.Starts.{under, properPart, sums}
+use Rattle.parts.specs.Tables.{lonePin}
 use Rattle.best.proofs.StartLaws.{some-number, number-some}
-use Rattle.best.proofs.WorkLaws.{lone-one, lone-two, lone-three, lone-four, lone-none}
+use Rattle.parts.proofs.WorkLaws.{lone-one, lone-two, lone-three, lone-four, lone-none}
 use Rattle.best.proofs.BestTree.{ones}
 
 power-some : (i : ℕ) → 1 ≤ 2 ^ i

@@ -28,36 +28,36 @@ use Rattle.plane.proofs.PlaceOrder.{place-order}
 use Rattle.net.specs.Net.{Net, costIn}
 use Rattle.net.specs.Allowed.{Allowed}
 use Rattle.net.proofs.AllowedLaws.{allowed-positive}
-use Rattle.grid.specs.declared.Grid.{Grid}
-use Rattle.grid.specs.declared.Axis.the-variants.{Across, Along}
-use Rattle.grid.specs.Bounds.{gridPins, gridMacros, lineBound, crossingBound, unreached}
-use Rattle.grid.specs.Lines.{xLines, yLines, Crossing}
-use Rattle.grid.specs.Edges.{Edge, gridEdges}
-use Rattle.grid.specs.Crossings.{isCrossing, crossingNumber}
+use Rattle.lines.specs.declared.Grid.{Grid}
+use Rattle.lines.specs.declared.Axis.the-variants.{Across, Along}
+use Rattle.lines.specs.Bounds.{gridPins, gridMacros, lineBound, crossingBound, unreached}
+use Rattle.lines.specs.Lines.{xLines, yLines, Crossing}
+use Rattle.lines.specs.Edges.{Edge, gridEdges}
+use Rattle.lines.specs.Crossings.{isCrossing, crossingNumber}
 use Rattle.grid.specs.Rows.{at}
 use Rattle.grid.specs.Tables.{crossingAt, target, Near}
 use Rattle.grid.specs.Distance.{pinsInOrder}
-use Rattle.grid.proofs.AxisLaws.{cost-length}
-use Rattle.grid.proofs.EdgeLaws.{pin-crossing, x-ascending, y-ascending}
-use Rattle.grid.proofs.CrossingLaws.{is-crossing, crossing-is, numbers-single, number-below, ends-crossings}
-use Rattle.grid.proofs.LineLaws.{line-order}
+use Rattle.lines.proofs.AxisLaws.{cost-length}
+use Rattle.lines.proofs.EdgeLaws.{pin-crossing, x-ascending, y-ascending}
+use Rattle.lines.proofs.CrossingLaws.{is-crossing, crossing-is, numbers-single, number-below, ends-crossings}
+use Rattle.lines.proofs.LineLaws.{line-order}
 use Rattle.grid.proofs.RowLaws.{held-near, quiet-near, quiet-why}
 use Rattle.grid.proofs.Spread.{spread, spread-on, spread-off}
 use Rattle.grid.proofs.TableGrid.{Made, NearGrid, near-grid, grid-near}
 use Rattle.grid.proofs.NetDistance.{few-lines, order-count}
-use Rattle.best.specs.Bounds.{bestPins}
+use Rattle.parts.specs.Bounds.{bestPins}
 use Rattle.best.specs.Sets.{JoinsAt}
 use Rattle.best.specs.Masks.{Mask, maskPins, Lone, Filled}
-use Rattle.best.specs.Numbers.{number, partOf}
-use Rattle.best.specs.Starts.{under, least, properPart, sums}
-use Rattle.best.specs.Tables.{valueAt, rowOf, lonePin, MaskRow}
-use Rattle.best.specs.Routes.{inOrder, edgeAt, otherEnd, leads, meets, Route, stop, over, met}
-use Rattle.best.proofs.Under.{of-under}
+use Rattle.parts.specs.Numbers.{number, partOf}
+use Rattle.parts.specs.Starts.{under, least, properPart, sums}
+use Rattle.parts.specs.Tables.{valueAt, rowOf, lonePin, MaskRow}
+use Rattle.traced.specs.Routes.{inOrder, edgeAt, otherEnd, leads, meets, Route, stop, over, met}
+use Rattle.parts.proofs.Under.{of-under}
 use Rattle.best.proofs.MaskLaws.{halves-pins}
 use Rattle.best.proofs.StartLaws.{mask-parts, T, Begins, table-filled, least-in, some, small}
-use Rattle.best.proofs.WorkLaws.{row-at, sums-agree}
+use Rattle.parts.proofs.WorkLaws.{row-at, sums-agree}
 use Rattle.best.proofs.LoneLaws.{one-pin, power-pin, lone-power, LonePower, lone-is, lone-sums}
-use Rattle.best.proofs.RouteLaws.{turns, leading, leads-is, meets-is, meeting}
+use Rattle.traced.proofs.RouteLaws.{turns, leading, leads-is, meets-is, meeting}
 use Rattle.best.proofs.JoinsLaws.{joins-lone, joins-edge, joins-met, joins-cost}
 
 abbrev none : Place

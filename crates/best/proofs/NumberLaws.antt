@@ -11,7 +11,7 @@ use lib.Dec.{leb}
 use lib.ListN.{length}
 use Rattle.lists.proofs.TestLaws.{by, and-left, and-right, and-both}
 use Rattle.best.specs.Masks.{Halves, none, left, right, neither}
-use Rattle.best.specs.Numbers.{bit, number, odd, bitsOf, partOf}
+use Rattle.parts.specs.Numbers.{bit, number, odd, bitsOf, partOf}
 
 pub bits-size : (m n : ℕ) → length (bitsOf m n) ≡ m
 unfolding bitsOf

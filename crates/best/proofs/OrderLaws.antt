@@ -17,12 +17,12 @@ use Rattle.plane.specs.declared.Macro.{Macro}
 use Rattle.plane.specs.declared.Weights.{Weights}
 use Rattle.plane.specs.Place.{place}
 use Rattle.plane.specs.Cost.{cost}
-use Rattle.grid.specs.declared.Axis.{Axis}
-use Rattle.grid.specs.declared.Axis.the-variants.{Across, Along}
-use Rattle.grid.specs.Lines.{coordinate, sides, marks, linesOf, xLines, yLines, GridStep, across, along}
-use Rattle.grid.specs.Edges.{Edge, gridEdges}
-use Rattle.grid.proofs.LineLaws.{line-order}
-use Rattle.grid.proofs.EdgeLaws.{link-grid, grid-link}
+use Rattle.lines.specs.declared.Axis.{Axis}
+use Rattle.lines.specs.declared.Axis.the-variants.{Across, Along}
+use Rattle.lines.specs.Lines.{coordinate, sides, marks, linesOf, xLines, yLines, GridStep, across, along}
+use Rattle.lines.specs.Edges.{Edge, gridEdges}
+use Rattle.lines.proofs.LineLaws.{line-order}
+use Rattle.lines.proofs.EdgeLaws.{link-grid, grid-link}
 use Rattle.rules.proofs.TreesOrder.{netBy, SameNet, turned}
 use Rattle.best.specs.Tree.{JoinsPins, IsBest}
 

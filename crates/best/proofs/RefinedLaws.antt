@@ -22,9 +22,9 @@ use Rattle.plane.proofs.PlaceOrder.{place-same}
 use Rattle.net.specs.Net.{Net, costIn}
 use Rattle.net.specs.Allowed.{Allowed}
 use Rattle.net.proofs.AllowedLaws.{allowed-positive}
-use Rattle.grid.specs.Lines.{xLines, yLines}
-use Rattle.grid.specs.Edges.{Edge}
-use Rattle.grid.proofs.EdgeLaws.{lines-sides, pin-crossing}
+use Rattle.lines.specs.Lines.{xLines, yLines}
+use Rattle.lines.specs.Edges.{Edge}
+use Rattle.lines.proofs.EdgeLaws.{lines-sides, pin-crossing}
 use Rattle.grid.proofs.DistanceLaws.{IsCrossing}
 use Rattle.rules.specs.Edges.{Same}
 use Rattle.rules.specs.Spanning.{Vertex, Spanning}

@@ -17,9 +17,9 @@ use Rattle.lists.proofs.ThoseLaws.{in-those, of-those}
 use Rattle.joined.specs.Joined.{Link}
 use Rattle.grid.specs.Rows.{at, Held, Quiet}
 use Rattle.best.specs.Masks.{chosen, Mask, Halves, Lone, Start, Filled}
-use Rattle.best.specs.Numbers.{number, bitsOf, partOf}
-use Rattle.best.specs.Starts.{under, least, properPart, sums}
-use Rattle.best.proofs.Under.{in-under, of-under}
+use Rattle.parts.specs.Numbers.{number, bitsOf, partOf}
+use Rattle.parts.specs.Starts.{under, least, properPart, sums}
+use Rattle.parts.proofs.Under.{in-under, of-under}
 use Rattle.best.proofs.NumberLaws.{bits-size, number-bits, bits-number, number-small, halves-sum, halves-part, part-halves}
 use Rattle.grid.proofs.Spread.{NearOf, spread, spread-on, spread-off, spread-below, spread-quiet, spread-why}
 

@@ -1,6 +1,5 @@
--- The tables as the program has made them, for an allowed net of flat lists of at most five pins: what each call is handed, and that what
--- is
--- given at last is a best tree.
+-- The tables as the program has made them, for an allowed net of flat lists of at most five pins: what each call is handed, and that
+-- what is given at last is a best tree.
 -- Assumes nothing.
 use mathlib.Core.Path.{_≡_, refl, sym, ap, ap₂, subst, _∙_}
 use mathlib.Core.Logic.{inl, inr}
@@ -27,21 +26,21 @@ use Rattle.net.specs.Pins.{pinCount, pinPlaces, macroCount}
 use Rattle.net.specs.Net.{Net, netWith, costIn}
 use Rattle.net.proofs.PinLaws.{length-pins}
 use Rattle.graph.specs.Numbers.{edgeNumbers}
-use Rattle.grid.specs.declared.Grid.{Grid}
-use Rattle.grid.specs.declared.Axis.the-variants.{Across, Along}
-use Rattle.grid.specs.Bounds.{gridPins, lineBound, crossingBound, segmentBound}
-use Rattle.grid.specs.Lines.{xLines, yLines}
-use Rattle.grid.specs.Crossings.{crossingNumber}
+use Rattle.lines.specs.declared.Grid.{Grid}
+use Rattle.lines.specs.declared.Axis.the-variants.{Across, Along}
+use Rattle.lines.specs.Bounds.{gridPins, lineBound, crossingBound, segmentBound}
+use Rattle.lines.specs.Lines.{xLines, yLines}
+use Rattle.lines.specs.Crossings.{crossingNumber}
 use Rattle.grid.specs.Tables.{target, CostsTo, Near}
 use Rattle.grid.specs.Distance.{pinsInOrder}
-use Rattle.grid.proofs.GridCost.{line-count}
+use Rattle.lines.proofs.GridCost.{line-count}
 use Rattle.grid.proofs.NetDistance.{order-count, number-at, zeros-read}
 use Rattle.grid.proofs.WholeLaws.{Small, Lined, pins-few, macros-few, whole-fits, made, zero-at, zero-long, renamed}
-use Rattle.best.specs.Bounds.{bestPins, maskBound, workBound}
-use Rattle.best.specs.Tables.{valueAt, MaskRow, FilledTo}
-use Rattle.best.specs.Routes.{inOrder, markedEdges, Traced, ReadBack}
+use Rattle.parts.specs.Bounds.{bestPins, maskBound, workBound}
+use Rattle.parts.specs.Tables.{valueAt, MaskRow, FilledTo}
+use Rattle.traced.specs.Routes.{inOrder, markedEdges, Traced, ReadBack}
 use Rattle.best.specs.Tree.{BestTree, BestOver}
-use Rattle.best.proofs.RouteLaws.{EdgeOf, turns}
+use Rattle.traced.proofs.RouteLaws.{EdgeOf, turns}
 use Rattle.best.proofs.NetBest.{Tabled}
 use Rattle.best.proofs.BestGiven.{traced-real, traced-best, traced-cost, lone-best, lone-cost}
 

@@ -11,10 +11,10 @@ use Rattle.plane.specs.Place.{place}
 use Rattle.forest.specs.Edges.{from}
 use Rattle.union.specs.Marks.{marks}
 use Rattle.grid.specs.Tables.{target}
-use Rattle.best.specs.Numbers.{partOf}
-use Rattle.best.specs.Starts.{under, least, properPart, sums}
-use Rattle.best.specs.Tables.{lonePin}
-use Rattle.best.specs.Routes.{inOrder, markedEdges}
+use Rattle.parts.specs.Numbers.{partOf}
+use Rattle.parts.specs.Starts.{under, least, properPart, sums}
+use Rattle.parts.specs.Tables.{lonePin}
+use Rattle.traced.specs.Routes.{inOrder, markedEdges}
 
 -- pins 0 and 2 are a part of pins 0 to 2; pin 1 is none of pins 0 and 2
 part-there : partOf 3 5 7 ≡ true

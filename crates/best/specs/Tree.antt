@@ -20,8 +20,8 @@ use Rattle.net.specs.Net.{Net, costIn}
 use Rattle.net.specs.Allowed.{PlaceInRange}
 use Rattle.graph.specs.Edges.{beforeEdge}
 use Rattle.graph.specs.Numbers.{edgeNumbers}
-use Rattle.grid.specs.Lines.{xLines, yLines}
-use Rattle.grid.specs.Edges.{Edge, gridEdges}
+use Rattle.lines.specs.Lines.{xLines, yLines}
+use Rattle.lines.specs.Edges.{Edge, gridEdges}
 use Rattle.best.specs.Sets.{Edges}
 
 -- L10: edges of the grid that join all pins

@@ -23,7 +23,7 @@ use Rattle.plane.specs.Flat.{placeAt}
 use Rattle.plane.proofs.CostLaws.{box-cost}
 use Rattle.tree.specs.Table.{Low}
 use Rattle.lists.specs.Turns.{seek}
-use Rattle.candidates.specs.Longest.{cutOf}
+use Rattle.longest.specs.Longest.{cutOf}
 use Rattle.candidates.specs.Candidate.{best, sees, taken, dropped, allowed, chosen, weighed, offer, mayGain}
 
 and-false : (a : Bool) → (a && false) ≡ false

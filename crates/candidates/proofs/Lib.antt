@@ -1,9 +1,3 @@
-pub mod LongestLaws
 pub mod CandidateLaws
+pub mod NearLaws
 pub mod CandidateBounds
-pub mod FoundLaws
-pub mod ReadingLaws
-pub mod WinsLaws
-pub mod HungLaws
-pub mod RowLaws
-pub mod PairLaws

@@ -17,7 +17,7 @@ use Rattle.plane.specs.Flat.{placeAt}
 use Rattle.candidates.specs.declared.Best.{Best}
 use Rattle.lists.specs.Turns.{turns, seek}
 use Rattle.tree.specs.Table.{firstEnd, secondEnd}
-use Rattle.candidates.specs.Longest.{cutOf, costs, longest}
+use Rattle.longest.specs.Longest.{cutOf, costs, longest}
 
 -- the candidate of edge `edge` and point `point`, its L and its gain; with gain 0, none
 abbrev pub best : ℕ → ℕ → ℕ → ℕ → Best

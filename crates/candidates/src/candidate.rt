@@ -1,7 +1,7 @@
 // Candidates, and the one that a round takes.
 use crate::Best;
-use crate::UNKNOWN;
-use crate::longest;
+use crate::near;
+use longest::UNKNOWN;
 use plane::Macro;
 use plane::Place;
 use plane::Weights;
@@ -9,13 +9,15 @@ use tree::NUMBERS;
 use tree::POINTS;
 ghost use mathlib.Core.Path.{_≡_};
 ghost use mathlib.Core.List.{List};
-ghost use Prim.Native.Nat.{ℕ, _≤_, _<_};
+ghost use Prim.Native.Nat.{ℕ, _*_, _≤_, _<_};
+ghost use lib.ListN.{length};
 ghost use Rattle.plane.specs.Flat.{placeAt, macrosOf};
 ghost use Rattle.plane.specs.Box.{boxOf};
+ghost use Rattle.plane.specs.Rank.{InOrder};
 ghost use Rattle.lists.specs.Turns.{seek};
 ghost use Rattle.tree.specs.Table.{treeBound, Low, Within};
-ghost use Rattle.candidates.specs.Longest.{cutOf, longest};
-ghost use Rattle.candidates.specs.Hung.{ties, Hanging};
+ghost use Rattle.longest.specs.Longest.{cutOf, longest};
+ghost use Rattle.longest.specs.Hung.{ties, Hanging};
 ghost use Rattle.candidates.specs.Candidate.{sees, taken, dropped, allowed, weighed, offer, mayGain, offers, search};
 
 pub fn sees(macros: &[i32], a: Place, b: Place, u: Place) -> bool
@@ -182,6 +184,7 @@ fn offers(
     c: Best,
 ) -> Best
     requires { ⌜ ((k < e) × (e ≤ treeBound)) × ((n ≤ treeBound) × (Within n (now keys))) ⌝ }
+    requires { ⌜ (n * 2 ≤ length (now pts)) × (InOrder (now pts) n) ⌝ }
     requires { ⌜ (Low most (now el)) × (Hanging (now keys) (now el) e n (ties (now onto) (now link) (now turn))) ⌝ }
     ensures { λ r. ⌜ r ≡ offers w (now (pts .entry)) n (macrosOf (now (macros .entry))) (now (keys .entry)) (now (el .entry))
         (longest (now (keys .entry)) (now (el .entry)) e n) k c ⌝ }
@@ -189,11 +192,15 @@ fn offers(
     let a = keys[k] / POINTS;
     let b = keys[k] % POINTS;
     let m = plane::box_of(tree::point_at(pts, a), tree::point_at(pts, b));
+    if most <= c.gain {
+        return c;
+    }
+    let last = near::to(w, m, pts, n, most - c.gain);
+    let mut u = near::from(w, m, pts, n, most - c.gain);
     let mut row = [UNKNOWN; POINTS];
     longest::start(el, onto, link, turn, a, b, &mut row);
     let mut found = c;
-    let mut u = 0;
-    while u < n {
+    while u < last {
         let at = u;
         u += 1;
         if may_gain(w, m, tree::point_at(pts, at), 0, found.gain, most) {
@@ -219,6 +226,7 @@ pub fn search(
     turn: &[usize; POINTS],
 ) -> Best
     requires { ⌜ (e ≤ treeBound) × ((n ≤ treeBound) × (Within n (now keys))) ⌝ }
+    requires { ⌜ (n * 2 ≤ length (now pts)) × (InOrder (now pts) n) ⌝ }
     requires { ⌜ (Low most (now el)) × (Hanging (now keys) (now el) e n (ties (now onto) (now link) (now turn))) ⌝ }
     ensures { λ r. ⌜ r ≡ search w (now (pts .entry)) n (macrosOf (now (macros .entry))) (now (keys .entry)) e (now (el .entry))
         (longest (now (keys .entry)) (now (el .entry)) e n) ⌝ }

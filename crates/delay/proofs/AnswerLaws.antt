@@ -24,22 +24,25 @@ use Rattle.plane.specs.declared.Place.{Place}
 use Rattle.plane.specs.Place.{before, samePlace}
 use Rattle.plane.specs.Distance.{distance}
 use Rattle.plane.specs.Flat.{placeAt}
+use Rattle.plane.specs.Rank.{InOrder}
 use Rattle.plane.proofs.PlaceLaws.{same-true, same-refl, same-comm}
 use Rattle.plane.proofs.PlaceOrder.{place-order}
 use Rattle.tree.specs.Table.{treeBound, Within}
-use Rattle.tree.specs.Places.{InOrder, Ranked}
+use Rattle.tree.specs.Places.{Ranked}
 use Rattle.tree.specs.Edges.{tableEdges}
 use Rattle.tree.proofs.EdgeLaws.{edges-count}
 use Rattle.exchanges.proofs.OpenedLaws.{seek-before, seek-hit}
-use Rattle.delay.specs.declared.Technology.{Technology}
-use Rattle.delay.specs.declared.Delay.{Delay}
-use Rattle.delay.specs.Float as float
-use Rattle.delay.specs.Rooted.{Branches, Every, rooted, hanging}
-use Rattle.delay.specs.Elmore.{delays, delayIn}
-use Rattle.delay.specs.Answer.{delayOf, marked, marksOf, finites, usable, delayed, delayAnswer}
-use Rattle.delay.specs.Table.{hung, apartIn, loadIn, stored, isPin, pinsFrom, isDriver, driverIn, marksFrom, tableFrom}
-use Rattle.delay.proofs.CarriedLaws.{delayIn-renamed, delays-renamed, delays-every, stored-read}
-use Rattle.delay.proofs.PlaceLaws.{same-number, hung-places, hung-small}
+use Rattle.floats.specs.declared.Technology.{Technology}
+use Rattle.floats.specs.declared.Delay.{Delay}
+use Rattle.floats.specs.Float as float
+use Rattle.elmore.specs.Rooted.{Branches, Every, rooted, hanging}
+use Rattle.elmore.specs.Elmore.{delays, delayIn}
+use Rattle.floats.specs.Mark.{marked, finites, usable, isPin, pinsFrom, marksFrom}
+use Rattle.delay.specs.Answer.{delayOf, marksOf, delayed, delayAnswer}
+use Rattle.elmore.specs.Table.{hung, apartIn, loadIn, stored}
+use Rattle.delay.specs.Table.{isDriver, driverIn, tableFrom}
+use Rattle.elmore.proofs.CarriedLaws.{delayIn-renamed, delays-renamed, delays-every, stored-read}
+use Rattle.elmore.proofs.PlaceLaws.{same-number, hung-places, hung-small}
 
 -- Searches for a place
 

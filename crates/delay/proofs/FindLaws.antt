@@ -10,8 +10,9 @@ use borrow.Author.Tests.{eq-eqb, ne-eqb}
 use Rattle.plane.specs.declared.Place.{Place}
 use Rattle.plane.specs.Place.{samePlace}
 use Rattle.plane.specs.Flat.{placeAt}
-use Rattle.delay.specs.Table.{isPin, isDriver}
-use Rattle.delay.proofs.MarkLaws.{both-if, both-not}
+use Rattle.floats.specs.Mark.{isPin}
+use Rattle.delay.specs.Table.{isDriver}
+use Rattle.floats.proofs.MarkLaws.{both-if, both-not}
 
 module _ (pts : List ℤ) (pin : List ℕ) (q : Place) (i : ℕ) where
   pub driver-if : (p : Place) (r : Bool) → getD pin i 0 ≡ 1 → p ≡ placeAt pts i → r ≡ samePlace p q → r ≡ isDriver pts pin q i

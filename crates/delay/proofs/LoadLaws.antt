@@ -15,10 +15,10 @@ use Rattle.plane.specs.declared.Place.{Place}
 use Rattle.plane.specs.Place.{samePlace}
 use Rattle.plane.proofs.PlaceLaws.{same-true, same-refl}
 use Rattle.plane.proofs.PlaceOrder.{place-same}
-use Rattle.delay.specs.declared.Technology.{Technology}
-use Rattle.delay.specs.Float.{whole}
-use Rattle.delay.specs.Rooted.{Branches, none, branch}
-use Rattle.delay.specs.Elmore.{withChild, childDelay, edgeResistance, edgeCapacitance, gathered, delayOfChild, delays}
+use Rattle.floats.specs.declared.Technology.{Technology}
+use Rattle.floats.specs.Float.{whole}
+use Rattle.elmore.specs.Rooted.{Branches, none, branch}
+use Rattle.elmore.specs.Elmore.{withChild, childDelay, edgeResistance, edgeCapacitance, gathered, delayOfChild, delays}
 use Rattle.delay.specs.Load.{loadOf}
 
 -- Loads by place

@@ -18,7 +18,8 @@ use Rattle.plane.specs.Place.{samePlace}
 use Rattle.plane.specs.Flat.{placeAt}
 use Rattle.net.specs.Pins.{pinPlaces, pinEntries}
 use Rattle.delay.specs.Load.{loadOf}
-use Rattle.delay.specs.Table.{isPin, Loaded}
+use Rattle.floats.specs.Mark.{isPin}
+use Rattle.delay.specs.Table.{Loaded}
 
 -- The scan: a pin at the place, one elsewhere, the end
 

@@ -19,16 +19,17 @@ use Rattle.plane.proofs.PlaceLaws.{same-true, same-refl}
 use Rattle.plane.proofs.PlaceOrder.{place-order}
 use Rattle.joined.specs.Joined.{Inside}
 use Rattle.joined.specs.Tree.{TreeOn}
-use Rattle.delay.specs.declared.Technology.{Technology}
-use Rattle.delay.specs.declared.Delay.{Delay}
-use Rattle.delay.specs.Float as float
-use Rattle.delay.specs.Rooted.{Branches, none, branch, sprout, visited, children, hanging, rooted}
-use Rattle.delay.specs.Elmore.{delayOfChild, delays, delayIn}
-use Rattle.delay.specs.Answer.{delayOf, marked, marksOf}
+use Rattle.floats.specs.declared.Technology.{Technology}
+use Rattle.floats.specs.declared.Delay.{Delay}
+use Rattle.floats.specs.Float as float
+use Rattle.elmore.specs.Rooted.{Branches, none, branch, sprout, visited, children, hanging, rooted}
+use Rattle.elmore.specs.Elmore.{delayOfChild, delays, delayIn}
+use Rattle.floats.specs.Mark.{marked}
+use Rattle.delay.specs.Answer.{delayOf, marksOf}
 use Rattle.delay.specs.Promise.{Follows, Timed}
-use Rattle.delay.proofs.ChildLaws.{neighbours-same}
+use Rattle.elmore.proofs.ChildLaws.{neighbours-same}
 use Rattle.delay.proofs.LoadLaws.{delays-load}
-use Rattle.delay.proofs.RootedLaws.{rooted-once, rooted-all}
+use Rattle.elmore.proofs.RootedLaws.{rooted-once, rooted-all}
 
 -- A list with each point once has one delay for it
 

@@ -14,14 +14,16 @@ use Rattle.lists.specs.Any.{any}
 use Rattle.net.specs.declared.Refusal.the-variants.{Space, TechnologyRange, DriverNotPin, DelayNotFinite}
 use Rattle.net.specs.Answer.{number}
 use Rattle.tree.specs.Table.{treeBound}
-use Rattle.delay.specs.declared.Technology.{Technology}
-use Rattle.delay.specs.declared.Delay.{Delay}
+use Rattle.floats.specs.declared.Technology.{Technology}
+use Rattle.floats.specs.declared.Delay.{Delay}
 use Rattle.delay.specs.declared.Delayed.the-variants as the
-use Rattle.delay.specs.Float as float
-use Rattle.delay.specs.Elmore.{delays}
-use Rattle.delay.specs.Answer.{isMark, usable, delayed, toldDelays}
-use Rattle.delay.specs.Table.{hung, apartIn, loadIn, stored, tableFrom}
-use Rattle.delay.proofs.MarkLaws.{zero-bits}
+use Rattle.floats.specs.Float as float
+use Rattle.elmore.specs.Elmore.{delays}
+use Rattle.floats.specs.Mark.{isMark, usable}
+use Rattle.delay.specs.Answer.{delayed, toldDelays}
+use Rattle.elmore.specs.Table.{hung, apartIn, loadIn, stored}
+use Rattle.delay.specs.Table.{tableFrom}
+use Rattle.floats.proofs.MarkLaws.{zero-bits}
 
 module _ (room m : ℕ) (t : Technology) (driver n : ℕ) (marks : List Delay) where
   pub told-space : room < m → toldDelays (the.Refused Space) ≡ delayed room m t (ltb driver n) marks

@@ -14,11 +14,12 @@ use Rattle.lent.specs.Told.{refused, given}
 use Rattle.plane.specs.declared.Place.{Place}
 use Rattle.plane.specs.Place.{place, before, samePlace}
 use Rattle.plane.specs.Distance.{apart, distance}
-use Rattle.delay.specs.declared.Technology.{Technology}
-use Rattle.delay.specs.Float.{zero, finite}
-use Rattle.delay.specs.Rooted.{sprout, neighbours, children, hanging, rooted}
-use Rattle.delay.specs.Elmore.{technology, gathered, delays, delayIn}
-use Rattle.delay.specs.Answer.{delayOf, marked, isMark, marksOf, fair, usable, delayed, delayAnswer}
+use Rattle.floats.specs.declared.Technology.{Technology}
+use Rattle.floats.specs.Float.{zero, finite}
+use Rattle.elmore.specs.Rooted.{sprout, neighbours, children, hanging, rooted}
+use Rattle.elmore.specs.Elmore.{technology, gathered, delays, delayIn}
+use Rattle.floats.specs.Mark.{marked, isMark, fair, usable}
+use Rattle.delay.specs.Answer.{delayOf, marksOf, delayed, delayAnswer}
 
 abbrev first : Place
 first = place (negsuc 0) (pos 0)

@@ -1,6 +1,6 @@
 -- What is answered for the pins: rules Y6, Y7 and C38 to C40.
-use mathlib.Core.Bool.{Bool, true, false, cond, not, _&&_}
-use mathlib.Core.List.{List, [], _∷_, map}
+use mathlib.Core.Bool.{Bool, cond, not}
+use mathlib.Core.List.{List, map}
 use Prim.Native.Nat.{ℕ}
 use lib.Dec.{ltb}
 use lib.ListN.{length}
@@ -12,43 +12,22 @@ use Rattle.plane.specs.declared.Place.{Place}
 use Rattle.plane.specs.Place.{before, samePlace}
 use Rattle.plane.specs.Distance.{distance}
 use Rattle.net.specs.Answer.{number}
-use Rattle.delay.specs.declared.Technology.{Technology}
-use Rattle.delay.specs.declared.Delay.{Delay}
-use Rattle.delay.specs.declared.Delay.the-variants.{Finite, NotFinite}
+use Rattle.floats.specs.declared.Technology.{Technology}
+use Rattle.floats.specs.declared.Delay.{Delay}
 use Rattle.delay.specs.declared.Delayed.{Delayed}
 use Rattle.delay.specs.declared.Delayed.the-variants as the
-use Rattle.delay.specs.Float.{zero, finite, positive}
-use Rattle.delay.specs.Rooted.{rooted}
-use Rattle.delay.specs.Elmore.{delays, delayIn}
+use Rattle.floats.specs.Float.{zero}
+use Rattle.floats.specs.Mark.{marked, isMark, usable}
+use Rattle.elmore.specs.Rooted.{rooted}
+use Rattle.elmore.specs.Elmore.{delays, delayIn}
 
 -- Y6: the delay of a point q; the driver's own is 0, since it hangs from nothing
 unfoldable pub delayOf : List (Place × Place) → (Place → ℕ) → Technology → Place → Place → Float
 delayOf es load t driver q = delayIn samePlace q zero (delays distance load t driver zero (rooted es driver))
 
--- Y7: a delay, or the mark that it is not finite
-unfoldable pub marked : Float → Delay
-marked d = elim (finite d) [ true ↦ Finite d | false ↦ NotFinite ]
-
-unfoldable pub isMark : Delay → Bool
-isMark (Finite d) = false
-isMark NotFinite = true
-
 -- Y7: for each pin, in the order of places
 unfoldable pub marksOf : List (Place × Place) → (Place → ℕ) → Technology → Place → List Place → List Delay
 marksOf es load t driver pins = map (λ q. marked (delayOf es load t driver q)) (sorted before pins)
-
--- the delays among them
-unfoldable pub finites : List Delay → List Float
-finites [] = []
-finites (Finite d ∷ l) = d ∷ finites l
-finites (NotFinite ∷ l) = finites l
-
--- C38: both numbers are finite and above zero
-unfoldable pub fair : Float → Bool
-fair x = positive x && finite x
-
-unfoldable pub usable : Technology → Bool
-usable t = fair (t .resistance) && fair (t .capacitance)
 
 -- C85, in this order: 21, room for fewer than m delays; 38, a technology that is not usable; 39, the driver is not found among the
 -- pins; 40, a mark. Otherwise how many delays are given.

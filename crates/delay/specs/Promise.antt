@@ -6,10 +6,10 @@ use lib.Ieee.{Float}
 use Rattle.lists.specs.Member.{Among, Once}
 use Rattle.plane.specs.declared.Place.{Place}
 use Rattle.plane.specs.Distance.{distance}
-use Rattle.delay.specs.declared.Technology.{Technology}
-use Rattle.delay.specs.Float.{zero}
-use Rattle.delay.specs.Rooted.{Branches, none, branch, visited, rooted}
-use Rattle.delay.specs.Elmore.{delayOfChild}
+use Rattle.floats.specs.declared.Technology.{Technology}
+use Rattle.floats.specs.Float.{zero}
+use Rattle.elmore.specs.Rooted.{Branches, none, branch, visited, rooted}
+use Rattle.elmore.specs.Elmore.{delayOfChild}
 use Rattle.delay.specs.Answer.{delayOf}
 
 -- Y5, at every child that hangs from p: its delay is made of its parent's

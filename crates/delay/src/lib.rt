@@ -1,9 +1,8 @@
 // The Elmore delay from a driver to each pin of a tree.
-mod child; // child.rt: the children of a point
-pub mod elmore; // elmore.rt: capacitance and delay
 pub mod loads; // loads.rt: the pins among a tree's points, and their loads
-pub mod mark; // mark.rt: floats tested, delays marked and given
 
+use elmore::Visit;
+use floats::Technology;
 use net::Refusal;
 use plane::Place;
 use tree::NUMBERS;
@@ -15,27 +14,9 @@ ghost use lib.Dec.{ltb};
 ghost use lib.ListN.{length};
 ghost use Rattle.lent.specs.Over.{after};
 ghost use Rattle.tree.specs.Table.{treeBound};
-ghost use Rattle.delay.specs.Answer.{finites, delayed, toldDelays};
-ghost use Rattle.delay.specs.Table.{isDriver, driverIn, pinsFrom, marksFrom, tableFrom};
-
-// A technology: resistance and capacitance for each unit of length.
-pub struct Technology {
-    pub resistance: f64,
-    pub capacitance: f64,
-}
-
-// A point on the way down the rooted tree: its parent, its number, and how many steps further down there may be points.
-pub struct Visit {
-    pub up: usize,
-    pub point: usize,
-    pub left: usize,
-}
-
-// The delay to a pin, or the mark that it is not finite.
-pub enum Delay {
-    Finite(f64),
-    NotFinite,
-}
+ghost use Rattle.floats.specs.Mark.{finites, pinsFrom, marksFrom};
+ghost use Rattle.delay.specs.Answer.{delayed, toldDelays};
+ghost use Rattle.delay.specs.Table.{isDriver, driverIn, tableFrom};
 
 // The answer: how many delays were given, or why none.
 pub enum Delayed {
@@ -93,7 +74,7 @@ pub fn delays(
     if lent.len() < m {
         return Delayed::Refused(Refusal::Space);
     }
-    if !mark::is_usable(t) {
+    if !floats::is_usable(t) {
         return Delayed::Refused(Refusal::TechnologyRange);
     }
     let d = find(pts, pin, z.points, driver);
@@ -107,9 +88,9 @@ pub fn delays(
         left: z.edges,
     };
     elmore::lay(pts, keys, z.edges, loads, t, top, 0.0, &mut table);
-    if mark::has_mark(&table, pin, z.points) {
+    if floats::has_mark(&table, pin, z.points) {
         return Delayed::Refused(Refusal::DelayNotFinite);
     }
-    mark::give(&table, pin, z.points, &mut *lent);
+    floats::give(&table, pin, z.points, &mut *lent);
     Delayed::Given(m)
 }

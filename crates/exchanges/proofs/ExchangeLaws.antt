@@ -11,7 +11,8 @@ use borrow.Author.Tests.{lt-ltb, le-ltb}
 use Rattle.plane.specs.declared.Place.{Place}
 use Rattle.plane.specs.Flat.{placeAt}
 use Rattle.plane.specs.Place.{before, samePlace}
-use Rattle.exchanges.specs.Exchange.{bump, bumpAt, carrying, closed, closing, dropTwo, hand, later, lay, lays, star, opened, push}
+use Rattle.plane.specs.Rank.{later}
+use Rattle.exchanges.specs.Exchange.{bump, bumpAt, carrying, closed, closing, dropTwo, hand, lay, lays, star, opened, push}
 use Rattle.tree.specs.Table.{setPoint}
 use Rattle.exchanges.specs.Exchange.{stands}
 use Rattle.tree.specs.Table.{Row, firstEnd, key, treeBound, row, secondEnd}

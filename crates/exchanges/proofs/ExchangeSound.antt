@@ -18,6 +18,7 @@ use Rattle.plane.specs.declared.Macro.{Macro}
 use Rattle.plane.specs.Place.{samePlace}
 use Rattle.plane.specs.Macro.{clear}
 use Rattle.plane.specs.Flat.{placeAt}
+use Rattle.plane.specs.Rank.{InOrder, rank}
 use Rattle.net.specs.Net.{Net, costIn}
 use Rattle.plane.proofs.PlaceLaws.{same-true, same-refl}
 use Rattle.plane.proofs.MacroLaws.{clear-comm}
@@ -31,9 +32,9 @@ use Rattle.joined.proofs.OneTreeLaws.{tree-simple}
 use Rattle.lists.specs.Turns.{turns, seek}
 use Rattle.tree.specs.Table.{treeBound, key, firstEnd, secondEnd, row, Tree, tree, Within}
 use Rattle.candidates.specs.Candidate.{middleOf, sees, taken, dropped}
-use Rattle.exchanges.specs.Exchange.{dropTwo, rank, stands, opened, bump, bumpAt, lays, star, laidAt}
+use Rattle.exchanges.specs.Exchange.{dropTwo, stands, opened, bump, bumpAt, lays, star, laidAt}
 use Rattle.tree.specs.Sum.{sumOver}
-use Rattle.tree.specs.Places.{endsOf, pointsOf, edgesOf, keyCost, InOrder, Sound}
+use Rattle.tree.specs.Places.{endsOf, pointsOf, edgesOf, keyCost, Sound}
 use Rattle.candidates.specs.Taken.{Taken}
 use Rattle.exchanges.proofs.WithinLaws.{rank-le, bump-in, within-dropped, within-joined}
 use Rattle.exchanges.proofs.ExchangeLaws.{bump-lt, bump-ge}

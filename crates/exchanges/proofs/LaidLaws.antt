@@ -11,12 +11,13 @@ use lib.ListN.{getD}
 use Rattle.plane.specs.declared.Place.{Place}
 use Rattle.plane.specs.Flat.{placeAt}
 use Rattle.plane.specs.Middle.{middlePlace}
+use Rattle.plane.specs.Rank.{rank}
 use Rattle.lists.proofs.TestLaws.{by}
 use Rattle.candidates.specs.declared.Best.{Best}
-use Rattle.exchanges.specs.Exchange.{bump, bumpAt, closed, dropTwo, exchange, laidAt, lays, star, opened, rank, shift, stands}
+use Rattle.exchanges.specs.Exchange.{bump, bumpAt, closed, dropTwo, exchange, laidAt, lays, star, opened, shift, stands}
 use Rattle.tree.specs.Table.{Row, Small, Tree, firstEnd, row, secondEnd, tree}
 use Rattle.lists.specs.Turns.{turns}
-use Rattle.candidates.proofs.LongestLaws.{small-set}
+use Rattle.longest.proofs.LongestLaws.{small-set}
 use Rattle.lists.proofs.TurnLaws.{turns-keep}
 
 -- entries stay small

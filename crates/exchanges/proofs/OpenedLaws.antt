@@ -14,11 +14,11 @@ use Rattle.lists.proofs.TestLaws.{by, differ, and-both}
 use Rattle.plane.specs.declared.Place.{Place}
 use Rattle.plane.specs.Place.{place, before, samePlace}
 use Rattle.plane.specs.Flat.{placeAt}
+use Rattle.plane.specs.Rank.{InOrder, later, rank}
 use Rattle.plane.proofs.PlaceLaws.{same-refl, before-trans, before-tie}
 use Rattle.lists.specs.Turns.{turns, seek}
-use Rattle.exchanges.specs.Exchange.{later, rank, stands, Hand, hand, push, closing, opened, bump}
+use Rattle.exchanges.specs.Exchange.{stands, Hand, hand, push, closing, opened, bump}
 use Rattle.tree.specs.Table.{setPoint}
-use Rattle.tree.specs.Places.{InOrder}
 use Rattle.exchanges.proofs.WithinLaws.{rank-le}
 use Rattle.exchanges.proofs.ExchangeLaws.{bump-lt, bump-ge}
 

@@ -17,6 +17,7 @@ use Rattle.lists.proofs.MemberLaws.{rest-or}
 use Rattle.plane.specs.declared.Place.{Place}
 use Rattle.plane.specs.Place.{before}
 use Rattle.plane.specs.Flat.{placeAt}
+use Rattle.plane.specs.Rank.{InOrder}
 use Rattle.plane.proofs.PlaceLaws.{before-irrefl}
 use Rattle.joined.specs.Joined.{Link, Alike, Inside}
 use Rattle.joined.specs.Tree as joined
@@ -28,7 +29,7 @@ use Rattle.tree.specs.Table.{treeBound, firstEnd, secondEnd, Row, Within}
 use Rattle.exchanges.specs.Exchange.{closed}
 use Rattle.exchanges.specs.Prune.{countEnds, loose, looseEdge, firstLoose, prune}
 use Rattle.tree.specs.Sum.{sumOver}
-use Rattle.tree.specs.Places.{endsOf, edgesOf, InOrder}
+use Rattle.tree.specs.Places.{endsOf, edgesOf}
 use Rattle.exchanges.proofs.WithinLaws.{seek-le, within-closed}
 use Rattle.tree.proofs.SumLaws.{below-at, from, from-below, other, here, one, one-same}
 use Rattle.tree.proofs.SumLaws.{one-not, in-table, of-table}

@@ -92,7 +92,8 @@ bump-key-less n p j k few hj hk h =
     let f : bump p (firstEnd j) ≡ bump p (firstEnd k) = ap (bump p) e in
     omega (arith, f, bump-less p (secondEnd j) (secondEnd k) (omega (arith, e))))
 
-pub bumped-ranked : (n p e : ℕ) (ks : List ℕ) → n < treeBound → e ≤ length ks → Within n ks → Ranked ks e → Ranked (turns (bumpAt p) 0 e ks) e
+pub bumped-ranked : (n p e : ℕ) (ks : List ℕ) → n < treeBound → e ≤ length ks → Within n ks → Ranked ks e
+    → Ranked (turns (bumpAt p) 0 e ks) e
 bumped-ranked n p e ks few room w r = record {
   upward =
       λ i h.

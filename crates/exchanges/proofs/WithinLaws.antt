@@ -14,12 +14,13 @@ use Rattle.plane.specs.declared.Macro.{Macro}
 use Rattle.plane.specs.declared.Weights.{Weights}
 use Rattle.plane.specs.Flat.{placeAt}
 use Rattle.plane.specs.Place.{samePlace}
+use Rattle.plane.specs.Rank.{later, rank}
 use Rattle.lists.proofs.TestLaws.{by, and-left}
 use Rattle.candidates.specs.declared.Best.{Best}
 use Rattle.candidates.specs.Candidate.{found}
-use Rattle.exchanges.specs.Exchange.{bump, bumpAt, carrying, closed, dropTwo, exchange, laidAt, later}
-use Rattle.exchanges.specs.Exchange.{lay, lays, star, rank, shift, stands}
-use Rattle.candidates.specs.Longest.{costs, measure}
+use Rattle.exchanges.specs.Exchange.{bump, bumpAt, carrying, closed, dropTwo, exchange, laidAt}
+use Rattle.exchanges.specs.Exchange.{lay, lays, star, shift, stands}
+use Rattle.longest.specs.Longest.{costs, measure}
 use Rattle.exchanges.specs.Prune.{pruned}
 use Rattle.exchanges.specs.Prune.{marks, firstLoose, prune}
 use Rattle.tree.specs.Table.{In, Row, Small, Tree, Within, key, pairBound, treeBound, row, tree}

@@ -1,15 +1,16 @@
 -- R12, R13: a round removes (a, b) and L and lays edges from s to a, to b and to u, none of length zero.
-use mathlib.Core.Bool.{Bool, true, false, not, _&&_}
+use mathlib.Core.Bool.{Bool, true, false, _&&_}
 use mathlib.Core.List.{List, [], _∷_}
 use Prim.Native.Nat.{ℕ, zero, suc, _+_, _-_}
 use lib.Dec.{ltb}
 use lib.IntN.{ℤ}
 use lib.ListN.{getD, set}
 use Rattle.plane.specs.declared.Place.{Place}
-use Rattle.plane.specs.Place.{before, samePlace}
+use Rattle.plane.specs.Place.{samePlace}
 use Rattle.plane.specs.Flat.{placeAt}
+use Rattle.plane.specs.Rank.{rank}
 use Rattle.candidates.specs.declared.Best.{Best}
-use Rattle.lists.specs.Turns.{turns, seek}
+use Rattle.lists.specs.Turns.{turns}
 use Rattle.tree.specs.Table.{key, firstEnd, secondEnd, Row, row, Tree}
 use Rattle.candidates.specs.Candidate.{middleOf}
 use Rattle.tree.specs.Table.{setPoint}
@@ -29,13 +30,6 @@ unfoldable pub dropTwo : ℕ → ℕ → ℕ → List ℕ → List ℕ
 dropTwo n k l xs = elim (ltb k l) [ true ↦ closed k n (closed l (n + 1) xs) | false ↦ closed l n (closed k (n + 1) xs) ]
 
 -- Points
-
--- how many of n points come before s
-unfoldable pub later : List ℤ → Place → ℕ → Bool
-later pts s i = not (before (placeAt pts i) s)
-
-unfoldable pub rank : List ℤ → ℕ → Place → ℕ
-rank pts n s = seek (later pts s) 0 n
 
 -- s is the place of point p
 unfoldable pub stands : List ℤ → ℕ → ℕ → Place → Bool

@@ -2,7 +2,7 @@
 -- Definitions are state machines on whole tables, what stands past their end included, so that contracts speak of every number lent.
 --
 --   Exchange   closed, dropTwo             edges taken out
---              rank, opened, bump          where s belongs; the points with s put in; numbers moved on
+--              opened, bump                the points with s put in where it belongs; numbers moved on
 --              lay, lays, star, laidAt     edges laid, except any of length zero; those from s
 --              exchange                    what a round does with its candidate
 --   Prune      marks                       which points are pins

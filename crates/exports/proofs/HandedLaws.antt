@@ -21,7 +21,8 @@ module _ {A R : Type 0} (saying : R → Told A) {t : Told A} {r r′ : R} (said 
   value-handed part lent = ap (λ (s : Told A). valueAfter part s lent) (sym (ap saying is) ∙ said)
 
 -- the two weights, which the machine reads back as they were handed over
-pub read-back : (x y : ℤ) {w : Weighing} → SFits w32 x → SFits w32 y → w ≡ weighing (toZ w32 (ofZ w32 x)) (toZ w32 (ofZ w32 y)) → w ≡ weighing x y
+pub read-back : (x y : ℤ) {w : Weighing} → SFits w32 x → SFits w32 y → w ≡ weighing (toZ w32 (ofZ w32 x)) (toZ w32 (ofZ w32 y))
+    → w ≡ weighing x y
 read-back x y f g e = e ∙ ap₂ weighing (toZ-ofZ w32 x f) (toZ-ofZ w32 y g)
 
 -- and so a place

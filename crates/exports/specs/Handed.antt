@@ -12,8 +12,8 @@ use Rattle.net.specs.declared.Net.{Net as Counts}
 use Rattle.net.specs.Net.{Net}
 use Rattle.graph.specs.Numbers.{edgeNumbers}
 use Rattle.grid.specs.Distance.{Square}
-use Rattle.grid.specs.Edges.{Edge}
-use Rattle.best.specs.Bounds.{workBound}
+use Rattle.lines.specs.Edges.{Edge}
+use Rattle.parts.specs.Bounds.{workBound}
 use Rattle.best.specs.Tree.{BestTree}
 
 -- a graph: two lists and two counts

@@ -3,7 +3,7 @@
 // Each contract names one record of specs/Handed.antt: the code, each lent list and each number that goes through a pointer.
 use bought::Verdict;
 use delay::Delayed;
-use delay::Technology;
+use floats::Technology;
 use net::Checked;
 use net::Weighing;
 use netfile::Written;
@@ -30,15 +30,16 @@ ghost use Rattle.router.specs.Refined.{laidOf, refinedTree};
 ghost use Rattle.router.specs.Slid.{slidOf, slidTree};
 ghost use Rattle.router.specs.Wires.{wiresOf, wired};
 ghost use Rattle.router.specs.Distances.{gridDistances};
-ghost use Rattle.delay.specs.Elmore.{technology};
-ghost use Rattle.delay.specs.Answer.{finites};
+ghost use Rattle.elmore.specs.Elmore.{technology};
+ghost use Rattle.floats.specs.Mark.{finites};
 ghost use Rattle.router.specs.Delay.{delaysOf, pinDelays};
 ghost use Rattle.router.specs.Best.{bestTree};
 ghost use Rattle.router.specs.Price.{netPrice};
 ghost use Rattle.router.specs.Bought.{checkedTree};
-ghost use Rattle.netfile.specs.Layout.{fileBytes};
+ghost use Rattle.encoded.specs.Layout.{fileBytes};
+ghost use Rattle.decoded.specs.Held.{pinsIn, macrosIn};
 ghost use Rattle.netfile.specs.Write.{written};
-ghost use Rattle.netfile.specs.Read.{pinsIn, macrosIn, readFile};
+ghost use Rattle.netfile.specs.Read.{readFile};
 ghost use Rattle.exports.specs.Handed.{GraphHanded, PathsHanded, TreeHanded, BestHanded, ListHanded, SquareHanded};
 ghost use Rattle.exports.specs.Handed.{ChargeHanded, SumsHanded, NetHanded};
 

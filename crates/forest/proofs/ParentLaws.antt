@@ -164,7 +164,8 @@ module _ (g : Graph) (n : ℕ) (t : Labels) (small : n ≤ pointBound) where
             parentAmong g t v (from (k + 1) (g .count - (k + 1))) (at (both n t (one g k) (two g k) k (len g k) p (o .sized)) v)
             ≡ parent g t v
         next v i =
-            ap (parentAmong g t v (from (k + 1) (g .count - (k + 1)))) (adopt-both n t (one g k) (two g k) k (len g k) p (o .sized) v i (omega arith))
+            ap (parentAmong g t v (from (k + 1) (g .count - (k + 1))))
+            (adopt-both n t (one g k) (two g k) k (len g k) p (o .sized) v i (omega arith))
             ∙ ap (λ (l : List ℕ). parentAmong g t v l (at p v)) (sym (from-next k (g .count) h)) ∙ o .inside v i
 
     pub adopt-end : g .count ≤ k → p ≡ parented g n t

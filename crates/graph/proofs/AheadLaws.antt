@@ -23,7 +23,7 @@ use Rattle.net.specs.Allowed.{Allowed}
 use Rattle.net.proofs.ApartLaws.{sides-in-order, overlap-one}
 use Rattle.graph.specs.Vertices.{cornersOf}
 use Rattle.graph.specs.Spanning.{verticesOf}
-use Rattle.graph.proofs.QuadrantLaws.{InFirst, InFourth, Ahead, compare, first-ahead, fourth-ahead}
+use Rattle.picks.proofs.QuadrantLaws.{InFirst, InFourth, Ahead, compare, first-ahead, fourth-ahead}
 use Rattle.graph.proofs.VertexLaws.{lower-left, upper-left, lower-right, upper-right, corner-vertex}
 use Rattle.graph.proofs.OutsideLaws.{vertex-outside}
 

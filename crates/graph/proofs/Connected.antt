@@ -18,15 +18,15 @@ use Rattle.plane.specs.declared.Place.{Place}
 use Rattle.plane.proofs.PlaceOrder.{place-same}
 use Rattle.net.specs.Net.{Net}
 use Rattle.net.specs.Allowed.{Allowed}
-use Rattle.graph.specs.declared.Quadrant.{Quadrant}
-use Rattle.graph.specs.declared.Quadrant.the-variants.{First, Fourth}
-use Rattle.graph.specs.declared.Picked.{Picked}
-use Rattle.graph.specs.declared.Picked.the-variants.{At, Nothing}
-use Rattle.graph.specs.Pick.{within, pick}
+use Rattle.picks.specs.declared.Quadrant.{Quadrant}
+use Rattle.picks.specs.declared.Quadrant.the-variants.{First, Fourth}
+use Rattle.picks.specs.declared.Picked.{Picked}
+use Rattle.picks.specs.declared.Picked.the-variants.{At, Nothing}
+use Rattle.picks.specs.Pick.{within, pick}
 use Rattle.graph.specs.Spanning.{verticesOf, spanning}
-use Rattle.graph.proofs.QuadrantLaws.{Ahead, ahead-along, ahead-never, ahead-total, first-or-fourth-ahead, ahead-first-or-fourth}
+use Rattle.picks.proofs.QuadrantLaws.{Ahead, ahead-along, ahead-never, ahead-total, first-or-fourth-ahead, ahead-first-or-fourth}
 use Rattle.graph.proofs.VertexLaws.{vertices-ascending}
-use Rattle.graph.proofs.PickLaws.{Fit, pick-at, pick-nothing}
+use Rattle.picks.proofs.PickLaws.{Fit, pick-at, pick-nothing}
 use Rattle.graph.proofs.EdgeLaws.{picked-link}
 use Rattle.graph.proofs.AheadLaws.{ClearAhead, clear-ahead, lowest}
 

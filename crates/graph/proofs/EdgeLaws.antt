@@ -26,15 +26,15 @@ use Rattle.plane.specs.Macro.{clear}
 use Rattle.plane.proofs.PlaceOrder.{place-order}
 use Rattle.plane.proofs.CostLaws.{cost-comm, cost-none}
 use Rattle.plane.proofs.MacroLaws.{clear-comm}
-use Rattle.graph.specs.declared.Quadrant.{Quadrant}
-use Rattle.graph.specs.declared.Quadrant.the-variants.{First, Second, Third, Fourth}
-use Rattle.graph.specs.declared.Picked.{Picked}
-use Rattle.graph.specs.declared.Picked.the-variants.{At, Nothing}
-use Rattle.graph.specs.Pick.{pick}
+use Rattle.picks.specs.declared.Quadrant.{Quadrant}
+use Rattle.picks.specs.declared.Quadrant.the-variants.{First, Second, Third, Fourth}
+use Rattle.picks.specs.declared.Picked.{Picked}
+use Rattle.picks.specs.declared.Picked.the-variants.{At, Nothing}
+use Rattle.picks.specs.Pick.{pick}
 use Rattle.graph.specs.Edges.{edgeOf, beforeEdge, edgeOfPick, picksOf, allPicks, edges}
 use Rattle.graph.proofs.GraphSteps.{picks-none, picks-more, picks-few}
-use Rattle.graph.proofs.QuadrantLaws.{within-differs}
-use Rattle.graph.proofs.PickLaws.{pick-at}
+use Rattle.picks.proofs.QuadrantLaws.{within-differs}
+use Rattle.picks.proofs.PickLaws.{pick-at}
 
 -- The order of edges, and the edge of two places
 
@@ -103,14 +103,16 @@ module _ (w : Weights) (ms : List Macro) (vs : List Place) where
   pub of-edges : {e : Place × Place} → e ∈ edges w ms vs → OfPick e
   unfolding edges
   of-edges m =
-      let p = of-each (picksOf w ms vs) (allPicks w ms vs) (picks-none w ms vs) (picks-more w ms vs) vs (of-sorted beforeEdge (allPicks w ms vs vs) _ m) in
+      let p = of-each (picksOf w ms vs) (allPicks w ms vs) (picks-none w ms vs) (picks-more w ms vs) vs
+      (of-sorted beforeEdge (allPicks w ms vs vs) _ m) in
       of-picks (p .entry) (p .stands) (p .holds)
 
   pub pick-edge : {u v : Place} → PickedBy u v → edgeOf u v ∈ edges w ms vs
   unfolding edges
   pick-edge {u} {v} p =
       in-sorted beforeEdge edge-order (allPicks w ms vs vs) _
-      (in-each (picksOf w ms vs) (allPicks w ms vs) (picks-none w ms vs) (picks-more w ms vs) vs (p .stands) (in-picks (p .quadrant) u v (p .picks)))
+      (in-each (picksOf w ms vs) (allPicks w ms vs) (picks-none w ms vs) (picks-more w ms vs) vs (p .stands)
+      (in-picks (p .quadrant) u v (p .picks)))
 
   pub in-edges : {e : Place × Place} → OfPick e → e ∈ edges w ms vs
   in-edges r = Memᴰ·cast (r .is) (pick-edge (r .picked))

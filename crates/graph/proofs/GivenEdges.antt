@@ -1,20 +1,15 @@
--- Edges put into lent space row by row: the start, a turn and the end of a row, and of all rows. Before that, the table of picks that they
--- are read from, and stores one after the other.
+-- Edges put into lent space row by row: the start, a turn and the end of a row, and of all rows. Before that, stores one after the other.
 -- Assumes nothing.
 use mathlib.Core.Path.{_≡_, refl, sym, ap, ap₂, _∙_}
 use mathlib.Core.Bool.{true, false}
 use mathlib.Core.List.{List, [], _∷_, _++_, append-assoc, append-nil}
-use Prim.Native.Nat.{ℕ, zero, suc, _+_, _-_, _*_, _/_, _≤_, _<_}
-use native.Mathlib.Nat.{add-zero}
+use Prim.Native.Nat.{ℕ, suc, _+_, _-_, _*_, _/_, _≤_, _<_}
 use native.Mathlib.Numerals.{add-one}
 use native.Mathlib.Omega.{arith}
-use borrow.Author.Tests.{ltb-true, ltb-false}
-use lib.Dec.{ltb}
 use lib.IntN.{ℤ}
-use lib.ListN.{length, getD, set, length-append, length-set}
-use lib.Seq.{sets, getD-set-same, getD-set-other}
+use lib.ListN.{length, set, length-append}
+use lib.Seq.{sets}
 use Rattle.lists.specs.Sorted.{Ascending}
-use Rattle.lists.proofs.TestLaws.{by}
 use Rattle.lent.specs.Over.{over}
 use Rattle.lent.specs.Entries.{flat}
 use Rattle.lent.proofs.OverLaws.{over-none, over-more}
@@ -25,18 +20,13 @@ use Rattle.plane.specs.declared.Weights.{Weights}
 use Rattle.plane.specs.Place.{before}
 use Rattle.plane.specs.Flat.{placesOf, placeAt}
 use Rattle.plane.proofs.FlatLaws.{length-places}
-use Rattle.net.specs.Bounds.{pointBound, edgeBound}
-use Rattle.graph.specs.declared.Quadrant.{Quadrant}
-use Rattle.graph.specs.declared.Quadrant.the-variants.{First, Second, Third, Fourth}
-use Rattle.graph.specs.declared.TwoPicks.{TwoPicks}
 use Rattle.graph.specs.Numbers.{edgeNumbers, edgeFrom}
-use Rattle.graph.specs.Pick.{pick}
-use Rattle.graph.specs.Pass.{vertexPicked}
 use Rattle.graph.specs.Edges.{edges}
-use Rattle.graph.specs.Links.{column, fourPicks, PicksHeld, isLinked, rowFrom, row, rows}
+use Rattle.links.specs.Links.{PicksHeld, isLinked, rowFrom, row, rows}
+use Rattle.links.proofs.LinkLaws.{row-none, row-hit, row-miss, rows-none, rows-more}
 use Rattle.graph.proofs.WidthLaws.{edge-width}
 use Rattle.graph.proofs.EdgeLaws.{length-edges}
-use Rattle.graph.proofs.LinkLaws.{row-none, row-hit, row-miss, rows-none, rows-more, rows-are-edges}
+use Rattle.graph.proofs.RowLaws.{rows-are-edges}
 
 -- Stores one after the other
 
@@ -46,75 +36,14 @@ module _ {X : Type 0} where
   sets-append l i j (x ∷ xs) ys e = sets-append (set l i x) (suc i) j xs ys (omega arith)
 
   -- just past what is written
-  pub over-sets : (xs ys lent : List X) (k : ℕ) → length xs ≡ k → k + length ys ≤ length lent → sets (over xs lent) k ys ≡ over (xs ++ ys) lent
+  pub over-sets : (xs ys lent : List X) (k : ℕ) → length xs ≡ k → k + length ys ≤ length lent
+      → sets (over xs lent) k ys ≡ over (xs ++ ys) lent
   over-sets xs [] lent k e h = ap (λ (l : List X). over l lent) (sym (append-nil xs))
   over-sets xs (y ∷ ys) lent k e h =
       let n : length (xs ++ (y ∷ [])) ≡ suc k = length-append xs (y ∷ []) ∙ omega (arith, e) in
       ap (λ (l : List X). sets l (suc k) ys) (over-more xs lent k y e (omega arith))
       ∙ over-sets (xs ++ (y ∷ [])) ys lent (suc k) n (omega arith)
       ∙ ap (λ (l : List X). over l lent) (append-assoc xs (y ∷ []) ys)
-
-  pub length-sets : (l : List X) (i : ℕ) (xs : List X) → length (sets l i xs) ≡ length l
-  length-sets l i [] = refl
-  length-sets l i (x ∷ xs) = length-sets (set l i x) (suc i) xs ∙ length-set l i x
-
-  -- what stands before them stays, and they are read back
-  sets-before : (l : List X) (i : ℕ) (xs : List X) (j : ℕ) (d : X) → j < i → getD (sets l i xs) j d ≡ getD l j d
-  sets-before l i [] j d h = refl
-  sets-before l i (x ∷ xs) j d h = sets-before (set l i x) (suc i) xs j d (omega arith) ∙ getD-set-other l i j x d (λ e. omega arith)
-
-  sets-at : (l : List X) (i : ℕ) (xs : List X) (c : ℕ) (d : X) → c < length xs → i + length xs ≤ length l → getD (sets l i xs) (i + c) d ≡ getD xs c d
-  sets-at l i [] c d h r = absurd (let z : ⊥ = omega arith in z)
-  sets-at l i (x ∷ xs) zero d h r =
-      ap (λ (k : ℕ). getD (sets (set l i x) (suc i) xs) k d) (add-zero i)
-      ∙ sets-before (set l i x) (suc i) xs i d (omega arith)
-      ∙ getD-set-same l i x d (omega arith)
-  sets-at l i (x ∷ xs) (suc c) d h r =
-      let n : i + suc c ≡ suc i + c = omega arith in
-      ap (λ (k : ℕ). getD (sets (set l i x) (suc i) xs) k d) n
-      ∙ sets-at (set l i x) (suc i) xs c d (omega arith) (omega (arith, length-set l i x))
-
--- The table of picks
-
-column-small : (q : Quadrant) → column q < 4
-unfolding column
-column-small First = omega arith
-column-small Second = omega arith
-column-small Third = omega arith
-column-small Fourth = omega arith
-
-module _ (w : Weights) (ms : List Macro) (s : List ℤ) where
-  pub held-none : (picked : List ℕ) → PicksHeld w ms s picked 0
-  held-none picked = record { held = λ k h q. absurd (let z : ⊥ = omega arith in z) }
-
-  module _ (k : ℕ) (above below : TwoPicks)
-      (first : vertexPicked s (above .right) ≡ pick w ms First (placeAt s k) (placesOf s))
-      (second : vertexPicked s (above .left) ≡ pick w ms Second (placeAt s k) (placesOf s))
-      (third : vertexPicked s (below .left) ≡ pick w ms Third (placeAt s k) (placesOf s))
-      (fourth : vertexPicked s (below .right) ≡ pick w ms Fourth (placeAt s k) (placesOf s)) where
-    fresh : (q : Quadrant) → vertexPicked s (getD (fourPicks above below) (column q) 0) ≡ pick w ms q (placeAt s k) (placesOf s)
-    unfolding column
-    fresh First = first
-    fresh Second = second
-    fresh Third = third
-    fresh Fourth = fourth
-
-    pub held-more : (picked : List ℕ) → length picked ≡ edgeBound → k < pointBound → PicksHeld w ms s picked k
-        → PicksHeld w ms s (sets picked (k * 4) (fourPicks above below)) (k + 1)
-    held-more picked e l p = record {
-      held = λ j h q.
-          by (ltb j k)
-          (λ t.
-          ap (vertexPicked s)
-          (sets-before picked (k * 4) (fourPicks above below) (j * 4 + column q) 0 (omega (arith, ltb-true j k t, column-small q)))
-          ∙ p .held j (ltb-true j k t) q)
-          (λ t.
-          let n : j ≡ k = omega (arith, h, ltb-false j k t) in
-          ap (λ (i : ℕ). vertexPicked s (getD (sets picked (k * 4) (fourPicks above below)) (i * 4 + column q) 0)) n
-          ∙ ap (vertexPicked s) (sets-at picked (k * 4) (fourPicks above below) (column q) 0 (column-small q) (omega (arith, e, l)))
-          ∙ fresh q
-          ∙ ap (λ (i : ℕ). pick w ms q (placeAt s i) (placesOf s)) (sym n));
-    }
 
 abbrev pub Edge : Type 0
 Edge = Place × Place
@@ -198,8 +127,11 @@ module _ (picked : List ℕ) (s : List ℤ) (n a i : ℕ) (lent : List ℤ) wher
         ∙ g .goal
 
     pub row-end : (count ≡ i + length (row picked s a n)) × (table ≡ sets lent (i * 4) (flat edgeNumbers (row picked s a n)))
-    row-end =
-        (g .counted ∙ ap (λ (l : List Edge). i + length l) whole, g .written ∙ ap (λ (l : List Edge). sets lent (i * 4) (flat edgeNumbers l)) whole)
+    row-end = (
+      g .counted ∙ ap (λ (l : List Edge). i + length l) whole,
+      g .written
+          ∙ ap (λ (l : List Edge). sets lent (i * 4) (flat edgeNumbers l)) whole,
+    )
 
 -- All rows
 

@@ -1,5 +1,5 @@
 -- The graph of a net: its edges are ascending and join vertices. Of an allowed net vertices have their coordinates in range, an edge costs
--- from 1 to 32,000,000, and there are at most 320 vertices and 1,280 edges.
+-- from 1 to 32,000,000, and there are at most 640 vertices and 2,560 edges.
 -- Assumes nothing.
 use Prim.Native.Nat.{_≤_}
 use native.Mathlib.Omega.{arith}

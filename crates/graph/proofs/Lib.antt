@@ -2,13 +2,9 @@ pub mod GraphSteps
 pub mod WidthLaws
 pub mod ReadBack
 pub mod WorkedGraphs
-pub mod QuadrantLaws
 pub mod VertexLaws
-pub mod PickLaws
-pub mod VertexNumbers
-pub mod PassLaws
 pub mod EdgeLaws
-pub mod LinkLaws
+pub mod RowLaws
 pub mod GivenEdges
 pub mod OutsideLaws
 pub mod AheadLaws

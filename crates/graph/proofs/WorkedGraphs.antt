@@ -16,7 +16,7 @@ use Rattle.net.specs.Pins.{pinPlaces}
 use Rattle.net.specs.Net.{netWith}
 use Rattle.net.specs.WorkedNets.{Lists, onePin, aroundOne, threePins, sharedSide, onSides, onBoundary}
 use Rattle.graph.specs.Vertices.{cornersOf, corners, vertices}
-use Rattle.graph.specs.Pick.{within, nearer, better, pickFrom, pick}
+use Rattle.picks.specs.Pick.{within, nearer, better, pickFrom, pick}
 use Rattle.graph.specs.Edges.{edgeOf, beforeEdge, edgeOfPick, picksOf, allPicks, edges}
 use Rattle.graph.specs.Spanning.{spanning}
 

@@ -6,10 +6,10 @@ use Rattle.plane.specs.declared.Place.{Place}
 use Rattle.plane.specs.declared.Macro.{Macro}
 use Rattle.plane.specs.declared.Weights.{Weights}
 use Rattle.plane.specs.Place.{before}
-use Rattle.graph.specs.declared.Quadrant.the-variants.{First, Second, Third, Fourth}
-use Rattle.graph.specs.declared.Picked.{Picked}
-use Rattle.graph.specs.declared.Picked.the-variants.{At, Nothing}
-use Rattle.graph.specs.Pick.{pick}
+use Rattle.picks.specs.declared.Quadrant.the-variants.{First, Second, Third, Fourth}
+use Rattle.picks.specs.declared.Picked.{Picked}
+use Rattle.picks.specs.declared.Picked.the-variants.{At, Nothing}
+use Rattle.picks.specs.Pick.{pick}
 
 -- N16: an edge has its smaller place first
 unfoldable pub edgeOf : Place → Place → Place × Place

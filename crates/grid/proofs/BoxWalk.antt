@@ -24,7 +24,7 @@ use Rattle.plane.proofs.DistanceLaws.{apart-self, apart-ordered, apart-comm, di
 use Rattle.plane.specs.Box.{Between, InBox}
 use Rattle.plane.proofs.BoxLaws.{first-in-box, last-in-box, clear-within, distance-through}
 use Rattle.grid.specs.Walk.{Walk, stop, go, Exactly}
-use Rattle.grid.specs.Lines.{GridStep, across, along, UnitStep, ClearStep}
+use Rattle.lines.specs.Lines.{GridStep, across, along, UnitStep, ClearStep}
 use Rattle.plane.proofs.CostLaws.{cost-comm, cost-through, cost-self}
 use Rattle.grid.proofs.WalkLaws.{walk-map, walk-each}
 

@@ -16,8 +16,8 @@ use Rattle.plane.specs.declared.Macro.{Macro}
 use Rattle.plane.specs.Place.{place}
 use Rattle.plane.specs.Macro.{meets, clear}
 use Rattle.plane.proofs.MeetLaws.{Hits, hits-up, hits-meets, clear-of}
-use Rattle.grid.specs.Lines.{Neighbours, Sides}
-use Rattle.grid.proofs.LineLaws.{About}
+use Rattle.lines.specs.Lines.{Neighbours, Sides}
+use Rattle.lines.proofs.LineLaws.{About}
 
 -- a number at a side of an open span that a line is in: the number is in it too
 module _ (L : List ℤ) (b y from to : ℤ) (a : About L b y) where

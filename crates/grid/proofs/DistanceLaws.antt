@@ -18,13 +18,13 @@ use Rattle.joined.proofs.WayLaws.{way-joined, joined-way, turned-way, turned-lo
 use Rattle.plane.proofs.CostLaws.{cost-comm}
 use Rattle.net.specs.Net.{Net, costIn}
 use Rattle.grid.specs.Walk.{Walk, Exactly}
-use Rattle.grid.specs.Lines.{xLines, yLines, Crossing, UnitStep, ClearStep}
-use Rattle.grid.specs.Edges.{gridEdges}
+use Rattle.lines.specs.Lines.{xLines, yLines, Crossing, UnitStep, ClearStep}
+use Rattle.lines.specs.Edges.{gridEdges}
 use Rattle.grid.specs.Distance.{GridDistance, TrueDistance}
 use Rattle.grid.proofs.WalkLaws.{walk-map, walk-way, way-walk}
 use Rattle.grid.proofs.Retract.{retract}
 use Rattle.grid.proofs.BoxWalk.{clear-walk, grid-walk}
-use Rattle.grid.proofs.EdgeLaws.{lines-sides, pin-crossing, grid-link, link-grid}
+use Rattle.lines.proofs.EdgeLaws.{lines-sides, pin-crossing, grid-link, link-grid}
 
 -- a place on two lines of the net
 abbrev pub IsCrossing : Net → Place → Type 0

@@ -18,7 +18,7 @@ use Rattle.lists.proofs.MapLaws.{getD-map}
 use Rattle.lent.specs.Over.{over}
 use Rattle.lent.proofs.OverLaws.{over-none}
 use Rattle.terminal.proofs.FillLaws.{over-sets}
-use Rattle.grid.specs.Bounds.{crossingBound, unreached}
+use Rattle.lines.specs.Bounds.{crossingBound, unreached}
 use Rattle.grid.specs.Rows.{at}
 use Rattle.grid.specs.Tables.{Starts, picked, Settled, RowPut, RowsOver}
 

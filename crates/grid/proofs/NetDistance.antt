@@ -35,21 +35,22 @@ use Rattle.graph.proofs.VertexLaws.{pin-vertex, vertices-ascending}
 use Rattle.graph.proofs.EdgeLaws.{edge-of}
 use Rattle.graph.proofs.Connected.{connected}
 use Rattle.terminal.proofs.NumberLaws.{apart-once}
-use Rattle.grid.specs.declared.Grid.{Grid}
-use Rattle.grid.specs.declared.Axis.{Axis}
-use Rattle.grid.specs.declared.Axis.the-variants.{Across, Along}
-use Rattle.grid.specs.Bounds.{gridPins, gridMacros, lineBound, crossingBound, unreached}
-use Rattle.grid.specs.Lines.{linesOf, xLines, yLines}
-use Rattle.grid.specs.Edges.{gridEdges}
-use Rattle.grid.specs.Crossings.{isCrossing, crossingNumber}
+use Rattle.lines.specs.declared.Grid.{Grid}
+use Rattle.lines.specs.declared.Axis.{Axis}
+use Rattle.lines.specs.declared.Axis.the-variants.{Across, Along}
+use Rattle.lines.specs.Bounds.{gridPins, gridMacros, lineBound, crossingBound, unreached}
+use Rattle.lines.specs.Lines.{linesOf, xLines, yLines}
+use Rattle.lines.specs.Edges.{gridEdges}
+use Rattle.lines.specs.Crossings.{isCrossing, crossingNumber}
 use Rattle.grid.specs.Rows.{at, Held, Quiet, Below}
 use Rattle.grid.specs.Nearest.{Nearest}
-use Rattle.grid.specs.Tables.{FewLines, crossingAt, isSegment, Priced, CostsTo, Fits, Near, Starts, Settled, RowsOver}
+use Rattle.lines.specs.Tables.{FewLines}
+use Rattle.grid.specs.Tables.{crossingAt, isSegment, Priced, CostsTo, Fits, Near, Starts, Settled, RowsOver}
 use Rattle.grid.specs.Distance.{GridDistance, pinsInOrder, pinInOrder, SquareOver}
-use Rattle.grid.proofs.AxisLaws.{cost-length}
-use Rattle.grid.proofs.EdgeLaws.{pin-crossing, x-ascending, y-ascending}
-use Rattle.grid.proofs.CrossingLaws.{is-crossing, crossing-is, numbers-single, number-below, ends-crossings}
-use Rattle.grid.proofs.GridCost.{line-count, line-range, grid-cost}
+use Rattle.lines.proofs.AxisLaws.{cost-length}
+use Rattle.lines.proofs.EdgeLaws.{pin-crossing, x-ascending, y-ascending}
+use Rattle.lines.proofs.CrossingLaws.{is-crossing, crossing-is, numbers-single, number-below, ends-crossings}
+use Rattle.lines.proofs.GridCost.{line-count, line-range, grid-cost}
 use Rattle.grid.proofs.DistanceLaws.{grid-joins, grid-turn}
 use Rattle.grid.proofs.NearestLaws.{nearest-least, nearest-way, nearest-joined}
 use Rattle.grid.proofs.RowLaws.{held-near, quiet-near}

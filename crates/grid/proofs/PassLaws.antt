@@ -12,7 +12,7 @@ use lib.Dec.{ltb}
 use lib.ListN.{length, getD}
 use Rattle.lists.specs.Total.{total}
 use Rattle.lists.proofs.TestLaws.{by, differ, either, or-none}
-use Rattle.grid.specs.Bounds.{crossingBound}
+use Rattle.lines.specs.Bounds.{crossingBound}
 use Rattle.grid.specs.Rows.{at, lowered, Held, Quiet}
 use Rattle.grid.proofs.RowLaws.{lowered-miss, lowered-less, held-start, held-lowered, held-then}
 use Rattle.grid.specs.Tables.{target, Row, Fits, Reads, Near, lowers, LoweredEdge, Passed}

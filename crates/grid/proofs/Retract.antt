@@ -24,9 +24,9 @@ use Rattle.plane.specs.Macro.{clear}
 use Rattle.plane.proofs.DistanceLaws.{apart-comm}
 use Rattle.plane.proofs.MacroLaws.{clear-comm}
 use Rattle.grid.specs.Walk.{Walk, stop, go, Within}
-use Rattle.grid.specs.Lines.{Sides, Crossing, Beside, GridStep, across, along, UnitStep}
-use Rattle.grid.proofs.LineLaws.{About, about-itself, about-line, Moved, stays, rises, falls, moved}
-use Rattle.grid.proofs.AxisLaws.{axis-comm, axis-self, axis-one, axis-le, axis-more, unit-axes}
+use Rattle.lines.specs.Lines.{Sides, Crossing, Beside, GridStep, across, along, UnitStep}
+use Rattle.lines.proofs.LineLaws.{About, about-itself, about-line, Moved, stays, rises, falls, moved}
+use Rattle.lines.proofs.AxisLaws.{axis-comm, axis-self, axis-one, axis-le, axis-more, unit-axes}
 use Rattle.grid.proofs.ClearLines.{clear-across, clear-along}
 
 module _ (xs ys : List ℤ) (ms : List Macro) (sides : Sides xs ys ms) (w : Weights) where

@@ -16,9 +16,10 @@ use Rattle.plane.specs.declared.Weights.{Weights}
 use Rattle.plane.specs.Cost.{cost}
 use Rattle.plane.specs.Macro.{clear}
 use Rattle.net.specs.Bounds.{costBound}
-use Rattle.grid.specs.declared.Grid.{Grid}
-use Rattle.grid.specs.Bounds.{lineBound, crossingBound}
-use Rattle.grid.specs.Tables.{FewLines, crossingAt, target, isSegment, segmentCost, edgeCost, Priced}
+use Rattle.lines.specs.declared.Grid.{Grid}
+use Rattle.lines.specs.Bounds.{lineBound, crossingBound}
+use Rattle.lines.specs.Tables.{FewLines}
+use Rattle.grid.specs.Tables.{crossingAt, target, isSegment, segmentCost, edgeCost, Priced}
 
 -- Where a segment leads
 

@@ -25,10 +25,10 @@ use Rattle.plane.proofs.PlaceOrder.{place-order}
 use Rattle.net.specs.Net.{Net}
 use Rattle.net.specs.Allowed.{Allowed}
 use Rattle.graph.specs.Spanning.{spanning}
-use Rattle.grid.specs.Lines.{UnitStep}
+use Rattle.lines.specs.Lines.{UnitStep}
 use Rattle.grid.specs.Distance.{TrueDistance, pinsInOrder, pinInOrder, entryAt, Square, TrueSquare}
 use Rattle.grid.proofs.WalkLaws.{walk-map}
-use Rattle.grid.proofs.EdgeLaws.{pin-crossing}
+use Rattle.lines.proofs.EdgeLaws.{pin-crossing}
 use Rattle.grid.proofs.DistanceLaws.{no-way-cheaper, grid-true, grid-only, true-only, grid-turn, grid-self}
 use Rattle.grid.proofs.NetDistance.{spanning-clear, pins-joined, order-count}
 

@@ -29,14 +29,15 @@ use Rattle.plane.specs.Macro.{clear}
 use Rattle.plane.proofs.MacroLaws.{clear-comm}
 use Rattle.plane.proofs.CostLaws.{cost-comm, cost-none}
 use Rattle.net.specs.Net.{Net, costIn}
-use Rattle.grid.specs.declared.Grid.{Grid}
-use Rattle.grid.specs.Bounds.{lineBound, unreached}
-use Rattle.grid.specs.Lines.{xLines, yLines, Neighbours, Beside, GridStep, across, along}
-use Rattle.grid.specs.Edges.{nexts, gridEdges}
-use Rattle.grid.specs.Crossings.{isCrossing, crossingNumber}
-use Rattle.grid.specs.Tables.{FewLines, crossingAt, target, isSegment, segmentCost, CostsTo, Reads, Near}
-use Rattle.grid.proofs.LineLaws.{line-order}
-use Rattle.grid.proofs.EdgeLaws.{in-nexts, of-nexts, x-ascending, y-ascending, grid-link, link-grid}
+use Rattle.lines.specs.declared.Grid.{Grid}
+use Rattle.lines.specs.Bounds.{lineBound, unreached}
+use Rattle.lines.specs.Lines.{xLines, yLines, Neighbours, Beside, GridStep, across, along}
+use Rattle.lines.specs.Edges.{nexts, gridEdges}
+use Rattle.lines.specs.Crossings.{isCrossing, crossingNumber}
+use Rattle.lines.specs.Tables.{FewLines}
+use Rattle.grid.specs.Tables.{crossingAt, target, isSegment, segmentCost, CostsTo, Reads, Near}
+use Rattle.lines.proofs.LineLaws.{line-order}
+use Rattle.lines.proofs.EdgeLaws.{in-nexts, of-nexts, x-ascending, y-ascending, grid-link, link-grid}
 use Rattle.grid.proofs.SegmentLaws.{target-even, target-odd, segment-clear, segment-met, even-segment, odd-segment, segment-inside}
 use Rattle.grid.proofs.SegmentLaws.{edge-none, edge-there}
 use Rattle.grid.proofs.Spread.{NearOf}

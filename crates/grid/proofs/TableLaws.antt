@@ -11,7 +11,7 @@ use lib.ListN.{length, getD, set, take, length-map}
 use lib.Seq.{sets, take-suc, length-take-le, getD-set-same, getD-set-other}
 use Rattle.plane.specs.declared.Macro.{Macro}
 use Rattle.plane.specs.declared.Weights.{Weights}
-use Rattle.grid.specs.declared.Grid.{Grid}
+use Rattle.lines.specs.declared.Grid.{Grid}
 use Rattle.grid.specs.Rows.{at}
 use Rattle.grid.specs.Tables.{edgeCost, CostsTo, picked}
 

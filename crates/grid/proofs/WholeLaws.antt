@@ -17,14 +17,15 @@ use Rattle.net.specs.Pins.{pinCount, pinPlaces, macroCount}
 use Rattle.net.specs.Net.{Net, netWith}
 use Rattle.net.specs.Allowed.{Allowed}
 use Rattle.net.proofs.PinLaws.{length-pins}
-use Rattle.grid.specs.declared.Grid.{Grid}
-use Rattle.grid.specs.declared.Axis.{Axis}
-use Rattle.grid.specs.declared.Axis.the-variants.{Across, Along}
-use Rattle.grid.specs.Bounds.{gridPins, gridMacros, lineBound, crossingBound}
-use Rattle.grid.specs.Lines.{linesOf}
-use Rattle.grid.specs.Crossings.{crossingNumber}
+use Rattle.lines.specs.declared.Grid.{Grid}
+use Rattle.lines.specs.declared.Axis.{Axis}
+use Rattle.lines.specs.declared.Axis.the-variants.{Across, Along}
+use Rattle.lines.specs.Bounds.{gridPins, gridMacros, lineBound, crossingBound}
+use Rattle.lines.specs.Lines.{linesOf}
+use Rattle.lines.specs.Crossings.{crossingNumber}
 use Rattle.grid.specs.Rows.{Below}
-use Rattle.grid.specs.Tables.{FewLines, Priced, CostsTo, Fits, Near, RowsOver}
+use Rattle.lines.specs.Tables.{FewLines}
+use Rattle.grid.specs.Tables.{Priced, CostsTo, Fits, Near, RowsOver}
 use Rattle.grid.specs.Distance.{SquareOver}
 use Rattle.grid.proofs.TableGrid.{Made}
 use Rattle.grid.proofs.NetDistance.{over-at, zeros-read, few-lines, lines-priced, costs-fit, numbers-below, numbers-count}

@@ -21,8 +21,8 @@ use Rattle.plane.specs.Macro.{macro, spanMeets, meets, clear}
 use Rattle.plane.proofs.CostLaws.{cost-self, cost-triangle}
 use Rattle.net.specs.Net.{Net, costIn}
 use Rattle.grid.specs.Walk.{Walk, stop, go}
-use Rattle.grid.specs.Lines.{coordinate, sides, marks, linesOf, xLines, yLines}
-use Rattle.grid.specs.Edges.{nexts, row, column, rows, columns, edgesOf, gridEdges}
+use Rattle.lines.specs.Lines.{coordinate, sides, marks, linesOf, xLines, yLines}
+use Rattle.lines.specs.Edges.{nexts, row, column, rows, columns, edgesOf, gridEdges}
 use Rattle.grid.specs.Distance.{TrueDistance}
 use Rattle.grid.proofs.BoxWalk.{box-walk}
 
@@ -53,7 +53,8 @@ lines-along = refl
 
 -- what has to be unfolded to count edges
 unfoldable pub edgeCount : Net → ℕ
-unfolding gridEdges edgesOf rows columns row column nexts linesOf marks sides coordinate sorted put those clear any meets spanMeets minZ maxZ
+unfolding gridEdges edgesOf rows columns row column nexts linesOf marks sides coordinate sorted put those clear any meets spanMeets minZ
+    maxZ
 edgeCount net = length (gridEdges net)
 
 -- 4 rows of 2 and 3 columns of 3

@@ -14,8 +14,8 @@ use Rattle.plane.specs.Place.{place, before}
 use Rattle.net.specs.Net.{Net, costIn}
 use Rattle.graph.specs.Spanning.{spanning}
 use Rattle.grid.specs.Walk.{Walk}
-use Rattle.grid.specs.Lines.{UnitStep}
-use Rattle.grid.specs.Edges.{gridEdges}
+use Rattle.lines.specs.Lines.{UnitStep}
+use Rattle.lines.specs.Edges.{gridEdges}
 
 -- L5: n is the cheapest cost of p and q along the grid: a way along its edges costs just that, and none costs less
 pub record GridDistance (net : Net) (p q : Place) (n : ℕ) : Type 0 where

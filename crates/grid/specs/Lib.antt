@@ -1,26 +1,14 @@
--- The grid of a net, and the true distance of its pins on it (L1 to L8).
+-- The true distance of a net's pins on its grid (L4 to L8), whose lines, crossings and edges are crate lines'.
 --
--- The grid has a line for each coordinate of a pin or a macro's side; neighbouring crossings are joined where the segment between them
--- meets no interior. The table that is given has the cheapest cost along these edges between each two pins. That it is true is a theorem:
--- no walk in unit steps, each clear of the interiors, is cheaper, on the die or off it, and one costs just that.
+-- The table that is given has the cheapest cost along these edges between each two pins. That it is true is a theorem: no walk in unit
+-- steps, each clear of the interiors, is cheaper, on the die or off it, and one costs just that.
 --
--- Lines are lists of numbers in order, and neighbouring is that no line lies between: so what is shown of walks needs no table. A walk is a
--- list of places whose steps stand in any relation; unit steps, steps along the grid and clear edges share its laws.
+-- A walk is a list of places whose steps stand in any relation; unit steps, steps along the grid and clear edges share its laws.
 -- The program's rows are asked for properties and not for an equation with a machine: a row is not above its start, each number is its
 -- start or no less than over an edge (`Held`), and no edge lowers it any more (`Quiet`). Whatever order the edges are taken in, that fixes
--- the numbers. Tables have a fixed stride, room for 48 lines each way: an index is linear whatever the net. A row has a number for each of
--- 2,304 crossings.
+-- the numbers. A row has a number for each of 2,304 crossings.
 --
---   Bounds     gridPins, gridMacros                      16 and 16, the only literals
---              lineBound, crossingBound, segmentBound    what follows: 48, 2,304 and 4,608
---              unreached                                 1,536,000,001, above what all edges cost together
 --   Walk       Walk R x ps y, Within, Exactly            from x through ps to y, each step in R; of at most a cost, and of just a cost
---   Lines      coordinate axis p, sides, marks           a place's coordinate; the places whose coordinates are lines
---              linesOf axis pins ms, xLines, yLines      the lines in order, each once
---              Crossing, Neighbours, Beside              a place on two lines; two lines with none between
--- GridStep, UnitStep, ClearStep neighbouring crossings that are clear; one clear unit; two places clear of each other
---   Edges      gridEdges net                             the grid's edges as a list that computes
---   Crossings  isCrossing, crossingNumber                the test, and the number of a crossing: numbers go as places do
 --   Rows       lowered, Held, Quiet                      one number lowered; what became of a row; nothing is left to lower
 --   Nearest    Nearest G d cap p t                       a settled table of distances to p
 --   Tables     target, isSegment, edgeCost, CostsTo      segments by number, and what they cost: 0 where there is no edge
@@ -31,11 +19,7 @@
 --              pinsInOrder, entryAt, Square              the pins in the order of places, and the square table
 --              SquareOver net lent lent′                 such a table at the front of a lent list
 --              TrueSquare net numbers                    what is promised of it
-pub mod Bounds
 pub mod Walk
-pub mod Lines
-pub mod Edges
-pub mod Crossings
 pub mod Rows
 pub mod Nearest
 pub mod Tables

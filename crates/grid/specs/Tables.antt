@@ -3,16 +3,14 @@
 use mathlib.Core.Path.{_≡_}
 use mathlib.Core.Bool.{Bool, true, false, _&&_, _||_}
 use mathlib.Core.Logic.{_⊎_}
-use mathlib.Core.List.{List, [], _∷_, map}
+use mathlib.Core.List.{List, map}
 use Prim.Native.Nat.{ℕ, _+_, _*_, _/_, _%_, _≤_, _<_}
 use lib.Dec.{ltb, eqb}
 use lib.IntN.{ℤ, pos}
 use lib.ListN.{length, getD, take}
 use lib.Seq.{sets}
-use lib.Signed.{ltZ}
 use Rattle.lists.specs.Total.{total}
 use Rattle.lent.specs.Over.{over}
-use Rattle.lent.specs.Inserted.{Inserted}
 use Rattle.plane.specs.declared.Place.{Place}
 use Rattle.plane.specs.declared.Macro.{Macro}
 use Rattle.plane.specs.declared.Weights.{Weights}
@@ -20,27 +18,9 @@ use Rattle.plane.specs.Place.{place}
 use Rattle.plane.specs.Cost.{cost}
 use Rattle.plane.specs.Macro.{clear}
 use Rattle.net.specs.Bounds.{costBound}
-use Rattle.grid.specs.declared.Grid.{Grid}
-use Rattle.grid.specs.Bounds.{lineBound, crossingBound, segmentBound, unreached}
+use Rattle.lines.specs.declared.Grid.{Grid}
+use Rattle.lines.specs.Bounds.{lineBound, crossingBound, segmentBound, unreached}
 use Rattle.grid.specs.Rows.{at, lowered, Held, Quiet}
-
--- Lines
-
--- a line as one number of a table
-abbrev pub lineNumbers : ℤ → List ℤ
-lineNumbers z = z ∷ []
-
-abbrev pub lineFrom : List ℤ → ℕ → ℤ
-lineFrom s k = getD s k (pos 0)
-
--- lines put into a sorted table
-abbrev pub InsertedLines : List ℤ → ℕ → List ℤ → List ℤ → ℕ → Type 0
-InsertedLines = Inserted lineNumbers lineFrom 1 ltZ
-
--- no more lines than the tables have room for
-pub record FewLines (g : Grid) : Type 0 where
-  pub across : g .across ≤ lineBound
-  pub along : g .along ≤ lineBound
 
 -- Segments
 

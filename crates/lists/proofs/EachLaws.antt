@@ -1,5 +1,5 @@
--- A list made of a piece for each entry of another one: what it holds, how long it gets, and one entry more at the end. `all` is any function with the two equations
--- of such a list, so each definition of this form has the laws.
+-- A list made of a piece for each entry of another one: what it holds, how long it gets, and one entry more at the end. `all` is any
+-- function with the two equations of such a list, so each definition of this form has the laws.
 -- Assumes nothing.
 use mathlib.Core.Path.{_≡_, refl, sym, ap, _∙_}
 use mathlib.Core.List.{List, [], _∷_, _++_, append-assoc, append-nil}

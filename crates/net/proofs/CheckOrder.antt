@@ -22,7 +22,8 @@ use Rattle.plane.proofs.MacroLaws.{interiors-comm}
 use Rattle.plane.proofs.FlatLaws.{macros-flat, length-flat-macros}
 use Rattle.net.specs.Bounds.{pinWidth, macroWidth}
 use Rattle.net.specs.Pins.{pinPlaces, pinLoads, flatPins}
-use Rattle.net.specs.Check.{pinsMiscounted, pinsMiscountedWithin, macrosMiscounted, macrosMiscountedWithin, outOfRange, placeOut, noLoad}
+use Rattle.net.specs.Check.{pinsMiscounted, pinsMiscountedWithin, macrosMiscounted, macrosMiscountedWithin, outOfRange, placeOut}
+use Rattle.net.specs.Check.{noLoad}
 use Rattle.net.specs.Check.{pinsOutOfRange, notUpright, insideAny, checked, checkedWithin}
 use Rattle.net.specs.declared.Weighing.{Weighing}
 use Rattle.net.specs.Order.{SamePins, SamePlaces, SameMacros}

@@ -1,11 +1,11 @@
--- The answer of a read by its cases, each past the ones before it, and what the lists of a file are in the code's terms.
+-- The answer of a read by its cases, each past the ones before it.
 -- Assumes nothing.
-use mathlib.Core.Path.{_≡_, refl, sym, ap, ap₂, _∙_}
+use mathlib.Core.Path.{_≡_, refl, sym, _∙_}
 use mathlib.Core.Bool.{true, false}
 use mathlib.Core.List.{List}
-use Prim.Native.Nat.{ℕ, _+_, _/_, _%_, _≤_}
+use Prim.Native.Nat.{ℕ, _≤_}
 use native.Mathlib.Omega.{arith}
-use borrow.Author.Tests.{eqb-true, eqb-false, eq-eqb, ne-eqb, le-ltb, ltb-false, not-false}
+use borrow.Author.Tests.{ltb-false}
 use lib.IntN.{ℤ}
 use lib.ListN.{length}
 use Rattle.lists.proofs.TestLaws.{by, or-none}
@@ -13,82 +13,35 @@ use Rattle.lent.specs.Told.{Told, refused, given}
 use Rattle.lent.specs.Over.{after}
 use Rattle.lent.proofs.AfterLaws.{after-refused, told-apart}
 use Rattle.plane.specs.declared.Weights.{Weights}
+use Rattle.plane.specs.Flat.{placesOf}
+use Rattle.plane.proofs.FlatLaws.{length-places}
 use Rattle.net.specs.declared.Net.{Net as Counts}
 use Rattle.net.specs.Net.{handed}
-use Rattle.net.specs.Bounds.{Bounds, today, weightBound}
+use Rattle.net.specs.Bounds.{Bounds, today}
 use Rattle.net.specs.Check.{checkedWithin}
-use Rattle.net.proofs.PinLaws.{pin-numbers}
+use Rattle.net.specs.Pins.{flatPins}
+use Rattle.net.proofs.PinLaws.{pin-numbers, pin-count-flat}
 use Rattle.net.proofs.PassedLaws.{passed-all, pins-counted, macros-counted}
-use Rattle.netfile.specs.Sizes.{blockBytes, firstWeightWord, secondWeightWord, pinListBound, macroListBound, blocksFor}
-use Rattle.netfile.specs.Sizes.{fileBlocksWithin}
-use Rattle.netfile.specs.Layout.{fileBytes}
-use Rattle.netfile.specs.Read.{blocksMiscountedWithin, sumsWrong, headWord, pinLength, macroLength, numbersIn, storedIn, pinsIn}
-use Rattle.netfile.specs.Read.{macrosIn, sameNumbers, weightsIn, countsWrong, weightsMiswritten, headWrong, Sized, laidOutWithin}
-use Rattle.netfile.specs.Read.{answerWithin, answerIn, roomShort, roomShortWithin, readFileWithin}
-use Rattle.netfile.proofs.ReadLaws.{length-numbers}
+use Rattle.blocks.specs.Sizes.{pinListBound, macroListBound}
+use Rattle.encoded.specs.Layout.{stored, fileBytes}
+use Rattle.encoded.specs.Same.{sameNumbers}
+use Rattle.decoded.specs.Held.{blocksMiscountedWithin, sumsWrong, loadedIn, pinLength, macroLength, weightsIn, storedIn, pinsIn, macrosIn}
+use Rattle.decoded.specs.Held.{headWrong}
+use Rattle.netfile.specs.Read.{laidOutWithin, answerWithin, answerIn, roomShortWithin, roomShort, readFileWithin}
+use Rattle.encoded.proofs.StoredLaws.{stored-alone, length-alone, stored-few, bare-unloaded}
+use Rattle.decoded.proofs.HeldLaws.{in-with, in-alone, length-stored-in, length-macros-in, BlocksCounted, blocks-counted}
 
--- The lists of a file
+-- The lists of a file, and room for them
 
-pub stored-taken : (bytes : List ℕ) (n : ℕ) → n ≡ pinLength bytes → numbersIn bytes 1 0 n ≡ storedIn bytes
-unfolding storedIn
-stored-taken bytes n e = ap (numbersIn bytes 1 0) e
-
-pub macros-taken : (bytes : List ℕ) (n k b : ℕ) → n ≡ pinLength bytes → k ≡ macroLength bytes → b ≡ blocksFor n
-    → numbersIn bytes (1 + b) 0 k ≡ macrosIn bytes
-unfolding macrosIn
-macros-taken bytes n k b e f g = ap₂ (λ (i j : ℕ). numbersIn bytes (1 + i) 0 j) (g ∙ ap blocksFor e) f
-
-pub length-macros-in : (bytes : List ℕ) → length (macrosIn bytes) ≡ macroLength bytes
-unfolding macrosIn
-length-macros-in bytes = length-numbers bytes _ 0 (macroLength bytes)
-
--- Tests passed
-
--- whole blocks, from one to those of the longest file
-pub record BlocksCounted (b : Bounds) (bytes : List ℕ) : Type 0 where
-  pub whole : length bytes % blockBytes ≡ 0
-  pub some : 1 ≤ length bytes / blockBytes
-  pub few : length bytes / blockBytes ≤ fileBlocksWithin b
-
-pub blocks-counted : {b : Bounds} (bytes : List ℕ) → blocksMiscountedWithin b bytes ≡ false → BlocksCounted b bytes
-unfolding blocksMiscountedWithin
-blocks-counted {b} bytes e =
-    let r = or-none _ _ e in
-    let s = or-none _ _ (r .1) in
-    let n : length bytes / blockBytes ≡ 0 → ⊥ = eqb-false (length bytes / blockBytes) 0 (s .0) in
-    record {
-      whole = eqb-true (length bytes % blockBytes) 0 (not-false _ (r .0));
-      some = omega (arith, n);
-      few = ltb-false (fileBlocksWithin b) (length bytes / blockBytes) (s .1);
-    }
-
--- and the other way, within any bounds that allow as many
-pub blocks-pass : (b c : Bounds) (bytes : List ℕ) → BlocksCounted c bytes → length bytes / blockBytes ≤ fileBlocksWithin b
-    → blocksMiscountedWithin b bytes ≡ false
-unfolding blocksMiscountedWithin
-blocks-pass b c bytes n h =
-    let some : length bytes / blockBytes ≡ 0 → ⊥ = λ e. omega (arith, n .some, e) in
-    rw (eq-eqb _ 0 (n .whole), ne-eqb _ 0 some, le-ltb (fileBlocksWithin b) _ h) refl
-
-pub sized-by-head : (bytes : List ℕ) → BlocksCounted today bytes → countsWrong bytes ≡ false → Sized bytes (pinLength bytes)
-    (macroLength bytes)
-unfolding countsWrong
-sized-by-head bytes b e =
-    let n = eqb-true (length bytes / blockBytes) _ (not-false _ e) in
-    record { few = omega (arith, b .whole, b .few); fit = omega (arith, b .whole, n) }
-
--- C3: a head that is right has right counts and right weights
-pub head-right : (bytes : List ℕ) → headWrong bytes ≡ false → (countsWrong bytes ≡ false) × (weightsMiswritten bytes ≡ false)
-unfolding headWrong
-head-right bytes e = or-none (countsWrong bytes) (weightsMiswritten bytes) e
-
--- each word that stands for a weight is at most the greatest
-pub weight-words : (bytes : List ℕ) → weightsMiswritten bytes ≡ false
-    → (headWord firstWeightWord bytes ≤ weightBound) × (headWord secondWeightWord bytes ≤ weightBound)
-unfolding weightsMiswritten
-weight-words bytes e =
-    let r = or-none _ _ e in
-    (ltb-false weightBound (headWord firstWeightWord bytes) (r .0), ltb-false weightBound (headWord secondWeightWord bytes) (r .1))
+-- the pins of a file, stored, take no more numbers than the file has for them
+pub stored-within : (bytes : List ℕ) → length (stored (pinsIn bytes) .numbers) ≤ pinLength bytes
+stored-within bytes =
+    by (loadedIn bytes)
+    (λ e. rw (in-with bytes e) (omega (arith, stored-few (storedIn bytes), length-stored-in bytes)))
+    (λ e.
+    let ps = placesOf (storedIn bytes) in
+    rw (in-alone bytes e, stored-alone (flatPins ps) (bare-unloaded ps))
+    (omega (arith, length-alone (flatPins ps), pin-count-flat ps, length-places (storedIn bytes), length-stored-in bytes)))
 
 room-enough : (p q : ℕ) → roomShort p q ≡ false → (pinListBound ≤ p) × (macroListBound ≤ q)
 unfolding roomShortWithin

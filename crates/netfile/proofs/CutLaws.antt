@@ -13,9 +13,11 @@ use lib.Seq.{take-all}
 use Rattle.lists.proofs.TestLaws.{by}
 use Rattle.lent.specs.Told.{refused}
 use Rattle.net.specs.Bounds.{Bounds, today}
-use Rattle.netfile.specs.Sizes.{blockBytes, fileBlocksWithin, fileBound}
-use Rattle.netfile.specs.Read.{blocksMiscountedWithin, roomShort, readFile}
-use Rattle.netfile.proofs.AnswerLaws.{blocks-counted, refuse-21, refuse-1}
+use Rattle.blocks.specs.Sizes.{blockBytes, fileBlocksWithin, fileBound}
+use Rattle.decoded.specs.Held.{blocksMiscountedWithin}
+use Rattle.netfile.specs.Read.{roomShort, readFile}
+use Rattle.decoded.proofs.HeldLaws.{blocks-counted}
+use Rattle.netfile.proofs.AnswerLaws.{refuse-21, refuse-1}
 
 -- the first bytes of a file: one more than the longest has
 abbrev pub cut : List ℕ → List ℕ

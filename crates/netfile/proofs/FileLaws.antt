@@ -19,13 +19,15 @@ use Rattle.lists.proofs.TestLaws.{by}
 use Rattle.lent.specs.Over.{over}
 use Rattle.lent.proofs.OverLaws.{length-over}
 use Rattle.plane.specs.declared.Weights.{Weights}
-use Rattle.netfile.specs.Sizes.{blockWords, summedWords, secondSum, firstEntry, perBlock, headKind}
-use Rattle.netfile.specs.Words.{wordsOf, bytesOfWord, bytesOf, wordOf, coordinate}
-use Rattle.netfile.specs.Sums.{plainSum, sumOfSums, sealed, wrongSums}
-use Rattle.netfile.specs.Layout.{block, headBlock, listBlock, listBlocks}
-use Rattle.netfile.specs.Read.{blocksOf, placeIn, numberIn, numbersIn}
-use Rattle.netfile.proofs.WordLaws.{word-small, coordinate-word}
-use Rattle.netfile.proofs.LayoutLaws.{length-head, length-next-block, length-list-blocks}
+use Rattle.blocks.specs.Sizes.{blockWords, summedWords, secondSum, firstEntry, perBlock, headKind}
+use Rattle.blocks.specs.Words.{wordsOf, bytesOfWord, bytesOf, wordOf, coordinate}
+use Rattle.blocks.specs.Sums.{plainSum, sumOfSums, sealed, wrongSums}
+use Rattle.blocks.specs.Block.{block, headBlock, listBlock}
+use Rattle.encoded.specs.Layout.{listBlocks}
+use Rattle.decoded.specs.Held.{blocksOf, placeIn, numberIn, numbersIn}
+use Rattle.blocks.proofs.WordLaws.{word-small, coordinate-word}
+use Rattle.blocks.proofs.BlockLaws.{length-head, length-next-block}
+use Rattle.encoded.proofs.LayoutLaws.{length-list-blocks}
 
 -- Words of 32 bits
 

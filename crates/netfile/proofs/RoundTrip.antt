@@ -36,20 +36,22 @@ use Rattle.net.proofs.PinLaws.{macro-numbers}
 use Rattle.net.proofs.PassedLaws.{passed-all}
 use Rattle.net.proofs.AllowedLaws.{weights-within, given-counts}
 use Rattle.net.proofs.HandedLaws.{weights-handed, handed-weights}
-use Rattle.netfile.specs.Sizes.{blockWords, blockBytes, pinCountWord, macroCountWord, headKind, macroKind, loadedKind, placeWidth}
-use Rattle.netfile.specs.Sizes.{blocksFor, blockCount, fileBlocks, fileBound}
-use Rattle.netfile.specs.Words.{wordsOf}
-use Rattle.netfile.specs.Sums.{sealed, wrongSums}
-use Rattle.netfile.specs.Layout.{block, headBlock, listBlock, listBlocks, Stored, loaded, stored, pinBlocks, macroBlocks, fileWords}
-use Rattle.netfile.specs.Layout.{laidBytes, fileBytes}
-use Rattle.netfile.specs.Read.{blocksMiscounted, blocksMiscountedWithin, blocksOf, sumsWrong, headWord, loadedIn, pinLength, macroLength}
-use Rattle.netfile.specs.Read.{weightsIn, numbersIn, storedIn, pinsIn, macrosIn, countsWrong, headWrong, laidOut, roomShort, readFile}
-use Rattle.netfile.proofs.SizeLaws.{enough, pins-few, macros-few}
-use Rattle.netfile.proofs.LayoutLaws.{length-head, length-list-blocks, length-file}
+use Rattle.blocks.specs.Sizes.{blockWords, blockBytes, pinCountWord, macroCountWord, headKind, macroKind, loadedKind, placeWidth, blocksFor}
+use Rattle.blocks.specs.Sizes.{blockCount, fileBlocks, fileBound}
+use Rattle.blocks.specs.Words.{wordsOf}
+use Rattle.blocks.specs.Sums.{sealed, wrongSums}
+use Rattle.blocks.specs.Block.{block, headBlock, listBlock}
+use Rattle.encoded.specs.Layout.{listBlocks, Stored, loaded, stored, pinBlocks, macroBlocks, fileWords, laidBytes, fileBytes}
+use Rattle.decoded.specs.Held.{blocksMiscounted, blocksMiscountedWithin, blocksOf, sumsWrong, headWord, loadedIn, pinLength, macroLength}
+use Rattle.decoded.specs.Held.{weightsIn, numbersIn, storedIn, pinsIn, macrosIn, countsWrong, headWrong}
+use Rattle.netfile.specs.Read.{laidOut, roomShort, readFile}
+use Rattle.blocks.proofs.SizeLaws.{enough, pins-few, macros-few}
+use Rattle.blocks.proofs.BlockLaws.{length-head}
+use Rattle.encoded.proofs.LayoutLaws.{length-list-blocks, length-file}
+use Rattle.encoded.proofs.SameLaws.{same-true, same-refl}
+use Rattle.encoded.proofs.StoredLaws.{stored-with, stored-alone, either-kind, length-alone, kind-small, bare-pins, places-back, loaded-some}
+use Rattle.decoded.proofs.HeldLaws.{in-with, in-alone, long-with, long-alone}
 use Rattle.netfile.proofs.WriteLaws.{pins-ok, macros-ok, allowed-blocks}
-use Rattle.netfile.proofs.ReadLaws.{same-true, same-refl}
-use Rattle.netfile.proofs.StoredLaws.{stored-with, stored-alone, either-kind, length-alone, kind-small, bare-pins, places-back}
-use Rattle.netfile.proofs.StoredLaws.{loaded-some, in-with, in-alone, long-with, long-alone}
 use Rattle.netfile.proofs.AnswerLaws.{laid-out, read-on, accepted-passed}
 use Rattle.netfile.proofs.FileLaws.{Small, Fit, words-bytes, small-append, small-block, small-list-blocks, pass-head, pass-list}
 use Rattle.netfile.proofs.FileLaws.{list-read}

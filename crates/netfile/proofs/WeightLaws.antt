@@ -17,14 +17,17 @@ use Rattle.plane.specs.declared.Weights.{Weights}
 use Rattle.net.specs.Bounds.{today, weightBound}
 use Rattle.net.specs.Allowed.{Weighted}
 use Rattle.net.proofs.HandedLaws.{weighted-passes, one-number, another, not-18}
-use Rattle.netfile.specs.Sizes.{firstWeightWord, secondWeightWord}
-use Rattle.netfile.specs.Words.{wordsOf, bytesOfWord, bytesOf, weightWord, weightIn}
-use Rattle.netfile.specs.Sums.{sealed}
-use Rattle.netfile.specs.Layout.{block, headBlock, Stored, fileWords, laidBytes, fileBytes}
-use Rattle.netfile.specs.Read.{blocksMiscounted, sumsWrong, headWord, weightsIn, pinsIn, macrosIn, sameNumbers, weightsMiswritten}
-use Rattle.netfile.specs.Read.{headWrong, answerIn, roomShort, readFile, readFileWithin}
-use Rattle.netfile.proofs.ReadLaws.{same-true}
-use Rattle.netfile.proofs.AnswerLaws.{head-right, weight-words, laid-out, laid-wrong, refuse-3, read-on}
+use Rattle.blocks.specs.Sizes.{firstWeightWord, secondWeightWord}
+use Rattle.blocks.specs.Words.{wordsOf, bytesOfWord, bytesOf, weightWord, weightIn}
+use Rattle.blocks.specs.Sums.{sealed}
+use Rattle.blocks.specs.Block.{block, headBlock}
+use Rattle.encoded.specs.Layout.{Stored, fileWords, laidBytes, fileBytes}
+use Rattle.encoded.specs.Same.{sameNumbers}
+use Rattle.decoded.specs.Held.{blocksMiscounted, sumsWrong, headWord, weightsIn, pinsIn, macrosIn, weightsMiswritten, headWrong}
+use Rattle.netfile.specs.Read.{answerIn, roomShort, readFileWithin, readFile}
+use Rattle.encoded.proofs.SameLaws.{same-true}
+use Rattle.decoded.proofs.HeldLaws.{twoWeights, head-right, weight-words}
+use Rattle.netfile.proofs.AnswerLaws.{laid-out, laid-wrong, refuse-3, read-on}
 
 -- One weight
 
@@ -49,9 +52,6 @@ module _ (n : ℕ) where
   in-within h = by (eqb n 0) (λ e. rw e (omega arith, omega arith)) (λ e. rw e (let z = eqb-false n 0 e in omega arith, h))
 
 -- Both weights of a file
-
-abbrev pub twoWeights : ℕ → ℕ → Weights
-twoWeights a b = record { across = a; along = b }
 
 -- where the two words stand in the file that the layout makes
 module _ (w : Weights) (s : Stored) (macros : List ℤ) (within : Weighted w) where

@@ -18,14 +18,16 @@ use Rattle.net.specs.Pins.{flatPins}
 use Rattle.net.specs.Check.{counted}
 use Rattle.net.specs.WorkedNets.{Lists, loadedPin, aroundOne}
 use Rattle.net.proofs.WorkedChecks.{answer}
-use Rattle.netfile.specs.Sizes.{blockWords, blockBytes, summedWords, pinsPerBlock, loadedPerBlock, macrosPerBlock, pinListBound}
-use Rattle.netfile.specs.Sizes.{macroListBound, placeWidth, blocksFor, fileBlocks, fileBound}
+use Rattle.blocks.specs.Sizes.{blockWords, blockBytes, summedWords, pinsPerBlock, loadedPerBlock, macrosPerBlock, pinListBound}
+use Rattle.blocks.specs.Sizes.{macroListBound, placeWidth, blocksFor, fileBlocks, fileBound}
 use Rattle.net.specs.Bounds.{pinWidth}
-use Rattle.netfile.specs.Words.{wordsOf, bytesOfWord, bytesOf, wordOf, coordinate, weightWord, weightIn}
-use Rattle.netfile.specs.Sums.{total, runningSums, plainSum, sumOfSums, sealed, wrongSums}
-use Rattle.netfile.specs.Layout.{block, headBlock, listBlock, listBlocks, isLoad, loaded, stored, fileWords, laidBytes}
-use Rattle.netfile.specs.Read.{blocksMiscountedWithin, blocksOf, sumsWrong, headWord, loadedIn, pinLength, numberIn, numbersIn}
-use Rattle.netfile.specs.Read.{storedIn, pinsIn, macrosIn, sameNumbers, countsWrong, weightsMiswritten, headWrong}
+use Rattle.blocks.specs.Words.{wordsOf, bytesOfWord, bytesOf, wordOf, coordinate, weightWord, weightIn}
+use Rattle.blocks.specs.Sums.{total, runningSums, plainSum, sumOfSums, sealed, wrongSums}
+use Rattle.blocks.specs.Block.{block, headBlock, listBlock}
+use Rattle.encoded.specs.Layout.{listBlocks, isLoad, loaded, stored, fileWords, laidBytes}
+use Rattle.encoded.specs.Same.{sameNumbers}
+use Rattle.decoded.specs.Held.{blocksMiscountedWithin, blocksOf, sumsWrong, headWord, loadedIn, pinLength, numberIn, numbersIn, storedIn}
+use Rattle.decoded.specs.Held.{pinsIn, macrosIn, countsWrong, weightsMiswritten, headWrong}
 use Rattle.netfile.specs.Read.{laidOutWithin, roomShortWithin, readFile, readFileWithin}
 
 -- the numbers that the document gives, each worked out from the net's bounds and the format's own numbers

@@ -15,11 +15,11 @@ use Rattle.net.specs.Net.{weightsOf}
 use Rattle.net.specs.Check.{checked}
 use Rattle.net.proofs.PinLaws.{pin-numbers}
 use Rattle.net.proofs.PassedLaws.{PinsCounted, MacrosCounted, passed-all, pins-counted, macros-counted}
-use Rattle.netfile.specs.Sizes.{blockCount, fileBlocks}
-use Rattle.netfile.specs.Layout.{stored, fileBytes}
+use Rattle.blocks.specs.Sizes.{blockCount, fileBlocks}
+use Rattle.encoded.specs.Layout.{stored, fileBytes}
 use Rattle.netfile.specs.Write.{fitted, written, writtenWithin}
-use Rattle.netfile.proofs.SizeLaws.{lists-in-file}
-use Rattle.netfile.proofs.StoredLaws.{stored-few}
+use Rattle.blocks.proofs.SizeLaws.{lists-in-file}
+use Rattle.encoded.proofs.StoredLaws.{stored-few}
 
 pub fitted-short : (needed room : ℕ) → room < needed → fitted needed room ≡ refused 21
 unfolding fitted

@@ -10,7 +10,7 @@ use borrow.Author.Tests.{lt-ltb, le-ltb, ltb-true, ltb-false}
 use Rattle.lists.proofs.TestLaws.{by}
 use Rattle.signed.specs.Sides.{Le}
 use Rattle.signed.specs.Order.{minZ, maxZ}
-use Rattle.signed.proofs.SideLaws.{eq-of, signed}
+use Rattle.signed.proofs.SideLaws.{eq-of, ltZ-true, lt-ltZ, le-ltZ, signed}
 use Rattle.signed.proofs.OrderLaws.{min-sides, max-sides}
 use Prim.Native.Nat.{ℕ, _+_, _*_, _-_, _^_, _≤_, _<_}
 use native.Mathlib.Nat.{add-mul, zero-mul, mul-one, mul-le-mul, mul-le-mul-right, le-mul-of-pos-right}
@@ -19,12 +19,12 @@ use Rattle.plane.specs.declared.Place.{Place}
 use Rattle.plane.specs.declared.Macro.{Macro}
 use Rattle.plane.specs.declared.Weights.{Weights}
 use Rattle.plane.specs.Place.{place}
-use Rattle.plane.specs.Box.{InBox, boxOf, outside, boxCost}
+use Rattle.plane.specs.Box.{InBox, boxOf, outside, boxCost, FarLeft, FarRight}
 use Rattle.plane.specs.Distance.{apart, distance}
 use Rattle.plane.specs.Middle.{middle, middlePlace}
 use Rattle.plane.specs.Cost.{cost, plain, costLimit, Positive}
 use Rattle.plane.proofs.Fits.{PlaceFits}
-use Rattle.plane.proofs.DistanceLaws.{apart-comm, apart-self, apart-none, apart-through, apart-triangle, apart-fits}
+use Rattle.plane.proofs.DistanceLaws.{apart-comm, apart-self, apart-none, apart-ordered, apart-through, apart-triangle, apart-fits}
 use Rattle.plane.proofs.BoxLaws.{middle-in-first}
 
 -- Products
@@ -168,3 +168,56 @@ box-near w m u limit x y e f h =
     by (ltb y (limit - x))
     (λ t. t ∙ sym (lt-ltb (boxCost w m u) limit (omega (arith, e, f, ltb-true y (limit - x) t))))
     (λ t. t ∙ sym (le-ltb (boxCost w m u) limit (omega (arith, e, f, h, ltb-false y (limit - x) t))))
+
+-- Far across
+
+apart-left : (l z y : ℤ) → Le y z → ltZ z l ≡ true → apart l z ≤ apart l y
+apart-left l z y h e =
+    omega (
+      signed,
+      h,
+      ltZ-true z l e,
+      apart-ordered z l (omega (signed, ltZ-true z l e)),
+      apart-ordered y l (omega (signed, h, ltZ-true z l e)),
+      apart-comm l z,
+      apart-comm l y,
+    )
+
+apart-right : (r z y : ℤ) → Le z y → ltZ r z ≡ true → apart r z ≤ apart r y
+apart-right r z y h e =
+    omega (
+      signed,
+      h,
+      ltZ-true r z e,
+      apart-ordered r z (omega (signed, ltZ-true r z e)),
+      apart-ordered r y (omega (signed, h, ltZ-true r z e)),
+    )
+
+outside-left : (l h z : ℤ) → ltZ z l ≡ true → outside l h z ≡ apart l z
+unfolding outside
+outside-left l h z e = rw (outside, e) refl
+
+pub far-left : (w : Weights) (m : Macro) (u : Place) (limit : ℕ) → ltZ (u .x) (m .left) ≡ true
+    → limit ≤ apart (m .left) (u .x) * w .across → FarLeft w m u limit
+unfolding boxCost
+far-left w m u limit e c q h =
+    let k : ltZ (q .x) (m .left) ≡ true = lt-ltZ (q .x) (m .left) (omega (signed, h, ltZ-true (u .x) (m .left) e)) in
+    let a : apart (m .left) (u .x) ≤ outside (m .left) (m .right) (q .x) =
+    rw (outside-left (m .left) (m .right) (q .x) k) (apart-left (m .left) (u .x) (q .x) h e) in
+    omega (arith, c, mul-le-mul-right (w .across) a)
+
+-- beyond the right side, whether the box has a left one before it or not
+outside-right : (l h z : ℤ) → Le l h → ltZ h z ≡ true → outside l h z ≡ apart h z
+unfolding outside
+outside-right l h z i e =
+    let n : ltZ z l ≡ false = le-ltZ z l (omega (signed, i, ltZ-true h z e)) in
+    rw (outside, n, e) refl
+
+pub far-right : (w : Weights) (m : Macro) (u : Place) (limit : ℕ) → ltZ (m .right) (u .x) ≡ true
+    → limit ≤ apart (m .right) (u .x) * w .across → FarRight w m u limit
+unfolding boxCost
+far-right w m u limit e c i q h =
+    let k : ltZ (m .right) (q .x) ≡ true = lt-ltZ (m .right) (q .x) (omega (signed, h, ltZ-true (m .right) (u .x) e)) in
+    let a : apart (m .right) (u .x) ≤ outside (m .left) (m .right) (q .x) =
+    rw (outside-right (m .left) (m .right) (q .x) i k) (apart-right (m .right) (u .x) (q .x) h e) in
+    omega (arith, c, mul-le-mul-right (w .across) a)

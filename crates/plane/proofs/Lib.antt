@@ -9,3 +9,4 @@ pub mod CostLaws
 pub mod WorkedDistances
 pub mod PlaceOrder
 pub mod MeetLaws
+pub mod RankLaws

@@ -17,6 +17,7 @@
 --   Flat       placesOf, macrosOf  placeAt, macroAt              the entries that a flat list holds, all of them and the i-th
 --              placeNumbers p                                    a place as its two numbers
 --              flatPlaces, flatMacros                            entries as a flat list
+--   Rank       InOrder s n         rank s n p                    the first n places of a flat list are in order; how many come before p
 pub mod Place
 pub mod Distance
 pub mod Cost
@@ -24,3 +25,4 @@ pub mod Middle
 pub mod Macro
 pub mod Box
 pub mod Flat
+pub mod Rank

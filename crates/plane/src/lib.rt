@@ -12,9 +12,10 @@ ghost use Rattle.plane.specs.Place.{before, samePlace};
 ghost use Rattle.plane.specs.Distance.{apart, distance};
 ghost use Rattle.plane.specs.Cost.{cost, costLimit};
 ghost use Rattle.plane.specs.Middle.{middle, middlePlace};
-ghost use Rattle.plane.specs.Box.{boxOf, outside, boxCost};
+ghost use Rattle.plane.specs.Box.{boxOf, outside, boxCost, FarLeft, FarRight};
 ghost use Rattle.plane.specs.Macro.{spanMeets, meets, openSpansMeet, interiorsMeet, clear};
 ghost use Rattle.plane.specs.Flat.{macrosOf, macroAt, placeAt, placeNumbers};
+ghost use Rattle.plane.specs.Rank.{InOrder, rank};
 ghost use Rattle.lists.specs.Any.{any};
 ghost use Rattle.signed.specs.Order.{minZ, maxZ};
 ghost use Rattle.signed.specs.Sides.{down};
@@ -164,6 +165,26 @@ pub fn is_near_box(w: Weights, m: Macro, u: Place, limit: u64) -> bool
     axis_cost(outside(m.bottom, m.top, u.y), w.along) < limit - across
 }
 
+// Whether u is so far left of a box that metal across alone costs the limit. A table in the order of places is cut there.
+pub fn is_far_left(w: Weights, m: Macro, u: Place, limit: u64) -> bool
+    ensures { λ r. ⌜ (r ≡ true → FarLeft w m u limit) ⌝ }
+{
+    if u.x < m.left {
+        return limit <= axis_cost(gap(m.left, u.x), w.across);
+    }
+    false
+}
+
+// The same to the right of it.
+pub fn is_far_right(w: Weights, m: Macro, u: Place, limit: u64) -> bool
+    ensures { λ r. ⌜ (r ≡ true → FarRight w m u limit) ⌝ }
+{
+    if m.right < u.x {
+        return limit <= axis_cost(gap(m.right, u.x), w.across);
+    }
+    false
+}
+
 // The closed span of a and b meets the open one between from and to.
 fn span_meets(a: i32, b: i32, from: i32, to: i32) -> bool
     ensures { λ r. ⌜ r ≡ spanMeets a b from to ⌝ }
@@ -215,6 +236,24 @@ pub fn put_place(places: &mut [i32], i: usize, p: Place)
     let y = p.y;
     places[k] = x;
     places[k + 1] = y;
+}
+
+// How many of the first n places of a flat list, which are in order, come before p. They are halved, so that few are asked.
+pub fn rank(places: &[i32], n: usize, p: Place) -> usize
+    requires { ⌜ (n * 2 ≤ length (now places)) × (InOrder (now places) n) ⌝ }
+    ensures { λ r. ⌜ (r ≡ rank (now (places .entry)) n p) × (r ≤ n) ⌝ }
+{
+    let mut low = 0;
+    let mut high = n;
+    while low < high {
+        let mid = low + (high - low) / 2;
+        if is_before(place_at(places, mid), p) {
+            low = mid + 1;
+        } else {
+            high = mid;
+        }
+    }
+    low
 }
 
 // The i-th macro of a flat list.

@@ -76,7 +76,8 @@ not-back-kept [] k = refl
 not-back-kept (b ∷ bs) k = after-kept b bs k
 
 -- `left` begins with b and c, and `rest` is what follows b
-module _ (left : List Band) (b : Band) (rest : List Band) (c : Band) (more : List Band) (at : left ≡ b ∷ rest) (next : rest ≡ c ∷ more) where
+module _ (left : List Band) (b : Band) (rest : List Band) (c : Band) (more : List Band) (at : left ≡ b ∷ rest)
+    (next : rest ≡ c ∷ more) where
   pub back-hit : stepsBack b c ≡ true → fallsBack left ≡ true
   unfolding fallsBack fallsAfter
   back-hit e = rw (at, next, e) refl

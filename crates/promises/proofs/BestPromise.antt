@@ -20,13 +20,13 @@ use Rattle.net.specs.Check.{checked}
 use Rattle.net.proofs.AllowedLaws.{given-allowed, allowed-positive}
 use Rattle.net.proofs.PinLaws.{length-pins}
 use Rattle.refined.proofs.MetalLaws.{metal-low}
-use Rattle.grid.specs.declared.Axis.the-variants.{Across, Along}
-use Rattle.grid.specs.Lines.{xLines, yLines}
-use Rattle.grid.specs.Edges.{Edge}
-use Rattle.grid.proofs.GridCost.{line-count}
+use Rattle.lines.specs.declared.Axis.the-variants.{Across, Along}
+use Rattle.lines.specs.Lines.{xLines, yLines}
+use Rattle.lines.specs.Edges.{Edge}
+use Rattle.lines.proofs.GridCost.{line-count}
 use Rattle.bought.specs.Passes.{Passes}
 use Rattle.rules.proofs.InteriorLaws.{clear-points}
-use Rattle.best.specs.Bounds.{workBound}
+use Rattle.parts.specs.Bounds.{workBound}
 use Rattle.best.specs.Tree.{IsBest}
 use Rattle.best.proofs.BestLaws.{best-pinned}
 use Rattle.best.proofs.BestTree.{best-alike}

@@ -33,9 +33,10 @@ use Rattle.net.proofs.AllowedLaws.{given-allowed}
 use Rattle.net.proofs.CheckOrder.{check-order, same-places}
 use Rattle.net.proofs.PinLaws.{entry-places}
 use Rattle.terminal.proofs.NumberLaws.{apart-once}
-use Rattle.delay.specs.declared.Technology.{Technology}
-use Rattle.delay.specs.declared.Delay.{Delay}
-use Rattle.delay.specs.Answer.{marked, delayOf, marksOf, finites, delayed, delayAnswer}
+use Rattle.floats.specs.declared.Technology.{Technology}
+use Rattle.floats.specs.declared.Delay.{Delay}
+use Rattle.floats.specs.Mark.{marked, finites}
+use Rattle.delay.specs.Answer.{delayOf, marksOf, delayed, delayAnswer}
 use Rattle.delay.proofs.LoadLaws.{loads-same}
 use Rattle.delay.proofs.TimedLaws.{same-sorted, marksOf-same}
 use Rattle.router.specs.Refined.{laidOf}

@@ -62,7 +62,7 @@ use Rattle.bought.specs.Rearranged.{SameEdges}
 use Rattle.bought.proofs.OrderLaws.{same-bought}
 use Rattle.bought.proofs.GivenLaws.{first-pin}
 use Rattle.router.specs.Bought.{checkedTree}
-use Rattle.grid.specs.Bounds.{gridPins, gridMacros}
+use Rattle.lines.specs.Bounds.{gridPins, gridMacros}
 use Rattle.grid.specs.Distance.{Square}
 use Rattle.grid.proofs.SquareLaws.{SameGround, squares-same}
 use Rattle.router.specs.Distances.{aboveGrid, distancesGiven, gridDistances}

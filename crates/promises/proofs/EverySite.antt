@@ -64,14 +64,15 @@ use Rattle.bought.specs.Rearranged.{Rearranged, none, keep}
 use Rattle.bought.proofs.OrderLaws.{same-bought}
 use Rattle.bought.proofs.GivenLaws.{first-pin}
 use Rattle.router.specs.Bought.{checkedTree}
-use Rattle.grid.specs.Bounds.{gridPins, gridMacros}
+use Rattle.lines.specs.Bounds.{gridPins, gridMacros}
 use Rattle.grid.specs.Distance.{Square}
 use Rattle.grid.proofs.SquareLaws.{squares-same}
 use Rattle.router.specs.Distances.{aboveGrid, distancesGiven, gridDistances}
-use Rattle.delay.specs.declared.Technology.{Technology}
-use Rattle.delay.specs.declared.Delay.{Delay}
+use Rattle.floats.specs.declared.Technology.{Technology}
+use Rattle.floats.specs.declared.Delay.{Delay}
 use Rattle.delay.specs.Load.{loadOf}
-use Rattle.delay.specs.Answer.{marked, delayOf, marksOf, finites, delayed, delayAnswer}
+use Rattle.floats.specs.Mark.{marked, finites}
+use Rattle.delay.specs.Answer.{delayOf, marksOf, delayed, delayAnswer}
 use Rattle.delay.proofs.LoadLaws.{loads-same}
 use Rattle.delay.proofs.TimedLaws.{same-sorted, marksOf-same}
 use Rattle.router.specs.Delay.{loadsOf, delaysOf, delayGiven, pinDelays}

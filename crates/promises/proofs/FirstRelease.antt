@@ -9,8 +9,8 @@ use Rattle.plane.proofs.CostLaws.{cost-plain}
 use Rattle.net.specs.Net.{plainly}
 use Rattle.net.specs.Check.{noWeight, weightsWrong}
 use Rattle.net.proofs.HandedLaws.{weights-handed, not-18}
-use Rattle.netfile.specs.Layout.{fileBytes}
-use Rattle.netfile.proofs.FirstRelease.{plain-file}
+use Rattle.encoded.specs.Layout.{fileBytes}
+use Rattle.older.proofs.FirstRelease.{plain-file}
 use Rattle.joined.specs.Cost.{lengths}
 use Rattle.refined.proofs.MetalLaws.{length-plain}
 use Rattle.router.specs.Refined.{totalIn, laidOf}

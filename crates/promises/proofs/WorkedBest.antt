@@ -11,7 +11,7 @@ use Rattle.net.specs.declared.Weighing.{Weighing}
 use Rattle.net.specs.Net.{weighing, plainly}
 use Rattle.net.specs.WorkedNets.{Lists, onePin, noPin, overlapping}
 use Rattle.net.proofs.WorkedChecks.{answer}
-use Rattle.grid.specs.Edges.{Edge}
+use Rattle.lines.specs.Edges.{Edge}
 use Rattle.router.specs.Refined.{laidTotal}
 use Rattle.router.specs.Best.{aboveBest, bestRoomShort, bestGiven, bestTree}
 use Rattle.promises.proofs.WorkedNets.{answersBy}

@@ -20,7 +20,7 @@ use Rattle.net.specs.Check.{counted, checked}
 use Rattle.net.proofs.WorkedChecks.{answer}
 use Rattle.terminal.proofs.WorkedPaths.{treeIn}
 use Rattle.union.proofs.WorkedUnions.{union}
-use Rattle.refiner.specs.Beside.{offer, isPoint, takeSeat, weighed, onWay, free}
+use Rattle.beside.specs.Beside.{offer, isPoint, takeSeat, weighed, onWay, free}
 use Rattle.refiner.specs.Graft.{pairKey, notBelow, keyRank, leaf, grafted}
 use Rattle.forest.specs.Parents.{climb, wayAfter}
 use Rattle.refined.specs.Ground.{groundOf}

@@ -18,8 +18,8 @@ use Rattle.graph.specs.Numbers.{placeNumbers, edgeNumbers}
 use Rattle.terminal.specs.Tree.{pathNumbers}
 use Rattle.joined.specs.Cost.{lengths}
 use Rattle.grid.specs.Distance.{Square}
-use Rattle.grid.specs.Edges.{Edge}
-use Rattle.best.specs.Bounds.{workBound}
+use Rattle.lines.specs.Edges.{Edge}
+use Rattle.parts.specs.Bounds.{workBound}
 use Rattle.best.specs.Tree.{BestTree}
 use Rattle.bought.specs.Rearranged.{SameEdges}
 use Rattle.router.specs.Graph.{netVertices, netEdges, graphed}

@@ -19,9 +19,9 @@ use Rattle.graph.specs.Numbers.{placeNumbers, edgeNumbers}
 use Rattle.terminal.specs.Tree.{pathNumbers}
 use Rattle.joined.specs.Cost.{lengths}
 use Rattle.grid.specs.Distance.{Square}
-use Rattle.delay.specs.declared.Technology.{Technology}
-use Rattle.delay.specs.Answer.{finites}
-use Rattle.best.specs.Bounds.{workBound}
+use Rattle.floats.specs.declared.Technology.{Technology}
+use Rattle.floats.specs.Mark.{finites}
+use Rattle.parts.specs.Bounds.{workBound}
 use Rattle.best.specs.Tree.{BestTree}
 use Rattle.bought.specs.Edges.{edgesOf}
 use Rattle.rules.specs.Edges.{Edge}

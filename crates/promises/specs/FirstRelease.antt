@@ -14,8 +14,8 @@ use Rattle.plane.specs.Flat.{placeNumbers}
 use Rattle.net.specs.Pins.{pinPlaces}
 use Rattle.net.specs.Net.{plainly, weightsOf, netOf, costIn}
 use Rattle.net.specs.Check.{checked}
-use Rattle.netfile.specs.Layout.{loaded, fileBytes}
-use Rattle.netfile.specs.FirstRelease.{firstFile}
+use Rattle.encoded.specs.Layout.{loaded, fileBytes}
+use Rattle.older.specs.FirstRelease.{firstFile}
 use Rattle.router.specs.Refined.{laidTotal, metalOf}
 
 pub record AsFirst (pins macros : List ℤ) : Type 0 where

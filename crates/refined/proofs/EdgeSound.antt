@@ -18,6 +18,7 @@ use Rattle.plane.specs.declared.Place.{Place}
 use Rattle.plane.specs.Place.{before}
 use Rattle.plane.specs.Macro.{clear}
 use Rattle.plane.specs.Flat.{placeAt}
+use Rattle.plane.specs.Rank.{InOrder}
 use Rattle.plane.proofs.PlaceLaws.{before-irrefl}
 use Rattle.net.specs.Net.{Net}
 use Rattle.joined.specs.OneTree.{Point, OneTree}
@@ -25,14 +26,14 @@ use Rattle.joined.proofs.WayLaws.{way-more}
 use Rattle.graph.specs.Edges.{beforeEdge}
 use Rattle.refiner.specs.declared.Refined.{Refined}
 use Rattle.tree.specs.Table.{treeBound, firstEnd, secondEnd, In, Within, Tree, tree}
-use Rattle.tree.specs.Places.{endsOf, edgesOf, treeTotal, InOrder, Ranked, Sound}
+use Rattle.tree.specs.Places.{endsOf, edgesOf, treeTotal, Ranked, Sound}
 use Rattle.tree.specs.Edges.{edgesFrom, tableEdges, treeEdges}
 use Rattle.refiner.specs.Refined.{total, Answer}
 use Rattle.refiner.specs.Promise.{Promise, Tabled}
 use Rattle.tree.proofs.EdgeLaws.{edges-count, edges-in, edges-of, edge-number, edges-smaller, tree-total}
 use Rattle.refiner.proofs.RoundSound.{total-of}
 use Rattle.refiner.proofs.RefinedSound.{refined-promise, refined-tabled}
-use Rattle.refiner.specs.Beside.{Ground}
+use Rattle.beside.specs.Beside.{Ground}
 use Rattle.refiner.specs.Ready.{verticesOf, Ready}
 use Rattle.tree.specs.Outside.{strangers}
 use Rattle.refined.specs.Promise.{Given}

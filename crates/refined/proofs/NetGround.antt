@@ -1,5 +1,5 @@
--- The spanning graph of an allowed net is a ground to refine on, and the union of its kept paths is ready for its rounds: its points are all
--- vertices, so there is room for one further point for each pin.
+-- The spanning graph of an allowed net is a ground to refine on, and the union of its kept paths is ready for its rounds: its points are
+-- all vertices, so there is room for one further point for each pin.
 -- Assumes nothing.
 use mathlib.Core.Path.{_≡_, refl, sym, ap, ap₂, _∙_}
 use mathlib.Core.Bool.{true}
@@ -7,14 +7,16 @@ use mathlib.Core.List.{List, [], _∷_, Memᴰ·cast}
 use Prim.Native.Nat.{ℕ, _+_, _*_, _≤_, _<_}
 use native.Mathlib.Omega.{arith}
 use lib.IntN.{ℤ, pos}
-use lib.ListN.{length, getD, replicate}
+use lib.ListN.{length, getD, replicate, length-replicate}
 use Rattle.lists.specs.Member.{_∈_, here}
 use Rattle.lent.specs.Over.{over}
 use Rattle.lent.specs.Entries.{flat}
+use Rattle.lent.proofs.OverLaws.{length-over}
 use Rattle.plane.specs.declared.Place.{Place}
 use Rattle.plane.specs.Place.{before}
 use Rattle.plane.specs.Macro.{clear}
 use Rattle.plane.specs.Flat.{placeAt}
+use Rattle.plane.specs.Rank.{InOrder}
 use Rattle.plane.proofs.CostLaws.{cost-comm}
 use Rattle.net.specs.Net.{Net, costIn}
 use Rattle.net.specs.Allowed.{Allowed}
@@ -30,7 +32,7 @@ use Rattle.terminal.specs.Tree.{graphOf}
 use Rattle.terminal.proofs.NumberLaws.{ascending-at, vertex-in, vertex-of-number, number-small}
 use Rattle.terminal.proofs.SettingOf.{edge-at, one-vertex, two-vertex, setting, whole}
 use Rattle.tree.specs.Table.{treeBound, Tree}
-use Rattle.tree.specs.Places.{pointsOf, InOrder}
+use Rattle.tree.specs.Places.{pointsOf}
 use Rattle.tree.specs.Outside.{strangers}
 use Rattle.tree.proofs.ListingLaws.{listing-length, in-listing}
 use Rattle.tree.proofs.OutsideLaws.{outside-none}
@@ -40,6 +42,11 @@ use Rattle.union.proofs.UnionSound.{union-sound, union-ranked, union-room, unio
 use Rattle.refiner.specs.Ready.{Grounded, Ready}
 use Rattle.refiner.specs.Ready as ready
 use Rattle.refined.specs.Ground.{groundOf}
+
+flat-long : (ps : List Place) → length (flat placeNumbers ps) ≡ length ps * 2
+unfolding flat
+flat-long [] = refl
+flat-long (p ∷ ps) = omega (arith, flat-long ps)
 
 module _ {net : Net} (a : Allowed net) where
   abbrev vs : List Place
@@ -104,6 +111,11 @@ module _ {net : Net} (a : Allowed net) where
       let p = first-pin (net .pins) (a .some-pin) in
       record {
         ordered = in-order;
+        sized =
+            length-over (flat placeNumbers vs) (replicate (pointBound * 2) (pos 0))
+            (omega (arith, flat-long vs, few-vertices a, length-replicate (pointBound * 2) (pos 0)))
+            ∙ length-replicate (pointBound * 2) (pos 0);
+        few-vertices = few-vertices a;
         setting = costs;
         joined = whole a .joined;
         free = clear-edges;

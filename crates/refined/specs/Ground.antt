@@ -9,7 +9,7 @@ use Rattle.graph.specs.Spanning.{verticesOf}
 use Rattle.graph.specs.Numbers.{placeNumbers}
 use Rattle.forest.specs.Bounds.{pointBound}
 use Rattle.terminal.specs.Tree.{graphOf}
-use Rattle.refiner.specs.Beside.{Ground, ground}
+use Rattle.beside.specs.Beside.{Ground, ground}
 
 unfoldable pub groundOf : Net → Ground
 groundOf net =

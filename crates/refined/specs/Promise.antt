@@ -19,7 +19,7 @@ use Rattle.joined.specs.Cost.{lengths}
 use Rattle.joined.specs.OneTree.{OneTree}
 use Rattle.graph.specs.Edges.{beforeEdge}
 use Rattle.tree.specs.Table.{Tree}
-use Rattle.refiner.specs.Beside.{Ground}
+use Rattle.beside.specs.Beside.{Ground}
 use Rattle.tree.specs.Edges.{treeEdges}
 
 -- Wires

@@ -21,9 +21,9 @@ use Rattle.forest.specs.Parents.{wayAfter}
 use Rattle.tree.specs.Table.{firstEnd, secondEnd}
 use Rattle.candidates.specs.declared.Best.{Best}
 use Rattle.lists.specs.Turns.{turns}
-use Rattle.candidates.specs.Longest.{cutOf}
+use Rattle.longest.specs.Longest.{cutOf}
 use Rattle.candidates.specs.Candidate.{best, sees, dropped}
-use Rattle.refiner.specs.Beside.{onWay, free, middleBeside, weighed, offer, offers, search}
+use Rattle.beside.specs.Beside.{onWay, free, middleBeside, weighed, offer, offers, search}
 use Rattle.refiner.proofs.TakesLaws.{last-or}
 
 -- the candidate of the edge k and the vertex u, with L and gain
@@ -157,7 +157,8 @@ module _ (w : Weights) (ms : List Macro) (pts : List ℤ) (n : ℕ) (ks : List �
         (λ q. win .vertex);
   }
 
-  edges-lead : (m i : ℕ) (c : Best) → i + m ≡ e → LeadsOff c i 0 → LeadsOff (turns (offers w pts n ms ks el top vs v fars ups seat) i m c) e 0
+  edges-lead : (m i : ℕ) (c : Best) → i + m ≡ e → LeadsOff c i 0
+      → LeadsOff (turns (offers w pts n ms ks el top vs v fars ups seat) i m c) e 0
   unfolding turns offers
   edges-lead zero i c q h = subst (λ (x : ℕ). LeadsOff c x 0) (omega arith) h
   edges-lead (suc m) i c q h = edges-lead m (suc i) _ (omega arith) (edge-leads _ i (vertices-lead i (omega arith) v 0 c (omega arith) h))

@@ -12,6 +12,7 @@ use Rattle.lists.specs.Member.{_∈_, Once}
 use Rattle.lists.proofs.TestLaws.{by, either}
 use Rattle.plane.specs.declared.Place.{Place}
 use Rattle.plane.specs.Flat.{placeAt}
+use Rattle.plane.specs.Rank.{InOrder}
 use Rattle.joined.specs.Joined.{Alike}
 use Rattle.joined.specs.Tree as joined
 use Rattle.joined.specs.Way.{Way, stop}
@@ -21,10 +22,10 @@ use Rattle.joined.proofs.TreeLaws.{tree-cuts}
 use Rattle.joined.proofs.OneTreeLaws.{tree-simple}
 use Rattle.joined.proofs.OnlyWay.{only-way}
 use Rattle.tree.specs.Table.{treeBound, key, firstEnd, secondEnd, Within}
-use Rattle.candidates.specs.Longest.{wins, shorter, noEdge, start, reached, cutOf}
-use Rattle.tree.specs.Places.{endsOf, pointsOf, edgesOf, InOrder}
-use Rattle.candidates.proofs.LongestLaws.{shorter-yes, shorter-no}
-use Rattle.candidates.proofs.WinsLaws.{Under, wins-under, wins-not, under-same}
+use Rattle.longest.specs.Longest.{wins, shorter, noEdge, start, reached, cutOf}
+use Rattle.tree.specs.Places.{endsOf, pointsOf, edgesOf}
+use Rattle.longest.proofs.LongestLaws.{shorter-yes, shorter-no}
+use Rattle.longest.proofs.WinsLaws.{Under, wins-under, wins-not, under-same}
 use Rattle.tree.proofs.ListingLaws.{in-listing}
 use Rattle.tree.proofs.PointLaws.{same-place}
 use Rattle.exchanges.proofs.PruneSound.{order-same}

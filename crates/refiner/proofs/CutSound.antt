@@ -22,15 +22,16 @@ use Rattle.joined.proofs.TowardLaws.{toward-only}
 use Rattle.joined.proofs.ExchangeLaws.{step-other}
 use Rattle.candidates.specs.declared.Best.{Best}
 use Rattle.tree.specs.Table.{treeBound, firstEnd, secondEnd, Tree, tree}
-use Rattle.candidates.specs.Longest.{costs, longest, noEdge}
+use Rattle.longest.specs.Longest.{costs, longest, noEdge}
 use Rattle.candidates.specs.Candidate.{chosen, weighed, offer}
 use Rattle.tree.specs.Places.{endsOf, edgesOf, Sound}
 use Rattle.refiner.specs.Sentences.{keyAt, endA, endB, costAt, EndOf, StepOf, LongestOn, CutAt, cutIn}
-use Rattle.candidates.proofs.WinsLaws.{Under}
+use Rattle.longest.proofs.WinsLaws.{Under}
 use Rattle.tree.proofs.ListingLaws.{listing-length, in-listing}
 use Rattle.tree.proofs.PointLaws.{same-place}
 use Rattle.refiner.proofs.CutLaws.{Is, cut-is, the-way}
-use Rattle.refiner.proofs.WinnerLaws.{cost-at, no-cost}
+use Rattle.beside.proofs.HangingLaws.{no-cost}
+use Rattle.refiner.proofs.WinnerLaws.{cost-at}
 
 -- only one edge is the longest, smallest on a tie
 longest-one : (net : Net) (t : Tree) (x : Place) (ps : List Place) (l m : ℕ) → LongestOn net t x ps l → LongestOn net t x ps m → l ≡ m

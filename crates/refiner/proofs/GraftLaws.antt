@@ -12,13 +12,14 @@ use borrow.Author.Tests.{ltb-true, ltb-false, lt-ltb, le-ltb}
 use Rattle.lists.proofs.TestLaws.{by}
 use Rattle.plane.specs.declared.Place.{Place}
 use Rattle.plane.specs.Flat.{placeAt}
+use Rattle.plane.specs.Rank.{rank}
 use Rattle.forest.specs.Bounds.{pointBound}
 use Rattle.forest.specs.Parents.{wayAfter, Nearing}
 use Rattle.forest.proofs.WayLaws.{after-go, after-none}
 use Rattle.tree.specs.Table.{treeBound, key, In, Within}
 use Rattle.refiner.specs.declared.Growth.{Growth}
 use Rattle.lists.specs.Turns.{turns, seek}
-use Rattle.exchanges.specs.Exchange.{rank, opened, bump, bumpAt, carrying}
+use Rattle.exchanges.specs.Exchange.{opened, bump, bumpAt, carrying}
 use Rattle.refiner.specs.Graft.{Grown, grown, pairKey, notBelow, keyRank, leaf, grafted, Growing}
 use Rattle.exchanges.proofs.ExchangeLaws.{bump-lt, bump-ge}
 use Rattle.exchanges.proofs.WithinLaws.{bump-in, in-key, within-more, within-bumped, within-carrying, rank-le}

@@ -1,5 +1,5 @@
--- R27: a way that meets the tree at its end alone is laid, from there outwards, and the tree stays sound. Its points are those of before and
--- those of the way, its edges those of before and the way's steps, and it costs what the way costs more.
+-- R27: a way that meets the tree at its end alone is laid, from there outwards, and the tree stays sound. Its points are those of before
+-- and those of the way, its edges those of before and the way's steps, and it costs what the way costs more.
 -- Assumes nothing.
 use mathlib.Core.Path.{_≡_, refl, sym, ap, _∙_, subst}
 use mathlib.Core.Bool.{true}
@@ -93,18 +93,24 @@ module _ {net : Net} {t : Tree} {k l : ℕ} {y : Place} {qs : List Place} {g : G
   on-last = ap (λ (z : Place). clear x z (net .macros)) (h .last-at) ∙ seen
 
   -- the new edge joins x and y
-  new-alike : Alike x y (endsOf (leafed.qts net g x (h .sound) (h .ranked) few (h .places) (h .rows) (h .last) fresh on-last) (leafed.j net g x (h .sound) (h .ranked) few (h .places) (h .rows) (h .last) fresh on-last) .0) (endsOf (leafed.qts net g x (h .sound) (h .ranked) few (h .places) (h .rows) (h .last) fresh on-last) (leafed.j net g x (h .sound) (h .ranked) few (h .places) (h .rows) (h .last) fresh on-last) .1)
+  new-alike : Alike x y (endsOf (leafed.qts net g x (h .sound) (h .ranked) few (h .places) (h .rows) (h .last) fresh on-last)
+      (leafed.j net g x (h .sound) (h .ranked) few (h .places) (h .rows) (h .last) fresh on-last) .0)
+      (endsOf (leafed.qts net g x (h .sound) (h .ranked) few (h .places) (h .rows) (h .last) fresh on-last)
+      (leafed.j net g x (h .sound) (h .ranked) few (h .places) (h .rows) (h .last) fresh on-last) .1)
   new-alike =
       either
       (λ q. inl (sym (firsts q), sym (seconds q ∙ h .last-at)))
       (λ q. inr (sym (seconds q), sym (firsts q ∙ h .last-at)))
       (leafed.new-ends net g x (h .sound) (h .ranked) few (h .places) (h .rows) (h .last) fresh on-last)
 
-  new-link : Link (edgesOf (leafed.qts net g x (h .sound) (h .ranked) few (h .places) (h .rows) (h .last) fresh on-last) (leafed.ls net g x (h .sound) (h .ranked) few (h .places) (h .rows) (h .last) fresh on-last) (g .tree .edges .size + 1)) x y
+  new-link : Link (edgesOf (leafed.qts net g x (h .sound) (h .ranked) few (h .places) (h .rows) (h .last) fresh on-last)
+      (leafed.ls net g x (h .sound) (h .ranked) few (h .places) (h .rows) (h .last) fresh on-last) (g .tree .edges .size + 1)) x y
   new-link =
       either
-      (λ q. inl (Memᴰ·cast (sym (q ∙ ap (λ (z : Place). (x, z)) (h .last-at))) (leafed.edge-new net g x (h .sound) (h .ranked) few (h .places) (h .rows) (h .last) fresh on-last)))
-      (λ q. inr (Memᴰ·cast (sym (q ∙ ap (λ (z : Place). (z, x)) (h .last-at))) (leafed.edge-new net g x (h .sound) (h .ranked) few (h .places) (h .rows) (h .last) fresh on-last)))
+      (λ q. inl (Memᴰ·cast (sym (q ∙ ap (λ (z : Place). (x, z)) (h .last-at)))
+      (leafed.edge-new net g x (h .sound) (h .ranked) few (h .places) (h .rows) (h .last) fresh on-last)))
+      (λ q. inr (Memᴰ·cast (sym (q ∙ ap (λ (z : Place). (z, x)) (h .last-at)))
+      (leafed.edge-new net g x (h .sound) (h .ranked) few (h .places) (h .rows) (h .last) fresh on-last)))
       (leafed.new-ends net g x (h .sound) (h .ranked) few (h .places) (h .rows) (h .last) fresh on-last)
 
   pub grows-leaf : Grows net t k l x (y ∷ qs) (leaf x g)
@@ -120,34 +126,53 @@ module _ {net : Net} {t : Tree} {k l : ℕ} {y : Place} {qs : List Place} {g : G
         edge = bump-in (g .tree .edges .size) _ (g .edge) (h .edge);
         cut = bump-in (g .tree .edges .size) _ (g .cut) (h .cut);
         two = leafed.after-two net g x (h .sound) (h .ranked) few (h .places) (h .rows) (h .last) fresh on-last (g .edge) (g .cut) (h .two);
-        edge-at = leafed.edge-at net g x (h .sound) (h .ranked) few (h .places) (h .rows) (h .last) fresh on-last (g .edge) (h .edge) ∙ h .edge-at;
-        cut-at = leafed.edge-at net g x (h .sound) (h .ranked) few (h .places) (h .rows) (h .last) fresh on-last (g .cut) (h .cut) ∙ h .cut-at;
-        point-old = λ z m. leafed.point-old net g x (h .sound) (h .ranked) few (h .places) (h .rows) (h .last) fresh on-last z (h .point-old z m);
+        edge-at = leafed.edge-at net g x (h .sound) (h .ranked) few (h .places) (h .rows) (h .last) fresh on-last (g .edge) (h .edge)
+            ∙ h .edge-at;
+        cut-at = leafed.edge-at net g x (h .sound) (h .ranked) few (h .places) (h .rows) (h .last) fresh on-last (g .cut) (h .cut)
+            ∙ h .cut-at;
+        point-old = λ z m. leafed.point-old net g x (h .sound) (h .ranked) few (h .places) (h .rows) (h .last) fresh on-last z
+            (h .point-old z m);
         point-way =
-            λ z m. either (λ q. Memᴰ·cast q (leafed.point-new net g x (h .sound) (h .ranked) few (h .places) (h .rows) (h .last) fresh on-last)) (λ i. leafed.point-old net g x (h .sound) (h .ranked) few (h .places) (h .rows) (h .last) fresh on-last z (h .point-way z i)) (List·Memᴰ·cases-cons m);
+            λ z m. either (λ q. Memᴰ·cast q (leafed.point-new net g x (h .sound) (h .ranked) few (h .places) (h .rows)
+            (h .last) fresh on-last)) (λ i. leafed.point-old net g x (h .sound) (h .ranked) few (h .places) (h .rows)
+            (h .last) fresh on-last z (h .point-way z i)) (List·Memᴰ·cases-cons m);
         point-known =
             λ z m.
-            either (λ q. inr (here q)) (λ i. either inl (λ j. inr (there j)) (h .point-known z i)) (leafed.known net g x (h .sound) (h .ranked) few (h .places) (h .rows) (h .last) fresh on-last z m);
-        edge-old = λ z m. leafed.edge-old net g x (h .sound) (h .ranked) few (h .places) (h .rows) (h .last) fresh on-last z (h .edge-old z m);
+            either (λ q. inr (here q)) (λ i. either inl (λ j. inr (there j)) (h .point-known z i))
+            (leafed.known net g x (h .sound) (h .ranked) few (h .places) (h .rows) (h .last) fresh on-last z m);
+        edge-old = λ z m. leafed.edge-old net g x (h .sound) (h .ranked) few (h .places) (h .rows) (h .last) fresh on-last z
+            (h .edge-old z m);
         edge-way =
             λ c d m.
             either (λ q. step-link (firsts q) (seconds q)) (λ i. further (h .edge-way c d i)) (List·Memᴰ·cases-cons m);
         edge-known =
             λ z m.
-            either (λ q. inr (new-step z q)) (λ i. either inl (λ s. inr (older z s)) (h .edge-known z i)) (leafed.edge-known net g x (h .sound) (h .ranked) few (h .places) (h .rows) (h .last) fresh on-last z m);
-        total = omega (arith, leafed.after-total net g x (h .sound) (h .ranked) few (h .places) (h .rows) (h .last) fresh on-last, same-cost, h .total);
+            either (λ q. inr (new-step z q)) (λ i. either inl (λ s. inr (older z s)) (h .edge-known z i))
+            (leafed.edge-known net g x (h .sound) (h .ranked) few (h .places) (h .rows) (h .last) fresh on-last z m);
+        total = omega (
+          arith,
+          leafed.after-total net g x (h .sound) (h .ranked) few (h .places) (h .rows)
+              (h .last) fresh on-last,
+          same-cost,
+          h .total,
+        );
         count = omega (arith, h .count);
       })
     where
-      step-link : {c d : Place} → c ≡ x → d ≡ y → Link (edgesOf (leafed.qts net g x (h .sound) (h .ranked) few (h .places) (h .rows) (h .last) fresh on-last) (leafed.ls net g x (h .sound) (h .ranked) few (h .places) (h .rows) (h .last) fresh on-last) (g .tree .edges .size + 1)) c d
+      step-link : {c d : Place} → c ≡ x → d ≡ y → Link (edgesOf
+          (leafed.qts net g x (h .sound) (h .ranked) few (h .places) (h .rows) (h .last) fresh on-last)
+          (leafed.ls net g x (h .sound) (h .ranked) few (h .places) (h .rows) (h .last) fresh on-last) (g .tree .edges .size + 1)) c d
       step-link p q = rw (p, q) new-link
 
       further : {c d : Place} → Link (edgesOf (g .tree .points) (g .tree .edges .keys) (g .tree .edges .size)) c d →
-          Link (edgesOf (leafed.qts net g x (h .sound) (h .ranked) few (h .places) (h .rows) (h .last) fresh on-last) (leafed.ls net g x (h .sound) (h .ranked) few (h .places) (h .rows) (h .last) fresh on-last) (g .tree .edges .size + 1)) c d
+          Link (edgesOf (leafed.qts net g x (h .sound) (h .ranked) few (h .places) (h .rows) (h .last) fresh on-last)
+          (leafed.ls net g x (h .sound) (h .ranked) few (h .places) (h .rows) (h .last) fresh on-last) (g .tree .edges .size + 1)) c d
       further (inl m) = inl (leafed.edge-old net g x (h .sound) (h .ranked) few (h .places) (h .rows) (h .last) fresh on-last _ m)
       further (inr m) = inr (leafed.edge-old net g x (h .sound) (h .ranked) few (h .places) (h .rows) (h .last) fresh on-last _ m)
 
-      new-step : (z : Place × Place) → z ≡ endsOf (leafed.qts net g x (h .sound) (h .ranked) few (h .places) (h .rows) (h .last) fresh on-last) (leafed.j net g x (h .sound) (h .ranked) few (h .places) (h .rows) (h .last) fresh on-last) → StepAt x (y ∷ qs) z
+      new-step : (z : Place × Place) → z ≡ endsOf (leafed.qts net g x (h .sound) (h .ranked) few (h .places) (h .rows)
+          (h .last) fresh on-last) (leafed.j net g x (h .sound) (h .ranked) few (h .places) (h .rows) (h .last) fresh on-last)
+          → StepAt x (y ∷ qs) z
       new-step z q = record {
         one = x;
         other = y;

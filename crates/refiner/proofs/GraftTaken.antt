@@ -18,6 +18,7 @@ use Rattle.plane.specs.declared.Place.{Place}
 use Rattle.plane.specs.Place.{before, samePlace}
 use Rattle.plane.specs.Middle.{middlePlace}
 use Rattle.plane.specs.Flat.{placeAt}
+use Rattle.plane.specs.Rank.{InOrder}
 use Rattle.plane.proofs.PlaceLaws.{same-refl, before-irrefl}
 use Rattle.net.specs.Net.{Net}
 use Rattle.joined.specs.Joined.{Link, Alike, Inside}
@@ -29,11 +30,11 @@ use Rattle.forest.specs.Labels.{far, root}
 use Rattle.forest.specs.Parents.{wayAfter}
 use Rattle.forest.specs.Setting.{pairs}
 use Rattle.tree.specs.Table.{treeBound, firstEnd, secondEnd, Tree}
-use Rattle.tree.specs.Places.{endsOf, pointsOf, edgesOf, InOrder, Ranked, Sound}
+use Rattle.tree.specs.Places.{endsOf, pointsOf, edgesOf, Ranked, Sound}
 use Rattle.tree.proofs.ListingLaws.{in-listing, of-listing}
-use Rattle.candidates.specs.Longest.{costs, longest}
+use Rattle.longest.specs.Longest.{costs, longest}
 use Rattle.candidates.specs.Candidate.{middleOf, sees, dropped}
-use Rattle.refiner.specs.Beside.{Ground, onWay, middleBeside, labelsIn, parentsIn, seatsIn}
+use Rattle.beside.specs.Beside.{Ground, onWay, middleBeside, labelsIn, parentsIn, seatsIn}
 use Rattle.refiner.specs.Graft.{Grown, grafted}
 use Rattle.refiner.specs.Ready.{verticesOf, vertexAt, Grounded}
 use Rattle.refiner.specs.Sentences.{keyAt, endA, endB, EndOf, CutAt}

@@ -21,6 +21,7 @@ use Rattle.plane.specs.Place.{samePlace}
 use Rattle.plane.specs.Cost.{cost}
 use Rattle.plane.specs.Macro.{clear}
 use Rattle.plane.specs.Flat.{placeAt}
+use Rattle.plane.specs.Rank.{InOrder, rank}
 use Rattle.plane.proofs.PlaceLaws.{same-true}
 use Rattle.plane.proofs.CostLaws.{cost-comm}
 use Rattle.plane.proofs.MacroLaws.{clear-comm}
@@ -30,12 +31,12 @@ use Rattle.joined.specs.Tree as joined
 use Rattle.joined.proofs.JoinedLaws.{one as one-link, then, back, more}
 use Rattle.tree.specs.Table.{treeBound, key, firstEnd, secondEnd, Tree, tree, In, Within}
 use Rattle.tree.specs.Sum.{sumOver}
-use Rattle.tree.specs.Places.{endsOf, pointsOf, edgesOf, keyCost, treeTotal, InOrder, Ranked, Sound}
+use Rattle.tree.specs.Places.{endsOf, pointsOf, edgesOf, keyCost, treeTotal, Ranked, Sound}
 use Rattle.tree.proofs.SumLaws.{below-same, below-some, one, one-same, one-some, in-table, of-table}
 use Rattle.tree.proofs.ListingLaws.{listing-length, in-listing, of-listing}
 use Rattle.tree.proofs.PointLaws.{order-once}
 use Rattle.lists.specs.Turns.{turns}
-use Rattle.exchanges.specs.Exchange.{rank, stands, opened, bump, bumpAt, carrying}
+use Rattle.exchanges.specs.Exchange.{stands, opened, bump, bumpAt, carrying}
 use Rattle.refiner.specs.Graft.{Grown, pairKey, keyRank, leaf}
 use Rattle.exchanges.proofs.WithinLaws.{rank-le, bump-in, within-more, within-bumped, within-carrying}
 use Rattle.exchanges.proofs.ExchangeSums.{bumpKey, bumps-at, over-carrying, over-bumped, length-bumps, length-carrying}

@@ -12,7 +12,6 @@ pub mod CutSound
 pub mod TakesLaws
 pub mod RoundSteps
 pub mod LeftLaws
-pub mod BesideLaws
 pub mod GraftLaws
 pub mod ReadyLaws
 pub mod CarriedLaws

@@ -16,17 +16,18 @@ use Rattle.lists.proofs.TestLaws.{by, either}
 use Rattle.lists.proofs.MemberLaws.{once-end}
 use Rattle.plane.specs.declared.Place.{Place}
 use Rattle.plane.specs.Flat.{placeAt}
+use Rattle.plane.specs.Rank.{InOrder}
 use Rattle.joined.specs.Joined.{Link, Alike}
 use Rattle.joined.specs.Way.{Way, stop, go}
 use Rattle.joined.specs.Exchange.{steps}
 use Rattle.joined.proofs.JoinedLaws.{firsts, seconds}
 use Rattle.joined.proofs.OtherLaws.{alike-trans}
 use Rattle.tree.specs.Table.{treeBound, pairBound, key, firstEnd, secondEnd}
-use Rattle.candidates.specs.Longest.{wins, longer, noEdge, spreads, Reach, reach}
-use Rattle.tree.specs.Places.{endsOf, edgesOf, InOrder}
-use Rattle.candidates.proofs.LongestLaws.{longer-yes, longer-no}
-use Rattle.candidates.proofs.WinsLaws.{Under, wins-under, under-trans, longer-first, longer-second}
-use Rattle.candidates.proofs.ReadingLaws.{untouched, spreads-length, spreads-row, spreads-column, spreads-self}
+use Rattle.longest.specs.Longest.{wins, longer, noEdge, spreads, Reach, reach}
+use Rattle.tree.specs.Places.{endsOf, edgesOf}
+use Rattle.longest.proofs.LongestLaws.{longer-yes, longer-no}
+use Rattle.longest.proofs.WinsLaws.{Under, wins-under, under-trans, longer-first, longer-second}
+use Rattle.longest.proofs.ReadingLaws.{untouched, spreads-length, spreads-row, spreads-column, spreads-self}
 use Rattle.tree.proofs.SumLaws.{other, here as put-here}
 use Rattle.tree.proofs.ListingLaws.{in-listing}
 use Rattle.exchanges.proofs.PruneSound.{order-same}

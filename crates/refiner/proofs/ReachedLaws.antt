@@ -15,6 +15,7 @@ use Rattle.lists.proofs.TestLaws.{by, either}
 use Rattle.lists.proofs.MemberLaws.{once-length}
 use Rattle.plane.specs.declared.Place.{Place}
 use Rattle.plane.specs.Flat.{placeAt}
+use Rattle.plane.specs.Rank.{InOrder}
 use Rattle.joined.specs.Joined.{Link}
 use Rattle.joined.specs.Tree as joined
 use Rattle.joined.specs.Way.{Way, stop, go}
@@ -22,8 +23,8 @@ use Rattle.joined.specs.Exchange.{steps}
 use Rattle.joined.proofs.WayLaws.{joined-free}
 use Rattle.lists.specs.Turns.{turns}
 use Rattle.tree.specs.Table.{treeBound, pairBound, key, firstEnd, secondEnd, Within}
-use Rattle.candidates.specs.Longest.{noEdge, Reach, hang, attach, pass, reached, start}
-use Rattle.tree.specs.Places.{endsOf, pointsOf, edgesOf, InOrder}
+use Rattle.longest.specs.Longest.{noEdge, Reach, hang, attach, pass, reached, start}
+use Rattle.tree.specs.Places.{endsOf, pointsOf, edgesOf}
 use Rattle.lists.proofs.TurnLaws.{turns-keep, turns-below}
 use Rattle.tree.proofs.SumLaws.{other, here as put-here}
 use Rattle.tree.proofs.ListingLaws.{listing-length, in-listing, of-listing}

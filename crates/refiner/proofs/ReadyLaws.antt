@@ -23,17 +23,17 @@ use Rattle.forest.proofs.ForestLaws.{made-fine, made-falls}
 use Rattle.forest.proofs.WayLaws.{falls-nearing}
 use Rattle.tree.specs.Table.{firstEnd, secondEnd, Tree}
 use Rattle.candidates.specs.declared.Best.{Best}
-use Rattle.refiner.specs.declared.Choice.{Choice}
+use Rattle.beside.specs.declared.Choice.{Choice}
 use Rattle.lists.specs.Turns.{turns}
-use Rattle.candidates.specs.Longest.{cutOf, costs, longest}
+use Rattle.longest.specs.Longest.{cutOf, costs, longest}
 use Rattle.candidates.specs.Candidate.{best, found}
 use Rattle.candidates.specs.Candidate as tree
 use Rattle.exchanges.specs.Exchange.{exchange}
-use Rattle.refiner.specs.Beside.{Ground, sourcesFrom, takeSeat, seats, middleBeside, free, weighed, offer, offers, search}
-use Rattle.refiner.specs.Beside.{either, chosenOf, labelsIn, parentsIn, seatsIn, chosenIn}
+use Rattle.beside.specs.Beside.{Ground, sourcesFrom, takeSeat, seats, middleBeside, free, weighed, offer, offers, search}
+use Rattle.beside.specs.Beside.{Seated, either, chosenOf, labelsIn, parentsIn, seatsIn, chosenIn}
 use Rattle.refiner.specs.Graft.{Grown, grafted}
 use Rattle.refiner.specs.Round.{exchangeWith, exchangeIn}
-use Rattle.refiner.specs.Ready.{Roomy, Seated, Exchangeable}
+use Rattle.refiner.specs.Ready.{Roomy, Exchangeable}
 use Rattle.lists.proofs.TurnLaws.{turns-below}
 use Rattle.exchanges.proofs.WithinLaws.{cut-in, fine-found}
 
@@ -166,7 +166,8 @@ module _ (g : Ground) (t : Tree) {source fars roots ups vias : List ℕ} {m : �
     unfolding seatsIn seats
     seats-in =
         seats-are
-        ∙ ap (λ (l : Labels). turns (takeSeat (t .points) (t .count) (g .places) (l .roots)) 0 (g .count) (replicate pointBound 0)) labels-in
+        ∙ ap (λ (l : Labels). turns (takeSeat (t .points) (t .count) (g .places) (l .roots)) 0 (g .count) (replicate pointBound 0))
+        labels-in
 
     pub made-seated : Roomy g t → Seated seat (g .count) (t .count)
     made-seated r = record { seated = λ u h. rw seats-in (r .seated u h) }
@@ -183,7 +184,8 @@ module _ (g : Ground) (t : Tree) {source fars roots ups vias : List ℕ} {m : �
 
       pub exchangeable : Roomy g t → (c .gain ≡ 0 → ⊥) → Exchangeable fars ups seat (t .edges .keys) (t .count) (t .edges .size) c
       exchangeable r h =
-          let i = chosen-range w ms (t .points) (t .count) (t .edges .keys) (t .edges .size) (g .places) (g .count) fars ups seat c chosen h in
+          let i = chosen-range w ms (t .points) (t .count) (t .edges .keys) (t .edges .size) (g .places)
+          (g .count) fars ups seat c chosen h in
           record {
             within = r .spanned .within;
             few = (r .few, omega (arith, r .few, r .spanned .size));

@@ -33,7 +33,7 @@ use Rattle.tree.proofs.PointLaws.{same-place}
 use Rattle.exchanges.proofs.WithinLaws.{pruned-few, pruned-within}
 use Rattle.exchanges.proofs.RankedLaws.{prune-ranked}
 use Rattle.exchanges.proofs.PruneSound.{Whole, prune-whole, pruned-was, pruned-over}
-use Rattle.refiner.specs.Beside.{Ground}
+use Rattle.beside.specs.Beside.{Ground}
 use Rattle.refiner.specs.Round.{roundsIn}
 use Rattle.refiner.specs.Ready.{verticesOf, Ready}
 use Rattle.tree.specs.Outside.{strangers}

@@ -7,9 +7,9 @@ use lib.IntN.{ℤ}
 use lib.ListN.{length}
 use Rattle.plane.specs.declared.Weights.{Weights}
 use Rattle.net.specs.Net.{Net}
-use Rattle.candidates.specs.Longest.{edgeCost}
+use Rattle.longest.specs.Longest.{edgeCost}
 use Rattle.exchanges.specs.Prune.{pruned}
-use Rattle.refiner.specs.Beside.{Ground}
+use Rattle.beside.specs.Beside.{Ground}
 use Rattle.refiner.specs.Round.{roundsIn}
 use Rattle.refiner.specs.Refined.{addCost, total, refined}
 use Rattle.tree.specs.Table.{Row, Tree, row, tree}

@@ -1,5 +1,5 @@
--- The rounds on a ground keep a tree over its points in order, with all pins, every edge clear and the edges in order, and room for what can
--- still come: each round adds vertices of the graph and at most one further point. The total falls by each gain.
+-- The rounds on a ground keep a tree over its points in order, with all pins, every edge clear and the edges in order, and room for what
+-- can still come: each round adds vertices of the graph and at most one further point. The total falls by each gain.
 -- Assumes nothing.
 use mathlib.Core.Path.{_≡_, refl, sym, ap, ap₂, _∙_, subst}
 use mathlib.Core.Bool.{true, false}
@@ -28,12 +28,12 @@ use Rattle.tree.proofs.ListingLaws.{listing-length, in-listing}
 use Rattle.tree.proofs.PointLaws.{order-once}
 use Rattle.tree.proofs.OutsideLaws.{outside-more, outside-fewer, count-strangers}
 use Rattle.candidates.specs.declared.Best.{Best}
-use Rattle.refiner.specs.declared.Choice.{Choice}
-use Rattle.candidates.specs.Longest.{costs, longest}
+use Rattle.beside.specs.declared.Choice.{Choice}
+use Rattle.longest.specs.Longest.{costs, longest}
 use Rattle.candidates.specs.Candidate.{best, found, middleOf}
 use Rattle.candidates.specs.Candidate as tree
 use Rattle.exchanges.specs.Exchange.{exchange}
-use Rattle.refiner.specs.Beside.{Ground, search, middleBeside, either, chosenOf, chosenIn, labelsIn, parentsIn, seatsIn}
+use Rattle.beside.specs.Beside.{Ground, search, middleBeside, either, chosenOf, chosenIn, labelsIn, parentsIn, seatsIn}
 use Rattle.refiner.specs.Graft.{Grown}
 use Rattle.refiner.specs.Round.{exchangeWith, exchangeIn, roundsIn}
 use Rattle.refiner.specs.Ready.{verticesOf, vertexAt, Grounded, Ready, Roomy}
@@ -67,6 +67,11 @@ ready-roomy net g t m r =
       room = λ u h. omega (arith, way-room net g t (r .grounded) (r .sound) u h, r .room);
       seated = λ u h. seated net g t (r .grounded) (r .sound) u h .0;
       few = omega (arith, count-strangers (verticesOf g) t (r .sound .ordered), vertices, r .room);
+      points = (
+        omega (arith, count-strangers (verticesOf g) t (r .sound .ordered), vertices, r .room, r .places),
+        r .sound .ordered,
+      );
+      vertices = (omega (arith, r .grounded .sized, r .grounded .few-vertices), r .grounded .ordered);
     }
 
 -- One round
@@ -140,13 +145,16 @@ module _ (net : Net) (g : Ground) (t : Tree) (m : ℕ) (r : Ready net g t (suc m
     low = omega (arith, few)
 
     abbrev pub grown : Grown
-    grown = graft.after net g t (r .grounded) (r .sound) (r .ranked) (r .places) (r .rows) low (off .gain) (off .edge) (off .point) (off .cut) win room-way
+    grown = graft.after net g t (r .grounded) (r .sound) (r .ranked) (r .places) (r .rows) low (off .gain) (off .edge) (off .point)
+        (off .cut) win room-way
 
     abbrev x : Place
     x = vertexAt g (off .point)
 
-    pub grows : Grows net t (off .edge) (off .cut) x (graft.qs net g t (r .grounded) (r .sound) (r .ranked) (r .places) (r .rows) low (off .gain) (off .edge) (off .point) (off .cut) win room-way) grown
-    grows = graft.grows net g t (r .grounded) (r .sound) (r .ranked) (r .places) (r .rows) low (off .gain) (off .edge) (off .point) (off .cut) win room-way
+    pub grows : Grows net t (off .edge) (off .cut) x (graft.qs net g t (r .grounded) (r .sound) (r .ranked) (r .places) (r .rows) low
+        (off .gain) (off .edge) (off .point) (off .cut) win room-way) grown
+    grows = graft.grows net g t (r .grounded) (r .sound) (r .ranked) (r .places) (r .rows) low (off .gain) (off .edge) (off .point)
+        (off .cut) win room-way
 
     pub grown-few : grown .tree .count < treeBound
     grown-few =
@@ -165,10 +173,13 @@ module _ (net : Net) (g : Ground) (t : Tree) (m : ℕ) (r : Ready net g t (suc m
         exchange off-best (grown .tree .points) (grown .tree .count) (grown .tree .edges .keys) (grown .tree .edges .size)
 
     pub kept : Exchanged net (grown .tree) off-next (grown .edge) (grown .cut) (grown .last)
-    kept = taken-kept net (grown .tree) off-best grown-few (grows .places) (grows .rows) (grows .sound) (graft.taken net g t (r .grounded) (r .sound) (r .ranked) (r .places) (r .rows) low (off .gain) (off .edge) (off .point) (off .cut) win room-way)
+    kept = taken-kept net (grown .tree) off-best grown-few (grows .places) (grows .rows) (grows .sound)
+        (graft.taken net g t (r .grounded) (r .sound) (r .ranked) (r .places) (r .rows) low (off .gain) (off .edge) (off .point)
+        (off .cut) win room-way)
 
     -- the points of the way are vertices
-    way-known : (z : Place) → z ∈ (x ∷ graft.qs net g t (r .grounded) (r .sound) (r .ranked) (r .places) (r .rows) low (off .gain) (off .edge) (off .point) (off .cut) win room-way) → z ∈ verticesOf g
+    way-known : (z : Place) → z ∈ (x ∷ graft.qs net g t (r .grounded) (r .sound) (r .ranked) (r .places) (r .rows) low (off .gain)
+        (off .edge) (off .point) (off .cut) win room-way) → z ∈ verticesOf g
     way-known z i =
         let s = of-map (vertexAt g) (off .point ∷ wayAfter (labelsIn g t .fars) (parentsIn g t .ups) (off .point)) i in
         Memᴰ·cast (s .is)
@@ -191,7 +202,8 @@ module _ (net : Net) (g : Ground) (t : Tree) (m : ℕ) (r : Ready net g t (suc m
     cut-cost =
         ap (λ (z : Place × Place). cost (net .weights) (z .0) (z .1)) (grows .cut-at)
         ∙ sym (cost-at (net .weights) (t .points) (t .edges .keys) (t .edges .size) (off .cut)
-        (omega (arith, tree-size net t (r .sound), low)) (graft.cut net g t (r .grounded) (r .sound) (r .ranked) (r .places) (r .rows) low (off .gain) (off .edge) (off .point) (off .cut) win room-way .longest .step .edge))
+        (omega (arith, tree-size net t (r .sound), low)) (graft.cut net g t (r .grounded) (r .sound) (r .ranked) (r .places) (r .rows) low
+        (off .gain) (off .edge) (off .point) (off .cut) win room-way .longest .step .edge))
 
     laid-cost : treeTotal (net .weights) (grown .tree) ≡ far (labelsIn g t) (off .point) + treeTotal (net .weights) t
     laid-cost =
@@ -200,8 +212,10 @@ module _ (net : Net) (g : Ground) (t : Tree) (m : ℕ) (r : Ready net g t (suc m
 
     s-cost : costIn net (middleOf (grown .tree .points) (firstEnd (getD (grown .tree .edges .keys) (grown .edge) 0))
         (secondEnd (getD (grown .tree .edges .keys) (grown .edge) 0)) (grown .last)) (placeAt (grown .tree .points) (grown .last))
-        ≡ costIn net (middleBeside (t .points) (g .places) (firstEnd (keyAt t (off .edge))) (secondEnd (keyAt t (off .edge))) (off .point)) x
-    s-cost = ap₂ (costIn net) (graft.s-is net g t (r .grounded) (r .sound) (r .ranked) (r .places) (r .rows) low (off .gain) (off .edge) (off .point) (off .cut) win room-way) (grows .last-at)
+        ≡ costIn net (middleBeside (t .points) (g .places) (firstEnd (keyAt t (off .edge))) (secondEnd (keyAt t (off .edge))) (off .point))
+        x
+    s-cost = ap₂ (costIn net) (graft.s-is net g t (r .grounded) (r .sound) (r .ranked) (r .places) (r .rows) low (off .gain) (off .edge)
+        (off .point) (off .cut) win room-way) (grows .last-at)
 
     off-onward : Onward net g t off-next m (off .gain)
     off-onward = record {

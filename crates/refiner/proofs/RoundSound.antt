@@ -13,13 +13,14 @@ use Rattle.lists.proofs.TestLaws.{by}
 use Rattle.plane.specs.declared.Place.{Place}
 use Rattle.plane.specs.declared.Weights.{Weights}
 use Rattle.plane.specs.Flat.{placeAt}
+use Rattle.plane.specs.Rank.{rank}
 use Rattle.net.specs.Net.{Net}
 use Rattle.candidates.specs.declared.Best.{Best}
 use Rattle.lists.specs.Turns.{turns}
 use Rattle.tree.specs.Table.{treeBound, firstEnd, secondEnd, row, Tree, tree}
-use Rattle.candidates.specs.Longest.{edgeCost, costs, longest}
+use Rattle.longest.specs.Longest.{edgeCost, costs, longest}
 use Rattle.candidates.specs.Candidate.{middleOf, found}
-use Rattle.exchanges.specs.Exchange.{dropTwo, rank, stands, bump, bumpAt, star, laidAt, exchange}
+use Rattle.exchanges.specs.Exchange.{dropTwo, stands, bump, bumpAt, star, laidAt, exchange}
 use Rattle.refiner.specs.Refined.{addCost, total}
 use Rattle.tree.specs.Sum.{below, sumOver}
 use Rattle.tree.specs.Places.{pointsOf, keyCost, treeTotal, Ranked, Sound}
@@ -34,7 +35,8 @@ use Rattle.exchanges.proofs.WithinLaws.{rank-le, within-dropped}
 use Rattle.exchanges.proofs.RankedLaws.{dropped-ranked, laid-level, ranked-of}
 use Rattle.exchanges.proofs.ExchangeSound.{laid-sound, laid-known, laid-costs}
 use Rattle.refiner.proofs.CutLaws.{Is, cut-is, the-way}
-use Rattle.refiner.proofs.WinnerLaws.{Winner, found-wins, cost-at, no-cost}
+use Rattle.beside.proofs.HangingLaws.{no-cost}
+use Rattle.refiner.proofs.WinnerLaws.{Winner, found-wins, cost-at}
 
 -- what is kept where at most m points are new
 pub record Lasting (net : Net) (t r : Tree) (m : ℕ) : Type 0 where

@@ -11,8 +11,8 @@ use Rattle.lists.proofs.TestLaws.{by}
 use Rattle.plane.specs.Flat.{placeAt}
 use Rattle.net.specs.Net.{Net}
 use Rattle.tree.specs.Table.{firstEnd, secondEnd, Tree}
-use Rattle.refiner.specs.declared.Choice.{Choice}
-use Rattle.refiner.specs.Beside.{Ground, chosenIn}
+use Rattle.beside.specs.declared.Choice.{Choice}
+use Rattle.beside.specs.Beside.{Ground, chosenIn}
 use Rattle.refiner.specs.Round.{exchangeIn, roundsIn}
 use Rattle.tree.specs.Places.{Ranked, Sound}
 use Rattle.refiner.specs.Sentences.{keyAt, Numbered}

@@ -10,12 +10,13 @@ use lib.ListN.{length, getD}
 use Rattle.lists.specs.Member.{_∈_}
 use Rattle.plane.specs.declared.Place.{Place}
 use Rattle.plane.specs.Flat.{placeAt}
+use Rattle.plane.specs.Rank.{rank}
 use Rattle.net.specs.Net.{Net, costIn}
 use Rattle.tree.specs.Table.{treeBound, firstEnd, secondEnd, Tree, tree}
 use Rattle.tree.specs.Places.{pointsOf, keyCost, treeTotal, Ranked, Sound}
 use Rattle.candidates.specs.declared.Best.{Best}
 use Rattle.candidates.specs.Candidate.{middleOf}
-use Rattle.exchanges.specs.Exchange.{dropTwo, rank, laidAt, exchange}
+use Rattle.exchanges.specs.Exchange.{dropTwo, laidAt, exchange}
 use Rattle.candidates.specs.Taken.{Taken}
 use Rattle.exchanges.proofs.ExchangeSums.{length-dropped}
 use Rattle.exchanges.proofs.WithinLaws.{rank-le, within-dropped}

@@ -25,7 +25,7 @@ use Rattle.plane.proofs.PlaceLaws.{same-true, same-refl}
 use Rattle.candidates.specs.declared.Best.{Best}
 use Rattle.lists.specs.Turns.{turns, seek}
 use Rattle.tree.specs.Table.{treeBound, firstEnd, secondEnd, Tree}
-use Rattle.candidates.specs.Longest.{costs, longest, cutOf}
+use Rattle.longest.specs.Longest.{costs, longest, cutOf}
 use Rattle.candidates.specs.Candidate.{best, middleOf, sees, taken, dropped, allowed, weighed, offer, offers, search, found}
 use Rattle.tree.specs.Places.{Sound}
 use Rattle.refiner.specs.Sentences.{keyAt, endA, endB, costAt, EndOf, middleAt, CutAt, cutIn, Gains, Takes}

@@ -1,5 +1,5 @@
--- R23, R27: the way of a vertex to its root hangs on the tree: its steps are edges of the graph, none of its vertices but the root is a point
--- of the tree, and none comes twice. So with the tree's points its vertices are at most the graph's vertices and the further points.
+-- R23, R27: the way of a vertex to its root hangs on the tree: its steps are edges of the graph, none of its vertices but the root is a
+-- point of the tree, and none comes twice. So with the tree's points its vertices are at most the graph's vertices and the further points.
 -- Assumes nothing.
 use mathlib.Core.Path.{_≡_, refl, sym, ap, ap₂, _∙_, subst}
 use mathlib.Core.Bool.{true, false}
@@ -20,6 +20,7 @@ use Rattle.plane.specs.declared.Place.{Place}
 use Rattle.plane.specs.Place.{before, samePlace}
 use Rattle.plane.specs.Macro.{clear}
 use Rattle.plane.specs.Flat.{placeAt}
+use Rattle.plane.specs.Rank.{rank}
 use Rattle.plane.proofs.PlaceLaws.{same-refl, before-irrefl}
 use Rattle.plane.proofs.MacroLaws.{clear-comm}
 use Rattle.net.specs.Net.{Net, costIn}
@@ -40,8 +41,7 @@ use Rattle.tree.proofs.ListingLaws.{listing-length, in-listing}
 use Rattle.tree.proofs.PointLaws.{order-once}
 use Rattle.tree.proofs.OutsideLaws.{outside-rest}
 use Rattle.lists.specs.Turns.{turns}
-use Rattle.exchanges.specs.Exchange.{rank}
-use Rattle.refiner.specs.Beside.{Ground, takeSeat, seats, labelsIn, parentsIn, seatsIn}
+use Rattle.beside.specs.Beside.{Ground, takeSeat, seats, labelsIn, parentsIn, seatsIn}
 use Rattle.refiner.specs.Ready.{verticesOf, vertexAt, Grounded}
 use Rattle.refiner.proofs.WayFound.{point-is, is-seated, sources, distance, source-in, in-source, setting, whole}
 use Rattle.refiner.proofs.GraftSound.{Hanging}
@@ -160,7 +160,8 @@ module _ (net : Net) (g : Ground) (t : Tree) (ground : Grounded net g) (sound : 
   vertex-one x y hx hy e =
       by (ltb x y) (λ b. differ (ap (before (vertexAt g x)) e ∙ ground .ordered x y (ltb-true x y b) hy) (before-irrefl (vertexAt g x)))
       (λ b.
-      by (ltb y x) (λ c. differ (ap (before (vertexAt g y)) (sym e) ∙ ground .ordered y x (ltb-true y x c) hx) (before-irrefl (vertexAt g y)))
+      by (ltb y x) (λ c. differ (ap (before (vertexAt g y)) (sym e) ∙ ground .ordered y x (ltb-true y x c) hx)
+      (before-irrefl (vertexAt g y)))
       (λ c. omega (arith, ltb-false x y b, ltb-false y x c)))
 
   pub way-low : {u r : ℕ} {ys : List ℕ} → u < g .count → Way (pairs (g .graph)) u ys r → (z : ℕ) → z ∈ (u ∷ ys) → z < g .count

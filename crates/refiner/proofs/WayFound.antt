@@ -1,5 +1,5 @@
--- R23: the sources are the vertices that are points of the tree. So a vertex beside it is at some distance, its root is the tree point v that
--- it is joined to, and its way meets the tree there alone.
+-- R23: the sources are the vertices that are points of the tree. So a vertex beside it is at some distance, its root is the tree point v
+-- that it is joined to, and its way meets the tree there alone.
 -- Assumes nothing.
 use mathlib.Core.Path.{_≡_, refl, sym, ap, _∙_, subst}
 use mathlib.Core.Bool.{true, false, _&&_}
@@ -18,6 +18,7 @@ use Rattle.plane.specs.declared.Place.{Place}
 use Rattle.plane.specs.Place.{before, samePlace}
 use Rattle.plane.specs.Macro.{clear}
 use Rattle.plane.specs.Flat.{placeAt}
+use Rattle.plane.specs.Rank.{InOrder, later, rank}
 use Rattle.plane.proofs.PlaceLaws.{same-true, same-refl, before-irrefl}
 use Rattle.plane.proofs.MacroLaws.{clear-comm}
 use Rattle.net.specs.Net.{Net, costIn}
@@ -29,13 +30,14 @@ use Rattle.forest.specs.Labels.{Labels, far, root, labelled}
 use Rattle.forest.specs.Parents.{Parents, up, parented, wayAfter}
 use Rattle.forest.specs.Setting.{pairs, Setting, Whole}
 use Rattle.forest.proofs.Nearest.{joint}
-use Rattle.forest.proofs.Homeward.{source-label, far-off, root-source, wayPoints, Home, way-home, way-runs, way-once, way-source, Upward, arrived, onto, way-upward}
+use Rattle.forest.proofs.Homeward.{source-label, far-off, root-source, wayPoints, Home, way-home, way-runs, way-once, way-source, Upward}
+use Rattle.forest.proofs.Homeward.{arrived, onto, way-upward}
 use Rattle.tree.specs.Table.{treeBound, Tree}
-use Rattle.tree.specs.Places.{pointsOf, InOrder, Sound}
+use Rattle.tree.specs.Places.{pointsOf, Sound}
 use Rattle.tree.proofs.ListingLaws.{in-listing, of-listing}
 use Rattle.lists.specs.Turns.{turns, seek}
-use Rattle.exchanges.specs.Exchange.{rank, later, stands}
-use Rattle.refiner.specs.Beside.{Ground, isPoint, sourcesFrom, takeSeat, seats, labelsIn, parentsIn, seatsIn}
+use Rattle.exchanges.specs.Exchange.{stands}
+use Rattle.beside.specs.Beside.{Ground, isPoint, sourcesFrom, takeSeat, seats, labelsIn, parentsIn, seatsIn}
 use Rattle.refiner.specs.Ready.{verticesOf, vertexAt, Grounded}
 use Rattle.exchanges.proofs.OpenedLaws.{rank-below, rank-above}
 use Rattle.exchanges.proofs.WithinLaws.{rank-le}

@@ -18,12 +18,11 @@ use Rattle.plane.specs.Flat.{placeAt}
 use Rattle.candidates.specs.declared.Best.{Best}
 use Rattle.lists.specs.Turns.{turns}
 use Rattle.tree.specs.Table.{treeBound, firstEnd, secondEnd}
-use Rattle.candidates.specs.Longest.{edgeCost, measure, costs, cutOf, longest, noEdge}
+use Rattle.longest.specs.Longest.{edgeCost, measure, costs, cutOf, longest}
 use Rattle.candidates.specs.Candidate.{best, middleOf, sees, dropped, allowed, weighed, offer, offers, search, found}
 use Rattle.tree.specs.Places.{keyCost}
 use Rattle.lists.proofs.TurnLaws.{turns-below}
 use Rattle.tree.proofs.SumLaws.{other, here}
-use Rattle.exchanges.proofs.WithinLaws.{measured-past, zeros-at}
 
 -- the candidate of the edge k and the point u, with L and gain
 pub record Winner (w : Weights) (ms : List Macro) (pts : List ℤ) (n : ℕ) (ks : List ℕ) (e : ℕ) (el top : List ℕ)
@@ -118,7 +117,3 @@ pub cost-at : (w : Weights) (pts : List ℤ) (ks : List ℕ) (e j : ℕ) → e �
 unfolding costs edgeCost
 cost-at w pts ks e j few h = measured-at w pts ks e 0 (replicate treeBound 0) j (rw (zeros-length treeBound) (omega arith)) (omega arith)
     (omega arith)
-
-pub no-cost : (w : Weights) (pts : List ℤ) (ks : List ℕ) (e : ℕ) → e < treeBound → getD (costs w pts ks e) noEdge 0 ≡ 0
-unfolding costs
-no-cost w pts ks e h = measured-past w pts ks noEdge e 0 (replicate treeBound 0) (omega arith) ∙ zeros-at treeBound noEdge

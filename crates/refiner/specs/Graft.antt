@@ -10,10 +10,11 @@ use lib.IntN.{ℤ}
 use lib.ListN.{getD}
 use Rattle.plane.specs.declared.Place.{Place}
 use Rattle.plane.specs.Flat.{placeAt}
+use Rattle.plane.specs.Rank.{rank}
 use Rattle.tree.specs.Table.{key, Tree, tree, Within}
 use Rattle.refiner.specs.declared.Growth.{Growth}
 use Rattle.lists.specs.Turns.{turns, seek}
-use Rattle.exchanges.specs.Exchange.{rank, opened, bump, bumpAt, carrying}
+use Rattle.exchanges.specs.Exchange.{opened, bump, bumpAt, carrying}
 
 -- a tree, the last point that was put in, and two edges
 pub record Grown : Type 0 where

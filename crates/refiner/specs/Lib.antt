@@ -7,9 +7,9 @@
 -- L is asked for every edge with every point. One table a round answers all: the longest edge on the way between every two points, filled
 -- by hanging one point after the other on those that are reached. Definitions are state machines on whole tables, what stands past their
 -- end included, so that contracts speak of every number lent.
+-- The candidate that a round takes is that of crate beside.
 -- Machines take the weights first and then what they need of the net; sentences and promises take the net.
 --
---   Beside     Ground, chosenIn            the graph that a tree is refined on; the candidate that a round takes, on the tree or beside it
 --   Graft      grafted                     the way laid from the tree, leaf by leaf
 --   Round      exchangeIn, roundsIn        what a round does; at most m of them
 --   Ready      Ready                       what the tables hold before each round
@@ -36,7 +36,6 @@
 --   TakesLaws      found-takes         in a sound tree `found` is the candidate that a round takes: `Takes`
 --   RoundSteps     rounds-none, -some  rounds one by one;  numbered: the order of numbers is that of edges and of places
 --   LeftLaws       none-loose          pruning ends with none left to go;  pruned-left: `NoneLeft` of what is left
-pub mod Beside
 pub mod Graft
 pub mod Round
 pub mod Refined

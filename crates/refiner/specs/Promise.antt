@@ -6,11 +6,12 @@ use Prim.Native.Nat.{ℕ, _+_, _≤_, _<_}
 use lib.ListN.{length, getD}
 use Rattle.plane.specs.declared.Place.{Place}
 use Rattle.plane.specs.Macro.{clear}
+use Rattle.plane.specs.Rank.{InOrder}
 use Rattle.net.specs.Net.{Net}
 use Rattle.joined.specs.OneTree.{OneTree}
 use Rattle.tree.specs.Table.{Tree, Within}
-use Rattle.tree.specs.Places.{endsOf, edgesOf, treeTotal, InOrder, Ranked}
-use Rattle.refiner.specs.Beside.{Ground}
+use Rattle.tree.specs.Places.{endsOf, edgesOf, treeTotal, Ranked}
+use Rattle.beside.specs.Beside.{Ground}
 
 -- what is promised of the tree r that refines the tree t
 pub record Promise (net : Net) (t r : Tree) : Type 0 where

@@ -10,6 +10,7 @@ use Rattle.plane.specs.declared.Macro.{Macro}
 use Rattle.plane.specs.declared.Weights.{Weights}
 use Rattle.plane.specs.Macro.{clear}
 use Rattle.plane.specs.Flat.{placeAt}
+use Rattle.plane.specs.Rank.{InOrder}
 use Rattle.net.specs.Net.{Net, costIn}
 use Rattle.joined.specs.Joined.{Joined}
 use Rattle.forest.specs.Edges.{one, two}
@@ -17,13 +18,13 @@ use Rattle.forest.specs.Bounds.{pointBound}
 use Rattle.forest.specs.Parents.{wayAfter, Nearing}
 use Rattle.forest.specs.Setting.{pairs, Setting}
 use Rattle.tree.specs.Table.{treeBound, Tree, Within}
-use Rattle.tree.specs.Places.{pointsOf, InOrder, Ranked, Sound}
+use Rattle.tree.specs.Places.{pointsOf, Ranked, Sound}
 use Rattle.tree.specs.Outside.{strangers}
-use Rattle.candidates.specs.Hung.{Spanned}
-use Rattle.refiner.specs.Beside.{Ground, labelsIn, parentsIn, seatsIn, chosenIn}
+use Rattle.longest.specs.Hung.{Spanned}
+use Rattle.beside.specs.Beside.{Ground, labelsIn, parentsIn, seatsIn, chosenIn}
 use Rattle.refiner.specs.Round.{exchangeIn}
 use Rattle.refiner.specs.declared.Turn.{Turn}
-use Rattle.refiner.specs.declared.Choice.{Choice}
+use Rattle.beside.specs.declared.Choice.{Choice}
 
 -- the places of its vertices
 abbrev pub verticesOf : Ground → List Place
@@ -35,6 +36,8 @@ vertexAt g i = placeAt (g .places) i
 -- the ground is a graph of the net: vertices in order, pins among them, edges as long as they cost and clear of the macros, all joined
 pub record Grounded (net : Net) (g : Ground) : Type 0 where
   pub ordered : InOrder (g .places) (g .count)
+  pub sized : length (g .places) ≡ pointBound * 2
+  pub few-vertices : g .count ≤ pointBound
   pub setting : Setting (g .graph) (g .count) (λ i j. costIn net (vertexAt g i) (vertexAt g j)) []
   pub joined : (x y : ℕ) → x < g .count → y < g .count → Joined (pairs (g .graph)) x y
   pub free : (k : ℕ) → k < g .graph .count → clear (vertexAt g (one (g .graph) k)) (vertexAt g (two (g .graph) k)) (net .macros) ≡ true
@@ -51,10 +54,6 @@ pub record Ready (net : Net) (g : Ground) (t : Tree) (m : ℕ) : Type 0 where
   pub places : length (t .points) ≡ treeBound * 2
   pub rows : length (t .edges .keys) ≡ treeBound
 
--- the first v vertices have their roots among n points of a tree
-pub record Seated (seat : List ℕ) (v n : ℕ) : Type 0 where
-  pub seated : (u : ℕ) → u < v → getD seat u 0 < n
-
 -- what the code needs of that: all points are reached, no way to a vertex is too long to be laid, and each vertex has its root among the
 -- tree's points
 pub record Roomy (g : Ground) (t : Tree) : Type 0 where
@@ -62,6 +61,9 @@ pub record Roomy (g : Ground) (t : Tree) : Type 0 where
   pub room : (u : ℕ) → u < g .count → t .count + length (wayAfter (labelsIn g t .fars) (parentsIn g t .ups) u) < treeBound
   pub seated : (u : ℕ) → u < g .count → getD (seatsIn g t) u 0 < t .count
   pub few : t .count < treeBound
+  -- both tables of places are in order
+  pub points : (t .count * 2 ≤ length (t .points)) × InOrder (t .points) (t .count)
+  pub vertices : (g .count * 2 ≤ length (g .places)) × InOrder (g .places) (g .count)
 
 -- what the exchange of a choice needs: two edges, a point, and beside the tree room for the way
 pub record Exchangeable (fars ups seat keys : List ℕ) (n e : ℕ) (c : Choice) : Type 0 where

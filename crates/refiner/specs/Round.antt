@@ -9,10 +9,10 @@ use Rattle.plane.specs.declared.Macro.{Macro}
 use Rattle.plane.specs.declared.Weights.{Weights}
 use Rattle.forest.specs.Parents.{wayAfter}
 use Rattle.tree.specs.Table.{Tree}
-use Rattle.refiner.specs.declared.Choice.{Choice}
+use Rattle.beside.specs.declared.Choice.{Choice}
 use Rattle.candidates.specs.Candidate.{best}
 use Rattle.exchanges.specs.Exchange.{exchange}
-use Rattle.refiner.specs.Beside.{Ground, labelsIn, parentsIn, seatsIn, chosenIn}
+use Rattle.beside.specs.Beside.{Ground, labelsIn, parentsIn, seatsIn, chosenIn}
 use Rattle.refiner.specs.Graft.{grafted}
 
 -- R12, R27: the exchange of a choice: beside the tree, once the way is laid

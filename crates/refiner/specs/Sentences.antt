@@ -16,7 +16,7 @@ use Rattle.joined.specs.Joined.{Alike}
 use Rattle.joined.specs.Exchange.{Toward, steps}
 use Rattle.candidates.specs.declared.Best.{Best}
 use Rattle.tree.specs.Table.{firstEnd, secondEnd, Tree}
-use Rattle.candidates.specs.Longest.{costs, longest, cutOf}
+use Rattle.longest.specs.Longest.{costs, longest, cutOf}
 use Rattle.candidates.specs.Candidate.{middleOf, found}
 use Rattle.exchanges.specs.Exchange.{exchange}
 use Rattle.tree.specs.Places.{endsOf, edgesOf, keyCost}

@@ -1,8 +1,7 @@
 // A way from the tree to a vertex beside it, laid point by point from the tree outwards.
 use crate::Growth;
-use crate::VERTEX_NUMBERS;
-use crate::VERTICES;
-use crate::beside;
+use beside::VERTEX_NUMBERS;
+use beside::VERTICES;
 use exchanges::exchange;
 use plane::Place;
 use tree::NUMBERS;

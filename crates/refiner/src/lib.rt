@@ -2,11 +2,10 @@
 //
 // A point is its number in the table of points, which is in the order of places; an edge is the key of its ends' numbers, in a table in the
 // order of edges. So every tie is settled by scanning upwards and giving way only to what is strictly better.
-mod beside; // beside.rt: vertices beside the tree, and the candidates with them
 mod graft; // graft.rt: a way to a vertex beside the tree, laid
 mod round; // round.rt: a round
 
-use candidates::longest;
+use beside::VERTEX_NUMBERS;
 use exchanges::prune;
 use net::Net;
 use plane::Weights;
@@ -20,27 +19,13 @@ ghost use Rattle.net.specs.Pins.{pinCount};
 ghost use Rattle.net.specs.Net.{netWith};
 ghost use Rattle.tree.specs.Table.{treeBound, pairBound, tree, Small, Within};
 ghost use Rattle.forest.specs.Edges.{graph};
-ghost use Rattle.refiner.specs.Beside.{ground};
+ghost use Rattle.beside.specs.Beside.{ground};
 ghost use Rattle.refiner.specs.Round.{roundsIn};
 ghost use Rattle.refiner.specs.Refined.{total, Answer};
 ghost use Rattle.refiner.specs.Ready.{Ready};
 
-// Vertices of the graph, and the numbers of their places.
-pub const VERTICES: usize = forest::POINTS;
-
-pub const VERTEX_NUMBERS: usize = VERTICES * 2;
-
+// Edges of the graph.
 pub const EDGES: usize = forest::EDGES;
-
-// The candidate that a round takes: on the tree its point is the number of a tree point, beside it that of a vertex. With gain 0 there is
-// none.
-pub struct Choice {
-    pub beside: bool,
-    pub gain: u64,
-    pub edge: usize,
-    pub point: usize,
-    pub cut: usize,
-}
 
 // A tree while a way is laid: how many points and edges it has, the last point that was put in, and the two edges that the exchange will
 // take out, by their numbers.

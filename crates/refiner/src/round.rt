@@ -1,12 +1,11 @@
 // A round: roots and ways of the vertices beside the tree, the candidate that is taken, and its exchange.
-use crate::Choice;
 use crate::EDGES;
 use crate::Growth;
 use crate::Turn;
-use crate::VERTEX_NUMBERS;
-use crate::VERTICES;
-use crate::beside;
 use crate::graft;
+use beside::Choice;
+use beside::VERTEX_NUMBERS;
+use beside::VERTICES;
 use candidates::Best;
 use exchanges::exchange;
 use plane::Weights;
@@ -19,7 +18,7 @@ ghost use Rattle.plane.specs.Flat.{macrosOf};
 ghost use Rattle.forest.specs.Bounds.{pointBound};
 ghost use Rattle.forest.specs.Edges.{graph, Fits};
 ghost use Rattle.tree.specs.Table.{treeBound, tree, Within};
-ghost use Rattle.refiner.specs.Beside.{ground};
+ghost use Rattle.beside.specs.Beside.{ground};
 ghost use Rattle.refiner.specs.Round.{exchangeWith};
 ghost use Rattle.refiner.specs.Ready.{Exchangeable, Roomy, Turned};
 

@@ -6,7 +6,7 @@ use mathlib.Core.List.{List}
 use Prim.Native.Nat.{ℕ, suc, _<_}
 use lib.IntN.{pos}
 use lib.ListN.{length, take}
-use Rattle.netfile.specs.Sizes.{pinListBound, macroListBound, fileBound}
+use Rattle.blocks.specs.Sizes.{pinListBound, macroListBound, fileBound}
 use Rattle.netfile.specs.Read.{roomShort, roomShortWithin}
 use Rattle.netfile.proofs.CutLaws.{by-length, cut-short, cut-long, read-too-long}
 use Rattle.report.specs.Text.{refusedText}

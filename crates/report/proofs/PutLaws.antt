@@ -9,7 +9,7 @@ use lib.ListN.{length, take, drop, getD, set, length-append, length-take}
 use lib.Seq.{sets, sets-eq, take-suc}
 use Rattle.lent.specs.Over.{over}
 use Rattle.lent.proofs.OverLaws.{take-over}
-use Rattle.netfile.proofs.BlockLaws.{sets-after}
+use Rattle.blocks.proofs.BlockLaws.{sets-after}
 use Rattle.report.specs.Put.{Put, Filled}
 
 module _ {o p q : List ℕ} {at b c : ℕ} {x y : List ℕ} where

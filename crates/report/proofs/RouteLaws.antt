@@ -26,8 +26,9 @@ use Rattle.net.proofs.AllowedLaws.{given-counts}
 use Rattle.net.proofs.PinLaws as pin-laws
 use Rattle.graph.specs.Numbers.{edgeNumbers, edgeFrom}
 use Rattle.graph.proofs.WidthLaws.{edge-width}
-use Rattle.netfile.specs.Sizes.{pinListBound, macroListBound}
-use Rattle.netfile.specs.Read.{pinsIn, macrosIn, readFile}
+use Rattle.blocks.specs.Sizes.{pinListBound, macroListBound}
+use Rattle.decoded.specs.Held.{pinsIn, macrosIn}
+use Rattle.netfile.specs.Read.{readFile}
 use Rattle.netfile.proofs.RoundTrip.{accepted-is-ours}
 use Rattle.router.specs.Graph.{pointCount}
 use Rattle.router.specs.Both.{bothAnswer, bothGiven, bothTrees}

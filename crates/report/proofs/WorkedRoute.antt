@@ -6,7 +6,7 @@ use Prim.Native.Nat.{ℕ}
 use lib.ListN.{replicate}
 use Rattle.plane.specs.Cost.{plain}
 use Rattle.net.specs.WorkedNets.{threePins}
-use Rattle.netfile.specs.Layout.{fileBytes}
+use Rattle.encoded.specs.Layout.{fileBytes}
 use Rattle.netfile.proofs.WorkedFiles.{words, readWords}
 use Rattle.promises.proofs.WorkedNets.{treesBy}
 use Rattle.report.specs.Route.{treesText, answerText, routeText}

@@ -51,7 +51,8 @@ pub record Table : Type 0 where
       ∷ ((place (pos 2) (pos 0), place (pos 4) (pos 0)) ∷ []))
       ) ≡ threeLines
   pub no-edges : shown plain (head 1 64 0 0 0) []
-      ≡ pinsWord ++ (49 ∷ (macrosWord ++ (54 ∷ (52 ∷ (terminalWord ++ (48 ∷ (refinedWord ++ (48 ∷ (metalWord ++ (48 ∷ (newline ∷ [])))))))))))
+      ≡ pinsWord ++ (49 ∷ (macrosWord ++ (54 ∷ (52 ∷ (terminalWord ++
+      (48 ∷ (refinedWord ++ (48 ∷ (metalWord ++ (48 ∷ (newline ∷ [])))))))))))
   pub far : shown plain (head 0 0 0 0 0) ((place (negsuc 999999) (pos 0), place (negsuc 999989) (pos 1000000)) ∷ [])
       ≡ shown plain (head 0 0 0 0 0) [] ++ farLine
   -- weights 1 and 3: the number behind an edge is its cost

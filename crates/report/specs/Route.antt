@@ -5,8 +5,9 @@ use lib.IntN.{ℤ, pos}
 use Rattle.lent.specs.Told.{Told, refused, given}
 use Rattle.net.specs.declared.Net.{Net as Counts}
 use Rattle.net.specs.Net.{handed}
-use Rattle.netfile.specs.Sizes.{pinListBound, macroListBound}
-use Rattle.netfile.specs.Read.{pinsIn, macrosIn, readFile}
+use Rattle.blocks.specs.Sizes.{pinListBound, macroListBound}
+use Rattle.decoded.specs.Held.{pinsIn, macrosIn}
+use Rattle.netfile.specs.Read.{readFile}
 use Rattle.router.specs.Terminal.{pathsTotal}
 use Rattle.router.specs.Refined.{laidOf, laidTotal, metalOf}
 use Rattle.report.specs.declared.Header.{Header}

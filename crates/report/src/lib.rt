@@ -249,7 +249,7 @@ const EDGE_NUMBERS: usize = Net::TREE_POINTS * 4;
 
 // Bytes to read of a file: one more than the longest has, so that a longer one is refused as such. No text depends on what follows
 // (proofs/CutLaws.antt).
-pub const FILE: usize = netfile::LONGEST + 1;
+pub const FILE: usize = blocks::LONGEST + 1;
 
 // Bytes for the longest text: a header, and a line for each edge.
 pub const TEXT: usize = 140 + Net::TREE_POINTS * 105;

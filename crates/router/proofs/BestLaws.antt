@@ -20,10 +20,10 @@ use Rattle.net.specs.Allowed.{Allowed}
 use Rattle.net.proofs.AllowedLaws.{allowed-positive}
 use Rattle.forest.specs.Bounds.{pathBound}
 use Rattle.refined.proofs.MetalLaws.{metal-low}
-use Rattle.grid.specs.Bounds.{gridMacros}
-use Rattle.grid.specs.Edges.{Edge}
+use Rattle.lines.specs.Bounds.{gridMacros}
+use Rattle.lines.specs.Edges.{Edge}
 use Rattle.rules.proofs.TreesOurs.{trees-ours}
-use Rattle.best.specs.Bounds.{bestPins, workBound}
+use Rattle.parts.specs.Bounds.{bestPins, workBound}
 use Rattle.best.specs.Tree.{IsBest}
 use Rattle.best.proofs.RefinedLaws.{refined-not-cheaper}
 use Rattle.router.specs.Refined.{refinedOf, edgesIn, totalIn}

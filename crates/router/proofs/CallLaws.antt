@@ -21,8 +21,8 @@ use Rattle.joined.specs.Cost.{lengths}
 use Rattle.plane.specs.Distance.{distance}
 use Rattle.graph.specs.Numbers.{edgeNumbers}
 use Rattle.grid.specs.Distance.{SquareOver}
-use Rattle.grid.specs.Edges.{Edge}
-use Rattle.best.specs.Bounds.{workBound}
+use Rattle.lines.specs.Edges.{Edge}
+use Rattle.parts.specs.Bounds.{workBound}
 use Rattle.best.specs.Tree.{BestOver}
 use Rattle.router.specs.declared.DistanceAnswer.{DistanceAnswer}
 use Rattle.router.specs.Distances.{toldDistances}
@@ -145,17 +145,20 @@ module _ (w : Weighing) (pins macros : List ℤ) (room : ℕ) where
       ∙ ap (onlyIf (checked w pins macros)) (alone-room ((pointCount pins macros + pinCount pins) * 4) room (bothAnswer w pins macros))
 
 -- an answer that leaves the terminal tree's total out
-pub refined-alone : (w : Weighing) (pins macros : List ℤ) {edges : List ℤ} {b : BothAnswer} {edges′ : List ℤ} → BothCall bothTrees w pins macros edges b edges′
+pub refined-alone : (w : Weighing) (pins macros : List ℤ) {edges : List ℤ} {b : BothAnswer} {edges′ : List ℤ}
+    → BothCall bothTrees w pins macros edges b edges′
     → (r : TreeAnswer) → toldTree r ≡ alone (toldBoth b) → RefinedCall refinedTree w pins macros edges r edges′
 refined-alone w pins macros {edges} g r e = record {
   answer = e ∙ ap alone (g .answer) ∙ both-refined w pins macros (length edges);
   list =
       g .list
       ∙ alone-after (bothTrees w pins macros (length edges)) _ edges
-      ∙ ap (λ (t : Told (ℕ × (ℤ × ℤ))). after t (flat edgeNumbers (laidOf w pins macros)) edges) (both-refined w pins macros (length edges));
+      ∙ ap (λ (t : Told (ℕ × (ℤ × ℤ))). after t (flat edgeNumbers (laidOf w pins macros)) edges)
+      (both-refined w pins macros (length edges));
 }
 
-pub alone-given : {b : BothAnswer} (n : ℕ) (terminal total metal : ℤ) → b ≡ Given n terminal total metal → given (n, (total, metal)) ≡ alone (toldBoth b)
+pub alone-given : {b : BothAnswer} (n : ℕ) (terminal total metal : ℤ) → b ≡ Given n terminal total metal
+    → given (n, (total, metal)) ≡ alone (toldBoth b)
 unfolding alone toldBoth
 alone-given n terminal total metal e = rw e refl
 

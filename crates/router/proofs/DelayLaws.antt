@@ -48,13 +48,14 @@ use Rattle.refined.proofs.NetRefined.{union-tabled}
 use Rattle.slide.specs.Slide.{treePoints}
 use Rattle.slide.proofs.SlidSound.{given-sound}
 use Rattle.slide.proofs.StateLaws.{first-pin}
-use Rattle.delay.specs.declared.Technology.{Technology}
-use Rattle.delay.specs.declared.Delay.{Delay}
+use Rattle.floats.specs.declared.Technology.{Technology}
+use Rattle.floats.specs.declared.Delay.{Delay}
 use Rattle.delay.specs.declared.Delayed.{Delayed}
-use Rattle.delay.specs.declared.Delay.the-variants.{Finite, NotFinite}
-use Rattle.delay.specs.Answer.{marked, isMark, marksOf, finites, usable, delayed, delayAnswer, delayOf, toldDelays}
+use Rattle.floats.specs.declared.Delay.the-variants.{Finite, NotFinite}
+use Rattle.floats.specs.Mark.{marked, isMark, finites, usable, pinsFrom, marksFrom}
+use Rattle.delay.specs.Answer.{marksOf, delayed, delayAnswer, delayOf, toldDelays}
 use Rattle.delay.specs.Promise.{Timed}
-use Rattle.delay.specs.Table.{Loaded, pinsFrom, driverIn, marksFrom, tableFrom}
+use Rattle.delay.specs.Table.{Loaded, driverIn, tableFrom}
 use Rattle.delay.proofs.AnswerLaws.{in-any, pins-places, answer-places, lent-places}
 use Rattle.delay.proofs.TimedLaws.{timed}
 use Rattle.router.specs.Refined.{edgesIn, laidOf}

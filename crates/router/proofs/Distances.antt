@@ -15,7 +15,7 @@ use Rattle.net.specs.Pins.{pinCount, macroCount}
 use Rattle.net.specs.Net.{weightsOf}
 use Rattle.net.specs.Check.{checked}
 use Rattle.net.proofs.AllowedLaws.{given-allowed}
-use Rattle.grid.specs.Bounds.{gridPins, gridMacros}
+use Rattle.lines.specs.Bounds.{gridPins, gridMacros}
 use Rattle.grid.proofs.SquareLaws.{square-true, squares-same}
 use Rattle.router.specs.Distances.{aboveGrid, distancesGiven, gridDistances, PromisedDistances}
 use Rattle.router.proofs.AnswerLaws.{only-given, room-short, room-enough}

@@ -1,8 +1,7 @@
 pub mod GraphAnswer
 pub mod AnswerLaws
+pub mod RoomLaws
 pub mod CallLaws
-pub mod CountedLaws
-pub mod FreshTables
 pub mod RefinedLaws
 pub mod Distances
 pub mod BestLaws

@@ -31,12 +31,12 @@ use Rattle.refined.proofs.MetalLaws.{metal-low}
 use Rattle.laid.specs.Edges.{edgesOf, laidBound}
 use Rattle.slide.specs.Slide.{slid}
 use Rattle.slide.specs.Promise.{Slidable}
-use Rattle.router.specs.Counted.{Counted}
+use Rattle.made.specs.Counted.{Counted}
 use Rattle.router.specs.Refined.{refinedOf, edgesIn, totalIn}
 use Rattle.router.specs.Slid.{slidIn}
 use Rattle.router.proofs.RefinedLaws.{total-low, answer-edges}
 use Rattle.router.proofs.SlidLaws.{refined-few, refined-given, refined-ranged, slid-refined, slid-few}
-use Rattle.router.proofs.CountedLaws.{as-net}
+use Rattle.made.proofs.CountedLaws.{as-net}
 
 module _ {net : Net} (a : Allowed net) where
   -- the refined tree's edges are what the slider asks for

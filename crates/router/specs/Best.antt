@@ -19,11 +19,11 @@ use Rattle.net.specs.declared.Weighing.{Weighing}
 use Rattle.net.specs.Check.{checked}
 use Rattle.net.specs.Net.{netOf, costIn}
 use Rattle.graph.specs.Numbers.{edgeNumbers}
-use Rattle.grid.specs.Bounds.{gridMacros}
-use Rattle.grid.specs.Edges.{Edge}
+use Rattle.lines.specs.Bounds.{gridMacros}
+use Rattle.lines.specs.Edges.{Edge}
 use Rattle.bought.specs.Passes.{Passes}
 use Rattle.rules.specs.Interior.{PlanePoint, Interior, Box}
-use Rattle.best.specs.Bounds.{bestPins, workBound}
+use Rattle.parts.specs.Bounds.{bestPins, workBound}
 use Rattle.best.specs.Tree.{JoinsPins, BestTree}
 use Rattle.router.specs.Refined.{laidTotal}
 use Rattle.router.specs.Bought.{checkedTree, sumsOf}

@@ -1,6 +1,6 @@
 -- Both trees by one call: rules C63 to C66, whose totals come from one graph.
 use mathlib.Core.List.{List}
-use Prim.Native.Nat.{ℕ, _+_, _*_}
+use Prim.Native.Nat.{ℕ}
 use lib.IntN.{ℤ, pos}
 use lib.ListN.{length}
 use Rattle.lent.specs.Told.{Told, refused, given, onlyIf}
@@ -8,14 +8,13 @@ use Rattle.net.specs.Answer.{number}
 use Rattle.net.specs.Pins.{pinCount}
 use Rattle.net.specs.declared.Weighing.{Weighing}
 use Rattle.net.specs.Check.{checked}
-use Rattle.refiner.specs.declared.Refined.{Refined}
+use Rattle.room.specs.Needs.{edgeNeed}
 use Rattle.router.specs.Room.{ifRoom}
 use Rattle.router.specs.Graph.{pointCount}
 use Rattle.router.specs.Terminal.{pathsTotal}
 use Rattle.router.specs.Refined.{laidOf, laidTotal, metalOf, laidAnswer}
 use Rattle.router.specs.declared.BothAnswer.{BothAnswer}
 use Rattle.router.specs.declared.BothAnswer.the-variants.{Given, Refused}
-use Rattle.router.specs.declared.Trees.{Trees}
 
 -- C64, C66: how many edges of the refined tree are given, and the terminal tree's total before what the refined tree answers
 abbrev pub bothAnswer : Weighing → List ℤ → List ℤ → ℕ × (ℤ × (ℤ × ℤ))
@@ -23,7 +22,7 @@ bothAnswer w pins macros = (length (laidOf w pins macros), (pos (pathsTotal w pi
 
 -- C65: fewer than 4(n + m) numbers
 unfoldable pub bothGiven : Weighing → List ℤ → List ℤ → ℕ → Told (ℕ × (ℤ × (ℤ × ℤ)))
-bothGiven w pins macros room = ifRoom ((pointCount pins macros + pinCount pins) * 4) room (bothAnswer w pins macros)
+bothGiven w pins macros room = ifRoom (edgeNeed (pointCount pins macros) (pinCount pins)) room (bothAnswer w pins macros)
 
 -- C65: 11 to 18, then 21
 unfoldable pub bothTrees : Weighing → List ℤ → List ℤ → ℕ → Told (ℕ × (ℤ × (ℤ × ℤ)))
@@ -33,7 +32,3 @@ bothTrees w pins macros room = onlyIf (checked w pins macros) (bothGiven w pins 
 unfoldable pub toldBoth : BothAnswer → Told (ℕ × (ℤ × (ℤ × ℤ)))
 toldBoth (Given n terminal total metal) = given (n, (terminal, (total, metal)))
 toldBoth (Refused f) = refused (number f)
-
--- the refined tree's part of what is known of both
-abbrev pub refinedPart : Trees → Refined
-refinedPart t = record { points = t .points; edges = t .edges; total = t .total }

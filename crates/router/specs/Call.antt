@@ -13,18 +13,20 @@ use Rattle.net.specs.declared.Checked.{Checked}
 use Rattle.net.specs.declared.Weighing.{Weighing}
 use Rattle.net.specs.Net.{Net, netOf, weightsOf}
 use Rattle.net.specs.Check.{told}
+use Rattle.encoded.specs.Layout.{fileBytes}
+use Rattle.decoded.specs.Held.{pinsIn, macrosIn}
 use Rattle.netfile.specs.declared.Written.{Written}
-use Rattle.netfile.specs.Layout.{fileBytes}
 use Rattle.netfile.specs.Write.{written, toldBytes}
-use Rattle.netfile.specs.Read.{pinsIn, macrosIn, readFile}
+use Rattle.netfile.specs.Read.{readFile}
 use Rattle.graph.specs.Numbers.{placeNumbers, edgeNumbers}
 use Rattle.terminal.specs.Tree.{pathNumbers}
 use Rattle.grid.specs.Distance.{Square}
 use Rattle.delay.specs.declared.Delayed.{Delayed}
-use Rattle.delay.specs.declared.Technology.{Technology}
-use Rattle.delay.specs.Answer.{finites, toldDelays}
-use Rattle.grid.specs.Edges.{Edge}
-use Rattle.best.specs.Bounds.{workBound}
+use Rattle.floats.specs.declared.Technology.{Technology}
+use Rattle.floats.specs.Mark.{finites}
+use Rattle.delay.specs.Answer.{toldDelays}
+use Rattle.lines.specs.Edges.{Edge}
+use Rattle.parts.specs.Bounds.{workBound}
 use Rattle.best.specs.Tree.{BestTree}
 use Rattle.router.specs.declared.Graphed.{Graphed}
 use Rattle.router.specs.declared.TerminalAnswer.{TerminalAnswer}

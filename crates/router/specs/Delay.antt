@@ -16,10 +16,11 @@ use Rattle.net.specs.Pins.{pinCount, pinPlaces, pinEntries}
 use Rattle.net.specs.Check.{checked}
 use Rattle.net.specs.Net.{netOf}
 use Rattle.slide.specs.Slide.{treePoints}
-use Rattle.delay.specs.declared.Technology.{Technology}
-use Rattle.delay.specs.declared.Delay.{Delay}
+use Rattle.floats.specs.declared.Technology.{Technology}
+use Rattle.floats.specs.declared.Delay.{Delay}
 use Rattle.delay.specs.Load.{loadOf}
-use Rattle.delay.specs.Answer.{isMark, marksOf, finites, usable, delayAnswer}
+use Rattle.floats.specs.Mark.{isMark, finites, usable}
+use Rattle.delay.specs.Answer.{marksOf, delayAnswer}
 use Rattle.delay.specs.Promise.{Timed}
 use Rattle.router.specs.Refined.{laidOf}
 

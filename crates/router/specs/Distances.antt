@@ -11,7 +11,7 @@ use Rattle.net.specs.Pins.{pinCount, macroCount}
 use Rattle.net.specs.declared.Weighing.{Weighing}
 use Rattle.net.specs.Check.{checked}
 use Rattle.net.specs.Net.{netOf}
-use Rattle.grid.specs.Bounds.{gridPins, gridMacros}
+use Rattle.lines.specs.Bounds.{gridPins, gridMacros}
 use Rattle.grid.specs.Distance.{Square, TrueSquare}
 use Rattle.router.specs.Room.{ifRoom}
 use Rattle.router.specs.declared.DistanceAnswer.{DistanceAnswer}

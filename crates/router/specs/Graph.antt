@@ -12,6 +12,7 @@ use Rattle.net.specs.Pins.{pinCount, macroCount}
 use Rattle.net.specs.declared.Weighing.{Weighing}
 use Rattle.net.specs.Check.{checked}
 use Rattle.net.specs.Net.{netOf}
+use Rattle.room.specs.Needs.{vertexNeed, linkNeed}
 use Rattle.graph.specs.Spanning.{verticesOf, spanning}
 use Rattle.router.specs.declared.Graphed.{Graphed}
 use Rattle.router.specs.declared.Graphed.the-variants.{Given, Refused}
@@ -28,7 +29,7 @@ pointCount pins macros = pinCount pins + macroCount macros * 4
 
 -- C61: fewer than 2n numbers for vertices or 16n for edges
 unfoldable pub graphRoomShort : ℕ → ℕ → ℕ → Bool
-graphRoomShort n vertexRoom edgeRoom = ltb vertexRoom (n * 2) || ltb edgeRoom (n * 16)
+graphRoomShort n vertexRoom edgeRoom = ltb vertexRoom (vertexNeed n) || ltb edgeRoom (linkNeed n)
 
 -- C62, C52: how many vertices and how many edges are given
 unfoldable pub graphGiven : Weighing → List ℤ → List ℤ → ℕ → ℕ → Told (ℕ × ℕ)

@@ -1,7 +1,6 @@
 -- What the published operations answer, where the crates below do not say it already. `w` are the two weights that a caller hands over with
 -- the two lists.
 --
---   Counted      Counted n w pins macros              what the check hands on: what it counted, of an allowed net
 --   Graph        netVertices, netEdges                the vertices and edges of two weights and two flat lists
 --                graphed w pins macros v e            the answer of a graph into so many lent numbers
 --                toldGraph r                          what the code's answer says
@@ -36,7 +35,6 @@
 --                GivesSquare                          the same of a table whose numbers are fixed by what they mean
 --                GivesBest                            the same of a best tree, where which one is left to the program
 -- All that is promised of these answers, of all orders and of all sites, stands in `promises`.
-pub mod Counted
 pub mod Graph
 pub mod Room
 pub mod Terminal

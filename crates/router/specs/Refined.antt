@@ -1,6 +1,6 @@
 -- The refined tree among the operations: rules C65 and C66.
 use mathlib.Core.List.{List}
-use Prim.Native.Nat.{ℕ, _+_, _*_}
+use Prim.Native.Nat.{ℕ}
 use lib.IntN.{ℤ, pos}
 use lib.ListN.{length}
 use Rattle.lent.specs.Told.{Told, refused, given, onlyIf}
@@ -10,6 +10,7 @@ use Rattle.net.specs.Pins.{pinCount}
 use Rattle.net.specs.declared.Weighing.{Weighing}
 use Rattle.net.specs.Check.{checked}
 use Rattle.net.specs.Net.{Net, netOf, costIn}
+use Rattle.room.specs.Needs.{edgeNeed}
 use Rattle.joined.specs.Cost.{lengths}
 use Rattle.tree.specs.Table as table
 use Rattle.refiner.specs.Refined.{refined}
@@ -55,7 +56,7 @@ laidAnswer w pins macros = (length (laidOf w pins macros), (pos (laidTotal w pin
 
 -- C65: fewer than 4(n + m) numbers
 unfoldable pub refinedGiven : Weighing → List ℤ → List ℤ → ℕ → Told (ℕ × (ℤ × ℤ))
-refinedGiven w pins macros room = ifRoom ((pointCount pins macros + pinCount pins) * 4) room (laidAnswer w pins macros)
+refinedGiven w pins macros room = ifRoom (edgeNeed (pointCount pins macros) (pinCount pins)) room (laidAnswer w pins macros)
 
 -- C65: 11 to 18, then 21
 unfoldable pub refinedTree : Weighing → List ℤ → List ℤ → ℕ → Told (ℕ × (ℤ × ℤ))

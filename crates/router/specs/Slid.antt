@@ -19,6 +19,7 @@ use Rattle.net.specs.declared.Weighing.{Weighing}
 use Rattle.net.specs.Check.{checked}
 use Rattle.net.specs.Net.{Net, netOf, costIn}
 use Rattle.net.specs.Allowed.{PlaceInRange}
+use Rattle.room.specs.Needs.{wireNeed}
 use Rattle.joined.specs.Cost.{lengths}
 use Rattle.joined.specs.OneTree.{OneTree}
 use Rattle.refined.specs.Metal.{metal}
@@ -53,7 +54,7 @@ slidAnswer w pins macros = (length (slidOf w pins macros), (pos (slidTotal w pin
 
 -- C81: fewer than 8(n + m) numbers
 unfoldable pub slidGiven : Weighing → List ℤ → List ℤ → ℕ → Told (ℕ × (ℤ × ℤ))
-slidGiven w pins macros room = ifRoom ((pointCount pins macros + pinCount pins) * 8) room (slidAnswer w pins macros)
+slidGiven w pins macros room = ifRoom (wireNeed (pointCount pins macros) (pinCount pins)) room (slidAnswer w pins macros)
 
 -- C81: 11 to 18, then 21
 unfoldable pub slidTree : Weighing → List ℤ → List ℤ → ℕ → Told (ℕ × (ℤ × ℤ))

@@ -1,7 +1,7 @@
 -- The terminal tree among the operations: rules C63 and C64.
 -- How it is worked out stands in `terminal` (specs/Tree.antt), what it is in `rules` (specs/Terminal.antt).
 use mathlib.Core.List.{List}
-use Prim.Native.Nat.{ℕ, _*_}
+use Prim.Native.Nat.{ℕ}
 use lib.IntN.{ℤ, pos}
 use lib.ListN.{length}
 use Rattle.lent.specs.Told.{Told, refused, given, onlyIf}
@@ -11,6 +11,7 @@ use Rattle.net.specs.Pins.{pinCount}
 use Rattle.net.specs.declared.Weighing.{Weighing}
 use Rattle.net.specs.Check.{checked}
 use Rattle.net.specs.Net.{netOf}
+use Rattle.room.specs.Needs.{pathNeed}
 use Rattle.terminal.specs.Tree as terminal
 use Rattle.router.specs.Room.{ifRoom}
 use Rattle.router.specs.declared.TerminalAnswer.{TerminalAnswer}
@@ -26,7 +27,7 @@ pathsTotal w pins macros = terminal.totalOf (netOf w pins macros)
 
 -- C63: fewer than 5m numbers; otherwise how many paths, and their total
 unfoldable pub terminalGiven : Weighing → List ℤ → List ℤ → ℕ → Told (ℕ × ℤ)
-terminalGiven w pins macros room = ifRoom (pinCount pins * 5) room (length (pathsOf w pins macros), pos (pathsTotal w pins macros))
+terminalGiven w pins macros room = ifRoom (pathNeed (pinCount pins)) room (length (pathsOf w pins macros), pos (pathsTotal w pins macros))
 
 -- C63: 11 to 18, then 21
 unfoldable pub terminalTree : Weighing → List ℤ → List ℤ → ℕ → Told (ℕ × ℤ)

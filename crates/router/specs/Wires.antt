@@ -1,6 +1,6 @@
 -- Wires among the operations: rules C67 and C68.
 use mathlib.Core.List.{List}
-use Prim.Native.Nat.{ℕ, _+_, _*_}
+use Prim.Native.Nat.{ℕ}
 use lib.IntN.{ℤ}
 use lib.ListN.{length}
 use Rattle.lent.specs.Told.{Told, refused, given, onlyIf}
@@ -9,6 +9,7 @@ use Rattle.net.specs.Answer.{number}
 use Rattle.net.specs.Pins.{pinCount}
 use Rattle.net.specs.declared.Weighing.{Weighing}
 use Rattle.net.specs.Check.{checked}
+use Rattle.room.specs.Needs.{wireNeed}
 use Rattle.refined.specs.Wires.{wires}
 use Rattle.router.specs.Room.{ifRoom}
 use Rattle.router.specs.Graph.{pointCount}
@@ -22,7 +23,7 @@ wiresOf w pins macros = wires (laidOf w pins macros)
 
 -- C67: fewer than 8(n + m) numbers
 unfoldable pub wiresGiven : Weighing → List ℤ → List ℤ → ℕ → Told ℕ
-wiresGiven w pins macros room = ifRoom ((pointCount pins macros + pinCount pins) * 8) room (length (wiresOf w pins macros))
+wiresGiven w pins macros room = ifRoom (wireNeed (pointCount pins macros) (pinCount pins)) room (length (wiresOf w pins macros))
 
 -- C67: 11 to 18, then 21
 unfoldable pub wired : Weighing → List ℤ → List ℤ → ℕ → Told ℕ

@@ -4,37 +4,27 @@ use crate::DistanceAnswer;
 use crate::Graphed;
 use crate::TerminalAnswer;
 use crate::TreeAnswer;
-use crate::Trees;
 use crate::Wired;
 use best::Best;
 use delay::Delayed;
-use delay::Technology;
-use grid::Grid;
+use floats::Technology;
+use lines::Grid;
 use net::Net;
 use net::Refusal;
 use plane::Place;
 use price::Priced;
 use straight::EDGE_NUMBERS as EDGE_TABLE;
-use terminal::EDGE_NUMBERS;
-use terminal::EDGES;
-use terminal::POINTS;
-use terminal::VERTEX_NUMBERS;
 use tree::Size;
 ghost use mathlib.Core.Path.{_≡_};
 ghost use Prim.Native.Nat.{_*_};
-ghost use lib.IntN.{pos};
-ghost use lib.ListN.{length, replicate};
-ghost use Rattle.net.specs.Net.{netOf, handed};
-ghost use Rattle.net.specs.Bounds.{treeBound};
+ghost use lib.ListN.{length};
+ghost use Rattle.net.specs.Net.{handed};
 ghost use Rattle.price.specs.Price.{priced, toldPrice};
-ghost use Rattle.refiner.specs.Refined.{Answer};
-ghost use Rattle.union.specs.Union.{unionOf};
-ghost use Rattle.refined.specs.Ground.{groundOf};
-ghost use Rattle.router.specs.Counted.{Counted};
+ghost use Rattle.made.specs.Counted.{Counted};
 ghost use Rattle.router.specs.Graph.{graphGiven};
-ghost use Rattle.router.specs.Terminal.{terminalGiven, pathsTotal};
+ghost use Rattle.router.specs.Terminal.{terminalGiven};
 ghost use Rattle.router.specs.Refined.{metalOf};
-ghost use Rattle.router.specs.Both.{bothGiven, refinedPart};
+ghost use Rattle.router.specs.Both.{bothGiven};
 ghost use Rattle.laid.specs.Edges.{edgesOf, laidBound};
 ghost use Rattle.router.specs.Slid.{slidOf, slidGiven};
 ghost use Rattle.router.specs.Wires.{wiresGiven};
@@ -55,8 +45,7 @@ pub fn graph(
     ensures { λ r. ⌜ GraphCall graphGiven (handed (net .weights)) (now (pins .entry)) (now (macros .entry)) (now (vertices .entry))
         (now (edges .entry)) r (now (vertices .exit)) (now (edges .exit)) ⌝ }
 {
-    let n = net::point_count(net);
-    if (vertices.len() < n * 2) | (edges.len() < n * 16) {
+    if room::graph_short(net, vertices.len(), edges.len()) {
         return Graphed::Refused(Refusal::Space);
     }
     let v = graph::vertices(pins, macros, &mut *vertices);
@@ -70,39 +59,10 @@ pub fn terminal_tree(net: Net, pins: &[i32], macros: &[i32], paths: &mut [i64]) 
     ensures { λ r. ⌜ TerminalCall terminalGiven (handed (net .weights)) (now (pins .entry)) (now (macros .entry)) (now (paths .entry)) r
         (now (paths .exit)) ⌝ }
 {
-    if paths.len() < net.pins * 5 {
+    if room::paths_short(net, paths.len()) {
         return TerminalAnswer::Refused(Refusal::Space);
     }
-    let mut vertices = [0i32; VERTEX_NUMBERS];
-    let mut edges = [0i32; EDGE_NUMBERS];
-    let mut ea = [0usize; EDGES];
-    let mut eb = [0usize; EDGES];
-    let mut el = [0u64; EDGES];
-    let mut pin = [0usize; POINTS];
-    let mut far = [forest::UNREACHED; POINTS];
-    let mut root = [0usize; POINTS];
-    let mut up = [POINTS; POINTS];
-    let mut via = [EDGES; POINTS];
-    let mut kept = [0usize; EDGES];
-    let mut long = [0u64; EDGES];
-    let tree = terminal::terminal_tree(
-        net.weights,
-        pins,
-        macros,
-        &mut vertices,
-        &mut edges,
-        &mut ea,
-        &mut eb,
-        &mut el,
-        &mut pin,
-        &mut far,
-        &mut root,
-        &mut up,
-        &mut via,
-        &mut kept,
-        &mut long,
-    );
-    terminal::give_paths(&edges, &kept, &long, tree.kept, &mut *paths);
+    let tree = made::terminal_tree(net, pins, macros, &mut *paths);
     TerminalAnswer::Given(tree.kept, tree.total as i64)
 }
 
@@ -112,12 +72,12 @@ pub fn both_trees(net: Net, pins: &[i32], macros: &[i32], edges: &mut [i32]) -> 
     ensures { λ r. ⌜ BothCall bothGiven (handed (net .weights)) (now (pins .entry)) (now (macros .entry)) (now (edges .entry)) r
         (now (edges .exit)) ⌝ }
 {
-    if edges.len() < (net::point_count(net) + net.pins) * 4 {
+    if room::edges_short(net, edges.len()) {
         return BothAnswer::Refused(Refusal::Space);
     }
     let mut points = [0i32; tree::NUMBERS];
     let mut keys = [0usize; tree::POINTS];
-    let tree = refine(net, pins, macros, &mut points, &mut keys);
+    let tree = made::refine(net, pins, macros, &mut points, &mut keys);
     let metal = refined::metal(&points, &keys, tree.edges);
     refined::give_edges(&points, &keys, tree.edges, &mut *edges);
     BothAnswer::Given(
@@ -134,7 +94,7 @@ pub fn slid_tree(net: Net, pins: &[i32], macros: &[i32], edges: &mut [i32]) -> T
     ensures { λ r. ⌜ SlidCall slidGiven (handed (net .weights)) (now (pins .entry)) (now (macros .entry)) (now (edges .entry)) r
         (now (edges .exit)) ⌝ }
 {
-    if edges.len() < (net::point_count(net) + net.pins) * 8 {
+    if room::wires_short(net, edges.len()) {
         return TreeAnswer::Refused(Refusal::Space);
     }
     let mut table = [0i32; EDGE_TABLE];
@@ -151,12 +111,12 @@ pub fn wires(net: Net, pins: &[i32], macros: &[i32], wires: &mut [i32]) -> Wired
     ensures { λ r. ⌜ WiresCall wiresGiven (handed (net .weights)) (now (pins .entry)) (now (macros .entry)) (now (wires .entry)) r
         (now (wires .exit)) ⌝ }
 {
-    if wires.len() < (net::point_count(net) + net.pins) * 8 {
+    if room::wires_short(net, wires.len()) {
         return Wired::Refused(Refusal::Space);
     }
     let mut points = [0i32; tree::NUMBERS];
     let mut keys = [0usize; tree::POINTS];
-    let tree = refine(net, pins, macros, &mut points, &mut keys);
+    let tree = made::refine(net, pins, macros, &mut points, &mut keys);
     let count = refined::give_wires(&points, &keys, tree.edges, &mut *wires);
     Wired::Given(count)
 }
@@ -176,7 +136,7 @@ pub fn delay(
 {
     let mut points = [0i32; tree::NUMBERS];
     let mut keys = [0usize; tree::POINTS];
-    let tree = refine(net, pins, macros, &mut points, &mut keys);
+    let tree = made::refine(net, pins, macros, &mut points, &mut keys);
     let mut pin = [0usize; tree::POINTS];
     let mut loads = [0u64; tree::POINTS];
     delay::loads::load(pins, &points, tree.points, &mut pin, &mut loads);
@@ -205,94 +165,9 @@ pub fn price(net: Net, pins: &[i32], macros: &[i32], bands: &[u64]) -> Priced
 {
     let mut points = [0i32; tree::NUMBERS];
     let mut keys = [0usize; tree::POINTS];
-    let tree = refine(net, pins, macros, &mut points, &mut keys);
+    let tree = made::refine(net, pins, macros, &mut points, &mut keys);
     let metal = refined::metal(&points, &keys, tree.edges);
     price::price(metal, bands)
-}
-
-// The refined tree of an allowed net, in tables that are fresh, and the total of the terminal tree that it is refined from.
-fn refine(
-    net: Net,
-    pins: &[i32],
-    macros: &[i32],
-    points: &mut [i32; tree::NUMBERS],
-    keys: &mut [usize; tree::POINTS],
-) -> Trees
-    requires { ⌜ Counted net (handed (net .weights)) (now pins) (now macros) ⌝ }
-    requires { ⌜ (now points ≡ replicate (treeBound * 2) (pos 0)) × (now keys ≡ replicate treeBound 0) ⌝ }
-    ensures { λ r. ⌜ Answer (netOf (handed (net .weights)) (now (pins .entry)) (now (macros .entry)))
-        (groundOf (netOf (handed (net .weights)) (now (pins .entry)) (now (macros .entry))))
-        (unionOf (netOf (handed (net .weights)) (now (pins .entry)) (now (macros .entry)))) (now (points .exit)) (now (keys .exit))
-        (refinedPart r) ⌝ }
-    ensures { λ r. ⌜ r .terminal ≡ pathsTotal (handed (net .weights)) (now (pins .entry)) (now (macros .entry)) ⌝ }
-{
-    let mut vertices = [0i32; VERTEX_NUMBERS];
-    let mut edges = [0i32; EDGE_NUMBERS];
-    let mut ea = [0usize; EDGES];
-    let mut eb = [0usize; EDGES];
-    let mut el = [0u64; EDGES];
-    let mut pin = [0usize; POINTS];
-    let mut far = [forest::UNREACHED; POINTS];
-    let mut root = [0usize; POINTS];
-    let mut up = [POINTS; POINTS];
-    let mut via = [EDGES; POINTS];
-    let mut kept = [0usize; EDGES];
-    let mut long = [0u64; EDGES];
-    let tree = terminal::terminal_tree(
-        net.weights,
-        pins,
-        macros,
-        &mut vertices,
-        &mut edges,
-        &mut ea,
-        &mut eb,
-        &mut el,
-        &mut pin,
-        &mut far,
-        &mut root,
-        &mut up,
-        &mut via,
-        &mut kept,
-        &mut long,
-    );
-    let start = union::start(
-        &vertices,
-        tree.points,
-        &ea,
-        &eb,
-        &el,
-        tree.edges,
-        &pin,
-        tree.pins,
-        &far,
-        &up,
-        &via,
-        &kept,
-        tree.kept,
-        &mut *points,
-        &mut *keys,
-    );
-    let refined = refiner::refine(
-        net,
-        pins,
-        macros,
-        &mut *points,
-        start.points,
-        &mut *keys,
-        start.edges,
-        &vertices,
-        tree.points,
-        &ea,
-        &eb,
-        &el,
-        tree.edges,
-    );
-    Trees {
-        points: refined.points,
-        edges: refined.edges,
-        total: refined.total,
-        terminal: tree.total,
-    }
 }
 
 // The slid tree of an allowed net as a flat list of edges, in a table that is fresh; how many there are.
@@ -303,7 +178,7 @@ fn slide(net: Net, pins: &[i32], macros: &[i32], table: &mut [i32]) -> usize
 {
     let mut points = [0i32; tree::NUMBERS];
     let mut keys = [0usize; tree::POINTS];
-    let tree = refine(net, pins, macros, &mut points, &mut keys);
+    let tree = made::refine(net, pins, macros, &mut points, &mut keys);
     refined::give_edges(&points, &keys, tree.edges, &mut *table);
     slider::slide(net.weights, pins, macros, &mut *table, tree.edges)
 }

@@ -8,7 +8,7 @@ mod allowed; // allowed.rt: what goes on once the check has passed
 
 use bought::Verdict;
 use delay::Delayed;
-use delay::Technology;
+use floats::Technology;
 use net::Checked;
 use net::Refusal;
 use net::Weighing;
@@ -55,15 +55,6 @@ pub enum TreeAnswer {
 pub enum BothAnswer {
     Given(usize, i64, i64, i64),
     Refused(Refusal),
-}
-
-// What is known of both trees besides the refined tree's tables: how many points and edges these hold, their total, and the terminal
-// tree's.
-pub struct Trees {
-    pub points: usize,
-    pub edges: usize,
-    pub total: u64,
-    pub terminal: u64,
 }
 
 // The answer of wires: how many were given.
@@ -141,8 +132,8 @@ pub fn both_trees(w: Weighing, pins: &[i32], macros: &[i32], edges: &mut [i32]) 
 }
 
 // Slid tree: the refined tree's edges made straight, bars of them moved where that saves: its edges in order, how many there are, their
-// total and the metal to lay, or 11 to 18, then 21 where fewer than 8(n + m) numbers are lent. That they hold all pins as one tree, enter no
-// interior, are along one axis unless the refined tree is given back, and cost no more than it: `PromisedSlid` (specs/Slid.antt).
+// total and the metal to lay, or 11 to 18, then 21 where fewer than 8(n + m) numbers are lent. That they hold all pins as one tree, enter
+// no interior, are along one axis unless the refined tree is given back, and cost no more than it: `PromisedSlid` (specs/Slid.antt).
 pub fn slid_tree(w: Weighing, pins: &[i32], macros: &[i32], edges: &mut [i32]) -> TreeAnswer
     ensures { λ r. ⌜ SlidCall slidTree w (now (pins .entry)) (now (macros .entry)) (now (edges .entry)) r (now (edges .exit)) ⌝ }
 {

@@ -114,7 +114,8 @@ module _ {net : Net} {G : List Edge} (law : Lawful net G) where
         zero-way (r .from) (omega (arith, r .lengths, p .nearest c (r .first) i (way-vertex (p .vertex) (p .way) m) (r .to)))
 
   -- there is one nearest tree point and one way
-  pub beside-only : {T : List Edge} {u v w : Place} {qs rs : List Place} → Beside net G T u v qs → Beside net G T u w rs → (v ≡ w) × (qs ≡ rs)
+  pub beside-only : {T : List Edge} {u v w : Place} {qs rs : List Place} → Beside net G T u v qs → Beside net G T u w rs
+      → (v ≡ w) × (qs ≡ rs)
   beside-only {T} {u} {v} {w} {qs} {rs} p q =
       (e, lowest-only (p .way) (other .0) (beside-shortest p .1) (other .1) (p .lowest) (subst (Lowest net G u rs) (sym e) (q .lowest)))
     where

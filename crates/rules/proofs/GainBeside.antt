@@ -24,8 +24,8 @@ use Rattle.forest.specs.Parents.{wayAfter}
 use Rattle.tree.specs.Table.{treeBound, firstEnd, secondEnd, Tree}
 use Rattle.tree.specs.Places.{pointsOf, edgesOf, Ranked, Sound}
 use Rattle.tree.proofs.ListingLaws.{in-listing}
-use Rattle.candidates.specs.Longest.{costs, longest}
-use Rattle.refiner.specs.Beside.{Ground, onWay, labelsIn, parentsIn, seatsIn}
+use Rattle.longest.specs.Longest.{costs, longest}
+use Rattle.beside.specs.Beside.{Ground, onWay, labelsIn, parentsIn, seatsIn}
 use Rattle.refiner.specs.Ready.{vertexAt}
 use Rattle.refiner.specs.Sentences as tables
 use Rattle.refiner.proofs.CutSound.{cut-at, cut-one, cut-another, tree-size}
@@ -38,7 +38,8 @@ use Rattle.rules.specs.Edges.{Edge, edgeCost}
 use Rattle.rules.specs.Refined.{Beside, Reach, Cut, Gain}
 use Rattle.rules.proofs.BesideOnly.{beside-only}
 use Rattle.rules.proofs.ReachOurs.{Charts, beside-ours, charts-lawful}
-use Rattle.rules.proofs.GainOurs.{edgesIn, pointAt, edgeAt, edge-in, edge-of, point-one, point-of, point-listed, listed-point, longest-to}
+use Rattle.rules.proofs.GainOurs.{edgesIn, pointAt, edgeAt, edge-in, edge-of, point-one, point-of, point-listed, listed-point}
+use Rattle.rules.proofs.GainOurs.{longest-to}
 use Rattle.rules.proofs.GainOurs.{longest-from, point-some}
 
 -- a place that is none of a way's
@@ -195,7 +196,8 @@ module _ {net : Net} {G : List Edge} {g : Ground} (charts : Charts net G g) (t :
         vertex = n .1 .1;
         wins =
             from-places gain (r .0) (n .0) (q .0) (r .1 .0) (n .1 .0) (q .1 .0) off
-            (subst (λ (z : Edge). Gain net G T true (tables.endA t (r .0)) (tables.endB t (r .0)) (at (n .0)) (joint (n .0)) (laid (n .0)) z gain)
+            (subst (λ (z : Edge). Gain net G T true (tables.endA t (r .0)) (tables.endB t (r .0)) (at (n .0)) (joint (n .0))
+            (laid (n .0)) z gain)
             (q .1 .1)
             (subst (λ (z : List Place). Gain net G T true (tables.endA t (r .0)) (tables.endB t (r .0)) (at (n .0)) (joint (n .0)) z e gain)
             (one .1)

@@ -147,7 +147,8 @@ module _ {net : Net} (t : Tree) (sound : Sound net t) (ranked : Ranked (t .edges
       let up = ranked .upward k hk in
       let ends = sound .within .ends k in
       by (eqb i (firstEnd (tables.keyAt t k)))
-      (λ q. point-in i (secondEnd (tables.keyAt t k)) h (ends .1) (λ e. let z : ⊥ = omega (arith, up, e, eqb-true i (firstEnd (tables.keyAt t k)) q) in z))
+      (λ q. point-in i (secondEnd (tables.keyAt t k)) h (ends .1)
+      (λ e. let z : ⊥ = omega (arith, up, e, eqb-true i (firstEnd (tables.keyAt t k)) q) in z))
       (λ q. point-in i (firstEnd (tables.keyAt t k)) h (ends .0) (eqb-false _ _ q))
 
   pub point-listed : (v : Place) → Point (net .pins) (edgesIn t) v → v ∈ pointsOf (t .points) (t .count)

@@ -31,5 +31,3 @@ pub mod ChartsOurs
 pub mod RefinedOurs
 pub mod TreesOurs
 pub mod RefinedRange
--- Wrong trees
-pub mod WrongTrees

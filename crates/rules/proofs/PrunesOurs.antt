@@ -14,6 +14,7 @@ use Rattle.lists.specs.Member.{_∈_}
 use Rattle.lists.proofs.TestLaws.{by, either, and-left, and-right}
 use Rattle.plane.specs.declared.Place.{Place}
 use Rattle.plane.specs.Flat.{placeAt}
+use Rattle.plane.specs.Rank.{InOrder}
 use Rattle.joined.specs.Joined.{Alike}
 use Rattle.net.specs.Net.{Net}
 use Rattle.lists.specs.Turns.{turns}
@@ -21,7 +22,7 @@ use Rattle.tree.specs.Table.{treeBound, firstEnd, secondEnd, Tree, Within}
 use Rattle.exchanges.specs.Exchange.{closed}
 use Rattle.exchanges.specs.Prune.{marks, countEnds, loose, looseEdge, firstLoose, prune, pruned}
 use Rattle.tree.specs.Sum.{sumOver}
-use Rattle.tree.specs.Places.{endsOf, edgesOf, InOrder, Ranked, Sound}
+use Rattle.tree.specs.Places.{endsOf, edgesOf, Ranked, Sound}
 use Rattle.refiner.specs.Sentences as tables
 use Rattle.exchanges.proofs.ExchangeSums.{closed-at, skip}
 use Rattle.exchanges.proofs.WithinLaws.{within-closed}

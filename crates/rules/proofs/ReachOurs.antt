@@ -27,7 +27,7 @@ use Rattle.forest.proofs.Nearest.{link-in, nearest-source}
 use Rattle.forest.proofs.Homeward.{root-source, onward-of, parent-is, Upward, arrived, onto, way-upward}
 use Rattle.tree.specs.Table.{Tree}
 use Rattle.tree.specs.Places.{pointsOf, Sound}
-use Rattle.refiner.specs.Beside.{Ground, labelsIn, parentsIn, seatsIn}
+use Rattle.beside.specs.Beside.{Ground, labelsIn, parentsIn, seatsIn}
 use Rattle.refiner.specs.Ready.{vertexAt, Grounded}
 use Rattle.refiner.proofs.WayFound.{sources, distance, in-source, setting, whole}
 use Rattle.refiner.proofs.WayBeside.{wayOf, on-near, root-on, vertex-one, way-along, way-long, long-places}

@@ -57,7 +57,8 @@ module _ {net : Net} (a : Allowed net) where
       }
 
   -- whatever is a union of the kept paths has the edges that are started with
-  start-is : (T : List Edge) {rs : List Edge} (r : Refined net (spanning net) (ourPaths a) rs) → T ≡ r .start → Same (edgesIn (unionOf net)) T
+  start-is : (T : List Edge) {rs : List Edge} (r : Refined net (spanning net) (ourPaths a) rs) → T ≡ r .start
+      → Same (edgesIn (unionOf net)) T
   start-is T r e =
       subst (λ (S : List Edge). Same (edgesIn (unionOf net)) S) (sym e)
       (start-only (ourPaths a) (edgesIn (unionOf net)) (r .start) (start-ours a) (r .union))
@@ -73,18 +74,21 @@ module _ {net : Net} (a : Allowed net) where
   pub between-trees : (rs : List Edge) (r : Refined net (spanning net) (ourPaths a) rs) →
       TreesThrough net (spanning net) (length (net .pins)) (r .start) (r .refines .rounded) (r .refines .rounds)
   between-trees rs r =
-      rounds-trees (net-charts a) (length (net .pins)) (unionOf net) (union-ready a) (r .start) (r .refines .rounded) (start-is (r .start) r refl) (r .refines .rounds)
+      rounds-trees (net-charts a) (length (net .pins)) (unionOf net) (union-ready a) (r .start) (r .refines .rounded)
+      (start-is (r .start) r refl) (r .refines .rounds)
 
   -- and each round makes it shorter by its gain
   pub falls-between : (rs : List Edge) (r : Refined net (spanning net) (ourPaths a) rs) →
       FallsThrough net (spanning net) (length (net .pins)) (r .start) (r .refines .rounded) (r .refines .rounds)
   falls-between rs r =
-      rounds-fall (net-charts a) (length (net .pins)) (unionOf net) (union-ready a) (r .start) (r .refines .rounded) (start-is (r .start) r refl) (r .refines .rounds)
+      rounds-fall (net-charts a) (length (net .pins)) (unionOf net) (union-ready a) (r .start) (r .refines .rounded)
+      (start-is (r .start) r refl) (r .refines .rounds)
 
   -- D3, its last sentence
   pub refined-tree : RefinedTree net (ourPaths a) (treeEdges ourTree)
   refined-tree =
-      let g = promised-edges net (groundOf net) (unionOf net) ourTree (union-promise a) (union-tabled a) (lengths (costIn net) (treeEdges ourTree))
+      let g = promised-edges net (groundOf net) (unionOf net) ourTree (union-promise a) (union-tabled a)
+      (lengths (costIn net) (treeEdges ourTree))
       (tree-total (net .weights) ourTree
       ∙ sym (total-of (net .weights) (ourTree .points) (ourTree .count) (ourTree .edges .keys) (ourTree .edges .size))) in
       record {

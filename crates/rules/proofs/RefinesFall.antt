@@ -20,7 +20,7 @@ use Rattle.net.specs.Net.{Net, costIn}
 use Rattle.graph.specs.Edges.{beforeEdge}
 use Rattle.tree.specs.Table.{Tree}
 use Rattle.tree.specs.Places.{treeTotal}
-use Rattle.refiner.specs.Beside.{Ground}
+use Rattle.beside.specs.Beside.{Ground}
 use Rattle.refiner.specs.Ready.{Ready}
 use Rattle.refiner.proofs.RoundSteps.{choiceIn}
 use Rattle.refiner.proofs.RoundReady.{round-onward}

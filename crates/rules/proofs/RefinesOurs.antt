@@ -15,7 +15,7 @@ use Rattle.plane.proofs.PlaceOrder.{place-same}
 use Rattle.net.specs.Net.{Net}
 use Rattle.tree.specs.Table.{Tree}
 use Rattle.refiner.specs.Refined as tables
-use Rattle.refiner.specs.Beside.{Ground, either, chosenOf, chosenIn}
+use Rattle.beside.specs.Beside.{Ground, either, chosenOf, chosenIn}
 use Rattle.refiner.specs.Round.{exchangeWith, exchangeIn, roundsIn}
 use Rattle.refiner.specs.Ready.{Ready}
 use Rattle.refiner.proofs.RoundSteps.{choiceIn, rounds-none, rounds-some}
@@ -123,7 +123,8 @@ module _ {net : Net} {G : List Edge} {g : Ground} (charts : Charts net G g) wher
           let o = some-gain m t ready some in
           absurd (s .0 (o .k) (o .a) (o .b) (o .u) (o .v) (o .qs) (o .l) (o .g) (gain-same h (o .takes .taken)))
       moves some next (inr (X, (s, more))) =
-          next X (round-only (charts-lawful charts t (ready .sound)) (tree-cuts place-same (ready .sound .whole)) h (some-gain m t ready some) s)
+          next X (round-only (charts-lawful charts t (ready .sound)) (tree-cuts place-same (ready .sound .whole)) h
+          (some-gain m t ready some) s)
           more
 
   -- The refined tree

@@ -20,7 +20,7 @@ use Rattle.joined.proofs.OneTreeLaws.{tree-one}
 use Rattle.net.specs.Net.{Net}
 use Rattle.tree.specs.Table.{Tree}
 use Rattle.tree.specs.Places.{pointsOf, Sound}
-use Rattle.refiner.specs.Beside.{Ground}
+use Rattle.beside.specs.Beside.{Ground}
 use Rattle.refiner.specs.Ready.{Ready}
 use Rattle.refiner.proofs.RoundSteps.{choiceIn}
 use Rattle.tree.proofs.ListingLaws.{in-listing}
@@ -65,6 +65,7 @@ module _ {net : Net} {G : List Edge} {g : Ground} (charts : Charts net G g) wher
         (λ q.
         let some : choiceIn net g t .gain ≡ 0 → ⊥ = eqb-false _ _ q in
         rounds-trees m (nextIn charts t) (ready-next charts m t ready some) X U
-        (round-only (charts-lawful charts t (ready .sound)) (tree-cuts place-same (ready .sound .whole)) h (some-gain charts m t ready some) r)
+        (round-only (charts-lawful charts t (ready .sound)) (tree-cuts place-same (ready .sound .whole)) h
+        (some-gain charts m t ready some) r)
         more),
   )

@@ -27,11 +27,11 @@ use Rattle.tree.proofs.ListingLaws.{in-listing}
 use Rattle.candidates.specs.declared.Best.{Best}
 use Rattle.plane.specs.Middle.{middlePlace}
 use Rattle.candidates.specs.Candidate.{found}
-use Rattle.candidates.specs.Longest.{costs, longest}
+use Rattle.longest.specs.Longest.{costs, longest}
 use Rattle.exchanges.specs.Exchange.{exchange}
 use Rattle.candidates.specs.Taken.{Taken}
 use Rattle.refiner.specs.Sentences as tables
-use Rattle.refiner.specs.Beside.{Ground, labelsIn, parentsIn, seatsIn}
+use Rattle.beside.specs.Beside.{Ground, labelsIn, parentsIn, seatsIn}
 use Rattle.refiner.specs.Ready.{vertexAt, Ready}
 use Rattle.refiner.proofs.CutSound.{tree-size}
 use Rattle.exchanges.proofs.ExchangeSound.{laid-after}
@@ -121,7 +121,8 @@ step-off net t k l v vs (y ∷ ys) u h c d m i =
 
 -- what is known of a candidate that is found on the tree
 on-taken : (net : Net) (pts : List ℤ) (n : ℕ) (ks : List ℕ) (e : ℕ) → Sound net (tree pts n ks e) → n < treeBound → (gain k u l : ℕ) →
-    Winner (net .weights) (net .macros) pts n ks e (costs (net .weights) pts ks e) (longest ks (costs (net .weights) pts ks e) e n) gain k u l →
+    Winner (net .weights) (net .macros) pts n ks e (costs (net .weights) pts ks e)
+    (longest ks (costs (net .weights) pts ks e) e n) gain k u l →
     Taken (net .macros) pts n ks e k l u
 on-taken net pts n ks zero sound few gain k u l w = absurd (let z : ⊥ = omega (arith, w .edge) in z)
 on-taken net pts n ks (suc e) sound few gain k u l w = taken net pts n ks e sound few gain k u l w
@@ -239,7 +240,9 @@ module _ {net : Net} {G : List Edge} {g : Ground} (charts : Charts net G g) (t :
     cut-is = grows net g t m ready h .cut-at
 
     s-is : tables.middleAt (after .tree) (after .edge) (after .last) ≡ middlePlace (tables.endA t (d .edge)) (tables.endB t (d .edge)) u
-    s-is = graft.s-is net g t (ready .grounded) (ready .sound) (ready .ranked) (ready .places) (ready .rows) (low net g t m ready h) (off net g t m ready .gain) (off net g t m ready .edge) (off net g t m ready .point) (off net g t m ready .cut) (win net g t m ready h) (room-way net g t m ready h)
+    s-is = graft.s-is net g t (ready .grounded) (ready .sound) (ready .ranked) (ready .places) (ready .rows) (low net g t m ready h)
+        (off net g t m ready .gain) (off net g t m ready .edge) (off net g t m ready .point) (off net g t m ready .cut)
+        (win net g t m ready h) (room-way net g t m ready h)
 
     lays-as : {s s2 a a2 : Place} {x : Edge} → s ≡ s2 → a ≡ a2 → Lays s a x → Lays s2 a2 x
     lays-as {s} {s2} {a} {a2} {x} p q l = subst (λ (z : Place). Lays z a2 x) p (subst (λ (z : Place). Lays s z x) q l)
@@ -269,7 +272,10 @@ module _ {net : Net} {G : List Edge} {g : Ground} (charts : Charts net G g) (t :
     pub round-off : Gained net G (edgesIn t) (edgesIn (off-next net g t m ready h)) (off net g t m ready .gain)
     round-off =
         let there-is = left-edges net (after .tree) best-off (grown-few net g t m ready h) (grows net g t m ready h .places)
-        (grows net g t m ready h .rows) (grows net g t m ready h .sound) (grows net g t m ready h .ranked) (graft.taken net g t (ready .grounded) (ready .sound) (ready .ranked) (ready .places) (ready .rows) (low net g t m ready h) (off net g t m ready .gain) (off net g t m ready .edge) (off net g t m ready .point) (off net g t m ready .cut) (win net g t m ready h) (room-way net g t m ready h)) in (
+        (grows net g t m ready h .rows) (grows net g t m ready h .sound) (grows net g t m ready h .ranked)
+        (graft.taken net g t (ready .grounded) (ready .sound) (ready .ranked) (ready .places) (ready .rows) (low net g t m ready h)
+        (off net g t m ready .gain) (off net g t m ready .edge) (off net g t m ready .point) (off net g t m ready .cut)
+        (win net g t m ready h) (room-way net g t m ready h)) in (
           record {
             k = true;
             a = tables.endA t (d .edge);

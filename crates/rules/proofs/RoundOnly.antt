@@ -87,7 +87,8 @@ step-same : {T U : List Edge} → Same T U → {x : Place} {qs : List Place} {e 
 step-same h {e = e} s = record { edge = h .0 e (s .edge); one = s .one; other = s .other; on = s .on; ends = s .ends }
 
 module _ {net : Net} {G : List Edge} {T U : List Edge} (h : Same T U) where
-  pub gain-same : {k : Bool} {a b u v : Place} {qs : List Place} {l : Edge} {g : ℕ} → Gain net G T k a b u v qs l g → Gain net G U k a b u v qs l g
+  pub gain-same : {k : Bool} {a b u v : Place} {qs : List Place} {l : Edge} {g : ℕ} → Gain net G T k a b u v qs l g
+      → Gain net G U k a b u v qs l g
   gain-same {k} {a} {b} {u} {v} {qs} x = record {
     candidate = record {
       edge = h .0 (a, b) (x .candidate .edge);
@@ -116,7 +117,8 @@ after-same h a b u qs l e (inl p) = inl (h .0 e (p .0), p .1)
 after-same h a b u qs l e (inr p) = inr p
 
 module _ {net : Net} {G : List Edge} {T U : List Edge} (h : Same T U) where
-  pub takes-same : {k : Bool} {a b u v : Place} {qs : List Place} {l : Edge} {g : ℕ} → Takes net G T k a b u v qs l g → Takes net G U k a b u v qs l g
+  pub takes-same : {k : Bool} {a b u v : Place} {qs : List Place} {l : Edge} {g : ℕ} → Takes net G T k a b u v qs l g
+      → Takes net G U k a b u v qs l g
   takes-same x = record {
     taken = gain-same h (x .taken);
     greatest = λ j c d w y rs m f z. x .greatest j c d w y rs m f (gain-same (same-turn h) z);
@@ -150,7 +152,8 @@ longest-one {k = k} {l = l} p q =
     edge-order .tie k l (q .smallest k (p .step) (omega arith)) (p .smallest l (q .step) (omega arith))
 
 -- in a tree one edge alone is L
-pub cut-only : {net : Net} {T : List Edge} → Cuts T → {a b v : Place} {k l : Edge} → (a, b) ∈ T → Cut net T a b v k → Cut net T a b v l → k ≡ l
+pub cut-only : {net : Net} {T : List Edge} → Cuts T → {a b v : Place} {k l : Edge} → (a, b) ∈ T → Cut net T a b v k → Cut net T a b v l
+    → k ≡ l
 cut-only {net} {T} cuts {v = v} {k = k} m p q =
     longest-one
     (subst (λ (ps : List Place). Longest net T v ps k) (toward-only place-same cuts (inl m) (p .way) (q .way) .1) (p .longest)) (q .longest)
@@ -206,7 +209,8 @@ takes-only {net} {G} law {T} cut {k} {a} {b} {u} {v} {qs} {l} {g} t {j} {c} {d} 
 abbrev Of : List Edge → List Edge → Choice → List Place → Edge → Edge → Type 0
 Of G T c qs l e = After G T (c .1 .0 .0) (c .1 .0 .1) (c .1 .1) qs l e
 
-pub round-only : {net : Net} {G : List Edge} → Lawful net G → {T U R Q : List Edge} → Cuts T → Same T U → Round net G T R → Round net G U Q → Same R Q
+pub round-only : {net : Net} {G : List Edge} → Lawful net G → {T U R Q : List Edge} → Cuts T → Same T U → Round net G T R → Round net G U Q
+    → Same R Q
 round-only {net} {G} law {T} {U} {R} {Q} cuts h r other = (
   λ e m. q .edges e .1 (cast e (r .edges e .0 m)),
   λ e m. r .edges e .1 (uncast e (q .edges e .0 m)),

@@ -29,7 +29,7 @@ use Rattle.candidates.specs.declared.Best.{Best}
 use Rattle.candidates.specs.Candidate.{found}
 use Rattle.exchanges.specs.Exchange.{dropTwo, exchange}
 use Rattle.refiner.specs.Sentences as tables
-use Rattle.refiner.specs.Beside.{Ground, labelsIn, parentsIn, seatsIn}
+use Rattle.beside.specs.Beside.{Ground, labelsIn, parentsIn, seatsIn}
 use Rattle.refiner.specs.Ready.{vertexAt, Ready}
 use Rattle.exchanges.proofs.ExchangeSums.{between, over-dropped}
 use Rattle.exchanges.proofs.WithinLaws.{within-dropped}
@@ -149,7 +149,8 @@ module _ {net : Net} {G : List Edge} {g : Ground} (charts : Charts net G g) (t :
       (joint charts t sound ranked few (found-off .point)) (laid charts t sound ranked few (found-off .point)) (edgeAt t (found-off .cut))
       (found-off .gain)
   takes-off more = record {
-    taken = off-to charts t sound ranked few (found-off .gain) (found-off .edge) (found-off .point) (found-off .cut) (omega arith) (leads .wins more);
+    taken = off-to charts t sound ranked few (found-off .gain) (found-off .edge) (found-off .point) (found-off .cut) (omega arith)
+        (leads .wins more);
     greatest = greatest;
     first = first;
   }

@@ -20,16 +20,16 @@ use Rattle.plane.specs.Place.{place, before}
 use Rattle.plane.proofs.PlaceOrder.{place-order}
 use Rattle.net.specs.Net.{Net, costIn}
 use Rattle.graph.specs.Spanning.{verticesOf, spanning}
-use Rattle.graph.specs.declared.Quadrant as code
-use Rattle.graph.specs.declared.Quadrant.the-variants.{First, Second, Third, Fourth}
-use Rattle.graph.specs.declared.Picked.the-variants.{At}
-use Rattle.graph.specs.Pick.{within}
+use Rattle.picks.specs.declared.Quadrant as code
+use Rattle.picks.specs.declared.Quadrant.the-variants.{First, Second, Third, Fourth}
+use Rattle.picks.specs.declared.Picked.the-variants.{At}
+use Rattle.picks.specs.Pick.{within}
 use Rattle.graph.specs.Vertices.{cornersOf}
 use Rattle.graph.specs.Edges.{beforeEdge, edges as ourEdges}
-use Rattle.graph.proofs.QuadrantLaws.{one-quadrant}
+use Rattle.picks.proofs.QuadrantLaws.{one-quadrant}
 use Rattle.graph.proofs.VertexLaws.{lower-left, upper-left, lower-right, upper-right, at-corner, pin-vertex, corner-vertex}
 use Rattle.graph.proofs.VertexLaws.{of-vertices, vertices-ascending}
-use Rattle.graph.proofs.PickLaws.{Fit, Preferred, PicksAt, pick-at, pick-only}
+use Rattle.picks.proofs.PickLaws.{Fit, Preferred, PicksAt, pick-at, pick-only}
 use Rattle.graph.proofs.EdgeLaws.{PickedBy, link-picked, picked-link, edge-of}
 use Rattle.graph.proofs.GraphBounds.{spanning-ascending}
 use Rattle.rules.specs.Edges.{Edge}

@@ -22,11 +22,11 @@ use Rattle.net.specs.Allowed.{Allowed}
 use Rattle.net.specs.Net.{Net}
 use Rattle.graph.specs.Spanning.{verticesOf, spanning}
 use Rattle.forest.specs.Edges.{one, two}
-use Rattle.terminal.specs.Bridges.{path as pathEdges}
-use Rattle.terminal.specs.Kept.{terminal}
+use Rattle.bridges.specs.Bridges.{path as pathEdges}
+use Rattle.keeping.specs.Kept.{terminal}
 use Rattle.forest.specs.Setting.{ends}
-use Rattle.terminal.proofs.WholeLaws.{of-kept}
-use Rattle.terminal.proofs.OurTree as numbers
+use Rattle.keeping.proofs.WholeLaws.{of-kept}
+use Rattle.keeping.proofs.OurTree as numbers
 use Rattle.terminal.specs.Number.{vertexAt, edgeAt}
 use Rattle.terminal.specs.Tree.{treeOf, rootsOf}
 use Rattle.terminal.specs.Roots.{WayUp, arrived, upward, parentOf}

@@ -41,7 +41,8 @@ module _ {net : Net} (a : Allowed net) where
         paths = k;
         refined =
             refined-only a rs
-            (subst (λ (l : List Path). Refined net (spanning net) l rs) k (subst (λ (l : List Edge). Refined net l ks rs) (g .1) (t .refined)));
+            (subst (λ (l : List Path). Refined net (spanning net) l rs) k
+            (subst (λ (l : List Edge). Refined net l ks rs) (g .1) (t .refined)));
       }
 
 -- So the trees of two nets that have the same pins, macros and weights are the same.

@@ -18,7 +18,7 @@ use Rattle.plane.specs.declared.Macro.{Macro}
 use Rattle.plane.specs.declared.Weights.{Weights}
 use Rattle.plane.specs.Cost.{cost}
 use Rattle.net.specs.Net.{Net, costIn}
-use Rattle.grid.specs.Edges.{Edge, gridEdges}
+use Rattle.lines.specs.Edges.{Edge, gridEdges}
 use Rattle.rules.proofs.TreesOrder.{netBy, SameNet, turned}
 use Rattle.best.specs.Tree.{JoinsPins, IsBest}
 use Rattle.best.proofs.OrderLaws.{link-same}

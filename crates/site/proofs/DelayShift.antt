@@ -18,14 +18,15 @@ use Rattle.plane.specs.declared.Place.{Place}
 use Rattle.plane.specs.Place.{before, samePlace}
 use Rattle.plane.specs.Distance.{distance}
 use Rattle.rules.specs.Edges.{Edge}
-use Rattle.delay.specs.declared.Technology.{Technology}
-use Rattle.delay.specs.declared.Delay.{Delay}
-use Rattle.delay.specs.Float as float
-use Rattle.delay.specs.Rooted.{Branches, renamed, Every, none, branch, sprout, neighbours, children, hanging, rooted}
-use Rattle.delay.specs.Elmore.{delays, delayIn}
+use Rattle.floats.specs.declared.Technology.{Technology}
+use Rattle.floats.specs.declared.Delay.{Delay}
+use Rattle.floats.specs.Float as float
+use Rattle.elmore.specs.Rooted.{Branches, renamed, Every, none, branch, sprout, neighbours, children, hanging, rooted}
+use Rattle.elmore.specs.Elmore.{delays, delayIn}
 use Rattle.delay.specs.Load.{loadOf}
-use Rattle.delay.specs.Answer.{delayOf, marked, marksOf, delayed, delayAnswer}
-use Rattle.delay.proofs.CarriedLaws.{named, sprout-renamed, delays-renamed, delayIn-renamed}
+use Rattle.floats.specs.Mark.{marked}
+use Rattle.delay.specs.Answer.{delayOf, marksOf, delayed, delayAnswer}
+use Rattle.elmore.proofs.CarriedLaws.{named, sprout-renamed, delays-renamed, delayIn-renamed}
 use Rattle.site.specs.Shift.{shiftEntry}
 use Rattle.site.proofs.ShiftLaws.{before-there, same-there}
 use Rattle.site.proofs.TreeShift.{distance-there}

@@ -17,10 +17,10 @@ use Rattle.plane.specs.Place.{place, before}
 use Rattle.plane.specs.Macro.{clear}
 use Rattle.net.specs.Net.{Net, costIn}
 use Rattle.net.specs.Allowed.{Allowed}
-use Rattle.grid.specs.declared.Axis.{Axis}
-use Rattle.grid.specs.declared.Axis.the-variants.{Across, Along}
-use Rattle.grid.specs.Lines.{coordinate, sides, marks, linesOf, xLines, yLines}
-use Rattle.grid.specs.Edges.{Edge, nexts, row, column, rows, columns, edgesOf, gridEdges}
+use Rattle.lines.specs.declared.Axis.{Axis}
+use Rattle.lines.specs.declared.Axis.the-variants.{Across, Along}
+use Rattle.lines.specs.Lines.{coordinate, sides, marks, linesOf, xLines, yLines}
+use Rattle.lines.specs.Edges.{Edge, nexts, row, column, rows, columns, edgesOf, gridEdges}
 use Rattle.grid.specs.Distance.{GridDistance, pinsInOrder, pinInOrder, entryAt, Square}
 use Rattle.grid.proofs.NetDistance.{order-count}
 use Rattle.rules.specs.Moved.{movedEdge}

@@ -24,4 +24,3 @@ pub mod OneMove
 pub mod MergeLaws
 pub mod ListOrder
 pub mod SentenceLaws
-pub mod WorkedSlides

@@ -1,30 +1,40 @@
 -- Bars and what hangs from them, by the side to which they would move: rules M5, M6 and M10.
-use mathlib.Core.Path.{_≡_}
+use mathlib.Core.Path.{sym, ap, ap₂}
 use mathlib.Core.Bool.{Bool, true, false, not, _&&_, _||_}
 use mathlib.Core.List.{List, [], _∷_, map}
 use Prim.Native.Nat.{ℕ, min}
+use native.Mathlib.Decide.{ℕ-discrete}
 use lib.Dec.{eqb}
+use lib.IntN.{ℤ, pos, negsuc, pos-ne-negsuc}
 use lib.Signed.{ltZ}
 use Rattle.lists.specs.Those.{those}
-use Rattle.lists.proofs.TestLaws.{differ}
 use Rattle.signed.specs.Order.{eqZ}
 use Rattle.plane.specs.declared.Place.{Place}
-use Rattle.plane.specs.Place.{before, samePlace}
+use Rattle.plane.specs.Place.{place, before}
 use Rattle.plane.specs.Distance.{apart}
-use Rattle.plane.proofs.PlaceLaws.{same-true, same-refl}
 use Rattle.joined.specs.Labels.{equal, labels}
 use Rattle.slide.specs.declared.Side.{Side}
 use Rattle.slide.specs.Side.{across}
 use Rattle.slide.specs.Bend.{Edge}
 
--- equality of places, decided by the test
-unfoldable decidedBy : (a b : Place) (t : Bool) → samePlace a b ≡ t → Dec (a ≡ b)
-decidedBy a b true e = yes (same-true a b e)
-decidedBy a b false e = no (λ k. differ (rw k (same-refl b)) e)
+-- equality of whole numbers and of places, decided
+abbrev size : ℤ → ℕ
+size (pos n) = n
+size (negsuc n) = n
+
+unfoldable sameNumber : Discrete ℤ
+sameNumber (pos m) (pos n) = elim (ℕ-discrete m n) [ yes e ↦ yes (ap pos e) | no k ↦ no (λ e. k (ap size e)) ]
+sameNumber (pos m) (negsuc n) = no (pos-ne-negsuc m n)
+sameNumber (negsuc m) (pos n) = no (λ e. pos-ne-negsuc n m (sym e))
+sameNumber (negsuc m) (negsuc n) = elim (ℕ-discrete m n) [ yes e ↦ yes (ap negsuc e) | no k ↦ no (λ e. k (ap size e)) ]
 
 unfoldable pub same : Discrete Place
-unfolding decidedBy
-same a b = decidedBy a b (samePlace a b) (λ i. samePlace a b)
+unfolding sameNumber ℕ-discrete
+same a b =
+    elim (sameNumber (a .x) (b .x)) [
+      | yes e ↦ elim (sameNumber (a .y) (b .y)) [ yes f ↦ yes (ap₂ place e f) | no k ↦ no (λ e. k (ap (λ p. p .y) e)) ]
+      | no k ↦ no (λ e. k (ap (λ p. p .x) e))
+    ]
 
 -- an edge along a bar's line, or on a parallel to it
 unfoldable pub level : Side → Edge → Bool

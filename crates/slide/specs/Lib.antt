@@ -48,7 +48,6 @@
 --   StateLaws      bent-state, next-state      what code has before the first round, and before the next
 --   MoveRange      choice-carries              what moves in a round stays in range
 --   SentenceLaws   is-greatest, moves-as-far   the sentences
---   WorkedSlides   worked-slides               worked nets, by computing
 pub mod Side
 pub mod Bend
 pub mod Bar

@@ -24,7 +24,7 @@ use Rattle.bars.specs.declared.Best.{Best}
 use Rattle.bars.proofs.AgreeLaws.{Agrees}
 use Rattle.slider.specs.declared.Shift.{Shift}
 use Rattle.slider.specs.Shift.{onLabel, shifted, Movable}
-use Rattle.bars.specs.Labelling.{labelsFor}
+use Rattle.labels.specs.Labelling.{labelsFor}
 use Rattle.slider.specs.Round.{saves}
 use Rattle.slider.proofs.ShiftedLaws.{shifted-is}
 use Rattle.slider.proofs.RoundLaws.{round-made, place-fits}

@@ -29,8 +29,8 @@ use Rattle.straight.proofs.RunLaws.{in-run}
 use Rattle.bends.specs.Settled.{edgesOf, pointsOf, Settled}
 use Rattle.bends.proofs.SettledLaws.{zeros}
 use Rattle.bars.specs.declared.Best.{Best}
-use Rattle.bars.specs.declared.Size.{Size}
-use Rattle.bars.specs.Labelling.{labelled}
+use Rattle.reach.specs.declared.Size.{Size}
+use Rattle.labels.specs.Labelling.{labelled}
 use Rattle.bars.specs.Offers.{Fresh, searched, seatsOf}
 use Rattle.bars.proofs.ChoiceTables.{Tables, choice-agrees, choice-none, choice-tied}
 use Rattle.slider.specs.Round.{saves}

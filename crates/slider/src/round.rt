@@ -13,7 +13,7 @@ ghost use Rattle.net.specs.Net.{netWith};
 ghost use Rattle.slide.specs.Slide.{inOrder, rounds};
 ghost use Rattle.slide.specs.Promise.{State};
 ghost use Rattle.straight.specs.Table.{straightBound, Within};
-ghost use Rattle.bars.specs.Labelling.{labelsFor};
+ghost use Rattle.labels.specs.Labelling.{labelsFor};
 ghost use Rattle.bends.specs.Settled.{edgesOf};
 ghost use Rattle.slider.specs.Shift.{shifted, Movable};
 ghost use Rattle.slider.specs.Round.{saves};
@@ -74,7 +74,7 @@ fn round(w: Weights, pins: &[i32], macros: &[i32], list: &mut [i32], e: usize) -
     let z = bends::settle(pins, &*list, e, &mut pts, &mut keys);
     let mut rows = [0; POINTS];
     let mut columns = [0; POINTS];
-    let size = bars::Size {
+    let size = reach::Size {
         points: z.points,
         edges: z.edges,
         pins: net::pin_count(pins),

@@ -1,8 +1,8 @@
 -- The tables of a tree whose edges are axis-parallel, which bending, sliding and the choice of a bar share.
 --
 -- They are crate tree's tables with room for twice as many points: points in the order of places, two numbers each, and edges as rising
--- keys of their ends' numbers. So the order of numbers is the order of places and of edges. The record is crate tree's; only the bound by which
--- keys are made differs.
+-- keys of their ends' numbers. So the order of numbers is the order of places and of edges. The record is crate tree's; only the bound by
+-- which keys are made differs.
 --
 --   Table      straightBound               how many points there may be, 2(n + m)
 --              key, firstEnd, secondEnd    the number of an edge, and its ends

@@ -6,8 +6,8 @@ use lib.IntN.{ℤ}
 use lib.ListN.{getD}
 use Rattle.plane.specs.declared.Place.{Place}
 use Rattle.plane.specs.Flat.{placeAt}
+use Rattle.plane.specs.Rank.{InOrder}
 use Rattle.tree.specs.Table.{treeBound, Tree}
-use Rattle.tree.specs.Places.{InOrder}
 
 -- at most 2(n + m) points after bending
 abbrev pub straightBound : ℕ

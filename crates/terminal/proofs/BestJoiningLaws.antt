@@ -1,4 +1,4 @@
--- The mission's demand on the terminal tree, over places: it is proved over vertex numbers (terminal/proofs/OurTree.antt) and carried over,
+-- The mission's demand on the terminal tree, over places: it is proved over vertex numbers (keeping/proofs/OurTree.antt) and carried over,
 -- our paths and our way from numbers to places, the joinings and chains that they are compared with from places to numbers.
 -- Assumes nothing.
 use mathlib.Core.Path.{_≡_, refl, sym, ap, ap₂, _∙_, subst}
@@ -20,10 +20,10 @@ use Rattle.net.specs.Allowed.{Allowed}
 use Rattle.net.specs.Net.{Net, costIn}
 use Rattle.graph.specs.Spanning.{verticesOf, spanning}
 use Rattle.forest.specs.Edges.{one, two}
-use Rattle.terminal.specs.Bridges.{sameRoot, rootsOf as rootsBy}
-use Rattle.terminal.specs.Kept.{terminal, keptLengths}
+use Rattle.bridges.specs.Bridges.{sameRoot, rootsOf as rootsBy}
+use Rattle.keeping.specs.Kept.{terminal, keptLengths}
 use Rattle.forest.specs.Setting.{pairs}
-use Rattle.terminal.proofs.OurTree.{stands, kept-joining, none-shorter, none-lower}
+use Rattle.keeping.proofs.OurTree.{stands, kept-joining, none-shorter, none-lower}
 use Rattle.terminal.specs.Number.{numberOf, vertexAt, edgeAt}
 use Rattle.terminal.specs.Tree.{treeOf, bridgesOf, lengthsOf, pathsOf, totalOf, rootsOf}
 use Rattle.terminal.specs.Roots.{WayUp}

@@ -25,11 +25,11 @@ use Rattle.graph.proofs.GraphBounds.{spanning-ascending, spanning-inside}
 use Rattle.forest.specs.Edges.{Graph, from}
 use Rattle.forest.specs.Labels.{Labels, root, labelled}
 use Rattle.forest.specs.Parents.{Parents, parented}
-use Rattle.terminal.specs.Bridges.{rootsOf as rootsBy, pathLength}
-use Rattle.terminal.specs.Kept.{keptBridges, terminal}
+use Rattle.bridges.specs.Bridges.{rootsOf as rootsBy, pathLength}
+use Rattle.keeping.specs.Kept.{keptBridges, terminal}
 use Rattle.forest.specs.Setting.{ends, pairs}
 use Rattle.forest.proofs.EdgeLaws.{below-from}
-use Rattle.terminal.proofs.WholeLaws.{of-kept}
+use Rattle.keeping.proofs.WholeLaws.{of-kept}
 use Rattle.forest.proofs.Nearest.{link-in}
 use Rattle.forest.proofs.Homeward.{root-source}
 use Rattle.terminal.specs.Number.{numberOf, vertexAt, edgeAt, pinNumbers}

@@ -1,27 +1,30 @@
 -- Tables filled from the front: the next entry that is read, one number more or an entry's numbers more at the end of what is written, and
--- the number of a place counted vertex by vertex.
+-- the number of a place as its rank.
 -- Assumes nothing.
-use mathlib.Core.Path.{_≡_, refl, sym, ap, _∙_}
+use mathlib.Core.Path.{_≡_, refl, sym, ap, ap₂, _∙_}
 use mathlib.Core.Bool.{true, false}
 use mathlib.Core.List.{List, [], _∷_, _++_, map, append-nil, map-append}
 use Prim.Native.Nat.{ℕ, zero, suc, _+_, _*_, _-_, _≤_, _<_}
 use native.Mathlib.Nat.{suc-mul}
 use native.Mathlib.Numerals.{add-one}
 use native.Mathlib.Omega.{arith}
-use lib.IntN.{ℤ}
+use lib.IntN.{ℤ, pos}
 use lib.ListN.{length, getD, set, take, length-append, length-map}
 use lib.Seq.{sets, append-snoc, take-suc, take-all, length-take-le}
-use Rattle.lists.specs.Sorted.{position}
+use Rattle.lists.specs.Sorted.{Ascending, position}
+use Rattle.lists.specs.Turns.{seek}
+use Rattle.lists.proofs.TestLaws.{by}
 use Rattle.lent.specs.Over.{over}
 use Rattle.lent.specs.Entries.{flat, entriesFrom, entries}
 use Rattle.lent.proofs.OverLaws.{over-none, over-more}
 use Rattle.lent.proofs.EntryTable.{flat-append, length-entries}
 use Rattle.plane.specs.declared.Place.{Place}
-use Rattle.plane.specs.Place.{before}
+use Rattle.plane.specs.Place.{place, before}
 use Rattle.plane.specs.Flat.{placeFrom, placeAt}
+use Rattle.plane.specs.Rank.{InOrder, later, rank}
 use Rattle.graph.specs.Numbers.{placeNumbers}
 use Rattle.graph.proofs.WidthLaws.{place-width}
-use Rattle.forest.proofs.EdgeLaws.{one-less, none-left, all-left}
+use Rattle.picks.proofs.VertexNumbers.{ascending-at}
 use Rattle.terminal.specs.Number.{numberOf}
 
 -- Entries
@@ -88,43 +91,25 @@ module _ {X : Type 0} where
       ∙ ap (λ (r : List X). over r lent)
       (sym (flat-append numbers bs (b ∷ []) ∙ ap (λ (r : List X). flat numbers bs ++ r) (append-nil (numbers b))))
 
--- The number of p, counted vertex by vertex: the first i of the n vertices in s come before it, and the others are left
+-- The number of p: that of the first vertex which does not come before it
 
-unfoldable pub left : List ℤ → ℕ → ℕ → List Place
-left s n i = entriesFrom placeFrom 2 s (i * 2) (n - i)
+module _ (s : List ℤ) (p : Place) where
+  seek-number : (n i : ℕ) → seek (later s p) i n ≡ i + numberOf (entriesFrom placeFrom 2 s (i * 2) n) p
+  unfolding seek later position entriesFrom
+  seek-number zero i = omega arith
+  seek-number (suc n) i =
+      let e : suc i * 2 ≡ i * 2 + 2 = omega arith in
+      by (before (placeAt s i) p)
+      (λ t. rw (seek, later, position, t) (seek-number n (suc i) ∙ rw e (omega arith)))
+      (λ t. rw (seek, later, position, t) (omega arith))
 
-pub record Counting (s : List ℤ) (n : ℕ) (p : Place) (i : ℕ) : Type 0 where
-  pub few : i ≤ n
-  pub goal : numberOf (entries placeFrom 2 s n) p ≡ i + numberOf (left s n i) p
+  pub rank-number : (n : ℕ) → rank s n p ≡ numberOf (entries placeFrom 2 s n) p
+  unfolding rank
+  rank-number n = seek-number n 0 ∙ omega arith
 
-pub count-none : (s : List ℤ) (n : ℕ) (p : Place) → Counting s n p 0
-unfolding left
-count-none s n p = record {
-  few = omega arith;
-  goal = ap (λ (m : ℕ). numberOf (entriesFrom placeFrom 2 s 0 m) p) (sym (all-left n)) ∙ omega arith;
-}
-
-module _ (s : List ℤ) (n : ℕ) (p : Place) (i : ℕ) (c : Counting s n p i) where
-  next : i < n → left s n i ≡ placeAt s i ∷ left s n (i + 1)
-  unfolding left entriesFrom
-  next h =
-      let e : i * 2 + 2 ≡ (i + 1) * 2 = omega arith in
-      rw (one-less i n h) (ap (λ (k : ℕ). placeAt s i ∷ entriesFrom placeFrom 2 s k (n - (i + 1))) e)
-
-  pub count-more : i < n → before (placeAt s i) p ≡ true → Counting s n p (i + 1)
-  unfolding position
-  count-more h e =
-      let one : numberOf (left s n i) p ≡ suc (numberOf (left s n (i + 1)) p) = rw (next h, position, e) refl in
-      record { few = omega arith; goal = c .goal ∙ omega arith }
-
-  pub count-stop : i < n → before (placeAt s i) p ≡ false → i ≡ numberOf (entries placeFrom 2 s n) p
-  unfolding position
-  count-stop h e =
-      let none : numberOf (left s n i) p ≡ 0 = rw (next h, position, e) refl in
-      omega (arith, c .goal)
-
-  pub count-end : n ≤ i → n ≡ numberOf (entries placeFrom 2 s n) p
-  unfolding position left entriesFrom
-  count-end h =
-      let none : numberOf (left s n i) p ≡ 0 = rw (none-left i n h) refl in
-      omega (arith, c .goal, c .few)
+-- vertices in order, read by their numbers
+pub entries-in-order : (s : List ℤ) (n : ℕ) → Ascending before (entries placeFrom 2 s n) → InOrder s n
+entries-in-order s n a i j h k =
+    let z = place (pos 0) (pos 0) in
+    ap₂ before (sym (entry-at placeFrom 2 s n i z (omega arith))) (sym (entry-at placeFrom 2 s n j z k))
+    ∙ ascending-at before (entries placeFrom 2 s n) a i j z h (omega (arith, place-entries s n))

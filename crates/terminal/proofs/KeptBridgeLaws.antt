@@ -23,10 +23,10 @@ use Rattle.graph.specs.Spanning.{verticesOf, spanning}
 use Rattle.graph.specs.Edges.{beforeEdge}
 use Rattle.graph.proofs.EdgeLaws.{edge-order}
 use Rattle.graph.proofs.GraphBounds.{spanning-ascending}
-use Rattle.terminal.specs.Bridges.{oneRoot, sameRoot, rootsOf as rootsBy, pathLengths, earlier, bridges}
-use Rattle.terminal.proofs.WholeLaws.{path-lengths-at}
+use Rattle.bridges.specs.Bridges.{oneRoot, sameRoot, rootsOf as rootsBy, pathLengths, earlier, bridges}
+use Rattle.keeping.proofs.WholeLaws.{path-lengths-at}
 use Rattle.forest.proofs.Nearest.{fits}
-use Rattle.terminal.proofs.OurTree.{bridge-is, is-bridge, bridges-in-order, kept-is}
+use Rattle.keeping.proofs.OurTree.{bridge-is, is-bridge, bridges-in-order, kept-is}
 use Rattle.terminal.specs.Number.{numberOf, vertexAt, edgeAt}
 use Rattle.terminal.specs.Tree.{pathsOf, rootOf, rootsOf}
 use Rattle.terminal.specs.Stands.{KeptPath, keptEnds, Stands}

@@ -1,9 +1,3 @@
-pub mod BridgeLaws
-pub mod KeptLaws
-pub mod PathParts
-pub mod WholeLaws
-pub mod OurTree
-pub mod WorkedTrees
 pub mod NumberLaws
 pub mod FillLaws
 pub mod EdgeTables

@@ -26,7 +26,7 @@ use Rattle.plane.specs.declared.Weights.{Weights}
 use Rattle.plane.specs.Cost.{cost}
 use Rattle.forest.specs.Bounds.{edgeBound}
 use Rattle.forest.specs.Edges.{one, two, len}
-pub use Rattle.graph.proofs.VertexNumbers.{ascending-at}
+pub use Rattle.picks.proofs.VertexNumbers.{ascending-at}
 use Rattle.terminal.specs.Number.{numberOf, vertexAt, edgeAt, table, numbered, pinNumbers}
 
 -- Vertices

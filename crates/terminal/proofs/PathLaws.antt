@@ -27,12 +27,12 @@ use Rattle.forest.specs.Bounds.{pointBound, pathBound}
 use Rattle.forest.specs.Edges.{from, entries as entriesIn, FirstBelow, Listed}
 use Rattle.forest.specs.Labels.{labelled}
 use Rattle.forest.specs.Parents.{parented}
-use Rattle.terminal.specs.Bridges.{pathLength}
-use Rattle.terminal.specs.Kept.{keptLengths, terminal}
+use Rattle.bridges.specs.Bridges.{pathLength}
+use Rattle.keeping.specs.Kept.{keptLengths, terminal}
 use Rattle.forest.proofs.EdgeLaws.{getD-from, length-from}
-use Rattle.terminal.proofs.PathParts.{path-low}
-use Rattle.terminal.proofs.KeptLaws.{read-listed, entry-listed}
-use Rattle.terminal.proofs.WholeLaws.{of-kept}
+use Rattle.bridges.proofs.PathParts.{path-low}
+use Rattle.keeping.proofs.KeptLaws.{read-listed, entry-listed}
+use Rattle.keeping.proofs.WholeLaws.{of-kept}
 use Rattle.forest.proofs.ForestLaws.{made-fine, made-falls}
 use Rattle.forest.proofs.Nearest.{fits}
 use Rattle.terminal.specs.declared.TerminalTree.{TerminalTree}

@@ -20,7 +20,7 @@ use Rattle.net.specs.Allowed.{Allowed}
 use Rattle.net.specs.Net.{Net, costIn}
 use Rattle.graph.specs.Spanning.{verticesOf, spanning}
 use Rattle.graph.proofs.VertexLaws.{vertices-ascending}
-use Rattle.terminal.specs.Kept.{terminal}
+use Rattle.keeping.specs.Kept.{terminal}
 use Rattle.forest.specs.Labels.{far, root}
 use Rattle.forest.specs.Parents.{up}
 use Rattle.forest.proofs.Nearest.{link-in, NearestSource, nearest-source}

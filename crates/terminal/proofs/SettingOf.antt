@@ -27,9 +27,9 @@ use Rattle.graph.proofs.GraphBounds.{edge-bound, few-vertices, few-edges, spann
 use Rattle.graph.proofs.Connected.{connected}
 use Rattle.forest.specs.Edges.{one, two, len}
 use Rattle.forest.specs.Setting.{ends, pairs, Setting, Whole}
-use Rattle.terminal.specs.Kept.{terminal}
+use Rattle.keeping.specs.Kept.{terminal}
 use Rattle.forest.proofs.EdgeLaws.{in-from}
-use Rattle.terminal.proofs.OurTree.{kept-count}
+use Rattle.keeping.proofs.OurTree.{kept-count}
 use Rattle.terminal.specs.Number.{numberOf, vertexAt, edgeAt, pinNumbers}
 use Rattle.terminal.specs.Tree.{graphOf, treeOf}
 use Rattle.terminal.proofs.NumberLaws.{vertex-in, number-small, vertex-of-number, number-of-vertex, one-of, two-of, len-of}

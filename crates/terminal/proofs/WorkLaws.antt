@@ -7,7 +7,7 @@ use Prim.Native.Nat.{ℕ, _*_, _≤_}
 use native.Mathlib.Omega.{arith}
 use lib.IntN.{ℤ}
 use lib.ListN.{length, getD, length-map}
-use Rattle.lists.specs.Sorted.{sorted}
+use Rattle.lists.specs.Sorted.{sorted, Ascending}
 use Rattle.lent.specs.Over.{over}
 use Rattle.lent.specs.Entries.{flat, entries}
 use Rattle.lent.proofs.OverLaws.{length-over}
@@ -28,8 +28,8 @@ use Rattle.forest.specs.Bounds.{pointBound, edgeBound}
 use Rattle.forest.specs.Edges.{graph, entries as entriesIn, Fits, FirstBelow, Listed}
 use Rattle.forest.specs.Labels.{labels}
 use Rattle.forest.specs.Parents.{parents}
-use Rattle.terminal.specs.Kept.{Terminal, terminal}
-use Rattle.terminal.proofs.KeptLaws.{read-listed, entry-listed}
+use Rattle.keeping.specs.Kept.{Terminal, terminal}
+use Rattle.keeping.proofs.KeptLaws.{read-listed, entry-listed}
 use Rattle.forest.proofs.Nearest.{fits}
 use Rattle.terminal.specs.declared.TerminalTree.{TerminalTree}
 use Rattle.terminal.specs.Number.{numberOf, numbered, pinNumbers}
@@ -87,6 +87,9 @@ module _ {net : Net} {lent : Tables} {points links : List ℤ} {n e : ℕ} (a : 
   vertices-in =
       ap (λ (l : List ℤ). entries placeFrom 2 l n) (c .vertices-are)
       ∙ entries-over placeNumbers placeFrom 2 place-width (verticesOf net) (lent .points) n (sym (c .vertex-count))
+
+  pub vertices-in-order : Ascending before (entries placeFrom 2 points n)
+  vertices-in-order = rw vertices-in (vertices-ascending net)
 
   pub edges-in : entries edgeFrom 4 links e ≡ spanning net
   edges-in =

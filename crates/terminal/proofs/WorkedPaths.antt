@@ -12,7 +12,7 @@ use Rattle.plane.specs.Cost.{plain}
 use Rattle.net.specs.Net.{netWith}
 use Rattle.net.specs.WorkedNets.{Lists, onePin, aroundOne, threePins, sharedSide, onSides, onBoundary}
 use Rattle.graph.proofs.WorkedGraphs.{graphOf as worked}
-use Rattle.terminal.proofs.WorkedTrees.{tree}
+use Rattle.keeping.proofs.WorkedTrees.{tree}
 use Rattle.terminal.specs.Number.{numbered, pinNumbers}
 use Rattle.terminal.specs.Tree.{treeOf, totalOf, pathsOf}
 

@@ -1,17 +1,12 @@
 -- The terminal tree of a net: rules T9 to T16, and demand 3 of its kept paths.
 --
 -- Places get their numbers here and get them back: this is the one room where the graph of places meets tables of numbers. Bridges and
--- which of them are kept are worked out on the tables of crate forest (Bridges, Kept); everything else says the same of places. That kept
--- bridges stand for terminal paths, join the pins, and do so with the least length, is proved in ../proofs (OurTree).
+-- which of them are kept are worked out on tables (crates bridges and keeping); everything else says the same of places. That kept bridges
+-- stand for terminal paths, join the pins, and do so with the least length, is proved there (OurTree).
 -- Vertices are in order, so that the number of a vertex is how many come before it: the order of numbers is the order of places, and the
 -- order of edge numbers the order of edges. Everything is a function of the vertices, the edges and the pins in order, so that the order of
 -- a net's lists is forgotten before the first number is given.
 --
---   Bridges    sameRoot g t k, rootsOf g t k        whether edge k is no bridge, and the two pins that it joins
---              path g fars p k, pathLength ..       the edges on the path that it stands for, and the sum of their lengths
---              bridges g t p                        the bridges by path length, ties by number
---   Kept       keptBridges g t p, keptLengths       the kept ones in the order kept, and the lengths of their paths
---              terminal g n pins                    all of it, with the total
 --   Number     numberOf vs p, vertexAt vs i         the number of a vertex; the vertex of a number
 --              edgeAt es k                          the edge of a number
 --              numbered w vs es                     the graph by numbers, in the router's tables
@@ -34,8 +29,6 @@
 --              Worked net lent t r                 what they hold once the tree is worked out
 --              pathsIn es kept long n               the kept paths as the tables have them
 --              Givable                              what is asked to give them
-pub mod Bridges
-pub mod Kept
 pub mod Number
 pub mod Tree
 pub mod Roots

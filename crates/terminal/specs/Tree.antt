@@ -9,8 +9,8 @@ use Rattle.net.specs.Net.{Net}
 use Rattle.graph.specs.Spanning.{verticesOf, spanning}
 use Rattle.forest.specs.Edges.{Graph}
 use Rattle.forest.specs.Labels.{root}
-use Rattle.terminal.specs.Bridges.{pathLength}
-use Rattle.terminal.specs.Kept.{Terminal, terminal}
+use Rattle.bridges.specs.Bridges.{pathLength}
+use Rattle.keeping.specs.Kept.{Terminal, terminal}
 use Rattle.terminal.specs.Number.{numberOf, vertexAt, edgeAt, numbered, pinNumbers}
 
 module _ (net : Net) where

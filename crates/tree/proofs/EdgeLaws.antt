@@ -15,10 +15,11 @@ use Rattle.plane.specs.declared.Place.{Place}
 use Rattle.plane.specs.declared.Weights.{Weights}
 use Rattle.plane.specs.Place.{before}
 use Rattle.plane.specs.Cost.{cost}
+use Rattle.plane.specs.Rank.{InOrder}
 use Rattle.joined.specs.Cost.{lengths}
 use Rattle.tree.specs.Table.{Tree, Within}
 use Rattle.tree.specs.Sum.{sumOver}
-use Rattle.tree.specs.Places.{listing, endsOf, edgesOf, keyCost, treeTotal, InOrder, Ranked}
+use Rattle.tree.specs.Places.{listing, endsOf, edgesOf, keyCost, treeTotal, Ranked}
 use Rattle.tree.specs.Edges.{edgesFrom, tableEdges, treeEdges}
 use Rattle.tree.proofs.ListingLaws.{listing-lengths}
 

@@ -16,9 +16,10 @@ use Rattle.lists.proofs.MemberLaws.{once-length}
 use Rattle.plane.specs.declared.Place.{Place}
 use Rattle.plane.specs.Place.{samePlace}
 use Rattle.plane.specs.Flat.{placeAt}
+use Rattle.plane.specs.Rank.{InOrder}
 use Rattle.plane.proofs.PlaceLaws.{same-true, same-refl}
 use Rattle.tree.specs.Table.{Tree}
-use Rattle.tree.specs.Places.{pointsOf, InOrder}
+use Rattle.tree.specs.Places.{pointsOf}
 use Rattle.tree.specs.Outside.{outside, strangers}
 use Rattle.tree.proofs.ListingLaws.{listing-length}
 use Rattle.tree.proofs.PointLaws.{order-once}

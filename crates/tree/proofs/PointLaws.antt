@@ -9,8 +9,9 @@ use Rattle.lists.proofs.TestLaws.{by, differ}
 use Rattle.plane.specs.declared.Place.{Place}
 use Rattle.plane.specs.Place.{before, samePlace}
 use Rattle.plane.specs.Flat.{placeAt}
+use Rattle.plane.specs.Rank.{InOrder}
 use Rattle.plane.proofs.PlaceLaws.{same-true, same-refl, before-irrefl}
-use Rattle.tree.specs.Places.{pointsOf, InOrder}
+use Rattle.tree.specs.Places.{pointsOf}
 use Rattle.tree.proofs.ListingLaws.{listing-once}
 
 pub same-place : Discrete Place

@@ -8,10 +8,10 @@ use lib.ListN.{getD}
 use Rattle.lists.specs.Member.{Among}
 use Rattle.plane.specs.declared.Place.{Place}
 use Rattle.plane.specs.declared.Weights.{Weights}
-use Rattle.plane.specs.Place.{before}
 use Rattle.plane.specs.Cost.{cost}
 use Rattle.plane.specs.Macro.{clear}
 use Rattle.plane.specs.Flat.{placeAt}
+use Rattle.plane.specs.Rank.{InOrder}
 use Rattle.net.specs.Net.{Net}
 use Rattle.joined.specs.Tree as joined
 use Rattle.tree.specs.Table.{firstEnd, secondEnd, Tree, Within}
@@ -35,10 +35,6 @@ pointsOf pts n = listing (placeAt pts) n
 
 abbrev pub edgesOf : List ℤ → List ℕ → ℕ → List (Place × Place)
 edgesOf pts ks e = listing (λ i. endsOf pts (getD ks i 0)) e
-
--- the points are in order, each place once
-abbrev pub InOrder : List ℤ → ℕ → Type 0
-InOrder pts n = (i j : ℕ) → i < j → j < n → before (placeAt pts i) (placeAt pts j) ≡ true
 
 -- N16, the smaller place first and edges in order: the numbers of points are in the order of places, so keys have the smaller number first
 -- and rise, each edge once

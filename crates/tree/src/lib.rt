@@ -1,5 +1,5 @@
-// The tables of a tree, which union, refiner and refined share: its points in the order of places, two numbers each, and its edges as keys of
-// their ends' numbers, in the order of edges.
+// The tables of a tree, which union, refiner and refined share: its points in the order of places, two numbers each, and its edges as keys
+// of their ends' numbers, in the order of edges.
 use net::Net;
 use plane::Place;
 ghost use mathlib.Core.Path.{_≡_};

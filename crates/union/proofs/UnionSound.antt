@@ -29,6 +29,7 @@ use Rattle.plane.specs.declared.Place.{Place}
 use Rattle.plane.specs.Place.{before}
 use Rattle.plane.specs.Macro.{clear}
 use Rattle.plane.specs.Flat.{placeAt}
+use Rattle.plane.specs.Rank.{InOrder}
 use Rattle.plane.proofs.PlaceOrder.{place-order}
 use Rattle.net.specs.Allowed.{Allowed}
 use Rattle.net.specs.Net.{Net, costIn}
@@ -37,7 +38,7 @@ use Rattle.graph.specs.Edges.{beforeEdge}
 use Rattle.graph.proofs.VertexLaws.{pin-vertex, vertices-ascending}
 use Rattle.graph.proofs.GraphBounds.{few-vertices, spanning-ascending}
 use Rattle.forest.specs.Edges.{Graph, one, two, len, from}
-use Rattle.terminal.specs.Kept.{terminal}
+use Rattle.keeping.specs.Kept.{terminal}
 use Rattle.forest.specs.Setting.{ends}
 use Rattle.forest.proofs.EdgeLaws.{length-from}
 use Rattle.terminal.specs.Number.{edgeAt, numberOf, vertexAt, pinNumbers}
@@ -45,7 +46,7 @@ use Rattle.terminal.specs.Tree.{graphOf, treeOf, totalOf}
 use Rattle.terminal.proofs.NumberLaws.{vertex-in, ascending-at, count-of, one-of, vertex-order, vertex-of-number, pin-number-in}
 use Rattle.terminal.proofs.SettingOf.{setting, whole, edge-at, one-vertex, two-vertex}
 use Rattle.tree.specs.Table.{key, firstEnd, secondEnd, treeBound, Tree}
-use Rattle.tree.specs.Places.{endsOf, pointsOf, edgesOf, keyCost, InOrder, Ranked, Sound}
+use Rattle.tree.specs.Places.{endsOf, pointsOf, edgesOf, keyCost, Ranked, Sound}
 use Rattle.tree.specs.Places.{treeTotal}
 use Rattle.tree.specs.Sum.{below}
 use Rattle.tree.proofs.ListingLaws.{listing-length, in-listing, of-listing, listing-once}

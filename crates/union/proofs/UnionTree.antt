@@ -31,16 +31,16 @@ use Rattle.joined.proofs.GraftLaws.{grown-tree}
 use Rattle.forest.specs.Edges.{Graph, one, two, len, from}
 use Rattle.forest.specs.Labels.{Labels, far, root, labelled}
 use Rattle.forest.specs.Parents.{Parents, up, via, parented, way, Falls}
-use Rattle.terminal.specs.Bridges.{oneRoot, sameRoot, rootsOf, path, pathLength}
-use Rattle.terminal.specs.Kept.{keptBridges, keptLengths, terminal}
+use Rattle.bridges.specs.Bridges.{oneRoot, sameRoot, rootsOf, path, pathLength}
+use Rattle.keeping.specs.Kept.{keptBridges, keptLengths, terminal}
 use Rattle.forest.specs.Setting.{ends, Setting, Whole}
 use Rattle.forest.proofs.EdgeLaws.{below-from, in-from}
 use Rattle.forest.proofs.ParentLaws.{falls-parented}
 use Rattle.forest.proofs.WayLaws.{way-none, way-step, nearer-by}
-use Rattle.terminal.proofs.WholeLaws.{of-kept}
+use Rattle.keeping.proofs.WholeLaws.{of-kept}
 use Rattle.forest.proofs.Nearest.{fits}
 use Rattle.forest.proofs.Homeward.{source-label, root-source, far-off, Parent, parent-is, source-parent, way-home}
-use Rattle.terminal.proofs.OurTree.{kept-count, ours-tree}
+use Rattle.keeping.proofs.OurTree.{kept-count, ours-tree}
 use Rattle.union.specs.Union.{listed, bothEnds, keptEdges, unionEdges, unionPoints}
 use Rattle.union.proofs.ListedLaws.{in-listed, of-listed, in-flat, of-flat, total-flat, once-join, picked-once}
 

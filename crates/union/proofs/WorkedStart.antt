@@ -1,5 +1,5 @@
 -- The tables of an allowed net's terminal tree are what `union::start` asks for, what it makes of them is the net's union, and that is what
--- `refined::refine` asks for.
+-- `refiner::refine` asks for.
 -- Assumes nothing.
 use mathlib.Core.Path.{_≡_, refl, ap, _∙_}
 use mathlib.Core.List.{List}
@@ -18,11 +18,11 @@ use Rattle.graph.proofs.GraphBounds.{few-vertices}
 use Rattle.forest.specs.Edges.{Graph, graph, entries}
 use Rattle.forest.specs.Labels.{Labels, labelled}
 use Rattle.forest.specs.Parents.{Parents, parents}
-use Rattle.terminal.specs.Kept.{terminal}
-use Rattle.terminal.proofs.KeptLaws.{read-listed, entry-listed}
+use Rattle.keeping.specs.Kept.{terminal}
+use Rattle.keeping.proofs.KeptLaws.{read-listed, entry-listed}
 use Rattle.forest.proofs.Nearest.{fits}
 use Rattle.forest.proofs.ParentLaws.{falls-parented}
-use Rattle.terminal.proofs.WholeLaws.{of-kept}
+use Rattle.keeping.proofs.WholeLaws.{of-kept}
 use Rattle.terminal.specs.declared.TerminalTree.{TerminalTree}
 use Rattle.terminal.specs.Number.{vertexAt, pinNumbers}
 use Rattle.terminal.specs.Tree.{graphOf, treeOf}

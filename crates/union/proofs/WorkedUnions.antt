@@ -22,13 +22,13 @@ use Rattle.net.specs.WorkedNets.{Lists, onePin, aroundOne, threePins}
 use Rattle.net.specs.Pins.{pinPlaces}
 use Rattle.net.specs.Net.{netWith}
 use Rattle.graph.specs.Vertices.{cornersOf, corners, vertices}
-use Rattle.graph.specs.Pick.{within, nearer as nearerPlace, better as betterPick, pickFrom, pick}
+use Rattle.picks.specs.Pick.{within, nearer as nearerPlace, better as betterPick, pickFrom, pick}
 use Rattle.graph.specs.Edges.{edgeOf, beforeEdge, edgeOfPick, picksOf, allPicks, edges}
 use Rattle.forest.specs.Edges.{Graph, graph, from, filled}
 use Rattle.forest.specs.Labels.{better, gains, offer, relaxEdge, moves, relax, changes, settled, starts, labelled}
 use Rattle.forest.specs.Parents.{leads, nearer, through, parentAmong, parent, adopted, parented, wayOf, way}
-use Rattle.terminal.specs.Bridges.{oneRoot, path, pathLength, pathLengths, earlier, bridgesFrom, bridges}
-use Rattle.terminal.specs.Kept.{keptBridges, keptLengths, terminal}
+use Rattle.bridges.specs.Bridges.{oneRoot, path, pathLength, pathLengths, earlier, bridgesFrom, bridges}
+use Rattle.keeping.specs.Kept.{keptBridges, keptLengths, terminal}
 use Rattle.terminal.specs.Number.{numbered, pinNumbers}
 use Rattle.terminal.specs.Tree.{treeOf}
 use Rattle.tree.specs.Table.{key, Tree}

@@ -16,7 +16,7 @@ use Rattle.graph.specs.Spanning.{verticesOf}
 use Rattle.graph.specs.Numbers.{placeNumbers}
 use Rattle.forest.specs.Edges.{Graph, one, two, from}
 use Rattle.forest.specs.Parents.{Parents}
-use Rattle.terminal.specs.Bridges.{path}
+use Rattle.bridges.specs.Bridges.{path}
 use Rattle.terminal.specs.Number.{vertexAt, pinNumbers}
 use Rattle.terminal.specs.Tree.{graphOf, treeOf}
 use Rattle.tree.specs.Table.{treeBound, key, Tree, tree}

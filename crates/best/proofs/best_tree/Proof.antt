@@ -7,11 +7,11 @@ use Prim.Native.Nat.{_≤_}
 use native.Mathlib.Omega.{arith}
 use denote.Ref.{now}
 use Rattle.net.proofs.PinLaws.{length-pins}
-use Rattle.grid.specs.declared.Axis.the-variants.{Across, Along}
+use Rattle.lines.specs.declared.Axis.the-variants.{Across, Along}
 use Rattle.grid.proofs.WholeLaws.{Small, Lined, table-long, whole-few, whole-priced, whole-fits, whole-below}
-use Rattle.best.specs.Bounds.{bestPins}
-use Rattle.best.proofs.WorkLaws.{fill-rows}
-use Rattle.best.proofs.RouteLaws.{sets-bound}
+use Rattle.parts.specs.Bounds.{bestPins}
+use Rattle.parts.proofs.WorkLaws.{fill-rows}
+use Rattle.best.proofs.SizeLaws.{sets-bound}
 use Rattle.best.proofs.WholeBest.{whole-targets, whole-room, whole-over, work-cleared}
 use borrow.Author.Needs.{needs}
 use Rattle.best.proofs.best_tree.Statement.{statement}

@@ -5,8 +5,8 @@ use Prim.Native.Nat.{_≤_, _-_}
 use native.Mathlib.Omega.{arith}
 use lib.ListN.{length, replicate, length-set}
 use Rattle.lent.specs.Over.{over}
-use Rattle.best.specs.Bounds.{workBound}
-use Rattle.best.proofs.RouteLaws.{clear-none, clear-more, clear-end}
+use Rattle.parts.specs.Bounds.{workBound}
+use Rattle.best.proofs.SizeLaws.{clear-none, clear-more, clear-end}
 use Rattle.best.proofs.clear.Statement.{statement}
 use Rattle.best.proofs.clear.Tie as tie
 

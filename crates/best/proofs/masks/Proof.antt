@@ -1,6 +1,6 @@
 -- `best::masks` meets its contract: five answers, one for each number of pins.
 -- Assumes nothing.
-use Rattle.best.proofs.RouteLaws.{sets-one, sets-two, sets-three, sets-four, sets-five}
+use Rattle.best.proofs.SizeLaws.{sets-one, sets-two, sets-three, sets-four, sets-five}
 use Rattle.best.proofs.masks.Statement.{statement}
 use Rattle.best.proofs.masks.Tie as tie
 

@@ -6,7 +6,7 @@ use native.Mathlib.Omega.{arith}
 use Rattle.joined.specs.Cost.{lengths}
 use Rattle.plane.specs.Distance.{distance}
 use Rattle.plane.specs.Cost.{costLimit}
-use Rattle.best.specs.Routes.{markedEdges}
+use Rattle.traced.specs.Routes.{markedEdges}
 use Rattle.best.proofs.GivenLaws.{metal-none, metal-more, metal-end}
 use Rattle.best.proofs.metal.Statement.{statement}
 use Rattle.best.proofs.metal.Tie as tie

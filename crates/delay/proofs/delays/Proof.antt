@@ -9,9 +9,10 @@ use lib.ListN.{length}
 use lib.Ieee.{Float}
 use Rattle.lists.specs.Any.{any}
 use Rattle.lent.specs.Over.{over, after}
-use Rattle.delay.specs.declared.Delay.{Delay}
-use Rattle.delay.specs.Answer.{isMark, finites, toldDelays}
-use Rattle.delay.specs.Table.{driverIn, marksFrom, tableFrom}
+use Rattle.floats.specs.declared.Delay.{Delay}
+use Rattle.floats.specs.Mark.{isMark, finites, marksFrom}
+use Rattle.delay.specs.Answer.{toldDelays}
+use Rattle.delay.specs.Table.{driverIn, tableFrom}
 use Rattle.delay.proofs.ToldLaws.{told-space, told-technology, told-driver, told-mark, told-given, table-is}
 use Rattle.delay.proofs.delays.Statement.{statement}
 use Rattle.delay.proofs.delays.Tie as tie

@@ -10,8 +10,8 @@ use Rattle.plane.specs.declared.Place.{Place}
 use Rattle.plane.specs.Place.{place}
 use Rattle.net.specs.declared.Weighing.{Weighing}
 use Rattle.net.specs.Net.{weighing}
-use Rattle.delay.specs.declared.Technology.{Technology}
-use Rattle.delay.specs.Elmore.{technology}
+use Rattle.floats.specs.declared.Technology.{Technology}
+use Rattle.elmore.specs.Elmore.{technology}
 use Rattle.delay.specs.Answer.{toldDelays}
 use Rattle.router.specs.Delay.{pinDelays}
 use Rattle.router.specs.Call.{DelayCall}

@@ -2,7 +2,7 @@
 -- Assumes nothing.
 use mathlib.Core.Path.{refl}
 use denote.Ref.{now}
-use Rattle.grid.specs.declared.Axis.the-variants.{Across, Along}
+use Rattle.lines.specs.declared.Axis.the-variants.{Across, Along}
 use Rattle.grid.proofs.WholeLaws.{Small, Lined, table-long, whole-few, whole-priced, whole-fits, whole-below, whole-count}
 use Rattle.grid.proofs.WholeLaws.{whole-square}
 use borrow.Author.Needs.{needs}

@@ -5,7 +5,7 @@ use Prim.Native.Nat.{_≤_, _<_, _-_}
 use native.Mathlib.Omega.{arith}
 use lib.ListN.{length, length-set}
 use Rattle.plane.specs.Flat.{macrosOf}
-use Rattle.grid.specs.Bounds.{segmentBound}
+use Rattle.lines.specs.Bounds.{segmentBound}
 use Rattle.grid.specs.Tables.{CostsTo}
 use Rattle.grid.proofs.TableLaws.{costs-none, costs-more, costs-end}
 use Rattle.grid.proofs.put_costs.Statement.{statement}

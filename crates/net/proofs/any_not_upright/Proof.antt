@@ -29,18 +29,27 @@ is-not-upright-requires : tie.Need-is-not-upright-requires Inv-loop μ-loop
 is-not-upright-requires c κs = tt
 
 -- what the call says, of the list
-told : (c : tie.After-is-not-upright Inv-loop μ-loop) → c .is-not-upright .result ≡ notUpright (macroAt (now (c .before .before .before .before .before .args .macros)) (c .before .before .before .loop .i))
+told : (c : tie.After-is-not-upright Inv-loop μ-loop)
+    → c .is-not-upright .result
+    ≡ notUpright (macroAt (now (c .before .before .before .before .before .args .macros)) (c .before .before .before .loop .i))
 told c = c .is-not-upright .ensures ∙ ap notUpright (c .before .macro-at .ensures)
 
 returns : tie.Need-returns Inv-loop μ-loop
 returns c =
     let l = c .before .before .before .before in
-    sym (l .loop .inv .1 ∙ any-hit notUpright _ _ _ (macros-next (now (l .before .before .args .macros)) (l .loop .i) (omega arith)) (sym (told (c .before)) ∙ c .if1 .taken))
+    sym
+    (l .loop .inv .1
+    ∙ any-hit notUpright _ _ _ (macros-next (now (l .before .before .args .macros)) (l .loop .i) (omega arith))
+    (sym (told (c .before)) ∙ c .if1 .taken))
 
 loop-again : tie.Need-loop-again Inv-loop μ-loop
 loop-again c =
-    let l = c .before .before .before .before in
-    (omega arith, l .loop .inv .1 ∙ any-miss notUpright _ _ _ (macros-next (now (l .before .before .args .macros)) (l .loop .i) (omega arith)) (sym (told (c .before)) ∙ c .if1 .left))
+    let l = c .before .before .before .before in (
+      omega arith,
+      l .loop .inv .1
+          ∙ any-miss notUpright _ _ _ (macros-next (now (l .before .before .args .macros)) (l .loop .i) (omega arith))
+          (sym (told (c .before)) ∙ c .if1 .left),
+    )
 
 returns-2 : tie.Need-returns-2 Inv-loop μ-loop
 returns-2 c =

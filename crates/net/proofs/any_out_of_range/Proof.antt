@@ -40,7 +40,9 @@ next : (s : List ℤ) (i : ℕ) → i < length s → drop i s ≡ getD s i (pos 
 next s i h = rw add-one (drop-cons s i (pos 0) h)
 
 -- what the call says, of the list
-told : (c : tie.After-is-out-of-range Inv-loop μ-loop) → c .is-out-of-range .result ≡ outOfRange (getD (now (c .before .before .before .before .args .numbers)) (c .before .before .before .loop .i) (pos 0))
+told : (c : tie.After-is-out-of-range Inv-loop μ-loop)
+    → c .is-out-of-range .result
+    ≡ outOfRange (getD (now (c .before .before .before .before .args .numbers)) (c .before .before .before .loop .i) (pos 0))
 told c =
     let n = getD (now (c .before .before .before .before .args .numbers)) (c .before .before .before .loop .i) (pos 0) in
     let f : SFits w32 n = search needs in
@@ -49,12 +51,19 @@ told c =
 returns : tie.Need-returns Inv-loop μ-loop
 returns c =
     let l = c .before .before .before .before in
-    sym (l .loop .inv .1 ∙ any-hit outOfRange _ _ _ (next (now (l .before .args .numbers)) (l .loop .i) (omega arith)) (sym (told (c .before)) ∙ c .if1 .taken))
+    sym
+    (l .loop .inv .1
+    ∙ any-hit outOfRange _ _ _ (next (now (l .before .args .numbers)) (l .loop .i) (omega arith))
+    (sym (told (c .before)) ∙ c .if1 .taken))
 
 loop-again : tie.Need-loop-again Inv-loop μ-loop
 loop-again c =
-    let l = c .before .before .before .before in
-    (omega arith, l .loop .inv .1 ∙ any-miss outOfRange _ _ _ (next (now (l .before .args .numbers)) (l .loop .i) (omega arith)) (sym (told (c .before)) ∙ c .if1 .left))
+    let l = c .before .before .before .before in (
+      omega arith,
+      l .loop .inv .1
+          ∙ any-miss outOfRange _ _ _ (next (now (l .before .args .numbers)) (l .loop .i) (omega arith))
+          (sym (told (c .before)) ∙ c .if1 .left),
+    )
 
 returns-2 : tie.Need-returns-2 Inv-loop μ-loop
 returns-2 c =

@@ -43,34 +43,52 @@ interiors-meet-requires : tie.Need-interiors-meet-requires Inv-loop μ-loop Inv-
 interiors-meet-requires c κs = tt
 
 -- what the test of a pair says, of the list
-told : (c : tie.After-interiors-meet Inv-loop μ-loop Inv-search μ-search) → c .interiors-meet .result ≡ interiorsMeet (c .before .before .before .before .macro-at .result) (macroAt (now (c .before .before .before .before .before .before .before .before .args .macros)) (c .before .before .before .loop .j))
-told c = c .interiors-meet .ensures ∙ ap (interiorsMeet (c .before .before .before .before .macro-at .result)) (c .before .macro-at2 .ensures)
+told : (c : tie.After-interiors-meet Inv-loop μ-loop Inv-search μ-search)
+    → c .interiors-meet .result
+    ≡ interiorsMeet (c .before .before .before .before .macro-at .result)
+    (macroAt (now (c .before .before .before .before .before .before .before .before .args .macros)) (c .before .before .before .loop .j))
+told c =
+    c .interiors-meet .ensures
+    ∙ ap (interiorsMeet (c .before .before .before .before .macro-at .result)) (c .before .macro-at2 .ensures)
 
 loop-again : tie.Need-loop-again Inv-loop μ-loop Inv-search μ-search
 loop-again c =
     let l = c .before .before .before .before in
-    let s = now (l .before .before .before .before .before .args .macros) in
-    (omega arith, l .loop .inv .1, l .loop .inv .2 ∙ any-miss (interiorsMeet (l .before .macro-at .result)) _ _ _ (macros-next s (l .loop .j) (omega arith)) (sym (told (c .before)) ∙ c .if1 .left))
+    let s = now (l .before .before .before .before .before .args .macros) in (
+      omega arith,
+      l .loop .inv .1,
+      l .loop .inv .2
+          ∙ any-miss (interiorsMeet (l .before .macro-at .result)) _ _ _ (macros-next s (l .loop .j) (omega arith))
+          (sym (told (c .before)) ∙ c .if1 .left),
+    )
 
 search-again : tie.Need-search-again Inv-loop μ-loop Inv-search μ-search
 search-again c =
     let l = c .before in
     let o = l .before .before .before in
     let s = now (o .before .before .args .macros) in
-    let none : any (interiorsMeet (macroAt s (o .search .i))) (drop (o .search .i + 1) (macrosOf s)) ≡ false = rw (← l .before .macro-at .ensures) (l .loop .inv .2 ∙ any-end (interiorsMeet (l .before .macro-at .result)) _ (macros-end s (l .loop .j) (omega arith))) in
+    let none : any (interiorsMeet (macroAt s (o .search .i))) (drop (o .search .i + 1) (macrosOf s)) ≡ false =
+    rw (← l .before .macro-at .ensures) (l .loop .inv .2
+    ∙ any-end (interiorsMeet (l .before .macro-at .result)) _ (macros-end s (l .loop .j) (omega arith)))
+    in
     (omega arith, l .loop .inv .1, o .search .inv .2 ∙ two-miss interiorsMeet _ _ _ (macros-next s (o .search .i) (omega arith)) none)
 
 returns : tie.Need-returns Inv-loop μ-loop Inv-search μ-search
 returns c =
     let o = c .before in
-    o .search .inv .1 ∙ sym (o .search .inv .2 ∙ two-end interiorsMeet _ (macros-end (now (o .before .before .args .macros)) (o .search .i) (omega arith)))
+    o .search .inv .1
+    ∙ sym (o .search .inv .2 ∙ two-end interiorsMeet _ (macros-end (now (o .before .before .args .macros)) (o .search .i) (omega arith)))
 
 returns-2 : tie.Need-returns-2 Inv-loop μ-loop Inv-search μ-search
 returns-2 c =
     let l = c .before .before .before .before in
     let o = l .before .before .before in
     let s = now (o .before .before .args .macros) in
-    let some : any (interiorsMeet (macroAt s (o .search .i))) (drop (o .search .i + 1) (macrosOf s)) ≡ true = rw (← l .before .macro-at .ensures) (l .loop .inv .2 ∙ any-hit (interiorsMeet (l .before .macro-at .result)) _ _ _ (macros-next s (l .loop .j) (omega arith)) (sym (told (c .before)) ∙ c .if1 .taken)) in
+    let some : any (interiorsMeet (macroAt s (o .search .i))) (drop (o .search .i + 1) (macrosOf s)) ≡ true =
+    rw (← l .before .macro-at .ensures) (l .loop .inv .2
+    ∙ any-hit (interiorsMeet (l .before .macro-at .result)) _ _ _ (macros-next s (l .loop .j) (omega arith))
+    (sym (told (c .before)) ∙ c .if1 .taken))
+    in
     sym (o .search .inv .2 ∙ two-hit interiorsMeet _ _ _ (macros-next s (o .search .i) (omega arith)) some)
 
 pub any-overlap-spec : {M : Type 1} → statement M

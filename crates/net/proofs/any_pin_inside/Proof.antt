@@ -35,7 +35,10 @@ is-clear-requires : tie.Need-is-clear-requires Inv-loop μ-loop
 is-clear-requires c κs = tt
 
 -- what the call says, of the lists
-told : (c : tie.After-is-clear Inv-loop μ-loop) → not (c .is-clear .result) ≡ insideAny (macrosOf (now (c .before .before .before .before .before .args .macros))) (pinAt (now (c .before .before .before .before .before .args .pins)) (c .before .before .before .loop .i))
+told : (c : tie.After-is-clear Inv-loop μ-loop)
+    → not (c .is-clear .result)
+    ≡ insideAny (macrosOf (now (c .before .before .before .before .before .args .macros)))
+    (pinAt (now (c .before .before .before .before .before .args .pins)) (c .before .before .before .loop .i))
 unfolding insideAny
 told c =
     let ms = macrosOf (now (c .before .before .before .before .before .args .macros)) in
@@ -44,12 +47,19 @@ told c =
 returns : tie.Need-returns Inv-loop μ-loop
 returns c =
     let l = c .before .before .before .before in
-    sym (l .loop .inv .1 ∙ any-hit (insideAny _) _ _ _ (pins-next (now (l .before .before .args .pins)) (l .loop .i) (omega arith)) (sym (told (c .before)) ∙ c .if1 .taken))
+    sym
+    (l .loop .inv .1
+    ∙ any-hit (insideAny _) _ _ _ (pins-next (now (l .before .before .args .pins)) (l .loop .i) (omega arith))
+    (sym (told (c .before)) ∙ c .if1 .taken))
 
 loop-again : tie.Need-loop-again Inv-loop μ-loop
 loop-again c =
-    let l = c .before .before .before .before in
-    (omega arith, l .loop .inv .1 ∙ any-miss (insideAny _) _ _ _ (pins-next (now (l .before .before .args .pins)) (l .loop .i) (omega arith)) (sym (told (c .before)) ∙ c .if1 .left))
+    let l = c .before .before .before .before in (
+      omega arith,
+      l .loop .inv .1
+          ∙ any-miss (insideAny _) _ _ _ (pins-next (now (l .before .before .args .pins)) (l .loop .i) (omega arith))
+          (sym (told (c .before)) ∙ c .if1 .left),
+    )
 
 returns-2 : tie.Need-returns-2 Inv-loop μ-loop
 returns-2 c =

@@ -34,20 +34,32 @@ is-among-requires : tie.Need-is-among-requires Inv-loop μ-loop
 is-among-requires c κs = tt
 
 -- what the call says, of the list
-told : (c : tie.After-is-among Inv-loop μ-loop) → c .is-among .result ≡ any (samePlace (pinAt (now (c .before .before .before .before .before .args .pins)) (c .before .before .before .loop .i))) (drop (c .before .before .before .loop .i + 1) (pinPlaces (now (c .before .before .before .before .before .args .pins))))
+told : (c : tie.After-is-among Inv-loop μ-loop)
+    → c .is-among .result
+    ≡ any (samePlace (pinAt (now (c .before .before .before .before .before .args .pins)) (c .before .before .before .loop .i)))
+    (drop (c .before .before .before .loop .i + 1) (pinPlaces (now (c .before .before .before .before .before .args .pins))))
 told c =
     let l = c .before .before .before in
-    c .is-among .ensures ∙ ap (λ (p : Place). any (samePlace p) (drop (l .loop .i + 1) (pinPlaces (now (l .before .before .args .pins))))) (c .before .pin-at .ensures)
+    c .is-among .ensures
+    ∙ ap (λ (p : Place). any (samePlace p) (drop (l .loop .i + 1) (pinPlaces (now (l .before .before .args .pins)))))
+    (c .before .pin-at .ensures)
 
 returns : tie.Need-returns Inv-loop μ-loop
 returns c =
     let l = c .before .before .before .before in
-    sym (l .loop .inv .1 ∙ two-hit samePlace _ _ _ (pins-next (now (l .before .before .args .pins)) (l .loop .i) (omega arith)) (sym (told (c .before)) ∙ c .if1 .taken))
+    sym
+    (l .loop .inv .1
+    ∙ two-hit samePlace _ _ _ (pins-next (now (l .before .before .args .pins)) (l .loop .i) (omega arith))
+    (sym (told (c .before)) ∙ c .if1 .taken))
 
 loop-again : tie.Need-loop-again Inv-loop μ-loop
 loop-again c =
-    let l = c .before .before .before .before in
-    (omega arith, l .loop .inv .1 ∙ two-miss samePlace _ _ _ (pins-next (now (l .before .before .args .pins)) (l .loop .i) (omega arith)) (sym (told (c .before)) ∙ c .if1 .left))
+    let l = c .before .before .before .before in (
+      omega arith,
+      l .loop .inv .1
+          ∙ two-miss samePlace _ _ _ (pins-next (now (l .before .before .args .pins)) (l .loop .i) (omega arith))
+          (sym (told (c .before)) ∙ c .if1 .left),
+    )
 
 returns-2 : tie.Need-returns-2 Inv-loop μ-loop
 returns-2 c =

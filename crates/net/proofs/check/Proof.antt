@@ -14,7 +14,8 @@ use Rattle.net.specs.Pins.{pinCount, macroCount}
 use Rattle.net.specs.Answer.{number}
 use Rattle.net.specs.Check.{told}
 use Rattle.net.proofs.CheckLaws.{Past11, Past12, Past13-pins, Past13, Past14, Past15, Past16, Past17, Past18}
-use Rattle.net.proofs.CheckLaws.{refuse-11, refuse-12, refuse-13-pins, refuse-13, refuse-14, refuse-15, refuse-16, refuse-17, refuse-18}
+use Rattle.net.proofs.CheckLaws.{refuse-11, refuse-12, refuse-13-pins, refuse-13, refuse-14, refuse-15, refuse-16, refuse-17}
+use Rattle.net.proofs.CheckLaws.{refuse-18}
 use Rattle.net.proofs.CheckLaws.{allow}
 use Rattle.net.proofs.check.Statement.{statement}
 use Rattle.net.proofs.check.Tie as tie

@@ -26,23 +26,33 @@ is-same-place-requires : tie.Need-is-same-place-requires Inv-loop μ-loop
 is-same-place-requires c κs = tt
 
 -- what the call says, of the list
-told : (c : tie.After-is-same-place Inv-loop μ-loop) → c .is-same-place .result ≡ samePlace (c .before .before .before .before .before .args .p) (pinAt (now (c .before .before .before .before .before .args .pins)) (c .before .before .before .loop .j))
+told : (c : tie.After-is-same-place Inv-loop μ-loop)
+    → c .is-same-place .result
+    ≡ samePlace (c .before .before .before .before .before .args .p)
+    (pinAt (now (c .before .before .before .before .before .args .pins)) (c .before .before .before .loop .j))
 told c = c .is-same-place .ensures ∙ ap (samePlace (c .before .before .before .before .before .args .p)) (c .before .pin-at .ensures)
 
 returns : tie.Need-returns Inv-loop μ-loop
 returns c =
     let l = c .before .before .before .before in
-    sym (l .loop .inv ∙ any-hit (samePlace (l .before .before .args .p)) _ _ _ (pins-next (now (l .before .before .args .pins)) (l .loop .j) (omega arith)) (sym (told (c .before)) ∙ c .if1 .taken))
+    sym
+    (l .loop .inv
+    ∙ any-hit (samePlace (l .before .before .args .p)) _ _ _ (pins-next (now (l .before .before .args .pins)) (l .loop .j) (omega arith))
+    (sym (told (c .before)) ∙ c .if1 .taken))
 
 loop-again : tie.Need-loop-again Inv-loop μ-loop
 loop-again c =
     let l = c .before .before .before .before in
-    l .loop .inv ∙ any-miss (samePlace (l .before .before .args .p)) _ _ _ (pins-next (now (l .before .before .args .pins)) (l .loop .j) (omega arith)) (sym (told (c .before)) ∙ c .if1 .left)
+    l .loop .inv
+    ∙ any-miss (samePlace (l .before .before .args .p)) _ _ _ (pins-next (now (l .before .before .args .pins)) (l .loop .j) (omega arith))
+    (sym (told (c .before)) ∙ c .if1 .left)
 
 returns-2 : tie.Need-returns-2 Inv-loop μ-loop
 returns-2 c =
     let l = c .before in
-    sym (l .loop .inv ∙ any-end (samePlace (l .before .before .args .p)) _ (pins-end (now (l .before .before .args .pins)) (l .loop .j) (omega arith)))
+    sym
+    (l .loop .inv
+    ∙ any-end (samePlace (l .before .before .args .p)) _ (pins-end (now (l .before .before .args .pins)) (l .loop .j) (omega arith)))
 
 pub is-among-spec : {M : Type 1} → statement M
 is-among-spec =

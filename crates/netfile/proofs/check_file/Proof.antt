@@ -10,13 +10,15 @@ use denote.Ref.{now}
 use Rattle.lists.proofs.TestLaws.{by}
 use Rattle.plane.specs.declared.Weights.{Weights}
 use Rattle.net.specs.Bounds.{pinWidth}
-use Rattle.netfile.specs.Sizes.{blockCount, fileBlocks, fileNumbers, filePins}
-use Rattle.netfile.specs.Layout.{stored}
-use Rattle.netfile.specs.Read.{loadedIn, pinsIn, macrosIn, pinLength, macroLength, Sized, laidOut}
-use Rattle.netfile.proofs.SizeLaws.{fewer, pins-few, macros-few}
-use Rattle.netfile.proofs.ReadLaws.{part-of-over, over-long, blocks-few}
-use Rattle.netfile.proofs.StoredLaws.{length-pins-in, long-with, long-alone, stored-within}
-use Rattle.netfile.proofs.AnswerLaws.{length-macros-in}
+use Rattle.blocks.specs.Sizes.{blockCount, fileBlocks, fileNumbers, filePins}
+use Rattle.encoded.specs.Layout.{stored}
+use Rattle.decoded.specs.Held.{loadedIn, pinsIn, macrosIn, pinLength, macroLength, Sized}
+use Rattle.netfile.specs.Read.{laidOut}
+use Rattle.blocks.proofs.SizeLaws.{fewer, pins-few, macros-few}
+use Rattle.blocks.proofs.FillLaws.{part-of-over, over-long}
+use Rattle.decoded.proofs.ReadLaws.{blocks-few}
+use Rattle.decoded.proofs.HeldLaws.{length-pins-in, long-with, long-alone, length-macros-in}
+use Rattle.netfile.proofs.AnswerLaws.{stored-within}
 use borrow.Author.Needs.{needs}
 use Rattle.netfile.proofs.check_file.Statement.{statement}
 use Rattle.netfile.proofs.check_file.Tie as tie

@@ -15,9 +15,10 @@ use Rattle.net.specs.declared.Net.{Net as Counts}
 use Rattle.net.specs.Bounds.{today}
 use Rattle.net.specs.Answer.{number}
 use Rattle.net.specs.Check.{told}
-use Rattle.netfile.specs.Read.{blocksMiscounted, sumsWrong, headWrong, pinsIn, macrosIn, roomShort, readFile}
-use Rattle.netfile.proofs.AnswerLaws.{blocks-counted, head-right, sized-by-head, refuse-21, refuse-1, refuse-2, refuse-3, read-on}
-use Rattle.netfile.proofs.AnswerLaws.{unaltered}
+use Rattle.decoded.specs.Held.{blocksMiscounted, sumsWrong, headWrong, pinsIn, macrosIn}
+use Rattle.netfile.specs.Read.{roomShort, readFile}
+use Rattle.decoded.proofs.HeldLaws.{blocks-counted, head-right, sized-by-head}
+use Rattle.netfile.proofs.AnswerLaws.{refuse-21, refuse-1, refuse-2, refuse-3, read-on, unaltered}
 use borrow.Author.Needs.{needs}
 use Rattle.netfile.proofs.read.Statement.{statement}
 use Rattle.netfile.proofs.read.Tie as tie

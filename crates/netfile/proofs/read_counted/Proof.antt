@@ -7,7 +7,8 @@ use Rattle.lent.specs.Told.{Told, given}
 use Rattle.lent.proofs.AfterLaws.{after-given}
 use Rattle.net.specs.declared.Net.{Net as Counts}
 use Rattle.net.specs.Check.{told}
-use Rattle.netfile.specs.Read.{pinsIn, macrosIn, answerIn}
+use Rattle.decoded.specs.Held.{pinsIn, macrosIn}
+use Rattle.netfile.specs.Read.{answerIn}
 use Rattle.netfile.proofs.AnswerLaws.{lists-fit, unaltered}
 use borrow.Author.Needs.{needs}
 use Rattle.netfile.proofs.read_counted.Statement.{statement}

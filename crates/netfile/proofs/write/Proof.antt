@@ -14,7 +14,7 @@ use Rattle.net.specs.declared.Net.{Net as Counts}
 use Rattle.net.specs.Net.{weightsOf}
 use Rattle.net.specs.Check.{checked, told}
 use Rattle.net.proofs.AllowedLaws.{given-counts}
-use Rattle.netfile.specs.Layout.{fileBytes}
+use Rattle.encoded.specs.Layout.{fileBytes}
 use Rattle.netfile.specs.Write.{fitted, toldBytes}
 use Rattle.netfile.proofs.WriteLaws.{written-refused, written-allowed, allowed-blocks}
 use borrow.Author.Needs.{needs}

@@ -7,9 +7,9 @@ use denote.Ref.{now}
 use Rattle.lent.specs.Told.{given}
 use Rattle.lent.proofs.AfterLaws.{after-refused, after-given}
 use Rattle.net.specs.Answer.{number}
-use Rattle.netfile.specs.Layout.{stored, fileBytes}
+use Rattle.encoded.specs.Layout.{stored, fileBytes}
 use Rattle.netfile.specs.Write.{toldBytes}
-use Rattle.netfile.proofs.LayoutLaws.{length-file}
+use Rattle.encoded.proofs.LayoutLaws.{length-file}
 use Rattle.netfile.proofs.WriteLaws.{fitted-short, fitted-given}
 use borrow.Author.Needs.{needs}
 use Rattle.netfile.proofs.write_checked.Statement.{statement}

@@ -11,7 +11,7 @@ use Rattle.net.specs.Net.{Net, netWith}
 use Rattle.forest.specs.Edges.{graph}
 use Rattle.forest.proofs.Nearest.{fits}
 use Rattle.tree.specs.Table.{treeBound, Tree, Within, tree}
-use Rattle.refiner.specs.Beside.{Ground, ground}
+use Rattle.beside.specs.Beside.{Ground, ground}
 use Rattle.refiner.specs.Round.{roundsIn}
 use Rattle.refiner.specs.Ready.{Ready}
 use Rattle.refiner.proofs.CutSound.{tree-size}

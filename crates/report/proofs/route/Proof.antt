@@ -16,8 +16,9 @@ use Rattle.net.specs.declared.Net.{Net as Counts}
 use Rattle.net.specs.Bounds.{pinWidth, macroWidth}
 use Rattle.net.specs.Net.{handed}
 use Rattle.net.specs.Check.{told}
-use Rattle.netfile.specs.Sizes.{pinListBound, macroListBound}
-use Rattle.netfile.specs.Read.{pinsIn, macrosIn, readFile}
+use Rattle.blocks.specs.Sizes.{pinListBound, macroListBound}
+use Rattle.decoded.specs.Held.{pinsIn, macrosIn}
+use Rattle.netfile.specs.Read.{readFile}
 use Rattle.report.specs.Text.{refusedText}
 use Rattle.report.specs.Route.{treesText}
 use Rattle.report.proofs.PutLaws.{filled-as}

@@ -12,7 +12,7 @@ use Rattle.router.specs.Refined.{toldTree}
 use Rattle.router.specs.Best.{bestGiven, bestTree}
 use Rattle.router.specs.Call.{BestCall}
 use Rattle.router.proofs.AnswerLaws.{only-refused, only-given}
-use Rattle.router.proofs.CountedLaws.{counted-of}
+use Rattle.made.proofs.CountedLaws.{counted-of}
 use Rattle.router.proofs.CallLaws.{best-refused, best-as}
 use borrow.Author.Needs.{needs}
 use Rattle.router.proofs.best_tree.Statement.{statement}

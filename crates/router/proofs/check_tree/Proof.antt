@@ -12,7 +12,7 @@ use Rattle.net.proofs.PinLaws.{length-pins}
 use Rattle.bought.specs.Verdict.{bought, toldVerdict}
 use Rattle.router.specs.Bought.{checkedTree}
 use Rattle.router.proofs.AnswerLaws.{only-refused, only-given}
-use Rattle.router.proofs.CountedLaws.{counted-of, as-net}
+use Rattle.made.proofs.CountedLaws.{counted-of, as-net}
 use borrow.Author.Needs.{needs}
 use Rattle.router.proofs.check_tree.Statement.{statement}
 use Rattle.router.proofs.check_tree.Tie as tie

@@ -11,7 +11,7 @@ use Rattle.delay.specs.Answer.{toldDelays}
 use Rattle.router.specs.Delay.{delayGiven, pinDelays}
 use Rattle.router.specs.Call.{DelayCall}
 use Rattle.router.proofs.AnswerLaws.{only-refused, only-given}
-use Rattle.router.proofs.CountedLaws.{counted-of}
+use Rattle.made.proofs.CountedLaws.{counted-of}
 use Rattle.router.proofs.CallLaws.{gives-refused, gives-as}
 use borrow.Author.Needs.{needs}
 use Rattle.router.proofs.delay.Statement.{statement}

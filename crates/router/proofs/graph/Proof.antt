@@ -10,7 +10,7 @@ use Rattle.net.proofs.HandedLaws.{handed-back}
 use Rattle.router.specs.Call.{GraphCall}
 use Rattle.router.specs.Graph.{graphGiven, toldGraph}
 use Rattle.router.proofs.GraphAnswer.{graphed-refused, graphed-allowed}
-use Rattle.router.proofs.CountedLaws.{counted-of}
+use Rattle.made.proofs.CountedLaws.{counted-of}
 use Rattle.router.proofs.CallLaws.{two-refused, two-as}
 use borrow.Author.Needs.{needs}
 use Rattle.router.proofs.graph.Statement.{statement}

@@ -10,7 +10,7 @@ use Rattle.net.proofs.HandedLaws.{handed-back}
 use Rattle.router.specs.Distances.{distancesGiven, gridDistances, toldDistances}
 use Rattle.router.specs.Call.{DistancesCall}
 use Rattle.router.proofs.AnswerLaws.{only-refused, only-given}
-use Rattle.router.proofs.CountedLaws.{counted-of}
+use Rattle.made.proofs.CountedLaws.{counted-of}
 use Rattle.router.proofs.CallLaws.{square-refused, square-as}
 use borrow.Author.Needs.{needs}
 use Rattle.router.proofs.grid_distances.Statement.{statement}

@@ -10,7 +10,7 @@ use Rattle.net.proofs.HandedLaws.{handed-back}
 use Rattle.router.specs.Refined.{metalOf}
 use Rattle.router.specs.Price.{netPrice}
 use Rattle.router.proofs.AnswerLaws.{only-refused, only-given}
-use Rattle.router.proofs.CountedLaws.{counted-of}
+use Rattle.made.proofs.CountedLaws.{counted-of}
 use borrow.Author.Needs.{needs}
 use Rattle.router.proofs.price.Statement.{statement}
 use Rattle.router.proofs.price.Tie as tie

@@ -11,7 +11,7 @@ use Rattle.router.specs.Slid.{slidGiven, slidTree}
 use Rattle.router.specs.Refined.{toldTree}
 use Rattle.router.specs.Call.{SlidCall}
 use Rattle.router.proofs.AnswerLaws.{only-refused, only-given}
-use Rattle.router.proofs.CountedLaws.{counted-of}
+use Rattle.made.proofs.CountedLaws.{counted-of}
 use Rattle.router.proofs.CallLaws.{gives-refused, gives-as}
 use borrow.Author.Needs.{needs}
 use Rattle.router.proofs.slid_tree.Statement.{statement}

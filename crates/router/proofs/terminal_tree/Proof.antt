@@ -10,7 +10,7 @@ use Rattle.net.proofs.HandedLaws.{handed-back}
 use Rattle.router.specs.Terminal.{terminalGiven, terminalTree, toldTerminal}
 use Rattle.router.specs.Call.{TerminalCall}
 use Rattle.router.proofs.AnswerLaws.{only-refused, only-given}
-use Rattle.router.proofs.CountedLaws.{counted-of}
+use Rattle.made.proofs.CountedLaws.{counted-of}
 use Rattle.router.proofs.CallLaws.{gives-refused, gives-as}
 use borrow.Author.Needs.{needs}
 use Rattle.router.proofs.terminal_tree.Statement.{statement}

@@ -23,7 +23,7 @@ abbrev μ-loop : tie.MeasureT-loop
 
 loop-holds : tie.Need-loop-holds Inv-loop μ-loop
 loop-holds c =
-    let q = c .pre .1 .1 in
+    let q = c .pre .1 .1 .1 in
     (omega arith, number-none _ _ _ _ _ _ (q .0) (q .1 .0) (q .1 .1))
 
 cost-requires : tie.Need-cost-requires Inv-loop μ-loop
@@ -65,10 +65,10 @@ number-edges-spec =
     (λ c. omega arith)
     (λ c. omega arith)
     (λ c κs. omega arith)
-    (λ c κs. omega arith)
+    (λ c κs. let s = c .before .before .before .before in (s .pre .0 .1, s .pre .1 .0))
     (λ c. omega arith)
     (λ c. omega arith)
-    (λ c κs. omega arith)
+    (λ c κs. let s = c .before .before .before .before .before in (s .pre .0 .1, s .pre .1 .0))
     (λ c. omega arith)
     (λ c. omega arith)
     cost-requires

@@ -20,7 +20,7 @@ number-places-requires : tie.Need-number-places-requires
 number-places-requires c κs =
     let d = c .before .before .before in
     let s = d .before .before .before in
-    ((omega (arith, few d, d .vertices .kept .1 .1 .0), s .pre .0 .1), (omega (arith, few d), s .pre .1))
+    ((omega (arith, few d, d .vertices .kept .1 .1 .0), s .pre .0 .1), (s .pre .1 .0, (omega (arith, few d), s .pre .1 .1)))
 
 returns : tie.Need-returns
 returns c =

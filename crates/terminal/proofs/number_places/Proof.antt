@@ -52,7 +52,7 @@ number-places-spec =
     μ-loop
     loop-holds
     (λ c κs. omega arith)
-    (λ c κs. omega arith)
+    (λ c κs. let s = c .before .before .before in (s .pre .0 .1, s .pre .1 .0))
     (λ c. omega arith)
     (λ c. omega arith)
     (λ c. omega arith)

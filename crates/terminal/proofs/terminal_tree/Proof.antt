@@ -8,7 +8,7 @@ use denote.Ref.{now}
 use Rattle.net.specs.Net.{netWith}
 use Rattle.net.proofs.PinLaws.{length-pins}
 use Rattle.terminal.specs.Tables.{Tables, tables}
-use Rattle.terminal.proofs.WorkLaws.{Charted, vertices-fit, edges-fit, few-links, tree-asks, all-worked}
+use Rattle.terminal.proofs.WorkLaws.{Charted, vertices-fit, vertices-in-order, edges-fit, few-links, tree-asks, all-worked}
 use borrow.Author.Needs.{needs}
 use Rattle.terminal.proofs.terminal_tree.Statement.{statement}
 use Rattle.terminal.proofs.terminal_tree.Tie as tie
@@ -43,15 +43,20 @@ number-edges-requires c κs =
     let s = begun d in
     let f = s .pre .1 in (
       (edges-fit (s .pre .0) f (charted d), vertices-fit (s .pre .0) f (charted d)),
-      (few-links (s .pre .0) f (charted d), (f .ones, (f .twos, f .spans))),
+      (
+        vertices-in-order (s .pre .0) f (charted d),
+        (few-links (s .pre .0) f (charted d), (f .ones, (f .twos, f .spans))),
+      ),
     )
 
 number-pins-requires : tie.Need-number-pins-requires
 number-pins-requires c κs =
     let d = c .before .before .before .before .before .before .before .before .before .before .before in
     let s = begun d in
-    let f = s .pre .1 in
-    ((omega (arith, s .pre .0 .few-pins, length-pins (now (s .args .pins))), vertices-fit (s .pre .0) f (charted d)), f .pins)
+    let f = s .pre .1 in (
+      (omega (arith, s .pre .0 .few-pins, length-pins (now (s .args .pins))), vertices-fit (s .pre .0) f (charted d)),
+      (vertices-in-order (s .pre .0) f (charted d), f .pins),
+    )
 
 kept-tree-requires : tie.Need-kept-tree-requires
 kept-tree-requires c κs =

@@ -7,7 +7,7 @@ use native.Mathlib.Omega.{arith}
 use Rattle.lent.specs.Entries.{flat}
 use Rattle.forest.specs.Edges.{graph, entries}
 use Rattle.forest.specs.Parents.{parents}
-use Rattle.terminal.specs.Bridges.{path}
+use Rattle.bridges.specs.Bridges.{path}
 use Rattle.forest.proofs.EdgeLaws.{all-left}
 use Rattle.union.specs.Union.{keptEdges}
 use Rattle.union.specs.Marks.{marked}

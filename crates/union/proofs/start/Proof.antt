@@ -5,7 +5,7 @@ use native.Mathlib.Omega.{arith}
 use lib.ListN.{length}
 use Rattle.forest.specs.Bounds.{pointBound}
 use Rattle.forest.proofs.EdgeLaws.{below-replicate}
-use Rattle.terminal.proofs.WholeLaws.{ends-of}
+use Rattle.keeping.proofs.WholeLaws.{ends-of}
 use Rattle.union.proofs.StartLaws.{edges-are, started}
 use Rattle.union.proofs.start.Statement.{statement}
 use Rattle.union.proofs.start.Tie as tie

@@ -3,7 +3,7 @@
 use mathlib.Core.Path.{_≡_, refl, sym, ap, ap₂, _∙_}
 use denote.Ref.{now}
 use mathlib.Core.List.{[]}
-use Rattle.bars.specs.Turned.{view}
+use Rattle.turned.specs.Turned.{view}
 use Rattle.bars.specs.Offers.{lastOn}
 use Rattle.bars.proofs.CodeLaws.{bar-is}
 use borrow.Author.Needs.{needs}

@@ -4,11 +4,11 @@
 use mathlib.Core.Path.{_≡_, refl, sym, ap, ap₂, _∙_}
 use native.Mathlib.Omega.{arith}
 use Prim.Native.Nat.{_+_, _-_, _^_, _≤_, _<_, min, max}
-use Rattle.bars.proofs.StepLaws.{up-start, up-next, up-end}
+use Rattle.turned.proofs.StepLaws.{up-start, up-next, up-end}
 use mathlib.Core.Bool.{Bool, false, _||_}
 use lib.ListN.{getD}
-use Rattle.bars.specs.Steps.{upTo}
-use Rattle.bars.specs.Turned.{onIt}
+use Rattle.turned.specs.Steps.{upTo}
+use Rattle.turned.specs.Turned.{onIt}
 use Rattle.bars.specs.Offers.{labelView, held}
 use Rattle.bars.proofs.search.is_held.Statement.{statement}
 use Rattle.bars.proofs.search.is_held.Tie as tie

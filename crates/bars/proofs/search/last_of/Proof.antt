@@ -4,9 +4,9 @@
 use mathlib.Core.Path.{_≡_, refl, sym, ap, ap₂, _∙_}
 use native.Mathlib.Omega.{arith}
 use Prim.Native.Nat.{_+_, _-_, _^_, _≤_, _<_, min, max}
-use Rattle.bars.proofs.StepLaws.{up-start, up-next, up-end}
-use Rattle.bars.specs.Steps.{upTo}
-use Rattle.bars.specs.Turned.{onIt}
+use Rattle.turned.proofs.StepLaws.{up-start, up-next, up-end}
+use Rattle.turned.specs.Steps.{upTo}
+use Rattle.turned.specs.Turned.{onIt}
 use Rattle.bars.specs.Offers.{labelView, chosen, lastOn}
 use Rattle.straight.specs.Table.{straightBound}
 use Rattle.bars.proofs.CodeLaws.{chosen-less}

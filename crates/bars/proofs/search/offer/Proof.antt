@@ -1,22 +1,26 @@
 -- `bars::search::offer` meets its contract, each answer by the law of its case.
 -- Assumes nothing.
-use mathlib.Core.Path.{_≡_, ap}
+use mathlib.Core.Path.{_≡_, ap, _∙_}
 use native.Mathlib.Omega.{arith}
-use Prim.Native.Nat.{ℕ, _-_, _*_, _≤_}
+use Prim.Native.Nat.{ℕ, _-_, _*_, _^_, _≤_}
 use denote.Ref.{now}
 use Rattle.lists.proofs.TestLaws.{not-true}
 use Rattle.straight.specs.Table.{straightBound}
-use Rattle.bars.specs.declared.Bar.{Bar}
-use Rattle.bars.specs.declared.Size.{Size}
-use Rattle.bars.specs.Turned.{View, view}
+use Rattle.reach.specs.declared.Bar.{Bar}
+use Rattle.hanging.specs.declared.Hang.{Hang}
+use Rattle.reach.specs.declared.Size.{Size}
+use Rattle.turned.specs.Turned.{View, view}
+use Rattle.hanging.specs.Hanging.{hang}
 use Rattle.bars.specs.Offers.{held, lastOn, moveBy, move}
-use Rattle.bars.proofs.CodeLaws.{off, rate-fits, saving-fits, move-is, reach-of, reach-less}
+use Rattle.bars.proofs.CodeLaws.{off, rate-fits, saving-fits, move-is, reach-of}
+use Rattle.reach.proofs.CodeLaws.{reach-less}
 use Rattle.bars.proofs.CodeLaws.{offer-equal, offer-weak, offer-held, offer-taken, offer-left}
+use Rattle.hanging.proofs.TallyLaws.{read-back}
 use Rattle.bars.proofs.search.offer.Statement.{statement}
 use Rattle.bars.proofs.search.offer.Tie as tie
 
 -- what hangs on the bar is known
-module _ (h : tie.After-hang) where
+module _ (h : tie.After-hang-at) where
   abbrev seen : View
   seen =
       view (now (h .before .args .pts)) (now (h .before .args .keys)) (now (h .before .args .lab)) (h .before .args .s) (h .before .args .l)
@@ -24,28 +28,41 @@ module _ (h : tie.After-hang) where
   abbrev size : Size
   size = h .before .args .z
 
-  surplus-fits : h .hang .result .ahead - h .hang .result .behind ≤ straightBound
-  surplus-fits = omega (arith, h .hang .ensures .1, h .before .pre)
+  -- the table has it
+  known : h .hang-at .result ≡ hang seen (size .edges)
+  known = h .hang-at .ensures ∙ read-back (h .before .pre .0 .0 .1) (h .before .pre .1 .1)
+
+  few : ((h .hang-at .result .ahead ≤ size .edges) × (h .hang-at .result .behind ≤ size .edges)) × (h .hang-at .result .shortest ≤ 2 ^ 32)
+  few = (
+    (
+      omega (arith, ap (λ (x : Hang). x .ahead) known, h .before .pre .1 .1 .counts),
+      omega (arith, ap (λ (x : Hang). x .behind) known, h .before .pre .1 .1 .counts),
+    ),
+    omega (arith, ap (λ (x : Hang). x .shortest) known, h .before .pre .1 .1 .short),
+  )
+
+  surplus-fits : h .hang-at .result .ahead - h .hang-at .result .behind ≤ straightBound
+  surplus-fits = omega (arith, few, h .before .pre .0)
 
 -- and what its move saves by a unit, and its first place
 module _ (p : tie.After-point-at) where
-  abbrev hung : tie.After-hang
+  abbrev hung : tie.After-hang-at
   hung = p .before .before .before .before .before
 
-  move-by : (d : ℕ) → move (d * ((hung .hang .result .ahead - hung .hang .result .behind) * p .before .weight-of .result))
+  move-by : (d : ℕ) → move (d * ((hung .hang-at .result .ahead - hung .hang-at .result .behind) * p .before .weight-of .result))
       (p .point-at .result) (hung .before .args .s) d
       ≡ moveBy (seen hung) (size hung) d
   move-by d =
-      move-is (seen hung) (size hung) (hung .hang .result) (hung .hang .ensures .0) _ _ d (p .before .weight-of .ensures .0)
+      move-is (seen hung) (size hung) (hung .hang-at .result) (known hung) _ _ d (p .before .weight-of .ensures .0)
       (p .point-at .ensures)
 
-hang-requires : tie.Need-hang-requires
-hang-requires c κs = (omega (arith, c .pre), c .pre .0 .1 .0)
+hang-at-requires : tie.Need-hang-at-requires
+hang-at-requires c κs = c .pre .0 .1 .1
 
 returns : tie.Need-returns
 returns c =
     let h = c .before .before in
-    offer-equal (seen h) (size h) (h .hang .result) (h .hang .ensures .0) _ _ _ (c .if1 .taken)
+    offer-equal (seen h) (size h) (h .hang-at .result) (known h) _ _ _ (c .if1 .taken)
 
 sub-rate : tie.Need-sub-rate
 sub-rate c = omega (arith, c .before .if1 .left)
@@ -61,10 +78,10 @@ mul-rate c =
 point-at-requires : tie.Need-point-at-requires
 point-at-requires c κs = c .before .before .before .before .before .pre .0 .1 .1
 
-mul-t18 : tie.Need-mul-t18
-mul-t18 c =
+mul-t19 : tie.Need-mul-t19
+mul-t19 c =
     let h = c .before .before .before .before .before .before in
-    omega (arith, saving-fits _ _ _ (h .hang .ensures .1 .1) (surplus-fits h) (c .before .before .weight-of .ensures .1))
+    omega (arith, saving-fits _ _ _ (few h .1) (surplus-fits h) (c .before .before .weight-of .ensures .1))
 
 is-better-requires : tie.Need-is-better-requires
 is-better-requires c κs = tt
@@ -73,11 +90,11 @@ returns-2 : tie.Need-returns-2
 returns-2 c =
     let p = c .before .before .before in
     let h = hung p in
-    offer-weak (seen h) (size h) (h .hang .result) (h .hang .ensures .0) _ _ _ (p .before .before .before .if1 .left) _ (move-by p _) _
+    offer-weak (seen h) (size h) (h .hang-at .result) (known h) _ _ _ (p .before .before .before .if1 .left) _ (move-by p _) _
     (c .before .is-better .ensures) (not-true _ (c .if2 .taken))
 
 is-held-requires : tie.Need-is-held-requires
-is-held-requires c κs = c .before .before .before .before .before .before .before .before .before .pre .1
+is-held-requires c κs = c .before .before .before .before .before .before .before .before .before .pre .1 .0
 
 returns-3 : tie.Need-returns-3
 unfolding held
@@ -85,25 +102,25 @@ returns-3 c =
     let d = c .before .before in
     let p = d .before .before .before in
     let h = hung p in
-    offer-held (seen h) (size h) (h .hang .result) (h .hang .ensures .0) _ _ _ (p .before .before .before .if1 .left) _ (move-by p _) _
+    offer-held (seen h) (size h) (h .hang-at .result) (known h) _ _ _ (p .before .before .before .if1 .left) _ (move-by p _) _
     (d .before .is-better .ensures) (off _ (d .if2 .left)) _ (c .before .is-held .ensures) (c .if3 .taken)
 
 bar-of-requires : tie.Need-bar-of-requires
 bar-of-requires c κs =
     let h = c .before .before .before .before .before .before .before .before .before .before in
-    ((h .before .pre .0 .0 .0, h .before .pre .0 .1 .1), h .hang .ensures .1 .1)
+    ((h .before .pre .0 .0 .0, h .before .pre .0 .1 .1), few h .1)
 
 reach-requires : tie.Need-reach-requires
 reach-requires c κs =
     let h = c .before .before .before .before .before .before .before .before .before .before .before in
     (h .before .pre .0 .0, h .before .pre .0 .1 .0)
 
-mul-t18-2 : tie.Need-mul-t18-2
-mul-t18-2 c =
+mul-t19-2 : tie.Need-mul-t19-2
+mul-t19-2 c =
     let p = c .before .before .before .before .before .before .before in
     let h = hung p in
     let m = ap (λ (x : Bar). x .most) (c .before .bar-of .ensures) in
-    let l : c .reach .result ≤ 4294967296 = omega (arith, m, reach-less _ _ _ _ _ _ (c .reach .ensures), h .hang .ensures .1) in
+    let l : c .reach .result ≤ 4294967296 = omega (arith, m, reach-less _ _ _ _ _ _ (c .reach .ensures), few h) in
     omega (arith, saving-fits _ _ _ l (surplus-fits h) (p .before .weight-of .ensures .1))
 
 is-better-requires-2 : tie.Need-is-better-requires-2
@@ -116,9 +133,9 @@ returns-4 c =
     let d = b .before .before .before in
     let p = d .before .before .before in
     let h = hung p in
-    offer-taken (seen h) (size h) (h .hang .result) (h .hang .ensures .0) _ _ _ (p .before .before .before .if1 .left) _ (move-by p _) _
+    offer-taken (seen h) (size h) (h .hang-at .result) (known h) _ _ _ (p .before .before .before .if1 .left) _ (move-by p _) _
     (d .before .is-better .ensures) (off _ (d .if2 .left)) _ (b .before .before .is-held .ensures) (b .before .if3 .left) _ _ (move-by p _)
-    (reach-of (seen h) (size h) (h .hang .result) (h .hang .ensures .0) _ _ _ (b .bar-of .ensures) (c .before .before .reach .ensures)) _
+    (reach-of (seen h) (size h) (h .hang-at .result) (known h) _ _ _ (b .bar-of .ensures) (c .before .before .reach .ensures)) _
     (c .before .is-better2 .ensures) (c .if4 .taken)
 
 returns-5 : tie.Need-returns-5
@@ -128,29 +145,29 @@ returns-5 c =
     let d = b .before .before .before in
     let p = d .before .before .before in
     let h = hung p in
-    offer-left (seen h) (size h) (h .hang .result) (h .hang .ensures .0) _ _ _ (p .before .before .before .if1 .left) _ (move-by p _) _
+    offer-left (seen h) (size h) (h .hang-at .result) (known h) _ _ _ (p .before .before .before .if1 .left) _ (move-by p _) _
     (d .before .is-better .ensures) (off _ (d .if2 .left)) _ (b .before .before .is-held .ensures) (b .before .if3 .left) _ _ (move-by p _)
-    (reach-of (seen h) (size h) (h .hang .result) (h .hang .ensures .0) _ _ _ (b .bar-of .ensures) (c .before .before .reach .ensures)) _
+    (reach-of (seen h) (size h) (h .hang-at .result) (known h) _ _ _ (b .bar-of .ensures) (c .before .before .reach .ensures)) _
     (c .before .is-better2 .ensures) (c .if4 .left)
 
 pub offer-spec : {M : Type 1} → statement M
 offer-spec =
     tie.close
     (tie.spec
-    hang-requires
+    hang-at-requires
     returns
     sub-rate
     weight-of-requires
     mul-rate
     point-at-requires
-    mul-t18
+    mul-t19
     is-better-requires
     returns-2
     is-held-requires
     returns-3
     bar-of-requires
     reach-requires
-    mul-t18-2
+    mul-t19-2
     is-better-requires-2
     returns-4
     returns-5)

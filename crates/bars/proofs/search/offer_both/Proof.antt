@@ -24,7 +24,10 @@ offer-requires c κs = (
     c .before .before .before .before .pre .0 .0 .0,
     (c .before .before .before .before .pre .0 .0 .1, c .before .before .before .before .pre .0 .1 .1 .number _),
   ),
-  c .before .before .before .before .pre .1,
+  (
+    c .before .before .before .before .pre .1 .0,
+    c .before .before .before .before .pre .1 .1 .0 .each _ (c .before .before .before .before .pre .0 .1 .1 .number _),
+  ),
 )
 
 opposite-requires : tie.Need-opposite-requires
@@ -39,7 +42,12 @@ offer-requires-2 c κs = (
       c .before .before .before .before .before .before .pre .0 .1 .1 .number _,
     ),
   ),
-  c .before .before .before .before .before .before .pre .1,
+  (
+    c .before .before .before .before .before .before .pre .1 .0,
+    rw (c .opposite .ensures)
+        (c .before .before .before .before .before .before .pre .1 .1 .1 .each _
+        (c .before .before .before .before .before .before .pre .0 .1 .1 .number _)),
+  ),
 )
 
 returns : tie.Need-returns

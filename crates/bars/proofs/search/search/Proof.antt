@@ -1,77 +1,41 @@
--- `bars::search::search` meets its contract. The loop's invariant: what is done so far is what the definition says of it. The measure is
--- what is left.
+-- `bars::search::search` meets its contract: the tables of what hangs for each side, and the search by them.
 -- Assumes nothing.
-use mathlib.Core.Path.{_≡_, refl, sym, ap, ap₂, _∙_}
-use native.Mathlib.Omega.{arith}
-use Prim.Native.Nat.{_+_, _-_, _^_, _≤_, _<_, min, max}
-use Rattle.bars.proofs.StepLaws.{up-start, up-next, up-end}
-use denote.Ref.{now}
-use Rattle.slide.specs.declared.Side.the-variants.{Above, Right}
-use Rattle.bars.specs.declared.Best.{Best}
-use Rattle.bars.specs.Steps.{upTo}
-use Rattle.bars.specs.Offers.{offeredBoth, noMove, searched}
+use borrow.Author.Needs.{needs}
+use mathlib.Core.Path.{refl}
 use Rattle.bars.proofs.search.search.Statement.{statement}
 use Rattle.bars.proofs.search.search.Tie as tie
 
-abbrev Inv-loop : tie.InvT-loop
-Inv-loop pts keys z macros seats rows columns c₀ k₀ c k =
-    (k ≤ z .edges) × (c ≡ upTo
-    (λ j d. offeredBoth pts keys columns z macros seats Right j (offeredBoth pts keys rows z macros seats Above j d)) k noMove)
+tally-requires : tie.Need-tally-requires
+tally-requires c κs = search needs
 
-abbrev μ-loop : tie.MeasureT-loop
-μ-loop pts keys z macros seats rows columns c₀ k₀ c k = z .edges - k
+tally-requires-2 : tie.Need-tally-requires-2
+tally-requires-2 c κs = search needs
 
-loop-holds : tie.Need-loop-holds Inv-loop μ-loop
-loop-holds c = (omega arith, up-start _ _)
+tally-requires-3 : tie.Need-tally-requires-3
+tally-requires-3 c κs = search needs
 
-offer-both-requires : tie.Need-offer-both-requires Inv-loop μ-loop
-offer-both-requires c κs = (
-  (
-    c .before .before .before .pre .0,
-    (omega (arith, c .before .before .before .pre .0, c .if1 .taken), c .before .before .before .pre .1 .1 .0),
-  ),
-  c .before .before .before .pre .1 .0,
-)
+tally-requires-4 : tie.Need-tally-requires-4
+tally-requires-4 c κs = search needs
 
-offer-both-requires-2 : tie.Need-offer-both-requires-2 Inv-loop μ-loop
-offer-both-requires-2 c κs = (
-  (
-    c .before .before .before .before .pre .0,
-    (omega (arith, c .before .before .before .before .pre .0, c .before .if1 .taken), c .before .before .before .before .pre .1 .1 .1),
-  ),
-  c .before .before .before .before .pre .1 .0,
-)
+search-by-requires : tie.Need-search-by-requires
+search-by-requires c κs =
+    let left = c .before .before .before .before in
+    let right = left .before .before in
+    let below = right .before .before in
+    let above = below .before .before in
+    let p = above .before .before .pre in
+    (p .0, (p .1 .0, (p .1 .1, ((above .tally .ensures, below .tally2 .ensures), (right .tally3 .ensures, left .tally4 .ensures)))))
 
-add-k : tie.Need-add-k Inv-loop μ-loop
-add-k c = omega (arith, c .before .before .before .before .before .pre .0, c .before .before .if1 .taken)
-
-loop-less : tie.Need-loop-less Inv-loop μ-loop
-loop-less c = omega (arith, c .before .before .if1 .taken)
-
-loop-again : tie.Need-loop-again Inv-loop μ-loop
-loop-again c =
-    let s = c .before .before .before .before .before .args in (
-      omega (arith, c .before .before .if1 .taken),
-      up-next _ _ _ _ _ (c .before .before .before .before .loop .inv .1)
-          (c .offer-both2 .ensures
-          ∙ ap (λ (d : Best). offeredBoth (now (s .pts)) (now (s .keys)) (now (s .columns)) (s .z) (now (s .macros)) (now (s .seats)) Right
-          (c .before .before .before .before .loop .k) d) (c .before .offer-both .ensures)),
-    )
-
-returns : tie.Need-returns Inv-loop μ-loop
-unfolding searched
-returns c = up-end _ _ _ _ _ (c .before .before .loop .inv .1) (omega arith) (omega (arith, c .if1 .left))
+returns : tie.Need-returns
+returns c = search needs
 
 pub search-spec : {M : Type 1} → statement M
 search-spec =
     tie.close
     (tie.spec
-    Inv-loop
-    μ-loop
-    loop-holds
-    offer-both-requires
-    offer-both-requires-2
-    add-k
-    loop-less
-    loop-again
+    tally-requires
+    tally-requires-2
+    tally-requires-3
+    tally-requires-4
+    search-by-requires
     returns)

@@ -8,9 +8,9 @@ use denote.Ref.{now}
 use lib.ListN.{set}
 use Rattle.plane.specs.declared.Place.{Place}
 use Rattle.net.specs.Pins.{pinAt}
-use Rattle.bars.specs.Steps.{upTo, setBy}
+use Rattle.turned.specs.Steps.{upTo, setBy}
 use Rattle.bars.specs.Offers.{seatOf, seatsOf}
-use Rattle.bars.proofs.StepLaws.{up-start, up-next, up-end}
+use Rattle.turned.proofs.StepLaws.{up-start, up-next, up-end}
 use Rattle.bars.proofs.search.seat.Statement.{statement}
 use Rattle.bars.proofs.search.seat.Tie as tie
 

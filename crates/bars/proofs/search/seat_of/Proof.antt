@@ -4,14 +4,14 @@
 use mathlib.Core.Path.{_≡_, refl, sym, ap, ap₂, _∙_}
 use native.Mathlib.Omega.{arith}
 use Prim.Native.Nat.{_+_, _-_, _^_, _≤_, _<_, min, max}
-use Rattle.bars.proofs.StepLaws.{up-start, up-next, up-end}
+use Rattle.turned.proofs.StepLaws.{up-start, up-next, up-end}
 use mathlib.Core.Bool.{Bool}
 use denote.Ref.{now}
 use Rattle.plane.specs.declared.Place.{Place}
 use Rattle.plane.specs.Place.{samePlace}
 use Rattle.plane.specs.Flat.{placeAt}
 use Rattle.straight.specs.Table.{straightBound}
-use Rattle.bars.specs.Steps.{upTo}
+use Rattle.turned.specs.Steps.{upTo}
 use Rattle.bars.specs.Offers.{chosen, seatOf}
 use Rattle.bars.proofs.CodeLaws.{chosen-less}
 use Rattle.bars.proofs.search.seat_of.Statement.{statement}

@@ -5,7 +5,7 @@ use mathlib.Core.Path.{_≡_}
 use Prim.Native.Nat.{_≤_, _-_}
 use native.Mathlib.Omega.{arith}
 use Rattle.plane.specs.Flat.{macrosOf}
-use Rattle.candidates.specs.Longest.{longest}
+use Rattle.longest.specs.Longest.{longest}
 use Rattle.candidates.specs.Candidate.{best, offers, search}
 use Rattle.lists.specs.Turns.{turns}
 use Rattle.lists.proofs.TurnLaws.{turns-none, turns-next, turns-end}

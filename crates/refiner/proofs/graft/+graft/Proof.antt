@@ -10,7 +10,7 @@ use borrow.Fn.PlainCycle.{Measures, is, falls, and}
 use Rattle.refiner.proofs.graft.graft.Reads as graft
 use Rattle.refiner.proofs.graft.graft.Kinds as graft-kinds
 use Rattle.refiner.proofs.graft.+graft.Lts-graft as graft-lts
-use Rattle.refiner.proofs.beside.vertex_at.Reads as vertex-at-reads
+use Rattle.beside.proofs.vertex_at.Reads as vertex-at-reads
 use Rattle.refiner.proofs.graft.leaf.Reads as leaf-reads
 use Rattle.refiner.proofs.graft.+graft.{statement}
 use Rattle.refiner.proofs.graft.+graft.Tie.{close}

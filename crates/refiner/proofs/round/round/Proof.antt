@@ -5,7 +5,7 @@ use native.Mathlib.Omega.{arith}
 use denote.Ref.{now}
 use Rattle.tree.specs.Table.{Tree, tree}
 use Rattle.lists.proofs.TestLaws.{differ}
-use Rattle.refiner.specs.declared.Choice.{Choice}
+use Rattle.beside.specs.declared.Choice.{Choice}
 use Rattle.refiner.proofs.ReadyLaws.{made-labels, made-nearing, made-seated, chosen-in, exchanged-in, exchangeable}
 use borrow.Author.Needs.{needs}
 use Rattle.refiner.proofs.round.round.Statement.{statement}
@@ -26,7 +26,9 @@ seats-requires c κs =
     let s = c .before .before .before .before .before .before .before .before .before .before .before .before in
     let o = c .before .before .before .before .before .before .before .before .before in
     let f = c .before .before .before in
-    ((s .pre .1 .few, s .pre .0 .1), made-labels _ (begun s) (s .pre .0 .0) (s .pre .0 .1) (o .sources .ensures .0) (o .sources .ensures .1 .1) (f .forest .ensures .0) (f .forest .ensures .1) .rooted)
+    let m = made-labels _ (begun s) (s .pre .0 .0) (s .pre .0 .1) (o .sources .ensures .0) (o .sources .ensures .1 .1)
+    (f .forest .ensures .0) (f .forest .ensures .1) in
+    ((s .pre .1 .few, s .pre .0 .1), (s .pre .1 .points, m .rooted))
 
 found-requires : tie.Need-found-requires
 found-requires c κs =
@@ -34,6 +36,10 @@ found-requires c κs =
     let o = c .before .before .before .before .before .before .before .before .before .before .before .before .before .before .before in
     let f = c .before .before .before .before .before .before .before .before .before in
     let e = c .before .before .before .before .before .seats .ensures in
+    let m = made-labels _ (begun s) (s .pre .0 .0) (s .pre .0 .1) (o .sources .ensures .0) (o .sources .ensures .1 .1)
+    (f .forest .ensures .0) (f .forest .ensures .1) in
+    let q = made-nearing _ (begun s) (s .pre .0 .0) (s .pre .0 .1) (o .sources .ensures .0) (o .sources .ensures .1 .1)
+    (f .forest .ensures .0) (f .forest .ensures .1) in
     let r = s .pre .1 in (
       r .spanned,
       (
@@ -41,7 +47,7 @@ found-requires c κs =
           s .pre .0 .1,
           made-seated _ (begun s) (s .pre .0 .0) (s .pre .0 .1) (o .sources .ensures .0) (o .sources .ensures .1 .1) (f .forest .ensures .0) (f .forest .ensures .1) e r,
         ),
-        (made-labels _ (begun s) (s .pre .0 .0) (s .pre .0 .1) (o .sources .ensures .0) (o .sources .ensures .1 .1) (f .forest .ensures .0) (f .forest .ensures .1) .low, made-nearing _ (begun s) (s .pre .0 .0) (s .pre .0 .1) (o .sources .ensures .0) (o .sources .ensures .1 .1) (f .forest .ensures .0) (f .forest .ensures .1)),
+        (r .points, (r .vertices, (m .low, q))),
       ),
     )
 

@@ -20,13 +20,13 @@ use Rattle.net.specs.declared.Net.{Net as Counts}
 use Rattle.net.specs.Answer.{number}
 use Rattle.net.specs.Pins.{pinCount, macroCount}
 use Rattle.net.specs.Net.{Net, handed, netOf}
-use Rattle.grid.specs.Bounds.{gridMacros}
-use Rattle.best.specs.Bounds.{bestPins, workBound}
+use Rattle.lines.specs.Bounds.{gridMacros}
+use Rattle.parts.specs.Bounds.{bestPins, workBound}
 use Rattle.best.specs.Tree.{BestOver}
 use Rattle.router.specs.Refined.{toldTree}
 use Rattle.router.specs.Best.{aboveBest, bestNumbers}
 use Rattle.router.proofs.BestLaws.{best-above, best-short, best-enough, best-room, above-best, best-low, best-metal-low}
-use Rattle.router.proofs.CountedLaws.{as-net, as-allowed, as-pins, counts-few}
+use Rattle.made.proofs.CountedLaws.{as-net, as-allowed, as-pins, counts-few}
 use Rattle.router.proofs.CallLaws.{best-refused, best-given}
 use borrow.Author.Needs.{needs}
 use Rattle.router.proofs.allowed.best_tree.Statement.{statement}

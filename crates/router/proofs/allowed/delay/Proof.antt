@@ -7,7 +7,7 @@ use Rattle.lists.proofs.AnyLaws.{none-any}
 use Rattle.net.specs.Net.{handed}
 use Rattle.net.specs.Pins.{pinLoads}
 use Rattle.net.specs.Check.{noLoad}
-use Rattle.router.proofs.CountedLaws.{as-pins}
+use Rattle.made.proofs.CountedLaws.{as-pins}
 use Rattle.router.proofs.DelayLaws.{delays-asked, delays-call}
 use borrow.Author.Needs.{needs}
 use Rattle.router.proofs.allowed.delay.Statement.{statement}

@@ -1,7 +1,7 @@
 -- `router::allowed::graph` meets its contract: where there is room, the tables hold the vertices, and the edges of just those vertices.
 -- Assumes nothing.
 use mathlib.Core.Path.{_≡_, refl, sym, ap, ap₂, _∙_, subst}
-use mathlib.Core.Bool.{Bool, true, false, _||_}
+use mathlib.Core.Bool.{_||_}
 use mathlib.Core.List.{List}
 use Prim.Native.Nat.{ℕ, _*_, _≤_}
 use native.Mathlib.Omega.{arith}
@@ -18,6 +18,7 @@ use Rattle.plane.specs.Place.{before}
 use Rattle.plane.specs.Flat.{placesOf, macrosOf}
 use Rattle.net.specs.Net.{netOf, handed}
 use Rattle.net.specs.Answer.{number}
+use Rattle.room.specs.Needs.{vertexNeed, linkNeed}
 use Rattle.graph.specs.Spanning.{spanning}
 use Rattle.graph.specs.Edges.{edges}
 use Rattle.graph.specs.Numbers.{edgeNumbers}
@@ -25,41 +26,27 @@ use Rattle.graph.proofs.VertexLaws.{vertices-ascending}
 use Rattle.graph.proofs.ReadBack.{vertices-back}
 use Rattle.router.specs.Graph.{netVertices, netEdges, pointCount, toldGraph}
 use Rattle.router.proofs.GraphAnswer.{graph-short, graph-fits, graph-room, vertices-few}
-use Rattle.router.proofs.CountedLaws.{as-net, as-points, counts-few, points-few}
+use Rattle.made.proofs.CountedLaws.{as-net, counts-few, points-few}
+use Rattle.router.proofs.RoomLaws.{graph-asks}
 use Rattle.router.proofs.CallLaws.{two-refused, two-given}
 use borrow.Author.Needs.{needs}
 use Rattle.router.proofs.allowed.graph.Statement.{statement}
 use Rattle.router.proofs.allowed.graph.Tie as tie
 
-point-count-requires : tie.Need-point-count-requires
-point-count-requires c κs =
-    counts-few (c .pre)
+graph-short-requires : tie.Need-graph-short-requires
+graph-short-requires c κs = counts-few (c .pre)
 
--- n, as the check has counted
-many : (d : tie.After-point-count) → d .point-count .result ≡ pointCount (now (d .before .args .pins)) (now (d .before .args .macros))
-many d = d .point-count .ensures ∙ as-points (d .before .pre)
-
-mul-if1 : tie.Need-mul-if1
-mul-if1 c = record { fits = omega (arith, many c, points-few (c .before .pre)) }
-
-mul-if1-2 : tie.Need-mul-if1-2
-mul-if1-2 c = record { fits = omega (arith, many c, points-few (c .before .pre)) }
-
--- the test with n as the check has counted it
-tested : (d : tie.After-point-count) (b : Bool)
-    → (ltb (length (now (d .before .args .vertices))) (d .point-count .result * 2)
-    || ltb (length (now (d .before .args .edges))) (d .point-count .result * 16)) ≡ b
-    → (ltb (length (now (d .before .args .vertices))) (pointCount (now (d .before .args .pins)) (now (d .before .args .macros)) * 2)
-    || ltb (length (now (d .before .args .edges))) (pointCount (now (d .before .args .pins)) (now (d .before .args .macros)) * 16)) ≡ b
-tested d b h = subst
-    (λ (n : ℕ). (ltb (length (now (d .before .args .vertices))) (n * 2) || ltb (length (now (d .before .args .edges))) (n * 16)) ≡ b) (many d) h
+-- whether too little is lent, in the numbers of the lists
+short : (d : tie.After-graph-short) → let a = d .before .args in let n = pointCount (now (a .pins)) (now (a .macros)) in
+    d .graph-short .result ≡ (ltb (length (now (a .vertices))) (vertexNeed n) || ltb (length (now (a .edges))) (linkNeed n))
+short d = d .graph-short .ensures ∙ graph-asks (d .before .pre) _ _
 
 returns : tie.Need-returns
 unfolding toldGraph number
 returns c =
     let a = c .before .before .args in
     two-refused refl (graph-short (handed (a .net .weights)) (now (a .pins)) (now (a .macros)) (length (now (a .vertices))) (length (now (a .edges)))
-    (tested (c .before) true (c .if1 .taken)))
+    (sym (short (c .before)) ∙ c .if1 .taken))
 
 -- the room that is there, and how many vertices there are
 room : (c : tie.Else1) → (pointCount (now (c .before .before .args .pins)) (now (c .before .before .args .macros)) * 2
@@ -69,7 +56,7 @@ room : (c : tie.Else1) → (pointCount (now (c .before .before .args .pins)) (no
 room c =
     let a = c .before .before .args in
     graph-room (handed (a .net .weights)) (now (a .pins)) (now (a .macros)) (length (now (a .vertices))) (length (now (a .edges)))
-    (tested (c .before) false (c .if1 .left))
+    (sym (short (c .before)) ∙ c .if1 .left)
 
 few : (d : tie.After-vertices) → d .vertices .result ≤ pointCount (now (d .before .before .before .before .args .pins)) (now (d .before .before .before .before .args .macros))
 unfolding netVertices
@@ -123,7 +110,7 @@ returns-2 c =
     = ap (edges (a .net .weights) (macrosOf (now (a .macros)))) back ∙ ap spanning (as-net (d .before .before .before .before .pre)) in
     two-given
     (ap₂ (λ (v w : ℕ). given (v, w)) (d .vertices .ensures .0) (c .before .edges .ensures .0 ∙ ap length these))
-    (graph-fits (handed (a .net .weights)) (now (a .pins)) (now (a .macros)) (length (now (a .vertices))) (length (now (a .edges))) (tested (d .before .before .before) false (d .before .before .if1 .left)))
+    (graph-fits (handed (a .net .weights)) (now (a .pins)) (now (a .macros)) (length (now (a .vertices))) (length (now (a .edges))) (sym (short (d .before .before .before)) ∙ d .before .before .if1 .left))
     (d .vertices .ensures .1)
     (c .before .edges .ensures .1 ∙ ap (λ (es : List (Place × Place)). over (flat edgeNumbers es) (now (a .edges))) these)
 
@@ -131,9 +118,7 @@ pub graph-spec : {M : Type 1} → statement M
 graph-spec =
     tie.close
     (tie.spec
-    point-count-requires
-    mul-if1
-    mul-if1-2
+    graph-short-requires
     returns
     vertices-requires
     mul-edges

@@ -15,11 +15,11 @@ use Rattle.net.specs.declared.Net.{Net as Counts}
 use Rattle.net.specs.Answer.{number}
 use Rattle.net.specs.Pins.{pinCount, macroCount}
 use Rattle.net.specs.Net.{Net, handed}
-use Rattle.grid.specs.Bounds.{gridPins, gridMacros}
+use Rattle.lines.specs.Bounds.{gridPins, gridMacros}
 use Rattle.grid.specs.Distance.{SquareOver}
 use Rattle.router.specs.Distances.{aboveGrid, toldDistances}
 use Rattle.router.proofs.Distances.{grid-above, grid-short, grid-enough, above-of}
-use Rattle.router.proofs.CountedLaws.{as-net, as-allowed, as-pins, counts-few}
+use Rattle.made.proofs.CountedLaws.{as-net, as-allowed, as-pins, counts-few}
 use Rattle.router.proofs.CallLaws.{square-refused, square-given}
 use borrow.Author.Needs.{needs}
 use Rattle.router.proofs.allowed.grid_distances.Statement.{statement}

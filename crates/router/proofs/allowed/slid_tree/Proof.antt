@@ -1,9 +1,11 @@
 -- `router::allowed::slid_tree` meets its contract: where there is room, the edges given are those of the net's slid tree.
 -- Assumes nothing.
-use mathlib.Core.Path.{_≡_, refl, sym, ap, ap₂, _∙_, subst}
+use mathlib.Core.Path.{_≡_, refl, sym, ap, ap₂, _∙_}
 use mathlib.Core.List.{List}
-use Prim.Native.Nat.{ℕ, _+_, _*_, _^_, _≤_, _<_}
+use Prim.Native.Nat.{ℕ, _*_, _^_, _≤_, _<_}
 use native.Mathlib.Omega.{arith}
+use borrow.Author.Tests.{ltb-true, ltb-false}
+use lib.Dec.{ltb}
 use lib.IntN.{ℤ, pos}
 use lib.ListN.{length, length-replicate}
 use mir.Syntax.{w64}
@@ -24,13 +26,15 @@ use Rattle.net.specs.Pins.{pinCount}
 use Rattle.net.specs.Net.{Net, netOf, handed}
 use Rattle.net.specs.Allowed.{Allowed}
 use Rattle.net.proofs.PinLaws.{length-pins}
+use Rattle.room.specs.Needs.{wireNeed}
 use Rattle.graph.specs.Numbers.{edgeNumbers}
 use Rattle.laid.specs.Edges.{laidBound}
 use Rattle.router.specs.Graph.{pointCount}
 use Rattle.router.specs.Refined.{toldTree}
 use Rattle.router.specs.Slid.{slidTotal, slidMetal, slidAnswer, slidGiven}
 use Rattle.router.proofs.AnswerLaws.{room-short, room-enough}
-use Rattle.router.proofs.CountedLaws.{as-net, as-points, as-pins, counts-few, points-few}
+use Rattle.made.proofs.CountedLaws.{as-net, counts-few}
+use Rattle.router.proofs.RoomLaws.{wires-ask}
 use Rattle.router.proofs.CallLaws.{gives-refused, gives-given}
 use Rattle.router.proofs.SlidLaws.{slid-few}
 use Rattle.router.proofs.SlidTable.{slid-low, slid-metal-low, slid-count, slid-within}
@@ -38,55 +42,29 @@ use borrow.Author.Needs.{needs}
 use Rattle.router.proofs.allowed.slid_tree.Statement.{statement}
 use Rattle.router.proofs.allowed.slid_tree.Tie as tie
 
-point-count-requires : tie.Need-point-count-requires
-point-count-requires c κs = counts-few (c .pre)
+wires-short-requires : tie.Need-wires-short-requires
+wires-short-requires c κs = counts-few (c .pre)
 
--- n and m, as the check has counted them
-asked : (d : tie.After-struct-known) → (d .before .point-count .result + d .before .before .args .net .pins) * 8
-    ≡ (pointCount (now (d .before .before .args .pins)) (now (d .before .before .args .macros)) + pinCount
-    (now (d .before .before .args .pins)))
-    * 8
-asked d =
-    let s = d .before .before in
-    omega (arith, d .before .point-count .ensures, as-points (s .pre), as-pins (s .pre))
+-- what must be lent, in the numbers of the lists
+abbrev asked : tie.Start → ℕ
+asked s = wireNeed (pointCount (now (s .args .pins)) (now (s .args .macros))) (pinCount (now (s .args .pins)))
 
-add-if1 : tie.Need-add-if1
-add-if1 c = record {
-  fits = omega (
-    arith,
-    points-few (c .before .before .pre),
-    as-points (c .before .before .pre),
-    c .before .point-count .ensures,
-    counts-few (c .before .before .pre),
-  );
-}
-
-mul-if1 : tie.Need-mul-if1
-mul-if1 c = record {
-  fits = omega (
-    arith,
-    points-few (c .before .before .pre),
-    as-points (c .before .before .pre),
-    c .before .point-count .ensures,
-    counts-few (c .before .before .pre),
-  );
-}
+-- whether too little is lent
+short : (d : tie.After-wires-short) → d .wires-short .result ≡ ltb (length (now (d .before .args .edges))) (asked (d .before))
+short d = d .wires-short .ensures ∙ wires-ask (d .before .pre) _
 
 returns : tie.Need-returns
 unfolding slidGiven toldTree number
 returns c =
-    let d = c .before in
-    let a = d .before .before .args in
-    let need = (pointCount (now (a .pins)) (now (a .macros)) + pinCount (now (a .pins))) * 8 in
-    gives-refused refl (room-short need (length (now (a .edges))) _ (subst (λ (z : ℕ). length (now (a .edges)) < z) (asked d)
-    (c .if1 .taken)))
+    let s = c .before .before in
+    gives-refused refl (room-short (asked s) (length (now (s .args .edges))) _ (ltb-true _ _ (sym (short (c .before)) ∙ c .if1 .taken)))
+
+-- the room that there is
+room : (c : tie.Else1) → asked (c .before .before) ≤ length (now (c .before .before .args .edges))
+room c = ltb-false _ _ (sym (short (c .before)) ∙ c .if1 .left)
 
 abbrev start : tie.After-slide → tie.Start
-start d = d .before .before .before .before .before
-
--- n and m, and that as many numbers are lent
-abbrev counted : tie.After-slide → tie.After-struct-known
-counted d = d .before .before .before
+start d = d .before .before .before .before
 
 abbrev allowed : (d : tie.After-slide) →
     Allowed (netOf (handed (start d .args .net .weights)) (now (start d .args .pins)) (now (start d .args .macros)))
@@ -115,10 +93,9 @@ give-requires c κs =
         arith,
         slid-count (allowed d) _ _ (d .slide .ensures),
         slid-few (allowed d),
-        asked (counted d),
+        room (d .before .before),
         length-pins (now (a .pins)),
         length-macros (now (a .macros)),
-        d .before .before .if1 .left,
       ),
     )
 
@@ -141,11 +118,11 @@ metal-is m = m .metal .ensures .0 ∙ ap (lengths distance) (m .before .before .
 metal-fits : (m : tie.After-metal) → m .metal .result < 2 ^ 63
 metal-fits m = omega (arith, metal-is m, slid-metal-low (allowed (m .before .before .before .before .before)))
 
-cast-t26 : tie.Need-cast-t26
-cast-t26 c = record { sfits = total-fits (c .before .before .before .before .before .before) }
+cast-t23 : tie.Need-cast-t23
+cast-t23 c = record { sfits = total-fits (c .before .before .before .before .before .before) }
 
-cast-t27 : tie.Need-cast-t27
-cast-t27 c = record { sfits = metal-fits (c .before .before .before .before) }
+cast-t24 : tie.Need-cast-t24
+cast-t24 c = record { sfits = metal-fits (c .before .before .before .before) }
 
 returns-2 : tie.Need-returns-2
 unfolding slidGiven toldTree
@@ -154,7 +131,6 @@ returns-2 c =
     let t = m .before .before in
     let d = t .before .before .before in
     let a = start d .args in
-    let need = (pointCount (now (a .pins)) (now (a .macros)) + pinCount (now (a .pins))) * 8 in
     let given-is : ℕ × (ℤ × ℤ) = slidAnswer (handed (a .net .weights)) (now (a .pins)) (now (a .macros)) in
     let sum : toZ w64 (t .total .result) ≡ pos (slidTotal (handed (a .net .weights)) (now (a .pins)) (now (a .macros))) =
     toZ-pos w64 (t .total .result) (total-fits t) ∙ ap pos (total-is t) in
@@ -162,17 +138,14 @@ returns-2 c =
     toZ-pos w64 (m .metal .result) (metal-fits m) ∙ ap pos (metal-is m) in
     gives-given
     (ap₂ (λ (n : ℕ) (z : ℤ × ℤ). given (n, z)) (slid-count (allowed d) _ _ (d .slide .ensures)) (ap₂ (λ (x y : ℤ). (x, y)) sum laid))
-    (room-enough {A = ℕ × (ℤ × ℤ)} need (length (now (a .edges))) given-is
-    (subst (λ (z : ℕ). z ≤ length (now (a .edges))) (asked (counted d)) (d .before .before .if1 .left)))
+    (room-enough {A = ℕ × (ℤ × ℤ)} (asked (start d)) (length (now (a .edges))) given-is (room (d .before .before)))
     (c .before .give .ensures ∙ ap (λ (es : List (Place × Place)). over (flat edgeNumbers es) (now (a .edges))) (d .slide .ensures))
 
 pub slid-tree-spec : {M : Type 1} → statement M
 slid-tree-spec =
     tie.close
     (tie.spec
-    point-count-requires
-    add-if1
-    mul-if1
+    wires-short-requires
     returns
     (λ c. search needs)
     (λ c κs. search needs)
@@ -182,7 +155,7 @@ slid-tree-spec =
     metal-requires
     (λ c. search needs)
     give-requires
-    cast-t26
-    cast-t27
+    cast-t23
+    cast-t24
     (λ c. search needs)
     returns-2)

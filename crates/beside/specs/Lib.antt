@@ -1,0 +1,14 @@
+-- The candidate that a round takes, on the tree or with a vertex beside it: rules R23 to R26 on the tables of a tree and of a graph.
+--
+-- Points and edges are numbers, as crate candidates says; a vertex is its number in the graph's table of places. What is known of such a
+-- candidate in a sound tree, and the way that is laid for it, stand in crate refiner.
+--
+--   Beside     Ground                      the graph that a tree is refined on
+--              Seated                      the roots of vertices are points of the tree
+--              weighed, offer, search      a candidate beside the tree, with what its way costs; the best of them
+--              chosenOf, chosenIn          the candidate that a round takes, on the tree or beside it
+--
+--   BesideLaws   offer-far, offer-beyond   a vertex too far from the edge's box to gain more changes nothing
+--                chosen-is                 both searches, one after the other, are `chosenOf`
+--   HangingLaws  found-hanging             the rows that the code has filled are those of the tree
+pub mod Beside

@@ -1,0 +1,2 @@
+pub mod PathParts
+pub mod BridgeLaws

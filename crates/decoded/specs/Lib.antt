@@ -1,0 +1,21 @@
+-- What a file holds: two weights and two lists, as many numbers as its head says, at their places; and what is asked of its length, of its
+-- sums and of its head before anything else is read.
+--
+-- A written 1 for a weight needs no test here: the layout makes a 0 of it, and the file is compared with that. Nor do loads that are all 0
+-- in blocks of kind 4, or blocks of pins of both kinds: the layout makes other ones of them. A word above 8 needs one, or it would be given
+-- back as a weight and refused by the check, as 18; with it no read is ever refused so (crate netfile, WeightLaws).
+--
+--   Held     blocksMiscounted, sumsWrong            refusals 1 and 2; blocksMiscountedWithin b within any bounds
+--            blocksOf n words                       the first n blocks
+--            headWord i bytes                       a word of the head
+--            loadedIn bytes                         whether its pins have loads, by the block after the head
+--            pinLength bytes, macroLength bytes     how many numbers are stored for the two lists, by the head
+--            weightsIn bytes                        the weights, by the head
+--            placeIn j                              the word of the number j among those of its list's blocks
+--            numberIn bytes b j                     the number j of the list whose blocks begin at the block b
+--            storedIn bytes                         the numbers that a file has for its pins
+--            pinsIn bytes, macrosIn bytes           the lists that a file holds
+--            countsWrong, weightsMiswritten         refusal 3 for the head's counts, and for a weight above 8
+--            headWrong bytes                        for either
+--            Sized bytes n k                        as long as n numbers of pins and k of macros take: the code's own condition
+pub mod Held

@@ -1,0 +1,4 @@
+pub mod KeptLaws
+pub mod WholeLaws
+pub mod OurTree
+pub mod WorkedTrees

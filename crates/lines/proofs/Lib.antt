@@ -1,0 +1,7 @@
+pub mod AxisLaws
+pub mod LineLaws
+pub mod EdgeLaws
+pub mod CrossingLaws
+pub mod GridCost
+pub mod LineTable
+pub mod PinOrder

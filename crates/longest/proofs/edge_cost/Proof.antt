@@ -1,0 +1,40 @@
+-- `longest::edge_cost` meets its contract: both ends of a key are points, and what metal between them costs is small.
+-- Assumes nothing.
+use mathlib.Core.Path.{_≡_}
+use native.Mathlib.Omega.{arith}
+use Rattle.longest.proofs.LongestLaws.{cost-is}
+use borrow.Author.Needs.{needs}
+use Rattle.longest.proofs.edge_cost.Statement.{statement}
+use Rattle.longest.proofs.edge_cost.Tie as tie
+
+mul-q : tie.Need-mul-q
+mul-q c = search needs
+
+element-copy-out-q : tie.Need-element-copy-out-q
+element-copy-out-q c = search needs
+
+point-at-requires : tie.Need-point-at-requires
+point-at-requires c κs = omega (arith, c .before .pre .1 .small (c .before .args .k))
+
+point-at-requires-2 : tie.Need-point-at-requires-2
+point-at-requires-2 c κs = search needs
+
+cost-requires : tie.Need-cost-requires
+cost-requires c κs = search needs
+
+returns : tie.Need-returns
+returns c = (
+  cost-is _ _ _ _ _ _ _ (c .before .before .point-at .ensures) (c .before .point-at2 .ensures) (c .cost .ensures .0),
+  c .cost .ensures .1,
+)
+
+pub edge-cost-spec : {M : Type 1} → statement M
+edge-cost-spec =
+    tie.close
+    (tie.spec
+    mul-q
+    element-copy-out-q
+    point-at-requires
+    point-at-requires-2
+    cost-requires
+    returns)

@@ -1,0 +1,3 @@
+pub mod FirstRelease
+pub mod OlderLaws
+pub mod WorkedOlder

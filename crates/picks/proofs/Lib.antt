@@ -1,0 +1,4 @@
+pub mod QuadrantLaws
+pub mod PickLaws
+pub mod VertexNumbers
+pub mod PassLaws

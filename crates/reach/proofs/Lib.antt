@@ -1,0 +1,7 @@
+pub mod CodeLaws
+pub mod CornerLaws
+pub mod PassLaws
+pub mod ExemptLaws
+pub mod WayLaws
+pub mod PointWay
+pub mod MacroWay

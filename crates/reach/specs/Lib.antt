@@ -1,0 +1,6 @@
+-- How far a bar may move.
+--
+--   Passing    past, pastFace, reached    the way past an edge, a point, a macro; how far the bar may move
+--
+-- ../proofs/WayLaws.antt, PointWay.antt, MacroWay.antt: past each thing the way is the closed form of crate slide's distance.
+pub mod Passing

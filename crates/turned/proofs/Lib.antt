@@ -1,0 +1,4 @@
+pub mod StepLaws
+pub mod RaisedLaws
+pub mod CodeLaws
+pub mod SeenLaws

@@ -1,0 +1,154 @@
+-- `turned::face_of` meets its contract, each answer by the law of its case.
+-- Assumes nothing.
+use mathlib.Core.Path.{_≡_, refl, sym, ap, ap₂, _∙_}
+use mir.Syntax.{w32, w64}
+use mir.Val.{toZ, ofZ}
+use mir.ValLaws.{toZ-ofZ}
+use Rattle.slide.specs.declared.Side.{Side}
+use Rattle.slide.specs.declared.Side.the-variants.{Above, Below, Right, Left}
+use Rattle.slide.specs.Stop.{starts, finishes, nearSide, farSide}
+use Rattle.plane.proofs.Fits.{MacroFits}
+use Rattle.turned.proofs.CodeLaws.{face-is}
+use borrow.Author.Needs.{needs}
+use Rattle.turned.proofs.face_of.Statement.{statement}
+use Rattle.turned.proofs.face_of.Tie as tie
+
+fits : (s : tie.Start) → MacroFits (s .args .m)
+fits s = record { left = search needs; bottom = search needs; right = search needs; top = search needs }
+
+enum-told : tie.Need-enum-told
+enum-told c = search needs
+
+raised-requires : tie.Need-raised-requires
+raised-requires c κs = search needs
+
+raised-requires-2 : tie.Need-raised-requires-2
+raised-requires-2 c κs = search needs
+
+raised-requires-3 : tie.Need-raised-requires-3
+raised-requires-3 c κs = search needs
+
+raised-requires-4 : tie.Need-raised-requires-4
+raised-requires-4 c κs = search needs
+
+enum-told-2 : tie.Need-enum-told-2
+enum-told-2 c = search needs
+
+raised-requires-5 : tie.Need-raised-requires-5
+raised-requires-5 c κs = search needs
+
+raised-requires-6 : tie.Need-raised-requires-6
+raised-requires-6 c κs = search needs
+
+turned-requires : tie.Need-turned-requires
+turned-requires c κs = search needs
+
+turned-requires-2 : tie.Need-turned-requires-2
+turned-requires-2 c κs = search needs
+
+enum-told-3 : tie.Need-enum-told-3
+enum-told-3 c = search needs
+
+raised-requires-7 : tie.Need-raised-requires-7
+raised-requires-7 c κs = search needs
+
+raised-requires-8 : tie.Need-raised-requires-8
+raised-requires-8 c κs = search needs
+
+raised-requires-9 : tie.Need-raised-requires-9
+raised-requires-9 c κs = search needs
+
+raised-requires-10 : tie.Need-raised-requires-10
+raised-requires-10 c κs = search needs
+
+enum-told-4 : tie.Need-enum-told-4
+enum-told-4 c = search needs
+
+raised-requires-11 : tie.Need-raised-requires-11
+raised-requires-11 c κs = search needs
+
+raised-requires-12 : tie.Need-raised-requires-12
+raised-requires-12 c κs = search needs
+
+turned-requires-3 : tie.Need-turned-requires-3
+turned-requires-3 c κs = search needs
+
+turned-requires-4 : tie.Need-turned-requires-4
+turned-requires-4 c κs = search needs
+
+returns : tie.Need-returns
+unfolding starts finishes nearSide farSide
+returns c =
+    let f = fits (c .before .before .before .before .before .before .before .before .before .before) in (
+      face-is _ Above _ _ _ _ _ (c .before .before .before .before .before .before .before .before .enum-told .given .1)
+          (rw (toZ-ofZ w32 _ (f .left)) at (c .before .before .before .before .before .before .raised .ensures .0))
+          (rw (toZ-ofZ w32 _ (f .right)) at (c .before .before .before .before .raised2 .ensures .0))
+          (rw (toZ-ofZ w32 _ (f .bottom)) at (c .before .before .raised3 .ensures .0))
+          (rw (toZ-ofZ w32 _ (f .top)) at (c .raised4 .ensures .0)),
+      c .before .before .raised3 .ensures .1,
+    )
+
+returns-2 : tie.Need-returns-2
+unfolding starts finishes nearSide farSide
+returns-2 c =
+    let f = fits (c .before .before .before .before .before .before .before .before .before .before) in (
+      face-is _ Below _ _ _ _ _ (c .before .before .before .before .before .before .before .before .enum-told2 .given .1)
+          (rw (toZ-ofZ w32 _ (f .left)) at (c .before .before .before .before .before .before .raised5 .ensures .0))
+          (rw (toZ-ofZ w32 _ (f .right)) at (c .before .before .before .before .raised6 .ensures .0))
+          (rw (toZ-ofZ w32 _ (f .top)) at (c .before .before .turned .ensures .0))
+          (rw (toZ-ofZ w32 _ (f .bottom)) at (c .turned2 .ensures .0)),
+      c .before .before .turned .ensures .1,
+    )
+
+returns-3 : tie.Need-returns-3
+unfolding starts finishes nearSide farSide
+returns-3 c =
+    let f = fits (c .before .before .before .before .before .before .before .before .before .before) in (
+      face-is _ Right _ _ _ _ _ (c .before .before .before .before .before .before .before .before .enum-told3 .given .1)
+          (rw (toZ-ofZ w32 _ (f .bottom)) at (c .before .before .before .before .before .before .raised7 .ensures .0))
+          (rw (toZ-ofZ w32 _ (f .top)) at (c .before .before .before .before .raised8 .ensures .0))
+          (rw (toZ-ofZ w32 _ (f .left)) at (c .before .before .raised9 .ensures .0))
+          (rw (toZ-ofZ w32 _ (f .right)) at (c .raised10 .ensures .0)),
+      c .before .before .raised9 .ensures .1,
+    )
+
+returns-4 : tie.Need-returns-4
+unfolding starts finishes nearSide farSide
+returns-4 c =
+    let f = fits (c .before .before .before .before .before .before .before .before .before .before) in (
+      face-is _ Left _ _ _ _ _ (c .before .before .before .before .before .before .before .before .enum-told4 .given .1)
+          (rw (toZ-ofZ w32 _ (f .bottom)) at (c .before .before .before .before .before .before .raised11 .ensures .0))
+          (rw (toZ-ofZ w32 _ (f .top)) at (c .before .before .before .before .raised12 .ensures .0))
+          (rw (toZ-ofZ w32 _ (f .right)) at (c .before .before .turned3 .ensures .0))
+          (rw (toZ-ofZ w32 _ (f .left)) at (c .turned4 .ensures .0)),
+      c .before .before .turned3 .ensures .1,
+    )
+
+pub face-of-spec : {M : Type 1} → statement M
+face-of-spec =
+    tie.close
+    (tie.spec
+    enum-told
+    raised-requires
+    raised-requires-2
+    raised-requires-3
+    raised-requires-4
+    enum-told-2
+    raised-requires-5
+    raised-requires-6
+    turned-requires
+    turned-requires-2
+    enum-told-3
+    raised-requires-7
+    raised-requires-8
+    raised-requires-9
+    raised-requires-10
+    enum-told-4
+    raised-requires-11
+    raised-requires-12
+    turned-requires-3
+    turned-requires-4
+    returns
+    returns-2
+    returns-3
+    returns-4)

@@ -1,0 +1,3 @@
+pub mod RefinedTrees
+pub mod SlidTrees
+pub mod WrongTrees
