@@ -11,7 +11,6 @@
 --   EverySite      every-site, on-every-site
 --   FirstRelease   as-first
 --   PriceLaws      never-less;  BoughtLaws: promised-check;  BestPromise: promised-best
---   WorkedNets, WorkedPrices, WorkedBought, WorkedBest    worked nets, by computation
 pub mod Published
 pub mod EveryOrder
 pub mod EverySite

@@ -8,3 +8,4 @@ pub mod BestLaws
 pub mod SlidLaws
 pub mod SlidTable
 pub mod DelayLaws
+pub mod Answered

@@ -14,8 +14,8 @@ use Rattle.net.proofs.WorkedChecks.{answer}
 use Rattle.lines.specs.Edges.{Edge}
 use Rattle.router.specs.Refined.{laidTotal}
 use Rattle.router.specs.Best.{aboveBest, bestRoomShort, bestGiven, bestTree}
-use Rattle.promises.proofs.WorkedNets.{answersBy}
-use Rattle.promises.proofs.WorkedBought.{checkOf}
+use Rattle.router.proofs.Answered.{answersBy}
+use Rattle.worked.proofs.Bought.{checkOf}
 
 -- to unfold this is to unfold all that it rests on
 unfoldable pub bestOf : Weighing → Lists → ℕ → ℕ → List Edge → Told (ℕ × (ℤ × ℤ))
