@@ -16,8 +16,9 @@ use Rattle.net.specs.declared.Net.{Net as Counts}
 use Rattle.net.specs.declared.Weighing.{Weighing}
 use Rattle.net.specs.Bounds.{pinBound, pointBound, edgeBound, treeBound}
 use Rattle.net.specs.Net.{weighing, plainly}
-use Rattle.net.specs.Check.{counted, checked}
-use Rattle.net.proofs.WorkedChecks.{answer}
+use Rattle.net.specs.Counts.{counted}
+use Rattle.checks.specs.Check.{checked}
+use Rattle.checks.proofs.WorkedChecks.{answer}
 use Rattle.terminal.proofs.WorkedPaths.{treeIn}
 use Rattle.union.proofs.WorkedUnions.{union}
 use Rattle.beside.specs.Beside.{offer, isPoint, takeSeat, weighed, onWay, free}
