@@ -2,9 +2,9 @@
 // sees to it that each pointer has that length behind it, and that what is lent to be written overlaps nothing else that is handed over.
 // Each contract names one record of specs/Handed.antt: the code, each lent list and each number that goes through a pointer.
 use bought::Verdict;
+use checks::Checked;
 use delay::Delayed;
 use floats::Technology;
-use net::Checked;
 use net::Weighing;
 use netfile::Written;
 use plane::Place;
@@ -21,7 +21,7 @@ ghost use Rattle.lent.specs.Told.{code};
 ghost use Rattle.lent.specs.Entries.{flat};
 ghost use Rattle.plane.specs.Place.{place};
 ghost use Rattle.net.specs.Net.{weighing, weightsOf, netOf};
-ghost use Rattle.net.specs.Check.{checked};
+ghost use Rattle.checks.specs.Check.{checked};
 ghost use Rattle.graph.specs.Numbers.{placeNumbers, edgeNumbers};
 ghost use Rattle.terminal.specs.Tree.{pathNumbers};
 ghost use Rattle.router.specs.Graph.{netVertices, netEdges, graphed};

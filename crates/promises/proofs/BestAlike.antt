@@ -13,7 +13,7 @@ use Rattle.lent.specs.Over.{after}
 use Rattle.net.specs.declared.Net.{Net as Counts}
 use Rattle.net.specs.declared.Weighing.{Weighing}
 use Rattle.net.specs.Pins.{pinCount, macroCount}
-use Rattle.net.specs.Check.{checked}
+use Rattle.checks.specs.Check.{checked}
 use Rattle.rules.specs.Edges.{Edge}
 use Rattle.lines.specs.Bounds.{gridMacros}
 use Rattle.parts.specs.Bounds.{bestPins, workBound}

@@ -16,9 +16,10 @@ use Rattle.net.specs.declared.Net.{Net as Counts}
 use Rattle.net.specs.declared.Weighing.{Weighing}
 use Rattle.net.specs.Pins.{pinCount, macroCount}
 use Rattle.net.specs.Net.{Net, netOf}
-use Rattle.net.specs.Check.{checked}
-use Rattle.net.proofs.AllowedLaws.{given-allowed, allowed-positive}
+use Rattle.net.proofs.AllowedLaws.{allowed-positive}
 use Rattle.net.proofs.PinLaws.{length-pins}
+use Rattle.checks.specs.Check.{checked}
+use Rattle.checks.proofs.GivenLaws.{given-allowed}
 use Rattle.refined.proofs.MetalLaws.{metal-low}
 use Rattle.lines.specs.declared.Axis.the-variants.{Across, Along}
 use Rattle.lines.specs.Lines.{xLines, yLines}

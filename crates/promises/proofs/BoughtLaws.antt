@@ -26,10 +26,11 @@ use Rattle.net.specs.Net.{Net, netOf, weightsOf}
 use Rattle.net.specs.declared.Net.{Net as Counts}
 use Rattle.net.specs.declared.Weighing.{Weighing}
 use Rattle.net.specs.Pins.{pinCount, pinPlaces}
-use Rattle.net.specs.Check.{outOfRange, checked}
+use Rattle.net.specs.Tests.{outOfRange}
 use Rattle.net.specs.Allowed.{Allowed}
-use Rattle.net.proofs.AllowedLaws.{given-allowed}
 use Rattle.net.proofs.PinLaws.{length-pins}
+use Rattle.checks.specs.Check.{checked}
+use Rattle.checks.proofs.GivenLaws.{given-allowed}
 use Rattle.graph.specs.Numbers.{edgeNumbers}
 use Rattle.bought.specs.Bounds.{boughtBound}
 use Rattle.bought.specs.Edges.{edgesOf}

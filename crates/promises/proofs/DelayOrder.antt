@@ -26,12 +26,12 @@ use Rattle.net.specs.declared.Net.{Net as Counts}
 use Rattle.net.specs.declared.Weighing.{Weighing}
 use Rattle.net.specs.Net.{netOf}
 use Rattle.net.specs.Pins.{pinPlaces, pinEntries}
-use Rattle.net.specs.Check.{checked}
 use Rattle.net.specs.Allowed.{Allowed}
 use Rattle.net.specs.Order.{SamePins, SamePlaces, SameMacros}
-use Rattle.net.proofs.AllowedLaws.{given-allowed}
-use Rattle.net.proofs.CheckOrder.{check-order, same-places}
 use Rattle.net.proofs.PinLaws.{entry-places}
+use Rattle.checks.specs.Check.{checked}
+use Rattle.checks.proofs.GivenLaws.{given-allowed}
+use Rattle.checks.proofs.CheckOrder.{check-order, same-places}
 use Rattle.terminal.proofs.NumberLaws.{apart-once}
 use Rattle.floats.specs.declared.Technology.{Technology}
 use Rattle.floats.specs.declared.Delay.{Delay}

@@ -32,10 +32,11 @@ use Rattle.net.specs.Net.{netOf, weightsOf, costIn}
 use Rattle.net.specs.Allowed.{Allowed}
 use Rattle.net.specs.Pins.{pinCount, macroCount, pinPlaces, pinLoads}
 use Rattle.net.proofs.PinLaws.{length-pins, pin-numbers, same-pins as as-many}
-use Rattle.net.specs.Check.{noLoad, checked}
-use Rattle.net.proofs.AllowedLaws.{given-allowed}
+use Rattle.net.specs.Tests.{noLoad}
 use Rattle.net.specs.Order.{SamePins, SamePlaces, SameMacros}
-use Rattle.net.proofs.CheckOrder.{check-order, same-places}
+use Rattle.checks.specs.Check.{checked}
+use Rattle.checks.proofs.GivenLaws.{given-allowed}
+use Rattle.checks.proofs.CheckOrder.{check-order, same-places}
 use Rattle.graph.specs.Numbers.{placeNumbers, edgeNumbers}
 use Rattle.terminal.specs.Tree.{pathNumbers}
 use Rattle.terminal.proofs.BestJoiningLaws.{paths-sum}

@@ -33,8 +33,9 @@ use Rattle.net.specs.declared.Weighing.{Weighing}
 use Rattle.net.specs.Net.{Net, netOf, weightsOf, costIn}
 use Rattle.net.specs.Allowed.{Allowed}
 use Rattle.net.specs.Pins.{pinCount, macroCount, pinPlaces, pinEntries}
-use Rattle.net.specs.Check.{checked, outOfRange}
-use Rattle.net.proofs.AllowedLaws.{given-allowed}
+use Rattle.net.specs.Tests.{outOfRange}
+use Rattle.checks.specs.Check.{checked}
+use Rattle.checks.proofs.GivenLaws.{given-allowed}
 use Rattle.graph.specs.Numbers.{placeNumbers, edgeNumbers}
 use Rattle.terminal.specs.Tree.{pathNumbers}
 use Rattle.terminal.proofs.BestJoiningLaws.{paths-sum}

@@ -7,8 +7,9 @@ use Rattle.plane.specs.declared.Weights.{Weights}
 use Rattle.plane.specs.Cost.{cost, plain}
 use Rattle.plane.proofs.CostLaws.{cost-plain}
 use Rattle.net.specs.Net.{plainly}
-use Rattle.net.specs.Check.{noWeight, weightsWrong}
-use Rattle.net.proofs.HandedLaws.{weights-handed, not-18}
+use Rattle.net.specs.Tests.{noWeight, weightsWrong}
+use Rattle.net.proofs.HandedLaws.{weights-handed}
+use Rattle.checks.proofs.CodeLaws.{not-18}
 use Rattle.encoded.specs.Layout.{fileBytes}
 use Rattle.older.proofs.FirstRelease.{plain-file}
 use Rattle.joined.specs.Cost.{lengths}

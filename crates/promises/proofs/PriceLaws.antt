@@ -8,7 +8,7 @@ use Rattle.lent.specs.Told.{Told, refused, given, onlyIf}
 use Rattle.lent.proofs.AfterLaws.{told-apart}
 use Rattle.net.specs.declared.Net.{Net as Counts}
 use Rattle.net.specs.declared.Weighing.{Weighing}
-use Rattle.net.specs.Check.{checked}
+use Rattle.checks.specs.Check.{checked}
 use Rattle.price.specs.Price.{priced}
 use Rattle.price.proofs.LongerLaws as longer
 use Rattle.router.specs.Refined.{metalOf}

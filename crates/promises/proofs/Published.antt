@@ -13,9 +13,9 @@ use Rattle.lent.specs.Entries.{flat}
 use Rattle.plane.specs.Flat.{macrosOf}
 use Rattle.net.specs.Pins.{pinCount}
 use Rattle.net.specs.declared.Weighing.{Weighing}
-use Rattle.net.specs.Check.{checked}
 use Rattle.net.specs.declared.Net.{Net as Counts}
-use Rattle.net.proofs.AllowedLaws.{given-allowed}
+use Rattle.checks.specs.Check.{checked}
+use Rattle.checks.proofs.GivenLaws.{given-allowed}
 use Rattle.graph.proofs.Connected.{connected}
 use Rattle.refined.specs.Wires.{wiresOfEdge, wires}
 use Rattle.refined.proofs.WireSound.{edge-wired, wired as wired-laws}

@@ -12,8 +12,8 @@ use Rattle.net.specs.declared.Weighing.{Weighing}
 use Rattle.net.specs.declared.Net.{Net as Counts}
 use Rattle.net.specs.Pins.{pinPlaces}
 use Rattle.net.specs.Net.{netOf, costIn}
-use Rattle.net.specs.Check.{checked}
 use Rattle.net.specs.Order.{SamePins, SameMacros}
+use Rattle.checks.specs.Check.{checked}
 use Rattle.graph.specs.Numbers.{placeNumbers, edgeNumbers}
 use Rattle.terminal.specs.Tree.{pathNumbers}
 use Rattle.joined.specs.Cost.{lengths}

@@ -14,7 +14,8 @@ use Rattle.lent.specs.Entries.{flat}
 use Rattle.plane.specs.declared.Place.{Place}
 use Rattle.net.specs.declared.Weighing.{Weighing}
 use Rattle.net.specs.Net.{netOf, costIn}
-use Rattle.net.specs.Check.{checked, outOfRange}
+use Rattle.net.specs.Tests.{outOfRange}
+use Rattle.checks.specs.Check.{checked}
 use Rattle.graph.specs.Numbers.{placeNumbers, edgeNumbers}
 use Rattle.terminal.specs.Tree.{pathNumbers}
 use Rattle.joined.specs.Cost.{lengths}

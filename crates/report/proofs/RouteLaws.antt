@@ -19,10 +19,12 @@ use Rattle.net.specs.Bounds.{pinBound, macroBound, pinWidth, macroWidth, treeBo
 use Rattle.net.specs.declared.Weighing.{Weighing}
 use Rattle.net.specs.Net.{handed}
 use Rattle.net.specs.Pins.{pinCount, macroCount}
-use Rattle.net.specs.Check.{checked, countsOf}
-use Rattle.net.proofs.PassedLaws.{passed-all, pins-counted, macros-counted}
-use Rattle.net.proofs.CheckLaws.{allow}
-use Rattle.net.proofs.AllowedLaws.{given-counts}
+use Rattle.net.specs.Counts.{countsOf}
+use Rattle.net.proofs.CountLaws.{pins-counted, macros-counted}
+use Rattle.checks.specs.Check.{checked}
+use Rattle.checks.proofs.PassedLaws.{passed-all}
+use Rattle.checks.proofs.CheckLaws.{allow}
+use Rattle.checks.proofs.GivenLaws.{given-counts}
 use Rattle.net.proofs.PinLaws as pin-laws
 use Rattle.graph.specs.Numbers.{edgeNumbers, edgeFrom}
 use Rattle.graph.proofs.WidthLaws.{edge-width}

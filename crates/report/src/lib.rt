@@ -1,6 +1,6 @@
 // The text that the program `route` prints, put into a lent buffer piece by piece: each function takes the byte at which its piece begins
 // and gives the one after it. A number takes at most 20 bytes, and with what stands behind it 21; a line of five numbers at most 105.
-use net::Checked;
+use checks::Checked;
 use net::Net;
 use plane::Place;
 use plane::Weights;
@@ -14,7 +14,7 @@ ghost use Rattle.lent.specs.Told.{given};
 ghost use Rattle.lent.specs.Entries.{flat, entries};
 ghost use Rattle.plane.specs.Cost.{cost};
 ghost use Rattle.net.specs.Net.{handed};
-ghost use Rattle.net.specs.Check.{checked};
+ghost use Rattle.checks.specs.Check.{checked};
 ghost use Rattle.graph.specs.Numbers.{edgeFrom};
 ghost use Rattle.report.specs.Route.{treesText, routeText};
 ghost use Rattle.report.specs.Text.{

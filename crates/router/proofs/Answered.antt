@@ -12,8 +12,8 @@ use Rattle.net.specs.WorkedNets.{Lists}
 use Rattle.net.specs.declared.Net.{Net as Counts}
 use Rattle.net.specs.declared.Weighing.{Weighing}
 use Rattle.net.specs.Bounds.{pinBound, pointBound, edgeBound, treeBound}
-use Rattle.net.specs.Check.{checked}
-use Rattle.net.proofs.WorkedChecks.{answer}
+use Rattle.checks.specs.Check.{checked}
+use Rattle.checks.proofs.WorkedChecks.{answer}
 use Rattle.terminal.proofs.WorkedPaths.{treeIn}
 use Rattle.union.proofs.WorkedUnions.{union}
 use Rattle.beside.specs.Beside.{offer, isPoint, takeSeat, weighed, onWay, free}

@@ -15,8 +15,8 @@ use Rattle.net.specs.declared.Refusal.{Refusal}
 use Rattle.net.specs.declared.Weighing.{Weighing}
 use Rattle.net.specs.Answer.{number}
 use Rattle.net.specs.Pins.{pinCount}
-use Rattle.net.specs.Check.{checked}
 use Rattle.net.specs.Net.{Net, costIn}
+use Rattle.checks.specs.Check.{checked}
 use Rattle.joined.specs.Cost.{lengths}
 use Rattle.plane.specs.Distance.{distance}
 use Rattle.graph.specs.Numbers.{edgeNumbers}

@@ -13,8 +13,8 @@ use Rattle.net.specs.declared.Net.{Net as Counts}
 use Rattle.net.specs.declared.Weighing.{Weighing}
 use Rattle.net.specs.Pins.{pinCount, macroCount}
 use Rattle.net.specs.Net.{weightsOf}
-use Rattle.net.specs.Check.{checked}
-use Rattle.net.proofs.AllowedLaws.{given-allowed}
+use Rattle.checks.specs.Check.{checked}
+use Rattle.checks.proofs.GivenLaws.{given-allowed}
 use Rattle.lines.specs.Bounds.{gridPins, gridMacros}
 use Rattle.grid.proofs.SquareLaws.{square-true, squares-same}
 use Rattle.router.specs.Distances.{aboveGrid, distancesGiven, gridDistances, PromisedDistances}

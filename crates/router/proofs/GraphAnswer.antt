@@ -16,7 +16,7 @@ use Rattle.net.specs.declared.Net.{Net as Counts}
 use Rattle.net.specs.declared.Weighing.{Weighing}
 use Rattle.net.specs.Net.{netOf}
 use Rattle.net.proofs.PinLaws.{length-pins}
-use Rattle.net.specs.Check.{checked}
+use Rattle.checks.specs.Check.{checked}
 use Rattle.graph.proofs.VertexLaws.{length-vertices}
 use Rattle.router.specs.Graph.{netVertices, netEdges, pointCount, graphRoomShort, graphGiven, graphed}
 

@@ -9,7 +9,7 @@ use lib.IntN.{ℤ}
 use Rattle.net.specs.declared.Net.{Net as Counts}
 use Rattle.net.specs.declared.Weighing.{Weighing}
 use Rattle.net.specs.Pins.{pinCount}
-use Rattle.net.specs.Check.{pointCount as countedPoints}
+use Rattle.net.specs.Counts.{pointCount as countedPoints}
 use Rattle.room.specs.Needs.{vertexNeed, linkNeed, pathNeed, edgeNeed, wireNeed}
 use Rattle.made.specs.Counted.{Counted}
 use Rattle.made.proofs.CountedLaws.{as-points, as-pins}

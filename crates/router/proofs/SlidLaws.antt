@@ -23,10 +23,11 @@ use Rattle.net.specs.declared.Net.{Net as Counts}
 use Rattle.net.specs.declared.Weighing.{Weighing}
 use Rattle.net.specs.Net.{Net, netOf}
 use Rattle.net.specs.Pins.{pinCount, pinPlaces}
-use Rattle.net.specs.Check.{checked}
 use Rattle.net.specs.Allowed.{Allowed}
-use Rattle.net.proofs.AllowedLaws.{given-allowed, allowed-positive}
+use Rattle.net.proofs.AllowedLaws.{allowed-positive}
 use Rattle.net.proofs.PinLaws.{length-pins}
+use Rattle.checks.specs.Check.{checked}
+use Rattle.checks.proofs.GivenLaws.{given-allowed}
 use Rattle.graph.proofs.GraphBounds.{spanning-inside, vertex-in-range}
 use Rattle.refined.proofs.MetalLaws.{metal-low}
 use Rattle.rules.specs.Edges.{Edge}

@@ -16,8 +16,8 @@ use Rattle.plane.specs.Distance.{distance}
 use Rattle.plane.specs.Flat.{macrosOf}
 use Rattle.net.specs.Pins.{pinCount, macroCount}
 use Rattle.net.specs.declared.Weighing.{Weighing}
-use Rattle.net.specs.Check.{checked}
 use Rattle.net.specs.Net.{netOf, costIn}
+use Rattle.checks.specs.Check.{checked}
 use Rattle.graph.specs.Numbers.{edgeNumbers}
 use Rattle.lines.specs.Bounds.{gridMacros}
 use Rattle.lines.specs.Edges.{Edge}

@@ -16,8 +16,9 @@ use Rattle.plane.specs.Distance.{distance}
 use Rattle.net.specs.declared.Weighing.{Weighing}
 use Rattle.net.specs.Pins.{pinCount, pinPlaces}
 use Rattle.net.specs.Net.{netOf, costIn}
-use Rattle.net.specs.Check.{outOfRange, checked}
+use Rattle.net.specs.Tests.{outOfRange}
 use Rattle.net.specs.Allowed.{PlaceInRange}
+use Rattle.checks.specs.Check.{checked}
 use Rattle.graph.specs.Numbers.{edgeNumbers}
 use Rattle.bought.specs.Bounds.{boughtBound}
 use Rattle.bought.specs.Edges.{Edge, edgesOf}

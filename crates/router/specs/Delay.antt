@@ -13,8 +13,8 @@ use Rattle.lent.specs.Over.{after}
 use Rattle.plane.specs.declared.Place.{Place}
 use Rattle.net.specs.declared.Weighing.{Weighing}
 use Rattle.net.specs.Pins.{pinCount, pinPlaces, pinEntries}
-use Rattle.net.specs.Check.{checked}
 use Rattle.net.specs.Net.{netOf}
+use Rattle.checks.specs.Check.{checked}
 use Rattle.slide.specs.Slide.{treePoints}
 use Rattle.floats.specs.declared.Technology.{Technology}
 use Rattle.floats.specs.declared.Delay.{Delay}

@@ -9,8 +9,8 @@ use Rattle.lent.specs.Told.{Told, refused, given, onlyIf}
 use Rattle.net.specs.Answer.{number}
 use Rattle.net.specs.Pins.{pinCount, macroCount}
 use Rattle.net.specs.declared.Weighing.{Weighing}
-use Rattle.net.specs.Check.{checked}
 use Rattle.net.specs.Net.{netOf}
+use Rattle.checks.specs.Check.{checked}
 use Rattle.lines.specs.Bounds.{gridPins, gridMacros}
 use Rattle.grid.specs.Distance.{Square, TrueSquare}
 use Rattle.router.specs.Room.{ifRoom}

@@ -10,8 +10,8 @@ use Rattle.plane.specs.declared.Place.{Place}
 use Rattle.net.specs.Answer.{number}
 use Rattle.net.specs.Pins.{pinCount, macroCount}
 use Rattle.net.specs.declared.Weighing.{Weighing}
-use Rattle.net.specs.Check.{checked}
 use Rattle.net.specs.Net.{netOf}
+use Rattle.checks.specs.Check.{checked}
 use Rattle.room.specs.Needs.{vertexNeed, linkNeed}
 use Rattle.graph.specs.Spanning.{verticesOf, spanning}
 use Rattle.router.specs.declared.Graphed.{Graphed}

@@ -5,7 +5,7 @@ use Prim.Native.Nat.{ℕ, _≤_}
 use lib.IntN.{ℤ}
 use Rattle.lent.specs.Told.{Told, given, onlyIf}
 use Rattle.net.specs.declared.Weighing.{Weighing}
-use Rattle.net.specs.Check.{checked}
+use Rattle.checks.specs.Check.{checked}
 use Rattle.price.specs.Price.{priced}
 use Rattle.router.specs.Refined.{metalOf}
 

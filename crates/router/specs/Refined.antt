@@ -8,8 +8,8 @@ use Rattle.plane.specs.declared.Place.{Place}
 use Rattle.net.specs.Answer.{number}
 use Rattle.net.specs.Pins.{pinCount}
 use Rattle.net.specs.declared.Weighing.{Weighing}
-use Rattle.net.specs.Check.{checked}
 use Rattle.net.specs.Net.{Net, netOf, costIn}
+use Rattle.checks.specs.Check.{checked}
 use Rattle.room.specs.Needs.{edgeNeed}
 use Rattle.joined.specs.Cost.{lengths}
 use Rattle.tree.specs.Table as table

@@ -16,9 +16,9 @@ use Rattle.plane.specs.Macro.{clear}
 use Rattle.plane.specs.Flat.{macrosOf}
 use Rattle.net.specs.Pins.{pinCount, pinPlaces}
 use Rattle.net.specs.declared.Weighing.{Weighing}
-use Rattle.net.specs.Check.{checked}
 use Rattle.net.specs.Net.{Net, netOf, costIn}
 use Rattle.net.specs.Allowed.{PlaceInRange}
+use Rattle.checks.specs.Check.{checked}
 use Rattle.room.specs.Needs.{wireNeed}
 use Rattle.joined.specs.Cost.{lengths}
 use Rattle.joined.specs.OneTree.{OneTree}

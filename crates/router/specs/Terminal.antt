@@ -9,8 +9,8 @@ use Rattle.plane.specs.declared.Place.{Place}
 use Rattle.net.specs.Answer.{number}
 use Rattle.net.specs.Pins.{pinCount}
 use Rattle.net.specs.declared.Weighing.{Weighing}
-use Rattle.net.specs.Check.{checked}
 use Rattle.net.specs.Net.{netOf}
+use Rattle.checks.specs.Check.{checked}
 use Rattle.room.specs.Needs.{pathNeed}
 use Rattle.terminal.specs.Tree as terminal
 use Rattle.router.specs.Room.{ifRoom}

@@ -8,7 +8,7 @@ use Rattle.plane.specs.declared.Place.{Place}
 use Rattle.net.specs.Answer.{number}
 use Rattle.net.specs.Pins.{pinCount}
 use Rattle.net.specs.declared.Weighing.{Weighing}
-use Rattle.net.specs.Check.{checked}
+use Rattle.checks.specs.Check.{checked}
 use Rattle.room.specs.Needs.{wireNeed}
 use Rattle.refined.specs.Wires.{wires}
 use Rattle.router.specs.Room.{ifRoom}

@@ -19,7 +19,7 @@ use Rattle.joined.proofs.WayLaws.{on-link}
 use Rattle.plane.specs.declared.Place.{Place}
 use Rattle.plane.specs.Middle.{middle, middlePlace}
 use Rattle.net.specs.Net.{Net}
-use Rattle.net.specs.Check.{outOfRange}
+use Rattle.net.specs.Tests.{outOfRange}
 use Rattle.net.specs.Allowed.{PlaceInRange, Allowed}
 use Rattle.rules.specs.Edges.{Edge}
 use Rattle.rules.specs.Spanning.{Vertex}

@@ -21,7 +21,7 @@ use Rattle.plane.specs.Place.{before}
 use Rattle.plane.proofs.Fits.{PlaceFits, MacroFits}
 use Rattle.net.specs.Net.{Net}
 use Rattle.net.specs.Pins.{pinCount, pinPlaces, pinAt}
-use Rattle.net.specs.Check.{outOfRange}
+use Rattle.net.specs.Tests.{outOfRange}
 use Rattle.net.specs.Allowed.{PlaceInRange, MacroInRange}
 use Rattle.net.proofs.PinLaws.{pins-next, pins-end}
 use Rattle.net.proofs.RangeBounds.{in-range-near}

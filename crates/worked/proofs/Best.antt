@@ -10,7 +10,7 @@ use Rattle.joined.specs.Cost.{lengths}
 use Rattle.net.specs.declared.Weighing.{Weighing}
 use Rattle.net.specs.Net.{weighing, plainly}
 use Rattle.net.specs.WorkedNets.{Lists, onePin, noPin, overlapping}
-use Rattle.net.proofs.WorkedChecks.{answer}
+use Rattle.checks.proofs.WorkedChecks.{answer}
 use Rattle.lines.specs.Edges.{Edge}
 use Rattle.router.specs.Refined.{laidTotal}
 use Rattle.router.specs.Best.{aboveBest, bestRoomShort, bestGiven, bestTree}

@@ -7,7 +7,7 @@ use Rattle.lent.specs.Told.{Told, refused, given}
 use Rattle.net.specs.declared.Weighing.{Weighing}
 use Rattle.net.specs.Net.{weighing, plainly}
 use Rattle.net.specs.WorkedNets.{Lists, onePin, noPin, aroundOne, overlapping}
-use Rattle.net.proofs.WorkedChecks.{answer}
+use Rattle.checks.proofs.WorkedChecks.{answer}
 use Rattle.lent.specs.Told.{onlyIf}
 use Rattle.bought.proofs.WorkedTrees.{judged}
 use Rattle.router.specs.Bought.{checkedTree}

@@ -13,7 +13,7 @@ use Rattle.joined.specs.Cost.{lengths}
 use Rattle.net.specs.WorkedNets.{Lists, onePin, noPin, aroundOne, threePins, sharedSide, onSides, overlapping, onBoundary, inInterior}
 use Rattle.net.specs.WorkedNets.{twiceInInterior, noWidth, fourPins, pin, block}
 use Rattle.net.specs.Net.{weighing, plainly}
-use Rattle.net.specs.Check.{counted}
+use Rattle.net.specs.Counts.{counted}
 use Rattle.router.proofs.Answered.{Answers, answersBy, Trees, treesBy}
 
 abbrev answers : Lists → Answers

@@ -14,7 +14,7 @@ use Rattle.lent.specs.Over.{after}
 use Rattle.net.specs.declared.Net.{Net as Counts}
 use Rattle.net.specs.Bounds.{today}
 use Rattle.net.specs.Answer.{number}
-use Rattle.net.specs.Check.{told}
+use Rattle.checks.specs.Check.{told}
 use Rattle.decoded.specs.Held.{blocksMiscounted, sumsWrong, headWrong, pinsIn, macrosIn}
 use Rattle.netfile.specs.Read.{roomShort, readFile}
 use Rattle.decoded.proofs.HeldLaws.{blocks-counted, head-right, sized-by-head}

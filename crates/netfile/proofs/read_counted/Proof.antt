@@ -6,7 +6,7 @@ use denote.Ref.{now}
 use Rattle.lent.specs.Told.{Told, given}
 use Rattle.lent.proofs.AfterLaws.{after-given}
 use Rattle.net.specs.declared.Net.{Net as Counts}
-use Rattle.net.specs.Check.{told}
+use Rattle.checks.specs.Check.{told}
 use Rattle.decoded.specs.Held.{pinsIn, macrosIn}
 use Rattle.netfile.specs.Read.{answerIn}
 use Rattle.netfile.proofs.AnswerLaws.{lists-fit, unaltered}

@@ -6,9 +6,9 @@ use denote.Ref.{now}
 use Rattle.lent.specs.Told.{given}
 use Rattle.net.specs.declared.Weighing.{Weighing}
 use Rattle.net.specs.Net.{Net, netOf}
-use Rattle.net.specs.Check.{checked, told}
-use Rattle.net.proofs.HandedLaws.{handed-back}
 use Rattle.net.proofs.PinLaws.{length-pins}
+use Rattle.checks.specs.Check.{checked, told}
+use Rattle.checks.proofs.GivenLaws.{handed-back}
 use Rattle.bought.specs.Verdict.{bought, toldVerdict}
 use Rattle.router.specs.Bought.{checkedTree}
 use Rattle.router.proofs.AnswerLaws.{only-refused, only-given}
