@@ -4,7 +4,6 @@
 // and its way to the root is the way that is laid.
 use candidates::Best;
 use candidates::candidate;
-use candidates::near;
 use exchanges::exchange;
 use longest::UNKNOWN;
 use plane::Place;
@@ -275,7 +274,7 @@ fn offers(
 {
     let a = keys[k] / POINTS;
     let b = keys[k] % POINTS;
-    let m = plane::box_of(tree::point_at(pts, a), tree::point_at(pts, b));
+    let m = near::box_of(tree::point_at(pts, a), tree::point_at(pts, b));
     if most <= c.gain {
         return c;
     }

@@ -1,6 +1,6 @@
 -- Laws of the search for the best candidate.
 -- Assumes nothing.
-use mathlib.Core.Path.{_≡_, refl, sym, ap, ap₂, _∙_}
+use mathlib.Core.Path.{_≡_, refl, sym, ap, _∙_}
 use mathlib.Core.Bool.{Bool, true, false, not, _&&_, _||_}
 use mathlib.Core.List.{List, []}
 use Prim.Native.Nat.{ℕ, _+_, _-_, _≤_, _<_}
@@ -18,12 +18,12 @@ use Rattle.plane.specs.Place.{samePlace}
 use Rattle.plane.specs.Cost.{cost}
 use Rattle.plane.specs.Middle.{middlePlace}
 use Rattle.plane.specs.Macro.{clear}
-use Rattle.plane.specs.Box.{boxOf, boxCost}
 use Rattle.plane.specs.Flat.{placeAt}
-use Rattle.plane.proofs.CostLaws.{box-cost}
 use Rattle.tree.specs.Table.{Low}
 use Rattle.lists.specs.Turns.{seek}
 use Rattle.longest.specs.Longest.{cutOf}
+use Rattle.near.specs.Box.{boxOf, boxCost}
+use Rattle.near.proofs.BoxLaws.{box-cost}
 use Rattle.candidates.specs.Candidate.{best, sees, taken, dropped, allowed, chosen, weighed, offer, mayGain}
 
 and-false : (a : Bool) → (a && false) ≡ false
@@ -137,8 +137,3 @@ module _ (w : Weights) (pts : List ℤ) (n : ℕ) (ms : List Macro) (el top : Li
       by (eqb u a || (eqb u b || eqb l k))
       (λ e. offer-none w pts n ms el top a b k u l c refl e)
       (λ e. far-low l x (low .low l) t j z ∙ offer-is w pts n ms el top a b k u l c refl e)
-
--- the box of two points
-pub box-is : (pts : List ℤ) (a b : ℕ) (p q : Place) (m : Macro) → p ≡ placeAt pts a → q ≡ placeAt pts b → m ≡ boxOf p q →
-    m ≡ boxOf (placeAt pts a) (placeAt pts b)
-box-is pts a b p q m e f g = g ∙ ap₂ boxOf e f

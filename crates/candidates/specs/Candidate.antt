@@ -11,13 +11,13 @@ use Rattle.plane.specs.declared.Weights.{Weights}
 use Rattle.plane.specs.Place.{samePlace}
 use Rattle.plane.specs.Cost.{cost}
 use Rattle.plane.specs.Middle.{middlePlace}
-use Rattle.plane.specs.Box.{boxCost}
 use Rattle.plane.specs.Macro.{clear}
 use Rattle.plane.specs.Flat.{placeAt}
 use Rattle.candidates.specs.declared.Best.{Best}
 use Rattle.lists.specs.Turns.{turns, seek}
 use Rattle.tree.specs.Table.{firstEnd, secondEnd}
 use Rattle.longest.specs.Longest.{cutOf, costs, longest}
+use Rattle.near.specs.Box.{boxCost}
 
 -- the candidate of edge `edge` and point `point`, its L and its gain; with gain 0, none
 abbrev pub best : ℕ → ℕ → ℕ → ℕ → Best

@@ -1,6 +1,5 @@
 // Candidates, and the one that a round takes.
 use crate::Best;
-use crate::near;
 use longest::UNKNOWN;
 use plane::Macro;
 use plane::Place;
@@ -12,21 +11,21 @@ ghost use mathlib.Core.List.{List};
 ghost use Prim.Native.Nat.{ℕ, _*_, _≤_, _<_};
 ghost use lib.ListN.{length};
 ghost use Rattle.plane.specs.Flat.{placeAt, macrosOf};
-ghost use Rattle.plane.specs.Box.{boxOf};
 ghost use Rattle.plane.specs.Rank.{InOrder};
 ghost use Rattle.lists.specs.Turns.{seek};
 ghost use Rattle.tree.specs.Table.{treeBound, Low, Within};
 ghost use Rattle.longest.specs.Longest.{cutOf, longest};
 ghost use Rattle.longest.specs.Hung.{ties, Hanging};
+ghost use Rattle.near.specs.Box.{boxOf};
 ghost use Rattle.candidates.specs.Candidate.{sees, taken, dropped, allowed, weighed, offer, mayGain, offers, search};
 
 pub fn sees(macros: &[i32], a: Place, b: Place, u: Place) -> bool
     ensures { λ r. ⌜ r ≡ sees (macrosOf (now (macros .entry))) a b u ⌝ }
 {
-    if plane::is_clear(u, a, macros) {
+    if clear::is_clear(u, a, macros) {
         return true;
     }
-    plane::is_clear(u, b, macros)
+    clear::is_clear(u, b, macros)
 }
 
 // The point i stands at s and is none of a, b and u.
@@ -135,7 +134,7 @@ pub fn may_gain(w: Weights, m: Macro, p: Place, f: u64, g: u64, most: u64) -> bo
     if left <= g {
         return false;
     }
-    plane::is_near_box(w, m, p, left - g)
+    near::is_near_box(w, m, p, left - g)
 }
 
 // The candidate of edge k from a to b, in the box m, and the point u, whose L is l.
@@ -191,7 +190,7 @@ fn offers(
 {
     let a = keys[k] / POINTS;
     let b = keys[k] % POINTS;
-    let m = plane::box_of(tree::point_at(pts, a), tree::point_at(pts, b));
+    let m = near::box_of(tree::point_at(pts, a), tree::point_at(pts, b));
     if most <= c.gain {
         return c;
     }

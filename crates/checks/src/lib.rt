@@ -74,7 +74,7 @@ fn any_not_upright(macros: &[i32]) -> bool
     let k = net::macro_count(macros);
     let mut i = 0;
     while i < k {
-        if net::is_not_upright(plane::macro_at(macros, i)) {
+        if net::is_not_upright(clear::macro_at(macros, i)) {
             return true;
         }
         i += 1;
@@ -119,10 +119,10 @@ fn any_overlap(macros: &[i32]) -> bool
     let mut found = false;
     let mut i = 0;
     'search: while i < k {
-        let m = plane::macro_at(macros, i);
+        let m = clear::macro_at(macros, i);
         let mut j = i + 1;
         while j < k {
-            if plane::interiors_meet(m, plane::macro_at(macros, j)) {
+            if clear::interiors_meet(m, clear::macro_at(macros, j)) {
                 found = true;
                 break 'search;
             }
@@ -141,7 +141,7 @@ fn any_pin_inside(pins: &[i32], macros: &[i32]) -> bool
     let mut i = 0;
     while i < m {
         let p = net::pin_at(pins, i);
-        if !plane::is_clear(p, p, macros) {
+        if !clear::is_clear(p, p, macros) {
             return true;
         }
         i += 1;

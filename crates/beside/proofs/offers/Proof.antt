@@ -7,20 +7,20 @@ use native.Mathlib.Omega.{arith}
 use borrow.Author.Needs.{needs}
 use denote.Ref.{now}
 use lib.ListN.{getD}
-use Rattle.plane.specs.Box.{boxOf}
 use Rattle.plane.specs.Flat.{placeAt, macrosOf}
 use Rattle.tree.specs.Table.{treeBound, firstEnd, secondEnd}
 use Rattle.candidates.specs.declared.Best.{Best}
-use Rattle.candidates.proofs.CandidateLaws.{box-is}
-use Rattle.candidates.proofs.NearLaws.{turns-back, turns-from, box-sides}
+use Rattle.candidates.proofs.NearLaws.{turns-back, turns-from}
 use Rattle.longest.specs.Longest.{cutOf, longest}
 use Rattle.longest.specs.Hung.{ties, Begun, Row}
 use Rattle.longest.proofs.HungLaws.{same-length}
 use Rattle.longest.proofs.RowLaws.{fresh-start}
+use Rattle.near.specs.Box.{boxOf}
+use Rattle.near.proofs.BoxLaws.{box-is, box-sides}
 use Rattle.lists.specs.Turns.{turns}
 use Rattle.beside.specs.Beside.{offer, offers}
 use Rattle.beside.proofs.BesideLaws.{offer-zero, offer-far, offer-beyond, offer-more}
-use Rattle.lists.proofs.TurnLaws.{turns-none, turns-next, turns-end}
+use Rattle.lists.proofs.TurnLaws.{turns-next}
 use Rattle.beside.proofs.offers.Statement.{statement}
 use Rattle.beside.proofs.offers.Tie as tie
 

@@ -8,18 +8,19 @@ use borrow.Author.Needs.{needs}
 use denote.Ref.{now}
 use lib.ListN.{getD}
 use Rattle.tree.specs.Table.{treeBound, firstEnd, secondEnd}
-use Rattle.plane.specs.Box.{boxOf}
 use Rattle.plane.specs.Flat.{placeAt, macrosOf}
 use Rattle.longest.specs.Longest.{cutOf, longest}
 use Rattle.longest.specs.Hung.{ties, Begun, Row}
 use Rattle.candidates.specs.declared.Best.{Best}
 use Rattle.candidates.specs.Candidate.{offer, offers}
 use Rattle.lists.specs.Turns.{turns}
-use Rattle.candidates.proofs.CandidateLaws.{offer-far, box-is}
-use Rattle.candidates.proofs.NearLaws.{turns-back, turns-from, box-sides, offer-more, offer-beyond}
+use Rattle.candidates.proofs.CandidateLaws.{offer-far}
+use Rattle.candidates.proofs.NearLaws.{turns-back, turns-from, offer-more, offer-beyond}
 use Rattle.longest.proofs.HungLaws.{same-length}
 use Rattle.longest.proofs.RowLaws.{fresh-start}
-use Rattle.lists.proofs.TurnLaws.{turns-none, turns-next, turns-end}
+use Rattle.near.specs.Box.{boxOf}
+use Rattle.near.proofs.BoxLaws.{box-is, box-sides}
+use Rattle.lists.proofs.TurnLaws.{turns-next}
 use Rattle.candidates.proofs.candidate.offers.Statement.{statement}
 use Rattle.candidates.proofs.candidate.offers.Tie as tie
 
