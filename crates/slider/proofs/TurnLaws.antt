@@ -26,8 +26,8 @@ use Rattle.slide.specs.Slide.{treePoints, rounds}
 use Rattle.slide.specs.Promise.{State}
 use Rattle.straight.specs.Table.{straightBound, run, pointsIn, edgesIn}
 use Rattle.straight.proofs.RunLaws.{in-run}
-use Rattle.bends.specs.Settled.{edgesOf, pointsOf, Settled}
-use Rattle.bends.proofs.SettledLaws.{zeros}
+use Rattle.settled.specs.Settled.{edgesOf, pointsOf, Settled}
+use Rattle.settled.proofs.SettledLaws.{zeros}
 use Rattle.bars.specs.declared.Best.{Best}
 use Rattle.reach.specs.declared.Size.{Size}
 use Rattle.labels.specs.Labelling.{labelled}
