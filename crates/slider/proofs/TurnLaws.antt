@@ -31,7 +31,8 @@ use Rattle.settled.proofs.SettledLaws.{zeros}
 use Rattle.bars.specs.declared.Best.{Best}
 use Rattle.reach.specs.declared.Size.{Size}
 use Rattle.labels.specs.Labelling.{labelled}
-use Rattle.bars.specs.Offers.{Fresh, searched, seatsOf}
+use Rattle.moves.specs.Moving.{seatsOf}
+use Rattle.bars.specs.Offers.{Fresh, searched}
 use Rattle.bars.proofs.ChoiceTables.{Tables, choice-agrees, choice-none, choice-tied}
 use Rattle.slider.specs.Round.{saves}
 use Rattle.slider.proofs.SettledPoints.{settled-points}

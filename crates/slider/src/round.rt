@@ -34,7 +34,7 @@ fn shift_bar(
         (labelsFor (m .side) (now (rows .entry)) (now (columns .entry))) (now (keys .entry)) (z .edges)) × (r ≤ z .edges) ⌝ }
 {
     let s = m.side;
-    if bars::search::is_horizontal(s) {
+    if moves::is_horizontal(s) {
         return crate::shift_edges(pts, z.points, keys, z.edges, rows, m, &mut *out);
     }
     crate::shift_edges(pts, z.points, keys, z.edges, columns, m, &mut *out)

@@ -1,21 +1,20 @@
--- `bars::search::seat_of` meets its contract. The loop's invariant: what is done so far is what the definition says of it. The measure is
+-- `moves::seat_of` meets its contract. The loop's invariant: what is done so far is what the definition says of it. The measure is
 -- what is left.
 -- Assumes nothing.
-use mathlib.Core.Path.{_≡_, refl, sym, ap, ap₂, _∙_}
+use mathlib.Core.Path.{_≡_, ap, _∙_}
 use native.Mathlib.Omega.{arith}
-use Prim.Native.Nat.{_+_, _-_, _^_, _≤_, _<_, min, max}
+use Prim.Native.Nat.{_-_, _≤_, _<_}
 use Rattle.turned.proofs.StepLaws.{up-start, up-next, up-end}
 use mathlib.Core.Bool.{Bool}
-use denote.Ref.{now}
 use Rattle.plane.specs.declared.Place.{Place}
 use Rattle.plane.specs.Place.{samePlace}
 use Rattle.plane.specs.Flat.{placeAt}
 use Rattle.straight.specs.Table.{straightBound}
 use Rattle.turned.specs.Steps.{upTo}
-use Rattle.bars.specs.Offers.{chosen, seatOf}
-use Rattle.bars.proofs.CodeLaws.{chosen-less}
-use Rattle.bars.proofs.search.seat_of.Statement.{statement}
-use Rattle.bars.proofs.search.seat_of.Tie as tie
+use Rattle.moves.specs.Moving.{chosen, seatOf}
+use Rattle.moves.proofs.MovingLaws.{chosen-less}
+use Rattle.moves.proofs.seat_of.Statement.{statement}
+use Rattle.moves.proofs.seat_of.Tie as tie
 
 abbrev Inv-loop : tie.InvT-loop
 Inv-loop pts n p at₀ i₀ at i =

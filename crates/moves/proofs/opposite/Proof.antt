@@ -1,10 +1,10 @@
--- `bars::search::opposite` meets its contract, side by side.
+-- `moves::opposite` meets its contract, side by side.
 -- Assumes nothing.
 use borrow.Author.Needs.{needs}
 use mathlib.Core.Path.{sym, ap}
-use Rattle.bars.specs.Offers.{opposite}
-use Rattle.bars.proofs.search.opposite.Statement.{statement}
-use Rattle.bars.proofs.search.opposite.Tie as tie
+use Rattle.moves.specs.Moving.{opposite}
+use Rattle.moves.proofs.opposite.Statement.{statement}
+use Rattle.moves.proofs.opposite.Tie as tie
 
 returns : tie.Need-returns
 unfolding opposite

@@ -1,18 +1,18 @@
--- `bars::search::seat` meets its contract. The loop's invariant: the seats of the pins so far are written. The measure is how many are
+-- `moves::seat` meets its contract. The loop's invariant: the seats of the pins so far are written. The measure is how many are
 -- left.
 -- Assumes nothing.
-use mathlib.Core.Path.{_≡_, refl, sym, ap, ap₂, _∙_}
-use Prim.Native.Nat.{ℕ, _+_, _-_, _≤_, _<_}
+use mathlib.Core.Path.{_≡_, ap, _∙_}
+use Prim.Native.Nat.{ℕ, _-_, _≤_}
 use native.Mathlib.Omega.{arith}
 use denote.Ref.{now}
 use lib.ListN.{set}
 use Rattle.plane.specs.declared.Place.{Place}
 use Rattle.net.specs.Pins.{pinAt}
 use Rattle.turned.specs.Steps.{upTo, setBy}
-use Rattle.bars.specs.Offers.{seatOf, seatsOf}
+use Rattle.moves.specs.Moving.{seatOf, seatsOf}
 use Rattle.turned.proofs.StepLaws.{up-start, up-next, up-end}
-use Rattle.bars.proofs.search.seat.Statement.{statement}
-use Rattle.bars.proofs.search.seat.Tie as tie
+use Rattle.moves.proofs.seat.Statement.{statement}
+use Rattle.moves.proofs.seat.Tie as tie
 
 abbrev Inv-loop : tie.InvT-loop
 Inv-loop pts n pins m seats₀ j₀ seats j = (j ≤ m) × (seats ≡ upTo (setBy (λ i x. seatOf pts n (pinAt pins i))) j seats₀)

@@ -1,17 +1,17 @@
--- `bars::search::is_held` meets its contract. The loop's invariant: what is done so far is what the definition says of it. The measure is
+-- `moves::is_held` meets its contract. The loop's invariant: what is done so far is what the definition says of it. The measure is
 -- what is left.
 -- Assumes nothing.
-use mathlib.Core.Path.{_≡_, refl, sym, ap, ap₂, _∙_}
+use mathlib.Core.Path.{_≡_, refl}
 use native.Mathlib.Omega.{arith}
-use Prim.Native.Nat.{_+_, _-_, _^_, _≤_, _<_, min, max}
+use Prim.Native.Nat.{_-_, _≤_}
 use Rattle.turned.proofs.StepLaws.{up-start, up-next, up-end}
-use mathlib.Core.Bool.{Bool, false, _||_}
+use mathlib.Core.Bool.{false, _||_}
 use lib.ListN.{getD}
 use Rattle.turned.specs.Steps.{upTo}
 use Rattle.turned.specs.Turned.{onIt}
-use Rattle.bars.specs.Offers.{labelView, held}
-use Rattle.bars.proofs.search.is_held.Statement.{statement}
-use Rattle.bars.proofs.search.is_held.Tie as tie
+use Rattle.moves.specs.Moving.{labelView, held}
+use Rattle.moves.proofs.is_held.Statement.{statement}
+use Rattle.moves.proofs.is_held.Tie as tie
 
 abbrev Inv-loop : tie.InvT-loop
 Inv-loop seats m lab l held₀ i₀ held i =

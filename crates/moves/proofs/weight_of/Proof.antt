@@ -1,11 +1,9 @@
--- `bars::search::weight_of` meets its contract, each answer by the law of its case.
+-- `moves::weight_of` meets its contract, each answer by the law of its case.
 -- Assumes nothing.
-use Rattle.bars.proofs.CodeLaws.{weigh-flat, weigh-steep}
-use mathlib.Core.Path.{_≡_, refl, sym, ap, _∙_}
-use Rattle.bars.specs.Offers.{weightIn}
+use Rattle.moves.proofs.MovingLaws.{weigh-flat, weigh-steep}
 use borrow.Author.Needs.{needs}
-use Rattle.bars.proofs.search.weight_of.Statement.{statement}
-use Rattle.bars.proofs.search.weight_of.Tie as tie
+use Rattle.moves.proofs.weight_of.Statement.{statement}
+use Rattle.moves.proofs.weight_of.Tie as tie
 
 is-horizontal-requires : tie.Need-is-horizontal-requires
 is-horizontal-requires c κs = search needs

@@ -1,11 +1,11 @@
--- `bars::search::is_better` meets its contract, each answer by the law of its case.
+-- `moves::is_better` meets its contract, each answer by the law of its case.
 -- Assumes nothing.
-use mathlib.Core.Path.{_≡_, refl, sym, ap, ap₂, _∙_}
+use mathlib.Core.Path.{sym, ap₂, _∙_}
 use mathlib.Core.Bool.{Bool, not, _&&_}
-use Rattle.bars.proofs.CodeLaws.{better-more, better-less, better-first, better-later, better-flat}
+use Rattle.moves.proofs.MovingLaws.{better-more, better-less, better-first, better-later, better-flat}
 use borrow.Author.Needs.{needs}
-use Rattle.bars.proofs.search.is_better.Statement.{statement}
-use Rattle.bars.proofs.search.is_better.Tie as tie
+use Rattle.moves.proofs.is_better.Statement.{statement}
+use Rattle.moves.proofs.is_better.Tie as tie
 
 returns : tie.Need-returns
 returns c = better-more _ _ (c .if1 .taken)

@@ -1,19 +1,17 @@
--- `bars::search::last_of` meets its contract. The loop's invariant: what is done so far is what the definition says of it. The measure is
+-- `moves::last_of` meets its contract. The loop's invariant: what is done so far is what the definition says of it. The measure is
 -- what is left.
 -- Assumes nothing.
-use mathlib.Core.Path.{_≡_, refl, sym, ap, ap₂, _∙_}
+use mathlib.Core.Path.{_≡_}
 use native.Mathlib.Omega.{arith}
-use Prim.Native.Nat.{_+_, _-_, _^_, _≤_, _<_, min, max}
+use Prim.Native.Nat.{_-_, _≤_, _<_}
 use Rattle.turned.proofs.StepLaws.{up-start, up-next, up-end}
 use Rattle.turned.specs.Steps.{upTo}
 use Rattle.turned.specs.Turned.{onIt}
-use Rattle.bars.specs.Offers.{labelView, chosen, lastOn}
+use Rattle.moves.specs.Moving.{labelView, chosen, lastOn}
 use Rattle.straight.specs.Table.{straightBound}
-use Rattle.bars.proofs.CodeLaws.{chosen-less}
-use Prim.Native.Nat.{ℕ}
-use mathlib.Core.Path.{subst}
-use Rattle.bars.proofs.search.last_of.Statement.{statement}
-use Rattle.bars.proofs.search.last_of.Tie as tie
+use Rattle.moves.proofs.MovingLaws.{chosen-less}
+use Rattle.moves.proofs.last_of.Statement.{statement}
+use Rattle.moves.proofs.last_of.Tie as tie
 
 abbrev Inv-loop : tie.InvT-loop
 Inv-loop lab n l last₀ i₀ last i =

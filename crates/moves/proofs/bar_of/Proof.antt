@@ -1,14 +1,13 @@
--- `bars::search::bar_of` meets its contract, each answer by the law of its case.
+-- `moves::bar_of` meets its contract, each answer by the law of its case.
 -- Assumes nothing.
-use mathlib.Core.Path.{_≡_, refl, sym, ap, ap₂, _∙_}
 use denote.Ref.{now}
 use mathlib.Core.List.{[]}
 use Rattle.turned.specs.Turned.{view}
-use Rattle.bars.specs.Offers.{lastOn}
-use Rattle.bars.proofs.CodeLaws.{bar-is}
+use Rattle.moves.specs.Moving.{lastOn}
+use Rattle.moves.proofs.MovingLaws.{bar-is}
 use borrow.Author.Needs.{needs}
-use Rattle.bars.proofs.search.bar_of.Statement.{statement}
-use Rattle.bars.proofs.search.bar_of.Tie as tie
+use Rattle.moves.proofs.bar_of.Statement.{statement}
+use Rattle.moves.proofs.bar_of.Tie as tie
 
 spot-at-requires : tie.Need-spot-at-requires
 spot-at-requires c κs = search needs

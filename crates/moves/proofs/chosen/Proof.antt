@@ -1,8 +1,8 @@
--- `bars::search::chosen` meets its contract.
+-- `moves::chosen` meets its contract.
 -- Assumes nothing.
-use Rattle.bars.proofs.CodeLaws.{chosen-yes, chosen-no}
-use Rattle.bars.proofs.search.chosen.Statement.{statement}
-use Rattle.bars.proofs.search.chosen.Tie as tie
+use Rattle.moves.proofs.MovingLaws.{chosen-yes, chosen-no}
+use Rattle.moves.proofs.chosen.Statement.{statement}
+use Rattle.moves.proofs.chosen.Tie as tie
 
 returns : tie.Need-returns
 returns c = chosen-yes _ _ _ (c .if1 .taken)

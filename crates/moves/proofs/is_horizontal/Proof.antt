@@ -1,11 +1,10 @@
--- `bars::search::is_horizontal` meets its contract, each answer by the law of its case.
+-- `moves::is_horizontal` meets its contract, each answer by the law of its case.
 -- Assumes nothing.
-use mathlib.Core.Path.{_≡_, refl, sym, ap, _∙_}
-use Rattle.slide.specs.declared.Side.{Side}
+use mathlib.Core.Path.{sym, ap}
 use Rattle.slide.specs.Side.{horizontal}
 use borrow.Author.Needs.{needs}
-use Rattle.bars.proofs.search.is_horizontal.Statement.{statement}
-use Rattle.bars.proofs.search.is_horizontal.Tie as tie
+use Rattle.moves.proofs.is_horizontal.Statement.{statement}
+use Rattle.moves.proofs.is_horizontal.Tie as tie
 
 enum-told : tie.Need-enum-told
 enum-told c = search needs
