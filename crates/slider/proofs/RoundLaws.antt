@@ -34,7 +34,7 @@ use Rattle.slide.proofs.PointLaws.{of-ends, edge-order}
 use Rattle.slide.proofs.StateLaws.{next-state, state-points, rounds-over, rounds-next}
 use Rattle.straight.specs.Table.{straightBound, run}
 use Rattle.labels.specs.Labelling.{labelsFor}
-use Rattle.bends.specs.Settled.{pointsOf}
+use Rattle.settled.specs.Settled.{pointsOf}
 use Rattle.slider.specs.Round.{saves}
 
 -- Labels

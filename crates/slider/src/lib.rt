@@ -17,7 +17,7 @@ ghost use Rattle.laid.specs.Edges.{laidBound};
 ghost use Rattle.slide.specs.Slide.{proper, slid};
 ghost use Rattle.slide.specs.Promise.{Slidable};
 ghost use Rattle.straight.specs.Table.{straightBound, keyBound, firstEnd, secondEnd, Within};
-ghost use Rattle.bends.specs.Settled.{edgesOf};
+ghost use Rattle.settled.specs.Settled.{edgesOf};
 ghost use Rattle.slider.specs.Shift.{placed, onLabel, shiftedAt, shiftedEdge, shifted, PutIf, Fitting, Movable};
 
 // A bar's move: the label of its points, the side and how far.
@@ -116,7 +116,7 @@ pub fn slide(w: Weights, pins: &[i32], macros: &[i32], edges: &mut [i32], e: usi
         return e;
     }
     let mut row = [0i32; EDGE_NUMBERS];
-    let start = bends::sort_edges(&list, bent.edges, &mut row);
+    let start = settled::sort_edges(&list, bent.edges, &mut row);
     let count = round::rounds(w, pins, macros, &mut row, start, bent.points);
     laid::give(&row, count, &mut *edges);
     count

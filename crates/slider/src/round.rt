@@ -14,7 +14,7 @@ ghost use Rattle.slide.specs.Slide.{inOrder, rounds};
 ghost use Rattle.slide.specs.Promise.{State};
 ghost use Rattle.straight.specs.Table.{straightBound, Within};
 ghost use Rattle.labels.specs.Labelling.{labelsFor};
-ghost use Rattle.bends.specs.Settled.{edgesOf};
+ghost use Rattle.settled.specs.Settled.{edgesOf};
 ghost use Rattle.slider.specs.Shift.{shifted, Movable};
 ghost use Rattle.slider.specs.Round.{saves};
 
@@ -34,7 +34,7 @@ fn shift_bar(
         (labelsFor (m .side) (now (rows .entry)) (now (columns .entry))) (now (keys .entry)) (z .edges)) × (r ≤ z .edges) ⌝ }
 {
     let s = m.side;
-    if bars::search::is_horizontal(s) {
+    if moves::is_horizontal(s) {
         return crate::shift_edges(pts, z.points, keys, z.edges, rows, m, &mut *out);
     }
     crate::shift_edges(pts, z.points, keys, z.edges, columns, m, &mut *out)
@@ -58,7 +58,7 @@ fn make(
 {
     let mut out = [0i32; EDGE_NUMBERS];
     let count = shift_bar(pts, keys, z, rows, columns, m, &mut out);
-    bends::sort_edges(&out, count, &mut *list)
+    settled::sort_edges(&out, count, &mut *list)
 }
 
 // The best move of all bars made, if it saves.
@@ -71,7 +71,7 @@ fn round(w: Weights, pins: &[i32], macros: &[i32], list: &mut [i32], e: usize) -
 {
     let mut pts = [0i32; NUMBERS];
     let mut keys = [0; POINTS];
-    let z = bends::settle(pins, &*list, e, &mut pts, &mut keys);
+    let z = settled::settle(pins, &*list, e, &mut pts, &mut keys);
     let mut rows = [0; POINTS];
     let mut columns = [0; POINTS];
     let size = reach::Size {

@@ -1,9 +1,9 @@
 -- `bars::choice` meets its contract: labels along rows and along columns, the pins' seats, and the search by them.
 -- Assumes nothing.
 use borrow.Author.Needs.{needs}
-use Prim.Native.Nat.{ℕ, _≤_}
+use Prim.Native.Nat.{ℕ}
 use native.Mathlib.Omega.{arith}
-use lib.ListN.{length, replicate, length-replicate}
+use lib.ListN.{length-replicate}
 use Rattle.net.specs.Bounds.{pinBound}
 use Rattle.straight.proofs.TableLaws.{within-small}
 use Rattle.bars.proofs.CallLaws.{labelled-numbers, seated, searched-by}

@@ -10,8 +10,9 @@ use denote.Ref.{now}
 use Rattle.lent.specs.Entries.{entries}
 use Rattle.plane.specs.Place.{place}
 use Rattle.plane.specs.Flat.{placeFrom}
+use Rattle.sorted.proofs.NumberLaws.{entry-at, place-entries}
 use Rattle.terminal.specs.Number.{numberOf}
-use Rattle.terminal.proofs.FillLaws.{entry-at, place-entries, Filling, fill-none, fill-more, fill-end}
+use Rattle.terminal.proofs.FillLaws.{Filling, fill-none, fill-more, fill-end}
 use Rattle.terminal.proofs.number_places.Statement.{statement}
 use Rattle.terminal.proofs.number_places.Tie as tie
 

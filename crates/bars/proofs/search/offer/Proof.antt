@@ -11,7 +11,8 @@ use Rattle.hanging.specs.declared.Hang.{Hang}
 use Rattle.reach.specs.declared.Size.{Size}
 use Rattle.turned.specs.Turned.{View, view}
 use Rattle.hanging.specs.Hanging.{hang}
-use Rattle.bars.specs.Offers.{held, lastOn, moveBy, move}
+use Rattle.moves.specs.Moving.{held, lastOn}
+use Rattle.bars.specs.Offers.{moveBy, move}
 use Rattle.bars.proofs.CodeLaws.{off, rate-fits, saving-fits, move-is, reach-of}
 use Rattle.reach.proofs.CodeLaws.{reach-less}
 use Rattle.bars.proofs.CodeLaws.{offer-equal, offer-weak, offer-held, offer-taken, offer-left}

@@ -1,6 +1,5 @@
 -- `bars::search::offer_both` meets its contract, each answer by the law of its case.
 -- Assumes nothing.
-use mathlib.Core.Path.{_≡_, refl, sym, ap, ap₂, _∙_}
 use Rattle.bars.proofs.CodeLaws.{both-level, both-not}
 use borrow.Author.Needs.{needs}
 use Rattle.bars.proofs.search.offer_both.Statement.{statement}

@@ -1,7 +1,6 @@
 -- `bars::search::search` meets its contract: the tables of what hangs for each side, and the search by them.
 -- Assumes nothing.
 use borrow.Author.Needs.{needs}
-use mathlib.Core.Path.{refl}
 use Rattle.bars.proofs.search.search.Statement.{statement}
 use Rattle.bars.proofs.search.search.Tie as tie
 

@@ -1,15 +1,16 @@
 -- `bars::search::search_by` meets its contract. The loop's invariant: what is done so far is what the definition says of it. The measure is
 -- what is left.
 -- Assumes nothing.
-use mathlib.Core.Path.{_≡_, refl, sym, ap, ap₂, _∙_}
+use mathlib.Core.Path.{_≡_, ap, _∙_}
 use native.Mathlib.Omega.{arith}
-use Prim.Native.Nat.{_+_, _-_, _^_, _≤_, _<_, min, max}
+use Prim.Native.Nat.{_-_, _≤_}
 use Rattle.turned.proofs.StepLaws.{up-start, up-next, up-end}
 use denote.Ref.{now}
 use Rattle.slide.specs.declared.Side.the-variants.{Above, Right}
 use Rattle.bars.specs.declared.Best.{Best}
 use Rattle.turned.specs.Steps.{upTo}
-use Rattle.bars.specs.Offers.{opposite, offeredBoth, noMove, searched}
+use Rattle.moves.specs.Moving.{opposite}
+use Rattle.bars.specs.Offers.{offeredBoth, noMove, searched}
 use Rattle.bars.proofs.search.search_by.Statement.{statement}
 use Rattle.bars.proofs.search.search_by.Tie as tie
 

@@ -4,7 +4,7 @@ use mathlib.Core.Path.{ap, _∙_}
 use native.Mathlib.Omega.{arith}
 use borrow.Author.Needs.{needs}
 use Rattle.slide.specs.Slide.{inOrder}
-use Rattle.bends.proofs.SettledLaws.{edges-in-order}
+use Rattle.settled.proofs.SettledLaws.{edges-in-order}
 use Rattle.slider.proofs.round.make.Statement.{statement}
 use Rattle.slider.proofs.round.make.Tie as tie
 

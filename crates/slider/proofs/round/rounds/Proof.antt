@@ -13,7 +13,7 @@ use Rattle.slide.specs.Bend.{Edge}
 use Rattle.slide.specs.Slide.{rounds}
 use Rattle.slide.specs.Promise.{State}
 use Rattle.straight.specs.Table.{straightBound}
-use Rattle.bends.specs.Settled.{edgesOf}
+use Rattle.settled.specs.Settled.{edgesOf}
 use Rattle.slider.proofs.RoundLaws.{round-state}
 use Rattle.slider.proofs.TurnLaws.{few-edges, turn-next, turn-last, turn-end}
 use Rattle.slider.proofs.round.rounds.Statement.{statement}
