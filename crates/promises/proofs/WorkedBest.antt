@@ -12,8 +12,8 @@ use Rattle.net.specs.Net.{weighing, plainly}
 use Rattle.net.specs.WorkedNets.{Lists, onePin, noPin, overlapping}
 use Rattle.net.proofs.WorkedChecks.{answer}
 use Rattle.lines.specs.Edges.{Edge}
-use Rattle.router.specs.Refined.{laidTotal}
-use Rattle.router.specs.Best.{aboveBest, bestRoomShort, bestGiven, bestTree}
+use Rattle.answers.specs.Refined.{laidTotal}
+use Rattle.answers.specs.Best.{aboveBest, bestRoomShort, bestGiven, bestTree}
 use Rattle.promises.proofs.WorkedNets.{answersBy}
 use Rattle.promises.proofs.WorkedBought.{checkOf}
 

@@ -7,7 +7,7 @@ use Rattle.lent.specs.Told.{Told, refused, given}
 use Rattle.net.specs.Net.{plainly}
 use Rattle.net.specs.WorkedNets.{Lists, onePin, noPin, threePins, overlapping}
 use Rattle.price.proofs.WorkedPrices.{answer}
-use Rattle.router.specs.Price.{netPrice}
+use Rattle.answers.specs.Price.{netPrice}
 use Rattle.promises.proofs.WorkedNets.{answersBy}
 
 -- to unfold this is to unfold all that it rests on

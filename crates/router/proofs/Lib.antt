@@ -1,8 +1,5 @@
-pub mod GraphAnswer
-pub mod AnswerLaws
 pub mod RoomLaws
 pub mod CallLaws
-pub mod RefinedLaws
 pub mod Distances
 pub mod BestLaws
 pub mod SlidLaws

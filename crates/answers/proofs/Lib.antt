@@ -1,0 +1,4 @@
+pub mod AnswerLaws
+pub mod GraphLaws
+pub mod DistanceLaws
+pub mod BestLaws
