@@ -32,9 +32,9 @@ use Rattle.best.proofs.BestLaws.{best-pinned}
 use Rattle.best.proofs.BestTree.{best-alike}
 use Rattle.best.proofs.CallLaws.{best-few}
 use Rattle.answers.specs.Best.{bestNumbers, bestGiven, bestTree}
-use Rattle.router.specs.Best.{PromisedBest}
 use Rattle.answers.proofs.AnswerLaws.{only-given}
 use Rattle.answers.proofs.BestLaws.{best-enough, within-best}
+use Rattle.router.specs.Best.{PromisedBest}
 use Rattle.router.proofs.BestLaws.{no-dearer}
 use Rattle.promises.proofs.BoughtLaws.{promised-check}
 

@@ -47,8 +47,8 @@ use Rattle.slide.proofs.SlidSound.{simple}
 use Rattle.answers.specs.Refined.{totalIn, laidOf, laidTotal, metalOf}
 use Rattle.answers.specs.Slid.{slidOf, slidTotal, slidMetal}
 use Rattle.answers.specs.Bought.{checkedTree, sumsOf}
-use Rattle.router.specs.Bought.{Listed, PromisedCheck}
 use Rattle.answers.proofs.AnswerLaws.{only-given}
+use Rattle.router.specs.Bought.{Listed, PromisedCheck}
 use Rattle.router.proofs.SlidLaws.{refined-given, refined-ranged, refined-few, slid-refined, slid-few, promised-slid}
 
 -- Our trees

@@ -31,8 +31,8 @@ use Rattle.answers.specs.Refined.{refinedOf, edgesIn, totalIn, laidOf, laidTota
 use Rattle.answers.specs.Wires.{wiresOf, wiresGiven, wired}
 use Rattle.promises.specs.Published.{Promised}
 use Rattle.answers.proofs.AnswerLaws.{only-given, room-enough}
-use Rattle.results.proofs.RefinedLaws.{metal-low}
 use Rattle.answers.proofs.GraphLaws.{graphed-allowed, graph-fits}
+use Rattle.results.proofs.RefinedLaws.{metal-low}
 
 wires-flat : (es : List Edge) → wires es ≡ flat wiresOfEdge es
 unfolding wires flat

@@ -57,10 +57,10 @@ use Rattle.delay.proofs.AnswerLaws.{in-any, pins-places, answer-places, lent-pl
 use Rattle.delay.proofs.TimedLaws.{timed}
 use Rattle.answers.specs.Refined.{edgesIn, laidOf}
 use Rattle.answers.specs.Delay.{loadsOf, delaysOf, delayGiven, pinDelays}
-use Rattle.router.specs.Delay.{PromisedDelay}
-use Rattle.router.specs.Call.{DelayCall}
 use Rattle.answers.proofs.AnswerLaws.{only-given}
 use Rattle.results.proofs.RefinedLaws.{answer-edges}
+use Rattle.router.specs.Delay.{PromisedDelay}
+use Rattle.router.specs.Call.{DelayCall}
 use Rattle.router.proofs.SlidLaws.{refined-given}
 
 -- in order, pins at different places are as many

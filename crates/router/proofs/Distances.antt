@@ -10,10 +10,10 @@ use Rattle.net.specs.Net.{weightsOf}
 use Rattle.net.specs.Check.{checked}
 use Rattle.net.proofs.AllowedLaws.{given-allowed}
 use Rattle.grid.proofs.SquareLaws.{square-true, squares-same}
-use Rattle.answers.proofs.DistanceLaws.{grid-enough, within-grid}
 use Rattle.answers.specs.Distances.{distancesGiven, gridDistances}
-use Rattle.router.specs.Distances.{PromisedDistances}
+use Rattle.answers.proofs.DistanceLaws.{grid-enough, within-grid}
 use Rattle.answers.proofs.AnswerLaws.{only-given}
+use Rattle.router.specs.Distances.{PromisedDistances}
 
 -- L7, L8, from the check alone
 pub promised-distances : (w : Weighing) (pins macros : List ℤ) {v : Counts} → checked w pins macros ≡ given v →

@@ -43,8 +43,8 @@ use Rattle.slide.proofs.StateLaws.{first-pin}
 use Rattle.answers.specs.Graph.{pointCount}
 use Rattle.answers.specs.Refined.{refinedOf, edgesIn, totalIn}
 use Rattle.answers.specs.Slid.{slidIn, slidOf, slidAnswer, slidGiven, slidTree}
-use Rattle.router.specs.Slid.{PromisedSlid}
 use Rattle.answers.proofs.AnswerLaws.{only-given, room-enough}
+use Rattle.router.specs.Slid.{PromisedSlid}
 
 -- Loose points
 

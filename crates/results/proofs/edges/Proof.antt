@@ -36,7 +36,7 @@ give-edges-requires c κs =
     let d = c .before .before .before .before .before .before in
     let s = start d in
     let few = answer-few (allowed d) (d .refine .ensures .0) in (
-      d .refine .ensures .0 .few .1,
+      omega (arith, d .refine .ensures .0 .few .1),
       (
         answer-small (allowed d) (d .refine .ensures .0),
         omega (arith, few, s .pre .1, length-pins (now (s .args .pins)), length-macros (now (s .args .macros))),

@@ -21,8 +21,8 @@ metal-requires : tie.Need-metal-requires
 metal-requires c κs = let r = c .before .before in metal-asks (start r .pre .allowed) (r .refine .ensures .0)
 
 -- the metal to lay
-metal-is : (c : tie.After-metal) → c .metal .result
-    ≡ metalOf (handed (start (c .before .before .before) .args .net .weights)) (now (start (c .before .before .before) .args .pins)) (now (start (c .before .before .before) .args .macros))
+metal-is : (c : tie.After-metal) → let a = start (c .before .before .before) .args in
+    c .metal .result ≡ metalOf (handed (a .net .weights)) (now (a .pins)) (now (a .macros))
 metal-is c = let r = c .before .before .before in answer-metal (start r .pre .allowed) (r .refine .ensures .0) (c .metal .ensures)
 
 price-requires : tie.Need-price-requires

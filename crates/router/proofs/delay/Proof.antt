@@ -9,8 +9,8 @@ use Rattle.net.specs.Check.{checked, told}
 use Rattle.net.proofs.HandedLaws.{handed-back}
 use Rattle.delay.specs.Answer.{toldDelays}
 use Rattle.answers.specs.Delay.{delayGiven, pinDelays}
-use Rattle.router.specs.Call.{DelayCall}
 use Rattle.answers.proofs.AnswerLaws.{only-refused, only-given}
+use Rattle.router.specs.Call.{DelayCall}
 use Rattle.made.proofs.CountedLaws.{counted-of}
 use Rattle.router.proofs.CallLaws.{gives-refused, gives-as}
 use borrow.Author.Needs.{needs}

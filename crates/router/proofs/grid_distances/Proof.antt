@@ -8,9 +8,9 @@ use Rattle.net.specs.declared.Weighing.{Weighing}
 use Rattle.net.specs.Check.{checked, told}
 use Rattle.net.proofs.HandedLaws.{handed-back}
 use Rattle.answers.specs.Distances.{distancesGiven, gridDistances}
+use Rattle.answers.proofs.AnswerLaws.{only-refused, only-given}
 use Rattle.router.specs.Answers.{toldDistances}
 use Rattle.router.specs.Call.{DistancesCall}
-use Rattle.answers.proofs.AnswerLaws.{only-refused, only-given}
 use Rattle.made.proofs.CountedLaws.{counted-of}
 use Rattle.router.proofs.CallLaws.{square-refused, square-as}
 use borrow.Author.Needs.{needs}

@@ -1,4 +1,5 @@
--- `router::allowed::both_trees` meets its contract: where there is room, the edges given are those of the net's refined tree, with both totals.
+-- `router::allowed::both_trees` meets its contract: where there is room, the edges given are those of the net's refined tree, with both
+-- totals.
 -- Assumes nothing.
 use mathlib.Core.Path.{_≡_, refl, sym, ap, ap₂, _∙_}
 use Prim.Native.Nat.{ℕ, _^_, _≤_, _<_}

@@ -55,7 +55,8 @@ returns-2 c =
     let a = s .args in
     gives-given
     (ap (λ (n : ℕ). given n) (g .wires .ensures .0))
-    (room-enough (asked s) (length (now (a .wires))) (length (wiresOf (handed (a .net .weights)) (now (a .pins)) (now (a .macros)))) (room e))
+    (room-enough (asked s) (length (now (a .wires))) (length (wiresOf (handed (a .net .weights)) (now (a .pins)) (now (a .macros))))
+    (room e))
     (g .wires .ensures .1)
 
 pub wires-spec : {M : Type 1} → statement M
