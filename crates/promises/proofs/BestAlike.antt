@@ -17,7 +17,7 @@ use Rattle.checks.specs.Check.{checked}
 use Rattle.rules.specs.Edges.{Edge}
 use Rattle.lines.specs.Bounds.{gridMacros}
 use Rattle.parts.specs.Bounds.{bestPins, workBound}
-use Rattle.router.specs.Best.{aboveBest, bestNumbers, bestRoomShort, bestAnswer, bestGiven, bestTree}
+use Rattle.answers.specs.Best.{aboveBest, bestNumbers, bestRoomShort, bestAnswer, bestGiven, bestTree}
 
 -- an answer by its refusals, and by what is given: the number of the refusal, and a list that holds the same in each success, do not
 -- depend on what is given

@@ -32,9 +32,11 @@ use Rattle.best.specs.Tree.{IsBest}
 use Rattle.best.proofs.BestLaws.{best-pinned}
 use Rattle.best.proofs.BestTree.{best-alike}
 use Rattle.best.proofs.CallLaws.{best-few}
-use Rattle.router.specs.Best.{bestNumbers, bestGiven, bestTree, PromisedBest}
-use Rattle.router.proofs.AnswerLaws.{only-given}
-use Rattle.router.proofs.BestLaws.{best-enough, within-best, no-dearer}
+use Rattle.answers.specs.Best.{bestNumbers, bestGiven, bestTree}
+use Rattle.answers.proofs.AnswerLaws.{only-given}
+use Rattle.answers.proofs.BestLaws.{best-enough, within-best}
+use Rattle.router.specs.Best.{PromisedBest}
+use Rattle.router.proofs.BestLaws.{no-dearer}
 use Rattle.promises.proofs.BoughtLaws.{promised-check}
 
 pub best-passes : (net : Net) (T : List Edge) → IsBest net T → Passes net T

@@ -45,10 +45,11 @@ use Rattle.rules.specs.Edges.{Edge}
 use Rattle.rules.proofs.RefinedRange.{Ranged}
 use Rattle.slide.specs.Promise.{Given}
 use Rattle.slide.proofs.SlidSound.{simple}
-use Rattle.router.specs.Refined.{totalIn, laidOf, laidTotal, metalOf}
-use Rattle.router.specs.Slid.{slidOf, slidTotal, slidMetal}
-use Rattle.router.specs.Bought.{checkedTree, Listed, sumsOf, PromisedCheck}
-use Rattle.router.proofs.AnswerLaws.{only-given}
+use Rattle.answers.specs.Refined.{totalIn, laidOf, laidTotal, metalOf}
+use Rattle.answers.specs.Slid.{slidOf, slidTotal, slidMetal}
+use Rattle.answers.specs.Bought.{checkedTree, sumsOf}
+use Rattle.answers.proofs.AnswerLaws.{only-given}
+use Rattle.router.specs.Bought.{Listed, PromisedCheck}
 use Rattle.router.proofs.SlidLaws.{refined-given, refined-ranged, refined-few, slid-refined, slid-few, promised-slid}
 
 -- Our trees

@@ -39,9 +39,10 @@ use Rattle.floats.specs.Mark.{marked, finites}
 use Rattle.delay.specs.Answer.{delayOf, marksOf, delayed, delayAnswer}
 use Rattle.delay.proofs.LoadLaws.{loads-same}
 use Rattle.delay.proofs.TimedLaws.{same-sorted, marksOf-same}
-use Rattle.router.specs.Refined.{laidOf}
-use Rattle.router.specs.Delay.{loadsOf, delaysOf, delayGiven, pinDelays, SameDelays}
-use Rattle.router.proofs.AnswerLaws.{only-refused}
+use Rattle.answers.specs.Refined.{laidOf}
+use Rattle.answers.specs.Delay.{loadsOf, delaysOf, delayGiven, pinDelays}
+use Rattle.answers.proofs.AnswerLaws.{only-refused}
+use Rattle.router.specs.Delay.{SameDelays}
 use Rattle.promises.proofs.EveryOrder.{same-laid}
 
 -- no two pins of an allowed net are at one place

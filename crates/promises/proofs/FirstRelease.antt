@@ -14,7 +14,7 @@ use Rattle.encoded.specs.Layout.{fileBytes}
 use Rattle.older.proofs.FirstRelease.{plain-file}
 use Rattle.joined.specs.Cost.{lengths}
 use Rattle.refined.proofs.MetalLaws.{length-plain}
-use Rattle.router.specs.Refined.{totalIn, laidOf}
+use Rattle.answers.specs.Refined.{totalIn, laidOf}
 use Rattle.promises.specs.FirstRelease.{AsFirst}
 
 pub as-first : (pins macros : List ℤ) → AsFirst pins macros

@@ -16,7 +16,7 @@ use Rattle.net.specs.Net.{plainly, weightsOf, netOf, costIn}
 use Rattle.checks.specs.Check.{checked}
 use Rattle.encoded.specs.Layout.{loaded, fileBytes}
 use Rattle.older.specs.FirstRelease.{firstFile}
-use Rattle.router.specs.Refined.{laidTotal, metalOf}
+use Rattle.answers.specs.Refined.{laidTotal, metalOf}
 
 pub record AsFirst (pins macros : List ℤ) : Type 0 where
   -- C18

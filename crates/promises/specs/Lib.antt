@@ -1,4 +1,4 @@
--- All that is promised of the published operations, over the definitions that their contracts name (router/specs). There is no code here.
+-- All that is promised of the published operations, over the definitions that their contracts name (`answers`). There is no code here.
 --
 --   Published      Promised w pins macros           what is promised of the graph, terminal tree, refined tree and wires of an allowed net
 --   EveryOrder     SameForBoth, ByPlaces            the same for every order of the lists, and whatever the loads

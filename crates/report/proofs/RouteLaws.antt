@@ -32,9 +32,9 @@ use Rattle.blocks.specs.Sizes.{pinListBound, macroListBound}
 use Rattle.decoded.specs.Held.{pinsIn, macrosIn}
 use Rattle.netfile.specs.Read.{readFile}
 use Rattle.netfile.proofs.RoundTrip.{accepted-is-ours}
-use Rattle.router.specs.Graph.{pointCount}
-use Rattle.router.specs.Both.{bothAnswer, bothGiven, bothTrees}
-use Rattle.router.proofs.AnswerLaws.{only-given, room-enough}
+use Rattle.answers.specs.Graph.{pointCount}
+use Rattle.answers.specs.Both.{bothAnswer, bothGiven, bothTrees}
+use Rattle.answers.proofs.AnswerLaws.{only-given, room-enough}
 use Rattle.report.specs.Text.{treeText, refusedText}
 use Rattle.report.specs.Route.{treesText, answerText, routeText}
 

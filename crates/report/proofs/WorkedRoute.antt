@@ -8,7 +8,7 @@ use Rattle.plane.specs.Cost.{plain}
 use Rattle.net.specs.WorkedNets.{threePins}
 use Rattle.encoded.specs.Layout.{fileBytes}
 use Rattle.netfile.proofs.WorkedFiles.{words, readWords}
-use Rattle.router.proofs.Answered.{treesBy}
+use Rattle.answers.proofs.Answered.{treesBy}
 use Rattle.report.specs.Route.{treesText, answerText, routeText}
 use Rattle.report.proofs.WorkedTexts.{threeLines, shown, shownRefused}
 

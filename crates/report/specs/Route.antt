@@ -8,8 +8,8 @@ use Rattle.net.specs.Net.{handed}
 use Rattle.blocks.specs.Sizes.{pinListBound, macroListBound}
 use Rattle.decoded.specs.Held.{pinsIn, macrosIn}
 use Rattle.netfile.specs.Read.{readFile}
-use Rattle.router.specs.Terminal.{pathsTotal}
-use Rattle.router.specs.Refined.{laidOf, laidTotal, metalOf}
+use Rattle.answers.specs.Terminal.{pathsTotal}
+use Rattle.answers.specs.Refined.{laidOf, laidTotal, metalOf}
 use Rattle.report.specs.declared.Header.{Header}
 use Rattle.report.specs.Text.{treeText, refusedText}
 

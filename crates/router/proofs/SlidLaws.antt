@@ -2,10 +2,9 @@
 -- no pin would be loose.
 -- Assumes nothing.
 use mathlib.Core.Path.{_≡_, refl, sym, ap, ap₂, _∙_, subst}
-use mathlib.Core.Bool.{true, false}
 use mathlib.Core.Logic.{_⊎_, inl, inr}
 use mathlib.Core.List.{List, [], _∷_, List·Memᴰ·cases-cons}
-use Prim.Native.Nat.{ℕ, _+_, _*_, _≤_, _<_}
+use Prim.Native.Nat.{ℕ, _+_, _*_, _<_}
 use native.Mathlib.Omega.{arith}
 use lib.IntN.{ℤ}
 use lib.ListN.{length}
@@ -14,7 +13,6 @@ use Rattle.lists.proofs.PermLaws.{order-same}
 use Rattle.lists.proofs.TestLaws.{differ, either}
 use Rattle.lent.specs.Told.{given}
 use Rattle.plane.specs.declared.Place.{Place}
-use Rattle.plane.specs.Place.{before}
 use Rattle.plane.specs.Flat.{macrosOf}
 use Rattle.plane.proofs.FlatLaws.{length-macros}
 use Rattle.plane.proofs.PlaceOrder.{place-order, place-same}
@@ -22,7 +20,7 @@ use Rattle.joined.specs.Joined.{Link}
 use Rattle.net.specs.declared.Net.{Net as Counts}
 use Rattle.net.specs.declared.Weighing.{Weighing}
 use Rattle.net.specs.Net.{Net, netOf}
-use Rattle.net.specs.Pins.{pinCount, pinPlaces}
+use Rattle.net.specs.Pins.{pinCount}
 use Rattle.net.specs.Allowed.{Allowed}
 use Rattle.net.proofs.AllowedLaws.{allowed-positive}
 use Rattle.net.proofs.PinLaws.{length-pins}
@@ -43,10 +41,11 @@ use Rattle.slide.proofs.EndLaws.{decide}
 use Rattle.slide.proofs.InRange.{leastPlace, greatestPlace, range-box, box-in-range}
 use Rattle.slide.proofs.SlidSound.{slid-promise}
 use Rattle.slide.proofs.StateLaws.{first-pin}
-use Rattle.router.specs.Graph.{pointCount}
-use Rattle.router.specs.Refined.{refinedOf, edgesIn, totalIn}
-use Rattle.router.specs.Slid.{slidIn, slidOf, slidAnswer, slidGiven, slidTree, PromisedSlid}
-use Rattle.router.proofs.AnswerLaws.{only-given, room-enough}
+use Rattle.answers.specs.Graph.{pointCount}
+use Rattle.answers.specs.Refined.{refinedOf, edgesIn, totalIn}
+use Rattle.answers.specs.Slid.{slidIn, slidOf, slidAnswer, slidGiven, slidTree}
+use Rattle.answers.proofs.AnswerLaws.{only-given, room-enough}
+use Rattle.router.specs.Slid.{PromisedSlid}
 
 -- Loose points
 

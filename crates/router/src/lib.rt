@@ -19,17 +19,17 @@ ghost use mathlib.Core.Path.{_≡_};
 ghost use Rattle.checks.specs.Check.{checked, told};
 ghost use Rattle.price.specs.Price.{toldPrice};
 ghost use Rattle.bought.specs.Verdict.{toldVerdict};
-ghost use Rattle.router.specs.Graph.{graphed};
-ghost use Rattle.router.specs.Terminal.{terminalTree};
-ghost use Rattle.router.specs.Refined.{refinedTree};
-ghost use Rattle.router.specs.Both.{bothTrees};
-ghost use Rattle.router.specs.Slid.{slidTree};
-ghost use Rattle.router.specs.Wires.{wired};
-ghost use Rattle.router.specs.Distances.{gridDistances};
-ghost use Rattle.router.specs.Delay.{pinDelays};
-ghost use Rattle.router.specs.Best.{bestTree};
-ghost use Rattle.router.specs.Price.{netPrice};
-ghost use Rattle.router.specs.Bought.{checkedTree};
+ghost use Rattle.answers.specs.Graph.{graphed};
+ghost use Rattle.answers.specs.Terminal.{terminalTree};
+ghost use Rattle.answers.specs.Refined.{refinedTree};
+ghost use Rattle.answers.specs.Both.{bothTrees};
+ghost use Rattle.answers.specs.Slid.{slidTree};
+ghost use Rattle.answers.specs.Wires.{wired};
+ghost use Rattle.answers.specs.Distances.{gridDistances};
+ghost use Rattle.answers.specs.Delay.{pinDelays};
+ghost use Rattle.answers.specs.Best.{bestTree};
+ghost use Rattle.answers.specs.Price.{netPrice};
+ghost use Rattle.answers.specs.Bought.{checkedTree};
 ghost use Rattle.router.specs.Call.{GraphCall, TerminalCall, RefinedCall, BothCall, SlidCall, WiresCall, DistancesCall};
 ghost use Rattle.router.specs.Call.{DelayCall, BestCall, WriteCall, ReadCall};
 
@@ -226,7 +226,7 @@ pub fn price(w: Weighing, pins: &[i32], macros: &[i32], bands: &[u64]) -> Priced
 {
     let answer = checks::check(w, pins, macros);
     match answer {
-        Checked::Allowed(net) => allowed::price(net, pins, macros, bands),
+        Checked::Allowed(net) => results::price(net, pins, macros, bands),
         Checked::Refused(refusal) => Priced::Refused(refusal),
     }
 }

@@ -12,9 +12,9 @@ use Rattle.net.specs.Net.{weighing, plainly}
 use Rattle.net.specs.WorkedNets.{Lists, onePin, noPin, overlapping}
 use Rattle.checks.proofs.WorkedChecks.{answer}
 use Rattle.lines.specs.Edges.{Edge}
-use Rattle.router.specs.Refined.{laidTotal}
-use Rattle.router.specs.Best.{aboveBest, bestRoomShort, bestGiven, bestTree}
-use Rattle.router.proofs.Answered.{answersBy}
+use Rattle.answers.specs.Refined.{laidTotal}
+use Rattle.answers.specs.Best.{aboveBest, bestRoomShort, bestGiven, bestTree}
+use Rattle.answers.proofs.Answered.{answersBy}
 use Rattle.worked.proofs.Bought.{checkOf}
 
 -- to unfold this is to unfold all that it rests on

@@ -10,7 +10,7 @@ use Rattle.net.specs.WorkedNets.{Lists, onePin, noPin, aroundOne, overlapping}
 use Rattle.checks.proofs.WorkedChecks.{answer}
 use Rattle.lent.specs.Told.{onlyIf}
 use Rattle.bought.proofs.WorkedTrees.{judged}
-use Rattle.router.specs.Bought.{checkedTree}
+use Rattle.answers.specs.Bought.{checkedTree}
 
 -- to unfold this is to unfold all that it rests on
 unfoldable pub checkOf : Weighing → Lists → List ℤ → Told (ℤ × ℤ)

@@ -14,7 +14,7 @@ use Rattle.net.specs.WorkedNets.{Lists, onePin, noPin, aroundOne, threePins, sh
 use Rattle.net.specs.WorkedNets.{twiceInInterior, noWidth, fourPins, pin, block}
 use Rattle.net.specs.Net.{weighing, plainly}
 use Rattle.net.specs.Counts.{counted}
-use Rattle.router.proofs.Answered.{Answers, answersBy, Trees, treesBy}
+use Rattle.answers.proofs.Answered.{Answers, answersBy, Trees, treesBy}
 
 abbrev answers : Lists → Answers
 answers = answersBy plainly

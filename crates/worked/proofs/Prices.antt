@@ -7,8 +7,8 @@ use Rattle.lent.specs.Told.{Told, refused, given}
 use Rattle.net.specs.Net.{plainly}
 use Rattle.net.specs.WorkedNets.{Lists, onePin, noPin, threePins, overlapping}
 use Rattle.price.proofs.WorkedPrices.{answer}
-use Rattle.router.specs.Price.{netPrice}
-use Rattle.router.proofs.Answered.{answersBy}
+use Rattle.answers.specs.Price.{netPrice}
+use Rattle.answers.proofs.Answered.{answersBy}
 
 -- to unfold this is to unfold all that it rests on
 unfoldable pub priceOf : Lists → List ℕ → Told ℕ

@@ -9,7 +9,7 @@ use Rattle.lent.specs.Over.{valueAfter}
 use Rattle.net.specs.declared.Weighing.{Weighing}
 use Rattle.net.specs.Net.{weighing}
 use Rattle.bought.specs.Verdict.{toldVerdict}
-use Rattle.router.specs.Bought.{checkedTree}
+use Rattle.answers.specs.Bought.{checkedTree}
 use Rattle.exports.proofs.HandedLaws.{code-handed, value-handed, read-back}
 use borrow.Author.Needs.{needs}
 use Rattle.exports.proofs.calzundi_check_tree.Statement.{statement}

@@ -8,7 +8,8 @@ use Rattle.lent.specs.Told.{code}
 use Rattle.lent.specs.Over.{valueAfter}
 use Rattle.net.specs.declared.Weighing.{Weighing}
 use Rattle.net.specs.Net.{weighing}
-use Rattle.router.specs.Refined.{refinedTree, toldTree}
+use Rattle.answers.specs.Refined.{refinedTree}
+use Rattle.router.specs.Answers.{toldTree}
 use Rattle.router.specs.Call.{RefinedCall}
 use Rattle.exports.proofs.HandedLaws.{code-handed, value-handed, read-back}
 use borrow.Author.Needs.{needs}

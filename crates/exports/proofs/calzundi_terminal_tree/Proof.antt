@@ -8,7 +8,8 @@ use Rattle.lent.specs.Told.{code}
 use Rattle.lent.specs.Over.{valueAfter}
 use Rattle.net.specs.declared.Weighing.{Weighing}
 use Rattle.net.specs.Net.{weighing}
-use Rattle.router.specs.Terminal.{terminalTree, toldTerminal}
+use Rattle.answers.specs.Terminal.{terminalTree}
+use Rattle.router.specs.Answers.{toldTerminal}
 use Rattle.router.specs.Call.{TerminalCall}
 use Rattle.exports.proofs.HandedLaws.{code-handed, value-handed, read-back}
 use borrow.Author.Needs.{needs}

@@ -18,9 +18,10 @@ use Rattle.net.specs.Bounds.{treeBound}
 use Rattle.graph.specs.Numbers.{edgeNumbers}
 use Rattle.net.specs.declared.Weighing.{Weighing}
 use Rattle.net.specs.Net.{handed}
-use Rattle.router.specs.Terminal.{pathsTotal}
-use Rattle.router.specs.Refined.{laidOf, laidTotal, metalOf}
-use Rattle.router.specs.Both.{bothAnswer, bothTrees, toldBoth}
+use Rattle.answers.specs.Terminal.{pathsTotal}
+use Rattle.answers.specs.Refined.{laidOf, laidTotal, metalOf}
+use Rattle.answers.specs.Both.{bothAnswer, bothTrees}
+use Rattle.router.specs.Answers.{toldBoth}
 use Rattle.router.specs.Call.{BothCall}
 use Rattle.report.specs.Route.{treesText}
 use Rattle.report.proofs.PutLaws.{filled-as}

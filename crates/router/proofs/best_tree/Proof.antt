@@ -8,10 +8,10 @@ use Rattle.lent.specs.Told.{given}
 use Rattle.net.specs.declared.Weighing.{Weighing}
 use Rattle.checks.specs.Check.{checked, told}
 use Rattle.checks.proofs.GivenLaws.{handed-back}
-use Rattle.router.specs.Refined.{toldTree}
-use Rattle.router.specs.Best.{bestGiven, bestTree}
+use Rattle.answers.specs.Best.{bestGiven, bestTree}
+use Rattle.answers.proofs.AnswerLaws.{only-refused, only-given}
+use Rattle.router.specs.Answers.{toldTree}
 use Rattle.router.specs.Call.{BestCall}
-use Rattle.router.proofs.AnswerLaws.{only-refused, only-given}
 use Rattle.made.proofs.CountedLaws.{counted-of}
 use Rattle.router.proofs.CallLaws.{best-refused, best-as}
 use borrow.Author.Needs.{needs}

@@ -8,9 +8,9 @@ use Rattle.net.specs.declared.Weighing.{Weighing}
 use Rattle.checks.specs.Check.{checked, told}
 use Rattle.checks.proofs.GivenLaws.{handed-back}
 use Rattle.delay.specs.Answer.{toldDelays}
-use Rattle.router.specs.Delay.{delayGiven, pinDelays}
+use Rattle.answers.specs.Delay.{delayGiven, pinDelays}
+use Rattle.answers.proofs.AnswerLaws.{only-refused, only-given}
 use Rattle.router.specs.Call.{DelayCall}
-use Rattle.router.proofs.AnswerLaws.{only-refused, only-given}
 use Rattle.made.proofs.CountedLaws.{counted-of}
 use Rattle.router.proofs.CallLaws.{gives-refused, gives-as}
 use borrow.Author.Needs.{needs}

@@ -7,9 +7,10 @@ use Rattle.lent.specs.Told.{given}
 use Rattle.net.specs.declared.Weighing.{Weighing}
 use Rattle.checks.specs.Check.{checked, told}
 use Rattle.checks.proofs.GivenLaws.{handed-back}
+use Rattle.answers.specs.Graph.{graphGiven}
+use Rattle.answers.proofs.GraphLaws.{graphed-refused, graphed-allowed}
 use Rattle.router.specs.Call.{GraphCall}
-use Rattle.router.specs.Graph.{graphGiven, toldGraph}
-use Rattle.router.proofs.GraphAnswer.{graphed-refused, graphed-allowed}
+use Rattle.router.specs.Answers.{toldGraph}
 use Rattle.made.proofs.CountedLaws.{counted-of}
 use Rattle.router.proofs.CallLaws.{two-refused, two-as}
 use borrow.Author.Needs.{needs}

@@ -7,9 +7,10 @@ use Rattle.lent.specs.Told.{given}
 use Rattle.net.specs.declared.Weighing.{Weighing}
 use Rattle.checks.specs.Check.{checked, told}
 use Rattle.checks.proofs.GivenLaws.{handed-back}
-use Rattle.router.specs.Distances.{distancesGiven, gridDistances, toldDistances}
+use Rattle.answers.specs.Distances.{distancesGiven, gridDistances}
+use Rattle.answers.proofs.AnswerLaws.{only-refused, only-given}
+use Rattle.router.specs.Answers.{toldDistances}
 use Rattle.router.specs.Call.{DistancesCall}
-use Rattle.router.proofs.AnswerLaws.{only-refused, only-given}
 use Rattle.made.proofs.CountedLaws.{counted-of}
 use Rattle.router.proofs.CallLaws.{square-refused, square-as}
 use borrow.Author.Needs.{needs}

@@ -7,9 +7,9 @@ use Rattle.net.specs.declared.Weighing.{Weighing}
 use Rattle.price.specs.Price.{priced, toldPrice}
 use Rattle.checks.specs.Check.{checked, told}
 use Rattle.checks.proofs.GivenLaws.{handed-back}
-use Rattle.router.specs.Refined.{metalOf}
-use Rattle.router.specs.Price.{netPrice}
-use Rattle.router.proofs.AnswerLaws.{only-refused, only-given}
+use Rattle.answers.specs.Refined.{metalOf}
+use Rattle.answers.specs.Price.{netPrice}
+use Rattle.answers.proofs.AnswerLaws.{only-refused, only-given}
 use Rattle.made.proofs.CountedLaws.{counted-of}
 use borrow.Author.Needs.{needs}
 use Rattle.router.proofs.price.Statement.{statement}

@@ -7,10 +7,10 @@ use Rattle.lent.specs.Told.{given}
 use Rattle.net.specs.declared.Weighing.{Weighing}
 use Rattle.checks.specs.Check.{checked, told}
 use Rattle.checks.proofs.GivenLaws.{handed-back}
-use Rattle.router.specs.Slid.{slidGiven, slidTree}
-use Rattle.router.specs.Refined.{toldTree}
+use Rattle.answers.specs.Slid.{slidGiven, slidTree}
+use Rattle.answers.proofs.AnswerLaws.{only-refused, only-given}
+use Rattle.router.specs.Answers.{toldTree}
 use Rattle.router.specs.Call.{SlidCall}
-use Rattle.router.proofs.AnswerLaws.{only-refused, only-given}
 use Rattle.made.proofs.CountedLaws.{counted-of}
 use Rattle.router.proofs.CallLaws.{gives-refused, gives-as}
 use borrow.Author.Needs.{needs}

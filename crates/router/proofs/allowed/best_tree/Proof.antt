@@ -23,9 +23,10 @@ use Rattle.net.specs.Net.{Net, handed, netOf}
 use Rattle.lines.specs.Bounds.{gridMacros}
 use Rattle.parts.specs.Bounds.{bestPins, workBound}
 use Rattle.best.specs.Tree.{BestOver}
-use Rattle.router.specs.Refined.{toldTree}
-use Rattle.router.specs.Best.{aboveBest, bestNumbers}
-use Rattle.router.proofs.BestLaws.{best-above, best-short, best-enough, best-room, above-best, best-low, best-metal-low}
+use Rattle.answers.specs.Best.{aboveBest, bestNumbers}
+use Rattle.answers.proofs.BestLaws.{best-above, best-short, best-enough, best-room, above-best}
+use Rattle.router.specs.Answers.{toldTree}
+use Rattle.router.proofs.BestLaws.{best-low, best-metal-low}
 use Rattle.made.proofs.CountedLaws.{as-net, as-allowed, as-pins, counts-few}
 use Rattle.router.proofs.CallLaws.{best-refused, best-given}
 use borrow.Author.Needs.{needs}

@@ -29,10 +29,10 @@ use Rattle.net.proofs.PinLaws.{length-pins}
 use Rattle.room.specs.Needs.{wireNeed}
 use Rattle.graph.specs.Numbers.{edgeNumbers}
 use Rattle.laid.specs.Edges.{laidBound}
-use Rattle.router.specs.Graph.{pointCount}
-use Rattle.router.specs.Refined.{toldTree}
-use Rattle.router.specs.Slid.{slidTotal, slidMetal, slidAnswer, slidGiven}
-use Rattle.router.proofs.AnswerLaws.{room-short, room-enough}
+use Rattle.answers.specs.Graph.{pointCount}
+use Rattle.answers.specs.Slid.{slidTotal, slidMetal, slidAnswer, slidGiven}
+use Rattle.answers.proofs.AnswerLaws.{room-short, room-enough}
+use Rattle.router.specs.Answers.{toldTree}
 use Rattle.made.proofs.CountedLaws.{as-net, counts-few}
 use Rattle.router.proofs.RoomLaws.{wires-ask}
 use Rattle.router.proofs.CallLaws.{gives-refused, gives-given}

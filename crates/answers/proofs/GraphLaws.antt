@@ -18,7 +18,7 @@ use Rattle.net.specs.Net.{netOf}
 use Rattle.net.proofs.PinLaws.{length-pins}
 use Rattle.checks.specs.Check.{checked}
 use Rattle.graph.proofs.VertexLaws.{length-vertices}
-use Rattle.router.specs.Graph.{netVertices, netEdges, pointCount, graphRoomShort, graphGiven, graphed}
+use Rattle.answers.specs.Graph.{netVertices, netEdges, pointCount, graphRoomShort, graphGiven, graphed}
 
 module _ (w : Weighing) (pins macros : List ℤ) (v e : ℕ) where
   pub graphed-refused : (n : ℕ) → checked w pins macros ≡ refused n → graphed w pins macros v e ≡ refused n

@@ -23,11 +23,11 @@ use Rattle.refined.specs.Ground.{groundOf}
 use Rattle.refiner.proofs.WorkedTrees.{refinedOf as worked}
 use Rattle.tree.specs.Edges.{edgesFrom}
 use Rattle.refined.proofs.WorkedWires.{given as wired-given}
-use Rattle.router.specs.Graph.{netVertices, netEdges, graphRoomShort, graphGiven, graphed}
-use Rattle.router.specs.Room.{ifRoom}
-use Rattle.router.specs.Terminal.{pathsOf, pathsTotal, terminalGiven, terminalTree}
-use Rattle.router.specs.Refined.{refinedOf, edgesIn, totalIn, laidOf, refinedGiven, refinedTree}
-use Rattle.router.specs.Wires.{wiresOf, wiresGiven, wired}
+use Rattle.answers.specs.Graph.{netVertices, netEdges, graphRoomShort, graphGiven, graphed}
+use Rattle.answers.specs.Room.{ifRoom}
+use Rattle.answers.specs.Terminal.{pathsOf, pathsTotal, terminalGiven, terminalTree}
+use Rattle.answers.specs.Refined.{refinedOf, edgesIn, totalIn, laidOf, refinedGiven, refinedTree}
+use Rattle.answers.specs.Wires.{wiresOf, wiresGiven, wired}
 
 -- what the operations answer when the space of the largest net is lent
 pub record Answers : Type 0 where

@@ -3,19 +3,16 @@ use mathlib.Core.List.{List}
 use Prim.Native.Nat.{ℕ}
 use lib.IntN.{ℤ}
 use lib.ListN.{length}
-use Rattle.lent.specs.Told.{Told, refused, given, onlyIf}
+use Rattle.lent.specs.Told.{Told, onlyIf}
 use Rattle.plane.specs.declared.Place.{Place}
-use Rattle.net.specs.Answer.{number}
 use Rattle.net.specs.Pins.{pinCount}
 use Rattle.net.specs.declared.Weighing.{Weighing}
 use Rattle.checks.specs.Check.{checked}
 use Rattle.room.specs.Needs.{wireNeed}
 use Rattle.refined.specs.Wires.{wires}
-use Rattle.router.specs.Room.{ifRoom}
-use Rattle.router.specs.Graph.{pointCount}
-use Rattle.router.specs.Refined.{laidOf}
-use Rattle.router.specs.declared.Wired.{Wired}
-use Rattle.router.specs.declared.Wired.the-variants.{Given, Refused}
+use Rattle.answers.specs.Room.{ifRoom}
+use Rattle.answers.specs.Graph.{pointCount}
+use Rattle.answers.specs.Refined.{laidOf}
 
 -- W1, W2: edge after edge in order, first the horizontal wire, then the vertical one
 abbrev pub wiresOf : Weighing → List ℤ → List ℤ → List (Place × Place)
@@ -28,8 +25,3 @@ wiresGiven w pins macros room = ifRoom (wireNeed (pointCount pins macros) (pinCo
 -- C67: 11 to 18, then 21
 unfoldable pub wired : Weighing → List ℤ → List ℤ → ℕ → Told ℕ
 wired w pins macros room = onlyIf (checked w pins macros) (wiresGiven w pins macros room)
-
--- what the code's answer says
-unfoldable pub toldWires : Wired → Told ℕ
-toldWires (Given n) = given n
-toldWires (Refused f) = refused (number f)

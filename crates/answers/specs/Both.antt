@@ -3,18 +3,15 @@ use mathlib.Core.List.{List}
 use Prim.Native.Nat.{ℕ}
 use lib.IntN.{ℤ, pos}
 use lib.ListN.{length}
-use Rattle.lent.specs.Told.{Told, refused, given, onlyIf}
-use Rattle.net.specs.Answer.{number}
+use Rattle.lent.specs.Told.{Told, onlyIf}
 use Rattle.net.specs.Pins.{pinCount}
 use Rattle.net.specs.declared.Weighing.{Weighing}
 use Rattle.checks.specs.Check.{checked}
 use Rattle.room.specs.Needs.{edgeNeed}
-use Rattle.router.specs.Room.{ifRoom}
-use Rattle.router.specs.Graph.{pointCount}
-use Rattle.router.specs.Terminal.{pathsTotal}
-use Rattle.router.specs.Refined.{laidOf, laidTotal, metalOf, laidAnswer}
-use Rattle.router.specs.declared.BothAnswer.{BothAnswer}
-use Rattle.router.specs.declared.BothAnswer.the-variants.{Given, Refused}
+use Rattle.answers.specs.Room.{ifRoom}
+use Rattle.answers.specs.Graph.{pointCount}
+use Rattle.answers.specs.Terminal.{pathsTotal}
+use Rattle.answers.specs.Refined.{laidOf, laidAnswer}
 
 -- C64, C66: how many edges of the refined tree are given, and the terminal tree's total before what the refined tree answers
 abbrev pub bothAnswer : Weighing → List ℤ → List ℤ → ℕ × (ℤ × (ℤ × ℤ))
@@ -27,8 +24,3 @@ bothGiven w pins macros room = ifRoom (edgeNeed (pointCount pins macros) (pinCou
 -- C65: 11 to 18, then 21
 unfoldable pub bothTrees : Weighing → List ℤ → List ℤ → ℕ → Told (ℕ × (ℤ × (ℤ × ℤ)))
 bothTrees w pins macros room = onlyIf (checked w pins macros) (bothGiven w pins macros room)
-
--- what the code's answer says
-unfoldable pub toldBoth : BothAnswer → Told (ℕ × (ℤ × (ℤ × ℤ)))
-toldBoth (Given n terminal total metal) = given (n, (terminal, (total, metal)))
-toldBoth (Refused f) = refused (number f)

@@ -1,4 +1,4 @@
--- `router::allowed::price` meets its contract: what is charged for is the metal of the refined tree.
+-- `results::price` meets its contract: what is charged for is the metal of the refined tree.
 -- Assumes nothing.
 use mathlib.Core.Path.{_≡_, refl, ap, _∙_}
 use Prim.Native.Nat.{ℕ}
@@ -6,10 +6,10 @@ use native.Mathlib.Omega.{arith}
 use denote.Ref.{now}
 use Rattle.net.specs.Net.{handed}
 use Rattle.price.specs.Price.{priced}
-use Rattle.router.specs.Refined.{metalOf}
-use Rattle.router.proofs.RefinedLaws.{total-low, metal-low, answer-total, answer-metal, metal-asks}
-use Rattle.router.proofs.allowed.price.Statement.{statement}
-use Rattle.router.proofs.allowed.price.Tie as tie
+use Rattle.answers.specs.Refined.{metalOf}
+use Rattle.results.proofs.RefinedLaws.{total-low, metal-low, answer-total, answer-metal, metal-asks}
+use Rattle.results.proofs.price.Statement.{statement}
+use Rattle.results.proofs.price.Tie as tie
 
 refine-requires : tie.Need-refine-requires
 refine-requires c κs = (c .before .before .before .pre, (refl, refl))
@@ -21,8 +21,8 @@ metal-requires : tie.Need-metal-requires
 metal-requires c κs = let r = c .before .before in metal-asks (start r .pre .allowed) (r .refine .ensures .0)
 
 -- the metal to lay
-metal-is : (c : tie.After-metal) → c .metal .result
-    ≡ metalOf (handed (start (c .before .before .before) .args .net .weights)) (now (start (c .before .before .before) .args .pins)) (now (start (c .before .before .before) .args .macros))
+metal-is : (c : tie.After-metal) → let a = start (c .before .before .before) .args in
+    c .metal .result ≡ metalOf (handed (a .net .weights)) (now (a .pins)) (now (a .macros))
 metal-is c = let r = c .before .before .before in answer-metal (start r .pre .allowed) (r .refine .ensures .0) (c .metal .ensures)
 
 price-requires : tie.Need-price-requires

@@ -4,18 +4,15 @@ use mathlib.Core.List.{List}
 use Prim.Native.Nat.{ℕ}
 use lib.IntN.{ℤ, pos}
 use lib.ListN.{length}
-use Rattle.lent.specs.Told.{Told, refused, given, onlyIf}
+use Rattle.lent.specs.Told.{Told, onlyIf}
 use Rattle.plane.specs.declared.Place.{Place}
-use Rattle.net.specs.Answer.{number}
 use Rattle.net.specs.Pins.{pinCount}
 use Rattle.net.specs.declared.Weighing.{Weighing}
 use Rattle.net.specs.Net.{netOf}
 use Rattle.checks.specs.Check.{checked}
 use Rattle.room.specs.Needs.{pathNeed}
 use Rattle.terminal.specs.Tree as terminal
-use Rattle.router.specs.Room.{ifRoom}
-use Rattle.router.specs.declared.TerminalAnswer.{TerminalAnswer}
-use Rattle.router.specs.declared.TerminalAnswer.the-variants.{Given, Refused}
+use Rattle.answers.specs.Room.{ifRoom}
 
 -- C64: each path in the order kept, by its bridge and its length
 unfoldable pub pathsOf : Weighing → List ℤ → List ℤ → List ((Place × Place) × ℕ)
@@ -32,8 +29,3 @@ terminalGiven w pins macros room = ifRoom (pathNeed (pinCount pins)) room (lengt
 -- C63: 11 to 18, then 21
 unfoldable pub terminalTree : Weighing → List ℤ → List ℤ → ℕ → Told (ℕ × ℤ)
 terminalTree w pins macros room = onlyIf (checked w pins macros) (terminalGiven w pins macros room)
-
--- what the code's answer says: how many paths, and their total
-unfoldable pub toldTerminal : TerminalAnswer → Told (ℕ × ℤ)
-toldTerminal (Given n total) = given (n, total)
-toldTerminal (Refused f) = refused (number f)

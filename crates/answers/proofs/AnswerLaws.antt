@@ -4,7 +4,7 @@ use mathlib.Core.Path.{_≡_, refl}
 use Prim.Native.Nat.{ℕ, _≤_, _<_}
 use borrow.Author.Tests.{lt-ltb, le-ltb}
 use Rattle.lent.specs.Told.{Told, refused, given, onlyIf}
-use Rattle.router.specs.Room.{ifRoom}
+use Rattle.answers.specs.Room.{ifRoom}
 
 module _ {A B : Type 0} (t : Told A) (next : Told B) where
   pub only-refused : (n : ℕ) → t ≡ refused n → onlyIf t next ≡ refused n

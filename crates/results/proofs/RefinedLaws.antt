@@ -6,7 +6,6 @@ use Prim.Native.Nat.{ℕ, _+_, _*_, _≤_, _<_}
 use native.Mathlib.Omega.{arith}
 use lib.IntN.{ℤ}
 use lib.ListN.{length}
-use Rattle.plane.specs.declared.Place.{Place}
 use Rattle.joined.specs.Cost.{lengths}
 use Rattle.net.specs.Net.{Net, costIn}
 use Rattle.net.specs.Allowed.{Allowed}
@@ -23,12 +22,11 @@ use Rattle.refined.specs.Ground.{groundOf}
 use Rattle.tree.specs.Edges.{tableEdges, treeEdges}
 use Rattle.tree.proofs.EdgeLaws.{edges-count, edges-total}
 use Rattle.refiner.proofs.RoundSound.{total-of}
-use Rattle.refined.specs.Ground.{groundOf}
 use Rattle.refined.specs.Metal.{metal}
 use Rattle.refined.proofs.MetalLaws.{metal-low as metal-lengths}
 use Rattle.rules.proofs.BestLaws.{paths-total}
 use Rattle.rules.proofs.RefinedOurs.{refined-tree}
-use Rattle.router.specs.Refined.{refinedOf, edgesIn, totalIn}
+use Rattle.answers.specs.Refined.{refinedOf, edgesIn, totalIn}
 
 module _ {net : Net} (a : Allowed net) where
   -- it fits 63 bits

@@ -3,9 +3,8 @@ use mathlib.Core.List.{List}
 use Prim.Native.Nat.{ℕ}
 use lib.IntN.{ℤ, pos}
 use lib.ListN.{length}
-use Rattle.lent.specs.Told.{Told, refused, given, onlyIf}
+use Rattle.lent.specs.Told.{Told, onlyIf}
 use Rattle.plane.specs.declared.Place.{Place}
-use Rattle.net.specs.Answer.{number}
 use Rattle.net.specs.Pins.{pinCount}
 use Rattle.net.specs.declared.Weighing.{Weighing}
 use Rattle.net.specs.Net.{Net, netOf, costIn}
@@ -18,10 +17,8 @@ use Rattle.union.specs.Union.{unionOf}
 use Rattle.tree.specs.Edges.{treeEdges}
 use Rattle.refined.specs.Ground.{groundOf}
 use Rattle.refined.specs.Metal.{metal}
-use Rattle.router.specs.Room.{ifRoom}
-use Rattle.router.specs.Graph.{pointCount}
-use Rattle.router.specs.declared.TreeAnswer.{TreeAnswer}
-use Rattle.router.specs.declared.TreeAnswer.the-variants.{Given, Refused}
+use Rattle.answers.specs.Room.{ifRoom}
+use Rattle.answers.specs.Graph.{pointCount}
 
 -- The tree of a net
 
@@ -61,8 +58,3 @@ refinedGiven w pins macros room = ifRoom (edgeNeed (pointCount pins macros) (pin
 -- C65: 11 to 18, then 21
 unfoldable pub refinedTree : Weighing → List ℤ → List ℤ → ℕ → Told (ℕ × (ℤ × ℤ))
 refinedTree w pins macros room = onlyIf (checked w pins macros) (refinedGiven w pins macros room)
-
--- what the code's answer says
-unfoldable pub toldTree : TreeAnswer → Told (ℕ × (ℤ × ℤ))
-toldTree (Given n total metal) = given (n, (total, metal))
-toldTree (Refused f) = refused (number f)

@@ -7,15 +7,12 @@ use lib.IntN.{ℤ}
 use lib.ListN.{length}
 use Rattle.lent.specs.Told.{Told, refused, given, onlyIf}
 use Rattle.plane.specs.declared.Place.{Place}
-use Rattle.net.specs.Answer.{number}
 use Rattle.net.specs.Pins.{pinCount, macroCount}
 use Rattle.net.specs.declared.Weighing.{Weighing}
 use Rattle.net.specs.Net.{netOf}
 use Rattle.checks.specs.Check.{checked}
 use Rattle.room.specs.Needs.{vertexNeed, linkNeed}
 use Rattle.graph.specs.Spanning.{verticesOf, spanning}
-use Rattle.router.specs.declared.Graphed.{Graphed}
-use Rattle.router.specs.declared.Graphed.the-variants.{Given, Refused}
 
 unfoldable pub netVertices : Weighing → List ℤ → List ℤ → List Place
 netVertices w pins macros = verticesOf (netOf w pins macros)
@@ -40,8 +37,3 @@ graphGiven w pins macros vertexRoom edgeRoom =
 -- C61: 11 to 18, then 21
 unfoldable pub graphed : Weighing → List ℤ → List ℤ → ℕ → ℕ → Told (ℕ × ℕ)
 graphed w pins macros vertexRoom edgeRoom = onlyIf (checked w pins macros) (graphGiven w pins macros vertexRoom edgeRoom)
-
--- what the code's answer says
-unfoldable pub toldGraph : Graphed → Told (ℕ × ℕ)
-toldGraph (Given v e) = given (v, e)
-toldGraph (Refused f) = refused (number f)
