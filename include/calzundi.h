@@ -59,7 +59,7 @@
 
 /* The version. It stands here and nowhere else; the tools take it from this line. Each change request raised the second number, and the last
  * of the fourteen the first. */
-#define CALZUNDI_VERSION "2.1"
+#define CALZUNDI_VERSION "2.2"
 
 #include <stddef.h>
 #include <stdint.h>

@@ -153,12 +153,7 @@ pub bend-spec : {M : Type 1} → statement M
 bend-spec =
     tie.close
     (tie.spec
-    Inv-loop
-    μ-loop
-    loop-holds
-    (λ c κs. omega arith)
-    (λ c κs. omega arith)
-    (λ c. omega arith)
+    Inv-loop μ-loop loop-holds (λ c κs. omega arith) (λ c κs. omega arith) (λ c. omega arith)
     (λ c κs. tt)
     put-straight-requires
     (λ c. omega (arith, more (c .before .before .before .before)))

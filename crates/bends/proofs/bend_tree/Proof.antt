@@ -39,9 +39,5 @@ pub bend-tree-spec : {M : Type 1} → statement M
 bend-tree-spec =
     tie.close
     (tie.spec
-    (λ c. search needs)
-    (λ c κs. search needs)
-    (λ c. search needs)
-    bend-requires
-    (λ c. search needs)
+    (λ c. search needs) (λ c κs. search needs) (λ c. search needs) bend-requires (λ c. search needs)
     returns)

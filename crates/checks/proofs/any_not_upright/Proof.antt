@@ -60,14 +60,6 @@ pub any-not-upright-spec : {M : Type 1} → statement M
 any-not-upright-spec =
     tie.close
     (tie.spec
-    Inv-loop
-    μ-loop
-    macro-count-requires
-    loop-holds
-    (λ c κs. omega arith)
-    is-not-upright-requires
-    returns
-    (λ c. omega arith)
-    (λ c. omega arith)
-    loop-again
+    Inv-loop μ-loop macro-count-requires loop-holds (λ c κs. omega arith) is-not-upright-requires returns
+    (λ c. omega arith) (λ c. omega arith) loop-again
     returns-2)

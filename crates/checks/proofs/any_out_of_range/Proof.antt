@@ -76,14 +76,6 @@ pub any-out-of-range-spec : {M : Type 1} → statement M
 any-out-of-range-spec =
     tie.close
     (tie.spec
-    Inv-loop
-    μ-loop
-    loop-holds
-    (λ c. omega arith)
-    shared-slice-copy-out-is-out-of-range
-    is-out-of-range-requires
-    returns
-    (λ c. omega arith)
-    (λ c. omega arith)
-    loop-again
+    Inv-loop μ-loop loop-holds (λ c. omega arith) shared-slice-copy-out-is-out-of-range is-out-of-range-requires returns
+    (λ c. omega arith) (λ c. omega arith) loop-again
     returns-2)

@@ -94,22 +94,7 @@ pub any-overlap-spec : {M : Type 1} → statement M
 any-overlap-spec =
     tie.close
     (tie.spec
-    Inv-loop
-    μ-loop
-    Inv-search
-    μ-search
-    macro-count-requires
-    search-holds
-    (λ c κs. omega arith)
-    (λ c. omega arith)
-    loop-holds
-    (λ c κs. omega arith)
-    interiors-meet-requires
-    (λ c. omega arith)
-    (λ c. omega arith)
-    loop-again
-    (λ c. omega arith)
-    (λ c. omega arith)
-    search-again
-    returns
+    Inv-loop μ-loop Inv-search μ-search macro-count-requires search-holds (λ c κs. omega arith) (λ c. omega arith)
+    loop-holds (λ c κs. omega arith) interiors-meet-requires (λ c. omega arith) (λ c. omega arith) loop-again
+    (λ c. omega arith) (λ c. omega arith) search-again returns
     returns-2)

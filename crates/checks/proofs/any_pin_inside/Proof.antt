@@ -70,14 +70,6 @@ pub any-pin-inside-spec : {M : Type 1} → statement M
 any-pin-inside-spec =
     tie.close
     (tie.spec
-    Inv-loop
-    μ-loop
-    pin-count-requires
-    loop-holds
-    (λ c κs. omega arith)
-    is-clear-requires
-    returns
-    (λ c. omega arith)
-    (λ c. omega arith)
-    loop-again
+    Inv-loop μ-loop pin-count-requires loop-holds (λ c κs. omega arith) is-clear-requires returns (λ c. omega arith)
+    (λ c. omega arith) loop-again
     returns-2)

@@ -70,15 +70,6 @@ pub any-same-place-spec : {M : Type 1} → statement M
 any-same-place-spec =
     tie.close
     (tie.spec
-    Inv-loop
-    μ-loop
-    pin-count-requires
-    loop-holds
-    (λ c κs. omega arith)
-    add-is-among
-    is-among-requires
-    returns
-    (λ c. omega arith)
-    (λ c. omega arith)
-    loop-again
+    Inv-loop μ-loop pin-count-requires loop-holds (λ c κs. omega arith) add-is-among is-among-requires returns
+    (λ c. omega arith) (λ c. omega arith) loop-again
     returns-2)

@@ -136,25 +136,8 @@ pub check-spec : {M : Type 1} → statement M
 check-spec =
     tie.close
     (tie.spec
-    (λ c κs. search needs)
-    returns
-    (λ c κs. search needs)
-    returns-2
-    (λ c κs. search needs)
-    returns-3
-    (λ c κs. search needs)
-    returns-4
-    (λ c κs. search needs)
-    returns-5
-    (λ c κs. search needs)
-    returns-6
-    (λ c κs. search needs)
-    returns-7
-    (λ c κs. search needs)
-    returns-8
-    (λ c κs. search needs)
-    returns-9
-    (λ c κs. search needs)
-    (λ c κs. search needs)
-    weights-of-requires
+    (λ c κs. search needs) returns (λ c κs. search needs) returns-2 (λ c κs. search needs) returns-3
+    (λ c κs. search needs) returns-4 (λ c κs. search needs) returns-5 (λ c κs. search needs) returns-6
+    (λ c κs. search needs) returns-7 (λ c κs. search needs) returns-8 (λ c κs. search needs) returns-9
+    (λ c κs. search needs) (λ c κs. search needs) weights-of-requires
     returns-10)

@@ -58,14 +58,6 @@ pub is-among-spec : {M : Type 1} → statement M
 is-among-spec =
     tie.close
     (tie.spec
-    Inv-loop
-    μ-loop
-    pin-count-requires
-    (λ c. refl)
-    (λ c κs. omega arith)
-    is-same-place-requires
-    returns
-    (λ c. omega arith)
-    (λ c. omega arith)
-    loop-again
+    Inv-loop μ-loop pin-count-requires (λ c. refl) (λ c κs. omega arith) is-same-place-requires returns
+    (λ c. omega arith) (λ c. omega arith) loop-again
     returns-2)

@@ -9,18 +9,6 @@ use borrow.Author.Needs.{needs}
 use Rattle.moves.proofs.bar_of.Statement.{statement}
 use Rattle.moves.proofs.bar_of.Tie as tie
 
-spot-at-requires : tie.Need-spot-at-requires
-spot-at-requires c κs = search needs
-
-last-of-requires : tie.Need-last-of-requires
-last-of-requires c κs = search needs
-
-spot-at-requires-2 : tie.Need-spot-at-requires-2
-spot-at-requires-2 c κs = search needs
-
-add-t10 : tie.Need-add-t10
-add-t10 c = search needs
-
 returns : tie.Need-returns
 unfolding lastOn
 returns c = bar-is (view (now (c .before .before .before .before .args .pts)) [] (now (c .before .before .before .before .args .lab))
@@ -29,4 +17,4 @@ returns c = bar-is (view (now (c .before .before .before .before .args .pts)) []
 
 pub bar-of-spec : {M : Type 1} → statement M
 bar-of-spec =
-    tie.close (tie.spec spot-at-requires last-of-requires spot-at-requires-2 add-t10 returns)
+    tie.close (tie.spec (λ c κs. search needs) (λ c κs. search needs) (λ c κs. search needs) (λ c. search needs) returns)

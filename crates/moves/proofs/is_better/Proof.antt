@@ -13,26 +13,14 @@ returns c = better-more _ _ (c .if1 .taken)
 returns-2 : tie.Need-returns-2
 returns-2 c = better-less _ _ (c .if2 .taken)
 
-is-before-requires : tie.Need-is-before-requires
-is-before-requires c κs = search needs
-
 returns-3 : tie.Need-returns-3
 returns-3 c = better-first _ _ (c .before .before .before .before .before .if1 .left) (c .before .before .if2 .left)
     (sym (c .before .is-before .ensures) ∙ c .if3 .taken)
-
-is-before-requires-2 : tie.Need-is-before-requires-2
-is-before-requires-2 c κs = search needs
 
 returns-4 : tie.Need-returns-4
 returns-4 c = better-later _ _ (c .before .before .before .before .before .before .before .if1 .left)
     (c .before .before .before .before .if2 .left) (sym (c .before .before .before .is-before .ensures) ∙ c .before .before .if3 .left)
     (sym (c .before .is-before2 .ensures) ∙ c .if4 .taken)
-
-is-horizontal-requires : tie.Need-is-horizontal-requires
-is-horizontal-requires c κs = search needs
-
-is-horizontal-requires-2 : tie.Need-is-horizontal-requires-2
-is-horizontal-requires-2 c κs = search needs
 
 returns-5 : tie.Need-returns-5
 returns-5 c =
@@ -45,12 +33,6 @@ pub is-better-spec : {M : Type 1} → statement M
 is-better-spec =
     tie.close
     (tie.spec
-    returns
-    returns-2
-    is-before-requires
-    returns-3
-    is-before-requires-2
-    returns-4
-    is-horizontal-requires
-    is-horizontal-requires-2
+    returns returns-2 (λ c κs. search needs) returns-3 (λ c κs. search needs) returns-4 (λ c κs. search needs)
+    (λ c κs. search needs)
     returns-5)

@@ -23,23 +23,11 @@ abbrev μ-loop : tie.MeasureT-loop
 loop-holds : tie.Need-loop-holds Inv-loop μ-loop
 loop-holds c = (omega arith, up-start _ _)
 
-mul-held : tie.Need-mul-held Inv-loop μ-loop
-mul-held c = omega arith
-
-element-copy-out-held : tie.Need-element-copy-out-held Inv-loop μ-loop
-element-copy-out-held c = omega arith
-
 mul-held-2 : tie.Need-mul-held-2 Inv-loop μ-loop
 mul-held-2 c = omega (arith, c .before .before .before .pre .1 .seat (c .before .before .loop .i) (omega arith))
 
 element-copy-out-held-2 : tie.Need-element-copy-out-held-2 Inv-loop μ-loop
 element-copy-out-held-2 c = omega (arith, c .before .before .before .pre .1 .seat (c .before .before .loop .i) (omega arith))
-
-add-i : tie.Need-add-i Inv-loop μ-loop
-add-i c = omega arith
-
-loop-less : tie.Need-loop-less Inv-loop μ-loop
-loop-less c = omega arith
 
 loop-again : tie.Need-loop-again Inv-loop μ-loop
 loop-again c = (omega arith, up-next _ _ _ _ _ (c .before .before .before .loop .inv .1) refl)
@@ -52,14 +40,6 @@ pub is-held-spec : {M : Type 1} → statement M
 is-held-spec =
     tie.close
     (tie.spec
-    Inv-loop
-    μ-loop
-    loop-holds
-    mul-held
-    element-copy-out-held
-    mul-held-2
-    element-copy-out-held-2
-    add-i
-    loop-less
-    loop-again
+    Inv-loop μ-loop loop-holds (λ c. omega arith) (λ c. omega arith) mul-held-2 element-copy-out-held-2
+    (λ c. omega arith) (λ c. omega arith) loop-again
     returns)

@@ -6,18 +6,6 @@ use borrow.Author.Needs.{needs}
 use Rattle.moves.proofs.is_horizontal.Statement.{statement}
 use Rattle.moves.proofs.is_horizontal.Tie as tie
 
-enum-told : tie.Need-enum-told
-enum-told c = search needs
-
-enum-told-2 : tie.Need-enum-told-2
-enum-told-2 c = search needs
-
-enum-told-3 : tie.Need-enum-told-3
-enum-told-3 c = search needs
-
-enum-told-4 : tie.Need-enum-told-4
-enum-told-4 c = search needs
-
 returns : tie.Need-returns
 unfolding horizontal
 returns c = sym (ap horizontal (c .enum-told .given .1))
@@ -37,4 +25,4 @@ returns-4 c = sym (ap horizontal (c .enum-told4 .given .1))
 pub is-horizontal-spec : {M : Type 1} → statement M
 is-horizontal-spec =
     tie.close
-    (tie.spec enum-told enum-told-2 enum-told-3 enum-told-4 returns returns-2 returns-3 returns-4)
+    (tie.spec (λ c. search needs) (λ c. search needs) (λ c. search needs) (λ c. search needs) returns returns-2 returns-3 returns-4)

@@ -23,20 +23,8 @@ abbrev μ-loop : tie.MeasureT-loop
 loop-holds : tie.Need-loop-holds Inv-loop μ-loop
 loop-holds c = (omega arith, (up-start _ _, omega (arith, c .pre)))
 
-mul-chosen : tie.Need-mul-chosen Inv-loop μ-loop
-mul-chosen c = omega arith
-
-element-copy-out-chosen : tie.Need-element-copy-out-chosen Inv-loop μ-loop
-element-copy-out-chosen c = omega arith
-
 chosen-requires : tie.Need-chosen-requires Inv-loop μ-loop
 chosen-requires c κs = tt
-
-add-i : tie.Need-add-i Inv-loop μ-loop
-add-i c = omega arith
-
-loop-less : tie.Need-loop-less Inv-loop μ-loop
-loop-less c = omega arith
 
 loop-again : tie.Need-loop-again Inv-loop μ-loop
 loop-again c =
@@ -56,13 +44,6 @@ pub last-of-spec : {M : Type 1} → statement M
 last-of-spec =
     tie.close
     (tie.spec
-    Inv-loop
-    μ-loop
-    loop-holds
-    mul-chosen
-    element-copy-out-chosen
-    chosen-requires
-    add-i
-    loop-less
-    loop-again
+    Inv-loop μ-loop loop-holds (λ c. omega arith) (λ c. omega arith) chosen-requires (λ c. omega arith)
+    (λ c. omega arith) loop-again
     returns)

@@ -26,20 +26,11 @@ abbrev μ-loop : tie.MeasureT-loop
 loop-holds : tie.Need-loop-holds Inv-loop μ-loop
 loop-holds c = (omega arith, (up-start _ _, omega arith))
 
-point-at-requires : tie.Need-point-at-requires Inv-loop μ-loop
-point-at-requires c κs = omega (arith, c .before .before .pre)
-
 is-same-place-requires : tie.Need-is-same-place-requires Inv-loop μ-loop
 is-same-place-requires c κs = tt
 
 chosen-requires : tie.Need-chosen-requires Inv-loop μ-loop
 chosen-requires c κs = tt
-
-add-i : tie.Need-add-i Inv-loop μ-loop
-add-i c = omega arith
-
-loop-less : tie.Need-loop-less Inv-loop μ-loop
-loop-less c = omega arith
 
 loop-again : tie.Need-loop-again Inv-loop μ-loop
 loop-again c =
@@ -63,13 +54,6 @@ pub seat-of-spec : {M : Type 1} → statement M
 seat-of-spec =
     tie.close
     (tie.spec
-    Inv-loop
-    μ-loop
-    loop-holds
-    point-at-requires
-    is-same-place-requires
-    chosen-requires
-    add-i
-    loop-less
-    loop-again
+    Inv-loop μ-loop loop-holds (λ c κs. omega (arith, c .before .before .pre)) is-same-place-requires chosen-requires
+    (λ c. omega arith) (λ c. omega arith) loop-again
     returns)

@@ -5,21 +5,12 @@ use borrow.Author.Needs.{needs}
 use Rattle.moves.proofs.weight_of.Statement.{statement}
 use Rattle.moves.proofs.weight_of.Tie as tie
 
-is-horizontal-requires : tie.Need-is-horizontal-requires
-is-horizontal-requires c κs = search needs
-
-cast-result : tie.Need-cast-result
-cast-result c = search needs
-
 returns : tie.Need-returns
 returns c = (weigh-flat _ _ _ (c .before .before .is-horizontal .ensures) (c .before .if1 .taken), search needs)
-
-cast-result-2 : tie.Need-cast-result-2
-cast-result-2 c = search needs
 
 returns-2 : tie.Need-returns-2
 returns-2 c = (weigh-steep _ _ _ (c .before .before .is-horizontal .ensures) (c .before .if1 .left), search needs)
 
 pub weight-of-spec : {M : Type 1} → statement M
 weight-of-spec =
-    tie.close (tie.spec is-horizontal-requires cast-result returns cast-result-2 returns-2)
+    tie.close (tie.spec (λ c κs. search needs) (λ c. search needs) returns (λ c. search needs) returns-2)

@@ -48,10 +48,6 @@ pub is-near-box-spec : {M : Type 1} → statement M
 is-near-box-spec =
     tie.close
     (tie.spec
-    (λ c κs. search needs)
-    (λ c κs. search needs)
-    returns
-    (λ c κs. search needs)
-    (λ c κs. search needs)
+    (λ c κs. search needs) (λ c κs. search needs) returns (λ c κs. search needs) (λ c κs. search needs)
     (λ c. search needs)
     returns-2)

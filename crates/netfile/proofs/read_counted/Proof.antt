@@ -57,11 +57,6 @@ pub read-counted-spec : {M : Type 1} → statement M
 read-counted-spec =
     tie.close
     (tie.spec
-    (λ c κs. search needs)
-    (λ c. search needs)
-    take-lists-requires
-    (λ c. search needs)
-    (λ c. search needs)
-    (λ c. search needs)
-    returns
+    (λ c κs. search needs) (λ c. search needs) take-lists-requires (λ c. search needs) (λ c. search needs)
+    (λ c. search needs) returns
     returns-2)

@@ -86,14 +86,7 @@ pub by-first-spec : {M : Type 1} → statement M
 by-first-spec =
     tie.close
     (tie.spec
-    Inv-loop
-    μ-loop
-    loop-holds
-    (λ c κs. omega arith)
+    Inv-loop μ-loop loop-holds (λ c κs. omega arith)
     (λ c κs. tt)
-    charge-requires
-    returns
-    (λ c. omega arith)
-    (λ c. omega arith)
-    loop-again
+    charge-requires returns (λ c. omega arith) (λ c. omega arith) loop-again
     returns-2)

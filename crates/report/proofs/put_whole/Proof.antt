@@ -61,11 +61,6 @@ pub put-whole-spec : {M : Type 1} → statement M
 put-whole-spec =
     tie.close
     (tie.spec
-    (λ c κs. search needs)
-    (λ c κs. search needs)
-    put-decimal-requires
-    (λ c. search needs)
-    returns
-    put-decimal-requires-2
-    (λ c. search needs)
+    (λ c κs. search needs) (λ c κs. search needs) put-decimal-requires (λ c. search needs) returns
+    put-decimal-requires-2 (λ c. search needs)
     returns-2)

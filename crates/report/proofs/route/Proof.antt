@@ -108,19 +108,7 @@ pub route-spec : {M : Type 1} → statement M
 route-spec =
     tie.close
     (tie.spec
-    (λ c. search needs)
-    (λ c. search needs)
-    (λ c κs. search needs)
-    (λ c. search needs)
-    mul-m
-    mul-k
-    array-share-prefix-pins
-    slice-aggregate-trees-text
-    array-share-prefix-macros
-    slice-aggregate-trees-text-2
-    trees-text-requires
-    (λ c. search needs)
-    (λ c κs. search needs)
-    (λ c κs. search needs)
-    returns
+    (λ c. search needs) (λ c. search needs) (λ c κs. search needs) (λ c. search needs) mul-m mul-k
+    array-share-prefix-pins slice-aggregate-trees-text array-share-prefix-macros slice-aggregate-trees-text-2
+    trees-text-requires (λ c. search needs) (λ c κs. search needs) (λ c κs. search needs) returns
     returns-2)

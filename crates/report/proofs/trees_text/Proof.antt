@@ -105,14 +105,6 @@ pub trees-text-spec : {M : Type 1} → statement M
 trees-text-spec =
     tie.close
     (tie.spec
-    (λ c κs. search needs)
-    (λ c. search needs)
-    (λ c κs. search needs)
-    (λ c. search needs)
-    (λ c. search needs)
-    tree-requires
-    (λ c. search needs)
-    (λ c κs. search needs)
-    (λ c κs. search needs)
-    returns
+    (λ c κs. search needs) (λ c. search needs) (λ c κs. search needs) (λ c. search needs) (λ c. search needs)
+    tree-requires (λ c. search needs) (λ c κs. search needs) (λ c κs. search needs) returns
     returns-2)

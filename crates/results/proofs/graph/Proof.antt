@@ -26,9 +26,6 @@ use borrow.Author.Needs.{needs}
 use Rattle.results.proofs.graph.Statement.{statement}
 use Rattle.results.proofs.graph.Tie as tie
 
-vertices-requires : tie.Need-vertices-requires
-vertices-requires c κs = omega (arith, c .before .pre .1)
-
 abbrev start : tie.After-vertices → tie.Start
 start d = d .before .before
 
@@ -92,11 +89,6 @@ pub graph-spec : {M : Type 1} → statement M
 graph-spec =
     tie.close
     (tie.spec
-    vertices-requires
-    mul-edges
-    slice-reshare-prefix-edges
-    slice-aggregate-edges
-    edges-requires
-    (λ c. search needs)
-    (λ c. search needs)
+    (λ c κs. omega (arith, c .before .pre .1)) mul-edges slice-reshare-prefix-edges slice-aggregate-edges edges-requires
+    (λ c. search needs) (λ c. search needs)
     returns)

@@ -56,11 +56,6 @@ pub best-tree-spec : {M : Type 1} → statement M
 best-tree-spec =
     tie.close
     (tie.spec
-    (λ c κs. search needs)
-    (λ c. search needs)
-    best-tree-requires
-    (λ c. search needs)
-    (λ c. search needs)
-    (λ c. search needs)
-    returns
+    (λ c κs. search needs) (λ c. search needs) best-tree-requires (λ c. search needs) (λ c. search needs)
+    (λ c. search needs) returns
     returns-2)

@@ -51,10 +51,5 @@ pub both-trees-spec : {M : Type 1} → statement M
 both-trees-spec =
     tie.close
     (tie.spec
-    (λ c κs. search needs)
-    (λ c. search needs)
-    both-trees-requires
-    (λ c. search needs)
-    (λ c. search needs)
-    returns
+    (λ c κs. search needs) (λ c. search needs) both-trees-requires (λ c. search needs) (λ c. search needs) returns
     returns-2)

@@ -53,10 +53,5 @@ pub delay-spec : {M : Type 1} → statement M
 delay-spec =
     tie.close
     (tie.spec
-    (λ c κs. search needs)
-    (λ c. search needs)
-    delay-requires
-    (λ c. search needs)
-    (λ c. search needs)
-    returns
+    (λ c κs. search needs) (λ c. search needs) delay-requires (λ c. search needs) (λ c. search needs) returns
     returns-2)

@@ -49,11 +49,6 @@ pub graph-spec : {M : Type 1} → statement M
 graph-spec =
     tie.close
     (tie.spec
-    (λ c κs. search needs)
-    (λ c. search needs)
-    graph-requires
-    (λ c. search needs)
-    (λ c. search needs)
-    (λ c. search needs)
-    returns
+    (λ c κs. search needs) (λ c. search needs) graph-requires (λ c. search needs) (λ c. search needs)
+    (λ c. search needs) returns
     returns-2)

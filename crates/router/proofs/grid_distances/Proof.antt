@@ -53,10 +53,5 @@ pub grid-distances-spec : {M : Type 1} → statement M
 grid-distances-spec =
     tie.close
     (tie.spec
-    (λ c κs. search needs)
-    (λ c. search needs)
-    grid-distances-requires
-    (λ c. search needs)
-    (λ c. search needs)
-    returns
+    (λ c κs. search needs) (λ c. search needs) grid-distances-requires (λ c. search needs) (λ c. search needs) returns
     returns-2)

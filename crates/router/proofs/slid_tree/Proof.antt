@@ -53,10 +53,5 @@ pub slid-tree-spec : {M : Type 1} → statement M
 slid-tree-spec =
     tie.close
     (tie.spec
-    (λ c κs. search needs)
-    (λ c. search needs)
-    slid-tree-requires
-    (λ c. search needs)
-    (λ c. search needs)
-    returns
+    (λ c κs. search needs) (λ c. search needs) slid-tree-requires (λ c. search needs) (λ c. search needs) returns
     returns-2)

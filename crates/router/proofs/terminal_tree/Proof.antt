@@ -51,10 +51,5 @@ pub terminal-tree-spec : {M : Type 1} → statement M
 terminal-tree-spec =
     tie.close
     (tie.spec
-    (λ c κs. search needs)
-    (λ c. search needs)
-    terminal-tree-requires
-    (λ c. search needs)
-    (λ c. search needs)
-    returns
+    (λ c κs. search needs) (λ c. search needs) terminal-tree-requires (λ c. search needs) (λ c. search needs) returns
     returns-2)

@@ -51,10 +51,5 @@ pub wires-spec : {M : Type 1} → statement M
 wires-spec =
     tie.close
     (tie.spec
-    (λ c κs. search needs)
-    (λ c. search needs)
-    wires-requires
-    (λ c. search needs)
-    (λ c. search needs)
-    returns
+    (λ c κs. search needs) (λ c. search needs) wires-requires (λ c. search needs) (λ c. search needs) returns
     returns-2)

@@ -37,10 +37,6 @@ pub put-shifted-spec : {M : Type 1} → statement M
 put-shifted-spec =
     tie.close
     (tie.spec
-    (λ c κs. search needs)
-    shifted-point-requires
-    (λ c κs. search needs)
-    shifted-point-requires-2
-    (λ c κs. search needs)
+    (λ c κs. search needs) shifted-point-requires (λ c κs. search needs) shifted-point-requires-2 (λ c κs. search needs)
     (λ c. search needs)
     returns)

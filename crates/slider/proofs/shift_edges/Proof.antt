@@ -65,12 +65,6 @@ pub shift-edges-spec : {M : Type 1} → statement M
 shift-edges-spec =
     tie.close
     (tie.spec
-    Inv-loop
-    μ-loop
-    loop-holds
-    put-shifted-requires
-    (λ c. omega arith)
-    (λ c. omega arith)
-    loop-again
+    Inv-loop μ-loop loop-holds put-shifted-requires (λ c. omega arith) (λ c. omega arith) loop-again
     (λ c. c .before .loop .inv .2)
     returns)

@@ -94,16 +94,7 @@ pub slide-spec : {M : Type 1} → statement M
 slide-spec =
     tie.close
     (tie.spec
-    (λ c. search needs)
-    bend-tree-requires
-    (λ c. search needs)
-    returns
-    (λ c. search needs)
-    (λ c. search needs)
-    sort-edges-requires
-    (λ c. search needs)
-    rounds-requires
-    (λ c. search needs)
-    (λ c κs. search needs)
+    (λ c. search needs) bend-tree-requires (λ c. search needs) returns (λ c. search needs) (λ c. search needs)
+    sort-edges-requires (λ c. search needs) rounds-requires (λ c. search needs) (λ c κs. search needs)
     (λ c. search needs)
     returns-2)

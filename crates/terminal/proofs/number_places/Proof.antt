@@ -49,14 +49,7 @@ pub number-places-spec : {M : Type 1} → statement M
 number-places-spec =
     tie.close
     (tie.spec
-    Inv-loop
-    μ-loop
-    loop-holds
-    (λ c κs. omega arith)
+    Inv-loop μ-loop loop-holds (λ c κs. omega arith)
     (λ c κs. let s = c .before .before .before in (s .pre .0 .1, s .pre .1 .0))
-    (λ c. omega arith)
-    (λ c. omega arith)
-    (λ c. omega arith)
-    (λ c. omega arith)
-    loop-again
+    (λ c. omega arith) (λ c. omega arith) (λ c. omega arith) (λ c. omega arith) loop-again
     returns)

@@ -65,9 +65,6 @@ returns c =
     let h = c .before .before in
     offer-equal (seen h) (size h) (h .hang-at .result) (known h) _ _ _ (c .if1 .taken)
 
-sub-rate : tie.Need-sub-rate
-sub-rate c = omega (arith, c .before .if1 .left)
-
 weight-of-requires : tie.Need-weight-of-requires
 weight-of-requires c κs = tt
 
@@ -155,20 +152,7 @@ pub offer-spec : {M : Type 1} → statement M
 offer-spec =
     tie.close
     (tie.spec
-    hang-at-requires
-    returns
-    sub-rate
-    weight-of-requires
-    mul-rate
-    point-at-requires
-    mul-t19
-    is-better-requires
-    returns-2
-    is-held-requires
-    returns-3
-    bar-of-requires
-    reach-requires
-    mul-t19-2
-    is-better-requires-2
-    returns-4
+    hang-at-requires returns (λ c. omega (arith, c .before .if1 .left)) weight-of-requires mul-rate point-at-requires
+    mul-t19 is-better-requires returns-2 is-held-requires returns-3 bar-of-requires reach-requires mul-t19-2
+    is-better-requires-2 returns-4
     returns-5)

@@ -45,12 +45,6 @@ offer-both-requires-2 c κs = (
   (c .before .before .before .before .pre .1 .0, c .before .before .before .before .pre .1 .1 .1 .1),
 )
 
-add-k : tie.Need-add-k Inv-loop μ-loop
-add-k c = omega (arith, c .before .before .before .before .before .pre .0, c .before .before .if1 .taken)
-
-loop-less : tie.Need-loop-less Inv-loop μ-loop
-loop-less c = omega (arith, c .before .before .if1 .taken)
-
 loop-again : tie.Need-loop-again Inv-loop μ-loop
 loop-again c =
     let s = c .before .before .before .before .before .args in (
@@ -69,12 +63,7 @@ pub search-by-spec : {M : Type 1} → statement M
 search-by-spec =
     tie.close
     (tie.spec
-    Inv-loop
-    μ-loop
-    loop-holds
-    offer-both-requires
-    offer-both-requires-2
-    add-k
-    loop-less
-    loop-again
+    Inv-loop μ-loop loop-holds offer-both-requires offer-both-requires-2
+    (λ c. omega (arith, c .before .before .before .before .before .pre .0, c .before .before .if1 .taken))
+    (λ c. omega (arith, c .before .before .if1 .taken)) loop-again
     returns)

@@ -18,17 +18,8 @@ abbrev μ-loop : tie.MeasureT-loop
 loop-holds : tie.Need-loop-holds Inv-loop μ-loop
 loop-holds c = (omega arith, seek-none _ _)
 
-is-taken-requires : tie.Need-is-taken-requires Inv-loop μ-loop
-is-taken-requires c κs = omega arith
-
 returns : tie.Need-returns Inv-loop μ-loop
 returns c = seek-stop _ _ _ _ (c .before .before .before .loop .inv .1) (omega arith) (sym (c .before .is-taken .ensures) ∙ c .if1 .taken)
-
-add-i : tie.Need-add-i Inv-loop μ-loop
-add-i c = omega arith
-
-loop-less : tie.Need-loop-less Inv-loop μ-loop
-loop-less c = omega arith
 
 loop-again : tie.Need-loop-again Inv-loop μ-loop
 loop-again c = (omega arith, seek-next _ _ _ _ (c .before .before .before .loop .inv .1) (omega arith) (sym (c .before .is-taken .ensures) ∙ c .if1 .left))
@@ -40,12 +31,5 @@ pub find-taken-spec : {M : Type 1} → statement M
 find-taken-spec =
     tie.close
     (tie.spec
-    Inv-loop
-    μ-loop
-    loop-holds
-    is-taken-requires
-    returns
-    add-i
-    loop-less
-    loop-again
+    Inv-loop μ-loop loop-holds (λ c κs. omega arith) returns (λ c. omega arith) (λ c. omega arith) loop-again
     returns-2)

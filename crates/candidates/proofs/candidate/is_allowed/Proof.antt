@@ -6,21 +6,6 @@ use borrow.Author.Needs.{needs}
 use Rattle.candidates.proofs.candidate.is_allowed.Statement.{statement}
 use Rattle.candidates.proofs.candidate.is_allowed.Tie as tie
 
-point-at-requires : tie.Need-point-at-requires
-point-at-requires c κs = search needs
-
-point-at-requires-2 : tie.Need-point-at-requires-2
-point-at-requires-2 c κs = search needs
-
-point-at-requires-3 : tie.Need-point-at-requires-3
-point-at-requires-3 c κs = search needs
-
-sees-requires : tie.Need-sees-requires
-sees-requires c κs = search needs
-
-is-dropped-requires : tie.Need-is-dropped-requires
-is-dropped-requires c κs = search needs
-
 returns : tie.Need-returns
 returns c =
     let s = c .before .before in
@@ -38,10 +23,6 @@ pub is-allowed-spec : {M : Type 1} → statement M
 is-allowed-spec =
     tie.close
     (tie.spec
-    point-at-requires
-    point-at-requires-2
-    point-at-requires-3
-    sees-requires
-    is-dropped-requires
+    (λ c κs. search needs) (λ c κs. search needs) (λ c κs. search needs) (λ c κs. search needs) (λ c κs. search needs)
     returns
     returns-2)

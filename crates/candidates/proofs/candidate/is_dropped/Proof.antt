@@ -5,11 +5,8 @@ use borrow.Author.Needs.{needs}
 use Rattle.candidates.proofs.candidate.is_dropped.Statement.{statement}
 use Rattle.candidates.proofs.candidate.is_dropped.Tie as tie
 
-find-taken-requires : tie.Need-find-taken-requires
-find-taken-requires c κs = search needs
-
 returns : tie.Need-returns
 returns c = dropped-is _ _ _ _ _ _ _ (c .find-taken .ensures)
 
 pub is-dropped-spec : {M : Type 1} → statement M
-is-dropped-spec = tie.close (tie.spec find-taken-requires returns)
+is-dropped-spec = tie.close (tie.spec (λ c κs. search needs) returns)

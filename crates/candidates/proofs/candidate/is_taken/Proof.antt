@@ -8,14 +8,8 @@ use Rattle.candidates.proofs.candidate.is_taken.Tie as tie
 returns : tie.Need-returns
 returns c = taken-self _ _ _ _ _ _ (c .if1 .taken)
 
-point-at-requires : tie.Need-point-at-requires
-point-at-requires c κs = search needs
-
-is-same-place-requires : tie.Need-is-same-place-requires
-is-same-place-requires c κs = search needs
-
 returns-2 : tie.Need-returns-2
 returns-2 c = taken-other _ _ _ _ _ _ (c .before .before .if1 .left) _ _ (c .before .point-at .ensures) (c .is-same-place .ensures)
 
 pub is-taken-spec : {M : Type 1} → statement M
-is-taken-spec = tie.close (tie.spec returns point-at-requires is-same-place-requires returns-2)
+is-taken-spec = tie.close (tie.spec returns (λ c κs. search needs) (λ c κs. search needs) returns-2)

@@ -10,17 +10,8 @@ use Rattle.candidates.proofs.candidate.may_gain.Tie as tie
 returns : tie.Need-returns
 returns c = may-gain-not _ _ _ _ _ _ (omega (arith, c .if1 .taken))
 
-sub-left : tie.Need-sub-left
-sub-left c = search needs
-
 returns-2 : tie.Need-returns-2
 returns-2 c = may-gain-not _ _ _ _ _ _ (omega (arith, c .if2 .taken))
-
-sub-is-near-box : tie.Need-sub-is-near-box
-sub-is-near-box c = search needs
-
-is-near-box-requires : tie.Need-is-near-box-requires
-is-near-box-requires c κs = search needs
 
 returns-3 : tie.Need-returns-3
 returns-3 c =
@@ -28,4 +19,4 @@ returns-3 c =
     ∙ may-gain-is _ _ _ _ _ _ (omega (arith, c .before .if2 .left, c .before .before .if1 .left))
 
 pub may-gain-spec : {M : Type 1} → statement M
-may-gain-spec = tie.close (tie.spec returns sub-left returns-2 sub-is-near-box is-near-box-requires returns-3)
+may-gain-spec = tie.close (tie.spec returns (λ c. search needs) returns-2 (λ c. search needs) (λ c κs. search needs) returns-3)

@@ -6,17 +6,11 @@ use borrow.Author.Needs.{needs}
 use Rattle.candidates.proofs.candidate.sees.Statement.{statement}
 use Rattle.candidates.proofs.candidate.sees.Tie as tie
 
-is-clear-requires : tie.Need-is-clear-requires
-is-clear-requires c κs = search needs
-
 returns : tie.Need-returns
 returns c = sees-yes _ _ _ _ (sym (c .before .is-clear .ensures) ∙ c .if1 .taken)
-
-is-clear-requires-2 : tie.Need-is-clear-requires-2
-is-clear-requires-2 c κs = search needs
 
 returns-2 : tie.Need-returns-2
 returns-2 c = c .is-clear2 .ensures ∙ sees-no _ _ _ _ (sym (c .before .before .is-clear .ensures) ∙ c .before .if1 .left)
 
 pub sees-spec : {M : Type 1} → statement M
-sees-spec = tie.close (tie.spec is-clear-requires returns is-clear-requires-2 returns-2)
+sees-spec = tie.close (tie.spec (λ c κs. search needs) returns (λ c κs. search needs) returns-2)

@@ -80,13 +80,7 @@ load-of-spec =
     Inv-loop
     μ-loop
     (λ c κs. tt)
-    loop-holds
-    (λ c κs. omega arith)
+    loop-holds (λ c κs. omega arith)
     (λ c κs. tt)
-    (λ c κs. omega arith)
-    unsigned-requires
-    returns
-    (λ c. omega arith)
-    (λ c. omega arith)
-    loop-again
+    (λ c κs. omega arith) unsigned-requires returns (λ c. omega arith) (λ c. omega arith) loop-again
     returns-2)

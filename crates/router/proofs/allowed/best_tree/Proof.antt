@@ -165,15 +165,6 @@ pub best-tree-spec : {M : Type 1} → statement M
 best-tree-spec =
     tie.close
     (tie.spec
-    returns
-    mul-lines
-    add-lines
-    mul-n
-    mul-n-2
-    returns-2
-    best-tree-requires
-    cast-t20
-    cast-t21
-    (λ c. search needs)
+    returns mul-lines add-lines mul-n mul-n-2 returns-2 best-tree-requires cast-t20 cast-t21 (λ c. search needs)
     (λ c. search needs)
     returns-3)

@@ -145,17 +145,6 @@ pub slid-tree-spec : {M : Type 1} → statement M
 slid-tree-spec =
     tie.close
     (tie.spec
-    wires-short-requires
-    returns
-    (λ c. search needs)
-    (λ c κs. search needs)
-    (λ c. search needs)
-    total-requires
-    (λ c. search needs)
-    metal-requires
-    (λ c. search needs)
-    give-requires
-    cast-t23
-    cast-t24
-    (λ c. search needs)
+    wires-short-requires returns (λ c. search needs) (λ c κs. search needs) (λ c. search needs) total-requires
+    (λ c. search needs) metal-requires (λ c. search needs) give-requires cast-t23 cast-t24 (λ c. search needs)
     returns-2)

@@ -71,15 +71,6 @@ pub moved-spec : {M : Type 1} → statement M
 moved-spec =
     tie.close
     (tie.spec
-    (λ c. search needs)
-    raised-requires
-    (λ c. search needs)
-    lowered-requires
-    (λ c. search needs)
-    raised-requires-2
-    (λ c. search needs)
-    lowered-requires-2
-    returns
-    returns-2
-    returns-3
+    (λ c. search needs) raised-requires (λ c. search needs) lowered-requires (λ c. search needs) raised-requires-2
+    (λ c. search needs) lowered-requires-2 returns returns-2 returns-3
     returns-4)

@@ -100,11 +100,5 @@ pub round-spec : {M : Type 1} → statement M
 round-spec =
     tie.close
     (tie.spec
-    settle-requires
-    (λ c κs. search needs)
-    choice-requires
-    (λ c. search needs)
-    returns
-    make-requires
-    (λ c. search needs)
+    settle-requires (λ c κs. search needs) choice-requires (λ c. search needs) returns make-requires (λ c. search needs)
     returns-2)

@@ -99,14 +99,6 @@ pub rounds-spec : {M : Type 1} → statement M
 rounds-spec =
     tie.close
     (tie.spec
-    Inv-loop
-    μ-loop
-    loop-holds
-    round-requires
-    (λ c. omega arith)
-    same-length
-    returns
-    (λ c. omega arith)
-    loop-again
+    Inv-loop μ-loop loop-holds round-requires (λ c. omega arith) same-length returns (λ c. omega arith) loop-again
     same-length-2
     returns-2)

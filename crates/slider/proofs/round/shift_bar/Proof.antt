@@ -61,10 +61,5 @@ pub shift-bar-spec : {M : Type 1} → statement M
 shift-bar-spec =
     tie.close
     (tie.spec
-    (λ c κs. search needs)
-    shift-edges-requires
-    (λ c. search needs)
-    returns
-    shift-edges-requires-2
-    (λ c. search needs)
+    (λ c κs. search needs) shift-edges-requires (λ c. search needs) returns shift-edges-requires-2 (λ c. search needs)
     returns-2)
