@@ -1,5 +1,5 @@
--- What every operation answers for a net's lists, and what a tree's operations give, each as one value: a worked net unfolds it, and with it
--- all that it rests on, down to the graph.
+-- What every operation answers for a net's lists, and what a tree's operations give, each as one value: a worked net unfolds it, and with
+-- it all that it rests on, down to the graph.
 -- Assumes nothing.
 use mathlib.Core.List.{List}
 use Prim.Native.Nat.{ℕ, _*_}

@@ -15,7 +15,7 @@
 --              clear a b ms                                      the box of two places meets no interior of ms
 --   Flat       placesOf, macrosOf  placeAt, macroAt              the entries that a flat list holds, all of them and the i-th
 --              placeNumbers p                                    a place as its two numbers
---              flatPlaces, flatMacros                            entries as a flat list
+--              flatPlaces                                        places as a flat list
 --   Rank       InOrder s n         rank s n p                    the first n places of a flat list are in order; how many come before p
 pub mod Place
 pub mod Distance
