@@ -1,4 +1,4 @@
--- The price among the operations: rules B6 and C75. What a list of bands charges for metal stands in `price` (specs/Price.antt).
+-- The price among the operations: rule C75. What a list of bands charges for metal stands in `price` (specs/Price.antt).
 use mathlib.Core.List.{List}
 use Prim.Native.Nat.{ℕ}
 use lib.IntN.{ℤ}

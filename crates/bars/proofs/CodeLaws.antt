@@ -1,4 +1,4 @@
--- The code's small steps are those of the definitions.
+-- What the code offers for a bar is what the definitions offer.
 -- Assumes nothing.
 use mathlib.Core.Path.{_≡_, refl, sym, ap, ap₂, _∙_}
 use mathlib.Core.Bool.{Bool, true, false, not}

@@ -1,4 +1,4 @@
--- What is promised of the number that a call gives as the cost of its tree (L11, L14, L15), and how many edges there can be.
+-- What is promised of the number that a call gives as the cost of its tree (L11, L14), and how many edges there can be.
 -- Assumes nothing.
 use mathlib.Core.List.{List}
 use Prim.Native.Nat.{ℕ, _+_, _*_, _≤_, _<_}

@@ -1,4 +1,4 @@
--- The code's small steps are those of the definitions.
+-- What the code asks of a bar is what the definitions ask.
 -- Assumes nothing.
 use mathlib.Core.Path.{_≡_, refl, sym, ap, ap₂, _∙_}
 use mathlib.Core.Bool.{Bool, true, false, not, _&&_}

@@ -21,7 +21,7 @@
 --   Answer     number f                                  the number of a refusal
 --   Counts     counted w m k, countsOf w pins macros     what the code's check gives: m, k and the weights
 --              pointCount counts                         m + 4k
---   Tests      pinsMiscounted .. weightsWrong            the tests, 11 to 18
+--   Tests      pinsMiscounted .. weightsWrong            the tests, 11 to 14, 17 and 18
 --   Allowed    Allowed net                               an allowed net in words, for the theory above
 --   Order      SamePins, SameMacros                      the same entries in another order
 --              SamePlaces                                pins at the same places, in another order and with other loads

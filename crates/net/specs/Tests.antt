@@ -1,4 +1,4 @@
--- The tests of a net, each alone: rules C11 to C18. Crate checks has them in the order of C60.
+-- The tests of a net, each alone: rules C11 to C14, C17 and C18. Crate checks has them, C15 and C16 in the order of C60.
 use mathlib.Core.Bool.{Bool, not, _||_}
 use mathlib.Core.List.{List}
 use Prim.Native.Nat.{_%_}

@@ -1,4 +1,4 @@
--- The middle of three numbers lies between each two of them and is one of them, in whatever order they are named.
+-- The middle of three numbers lies between each two of them and is one of them.
 -- Assumes nothing.
 use mathlib.Core.Path.{_≡_}
 use mathlib.Core.Logic.{_⊎_, inl, inr}
