@@ -3,7 +3,7 @@ use mathlib.Core.List.{List}
 use Prim.Native.Nat.{ℕ, _+_, _*_}
 use lib.ListN.{getD}
 use Rattle.lists.specs.Entries.{twos}
-use Rattle.price.specs.declared.Band.{Band}
+use Rattle.bands.specs.declared.Band.{Band}
 
 -- B1: a band by its limit and its rate
 abbrev pub band : ℕ → ℕ → Band

@@ -11,8 +11,8 @@ use lib.Dec.{ltb}
 use lib.ListN.{drop}
 use Rattle.lists.specs.Member.{_∈_, here, there}
 use Rattle.lists.proofs.TestLaws.{or-none, or-neither}
-use Rattle.price.specs.declared.Band.{Band}
-use Rattle.price.specs.Order.{WellKept, stepsBack, fallsAfter, fallsBack}
+use Rattle.bands.specs.declared.Band.{Band}
+use Rattle.bands.specs.Order.{WellKept, stepsBack, fallsAfter, fallsBack}
 
 -- the band c does not fall back from b
 pub record Onward (b c : Band) : Type 0 where

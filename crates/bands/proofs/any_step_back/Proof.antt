@@ -1,4 +1,4 @@
--- `price::any_step_back` meets its contract. The loop's invariant: the bands that are left decide. The measure is how many they are.
+-- `bands::any_step_back` meets its contract. The loop's invariant: the bands that are left decide. The measure is how many they are.
 -- Assumes nothing.
 use mathlib.Core.Path.{_≡_, refl, sym, ap₂, _∙_}
 use Prim.Native.Nat.{_+_, _≤_, _-_}
@@ -6,12 +6,12 @@ use native.Mathlib.Omega.{arith}
 use lib.ListN.{drop}
 use lib.Seq.{drop-drop}
 use denote.Ref.{now}
-use Rattle.price.specs.Band.{bandsOf, bandAt}
-use Rattle.price.specs.Order.{stepsBack, fallsBack}
-use Rattle.price.proofs.BandLaws.{bands-next, bands-end}
-use Rattle.price.proofs.OrderLaws.{back-hit, back-miss, back-end}
-use Rattle.price.proofs.any_step_back.Statement.{statement}
-use Rattle.price.proofs.any_step_back.Tie as tie
+use Rattle.bands.specs.Band.{bandsOf, bandAt}
+use Rattle.bands.specs.Order.{stepsBack, fallsBack}
+use Rattle.bands.proofs.BandLaws.{bands-next, bands-end}
+use Rattle.bands.proofs.OrderLaws.{back-hit, back-miss, back-end}
+use Rattle.bands.proofs.any_step_back.Statement.{statement}
+use Rattle.bands.proofs.any_step_back.Tie as tie
 
 abbrev Inv-loop : tie.InvT-loop
 Inv-loop bands k i₀ i = (i ≤ k) × (fallsBack (bandsOf bands) ≡ fallsBack (drop i (bandsOf bands)))

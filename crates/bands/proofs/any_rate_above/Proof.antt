@@ -1,4 +1,4 @@
--- `price::any_rate_above` meets its contract. The loop's invariant: the bands that are left decide. The measure is how many they are.
+-- `bands::any_rate_above` meets its contract. The loop's invariant: the bands that are left decide. The measure is how many they are.
 -- Assumes nothing.
 use mathlib.Core.Path.{_≡_, refl, sym, ap, _∙_}
 use Prim.Native.Nat.{_≤_, _-_}
@@ -7,11 +7,11 @@ use lib.ListN.{drop}
 use denote.Ref.{now}
 use Rattle.lists.specs.Any.{any}
 use Rattle.lists.proofs.AnyLaws.{any-hit, any-miss, any-end}
-use Rattle.price.specs.Band.{bandsOf, bandAt}
-use Rattle.price.specs.Price.{rateAbove}
-use Rattle.price.proofs.BandLaws.{bands-next, bands-end}
-use Rattle.price.proofs.any_rate_above.Statement.{statement}
-use Rattle.price.proofs.any_rate_above.Tie as tie
+use Rattle.bands.specs.Band.{bandsOf, bandAt}
+use Rattle.bands.specs.Tests.{rateAbove}
+use Rattle.bands.proofs.BandLaws.{bands-next, bands-end}
+use Rattle.bands.proofs.any_rate_above.Statement.{statement}
+use Rattle.bands.proofs.any_rate_above.Tie as tie
 
 abbrev Inv-loop : tie.InvT-loop
 Inv-loop bands k i₀ i = (i ≤ k) × (any rateAbove (bandsOf bands) ≡ any rateAbove (drop i (bandsOf bands)))

@@ -5,7 +5,7 @@ use mathlib.Core.List.{List, [], _∷_}
 use Prim.Native.Nat.{ℕ, _+_, _*_, _≤_, _<_}
 use lib.ListN.{length, drop}
 use Rattle.lists.proofs.EntryLaws.{twos-next, twos-end}
-use Rattle.price.specs.Band.{band, bandsOf, bandAt}
+use Rattle.bands.specs.Band.{band, bandsOf, bandAt}
 
 pub bands-next : (s : List ℕ) (i : ℕ) → i * 2 + 2 ≤ length s → drop i (bandsOf s) ≡ bandAt s i ∷ drop (i + 1) (bandsOf s)
 unfolding bandsOf

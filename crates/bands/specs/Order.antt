@@ -4,7 +4,7 @@ use mathlib.Core.List.{List, [], _∷_}
 use Prim.Native.Nat.{_<_, _≤_}
 use lib.Dec.{ltb}
 use Rattle.lists.specs.Member.{_∈_}
-use Rattle.price.specs.declared.Band.{Band}
+use Rattle.bands.specs.declared.Band.{Band}
 
 -- limits rise strictly down the list
 abbrev pub Rising : List Band → Type 0
