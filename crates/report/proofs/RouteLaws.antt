@@ -35,7 +35,7 @@ use Rattle.netfile.proofs.RoundTrip.{accepted-is-ours}
 use Rattle.answers.specs.Graph.{pointCount}
 use Rattle.answers.specs.Both.{bothAnswer, bothGiven, bothTrees}
 use Rattle.answers.proofs.AnswerLaws.{only-given, room-enough}
-use Rattle.report.specs.Text.{treeText, refusedText}
+use Rattle.text.specs.Text.{treeText, refusedText}
 use Rattle.report.specs.Route.{treesText, answerText, routeText}
 
 -- what an answer gives is one thing, part by part

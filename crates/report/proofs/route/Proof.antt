@@ -19,9 +19,9 @@ use Rattle.checks.specs.Check.{told}
 use Rattle.blocks.specs.Sizes.{pinListBound, macroListBound}
 use Rattle.decoded.specs.Held.{pinsIn, macrosIn}
 use Rattle.netfile.specs.Read.{readFile}
-use Rattle.report.specs.Text.{refusedText}
+use Rattle.text.specs.Text.{refusedText}
 use Rattle.report.specs.Route.{treesText}
-use Rattle.report.proofs.PutLaws.{filled-as}
+use Rattle.text.proofs.PutLaws.{filled-as}
 use Rattle.report.proofs.RouteLaws.{Counted, counted, lists, net-is, front, route-given, route-refused}
 use borrow.Author.Needs.{needs}
 use Rattle.report.proofs.route.Statement.{statement}

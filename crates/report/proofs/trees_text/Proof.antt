@@ -24,7 +24,7 @@ use Rattle.answers.specs.Both.{bothAnswer, bothTrees}
 use Rattle.router.specs.Answers.{toldBoth}
 use Rattle.router.specs.Call.{BothCall}
 use Rattle.report.specs.Route.{treesText}
-use Rattle.report.proofs.PutLaws.{filled-as}
+use Rattle.text.proofs.PutLaws.{filled-as}
 use Rattle.report.proofs.RouteLaws.{same-four, Counted, counted, both-given, edges-fit, edges-back, same-text}
 use borrow.Author.Needs.{needs}
 use Rattle.report.proofs.trees_text.Statement.{statement}

@@ -1,7 +1,7 @@
 -- `route::main` meets its contract: the text is a part of the buffer that it was put into.
 -- Assumes nothing.
 use borrow.Author.Needs.{needs}
-use Rattle.report.proofs.PutLaws.{filled-part}
+use Rattle.text.proofs.PutLaws.{filled-part}
 use Rattle.route.proofs.main.Statement.{statement}
 use Rattle.route.proofs.main.Tie as tie
 
