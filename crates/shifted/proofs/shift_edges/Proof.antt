@@ -1,4 +1,4 @@
--- `slider::shift_edges` meets its contract. The loop's invariant: the edges passed are put, after the move. The measure is how many are
+-- `shifted::shift_edges` meets its contract. The loop's invariant: the edges passed are put, after the move. The measure is how many are
 -- left.
 -- Assumes nothing.
 use mathlib.Core.Path.{_≡_, refl, _∙_}
@@ -9,10 +9,10 @@ use denote.Ref.{now}
 use Rattle.slide.specs.Bend.{Edge}
 use Rattle.slide.specs.Slide.{proper}
 use Rattle.straight.proofs.TableLaws.{within-small}
-use Rattle.slider.specs.Shift.{shiftedEdge}
-use Rattle.slider.proofs.ShiftedLaws.{Putting, putting-none, putting-more, putting-end, put-few}
-use Rattle.slider.proofs.shift_edges.Statement.{statement}
-use Rattle.slider.proofs.shift_edges.Tie as tie
+use Rattle.shifted.specs.Shift.{shiftedEdge}
+use Rattle.shifted.proofs.ShiftedLaws.{Putting, putting-none, putting-more, putting-end, put-few}
+use Rattle.shifted.proofs.shift_edges.Statement.{statement}
+use Rattle.shifted.proofs.shift_edges.Tie as tie
 
 abbrev Inv-loop : tie.InvT-loop
 Inv-loop pts n keys e lab m out₀ count₀ k₀ out count k =

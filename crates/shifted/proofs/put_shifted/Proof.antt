@@ -1,4 +1,4 @@
--- `slider::put_shifted` meets its contract: both ends after the move, and the edge of them.
+-- `shifted::put_shifted` meets its contract: both ends after the move, and the edge of them.
 -- Assumes nothing.
 use mathlib.Core.Path.{_≡_, ap, ap₂, _∙_, subst}
 use borrow.Author.Needs.{needs}
@@ -7,9 +7,9 @@ use denote.Ref.{now}
 use Rattle.plane.specs.declared.Place.{Place}
 use Rattle.slide.specs.Bend.{Edge}
 use Rattle.slide.specs.Slide.{proper}
-use Rattle.slider.specs.Shift.{shiftedAt, shiftedEdge, PutIf}
-use Rattle.slider.proofs.put_shifted.Statement.{statement}
-use Rattle.slider.proofs.put_shifted.Tie as tie
+use Rattle.shifted.specs.Shift.{shiftedAt, shiftedEdge, PutIf}
+use Rattle.shifted.proofs.put_shifted.Statement.{statement}
+use Rattle.shifted.proofs.put_shifted.Tie as tie
 
 shifted-point-requires : tie.Need-shifted-point-requires
 shifted-point-requires c κs = (c .first-end .ensures .1, rw (c .first-end .ensures .0) (c .before .pre .1 .0))

@@ -24,8 +24,8 @@ use Rattle.slide.specs.Slide.{shift, shiftEdge, proper, slide}
 use Rattle.straight.specs.Table.{firstEnd, secondEnd, edgeAt, run, edgesIn, Within}
 use Rattle.straight.proofs.RunLaws.{run-next, run-end, run-map, run-same}
 use Rattle.settled.specs.Settled.{edgesOf}
-use Rattle.slider.specs.declared.Shift.{Shift}
-use Rattle.slider.specs.Shift.{onLabel, placed, shiftedAt, shiftedEdge, shifted, PutIf}
+use Rattle.shifted.specs.declared.Shift.{Shift}
+use Rattle.shifted.specs.Shift.{onLabel, placed, shiftedAt, shiftedEdge, shifted, PutIf}
 
 -- A move by labels
 

@@ -1,4 +1,4 @@
--- `slider::place::moved` meets its contract: side by side.
+-- `shifted::place::moved` meets its contract: side by side.
 -- Assumes nothing.
 use mathlib.Core.Path.{ap, _∙_}
 use borrow.Author.Needs.{needs}
@@ -6,9 +6,9 @@ use mir.Syntax.{w32}
 use mir.Val.{toZ, ofZ}
 use mir.ValLaws.{toZ-ofZ}
 use Rattle.plane.proofs.Fits.{PlaceFits}
-use Rattle.slider.proofs.PlaceLaws.{fits-above, fits-below, fits-right, fits-left, is-above, is-below, is-right, is-left}
-use Rattle.slider.proofs.place.moved.Statement.{statement}
-use Rattle.slider.proofs.place.moved.Tie as tie
+use Rattle.shifted.proofs.PlaceLaws.{fits-above, fits-below, fits-right, fits-left, is-above, is-below, is-right, is-left}
+use Rattle.shifted.proofs.place.moved.Statement.{statement}
+use Rattle.shifted.proofs.place.moved.Tie as tie
 
 fits : (s : tie.Start) → PlaceFits (s .args .p)
 fits s = record { x = search needs; y = search needs }

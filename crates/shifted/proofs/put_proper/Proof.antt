@@ -1,11 +1,11 @@
--- `slider::put_proper` meets its contract: the edge, or nothing where its ends are one place.
+-- `shifted::put_proper` meets its contract: the edge, or nothing where its ends are one place.
 -- Assumes nothing.
 use mathlib.Core.Path.{refl, sym, ap, _∙_}
 use mathlib.Core.Bool.{not}
 use borrow.Author.Needs.{needs}
 use Rattle.slide.specs.Slide.{proper}
-use Rattle.slider.proofs.put_proper.Statement.{statement}
-use Rattle.slider.proofs.put_proper.Tie as tie
+use Rattle.shifted.proofs.put_proper.Statement.{statement}
+use Rattle.shifted.proofs.put_proper.Tie as tie
 
 returns : tie.Need-returns
 unfolding proper

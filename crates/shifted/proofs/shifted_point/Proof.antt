@@ -1,12 +1,12 @@
--- `slider::shifted_point` meets its contract: the point moves, or stays.
+-- `shifted::shifted_point` meets its contract: the point moves, or stays.
 -- Assumes nothing.
 use mathlib.Core.Path.{ap, _∙_}
 use borrow.Author.Needs.{needs}
 use borrow.Author.Tests.{eq-eqb, ne-eqb}
 use Rattle.slide.specs.Side.{moved}
-use Rattle.slider.specs.Shift.{placed}
-use Rattle.slider.proofs.shifted_point.Statement.{statement}
-use Rattle.slider.proofs.shifted_point.Tie as tie
+use Rattle.shifted.specs.Shift.{placed}
+use Rattle.shifted.proofs.shifted_point.Statement.{statement}
+use Rattle.shifted.proofs.shifted_point.Tie as tie
 
 moved-requires : tie.Need-moved-requires
 moved-requires c κs =

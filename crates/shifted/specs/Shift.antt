@@ -18,7 +18,7 @@ use Rattle.slide.specs.Side.{moved}
 use Rattle.slide.specs.Bend.{Edge}
 use Rattle.slide.specs.Slide.{proper}
 use Rattle.straight.specs.Table.{firstEnd, secondEnd, run}
-use Rattle.slider.specs.declared.Shift.{Shift}
+use Rattle.shifted.specs.declared.Shift.{Shift}
 
 -- point i is one of the bar's
 abbrev pub onLabel : Shift → List ℕ → ℕ → Bool

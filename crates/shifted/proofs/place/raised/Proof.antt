@@ -1,13 +1,13 @@
--- `slider::place::raised` meets its contract: the sum fits, as is asked.
+-- `shifted::place::raised` meets its contract: the sum fits, as is asked.
 -- Assumes nothing.
 use mathlib.Core.Path.{_≡_, ap₂, _∙_}
 use borrow.Author.Needs.{needs}
 use lib.IntN.{_+ℤ_}
 use mir.Syntax.{w32}
 use mir.ValLaws.{toZ-ofZ}
-use Rattle.slider.proofs.PlaceLaws.{word}
-use Rattle.slider.proofs.place.raised.Statement.{statement}
-use Rattle.slider.proofs.place.raised.Tie as tie
+use Rattle.shifted.proofs.PlaceLaws.{word}
+use Rattle.shifted.proofs.place.raised.Statement.{statement}
+use Rattle.shifted.proofs.place.raised.Tie as tie
 
 add-result : tie.Need-add-result
 add-result c = rw (toZ-ofZ w32 _ (c .fits .z), word (c .args .d) (c .pre .0)) (c .pre .1)

@@ -12,7 +12,7 @@ use Rattle.plane.specs.Place.{place}
 use Rattle.slide.specs.declared.Side.{Side}
 use Rattle.slide.specs.declared.Side.the-variants.{Above, Below, Right, Left}
 use Rattle.slide.specs.Side.{moved}
-use Rattle.slider.specs.Shift.{MoveFits}
+use Rattle.shifted.specs.Shift.{MoveFits}
 
 -- a distance as a signed number
 pub word : (d : ℕ) → d < 2 ^ 31 → toZ w32 d ≡ pos d

@@ -7,7 +7,7 @@ ghost use lib.IntN.{pos, _+ℤ_, _-ℤ_};
 ghost use mir.Syntax.{w32};
 ghost use mir.Val.{SFits};
 ghost use Rattle.slide.specs.Side.{moved};
-ghost use Rattle.slider.specs.Shift.{MoveFits};
+ghost use Rattle.shifted.specs.Shift.{MoveFits};
 
 fn raised(z: i32, d: u64) -> i32
     requires { ⌜ (d < 2 ^ 31) × (SFits w32 (z +ℤ pos d)) ⌝ }
