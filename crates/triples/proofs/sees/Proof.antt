@@ -1,10 +1,10 @@
--- `candidates::candidate::sees` meets its contract, arm by arm.
+-- `triples::sees` meets its contract, arm by arm.
 -- Assumes nothing.
 use mathlib.Core.Path.{_≡_, sym, _∙_}
-use Rattle.candidates.proofs.CandidateLaws.{sees-yes, sees-no}
+use Rattle.triples.proofs.TripleLaws.{sees-yes, sees-no}
 use borrow.Author.Needs.{needs}
-use Rattle.candidates.proofs.candidate.sees.Statement.{statement}
-use Rattle.candidates.proofs.candidate.sees.Tie as tie
+use Rattle.triples.proofs.sees.Statement.{statement}
+use Rattle.triples.proofs.sees.Tie as tie
 
 returns : tie.Need-returns
 returns c = sees-yes _ _ _ _ (sym (c .before .is-clear .ensures) ∙ c .if1 .taken)

@@ -1,9 +1,9 @@
--- `candidates::candidate::is_taken` meets its contract, arm by arm.
+-- `triples::is_taken` meets its contract, arm by arm.
 -- Assumes nothing.
-use Rattle.candidates.proofs.CandidateLaws.{taken-self, taken-other}
+use Rattle.triples.proofs.TripleLaws.{taken-self, taken-other}
 use borrow.Author.Needs.{needs}
-use Rattle.candidates.proofs.candidate.is_taken.Statement.{statement}
-use Rattle.candidates.proofs.candidate.is_taken.Tie as tie
+use Rattle.triples.proofs.is_taken.Statement.{statement}
+use Rattle.triples.proofs.is_taken.Tie as tie
 
 returns : tie.Need-returns
 returns c = taken-self _ _ _ _ _ _ (c .if1 .taken)

@@ -1,11 +1,11 @@
--- `candidates::candidate::may_gain` meets its contract: what is left of the greatest cost is compared piece by piece, so that no sum is made.
+-- `triples::may_gain` meets its contract: what is left of the greatest cost is compared piece by piece, so that no sum is made.
 -- Assumes nothing.
 use mathlib.Core.Path.{_∙_}
 use native.Mathlib.Omega.{arith}
-use Rattle.candidates.proofs.CandidateLaws.{may-gain-not, may-gain-is}
+use Rattle.triples.proofs.TripleLaws.{may-gain-not, may-gain-is}
 use borrow.Author.Needs.{needs}
-use Rattle.candidates.proofs.candidate.may_gain.Statement.{statement}
-use Rattle.candidates.proofs.candidate.may_gain.Tie as tie
+use Rattle.triples.proofs.may_gain.Statement.{statement}
+use Rattle.triples.proofs.may_gain.Tie as tie
 
 returns : tie.Need-returns
 returns c = may-gain-not _ _ _ _ _ _ (omega (arith, c .if1 .taken))

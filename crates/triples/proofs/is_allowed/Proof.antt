@@ -1,10 +1,10 @@
--- `candidates::candidate::is_allowed` meets its contract, arm by arm.
+-- `triples::is_allowed` meets its contract, arm by arm.
 -- Assumes nothing.
 use mathlib.Core.Path.{_≡_, sym, _∙_}
-use Rattle.candidates.proofs.CandidateLaws.{allowed-yes, allowed-no}
+use Rattle.triples.proofs.TripleLaws.{allowed-yes, allowed-no}
 use borrow.Author.Needs.{needs}
-use Rattle.candidates.proofs.candidate.is_allowed.Statement.{statement}
-use Rattle.candidates.proofs.candidate.is_allowed.Tie as tie
+use Rattle.triples.proofs.is_allowed.Statement.{statement}
+use Rattle.triples.proofs.is_allowed.Tie as tie
 
 returns : tie.Need-returns
 returns c =

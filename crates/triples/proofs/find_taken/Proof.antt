@@ -1,13 +1,13 @@
--- `candidates::candidate::find_taken` meets its contract. The loop's invariant: the points that are left decide. The measure is how many they are.
+-- `triples::find_taken` meets its contract. The loop's invariant: the points that are left decide. The measure is how many they are.
 -- Assumes nothing.
 use mathlib.Core.Path.{_≡_, sym, _∙_}
 use Prim.Native.Nat.{_≤_, _-_}
 use native.Mathlib.Omega.{arith}
 use Rattle.lists.specs.Turns.{seek}
-use Rattle.candidates.specs.Candidate.{taken}
+use Rattle.triples.specs.Triple.{taken}
 use Rattle.lists.proofs.TurnLaws.{seek-none, seek-stop, seek-next, seek-end}
-use Rattle.candidates.proofs.candidate.find_taken.Statement.{statement}
-use Rattle.candidates.proofs.candidate.find_taken.Tie as tie
+use Rattle.triples.proofs.find_taken.Statement.{statement}
+use Rattle.triples.proofs.find_taken.Tie as tie
 
 abbrev Inv-loop : tie.InvT-loop
 Inv-loop pts n a b u s i₀ i = (i ≤ n) × (seek (taken pts a b u s) i (n - i) ≡ seek (taken pts a b u s) 0 n)
