@@ -34,7 +34,8 @@ use Rattle.lists.specs.Turns.{turns}
 use Rattle.longest.specs.Longest.{measure, costs, longest, cutOf}
 use Rattle.near.specs.Box.{boxOf, boxCost}
 use Rattle.near.proofs.BoxLaws.{box-cost}
-use Rattle.candidates.specs.Candidate.{best, chosen, sees, dropped, mayGain}
+use Rattle.triples.specs.Triple.{sees, dropped, mayGain}
+use Rattle.candidates.specs.Candidate.{best, chosen}
 use Rattle.candidates.specs.Candidate as tree
 use Rattle.exchanges.specs.Exchange.{stands}
 use Rattle.beside.specs.Beside.{isPoint, sourcesFrom, takeSeat, onWay, free, middleBeside, weighed, offer, search}

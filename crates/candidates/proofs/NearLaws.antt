@@ -19,7 +19,8 @@ use Rattle.tree.specs.Table.{Low}
 use Rattle.longest.specs.Longest.{cutOf}
 use Rattle.near.specs.Box.{boxOf, boxCost}
 use Rattle.candidates.specs.declared.Best.{Best}
-use Rattle.candidates.specs.Candidate.{middleOf, allowed, weighed, offer, mayGain}
+use Rattle.triples.specs.Triple.{allowed, mayGain}
+use Rattle.candidates.specs.Candidate.{middleOf, weighed, offer}
 use Rattle.candidates.proofs.CandidateLaws.{offer-far}
 
 -- Turns that change nothing

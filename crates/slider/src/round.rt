@@ -1,7 +1,7 @@
 // A round: the best move of all bars made; and rounds until one saves nothing.
-use crate::Shift;
 use crate::Turn;
 use plane::Weights;
+use shifted::Shift;
 use straight::EDGE_NUMBERS;
 use straight::NUMBERS;
 use straight::POINTS;
@@ -15,7 +15,7 @@ ghost use Rattle.slide.specs.Promise.{State};
 ghost use Rattle.straight.specs.Table.{straightBound, Within};
 ghost use Rattle.labels.specs.Labelling.{labelsFor};
 ghost use Rattle.settled.specs.Settled.{edgesOf};
-ghost use Rattle.slider.specs.Shift.{shifted, Movable};
+ghost use Rattle.shifted.specs.Shift.{shifted, Movable};
 ghost use Rattle.slider.specs.Round.{saves};
 
 // The edges after the move: a bar's label is one of rows where it is horizontal, else one of columns.
@@ -35,9 +35,9 @@ fn shift_bar(
 {
     let s = m.side;
     if moves::is_horizontal(s) {
-        return crate::shift_edges(pts, z.points, keys, z.edges, rows, m, &mut *out);
+        return shifted::shift_edges(pts, z.points, keys, z.edges, rows, m, &mut *out);
     }
-    crate::shift_edges(pts, z.points, keys, z.edges, columns, m, &mut *out)
+    shifted::shift_edges(pts, z.points, keys, z.edges, columns, m, &mut *out)
 }
 
 // The edges after the move, in order, in a list of their own; how many there are.

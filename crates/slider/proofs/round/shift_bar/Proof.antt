@@ -6,7 +6,7 @@ use Prim.Native.Nat.{ℕ}
 use borrow.Author.Needs.{needs}
 use denote.Ref.{now}
 use Rattle.slide.specs.Bend.{Edge}
-use Rattle.slider.specs.Shift.{shifted, Movable}
+use Rattle.shifted.specs.Shift.{shifted, Movable}
 use Rattle.slider.proofs.RoundLaws.{labels-rows, labels-columns}
 use Rattle.slider.proofs.round.shift_bar.Statement.{statement}
 use Rattle.slider.proofs.round.shift_bar.Tie as tie
