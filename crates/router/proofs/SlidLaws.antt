@@ -34,7 +34,7 @@ use Rattle.rules.proofs.EdgeLaws.{edge-order}
 use Rattle.rules.proofs.InteriorLaws.{clear-points}
 use Rattle.rules.proofs.BestLaws.{best-joining}
 use Rattle.rules.proofs.RefinedOurs.{refined-ours, refined-tree}
-use Rattle.rules.proofs.RefinedRange.{Ranged, refined-in-range}
+use Rattle.router.proofs.RefinedRange.{Ranged, refined-in-range}
 use Rattle.slide.specs.Promise.{Smaller, EndsPins, Given, Promise}
 use Rattle.slide.proofs.AcrossLaws.{straight-line}
 use Rattle.slide.proofs.EndLaws.{decide}

@@ -30,4 +30,3 @@ pub mod StartOurs
 pub mod ChartsOurs
 pub mod RefinedOurs
 pub mod TreesOurs
-pub mod RefinedRange
