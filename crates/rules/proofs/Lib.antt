@@ -1,7 +1,3 @@
--- Interiors as points
-pub mod ScaleLaws
-pub mod SpanLaws
-pub mod InteriorLaws
 -- One solution
 pub mod EdgeLaws
 pub mod SpanningOnly
