@@ -26,7 +26,7 @@ use Rattle.lines.specs.Lines.{xLines, yLines}
 use Rattle.lines.specs.Edges.{Edge}
 use Rattle.lines.proofs.GridCost.{line-count}
 use Rattle.bought.specs.Passes.{Passes}
-use Rattle.rules.proofs.InteriorLaws.{clear-points}
+use Rattle.interior.proofs.InteriorLaws.{clear-points}
 use Rattle.parts.specs.Bounds.{workBound}
 use Rattle.best.specs.Tree.{IsBest}
 use Rattle.best.proofs.BestLaws.{best-pinned}

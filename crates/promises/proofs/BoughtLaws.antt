@@ -42,7 +42,7 @@ use Rattle.bought.proofs.LoneLaws.{lone-passes, lone-fails}
 use Rattle.bought.proofs.OrderLaws.{same-bought}
 use Rattle.bought.proofs.GivenLaws.{numbers-pass, firstPin, first-pin}
 use Rattle.rules.specs.Edges.{Edge}
-use Rattle.rules.proofs.RefinedRange.{Ranged}
+use Rattle.router.proofs.RefinedRange.{Ranged}
 use Rattle.slide.specs.Promise.{Given}
 use Rattle.slide.proofs.SlidSound.{simple}
 use Rattle.answers.specs.Refined.{totalIn, laidOf, laidTotal, metalOf}

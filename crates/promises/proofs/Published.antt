@@ -22,7 +22,7 @@ use Rattle.refined.proofs.WireSound.{edge-wired, wired as wired-laws}
 use Rattle.rules.proofs.TerminalOurs.{ourPaths, paths-given}
 use Rattle.rules.proofs.BestLaws.{paths-total, best-joining}
 use Rattle.rules.specs.Edges.{Edge}
-use Rattle.rules.proofs.InteriorLaws.{clear-points}
+use Rattle.interior.proofs.InteriorLaws.{clear-points}
 use Rattle.rules.proofs.RefinedOurs.{between-trees, falls-between, refined-tree}
 use Rattle.rules.proofs.TreesOurs.{trees-ours, trees-only}
 use Rattle.answers.specs.Graph.{netVertices, netEdges, pointCount}

@@ -25,7 +25,7 @@ use Rattle.refined.specs.Wires.{wiresOfEdge}
 use Rattle.refined.specs.Promise.{Horizontal, Vertical, EdgeWires}
 use Rattle.rules.specs.Edges.{Edge}
 use Rattle.rules.specs.Terminal.{Path, givenFor, pathCost}
-use Rattle.rules.specs.Interior.{PlanePoint, Interior, Box}
+use Rattle.interior.specs.Interior.{PlanePoint, Interior, Box}
 use Rattle.rules.specs.Refined.{Refined, TreesThrough, FallsThrough}
 use Rattle.rules.specs.Trees.{Trees, Equal}
 use Rattle.rules.specs.Demand.{BestJoining, RefinedTree}

@@ -31,10 +31,9 @@ use Rattle.refined.proofs.MetalLaws.{metal-low}
 use Rattle.rules.specs.Edges.{Edge}
 use Rattle.rules.specs.Refined.{EndOf, Loose}
 use Rattle.rules.proofs.EdgeLaws.{edge-order}
-use Rattle.rules.proofs.InteriorLaws.{clear-points}
+use Rattle.interior.proofs.InteriorLaws.{clear-points}
 use Rattle.rules.proofs.BestLaws.{best-joining}
 use Rattle.rules.proofs.RefinedOurs.{refined-ours, refined-tree}
-use Rattle.rules.proofs.RefinedRange.{Ranged, refined-in-range}
 use Rattle.slide.specs.Promise.{Smaller, EndsPins, Given, Promise}
 use Rattle.slide.proofs.AcrossLaws.{straight-line}
 use Rattle.slide.proofs.EndLaws.{decide}
@@ -46,6 +45,7 @@ use Rattle.answers.specs.Refined.{refinedOf, edgesIn, totalIn}
 use Rattle.answers.specs.Slid.{slidIn, slidOf, slidAnswer, slidGiven, slidTree}
 use Rattle.answers.proofs.AnswerLaws.{only-given, room-enough}
 use Rattle.router.specs.Slid.{PromisedSlid}
+use Rattle.router.proofs.RefinedRange.{Ranged, refined-in-range}
 
 -- Loose points
 

@@ -20,7 +20,7 @@ use Rattle.graph.specs.Numbers.{edgeNumbers}
 use Rattle.lines.specs.Bounds.{gridMacros}
 use Rattle.lines.specs.Edges.{Edge}
 use Rattle.bought.specs.Passes.{Passes}
-use Rattle.rules.specs.Interior.{PlanePoint, Interior, Box}
+use Rattle.interior.specs.Interior.{PlanePoint, Interior, Box}
 use Rattle.parts.specs.Bounds.{bestPins, workBound}
 use Rattle.best.specs.Tree.{JoinsPins, BestTree}
 use Rattle.answers.specs.Best.{bestNumbers, bestAnswer, bestTree}

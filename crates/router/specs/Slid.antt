@@ -24,7 +24,7 @@ use Rattle.slide.specs.Bend.{bent, given-back, bends}
 use Rattle.slide.specs.Slide.{treePoints, inOrder}
 use Rattle.slide.specs.Promise.{RoundsOf}
 use Rattle.rules.specs.Edges.{Edge, edgeBefore}
-use Rattle.rules.specs.Interior.{PlanePoint, Interior, Box}
+use Rattle.interior.specs.Interior.{PlanePoint, Interior, Box}
 use Rattle.rules.specs.Refined.{Loose}
 use Rattle.answers.specs.Slid.{slidOf, slidTotal, slidMetal, slidAnswer, slidTree}
 use Rattle.answers.specs.Graph.{pointCount}

@@ -14,8 +14,8 @@ use Rattle.signed.specs.Order.{minZ, maxZ}
 use Rattle.signed.proofs.SideLaws.{ltZ-true, lt-ltZ, le-leZ, add-sides, signed}
 use Rattle.signed.proofs.OrderLaws.{min-sides, max-sides}
 use Rattle.plane.specs.Macro.{spanMeets, openSpansMeet}
-use Rattle.rules.specs.Interior.{InOpenSpan, InClosedSpan}
-use Rattle.rules.proofs.ScaleLaws.{times-sides, lt-times, times-lt, lt-equal, gt-equal, le-equal, ge-equal}
+use Rattle.interior.specs.Interior.{InOpenSpan, InClosedSpan}
+use Rattle.interior.proofs.ScaleLaws.{times-sides, lt-times, times-lt, lt-equal, gt-equal, le-equal, ge-equal}
 
 -- From a point to the test
 

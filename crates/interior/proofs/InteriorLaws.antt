@@ -21,10 +21,10 @@ use Rattle.plane.specs.declared.Macro.{Macro}
 use Rattle.plane.specs.Macro.{inside, spanMeets, meets, openSpansMeet, interiorsMeet, clear}
 use Rattle.plane.proofs.MeetLaws.{clear-of}
 use Rattle.net.specs.Allowed.{Upright}
-use Rattle.rules.specs.Interior.{PlanePoint, SamePoint, pointOf, Interior, Box, Some, Common}
-use Rattle.rules.proofs.ScaleLaws.{times-times, times-swap}
-use Rattle.rules.proofs.SpanLaws.{closed-open, open-open, open-order, span-middle}
-use Rattle.rules.proofs.SpanLaws.{closed-open-share, open-open-share, whole-open, same-open, same-closed}
+use Rattle.interior.specs.Interior.{PlanePoint, SamePoint, pointOf, Interior, Box, Some, Common}
+use Rattle.interior.proofs.ScaleLaws.{times-times, times-swap}
+use Rattle.interior.proofs.SpanLaws.{closed-open, open-open, open-order, span-middle}
+use Rattle.interior.proofs.SpanLaws.{closed-open-share, open-open-share, whole-open, same-open, same-closed}
 
 -- the point (x / 2, y / 2)
 abbrev halves : ℤ → ℤ → PlanePoint
