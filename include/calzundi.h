@@ -57,9 +57,9 @@
 #ifndef CALZUNDI_H
 #define CALZUNDI_H
 
-/* The version. It stands here and nowhere else; the tools take it from this line. Each change request raised the second number, and the last
- * of the fourteen the first. */
-#define CALZUNDI_VERSION "2.1"
+/* The version. It stands here and nowhere else; the tools take it from this line. Each landing raises the second number; the last of
+ * the fourteen change requests raised the first. */
+#define CALZUNDI_VERSION "2.2"
 
 #include <stddef.h>
 #include <stdint.h>

@@ -2,12 +2,12 @@
 -- What saves nothing may be passed over, and so may a bar that could not beat the best even if it moved as far as its shortest edge.
 -- Assumes nothing.
 use mathlib.Core.Path.{_≡_, refl, sym, ap, ap₂, _∙_}
-use mathlib.Core.Bool.{Bool, true, false, not, _&&_}
+use mathlib.Core.Bool.{Bool, true, false, not}
 use mathlib.Core.List.{List, [], _∷_}
-use Prim.Native.Nat.{ℕ, zero, suc, _+_, _*_, _≤_, _<_}
+use Prim.Native.Nat.{ℕ, zero, _≤_, _<_}
 use native.Mathlib.Omega.{arith}
 use native.Mathlib.Nat.{mul-le-mul-right}
-use borrow.Author.Tests.{eqb-true, eqb-false, ltb-true, ltb-false, leb-true, leb-false, lt-ltb, le-ltb}
+use borrow.Author.Tests.{eqb-true, eqb-false, ltb-true, ltb-false, le-ltb}
 use lib.Dec.{eqb, leb, ltb}
 use lib.IntN.{ℤ}
 use Rattle.lists.specs.Sorted.{firstThen}
@@ -22,8 +22,9 @@ use Rattle.bars.specs.declared.Best.{Best}
 use Rattle.reach.specs.declared.Size.{Size}
 use Rattle.turned.specs.Turned.{View}
 use Rattle.hanging.specs.Hanging.{hang}
-use Rattle.bars.specs.Offers.{held, move, moveBy, rateOf, best, reachOf, taken, offered}
-use Rattle.bars.proofs.CodeLaws.{better-more}
+use Rattle.moves.specs.Moving.{held}
+use Rattle.bars.specs.Offers.{move, moveBy, rateOf, best, reachOf, taken, offered}
+use Rattle.moves.proofs.MovingLaws.{better-more}
 
 pub record Agrees (b c : Move) : Type 0 where
   pub saves : b .saving ≡ c .saving

@@ -1,9 +1,8 @@
 -- The tables that the search is handed: labels and seats are numbers of points.
 -- Assumes nothing.
-use mathlib.Core.Path.{_≡_, refl, sym, ap, ap₂, _∙_}
-use mathlib.Core.Bool.{true, false}
+use mathlib.Core.Path.{_≡_, ap, ap₂, _∙_}
 use mathlib.Core.List.{List}
-use Prim.Native.Nat.{ℕ, zero, suc, _+_, _≤_, _<_, min, max}
+use Prim.Native.Nat.{ℕ, zero, suc, _≤_, _<_, min, max}
 use native.Mathlib.Omega.{arith}
 use borrow.Author.Tests.{ltb-true, ltb-false}
 use lib.Dec.{ltb}
@@ -22,8 +21,9 @@ use Rattle.reach.specs.declared.Size.{Size}
 use Rattle.turned.specs.Steps.{upTo, setUpTo, Numbers}
 use Rattle.turned.specs.Turned.{levelAt}
 use Rattle.labels.specs.Labelling.{united, joinedBy, labelled}
-use Rattle.bars.specs.Offers.{searched, chosen, seatOf, seatsOf, Seated}
-use Rattle.bars.proofs.CodeLaws.{chosen-less}
+use Rattle.moves.specs.Moving.{chosen, seatOf, seatsOf, Seated}
+use Rattle.bars.specs.Offers.{searched}
+use Rattle.moves.proofs.MovingLaws.{chosen-less}
 use Rattle.labels.proofs.LabelLaws.{set-above, set-below, labelled-is}
 
 module _ (s : Side) (pts : List ℤ) (ks : List ℕ) (n : ℕ) (t : List ℕ) where

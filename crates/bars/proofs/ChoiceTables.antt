@@ -42,8 +42,9 @@ use Rattle.turned.specs.Steps.{upTo}
 use Rattle.turned.specs.Turned.{View, view, onIt, levelAt}
 use Rattle.labels.specs.Labelling.{leads, labelled, labelsFor}
 use Rattle.hanging.specs.Hanging.{hang}
-use Rattle.bars.specs.Offers.{held, best, moveBy, bar, reachOf, taken, offered, opposite, offeredBoth, noMove, searched, seatOf}
-use Rattle.bars.specs.Offers.{seatsOf}
+use Rattle.moves.specs.Moving.{held, bar, opposite, seatOf}
+use Rattle.bars.specs.Offers.{best, moveBy, reachOf, taken, offered, offeredBoth, noMove, searched}
+use Rattle.moves.specs.Moving.{seatsOf}
 use Rattle.reach.proofs.CodeLaws.{reach-less}
 use Rattle.labels.proofs.LabelLaws.{levelPairs, Labelled, labelled-is, set-below}
 use Rattle.bars.proofs.OnLaws.{seat-is, of-pairs, level-at, on-is, sees, level-opposite, on-opposite}

@@ -38,7 +38,8 @@ use Rattle.reach.specs.declared.Way.{Way}
 use Rattle.turned.specs.Turned.{raised, spot, face, View, spotAt, seenEdge, seenPoint}
 use Rattle.hanging.specs.Hanging.{hang}
 use Rattle.reach.specs.Passing.{way, past, pastFace, pastMacros, pastPoints, pastEdges, reached, wayOf}
-use Rattle.bars.specs.Offers.{lastOn, bar, reachOf}
+use Rattle.moves.specs.Moving.{lastOn, bar}
+use Rattle.bars.specs.Offers.{reachOf}
 use Rattle.hanging.proofs.HangLaws.{hang-is}
 use Rattle.bars.proofs.MoveLaws.{Stood, first-is}
 use Rattle.bars.proofs.LastLaws.{last-low, last-is}

@@ -29,7 +29,7 @@ use Rattle.straight.proofs.RunLaws.{in-run, of-run}
 use Rattle.reach.specs.declared.Size.{Size}
 use Rattle.turned.specs.Steps.{upTo}
 use Rattle.turned.specs.Turned.{View, onIt}
-use Rattle.bars.specs.Offers.{chosen, lastOn}
+use Rattle.moves.specs.Moving.{chosen, lastOn}
 use Rattle.bars.proofs.MoveLaws.{Stood, self, later, not-after}
 
 module _ {net : Net} {v : View} {z : Size} {ms : List ℤ} {seats : List ℕ} {k a : ℕ} (r : Stood net v z ms seats k a) where

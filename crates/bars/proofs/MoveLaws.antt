@@ -35,7 +35,8 @@ use Rattle.straight.proofs.RunLaws.{in-run, of-run}
 use Rattle.reach.specs.declared.Size.{Size}
 use Rattle.turned.specs.Turned.{View, onIt}
 use Rattle.hanging.specs.Hanging.{hang}
-use Rattle.bars.specs.Offers.{weightIn, held, move, moveBy, reachOf}
+use Rattle.moves.specs.Moving.{weightIn, held}
+use Rattle.bars.specs.Offers.{move, moveBy, reachOf}
 use Rattle.turned.proofs.SeenLaws.{Sees}
 use Rattle.hanging.proofs.HangLaws.{hang-is}
 

@@ -2,7 +2,7 @@
 -- Assumes nothing.
 use mathlib.Core.Path.{_≡_, refl, sym, ap, ap₂, _∙_}
 use mathlib.Core.Bool.{Bool, true, false}
-use mathlib.Core.List.{List, [], _∷_, List·Memᴰ·cases-cons, Memᴰ·cast}
+use mathlib.Core.List.{List, List·Memᴰ·cases-cons, Memᴰ·cast}
 use Prim.Native.Nat.{ℕ, zero, suc, _≤_, _<_}
 use native.Mathlib.Decide.{ℕ-discrete}
 use native.Mathlib.Omega.{arith}
@@ -33,7 +33,7 @@ use Rattle.straight.specs.Table.{run, firstEnd, secondEnd, edgeAt, edgesIn}
 use Rattle.straight.proofs.RunLaws.{in-run, of-run}
 use Rattle.turned.specs.Steps.{upTo}
 use Rattle.turned.specs.Turned.{view, levelAt}
-use Rattle.bars.specs.Offers.{chosen, seatOf, opposite}
+use Rattle.moves.specs.Moving.{chosen, seatOf, opposite}
 use Rattle.turned.proofs.RaisedLaws.{raised-eq, negated}
 use Rattle.turned.proofs.SeenLaws.{across-high, Sees}
 use Rattle.labels.proofs.LabelLaws.{levelPairs, Labelled}

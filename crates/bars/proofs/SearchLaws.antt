@@ -26,8 +26,9 @@ use Rattle.reach.specs.declared.Size.{Size}
 use Rattle.turned.specs.Steps.{upTo}
 use Rattle.turned.specs.Turned.{view, levelAt}
 use Rattle.labels.specs.Labelling.{leads}
-use Rattle.bars.specs.Offers.{noMove, opposite, offeredBoth, searched}
-use Rattle.bars.proofs.CodeLaws.{better-more}
+use Rattle.moves.specs.Moving.{opposite}
+use Rattle.bars.specs.Offers.{noMove, offeredBoth, searched}
+use Rattle.moves.proofs.MovingLaws.{better-more}
 use Rattle.turned.proofs.StepLaws.{run-more}
 use Rattle.bars.proofs.AgreeLaws.{Agrees, none-agrees, agrees-none, agrees-taken, offered-agrees}
 use Rattle.bars.proofs.MoveLaws.{still, Ready, even, pins-stay, moves-so}

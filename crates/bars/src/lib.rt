@@ -3,7 +3,7 @@
 // A bar is told by the label of its points, one table of labels for each direction.
 pub mod search; // search.rt: the best move
 
-use net::Net;
+use moves::PINS;
 use reach::Size;
 use slide::Move;
 use slide::Side;
@@ -18,9 +18,8 @@ ghost use Rattle.tree.specs.Table.{tree};
 ghost use Rattle.slide.specs.declared.Side.the-variants.{Above, Right};
 ghost use Rattle.straight.specs.Table.{Held};
 ghost use Rattle.labels.specs.Labelling.{labelled};
-ghost use Rattle.bars.specs.Offers.{Fresh, searched, seatsOf};
-
-pub const PINS: usize = Net::PINS;
+ghost use Rattle.moves.specs.Moving.{seatsOf};
+ghost use Rattle.bars.specs.Offers.{Fresh, searched};
 
 // The best move so far, and the label of its bar. With saving 0 there is none.
 pub struct Best {
@@ -50,6 +49,6 @@ pub fn choice(
     labels::label(pts, keys, z.points, z.edges, Side::Above, &mut *rows);
     labels::label(pts, keys, z.points, z.edges, Side::Right, &mut *columns);
     let mut seats = [0; PINS];
-    search::seat(pts, z.points, pins, z.pins, &mut seats);
+    moves::seat(pts, z.points, pins, z.pins, &mut seats);
     search::search(pts, keys, z, macros, &seats, &*rows, &*columns)
 }

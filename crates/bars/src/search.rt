@@ -1,125 +1,23 @@
 // The best move of all bars.
 use crate::Best;
-use crate::PINS;
+use moves::PINS;
 use plane::Place;
-use plane::Weights;
-use reach::Bar;
 use reach::Size;
 use slide::Move;
 use slide::Side;
 use straight::NUMBERS;
 use straight::POINTS;
 ghost use mathlib.Core.Path.{_≡_};
-ghost use mathlib.Core.List.{[]};
-ghost use Prim.Native.Nat.{_^_, _≤_, _<_};
+ghost use Prim.Native.Nat.{_≤_, _<_};
 ghost use Rattle.net.specs.Bounds.{pinBound};
-ghost use Rattle.slide.specs.Side.{horizontal};
-ghost use Rattle.slide.specs.Slide.{better};
 ghost use Rattle.straight.specs.Table.{straightBound, Small};
 ghost use lib.ListN.{getD};
 ghost use Rattle.slide.specs.declared.Side.the-variants.{Above, Below, Right, Left};
 ghost use Rattle.turned.specs.Steps.{Numbers};
 ghost use Rattle.turned.specs.Turned.{view};
 ghost use Rattle.hanging.specs.Hanging.{hang, Coded, Tallied};
-ghost use Rattle.net.specs.Pins.{pinCount};
-ghost use Rattle.bars.specs.Offers.{weightIn, chosen, held, Seated, labelView, lastOn, bar, offered, opposite, offeredBoth};
-ghost use Rattle.bars.specs.Offers.{searched, seatOf, seatsOf};
-
-pub fn is_horizontal(s: Side) -> bool
-    ensures { λ r. ⌜ r ≡ horizontal s ⌝ }
-{
-    match s {
-        Side::Above => true,
-        Side::Below => true,
-        Side::Right => false,
-        Side::Left => false,
-    }
-}
-
-// What a unit of a hanging edge costs.
-fn weight_of(w: Weights, s: Side) -> u64
-    ensures { λ r. ⌜ (r ≡ weightIn w s) × (r < 2 ^ 8) ⌝ }
-{
-    if is_horizontal(s) {
-        return w.along as u64;
-    }
-    w.across as u64
-}
-
-// The greatest saving, then the smallest first place, then a horizontal bar.
-fn is_better(m: Move, n: Move) -> bool
-    ensures { λ r. ⌜ r ≡ better m n ⌝ }
-{
-    if n.saving < m.saving {
-        return true;
-    }
-    if m.saving < n.saving {
-        return false;
-    }
-    if plane::is_before(m.first, n.first) {
-        return true;
-    }
-    if plane::is_before(n.first, m.first) {
-        return false;
-    }
-    let s = m.side;
-    let t = n.side;
-    is_horizontal(s) & !is_horizontal(t)
-}
-
-// A pin has the label l; a pin is known by the number of its point.
-fn is_held(seats: &[usize; PINS], m: usize, lab: &[usize; POINTS], l: usize) -> bool
-    requires { ⌜ (m ≤ pinBound) × (Seated m (now seats)) ⌝ }
-    ensures { λ r. ⌜ r ≡ held (labelView (now (lab .entry)) l) (now (seats .entry)) m ⌝ }
-{
-    let mut held = false;
-    let mut i = 0;
-    while i < m {
-        held = held | (lab[seats[i]] == l);
-        i += 1;
-    }
-    held
-}
-
-fn chosen(t: bool, a: usize, b: usize) -> usize
-    ensures { λ r. ⌜ r ≡ chosen t a b ⌝ }
-{
-    if t {
-        return a;
-    }
-    b
-}
-
-// The last point with the label l.
-fn last_of(lab: &[usize; POINTS], n: usize, l: usize) -> usize
-    requires { ⌜ (n ≤ straightBound) × (l < straightBound) ⌝ }
-    ensures { λ r. ⌜ (r ≡ lastOn (labelView (now (lab .entry)) l) n) × (r < straightBound) ⌝ }
-{
-    let mut last = l;
-    let mut i = 0;
-    while i < n {
-        last = chosen(lab[i] == l, i, last);
-        i += 1;
-    }
-    last
-}
-
-// The bar with label l as it moves to side s by at most d.
-fn bar_of(pts: &[i32; NUMBERS], lab: &[usize; POINTS], n: usize, s: Side, l: usize, d: u64) -> Bar
-    requires { ⌜ ((n ≤ straightBound) × (l < straightBound)) × (d ≤ 2 ^ 32) ⌝ }
-    ensures { λ r. ⌜ r ≡ bar (view (now (pts .entry)) [] (now (lab .entry)) s l) n d ⌝ }
-{
-    let first = turned::spot_at(pts, s, l);
-    let last = turned::spot_at(pts, s, last_of(lab, n, l));
-    Bar {
-        side: s,
-        label: l,
-        first: first,
-        last: last,
-        most: d,
-        top: first.across + d,
-    }
-}
+ghost use Rattle.moves.specs.Moving.{Seated, opposite};
+ghost use Rattle.bars.specs.Offers.{offered, offeredBoth, searched};
 
 // The best so far, or the move of the bar with label l to side s. The distance is asked last: it looks at everything.
 fn offer(
@@ -144,7 +42,7 @@ fn offer(
     if h.ahead <= h.behind {
         return c;
     }
-    let rate = (h.ahead - h.behind) as u64 * weight_of(z.weights, s);
+    let rate = (h.ahead - h.behind) as u64 * moves::weight_of(z.weights, s);
     let first = straight::point_at(pts, l);
     let most = Move {
         saving: h.shortest * rate,
@@ -152,10 +50,10 @@ fn offer(
         side: s,
         distance: h.shortest,
     };
-    if !is_better(most, c.best) {
+    if !moves::is_better(most, c.best) {
         return c;
     }
-    if is_held(seats, z.pins, lab, l) {
+    if moves::is_held(seats, z.pins, lab, l) {
         return c;
     }
     let d = reach::reach(
@@ -164,7 +62,7 @@ fn offer(
         z,
         lab,
         macros,
-        bar_of(pts, lab, z.points, s, l, h.shortest),
+        moves::bar_of(pts, lab, z.points, s, l, h.shortest),
     );
     let m = Move {
         saving: d * rate,
@@ -172,7 +70,7 @@ fn offer(
         side: s,
         distance: d,
     };
-    if is_better(m, c.best) {
+    if moves::is_better(m, c.best) {
         return Best { label: l, best: m };
     }
     c
@@ -203,20 +101,20 @@ fn offer_both(
     if labels::leads(pts, keys, lab, s, k) {
         let l = lab[straight::first_end(keys, k)];
         let b = offer(pts, keys, z, macros, seats, lab, there, s, l, c);
-        return offer(pts, keys, z, macros, seats, lab, back, opposite(s), l, b);
+        return offer(
+            pts,
+            keys,
+            z,
+            macros,
+            seats,
+            lab,
+            back,
+            moves::opposite(s),
+            l,
+            b,
+        );
     }
     c
-}
-
-fn opposite(s: Side) -> Side
-    ensures { λ r. ⌜ r ≡ opposite s ⌝ }
-{
-    match s {
-        Side::Above => Side::Below,
-        Side::Below => Side::Above,
-        Side::Right => Side::Left,
-        Side::Left => Side::Right,
-    }
 }
 
 // Every edge in turn, along rows and along columns. What hangs from each bar stands in a table for each side.
@@ -322,31 +220,4 @@ pub fn search(
         &right,
         &left,
     )
-}
-
-// The number of the point at p.
-fn seat_of(pts: &[i32; NUMBERS], n: usize, p: Place) -> usize
-    requires { ⌜ n ≤ straightBound ⌝ }
-    ensures { λ r. ⌜ (r ≡ seatOf (now (pts .entry)) n p) × (r < straightBound) ⌝ }
-{
-    let mut at = 0;
-    let mut i = 0;
-    while i < n {
-        let q = straight::point_at(pts, i);
-        at = chosen(plane::is_same_place(p, q), i, at);
-        i += 1;
-    }
-    at
-}
-
-// The numbers of the points of the first m pins.
-pub fn seat(pts: &[i32; NUMBERS], n: usize, pins: &[i32], m: usize, seats: &mut [usize; PINS])
-    requires { ⌜ (n ≤ straightBound) × ((m ≤ pinBound) × (m ≤ pinCount (now pins))) ⌝ }
-    ensures { λ _. ⌜ now (seats .exit) ≡ seatsOf (now (pts .entry)) n (now (pins .entry)) m (now (seats .entry)) ⌝ }
-{
-    let mut j = 0;
-    while j < m {
-        seats[j] = seat_of(pts, n, net::pin_at(pins, j));
-        j += 1;
-    }
 }

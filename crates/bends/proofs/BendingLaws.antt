@@ -3,7 +3,7 @@
 use mathlib.Core.Path.{_≡_, refl, sym, ap, ap₂, _∙_}
 use mathlib.Core.Bool.{Bool, true, false, _||_}
 use mathlib.Core.List.{List, [], _∷_, _++_, append-nil}
-use Prim.Native.Nat.{ℕ, suc, _+_, _*_, _≤_, _<_}
+use Prim.Native.Nat.{ℕ, _+_, _*_, _≤_}
 use native.Mathlib.Omega.{arith}
 use lib.IntN.{ℤ}
 use lib.ListN.{length, drop, length-append}
@@ -24,7 +24,7 @@ use Rattle.slide.specs.Bend.{Edge, straight, xFirst, yFirst, taken, Bent, bent,
 use Rattle.bends.specs.declared.Corner.{Corner}
 use Rattle.bends.specs.declared.Corner.the-variants.{At, Taken}
 use Rattle.bends.specs.declared.Bent as declared
-use Rattle.bends.specs.Settled.{edgesOf}
+use Rattle.settled.specs.Settled.{edgesOf}
 use Rattle.bends.specs.Bending.{cornerOf, counts, BentAt, BentWhere, BentBy}
 
 -- Corners

@@ -13,7 +13,7 @@ use Rattle.slide.specs.Bend.{Edge, xFirst, yFirst, taken, Bent, bent, given-bac
 use Rattle.bends.specs.declared.Corner.{Corner}
 use Rattle.bends.specs.declared.Corner.the-variants.{At, Taken}
 use Rattle.bends.specs.declared.Bent as declared
-use Rattle.bends.specs.Settled.{edgesOf}
+use Rattle.settled.specs.Settled.{edgesOf}
 
 -- M3: where a slanted edge bends, X being the tree points and the bends so far
 unfoldable pub cornerOf : List Place → Edge → Corner

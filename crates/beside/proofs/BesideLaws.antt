@@ -20,10 +20,8 @@ use Rattle.plane.specs.declared.Weights.{Weights}
 use Rattle.plane.specs.Place.{samePlace}
 use Rattle.plane.specs.Cost.{cost}
 use Rattle.plane.specs.Middle.{middlePlace}
-use Rattle.plane.specs.Box.{boxOf, boxCost}
 use Rattle.plane.specs.Flat.{placeAt}
 use Rattle.plane.specs.Rank.{rank}
-use Rattle.plane.proofs.CostLaws.{box-cost}
 use Rattle.forest.specs.Bounds.{pointBound}
 use Rattle.forest.specs.Edges.{entries, FirstBelow, Listed}
 use Rattle.forest.specs.Parents.{wayAfter, Nearing}
@@ -34,7 +32,10 @@ use Rattle.candidates.specs.declared.Best.{Best}
 use Rattle.beside.specs.declared.Choice.{Choice}
 use Rattle.lists.specs.Turns.{turns}
 use Rattle.longest.specs.Longest.{measure, costs, longest, cutOf}
-use Rattle.candidates.specs.Candidate.{best, chosen, sees, dropped, mayGain}
+use Rattle.near.specs.Box.{boxOf, boxCost}
+use Rattle.near.proofs.BoxLaws.{box-cost}
+use Rattle.triples.specs.Triple.{sees, dropped, mayGain}
+use Rattle.candidates.specs.Candidate.{best, chosen}
 use Rattle.candidates.specs.Candidate as tree
 use Rattle.exchanges.specs.Exchange.{stands}
 use Rattle.beside.specs.Beside.{isPoint, sourcesFrom, takeSeat, onWay, free, middleBeside, weighed, offer, search}

@@ -25,7 +25,8 @@ use Rattle.candidates.specs.declared.Best.{Best}
 use Rattle.beside.specs.declared.Choice.{Choice}
 use Rattle.lists.specs.Turns.{turns}
 use Rattle.longest.specs.Longest.{cutOf, costs, longest}
-use Rattle.candidates.specs.Candidate.{best, chosen, sees, dropped}
+use Rattle.triples.specs.Triple.{sees, dropped}
+use Rattle.candidates.specs.Candidate.{best, chosen}
 use Rattle.candidates.specs.Candidate as tree
 use Rattle.exchanges.specs.Exchange.{stands}
 

@@ -4,7 +4,6 @@
 // and its way to the root is the way that is laid.
 use candidates::Best;
 use candidates::candidate;
-use candidates::near;
 use exchanges::exchange;
 use longest::UNKNOWN;
 use plane::Place;
@@ -150,13 +149,13 @@ fn is_free(
     ensures { λ r. ⌜ r ≡ free (now (pts .entry)) n (macrosOf (now (macros .entry))) (now (vertices .entry)) (now (far .entry))
         (now (up .entry)) a b u s ⌝ }
 {
-    if candidate::sees(
+    if triples::sees(
         macros,
         tree::point_at(pts, a),
         tree::point_at(pts, b),
         vertex_at(vertices, u),
     ) {
-        if candidate::is_dropped(pts, n, a, b, a, s) {
+        if triples::is_dropped(pts, n, a, b, a, s) {
             return false;
         }
         return !on_way(vertices, far, up, u, s);
@@ -275,7 +274,7 @@ fn offers(
 {
     let a = keys[k] / POINTS;
     let b = keys[k] % POINTS;
-    let m = plane::box_of(tree::point_at(pts, a), tree::point_at(pts, b));
+    let m = near::box_of(tree::point_at(pts, a), tree::point_at(pts, b));
     if most <= c.gain {
         return c;
     }
@@ -289,7 +288,7 @@ fn offers(
         u += 1;
         let f = far[at];
         if 0 < f {
-            if candidate::may_gain(w, m, vertex_at(vertices, at), f, found.gain, most) {
+            if triples::may_gain(w, m, vertex_at(vertices, at), f, found.gain, most) {
                 let s = seat[at];
                 let l = longest::cut_at(el, onto, link, turn, s, &mut row);
                 found = offer(

@@ -1,6 +1,5 @@
--- What is promised of the number that a call gives as the cost of its tree (L11, L14, L15), and how many edges there can be.
+-- What is promised of the number that a call gives as the cost of its tree (L11, L14), and how many edges there can be.
 -- Assumes nothing.
-use mathlib.Core.Path.{_≡_}
 use mathlib.Core.List.{List}
 use Prim.Native.Nat.{ℕ, _+_, _*_, _≤_, _<_}
 use native.Mathlib.Nat.{mul-le-mul}
@@ -10,7 +9,6 @@ use lib.ListN.{length}
 use Rattle.joined.specs.Cost.{lengths}
 use Rattle.plane.specs.declared.Place.{Place}
 use Rattle.plane.specs.declared.Macro.{Macro}
-use Rattle.plane.specs.declared.Weights.{Weights}
 use Rattle.net.specs.Net.{Net, costIn}
 use Rattle.net.specs.Allowed.{Allowed}
 use Rattle.lines.specs.declared.Axis.the-variants.{Across, Along}
@@ -20,10 +18,8 @@ use Rattle.lines.specs.Edges.{Edge}
 use Rattle.lines.proofs.GridCost.{line-count}
 use Rattle.rules.specs.Terminal.{Path}
 use Rattle.rules.specs.Trees.{Trees}
-use Rattle.rules.proofs.TreesOrder.{netBy, SameNet}
 use Rattle.parts.specs.Bounds.{bestPins}
 use Rattle.best.specs.Tree.{JoinsPins, IsBest, BestOver}
-use Rattle.best.proofs.OrderLaws.{best-any-order}
 use Rattle.best.proofs.RefinedLaws.{refined-not-cheaper}
 
 module _ {net : Net} {lent lent′ : List ℤ} {edges total metal : ℕ} (b : BestOver net lent lent′ edges total metal) where
@@ -35,15 +31,6 @@ module _ {net : Net} {lent lent′ : List ℤ} {edges total metal : ℕ} (b : Be
   pub total-refined : Allowed net → {vs : List Place} {es : List Edge} {ks : List Path} {rs : List Edge} → Trees net vs es ks rs →
       total ≤ lengths (costIn net) rs
   total-refined a t = let r = refined-not-cheaper a (b .is-best .best) t in omega (arith, r, b .cost)
-
--- L15: the cost is the same for every order of the lists
-pub total-any-order : {W : Weights} {ps qs : List Place} {ms ns : List Macro} → SameNet W ps qs ms ns →
-    {lent lent′ other other′ : List ℤ} {m n t u x y : ℕ} → BestOver (netBy W ps ms) lent lent′ m t x → BestOver
-    (netBy W qs ns) other other′ n u y →
-    t ≡ u
-total-any-order h b c =
-    let r = best-any-order h (b .tree) (c .tree) (b .is-best .best) (c .is-best .best) in
-    omega (arith, r, b .cost, c .cost)
 
 -- five pins and sixteen macros have 37 lines along either axis at most, so a best tree has fewer edges than 37 times 37
 pub best-few : (net : Net) (O : List Edge) → IsBest net O → length (net .pins) ≤ bestPins → length (net .macros) ≤ gridMacros →

@@ -22,7 +22,7 @@ use Rattle.plane.specs.declared.Place.{Place}
 use Rattle.plane.specs.Place.{place}
 use Rattle.plane.specs.Distance.{distance}
 use Rattle.net.specs.Net.{Net, costIn}
-use Rattle.net.specs.Check.{outOfRange}
+use Rattle.net.specs.Tests.{outOfRange}
 use Rattle.net.specs.Allowed.{PlaceInRange, Allowed}
 use Rattle.graph.specs.Numbers.{edgeNumbers, edgeFrom}
 use Rattle.graph.proofs.WidthLaws.{edge-width}

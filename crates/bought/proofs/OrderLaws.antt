@@ -37,7 +37,7 @@ use Rattle.plane.proofs.MacroLaws.{clear-comm}
 use Rattle.plane.proofs.CostLaws.{cost-comm}
 use Rattle.plane.proofs.DistanceLaws.{distance-comm}
 use Rattle.net.specs.Net.{Net}
-use Rattle.net.specs.Check.{outOfRange}
+use Rattle.net.specs.Tests.{outOfRange}
 use Rattle.bought.specs.Bounds.{boughtBound}
 use Rattle.bought.specs.Edges.{Edge, edgesOf, endsOf, pointsOf}
 use Rattle.bought.specs.Rearranged.{Rearranged, none, keep, turn, swap, then, SameEdges}

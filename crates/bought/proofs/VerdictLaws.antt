@@ -19,7 +19,7 @@ use Rattle.plane.specs.Cost.{cost, plain}
 use Rattle.plane.specs.Flat.{placesOf}
 use Rattle.plane.proofs.CostLaws.{cost-plain}
 use Rattle.net.specs.Net.{Net, costIn}
-use Rattle.net.specs.Check.{outOfRange}
+use Rattle.net.specs.Tests.{outOfRange}
 use Rattle.bought.specs.Bounds.{boughtBound}
 use Rattle.bought.specs.Edges.{Edge, edgesOf}
 use Rattle.bought.specs.Verdict.{edgesMiscounted, unfit, isTree, bare, noTree, verdict, bought}

@@ -16,7 +16,7 @@ use Rattle.plane.specs.Place.{samePlace}
 use Rattle.plane.specs.Distance.{distance}
 use Rattle.plane.specs.Cost.{plain}
 use Rattle.net.specs.Net.{netWith}
-use Rattle.net.specs.Check.{outOfRange}
+use Rattle.net.specs.Tests.{outOfRange}
 use Rattle.net.specs.WorkedNets.{Lists, onePin, aroundOne, threePins}
 use Rattle.graph.proofs.WorkedGraphs.{graphOf as worked}
 use Rattle.forest.specs.Edges.{from, entries}

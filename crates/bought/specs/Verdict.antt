@@ -18,7 +18,7 @@ use Rattle.plane.specs.Distance.{distance}
 use Rattle.plane.specs.Macro.{clear}
 use Rattle.net.specs.Net.{Net, costIn}
 use Rattle.net.specs.Answer.{number}
-use Rattle.net.specs.Check.{outOfRange}
+use Rattle.net.specs.Tests.{outOfRange}
 use Rattle.forest.specs.Edges.{from, entries}
 use Rattle.bought.specs.Bounds.{boughtBound}
 use Rattle.bought.specs.Edges.{Edge, edgesOf, endsOf, pointsOf}

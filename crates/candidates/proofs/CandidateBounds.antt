@@ -16,7 +16,8 @@ use Rattle.plane.specs.Flat.{placeAt}
 use Rattle.lists.proofs.TestLaws.{by, and-left, or-none}
 use Rattle.candidates.specs.declared.Best.{Best}
 use Rattle.longest.specs.Longest.{cutOf}
-use Rattle.candidates.specs.Candidate.{best, middleOf, allowed, weighed, offer, offers, search}
+use Rattle.triples.specs.Triple.{allowed}
+use Rattle.candidates.specs.Candidate.{best, middleOf, weighed, offer, offers, search}
 use Rattle.tree.specs.Table.{firstEnd, secondEnd}
 use Rattle.lists.proofs.TurnLaws.{turns-below}
 

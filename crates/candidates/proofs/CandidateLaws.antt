@@ -1,30 +1,28 @@
 -- Laws of the search for the best candidate.
 -- Assumes nothing.
-use mathlib.Core.Path.{_≡_, refl, sym, ap, ap₂, _∙_}
-use mathlib.Core.Bool.{Bool, true, false, not, _&&_, _||_}
-use mathlib.Core.List.{List, []}
+use mathlib.Core.Path.{_≡_, refl, sym, ap, _∙_}
+use mathlib.Core.Bool.{Bool, true, false, _&&_, _||_}
+use mathlib.Core.List.{List}
 use Prim.Native.Nat.{ℕ, _+_, _-_, _≤_, _<_}
 use native.Mathlib.Omega.{arith}
 use lib.Dec.{ltb, eqb}
 use lib.IntN.{ℤ}
 use lib.ListN.{getD}
-use borrow.Author.Tests.{lt-ltb, le-ltb, ltb-true, ltb-false}
+use borrow.Author.Tests.{lt-ltb, le-ltb, ltb-false}
 use Rattle.lists.proofs.TestLaws.{by}
 use Rattle.plane.specs.declared.Place.{Place}
 use Rattle.plane.specs.declared.Macro.{Macro}
 use Rattle.plane.specs.declared.Weights.{Weights}
 use Rattle.candidates.specs.declared.Best.{Best}
-use Rattle.plane.specs.Place.{samePlace}
 use Rattle.plane.specs.Cost.{cost}
 use Rattle.plane.specs.Middle.{middlePlace}
-use Rattle.plane.specs.Macro.{clear}
-use Rattle.plane.specs.Box.{boxOf, boxCost}
 use Rattle.plane.specs.Flat.{placeAt}
-use Rattle.plane.proofs.CostLaws.{box-cost}
 use Rattle.tree.specs.Table.{Low}
-use Rattle.lists.specs.Turns.{seek}
 use Rattle.longest.specs.Longest.{cutOf}
-use Rattle.candidates.specs.Candidate.{best, sees, taken, dropped, allowed, chosen, weighed, offer, mayGain}
+use Rattle.near.specs.Box.{boxOf, boxCost}
+use Rattle.near.proofs.BoxLaws.{box-cost}
+use Rattle.triples.specs.Triple.{allowed, mayGain}
+use Rattle.candidates.specs.Candidate.{best, chosen, weighed, offer}
 
 and-false : (a : Bool) → (a && false) ≡ false
 and-false true = refl
@@ -55,38 +53,6 @@ module _ (w : Weights) (pts : List ℤ) (n : ℕ) (ms : List Macro) (a b k u l x
         → best g k u l ≡ weighed w pts n ms a b k u l x c
     weigh-yes g f i e = sym (named p q r s d h ∙ rw (lt-ltb _ _ i, e, f) refl)
 
-pub sees-yes : (ms : List Macro) (a b u : Place) → clear u a ms ≡ true → true ≡ sees ms a b u
-unfolding sees
-sees-yes ms a b u e = rw e refl
-
-pub sees-no : (ms : List Macro) (a b u : Place) → clear u a ms ≡ false → clear u b ms ≡ sees ms a b u
-unfolding sees
-sees-no ms a b u e = rw e refl
-
-module _ (pts : List ℤ) (a b u : ℕ) (s : Place) (i : ℕ) where
-  pub taken-self : (eqb i a || (eqb i b || eqb i u)) ≡ true → false ≡ taken pts a b u s i
-  unfolding taken
-  taken-self e = rw e refl
-
-  pub taken-other : (eqb i a || (eqb i b || eqb i u)) ≡ false → (p : Place) (t : Bool) → p ≡ placeAt pts i → t ≡ samePlace s p → t
-      ≡ taken pts a b u s i
-  unfolding taken
-  taken-other e p t f g = rw (e, g, f) refl
-
-pub dropped-is : (pts : List ℤ) (n a b u : ℕ) (s : Place) (i : ℕ) → i ≡ seek (taken pts a b u s) 0 n → ltb i n ≡ dropped pts n a b u s
-unfolding dropped
-dropped-is pts n a b u s i e = rw e refl
-
-module _ (pts : List ℤ) (n : ℕ) (ms : List Macro) (a b u : ℕ) (s p q r : Place) (f : p ≡ placeAt pts a) (g : q ≡ placeAt pts b)
-    (h : r ≡ placeAt pts u) where
-  pub allowed-no : sees ms p q r ≡ false → false ≡ allowed pts n ms a b u s
-  unfolding allowed
-  allowed-no e = rw (← f, ← g, ← h, e) refl
-
-  pub allowed-yes : sees ms p q r ≡ true → (t : Bool) → t ≡ dropped pts n a b u s → not t ≡ allowed pts n ms a b u s
-  unfolding allowed
-  allowed-yes e t d = rw (← f, ← g, ← h, e, d) refl
-
 module _ (w : Weights) (pts : List ℤ) (n : ℕ) (ms : List Macro) (el top : List ℕ) (a b k u l : ℕ) (c : Best)
     (e : l ≡ cutOf el top a b u) where
   pub offer-none : (eqb u a || (eqb u b || eqb l k)) ≡ true → c ≡ offer w pts n ms el top a b k u c
@@ -99,18 +65,6 @@ module _ (w : Weights) (pts : List ℤ) (n : ℕ) (ms : List Macro) (el top : Li
     offer-is = rw (← e, d) refl
 
 -- What is skipped
-
-pub may-gain-not : (w : Weights) (m : Macro) (p : Place) (f g x : ℕ) → x ≤ g + f → false ≡ mayGain w m p f g x
-unfolding mayGain
-may-gain-not w m p f g x h = sym (le-ltb (g + (boxCost w m p + f)) x (omega arith))
-
-pub may-gain-is : (w : Weights) (m : Macro) (p : Place) (f g x : ℕ) → f + g < x → ltb (boxCost w m p) (x - f - g) ≡ mayGain w m p f g x
-unfolding mayGain
-may-gain-is w m p f g x h =
-    let d = boxCost w m p in
-    by (ltb d (x - f - g))
-    (λ t. t ∙ sym (lt-ltb (g + (d + f)) x (omega (arith, ltb-true d (x - f - g) t))))
-    (λ t. t ∙ sym (le-ltb (g + (d + f)) x (omega (arith, ltb-false d (x - f - g) t))))
 
 -- a point so far from the box of an edge that L is not long enough, or no edge is
 module _ (w : Weights) (pts : List ℤ) (n : ℕ) (ms : List Macro) (el top : List ℕ) (a b k u : ℕ) (c : Best)
@@ -137,8 +91,3 @@ module _ (w : Weights) (pts : List ℤ) (n : ℕ) (ms : List Macro) (el top : Li
       by (eqb u a || (eqb u b || eqb l k))
       (λ e. offer-none w pts n ms el top a b k u l c refl e)
       (λ e. far-low l x (low .low l) t j z ∙ offer-is w pts n ms el top a b k u l c refl e)
-
--- the box of two points
-pub box-is : (pts : List ℤ) (a b : ℕ) (p q : Place) (m : Macro) → p ≡ placeAt pts a → q ≡ placeAt pts b → m ≡ boxOf p q →
-    m ≡ boxOf (placeAt pts a) (placeAt pts b)
-box-is pts a b p q m e f g = g ∙ ap₂ boxOf e f

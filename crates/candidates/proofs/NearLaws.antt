@@ -1,54 +1,27 @@
 -- Points too far from the box of an edge, across alone, change nothing: those before the first near one and those after the last.
 -- Assumes nothing.
 use mathlib.Core.Path.{_≡_, refl, sym, ap, ap₂, _∙_}
-use mathlib.Core.Bool.{Bool, true, false, _&&_, _||_}
-use mathlib.Core.Logic.{_⊎_}
+use mathlib.Core.Bool.{false, _&&_, _||_}
 use mathlib.Core.List.{List}
 use Prim.Native.Nat.{ℕ, zero, suc, _+_, _-_, _≤_, _<_}
 use native.Mathlib.Omega.{arith}
-use native.Mathlib.Numerals.{add-one}
 use lib.Dec.{ltb, eqb}
 use lib.IntN.{ℤ}
 use lib.ListN.{getD}
-use borrow.Author.Tests.{ltb-true, ltb-false, le-ltb}
+use borrow.Author.Tests.{ltb-true, le-ltb}
 use Rattle.lists.specs.Turns.{turns}
-use Rattle.lists.proofs.TestLaws.{by, either, and-left}
-use Rattle.signed.specs.Sides.{Le}
-use Rattle.signed.proofs.SideLaws.{signed}
-use Rattle.signed.proofs.OrderLaws.{min-sides, max-sides}
-use Rattle.plane.specs.declared.Place.{Place}
+use Rattle.lists.proofs.TestLaws.{by, and-left}
 use Rattle.plane.specs.declared.Macro.{Macro}
 use Rattle.plane.specs.declared.Weights.{Weights}
-use Rattle.plane.specs.Place.{before}
 use Rattle.plane.specs.Cost.{cost}
-use Rattle.plane.specs.Box.{boxOf, boxCost, FarLeft, FarRight}
 use Rattle.plane.specs.Flat.{placeAt}
-use Rattle.plane.specs.Rank.{InOrder}
-use Rattle.plane.proofs.PlaceLaws.{before-true}
 use Rattle.tree.specs.Table.{Low}
-use Rattle.candidates.specs.declared.Best.{Best}
 use Rattle.longest.specs.Longest.{cutOf}
-use Rattle.candidates.specs.Candidate.{chosen, best, middleOf, allowed, weighed, offer, mayGain}
+use Rattle.near.specs.Box.{boxOf, boxCost}
+use Rattle.candidates.specs.declared.Best.{Best}
+use Rattle.triples.specs.Triple.{allowed, mayGain}
+use Rattle.candidates.specs.Candidate.{middleOf, weighed, offer}
 use Rattle.candidates.proofs.CandidateLaws.{offer-far}
-
--- Tables in order
-
-before-x : (p q : Place) → before p q ≡ true → Le (p .x) (q .x)
-before-x p q h = either (λ l. omega (signed, l)) (λ r. rw (r .0) (omega signed)) (before-true p q h)
-
-in-order : (pts : List ℤ) (n : ℕ) → InOrder pts n → (i j : ℕ) → i ≤ j → j < n → Le (placeAt pts i .x) (placeAt pts j .x)
-in-order pts n o i j h k =
-    by (ltb i j)
-    (λ t. before-x (placeAt pts i) (placeAt pts j) (o i j (ltb-true i j t) k))
-    (λ t. let e : i ≡ j = omega (arith, ltb-false i j t) in rw e (omega signed))
-
-module _ (w : Weights) (m : Macro) (pts : List ℤ) (n : ℕ) (o : InOrder pts n) (limit mid : ℕ) (k : mid < n) where
-  pub left-of : FarLeft w m (placeAt pts mid) limit → (u : ℕ) → u < mid + 1 → limit ≤ boxCost w m (placeAt pts u)
-  left-of f u h = f (placeAt pts u) (in-order pts n o u mid (omega arith) k)
-
-  pub right-of : Le (m .left) (m .right) → FarRight w m (placeAt pts mid) limit → (u : ℕ) → mid ≤ u → u < n
-      → limit ≤ boxCost w m (placeAt pts u)
-  right-of i f u h l = f i (placeAt pts u) (in-order pts n o mid u h l)
 
 -- Turns that change nothing
 
@@ -75,12 +48,6 @@ module _ {S : Type 0} (f : ℕ → S → S) where
       ap (λ (k : ℕ). turns f k (n - r) s) (let z : r ≡ 0 + r = omega arith in z)
       ∙ turns-front r 0 (n - r) s (λ u a b. h u (omega arith))
       ∙ ap (λ (k : ℕ). turns f 0 k s) (let z : r + (n - r) ≡ n = omega (arith, l) in z)
-
--- The sides of a box are in order
-
-pub box-sides : (p q : Place) (m : Macro) → m ≡ boxOf p q → Le (m .left) (m .right)
-unfolding boxOf
-box-sides p q m e = rw e (omega (signed, min-sides (p .x) (q .x), max-sides (p .x) (q .x)))
 
 -- What is chosen gains no less
 

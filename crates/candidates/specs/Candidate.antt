@@ -1,5 +1,5 @@
 -- Candidates, and the one that a round takes.
-use mathlib.Core.Bool.{Bool, true, false, not, _&&_, _||_}
+use mathlib.Core.Bool.{Bool, true, false, _&&_, _||_}
 use mathlib.Core.List.{List}
 use Prim.Native.Nat.{ℕ, _+_, _-_}
 use lib.Dec.{ltb, eqb}
@@ -8,16 +8,14 @@ use lib.ListN.{getD}
 use Rattle.plane.specs.declared.Place.{Place}
 use Rattle.plane.specs.declared.Macro.{Macro}
 use Rattle.plane.specs.declared.Weights.{Weights}
-use Rattle.plane.specs.Place.{samePlace}
 use Rattle.plane.specs.Cost.{cost}
 use Rattle.plane.specs.Middle.{middlePlace}
-use Rattle.plane.specs.Box.{boxCost}
-use Rattle.plane.specs.Macro.{clear}
 use Rattle.plane.specs.Flat.{placeAt}
 use Rattle.candidates.specs.declared.Best.{Best}
-use Rattle.lists.specs.Turns.{turns, seek}
+use Rattle.lists.specs.Turns.{turns}
 use Rattle.tree.specs.Table.{firstEnd, secondEnd}
 use Rattle.longest.specs.Longest.{cutOf, costs, longest}
+use Rattle.triples.specs.Triple.{allowed}
 
 -- the candidate of edge `edge` and point `point`, its L and its gain; with gain 0, none
 abbrev pub best : ℕ → ℕ → ℕ → ℕ → Best
@@ -26,21 +24,6 @@ best g k u l = record { gain = g; edge = k; point = u; cut = l }
 -- R5: s, the middle of the three places axis by axis
 abbrev pub middleOf : List ℤ → ℕ → ℕ → ℕ → Place
 middleOf pts a b u = middlePlace (placeAt pts a) (placeAt pts b) (placeAt pts u)
-
--- R3: u is clear of a or of b
-unfoldable pub sees : List Macro → Place → Place → Place → Bool
-sees ms a b u = clear u a ms || clear u b ms
-
--- R6: the point i, none of a, b and u, stands at s
-unfoldable pub taken : List ℤ → ℕ → ℕ → ℕ → Place → ℕ → Bool
-taken pts a b u s i = not (eqb i a || (eqb i b || eqb i u)) && samePlace s (placeAt pts i)
-
--- R6: a candidate is dropped when there is such a point
-unfoldable pub dropped : List ℤ → ℕ → ℕ → ℕ → ℕ → Place → Bool
-dropped pts n a b u s = ltb (seek (taken pts a b u s) 0 n) n
-
-unfoldable pub allowed : List ℤ → ℕ → List Macro → ℕ → ℕ → ℕ → Place → Bool
-allowed pts n ms a b u s = sees ms (placeAt pts a) (placeAt pts b) (placeAt pts u) && not (dropped pts n a b u s)
 
 abbrev pub chosen : Bool → Best → Best → Best
 chosen true new old = new
@@ -58,10 +41,6 @@ unfoldable pub offer : Weights → List ℤ → ℕ → List Macro → List ℕ 
 offer w pts n ms el top a b k u c =
     let l = cutOf el top a b u in
     chosen (eqb u a || (eqb u b || eqb l k)) c (weighed w pts n ms a b k u l (getD el l 0) c)
-
--- more than g can be gained with a place p that is f away from the tree, of an edge in the box m, where no edge costs more than x
-unfoldable pub mayGain : Weights → Macro → Place → ℕ → ℕ → ℕ → Bool
-mayGain w m p f g x = ltb (g + (boxCost w m p + f)) x
 
 -- edge k with all points
 unfoldable pub offers : Weights → List ℤ → ℕ → List Macro → List ℕ → List ℕ → List ℕ → ℕ → Best → Best

@@ -4,11 +4,10 @@
 -- number, the key of its ends, and the edges are a table in the order of keys, so an edge is its position. Then the order of numbers is the
 -- order of places and of edges, every tie is settled by scanning upwards and giving way only to what is strictly better, and code and
 -- definition share their tables.
--- L is that of crate longest.
+-- L is that of crate longest; what a candidate must be stands in crate triples.
 -- Machines take the weights first and then what they need of the net.
 --
 --   Candidate  middleOf                    s
---              sees, dropped, allowed      what a candidate must be
 --              weighed, offer, search      the best candidate so far with one more; the one that a round takes
 --              found                       the same from the tables of a tree
 --   Taken      Taken                       what is known of a candidate that a round takes

@@ -11,7 +11,8 @@ use Rattle.plane.specs.declared.Macro.{Macro}
 use Rattle.plane.specs.Flat.{placeAt}
 use Rattle.joined.specs.Joined.{Alike}
 use Rattle.joined.specs.Exchange.{Toward, steps}
-use Rattle.candidates.specs.Candidate.{middleOf, sees, dropped}
+use Rattle.triples.specs.Triple.{sees, dropped}
+use Rattle.candidates.specs.Candidate.{middleOf}
 use Rattle.tree.specs.Table.{firstEnd, secondEnd}
 use Rattle.tree.specs.Places.{edgesOf}
 

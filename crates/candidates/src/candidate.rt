@@ -1,9 +1,7 @@
 // Candidates, and the one that a round takes.
 use crate::Best;
-use crate::near;
 use longest::UNKNOWN;
 use plane::Macro;
-use plane::Place;
 use plane::Weights;
 use tree::NUMBERS;
 use tree::POINTS;
@@ -12,77 +10,12 @@ ghost use mathlib.Core.List.{List};
 ghost use Prim.Native.Nat.{ℕ, _*_, _≤_, _<_};
 ghost use lib.ListN.{length};
 ghost use Rattle.plane.specs.Flat.{placeAt, macrosOf};
-ghost use Rattle.plane.specs.Box.{boxOf};
 ghost use Rattle.plane.specs.Rank.{InOrder};
-ghost use Rattle.lists.specs.Turns.{seek};
 ghost use Rattle.tree.specs.Table.{treeBound, Low, Within};
 ghost use Rattle.longest.specs.Longest.{cutOf, longest};
 ghost use Rattle.longest.specs.Hung.{ties, Hanging};
-ghost use Rattle.candidates.specs.Candidate.{sees, taken, dropped, allowed, weighed, offer, mayGain, offers, search};
-
-pub fn sees(macros: &[i32], a: Place, b: Place, u: Place) -> bool
-    ensures { λ r. ⌜ r ≡ sees (macrosOf (now (macros .entry))) a b u ⌝ }
-{
-    if plane::is_clear(u, a, macros) {
-        return true;
-    }
-    plane::is_clear(u, b, macros)
-}
-
-// The point i stands at s and is none of a, b and u.
-fn is_taken(pts: &[i32; NUMBERS], a: usize, b: usize, u: usize, s: Place, i: usize) -> bool
-    requires { ⌜ i < treeBound ⌝ }
-    ensures { λ r. ⌜ r ≡ taken (now (pts .entry)) a b u s i ⌝ }
-{
-    if (i == a) | ((i == b) | (i == u)) {
-        return false;
-    }
-    plane::is_same_place(s, tree::point_at(pts, i))
-}
-
-fn find_taken(pts: &[i32; NUMBERS], n: usize, a: usize, b: usize, u: usize, s: Place) -> usize
-    requires { ⌜ n ≤ treeBound ⌝ }
-    ensures { λ r. ⌜ r ≡ seek (taken (now (pts .entry)) a b u s) 0 n ⌝ }
-{
-    let mut i = 0;
-    while i < n {
-        if is_taken(pts, a, b, u, s, i) {
-            return i;
-        }
-        i += 1;
-    }
-    i
-}
-
-pub fn is_dropped(pts: &[i32; NUMBERS], n: usize, a: usize, b: usize, u: usize, s: Place) -> bool
-    requires { ⌜ n ≤ treeBound ⌝ }
-    ensures { λ r. ⌜ r ≡ dropped (now (pts .entry)) n a b u s ⌝ }
-{
-    find_taken(pts, n, a, b, u, s) < n
-}
-
-fn is_allowed(
-    pts: &[i32; NUMBERS],
-    n: usize,
-    macros: &[i32],
-    a: usize,
-    b: usize,
-    u: usize,
-    s: Place,
-) -> bool
-    requires { ⌜ ((a < treeBound) × (b < treeBound)) × ((u < treeBound) × (n ≤ treeBound)) ⌝ }
-    ensures { λ r. ⌜ r ≡ allowed (now (pts .entry)) n (macrosOf (now (macros .entry))) a b u s ⌝ }
-{
-    if sees(
-        macros,
-        tree::point_at(pts, a),
-        tree::point_at(pts, b),
-        tree::point_at(pts, u),
-    ) {
-        return !is_dropped(pts, n, a, b, u, s);
-    }
-    false
-}
+ghost use Rattle.near.specs.Box.{boxOf};
+ghost use Rattle.candidates.specs.Candidate.{weighed, offer, offers, search};
 
 // The best so far, or the candidate of edge k from a to b and the point u, whose L is l. What is clear is asked last: it looks at every
 // macro.
@@ -112,7 +45,7 @@ fn weigh(
     if g <= c.gain {
         return c;
     }
-    if is_allowed(pts, n, macros, a, b, u, s) {
+    if triples::is_allowed(pts, n, macros, a, b, u, s) {
         return Best {
             gain: g,
             edge: k,
@@ -121,21 +54,6 @@ fn weigh(
         };
     }
     c
-}
-
-// Whether more than g can be gained with a place p that is f away from the tree, of edges in the box m, where none costs more than most.
-// The box is asked last, and before L, what is clear and what is dropped.
-pub fn may_gain(w: Weights, m: Macro, p: Place, f: u64, g: u64, most: u64) -> bool
-    ensures { λ r. ⌜ r ≡ mayGain w m p f g most ⌝ }
-{
-    if most <= f {
-        return false;
-    }
-    let left = most - f;
-    if left <= g {
-        return false;
-    }
-    plane::is_near_box(w, m, p, left - g)
 }
 
 // The candidate of edge k from a to b, in the box m, and the point u, whose L is l.
@@ -162,7 +80,7 @@ fn offer(
         return c;
     }
     let long = el[l];
-    if may_gain(w, m, tree::point_at(pts, u), 0, c.gain, long) {
+    if triples::may_gain(w, m, tree::point_at(pts, u), 0, c.gain, long) {
         return weigh(w, pts, n, macros, a, b, k, u, l, long, c);
     }
     c
@@ -191,7 +109,7 @@ fn offers(
 {
     let a = keys[k] / POINTS;
     let b = keys[k] % POINTS;
-    let m = plane::box_of(tree::point_at(pts, a), tree::point_at(pts, b));
+    let m = near::box_of(tree::point_at(pts, a), tree::point_at(pts, b));
     if most <= c.gain {
         return c;
     }
@@ -203,7 +121,7 @@ fn offers(
     while u < last {
         let at = u;
         u += 1;
-        if may_gain(w, m, tree::point_at(pts, at), 0, found.gain, most) {
+        if triples::may_gain(w, m, tree::point_at(pts, at), 0, found.gain, most) {
             let l = longest::cut_at(el, onto, link, turn, at, &mut row);
             found = offer(w, pts, n, macros, el, m, a, b, k, at, l, found);
         }

@@ -9,7 +9,7 @@ ghost use lib.ListN.{length};
 ghost use Rattle.lists.specs.Any.{any};
 ghost use Rattle.signed.specs.Sides.{up};
 ghost use Rattle.plane.specs.Place.{samePlace};
-ghost use Rattle.net.specs.Check.{noLoad};
+ghost use Rattle.net.specs.Tests.{noLoad};
 ghost use Rattle.net.specs.Pins.{pinPlaces, pinLoads, pinEntries};
 ghost use Rattle.tree.specs.Table.{treeBound};
 ghost use Rattle.delay.specs.Load.{loadOf};

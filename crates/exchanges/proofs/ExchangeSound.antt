@@ -31,7 +31,8 @@ use Rattle.joined.proofs.ExchangeLaws.{exchange-tree}
 use Rattle.joined.proofs.OneTreeLaws.{tree-simple}
 use Rattle.lists.specs.Turns.{turns, seek}
 use Rattle.tree.specs.Table.{treeBound, key, firstEnd, secondEnd, row, Tree, tree, Within}
-use Rattle.candidates.specs.Candidate.{middleOf, sees, taken, dropped}
+use Rattle.triples.specs.Triple.{sees, taken, dropped}
+use Rattle.candidates.specs.Candidate.{middleOf}
 use Rattle.exchanges.specs.Exchange.{dropTwo, stands, opened, bump, bumpAt, lays, star, laidAt}
 use Rattle.tree.specs.Sum.{sumOver}
 use Rattle.tree.specs.Places.{endsOf, pointsOf, edgesOf, keyCost, Sound}

@@ -26,7 +26,7 @@ use Rattle.plane.specs.Place.{place, before}
 use Rattle.plane.specs.Macro.{clear}
 use Rattle.plane.proofs.PlaceOrder.{place-order}
 use Rattle.net.specs.Net.{Net, costIn}
-use Rattle.net.specs.Check.{outOfRange}
+use Rattle.net.specs.Tests.{outOfRange}
 use Rattle.net.specs.Allowed.{Allowed, PlaceInRange}
 use Rattle.net.proofs.RangeBounds.{cost-in-range}
 use Rattle.net.proofs.AllowedLaws.{allowed-positive}

@@ -18,7 +18,7 @@ use Rattle.turned.specs.declared.Seen.{Seen}
 use Rattle.hanging.specs.declared.Hang.{Hang}
 use Rattle.turned.specs.Steps.{upTo}
 use Rattle.turned.specs.Turned.{View, view, onIt, seenEdge, aheadOf, behindOf}
-use Rattle.hanging.specs.Hanging.{counted, shorter, hung, noneHung, hang, code, uncode, Coded, Added, Tallied}
+use Rattle.hanging.specs.Hanging.{counted, shorter, hung, noneHung, hang, countLimit, code, uncode, Coded, Added, Tallied}
 use Rattle.hanging.proofs.CodeLaws.{hung-small}
 
 -- The number read back
@@ -29,9 +29,9 @@ hangOf a b d = record { ahead = a; behind = b; shortest = d }
 module _ {k : ℕ} {h : Hang} {c : ℕ} (few : k ≤ straightBound) (g : Coded k h c) where
   pub read-back : uncode c ≡ h
   read-back =
-      let n : c / 8589934592 ≡ h .ahead * 2048 + h .behind = omega (arith, g .coded, g .short) in
-      let a : c / 8589934592 / 2048 ≡ h .ahead = omega (arith, n, g .counts) in
-      let b : c / 8589934592 % 2048 ≡ h .behind = omega (arith, n, g .counts) in
+      let n : c / 8589934592 ≡ h .ahead * countLimit + h .behind = omega (arith, g .coded, g .short) in
+      let a : c / 8589934592 / countLimit ≡ h .ahead = omega (arith, n, g .counts) in
+      let b : c / 8589934592 % countLimit ≡ h .behind = omega (arith, n, g .counts) in
       let d : c % 8589934592 ≡ h .shortest = omega (arith, g .coded, g .short) in
       ap₂ (λ (x y : ℕ). hangOf x y (c % 8589934592)) a b ∙ ap (hangOf (h .ahead) (h .behind)) d
 

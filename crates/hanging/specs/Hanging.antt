@@ -6,6 +6,7 @@ use Prim.Native.Nat.{ℕ, _+_, _*_, _/_, _%_, _^_, _≤_, _<_, min}
 use lib.Dec.{eqb}
 use lib.IntN.{ℤ}
 use lib.ListN.{length, getD, set}
+use Rattle.net.specs.Bounds.{pinBound, macroBound}
 use Rattle.slide.specs.declared.Side.{Side}
 use Rattle.straight.specs.Table.{straightBound}
 use Rattle.turned.specs.declared.Seen.{Seen}
@@ -35,13 +36,17 @@ noneHung = record { ahead = 0; behind = 0; shortest = 0 }
 unfoldable pub hang : View → ℕ → Hang
 hang v e = upTo (λ k. hung (seenEdge v k)) e noneHung
 
--- What hangs as one number: the counts above the length, which is below 2^33
+-- What hangs as one number: the counts above the length, which is below 2^33. Counts are at most `straightBound`, which is four times the
+-- pins and eight times the macros
+
+abbrev pub countLimit : ℕ
+countLimit = (pinBound + macroBound) * 8
 
 abbrev pub code : Hang → ℕ
-code h = (h .ahead * 2048 + h .behind) * 8589934592 + h .shortest
+code h = (h .ahead * countLimit + h .behind) * 8589934592 + h .shortest
 
 abbrev pub uncode : ℕ → Hang
-uncode c = record { ahead = c / 8589934592 / 2048; behind = c / 8589934592 % 2048; shortest = c % 8589934592 }
+uncode c = record { ahead = c / 8589934592 / countLimit; behind = c / 8589934592 % countLimit; shortest = c % 8589934592 }
 
 -- c is what hangs after k edges
 pub record Coded (k : ℕ) (h : Hang) (c : ℕ) : Type 0 where

@@ -1,4 +1,5 @@
 // What hangs from a bar.
+use net::Net;
 use slide::Side;
 use straight::NUMBERS;
 use straight::POINTS;
@@ -19,10 +20,11 @@ pub struct Hang {
     pub shortest: u64,
 }
 
-// Lengths are below the first, counts below the second.
+// Lengths are below this.
 const LENGTHS: u64 = 8589934592;
 
-const COUNTS: u64 = 2048;
+// Counts are below this: more than the edges of a straight tree, whatever the bounds of pins and macros. With 128 of each a power of two.
+const COUNTS: u64 = (Net::PINS + Net::MACROS) as u64 * 8;
 
 fn counted(t: bool, n: usize) -> usize
     requires { ⌜ n < 2 ^ 32 ⌝ }

@@ -1,5 +1,5 @@
 // E12 to E14, E20 and E33: checks nets at the bounds and one past them, and writes each answer on a line of its own.
-use net::Checked;
+use checks::Checked;
 use net::Net;
 use net::Weighing;
 ghost use mathlib.Core.Path.{_≡_};

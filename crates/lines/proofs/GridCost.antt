@@ -28,7 +28,7 @@ use Rattle.plane.specs.Distance.{apart}
 use Rattle.plane.specs.Cost.{cost}
 use Rattle.net.specs.Bounds.{coordinateBound, weightBound}
 use Rattle.net.specs.Net.{Net, costIn}
-use Rattle.net.specs.Check.{outOfRange}
+use Rattle.net.specs.Tests.{outOfRange}
 use Rattle.net.specs.Allowed.{Allowed}
 use Rattle.net.proofs.RangeBounds.{Near, in-range-near}
 use Rattle.lines.specs.Bounds.{gridPins, gridMacros, lineBound, unreached}

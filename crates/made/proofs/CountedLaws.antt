@@ -12,11 +12,11 @@ use Rattle.net.specs.Bounds.{pinBound, macroBound, pointBound}
 use Rattle.net.specs.Pins.{pinCount, macroCount}
 use Rattle.net.specs.declared.Weighing.{Weighing}
 use Rattle.net.specs.Net.{Net, netOf, netWith, handed}
-use Rattle.net.specs.Check.{checked, pointCount as countedPoints}
+use Rattle.net.specs.Counts.{pointCount as countedPoints}
 use Rattle.net.specs.Allowed.{Allowed}
-use Rattle.net.proofs.AllowedLaws.{given-allowed, given-counts}
-use Rattle.net.proofs.HandedLaws.{handed-back}
 use Rattle.net.proofs.PinLaws.{length-pins}
+use Rattle.checks.specs.Check.{checked}
+use Rattle.checks.proofs.GivenLaws.{given-allowed, given-counts, handed-back}
 use Rattle.terminal.specs.declared.TerminalTree.{TerminalTree}
 use Rattle.terminal.specs.Tables.{Tables, Worked}
 use Rattle.union.specs.Union.{unionOf}

@@ -5,7 +5,7 @@ use lib.IntN.{ℤ}
 use Rattle.net.specs.declared.Net.{Net as Counts}
 use Rattle.net.specs.declared.Weighing.{Weighing}
 use Rattle.net.specs.Net.{netOf}
-use Rattle.net.specs.Check.{countsOf}
+use Rattle.net.specs.Counts.{countsOf}
 use Rattle.net.specs.Allowed.{Whole, Allowed}
 
 -- n is what was counted of the two lists, with the weights, their entries are whole with loads in range, and their net is allowed

@@ -1,14 +1,10 @@
 pub mod WidthLaws
 pub mod PinLaws
 pub mod NumberLaws
-pub mod CheckLaws
-pub mod PassedLaws
-pub mod BoundLaws
+pub mod CountLaws
 pub mod RangeLaws
 pub mod AllowedLaws
 pub mod HandedLaws
-pub mod CheckOrder
 pub mod RangeBounds
 pub mod ApartLaws
 pub mod WeighingFits
-pub mod WorkedChecks

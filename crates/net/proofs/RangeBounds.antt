@@ -16,7 +16,7 @@ use Rattle.plane.proofs.DistanceLaws.{apart-sides}
 use Rattle.plane.proofs.CostLaws.{cost-parts}
 use Rattle.net.specs.Bounds.{coordinateBound, costBound}
 use Rattle.net.specs.Net.{Net, costIn}
-use Rattle.net.specs.Check.{outOfRange}
+use Rattle.net.specs.Tests.{outOfRange}
 use Rattle.net.specs.Allowed.{PlaceInRange, Allowed}
 
 -- N4: a coordinate is at most 1,000,000 from 0

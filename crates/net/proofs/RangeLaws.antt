@@ -11,7 +11,7 @@ use Rattle.lists.specs.Any.{any}
 use Rattle.plane.specs.declared.Macro.{Macro}
 use Rattle.plane.specs.Flat.{macrosOf}
 use Rattle.net.specs.Bounds.{macroWidth}
-use Rattle.net.specs.Check.{outOfRange}
+use Rattle.net.specs.Tests.{outOfRange}
 
 abbrev pub macroOut : Macro → Bool
 macroOut m = outOfRange (m .left) || (outOfRange (m .bottom) || (outOfRange (m .right) || outOfRange (m .top)))

@@ -16,7 +16,7 @@ use Rattle.plane.specs.Macro.{inside, interiorsMeet}
 use Rattle.net.specs.Bounds.{pinBound, macroBound, weightBound, pinWidth, macroWidth}
 use Rattle.net.specs.Pins.{pinLoads}
 use Rattle.net.specs.Net.{Net}
-use Rattle.net.specs.Check.{outOfRange, noLoad}
+use Rattle.net.specs.Tests.{outOfRange, noLoad}
 
 -- the lists hold whole entries only, and the loads, of which the net itself knows nothing, are in range [11]
 pub record Whole (pins macros : List ℤ) : Type 0 where

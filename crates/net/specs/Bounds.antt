@@ -1,4 +1,4 @@
--- N6: the net's bounds, named here once for the definitions, and as constants of `Net` for the code. The proofs of the check and of the
+-- N6: the net's bounds, named here once for the definitions, and as constants of `Net` for the code. The proofs of the tests and of the
 -- code on tables fail where the two differ.
 use Prim.Native.Nat.{ℕ, _+_, _*_}
 

@@ -1,8 +1,8 @@
--- The net: one record for the definitions, its bounds, its check, and what an allowed net is.
+-- The net: one record for the definitions, its bounds, the tests of it, and what an allowed net is.
 --
 -- Code has the lists as slices of numbers, and what is no list as one struct by value that the check gives; definitions have one record
--- with places and macros. `netOf` takes the lists to the record. Definitions speak the numbers of the rules; the code speaks enums, and
--- `number` and `told` translate. A check goes through its tests in the order of C60, each over the whole net.
+-- with places and macros. `netOf` takes the lists to the record. Definitions speak the numbers of the rules; the code speaks an enum, and
+-- `number` translates. The tests stand here one by one, beside the bounds that they ask for; crate checks goes through them in their order.
 --
 --   Bounds     pinBound, macroBound, coordinateBound     128, 128 and 1,000,000
 --              Bounds, today                             the first two as one value: those of any machine, and of this one
@@ -19,12 +19,9 @@
 --              weightsOf w, handed w                     the weights that they are, and the other way
 --              costIn net a b                            what metal between two places costs in a net
 --   Answer     number f                                  the number of a refusal
---   Check      counted w m k, countsOf w pins macros     what the code's check gives: m, k and the weights
+--   Counts     counted w m k, countsOf w pins macros     what the code's check gives: m, k and the weights
 --              pointCount counts                         m + 4k
---              pinsMiscounted .. weightsWrong            the tests, 11 to 18
---              checked w pins macros                     the first number that applies, or what is given
---              checkedWithin b ..                        the same within any bounds, of which it is an instance
---              told r                                    what the code's answer says
+--   Tests      pinsMiscounted .. weightsWrong            the tests, 11 to 14, 17 and 18
 --   Allowed    Allowed net                               an allowed net in words, for the theory above
 --   Order      SamePins, SameMacros                      the same entries in another order
 --              SamePlaces                                pins at the same places, in another order and with other loads
@@ -33,7 +30,8 @@ pub mod Bounds
 pub mod Pins
 pub mod Net
 pub mod Answer
-pub mod Check
+pub mod Counts
+pub mod Tests
 pub mod Allowed
 pub mod Order
 pub mod WorkedNets

@@ -7,7 +7,7 @@ use lib.ListN.{length}
 use Rattle.lists.specs.Any.{any}
 use Rattle.plane.specs.Flat.{macrosOf}
 use Rattle.net.specs.Pins.{pinPlaces, pinLoads, pinEntries}
-use Rattle.net.specs.Check.{noLoad}
+use Rattle.net.specs.Tests.{noLoad}
 
 -- the same entries in another order; numbers left over past the last whole entry may be others
 pub record SamePins (pins pins′ : List ℤ) : Type 0 where

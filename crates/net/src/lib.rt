@@ -1,4 +1,4 @@
-// The net: its bounds and its check.
+// The net: its bounds, its pins read, and the tests of it, each of one entry or one count.
 use plane::Macro;
 use plane::Place;
 use plane::Weights;
@@ -6,32 +6,15 @@ ghost use mathlib.Core.Bool.{false};
 ghost use mathlib.Core.Path.{_≡_};
 ghost use Prim.Native.Nat.{_+_, _*_, _≤_, _<_};
 ghost use lib.IntN.{pos};
-ghost use lib.ListN.{length, drop};
+ghost use lib.ListN.{length};
 ghost use lib.Seq.{sets};
-ghost use Rattle.lists.specs.Any.{any, anyTwo};
 ghost use Rattle.signed.specs.Sides.{up};
-ghost use Rattle.plane.specs.Place.{samePlace};
-ghost use Rattle.plane.specs.Macro.{interiorsMeet};
-ghost use Rattle.plane.specs.Flat.{macrosOf};
 ghost use Rattle.net.specs.Bounds.{pinBound, macroBound, pinWidth};
-ghost use Rattle.net.specs.Pins.{pinCount, pinPlaces, pinAt, pinLoads, loadAt, pinNumbers, bare, macroCount};
+ghost use Rattle.net.specs.Pins.{pinCount, pinAt, loadAt, pinNumbers, bare, macroCount};
 ghost use Rattle.net.specs.Net.{weightsOf, handed};
 ghost use Rattle.net.specs.Answer.{number};
-ghost use Rattle.net.specs.Check.{
-  pinsMiscounted,
-  macrosMiscounted,
-  outOfRange,
-  placeOut,
-  noLoad,
-  pinsOutOfRange,
-  notUpright,
-  insideAny,
-  noWeight,
-  weightsWrong,
-  pointCount,
-  checked,
-  told,
-};
+ghost use Rattle.net.specs.Counts.{pointCount};
+ghost use Rattle.net.specs.Tests.{pinsMiscounted, macrosMiscounted, outOfRange, placeOut, noLoad, notUpright, noWeight, weightsWrong};
 
 // What the check finds of a net that is no list: its numbers of pins and of macros, and its weights. Its bounds are named here.
 pub struct Net {
@@ -139,12 +122,6 @@ impl Refusal {
     }
 }
 
-// The answer of the check.
-pub enum Checked {
-    Allowed(Net),
-    Refused(Refusal),
-}
-
 // How many pins a list holds.
 pub fn pin_count(pins: &[i32]) -> usize
     ensures { λ r. ⌜ r ≡ pinCount (now (pins .entry)) ⌝ }
@@ -201,172 +178,48 @@ pub fn point_count(net: Net) -> usize
     net.pins + net.macros * 4
 }
 
-fn pins_miscounted(pins: &[i32]) -> bool
+// Refusal 11: numbers left over past the last whole pin, no pin, or more than the bound.
+pub fn pins_miscounted(pins: &[i32]) -> bool
     ensures { λ r. ⌜ r ≡ pinsMiscounted (now (pins .entry)) ⌝ }
 {
     let m = pin_count(pins);
     (pins.len() % Net::PIN_NUMBERS != 0) | ((m == 0) | (Net::PINS < m))
 }
 
-fn macros_miscounted(macros: &[i32]) -> bool
+// Refusal 12: numbers left over past the last whole macro, or more macros than the bound.
+pub fn macros_miscounted(macros: &[i32]) -> bool
     ensures { λ r. ⌜ r ≡ macrosMiscounted (now (macros .entry)) ⌝ }
 {
     let k = macro_count(macros);
     (macros.len() % Net::MACRO_NUMBERS != 0) | (Net::MACROS < k)
 }
 
-fn is_out_of_range(z: i32) -> bool
+// Whether a number is farther from 0 than coordinates go.
+pub fn is_out_of_range(z: i32) -> bool
     ensures { λ r. ⌜ r ≡ outOfRange z ⌝ }
 {
     (z < -Net::COORDINATE) | (Net::COORDINATE < z)
 }
 
-// Whether a number is farther from 0 than coordinates go.
-pub fn any_out_of_range(numbers: &[i32]) -> bool
-    ensures { λ r. ⌜ r ≡ any outOfRange (now (numbers .entry)) ⌝ }
-{
-    let mut i = 0;
-    while i < numbers.len() {
-        if is_out_of_range(numbers[i]) {
-            return true;
-        }
-        i += 1;
-    }
-    false
-}
-
-fn is_place_out(p: Place) -> bool
+// So for either coordinate of a place.
+pub fn is_place_out(p: Place) -> bool
     ensures { λ r. ⌜ r ≡ placeOut p ⌝ }
 {
     is_out_of_range(p.x) | is_out_of_range(p.y)
 }
 
-fn any_place_out(pins: &[i32]) -> bool
-    ensures { λ r. ⌜ r ≡ any placeOut (pinPlaces (now (pins .entry))) ⌝ }
-{
-    let m = pin_count(pins);
-    let mut i = 0;
-    while i < m {
-        if is_place_out(pin_at(pins, i)) {
-            return true;
-        }
-        i += 1;
-    }
-    false
-}
-
-fn is_no_load(z: i32) -> bool
+// Whether a number is below 0 or above the greatest load.
+pub fn is_no_load(z: i32) -> bool
     ensures { λ r. ⌜ r ≡ noLoad z ⌝ }
 {
     (z < 0) | (Net::LOAD < z)
 }
 
-fn any_no_load(pins: &[i32]) -> bool
-    ensures { λ r. ⌜ r ≡ any noLoad (pinLoads (now (pins .entry))) ⌝ }
-{
-    let m = pin_count(pins);
-    let mut i = 0;
-    while i < m {
-        if is_no_load(load_at(pins, i)) {
-            return true;
-        }
-        i += 1;
-    }
-    false
-}
-
-// Whether a pin's place or its load is out of range.
-fn are_pins_out(pins: &[i32]) -> bool
-    ensures { λ r. ⌜ r ≡ pinsOutOfRange (now (pins .entry)) ⌝ }
-{
-    any_place_out(pins) | any_no_load(pins)
-}
-
-fn is_not_upright(m: Macro) -> bool
+// Refusal 14, for one macro: no width or no height.
+pub fn is_not_upright(m: Macro) -> bool
     ensures { λ r. ⌜ r ≡ notUpright m ⌝ }
 {
     !(m.left < m.right) | !(m.bottom < m.top)
-}
-
-fn any_not_upright(macros: &[i32]) -> bool
-    ensures { λ r. ⌜ r ≡ any notUpright (macrosOf (now (macros .entry))) ⌝ }
-{
-    let k = macro_count(macros);
-    let mut i = 0;
-    while i < k {
-        if is_not_upright(plane::macro_at(macros, i)) {
-            return true;
-        }
-        i += 1;
-    }
-    false
-}
-
-// Whether p is among the pins from the one numbered `from` on.
-pub fn is_among(p: Place, pins: &[i32], from: usize) -> bool
-    ensures { λ r. ⌜ r ≡ any (samePlace p) (drop from (pinPlaces (now (pins .entry)))) ⌝ }
-{
-    let m = pin_count(pins);
-    let mut j = from;
-    while j < m {
-        if plane::is_same_place(p, pin_at(pins, j)) {
-            return true;
-        }
-        j += 1;
-    }
-    false
-}
-
-fn any_same_place(pins: &[i32]) -> bool
-    ensures { λ r. ⌜ r ≡ anyTwo samePlace (pinPlaces (now (pins .entry))) ⌝ }
-{
-    let m = pin_count(pins);
-    let mut i = 0;
-    while i < m {
-        if is_among(pin_at(pins, i), pins, i + 1) {
-            return true;
-        }
-        i += 1;
-    }
-    false
-}
-
-// Whether two macros' interiors meet. The search for an overlap ends at the first pair found.
-fn any_overlap(macros: &[i32]) -> bool
-    ensures { λ r. ⌜ r ≡ anyTwo interiorsMeet (macrosOf (now (macros .entry))) ⌝ }
-{
-    let k = macro_count(macros);
-    let mut found = false;
-    let mut i = 0;
-    'search: while i < k {
-        let m = plane::macro_at(macros, i);
-        let mut j = i + 1;
-        while j < k {
-            if plane::interiors_meet(m, plane::macro_at(macros, j)) {
-                found = true;
-                break 'search;
-            }
-            j += 1;
-        }
-        i += 1;
-    }
-    found
-}
-
-// Whether a pin lies in an interior: the box of a pin and itself meets it.
-fn any_pin_inside(pins: &[i32], macros: &[i32]) -> bool
-    ensures { λ r. ⌜ r ≡ any (insideAny (macrosOf (now (macros .entry)))) (pinPlaces (now (pins .entry))) ⌝ }
-{
-    let m = pin_count(pins);
-    let mut i = 0;
-    while i < m {
-        let p = pin_at(pins, i);
-        if !plane::is_clear(p, p, macros) {
-            return true;
-        }
-        i += 1;
-    }
-    false
 }
 
 fn is_no_weight(z: i32) -> bool
@@ -375,7 +228,8 @@ fn is_no_weight(z: i32) -> bool
     (z < 1) | (Net::WEIGHT < z)
 }
 
-fn are_weights_wrong(w: Weighing) -> bool
+// Refusal 18: one of the two weights is outside 1 to 8.
+pub fn are_weights_wrong(w: Weighing) -> bool
     ensures { λ r. ⌜ r ≡ weightsWrong w ⌝ }
 {
     is_no_weight(w.first) | is_no_weight(w.second)
@@ -389,7 +243,8 @@ fn weight_of(z: i32) -> u8
     z as u8
 }
 
-fn weights_of(w: Weighing) -> Weights
+// The weights of a net as its own struct has them, of two that pass.
+pub fn weights_of(w: Weighing) -> Weights
     requires { ⌜ weightsWrong w ≡ false ⌝ }
     ensures { λ r. ⌜ r ≡ weightsOf w ⌝ }
 {
@@ -407,42 +262,4 @@ pub fn handed(w: Weights) -> Weighing
         first: w.across as i32,
         second: w.along as i32,
     }
-}
-
-// Check a net: the first refusal that applies, each test over the whole net before the next begins.
-pub fn check(w: Weighing, pins: &[i32], macros: &[i32]) -> Checked
-    ensures { λ r. ⌜ told r ≡ checked w (now (pins .entry)) (now (macros .entry)) ⌝ }
-{
-    if pins_miscounted(pins) {
-        return Checked::Refused(Refusal::PinList);
-    }
-    if macros_miscounted(macros) {
-        return Checked::Refused(Refusal::MacroList);
-    }
-    if are_pins_out(pins) {
-        return Checked::Refused(Refusal::Range);
-    }
-    if any_out_of_range(macros) {
-        return Checked::Refused(Refusal::Range);
-    }
-    if any_not_upright(macros) {
-        return Checked::Refused(Refusal::Sides);
-    }
-    if any_same_place(pins) {
-        return Checked::Refused(Refusal::SamePlace);
-    }
-    if any_overlap(macros) {
-        return Checked::Refused(Refusal::Overlap);
-    }
-    if any_pin_inside(pins, macros) {
-        return Checked::Refused(Refusal::PinInside);
-    }
-    if are_weights_wrong(w) {
-        return Checked::Refused(Refusal::WeightRange);
-    }
-    Checked::Allowed(Net {
-        pins: pin_count(pins),
-        macros: macro_count(macros),
-        weights: weights_of(w),
-    })
 }

@@ -18,10 +18,11 @@ use Rattle.plane.proofs.FlatLaws.{length-places}
 use Rattle.net.specs.declared.Net.{Net as Counts}
 use Rattle.net.specs.Net.{handed}
 use Rattle.net.specs.Bounds.{Bounds, today}
-use Rattle.net.specs.Check.{checkedWithin}
 use Rattle.net.specs.Pins.{flatPins}
 use Rattle.net.proofs.PinLaws.{pin-numbers, pin-count-flat}
-use Rattle.net.proofs.PassedLaws.{passed-all, pins-counted, macros-counted}
+use Rattle.net.proofs.CountLaws.{pins-counted, macros-counted}
+use Rattle.checks.specs.Check.{checkedWithin}
+use Rattle.checks.proofs.PassedLaws.{passed-all}
 use Rattle.blocks.specs.Sizes.{pinListBound, macroListBound}
 use Rattle.encoded.specs.Layout.{stored, fileBytes}
 use Rattle.encoded.specs.Same.{sameNumbers}

@@ -30,12 +30,14 @@ use Rattle.net.specs.declared.Net.{Net as Counts}
 use Rattle.net.specs.Net.{weightsOf, handed}
 use Rattle.net.specs.Bounds.{today, coordinateBound, loadBound, pinWidth, macroWidth}
 use Rattle.net.specs.Pins.{pinPlaces, pinLoads, flatPins, macroCount}
-use Rattle.net.specs.Check.{outOfRange, placeOut, noLoad, pinsOutOfRange, weightsWrong, checked}
+use Rattle.net.specs.Tests.{outOfRange, placeOut, noLoad, pinsOutOfRange, weightsWrong}
 use Rattle.net.specs.Allowed.{Weighted}
 use Rattle.net.proofs.PinLaws.{macro-numbers}
-use Rattle.net.proofs.PassedLaws.{passed-all}
-use Rattle.net.proofs.AllowedLaws.{weights-within, given-counts}
+use Rattle.net.proofs.AllowedLaws.{weights-within}
 use Rattle.net.proofs.HandedLaws.{weights-handed, handed-weights}
+use Rattle.checks.specs.Check.{checked}
+use Rattle.checks.proofs.PassedLaws.{passed-all}
+use Rattle.checks.proofs.GivenLaws.{given-counts}
 use Rattle.blocks.specs.Sizes.{blockWords, blockBytes, pinCountWord, macroCountWord, headKind, macroKind, loadedKind, placeWidth, blocksFor}
 use Rattle.blocks.specs.Sizes.{blockCount, fileBlocks, fileBound}
 use Rattle.blocks.specs.Words.{wordsOf}

@@ -16,7 +16,8 @@ use Rattle.lent.specs.Told.{refused, code}
 use Rattle.plane.specs.declared.Weights.{Weights}
 use Rattle.net.specs.Bounds.{today, weightBound}
 use Rattle.net.specs.Allowed.{Weighted}
-use Rattle.net.proofs.HandedLaws.{weighted-passes, one-number, another, not-18}
+use Rattle.net.proofs.HandedLaws.{weighted-passes}
+use Rattle.checks.proofs.CodeLaws.{one-number, another, not-18}
 use Rattle.blocks.specs.Sizes.{firstWeightWord, secondWeightWord}
 use Rattle.blocks.specs.Words.{wordsOf, bytesOfWord, bytesOf, weightWord, weightIn}
 use Rattle.blocks.specs.Sums.{sealed}

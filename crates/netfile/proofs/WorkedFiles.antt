@@ -15,12 +15,12 @@ use Rattle.plane.specs.Flat.{placesOf}
 use Rattle.net.specs.declared.Net.{Net as Counts}
 use Rattle.net.specs.Net.{weighing, plainly}
 use Rattle.net.specs.Pins.{flatPins}
-use Rattle.net.specs.Check.{counted}
+use Rattle.net.specs.Counts.{counted}
 use Rattle.net.specs.WorkedNets.{Lists, loadedPin, aroundOne}
-use Rattle.net.proofs.WorkedChecks.{answer}
 use Rattle.blocks.specs.Sizes.{blockWords, blockBytes, summedWords, pinsPerBlock, loadedPerBlock, macrosPerBlock, pinListBound}
 use Rattle.blocks.specs.Sizes.{macroListBound, placeWidth, blocksFor, fileBlocks, fileBound}
 use Rattle.net.specs.Bounds.{pinWidth}
+use Rattle.checks.proofs.WorkedChecks.{answer}
 use Rattle.blocks.specs.Words.{wordsOf, bytesOfWord, bytesOf, wordOf, coordinate, weightWord, weightIn}
 use Rattle.blocks.specs.Sums.{total, runningSums, plainSum, sumOfSums, sealed, wrongSums}
 use Rattle.blocks.specs.Block.{block, headBlock, listBlock}

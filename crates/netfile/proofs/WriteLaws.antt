@@ -12,9 +12,10 @@ use Rattle.lent.specs.Told.{Told, refused, given, onlyIf}
 use Rattle.net.specs.declared.Weighing.{Weighing}
 use Rattle.net.specs.declared.Net.{Net as Counts}
 use Rattle.net.specs.Net.{weightsOf}
-use Rattle.net.specs.Check.{checked}
 use Rattle.net.proofs.PinLaws.{pin-numbers}
-use Rattle.net.proofs.PassedLaws.{PinsCounted, MacrosCounted, passed-all, pins-counted, macros-counted}
+use Rattle.net.proofs.CountLaws.{PinsCounted, MacrosCounted, pins-counted, macros-counted}
+use Rattle.checks.specs.Check.{checked}
+use Rattle.checks.proofs.PassedLaws.{passed-all}
 use Rattle.blocks.specs.Sizes.{blockCount, fileBlocks}
 use Rattle.encoded.specs.Layout.{stored, fileBytes}
 use Rattle.netfile.specs.Write.{fitted, written, writtenWithin}

@@ -9,7 +9,7 @@ use Rattle.plane.specs.declared.Weights.{Weights}
 use Rattle.net.specs.declared.Net.{Net as Counts}
 use Rattle.net.specs.Bounds.{Bounds, today, pinWidth, macroWidth}
 use Rattle.net.specs.Net.{handed}
-use Rattle.net.specs.Check.{checkedWithin}
+use Rattle.checks.specs.Check.{checkedWithin}
 use Rattle.encoded.specs.Layout.{fileBytes}
 use Rattle.encoded.specs.Same.{sameNumbers}
 use Rattle.decoded.specs.Held.{blocksMiscountedWithin, sumsWrong, weightsIn, pinsIn, macrosIn, headWrong}

@@ -10,7 +10,7 @@ use Rattle.net.specs.declared.Weighing.{Weighing}
 use Rattle.net.specs.Net.{weightsOf}
 use Rattle.net.specs.Answer.{number}
 use Rattle.net.specs.Bounds.{Bounds, today}
-use Rattle.net.specs.Check.{checkedWithin}
+use Rattle.checks.specs.Check.{checkedWithin}
 use Rattle.encoded.specs.Layout.{fileBytes}
 use Rattle.netfile.specs.declared.Written.{Written}
 use Rattle.netfile.specs.declared.Written.the-variants.{Bytes, Refused}

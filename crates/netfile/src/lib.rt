@@ -5,7 +5,7 @@
 use blocks::FILE_NUMBERS;
 use blocks::FILE_PINS;
 use blocks::PIN_COUNT_WORD;
-use net::Checked;
+use checks::Checked;
 use net::Net;
 use net::Refusal;
 use net::Weighing;
@@ -16,7 +16,7 @@ ghost use Prim.Native.Nat.{_≤_};
 ghost use lib.ListN.{length};
 ghost use Rattle.lent.specs.Over.{after};
 ghost use Rattle.net.specs.Net.{weightsOf};
-ghost use Rattle.net.specs.Check.{told};
+ghost use Rattle.checks.specs.Check.{told};
 ghost use Rattle.blocks.specs.Sizes.{blockCount, fileBlocks};
 ghost use Rattle.encoded.specs.Layout.{stored, fileBytes};
 ghost use Rattle.decoded.specs.Held.{pinLength, macroLength, pinsIn, macrosIn, Sized, weightsMiswritten};
@@ -58,7 +58,7 @@ pub fn write(w: Weighing, pins: &[i32], macros: &[i32], bytes: &mut [u8]) -> Wri
         ≡ after (written w (now (pins .entry)) (now (macros .entry)) (length (now (bytes .entry))))
         (fileBytes (weightsOf w) (now (pins .entry)) (now (macros .entry))) (now (bytes .entry)) ⌝ }
 {
-    let answer = net::check(w, pins, macros);
+    let answer = checks::check(w, pins, macros);
     match answer {
         Checked::Allowed(net) => write_checked(net.weights, pins, macros, &mut *bytes),
         Checked::Refused(refusal) => Written::Refused(refusal),
@@ -71,7 +71,7 @@ fn check_lists(bytes: &[u8], w: Weights, pins: &[i32], macros: &[i32]) -> Checke
     ensures { λ r. ⌜ told r ≡ laidOut (now (bytes .entry)) w (now (pins .entry)) (now (macros .entry)) ⌝ }
 {
     if encoded::is_file_of(bytes, w, pins, macros) {
-        return net::check(net::handed(w), pins, macros);
+        return checks::check(net::handed(w), pins, macros);
     }
     Checked::Refused(Refusal::Layout)
 }

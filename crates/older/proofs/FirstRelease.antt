@@ -16,9 +16,9 @@ use Rattle.net.specs.Bounds.{macroWidth}
 use Rattle.net.specs.declared.Weighing.{Weighing}
 use Rattle.net.specs.Net.{plainly, weightsOf}
 use Rattle.net.specs.Pins.{pinPlaces, flatPins, macroCount}
-use Rattle.net.specs.Check.{checked}
 use Rattle.net.proofs.PinLaws.{pins-flat}
 use Rattle.net.proofs.HandedLaws.{weights-handed}
+use Rattle.checks.specs.Check.{checked}
 use Rattle.blocks.specs.Sizes.{pinKind, macroKind, placeWidth, blocksFor}
 use Rattle.blocks.specs.Words.{bytesOf, weightWord}
 use Rattle.blocks.specs.Block.{block, headBlock}

@@ -15,12 +15,12 @@ use Rattle.net.specs.declared.Net.{Net as Counts}
 use Rattle.net.specs.Bounds.{Bounds, today}
 use Rattle.net.specs.Pins.{pinCount, macroCount}
 use Rattle.net.specs.Net.{weightsOf, handed}
-use Rattle.net.specs.Check.{checkedWithin, checked}
 use Rattle.net.proofs.PinLaws.{pin-numbers}
-use Rattle.net.proofs.BoundLaws.{pins-within, pins-above, macros-above, given-within, same-check}
-use Rattle.net.proofs.CheckLaws.{Past11}
-use Rattle.net.proofs.PassedLaws.{passed-all}
-use Rattle.net.proofs.AllowedLaws.{given-counts}
+use Rattle.checks.specs.Check.{checkedWithin, checked}
+use Rattle.checks.proofs.BoundLaws.{pins-within, pins-above, macros-above, given-within, same-check}
+use Rattle.checks.proofs.CheckLaws.{Past11}
+use Rattle.checks.proofs.PassedLaws.{passed-all}
+use Rattle.checks.proofs.GivenLaws.{given-counts}
 use Rattle.blocks.specs.Sizes.{pinListBound, macroListBound, blockBytes, blocksFor, blockCount, fileBlocksWithin}
 use Rattle.encoded.specs.Layout.{stored, fileBytes}
 use Rattle.decoded.specs.Held.{weightsIn, pinsIn, macrosIn}

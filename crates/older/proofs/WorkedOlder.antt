@@ -11,7 +11,7 @@ use Rattle.plane.specs.Cost.{plain}
 use Rattle.net.specs.declared.Net.{Net as Counts}
 use Rattle.net.specs.Bounds.{Bounds, today}
 use Rattle.net.specs.Net.{plainly}
-use Rattle.net.specs.Check.{counted}
+use Rattle.net.specs.Counts.{counted}
 use Rattle.net.specs.WorkedNets.{Lists, aroundOne}
 use Rattle.blocks.specs.Words.{bytesOf}
 use Rattle.netfile.specs.Write.{fitted, writtenWithin}

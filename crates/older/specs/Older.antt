@@ -14,7 +14,7 @@ use Rattle.net.specs.declared.Net.{Net as Counts}
 use Rattle.net.specs.Bounds.{Bounds, today}
 use Rattle.net.specs.Pins.{pinCount, macroCount}
 use Rattle.net.specs.Net.{weightsOf}
-use Rattle.net.specs.Check.{checked, checkedWithin}
+use Rattle.checks.specs.Check.{checked, checkedWithin}
 use Rattle.blocks.specs.Sizes.{blockBytes, blockCount, fileBlocksWithin}
 use Rattle.encoded.specs.Layout.{stored, fileBytes}
 use Rattle.netfile.specs.Write.{writtenWithin}

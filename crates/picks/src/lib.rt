@@ -80,7 +80,7 @@ fn is_next(w: Weights, q: Quadrant, u: Place, held: Standing, i: usize, v: Place
 fn look_at(w: Weights, macros: &[i32], u: Place, held: Standing, i: usize, v: Place) -> Standing
     ensures { λ r. ⌜ bestOf r ≡ ifClear w (macrosOf (now (macros .entry))) u (bestOf held) i v ⌝ }
 {
-    let sight = plane::look(u, v, macros, held.by);
+    let sight = clear::look(u, v, macros, held.by);
     if !sight.free {
         return Standing {
             at: held.at,

@@ -5,7 +5,6 @@
 use mathlib.Core.Path.{_≡_, ap₂}
 use mathlib.Core.Bool.{true, false}
 use Prim.Native.Nat.{ℕ, _+_, _-_, _^_, _≤_, _<_, min, max}
-use native.Mathlib.Omega.{arith}
 use lib.IntN.{ℤ, pos, _-ℤ_, natAbs}
 use lib.Signed.{ltZ, leZ}
 use mir.Syntax.{w32, w64}
@@ -111,8 +110,3 @@ apart-triangle a b c =
     (omega (signed, apart-covers b a, apart-covers c b, apart-comm a b, apart-comm b c))
 
 -- How far at most
-
--- of any two places of 32 bits
-pub distance-fits : (a b : Place) → SFits w32 (a .x) → SFits w32 (a .y) → SFits w32 (b .x) → SFits w32 (b .y) → distance a b < 2 ^ 33
-unfolding distance
-distance-fits a b f g h i = omega (arith, apart-fits (a .x) (b .x) f h, apart-fits (a .y) (b .y) g i)

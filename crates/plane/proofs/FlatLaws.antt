@@ -11,7 +11,7 @@ use Rattle.plane.specs.declared.Place.{Place}
 use Rattle.plane.specs.declared.Macro.{Macro}
 use Rattle.plane.specs.Place.{place}
 use Rattle.plane.specs.Macro.{macro}
-use Rattle.plane.specs.Flat.{placesOf, macrosOf, placeAt, macroAt, flatPlaces, flatMacros}
+use Rattle.plane.specs.Flat.{placesOf, macrosOf, placeAt, macroAt, flatPlaces}
 
 -- Places
 
@@ -50,13 +50,3 @@ macros-end = fours-end (pos 0) macro
 pub length-macros : (s : List ℤ) → length (macrosOf s) ≡ length s / 4
 unfolding macrosOf
 length-macros = length-fours macro
-
-pub macros-flat : (ms : List Macro) → macrosOf (flatMacros ms) ≡ ms
-unfolding macrosOf flatMacros
-macros-flat [] = refl
-macros-flat (m ∷ ms) = ap (λ (l : List Macro). m ∷ l) (macros-flat ms)
-
-pub length-flat-macros : (ms : List Macro) → length (flatMacros ms) ≡ length ms * 4
-unfolding flatMacros
-length-flat-macros [] = refl
-length-flat-macros (m ∷ ms) = omega (arith, length-flat-macros ms)

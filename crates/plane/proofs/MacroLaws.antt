@@ -1,40 +1,23 @@
 -- Interiors and boxes: a place is in an interior exactly when the box of the place and itself meets it; nothing depends on which place,
 -- macro or entry is named first.
 -- Assumes nothing.
-use mathlib.Core.Path.{_≡_, refl, sym, ap, ap₂, _∙_}
-use mathlib.Core.Bool.{Bool, true, not, _&&_, and-comm, Bool·not-not}
-use mathlib.Core.List.{List, [], _∷_, Perm}
-use Prim.Native.Nat.{ℕ, zero, suc, _+_, _*_, _≤_}
+use mathlib.Core.Path.{_≡_, sym, ap, ap₂, _∙_}
+use mathlib.Core.Bool.{Bool, not, _&&_, and-comm, Bool·not-not}
+use mathlib.Core.List.{List, Perm}
 use lib.IntN.{ℤ}
-use lib.ListN.{length, drop}
 use lib.Signed.{ltZ}
 use Rattle.lists.specs.Any.{any}
-use Rattle.lists.proofs.TestLaws.{by}
-use Rattle.lists.proofs.AnyLaws.{any-agree, any-hit}
+use Rattle.lists.proofs.AnyLaws.{any-agree}
 use Rattle.lists.proofs.AnyOrder.{any-perm}
 use Rattle.signed.proofs.OrderLaws.{min-self, max-self, min-comm, max-comm}
 use Rattle.plane.specs.declared.Place.{Place}
 use Rattle.plane.specs.declared.Macro.{Macro}
 use Rattle.plane.specs.Macro.{inside, spanMeets, meets, openSpansMeet, interiorsMeet, clear}
-use Rattle.plane.specs.Flat.{macrosOf, macroAt}
-use Rattle.plane.proofs.FlatLaws.{macros-next}
 
 -- `clear` by the value of the search that it negates
 pub clear-is : (a b : Place) (ms : List Macro) {t : Bool} → any (meets a b) ms ≡ t → not t ≡ clear a b ms
 unfolding clear
 clear-is a b ms e = sym (ap not e)
-
--- what is found in the rest of a list is in the list
-any-left : {A : Type 0} (f : A → Bool) (i : ℕ) (xs : List A) → any f (drop i xs) ≡ true → any f xs ≡ true
-unfolding any
-any-left f zero xs e = e
-any-left f (suc i) [] e = e
-any-left f (suc i) (x ∷ xs) e = by (f x) (λ t. rw t refl) (λ t. rw t (any-left f i xs e))
-
--- one macro that the box of a and b meets, by its number
-pub one-meets : (a b : Place) (s : List ℤ) (i : ℕ) → i * 4 + 4 ≤ length s → meets a b (macroAt s i) ≡ true
-    → any (meets a b) (macrosOf s) ≡ true
-one-meets a b s i h e = any-left (meets a b) i (macrosOf s) (any-hit _ _ _ _ (macros-next s i h) e)
 
 span-of-one : (a from to : ℤ) → spanMeets a a from to ≡ (ltZ from a && ltZ a to)
 unfolding spanMeets

@@ -1,6 +1,6 @@
--- The middle of three numbers lies between each two of them and is one of them, in whatever order they are named.
+-- The middle of three numbers lies between each two of them and is one of them.
 -- Assumes nothing.
-use mathlib.Core.Path.{_≡_, ap₂}
+use mathlib.Core.Path.{_≡_}
 use mathlib.Core.Logic.{_⊎_, inl, inr}
 use Prim.Native.Nat.{_+_, min, max}
 use lib.IntN.{ℤ}
@@ -9,7 +9,7 @@ use Rattle.lists.proofs.TestLaws.{by}
 use Rattle.signed.specs.Sides.{up, down}
 use Rattle.signed.specs.Order.{minZ, maxZ}
 use Rattle.signed.proofs.SideLaws.{eq-of, signed}
-use Rattle.signed.proofs.OrderLaws.{min-sides, max-sides, min-comm, max-comm}
+use Rattle.signed.proofs.OrderLaws.{min-sides, max-sides}
 use Rattle.plane.specs.Middle.{middle}
 use Rattle.plane.specs.Box.{Between}
 
@@ -33,11 +33,6 @@ middle-outer a b c =
 pub middle-last : (a b c : ℤ) → Between (middle a b c) b c
 middle-last a b c =
     (omega (signed, middle-sides a b c, min-sides b c), omega (signed, middle-sides a b c, max-sides b c))
-
--- whichever of the first two is named first
-pub middle-swap : (a b c : ℤ) → middle a b c ≡ middle b a c
-unfolding middle
-middle-swap a b c = ap₂ (λ (low high : ℤ). maxZ low (minZ high c)) (min-comm a b) (max-comm a b)
 
 -- it is one of the three
 pub middle-one : (a b c : ℤ) → (middle a b c ≡ a) ⊎ ((middle a b c ≡ b) ⊎ (middle a b c ≡ c))

@@ -37,11 +37,7 @@ macroFrom s k = macro (getD s k (pos 0)) (getD s (k + 1) (pos 0)) (getD s (k + 2
 abbrev pub macroAt : List ℤ → ℕ → Macro
 macroAt s i = macroFrom s (i * 4)
 
--- entries as a flat list
+-- places as a flat list
 unfoldable pub flatPlaces : List Place → List ℤ
 flatPlaces [] = []
 flatPlaces (p ∷ ps) = p .x ∷ (p .y ∷ flatPlaces ps)
-
-unfoldable pub flatMacros : List Macro → List ℤ
-flatMacros [] = []
-flatMacros (m ∷ ms) = m .left ∷ (m .bottom ∷ (m .right ∷ (m .top ∷ flatMacros ms)))

@@ -9,14 +9,13 @@
 --   Cost       cost w a b          plain, Positive w             what metal between two places costs; weights of 1, and of 1 at least
 --              costLimit                                         2^41, above every cost of 32-bit places
 --   Middle     middle a b c        middlePlace a b u             the middle of three numbers, and of three places by axis
---   Box        InBox s a b         boxOf a b                     s in the closed upright box of a and b; the box by its sides
---              outside l h z       boxCost w m u                 how far z lies outside a span; what metal from u to a box costs
+--   Box        InBox s a b                                       s in the closed upright box of a and b
 --   Macro      macro l b r t       inside p m                    a place in a macro's interior
 --              meets a b m         interiorsMeet m n             a closed box, or another interior, meets a macro's interior
 --              clear a b ms                                      the box of two places meets no interior of ms
 --   Flat       placesOf, macrosOf  placeAt, macroAt              the entries that a flat list holds, all of them and the i-th
 --              placeNumbers p                                    a place as its two numbers
---              flatPlaces, flatMacros                            entries as a flat list
+--              flatPlaces                                        places as a flat list
 --   Rank       InOrder s n         rank s n p                    the first n places of a flat list are in order; how many come before p
 pub mod Place
 pub mod Distance

@@ -8,7 +8,8 @@ use native.Mathlib.Omega.{arith}
 use borrow.Author.Tests.{lt-ltb, le-ltb, ltb-true, ltb-false}
 use lib.Dec.{ltb}
 use Rattle.lists.proofs.TestLaws.{by}
-use Rattle.price.specs.Charge.{rateBound, metalBound, units, rounded, charge}
+use Rattle.bands.specs.Tests.{rateBound}
+use Rattle.price.specs.Charge.{metalBound, units, rounded, charge}
 
 -- Rounding
 

@@ -6,7 +6,7 @@ use mathlib.Core.Bool.{true, false}
 use mathlib.Core.List.{List, [], _∷_}
 use Prim.Native.Nat.{ℕ}
 use Rattle.lent.specs.Told.{refused, given}
-use Rattle.price.specs.declared.Band.{Band}
+use Rattle.bands.specs.declared.Band.{Band}
 use Rattle.price.specs.Charge.{charge, reaches, byFirst}
 
 -- `left` begins with b, and `rest` is what follows

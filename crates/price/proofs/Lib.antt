@@ -1,7 +1,5 @@
-pub mod BandLaws
 pub mod ChargeLaws
 pub mod FirstLaws
 pub mod PriceLaws
-pub mod OrderLaws
 pub mod LongerLaws
 pub mod WorkedPrices

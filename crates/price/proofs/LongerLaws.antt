@@ -14,14 +14,14 @@ use Rattle.lists.specs.Member.{_∈_, here, there}
 use Rattle.lists.proofs.TestLaws.{by, not-true, contrapose}
 use Rattle.lent.specs.Told.{given}
 use Rattle.lent.proofs.AfterLaws.{told-apart}
-use Rattle.price.specs.declared.Band.{Band}
-use Rattle.price.specs.Band.{bandsOf}
+use Rattle.bands.specs.declared.Band.{Band}
+use Rattle.bands.specs.Band.{bandsOf}
+use Rattle.bands.specs.Order.{NeverFalling, WellKept}
 use Rattle.price.specs.Charge.{charge, reaches, byFirst}
-use Rattle.price.specs.Order.{NeverFalling, WellKept}
 use Rattle.price.specs.Price.{priced}
+use Rattle.bands.proofs.OrderLaws.{kept}
 use Rattle.price.proofs.ChargeLaws.{charge-rises}
 use Rattle.price.proofs.FirstLaws.{first-hit, first-miss, first-end}
-use Rattle.price.proofs.OrderLaws.{kept}
 use Rattle.price.proofs.PriceLaws.{price-first, given-passed}
 
 -- a charge is one at the rate of some band

@@ -10,11 +10,12 @@ use Rattle.lists.specs.Any.{any}
 use Rattle.lists.proofs.TestLaws.{by, or-none}
 use Rattle.lent.specs.Told.{refused, given}
 use Rattle.lent.proofs.AfterLaws.{told-apart}
-use Rattle.price.specs.declared.Band.{Band}
-use Rattle.price.specs.Band.{bandsOf}
-use Rattle.price.specs.Charge.{rateBound, byFirst}
-use Rattle.price.specs.Order.{fallsBack}
-use Rattle.price.specs.Price.{bandsMiscounted, rateAbove, priced}
+use Rattle.bands.specs.declared.Band.{Band}
+use Rattle.bands.specs.Band.{bandsOf}
+use Rattle.bands.specs.Tests.{rateBound, bandsMiscounted, rateAbove}
+use Rattle.bands.specs.Order.{fallsBack}
+use Rattle.price.specs.Charge.{byFirst}
+use Rattle.price.specs.Price.{priced}
 
 -- the tests that a list passes before its bands are asked for a rate
 pub record Passed (s : List ℕ) : Type 0 where

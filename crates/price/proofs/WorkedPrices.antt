@@ -5,10 +5,11 @@ use mathlib.Core.List.{List, [], _∷_}
 use Prim.Native.Nat.{ℕ}
 use Rattle.lists.specs.Any.{any}
 use Rattle.lent.specs.Told.{Told, refused, given}
-use Rattle.price.specs.Band.{bandsOf}
+use Rattle.bands.specs.Band.{bandsOf}
+use Rattle.bands.specs.Tests.{bandsMiscounted, rateAbove}
+use Rattle.bands.specs.Order.{stepsBack, fallsAfter, fallsBack}
 use Rattle.price.specs.Charge.{rounded, charge, reaches, byFirst}
-use Rattle.price.specs.Price.{bandsMiscounted, rateAbove, priced}
-use Rattle.price.specs.Order.{stepsBack, fallsAfter, fallsBack}
+use Rattle.price.specs.Price.{priced}
 
 -- to unfold this is to unfold all that it rests on
 unfoldable pub answer : ℕ → List ℕ → Told ℕ

@@ -4,11 +4,7 @@ use mathlib.Core.List.{List, [], _∷_}
 use Prim.Native.Nat.{ℕ, _+_, _*_, _/_, _%_}
 use lib.Dec.{ltb}
 use Rattle.lent.specs.Told.{Told, refused, given}
-use Rattle.price.specs.declared.Band.{Band}
-
--- C31: the highest rate
-abbrev pub rateBound : ℕ
-rateBound = 1000000
+use Rattle.bands.specs.declared.Band.{Band}
 
 -- B2: a rate is for so many units of metal
 abbrev pub units : ℕ

@@ -1,96 +1,22 @@
-// The price of a net's metal by the list of bands that a bureau lends, two numbers a band.
-//
-// The list is tested before a charge is worked out. A rate above the highest one is refused wherever it stands (31), so that no product
-// can overflow; a list that falls back is refused wherever it does (37), so that more metal is never charged less. Limits are compared and
-// never multiplied: they may be any numbers of 64 bits.
+// The price of a net's metal by the list of bands that a bureau lends. The list is tested before a charge is worked out.
+use bands::Band;
 use net::Refusal;
 ghost use mathlib.Core.Path.{_≡_};
 ghost use mathlib.Core.Bool.{false};
-ghost use Prim.Native.Nat.{_+_, _*_, _≤_};
-ghost use lib.ListN.{length};
+ghost use Prim.Native.Nat.{_≤_};
 ghost use Rattle.lists.specs.Any.{any};
-ghost use Rattle.price.specs.Band.{bandsOf, bandAt};
-ghost use Rattle.price.specs.Charge.{rateBound, metalBound, charge, reaches, byFirst};
-ghost use Rattle.price.specs.Order.{stepsBack, fallsBack};
-ghost use Rattle.price.specs.Price.{bandsMiscounted, rateAbove, priced, toldPrice};
-
-// The highest rate.
-const RATE: u64 = 1000000;
+ghost use Rattle.bands.specs.Band.{bandsOf};
+ghost use Rattle.bands.specs.Tests.{rateBound, rateAbove};
+ghost use Rattle.price.specs.Charge.{metalBound, charge, reaches, byFirst};
+ghost use Rattle.price.specs.Price.{priced, toldPrice};
 
 // A rate is for this many units of metal.
 const UNITS: u64 = 1000;
-
-// A band: the most metal that it reaches, and its rate, in hundredths of the currency per 1,000 units.
-pub struct Band {
-    pub limit: u64,
-    pub rate: u64,
-}
 
 // The answer of a price: the charge, in hundredths of the currency.
 pub enum Priced {
     Charged(u64),
     Refused(Refusal),
-}
-
-fn bands_miscounted(bands: &[u64]) -> bool
-    ensures { λ r. ⌜ r ≡ bandsMiscounted (now (bands .entry)) ⌝ }
-{
-    (bands.len() % 2 != 0) | (bands.len() / 2 == 0)
-}
-
-// The i-th band of a flat list.
-fn band_at(bands: &[u64], i: usize) -> Band
-    requires { ⌜ i * 2 + 2 ≤ length (now bands) ⌝ }
-    ensures { λ r. ⌜ r ≡ bandAt (now (bands .entry)) i ⌝ }
-{
-    let k = i * 2;
-    Band {
-        limit: bands[k],
-        rate: bands[k + 1],
-    }
-}
-
-fn is_rate_above(band: Band) -> bool
-    ensures { λ r. ⌜ r ≡ rateAbove band ⌝ }
-{
-    RATE < band.rate
-}
-
-// Whether a rate is above the highest one, in any band, used or not.
-fn any_rate_above(bands: &[u64]) -> bool
-    ensures { λ r. ⌜ r ≡ any rateAbove (bandsOf (now (bands .entry))) ⌝ }
-{
-    let k = bands.len() / 2;
-    let mut i = 0;
-    while i < k {
-        if is_rate_above(band_at(bands, i)) {
-            return true;
-        }
-        i += 1;
-    }
-    false
-}
-
-// Whether a band falls back from the one before it: its limit is not above, or its rate is below.
-fn is_step_back(before: Band, band: Band) -> bool
-    ensures { λ r. ⌜ r ≡ stepsBack before band ⌝ }
-{
-    !(before.limit < band.limit) | (band.rate < before.rate)
-}
-
-// Whether the list falls back at any band, used or not.
-fn any_step_back(bands: &[u64]) -> bool
-    ensures { λ r. ⌜ r ≡ fallsBack (bandsOf (now (bands .entry))) ⌝ }
-{
-    let k = bands.len() / 2;
-    let mut i = 0;
-    while i + 1 < k {
-        if is_step_back(band_at(bands, i), band_at(bands, i + 1)) {
-            return true;
-        }
-        i += 1;
-    }
-    false
 }
 
 fn is_reaching(metal: u64, band: Band) -> bool
@@ -128,7 +54,7 @@ fn by_first(metal: u64, bands: &[u64]) -> Priced
     let k = bands.len() / 2;
     let mut i = 0;
     while i < k {
-        let band = band_at(bands, i);
+        let band = bands::band_at(bands, i);
         if is_reaching(metal, band) {
             return Priced::Charged(charge(metal, band.rate));
         }
@@ -142,13 +68,13 @@ pub fn price(metal: u64, bands: &[u64]) -> Priced
     requires { ⌜ metal ≤ metalBound ⌝ }
     ensures { λ r. ⌜ toldPrice r ≡ priced metal (now (bands .entry)) ⌝ }
 {
-    if bands_miscounted(bands) {
+    if bands::bands_miscounted(bands) {
         return Priced::Refused(Refusal::Bands);
     }
-    if any_rate_above(bands) {
+    if bands::any_rate_above(bands) {
         return Priced::Refused(Refusal::Bands);
     }
-    if any_step_back(bands) {
+    if bands::any_step_back(bands) {
         return Priced::Refused(Refusal::BandOrder);
     }
     by_first(metal, bands)

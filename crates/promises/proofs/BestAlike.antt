@@ -13,11 +13,11 @@ use Rattle.lent.specs.Over.{after}
 use Rattle.net.specs.declared.Net.{Net as Counts}
 use Rattle.net.specs.declared.Weighing.{Weighing}
 use Rattle.net.specs.Pins.{pinCount, macroCount}
-use Rattle.net.specs.Check.{checked}
+use Rattle.checks.specs.Check.{checked}
 use Rattle.rules.specs.Edges.{Edge}
 use Rattle.lines.specs.Bounds.{gridMacros}
 use Rattle.parts.specs.Bounds.{bestPins, workBound}
-use Rattle.router.specs.Best.{aboveBest, bestNumbers, bestRoomShort, bestAnswer, bestGiven, bestTree}
+use Rattle.answers.specs.Best.{aboveBest, bestNumbers, bestRoomShort, bestAnswer, bestGiven, bestTree}
 
 -- an answer by its refusals, and by what is given: the number of the refusal, and a list that holds the same in each success, do not
 -- depend on what is given

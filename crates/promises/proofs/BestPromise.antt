@@ -16,24 +16,27 @@ use Rattle.net.specs.declared.Net.{Net as Counts}
 use Rattle.net.specs.declared.Weighing.{Weighing}
 use Rattle.net.specs.Pins.{pinCount, macroCount}
 use Rattle.net.specs.Net.{Net, netOf}
-use Rattle.net.specs.Check.{checked}
-use Rattle.net.proofs.AllowedLaws.{given-allowed, allowed-positive}
+use Rattle.net.proofs.AllowedLaws.{allowed-positive}
 use Rattle.net.proofs.PinLaws.{length-pins}
+use Rattle.checks.specs.Check.{checked}
+use Rattle.checks.proofs.GivenLaws.{given-allowed}
 use Rattle.refined.proofs.MetalLaws.{metal-low}
 use Rattle.lines.specs.declared.Axis.the-variants.{Across, Along}
 use Rattle.lines.specs.Lines.{xLines, yLines}
 use Rattle.lines.specs.Edges.{Edge}
 use Rattle.lines.proofs.GridCost.{line-count}
 use Rattle.bought.specs.Passes.{Passes}
-use Rattle.rules.proofs.InteriorLaws.{clear-points}
+use Rattle.interior.proofs.InteriorLaws.{clear-points}
 use Rattle.parts.specs.Bounds.{workBound}
 use Rattle.best.specs.Tree.{IsBest}
 use Rattle.best.proofs.BestLaws.{best-pinned}
 use Rattle.best.proofs.BestTree.{best-alike}
 use Rattle.best.proofs.CallLaws.{best-few}
-use Rattle.router.specs.Best.{bestNumbers, bestGiven, bestTree, PromisedBest}
-use Rattle.router.proofs.AnswerLaws.{only-given}
-use Rattle.router.proofs.BestLaws.{best-enough, within-best, no-dearer}
+use Rattle.answers.specs.Best.{bestNumbers, bestGiven, bestTree}
+use Rattle.answers.proofs.AnswerLaws.{only-given}
+use Rattle.answers.proofs.BestLaws.{best-enough, within-best}
+use Rattle.router.specs.Best.{PromisedBest}
+use Rattle.router.proofs.BestLaws.{no-dearer}
 use Rattle.promises.proofs.BoughtLaws.{promised-check}
 
 pub best-passes : (net : Net) (T : List Edge) → IsBest net T → Passes net T

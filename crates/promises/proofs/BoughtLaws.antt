@@ -26,10 +26,11 @@ use Rattle.net.specs.Net.{Net, netOf, weightsOf}
 use Rattle.net.specs.declared.Net.{Net as Counts}
 use Rattle.net.specs.declared.Weighing.{Weighing}
 use Rattle.net.specs.Pins.{pinCount, pinPlaces}
-use Rattle.net.specs.Check.{outOfRange, checked}
+use Rattle.net.specs.Tests.{outOfRange}
 use Rattle.net.specs.Allowed.{Allowed}
-use Rattle.net.proofs.AllowedLaws.{given-allowed}
 use Rattle.net.proofs.PinLaws.{length-pins}
+use Rattle.checks.specs.Check.{checked}
+use Rattle.checks.proofs.GivenLaws.{given-allowed}
 use Rattle.graph.specs.Numbers.{edgeNumbers}
 use Rattle.bought.specs.Bounds.{boughtBound}
 use Rattle.bought.specs.Edges.{edgesOf}
@@ -41,13 +42,14 @@ use Rattle.bought.proofs.LoneLaws.{lone-passes, lone-fails}
 use Rattle.bought.proofs.OrderLaws.{same-bought}
 use Rattle.bought.proofs.GivenLaws.{numbers-pass, firstPin, first-pin}
 use Rattle.rules.specs.Edges.{Edge}
-use Rattle.rules.proofs.RefinedRange.{Ranged}
+use Rattle.router.proofs.RefinedRange.{Ranged}
 use Rattle.slide.specs.Promise.{Given}
 use Rattle.slide.proofs.SlidSound.{simple}
-use Rattle.router.specs.Refined.{totalIn, laidOf, laidTotal, metalOf}
-use Rattle.router.specs.Slid.{slidOf, slidTotal, slidMetal}
-use Rattle.router.specs.Bought.{checkedTree, Listed, sumsOf, PromisedCheck}
-use Rattle.router.proofs.AnswerLaws.{only-given}
+use Rattle.answers.specs.Refined.{totalIn, laidOf, laidTotal, metalOf}
+use Rattle.answers.specs.Slid.{slidOf, slidTotal, slidMetal}
+use Rattle.answers.specs.Bought.{checkedTree, sumsOf}
+use Rattle.answers.proofs.AnswerLaws.{only-given}
+use Rattle.router.specs.Bought.{Listed, PromisedCheck}
 use Rattle.router.proofs.SlidLaws.{refined-given, refined-ranged, refined-few, slid-refined, slid-few, promised-slid}
 
 -- Our trees

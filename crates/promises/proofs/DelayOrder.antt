@@ -26,12 +26,12 @@ use Rattle.net.specs.declared.Net.{Net as Counts}
 use Rattle.net.specs.declared.Weighing.{Weighing}
 use Rattle.net.specs.Net.{netOf}
 use Rattle.net.specs.Pins.{pinPlaces, pinEntries}
-use Rattle.net.specs.Check.{checked}
 use Rattle.net.specs.Allowed.{Allowed}
 use Rattle.net.specs.Order.{SamePins, SamePlaces, SameMacros}
-use Rattle.net.proofs.AllowedLaws.{given-allowed}
-use Rattle.net.proofs.CheckOrder.{check-order, same-places}
 use Rattle.net.proofs.PinLaws.{entry-places}
+use Rattle.checks.specs.Check.{checked}
+use Rattle.checks.proofs.GivenLaws.{given-allowed}
+use Rattle.checks.proofs.CheckOrder.{check-order, same-places}
 use Rattle.terminal.proofs.NumberLaws.{apart-once}
 use Rattle.floats.specs.declared.Technology.{Technology}
 use Rattle.floats.specs.declared.Delay.{Delay}
@@ -39,9 +39,10 @@ use Rattle.floats.specs.Mark.{marked, finites}
 use Rattle.delay.specs.Answer.{delayOf, marksOf, delayed, delayAnswer}
 use Rattle.delay.proofs.LoadLaws.{loads-same}
 use Rattle.delay.proofs.TimedLaws.{same-sorted, marksOf-same}
-use Rattle.router.specs.Refined.{laidOf}
-use Rattle.router.specs.Delay.{loadsOf, delaysOf, delayGiven, pinDelays, SameDelays}
-use Rattle.router.proofs.AnswerLaws.{only-refused}
+use Rattle.answers.specs.Refined.{laidOf}
+use Rattle.answers.specs.Delay.{loadsOf, delaysOf, delayGiven, pinDelays}
+use Rattle.answers.proofs.AnswerLaws.{only-refused}
+use Rattle.router.specs.Delay.{SameDelays}
 use Rattle.promises.proofs.EveryOrder.{same-laid}
 
 -- no two pins of an allowed net are at one place

@@ -32,10 +32,11 @@ use Rattle.net.specs.Net.{netOf, weightsOf, costIn}
 use Rattle.net.specs.Allowed.{Allowed}
 use Rattle.net.specs.Pins.{pinCount, macroCount, pinPlaces, pinLoads}
 use Rattle.net.proofs.PinLaws.{length-pins, pin-numbers, same-pins as as-many}
-use Rattle.net.specs.Check.{noLoad, checked}
-use Rattle.net.proofs.AllowedLaws.{given-allowed}
+use Rattle.net.specs.Tests.{noLoad}
 use Rattle.net.specs.Order.{SamePins, SamePlaces, SameMacros}
-use Rattle.net.proofs.CheckOrder.{check-order, same-places}
+use Rattle.checks.specs.Check.{checked}
+use Rattle.checks.proofs.GivenLaws.{given-allowed}
+use Rattle.checks.proofs.CheckOrder.{check-order, same-places}
 use Rattle.graph.specs.Numbers.{placeNumbers, edgeNumbers}
 use Rattle.terminal.specs.Tree.{pathNumbers}
 use Rattle.terminal.proofs.BestJoiningLaws.{paths-sum}
@@ -50,26 +51,26 @@ use Rattle.rules.proofs.EdgeLaws.{edge-order}
 use Rattle.rules.proofs.TreesOrder.{SameNet}
 use Rattle.rules.proofs.TerminalOurs.{paths-given}
 use Rattle.rules.proofs.TreesOurs.{trees-same}
-use Rattle.router.specs.Graph.{netVertices, netEdges, pointCount, graphRoomShort, graphGiven, graphed}
-use Rattle.router.specs.Room.{ifRoom}
-use Rattle.router.specs.Terminal.{pathsOf, pathsTotal, terminalGiven, terminalTree}
-use Rattle.router.specs.Refined.{refinedOf, edgesIn, totalIn, laidOf, laidTotal, refinedGiven, refinedTree}
-use Rattle.router.specs.Both.{bothGiven, bothTrees}
-use Rattle.router.specs.Slid.{slidIn, slidOf, slidGiven, slidTree}
-use Rattle.router.specs.Wires.{wiresGiven, wired}
-use Rattle.router.specs.Price.{netPrice}
+use Rattle.answers.specs.Graph.{netVertices, netEdges, pointCount, graphRoomShort, graphGiven, graphed}
+use Rattle.answers.specs.Room.{ifRoom}
+use Rattle.answers.specs.Terminal.{pathsOf, pathsTotal, terminalGiven, terminalTree}
+use Rattle.answers.specs.Refined.{refinedOf, edgesIn, totalIn, laidOf, laidTotal, refinedGiven, refinedTree}
+use Rattle.answers.specs.Both.{bothGiven, bothTrees}
+use Rattle.answers.specs.Slid.{slidIn, slidOf, slidGiven, slidTree}
+use Rattle.answers.specs.Wires.{wiresGiven, wired}
+use Rattle.answers.specs.Price.{netPrice}
 use Rattle.bought.specs.Rearranged.{SameEdges}
 use Rattle.bought.proofs.OrderLaws.{same-bought}
 use Rattle.bought.proofs.GivenLaws.{first-pin}
-use Rattle.router.specs.Bought.{checkedTree}
+use Rattle.answers.specs.Bought.{checkedTree}
 use Rattle.lines.specs.Bounds.{gridPins, gridMacros}
 use Rattle.grid.specs.Distance.{Square}
 use Rattle.grid.proofs.SquareLaws.{SameGround, squares-same}
-use Rattle.router.specs.Distances.{aboveGrid, distancesGiven, gridDistances}
+use Rattle.answers.specs.Distances.{aboveGrid, distancesGiven, gridDistances}
 use Rattle.best.specs.Tree.{BestTree}
 use Rattle.best.proofs.OrderLaws.{best-any-order}
 use Rattle.promises.specs.EveryOrder.{SameForBoth, ByPlaces}
-use Rattle.router.proofs.AnswerLaws.{only-refused}
+use Rattle.answers.proofs.AnswerLaws.{only-refused}
 use Rattle.promises.proofs.BestAlike.{same-code, same-work}
 
 -- bridges with lengths, in an order

@@ -33,8 +33,9 @@ use Rattle.net.specs.declared.Weighing.{Weighing}
 use Rattle.net.specs.Net.{Net, netOf, weightsOf, costIn}
 use Rattle.net.specs.Allowed.{Allowed}
 use Rattle.net.specs.Pins.{pinCount, macroCount, pinPlaces, pinEntries}
-use Rattle.net.specs.Check.{checked, outOfRange}
-use Rattle.net.proofs.AllowedLaws.{given-allowed}
+use Rattle.net.specs.Tests.{outOfRange}
+use Rattle.checks.specs.Check.{checked}
+use Rattle.checks.proofs.GivenLaws.{given-allowed}
 use Rattle.graph.specs.Numbers.{placeNumbers, edgeNumbers}
 use Rattle.terminal.specs.Tree.{pathNumbers}
 use Rattle.terminal.proofs.BestJoiningLaws.{paths-sum}
@@ -49,25 +50,25 @@ use Rattle.rules.specs.Terminal.{Path, givenFor}
 use Rattle.rules.proofs.EdgeLaws.{edge-order}
 use Rattle.rules.proofs.TreesOrder.{SameNet}
 use Rattle.rules.proofs.TerminalOurs.{ourPaths, paths-given}
-use Rattle.router.specs.Graph.{netVertices, netEdges, pointCount, graphRoomShort, graphGiven, graphed}
-use Rattle.router.specs.Room.{ifRoom}
-use Rattle.router.specs.Terminal.{pathsOf, pathsTotal, terminalGiven, terminalTree}
-use Rattle.router.specs.Refined.{refinedOf, edgesIn, totalIn, laidOf, laidTotal, refinedGiven, refinedTree}
-use Rattle.router.specs.Both.{bothGiven, bothTrees}
-use Rattle.router.specs.Slid.{slidIn, slidOf, slidGiven, slidTree}
-use Rattle.router.specs.Wires.{wiresGiven, wired}
-use Rattle.router.specs.Price.{netPrice}
+use Rattle.answers.specs.Graph.{netVertices, netEdges, pointCount, graphRoomShort, graphGiven, graphed}
+use Rattle.answers.specs.Room.{ifRoom}
+use Rattle.answers.specs.Terminal.{pathsOf, pathsTotal, terminalGiven, terminalTree}
+use Rattle.answers.specs.Refined.{refinedOf, edgesIn, totalIn, laidOf, laidTotal, refinedGiven, refinedTree}
+use Rattle.answers.specs.Both.{bothGiven, bothTrees}
+use Rattle.answers.specs.Slid.{slidIn, slidOf, slidGiven, slidTree}
+use Rattle.answers.specs.Wires.{wiresGiven, wired}
+use Rattle.answers.specs.Price.{netPrice}
 use Rattle.bought.specs.Bounds.{boughtBound}
 use Rattle.bought.specs.Edges.{edgesOf}
 use Rattle.bought.specs.Verdict.{edgesMiscounted, verdict, bought}
 use Rattle.bought.specs.Rearranged.{Rearranged, none, keep}
 use Rattle.bought.proofs.OrderLaws.{same-bought}
 use Rattle.bought.proofs.GivenLaws.{first-pin}
-use Rattle.router.specs.Bought.{checkedTree}
+use Rattle.answers.specs.Bought.{checkedTree}
 use Rattle.lines.specs.Bounds.{gridPins, gridMacros}
 use Rattle.grid.specs.Distance.{Square}
 use Rattle.grid.proofs.SquareLaws.{squares-same}
-use Rattle.router.specs.Distances.{aboveGrid, distancesGiven, gridDistances}
+use Rattle.answers.specs.Distances.{aboveGrid, distancesGiven, gridDistances}
 use Rattle.floats.specs.declared.Technology.{Technology}
 use Rattle.floats.specs.declared.Delay.{Delay}
 use Rattle.delay.specs.Load.{loadOf}
@@ -75,7 +76,7 @@ use Rattle.floats.specs.Mark.{marked, finites}
 use Rattle.delay.specs.Answer.{delayOf, marksOf, delayed, delayAnswer}
 use Rattle.delay.proofs.LoadLaws.{loads-same}
 use Rattle.delay.proofs.TimedLaws.{same-sorted, marksOf-same}
-use Rattle.router.specs.Delay.{loadsOf, delaysOf, delayGiven, pinDelays}
+use Rattle.answers.specs.Delay.{loadsOf, delaysOf, delayGiven, pinDelays}
 use Rattle.best.specs.Tree.{BestTree}
 use Rattle.promises.specs.EverySite.{shiftPath, ShiftedEdges, SameOnSite, OnEverySite}
 use Rattle.rules.specs.Moved.{movedEdge, movedPath}
@@ -91,7 +92,7 @@ use Rattle.site.proofs.ShiftLaws.{same-there}
 use Rattle.site.proofs.ListShift.{any-there}
 use Rattle.site.proofs.DelayShift.{load-there, marks-there}
 use Rattle.site.proofs.BestShift.{best-there}
-use Rattle.router.proofs.AnswerLaws.{only-refused}
+use Rattle.answers.proofs.AnswerLaws.{only-refused}
 use Rattle.promises.proofs.BestAlike.{same-code, same-work}
 use Rattle.promises.proofs.DelayOrder.{places-once}
 

@@ -7,7 +7,3 @@ pub mod DelayOrder
 pub mod EverySite
 pub mod Published
 pub mod FirstRelease
-pub mod WorkedNets
-pub mod WorkedPrices
-pub mod WorkedBought
-pub mod WorkedBest

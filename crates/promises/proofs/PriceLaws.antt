@@ -8,12 +8,13 @@ use Rattle.lent.specs.Told.{Told, refused, given, onlyIf}
 use Rattle.lent.proofs.AfterLaws.{told-apart}
 use Rattle.net.specs.declared.Net.{Net as Counts}
 use Rattle.net.specs.declared.Weighing.{Weighing}
-use Rattle.net.specs.Check.{checked}
+use Rattle.checks.specs.Check.{checked}
 use Rattle.price.specs.Price.{priced}
 use Rattle.price.proofs.LongerLaws as longer
-use Rattle.router.specs.Refined.{metalOf}
-use Rattle.router.specs.Price.{netPrice, NeverLess}
-use Rattle.router.proofs.AnswerLaws.{only-given}
+use Rattle.answers.specs.Refined.{metalOf}
+use Rattle.answers.specs.Price.{netPrice}
+use Rattle.answers.proofs.AnswerLaws.{only-given}
+use Rattle.router.specs.Price.{NeverLess}
 
 -- an answer that is given is the next one's
 given-past : {A B : Type 0} (t : Told A) (next : Told B) (b : B) → onlyIf t next ≡ given b → next ≡ given b

@@ -13,26 +13,26 @@ use Rattle.lent.specs.Entries.{flat}
 use Rattle.plane.specs.Flat.{macrosOf}
 use Rattle.net.specs.Pins.{pinCount}
 use Rattle.net.specs.declared.Weighing.{Weighing}
-use Rattle.net.specs.Check.{checked}
 use Rattle.net.specs.declared.Net.{Net as Counts}
-use Rattle.net.proofs.AllowedLaws.{given-allowed}
+use Rattle.checks.specs.Check.{checked}
+use Rattle.checks.proofs.GivenLaws.{given-allowed}
 use Rattle.graph.proofs.Connected.{connected}
 use Rattle.refined.specs.Wires.{wiresOfEdge, wires}
 use Rattle.refined.proofs.WireSound.{edge-wired, wired as wired-laws}
 use Rattle.rules.proofs.TerminalOurs.{ourPaths, paths-given}
 use Rattle.rules.proofs.BestLaws.{paths-total, best-joining}
 use Rattle.rules.specs.Edges.{Edge}
-use Rattle.rules.proofs.InteriorLaws.{clear-points}
+use Rattle.interior.proofs.InteriorLaws.{clear-points}
 use Rattle.rules.proofs.RefinedOurs.{between-trees, falls-between, refined-tree}
 use Rattle.rules.proofs.TreesOurs.{trees-ours, trees-only}
-use Rattle.router.specs.Graph.{netVertices, netEdges, pointCount}
-use Rattle.router.specs.Terminal.{pathsOf, pathsTotal, terminalGiven, terminalTree}
-use Rattle.router.specs.Refined.{refinedOf, edgesIn, totalIn, laidOf, laidTotal, laidAnswer, refinedGiven, refinedTree}
-use Rattle.router.specs.Wires.{wiresOf, wiresGiven, wired}
+use Rattle.answers.specs.Graph.{netVertices, netEdges, pointCount}
+use Rattle.answers.specs.Terminal.{pathsOf, pathsTotal, terminalGiven, terminalTree}
+use Rattle.answers.specs.Refined.{refinedOf, edgesIn, totalIn, laidOf, laidTotal, laidAnswer, refinedGiven, refinedTree}
+use Rattle.answers.specs.Wires.{wiresOf, wiresGiven, wired}
 use Rattle.promises.specs.Published.{Promised}
-use Rattle.router.proofs.AnswerLaws.{only-given, room-enough}
-use Rattle.router.proofs.RefinedLaws.{metal-low}
-use Rattle.router.proofs.GraphAnswer.{graphed-allowed, graph-fits}
+use Rattle.answers.proofs.AnswerLaws.{only-given, room-enough}
+use Rattle.answers.proofs.GraphLaws.{graphed-allowed, graph-fits}
+use Rattle.results.proofs.RefinedLaws.{metal-low}
 
 wires-flat : (es : List Edge) → wires es ≡ flat wiresOfEdge es
 unfolding wires flat

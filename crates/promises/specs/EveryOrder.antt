@@ -12,8 +12,8 @@ use Rattle.net.specs.declared.Weighing.{Weighing}
 use Rattle.net.specs.declared.Net.{Net as Counts}
 use Rattle.net.specs.Pins.{pinPlaces}
 use Rattle.net.specs.Net.{netOf, costIn}
-use Rattle.net.specs.Check.{checked}
 use Rattle.net.specs.Order.{SamePins, SameMacros}
+use Rattle.checks.specs.Check.{checked}
 use Rattle.graph.specs.Numbers.{placeNumbers, edgeNumbers}
 use Rattle.terminal.specs.Tree.{pathNumbers}
 use Rattle.joined.specs.Cost.{lengths}
@@ -22,16 +22,16 @@ use Rattle.lines.specs.Edges.{Edge}
 use Rattle.parts.specs.Bounds.{workBound}
 use Rattle.best.specs.Tree.{BestTree}
 use Rattle.bought.specs.Rearranged.{SameEdges}
-use Rattle.router.specs.Graph.{netVertices, netEdges, graphed}
-use Rattle.router.specs.Terminal.{pathsOf, terminalTree}
-use Rattle.router.specs.Refined.{laidOf, refinedTree}
-use Rattle.router.specs.Both.{bothTrees}
-use Rattle.router.specs.Slid.{slidOf, slidTree}
-use Rattle.router.specs.Wires.{wiresOf, wired}
-use Rattle.router.specs.Distances.{gridDistances}
-use Rattle.router.specs.Price.{netPrice}
-use Rattle.router.specs.Bought.{checkedTree}
-use Rattle.router.specs.Best.{bestTree}
+use Rattle.answers.specs.Graph.{netVertices, netEdges, graphed}
+use Rattle.answers.specs.Terminal.{pathsOf, terminalTree}
+use Rattle.answers.specs.Refined.{laidOf, refinedTree}
+use Rattle.answers.specs.Both.{bothTrees}
+use Rattle.answers.specs.Slid.{slidOf, slidTree}
+use Rattle.answers.specs.Wires.{wiresOf, wired}
+use Rattle.answers.specs.Distances.{gridDistances}
+use Rattle.answers.specs.Price.{netPrice}
+use Rattle.answers.specs.Bought.{checkedTree}
+use Rattle.answers.specs.Best.{bestTree}
 
 pub record SameForBoth (w : Weighing) (pins pins′ macros macros′ : List ℤ) : Type 0 where
   pub check : checked w pins macros ≡ checked w pins′ macros′

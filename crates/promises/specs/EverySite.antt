@@ -14,7 +14,8 @@ use Rattle.lent.specs.Entries.{flat}
 use Rattle.plane.specs.declared.Place.{Place}
 use Rattle.net.specs.declared.Weighing.{Weighing}
 use Rattle.net.specs.Net.{netOf, costIn}
-use Rattle.net.specs.Check.{checked, outOfRange}
+use Rattle.net.specs.Tests.{outOfRange}
+use Rattle.checks.specs.Check.{checked}
 use Rattle.graph.specs.Numbers.{placeNumbers, edgeNumbers}
 use Rattle.terminal.specs.Tree.{pathNumbers}
 use Rattle.joined.specs.Cost.{lengths}
@@ -28,17 +29,17 @@ use Rattle.rules.specs.Edges.{Edge}
 use Rattle.rules.specs.Moved.{movedEdge}
 use Rattle.site.specs.Sites.{Shifted}
 use Rattle.site.specs.Shift.{shift}
-use Rattle.router.specs.Graph.{netVertices, netEdges, graphed}
-use Rattle.router.specs.Terminal.{pathsOf, terminalTree}
-use Rattle.router.specs.Refined.{laidOf, refinedTree}
-use Rattle.router.specs.Both.{bothTrees}
-use Rattle.router.specs.Slid.{slidOf, slidTree}
-use Rattle.router.specs.Wires.{wiresOf, wired}
-use Rattle.router.specs.Distances.{gridDistances}
-use Rattle.router.specs.Price.{netPrice}
-use Rattle.router.specs.Bought.{checkedTree}
-use Rattle.router.specs.Delay.{delaysOf, pinDelays}
-use Rattle.router.specs.Best.{bestTree}
+use Rattle.answers.specs.Graph.{netVertices, netEdges, graphed}
+use Rattle.answers.specs.Terminal.{pathsOf, terminalTree}
+use Rattle.answers.specs.Refined.{laidOf, refinedTree}
+use Rattle.answers.specs.Both.{bothTrees}
+use Rattle.answers.specs.Slid.{slidOf, slidTree}
+use Rattle.answers.specs.Wires.{wiresOf, wired}
+use Rattle.answers.specs.Distances.{gridDistances}
+use Rattle.answers.specs.Price.{netPrice}
+use Rattle.answers.specs.Bought.{checkedTree}
+use Rattle.answers.specs.Delay.{delaysOf, pinDelays}
+use Rattle.answers.specs.Best.{bestTree}
 
 -- a path as it is given, with its bridge shifted and its length as it was
 abbrev pub shiftPath : ℤ → ℤ → Edge × ℕ → Edge × ℕ

@@ -13,10 +13,10 @@ use Rattle.plane.specs.Distance.{distance}
 use Rattle.plane.specs.Flat.{placeNumbers}
 use Rattle.net.specs.Pins.{pinPlaces}
 use Rattle.net.specs.Net.{plainly, weightsOf, netOf, costIn}
-use Rattle.net.specs.Check.{checked}
+use Rattle.checks.specs.Check.{checked}
 use Rattle.encoded.specs.Layout.{loaded, fileBytes}
 use Rattle.older.specs.FirstRelease.{firstFile}
-use Rattle.router.specs.Refined.{laidTotal, metalOf}
+use Rattle.answers.specs.Refined.{laidTotal, metalOf}
 
 pub record AsFirst (pins macros : List ℤ) : Type 0 where
   -- C18

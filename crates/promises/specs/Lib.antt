@@ -1,4 +1,4 @@
--- All that is promised of the published operations, over the definitions that their contracts name (router/specs). There is no code here.
+-- All that is promised of the published operations, over the definitions that their contracts name (`answers`). There is no code here.
 --
 --   Published      Promised w pins macros           what is promised of the graph, terminal tree, refined tree and wires of an allowed net
 --   EveryOrder     SameForBoth, ByPlaces            the same for every order of the lists, and whatever the loads
@@ -11,7 +11,6 @@
 --   EverySite      every-site, on-every-site
 --   FirstRelease   as-first
 --   PriceLaws      never-less;  BoughtLaws: promised-check;  BestPromise: promised-best
---   WorkedNets, WorkedPrices, WorkedBought, WorkedBest    worked nets, by computation
 pub mod Published
 pub mod EveryOrder
 pub mod EverySite

@@ -25,14 +25,14 @@ use Rattle.refined.specs.Wires.{wiresOfEdge}
 use Rattle.refined.specs.Promise.{Horizontal, Vertical, EdgeWires}
 use Rattle.rules.specs.Edges.{Edge}
 use Rattle.rules.specs.Terminal.{Path, givenFor, pathCost}
-use Rattle.rules.specs.Interior.{PlanePoint, Interior, Box}
+use Rattle.interior.specs.Interior.{PlanePoint, Interior, Box}
 use Rattle.rules.specs.Refined.{Refined, TreesThrough, FallsThrough}
 use Rattle.rules.specs.Trees.{Trees, Equal}
 use Rattle.rules.specs.Demand.{BestJoining, RefinedTree}
-use Rattle.router.specs.Graph.{netVertices, netEdges, pointCount, graphed}
-use Rattle.router.specs.Terminal.{pathsOf, pathsTotal, terminalTree}
-use Rattle.router.specs.Refined.{laidOf, laidTotal, metalOf, laidAnswer, refinedTree}
-use Rattle.router.specs.Wires.{wiresOf, wired}
+use Rattle.answers.specs.Graph.{netVertices, netEdges, pointCount, graphed}
+use Rattle.answers.specs.Terminal.{pathsOf, pathsTotal, terminalTree}
+use Rattle.answers.specs.Refined.{laidOf, laidTotal, metalOf, laidAnswer, refinedTree}
+use Rattle.answers.specs.Wires.{wiresOf, wired}
 
 pub record Promised (w : Weighing) (pins macros : List ℤ) : Type 0 where
   -- D1b: with the space that is asked for, each operation gives (C61 to C68)

@@ -3,29 +3,27 @@
 use mathlib.Core.Path.{_≡_, refl, sym, ap, ap₂, _∙_}
 use mathlib.Core.Bool.{Bool, true, false, not, _&&_, _||_}
 use mathlib.Core.List.{List, [], _∷_, _++_, map}
-use Prim.Native.Nat.{ℕ, zero, suc, _+_, _-_, _≤_, _<_, min, max}
+use Prim.Native.Nat.{ℕ, zero, suc, _+_, _-_, _<_}
 use native.Mathlib.Omega.{arith}
-use borrow.Author.Tests.{eqb-true, eq-eqb}
+use borrow.Author.Tests.{eqb-true}
 use lib.Dec.{eqb}
 use lib.ListN.{getD}
 use Rattle.lists.specs.Any.{any}
 use Rattle.lists.specs.Those.{those}
 use Rattle.lists.proofs.TestLaws.{by, differ, and-left, and-right}
-use Rattle.signed.specs.Sides.{Le}
 use Rattle.plane.specs.declared.Place.{Place}
-use Rattle.plane.specs.Flat.{placeAt}
 use Rattle.plane.proofs.Fits.{PlaceFits}
 use Rattle.slide.specs.declared.Side.{Side}
 use Rattle.slide.specs.Side.{along, across, moved}
 use Rattle.slide.specs.Bend.{Edge}
 use Rattle.slide.specs.Bar.{ahead, far, long, shortest, farEnds}
 use Rattle.slide.specs.Sweep.{onlyIn}
-use Rattle.straight.specs.Table.{run, firstEnd, secondEnd, edgeAt, edgesIn}
+use Rattle.straight.specs.Table.{run, firstEnd, edgeAt, edgesIn}
 use Rattle.reach.specs.declared.Bar.{Bar}
 use Rattle.turned.specs.declared.Seen.{Seen}
 use Rattle.turned.specs.declared.Spot.{Spot}
 use Rattle.turned.specs.Steps.{upTo}
-use Rattle.turned.specs.Turned.{raised, spot, View, onIt, seenEdge, aheadOf, longOf, sameSpot}
+use Rattle.turned.specs.Turned.{spot, View, onIt, seenEdge, aheadOf, longOf, sameSpot}
 use Rattle.reach.specs.Passing.{lowOf, highOf, endsAt, isFar, exempt}
 use Rattle.turned.proofs.SeenLaws.{across-high, along-high, Sees, ahead-is, long-is}
 use Rattle.turned.proofs.StepLaws.{run-more}
@@ -85,10 +83,6 @@ same-spots a b e =
     ap₂ (λ (i j : ℕ). let r : Spot = record { along = i; across = j } in r)
     (eqb-true (a .along) (b .along) (and-left _ (eqb (a .across) (b .across)) e))
     (eqb-true (a .across) (b .across) (and-right (eqb (a .along) (b .along)) _ e))
-
-pub own-spot : (a : Spot) → sameSpot a a ≡ true
-unfolding sameSpot
-own-spot a = rw (eq-eqb (a .along) (a .along) refl, eq-eqb (a .across) (a .across) refl) refl
 
 -- the spot of the end that is not on the bar
 abbrev farSpot : Seen → Spot

@@ -233,7 +233,7 @@ fn past_macros(macros: &[i32], bar: Bar, w: Way) -> Way
     let mut way = w;
     let mut i = 0;
     while i < k {
-        way = past_macro(bar, plane::macro_at(macros, i), way);
+        way = past_macro(bar, clear::macro_at(macros, i), way);
         i += 1;
     }
     way

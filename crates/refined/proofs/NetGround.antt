@@ -1,13 +1,13 @@
 -- The spanning graph of an allowed net is a ground to refine on, and the union of its kept paths is ready for its rounds: its points are
 -- all vertices, so there is room for one further point for each pin.
 -- Assumes nothing.
-use mathlib.Core.Path.{_≡_, refl, sym, ap, ap₂, _∙_}
+use mathlib.Core.Path.{_≡_, refl, sym, ap₂, _∙_}
 use mathlib.Core.Bool.{true}
 use mathlib.Core.List.{List, [], _∷_, Memᴰ·cast}
 use Prim.Native.Nat.{ℕ, _+_, _*_, _≤_, _<_}
 use native.Mathlib.Omega.{arith}
 use lib.IntN.{ℤ, pos}
-use lib.ListN.{length, getD, replicate, length-replicate}
+use lib.ListN.{length, replicate, length-replicate}
 use Rattle.lists.specs.Member.{_∈_, here}
 use Rattle.lent.specs.Over.{over}
 use Rattle.lent.specs.Entries.{flat}
@@ -20,25 +20,26 @@ use Rattle.plane.specs.Rank.{InOrder}
 use Rattle.plane.proofs.CostLaws.{cost-comm}
 use Rattle.net.specs.Net.{Net, costIn}
 use Rattle.net.specs.Allowed.{Allowed}
+use Rattle.sorted.proofs.NumberLaws.{ascending-at}
 use Rattle.graph.specs.Spanning.{verticesOf}
 use Rattle.graph.specs.Numbers.{placeNumbers}
 use Rattle.graph.proofs.VertexLaws.{vertices-ascending, pin-vertex}
 use Rattle.graph.proofs.GraphBounds.{few-vertices}
 use Rattle.forest.specs.Bounds.{pointBound}
-use Rattle.forest.specs.Edges.{one, two, len}
+use Rattle.forest.specs.Edges.{one, two}
 use Rattle.forest.specs.Setting.{Setting}
 use Rattle.terminal.specs.Number.{numberOf, vertexAt}
 use Rattle.terminal.specs.Tree.{graphOf}
-use Rattle.terminal.proofs.NumberLaws.{ascending-at, vertex-in, vertex-of-number, number-small}
+use Rattle.terminal.proofs.NumberLaws.{vertex-of-number, number-small}
 use Rattle.terminal.proofs.SettingOf.{edge-at, one-vertex, two-vertex, setting, whole}
-use Rattle.tree.specs.Table.{treeBound, Tree}
+use Rattle.tree.specs.Table.{treeBound}
 use Rattle.tree.specs.Places.{pointsOf}
 use Rattle.tree.specs.Outside.{strangers}
-use Rattle.tree.proofs.ListingLaws.{listing-length, in-listing}
+use Rattle.tree.proofs.ListingLaws.{in-listing}
 use Rattle.tree.proofs.OutsideLaws.{outside-none}
 use Rattle.union.specs.Union.{unionOf}
 use Rattle.union.proofs.PlacedLaws.{place-at}
-use Rattle.union.proofs.UnionSound.{union-sound, union-ranked, union-room, union-points, union-keys, union-vertices}
+use Rattle.union.proofs.UnionSound.{union-sound, union-ranked, union-points, union-keys, union-vertices}
 use Rattle.refiner.specs.Ready.{Grounded, Ready}
 use Rattle.refiner.specs.Ready as ready
 use Rattle.refined.specs.Ground.{groundOf}

@@ -22,7 +22,8 @@ use Rattle.tree.specs.Table.{firstEnd, secondEnd}
 use Rattle.candidates.specs.declared.Best.{Best}
 use Rattle.lists.specs.Turns.{turns}
 use Rattle.longest.specs.Longest.{cutOf}
-use Rattle.candidates.specs.Candidate.{best, sees, dropped}
+use Rattle.triples.specs.Triple.{sees, dropped}
+use Rattle.candidates.specs.Candidate.{best}
 use Rattle.beside.specs.Beside.{onWay, free, middleBeside, weighed, offer, offers, search}
 use Rattle.refiner.proofs.TakesLaws.{last-or}
 

@@ -33,7 +33,8 @@ use Rattle.tree.specs.Table.{treeBound, firstEnd, secondEnd, Tree}
 use Rattle.tree.specs.Places.{endsOf, pointsOf, edgesOf, Ranked, Sound}
 use Rattle.tree.proofs.ListingLaws.{in-listing, of-listing}
 use Rattle.longest.specs.Longest.{costs, longest}
-use Rattle.candidates.specs.Candidate.{middleOf, sees, dropped}
+use Rattle.triples.specs.Triple.{sees, dropped}
+use Rattle.candidates.specs.Candidate.{middleOf}
 use Rattle.beside.specs.Beside.{Ground, onWay, middleBeside, labelsIn, parentsIn, seatsIn}
 use Rattle.refiner.specs.Graft.{Grown, grafted}
 use Rattle.refiner.specs.Ready.{verticesOf, vertexAt, Grounded}

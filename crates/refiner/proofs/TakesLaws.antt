@@ -26,7 +26,8 @@ use Rattle.candidates.specs.declared.Best.{Best}
 use Rattle.lists.specs.Turns.{turns, seek}
 use Rattle.tree.specs.Table.{treeBound, firstEnd, secondEnd, Tree}
 use Rattle.longest.specs.Longest.{costs, longest, cutOf}
-use Rattle.candidates.specs.Candidate.{best, middleOf, sees, taken, dropped, allowed, weighed, offer, offers, search, found}
+use Rattle.triples.specs.Triple.{sees, taken, dropped, allowed}
+use Rattle.candidates.specs.Candidate.{best, middleOf, weighed, offer, offers, search, found}
 use Rattle.tree.specs.Places.{Sound}
 use Rattle.refiner.specs.Sentences.{keyAt, endA, endB, costAt, EndOf, middleAt, CutAt, cutIn, Gains, Takes}
 use Rattle.exchanges.proofs.OpenedLaws.{seek-before, seek-hit}

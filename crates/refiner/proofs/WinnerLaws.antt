@@ -19,7 +19,8 @@ use Rattle.candidates.specs.declared.Best.{Best}
 use Rattle.lists.specs.Turns.{turns}
 use Rattle.tree.specs.Table.{treeBound, firstEnd, secondEnd}
 use Rattle.longest.specs.Longest.{edgeCost, measure, costs, cutOf, longest}
-use Rattle.candidates.specs.Candidate.{best, middleOf, sees, dropped, allowed, weighed, offer, offers, search, found}
+use Rattle.triples.specs.Triple.{sees, dropped, allowed}
+use Rattle.candidates.specs.Candidate.{best, middleOf, weighed, offer, offers, search, found}
 use Rattle.tree.specs.Places.{keyCost}
 use Rattle.lists.proofs.TurnLaws.{turns-below}
 use Rattle.tree.proofs.SumLaws.{other, here}

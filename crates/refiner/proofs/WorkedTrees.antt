@@ -19,7 +19,8 @@ use Rattle.lists.specs.Turns.{turns, seek}
 use Rattle.tree.specs.Table.{firstEnd, secondEnd, tree}
 use Rattle.longest.specs.Longest.{edgeCost, measure, costs, wins, longer, shorter}
 use Rattle.longest.specs.Longest.{spread, spreads, hang, attach, pass, reached, start, longest, cutOf}
-use Rattle.candidates.specs.Candidate.{sees, taken, dropped, allowed, weighed, offer, offers, search, found}
+use Rattle.triples.specs.Triple.{sees, taken, dropped, allowed}
+use Rattle.candidates.specs.Candidate.{weighed, offer, offers, search, found}
 use Rattle.exchanges.specs.Exchange.{shift, closed, dropTwo, stands, push, closing, opened}
 use Rattle.exchanges.specs.Exchange.{bump, bumpAt, carrying, lay, lays, laidAt, exchange}
 use Rattle.exchanges.specs.Prune.{markOf, mark, marks, countEnds, loose, looseEdge, firstLoose, prune, pruned}

@@ -9,7 +9,7 @@ use lib.ListN.{length, take}
 use Rattle.blocks.specs.Sizes.{pinListBound, macroListBound, fileBound}
 use Rattle.netfile.specs.Read.{roomShort, roomShortWithin}
 use Rattle.netfile.proofs.CutLaws.{by-length, cut-short, cut-long, read-too-long}
-use Rattle.report.specs.Text.{refusedText}
+use Rattle.text.specs.Text.{refusedText}
 use Rattle.report.specs.Route.{routeText}
 use Rattle.report.proofs.RouteLaws.{route-refused}
 

@@ -19,10 +19,12 @@ use Rattle.net.specs.Bounds.{pinBound, macroBound, pinWidth, macroWidth, treeBo
 use Rattle.net.specs.declared.Weighing.{Weighing}
 use Rattle.net.specs.Net.{handed}
 use Rattle.net.specs.Pins.{pinCount, macroCount}
-use Rattle.net.specs.Check.{checked, countsOf}
-use Rattle.net.proofs.PassedLaws.{passed-all, pins-counted, macros-counted}
-use Rattle.net.proofs.CheckLaws.{allow}
-use Rattle.net.proofs.AllowedLaws.{given-counts}
+use Rattle.net.specs.Counts.{countsOf}
+use Rattle.net.proofs.CountLaws.{pins-counted, macros-counted}
+use Rattle.checks.specs.Check.{checked}
+use Rattle.checks.proofs.PassedLaws.{passed-all}
+use Rattle.checks.proofs.CheckLaws.{allow}
+use Rattle.checks.proofs.GivenLaws.{given-counts}
 use Rattle.net.proofs.PinLaws as pin-laws
 use Rattle.graph.specs.Numbers.{edgeNumbers, edgeFrom}
 use Rattle.graph.proofs.WidthLaws.{edge-width}
@@ -30,10 +32,10 @@ use Rattle.blocks.specs.Sizes.{pinListBound, macroListBound}
 use Rattle.decoded.specs.Held.{pinsIn, macrosIn}
 use Rattle.netfile.specs.Read.{readFile}
 use Rattle.netfile.proofs.RoundTrip.{accepted-is-ours}
-use Rattle.router.specs.Graph.{pointCount}
-use Rattle.router.specs.Both.{bothAnswer, bothGiven, bothTrees}
-use Rattle.router.proofs.AnswerLaws.{only-given, room-enough}
-use Rattle.report.specs.Text.{treeText, refusedText}
+use Rattle.answers.specs.Graph.{pointCount}
+use Rattle.answers.specs.Both.{bothAnswer, bothGiven, bothTrees}
+use Rattle.answers.proofs.AnswerLaws.{only-given, room-enough}
+use Rattle.text.specs.Text.{treeText, refusedText}
 use Rattle.report.specs.Route.{treesText, answerText, routeText}
 
 -- what an answer gives is one thing, part by part

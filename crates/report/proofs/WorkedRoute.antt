@@ -8,9 +8,9 @@ use Rattle.plane.specs.Cost.{plain}
 use Rattle.net.specs.WorkedNets.{threePins}
 use Rattle.encoded.specs.Layout.{fileBytes}
 use Rattle.netfile.proofs.WorkedFiles.{words, readWords}
-use Rattle.promises.proofs.WorkedNets.{treesBy}
+use Rattle.answers.proofs.Answered.{treesBy}
 use Rattle.report.specs.Route.{treesText, answerText, routeText}
-use Rattle.report.proofs.WorkedTexts.{threeLines, shown, shownRefused}
+use Rattle.text.proofs.WorkedTexts.{threeLines, shown, shownRefused}
 
 -- what is printed for a file; to unfold this is to unfold all that it rests on
 unfoldable pub printed : List ℕ → List ℕ

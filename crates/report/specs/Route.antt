@@ -8,10 +8,10 @@ use Rattle.net.specs.Net.{handed}
 use Rattle.blocks.specs.Sizes.{pinListBound, macroListBound}
 use Rattle.decoded.specs.Held.{pinsIn, macrosIn}
 use Rattle.netfile.specs.Read.{readFile}
-use Rattle.router.specs.Terminal.{pathsTotal}
-use Rattle.router.specs.Refined.{laidOf, laidTotal, metalOf}
-use Rattle.report.specs.declared.Header.{Header}
-use Rattle.report.specs.Text.{treeText, refusedText}
+use Rattle.answers.specs.Terminal.{pathsTotal}
+use Rattle.answers.specs.Refined.{laidOf, laidTotal, metalOf}
+use Rattle.text.specs.declared.Header.{Header}
+use Rattle.text.specs.Text.{treeText, refusedText}
 
 -- P2: what the header says of the trees of two flat lists, of which the check has counted `net`; `terminal` is the terminal tree's total
 abbrev pub headerOf : Counts → ℤ → List ℤ → List ℤ → Header

@@ -6,7 +6,7 @@ ghost use mathlib.Core.Bool.{_||_};
 ghost use Prim.Native.Nat.{_≤_};
 ghost use lib.Dec.{ltb};
 ghost use Rattle.net.specs.Bounds.{pinBound, macroBound};
-ghost use Rattle.net.specs.Check.{pointCount};
+ghost use Rattle.net.specs.Counts.{pointCount};
 ghost use Rattle.room.specs.Needs.{vertexNeed, linkNeed, pathNeed, edgeNeed, wireNeed};
 
 // The graph: 2n numbers for vertices, and 16n for edges.

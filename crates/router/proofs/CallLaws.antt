@@ -15,8 +15,8 @@ use Rattle.net.specs.declared.Refusal.{Refusal}
 use Rattle.net.specs.declared.Weighing.{Weighing}
 use Rattle.net.specs.Answer.{number}
 use Rattle.net.specs.Pins.{pinCount}
-use Rattle.net.specs.Check.{checked}
 use Rattle.net.specs.Net.{Net, costIn}
+use Rattle.checks.specs.Check.{checked}
 use Rattle.joined.specs.Cost.{lengths}
 use Rattle.plane.specs.Distance.{distance}
 use Rattle.graph.specs.Numbers.{edgeNumbers}
@@ -24,15 +24,15 @@ use Rattle.grid.specs.Distance.{SquareOver}
 use Rattle.lines.specs.Edges.{Edge}
 use Rattle.parts.specs.Bounds.{workBound}
 use Rattle.best.specs.Tree.{BestOver}
+use Rattle.answers.specs.Room.{ifRoom}
+use Rattle.answers.specs.Graph.{pointCount}
+use Rattle.answers.specs.Refined.{laidOf, refinedGiven, refinedTree}
+use Rattle.answers.specs.Both.{bothAnswer, bothGiven, bothTrees}
 use Rattle.router.specs.declared.DistanceAnswer.{DistanceAnswer}
-use Rattle.router.specs.Distances.{toldDistances}
+use Rattle.router.specs.Answers.{toldDistances, toldTree, toldBoth}
 use Rattle.router.specs.declared.TreeAnswer.{TreeAnswer}
 use Rattle.router.specs.declared.BothAnswer.{BothAnswer}
 use Rattle.router.specs.declared.BothAnswer.the-variants.{Given, Refused}
-use Rattle.router.specs.Room.{ifRoom}
-use Rattle.router.specs.Graph.{pointCount}
-use Rattle.router.specs.Refined.{laidOf, refinedGiven, refinedTree, toldTree}
-use Rattle.router.specs.Both.{bothAnswer, bothGiven, bothTrees, toldBoth}
 use Rattle.router.specs.Call.{Gives, GivesTwo, GivesSquare, GivesBest, RefinedCall, BothCall}
 
 module _ {A R X : Type 0} {saying : R → Told A} {t : Told A} {xs lent : List X} {r : R} where

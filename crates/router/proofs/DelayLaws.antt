@@ -2,8 +2,8 @@
 -- numbers of points is what the rules say of the refined tree's edges. And what is promised of the delays.
 -- Assumes nothing.
 use mathlib.Core.Path.{_≡_, refl, sym, ap, _∙_, subst}
-use mathlib.Core.Bool.{Bool, true, false}
-use mathlib.Core.List.{List, [], _∷_, map, Memᴰ·cast}
+use mathlib.Core.Bool.{true, false}
+use mathlib.Core.List.{List, [], _∷_, map}
 use Prim.Native.Nat.{ℕ, suc, _≤_, _<_}
 use native.Mathlib.Omega.{arith}
 use borrow.Author.Tests.{le-ltb}
@@ -14,27 +14,26 @@ use lib.Ieee.{Float}
 use Rattle.lists.specs.Any.{any}
 use Rattle.lists.specs.Member.{_∈_, Among}
 use Rattle.lists.specs.Sorted.{sorted}
-use Rattle.lists.proofs.TestLaws.{by, differ, or-none}
+use Rattle.lists.proofs.TestLaws.{differ}
 use Rattle.lists.proofs.MemberLaws.{once-length}
 use Rattle.lists.proofs.SortedLaws.{in-sorted, length-sorted}
 use Rattle.lent.specs.Told.{Told, given}
 use Rattle.lent.specs.Over.{after}
 use Rattle.plane.specs.declared.Place.{Place}
-use Rattle.plane.specs.Place.{before, samePlace}
+use Rattle.plane.specs.Place.{before}
 use Rattle.plane.specs.Flat.{placeAt}
 use Rattle.plane.proofs.PlaceOrder.{place-order}
 use Rattle.net.specs.declared.Net.{Net as Counts}
 use Rattle.net.specs.declared.Weighing.{Weighing}
 use Rattle.net.specs.Net.{Net, netOf}
 use Rattle.net.specs.Pins.{pinCount, pinPlaces}
-use Rattle.net.specs.Check.{checked}
 use Rattle.net.specs.Allowed.{Allowed}
-use Rattle.net.proofs.AllowedLaws.{given-allowed}
 use Rattle.net.proofs.PinLaws.{length-pins}
+use Rattle.checks.specs.Check.{checked}
+use Rattle.checks.proofs.GivenLaws.{given-allowed}
 use Rattle.terminal.proofs.NumberLaws.{apart-once}
 use Rattle.tree.specs.Table.{treeBound, tree}
 use Rattle.tree.specs.Places.{pointsOf}
-use Rattle.tree.specs.Edges.{tableEdges}
 use Rattle.tree.proofs.ListingLaws.{of-listing}
 use Rattle.exchanges.specs.Prune.{pruned}
 use Rattle.refiner.specs.declared.Refined.{Refined}
@@ -45,7 +44,6 @@ use Rattle.union.specs.Union.{unionOf}
 use Rattle.refined.specs.Ground.{groundOf}
 use Rattle.refined.proofs.NetGround.{union-ready}
 use Rattle.refined.proofs.NetRefined.{union-tabled}
-use Rattle.slide.specs.Slide.{treePoints}
 use Rattle.slide.proofs.SlidSound.{given-sound}
 use Rattle.slide.proofs.StateLaws.{first-pin}
 use Rattle.floats.specs.declared.Technology.{Technology}
@@ -54,15 +52,15 @@ use Rattle.delay.specs.declared.Delayed.{Delayed}
 use Rattle.floats.specs.declared.Delay.the-variants.{Finite, NotFinite}
 use Rattle.floats.specs.Mark.{marked, isMark, finites, usable, pinsFrom, marksFrom}
 use Rattle.delay.specs.Answer.{marksOf, delayed, delayAnswer, delayOf, toldDelays}
-use Rattle.delay.specs.Promise.{Timed}
 use Rattle.delay.specs.Table.{Loaded, driverIn, tableFrom}
 use Rattle.delay.proofs.AnswerLaws.{in-any, pins-places, answer-places, lent-places}
 use Rattle.delay.proofs.TimedLaws.{timed}
-use Rattle.router.specs.Refined.{edgesIn, laidOf}
-use Rattle.router.specs.Delay.{loadsOf, delaysOf, delayGiven, pinDelays, PromisedDelay}
+use Rattle.answers.specs.Refined.{edgesIn, laidOf}
+use Rattle.answers.specs.Delay.{loadsOf, delaysOf, delayGiven, pinDelays}
+use Rattle.answers.proofs.AnswerLaws.{only-given}
+use Rattle.results.proofs.RefinedLaws.{answer-edges}
+use Rattle.router.specs.Delay.{PromisedDelay}
 use Rattle.router.specs.Call.{DelayCall}
-use Rattle.router.proofs.AnswerLaws.{only-given}
-use Rattle.router.proofs.RefinedLaws.{answer-edges}
 use Rattle.router.proofs.SlidLaws.{refined-given}
 
 -- in order, pins at different places are as many

@@ -1,10 +1,8 @@
-pub mod GraphAnswer
-pub mod AnswerLaws
 pub mod RoomLaws
 pub mod CallLaws
-pub mod RefinedLaws
 pub mod Distances
 pub mod BestLaws
+pub mod RefinedRange
 pub mod SlidLaws
 pub mod SlidTable
 pub mod DelayLaws

@@ -9,11 +9,11 @@ use lib.IntN.{ℤ}
 use Rattle.net.specs.declared.Net.{Net as Counts}
 use Rattle.net.specs.declared.Weighing.{Weighing}
 use Rattle.net.specs.Pins.{pinCount}
-use Rattle.net.specs.Check.{pointCount as countedPoints}
+use Rattle.net.specs.Counts.{pointCount as countedPoints}
 use Rattle.room.specs.Needs.{vertexNeed, linkNeed, pathNeed, edgeNeed, wireNeed}
 use Rattle.made.specs.Counted.{Counted}
 use Rattle.made.proofs.CountedLaws.{as-points, as-pins}
-use Rattle.router.specs.Graph.{pointCount}
+use Rattle.answers.specs.Graph.{pointCount}
 
 module _ {n : Counts} {w : Weighing} {pins macros : List ℤ} (c : Counted n w pins macros) (room : ℕ) where
   pub graph-asks : (edges : ℕ) → (ltb room (vertexNeed (countedPoints n)) || ltb edges (linkNeed (countedPoints n)))

@@ -3,7 +3,7 @@
 -- Assumes nothing.
 use mathlib.Core.Path.{_≡_, sym, ap, ap₂, _∙_, subst}
 use mathlib.Core.List.{List}
-use Prim.Native.Nat.{ℕ, _+_, _*_, _≤_, _<_}
+use Prim.Native.Nat.{ℕ, _*_, _≤_}
 use native.Mathlib.Omega.{arith}
 use lib.IntN.{ℤ}
 use lib.ListN.{length}
@@ -11,9 +11,8 @@ use Rattle.lent.specs.Over.{over}
 use Rattle.lent.specs.Entries.{flat}
 use Rattle.lent.proofs.EntryTable.{entries-over, length-entries}
 use Rattle.joined.specs.Cost.{lengths}
-use Rattle.plane.specs.declared.Place.{Place}
 use Rattle.net.specs.declared.Net.{Net as Counts}
-use Rattle.net.specs.Bounds.{pinBound, treeBound}
+use Rattle.net.specs.Bounds.{pinBound}
 use Rattle.net.specs.Net.{Net, netWith, netOf, handed, costIn}
 use Rattle.net.specs.Allowed.{Allowed}
 use Rattle.net.proofs.AllowedLaws.{allowed-positive}
@@ -32,9 +31,9 @@ use Rattle.laid.specs.Edges.{edgesOf, laidBound}
 use Rattle.slide.specs.Slide.{slid}
 use Rattle.slide.specs.Promise.{Slidable}
 use Rattle.made.specs.Counted.{Counted}
-use Rattle.router.specs.Refined.{refinedOf, edgesIn, totalIn}
-use Rattle.router.specs.Slid.{slidIn}
-use Rattle.router.proofs.RefinedLaws.{total-low, answer-edges}
+use Rattle.answers.specs.Refined.{refinedOf, edgesIn, totalIn}
+use Rattle.answers.specs.Slid.{slidIn}
+use Rattle.results.proofs.RefinedLaws.{total-low, answer-edges}
 use Rattle.router.proofs.SlidLaws.{refined-few, refined-given, refined-ranged, slid-refined, slid-few}
 use Rattle.made.proofs.CountedLaws.{as-net}
 

@@ -1,4 +1,4 @@
--- The check of a bought-in tree among the operations: rule C79. What passes stands in `bought` (specs/Passes.antt).
+-- What is promised of the check of a bought-in tree (V3 to V9). What passes stands in `bought` (specs/Passes.antt).
 use mathlib.Core.Path.{_≡_}
 use mathlib.Core.Bool.{false}
 use mathlib.Core.List.{List, []}
@@ -7,38 +7,30 @@ use lib.IntN.{ℤ, pos}
 use lib.ListN.{length}
 use Rattle.lists.specs.Any.{any}
 use Rattle.lists.specs.Member.{_∈_}
-use Rattle.lent.specs.Told.{Told, refused, given, onlyIf}
+use Rattle.lent.specs.Told.{refused, given}
 use Rattle.lent.specs.Entries.{flat}
-use Rattle.joined.specs.Cost.{lengths}
 use Rattle.joined.specs.Joined.{Link, others}
 use Rattle.plane.specs.declared.Place.{Place}
-use Rattle.plane.specs.Distance.{distance}
 use Rattle.net.specs.declared.Weighing.{Weighing}
 use Rattle.net.specs.Pins.{pinCount, pinPlaces}
-use Rattle.net.specs.Net.{netOf, costIn}
-use Rattle.net.specs.Check.{outOfRange, checked}
+use Rattle.net.specs.Net.{netOf}
+use Rattle.net.specs.Tests.{outOfRange}
 use Rattle.net.specs.Allowed.{PlaceInRange}
+use Rattle.checks.specs.Check.{checked}
 use Rattle.graph.specs.Numbers.{edgeNumbers}
 use Rattle.bought.specs.Bounds.{boughtBound}
 use Rattle.bought.specs.Edges.{Edge, edgesOf}
 use Rattle.bought.specs.Passes.{Passes}
 use Rattle.bought.specs.Rearranged.{SameEdges}
-use Rattle.bought.specs.Verdict.{edgesMiscounted, bought}
-use Rattle.router.specs.Refined.{laidOf, laidTotal, metalOf}
-use Rattle.router.specs.Slid.{slidOf, slidTotal, slidMetal}
-
--- C79: 11 to 18, then 33, 34 and 35; otherwise what the edges cost, and their metal
-unfoldable pub checkedTree : Weighing → List ℤ → List ℤ → List ℤ → Told (ℤ × ℤ)
-checkedTree w pins macros edges = onlyIf (checked w pins macros) (bought (netOf w pins macros) edges)
+use Rattle.bought.specs.Verdict.{edgesMiscounted}
+use Rattle.answers.specs.Bought.{checkedTree, sumsOf}
+use Rattle.answers.specs.Refined.{laidOf, laidTotal, metalOf}
+use Rattle.answers.specs.Slid.{slidOf, slidTotal, slidMetal}
 
 -- C33 does not apply
 pub record Listed (edges : List ℤ) : Type 0 where
   pub counted : edgesMiscounted edges ≡ false
   pub in-range : any outOfRange edges ≡ false
-
--- the cost and the metal of edges
-abbrev pub sumsOf : Weighing → List ℤ → List ℤ → List Edge → ℤ × ℤ
-sumsOf w pins macros T = (pos (lengths (costIn (netOf w pins macros)) T), pos (lengths distance T))
 
 -- What is promised of the check for an allowed net; the check of the net is the only premise (`promised-check`,
 -- promises/proofs/BoughtLaws.antt)

@@ -9,10 +9,10 @@ use Rattle.lent.specs.Told.{Told, given}
 use Rattle.lent.specs.Over.{after}
 use Rattle.lent.specs.Entries.{flat}
 use Rattle.plane.specs.declared.Place.{Place}
-use Rattle.net.specs.declared.Checked.{Checked}
 use Rattle.net.specs.declared.Weighing.{Weighing}
 use Rattle.net.specs.Net.{Net, netOf, weightsOf}
-use Rattle.net.specs.Check.{told}
+use Rattle.checks.specs.declared.Checked.{Checked}
+use Rattle.checks.specs.Check.{told}
 use Rattle.encoded.specs.Layout.{fileBytes}
 use Rattle.decoded.specs.Held.{pinsIn, macrosIn}
 use Rattle.netfile.specs.declared.Written.{Written}
@@ -28,20 +28,19 @@ use Rattle.delay.specs.Answer.{toldDelays}
 use Rattle.lines.specs.Edges.{Edge}
 use Rattle.parts.specs.Bounds.{workBound}
 use Rattle.best.specs.Tree.{BestTree}
+use Rattle.answers.specs.Graph.{netVertices, netEdges}
+use Rattle.answers.specs.Terminal.{pathsOf}
+use Rattle.answers.specs.Refined.{laidOf}
+use Rattle.answers.specs.Slid.{slidOf}
+use Rattle.answers.specs.Wires.{wiresOf}
+use Rattle.answers.specs.Delay.{delaysOf}
 use Rattle.router.specs.declared.Graphed.{Graphed}
 use Rattle.router.specs.declared.TerminalAnswer.{TerminalAnswer}
 use Rattle.router.specs.declared.TreeAnswer.{TreeAnswer}
 use Rattle.router.specs.declared.BothAnswer.{BothAnswer}
 use Rattle.router.specs.declared.Wired.{Wired}
 use Rattle.router.specs.declared.DistanceAnswer.{DistanceAnswer}
-use Rattle.router.specs.Graph.{netVertices, netEdges, toldGraph}
-use Rattle.router.specs.Terminal.{pathsOf, toldTerminal}
-use Rattle.router.specs.Refined.{laidOf, toldTree}
-use Rattle.router.specs.Both.{toldBoth}
-use Rattle.router.specs.Slid.{slidOf}
-use Rattle.router.specs.Wires.{wiresOf, toldWires}
-use Rattle.router.specs.Distances.{toldDistances}
-use Rattle.router.specs.Delay.{delaysOf}
+use Rattle.router.specs.Answers.{toldGraph, toldTerminal, toldTree, toldBoth, toldWires, toldDistances}
 
 -- the answer r says t, and one list was lent: where t is given, xs stands at its front (C53); where t is refused, it is as it was (C50)
 pub record Gives {A R X : Type 0} (saying : R → Told A) (t : Told A) (xs lent : List X) (r : R) (lent′ : List X) : Type 0 where

@@ -1,4 +1,4 @@
--- The delay to each pin among the operations: rules C38 to C40, C85 and C86. What delays are stands in `delay` (specs/Answer.antt).
+-- What is promised of the delay to each pin. What delays are stands in `delay` (specs/Answer.antt).
 use mathlib.Core.Path.{_≡_}
 use mathlib.Core.Bool.{true, false}
 use mathlib.Core.List.{List}
@@ -8,37 +8,19 @@ use lib.ListN.{length}
 use lib.Ieee.{Float}
 use Rattle.lists.specs.Any.{any}
 use Rattle.lists.specs.Member.{_∈_}
-use Rattle.lent.specs.Told.{Told, given, onlyIf}
+use Rattle.lent.specs.Told.{given}
 use Rattle.lent.specs.Over.{after}
 use Rattle.plane.specs.declared.Place.{Place}
 use Rattle.net.specs.declared.Weighing.{Weighing}
-use Rattle.net.specs.Pins.{pinCount, pinPlaces, pinEntries}
-use Rattle.net.specs.Check.{checked}
+use Rattle.net.specs.Pins.{pinCount, pinPlaces}
 use Rattle.net.specs.Net.{netOf}
+use Rattle.checks.specs.Check.{checked}
 use Rattle.slide.specs.Slide.{treePoints}
 use Rattle.floats.specs.declared.Technology.{Technology}
-use Rattle.floats.specs.declared.Delay.{Delay}
-use Rattle.delay.specs.Load.{loadOf}
 use Rattle.floats.specs.Mark.{isMark, finites, usable}
-use Rattle.delay.specs.Answer.{marksOf, delayAnswer}
 use Rattle.delay.specs.Promise.{Timed}
-use Rattle.router.specs.Refined.{laidOf}
-
--- Y4: the load of a point of the tree
-abbrev pub loadsOf : List ℤ → Place → ℕ
-loadsOf pins q = loadOf (pinEntries pins) q
-
--- C86: for each pin, in the order of places, its delay along the refined tree or the mark that it is not finite
-unfoldable pub delaysOf : Weighing → List ℤ → List ℤ → Place → Technology → List Delay
-delaysOf w pins macros driver t = marksOf (laidOf w pins macros) (loadsOf pins) t driver (pinPlaces pins)
-
--- C85: 21, fewer than m numbers; 38, 39, 40
-unfoldable pub delayGiven : Weighing → List ℤ → List ℤ → Place → Technology → ℕ → Told ℕ
-delayGiven w pins macros driver t room = delayAnswer (laidOf w pins macros) (loadsOf pins) (pinPlaces pins) t driver room
-
--- C85: 11 to 18, then 21, then 38 to 40
-unfoldable pub pinDelays : Weighing → List ℤ → List ℤ → Place → Technology → ℕ → Told ℕ
-pinDelays w pins macros driver t room = onlyIf (checked w pins macros) (delayGiven w pins macros driver t room)
+use Rattle.answers.specs.Delay.{loadsOf, delaysOf, pinDelays}
+use Rattle.answers.specs.Refined.{laidOf}
 
 -- What is promised of the delays of an allowed net; the check is the only premise (`promised-delay`, proofs/DelayLaws.antt)
 pub record PromisedDelay (w : Weighing) (pins macros : List ℤ) : Type 0 where

@@ -1,17 +1,12 @@
--- The price among the operations: rules B6 and C75. What a list of bands charges for metal stands in `price` (specs/Price.antt).
+-- What is promised of the price (B6). What a list of bands charges for metal stands in `price` (specs/Price.antt).
 use mathlib.Core.Path.{_≡_}
 use mathlib.Core.List.{List}
 use Prim.Native.Nat.{ℕ, _≤_}
 use lib.IntN.{ℤ}
-use Rattle.lent.specs.Told.{Told, given, onlyIf}
+use Rattle.lent.specs.Told.{given}
 use Rattle.net.specs.declared.Weighing.{Weighing}
-use Rattle.net.specs.Check.{checked}
-use Rattle.price.specs.Price.{priced}
-use Rattle.router.specs.Refined.{metalOf}
-
--- C75: 11 to 18, then what the bands say of the metal
-unfoldable pub netPrice : Weighing → List ℤ → List ℤ → List ℕ → Told ℕ
-netPrice w pins macros bands = onlyIf (checked w pins macros) (priced (metalOf w pins macros) bands)
+use Rattle.answers.specs.Price.{netPrice}
+use Rattle.answers.specs.Refined.{metalOf}
 
 -- B6: of any two nets that the list prices, the one with more metal is charged no less; it is so of every list (`never-less`)
 abbrev pub NeverLess : List ℕ → Type 0

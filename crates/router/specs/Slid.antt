@@ -1,14 +1,14 @@
--- The slid tree among the operations: rules C81 and C82. What it is stands in `slide` (specs/Slide.antt).
+-- What is promised of the slid tree (M1 to M15). What it is stands in `slide` (specs/Slide.antt).
 use mathlib.Core.Path.{_≡_}
 use mathlib.Core.Bool.{true}
 use mathlib.Core.Logic.{_⊎_}
 use mathlib.Core.List.{List}
 use Prim.Native.Nat.{ℕ, _+_, _*_, _≤_, _<_}
-use lib.IntN.{ℤ, pos}
+use lib.IntN.{ℤ}
 use lib.ListN.{length}
 use Rattle.lists.specs.Member.{_∈_}
 use Rattle.lists.specs.Sorted.{Ascending}
-use Rattle.lent.specs.Told.{Told, given, onlyIf}
+use Rattle.lent.specs.Told.{given}
 use Rattle.plane.specs.declared.Place.{Place}
 use Rattle.plane.specs.declared.Macro.{Macro}
 use Rattle.plane.specs.Place.{before}
@@ -16,49 +16,19 @@ use Rattle.plane.specs.Macro.{clear}
 use Rattle.plane.specs.Flat.{macrosOf}
 use Rattle.net.specs.Pins.{pinCount, pinPlaces}
 use Rattle.net.specs.declared.Weighing.{Weighing}
-use Rattle.net.specs.Check.{checked}
-use Rattle.net.specs.Net.{Net, netOf, costIn}
+use Rattle.net.specs.Net.{netOf}
 use Rattle.net.specs.Allowed.{PlaceInRange}
-use Rattle.room.specs.Needs.{wireNeed}
-use Rattle.joined.specs.Cost.{lengths}
+use Rattle.checks.specs.Check.{checked}
 use Rattle.joined.specs.OneTree.{OneTree}
-use Rattle.refined.specs.Metal.{metal}
 use Rattle.slide.specs.Bend.{bent, given-back, bends}
-use Rattle.slide.specs.Slide.{treePoints, inOrder, slid}
+use Rattle.slide.specs.Slide.{treePoints, inOrder}
 use Rattle.slide.specs.Promise.{RoundsOf}
 use Rattle.rules.specs.Edges.{Edge, edgeBefore}
-use Rattle.rules.specs.Interior.{PlanePoint, Interior, Box}
+use Rattle.interior.specs.Interior.{PlanePoint, Interior, Box}
 use Rattle.rules.specs.Refined.{Loose}
-use Rattle.router.specs.Room.{ifRoom}
-use Rattle.router.specs.Graph.{pointCount}
-use Rattle.router.specs.Refined.{edgesIn, laidOf, laidTotal}
-
--- M1: from the refined tree's edges
-unfoldable pub slidIn : Net → List (Place × Place)
-slidIn net = slid net (edgesIn net)
-
--- The operation
-
--- C82: the edges in order, their total, and their metal
-abbrev pub slidOf : Weighing → List ℤ → List ℤ → List (Place × Place)
-slidOf w pins macros = slidIn (netOf w pins macros)
-
-abbrev pub slidTotal : Weighing → List ℤ → List ℤ → ℕ
-slidTotal w pins macros = lengths (costIn (netOf w pins macros)) (slidOf w pins macros)
-
-abbrev pub slidMetal : Weighing → List ℤ → List ℤ → ℕ
-slidMetal w pins macros = metal (slidOf w pins macros)
-
-abbrev pub slidAnswer : Weighing → List ℤ → List ℤ → ℕ × (ℤ × ℤ)
-slidAnswer w pins macros = (length (slidOf w pins macros), (pos (slidTotal w pins macros), pos (slidMetal w pins macros)))
-
--- C81: fewer than 8(n + m) numbers
-unfoldable pub slidGiven : Weighing → List ℤ → List ℤ → ℕ → Told (ℕ × (ℤ × ℤ))
-slidGiven w pins macros room = ifRoom (wireNeed (pointCount pins macros) (pinCount pins)) room (slidAnswer w pins macros)
-
--- C81: 11 to 18, then 21
-unfoldable pub slidTree : Weighing → List ℤ → List ℤ → ℕ → Told (ℕ × (ℤ × ℤ))
-slidTree w pins macros room = onlyIf (checked w pins macros) (slidGiven w pins macros room)
+use Rattle.answers.specs.Slid.{slidOf, slidTotal, slidMetal, slidAnswer, slidTree}
+use Rattle.answers.specs.Graph.{pointCount}
+use Rattle.answers.specs.Refined.{laidOf, laidTotal}
 
 -- What is promised of the slid tree of an allowed net; the check is the only premise (`promised-slid`, proofs/SlidLaws.antt)
 pub record PromisedSlid (w : Weighing) (pins macros : List ℤ) : Type 0 where

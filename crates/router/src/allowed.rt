@@ -12,25 +12,22 @@ use lines::Grid;
 use net::Net;
 use net::Refusal;
 use plane::Place;
-use price::Priced;
 use straight::EDGE_NUMBERS as EDGE_TABLE;
 use tree::Size;
 ghost use mathlib.Core.Path.{_≡_};
 ghost use Prim.Native.Nat.{_*_};
 ghost use lib.ListN.{length};
 ghost use Rattle.net.specs.Net.{handed};
-ghost use Rattle.price.specs.Price.{priced, toldPrice};
 ghost use Rattle.made.specs.Counted.{Counted};
-ghost use Rattle.router.specs.Graph.{graphGiven};
-ghost use Rattle.router.specs.Terminal.{terminalGiven};
-ghost use Rattle.router.specs.Refined.{metalOf};
-ghost use Rattle.router.specs.Both.{bothGiven};
+ghost use Rattle.answers.specs.Graph.{graphGiven};
+ghost use Rattle.answers.specs.Terminal.{terminalGiven};
+ghost use Rattle.answers.specs.Both.{bothGiven};
 ghost use Rattle.laid.specs.Edges.{edgesOf, laidBound};
-ghost use Rattle.router.specs.Slid.{slidOf, slidGiven};
-ghost use Rattle.router.specs.Wires.{wiresGiven};
-ghost use Rattle.router.specs.Distances.{distancesGiven};
-ghost use Rattle.router.specs.Delay.{delayGiven};
-ghost use Rattle.router.specs.Best.{bestGiven};
+ghost use Rattle.answers.specs.Slid.{slidOf, slidGiven};
+ghost use Rattle.answers.specs.Wires.{wiresGiven};
+ghost use Rattle.answers.specs.Distances.{distancesGiven};
+ghost use Rattle.answers.specs.Delay.{delayGiven};
+ghost use Rattle.answers.specs.Best.{bestGiven};
 ghost use Rattle.router.specs.Call.{GraphCall, TerminalCall, BothCall, SlidCall, WiresCall, DistancesCall, DelayCall, BestCall};
 
 // The graph.
@@ -48,9 +45,8 @@ pub fn graph(
     if room::graph_short(net, vertices.len(), edges.len()) {
         return Graphed::Refused(Refusal::Space);
     }
-    let v = graph::vertices(pins, macros, &mut *vertices);
-    let e = graph::edges(net.weights, macros, &vertices[..v * 2], &mut *edges);
-    Graphed::Given(v, e)
+    let given = results::graph(net, pins, macros, &mut *vertices, &mut *edges);
+    Graphed::Given(given.vertices, given.edges)
 }
 
 // The terminal tree.
@@ -75,16 +71,12 @@ pub fn both_trees(net: Net, pins: &[i32], macros: &[i32], edges: &mut [i32]) -> 
     if room::edges_short(net, edges.len()) {
         return BothAnswer::Refused(Refusal::Space);
     }
-    let mut points = [0i32; tree::NUMBERS];
-    let mut keys = [0usize; tree::POINTS];
-    let tree = made::refine(net, pins, macros, &mut points, &mut keys);
-    let metal = refined::metal(&points, &keys, tree.edges);
-    refined::give_edges(&points, &keys, tree.edges, &mut *edges);
+    let given = results::edges(net, pins, macros, &mut *edges);
     BothAnswer::Given(
-        tree.edges,
-        tree.terminal as i64,
-        tree.total as i64,
-        metal as i64,
+        given.edges,
+        given.terminal as i64,
+        given.total as i64,
+        given.metal as i64,
     )
 }
 
@@ -114,10 +106,7 @@ pub fn wires(net: Net, pins: &[i32], macros: &[i32], wires: &mut [i32]) -> Wired
     if room::wires_short(net, wires.len()) {
         return Wired::Refused(Refusal::Space);
     }
-    let mut points = [0i32; tree::NUMBERS];
-    let mut keys = [0usize; tree::POINTS];
-    let tree = made::refine(net, pins, macros, &mut points, &mut keys);
-    let count = refined::give_wires(&points, &keys, tree.edges, &mut *wires);
+    let count = results::wires(net, pins, macros, &mut *wires);
     Wired::Given(count)
 }
 
@@ -155,19 +144,6 @@ pub fn delay(
         net.pins,
         &mut *delays,
     )
-}
-
-// The price.
-pub fn price(net: Net, pins: &[i32], macros: &[i32], bands: &[u64]) -> Priced
-    requires { ⌜ Counted net (handed (net .weights)) (now pins) (now macros) ⌝ }
-    ensures { λ r. ⌜ toldPrice r ≡ priced (metalOf (handed (net .weights)) (now (pins .entry)) (now (macros .entry)))
-        (now (bands .entry)) ⌝ }
-{
-    let mut points = [0i32; tree::NUMBERS];
-    let mut keys = [0usize; tree::POINTS];
-    let tree = made::refine(net, pins, macros, &mut points, &mut keys);
-    let metal = refined::metal(&points, &keys, tree.edges);
-    price::price(metal, bands)
 }
 
 // The slid tree of an allowed net as a flat list of edges, in a table that is fresh; how many there are.

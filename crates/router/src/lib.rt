@@ -7,29 +7,29 @@
 mod allowed; // allowed.rt: what goes on once the check has passed
 
 use bought::Verdict;
+use checks::Checked;
 use delay::Delayed;
 use floats::Technology;
-use net::Checked;
 use net::Refusal;
 use net::Weighing;
 use netfile::Written;
 use plane::Place;
 use price::Priced;
 ghost use mathlib.Core.Path.{_≡_};
-ghost use Rattle.net.specs.Check.{checked, told};
+ghost use Rattle.checks.specs.Check.{checked, told};
 ghost use Rattle.price.specs.Price.{toldPrice};
 ghost use Rattle.bought.specs.Verdict.{toldVerdict};
-ghost use Rattle.router.specs.Graph.{graphed};
-ghost use Rattle.router.specs.Terminal.{terminalTree};
-ghost use Rattle.router.specs.Refined.{refinedTree};
-ghost use Rattle.router.specs.Both.{bothTrees};
-ghost use Rattle.router.specs.Slid.{slidTree};
-ghost use Rattle.router.specs.Wires.{wired};
-ghost use Rattle.router.specs.Distances.{gridDistances};
-ghost use Rattle.router.specs.Delay.{pinDelays};
-ghost use Rattle.router.specs.Best.{bestTree};
-ghost use Rattle.router.specs.Price.{netPrice};
-ghost use Rattle.router.specs.Bought.{checkedTree};
+ghost use Rattle.answers.specs.Graph.{graphed};
+ghost use Rattle.answers.specs.Terminal.{terminalTree};
+ghost use Rattle.answers.specs.Refined.{refinedTree};
+ghost use Rattle.answers.specs.Both.{bothTrees};
+ghost use Rattle.answers.specs.Slid.{slidTree};
+ghost use Rattle.answers.specs.Wires.{wired};
+ghost use Rattle.answers.specs.Distances.{gridDistances};
+ghost use Rattle.answers.specs.Delay.{pinDelays};
+ghost use Rattle.answers.specs.Best.{bestTree};
+ghost use Rattle.answers.specs.Price.{netPrice};
+ghost use Rattle.answers.specs.Bought.{checkedTree};
 ghost use Rattle.router.specs.Call.{GraphCall, TerminalCall, RefinedCall, BothCall, SlidCall, WiresCall, DistancesCall};
 ghost use Rattle.router.specs.Call.{DelayCall, BestCall, WriteCall, ReadCall};
 
@@ -73,7 +73,7 @@ pub enum DistanceAnswer {
 pub fn check(w: Weighing, pins: &[i32], macros: &[i32]) -> Checked
     ensures { λ r. ⌜ told r ≡ checked w (now (pins .entry)) (now (macros .entry)) ⌝ }
 {
-    net::check(w, pins, macros)
+    checks::check(w, pins, macros)
 }
 
 // Graph: the vertices and the edges of the spanning graph, in order, or 11 to 18, then 21 where fewer than 2n numbers are lent for
@@ -88,7 +88,7 @@ pub fn graph(
     ensures { λ r. ⌜ GraphCall graphed w (now (pins .entry)) (now (macros .entry)) (now (vertices .entry)) (now (edges .entry)) r
         (now (vertices .exit)) (now (edges .exit)) ⌝ }
 {
-    let answer = net::check(w, pins, macros);
+    let answer = checks::check(w, pins, macros);
     match answer {
         Checked::Allowed(net) => allowed::graph(net, pins, macros, &mut *vertices, &mut *edges),
         Checked::Refused(refusal) => Graphed::Refused(refusal),
@@ -100,7 +100,7 @@ pub fn graph(
 pub fn terminal_tree(w: Weighing, pins: &[i32], macros: &[i32], paths: &mut [i64]) -> TerminalAnswer
     ensures { λ r. ⌜ TerminalCall terminalTree w (now (pins .entry)) (now (macros .entry)) (now (paths .entry)) r (now (paths .exit)) ⌝ }
 {
-    let answer = net::check(w, pins, macros);
+    let answer = checks::check(w, pins, macros);
     match answer {
         Checked::Allowed(net) => allowed::terminal_tree(net, pins, macros, &mut *paths),
         Checked::Refused(refusal) => TerminalAnswer::Refused(refusal),
@@ -124,7 +124,7 @@ pub fn refined_tree(w: Weighing, pins: &[i32], macros: &[i32], edges: &mut [i32]
 pub fn both_trees(w: Weighing, pins: &[i32], macros: &[i32], edges: &mut [i32]) -> BothAnswer
     ensures { λ r. ⌜ BothCall bothTrees w (now (pins .entry)) (now (macros .entry)) (now (edges .entry)) r (now (edges .exit)) ⌝ }
 {
-    let answer = net::check(w, pins, macros);
+    let answer = checks::check(w, pins, macros);
     match answer {
         Checked::Allowed(net) => allowed::both_trees(net, pins, macros, &mut *edges),
         Checked::Refused(refusal) => BothAnswer::Refused(refusal),
@@ -137,7 +137,7 @@ pub fn both_trees(w: Weighing, pins: &[i32], macros: &[i32], edges: &mut [i32]) 
 pub fn slid_tree(w: Weighing, pins: &[i32], macros: &[i32], edges: &mut [i32]) -> TreeAnswer
     ensures { λ r. ⌜ SlidCall slidTree w (now (pins .entry)) (now (macros .entry)) (now (edges .entry)) r (now (edges .exit)) ⌝ }
 {
-    let answer = net::check(w, pins, macros);
+    let answer = checks::check(w, pins, macros);
     match answer {
         Checked::Allowed(net) => allowed::slid_tree(net, pins, macros, &mut *edges),
         Checked::Refused(refusal) => TreeAnswer::Refused(refusal),
@@ -149,7 +149,7 @@ pub fn slid_tree(w: Weighing, pins: &[i32], macros: &[i32], edges: &mut [i32]) -
 pub fn wires(w: Weighing, pins: &[i32], macros: &[i32], wires: &mut [i32]) -> Wired
     ensures { λ r. ⌜ WiresCall wired w (now (pins .entry)) (now (macros .entry)) (now (wires .entry)) r (now (wires .exit)) ⌝ }
 {
-    let answer = net::check(w, pins, macros);
+    let answer = checks::check(w, pins, macros);
     match answer {
         Checked::Allowed(net) => allowed::wires(net, pins, macros, &mut *wires),
         Checked::Refused(refusal) => Wired::Refused(refusal),
@@ -167,7 +167,7 @@ pub fn grid_distances(
 ) -> DistanceAnswer
     ensures { λ r. ⌜ DistancesCall gridDistances w (now (pins .entry)) (now (macros .entry)) (now (table .entry)) r (now (table .exit)) ⌝ }
 {
-    let answer = net::check(w, pins, macros);
+    let answer = checks::check(w, pins, macros);
     match answer {
         Checked::Allowed(net) => allowed::grid_distances(net, pins, macros, &mut *table),
         Checked::Refused(refusal) => DistanceAnswer::Refused(refusal),
@@ -189,7 +189,7 @@ pub fn delay(
     ensures { λ r. ⌜ DelayCall pinDelays w (now (pins .entry)) (now (macros .entry)) driver t (now (delays .entry)) r
         (now (delays .exit)) ⌝ }
 {
-    let answer = net::check(w, pins, macros);
+    let answer = checks::check(w, pins, macros);
     match answer {
         Checked::Allowed(net) => allowed::delay(net, pins, macros, driver, t, &mut *delays),
         Checked::Refused(refusal) => Delayed::Refused(refusal),
@@ -211,7 +211,7 @@ pub fn best_tree(
     ensures { λ r. ⌜ BestCall bestTree w (now (pins .entry)) (now (macros .entry)) (now (work .entry)) (now (edges .entry)) r
         (now (work .exit)) (now (edges .exit)) ⌝ }
 {
-    let answer = net::check(w, pins, macros);
+    let answer = checks::check(w, pins, macros);
     match answer {
         Checked::Allowed(net) => allowed::best_tree(net, pins, macros, &mut *work, &mut *edges),
         Checked::Refused(refusal) => TreeAnswer::Refused(refusal),
@@ -224,9 +224,9 @@ pub fn best_tree(
 pub fn price(w: Weighing, pins: &[i32], macros: &[i32], bands: &[u64]) -> Priced
     ensures { λ r. ⌜ toldPrice r ≡ netPrice w (now (pins .entry)) (now (macros .entry)) (now (bands .entry)) ⌝ }
 {
-    let answer = net::check(w, pins, macros);
+    let answer = checks::check(w, pins, macros);
     match answer {
-        Checked::Allowed(net) => allowed::price(net, pins, macros, bands),
+        Checked::Allowed(net) => results::price(net, pins, macros, bands),
         Checked::Refused(refusal) => Priced::Refused(refusal),
     }
 }
@@ -237,7 +237,7 @@ pub fn price(w: Weighing, pins: &[i32], macros: &[i32], bands: &[u64]) -> Priced
 pub fn check_tree(w: Weighing, pins: &[i32], macros: &[i32], edges: &[i32]) -> Verdict
     ensures { λ r. ⌜ toldVerdict r ≡ checkedTree w (now (pins .entry)) (now (macros .entry)) (now (edges .entry)) ⌝ }
 {
-    let answer = net::check(w, pins, macros);
+    let answer = checks::check(w, pins, macros);
     match answer {
         Checked::Allowed(net) => bought::check_tree(net.weights, pins, macros, edges),
         Checked::Refused(refusal) => Verdict::Refused(refusal),

@@ -1,7 +1,3 @@
--- Interiors as points
-pub mod ScaleLaws
-pub mod SpanLaws
-pub mod InteriorLaws
 -- One solution
 pub mod EdgeLaws
 pub mod SpanningOnly
@@ -30,4 +26,3 @@ pub mod StartOurs
 pub mod ChartsOurs
 pub mod RefinedOurs
 pub mod TreesOurs
-pub mod RefinedRange

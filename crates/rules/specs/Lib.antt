@@ -10,7 +10,6 @@
 -- "the longest", "the first" are said by comparison with every other. So the order of a net's lists is nowhere, and that it does not
 -- matter follows from "one solution" alone (`trees-same`).
 --
---   Interior   PlanePoint, Interior, Box        a point with fractions; when it lies in an interior, in a closed box
 --   Edges      Edge, edgeBefore, edgeCost       edges, their order and their cost
 --              Same T U                         the same edges, as sets
 --   Spanning   Vertex, Lies, May, Picks         vertices; quadrants; what a vertex may pick, and what it picks
@@ -30,7 +29,6 @@
 --   Demand     BestJoining net G ks             D3 of the kept paths;  RefinedTree: D3 of the refined tree
 --
 -- THE THEOREMS (proofs/)
---   InteriorLaws   box-meets, interiors-meet, clear-points    the tests on whole numbers are about points with fractions
 --   SpanningOurs   graph-ours, graph-only                     what is given is the graph, and there is no other
 --   TerminalOurs   terminal-ours, terminal-only               the same of the terminal tree
 --   RefinedOurs    refined-ours, refined-only, refined-tree   the same of the refined tree, and D3 of it;  between-trees
@@ -38,7 +36,6 @@
 --   RefinedMoved   trees-there                                a map of the plane that keeps what the rules ask carries the trees along
 --   BestLaws       best-joining                               D3 of the kept paths
 --   PrunesOnly     prunes-only                                every order of pruning leaves the same edges
-pub mod Interior
 pub mod Edges
 pub mod Spanning
 pub mod Terminal

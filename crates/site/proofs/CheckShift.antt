@@ -28,8 +28,9 @@ use Rattle.net.specs.Allowed.{PlaceInRange, MacroInRange, Upright, Allowed}
 use Rattle.net.specs.declared.Weighing.{Weighing}
 use Rattle.net.specs.Bounds.{pinWidth}
 use Rattle.net.specs.Pins.{pinCount, pinPlaces, pinLoads, pinEntries, macroCount}
-use Rattle.net.specs.Check.{pinsMiscountedWithin, macrosMiscountedWithin, outOfRange, placeOut, noLoad, pinsOutOfRange}
-use Rattle.net.specs.Check.{notUpright, insideAny, checked, checkedWithin}
+use Rattle.net.specs.Tests.{pinsMiscountedWithin, macrosMiscountedWithin, outOfRange, placeOut, noLoad, pinsOutOfRange, notUpright}
+use Rattle.net.specs.Tests.{insideAny}
+use Rattle.checks.specs.Check.{checked, checkedWithin}
 use Rattle.site.specs.Shift.{shift, shiftEntry, shiftMacro, shiftNet}
 use Rattle.site.specs.Sites.{Shifted}
 use Rattle.site.proofs.ShiftLaws.{lt-there, same-there, inside-there, interiors-there}

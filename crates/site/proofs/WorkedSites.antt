@@ -6,9 +6,9 @@ use lib.IntN.{pos}
 use Rattle.lent.specs.Told.{refused, given}
 use Rattle.net.specs.Net.{plainly}
 use Rattle.net.specs.Pins.{pinEntries}
-use Rattle.net.specs.Check.{counted}
+use Rattle.net.specs.Counts.{counted}
 use Rattle.net.specs.WorkedNets.{Lists, loadedPin}
-use Rattle.net.proofs.WorkedChecks.{answer}
+use Rattle.checks.proofs.WorkedChecks.{answer}
 use Rattle.site.specs.Shift.{shiftEntry}
 
 -- a pin at the right edge of the range and one at the origin; and one unit further

@@ -9,7 +9,7 @@ use Rattle.lists.specs.Any.{any}
 use Rattle.plane.specs.Flat.{macrosOf}
 use Rattle.net.specs.Bounds.{pinWidth, macroWidth}
 use Rattle.net.specs.Pins.{pinEntries}
-use Rattle.net.specs.Check.{pinsOutOfRange, outOfRange}
+use Rattle.net.specs.Tests.{pinsOutOfRange, outOfRange}
 use Rattle.site.specs.Shift.{shiftEntry, shiftMacro}
 
 -- whole entries, in range: neither by parts of an entry nor by 13 is one site another than the next

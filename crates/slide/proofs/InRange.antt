@@ -12,7 +12,7 @@ use Rattle.plane.specs.declared.Place.{Place}
 use Rattle.plane.specs.Place.{place}
 use Rattle.plane.specs.Box.{Between, InBox}
 use Rattle.net.specs.Bounds.{coordinateBound}
-use Rattle.net.specs.Check.{outOfRange}
+use Rattle.net.specs.Tests.{outOfRange}
 use Rattle.net.specs.Allowed.{PlaceInRange}
 
 abbrev lowest : ℤ

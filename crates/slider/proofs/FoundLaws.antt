@@ -22,11 +22,11 @@ use Rattle.slide.proofs.MoveRange.{Carries, choice-carries}
 use Rattle.straight.specs.Table.{edgesIn, Within}
 use Rattle.bars.specs.declared.Best.{Best}
 use Rattle.bars.proofs.AgreeLaws.{Agrees}
-use Rattle.slider.specs.declared.Shift.{Shift}
-use Rattle.slider.specs.Shift.{onLabel, shifted, Movable}
+use Rattle.shifted.specs.declared.Shift.{Shift}
+use Rattle.shifted.specs.Shift.{onLabel, shifted, Movable}
 use Rattle.labels.specs.Labelling.{labelsFor}
 use Rattle.slider.specs.Round.{saves}
-use Rattle.slider.proofs.ShiftedLaws.{shifted-is}
+use Rattle.shifted.proofs.ShiftedLaws.{shifted-is}
 use Rattle.slider.proofs.RoundLaws.{round-made, place-fits}
 
 -- the best move r was found for the edges T, whose points are the first n places of pts

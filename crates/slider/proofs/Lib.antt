@@ -1,5 +1,3 @@
-pub mod ShiftedLaws
-pub mod PlaceLaws
 pub mod SettledPoints
 pub mod RoundLaws
 pub mod FoundLaws

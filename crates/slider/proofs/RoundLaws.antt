@@ -21,7 +21,7 @@ use Rattle.plane.specs.Place.{before}
 use Rattle.plane.proofs.Fits.{PlaceFits, MacroFits}
 use Rattle.net.specs.Net.{Net}
 use Rattle.net.specs.Pins.{pinCount, pinPlaces, pinAt}
-use Rattle.net.specs.Check.{outOfRange}
+use Rattle.net.specs.Tests.{outOfRange}
 use Rattle.net.specs.Allowed.{PlaceInRange, MacroInRange}
 use Rattle.net.proofs.PinLaws.{pins-next, pins-end}
 use Rattle.net.proofs.RangeBounds.{in-range-near}
@@ -34,7 +34,7 @@ use Rattle.slide.proofs.PointLaws.{of-ends, edge-order}
 use Rattle.slide.proofs.StateLaws.{next-state, state-points, rounds-over, rounds-next}
 use Rattle.straight.specs.Table.{straightBound, run}
 use Rattle.labels.specs.Labelling.{labelsFor}
-use Rattle.bends.specs.Settled.{pointsOf}
+use Rattle.settled.specs.Settled.{pointsOf}
 use Rattle.slider.specs.Round.{saves}
 
 -- Labels

@@ -14,7 +14,7 @@ use Rattle.slide.specs.Bend.{Edge}
 use Rattle.slide.specs.Slide.{ends, inOrder}
 use Rattle.slide.proofs.PointLaws.{in-ends, of-ends, edge-order}
 use Rattle.straight.specs.Table.{points, edges}
-use Rattle.bends.specs.Settled.{pointsOf, Settled}
+use Rattle.settled.specs.Settled.{pointsOf, Settled}
 
 -- ends of the same edges are the same places
 ends-among : (T U : List Edge) → Among T U → Among (ends T) (ends U)

@@ -26,7 +26,7 @@ use Rattle.slide.proofs.SlidSound.{bent-does}
 use Rattle.slide.proofs.StateLaws.{first-pin, slidable-sound, bent-state, slid-bent, slid-back}
 use Rattle.straight.specs.Table.{straightBound}
 use Rattle.bends.specs.declared.Bent as declared
-use Rattle.bends.specs.Settled.{edgesOf, pointsOf}
+use Rattle.settled.specs.Settled.{edgesOf, pointsOf}
 use Rattle.bends.specs.Bending.{BentBy}
 use Rattle.slider.proofs.TurnLaws.{edges-count}
 

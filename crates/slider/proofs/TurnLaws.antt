@@ -26,12 +26,13 @@ use Rattle.slide.specs.Slide.{treePoints, rounds}
 use Rattle.slide.specs.Promise.{State}
 use Rattle.straight.specs.Table.{straightBound, run, pointsIn, edgesIn}
 use Rattle.straight.proofs.RunLaws.{in-run}
-use Rattle.bends.specs.Settled.{edgesOf, pointsOf, Settled}
-use Rattle.bends.proofs.SettledLaws.{zeros}
+use Rattle.settled.specs.Settled.{edgesOf, pointsOf, Settled}
+use Rattle.settled.proofs.SettledLaws.{zeros}
 use Rattle.bars.specs.declared.Best.{Best}
 use Rattle.reach.specs.declared.Size.{Size}
 use Rattle.labels.specs.Labelling.{labelled}
-use Rattle.bars.specs.Offers.{Fresh, searched, seatsOf}
+use Rattle.moves.specs.Moving.{seatsOf}
+use Rattle.bars.specs.Offers.{Fresh, searched}
 use Rattle.bars.proofs.ChoiceTables.{Tables, choice-agrees, choice-none, choice-tied}
 use Rattle.slider.specs.Round.{saves}
 use Rattle.slider.proofs.SettledPoints.{settled-points}

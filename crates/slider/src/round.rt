@@ -1,7 +1,7 @@
 // A round: the best move of all bars made; and rounds until one saves nothing.
-use crate::Shift;
 use crate::Turn;
 use plane::Weights;
+use shifted::Shift;
 use straight::EDGE_NUMBERS;
 use straight::NUMBERS;
 use straight::POINTS;
@@ -14,8 +14,8 @@ ghost use Rattle.slide.specs.Slide.{inOrder, rounds};
 ghost use Rattle.slide.specs.Promise.{State};
 ghost use Rattle.straight.specs.Table.{straightBound, Within};
 ghost use Rattle.labels.specs.Labelling.{labelsFor};
-ghost use Rattle.bends.specs.Settled.{edgesOf};
-ghost use Rattle.slider.specs.Shift.{shifted, Movable};
+ghost use Rattle.settled.specs.Settled.{edgesOf};
+ghost use Rattle.shifted.specs.Shift.{shifted, Movable};
 ghost use Rattle.slider.specs.Round.{saves};
 
 // The edges after the move: a bar's label is one of rows where it is horizontal, else one of columns.
@@ -34,10 +34,10 @@ fn shift_bar(
         (labelsFor (m .side) (now (rows .entry)) (now (columns .entry))) (now (keys .entry)) (z .edges)) × (r ≤ z .edges) ⌝ }
 {
     let s = m.side;
-    if bars::search::is_horizontal(s) {
-        return crate::shift_edges(pts, z.points, keys, z.edges, rows, m, &mut *out);
+    if moves::is_horizontal(s) {
+        return shifted::shift_edges(pts, z.points, keys, z.edges, rows, m, &mut *out);
     }
-    crate::shift_edges(pts, z.points, keys, z.edges, columns, m, &mut *out)
+    shifted::shift_edges(pts, z.points, keys, z.edges, columns, m, &mut *out)
 }
 
 // The edges after the move, in order, in a list of their own; how many there are.
@@ -58,7 +58,7 @@ fn make(
 {
     let mut out = [0i32; EDGE_NUMBERS];
     let count = shift_bar(pts, keys, z, rows, columns, m, &mut out);
-    bends::sort_edges(&out, count, &mut *list)
+    settled::sort_edges(&out, count, &mut *list)
 }
 
 // The best move of all bars made, if it saves.
@@ -71,7 +71,7 @@ fn round(w: Weights, pins: &[i32], macros: &[i32], list: &mut [i32], e: usize) -
 {
     let mut pts = [0i32; NUMBERS];
     let mut keys = [0; POINTS];
-    let z = bends::settle(pins, &*list, e, &mut pts, &mut keys);
+    let z = settled::settle(pins, &*list, e, &mut pts, &mut keys);
     let mut rows = [0; POINTS];
     let mut columns = [0; POINTS];
     let size = reach::Size {

@@ -1,18 +1,20 @@
 -- Values of a sequence from a number on: how many, which, what stands where, what is left after some of them.
 -- Assumes nothing.
-use mathlib.Core.Path.{_≡_, refl, sym, ap, ap₂, _∙_}
+use mathlib.Core.Path.{_≡_, refl, ap, ap₂, _∙_}
 use mathlib.Core.Bool.{Bool, true}
 use mathlib.Core.List.{List, [], _∷_, map, List·Memᴰ·cases-cons}
 use Prim.Native.Nat.{ℕ, zero, suc, _+_, _*_, _-_, _≤_, _<_}
 use native.Mathlib.Omega.{arith}
 use lib.Dec.{ltb}
-use lib.ListN.{length, getD, drop}
+use lib.IntN.{ℤ}
+use lib.ListN.{length, getD}
 use borrow.Author.Tests.{ltb-true, ltb-false}
 use Rattle.lists.specs.Member.{_∈_, here, there}
 use Rattle.lists.specs.Sorted.{Ascending}
 use Rattle.lists.proofs.TestLaws.{by, either}
-use Rattle.lent.specs.Entries.{entriesFrom}
-use Rattle.straight.specs.Table.{run}
+use Rattle.lent.specs.Entries.{entriesFrom, entries}
+use Rattle.plane.specs.Flat.{placeFrom}
+use Rattle.straight.specs.Table.{run, pointsIn}
 
 module _ {A : Type 0} (f : ℕ → A) where
   pub run-length : (n i : ℕ) → length (run f i n) ≡ n
@@ -64,19 +66,6 @@ module _ {A : Type 0} (f : ℕ → A) where
   run-at (suc n) i (suc j) d h = let e : suc i + j ≡ i + suc j = omega arith in run-at n (suc i) j d (omega arith) ∙ ap f e
 
   -- a run that rises
-  pub run-ascending : (before : A → A → Bool) (n i : ℕ) → ((j k : ℕ) → i ≤ j → j < k → k < i + n → before (f j) (f k) ≡ true)
-      → Ascending before (run f i n)
-  unfolding run
-  run-ascending before zero i h = tt
-  run-ascending before (suc n) i h = (
-    λ b m. later (of-run n (suc i) b m),
-    run-ascending before n (suc i) (λ j k l s u. h j k (omega arith) s (omega arith)),
-  )
-    where
-      later : {b : A} → Numbered (suc i) n b → before (f i) b ≡ true
-      later {b} r = rw (r .is) (h i (r .number) (omega arith) (omega (arith, r .low)) (omega (arith, r .high)))
-
-  -- and back
   pub ascending-run : (before : A → A → Bool) (n i : ℕ) → Ascending before (run f i n)
       → (j k : ℕ) → i ≤ j → j < k → k < i + n → before (f j) (f k) ≡ true
   unfolding run
@@ -105,3 +94,7 @@ unfolding run entriesFrom
 run-entries from w s zero i k e = refl
 run-entries from w s (suc n) i k e =
     ap₂ (λ a l. a ∷ l) (ap (from s) e) (run-entries from w s n (suc i) (k + w) (omega (arith, e)))
+
+-- the places of a table are its points
+pub points-are : (pts : List ℤ) (n : ℕ) → entries placeFrom 2 pts n ≡ pointsIn pts n
+points-are pts n = run-entries placeFrom 2 pts n 0 0 refl

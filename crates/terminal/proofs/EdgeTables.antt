@@ -12,12 +12,13 @@ use Rattle.plane.specs.declared.Place.{Place}
 use Rattle.plane.specs.declared.Weights.{Weights}
 use Rattle.plane.specs.Cost.{cost}
 use Rattle.plane.specs.Flat.{placeFrom, placeAt}
+use Rattle.sorted.proofs.NumberLaws.{entry-at}
 use Rattle.graph.specs.Numbers.{edgeNumbers, edgeFrom}
 use Rattle.graph.proofs.WidthLaws.{edge-width}
 use Rattle.forest.specs.Bounds.{edgeBound}
 use Rattle.forest.specs.Edges.{graph}
 use Rattle.terminal.specs.Number.{numberOf, edgeAt, numbered}
-use Rattle.terminal.proofs.FillLaws.{entry-at, Filling, fill-none, fill-more, fill-end}
+use Rattle.terminal.proofs.FillLaws.{Filling, fill-none, fill-more, fill-end}
 
 -- the first k edges are numbered
 pub record Numbering (w : Weights) (vs : List Place) (es : List (Place × Place)) (ea eb el : List ℕ) (k : ℕ) : Type 0 where

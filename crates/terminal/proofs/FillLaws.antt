@@ -1,49 +1,16 @@
--- Tables filled from the front: the next entry that is read, one number more or an entry's numbers more at the end of what is written, and
--- the number of a place as its rank.
+-- Tables filled from the front: one number more, or an entry's numbers more, at the end of what is written.
 -- Assumes nothing.
-use mathlib.Core.Path.{_≡_, refl, sym, ap, ap₂, _∙_}
-use mathlib.Core.Bool.{true, false}
+use mathlib.Core.Path.{_≡_, sym, ap, _∙_}
 use mathlib.Core.List.{List, [], _∷_, _++_, map, append-nil, map-append}
-use Prim.Native.Nat.{ℕ, zero, suc, _+_, _*_, _-_, _≤_, _<_}
-use native.Mathlib.Nat.{suc-mul}
+use Prim.Native.Nat.{ℕ, suc, _+_, _-_, _≤_, _<_}
 use native.Mathlib.Numerals.{add-one}
 use native.Mathlib.Omega.{arith}
-use lib.IntN.{ℤ, pos}
 use lib.ListN.{length, getD, set, take, length-append, length-map}
 use lib.Seq.{sets, append-snoc, take-suc, take-all, length-take-le}
-use Rattle.lists.specs.Sorted.{Ascending, position}
-use Rattle.lists.specs.Turns.{seek}
-use Rattle.lists.proofs.TestLaws.{by}
 use Rattle.lent.specs.Over.{over}
-use Rattle.lent.specs.Entries.{flat, entriesFrom, entries}
+use Rattle.lent.specs.Entries.{flat, entries}
 use Rattle.lent.proofs.OverLaws.{over-none, over-more}
-use Rattle.lent.proofs.EntryTable.{flat-append, length-entries}
-use Rattle.plane.specs.declared.Place.{Place}
-use Rattle.plane.specs.Place.{place, before}
-use Rattle.plane.specs.Flat.{placeFrom, placeAt}
-use Rattle.plane.specs.Rank.{InOrder, later, rank}
-use Rattle.graph.specs.Numbers.{placeNumbers}
-use Rattle.graph.proofs.WidthLaws.{place-width}
-use Rattle.picks.proofs.VertexNumbers.{ascending-at}
-use Rattle.terminal.specs.Number.{numberOf}
-
--- Entries
-
-module _ {A B : Type 0} (from : List A → ℕ → B) (w : ℕ) (s : List A) where
-  read-at : (j n k : ℕ) (d : B) → k < n → getD (entriesFrom from w s j n) k d ≡ from s (j + k * w)
-  unfolding entriesFrom
-  read-at j zero k d h = absurd (let z : ⊥ = omega arith in z)
-  read-at j (suc n) zero d h = let e : j ≡ j + zero * w = omega arith in ap (from s) e
-  read-at j (suc n) (suc k) d h =
-      let e : j + w + k * w ≡ j + suc k * w = omega (arith, suc-mul k w) in
-      read-at (j + w) n k d (omega arith) ∙ ap (from s) e
-
-  -- the k-th of the first n
-  pub entry-at : (n k : ℕ) (d : B) → k < n → getD (entries from w s n) k d ≡ from s (k * w)
-  entry-at n k d h = let e : 0 + k * w ≡ k * w = omega arith in read-at 0 n k d h ∙ ap (from s) e
-
-pub place-entries : (s : List ℤ) (n : ℕ) → length (entries placeFrom 2 s n) ≡ n
-place-entries s n = length-entries placeNumbers placeFrom 2 place-width s 0 n
+use Rattle.lent.proofs.EntryTable.{flat-append}
 
 -- A table filled with what f says of the entries of a list: of the first i so far
 
@@ -90,26 +57,3 @@ module _ {X : Type 0} where
       over-sets (flat numbers bs) (numbers b) lent i e h
       ∙ ap (λ (r : List X). over r lent)
       (sym (flat-append numbers bs (b ∷ []) ∙ ap (λ (r : List X). flat numbers bs ++ r) (append-nil (numbers b))))
-
--- The number of p: that of the first vertex which does not come before it
-
-module _ (s : List ℤ) (p : Place) where
-  seek-number : (n i : ℕ) → seek (later s p) i n ≡ i + numberOf (entriesFrom placeFrom 2 s (i * 2) n) p
-  unfolding seek later position entriesFrom
-  seek-number zero i = omega arith
-  seek-number (suc n) i =
-      let e : suc i * 2 ≡ i * 2 + 2 = omega arith in
-      by (before (placeAt s i) p)
-      (λ t. rw (seek, later, position, t) (seek-number n (suc i) ∙ rw e (omega arith)))
-      (λ t. rw (seek, later, position, t) (omega arith))
-
-  pub rank-number : (n : ℕ) → rank s n p ≡ numberOf (entries placeFrom 2 s n) p
-  unfolding rank
-  rank-number n = seek-number n 0 ∙ omega arith
-
--- vertices in order, read by their numbers
-pub entries-in-order : (s : List ℤ) (n : ℕ) → Ascending before (entries placeFrom 2 s n) → InOrder s n
-entries-in-order s n a i j h k =
-    let z = place (pos 0) (pos 0) in
-    ap₂ before (sym (entry-at placeFrom 2 s n i z (omega arith))) (sym (entry-at placeFrom 2 s n j z k))
-    ∙ ascending-at before (entries placeFrom 2 s n) a i j z h (omega (arith, place-entries s n))

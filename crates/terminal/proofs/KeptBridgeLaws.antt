@@ -19,6 +19,7 @@ use Rattle.joined.proofs.CarriedLaws.{Matches, kept-carried}
 use Rattle.plane.specs.declared.Place.{Place}
 use Rattle.net.specs.Allowed.{Allowed}
 use Rattle.net.specs.Net.{Net}
+use Rattle.sorted.proofs.NumberLaws.{ascending-at}
 use Rattle.graph.specs.Spanning.{verticesOf, spanning}
 use Rattle.graph.specs.Edges.{beforeEdge}
 use Rattle.graph.proofs.EdgeLaws.{edge-order}
@@ -31,7 +32,7 @@ use Rattle.terminal.specs.Number.{numberOf, vertexAt, edgeAt}
 use Rattle.terminal.specs.Tree.{pathsOf, rootOf, rootsOf}
 use Rattle.terminal.specs.Stands.{KeptPath, keptEnds, Stands}
 use Rattle.terminal.specs.KeptBridges.{takenBefore, KeptBridges}
-use Rattle.terminal.proofs.NumberLaws.{ascending-at, count-of}
+use Rattle.terminal.proofs.NumberLaws.{count-of}
 use Rattle.terminal.proofs.SettingOf.{setting, whole}
 use Rattle.terminal.proofs.CrossingLaws.{G, T, P, weight, given, paths-are, edge-below, root-number, given-follows}
 use Rattle.terminal.proofs.BestJoiningLaws.{bridge-stands}

@@ -2,9 +2,9 @@
 -- by edge; the pins by numbers, of which there are as many as pins, each once.
 -- Assumes nothing.
 use mathlib.Core.Path.{_≡_, refl, sym, ap, _∙_}
-use mathlib.Core.Bool.{Bool, true, false}
+use mathlib.Core.Bool.{true, false}
 use mathlib.Core.List.{List, [], _∷_, map}
-use Prim.Native.Nat.{ℕ, zero, suc, _<_}
+use Prim.Native.Nat.{ℕ, _<_}
 use native.Mathlib.Omega.{arith}
 use borrow.Author.Tests.{ltb-true, ltb-false}
 use lib.Dec.{ltb}
@@ -26,7 +26,7 @@ use Rattle.plane.specs.declared.Weights.{Weights}
 use Rattle.plane.specs.Cost.{cost}
 use Rattle.forest.specs.Bounds.{edgeBound}
 use Rattle.forest.specs.Edges.{one, two, len}
-pub use Rattle.picks.proofs.VertexNumbers.{ascending-at}
+use Rattle.sorted.proofs.NumberLaws.{ascending-at}
 use Rattle.terminal.specs.Number.{numberOf, vertexAt, edgeAt, table, numbered, pinNumbers}
 
 -- Vertices

@@ -18,6 +18,7 @@ use Rattle.plane.specs.declared.Place.{Place}
 use Rattle.plane.specs.Place.{place}
 use Rattle.net.specs.Allowed.{Allowed}
 use Rattle.net.specs.Net.{Net}
+use Rattle.sorted.proofs.NumberLaws.{entry-at}
 use Rattle.graph.specs.Spanning.{verticesOf, spanning}
 use Rattle.graph.specs.Numbers.{edgeFrom}
 use Rattle.graph.proofs.VertexLaws.{pin-vertex, vertices-ascending}
@@ -40,7 +41,6 @@ use Rattle.terminal.specs.Number.{edgeAt, pinNumbers}
 use Rattle.terminal.specs.Tree.{graphOf, treeOf, bridgesOf, lengthsOf, totalOf, pathsOf}
 use Rattle.terminal.specs.Tables.{Tables, Fresh, Worked, pathAt, pathsIn, Givable}
 use Rattle.terminal.proofs.NumberLaws.{getD-over, count-of, pin-small}
-use Rattle.terminal.proofs.FillLaws.{entry-at}
 use Rattle.terminal.proofs.SettingOf.{setting, paths-count}
 use Rattle.terminal.proofs.WorkLaws.{worked-charted, edges-in, links-long}
 

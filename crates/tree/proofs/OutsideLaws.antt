@@ -1,11 +1,11 @@
 -- Points that are none of given places: with those places they bound the points, and one point more is at most one stranger more. Both by
 -- the pigeonhole, since points are each once.
 -- Assumes nothing.
-use mathlib.Core.Path.{_≡_, refl, sym, ap, _∙_}
-use mathlib.Core.Bool.{true, false}
+use mathlib.Core.Path.{_≡_, refl, ap, _∙_}
+use mathlib.Core.Bool.{true}
 use mathlib.Core.Logic.{_⊎_, inl, inr}
 use mathlib.Core.List.{List, [], _∷_, _++_, List·Memᴰ·cases-cons, Memᴰ·append-left, Memᴰ·append-right}
-use Prim.Native.Nat.{ℕ, _+_, _≤_}
+use Prim.Native.Nat.{_+_, _≤_}
 use native.Mathlib.Omega.{arith}
 use lib.ListN.{length, length-append}
 use Rattle.lists.specs.Any.{any}
@@ -103,7 +103,3 @@ count-strangers vs t o =
       outside-rest vs (pointsOf (t .points) (t .count)) (order-once (t .points) (t .count) o),
       listing-length (placeAt (t .points)) (t .count),
     )
-
--- none of its own
-pub strangers-own : (t : Tree) → strangers (pointsOf (t .points) (t .count)) t ≡ 0
-strangers-own t = outside-none (pointsOf (t .points) (t .count)) (pointsOf (t .points) (t .count)) (λ x i. i)

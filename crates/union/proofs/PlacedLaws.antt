@@ -24,11 +24,11 @@ use Rattle.lent.proofs.EntryTable.{length-flat, entries-over}
 use Rattle.plane.specs.declared.Place.{Place}
 use Rattle.plane.specs.Place.{place}
 use Rattle.plane.specs.Flat.{placeFrom, placeAt}
+use Rattle.sorted.proofs.NumberLaws.{ascending-at, entry-at}
 use Rattle.graph.specs.Numbers.{placeNumbers}
 use Rattle.graph.proofs.WidthLaws.{place-width}
 use Rattle.forest.specs.Edges.{Graph, one, two}
-use Rattle.terminal.proofs.NumberLaws.{getD-over, ascending-at}
-use Rattle.terminal.proofs.FillLaws.{entry-at}
+use Rattle.terminal.proofs.NumberLaws.{getD-over}
 use Rattle.tree.specs.Table.{treeBound, key, firstEnd, secondEnd, In, Within}
 use Rattle.tree.specs.Sum.{below}
 use Rattle.tree.specs.Places.{endsOf}

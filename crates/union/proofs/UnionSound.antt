@@ -33,6 +33,7 @@ use Rattle.plane.specs.Rank.{InOrder}
 use Rattle.plane.proofs.PlaceOrder.{place-order}
 use Rattle.net.specs.Allowed.{Allowed}
 use Rattle.net.specs.Net.{Net, costIn}
+use Rattle.sorted.proofs.NumberLaws.{ascending-at}
 use Rattle.graph.specs.Spanning.{verticesOf, spanning}
 use Rattle.graph.specs.Edges.{beforeEdge}
 use Rattle.graph.proofs.VertexLaws.{pin-vertex, vertices-ascending}
@@ -43,7 +44,7 @@ use Rattle.forest.specs.Setting.{ends}
 use Rattle.forest.proofs.EdgeLaws.{length-from}
 use Rattle.terminal.specs.Number.{edgeAt, numberOf, vertexAt, pinNumbers}
 use Rattle.terminal.specs.Tree.{graphOf, treeOf, totalOf}
-use Rattle.terminal.proofs.NumberLaws.{vertex-in, ascending-at, count-of, one-of, vertex-order, vertex-of-number, pin-number-in}
+use Rattle.terminal.proofs.NumberLaws.{vertex-in, count-of, one-of, vertex-order, vertex-of-number, pin-number-in}
 use Rattle.terminal.proofs.SettingOf.{setting, whole, edge-at, one-vertex, two-vertex}
 use Rattle.tree.specs.Table.{key, firstEnd, secondEnd, treeBound, Tree}
 use Rattle.tree.specs.Places.{endsOf, pointsOf, edgesOf, keyCost, Ranked, Sound}

@@ -17,13 +17,13 @@ use Rattle.plane.specs.Place.{place}
 use Rattle.plane.specs.Distance.{distance}
 use Rattle.plane.specs.Cost.{plain}
 use Rattle.plane.specs.Macro.{macro}
-use Rattle.net.specs.Check.{counted}
+use Rattle.net.specs.Counts.{counted}
 use Rattle.net.specs.Allowed.{Allowed}
 use Rattle.net.specs.WorkedNets.{threePins, onSides}
 use Rattle.net.specs.Pins.{flatPins}
-use Rattle.net.proofs.AllowedLaws.{given-allowed}
-use Rattle.net.proofs.WorkedChecks.{answer, worked-checks}
 use Rattle.net.specs.Net.{Net, plainly}
+use Rattle.checks.proofs.GivenLaws.{given-allowed}
+use Rattle.checks.proofs.WorkedChecks.{answer, worked-checks}
 use Rattle.graph.proofs.WorkedGraphs.{graphOf}
 use Rattle.terminal.proofs.WorkedPaths.{treeIn}
 use Rattle.union.proofs.WorkedUnions.{union}

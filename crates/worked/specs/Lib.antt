@@ -1,1 +1,6 @@
--- Trees of worked nets and wrong trees of small nets, worked out from the definitions. Nothing is defined here, and nothing rests on it.
+-- Worked nets, and wrong trees of small nets, worked out from the definitions. Nothing is defined here, and nothing rests on it.
+--
+--   Nets                        E1 to E11, E19, E20, E25: what check, graph, trees and wires answer and give
+--   Prices, Bought, Best        E18, E28, E37, E38: the same of prices, trees from elsewhere and best trees
+--   RefinedTrees, SlidTrees     rounds, and moves of bars
+--   WrongTrees                  wrong graphs and trees, each shut out by the rules

@@ -1,9 +1,9 @@
 -- `bars::choice` meets its contract: labels along rows and along columns, the pins' seats, and the search by them.
 -- Assumes nothing.
 use borrow.Author.Needs.{needs}
-use Prim.Native.Nat.{ℕ, _≤_}
+use Prim.Native.Nat.{ℕ}
 use native.Mathlib.Omega.{arith}
-use lib.ListN.{length, replicate, length-replicate}
+use lib.ListN.{length-replicate}
 use Rattle.net.specs.Bounds.{pinBound}
 use Rattle.straight.proofs.TableLaws.{within-small}
 use Rattle.bars.proofs.CallLaws.{labelled-numbers, seated, searched-by}
@@ -15,9 +15,6 @@ label-requires c κs = let h = c .before .pre .0 .0 in (h .few, (h .fewer, withi
 
 label-requires-2 : tie.Need-label-requires-2
 label-requires-2 c κs = let h = c .before .before .before .pre .0 .0 in (h .few, (h .fewer, within-small _ _ (h .few) (h .within)))
-
-seat-requires : tie.Need-seat-requires
-seat-requires c κs = search needs
 
 search-requires : tie.Need-search-requires
 search-requires c κs =
@@ -50,4 +47,4 @@ returns c = (
 )
 
 pub choice-spec : {M : Type 1} → statement M
-choice-spec = tie.close (tie.spec label-requires label-requires-2 seat-requires search-requires returns)
+choice-spec = tie.close (tie.spec label-requires label-requires-2 (λ c κs. search needs) search-requires returns)

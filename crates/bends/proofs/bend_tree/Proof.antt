@@ -1,6 +1,6 @@
 -- `bends::bend_tree` meets its contract: the places that are looked at are the tree points.
 -- Assumes nothing.
-use mathlib.Core.Path.{_≡_, sym, ap, _∙_, subst}
+use mathlib.Core.Path.{_≡_, subst}
 use mathlib.Core.List.{List}
 use Prim.Native.Nat.{_*_}
 use native.Mathlib.Omega.{arith}
@@ -11,10 +11,10 @@ use Rattle.plane.specs.declared.Place.{Place}
 use Rattle.net.specs.Pins.{pinPlaces}
 use Rattle.slide.specs.Bend.{bends}
 use Rattle.straight.specs.Table.{straightBound}
-use Rattle.bends.specs.Settled.{edgesOf}
+use Rattle.settled.specs.Settled.{edgesOf}
 use Rattle.bends.specs.Bending.{BentBy}
-use Rattle.bends.proofs.InsertLaws.{held-sorted}
-use Rattle.bends.proofs.SettledLaws.{count-points}
+use Rattle.settled.proofs.InsertLaws.{held-sorted}
+use Rattle.settled.proofs.SettledLaws.{count-points}
 use Rattle.bends.proofs.bend_tree.Statement.{statement}
 use Rattle.bends.proofs.bend_tree.Tie as tie
 
@@ -39,9 +39,5 @@ pub bend-tree-spec : {M : Type 1} → statement M
 bend-tree-spec =
     tie.close
     (tie.spec
-    (λ c. search needs)
-    (λ c κs. search needs)
-    (λ c. search needs)
-    bend-requires
-    (λ c. search needs)
+    (λ c. search needs) (λ c κs. search needs) (λ c. search needs) bend-requires (λ c. search needs)
     returns)

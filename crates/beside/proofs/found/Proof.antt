@@ -15,9 +15,6 @@ costs-requires c κs =
     let p = c .before .pre .0 in
     ((omega (arith, p .size, p .few), within-small _ _ (p .few) (p .within)), low-zeros treeBound)
 
-array-write-turn : tie.Need-array-write-turn
-array-write-turn c = search needs
-
 reached-requires : tie.Need-reached-requires
 reached-requires c κs =
     let p = c .before .before .before .before .before .pre .0 in
@@ -72,10 +69,5 @@ pub found-spec : {M : Type 1} → statement M
 found-spec =
     tie.close
     (tie.spec
-    costs-requires
-    array-write-turn
-    reached-requires
-    search-requires
-    search-requires-2
-    returns
+    costs-requires (λ c. search needs) reached-requires search-requires search-requires-2 returns
     returns-2)

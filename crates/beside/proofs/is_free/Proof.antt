@@ -6,21 +6,6 @@ use borrow.Author.Needs.{needs}
 use Rattle.beside.proofs.is_free.Statement.{statement}
 use Rattle.beside.proofs.is_free.Tie as tie
 
-point-at-requires : tie.Need-point-at-requires
-point-at-requires c κs = search needs
-
-point-at-requires-2 : tie.Need-point-at-requires-2
-point-at-requires-2 c κs = search needs
-
-vertex-at-requires : tie.Need-vertex-at-requires
-vertex-at-requires c κs = search needs
-
-sees-requires : tie.Need-sees-requires
-sees-requires c κs = search needs
-
-is-dropped-requires : tie.Need-is-dropped-requires
-is-dropped-requires c κs = search needs
-
 returns : tie.Need-returns
 returns c =
     let d = c .before in
@@ -28,9 +13,6 @@ returns c =
     let p = s .before in
     free-dropped _ _ _ _ _ _ _ _ _ _ _ _ _ (p .before .before .point-at .ensures) (p .before .point-at2 .ensures) (p .vertex-at .ensures)
     (sym (s .sees .ensures) ∙ d .before .if1 .taken) (sym (d .is-dropped .ensures) ∙ c .if2 .taken)
-
-on-way-requires : tie.Need-on-way-requires
-on-way-requires c κs = search needs
 
 returns-2 : tie.Need-returns-2
 returns-2 c =
@@ -52,12 +34,6 @@ pub is-free-spec : {M : Type 1} → statement M
 is-free-spec =
     tie.close
     (tie.spec
-    point-at-requires
-    point-at-requires-2
-    vertex-at-requires
-    sees-requires
-    is-dropped-requires
-    returns
-    on-way-requires
-    returns-2
+    (λ c κs. search needs) (λ c κs. search needs) (λ c κs. search needs) (λ c κs. search needs) (λ c κs. search needs)
+    returns (λ c κs. search needs) returns-2
     returns-3)

@@ -10,25 +10,10 @@ use Rattle.beside.proofs.offer.Tie as tie
 returns : tie.Need-returns
 returns c = λ t seat g d q. offer-none _ _ _ _ _ t _ _ _ seat _ _ _ _ _ (off-tree _ g) _ _ d q (c .if1 .taken)
 
-mul-long : tie.Need-mul-long
-mul-long c = search needs
-
-element-copy-out-long : tie.Need-element-copy-out-long
-element-copy-out-long c = search needs
-
 returns-2 : tie.Need-returns-2
 returns-2 c = λ t seat g d q.
     offer-short _ _ _ _ _ t _ _ _ seat _ _ _ _ _ (off-tree _ g) _ _ d q (c .before .before .before .if1 .left)
     (omega (arith, c .if2 .taken))
-
-sub-if3 : tie.Need-sub-if3
-sub-if3 c = omega (arith, c .before .if2 .left)
-
-mul-if3 : tie.Need-mul-if3
-mul-if3 c = search needs
-
-element-copy-out-if3 : tie.Need-element-copy-out-if3
-element-copy-out-if3 c = search needs
 
 returns-3 : tie.Need-returns-3
 returns-3 c = λ t seat g d q.
@@ -50,13 +35,6 @@ pub offer-spec : {M : Type 1} → statement M
 offer-spec =
     tie.close
     (tie.spec
-    returns
-    mul-long
-    element-copy-out-long
-    returns-2
-    sub-if3
-    mul-if3
-    element-copy-out-if3
-    returns-3
-    weigh-requires
+    returns (λ c. search needs) (λ c. search needs) returns-2 (λ c. omega (arith, c .before .if2 .left))
+    (λ c. search needs) (λ c. search needs) returns-3 weigh-requires
     returns-4)

@@ -7,20 +7,20 @@ use native.Mathlib.Omega.{arith}
 use borrow.Author.Needs.{needs}
 use denote.Ref.{now}
 use lib.ListN.{getD}
-use Rattle.plane.specs.Box.{boxOf}
 use Rattle.plane.specs.Flat.{placeAt, macrosOf}
 use Rattle.tree.specs.Table.{treeBound, firstEnd, secondEnd}
 use Rattle.candidates.specs.declared.Best.{Best}
-use Rattle.candidates.proofs.CandidateLaws.{box-is}
-use Rattle.candidates.proofs.NearLaws.{turns-back, turns-from, box-sides}
+use Rattle.candidates.proofs.NearLaws.{turns-back, turns-from}
 use Rattle.longest.specs.Longest.{cutOf, longest}
 use Rattle.longest.specs.Hung.{ties, Begun, Row}
 use Rattle.longest.proofs.HungLaws.{same-length}
 use Rattle.longest.proofs.RowLaws.{fresh-start}
+use Rattle.near.specs.Box.{boxOf}
+use Rattle.near.proofs.BoxLaws.{box-is, box-sides}
 use Rattle.lists.specs.Turns.{turns}
 use Rattle.beside.specs.Beside.{offer, offers}
 use Rattle.beside.proofs.BesideLaws.{offer-zero, offer-far, offer-beyond, offer-more}
-use Rattle.lists.proofs.TurnLaws.{turns-none, turns-next, turns-end}
+use Rattle.lists.proofs.TurnLaws.{turns-next}
 use Rattle.beside.proofs.offers.Statement.{statement}
 use Rattle.beside.proofs.offers.Tie as tie
 
@@ -34,18 +34,6 @@ Inv-loop w pts n macros keys e el most onto link turn vertices v far up seat k a
 abbrev μ-loop : tie.MeasureT-loop
 μ-loop w pts n macros keys e el most onto link turn vertices v far up seat k a b m last u₀ row₀ found₀ u row found = v - u
 
-mul-a : tie.Need-mul-a Inv-loop μ-loop
-mul-a c = omega (arith, c .pre .0 .0)
-
-element-copy-out-a : tie.Need-element-copy-out-a Inv-loop μ-loop
-element-copy-out-a c = omega (arith, c .pre .0 .0)
-
-mul-b : tie.Need-mul-b Inv-loop μ-loop
-mul-b c = omega (arith, c .before .pre .0 .0)
-
-element-copy-out-b : tie.Need-element-copy-out-b Inv-loop μ-loop
-element-copy-out-b c = omega (arith, c .before .pre .0 .0)
-
 point-at-requires : tie.Need-point-at-requires Inv-loop μ-loop
 point-at-requires c κs =
     let s = c .before .before in
@@ -57,9 +45,6 @@ point-at-requires-2 c κs =
     let s = c .before .before .before in
     let w = s .pre .0 .1 .1 .ends (s .args .k) in
     omega (arith, w .1, s .pre .0 .1 .0)
-
-box-of-requires : tie.Need-box-of-requires Inv-loop μ-loop
-box-of-requires c κs = search needs
 
 -- the box is that of the edge's ends
 edge-box : (c : tie.After-box-of Inv-loop μ-loop) → let s = c .before .before .before .before .before .args in
@@ -88,16 +73,10 @@ returns c =
     (λ u h k. offer-beyond _ _ _ _ _ _ _ _ _ _ _ _ _ u (s .args .c) (s .args .most) (s .pre .1 .1 .1 .1 .0) _ (edge-box b)
     (s .args .c .gain) (omega arith) (omega (arith, c .if1 .taken))))
 
-sub-to : tie.Need-sub-to Inv-loop μ-loop
-sub-to c = omega arith
-
 to-requires : tie.Need-to-requires Inv-loop μ-loop
 to-requires c κs =
     let b = c .before .before .before .before in
     (b .before .before .before .before .before .pre .1 .1 .0, box-sides _ _ _ (edge-box b))
-
-sub-from : tie.Need-sub-from Inv-loop μ-loop
-sub-from c = omega arith
 
 from-requires : tie.Need-from-requires Inv-loop μ-loop
 from-requires c κs = c .before .before .before .before .before .before .before .before .before .before .before .before .pre .1 .1 .0
@@ -128,9 +107,6 @@ loop-holds c =
       ),
     )
 
-add-u : tie.Need-add-u Inv-loop μ-loop
-add-u c = omega arith
-
 mul-f : tie.Need-mul-f Inv-loop μ-loop
 mul-f c =
     let l = c .before in
@@ -145,9 +121,6 @@ vertex-at-requires : tie.Need-vertex-at-requires Inv-loop μ-loop
 vertex-at-requires c κs =
     let l = c .before .before .before in
     omega (arith, c .before .before .loop-test .taken, l .loop .inv .0 .1, begun l .pre .1 .0 .0)
-
-may-gain-requires : tie.Need-may-gain-requires Inv-loop μ-loop
-may-gain-requires c κs = search needs
 
 mul-s : tie.Need-mul-s Inv-loop μ-loop
 mul-s c =
@@ -292,35 +265,10 @@ pub offers-spec : {M : Type 1} → statement M
 offers-spec =
     tie.close
     (tie.spec
-    Inv-loop
-    μ-loop
-    mul-a
-    element-copy-out-a
-    mul-b
-    element-copy-out-b
-    point-at-requires
-    point-at-requires-2
-    box-of-requires
-    returns
-    sub-to
-    to-requires
-    sub-from
-    from-requires
-    start-requires
-    loop-holds
-    add-u
-    mul-f
-    element-copy-out-f
-    vertex-at-requires
-    may-gain-requires
-    mul-s
-    element-copy-out-s
-    cut-at-requires
-    offer-requires
-    loop-less
-    loop-again
-    loop-less-2
-    loop-again-2
-    loop-less-3
+    Inv-loop μ-loop (λ c. omega (arith, c .pre .0 .0)) (λ c. omega (arith, c .pre .0 .0))
+    (λ c. omega (arith, c .before .pre .0 .0)) (λ c. omega (arith, c .before .pre .0 .0)) point-at-requires
+    point-at-requires-2 (λ c κs. search needs) returns (λ c. omega arith) to-requires (λ c. omega arith) from-requires
+    start-requires loop-holds (λ c. omega arith) mul-f element-copy-out-f vertex-at-requires (λ c κs. search needs)
+    mul-s element-copy-out-s cut-at-requires offer-requires loop-less loop-again loop-less-2 loop-again-2 loop-less-3
     loop-again-3
     returns-2)

@@ -27,12 +27,6 @@ offers-requires c κs =
     let s = c .before .before in
     (((omega arith, s .pre .0 .0), s .pre .0 .1), s .pre .1)
 
-add-k : tie.Need-add-k Inv-loop μ-loop
-add-k c = omega arith
-
-loop-less : tie.Need-loop-less Inv-loop μ-loop
-loop-less c = omega arith
-
 loop-again : tie.Need-loop-again Inv-loop μ-loop
 loop-again c = (
   omega arith,
@@ -46,4 +40,4 @@ returns c = turns-end _ _ _ _ _ (c .before .loop .inv .1) (omega arith)
 pub search-spec : {M : Type 1} → statement M
 search-spec =
     tie.close
-    (tie.spec Inv-loop μ-loop loop-holds offers-requires add-k loop-less loop-again returns)
+    (tie.spec Inv-loop μ-loop loop-holds offers-requires (λ c. omega arith) (λ c. omega arith) loop-again returns)

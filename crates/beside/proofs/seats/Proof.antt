@@ -19,29 +19,11 @@ abbrev μ-loop : tie.MeasureT-loop
 loop-holds : tie.Need-loop-holds Inv-loop μ-loop
 loop-holds c = (omega arith, turns-none _ _ _)
 
-mul-vertex-at : tie.Need-mul-vertex-at Inv-loop μ-loop
-mul-vertex-at c = omega arith
-
-element-copy-out-vertex-at : tie.Need-element-copy-out-vertex-at Inv-loop μ-loop
-element-copy-out-vertex-at c = omega arith
-
 vertex-at-requires : tie.Need-vertex-at-requires Inv-loop μ-loop
 vertex-at-requires c κs = c .before .before .before .before .pre .1 .1 .below _
 
 rank-requires : tie.Need-rank-requires Inv-loop μ-loop
 rank-requires c κs = c .before .before .before .before .before .pre .1 .0
-
-mul-seat : tie.Need-mul-seat Inv-loop μ-loop
-mul-seat c = omega arith
-
-element-write-seat : tie.Need-element-write-seat Inv-loop μ-loop
-element-write-seat c = omega arith
-
-add-i : tie.Need-add-i Inv-loop μ-loop
-add-i c = omega arith
-
-loop-less : tie.Need-loop-less Inv-loop μ-loop
-loop-less c = omega arith
 
 loop-again : tie.Need-loop-again Inv-loop μ-loop
 loop-again c = (
@@ -57,16 +39,6 @@ pub seats-spec : {M : Type 1} → statement M
 seats-spec =
     tie.close
     (tie.spec
-    Inv-loop
-    μ-loop
-    loop-holds
-    mul-vertex-at
-    element-copy-out-vertex-at
-    vertex-at-requires
-    rank-requires
-    mul-seat
-    element-write-seat
-    add-i
-    loop-less
-    loop-again
+    Inv-loop μ-loop loop-holds (λ c. omega arith) (λ c. omega arith) vertex-at-requires rank-requires (λ c. omega arith)
+    (λ c. omega arith) (λ c. omega arith) (λ c. omega arith) loop-again
     returns)

@@ -18,28 +18,10 @@ abbrev μ-loop : tie.MeasureT-loop
 loop-holds : tie.Need-loop-holds Inv-loop μ-loop
 loop-holds c = gather-none _ _ _ _ _
 
-add-i : tie.Need-add-i Inv-loop μ-loop
-add-i c = omega arith
-
-vertex-at-requires : tie.Need-vertex-at-requires Inv-loop μ-loop
-vertex-at-requires c κs = omega arith
-
 is-point-requires : tie.Need-is-point-requires Inv-loop μ-loop
 is-point-requires c κs =
     let s = c .before .before .before in
     (s .pre .0 .0, s .pre .1 .0)
-
-mul-source : tie.Need-mul-source Inv-loop μ-loop
-mul-source c = omega (arith, c .before .before .before .before .loop .inv .few)
-
-element-write-source : tie.Need-element-write-source Inv-loop μ-loop
-element-write-source c = omega (arith, c .before .before .before .before .loop .inv .few)
-
-add-c : tie.Need-add-c Inv-loop μ-loop
-add-c c = omega (arith, c .before .before .before .before .loop .inv .few)
-
-loop-less : tie.Need-loop-less Inv-loop μ-loop
-loop-less c = omega arith
 
 loop-again : tie.Need-loop-again Inv-loop μ-loop
 loop-again c =
@@ -47,9 +29,6 @@ loop-again c =
     gather-more _ _ _ _ _ _ _ _ (l .loop .inv) (omega arith)
     (ap (isPoint _ _) (sym (c .before .before .vertex-at .ensures)) ∙ sym (c .before .is-point .ensures) ∙ c .if1 .taken)
     (omega (arith, l .loop .inv .few, l .before .pre .1 .1))
-
-loop-less-2 : tie.Need-loop-less-2 Inv-loop μ-loop
-loop-less-2 c = omega arith
 
 loop-again-2 : tie.Need-loop-again-2 Inv-loop μ-loop
 loop-again-2 c =
@@ -66,17 +45,9 @@ pub sources-spec : {M : Type 1} → statement M
 sources-spec =
     tie.close
     (tie.spec
-    Inv-loop
-    μ-loop
-    loop-holds
-    add-i
-    vertex-at-requires
-    is-point-requires
-    mul-source
-    element-write-source
-    add-c
-    loop-less
-    loop-again
-    loop-less-2
-    loop-again-2
+    Inv-loop μ-loop loop-holds (λ c. omega arith) (λ c κs. omega arith) is-point-requires
+    (λ c. omega (arith, c .before .before .before .before .loop .inv .few))
+    (λ c. omega (arith, c .before .before .before .before .loop .inv .few))
+    (λ c. omega (arith, c .before .before .before .before .loop .inv .few)) (λ c. omega arith) loop-again
+    (λ c. omega arith) loop-again-2
     returns)

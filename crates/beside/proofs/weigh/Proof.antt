@@ -9,21 +9,6 @@ use borrow.Author.Needs.{needs}
 use Rattle.beside.proofs.weigh.Statement.{statement}
 use Rattle.beside.proofs.weigh.Tie as tie
 
-vertex-at-requires : tie.Need-vertex-at-requires
-vertex-at-requires c κs = search needs
-
-point-at-requires : tie.Need-point-at-requires
-point-at-requires c κs = search needs
-
-point-at-requires-2 : tie.Need-point-at-requires-2
-point-at-requires-2 c κs = search needs
-
-middle-place-requires : tie.Need-middle-place-requires
-middle-place-requires c κs = search needs
-
-cost-requires : tie.Need-cost-requires
-cost-requires c κs = search needs
-
 -- the places and the costs by their names
 spots : (c : tie.After-cost)
     → let s = c .before .before .before .before .before .args in
@@ -42,12 +27,6 @@ spots c =
       far = refl;
     }
 
-mul-d : tie.Need-mul-d
-mul-d c = search needs
-
-element-copy-out-d : tie.Need-element-copy-out-d
-element-copy-out-d c = search needs
-
 add-d : tie.Need-add-d
 add-d c =
     let k = c .before in
@@ -57,14 +36,8 @@ add-d c =
 returns : tie.Need-returns
 returns c = weigh-low _ _ _ _ _ _ _ _ _ _ _ _ _ _ _ _ _ _ _ _ (spots (c .before .before)) (omega (arith, c .if1 .taken))
 
-sub-g : tie.Need-sub-g
-sub-g c = search needs
-
 returns-2 : tie.Need-returns-2
 returns-2 c = weigh-low _ _ _ _ _ _ _ _ _ _ _ _ _ _ _ _ _ _ _ _ (spots (c .before .before .before .before)) (omega (arith, c .if2 .taken))
-
-is-free-requires : tie.Need-is-free-requires
-is-free-requires c κs = search needs
 
 returns-3 : tie.Need-returns-3
 returns-3 c =
@@ -78,17 +51,6 @@ pub weigh-spec : {M : Type 1} → statement M
 weigh-spec =
     tie.close
     (tie.spec
-    vertex-at-requires
-    point-at-requires
-    point-at-requires-2
-    middle-place-requires
-    cost-requires
-    mul-d
-    element-copy-out-d
-    add-d
-    returns
-    sub-g
-    returns-2
-    is-free-requires
-    returns-3
+    (λ c κs. search needs) (λ c κs. search needs) (λ c κs. search needs) (λ c κs. search needs) (λ c κs. search needs)
+    (λ c. search needs) (λ c. search needs) add-d returns (λ c. search needs) returns-2 (λ c κs. search needs) returns-3
     returns-4)

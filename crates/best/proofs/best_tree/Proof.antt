@@ -205,24 +205,8 @@ pub best-tree-spec : {M : Type 1} → statement M
 best-tree-spec =
     tie.close
     (tie.spec
-    (λ c. search needs)
-    (λ c κs. search needs)
-    (λ c. search needs)
-    (λ c κs. search needs)
-    put-costs-requires
-    (λ c. search needs)
-    (λ c. search needs)
-    number-pins-requires
-    (λ c κs. search needs)
-    masks-requires
-    sub-fill
-    fill-requires
-    sub-read-back
-    (λ c. search needs)
-    read-back-requires
-    metal-requires
-    put-edges-requires
-    clear-requires
-    (λ c. search needs)
-    (λ c. search needs)
+    (λ c. search needs) (λ c κs. search needs) (λ c. search needs) (λ c κs. search needs) put-costs-requires
+    (λ c. search needs) (λ c. search needs) number-pins-requires (λ c κs. search needs) masks-requires sub-fill
+    fill-requires sub-read-back (λ c. search needs) read-back-requires metal-requires put-edges-requires clear-requires
+    (λ c. search needs) (λ c. search needs)
     returns)

@@ -40,12 +40,6 @@ pub marked-length-spec : {M : Type 1} → statement M
 marked-length-spec =
     tie.close
     (tie.spec
-    (λ c. search needs)
-    (λ c. search needs)
-    returns
-    (λ c κs. search needs)
-    (λ c κs. search needs)
-    (λ c κs. search needs)
-    crossing-requires-2
-    (λ c κs. search needs)
+    (λ c. search needs) (λ c. search needs) returns (λ c κs. search needs) (λ c κs. search needs) (λ c κs. search needs)
+    crossing-requires-2 (λ c κs. search needs)
     returns-2)

@@ -46,12 +46,7 @@ pub metal-spec : {M : Type 1} → statement M
 metal-spec =
     tie.close
     (tie.spec
-    Inv-loop
-    μ-loop
-    loop-holds
-    marked-length-requires
+    Inv-loop μ-loop loop-holds marked-length-requires
     (λ c. omega (arith, c .marked-length .ensures .1, c .before .before .loop .inv .1 .0, c .before .before .before .pre .0))
-    (λ c. omega arith)
-    (λ c. omega arith)
-    loop-again
+    (λ c. omega arith) (λ c. omega arith) loop-again
     returns)

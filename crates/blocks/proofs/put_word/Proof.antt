@@ -31,17 +31,7 @@ pub put-word-spec : {M : Type 1} → statement M
 put-word-spec =
     tie.close
     (tie.spec
-    (λ c. search needs)
-    (λ c. search needs)
-    (λ c. search needs)
-    (λ c. search needs)
-    (λ c. search needs)
-    slice-write-bytes-2
-    (λ c. search needs)
-    (λ c. search needs)
-    slice-write-bytes-3
-    (λ c. search needs)
-    (λ c. search needs)
-    slice-write-bytes-4
-    (λ c. search needs)
+    (λ c. search needs) (λ c. search needs) (λ c. search needs) (λ c. search needs) (λ c. search needs)
+    slice-write-bytes-2 (λ c. search needs) (λ c. search needs) slice-write-bytes-3 (λ c. search needs)
+    (λ c. search needs) slice-write-bytes-4 (λ c. search needs)
     returns)

@@ -51,14 +51,6 @@ pub sums-of-spec : {M : Type 1} → statement M
 sums-of-spec =
     tie.close
     (tie.spec
-    Inv-loop
-    μ-loop
-    loop-holds
-    (λ c. omega arith)
-    (λ c. omega arith)
-    wrapping-add-u32-requires
-    wrapping-add-u32-requires-2
-    (λ c. omega arith)
-    (λ c. omega arith)
-    loop-again
+    Inv-loop μ-loop loop-holds (λ c. omega arith) (λ c. omega arith) wrapping-add-u32-requires
+    wrapping-add-u32-requires-2 (λ c. omega arith) (λ c. omega arith) loop-again
     returns)

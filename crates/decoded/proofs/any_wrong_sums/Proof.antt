@@ -71,13 +71,6 @@ pub any-wrong-sums-spec : {M : Type 1} → statement M
 any-wrong-sums-spec =
     tie.close
     (tie.spec
-    Inv-loop
-    μ-loop
-    loop-holds
-    (λ c κs. omega arith)
-    has-wrong-sums-requires
-    returns
-    (λ c. omega arith)
-    (λ c. omega arith)
-    loop-again
+    Inv-loop μ-loop loop-holds (λ c κs. omega arith) has-wrong-sums-requires returns (λ c. omega arith)
+    (λ c. omega arith) loop-again
     returns-2)

@@ -87,13 +87,6 @@ pub put-bare-spec : {M : Type 1} → statement M
 put-bare-spec =
     tie.close
     (tie.spec
-    Inv-loop
-    μ-loop
-    loop-holds
-    (λ c κs. omega arith)
-    put-bare-pin-requires
-    (λ c. omega arith)
-    (λ c. omega arith)
-    loop-again
-    same-length
+    Inv-loop μ-loop loop-holds (λ c κs. omega arith) put-bare-pin-requires (λ c. omega arith) (λ c. omega arith)
+    loop-again same-length
     returns)

@@ -53,12 +53,6 @@ pub take-lists-spec : {M : Type 1} → statement M
 take-lists-spec =
     tie.close
     (tie.spec
-    (λ c κs. search needs)
-    (λ c κs. search needs)
-    take-pins-requires
-    (λ c κs. search needs)
-    add-take-numbers
-    take-numbers-requires
-    (λ c. search needs)
-    (λ c. search needs)
+    (λ c κs. search needs) (λ c κs. search needs) take-pins-requires (λ c κs. search needs) add-take-numbers
+    take-numbers-requires (λ c. search needs) (λ c. search needs)
     returns)

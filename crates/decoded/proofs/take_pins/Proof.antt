@@ -114,16 +114,7 @@ pub take-pins-spec : {M : Type 1} → statement M
 take-pins-spec =
     tie.close
     (tie.spec
-    (λ c κs. search needs)
-    (λ c κs. search needs)
-    take-numbers-requires
-    (λ c. search needs)
-    returns
-    (λ c. search needs)
-    take-numbers-requires-2
-    (λ c. search needs)
-    (λ c. search needs)
-    (λ c. search needs)
-    put-bare-requires
+    (λ c κs. search needs) (λ c κs. search needs) take-numbers-requires (λ c. search needs) returns (λ c. search needs)
+    take-numbers-requires-2 (λ c. search needs) (λ c. search needs) (λ c. search needs) put-bare-requires
     (λ c. search needs)
     returns-2)

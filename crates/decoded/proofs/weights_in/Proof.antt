@@ -33,8 +33,5 @@ pub weights-in-spec : {M : Type 1} → statement M
 weights-in-spec =
     tie.close
     (tie.spec
-    (λ c κs. search needs)
-    weight-of-requires
-    (λ c κs. search needs)
-    weight-of-requires-2
+    (λ c κs. search needs) weight-of-requires (λ c κs. search needs) weight-of-requires-2
     returns)

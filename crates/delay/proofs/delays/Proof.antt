@@ -34,9 +34,6 @@ returns : tie.Need-returns
 unfolding toldDelays after
 returns c = let s = c .before .before in (told-space _ _ _ (number s) (s .args .z .points) (marks s) (c .if1 .taken), refl)
 
-is-usable-requires : tie.Need-is-usable-requires
-is-usable-requires c κs = search needs
-
 returns-2 : tie.Need-returns-2
 unfolding toldDelays after
 returns-2 c =
@@ -46,9 +43,6 @@ returns-2 c =
           (not-true (u .is-usable .result) (c .if2 .taken)),
       refl,
     )
-
-find-requires : tie.Need-find-requires
-find-requires c κs = search needs
 
 returns-3 : tie.Need-returns-3
 unfolding toldDelays after
@@ -60,12 +54,6 @@ returns-3 c =
           (not-false (u .is-usable .result) (f .before .if2 .left)) (f .find .result) (f .find .ensures .0) (c .if3 .taken),
       refl,
     )
-
-lay-requires : tie.Need-lay-requires
-lay-requires c κs = search needs
-
-has-mark-requires : tie.Need-has-mark-requires
-has-mark-requires c κs = search needs
 
 -- all tests up to the search for a mark are passed, and it finds what the contract's marks have
 returns-4 : tie.Need-returns-4
@@ -84,12 +72,6 @@ returns-4 c =
           (m .has-mark .result) (m .has-mark .ensures ∙ ap (λ (x : List Float). any isMark (marksBy s x)) is) (c .if4 .taken),
       refl,
     )
-
-give-requires : tie.Need-give-requires
-give-requires c κs = search needs
-
-same-length : tie.Need-same-length
-same-length c = search needs
 
 returns-5 : tie.Need-returns-5
 unfolding toldDelays after
@@ -114,14 +96,6 @@ pub delays-spec : {M : Type 1} → statement M
 delays-spec =
     tie.close
     (tie.spec
-    returns
-    is-usable-requires
-    returns-2
-    find-requires
-    returns-3
-    lay-requires
-    has-mark-requires
-    returns-4
-    give-requires
-    same-length
+    returns (λ c κs. search needs) returns-2 (λ c κs. search needs) returns-3 (λ c κs. search needs)
+    (λ c κs. search needs) returns-4 (λ c κs. search needs) (λ c. search needs)
     returns-5)

@@ -5,18 +5,6 @@ use Rattle.elmore.proofs.TableLaws.{child-delayed}
 use Rattle.elmore.proofs.delay_below.Statement.{statement}
 use Rattle.elmore.proofs.delay_below.Tie as tie
 
-length-requires : tie.Need-length-requires
-length-requires c κs = search needs
-
-edge-value-requires : tie.Need-edge-value-requires
-edge-value-requires c κs = search needs
-
-edge-value-requires-2 : tie.Need-edge-value-requires-2
-edge-value-requires-2 c κs = search needs
-
-child-delay-requires : tie.Need-child-delay-requires
-child-delay-requires c κs = search needs
-
 returns : tie.Need-returns
 returns c =
     child-delayed _ _ _ _ _ _ _ _ _ (c .child-delay .ensures) (c .before .before .edge-value .ensures) (c .before .edge-value2 .ensures)
@@ -24,4 +12,4 @@ returns c =
 
 pub delay-below-spec : {M : Type 1} → statement M
 delay-below-spec =
-    tie.close (tie.spec length-requires edge-value-requires edge-value-requires-2 child-delay-requires returns)
+    tie.close (tie.spec (λ c κs. search needs) (λ c κs. search needs) (λ c κs. search needs) (λ c κs. search needs) returns)

@@ -6,11 +6,8 @@ use Rattle.floats.specs.Float.{times}
 use Rattle.elmore.proofs.edge_value.Statement.{statement}
 use Rattle.elmore.proofs.edge_value.Tie as tie
 
-nearest-u64-to-f64-requires : tie.Need-nearest-u64-to-f64-requires
-nearest-u64-to-f64-requires c κs = search needs
-
 returns : tie.Need-returns
 returns c = ap (times (c .before .args .unit)) (c .nearest-u64-to-f64 .ensures)
 
 pub edge-value-spec : {M : Type 1} → statement M
-edge-value-spec = tie.close (tie.spec nearest-u64-to-f64-requires returns)
+edge-value-spec = tie.close (tie.spec (λ c κs. search needs) returns)

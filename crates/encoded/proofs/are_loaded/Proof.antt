@@ -56,11 +56,7 @@ are-loaded-spec =
     Inv-loop
     μ-loop
     (λ c κs. tt)
-    loop-holds
-    (λ c κs. omega arith)
+    loop-holds (λ c κs. omega arith)
     (λ c κs. tt)
-    returns
-    (λ c. omega arith)
-    (λ c. omega arith)
-    loop-again
+    returns (λ c. omega arith) (λ c. omega arith) loop-again
     returns-2)

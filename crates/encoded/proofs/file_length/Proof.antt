@@ -15,9 +15,6 @@ pins-counted : (c : tie.After-blocks-for) → c .blocks-for .result
     ≡ blocksFor (length (stored (now (c .before .before .args .pins)) .numbers))
 pins-counted c = c .blocks-for .ensures ∙ ap blocksFor (c .before .stored-length .ensures)
 
-add-result : tie.Need-add-result
-add-result c = omega (arith, pins-counted c)
-
 add-result-2 : tie.Need-add-result-2
 add-result-2 c = omega (arith, pins-counted (c .before), c .blocks-for2 .ensures)
 
@@ -32,10 +29,6 @@ pub file-length-spec : {M : Type 1} → statement M
 file-length-spec =
     tie.close
     (tie.spec
-    (λ c κs. search needs)
-    (λ c κs. search needs)
-    add-result
-    (λ c κs. search needs)
-    add-result-2
-    mul-result
+    (λ c κs. search needs) (λ c κs. search needs) (λ c. omega (arith, pins-counted c)) (λ c κs. search needs)
+    add-result-2 mul-result
     returns)

@@ -119,17 +119,7 @@ pub put-file-spec : {M : Type 1} → statement M
 put-file-spec =
     tie.close
     (tie.spec
-    (λ c κs. search needs)
-    put-lists-requires
-    (λ c. search needs)
-    returns
-    (λ c κs. search needs)
-    mul-n
-    (λ c. search needs)
-    put-places-requires
-    (λ c. search needs)
-    (λ c. search needs)
-    part-put-lists-end
-    put-lists-requires-2
-    (λ c. search needs)
+    (λ c κs. search needs) put-lists-requires (λ c. search needs) returns (λ c κs. search needs) mul-n
+    (λ c. search needs) put-places-requires (λ c. search needs) (λ c. search needs) part-put-lists-end
+    put-lists-requires-2 (λ c. search needs)
     returns-2)

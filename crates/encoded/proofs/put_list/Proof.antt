@@ -34,9 +34,6 @@ begins : (c : tie.After-put-block-arg Inv-loop μ-loop)
     → c .before .before .loop .j * perBlock < length (now (c .before .before .before .before .before .args .numbers))
 begins c = begins-within _ (c .before .before .loop .j) (omega arith)
 
-mul-next-block : tie.Need-mul-next-block Inv-loop μ-loop
-mul-next-block c = omega (arith, begins c)
-
 next-block-requires : tie.Need-next-block-requires Inv-loop μ-loop
 next-block-requires c κs = ((omega arith, omega arith), omega (arith, begins c))
 
@@ -79,16 +76,6 @@ pub put-list-spec : {M : Type 1} → statement M
 put-list-spec =
     tie.close
     (tie.spec
-    Inv-loop
-    μ-loop
-    (λ c κs. omega arith)
-    loop-holds
-    (λ c. omega arith)
-    mul-next-block
-    next-block-requires
-    put-block-requires
-    (λ c. omega arith)
-    (λ c. omega arith)
-    loop-again
-    same-length
+    Inv-loop μ-loop (λ c κs. omega arith) loop-holds (λ c. omega arith) (λ c. omega (arith, begins c))
+    next-block-requires put-block-requires (λ c. omega arith) (λ c. omega arith) loop-again same-length
     returns)

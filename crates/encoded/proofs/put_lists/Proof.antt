@@ -53,13 +53,6 @@ pub put-lists-spec : {M : Type 1} → statement M
 put-lists-spec =
     tie.close
     (tie.spec
-    (λ c κs. search needs)
-    (λ c. search needs)
-    (λ c. search needs)
-    (λ c κs. search needs)
-    head-block-requires
-    (λ c κs. search needs)
-    (λ c κs. search needs)
-    put-list-requires-2
-    (λ c. search needs)
+    (λ c κs. search needs) (λ c. search needs) (λ c. search needs) (λ c κs. search needs) head-block-requires
+    (λ c κs. search needs) (λ c κs. search needs) put-list-requires-2 (λ c. search needs)
     returns)

@@ -70,11 +70,5 @@ put-places-spec =
     Inv-loop
     μ-loop
     (λ c κs. tt)
-    loop-holds
-    (λ c κs. omega arith)
-    put-place-requires
-    (λ c. omega arith)
-    (λ c. omega arith)
-    loop-again
-    same-length
+    loop-holds (λ c κs. omega arith) put-place-requires (λ c. omega arith) (λ c. omega arith) loop-again same-length
     returns)

@@ -8,8 +8,8 @@ use Rattle.lent.specs.Told.{code}
 use Rattle.lent.specs.Over.{valueAfter}
 use Rattle.net.specs.declared.Weighing.{Weighing}
 use Rattle.net.specs.Net.{weighing}
-use Rattle.router.specs.Refined.{toldTree}
-use Rattle.router.specs.Best.{bestTree}
+use Rattle.answers.specs.Best.{bestTree}
+use Rattle.router.specs.Answers.{toldTree}
 use Rattle.router.specs.Call.{BestCall}
 use Rattle.exports.proofs.HandedLaws.{code-handed, value-handed, read-back}
 use borrow.Author.Needs.{needs}
@@ -71,14 +71,6 @@ pub calzundi-best-tree-spec : {M : Type 1} → statement M
 calzundi-best-tree-spec =
     tie.close
     (tie.spec
-    (λ c κs. search needs)
-    (λ c κs. search needs)
-    (λ c. search needs)
-    (λ c. search needs)
-    (λ c κs. search needs)
-    (λ c. search needs)
-    (λ c. search needs)
-    returns
-    (λ c. search needs)
-    (λ c. search needs)
+    (λ c κs. search needs) (λ c κs. search needs) (λ c. search needs) (λ c. search needs) (λ c κs. search needs)
+    (λ c. search needs) (λ c. search needs) returns (λ c. search needs) (λ c. search needs)
     returns-2)

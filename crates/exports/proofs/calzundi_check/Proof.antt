@@ -7,10 +7,10 @@ use denote.Ref.{now}
 use mir.Syntax.{w32}
 use mir.ValLaws.{toZ-ofZ}
 use Rattle.lent.specs.Told.{code}
-use Rattle.net.specs.declared.Checked.{Checked}
 use Rattle.net.specs.declared.Weighing.{Weighing}
 use Rattle.net.specs.Net.{weighing}
-use Rattle.net.specs.Check.{checked, told}
+use Rattle.checks.specs.declared.Checked.{Checked}
+use Rattle.checks.specs.Check.{checked, told}
 use Rattle.exports.proofs.HandedLaws.{read-back}
 use Rattle.exports.proofs.calzundi_check.Statement.{statement}
 use Rattle.exports.proofs.calzundi_check.Tie as tie

@@ -9,7 +9,7 @@ use Rattle.lent.specs.Over.{valueAfter}
 use Rattle.net.specs.declared.Weighing.{Weighing}
 use Rattle.net.specs.Net.{weighing}
 use Rattle.bought.specs.Verdict.{toldVerdict}
-use Rattle.router.specs.Bought.{checkedTree}
+use Rattle.answers.specs.Bought.{checkedTree}
 use Rattle.exports.proofs.HandedLaws.{code-handed, value-handed, read-back}
 use borrow.Author.Needs.{needs}
 use Rattle.exports.proofs.calzundi_check_tree.Statement.{statement}
@@ -55,10 +55,5 @@ pub calzundi-check-tree-spec : {M : Type 1} → statement M
 calzundi-check-tree-spec =
     tie.close
     (tie.spec
-    (λ c κs. search needs)
-    (λ c κs. search needs)
-    (λ c. search needs)
-    (λ c. search needs)
-    (λ c κs. search needs)
-    returns
+    (λ c κs. search needs) (λ c κs. search needs) (λ c. search needs) (λ c. search needs) (λ c κs. search needs) returns
     returns-2)

@@ -13,7 +13,7 @@ use Rattle.net.specs.Net.{weighing}
 use Rattle.floats.specs.declared.Technology.{Technology}
 use Rattle.elmore.specs.Elmore.{technology}
 use Rattle.delay.specs.Answer.{toldDelays}
-use Rattle.router.specs.Delay.{pinDelays}
+use Rattle.answers.specs.Delay.{pinDelays}
 use Rattle.router.specs.Call.{DelayCall}
 use Rattle.exports.proofs.HandedLaws.{code-handed, value-handed, read-back, place-back}
 use borrow.Author.Needs.{needs}
@@ -71,14 +71,6 @@ pub calzundi-delay-spec : {M : Type 1} → statement M
 calzundi-delay-spec =
     tie.close
     (tie.spec
-    (λ c κs. search needs)
-    (λ c κs. search needs)
-    (λ c κs. search needs)
-    (λ c κs. search needs)
-    (λ c. search needs)
-    (λ c. search needs)
-    (λ c κs. search needs)
-    (λ c. search needs)
-    returns
-    (λ c. search needs)
+    (λ c κs. search needs) (λ c κs. search needs) (λ c κs. search needs) (λ c κs. search needs) (λ c. search needs)
+    (λ c. search needs) (λ c κs. search needs) (λ c. search needs) returns (λ c. search needs)
     returns-2)

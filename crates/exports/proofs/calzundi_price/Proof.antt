@@ -9,7 +9,7 @@ use Rattle.lent.specs.Over.{valueAfter}
 use Rattle.net.specs.declared.Weighing.{Weighing}
 use Rattle.net.specs.Net.{weighing}
 use Rattle.price.specs.Price.{toldPrice}
-use Rattle.router.specs.Price.{netPrice}
+use Rattle.answers.specs.Price.{netPrice}
 use Rattle.exports.proofs.HandedLaws.{code-handed, value-handed, read-back}
 use borrow.Author.Needs.{needs}
 use Rattle.exports.proofs.calzundi_price.Statement.{statement}
@@ -49,10 +49,5 @@ pub calzundi-price-spec : {M : Type 1} → statement M
 calzundi-price-spec =
     tie.close
     (tie.spec
-    (λ c κs. search needs)
-    (λ c κs. search needs)
-    (λ c. search needs)
-    (λ c. search needs)
-    (λ c κs. search needs)
-    returns
+    (λ c κs. search needs) (λ c κs. search needs) (λ c. search needs) (λ c. search needs) (λ c κs. search needs) returns
     returns-2)

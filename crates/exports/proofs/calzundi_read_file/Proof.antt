@@ -7,7 +7,7 @@ use mir.ValLaws.{toZ-ofZ}
 use Rattle.lent.specs.Told.{code}
 use Rattle.lent.specs.Over.{valueAfter}
 use Rattle.net.specs.declared.Weighing.{Weighing}
-use Rattle.net.specs.Check.{told}
+use Rattle.checks.specs.Check.{told}
 use Rattle.exports.proofs.HandedLaws.{code-handed, value-handed}
 use borrow.Author.Needs.{needs}
 use Rattle.exports.proofs.calzundi_read_file.Statement.{statement}
@@ -53,14 +53,6 @@ pub calzundi-read-file-spec : {M : Type 1} → statement M
 calzundi-read-file-spec =
     tie.close
     (tie.spec
-    (λ c κs. search needs)
-    (λ c. search needs)
-    (λ c κs. search needs)
-    (λ c. search needs)
-    (λ c κs. search needs)
-    (λ c. search needs)
-    (λ c. search needs)
-    returns
-    (λ c. search needs)
-    (λ c. search needs)
+    (λ c κs. search needs) (λ c. search needs) (λ c κs. search needs) (λ c. search needs) (λ c κs. search needs)
+    (λ c. search needs) (λ c. search needs) returns (λ c. search needs) (λ c. search needs)
     returns-2)

@@ -8,7 +8,8 @@ use Rattle.lent.specs.Told.{code}
 use Rattle.lent.specs.Over.{valueAfter}
 use Rattle.net.specs.declared.Weighing.{Weighing}
 use Rattle.net.specs.Net.{weighing}
-use Rattle.router.specs.Terminal.{terminalTree, toldTerminal}
+use Rattle.answers.specs.Terminal.{terminalTree}
+use Rattle.router.specs.Answers.{toldTerminal}
 use Rattle.router.specs.Call.{TerminalCall}
 use Rattle.exports.proofs.HandedLaws.{code-handed, value-handed, read-back}
 use borrow.Author.Needs.{needs}
@@ -56,12 +57,6 @@ pub calzundi-terminal-tree-spec : {M : Type 1} → statement M
 calzundi-terminal-tree-spec =
     tie.close
     (tie.spec
-    (λ c κs. search needs)
-    (λ c κs. search needs)
-    (λ c. search needs)
-    (λ c. search needs)
-    (λ c κs. search needs)
-    (λ c. search needs)
-    returns
-    (λ c. search needs)
+    (λ c κs. search needs) (λ c κs. search needs) (λ c. search needs) (λ c. search needs) (λ c κs. search needs)
+    (λ c. search needs) returns (λ c. search needs)
     returns-2)

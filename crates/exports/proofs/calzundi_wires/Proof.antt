@@ -8,7 +8,8 @@ use Rattle.lent.specs.Told.{code}
 use Rattle.lent.specs.Over.{valueAfter}
 use Rattle.net.specs.declared.Weighing.{Weighing}
 use Rattle.net.specs.Net.{weighing}
-use Rattle.router.specs.Wires.{wired, toldWires}
+use Rattle.answers.specs.Wires.{wired}
+use Rattle.router.specs.Answers.{toldWires}
 use Rattle.router.specs.Call.{WiresCall}
 use Rattle.exports.proofs.HandedLaws.{code-handed, value-handed, read-back}
 use borrow.Author.Needs.{needs}
@@ -54,12 +55,6 @@ pub calzundi-wires-spec : {M : Type 1} → statement M
 calzundi-wires-spec =
     tie.close
     (tie.spec
-    (λ c κs. search needs)
-    (λ c κs. search needs)
-    (λ c. search needs)
-    (λ c. search needs)
-    (λ c κs. search needs)
-    (λ c. search needs)
-    returns
-    (λ c. search needs)
+    (λ c κs. search needs) (λ c κs. search needs) (λ c. search needs) (λ c. search needs) (λ c κs. search needs)
+    (λ c. search needs) returns (λ c. search needs)
     returns-2)

@@ -20,24 +20,6 @@ abbrev μ-loop : tie.MeasureT-loop
 loop-holds : tie.Need-loop-holds Inv-loop μ-loop
 loop-holds c = (omega arith, refl, filled-none _ _ _ _)
 
-add-i : tie.Need-add-i Inv-loop μ-loop
-add-i c = omega arith
-
-mul-if1 : tie.Need-mul-if1 Inv-loop μ-loop
-mul-if1 c = omega arith
-
-element-copy-out-if1 : tie.Need-element-copy-out-if1 Inv-loop μ-loop
-element-copy-out-if1 c = omega arith
-
-mul-marked : tie.Need-mul-marked Inv-loop μ-loop
-mul-marked c = omega arith
-
-element-copy-out-marked : tie.Need-element-copy-out-marked Inv-loop μ-loop
-element-copy-out-marked c = omega arith
-
-marked-requires : tie.Need-marked-requires Inv-loop μ-loop
-marked-requires c κs = search needs
-
 put-requires : tie.Need-put-requires Inv-loop μ-loop
 put-requires c κs =
     let t = c .before .before .before in
@@ -45,9 +27,6 @@ put-requires c κs =
     let v = l .before .loop .inv in
     let r = filled-room _ _ _ _ _ _ _ (v .2) (l .loop-test .taken) (t .if1 .taken) (l .before .before .before .pre .1) in
     omega (arith, r, v .1)
-
-loop-less : tie.Need-loop-less Inv-loop μ-loop
-loop-less c = omega arith
 
 loop-again : tie.Need-loop-again Inv-loop μ-loop
 loop-again c =
@@ -60,9 +39,6 @@ loop-again c =
       filled-hit _ _ _ _ _ _ _ (v .2) _ _ _ (l .loop-test .taken) (f .if1 .taken) (l .before .before .before .pre .1)
           (c .before .before .before .marked .ensures) (p .0) (p .1),
     )
-
-loop-less-2 : tie.Need-loop-less-2 Inv-loop μ-loop
-loop-less-2 c = omega arith
 
 loop-again-2 : tie.Need-loop-again-2 Inv-loop μ-loop
 loop-again-2 c =
@@ -80,19 +56,7 @@ pub give-spec : {M : Type 1} → statement M
 give-spec =
     tie.close
     (tie.spec
-    Inv-loop
-    μ-loop
-    loop-holds
-    add-i
-    mul-if1
-    element-copy-out-if1
-    mul-marked
-    element-copy-out-marked
-    marked-requires
-    put-requires
-    loop-less
-    loop-again
-    loop-less-2
-    loop-again-2
+    Inv-loop μ-loop loop-holds (λ c. omega arith) (λ c. omega arith) (λ c. omega arith) (λ c. omega arith)
+    (λ c. omega arith) (λ c κs. search needs) put-requires (λ c. omega arith) loop-again (λ c. omega arith) loop-again-2
     same-length
     returns)

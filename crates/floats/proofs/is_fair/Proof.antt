@@ -5,9 +5,6 @@ use Rattle.floats.proofs.MarkLaws.{fair-if, fair-not}
 use Rattle.floats.proofs.is_fair.Statement.{statement}
 use Rattle.floats.proofs.is_fair.Tie as tie
 
-is-finite-requires : tie.Need-is-finite-requires
-is-finite-requires c κs = search needs
-
 returns : tie.Need-returns
 returns c = fair-if _ _ (c .before .if1 .taken) (c .is-finite .ensures)
 
@@ -15,4 +12,4 @@ returns-2 : tie.Need-returns-2
 returns-2 c = fair-not _ (c .if1 .left)
 
 pub is-fair-spec : {M : Type 1} → statement M
-is-fair-spec = tie.close (tie.spec is-finite-requires returns returns-2)
+is-fair-spec = tie.close (tie.spec (λ c κs. search needs) returns returns-2)

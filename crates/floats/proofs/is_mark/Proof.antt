@@ -6,12 +6,6 @@ use Rattle.floats.specs.Mark.{isMark}
 use Rattle.floats.proofs.is_mark.Statement.{statement}
 use Rattle.floats.proofs.is_mark.Tie as tie
 
-enum-told : tie.Need-enum-told
-enum-told c = search needs
-
-enum-told-2 : tie.Need-enum-told-2
-enum-told-2 c = search needs
-
 returns : tie.Need-returns
 unfolding isMark
 returns c = sym (ap isMark (c .enum-told .given .1))
@@ -21,4 +15,4 @@ unfolding isMark
 returns-2 c = sym (ap isMark (c .enum-told2 .given .1))
 
 pub is-mark-spec : {M : Type 1} → statement M
-is-mark-spec = tie.close (tie.spec enum-told enum-told-2 returns returns-2)
+is-mark-spec = tie.close (tie.spec (λ c. search needs) (λ c. search needs) returns returns-2)

@@ -5,9 +5,6 @@ use Rattle.floats.proofs.MarkLaws.{marked-finite, marked-not}
 use Rattle.floats.proofs.marked.Statement.{statement}
 use Rattle.floats.proofs.marked.Tie as tie
 
-is-finite-requires : tie.Need-is-finite-requires
-is-finite-requires c κs = search needs
-
 returns : tie.Need-returns
 returns c = marked-finite _ _ (c .before .is-finite .ensures) (c .if1 .taken)
 
@@ -15,4 +12,4 @@ returns-2 : tie.Need-returns-2
 returns-2 c = marked-not _ _ (c .before .is-finite .ensures) (c .if1 .left)
 
 pub marked-spec : {M : Type 1} → statement M
-marked-spec = tie.close (tie.spec is-finite-requires returns returns-2)
+marked-spec = tie.close (tie.spec (λ c κs. search needs) returns returns-2)

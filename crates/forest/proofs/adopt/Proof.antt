@@ -19,24 +19,6 @@ abbrev μ-loop : tie.MeasureT-loop
 loop-holds : tie.Need-loop-holds Inv-loop μ-loop
 loop-holds c = (omega arith, adopt-none _ _ _ (c .pre .0 .1 .1) _ (c .pre .1))
 
-mul-a : tie.Need-mul-a Inv-loop μ-loop
-mul-a c = omega arith
-
-element-copy-out-a : tie.Need-element-copy-out-a Inv-loop μ-loop
-element-copy-out-a c = omega arith
-
-mul-b : tie.Need-mul-b Inv-loop μ-loop
-mul-b c = omega arith
-
-element-copy-out-b : tie.Need-element-copy-out-b Inv-loop μ-loop
-element-copy-out-b c = omega arith
-
-mul-d : tie.Need-mul-d Inv-loop μ-loop
-mul-d c = omega arith
-
-element-copy-out-d : tie.Need-element-copy-out-d Inv-loop μ-loop
-element-copy-out-d c = omega arith
-
 adopt-by-requires : tie.Need-adopt-by-requires Inv-loop μ-loop
 adopt-by-requires c κs =
     let s = c .before .before .before .before .before .before .before in
@@ -52,12 +34,6 @@ adopt-by-requires-2 c κs =
     let one = f .one-in _ h in
     let two = f .two-in _ h in
     ((omega (arith, one, two), omega (arith, one, two)), (s .pre .0 .1 .0, f .short _ h))
-
-add-k : tie.Need-add-k Inv-loop μ-loop
-add-k c = omega arith
-
-loop-less : tie.Need-loop-less Inv-loop μ-loop
-loop-less c = omega arith
 
 loop-again : tie.Need-loop-again Inv-loop μ-loop
 loop-again c =
@@ -75,18 +51,7 @@ pub adopt-spec : {M : Type 1} → statement M
 adopt-spec =
     tie.close
     (tie.spec
-    Inv-loop
-    μ-loop
-    loop-holds
-    mul-a
-    element-copy-out-a
-    mul-b
-    element-copy-out-b
-    mul-d
-    element-copy-out-d
-    adopt-by-requires
-    adopt-by-requires-2
-    add-k
-    loop-less
+    Inv-loop μ-loop loop-holds (λ c. omega arith) (λ c. omega arith) (λ c. omega arith) (λ c. omega arith)
+    (λ c. omega arith) (λ c. omega arith) adopt-by-requires adopt-by-requires-2 (λ c. omega arith) (λ c. omega arith)
     loop-again
     returns)

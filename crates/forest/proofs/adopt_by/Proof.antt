@@ -5,27 +5,6 @@ use borrow.Author.Needs.{needs}
 use Rattle.forest.proofs.adopt_by.Statement.{statement}
 use Rattle.forest.proofs.adopt_by.Tie as tie
 
-mul-is-smaller : tie.Need-mul-is-smaller
-mul-is-smaller c = search needs
-
-element-copy-out-is-smaller : tie.Need-element-copy-out-is-smaller
-element-copy-out-is-smaller c = search needs
-
-leads-requires : tie.Need-leads-requires
-leads-requires c κs = search needs
-
-mul-up : tie.Need-mul-up
-mul-up c = search needs
-
-element-write-up : tie.Need-element-write-up
-element-write-up c = search needs
-
-mul-via : tie.Need-mul-via
-mul-via c = search needs
-
-element-write-via : tie.Need-element-write-via
-element-write-via c = search needs
-
 returns : tie.Need-returns
 returns c = adopt-yes _ _ _ _ _ _ _ _ (c .before .leads .ensures) (c .if1 .taken)
 
@@ -36,12 +15,6 @@ pub adopt-by-spec : {M : Type 1} → statement M
 adopt-by-spec =
     tie.close
     (tie.spec
-    mul-is-smaller
-    element-copy-out-is-smaller
-    leads-requires
-    mul-up
-    element-write-up
-    mul-via
-    element-write-via
-    returns
+    (λ c. search needs) (λ c. search needs) (λ c κs. search needs) (λ c. search needs) (λ c. search needs)
+    (λ c. search needs) (λ c. search needs) returns
     returns-2)

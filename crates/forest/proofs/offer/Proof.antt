@@ -8,49 +8,10 @@ use borrow.Author.Needs.{needs}
 use Rattle.forest.proofs.offer.Statement.{statement}
 use Rattle.forest.proofs.offer.Tie as tie
 
-mul-f : tie.Need-mul-f
-mul-f c = search needs
-
-element-copy-out-f : tie.Need-element-copy-out-f
-element-copy-out-f c = search needs
-
 add-f : tie.Need-add-f
 add-f c =
     let s = c .before in
     omega (arith, s .pre .1 .0 .low (s .args .u))
-
-mul-r : tie.Need-mul-r
-mul-r c = search needs
-
-element-copy-out-r : tie.Need-element-copy-out-r
-element-copy-out-r c = search needs
-
-mul-is-better : tie.Need-mul-is-better
-mul-is-better c = search needs
-
-element-copy-out-is-better : tie.Need-element-copy-out-is-better
-element-copy-out-is-better c = search needs
-
-mul-is-better-2 : tie.Need-mul-is-better-2
-mul-is-better-2 c = search needs
-
-element-copy-out-is-better-2 : tie.Need-element-copy-out-is-better-2
-element-copy-out-is-better-2 c = search needs
-
-is-better-requires : tie.Need-is-better-requires
-is-better-requires c κs = search needs
-
-mul-far : tie.Need-mul-far
-mul-far c = search needs
-
-element-write-far : tie.Need-element-write-far
-element-write-far c = search needs
-
-mul-root : tie.Need-mul-root
-mul-root c = search needs
-
-element-write-root : tie.Need-element-write-root
-element-write-root c = search needs
 
 returns : tie.Need-returns
 unfolding gains
@@ -68,19 +29,7 @@ pub offer-spec : {M : Type 1} → statement M
 offer-spec =
     tie.close
     (tie.spec
-    mul-f
-    element-copy-out-f
-    add-f
-    mul-r
-    element-copy-out-r
-    mul-is-better
-    element-copy-out-is-better
-    mul-is-better-2
-    element-copy-out-is-better-2
-    is-better-requires
-    mul-far
-    element-write-far
-    mul-root
-    element-write-root
-    returns
+    (λ c. search needs) (λ c. search needs) add-f (λ c. search needs) (λ c. search needs) (λ c. search needs)
+    (λ c. search needs) (λ c. search needs) (λ c. search needs) (λ c κs. search needs) (λ c. search needs)
+    (λ c. search needs) (λ c. search needs) (λ c. search needs) returns
     returns-2)

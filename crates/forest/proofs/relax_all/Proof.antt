@@ -20,36 +20,12 @@ abbrev μ-loop : tie.MeasureT-loop
 loop-holds : tie.Need-loop-holds Inv-loop μ-loop
 loop-holds c = (omega arith, rw (all-left (c .args .e)) (pass-none _ _ _ (c .pre .1)))
 
-mul-relax-edge : tie.Need-mul-relax-edge Inv-loop μ-loop
-mul-relax-edge c = omega arith
-
-element-copy-out-relax-edge : tie.Need-element-copy-out-relax-edge Inv-loop μ-loop
-element-copy-out-relax-edge c = omega arith
-
-mul-relax-edge-2 : tie.Need-mul-relax-edge-2 Inv-loop μ-loop
-mul-relax-edge-2 c = omega arith
-
-element-copy-out-relax-edge-2 : tie.Need-element-copy-out-relax-edge-2 Inv-loop μ-loop
-element-copy-out-relax-edge-2 c = omega arith
-
-mul-relax-edge-3 : tie.Need-mul-relax-edge-3 Inv-loop μ-loop
-mul-relax-edge-3 c = omega arith
-
-element-copy-out-relax-edge-3 : tie.Need-element-copy-out-relax-edge-3 Inv-loop μ-loop
-element-copy-out-relax-edge-3 c = omega arith
-
 relax-edge-requires : tie.Need-relax-edge-requires Inv-loop μ-loop
 relax-edge-requires c κs =
     let l = c .before .before .before .before .before .before in
     let f = l .before .pre .0 in
     let h = c .before .before .before .before .before .loop-test .taken in
     ((f .one-in _ h, f .two-in _ h), (l .loop .inv .1 .low, f .short _ h))
-
-add-k : tie.Need-add-k Inv-loop μ-loop
-add-k c = omega arith
-
-loop-less : tie.Need-loop-less Inv-loop μ-loop
-loop-less c = omega arith
 
 loop-again : tie.Need-loop-again Inv-loop μ-loop
 unfolding relaxEdge moves
@@ -65,17 +41,6 @@ pub relax-all-spec : {M : Type 1} → statement M
 relax-all-spec =
     tie.close
     (tie.spec
-    Inv-loop
-    μ-loop
-    loop-holds
-    mul-relax-edge
-    element-copy-out-relax-edge
-    mul-relax-edge-2
-    element-copy-out-relax-edge-2
-    mul-relax-edge-3
-    element-copy-out-relax-edge-3
-    relax-edge-requires
-    add-k
-    loop-less
-    loop-again
+    Inv-loop μ-loop loop-holds (λ c. omega arith) (λ c. omega arith) (λ c. omega arith) (λ c. omega arith)
+    (λ c. omega arith) (λ c. omega arith) relax-edge-requires (λ c. omega arith) (λ c. omega arith) loop-again
     returns)

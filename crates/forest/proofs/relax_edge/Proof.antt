@@ -5,9 +5,6 @@ use borrow.Author.Needs.{needs}
 use Rattle.forest.proofs.relax_edge.Statement.{statement}
 use Rattle.forest.proofs.relax_edge.Tie as tie
 
-offer-requires : tie.Need-offer-requires
-offer-requires c κs = search needs
-
 offer-requires-2 : tie.Need-offer-requires-2
 offer-requires-2 c κs =
     let s = c .before .before .before .before .before in
@@ -17,4 +14,4 @@ returns : tie.Need-returns
 returns c = both-ways _ _ _ _ _ _ _ _ (c .before .before .before .offer .ensures) (c .offer2 .ensures)
 
 pub relax-edge-spec : {M : Type 1} → statement M
-relax-edge-spec = tie.close (tie.spec offer-requires offer-requires-2 returns)
+relax-edge-spec = tie.close (tie.spec (λ c κs. search needs) offer-requires-2 returns)

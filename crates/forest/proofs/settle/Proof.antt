@@ -33,12 +33,6 @@ returns c =
     let h = c .before .before .before .before .loop-test .taken in
     settle-stop _ _ _ _ _ _ (l .loop .inv .1) _ _ (one-less _ _ h) (sym (call .0) ∙ not-true _ (c .if1 .taken)) (call .1)
 
-add-i : tie.Need-add-i Inv-loop μ-loop
-add-i c = omega arith
-
-loop-less : tie.Need-loop-less Inv-loop μ-loop
-loop-less c = omega arith
-
 loop-again : tie.Need-loop-again Inv-loop μ-loop
 loop-again c =
     let l = c .before .before .before .before .before in
@@ -53,12 +47,5 @@ pub settle-spec : {M : Type 1} → statement M
 settle-spec =
     tie.close
     (tie.spec
-    Inv-loop
-    μ-loop
-    loop-holds
-    relax-all-requires
-    returns
-    add-i
-    loop-less
-    loop-again
+    Inv-loop μ-loop loop-holds relax-all-requires returns (λ c. omega arith) (λ c. omega arith) loop-again
     returns-2)

@@ -20,12 +20,6 @@ abbrev μ-loop : tie.MeasureT-loop
 loop-holds : tie.Need-loop-holds Inv-loop μ-loop
 loop-holds c = (omega arith, rw (all-left (c .args .m)) refl)
 
-mul-s : tie.Need-mul-s Inv-loop μ-loop
-mul-s c = omega arith
-
-element-copy-out-s : tie.Need-element-copy-out-s Inv-loop μ-loop
-element-copy-out-s c = omega arith
-
 mul-far : tie.Need-mul-far Inv-loop μ-loop
 mul-far c =
     let l = c .before .before in
@@ -42,12 +36,6 @@ mul-root c =
 element-write-root : tie.Need-element-write-root Inv-loop μ-loop
 element-write-root c = c .before .before .before .pre .1 .inside (c .before .before .loop .i) (c .before .loop-test .taken)
 
-add-i : tie.Need-add-i Inv-loop μ-loop
-add-i c = omega arith
-
-loop-less : tie.Need-loop-less Inv-loop μ-loop
-loop-less c = omega arith
-
 loop-again : tie.Need-loop-again Inv-loop μ-loop
 loop-again c =
     let l = c .before .before in
@@ -60,16 +48,6 @@ pub start-spec : {M : Type 1} → statement M
 start-spec =
     tie.close
     (tie.spec
-    Inv-loop
-    μ-loop
-    loop-holds
-    mul-s
-    element-copy-out-s
-    mul-far
-    element-write-far
-    mul-root
-    element-write-root
-    add-i
-    loop-less
-    loop-again
+    Inv-loop μ-loop loop-holds (λ c. omega arith) (λ c. omega arith) mul-far element-write-far mul-root
+    element-write-root (λ c. omega arith) (λ c. omega arith) loop-again
     returns)

@@ -80,15 +80,7 @@ pub distances-spec : {M : Type 1} → statement M
 distances-spec =
     tie.close
     (tie.spec
-    (λ c. search needs)
-    (λ c κs. search needs)
-    (λ c. search needs)
-    (λ c κs. search needs)
-    put-costs-requires
-    (λ c. search needs)
-    (λ c. search needs)
-    number-pins-requires
-    (λ c κs. search needs)
-    give-rows-requires
+    (λ c. search needs) (λ c κs. search needs) (λ c. search needs) (λ c κs. search needs) put-costs-requires
+    (λ c. search needs) (λ c. search needs) number-pins-requires (λ c κs. search needs) give-rows-requires
     (λ c. search needs)
     returns)

@@ -34,10 +34,6 @@ pub edge-cost-spec : {M : Type 1} → statement M
 edge-cost-spec =
     tie.close
     (tie.spec
-    (λ c κs. search needs)
-    returns
-    (λ c κs. search needs)
-    (λ c κs. search needs)
-    crossing-requires-2
+    (λ c κs. search needs) returns (λ c κs. search needs) (λ c κs. search needs) crossing-requires-2
     segment-cost-requires
     returns-2)

@@ -51,12 +51,5 @@ pub give-rows-spec : {M : Type 1} → statement M
 give-rows-spec =
     tie.close
     (tie.spec
-    Inv-loop
-    μ-loop
-    loop-holds
-    give-row-requires
-    (λ c. omega arith)
-    (λ c. omega arith)
-    loop-again
-    same-length
+    Inv-loop μ-loop loop-holds give-row-requires (λ c. omega arith) (λ c. omega arith) loop-again same-length
     returns)

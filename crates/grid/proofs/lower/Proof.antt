@@ -27,12 +27,6 @@ pub lower-spec : {M : Type 1} → statement M
 lower-spec =
     tie.close
     (tie.spec
-    (λ c. search needs)
-    (λ c. search needs)
-    add-x
-    (λ c. search needs)
-    (λ c. search needs)
-    (λ c. search needs)
-    (λ c. search needs)
-    returns
+    (λ c. search needs) (λ c. search needs) add-x (λ c. search needs) (λ c. search needs) (λ c. search needs)
+    (λ c. search needs) returns
     returns-2)

@@ -8,12 +8,6 @@ use Rattle.hanging.proofs.TallyLaws.{was-few, now-few, added}
 use Rattle.hanging.proofs.add.Statement.{statement}
 use Rattle.hanging.proofs.add.Tie as tie
 
-hang-at-requires : tie.Need-hang-at-requires
-hang-at-requires c κs = search needs
-
-seen-edge-requires : tie.Need-seen-edge-requires
-seen-edge-requires c κs = search needs
-
 hung-requires : tie.Need-hung-requires
 hung-requires c κs =
     let h = c .before in
@@ -30,12 +24,6 @@ code-requires c κs =
     (t .seen-edge .ensures .1 .0) (t .seen-edge .ensures .1 .1) _ (c .hung .ensures) in
     ((omega (arith, few, s .pre .0 .0), omega (arith, few, s .pre .0 .0)), few .1)
 
-mul-hangs : tie.Need-mul-hangs
-mul-hangs c = search needs
-
-element-write-hangs : tie.Need-element-write-hangs
-element-write-hangs c = search needs
-
 returns : tie.Need-returns
 returns c =
     let t = c .before .before in
@@ -48,10 +36,5 @@ pub add-spec : {M : Type 1} → statement M
 add-spec =
     tie.close
     (tie.spec
-    hang-at-requires
-    seen-edge-requires
-    hung-requires
-    code-requires
-    mul-hangs
-    element-write-hangs
+    (λ c κs. search needs) (λ c κs. search needs) hung-requires code-requires (λ c. search needs) (λ c. search needs)
     returns)

@@ -14,24 +14,6 @@ use Rattle.hanging.proofs.add_edge.Tie as tie
 labels : {i j : ℕ} (lab : List ℕ) → i ≡ j → getD lab i 0 ≡ getD lab j 0
 labels lab e = ap (λ (k : ℕ). getD lab k 0) e
 
-first-end-requires : tie.Need-first-end-requires
-first-end-requires c κs = search needs
-
-mul-p : tie.Need-mul-p
-mul-p c = search needs
-
-element-copy-out-p : tie.Need-element-copy-out-p
-element-copy-out-p c = search needs
-
-second-end-requires : tie.Need-second-end-requires
-second-end-requires c κs = search needs
-
-mul-q : tie.Need-mul-q
-mul-q c = search needs
-
-element-copy-out-q : tie.Need-element-copy-out-q
-element-copy-out-q c = search needs
-
 add-requires : tie.Need-add-requires
 add-requires c κs =
     let p = c .before .before .before .before .before .pre in
@@ -72,13 +54,6 @@ pub add-edge-spec : {M : Type 1} → statement M
 add-edge-spec =
     tie.close
     (tie.spec
-    first-end-requires
-    mul-p
-    element-copy-out-p
-    second-end-requires
-    mul-q
-    element-copy-out-q
-    add-requires
-    add-requires-2
-    returns
+    (λ c κs. search needs) (λ c. search needs) (λ c. search needs) (λ c κs. search needs) (λ c. search needs)
+    (λ c. search needs) add-requires add-requires-2 returns
     returns-2)

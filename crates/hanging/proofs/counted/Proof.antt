@@ -6,9 +6,6 @@ use borrow.Author.Needs.{needs}
 use Rattle.hanging.proofs.counted.Statement.{statement}
 use Rattle.hanging.proofs.counted.Tie as tie
 
-add-result : tie.Need-add-result
-add-result c = search needs
-
 returns : tie.Need-returns
 unfolding counted
 returns c = rw (c .if1 .taken) refl
@@ -18,4 +15,4 @@ unfolding counted
 returns-2 c = rw (c .if1 .left) refl
 
 pub counted-spec : {M : Type 1} → statement M
-counted-spec = tie.close (tie.spec add-result returns returns-2)
+counted-spec = tie.close (tie.spec (λ c. search needs) returns returns-2)

@@ -10,11 +10,8 @@ use Rattle.hanging.proofs.shortest.Tie as tie
 returns : tie.Need-returns
 returns c = shorter-first _ _ (c .if1 .taken)
 
-smaller-requires : tie.Need-smaller-requires
-smaller-requires c κs = search needs
-
 returns-2 : tie.Need-returns-2
 returns-2 c = c .smaller .ensures ∙ shorter-next _ _ (c .before .if1 .left)
 
 pub shortest-spec : {M : Type 1} → statement M
-shortest-spec = tie.close (tie.spec returns smaller-requires returns-2)
+shortest-spec = tie.close (tie.spec returns (λ c κs. search needs) returns-2)

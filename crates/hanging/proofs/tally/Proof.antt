@@ -23,12 +23,6 @@ add-edge-requires c κs =
     let p = l .before .pre in
     (((omega (arith, p .0 .0), p .0 .0 .1 .small (l .loop .k)), p .0 .1), l .loop .inv .1)
 
-add-k : tie.Need-add-k Inv-loop μ-loop
-add-k c = omega arith
-
-loop-less : tie.Need-loop-less Inv-loop μ-loop
-loop-less c = omega arith
-
 loop-again : tie.Need-loop-again Inv-loop μ-loop
 loop-again c = (omega arith, c .add-edge .ensures)
 
@@ -38,4 +32,4 @@ returns c = tally-end _ _ (c .before .loop .inv .1) (omega arith) (omega arith)
 pub tally-spec : {M : Type 1} → statement M
 tally-spec =
     tie.close
-    (tie.spec Inv-loop μ-loop loop-holds add-edge-requires add-k loop-less loop-again returns)
+    (tie.spec Inv-loop μ-loop loop-holds add-edge-requires (λ c. omega arith) (λ c. omega arith) loop-again returns)

@@ -20,10 +20,6 @@ pub group-at-spec : {M : Type 1} → statement M
 group-at-spec =
     tie.close
     (tie.spec
-    (λ c. search needs)
-    (λ c. search needs)
-    (λ c. search needs)
-    (λ c. search needs)
-    mul-result-3
+    (λ c. search needs) (λ c. search needs) (λ c. search needs) (λ c. search needs) mul-result-3
     element-copy-out-result-3
     (λ c. search needs))

@@ -86,21 +86,7 @@ pub keep-spec : {M : Type 1} → statement M
 keep-spec =
     tie.close
     (tie.spec
-    Inv-loop
-    μ-loop
-    loop-holds
-    (λ c. omega arith)
-    (λ c. omega arith)
-    wide-k
-    (λ c. omega arith)
-    group-at-requires
-    group-at-requires-2
-    merge-requires
-    (λ c. omega arith)
-    (λ c. omega arith)
-    (λ c. omega arith)
-    (λ c. omega arith)
-    loop-again
-    (λ c. omega arith)
-    loop-again-2
+    Inv-loop μ-loop loop-holds (λ c. omega arith) (λ c. omega arith) wide-k (λ c. omega arith) group-at-requires
+    group-at-requires-2 merge-requires (λ c. omega arith) (λ c. omega arith) (λ c. omega arith) (λ c. omega arith)
+    loop-again (λ c. omega arith) loop-again-2
     returns)

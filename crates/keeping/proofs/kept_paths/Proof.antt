@@ -57,10 +57,5 @@ pub kept-paths-spec : {M : Type 1} → statement M
 kept-paths-spec =
     tie.close
     (tie.spec
-    weigh-requires
-    sort-bridges-requires
-    (λ c. search needs)
-    (λ c κs. search needs)
-    keep-requires
-    measure-requires
+    weigh-requires sort-bridges-requires (λ c. search needs) (λ c κs. search needs) keep-requires measure-requires
     returns)

@@ -65,17 +65,6 @@ pub measure-spec : {M : Type 1} → statement M
 measure-spec =
     tie.close
     (tie.spec
-    Inv-loop
-    μ-loop
-    loop-holds
-    (λ c. omega arith)
-    (λ c. omega arith)
-    mul-d-2
-    element-copy-out-d-2
-    (λ c. omega arith)
-    (λ c. omega arith)
-    add-sum
-    (λ c. omega arith)
-    (λ c. omega arith)
-    loop-again
+    Inv-loop μ-loop loop-holds (λ c. omega arith) (λ c. omega arith) mul-d-2 element-copy-out-d-2 (λ c. omega arith)
+    (λ c. omega arith) add-sum (λ c. omega arith) (λ c. omega arith) loop-again
     returns)

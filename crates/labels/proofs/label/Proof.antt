@@ -19,9 +19,6 @@ Inv-loop pts keys n e s lab₀ k₀ lab k = (k ≤ e) × (lab ≡ upTo (joinedBy
 abbrev μ-loop : tie.MeasureT-loop
 μ-loop pts keys n e s lab₀ k₀ lab k = e - k
 
-number-requires : tie.Need-number-requires Inv-loop μ-loop
-number-requires c κs = omega (arith, c .before .pre)
-
 loop-holds : tie.Need-loop-holds Inv-loop μ-loop
 loop-holds c = (omega arith, up-start _ _)
 
@@ -33,12 +30,6 @@ join-requires c κs = (
     c .before .before .before .before .before .pre .1 .1 .small (c .before .before .loop .k),
   ),
 )
-
-add-k : tie.Need-add-k Inv-loop μ-loop
-add-k c = omega arith
-
-loop-less : tie.Need-loop-less Inv-loop μ-loop
-loop-less c = omega arith
 
 loop-again : tie.Need-loop-again Inv-loop μ-loop
 loop-again c = (omega arith, up-next _ _ _ _ _ (c .before .before .before .loop .inv .1) (c .join .ensures))
@@ -54,12 +45,6 @@ pub label-spec : {M : Type 1} → statement M
 label-spec =
     tie.close
     (tie.spec
-    Inv-loop
-    μ-loop
-    number-requires
-    loop-holds
-    join-requires
-    add-k
-    loop-less
-    loop-again
+    Inv-loop μ-loop (λ c κs. omega (arith, c .before .pre)) loop-holds join-requires (λ c. omega arith)
+    (λ c. omega arith) loop-again
     returns)

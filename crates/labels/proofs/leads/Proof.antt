@@ -11,18 +11,6 @@ use Rattle.labels.specs.Labelling.{leads}
 use Rattle.labels.proofs.leads.Statement.{statement}
 use Rattle.labels.proofs.leads.Tie as tie
 
-first-end-requires : tie.Need-first-end-requires
-first-end-requires c κs = search needs
-
-is-level-requires : tie.Need-is-level-requires
-is-level-requires c κs = search needs
-
-mul-result : tie.Need-mul-result
-mul-result c = search needs
-
-element-copy-out-result : tie.Need-element-copy-out-result
-element-copy-out-result c = search needs
-
 returns : tie.Need-returns
 unfolding leads
 returns c =
@@ -32,4 +20,4 @@ returns c =
 pub leads-spec : {M : Type 1} → statement M
 leads-spec =
     tie.close
-    (tie.spec first-end-requires is-level-requires mul-result element-copy-out-result returns)
+    (tie.spec (λ c κs. search needs) (λ c κs. search needs) (λ c. search needs) (λ c. search needs) returns)

@@ -22,26 +22,8 @@ abbrev μ-loop : tie.MeasureT-loop
 loop-holds : tie.Need-loop-holds Inv-loop μ-loop
 loop-holds c = (omega arith, up-start _ _)
 
-mul-changed : tie.Need-mul-changed Inv-loop μ-loop
-mul-changed c = omega arith
-
-element-copy-out-changed : tie.Need-element-copy-out-changed Inv-loop μ-loop
-element-copy-out-changed c = omega arith
-
 changed-requires : tie.Need-changed-requires Inv-loop μ-loop
 changed-requires c κs = tt
-
-mul-lab : tie.Need-mul-lab Inv-loop μ-loop
-mul-lab c = omega arith
-
-element-write-lab : tie.Need-element-write-lab Inv-loop μ-loop
-element-write-lab c = omega arith
-
-add-i : tie.Need-add-i Inv-loop μ-loop
-add-i c = omega arith
-
-loop-less : tie.Need-loop-less Inv-loop μ-loop
-loop-less c = omega arith
 
 loop-again : tie.Need-loop-again Inv-loop μ-loop
 loop-again c = (
@@ -57,15 +39,6 @@ pub merge-spec : {M : Type 1} → statement M
 merge-spec =
     tie.close
     (tie.spec
-    Inv-loop
-    μ-loop
-    loop-holds
-    mul-changed
-    element-copy-out-changed
-    changed-requires
-    mul-lab
-    element-write-lab
-    add-i
-    loop-less
-    loop-again
+    Inv-loop μ-loop loop-holds (λ c. omega arith) (λ c. omega arith) changed-requires (λ c. omega arith)
+    (λ c. omega arith) (λ c. omega arith) (λ c. omega arith) loop-again
     returns)

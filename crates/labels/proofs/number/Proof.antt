@@ -18,18 +18,6 @@ abbrev μ-loop : tie.MeasureT-loop
 loop-holds : tie.Need-loop-holds Inv-loop μ-loop
 loop-holds c = (omega arith, up-start _ _)
 
-mul-lab : tie.Need-mul-lab Inv-loop μ-loop
-mul-lab c = omega arith
-
-element-write-lab : tie.Need-element-write-lab Inv-loop μ-loop
-element-write-lab c = omega arith
-
-add-i : tie.Need-add-i Inv-loop μ-loop
-add-i c = omega arith
-
-loop-less : tie.Need-loop-less Inv-loop μ-loop
-loop-less c = omega arith
-
 loop-again : tie.Need-loop-again Inv-loop μ-loop
 loop-again c = (omega arith, up-next _ _ _ _ _ (c .before .loop .inv .1) refl)
 
@@ -40,12 +28,5 @@ pub number-spec : {M : Type 1} → statement M
 number-spec =
     tie.close
     (tie.spec
-    Inv-loop
-    μ-loop
-    loop-holds
-    mul-lab
-    element-write-lab
-    add-i
-    loop-less
-    loop-again
+    Inv-loop μ-loop loop-holds (λ c. omega arith) (λ c. omega arith) (λ c. omega arith) (λ c. omega arith) loop-again
     returns)

@@ -5,17 +5,11 @@ use borrow.Author.Needs.{needs}
 use Rattle.labels.proofs.unite.Statement.{statement}
 use Rattle.labels.proofs.unite.Tie as tie
 
-merge-requires : tie.Need-merge-requires
-merge-requires c κs = search needs
-
 returns : tie.Need-returns
 returns c = unite-less _ _ _ _ _ (c .before .before .if1 .taken) (c .merge .ensures)
-
-merge-requires-2 : tie.Need-merge-requires-2
-merge-requires-2 c κs = search needs
 
 returns-2 : tie.Need-returns-2
 returns-2 c = unite-more _ _ _ _ _ (c .before .before .if1 .left) (c .merge2 .ensures)
 
 pub unite-spec : {M : Type 1} → statement M
-unite-spec = tie.close (tie.spec merge-requires returns merge-requires-2 returns-2)
+unite-spec = tie.close (tie.spec (λ c κs. search needs) returns (λ c κs. search needs) returns-2)

@@ -63,17 +63,7 @@ pub give-spec : {M : Type 1} → statement M
 give-spec =
     tie.close
     (tie.spec
-    Inv-loop
-    μ-loop
-    loop-holds
-    (λ c. omega arith)
-    (λ c κs. omega arith)
-    (λ c. omega arith)
-    (λ c. omega arith)
-    (λ c κs. omega arith)
-    (λ c κs. omega (arith, c .before .before .before .before .loop .inv .0 .1))
-    (λ c. omega arith)
-    (λ c. omega arith)
-    loop-again
-    same-length
+    Inv-loop μ-loop loop-holds (λ c. omega arith) (λ c κs. omega arith) (λ c. omega arith) (λ c. omega arith)
+    (λ c κs. omega arith) (λ c κs. omega (arith, c .before .before .before .before .loop .inv .0 .1)) (λ c. omega arith)
+    (λ c. omega arith) loop-again same-length
     returns)

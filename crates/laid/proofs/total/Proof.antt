@@ -47,17 +47,9 @@ pub total-spec : {M : Type 1} → statement M
 total-spec =
     tie.close
     (tie.spec
-    Inv-loop
-    μ-loop
-    loop-holds
-    (λ c. omega arith)
-    (λ c κs. omega arith)
-    (λ c. omega arith)
-    (λ c. omega arith)
+    Inv-loop μ-loop loop-holds (λ c. omega arith) (λ c κs. omega arith) (λ c. omega arith) (λ c. omega arith)
     (λ c κs. omega arith)
     (λ c κs. tt)
-    (λ c. omega (arith, c .cost .ensures .1, c .before .before .before .before .loop .inv .0 .1))
-    (λ c. omega arith)
-    (λ c. omega arith)
-    loop-again
+    (λ c. omega (arith, c .cost .ensures .1, c .before .before .before .before .loop .inv .0 .1)) (λ c. omega arith)
+    (λ c. omega arith) loop-again
     returns)

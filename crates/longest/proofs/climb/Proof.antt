@@ -28,9 +28,6 @@ mul-row c = omega (arith, c .pre .0 .low (c .args .x) (c .pre .1 .0))
 element-write-row : tie.Need-element-write-row Inv-loop μ-loop
 element-write-row c = omega (arith, c .pre .0 .low (c .args .x) (c .pre .1 .0))
 
-sub-l : tie.Need-sub-l Inv-loop μ-loop
-sub-l c = omega arith
-
 loop-holds : tie.Need-loop-holds Inv-loop μ-loop
 loop-holds c =
     let room = c .pre .1 .1 in
@@ -119,22 +116,7 @@ pub climb-spec : {M : Type 1} → statement M
 climb-spec =
     tie.close
     (tie.spec
-    Inv-loop
-    μ-loop
-    mul-row
-    element-write-row
-    sub-l
-    loop-holds
-    mul-if1
-    element-copy-out-if1
-    mul-longer
-    element-copy-out-longer
-    longer-requires
-    mul-v
-    element-copy-out-v
-    narrow-requires
-    mul-row-2
-    element-write-row-2
-    loop-less
-    loop-again
+    Inv-loop μ-loop mul-row element-write-row (λ c. omega arith) loop-holds mul-if1 element-copy-out-if1 mul-longer
+    element-copy-out-longer longer-requires mul-v element-copy-out-v narrow-requires mul-row-2 element-write-row-2
+    loop-less loop-again
     returns)

@@ -26,18 +26,6 @@ loop-holds c = (omega arith, (turns-none _ _ _, c .pre .1))
 edge-cost-requires : tie.Need-edge-cost-requires Inv-loop μ-loop
 edge-cost-requires c κs = (omega arith, c .before .before .pre .0 .1)
 
-mul-el : tie.Need-mul-el Inv-loop μ-loop
-mul-el c = omega arith
-
-element-write-el : tie.Need-element-write-el Inv-loop μ-loop
-element-write-el c = omega arith
-
-add-k : tie.Need-add-k Inv-loop μ-loop
-add-k c = omega arith
-
-loop-less : tie.Need-loop-less Inv-loop μ-loop
-loop-less c = omega arith
-
 loop-again : tie.Need-loop-again Inv-loop μ-loop
 loop-again c =
     let l = c .before .before .before in (
@@ -47,9 +35,6 @@ loop-again c =
         low-raised _ _ _ _ _ (omega (arith, c .if1 .taken)) (omega arith) (l .loop .inv .1 .1),
       ),
     )
-
-loop-less-2 : tie.Need-loop-less-2 Inv-loop μ-loop
-loop-less-2 c = omega arith
 
 loop-again-2 : tie.Need-loop-again-2 Inv-loop μ-loop
 loop-again-2 c =
@@ -68,15 +53,6 @@ pub costs-spec : {M : Type 1} → statement M
 costs-spec =
     tie.close
     (tie.spec
-    Inv-loop
-    μ-loop
-    loop-holds
-    edge-cost-requires
-    mul-el
-    element-write-el
-    add-k
-    loop-less
-    loop-again
-    loop-less-2
-    loop-again-2
+    Inv-loop μ-loop loop-holds edge-cost-requires (λ c. omega arith) (λ c. omega arith) (λ c. omega arith)
+    (λ c. omega arith) loop-again (λ c. omega arith) loop-again-2
     returns)

@@ -7,20 +7,8 @@ use borrow.Author.Needs.{needs}
 use Rattle.longest.proofs.edge_cost.Statement.{statement}
 use Rattle.longest.proofs.edge_cost.Tie as tie
 
-mul-q : tie.Need-mul-q
-mul-q c = search needs
-
-element-copy-out-q : tie.Need-element-copy-out-q
-element-copy-out-q c = search needs
-
 point-at-requires : tie.Need-point-at-requires
 point-at-requires c κs = omega (arith, c .before .pre .1 .small (c .before .args .k))
-
-point-at-requires-2 : tie.Need-point-at-requires-2
-point-at-requires-2 c κs = search needs
-
-cost-requires : tie.Need-cost-requires
-cost-requires c κs = search needs
 
 returns : tie.Need-returns
 returns c = (
@@ -32,9 +20,5 @@ pub edge-cost-spec : {M : Type 1} → statement M
 edge-cost-spec =
     tie.close
     (tie.spec
-    mul-q
-    element-copy-out-q
-    point-at-requires
-    point-at-requires-2
-    cost-requires
+    (λ c. search needs) (λ c. search needs) point-at-requires (λ c κs. search needs) (λ c κs. search needs)
     returns)

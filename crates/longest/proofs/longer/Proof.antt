@@ -7,9 +7,6 @@ use Rattle.longest.proofs.LongestLaws.{longer-yes, longer-no}
 use Rattle.longest.proofs.longer.Statement.{statement}
 use Rattle.longest.proofs.longer.Tie as tie
 
-wins-requires : tie.Need-wins-requires
-wins-requires c κs = search needs
-
 returns : tie.Need-returns
 returns c = (longer-yes _ _ _ (sym (c .before .wins .ensures) ∙ c .if1 .taken), omega arith)
 
@@ -17,4 +14,4 @@ returns-2 : tie.Need-returns-2
 returns-2 c = (longer-no _ _ _ (sym (c .before .wins .ensures) ∙ c .if1 .left), omega arith)
 
 pub longer-spec : {M : Type 1} → statement M
-longer-spec = tie.close (tie.spec wins-requires returns returns-2)
+longer-spec = tie.close (tie.spec (λ c κs. search needs) returns returns-2)

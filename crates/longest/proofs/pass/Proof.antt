@@ -23,23 +23,11 @@ abbrev μ-loop : tie.MeasureT-loop
 loop-holds : tie.Need-loop-holds Inv-loop μ-loop
 loop-holds c = (omega arith, ((omega arith, omega arith), λ el n r few w h. going-start _ _ _ _ _ _ _ h))
 
-mul-q : tie.Need-mul-q Inv-loop μ-loop
-mul-q c = omega arith
-
-element-copy-out-q : tie.Need-element-copy-out-q Inv-loop μ-loop
-element-copy-out-q c = omega arith
-
 attach-requires : tie.Need-attach-requires Inv-loop μ-loop
 attach-requires c κs =
     let l = c .before .before .before .before .before in
     let q = l .before .pre .0 .1 .small (l .loop .k) in
     (((omega (arith, q)), (omega (arith, q))), omega arith)
-
-add-k : tie.Need-add-k Inv-loop μ-loop
-add-k c = omega arith
-
-loop-less : tie.Need-loop-less Inv-loop μ-loop
-loop-less c = omega arith
 
 loop-again : tie.Need-loop-again Inv-loop μ-loop
 loop-again c =
@@ -68,13 +56,6 @@ pub pass-spec : {M : Type 1} → statement M
 pass-spec =
     tie.close
     (tie.spec
-    Inv-loop
-    μ-loop
-    loop-holds
-    mul-q
-    element-copy-out-q
-    attach-requires
-    add-k
-    loop-less
-    loop-again
+    Inv-loop μ-loop loop-holds (λ c. omega arith) (λ c. omega arith) attach-requires (λ c. omega arith)
+    (λ c. omega arith) loop-again
     returns)

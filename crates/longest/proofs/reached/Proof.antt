@@ -35,12 +35,6 @@ returns c =
     let m = c .before .pass .ensures .1 el n _ few w (g .hung) in
     passing-still _ _ _ _ _ _ _ _ _ _ g (c .if1 .taken) (m .0) (m .1)
 
-add-i : tie.Need-add-i Inv-loop μ-loop
-add-i c = omega arith
-
-loop-less : tie.Need-loop-less Inv-loop μ-loop
-loop-less c = omega arith
-
 loop-again : tie.Need-loop-again Inv-loop μ-loop
 loop-again c =
     let l = c .before .before .before .before .before .before in
@@ -62,12 +56,5 @@ pub reached-spec : {M : Type 1} → statement M
 reached-spec =
     tie.close
     (tie.spec
-    Inv-loop
-    μ-loop
-    loop-holds
-    pass-requires
-    returns
-    add-i
-    loop-less
-    loop-again
+    Inv-loop μ-loop loop-holds pass-requires returns (λ c. omega arith) (λ c. omega arith) loop-again
     returns-2)

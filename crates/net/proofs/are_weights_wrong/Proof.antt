@@ -1,11 +1,11 @@
 -- `net::are_weights_wrong` meets its contract: each weight is tested as the definition says.
 -- Assumes nothing.
 use borrow.Author.Needs.{needs}
-use mathlib.Core.Path.{_≡_, ap₂, _∙_}
-use mathlib.Core.Bool.{Bool, _||_}
+use mathlib.Core.Path.{ap₂}
+use mathlib.Core.Bool.{_||_}
 use mir.Syntax.{w32}
 use mir.ValLaws.{toZ-ofZ}
-use Rattle.net.specs.Check.{noWeight, weightsWrong}
+use Rattle.net.specs.Tests.{weightsWrong}
 use Rattle.net.proofs.WeighingFits.{WeighingFits}
 use Rattle.net.proofs.are_weights_wrong.Statement.{statement}
 use Rattle.net.proofs.are_weights_wrong.Tie as tie

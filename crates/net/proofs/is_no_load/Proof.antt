@@ -3,7 +3,7 @@
 use mathlib.Core.Path.{refl}
 use mir.Syntax.{w32}
 use mir.ValLaws.{toZ-ofZ}
-use Rattle.net.specs.Check.{noLoad}
+use Rattle.net.specs.Tests.{noLoad}
 use Rattle.net.proofs.is_no_load.Statement.{statement}
 use Rattle.net.proofs.is_no_load.Tie as tie
 

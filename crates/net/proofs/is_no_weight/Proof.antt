@@ -3,7 +3,7 @@
 use mathlib.Core.Path.{refl}
 use mir.Syntax.{w32}
 use mir.ValLaws.{toZ-ofZ}
-use Rattle.net.specs.Check.{noWeight}
+use Rattle.net.specs.Tests.{noWeight}
 use Rattle.net.proofs.is_no_weight.Statement.{statement}
 use Rattle.net.proofs.is_no_weight.Tie as tie
 

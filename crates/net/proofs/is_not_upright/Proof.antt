@@ -5,7 +5,7 @@ use mathlib.Core.Path.{refl}
 use mir.Syntax.{w32}
 use mir.ValLaws.{toZ-ofZ}
 use Rattle.plane.proofs.Fits.{MacroFits}
-use Rattle.net.specs.Check.{notUpright}
+use Rattle.net.specs.Tests.{notUpright}
 use Rattle.net.proofs.is_not_upright.Statement.{statement}
 use Rattle.net.proofs.is_not_upright.Tie as tie
 

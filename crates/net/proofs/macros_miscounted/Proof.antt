@@ -1,7 +1,7 @@
 -- `net::macros_miscounted` meets its contract: its tests are those of the definition.
 -- Assumes nothing.
 use mathlib.Core.Path.{refl}
-use Rattle.net.specs.Check.{macrosMiscountedWithin}
+use Rattle.net.specs.Tests.{macrosMiscountedWithin}
 use Rattle.net.proofs.macros_miscounted.Statement.{statement}
 use Rattle.net.proofs.macros_miscounted.Tie as tie
 

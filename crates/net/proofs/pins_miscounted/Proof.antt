@@ -1,7 +1,7 @@
 -- `net::pins_miscounted` meets its contract: its tests are those of the definition.
 -- Assumes nothing.
 use mathlib.Core.Path.{refl}
-use Rattle.net.specs.Check.{pinsMiscountedWithin}
+use Rattle.net.specs.Tests.{pinsMiscountedWithin}
 use Rattle.net.proofs.pins_miscounted.Statement.{statement}
 use Rattle.net.proofs.pins_miscounted.Tie as tie
 

@@ -35,14 +35,6 @@ pub put-bare-pin-spec : {M : Type 1} → statement M
 put-bare-pin-spec =
     tie.close
     (tie.spec
-    (λ c. search needs)
-    (λ c. search needs)
-    (λ c. search needs)
-    (λ c. search needs)
-    (λ c. search needs)
-    slice-set-from-y
-    (λ c. search needs)
-    (λ c. search needs)
-    slice-set-of-pins
-    (λ c. search needs)
+    (λ c. search needs) (λ c. search needs) (λ c. search needs) (λ c. search needs) (λ c. search needs) slice-set-from-y
+    (λ c. search needs) (λ c. search needs) slice-set-of-pins (λ c. search needs)
     returns)

@@ -1,14 +1,14 @@
 -- `net::weights_of` meets its contract: each of the two is a weight.
 -- Assumes nothing.
 use borrow.Author.Needs.{needs}
-use mathlib.Core.Path.{_≡_, ap₂, _∙_}
+use mathlib.Core.Path.{_≡_, ap₂}
 use mathlib.Core.Bool.{false}
 use Prim.Native.Nat.{ℕ}
 use mir.Syntax.{w32}
 use mir.ValLaws.{toZ-ofZ}
 use Rattle.lists.proofs.TestLaws.{or-none}
 use Rattle.plane.specs.declared.Weights.{Weights}
-use Rattle.net.specs.Check.{noWeight, weightsWrong}
+use Rattle.net.specs.Tests.{noWeight, weightsWrong}
 use Rattle.net.proofs.WeighingFits.{WeighingFits}
 use Rattle.net.proofs.weights_of.Statement.{statement}
 use Rattle.net.proofs.weights_of.Tie as tie

@@ -110,18 +110,7 @@ pub check-file-spec : {M : Type 1} → statement M
 check-file-spec =
     tie.close
     (tie.spec
-    weights-in-requires
-    (λ c κs. search needs)
-    (λ c. search needs)
-    (λ c κs. search needs)
-    (λ c. search needs)
-    (λ c. search needs)
-    take-lists-requires
-    (λ c. search needs)
-    (λ c. search needs)
-    part-check-lists-end
-    (λ c. search needs)
-    (λ c. search needs)
-    part-check-lists-end-2
-    check-lists-requires
+    weights-in-requires (λ c κs. search needs) (λ c. search needs) (λ c κs. search needs) (λ c. search needs)
+    (λ c. search needs) take-lists-requires (λ c. search needs) (λ c. search needs) part-check-lists-end
+    (λ c. search needs) (λ c. search needs) part-check-lists-end-2 check-lists-requires
     returns)

@@ -5,7 +5,7 @@ use denote.Ref.{now}
 use Rattle.net.specs.declared.Weighing.{Weighing}
 use Rattle.net.specs.Bounds.{today}
 use Rattle.net.specs.Answer.{number}
-use Rattle.net.specs.Check.{checked, told}
+use Rattle.checks.specs.Check.{checked, told}
 use Rattle.netfile.proofs.AnswerLaws.{laid-out, laid-wrong}
 use borrow.Author.Needs.{needs}
 use Rattle.netfile.proofs.check_lists.Statement.{statement}

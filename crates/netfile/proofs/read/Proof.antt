@@ -14,7 +14,7 @@ use Rattle.lent.specs.Over.{after}
 use Rattle.net.specs.declared.Net.{Net as Counts}
 use Rattle.net.specs.Bounds.{today}
 use Rattle.net.specs.Answer.{number}
-use Rattle.net.specs.Check.{told}
+use Rattle.checks.specs.Check.{told}
 use Rattle.decoded.specs.Held.{blocksMiscounted, sumsWrong, headWrong, pinsIn, macrosIn}
 use Rattle.netfile.specs.Read.{roomShort, readFile}
 use Rattle.decoded.proofs.HeldLaws.{blocks-counted, head-right, sized-by-head}
@@ -133,23 +133,8 @@ pub read-spec : {M : Type 1} → statement M
 read-spec =
     tie.close
     (tie.spec
-    (λ c κs. search needs)
-    (λ c. search needs)
-    (λ c. search needs)
-    returns
-    (λ c κs. search needs)
-    (λ c. search needs)
-    (λ c. search needs)
-    returns-2
-    (λ c κs. search needs)
-    (λ c. search needs)
-    (λ c. search needs)
-    returns-3
-    head-wrong-requires
-    (λ c. search needs)
-    (λ c. search needs)
-    returns-4
-    read-counted-requires
-    (λ c. search needs)
+    (λ c κs. search needs) (λ c. search needs) (λ c. search needs) returns (λ c κs. search needs) (λ c. search needs)
+    (λ c. search needs) returns-2 (λ c κs. search needs) (λ c. search needs) (λ c. search needs) returns-3
+    head-wrong-requires (λ c. search needs) (λ c. search needs) returns-4 read-counted-requires (λ c. search needs)
     (λ c. search needs)
     returns-5)

@@ -6,7 +6,7 @@ use denote.Ref.{now}
 use Rattle.lent.specs.Told.{Told, given}
 use Rattle.lent.proofs.AfterLaws.{after-given}
 use Rattle.net.specs.declared.Net.{Net as Counts}
-use Rattle.net.specs.Check.{told}
+use Rattle.checks.specs.Check.{told}
 use Rattle.decoded.specs.Held.{pinsIn, macrosIn}
 use Rattle.netfile.specs.Read.{answerIn}
 use Rattle.netfile.proofs.AnswerLaws.{lists-fit, unaltered}
@@ -57,11 +57,6 @@ pub read-counted-spec : {M : Type 1} → statement M
 read-counted-spec =
     tie.close
     (tie.spec
-    (λ c κs. search needs)
-    (λ c. search needs)
-    take-lists-requires
-    (λ c. search needs)
-    (λ c. search needs)
-    (λ c. search needs)
-    returns
+    (λ c κs. search needs) (λ c. search needs) take-lists-requires (λ c. search needs) (λ c. search needs)
+    (λ c. search needs) returns
     returns-2)

@@ -12,8 +12,8 @@ use Rattle.lent.proofs.AfterLaws.{after-refused}
 use Rattle.plane.specs.declared.Weights.{Weights}
 use Rattle.net.specs.declared.Net.{Net as Counts}
 use Rattle.net.specs.Net.{weightsOf}
-use Rattle.net.specs.Check.{checked, told}
-use Rattle.net.proofs.AllowedLaws.{given-counts}
+use Rattle.checks.specs.Check.{checked, told}
+use Rattle.checks.proofs.GivenLaws.{given-counts}
 use Rattle.encoded.specs.Layout.{fileBytes}
 use Rattle.netfile.specs.Write.{fitted, toldBytes}
 use Rattle.netfile.proofs.WriteLaws.{written-refused, written-allowed, allowed-blocks}
@@ -84,10 +84,5 @@ pub write-spec : {M : Type 1} → statement M
 write-spec =
     tie.close
     (tie.spec
-    (λ c κs. search needs)
-    (λ c. search needs)
-    write-checked-requires
-    (λ c. search needs)
-    (λ c. search needs)
-    returns
+    (λ c κs. search needs) (λ c. search needs) write-checked-requires (λ c. search needs) (λ c. search needs) returns
     returns-2)

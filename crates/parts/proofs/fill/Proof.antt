@@ -51,12 +51,5 @@ pub fill-spec : {M : Type 1} → statement M
 fill-spec =
     tie.close
     (tie.spec
-    Inv-loop
-    μ-loop
-    loop-holds
-    fill-row-requires
-    (λ c. omega arith)
-    (λ c. omega arith)
-    loop-again
-    same-length
+    Inv-loop μ-loop loop-holds fill-row-requires (λ c. omega arith) (λ c. omega arith) loop-again same-length
     returns)

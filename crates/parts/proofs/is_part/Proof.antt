@@ -13,17 +13,8 @@ Inv-loop m p s i₀ a₀ b₀ i a b = partOf m p s ≡ partOf i a b
 abbrev μ-loop : tie.MeasureT-loop
 μ-loop m p s i₀ a₀ b₀ i a b = i
 
-loop-holds : tie.Need-loop-holds Inv-loop μ-loop
-loop-holds c = refl
-
 returns : tie.Need-returns Inv-loop μ-loop
 returns c = sym (c .before .before .loop .inv ∙ part-stop _ _ _ (c .before .loop-test .taken) (c .if1 .taken))
-
-sub-i : tie.Need-sub-i Inv-loop μ-loop
-sub-i c = omega arith
-
-loop-less : tie.Need-loop-less Inv-loop μ-loop
-loop-less c = omega arith
 
 loop-again : tie.Need-loop-again Inv-loop μ-loop
 loop-again c = c .before .before .loop .inv ∙ part-pass _ _ _ (c .before .loop-test .taken) (c .if1 .left)
@@ -33,4 +24,4 @@ returns-2 c = sym (c .before .loop .inv ∙ part-end _ _ _ (c .loop-test .left))
 
 pub is-part-spec : {M : Type 1} → statement M
 is-part-spec =
-    tie.close (tie.spec Inv-loop μ-loop loop-holds returns sub-i loop-less loop-again returns-2)
+    tie.close (tie.spec Inv-loop μ-loop (λ c. refl) returns (λ c. omega arith) (λ c. omega arith) loop-again returns-2)

@@ -26,12 +26,6 @@ tried-requires c κs =
     let s = l .before .before in
     ((s .pre .0, (s .pre .1 .0 .1, s .pre .1 .1)), (l .loop .inv .0 .0, c .loop-test .taken))
 
-add-p : tie.Need-add-p Inv-loop μ-loop
-add-p c = omega arith
-
-loop-less : tie.Need-loop-less Inv-loop μ-loop
-loop-less c = omega arith
-
 loop-again : tie.Need-loop-again Inv-loop μ-loop
 loop-again c =
     let l = c .before .before in
@@ -46,4 +40,4 @@ returns c =
 pub start-at-spec : {M : Type 1} → statement M
 start-at-spec =
     tie.close
-    (tie.spec Inv-loop μ-loop loop-holds tried-requires add-p loop-less loop-again returns)
+    (tie.spec Inv-loop μ-loop loop-holds tried-requires (λ c. omega arith) (λ c. omega arith) loop-again returns)

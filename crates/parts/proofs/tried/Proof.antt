@@ -8,14 +8,8 @@ use borrow.Author.Needs.{needs}
 use Rattle.parts.proofs.tried.Statement.{statement}
 use Rattle.parts.proofs.tried.Tie as tie
 
-is-part-requires : tie.Need-is-part-requires
-is-part-requires c κs = search needs
-
 returns : tie.Need-returns
 returns c = sym (try-none _ _ _ _ _ _ (sym (c .before .is-part .ensures) ∙ not-true _ (c .if1 .taken)))
-
-sub-sum-at : tie.Need-sub-sum-at
-sub-sum-at c = search needs
 
 sum-at-requires : tie.Need-sum-at-requires
 sum-at-requires c κs =
@@ -41,4 +35,4 @@ returns-3 c =
 
 pub tried-spec : {M : Type 1} → statement M
 tried-spec =
-    tie.close (tie.spec is-part-requires returns sub-sum-at sum-at-requires returns-2 returns-3)
+    tie.close (tie.spec (λ c κs. search needs) returns (λ c. search needs) sum-at-requires returns-2 returns-3)

@@ -11,11 +11,8 @@ use Rattle.plane.proofs.axis_cost.Tie as tie
 small : (s : tie.Start) → s .args .gap * s .args .weight < 2 ^ 40
 small s = product-fits _ _ (s .pre) (search needs)
 
-mul-result : tie.Need-mul-result
-mul-result c = omega (arith, small c)
-
 returns : tie.Need-returns
 returns c = (refl, small c)
 
 pub axis-cost-spec : {M : Type 1} → statement M
-axis-cost-spec = tie.close (tie.spec mul-result returns)
+axis-cost-spec = tie.close (tie.spec (λ c. omega (arith, small c)) returns)

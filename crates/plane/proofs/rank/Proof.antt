@@ -24,21 +24,6 @@ abbrev μ-loop : tie.MeasureT-loop
 loop-holds : tie.Need-loop-holds Inv-loop μ-loop
 loop-holds c = ((omega arith, omega arith), (λ u h. absurd (let z : ⊥ = omega (arith, h) in z), λ u h k. absurd (let z : ⊥ = omega (arith, h, k) in z)))
 
-sub-mid : tie.Need-sub-mid Inv-loop μ-loop
-sub-mid c = omega arith
-
-add-mid : tie.Need-add-mid Inv-loop μ-loop
-add-mid c = omega arith
-
-place-at-requires : tie.Need-place-at-requires Inv-loop μ-loop
-place-at-requires c κs = omega arith
-
-add-low : tie.Need-add-low Inv-loop μ-loop
-add-low c = omega arith
-
-loop-less : tie.Need-loop-less Inv-loop μ-loop
-loop-less c = omega arith
-
 -- what the test says of the place in the middle
 asked : (d : tie.After-is-before Inv-loop μ-loop) → let l = d .before .before .before in
     before (placeAt (now (l .before .args .places)) (l .loop .low + (l .loop .high - l .loop .low) / 2)) (l .before .args .p)
@@ -60,9 +45,6 @@ loop-again c =
         i .1 .1,
       ),
     )
-
-loop-less-2 : tie.Need-loop-less-2 Inv-loop μ-loop
-loop-less-2 c = omega arith
 
 loop-again-2 : tie.Need-loop-again-2 Inv-loop μ-loop
 loop-again-2 c =
@@ -88,5 +70,5 @@ returns c =
 pub rank-spec : {M : Type 1} → statement M
 rank-spec =
     tie.close
-    (tie.spec Inv-loop μ-loop loop-holds sub-mid add-mid place-at-requires (λ c κs. tt) add-low loop-less loop-again loop-less-2 loop-again-2
+    (tie.spec Inv-loop μ-loop loop-holds (λ c. omega arith) (λ c. omega arith) (λ c κs. omega arith) (λ c κs. tt) (λ c. omega arith) (λ c. omega arith) loop-again (λ c. omega arith) loop-again-2
     returns)

@@ -11,11 +11,12 @@ use denote.Ref.{now}
 use Rattle.lists.specs.Any.{any}
 use Rattle.lent.specs.Told.{given}
 use Rattle.net.specs.Answer.{number}
-use Rattle.price.specs.declared.Band.{Band}
-use Rattle.price.specs.Band.{bandsOf, bandAt}
+use Rattle.bands.specs.declared.Band.{Band}
+use Rattle.bands.specs.Band.{bandsOf, bandAt}
+use Rattle.bands.specs.Tests.{rateAbove}
 use Rattle.price.specs.Charge.{charge, reaches, byFirst}
-use Rattle.price.specs.Price.{rateAbove, toldPrice}
-use Rattle.price.proofs.BandLaws.{bands-next, bands-end}
+use Rattle.price.specs.Price.{toldPrice}
+use Rattle.bands.proofs.BandLaws.{bands-next, bands-end}
 use Rattle.price.proofs.FirstLaws.{first-hit, first-miss, first-end}
 use Rattle.price.proofs.PriceLaws.{rate-low, rest-low}
 use Rattle.price.proofs.by_first.Statement.{statement}
@@ -86,14 +87,7 @@ pub by-first-spec : {M : Type 1} → statement M
 by-first-spec =
     tie.close
     (tie.spec
-    Inv-loop
-    μ-loop
-    loop-holds
-    (λ c κs. omega arith)
+    Inv-loop μ-loop loop-holds (λ c κs. omega arith)
     (λ c κs. tt)
-    charge-requires
-    returns
-    (λ c. omega arith)
-    (λ c. omega arith)
-    loop-again
+    charge-requires returns (λ c. omega arith) (λ c. omega arith) loop-again
     returns-2)

@@ -7,8 +7,9 @@ use mathlib.Core.Bool.{false}
 use denote.Ref.{now}
 use Rattle.lists.specs.Any.{any}
 use Rattle.net.specs.Answer.{number}
-use Rattle.price.specs.Band.{bandsOf}
-use Rattle.price.specs.Price.{bandsMiscounted, rateAbove, toldPrice}
+use Rattle.bands.specs.Band.{bandsOf}
+use Rattle.bands.specs.Tests.{bandsMiscounted, rateAbove}
+use Rattle.price.specs.Price.{toldPrice}
 use Rattle.price.proofs.PriceLaws.{Passed, price-miscounted, price-above, price-back, price-first}
 use Rattle.price.proofs.price.Statement.{statement}
 use Rattle.price.proofs.price.Tie as tie
@@ -51,11 +52,5 @@ pub price-spec : {M : Type 1} → statement M
 price-spec =
     tie.close
     (tie.spec
-    (λ c κs. search needs)
-    returns
-    (λ c κs. search needs)
-    returns-2
-    (λ c κs. search needs)
-    returns-3
-    by-first-requires
+    (λ c κs. search needs) returns (λ c κs. search needs) returns-2 (λ c κs. search needs) returns-3 by-first-requires
     returns-4)

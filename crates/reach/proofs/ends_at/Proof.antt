@@ -5,21 +5,9 @@ use borrow.Author.Needs.{needs}
 use Rattle.reach.proofs.ends_at.Statement.{statement}
 use Rattle.reach.proofs.ends_at.Tie as tie
 
-is-ahead-requires : tie.Need-is-ahead-requires
-is-ahead-requires c κs = search needs
-
-long-requires : tie.Need-long-requires
-long-requires c κs = search needs
-
-is-same-requires : tie.Need-is-same-requires
-is-same-requires c κs = search needs
-
 returns : tie.Need-returns
 returns c = ends-first _ _ _ _ _ (c .before .before .before .before .is-ahead .ensures) (c .before .before .before .long .ensures)
     (c .before .before .if1 .taken) (c .before .if2 .taken) _ (c .is-same .ensures)
-
-is-same-requires-2 : tie.Need-is-same-requires-2
-is-same-requires-2 c κs = search needs
 
 returns-2 : tie.Need-returns-2
 returns-2 c = ends-second _ _ _ _ _ (c .before .before .before .before .is-ahead .ensures) (c .before .before .before .long .ensures)
@@ -32,10 +20,5 @@ pub ends-at-spec : {M : Type 1} → statement M
 ends-at-spec =
     tie.close
     (tie.spec
-    is-ahead-requires
-    long-requires
-    is-same-requires
-    returns
-    is-same-requires-2
-    returns-2
+    (λ c κs. search needs) (λ c κs. search needs) (λ c κs. search needs) returns (λ c κs. search needs) returns-2
     returns-3)

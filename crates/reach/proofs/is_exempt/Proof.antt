@@ -10,18 +10,6 @@ use borrow.Author.Needs.{needs}
 use Rattle.reach.proofs.is_exempt.Statement.{statement}
 use Rattle.reach.proofs.is_exempt.Tie as tie
 
-low-corner-requires : tie.Need-low-corner-requires
-low-corner-requires c κs = search needs
-
-high-corner-requires : tie.Need-high-corner-requires
-high-corner-requires c κs = search needs
-
-is-same-requires : tie.Need-is-same-requires
-is-same-requires c κs = search needs
-
-is-far-end-requires : tie.Need-is-far-end-requires
-is-far-end-requires c κs = search needs
-
 returns : tie.Need-returns
 returns c =
     let s = c .before .before .before .before .before .args in
@@ -38,9 +26,5 @@ pub is-exempt-spec : {M : Type 1} → statement M
 is-exempt-spec =
     tie.close
     (tie.spec
-    low-corner-requires
-    high-corner-requires
-    is-same-requires
-    is-far-end-requires
-    returns
+    (λ c κs. search needs) (λ c κs. search needs) (λ c κs. search needs) (λ c κs. search needs) returns
     returns-2)

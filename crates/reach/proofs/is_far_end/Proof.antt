@@ -29,12 +29,6 @@ seen-edge-requires c κs = (omega arith, c .before .before .pre .1 .small (c .be
 ends-at-requires : tie.Need-ends-at-requires Inv-loop μ-loop
 ends-at-requires c κs = tt
 
-add-k : tie.Need-add-k Inv-loop μ-loop
-add-k c = omega arith
-
-loop-less : tie.Need-loop-less Inv-loop μ-loop
-loop-less c = omega arith
-
 loop-again : tie.Need-loop-again Inv-loop μ-loop
 loop-again c =
     let s = c .before .before .before .before .args in (
@@ -52,12 +46,5 @@ pub is-far-end-spec : {M : Type 1} → statement M
 is-far-end-spec =
     tie.close
     (tie.spec
-    Inv-loop
-    μ-loop
-    loop-holds
-    seen-edge-requires
-    ends-at-requires
-    add-k
-    loop-less
-    loop-again
+    Inv-loop μ-loop loop-holds seen-edge-requires ends-at-requires (λ c. omega arith) (λ c. omega arith) loop-again
     returns)

@@ -5,19 +5,10 @@ use borrow.Author.Needs.{needs}
 use Rattle.reach.proofs.is_in_front.Statement.{statement}
 use Rattle.reach.proofs.is_in_front.Tie as tie
 
-smaller-requires : tie.Need-smaller-requires
-smaller-requires c κs = search needs
-
-greater-requires : tie.Need-greater-requires
-greater-requires c κs = search needs
-
-greater-requires-2 : tie.Need-greater-requires-2
-greater-requires-2 c κs = search needs
-
 returns : tie.Need-returns
 returns c = front-is _ _ _ _ _ (c .before .before .before .before .before .smaller .ensures) (c .before .before .before .greater .ensures)
     (c .before .greater2 .ensures)
 
 pub is-in-front-spec : {M : Type 1} → statement M
 is-in-front-spec =
-    tie.close (tie.spec smaller-requires greater-requires greater-requires-2 returns)
+    tie.close (tie.spec (λ c κs. search needs) (λ c κs. search needs) (λ c κs. search needs) returns)

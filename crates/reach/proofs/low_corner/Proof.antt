@@ -9,18 +9,6 @@ use borrow.Author.Needs.{needs}
 use Rattle.reach.proofs.low_corner.Statement.{statement}
 use Rattle.reach.proofs.low_corner.Tie as tie
 
-smaller-requires : tie.Need-smaller-requires
-smaller-requires c κs = search needs
-
-greater-requires : tie.Need-greater-requires
-greater-requires c κs = search needs
-
-smaller-requires-2 : tie.Need-smaller-requires-2
-smaller-requires-2 c κs = search needs
-
-greater-requires-2 : tie.Need-greater-requires-2
-greater-requires-2 c κs = search needs
-
 returns : tie.Need-returns
 returns c =
     let b = c .before .before .before .before .args .bar in
@@ -31,4 +19,4 @@ returns c =
 pub low-corner-spec : {M : Type 1} → statement M
 low-corner-spec =
     tie.close
-    (tie.spec smaller-requires greater-requires smaller-requires-2 greater-requires-2 returns)
+    (tie.spec (λ c κs. search needs) (λ c κs. search needs) (λ c κs. search needs) (λ c κs. search needs) returns)

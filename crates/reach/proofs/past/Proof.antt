@@ -9,26 +9,8 @@ use borrow.Author.Needs.{needs}
 use Rattle.reach.proofs.past.Statement.{statement}
 use Rattle.reach.proofs.past.Tie as tie
 
-is-own-requires : tie.Need-is-own-requires
-is-own-requires c κs = search needs
-
-is-in-front-requires : tie.Need-is-in-front-requires
-is-in-front-requires c κs = search needs
-
 returns : tie.Need-returns
 returns c = past-by _ _ _ _ _ _ _ (c .before .before .is-own .ensures) (c .before .is-in-front .ensures) (c .if1 .taken)
-
-smaller-requires : tie.Need-smaller-requires
-smaller-requires c κs = search needs
-
-beyond-requires : tie.Need-beyond-requires
-beyond-requires c κs = search needs
-
-smaller-requires-2 : tie.Need-smaller-requires-2
-smaller-requires-2 c κs = search needs
-
-is-exempt-requires : tie.Need-is-exempt-requires
-is-exempt-requires c κs = search needs
 
 returns-2 : tie.Need-returns-2
 returns-2 c = past-near _ _ _ _ _ _ _ (c .before .before .before .before .before .before .before .before .before .is-own .ensures)
@@ -49,12 +31,6 @@ pub past-spec : {M : Type 1} → statement M
 past-spec =
     tie.close
     (tie.spec
-    is-own-requires
-    is-in-front-requires
-    returns
-    smaller-requires
-    beyond-requires
-    smaller-requires-2
-    is-exempt-requires
-    returns-2
+    (λ c κs. search needs) (λ c κs. search needs) returns (λ c κs. search needs) (λ c κs. search needs)
+    (λ c κs. search needs) (λ c κs. search needs) returns-2
     returns-3)

@@ -32,12 +32,6 @@ seen-edge-requires c κs = (
 past-requires : tie.Need-past-requires Inv-loop μ-loop
 past-requires c κs = (c .before .before .before .before .pre .0 .1, c .before .before .before .before .pre .1)
 
-add-k : tie.Need-add-k Inv-loop μ-loop
-add-k c = omega (arith, c .before .before .before .before .before .pre, c .before .before .if1 .taken)
-
-loop-less : tie.Need-loop-less Inv-loop μ-loop
-loop-less c = omega arith
-
 loop-again : tie.Need-loop-again Inv-loop μ-loop
 loop-again c =
     let s = c .before .before .before .before .before .args in (
@@ -55,12 +49,7 @@ pub past-edges-spec : {M : Type 1} → statement M
 past-edges-spec =
     tie.close
     (tie.spec
-    Inv-loop
-    μ-loop
-    loop-holds
-    seen-edge-requires
-    past-requires
-    add-k
-    loop-less
-    loop-again
+    Inv-loop μ-loop loop-holds seen-edge-requires past-requires
+    (λ c. omega (arith, c .before .before .before .before .before .pre, c .before .before .if1 .taken))
+    (λ c. omega arith) loop-again
     returns)

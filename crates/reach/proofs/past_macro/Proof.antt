@@ -9,18 +9,6 @@ use borrow.Author.Needs.{needs}
 use Rattle.reach.proofs.past_macro.Statement.{statement}
 use Rattle.reach.proofs.past_macro.Tie as tie
 
-face-of-requires : tie.Need-face-of-requires
-face-of-requires c κs = search needs
-
-add-beyond : tie.Need-add-beyond
-add-beyond c = search needs
-
-beyond-requires : tie.Need-beyond-requires
-beyond-requires c κs = search needs
-
-smaller-requires : tie.Need-smaller-requires
-smaller-requires c κs = search needs
-
 returns : tie.Need-returns
 returns c =
     let s = c .before .before .before .before .before .before .before .before .before .before .before .before .before .args in
@@ -38,4 +26,4 @@ returns-2 c =
 pub past-macro-spec : {M : Type 1} → statement M
 past-macro-spec =
     tie.close
-    (tie.spec face-of-requires add-beyond beyond-requires smaller-requires returns returns-2)
+    (tie.spec (λ c κs. search needs) (λ c. search needs) (λ c κs. search needs) (λ c κs. search needs) returns returns-2)

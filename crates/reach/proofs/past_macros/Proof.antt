@@ -23,17 +23,8 @@ abbrev μ-loop : tie.MeasureT-loop
 loop-holds : tie.Need-loop-holds Inv-loop μ-loop
 loop-holds c = (omega arith, up-start _ _)
 
-macro-at-requires : tie.Need-macro-at-requires Inv-loop μ-loop
-macro-at-requires c κs = omega arith
-
 past-macro-requires : tie.Need-past-macro-requires Inv-loop μ-loop
 past-macro-requires c κs = tt
-
-add-i : tie.Need-add-i Inv-loop μ-loop
-add-i c = omega arith
-
-loop-less : tie.Need-loop-less Inv-loop μ-loop
-loop-less c = omega arith
 
 loop-again : tie.Need-loop-again Inv-loop μ-loop
 loop-again c =
@@ -52,12 +43,6 @@ pub past-macros-spec : {M : Type 1} → statement M
 past-macros-spec =
     tie.close
     (tie.spec
-    Inv-loop
-    μ-loop
-    loop-holds
-    macro-at-requires
-    past-macro-requires
-    add-i
-    loop-less
+    Inv-loop μ-loop loop-holds (λ c κs. omega arith) past-macro-requires (λ c. omega arith) (λ c. omega arith)
     loop-again
     returns)

@@ -23,17 +23,8 @@ abbrev μ-loop : tie.MeasureT-loop
 loop-holds : tie.Need-loop-holds Inv-loop μ-loop
 loop-holds c = (omega arith, up-start _ _)
 
-seen-point-requires : tie.Need-seen-point-requires Inv-loop μ-loop
-seen-point-requires c κs = omega (arith, c .before .before .before .pre, c .if1 .taken)
-
 past-requires : tie.Need-past-requires Inv-loop μ-loop
 past-requires c κs = (c .before .before .before .before .pre .0 .1, c .before .before .before .before .pre .1)
-
-add-i : tie.Need-add-i Inv-loop μ-loop
-add-i c = omega (arith, c .before .before .before .before .before .pre, c .before .before .if1 .taken)
-
-loop-less : tie.Need-loop-less Inv-loop μ-loop
-loop-less c = omega arith
 
 loop-again : tie.Need-loop-again Inv-loop μ-loop
 loop-again c =
@@ -52,12 +43,7 @@ pub past-points-spec : {M : Type 1} → statement M
 past-points-spec =
     tie.close
     (tie.spec
-    Inv-loop
-    μ-loop
-    loop-holds
-    seen-point-requires
-    past-requires
-    add-i
-    loop-less
-    loop-again
+    Inv-loop μ-loop loop-holds (λ c κs. omega (arith, c .before .before .before .pre, c .if1 .taken)) past-requires
+    (λ c. omega (arith, c .before .before .before .before .before .pre, c .before .before .if1 .taken))
+    (λ c. omega arith) loop-again
     returns)

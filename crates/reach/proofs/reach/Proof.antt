@@ -24,20 +24,8 @@ whole c =
     ∙ ap (pastEdges v (s .z .edges) (s .bar))
     (c .before .past-points .ensures ∙ ap (pastPoints v (s .z .points) (s .z .edges) (s .bar)) (c .before .before .past-macros .ensures))
 
-past-macros-requires : tie.Need-past-macros-requires
-past-macros-requires c κs = search needs
-
-past-points-requires : tie.Need-past-points-requires
-past-points-requires c κs = search needs
-
-past-edges-requires : tie.Need-past-edges-requires
-past-edges-requires c κs = search needs
-
 returns : tie.Need-returns
 returns c = reach-free _ _ (c .if1 .taken) ∙ ap (reached (c .before .before .before .before .args .bar)) (whole (c .before))
-
-beyond-requires : tie.Need-beyond-requires
-beyond-requires c κs = search needs
 
 returns-2 : tie.Need-returns-2
 returns-2 c = c .beyond .ensures ∙ reach-stop _ _ (c .before .if1 .left)
@@ -47,9 +35,5 @@ pub reach-spec : {M : Type 1} → statement M
 reach-spec =
     tie.close
     (tie.spec
-    past-macros-requires
-    past-points-requires
-    past-edges-requires
-    returns
-    beyond-requires
+    (λ c κs. search needs) (λ c κs. search needs) (λ c κs. search needs) returns (λ c κs. search needs)
     returns-2)

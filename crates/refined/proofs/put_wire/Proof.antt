@@ -8,23 +8,11 @@ use Rattle.refined.proofs.WireLaws.{drawn-none, drawn-one}
 use Rattle.refined.proofs.put_wire.Statement.{statement}
 use Rattle.refined.proofs.put_wire.Tie as tie
 
-distance-requires : tie.Need-distance-requires
-distance-requires c κs = search needs
-
 returns : tie.Need-returns
 unfolding flat
 returns c =
     let s = c .before .before in
     rw (drawn-none (s .args .a) (s .args .b) (sym (c .before .distance .ensures) ∙ c .if1 .taken)) (omega arith, refl)
-
-put-edge-requires : tie.Need-put-edge-requires
-put-edge-requires c κs = search needs
-
-add-result : tie.Need-add-result
-add-result c = search needs
-
-same-length : tie.Need-same-length
-same-length c = search needs
 
 returns-2 : tie.Need-returns-2
 unfolding flat
@@ -36,4 +24,4 @@ returns-2 c =
 pub put-wire-spec : {M : Type 1} → statement M
 put-wire-spec =
     tie.close
-    (tie.spec distance-requires returns put-edge-requires add-result same-length returns-2)
+    (tie.spec (λ c κs. search needs) returns (λ c κs. search needs) (λ c. search needs) (λ c. search needs) returns-2)

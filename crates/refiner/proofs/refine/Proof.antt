@@ -8,9 +8,6 @@ use borrow.Author.Needs.{needs}
 use Rattle.refiner.proofs.refine.Statement.{statement}
 use Rattle.refiner.proofs.refine.Tie as tie
 
-rounds-requires : tie.Need-rounds-requires
-rounds-requires c κs = search needs
-
 prune-points-requires : tie.Need-prune-points-requires
 prune-points-requires c κs =
     let r = c .before .before .rounds .ensures in
@@ -36,4 +33,4 @@ returns c =
     }
 
 pub refine-spec : {M : Type 1} → statement M
-refine-spec = tie.close (tie.spec rounds-requires prune-points-requires total-requires returns)
+refine-spec = tie.close (tie.spec (λ c κs. search needs) prune-points-requires total-requires returns)

@@ -91,12 +91,6 @@ returns c =
       ),
     )
 
-add-r : tie.Need-add-r Inv-loop μ-loop
-add-r c = omega (arith, c .before .before .before .before .before .loop-test .taken)
-
-loop-less : tie.Need-loop-less Inv-loop μ-loop
-loop-less c = omega (arith, c .before .before .before .before .before .loop-test .taken)
-
 loop-again : tie.Need-loop-again Inv-loop μ-loop
 loop-again c =
     let l = c .before .before .before .before .before .before in
@@ -125,13 +119,7 @@ pub rounds-spec : {M : Type 1} → statement M
 rounds-spec =
     tie.close
     (tie.spec
-    Inv-loop
-    μ-loop
-    pin-count-requires
-    loop-holds
-    round-requires
-    returns
-    add-r
-    loop-less
-    loop-again
+    Inv-loop μ-loop pin-count-requires loop-holds round-requires returns
+    (λ c. omega (arith, c .before .before .before .before .before .loop-test .taken))
+    (λ c. omega (arith, c .before .before .before .before .before .loop-test .taken)) loop-again
     returns-2)

@@ -24,15 +24,6 @@ loop-holds c = (omega arith, (omega arith, total-none _ _ _ _))
 edge-cost-requires : tie.Need-edge-cost-requires Inv-loop μ-loop
 edge-cost-requires c κs = (omega arith, c .before .before .pre .1)
 
-add-sum : tie.Need-add-sum Inv-loop μ-loop
-add-sum c = omega (arith, c .edge-cost .ensures .1)
-
-add-k : tie.Need-add-k Inv-loop μ-loop
-add-k c = omega arith
-
-loop-less : tie.Need-loop-less Inv-loop μ-loop
-loop-less c = omega arith
-
 loop-again : tie.Need-loop-again Inv-loop μ-loop
 loop-again c = (
   omega arith,
@@ -50,12 +41,6 @@ pub total-spec : {M : Type 1} → statement M
 total-spec =
     tie.close
     (tie.spec
-    Inv-loop
-    μ-loop
-    loop-holds
-    edge-cost-requires
-    add-sum
-    add-k
-    loop-less
-    loop-again
+    Inv-loop μ-loop loop-holds edge-cost-requires (λ c. omega (arith, c .edge-cost .ensures .1)) (λ c. omega arith)
+    (λ c. omega arith) loop-again
     returns)

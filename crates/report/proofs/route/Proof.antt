@@ -15,13 +15,13 @@ use Rattle.lent.proofs.AfterLaws.{after-given}
 use Rattle.net.specs.declared.Net.{Net as Counts}
 use Rattle.net.specs.Bounds.{pinWidth, macroWidth}
 use Rattle.net.specs.Net.{handed}
-use Rattle.net.specs.Check.{told}
+use Rattle.checks.specs.Check.{told}
 use Rattle.blocks.specs.Sizes.{pinListBound, macroListBound}
 use Rattle.decoded.specs.Held.{pinsIn, macrosIn}
 use Rattle.netfile.specs.Read.{readFile}
-use Rattle.report.specs.Text.{refusedText}
+use Rattle.text.specs.Text.{refusedText}
 use Rattle.report.specs.Route.{treesText}
-use Rattle.report.proofs.PutLaws.{filled-as}
+use Rattle.text.proofs.PutLaws.{filled-as}
 use Rattle.report.proofs.RouteLaws.{Counted, counted, lists, net-is, front, route-given, route-refused}
 use borrow.Author.Needs.{needs}
 use Rattle.report.proofs.route.Statement.{statement}
@@ -108,19 +108,7 @@ pub route-spec : {M : Type 1} → statement M
 route-spec =
     tie.close
     (tie.spec
-    (λ c. search needs)
-    (λ c. search needs)
-    (λ c κs. search needs)
-    (λ c. search needs)
-    mul-m
-    mul-k
-    array-share-prefix-pins
-    slice-aggregate-trees-text
-    array-share-prefix-macros
-    slice-aggregate-trees-text-2
-    trees-text-requires
-    (λ c. search needs)
-    (λ c κs. search needs)
-    (λ c κs. search needs)
-    returns
+    (λ c. search needs) (λ c. search needs) (λ c κs. search needs) (λ c. search needs) mul-m mul-k
+    array-share-prefix-pins slice-aggregate-trees-text array-share-prefix-macros slice-aggregate-trees-text-2
+    trees-text-requires (λ c. search needs) (λ c κs. search needs) (λ c κs. search needs) returns
     returns-2)

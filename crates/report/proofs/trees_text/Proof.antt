@@ -18,12 +18,13 @@ use Rattle.net.specs.Bounds.{treeBound}
 use Rattle.graph.specs.Numbers.{edgeNumbers}
 use Rattle.net.specs.declared.Weighing.{Weighing}
 use Rattle.net.specs.Net.{handed}
-use Rattle.router.specs.Terminal.{pathsTotal}
-use Rattle.router.specs.Refined.{laidOf, laidTotal, metalOf}
-use Rattle.router.specs.Both.{bothAnswer, bothTrees, toldBoth}
+use Rattle.answers.specs.Terminal.{pathsTotal}
+use Rattle.answers.specs.Refined.{laidOf, laidTotal, metalOf}
+use Rattle.answers.specs.Both.{bothAnswer, bothTrees}
+use Rattle.router.specs.Answers.{toldBoth}
 use Rattle.router.specs.Call.{BothCall}
 use Rattle.report.specs.Route.{treesText}
-use Rattle.report.proofs.PutLaws.{filled-as}
+use Rattle.text.proofs.PutLaws.{filled-as}
 use Rattle.report.proofs.RouteLaws.{same-four, Counted, counted, both-given, edges-fit, edges-back, same-text}
 use borrow.Author.Needs.{needs}
 use Rattle.report.proofs.trees_text.Statement.{statement}
@@ -104,14 +105,6 @@ pub trees-text-spec : {M : Type 1} → statement M
 trees-text-spec =
     tie.close
     (tie.spec
-    (λ c κs. search needs)
-    (λ c. search needs)
-    (λ c κs. search needs)
-    (λ c. search needs)
-    (λ c. search needs)
-    tree-requires
-    (λ c. search needs)
-    (λ c κs. search needs)
-    (λ c κs. search needs)
-    returns
+    (λ c κs. search needs) (λ c. search needs) (λ c κs. search needs) (λ c. search needs) (λ c. search needs)
+    tree-requires (λ c. search needs) (λ c κs. search needs) (λ c κs. search needs) returns
     returns-2)

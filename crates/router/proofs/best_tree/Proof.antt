@@ -6,12 +6,12 @@ use lib.ListN.{length}
 use denote.Ref.{now}
 use Rattle.lent.specs.Told.{given}
 use Rattle.net.specs.declared.Weighing.{Weighing}
-use Rattle.net.specs.Check.{checked, told}
-use Rattle.net.proofs.HandedLaws.{handed-back}
-use Rattle.router.specs.Refined.{toldTree}
-use Rattle.router.specs.Best.{bestGiven, bestTree}
+use Rattle.checks.specs.Check.{checked, told}
+use Rattle.checks.proofs.GivenLaws.{handed-back}
+use Rattle.answers.specs.Best.{bestGiven, bestTree}
+use Rattle.answers.proofs.AnswerLaws.{only-refused, only-given}
+use Rattle.router.specs.Answers.{toldTree}
 use Rattle.router.specs.Call.{BestCall}
-use Rattle.router.proofs.AnswerLaws.{only-refused, only-given}
 use Rattle.made.proofs.CountedLaws.{counted-of}
 use Rattle.router.proofs.CallLaws.{best-refused, best-as}
 use borrow.Author.Needs.{needs}
@@ -56,11 +56,6 @@ pub best-tree-spec : {M : Type 1} → statement M
 best-tree-spec =
     tie.close
     (tie.spec
-    (λ c κs. search needs)
-    (λ c. search needs)
-    best-tree-requires
-    (λ c. search needs)
-    (λ c. search needs)
-    (λ c. search needs)
-    returns
+    (λ c κs. search needs) (λ c. search needs) best-tree-requires (λ c. search needs) (λ c. search needs)
+    (λ c. search needs) returns
     returns-2)

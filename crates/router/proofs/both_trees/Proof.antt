@@ -5,11 +5,12 @@ use lib.ListN.{length}
 use denote.Ref.{now}
 use Rattle.lent.specs.Told.{given}
 use Rattle.net.specs.declared.Weighing.{Weighing}
-use Rattle.net.specs.Check.{checked, told}
-use Rattle.net.proofs.HandedLaws.{handed-back}
-use Rattle.router.specs.Both.{bothGiven, bothTrees, toldBoth}
+use Rattle.checks.specs.Check.{checked, told}
+use Rattle.checks.proofs.GivenLaws.{handed-back}
+use Rattle.answers.specs.Both.{bothGiven, bothTrees}
+use Rattle.answers.proofs.AnswerLaws.{only-refused, only-given}
+use Rattle.router.specs.Answers.{toldBoth}
 use Rattle.router.specs.Call.{BothCall}
-use Rattle.router.proofs.AnswerLaws.{only-refused, only-given}
 use Rattle.made.proofs.CountedLaws.{counted-of}
 use Rattle.router.proofs.CallLaws.{gives-refused, gives-as}
 use borrow.Author.Needs.{needs}
@@ -50,10 +51,5 @@ pub both-trees-spec : {M : Type 1} → statement M
 both-trees-spec =
     tie.close
     (tie.spec
-    (λ c κs. search needs)
-    (λ c. search needs)
-    both-trees-requires
-    (λ c. search needs)
-    (λ c. search needs)
-    returns
+    (λ c κs. search needs) (λ c. search needs) both-trees-requires (λ c. search needs) (λ c. search needs) returns
     returns-2)

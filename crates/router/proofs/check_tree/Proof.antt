@@ -6,12 +6,12 @@ use denote.Ref.{now}
 use Rattle.lent.specs.Told.{given}
 use Rattle.net.specs.declared.Weighing.{Weighing}
 use Rattle.net.specs.Net.{Net, netOf}
-use Rattle.net.specs.Check.{checked, told}
-use Rattle.net.proofs.HandedLaws.{handed-back}
 use Rattle.net.proofs.PinLaws.{length-pins}
+use Rattle.checks.specs.Check.{checked, told}
+use Rattle.checks.proofs.GivenLaws.{handed-back}
 use Rattle.bought.specs.Verdict.{bought, toldVerdict}
-use Rattle.router.specs.Bought.{checkedTree}
-use Rattle.router.proofs.AnswerLaws.{only-refused, only-given}
+use Rattle.answers.specs.Bought.{checkedTree}
+use Rattle.answers.proofs.AnswerLaws.{only-refused, only-given}
 use Rattle.made.proofs.CountedLaws.{counted-of, as-net}
 use borrow.Author.Needs.{needs}
 use Rattle.router.proofs.check_tree.Statement.{statement}

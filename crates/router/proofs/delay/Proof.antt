@@ -5,12 +5,12 @@ use lib.ListN.{length}
 use denote.Ref.{now}
 use Rattle.lent.specs.Told.{given}
 use Rattle.net.specs.declared.Weighing.{Weighing}
-use Rattle.net.specs.Check.{checked, told}
-use Rattle.net.proofs.HandedLaws.{handed-back}
+use Rattle.checks.specs.Check.{checked, told}
+use Rattle.checks.proofs.GivenLaws.{handed-back}
 use Rattle.delay.specs.Answer.{toldDelays}
-use Rattle.router.specs.Delay.{delayGiven, pinDelays}
+use Rattle.answers.specs.Delay.{delayGiven, pinDelays}
+use Rattle.answers.proofs.AnswerLaws.{only-refused, only-given}
 use Rattle.router.specs.Call.{DelayCall}
-use Rattle.router.proofs.AnswerLaws.{only-refused, only-given}
 use Rattle.made.proofs.CountedLaws.{counted-of}
 use Rattle.router.proofs.CallLaws.{gives-refused, gives-as}
 use borrow.Author.Needs.{needs}
@@ -53,10 +53,5 @@ pub delay-spec : {M : Type 1} → statement M
 delay-spec =
     tie.close
     (tie.spec
-    (λ c κs. search needs)
-    (λ c. search needs)
-    delay-requires
-    (λ c. search needs)
-    (λ c. search needs)
-    returns
+    (λ c κs. search needs) (λ c. search needs) delay-requires (λ c. search needs) (λ c. search needs) returns
     returns-2)

@@ -5,11 +5,12 @@ use lib.ListN.{length}
 use denote.Ref.{now}
 use Rattle.lent.specs.Told.{given}
 use Rattle.net.specs.declared.Weighing.{Weighing}
-use Rattle.net.specs.Check.{checked, told}
-use Rattle.net.proofs.HandedLaws.{handed-back}
+use Rattle.checks.specs.Check.{checked, told}
+use Rattle.checks.proofs.GivenLaws.{handed-back}
+use Rattle.answers.specs.Graph.{graphGiven}
+use Rattle.answers.proofs.GraphLaws.{graphed-refused, graphed-allowed}
 use Rattle.router.specs.Call.{GraphCall}
-use Rattle.router.specs.Graph.{graphGiven, toldGraph}
-use Rattle.router.proofs.GraphAnswer.{graphed-refused, graphed-allowed}
+use Rattle.router.specs.Answers.{toldGraph}
 use Rattle.made.proofs.CountedLaws.{counted-of}
 use Rattle.router.proofs.CallLaws.{two-refused, two-as}
 use borrow.Author.Needs.{needs}
@@ -48,11 +49,6 @@ pub graph-spec : {M : Type 1} → statement M
 graph-spec =
     tie.close
     (tie.spec
-    (λ c κs. search needs)
-    (λ c. search needs)
-    graph-requires
-    (λ c. search needs)
-    (λ c. search needs)
-    (λ c. search needs)
-    returns
+    (λ c κs. search needs) (λ c. search needs) graph-requires (λ c. search needs) (λ c. search needs)
+    (λ c. search needs) returns
     returns-2)

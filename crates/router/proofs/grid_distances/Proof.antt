@@ -5,11 +5,12 @@ use lib.ListN.{length}
 use denote.Ref.{now}
 use Rattle.lent.specs.Told.{given}
 use Rattle.net.specs.declared.Weighing.{Weighing}
-use Rattle.net.specs.Check.{checked, told}
-use Rattle.net.proofs.HandedLaws.{handed-back}
-use Rattle.router.specs.Distances.{distancesGiven, gridDistances, toldDistances}
+use Rattle.checks.specs.Check.{checked, told}
+use Rattle.checks.proofs.GivenLaws.{handed-back}
+use Rattle.answers.specs.Distances.{distancesGiven, gridDistances}
+use Rattle.answers.proofs.AnswerLaws.{only-refused, only-given}
+use Rattle.router.specs.Answers.{toldDistances}
 use Rattle.router.specs.Call.{DistancesCall}
-use Rattle.router.proofs.AnswerLaws.{only-refused, only-given}
 use Rattle.made.proofs.CountedLaws.{counted-of}
 use Rattle.router.proofs.CallLaws.{square-refused, square-as}
 use borrow.Author.Needs.{needs}
@@ -52,10 +53,5 @@ pub grid-distances-spec : {M : Type 1} → statement M
 grid-distances-spec =
     tie.close
     (tie.spec
-    (λ c κs. search needs)
-    (λ c. search needs)
-    grid-distances-requires
-    (λ c. search needs)
-    (λ c. search needs)
-    returns
+    (λ c κs. search needs) (λ c. search needs) grid-distances-requires (λ c. search needs) (λ c. search needs) returns
     returns-2)

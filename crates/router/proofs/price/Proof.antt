@@ -4,12 +4,12 @@ use mathlib.Core.Path.{_≡_, sym, ap, _∙_}
 use denote.Ref.{now}
 use Rattle.lent.specs.Told.{given}
 use Rattle.net.specs.declared.Weighing.{Weighing}
-use Rattle.net.specs.Check.{checked, told}
 use Rattle.price.specs.Price.{priced, toldPrice}
-use Rattle.net.proofs.HandedLaws.{handed-back}
-use Rattle.router.specs.Refined.{metalOf}
-use Rattle.router.specs.Price.{netPrice}
-use Rattle.router.proofs.AnswerLaws.{only-refused, only-given}
+use Rattle.checks.specs.Check.{checked, told}
+use Rattle.checks.proofs.GivenLaws.{handed-back}
+use Rattle.answers.specs.Refined.{metalOf}
+use Rattle.answers.specs.Price.{netPrice}
+use Rattle.answers.proofs.AnswerLaws.{only-refused, only-given}
 use Rattle.made.proofs.CountedLaws.{counted-of}
 use borrow.Author.Needs.{needs}
 use Rattle.router.proofs.price.Statement.{statement}

@@ -8,7 +8,7 @@ use mir.Val.{SFits}
 use mir.ValLaws.{toZ-ofZ}
 use denote.Ref.{now}
 use Rattle.lent.specs.Told.{given}
-use Rattle.router.specs.Refined.{toldTree}
+use Rattle.router.specs.Answers.{toldTree}
 use Rattle.router.proofs.CallLaws.{alone, refined-alone, alone-given, alone-refused}
 use Rattle.router.proofs.refined_tree.Statement.{statement}
 use Rattle.router.proofs.refined_tree.Tie as tie
@@ -40,10 +40,5 @@ pub refined-tree-spec : {M : Type 1} → statement M
 refined-tree-spec =
     tie.close
     (tie.spec
-    (λ c κs. search needs)
-    (λ c. search needs)
-    (λ c. search needs)
-    (λ c. search needs)
-    returns
-    (λ c. search needs)
+    (λ c κs. search needs) (λ c. search needs) (λ c. search needs) (λ c. search needs) returns (λ c. search needs)
     returns-2)

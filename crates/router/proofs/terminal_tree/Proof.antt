@@ -5,11 +5,12 @@ use lib.ListN.{length}
 use denote.Ref.{now}
 use Rattle.lent.specs.Told.{given}
 use Rattle.net.specs.declared.Weighing.{Weighing}
-use Rattle.net.specs.Check.{checked, told}
-use Rattle.net.proofs.HandedLaws.{handed-back}
-use Rattle.router.specs.Terminal.{terminalGiven, terminalTree, toldTerminal}
+use Rattle.checks.specs.Check.{checked, told}
+use Rattle.checks.proofs.GivenLaws.{handed-back}
+use Rattle.answers.specs.Terminal.{terminalGiven, terminalTree}
+use Rattle.answers.proofs.AnswerLaws.{only-refused, only-given}
+use Rattle.router.specs.Answers.{toldTerminal}
 use Rattle.router.specs.Call.{TerminalCall}
-use Rattle.router.proofs.AnswerLaws.{only-refused, only-given}
 use Rattle.made.proofs.CountedLaws.{counted-of}
 use Rattle.router.proofs.CallLaws.{gives-refused, gives-as}
 use borrow.Author.Needs.{needs}
@@ -50,10 +51,5 @@ pub terminal-tree-spec : {M : Type 1} → statement M
 terminal-tree-spec =
     tie.close
     (tie.spec
-    (λ c κs. search needs)
-    (λ c. search needs)
-    terminal-tree-requires
-    (λ c. search needs)
-    (λ c. search needs)
-    returns
+    (λ c κs. search needs) (λ c. search needs) terminal-tree-requires (λ c. search needs) (λ c. search needs) returns
     returns-2)

@@ -15,8 +15,8 @@ use Rattle.slide.specs.Bend.{Edge, bends}
 use Rattle.slide.specs.Slide.{inOrder, rounds, slid}
 use Rattle.slide.specs.Promise.{State}
 use Rattle.straight.specs.Table.{straightBound}
-use Rattle.bends.specs.Settled.{edgesOf, pointsOf}
-use Rattle.bends.proofs.SettledLaws.{edges-in-order}
+use Rattle.settled.specs.Settled.{edgesOf, pointsOf}
+use Rattle.settled.proofs.SettledLaws.{edges-in-order}
 use Rattle.slider.proofs.SlidLaws.{BentTo, bent-to, edges-given, bend-asks, slid-given-back, few-room, start-state, slid-rounds}
 use Rattle.slider.proofs.slide.Statement.{statement}
 use Rattle.slider.proofs.slide.Tie as tie
@@ -94,16 +94,7 @@ pub slide-spec : {M : Type 1} → statement M
 slide-spec =
     tie.close
     (tie.spec
-    (λ c. search needs)
-    bend-tree-requires
-    (λ c. search needs)
-    returns
-    (λ c. search needs)
-    (λ c. search needs)
-    sort-edges-requires
-    (λ c. search needs)
-    rounds-requires
-    (λ c. search needs)
-    (λ c κs. search needs)
+    (λ c. search needs) bend-tree-requires (λ c. search needs) returns (λ c. search needs) (λ c. search needs)
+    sort-edges-requires (λ c. search needs) rounds-requires (λ c. search needs) (λ c κs. search needs)
     (λ c. search needs)
     returns-2)

@@ -86,11 +86,6 @@ pub chart-spec : {M : Type 1} → statement M
 chart-spec =
     tie.close
     (tie.spec
-    vertices-requires
-    mul-edges
-    slice-reshare-prefix-edges
-    slice-aggregate-edges
-    edges-requires
-    (λ c. search needs)
+    vertices-requires mul-edges slice-reshare-prefix-edges slice-aggregate-edges edges-requires (λ c. search needs)
     (λ c. search needs)
     returns)

@@ -80,21 +80,7 @@ pub give-paths-spec : {M : Type 1} → statement M
 give-paths-spec =
     tie.close
     (tie.spec
-    Inv-loop
-    μ-loop
-    loop-holds
-    (λ c. omega arith)
-    (λ c. omega arith)
-    mul-place-at
-    place-at-requires
-    mul-place-at-2
-    add-place-at
-    place-at-requires-2
-    (λ c. omega arith)
-    (λ c. omega arith)
-    put-path-requires
-    (λ c. omega arith)
-    (λ c. omega arith)
-    loop-again
-    same-length
+    Inv-loop μ-loop loop-holds (λ c. omega arith) (λ c. omega arith) mul-place-at place-at-requires mul-place-at-2
+    add-place-at place-at-requires-2 (λ c. omega arith) (λ c. omega arith) put-path-requires (λ c. omega arith)
+    (λ c. omega arith) loop-again same-length
     returns)

@@ -57,24 +57,11 @@ pub number-edges-spec : {M : Type 1} → statement M
 number-edges-spec =
     tie.close
     (tie.spec
-    Inv-loop
-    μ-loop
-    loop-holds
-    (λ c. omega arith)
-    (λ c κs. omega arith)
-    (λ c. omega arith)
-    (λ c. omega arith)
+    Inv-loop μ-loop loop-holds (λ c. omega arith) (λ c κs. omega arith) (λ c. omega arith) (λ c. omega arith)
     (λ c κs. omega arith)
     (λ c κs. let s = c .before .before .before .before in (s .pre .0 .1, s .pre .1 .0))
-    (λ c. omega arith)
-    (λ c. omega arith)
+    (λ c. omega arith) (λ c. omega arith)
     (λ c κs. let s = c .before .before .before .before .before in (s .pre .0 .1, s .pre .1 .0))
-    (λ c. omega arith)
-    (λ c. omega arith)
-    cost-requires
-    (λ c. omega arith)
-    (λ c. omega arith)
-    (λ c. omega arith)
-    (λ c. omega arith)
-    loop-again
+    (λ c. omega arith) (λ c. omega arith) cost-requires (λ c. omega arith) (λ c. omega arith) (λ c. omega arith)
+    (λ c. omega arith) loop-again
     returns)

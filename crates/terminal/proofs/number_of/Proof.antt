@@ -1,7 +1,7 @@
 -- `terminal::number_of` meets its contract: the number of a place is its rank.
 -- Assumes nothing.
 use mathlib.Core.Path.{_∙_}
-use Rattle.terminal.proofs.FillLaws.{rank-number, entries-in-order}
+use Rattle.sorted.proofs.NumberLaws.{entries-in-order, rank-position}
 use Rattle.terminal.proofs.number_of.Statement.{statement}
 use Rattle.terminal.proofs.number_of.Tie as tie
 
@@ -10,4 +10,4 @@ number-of-spec =
     tie.close
     (tie.spec
     (λ c κs. (c .pre .0, entries-in-order _ _ (c .pre .1)))
-    (λ c. c .rank .ensures .0 ∙ rank-number _ _ _))
+    (λ c. c .rank .ensures .0 ∙ rank-position _ _ _))

@@ -31,9 +31,5 @@ pub number-pins-spec : {M : Type 1} → statement M
 number-pins-spec =
     tie.close
     (tie.spec
-    (λ c. search needs)
-    (λ c. search needs)
-    (λ c κs. search needs)
-    (λ c. search needs)
-    number-places-requires
+    (λ c. search needs) (λ c. search needs) (λ c κs. search needs) (λ c. search needs) number-places-requires
     returns)

@@ -10,8 +10,9 @@ use denote.Ref.{now}
 use Rattle.lent.specs.Entries.{entries}
 use Rattle.plane.specs.Place.{place}
 use Rattle.plane.specs.Flat.{placeFrom}
+use Rattle.sorted.proofs.NumberLaws.{entry-at, place-entries}
 use Rattle.terminal.specs.Number.{numberOf}
-use Rattle.terminal.proofs.FillLaws.{entry-at, place-entries, Filling, fill-none, fill-more, fill-end}
+use Rattle.terminal.proofs.FillLaws.{Filling, fill-none, fill-more, fill-end}
 use Rattle.terminal.proofs.number_places.Statement.{statement}
 use Rattle.terminal.proofs.number_places.Tie as tie
 
@@ -48,14 +49,7 @@ pub number-places-spec : {M : Type 1} → statement M
 number-places-spec =
     tie.close
     (tie.spec
-    Inv-loop
-    μ-loop
-    loop-holds
-    (λ c κs. omega arith)
+    Inv-loop μ-loop loop-holds (λ c κs. omega arith)
     (λ c κs. let s = c .before .before .before in (s .pre .0 .1, s .pre .1 .0))
-    (λ c. omega arith)
-    (λ c. omega arith)
-    (λ c. omega arith)
-    (λ c. omega arith)
-    loop-again
+    (λ c. omega arith) (λ c. omega arith) (λ c. omega arith) (λ c. omega arith) loop-again
     returns)

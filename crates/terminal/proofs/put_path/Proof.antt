@@ -49,25 +49,9 @@ pub put-path-spec : {M : Type 1} → statement M
 put-path-spec =
     tie.close
     (tie.spec
-    (λ c. search needs)
-    (λ c κs. search needs)
-    (λ c. search needs)
-    (λ c. search needs)
-    (λ c κs. search needs)
-    (λ c. search needs)
-    (λ c. search needs)
-    slice-set-from-paths-2
-    (λ c κs. search needs)
-    (λ c. search needs)
-    (λ c. search needs)
-    slice-set-from-paths-3
-    (λ c κs. search needs)
-    (λ c. search needs)
-    (λ c. search needs)
-    slice-set-from-paths-4
-    (λ c κs. search needs)
-    (λ c. search needs)
-    (λ c. search needs)
-    slice-set-from-paths-5
+    (λ c. search needs) (λ c κs. search needs) (λ c. search needs) (λ c. search needs) (λ c κs. search needs)
+    (λ c. search needs) (λ c. search needs) slice-set-from-paths-2 (λ c κs. search needs) (λ c. search needs)
+    (λ c. search needs) slice-set-from-paths-3 (λ c κs. search needs) (λ c. search needs) (λ c. search needs)
+    slice-set-from-paths-4 (λ c κs. search needs) (λ c. search needs) (λ c. search needs) slice-set-from-paths-5
     (λ c. search needs)
     returns)

@@ -83,8 +83,5 @@ pub terminal-tree-spec : {M : Type 1} → statement M
 terminal-tree-spec =
     tie.close
     (tie.spec
-    (λ c κs. search needs)
-    number-edges-requires
-    number-pins-requires
-    kept-tree-requires
+    (λ c κs. search needs) number-edges-requires number-pins-requires kept-tree-requires
     returns)

@@ -29,12 +29,6 @@ inside-of c =
     let s = c .before .before .before .before .before in
     other-inside (now (s .args .costs)) (s .args .e) (s .args .k) (s .args .v) (s .pre .0 .0) (s .pre .0 .1) (some-of c)
 
-mul-result : tie.Need-mul-result
-mul-result c = omega (arith, c .other-end .ensures, inside-of c)
-
-element-copy-out-result : tie.Need-element-copy-out-result
-element-copy-out-result c = omega (arith, c .other-end .ensures, inside-of c)
-
 add-result : tie.Need-add-result
 add-result c =
     let s = c .before .before .before .before .before .before in
@@ -50,15 +44,7 @@ pub leads-spec : {M : Type 1} → statement M
 leads-spec =
     tie.close
     (tie.spec
-    (λ c. search needs)
-    (λ c. search needs)
-    returns
-    (λ c κs. search needs)
-    returns-2
-    (λ c κs. search needs)
-    mul-result
-    element-copy-out-result
-    add-result
-    (λ c. search needs)
-    (λ c. search needs)
+    (λ c. search needs) (λ c. search needs) returns (λ c κs. search needs) returns-2 (λ c κs. search needs)
+    (λ c. omega (arith, c .other-end .ensures, inside-of c)) (λ c. omega (arith, c .other-end .ensures, inside-of c))
+    add-result (λ c. search needs) (λ c. search needs)
     returns-3)

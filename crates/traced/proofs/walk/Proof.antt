@@ -26,12 +26,6 @@ loop-holds c =
     let s = c .before in
     (s .pre .1 .1, (s .pre .0 .1, (c .step-from .ensures, walk-none _ _ _ _ _)))
 
-in-order-requires : tie.Need-in-order-requires Inv-loop μ-loop
-in-order-requires c κs = omega (arith, c .before .before .before .pre .0 .0 .count, c .loop-test .taken)
-
-other-end-requires : tie.Need-other-end-requires Inv-loop μ-loop
-other-end-requires c κs = omega (arith, c .before .before .before .before .pre .0 .0 .count, c .before .loop-test .taken)
-
 step-from-requires-2 : tie.Need-step-from-requires-2 Inv-loop μ-loop
 step-from-requires-2 c κs =
     let t = c .before .before in
@@ -75,15 +69,9 @@ pub walk-spec : {M : Type 1} → statement M
 walk-spec =
     tie.close
     (tie.spec
-    Inv-loop
-    μ-loop
-    step-from-requires
-    loop-holds
-    in-order-requires
-    (λ c. omega (arith, c .in-order .ensures .1))
-    (λ c. omega (arith, c .in-order .ensures .1))
-    other-end-requires
-    step-from-requires-2
-    loop-less
-    loop-again
+    Inv-loop μ-loop step-from-requires loop-holds
+    (λ c κs. omega (arith, c .before .before .before .pre .0 .0 .count, c .loop-test .taken))
+    (λ c. omega (arith, c .in-order .ensures .1)) (λ c. omega (arith, c .in-order .ensures .1))
+    (λ c κs. omega (arith, c .before .before .before .before .pre .0 .0 .count, c .before .loop-test .taken))
+    step-from-requires-2 loop-less loop-again
     returns)

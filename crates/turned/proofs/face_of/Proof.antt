@@ -16,66 +16,6 @@ use Rattle.turned.proofs.face_of.Tie as tie
 fits : (s : tie.Start) → MacroFits (s .args .m)
 fits s = record { left = search needs; bottom = search needs; right = search needs; top = search needs }
 
-enum-told : tie.Need-enum-told
-enum-told c = search needs
-
-raised-requires : tie.Need-raised-requires
-raised-requires c κs = search needs
-
-raised-requires-2 : tie.Need-raised-requires-2
-raised-requires-2 c κs = search needs
-
-raised-requires-3 : tie.Need-raised-requires-3
-raised-requires-3 c κs = search needs
-
-raised-requires-4 : tie.Need-raised-requires-4
-raised-requires-4 c κs = search needs
-
-enum-told-2 : tie.Need-enum-told-2
-enum-told-2 c = search needs
-
-raised-requires-5 : tie.Need-raised-requires-5
-raised-requires-5 c κs = search needs
-
-raised-requires-6 : tie.Need-raised-requires-6
-raised-requires-6 c κs = search needs
-
-turned-requires : tie.Need-turned-requires
-turned-requires c κs = search needs
-
-turned-requires-2 : tie.Need-turned-requires-2
-turned-requires-2 c κs = search needs
-
-enum-told-3 : tie.Need-enum-told-3
-enum-told-3 c = search needs
-
-raised-requires-7 : tie.Need-raised-requires-7
-raised-requires-7 c κs = search needs
-
-raised-requires-8 : tie.Need-raised-requires-8
-raised-requires-8 c κs = search needs
-
-raised-requires-9 : tie.Need-raised-requires-9
-raised-requires-9 c κs = search needs
-
-raised-requires-10 : tie.Need-raised-requires-10
-raised-requires-10 c κs = search needs
-
-enum-told-4 : tie.Need-enum-told-4
-enum-told-4 c = search needs
-
-raised-requires-11 : tie.Need-raised-requires-11
-raised-requires-11 c κs = search needs
-
-raised-requires-12 : tie.Need-raised-requires-12
-raised-requires-12 c κs = search needs
-
-turned-requires-3 : tie.Need-turned-requires-3
-turned-requires-3 c κs = search needs
-
-turned-requires-4 : tie.Need-turned-requires-4
-turned-requires-4 c κs = search needs
-
 returns : tie.Need-returns
 unfolding starts finishes nearSide farSide
 returns c =
@@ -128,27 +68,9 @@ pub face-of-spec : {M : Type 1} → statement M
 face-of-spec =
     tie.close
     (tie.spec
-    enum-told
-    raised-requires
-    raised-requires-2
-    raised-requires-3
-    raised-requires-4
-    enum-told-2
-    raised-requires-5
-    raised-requires-6
-    turned-requires
-    turned-requires-2
-    enum-told-3
-    raised-requires-7
-    raised-requires-8
-    raised-requires-9
-    raised-requires-10
-    enum-told-4
-    raised-requires-11
-    raised-requires-12
-    turned-requires-3
-    turned-requires-4
-    returns
-    returns-2
-    returns-3
+    (λ c. search needs) (λ c κs. search needs) (λ c κs. search needs) (λ c κs. search needs) (λ c κs. search needs)
+    (λ c. search needs) (λ c κs. search needs) (λ c κs. search needs) (λ c κs. search needs) (λ c κs. search needs)
+    (λ c. search needs) (λ c κs. search needs) (λ c κs. search needs) (λ c κs. search needs) (λ c κs. search needs)
+    (λ c. search needs) (λ c κs. search needs) (λ c κs. search needs) (λ c κs. search needs) (λ c κs. search needs)
+    returns returns-2 returns-3
     returns-4)

@@ -13,18 +13,6 @@ use borrow.Author.Needs.{needs}
 use Rattle.turned.proofs.is_level.Statement.{statement}
 use Rattle.turned.proofs.is_level.Tie as tie
 
-first-end-requires : tie.Need-first-end-requires
-first-end-requires c κs = search needs
-
-spot-at-requires : tie.Need-spot-at-requires
-spot-at-requires c κs = search needs
-
-second-end-requires : tie.Need-second-end-requires
-second-end-requires c κs = search needs
-
-spot-at-requires-2 : tie.Need-spot-at-requires-2
-spot-at-requires-2 c κs = search needs
-
 returns : tie.Need-returns
 unfolding levelAt
 returns c =
@@ -37,4 +25,4 @@ returns c =
 pub is-level-spec : {M : Type 1} → statement M
 is-level-spec =
     tie.close
-    (tie.spec first-end-requires spot-at-requires second-end-requires spot-at-requires-2 returns)
+    (tie.spec (λ c κs. search needs) (λ c κs. search needs) (λ c κs. search needs) (λ c κs. search needs) returns)

@@ -9,21 +9,6 @@ use borrow.Author.Needs.{needs}
 use Rattle.turned.proofs.seen_point.Statement.{statement}
 use Rattle.turned.proofs.seen_point.Tie as tie
 
-spot-at-requires : tie.Need-spot-at-requires
-spot-at-requires c κs = search needs
-
-mul-t7 : tie.Need-mul-t7
-mul-t7 c = search needs
-
-element-copy-out-t10 : tie.Need-element-copy-out-t10
-element-copy-out-t10 c = search needs
-
-mul-t12 : tie.Need-mul-t12
-mul-t12 c = search needs
-
-element-copy-out-t15 : tie.Need-element-copy-out-t15
-element-copy-out-t15 c = search needs
-
 returns : tie.Need-returns
 returns c = seen-is (view (now (c .before .before .before .args .pts)) [] (now (c .before .before .before .args .lab))
     (c .before .before .before .args .s) (c .before .before .before .args .l)) _ _ _ _ _ _ refl refl
@@ -32,4 +17,4 @@ returns c = seen-is (view (now (c .before .before .before .args .pts)) [] (now (
 pub seen-point-spec : {M : Type 1} → statement M
 seen-point-spec =
     tie.close
-    (tie.spec spot-at-requires mul-t7 element-copy-out-t10 mul-t12 element-copy-out-t15 returns)
+    (tie.spec (λ c κs. search needs) (λ c. search needs) (λ c. search needs) (λ c. search needs) (λ c. search needs) returns)

@@ -7,12 +7,6 @@ use borrow.Author.Needs.{needs}
 use Rattle.turned.proofs.spot_at.Statement.{statement}
 use Rattle.turned.proofs.spot_at.Tie as tie
 
-point-at-requires : tie.Need-point-at-requires
-point-at-requires c κs = search needs
-
-spot-of-requires : tie.Need-spot-of-requires
-spot-of-requires c κs = search needs
-
 returns : tie.Need-returns
 returns c = (
   c .spot-of .ensures .0 ∙ ap (λ (p : Place). spot (c .before .before .args .s) p) (c .before .point-at .ensures),
@@ -20,4 +14,4 @@ returns c = (
 )
 
 pub spot-at-spec : {M : Type 1} → statement M
-spot-at-spec = tie.close (tie.spec point-at-requires spot-of-requires returns)
+spot-at-spec = tie.close (tie.spec (λ c κs. search needs) (λ c κs. search needs) returns)

@@ -16,42 +16,6 @@ use Rattle.turned.proofs.spot_of.Tie as tie
 fits : (s : tie.Start) → PlaceFits (s .args .p)
 fits s = record { x = search needs; y = search needs }
 
-enum-told : tie.Need-enum-told
-enum-told c = search needs
-
-raised-requires : tie.Need-raised-requires
-raised-requires c κs = search needs
-
-raised-requires-2 : tie.Need-raised-requires-2
-raised-requires-2 c κs = search needs
-
-enum-told-2 : tie.Need-enum-told-2
-enum-told-2 c = search needs
-
-raised-requires-3 : tie.Need-raised-requires-3
-raised-requires-3 c κs = search needs
-
-turned-requires : tie.Need-turned-requires
-turned-requires c κs = search needs
-
-enum-told-3 : tie.Need-enum-told-3
-enum-told-3 c = search needs
-
-raised-requires-4 : tie.Need-raised-requires-4
-raised-requires-4 c κs = search needs
-
-raised-requires-5 : tie.Need-raised-requires-5
-raised-requires-5 c κs = search needs
-
-enum-told-4 : tie.Need-enum-told-4
-enum-told-4 c = search needs
-
-raised-requires-6 : tie.Need-raised-requires-6
-raised-requires-6 c κs = search needs
-
-turned-requires-2 : tie.Need-turned-requires-2
-turned-requires-2 c κs = search needs
-
 returns : tie.Need-returns
 unfolding along across
 returns c = (
@@ -92,19 +56,7 @@ pub spot-of-spec : {M : Type 1} → statement M
 spot-of-spec =
     tie.close
     (tie.spec
-    enum-told
-    raised-requires
-    raised-requires-2
-    enum-told-2
-    raised-requires-3
-    turned-requires
-    enum-told-3
-    raised-requires-4
-    raised-requires-5
-    enum-told-4
-    raised-requires-6
-    turned-requires-2
-    returns
-    returns-2
-    returns-3
+    (λ c. search needs) (λ c κs. search needs) (λ c κs. search needs) (λ c. search needs) (λ c κs. search needs)
+    (λ c κs. search needs) (λ c. search needs) (λ c κs. search needs) (λ c κs. search needs) (λ c. search needs)
+    (λ c κs. search needs) (λ c κs. search needs) returns returns-2 returns-3
     returns-4)

@@ -27,32 +27,11 @@ loop-holds : tie.Need-loop-holds Inv-loop μ-loop
 unfolding marks
 loop-holds c = (omega arith, rw (all-left (c .args .e)) refl)
 
-add-k : tie.Need-add-k Inv-loop μ-loop
-add-k c = omega arith
-
-mul-if1 : tie.Need-mul-if1 Inv-loop μ-loop
-mul-if1 c = omega arith
-
-element-copy-out-if1 : tie.Need-element-copy-out-if1 Inv-loop μ-loop
-element-copy-out-if1 c = omega arith
-
-mul-a : tie.Need-mul-a Inv-loop μ-loop
-mul-a c = omega arith
-
-element-copy-out-a : tie.Need-element-copy-out-a Inv-loop μ-loop
-element-copy-out-a c = omega arith
-
 mul-at : tie.Need-mul-at Inv-loop μ-loop
 mul-at c = omega (arith, c .before .before .before .before .before .pre .one-in _ (c .before .before .before .loop-test .taken))
 
 element-write-at : tie.Need-element-write-at Inv-loop μ-loop
 element-write-at c = c .before .before .before .before .before .pre .one-in _ (c .before .before .before .loop-test .taken)
-
-mul-b : tie.Need-mul-b Inv-loop μ-loop
-mul-b c = omega arith
-
-element-copy-out-b : tie.Need-element-copy-out-b Inv-loop μ-loop
-element-copy-out-b c = omega arith
 
 mul-at-2 : tie.Need-mul-at-2 Inv-loop μ-loop
 mul-at-2 c = omega (arith, c .before .before .before .before .before .before .pre .two-in _ (c .before .before .before .before .loop-test .taken))
@@ -60,18 +39,12 @@ mul-at-2 c = omega (arith, c .before .before .before .before .before .before .pr
 element-write-at-2 : tie.Need-element-write-at-2 Inv-loop μ-loop
 element-write-at-2 c = c .before .before .before .before .before .before .pre .two-in _ (c .before .before .before .before .loop-test .taken)
 
-loop-less : tie.Need-loop-less Inv-loop μ-loop
-loop-less c = omega arith
-
 loop-again : tie.Need-loop-again Inv-loop μ-loop
 loop-again c =
     let l = c .before .before .before .before .before in
     let h = c .before .before .before .before .loop-test .taken in
     let a = l .before .args in
     (omega arith, ends-hit (a .ea .now) (a .eb .now) (isMarked (a .on .now)) _ _ _ _ (l .loop .inv .1) h (lt-ltb 0 _ (c .before .before .if1 .taken)))
-
-loop-less-2 : tie.Need-loop-less-2 Inv-loop μ-loop
-loop-less-2 c = omega arith
 
 loop-again-2 : tie.Need-loop-again-2 Inv-loop μ-loop
 loop-again-2 c =
@@ -89,22 +62,7 @@ pub mark-ends-spec : {M : Type 1} → statement M
 mark-ends-spec =
     tie.close
     (tie.spec
-    Inv-loop
-    μ-loop
-    loop-holds
-    add-k
-    mul-if1
-    element-copy-out-if1
-    mul-a
-    element-copy-out-a
-    mul-at
-    element-write-at
-    mul-b
-    element-copy-out-b
-    mul-at-2
-    element-write-at-2
-    loop-less
-    loop-again
-    loop-less-2
-    loop-again-2
+    Inv-loop μ-loop loop-holds (λ c. omega arith) (λ c. omega arith) (λ c. omega arith) (λ c. omega arith)
+    (λ c. omega arith) mul-at element-write-at (λ c. omega arith) (λ c. omega arith) mul-at-2 element-write-at-2
+    (λ c. omega arith) loop-again (λ c. omega arith) loop-again-2
     returns)

@@ -28,12 +28,6 @@ loop-holds : tie.Need-loop-holds Inv-loop μ-loop
 unfolding keptEdges
 loop-holds c = (omega arith, rw (all-left (c .args .count)) refl)
 
-mul-k : tie.Need-mul-k Inv-loop μ-loop
-mul-k c = omega arith
-
-element-copy-out-k : tie.Need-element-copy-out-k Inv-loop μ-loop
-element-copy-out-k c = omega arith
-
 mul-mark-path : tie.Need-mul-mark-path Inv-loop μ-loop
 mul-mark-path c =
     let s = c .before .before .before in
@@ -61,12 +55,6 @@ mark-path-requires c κs =
     let h = s .pre .1 .1 .inside _ (c .before .before .before .before .loop-test .taken) in
     (s .pre .0 .0, (f .one-in _ h, (f .two-in _ h, omega (arith, f .count))))
 
-add-i : tie.Need-add-i Inv-loop μ-loop
-add-i c = omega arith
-
-loop-less : tie.Need-loop-less Inv-loop μ-loop
-loop-less c = omega arith
-
 loop-again : tie.Need-loop-again Inv-loop μ-loop
 unfolding path
 loop-again c =
@@ -81,17 +69,6 @@ pub mark-paths-spec : {M : Type 1} → statement M
 mark-paths-spec =
     tie.close
     (tie.spec
-    Inv-loop
-    μ-loop
-    loop-holds
-    mul-k
-    element-copy-out-k
-    mul-mark-path
-    element-copy-out-mark-path
-    mul-mark-path-2
-    element-copy-out-mark-path-2
-    mark-path-requires
-    add-i
-    loop-less
-    loop-again
+    Inv-loop μ-loop loop-holds (λ c. omega arith) (λ c. omega arith) mul-mark-path element-copy-out-mark-path
+    mul-mark-path-2 element-copy-out-mark-path-2 mark-path-requires (λ c. omega arith) (λ c. omega arith) loop-again
     returns)

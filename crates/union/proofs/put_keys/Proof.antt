@@ -22,27 +22,6 @@ abbrev μ-loop : tie.MeasureT-loop
 loop-holds : tie.Need-loop-holds Inv-loop μ-loop
 loop-holds c = (omega arith, key-none _ _ _)
 
-add-k : tie.Need-add-k Inv-loop μ-loop
-add-k c = omega arith
-
-mul-if1 : tie.Need-mul-if1 Inv-loop μ-loop
-mul-if1 c = omega arith
-
-element-copy-out-if1 : tie.Need-element-copy-out-if1 Inv-loop μ-loop
-element-copy-out-if1 c = omega arith
-
-mul-key-of : tie.Need-mul-key-of Inv-loop μ-loop
-mul-key-of c = omega arith
-
-element-copy-out-key-of : tie.Need-element-copy-out-key-of Inv-loop μ-loop
-element-copy-out-key-of c = omega arith
-
-mul-key-of-2 : tie.Need-mul-key-of-2 Inv-loop μ-loop
-mul-key-of-2 c = omega arith
-
-element-copy-out-key-of-2 : tie.Need-element-copy-out-key-of-2 Inv-loop μ-loop
-element-copy-out-key-of-2 c = omega arith
-
 key-of-requires : tie.Need-key-of-requires Inv-loop μ-loop
 key-of-requires c κs =
     let s = c .before .before .before .before .before .before in
@@ -57,26 +36,11 @@ room c =
     let m = marks-room (l .before .args .on .now) (l .loop .k) (l .before .args .e) h (lt-ltb 0 _ (c .before .before .before .if1 .taken)) in
     omega (arith, l .loop .inv .1 .count, l .before .pre .1 .0)
 
-mul-keys : tie.Need-mul-keys Inv-loop μ-loop
-mul-keys c = omega (arith, room c)
-
-element-write-keys : tie.Need-element-write-keys Inv-loop μ-loop
-element-write-keys c = omega (arith, room c)
-
-add-c : tie.Need-add-c Inv-loop μ-loop
-add-c c = omega (arith, room c)
-
-loop-less : tie.Need-loop-less Inv-loop μ-loop
-loop-less c = omega arith
-
 loop-again : tie.Need-loop-again Inv-loop μ-loop
 loop-again c =
     let l = c .before .before .before .before .before .before in
     let r : l .loop .c < length (now (l .before .args .keys)) = omega (arith, room c, l .before .pre .1 .1) in
     (omega arith, rw (c .key-of .ensures) (key-more _ _ _ _ _ _ (l .loop .inv .1) (c .before .before .before .if1 .taken) r))
-
-loop-less-2 : tie.Need-loop-less-2 Inv-loop μ-loop
-loop-less-2 c = omega arith
 
 loop-again-2 : tie.Need-loop-again-2 Inv-loop μ-loop
 loop-again-2 c =
@@ -93,22 +57,8 @@ pub put-keys-spec : {M : Type 1} → statement M
 put-keys-spec =
     tie.close
     (tie.spec
-    Inv-loop
-    μ-loop
-    loop-holds
-    add-k
-    mul-if1
-    element-copy-out-if1
-    mul-key-of
-    element-copy-out-key-of
-    mul-key-of-2
-    element-copy-out-key-of-2
-    key-of-requires
-    mul-keys
-    element-write-keys
-    add-c
-    loop-less
-    loop-again
-    loop-less-2
+    Inv-loop μ-loop loop-holds (λ c. omega arith) (λ c. omega arith) (λ c. omega arith) (λ c. omega arith)
+    (λ c. omega arith) (λ c. omega arith) (λ c. omega arith) key-of-requires (λ c. omega (arith, room c))
+    (λ c. omega (arith, room c)) (λ c. omega (arith, room c)) (λ c. omega arith) loop-again (λ c. omega arith)
     loop-again-2
     returns)

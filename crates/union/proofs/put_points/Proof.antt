@@ -22,38 +22,17 @@ abbrev μ-loop : tie.MeasureT-loop
 loop-holds : tie.Need-loop-holds Inv-loop μ-loop
 loop-holds c = (omega arith, place-none _ _ _ _ (c .pre .0 .1 .1) (c .pre .1))
 
-add-v : tie.Need-add-v Inv-loop μ-loop
-add-v c = omega arith
-
-mul-if1 : tie.Need-mul-if1 Inv-loop μ-loop
-mul-if1 c = omega arith
-
-element-copy-out-if1 : tie.Need-element-copy-out-if1 Inv-loop μ-loop
-element-copy-out-if1 c = omega arith
-
-vertex-at-requires : tie.Need-vertex-at-requires Inv-loop μ-loop
-vertex-at-requires c κs = omega arith
-
 put-point-requires : tie.Need-put-point-requires Inv-loop μ-loop
 put-point-requires c κs =
     let l = c .before .before .before .before .before in
     let few = marks-few (l .before .args .at .now) (l .loop .v) in
     omega (arith, l .loop .inv .1 .count)
 
-mul-rank : tie.Need-mul-rank Inv-loop μ-loop
-mul-rank c = omega arith
-
-element-write-rank : tie.Need-element-write-rank Inv-loop μ-loop
-element-write-rank c = omega arith
-
 add-c : tie.Need-add-c Inv-loop μ-loop
 add-c c =
     let l = c .before .before .before .before .before .before in
     let few = marks-few (l .before .args .at .now) (l .loop .v) in
     omega (arith, l .loop .inv .1 .count)
-
-loop-less : tie.Need-loop-less Inv-loop μ-loop
-loop-less c = omega arith
 
 loop-again : tie.Need-loop-again Inv-loop μ-loop
 loop-again c =
@@ -66,9 +45,6 @@ loop-again c =
       place-more _ _ _ _ _ _ _ (l .loop .inv .1) _ (c .before .before .before .if1 .taken) i r
           (c .put-point .ensures ∙ ap (setPoint (l .loop .pts) (l .loop .c)) (c .before .vertex-at .ensures)),
     )
-
-loop-less-2 : tie.Need-loop-less-2 Inv-loop μ-loop
-loop-less-2 c = omega arith
 
 loop-again-2 : tie.Need-loop-again-2 Inv-loop μ-loop
 loop-again-2 c =
@@ -86,19 +62,7 @@ pub put-points-spec : {M : Type 1} → statement M
 put-points-spec =
     tie.close
     (tie.spec
-    Inv-loop
-    μ-loop
-    loop-holds
-    add-v
-    mul-if1
-    element-copy-out-if1
-    vertex-at-requires
-    put-point-requires
-    mul-rank
-    element-write-rank
-    add-c
-    loop-less
-    loop-again
-    loop-less-2
+    Inv-loop μ-loop loop-holds (λ c. omega arith) (λ c. omega arith) (λ c. omega arith) (λ c κs. omega arith)
+    put-point-requires (λ c. omega arith) (λ c. omega arith) add-c (λ c. omega arith) loop-again (λ c. omega arith)
     loop-again-2
     returns)

@@ -11,7 +11,8 @@ use Rattle.hanging.specs.declared.Hang.{Hang}
 use Rattle.reach.specs.declared.Size.{Size}
 use Rattle.turned.specs.Turned.{View, view}
 use Rattle.hanging.specs.Hanging.{hang}
-use Rattle.bars.specs.Offers.{held, lastOn, moveBy, move}
+use Rattle.moves.specs.Moving.{held, lastOn}
+use Rattle.bars.specs.Offers.{moveBy, move}
 use Rattle.bars.proofs.CodeLaws.{off, rate-fits, saving-fits, move-is, reach-of}
 use Rattle.reach.proofs.CodeLaws.{reach-less}
 use Rattle.bars.proofs.CodeLaws.{offer-equal, offer-weak, offer-held, offer-taken, offer-left}
@@ -63,9 +64,6 @@ returns : tie.Need-returns
 returns c =
     let h = c .before .before in
     offer-equal (seen h) (size h) (h .hang-at .result) (known h) _ _ _ (c .if1 .taken)
-
-sub-rate : tie.Need-sub-rate
-sub-rate c = omega (arith, c .before .if1 .left)
 
 weight-of-requires : tie.Need-weight-of-requires
 weight-of-requires c κs = tt
@@ -154,20 +152,7 @@ pub offer-spec : {M : Type 1} → statement M
 offer-spec =
     tie.close
     (tie.spec
-    hang-at-requires
-    returns
-    sub-rate
-    weight-of-requires
-    mul-rate
-    point-at-requires
-    mul-t19
-    is-better-requires
-    returns-2
-    is-held-requires
-    returns-3
-    bar-of-requires
-    reach-requires
-    mul-t19-2
-    is-better-requires-2
-    returns-4
+    hang-at-requires returns (λ c. omega (arith, c .before .if1 .left)) weight-of-requires mul-rate point-at-requires
+    mul-t19 is-better-requires returns-2 is-held-requires returns-3 bar-of-requires reach-requires mul-t19-2
+    is-better-requires-2 returns-4
     returns-5)

@@ -1,6 +1,5 @@
 -- `bars::search::offer_both` meets its contract, each answer by the law of its case.
 -- Assumes nothing.
-use mathlib.Core.Path.{_≡_, refl, sym, ap, ap₂, _∙_}
 use Rattle.bars.proofs.CodeLaws.{both-level, both-not}
 use borrow.Author.Needs.{needs}
 use Rattle.bars.proofs.search.offer_both.Statement.{statement}
@@ -11,12 +10,6 @@ leads-requires c κs = (c .pre .0 .1 .0, c .pre .0 .0 .1 .small (c .args .k))
 
 first-end-requires : tie.Need-first-end-requires
 first-end-requires c κs = (c .before .before .pre .0 .1 .0, c .before .before .pre .0 .0 .1 .small (c .before .before .args .k))
-
-mul-l : tie.Need-mul-l
-mul-l c = search needs
-
-element-copy-out-l : tie.Need-element-copy-out-l
-element-copy-out-l c = search needs
 
 offer-requires : tie.Need-offer-requires
 offer-requires c κs = (
@@ -29,9 +22,6 @@ offer-requires c κs = (
     c .before .before .before .before .pre .1 .1 .0 .each _ (c .before .before .before .before .pre .0 .1 .1 .number _),
   ),
 )
-
-opposite-requires : tie.Need-opposite-requires
-opposite-requires c κs = search needs
 
 offer-requires-2 : tie.Need-offer-requires-2
 offer-requires-2 c κs = (
@@ -62,12 +52,6 @@ pub offer-both-spec : {M : Type 1} → statement M
 offer-both-spec =
     tie.close
     (tie.spec
-    leads-requires
-    first-end-requires
-    mul-l
-    element-copy-out-l
-    offer-requires
-    opposite-requires
-    offer-requires-2
-    returns
+    leads-requires first-end-requires (λ c. search needs) (λ c. search needs) offer-requires (λ c κs. search needs)
+    offer-requires-2 returns
     returns-2)

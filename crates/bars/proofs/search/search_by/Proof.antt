@@ -1,15 +1,16 @@
 -- `bars::search::search_by` meets its contract. The loop's invariant: what is done so far is what the definition says of it. The measure is
 -- what is left.
 -- Assumes nothing.
-use mathlib.Core.Path.{_≡_, refl, sym, ap, ap₂, _∙_}
+use mathlib.Core.Path.{_≡_, ap, _∙_}
 use native.Mathlib.Omega.{arith}
-use Prim.Native.Nat.{_+_, _-_, _^_, _≤_, _<_, min, max}
+use Prim.Native.Nat.{_-_, _≤_}
 use Rattle.turned.proofs.StepLaws.{up-start, up-next, up-end}
 use denote.Ref.{now}
 use Rattle.slide.specs.declared.Side.the-variants.{Above, Right}
 use Rattle.bars.specs.declared.Best.{Best}
 use Rattle.turned.specs.Steps.{upTo}
-use Rattle.bars.specs.Offers.{opposite, offeredBoth, noMove, searched}
+use Rattle.moves.specs.Moving.{opposite}
+use Rattle.bars.specs.Offers.{offeredBoth, noMove, searched}
 use Rattle.bars.proofs.search.search_by.Statement.{statement}
 use Rattle.bars.proofs.search.search_by.Tie as tie
 
@@ -44,12 +45,6 @@ offer-both-requires-2 c κs = (
   (c .before .before .before .before .pre .1 .0, c .before .before .before .before .pre .1 .1 .1 .1),
 )
 
-add-k : tie.Need-add-k Inv-loop μ-loop
-add-k c = omega (arith, c .before .before .before .before .before .pre .0, c .before .before .if1 .taken)
-
-loop-less : tie.Need-loop-less Inv-loop μ-loop
-loop-less c = omega (arith, c .before .before .if1 .taken)
-
 loop-again : tie.Need-loop-again Inv-loop μ-loop
 loop-again c =
     let s = c .before .before .before .before .before .args in (
@@ -68,12 +63,7 @@ pub search-by-spec : {M : Type 1} → statement M
 search-by-spec =
     tie.close
     (tie.spec
-    Inv-loop
-    μ-loop
-    loop-holds
-    offer-both-requires
-    offer-both-requires-2
-    add-k
-    loop-less
-    loop-again
+    Inv-loop μ-loop loop-holds offer-both-requires offer-both-requires-2
+    (λ c. omega (arith, c .before .before .before .before .before .pre .0, c .before .before .if1 .taken))
+    (λ c. omega (arith, c .before .before .if1 .taken)) loop-again
     returns)

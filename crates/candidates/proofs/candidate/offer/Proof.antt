@@ -9,21 +9,6 @@ use Rattle.candidates.proofs.candidate.offer.Tie as tie
 returns : tie.Need-returns
 returns c = λ t q. offer-none _ _ _ _ _ t _ _ _ _ _ _ q (c .if1 .taken)
 
-mul-long : tie.Need-mul-long
-mul-long c = search needs
-
-element-copy-out-long : tie.Need-element-copy-out-long
-element-copy-out-long c = search needs
-
-point-at-requires : tie.Need-point-at-requires
-point-at-requires c κs = search needs
-
-may-gain-requires : tie.Need-may-gain-requires
-may-gain-requires c κs = search needs
-
-weigh-requires : tie.Need-weigh-requires
-weigh-requires c κs = search needs
-
 returns-2 : tie.Need-returns-2
 returns-2 c =
     λ t q.
@@ -41,11 +26,6 @@ pub offer-spec : {M : Type 1} → statement M
 offer-spec =
     tie.close
     (tie.spec
-    returns
-    mul-long
-    element-copy-out-long
-    point-at-requires
-    may-gain-requires
-    weigh-requires
+    returns (λ c. search needs) (λ c. search needs) (λ c κs. search needs) (λ c κs. search needs) (λ c κs. search needs)
     returns-2
     returns-3)

@@ -8,21 +8,6 @@ use borrow.Author.Needs.{needs}
 use Rattle.candidates.proofs.candidate.weigh.Statement.{statement}
 use Rattle.candidates.proofs.candidate.weigh.Tie as tie
 
-point-at-requires : tie.Need-point-at-requires
-point-at-requires c κs = search needs
-
-point-at-requires-2 : tie.Need-point-at-requires-2
-point-at-requires-2 c κs = search needs
-
-point-at-requires-3 : tie.Need-point-at-requires-3
-point-at-requires-3 c κs = search needs
-
-middle-place-requires : tie.Need-middle-place-requires
-middle-place-requires c κs = search needs
-
-cost-requires : tie.Need-cost-requires
-cost-requires c κs = search needs
-
 -- the places and the cost by their names
 spots : (c : tie.After-cost)
     → Spots (c .before .before .before .before .before .args .w) (now (c .before .before .before .before .before .args .pts))
@@ -43,14 +28,8 @@ spots c =
 returns : tie.Need-returns
 returns c = weigh-low _ _ _ _ _ _ _ _ _ _ _ _ _ _ _ _ (spots (c .before)) (omega (arith, c .if1 .taken))
 
-sub-g : tie.Need-sub-g
-sub-g c = search needs
-
 returns-2 : tie.Need-returns-2
 returns-2 c = weigh-low _ _ _ _ _ _ _ _ _ _ _ _ _ _ _ _ (spots (c .before .before .before)) (omega (arith, c .if2 .taken))
-
-is-allowed-requires : tie.Need-is-allowed-requires
-is-allowed-requires c κs = search needs
 
 returns-3 : tie.Need-returns-3
 returns-3 c =
@@ -67,14 +46,6 @@ pub weigh-spec : {M : Type 1} → statement M
 weigh-spec =
     tie.close
     (tie.spec
-    point-at-requires
-    point-at-requires-2
-    point-at-requires-3
-    middle-place-requires
-    cost-requires
-    returns
-    sub-g
-    returns-2
-    is-allowed-requires
-    returns-3
+    (λ c κs. search needs) (λ c κs. search needs) (λ c κs. search needs) (λ c κs. search needs) (λ c κs. search needs)
+    returns (λ c. search needs) returns-2 (λ c κs. search needs) returns-3
     returns-4)

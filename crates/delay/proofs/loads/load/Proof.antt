@@ -29,12 +29,6 @@ abbrev μ-loop : tie.MeasureT-loop
 loop-holds : tie.Need-loop-holds Inv-loop μ-loop
 loop-holds c = (omega arith, (c .pre .1, loaded-none _ _))
 
-point-at-requires : tie.Need-point-at-requires Inv-loop μ-loop
-point-at-requires c κs = omega (arith, c .before .before .pre .0 .0)
-
-mul-pin : tie.Need-mul-pin Inv-loop μ-loop
-mul-pin c = omega arith
-
 element-write-pin : tie.Need-element-write-pin Inv-loop μ-loop
 element-write-pin c =
     let t = c .before .before in
@@ -42,9 +36,6 @@ element-write-pin c =
 
 load-of-requires : tie.Need-load-of-requires Inv-loop μ-loop
 load-of-requires c κs = c .before .before .before .before .pre .0 .1
-
-mul-loads : tie.Need-mul-loads Inv-loop μ-loop
-mul-loads c = omega arith
 
 element-write-loads : tie.Need-element-write-loads Inv-loop μ-loop
 element-write-loads c =
@@ -82,17 +73,8 @@ pub load-spec : {M : Type 1} → statement M
 load-spec =
     tie.close
     (tie.spec
-    Inv-loop
-    μ-loop
-    loop-holds
-    point-at-requires
+    Inv-loop μ-loop loop-holds (λ c κs. omega (arith, c .before .before .pre .0 .0))
     (λ c κs. tt)
-    mul-pin
-    element-write-pin
-    load-of-requires
-    mul-loads
-    element-write-loads
-    (λ c. omega arith)
-    (λ c. omega arith)
-    loop-again
+    (λ c. omega arith) element-write-pin load-of-requires (λ c. omega arith) element-write-loads (λ c. omega arith)
+    (λ c. omega arith) loop-again
     returns)

@@ -14,7 +14,7 @@ use Rattle.lists.specs.Any.{any}
 use Rattle.signed.specs.Sides.{up}
 use Rattle.plane.specs.Place.{samePlace}
 use Rattle.plane.specs.declared.Place.{Place}
-use Rattle.net.specs.Check.{noLoad}
+use Rattle.net.specs.Tests.{noLoad}
 use Rattle.net.specs.Pins.{pinAt, pinLoads, pinEntries, loadAt}
 use Rattle.net.proofs.PinLaws.{entries-next, entries-end, loads-next}
 use Rattle.delay.specs.Load.{loadOf}
@@ -80,13 +80,7 @@ load-of-spec =
     Inv-loop
     μ-loop
     (λ c κs. tt)
-    loop-holds
-    (λ c κs. omega arith)
+    loop-holds (λ c κs. omega arith)
     (λ c κs. tt)
-    (λ c κs. omega arith)
-    unsigned-requires
-    returns
-    (λ c. omega arith)
-    (λ c. omega arith)
-    loop-again
+    (λ c κs. omega arith) unsigned-requires returns (λ c. omega arith) (λ c. omega arith) loop-again
     returns-2)

@@ -5,15 +5,6 @@ use Rattle.elmore.proofs.TableLaws.{child-parent, child-other}
 use Rattle.elmore.proofs.child.child_at.Statement.{statement}
 use Rattle.elmore.proofs.child.child_at.Tie as tie
 
-mul-other-end : tie.Need-mul-other-end
-mul-other-end c = search needs
-
-element-copy-out-other-end : tie.Need-element-copy-out-other-end
-element-copy-out-other-end c = search needs
-
-other-end-requires : tie.Need-other-end-requires
-other-end-requires c κs = search needs
-
 returns : tie.Need-returns
 returns c = child-parent _ _ _ _ (c .before .other-end .ensures) (c .if1 .taken)
 
@@ -21,4 +12,4 @@ returns-2 : tie.Need-returns-2
 returns-2 c = child-other _ _ _ _ (c .before .other-end .ensures) (c .if1 .left)
 
 pub child-at-spec : {M : Type 1} → statement M
-child-at-spec = tie.close (tie.spec mul-other-end element-copy-out-other-end other-end-requires returns returns-2)
+child-at-spec = tie.close (tie.spec (λ c. search needs) (λ c. search needs) (λ c κs. search needs) returns returns-2)

@@ -12,18 +12,6 @@ use Rattle.tree.proofs.LowLaws.{low-step}
 use Rattle.exchanges.proofs.prune.count_ends.Statement.{statement}
 use Rattle.exchanges.proofs.prune.count_ends.Tie as tie
 
-mul-a : tie.Need-mul-a
-mul-a c = search needs
-
-element-copy-out-a : tie.Need-element-copy-out-a
-element-copy-out-a c = search needs
-
-mul-b : tie.Need-mul-b
-mul-b c = search needs
-
-element-copy-out-b : tie.Need-element-copy-out-b
-element-copy-out-b c = search needs
-
 mul-deg : tie.Need-mul-deg
 mul-deg c =
     let s = c .before .before in
@@ -54,12 +42,6 @@ element-write-deg c =
     let q = s .pre .1 .0 .small (s .args .i) in
     omega arith
 
-mul-deg-3 : tie.Need-mul-deg-3
-mul-deg-3 c = search needs
-
-element-copy-out-deg-2 : tie.Need-element-copy-out-deg-2
-element-copy-out-deg-2 c = search needs
-
 add-deg-2 : tie.Need-add-deg-2
 add-deg-2 c =
     let s = c .before .before .before .before in
@@ -70,12 +52,6 @@ add-deg-2 c =
           (getD (now (s .args .keys)) (s .args .i) 0 % treeBound),
     )
 
-mul-deg-4 : tie.Need-mul-deg-4
-mul-deg-4 c = search needs
-
-element-write-deg-2 : tie.Need-element-write-deg-2
-element-write-deg-2 c = search needs
-
 returns : tie.Need-returns
 returns c = count-is _ _ _
 
@@ -83,18 +59,7 @@ pub count-ends-spec : {M : Type 1} → statement M
 count-ends-spec =
     tie.close
     (tie.spec
-    mul-a
-    element-copy-out-a
-    mul-b
-    element-copy-out-b
-    mul-deg
-    element-copy-out-deg
-    add-deg
-    mul-deg-2
-    element-write-deg
-    mul-deg-3
-    element-copy-out-deg-2
-    add-deg-2
-    mul-deg-4
-    element-write-deg-2
+    (λ c. search needs) (λ c. search needs) (λ c. search needs) (λ c. search needs) mul-deg element-copy-out-deg add-deg
+    mul-deg-2 element-write-deg (λ c. search needs) (λ c. search needs) add-deg-2 (λ c. search needs)
+    (λ c. search needs)
     returns)

@@ -27,12 +27,6 @@ count-ends-requires c κs =
     let l = c .before .before in
     (omega arith, (l .before .pre .1 .0, low-more _ _ _ (let h : l .loop .i * 2 ≤ treeBound * 2 = omega arith in h) (l .loop .inv .1 .0)))
 
-add-i : tie.Need-add-i Inv-loop μ-loop
-add-i c = omega arith
-
-loop-less : tie.Need-loop-less Inv-loop μ-loop
-loop-less c = omega arith
-
 loop-again : tie.Need-loop-again Inv-loop μ-loop
 loop-again c =
     let l = c .before .before .before in (
@@ -50,4 +44,4 @@ returns c = turns-end _ _ _ _ _ (c .before .loop .inv .1 .1) (omega arith)
 pub degrees-spec : {M : Type 1} → statement M
 degrees-spec =
     tie.close
-    (tie.spec Inv-loop μ-loop loop-holds count-ends-requires add-i loop-less loop-again returns)
+    (tie.spec Inv-loop μ-loop loop-holds count-ends-requires (λ c. omega arith) (λ c. omega arith) loop-again returns)

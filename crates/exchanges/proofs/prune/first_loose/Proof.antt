@@ -11,11 +11,8 @@ use Rattle.exchanges.proofs.prune.first_loose.Tie as tie
 degrees-requires : tie.Need-degrees-requires
 degrees-requires c κs = (c .before .pre .0, (c .before .pre .1, low-zeros treeBound))
 
-seek-loose-requires : tie.Need-seek-loose-requires
-seek-loose-requires c κs = search needs
-
 returns : tie.Need-returns
 returns c = (first-loose-is _ _ _ _ _ (c .before .before .degrees .ensures) (c .seek-loose .ensures .0), c .seek-loose .ensures .1)
 
 pub first-loose-spec : {M : Type 1} → statement M
-first-loose-spec = tie.close (tie.spec degrees-requires seek-loose-requires returns)
+first-loose-spec = tie.close (tie.spec degrees-requires (λ c κs. search needs) returns)

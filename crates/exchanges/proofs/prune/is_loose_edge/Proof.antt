@@ -7,23 +7,14 @@ use Rattle.exchanges.proofs.PruneLaws.{loose-edge-is}
 use Rattle.exchanges.proofs.prune.is_loose_edge.Statement.{statement}
 use Rattle.exchanges.proofs.prune.is_loose_edge.Tie as tie
 
-mul-k : tie.Need-mul-k
-mul-k c = search needs
-
-element-copy-out-k : tie.Need-element-copy-out-k
-element-copy-out-k c = search needs
-
 is-loose-requires : tie.Need-is-loose-requires
 is-loose-requires c κs =
     let s = c .before in
     omega (arith, s .pre .1 .small (s .args .i))
-
-is-loose-requires-2 : tie.Need-is-loose-requires-2
-is-loose-requires-2 c κs = search needs
 
 returns : tie.Need-returns
 returns c = loose-edge-is _ _ _ _ _ _ (c .before .is-loose .ensures) (c .is-loose2 .ensures)
 
 pub is-loose-edge-spec : {M : Type 1} → statement M
 is-loose-edge-spec =
-    tie.close (tie.spec mul-k element-copy-out-k is-loose-requires is-loose-requires-2 returns)
+    tie.close (tie.spec (λ c. search needs) (λ c. search needs) is-loose-requires (λ c κs. search needs) returns)

@@ -22,12 +22,6 @@ abbrev μ-loop : tie.MeasureT-loop
 pin-count-requires : tie.Need-pin-count-requires Inv-loop μ-loop
 pin-count-requires c κs = tt
 
-loop-holds : tie.Need-loop-holds Inv-loop μ-loop
-loop-holds c = refl
-
-pin-at-requires : tie.Need-pin-at-requires Inv-loop μ-loop
-pin-at-requires c κs = omega arith
-
 is-same-place-requires : tie.Need-is-same-place-requires Inv-loop μ-loop
 is-same-place-requires c κs = tt
 
@@ -43,12 +37,6 @@ returns c =
     sym (l .loop .inv ∙ any-hit (samePlace (l .before .before .args .p)) _ _ _
     (pins-next (now (l .before .before .args .pins)) (l .loop .i) (omega arith))
     (sym (told (c .before)) ∙ c .if1 .taken))
-
-add-i : tie.Need-add-i Inv-loop μ-loop
-add-i c = omega arith
-
-loop-less : tie.Need-loop-less Inv-loop μ-loop
-loop-less c = omega arith
 
 loop-again : tie.Need-loop-again Inv-loop μ-loop
 loop-again c =
@@ -67,14 +55,6 @@ pub is-pin-spec : {M : Type 1} → statement M
 is-pin-spec =
     tie.close
     (tie.spec
-    Inv-loop
-    μ-loop
-    pin-count-requires
-    loop-holds
-    pin-at-requires
-    is-same-place-requires
-    returns
-    add-i
-    loop-less
-    loop-again
+    Inv-loop μ-loop pin-count-requires (λ c. refl) (λ c κs. omega arith) is-same-place-requires returns
+    (λ c. omega arith) (λ c. omega arith) loop-again
     returns-2)

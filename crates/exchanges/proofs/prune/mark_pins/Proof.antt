@@ -19,15 +19,6 @@ abbrev μ-loop : tie.MeasureT-loop
 loop-holds : tie.Need-loop-holds Inv-loop μ-loop
 loop-holds c = (omega arith, turns-none _ _ _)
 
-mark-requires : tie.Need-mark-requires Inv-loop μ-loop
-mark-requires c κs = omega arith
-
-add-i : tie.Need-add-i Inv-loop μ-loop
-add-i c = omega arith
-
-loop-less : tie.Need-loop-less Inv-loop μ-loop
-loop-less c = omega arith
-
 loop-again : tie.Need-loop-again Inv-loop μ-loop
 loop-again c = (omega arith, turns-next _ _ _ _ _ _ (c .before .before .before .loop .inv .1) (omega arith) (c .mark .ensures))
 
@@ -37,4 +28,4 @@ returns c = turns-end _ _ _ _ _ (c .before .loop .inv .1) (omega arith)
 pub mark-pins-spec : {M : Type 1} → statement M
 mark-pins-spec =
     tie.close
-    (tie.spec Inv-loop μ-loop loop-holds mark-requires add-i loop-less loop-again returns)
+    (tie.spec Inv-loop μ-loop loop-holds (λ c κs. omega arith) (λ c. omega arith) (λ c. omega arith) loop-again returns)

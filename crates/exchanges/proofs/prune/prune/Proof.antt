@@ -29,17 +29,11 @@ returns c =
     let l = c .before .before .before .before in
     prune-stop _ _ _ _ _ (l .loop .inv .1 .1) (c .before .first-loose .ensures .0) (omega arith) (c .if1 .taken)
 
-sub-f : tie.Need-sub-f Inv-loop μ-loop
-sub-f c = omega arith
-
 remove-requires : tie.Need-remove-requires Inv-loop μ-loop
 remove-requires c κs =
     let i = c .before .before .first-loose .ensures .1 in
     let d = c .before .if1 .left in
     (omega arith, omega arith)
-
-loop-less : tie.Need-loop-less Inv-loop μ-loop
-loop-less c = omega arith
 
 loop-again : tie.Need-loop-again Inv-loop μ-loop
 loop-again c =
@@ -59,13 +53,6 @@ pub prune-spec : {M : Type 1} → statement M
 prune-spec =
     tie.close
     (tie.spec
-    Inv-loop
-    μ-loop
-    loop-holds
-    first-loose-requires
-    returns
-    sub-f
-    remove-requires
-    loop-less
+    Inv-loop μ-loop loop-holds first-loose-requires returns (λ c. omega arith) remove-requires (λ c. omega arith)
     loop-again
     returns-2)

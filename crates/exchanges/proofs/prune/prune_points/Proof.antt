@@ -5,14 +5,8 @@ use borrow.Author.Needs.{needs}
 use Rattle.exchanges.proofs.prune.prune_points.Statement.{statement}
 use Rattle.exchanges.proofs.prune.prune_points.Tie as tie
 
-mark-pins-requires : tie.Need-mark-pins-requires
-mark-pins-requires c κs = search needs
-
-prune-requires : tie.Need-prune-requires
-prune-requires c κs = search needs
-
 returns : tie.Need-returns
 returns c = pruned-is _ _ _ _ _ _ _ (c .before .before .before .mark-pins .ensures) (c .prune .ensures)
 
 pub prune-points-spec : {M : Type 1} → statement M
-prune-points-spec = tie.close (tie.spec mark-pins-requires prune-requires returns)
+prune-points-spec = tie.close (tie.spec (λ c κs. search needs) (λ c κs. search needs) returns)

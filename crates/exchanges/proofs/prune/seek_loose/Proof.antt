@@ -26,12 +26,6 @@ returns c =
     let l = c .before .before .before in
     (seek-stop _ _ _ _ (l .loop .inv .1) (omega arith) (sym (c .before .is-loose-edge .ensures) ∙ c .if1 .taken), omega arith)
 
-add-i : tie.Need-add-i Inv-loop μ-loop
-add-i c = omega arith
-
-loop-less : tie.Need-loop-less Inv-loop μ-loop
-loop-less c = omega arith
-
 loop-again : tie.Need-loop-again Inv-loop μ-loop
 loop-again c =
     let l = c .before .before .before in
@@ -44,12 +38,5 @@ pub seek-loose-spec : {M : Type 1} → statement M
 seek-loose-spec =
     tie.close
     (tie.spec
-    Inv-loop
-    μ-loop
-    loop-holds
-    is-loose-edge-requires
-    returns
-    add-i
-    loop-less
-    loop-again
+    Inv-loop μ-loop loop-holds is-loose-edge-requires returns (λ c. omega arith) (λ c. omega arith) loop-again
     returns-2)

@@ -1,152 +1,35 @@
 -- `net::Refusal::number` meets its contract: each arm gives the number of its case.
 -- Assumes nothing.
 use borrow.Author.Needs.{needs}
-use mathlib.Core.Path.{sym, ap}
+use mathlib.Core.Path.{_≡_, sym, ap}
 use lib.IntN.{pos}
 use Rattle.net.specs.declared.Refusal.{Refusal}
 use Rattle.net.specs.Answer.{number}
 use Rattle.net.proofs.Refusal.number.Statement.{statement}
 use Rattle.net.proofs.Refusal.number.Tie as tie
 
-returns : tie.Need-returns
-unfolding number
-returns c = sym (ap (λ (f : Refusal). pos (number f)) (c .enum-told .given .1))
-
-returns-2 : tie.Need-returns-2
-unfolding number
-returns-2 c = sym (ap (λ (f : Refusal). pos (number f)) (c .enum-told2 .given .1))
-
-returns-3 : tie.Need-returns-3
-unfolding number
-returns-3 c = sym (ap (λ (f : Refusal). pos (number f)) (c .enum-told3 .given .1))
-
-returns-4 : tie.Need-returns-4
-unfolding number
-returns-4 c = sym (ap (λ (f : Refusal). pos (number f)) (c .enum-told4 .given .1))
-
-returns-5 : tie.Need-returns-5
-unfolding number
-returns-5 c = sym (ap (λ (f : Refusal). pos (number f)) (c .enum-told5 .given .1))
-
-returns-6 : tie.Need-returns-6
-unfolding number
-returns-6 c = sym (ap (λ (f : Refusal). pos (number f)) (c .enum-told6 .given .1))
-
-returns-7 : tie.Need-returns-7
-unfolding number
-returns-7 c = sym (ap (λ (f : Refusal). pos (number f)) (c .enum-told7 .given .1))
-
-returns-8 : tie.Need-returns-8
-unfolding number
-returns-8 c = sym (ap (λ (f : Refusal). pos (number f)) (c .enum-told8 .given .1))
-
-returns-9 : tie.Need-returns-9
-unfolding number
-returns-9 c = sym (ap (λ (f : Refusal). pos (number f)) (c .enum-told9 .given .1))
-
-returns-10 : tie.Need-returns-10
-unfolding number
-returns-10 c = sym (ap (λ (f : Refusal). pos (number f)) (c .enum-told10 .given .1))
-
-returns-11 : tie.Need-returns-11
-unfolding number
-returns-11 c = sym (ap (λ (f : Refusal). pos (number f)) (c .enum-told11 .given .1))
-
-returns-12 : tie.Need-returns-12
-unfolding number
-returns-12 c = sym (ap (λ (f : Refusal). pos (number f)) (c .enum-told12 .given .1))
-
-returns-13 : tie.Need-returns-13
-unfolding number
-returns-13 c = sym (ap (λ (f : Refusal). pos (number f)) (c .enum-told13 .given .1))
-
-returns-14 : tie.Need-returns-14
-unfolding number
-returns-14 c = sym (ap (λ (f : Refusal). pos (number f)) (c .enum-told14 .given .1))
-
-returns-15 : tie.Need-returns-15
-unfolding number
-returns-15 c = sym (ap (λ (f : Refusal). pos (number f)) (c .enum-told15 .given .1))
-
-returns-16 : tie.Need-returns-16
-unfolding number
-returns-16 c = sym (ap (λ (f : Refusal). pos (number f)) (c .enum-told16 .given .1))
-
-returns-17 : tie.Need-returns-17
-unfolding number
-returns-17 c = sym (ap (λ (f : Refusal). pos (number f)) (c .enum-told17 .given .1))
-
-returns-18 : tie.Need-returns-18
-unfolding number
-returns-18 c = sym (ap (λ (f : Refusal). pos (number f)) (c .enum-told18 .given .1))
-
-returns-19 : tie.Need-returns-19
-unfolding number
-returns-19 c = sym (ap (λ (f : Refusal). pos (number f)) (c .enum-told19 .given .1))
-
-returns-20 : tie.Need-returns-20
-unfolding number
-returns-20 c = sym (ap (λ (f : Refusal). pos (number f)) (c .enum-told20 .given .1))
-
-returns-21 : tie.Need-returns-21
-unfolding number
-returns-21 c = sym (ap (λ (f : Refusal). pos (number f)) (c .enum-told21 .given .1))
-
-returns-22 : tie.Need-returns-22
-unfolding number
-returns-22 c = sym (ap (λ (f : Refusal). pos (number f)) (c .enum-told22 .given .1))
-
-returns-23 : tie.Need-returns-23
-unfolding number
-returns-23 c = sym (ap (λ (f : Refusal). pos (number f)) (c .enum-told23 .given .1))
+-- the number of a case is that of the refusal which is it
+numbered : (f g : Refusal) → f ≡ g → pos (number g) ≡ pos (number f)
+numbered f g e = sym (ap (λ (h : Refusal). pos (number h)) e)
 
 pub number-spec : {M : Type 1} → statement M
+unfolding number
 number-spec =
-    tie.close
-    (tie.spec
-    (λ c. search needs)
-    (λ c. search needs)
-    (λ c. search needs)
-    (λ c. search needs)
-    (λ c. search needs)
-    (λ c. search needs)
-    (λ c. search needs)
-    (λ c. search needs)
-    (λ c. search needs)
-    (λ c. search needs)
-    (λ c. search needs)
-    (λ c. search needs)
-    (λ c. search needs)
-    (λ c. search needs)
-    (λ c. search needs)
-    (λ c. search needs)
-    (λ c. search needs)
-    (λ c. search needs)
-    (λ c. search needs)
-    (λ c. search needs)
-    (λ c. search needs)
-    (λ c. search needs)
-    (λ c. search needs)
-    returns
-    returns-2
-    returns-3
-    returns-4
-    returns-5
-    returns-6
-    returns-7
-    returns-8
-    returns-9
-    returns-10
-    returns-11
-    returns-12
-    returns-13
-    returns-14
-    returns-15
-    returns-16
-    returns-17
-    returns-18
-    returns-19
-    returns-20
-    returns-21
-    returns-22
-    returns-23)
+    tie.close (tie.spec
+    (λ c. search needs) (λ c. search needs) (λ c. search needs) (λ c. search needs) (λ c. search needs)
+    (λ c. search needs) (λ c. search needs) (λ c. search needs) (λ c. search needs) (λ c. search needs)
+    (λ c. search needs) (λ c. search needs) (λ c. search needs) (λ c. search needs) (λ c. search needs)
+    (λ c. search needs) (λ c. search needs) (λ c. search needs) (λ c. search needs) (λ c. search needs)
+    (λ c. search needs) (λ c. search needs) (λ c. search needs)
+    (λ c. numbered _ _ (c .enum-told .given .1)) (λ c. numbered _ _ (c .enum-told2 .given .1))
+    (λ c. numbered _ _ (c .enum-told3 .given .1)) (λ c. numbered _ _ (c .enum-told4 .given .1))
+    (λ c. numbered _ _ (c .enum-told5 .given .1)) (λ c. numbered _ _ (c .enum-told6 .given .1))
+    (λ c. numbered _ _ (c .enum-told7 .given .1)) (λ c. numbered _ _ (c .enum-told8 .given .1))
+    (λ c. numbered _ _ (c .enum-told9 .given .1)) (λ c. numbered _ _ (c .enum-told10 .given .1))
+    (λ c. numbered _ _ (c .enum-told11 .given .1)) (λ c. numbered _ _ (c .enum-told12 .given .1))
+    (λ c. numbered _ _ (c .enum-told13 .given .1)) (λ c. numbered _ _ (c .enum-told14 .given .1))
+    (λ c. numbered _ _ (c .enum-told15 .given .1)) (λ c. numbered _ _ (c .enum-told16 .given .1))
+    (λ c. numbered _ _ (c .enum-told17 .given .1)) (λ c. numbered _ _ (c .enum-told18 .given .1))
+    (λ c. numbered _ _ (c .enum-told19 .given .1)) (λ c. numbered _ _ (c .enum-told20 .given .1))
+    (λ c. numbered _ _ (c .enum-told21 .given .1)) (λ c. numbered _ _ (c .enum-told22 .given .1))
+    (λ c. numbered _ _ (c .enum-told23 .given .1)))

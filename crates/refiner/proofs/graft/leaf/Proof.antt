@@ -8,40 +8,10 @@ use borrow.Author.Needs.{needs}
 use Rattle.refiner.proofs.graft.leaf.Statement.{statement}
 use Rattle.refiner.proofs.graft.leaf.Tie as tie
 
-rank-requires : tie.Need-rank-requires
-rank-requires c κs = search needs
-
-open-requires : tie.Need-open-requires
-open-requires c κs = search needs
-
 renumber-requires : tie.Need-renumber-requires
 renumber-requires c κs =
     let s = c .before .before .before .before .before in
     (omega (arith, s .pre .0 .1), within-small _ _ (omega (arith, s .pre .0 .0)) (s .pre .1 .within))
-
-bump-requires : tie.Need-bump-requires
-bump-requires c κs = search needs
-
-pair-key-requires : tie.Need-pair-key-requires
-pair-key-requires c κs = search needs
-
-key-rank-requires : tie.Need-key-rank-requires
-key-rank-requires c κs = search needs
-
-insert-requires : tie.Need-insert-requires
-insert-requires c κs = search needs
-
-add-t12 : tie.Need-add-t12
-add-t12 c = search needs
-
-add-t15 : tie.Need-add-t15
-add-t15 c = search needs
-
-bump-requires-2 : tie.Need-bump-requires-2
-bump-requires-2 c κs = search needs
-
-bump-requires-3 : tie.Need-bump-requires-3
-bump-requires-3 c κs = search needs
 
 returns : tie.Need-returns
 returns c =
@@ -67,15 +37,7 @@ pub leaf-spec : {M : Type 1} → statement M
 leaf-spec =
     tie.close
     (tie.spec
-    rank-requires
-    open-requires
-    renumber-requires
-    bump-requires
-    pair-key-requires
-    key-rank-requires
-    insert-requires
-    add-t12
-    add-t15
-    bump-requires-2
-    bump-requires-3
+    (λ c κs. search needs) (λ c κs. search needs) renumber-requires (λ c κs. search needs) (λ c κs. search needs)
+    (λ c κs. search needs) (λ c κs. search needs) (λ c. search needs) (λ c. search needs) (λ c κs. search needs)
+    (λ c κs. search needs)
     returns)

@@ -15,12 +15,6 @@ use Rattle.refiner.proofs.round.round.Tie as tie
 abbrev begun : tie.Start → Tree
 begun s = tree (now (s .args .pts)) (s .args .n) (now (s .args .keys)) (s .args .e)
 
-sources-requires : tie.Need-sources-requires
-sources-requires c κs = search needs
-
-forest-requires : tie.Need-forest-requires
-forest-requires c κs = search needs
-
 seats-requires : tie.Need-seats-requires
 seats-requires c κs =
     let s = c .before .before .before .before .before .before .before .before .before .before .before .before in
@@ -94,10 +88,5 @@ pub round-spec : {M : Type 1} → statement M
 round-spec =
     tie.close
     (tie.spec
-    sources-requires
-    forest-requires
-    seats-requires
-    found-requires
-    returns
-    exchanged-requires
+    (λ c κs. search needs) (λ c κs. search needs) seats-requires found-requires returns exchanged-requires
     returns-2)

@@ -1,7 +1,7 @@
--- `router::allowed::both_trees` meets its contract: where there is room, the edges given are those of the net's refined tree, with both totals.
+-- `router::allowed::both_trees` meets its contract: where there is room, the edges given are those of the net's refined tree, with both
+-- totals.
 -- Assumes nothing.
 use mathlib.Core.Path.{_≡_, refl, sym, ap, ap₂, _∙_}
-use mathlib.Core.List.{List}
 use Prim.Native.Nat.{ℕ, _^_, _≤_, _<_}
 use native.Mathlib.Omega.{arith}
 use borrow.Author.Tests.{ltb-true, ltb-false}
@@ -13,25 +13,20 @@ use mir.Val.{toZ}
 use mir.ValLaws.{toZ-pos}
 use denote.Ref.{now}
 use Rattle.lent.specs.Told.{given}
-use Rattle.lent.specs.Over.{over}
-use Rattle.lent.specs.Entries.{flat}
-use Rattle.plane.specs.declared.Place.{Place}
-use Rattle.plane.proofs.FlatLaws.{length-macros}
 use Rattle.net.specs.Answer.{number}
 use Rattle.net.specs.Pins.{pinCount}
 use Rattle.net.specs.Net.{netOf, handed}
 use Rattle.net.specs.Allowed.{Allowed}
-use Rattle.net.proofs.PinLaws.{length-pins}
 use Rattle.room.specs.Needs.{edgeNeed}
-use Rattle.graph.specs.Numbers.{edgeNumbers}
-use Rattle.router.specs.Graph.{pointCount}
-use Rattle.router.specs.Terminal.{pathsTotal}
-use Rattle.router.specs.Refined.{laidTotal, metalOf}
-use Rattle.router.specs.Both.{bothAnswer, bothGiven, toldBoth}
 use Rattle.terminal.proofs.PathLaws.{total-small}
-use Rattle.router.proofs.AnswerLaws.{room-short, room-enough}
-use Rattle.router.proofs.RefinedLaws.{total-low, answer-edges, answer-count, answer-total, answer-small, answer-few, answer-metal, metal-asks, metal-low}
 use Rattle.made.proofs.CountedLaws.{counts-few}
+use Rattle.answers.specs.Graph.{pointCount}
+use Rattle.answers.specs.Terminal.{pathsTotal}
+use Rattle.answers.specs.Refined.{laidTotal, metalOf}
+use Rattle.answers.specs.Both.{bothAnswer, bothGiven}
+use Rattle.answers.proofs.AnswerLaws.{room-short, room-enough}
+use Rattle.results.proofs.RefinedLaws.{total-low, metal-low}
+use Rattle.router.specs.Answers.{toldBoth}
 use Rattle.router.proofs.RoomLaws.{edges-ask}
 use Rattle.router.proofs.CallLaws.{gives-refused, gives-given}
 use borrow.Author.Needs.{needs}
@@ -59,86 +54,55 @@ returns c =
 room : (c : tie.Else1) → asked (c .before .before) ≤ length (now (c .before .before .args .edges))
 room c = ltb-false _ _ (sym (short (c .before)) ∙ c .if1 .left)
 
-refine-requires : tie.Need-refine-requires
-refine-requires c κs = (c .before .before .before .before .pre, (refl, refl))
+edges-requires : tie.Need-edges-requires
+edges-requires c κs = let e = c .before in (e .before .before .pre, room e)
 
-abbrev start : tie.After-refine → tie.Start
-start d = d .before .before .before .before .before
+abbrev start : tie.After-edges → tie.Start
+start d = d .before .before .before .before
 
--- what the refiner has left in its tables
-abbrev allowed : (d : tie.After-refine) → Allowed (netOf (handed (start d .args .net .weights)) (now (start d .args .pins)) (now (start d .args .macros)))
+abbrev allowed : (d : tie.After-edges) →
+    Allowed (netOf (handed (start d .args .net .weights)) (now (start d .args .pins)) (now (start d .args .macros)))
 allowed d = start d .pre .allowed
 
-metal-requires : tie.Need-metal-requires
-metal-requires c κs = let d = c .before .before in metal-asks (allowed d) (d .refine .ensures .0)
+-- both totals and the metal fit
+total-fits : (d : tie.After-edges) → d .edges .result .total < 2 ^ 63
+total-fits d = omega (arith, d .edges .ensures .1 .0, total-low (allowed d))
 
-give-edges-requires : tie.Need-give-edges-requires
-give-edges-requires c κs =
-    let d = c .before .before .before .before .before .before in
-    let a = start d .args in
-    let few = answer-few (allowed d) (d .refine .ensures .0) in (
-      omega (arith, d .refine .ensures .0 .few .1),
-      (
-        answer-small (allowed d) (d .refine .ensures .0),
-        omega (arith, few, room (d .before .before .before), length-pins (now (a .pins)), length-macros (now (a .macros))),
-      ),
-    )
+metal-fits : (d : tie.After-edges) → d .edges .result .metal < 2 ^ 63
+metal-fits d = omega (arith, d .edges .ensures .1 .1 .0, metal-low (allowed d), total-low (allowed d))
 
--- the total and the metal fit
-total-fits : (d : tie.After-refine) → d .refine .result .total < 2 ^ 63
-total-fits d = omega (arith, answer-total (allowed d) (d .refine .ensures .0), total-low (allowed d))
-
-terminal-fits : (d : tie.After-refine) → d .refine .result .terminal < 2 ^ 63
+terminal-fits : (d : tie.After-edges) → d .edges .result .terminal < 2 ^ 63
 unfolding pathsTotal
-terminal-fits d = omega (arith, d .refine .ensures .1, total-small (allowed d))
+terminal-fits d = omega (arith, d .edges .ensures .1 .1 .1 .0, total-small (allowed d))
 
-metal-is : (d : tie.After-metal) → d .metal .result
-    ≡ metalOf (handed (start (d .before .before .before) .args .net .weights)) (now (start (d .before .before .before) .args .pins)) (now (start (d .before .before .before) .args .macros))
-metal-is d = let r = d .before .before .before in answer-metal (allowed r) (r .refine .ensures .0) (d .metal .ensures)
+cast-t11 : tie.Need-cast-t11
+cast-t11 c = record { sfits = terminal-fits (c .before .before) }
 
-metal-fits : (d : tie.After-metal) → d .metal .result < 2 ^ 63
-metal-fits d = let r = d .before .before .before in omega (arith, metal-is d, metal-low (allowed r), total-low (allowed r))
+cast-t12 : tie.Need-cast-t12
+cast-t12 c = record { sfits = total-fits (c .before .before .before) }
 
-cast-t21 : tie.Need-cast-t21
-cast-t21 c = record { sfits = terminal-fits (c .before .before .before .before .before .before .before .before .before) }
-
-cast-t22 : tie.Need-cast-t22
-cast-t22 c = record { sfits = total-fits (c .before .before .before .before .before .before .before .before .before .before) }
-
-cast-t23 : tie.Need-cast-t23
-cast-t23 c = record { sfits = metal-fits (c .before .before .before .before .before .before .before) }
+cast-t13 : tie.Need-cast-t13
+cast-t13 c = record { sfits = metal-fits (c .before .before .before .before) }
 
 returns-2 : tie.Need-returns-2
-unfolding bothGiven toldBoth pathsTotal
+unfolding bothGiven toldBoth
 returns-2 c =
-    let l = c .before .before .before .before .before .before .before in
-    let d = l .before .before .before in
+    let d = c .before .before .before .before in
     let a = start d .args in
-    let w = d .refine .ensures .0 in
+    let is = d .edges .ensures .1 in
     let given-is : ℕ × (ℤ × (ℤ × ℤ)) = bothAnswer (handed (a .net .weights)) (now (a .pins)) (now (a .macros)) in
-    let sum : toZ w64 (d .refine .result .total) ≡ pos (laidTotal (handed (a .net .weights)) (now (a .pins)) (now (a .macros))) =
-    toZ-pos w64 (d .refine .result .total) (total-fits d) ∙ ap pos (answer-total (allowed d) w) in
-    let paths : toZ w64 (d .refine .result .terminal) ≡ pos (pathsTotal (handed (a .net .weights)) (now (a .pins)) (now (a .macros))) =
-    toZ-pos w64 (d .refine .result .terminal) (terminal-fits d) ∙ ap pos (d .refine .ensures .1) in
-    let laid : toZ w64 (l .metal .result) ≡ pos (metalOf (handed (a .net .weights)) (now (a .pins)) (now (a .macros))) =
-    toZ-pos w64 (l .metal .result) (metal-fits l) ∙ ap pos (metal-is l) in
+    let sum : toZ w64 (d .edges .result .total) ≡ pos (laidTotal (handed (a .net .weights)) (now (a .pins)) (now (a .macros))) =
+    toZ-pos w64 (d .edges .result .total) (total-fits d) ∙ ap pos (is .0) in
+    let laid : toZ w64 (d .edges .result .metal) ≡ pos (metalOf (handed (a .net .weights)) (now (a .pins)) (now (a .macros))) =
+    toZ-pos w64 (d .edges .result .metal) (metal-fits d) ∙ ap pos (is .1 .0) in
+    let paths : toZ w64 (d .edges .result .terminal) ≡ pos (pathsTotal (handed (a .net .weights)) (now (a .pins)) (now (a .macros))) =
+    toZ-pos w64 (d .edges .result .terminal) (terminal-fits d) ∙ ap pos (is .1 .1 .0) in
     gives-given
-    (ap₂ (λ (n : ℕ) (z : ℤ × (ℤ × ℤ)). given (n, z)) (answer-count (allowed d) w)
+    (ap₂ (λ (n : ℕ) (z : ℤ × (ℤ × ℤ)). given (n, z)) (d .edges .ensures .0)
     (ap₂ (λ (p : ℤ) (z : ℤ × ℤ). (p, z)) paths (ap₂ (λ (t u : ℤ). (t, u)) sum laid)))
-    (room-enough {A = ℕ × (ℤ × (ℤ × ℤ))} (asked (start d)) (length (now (a .edges))) given-is (room (d .before .before .before)))
-    (c .before .before .before .give-edges .ensures ∙ ap (λ (es : List (Place × Place)). over (flat edgeNumbers es) (now (a .edges))) (answer-edges (allowed d) w))
+    (room-enough {A = ℕ × (ℤ × (ℤ × ℤ))} (asked (start d)) (length (now (a .edges))) given-is (room (d .before .before)))
+    (is .1 .1 .1)
 
 pub both-trees-spec : {M : Type 1} → statement M
 both-trees-spec =
-    tie.close
-    (tie.spec
-    edges-short-requires
-    returns
-    refine-requires
-    metal-requires
-    give-edges-requires
-    cast-t21
-    cast-t22
-    cast-t23
-    (λ c. search needs)
-    returns-2)
+    tie.close (tie.spec edges-short-requires returns edges-requires cast-t11 cast-t12 cast-t13 (λ c. search needs) returns-2)

@@ -6,7 +6,7 @@ use denote.Ref.{now}
 use Rattle.lists.proofs.AnyLaws.{none-any}
 use Rattle.net.specs.Net.{handed}
 use Rattle.net.specs.Pins.{pinLoads}
-use Rattle.net.specs.Check.{noLoad}
+use Rattle.net.specs.Tests.{noLoad}
 use Rattle.made.proofs.CountedLaws.{as-pins}
 use Rattle.router.proofs.DelayLaws.{delays-asked, delays-call}
 use borrow.Author.Needs.{needs}

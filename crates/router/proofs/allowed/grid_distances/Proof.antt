@@ -17,8 +17,9 @@ use Rattle.net.specs.Pins.{pinCount, macroCount}
 use Rattle.net.specs.Net.{Net, handed}
 use Rattle.lines.specs.Bounds.{gridPins, gridMacros}
 use Rattle.grid.specs.Distance.{SquareOver}
-use Rattle.router.specs.Distances.{aboveGrid, toldDistances}
-use Rattle.router.proofs.Distances.{grid-above, grid-short, grid-enough, above-of}
+use Rattle.answers.specs.Distances.{aboveGrid}
+use Rattle.answers.proofs.DistanceLaws.{grid-above, grid-short, grid-enough, above-of}
+use Rattle.router.specs.Answers.{toldDistances}
 use Rattle.made.proofs.CountedLaws.{as-net, as-allowed, as-pins, counts-few}
 use Rattle.router.proofs.CallLaws.{square-refused, square-given}
 use borrow.Author.Needs.{needs}

@@ -29,10 +29,10 @@ use Rattle.net.proofs.PinLaws.{length-pins}
 use Rattle.room.specs.Needs.{wireNeed}
 use Rattle.graph.specs.Numbers.{edgeNumbers}
 use Rattle.laid.specs.Edges.{laidBound}
-use Rattle.router.specs.Graph.{pointCount}
-use Rattle.router.specs.Refined.{toldTree}
-use Rattle.router.specs.Slid.{slidTotal, slidMetal, slidAnswer, slidGiven}
-use Rattle.router.proofs.AnswerLaws.{room-short, room-enough}
+use Rattle.answers.specs.Graph.{pointCount}
+use Rattle.answers.specs.Slid.{slidTotal, slidMetal, slidAnswer, slidGiven}
+use Rattle.answers.proofs.AnswerLaws.{room-short, room-enough}
+use Rattle.router.specs.Answers.{toldTree}
 use Rattle.made.proofs.CountedLaws.{as-net, counts-few}
 use Rattle.router.proofs.RoomLaws.{wires-ask}
 use Rattle.router.proofs.CallLaws.{gives-refused, gives-given}
@@ -145,17 +145,6 @@ pub slid-tree-spec : {M : Type 1} → statement M
 slid-tree-spec =
     tie.close
     (tie.spec
-    wires-short-requires
-    returns
-    (λ c. search needs)
-    (λ c κs. search needs)
-    (λ c. search needs)
-    total-requires
-    (λ c. search needs)
-    metal-requires
-    (λ c. search needs)
-    give-requires
-    cast-t23
-    cast-t24
-    (λ c. search needs)
+    wires-short-requires returns (λ c. search needs) (λ c κs. search needs) (λ c. search needs) total-requires
+    (λ c. search needs) metal-requires (λ c. search needs) give-requires cast-t23 cast-t24 (λ c. search needs)
     returns-2)

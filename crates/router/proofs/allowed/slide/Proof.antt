@@ -8,7 +8,7 @@ use denote.Ref.{now}
 use Rattle.net.specs.Net.{netOf, handed}
 use Rattle.net.specs.Allowed.{Allowed}
 use Rattle.laid.specs.Edges.{laidBound}
-use Rattle.router.proofs.RefinedLaws.{answer-small}
+use Rattle.results.proofs.RefinedLaws.{answer-small}
 use Rattle.router.proofs.SlidTable.{table-slidable, table-slid}
 use borrow.Author.Needs.{needs}
 use Rattle.router.proofs.allowed.slide.Statement.{statement}

@@ -17,8 +17,9 @@ use Rattle.net.specs.Net.{handed}
 use Rattle.room.specs.Needs.{pathNeed}
 use Rattle.terminal.proofs.PathLaws.{total-small}
 use Rattle.made.proofs.CountedLaws.{counts-few}
-use Rattle.router.specs.Terminal.{pathsOf, pathsTotal, terminalGiven, toldTerminal}
-use Rattle.router.proofs.AnswerLaws.{room-short, room-enough}
+use Rattle.answers.specs.Terminal.{pathsOf, pathsTotal, terminalGiven}
+use Rattle.answers.proofs.AnswerLaws.{room-short, room-enough}
+use Rattle.router.specs.Answers.{toldTerminal}
 use Rattle.router.proofs.RoomLaws.{paths-ask}
 use Rattle.router.proofs.CallLaws.{gives-refused, gives-given}
 use borrow.Author.Needs.{needs}

@@ -12,7 +12,7 @@ use Rattle.net.specs.Net.{Net, netWith}
 use Rattle.net.specs.Allowed.{PlaceInRange}
 use Rattle.slide.specs.Bend.{Edge}
 use Rattle.straight.specs.Table.{edgesIn}
-use Rattle.bends.specs.Settled.{edgesOf}
+use Rattle.settled.specs.Settled.{edgesOf}
 use Rattle.slider.proofs.RoundLaws.{rounds-still}
 use Rattle.slider.proofs.FoundLaws.{Found, found-none, found-some, found-movable, found-edges}
 use Rattle.slider.proofs.TurnLaws.{fresh, few-pins, settle-asks, listed, ranged, found}
@@ -100,11 +100,5 @@ pub round-spec : {M : Type 1} → statement M
 round-spec =
     tie.close
     (tie.spec
-    settle-requires
-    (λ c κs. search needs)
-    choice-requires
-    (λ c. search needs)
-    returns
-    make-requires
-    (λ c. search needs)
+    settle-requires (λ c κs. search needs) choice-requires (λ c. search needs) returns make-requires (λ c. search needs)
     returns-2)

@@ -13,7 +13,7 @@ use Rattle.slide.specs.Bend.{Edge}
 use Rattle.slide.specs.Slide.{rounds}
 use Rattle.slide.specs.Promise.{State}
 use Rattle.straight.specs.Table.{straightBound}
-use Rattle.bends.specs.Settled.{edgesOf}
+use Rattle.settled.specs.Settled.{edgesOf}
 use Rattle.slider.proofs.RoundLaws.{round-state}
 use Rattle.slider.proofs.TurnLaws.{few-edges, turn-next, turn-last, turn-end}
 use Rattle.slider.proofs.round.rounds.Statement.{statement}
@@ -99,14 +99,6 @@ pub rounds-spec : {M : Type 1} → statement M
 rounds-spec =
     tie.close
     (tie.spec
-    Inv-loop
-    μ-loop
-    loop-holds
-    round-requires
-    (λ c. omega arith)
-    same-length
-    returns
-    (λ c. omega arith)
-    loop-again
+    Inv-loop μ-loop loop-holds round-requires (λ c. omega arith) same-length returns (λ c. omega arith) loop-again
     same-length-2
     returns-2)

@@ -6,7 +6,7 @@ use Prim.Native.Nat.{ℕ}
 use borrow.Author.Needs.{needs}
 use denote.Ref.{now}
 use Rattle.slide.specs.Bend.{Edge}
-use Rattle.slider.specs.Shift.{shifted, Movable}
+use Rattle.shifted.specs.Shift.{shifted, Movable}
 use Rattle.slider.proofs.RoundLaws.{labels-rows, labels-columns}
 use Rattle.slider.proofs.round.shift_bar.Statement.{statement}
 use Rattle.slider.proofs.round.shift_bar.Tie as tie
@@ -61,10 +61,5 @@ pub shift-bar-spec : {M : Type 1} → statement M
 shift-bar-spec =
     tie.close
     (tie.spec
-    (λ c κs. search needs)
-    shift-edges-requires
-    (λ c. search needs)
-    returns
-    shift-edges-requires-2
-    (λ c. search needs)
+    (λ c κs. search needs) shift-edges-requires (λ c. search needs) returns shift-edges-requires-2 (λ c. search needs)
     returns-2)

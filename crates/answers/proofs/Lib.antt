@@ -1,0 +1,5 @@
+pub mod AnswerLaws
+pub mod GraphLaws
+pub mod DistanceLaws
+pub mod BestLaws
+pub mod Answered

@@ -1,0 +1,2 @@
+-- What is clear of macros, asked by code. No definitions of its own: what meets an interior and what is clear is plane/Macro's, the macros
+-- of a flat list are plane/Flat's.

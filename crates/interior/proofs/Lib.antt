@@ -1,0 +1,3 @@
+pub mod ScaleLaws
+pub mod SpanLaws
+pub mod InteriorLaws

@@ -1,0 +1,4 @@
+pub mod EntryScan
+pub mod InsertLaws
+pub mod KeyLaws
+pub mod SettledLaws

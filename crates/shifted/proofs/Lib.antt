@@ -1,0 +1,2 @@
+pub mod ShiftedLaws
+pub mod PlaceLaws

@@ -1,0 +1,4 @@
+-- Tables in order at the front of a flat list: entries by their numbers, and a place put in.
+--
+-- What insertion comes to is said in crate lent (`Inserted`), what order is in crate lists (`Ascending`), and how many places come before
+-- another in crate plane (`rank`). The laws here bring the three together, for entries of any kind where that is no more work.
