@@ -1,5 +1,5 @@
-//! Rules L17 and L18 on small nets: no metal in clear steps of a unit, or of a part of one, costs less than the best tree, and some costs just
-//! that; and that the judge is awake.
+//! Rules L17 and L18 on small nets: no metal in clear steps of a unit, or of a part of one, costs less than the best tree, and some costs
+//! just that; and that the judge is awake.
 
 use std::collections::BTreeMap;
 
@@ -49,7 +49,7 @@ fn at_the_edge(net: &Net) -> bool {
     places.any(|Place { x, y }| x.abs() == end || y.abs() == end)
 }
 
-/// Both ways of the second program, which share nothing, on nets where macros are in the way; metal without macros is cheaper there.
+/// The best tree's cost beside that of all metal, on nets of which many have macros in the way: metal without them is cheaper.
 #[test]
 fn best_trees_beside_all_metal() {
     let mut met = BTreeMap::new();
