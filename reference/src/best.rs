@@ -115,9 +115,12 @@ pub fn cost_by_edge_sets(net: &Net, most: usize) -> Option<i64> {
         .flat_map(|(a, others)| others.iter().map(move |&(b, cost)| (a, b, cost)))
         .filter(|(a, b, _)| a < b)
         .collect();
-    if edges.len() > most {
-        return None;
-    }
+    let count = grid.crossings.len();
+    (edges.len() <= most).then(|| least_set(count, &edges, &pins))
+}
+
+/// What the cheapest set of edges costs that joins the pins, of so many points by number.
+pub(crate) fn least_set(points: usize, edges: &[(usize, usize, i64)], pins: &[usize]) -> i64 {
     let chosen = |set: u64| {
         edges
             .iter()
@@ -125,7 +128,7 @@ pub fn cost_by_edge_sets(net: &Net, most: usize) -> Option<i64> {
             .filter(move |(i, _)| set >> i & 1 == 1)
     };
     let joins = |set: u64| {
-        let mut groups: Vec<usize> = (0..grid.crossings.len()).collect();
+        let mut groups: Vec<usize> = (0..points).collect();
         for (_, &(a, b, _)) in chosen(set) {
             let (kept, gone) = (groups[a], groups[b]);
             groups
@@ -142,7 +145,7 @@ pub fn cost_by_edge_sets(net: &Net, most: usize) -> Option<i64> {
             least = cost;
         }
     }
-    Some(least)
+    least
 }
 
 #[cfg(test)]
