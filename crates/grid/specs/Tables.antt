@@ -96,12 +96,20 @@ module _ (costs : List ℕ) (e : ℕ) where
   abbrev pub Near : ℕ → ℕ → ℕ → Type 0
   Near v w c = (k : ℕ) × ((k < e) × Reads k v w c)
 
-  -- the first n segments passed over, from s to t: a change lowers the sum, and without one these edges are quiet
-  pub record Passed (n : ℕ) (moved : Bool) (s t : List ℕ) : Type 0 where
+  -- some segments passed over, from s to t: a change lowers the sum, and without one these edges are quiet
+  pub record Over (done : ℕ → Type 0) (moved : Bool) (s t : List ℕ) : Type 0 where
     pub held : Held Near s t
     pub less : moved ≡ true → total t < total s
     pub same : moved ≡ false → t ≡ s
-    pub quiet : moved ≡ false → (k v w c : ℕ) → k < n → Reads k v w c → at t v ≤ at t w + c
+    pub quiet : moved ≡ false → (k v w c : ℕ) → done k → Reads k v w c → at t v ≤ at t w + c
+
+  -- the first n segments
+  abbrev pub Passed : ℕ → Bool → List ℕ → List ℕ → Type 0
+  Passed n moved s t = Over (λ k. k < n) moved s t
+
+  -- those from n on
+  abbrev pub PassedFrom : ℕ → Bool → List ℕ → List ℕ → Type 0
+  PassedFrom n moved s t = Over (λ k. (n ≤ k) × (k < e)) moved s t
 
 -- Rows given
 

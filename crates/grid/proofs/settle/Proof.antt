@@ -14,20 +14,20 @@ abbrev μ-loop : tie.MeasureT-loop
 loop-holds : tie.Need-loop-holds Inv-loop μ-loop
 loop-holds c = settle-none _ _ _
 
-pass-requires : tie.Need-pass-requires Inv-loop μ-loop
-pass-requires c κs =
+pass-both-requires : tie.Need-pass-both-requires Inv-loop μ-loop
+pass-both-requires c κs =
     let l = c .before .before in
     (l .before .pre .0, held-row _ _ _ (l .before .pre .1) (l .loop .inv .held))
 
 loop-less : tie.Need-loop-less Inv-loop μ-loop
-loop-less c = settle-less _ _ _ _ _ _ (c .before .before .loop-test .taken) (c .pass .ensures)
+loop-less c = settle-less _ _ _ _ _ _ (c .before .before .loop-test .taken) (c .pass-both .ensures)
 
 loop-again : tie.Need-loop-again Inv-loop μ-loop
-loop-again c = settle-more _ _ _ _ _ _ _ (c .before .before .before .loop .inv) (c .pass .ensures)
+loop-again c = settle-more _ _ _ _ _ _ _ (c .before .before .before .loop .inv) (c .pass-both .ensures)
 
 returns : tie.Need-returns Inv-loop μ-loop
 returns c = (c .before .loop .inv .held, c .before .loop .inv .quiet (c .loop-test .left))
 
 pub settle-spec : {M : Type 1} → statement M
 settle-spec =
-    tie.close (tie.spec Inv-loop μ-loop loop-holds pass-requires loop-less loop-again returns)
+    tie.close (tie.spec Inv-loop μ-loop loop-holds pass-both-requires loop-less loop-again returns)
