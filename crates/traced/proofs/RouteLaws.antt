@@ -17,7 +17,7 @@ use Rattle.lists.proofs.MemberLaws.{in-turned, of-turned}
 use Rattle.lines.specs.Bounds.{crossingBound, segmentBound}
 use Rattle.grid.specs.Rows.{at}
 use Rattle.grid.specs.Tables.{target, Fits, Reads}
-use Rattle.grid.proofs.SegmentLaws.{target-even, target-odd}
+use Rattle.grid.proofs.SegmentLaws.{target-above}
 use Rattle.parts.specs.Numbers.{partOf}
 use Rattle.parts.specs.Tables.{valueAt, rowOf}
 use Rattle.traced.specs.Routes.{inOrder, otherEnd, touches, leads, meets, StepFound, PartFound, Marked, Down, start, over as further}
@@ -85,13 +85,6 @@ touch-one k v e = rw (eq-eqb (k / 2) v e) refl
 pub touch-two : (k v : ℕ) → target k ≡ v → touches k v ≡ true
 unfolding touches
 touch-two k v e = by (eqb (k / 2) v) (λ f. rw f refl) (λ f. rw (f, eq-eqb (target k) v e) refl)
-
-pub target-above : (k : ℕ) → k / 2 < target k
-target-above k = pick (ℕ-discrete (k % 2) 0)
-  where
-    pick : Dec (k % 2 ≡ 0) → k / 2 < target k
-    pick (yes e) = omega (arith, target-even k e)
-    pick (no n) = omega (arith, target-odd k n)
 
 -- v is one end, and the other end is the other
 pub touch-ends : (k v : ℕ) → touches k v ≡ true → ((v ≡ k / 2) × (otherEnd k v ≡ target k)) ⊎ ((v ≡ target k) × (otherEnd k v ≡ k / 2))
