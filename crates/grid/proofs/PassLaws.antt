@@ -9,12 +9,12 @@ use mathlib.Core.List.{List}
 use Prim.Native.Nat.{ℕ, suc, _+_, _*_, _/_, _≤_, _<_}
 use native.Mathlib.Decide.{ℕ-discrete}
 use native.Mathlib.Omega.{arith}
-use borrow.Author.Tests.{ltb-true, ltb-false}
+use borrow.Author.Tests.{ltb-false}
 use lib.Dec.{ltb}
 use lib.ListN.{length, getD}
 use lib.Seq.{getD-set-same, getD-set-other}
 use Rattle.lists.specs.Total.{total}
-use Rattle.lists.proofs.TestLaws.{by, differ, either, or-none}
+use Rattle.lists.proofs.TestLaws.{by, differ, or-none}
 use Rattle.lines.specs.Bounds.{lineBound, crossingBound, unreached}
 use Rattle.grid.specs.Rows.{at, lowered, Held, Quiet}
 use Rattle.grid.proofs.RowLaws.{lowered-hit, lowered-miss, lowered-less, held-start, held-lowered, held-then}
