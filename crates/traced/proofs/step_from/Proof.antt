@@ -18,7 +18,7 @@ loop-holds : tie.Need-loop-holds Inv-loop μ-loop
 loop-holds c = (omega arith, λ j h. let z : ⊥ = omega (arith, h) in absurd z)
 
 segment-at-requires : tie.Need-segment-at-requires Inv-loop μ-loop
-segment-at-requires c κs = (c .before .before .pre .1 .1, c .loop-test .taken)
+segment-at-requires c κs = (c .before .before .pre .1 .1, omega (arith, c .loop-test .taken))
 
 leads-requires : tie.Need-leads-requires Inv-loop μ-loop
 leads-requires c κs =
