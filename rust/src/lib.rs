@@ -267,7 +267,7 @@ pub type RefinedTree = Tree;
 /// both places for a bend are taken.
 pub type SlidTree = Tree;
 
-/// A best tree: no metal that joins the pins costs less. Which one, where several cost the same, is left to the library.
+/// A best tree: no metal outside the macros joins the pins for less. Which one, where several cost the same, is left to the library.
 pub type BestTree = Tree;
 
 /// What a bought-in tree that passes comes to.

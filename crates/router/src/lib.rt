@@ -198,9 +198,10 @@ pub fn delay(
 
 // Best tree: of up to five pins and sixteen macros, the edges in order of a tree along the grid, how many there are, their total and the
 // metal to lay, or 11 to 18, then 41 for a larger net, then 21 where fewer than 65,536 numbers of work are lent, or fewer than 4(m + 2k)²
-// for the edges. Which tree, where several cost the same, is left to the program, and the contract says so; that no edges of the grid that
-// join all pins cost less, that the check of bought-in trees passes it, and that the refined tree is never cheaper: `PromisedBest`
-// (specs/Best.antt). Of the work the first 65,536 numbers are then 0 and the others as they were.
+// for the edges. Which tree, where several cost the same, is left to the program, and the contract says so; that no metal clear of the
+// macros joins all pins for less, on the grid or off it, in units or in fractions, that the check of bought-in trees passes it, and that no
+// refined tree, no slid tree and no list that this check passes is cheaper: `PromisedBest` (specs/Best.antt). Of the work the first 65,536
+// numbers are then 0 and the others as they were.
 pub fn best_tree(
     w: Weighing,
     pins: &[i32],
