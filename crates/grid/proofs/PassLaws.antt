@@ -1,6 +1,6 @@
--- Edges asked one by one, in passes on and back: an edge stays quiet as long as the end that it is asked from is lowered no more, so a
--- pass in the order of its far ends, or from the last to the first of its near ends, leaves all of its edges quiet. The sum of the row
--- falls with each change.
+-- Edges asked one by one, in passes on and back. An edge stays quiet while the end that it is asked from is lowered no more: so a pass on,
+-- from the first crossing to the last, leaves all far ends quiet, and a pass back, from the last to the first, all near ends. The sum of
+-- the row falls with each change.
 -- Assumes nothing.
 use mathlib.Core.Path.{_≡_, refl, sym, ap, _∙_}
 use mathlib.Core.Bool.{Bool, true, false, _||_}
@@ -9,34 +9,17 @@ use mathlib.Core.List.{List}
 use Prim.Native.Nat.{ℕ, suc, _+_, _*_, _/_, _≤_, _<_}
 use native.Mathlib.Decide.{ℕ-discrete}
 use native.Mathlib.Omega.{arith}
-use borrow.Author.Tests.{ltb-false}
-use lib.Dec.{ltb}
 use lib.ListN.{length, getD}
-use lib.Seq.{getD-set-same, getD-set-other}
 use Rattle.lists.specs.Total.{total}
-use Rattle.lists.proofs.TestLaws.{by, differ, or-none}
+use Rattle.lists.proofs.TestLaws.{differ, or-none}
 use Rattle.lines.specs.Bounds.{lineBound, crossingBound, unreached}
-use Rattle.grid.specs.Rows.{at, lowered, Held, Quiet}
-use Rattle.grid.proofs.RowLaws.{lowered-hit, lowered-miss, lowered-less, held-start, held-lowered, held-then}
+use Rattle.grid.specs.Rows.{at, Held, Quiet}
+use Rattle.grid.proofs.RowLaws.{lowered-miss, lowered-less, lowered-there, lowered-other, held-start, held-lowered, held-then}
 use Rattle.grid.specs.Tables.{target, Row, Fits, Near, Lowered, Ahead, Onward, Backward, Passed, PassedBoth}
 use Rattle.grid.proofs.SegmentLaws.{target-above, target-across, target-along}
 
 pub held-row : (near : ℕ → ℕ → ℕ → Type 0) (s t : List ℕ) → Row s → Held near s t → Row t
 held-row near s t r h = record { size = h .size ∙ r .size; low = λ v. omega (arith, h .below v, r .low v) }
-
--- One value lowered
-
-lowered-there : (v w c : ℕ) (t : List ℕ) → v < length t → at (lowered v w c t) v ≤ at t w + c
-lowered-there v w c t h =
-    by (ltb (at t w + c) (at t v))
-    (λ e. rw (lowered-hit v w c t e) (omega (arith, getD-set-same t v (at t w + c) 0 h)))
-    (λ e. rw (lowered-miss v w c t e) (omega (arith, ltb-false (at t w + c) (at t v) e)))
-
-lowered-other : (v w c : ℕ) (t : List ℕ) (x : ℕ) → (x ≡ v → ⊥) → at (lowered v w c t) x ≡ at t x
-lowered-other v w c t x n =
-    by (ltb (at t w + c) (at t v))
-    (λ e. rw (lowered-hit v w c t e) (getD-set-other t v x (at t w + c) 0 n))
-    (λ e. rw (lowered-miss v w c t e) refl)
 
 -- two changes one after the other: one of them lowers the sum
 less-then : (m n : Bool) (a b c : ℕ) → (m ≡ true → b < a) → (m ≡ false → b ≡ a) → (n ≡ true → c < b) → (n ≡ false → c ≡ b) →
