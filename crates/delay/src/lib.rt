@@ -72,13 +72,26 @@ pub fn delays(
         (driverIn (now (pts .entry)) (now (pin .entry)) (z .points) driver)) (now (pin .entry)) 0 (z .points))) (now (lent .entry)) ⌝ }
 {
     let d = find(pts, pin, z.points, driver);
-    let mut table = [0.0f64; POINTS];
     let top = Visit {
         up: d,
         point: d,
         left: z.edges,
     };
-    elmore::lay(pts, keys, z.edges, loads, t, top, 0.0, &mut table);
+    let mut held = [0.0f64; POINTS];
+    let mut whose = [0u32; POINTS];
+    let mut table = [0.0f64; POINTS];
+    elmore::lay(
+        pts,
+        keys,
+        z.edges,
+        loads,
+        t,
+        top,
+        0.0,
+        &mut held,
+        &mut whose,
+        &mut table,
+    );
     if floats::has_mark(&table, pin, z.points) {
         return Delayed::Refused(Refusal::DelayNotFinite);
     }
