@@ -7,6 +7,7 @@ pub mod blocks;
 pub mod commands;
 pub mod delay;
 pub mod fingerprint;
+pub mod formats;
 pub mod line;
 pub mod picture;
 pub mod program;

@@ -145,6 +145,8 @@ calzundi COMMAND ..: a tree router whose every answer is proved
     delay NET DRIVER R C   the Elmore delay from a driver to each pin
     pack NET [FILE]        a net file of a net
     unpack NET [TEXT]      a net as text
+    export NET..           layouts with macros, wires and pins: --gds, --def
+    import LAYOUT..        nets, and with --tree trees, out of GDSII and DEF
 
 `calzundi COMMAND --help` says more. A NET is text, one `pin x y load` or `macro left bottom right top` a line, or a net file; for - it is
 standard input. A load, 0 to 1000000, may be left out where it is 0; no tree depends on it. A line `weights x y`, 1 to 8 each, says what a

@@ -9,6 +9,8 @@ mod compare;
 mod delay;
 mod distances;
 mod draw;
+mod export;
+mod import;
 mod pack;
 mod price;
 mod route;
@@ -33,4 +35,6 @@ pub const ALL: &[Command] = &[
     delay::COMMAND,
     pack::COMMAND,
     unpack::COMMAND,
+    export::COMMAND,
+    import::COMMAND,
 ];
