@@ -129,7 +129,7 @@ fn asks(given: &[OsString], wanted: &[&str]) -> bool {
         .any(|word| wanted.iter().any(|wanted| word == wanted))
 }
 
-const HELP: &str = "\
+pub const HELP: &str = "\
 calzundi COMMAND ..: a tree router whose every answer is proved
 
     check NET..            allowed, or why not: the number and the lines that are to blame
@@ -147,6 +147,8 @@ calzundi COMMAND ..: a tree router whose every answer is proved
     unpack NET [TEXT]      a net as text
     export NET..           layouts with macros, wires and pins: --gds, --def
     import LAYOUT..        nets, and with --tree trees, out of GDSII and DEF
+    man [COMMAND]          the man page of calzundi or of a command
+    completion SHELL       what bash, zsh or fish complete
 
 `calzundi COMMAND --help` says more. A NET is text, one `pin x y load` or `macro left bottom right top` a line, or a net file; for - it is
 standard input. A load, 0 to 1000000, may be left out where it is 0; no tree depends on it. A line `weights x y`, 1 to 8 each, says what a

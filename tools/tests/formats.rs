@@ -3,6 +3,7 @@
 
 mod common;
 
+use std::ffi::OsStr;
 use std::fs;
 use std::time::{Duration, Instant};
 
@@ -14,6 +15,13 @@ use tools::formats::drawing::{cell_name, wires, Drawing};
 use tools::formats::found::Found;
 use tools::formats::split::split;
 use tools::formats::{def, gds};
+
+/// What is said on standard error where the status is 1, whatever is printed.
+fn failed(words: &[&str], input: &[u8]) -> String {
+    let output = run(words, input);
+    assert_eq!(output.status.code(), Some(1), "{words:?}");
+    String::from_utf8(output.stderr).unwrap()
+}
 
 fn drawing(net: &Net, wires: Vec<Wire>) -> Drawing<'_> {
     Drawing {
@@ -135,7 +143,8 @@ fn a_file_of_klayout() {
     assert!(wrong.contains("refused 17"), "{wrong}");
     let text = String::from_utf8(other.stdout).unwrap();
     // With the large box as a macro two pins stand in an interior, and the net is refused.
-    assert_eq!((text.as_str(), other.status.code()), ("", Some(1)));
+    assert!(!text.contains("pin "), "{text}");
+    assert_eq!(other.status.code(), Some(1));
 }
 
 /// A file with most of what DEF has: the net that is asked for, and what was passed over.
@@ -321,7 +330,7 @@ fn bad_lines_of_def() {
     }
     // A refusal names the lines of the DEF.
     let twice = design(&pins.replace("( 4 0 )", "( 0 0 )"));
-    let told = said(&["import", "-"], twice.as_bytes(), 1);
+    let told = failed(&["import", "-"], twice.as_bytes());
     assert!(
         told.contains("refused 15") && told.contains("line 6, pin 2 (0 0)"),
         "{told}"
@@ -745,7 +754,7 @@ fn outputs_go_where_they_should() {
         "-o",
         word(&many),
     ];
-    let wrong = said(&words, b"", 1);
+    let wrong = failed(&words, b"");
     assert!(wrong.contains("refused 16"), "{wrong}");
     let mut names: Vec<String> = fs::read_dir(&many)
         .unwrap()
@@ -754,10 +763,7 @@ fn outputs_go_where_they_should() {
     names.sort();
     assert_eq!(names, ["eight-pins.def", "three-pins.def"]);
     let wrong = said(&["export", "--def", word(&good), word(&net)], b"", 2);
-    assert!(
-        wrong.contains("many files are written to a folder: -o FOLDER/"),
-        "{wrong}"
-    );
+    assert!(wrong.contains("-o FOLDER/"), "{wrong}");
     let wrong = said(
         &[
             "export",
@@ -770,7 +776,7 @@ fn outputs_go_where_they_should() {
         b"",
         2,
     );
-    assert!(wrong.contains("two files are called three-pins"), "{wrong}");
+    assert!(wrong.contains("would be one file in the folder"), "{wrong}");
     let wrong = said(
         &[
             "export",
@@ -867,13 +873,12 @@ fn options_of_export() {
             "--width is a whole number from 0 to 2000000, not '-2'",
         ),
         (&["--def", "--per-micron", "1500"], "DEF has 100, 200, "),
-        (&["--gds", "-o", ""], "-o names no file"),
     ] {
         let words = [&["export"], words, &[word(&net)]].concat();
         let told = said(&words, b"", 2);
         assert!(told.contains(wrong), "{words:?}: {told}");
     }
-    let told = said(&["export", "--gds", "--best", word(&net)], b"", 1);
+    let told = failed(&["export", "--gds", "--best", word(&net)], b"");
     assert!(told.contains("refused 41"), "{told}");
     let told = said(&["import", "--split", word(&net)], b"", 2);
     assert!(told.contains("--split is of a tree"), "{told}");
@@ -881,10 +886,10 @@ fn options_of_export() {
 
 #[test]
 fn names_of_cells() {
-    assert_eq!(cell_name("eight-pins"), "eight_pins");
-    assert_eq!(cell_name(""), "net");
-    assert_eq!(cell_name("Größe 1"), "Gr__e_1");
-    assert_eq!(cell_name(&"x".repeat(99)).len(), 32);
+    assert_eq!(cell_name(OsStr::new("nets/eight-pins.txt")), "eight_pins");
+    assert_eq!(cell_name(OsStr::new("-")), "net");
+    assert_eq!(cell_name(OsStr::new("Größe 1.net")), "Gr__e_1");
+    assert_eq!(cell_name(OsStr::new(&"x".repeat(99))).len(), 32);
 }
 
 /// Both commands say what they are, as the others do.
@@ -901,7 +906,7 @@ fn help_of_formats() {
             "{help}"
         );
         assert!(said(&[command, "--fast"], b"", 2).contains("there is no option '--fast'"));
-        assert!(said(&[command], b"", 2).contains("a file is missing"));
+        assert!(said(&[command], b"", 2).contains(" is missing"));
     }
     assert!(said(&["import", "no/such/file"], b"", 1).contains("no/such/file: "));
     assert!(said(&["export", "--gds", "no/such/file"], b"", 1).contains("no/such/file: "));

@@ -6,12 +6,11 @@ use calzundi::{Net, Refusal, Wire};
 
 use crate::blame::blamed;
 use crate::formats::drawing::{cell_name, wires, Drawing};
-use crate::formats::target::{stem, Target};
+use crate::formats::target::{each, Product};
 use crate::formats::{def, gds};
 use crate::line::quoted;
 use crate::program::{Command, Failure, Switch, Words};
 use crate::source::{open, Source};
-use crate::streams::say;
 
 const HELP: &str = "\
 calzundi export --gds|--def NET..: writes nets and their wires as layouts
@@ -61,8 +60,8 @@ pub const COMMAND: Command = Command {
         with("--pin-layer", "a layer"),
         with("--width", "a number"),
         with("--per-micron", "a number"),
-        with("-o", "a file"),
-        with("--output", "a file"),
+        with("--output", "a file, or a folder/"),
+        with("-o", "a file, or a folder/"),
         flag("--force"),
     ],
     files: (1, usize::MAX),
@@ -104,24 +103,23 @@ struct Asked {
 }
 
 fn export(words: &Words) -> Result<(), Failure> {
-    let (asked, target) = (Asked::of(words)?, Target::of(words)?);
-    target.apart(&words.files)?;
-    let mut answer = Ok(());
-    for file in &words.files {
-        let done = asked
-            .layout(file)
-            .and_then(|bytes| target.put(file, asked.ending(), &bytes, &words.files));
-        match done {
-            Ok(()) => {}
-            Err(Failure::Input(wrong)) if words.files.len() > 1 => {
-                say(&format!("calzundi export: {wrong}"));
-                answer = Err(Failure::No);
-            }
-            Err(failure) => return Err(failure),
-        }
-    }
-    answer
+    let asked = Asked::of(words)?;
+    let product = match asked.format {
+        Format::Gds(_) => GDS,
+        Format::Def(_) => DEF,
+    };
+    each(words, &product, |net| asked.layout(net))
 }
+
+const GDS: Product = Product {
+    command: "export",
+    ending: "gds",
+};
+
+const DEF: Product = Product {
+    command: "export",
+    ending: "def",
+};
 
 impl Asked {
     fn of(words: &Words) -> Result<Asked, Failure> {
@@ -149,18 +147,11 @@ impl Asked {
         Ok(asked)
     }
 
-    fn ending(&self) -> &'static str {
-        match self.format {
-            Format::Gds(_) => "gds",
-            Format::Def(_) => "def",
-        }
-    }
-
     /// The bytes of a net's layout.
     fn layout(&self, file: &OsString) -> Result<Vec<u8>, Failure> {
         let source = open(Some(file))?;
         let drawing = Drawing {
-            name: cell_name(&stem(file)),
+            name: cell_name(file),
             net: source.allowed()?,
             wires: self.wires(&source)?,
             width: self.width,

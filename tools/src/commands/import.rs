@@ -8,7 +8,7 @@ use super::export::{def_layers, flag, gds_layers, with};
 use crate::blame::blamed;
 use crate::formats::found::{Found, MOST_LAYOUT};
 use crate::formats::split::split;
-use crate::formats::target::Target;
+use crate::formats::target::{each, Product};
 use crate::formats::{def, gds};
 use crate::line::plain;
 use crate::program::{Command, Failure, Words};
@@ -61,8 +61,8 @@ pub const COMMAND: Command = Command {
         with("--pin-layer", "a layer"),
         with("--cell", "the name of a cell"),
         with("--net", "the name of a net"),
-        with("-o", "a file"),
-        with("--output", "a file"),
+        with("--output", "a file, or a folder/"),
+        with("-o", "a file, or a folder/"),
         flag("--force"),
     ],
     files: (1, usize::MAX),
@@ -75,23 +75,13 @@ fn import(words: &Words) -> Result<(), Failure> {
             "--split is of a tree: --tree --split".into(),
         ));
     }
-    let target = Target::of(words)?;
-    target.apart(&words.files)?;
-    let mut answer = Ok(());
-    for file in &words.files {
-        let done = taken(file, words)
-            .and_then(|text| target.put(file, "txt", text.as_bytes(), &words.files));
-        match done {
-            Ok(()) => {}
-            Err(Failure::Input(wrong)) if words.files.len() > 1 => {
-                say(&format!("calzundi import: {wrong}"));
-                answer = Err(Failure::No);
-            }
-            Err(failure) => return Err(failure),
-        }
-    }
-    answer
+    each(words, &TEXT, |file| Ok(taken(file, words)?.into_bytes()))
 }
+
+const TEXT: Product = Product {
+    command: "import",
+    ending: "txt",
+};
 
 /// The text of a layout's net or tree.
 fn taken(file: &OsString, words: &Words) -> Result<String, Failure> {

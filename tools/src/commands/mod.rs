@@ -6,11 +6,13 @@ mod batch;
 mod best;
 mod check;
 mod compare;
+mod completion;
 mod delay;
 mod distances;
 mod draw;
 mod export;
 mod import;
+mod man;
 mod pack;
 mod price;
 mod route;
@@ -37,4 +39,6 @@ pub const ALL: &[Command] = &[
     unpack::COMMAND,
     export::COMMAND,
     import::COMMAND,
+    man::COMMAND,
+    completion::COMMAND,
 ];

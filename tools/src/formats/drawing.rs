@@ -1,5 +1,8 @@
 //! What is written of a net: its macros, its pins and the wires of one of its trees.
 
+use std::ffi::OsStr;
+use std::path::Path;
+
 use calzundi::{Edge, Net, Place, Wire};
 
 /// A net that is to be written, by whichever format.
@@ -18,8 +21,10 @@ pub struct Drawing<'a> {
 /// The most letters of a name: as many as GDSII has for a cell.
 const MOST_LETTERS: usize = 32;
 
-/// A name that both formats allow: letters, digits and `_`, at most 32 of them.
-pub fn cell_name(stem: &str) -> String {
+/// The name of a file without its folder and its ending, as both formats allow it: letters, digits and `_`, at most 32 of them.
+pub fn cell_name(file: &OsStr) -> String {
+    let stem = Path::new(file).file_stem().filter(|_| file != "-");
+    let stem = stem.map(OsStr::to_string_lossy).unwrap_or_default();
     let allowed = |letter: char| match letter.is_ascii_alphanumeric() {
         true => letter,
         false => '_',
