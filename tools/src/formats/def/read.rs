@@ -288,7 +288,7 @@ impl<'a> Reader<'a> {
             None => self.net.is_none(),
         };
         if !is_taken {
-            self.other = Some(word);
+            self.other = self.other.or(Some(word));
             return self.words.skip();
         }
         let mut joins = Vec::new();

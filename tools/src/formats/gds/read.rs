@@ -59,7 +59,7 @@ fn record(bytes: &[u8], at: usize) -> Result<Record<'_>, BadOffset> {
         return Err(wrong("the file ends before its last record, ENDLIB"));
     };
     let length = usize::from(u16::from_be_bytes([a, b]));
-    if length < 4 || length % 2 != 0 {
+    if length < 4 || !length.is_multiple_of(2) {
         let said = format!("a record has {length} bytes; it is an even number, 4 at the least");
         return Err(wrong(&said));
     }
@@ -80,7 +80,7 @@ impl Record<'_> {
     }
 
     fn places(&self) -> Result<impl Iterator<Item = Place> + '_, String> {
-        if self.data.len() % 8 != 0 {
+        if !self.data.len().is_multiple_of(8) {
             return Err("the places are not whole pairs of 32 bits".into());
         }
         let number = |four: &[u8]| i32::from_be_bytes([four[0], four[1], four[2], four[3]]);
