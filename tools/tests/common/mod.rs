@@ -6,7 +6,7 @@ use std::io::Write;
 use std::path::{Path, PathBuf};
 use std::process::{Command, Output, Stdio};
 
-use calzundi::{Net, Pin};
+use calzundi::Net;
 use reference::generate::Kind;
 use reference::lists::Lists;
 
@@ -103,11 +103,8 @@ pub fn made(lists: &Lists) -> Net {
         .macros
         .chunks_exact(4)
         .map(|m| (m[0], m[1], m[2], m[3]));
-    let net = Net::new([], macros).with_weights(lists.weights.x, lists.weights.y);
-    Net {
-        pins: pins.map(|p| Pin::new(p[0], p[1]).with_load(p[2])).collect(),
-        ..net
-    }
+    let pins = pins.map(|p| (p[0], p[1], p[2]));
+    Net::new(pins, macros).with_weights(lists.weights.x, lists.weights.y)
 }
 
 /// So many seeds of a kind, and one of those that take long to make or to route.
