@@ -1,6 +1,8 @@
 //! What the tests of the program share.
 #![allow(dead_code)]
 
+pub mod json;
+
 use std::fs;
 use std::io::Write;
 use std::path::{Path, PathBuf};
@@ -60,6 +62,16 @@ pub fn said(words: &[&str], input: &[u8], status: i32) -> String {
     let wrong = String::from_utf8(output.stderr).unwrap();
     assert_eq!(output.status.code(), Some(status), "{words:?}: {wrong}");
     assert_eq!(output.stdout, b"", "{words:?}");
+    wrong
+}
+
+/// What the program says where something is refused: the number stands on standard output.
+pub fn refused(words: &[&str], input: &[u8], number: i32) -> String {
+    let output = run(words, input);
+    let wrong = String::from_utf8(output.stderr).unwrap();
+    assert_eq!(output.status.code(), Some(1), "{words:?}: {wrong}");
+    let printed = String::from_utf8(output.stdout).unwrap();
+    assert_eq!(printed, format!("refused {number}\n"), "{words:?}");
     wrong
 }
 
