@@ -114,6 +114,12 @@ impl From<(i32, i32)> for Pin {
     }
 }
 
+impl From<(i32, i32, i32)> for Pin {
+    fn from((x, y, load): (i32, i32, i32)) -> Pin {
+        Pin::new(x, y).with_load(load)
+    }
+}
+
 /// A macro: an upright rectangle whose interior no metal enters. Its boundary blocks nothing.
 #[derive(Clone, Copy, Debug, PartialEq, Eq, PartialOrd, Ord, Hash)]
 pub struct Macro {
@@ -337,13 +343,13 @@ impl Flat {
 }
 
 impl Net {
-    /// The net of pins and macros with the weights 1 and 1.
-    pub fn new(
-        pins: impl IntoIterator<Item = (i32, i32)>,
+    /// The net of pins and macros with the weights 1 and 1. A pin is `(x, y)`, `(x, y, load)` or a [`Pin`].
+    pub fn new<P: Into<Pin>>(
+        pins: impl IntoIterator<Item = P>,
         macros: impl IntoIterator<Item = (i32, i32, i32, i32)>,
     ) -> Net {
         Net {
-            pins: pins.into_iter().map(Pin::from).collect(),
+            pins: pins.into_iter().map(Into::into).collect(),
             macros: macros.into_iter().map(Macro::from).collect(),
             weights: Weights::default(),
         }

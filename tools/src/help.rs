@@ -68,7 +68,12 @@ fn parted(lines: Vec<String>) -> Vec<Block> {
     let block = match first {
         false => Block::Paragraph(lines),
         true if lines[0].trim_start().starts_with('-') => Block::Options(options(&lines)),
-        true => Block::Lines(lines.iter().map(|line| line.trim_start().into()).collect()),
+        true => Block::Lines(
+            lines
+                .iter()
+                .map(|line| line[INDENT.len()..].into())
+                .collect(),
+        ),
     };
     match rest.is_empty() {
         true => vec![block],

@@ -4,12 +4,11 @@ use std::ffi::OsString;
 
 use calzundi::{Net, Refusal, Wire};
 
-use crate::blame::blamed;
 use crate::formats::drawing::{cell_name, wires, Drawing};
-use crate::formats::target::{each, Product};
 use crate::formats::{def, gds};
 use crate::line::quoted;
-use crate::program::{Command, Failure, Switch, Words};
+use crate::output::{each, Form, Made, Product};
+use crate::program::{Command, Failure, Switch, Words, FORCE, JSON, OUTPUT};
 use crate::source::{open, Source};
 
 const HELP: &str = "\
@@ -33,15 +32,15 @@ Without -o the layout of a single net goes to standard output.
     --per-micron N   how many units of the net a micron has; 1000
     -o FILE          writes to a file
     -o FOLDER/       writes FOLDER/NET.gds or FOLDER/NET.def for each net
-    --output FILE    the same as -o
-    --force          writes over a file that is a net
+    --force          also over another net
+    --json           says what was written where
 
     calzundi export --gds net.txt -o net.gds
     calzundi export --def --slid nets/*.net -o layouts/
     calzundi import net.gds
 
 Loads and weights are kept as properties; docs/FORMATS.md says how. A net
-that is refused is reported, and the others are written all the same.
+that is refused prints `refused` and its number, and the others are written.
 Exit status: 0 written; 1 a refused net, or something that cannot be read or
 written; 2 a wrong command line.
 ";
@@ -60,9 +59,9 @@ pub const COMMAND: Command = Command {
         with("--pin-layer", "a layer"),
         with("--width", "a number"),
         with("--per-micron", "a number"),
-        with("--output", "a file, or a folder/"),
-        with("-o", "a file, or a folder/"),
-        flag("--force"),
+        OUTPUT,
+        FORCE,
+        JSON,
     ],
     files: (1, usize::MAX),
     act: export,
@@ -108,17 +107,22 @@ fn export(words: &Words) -> Result<(), Failure> {
         Format::Gds(_) => GDS,
         Format::Def(_) => DEF,
     };
-    each(words, &product, |net| asked.layout(net))
+    each(words, &product, |net| {
+        let bytes = asked.layout(net)?;
+        Ok(Made { bytes, but: None })
+    })
 }
 
 const GDS: Product = Product {
     command: "export",
     ending: "gds",
+    form: Form::File,
 };
 
 const DEF: Product = Product {
     command: "export",
     ending: "def",
+    form: Form::File,
 };
 
 impl Asked {
@@ -164,10 +168,7 @@ impl Asked {
     }
 
     fn wires(&self, source: &Source) -> Result<Vec<Wire>, Failure> {
-        laid(source.allowed()?, self.tree).map_err(|refusal| {
-            let blame = blamed(&source.net, source.lines.as_ref(), refusal);
-            Failure::wrong(&source.name, blame.lines().join("\n"))
-        })
+        laid(source.allowed()?, self.tree).map_err(|refusal| source.unfit(refusal))
     }
 }
 

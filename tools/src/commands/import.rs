@@ -8,10 +8,10 @@ use super::export::{def_layers, flag, gds_layers, with};
 use crate::blame::blamed;
 use crate::formats::found::{Found, MOST_LAYOUT};
 use crate::formats::split::split;
-use crate::formats::target::{each, Product};
 use crate::formats::{def, gds};
 use crate::line::plain;
-use crate::program::{Command, Failure, Words};
+use crate::output::{each, Form, Made, Product};
+use crate::program::{Command, Failure, Words, FORCE, JSON, OUTPUT};
 use crate::routed::pair;
 use crate::source::{Refused, Source};
 use crate::streams::{name, read_most, say};
@@ -37,8 +37,8 @@ Coordinates are the file's own database units.
     --net NAME       the net of DEF, where there are several
     -o FILE          writes to a file
     -o FOLDER/       writes FOLDER/LAYOUT.txt for each layout
-    --output FILE    the same as -o
-    --force          writes over a file that is a net
+    --force          also over another net
+    --json           says what was written where
 
     calzundi import theirs.def -o net.txt
     calzundi import --tree --split theirs.def -o tree.txt
@@ -61,9 +61,9 @@ pub const COMMAND: Command = Command {
         with("--pin-layer", "a layer"),
         with("--cell", "the name of a cell"),
         with("--net", "the name of a net"),
-        with("--output", "a file, or a folder/"),
-        with("-o", "a file, or a folder/"),
-        flag("--force"),
+        OUTPUT,
+        FORCE,
+        JSON,
     ],
     files: (1, usize::MAX),
     act: import,
@@ -75,12 +75,13 @@ fn import(words: &Words) -> Result<(), Failure> {
             "--split is of a tree: --tree --split".into(),
         ));
     }
-    each(words, &TEXT, |file| Ok(taken(file, words)?.into_bytes()))
+    each(words, &TEXT, |file| Ok(Made::from(taken(file, words)?)))
 }
 
 const TEXT: Product = Product {
     command: "import",
     ending: "txt",
+    form: Form::File,
 };
 
 /// The text of a layout's net or tree.

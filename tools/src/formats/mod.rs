@@ -5,4 +5,3 @@ pub mod drawing;
 pub mod found;
 pub mod gds;
 pub mod split;
-pub mod target;
