@@ -309,3 +309,24 @@ fn run_makes_the_library_once() {
     library("after a change");
     assert!(called().contains("staticlib exports"));
 }
+
+/// The page of a package did not say that `route` needs a C library, nor why there is no build for Arm.
+#[test]
+fn the_package_says_what_it_needs() {
+    let page = fs::read_to_string(root().join("docs/PACKAGE.md")).unwrap();
+    let mut objdump = Command::new("objdump");
+    let symbols = objdump.arg("-T").arg(root().join("target/bin/route"));
+    let symbols = String::from_utf8(symbols.output().unwrap().stdout).unwrap();
+    let versions = symbols.split("GLIBC_").skip(1).map(|rest| {
+        let version = rest.split(|c: char| c != '.' && !c.is_ascii_digit());
+        let numbers = version.into_iter().next().unwrap().split('.');
+        numbers
+            .map(|number| number.parse().unwrap())
+            .collect::<Vec<u32>>()
+    });
+    let most = versions.max().expect("route is linked with the C library");
+    let most: Vec<String> = most.iter().map(u32::to_string).collect();
+    let needed = format!("glibc {} or\n", most.join("."));
+    assert!(page.contains(&needed), "{needed}");
+    assert!(page.contains("no\nbuild for Arm"));
+}

@@ -69,6 +69,32 @@ fn straight_metal_has_no_diamonds() {
     assert_eq!(drawn, wanted.len());
 }
 
+/// Lengths stood at parts of straight metal whose ends cannot be seen.
+#[test]
+fn lengths_are_of_what_is_seen() {
+    let folder = folder("lengths");
+    let [net, tree] = ["net.txt", "tree.txt"].map(|name| folder.join(name));
+    fs::write(&net, "pin 0 0\npin 100 0\npin 30 50\n").unwrap();
+    fs::write(
+        &tree,
+        "0 0 11 0\n11 0 30 0\n30 0 52 0\n52 0 100 0\n30 0 30 17\n30 17 30 50\n",
+    )
+    .unwrap();
+    let picture = printed(&["draw", "--tree", word(&tree), word(&net)], b"");
+    let second = &picture[picture.find(">tree of another router ").unwrap()..];
+    for (length, is_there) in [
+        (30, true),
+        (70, true),
+        (50, true),
+        (11, false),
+        (48, false),
+        (33, false),
+    ] {
+        let found = second.contains(&format!(">{length}</text>"));
+        assert_eq!(found, is_there, "{length}");
+    }
+}
+
 /// With more than 24 points delays stand in the table, and the caption said that they stand at the pins; it did not say from where.
 #[test]
 fn captions_of_delays_fit() {

@@ -137,6 +137,36 @@ impl Subject {
         others.partition(|end| corners.contains(end))
     }
 
+    /// The edges by number, those together that follow each other at points which are not marked.
+    pub fn straight_runs(&self, edges: &[Edge]) -> Vec<Vec<usize>> {
+        let (corners, steiner) = self.other_points(edges);
+        let marked: BTreeSet<Place> = [self.pins(), corners, steiner]
+            .concat()
+            .into_iter()
+            .collect();
+        let mut run: Vec<usize> = (0..edges.len()).collect();
+        let mut first: BTreeMap<Place, usize> = BTreeMap::new();
+        for (at, edge) in edges.iter().enumerate() {
+            for end in [edge.first, edge.second] {
+                if marked.contains(&end) {
+                    continue;
+                }
+                // Two edges meet at such a point; the runs of both become one.
+                if let Some(other) = first.insert(end, at) {
+                    let (old, new) = (run[at], run[other]);
+                    run.iter_mut()
+                        .filter(|one| **one == old)
+                        .for_each(|one| *one = new);
+                }
+            }
+        }
+        let mut runs: BTreeMap<usize, Vec<usize>> = BTreeMap::new();
+        for (at, run) in run.into_iter().enumerate() {
+            runs.entry(run).or_default().push(at);
+        }
+        runs.into_values().collect()
+    }
+
     /// What a diamond stands for: a slid tree and one of another router have points at bends too.
     pub fn diamond(&self) -> &'static str {
         match self.other {

@@ -187,10 +187,18 @@ impl Sheet<'_> {
         }
     }
 
-    /// At an edge stands what it costs.
+    /// At an edge stands what it costs; of edges that follow each other on straight metal, between which no point is marked, at the longest
+    /// what all of them do.
     fn costs(&self, tree: &Tree) -> Vec<(Edge, String)> {
-        let cost = |edge: &Edge| grouped(edge.cost(self.subject.net.weights));
-        tree.edges.iter().map(|edge| (*edge, cost(edge))).collect()
+        let cost = |at: &usize| tree.edges[*at].cost(self.subject.net.weights);
+        let mut words = vec![String::new(); tree.edges.len()];
+        for run in self.subject.straight_runs(&tree.edges) {
+            let longest = run.iter().max_by_key(|at| tree.edges[**at].length());
+            if let Some(&longest) = longest {
+                words[longest] = grouped(run.iter().map(cost).sum());
+            }
+        }
+        tree.edges.iter().copied().zip(words).collect()
     }
 
     /// At a path's bridge stands what the path costs; an edge on several paths says on how many.
