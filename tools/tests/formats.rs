@@ -152,7 +152,8 @@ fn a_file_of_klayout() {
 fn a_file_of_another_router() {
     let file = sample("foreign.def");
     let output = run(&["import", "--net", "clk", word(&file)], b"");
-    let net = "# net 'clk' of design 'bench', 2000 units a micron\npin 0 0\npin 20 0 7\npin 10 8\nmacro 12 2 18 6\nmacro 2 2 8 6\nmacro 30 0 40 10\n";
+    let net = "# net 'clk' of design 'bench', 2000 units a micron\npin 0 0\npin 20 0 7\npin 10 8\n\
+               macro 12 2 18 6\nmacro 2 2 8 6\nmacro 30 0 40 10\n";
     assert_eq!(String::from_utf8(output.stdout).unwrap(), net);
     let noted = String::from_utf8(output.stderr).unwrap();
     for part in [
@@ -612,7 +613,10 @@ fn damaged_files_are_read() {
 #[test]
 fn large_files_are_bounded() {
     let start = Instant::now();
-    let lies = design("PINS 4294967295 ;\n- a + NET n + PLACED ( 0 0 ) N ;\nEND PINS\nNETS 99999999999999999999 ;\n- n ( PIN a ) ;\nEND NETS\n");
+    let lies = design(
+        "PINS 4294967295 ;\n- a + NET n + PLACED ( 0 0 ) N ;\nEND PINS\n\
+         NETS 99999999999999999999 ;\n- n ( PIN a ) ;\nEND NETS\n",
+    );
     assert_eq!(from_def(&lies).net.pins.len(), 1);
     let many = 1 << 19;
     for (body, wrong) in [

@@ -28,7 +28,9 @@ fn helps_describe_the_table() {
 
 #[test]
 fn a_help_is_taken_apart() {
-    let text = "calzundi x NET: does\n  it\n\nOne.\n\n    --a       first; more\n              still\n    --b, -c N  second\n\n    calzundi x y\n\nTwo\nExit status: 0 done.\n";
+    let text =
+        "calzundi x NET: does\n  it\n\nOne.\n\n    --a       first; more\n              still\n\
+                \x20   --b, -c N  second\n\n    calzundi x y\n\nTwo\nExit status: 0 done.\n";
     let help = help(text);
     assert_eq!(
         (help.usage.as_str(), help.about.as_str()),
@@ -37,9 +39,12 @@ fn a_help_is_taken_apart() {
     assert_eq!(help.about_option("--a"), "first");
     assert_eq!(help.about_option("-c"), "second");
     assert_eq!(help.about_option("--d"), "");
-    assert!(
-        matches!(&help.blocks[..], [Block::Paragraph(_), Block::Options(options), Block::Lines(_), Block::Paragraph(_)] if options.len() == 2)
-    );
+    let [Block::Paragraph(_), Block::Options(options), Block::Lines(lines), Block::Paragraph(_)] =
+        &help.blocks[..]
+    else {
+        panic!("{help:?}");
+    };
+    assert_eq!((options.len(), lines.len()), (2, 1));
 }
 
 /// A page for the program and one for each command, with every option, and no line that roff would take for a request.

@@ -69,7 +69,8 @@ fn pins(drawing: &Drawing, layer: &str) -> String {
     for (at, pin) in drawing.net.pins.iter().enumerate() {
         let (own, Place { x, y }) = (pin_name(at), pin.place);
         text += &format!(
-            "- {own} + NET {name} + DIRECTION INOUT + USE SIGNAL\n  + LAYER {layer} ( {low} {low} ) ( {half} {half} ) + PLACED ( {x} {y} ) N ;\n"
+            "- {own} + NET {name} + DIRECTION INOUT + USE SIGNAL\n  \
+             + LAYER {layer} ( {low} {low} ) ( {half} {half} ) + PLACED ( {x} {y} ) N ;\n"
         );
     }
     text + "END PINS\n"
