@@ -49,8 +49,8 @@ impl Wanted {
         })
     }
 
-    /// The line of names of comma-separated values.
-    pub fn names(&self) -> String {
+    /// The names of the columns that are asked for.
+    fn columns(&self) -> Vec<&'static str> {
         let own = [
             (self.form, "form"),
             (self.slid, "slid"),
@@ -58,8 +58,13 @@ impl Wanted {
             (self.bands.is_some(), "charge"),
             (self.technology.is_some(), "delay"),
         ];
-        let own = own.into_iter().filter(|one| one.0).map(|one| one.1);
-        let names: Vec<&str> = NAMES.into_iter().chain(own).chain(WRONG).collect();
+        let own = own.into_iter().filter(|one| one.0);
+        own.map(|one| one.1).collect()
+    }
+
+    /// The line of names of comma-separated values.
+    pub fn names(&self) -> String {
+        let names = [&NAMES[..], &self.columns(), &WRONG].concat();
         names.join(",") + "\n"
     }
 
@@ -200,10 +205,9 @@ impl Totals {
 impl Row {
     /// Routes a net of the batch.
     pub fn of(file: &OsString, wanted: &Wanted) -> Row {
-        let names = wanted.names();
         Row {
             net: name(Some(file)),
-            wanted: names.split(',').count() - NAMES.len() - WRONG.len(),
+            wanted: wanted.columns().len(),
             answer: open(Some(file)).and_then(|source| Totals::of(&source, wanted)),
         }
     }

@@ -191,7 +191,7 @@ const MOST_LINKS: usize = 40;
 fn ask_to_write(path: &Path, data: &Metadata) -> io::Result<()> {
     if data.permissions().readonly() {
         let wrong = "it is write-protected, and is left as it is";
-        return Err(io::Error::new(ErrorKind::Other, wrong));
+        return Err(io::Error::other(wrong));
     }
     OpenOptions::new().write(true).open(path).map(drop)
 }
