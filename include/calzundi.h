@@ -50,7 +50,8 @@
  *              each other.
  *   threads    While a call runs, nobody else writes its lists, and nobody else reads or writes what is lent to it. Calls at the same
  *              time, also on the same lists, do not disturb each other, since the library keeps no state.
- *   stack      The router's tables are local: a call has CALZUNDI_STACK_BYTES of stack to itself, which was measured and is not proved.
+ *   stack      The router's tables are local: a call has CALZUNDI_STACK_BYTES of stack to itself, or as much as CALZUNDI_STACK_... says of
+ *              its operation, which was measured and is not proved.
  *
  * No code tests any of this: a call that breaks it is undefined.
  */
@@ -79,8 +80,24 @@ extern "C" {
 /* Numbers of a pin in a list: x, y, load. */
 #define CALZUNDI_PIN_NUMBERS 3
 
-/* The stack that a call has to itself. */
+/* The stack that a call has to itself, whichever it is. */
 #define CALZUNDI_STACK_BYTES (512 * 1024)
+
+/* The same of each operation: what was measured on nets of 128 pins and 128 macros, and some KiB to spare. What interrupts and signal
+ * handlers take on the same stack comes on top. */
+#define CALZUNDI_STACK_CHECK (4 * 1024)
+#define CALZUNDI_STACK_GRAPH (16 * 1024)
+#define CALZUNDI_STACK_TERMINAL_TREE (224 * 1024)
+#define CALZUNDI_STACK_REFINED_TREE (312 * 1024)
+#define CALZUNDI_STACK_SLID_TREE CALZUNDI_STACK_BYTES
+#define CALZUNDI_STACK_WIRES (312 * 1024)
+#define CALZUNDI_STACK_BEST_TREE (104 * 1024)
+#define CALZUNDI_STACK_GRID_DISTANCES (40 * 1024)
+#define CALZUNDI_STACK_DELAY (328 * 1024)
+#define CALZUNDI_STACK_PRICE (312 * 1024)
+#define CALZUNDI_STACK_CHECK_TREE (64 * 1024)
+#define CALZUNDI_STACK_WRITE_FILE (16 * 1024)
+#define CALZUNDI_STACK_READ_FILE (36 * 1024)
 
 /* Distances on the grid are for nets of up to 16 pins and 16 macros. */
 #define CALZUNDI_GRID_PINS 16
