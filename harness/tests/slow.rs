@@ -1,5 +1,5 @@
-//! No call keeps anyone waiting: processor time on the nets of harness/slow, on which versions up to 2.2 took longest, and of calls that are
-//! refused for what goes with the net. Limits are several times what is measured, and a fraction of what 2.2 took.
+//! No call keeps anyone waiting: processor time on the nets of harness/slow, on which versions up to 2.2 took longest. Limits are several times
+//! what is measured, and a fraction of what 2.2 took.
 
 use std::time::Duration;
 
@@ -45,15 +45,4 @@ fn grids() {
         count += 1;
     }
     assert!(count >= 5, "{count} small nets");
-}
-
-/// What is wrong with a technology or a list of bands is said before there is a tree: 2.2 took 1.5 seconds.
-#[test]
-fn refused_calls() {
-    let nets = slow_nets();
-    assert!(nets.iter().any(|(_, net)| net.macros.len() == 512));
-    for (name, net) in &nets {
-        within("delay-refused", name, net, 20);
-        within("price-refused", name, net, 20);
-    }
 }
