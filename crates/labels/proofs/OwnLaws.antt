@@ -12,7 +12,7 @@ use lib.ListN.{getD, set}
 use lib.Seq.{getD-set-other, set-getD}
 use Rattle.lists.proofs.TestLaws.{by, and-left, and-right}
 use Rattle.joined.specs.Table.{changed}
-use Rattle.turned.specs.Steps.{upTo, setBy, setUpTo}
+use Rattle.turned.specs.Steps.{upTo, setUpTo}
 use Rattle.labels.specs.Labelling.{united, Own}
 use Rattle.labels.proofs.CodeLaws.{changed-yes, changed-no, unite-less}
 use Rattle.labels.proofs.LabelLaws.{set-above}

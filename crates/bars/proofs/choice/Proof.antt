@@ -1,6 +1,5 @@
 -- `bars::choice` meets its contract: labels along rows and along columns, the pins' seats, and the search by them.
 -- Assumes nothing.
-use borrow.Author.Needs.{needs}
 use Prim.Native.Nat.{ℕ}
 use native.Mathlib.Omega.{arith}
 use lib.ListN.{length-replicate}

@@ -1,14 +1,14 @@
 -- `reach::past_edges` meets its contract. The loop's invariant: what is done so far is what the definition says of it. The measure is
 -- what is left.
 -- Assumes nothing.
-use mathlib.Core.Path.{_≡_, refl, sym, ap, ap₂, _∙_}
+use mathlib.Core.Path.{_≡_, sym, ap, _∙_}
 use native.Mathlib.Omega.{arith}
 use Prim.Native.Nat.{_-_, _≤_}
 use Rattle.turned.proofs.StepLaws.{up-start, up-next}
 use denote.Ref.{now}
 use Rattle.turned.specs.declared.Seen.{Seen}
 use Rattle.turned.specs.Steps.{upTo}
-use Rattle.turned.specs.Turned.{seenEdge, seenPoint, sameSpot}
+use Rattle.turned.specs.Turned.{seenEdge}
 use Rattle.reach.specs.Passing.{seenBy, past}
 use Rattle.reach.proofs.HopelessLaws.{edges-end, edges-stop}
 use Rattle.reach.proofs.past_edges.Statement.{statement}

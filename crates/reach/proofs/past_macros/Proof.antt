@@ -1,7 +1,7 @@
 -- `reach::past_macros` meets its contract. The loop's invariant: what is done so far is what the definition says of it. The measure
 -- is what is left.
 -- Assumes nothing.
-use mathlib.Core.Path.{_≡_, refl, sym, ap, ap₂, _∙_}
+use mathlib.Core.Path.{_≡_, sym, ap, _∙_}
 use native.Mathlib.Omega.{arith}
 use Prim.Native.Nat.{_-_, _≤_}
 use Rattle.turned.proofs.StepLaws.{up-start, up-next}
