@@ -89,32 +89,3 @@ pub found-wins : (w : Weights) (ms : List Macro) (pts : List ℤ) (n : ℕ) (ks 
     (found w ms pts n ks e .edge) (found w ms pts n ks e .point) (found w ms pts n ks e .cut)
 unfolding found
 found-wins w ms pts n ks e h = search-wins w ms pts n ks e (costs w pts ks e) (longest ks (costs w pts ks e) e n) h
-
--- The table of costs
-
-measured-at : (w : Weights) (pts : List ℤ) (ks : List ℕ) (c i : ℕ) (el : List ℕ) (j : ℕ) → i + c ≤ length el → i ≤ j → j < i + c →
-    getD (turns (measure w pts ks) i c el) j 0 ≡ edgeCost w pts ks j
-unfolding turns measure
-measured-at w pts ks zero i el j b h l = absurd (let z : ⊥ = omega arith in z)
-measured-at w pts ks (suc c) i el j b h l =
-    let x = edgeCost w pts ks i in
-    by (ltb i j)
-    (λ t. measured-at w pts ks c (suc i) (set el i x) j (rw (length-set el i x) (omega arith)) (ltb-true i j t) (omega arith))
-    (λ t.
-    let q : j ≡ i = omega (arith, ltb-false i j t) in
-    before c (suc i) (set el i x) j (omega arith) ∙ rw q (here el i x (omega arith)))
-  where
-    before : (c i : ℕ) (el : List ℕ) (j : ℕ) → j < i → getD (turns (measure w pts ks) i c el) j 0 ≡ getD el j 0
-    before zero i el j h = refl
-    before (suc c) i el j h = before c (suc i) (set el i (edgeCost w pts ks i)) j (omega arith)
-        ∙ other el i j (edgeCost w pts ks i) (λ q. let z : ⊥ = omega arith in z)
-
-zeros-length : (m : ℕ) → length (replicate {A = ℕ} m 0) ≡ m
-zeros-length zero = refl
-zeros-length (suc m) = ap suc (zeros-length m)
-
-pub cost-at : (w : Weights) (pts : List ℤ) (ks : List ℕ) (e j : ℕ) → e ≤ treeBound → j < e
-    → getD (costs w pts ks e) j 0 ≡ keyCost w pts (getD ks j 0)
-unfolding costs edgeCost
-cost-at w pts ks e j few h = measured-at w pts ks e 0 (replicate treeBound 0) j (rw (zeros-length treeBound) (omega arith)) (omega arith)
-    (omega arith)

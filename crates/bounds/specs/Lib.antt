@@ -1,0 +1,11 @@
+-- From one tree to the next: what a round leaves of the bounds of edges.
+--
+-- A round takes out two edges, lays three and puts in a point. The tree before and that of now are two tables each; nothing is asked of how
+-- the one was made from the other. Points of the tree before have numbers among those of now (`Numbered`), and where the ends of each edge
+-- before are joined by edges no longer than it (`Calm`), no longest edge between two old points has become longer, so no candidate of an
+-- old edge and an old point gains more than before.
+--
+--   Carried    Numbered, Calm              the points before, and the edges before
+--              Origins                     where the bounds of now are from
+--              Was                         a tree and the bounds of its edges, as they were
+pub mod Carried
