@@ -2,39 +2,33 @@
 -- clear is of places; so no candidate of an old edge and an old point gains more than before.
 -- Assumes nothing.
 use mathlib.Core.Path.{_≡_, refl, sym, ap, ap₂, _∙_, subst}
-use mathlib.Core.Bool.{Bool, true, false, not, _&&_, _||_}
-use mathlib.Core.Logic.{_⊎_, inl, inr}
+use mathlib.Core.Bool.{true, not}
 use mathlib.Core.List.{List}
-use Prim.Native.Nat.{ℕ, zero, suc, _+_, _≤_, _<_}
+use Prim.Native.Nat.{ℕ, _≤_, _<_}
 use native.Mathlib.Omega.{arith}
 use lib.Dec.{eqb}
 use lib.IntN.{ℤ}
-use lib.ListN.{length, getD, set, replicate}
+use lib.ListN.{length, getD}
 use borrow.Author.Tests.{eqb-false, ne-eqb}
-use Rattle.lists.specs.Turns.{turns}
-use Rattle.lists.proofs.TestLaws.{by, differ, either, and-left, and-right, and-both, or-none, or-neither, not-true}
-use Rattle.plane.specs.declared.Place.{Place}
+use Rattle.lists.proofs.TestLaws.{by, either, and-left, and-right, and-both, or-none, or-neither, not-true}
 use Rattle.plane.specs.declared.Macro.{Macro}
 use Rattle.plane.specs.declared.Weights.{Weights}
-use Rattle.plane.specs.Place.{samePlace}
 use Rattle.plane.specs.Cost.{cost}
 use Rattle.plane.specs.Flat.{placeAt}
-use Rattle.plane.specs.Rank.{InOrder}
-use Rattle.plane.proofs.PlaceLaws.{same-true, same-refl}
-use Rattle.tree.specs.Table.{treeBound, key, firstEnd, secondEnd, Low, Within}
-use Rattle.longest.specs.Longest.{wins, shorter, edgeCost, costs, longest, cutOf}
-use Rattle.longest.specs.Hung.{Ties, ontoOf, linkOf, turnOf, topOf, Joins, Hanging, tall}
+use Rattle.tree.specs.Table.{treeBound, firstEnd, secondEnd, Low}
+use Rattle.longest.specs.Longest.{wins, shorter, costs, longest, cutOf}
+use Rattle.longest.specs.Hung.{Ties, ontoOf, linkOf, turnOf, topOf, Hanging, tall}
 use Rattle.longest.proofs.WinsLaws.{shorter-first, shorter-second}
 use Rattle.longest.proofs.LongestLaws.{shorter-yes, shorter-no}
 use Rattle.longest.proofs.NoLonger.{no-longer, even-cost}
 use Rattle.triples.specs.Triple.{sees, taken, dropped, allowed}
 use Rattle.candidates.specs.declared.Best.{Best}
-use Rattle.candidates.specs.Candidate.{middleOf, offer, weighed}
+use Rattle.candidates.specs.Candidate.{middleOf, offer}
 use Rattle.candidates.specs.Bounded.{Shut, Bounded}
-use Rattle.candidates.proofs.BoundLaws.{outOf, costOf, longOf, okOf, step, refuses, refused, offer-step}
+use Rattle.candidates.proofs.BoundLaws.{outOf, costOf, longOf, okOf, refuses, refused, offer-step}
 use Rattle.exchanges.proofs.PruneSound.{order-same}
-use Rattle.bounds.specs.Carried.{Numbered, oneIn, twoIn, keyIn, Calm, Origins, Another, Was}
-use Rattle.bounds.proofs.DroppedLaws.{Other, not-dropped, dropped-not}
+use Rattle.bounds.specs.Carried.{Numbered, oneIn, twoIn, Calm, Origins, Was}
+use Rattle.bounds.proofs.DroppedLaws.{not-dropped, dropped-not}
 use Rattle.bounds.proofs.CostLaws.{cost-at}
 use Rattle.bounds.proofs.CalmLaws.{hanging-low}
 

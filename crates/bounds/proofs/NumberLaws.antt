@@ -9,7 +9,6 @@ use lib.IntN.{ℤ}
 use lib.ListN.{length, getD, set, length-set}
 use borrow.Author.Tests.{ltb-true, ltb-false, eqb-true, eqb-false}
 use Rattle.lists.proofs.TestLaws.{by}
-use Rattle.plane.specs.declared.Place.{Place}
 use Rattle.plane.specs.Flat.{placeAt}
 use Rattle.tree.specs.Table.{treeBound, Small}
 use Rattle.tree.proofs.SumLaws.{other, here as put-here}

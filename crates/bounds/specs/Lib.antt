@@ -7,5 +7,9 @@
 --
 --   Carried    Numbered, Calm              the points before, and the edges before
 --              Origins                     where the bounds of now are from
---              Was                         a tree and the bounds of its edges, as they were
+--              Another                     L is another edge than that of the candidate
+--              Held, Was                   the rows of a tree and the bounds of its edges; the same of the tree before
+--
+--   CarriedLaws  carried                   bounds stand from one tree to the next
+--   NoLonger (crate longest)               the law behind it
 pub mod Carried

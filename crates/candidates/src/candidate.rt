@@ -261,8 +261,8 @@ pub fn raise(
     ensures { λ _. ⌜ Bounded w (now (pts .entry)) n (macrosOf (now (macros .entry))) (now (keys .entry)) e (now (el .entry))
         (longest (now (keys .entry)) (now (el .entry)) e n) n (now (bound .exit)) ⌝ }
 {
-    let mut row = [UNKNOWN; POINTS];
-    longest::row_of(el, onto, link, turn, s, &mut row);
+    let mut tops = [UNKNOWN; POINTS];
+    longest::row_of(el, onto, link, turn, s, &mut tops);
     let mut k = 0;
     while k < e {
         bound[k] = raised(
@@ -277,7 +277,7 @@ pub fn raise(
             turn,
             s,
             k,
-            &mut row,
+            &mut tops,
             bound[k],
         );
         k += 1;

@@ -2,7 +2,7 @@
 -- edge between two old points has become longer. What the longest edges cost is no more on the way past a third point than on its two
 -- halves; so by induction over what hangs on what.
 -- Assumes nothing.
-use mathlib.Core.Path.{_≡_, sym, ap, _∙_}
+use mathlib.Core.Path.{_≡_, ap, _∙_}
 use mathlib.Core.List.{List}
 use Prim.Native.Nat.{ℕ, zero, suc, _+_, _-_, _≤_, _<_}
 use native.Mathlib.Omega.{arith}
@@ -10,7 +10,7 @@ use lib.Dec.{ltb}
 use lib.ListN.{getD}
 use borrow.Author.Tests.{ltb-true, ltb-false}
 use Rattle.lists.proofs.TestLaws.{by}
-use Rattle.longest.specs.Longest.{wins, longer, noEdge}
+use Rattle.longest.specs.Longest.{wins, longer}
 use Rattle.longest.specs.Hung.{Ties, ontoOf, linkOf, turnOf, topOf, Tied, Told, tall}
 use Rattle.longest.proofs.LongestLaws.{longer-yes, longer-no}
 use Rattle.longest.proofs.WinsLaws.{longer-first, longer-second}

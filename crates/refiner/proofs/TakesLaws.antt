@@ -3,7 +3,7 @@
 -- In a tree the candidates that the search weighs are those of R3.
 -- Assumes nothing.
 use mathlib.Core.Path.{_≡_, refl, sym, ap, _∙_, subst}
-use mathlib.Core.Bool.{true, false, not, _&&_, _||_}
+use mathlib.Core.Bool.{true, not, _&&_, _||_}
 use mathlib.Core.Logic.{_⊎_, inl, inr}
 use mathlib.Core.List.{List}
 use Prim.Native.Nat.{ℕ, zero, suc, _+_, _-_, _≤_, _<_}
@@ -11,19 +11,17 @@ use native.Mathlib.Omega.{arith}
 use lib.Dec.{ltb, eqb}
 use lib.IntN.{ℤ}
 use lib.ListN.{getD}
-use borrow.Author.Tests.{ltb-true, ltb-false, eqb-false, ne-eqb}
-use Rattle.lists.proofs.TestLaws.{by, differ, either, and-left, and-right, and-both, or-none, or-neither, not-true}
+use borrow.Author.Tests.{ltb-true, ltb-false, ne-eqb}
+use Rattle.lists.proofs.TestLaws.{by, differ, either, and-left, and-both, or-neither}
 use Rattle.plane.specs.declared.Place.{Place}
 use Rattle.plane.specs.declared.Macro.{Macro}
 use Rattle.plane.specs.declared.Weights.{Weights}
-use Rattle.plane.specs.Place.{samePlace}
 use Rattle.plane.specs.Cost.{cost}
 use Rattle.plane.specs.Macro.{clear}
 use Rattle.plane.specs.Flat.{placeAt}
 use Rattle.net.specs.Net.{Net}
-use Rattle.plane.proofs.PlaceLaws.{same-true, same-refl}
 use Rattle.candidates.specs.declared.Best.{Best}
-use Rattle.lists.specs.Turns.{turns, seek}
+use Rattle.lists.specs.Turns.{turns}
 use Rattle.tree.specs.Table.{treeBound, firstEnd, secondEnd, Tree}
 use Rattle.longest.specs.Longest.{costs, longest, cutOf}
 use Rattle.triples.specs.Triple.{sees, taken, dropped, allowed}

@@ -1,29 +1,26 @@
 -- What is known of the candidate that a round takes: every candidate that takes the place of the best so far is one, not dropped, with L by
 -- `cutOf` and the gain by its costs; so the last one is.
 -- Assumes nothing.
-use mathlib.Core.Path.{_≡_, refl, ap, _∙_}
+use mathlib.Core.Path.{_≡_, refl}
 use mathlib.Core.Bool.{true, false, not, _&&_, _||_}
 use mathlib.Core.List.{List, []}
-use Prim.Native.Nat.{ℕ, zero, suc, _+_, _≤_, _<_}
+use Prim.Native.Nat.{ℕ, _+_, _<_}
 use native.Mathlib.Omega.{arith}
 use lib.Dec.{ltb, eqb}
 use lib.IntN.{ℤ}
-use lib.ListN.{length, getD, set, length-set, replicate}
-use borrow.Author.Tests.{ltb-true, ltb-false, eqb-false, not-true}
+use lib.ListN.{getD}
+use borrow.Author.Tests.{ltb-true, eqb-false, not-true}
 use Rattle.lists.proofs.TestLaws.{by, and-left, and-right, or-none}
 use Rattle.plane.specs.declared.Macro.{Macro}
 use Rattle.plane.specs.declared.Weights.{Weights}
 use Rattle.plane.specs.Cost.{cost}
 use Rattle.plane.specs.Flat.{placeAt}
 use Rattle.candidates.specs.declared.Best.{Best}
-use Rattle.lists.specs.Turns.{turns}
-use Rattle.tree.specs.Table.{treeBound, firstEnd, secondEnd}
-use Rattle.longest.specs.Longest.{edgeCost, measure, costs, cutOf, longest}
+use Rattle.tree.specs.Table.{firstEnd, secondEnd}
+use Rattle.longest.specs.Longest.{costs, cutOf, longest}
 use Rattle.triples.specs.Triple.{sees, dropped, allowed}
 use Rattle.candidates.specs.Candidate.{best, middleOf, weighed, offer, offers, search, found}
-use Rattle.tree.specs.Places.{keyCost}
 use Rattle.lists.proofs.TurnLaws.{turns-below}
-use Rattle.tree.proofs.SumLaws.{other, here}
 
 -- the candidate of the edge k and the point u, with L and gain
 pub record Winner (w : Weights) (ms : List Macro) (pts : List ℤ) (n : ℕ) (ks : List ℕ) (e : ℕ) (el top : List ℕ)

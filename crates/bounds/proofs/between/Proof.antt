@@ -1,6 +1,5 @@
 -- `bounds::between` meets its contract: where one hangs on the other, the edge between them is the only one.
 -- Assumes nothing.
-use mathlib.Core.Path.{_≡_, _∙_}
 use borrow.Author.Needs.{needs}
 use Rattle.bounds.proofs.CalmLaws.{hung-cost, held-cost}
 use Rattle.bounds.proofs.between.Statement.{statement}

@@ -1,8 +1,7 @@
 -- `bounds::carried` meets its contract: points found, longest edges no longer, bounds taken over, and the further point taken in.
 -- Assumes nothing.
-use mathlib.Core.Path.{_≡_, refl}
+use mathlib.Core.Path.{refl}
 use native.Mathlib.Omega.{arith}
-use borrow.Author.Needs.{needs}
 use Rattle.lists.proofs.TestLaws.{differ}
 use Rattle.tree.specs.Table.{treeBound}
 use Rattle.longest.proofs.FoundLaws.{small-all}

@@ -1,6 +1,6 @@
 -- `bounds::hangs` meets its contract.
 -- Assumes nothing.
-use mathlib.Core.Path.{_≡_, refl}
+use mathlib.Core.Path.{refl}
 use borrow.Author.Needs.{needs}
 use Rattle.lists.proofs.TestLaws.{differ}
 use Rattle.bounds.proofs.hangs.Statement.{statement}

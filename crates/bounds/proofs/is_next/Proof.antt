@@ -1,7 +1,6 @@
 -- `bounds::is_next` meets its contract.
 -- Assumes nothing.
-use mathlib.Core.Path.{_≡_, refl, sym, _∙_}
-use mathlib.Core.Bool.{true}
+use mathlib.Core.Path.{refl, sym, _∙_}
 use borrow.Author.Needs.{needs}
 use Rattle.lists.proofs.TestLaws.{differ}
 use Rattle.plane.proofs.PlaceLaws.{same-true}

@@ -1,13 +1,11 @@
 -- `bounds::numbers` meets its contract. The loop's invariant: i points before are found among the first j of now. The measure is how many
 -- of now are left.
 -- Assumes nothing.
-use mathlib.Core.Path.{_≡_, refl, sym, _∙_}
-use mathlib.Core.Bool.{true}
-use Prim.Native.Nat.{_≤_, _<_, _-_}
+use mathlib.Core.Path.{refl, sym, _∙_}
+use Prim.Native.Nat.{_-_}
 use native.Mathlib.Omega.{arith}
 use borrow.Author.Tests.{eqb-true}
 use Rattle.lists.proofs.TestLaws.{differ}
-use Rattle.tree.specs.Table.{treeBound, Small}
 use Rattle.bounds.proofs.NumberLaws.{Finding, finding-start, finding-next, finding-fresh, finding-end}
 use Rattle.bounds.proofs.numbers.Statement.{statement}
 use Rattle.bounds.proofs.numbers.Tie as tie

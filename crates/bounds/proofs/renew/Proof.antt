@@ -1,7 +1,6 @@
 -- `bounds::renew` meets its contract: bounds that are taken over, or none that is known.
 -- Assumes nothing.
 use native.Mathlib.Omega.{arith}
-use borrow.Author.Needs.{needs}
 use Rattle.tree.specs.Table.{treeBound}
 use Rattle.longest.proofs.HungLaws.{same-entry, same-length}
 use Rattle.bounds.proofs.CarriedLaws.{most-bounds}

@@ -1,9 +1,6 @@
 -- `candidates::candidate::ask` meets its contract: an edge whose bound is no more than what is gained already changes nothing, and any
 -- other one has its own best, which comes or not.
 -- Assumes nothing.
-use mathlib.Core.Path.{_≡_, refl}
-use Prim.Native.Nat.{_≤_}
-use native.Mathlib.Omega.{arith}
 use borrow.Author.Needs.{needs}
 use Rattle.candidates.proofs.BoundLaws.{bound-stays, bound-comes, bound-keeps, own-shut, bounded-set}
 use Rattle.candidates.proofs.candidate.ask.Statement.{statement}

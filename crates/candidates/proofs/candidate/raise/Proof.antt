@@ -1,10 +1,8 @@
 -- `candidates::candidate::raise` meets its contract. The loop's invariant: the row is that of s, and the bounds before k count s. The
 -- measure is how many edges are left.
 -- Assumes nothing.
-use mathlib.Core.Path.{_≡_}
-use Prim.Native.Nat.{_≤_, _-_}
+use Prim.Native.Nat.{_-_}
 use native.Mathlib.Omega.{arith}
-use lib.ListN.{length}
 use Rattle.plane.specs.Flat.{macrosOf}
 use Rattle.tree.specs.Table.{treeBound}
 use Rattle.longest.specs.Longest.{longest}

@@ -1,6 +1,6 @@
 -- `candidates::candidate::raised` meets its contract: the row of s at both ends of the edge gives L, and the offer of s is what it gains.
 -- Assumes nothing.
-use mathlib.Core.Path.{_≡_, ap}
+use mathlib.Core.Path.{ap}
 use native.Mathlib.Omega.{arith}
 use borrow.Author.Needs.{needs}
 use lib.ListN.{getD}
