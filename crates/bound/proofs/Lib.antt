@@ -1,0 +1,3 @@
+pub mod NetBound
+pub mod NetArcs
+pub mod NetSwept
