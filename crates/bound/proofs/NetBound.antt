@@ -17,12 +17,13 @@ use Rattle.joined.proofs.JoinedLaws.{through}
 use Rattle.plane.specs.declared.Place.{Place}
 use Rattle.plane.specs.declared.Macro.{Macro}
 use Rattle.plane.specs.declared.Weights.{Weights}
-use Rattle.plane.specs.Place.{place, before}
 use Rattle.plane.specs.Cost.{Positive}
-use Rattle.plane.proofs.PlaceOrder.{place-order, place-same}
+use Rattle.plane.proofs.PlaceOrder.{place-same}
 use Rattle.net.specs.Net.{Net, costIn}
 use Rattle.net.specs.Allowed.{Allowed}
 use Rattle.net.proofs.AllowedLaws.{allowed-positive}
+use Rattle.lines.specs.declared.Axis.{Axis}
+use Rattle.lines.specs.declared.Axis.the-variants.{Across, Along}
 use Rattle.lines.specs.Lines.{ClearStep}
 use Rattle.lines.specs.Edges.{Edge, gridEdges}
 use Rattle.lines.proofs.AxisLaws.{cost-length}
@@ -38,18 +39,10 @@ use Rattle.best.proofs.BestTree.{gridded}
 use Rattle.best.proofs.OrderLaws.{link-same}
 use Rattle.best.proofs.RefinedLaws.{one-tree-joined, refined-on}
 use Rattle.sweeps.specs.Sweep.{Swept}
-use Rattle.bound.specs.Order.{faced, below}
-use Rattle.bound.specs.Bound.{SweptPins, Bound}
+use Rattle.bound.specs.Order.{towards}
+use Rattle.bound.specs.Bound.{SweptPins, BothWays, Bound}
+use Rattle.bound.proofs.OrderLaws.{towards-order}
 use Rattle.sweeps.proofs.SweepLaws.{swept-bound, swept-same, Alike}
-
--- places in the order of y
-pub below-order : Order below
-unfolding faced below
-below-order = record {
-  never = λ a. place-order .never (place (a .y) (a .x));
-  along = λ a b c. place-order .along (place (a .y) (a .x)) (place (b .y) (b .x)) (place (c .y) (c .x));
-  tie = λ a b e f. ap (λ (z : Place). place (z .y) (z .x)) (place-order .tie (place (a .y) (a .x)) (place (b .y) (b .x)) e f);
-}
 
 module _ (net : Net) where
   sweep-holds : (pins : List Place) → Among pins (net .pins) → {n : ℕ} → SweptPins net pins n → (F : List Edge) → JoinsPins net F →
@@ -58,17 +51,18 @@ module _ (net : Net) where
       swept-bound place-same (gridEdges net) (cost-length (net .weights)) s F (j .on-grid)
       (λ p i q k. j .joins p q (h p i) (h q k))
 
-  -- THE THEOREM: no edges of the grid that join all pins cost less
-  pub bound-holds : {n : ℕ} → Bound net n → (F : List Edge) → JoinsPins net F → n ≤ lengths (costIn net) F
-  bound-holds b F j =
+  both-hold : (axis : Axis) {n : ℕ} → BothWays net axis n → (F : List Edge) → JoinsPins net F → n ≤ lengths (costIn net) F
+  both-hold axis b F j =
       omega (
         arith,
-        b .greatest,
-        sweep-holds _ (λ p i. of-sorted before (net .pins) p (of-reverse _ p i)) (b .to-left) F j,
-        sweep-holds _ (of-sorted before (net .pins)) (b .to-right) F j,
-        sweep-holds _ (λ p i. of-sorted below (net .pins) p (of-reverse _ p i)) (b .to-bottom) F j,
-        sweep-holds _ (of-sorted below (net .pins)) (b .to-top) F j,
+        b .greater,
+        sweep-holds _ (λ p i. of-sorted (towards axis) (net .pins) p (of-reverse _ p i)) (b .to-start) F j,
+        sweep-holds _ (of-sorted (towards axis) (net .pins)) (b .to-end) F j,
       )
+
+  -- THE THEOREM: no edges of the grid that join all pins cost less
+  pub bound-holds : {n : ℕ} → Bound net n → (F : List Edge) → JoinsPins net F → n ≤ lengths (costIn net) F
+  bound-holds b F j = omega (arith, b .greatest, both-hold Across (b .by-x) F j, both-hold Along (b .by-y) F j)
 
   -- nor does any tree of clear edges between crossings
   pub bound-clear : Positive (net .weights) → {n : ℕ} → Bound net n → (R : List Edge) →
@@ -106,14 +100,17 @@ module _ {W : Weights} {ps qs : List Place} {ms ns : List Macro} (h : SameNet W 
       record { to = link-same h; from = link-same (turned h); as-much = λ v w i. refl } s
       (subst (λ (z : List Place). SweptPins (netBy W qs ns) z n) (sym e) t)
 
-  pub bound-any-order : {m n : ℕ} → Bound (netBy W ps ms) m → Bound (netBy W qs ns) n → m ≡ n
-  bound-any-order b c =
+  both-same : (axis : Axis) {m n : ℕ} → BothWays (netBy W ps ms) axis m → BothWays (netBy W qs ns) axis n → m ≡ n
+  both-same axis b c =
+      let e = sorted-same (towards-order axis) in
       omega (
         arith,
-        b .greatest,
-        c .greatest,
-        sweep-same (ap reverse (sorted-same place-order)) (b .to-left) (c .to-left),
-        sweep-same (sorted-same place-order) (b .to-right) (c .to-right),
-        sweep-same (ap reverse (sorted-same below-order)) (b .to-bottom) (c .to-bottom),
-        sweep-same (sorted-same below-order) (b .to-top) (c .to-top),
+        b .greater,
+        c .greater,
+        sweep-same (ap reverse e) (b .to-start) (c .to-start),
+        sweep-same e (b .to-end) (c .to-end),
       )
+
+  pub bound-any-order : {m n : ℕ} → Bound (netBy W ps ms) m → Bound (netBy W qs ns) n → m ≡ n
+  bound-any-order b c =
+      omega (arith, b .greatest, c .greatest, both-same Across (b .by-x) (c .by-x), both-same Along (b .by-y) (c .by-y))

@@ -41,7 +41,7 @@ abbrev pub WidePriced : Weights → List ℤ → List ℤ → Type 0
 WidePriced w xs ys = (u v : ℕ) → cost w (wideAt xs ys u) (wideAt xs ys v) ≤ costBound
 
 -- both ends of an arc are within the lines
-unfoldable pub within : Grid → ℕ → ℕ → Bool
+abbrev pub within : Grid → ℕ → ℕ → Bool
 within g i j = ltb i (g .across) && ltb j (g .along)
 
 unfoldable pub isArc : Grid → ℕ → Bool

@@ -2,10 +2,10 @@
 --
 --   Arcs     spotNumber, wideNumber          crossings by number, with room for 384 lines along each axis
 --            isArc, edgeNumber, arcNumber    the table of arcs: what an edge costs and one more, 0 where there is none
---   Order    faced, below, inOrder           the pins by x, by y, and both turned round
+--   Order    faced, towards, inOrder         the pins by x, by y, and both turned round
 --            Numbered                        their numbers in a table
 --   Bound    SweptPins net pins n            n is the number of a sweep over these pins along the net's grid
---            Bound net n                     n is the greatest of four
+--            BothWays, Bound net n           the greater of two sweeps along an axis; n is the greatest of four
 --
 -- THE THEOREMS (proofs/)
 --   NetBound   bound-holds        no edges of the grid that join all pins cost less than the bound;  refined-not-below
