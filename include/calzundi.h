@@ -59,7 +59,7 @@
 
 /* The version. It stands here and nowhere else; the tools take it from this line. Each landing raises the second number; the last of
  * the fourteen change requests raised the first. */
-#define CALZUNDI_VERSION "2.2"
+#define CALZUNDI_VERSION "2.3"
 
 #include <stddef.h>
 #include <stdint.h>
@@ -253,9 +253,11 @@ int32_t calzundi_slid_tree(const int32_t *pins, size_t pin_numbers, const int32_
                            calzundi_length *total, calzundi_length *metal);
 
 /*
- * Best tree: a cheapest tree along the grid of all x and all y values of pins and macro sides, its edges in order. No edges of that grid
- * that join all pins cost less, so the refined tree never does. Which tree is given, where several cost the same, is left to the library;
- * what it costs is fixed. Its edges are along one axis, each a wire as it stands, and the check of bought-in trees passes it.
+ * Best tree: a cheapest tree along the grid of all x and all y values of pins and macro sides, its edges in order. No metal that keeps out
+ * of the macros' interiors joins all pins for less, along that grid or off it, on the die or off it, in whole units or in fractions: so the
+ * refined tree, the slid tree and any list that calzundi_check_tree passes cost as much or more. Which tree is given, where several cost the
+ * same, is left to the library; what it costs is fixed. Its edges are along one axis, each a wire as it stands, and the check of bought-in
+ * trees passes it.
  *
  * work   lent, at least CALZUNDI_BEST_WORK of 32 bits, whatever they hold; after a success the first CALZUNDI_BEST_WORK are 0 and any
  *        others as they were, after a refusal all are as they were

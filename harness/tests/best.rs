@@ -5,7 +5,8 @@ use harness::counted::Counted;
 use harness::library;
 use harness::matching::{refused, routed};
 use reference::best::{cost_by_edge_sets, edge_numbers, MACROS, PINS, WORK};
-use reference::generate::{permuted, Shift};
+use reference::generate::{bought, crowded, permuted, Bought, Ours, Shift};
+use reference::lattice::Steps;
 use reference::lists::{unloaded, Lists};
 use reference::net::{check, Net, Weights};
 use reference::operations;
@@ -140,7 +141,18 @@ fn matched(lists: &Lists, seed: u64) -> Result<(usize, i64, i64), u32> {
 /// How many nets are cut out of one: large nets take longer to make than small ones to route.
 const PARTS: u64 = 8;
 
-/// Nets of every kind cut to five pins and few macros, some to sixteen, some uncut, and hostile lists. The refined tree is never cheaper.
+/// What the refined tree and the slid tree of an allowed net cost.
+fn refined_and_slid(lists: &Lists) -> [i64; 2] {
+    let (pins, macros, weights) = lists.parts();
+    let (m, k) = counts(lists);
+    let mut edges = vec![0; 8 * (2 * m + 4 * k)];
+    let refined = library::refined_tree(pins, macros, weights, &mut edges);
+    let slid = library::slid_tree(pins, macros, weights, &mut edges);
+    [refined, slid].map(|tree| tree.expect("a tree").1)
+}
+
+/// Nets of every kind cut to five pins and few macros, some to sixteen, some uncut, and hostile lists. The refined tree and the slid tree
+/// are never cheaper.
 #[test]
 fn five_thousand_nets() {
     let mut met = Counted::new("best trees of 5000 nets");
@@ -158,16 +170,13 @@ fn five_thousand_nets() {
             4 => cut(&whole, part, 2, MACROS + 1),
             _ => cut(&whole, part, pins, seed as usize / 7 % 6),
         };
-        let (pins, macros, weights) = lists.parts();
         let (m, k) = counts(&lists);
         let event = match matched(&lists, seed) {
             Ok((_, total, _)) => {
-                let mut edges = vec![0; 8 * (2 * m + 4 * k)];
-                let refined = library::refined_tree(pins, macros, weights, &mut edges).unwrap();
-                let slid = library::slid_tree(pins, macros, weights, &mut edges).unwrap();
-                assert!(total <= refined.1, "{}", text::print(&lists));
-                met.add("trees dearer once refined", (total < refined.1).into());
-                met.add("trees dearer once slid", (total < slid.1).into());
+                let [refined, slid] = refined_and_slid(&lists);
+                assert!(total <= refined.min(slid), "{}", text::print(&lists));
+                met.add("trees dearer once refined", (total < refined).into());
+                met.add("trees dearer once slid", (total < slid).into());
                 met.add("trees of the largest size", (m == 5 && k == 16).into());
                 format!("trees of {m} pins")
             }
@@ -217,6 +226,72 @@ fn five_hundred_tiny_nets_by_every_set_of_edges() {
         ours.passes(&lists);
         tried += 1;
     }
+}
+
+/// What those bought-in trees of a net cost that pass by both programs, of lists of every kind.
+fn bought_in(lists: &Lists, net: &Net, seed: u64) -> Vec<i64> {
+    let ours = Ours::of(net);
+    let (pins, macros, weights) = lists.parts();
+    let cost = |list: Vec<i32>| {
+        let answer = library::check_tree(pins, macros, weights, &list);
+        assert_eq!(answer, operations::check_tree(pins, macros, weights, &list));
+        answer.ok().map(|(cost, _)| cost)
+    };
+    let all = Bought::ALL.iter();
+    let lists = all.filter_map(|&kind| bought(kind, seed, &ours));
+    lists.filter_map(cost).collect()
+}
+
+/// What the best tree of a small net costs, with the tree passed by both checks.
+fn best(lists: &Lists, seed: u64) -> i64 {
+    let (m, k) = counts(lists);
+    let ours = call(lists, WORK, edge_numbers(m, k), seed);
+    ours.passes(lists);
+    ours.answer.expect("a tree").1
+}
+
+/// L17 and L18: the least metal in clear steps of a unit, or of half a unit, costs what the best tree does, wherever it runs, also off the
+/// die; so no refined tree, slid tree or bought-in tree costs less. Without the macros, metal costs less for many a net.
+#[test]
+fn two_thousand_nets_beside_all_metal() {
+    let [units, halves] = [1, 2].map(|parts| Steps { parts, margin: 1 });
+    let mut met = Counted::new("best trees of 2000 nets beside all metal");
+    for seed in 0..2_000 {
+        let lists = crowded(!seed);
+        let (pins, macros, weights) = lists.parts();
+        let [net, open] = [macros, &[]].map(|macros| check(pins, macros, weights).unwrap());
+        let (total, said) = (best(&lists, seed), text::print(&lists));
+        let least = units.least(&net);
+        assert_eq!(least.cost, total, "{said}");
+        assert_eq!(halves.least(&net).cost, 2 * total, "{said}");
+        let [refined, slid] = refined_and_slid(&lists);
+        let bought = bought_in(&lists, &net, seed);
+        let others = bought.iter().chain([&refined, &slid]);
+        assert!(others.min() >= Some(&total), "{said}");
+        let in_the_way = units.least(&open).cost < total;
+        let dearer = bought.iter().filter(|&&cost| total < cost).count();
+        for (event, times) in [
+            ("nets with macros in the way", in_the_way.into()),
+            (
+                "of them with weights that differ",
+                (in_the_way && weights.x != weights.y).into(),
+            ),
+            (
+                "nets whose least metal may leave the lines",
+                (least.off_lines > 0).into(),
+            ),
+            ("refined trees that cost more", (total < refined).into()),
+            ("slid trees that cost more", (total < slid).into()),
+            ("bought-in trees that pass and cost more", dearer),
+            (
+                "bought-in trees that pass and cost as much",
+                bought.len() - dearer,
+            ),
+        ] {
+            met.add(event, times);
+        }
+    }
+    met.all_met(20);
 }
 
 fn lists(pins: &[i32], macros: &[i32]) -> Lists {

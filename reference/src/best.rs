@@ -3,11 +3,8 @@
 //! tiny nets, over every set of grid edges. Both say what the tree costs; "which tree is given is
 //! left to the program".
 
-use std::cmp::Reverse;
-use std::collections::BinaryHeap;
-
-use crate::grid::{grid_steps, lines};
-use crate::net::{Net, Place};
+use crate::grid::{Grid, FAR};
+use crate::net::Net;
 
 /// "For up to 5 pins and 16 macros": above either is 41.
 pub const PINS: usize = 5;
@@ -19,50 +16,6 @@ pub const WORK: usize = 65_536;
 /// "4 × (m + 2k)² numbers for the edges."
 pub fn edge_numbers(m: usize, k: usize) -> usize {
     4 * (m + 2 * k) * (m + 2 * k)
-}
-
-/// More than any tree costs: no way.
-const FAR: i64 = i64::MAX / 8;
-
-/// The grid's crossings in the order of places, and with which others each is joined, at what cost.
-struct Grid {
-    crossings: Vec<Place>,
-    joined: Vec<Vec<(usize, i64)>>,
-}
-
-impl Grid {
-    fn of(net: &Net) -> Grid {
-        let (xs, ys) = lines(net);
-        let column = |&x: &i64| ys.iter().map(move |&y| Place { x, y }).collect::<Vec<_>>();
-        let crossings: Vec<Place> = xs.iter().flat_map(column).collect();
-        let number = |place| crossings.binary_search(&place).expect("a crossing");
-        let from = |&at: &Place| {
-            let steps = grid_steps(net, &xs, &ys, at).into_iter();
-            steps.map(|(to, cost)| (number(to), cost)).collect()
-        };
-        let joined = crossings.iter().map(from).collect();
-        Grid { crossings, joined }
-    }
-
-    fn pins(&self, net: &Net) -> Vec<usize> {
-        let number = |pin| self.crossings.binary_search(pin).expect("a crossing");
-        net.pins().iter().map(number).collect()
-    }
-
-    /// What it costs to come from one crossing to each.
-    fn costs_from(&self, from: usize) -> Vec<i64> {
-        let mut costs = vec![FAR; self.crossings.len()];
-        let mut found = BinaryHeap::from([Reverse((0, from))]);
-        while let Some(Reverse((cost, at))) = found.pop() {
-            if costs[at] != FAR {
-                continue;
-            }
-            costs[at] = cost;
-            let steps = self.joined[at].iter().filter(|(to, _)| costs[*to] == FAR);
-            found.extend(steps.map(|&(to, more)| Reverse((cost + more, to))));
-        }
-        costs
-    }
 }
 
 /// What the cheapest tree costs. A tree of five pins has at most three points where ways part: one
@@ -115,9 +68,12 @@ pub fn cost_by_edge_sets(net: &Net, most: usize) -> Option<i64> {
         .flat_map(|(a, others)| others.iter().map(move |&(b, cost)| (a, b, cost)))
         .filter(|(a, b, _)| a < b)
         .collect();
-    if edges.len() > most {
-        return None;
-    }
+    let count = grid.crossings.len();
+    (edges.len() <= most).then(|| least_set(count, &edges, &pins))
+}
+
+/// What the cheapest set of edges costs that joins the pins, of so many points by number.
+pub(crate) fn least_set(points: usize, edges: &[(usize, usize, i64)], pins: &[usize]) -> i64 {
     let chosen = |set: u64| {
         edges
             .iter()
@@ -125,7 +81,7 @@ pub fn cost_by_edge_sets(net: &Net, most: usize) -> Option<i64> {
             .filter(move |(i, _)| set >> i & 1 == 1)
     };
     let joins = |set: u64| {
-        let mut groups: Vec<usize> = (0..grid.crossings.len()).collect();
+        let mut groups: Vec<usize> = (0..points).collect();
         for (_, &(a, b, _)) in chosen(set) {
             let (kept, gone) = (groups[a], groups[b]);
             groups
@@ -142,7 +98,7 @@ pub fn cost_by_edge_sets(net: &Net, most: usize) -> Option<i64> {
             least = cost;
         }
     }
-    Some(least)
+    least
 }
 
 #[cfg(test)]

@@ -2,7 +2,7 @@
 //!
 //! `Kind` names allowed nets, `Hostile` pairs of lists to be refused, `Damage` net files that are
 //! not as they should be, `BandList` lists of bands and `Bought` lists of edges, hostile ones among them;
-//! `technology` and `driver` give both for delays.
+//! `technology` and `driver` give both for delays, and `crowded` nets so small that all metal on them can be tried.
 //!
 //! `net`, `hostile` and `damaged` give weights 1 and 1, and `weighted`, `hostile_weighted` and
 //! `damaged_weighted` the same kinds with weights of all sorts. All of these have loads of 0;
@@ -11,6 +11,7 @@
 
 mod bands;
 mod bought;
+mod crowded;
 mod damaged;
 mod draft;
 mod hostile;
@@ -25,6 +26,7 @@ mod weights;
 
 pub use bands::{bands, BandList};
 pub use bought::{bought, Bought, Ours};
+pub use crowded::crowded;
 pub use damaged::{damaged, damaged_loaded, damaged_weighted, Damage};
 pub use hostile::{hostile, hostile_weighted, refusal, Hostile};
 pub use loads::loaded;

@@ -13,10 +13,15 @@ pub const MACROS: usize = 16;
 /// "The cheapest grid cost between every two pins, as a square table of m × m numbers [...] in the
 /// order of places."
 pub fn distances(net: &Net) -> Vec<i64> {
-    let (xs, ys) = lines(net);
-    table(net, |from| {
-        search(from, |place| grid_steps(net, &xs, &ys, place))
-    })
+    let grid = Grid::of(net);
+    let mut pins = grid.pins(net);
+    // "In the order of places", which is that of the crossings' numbers.
+    pins.sort();
+    let row = |&from: &usize| {
+        let costs = grid.costs_from(from);
+        pins.iter().map(|&to| costs[to]).collect::<Vec<i64>>()
+    };
+    pins.iter().flat_map(row).collect()
 }
 
 /// The same table by "walks in unit steps, each clear of the interiors", over all whole places at
@@ -32,25 +37,61 @@ pub fn distances_by_units(net: &Net, margin: i64) -> Vec<i64> {
         x: xs[xs.len() - 1] + margin,
         y: ys[ys.len() - 1] + margin,
     };
-    table(net, |from| {
-        search(from, |place| unit_steps(net, low, high, place))
-    })
-}
-
-/// A row for each pin in the order of places, each with a number for each pin in that order.
-fn table(net: &Net, costs_from: impl Fn(Place) -> BTreeMap<Place, i64>) -> Vec<i64> {
     let mut pins = net.pins().to_vec();
     pins.sort();
-    pins.iter()
-        .flat_map(|&from| {
-            let costs = costs_from(from);
-            pins.iter().map(|to| costs[to]).collect::<Vec<i64>>()
-        })
-        .collect()
+    let row = |&from: &Place| {
+        let costs = search(from, |place| unit_steps(net, low, high, place));
+        pins.iter().map(|to| costs[to]).collect::<Vec<i64>>()
+    };
+    pins.iter().flat_map(row).collect()
+}
+
+/// More than any way costs: no way.
+pub(crate) const FAR: i64 = i64::MAX / 8;
+
+/// The grid's crossings in the order of places, and with which others each is joined, at what cost.
+pub(crate) struct Grid {
+    pub(crate) crossings: Vec<Place>,
+    pub(crate) joined: Vec<Vec<(usize, i64)>>,
+}
+
+impl Grid {
+    pub(crate) fn of(net: &Net) -> Grid {
+        let (xs, ys) = lines(net);
+        let column = |&x: &i64| ys.iter().map(move |&y| Place { x, y }).collect::<Vec<_>>();
+        let crossings: Vec<Place> = xs.iter().flat_map(column).collect();
+        let number = |place| crossings.binary_search(&place).expect("a crossing");
+        let from = |&at: &Place| {
+            let steps = grid_steps(net, &xs, &ys, at).into_iter();
+            steps.map(|(to, cost)| (number(to), cost)).collect()
+        };
+        let joined = crossings.iter().map(from).collect();
+        Grid { crossings, joined }
+    }
+
+    pub(crate) fn pins(&self, net: &Net) -> Vec<usize> {
+        let number = |pin| self.crossings.binary_search(pin).expect("a crossing");
+        net.pins().iter().map(number).collect()
+    }
+
+    /// What it costs to come from one crossing to each.
+    pub(crate) fn costs_from(&self, from: usize) -> Vec<i64> {
+        let mut costs = vec![FAR; self.crossings.len()];
+        let mut found = BinaryHeap::from([Reverse((0, from))]);
+        while let Some(Reverse((cost, at))) = found.pop() {
+            if costs[at] != FAR {
+                continue;
+            }
+            costs[at] = cost;
+            let steps = self.joined[at].iter().filter(|(to, _)| costs[*to] == FAR);
+            found.extend(steps.map(|&(to, more)| Reverse((cost + more, to))));
+        }
+        costs
+    }
 }
 
 /// "From all x and all y values of pins and macro sides form a grid."
-pub(crate) fn lines(net: &Net) -> (Vec<i64>, Vec<i64>) {
+fn lines(net: &Net) -> (Vec<i64>, Vec<i64>) {
     let pins = net.pins().iter();
     let macros = net.macros().iter();
     let xs = pins
@@ -71,7 +112,7 @@ fn in_order(values: impl Iterator<Item = i64>) -> Vec<i64> {
 }
 
 /// "Neighbouring crossings are joined when the segment between them meets no interior."
-pub(crate) fn grid_steps(net: &Net, xs: &[i64], ys: &[i64], at: Place) -> Vec<(Place, i64)> {
+fn grid_steps(net: &Net, xs: &[i64], ys: &[i64], at: Place) -> Vec<(Place, i64)> {
     let across = beside(xs, at.x).map(|x| Place { x, ..at });
     let along = beside(ys, at.y).map(|y| Place { y, ..at });
     priced(net, at, across.chain(along))

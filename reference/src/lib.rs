@@ -15,6 +15,7 @@ pub mod generate;
 pub mod graph;
 pub mod grid;
 pub mod ground;
+pub mod lattice;
 pub mod lists;
 pub mod net;
 pub mod netfile;

@@ -267,7 +267,7 @@ pub type RefinedTree = Tree;
 /// both places for a bend are taken.
 pub type SlidTree = Tree;
 
-/// A best tree: none along the grid of all pins and sides is cheaper. Which one, where several cost the same, is left to the library.
+/// A best tree: no metal that joins the pins costs less. Which one, where several cost the same, is left to the library.
 pub type BestTree = Tree;
 
 /// What a bought-in tree that passes comes to.
@@ -400,8 +400,9 @@ impl Net {
         self.tree(lent::slid_tree, 8 * self.tree_points())
     }
 
-    /// A best tree of up to 5 pins and 16 macros: no edges of the grid of all pins and sides that join the pins cost less, so the refined
-    /// tree never does. Which one is given, where several cost the same, is left to the library; its cost is fixed.
+    /// A best tree of up to 5 pins and 16 macros: no metal outside the macros joins the pins for less, along the grid of all pins and sides
+    /// or off it; so neither the refined nor the slid tree nor any that [`Net::check_tree`] passes does. Which one is given, where several
+    /// cost the same, is left to the library; its cost is fixed.
     pub fn best_tree(&self) -> Result<BestTree, Refusal> {
         let lines = self.pins.len() + 2 * self.macros.len();
         let of_size = self.pins.len() <= BEST_PINS && self.macros.len() <= GRID_MACROS;

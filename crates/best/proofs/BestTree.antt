@@ -1,10 +1,9 @@
--- L11, L13, L14: a cheapest list of the grid's edges that joins all pins is a best tree. No tree of clear edges between crossings, such as
--- the refined one, is cheaper: each of its edges is laid along the grid. A filled table says how cheap it gets.
+-- L11, L13: a cheapest list of the grid's edges that joins all pins is a best tree. A filled table says how cheap it gets.
 -- Assumes nothing.
 use mathlib.Core.Path.{_≡_, refl, ap}
 use mathlib.Core.Bool.{Bool, true}
 use mathlib.Core.Logic.{_⊎_, inl, inr}
-use mathlib.Core.List.{List, [], _∷_, _++_, map, List·Memᴰ·cases-cons, List·Memᴰ·append-cases, Memᴰ·append-left, Memᴰ·append-right}
+use mathlib.Core.List.{List, [], _∷_, _++_, map, Memᴰ·append-left, Memᴰ·append-right}
 use Prim.Native.Nat.{ℕ, suc, _+_, _*_, _≤_, _<_}
 use native.Mathlib.Nat.{suc-mul}
 use native.Mathlib.Omega.{arith}
@@ -13,35 +12,30 @@ use lib.IntN.{ℤ}
 use lib.ListN.{length, length-map, length-append}
 use borrow.Author.Tests.{ltb-true, ltb-false}
 use Rattle.lists.specs.Member.{_∈_, here, there, Among}
-use Rattle.lists.specs.Total.{total}
 use Rattle.lists.proofs.TestLaws.{by, either}
 use Rattle.lists.proofs.MapLaws.{in-map}
-use Rattle.joined.specs.Joined.{Link, Joined, stay, step}
-use Rattle.joined.specs.Way.{Way, stop, go, long}
-use Rattle.joined.specs.Exchange.{steps}
+use Rattle.joined.specs.Joined.{Link}
 use Rattle.joined.specs.Cost.{lengths}
-use Rattle.joined.proofs.JoinedLaws.{firsts, seconds, turn, then, back, between, through, more, older}
-use Rattle.joined.proofs.CostLaws.{lengths-append}
+use Rattle.joined.proofs.JoinedLaws.{turn, then, back}
 use Rattle.plane.specs.declared.Place.{Place}
 use Rattle.plane.specs.Place.{place}
 use Rattle.plane.specs.Cost.{Positive}
 use Rattle.plane.proofs.PlaceOrder.{place-same}
 use Rattle.net.specs.Net.{Net, costIn}
-use Rattle.lines.specs.Lines.{xLines, yLines, Crossing, ClearStep}
-use Rattle.grid.specs.Walk.{stop as halt, go as onward}
+use Rattle.lines.specs.Lines.{xLines, yLines, Crossing}
 use Rattle.lines.specs.Edges.{Edge, gridEdges}
 use Rattle.lines.proofs.AxisLaws.{cost-length}
 use Rattle.lines.proofs.EdgeLaws.{link-grid, pin-crossing}
 use Rattle.lines.proofs.CrossingLaws.{step-crossings}
 use Rattle.grid.proofs.BoxWalk.{grid-clear}
-use Rattle.grid.proofs.DistanceLaws.{IsCrossing, GridWay, no-clear-walk-cheaper}
+use Rattle.grid.proofs.DistanceLaws.{IsCrossing}
 use Rattle.grid.proofs.TableGrid.{link-cost}
 use Rattle.best.specs.Sets.{Edges, Reaches}
 use Rattle.best.specs.Tree.{IsBest}
 use Rattle.best.specs.Masks.{chosen, Mask, maskPins, Filled}
 use Rattle.best.proofs.LowerBound.{lower-bound}
 use Rattle.best.proofs.MaskLaws.{filled-closed}
-use Rattle.best.proofs.CheapestTree.{Cheapest, points, points-are, cheapest-short, cheapest-one-tree, cheapest-simple, cheapest-two}
+use Rattle.best.proofs.CheapestTree.{Cheapest, points-are, cheapest-short, cheapest-one-tree, cheapest-simple, cheapest-two}
 
 -- The mask of all pins
 
@@ -66,25 +60,6 @@ module _ {A : Type 0} where
   pub all-pins : (pins : List A) (p : A) (m : p ∈ pins) → maskPins pins (allPins pins p m) ≡ pins
   unfolding allPins
   all-pins pins p m = chosen-ones pins
-
--- The steps of a way as edges
-
-module _ {A : Type 0} {L : List (A × A)} where
-  steps-edges : {x y : A} {ps : List A} → Way L x ps y → Edges L (steps x ps)
-  unfolding steps
-  steps-edges (stop e) a b m = elim m [ ]
-  steps-edges (go {x = x} {y = y} l w) a b m =
-      either (λ e. let i : a ≡ x = firsts e in let j : b ≡ y = seconds e in rw (i, j) l) (steps-edges w a b) (List·Memᴰ·cases-cons m)
-
-  steps-joined : {x y : A} {ps : List A} → Way L x ps y → Joined (steps x ps) x y
-  unfolding steps
-  steps-joined (stop e) = stay e
-  steps-joined (go l w) = step (inl (here refl)) (older (steps-joined w))
-
-steps-lengths : {A : Type 0} (d : A → A → ℕ) (x : A) (ps : List A) → lengths d (steps x ps) ≡ long d x ps
-unfolding steps lengths total long
-steps-lengths d x [] = refl
-steps-lengths d x (y ∷ ps) = omega (arith, steps-lengths d y ps)
 
 -- All crossings
 
@@ -124,37 +99,6 @@ module _ (net : Net) (positive : Positive (net .weights)) where
   ends-on : (a b : Place) → Link G a b → IsCrossing net a × IsCrossing net b
   ends-on a b l = step-crossings (xLines net) (yLines net) (net .macros) a b (link-grid net a b l)
 
-  -- A tree of clear edges, laid along the grid
-
-  pub record Gridded (R : List Edge) : Type 0 where
-    pub edges : List Edge
-    pub on-grid : Edges G edges
-    pub joins : (a b : Place) → (a, b) ∈ R → Joined edges a b
-    pub costs : lengths price edges ≤ lengths price R
-
-  pub gridded : (R : List Edge) → ((a b : Place) → (a, b) ∈ R → ClearStep (net .macros) a b × (IsCrossing net a × IsCrossing net b)) →
-      Gridded R
-  unfolding lengths total long
-  gridded [] h = record { edges = []; on-grid = λ a b m. elim m [ ]; joins = λ a b m. elim m [ ]; costs = omega arith }
-  gridded ((p, q) ∷ R) h =
-      let c = h p q (here refl) in
-      let w : GridWay net p q (long price p (q ∷ [])) = no-clear-walk-cheaper net (c .1 .0) (c .1 .1) (onward (c .0) (halt refl)) in
-      let r = gridded R (λ a b m. h a b (there m)) in
-      record {
-        edges = steps p (w .points) ++ r .edges;
-        on-grid = λ a b m. either (steps-edges (w .way) a b) (r .on-grid a b) (List·Memᴰ·append-cases (steps p (w .points)) m);
-        joins = λ a b m. either
-            (λ e. between (firsts e) (seconds e) (more (λ f i. Memᴰ·append-left (r .edges) i) (steps-joined (w .way))))
-            (λ i. more (λ f j. Memᴰ·append-right (steps p (w .points)) j) (r .joins a b i)) (List·Memᴰ·cases-cons m);
-        costs = omega (
-          arith,
-          lengths-append price (steps p (w .points)) (r .edges),
-          steps-lengths price p (w .points),
-          w .within,
-          r .costs,
-        );
-      }
-
   -- A cheapest list of edges is a best tree
 
   abbrev pub IsCheapest : Place → List Edge → Type 0
@@ -182,14 +126,6 @@ module _ (net : Net) (positive : Positive (net .weights)) where
       two = cheapest-two place-same (cost-length (net .weights)) (link-cost net positive) c;
       few = few;
     }
-
-  -- L14: a tree of clear edges between crossings
-  pub clear-tree-least : {O : List Edge} → IsBest net O → (R : List Edge) →
-      ((a b : Place) → (a, b) ∈ R → ClearStep (net .macros) a b × (IsCrossing net a × IsCrossing net b)) →
-      ((p q : Place) → p ∈ net .pins → q ∈ net .pins → Joined R p q) → lengths price O ≤ lengths price R
-  clear-tree-least o R h j =
-      let g = gridded R h in
-      omega (arith, g .costs, o .least (g .edges) record { on-grid = g .on-grid; joins = λ p q i k. through (g .joins) (j p q i k) })
 
   -- What a filled table says. The goals are the pins, or the pins but for p0: then the table has half as many rows.
 

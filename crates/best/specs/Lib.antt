@@ -19,7 +19,8 @@
 --
 -- THE THEOREMS
 --   BestTree      cheapest-best          edges that join all pins, none cheaper, are a best tree;  best-alike: all best trees cost the same
---   RefinedLaws   refined-not-cheaper    the refined tree of an allowed net costs no less
+--   RefinedLaws   best-least             a best tree is the cheapest of all metal;  one-tree-not-cheaper: no tree of clear edges costs less
+--                 refined-not-cheaper    so the refined tree of an allowed net does not
 --   OrderLaws     best-any-order         the cost is the same for every order of the lists
 --   BestLaws      best-pinned            a point with a single edge is a pin, as a bought-in tree asks
 pub mod Sets

@@ -1,48 +1,45 @@
--- The bound of a net: no edges of the grid that join all pins cost less, nor does any tree of clear edges between crossings, such as the
--- refined one; and it is one number, the same for every order of the lists.
+-- The bound of a net: no edges of the grid that join all pins cost less, and so, by Hanan's theorem, no metal anywhere; nor does any tree
+-- of clear edges, such as the refined one. It is one number, the same for every order of the lists.
 -- Assumes nothing.
-use mathlib.Core.Path.{_≡_, refl, sym, ap, subst, _∙_}
-use mathlib.Core.Bool.{Bool, true, false}
+use mathlib.Core.Path.{_≡_, refl, sym, ap, subst}
+use mathlib.Core.Bool.{Bool}
 use mathlib.Core.List.{List, reverse}
-use Prim.Native.Nat.{ℕ, _≤_, max}
+use Prim.Native.Nat.{ℕ, _≤_}
 use native.Mathlib.Omega.{arith}
-use lib.IntN.{ℤ}
 use Rattle.lists.specs.Member.{_∈_, Among}
 use Rattle.lists.specs.Sorted.{Order, sorted}
 use Rattle.lists.proofs.MemberLaws.{of-reverse}
 use Rattle.lists.proofs.SortedLaws.{of-sorted, in-sorted, sorted-ascending, ascending-same}
-use Rattle.joined.specs.Joined.{Link, Joined}
+use Rattle.joined.specs.Joined.{Link, Joins}
 use Rattle.joined.specs.Cost.{lengths}
-use Rattle.joined.proofs.JoinedLaws.{through}
+use Rattle.joined.specs.OneTree.{OneTree}
+use Rattle.joined.specs.Pairs.{Each}
 use Rattle.plane.specs.declared.Place.{Place}
 use Rattle.plane.specs.declared.Macro.{Macro}
 use Rattle.plane.specs.declared.Weights.{Weights}
-use Rattle.plane.specs.Cost.{Positive}
 use Rattle.plane.proofs.PlaceOrder.{place-same}
 use Rattle.net.specs.Net.{Net, costIn}
 use Rattle.net.specs.Allowed.{Allowed}
-use Rattle.net.proofs.AllowedLaws.{allowed-positive}
 use Rattle.lines.specs.declared.Axis.{Axis}
 use Rattle.lines.specs.declared.Axis.the-variants.{Across, Along}
 use Rattle.lines.specs.Lines.{ClearStep}
 use Rattle.lines.specs.Edges.{Edge, gridEdges}
 use Rattle.lines.proofs.AxisLaws.{cost-length}
-use Rattle.grid.proofs.DistanceLaws.{IsCrossing}
 use Rattle.rules.specs.Terminal.{Path}
 use Rattle.rules.specs.Trees.{Trees}
-use Rattle.rules.proofs.BestLaws.{best-joining}
 use Rattle.rules.proofs.RefinedOurs.{refined-tree}
 use Rattle.rules.proofs.TreesOrder.{netBy, SameNet, turned}
-use Rattle.rules.proofs.TreesOurs.{trees-ours, trees-only}
+use Rattle.rules.proofs.TreesOurs.{trees-only}
+use Rattle.grid_hanan.specs.Metal.{UnitMetal, LeastMetal}
+use Rattle.grid_hanan.proofs.Hanan.{hanan}
+use Rattle.grid_hanan.proofs.LeastLaws.{metal-of}
 use Rattle.best.specs.Tree.{JoinsPins}
-use Rattle.best.proofs.BestTree.{gridded}
 use Rattle.best.proofs.OrderLaws.{link-same}
-use Rattle.best.proofs.RefinedLaws.{one-tree-joined, refined-on}
-use Rattle.sweeps.specs.Sweep.{Swept}
+use Rattle.best.proofs.RefinedLaws.{one-tree-joined}
 use Rattle.bound.specs.Order.{towards}
 use Rattle.bound.specs.Bound.{SweptPins, BothWays, Bound}
 use Rattle.bound.proofs.OrderLaws.{towards-order}
-use Rattle.sweeps.proofs.SweepLaws.{swept-bound, swept-same, Alike}
+use Rattle.sweeps.proofs.SweepLaws.{swept-bound, swept-same}
 
 module _ (net : Net) where
   sweep-holds : (pins : List Place) → Among pins (net .pins) → {n : ℕ} → SweptPins net pins n → (F : List Edge) → JoinsPins net F →
@@ -64,26 +61,31 @@ module _ (net : Net) where
   pub bound-holds : {n : ℕ} → Bound net n → (F : List Edge) → JoinsPins net F → n ≤ lengths (costIn net) F
   bound-holds b F j = omega (arith, b .greatest, both-hold Across (b .by-x) F j, both-hold Along (b .by-y) F j)
 
-  -- nor does any tree of clear edges between crossings
-  pub bound-clear : Positive (net .weights) → {n : ℕ} → Bound net n → (R : List Edge) →
-      ((a b : Place) → (a, b) ∈ R → ClearStep (net .macros) a b × (IsCrossing net a × IsCrossing net b)) →
-      ((p q : Place) → p ∈ net .pins → q ∈ net .pins → Joined R p q) → n ≤ lengths (costIn net) R
-  bound-clear positive b R h j =
-      let g = gridded net positive R h in
-      omega (
-        arith,
-        g .costs,
-        bound-holds b (g .edges) record { on-grid = g .on-grid; joins = λ p q i k. through (g .joins) (j p q i k) },
-      )
+  module _ {n : ℕ} (b : Bound net n) where
+    -- nor does any metal, in clear unit steps anywhere in the plane
+    pub bound-metal : (U : List Edge) → UnitMetal net U → n ≤ lengths (costIn net) U
+    bound-metal U m =
+        let g = hanan net U m in
+        omega (arith, bound-holds b (g .edges) record { on-grid = g .on-grid; joins = g .joins }, g .within)
+
+    -- nor does any list of clear edges that joins the pins, wherever their ends lie
+    pub bound-clear : (T : List Edge) → Each (ClearStep (net .macros)) T → Joins (net .pins) T → n ≤ lengths (costIn net) T
+    bound-clear T c j = let r = metal-of net T c j in omega (arith, bound-metal (r .0) (r .1 .0), r .1 .1)
+
+    -- so no one tree of clear edges that holds all pins: a slid one, or one that is bought
+    pub bound-tree : (T : List Edge) → OneTree (net .pins) T → Each (ClearStep (net .macros)) T → n ≤ lengths (costIn net) T
+    bound-tree T one free = bound-clear T free (one-tree-joined one)
+
+    -- and what is the cheapest of all metal costs no less
+    pub bound-least : {k : ℕ} → LeastMetal net k → n ≤ k
+    bound-least l = omega (arith, bound-metal (l .metal) (l .is-metal), l .costs)
 
 -- nor the refined tree
 pub refined-not-below : {net : Net} → Allowed net → {n : ℕ} → Bound net n → {vs : List Place} {es : List Edge} {ks : List Path}
     {rs : List Edge} → Trees net vs es ks rs → n ≤ lengths (costIn net) rs
 refined-not-below {net} a {n} b t =
     subst (λ (rs : List Edge). n ≤ lengths (costIn net) rs) (sym (trees-only a t .refined))
-    (let tree = refined-tree a in
-    let on = refined-on net (trees-ours a .spanning) (best-joining a) (trees-ours a .refined) in
-    bound-clear net (allowed-positive a) b _ (λ p q m. (tree .clear-edges (p, q) m, on (p, q) m)) (one-tree-joined (tree .one)))
+    (let tree = refined-tree a in bound-tree net b _ (tree .one) (λ p q m. tree .clear-edges (p, q) m))
 
 -- ONE NUMBER, whatever the order of the lists
 

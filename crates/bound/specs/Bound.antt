@@ -1,4 +1,4 @@
--- The bound of a net: the greatest number of four sweeps over its pins along the grid, towards each of the four sides of the die.
+-- U5: the bound of a net, the greatest number of four sweeps over its pins along the grid, towards each of the four sides of the die.
 use mathlib.Core.Path.{_≡_}
 use mathlib.Core.List.{List, reverse}
 use Prim.Native.Nat.{ℕ, max}

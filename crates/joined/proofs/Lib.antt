@@ -1,5 +1,6 @@
 -- Points and pairs
 pub mod JoinedLaws
+pub mod PairLaws
 pub mod LabelLaws
 pub mod CountLaws
 pub mod OtherLaws

@@ -43,6 +43,9 @@
 --   Joined L x y              x and y are one, or link after link leads from x to y
 --   Joins X L, Inside X L     every two of X are joined; both ends of each pair are among X
 --   Across L v w x y          x and y are joined by L and the pair of v and w: beside it, or over it
+-- PAIRS (Pairs.antt)
+--   Each P L                  P holds of the two points of each pair
+--   movedPair f e             the pair of the points to which f takes those of e
 -- TREES AND WAYS (Tree.antt, Way.antt, OneTree.antt)
 --   TreeOn X T                T joins all of X, with one pair fewer than points
 --   Forest T, Cuts T          no pair joins what the pairs after it, or all others, join
@@ -67,6 +70,7 @@
 --   Parted T x p q y ps       a way parted at its step from p to q
 --   grown, rooted, Hangs      points that hang on roots by their parents, and items whose roots are a tree
 pub mod Joined
+pub mod Pairs
 pub mod Tree
 pub mod Way
 pub mod OneTree

@@ -17,17 +17,17 @@ use Rattle.lists.proofs.SortedLaws.{in-sorted, sorted-ascending}
 use Rattle.signed.specs.Sides.{Lt}
 use Rattle.signed.proofs.SideLaws.{ltZ-true, signed}
 use Rattle.joined.specs.Joined.{Link}
-use Rattle.joined.proofs.JoinedLaws.{firsts, seconds}
+use Rattle.joined.proofs.JoinedLaws.{firsts, seconds, turn}
 use Rattle.plane.specs.declared.Place.{Place}
 use Rattle.plane.specs.declared.Macro.{Macro}
 use Rattle.plane.specs.Place.{place}
 use Rattle.plane.specs.Macro.{clear}
-use Rattle.plane.proofs.MacroLaws.{clear-comm}
 use Rattle.net.specs.Net.{Net}
 use Rattle.lines.specs.declared.Axis.the-variants.{Across, Along}
 use Rattle.lines.specs.Lines.{coordinate, sides, marks, linesOf, xLines, yLines, Sides, Crossing, Neighbours, GridStep, across, along}
 use Rattle.lines.specs.Edges.{nexts, Edge, row, column, rows, columns, edgesOf, gridEdges}
 use Rattle.lines.proofs.LineLaws.{line-order}
+use Rattle.lines.proofs.StepLaws.{step-back, step-cases}
 
 -- Neighbouring lines
 
@@ -122,10 +122,11 @@ module _ (xs ys : List ℤ) (ms : List Macro) where
         (in-map (λ (s : ℤ × ℤ). (place (a .x) (s .0), place (a .x) (s .1))) (in-nexts ys hy (a .y) (b .y) n))))) h
 
     pub step-link : (a b : Place) → GridStep xs ys ms a b → Link (edgesOf xs ys ms) a b
-    step-link a b (across (inl n) e m h) = inl (in-row a b n e m h)
-    step-link a b (across (inr n) e m h) = inr (in-row b a n (sym e) (rw (← e) m) (clear-comm b a ms ∙ h))
-    step-link a b (along (inl n) e m h) = inl (in-column a b n e m h)
-    step-link a b (along (inr n) e m h) = inr (in-column b a n (sym e) (rw (← e) m) (clear-comm b a ms ∙ h))
+    step-link = step-cases xs ys ms (Link (edgesOf xs ys ms)) record {
+      turned = λ a b l. turn l;
+      level = λ a b n e m h. inl (in-row a b n e m h);
+      upright = λ a b n e m h. inl (in-column a b n e m h);
+    }
 
     -- and back
     across-at : (a b : Place) (p q y : ℤ) → a ≡ place p y → b ≡ place q y → Neighbours xs p q → y ∈ ys → clear a b ms ≡ true →
@@ -160,13 +161,9 @@ module _ (xs ys : List ℤ) (ms : List Macro) where
         let r = of-those (λ (e : Edge). clear (e .0) (e .1) ms) (rows xs ys ++ columns ys xs) m in
         either (of-row a b (r .1)) (of-column a b (r .1)) (List·Memᴰ·append-cases (rows xs ys) (r .0))
 
-    step-turn : (a b : Place) → GridStep xs ys ms a b → GridStep xs ys ms b a
-    step-turn a b (across n e m h) = across (either inr inl n) (sym e) (rw (← e) m) (clear-comm b a ms ∙ h)
-    step-turn a b (along n e m h) = along (either inr inl n) (sym e) (rw (← e) m) (clear-comm b a ms ∙ h)
-
     pub link-step : (a b : Place) → Link (edgesOf xs ys ms) a b → GridStep xs ys ms a b
     link-step a b (inl m) = edge-step a b m
-    link-step a b (inr m) = step-turn b a (edge-step b a m)
+    link-step a b (inr m) = step-back (edge-step b a m)
 
 -- The lines of a net
 

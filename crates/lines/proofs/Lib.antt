@@ -1,5 +1,6 @@
 pub mod AxisLaws
 pub mod LineLaws
+pub mod StepLaws
 pub mod EdgeLaws
 pub mod CrossingLaws
 pub mod GridCost

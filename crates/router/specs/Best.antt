@@ -3,7 +3,7 @@
 use mathlib.Core.Path.{_≡_}
 use mathlib.Core.List.{List}
 use Prim.Native.Nat.{ℕ, _*_, _≤_, _<_}
-use lib.IntN.{ℤ}
+use lib.IntN.{ℤ, pos}
 use lib.ListN.{length}
 use Rattle.lists.specs.Member.{_∈_}
 use Rattle.lent.specs.Told.{given}
@@ -21,10 +21,13 @@ use Rattle.lines.specs.Bounds.{gridMacros}
 use Rattle.lines.specs.Edges.{Edge}
 use Rattle.bought.specs.Passes.{Passes}
 use Rattle.interior.specs.Interior.{PlanePoint, Interior, Box}
+use Rattle.grid_hanan.specs.Metal.{LeastMetal}
+use Rattle.grid_hanan.specs.Fine.{LeastInFractions}
 use Rattle.parts.specs.Bounds.{bestPins, workBound}
 use Rattle.best.specs.Tree.{JoinsPins, BestTree}
 use Rattle.answers.specs.Best.{bestNumbers, bestAnswer, bestTree}
 use Rattle.answers.specs.Refined.{laidTotal}
+use Rattle.answers.specs.Slid.{slidTotal}
 use Rattle.answers.specs.Bought.{checkedTree, sumsOf}
 
 -- What is promised of the best tree of an allowed net, whichever is given; the check is the only premise (`promised-best`,
@@ -46,8 +49,17 @@ pub record PromisedBest (w : Weighing) (pins macros : List ℤ) : Type 0 where
   -- R21: no point with fractions either lies in an edge's box and in an interior
   pub outside : (T : List Edge) → BestTree (netOf w pins macros) T → (e : Edge) → e ∈ T → (m : Macro) → m ∈ macrosOf macros
       → (q : PlanePoint) → Box (e .0) (e .1) q → Interior m q → ⊥
-  -- L14: the refined tree is never cheaper
+  -- L17: its cost is the least of all metal that joins the pins, anywhere in the plane
+  pub metal : (T : List Edge) → BestTree (netOf w pins macros) T
+      → LeastMetal (netOf w pins macros) (lengths (costIn (netOf w pins macros)) T)
+  -- L18: and that of metal in steps of any fraction of a unit
+  pub fractions : (T : List Edge) → BestTree (netOf w pins macros) T
+      → LeastInFractions (netOf w pins macros) (lengths (costIn (netOf w pins macros)) T)
+  -- L14, L17: so the refined tree is never cheaper, nor the slid tree, nor any list that the check of bought-in trees passes
   pub refined : (T : List Edge) → BestTree (netOf w pins macros) T → lengths (costIn (netOf w pins macros)) T ≤ laidTotal w pins macros
+  pub slid : (T : List Edge) → BestTree (netOf w pins macros) T → lengths (costIn (netOf w pins macros)) T ≤ slidTotal w pins macros
+  pub bought : (T : List Edge) → BestTree (netOf w pins macros) T → (edges : List ℤ) (cost laid : ℕ)
+      → checkedTree w pins macros edges ≡ given (pos cost, pos laid) → lengths (costIn (netOf w pins macros)) T ≤ cost
   -- R22: its metal is no more than its cost
   pub metal-low : (T : List Edge) → BestTree (netOf w pins macros) T → lengths distance T ≤ lengths (costIn (netOf w pins macros)) T
   -- C87: 4(m + 2k)² numbers hold its edges

@@ -1,6 +1,6 @@
--- Weak duality: no edges that join a point with the pins of packed heights cost less than the heights at the point. The sum of the heights of
--- some pins at a point is a table that best's lower bound asks for: 0 where all pins are, over an edge no more than the edge costs more, and
--- for two parts of the pins the sum of both.
+-- Weak duality: no edges that join a point with the pins of packed heights cost less than the heights at the point. The sum of the heights
+-- of some pins at a point is a table that best's lower bound asks for: 0 where all pins are, over an edge no more than the edge costs
+-- more, and for two parts of the pins the sum of both.
 -- Assumes nothing.
 use mathlib.Core.Path.{_≡_, refl, sym, ap, _∙_}
 use mathlib.Core.Bool.{Bool, true, false, not}

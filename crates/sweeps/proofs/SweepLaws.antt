@@ -1,4 +1,5 @@
--- A sweep packs its heights, so its number is a lower bound; and the links of the graph, what is left over them and the list of pins fix it.
+-- A sweep packs its heights, so its number is a lower bound; and the links of the graph, what is left over them and the list of pins fix
+-- it.
 -- Assumes nothing.
 use mathlib.Core.Path.{_≡_, refl, sym, ap, _∙_}
 use mathlib.Core.Logic.{_⊎_, inl, inr}

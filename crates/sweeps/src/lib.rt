@@ -1,7 +1,7 @@
 // A number that no tree of a net goes below: heights above each pin, raised one after the other on the grid.
 //
-// Arc a leads to crossing a / 4 from its neighbour: on the right, on the left, above, below. Its number in the lent table is what is left of
-// its cost and one more, 0 where there is no edge. A row has a height for each crossing.
+// Arc a leads to crossing a / 4 from its neighbour: on the right, on the left, above, below. Its number in the lent table is what is left
+// of its cost and one more, 0 where there is no edge. A row has a height for each crossing.
 ghost use mathlib.Core.Path.{_≡_};
 ghost use Prim.Native.Nat.{_+_, _/_, _%_, _≤_, _<_, min};
 ghost use lib.ListN.{length, replicate};
@@ -66,7 +66,8 @@ pub fn source(a: usize) -> usize
     a / 4 + offset(a % 4) - Wide::LINES
 }
 
-// A visit of arc a: the height it comes from is lowered to that it leads to, if that is below the cap, and what is left of it; whether it was.
+// A visit of arc a: the height it comes from is lowered to that it leads to, if that is below the cap, and what is left of it; whether
+// it was.
 fn visit(left: &[u32], row: &mut [u64], cap: u64, a: usize) -> bool
     requires { ⌜ (ArcsFit (now left)) × ((Row (now row)) × (a < arcBound)) ⌝ }
     ensures { λ m. ⌜ Passed (now (left .entry)) cap (λ b. b ≡ a) m (now (row .entry)) (now (row .exit)) ⌝ }

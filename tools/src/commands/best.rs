@@ -9,7 +9,7 @@ use crate::streams::write;
 const HELP: &str = "\
 calzundi best NET: prints a best tree of a net of up to 5 pins and 16 macros
 
-NET is text or a net file; for - it is standard input. No tree along the lines through pins and macro sides costs less. Printed are
+NET is text or a net file; for - it is standard input. No metal that keeps out of the macros joins the pins for less. Printed are
 `pins m macros k`, the totals of the refined and of the slid tree, each with how much more than the best that is, the total of the best tree
 and the metal that it takes, then a line for each edge of it, its two places and its cost.
 

@@ -1,0 +1,12 @@
+pub mod InsteadLaws
+pub mod NextLines
+pub mod OneLine
+pub mod StepLaws
+pub mod ShiftCost
+pub mod FewerLines
+pub mod TurnedPlane
+pub mod Hanan
+pub mod LeastLaws
+pub mod WorkedMetal
+pub mod FineLaws
+pub mod FineMetal
