@@ -91,7 +91,7 @@ unfolding outOfRange
 zero-range = refl
 
 -- the lines over zeros, read anywhere, are in range
-range-at : (L lent : List ℤ) → ((c : ℤ) → c ∈ L → outOfRange c ≡ false) → ((i : ℕ) → getD lent i (pos 0) ≡ pos 0) → length L ≤ length lent →
+pub range-at : (L lent : List ℤ) → ((c : ℤ) → c ∈ L → outOfRange c ≡ false) → ((i : ℕ) → getD lent i (pos 0) ≡ pos 0) → length L ≤ length lent →
     (i : ℕ) → outOfRange (getD (over L lent) i (pos 0)) ≡ false
 range-at L lent h z room i =
     by (ltb i (length L))

@@ -1,5 +1,6 @@
 // What the operations do with an allowed net: each asks for what the check has shown, refuses by 21 where too little is lent, and gives.
 use crate::BothAnswer;
+use crate::BoundAnswer;
 use crate::DistanceAnswer;
 use crate::Graphed;
 use crate::TerminalAnswer;
@@ -13,6 +14,7 @@ use net::Net;
 use net::Refusal;
 use plane::Place;
 use straight::EDGE_NUMBERS as EDGE_TABLE;
+use sweeps::Wide;
 use tree::Size;
 ghost use mathlib.Core.Path.{_≡_};
 ghost use mathlib.Core.Bool.{true};
@@ -35,7 +37,9 @@ ghost use Rattle.answers.specs.Wires.{wiresGiven};
 ghost use Rattle.answers.specs.Distances.{distancesGiven};
 ghost use Rattle.answers.specs.Delay.{delaysOf, delayGiven};
 ghost use Rattle.answers.specs.Best.{bestGiven};
+ghost use Rattle.answers.specs.Bound.{boundGiven};
 ghost use Rattle.router.specs.Call.{GraphCall, TerminalCall, BothCall, SlidCall, WiresCall, DistancesCall, DelayCall, BestCall};
+ghost use Rattle.router.specs.Call.{BoundCall};
 
 // The graph.
 pub fn graph(
@@ -235,4 +239,23 @@ pub fn best_tree(
     }
     let best = best::best_tree(net.weights, pins, macros, &mut *work, &mut *edges);
     TreeAnswer::Given(best.edges, best.total as i64, best.metal as i64)
+}
+
+// The lower bound.
+pub fn lower_bound(
+    net: Net,
+    pins: &[i32],
+    macros: &[i32],
+    left: &mut [u32],
+    rows: &mut [u64],
+) -> BoundAnswer
+    requires { ⌜ Counted net (handed (net .weights)) (now pins) (now macros) ⌝ }
+    ensures { λ r. ⌜ BoundCall boundGiven (handed (net .weights)) (now (pins .entry)) (now (macros .entry)) (now (left .entry))
+        (now (rows .entry)) r (now (left .exit)) (now (rows .exit)) ⌝ }
+{
+    if (left.len() < Wide::ARCS) | (rows.len() < Wide::CROSSINGS) {
+        return BoundAnswer::Refused(Refusal::Space);
+    }
+    let n = bound::lower_bound(net.weights, pins, macros, &mut *left, &mut *rows);
+    BoundAnswer::Given(n)
 }
