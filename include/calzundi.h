@@ -60,7 +60,7 @@
 
 /* The version. It stands here and nowhere else; the tools take it from this line. Each landing raises the second number; the last of
  * the fourteen change requests raised the first. */
-#define CALZUNDI_VERSION "2.3"
+#define CALZUNDI_VERSION "2.6"
 
 #include <stddef.h>
 #include <stdint.h>
