@@ -78,19 +78,19 @@ pub mod stack {
     /// Terminal tree.
     pub const TERMINAL_TREE: usize = 224 * 1024;
     /// Refined tree.
-    pub const REFINED_TREE: usize = 312 * 1024;
+    pub const REFINED_TREE: usize = 332 * 1024;
     /// Slid tree, the deepest call.
     pub const SLID_TREE: usize = super::STACK_BYTES;
     /// Wires.
-    pub const WIRES: usize = 312 * 1024;
+    pub const WIRES: usize = 332 * 1024;
     /// Best tree, whose table is lent.
     pub const BEST_TREE: usize = 104 * 1024;
     /// Distances on the grid.
     pub const GRID_DISTANCES: usize = 40 * 1024;
     /// Delay.
-    pub const DELAY: usize = 328 * 1024;
+    pub const DELAY: usize = 348 * 1024;
     /// Price.
-    pub const PRICE: usize = 312 * 1024;
+    pub const PRICE: usize = 332 * 1024;
     /// Check a bought-in tree.
     pub const CHECK_TREE: usize = 64 * 1024;
     /// Write a net file.
