@@ -32,7 +32,8 @@ module _ (ks el : List ℕ) (e n : ℕ) (s : Ties) (h : Hanging ks el e n s) (wi
   end-low v g =
       let d = h .ends v g in
       let i = within .ends (linkOf s v) in
-      either (λ j. (omega (arith, j .0, i .0), omega (arith, j .1, i .1))) (λ j. (omega (arith, j .1, i .1), omega (arith, j .0, i .0))) (d .1)
+      either (λ j. (omega (arith, j .0, i .0), omega (arith, j .1, i .1)))
+      (λ j. (omega (arith, j .1, i .1), omega (arith, j .0, i .0))) (d .1)
 
   first : (f x : ℕ) → turnOf s x ≤ f → x < n → (r : ℕ) × ((r < n) × (turnOf s r ≡ 1))
   first zero x l i = absurd (let z : ⊥ = omega (arith, l, h .all x i) in z)

@@ -1,5 +1,5 @@
--- Bounds stand from one tree to the next: no longest edge between two old points has become longer, points are never taken away, and what is
--- clear is of places; so no candidate of an old edge and an old point gains more than before.
+-- Bounds stand from one tree to the next: no longest edge between two old points has become longer, points are never taken away, and
+-- what is clear is of places; so no candidate of an old edge and an old point gains more than before.
 -- Assumes nothing.
 use mathlib.Core.Path.{_≡_, refl, sym, ap, ap₂, _∙_, subst}
 use mathlib.Core.Bool.{true, not}
@@ -88,7 +88,8 @@ module _ (w : Weights) (ms : List Macro) (old : List ℤ) (m : ℕ) (before : Li
   below : (v : ℕ) → 0 < turnOf (W .held .rows) v → v < m
   below v g = hanging-low before el₀ f m (W .held .rows) (W .held .hanging) (W .within) (omega (arith, W .few .1)) v g
 
-  calm-at : (v : ℕ) → 1 < turnOf (W .held .rows) v → tall el top (to v) (to (ontoOf (W .held .rows) v)) ≤ getD el₀ (linkOf (W .held .rows) v) 0
+  calm-at : (v : ℕ) → 1 < turnOf (W .held .rows) v → tall el top (to v) (to (ontoOf (W .held .rows) v)) ≤ getD el₀
+      (linkOf (W .held .rows) v) 0
   calm-at v g =
       let d = W .held .hanging .ends v g in
       let k = linkOf (W .held .rows) v in
@@ -119,7 +120,8 @@ module _ (w : Weights) (ms : List Macro) (old : List ℤ) (m : ℕ) (before : Li
   cut-less : (a b u : ℕ) → a < m → b < m → u < m → getD el (cutOf el top (to a) (to b) (to u)) 0 ≤ getD el₀ (cutOf el₀ top₀ a b u) 0
   unfolding cutOf
   cut-less a b u i j k =
-      shorter-less el₀ el (topOf top₀ a u) (topOf top₀ b u) (topOf top (to a) (to u)) (topOf top (to b) (to u)) (less a u i k) (less b u j k)
+      shorter-less el₀ el (topOf top₀ a u) (topOf top₀ b u) (topOf top (to a) (to u)) (topOf top (to b) (to u)) (less a u i k)
+      (less b u j k)
 
   apart : (i j : ℕ) → i < m → j < m → to i ≡ to j → i ≡ j
   apart i j a b q = order-same old m i j (W .ordered) a b (sym (place i a) ∙ ap (placeAt pts) q ∙ place j b)
@@ -145,7 +147,8 @@ module _ (w : Weights) (ms : List Macro) (old : List ℤ) (m : ℕ) (before : Li
       ))))
 
   -- one edge before, k, with the number k′ now, and one point before
-  module _ (k k′ : ℕ) (hk : k < f) (ea : firstEnd (getD ks k′ 0) ≡ oneIn before at k) (eb : secondEnd (getD ks k′ 0) ≡ twoIn before at k) where
+  module _ (k k′ : ℕ) (hk : k < f) (ea : firstEnd (getD ks k′ 0) ≡ oneIn before at k)
+      (eb : secondEnd (getD ks k′ 0) ≡ twoIn before at k) where
     abbrev a : ℕ
     a = firstEnd (getD before k 0)
 

@@ -38,7 +38,8 @@ module _ (before : List ℕ) (f : ℕ) (at keys : List ℕ) (e most : ℕ) (was 
             hj,
             (
               q ∙ ap (λ (x : ℕ). getD keys x 0) p,
-              ap (λ (x : ℕ). getD (set next k (getD was j 0)) x 0) (sym p) ∙ put-here next k (getD was j 0) (rw (c .room) (omega (arith, hk, few))),
+              ap (λ (x : ℕ). getD (set next k (getD was j 0)) x 0) (sym p) ∙ put-here next k (getD was j 0)
+                  (rw (c .room) (omega (arith, hk, few))),
             ),
           ),
         ))

@@ -49,7 +49,8 @@ module _ (old : List ℤ) (m : ℕ) (pts : List ℤ) (n : ℕ) (few : n ≤ tree
           room = length-set at i j ∙ g .room;
           small = small-set treeBound at i j (omega (arith, h, few)) (g .small);
           few = (omega (arith, l), omega (arith, h));
-          low = λ k b. last k i b (λ t. omega (arith, ap (λ (x : ℕ). getD at′ x 0) t, here, h)) (λ t. omega (arith, old-at k t, g .low k t));
+          low = λ k b. last k i b (λ t. omega (arith, ap (λ (x : ℕ). getD at′ x 0) t, here, h))
+              (λ t. omega (arith, old-at k t, g .low k t));
           same = λ k b. last k i b
               (λ t. subst (λ (x : ℕ). placeAt pts (getD at′ x 0) ≡ placeAt old x) (sym t) (ap (placeAt pts) here ∙ q))
               (λ t. ap (placeAt pts) (old-at k t) ∙ g .same k t);

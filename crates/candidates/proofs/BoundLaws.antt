@@ -51,7 +51,12 @@ module _ (out : Bool) (d x : ℕ) (ok : Bool) (k u l : ℕ) where
       by out (λ o. rw o refl) λ o.
       by (ltb (c .gain + d) x && ok)
       (λ t.
-      absurd (let z : ⊥ = omega (arith, f o (and-right (ltb (c .gain + d) x) ok t), ltb-true (c .gain + d) x (and-left (ltb (c .gain + d) x) ok t)) in z))
+      absurd (let z : ⊥ = omega (
+        arith,
+        f o (and-right (ltb (c .gain + d) x) ok t),
+        ltb-true (c .gain + d) x
+            (and-left (ltb (c .gain + d) x) ok t),
+      ) in z))
       (λ t. rw (o, t) refl)
 
   -- what a bound says of a candidate that is weighed
@@ -226,7 +231,8 @@ module _ (w : Weights) (pts : List ℤ) (n : ℕ) (ms : List Macro) (keys : List
       let strict = offer-strict w pts n ms el top (firstEnd (getD keys k 0)) (secondEnd (getD keys k 0)) k s in
       let b = best (getD bound k 0) 0 0 0 in
       let shut : Shut (of k) n n x = λ u i _ c g. by (eqb u s)
-      (λ t. subst (λ (v : ℕ). of k v c ≡ c) (sym (eqb-true u s t)) (strict .stays b c (omega (arith, q, g, strict .more b)) (omega (arith, q, g))))
+      (λ t. subst (λ (v : ℕ). of k v c ≡ c) (sym (eqb-true u s t))
+      (strict .stays b c (omega (arith, q, g, strict .more b)) (omega (arith, q, g))))
       (λ t. r .left k (omega arith) h u i (eqb-false u s t) c (omega (arith, q, g, strict .more b))) in
       record {
         room = length-set bound k x ∙ r .room;

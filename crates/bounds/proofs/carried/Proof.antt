@@ -41,8 +41,10 @@ raise-requires c κs =
       ((s .pre .0 .0 .1, c .before .if3 .taken), (s .pre .0 .0 .0, s .pre .0 .1 .0)),
       (
         h,
-        carried _ _ _ _ _ _ _ (s .pre .1 .1) _ _ _ _ _ _ h _ _ (m .numbers .ensures .1 (c .before .before .before .before .before .before .before .before .if1 .taken))
-            (c .before .before .before .before .before .before .is-calm .ensures _ (h .told) (c .before .before .before .before .before .if2 .taken)) _ _ (s .pre .1 .0 .0) (k .1) (s .pre .0 .0 .0) (k .0),
+        carried _ _ _ _ _ _ _ (s .pre .1 .1) _ _ _ _ _ _ h _ _
+            (m .numbers .ensures .1 (c .before .before .before .before .before .before .before .before .if1 .taken))
+            (c .before .before .before .before .before .before .is-calm .ensures _ (h .told)
+            (c .before .before .before .before .before .if2 .taken)) _ _ (s .pre .1 .0 .0) (k .1) (s .pre .0 .0 .0) (k .0),
       ),
     )
 

@@ -1,5 +1,5 @@
--- `bounds::carry` meets its contract. The loop's invariant: each bound that is written is from an edge with the same key. The measure is how
--- many edges before and of now are left.
+-- `bounds::carry` meets its contract. The loop's invariant: each bound that is written is from an edge with the same key. The measure
+-- is how many edges before and of now are left.
 -- Assumes nothing.
 use mathlib.Core.Path.{_≡_, sym, _∙_}
 use mathlib.Core.Bool.{true, _&&_}

@@ -1,4 +1,5 @@
--- `bounds::is_calm` meets its contract. The loop's invariant: the ends of the first k edges are joined so. The measure is how many are left.
+-- `bounds::is_calm` meets its contract. The loop's invariant: the ends of the first k edges are joined so. The measure is how many are
+-- left.
 -- Assumes nothing.
 use mathlib.Core.Path.{_≡_, refl, subst}
 use mathlib.Core.List.{List}
@@ -48,7 +49,8 @@ loop-again c =
       λ t told k h. by (ltb k (l .loop .k)) (λ q. i .1 t told k (ltb-true _ _ q))
           (λ q.
           let e : l .loop .k ≡ k = omega (arith, h, ltb-false k (l .loop .k) q) in
-          subst (CalmAt (s .args .w) (now (s .args .pts)) (now (s .args .el)) t (now (s .args .keys)) (now (s .args .at))) e (c .before .is-joined .ensures t told (c .if1 .taken))),
+          subst (CalmAt (s .args .w) (now (s .args .pts)) (now (s .args .el)) t (now (s .args .keys)) (now (s .args .at))) e
+          (c .before .is-joined .ensures t told (c .if1 .taken))),
     )
 
 returns-2 : tie.Need-returns-2 Inv-loop μ-loop

@@ -52,7 +52,8 @@ returns-2 c =
     let s = l .before in (
       l .loop .inv .small,
       λ e.
-          finding-end _ _ _ _ (s .pre .0 .1) (s .pre .0 .0) _ _ _ _ (l .loop .inv) (c .loop-test .left) (eqb-true (l .loop .i) (s .args .m) e),
+          finding-end _ _ _ _ (s .pre .0 .1) (s .pre .0 .0) _ _ _ _ (l .loop .inv) (c .loop-test .left)
+          (eqb-true (l .loop .i) (s .args .m) e),
     )
 
 pub numbers-spec : {M : Type 1} → statement M

@@ -26,7 +26,8 @@ use Rattle.refiner.proofs.rounds.Tie as tie
 abbrev Inv-loop : tie.InvT-loop
 Inv-loop w pins macros pts₀ n keys₀ e vertices v ea eb el f m z₀ old₀ before₀ bound₀ was₀ known₀ r₀ pts keys z old before bound was known r =
     ((r ≤ m) × ((Small pairBound before)
-    × (known ≡ true → Was w (macrosOf macros) old (was .points) before (was .edges) bound))) × (Ready (netWith w pins macros) (ground vertices v (graph ea eb el f)) (tree pts (z .points) keys (z .edges)) (m - r)
+    × (known ≡ true → Was w (macrosOf macros) old (was .points) before (was .edges) bound))) ×
+    (Ready (netWith w pins macros) (ground vertices v (graph ea eb el f)) (tree pts (z .points) keys (z .edges)) (m - r)
     × (roundsIn w (macrosOf macros) (ground vertices v (graph ea eb el f)) (m - r) (tree pts (z .points) keys (z .edges))
     ≡ roundsIn w (macrosOf macros) (ground vertices v (graph ea eb el f)) m (tree pts₀ n keys₀ e)))
 
@@ -95,7 +96,8 @@ returns c =
     let i = l .loop .inv in
     let q = counted l .pin-count .ensures in
     let t = c .before .before .round .ensures .0 .still (not-true _ (c .if1 .taken)) in
-    let all = rounds-stop _ _ _ _ _ _ (i .1 .1) (counted l .pin-count .result - (l .loop .r + 1)) (omega (arith, c .before .before .before .before .before .before .before .before .loop-test .taken)) (t .0) in (
+    let all = rounds-stop _ _ _ _ _ _ (i .1 .1) (counted l .pin-count .result - (l .loop .r + 1))
+    (omega (arith, c .before .before .before .before .before .before .before .before .loop-test .taken)) (t .0) in (
       ap (λ (x : Tree). tree (x .points) (l .loop .z .points) (x .edges .keys) (l .loop .z .edges)) (t .1)
           ∙ all ∙ ap (allIn (startOf l)) q,
       (

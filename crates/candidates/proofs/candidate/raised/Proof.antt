@@ -55,7 +55,8 @@ returns c =
           let q = two .1 _ (p .1) in (
             q .1,
             ap (λ (z : Best). z .gain) (c .offer .ensures t
-                (cut-from _ _ t told _ _ _ _ _ _ (all _ (e .0)) (all _ (e .1)) (all _ (s .pre .0 .0 .1)) (p .0) (q .0) (h .shorter .ensures .0))),
+                (cut-from _ _ t told _ _ _ _ _ _ (all _ (e .0)) (all _ (e .1)) (all _ (s .pre .0 .0 .1)) (p .0) (q .0)
+                (h .shorter .ensures .0))),
           ),
     )
 

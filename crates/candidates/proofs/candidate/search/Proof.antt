@@ -15,7 +15,8 @@ use Rattle.candidates.proofs.candidate.search.Tie as tie
 
 abbrev Inv-loop : tie.InvT-loop
 Inv-loop w pts n macros keys e el most onto link turn bound₀ found₀ k₀ bound found k =
-    ((k ≤ e) × Bounded w pts n (macrosOf macros) keys e el (longest keys el e n) n bound) × (turns (offers w pts n (macrosOf macros) keys el (longest keys el e n)) k (e - k) found
+    ((k ≤ e) × Bounded w pts n (macrosOf macros) keys e el (longest keys el e n) n bound) ×
+    (turns (offers w pts n (macrosOf macros) keys el (longest keys el e n)) k (e - k) found
     ≡ turns (offers w pts n (macrosOf macros) keys el (longest keys el e n)) 0 e (best 0 0 0 0))
 
 abbrev μ-loop : tie.MeasureT-loop

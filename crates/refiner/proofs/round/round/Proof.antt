@@ -45,7 +45,8 @@ found-requires c κs =
       (
         (
           s .pre .0 .1,
-          made-seated _ (begun s) (s .pre .0 .0) (s .pre .0 .1) (o .sources .ensures .0) (o .sources .ensures .1 .1) (f .forest .ensures .0) (f .forest .ensures .1) e r,
+          made-seated _ (begun s) (s .pre .0 .0) (s .pre .0 .1) (o .sources .ensures .0) (o .sources .ensures .1 .1)
+              (f .forest .ensures .0) (f .forest .ensures .1) e r,
         ),
         (r .points, (r .vertices, ((m .low, q), s .pre .1 .1))),
       ),
@@ -58,7 +59,8 @@ returns c =
     let f = c .before .before .before .before .before .before .before .before .before .before .before .before .before .before .before in
     let e = c .before .before .before .before .before .before .before .before .before .before .before .seats .ensures in
     let r = s .pre .1 .0 in
-    let q = chosen-in _ (begun s) (s .pre .0 .0) (s .pre .0 .1) (o .sources .ensures .0) (o .sources .ensures .1 .1) (f .forest .ensures .0) (f .forest .ensures .1) e _ _ _ (c .before .before .found .ensures .0) in (
+    let q = chosen-in _ (begun s) (s .pre .0 .0) (s .pre .0 .1) (o .sources .ensures .0) (o .sources .ensures .1 .1)
+    (f .forest .ensures .0) (f .forest .ensures .1) e _ _ _ (c .before .before .found .ensures .0) in (
       record {
         still = λ _. (ap (λ (x : Choice). x .gain) (sym q) ∙ c .if1 .taken, refl);
         moved = λ t. differ t refl;
@@ -74,7 +76,10 @@ exchanged-requires c κs =
     let o = c .before .before .before .before .before .before .before .before .before .before .before .before .before .before .before .before .before .before .before .before .before .before .before .before .before .before .before .before in
     let f = c .before .before .before .before .before .before .before .before .before .before .before .before .before .before .before .before .before .before .before .before .before .before in
     let e = c .before .before .before .before .before .before .before .before .before .before .before .before .before .before .before .before .before .before .seats .ensures in
-    exchangeable _ (begun s) (s .pre .0 .0) (s .pre .0 .1) (o .sources .ensures .0) (o .sources .ensures .1 .1) (f .forest .ensures .0) (f .forest .ensures .1) e _ _ _ (c .before .before .before .before .before .before .before .before .before .found .ensures .0) (s .pre .1 .0) (c .before .before .before .before .before .before .before .if1 .left)
+    exchangeable _ (begun s) (s .pre .0 .0) (s .pre .0 .1) (o .sources .ensures .0) (o .sources .ensures .1 .1)
+    (f .forest .ensures .0) (f .forest .ensures .1) e _ _ _
+    (c .before .before .before .before .before .before .before .before .before .found .ensures .0) (s .pre .1 .0)
+    (c .before .before .before .before .before .before .before .if1 .left)
 
 returns-2 : tie.Need-returns-2
 returns-2 c =
@@ -83,11 +88,17 @@ returns-2 c =
     let f = c .before .before .before .before .before .before .before .before .before .before .before .before .before .before .before .before .before .before .before .before .before .before .before in
     let e = c .before .before .before .before .before .before .before .before .before .before .before .before .before .before .before .before .before .before .before .seats .ensures in
     let n = c .before .before .before .before .before .before .before .before .before .before .found .ensures .0 in
-    let q = chosen-in _ (begun s) (s .pre .0 .0) (s .pre .0 .1) (o .sources .ensures .0) (o .sources .ensures .1 .1) (f .forest .ensures .0) (f .forest .ensures .1) e _ _ _ n in
+    let q = chosen-in _ (begun s) (s .pre .0 .0) (s .pre .0 .1) (o .sources .ensures .0) (o .sources .ensures .1 .1)
+    (f .forest .ensures .0) (f .forest .ensures .1) e _ _ _ n in
     let x = c .exchanged .ensures in (
       record {
         still = λ t. differ refl t;
-        moved = λ _. (λ z. c .before .before .before .before .before .before .before .before .if1 .left (ap (λ (y : Choice). y .gain) q ∙ z), x .0 ∙ exchanged-in _ (begun s) (s .pre .0 .0) (s .pre .0 .1) (o .sources .ensures .0) (o .sources .ensures .1 .1) (f .forest .ensures .0) (f .forest .ensures .1) e _ _ _ n);
+        moved = λ _. (
+          λ z. c .before .before .before .before .before .before .before .before .if1 .left
+              (ap (λ (y : Choice). y .gain) q ∙ z),
+          x .0 ∙ exchanged-in _ (begun s) (s .pre .0 .0) (s .pre .0 .1) (o .sources .ensures .0)
+              (o .sources .ensures .1 .1) (f .forest .ensures .0) (f .forest .ensures .1) e _ _ _ n,
+        );
         few = x .1 .0;
         within = x .1 .1;
       },
