@@ -50,7 +50,8 @@
  *              each other.
  *   threads    While a call runs, nobody else writes its lists, and nobody else reads or writes what is lent to it. Calls at the same
  *              time, also on the same lists, do not disturb each other, since the library keeps no state.
- *   stack      The router's tables are local: a call has CALZUNDI_STACK_BYTES of stack to itself, which was measured and is not proved.
+ *   stack      The router's tables are local: a call has CALZUNDI_STACK_BYTES of stack to itself, or as much as CALZUNDI_STACK_... says of
+ *              its operation, which was measured and is not proved.
  *
  * No code tests any of this: a call that breaks it is undefined.
  */
@@ -59,7 +60,7 @@
 
 /* The version. It stands here and nowhere else; the tools take it from this line. Each landing raises the second number; the last of
  * the fourteen change requests raised the first. */
-#define CALZUNDI_VERSION "2.3"
+#define CALZUNDI_VERSION "2.6"
 
 #include <stddef.h>
 #include <stdint.h>
@@ -79,8 +80,24 @@ extern "C" {
 /* Numbers of a pin in a list: x, y, load. */
 #define CALZUNDI_PIN_NUMBERS 3
 
-/* The stack that a call has to itself. */
+/* The stack that a call has to itself, whichever it is. */
 #define CALZUNDI_STACK_BYTES (512 * 1024)
+
+/* The same of each operation: what was measured on nets of 128 pins and 128 macros, and some KiB to spare. What interrupts and signal
+ * handlers take on the same stack comes on top. */
+#define CALZUNDI_STACK_CHECK (4 * 1024)
+#define CALZUNDI_STACK_GRAPH (16 * 1024)
+#define CALZUNDI_STACK_TERMINAL_TREE (224 * 1024)
+#define CALZUNDI_STACK_REFINED_TREE (332 * 1024)
+#define CALZUNDI_STACK_SLID_TREE CALZUNDI_STACK_BYTES
+#define CALZUNDI_STACK_WIRES (332 * 1024)
+#define CALZUNDI_STACK_BEST_TREE (104 * 1024)
+#define CALZUNDI_STACK_GRID_DISTANCES (40 * 1024)
+#define CALZUNDI_STACK_DELAY (348 * 1024)
+#define CALZUNDI_STACK_PRICE (332 * 1024)
+#define CALZUNDI_STACK_CHECK_TREE (64 * 1024)
+#define CALZUNDI_STACK_WRITE_FILE (16 * 1024)
+#define CALZUNDI_STACK_READ_FILE (36 * 1024)
 
 /* Distances on the grid are for nets of up to 16 pins and 16 macros. */
 #define CALZUNDI_GRID_PINS 16
@@ -253,11 +270,11 @@ int32_t calzundi_slid_tree(const int32_t *pins, size_t pin_numbers, const int32_
                            calzundi_length *total, calzundi_length *metal);
 
 /*
- * Best tree: a cheapest tree along the grid of all x and all y values of pins and macro sides, its edges in order. No metal that keeps out
- * of the macros' interiors joins all pins for less, along that grid or off it, on the die or off it, in whole units or in fractions: so the
- * refined tree, the slid tree and any list that calzundi_check_tree passes cost as much or more. Which tree is given, where several cost the
- * same, is left to the library; what it costs is fixed. Its edges are along one axis, each a wire as it stands, and the check of bought-in
- * trees passes it.
+ * Best tree: a cheapest tree along the grid of all x and all y values of pins and macro sides, its edges in order. No metal along
+ * the two axes that keeps out of the macros' interiors joins all pins for less, along that grid or off it, on the die or off it, in whole
+ * units or in fractions: so the refined tree, the slid tree and any list that calzundi_check_tree passes cost as much or more. Which tree
+ * is given, where several cost the same, is left to the library; what it costs is fixed. Its edges are along one axis, each a wire as it
+ * stands, and the check of bought-in trees passes it.
  *
  * work   lent, at least CALZUNDI_BEST_WORK of 32 bits, whatever they hold; after a success the first CALZUNDI_BEST_WORK are 0 and any
  *        others as they were, after a refusal all are as they were

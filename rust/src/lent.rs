@@ -220,8 +220,28 @@ fn answer<A>(code: i32, numbers: &[u64], given: A) -> Result<A, Refusal> {
         numbers.iter().all(|&number| number == UNTOUCHED),
         "refusal {code} touched a number that goes through a pointer"
     );
-    Err(Refusal::from_number(code)
-        .unwrap_or_else(|| panic!("the library answered {code}, which this crate does not know")))
+    Err(Refusal::answered(code))
+}
+
+#[cfg(test)]
+mod tests {
+    use super::answer;
+    use crate::Refusal;
+
+    /// A number that no refusal of this crate has was a panic.
+    #[test]
+    fn a_number_of_a_newer_library_is_a_value() {
+        let refusal = answer(99, &[], ()).unwrap_err();
+        assert_eq!(refusal, Refusal::Unknown(99));
+        assert_eq!(refusal.number(), 99);
+        assert_eq!(
+            refusal.to_string(),
+            "refused 99: no refusal has this number"
+        );
+        assert_eq!(Refusal::from_number(99), None);
+        assert_eq!(answer(15, &[], ()), Err(Refusal::PinTwice));
+        assert_eq!(answer(0, &[], ()), Ok(()));
+    }
 }
 
 /// Check a net.

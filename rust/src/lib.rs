@@ -65,8 +65,39 @@ pub const LOADED_A_BLOCK: usize = 40;
 pub const MACROS_A_BLOCK: usize = 30;
 /// The bytes of the longest net file.
 pub const LONGEST_FILE: usize = file_bytes(PINS, MACROS, true);
-/// The stack that a call has to itself.
+/// The stack that a call has to itself, whichever it is; [`stack`] has that of each operation.
 pub const STACK_BYTES: usize = 512 * 1024;
+
+/// The stack that each operation has to itself, in bytes, as include/calzundi.h has it: measured on the largest nets, with some KiB to
+/// spare, and not proved.
+pub mod stack {
+    /// Check a net.
+    pub const CHECK: usize = 4 * 1024;
+    /// Graph.
+    pub const GRAPH: usize = 16 * 1024;
+    /// Terminal tree.
+    pub const TERMINAL_TREE: usize = 224 * 1024;
+    /// Refined tree.
+    pub const REFINED_TREE: usize = 332 * 1024;
+    /// Slid tree, the deepest call.
+    pub const SLID_TREE: usize = super::STACK_BYTES;
+    /// Wires.
+    pub const WIRES: usize = 332 * 1024;
+    /// Best tree, whose table is lent.
+    pub const BEST_TREE: usize = 104 * 1024;
+    /// Distances on the grid.
+    pub const GRID_DISTANCES: usize = 40 * 1024;
+    /// Delay.
+    pub const DELAY: usize = 348 * 1024;
+    /// Price.
+    pub const PRICE: usize = 332 * 1024;
+    /// Check a bought-in tree.
+    pub const CHECK_TREE: usize = 64 * 1024;
+    /// Write a net file.
+    pub const WRITE_FILE: usize = 16 * 1024;
+    /// Read a net file.
+    pub const READ_FILE: usize = 36 * 1024;
+}
 
 /// The bytes of the net file of so many pins and macros, and whether a pin has a load.
 const fn file_bytes(pins: usize, macros: usize, loaded: bool) -> usize {
@@ -111,6 +142,12 @@ impl Pin {
 impl From<(i32, i32)> for Pin {
     fn from((x, y): (i32, i32)) -> Pin {
         Pin::new(x, y)
+    }
+}
+
+impl From<(i32, i32, i32)> for Pin {
+    fn from((x, y, load): (i32, i32, i32)) -> Pin {
+        Pin::new(x, y).with_load(load)
     }
 }
 
@@ -267,7 +304,7 @@ pub type RefinedTree = Tree;
 /// both places for a bend are taken.
 pub type SlidTree = Tree;
 
-/// A best tree: no metal that joins the pins costs less. Which one, where several cost the same, is left to the library.
+/// A best tree: no metal outside the macros joins the pins for less. Which one, where several cost the same, is left to the library.
 pub type BestTree = Tree;
 
 /// What a bought-in tree that passes comes to.
@@ -337,13 +374,13 @@ impl Flat {
 }
 
 impl Net {
-    /// The net of pins and macros with the weights 1 and 1.
-    pub fn new(
-        pins: impl IntoIterator<Item = (i32, i32)>,
+    /// The net of pins and macros with the weights 1 and 1. A pin is `(x, y)`, `(x, y, load)` or a [`Pin`].
+    pub fn new<P: Into<Pin>>(
+        pins: impl IntoIterator<Item = P>,
         macros: impl IntoIterator<Item = (i32, i32, i32, i32)>,
     ) -> Net {
         Net {
-            pins: pins.into_iter().map(Pin::from).collect(),
+            pins: pins.into_iter().map(Into::into).collect(),
             macros: macros.into_iter().map(Macro::from).collect(),
             weights: Weights::default(),
         }

@@ -53,10 +53,12 @@ pub enum Refusal {
     DelayNotFinite,
     /// 41: more than 5 pins or 16 macros, of which no best tree is given.
     BestSize,
+    /// Any other number: a library that is newer than this crate gave it.
+    Unknown(i32),
 }
 
 impl Refusal {
-    /// Every refusal, by rising number.
+    /// Every refusal that this crate knows, by rising number.
     pub const ALL: &'static [Refusal] = &[
         Refusal::Length,
         Refusal::Sums,
@@ -136,6 +138,7 @@ impl Refusal {
             Refusal::Driver => (39, "the driver is no pin"),
             Refusal::DelayNotFinite => (40, "a delay is not finite"),
             Refusal::BestSize => (41, "there are more than 5 pins or more than 16 macros"),
+            Refusal::Unknown(number) => (number, "no refusal has this number"),
         }
     }
 
@@ -153,6 +156,11 @@ impl Refusal {
     pub fn from_number(number: i32) -> Option<Refusal> {
         let mut all = Refusal::ALL.iter();
         all.find(|refusal| refusal.number() == number).copied()
+    }
+
+    /// The refusal that a library's answer is, which is no 0: one of [`Refusal::ALL`], or unknown.
+    pub(crate) fn answered(number: i32) -> Refusal {
+        Refusal::from_number(number).unwrap_or(Refusal::Unknown(number))
     }
 }
 

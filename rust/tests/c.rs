@@ -4,6 +4,7 @@ use std::fs;
 use std::path::{Path, PathBuf};
 use std::process::{Command, Output};
 
+use calzundi::stack;
 use calzundi::{Net, Refusal};
 
 const STRICT: [&str; 6] = [
@@ -76,6 +77,19 @@ fn header_and_crate_say_the_same() {
         ("CALZUNDI_BLOCK_BYTES", calzundi::BLOCK_BYTES),
         ("CALZUNDI_LONGEST_FILE", calzundi::LONGEST_FILE),
         ("CALZUNDI_STACK_BYTES", calzundi::STACK_BYTES),
+        ("CALZUNDI_STACK_CHECK", stack::CHECK),
+        ("CALZUNDI_STACK_GRAPH", stack::GRAPH),
+        ("CALZUNDI_STACK_TERMINAL_TREE", stack::TERMINAL_TREE),
+        ("CALZUNDI_STACK_REFINED_TREE", stack::REFINED_TREE),
+        ("CALZUNDI_STACK_SLID_TREE", stack::SLID_TREE),
+        ("CALZUNDI_STACK_WIRES", stack::WIRES),
+        ("CALZUNDI_STACK_BEST_TREE", stack::BEST_TREE),
+        ("CALZUNDI_STACK_GRID_DISTANCES", stack::GRID_DISTANCES),
+        ("CALZUNDI_STACK_DELAY", stack::DELAY),
+        ("CALZUNDI_STACK_PRICE", stack::PRICE),
+        ("CALZUNDI_STACK_CHECK_TREE", stack::CHECK_TREE),
+        ("CALZUNDI_STACK_WRITE_FILE", stack::WRITE_FILE),
+        ("CALZUNDI_STACK_READ_FILE", stack::READ_FILE),
     ] {
         body += &format!("    printf(\"%d\\n\", (int)({name}));\n");
         expected += &format!("{number}\n");

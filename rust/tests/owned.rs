@@ -12,11 +12,7 @@ fn made(lists: &Lists) -> Net {
         .macros
         .chunks_exact(4)
         .map(|m| (m[0], m[1], m[2], m[3]));
-    let net = Net::new([], macros).with_weights(lists.weights.x, lists.weights.y);
-    Net {
-        pins: pins.collect(),
-        ..net
-    }
+    Net::new(pins, macros).with_weights(lists.weights.x, lists.weights.y)
 }
 
 fn flat<'a>(edges: impl Iterator<Item = &'a Edge>) -> Vec<i32> {
@@ -255,4 +251,14 @@ fn costs_are_weighed_by_axis() {
     };
     assert_eq!(edge.length(), 4_000_000);
     assert_eq!(edge.cost(calzundi::Weights { x: 8, y: 3 }), 22_000_000);
+}
+
+/// A net's pins may have their loads from the start.
+#[test]
+fn pins_with_loads() {
+    let net = Net::new([(0, 0, 7), (4, 0, 0)], []);
+    assert_eq!(net.pins, [Pin::new(0, 0).with_load(7), Pin::new(4, 0)]);
+    let same = Net::new([Pin::new(0, 0).with_load(7), Pin::from((4, 0))], []);
+    assert_eq!(same, net);
+    assert_eq!(Net::from_file(&net.to_file().unwrap()), Ok(net));
 }

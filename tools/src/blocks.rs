@@ -3,7 +3,7 @@
 use calzundi::{Macro, Net, Pin, Refusal, Weights};
 use calzundi::{BLOCK_BYTES, LOADED_A_BLOCK, LONGEST_FILE, MACROS_A_BLOCK, PINS_A_BLOCK, WEIGHT};
 
-use crate::blame::Blame;
+use crate::blame::{Blame, Reason};
 
 const WORDS: usize = BLOCK_BYTES / 4;
 const FIRST_ENTRY: usize = 4;
@@ -33,7 +33,8 @@ pub fn blamed(bytes: &[u8], refusal: Refusal) -> Blame {
         Refusal::Sums => wrong_sums(bytes),
         _ => wrong_layout(&blocks(bytes)).into_iter().collect(),
     };
-    Blame::new(refusal, reasons)
+    let reasons = reasons.into_iter().map(|said| Reason::of(said, &[]));
+    Blame::new(refusal, reasons.collect())
 }
 
 fn wrong_sums(bytes: &[u8]) -> Vec<String> {

@@ -2,7 +2,7 @@
 
 use calzundi::{Net, PinDelay, Place, Refusal, Technology};
 
-use crate::blame::Blame;
+use crate::blame::{Blame, Reason};
 use crate::line::quoted;
 
 /// What delays are asked for by.
@@ -62,7 +62,7 @@ impl Asked {
         } = self.technology;
         let Place { x, y } = self.driver;
         let fair = |number: f64| number.is_finite() && number > 0.0;
-        let reasons = match refusal {
+        let reasons: Vec<String> = match refusal {
             Refusal::Technology => [("resistance", resistance), ("capacitance", capacitance)]
                 .into_iter()
                 .filter(|(_, number)| !fair(*number))
@@ -71,7 +71,8 @@ impl Asked {
             Refusal::Driver => vec![format!("no pin is at {x} {y}")],
             _ => Vec::new(),
         };
-        Blame::new(refusal, reasons)
+        let reasons = reasons.into_iter().map(|said| Reason::of(said, &[]));
+        Blame::new(refusal, reasons.collect())
     }
 }
 

@@ -3,6 +3,10 @@
 
 use std::sync::OnceLock;
 
+use calzundi::{Place, Wire};
+
+use crate::routed::wires_text;
+
 /// Four groups of four digits.
 pub fn fingerprint(text: &str) -> String {
     let digest = sha256(text.as_bytes());
@@ -11,6 +15,27 @@ pub fn fingerprint(text: &str) -> String {
         .map(|two| format!("{:02x}{:02x}", two[0], two[1]))
         .collect();
     groups.join("-")
+}
+
+/// The fingerprint of wires moved to the origin, their least x and their least y to 0: one word for the same metal on every site.
+pub fn form(wires: &[Wire]) -> String {
+    let ends = || wires.iter().flat_map(|wire| [wire.start, wire.end]);
+    let x = ends().map(|end| end.x).min().unwrap_or(0);
+    let y = ends().map(|end| end.y).min().unwrap_or(0);
+    fingerprint(&wires_text(&moved(wires, -x, -y)))
+}
+
+/// Wires moved by so much in x and in y.
+pub fn moved(wires: &[Wire], x: i32, y: i32) -> Vec<Wire> {
+    let there = |place: Place| Place {
+        x: place.x + x,
+        y: place.y + y,
+    };
+    let moved = wires.iter().map(|wire| Wire {
+        start: there(wire.start),
+        end: there(wire.end),
+    });
+    moved.collect()
 }
 
 /// The first 32 bits of the fractional parts of the square roots of the first eight primes, and of the cube roots of the first 64, worked

@@ -1,32 +1,59 @@
 //! The program: its commands, its command line, and how it ends.
 
-use std::ffi::OsString;
+use std::ffi::{OsStr, OsString};
 use std::fmt::Display;
+use std::os::unix::ffi::{OsStrExt, OsStringExt};
 use std::process::ExitCode;
 use std::thread;
 
+use crate::blame::Blame;
 use crate::commands;
+use crate::line::{quoted, BadLines};
+use crate::near::nearest;
 use crate::streams::{say, write};
+use crate::told::{status, tell};
 
 /// Why a command did not do what it was asked for.
 #[derive(Debug)]
 pub enum Failure {
     /// The command line is wrong: exit status 2.
     Usage(String),
-    /// Something that was read or written is: exit status 1.
+    /// Something that was read or written is: exit status 1, as for all that follow.
     Input(String),
-    /// The answer is no, and has been said: exit status 1.
+    /// The same, of what has a name.
+    Wrong { name: String, what: String },
+    /// Lines of a text are no entries.
+    Lines(String, BadLines),
+    /// A net, a list or a tree is refused; only a few reasons are said where something else was asked for.
+    Refused {
+        name: String,
+        blame: Box<Blame>,
+        few: bool,
+    },
+    /// The answer is no, and has been said.
     No,
+    /// Nobody reads what is printed any more, and nothing is said.
+    Gone,
 }
 
 impl Failure {
     /// Something is wrong with what has a name.
     pub fn wrong(name: impl Display, what: impl Display) -> Failure {
-        Failure::Input(format!("{name}: {what}"))
+        let (name, what) = (name.to_string(), what.to_string());
+        Failure::Wrong { name, what }
+    }
+
+    /// Something with a name is refused, for all these reasons.
+    pub fn refused(name: impl Display, blame: Blame) -> Failure {
+        Failure::Refused {
+            name: name.to_string(),
+            blame: Box::new(blame),
+            few: false,
+        }
     }
 }
 
-/// A command: what it is called, its help, the options that it takes and what it does.
+/// A command: what it is called, its help, the options that it takes and what it does. The help begins with `calzundi NAME WORDS: `.
 pub struct Command {
     pub name: &'static str,
     pub help: &'static str,
@@ -42,25 +69,82 @@ pub struct Switch {
     pub value: Option<&'static str>,
 }
 
+/// What the value of an option is called that is a file to read.
+pub const A_FILE: &str = "a file";
+
+/// Where what is made goes; `-o` is short for it.
+pub const OUTPUT: Switch = Switch {
+    name: "--output",
+    value: Some("a file, or a folder/"),
+};
+
+/// A net may be written over.
+pub const FORCE: Switch = Switch {
+    name: "--force",
+    value: None,
+};
+
+/// The answer as JSON.
+pub const JSON: Switch = Switch {
+    name: "--json",
+    value: None,
+};
+
 /// A command line, sorted.
 #[derive(Debug, Default)]
 pub struct Words {
     pub files: Vec<OsString>,
-    options: Vec<(&'static str, String)>,
+    options: Vec<Given>,
+}
+
+/// An option that is given, its value as it was and as text, and whether that is a file to read.
+#[derive(Debug)]
+struct Given {
+    name: &'static str,
+    value: OsString,
+    text: String,
+    reads: bool,
 }
 
 impl Words {
     /// Whether an option is there.
     pub fn has(&self, name: &str) -> bool {
-        self.value(name).is_some()
+        self.given(name).is_some()
     }
 
     /// The value of an option; the last one counts.
     pub fn value(&self, name: &str) -> Option<&str> {
-        let mut options = self.options.iter().rev();
-        let found = options.find(|(option, _)| *option == name);
-        found.map(|(_, value)| value.as_str())
+        self.given(name).map(|given| given.text.as_str())
     }
+
+    /// The same as the name of a file, byte for byte.
+    pub fn file(&self, name: &str) -> Option<&OsString> {
+        self.given(name).map(|given| &given.value)
+    }
+
+    /// Every file that is read, those that options name included.
+    pub fn inputs(&self) -> impl Iterator<Item = &OsString> {
+        let read = self.options.iter().filter(|given| given.reads);
+        self.files.iter().chain(read.map(|given| &given.value))
+    }
+
+    fn given(&self, name: &str) -> Option<&Given> {
+        let mut options = self.options.iter().rev();
+        options.find(|given| given.name == name)
+    }
+}
+
+/// A word that looks like an option, parted at its first `=`.
+fn parted(word: &OsStr) -> (String, Option<OsString>) {
+    let bytes = word.as_bytes();
+    let (name, value) = match bytes.iter().position(|&byte| byte == b'=') {
+        Some(at) => (
+            &bytes[..at],
+            Some(OsString::from_vec(bytes[at + 1..].to_vec())),
+        ),
+        None => (bytes, None),
+    };
+    (String::from_utf8_lossy(name).into_owned(), value)
 }
 
 impl Command {
@@ -70,48 +154,91 @@ impl Command {
         let mut given = given.iter();
         let mut plain = false;
         while let Some(word) = given.next() {
-            let said = word.to_string_lossy();
-            if plain || !is_option(&said) {
+            if plain || !is_option(&word.to_string_lossy()) {
                 words.files.push(word.clone());
                 continue;
             }
-            if said == "--" {
+            if word == "--" {
                 plain = true;
                 continue;
             }
-            let (name, attached) = match said.split_once('=') {
-                Some((name, value)) => (name, Some(value.to_string())),
-                None => (said.as_ref(), None),
-            };
-            let option = self.options.iter().find(|option| option.name == name);
-            let option =
-                option.ok_or_else(|| Failure::Usage(format!("there is no option '{name}'")))?;
+            let (name, attached) = parted(word);
+            let option = self.option(&name)?;
             let value = match (option.value, attached) {
-                (None, None) => String::new(),
+                (None, None) => OsString::new(),
                 (None, Some(_)) => return Err(Failure::Usage(format!("{name} takes no value"))),
                 (Some(_), Some(value)) => value,
                 (Some(wanted), None) => {
-                    let next = given.next().map(|next| next.to_string_lossy().into_owned());
+                    let next = given.next().cloned();
                     next.ok_or_else(|| Failure::Usage(format!("{name} needs {wanted}")))?
                 }
             };
-            words.options.push((option.name, value));
+            words.options.push(Given {
+                name: option.name,
+                text: value.to_string_lossy().into_owned(),
+                reads: option.value == Some(A_FILE),
+                value,
+            });
         }
-        match words.files.len() {
-            count if count < self.files.0 => Err(Failure::Usage("a file is missing".into())),
-            count if count > self.files.1 => Err(Failure::Usage("too many words".into())),
-            _ => Ok(words),
+        self.counted(&words)?;
+        if words.inputs().filter(|word| *word == "-").count() > 1 {
+            let twice = "standard input can be read only once";
+            return Err(Failure::Usage(twice.into()));
         }
+        Ok(words)
     }
 
-    fn run(&self, given: &[OsString]) -> Result<(), Failure> {
-        if asks(given, &["--help", "-h"]) {
-            return write(None, self.help.as_bytes(), &[]);
+    fn option(&self, name: &str) -> Result<&'static Switch, Failure> {
+        let long = if name == "-o" { OUTPUT.name } else { name };
+        let found = self.options.iter();
+        let mut found = found.filter(|option| [name, long].contains(&option.name));
+        found.next().ok_or_else(|| {
+            let names = self.options.iter().map(|option| option.name);
+            Failure::Usage(format!(
+                "there is no option {}{}",
+                quoted(name),
+                nearest(name, names)
+            ))
+        })
+    }
+
+    /// As many words as are wanted; the first that is missing is named as the help does.
+    fn counted(&self, words: &Words) -> Result<(), Failure> {
+        let count = words.files.len();
+        if count < self.files.0 {
+            let missing = self.wanted().nth(count).unwrap_or("a file");
+            return Err(Failure::Usage(format!("{missing} is missing")));
         }
-        if asks(given, &["--version", "-V"]) {
-            return version();
+        if count > self.files.1 {
+            return Err(Failure::Usage("too many words".into()));
         }
-        (self.act)(&self.words(given)?)
+        Ok(())
+    }
+
+    /// The words that the first line of the help asks for: `NET`, `DRIVER`.
+    fn wanted(&self) -> impl Iterator<Item = &'static str> {
+        let usage = self.help.split(':').next().unwrap_or("");
+        let words = usage.split(' ').skip(2);
+        let words = words.filter(|word| word.starts_with(|first: char| first.is_ascii_uppercase()));
+        words.map(|word| word.trim_end_matches('.'))
+    }
+
+    /// Runs a command; its exit status.
+    fn run(&self, given: &[OsString]) -> u8 {
+        let (json, done) = if asks(given, &["--help", "-h"]) {
+            (false, write(None, self.help.as_bytes(), &[]))
+        } else if asks(given, &["--version", "-V"]) {
+            (false, version())
+        } else {
+            match self.words(given) {
+                Ok(words) => (words.has(JSON.name), (self.act)(&words)),
+                Err(failure) => (false, Err(failure)),
+            }
+        };
+        match done {
+            Ok(()) => 0,
+            Err(failure) => tell(self.name, json, &failure),
+        }
     }
 }
 
@@ -129,31 +256,45 @@ fn asks(given: &[OsString], wanted: &[&str]) -> bool {
         .any(|word| wanted.iter().any(|wanted| word == wanted))
 }
 
-const HELP: &str = "\
+pub const HELP: &str = "\
 calzundi COMMAND ..: a tree router whose every answer is proved
 
-    check NET..            allowed, or why not: the number and the lines that are to blame
-    route NET              totals and edges, as the program route prints them; or --json, or --wires
-    slide NET              the slid tree: level and upright edges, whose bars have moved where that saves
-    best NET               a best tree of up to 5 pins and 16 macros, and how much more the others cost
-    verify NET TREE        whether a tree of another router passes for a net, and what it costs
-    draw NET [PICTURE]     a picture of both trees, as SVG; with --html a page to look into; --slid, --best, --tree, --delay
-    compare A B            whether two nets get the same metal, and its fingerprint; --shift, on another site too
-    batch NET..            a line for each of many nets; --csv, --jobs, --shard
+    check NET..            allowed, or why not, with the lines to blame
+    route NET..            totals and edges of the trees; --wires
+    slide NET..            the slid tree: level and upright edges, bars moved
+    best NET..             a best tree of up to 5 pins and 16 macros
+    verify NET TREE        whether a tree of another router passes; --split
+    draw NET..             a picture, or with --html a page; --slid, --best,
+                           --tree, --delay
+    compare A B..          whether nets get the same metal; --shift
+    batch NET..            a line for each of many nets; --csv, --jsonl, --shard
     price NET BANDS        what a bureau charges for the metal
     distances NET          what metal between every two pins costs at least
     delay NET DRIVER R C   the Elmore delay from a driver to each pin
-    pack NET [FILE]        a net file of a net
-    unpack NET [TEXT]      a net as text
+    pack NET..             net files of nets
+    unpack NET..           nets as text
+    export NET..           layouts with macros, wires and pins: --gds, --def
+    import LAYOUT..        nets, and with --tree trees, out of GDSII and DEF
+    man [COMMAND]          the man page of calzundi or of a command
+    completion SHELL       what bash, zsh or fish complete
 
-`calzundi COMMAND --help` says more. A NET is text, one `pin x y load` or `macro left bottom right top` a line, or a net file; for - it is
-standard input. A load, 0 to 1000000, may be left out where it is 0; no tree depends on it. A line `weights x y`, 1 to 8 each, says what a
-unit of metal costs along each axis; without it both are 1. Blank lines are allowed, and # makes the rest of its line a comment.
+`calzundi COMMAND --help` and `calzundi help COMMAND` say more. Every command
+but man and completion takes --json. What is made goes to standard output, or to
+-o FILE; of many nets to -o FOLDER/. No file that is read is written over, none
+that is write-protected, and no other net without --force. What is written to a
+file is whole or not there.
+
+A NET is text, one `pin x y load` or `macro left bottom right top` a line, or a
+net file; for - it is standard input. A load, 0 to 1000000, may be left out
+where it is 0; no tree depends on it. A line `weights x y`, 1 to 8 each, says
+what a unit of metal costs along each axis; without it both are 1. Blank lines
+are allowed, and # makes the rest of its line a comment.
 
     printf 'pin 0 0\\npin 4 0\\npin 2 3\\n' | calzundi route -
 
-What is written to a file is whole or not there, and no file that is read is written over.
-Exit status: 0 done; 1 refused, different, or something that is read or written is wrong; 2 a wrong command line.
+A refusal prints `refused` and its number; standard error says what is to blame.
+Exit status: 0 done; 1 refused, different, or something that is read or written
+is wrong; 2 a wrong command line.
 ";
 
 /// Runs the program. It has a thread of its own, since a call of the library wants its stack whatever the shell's limit.
@@ -182,33 +323,37 @@ fn command(given: &[OsString]) -> u8 {
         say("calzundi: a command is missing; `calzundi --help` lists them");
         return 2;
     };
-    let (name, done) = match first.to_str() {
-        Some("--help" | "-h" | "help") => (String::new(), write(None, HELP.as_bytes(), &[])),
-        Some("--version" | "-V") => (String::new(), version()),
-        word => match commands::ALL
-            .iter()
-            .find(|command| Some(command.name) == word)
-        {
-            Some(command) => (format!(" {}", command.name), command.run(rest)),
-            None => {
-                let word = crate::line::quoted(&first.to_string_lossy());
-                let wrong = Failure::Usage(format!("there is no command {word}"));
-                (String::new(), Err(wrong))
-            }
+    let done = match (first.to_str(), rest.first()) {
+        (Some("help"), Some(asked)) => match found(asked) {
+            Ok(command) => write(None, command.help.as_bytes(), &[]),
+            Err(failure) => Err(failure),
+        },
+        (Some("--help" | "-h" | "help"), _) => write(None, HELP.as_bytes(), &[]),
+        (Some("--version" | "-V"), _) => version(),
+        _ => match found(first) {
+            Ok(command) => return command.run(rest),
+            Err(failure) => Err(failure),
         },
     };
     match done {
         Ok(()) => 0,
-        Err(Failure::No) => 1,
-        Err(Failure::Input(wrong)) => {
-            say(&format!("calzundi{name}: {wrong}"));
-            1
-        }
-        Err(Failure::Usage(wrong)) => {
-            say(&format!(
-                "calzundi{name}: {wrong}; `calzundi{name} --help` says how it is used"
-            ));
-            2
+        Err(failure) => {
+            tell("", false, &failure);
+            status(&failure)
         }
     }
+}
+
+/// The command of a name.
+fn found(word: &OsStr) -> Result<&'static Command, Failure> {
+    let mut all = commands::ALL.iter();
+    all.find(|command| word == command.name).ok_or_else(|| {
+        let word = word.to_string_lossy();
+        let names = commands::ALL.iter().map(|command| command.name);
+        Failure::Usage(format!(
+            "there is no command {}{}",
+            quoted(&word),
+            nearest(&word, names)
+        ))
+    })
 }

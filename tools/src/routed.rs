@@ -4,8 +4,10 @@ use calzundi::{
     BestTree, Edge, Net, Path, Place, RefinedTree, Refusal, SlidTree, TerminalTree, Weights, Wire,
 };
 
-use crate::fingerprint::fingerprint;
-use crate::source::{Refused, Source};
+use crate::fingerprint::{fingerprint, form};
+use crate::json::{self, listed, quoted, Field};
+use crate::output::{Form, Product};
+use crate::program::{Words, JSON};
 
 /// Both trees of a net.
 #[derive(Clone, Debug, PartialEq, Eq)]
@@ -97,81 +99,84 @@ pub fn wires_text(wires: &[Wire]) -> String {
     wires.iter().map(|wire| drawn(wire) + "\n").collect()
 }
 
-/// Everything about a routed net as one JSON object, a line for each entry.
-pub fn json(net: &Net, routed: &Routed, wires: &[Wire]) -> String {
-    let Weights { x, y } = net.weights;
-    let place = |place: Place| format!("[{}, {}]", place.x, place.y);
-    let pins = net.pins.iter().map(|pin| place(pin.place));
-    let macros = net
-        .macros
-        .iter()
-        .map(|m| format!("[{}, {}, {}, {}]", m.left, m.bottom, m.right, m.top));
-    let ends = |edge: &Edge| format!("{}, \"to\": {}", place(edge.first), place(edge.second));
-    let path = |path: &Path| {
-        let (bridge, cost) = (ends(&path.bridge), path.cost);
-        format!("{{\"from\": {bridge}, \"cost\": {cost}}}")
-    };
-    let edge = |edge: &Edge| {
-        let (length, cost) = (edge.length(), edge.cost(net.weights));
-        let ends = ends(edge);
-        format!("{{\"from\": {ends}, \"length\": {length}, \"cost\": {cost}}}")
-    };
-    let wire = |wire: &Wire| {
-        let (start, end) = (wire.start, wire.end);
-        format!("[{}, {}, {}, {}]", start.x, start.y, end.x, end.y)
-    };
-    let fields = [
-        ("calzundi", quoted(calzundi::VERSION)),
-        ("weights", format!("[{x}, {y}]")),
-        ("terminal", routed.terminal.total.to_string()),
-        ("refined", routed.refined.total.to_string()),
-        ("metal", routed.refined.metal.to_string()),
-        ("fingerprint", quoted(&fingerprint(&wires_text(wires)))),
-        ("pins", listed(pins)),
-        ("macros", listed(macros)),
-        ("bridges", listed(routed.terminal.paths.iter().map(path))),
-        ("edges", listed(routed.refined.edges.iter().map(edge))),
-        ("wires", listed(wires.iter().map(wire))),
-    ];
-    object(&fields)
-}
-
-/// A refusal as a JSON object.
-pub fn json_refused(source: &Source, refused: &Refused) -> String {
-    let reasons = refused.blame.reasons.iter().map(|reason| quoted(reason));
-    object(&[
-        ("calzundi", quoted(calzundi::VERSION)),
-        ("net", quoted(&source.name)),
-        ("refused", refused.refusal.number().to_string()),
-        ("meaning", quoted(&refused.blame.headline)),
-        ("reasons", listed(reasons)),
-    ])
-}
-
-fn object(fields: &[(&str, String)]) -> String {
-    let line = |(name, value): &(&str, String)| format!("  {}: {value}", quoted(name));
-    let lines: Vec<String> = fields.iter().map(line).collect();
-    format!("{{\n{}\n}}\n", lines.join(",\n"))
-}
-
-fn listed(entries: impl Iterator<Item = String>) -> String {
-    let entries: Vec<String> = entries.map(|entry| format!("    {entry}")).collect();
-    if entries.is_empty() {
-        return "[]".into();
+/// What `slide` and `best` make of a net.
+pub fn tree_product(command: &'static str, words: &Words) -> Product {
+    let as_json = words.has(JSON.name);
+    Product {
+        command,
+        ending: if as_json { "json" } else { "tree" },
+        form: if as_json { Form::Json } else { Form::Text },
     }
-    format!("[\n{}\n  ]", entries.join(",\n"))
 }
 
-/// A JSON string.
-pub fn quoted(text: &str) -> String {
-    let mut said = String::from("\"");
-    for letter in text.chars() {
-        match letter {
-            '"' => said += "\\\"",
-            '\\' => said += "\\\\",
-            letter if letter < ' ' => said += &format!("\\u{:04x}", letter as u32),
-            letter => said.push(letter),
-        }
+/// As JSON, with the name and the entries of the net.
+impl Routed {
+    /// Everything about a routed net.
+    pub fn json(&self, name: &str, net: &Net, wires: &[Wire]) -> String {
+        let path = |path: &Path| {
+            let Edge { first, second } = path.bridge;
+            let (from, to) = (json::place(first), json::place(second));
+            json::short(&[("from", from), ("to", to), ("cost", path.cost.to_string())])
+        };
+        let [weights, pins, loads, macros] = json::net(net);
+        let fields = vec![
+            weights,
+            ("terminal", self.terminal.total.to_string()),
+            ("refined", self.refined.total.to_string()),
+            ("metal", self.refined.metal.to_string()),
+            ("fingerprint", quoted(&fingerprint(&wires_text(wires)))),
+            ("form", quoted(&form(wires))),
+            pins,
+            loads,
+            macros,
+            ("bridges", listed(self.terminal.paths.iter().map(path))),
+            self.edge_field(&self.refined.edges),
+            ("wires", listed(wires.iter().map(json::wire))),
+        ];
+        json::object(&[json::about("net", name), fields].concat())
     }
-    said + "\""
+
+    /// What `slide` prints.
+    pub fn slid_json(&self, name: &str, net: &Net, slid: &SlidTree) -> String {
+        let totals = [
+            ("terminal", self.terminal.total),
+            ("refined", self.refined.total),
+            ("slid", slid.total),
+            ("metal", slid.metal),
+        ];
+        self.tree_json(name, net, &totals, &slid.edges)
+    }
+
+    /// What `best` prints.
+    pub fn best_json(&self, name: &str, net: &Net, slid: &SlidTree, best: &BestTree) -> String {
+        let totals = [
+            ("refined", self.refined.total),
+            ("slid", slid.total),
+            ("best", best.total),
+            ("metal", best.metal),
+        ];
+        self.tree_json(name, net, &totals, &best.edges)
+    }
+
+    fn tree_json(
+        &self,
+        name: &str,
+        net: &Net,
+        totals: &[(&'static str, i64)],
+        edges: &[Edge],
+    ) -> String {
+        let totals = totals
+            .iter()
+            .map(|(name, total)| (*name, total.to_string()));
+        let mut fields = json::about("net", name);
+        fields.extend(totals);
+        fields.extend(json::net(net));
+        fields.push(self.edge_field(edges));
+        json::object(&fields)
+    }
+
+    fn edge_field(&self, edges: &[Edge]) -> Field {
+        let edges = edges.iter().map(|edge| json::edge(edge, self.weights));
+        ("edges", listed(edges))
+    }
 }

@@ -1,4 +1,4 @@
-//! A net that is read, from text or from a net file alike: text has no byte 0, and every net file has one.
+//! A net that is read, from text or from a net file alike: a net file begins with the byte 1 and has bytes that are 0, text does not.
 
 use std::ffi::OsString;
 
@@ -33,10 +33,14 @@ pub fn open(word: Option<&OsString>) -> Result<Source, Failure> {
 
 /// The net of bytes.
 pub fn source(name: String, bytes: &[u8]) -> Result<Source, Failure> {
-    if bytes.contains(&0) {
+    if is_wide(bytes) {
+        let wide = "it is UTF-16 or UTF-32 text; a net is UTF-8, so save it as that";
+        return Err(Failure::wrong(name, wide));
+    }
+    if is_file(bytes) {
         return Ok(from_file(name, bytes));
     }
-    let (net, lines) = text::parse(bytes).map_err(|bad| Failure::wrong(&name, bad))?;
+    let (net, lines) = text::parse(bytes).map_err(|bad| Failure::Lines(name.clone(), bad))?;
     let lines = Some(lines);
     let verdict = net.check().map_err(|refusal| Refused {
         refusal,
@@ -48,6 +52,41 @@ pub fn source(name: String, bytes: &[u8]) -> Result<Source, Failure> {
         lines,
         verdict,
     })
+}
+
+/// Whether bytes are a net file, or what is left of one: nothing at all is what is left of an empty one.
+fn is_file(bytes: &[u8]) -> bool {
+    bytes.is_empty() || bytes[0] == 1 || bytes.contains(&0)
+}
+
+/// Whether bytes are text with two or four bytes a letter, by their byte order mark or by their first two letters.
+fn is_wide(bytes: &[u8]) -> bool {
+    let letter =
+        |byte: u8| byte == b'#' || byte.is_ascii_alphabetic() || byte.is_ascii_whitespace();
+    match bytes {
+        [0xff, 0xfe, ..] | [0xfe, 0xff, ..] | [0, 0, 0xfe, 0xff, ..] => true,
+        [a, 0, b, 0, ..] | [0, a, 0, b, ..] => letter(*a) && letter(*b),
+        _ => false,
+    }
+}
+
+/// Whether bytes read as a net, allowed or refused, or as one whose sums are wrong.
+pub fn is_net(bytes: &[u8]) -> bool {
+    match source(String::new(), bytes) {
+        Ok(Source {
+            lines: Some(_),
+            net,
+            ..
+        }) => !net.pins.is_empty() || !net.macros.is_empty(),
+        Ok(source) => match source.verdict {
+            Ok(()) => true,
+            Err(Refused { refusal, .. }) => {
+                let begins = bytes.starts_with(&[1, 0, 0, 0]);
+                !matches!(refusal, Refusal::Length | Refusal::Layout) && begins
+            }
+        },
+        Err(_) => false,
+    }
 }
 
 fn from_file(name: String, bytes: &[u8]) -> Source {
@@ -70,9 +109,6 @@ fn from_file(name: String, bytes: &[u8]) -> Source {
     }
 }
 
-/// How many reasons are said where a command was asked for something else.
-const FEW: usize = 4;
-
 impl Source {
     /// The net, where it is allowed.
     pub fn allowed(&self) -> Result<&Net, Failure> {
@@ -82,15 +118,17 @@ impl Source {
         }
     }
 
-    fn refused(&self, refused: &Refused) -> Failure {
-        let mut said = format!("{}: {}", self.name, refused.blame.headline);
-        let reasons = &refused.blame.reasons;
-        for reason in reasons.iter().take(FEW) {
-            said += &format!("\n  {reason}");
+    /// The refusal of this net as a failure, with a few of its reasons.
+    pub fn refused(&self, refused: &Refused) -> Failure {
+        Failure::Refused {
+            name: self.name.clone(),
+            blame: Box::new(refused.blame.clone()),
+            few: true,
         }
-        if let Some(more) = reasons.len().checked_sub(FEW + 1) {
-            said += &format!("\n  and {} more: `calzundi check` lists them", more + 1);
-        }
-        Failure::Input(said)
+    }
+
+    /// A refusal by an operation, of an allowed net: all that is to blame for it.
+    pub fn unfit(&self, refusal: Refusal) -> Failure {
+        Failure::refused(&self.name, blamed(&self.net, self.lines.as_ref(), refusal))
     }
 }

@@ -94,15 +94,24 @@ pub fn write(
     let Some(path) = path(word) else {
         let mut out = io::stdout().lock();
         let done = closed(1).and_then(|()| out.write_all(bytes).and_then(|()| out.flush()));
-        return done.map_err(|error| Failure::wrong("standard output", error));
+        return done.map_err(|error| match error.kind() {
+            ErrorKind::BrokenPipe => Failure::Gone,
+            _ => Failure::wrong("standard output", error),
+        });
     };
-    for input in inputs {
-        if is_same(*input, path) {
-            let said = format!("{} is read; it is not written over", name(*input));
-            return Err(Failure::Usage(said));
-        }
-    }
+    keep(path, inputs)?;
     put(path, bytes).map_err(|error| Failure::wrong(name(word), error))
+}
+
+/// No input is written over, by whichever name.
+pub fn keep(path: &Path, inputs: &[Option<&OsString>]) -> Result<(), Failure> {
+    match inputs.iter().find(|input| is_same(**input, path)) {
+        Some(input) => {
+            let said = format!("{} is read; it is not written over", name(*input));
+            Err(Failure::Usage(said))
+        }
+        None => Ok(()),
+    }
 }
 
 /// Whether an input is the file at a path, by whichever name.
@@ -121,10 +130,19 @@ fn is_same(input: Option<&OsString>, at: &Path) -> bool {
     }
 }
 
+/// The bytes of a file that is there, plain and short enough to be an input.
+pub fn there(path: &Path) -> Option<Vec<u8>> {
+    let data = fs::metadata(path).ok()?;
+    if !data.is_file() || data.len() > MOST_BYTES {
+        return None;
+    }
+    fs::read(path).ok()
+}
+
 /// A file is written beside its place and then put there at once, so that it is whole, or as it was. What is no plain file, such as a
 /// device or a pipe, is written to as it is.
 fn put(path: &Path, bytes: &[u8]) -> io::Result<()> {
-    let path = &fs::canonicalize(path).unwrap_or_else(|_| path.into());
+    let path = &end_of_links(path)?;
     let before = match fs::metadata(path) {
         Ok(data) if !data.is_file() => {
             let mut opened = OpenOptions::new().write(true).open(path)?;
@@ -134,22 +152,69 @@ fn put(path: &Path, bytes: &[u8]) -> io::Result<()> {
         Err(error) if error.kind() == ErrorKind::NotFound => None,
         Err(error) => return Err(error),
     };
-    let beside = beside(path)?;
-    let done = fill(&beside, bytes, before).and_then(|()| fs::rename(&beside, path));
-    if done.is_err() {
-        let _ = fs::remove_file(&beside);
+    if let Some(data) = &before {
+        ask_to_write(path, data)?;
     }
-    done
+    let beside = beside(path)?;
+    let there = before.is_some();
+    let done = fill(&beside, bytes, before).and_then(|()| fs::rename(&beside, path));
+    match done {
+        Err(error) if error.kind() == ErrorKind::PermissionDenied && there => {
+            let _ = fs::remove_file(&beside);
+            in_place(path, bytes)
+        }
+        Err(error) => {
+            let _ = fs::remove_file(&beside);
+            Err(error)
+        }
+        Ok(()) => Ok(()),
+    }
 }
 
-/// A name in the same folder that nobody else takes.
+/// The file that a path means, through links, also where it is not there yet.
+fn end_of_links(path: &Path) -> io::Result<PathBuf> {
+    let mut path = path.to_path_buf();
+    for _ in 0..MOST_LINKS {
+        let Ok(target) = fs::read_link(&path) else {
+            return Ok(path);
+        };
+        // A target that is no whole path begins in the link's folder.
+        path = path.parent().unwrap_or(Path::new("")).join(target);
+    }
+    Err(io::Error::other("too many links lead on from it"))
+}
+
+/// So many links are followed, as the system does.
+const MOST_LINKS: usize = 40;
+
+/// A file that nobody may write stays as it is, whoever asks; so does one that we may not write.
+fn ask_to_write(path: &Path, data: &Metadata) -> io::Result<()> {
+    if data.permissions().readonly() {
+        let wrong = "it is write-protected, and is left as it is";
+        return Err(io::Error::other(wrong));
+    }
+    OpenOptions::new().write(true).open(path).map(drop)
+}
+
+/// Where nothing new can stand beside a file, it is written as it stands.
+fn in_place(path: &Path, bytes: &[u8]) -> io::Result<()> {
+    let mut file = OpenOptions::new().write(true).open(path)?;
+    file.write_all(bytes)?;
+    file.set_len(bytes.len() as u64)?;
+    file.sync_all()?;
+    say(&format!(
+        "calzundi: {}: its folder cannot be written to, so it was written in place, which is not atomic",
+        plain(&path.to_string_lossy())
+    ));
+    Ok(())
+}
+
+/// A name in the same folder that nobody else takes, short whatever the file's own.
 fn beside(path: &Path) -> io::Result<PathBuf> {
-    let name = path
-        .file_name()
-        .ok_or_else(|| io::Error::new(ErrorKind::InvalidInput, "it names no file"))?;
-    let mut new = OsString::from(".");
-    new.push(name);
-    new.push(format!(".{}.new", std::process::id()));
+    if path.file_name().is_none() {
+        return Err(io::Error::new(ErrorKind::InvalidInput, "it names no file"));
+    }
+    let new = format!(".calzundi-{}.new", std::process::id());
     Ok(path.with_file_name(new))
 }
 

@@ -3,7 +3,7 @@
 
 use calzundi::{Macro, Net, Pin, Place, Weights};
 
-use crate::line::{each_line, quoted, BadLine};
+use crate::line::{each_line, quoted, BadLines};
 
 /// The lines on which a net's entries stand.
 #[derive(Clone, Debug, Default, PartialEq, Eq)]
@@ -14,7 +14,7 @@ pub struct Lines {
 }
 
 /// The net that the bytes of a text give, with its lines. Any 32-bit numbers and any count of lines pass: what is allowed the router says.
-pub fn parse(bytes: &[u8]) -> Result<(Net, Lines), BadLine> {
+pub fn parse(bytes: &[u8]) -> Result<(Net, Lines), BadLines> {
     let (mut net, mut lines) = (Net::default(), Lines::default());
     each_line(bytes, |line, words| {
         let Some((kind, rest)) = words.split_first() else {
@@ -39,6 +39,7 @@ pub fn parse(bytes: &[u8]) -> Result<(Net, Lines), BadLine> {
                 net.weights = Weights { x, y };
                 lines.weights = Some(line);
             }
+            "refused" => return Err("it is a refusal that was printed, and no entry".into()),
             other => {
                 let other = quoted(other);
                 return Err(format!("{other} is neither 'pin', 'macro' nor 'weights'"));

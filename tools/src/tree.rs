@@ -3,10 +3,10 @@
 
 use std::collections::{BTreeMap, BTreeSet};
 
-use calzundi::{Edge, Place, Refusal, BOUGHT_EDGES, COORDINATE};
+use calzundi::{Edge, Net, Place, Refusal, BOUGHT_EDGES, COORDINATE};
 
-use crate::blame::{named, Blame, Entries};
-use crate::line::{each_line, quoted, BadLine};
+use crate::blame::{named, Blame, Entries, Entry, Kind, Reason};
+use crate::line::{each_line, quoted, BadLines};
 use crate::program::Failure;
 use crate::source::Source;
 use crate::text::numbers;
@@ -25,11 +25,11 @@ pub fn parse(name: String, bytes: &[u8]) -> Result<Given, Failure> {
         name,
         ..Given::default()
     };
-    edges(&mut given, bytes).map_err(|bad| Failure::wrong(&given.name, bad))?;
+    edges(&mut given, bytes).map_err(|bad| Failure::Lines(given.name.clone(), bad))?;
     Ok(given)
 }
 
-fn edges(given: &mut Given, bytes: &[u8]) -> Result<(), BadLine> {
+fn edges(given: &mut Given, bytes: &[u8]) -> Result<(), BadLines> {
     let mut header = None;
     each_line(bytes, |line, words| {
         match words {
@@ -81,8 +81,9 @@ impl Given {
                 let (count, first) = (self.edges.len(), self.named(BOUGHT_EDGES));
                 let cause =
                     format!("there are {count} edges, and at most {BOUGHT_EDGES} are allowed");
+                let said = format!("{first} is the first that is too many");
                 Blame {
-                    reasons: vec![format!("{first} is the first that is too many")],
+                    reasons: vec![Reason::of(said, &[self.entry(BOUGHT_EDGES)])],
                     ..Blame::because(refusal, cause)
                 }
             }
@@ -94,8 +95,48 @@ impl Given {
                 )
             },
             Refusal::EdgeNotClear => Blame::new(refusal, self.not_clear(&entries)),
-            _ => Blame::new(refusal, self.no_tree(&entries)),
+            _ => {
+                let split = self.to_split(&entries);
+                Blame::new(refusal, [split, self.no_tree(&entries)].concat())
+            }
         }
+    }
+
+    /// The same tree with each edge parted where an end of another one, or a pin, lies on it. Longer lists than are taken stay as they are.
+    pub fn split(&self, net: &Net) -> Given {
+        let mut parted = Given {
+            name: self.name.clone(),
+            ..Given::default()
+        };
+        for (at, edge) in self.edges.iter().enumerate() {
+            let mut places = self.places_on(at, net);
+            places.sort_unstable();
+            if edge.first > edge.second {
+                places.reverse();
+            }
+            let mut first = edge.first;
+            for second in places.into_iter().chain([edge.second]) {
+                parted.edges.push(Edge { first, second });
+                parted.lines.push(self.lines[at]);
+                first = second;
+            }
+        }
+        parted
+    }
+
+    /// The ends of other edges, and the pins, that lie on an edge between its ends. An edge that is slanted has no line of its own.
+    fn places_on(&self, at: usize, net: &Net) -> Vec<Place> {
+        let Edge { first, second } = self.edges[at];
+        if (first.x != second.x && first.y != second.y) || self.edges.len() > BOUGHT_EDGES {
+            return Vec::new();
+        }
+        let (low, high) = (first.min(second), first.max(second));
+        let between =
+            |place: &Place| low < *place && *place < high && (low.y..=high.y).contains(&place.y);
+        let ends = self.edges.iter().flat_map(|edge| [edge.first, edge.second]);
+        let pins = net.pins.iter().map(|pin| pin.place);
+        let found: BTreeSet<Place> = ends.chain(pins).filter(between).collect();
+        found.into_iter().collect()
     }
 
     /// `line 7, edge 3 (0 0 4 0)`.
@@ -105,14 +146,27 @@ impl Given {
         named(Some(self.lines[at]), "edge", at, &numbers)
     }
 
-    fn each(&self) -> impl Iterator<Item = (String, Place, Place)> + '_ {
-        let edges = self.edges.iter().enumerate();
-        edges.map(|(at, edge)| (self.named(at), edge.first, edge.second))
+    fn entry(&self, at: usize) -> Entry {
+        Entry {
+            kind: Kind::Edge,
+            at,
+            line: Some(self.lines[at]),
+        }
     }
 
-    fn out_of_range(&self) -> Vec<String> {
+    /// What is wrong with an edge.
+    fn wrong(&self, at: usize, what: &str) -> Reason {
+        Reason::of(format!("{}{what}", self.named(at)), &[self.entry(at)])
+    }
+
+    fn each(&self) -> impl Iterator<Item = (usize, Place, Place)> + '_ {
+        let edges = self.edges.iter().enumerate();
+        edges.map(|(at, edge)| (at, edge.first, edge.second))
+    }
+
+    fn out_of_range(&self) -> Vec<Reason> {
         let mut found = Vec::new();
-        for (edge, first, second) in self.each() {
+        for (at, first, second) in self.each() {
             let coordinates = [
                 ("first x", first.x),
                 ("first y", first.y),
@@ -121,76 +175,108 @@ impl Given {
             ];
             let out = |number: i32| number.unsigned_abs() > COORDINATE.unsigned_abs();
             let out = coordinates.iter().filter(|(_, number)| out(*number));
-            found.extend(out.map(|(name, number)| format!("{edge}: the {name} is {number}")));
+            found.extend(
+                out.map(|(name, number)| self.wrong(at, &format!(": the {name} is {number}"))),
+            );
         }
         found
     }
 
-    fn not_clear(&self, entries: &Entries) -> Vec<String> {
+    fn not_clear(&self, entries: &Entries) -> Vec<Reason> {
         let mut found = Vec::new();
-        for (edge, first, second) in self.each() {
+        for (at, first, second) in self.each() {
             if first == second {
-                found.push(format!("{edge} has equal ends"));
+                found.push(self.wrong(at, " has equal ends"));
                 continue;
             }
-            for (at, one) in entries.net.macros.iter().enumerate() {
+            for (macro_at, one) in entries.net.macros.iter().enumerate() {
                 let meets = first.x.min(second.x) < one.right
                     && first.x.max(second.x) > one.left
                     && first.y.min(second.y) < one.top
                     && first.y.max(second.y) > one.bottom;
                 if meets {
-                    let one = entries.named_macro(at);
-                    found.push(format!("{edge} is not clear of {one}"));
+                    let name = entries.named_macro(macro_at);
+                    let mut reason = self.wrong(at, &format!(" is not clear of {name}"));
+                    reason.of.push(entries.one(macro_at));
+                    found.push(reason);
                 }
+            }
+        }
+        found
+    }
+
+    /// Where an edge has to be parted for what lies on it to be joined with it.
+    fn to_split(&self, entries: &Entries) -> Vec<Reason> {
+        let mut found = Vec::new();
+        for at in 0..self.edges.len() {
+            for Place { x, y } in self.places_on(at, entries.net) {
+                let edge = self.named(at);
+                let said = format!("{x} {y} lies on {edge}: split it there (`--split`)");
+                found.push(Reason::of(said, &[self.entry(at)]));
             }
         }
         found
     }
 
     /// Edges given twice, pins at no edge, points with a single edge that are no pins, edges that close a cycle, and parts of their own.
-    fn no_tree(&self, entries: &Entries) -> Vec<String> {
+    fn no_tree(&self, entries: &Entries) -> Vec<Reason> {
         let mut found = Vec::new();
         let mut parts = Parts::default();
         let mut given: BTreeMap<(Place, Place), usize> = BTreeMap::new();
-        for (at, (edge, first, second)) in self.each().enumerate() {
+        let mut edges: BTreeMap<Place, usize> = BTreeMap::new();
+        for (at, first, second) in self.each() {
             let key = (first.min(second), first.max(second));
             match given.get(&key) {
-                Some(&before) => found.push(format!("{edge} is {} again", self.named(before))),
+                Some(&before) => {
+                    let mut reason = self.wrong(at, &format!(" is {} again", self.named(before)));
+                    reason.of.push(self.entry(before));
+                    found.push(reason);
+                }
                 None if !parts.joined(first, second) => {
-                    found.push(format!("{edge} closes a cycle of the edges before it"));
+                    found.push(self.wrong(at, " closes a cycle of the edges before it"));
                 }
                 None => {}
             }
-            given.entry(key).or_insert(at);
+            if given.insert(key, *given.get(&key).unwrap_or(&at)).is_none() {
+                for end in [first, second] {
+                    *edges.entry(end).or_default() += 1;
+                }
+            }
         }
         let pins: BTreeSet<Place> = entries.net.pins.iter().map(|pin| pin.place).collect();
         for (at, pin) in entries.net.pins.iter().enumerate() {
             if pins.len() > 1 && parts.of(pin.place).is_none() {
-                found.push(format!("{} is at no edge's end", entries.named_pin(at)));
+                let said = format!("{} is at no edge's end", entries.named_pin(at));
+                found.push(Reason::of(said, &[entries.pin(at)]));
             }
         }
-        for (edge, first, second) in self.each() {
+        for (at, first, second) in self.each() {
             for end in [first, second] {
-                let edges = given.keys().filter(|(a, b)| *a == end || *b == end);
-                if !pins.contains(&end) && edges.count() == 1 {
+                if !pins.contains(&end) && edges.get(&end) == Some(&1) {
                     let Place { x, y } = end;
-                    found.push(format!(
-                        "{edge} ends at {x} {y}, which is no pin and has no other edge"
-                    ));
+                    let what = format!(" ends at {x} {y}, which is no pin and has no other edge");
+                    found.push(self.wrong(at, &what));
                 }
             }
         }
         let mut known = BTreeSet::new();
-        for (edge, first, _) in self.each() {
+        for (at, first, _) in self.each() {
             if known.insert(parts.of(first)) && known.len() > 1 {
-                found.push(format!(
-                    "{edge} begins a part that is not joined with {}",
-                    self.named(0)
-                ));
+                let what = format!(" begins a part that is not joined with {}", self.named(0));
+                found.push(self.wrong(at, &what));
             }
         }
         found
     }
+}
+
+/// A tree as text, an edge a line.
+pub fn print(edges: &[Edge]) -> String {
+    let line = |edge: &Edge| {
+        let Edge { first, second } = edge;
+        format!("{} {} {} {}\n", first.x, first.y, second.x, second.y)
+    };
+    edges.iter().map(line).collect()
 }
 
 /// Which places are joined, by the number of their part.

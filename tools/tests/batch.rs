@@ -142,7 +142,7 @@ fn lists_and_progress() {
         progress.starts_with("calzundi batch: 2 of 2 nets, 2 routed, 0 not, "),
         "{progress}"
     );
-    assert!(said(&["batch"], b"", 2).contains("a net is missing"));
+    assert!(said(&["batch"], b"", 2).contains("NET is missing"));
 }
 
 /// What a batch sums up from the wires is what the trees' own calls say.

@@ -7,7 +7,7 @@ use std::os::unix::fs::{symlink, PermissionsExt};
 use std::process::Command;
 use std::time::{Duration, Instant};
 
-use common::{example, folder, printed, root, run, said, shell, word, COMMANDS};
+use common::{example, folder, printed, refused, root, run, said, shell, word, COMMANDS};
 
 /// Words that make each command print something.
 fn words_of(command: &str) -> Vec<String> {
@@ -60,7 +60,7 @@ fn a_failed_write_leaves_the_old_file() {
     let line = "trap '' XFSZ; ulimit -f 0; exec \"$0\" \"$@\"";
     let net = example("three-pins");
     for command in ["pack", "unpack", "draw"] {
-        let (status, wrong) = shell(line, &[command, word(&net), word(&to)]);
+        let (status, wrong) = shell(line, &[command, word(&net), "-o", word(&to)]);
         assert_eq!(status, Some(1), "{wrong}");
         assert!(wrong.contains("net.net: "), "{wrong}");
         assert_eq!(fs::read(&to).unwrap(), b"what was there");
@@ -78,14 +78,14 @@ fn a_write_replaces_the_file_that_is_meant() {
     fs::set_permissions(&real, fs::Permissions::from_mode(0o640)).unwrap();
     symlink("real", &link).unwrap();
     let net = example("three-pins");
-    printed(&["unpack", word(&net), word(&link)], b"");
+    printed(&["unpack", word(&net), "-o", word(&link)], b"");
     assert!(fs::symlink_metadata(&link).unwrap().is_symlink());
     assert!(fs::read_to_string(&real).unwrap().starts_with("pin "));
     let mode = fs::metadata(&real).unwrap().permissions().mode();
     assert_eq!(mode & 0o777, 0o640);
-    printed(&["unpack", word(&net), "/dev/null"], b"");
+    printed(&["unpack", word(&net), "-o", "/dev/null"], b"");
     assert!(!fs::metadata("/dev/null").unwrap().is_file());
-    let wrong = said(&["unpack", word(&net), "/dev/full"], b"", 1);
+    let wrong = said(&["unpack", word(&net), "-o", "/dev/full"], b"", 1);
     assert!(wrong.starts_with("calzundi unpack: /dev/full: "), "{wrong}");
 }
 
@@ -102,17 +102,18 @@ fn input_is_never_overwritten() {
     let spelled = folder.join("../overwritten/x");
     for to in [&net, &link, &spelled] {
         for command in ["pack", "unpack", "draw"] {
-            let wrong = said(&[command, word(&net), word(to)], b"", 2);
+            let wrong = said(&[command, word(&net), "-o", word(to)], b"", 2);
             assert!(wrong.contains("it is not written over"), "{wrong}");
         }
     }
-    let words = ["draw", "--routed", word(&routed), word(&net), word(&routed)];
+    let by = ["draw", "--routed", word(&routed), word(&net), "-o"];
+    let words = [&by[..], &[word(&routed)]].concat();
     assert!(said(&words, b"", 2).contains("it is not written over"));
     // Standard input is known by its file too.
     let line = format!("exec \"$0\" \"$@\" <{}", word(&net));
-    assert_eq!(shell(&line, &["pack", "-", word(&net)]).0, Some(2));
+    assert_eq!(shell(&line, &["pack", "-", "-o", word(&net)]).0, Some(2));
     assert_eq!(fs::read(&net).unwrap(), text);
-    printed(&["pack", word(&net), word(&other)], b"");
+    printed(&["pack", word(&net), "-o", word(&other)], b"");
 }
 
 /// `draw` took another net's tree and drew metal through a macro.
@@ -227,7 +228,7 @@ fn refusals_say_their_cause() {
 #[test]
 fn other_commands_say_some_of_it() {
     let all: String = (0..9).map(|x| format!("macro {x} 0 20 9\n")).collect();
-    let wrong = said(&["pack", "-"], format!("pin 0 20\n{all}").as_bytes(), 1);
+    let wrong = refused(&["pack", "-"], format!("pin 0 20\n{all}").as_bytes(), 16);
     let lines: Vec<&str> = wrong.lines().collect();
     assert_eq!(
         lines[0],

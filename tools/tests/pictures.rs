@@ -6,9 +6,10 @@ mod common;
 use std::fs;
 
 use calzundi::{Net, Technology};
-use common::{example, folder, made, printed, root, said, seeds, word};
+use common::{example, folder, made, printed, refused, root, said, seeds, word};
 use reference::generate::{weighted as net, Kind};
 use tools::commands::html;
+use tools::delay::Asked;
 use tools::picture::sheet::sheet;
 use tools::picture::Subject;
 
@@ -21,7 +22,7 @@ fn stored_pictures() {
         ("eight-pins", "eight_pins.svg"),
     ] {
         let anew = folder.join(picture);
-        printed(&["draw", word(&example(name)), word(&anew)], b"");
+        printed(&["draw", word(&example(name)), "-o", word(&anew)], b"");
         let stored = fs::read(root().join("docs").join(picture)).unwrap();
         assert!(
             fs::read(&anew).unwrap() == stored,
@@ -75,12 +76,15 @@ fn discs(picture: &str) -> Vec<(f64, f64)> {
 fn seen(net: &Net, name: &str) {
     let subject = Subject::of(net).unwrap();
     drawn(&subject, subject.routed.refined.metal, name);
-    let technology = Technology {
-        resistance: 0.03,
-        capacitance: 0.0002,
+    let asked = Asked {
+        driver: net.pins[0].place,
+        technology: Technology {
+            resistance: 0.03,
+            capacitance: 0.0002,
+        },
     };
-    let delays = net.delays(net.pins[0].place, technology).unwrap();
-    let delayed = subject.clone().delayed(&delays);
+    let delays = asked.of(net).unwrap();
+    let delayed = subject.clone().delayed(&asked, &delays);
     drawn(&delayed, subject.routed.refined.metal, name);
     let slid = net.slid_tree().unwrap();
     let metal = slid.metal;
@@ -112,13 +116,12 @@ fn drawn(subject: &Subject, metal: i64, name: &str) {
         all.iter().any(|(words, _)| *words == metal),
         "{name}: {metal}"
     );
-    let macros: Vec<&str> = picture
-        .lines()
-        .filter(|line| line.contains("<rect ") && !line.contains("<title>"))
+    let macros = picture.lines();
+    let macros: Vec<&str> = macros
+        .filter(|line| line.contains("<rect ") && line.contains("<title>macro "))
         .collect();
-    // The ground, the macros of two panels and the legend's macro and corner.
-    assert_eq!(macros.len(), 1 + 2 * k + 2, "{name}");
-    for line in &macros[1..1 + 2 * k] {
+    assert_eq!(macros.len(), 2 * k, "{name}");
+    for line in &macros {
         let (width, height) = (attribute(line, "width"), attribute(line, "height"));
         assert!(width >= 7.5 && height >= 7.5, "{name}: {line}");
     }
@@ -267,32 +270,27 @@ fn another_tree_beside_the_refined_one() {
         assert!(best.contains(words), "{words}");
     }
     fs::write(&tree, "3 0 3 1\n3 1 2 1\n2 1 0 1\n2 1 2 3\n").unwrap();
-    let words = ["draw", "--tree", word(&tree), word(&net), word(&picture)];
+    let by = ["draw", "--tree", word(&tree), word(&net), "-o"];
+    let words = [&by[..], &[word(&picture)]].concat();
     assert_eq!(printed(&words, b""), "");
     let drawn = fs::read_to_string(&picture).unwrap();
     assert!(drawn.contains(">tree of another router 6<"), "{drawn}");
     fs::remove_file(&picture).unwrap();
-    for (edges, wrong) in [
-        ("3 0 3 1\n", "refused 35: "),
-        ("0 1 2 3\n", "refused 34: "),
-        ("0 1 2\n", "line 1: "),
-    ] {
-        fs::write(&tree, edges).unwrap();
-        let said = said(&words, b"", 1);
-        let expected = format!("calzundi draw: {}: {wrong}", tree.display());
-        assert!(said.starts_with(&expected), "{said}");
-        assert!(!picture.exists());
-    }
-    let over = ["draw", "--tree", word(&tree), word(&net), word(&tree)];
+    fs::write(&tree, "0 1 2\n").unwrap();
+    let wrong = said(&words, b"", 1);
+    let expected = format!("calzundi draw: {}: line 1: ", tree.display());
+    assert!(wrong.starts_with(&expected), "{wrong}");
+    assert!(!picture.exists());
     fs::write(&tree, printed(&["route", word(&net)], b"")).unwrap();
+    let over = [&by[..], &[word(&tree)]].concat();
     assert!(said(&over, b"", 2).contains("is not written over"));
     for words in [
-        ["--html", "--slid"],
+        ["--html", "--delay=0,0,1,1"],
         ["--slid", "--tree=x"],
         ["--best", "--slid"],
     ] {
         let wrong = said(&["draw", words[0], words[1], word(&net)], b"", 2);
-        assert!(wrong.contains("take one of them"), "{wrong}");
+        assert!(wrong.contains("take one of "), "{wrong}");
     }
 }
 
@@ -304,7 +302,7 @@ fn delays_at_the_pins() {
     for words in [">-1, 0: 0<", ">0, 0: 3.5<", ">2, 0: 5.5<", ">0, 0<"] {
         assert!(picture.contains(words), "{words}");
     }
-    let wrong = said(&["draw", "--delay", "-2,0,1,1", "-"], net, 1);
+    let wrong = refused(&["draw", "--delay", "-2,0,1,1", "-"], net, 39);
     assert!(wrong.contains("refused 39: "), "{wrong}");
     for words in [
         ["--delay=0,0,1", "--routed=x"],

@@ -20,6 +20,7 @@
 --   Bought       sumsOf w pins macros T               the cost and the metal of edges
 --                checkedTree w pins macros edges      the answer of the check of a bought-in tree
 --   Best         bestTree w pins macros work r T      the answer of a best tree into so much lent work and r lent numbers, if it is T
+--   Bound        lowerBound w pins macros left rows n  the answer of a lower bound into so much lent work, if it is n
 -- An answer of an allowed net (`graphGiven` and the like) has only what comes after 11 to 18.
 pub mod Room
 pub mod Graph
@@ -33,3 +34,4 @@ pub mod Delay
 pub mod Price
 pub mod Bought
 pub mod Best
+pub mod Bound

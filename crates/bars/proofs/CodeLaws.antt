@@ -3,13 +3,15 @@
 use mathlib.Core.Path.{_≡_, refl, sym, ap, ap₂, _∙_}
 use mathlib.Core.Bool.{Bool, true, false, not}
 use mathlib.Core.List.{List}
-use Prim.Native.Nat.{ℕ, _-_, _*_, _≤_, _<_}
+use mathlib.Core.Logic.{_⊎_, inl, inr}
+use Prim.Native.Nat.{ℕ, suc, _-_, _*_, _≤_, _<_, max}
 use native.Mathlib.Omega.{arith}
-use native.Mathlib.Nat.{mul-le-mul}
-use borrow.Author.Tests.{le-leb, lt-leb}
-use lib.Dec.{leb}
+use native.Mathlib.Nat.{suc-mul, mul-le-mul, mul-le-mul-right}
+use borrow.Author.Tests.{le-leb, lt-leb, eqb-true, eqb-false}
+use lib.Dec.{eqb, leb}
 use lib.IntN.{ℤ}
 use lib.ListN.{getD}
+use Rattle.lists.proofs.TestLaws.{by, either, differ}
 use Rattle.plane.specs.declared.Place.{Place}
 use Rattle.slide.specs.declared.Side.{Side}
 use Rattle.slide.specs.declared.Move.{Move}
@@ -24,8 +26,10 @@ use Rattle.turned.specs.Turned.{View, view}
 use Rattle.straight.specs.Table.{straightBound, firstEnd}
 use Rattle.labels.specs.Labelling.{leads}
 use Rattle.reach.specs.Passing.{seenBy, wayOf, reached}
+use Rattle.reach.specs.Hopeless.{Near}
 use Rattle.moves.specs.Moving.{weightIn, bar, held, opposite}
-use Rattle.bars.specs.Offers.{moveBy, move, best, reachOf, taken, offered, offeredBoth}
+use Rattle.moves.proofs.MovingLaws.{better-less}
+use Rattle.bars.specs.Offers.{Needed, rateOf, moveBy, move, best, reachOf, taken, offered, offeredBoth}
 
 -- Products that fit
 
@@ -56,6 +60,40 @@ module _ (v : View) (z : Size) (h : Hang) (is : h ≡ hang v (z .edges)) where
       ∙ ap (λ (a : Bar). reached a (wayOf (seenBy (v .points) (v .keys) (v .labels) a) (z .points) (z .edges) ms a))
       (e ∙ ap (λ (g : Hang). bar v (z .points) (g .shortest)) is)
 
+  -- the distance asked for is that of the move, or both are too short to be the best
+  abbrev Judged : List ℤ → Best → ℕ → Type 0
+  Judged ms c d =
+      (d ≡ reachOf v z ms)
+      ⊎ ((better (moveBy v z d) (c .best) ≡ false) × (better (moveBy v z (reachOf v z ms)) (c .best) ≡ false))
+
+  module _ (ms : List ℤ) (c : Best) (d need : ℕ) (near : Near need d (reachOf v z ms)) where
+    -- by less than is needed a move saves less
+    worse : 0 < rateOf v z → need * rateOf v z ≤ c .best .saving → (x : ℕ) → suc x ≤ need → better (moveBy v z x) (c .best) ≡ false
+    worse some much x h =
+        sym (better-less (moveBy v z x) (c .best)
+        (omega (arith, some, much, suc-mul x (rateOf v z), mul-le-mul-right (rateOf v z) h)))
+
+    judged : Needed (c .best .saving) (rateOf v z) need → Judged ms c d
+    judged =
+        either (λ l. inl (omega (arith, near, l)))
+        (λ w.
+        by (eqb d (reachOf v z ms)) (λ e. inl (eqb-true d (reachOf v z ms) e))
+        (λ e.
+        let apart = eqb-false d (reachOf v z ms) e in
+        let low : suc d ≤ need = omega (arith, near, apart) in
+        let low-2 : suc (reachOf v z ms) ≤ need = omega (arith, near, apart) in
+        inr (worse (w .0) (w .1) d low, worse (w .0) (w .1) (reachOf v z ms) low-2)))
+
+  -- as the code has the rate and the bar
+  pub offer-judged : (ms : List ℤ) (c : Best) (b : Bar) (d need g : ℕ) → g ≡ weightIn (z .weights) (v .side)
+      → b ≡ bar v (z .points) (h .shortest)
+      → Near need d (reached b (wayOf (seenBy (v .points) (v .keys) (v .labels) b) (z .points) (z .edges) ms b))
+      → Needed (c .best .saving) ((h .ahead - h .behind) * g) need → Judged ms c d
+  offer-judged ms c b d need g y e near w =
+      let rate = ap₂ (λ (a : Hang) (x : ℕ). (a .ahead - a .behind) * x) is y in
+      judged ms c d need (near ∙ ap (λ (x : ℕ). max x (need - 1)) (reach-of ms b _ e refl))
+      (rw rate at w)
+
   module _ (ms : List ℤ) (seats : List ℕ) (c : Best) where
     pub offer-equal : h .ahead ≤ h .behind → c ≡ offered v z ms seats c
     unfolding offered
@@ -82,18 +120,22 @@ module _ (v : View) (z : Size) (h : Hang) (is : h ≡ hang v (z .edges)) where
           unfolding offered
           offer-held g = sym (rw (offered, unequal, most ∙ k, sym w ∙ g) refl)
 
-          module _ (g : u ≡ false) (n : Move) (d : ℕ) (f : n ≡ moveBy v z d) (e : d ≡ reachOf v z ms) (s : Bool)
+          module _ (g : u ≡ false) (n : Move) (d : ℕ) (f : n ≡ moveBy v z d) (e : Judged ms c d) (s : Bool)
               (r : s ≡ better n (c .best)) where
-            reached-move : n ≡ moveBy v z (reachOf v z ms)
-            reached-move = f ∙ ap (moveBy v z) e
+            better-d : better (moveBy v z d) (c .best) ≡ s
+            better-d = sym (r ∙ ap (λ (a : Move). better a (c .best)) f)
+
+            reached-move : s ≡ true → n ≡ moveBy v z (reachOf v z ms)
+            reached-move a = either (λ q. f ∙ ap (moveBy v z) q) (λ x. differ (better-d ∙ a) (x .0)) e
 
             better-is : better (moveBy v z (reachOf v z ms)) (c .best) ≡ s
-            better-is = sym (r ∙ ap (λ (a : Move). better a (c .best)) reached-move)
+            better-is =
+                either (λ q. ap (λ (x : ℕ). better (moveBy v z x) (c .best)) (sym q) ∙ better-d) (λ x. x .1 ∙ sym (x .0) ∙ better-d) e
 
             pub offer-taken : s ≡ true → best (v .label) n ≡ offered v z ms seats c
             unfolding offered taken
             offer-taken a =
-                ap (best (v .label)) reached-move
+                ap (best (v .label)) (reached-move a)
                 ∙ sym (rw (offered, unequal, most ∙ k, sym w ∙ g) (rw (taken, better-is ∙ a) refl))
 
             pub offer-left : s ≡ false → c ≡ offered v z ms seats c

@@ -2,7 +2,8 @@
 use mathlib.Core.Path.{_≡_}
 use mathlib.Core.Bool.{true, false}
 use mathlib.Core.List.{List}
-use Prim.Native.Nat.{ℕ, _-_, _*_}
+use mathlib.Core.Logic.{_⊎_}
+use Prim.Native.Nat.{ℕ, _-_, _*_, _≤_, _<_}
 use lib.Dec.{leb}
 use lib.IntN.{ℤ, pos}
 use lib.ListN.{length, getD}
@@ -40,6 +41,10 @@ moveBy v z d = move (d * rateOf v z) (placeAt (v .points) (v .label)) (v .side) 
 unfoldable pub reachOf : View → Size → List ℤ → ℕ
 reachOf v z ms =
     let b = bar v (z .points) (hang v (z .edges) .shortest) in reached b (wayOf v (z .points) (z .edges) ms b)
+
+-- by less than r a move at this rate saves less than so much; or r is at most 1
+abbrev pub Needed : ℕ → ℕ → ℕ → Type 0
+Needed saving rate r = (r ≤ 1) ⊎ ((0 < rate) × (r * rate ≤ saving))
 
 unfoldable pub taken : View → Move → Best → Best
 taken v m c = elim (better m (c .best)) [ true ↦ best (v .label) m | false ↦ c ]

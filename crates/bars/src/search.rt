@@ -17,9 +17,23 @@ ghost use Rattle.turned.specs.Steps.{Numbers};
 ghost use Rattle.turned.specs.Turned.{view};
 ghost use Rattle.hanging.specs.Hanging.{hang, Coded, Tallied};
 ghost use Rattle.moves.specs.Moving.{Seated, opposite};
-ghost use Rattle.bars.specs.Offers.{offered, offeredBoth, searched};
+ghost use Rattle.bars.specs.Offers.{Needed, offered, offeredBoth, searched};
 
-// The best so far, or the move of the bar with label l to side s. The distance is asked last: it looks at everything.
+// By less than this a move at this rate saves less than the best so far; at least one.
+fn needed(best: Move, rate: u64) -> u64
+    ensures { λ r. ⌜ Needed (best .saving) rate r ⌝ }
+{
+    if best.saving < rate {
+        return 1;
+    }
+    if rate == 0 {
+        return 1;
+    }
+    best.saving / rate
+}
+
+// The best so far, or the move of the bar with label l to side s. The distance is asked last: it looks at
+// everything, or stops where the move cannot be the best.
 fn offer(
     pts: &[i32; NUMBERS],
     keys: &[usize; POINTS],
@@ -63,6 +77,7 @@ fn offer(
         lab,
         macros,
         moves::bar_of(pts, lab, z.points, s, l, h.shortest),
+        needed(c.best, rate),
     );
     let m = Move {
         saving: d * rate,

@@ -11,6 +11,7 @@ use plane::Weights;
 use tree::NUMBERS;
 use tree::POINTS;
 ghost use mathlib.Core.Path.{_≡_};
+ghost use mathlib.Core.Bool.{true};
 ghost use mathlib.Core.List.{List};
 ghost use Prim.Native.Nat.{ℕ, _*_, _≤_, _<_};
 ghost use lib.ListN.{length, getD};
@@ -21,10 +22,11 @@ ghost use Rattle.forest.specs.Edges.{entries, Below, FirstBelow};
 ghost use Rattle.forest.specs.Labels.{Low};
 ghost use Rattle.forest.specs.Parents.{wayAfter, Nearing};
 ghost use Rattle.lists.specs.Turns.{turns};
-ghost use Rattle.tree.specs.Table.{treeBound, Within};
+ghost use Rattle.tree.specs.Table.{treeBound, pairBound, Small, Within};
 ghost use Rattle.tree.specs.Table as table;
 ghost use Rattle.longest.specs.Longest.{cutOf, longest};
 ghost use Rattle.longest.specs.Hung.{ties, Hanging, Spanned};
+ghost use Rattle.bounds.specs.Carried.{Held, Was};
 ghost use Rattle.beside.specs.Beside.{isPoint, sourcesFrom, takeSeat, Seated, onWay, free, weighed, offer, offers, search, chosenOf};
 
 // Vertices of the graph, and the numbers of their places.
@@ -372,8 +374,14 @@ fn search(
 }
 
 // The candidate that a round takes: of those on the tree the best, unless one beside it gains more.
+// The bounds of edges are those of the tree before, where it is known, and then those of this one.
 pub fn found(
     w: Weights,
+    known: bool,
+    old: &[i32; NUMBERS],
+    m: usize,
+    before: &[usize; POINTS],
+    f: usize,
     pts: &[i32; NUMBERS],
     n: usize,
     macros: &[i32],
@@ -384,14 +392,17 @@ pub fn found(
     far: &[u64; VERTICES],
     up: &[usize; VERTICES],
     seat: &[usize; VERTICES],
+    bound: &mut [u64; POINTS],
 ) -> Choice
     requires { ⌜ Spanned (now keys) e n ⌝ }
     requires { ⌜ (v ≤ pointBound) × (Seated (now seat) v n) ⌝ }
     requires { ⌜ (n * 2 ≤ length (now pts)) × (InOrder (now pts) n) ⌝ }
     requires { ⌜ (v * 2 ≤ length (now vertices)) × (InOrder (now vertices) v) ⌝ }
     requires { ⌜ (Low (now far)) × (Nearing (now far) (now up)) ⌝ }
+    requires { ⌜ (Small pairBound (now before)) × (known ≡ true → Was w (macrosOf (now macros)) (now old) m (now before) f (now bound)) ⌝ }
     ensures { λ r. ⌜ r ≡ chosenOf w (macrosOf (now (macros .entry))) (now (pts .entry)) n (now (keys .entry)) e (now (vertices .entry)) v
         (now (far .entry)) (now (up .entry)) (now (seat .entry)) ⌝ }
+    ensures { λ r. ⌜ Held w (macrosOf (now (macros .entry))) (now (pts .entry)) n (now (keys .entry)) e (now (bound .exit)) ⌝ }
 {
     let mut el = [0u64; POINTS];
     let most = longest::costs(w, pts, keys, e, &mut el);
@@ -400,7 +411,39 @@ pub fn found(
     let mut turn = [0usize; POINTS];
     turn[0] = 1;
     longest::reached(keys, e, &mut onto, &mut link, &mut turn);
-    let on = candidate::search(w, pts, n, macros, keys, e, &el, most, &onto, &link, &turn);
+    bounds::renew(
+        w,
+        known,
+        old,
+        m,
+        before,
+        f,
+        pts,
+        n,
+        macros,
+        keys,
+        e,
+        &el,
+        most,
+        &onto,
+        &link,
+        &turn,
+        &mut *bound,
+    );
+    let on = candidate::search(
+        w,
+        pts,
+        n,
+        macros,
+        keys,
+        e,
+        &el,
+        most,
+        &onto,
+        &link,
+        &turn,
+        &mut *bound,
+    );
     let off = search(
         w,
         pts,

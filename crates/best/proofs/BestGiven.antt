@@ -48,7 +48,7 @@ use Rattle.lines.proofs.EdgeLaws.{x-ascending, y-ascending}
 use Rattle.lines.proofs.LineLaws.{line-order}
 use Rattle.lines.proofs.GridCost.{grid-cost, line-range}
 use Rattle.grid.proofs.NetDistance.{pins-joined}
-use Rattle.grid.proofs.SegmentLaws.{target-even, target-odd}
+use Rattle.grid.proofs.SegmentLaws.{target-even, target-odd, target-above}
 use Rattle.parts.specs.Numbers.{number}
 use Rattle.best.specs.Sets.{Edges, Reaches, JoinsAt}
 use Rattle.best.specs.Masks.{maskPins}
@@ -58,7 +58,7 @@ use Rattle.best.specs.Tree.{BestTree, IsBest}
 use Rattle.best.proofs.CheapestTree.{Cheapest}
 use Rattle.best.proofs.BestTree.{allPins, chosen-ones, ones, table-finite, table-least, cheapest-best}
 use Rattle.best.proofs.LoneLaws.{ones-number}
-use Rattle.traced.proofs.RouteLaws.{turns, target-above, EdgeOf, route-edges}
+use Rattle.traced.proofs.RouteLaws.{turns, EdgeOf, route-edges}
 use Rattle.best.proofs.NetBest.{Tabled, Values, filled, route-joins, crossing-of, pin-on, place-back}
 use Rattle.best.proofs.NetBest.{first-pin, goals-pins, all-pins, value-at, single}
 use Rattle.grid.proofs.TableGrid.{near-grid}

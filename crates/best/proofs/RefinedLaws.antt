@@ -26,7 +26,7 @@ use Rattle.grid_hanan.proofs.LeastLaws.{grid-least, tree-not-cheaper}
 use Rattle.best.specs.Tree.{IsBest}
 
 -- all pairs of two points that one tree holds are joined
-one-tree-joined : {pins : List Place} {T : List Edge} → OneTree pins T → (p q : Place) → p ∈ pins → q ∈ pins → Joined T p q
+pub one-tree-joined : {pins : List Place} {T : List Edge} → OneTree pins T → (p q : Place) → p ∈ pins → q ∈ pins → Joined T p q
 one-tree-joined {pins} {T} o p q i k = at (place-same p q)
   where
     at : Dec (p ≡ q) → Joined T p q

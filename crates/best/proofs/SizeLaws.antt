@@ -1,12 +1,13 @@
--- How many sets of pins there are, and the work cleared.
+-- How many sets of pins there are, and a lent list filled with one number.
 -- Assumes nothing.
 use mathlib.Core.Path.{_≡_, refl, sym, ap, subst, _∙_}
 use mathlib.Core.List.{List}
 use Prim.Native.Nat.{ℕ, zero, suc, _+_, _-_, _^_, _≤_, _<_}
 use native.Mathlib.Omega.{arith}
-use lib.ListN.{length, set, replicate, length-replicate, replicate-append-replicate}
+use lib.ListN.{length, set, take, replicate, length-replicate, replicate-append-replicate}
+use lib.Seq.{take-length}
 use Rattle.lent.specs.Over.{over}
-use Rattle.lent.proofs.OverLaws.{over-none, over-more}
+use Rattle.lent.proofs.OverLaws.{over-none, over-more, take-over}
 
 -- How many sets
 
@@ -34,15 +35,21 @@ sets-bound (suc (suc (suc (suc zero)))) n e h k = let z : n ≡ 8 = e in (omega 
 sets-bound (suc (suc (suc (suc (suc zero))))) n e h k = let z : n ≡ 16 = e in (omega (arith, z), omega (arith, z))
 sets-bound (suc (suc (suc (suc (suc (suc m)))))) n e h k = absurd (let z : ⊥ = omega (arith, k) in z)
 
--- The work cleared
+-- The first numbers of a list put to x
 
-pub clear-none : (w : List ℕ) → w ≡ over (replicate 0 0) w
-clear-none w = sym (over-none w)
+pub filled-none : (x : ℕ) (w : List ℕ) → w ≡ over (replicate 0 x) w
+filled-none x w = sym (over-none w)
 
-pub clear-more : (i : ℕ) (w t : List ℕ) → i < length w → t ≡ over (replicate i 0) w → set t i 0 ≡ over (replicate (i + 1) 0) w
-clear-more i w t h e =
-    ap (λ (l : List ℕ). set l i 0) e ∙ over-more (replicate i 0) w i 0 (length-replicate i 0) h
-    ∙ ap (λ (l : List ℕ). over l w) (replicate-append-replicate i 1 0)
+pub filled-more : (x i : ℕ) (w t : List ℕ) → i < length w → t ≡ over (replicate i x) w → set t i x ≡ over (replicate (i + 1) x) w
+filled-more x i w t h e =
+    ap (λ (l : List ℕ). set l i x) e ∙ over-more (replicate i x) w i x (length-replicate i x) h
+    ∙ ap (λ (l : List ℕ). over l w) (replicate-append-replicate i 1 x)
 
-pub clear-end : (i n : ℕ) (w t : List ℕ) → i ≤ n → n ≤ i → t ≡ over (replicate i 0) w → t ≡ over (replicate n 0) w
-clear-end i n w t h k e = let f : i ≡ n = omega (arith, h, k) in subst (λ (j : ℕ). t ≡ over (replicate j 0) w) f e
+pub filled-end : (x i n : ℕ) (w t : List ℕ) → i ≤ n → n ≤ i → t ≡ over (replicate i x) w → t ≡ over (replicate n x) w
+filled-end x i n w t h k e = let f : i ≡ n = omega (arith, h, k) in subst (λ (j : ℕ). t ≡ over (replicate j x) w) f e
+
+-- all of them
+pub filled-all : (x n : ℕ) (w t : List ℕ) → length t ≡ n → t ≡ over (replicate n x) w → t ≡ replicate n x
+filled-all x n w t l e =
+    sym (take-length t) ∙ ap (λ (k : ℕ). take k t) (l ∙ sym (length-replicate n x)) ∙ ap (take (length (replicate n x))) e
+    ∙ take-over (replicate n x) w

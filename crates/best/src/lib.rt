@@ -58,13 +58,13 @@ fn masks(m: usize) -> usize
     Best::MASKS
 }
 
-// The first numbers of the work are cleared.
-fn clear(work: &mut [u32])
-    requires { ⌜ workBound ≤ length (now work) ⌝ }
-    ensures { λ _. ⌜ now (work .exit) ≡ over (replicate workBound 0) (now (work .entry)) ⌝ }
+// The first n numbers of a lent list are cleared.
+pub fn clear(work: &mut [u32], n: usize)
+    requires { ⌜ n ≤ length (now work) ⌝ }
+    ensures { λ _. ⌜ now (work .exit) ≡ over (replicate n 0) (now (work .entry)) ⌝ }
 {
     let mut i = 0;
-    while i < Best::WORK {
+    while i < n {
         work[i] = 0;
         i += 1;
     }
@@ -199,7 +199,7 @@ pub fn best_tree(
     let total = traced::read_back(&*work, &costs, e, m - 1, n, numbers[0], &mut used);
     let metal = metal(&xs, &ys, &used, e);
     let count = put_edges(&xs, &ys, &used, e, &mut *edges);
-    clear(&mut *work);
+    clear(&mut *work, Best::WORK);
     Best {
         edges: count,
         total: total,

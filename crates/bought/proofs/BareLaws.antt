@@ -29,6 +29,13 @@ use Rattle.bought.specs.Verdict.{endsAt, bare}
 use Rattle.bought.proofs.EdgeLaws.{of-ends, link-end}
 use Rattle.bought.proofs.ScanLaws.{at-hit, at-miss, at-end}
 
+-- two tests that fail together are the same
+pub as-false : (p q : Bool) → (p ≡ false → q ≡ false) → (q ≡ false → p ≡ false) → p ≡ q
+as-false true true f g = refl
+as-false true false f g = g refl
+as-false false true f g = sym (f refl)
+as-false false false f g = refl
+
 -- two different places
 pub same-false : (a b : Place) → (a ≡ b → ⊥) → samePlace a b ≡ false
 same-false a b n = by (samePlace a b) (λ e. absurd (n (same-true a b e))) (λ e. e)
@@ -95,6 +102,9 @@ module _ (v : Place) where
       at z (inl i) = record { other = z; link = inl i; alone = bare-rest i (omega (arith, hit-one v refl)) }
       at z (inr i) = record { other = z; link = inr i; alone = bare-rest i (omega (arith, hit-one v refl)) }
 
+pub found-same : (l : List Place) (v : Place) → v ∈ l → any (samePlace v) l ≡ true
+found-same l v m = by (any (samePlace v) l) (λ e. e) (λ e. differ (same-refl v) (any-none (samePlace v) l e v m))
+
 -- V6: the test, and what it says
 module _ (pins : List Place) (T : List Edge) where
   pub bare-pinned : any (bare pins (endsOf T)) (endsOf T) ≡ false → ((e : Edge) → e ∈ T → e .0 ≡ e .1 → ⊥) →
@@ -118,12 +128,8 @@ module _ (pins : List Place) (T : List Edge) where
   pinned-bare h =
       none-any (bare pins (endsOf T)) (endsOf T) (λ v m.
       by (eqb (endsAt (endsOf T) v) 1)
-      (λ e. rw (e, found pins v (h v (one-single v T m (eqb-true _ 1 e)))) refl)
+      (λ e. rw (e, found-same pins v (h v (one-single v T m (eqb-true _ 1 e)))) refl)
       (λ e. rw e refl))
-    where
-      found : (l : List Place) (v : Place) → v ∈ l → any (samePlace v) l ≡ true
-      found l v m =
-          by (any (samePlace v) l) (λ e. e) (λ e. differ (same-refl v) (any-none (samePlace v) l e v m))
 
 -- without those at x as many are at any other place
 kept-at : (x y : Place) → (y ≡ x → ⊥) → (l : List Place) → endsAt l y ≡ endsAt (those (λ z. not (samePlace x z)) l) y

@@ -1,9 +1,10 @@
 pub mod EdgeLaws
 pub mod ScanLaws
 pub mod TreeTest
-pub mod TreeSteps
 pub mod VerdictLaws
 pub mod BareLaws
+pub mod CountLaws
+pub mod TreeSteps
 pub mod PassLaws
 pub mod LoneLaws
 pub mod OrderLaws

@@ -44,7 +44,7 @@ use Rattle.bought.specs.Rearranged.{Rearranged, none, keep, turn, swap, 
 use Rattle.bought.specs.Verdict.{edgesMiscounted, unfit, isTree, endsAt, bare, noTree, verdict, bought}
 use Rattle.bought.proofs.EdgeLaws.{of-ends, link-end}
 use Rattle.bought.proofs.TreeTest.{points-ascending, pin-point, end-point, of-points, tree-of, of-tree}
-use Rattle.bought.proofs.BareLaws.{ends-more}
+use Rattle.bought.proofs.BareLaws.{as-false, ends-more}
 use Rattle.bought.proofs.VerdictLaws.{whole, miscounted-33}
 
 -- What a rearrangement keeps
@@ -106,12 +106,6 @@ among-kept : {T U : List Edge} → Rearranged T U → Among (endsOf T) (endsOf U
 among-kept {T} {U} r x m = link-end U (link-kept r (of-ends T m .1))
 
 -- Tests that imply each other
-
-as-false : (p q : Bool) → (p ≡ false → q ≡ false) → (q ≡ false → p ≡ false) → p ≡ q
-as-false true true f g = refl
-as-false true false f g = g refl
-as-false false true f g = sym (f refl)
-as-false false false f g = refl
 
 as-true : (p q : Bool) → (p ≡ true → q ≡ true) → (q ≡ true → p ≡ true) → p ≡ q
 as-true true true f g = refl

@@ -1,7 +1,7 @@
 -- The verdict by its cases, in the order of the tests.
 -- Assumes nothing.
-use mathlib.Core.Path.{_≡_, refl, sym, ap, ap₂, _∙_}
-use mathlib.Core.Bool.{Bool, true, false, not}
+use mathlib.Core.Path.{_≡_, refl, ap₂, _∙_}
+use mathlib.Core.Bool.{true, false, not}
 use mathlib.Core.List.{List, [], _∷_}
 use Prim.Native.Nat.{_+_, _/_, _%_, _≤_}
 use borrow.Author.Tests.{eqb-true, ltb-false, not-false}
@@ -13,17 +13,14 @@ use Rattle.lists.specs.Total.{total}
 use Rattle.lists.proofs.TestLaws.{or-none}
 use Rattle.lent.specs.Told.{refused, given}
 use Rattle.joined.specs.Cost.{lengths}
-use Rattle.plane.specs.declared.Place.{Place}
 use Rattle.plane.specs.Distance.{distance}
 use Rattle.plane.specs.Cost.{cost, plain}
-use Rattle.plane.specs.Flat.{placesOf}
 use Rattle.plane.proofs.CostLaws.{cost-plain}
 use Rattle.net.specs.Net.{Net, costIn}
 use Rattle.net.specs.Tests.{outOfRange}
 use Rattle.bought.specs.Bounds.{boughtBound}
 use Rattle.bought.specs.Edges.{Edge, edgesOf}
-use Rattle.bought.specs.Verdict.{edgesMiscounted, unfit, isTree, bare, noTree, verdict, bought}
-use Rattle.bought.proofs.EdgeLaws.{places-ends}
+use Rattle.bought.specs.Verdict.{edgesMiscounted, unfit, noTree, verdict, bought}
 
 module _ (net : Net) (T : List Edge) where
   pub verdict-unfit : any (unfit (net .macros)) T ≡ true → verdict net T ≡ refused 34
@@ -68,23 +65,12 @@ module _ (net : Net) (s : List ℤ) where
       unfit-34 e = past-33 ∙ verdict-unfit net (edgesOf s) e
 
       module _ (fit : any (unfit (net .macros)) (edgesOf s) ≡ false) where
-        pub tree-35 : isTree (net .pins) (edgesOf s) ≡ false → bought net s ≡ refused 35
-        unfolding noTree
-        tree-35 e = past-33 ∙ verdict-none net (edgesOf s) fit (rw e refl)
+        pub none-35 : noTree (net .pins) (edgesOf s) ≡ true → bought net s ≡ refused 35
+        none-35 e = past-33 ∙ verdict-none net (edgesOf s) fit e
 
-        module _ (tree : isTree (net .pins) (edgesOf s) ≡ true) where
-          -- the ends are the places of the list
-          loose : {b : Bool} → any (bare (net .pins) (placesOf s)) (placesOf s) ≡ b → noTree (net .pins) (edgesOf s) ≡ b
-          unfolding noTree
-          loose {b} e =
-              rw tree (ap (λ (l : List Place). any (bare (net .pins) l) l) (sym (places-ends s whole)) ∙ e)
-
-          pub bare-35 : any (bare (net .pins) (placesOf s)) (placesOf s) ≡ true → bought net s ≡ refused 35
-          bare-35 e = past-33 ∙ verdict-none net (edgesOf s) fit (loose e)
-
-          pub passed : any (bare (net .pins) (placesOf s)) (placesOf s) ≡ false →
-              bought net s ≡ given (pos (lengths (costIn net) (edgesOf s)), pos (lengths distance (edgesOf s)))
-          passed e = past-33 ∙ verdict-passed net (edgesOf s) fit (loose e)
+        pub passed : noTree (net .pins) (edgesOf s) ≡ false →
+            bought net s ≡ given (pos (lengths (costIn net) (edgesOf s)), pos (lengths distance (edgesOf s)))
+        passed e = past-33 ∙ verdict-passed net (edgesOf s) fit e
 
 -- with weights of 1 the cost is the metal
 pub plain-lengths : (T : List Edge) → lengths (cost plain) T ≡ lengths distance T

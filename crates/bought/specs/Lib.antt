@@ -14,9 +14,11 @@
 --              oneGroup, isTree, bare          the tests for 35
 --              verdict net T, bought net s     34, 35 or cost and metal; 33 before them
 --              toldVerdict r                   what the code's answer says
+--   Counted    metBy, bareAt                   the edges of each point counted by its number, and V6 by that count
 --   Rearranged Rearranged T U, SameEdges s t   the same edges in another order, any of them from its other end; in flat lists
 pub mod Bounds
 pub mod Edges
 pub mod Passes
 pub mod Verdict
+pub mod Counted
 pub mod Rearranged

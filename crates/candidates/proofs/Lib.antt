@@ -1,3 +1,4 @@
 pub mod CandidateLaws
 pub mod NearLaws
 pub mod CandidateBounds
+pub mod BoundLaws

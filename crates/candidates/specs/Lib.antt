@@ -11,5 +11,7 @@
 --              weighed, offer, search      the best candidate so far with one more; the one that a round takes
 --              found                       the same from the tables of a tree
 --   Taken      Taken                       what is known of a candidate that a round takes
+--   Bounded    Bounded                     what each edge can gain at most
 pub mod Candidate
 pub mod Taken
+pub mod Bounded

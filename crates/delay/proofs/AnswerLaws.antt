@@ -1,31 +1,28 @@
 -- What the code answers by numbers of points is what the rules say of the tree's edges, its pins and their loads.
 -- Assumes nothing.
-use mathlib.Core.Path.{_≡_, refl, sym, ap, ap₂, _∙_}
-use mathlib.Core.Bool.{Bool, true, false, _&&_, _||_}
+use mathlib.Core.Path.{_≡_, refl, sym, ap, _∙_}
+use mathlib.Core.Bool.{Bool, true, false, _||_}
 use mathlib.Core.List.{List, [], _∷_, map, List·Memᴰ·cases-cons, Memᴰ·cast}
 use Prim.Native.Nat.{ℕ, zero, suc, _+_, _≤_, _<_}
 use native.Mathlib.Omega.{arith}
 use lib.IntN.{ℤ}
 use lib.Dec.{eqb, ltb}
-use lib.ListN.{length, getD, replicate, length-replicate, getD-replicate}
+use lib.ListN.{getD, replicate, length-replicate, getD-replicate}
 use lib.Ieee.{Float, nan}
-use borrow.Author.Tests.{ltb-true, ltb-false, lt-ltb, le-ltb}
+use borrow.Author.Tests.{ltb-true, ltb-false}
 use Rattle.lists.specs.Any.{any}
 use Rattle.lists.specs.Member.{_∈_, here, there, Among}
 use Rattle.lists.specs.Sorted.{sorted, Ascending}
-use Rattle.lists.specs.Turns.{seek}
 use Rattle.lists.proofs.AnyLaws.{any-none}
-use Rattle.lists.proofs.TestLaws.{by, differ, either, and-left, and-right, and-both}
+use Rattle.lists.proofs.TestLaws.{by, differ, either, and-right, and-both}
 use Rattle.lists.proofs.MapLaws.{in-map, of-map, map-then}
 use Rattle.lists.proofs.SortedLaws.{of-sorted, in-sorted, sorted-ascending, ascending-same}
-use Rattle.lent.specs.Told.{Told}
-use Rattle.lent.specs.Over.{after}
 use Rattle.plane.specs.declared.Place.{Place}
 use Rattle.plane.specs.Place.{before, samePlace}
 use Rattle.plane.specs.Distance.{distance}
 use Rattle.plane.specs.Flat.{placeAt}
 use Rattle.plane.specs.Rank.{InOrder}
-use Rattle.plane.proofs.PlaceLaws.{same-true, same-refl, same-comm}
+use Rattle.plane.proofs.PlaceLaws.{same-true, same-refl}
 use Rattle.plane.proofs.PlaceOrder.{place-order}
 use Rattle.tree.specs.Table.{treeBound, Within}
 use Rattle.tree.specs.Places.{Ranked}
@@ -33,13 +30,12 @@ use Rattle.tree.specs.Edges.{tableEdges}
 use Rattle.tree.proofs.EdgeLaws.{edges-count}
 use Rattle.exchanges.proofs.OpenedLaws.{seek-before, seek-hit}
 use Rattle.floats.specs.declared.Technology.{Technology}
-use Rattle.floats.specs.declared.Delay.{Delay}
 use Rattle.floats.specs.Float as float
 use Rattle.elmore.specs.Rooted.{Branches, Every, rooted, hanging}
 use Rattle.elmore.specs.Elmore.{delays, delayIn}
-use Rattle.floats.specs.Mark.{marked, finites, usable, isPin, pinsFrom, marksFrom}
-use Rattle.delay.specs.Answer.{delayOf, marksOf, delayed, delayAnswer}
-use Rattle.elmore.specs.Table.{hung, apartIn, loadIn, stored}
+use Rattle.floats.specs.Mark.{marked, isPin, pinsFrom, marksFrom}
+use Rattle.delay.specs.Answer.{delayOf, marksOf}
+use Rattle.elmore.specs.Table.{hung, apartIn, loadIn}
 use Rattle.delay.specs.Table.{isDriver, driverIn, tableFrom}
 use Rattle.elmore.proofs.CarriedLaws.{delayIn-renamed, delays-renamed, delays-every, stored-read}
 use Rattle.elmore.proofs.PlaceLaws.{same-number, hung-places, hung-small}
@@ -91,18 +87,6 @@ in-pins pin (suc n) i k l h e =
     let more = in-pins pin n (i + 1) k (omega (arith, ltb-true i k t)) (omega arith) e in
     by (isPin pin i) (λ p. rw (pins-hit pin i n p) (there more)) (λ p. rw (pins-miss pin i n p) more))
     (λ t. let z : k ≡ i = omega (arith, ltb-false i k t) in rw (pins-hit pin i n (rw (← z) e)) (here z))
-
--- Where the driver is not found, no mark is looked at, and what is lent stays
-none-found : (room m : ℕ) (t : Technology) (k l : List Delay) → delayed room m t false k ≡ delayed room m t false l
-unfolding delayed
-none-found room m t k l = refl
-
-none-lent : (room m : ℕ) (t : Technology) (k : List Delay) (xs ys lent : List Float)
-    → after (delayed room m t false k) xs lent ≡ after (delayed room m t false k) ys lent
-unfolding delayed after
-none-lent room m t k xs ys lent =
-    by (ltb room m) (λ e. rw (delayed, e) refl)
-    (λ e. by (usable t) (λ u. rw (delayed, e, u) refl) (λ u. rw (delayed, e, u) refl))
 
 -- Tables in order, with the pins of a list marked, and their loads
 
@@ -189,25 +173,15 @@ module _ (pts : List ℤ) (ks : List ℕ) (N e : ℕ) (order : InOrder pts N) (w
           (λ i m. ap marked (sym (table-delay d i hd (omega (arith, of-pins pin N 0 i m .high))))))
           ∙ ap (map (λ q. marked (delayOf edges load t (at d) q))) pins-places
 
-      -- the driver is found where it is a pin
-      module _ (driver : Place) where
+      -- the driver, where it is a pin, is found, and its marks are those of the rules
+      module _ (driver : Place) (stands : any (samePlace driver) pins ≡ true) where
         abbrev number : ℕ
         number = driverIn pts pin N driver
 
-        driver-at : number < N → at number ≡ driver
+        pub driver-found : number < N
         unfolding isDriver
-        driver-at h =
-            same-true (at number) driver
-            (and-right (isPin pin number) (samePlace (at number) driver) (seek-hit (isDriver pts pin driver) N 0 (omega (arith, h))))
-
-        driver-pin : number < N → isPin pin number ≡ true
-        unfolding isDriver
-        driver-pin h =
-            and-left (isPin pin number) (samePlace (at number) driver) (seek-hit (isDriver pts pin driver) N 0 (omega (arith, h)))
-
-        is-there : driver ∈ pins → number < N
-        unfolding isDriver
-        is-there m =
+        driver-found =
+            let m = of-any driver pins stands in
             let r = among driver m in
             let here-pin : isPin pin (r .0) ≡ true = marks (r .0) (r .1 .0) ∙ in-any (at (r .0)) pins (Memᴰ·cast (sym (r .1 .1)) m) in
             let here-place : samePlace (at (r .0)) driver ≡ true = ap (samePlace (at (r .0))) (r .1 .1) ∙ same-refl (at (r .0)) in
@@ -216,45 +190,12 @@ module _ (pts : List ℤ) (ks : List ℕ) (N e : ℕ) (order : InOrder pts N) (w
             differ (and-both (isPin pin (r .0)) (samePlace (at (r .0)) driver) here-pin here-place)
             (seek-before (isDriver pts pin driver) N 0 (r .0) (omega arith) (omega (arith, r .1 .0, ltb-false number N b))))
 
-        driver-found : ltb number N ≡ any (samePlace driver) pins
-        driver-found =
-            by (ltb number N)
-            (λ b.
-            let h = ltb-true number N b in
-            b
-            ∙ sym (ap (λ (q : Place). any (samePlace q) pins) (sym (driver-at h)) ∙ sym (marks number h) ∙ driver-pin h))
-            (λ b. b ∙ by (any (samePlace driver) pins)
-            (λ c. differ (lt-ltb number N (is-there (of-any driver pins c))) b) (λ c. sym c))
+        driver-at : at number ≡ driver
+        unfolding isDriver
+        driver-at =
+            same-true (at number) driver
+            (and-right (isPin pin number) (samePlace (at number) driver)
+            (seek-hit (isDriver pts pin driver) N 0 (omega (arith, driver-found))))
 
-        -- what is answered, and what is then lent
-        module _ (room m : ℕ) (count : m ≡ length pins) where
-          abbrev told : Told ℕ
-          told = delayed room m t (ltb number N) (marksFrom (tableFrom pts ks e loads t number) pin 0 N)
-
-          marks-found : number < N → marksFrom (tableFrom pts ks e loads t number) pin 0 N ≡ marksOf edges load t driver pins
-          marks-found h = marks-places number h ∙ ap (λ (q : Place). marksOf edges load t q pins) (driver-at h)
-
-          pub answer-places : told ≡ delayAnswer edges load pins t driver room
-          unfolding delayAnswer
-          answer-places =
-              by (ltb number N)
-              (λ b. ap₂ (λ (f : Bool) (l : List Delay). delayed room m t f l) driver-found (marks-found (ltb-true number N b)))
-              (λ b.
-              ap (λ (f : Bool). delayed room m t f (marksFrom (tableFrom pts ks e loads t number) pin 0 N)) b
-              ∙ none-found room m t (marksFrom (tableFrom pts ks e loads t number) pin 0 N) (marksOf edges load t driver pins)
-              ∙ ap (λ (f : Bool). delayed room m t f (marksOf edges load t driver pins)) (sym b ∙ driver-found))
-              ∙ ap (λ (k : ℕ). delayed room k t (any (samePlace driver) pins) (marksOf edges load t driver pins)) count
-
-          pub lent-places : (lent : List Float) → after told (finites (marksFrom (tableFrom pts ks e loads t number) pin 0 N)) lent
-              ≡ after (delayAnswer edges load pins t driver room) (finites (marksOf edges load t driver pins)) lent
-          lent-places lent =
-              by (ltb number N)
-              (λ b. ap (λ (l : List Delay). after told (finites l) lent) (marks-found (ltb-true number N b)))
-              (λ b.
-              ap (λ (f : Bool). after (delayed room m t f marks′) (finites marks′) lent) b
-              ∙ none-lent room m t marks′ (finites marks′) (finites (marksOf edges load t driver pins)) lent
-              ∙ ap (λ (f : Bool). after (delayed room m t f marks′) (finites (marksOf edges load t driver pins)) lent) (sym b))
-              ∙ ap (λ (a : Told ℕ). after a (finites (marksOf edges load t driver pins)) lent) answer-places
-            where
-              marks′ : List Delay
-              marks′ = marksFrom (tableFrom pts ks e loads t number) pin 0 N
+        pub driver-marks : marksFrom (tableFrom pts ks e loads t number) pin 0 N ≡ marksOf edges load t driver pins
+        driver-marks = marks-places number driver-found ∙ ap (λ (q : Place). marksOf edges load t q pins) driver-at

@@ -1,58 +1,56 @@
--- The answer, refusal by refusal, from what the code has found.
+-- The answer, refusal by refusal; and the table that the passes leave.
 -- Assumes nothing.
-use mathlib.Core.Path.{_≡_, refl, sym, ap, ap₂, _∙_}
+use mathlib.Core.Path.{_≡_, refl, ap, _∙_}
 use mathlib.Core.Bool.{Bool, true, false}
 use mathlib.Core.List.{List}
 use Prim.Native.Nat.{ℕ, _≤_, _<_}
-use native.Mathlib.Omega.{arith}
 use lib.IntN.{ℤ}
-use lib.Dec.{ltb}
 use lib.ListN.{replicate}
 use lib.Ieee.{Float, binary64, ofBits}
 use borrow.Author.Tests.{lt-ltb, le-ltb}
 use Rattle.lists.specs.Any.{any}
-use Rattle.net.specs.declared.Refusal.the-variants.{Space, TechnologyRange, DriverNotPin, DelayNotFinite}
-use Rattle.net.specs.Answer.{number}
+use Rattle.lent.specs.Told.{refused, given}
 use Rattle.tree.specs.Table.{treeBound}
 use Rattle.floats.specs.declared.Technology.{Technology}
 use Rattle.floats.specs.declared.Delay.{Delay}
-use Rattle.delay.specs.declared.Delayed.the-variants as the
 use Rattle.floats.specs.Float as float
 use Rattle.elmore.specs.Elmore.{delays}
 use Rattle.floats.specs.Mark.{isMark, usable}
-use Rattle.delay.specs.Answer.{delayed, toldDelays}
+use Rattle.delay.specs.Answer.{unlessMarked, delayed}
 use Rattle.elmore.specs.Table.{hung, apartIn, loadIn, stored}
 use Rattle.delay.specs.Table.{tableFrom}
 use Rattle.floats.proofs.MarkLaws.{zero-bits}
 
-module _ (room m : ℕ) (t : Technology) (driver n : ℕ) (marks : List Delay) where
-  pub told-space : room < m → toldDelays (the.Refused Space) ≡ delayed room m t (ltb driver n) marks
-  unfolding toldDelays number delayed
-  told-space h = rw (delayed, lt-ltb room m h) refl
+-- What is said before there is a tree
+
+module _ (room m : ℕ) (t : Technology) (found : Bool) (marks : List Delay) where
+  pub delayed-space : room < m → delayed room m t found marks ≡ refused 21
+  unfolding delayed
+  delayed-space h = rw (lt-ltb room m h) refl
 
   module _ (enough : m ≤ room) where
-    pub told-technology : (b : Bool) → b ≡ usable t → b ≡ false
-        → toldDelays (the.Refused TechnologyRange) ≡ delayed room m t (ltb driver n) marks
-    unfolding toldDelays number delayed
-    told-technology b e f = rw (delayed, le-ltb room m enough, sym e ∙ f) refl
+    pub delayed-technology : usable t ≡ false → delayed room m t found marks ≡ refused 38
+    unfolding delayed
+    delayed-technology u = rw (le-ltb room m enough, u) refl
 
-    module _ (b : Bool) (e : b ≡ usable t) (f : b ≡ true) where
-      pub told-driver : (d : ℕ) → d ≡ driver → d ≡ n → toldDelays (the.Refused DriverNotPin) ≡ delayed room m t (ltb driver n) marks
-      unfolding toldDelays number delayed
-      told-driver d g h = rw (delayed, le-ltb room m enough, sym e ∙ f, le-ltb driver n (omega (arith, g, h))) refl
+    module _ (fair : usable t ≡ true) where
+      pub delayed-driver : found ≡ false → delayed room m t found marks ≡ refused 39
+      unfolding delayed
+      delayed-driver f = rw (le-ltb room m enough, fair, f) refl
 
-      module _ (d : ℕ) (g : d ≡ driver) (h : (d ≤ n) × (d ≡ n → ⊥)) where
-        found : driver < n
-        found = omega (arith, g, h .0, h .1)
+      pub delayed-passed : found ≡ true → delayed room m t found marks ≡ unlessMarked m marks
+      unfolding delayed
+      delayed-passed f = rw (le-ltb room m enough, fair, f) refl
 
-        pub told-mark : (r : Bool) → r ≡ any isMark marks → r ≡ true
-            → toldDelays (the.Refused DelayNotFinite) ≡ delayed room m t (ltb driver n) marks
-        unfolding toldDelays number delayed
-        told-mark r i k = rw (delayed, le-ltb room m enough, sym e ∙ f, lt-ltb driver n found, sym i ∙ k) refl
+-- What the delays say
 
-        pub told-given : (r : Bool) → r ≡ any isMark marks → r ≡ false → toldDelays (the.Given m) ≡ delayed room m t (ltb driver n) marks
-        unfolding toldDelays number delayed
-        told-given r i k = rw (delayed, le-ltb room m enough, sym e ∙ f, lt-ltb driver n found, sym i ∙ k) refl
+pub told-mark : (m : ℕ) (marks : List Delay) → any isMark marks ≡ true → unlessMarked m marks ≡ refused 40
+unfolding unlessMarked
+told-mark m marks e = rw e refl
+
+pub told-given : (m : ℕ) (marks : List Delay) → any isMark marks ≡ false → unlessMarked m marks ≡ given m
+unfolding unlessMarked
+told-given m marks e = rw e refl
 
 -- the table that the passes leave
 pub table-is : (pts : List ℤ) (ks : List ℕ) (e : ℕ) (loads : List ℕ) (t : Technology) (d driver : ℕ) (table : List Float)

@@ -19,7 +19,7 @@ use Rattle.floats.specs.Float.{zero, finite}
 use Rattle.elmore.specs.Rooted.{sprout, neighbours, children, hanging, rooted}
 use Rattle.elmore.specs.Elmore.{technology, gathered, delays, delayIn}
 use Rattle.floats.specs.Mark.{marked, isMark, fair, usable}
-use Rattle.delay.specs.Answer.{delayOf, marksOf, delayed, delayAnswer}
+use Rattle.delay.specs.Answer.{delayOf, marksOf, unlessMarked, delayed, delayAnswer}
 
 abbrev first : Place
 first = place (negsuc 0) (pos 0)
@@ -54,7 +54,7 @@ least = fin false 1 (negsuc 1073)
 
 -- everything that a worked net computes
 unfoldable answerFor : Technology → Place → ℕ
-unfolding delayAnswer delayed usable fair finite lt marksOf marked isMark any sorted put before samePlace delayOf delayIn delays
+unfolding delayAnswer delayed unlessMarked usable fair finite lt marksOf marked isMark any sorted put before samePlace delayOf delayIn delays
     gathered rooted hanging sprout children neighbours those distance apart add mul ofInt
 answerFor t driver = 0
 

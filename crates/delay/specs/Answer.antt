@@ -29,12 +29,15 @@ delayOf es load t driver q = delayIn samePlace q zero (delays distance load t dr
 unfoldable pub marksOf : List (Place × Place) → (Place → ℕ) → Technology → Place → List Place → List Delay
 marksOf es load t driver pins = map (λ q. marked (delayOf es load t driver q)) (sorted before pins)
 
+-- C40: 40 where there is a mark, otherwise how many delays are given
+unfoldable pub unlessMarked : ℕ → List Delay → Told ℕ
+unlessMarked m marks = cond (any isMark marks) (refused 40) (given m)
+
 -- C85, in this order: 21, room for fewer than m delays; 38, a technology that is not usable; 39, the driver is not found among the
--- pins; 40, a mark. Otherwise how many delays are given.
+-- pins; then what the delays say, and nothing before them asks for a tree
 unfoldable pub delayed : ℕ → ℕ → Technology → Bool → List Delay → Told ℕ
 delayed room m t found marks =
-    cond (ltb room m) (refused 21)
-    (cond (not (usable t)) (refused 38) (cond (not found) (refused 39) (cond (any isMark marks) (refused 40) (given m))))
+    cond (ltb room m) (refused 21) (cond (not (usable t)) (refused 38) (cond (not found) (refused 39) (unlessMarked m marks)))
 
 -- the answer for a tree of edges, with the pins' loads
 unfoldable pub delayAnswer : List (Place × Place) → (Place → ℕ) → List Place → Technology → Place → ℕ → Told ℕ

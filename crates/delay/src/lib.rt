@@ -10,12 +10,11 @@ use tree::POINTS;
 use tree::Size;
 ghost use mathlib.Core.Path.{_≡_};
 ghost use Prim.Native.Nat.{_≤_, _<_};
-ghost use lib.Dec.{ltb};
 ghost use lib.ListN.{length};
 ghost use Rattle.lent.specs.Over.{after};
 ghost use Rattle.tree.specs.Table.{treeBound};
 ghost use Rattle.floats.specs.Mark.{finites, pinsFrom, marksFrom};
-ghost use Rattle.delay.specs.Answer.{delayed, toldDelays};
+ghost use Rattle.delay.specs.Answer.{unlessMarked, toldDelays};
 ghost use Rattle.delay.specs.Table.{isDriver, driverIn, tableFrom};
 
 // The answer: how many delays were given, or why none.
@@ -50,7 +49,8 @@ fn find(pts: &[i32; NUMBERS], pin: &[usize; POINTS], n: usize, q: Place) -> usiz
     i
 }
 
-// The delays to the m pins of a tree from the driver, in the order of places; all are worked out before the first is stored.
+// The delays to the m pins of a tree from the driver, which is one of them, in the order of places; all are worked out before the first is
+// stored. What refuses a call whatever its tree, 21, 38 and 39, is said before there is one.
 pub fn delays(
     pts: &[i32; NUMBERS],
     keys: &[usize; POINTS],
@@ -63,31 +63,35 @@ pub fn delays(
     lent: &mut [f64],
 ) -> Delayed
     requires { ⌜ (z .points ≤ treeBound) × ((z .edges ≤ treeBound) × (m ≡ length (pinsFrom (now pin) 0 (z .points)))) ⌝ }
-    ensures { λ r. ⌜ toldDelays r ≡ delayed (length (now (lent .entry))) m t
-        (ltb (driverIn (now (pts .entry)) (now (pin .entry)) (z .points) driver) (z .points))
+    requires { ⌜ (m ≤ length (now lent)) × (driverIn (now pts) (now pin) (z .points) driver < z .points) ⌝ }
+    ensures { λ r. ⌜ toldDelays r ≡ unlessMarked m
         (marksFrom (tableFrom (now (pts .entry)) (now (keys .entry)) (z .edges) (now (loads .entry)) t
         (driverIn (now (pts .entry)) (now (pin .entry)) (z .points) driver)) (now (pin .entry)) 0 (z .points)) ⌝ }
     ensures { λ r. ⌜ now (lent .exit) ≡ after (toldDelays r)
         (finites (marksFrom (tableFrom (now (pts .entry)) (now (keys .entry)) (z .edges) (now (loads .entry)) t
         (driverIn (now (pts .entry)) (now (pin .entry)) (z .points) driver)) (now (pin .entry)) 0 (z .points))) (now (lent .entry)) ⌝ }
 {
-    if lent.len() < m {
-        return Delayed::Refused(Refusal::Space);
-    }
-    if !floats::is_usable(t) {
-        return Delayed::Refused(Refusal::TechnologyRange);
-    }
     let d = find(pts, pin, z.points, driver);
-    if d == z.points {
-        return Delayed::Refused(Refusal::DriverNotPin);
-    }
-    let mut table = [0.0f64; POINTS];
     let top = Visit {
         up: d,
         point: d,
         left: z.edges,
     };
-    elmore::lay(pts, keys, z.edges, loads, t, top, 0.0, &mut table);
+    let mut held = [0.0f64; POINTS];
+    let mut whose = [0u32; POINTS];
+    let mut table = [0.0f64; POINTS];
+    elmore::lay(
+        pts,
+        keys,
+        z.edges,
+        loads,
+        t,
+        top,
+        0.0,
+        &mut held,
+        &mut whose,
+        &mut table,
+    );
     if floats::has_mark(&table, pin, z.points) {
         return Delayed::Refused(Refusal::DelayNotFinite);
     }

@@ -23,17 +23,27 @@ fn unsigned(z: i32) -> u64
     z as u64
 }
 
-// 1 where a pin is at q, otherwise 0.
-fn pin_mark(pins: &[i32], q: Place) -> usize
-    ensures { λ r. ⌜ r ≡ cond (any (samePlace q) (pinPlaces (now (pins .entry)))) 1 0 ⌝ }
+// Whether a pin is at q.
+pub fn is_pin(pins: &[i32], q: Place) -> bool
+    ensures { λ r. ⌜ r ≡ any (samePlace q) (pinPlaces (now (pins .entry))) ⌝ }
 {
     let m = net::pin_count(pins);
     let mut i = 0;
     while i < m {
         if plane::is_same_place(q, net::pin_at(pins, i)) {
-            return 1;
+            return true;
         }
         i += 1;
+    }
+    false
+}
+
+// 1 where a pin is at q, otherwise 0.
+fn pin_mark(pins: &[i32], q: Place) -> usize
+    ensures { λ r. ⌜ r ≡ cond (any (samePlace q) (pinPlaces (now (pins .entry)))) 1 0 ⌝ }
+{
+    if is_pin(pins, q) {
+        return 1;
     }
     0
 }

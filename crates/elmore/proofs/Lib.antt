@@ -1,5 +1,6 @@
 -- The two passes, as the code makes them
 pub mod TableLaws
+pub mod MemoLaws
 -- The rooted tree
 pub mod ChildLaws
 pub mod RootedLaws

@@ -12,6 +12,8 @@
 --              capacitance, delays         the two passes
 --              delayIn                     the delay that a list has for a point
 --   Table      childrenFrom, hung          the rooted tree by numbers of points, as the code has it;  stored: delays put into a table
+--   Memo       visitNumber, Memo           capacitances kept, each with the number of the visit that it is for
 pub mod Rooted
 pub mod Elmore
 pub mod Table
+pub mod Memo

@@ -12,6 +12,7 @@ ghost use Rattle.tree.specs.Table.{treeBound};
 ghost use Rattle.floats.specs.Float.{whole};
 ghost use Rattle.elmore.specs.Elmore.{edgeValue, withChild, childDelay, capacitance, delays};
 ghost use Rattle.elmore.specs.Table.{hung, apartIn, loadIn, stored};
+ghost use Rattle.elmore.specs.Memo.{Inside, visitNumber, Memo};
 
 // A point on the way down the rooted tree: its parent, its number, and how many steps further down there may be points.
 pub struct Visit {
@@ -79,7 +80,16 @@ fn delay_below(pts: &[i32; NUMBERS], t: Technology, p: usize, c: usize, d: f64, 
     )
 }
 
-// The capacitance of a point with all that hangs from it. The steps left below it fall at each call.
+// The number of a visit: no other's of its point, and not 0.
+fn visit_number(v: Visit) -> u32
+    requires { ⌜ Inside v ⌝ }
+    ensures { λ r. ⌜ r ≡ visitNumber (v .up) (v .left) ⌝ }
+{
+    (v.up * (POINTS + 1) + v.left + 1) as u32
+}
+
+// The capacitance of a point with all that hangs from it. It is held, with the number of its visit, for whoever asks again on that visit.
+// The steps left below it fall at each call.
 pub fn capacitance(
     pts: &[i32; NUMBERS],
     keys: &[usize; POINTS],
@@ -87,12 +97,20 @@ pub fn capacitance(
     loads: &[u64; POINTS],
     t: Technology,
     v: Visit,
+    held: &mut [f64; POINTS],
+    whose: &mut [u32; POINTS],
 ) -> f64
-    requires { ⌜ (e ≤ treeBound) × (v .point < treeBound) ⌝ }
+    requires { ⌜ (e ≤ treeBound) × Inside v ⌝ }
+    requires { ⌜ Memo (now pts) (now keys) e (now loads) t (now held) (now whose) ⌝ }
     ensures { λ r. ⌜ r ≡ capacitance (apartIn (now (pts .entry))) (loadIn (now (loads .entry))) t (v .point)
         (hung (now (keys .entry)) e (v .left) (v .up) (v .point)) ⌝ }
+    ensures { λ _. ⌜ Memo (now (pts .entry)) (now (keys .entry)) e (now (loads .entry)) t (now (held .exit)) (now (whose .exit)) ⌝ }
 {
     let p = v.point;
+    let number = visit_number(v);
+    if whose[p] == number {
+        return held[p];
+    }
     let mut sum = load(loads, p);
     if v.left == 0 {
         return sum;
@@ -108,10 +126,12 @@ pub fn capacitance(
                 point: c,
                 left: left,
             };
-            let child = capacitance(pts, keys, e, loads, t, w);
+            let child = capacitance(pts, keys, e, loads, t, w, &mut *held, &mut *whose);
             sum = add_child(pts, t, p, c, sum, child);
         }
     }
+    held[p] = sum;
+    whose[p] = number;
     sum
 }
 
@@ -124,11 +144,15 @@ pub fn lay(
     t: Technology,
     v: Visit,
     d: f64,
+    held: &mut [f64; POINTS],
+    whose: &mut [u32; POINTS],
     table: &mut [f64; POINTS],
 )
-    requires { ⌜ (e ≤ treeBound) × (v .point < treeBound) ⌝ }
+    requires { ⌜ (e ≤ treeBound) × Inside v ⌝ }
+    requires { ⌜ Memo (now pts) (now keys) e (now loads) t (now held) (now whose) ⌝ }
     ensures { λ _. ⌜ now (table .exit) ≡ stored (delays (apartIn (now (pts .entry))) (loadIn (now (loads .entry))) t (v .point) d
         (hung (now (keys .entry)) e (v .left) (v .up) (v .point))) (now (table .entry)) ⌝ }
+    ensures { λ _. ⌜ Memo (now (pts .entry)) (now (keys .entry)) e (now (loads .entry)) t (now (held .exit)) (now (whose .exit)) ⌝ }
 {
     let p = v.point;
     if v.left == 0 {
@@ -145,10 +169,21 @@ pub fn lay(
                 point: c,
                 left: left,
             };
-            let child = capacitance(pts, keys, e, loads, t, w);
+            let child = capacitance(pts, keys, e, loads, t, w, &mut *held, &mut *whose);
             let f = delay_below(pts, t, p, c, d, child);
             table[c] = f;
-            lay(pts, keys, e, loads, t, w, f, &mut *table);
+            lay(
+                pts,
+                keys,
+                e,
+                loads,
+                t,
+                w,
+                f,
+                &mut *held,
+                &mut *whose,
+                &mut *table,
+            );
         }
     }
 }

@@ -91,7 +91,7 @@ unfolding outOfRange
 zero-range = refl
 
 -- the lines over zeros, read anywhere, are in range
-range-at : (L lent : List ℤ) → ((c : ℤ) → c ∈ L → outOfRange c ≡ false) → ((i : ℕ) → getD lent i (pos 0) ≡ pos 0) → length L ≤ length lent →
+pub range-at : (L lent : List ℤ) → ((c : ℤ) → c ∈ L → outOfRange c ≡ false) → ((i : ℕ) → getD lent i (pos 0) ≡ pos 0) → length L ≤ length lent →
     (i : ℕ) → outOfRange (getD (over L lent) i (pos 0)) ≡ false
 range-at L lent h z room i =
     by (ltb i (length L))
@@ -134,6 +134,7 @@ module _ {net : Net} (a : Allowed net) (few-pins : length (net .pins) ≤ gridPi
       e ≡ g .across * lineBound * 2 → CostsTo (net .weights) (net .macros) g xs ys e costs → Fits costs e
   costs-fit g xs ys costs e few priced count c = record {
     count = omega (arith, count, few .across);
+    even = omega (arith, count);
     ends = λ k h is.
         by (isSegment g k) (λ s. segment-ends g k few s)
         (λ s. let z : ⊥ = omega (arith, is, c .each k h, edge-none (net .weights) (net .macros) g xs ys k s) in absurd z);

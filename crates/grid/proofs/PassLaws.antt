@@ -1,184 +1,244 @@
--- A pass over the segments, one by one, and passes one after the other: the sum of the row falls with each change.
+-- Edges asked one by one, in passes on and back. An edge stays quiet while the end that it is asked from is lowered no more: so a pass on,
+-- from the first crossing to the last, leaves all far ends quiet, and a pass back, from the last to the first, all near ends. The sum of
+-- the row falls with each change.
 -- Assumes nothing.
-use mathlib.Core.Path.{_≡_, refl, ap, ap₂, subst, _∙_}
+use mathlib.Core.Path.{_≡_, refl, sym, ap, _∙_}
 use mathlib.Core.Bool.{Bool, true, false, _||_}
 use mathlib.Core.Logic.{_⊎_, inl, inr}
 use mathlib.Core.List.{List}
-use Prim.Native.Nat.{ℕ, suc, _+_, _/_, _≤_, _<_}
+use Prim.Native.Nat.{ℕ, suc, _+_, _*_, _/_, _≤_, _<_}
 use native.Mathlib.Decide.{ℕ-discrete}
 use native.Mathlib.Omega.{arith}
-use borrow.Author.Tests.{ltb-false}
-use lib.Dec.{ltb}
 use lib.ListN.{length, getD}
 use Rattle.lists.specs.Total.{total}
-use Rattle.lists.proofs.TestLaws.{by, differ, either, or-none}
-use Rattle.lines.specs.Bounds.{crossingBound}
-use Rattle.grid.specs.Rows.{at, lowered, Held, Quiet}
-use Rattle.grid.proofs.RowLaws.{lowered-miss, lowered-less, held-start, held-lowered, held-then}
-use Rattle.grid.specs.Tables.{target, Row, Fits, Reads, Near, lowers, LoweredEdge, Passed}
+use Rattle.lists.proofs.TestLaws.{differ, or-none}
+use Rattle.lines.specs.Bounds.{lineBound, crossingBound, unreached}
+use Rattle.grid.specs.Rows.{at, Held, Quiet}
+use Rattle.grid.proofs.RowLaws.{lowered-miss, lowered-less, lowered-there, lowered-other, held-start, held-lowered, held-then}
+use Rattle.grid.specs.Tables.{target, Row, Fits, Near, Lowered, Ahead, Onward, Backward, Passed, PassedBoth}
+use Rattle.grid.proofs.SegmentLaws.{target-above, target-across, target-along}
 
 pub held-row : (near : ℕ → ℕ → ℕ → Type 0) (s t : List ℕ) → Row s → Held near s t → Row t
 held-row near s t r h = record { size = h .size ∙ r .size; low = λ v. omega (arith, h .below v, r .low v) }
 
-pub row-lowered : (t u : List ℕ) (v w c : ℕ) → u ≡ lowered v w c t → Row t → v < crossingBound → Row u
-row-lowered t u v w c e r h =
-    rw e (held-row any t (lowered v w c t) r (held-lowered any t t (held-start any t) v w c tt (omega (arith, r .size, h))))
-  where
-    any : ℕ → ℕ → ℕ → Type 0
-    any v w c = Unit {0}
-
--- the two calls for an edge
-pub both-ways : (a b c : ℕ) (t u x : List ℕ) (p q : Bool) →
-    (p ≡ ltb (at t b + c) (at t a)) × (u ≡ lowered a b c t) → (q ≡ ltb (at u a + c) (at u b)) × (x ≡ lowered b a c u) →
-    ((p || q) ≡ lowers a b c t) × (x ≡ lowered b a c (lowered a b c t))
-unfolding lowers
-both-ways a b c t u x p q h k =
-    let e = k .0 ∙ ap (λ (l : List ℕ). ltb (at l a + c) (at l b)) (h .1) in
-    (ap₂ _||_ (h .0) e, k .1 ∙ ap (lowered b a c) (h .1))
-
-lowered-le : (v w c : ℕ) (t : List ℕ) → v < length t → total (lowered v w c t) ≤ total t
-lowered-le v w c t h =
-    by (ltb (at t w + c) (at t v)) (λ e. omega (arith, lowered-less v w c t h e)) (λ e. rw (lowered-miss v w c t e) (omega arith))
+-- two changes one after the other: one of them lowers the sum
+less-then : (m n : Bool) (a b c : ℕ) → (m ≡ true → b < a) → (m ≡ false → b ≡ a) → (n ≡ true → c < b) → (n ≡ false → c ≡ b) →
+    (m || n) ≡ true → c < a
+less-then true true a b c f g h i e = omega (arith, f refl, h refl)
+less-then true false a b c f g h i e = omega (arith, f refl, i refl)
+less-then false true a b c f g h i e = omega (arith, g refl, h refl)
+less-then false false a b c f g h i e = differ e refl
 
 module _ (costs : List ℕ) (e : ℕ) where
-  pub pass-none : (s : List ℕ) → Passed costs e 0 false s s
-  pass-none s = record {
-    held = held-start (Near costs e) s;
-    less = λ k. differ k refl;
-    same = λ k. refl;
-    quiet = λ k i v w c h. let z : ⊥ = omega (arith, h) in absurd z;
-  }
+  -- One edge asked
 
-  module _ (fits : Fits costs e) (s t : List ℕ) (row : Row s) (k : ℕ) (inside : k < e) (moved : Bool) (p : Passed costs e k moved s t) where
-    -- one segment more, where the row is then u and `m` says whether it changed
-    more : (m : Bool) (u : List ℕ) → Held (Near costs e) s u → (m ≡ true → total u < total t) → (m ≡ false → u ≡ t) →
-        (m ≡ false → (v w d : ℕ) → Reads costs e k v w d → at t v ≤ at t w + d) → Passed costs e (k + 1) (moved || m) s u
-    more m u held less same quiet = record {
-      held = held;
-      less = λ h. by moved
-          (λ f. let le = by m (λ g. let l = less g in let z : total u ≤ total t = omega (arith, l) in z)
-          (λ g. let q = ap total (same g) in let z : total u ≤ total t = omega (arith, q) in z) in omega (arith, le, p .less f))
-          (λ f. let l = less (rw f at h) in let q = ap total (p .same f) in omega (arith, l, q));
-      same = λ h. let r = or-none moved m h in same (r .1) ∙ p .same (r .0);
-      quiet = λ h j v w d i g.
-          let r = or-none moved m h in
-          rw (same (r .1)) (at-edge j v w d (p .quiet (r .0) j v w d) (quiet (r .1) v w d) i g);
+  -- what it comes to: v is quiet by w, and nothing else is changed
+  record Asked (v w c : ℕ) (t : List ℕ) (m : Bool) (u : List ℕ) : Type 0 where
+    pub held : Held (Near costs e) t u
+    pub less : m ≡ true → total u < total t
+    pub same : m ≡ false → u ≡ t
+    pub there : 1 ≤ c → at u v ≤ at t w + c
+    pub other : (x : ℕ) → (x ≡ v → ⊥) → at u x ≡ at t x
+
+  asked : (v w c : ℕ) (t u : List ℕ) (m : Bool) → (1 ≤ c → Near costs e v w c × (v < length t)) → Lowered v w c t m u → Asked v w c t m u
+  asked v w c t u m near (inl n) = rw (n .1 .0, n .1 .1) record {
+    held = held-start (Near costs e) t;
+    less = λ h. differ h refl;
+    same = λ h. refl;
+    there = λ h. let z : ⊥ = omega (arith, n .0, h) in absurd z;
+    other = λ x h. refl;
+  }
+  asked v w c t u m near (inr l) =
+      let at-v = near (l .0) in
+      rw (l .1 .0, l .1 .1) record {
+        held = held-lowered (Near costs e) t t (held-start (Near costs e) t) v w c (at-v .0) (at-v .1);
+        less = lowered-less v w c t (at-v .1);
+        same = lowered-miss v w c t;
+        there = λ h. lowered-there v w c t (at-v .1);
+        other = lowered-other v w c t;
+      }
+
+  module _ (before after : ℕ → ℕ → ℕ → Type 0) where
+    -- fewer edges
+    pub passed-fewer : (m : Bool) (s t : List ℕ) → ((v w c : ℕ) → after v w c → before v w c) → Passed costs e before m s t →
+        Passed costs e after m s t
+    passed-fewer m s t f p = record { held = p .held; less = p .less; same = p .same; quiet = λ v w c h. p .quiet v w c (f v w c h) }
+
+    -- one edge more, whose end v none of the others is asked from
+    passed-step : (v w c : ℕ) (moved m : Bool) (s t u : List ℕ) →
+        ((x y d : ℕ) → after x y d → before x y d ⊎ ((x ≡ v) × ((y ≡ w) × ((d ≡ c) × (1 ≤ c))))) →
+        ((x y d : ℕ) → after x y d → y ≡ v → ⊥) → Passed costs e before moved s t → Asked v w c t m u →
+        Passed costs e after (moved || m) s u
+    passed-step v w c moved m s t u one apart p a = record {
+      held = held-then (Near costs e) s t u (p .held) (a .held);
+      less = less-then moved m (total s) (total t) (total u) (p .less) (λ h. ap total (p .same h)) (a .less) (λ h. ap total (a .same h));
+      same = λ h. let r = or-none moved m h in a .same (r .1) ∙ p .same (r .0);
+      quiet = λ x y d h. quiet x y d (a .other y (apart x y d h)) (one x y d h);
     }
       where
-        at-edge : (j v w d : ℕ) → (j < k → Reads costs e j v w d → at t v ≤ at t w + d) → (Reads costs e k v w d → at t v ≤ at t w + d) →
-            j < k + 1 → Reads costs e j v w d → at t v ≤ at t w + d
-        at-edge j v w d old new i g = pick (ℕ-discrete j k)
+        quiet : (x y d : ℕ) → at u y ≡ at t y → before x y d ⊎ ((x ≡ v) × ((y ≡ w) × ((d ≡ c) × (1 ≤ c)))) → at u x ≤ at u y + d
+        quiet x y d k (inl h) = omega (arith, k, a .held .below x, p .quiet x y d h)
+        quiet x y d k (inr h) =
+            let there = a .there (h .1 .1 .1) in
+            let z : at u v ≤ at u y + c = omega (arith, k, there, ap (at t) (h .1 .0)) in
+            rw (h .0, h .1 .1 .0) z
+
+  pub passed-none : (asked : ℕ → ℕ → ℕ → Type 0) (s : List ℕ) → ((v w c : ℕ) → asked v w c → ⊥) → Passed costs e asked false s s
+  passed-none asked s none = record {
+    held = held-start (Near costs e) s;
+    less = λ h. differ h refl;
+    same = λ h. refl;
+    quiet = λ v w c h. absurd (none v w c h);
+  }
+
+  -- Passes, segment by segment: from k to n, the number after it, or back
+
+  -- an edge that is segment k, by its ends and its cost
+  ahead-is : (j k v w c x y d : ℕ) → j ≡ k → v ≡ k / 2 → w ≡ target k → c ≡ getD costs k 0 → Ahead costs e j x y d →
+      (x ≡ v) × ((y ≡ w) × ((d ≡ c) × (1 ≤ c)))
+  ahead-is j k v w c x y d z near far price a =
+      let cost-k = ap (λ (i : ℕ). getD costs i 0) z in
+      let far-is = a .far ∙ ap target z ∙ sym far in
+      (omega (arith, a .near, z, near), (far-is, (a .price ∙ cost-k ∙ sym price, omega (arith, a .is, cost-k, price))))
+
+  module _ (fits : Fits costs e) (s t u : List ℕ) (row : Row s) (k n : ℕ) (next : n ≡ k + 1) (inside : k < e) (moved m : Bool)
+      (v w c : ℕ) (price : c ≡ getD costs k 0) where
+    on-step : w ≡ k / 2 → v ≡ target k → Passed costs e (Onward costs e k) moved s t → Lowered v w c t m u →
+        Passed costs e (Onward costs e n) (moved || m) s u
+    on-step near far p l =
+        passed-step (Onward costs e k) (Onward costs e n) v w c moved m s t u one
+        (λ x y d h z. let b : ⊥ = omega (arith, z, h .1 .0, next, h .1 .1 .near, far, target-above k) in b) p
+        (asked v w c t u m
+        (λ is. let is-k : 1 ≤ getD costs k 0 = omega (arith, price, is) in (
+          (k, (inside, record { ends = inr (far, near); price = price; is = is-k })),
+          omega (arith, far, fits .ends k inside is-k, p .held .size, row .size),
+        ))
+        l)
+      where
+        one : (x y d : ℕ) → Onward costs e n x y d → Onward costs e k x y d ⊎ ((x ≡ v) × ((y ≡ w) × ((d ≡ c) × (1 ≤ c))))
+        one x y d h = pick (ℕ-discrete (h .0) k)
           where
-            pick : Dec (j ≡ k) → at t v ≤ at t w + d
-            pick (yes n) = new (rw n at g)
-            pick (no n) = old (omega (arith, i, n)) g
+            pick : Dec (h .0 ≡ k) → Onward costs e k x y d ⊎ ((x ≡ v) × ((y ≡ w) × ((d ≡ c) × (1 ≤ c))))
+            pick (yes z) = let r = ahead-is (h .0) k w v c y x d z near far price (h .1 .1) in inr (r .1 .0, (r .0, r .1 .1))
+            pick (no z) = inl (h .0, (omega (arith, h .1 .0, next, z), h .1 .1))
 
-    -- a segment that is no edge
-    pub pass-none-there : getD costs k 0 ≡ 0 → Passed costs e (k + 1) (moved || false) s t
-    pass-none-there z =
-        more false t (p .held) (λ f. differ f refl) (λ f. refl)
-        (λ f v w d r. let n : ⊥ = omega (arith, z, r .is) in absurd n)
+    back-step : v ≡ k / 2 → w ≡ target k → Passed costs e (Backward costs e n) moved s t → Lowered v w c t m u →
+        Passed costs e (Backward costs e k) (moved || m) s u
+    back-step near far p l =
+        passed-step (Backward costs e n) (Backward costs e k) v w c moved m s t u one
+        (λ x y d h z. let b : ⊥ = omega (arith, z, h .1 .0, h .1 .1 .far, near, target-above (h .0)) in b) p
+        (asked v w c t u m
+        (λ is. (
+          (k, (inside, record { ends = inl (near, far); price = price; is = omega (arith, price, is) })),
+          omega (arith, near, inside, fits .count, p .held .size, row .size),
+        ))
+        l)
+      where
+        one : (x y d : ℕ) → Backward costs e k x y d → Backward costs e n x y d ⊎ ((x ≡ v) × ((y ≡ w) × ((d ≡ c) × (1 ≤ c))))
+        one x y d h = pick (ℕ-discrete (h .0) k)
+          where
+            pick : Dec (h .0 ≡ k) → Backward costs e n x y d ⊎ ((x ≡ v) × ((y ≡ w) × ((d ≡ c) × (1 ≤ c))))
+            pick (yes z) = inr (ahead-is (h .0) k v w c x y d z near far price (h .1 .1))
+            pick (no z) = inl (h .0, ((omega (arith, h .1 .0, next, z), h .1 .0 .1), h .1 .1))
 
-    -- an edge
-    module _ (is : 1 ≤ getD costs k 0) where
-      abbrev a : ℕ
-      a = k / 2
+  -- Crossing by crossing: the segment across from v, and the one along
 
-      abbrev b : ℕ
-      b = target k
+  module _ (fits : Fits costs e) (v : ℕ) (inside : v < e / 2) where
+    in-across : v * 2 < e
+    in-across = omega (arith, inside)
 
-      abbrev c : ℕ
-      c = getD costs k 0
+    in-along : v * 2 + 1 < e
+    in-along = omega (arith, inside)
 
-      abbrev first : List ℕ
-      first = lowered a b c t
+    -- what is asked of a call with an edge's ends
+    ends-in : (k w : ℕ) → k < e → v ≡ k / 2 → w ≡ target k →
+        (getD costs k 0 ≤ unreached) × (1 ≤ getD costs k 0 → (v < crossingBound) × (w < crossingBound))
+    ends-in k w h near far =
+        (fits .low k h, λ is. (omega (arith, near, h, fits .count), omega (arith, far, fits .ends k h is)))
 
-      abbrev second : List ℕ
-      second = lowered b a c first
+    pub across-in : (getD costs (v * 2) 0 ≤ unreached)
+        × (1 ≤ getD costs (v * 2) 0 → (v < crossingBound) × (v + lineBound < crossingBound))
+    across-in = ends-in (v * 2) (v + lineBound) in-across (omega arith) (target-across v)
 
-      long : length t ≡ crossingBound
-      long = p .held .size ∙ row .size
+    pub along-in : (getD costs (v * 2 + 1) 0 ≤ unreached)
+        × (1 ≤ getD costs (v * 2 + 1) 0 → (v < crossingBound) × (v + 1 < crossingBound))
+    along-in = ends-in (v * 2 + 1) (v + 1) in-along (omega arith) (target-along v)
 
-      in-a : a < length t
-      in-a = omega (arith, long, fits .count, inside)
+    module _ (s t u : List ℕ) (row : Row s) (moved m : Bool) where
+      pub on-across : Passed costs e (Onward costs e (v * 2)) moved s t → Lowered (v + lineBound) v (getD costs (v * 2) 0) t m u →
+          Passed costs e (Onward costs e (v * 2 + 1)) (moved || m) s u
+      on-across =
+          on-step fits s t u row (v * 2) (v * 2 + 1) refl in-across moved m (v + lineBound) v (getD costs (v * 2) 0) refl (omega arith)
+          (target-across v)
 
-      held-first : Held (Near costs e) s first
-      held-first = held-lowered (Near costs e) s t (p .held) a b c
-          (k, (inside, record { ends = inl (refl, refl); price = refl; is = is })) in-a
+      pub on-along : Passed costs e (Onward costs e (v * 2 + 1)) moved s t → Lowered (v + 1) v (getD costs (v * 2 + 1) 0) t m u →
+          Passed costs e (Onward costs e ((v + 1) * 2)) (moved || m) s u
+      on-along =
+          on-step fits s t u row (v * 2 + 1) ((v + 1) * 2) (omega arith) in-along moved m (v + 1) v (getD costs (v * 2 + 1) 0) refl
+          (omega arith) (target-along v)
 
-      in-b : b < length first
-      in-b = omega (arith, held-first .size, row .size, fits .ends k inside is)
+      pub back-along : (n : ℕ) → n ≡ v + 1 → Passed costs e (Backward costs e (n * 2)) moved s t →
+          Lowered v (v + 1) (getD costs (v * 2 + 1) 0) t m u → Passed costs e (Backward costs e (v * 2 + 1)) (moved || m) s u
+      back-along n h =
+          back-step fits s t u row (v * 2 + 1) (n * 2) (omega (arith, h)) in-along moved m v (v + 1) (getD costs (v * 2 + 1) 0) refl
+          (omega arith) (target-along v)
 
-      held-second : Held (Near costs e) s second
-      held-second =
-          held-lowered (Near costs e) s first held-first b a c (k, (inside, record { ends = inr (refl, refl); price = refl; is = is })) in-b
-
-      -- one of the two was lowered
-      less : lowers a b c t ≡ true → total second < total t
-      unfolding lowers
-      less h =
-          by (ltb (at t b + c) (at t a))
-          (λ f. omega (arith, lowered-less a b c t in-a f, lowered-le b a c first in-b))
-          (λ f. omega (arith, lowered-le a b c t in-a, lowered-less b a c first in-b (rw f at h)))
-
-      -- neither was
-      none : lowers a b c t ≡ false → (first ≡ t) × (second ≡ t)
-      unfolding lowers
-      none h =
-          let r = or-none (ltb (at t b + c) (at t a)) (ltb (at first a + c) (at first b)) h in
-          let i = lowered-miss a b c t (r .0) in
-          (i, lowered-miss b a c first (r .1) ∙ i)
-
-      edge-quiet : lowers a b c t ≡ false → (at t a ≤ at t b + c) × (at t b ≤ at t a + c)
-      unfolding lowers
-      edge-quiet h =
-          let r = or-none (ltb (at t b + c) (at t a)) (ltb (at first a + c) (at first b)) h in
-          let i = lowered-miss a b c t (r .0) in
-          let q : at first b ≤ at first a + c = omega (arith, ltb-false (at first a + c) (at first b) (r .1)) in
-          (omega (arith, ltb-false (at t b + c) (at t a) (r .0)), (rw i at q))
-
-      reads-quiet : (at t a ≤ at t b + c) × (at t b ≤ at t a + c) → (v w d : ℕ) → Reads costs e k v w d → at t v ≤ at t w + d
-      reads-quiet q v w d r = go (r .ends) (r .price)
-        where
-          go : ((v ≡ a) × (w ≡ b)) ⊎ ((v ≡ b) × (w ≡ a)) → d ≡ c → at t v ≤ at t w + d
-          go (inl f) g = rw (f .0, f .1, g) (q .0)
-          go (inr f) g = rw (f .0, f .1, g) (q .1)
-
-      pub pass-edge : Passed costs e (k + 1) (moved || lowers a b c t) s second
-      pass-edge = more (lowers a b c t) second held-second less (λ h. none h .1) (λ h. reads-quiet (edge-quiet h))
-
-  pub pass-step : Fits costs e → (s t u : List ℕ) → Row s → (k : ℕ) → k < e → (moved m : Bool) → Passed costs e k moved s t →
-      LoweredEdge costs k t m u → Passed costs e (k + 1) (moved || m) s u
-  pass-step fits s t u row k h moved m p c =
-      either
-      (λ n. rw (n .1 .0, n .1 .1) (pass-none-there fits s t row k h moved p (n .0)))
-      (λ l. rw (l .1 .0, l .1 .1) (pass-edge fits s t row k h moved p (l .0)))
-      c
-
-  pub pass-end : (s t : List ℕ) (k : ℕ) (moved : Bool) → k ≤ e → e ≤ k → Passed costs e k moved s t → Passed costs e e moved s t
-  pass-end s t k moved h i p = let n : k ≡ e = omega (arith, h, i) in subst (λ (j : ℕ). Passed costs e j moved s t) n p
+      pub back-across : Passed costs e (Backward costs e (v * 2 + 1)) moved s t → Lowered v (v + lineBound) (getD costs (v * 2) 0) t m u →
+          Passed costs e (Backward costs e (v * 2)) (moved || m) s u
+      back-across =
+          back-step fits s t u row (v * 2) (v * 2 + 1) refl in-across moved m v (v + lineBound) (getD costs (v * 2) 0) refl (omega arith)
+          (target-across v)
 
   -- Passes one after the other
 
+  -- the edges of passes on and back are all there are
+  both-quiet : (t : List ℕ) → Quiet (Onward costs e e) t → Quiet (Backward costs e 0) t → Quiet (Near costs e) t
+  both-quiet t on back v w c h = pick (h .1 .1 .ends)
+    where
+      edge : (x y : ℕ) → x ≡ h .0 / 2 → y ≡ target (h .0) → Ahead costs e (h .0) x y c
+      edge x y near far = record { near = near; far = far; price = h .1 .1 .price; is = h .1 .1 .is }
+
+      pick : ((v ≡ h .0 / 2) × (w ≡ target (h .0))) ⊎ ((v ≡ target (h .0)) × (w ≡ h .0 / 2)) → at t v ≤ at t w + c
+      pick (inl f) = back v w c (h .0, ((omega arith, h .1 .0), edge v w (f .0) (f .1)))
+      pick (inr f) = on v w c (h .0, (h .1 .0, edge w v (f .1) (f .0)))
+
+  pub both-none : (s t : List ℕ) (m : Bool) → m ≡ false → Quiet (Onward costs e e) s → Passed costs e (Backward costs e 0) m s t →
+      PassedBoth costs e false s t
+  both-none s t m z on p =
+      let same = p .same z in
+      let on-t : Quiet (Onward costs e e) t = λ v w c h. rw same (on v w c h) in
+      record { held = p .held; less = λ h. differ h refl; onward = on-t; quiet = λ h. both-quiet t on-t (p .quiet) }
+
+  pub both-more : (s t u : List ℕ) (m n : Bool) → m ≡ true → Passed costs e (Backward costs e 0) m s t →
+      Passed costs e (Onward costs e e) n t u → PassedBoth costs e n s u
+  both-more s t u m n z p q = record {
+    held = held-then (Near costs e) s t u (p .held) (q .held);
+    less = λ h. omega (arith, p .less z, q .less h);
+    onward = q .quiet;
+    quiet = λ h. both-quiet u (q .quiet) (λ v w c i. rw (q .same h) (p .quiet v w c i));
+  }
+
   pub record Settling (s t : List ℕ) (more : Bool) : Type 0 where
     pub held : Held (Near costs e) s t
+    pub onward : Quiet (Onward costs e e) t
     pub quiet : more ≡ false → Quiet (Near costs e) t
 
   unfoldable pub measure : List ℕ → Bool → ℕ
-  measure t true = suc (total t + total t)
-  measure t false = total t + total t
+  measure t true = suc (total t)
+  measure t false = 0
 
-  pub settle-none : (s : List ℕ) → Settling s s true
-  settle-none s = record { held = held-start (Near costs e) s; quiet = λ k. differ refl k }
+  pub settle-none : (s : List ℕ) → Quiet (Onward costs e e) s → Settling s s true
+  settle-none s on = record { held = held-start (Near costs e) s; onward = on; quiet = λ h. differ refl h }
 
-  pub settle-more : (s t u : List ℕ) (more m : Bool) → Settling s t more → Passed costs e e m t u → Settling s u m
+  pub settle-more : (s t u : List ℕ) (more m : Bool) → Settling s t more → PassedBoth costs e m t u → Settling s u m
   settle-more s t u more m h p = record {
     held = held-then (Near costs e) s t u (h .held) (p .held);
-    quiet = λ k v w c n. p .quiet k (n .0) v w c (n .1 .0) (n .1 .1);
+    onward = p .onward;
+    quiet = p .quiet;
   }
 
-  pub settle-less : (t u : List ℕ) (more m : Bool) → more ≡ true → Passed costs e e m t u → measure u m < measure t more
+  pub settle-less : (t u : List ℕ) (more m : Bool) → more ≡ true → PassedBoth costs e m t u → measure u m < measure t more
   unfolding measure
   settle-less t u false m h p = differ h refl
   settle-less t u true true h p = omega (arith, p .less refl)
-  settle-less t u true false h p = let q = ap total (p .same refl) in omega (arith, q)
+  settle-less t u true false h p = omega arith

@@ -7,7 +7,7 @@ use mathlib.Core.List.{List, [], _∷_}
 use Prim.Native.Nat.{ℕ, zero, suc, _+_, _≤_, _<_}
 use native.Mathlib.Decide.{ℕ-discrete}
 use native.Mathlib.Omega.{arith}
-use borrow.Author.Tests.{ltb-true}
+use borrow.Author.Tests.{ltb-true, ltb-false}
 use lib.Dec.{ltb}
 use lib.ListN.{set, length, length-set}
 use lib.Seq.{getD-set-same, getD-set-other}
@@ -33,6 +33,19 @@ lowered-miss v w c t e = rw (lowered, e) refl
 -- a value that is lowered lowers the sum
 pub lowered-less : (v w c : ℕ) (t : List ℕ) → v < length t → ltb (at t w + c) (at t v) ≡ true → total (lowered v w c t) < total t
 lowered-less v w c t h e = rw (lowered-hit v w c t e) (omega (arith, total-set t v (at t w + c) h, ltb-true (at t w + c) (at t v) e))
+
+-- the value is then no more than over the edge, and no other is changed
+pub lowered-there : (v w c : ℕ) (t : List ℕ) → v < length t → at (lowered v w c t) v ≤ at t w + c
+lowered-there v w c t h =
+    by (ltb (at t w + c) (at t v))
+    (λ e. rw (lowered-hit v w c t e) (omega (arith, getD-set-same t v (at t w + c) 0 h)))
+    (λ e. rw (lowered-miss v w c t e) (omega (arith, ltb-false (at t w + c) (at t v) e)))
+
+pub lowered-other : (v w c : ℕ) (t : List ℕ) (x : ℕ) → (x ≡ v → ⊥) → at (lowered v w c t) x ≡ at t x
+lowered-other v w c t x n =
+    by (ltb (at t w + c) (at t v))
+    (λ e. rw (lowered-hit v w c t e) (getD-set-other t v x (at t w + c) 0 n))
+    (λ e. rw (lowered-miss v w c t e) refl)
 
 module _ (near : ℕ → ℕ → ℕ → Type 0) where
   pub held-start : (s : List ℕ) → Held near s s

@@ -3,7 +3,7 @@
 use mathlib.Core.Path.{_≡_, refl, sym, _∙_}
 use mathlib.Core.Bool.{true, false, _&&_}
 use mathlib.Core.List.{List}
-use Prim.Native.Nat.{ℕ, _+_, _/_, _%_, _≤_, _<_}
+use Prim.Native.Nat.{ℕ, _+_, _*_, _/_, _%_, _≤_, _<_}
 use native.Mathlib.Decide.{ℕ-discrete}
 use native.Mathlib.Omega.{arith}
 use borrow.Author.Tests.{eq-eqb, ne-eqb, ltb-true, lt-ltb}
@@ -30,6 +30,21 @@ target-even k e = rw (target, eq-eqb (k % 2) 0 e) refl
 pub target-odd : (k : ℕ) → (k % 2 ≡ 0 → ⊥) → target k ≡ k / 2 + 1
 unfolding target
 target-odd k n = rw (target, ne-eqb (k % 2) 0 n) refl
+
+-- it leads ahead
+pub target-above : (k : ℕ) → k / 2 < target k
+target-above k = pick (ℕ-discrete (k % 2) 0)
+  where
+    pick : Dec (k % 2 ≡ 0) → k / 2 < target k
+    pick (yes e) = omega (arith, target-even k e)
+    pick (no n) = omega (arith, target-odd k n)
+
+-- the two segments from a crossing
+pub target-across : (v : ℕ) → v + lineBound ≡ target (v * 2)
+target-across v = omega (arith, target-even (v * 2) (omega arith))
+
+pub target-along : (v : ℕ) → v + 1 ≡ target (v * 2 + 1)
+target-along v = omega (arith, target-odd (v * 2 + 1) (λ z. let b : ⊥ = omega (arith, z) in b))
 
 -- What it costs
 

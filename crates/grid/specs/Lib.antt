@@ -12,7 +12,8 @@
 --   Rows       lowered, Held, Quiet                      one number lowered; what became of a row; nothing is left to lower
 --   Nearest    Nearest G d cap p t                       a settled table of distances to p
 --   Tables     target, isSegment, edgeCost, CostsTo      segments by number, and what they cost: 0 where there is no edge
---              Row, Starts, Fits, Near, Passed           what the program asks of its tables, and what a pass comes to
+--              Row, Starts, Fits, Near                   what the program asks of its tables
+--              Lowered, Onward, Backward, Passed          one edge asked; the edges of a pass on or back, and what it comes to
 --              Settled, RowPut, RowsOver                 a number of a settled row; rows in a lent list
 --   Distance   GridDistance net p q n                    n is the cheapest cost along the grid
 --              TrueDistance net p q n                    n is the cheapest cost of walks in clear unit steps

@@ -1,7 +1,7 @@
 -- The grid as tables. Segment k leads from crossing k / 2, across where k is even and along where it is odd; its number in the table of
 -- costs is what it costs where it is an edge of the grid, and 0 where it is none.
 use mathlib.Core.Path.{_≡_}
-use mathlib.Core.Bool.{Bool, true, false, _&&_, _||_}
+use mathlib.Core.Bool.{Bool, true, false, _&&_}
 use mathlib.Core.Logic.{_⊎_}
 use mathlib.Core.List.{List, map}
 use Prim.Native.Nat.{ℕ, _+_, _*_, _/_, _%_, _≤_, _<_}
@@ -68,22 +68,17 @@ pub record Starts (q : ℕ) (t : List ℕ) : Type 0 where
   pub here : at t q ≡ 0
   pub elsewhere : (v : ℕ) → v < crossingBound → (v ≡ q → ⊥) → at t v ≡ unreached
 
--- whether one of the ends a and b of an edge of cost c is lowered
-unfoldable pub lowers : ℕ → ℕ → ℕ → List ℕ → Bool
-lowers a b c t = ltb (at t b + c) (at t a) || ltb (at (lowered a b c t) a + c) (at (lowered a b c t) b)
-
--- what a visit of segment k does to a row, from t to u, and whether it changed it: nothing where there is no edge
-abbrev pub LoweredEdge : List ℕ → ℕ → List ℕ → Bool → List ℕ → Type 0
-LoweredEdge costs k t m u =
-    ((getD costs k 0 ≡ 0) × ((m ≡ false) × (u ≡ t)))
-    ⊎ ((1 ≤ getD costs k 0) × ((m ≡ lowers (k / 2) (target k) (getD costs k 0) t)
-    × (u ≡ lowered (target k) (k / 2) (getD costs k 0) (lowered (k / 2) (target k) (getD costs k 0) t))))
+-- what asking one edge does to a row, from t to u, and whether it changed it: v is lowered by w; nothing where there is no edge
+abbrev pub Lowered : ℕ → ℕ → ℕ → List ℕ → Bool → List ℕ → Type 0
+Lowered v w c t m u =
+    ((c ≡ 0) × ((m ≡ false) × (u ≡ t))) ⊎ ((1 ≤ c) × ((m ≡ ltb (at t w + c) (at t v)) × (u ≡ lowered v w c t)))
 
 -- the first e numbers of a table of costs
 module _ (costs : List ℕ) (e : ℕ) where
-  -- what is asked of them: segments lead to crossings, and cost no more than all edges do
+  -- what is asked of them: two a crossing; segments lead to crossings, and cost no more than all edges do
   pub record Fits : Type 0 where
     pub count : e ≤ segmentBound
+    pub even : e % 2 ≡ 0
     pub ends : (k : ℕ) → k < e → 1 ≤ getD costs k 0 → target k < crossingBound
     pub low : (k : ℕ) → k < e → getD costs k 0 ≤ unreached
 
@@ -96,12 +91,33 @@ module _ (costs : List ℕ) (e : ℕ) where
   abbrev pub Near : ℕ → ℕ → ℕ → Type 0
   Near v w c = (k : ℕ) × ((k < e) × Reads k v w c)
 
-  -- the first n segments passed over, from s to t: a change lowers the sum, and without one these edges are quiet
-  pub record Passed (n : ℕ) (moved : Bool) (s t : List ℕ) : Type 0 where
+  -- segment k is an edge, and leads from its near end v to its far end w at cost c
+  pub record Ahead (k v w c : ℕ) : Type 0 where
+    pub near : v ≡ k / 2
+    pub far : w ≡ target k
+    pub price : c ≡ getD costs k 0
+    pub is : 1 ≤ getD costs k 0
+
+  -- the edges by which a pass on over the first n segments lowers values, and a pass back over those from n on
+  abbrev pub Onward : ℕ → ℕ → ℕ → ℕ → Type 0
+  Onward n v w c = (k : ℕ) × ((k < n) × Ahead k w v c)
+
+  abbrev pub Backward : ℕ → ℕ → ℕ → ℕ → Type 0
+  Backward n v w c = (k : ℕ) × (((n ≤ k) × (k < e)) × Ahead k v w c)
+
+  -- a pass, from s to t: a change lowers the sum, and the edges asked are quiet, changed or not
+  pub record Passed (asked : ℕ → ℕ → ℕ → Type 0) (moved : Bool) (s t : List ℕ) : Type 0 where
     pub held : Held Near s t
     pub less : moved ≡ true → total t < total s
     pub same : moved ≡ false → t ≡ s
-    pub quiet : moved ≡ false → (k v w c : ℕ) → k < n → Reads k v w c → at t v ≤ at t w + c
+    pub quiet : Quiet asked t
+
+  -- a pass back and one on, from s to t: no edge lowers a value any more, or the sum fell and there is more to do
+  pub record PassedBoth (more : Bool) (s t : List ℕ) : Type 0 where
+    pub held : Held Near s t
+    pub less : more ≡ true → total t < total s
+    pub onward : Quiet (Onward e) t
+    pub quiet : more ≡ false → Quiet Near t
 
 -- Rows given
 

@@ -25,7 +25,8 @@ use Rattle.lines.proofs.LineLaws.{line-same, About}
 use Rattle.lines.proofs.StepLaws.{sides-among}
 use Rattle.grid_hanan.specs.Balance.{goesUp}
 use Rattle.grid_hanan.proofs.InsteadLaws.{Instead, instead-same, instead-then}
-use Rattle.grid_hanan.proofs.NextLines.{differs, one-below, one-above, not-it, next-below, next-above, off-line, about-below, about-above}
+use Rattle.grid_hanan.proofs.NextLines.{differs, one-below, one-above, not-it, next-below, next-above}
+use Rattle.grid_hanan.proofs.NextLines.{off-line, about-below, about-above}
 use Rattle.grid_hanan.proofs.OneLine.{shifted-line}
 use Rattle.grid_hanan.proofs.StepLaws.{Kept, shiftedPlace, kept-shifted, line-twice}
 use Rattle.grid_hanan.proofs.ShiftCost.{up-no-dearer, down-no-dearer, even-all, drawn-all}

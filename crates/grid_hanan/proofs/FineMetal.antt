@@ -130,7 +130,9 @@ module _ (d : ℕ) (some : 1 ≤ d) where
         }
 
     small : (a b : Place) → Large a b → Small a b
-    small = step-cases (map large xs) (map large ys) (map (fineMacro d) ms) Small record { turned = λ a b s. small-turned s; level = level; upright = upright }
+    small =
+        step-cases (map large xs) (map large ys) (map (fineMacro d) ms) Small
+        record { turned = λ a b s. small-turned s; level = level; upright = upright }
 
     -- and so all edges
     record Smaller (G : List Edge) : Type 0 where

@@ -68,7 +68,8 @@ module _ (xs ys : List ℤ) (ms : List Macro) (sides : Sides xs ys ms) (c t : �
   pub kept-shifted : (p q : Place) → Kept (c ∷ xs) ys ms p q → Kept xs ys ms (to p) (to q)
   kept-shifted p q (inl e) = inl (ap to e)
   kept-shifted p q (inr s) =
-      step-cases (c ∷ xs) ys ms (λ (a b : Place). Kept xs ys ms (to a) (to b)) record { turned = λ a b k. kept-back k; level = level; upright = upright } p q s
+      step-cases (c ∷ xs) ys ms (λ (a b : Place). Kept xs ys ms (to a) (to b))
+      record { turned = λ a b k. kept-back k; level = level; upright = upright } p q s
 
 -- the line c is there already
 pub line-twice : (xs ys : List ℤ) (ms : List Macro) (c : ℤ) → c ∈ xs → (a b : Place) → Kept (c ∷ xs) ys ms a b → Kept xs ys ms a b

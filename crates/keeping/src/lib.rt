@@ -3,7 +3,7 @@ use forest::EDGES;
 use forest::POINTS;
 ghost use mathlib.Core.Path.{_≡_};
 ghost use mathlib.Core.List.{map};
-ghost use Prim.Native.Nat.{_+_, _≤_, _<_};
+ghost use Prim.Native.Nat.{_+_, _^_, _≤_, _<_};
 ghost use lib.ListN.{length, getD};
 ghost use Rattle.forest.specs.Bounds.{pointBound, edgeBound, pathBound};
 ghost use Rattle.forest.specs.Edges.{graph, entries, filled, Fits, Named, FirstBelow, Below, Listed};
@@ -22,7 +22,7 @@ pub struct Kept {
 
 // Groups of numbered points
 
-fn changed(a: usize, b: usize, x: usize) -> usize
+fn changed(a: u16, b: u16, x: u16) -> u16
     ensures { λ r. ⌜ r ≡ changed a b x ⌝ }
 {
     if x == b {
@@ -32,7 +32,7 @@ fn changed(a: usize, b: usize, x: usize) -> usize
 }
 
 // The group b becomes the group a.
-pub fn merge(group: &mut [usize], a: usize, b: usize)
+pub fn merge(group: &mut [u16], a: u16, b: u16)
     ensures { λ _. ⌜ now (group .exit) ≡ map (changed a b) (now (group .entry)) ⌝ }
 {
     let mut i = 0;
@@ -43,13 +43,13 @@ pub fn merge(group: &mut [usize], a: usize, b: usize)
 }
 
 // Each of the first n points is its own group.
-pub fn number(group: &mut [usize], n: usize)
-    requires { ⌜ n ≤ length (now group) ⌝ }
+pub fn number(group: &mut [u16], n: usize)
+    requires { ⌜ (n ≤ length (now group)) × (n ≤ 2 ^ 16) ⌝ }
     ensures { λ _. ⌜ now (group .exit) ≡ filled (λ k. k) 0 n (now (group .entry)) ⌝ }
 {
     let mut k = 0;
     while k < n {
-        group[k] = k;
+        group[k] = k as u16;
         k += 1;
     }
 }
@@ -57,12 +57,7 @@ pub fn number(group: &mut [usize], n: usize)
 // Bridges that are kept
 
 // The group of the root of one end of edge k.
-fn group_at(
-    ends: &[usize; EDGES],
-    root: &[usize; POINTS],
-    group: &[usize; POINTS],
-    k: usize,
-) -> usize
+fn group_at(ends: &[usize; EDGES], root: &[usize; POINTS], group: &[u16; POINTS], k: usize) -> u16
     requires { ⌜ (k < edgeBound) × ((getD (now ends) k 0 < pointBound) × (Below pointBound (now root))) ⌝ }
     ensures { λ r. ⌜ r ≡ getD (now (group .entry)) (getD (now (root .entry)) (getD (now (ends .entry)) k 0) 0) 0 ⌝ }
 {
@@ -76,7 +71,7 @@ fn keep(
     root: &[usize; POINTS],
     order: &[u16; EDGES],
     n: usize,
-    group: &mut [usize; POINTS],
+    group: &mut [u16; POINTS],
     kept: &mut [usize; EDGES],
 ) -> usize
     requires { ⌜ (Named (now ea) (now eb) (now order) n) × ((Below pointBound (now root)) × (n ≤ edgeBound)) ⌝ }
@@ -149,7 +144,7 @@ fn kept_paths(
     bridges::weigh(ea, eb, el, e, far, up, via, &mut w);
     let mut order = [0u16; EDGES];
     let n = bridges::sort_bridges(ea, eb, e, root, &w, &mut order);
-    let mut group = [0usize; POINTS];
+    let mut group = [0u16; POINTS];
     number(&mut group, POINTS);
     let count = keep(ea, eb, root, &order, n, &mut group, &mut *kept);
     let total = measure(&w, &*kept, count, &mut *long);

@@ -1,7 +1,8 @@
 -- Labels of points as a program makes them: level edge by level edge, the greater label of the two ends becomes the smaller.
+use mathlib.Core.Path.{_≡_}
 use mathlib.Core.Bool.{Bool, true, false, _&&_}
 use mathlib.Core.List.{List}
-use Prim.Native.Nat.{ℕ, min, max}
+use Prim.Native.Nat.{ℕ, _<_, min, max}
 use lib.Dec.{eqb}
 use lib.IntN.{ℤ}
 use lib.ListN.{getD}
@@ -20,6 +21,10 @@ leads s pts ks lab k =
 -- of the first n labels the greater of p and q becomes the smaller
 unfoldable pub united : ℕ → ℕ → ℕ → List ℕ → List ℕ
 united n p q t = setUpTo (λ i x. changed (min p q) (max p q) x) n t
+
+-- a label above `top` is its own point's: no other of the first n points has it
+pub record Own (n top : ℕ) (t : List ℕ) : Type 0 where
+  pub own : (c : ℕ) → c < n → top < getD t c 0 → getD t c 0 ≡ c
 
 unfoldable pub joinedBy : Side → List ℤ → List ℕ → ℕ → ℕ → List ℕ → List ℕ
 joinedBy s pts ks n k t =

@@ -5,3 +5,4 @@ pub mod WinsLaws
 pub mod HungLaws
 pub mod RowLaws
 pub mod PairLaws
+pub mod NoLonger

@@ -112,4 +112,5 @@ hanging ks el e n c s h p none =
       told = record { none = none; small = small-longest ks el e n (omega (arith, p .size, p .few)); woven = h .woven };
       all = all;
       paired = paired ks el e n c s (reached ks el e n start) h (p .size) all;
+      ends = h .ends;
     }

@@ -202,6 +202,15 @@ module _ (el : List ℕ) (s : Ties) (tied : Tied s) where
     pub grown-at : (x : ℕ) → 0 < turnOf s x → Known row x → Grown x
     grown-at x a k = grown (turnOf s x) x (omega arith) a k
 
+  -- The row of a point
+
+  pub row-point : (t : List ℕ) → Told el s t → (x : ℕ) (row : List ℕ) → 0 < turnOf s x → Begun s row → Climbed s t x row →
+      Row el s (topOf t x) row
+  row-point t told x row g begun climbed = record {
+    right = λ v h k. climbed .right v h k .0;
+    grows = λ v h k. grown-at t told row (climbed .closed) v (later s row v begun h k) k x g (climbed .here);
+  }
+
   -- The row of an edge: c hangs on p
 
   module _ (t : List ℕ) (told : Told el s t) (p c : ℕ) (row : List ℕ) (climbed : Climbed s t p row) (begun : Begun s row)

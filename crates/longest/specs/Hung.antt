@@ -82,6 +82,7 @@ pub record Hanging (ks el : List ℕ) (e n : ℕ) (s : Ties) : Type 0 where
   pub told : Told el s (longest ks el e n)
   pub all : (v : ℕ) → v < n → 0 < turnOf s v
   pub paired : (k : ℕ) → k < e → Paired s (firstEnd (getD ks k 0)) (secondEnd (getD ks k 0))
+  pub ends : (v : ℕ) → 1 < turnOf s v → (linkOf s v < e) × Joins ks (linkOf s v) v (ontoOf s v)
 
 -- a tree of n points with e edges, all of whose points are reached, whatever edges cost
 pub record Spanned (ks : List ℕ) (e n : ℕ) : Type 0 where
@@ -115,3 +116,9 @@ pub record Climbed (s : Ties) (t : List ℕ) (x : ℕ) (row : List ℕ) : Type 0
   pub right : (v : ℕ) → 0 < turnOf s v → Known row v → (getD row v 0 ≡ topOf t x v) × (turnOf s v ≤ turnOf s x)
   pub closed : (v : ℕ) → 1 < turnOf s v → Known row v → Known row (ontoOf s v)
   pub here : Known row x
+
+-- From one tree to the next
+
+-- what the longest edge between v and w costs
+abbrev pub tall : List ℕ → List ℕ → ℕ → ℕ → ℕ
+tall el t v w = getD el (topOf t v w) 0

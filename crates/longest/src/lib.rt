@@ -9,8 +9,8 @@ ghost use lib.ListN.{length, getD, set};
 ghost use Rattle.plane.specs.Cost.{costLimit};
 ghost use Rattle.lists.specs.Turns.{turns};
 ghost use Rattle.tree.specs.Table.{treeBound, pairBound, firstEnd, secondEnd, Small, Low, Within};
-ghost use Rattle.longest.specs.Longest.{edgeCost, measure, wins, longer, Reach, pass, reached, cutOf};
-ghost use Rattle.longest.specs.Hung.{ties, Tied, Hung, Told, Paired, Begun, Fresh, Row, Climbed};
+ghost use Rattle.longest.specs.Longest.{edgeCost, measure, wins, longer, shorter, Reach, pass, reached, cutOf};
+ghost use Rattle.longest.specs.Hung.{ties, topOf, Tied, Hung, Told, Paired, Begun, Fresh, Row, Climbed};
 
 // The number that stands for no edge.
 pub const NONE: u16 = (POINTS - 1) as u16;
@@ -78,6 +78,17 @@ fn longer(el: &[u64; POINTS], k: usize, l: usize) -> usize
         return k;
     }
     l
+}
+
+// Of two edges the one that does not win.
+pub fn shorter(el: &[u64; POINTS], k: usize, l: usize) -> usize
+    requires { ⌜ (k < treeBound) × (l < treeBound) ⌝ }
+    ensures { λ r. ⌜ (r ≡ shorter (now (el .entry)) k l) × (r < treeBound) ⌝ }
+{
+    if wins(el, k, l) {
+        return l;
+    }
+    k
 }
 
 fn wide(x: u16) -> usize
@@ -229,6 +240,24 @@ fn climb(
         v = onto[v];
         row[v] = narrow(l);
     }
+}
+
+// The row of the point x, the longest edges from it, at x and at all that it hangs on.
+pub fn row_of(
+    el: &[u64; POINTS],
+    onto: &[usize; POINTS],
+    link: &[usize; POINTS],
+    turn: &[usize; POINTS],
+    x: usize,
+    row: &mut [u16; POINTS],
+)
+    requires { ⌜ (Tied (ties (now onto) (now link) (now turn))) × ((0 < getD (now turn) x 0) × (length (now row) ≡ treeBound)) ⌝ }
+    ensures { λ _. ⌜ Begun (ties (now (onto .entry)) (now (link .entry)) (now (turn .entry))) (now (row .exit)) ⌝ }
+    ensures { λ _. ⌜ ((t : List ℕ) → Told (now (el .entry)) (ties (now (onto .entry)) (now (link .entry)) (now (turn .entry))) t
+        → Fresh (ties (now (onto .entry)) (now (link .entry)) (now (turn .entry))) (now (row .entry))
+        → Row (now (el .entry)) (ties (now (onto .entry)) (now (link .entry)) (now (turn .entry))) (topOf t x) (now (row .exit))) ⌝ }
+{
+    climb(el, onto, link, turn, x, &mut *row);
 }
 
 // The row of the edge from a to b at both of them and at all that they hang on.

@@ -12,6 +12,7 @@ use straight::POINTS;
 ghost use mathlib.Core.Path.{_≡_};
 ghost use mathlib.Core.List.{[]};
 ghost use Prim.Native.Nat.{_^_, _≤_, _<_};
+ghost use Rattle.plane.specs.Rank.{InOrder};
 ghost use Rattle.net.specs.Bounds.{pinBound};
 ghost use Rattle.net.specs.Pins.{pinCount};
 ghost use Rattle.slide.specs.Side.{horizontal};
@@ -138,24 +139,21 @@ pub fn bar_of(
     }
 }
 
-// The number of the point at p.
+// The number of the point at p, found by halving.
 fn seat_of(pts: &[i32; NUMBERS], n: usize, p: Place) -> usize
-    requires { ⌜ n ≤ straightBound ⌝ }
+    requires { ⌜ (n ≤ straightBound) × (InOrder (now pts) n) ⌝ }
     ensures { λ r. ⌜ (r ≡ seatOf (now (pts .entry)) n p) × (r < straightBound) ⌝ }
 {
-    let mut at = 0;
-    let mut i = 0;
-    while i < n {
-        let q = straight::point_at(pts, i);
-        at = chosen(plane::is_same_place(p, q), i, at);
-        i += 1;
+    let at = plane::rank(pts, n, p);
+    if n <= at {
+        return 0;
     }
-    at
+    chosen(plane::is_same_place(p, straight::point_at(pts, at)), at, 0)
 }
 
 // The numbers of the points of the first m pins.
 pub fn seat(pts: &[i32; NUMBERS], n: usize, pins: &[i32], m: usize, seats: &mut [usize; PINS])
-    requires { ⌜ (n ≤ straightBound) × ((m ≤ pinBound) × (m ≤ pinCount (now pins))) ⌝ }
+    requires { ⌜ ((n ≤ straightBound) × (InOrder (now pts) n)) × ((m ≤ pinBound) × (m ≤ pinCount (now pins))) ⌝ }
     ensures { λ _. ⌜ now (seats .exit) ≡ seatsOf (now (pts .entry)) n (now (pins .entry)) m (now (seats .entry)) ⌝ }
 {
     let mut j = 0;

@@ -1,9 +1,9 @@
--- Sets as numbers, bit by bit; the least sum over the parts of a set, part by part; the rows of the lent work.
+-- Sets as numbers, bit by bit; the least sum over the parts of a set, part by part up to the half; the rows of the lent work.
 -- Assumes nothing.
 use mathlib.Core.Path.{_≡_, refl, sym, ap, ap₂, subst, _∙_}
 use mathlib.Core.Bool.{true, false}
 use mathlib.Core.List.{List, [], _∷_, map}
-use Prim.Native.Nat.{ℕ, zero, suc, _+_, _*_, _-_, _/_, _%_, _≤_, _<_}
+use Prim.Native.Nat.{ℕ, zero, suc, _+_, _*_, _-_, _/_, _%_, _≤_, _<_, min}
 use native.Mathlib.Decide.{ℕ-discrete}
 use native.Mathlib.Omega.{arith}
 use borrow.Author.Tests.{le-leb, lt-leb, leb-true, ne-eqb, ltb-true, ltb-false}
@@ -13,7 +13,7 @@ use lib.ListN.{List·getD-eq-default}
 use lib.Seq.{getD-drop, getD-take, getD-set-same, getD-set-other, ext-getD, length-take-le}
 use Rattle.lists.specs.Member.{_∈_, here, there}
 use Rattle.lists.specs.Those.{those}
-use Rattle.lists.proofs.TestLaws.{by, and-left}
+use Rattle.lists.proofs.TestLaws.{by, and-left, and-right, and-both}
 use Rattle.lists.proofs.ThoseLaws.{of-those}
 use Rattle.lines.specs.Bounds.{crossingBound, unreached}
 use Rattle.grid.specs.Rows.{at, Held, Quiet}
@@ -22,7 +22,7 @@ use Rattle.grid.proofs.PassLaws.{held-row}
 use Rattle.parts.specs.Bounds.{maskBound, workBound}
 use Rattle.parts.specs.Numbers.{partOf}
 use Rattle.parts.specs.Starts.{under, least, properPart, sums, trying}
-use Rattle.parts.specs.Tables.{valueAt, rowOf, RowsTo, lonePin, Begun, RowPut, RowFilled, MaskRow, FilledTo}
+use Rattle.parts.specs.Tables.{valueAt, rowOf, RowsTo, lonePin, Tried, Begun, RowPut, RowFilled, MaskRow, FilledTo}
 use Rattle.parts.proofs.Under.{of-under}
 
 -- Parts, bit by bit
@@ -43,6 +43,17 @@ pub part-end : (m p s : ℕ) → m ≤ 0 → partOf m p s ≡ true
 unfolding partOf
 part-end zero p s h = refl
 part-end (suc m) p s h = absurd (let z : ⊥ = omega (arith, h) in z)
+
+-- the rest of a set is a part too
+pub part-rest : (m p s : ℕ) → p ≤ s → partOf m p s ≡ true → partOf m (s - p) s ≡ true
+unfolding partOf
+part-rest zero p s h e = refl
+part-rest (suc m) p s h e =
+    let bit = leb-true (p % 2) (s % 2) (and-left (leb (p % 2) (s % 2)) (partOf m (p / 2) (s / 2)) e) in
+    let half : s / 2 - p / 2 ≡ (s - p) / 2 = omega (arith, h, bit) in
+    let rest = part-rest m (p / 2) (s / 2) (omega (arith, h)) (and-right (leb (p % 2) (s % 2)) (partOf m (p / 2) (s / 2)) e) in
+    and-both (leb ((s - p) % 2) (s % 2)) (partOf m ((s - p) / 2) (s / 2)) (le-leb ((s - p) % 2) (s % 2) (omega (arith, h, bit)))
+    (subst (λ (n : ℕ). partOf m n (s / 2) ≡ true) half rest)
 
 -- The lone pin of a set
 
@@ -118,76 +129,135 @@ module _ (m : ℕ) (value : ℕ → ℕ → ℕ) (s v : ℕ) where
       let one = le-leb 1 p h in
       by (partOf m p s) (λ e. rw (n, trying, those, one, e) refl) (λ e. rw (n, trying, those, one, e) refl)
 
-  pub sofar-end : (p : ℕ) → p ≤ s → s ≤ p → sofar p ≡ least unreached (sums m value s v)
-  unfolding sofar sums
-  sofar-end p h k = let e : p ≡ s = omega (arith, h, k) in ap sofar e
-
-  -- the three answers for a part
+  -- the two answers for a part
   pub try-none : (p best : ℕ) → partOf m p s ≡ false → trying m value s v p best ≡ best
   unfolding trying
   try-none p best e = rw (trying, e) refl
 
-  pub try-less : (p best x : ℕ) → partOf m p s ≡ true → x ≡ value p v + value (s - p) v → x < best → trying m value s v p best ≡ x
+  pub try-one : (p best : ℕ) → partOf m p s ≡ true → trying m value s v p best ≡ min (value p v + value (s - p) v) best
   unfolding trying
-  try-less p best x e k h = rw (trying, e, ← k) (omega (arith, h))
+  try-one p best e = rw (trying, e) refl
 
-  pub try-more : (p best x : ℕ) → partOf m p s ≡ true → x ≡ value p v + value (s - p) v → best ≤ x → trying m value s v p best ≡ best
-  unfolding trying
-  try-more p best x e k h = rw (trying, e, ← k) (omega (arith, h))
+  try-low : (p best : ℕ) → trying m value s v p best ≤ best
+  try-low p best =
+      by (partOf m p s) (λ e. omega (arith, try-one p best e)) (λ e. omega (arith, try-none p best e))
 
-  pub least-low : (l : List ℕ) → least unreached l ≤ unreached
-  unfolding least
-  least-low [] = omega arith
-  least-low (x ∷ l) = omega (arith, least-low l)
+  -- not above the sum of any part that was tried
+  sofar-low : (q d : ℕ) → 1 ≤ q → partOf m q s ≡ true → sofar (q + 1 + d) ≤ value q v + value (s - q) v
+  sofar-low q zero h e =
+      let n : q + 1 + 0 ≡ q + 1 = omega arith in
+      rw n (omega (arith, sofar-more q h, try-one q (sofar q) e))
+  sofar-low q (suc d) h e =
+      let n : q + 1 + suc d ≡ q + 1 + d + 1 = omega arith in
+      rw n (omega (arith, sofar-more (q + 1 + d) (omega arith), try-low (q + 1 + d) (sofar (q + 1 + d)), sofar-low q d h e))
 
--- The start row, number by number
+  -- a part above the half lowers nothing: the rest of the set has been tried
+  sofar-rest : (p : ℕ) → p < s → s < p + p → sofar (p + 1) ≡ sofar p
+  sofar-rest p h k = sym (sofar-more p (omega (arith, h, k))) ∙ by (partOf m p s) (λ e. met e) (λ e. try-none p (sofar p) e)
+    where
+      met : partOf m p s ≡ true → trying m value s v p (sofar p) ≡ sofar p
+      met e =
+          let d = p - (s - p + 1) in
+          let n : s - p + 1 + d ≡ p = omega (arith, h, k) in
+          let back : s - (s - p) ≡ p = omega (arith, h) in
+          let low = sofar-low (s - p) d (omega (arith, h)) (part-rest m p s (omega (arith, h)) e) in
+          let low-p : sofar p ≤ value (s - p) v + value p v = rw (n, back) at low in
+          try-one p (sofar p) e ∙ (let z : min (value p v + value (s - p) v) (sofar p) ≡ sofar p = omega (arith, low-p) in z)
+
+  -- the parts of the lower half are enough
+  sofar-on : (p d : ℕ) → s < p + p → p + d ≤ s → sofar (p + d) ≡ sofar p
+  sofar-on p zero h k = ap sofar (let z : p + 0 ≡ p = omega arith in z)
+  sofar-on p (suc d) h k =
+      let n : p + suc d ≡ p + d + 1 = omega arith in
+      ap sofar n ∙ sofar-rest (p + d) (omega (arith, k)) (omega (arith, h)) ∙ sofar-on p d h (omega (arith, k))
+
+  pub sofar-end : (p : ℕ) → p ≤ s → s < p + p → sofar p ≡ least unreached (sums m value s v)
+  unfolding sofar sums
+  sofar-end p h k =
+      let n : p + (s - p) ≡ s = omega (arith, h) in
+      sym (sofar-on p (s - p) k (omega (arith, h))) ∙ ap sofar n
+
+-- A part tried, number by number
+
+pub record Trying (m : ℕ) (value : ℕ → ℕ → ℕ) (s p : ℕ) (t : List ℕ) (v : ℕ) (u : List ℕ) : Type 0 where
+  pub row : Row u
+  pub each : (x : ℕ) → x < v → at u x ≡ trying m value s x p (at t x)
+  pub rest : (x : ℕ) → v ≤ x → at u x ≡ at t x
+
+module _ (m : ℕ) (value : ℕ → ℕ → ℕ) (s p : ℕ) (t : List ℕ) where
+  pub tried-none : Row t → partOf m p s ≡ false → Tried m value s p t t
+  tried-none r e = record { row = r; each = λ v h. sym (try-none m value s v p (at t v) e) }
+
+  pub trying-none : Row t → Trying m value s p t 0 t
+  trying-none r = record { row = r; each = λ x h. let z : ⊥ = omega (arith, h) in absurd z; rest = λ x h. refl }
+
+  pub trying-more : (v sum n : ℕ) (u : List ℕ) → v < crossingBound → partOf m p s ≡ true → sum ≡ value p v + value (s - p) v →
+      n ≡ min sum (at u v) → Trying m value s p t v u → Trying m value s p t (v + 1) (set u v n)
+  trying-more v sum n u h e f k b = record {
+    row = record { size = length-set u v n ∙ b .row .size; low = λ x. low x (ℕ-discrete x v) };
+    each = λ x i. each x i (ℕ-discrete x v);
+    rest = λ x i. getD-set-other u v x n 0 (λ z. let y : ⊥ = omega (arith, z, i) in y) ∙ b .rest x (omega (arith, i));
+  }
+    where
+      here-is : at (set u v n) v ≡ n
+      here-is = getD-set-same u v n 0 (omega (arith, h, b .row .size))
+
+      low : (x : ℕ) → Dec (x ≡ v) → at (set u v n) x ≤ unreached
+      low x (yes z) = rw z (omega (arith, here-is, k, b .row .low v))
+      low x (no z) = omega (arith, getD-set-other u v x n 0 z, b .row .low x)
+
+      here-tried : at (set u v n) v ≡ trying m value s v p (at t v)
+      here-tried =
+          let same = b .rest v (omega arith) in
+          here-is ∙ k ∙ ap₂ min f same ∙ sym (try-one m value s v p (at t v) e)
+
+      each : (x : ℕ) → x < v + 1 → Dec (x ≡ v) → at (set u v n) x ≡ trying m value s x p (at t x)
+      each x i (yes z) = subst (λ (y : ℕ). at (set u v n) y ≡ trying m value s y p (at t y)) (sym z) here-tried
+      each x i (no z) = getD-set-other u v x n 0 z ∙ b .each x (omega (arith, i, z))
+
+  pub trying-end : (v : ℕ) (u : List ℕ) → crossingBound ≤ v → Trying m value s p t v u → Tried m value s p t u
+  trying-end v u h b = record { row = b .row; each = λ x i. b .each x (omega (arith, i, h)) }
+
+-- The start row, part by part
 
 -- one in which no crossing is reached
+fresh-past : (v : ℕ) → crossingBound ≤ v → at (replicate crossingBound unreached) v ≡ 0
+fresh-past v h =
+    List·getD-eq-default (replicate crossingBound unreached) 0
+    (let z : length (replicate crossingBound unreached) ≤ v = omega (arith, h, length-replicate crossingBound unreached) in z)
+
 pub fresh-row : (t : List ℕ) → t ≡ replicate crossingBound unreached → Row t
 fresh-row t e = record {
   size = ap length e ∙ length-replicate crossingBound unreached;
   low = λ v. by (ltb v crossingBound)
       (λ h. omega (arith, ap (λ (l : List ℕ). at l v) e, getD-replicate crossingBound v unreached 0 (ltb-true v crossingBound h)))
-      (λ h. omega (arith, ap (λ (l : List ℕ). at l v) e, past v (ltb-false v crossingBound h)));
+      (λ h. omega (arith, ap (λ (l : List ℕ). at l v) e, fresh-past v (ltb-false v crossingBound h)));
 }
-  where
-    past : (v : ℕ) → crossingBound ≤ v → at (replicate crossingBound unreached) v ≡ 0
-    past v h =
-        List·getD-eq-default (replicate crossingBound unreached) 0
-        (let z : length (replicate crossingBound unreached) ≤ v = omega (arith, h, length-replicate crossingBound unreached) in z)
 
-pub record Beginning (m : ℕ) (work : List ℕ) (s : ℕ) (v : ℕ) (t : List ℕ) : Type 0 where
+pub record Beginning (m : ℕ) (work : List ℕ) (s p : ℕ) (t : List ℕ) : Type 0 where
   pub row : Row t
-  pub each : (u : ℕ) → u < v → at t u ≡ least unreached (sums m (valueAt work) s u)
+  pub each : (v : ℕ) → v < crossingBound → at t v ≡ sofar m (valueAt work) s v p
 
 module _ (m : ℕ) (work : List ℕ) (s : ℕ) where
-  pub begin-none : (t : List ℕ) → Row t → Beginning m work s 0 t
-  begin-none t r = record { row = r; each = λ u h. let z : ⊥ = omega (arith, h) in absurd z }
-
-  pub begin-more : (v x : ℕ) (t : List ℕ) → v < crossingBound → x ≡ least unreached (sums m (valueAt work) s v) → Beginning m work s v t →
-      Beginning m work s (v + 1) (set t v x)
-  begin-more v x t h e b = record {
-    row = record { size = length-set t v x ∙ b .row .size; low = λ u. low u (ℕ-discrete u v) };
-    each = λ u i. each u i (ℕ-discrete u v);
+  pub begin-none : (t : List ℕ) → t ≡ replicate crossingBound unreached → Beginning m work s 1 t
+  begin-none t e = record {
+    row = fresh-row t e;
+    each = λ v h. ap (λ (l : List ℕ). at l v) e ∙ getD-replicate crossingBound v unreached 0 h ∙ sym (sofar-none m (valueAt work) s v);
   }
-    where
-      here-is : at (set t v x) v ≡ x
-      here-is = getD-set-same t v x 0 (omega (arith, h, b .row .size))
 
-      low : (u : ℕ) → Dec (u ≡ v) → at (set t v x) u ≤ unreached
-      low u (yes k) = rw k (omega (arith, here-is, e, least-low m (valueAt work) s v (sums m (valueAt work) s v)))
-      low u (no n) = omega (arith, getD-set-other t v u x 0 n, b .row .low u)
+  pub begin-more : (p : ℕ) (t u : List ℕ) → 1 ≤ p → Beginning m work s p t → Tried m (valueAt work) s p t u →
+      Beginning m work s (p + 1) u
+  begin-more p t u h b r = record {
+    row = r .row;
+    each = λ v i. r .each v i ∙ ap (trying m (valueAt work) s v p) (b .each v i) ∙ sofar-more m (valueAt work) s v p h;
+  }
 
-      each : (u : ℕ) → u < v + 1 → Dec (u ≡ v) → at (set t v x) u ≡ least unreached (sums m (valueAt work) s u)
-      each u i (yes k) = subst (λ (z : ℕ). at (set t v x) z ≡ least unreached (sums m (valueAt work) s z)) (sym k) (here-is ∙ e)
-      each u i (no n) = getD-set-other t v u x 0 n ∙ b .each u (omega (arith, i, n))
-
-  pub begin-end : (numbers : List ℕ) (v : ℕ) (t : List ℕ) → lonePin s ≡ 0 → crossingBound ≤ v → Beginning m work s v t →
+  pub begin-end : (numbers : List ℕ) (p : ℕ) (t : List ℕ) → lonePin s ≡ 0 → p ≤ s → s < p + p → Beginning m work s p t →
       Begun m numbers work s t
-  begin-end numbers v t z h b = record {
+  begin-end numbers p t z h k b = record {
     row = b .row;
-    lone = λ k. let y : ⊥ = omega (arith, z, k) in absurd y;
-    parts = λ e u i. b .each u (omega (arith, i, h));
+    lone = λ o. let y : ⊥ = omega (arith, z, o) in absurd y;
+    parts = λ o v i. b .each v i ∙ sofar-end m (valueAt work) s v p h k;
   }
 
   pub begin-lone : (numbers : List ℕ) (i : ℕ) (t : List ℕ) → i ≡ lonePin s → 0 < i → Starts (getD numbers i 0) t → Begun m numbers work s t

@@ -8,7 +8,8 @@
 --   Numbers    number, bitsOf, partOf                    masks as numbers
 --   Starts     least, sums, trying                       the least sum over the parts of a number
 --   Tables     valueAt, rowOf, RowsTo                    the rows in the lent work
---              lonePin, Begun, RowPut, RowFilled         the start of a row; a row put; a row filled
+--              lonePin, Tried, Begun                     a part tried; the start of a row
+--              RowPut, RowFilled                         a row put; a row filled
 --              MaskRow, FilledTo                         a row that stands; all rows below a number
 pub mod Bounds
 pub mod Numbers

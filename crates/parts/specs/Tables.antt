@@ -10,7 +10,7 @@ use Rattle.lines.specs.Bounds.{crossingBound, unreached}
 use Rattle.grid.specs.Rows.{at, Held, Quiet}
 use Rattle.grid.specs.Tables.{Row, Starts}
 use Rattle.parts.specs.Bounds.{maskBound, workBound}
-use Rattle.parts.specs.Starts.{least, sums}
+use Rattle.parts.specs.Starts.{least, sums, trying}
 
 -- the number of mask s at crossing v
 abbrev pub valueAt : List ℕ → ℕ → ℕ → ℕ
@@ -31,6 +31,11 @@ lonePin s =
       | true ↦ 1
       | false ↦ elim (eqb s 2) [ true ↦ 2 | false ↦ elim (eqb s 4) [ true ↦ 3 | false ↦ elim (eqb s 8) [ true ↦ 4 | false ↦ 0 ] ] ]
     ]
+
+-- part p of mask s tried, from the row t to u: each number is the least sum so far
+pub record Tried (m : ℕ) (value : ℕ → ℕ → ℕ) (s p : ℕ) (t u : List ℕ) : Type 0 where
+  pub row : Row u
+  pub each : (v : ℕ) → v < crossingBound → at u v ≡ trying m value s v p (at t v)
 
 -- what the row of mask s starts with: 0 at the crossing of a lone pin, else the least sums over its parts
 pub record Begun (m : ℕ) (numbers work : List ℕ) (s : ℕ) (t : List ℕ) : Type 0 where

@@ -4,15 +4,14 @@
 // pins of the set.
 use lines::Grid;
 ghost use mathlib.Core.Path.{_≡_};
-ghost use Prim.Native.Nat.{_+_, _≤_, _<_};
+ghost use Prim.Native.Nat.{_+_, _≤_, _<_, min};
 ghost use lib.ListN.{length, replicate};
 ghost use Rattle.lines.specs.Bounds.{crossingBound, unreached};
 ghost use Rattle.grid.specs.Rows.{Below};
-ghost use Rattle.grid.specs.Tables.{Fits, Near};
+ghost use Rattle.grid.specs.Tables.{Row, Fits, Near};
 ghost use Rattle.parts.specs.Bounds.{bestPins, maskBound, workBound};
 ghost use Rattle.parts.specs.Numbers.{partOf};
-ghost use Rattle.parts.specs.Starts.{least, sums, trying};
-ghost use Rattle.parts.specs.Tables.{valueAt, rowOf, RowsTo, lonePin, Begun, RowPut, RowFilled, FilledTo};
+ghost use Rattle.parts.specs.Tables.{valueAt, rowOf, RowsTo, lonePin, Tried, Begun, RowPut, RowFilled, FilledTo};
 
 // Sets as numbers
 
@@ -64,37 +63,33 @@ pub fn sum_at(work: &[u32], p: usize, q: usize, v: usize) -> u32
     work[p * Grid::CROSSINGS + v] + work[q * Grid::CROSSINGS + v]
 }
 
-// The least sum so far, once the part p of s has been tried too.
-fn tried(work: &[u32], m: usize, s: usize, v: usize, p: usize, best: u32) -> u32
-    requires { ⌜ (RowsTo s (now work)) × ((s < maskBound) × (v < crossingBound)) ⌝ }
-    requires { ⌜ (1 ≤ p) × (p < s) ⌝ }
-    ensures { λ r. ⌜ r ≡ trying m (valueAt (now (work .entry))) s v p best ⌝ }
+fn lesser(x: u32, y: u32) -> u32
+    ensures { λ r. ⌜ r ≡ min x y ⌝ }
 {
-    if !is_part(m, p, s) {
-        return best;
-    }
-    let x = sum_at(work, p, s - p, v);
-    if x < best {
+    if x < y {
         return x;
     }
-    best
+    y
 }
 
-// The least sum of crossing v over the parts of s.
-fn start_at(work: &[u32], m: usize, s: usize, v: usize) -> u32
-    requires { ⌜ (RowsTo s (now work)) × (((1 ≤ s) × (s < maskBound)) × (v < crossingBound)) ⌝ }
-    ensures { λ r. ⌜ r ≡ least unreached (sums m (valueAt (now (work .entry))) s v) ⌝ }
+// The numbers of a row lowered to what the part p of s costs with the rest of s; as they were where p is no part.
+fn try_part(work: &[u32], m: usize, s: usize, p: usize, row: &mut [u32; Grid::CROSSINGS])
+    requires { ⌜ (RowsTo s (now work)) × (s < maskBound) ⌝ }
+    requires { ⌜ ((1 ≤ p) × (p < s)) × (Row (now row)) ⌝ }
+    ensures { λ _. ⌜ Tried m (valueAt (now (work .entry))) s p (now (row .entry)) (now (row .exit)) ⌝ }
 {
-    let mut best = Grid::UNREACHED;
-    let mut p = 1;
-    while p < s {
-        best = tried(work, m, s, v, p, best);
-        p += 1;
+    if !is_part(m, p, s) {
+        return;
     }
-    best
+    let mut v = 0;
+    while v < Grid::CROSSINGS {
+        row[v] = lesser(sum_at(work, p, s - p, v), row[v]);
+        v += 1;
+    }
 }
 
-// The row that set s starts with, from one in which no crossing is reached: 0 at a lone pin, else the least sums.
+// The row that set s starts with, from one in which no crossing is reached: 0 at a lone pin, else the least sums. Of a part and the rest
+// one is tried, the one with the smaller number.
 fn begin(
     work: &[u32],
     numbers: &[usize; Grid::PINS],
@@ -111,10 +106,10 @@ fn begin(
         grid::start(&mut *row, numbers[i]);
         return;
     }
-    let mut v = 0;
-    while v < Grid::CROSSINGS {
-        row[v] = start_at(work, m, s, v);
-        v += 1;
+    let mut p = 1;
+    while p + p <= s {
+        try_part(work, m, s, p, &mut *row);
+        p += 1;
     }
 }
 

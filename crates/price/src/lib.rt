@@ -1,4 +1,5 @@
-// The price of a net's metal by the list of bands that a bureau lends. The list is tested before a charge is worked out.
+// The price of metal by the list of bands that a bureau lends, once the list is tested: whoever has it refuses 31 and 37 before there is
+// metal to charge for.
 use bands::Band;
 use net::Refusal;
 ghost use mathlib.Core.Path.{_≡_};
@@ -8,7 +9,7 @@ ghost use Rattle.lists.specs.Any.{any};
 ghost use Rattle.bands.specs.Band.{bandsOf};
 ghost use Rattle.bands.specs.Tests.{rateBound, rateAbove};
 ghost use Rattle.price.specs.Charge.{metalBound, charge, reaches, byFirst};
-ghost use Rattle.price.specs.Price.{priced, toldPrice};
+ghost use Rattle.price.specs.Price.{toldPrice};
 
 // A rate is for this many units of metal.
 const UNITS: u64 = 1000;
@@ -47,7 +48,7 @@ fn charge(metal: u64, rate: u64) -> u64
 }
 
 // The charge by the first band that reaches the metal, or 32.
-fn by_first(metal: u64, bands: &[u64]) -> Priced
+pub fn by_first(metal: u64, bands: &[u64]) -> Priced
     requires { ⌜ (metal ≤ metalBound) × (any rateAbove (bandsOf (now bands)) ≡ false) ⌝ }
     ensures { λ r. ⌜ toldPrice r ≡ byFirst metal (bandsOf (now (bands .entry))) ⌝ }
 {
@@ -61,21 +62,4 @@ fn by_first(metal: u64, bands: &[u64]) -> Priced
         i += 1;
     }
     Priced::Refused(Refusal::Reach)
-}
-
-// The charge for so much metal by a list of bands: 31, then 37, then 32, then the charge.
-pub fn price(metal: u64, bands: &[u64]) -> Priced
-    requires { ⌜ metal ≤ metalBound ⌝ }
-    ensures { λ r. ⌜ toldPrice r ≡ priced metal (now (bands .entry)) ⌝ }
-{
-    if bands::bands_miscounted(bands) {
-        return Priced::Refused(Refusal::Bands);
-    }
-    if bands::any_rate_above(bands) {
-        return Priced::Refused(Refusal::Bands);
-    }
-    if bands::any_step_back(bands) {
-        return Priced::Refused(Refusal::BandOrder);
-    }
-    by_first(metal, bands)
 }

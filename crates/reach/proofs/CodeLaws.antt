@@ -46,7 +46,7 @@ module _ (e : Seen) (n : ℕ) (c : Spot) (t : Bool) (d : ℕ) (p : t ≡ aheadOf
 
 -- past a macro
 module _ (b : Bar) (f : Face) (w : Way) where
-  abbrev faced : Bool
+  abbrev pub faced : Bool
   faced = ltb (f .starts) (b .last .along) && (ltb (b .first .along) (f .finishes) && ltb (b .first .across) (f .far))
 
   pub face-met : faced ≡ true → (d n : ℕ) → d ≡ f .near + 1 - b .first .across → n ≡ min (w .stop) d
@@ -100,15 +100,15 @@ front-is b e x y z p q r = rw (p, q, r) refl
 
 -- The stop never grows
 
-past-less : (v : View) (e : ℕ) (b : Bar) (t : Seen) (w : Way) → past v e b t w .stop ≤ w .stop
+pub past-less : (v : View) (e : ℕ) (b : Bar) (t : Seen) (w : Way) → past v e b t w .stop ≤ w .stop
 unfolding past
 past-less v e b t w = by (ownOf t || not (frontOf b t)) (λ h. rw (past, h) (omega arith)) (λ h. rw (past, h) (omega arith))
 
-face-less : (b : Bar) (f : Face) (w : Way) → pastFace b f w .stop ≤ w .stop
+pub face-less : (b : Bar) (f : Face) (w : Way) → pastFace b f w .stop ≤ w .stop
 unfolding pastFace
 face-less b f w = by (faced b f w) (λ h. rw (pastFace, h) (omega arith)) (λ h. rw (pastFace, h) (omega arith))
 
-up-less : (f : ℕ → Way → Way) → ((k : ℕ) (w : Way) → f k w .stop ≤ w .stop) → (n : ℕ) (w : Way) → upTo f n w .stop ≤ w .stop
+pub up-less : (f : ℕ → Way → Way) → ((k : ℕ) (w : Way) → f k w .stop ≤ w .stop) → (n : ℕ) (w : Way) → upTo f n w .stop ≤ w .stop
 unfolding upTo
 up-less f h zero w = omega arith
 up-less f h (suc n) w = omega (arith, h n (upTo f n w), up-less f h n w)

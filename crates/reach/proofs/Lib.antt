@@ -1,4 +1,5 @@
 pub mod CodeLaws
+pub mod HopelessLaws
 pub mod CornerLaws
 pub mod PassLaws
 pub mod ExemptLaws

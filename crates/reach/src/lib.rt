@@ -12,6 +12,7 @@ ghost use Rattle.straight.specs.Table.{straightBound, Small};
 ghost use Rattle.turned.specs.Turned.{face};
 ghost use Rattle.reach.specs.Passing.{ownOf, frontOf, lowOf, highOf, endsAt, seenBy, isFar};
 ghost use Rattle.reach.specs.Passing.{exempt, past, pastPoints, pastEdges, pastFace, pastMacros, reached, wayOf};
+ghost use Rattle.reach.specs.Hopeless.{hopeless, Alike, Near};
 
 // A bar that may move to a side: the label of its points, its first and last spot, the shortest edge ahead, and where the box that it
 // sweeps by that much ends.
@@ -166,21 +167,34 @@ fn past(
     }
 }
 
+// Something bars the way so near that the bar moves by less than `need`.
+fn is_hopeless(w: Way, need: u64) -> bool
+    ensures { λ r. ⌜ r ≡ hopeless need w ⌝ }
+{
+    !w.free & (w.stop <= need)
+}
+
+// The rest of the way is not looked at once it is hopeless.
 fn past_points(
     pts: &[i32; NUMBERS],
     keys: &[usize; POINTS],
     z: Size,
     lab: &[usize; POINTS],
     bar: Bar,
+    need: u64,
     w: Way,
 ) -> Way
     requires { ⌜ ((z .points ≤ straightBound) × (z .edges ≤ straightBound)) × (Small (now keys)) ⌝ }
-    ensures { λ r. ⌜ r ≡ pastPoints (seenBy (now (pts .entry)) (now (keys .entry)) (now (lab .entry)) bar) (z .points) (z .edges) bar w ⌝ }
+    ensures { λ r. ⌜ Alike need w r (pastPoints (seenBy (now (pts .entry)) (now (keys .entry)) (now (lab .entry)) bar) (z .points)
+        (z .edges) bar w) ⌝ }
 {
     let side = bar.side;
     let mut way = w;
     let mut i = 0;
     while i < z.points {
+        if is_hopeless(way, need) {
+            return way;
+        }
         let t = turned::seen_point(pts, lab, side, bar.label, i);
         way = past(pts, keys, z.edges, lab, bar, t, way);
         i += 1;
@@ -194,15 +208,20 @@ fn past_edges(
     z: Size,
     lab: &[usize; POINTS],
     bar: Bar,
+    need: u64,
     w: Way,
 ) -> Way
     requires { ⌜ ((z .points ≤ straightBound) × (z .edges ≤ straightBound)) × (Small (now keys)) ⌝ }
-    ensures { λ r. ⌜ r ≡ pastEdges (seenBy (now (pts .entry)) (now (keys .entry)) (now (lab .entry)) bar) (z .edges) bar w ⌝ }
+    ensures { λ r. ⌜ Alike need w r (pastEdges (seenBy (now (pts .entry)) (now (keys .entry)) (now (lab .entry)) bar) (z .edges)
+        bar w) ⌝ }
 {
     let side = bar.side;
     let mut way = w;
     let mut k = 0;
     while k < z.edges {
+        if is_hopeless(way, need) {
+            return way;
+        }
         let t = turned::seen_edge(pts, keys, lab, side, bar.label, k);
         way = past(pts, keys, z.edges, lab, bar, t, way);
         k += 1;
@@ -226,20 +245,24 @@ fn past_macro(bar: Bar, m: Macro, w: Way) -> Way
     w
 }
 
-fn past_macros(macros: &[i32], bar: Bar, w: Way) -> Way
-    ensures { λ r. ⌜ r ≡ pastMacros (now (macros .entry)) bar w ⌝ }
+fn past_macros(macros: &[i32], bar: Bar, need: u64, w: Way) -> Way
+    ensures { λ r. ⌜ Alike need w r (pastMacros (now (macros .entry)) bar w) ⌝ }
 {
     let k = macros.len() / 4;
     let mut way = w;
     let mut i = 0;
     while i < k {
+        if is_hopeless(way, need) {
+            return way;
+        }
         way = past_macro(bar, clear::macro_at(macros, i), way);
         i += 1;
     }
     way
 }
 
-// To the end of the shortest edge if nothing bars that, else to one before the first thing that is met.
+// To the end of the shortest edge if nothing bars that, else to one before the first thing that is met. Where that is below `need`, some
+// number below it: no more is asked of a move that cannot be the best.
 pub fn reach(
     pts: &[i32; NUMBERS],
     keys: &[usize; POINTS],
@@ -247,18 +270,20 @@ pub fn reach(
     lab: &[usize; POINTS],
     macros: &[i32],
     bar: Bar,
+    need: u64,
 ) -> u64
     requires { ⌜ ((z .points ≤ straightBound) × (z .edges ≤ straightBound)) × (Small (now keys)) ⌝ }
-    ensures { λ r. ⌜ r ≡ reached bar (wayOf (seenBy (now (pts .entry)) (now (keys .entry)) (now (lab .entry)) bar) (z .points) (z .edges)
-        (now (macros .entry)) bar) ⌝ }
+    ensures { λ r. ⌜ Near need r (reached bar (wayOf (seenBy (now (pts .entry)) (now (keys .entry)) (now (lab .entry)) bar) (z .points)
+        (z .edges) (now (macros .entry)) bar)) ⌝ }
+    ensures { λ r. ⌜ r ≤ bar .most ⌝ }
 {
     let start = Way {
         stop: bar.most,
         free: true,
     };
-    let w = past_macros(macros, bar, start);
-    let v = past_points(pts, keys, z, lab, bar, w);
-    let u = past_edges(pts, keys, z, lab, bar, v);
+    let w = past_macros(macros, bar, need, start);
+    let v = past_points(pts, keys, z, lab, bar, need, w);
+    let u = past_edges(pts, keys, z, lab, bar, need, v);
     if u.free {
         return bar.most;
     }

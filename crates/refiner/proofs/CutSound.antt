@@ -31,7 +31,7 @@ use Rattle.tree.proofs.ListingLaws.{listing-length, in-listing}
 use Rattle.tree.proofs.PointLaws.{same-place}
 use Rattle.refiner.proofs.CutLaws.{Is, cut-is, the-way}
 use Rattle.beside.proofs.HangingLaws.{no-cost}
-use Rattle.refiner.proofs.WinnerLaws.{cost-at}
+use Rattle.bounds.proofs.CostLaws.{cost-at}
 
 -- only one edge is the longest, smallest on a tie
 longest-one : (net : Net) (t : Tree) (x : Place) (ps : List Place) (l m : ℕ) → LongestOn net t x ps l → LongestOn net t x ps m → l ≡ m

@@ -41,7 +41,7 @@ use Rattle.refiner.specs.Ready.{verticesOf, vertexAt, Grounded}
 use Rattle.refiner.specs.Sentences.{keyAt, endA, endB, EndOf, CutAt}
 use Rattle.candidates.specs.Taken.{Taken}
 use Rattle.refiner.proofs.CutSound.{cut-at}
-use Rattle.refiner.proofs.TakesLaws.{not-dropped, dropped-not, Other}
+use Rattle.bounds.proofs.DroppedLaws.{not-dropped, dropped-not, Other}
 use Rattle.refiner.proofs.GraftSound.{Grows, grows-way}
 use Rattle.refiner.proofs.WayBeside.{T, P, wayOf, on-near, seated, vertex-one, way-low, way-along, way-single, way-meets, way-hangs}
 use Rattle.refiner.proofs.BesideWins.{WinnerOff}

@@ -23,3 +23,4 @@ pub mod BesideWins
 pub mod TakenKept
 pub mod GraftTaken
 pub mod RoundReady
+pub mod KeptLaws

@@ -38,7 +38,8 @@ use Rattle.refiner.specs.Graft.{Grown}
 use Rattle.refiner.specs.Round.{exchangeWith, exchangeIn, roundsIn}
 use Rattle.refiner.specs.Ready.{verticesOf, vertexAt, Grounded, Ready, Roomy}
 use Rattle.refiner.specs.Sentences.{keyAt}
-use Rattle.refiner.proofs.WinnerLaws.{Winner, found-wins, cost-at}
+use Rattle.bounds.proofs.CostLaws.{cost-at}
+use Rattle.refiner.proofs.WinnerLaws.{Winner, found-wins}
 use Rattle.refiner.proofs.RoundSound.{Won, round-falls, round-kept}
 use Rattle.refiner.proofs.CutSound.{tree-size}
 use Rattle.refiner.proofs.SpanLaws.{tree-reaches}

@@ -36,7 +36,8 @@ use Rattle.exchanges.proofs.RankedLaws.{dropped-ranked, laid-level, ranked-of}
 use Rattle.exchanges.proofs.ExchangeSound.{laid-sound, laid-known, laid-costs}
 use Rattle.refiner.proofs.CutLaws.{Is, cut-is, the-way}
 use Rattle.beside.proofs.HangingLaws.{no-cost}
-use Rattle.refiner.proofs.WinnerLaws.{Winner, found-wins, cost-at}
+use Rattle.bounds.proofs.CostLaws.{cost-at}
+use Rattle.refiner.proofs.WinnerLaws.{Winner, found-wins}
 
 -- what is kept where at most m points are new
 pub record Lasting (net : Net) (t r : Tree) (m : ℕ) : Type 0 where

@@ -1,29 +1,26 @@
 -- What is known of the candidate that a round takes: every candidate that takes the place of the best so far is one, not dropped, with L by
 -- `cutOf` and the gain by its costs; so the last one is.
 -- Assumes nothing.
-use mathlib.Core.Path.{_≡_, refl, ap, _∙_}
+use mathlib.Core.Path.{_≡_, refl}
 use mathlib.Core.Bool.{true, false, not, _&&_, _||_}
 use mathlib.Core.List.{List, []}
-use Prim.Native.Nat.{ℕ, zero, suc, _+_, _≤_, _<_}
+use Prim.Native.Nat.{ℕ, _+_, _<_}
 use native.Mathlib.Omega.{arith}
 use lib.Dec.{ltb, eqb}
 use lib.IntN.{ℤ}
-use lib.ListN.{length, getD, set, length-set, replicate}
-use borrow.Author.Tests.{ltb-true, ltb-false, eqb-false, not-true}
+use lib.ListN.{getD}
+use borrow.Author.Tests.{ltb-true, eqb-false, not-true}
 use Rattle.lists.proofs.TestLaws.{by, and-left, and-right, or-none}
 use Rattle.plane.specs.declared.Macro.{Macro}
 use Rattle.plane.specs.declared.Weights.{Weights}
 use Rattle.plane.specs.Cost.{cost}
 use Rattle.plane.specs.Flat.{placeAt}
 use Rattle.candidates.specs.declared.Best.{Best}
-use Rattle.lists.specs.Turns.{turns}
-use Rattle.tree.specs.Table.{treeBound, firstEnd, secondEnd}
-use Rattle.longest.specs.Longest.{edgeCost, measure, costs, cutOf, longest}
+use Rattle.tree.specs.Table.{firstEnd, secondEnd}
+use Rattle.longest.specs.Longest.{costs, cutOf, longest}
 use Rattle.triples.specs.Triple.{sees, dropped, allowed}
 use Rattle.candidates.specs.Candidate.{best, middleOf, weighed, offer, offers, search, found}
-use Rattle.tree.specs.Places.{keyCost}
 use Rattle.lists.proofs.TurnLaws.{turns-below}
-use Rattle.tree.proofs.SumLaws.{other, here}
 
 -- the candidate of the edge k and the point u, with L and gain
 pub record Winner (w : Weights) (ms : List Macro) (pts : List ℤ) (n : ℕ) (ks : List ℕ) (e : ℕ) (el top : List ℕ)
@@ -89,32 +86,3 @@ pub found-wins : (w : Weights) (ms : List Macro) (pts : List ℤ) (n : ℕ) (ks 
     (found w ms pts n ks e .edge) (found w ms pts n ks e .point) (found w ms pts n ks e .cut)
 unfolding found
 found-wins w ms pts n ks e h = search-wins w ms pts n ks e (costs w pts ks e) (longest ks (costs w pts ks e) e n) h
-
--- The table of costs
-
-measured-at : (w : Weights) (pts : List ℤ) (ks : List ℕ) (c i : ℕ) (el : List ℕ) (j : ℕ) → i + c ≤ length el → i ≤ j → j < i + c →
-    getD (turns (measure w pts ks) i c el) j 0 ≡ edgeCost w pts ks j
-unfolding turns measure
-measured-at w pts ks zero i el j b h l = absurd (let z : ⊥ = omega arith in z)
-measured-at w pts ks (suc c) i el j b h l =
-    let x = edgeCost w pts ks i in
-    by (ltb i j)
-    (λ t. measured-at w pts ks c (suc i) (set el i x) j (rw (length-set el i x) (omega arith)) (ltb-true i j t) (omega arith))
-    (λ t.
-    let q : j ≡ i = omega (arith, ltb-false i j t) in
-    before c (suc i) (set el i x) j (omega arith) ∙ rw q (here el i x (omega arith)))
-  where
-    before : (c i : ℕ) (el : List ℕ) (j : ℕ) → j < i → getD (turns (measure w pts ks) i c el) j 0 ≡ getD el j 0
-    before zero i el j h = refl
-    before (suc c) i el j h = before c (suc i) (set el i (edgeCost w pts ks i)) j (omega arith)
-        ∙ other el i j (edgeCost w pts ks i) (λ q. let z : ⊥ = omega arith in z)
-
-zeros-length : (m : ℕ) → length (replicate {A = ℕ} m 0) ≡ m
-zeros-length zero = refl
-zeros-length (suc m) = ap suc (zeros-length m)
-
-pub cost-at : (w : Weights) (pts : List ℤ) (ks : List ℕ) (e j : ℕ) → e ≤ treeBound → j < e
-    → getD (costs w pts ks e) j 0 ≡ keyCost w pts (getD ks j 0)
-unfolding costs edgeCost
-cost-at w pts ks e j few h = measured-at w pts ks e 0 (replicate treeBound 0) j (rw (zeros-length treeBound) (omega arith)) (omega arith)
-    (omega arith)

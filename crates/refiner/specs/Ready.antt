@@ -3,6 +3,7 @@ use mathlib.Core.Path.{_≡_}
 use mathlib.Core.Bool.{true, false}
 use mathlib.Core.List.{List, []}
 use Prim.Native.Nat.{ℕ, _+_, _*_, _≤_, _<_}
+use lib.IntN.{ℤ}
 use lib.ListN.{length, getD}
 use Rattle.lists.specs.Member.{_∈_}
 use Rattle.plane.specs.declared.Place.{Place}
@@ -21,6 +22,7 @@ use Rattle.tree.specs.Table.{treeBound, Tree, Within}
 use Rattle.tree.specs.Places.{pointsOf, Ranked, Sound}
 use Rattle.tree.specs.Outside.{strangers}
 use Rattle.longest.specs.Hung.{Spanned}
+use Rattle.bounds.specs.Carried.{Held}
 use Rattle.beside.specs.Beside.{Ground, labelsIn, parentsIn, seatsIn, chosenIn}
 use Rattle.refiner.specs.Round.{exchangeIn}
 use Rattle.refiner.specs.declared.Turn.{Turn}
@@ -85,3 +87,10 @@ pub record Turned (w : Weights) (ms : List Macro) (g : Ground) (t : Tree) (r : T
   pub moved : r .moved ≡ true → (chosenIn w ms g t .gain ≡ 0 → ⊥) × (q ≡ exchangeIn g t (chosenIn w ms g t))
   pub few : (q .count ≤ treeBound) × (q .edges .size ≤ treeBound)
   pub within : Within (q .count) (q .edges .keys)
+
+-- what a round leaves of the tree before it: where a candidate gained, its points and edges, and the bounds of its edges
+pub record Kept (w : Weights) (ms : List Macro) (pts : List ℤ) (n : ℕ) (keys : List ℕ) (e : ℕ) (r : Turn) (old : List ℤ)
+    (before bound : List ℕ) : Type 0 where
+  pub points : r .moved ≡ true → old ≡ pts
+  pub edges : r .moved ≡ true → before ≡ keys
+  pub held : Held w ms pts n keys e bound

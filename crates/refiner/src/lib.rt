@@ -80,10 +80,21 @@ pub fn rounds(
         points: n,
         edges: e,
     };
+    let mut old = [0i32; NUMBERS];
+    let mut before = [0usize; POINTS];
+    let mut bound = [0u64; POINTS];
+    let mut was = z;
+    let mut known = false;
     let mut r = 0;
     while r < m {
         let y = round::round(
             w,
+            known,
+            &mut old,
+            was.points,
+            &mut before,
+            was.edges,
+            &mut bound,
             &mut *pts,
             z.points,
             macros,
@@ -99,6 +110,8 @@ pub fn rounds(
         if !y.moved {
             return z;
         }
+        known = true;
+        was = z;
         z = Size {
             points: y.points,
             edges: y.edges,

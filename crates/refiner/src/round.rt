@@ -13,14 +13,16 @@ use tree::NUMBERS;
 use tree::POINTS;
 use tree::Size;
 ghost use mathlib.Core.Path.{_≡_};
+ghost use mathlib.Core.Bool.{true};
 ghost use Prim.Native.Nat.{_≤_};
 ghost use Rattle.plane.specs.Flat.{macrosOf};
 ghost use Rattle.forest.specs.Bounds.{pointBound};
 ghost use Rattle.forest.specs.Edges.{graph, Fits};
-ghost use Rattle.tree.specs.Table.{treeBound, tree, Within};
+ghost use Rattle.tree.specs.Table.{treeBound, pairBound, tree, Small, Within};
 ghost use Rattle.beside.specs.Beside.{ground};
 ghost use Rattle.refiner.specs.Round.{exchangeWith};
-ghost use Rattle.refiner.specs.Ready.{Exchangeable, Roomy, Turned};
+ghost use Rattle.bounds.specs.Carried.{Was};
+ghost use Rattle.refiner.specs.Ready.{Exchangeable, Roomy, Turned, Kept};
 
 // The exchange of a choice, once the way to a vertex beside the tree is laid.
 pub fn exchanged(
@@ -85,9 +87,15 @@ pub fn exchanged(
     )
 }
 
-// A round: whether a candidate gained, and the tree after it.
+// A round: whether a candidate gained, and the tree after it. The tree before it and the bounds of its edges are then known.
 pub fn round(
     w: Weights,
+    known: bool,
+    old: &mut [i32; NUMBERS],
+    m: usize,
+    before: &mut [usize; POINTS],
+    k: usize,
+    bound: &mut [u64; POINTS],
     pts: &mut [i32; NUMBERS],
     n: usize,
     macros: &[i32],
@@ -102,10 +110,13 @@ pub fn round(
 ) -> Turn
     requires { ⌜ (Fits (graph (now ea) (now eb) (now el) f)) × (v ≤ pointBound) ⌝ }
     requires { ⌜ Roomy (ground (now vertices) v (graph (now ea) (now eb) (now el) f)) (tree (now pts) n (now keys) e) ⌝ }
+    requires { ⌜ (Small pairBound (now before)) × (known ≡ true → Was w (macrosOf (now macros)) (now old) m (now before) k (now bound)) ⌝ }
     ensures { λ r. ⌜ Turned w (macrosOf (now (macros .entry)))
         (ground (now (vertices .entry)) v (graph (now (ea .entry)) (now (eb .entry)) (now (el .entry)) f))
         (tree (now (pts .entry)) n (now (keys .entry)) e) r
         (tree (now (pts .exit)) (r .points) (now (keys .exit)) (r .edges)) ⌝ }
+    ensures { λ r. ⌜ Kept w (macrosOf (now (macros .entry))) (now (pts .entry)) n (now (keys .entry)) e r (now (old .exit))
+        (now (before .exit)) (now (bound .exit)) ⌝ }
 {
     let mut source = [0usize; VERTICES];
     let s = beside::sources(&*pts, n, vertices, v, &mut source);
@@ -130,6 +141,11 @@ pub fn round(
     beside::seats(&*pts, n, vertices, v, &root, &mut seat);
     let c = beside::found(
         w,
+        known,
+        &*old,
+        m,
+        &*before,
+        k,
         &*pts,
         n,
         macros,
@@ -140,6 +156,7 @@ pub fn round(
         &far,
         &up,
         &seat,
+        &mut *bound,
     );
     if c.gain == 0 {
         return Turn {
@@ -148,6 +165,8 @@ pub fn round(
             edges: e,
         };
     }
+    *old = *pts;
+    *before = *keys;
     let z = exchanged(vertices, &far, &up, &seat, &mut *pts, n, &mut *keys, e, c);
     Turn {
         moved: true,

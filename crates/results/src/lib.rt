@@ -1,6 +1,7 @@
 // What an allowed net is given: its graph, the refined tree's edges and its wires, and a price. Each asks for what the check has shown, and
 // for the room that the operation has found.
 use net::Net;
+use net::Refusal;
 use price::Priced;
 ghost use mathlib.Core.Path.{_≡_};
 ghost use Prim.Native.Nat.{_≤_};
@@ -12,6 +13,7 @@ ghost use Rattle.net.specs.Pins.{pinCount};
 ghost use Rattle.room.specs.Needs.{vertexNeed, linkNeed, edgeNeed, wireNeed};
 ghost use Rattle.graph.specs.Numbers.{placeNumbers, edgeNumbers};
 ghost use Rattle.made.specs.Counted.{Counted};
+ghost use Rattle.price.specs.Charge.{metalBound};
 ghost use Rattle.price.specs.Price.{priced, toldPrice};
 ghost use Rattle.answers.specs.Graph.{netVertices, netEdges, pointCount};
 ghost use Rattle.answers.specs.Terminal.{pathsTotal};
@@ -96,15 +98,31 @@ pub fn wires(net: Net, pins: &[i32], macros: &[i32], wires: &mut [i32]) -> usize
     refined::give_wires(&points, &keys, tree.edges, &mut *wires)
 }
 
-// The price of its metal.
+// The metal of the refined tree.
+fn metal(net: Net, pins: &[i32], macros: &[i32]) -> u64
+    requires { ⌜ Counted net (handed (net .weights)) (now pins) (now macros) ⌝ }
+    ensures { λ r. ⌜ (r ≡ metalOf (handed (net .weights)) (now (pins .entry)) (now (macros .entry))) × (r ≤ metalBound) ⌝ }
+{
+    let mut points = [0i32; tree::NUMBERS];
+    let mut keys = [0usize; tree::POINTS];
+    let tree = made::refine(net, pins, macros, &mut points, &mut keys);
+    refined::metal(&points, &keys, tree.edges)
+}
+
+// The price of its metal. The list of bands is tested before there is a tree: 31, then 37.
 pub fn price(net: Net, pins: &[i32], macros: &[i32], bands: &[u64]) -> Priced
     requires { ⌜ Counted net (handed (net .weights)) (now pins) (now macros) ⌝ }
     ensures { λ r. ⌜ toldPrice r ≡ priced (metalOf (handed (net .weights)) (now (pins .entry)) (now (macros .entry)))
         (now (bands .entry)) ⌝ }
 {
-    let mut points = [0i32; tree::NUMBERS];
-    let mut keys = [0usize; tree::POINTS];
-    let tree = made::refine(net, pins, macros, &mut points, &mut keys);
-    let metal = refined::metal(&points, &keys, tree.edges);
-    price::price(metal, bands)
+    if bands::bands_miscounted(bands) {
+        return Priced::Refused(Refusal::Bands);
+    }
+    if bands::any_rate_above(bands) {
+        return Priced::Refused(Refusal::Bands);
+    }
+    if bands::any_step_back(bands) {
+        return Priced::Refused(Refusal::BandOrder);
+    }
+    price::by_first(metal(net, pins, macros), bands)
 }

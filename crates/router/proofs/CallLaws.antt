@@ -24,16 +24,19 @@ use Rattle.grid.specs.Distance.{SquareOver}
 use Rattle.lines.specs.Edges.{Edge}
 use Rattle.parts.specs.Bounds.{workBound}
 use Rattle.best.specs.Tree.{BestOver}
+use Rattle.sweeps.specs.Tables.{wideCrossings, arcBound}
+use Rattle.bound.specs.Bound.{Bound}
 use Rattle.answers.specs.Room.{ifRoom}
 use Rattle.answers.specs.Graph.{pointCount}
 use Rattle.answers.specs.Refined.{laidOf, refinedGiven, refinedTree}
 use Rattle.answers.specs.Both.{bothAnswer, bothGiven, bothTrees}
 use Rattle.router.specs.declared.DistanceAnswer.{DistanceAnswer}
-use Rattle.router.specs.Answers.{toldDistances, toldTree, toldBoth}
+use Rattle.router.specs.Answers.{toldDistances, toldTree, toldBoth, toldBound}
 use Rattle.router.specs.declared.TreeAnswer.{TreeAnswer}
+use Rattle.router.specs.declared.BoundAnswer.{BoundAnswer}
 use Rattle.router.specs.declared.BothAnswer.{BothAnswer}
 use Rattle.router.specs.declared.BothAnswer.the-variants.{Given, Refused}
-use Rattle.router.specs.Call.{Gives, GivesTwo, GivesSquare, GivesBest, RefinedCall, BothCall}
+use Rattle.router.specs.Call.{Gives, GivesTwo, GivesSquare, GivesBest, GivesBound, RefinedCall, BothCall}
 
 module _ {A R X : Type 0} {saying : R → Told A} {t : Told A} {xs lent : List X} {r : R} where
   -- refused, and nothing altered
@@ -115,6 +118,36 @@ module _ {net : Net} {said : List Edge → Told (ℕ × (ℤ × ℤ))} {work : L
     list = g .list ∙ ap (λ (t : Told (ℕ × (ℤ × ℤ))). after t (flat edgeNumbers (g .tree)) lent) (e (g .tree));
     cleared = g .cleared ∙ ap (λ (t : Told (ℕ × (ℤ × ℤ))). after t (replicate workBound 0) work) (e (g .tree));
     best = λ a h. g .best a (e (g .tree) ∙ h);
+  }
+
+module _ {net : Net} {said : ℕ → Told ℕ} {left rows : List ℕ} {r : BoundAnswer} where
+  pub bound-refused : {n : ℕ} → toldBound r ≡ refused n → said 0 ≡ refused n → GivesBound net said left rows r left rows
+  bound-refused {n} s e = record {
+    bound = 0;
+    answer = s ∙ sym e;
+    first = after-refused (said 0) (replicate arcBound 0) left n e;
+    second = after-refused (said 0) (replicate wideCrossings 0) rows n e;
+    is = λ a g. told-apart n a (sym e ∙ g);
+  }
+
+  pub bound-given : {left′ rows′ : List ℕ} {n : ℕ} → Bound net n → toldBound r ≡ given n → said n ≡ given n →
+      left′ ≡ over (replicate arcBound 0) left → rows′ ≡ over (replicate wideCrossings 0) rows → GivesBound net said left rows r left′ rows′
+  bound-given {n = n} b s e f g = record {
+    bound = n;
+    answer = s ∙ sym e;
+    first = f ∙ after-given (said n) (replicate arcBound 0) left _ e;
+    second = g ∙ after-given (said n) (replicate wideCrossings 0) rows _ e;
+    is = λ a h. b;
+  }
+
+  pub bound-as : {other : ℕ → Told ℕ} {left′ rows′ : List ℕ} → ((n : ℕ) → said n ≡ other n) → GivesBound net said left rows r left′ rows′ →
+      GivesBound net other left rows r left′ rows′
+  bound-as e g = record {
+    bound = g .bound;
+    answer = g .answer ∙ e (g .bound);
+    first = g .first ∙ ap (λ (t : Told ℕ). after t (replicate arcBound 0) left) (e (g .bound));
+    second = g .second ∙ ap (λ (t : Told ℕ). after t (replicate wideCrossings 0) rows) (e (g .bound));
+    is = λ a h. g .is a (e (g .bound) ∙ h);
   }
 
 -- Both trees answered, and of that the refined tree alone

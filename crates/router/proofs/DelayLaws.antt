@@ -6,21 +6,17 @@ use mathlib.Core.Bool.{true, false}
 use mathlib.Core.List.{List, [], _∷_, map}
 use Prim.Native.Nat.{ℕ, suc, _≤_, _<_}
 use native.Mathlib.Omega.{arith}
-use borrow.Author.Tests.{le-ltb}
 use lib.IntN.{ℤ}
-use lib.Dec.{ltb}
 use lib.ListN.{length, length-map}
-use lib.Ieee.{Float}
 use Rattle.lists.specs.Any.{any}
 use Rattle.lists.specs.Member.{_∈_, Among}
 use Rattle.lists.specs.Sorted.{sorted}
 use Rattle.lists.proofs.TestLaws.{differ}
 use Rattle.lists.proofs.MemberLaws.{once-length}
 use Rattle.lists.proofs.SortedLaws.{in-sorted, length-sorted}
-use Rattle.lent.specs.Told.{Told, given}
-use Rattle.lent.specs.Over.{after}
+use Rattle.lent.specs.Told.{given}
 use Rattle.plane.specs.declared.Place.{Place}
-use Rattle.plane.specs.Place.{before}
+use Rattle.plane.specs.Place.{before, samePlace}
 use Rattle.plane.specs.Flat.{placeAt}
 use Rattle.plane.proofs.PlaceOrder.{place-order}
 use Rattle.net.specs.declared.Net.{Net as Counts}
@@ -48,19 +44,18 @@ use Rattle.slide.proofs.SlidSound.{given-sound}
 use Rattle.slide.proofs.StateLaws.{first-pin}
 use Rattle.floats.specs.declared.Technology.{Technology}
 use Rattle.floats.specs.declared.Delay.{Delay}
-use Rattle.delay.specs.declared.Delayed.{Delayed}
 use Rattle.floats.specs.declared.Delay.the-variants.{Finite, NotFinite}
 use Rattle.floats.specs.Mark.{marked, isMark, finites, usable, pinsFrom, marksFrom}
-use Rattle.delay.specs.Answer.{marksOf, delayed, delayAnswer, delayOf, toldDelays}
+use Rattle.delay.specs.Answer.{marksOf, delayAnswer, delayOf}
 use Rattle.delay.specs.Table.{Loaded, driverIn, tableFrom}
-use Rattle.delay.proofs.AnswerLaws.{in-any, pins-places, answer-places, lent-places}
+use Rattle.delay.proofs.ToldLaws.{delayed-passed, told-given}
+use Rattle.delay.proofs.AnswerLaws.{in-any, pins-places, driver-found, driver-marks}
 use Rattle.delay.proofs.TimedLaws.{timed}
 use Rattle.answers.specs.Refined.{edgesIn, laidOf}
 use Rattle.answers.specs.Delay.{loadsOf, delaysOf, delayGiven, pinDelays}
 use Rattle.answers.proofs.AnswerLaws.{only-given}
 use Rattle.results.proofs.RefinedLaws.{answer-edges}
 use Rattle.router.specs.Delay.{PromisedDelay}
-use Rattle.router.specs.Call.{DelayCall}
 use Rattle.router.proofs.SlidLaws.{refined-given}
 
 -- in order, pins at different places are as many
@@ -83,8 +78,9 @@ refined-pinned {net} a = rounds-ready net (groundOf net) (length (net .pins)) (u
 
 module _ (w : Weighing) (pins macros : List ℤ) (a : Allowed (netOf w pins macros)) {pts : List ℤ} {ks : List ℕ} {r : Refined}
     (answer : Answer (netOf w pins macros) (groundOf (netOf w pins macros)) (unionOf (netOf w pins macros)) pts ks r)
-    {pin loads : List ℕ} (tables : Loaded pins pts (r .points) pin loads) (driver : Place) (t : Technology) (m : ℕ)
-    (count : m ≡ pinCount pins) where
+    {pin loads : List ℕ} (tables : Loaded pins pts (r .points) pin loads) (driver : Place)
+    (stands : any (samePlace driver) (pinPlaces pins) ≡ true) (t : Technology) (m room : ℕ) (count : m ≡ pinCount pins)
+    (enough : m ≤ room) where
   tabled : Tabled (netOf w pins macros) (groundOf (netOf w pins macros)) (tree pts (r .points) ks (r .edges))
   tabled = subst (Tabled (netOf w pins macros) (groundOf (netOf w pins macros))) (sym (answer .whole)) (union-tabled a)
 
@@ -99,48 +95,35 @@ module _ (w : Weighing) (pins macros : List ℤ) (a : Allowed (netOf w pins macr
       pins-places pts ks (r .points) (r .edges) (tabled .ordered) (tabled .within) (tabled .ranked) (answer .few .0) loads (loadsOf pins)
       (tables .loaded) t pin (pinPlaces pins) (tables .pinned) among
 
-  counted : m ≡ length (pinPlaces pins)
-  counted = count ∙ sym (length-pins pins)
-
-  pub delays-asked : (r .points ≤ treeBound) × ((r .edges ≤ treeBound) × (m ≡ length (pinsFrom pin 0 (r .points))))
+  pub delays-asked : ((r .points ≤ treeBound) × ((r .edges ≤ treeBound) × (m ≡ length (pinsFrom pin 0 (r .points)))))
+      × ((m ≤ room) × (driverIn pts pin (r .points) driver < r .points))
   delays-asked = (
-    answer .few .0,
     (
-      answer .few .1,
-      counted ∙ sym (pins-sorted a) ∙ ap length (sym marked-pins) ∙ length-map (pinsFrom pin 0 (r .points)) (placeAt pts),
+      answer .few .0,
+      (
+        answer .few .1,
+        count
+            ∙ sym (length-pins pins)
+            ∙ sym (pins-sorted a)
+            ∙ ap length (sym marked-pins)
+            ∙ length-map (pinsFrom pin 0 (r .points)) (placeAt pts),
+      ),
+    ),
+    (
+      enough,
+      driver-found pts ks (r .points) (r .edges) (tabled .ordered) (tabled .within) (tabled .ranked) (answer .few .0) loads (loadsOf pins)
+          (tables .loaded) t pin (pinPlaces pins) (tables .pinned) among driver stands,
     ),
   )
 
-  abbrev number : ℕ
-  number = driverIn pts pin (r .points) driver
-
-  abbrev marks : List Delay
-  marks = marksFrom (tableFrom pts ks (r .edges) loads t number) pin 0 (r .points)
-
-  module _ (room : ℕ) where
-    delays-told : delayed room m t (ltb number (r .points)) marks ≡ delayGiven w pins macros driver t room
-    unfolding delayGiven
-    delays-told =
-        answer-places pts ks (r .points) (r .edges) (tabled .ordered) (tabled .within) (tabled .ranked) (answer .few .0) loads
-        (loadsOf pins) (tables .loaded) t pin (pinPlaces pins) (tables .pinned) among driver room m counted
-        ∙ ap (λ (es : List (Place × Place)). delayAnswer es (loadsOf pins) (pinPlaces pins) t driver room) (answer-edges a answer)
-
-    delays-lent : (lent : List Float) → after (delayed room m t (ltb number (r .points)) marks) (finites marks) lent
-        ≡ after (delayGiven w pins macros driver t room) (finites (delaysOf w pins macros driver t)) lent
-    unfolding delayGiven delaysOf
-    delays-lent lent =
-        lent-places pts ks (r .points) (r .edges) (tabled .ordered) (tabled .within) (tabled .ranked) (answer .few .0) loads (loadsOf pins)
-        (tables .loaded) t pin (pinPlaces pins) (tables .pinned) among driver room m counted lent
-        ∙ ap (λ (es : List (Place × Place)). after (delayAnswer es (loadsOf pins) (pinPlaces pins) t driver room)
-        (finites (marksOf es (loadsOf pins) t driver (pinPlaces pins))) lent) (answer-edges a answer)
-
-  -- so what it answers and leaves is what the call is to give
-  pub delays-call : (lent lent′ : List Float) (x : Delayed) → toldDelays x ≡ delayed (length lent) m t (ltb number (r .points)) marks
-      → lent′ ≡ after (toldDelays x) (finites marks) lent → DelayCall delayGiven w pins macros driver t lent x lent′
-  delays-call lent lent′ x e h = record {
-    answer = e ∙ delays-told (length lent);
-    list = h ∙ ap (λ (z : Told ℕ). after z (finites marks) lent) e ∙ delays-lent (length lent) lent;
-  }
+  -- the marks are those of the rules
+  pub delays-marks : marksFrom (tableFrom pts ks (r .edges) loads t (driverIn pts pin (r .points) driver)) pin 0 (r .points)
+      ≡ delaysOf w pins macros driver t
+  unfolding delaysOf
+  delays-marks =
+      driver-marks pts ks (r .points) (r .edges) (tabled .ordered) (tabled .within) (tabled .ranked) (answer .few .0) loads (loadsOf pins)
+      (tables .loaded) t pin (pinPlaces pins) (tables .pinned) among driver stands
+      ∙ ap (λ (es : List (Place × Place)). marksOf es (loadsOf pins) t driver (pinPlaces pins)) (answer-edges a answer)
 
 -- What is promised
 
@@ -154,9 +137,13 @@ finites-all (NotFinite ∷ l) e = differ refl e
 enough : (pins : List ℤ) (es : List (Place × Place)) (driver : Place) (t : Technology) (room : ℕ) → pinCount pins ≤ room → usable t ≡ true
     → driver ∈ pinPlaces pins → any isMark (marksOf es (loadsOf pins) t driver (pinPlaces pins)) ≡ false
     → delayAnswer es (loadsOf pins) (pinPlaces pins) t driver room ≡ given (pinCount pins)
-unfolding delayAnswer delayed
+unfolding delayAnswer
 enough pins es driver t room h u m n =
-    rw (length-pins pins, le-ltb room (pinCount pins) h, u, in-any driver (pinPlaces pins) m, n) refl
+    let marks = marksOf es (loadsOf pins) t driver (pinPlaces pins) in
+    delayed-passed room (length (pinPlaces pins)) t (any (samePlace driver) (pinPlaces pins)) marks (omega (arith, h, length-pins pins)) u
+    (in-any driver (pinPlaces pins) m)
+    ∙ told-given (length (pinPlaces pins)) marks n
+    ∙ ap given (length-pins pins)
 
 pub promised-delay : (w : Weighing) (pins macros : List ℤ) {net : Counts} → checked w pins macros ≡ given net → PromisedDelay w pins macros
 unfolding pinDelays delayGiven delayAnswer delaysOf marksOf

@@ -15,6 +15,8 @@ use Rattle.router.specs.declared.Wired.{Wired}
 use Rattle.router.specs.declared.Wired.the-variants as wires
 use Rattle.router.specs.declared.DistanceAnswer.{DistanceAnswer}
 use Rattle.router.specs.declared.DistanceAnswer.the-variants as distances
+use Rattle.router.specs.declared.BoundAnswer.{BoundAnswer}
+use Rattle.router.specs.declared.BoundAnswer.the-variants as bound
 
 -- how many vertices and how many edges
 unfoldable pub toldGraph : Graphed → Told (ℕ × ℕ)
@@ -45,3 +47,8 @@ toldWires (wires.Refused f) = refused (number f)
 unfoldable pub toldDistances : DistanceAnswer → Told ℕ
 toldDistances (distances.Given n) = given n
 toldDistances (distances.Refused f) = refused (number f)
+
+-- the lower bound
+unfoldable pub toldBound : BoundAnswer → Told ℕ
+toldBound (bound.Given n) = given n
+toldBound (bound.Refused f) = refused (number f)

@@ -1,5 +1,5 @@
--- What is promised of the best tree (L11 to L14). What it is stands in `best` (specs/Tree.antt); which one is given, where several cost
--- the same, is left to the program (L12): so each promise is of any best tree T.
+-- What is promised of the best tree (L11 to L14, L17, L18). What it is stands in `best` (specs/Tree.antt); which one is given, where
+-- several cost the same, is left to the program (L12): so each promise is of any best tree T.
 use mathlib.Core.Path.{_≡_}
 use mathlib.Core.List.{List}
 use Prim.Native.Nat.{ℕ, _*_, _≤_, _<_}
@@ -15,7 +15,6 @@ use Rattle.plane.specs.Flat.{macrosOf}
 use Rattle.net.specs.Pins.{pinCount, macroCount}
 use Rattle.net.specs.declared.Weighing.{Weighing}
 use Rattle.net.specs.Net.{netOf, costIn}
-use Rattle.checks.specs.Check.{checked}
 use Rattle.graph.specs.Numbers.{edgeNumbers}
 use Rattle.lines.specs.Bounds.{gridMacros}
 use Rattle.lines.specs.Edges.{Edge}
@@ -31,7 +30,8 @@ use Rattle.answers.specs.Slid.{slidTotal}
 use Rattle.answers.specs.Bought.{checkedTree, sumsOf}
 
 -- What is promised of the best tree of an allowed net, whichever is given; the check is the only premise (`promised-best`,
--- promises/proofs/BestPromise.antt)
+-- promises/proofs/BestPromise.antt). Of a net of up to five pins and sixteen macros there is one: the contract of router::best_tree names it
+-- (`GivesBest`, specs/Call.antt).
 pub record PromisedBest (w : Weighing) (pins macros : List ℤ) : Type 0 where
   -- D1b: a net of that size is given one, where there is room for it
   pub best-given : pinCount pins ≤ bestPins → macroCount macros ≤ gridMacros → (work room : ℕ) → workBound ≤ work

@@ -28,6 +28,8 @@ use Rattle.delay.specs.Answer.{toldDelays}
 use Rattle.lines.specs.Edges.{Edge}
 use Rattle.parts.specs.Bounds.{workBound}
 use Rattle.best.specs.Tree.{BestTree}
+use Rattle.sweeps.specs.Tables.{wideCrossings, arcBound}
+use Rattle.bound.specs.Bound.{Bound}
 use Rattle.answers.specs.Graph.{netVertices, netEdges}
 use Rattle.answers.specs.Terminal.{pathsOf}
 use Rattle.answers.specs.Refined.{laidOf}
@@ -40,6 +42,8 @@ use Rattle.router.specs.declared.TreeAnswer.{TreeAnswer}
 use Rattle.router.specs.declared.BothAnswer.{BothAnswer}
 use Rattle.router.specs.declared.Wired.{Wired}
 use Rattle.router.specs.declared.DistanceAnswer.{DistanceAnswer}
+use Rattle.router.specs.declared.BoundAnswer.{BoundAnswer}
+use Rattle.router.specs.Answers.{toldBound}
 use Rattle.router.specs.Answers.{toldGraph, toldTerminal, toldTree, toldBoth, toldWires, toldDistances}
 
 -- the answer r says t, and one list was lent: where t is given, xs stands at its front (C53); where t is refused, it is as it was (C50)
@@ -71,6 +75,15 @@ pub record GivesBest (net : Net) (said : List Edge → Told (ℕ × (ℤ × ℤ)
   pub list : lent′ ≡ after (said tree) (flat edgeNumbers tree) lent
   pub cleared : work′ ≡ after (said tree) (replicate workBound 0) work
   pub best : (a : ℕ × (ℤ × ℤ)) → said tree ≡ given a → BestTree net tree
+
+-- the same where one number is given that its meaning fixes, the lower bound (U6): `said n` is what is said where it is n. Both lists that
+-- were lent are cleared (U8)
+pub record GivesBound (net : Net) (said : ℕ → Told ℕ) (left rows : List ℕ) (r : BoundAnswer) (left′ rows′ : List ℕ) : Type 0 where
+  pub bound : ℕ
+  pub answer : toldBound r ≡ said bound
+  pub first : left′ ≡ after (said bound) (replicate arcBound 0) left
+  pub second : rows′ ≡ after (said bound) (replicate wideCrossings 0) rows
+  pub is : (a : ℕ) → said bound ≡ given a → Bound net bound
 
 -- What each operation says of two weights, two lists and the room that was lent
 
@@ -125,6 +138,12 @@ abbrev pub BestCall : (Weighing → List ℤ → List ℤ → ℕ → ℕ → Li
     (work : List ℕ) (edges : List ℤ) → TreeAnswer → List ℕ → List ℤ → Type 0
 BestCall said w pins macros work edges r work′ edges′ =
     GivesBest (netOf w pins macros) (said w pins macros (length work) (length edges)) work edges r work′ edges′
+
+-- C89, C90: a lower bound
+abbrev pub BoundCall : (Weighing → List ℤ → List ℤ → ℕ → ℕ → ℕ → Told ℕ) → (w : Weighing) (pins macros : List ℤ) (left rows : List ℕ)
+    → BoundAnswer → List ℕ → List ℕ → Type 0
+BoundCall said w pins macros left rows r left′ rows′ =
+    GivesBound (netOf w pins macros) (said w pins macros (length left) (length rows)) left rows r left′ rows′
 
 -- C69, C70: a net file written
 abbrev pub WriteCall : (w : Weighing) (pins macros : List ℤ) (bytes : List ℕ) → Written → List ℕ → Type 0

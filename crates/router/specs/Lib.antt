@@ -4,6 +4,7 @@
 --   Call         Gives, GivesTwo                      what a call answers and leaves in one lent list, in two: the contracts
 --                GivesSquare                          the same of a table whose numbers are fixed by what they mean
 --                GivesBest                            the same of a best tree, where which one is left to the program
+--                GivesBound                           the same of a lower bound, whose meaning fixes it
 --   Slid         PromisedSlid w pins macros           what is promised of the slid tree of an allowed net
 --   Distances    PromisedDistances w pins macros      what is promised of the table of an allowed net
 --   Delay        PromisedDelay w pins macros          what is promised of the delays of an allowed net

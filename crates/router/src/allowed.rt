@@ -1,5 +1,6 @@
 // What the operations do with an allowed net: each asks for what the check has shown, refuses by 21 where too little is lent, and gives.
 use crate::BothAnswer;
+use crate::BoundAnswer;
 use crate::DistanceAnswer;
 use crate::Graphed;
 use crate::TerminalAnswer;
@@ -13,11 +14,19 @@ use net::Net;
 use net::Refusal;
 use plane::Place;
 use straight::EDGE_NUMBERS as EDGE_TABLE;
+use sweeps::Wide;
 use tree::Size;
 ghost use mathlib.Core.Path.{_≡_};
-ghost use Prim.Native.Nat.{_*_};
+ghost use mathlib.Core.Bool.{true};
+ghost use Prim.Native.Nat.{_*_, _≤_};
 ghost use lib.ListN.{length};
+ghost use Rattle.lists.specs.Any.{any};
+ghost use Rattle.lent.specs.Over.{after};
+ghost use Rattle.plane.specs.Place.{samePlace};
 ghost use Rattle.net.specs.Net.{handed};
+ghost use Rattle.net.specs.Pins.{pinPlaces};
+ghost use Rattle.floats.specs.Mark.{finites};
+ghost use Rattle.delay.specs.Answer.{unlessMarked, toldDelays};
 ghost use Rattle.made.specs.Counted.{Counted};
 ghost use Rattle.answers.specs.Graph.{graphGiven};
 ghost use Rattle.answers.specs.Terminal.{terminalGiven};
@@ -26,9 +35,11 @@ ghost use Rattle.laid.specs.Edges.{edgesOf, laidBound};
 ghost use Rattle.answers.specs.Slid.{slidOf, slidGiven};
 ghost use Rattle.answers.specs.Wires.{wiresGiven};
 ghost use Rattle.answers.specs.Distances.{distancesGiven};
-ghost use Rattle.answers.specs.Delay.{delayGiven};
+ghost use Rattle.answers.specs.Delay.{delaysOf, delayGiven};
 ghost use Rattle.answers.specs.Best.{bestGiven};
+ghost use Rattle.answers.specs.Bound.{boundGiven};
 ghost use Rattle.router.specs.Call.{GraphCall, TerminalCall, BothCall, SlidCall, WiresCall, DistancesCall, DelayCall, BestCall};
+ghost use Rattle.router.specs.Call.{BoundCall};
 
 // The graph.
 pub fn graph(
@@ -110,7 +121,7 @@ pub fn wires(net: Net, pins: &[i32], macros: &[i32], wires: &mut [i32]) -> Wired
     Wired::Given(count)
 }
 
-// The delays.
+// The delays. What refuses them whatever the tree is said before there is one: 21, then 38, then 39.
 pub fn delay(
     net: Net,
     pins: &[i32],
@@ -122,6 +133,36 @@ pub fn delay(
     requires { ⌜ Counted net (handed (net .weights)) (now pins) (now macros) ⌝ }
     ensures { λ r. ⌜ DelayCall delayGiven (handed (net .weights)) (now (pins .entry)) (now (macros .entry)) driver t (now (delays .entry)) r
         (now (delays .exit)) ⌝ }
+{
+    let usable = floats::is_usable(t);
+    let found = delay::loads::is_pin(pins, driver);
+    if delays.len() < net.pins {
+        return Delayed::Refused(Refusal::Space);
+    }
+    if !usable {
+        return Delayed::Refused(Refusal::TechnologyRange);
+    }
+    if !found {
+        return Delayed::Refused(Refusal::DriverNotPin);
+    }
+    time(net, pins, macros, driver, t, &mut *delays)
+}
+
+// The delays along the refined tree from a driver that is a pin, or 40.
+fn time(
+    net: Net,
+    pins: &[i32],
+    macros: &[i32],
+    driver: Place,
+    t: Technology,
+    delays: &mut [f64],
+) -> Delayed
+    requires { ⌜ Counted net (handed (net .weights)) (now pins) (now macros) ⌝ }
+    requires { ⌜ (net .pins ≤ length (now delays)) × (any (samePlace driver) (pinPlaces (now pins)) ≡ true) ⌝ }
+    ensures { λ r. ⌜ toldDelays r ≡ unlessMarked (net .pins)
+        (delaysOf (handed (net .weights)) (now (pins .entry)) (now (macros .entry)) driver t) ⌝ }
+    ensures { λ r. ⌜ now (delays .exit) ≡ after (toldDelays r)
+        (finites (delaysOf (handed (net .weights)) (now (pins .entry)) (now (macros .entry)) driver t)) (now (delays .entry)) ⌝ }
 {
     let mut points = [0i32; tree::NUMBERS];
     let mut keys = [0usize; tree::POINTS];
@@ -198,4 +239,23 @@ pub fn best_tree(
     }
     let best = best::best_tree(net.weights, pins, macros, &mut *work, &mut *edges);
     TreeAnswer::Given(best.edges, best.total as i64, best.metal as i64)
+}
+
+// The lower bound.
+pub fn lower_bound(
+    net: Net,
+    pins: &[i32],
+    macros: &[i32],
+    left: &mut [u32],
+    rows: &mut [u64],
+) -> BoundAnswer
+    requires { ⌜ Counted net (handed (net .weights)) (now pins) (now macros) ⌝ }
+    ensures { λ r. ⌜ BoundCall boundGiven (handed (net .weights)) (now (pins .entry)) (now (macros .entry)) (now (left .entry))
+        (now (rows .entry)) r (now (left .exit)) (now (rows .exit)) ⌝ }
+{
+    if (left.len() < Wide::ARCS) | (rows.len() < Wide::CROSSINGS) {
+        return BoundAnswer::Refused(Refusal::Space);
+    }
+    let n = bound::lower_bound(net.weights, pins, macros, &mut *left, &mut *rows);
+    BoundAnswer::Given(n)
 }

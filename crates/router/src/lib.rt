@@ -28,10 +28,11 @@ ghost use Rattle.answers.specs.Wires.{wired};
 ghost use Rattle.answers.specs.Distances.{gridDistances};
 ghost use Rattle.answers.specs.Delay.{pinDelays};
 ghost use Rattle.answers.specs.Best.{bestTree};
+ghost use Rattle.answers.specs.Bound.{lowerBound};
 ghost use Rattle.answers.specs.Price.{netPrice};
 ghost use Rattle.answers.specs.Bought.{checkedTree};
 ghost use Rattle.router.specs.Call.{GraphCall, TerminalCall, RefinedCall, BothCall, SlidCall, WiresCall, DistancesCall};
-ghost use Rattle.router.specs.Call.{DelayCall, BestCall, WriteCall, ReadCall};
+ghost use Rattle.router.specs.Call.{DelayCall, BestCall, BoundCall, WriteCall, ReadCall};
 
 // The answer of a graph: how many vertices and how many edges were given.
 pub enum Graphed {
@@ -66,6 +67,12 @@ pub enum Wired {
 // The answer of distances on the grid: how many numbers were given.
 pub enum DistanceAnswer {
     Given(usize),
+    Refused(Refusal),
+}
+
+// The answer of a lower bound: the bound, in cost.
+pub enum BoundAnswer {
+    Given(u64),
     Refused(Refusal),
 }
 
@@ -198,9 +205,10 @@ pub fn delay(
 
 // Best tree: of up to five pins and sixteen macros, the edges in order of a tree along the grid, how many there are, their total and the
 // metal to lay, or 11 to 18, then 41 for a larger net, then 21 where fewer than 65,536 numbers of work are lent, or fewer than 4(m + 2k)²
-// for the edges. Which tree, where several cost the same, is left to the program, and the contract says so; that no edges of the grid that
-// join all pins cost less, that the check of bought-in trees passes it, and that the refined tree is never cheaper: `PromisedBest`
-// (specs/Best.antt). Of the work the first 65,536 numbers are then 0 and the others as they were.
+// for the edges. Which tree, where several cost the same, is left to the program, and the contract says so; that no metal clear of the
+// macros joins all pins for less, on the grid or off it, in units or in fractions, that the check of bought-in trees passes it, and that no
+// refined tree, no slid tree and no list that this check passes is cheaper: `PromisedBest` (specs/Best.antt). Of the work the first 65,536
+// numbers are then 0 and the others as they were.
 pub fn best_tree(
     w: Weighing,
     pins: &[i32],
@@ -215,6 +223,28 @@ pub fn best_tree(
     match answer {
         Checked::Allowed(net) => allowed::best_tree(net, pins, macros, &mut *work, &mut *edges),
         Checked::Refused(refusal) => TreeAnswer::Refused(refusal),
+    }
+}
+
+// Lower bound: a number that no metal that joins all pins costs less than, or 11 to 18, then 21 where fewer than 589,824 numbers are lent
+// for `left` or 147,456 for `rows`. It is the greatest of four sweeps over the pins, which the net's places settle alone: `Bound`
+// (bound/specs/Bound.antt). That no edges of the grid, no metal in unit steps anywhere and no tree of clear edges costs less:
+// `bound-holds`, `bound-metal` and `bound-tree` (bound/proofs/NetBound.antt). Of both lists the first so many numbers are then 0 and the
+// others as they were.
+pub fn lower_bound(
+    w: Weighing,
+    pins: &[i32],
+    macros: &[i32],
+    left: &mut [u32],
+    rows: &mut [u64],
+) -> BoundAnswer
+    ensures { λ r. ⌜ BoundCall lowerBound w (now (pins .entry)) (now (macros .entry)) (now (left .entry)) (now (rows .entry)) r
+        (now (left .exit)) (now (rows .exit)) ⌝ }
+{
+    let answer = checks::check(w, pins, macros);
+    match answer {
+        Checked::Allowed(net) => allowed::lower_bound(net, pins, macros, &mut *left, &mut *rows),
+        Checked::Refused(refusal) => BoundAnswer::Refused(refusal),
     }
 }
 

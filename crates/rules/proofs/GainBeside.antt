@@ -29,8 +29,9 @@ use Rattle.beside.specs.Beside.{Ground, onWay, labelsIn, parentsIn, seatsIn}
 use Rattle.refiner.specs.Ready.{vertexAt}
 use Rattle.refiner.specs.Sentences as tables
 use Rattle.refiner.proofs.CutSound.{cut-at, cut-one, cut-another, tree-size}
-use Rattle.refiner.proofs.WinnerLaws.{cost-at}
-use Rattle.refiner.proofs.TakesLaws.{not-dropped, dropped-not, sees-one, one-sees}
+use Rattle.bounds.proofs.CostLaws.{cost-at}
+use Rattle.bounds.proofs.DroppedLaws.{not-dropped, dropped-not}
+use Rattle.refiner.proofs.TakesLaws.{sees-one, one-sees}
 use Rattle.refiner.proofs.GraftTaken.{way-off}
 use Rattle.refiner.proofs.WayBeside.{wayOf, off-far, seated, way-long}
 use Rattle.refiner.proofs.BesideWins.{WinnerOff}

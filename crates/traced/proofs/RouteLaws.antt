@@ -4,7 +4,7 @@ use mathlib.Core.Path.{_≡_, refl, sym, ap, subst, _∙_}
 use mathlib.Core.Bool.{Bool, true, false, _&&_, _||_}
 use mathlib.Core.Logic.{_⊎_, inl, inr}
 use mathlib.Core.List.{List, [], _∷_, _++_, reverseAux, List·Memᴰ·cases-cons, List·Memᴰ·append-cases, Memᴰ·append-left, Memᴰ·append-right}
-use Prim.Native.Nat.{ℕ, _+_, _-_, _/_, _%_, _≤_, _<_}
+use Prim.Native.Nat.{ℕ, _+_, _*_, _-_, _/_, _%_, _≤_, _<_}
 use native.Mathlib.Decide.{ℕ-discrete}
 use native.Mathlib.Omega.{arith}
 use borrow.Author.Tests.{eq-eqb, ne-eqb, eqb-true, lt-ltb, le-ltb, ltb-true}
@@ -14,14 +14,14 @@ use lib.Seq.{getD-set-same, getD-set-other}
 use Rattle.lists.specs.Member.{_∈_, here, there}
 use Rattle.lists.proofs.TestLaws.{by, either, and-left, and-right}
 use Rattle.lists.proofs.MemberLaws.{in-turned, of-turned}
-use Rattle.lines.specs.Bounds.{crossingBound, segmentBound}
+use Rattle.lines.specs.Bounds.{lineBound, crossingBound, segmentBound}
 use Rattle.grid.specs.Rows.{at}
 use Rattle.grid.specs.Tables.{target, Fits, Reads}
-use Rattle.grid.proofs.SegmentLaws.{target-even, target-odd}
+use Rattle.grid.proofs.SegmentLaws.{target-even, target-odd, target-above}
 use Rattle.parts.specs.Numbers.{partOf}
 use Rattle.parts.specs.Tables.{valueAt, rowOf}
 use Rattle.traced.specs.Routes.{inOrder, otherEnd, touches, leads, meets, StepFound, PartFound, Marked, Down, start, over as further}
-use Rattle.traced.specs.Routes.{Walked}
+use Rattle.traced.specs.Routes.{segmentAt, Walked}
 use Rattle.traced.specs.Routes.{Route, stop, over as across, met, Traced}
 
 -- Segments in order
@@ -86,13 +86,6 @@ pub touch-two : (k v : ℕ) → target k ≡ v → touches k v ≡ true
 unfolding touches
 touch-two k v e = by (eqb (k / 2) v) (λ f. rw f refl) (λ f. rw (f, eq-eqb (target k) v e) refl)
 
-pub target-above : (k : ℕ) → k / 2 < target k
-target-above k = pick (ℕ-discrete (k % 2) 0)
-  where
-    pick : Dec (k % 2 ≡ 0) → k / 2 < target k
-    pick (yes e) = omega (arith, target-even k e)
-    pick (no n) = omega (arith, target-odd k n)
-
 -- v is one end, and the other end is the other
 pub touch-ends : (k v : ℕ) → touches k v ≡ true → ((v ≡ k / 2) × (otherEnd k v ≡ target k)) ⊎ ((v ≡ target k) × (otherEnd k v ≡ k / 2))
 unfolding touches
@@ -101,6 +94,68 @@ touch-ends k v e = at (ℕ-discrete (k / 2) v)
     at : Dec (k / 2 ≡ v) → ((v ≡ k / 2) × (otherEnd k v ≡ target k)) ⊎ ((v ≡ target k) × (otherEnd k v ≡ k / 2))
     at (yes f) = inl (sym f, other-hit k v f)
     at (no n) = inr (sym (eqb-true (target k) v (rw (ne-eqb (k / 2) v n) at e)), other-miss k v n)
+
+-- The four segments at a crossing
+
+module _ (v i : ℕ) where
+  pub segment-none-across : i ≡ 0 → v < lineBound → segmentAt v i ≡ segmentBound
+  unfolding segmentAt
+  segment-none-across e h = rw (segmentAt, eq-eqb i 0 e, lt-ltb v lineBound h) refl
+
+  pub segment-across : i ≡ 0 → lineBound ≤ v → segmentAt v i ≡ (v - lineBound) * 2
+  unfolding segmentAt
+  segment-across e h = rw (segmentAt, eq-eqb i 0 e, le-ltb v lineBound h) refl
+
+  pub segment-none-along : (i ≡ 0 → ⊥) → i ≡ 1 → v ≡ 0 → segmentAt v i ≡ segmentBound
+  unfolding segmentAt
+  segment-none-along n e h = rw (segmentAt, ne-eqb i 0 n, eq-eqb i 1 e, eq-eqb v 0 h) refl
+
+  pub segment-along : (i ≡ 0 → ⊥) → i ≡ 1 → (v ≡ 0 → ⊥) → segmentAt v i ≡ v * 2 - 1
+  unfolding segmentAt
+  segment-along n e h = rw (segmentAt, ne-eqb i 0 n, eq-eqb i 1 e, ne-eqb v 0 h) refl
+
+  pub segment-from : (i ≡ 0 → ⊥) → (i ≡ 1 → ⊥) → segmentAt v i ≡ v * 2 + (i - 2)
+  unfolding segmentAt
+  segment-from n h = rw (segmentAt, ne-eqb i 0 n, ne-eqb i 1 h) refl
+
+-- they are all that touch it
+pub record AtCrossing (v k : ℕ) : Type 0 where
+  pub place : ℕ
+  pub small : place < 4
+  pub is : segmentAt v place ≡ k
+
+pub touch-four : (k v : ℕ) → touches k v ≡ true → AtCrossing v k
+touch-four k v e = at (touch-ends k v e) (ℕ-discrete (k % 2) 0)
+  where
+    not : (a b : ℕ) → a < b → b ≡ a → ⊥
+    not a b h z = omega (arith, h, z)
+
+    at : ((v ≡ k / 2) × (otherEnd k v ≡ target k)) ⊎ ((v ≡ target k) × (otherEnd k v ≡ k / 2)) → Dec (k % 2 ≡ 0) → AtCrossing v k
+    at (inl f) (yes d) = record {
+      place = 2;
+      small = omega arith;
+      is = segment-from v 2 (not 0 2 (omega arith)) (not 1 2 (omega arith)) ∙ (let z : v * 2 + (2 - 2) ≡ k = omega (arith, f .0, d) in z);
+    }
+    at (inl f) (no n) = record {
+      place = 3;
+      small = omega arith;
+      is = segment-from v 3 (not 0 3 (omega arith)) (not 1 3 (omega arith)) ∙ (let z : v * 2 + (3 - 2) ≡ k = omega (arith, f .0, n) in z);
+    }
+    at (inr f) (yes d) =
+        let t = target-even k d in
+        record {
+          place = 0;
+          small = omega arith;
+          is = segment-across v 0 refl (omega (arith, f .0, t)) ∙ (let z : (v - lineBound) * 2 ≡ k = omega (arith, f .0, t, d) in z);
+        }
+    at (inr f) (no n) =
+        let t = target-odd k n in
+        record {
+          place = 1;
+          small = omega arith;
+          is = segment-along v 1 (not 0 1 (omega arith)) refl (λ z. let y : ⊥ = omega (arith, f .0, t, z) in y)
+              ∙ (let z : v * 2 - 1 ≡ k = omega (arith, f .0, t, n) in z);
+        }
 
 pub other-inside : (costs : List ℕ) (e k v : ℕ) → Fits costs e → k < e → 1 ≤ getD costs k 0 → otherEnd k v < crossingBound
 other-inside costs e k v f h some = at (ℕ-discrete (k / 2) v)
@@ -153,13 +208,25 @@ module _ (m : ℕ) (work : List ℕ) (s v p : ℕ) where
   unfolding meets
   meets-there e x f = rw (e, f) refl
 
--- a search that has found none so far
-pub none-more : (f : ℕ → Bool) (k : ℕ) → ((j : ℕ) → j < k → f j ≡ false) → f k ≡ false → (j : ℕ) → j < k + 1 → f j ≡ false
-none-more f k h e j i = at (ℕ-discrete j k)
-  where
-    at : Dec (j ≡ k) → f j ≡ false
-    at (yes d) = subst (λ (z : ℕ). f z ≡ false) (sym d) e
-    at (no n) = h j (omega (arith, i, n))
+-- Searches that have found none so far
+
+-- none of the first i segments at v leads on
+module _ (costs : List ℕ) (e : ℕ) (row : List ℕ) (v : ℕ) where
+  abbrev pub NoneTo : ℕ → Type 0
+  NoneTo i = (j : ℕ) → j < i → segmentAt v j < e → leads costs row v (segmentAt v j) ≡ false
+
+  pub none-more : (i k : ℕ) → k ≡ segmentAt v i → NoneTo i → (k < e → leads costs row v k ≡ false) → NoneTo (i + 1)
+  none-more i k is h f j l = at (ℕ-discrete j i)
+    where
+      at : Dec (j ≡ i) → segmentAt v j < e → leads costs row v (segmentAt v j) ≡ false
+      at (yes d) = subst (λ (z : ℕ). z < e → leads costs row v z ≡ false) (is ∙ ap (segmentAt v) (sym d)) f
+      at (no n) = h j (omega (arith, l, n))
+
+  pub none-end : (i : ℕ) → 4 ≤ i → NoneTo i → (k : ℕ) → k < e → leads costs row v k ≡ false
+  none-end i h n k l = by (touches k v) (λ t. met (touch-four k v t)) (λ t. leads-away costs row v k t)
+    where
+      met : AtCrossing v k → leads costs row v k ≡ false
+      met c = subst (λ (z : ℕ). z < e → leads costs row v z ≡ false) (c .is) (n (c .place) (omega (arith, c .small, h))) l
 
 pub parts-more : (f : ℕ → Bool) (k : ℕ) → ((j : ℕ) → 1 ≤ j → j < k → f j ≡ false) → f k ≡ false → (j : ℕ) → 1 ≤ j → j < k + 1 → f j ≡ false
 parts-more f k h e j a i = at (ℕ-discrete j k)

@@ -14,6 +14,7 @@ use Rattle.lists.specs.Member.{_∈_}
 use Rattle.plane.specs.Distance.{distance}
 use Rattle.graph.specs.Numbers.{edgeNumbers}
 use Rattle.union.specs.Marks.{marks}
+use Rattle.lines.specs.Bounds.{lineBound, segmentBound}
 use Rattle.lines.specs.Edges.{Edge}
 use Rattle.grid.specs.Rows.{at}
 use Rattle.grid.specs.Tables.{crossingAt, target}
@@ -49,6 +50,14 @@ otherEnd k v = elim (eqb (k / 2) v) [ true ↦ target k | false ↦ k / 2 ]
 
 unfoldable pub touches : ℕ → ℕ → Bool
 touches k v = eqb (k / 2) v || eqb (target k) v
+
+-- the i-th of the four segments at v, in the order of their numbers; past all where it would come from outside the lines
+unfoldable pub segmentAt : ℕ → ℕ → ℕ
+segmentAt v i =
+    elim (eqb i 0) [
+      | true ↦ elim (ltb v lineBound) [ true ↦ segmentBound | false ↦ (v - lineBound) * 2 ]
+      | false ↦ elim (eqb i 1) [ true ↦ elim (eqb v 0) [ true ↦ segmentBound | false ↦ v * 2 - 1 ] | false ↦ v * 2 + (i - 2) ]
+    ]
 
 -- segment k is an edge at v by which the number at v is had
 unfoldable pub leads : List ℕ → List ℕ → ℕ → ℕ → Bool

@@ -11,6 +11,7 @@ ghost use Rattle.traced.specs.Routes.{
   inOrder,
   otherEnd,
   touches,
+  segmentAt,
   leads,
   meets,
   StepFound,
@@ -75,6 +76,26 @@ fn leads(
     row[other_end(k, v)] + c == row[v]
 }
 
+// The four segments at v, in the order of their numbers: the i-th, or one past all where it would come from outside the lines.
+fn segment_at(v: usize, i: usize) -> usize
+    requires { ⌜ (v < crossingBound) × (i < 4) ⌝ }
+    ensures { λ r. ⌜ r ≡ segmentAt v i ⌝ }
+{
+    if i == 0 {
+        if v < Grid::LINES {
+            return Grid::SEGMENTS;
+        }
+        return (v - Grid::LINES) * 2;
+    }
+    if i == 1 {
+        if v == 0 {
+            return Grid::SEGMENTS;
+        }
+        return v * 2 - 1;
+    }
+    v * 2 + (i - 2)
+}
+
 // A segment by which the number at v is had; e where there is none.
 fn step_from(
     costs: &[u32; Grid::SEGMENTS],
@@ -86,12 +107,15 @@ fn step_from(
     requires { ⌜ (Row (now row)) × (v < crossingBound) ⌝ }
     ensures { λ r. ⌜ StepFound (now (costs .entry)) e (now (row .entry)) v r ⌝ }
 {
-    let mut k = 0;
-    while k < e {
-        if leads(costs, e, row, v, k) {
-            return k;
+    let mut i = 0;
+    while i < 4 {
+        let k = segment_at(v, i);
+        i += 1;
+        if k < e {
+            if leads(costs, e, row, v, k) {
+                return k;
+            }
         }
-        k += 1;
     }
     e
 }

@@ -1,82 +1,63 @@
 //! `bench OPERATION PROGRAM KIND SIZE TIMES`: runs one operation of one program on a net of a kind and size, for an instruction count from
 //! outside. The script `bench` beside the README runs it under callgrind for both programs and prints the ratio. The operation `file` writes
-//! the net's file to standard output, for the program `route`.
+//! the net's file to standard output, for the program `route`. `bench seconds OPERATION ..` prints the processor time of a call instead.
 
 use std::io::Write;
 use std::process::ExitCode;
 
-use harness::library;
-use reference::best;
-use reference::delay::Technology;
-use reference::generate::{half, net, Kind};
+use harness::measured::{net_of, run, KINDS, OPERATIONS};
+use harness::{clock, library};
 use reference::lists::Lists;
-use reference::net::Net;
-use reference::operations;
 
-const HELP: &str = "\
-bench graph|terminal|refined|slid|delay|distances|best|file|nothing proved|second random|bars|combs|clusters SIZE TIMES
-one operation of one program on a net of SIZE pins and SIZE macros, of which best takes 5 pins";
+/// What is asked for.
+struct Call {
+    operation: String,
+    is_proved: bool,
+    lists: Lists,
+    times: u32,
+}
 
-/// SIZE pins and SIZE macros with weights 1 and 1, of a kind: random ones are the first of a largest net, still allowed, since taking
-/// entries away breaks no rule; up to 64 of the net that was the largest once, so that counts can be held to those of earlier landings.
-fn sized(kind: &str, size: usize) -> Option<Lists> {
-    let (pins, macros) = match kind {
-        "random" => {
-            let Lists { pins, macros, .. } = match size {
-                ..=64 => half(1),
-                _ => net(Kind::Largest, 1),
-            };
-            (pins[..3 * size].to_vec(), macros[..4 * size].to_vec())
-        }
-        "bars" => bars(size as i32),
-        "combs" => combs(size as i32),
-        "clusters" => clusters(size),
-        _ => return None,
+fn help() -> String {
+    format!(
+        "bench [seconds] OPERATION proved|second KIND SIZE TIMES\n\
+         one operation of one program on a net of SIZE pins and SIZE macros, or on the net of a file of text, KIND ending in .txt;\n\
+         distances take 16 pins of it, best 5\n\
+         operations: {} file\n\
+         kinds: {}\n\
+         seconds: the least processor time of TIMES calls, in microseconds",
+        OPERATIONS.join(" "),
+        KINDS.join(" ")
+    )
+}
+
+/// The call that the words ask for.
+fn parsed(words: &[String]) -> Result<Call, String> {
+    let [operation, program, kind, size, times] = words else {
+        return Err(help());
     };
-    Some(Lists {
-        pins,
-        macros,
-        ..Lists::default()
+    let (Ok(size), Ok(times)) = (size.parse::<usize>(), times.parse::<u32>()) else {
+        return Err(help());
+    };
+    if !(1..=calzundi::PINS).contains(&size) {
+        return Err(format!(
+            "a net has 1 to {} pins and macros here",
+            calzundi::PINS
+        ));
+    }
+    let is_proved = match program.as_str() {
+        "proved" => true,
+        "second" => false,
+        _ => return Err(help()),
+    };
+    if operation != "file" && !OPERATIONS.contains(&operation.as_str()) {
+        return Err(help());
+    }
+    Ok(Call {
+        operation: operation.clone(),
+        is_proved,
+        lists: net_of(kind, size)?,
+        times,
     })
-}
-
-/// Long level bars one above the other, their ends staggered, with a pin in each channel.
-fn bars(size: i32) -> (Vec<i32>, Vec<i32>) {
-    let stagger = |i: i32| i * 37 % 101;
-    let macros = |i: i32| [stagger(i), 10 * i, 1_000 + stagger(i + 7), 10 * i + 6];
-    let pins = |i: i32| [i * 389 % 1_000, 10 * i + 8, 0];
-    (
-        (0..size).flat_map(pins).collect(),
-        (0..size).flat_map(macros).collect(),
-    )
-}
-
-/// Tall teeth side by side, with a pin high or low in each gap.
-fn combs(size: i32) -> (Vec<i32>, Vec<i32>) {
-    let macros = |i: i32| [10 * i, 0, 10 * i + 6, 1_000 + i * 53 % 89];
-    let pins = |i: i32| [10 * i + 8, i * 389 % 1_000, 0];
-    (
-        (0..size).flat_map(pins).collect(),
-        (0..size).flat_map(macros).collect(),
-    )
-}
-
-/// Two halves of a net of small cells, far apart.
-fn clusters(size: usize) -> (Vec<i32>, Vec<i32>) {
-    let Lists { pins, macros, .. } = sized("random", size).expect("random is a kind");
-    let apart = |list: Vec<i32>, width: usize| {
-        let near = list.len() / 2 / width * width;
-        let moved = |(i, z): (usize, i32)| {
-            let x = i % width == 0 || i % width == 2 && width == 4;
-            if i < near && x {
-                z - 150_000
-            } else {
-                z
-            }
-        };
-        list.into_iter().enumerate().map(moved).collect()
-    };
-    (apart(pins, 3), apart(macros, 4))
 }
 
 /// The net's file.
@@ -88,123 +69,37 @@ fn file(lists: &Lists) -> Vec<u8> {
     bytes
 }
 
-/// Runs an operation of a program once: how many entries it gave, or none where there is no such operation or program.
-fn run(operation: &str, program: &str, lists: &Lists) -> Option<u64> {
-    let (pins, macros, weights) = lists.parts();
-    let (m, n) = (pins.len() / 3, pins.len() / 3 + macros.len());
-    let is_proved = match program {
-        "proved" => true,
-        "second" => false,
-        _ => return None,
-    };
-    let entries = match operation {
-        "graph" => {
-            let call = if is_proved {
-                library::graph
-            } else {
-                operations::graph
-            };
-            let (mut vertices, mut edges) = (vec![0; 2 * n], vec![0; 16 * n]);
-            call(pins, macros, weights, &mut vertices, &mut edges).map(|(v, e)| v + e)
-        }
-        "terminal" => {
-            let call = if is_proved {
-                library::terminal_tree
-            } else {
-                operations::terminal_tree
-            };
-            call(pins, macros, weights, &mut vec![0; 5 * m]).map(|(paths, _)| paths)
-        }
-        "refined" => {
-            let call = if is_proved {
-                library::refined_tree
-            } else {
-                operations::refined_tree
-            };
-            call(pins, macros, weights, &mut vec![0; 4 * (n + m)]).map(|(edges, ..)| edges)
-        }
-        "slid" => {
-            let call = if is_proved {
-                library::slid_tree
-            } else {
-                operations::slid_tree
-            };
-            call(pins, macros, weights, &mut vec![0; 8 * (n + m)]).map(|(edges, ..)| edges)
-        }
-        "delay" => {
-            let call = if is_proved {
-                library::delay
-            } else {
-                operations::delay
-            };
-            let technology = Technology {
-                resistance: 0.03,
-                capacitance: 0.0002,
-            };
-            let driver = (pins[0], pins[1]);
-            call(pins, macros, weights, driver, technology, &mut vec![0.0; m])
-        }
-        "distances" => {
-            let call = if is_proved {
-                library::grid_distances
-            } else {
-                operations::grid_distances
-            };
-            call(pins, macros, weights, &mut vec![0; m * m])
-        }
-        "best" => {
-            let pins = &pins[..pins.len().min(Net::PIN_NUMBERS * best::PINS)];
-            let numbers = best::edge_numbers(
-                pins.len() / Net::PIN_NUMBERS,
-                macros.len() / Net::MACRO_NUMBERS,
-            );
-            if is_proved {
-                let (mut work, mut edges) = (vec![0; best::WORK], vec![0; numbers]);
-                library::best_tree(pins, macros, weights, &mut work, &mut edges)
-                    .map(|(edges, ..)| edges)
-            } else {
-                operations::best_cost(pins, macros, weights, best::WORK, numbers)
-                    .map(|cost| usize::from(cost > 0))
-            }
-        }
-        "nothing" => Ok(0),
-        _ => return None,
-    };
-    Some(entries.expect("the net is allowed and of a size that the operation takes, and the space is what is asked for") as u64)
+impl Call {
+    /// The entries that one run gives.
+    fn once(&self) -> u64 {
+        run(&self.operation, self.is_proved, &self.lists).expect("the operation is one of those")
+    }
 }
 
 fn main() -> ExitCode {
     let words: Vec<String> = std::env::args().skip(1).collect();
-    let [operation, program, kind, size, times] = words.as_slice() else {
-        eprintln!("{HELP}");
-        return ExitCode::from(2);
+    let (is_timed, words) = match words.split_first() {
+        Some((first, rest)) if first == "seconds" => (true, rest),
+        _ => (false, words.as_slice()),
     };
-    let (Ok(size), Ok(times)) = (size.parse::<usize>(), times.parse::<u32>()) else {
-        eprintln!("{HELP}");
-        return ExitCode::from(2);
+    let call = match parsed(words) {
+        Ok(call) => call,
+        Err(said) => {
+            eprintln!("{said}");
+            return ExitCode::from(2);
+        }
     };
-    if !(1..=calzundi::PINS).contains(&size) {
-        eprintln!("a net has 1 to {} pins and macros here", calzundi::PINS);
-        return ExitCode::from(2);
-    }
-    let Some(lists) = sized(kind, size) else {
-        eprintln!("{HELP}");
-        return ExitCode::from(2);
-    };
-    if operation == "file" {
-        let written = std::io::stdout().write_all(&file(&lists));
+    if call.operation == "file" {
+        let written = std::io::stdout().write_all(&file(&call.lists));
         return written.map_or(ExitCode::FAILURE, |()| ExitCode::SUCCESS);
     }
-    let mut sum = 0;
-    for _ in 0..times {
-        match run(operation, program, &lists) {
-            Some(entries) => sum += entries,
-            None => {
-                eprintln!("{HELP}");
-                return ExitCode::from(2);
-            }
-        }
+    if is_timed {
+        let least = clock::least(call.times, || {
+            call.once();
+        });
+        println!("{}", least.as_nanos() as f64 / 1e3);
+    } else {
+        println!("{}", (0..call.times).map(|_| call.once()).sum::<u64>());
     }
-    println!("{sum}");
     ExitCode::SUCCESS
 }

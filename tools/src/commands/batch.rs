@@ -3,192 +3,93 @@
 use std::collections::BTreeMap;
 use std::ffi::OsString;
 use std::io::{self, IsTerminal, Write};
+use std::os::unix::ffi::OsStringExt;
 use std::sync::atomic::{AtomicBool, AtomicUsize, Ordering};
 use std::sync::mpsc;
 use std::thread;
 use std::time::{Duration, Instant};
 
-use calzundi::{Net, Refusal, Weights, Wire};
-
-use crate::fingerprint::fingerprint;
+use crate::batched::{Form, Row, Wanted};
 use crate::line::plain;
-use crate::program::{Command, Failure, Switch, Words, STACK};
-use crate::routed::wires_text;
-use crate::source::open;
-use crate::streams::{name, read_most, say, write};
+use crate::program::{Command, Failure, Switch, Words, A_FILE, JSON, STACK};
+use crate::streams::{read_most, say, write};
 
 const HELP: &str = "\
 calzundi batch NET..: routes many nets and prints a line for each
 
-A NET is text or a net file. Lines come in the order of the nets, whatever the threads, one for each net, also where it is refused or cannot
-be read:
+A NET is text or a net file. Lines come in the order of the nets, whatever the
+threads, one for each net, also where it is refused or cannot be read (here they
+are broken):
 
-    NET: pins m macros k weights x y terminal T refined R metal M wires W fingerprint F
-    NET: refused 16: two macros' interiors meet: line 3, macro 1 (0 0 2 2) and line 4, macro 2 (1 1 3 3)
+    NET: pins m macros k weights x y terminal T refined R metal M wires W
+         fingerprint F
+    NET: refused 16: two macros' interiors meet: line 3, macro 1 (0 0 2 2)
+         and line 4, macro 2 (1 1 3 3)
 
-    --csv         the same as comma-separated values, with a line of names first
-    --list FILE   takes the names of more nets from a file, one a line; for - from standard input
-    --jobs N      so many threads; without it one for each core
-    --shard I/N   takes the I-th net of every N, I from 1 to N: the lines of all N shards are those of one run, and so is the line of
-                  names, which only the first shard prints
-    --quiet       no word about progress
+    --csv          the same as comma-separated values, a line of names first
+    --jsonl        a JSON object a line
+    --json         the same objects as one array
+    --form         and `form`: the fingerprint of the wires moved to the origin,
+                   one word for the same metal on every site of a wafer
+    --slid         and the total of the slid tree
+    --best         and that of a best tree; - above 5 pins or 16 macros
+    --bands FILE   and the charge in hundredths, by a list of `calzundi price`
+    --delay R,C    and the worst delay from the first pin of the net's list, by
+                   resistance and capacitance for each unit of length
+    --list FILE    takes the names of more nets from a file, one a line; for -
+                   from standard input
+    --null         names in the list end with a zero byte, as those of
+                   `find -print0`
+    --jobs N       so many threads; without it one for each core
+    --shard I/N    takes the I-th net of every N, I from 1 to N: the lines of
+                   all N shards are those of one run, and so is the line of
+                   names, which only the first shard prints
+    --quiet        no word about progress
 
-    calzundi batch --csv nets/*.net >wafer.csv
-    find nets -name '*.net' | sort | calzundi batch --csv --list - >wafer.csv
-    parallel calzundi batch --csv --jobs 1 --shard {}/4 nets/*.net '>' shard.{}.csv ::: 1 2 3 4
-    sbatch --array=1-64 --wrap 'calzundi batch --csv --shard $SLURM_ARRAY_TASK_ID/64 nets/*.net >shard.$SLURM_ARRAY_TASK_ID.csv'
+    calzundi batch --csv --form nets/*.net >wafer.csv
+    find nets -name '*.net' -print0 | sort -z |
+      calzundi batch --csv --null --list - >wafer.csv
+    parallel calzundi batch --csv --jobs 1 --shard {}/4 nets/*.net \\
+      '>' shard.{}.csv ::: 1 2 3 4
+    sbatch --array=1-64 --wrap 'calzundi batch --csv \\
+      --shard $SLURM_ARRAY_TASK_ID/64 nets/*.net >$SLURM_ARRAY_TASK_ID.csv'
 
-Standard error says how far it is, and at the end how many were routed and refused.
-Exit status: 0 all were routed; 1 some were refused or could not be read; 2 a wrong command line.
+Standard error says how far it is, and at the end how many were routed and
+refused.
+Exit status: 0 all were routed; 1 some were refused or could not be read; 2 a
+wrong command line.
 ";
+
+const fn plain_switch(name: &'static str) -> Switch {
+    Switch { name, value: None }
+}
+
+const fn with_value(name: &'static str, value: &'static str) -> Switch {
+    let value = Some(value);
+    Switch { name, value }
+}
 
 pub const COMMAND: Command = Command {
     name: "batch",
     help: HELP,
     options: &[
-        Switch {
-            name: "--csv",
-            value: None,
-        },
-        Switch {
-            name: "--list",
-            value: Some("a file"),
-        },
-        Switch {
-            name: "--jobs",
-            value: Some("a number"),
-        },
-        Switch {
-            name: "--shard",
-            value: Some("I/N"),
-        },
-        Switch {
-            name: "--quiet",
-            value: None,
-        },
+        plain_switch("--csv"),
+        plain_switch("--jsonl"),
+        JSON,
+        plain_switch("--form"),
+        plain_switch("--slid"),
+        plain_switch("--best"),
+        with_value("--bands", A_FILE),
+        with_value("--delay", "resistance and capacitance, as R,C"),
+        with_value("--list", A_FILE),
+        plain_switch("--null"),
+        with_value("--jobs", "a number"),
+        with_value("--shard", "I/N"),
+        plain_switch("--quiet"),
     ],
     files: (0, usize::MAX),
     act: batch,
 };
-
-/// What is printed of a net.
-struct Row {
-    net: String,
-    answer: Result<Totals, Wrong>,
-}
-
-/// The numbers of a routed net.
-struct Totals {
-    pins: usize,
-    macros: usize,
-    weights: Weights,
-    terminal: i64,
-    refined: i64,
-    metal: i64,
-    wires: usize,
-    fingerprint: String,
-}
-
-/// Why a net has none.
-struct Wrong {
-    refused: Option<i32>,
-    reason: String,
-}
-
-impl Totals {
-    /// Two calls give all of it: a wire's cost and length are those of its part of an edge.
-    fn of(net: &Net) -> Result<Totals, Refusal> {
-        let (terminal, wires) = (net.terminal_tree()?.total, net.wires()?);
-        Ok(Totals {
-            pins: net.pins.len(),
-            macros: net.macros.len(),
-            weights: net.weights,
-            terminal,
-            refined: wires.iter().map(|wire| wire.cost(net.weights)).sum(),
-            metal: wires.iter().map(Wire::length).sum(),
-            wires: wires.len(),
-            fingerprint: fingerprint(&wires_text(&wires)),
-        })
-    }
-}
-
-impl Row {
-    fn of(file: &OsString) -> Row {
-        let net = name(Some(file));
-        let wrong = |refused: Option<i32>, reason: String| Wrong { refused, reason };
-        let answer = open(Some(file))
-            .map_err(|failure| match failure {
-                Failure::Input(said) | Failure::Usage(said) => {
-                    let own = said.strip_prefix(&format!("{net}: ")).map(str::to_string);
-                    wrong(None, own.unwrap_or(said))
-                }
-                Failure::No => wrong(None, String::new()),
-            })
-            .and_then(|source| match &source.verdict {
-                Ok(()) => Totals::of(&source.net)
-                    .map_err(|refusal| wrong(Some(refusal.number()), refusal.to_string())),
-                Err(refused) => {
-                    let blame = &refused.blame;
-                    let lines = [&blame.headline].into_iter().chain(blame.reasons.first());
-                    let lines: Vec<&str> = lines.map(String::as_str).collect();
-                    Err(wrong(Some(refused.refusal.number()), lines.join(": ")))
-                }
-            });
-        Row { net, answer }
-    }
-
-    fn text(&self) -> String {
-        let net = &self.net;
-        match &self.answer {
-            Ok(Totals {
-                pins,
-                macros,
-                weights: Weights { x, y },
-                terminal,
-                refined,
-                metal,
-                wires,
-                fingerprint,
-            }) => format!(
-                "{net}: pins {pins} macros {macros} weights {x} {y} terminal {terminal} refined {refined} metal {metal} \
-                 wires {wires} fingerprint {fingerprint}\n"
-            ),
-            Err(wrong) => format!("{net}: {}\n", wrong.reason),
-        }
-    }
-
-    fn csv(&self) -> String {
-        let mut fields = vec![field(&self.net)];
-        match &self.answer {
-            Ok(totals) => {
-                let (m, k) = (totals.pins as i64, totals.macros as i64);
-                let (x, y) = (totals.weights.x.into(), totals.weights.y.into());
-                let numbers = [m, k, x, y, totals.terminal, totals.refined, totals.metal];
-                fields.extend(numbers.map(|number| number.to_string()));
-                fields.push(totals.wires.to_string());
-                fields.push(totals.fingerprint.clone());
-                fields.extend([String::new(), String::new()]);
-            }
-            Err(wrong) => {
-                fields.extend((0..9).map(|_| String::new()));
-                fields.push(wrong.refused.map_or(String::new(), |n| n.to_string()));
-                fields.push(field(&wrong.reason));
-            }
-        }
-        fields.join(",") + "\n"
-    }
-}
-
-const NAMES: &str =
-    "net,pins,macros,weight_x,weight_y,terminal,refined,metal,wires,fingerprint,refused,reason\n";
-
-/// A field of comma-separated values, in quotes where it needs them.
-fn field(text: &str) -> String {
-    if text.contains([',', '"', '\n', '\r']) {
-        return format!("\"{}\"", text.replace('"', "\"\""));
-    }
-    text.to_string()
-}
 
 /// Every N-th net from the I-th on.
 struct Shard {
@@ -225,51 +126,79 @@ fn jobs(said: Option<&str>) -> Result<usize, Failure> {
 /// A list of names may be so many bytes long: millions of nets.
 const LONGEST_LIST: u64 = 1 << 28;
 
-/// The nets of the command line and of the list.
+/// The nets of the command line and of the list, by names of any bytes.
 fn nets(words: &Words) -> Result<Vec<OsString>, Failure> {
     let mut nets = words.files.clone();
-    if let Some(list) = words.value("--list") {
-        let word = OsString::from(list);
-        let bytes = read_most(Some(&word), LONGEST_LIST)?;
-        let names = String::from_utf8(bytes)
-            .map_err(|_| Failure::wrong(name(Some(&word)), "not UTF-8 text"))?;
-        nets.extend(
-            names
-                .lines()
-                .filter(|line| !line.is_empty())
-                .map(OsString::from),
-        );
+    if let Some(list) = words.file("--list") {
+        let bytes = read_most(Some(list), LONGEST_LIST)?;
+        let end = if words.has("--null") { 0 } else { b'\n' };
+        let names = bytes.split(|&byte| byte == end);
+        let names = names.map(|name| match end {
+            0 => name,
+            _ => name.strip_suffix(b"\r").unwrap_or(name),
+        });
+        let names = names.filter(|name| !name.is_empty());
+        nets.extend(names.map(|name| OsString::from_vec(name.to_vec())));
+    } else if words.has("--null") {
+        let alone = "--null says how names in --list FILE end, and there is none";
+        return Err(Failure::Usage(alone.into()));
     }
     if nets.is_empty() {
-        return Err(Failure::Usage("a net is missing".into()));
+        return Err(Failure::Usage("NET is missing".into()));
     }
     Ok(nets)
 }
 
+fn form(words: &Words) -> Result<Form, Failure> {
+    let forms = [
+        ("--csv", Form::Csv),
+        ("--jsonl", Form::JsonLines),
+        ("--json", Form::Json),
+    ];
+    let asked: Vec<Form> = forms
+        .into_iter()
+        .filter(|(name, _)| words.has(name))
+        .map(|(_, form)| form)
+        .collect();
+    match asked[..] {
+        [] => Ok(Form::Text),
+        [form] => Ok(form),
+        _ => {
+            let several = "--csv, --jsonl and --json are forms of one answer; take one of them";
+            Err(Failure::Usage(several.into()))
+        }
+    }
+}
+
 fn batch(words: &Words) -> Result<(), Failure> {
     let (shard, jobs) = (shard(words.value("--shard"))?, jobs(words.value("--jobs"))?);
+    let form = form(words)?;
+    let wanted = Wanted::of(words)?;
     let nets = nets(words)?;
     let nets: Vec<&OsString> = nets
         .iter()
         .skip(shard.first - 1)
         .step_by(shard.of)
         .collect();
-    let csv = words.has("--csv");
-    if csv && shard.first == 1 {
-        write(None, NAMES.as_bytes(), &[])?;
-    }
+    let head = match form {
+        Form::Csv if shard.first == 1 => wanted.names(),
+        Form::Json => "[\n".into(),
+        _ => String::new(),
+    };
+    write(None, head.as_bytes(), &[])?;
     let (next, stop) = (AtomicUsize::new(0), AtomicBool::new(false));
     let (sender, rows) = mpsc::channel();
-    thread::scope(|scope| {
+    let done = thread::scope(|scope| {
         for _ in 0..jobs.min(nets.len()) {
-            let (sender, next, stop, nets) = (sender.clone(), &next, &stop, &nets);
+            let (sender, next, stop) = (sender.clone(), &next, &stop);
+            let (nets, wanted) = (&nets, &wanted);
             let work = move || {
                 while !stop.load(Ordering::Relaxed) {
                     let at = next.fetch_add(1, Ordering::Relaxed);
                     let Some(net) = nets.get(at) else {
                         break;
                     };
-                    if sender.send((at, Row::of(net))).is_err() {
+                    if sender.send((at, Row::of(net, wanted))).is_err() {
                         break;
                     }
                 }
@@ -283,17 +212,21 @@ fn batch(words: &Words) -> Result<(), Failure> {
             }
         }
         drop(sender);
-        let done = print(&rows, nets.len(), csv, words.has("--quiet"));
+        let done = print(&rows, nets.len(), form, words.has("--quiet"));
         stop.store(true, Ordering::Relaxed);
         done
-    })
+    });
+    if form == Form::Json && matches!(done, Ok(()) | Err(Failure::No)) {
+        write(None, b"\n]\n", &[])?;
+    }
+    done
 }
 
 /// Prints rows in the order of their nets as they come.
 fn print(
     rows: &mpsc::Receiver<(usize, Row)>,
     count: usize,
-    csv: bool,
+    form: Form,
     quiet: bool,
 ) -> Result<(), Failure> {
     let mut progress = Progress::new(count, quiet);
@@ -304,13 +237,17 @@ fn print(
             Ok((at, row)) => {
                 progress.routed += usize::from(row.answer.is_ok());
                 progress.wrong += usize::from(row.answer.is_err());
-                waiting.insert(at, if csv { row.csv() } else { row.text() });
+                waiting.insert(at, row.line(form));
             }
             Err(mpsc::RecvTimeoutError::Timeout) => {}
             Err(mpsc::RecvTimeoutError::Disconnected) => break,
         }
         let mut ready = String::new();
         while let Some(line) = waiting.remove(&printed) {
+            // The entries of an array stand after each other's commas.
+            if form == Form::Json && printed > 0 {
+                ready += ",\n";
+            }
             ready += &line;
             printed += 1;
         }

@@ -6,9 +6,13 @@ mod batch;
 mod best;
 mod check;
 mod compare;
+mod completion;
 mod delay;
 mod distances;
 mod draw;
+mod export;
+mod import;
+mod man;
 mod pack;
 mod price;
 mod route;
@@ -33,4 +37,8 @@ pub const ALL: &[Command] = &[
     delay::COMMAND,
     pack::COMMAND,
     unpack::COMMAND,
+    export::COMMAND,
+    import::COMMAND,
+    man::COMMAND,
+    completion::COMMAND,
 ];

@@ -1,11 +1,15 @@
 //! One tree in its frame: macros, metal, points, labels, and lengths where there is room.
 
-use calzundi::{Edge, Place};
+use calzundi::{Edge, Macro, Place};
 
 use super::frame::Frame;
 use super::labels::{placed, Label, FAR, POINT};
-use super::svg::{diamond, disc, polyline, rectangle, segment, text, titled, Area, Spot, Svg};
+use super::red::{Red, RED};
+use super::svg::{
+    diamond, disc, polyline, rectangle, segment, text, titled, unit, Area, Spot, Svg,
+};
 use super::{coordinates, Subject};
+use crate::text::sides;
 
 /// Sizes in picture units. A letter of the fonts asked for is at most this part of its height wide.
 pub const LETTER: f64 = 11.0;
@@ -20,6 +24,8 @@ pub const FONT: &str =
 pub const METAL: &str = "#b4501e";
 pub const TERMINAL: &str = "#1f6f8b";
 pub const MACRO_LOOK: &str = "fill=\"#d5dbe1\" stroke=\"#7b8794\" stroke-width=\"1\"";
+const RED_MACRO_LOOK: &str =
+    "fill=\"#c8102e\" fill-opacity=\"0.18\" stroke=\"#c8102e\" stroke-width=\"1.5\"";
 pub const PIN_COLOUR: &str = "#12355b";
 pub const GREY: &str = "#7b8794";
 
@@ -49,24 +55,25 @@ pub struct Panel<'a> {
     pub by_coordinates: bool,
     /// Whether the delays that are asked for stand at the pins.
     pub with_delays: bool,
+    /// What is to blame, by the numbers of pins, macros and these edges.
+    pub red: Red,
     /// Where labels may stand.
     pub within: Area,
 }
 
 impl Panel<'_> {
     pub fn draw(&self, svg: &mut Svg) {
-        let macros = self.subject.net.macros.iter();
-        svg.group(
-            MACRO_LOOK,
-            macros.map(|one| rectangle(&self.frame.area(one))),
-        );
+        draw_macros(svg, &self.frame, &self.subject.net.macros, &self.red);
         let colour = self.colour;
-        let look = format!("fill=\"none\" stroke=\"{colour}\" stroke-width=\"2.5\" stroke-linecap=\"round\" stroke-linejoin=\"round\"");
-        let spots = self
-            .edges
-            .iter()
-            .map(|(edge, _)| wire_spots(&self.frame, edge));
-        svg.group(&look, spots.map(|spots| polyline(&spots)));
+        for (colour, red) in [(colour, false), (RED, true)] {
+            let look = format!("fill=\"none\" stroke=\"{colour}\" stroke-width=\"2.5\" stroke-linecap=\"round\" stroke-linejoin=\"round\"");
+            let own = self.edges.iter().enumerate();
+            let own = own.filter(|(at, _)| self.red.edges.contains(at) == red);
+            svg.group(
+                &look,
+                own.map(|(_, (edge, _))| drawn_edge(&self.frame, edge)),
+            );
+        }
         let edges: Vec<Edge> = self.edges.iter().map(|(edge, _)| *edge).collect();
         let (corners, steiner) = self.subject.other_points(&edges);
         draw_points(
@@ -77,6 +84,7 @@ impl Panel<'_> {
             (self.subject.diamond(), &steiner),
             colour,
         );
+        draw_red_pins(svg, &self.frame, &self.subject.pins(), &self.red);
         let taken = self.draw_labels(svg, &[corners, steiner].concat());
         self.draw_lengths(svg, taken);
     }
@@ -179,6 +187,48 @@ impl Panel<'_> {
         }
         svg.group(&words_look(SMALL_LETTER, self.colour), written.into_iter());
     }
+}
+
+fn drawn_edge(frame: &Frame, edge: &Edge) -> String {
+    let Edge { first, second } = edge;
+    let title = format!("edge {} to {}", coordinates(*first), coordinates(*second));
+    titled(&edge_shape(frame, edge), "", &title)
+}
+
+/// An edge as its wires; one of equal ends, which has none, as a dot.
+pub fn edge_shape(frame: &Frame, edge: &Edge) -> String {
+    if edge.first != edge.second {
+        return polyline(&wire_spots(frame, edge));
+    }
+    let Spot { x, y } = frame.spot(edge.first);
+    let (x, y) = (unit(x), unit(y));
+    format!(r#"<path d="M {x} {y} L {x} {y}"/>"#)
+}
+
+/// Macros, those that are to blame in red.
+pub fn draw_macros(svg: &mut Svg, frame: &Frame, macros: &[Macro], red: &Red) {
+    for is_red in [false, true] {
+        let own = macros.iter().enumerate();
+        let own = own.filter(|(at, _)| red.macros.contains(at) == is_red);
+        let shapes =
+            own.map(|(at, one)| titled(&rectangle(&frame.area(one)), "", &macro_title(at, one)));
+        let look = if is_red { RED_MACRO_LOOK } else { MACRO_LOOK };
+        svg.group(look, shapes);
+    }
+}
+
+/// `macro 3: 4 -2 6 3`.
+pub fn macro_title(at: usize, one: &Macro) -> String {
+    format!("macro {}: {}", at + 1, sides(one))
+}
+
+/// The pins that are to blame, over the others.
+pub fn draw_red_pins(svg: &mut Svg, frame: &Frame, pins: &[Place], red: &Red) {
+    let own = pins.iter().enumerate();
+    let own = own.filter(|(at, _)| red.pins.contains(at));
+    let look = format!("fill=\"none\" stroke=\"{RED}\" stroke-width=\"2\"");
+    let ring = |(_, pin): (usize, &Place)| disc(frame.spot(*pin), PIN + 3.0);
+    svg.group(&look, own.map(ring));
 }
 
 /// How words that stand over lines look.

@@ -9,6 +9,7 @@ use super::panel::{
     corner_mark, pin_mark, steiner_mark, wide, Panel, FONT, GREY, LETTER, MACRO_LOOK, METAL,
     PIN_COLOUR, TERMINAL,
 };
+use super::red::{Red, RED};
 use super::svg::{escaped, rectangle, segment, text, Area, Spot, Svg};
 use super::{grouped, Other, Subject};
 
@@ -72,7 +73,7 @@ impl Sheet<'_> {
             .map(|&place| subject.label(place));
         let widest = match by_coordinates {
             true => places.map(|words| wide(&words, LETTER)).fold(0.0, f64::max),
-            false => wide("64", LETTER),
+            false => wide("128", LETTER),
         };
         let sides = widest + POINT + EDGE;
         // Labels of a net that is all on one line need their room above and below it.
@@ -120,7 +121,11 @@ impl Sheet<'_> {
         let below = LINE * (caption.len() as f64 + 1.6) + (LETTER + 4.0) * rows + EDGE;
         let whole_height = (top + below).ceil();
         let mut svg = Svg::new(whole_width, whole_height);
-        svg.line(&format!("<title>{}</title>", escaped(&caption[0])));
+        let title = match self.subject.name.as_str() {
+            "" => caption[0].clone(),
+            name => format!("{name}: {}", caption[0]),
+        };
+        svg.line(&format!("<title>{}</title>", escaped(&title)));
         let whole = Area::between(
             Spot { x: 0.0, y: 0.0 },
             Spot {
@@ -174,14 +179,26 @@ impl Sheet<'_> {
             edges,
             by_coordinates: self.by_coordinates,
             with_delays: number == 1,
+            red: match (number, &self.subject.other) {
+                (1, Some(other)) => other.red.clone(),
+                _ => Red::default(),
+            },
             within,
         }
     }
 
-    /// At an edge stands what it costs.
+    /// At an edge stands what it costs; of edges that follow each other on straight metal, between which no point is marked, at the longest
+    /// what all of them do.
     fn costs(&self, tree: &Tree) -> Vec<(Edge, String)> {
-        let cost = |edge: &Edge| grouped(edge.cost(self.subject.net.weights));
-        tree.edges.iter().map(|edge| (*edge, cost(edge))).collect()
+        let cost = |at: &usize| tree.edges[*at].cost(self.subject.net.weights);
+        let mut words = vec![String::new(); tree.edges.len()];
+        for run in self.subject.straight_runs(&tree.edges) {
+            let longest = run.iter().max_by_key(|at| tree.edges[**at].length());
+            if let Some(&longest) = longest {
+                words[longest] = grouped(run.iter().map(cost).sum());
+            }
+        }
+        tree.edges.iter().copied().zip(words).collect()
     }
 
     /// At a path's bridge stands what the path costs; an edge on several paths says on how many.
@@ -209,7 +226,10 @@ impl Sheet<'_> {
         let refined = format!("refined tree {}", grouped(routed.refined.total));
         match &self.subject.other {
             None => [terminal, refined],
-            Some(Other { name, tree }) => [refined, format!("{name} {}", grouped(tree.total))],
+            Some(Other { name, tree, red }) => match red.said.first() {
+                None => [refined, format!("{name} {}", grouped(tree.total))],
+                Some(_) => [refined, format!("{name}, which does not pass")],
+            },
         }
     }
 
@@ -243,12 +263,17 @@ impl Sheet<'_> {
                 format!("metal to lay {}", grouped(routed.refined.metal)),
                 routed.header(),
             ],
-            Some(Other { name, tree }) => vec![
+            Some(Other { name, tree, red }) if red.said.is_empty() => vec![
                 format!("metal to lay {} by the {name}", grouped(tree.metal)),
                 routed.header(),
                 format!("{name} {} metal {}", tree.total, tree.metal),
             ],
+            Some(Other { red, .. }) => {
+                let header = [routed.header()];
+                red.few().into_iter().chain(header).collect()
+            }
         };
+        lines.push(self.named());
         if routed.weights != Weights::default() {
             lines.push(format!(
                 "totals and numbers at edges are costs: a unit costs {x} across and {y} up"
@@ -259,9 +284,13 @@ impl Sheet<'_> {
             lines.push("x2: on two terminal paths, and counted for each".into());
         }
         if !self.subject.delays.is_empty() {
-            lines.push(
-                "at the refined tree's pins, after the colon: the delay, to five digits".into(),
-            );
+            let by = &self.subject.delayed_by;
+            let at = match self.by_coordinates {
+                true => "at the refined tree's pins",
+                false => "in the table below",
+            };
+            lines.push(format!("{at}, after the colon: the delay, to five digits"));
+            lines.push(format!("delays are {by}"));
         }
         if !self.frame.to_scale {
             lines.push("not to scale: what is too close to be seen is drawn apart".into());
@@ -272,14 +301,35 @@ impl Sheet<'_> {
         lines
     }
 
+    /// Which net it is, and which metal: what a job card has.
+    fn named(&self) -> String {
+        let print = self.subject.fingerprint();
+        let of = match self.subject.other {
+            None => "",
+            Some(_) => " of the refined tree",
+        };
+        match self.subject.name.as_str() {
+            "" => format!("fingerprint {print}{of}"),
+            name => format!("{name}: fingerprint {print}{of}"),
+        }
+    }
+
     fn draw_caption(&self, svg: &mut Svg, top: f64, caption: &[String]) {
-        let look = format!("{FONT} font-size=\"{CAPTION_LETTER}\" fill=\"black\"");
+        let look =
+            |colour: &str| format!("{FONT} font-size=\"{CAPTION_LETTER}\" fill=\"{colour}\"");
+        let passes = |other: &Other| other.red.said.is_empty();
+        let first_colour = match &self.subject.other {
+            Some(other) if !passes(other) => RED,
+            _ => "black",
+        };
         let mut lines = caption.iter().enumerate().map(|(number, line)| {
             let y = top + LINE * (number as f64 + 1.2);
             text(Spot { x: EDGE, y }, line)
         });
         let first = lines.next();
-        svg.group(&format!("{look} font-weight=\"bold\""), first.into_iter());
+        let bold = format!("{} font-weight=\"bold\"", look(first_colour));
+        svg.group(&bold, first.into_iter());
+        let look = look("black");
         svg.group(&look, lines);
         self.draw_legend(svg, top + LINE * (caption.len() as f64 + 1.2));
     }

@@ -173,12 +173,14 @@ pub fn escaped(text: &str) -> String {
     said
 }
 
-/// A shape with what is said of it where it is pointed at.
+/// A shape with what is said of it where it is pointed at, and to those who hear the picture.
 pub fn titled(shape: &str, attributes: &str, title: &str) -> String {
     let shape = shape.strip_suffix("/>").unwrap_or(shape);
     let tag = shape[1..].split(' ').next().unwrap_or("");
     let title = escaped(title);
-    format!("{shape}{attributes}><title>{title}</title></{tag}>")
+    format!(
+        "{shape} role=\"img\" aria-label=\"{title}\"{attributes}><title>{title}</title></{tag}>"
+    )
 }
 
 pub fn rectangle(area: &Area) -> String {

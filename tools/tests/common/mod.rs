@@ -1,12 +1,14 @@
 //! What the tests of the program share.
 #![allow(dead_code)]
 
+pub mod json;
+
 use std::fs;
 use std::io::Write;
 use std::path::{Path, PathBuf};
 use std::process::{Command, Output, Stdio};
 
-use calzundi::{Net, Pin};
+use calzundi::Net;
 use reference::generate::Kind;
 use reference::lists::Lists;
 
@@ -63,6 +65,16 @@ pub fn said(words: &[&str], input: &[u8], status: i32) -> String {
     wrong
 }
 
+/// What the program says where something is refused: the number stands on standard output.
+pub fn refused(words: &[&str], input: &[u8], number: i32) -> String {
+    let output = run(words, input);
+    let wrong = String::from_utf8(output.stderr).unwrap();
+    assert_eq!(output.status.code(), Some(1), "{words:?}: {wrong}");
+    let printed = String::from_utf8(output.stdout).unwrap();
+    assert_eq!(printed, format!("refused {number}\n"), "{words:?}");
+    wrong
+}
+
 /// A shell line that has the program as "$0"; what it says on standard error, and its status.
 pub fn shell(line: &str, words: &[&str]) -> (Option<i32>, String) {
     let output = Command::new("sh")
@@ -103,11 +115,8 @@ pub fn made(lists: &Lists) -> Net {
         .macros
         .chunks_exact(4)
         .map(|m| (m[0], m[1], m[2], m[3]));
-    let net = Net::new([], macros).with_weights(lists.weights.x, lists.weights.y);
-    Net {
-        pins: pins.map(|p| Pin::new(p[0], p[1]).with_load(p[2])).collect(),
-        ..net
-    }
+    let pins = pins.map(|p| (p[0], p[1], p[2]));
+    Net::new(pins, macros).with_weights(lists.weights.x, lists.weights.y)
 }
 
 /// So many seeds of a kind, and one of those that take long to make or to route.

@@ -1,6 +1,5 @@
 -- `bars::choice` meets its contract: labels along rows and along columns, the pins' seats, and the search by them.
 -- Assumes nothing.
-use borrow.Author.Needs.{needs}
 use Prim.Native.Nat.{ℕ}
 use native.Mathlib.Omega.{arith}
 use lib.ListN.{length-replicate}
@@ -15,6 +14,11 @@ label-requires c κs = let h = c .before .pre .0 .0 in (h .few, (h .fewer, withi
 
 label-requires-2 : tie.Need-label-requires-2
 label-requires-2 c κs = let h = c .before .before .before .pre .0 .0 in (h .few, (h .fewer, within-small _ _ (h .few) (h .within)))
+
+seat-requires : tie.Need-seat-requires
+seat-requires c κs =
+    let p = c .before .before .before .before .before .pre .0 in
+    ((p .0 .few, p .0 .ordered), p .1)
 
 search-requires : tie.Need-search-requires
 search-requires c κs =
@@ -47,4 +51,4 @@ returns c = (
 )
 
 pub choice-spec : {M : Type 1} → statement M
-choice-spec = tie.close (tie.spec label-requires label-requires-2 (λ c κs. search needs) search-requires returns)
+choice-spec = tie.close (tie.spec label-requires label-requires-2 seat-requires search-requires returns)

@@ -5,19 +5,18 @@ use Prim.Native.Nat.{_≤_, _-_}
 use native.Mathlib.Omega.{arith}
 use lib.ListN.{length, replicate, length-set}
 use Rattle.lent.specs.Over.{over}
-use Rattle.parts.specs.Bounds.{workBound}
-use Rattle.best.proofs.SizeLaws.{clear-none, clear-more, clear-end}
+use Rattle.best.proofs.SizeLaws.{filled-none, filled-more, filled-end}
 use Rattle.best.proofs.clear.Statement.{statement}
 use Rattle.best.proofs.clear.Tie as tie
 
 abbrev Inv-loop : tie.InvT-loop
-Inv-loop work₀ i₀ work i = (i ≤ workBound) × ((length work ≡ length work₀) × (work ≡ over (replicate i 0) work₀))
+Inv-loop work₀ n i₀ work i = (i ≤ n) × ((length work ≡ length work₀) × (work ≡ over (replicate i 0) work₀))
 
 abbrev μ-loop : tie.MeasureT-loop
-μ-loop work₀ i₀ work i = workBound - i
+μ-loop work₀ n i₀ work i = n - i
 
 loop-holds : tie.Need-loop-holds Inv-loop μ-loop
-loop-holds c = (omega arith, (refl, clear-none _))
+loop-holds c = (omega arith, (refl, filled-none 0 _))
 
 loop-again : tie.Need-loop-again Inv-loop μ-loop
 loop-again c =
@@ -26,7 +25,7 @@ loop-again c =
       omega arith,
       (
         length-set (l .loop .work) (l .loop .i) 0 ∙ i .1 .0,
-        clear-more _ _ _ (omega (
+        filled-more 0 _ _ _ (omega (
           arith,
           c .loop-test .taken,
           l .before .pre,
@@ -38,7 +37,7 @@ same-length : tie.Need-same-length Inv-loop μ-loop
 same-length c = c .before .loop .inv .1 .0
 
 returns : tie.Need-returns Inv-loop μ-loop
-returns c = clear-end _ _ _ _ (c .before .loop .inv .0) (c .loop-test .left) (c .before .loop .inv .1 .1)
+returns c = filled-end 0 _ _ _ _ (c .before .loop .inv .0) (c .loop-test .left) (c .before .loop .inv .1 .1)
 
 pub clear-spec : {M : Type 1} → statement M
 clear-spec =

@@ -1,7 +1,8 @@
--- `elmore::capacitance` meets its contract: it recurses on the steps left below a point, which fall at each call. The loop's
--- invariant: the children still to come, added to the sum so far, make the capacitance of the point.
+-- `elmore::capacitance` meets its contract: it recurses on the steps left below a point, which fall at each call. An entry of the memo with
+-- the visit's number is its capacitance. The loop's invariant: the children still to come, added to the sum so far, make the capacitance of
+-- the point, and the memo's entries are right.
 -- Assumes nothing.
-use mathlib.Core.Path.{_≡_}
+use mathlib.Core.Path.{_≡_, _∙_}
 use Prim.Native.Nat.{ℕ, _-_, _≤_, _<_}
 use native.Mathlib.Omega.{arith}
 use borrow.Author.Needs.{needs}
@@ -9,230 +10,144 @@ use borrow.Fn.Kinds.{In}
 use borrow.Fn.PlainCycle.{Measures, is, falls, and}
 use Rattle.elmore.specs.Elmore as elmore
 use Rattle.elmore.specs.Table.{hung, apartIn, loadIn}
+use Rattle.elmore.specs.Memo.{Memo}
 use Rattle.elmore.proofs.TableLaws.{pending, gather-none, gather-start, gather-hit, gather-miss, gather-end}
-use Rattle.elmore.proofs.capacitance.Reads as capacitance
-use Rattle.elmore.proofs.capacitance.Kinds as capacitance-kinds
-use Rattle.elmore.proofs.+capacitance.Lts-capacitance as capacitance-lts
-use Rattle.elmore.proofs.child.child_at.Reads as child-at-reads
-use Rattle.elmore.proofs.load.Reads as load-reads
-use Rattle.elmore.proofs.add_child.Reads as add-child-reads
+use Rattle.elmore.proofs.MemoLaws.{memo-more}
+use Rattle.elmore.proofs.capacitance.Reads as own
+use Rattle.elmore.proofs.capacitance.Kinds as kinds
+use Rattle.elmore.proofs.+capacitance.Lts-capacitance as lts
+use Rattle.elmore.proofs.add_child.Reads as add-child
+use Rattle.elmore.proofs.child.child_at.Reads as child-at
+use Rattle.elmore.proofs.load.Reads as load
+use Rattle.elmore.proofs.visit_number.Reads as visit-number
 use Rattle.elmore.proofs.+capacitance.{statement}
 use Rattle.elmore.proofs.+capacitance.Tie.{close}
 
-abbrev μ-capacitance : Measures 3 capacitance-kinds.ps ℕ
-μ-capacitance κs a = a .1 .1 .1 .1 .1 .0 .left
+abbrev steps : Measures 5 kinds.ps ℕ
+steps κs a = a .1 .1 .1 .1 .1 .0 .left
 
-abbrev capacitance-at : ℕ → In 3 capacitance-kinds.ps
-capacitance-at t = and 3 capacitance-kinds.ps (is 3 capacitance-kinds.ps μ-capacitance t) capacitance.Pre
+abbrev at : ℕ → In 5 kinds.ps
+at t = and 5 kinds.ps (is 5 kinds.ps steps t) own.Pre
 
-abbrev capacitance-below : ℕ → In 3 capacitance-kinds.ps
-capacitance-below t = and 3 capacitance-kinds.ps (falls 3 capacitance-kinds.ps _<_ μ-capacitance t) capacitance.Pre
+-- what is known of the callees at t steps: of itself below t
+abbrev claims : ℕ → lts.Claims
+claims t = (
+  visit-number.Asked,
+  visit-number.Learnt,
+  load.Asked,
+  load.Learnt,
+  child-at.Asked,
+  child-at.Learnt,
+  and 5 kinds.ps (falls 5 kinds.ps _<_ steps t) own.Pre,
+  own.Post,
+  add-child.Asked,
+  add-child.Learnt,
+)
 
-abbrev capacitance-Inv-loop : capacitance-lts.InvT-loop
-capacitance-Inv-loop pts keys e loads t v p sum₀ left k₀ sum k =
+abbrev Inv-loop : lts.InvT-loop
+Inv-loop pts keys e loads t v held₀ whose₀ p number sum₀ left k₀ held whose sum k =
     (k ≤ e)
-    × (elmore.gathered (apartIn pts) (loadIn loads) t p sum (pending keys (v .up) p e (hung keys e left p) k)
+    × ((elmore.gathered (apartIn pts) (loadIn loads) t p sum (pending keys (v .up) p e (hung keys e left p) k)
     ≡ elmore.capacitance (apartIn pts) (loadIn loads) t p (hung keys e (v .left) (v .up) p))
+    × Memo pts keys e loads t held whose)
 
-abbrev capacitance-μ-loop : capacitance-lts.MeasureT-loop
-capacitance-μ-loop pts keys e loads t v p sum₀ left k₀ sum k = e - k
+abbrev μ-loop : lts.MeasureT-loop
+μ-loop pts keys e loads t v held₀ whose₀ p number sum₀ left k₀ held whose sum k = e - k
 
-capacitance-load-requires : (t : ℕ) → capacitance-lts.Need-load-requires (
-  load-reads.Asked,
-  load-reads.Learnt,
-  child-at-reads.Asked,
-  child-at-reads.Learnt,
-  capacitance-below t,
-  capacitance.Post,
-  add-child-reads.Asked,
-  add-child-reads.Learnt,
-) (capacitance-at t) capacitance.Post capacitance-Inv-loop capacitance-μ-loop
-capacitance-load-requires t c κs = search needs
+-- where the visit's number was asked for, from the loop
+abbrev asked : {t : ℕ} → lts.At-loop (claims t) (at t) own.Post Inv-loop μ-loop
+    → lts.After-visit-number (claims t) (at t) own.Post Inv-loop μ-loop
+asked l = l .before .before .before .before .before .before .before
 
-capacitance-returns : (t : ℕ) → capacitance-lts.Need-returns (
-  load-reads.Asked,
-  load-reads.Learnt,
-  child-at-reads.Asked,
-  child-at-reads.Learnt,
-  capacitance-below t,
-  capacitance.Post,
-  add-child-reads.Asked,
-  add-child-reads.Learnt,
-) (capacitance-at t) capacitance.Post capacitance-Inv-loop capacitance-μ-loop
-capacitance-returns t c = gather-none _ _ _ _ _ _ _ _ _ (c .if1 .taken) (c .before .before .load .ensures)
+-- where it all began
+abbrev start : {t : ℕ} → lts.At-loop (claims t) (at t) own.Post Inv-loop μ-loop → lts.Start (claims t) (at t) own.Post Inv-loop μ-loop
+start l = asked l .before
 
-capacitance-sub-left : (t : ℕ) → capacitance-lts.Need-sub-left (
-  load-reads.Asked,
-  load-reads.Learnt,
-  child-at-reads.Asked,
-  child-at-reads.Learnt,
-  capacitance-below t,
-  capacitance.Post,
-  add-child-reads.Asked,
-  add-child-reads.Learnt,
-) (capacitance-at t) capacitance.Post capacitance-Inv-loop capacitance-μ-loop
-capacitance-sub-left t c = omega (arith, c .before .if1 .left)
+-- the memo has it
+returns : (t : ℕ) → lts.Need-returns (claims t) (at t) own.Post Inv-loop μ-loop
+returns t c =
+    let n = c .before .before .before in
+    let s = n .before in
+    let i = s .pre .1 .0 .1 in
+    (s .pre .1 .1 .entry _ _ _ (i .steps-low) (i .point-low) (c .before .if1 .taken ∙ n .visit-number .ensures), s .pre .1 .1)
 
-capacitance-loop-holds : (t : ℕ) → capacitance-lts.Need-loop-holds (
-  load-reads.Asked,
-  load-reads.Learnt,
-  child-at-reads.Asked,
-  child-at-reads.Learnt,
-  capacitance-below t,
-  capacitance.Post,
-  add-child-reads.Asked,
-  add-child-reads.Learnt,
-) (capacitance-at t) capacitance.Post capacitance-Inv-loop capacitance-μ-loop
-capacitance-loop-holds t c =
-    (omega arith, gather-start _ _ _ _ _ _ _ _ _ (c .before .if1 .left) (c .before .before .before .load .ensures))
+-- nothing hangs from the point
+returns-2 : (t : ℕ) → lts.Need-returns-2 (claims t) (at t) own.Post Inv-loop μ-loop
+returns-2 t c =
+    let l = c .before .before in
+    let s = l .before .before .before .before in
+    (gather-none _ _ _ _ _ _ _ _ _ (c .if2 .taken) (l .load .ensures), s .pre .1 .1)
 
-capacitance-child-at-requires : (t : ℕ) → capacitance-lts.Need-child-at-requires (
-  load-reads.Asked,
-  load-reads.Learnt,
-  child-at-reads.Asked,
-  child-at-reads.Learnt,
-  capacitance-below t,
-  capacitance.Post,
-  add-child-reads.Asked,
-  add-child-reads.Learnt,
-) (capacitance-at t) capacitance.Post capacitance-Inv-loop capacitance-μ-loop
-capacitance-child-at-requires t c κs = omega (arith, c .before .loop .inv .0, c .before .before .before .before .before .before .pre .1 .0)
+loop-holds : (t : ℕ) → lts.Need-loop-holds (claims t) (at t) own.Post Inv-loop μ-loop
+loop-holds t c =
+    let l = c .before .before .before in
+    let s = l .before .before .before .before in
+    (omega arith, (gather-start _ _ _ _ _ _ _ _ _ (c .before .if2 .left) (l .load .ensures), s .pre .1 .1))
 
-capacitance-add-k : (t : ℕ) → capacitance-lts.Need-add-k (
-  load-reads.Asked,
-  load-reads.Learnt,
-  child-at-reads.Asked,
-  child-at-reads.Learnt,
-  capacitance-below t,
-  capacitance.Post,
-  add-child-reads.Asked,
-  add-child-reads.Learnt,
-) (capacitance-at t) capacitance.Post capacitance-Inv-loop capacitance-μ-loop
-capacitance-add-k t c = omega (arith, c .before .loop-test .taken)
+child-at-requires : (t : ℕ) → lts.Need-child-at-requires (claims t) (at t) own.Post Inv-loop μ-loop
+child-at-requires t c κs = omega (arith, c .loop-test .taken, start (c .before) .pre .1 .0 .0)
 
-capacitance-capacitance-requires : (t : ℕ) → capacitance-lts.Need-capacitance-requires (
-  load-reads.Asked,
-  load-reads.Learnt,
-  child-at-reads.Asked,
-  child-at-reads.Learnt,
-  capacitance-below t,
-  capacitance.Post,
-  add-child-reads.Asked,
-  add-child-reads.Learnt,
-) (capacitance-at t) capacitance.Post capacitance-Inv-loop capacitance-μ-loop
-capacitance-capacitance-requires t c κs =
-    let e = c .before .before .before .before .before in
-    let s = e .before .before .before in
-    (omega (arith, s .pre .0, e .if1 .left), (s .pre .1 .0, c .if2 .taken))
-
-capacitance-add-child-requires : (t : ℕ) → capacitance-lts.Need-add-child-requires (
-  load-reads.Asked,
-  load-reads.Learnt,
-  child-at-reads.Asked,
-  child-at-reads.Learnt,
-  capacitance-below t,
-  capacitance.Post,
-  add-child-reads.Asked,
-  add-child-reads.Learnt,
-) (capacitance-at t) capacitance.Post capacitance-Inv-loop capacitance-μ-loop
-capacitance-add-child-requires t c κs =
-    (c .before .before .before .before .before .before .before .before .before .pre .1 .1, c .before .if2 .taken)
-
-capacitance-loop-less : (t : ℕ) → capacitance-lts.Need-loop-less (
-  load-reads.Asked,
-  load-reads.Learnt,
-  child-at-reads.Asked,
-  child-at-reads.Learnt,
-  capacitance-below t,
-  capacitance.Post,
-  add-child-reads.Asked,
-  add-child-reads.Learnt,
-) (capacitance-at t) capacitance.Post capacitance-Inv-loop capacitance-μ-loop
-capacitance-loop-less t c = omega arith
-
-capacitance-loop-again : (t : ℕ) → capacitance-lts.Need-loop-again (
-  load-reads.Asked,
-  load-reads.Learnt,
-  child-at-reads.Asked,
-  child-at-reads.Learnt,
-  capacitance-below t,
-  capacitance.Post,
-  add-child-reads.Asked,
-  add-child-reads.Learnt,
-) (capacitance-at t) capacitance.Post capacitance-Inv-loop capacitance-μ-loop
-capacitance-loop-again t c =
+capacitance-requires : (t : ℕ) → lts.Need-capacitance-requires (claims t) (at t) own.Post Inv-loop μ-loop
+capacitance-requires t c κs =
     let f = c .before .before in
+    let l = f .before .before .before in
+    let s = start l in
+    let i = s .pre .1 .0 .1 in
+    let few = l .before .before .if2 .left in (
+      omega (arith, s .pre .0, few),
+      (
+        (
+          s .pre .1 .0 .0,
+          record { point-low = f .if3 .taken; parent-low = i .point-low; steps-low = omega (arith, i .steps-low, few) },
+        ),
+        l .loop .inv .1 .1,
+      ),
+    )
+
+add-child-requires : (t : ℕ) → lts.Need-add-child-requires (claims t) (at t) own.Post Inv-loop μ-loop
+add-child-requires t c κs =
+    let f = c .before .before .before in
+    (start (f .before .before .before) .pre .1 .0 .1 .point-low, f .if3 .taken)
+
+loop-again : (t : ℕ) → lts.Need-loop-again (claims t) (at t) own.Post Inv-loop μ-loop
+loop-again t c =
+    let f = c .before .before .before .before in
     let l = f .before .before in (
       omega (arith, l .loop-test .taken),
-      gather-hit _ _ _ _ _ _ _ _ _ _ _ _ _ _ (l .before .loop .inv .1) (l .loop-test .taken) (f .before .child-at .ensures)
-          (f .if2 .taken) (c .before .capacitance .ensures) (c .add-child .ensures),
+      (
+        gather-hit _ _ _ _ _ _ _ _ _ _ _ _ _ _ (l .before .loop .inv .1 .0) (l .loop-test .taken) (f .before .child-at .ensures)
+            (f .if3 .taken) (c .before .capacitance .ensures .0) (c .add-child .ensures),
+        c .before .capacitance .ensures .1,
+      ),
     )
 
-capacitance-loop-less-2 : (t : ℕ) → capacitance-lts.Need-loop-less-2 (
-  load-reads.Asked,
-  load-reads.Learnt,
-  child-at-reads.Asked,
-  child-at-reads.Learnt,
-  capacitance-below t,
-  capacitance.Post,
-  add-child-reads.Asked,
-  add-child-reads.Learnt,
-) (capacitance-at t) capacitance.Post capacitance-Inv-loop capacitance-μ-loop
-capacitance-loop-less-2 t c = omega arith
-
-capacitance-loop-again-2 : (t : ℕ) → capacitance-lts.Need-loop-again-2 (
-  load-reads.Asked,
-  load-reads.Learnt,
-  child-at-reads.Asked,
-  child-at-reads.Learnt,
-  capacitance-below t,
-  capacitance.Post,
-  add-child-reads.Asked,
-  add-child-reads.Learnt,
-) (capacitance-at t) capacitance.Post capacitance-Inv-loop capacitance-μ-loop
-capacitance-loop-again-2 t c =
+loop-again-2 : (t : ℕ) → lts.Need-loop-again-2 (claims t) (at t) own.Post Inv-loop μ-loop
+loop-again-2 t c =
     let l = c .before .before in (
       omega (arith, l .loop-test .taken),
-      gather-miss _ _ _ _ _ _ _ _ _ _ _ _ (l .before .loop .inv .1) (l .loop-test .taken) (c .before .child-at .ensures) (c .if2 .left),
+      (
+        gather-miss _ _ _ _ _ _ _ _ _ _ _ _ (l .before .loop .inv .1 .0) (l .loop-test .taken) (c .before .child-at .ensures) (c .if3 .left),
+        l .before .loop .inv .1 .1,
+      ),
     )
 
-capacitance-returns-2 : (t : ℕ) → capacitance-lts.Need-returns-2 (
-  load-reads.Asked,
-  load-reads.Learnt,
-  child-at-reads.Asked,
-  child-at-reads.Learnt,
-  capacitance-below t,
-  capacitance.Post,
-  add-child-reads.Asked,
-  add-child-reads.Learnt,
-) (capacitance-at t) capacitance.Post capacitance-Inv-loop capacitance-μ-loop
-capacitance-returns-2 t c = gather-end _ _ _ _ _ _ _ _ _ _ _ (c .before .loop .inv .1) (c .loop-test .left)
+element-write-held : (t : ℕ) → lts.Need-element-write-held (claims t) (at t) own.Post Inv-loop μ-loop
+element-write-held t c = start (c .before) .pre .1 .0 .1 .point-low
+
+element-write-whose : (t : ℕ) → lts.Need-element-write-whose (claims t) (at t) own.Post Inv-loop μ-loop
+element-write-whose t c = start (c .before) .pre .1 .0 .1 .point-low
+
+-- all children are added, and the memo has one entry more
+returns-3 : (t : ℕ) → lts.Need-returns-3 (claims t) (at t) own.Post Inv-loop μ-loop
+returns-3 t c =
+    let l = c .before in
+    let i = start l .pre .1 .0 .1 in
+    let worked = gather-end _ _ _ _ _ _ _ _ _ _ _ (l .loop .inv .1 .0) (c .loop-test .left) in
+    (worked, memo-more _ _ _ _ _ (l .loop .inv .1 .1) _ _ _ (i .steps-low) (i .point-low) _ _ (asked l .visit-number .ensures) worked)
 
 pub +capacitance-spec : {M : Type 1} → statement M
-+capacitance-spec = close μ-capacitance λ t. capacitance-lts.spec (
-  load-reads.Asked,
-  load-reads.Learnt,
-  child-at-reads.Asked,
-  child-at-reads.Learnt,
-  capacitance-below t,
-  capacitance.Post,
-  add-child-reads.Asked,
-  add-child-reads.Learnt,
-)
-    (capacitance-at t)
-    capacitance.Post
-    capacitance-Inv-loop
-    capacitance-μ-loop
-    (capacitance-load-requires t)
-    (capacitance-returns t)
-    (capacitance-sub-left t)
-    (capacitance-loop-holds t)
-    (capacitance-child-at-requires t)
-    (capacitance-add-k t)
-    (capacitance-capacitance-requires t)
-    (capacitance-add-child-requires t)
-    (capacitance-loop-less t)
-    (capacitance-loop-again t)
-    (capacitance-loop-less-2 t)
-    (capacitance-loop-again-2 t)
-    (capacitance-returns-2 t)
++capacitance-spec = close steps λ t. lts.spec (claims t) (at t) own.Post Inv-loop μ-loop
+    (λ c κs. search needs) (λ c. search needs) (λ c. search needs) (λ c. search needs) (λ c. search needs) (returns t)
+    (λ c κs. search needs) (returns-2 t) (λ c. omega arith) (loop-holds t) (child-at-requires t) (λ c. omega arith)
+    (capacitance-requires t) (add-child-requires t) (λ c. omega arith) (loop-again t) (λ c. omega arith) (loop-again-2 t)
+    (λ c. search needs) (element-write-held t) (λ c. search needs) (element-write-whose t) (returns-3 t)

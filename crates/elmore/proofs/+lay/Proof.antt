@@ -1,5 +1,6 @@
 -- `elmore::lay` meets its contract: it recurses on the steps left below a point, which fall at each call. The loop's invariant: the
--- delays of the children still to come, stored over the table as it is, make the table that the contract names.
+-- delays of the children still to come, stored over the table as it is, make the table that the contract names, and the memo's entries are
+-- right.
 -- Assumes nothing.
 use mathlib.Core.Path.{_≡_}
 use Prim.Native.Nat.{ℕ, _-_, _≤_, _<_}
@@ -8,254 +9,131 @@ use borrow.Fn.Kinds.{In}
 use borrow.Fn.PlainCycle.{Measures, is, falls, and}
 use Rattle.elmore.specs.Elmore.{delays}
 use Rattle.elmore.specs.Table.{hung, apartIn, loadIn, stored}
+use Rattle.elmore.specs.Memo.{Memo}
 use Rattle.elmore.proofs.TableLaws.{pending, lay-none, lay-start, lay-hit, lay-miss, lay-end}
-use Rattle.elmore.proofs.lay.Reads as lay
-use Rattle.elmore.proofs.lay.Kinds as lay-kinds
-use Rattle.elmore.proofs.+lay.Lts-lay as lay-lts
-use Rattle.elmore.proofs.child.child_at.Reads as child-at-reads
-use Rattle.elmore.proofs.capacitance.Reads as capacitance-reads
-use Rattle.elmore.proofs.delay_below.Reads as delay-below-reads
+use Rattle.elmore.proofs.lay.Reads as own
+use Rattle.elmore.proofs.lay.Kinds as kinds
+use Rattle.elmore.proofs.+lay.Lts-lay as lts
+use Rattle.elmore.proofs.child.child_at.Reads as child-at
+use Rattle.elmore.proofs.capacitance.Reads as capacitance
+use Rattle.elmore.proofs.delay_below.Reads as delay-below
 use Rattle.elmore.proofs.+lay.{statement}
 use Rattle.elmore.proofs.+lay.Tie.{close}
 
-abbrev μ-lay : Measures 4 lay-kinds.ps ℕ
-μ-lay κs a = a .1 .1 .1 .1 .1 .0 .left
+abbrev steps : Measures 6 kinds.ps ℕ
+steps κs a = a .1 .1 .1 .1 .1 .0 .left
 
-abbrev lay-at : ℕ → In 4 lay-kinds.ps
-lay-at t = and 4 lay-kinds.ps (is 4 lay-kinds.ps μ-lay t) lay.Pre
+abbrev at : ℕ → In 6 kinds.ps
+at t = and 6 kinds.ps (is 6 kinds.ps steps t) own.Pre
 
-abbrev lay-below : ℕ → In 4 lay-kinds.ps
-lay-below t = and 4 lay-kinds.ps (falls 4 lay-kinds.ps _<_ μ-lay t) lay.Pre
+-- what is known of the callees at t steps: of itself below t
+abbrev claims : ℕ → lts.Claims
+claims t = (
+  child-at.Asked,
+  child-at.Learnt,
+  capacitance.Asked,
+  capacitance.Learnt,
+  delay-below.Asked,
+  delay-below.Learnt,
+  and 6 kinds.ps (falls 6 kinds.ps _<_ steps t) own.Pre,
+  own.Post,
+)
 
-abbrev lay-Inv-loop : lay-lts.InvT-loop
-lay-Inv-loop pts keys e loads t v d table₀ p left k₀ table k =
+abbrev Inv-loop : lts.InvT-loop
+Inv-loop pts keys e loads t v d held₀ whose₀ table₀ p left k₀ held whose table k =
     (k ≤ e)
-    × (stored (delays (apartIn pts) (loadIn loads) t p d (pending keys (v .up) p e (hung keys e left p) k)) table
+    × ((stored (delays (apartIn pts) (loadIn loads) t p d (pending keys (v .up) p e (hung keys e left p) k)) table
     ≡ stored (delays (apartIn pts) (loadIn loads) t p d (hung keys e (v .left) (v .up) p)) table₀)
+    × Memo pts keys e loads t held whose)
 
-abbrev lay-μ-loop : lay-lts.MeasureT-loop
-lay-μ-loop pts keys e loads t v d table₀ p left k₀ table k = e - k
+abbrev μ-loop : lts.MeasureT-loop
+μ-loop pts keys e loads t v d held₀ whose₀ table₀ p left k₀ held whose table k = e - k
 
-lay-returns : (t : ℕ) → lay-lts.Need-returns (
-  child-at-reads.Asked,
-  child-at-reads.Learnt,
-  capacitance-reads.Asked,
-  capacitance-reads.Learnt,
-  delay-below-reads.Asked,
-  delay-below-reads.Learnt,
-  lay-below t,
-  lay.Post,
-) (lay-at t) lay.Post lay-Inv-loop lay-μ-loop
-lay-returns t c = lay-none _ _ _ _ _ _ _ _ _ _ (c .if1 .taken)
+-- where it began, from the loop
+abbrev start : {t : ℕ} → lts.At-loop (claims t) (at t) own.Post Inv-loop μ-loop → lts.Start (claims t) (at t) own.Post Inv-loop μ-loop
+start l = l .before .before .before .before
 
-lay-sub-left : (t : ℕ) → lay-lts.Need-sub-left (
-  child-at-reads.Asked,
-  child-at-reads.Learnt,
-  capacitance-reads.Asked,
-  capacitance-reads.Learnt,
-  delay-below-reads.Asked,
-  delay-below-reads.Learnt,
-  lay-below t,
-  lay.Post,
-) (lay-at t) lay.Post lay-Inv-loop lay-μ-loop
-lay-sub-left t c = omega (arith, c .before .if1 .left)
+-- nothing hangs from the point
+returns : (t : ℕ) → lts.Need-returns (claims t) (at t) own.Post Inv-loop μ-loop
+returns t c = (lay-none _ _ _ _ _ _ _ _ _ _ (c .if1 .taken), c .before .before .pre .1 .1)
 
-lay-loop-holds : (t : ℕ) → lay-lts.Need-loop-holds (
-  child-at-reads.Asked,
-  child-at-reads.Learnt,
-  capacitance-reads.Asked,
-  capacitance-reads.Learnt,
-  delay-below-reads.Asked,
-  delay-below-reads.Learnt,
-  lay-below t,
-  lay.Post,
-) (lay-at t) lay.Post lay-Inv-loop lay-μ-loop
-lay-loop-holds t c = (omega arith, lay-start _ _ _ _ _ _ _ _ _ _ (c .before .if1 .left))
+loop-holds : (t : ℕ) → lts.Need-loop-holds (claims t) (at t) own.Post Inv-loop μ-loop
+loop-holds t c =
+    (omega arith, (lay-start _ _ _ _ _ _ _ _ _ _ (c .before .if1 .left), c .before .before .before .pre .1 .1))
 
-lay-child-at-requires : (t : ℕ) → lay-lts.Need-child-at-requires (
-  child-at-reads.Asked,
-  child-at-reads.Learnt,
-  capacitance-reads.Asked,
-  capacitance-reads.Learnt,
-  delay-below-reads.Asked,
-  delay-below-reads.Learnt,
-  lay-below t,
-  lay.Post,
-) (lay-at t) lay.Post lay-Inv-loop lay-μ-loop
-lay-child-at-requires t c κs = omega (arith, c .before .loop .inv .0, c .before .before .before .before .before .pre .1 .0)
+child-at-requires : (t : ℕ) → lts.Need-child-at-requires (claims t) (at t) own.Post Inv-loop μ-loop
+child-at-requires t c κs = omega (arith, c .loop-test .taken, start (c .before) .pre .1 .0 .0)
 
-lay-add-k : (t : ℕ) → lay-lts.Need-add-k (
-  child-at-reads.Asked,
-  child-at-reads.Learnt,
-  capacitance-reads.Asked,
-  capacitance-reads.Learnt,
-  delay-below-reads.Asked,
-  delay-below-reads.Learnt,
-  lay-below t,
-  lay.Post,
-) (lay-at t) lay.Post lay-Inv-loop lay-μ-loop
-lay-add-k t c = omega (arith, c .before .loop-test .taken)
+-- the child is visited with one step less
+capacitance-requires : (t : ℕ) → lts.Need-capacitance-requires (claims t) (at t) own.Post Inv-loop μ-loop
+capacitance-requires t c κs =
+    let f = c .before .before in
+    let l = f .before .before .before in
+    let s = start l in
+    let i = s .pre .1 .0 .1 in (
+      (
+        s .pre .1 .0 .0,
+        record {
+          point-low = f .if2 .taken;
+          parent-low = i .point-low;
+          steps-low = omega (arith, i .steps-low, l .before .before .if1 .left);
+        },
+      ),
+      l .loop .inv .1 .1,
+    )
 
-lay-capacitance-requires : (t : ℕ) → lay-lts.Need-capacitance-requires (
-  child-at-reads.Asked,
-  child-at-reads.Learnt,
-  capacitance-reads.Asked,
-  capacitance-reads.Learnt,
-  delay-below-reads.Asked,
-  delay-below-reads.Learnt,
-  lay-below t,
-  lay.Post,
-) (lay-at t) lay.Post lay-Inv-loop lay-μ-loop
-lay-capacitance-requires t c κs = (c .before .before .before .before .before .before .before .pre .1 .0, c .if2 .taken)
+delay-below-requires : (t : ℕ) → lts.Need-delay-below-requires (claims t) (at t) own.Post Inv-loop μ-loop
+delay-below-requires t c κs =
+    let f = c .before .before .before in
+    (start (f .before .before .before) .pre .1 .0 .1 .point-low, f .if2 .taken)
 
-lay-delay-below-requires : (t : ℕ) → lay-lts.Need-delay-below-requires (
-  child-at-reads.Asked,
-  child-at-reads.Learnt,
-  capacitance-reads.Asked,
-  capacitance-reads.Learnt,
-  delay-below-reads.Asked,
-  delay-below-reads.Learnt,
-  lay-below t,
-  lay.Post,
-) (lay-at t) lay.Post lay-Inv-loop lay-μ-loop
-lay-delay-below-requires t c κs = (c .before .before .before .before .before .before .before .before .pre .1 .1, c .before .if2 .taken)
+lay-requires : (t : ℕ) → lts.Need-lay-requires (claims t) (at t) own.Post Inv-loop μ-loop
+lay-requires t c κs =
+    let g = c .before .before .before .before in
+    let f = g .before .before .before in
+    let l = f .before .before .before in
+    let s = start l in
+    let i = s .pre .1 .0 .1 in
+    let few = l .before .before .if1 .left in (
+      omega (arith, s .pre .0, few),
+      (
+        (
+          s .pre .1 .0 .0,
+          record { point-low = f .if2 .taken; parent-low = i .point-low; steps-low = omega (arith, i .steps-low, few) },
+        ),
+        g .capacitance .ensures .1,
+      ),
+    )
 
-lay-mul-table : (t : ℕ) → lay-lts.Need-mul-table (
-  child-at-reads.Asked,
-  child-at-reads.Learnt,
-  capacitance-reads.Asked,
-  capacitance-reads.Learnt,
-  delay-below-reads.Asked,
-  delay-below-reads.Learnt,
-  lay-below t,
-  lay.Post,
-) (lay-at t) lay.Post lay-Inv-loop lay-μ-loop
-lay-mul-table t c = omega arith
-
-lay-element-write-table : (t : ℕ) → lay-lts.Need-element-write-table (
-  child-at-reads.Asked,
-  child-at-reads.Learnt,
-  capacitance-reads.Asked,
-  capacitance-reads.Learnt,
-  delay-below-reads.Asked,
-  delay-below-reads.Learnt,
-  lay-below t,
-  lay.Post,
-) (lay-at t) lay.Post lay-Inv-loop lay-μ-loop
-lay-element-write-table t c = omega arith
-
-lay-lay-requires : (t : ℕ) → lay-lts.Need-lay-requires (
-  child-at-reads.Asked,
-  child-at-reads.Learnt,
-  capacitance-reads.Asked,
-  capacitance-reads.Learnt,
-  delay-below-reads.Asked,
-  delay-below-reads.Learnt,
-  lay-below t,
-  lay.Post,
-) (lay-at t) lay.Post lay-Inv-loop lay-μ-loop
-lay-lay-requires t c κs =
-    let e = c .before .before .before .before .before .before .before .before in
-    let s = e .before .before in
-    (omega (arith, s .pre .0, e .if1 .left), (s .pre .1 .0, c .before .before .before .if2 .taken))
-
-lay-loop-less : (t : ℕ) → lay-lts.Need-loop-less (
-  child-at-reads.Asked,
-  child-at-reads.Learnt,
-  capacitance-reads.Asked,
-  capacitance-reads.Learnt,
-  delay-below-reads.Asked,
-  delay-below-reads.Learnt,
-  lay-below t,
-  lay.Post,
-) (lay-at t) lay.Post lay-Inv-loop lay-μ-loop
-lay-loop-less t c = omega arith
-
-lay-loop-again : (t : ℕ) → lay-lts.Need-loop-again (
-  child-at-reads.Asked,
-  child-at-reads.Learnt,
-  capacitance-reads.Asked,
-  capacitance-reads.Learnt,
-  delay-below-reads.Asked,
-  delay-below-reads.Learnt,
-  lay-below t,
-  lay.Post,
-) (lay-at t) lay.Post lay-Inv-loop lay-μ-loop
-lay-loop-again t c =
-    let f = c .before .before .before .before in
+loop-again : (t : ℕ) → lts.Need-loop-again (claims t) (at t) own.Post Inv-loop μ-loop
+loop-again t c =
+    let b = c .before .before .before .before in
+    let g = b .before in
+    let f = g .before .before .before in
     let l = f .before .before in (
       omega (arith, l .loop-test .taken),
-      lay-hit _ _ _ _ _ _ _ _ _ _ _ _ _ _ _ _ (l .before .loop .inv .1) (l .loop-test .taken) (f .before .child-at .ensures)
-          (f .if2 .taken) (c .before .before .before .capacitance .ensures) (c .before .before .delay-below .ensures) (c .lay .ensures),
+      (
+        lay-hit _ _ _ _ _ _ _ _ _ _ _ _ _ _ _ _ (l .before .loop .inv .1 .0) (l .loop-test .taken) (f .before .child-at .ensures)
+            (f .if2 .taken) (g .capacitance .ensures .0) (b .delay-below .ensures) (c .lay .ensures .0),
+        c .lay .ensures .1,
+      ),
     )
 
-lay-loop-less-2 : (t : ℕ) → lay-lts.Need-loop-less-2 (
-  child-at-reads.Asked,
-  child-at-reads.Learnt,
-  capacitance-reads.Asked,
-  capacitance-reads.Learnt,
-  delay-below-reads.Asked,
-  delay-below-reads.Learnt,
-  lay-below t,
-  lay.Post,
-) (lay-at t) lay.Post lay-Inv-loop lay-μ-loop
-lay-loop-less-2 t c = omega arith
-
-lay-loop-again-2 : (t : ℕ) → lay-lts.Need-loop-again-2 (
-  child-at-reads.Asked,
-  child-at-reads.Learnt,
-  capacitance-reads.Asked,
-  capacitance-reads.Learnt,
-  delay-below-reads.Asked,
-  delay-below-reads.Learnt,
-  lay-below t,
-  lay.Post,
-) (lay-at t) lay.Post lay-Inv-loop lay-μ-loop
-lay-loop-again-2 t c =
+loop-again-2 : (t : ℕ) → lts.Need-loop-again-2 (claims t) (at t) own.Post Inv-loop μ-loop
+loop-again-2 t c =
     let l = c .before .before in (
       omega (arith, l .loop-test .taken),
-      lay-miss _ _ _ _ _ _ _ _ _ _ _ _ _ (l .before .loop .inv .1) (l .loop-test .taken) (c .before .child-at .ensures) (c .if2 .left),
+      (
+        lay-miss _ _ _ _ _ _ _ _ _ _ _ _ _ (l .before .loop .inv .1 .0) (l .loop-test .taken) (c .before .child-at .ensures) (c .if2 .left),
+        l .before .loop .inv .1 .1,
+      ),
     )
 
-lay-returns-2 : (t : ℕ) → lay-lts.Need-returns-2 (
-  child-at-reads.Asked,
-  child-at-reads.Learnt,
-  capacitance-reads.Asked,
-  capacitance-reads.Learnt,
-  delay-below-reads.Asked,
-  delay-below-reads.Learnt,
-  lay-below t,
-  lay.Post,
-) (lay-at t) lay.Post lay-Inv-loop lay-μ-loop
-lay-returns-2 t c = lay-end _ _ _ _ _ _ _ _ _ _ _ _ (c .before .loop .inv .1) (c .loop-test .left)
+returns-2 : (t : ℕ) → lts.Need-returns-2 (claims t) (at t) own.Post Inv-loop μ-loop
+returns-2 t c = (lay-end _ _ _ _ _ _ _ _ _ _ _ _ (c .before .loop .inv .1 .0) (c .loop-test .left), c .before .loop .inv .1 .1)
 
 pub +lay-spec : {M : Type 1} → statement M
-+lay-spec = close μ-lay λ t. lay-lts.spec (
-  child-at-reads.Asked,
-  child-at-reads.Learnt,
-  capacitance-reads.Asked,
-  capacitance-reads.Learnt,
-  delay-below-reads.Asked,
-  delay-below-reads.Learnt,
-  lay-below t,
-  lay.Post,
-)
-    (lay-at t)
-    lay.Post
-    lay-Inv-loop
-    lay-μ-loop
-    (lay-returns t)
-    (lay-sub-left t)
-    (lay-loop-holds t)
-    (lay-child-at-requires t)
-    (lay-add-k t)
-    (lay-capacitance-requires t)
-    (lay-delay-below-requires t)
-    (lay-mul-table t)
-    (lay-element-write-table t)
-    (lay-lay-requires t)
-    (lay-loop-less t)
-    (lay-loop-again t)
-    (lay-loop-less-2 t)
-    (lay-loop-again-2 t)
-    (lay-returns-2 t)
++lay-spec = close steps λ t. lts.spec (claims t) (at t) own.Post Inv-loop μ-loop
+    (returns t) (λ c. omega (arith, c .before .if1 .left)) (loop-holds t) (child-at-requires t) (λ c. omega arith)
+    (capacitance-requires t) (delay-below-requires t) (λ c. omega arith) (λ c. omega arith) (lay-requires t)
+    (λ c. omega arith) (loop-again t) (λ c. omega arith) (loop-again-2 t) (returns-2 t)

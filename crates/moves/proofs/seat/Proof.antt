@@ -41,7 +41,7 @@ seat-spec =
     Inv-loop
     μ-loop
     (λ c. (omega arith, up-start _ _))
-    (λ c κs. omega (arith, c .before .before .pre)) (λ c κs. omega (arith, c .before .before .before .pre))
+    (λ c κs. omega (arith, c .before .before .pre)) (λ c κs. c .before .before .before .pre .0)
     (λ c. omega (arith, c .before .before .before .before .pre))
     (λ c. omega (arith, c .before .before .before .before .pre)) (λ c. omega arith) (λ c. omega arith) loop-again
     returns)

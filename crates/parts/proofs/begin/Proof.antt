@@ -1,21 +1,20 @@
--- `parts::begin` meets its contract: a lone pin starts with 0 at its crossing. Else the loop's invariant: the first v numbers are least
--- sums.
+-- `parts::begin` meets its contract: a lone pin starts with 0 at its crossing. Else the loop's invariant: the numbers are the least sums
+-- over the parts below p, and those of the lower half are enough.
 -- Assumes nothing.
 use mathlib.Core.Path.{_≡_}
 use Prim.Native.Nat.{_≤_, _-_}
 use native.Mathlib.Omega.{arith}
-use Rattle.lines.specs.Bounds.{crossingBound}
 use Rattle.parts.specs.Tables.{lonePin}
-use Rattle.parts.proofs.WorkLaws.{fresh-row, Beginning, begin-none, begin-more, begin-end, begin-lone}
+use Rattle.parts.proofs.WorkLaws.{Beginning, begin-none, begin-more, begin-end, begin-lone}
 use borrow.Author.Needs.{needs}
 use Rattle.parts.proofs.begin.Statement.{statement}
 use Rattle.parts.proofs.begin.Tie as tie
 
 abbrev Inv-loop : tie.InvT-loop
-Inv-loop work numbers m s row₀ i v₀ row v = (v ≤ crossingBound) × ((lonePin s ≡ 0) × Beginning m work s v row)
+Inv-loop work numbers m s row₀ i p₀ row p = ((1 ≤ p) × (p ≤ s)) × ((lonePin s ≡ 0) × Beginning m work s p row)
 
 abbrev μ-loop : tie.MeasureT-loop
-μ-loop work numbers m s row₀ i v₀ row v = crossingBound - v
+μ-loop work numbers m s row₀ i p₀ row p = s - p
 
 start-requires : tie.Need-start-requires Inv-loop μ-loop
 start-requires c κs =
@@ -30,28 +29,32 @@ returns c =
 loop-holds : tie.Need-loop-holds Inv-loop μ-loop
 loop-holds c =
     let a = c .before in
-    (omega arith, (omega (arith, a .lone-pin .ensures .0, c .if1 .left), begin-none _ _ _ _ (fresh-row _ (a .before .before .pre .1 .1))))
+    let s = a .before .before in
+    ((omega arith, s .pre .0 .1 .0), (omega (arith, a .lone-pin .ensures .0, c .if1 .left), begin-none _ _ _ _ (s .pre .1 .1)))
 
-start-at-requires : tie.Need-start-at-requires Inv-loop μ-loop
-start-at-requires c κs =
-    let s = c .before .before .before .before .before in
-    (s .pre .0 .0, (s .pre .0 .1, c .loop-test .taken))
+try-part-requires : tie.Need-try-part-requires Inv-loop μ-loop
+try-part-requires c κs =
+    let l = c .before .before in
+    let s = l .before .before .before .before in
+    let i = l .loop .inv in
+    let h = c .before .loop-test .taken in
+    ((s .pre .0 .0, s .pre .0 .1 .1), ((i .0 .0, omega (arith, h, i .0 .0)), i .1 .1 .row))
 
 loop-again : tie.Need-loop-again Inv-loop μ-loop
 loop-again c =
-    let l = c .before .before in
-    let i = l .loop .inv in
-    (omega arith, (i .1 .0, begin-more _ _ _ _ _ _ (c .before .loop-test .taken) (c .start-at .ensures) (i .1 .1)))
+    let t = c .before .before in
+    let i = t .before .loop .inv in
+    let h = t .loop-test .taken in
+    ((omega arith, omega (arith, h, i .0 .0)), (i .1 .0, begin-more _ _ _ _ _ _ (i .0 .0) (i .1 .1) (c .try-part .ensures)))
 
 returns-2 : tie.Need-returns-2 Inv-loop μ-loop
 returns-2 c =
     let i = c .before .loop .inv in
-    begin-end _ _ _ _ _ _ (i .1 .0) (c .loop-test .left) (i .1 .1)
+    begin-end _ _ _ _ _ _ (i .1 .0) (i .0 .1) (omega (arith, c .loop-test .left)) (i .1 .1)
 
 pub begin-spec : {M : Type 1} → statement M
 begin-spec =
     tie.close
     (tie.spec
     Inv-loop μ-loop (λ c κs. search needs) (λ c. omega arith) (λ c. omega arith) start-requires returns loop-holds
-    start-at-requires (λ c. omega arith) (λ c. omega arith) (λ c. omega arith) (λ c. omega arith) loop-again
-    returns-2)
+    (λ c. omega arith) try-part-requires (λ c. omega arith) (λ c. omega arith) loop-again returns-2)

@@ -1,55 +1,61 @@
 -- `reach::past_edges` meets its contract. The loop's invariant: what is done so far is what the definition says of it. The measure is
 -- what is left.
 -- Assumes nothing.
-use mathlib.Core.Path.{_≡_, refl, sym, ap, ap₂, _∙_}
+use mathlib.Core.Path.{_≡_, sym, ap, _∙_}
 use native.Mathlib.Omega.{arith}
-use Prim.Native.Nat.{_+_, _-_, _^_, _≤_, _<_, min, max}
-use Rattle.turned.proofs.StepLaws.{up-start, up-next, up-end}
+use Prim.Native.Nat.{_-_, _≤_}
+use Rattle.turned.proofs.StepLaws.{up-start, up-next}
 use denote.Ref.{now}
 use Rattle.turned.specs.declared.Seen.{Seen}
 use Rattle.turned.specs.Steps.{upTo}
-use Rattle.turned.specs.Turned.{seenEdge, seenPoint, sameSpot}
-use Rattle.reach.specs.Passing.{endsAt, seenBy, isFar, exempt, past, pastPoints, pastEdges, pastFace, pastMacros}
+use Rattle.turned.specs.Turned.{seenEdge}
+use Rattle.reach.specs.Passing.{seenBy, past}
+use Rattle.reach.proofs.HopelessLaws.{edges-end, edges-stop}
 use Rattle.reach.proofs.past_edges.Statement.{statement}
 use Rattle.reach.proofs.past_edges.Tie as tie
 
 abbrev Inv-loop : tie.InvT-loop
-Inv-loop pts keys z lab bar side way₀ k₀ way k =
+Inv-loop pts keys z lab bar need side way₀ k₀ way k =
     (k ≤ z .edges) × (way ≡ upTo (λ j. past (seenBy pts keys lab bar) (z .edges) bar (seenEdge (seenBy pts keys lab bar) j)) k way₀)
 
 abbrev μ-loop : tie.MeasureT-loop
-μ-loop pts keys z lab bar side way₀ k₀ way k = z .edges - k
+μ-loop pts keys z lab bar need side way₀ k₀ way k = z .edges - k
 
 loop-holds : tie.Need-loop-holds Inv-loop μ-loop
 loop-holds c = (omega arith, up-start _ _)
 
+returns : tie.Need-returns Inv-loop μ-loop
+returns c =
+    let l = c .before .before .before .before in
+    edges-stop _ _ _ _ _ _ _ (l .loop .inv .1) (l .loop .inv .0) (sym (c .before .is-hopeless .ensures) ∙ c .if2 .taken)
+
 seen-edge-requires : tie.Need-seen-edge-requires Inv-loop μ-loop
-seen-edge-requires c κs = (
-  omega (arith, c .before .before .before .pre, c .if1 .taken),
-  c .before .before .before .pre .1 .small (c .before .before .loop .k),
-)
+seen-edge-requires c κs =
+    let t = c .before .before in
+    let l = t .before .before in
+    (omega (arith, l .before .pre, t .if1 .taken), l .before .pre .1 .small (l .loop .k))
 
 past-requires : tie.Need-past-requires Inv-loop μ-loop
-past-requires c κs = (c .before .before .before .before .pre .0 .1, c .before .before .before .before .pre .1)
+past-requires c κs = let s = c .before .before .before .before .before .before in (s .pre .0 .1, s .pre .1)
 
 loop-again : tie.Need-loop-again Inv-loop μ-loop
 loop-again c =
-    let s = c .before .before .before .before .before .args in (
+    let l = c .before .before .before .before .before .before in
+    let s = l .before .args in (
       omega arith,
-      up-next _ _ _ _ _ (c .before .before .before .before .loop .inv .1)
+      up-next _ _ _ _ _ (l .loop .inv .1)
           (c .past .ensures ∙ ap (λ (t : Seen). past (seenBy (now (s .pts)) (now (s .keys)) (now (s .lab)) (s .bar)) (s .z .edges) (s .bar)
-          t (c .before .before .before .before .loop .way)) (c .before .seen-edge .ensures .0)),
+          t (l .loop .way)) (c .before .seen-edge .ensures .0)),
     )
 
-returns : tie.Need-returns Inv-loop μ-loop
-unfolding pastEdges
-returns c = up-end _ _ _ _ _ (c .before .before .loop .inv .1) (omega arith) (omega arith)
+returns-2 : tie.Need-returns-2 Inv-loop μ-loop
+returns-2 c = let l = c .before .before in edges-end _ _ _ _ _ _ _ (l .loop .inv .1) (l .loop .inv .0) (omega arith)
 
 pub past-edges-spec : {M : Type 1} → statement M
 past-edges-spec =
     tie.close
     (tie.spec
-    Inv-loop μ-loop loop-holds seen-edge-requires past-requires
-    (λ c. omega (arith, c .before .before .before .before .before .pre, c .before .before .if1 .taken))
+    Inv-loop μ-loop loop-holds (λ c κs. tt) returns seen-edge-requires past-requires
+    (λ c. let t = c .before .before .before .before in omega (arith, t .before .before .before .pre, t .if1 .taken))
     (λ c. omega arith) loop-again
-    returns)
+    returns-2)

@@ -13,8 +13,7 @@ use Rattle.turned.specs.Turned.{View, view}
 use Rattle.hanging.specs.Hanging.{hang}
 use Rattle.moves.specs.Moving.{held, lastOn}
 use Rattle.bars.specs.Offers.{moveBy, move}
-use Rattle.bars.proofs.CodeLaws.{off, rate-fits, saving-fits, move-is, reach-of}
-use Rattle.reach.proofs.CodeLaws.{reach-less}
+use Rattle.bars.proofs.CodeLaws.{off, rate-fits, saving-fits, move-is, offer-judged}
 use Rattle.bars.proofs.CodeLaws.{offer-equal, offer-weak, offer-held, offer-taken, offer-left}
 use Rattle.hanging.proofs.TallyLaws.{read-back}
 use Rattle.bars.proofs.search.offer.Statement.{statement}
@@ -76,11 +75,6 @@ mul-rate c =
 point-at-requires : tie.Need-point-at-requires
 point-at-requires c κs = c .before .before .before .before .before .pre .0 .1 .1
 
-mul-t19 : tie.Need-mul-t19
-mul-t19 c =
-    let h = c .before .before .before .before .before .before in
-    omega (arith, saving-fits _ _ _ (few h .1) (surplus-fits h) (c .before .before .weight-of .ensures .1))
-
 is-better-requires : tie.Need-is-better-requires
 is-better-requires c κs = tt
 
@@ -110,16 +104,14 @@ bar-of-requires c κs =
 
 reach-requires : tie.Need-reach-requires
 reach-requires c κs =
-    let h = c .before .before .before .before .before .before .before .before .before .before .before in
+    let h = c .before .before .before .before .before .before .before .before .before .before .before .before in
     (h .before .pre .0 .0, h .before .pre .0 .1 .0)
 
-mul-t19-2 : tie.Need-mul-t19-2
-mul-t19-2 c =
-    let p = c .before .before .before .before .before .before .before in
-    let h = hung p in
-    let m = ap (λ (x : Bar). x .most) (c .before .bar-of .ensures) in
-    let l : c .reach .result ≤ 4294967296 = omega (arith, m, reach-less _ _ _ _ _ _ (c .reach .ensures), few h) in
-    omega (arith, saving-fits _ _ _ l (surplus-fits h) (p .before .weight-of .ensures .1))
+-- the distance fits
+short : (c : tie.After-reach) → c .reach .result ≤ 4294967296
+short c =
+    let h = hung (c .before .before .before .before .before .before .before .before) in
+    omega (arith, ap (λ (x : Bar). x .most) (c .before .before .bar-of .ensures), c .reach .ensures .1, few h)
 
 is-better-requires-2 : tie.Need-is-better-requires-2
 is-better-requires-2 c κs = tt
@@ -127,25 +119,29 @@ is-better-requires-2 c κs = tt
 returns-4 : tie.Need-returns-4
 unfolding held lastOn
 returns-4 c =
-    let b = c .before .before .before in
+    let r = c .before .before in
+    let b = r .before .before in
     let d = b .before .before .before in
     let p = d .before .before .before in
     let h = hung p in
     offer-taken (seen h) (size h) (h .hang-at .result) (known h) _ _ _ (p .before .before .before .if1 .left) _ (move-by p _) _
     (d .before .is-better .ensures) (off _ (d .if2 .left)) _ (b .before .before .is-held .ensures) (b .before .if3 .left) _ _ (move-by p _)
-    (reach-of (seen h) (size h) (h .hang-at .result) (known h) _ _ _ (b .bar-of .ensures) (c .before .before .reach .ensures)) _
+    (offer-judged (seen h) (size h) (h .hang-at .result) (known h) _ (h .before .args .c) _ _ _ _ (p .before .weight-of .ensures .0) (b .bar-of .ensures)
+    (r .reach .ensures .0) (r .before .needed .ensures)) _
     (c .before .is-better2 .ensures) (c .if4 .taken)
 
 returns-5 : tie.Need-returns-5
 unfolding held lastOn
 returns-5 c =
-    let b = c .before .before .before in
+    let r = c .before .before in
+    let b = r .before .before in
     let d = b .before .before .before in
     let p = d .before .before .before in
     let h = hung p in
     offer-left (seen h) (size h) (h .hang-at .result) (known h) _ _ _ (p .before .before .before .if1 .left) _ (move-by p _) _
     (d .before .is-better .ensures) (off _ (d .if2 .left)) _ (b .before .before .is-held .ensures) (b .before .if3 .left) _ _ (move-by p _)
-    (reach-of (seen h) (size h) (h .hang-at .result) (known h) _ _ _ (b .bar-of .ensures) (c .before .before .reach .ensures)) _
+    (offer-judged (seen h) (size h) (h .hang-at .result) (known h) _ (h .before .args .c) _ _ _ _ (p .before .weight-of .ensures .0) (b .bar-of .ensures)
+    (r .reach .ensures .0) (r .before .needed .ensures)) _
     (c .before .is-better2 .ensures) (c .if4 .left)
 
 pub offer-spec : {M : Type 1} → statement M
@@ -153,6 +149,12 @@ offer-spec =
     tie.close
     (tie.spec
     hang-at-requires returns (λ c. omega (arith, c .before .if1 .left)) weight-of-requires mul-rate point-at-requires
-    mul-t19 is-better-requires returns-2 is-held-requires returns-3 bar-of-requires reach-requires mul-t19-2
+    (λ c.
+    let p = c .before in
+    omega (arith, saving-fits _ _ _ (few (hung p) .1) (surplus-fits (hung p)) (p .before .weight-of .ensures .1)))
+    is-better-requires returns-2 is-held-requires returns-3 bar-of-requires (λ c κs. tt) reach-requires
+    (λ c.
+    let p = c .before .before .before .before .before .before .before .before in
+    omega (arith, saving-fits _ _ _ (short c) (surplus-fits (hung p)) (p .before .weight-of .ensures .1)))
     is-better-requires-2 returns-4
     returns-5)

@@ -1,0 +1,15 @@
+-- From one tree to the next: what a round leaves of the bounds of edges.
+--
+-- A round takes out two edges, lays three and puts in a point. The tree before and that of now are two tables each; nothing is asked of how
+-- the one was made from the other. Points of the tree before have numbers among those of now (`Numbered`), and where the ends of each edge
+-- before are joined by edges no longer than it (`Calm`), no longest edge between two old points has become longer, so no candidate of an
+-- old edge and an old point gains more than before.
+--
+--   Carried    Numbered, Calm              the points before, and the edges before
+--              Origins                     where the bounds of now are from
+--              Another                     L is another edge than that of the candidate
+--              Held, Was                   the rows of a tree and the bounds of its edges; the same of the tree before
+--
+--   CarriedLaws  carried                   bounds stand from one tree to the next
+--   NoLonger (crate longest)               the law behind it
+pub mod Carried

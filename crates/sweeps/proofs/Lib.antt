@@ -1,0 +1,4 @@
+pub mod PackedLaws
+pub mod SweepLaws
+pub mod TableLaws
+pub mod LiftLaws
