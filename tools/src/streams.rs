@@ -1,7 +1,9 @@
 //! Files and the standard streams: input is bounded and never overwritten, output is whole or not there.
 
+use std::collections::hash_map::RandomState;
 use std::ffi::{OsStr, OsString};
 use std::fs::{self, File, Metadata, OpenOptions};
+use std::hash::{BuildHasher, Hasher};
 use std::io::{self, ErrorKind, Read, Write};
 use std::os::fd::AsFd;
 use std::os::raw::c_int;
@@ -155,19 +157,17 @@ fn put(path: &Path, bytes: &[u8]) -> io::Result<()> {
     if let Some(data) = &before {
         ask_to_write(path, data)?;
     }
-    let beside = beside(path)?;
-    let there = before.is_some();
-    let done = fill(&beside, bytes, before).and_then(|()| fs::rename(&beside, path));
+    let done = beside(path).and_then(|(new, file)| {
+        let done = fill(file, bytes, before.as_ref()).and_then(|()| fs::rename(&new, path));
+        done.inspect_err(|_| {
+            let _ = fs::remove_file(&new);
+        })
+    });
     match done {
-        Err(error) if error.kind() == ErrorKind::PermissionDenied && there => {
-            let _ = fs::remove_file(&beside);
+        Err(error) if error.kind() == ErrorKind::PermissionDenied && before.is_some() => {
             in_place(path, bytes)
         }
-        Err(error) => {
-            let _ = fs::remove_file(&beside);
-            Err(error)
-        }
-        Ok(()) => Ok(()),
+        done => done,
     }
 }
 
@@ -209,20 +209,27 @@ fn in_place(path: &Path, bytes: &[u8]) -> io::Result<()> {
     Ok(())
 }
 
-/// A name in the same folder that nobody else takes, short whatever the file's own.
-fn beside(path: &Path) -> io::Result<PathBuf> {
+/// A new file in the same folder, with its name, which is short whatever the file's own. It is a random one: a process' number is not
+/// enough, since programs in containers that share a folder may have the same.
+fn beside(path: &Path) -> io::Result<(PathBuf, File)> {
     if path.file_name().is_none() {
         return Err(io::Error::new(ErrorKind::InvalidInput, "it names no file"));
     }
-    let new = format!(".calzundi-{}.new", std::process::id());
-    Ok(path.with_file_name(new))
+    for _ in 0..MOST_NAMES {
+        let random = RandomState::new().build_hasher().finish();
+        let new = path.with_file_name(format!(".calzundi-{random:016x}.new"));
+        match OpenOptions::new().write(true).create_new(true).open(&new) {
+            Err(error) if error.kind() == ErrorKind::AlreadyExists => {}
+            opened => return opened.map(|file| (new, file)),
+        }
+    }
+    Err(io::Error::other("no new name is free in its folder"))
 }
 
-fn fill(beside: &Path, bytes: &[u8], before: Option<Metadata>) -> io::Result<()> {
-    let mut file = OpenOptions::new()
-        .write(true)
-        .create_new(true)
-        .open(beside)?;
+/// So many names are tried.
+const MOST_NAMES: usize = 16;
+
+fn fill(mut file: File, bytes: &[u8], before: Option<&Metadata>) -> io::Result<()> {
     if let Some(data) = before {
         file.set_permissions(data.permissions())?;
     }

@@ -7,7 +7,7 @@ use std::os::unix::fs::{symlink, MetadataExt, PermissionsExt};
 use std::path::{Path, PathBuf};
 use std::process::Command;
 
-use common::{example, folder, printed, refused, run, said, word, CALZUNDI};
+use common::{example, folder, printed, refused, run, said, shell, word, CALZUNDI};
 
 const TWO: [&str; 2] = ["pin 0 0\npin 4 0\n", "pin 0 0\npin 7 7\n"];
 
@@ -242,4 +242,24 @@ fn a_file_in_a_closed_folder_is_written_in_place() {
     assert_eq!(refused.status.code(), Some(1));
     let wrong = String::from_utf8(refused.stderr).unwrap();
     assert!(wrong.contains("new.svg: Permission denied"), "{wrong}");
+}
+
+/// Programs in containers may have one number and share a folder: the new file of one was named by its number alone, and removed by the other.
+#[test]
+fn a_new_file_is_nobody_elses() {
+    let (folder, [a, ..]) = nets("same-number");
+    let file = folder.join("a.svg");
+    // The shell becomes the program, which so has the shell's number.
+    let line = "printf other > \"$1/.calzundi-$$.new\"; exec \"$0\" draw \"$2\" -o \"$3\"";
+    let (status, wrong) = shell(line, &[word(&folder), word(&a), word(&file)]);
+    assert_eq!((status, wrong.as_str()), (Some(0), ""));
+    assert!(fs::read(&file).unwrap().starts_with(b"<svg "));
+    let all = fs::read_dir(&folder).unwrap().map(|entry| entry.unwrap());
+    let new: Vec<PathBuf> = all.map(|entry| entry.path()).collect();
+    let new: Vec<&PathBuf> = new
+        .iter()
+        .filter(|path| word(path).ends_with(".new"))
+        .collect();
+    assert_eq!(new.len(), 1);
+    assert_eq!(fs::read(new[0]).unwrap(), b"other");
 }
