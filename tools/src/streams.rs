@@ -132,13 +132,16 @@ fn is_same(input: Option<&OsString>, at: &Path) -> bool {
     }
 }
 
-/// The bytes of a file that is there, plain and short enough to be an input.
-pub fn there(path: &Path) -> Option<Vec<u8>> {
-    let data = fs::metadata(path).ok()?;
-    if !data.is_file() || data.len() > MOST_BYTES {
-        return None;
+/// The bytes of a plain file that is there, of a longer one as many as an input has at the most and one more. Whatever else is at a path
+/// has nothing to lose, or is not written over.
+pub fn there(path: &Path) -> io::Result<Option<Vec<u8>>> {
+    if !fs::metadata(path).is_ok_and(|data| data.is_file()) {
+        return Ok(None);
     }
-    fs::read(path).ok()
+    let mut bytes = Vec::new();
+    let opened = File::open(path)?;
+    opened.take(MOST_BYTES + 1).read_to_end(&mut bytes)?;
+    Ok(Some(bytes))
 }
 
 /// A file is written beside its place and then put there at once, so that it is whole, or as it was. What is no plain file, such as a

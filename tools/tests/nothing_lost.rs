@@ -263,3 +263,108 @@ fn a_new_file_is_nobody_elses() {
     assert_eq!(new.len(), 1);
     assert_eq!(fs::read(new[0]).unwrap(), b"other");
 }
+
+/// A net that cannot be read any more, for a bad line, its letters, a cut, damage or its length, was taken for no net.
+#[test]
+fn a_net_that_cannot_be_read_is_kept_too() {
+    let (folder, [a, _, a_net, _]) = nets("unread");
+    let wide = |order: fn(u16) -> [u8; 2], mark: &str| -> Vec<u8> {
+        let letters = format!("{mark}# mine\n{}", TWO[1]);
+        letters.encode_utf16().flat_map(order).collect()
+    };
+    let file = fs::read(&a_net).unwrap();
+    let damaged = |at: usize, to: u8| {
+        let mut bytes = file.clone();
+        bytes[at] = to;
+        bytes
+    };
+    let long = format!("pin 0 0\n{}pin 4 0\n", "# more\n".repeat(200_000));
+    let mut kept = vec![
+        b"pin 0 0\npin 4 O\nmacro 1 1 2 2\n".to_vec(),
+        b"macro 1 1 2\n".to_vec(),
+        b"something\npin 0\n".to_vec(),
+        b"# only this\nweights 2 3\n".to_vec(),
+        b"\xef\xbb\xbfpin 0 0 \xff\n".to_vec(),
+        b"# by an old editor\rpin 0 0\rpin 4 0\r".to_vec(),
+        b"pin 0 0\npin 4\0 0\n".to_vec(),
+        long.into_bytes(),
+        damaged(0, 7),
+        damaged(4, 9),
+        damaged(8, 9),
+        [file.clone(), vec![0; 100]].concat(),
+    ];
+    kept.extend([
+        wide(u16::to_le_bytes, "\u{feff}"),
+        wide(u16::to_le_bytes, ""),
+    ]);
+    kept.extend([
+        wide(u16::to_be_bytes, "\u{feff}"),
+        wide(u16::to_be_bytes, ""),
+    ]);
+    kept.extend([4, 300, 512, 700, 1023].map(|length| file[..length].to_vec()));
+    let out = folder.join("out");
+    let words = ["draw", word(&a), "-o", word(&out)];
+    for before in &kept {
+        fs::write(&out, before).unwrap();
+        let wrong = said(&words, b"", 1);
+        let start = String::from_utf8_lossy(&before[..before.len().min(40)]);
+        assert!(wrong.contains("it is a net; --force"), "{start}: {wrong}");
+        assert!(fs::read(&out).unwrap() == *before, "{start}");
+    }
+    printed(&[&words[..], &["--force"]].concat(), b"");
+    // What the program itself makes, and what is empty or about something else, is no net.
+    for other in [&b""[..], b"pins and needles\n", b"# pin 0 0\n", &[0; 2000]] {
+        fs::write(&out, other).unwrap();
+        printed(&words, b"");
+    }
+    for made in [
+        &["draw", "--html"][..],
+        &["draw"],
+        &["route"],
+        &["route", "--json"],
+        &["export", "--gds"],
+        &["export", "--def"],
+    ] {
+        let net = example("eight-pins");
+        let words = [made, &[word(&net), "-o", word(&out)]].concat();
+        printed(&words, b"");
+    }
+}
+
+/// A file that may be written and not read was replaced.
+#[test]
+fn a_file_that_cannot_be_read_is_kept() {
+    let folder = std::env::temp_dir().join(format!("calzundi-unread-{}", std::process::id()));
+    fs::create_dir_all(&folder).unwrap();
+    let (program, net, file) = (
+        folder.join("calzundi"),
+        folder.join("net.txt"),
+        folder.join("other.txt"),
+    );
+    fs::copy(CALZUNDI, &program).unwrap();
+    fs::write(&net, TWO[0]).unwrap();
+    fs::write(&file, TWO[1]).unwrap();
+    for (path, mode) in [
+        (&folder, 0o777),
+        (&net, 0o644),
+        (&file, 0o222),
+        (&program, 0o755),
+    ] {
+        fs::set_permissions(path, fs::Permissions::from_mode(mode)).unwrap();
+    }
+    let words = ["draw", word(&net), "-o", word(&file)];
+    let output = as_nobody(&words, &program);
+    let own = fs::metadata("/proc/self").unwrap().uid() != 0;
+    if own {
+        fs::set_permissions(&file, fs::Permissions::from_mode(0o644)).unwrap();
+    }
+    let kept = fs::read(&file).unwrap();
+    fs::remove_dir_all(&folder).unwrap();
+    let wrong = String::from_utf8(output.stderr).unwrap();
+    assert_eq!(output.status.code(), Some(1), "{wrong}");
+    assert!(
+        wrong.contains("other.txt: it is there and cannot be read"),
+        "{wrong}"
+    );
+    assert_eq!(kept, TWO[1].as_bytes());
+}
