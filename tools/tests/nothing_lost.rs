@@ -368,3 +368,50 @@ fn a_file_that_cannot_be_read_is_kept() {
     );
     assert_eq!(kept, TWO[1].as_bytes());
 }
+
+/// By the name of a descriptor the file behind it was replaced, and what it held was lost.
+#[test]
+fn a_descriptor_is_written_to() {
+    let (folder, [a, b, ..]) = nets("descriptors");
+    let log = folder.join("log");
+    let link = folder.join("link");
+    symlink("/dev/stdout", &link).unwrap();
+    let picture = String::from_utf8(run(&["draw", word(&a)], b"").stdout).unwrap();
+    for (line, name) in [
+        ("\"$0\" draw \"$1\" -o \"$3\" >> \"$2\"", "/dev/stdout"),
+        ("\"$0\" draw \"$1\" -o \"$3\" >> \"$2\"", word(&link)),
+        ("\"$0\" draw \"$1\" -o \"$3\" >> \"$2\"", "/dev/fd/1"),
+        ("\"$0\" draw \"$1\" -o \"$3\" >> \"$2\"", "/proc/self/fd/1"),
+        ("\"$0\" draw \"$1\" -o \"$3\" 2>> \"$2\"", "/dev/stderr"),
+        ("\"$0\" draw \"$1\" -o \"$3\" 7>> \"$2\"", "/dev/fd/7"),
+        (
+            "exec 8>> \"$2\"; \"$0\" draw \"$1\" -o \"/proc/$$/fd/8\"; exit $?",
+            "",
+        ),
+    ] {
+        // A log that looks like a net is no reason not to go on with it.
+        let before = "pin 0 0\nof the day before\n";
+        fs::write(&log, before).unwrap();
+        let number = fs::metadata(&log).unwrap().ino();
+        let (status, wrong) = shell(line, &[word(&a), word(&log), name]);
+        assert_eq!((status, wrong.as_str()), (Some(0), ""), "{line} {name}");
+        let after = fs::read_to_string(&log).unwrap();
+        assert!(after == format!("{before}{picture}"), "{line} {name}");
+        assert_eq!(fs::metadata(&log).unwrap().ino(), number, "{line} {name}");
+    }
+    // What is printed before and after stands before and after.
+    let line = "(echo one; \"$0\" draw \"$1\" -o /dev/stdout; echo two) > \"$2\"";
+    let (status, _) = shell(line, &[word(&a), word(&log)]);
+    assert_eq!(status, Some(0));
+    let after = fs::read_to_string(&log).unwrap();
+    assert!(after == format!("one\n{picture}two\n"));
+    // One that is not open is none.
+    let wrong = said(&["draw", word(&a), "-o", "/dev/fd/77"], b"", 1);
+    assert!(wrong.contains("/dev/fd/77: "), "{wrong}");
+    // What is read stays by this name too.
+    let line = "\"$0\" draw \"$1\" -o /dev/stdout >> \"$1\"";
+    let (status, wrong) = shell(line, &[word(&b)]);
+    assert_eq!(status, Some(2));
+    assert!(wrong.contains("it is not written over"), "{wrong}");
+    assert_eq!(fs::read_to_string(&b).unwrap(), TWO[1]);
+}
