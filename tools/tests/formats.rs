@@ -915,3 +915,77 @@ fn help_of_formats() {
     assert!(said(&["import", "no/such/file"], b"", 1).contains("no/such/file: "));
     assert!(said(&["export", "--gds", "no/such/file"], b"", 1).contains("no/such/file: "));
 }
+
+/// A layer on which nothing is gave a net without macros, and a layout without wires an empty tree.
+#[test]
+fn a_layer_that_is_named_has_something_on_it() {
+    let net = example("eight-pins");
+    let export = |words: &[&str]| written(&[&["export"], words, &[word(&net)]].concat(), b"");
+    let (gds, def) = (export(&["--gds"]), export(&["--def", "--wire-layer", "M2"]));
+    for (words, layout, wrong) in [
+        (
+            &["--macro-layer", "7/0"][..],
+            &gds,
+            "no macro is on 7/0, which --macro-layer names; there are 1/0, 2/0, 3/0",
+        ),
+        (
+            &["--pin-layer", "1/0"],
+            &gds,
+            "no pin is on 1/0, which --pin-layer names; there are",
+        ),
+        (
+            &["--tree", "--wire-layer", "8"],
+            &gds,
+            "no wire is on 8, which --wire-layer names; there are 1/0, 2/0, 3/0",
+        ),
+        (
+            &["--tree", "--split", "--pin-layer", "8"],
+            &gds,
+            "no pin is on 8, which",
+        ),
+        (
+            &["--macro-layer", "met1"],
+            &def,
+            "no macro is on met1, which --macro-layer names; there are 'M1', 'M2'",
+        ),
+        (
+            &["--pin-layer", "M2"],
+            &def,
+            "no pin is on M2, which --pin-layer names; there are 'M1'",
+        ),
+        (
+            &["--tree", "--wire-layer", "M1"],
+            &def,
+            "no wire is on M1, which --wire-layer names",
+        ),
+        (
+            &["--tree"],
+            &export(&["--gds", "--unrouted"]),
+            "there is no wire in it, and so no tree",
+        ),
+        (
+            &["--tree"],
+            &export(&["--def", "--unrouted"]),
+            "there is no wire in it",
+        ),
+    ] {
+        let told = run(&[&["import"], words, &["-"]].concat(), layout);
+        assert_eq!(told.status.code(), Some(1), "{words:?}");
+        assert_eq!(told.stdout, b"", "{words:?}");
+        let told = String::from_utf8(told.stderr).unwrap();
+        assert!(told.contains(wrong), "{told}\n{wrong}");
+    }
+    // A layer that what is written does not depend on may be empty, and a single pin has a tree without edges.
+    for words in [
+        &["--wire-layer", "8"][..],
+        &["--tree", "--macro-layer", "8"],
+    ] {
+        let other = run(&[&["import"], words, &["-"]].concat(), &gds);
+        assert_eq!(other.status.code(), Some(0), "{words:?}");
+    }
+    for format in ["--gds", "--def"] {
+        let one = written(&["export", format, "-"], b"pin 3 4\n");
+        let tree = printed(&["import", "--tree", "-"], &one);
+        assert_eq!(tree.lines().count(), 1, "{tree}");
+    }
+}

@@ -1,13 +1,13 @@
 //! A net and its wires out of a stream: boxes are macros, paths are wires, texts are pins, each on its layer.
 
-use std::collections::BTreeMap;
+use std::collections::{BTreeMap, BTreeSet};
 use std::fmt;
 
 use calzundi::{Pin, Place, Weights};
 
 use super::record::{from_real, kind, LOAD, WEIGHTS};
 use super::{Asked, Layer};
-use crate::formats::found::{box_of, counted, Found, MOST_SHAPES};
+use crate::formats::found::{box_of, counted, first_layers, Found, MOST_SHAPES};
 use crate::line::quoted;
 
 /// What is wrong with a stream, and at which byte of it.
@@ -127,10 +127,9 @@ struct Reader<'a> {
     taken: Option<Cell>,
     /// How many elements stand on layers that nobody asked for.
     others: BTreeMap<Layer, usize>,
+    /// The layers of elements that were taken.
+    used: BTreeSet<Layer>,
 }
-
-/// So many other layers are told of.
-const FEW: usize = 6;
 
 /// What KLayout keeps for itself.
 const NO_CELL: &str = "$$$CONTEXT_INFO$$$";
@@ -147,6 +146,7 @@ impl<'a> Reader<'a> {
             element: None,
             taken: None,
             others: BTreeMap::new(),
+            used: BTreeSet::new(),
         }
     }
 
@@ -253,6 +253,7 @@ impl<'a> Reader<'a> {
             None => Err("more than 65536 layers".into()),
             Some(role) => {
                 self.own()?;
+                self.used.insert(layer);
                 self.fill(role, &element)
             }
         }
@@ -319,11 +320,7 @@ impl<'a> Reader<'a> {
     }
 
     fn found(mut self) -> Result<Found, String> {
-        let mut others: Vec<String> = self.others.keys().take(FEW).map(Layer::to_string).collect();
-        if self.others.len() > FEW {
-            others.push("others".into());
-        }
-        let others = others.join(", ");
+        let others = first_layers(self.others.keys().map(Layer::to_string)).join(", ");
         let Some(cell) = &self.taken else {
             let layers = &self.asked.layers;
             let (macros, wires, pins) = (layers.macros, layers.wires, layers.pins);
@@ -337,6 +334,8 @@ impl<'a> Reader<'a> {
             return Err(said);
         };
         self.found.title = format!("cell {}{}", quoted(&cell.name), self.units);
+        let layers: BTreeSet<Layer> = self.others.keys().chain(&self.used).copied().collect();
+        self.found.layers = first_layers(layers.iter().map(Layer::to_string));
         let passed: usize = self.others.values().sum();
         if passed > 0 {
             let shapes = counted(passed, "shape", "shapes");
