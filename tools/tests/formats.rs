@@ -989,3 +989,84 @@ fn a_layer_that_is_named_has_something_on_it() {
         assert_eq!(tree.lines().count(), 1, "{tree}");
     }
 }
+
+/// A load or weights of GDSII that were no numbers were 0 and 1 without a word, and a load of no pin in DEF too.
+#[test]
+fn a_load_is_not_lost() {
+    let pin = |layer: &'static [u8], attribute: &'static [u8], said: &'static [u8]| {
+        stream(&[
+            HEADER,
+            BGNSTR,
+            NAME,
+            (0x0c00, &[]),
+            (0x0d02, layer),
+            (0x1602, &[0, 0]),
+            (0x1003, &[0, 0, 0, 5, 0, 0, 0, 6]),
+            (0x2b02, attribute),
+            (0x2c06, said),
+            ENDEL,
+            ENDSTR,
+            ENDLIB,
+        ])
+    };
+    for (attribute, said, wrong) in [
+        (
+            &[0, 1],
+            &b"load x\0\0"[..],
+            "offset 74: 'x' for the load is no whole number of 32 bits",
+        ),
+        (
+            &[0, 1],
+            b"load 99999999999",
+            "offset 74: '99999999999' for the load is no whole",
+        ),
+        (
+            &[0, 1],
+            b"load",
+            "a property of a load needs a number for the load",
+        ),
+        (
+            &[0, 1],
+            b"load 1 2",
+            "'2' stands after the end of the property of a load",
+        ),
+        (
+            &[0, 2],
+            b"weights 1 x\0",
+            "offset 74: 'x' for y is no whole number of 32 bits",
+        ),
+        (
+            &[0, 2],
+            b"weights 1\0",
+            "a property of weights needs a number for y",
+        ),
+    ] {
+        let told = gds::read(&pin(&[0, 3], attribute, said), &gds::Asked::default());
+        let told = told.unwrap_err().to_string();
+        assert!(told.contains(wrong), "{told}\n{wrong}");
+    }
+    let net = |said| from_gds(&pin(&[0, 3], &[0, 1], said)).net;
+    assert_eq!(net(b"load 7\0\0").pins[0].load, 7);
+    // What others keep there is theirs, and so is what stands at no pin.
+    assert_eq!(net(b"mine, not yours!").pins[0].load, 0);
+    let other = gds::read(
+        &pin(&[0, 9], &[0, 1], b"load x\0\0"),
+        &gds::Asked::default(),
+    );
+    let told = other.unwrap_err().to_string();
+    assert!(told.contains("no text on 3/0"), "{told}");
+    // DEF.
+    let def =
+        String::from_utf8(written(&["export", "--def", word(&example("loads"))], b"")).unwrap();
+    let first = def.find("- PIN p").unwrap();
+    let name = def[first + 6..].split_whitespace().next().unwrap();
+    let (head, rest) = def.split_at(first + 6);
+    let other = format!("{head}q9{}", &rest[name.len()..]);
+    let output = run(&["import", "-"], other.as_bytes());
+    let told = String::from_utf8(output.stderr).unwrap();
+    assert_eq!(output.status.code(), Some(0), "{told}");
+    assert!(
+        told.contains("passed over: the load of pin 'q9', which is not in PINS"),
+        "{told}"
+    );
+}

@@ -25,6 +25,7 @@ pub fn read(bytes: &[u8], asked: &Asked) -> Result<Found, BadLine> {
         lines: Lines::default(),
         design: "",
         pins: Vec::new(),
+        names: BTreeSet::new(),
         loads: BTreeMap::new(),
         net: None,
         other: None,
@@ -70,6 +71,8 @@ struct Reader<'a> {
     lines: Lines,
     design: &'a str,
     pins: Vec<Placed<'a>>,
+    /// The names of all pins, also of those on other layers.
+    names: BTreeSet<&'a str>,
     loads: BTreeMap<&'a str, i32>,
     net: Option<Net<'a>>,
     /// A net that is not taken though none was asked for.
@@ -206,7 +209,8 @@ impl<'a> Reader<'a> {
                 _ => {}
             }
         }
-        if self.pins.len() >= MOST_NAMES {
+        self.names.insert(word.said);
+        if self.pins.len() >= MOST_NAMES || self.names.len() > MOST_NAMES {
             return Err(word.wrong(format!("more than {MOST_NAMES} pins are not read")));
         }
         match on_layer {
@@ -422,6 +426,7 @@ impl<'a> Reader<'a> {
         }
         self.found.missing = self.missing(name);
         self.found.notes = self.passed.notes();
+        self.found.notes.extend(self.unknown());
         self.found.layers = first_layers(self.layers.iter().map(|layer| quoted(layer)));
         let (net, design) = (quoted(name), quoted(self.design));
         self.found.title = format!("net {net} of design {design}{}", self.found.title);
@@ -460,6 +465,22 @@ impl<'a> Reader<'a> {
             }
             None => Ok(name),
         }
+    }
+
+    /// A word on loads of pins that are not in the design.
+    fn unknown(&self) -> Option<String> {
+        let loads = self.loads.keys();
+        let unknown: Vec<&str> = loads
+            .filter(|pin| !self.names.contains(*pin))
+            .copied()
+            .collect();
+        let first = quoted(unknown.first()?);
+        Some(match unknown.len() {
+            1 => format!("passed over: the load of pin {first}, which is not in PINS"),
+            many => {
+                format!("passed over: the loads of {many} pins that are not in PINS, {first} first")
+            }
+        })
     }
 
     /// How many pins the net says it joins that have no place here.

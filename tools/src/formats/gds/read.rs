@@ -9,6 +9,7 @@ use super::record::{from_real, kind, LOAD, WEIGHTS};
 use super::{Asked, Layer};
 use crate::formats::found::{box_of, counted, first_layers, Found, MOST_SHAPES};
 use crate::line::quoted;
+use crate::text::numbers;
 
 /// What is wrong with a stream, and at which byte of it.
 #[derive(Clone, Debug, PartialEq, Eq)]
@@ -197,6 +198,7 @@ impl<'a> Reader<'a> {
             let element = self.element.take().unwrap_or_default();
             return self.end_of(element);
         }
+        let is_wanted = self.is_wanted();
         let Some(element) = &mut self.element else {
             return Ok(());
         };
@@ -212,7 +214,9 @@ impl<'a> Reader<'a> {
             }
             kind::SNAME => element.of = record.letters(),
             kind::PROPATTR => element.property = record.short()?,
-            kind::PROPVALUE => element.know(&record.letters()),
+            kind::PROPVALUE if is_wanted && element.is_pin(self.asked.layers.pins) => {
+                element.know(&record.letters())?;
+            }
             kind::BGNSTR | kind::ENDSTR | kind::ENDLIB => {
                 return Err("an element is not ended".into());
             }
@@ -360,17 +364,27 @@ fn is_element(record: u16) -> bool {
 }
 
 impl Element {
+    /// Whether it is a pin, as far as it has been read: its layer stands before its properties.
+    fn is_pin(&self, pins: Layer) -> bool {
+        self.kind == kind::TEXT
+            && self.layer == Some(pins.number)
+            && self.datatype == Some(pins.datatype)
+    }
+
     /// A property that our own files have; others say nothing to us.
-    fn know(&mut self, said: &str) {
-        let words: Vec<&str> = said.split(' ').collect();
+    fn know(&mut self, said: &str) -> Result<(), String> {
+        let words: Vec<&str> = said.split_whitespace().collect();
         match (self.property, &words[..]) {
-            (LOAD, ["load", load]) => self.load = load.parse().unwrap_or(0),
-            (WEIGHTS, ["weights", x, y]) => {
-                let both = (x.parse().ok()).zip(y.parse().ok());
-                self.weights = both.map(|(x, y)| Weights { x, y });
+            (LOAD, ["load", words @ ..]) => {
+                [self.load] = numbers("property of a load", ["the load"], words)?;
+            }
+            (WEIGHTS, ["weights", words @ ..]) => {
+                let [x, y] = numbers("property of weights", ["x", "y"], words)?;
+                self.weights = Some(Weights { x, y });
             }
             _ => {}
         }
+        Ok(())
     }
 }
 
