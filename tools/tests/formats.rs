@@ -1070,3 +1070,20 @@ fn a_load_is_not_lost() {
         "{told}"
     );
 }
+
+/// `--net` with a GDSII and `--cell` with a DEF said nothing, and another net came out than was meant.
+#[test]
+fn cells_are_of_gds_and_nets_of_def() {
+    let (gds, def) = (sample("klayout.gds"), sample("foreign.def"));
+    let wrong = said(&["import", "--net", "clk", word(&gds)], b"", 2);
+    assert!(
+        wrong.contains("klayout.gds is GDSII, and --net is of DEF; of GDSII --cell names"),
+        "{wrong}"
+    );
+    let words = ["import", "--net", "clk", "--cell", "BENCH", word(&def)];
+    let wrong = said(&words, b"", 2);
+    assert!(
+        wrong.contains("foreign.def is no GDSII, and --cell is of GDSII; of DEF --net names"),
+        "{wrong}"
+    );
+}

@@ -102,6 +102,10 @@ fn found(file: &OsString, words: &Words) -> Result<Found, Failure> {
     let said = name(Some(file));
     let bytes = read_most(Some(file), MOST_LAYOUT)?;
     if gds::is_gds(&bytes) {
+        if words.has("--net") {
+            let other = "--net is of DEF; of GDSII --cell names what is taken";
+            return Err(Failure::Usage(format!("{said} is GDSII, and {other}")));
+        }
         let asked = gds::Asked {
             layers: gds_layers(words)?,
             cell: words.value("--cell").map(str::to_string),
@@ -110,6 +114,10 @@ fn found(file: &OsString, words: &Words) -> Result<Found, Failure> {
     }
     if bytes.contains(&0) || bytes.is_empty() {
         return Err(Failure::wrong(&said, "it is neither GDSII nor DEF"));
+    }
+    if words.has("--cell") {
+        let other = "--cell is of GDSII; of DEF --net names what is taken";
+        return Err(Failure::Usage(format!("{said} is no GDSII, and {other}")));
     }
     let asked = def::Asked {
         layers: def_layers(words)?,
