@@ -7,6 +7,7 @@ use std::os::unix::fs::{symlink, PermissionsExt};
 use std::process::Command;
 use std::time::{Duration, Instant};
 
+use common::json::parse;
 use common::{example, folder, printed, refused, root, run, said, shell, word, COMMANDS};
 
 /// Words that make each command print something.
@@ -343,4 +344,27 @@ fn run_says_what_is_wrong_at_once() {
     let output = run("./run examples/nets/eight-pins.txt >/dev/full");
     assert_eq!(output.status.code(), Some(1));
     assert_eq!(run("./run a b").status.code(), Some(2));
+}
+
+/// A tree of edges upon edges has millions of reasons, which took gigabytes: the first hundred of a kind are said, and the others counted.
+#[test]
+fn reasons_are_counted() {
+    let net = folder("reasons").join("net.txt");
+    fs::write(&net, "pin 0 0\npin 60 0\n").unwrap();
+    let tree: String = (1..=60).map(|x| format!("0 0 {x} 0\n")).collect();
+    let words = ["verify", word(&net), "-"];
+    let output = run(&words, tree.as_bytes());
+    assert_eq!(output.status.code(), Some(1));
+    let text = String::from_utf8(output.stdout).unwrap();
+    let of = |part: &str| text.lines().filter(|line| line.contains(part)).count();
+    assert_eq!(of("lies on"), 100, "{text}");
+    assert_eq!(of("ends at"), 59);
+    // On an edge of length x lie the ends of those that are shorter.
+    let more = (1..=60).map(|x| x - 1).sum::<usize>() - 100;
+    assert!(text.ends_with(&format!("\n  and {more} more\n")), "{text}");
+    let output = run(&["verify", "--json", word(&net), "-"], tree.as_bytes());
+    let value = parse(&String::from_utf8(output.stdout).unwrap());
+    let reasons = value.get("reasons").list();
+    assert_eq!(reasons.len(), 160);
+    assert_eq!(reasons[159].text(), format!("and {more} more"));
 }
