@@ -368,3 +368,21 @@ fn reasons_are_counted() {
     assert_eq!(reasons.len(), 160);
     assert_eq!(reasons[159].text(), format!("and {more} more"));
 }
+
+/// The bad lines of a tree and of a price list were said to be listed by `check`, which reads neither.
+#[test]
+fn check_lists_the_lines_of_nets() {
+    let net = example("three-pins");
+    let bad = "no line\n".repeat(9);
+    for (words, more) in [
+        (
+            vec!["route", "-"],
+            "and 5 more: `calzundi check` lists them\n",
+        ),
+        (vec!["verify", word(&net), "-"], "and 5 more\n"),
+        (vec!["price", word(&net), "-"], "and 5 more\n"),
+    ] {
+        let wrong = said(&words, bad.as_bytes(), 1);
+        assert!(wrong.ends_with(more), "{wrong}");
+    }
+}
