@@ -51,6 +51,25 @@ impl Reason {
     }
 }
 
+/// Reasons, of which the first so many are kept and the others counted: a tree may have millions.
+#[derive(Clone, Debug, Default, PartialEq, Eq)]
+pub struct Reasons {
+    pub kept: Vec<Reason>,
+    pub more: usize,
+}
+
+const KEPT: usize = 100;
+
+impl Reasons {
+    /// Takes a reason, which is put into words only where it is kept.
+    pub fn take(&mut self, reason: impl FnOnce() -> Reason) {
+        match self.kept.len() < KEPT {
+            true => self.kept.push(reason()),
+            false => self.more += 1,
+        }
+    }
+}
+
 /// What is said of a refusal: its number, what that means here, a reason for each thing that is to blame, and the same for the numbers that
 /// would come next.
 #[derive(Clone, Debug, Default, PartialEq, Eq)]
@@ -58,6 +77,8 @@ pub struct Blame {
     pub number: i32,
     pub meaning: String,
     pub reasons: Vec<Reason>,
+    /// How many more reasons there are.
+    pub more: usize,
     pub next: Vec<Blame>,
 }
 
@@ -97,7 +118,7 @@ impl Blame {
     /// The lines for a command that was asked for something else: the first few reasons.
     pub fn few(&self) -> Vec<String> {
         let mut lines = self.own(FEW);
-        if let Some(more) = self.reasons.len().checked_sub(FEW + 1) {
+        if let Some(more) = (self.reasons.len() + self.more).checked_sub(FEW + 1) {
             lines.push(format!(
                 "  and {} more: `calzundi check` lists them",
                 more + 1
@@ -107,9 +128,16 @@ impl Blame {
     }
 
     fn own(&self, most: usize) -> Vec<String> {
-        let reasons = self.reasons.iter().take(most);
-        let reasons = reasons.map(|reason| format!("  {}", reason.said));
+        let reasons = self.said().into_iter().take(most);
+        let reasons = reasons.map(|said| format!("  {said}"));
         [self.headline()].into_iter().chain(reasons).collect()
+    }
+
+    /// The reasons in words, and how many more there are.
+    pub fn said(&self) -> Vec<String> {
+        let reasons = self.reasons.iter().map(|reason| reason.said.clone());
+        let more = (self.more > 0).then(|| format!("and {} more", self.more));
+        reasons.chain(more).collect()
     }
 
     /// Every entry that is to blame, now or next, once and in order.

@@ -22,6 +22,15 @@ fn blocks(bytes: &[u8]) -> Vec<Vec<u32>> {
         .collect()
 }
 
+/// Whether bytes are a net file or what is left of one, cut or damaged: the head's kind still stands there, or that of a block at its place.
+pub fn is_left(bytes: &[u8]) -> bool {
+    let is_block = |(number, words): (usize, &Vec<u32>)| {
+        (PINS..=LOADED).contains(&words[0]) && words[1] as usize == number
+    };
+    let later = blocks(bytes);
+    bytes.starts_with(&HEAD.to_le_bytes()) || later.iter().enumerate().skip(1).any(is_block)
+}
+
 /// What is to blame for a refusal by 1, 2 or 3.
 pub fn blamed(bytes: &[u8], refusal: Refusal) -> Blame {
     let reasons = match refusal {

@@ -125,10 +125,7 @@ fn refusal(blame: &Blame) -> Vec<Field> {
     vec![
         ("refused", blame.number.to_string()),
         ("meaning", quoted(&blame.meaning)),
-        (
-            "reasons",
-            row(blame.reasons.iter().map(|reason| quoted(&reason.said))),
-        ),
+        ("reasons", row(blame.said().iter().map(|said| quoted(said)))),
         ("entries", row(own.entries().iter().map(entry))),
     ]
 }

@@ -45,6 +45,8 @@ pub struct BadLines {
     pub lines: Vec<BadLine>,
     /// How many more there are.
     pub more: usize,
+    /// Whether the text is a net, whose lines `check` lists.
+    pub is_net: bool,
 }
 
 /// So many bad lines are kept, and said where they are asked for; where something else was asked for, so few.
@@ -65,7 +67,7 @@ impl BadLines {
         let mut said: Vec<String> = shown.collect();
         match self.lines.len().saturating_sub(most) + self.more {
             0 => {}
-            more if most < KEPT => {
+            more if most < KEPT && self.is_net => {
                 said.push(format!("and {more} more: `calzundi check` lists them"))
             }
             more => said.push(format!("and {more} more")),

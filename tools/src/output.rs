@@ -8,7 +8,7 @@ use std::path::{Path, PathBuf};
 use crate::json::{about, object, quoted, several};
 use crate::program::{Failure, Words, FORCE, JSON, OUTPUT};
 use crate::source::is_net;
-use crate::streams::{keep, name, there, write};
+use crate::streams::{keep, name, there, write, MOST_BYTES};
 use crate::told::{printed, tell, words as said};
 
 /// What a command makes of a net.
@@ -129,14 +129,21 @@ pub fn put(words: &Words, file: &Path, bytes: &[u8]) -> Result<(), Failure> {
     let inputs: Vec<Option<&OsString>> = words.inputs().map(Some).collect();
     keep(file, &inputs)?;
     let word = file.as_os_str().to_os_string();
-    let before = there(file).filter(|_| !words.has(FORCE.name));
+    let kept = |why: &str| {
+        let said = format!("{why}; --force writes over it");
+        Err(Failure::wrong(name(Some(&word)), said))
+    };
+    let before = match words.has(FORCE.name) {
+        true => Ok(None),
+        false => there(file),
+    };
     match before {
-        Some(before) if before == bytes => Ok(()),
-        Some(before) if is_net(&before) => {
-            let net = "it is a net; --force writes over it";
-            Err(Failure::wrong(name(Some(&word)), net))
-        }
-        _ => write(Some(&word), bytes, &inputs),
+        Err(error) => kept(&format!(
+            "it is there and cannot be read, so it may be a net ({error})"
+        )),
+        Ok(Some(before)) if before.len() as u64 <= MOST_BYTES && before == bytes => Ok(()),
+        Ok(Some(before)) if is_net(&before) => kept("it is a net"),
+        Ok(_) => write(Some(&word), bytes, &inputs),
     }
 }
 

@@ -70,23 +70,25 @@ fn is_wide(bytes: &[u8]) -> bool {
     }
 }
 
-/// Whether bytes read as a net, allowed or refused, or as one whose sums are wrong.
+/// Whether bytes are a net, or one that cannot be read any more, so that nobody loses it: a net file, also a cut or damaged one, or text
+/// with a line that begins as an entry does.
 pub fn is_net(bytes: &[u8]) -> bool {
-    match source(String::new(), bytes) {
-        Ok(Source {
-            lines: Some(_),
-            net,
-            ..
-        }) => !net.pins.is_empty() || !net.macros.is_empty(),
-        Ok(source) => match source.verdict {
-            Ok(()) => true,
-            Err(Refused { refusal, .. }) => {
-                let begins = bytes.starts_with(&[1, 0, 0, 0]);
-                !matches!(refusal, Refusal::Length | Refusal::Layout) && begins
-            }
-        },
-        Err(_) => false,
-    }
+    blocks::is_left(bytes) || has_entry(bytes)
+}
+
+fn has_entry(bytes: &[u8]) -> bool {
+    let narrow: Vec<u8> = match is_wide(bytes) {
+        true => bytes.iter().copied().filter(|byte| *byte != 0).collect(),
+        false => bytes.to_vec(),
+    };
+    let text = String::from_utf8_lossy(&narrow);
+    // A byte order mark stands before the first word, and a wide one is no letter here.
+    let text = text.trim_start_matches(['\u{feff}', char::REPLACEMENT_CHARACTER]);
+    text.split(['\n', '\r']).any(|line| {
+        let said = line.split('#').next().unwrap_or("");
+        let first = said.split_whitespace().next();
+        matches!(first, Some("pin" | "macro" | "weights"))
+    })
 }
 
 fn from_file(name: String, bytes: &[u8]) -> Source {

@@ -1,9 +1,11 @@
 //! Files and the standard streams: input is bounded and never overwritten, output is whole or not there.
 
+use std::collections::hash_map::RandomState;
 use std::ffi::{OsStr, OsString};
 use std::fs::{self, File, Metadata, OpenOptions};
+use std::hash::{BuildHasher, Hasher};
 use std::io::{self, ErrorKind, Read, Write};
-use std::os::fd::AsFd;
+use std::os::fd::{AsFd, BorrowedFd, RawFd};
 use std::os::raw::c_int;
 use std::os::unix::fs::MetadataExt;
 use std::path::{Path, PathBuf};
@@ -92,15 +94,21 @@ pub fn write(
     inputs: &[Option<&OsString>],
 ) -> Result<(), Failure> {
     let Some(path) = path(word) else {
-        let mut out = io::stdout().lock();
-        let done = closed(1).and_then(|()| out.write_all(bytes).and_then(|()| out.flush()));
-        return done.map_err(|error| match error.kind() {
+        return print(bytes).map_err(|error| match error.kind() {
             ErrorKind::BrokenPipe => Failure::Gone,
             _ => Failure::wrong("standard output", error),
         });
     };
     keep(path, inputs)?;
     put(path, bytes).map_err(|error| Failure::wrong(name(word), error))
+}
+
+/// Writes to standard output.
+fn print(bytes: &[u8]) -> io::Result<()> {
+    closed(1)?;
+    let mut out = io::stdout().lock();
+    out.write_all(bytes)?;
+    out.flush()
 }
 
 /// No input is written over, by whichever name.
@@ -130,19 +138,26 @@ fn is_same(input: Option<&OsString>, at: &Path) -> bool {
     }
 }
 
-/// The bytes of a file that is there, plain and short enough to be an input.
-pub fn there(path: &Path) -> Option<Vec<u8>> {
-    let data = fs::metadata(path).ok()?;
-    if !data.is_file() || data.len() > MOST_BYTES {
-        return None;
+/// The bytes of a plain file that is there, of a longer one as many as an input has at the most and one more. Whatever else is at a path
+/// has nothing to lose, or is not written over.
+pub fn there(path: &Path) -> io::Result<Option<Vec<u8>>> {
+    let is_stream = end_of_links(path).is_ok_and(|end| is_descriptor(&end));
+    if is_stream || !fs::metadata(path).is_ok_and(|data| data.is_file()) {
+        return Ok(None);
     }
-    fs::read(path).ok()
+    let mut bytes = Vec::new();
+    let opened = File::open(path)?;
+    opened.take(MOST_BYTES + 1).read_to_end(&mut bytes)?;
+    Ok(Some(bytes))
 }
 
 /// A file is written beside its place and then put there at once, so that it is whole, or as it was. What is no plain file, such as a
-/// device or a pipe, is written to as it is.
+/// device or a pipe, is written to as it is, and so is what stands behind a descriptor.
 fn put(path: &Path, bytes: &[u8]) -> io::Result<()> {
     let path = &end_of_links(path)?;
+    if is_descriptor(path) {
+        return to_descriptor(path, bytes);
+    }
     let before = match fs::metadata(path) {
         Ok(data) if !data.is_file() => {
             let mut opened = OpenOptions::new().write(true).open(path)?;
@@ -155,28 +170,57 @@ fn put(path: &Path, bytes: &[u8]) -> io::Result<()> {
     if let Some(data) = &before {
         ask_to_write(path, data)?;
     }
-    let beside = beside(path)?;
-    let there = before.is_some();
-    let done = fill(&beside, bytes, before).and_then(|()| fs::rename(&beside, path));
+    let done = beside(path).and_then(|(new, file)| {
+        let done = fill(file, bytes, before.as_ref()).and_then(|()| fs::rename(&new, path));
+        done.inspect_err(|_| {
+            let _ = fs::remove_file(&new);
+        })
+    });
     match done {
-        Err(error) if error.kind() == ErrorKind::PermissionDenied && there => {
-            let _ = fs::remove_file(&beside);
+        Err(error) if error.kind() == ErrorKind::PermissionDenied && before.is_some() => {
             in_place(path, bytes)
         }
-        Err(error) => {
-            let _ = fs::remove_file(&beside);
-            Err(error)
-        }
-        Ok(()) => Ok(()),
+        done => done,
     }
 }
 
-/// The file that a path means, through links, also where it is not there yet.
+/// Whether a path names a descriptor, such as /dev/stdout does by its link: it lies in /proc/PROCESS/fd.
+fn is_descriptor(path: &Path) -> bool {
+    folder_of(path).is_ok_and(|folder| folder.starts_with("/proc") && folder.ends_with("fd"))
+}
+
+fn folder_of(path: &Path) -> io::Result<PathBuf> {
+    let folder = path.parent().unwrap_or(Path::new("/"));
+    fs::canonicalize(if folder == Path::new("") {
+        Path::new(".")
+    } else {
+        folder
+    })
+}
+
+/// Writes on where a descriptor stands; where it is another process' own, at the end of what is there.
+fn to_descriptor(path: &Path, bytes: &[u8]) -> io::Result<()> {
+    let is_own = folder_of(path)? == fs::canonicalize("/proc/self/fd")?;
+    let number = path.file_name().and_then(OsStr::to_str);
+    match number.and_then(|number| number.parse::<RawFd>().ok()) {
+        Some(1) if is_own => print(bytes),
+        Some(number) if is_own && number >= 0 => {
+            fs::symlink_metadata(path)?;
+            // SAFETY: it is open, as was just seen, and nobody here closes a descriptor that is not his own.
+            let given = unsafe { BorrowedFd::borrow_raw(number) };
+            File::from(given.try_clone_to_owned()?).write_all(bytes)
+        }
+        _ => OpenOptions::new().append(true).open(path)?.write_all(bytes),
+    }
+}
+
+/// The file that a path means, through links, also where it is not there yet. Of a descriptor it is its name.
 fn end_of_links(path: &Path) -> io::Result<PathBuf> {
     let mut path = path.to_path_buf();
     for _ in 0..MOST_LINKS {
-        let Ok(target) = fs::read_link(&path) else {
-            return Ok(path);
+        let target = match fs::read_link(&path) {
+            Ok(target) if !is_descriptor(&path) => target,
+            _ => return Ok(path),
         };
         // A target that is no whole path begins in the link's folder.
         path = path.parent().unwrap_or(Path::new("")).join(target);
@@ -209,20 +253,27 @@ fn in_place(path: &Path, bytes: &[u8]) -> io::Result<()> {
     Ok(())
 }
 
-/// A name in the same folder that nobody else takes, short whatever the file's own.
-fn beside(path: &Path) -> io::Result<PathBuf> {
+/// A new file in the same folder, with its name, which is short whatever the file's own. It is a random one: a process' number is not
+/// enough, since programs in containers that share a folder may have the same.
+fn beside(path: &Path) -> io::Result<(PathBuf, File)> {
     if path.file_name().is_none() {
         return Err(io::Error::new(ErrorKind::InvalidInput, "it names no file"));
     }
-    let new = format!(".calzundi-{}.new", std::process::id());
-    Ok(path.with_file_name(new))
+    for _ in 0..MOST_NAMES {
+        let random = RandomState::new().build_hasher().finish();
+        let new = path.with_file_name(format!(".calzundi-{random:016x}.new"));
+        match OpenOptions::new().write(true).create_new(true).open(&new) {
+            Err(error) if error.kind() == ErrorKind::AlreadyExists => {}
+            opened => return opened.map(|file| (new, file)),
+        }
+    }
+    Err(io::Error::other("no new name is free in its folder"))
 }
 
-fn fill(beside: &Path, bytes: &[u8], before: Option<Metadata>) -> io::Result<()> {
-    let mut file = OpenOptions::new()
-        .write(true)
-        .create_new(true)
-        .open(beside)?;
+/// So many names are tried.
+const MOST_NAMES: usize = 16;
+
+fn fill(mut file: File, bytes: &[u8], before: Option<&Metadata>) -> io::Result<()> {
     if let Some(data) = before {
         file.set_permissions(data.permissions())?;
     }

@@ -16,7 +16,7 @@ pub struct Lines {
 /// The net that the bytes of a text give, with its lines. Any 32-bit numbers and any count of lines pass: what is allowed the router says.
 pub fn parse(bytes: &[u8]) -> Result<(Net, Lines), BadLines> {
     let (mut net, mut lines) = (Net::default(), Lines::default());
-    each_line(bytes, |line, words| {
+    let done = each_line(bytes, |line, words| {
         let Some((kind, rest)) = words.split_first() else {
             return Ok(());
         };
@@ -46,6 +46,10 @@ pub fn parse(bytes: &[u8]) -> Result<(Net, Lines), BadLines> {
             }
         }
         Ok(())
+    });
+    done.map_err(|bad| BadLines {
+        is_net: true,
+        ..bad
     })?;
     Ok((net, lines))
 }

@@ -5,7 +5,7 @@ use std::collections::{BTreeMap, BTreeSet};
 
 use calzundi::{Edge, Net, Place, Refusal, BOUGHT_EDGES, COORDINATE};
 
-use crate::blame::{named, Blame, Entries, Entry, Kind, Reason};
+use crate::blame::{named, Blame, Entries, Entry, Kind, Reason, Reasons};
 use crate::line::{each_line, quoted, BadLines};
 use crate::program::Failure;
 use crate::source::Source;
@@ -96,8 +96,11 @@ impl Given {
             },
             Refusal::EdgeNotClear => Blame::new(refusal, self.not_clear(&entries)),
             _ => {
-                let split = self.to_split(&entries);
-                Blame::new(refusal, [split, self.no_tree(&entries)].concat())
+                let (split, tree) = (self.to_split(&entries), self.no_tree(&entries));
+                Blame {
+                    more: split.more + tree.more,
+                    ..Blame::new(refusal, [split.kept, tree.kept].concat())
+                }
             }
         }
     }
@@ -206,34 +209,36 @@ impl Given {
     }
 
     /// Where an edge has to be parted for what lies on it to be joined with it.
-    fn to_split(&self, entries: &Entries) -> Vec<Reason> {
-        let mut found = Vec::new();
+    fn to_split(&self, entries: &Entries) -> Reasons {
+        let mut found = Reasons::default();
         for at in 0..self.edges.len() {
             for Place { x, y } in self.places_on(at, entries.net) {
-                let edge = self.named(at);
-                let said = format!("{x} {y} lies on {edge}: split it there (`--split`)");
-                found.push(Reason::of(said, &[self.entry(at)]));
+                found.take(|| {
+                    let edge = self.named(at);
+                    let said = format!("{x} {y} lies on {edge}: split it there (`--split`)");
+                    Reason::of(said, &[self.entry(at)])
+                });
             }
         }
         found
     }
 
     /// Edges given twice, pins at no edge, points with a single edge that are no pins, edges that close a cycle, and parts of their own.
-    fn no_tree(&self, entries: &Entries) -> Vec<Reason> {
-        let mut found = Vec::new();
+    fn no_tree(&self, entries: &Entries) -> Reasons {
+        let mut found = Reasons::default();
         let mut parts = Parts::default();
         let mut given: BTreeMap<(Place, Place), usize> = BTreeMap::new();
         let mut edges: BTreeMap<Place, usize> = BTreeMap::new();
         for (at, first, second) in self.each() {
             let key = (first.min(second), first.max(second));
             match given.get(&key) {
-                Some(&before) => {
+                Some(&before) => found.take(|| {
                     let mut reason = self.wrong(at, &format!(" is {} again", self.named(before)));
                     reason.of.push(self.entry(before));
-                    found.push(reason);
-                }
+                    reason
+                }),
                 None if !parts.joined(first, second) => {
-                    found.push(self.wrong(at, " closes a cycle of the edges before it"));
+                    found.take(|| self.wrong(at, " closes a cycle of the edges before it"));
                 }
                 None => {}
             }
@@ -246,8 +251,8 @@ impl Given {
         let pins: BTreeSet<Place> = entries.net.pins.iter().map(|pin| pin.place).collect();
         for (at, pin) in entries.net.pins.iter().enumerate() {
             if pins.len() > 1 && parts.of(pin.place).is_none() {
-                let said = format!("{} is at no edge's end", entries.named_pin(at));
-                found.push(Reason::of(said, &[entries.pin(at)]));
+                let said = || format!("{} is at no edge's end", entries.named_pin(at));
+                found.take(|| Reason::of(said(), &[entries.pin(at)]));
             }
         }
         for (at, first, second) in self.each() {
@@ -255,7 +260,7 @@ impl Given {
                 if !pins.contains(&end) && edges.get(&end) == Some(&1) {
                     let Place { x, y } = end;
                     let what = format!(" ends at {x} {y}, which is no pin and has no other edge");
-                    found.push(self.wrong(at, &what));
+                    found.take(|| self.wrong(at, &what));
                 }
             }
         }
@@ -263,7 +268,7 @@ impl Given {
         for (at, first, _) in self.each() {
             if known.insert(parts.of(first)) && known.len() > 1 {
                 let what = format!(" begins a part that is not joined with {}", self.named(0));
-                found.push(self.wrong(at, &what));
+                found.take(|| self.wrong(at, &what));
             }
         }
         found

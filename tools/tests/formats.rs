@@ -915,3 +915,175 @@ fn help_of_formats() {
     assert!(said(&["import", "no/such/file"], b"", 1).contains("no/such/file: "));
     assert!(said(&["export", "--gds", "no/such/file"], b"", 1).contains("no/such/file: "));
 }
+
+/// A layer on which nothing is gave a net without macros, and a layout without wires an empty tree.
+#[test]
+fn a_layer_that_is_named_has_something_on_it() {
+    let net = example("eight-pins");
+    let export = |words: &[&str]| written(&[&["export"], words, &[word(&net)]].concat(), b"");
+    let (gds, def) = (export(&["--gds"]), export(&["--def", "--wire-layer", "M2"]));
+    for (words, layout, wrong) in [
+        (
+            &["--macro-layer", "7/0"][..],
+            &gds,
+            "no macro is on 7/0, which --macro-layer names; there are 1/0, 2/0, 3/0",
+        ),
+        (
+            &["--pin-layer", "1/0"],
+            &gds,
+            "no pin is on 1/0, which --pin-layer names; there are",
+        ),
+        (
+            &["--tree", "--wire-layer", "8"],
+            &gds,
+            "no wire is on 8, which --wire-layer names; there are 1/0, 2/0, 3/0",
+        ),
+        (
+            &["--tree", "--split", "--pin-layer", "8"],
+            &gds,
+            "no pin is on 8, which",
+        ),
+        (
+            &["--macro-layer", "met1"],
+            &def,
+            "no macro is on met1, which --macro-layer names; there are 'M1', 'M2'",
+        ),
+        (
+            &["--pin-layer", "M2"],
+            &def,
+            "no pin is on M2, which --pin-layer names; there are 'M1'",
+        ),
+        (
+            &["--tree", "--wire-layer", "M1"],
+            &def,
+            "no wire is on M1, which --wire-layer names",
+        ),
+        (
+            &["--tree"],
+            &export(&["--gds", "--unrouted"]),
+            "there is no wire in it, and so no tree",
+        ),
+        (
+            &["--tree"],
+            &export(&["--def", "--unrouted"]),
+            "there is no wire in it",
+        ),
+    ] {
+        let told = run(&[&["import"], words, &["-"]].concat(), layout);
+        assert_eq!(told.status.code(), Some(1), "{words:?}");
+        assert_eq!(told.stdout, b"", "{words:?}");
+        let told = String::from_utf8(told.stderr).unwrap();
+        assert!(told.contains(wrong), "{told}\n{wrong}");
+    }
+    // A layer that what is written does not depend on may be empty, and a single pin has a tree without edges.
+    for words in [
+        &["--wire-layer", "8"][..],
+        &["--tree", "--macro-layer", "8"],
+    ] {
+        let other = run(&[&["import"], words, &["-"]].concat(), &gds);
+        assert_eq!(other.status.code(), Some(0), "{words:?}");
+    }
+    for format in ["--gds", "--def"] {
+        let one = written(&["export", format, "-"], b"pin 3 4\n");
+        let tree = printed(&["import", "--tree", "-"], &one);
+        assert_eq!(tree.lines().count(), 1, "{tree}");
+    }
+}
+
+/// A load or weights of GDSII that were no numbers were 0 and 1 without a word, and a load of no pin in DEF too.
+#[test]
+fn a_load_is_not_lost() {
+    let pin = |layer: &'static [u8], attribute: &'static [u8], said: &'static [u8]| {
+        stream(&[
+            HEADER,
+            BGNSTR,
+            NAME,
+            (0x0c00, &[]),
+            (0x0d02, layer),
+            (0x1602, &[0, 0]),
+            (0x1003, &[0, 0, 0, 5, 0, 0, 0, 6]),
+            (0x2b02, attribute),
+            (0x2c06, said),
+            ENDEL,
+            ENDSTR,
+            ENDLIB,
+        ])
+    };
+    for (attribute, said, wrong) in [
+        (
+            &[0, 1],
+            &b"load x\0\0"[..],
+            "offset 74: 'x' for the load is no whole number of 32 bits",
+        ),
+        (
+            &[0, 1],
+            b"load 99999999999",
+            "offset 74: '99999999999' for the load is no whole",
+        ),
+        (
+            &[0, 1],
+            b"load",
+            "a property of a load needs a number for the load",
+        ),
+        (
+            &[0, 1],
+            b"load 1 2",
+            "'2' stands after the end of the property of a load",
+        ),
+        (
+            &[0, 2],
+            b"weights 1 x\0",
+            "offset 74: 'x' for y is no whole number of 32 bits",
+        ),
+        (
+            &[0, 2],
+            b"weights 1\0",
+            "a property of weights needs a number for y",
+        ),
+    ] {
+        let told = gds::read(&pin(&[0, 3], attribute, said), &gds::Asked::default());
+        let told = told.unwrap_err().to_string();
+        assert!(told.contains(wrong), "{told}\n{wrong}");
+    }
+    let net = |said| from_gds(&pin(&[0, 3], &[0, 1], said)).net;
+    assert_eq!(net(b"load 7\0\0").pins[0].load, 7);
+    // What others keep there is theirs, and so is what stands at no pin.
+    assert_eq!(net(b"mine, not yours!").pins[0].load, 0);
+    let other = gds::read(
+        &pin(&[0, 9], &[0, 1], b"load x\0\0"),
+        &gds::Asked::default(),
+    );
+    let told = other.unwrap_err().to_string();
+    assert!(told.contains("no text on 3/0"), "{told}");
+    // DEF.
+    let def =
+        String::from_utf8(written(&["export", "--def", word(&example("loads"))], b"")).unwrap();
+    let first = def.find("- PIN p").unwrap();
+    let name = def[first + 6..].split_whitespace().next().unwrap();
+    let (head, rest) = def.split_at(first + 6);
+    let other = format!("{head}q9{}", &rest[name.len()..]);
+    let output = run(&["import", "-"], other.as_bytes());
+    let told = String::from_utf8(output.stderr).unwrap();
+    assert_eq!(output.status.code(), Some(0), "{told}");
+    assert!(
+        told.contains("passed over: the load of pin 'q9', which is not in PINS"),
+        "{told}"
+    );
+}
+
+/// `--net` with a GDSII and `--cell` with a DEF said nothing, and another net came out than was meant.
+#[test]
+fn cells_are_of_gds_and_nets_of_def() {
+    let (gds, def) = (sample("klayout.gds"), sample("foreign.def"));
+    let wrong = said(&["import", "--net", "clk", word(&gds)], b"", 2);
+    assert!(
+        wrong.contains("klayout.gds is GDSII, and --net is of DEF; of GDSII --cell names"),
+        "{wrong}"
+    );
+    let words = ["import", "--net", "clk", "--cell", "BENCH", word(&def)];
+    let wrong = said(&words, b"", 2);
+    assert!(
+        wrong.contains("foreign.def is no GDSII, and --cell is of GDSII; of DEF --net names"),
+        "{wrong}"
+    );
+}

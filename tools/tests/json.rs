@@ -6,6 +6,8 @@ use std::fs;
 
 use common::json::{parse, wrong, Json};
 use common::{example, folder, printed, root, run, word, COMMANDS};
+use tools::commands::ALL;
+use tools::program::{Command, JSON};
 
 fn schema() -> Json {
     parse(include_str!("../../docs/calzundi.schema.json"))
@@ -36,7 +38,8 @@ fn words_of<'a>(command: &'a str, net: &'a str, files: &'a [String; 3]) -> Vec<&
         "price" => vec![bands],
         "verify" => vec![tree],
         "delay" => vec!["0,0", "1", "1"],
-        "draw" | "pack" => vec!["-o", out],
+        "draw" | "pack" | "import" => vec!["-o", out, "--force"],
+        "export" => vec!["--gds", "-o", out, "--force"],
         "batch" => vec!["--quiet"],
         _ => vec![],
     };
@@ -56,15 +59,27 @@ fn files(name: &str) -> [String; 3] {
 #[test]
 fn every_command_has_it() {
     let (net, files) = (example("three-pins"), files("json"));
-    for command in COMMANDS {
-        let (value, status) = asked(&words_of(command, word(&net), &files), b"");
+    let layout = folder("json-layout").join("three-pins.gds");
+    printed(&["export", "--gds", word(&net), "-o", word(&layout)], b"");
+    let takes_json = |command: &&Command| {
+        let mut options = command.options.iter();
+        options.any(|option| option.name == JSON.name)
+    };
+    let all: Vec<&str> = ALL.iter().filter(takes_json).map(|one| one.name).collect();
+    assert!(COMMANDS.iter().all(|command| all.contains(command)));
+    for command in all {
+        let net = match command {
+            "import" => &layout,
+            _ => &net,
+        };
+        let (value, status) = asked(&words_of(command, word(net), &files), b"");
         assert_eq!(status, Some(0), "{command}");
         let value = match command {
             "batch" => value.list()[0].clone(),
             _ => value,
         };
         holds(command, &value);
-        assert_eq!(value.get("net").text(), word(&net), "{command}");
+        assert_eq!(value.get("net").text(), word(net), "{command}");
     }
     let written = parse(&printed(
         &["pack", "--json", word(&net), "-o", &files[2], "--force"],

@@ -7,6 +7,7 @@ use std::os::unix::fs::{symlink, PermissionsExt};
 use std::process::Command;
 use std::time::{Duration, Instant};
 
+use common::json::parse;
 use common::{example, folder, printed, refused, root, run, said, shell, word, COMMANDS};
 
 /// Words that make each command print something.
@@ -343,4 +344,45 @@ fn run_says_what_is_wrong_at_once() {
     let output = run("./run examples/nets/eight-pins.txt >/dev/full");
     assert_eq!(output.status.code(), Some(1));
     assert_eq!(run("./run a b").status.code(), Some(2));
+}
+
+/// A tree of edges upon edges has millions of reasons, which took gigabytes: the first hundred of a kind are said, and the others counted.
+#[test]
+fn reasons_are_counted() {
+    let net = folder("reasons").join("net.txt");
+    fs::write(&net, "pin 0 0\npin 60 0\n").unwrap();
+    let tree: String = (1..=60).map(|x| format!("0 0 {x} 0\n")).collect();
+    let words = ["verify", word(&net), "-"];
+    let output = run(&words, tree.as_bytes());
+    assert_eq!(output.status.code(), Some(1));
+    let text = String::from_utf8(output.stdout).unwrap();
+    let of = |part: &str| text.lines().filter(|line| line.contains(part)).count();
+    assert_eq!(of("lies on"), 100, "{text}");
+    assert_eq!(of("ends at"), 59);
+    // On an edge of length x lie the ends of those that are shorter.
+    let more = (1..=60).map(|x| x - 1).sum::<usize>() - 100;
+    assert!(text.ends_with(&format!("\n  and {more} more\n")), "{text}");
+    let output = run(&["verify", "--json", word(&net), "-"], tree.as_bytes());
+    let value = parse(&String::from_utf8(output.stdout).unwrap());
+    let reasons = value.get("reasons").list();
+    assert_eq!(reasons.len(), 160);
+    assert_eq!(reasons[159].text(), format!("and {more} more"));
+}
+
+/// The bad lines of a tree and of a price list were said to be listed by `check`, which reads neither.
+#[test]
+fn check_lists_the_lines_of_nets() {
+    let net = example("three-pins");
+    let bad = "no line\n".repeat(9);
+    for (words, more) in [
+        (
+            vec!["route", "-"],
+            "and 5 more: `calzundi check` lists them\n",
+        ),
+        (vec!["verify", word(&net), "-"], "and 5 more\n"),
+        (vec!["price", word(&net), "-"], "and 5 more\n"),
+    ] {
+        let wrong = said(&words, bad.as_bytes(), 1);
+        assert!(wrong.ends_with(more), "{wrong}");
+    }
 }

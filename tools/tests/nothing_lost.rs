@@ -7,7 +7,7 @@ use std::os::unix::fs::{symlink, MetadataExt, PermissionsExt};
 use std::path::{Path, PathBuf};
 use std::process::Command;
 
-use common::{example, folder, printed, refused, run, said, word, CALZUNDI};
+use common::{example, folder, printed, refused, run, said, shell, word, CALZUNDI};
 
 const TWO: [&str; 2] = ["pin 0 0\npin 4 0\n", "pin 0 0\npin 7 7\n"];
 
@@ -242,4 +242,176 @@ fn a_file_in_a_closed_folder_is_written_in_place() {
     assert_eq!(refused.status.code(), Some(1));
     let wrong = String::from_utf8(refused.stderr).unwrap();
     assert!(wrong.contains("new.svg: Permission denied"), "{wrong}");
+}
+
+/// Programs in containers may have one number and share a folder: the new file of one was named by its number alone, and removed by the other.
+#[test]
+fn a_new_file_is_nobody_elses() {
+    let (folder, [a, ..]) = nets("same-number");
+    let file = folder.join("a.svg");
+    // The shell becomes the program, which so has the shell's number.
+    let line = "printf other > \"$1/.calzundi-$$.new\"; exec \"$0\" draw \"$2\" -o \"$3\"";
+    let (status, wrong) = shell(line, &[word(&folder), word(&a), word(&file)]);
+    assert_eq!((status, wrong.as_str()), (Some(0), ""));
+    assert!(fs::read(&file).unwrap().starts_with(b"<svg "));
+    let all = fs::read_dir(&folder).unwrap().map(|entry| entry.unwrap());
+    let new: Vec<PathBuf> = all.map(|entry| entry.path()).collect();
+    let new: Vec<&PathBuf> = new
+        .iter()
+        .filter(|path| word(path).ends_with(".new"))
+        .collect();
+    assert_eq!(new.len(), 1);
+    assert_eq!(fs::read(new[0]).unwrap(), b"other");
+}
+
+/// A net that cannot be read any more, for a bad line, its letters, a cut, damage or its length, was taken for no net.
+#[test]
+fn a_net_that_cannot_be_read_is_kept_too() {
+    let (folder, [a, _, a_net, _]) = nets("unread");
+    let wide = |order: fn(u16) -> [u8; 2], mark: &str| -> Vec<u8> {
+        let letters = format!("{mark}# mine\n{}", TWO[1]);
+        letters.encode_utf16().flat_map(order).collect()
+    };
+    let file = fs::read(&a_net).unwrap();
+    let damaged = |at: usize, to: u8| {
+        let mut bytes = file.clone();
+        bytes[at] = to;
+        bytes
+    };
+    let long = format!("pin 0 0\n{}pin 4 0\n", "# more\n".repeat(200_000));
+    let mut kept = vec![
+        b"pin 0 0\npin 4 O\nmacro 1 1 2 2\n".to_vec(),
+        b"macro 1 1 2\n".to_vec(),
+        b"something\npin 0\n".to_vec(),
+        b"# only this\nweights 2 3\n".to_vec(),
+        b"\xef\xbb\xbfpin 0 0 \xff\n".to_vec(),
+        b"# by an old editor\rpin 0 0\rpin 4 0\r".to_vec(),
+        b"pin 0 0\npin 4\0 0\n".to_vec(),
+        long.into_bytes(),
+        damaged(0, 7),
+        damaged(4, 9),
+        damaged(8, 9),
+        [file.clone(), vec![0; 100]].concat(),
+    ];
+    kept.extend([
+        wide(u16::to_le_bytes, "\u{feff}"),
+        wide(u16::to_le_bytes, ""),
+    ]);
+    kept.extend([
+        wide(u16::to_be_bytes, "\u{feff}"),
+        wide(u16::to_be_bytes, ""),
+    ]);
+    kept.extend([4, 300, 512, 700, 1023].map(|length| file[..length].to_vec()));
+    let out = folder.join("out");
+    let words = ["draw", word(&a), "-o", word(&out)];
+    for before in &kept {
+        fs::write(&out, before).unwrap();
+        let wrong = said(&words, b"", 1);
+        let start = String::from_utf8_lossy(&before[..before.len().min(40)]);
+        assert!(wrong.contains("it is a net; --force"), "{start}: {wrong}");
+        assert!(fs::read(&out).unwrap() == *before, "{start}");
+    }
+    printed(&[&words[..], &["--force"]].concat(), b"");
+    // What the program itself makes, and what is empty or about something else, is no net.
+    for other in [&b""[..], b"pins and needles\n", b"# pin 0 0\n", &[0; 2000]] {
+        fs::write(&out, other).unwrap();
+        printed(&words, b"");
+    }
+    for made in [
+        &["draw", "--html"][..],
+        &["draw"],
+        &["route"],
+        &["route", "--json"],
+        &["export", "--gds"],
+        &["export", "--def"],
+    ] {
+        let net = example("eight-pins");
+        let words = [made, &[word(&net), "-o", word(&out)]].concat();
+        printed(&words, b"");
+    }
+}
+
+/// A file that may be written and not read was replaced.
+#[test]
+fn a_file_that_cannot_be_read_is_kept() {
+    let folder = std::env::temp_dir().join(format!("calzundi-unread-{}", std::process::id()));
+    fs::create_dir_all(&folder).unwrap();
+    let (program, net, file) = (
+        folder.join("calzundi"),
+        folder.join("net.txt"),
+        folder.join("other.txt"),
+    );
+    fs::copy(CALZUNDI, &program).unwrap();
+    fs::write(&net, TWO[0]).unwrap();
+    fs::write(&file, TWO[1]).unwrap();
+    for (path, mode) in [
+        (&folder, 0o777),
+        (&net, 0o644),
+        (&file, 0o222),
+        (&program, 0o755),
+    ] {
+        fs::set_permissions(path, fs::Permissions::from_mode(mode)).unwrap();
+    }
+    let words = ["draw", word(&net), "-o", word(&file)];
+    let output = as_nobody(&words, &program);
+    let own = fs::metadata("/proc/self").unwrap().uid() != 0;
+    if own {
+        fs::set_permissions(&file, fs::Permissions::from_mode(0o644)).unwrap();
+    }
+    let kept = fs::read(&file).unwrap();
+    fs::remove_dir_all(&folder).unwrap();
+    let wrong = String::from_utf8(output.stderr).unwrap();
+    assert_eq!(output.status.code(), Some(1), "{wrong}");
+    assert!(
+        wrong.contains("other.txt: it is there and cannot be read"),
+        "{wrong}"
+    );
+    assert_eq!(kept, TWO[1].as_bytes());
+}
+
+/// By the name of a descriptor the file behind it was replaced, and what it held was lost.
+#[test]
+fn a_descriptor_is_written_to() {
+    let (folder, [a, b, ..]) = nets("descriptors");
+    let log = folder.join("log");
+    let link = folder.join("link");
+    symlink("/dev/stdout", &link).unwrap();
+    let picture = String::from_utf8(run(&["draw", word(&a)], b"").stdout).unwrap();
+    for (line, name) in [
+        ("\"$0\" draw \"$1\" -o \"$3\" >> \"$2\"", "/dev/stdout"),
+        ("\"$0\" draw \"$1\" -o \"$3\" >> \"$2\"", word(&link)),
+        ("\"$0\" draw \"$1\" -o \"$3\" >> \"$2\"", "/dev/fd/1"),
+        ("\"$0\" draw \"$1\" -o \"$3\" >> \"$2\"", "/proc/self/fd/1"),
+        ("\"$0\" draw \"$1\" -o \"$3\" 2>> \"$2\"", "/dev/stderr"),
+        ("\"$0\" draw \"$1\" -o \"$3\" 7>> \"$2\"", "/dev/fd/7"),
+        (
+            "exec 8>> \"$2\"; \"$0\" draw \"$1\" -o \"/proc/$$/fd/8\"; exit $?",
+            "",
+        ),
+    ] {
+        // A log that looks like a net is no reason not to go on with it.
+        let before = "pin 0 0\nof the day before\n";
+        fs::write(&log, before).unwrap();
+        let number = fs::metadata(&log).unwrap().ino();
+        let (status, wrong) = shell(line, &[word(&a), word(&log), name]);
+        assert_eq!((status, wrong.as_str()), (Some(0), ""), "{line} {name}");
+        let after = fs::read_to_string(&log).unwrap();
+        assert!(after == format!("{before}{picture}"), "{line} {name}");
+        assert_eq!(fs::metadata(&log).unwrap().ino(), number, "{line} {name}");
+    }
+    // What is printed before and after stands before and after.
+    let line = "(echo one; \"$0\" draw \"$1\" -o /dev/stdout; echo two) > \"$2\"";
+    let (status, _) = shell(line, &[word(&a), word(&log)]);
+    assert_eq!(status, Some(0));
+    let after = fs::read_to_string(&log).unwrap();
+    assert!(after == format!("one\n{picture}two\n"));
+    // One that is not open is none.
+    let wrong = said(&["draw", word(&a), "-o", "/dev/fd/77"], b"", 1);
+    assert!(wrong.contains("/dev/fd/77: "), "{wrong}");
+    // What is read stays by this name too.
+    let line = "\"$0\" draw \"$1\" -o /dev/stdout >> \"$1\"";
+    let (status, wrong) = shell(line, &[word(&b)]);
+    assert_eq!(status, Some(2));
+    assert!(wrong.contains("it is not written over"), "{wrong}");
+    assert_eq!(fs::read_to_string(&b).unwrap(), TWO[1]);
 }

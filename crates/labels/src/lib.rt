@@ -53,7 +53,7 @@ fn higher(a: usize, b: usize) -> usize
     a
 }
 
-// Point b has its own label q, above p and above every label that another point has.
+// Point b has its own label q, above p and above `top`: no other point has it.
 fn is_lone(n: usize, p: usize, b: usize, q: usize, top: usize) -> bool
     ensures { λ r. ⌜ r ≡ (eqb q b && (ltb b n && (ltb p b && ltb top b))) ⌝ }
 {

@@ -1,15 +1,15 @@
 -- What is promised of the best tree of an allowed net, whichever is given.
 -- Assumes nothing.
-use mathlib.Core.Path.{_≡_, sym, ap, _∙_}
+use mathlib.Core.Path.{_≡_, _∙_}
 use mathlib.Core.List.{List}
 use Prim.Native.Nat.{ℕ, _+_, _*_, _≤_}
 use native.Mathlib.Nat.{mul-le-mul}
 use native.Mathlib.Omega.{arith}
 use borrow.Author.Tests.{le-ltb}
-use lib.IntN.{ℤ, pos, natAbs}
+use lib.IntN.{ℤ, pos}
 use lib.ListN.{length}
 use Rattle.lists.proofs.TestLaws.{or-neither}
-use Rattle.lent.specs.Told.{Told, refused, given}
+use Rattle.lent.specs.Told.{given}
 use Rattle.joined.specs.Cost.{lengths}
 use Rattle.plane.specs.Flat.{macrosOf}
 use Rattle.plane.proofs.FlatLaws.{length-macros}
@@ -44,7 +44,7 @@ use Rattle.answers.proofs.BestLaws.{best-enough, within-best}
 use Rattle.router.specs.Best.{PromisedBest}
 use Rattle.router.proofs.BestLaws.{no-dearer}
 use Rattle.router.proofs.SlidLaws.{slid-refined}
-use Rattle.promises.proofs.BoughtLaws.{promised-check}
+use Rattle.promises.proofs.BoughtLaws.{promised-check, passes-told}
 
 pub best-passes : (net : Net) (T : List Edge) → IsBest net T → Passes net T
 best-passes net T b = record {
@@ -55,21 +55,13 @@ best-passes net T b = record {
   pinned = λ v s. best-pinned net T b v (s .other) (s .link) (s .alone);
 }
 
--- the cost that a check of a tree tells
-costTold : Told (ℤ × ℤ) → ℕ
-costTold (refused n) = 0
-costTold (given a) = natAbs (a .0)
-
 module _ (w : Weighing) (pins macros : List ℤ) {v : Counts} (g : checked w pins macros ≡ given v) where
-  -- what the check passes is one tree of clear edges, and it tells what these cost
+  -- what the check passes is one tree of clear edges
   bought-not-cheaper : {T : List Edge} → IsBest (netOf w pins macros) T → (edges : List ℤ) (cost laid : ℕ) →
       checkedTree w pins macros edges ≡ given (pos cost, pos laid) → lengths (costIn (netOf w pins macros)) T ≤ cost
-  unfolding costTold
   bought-not-cheaper b edges cost laid e =
-      let p = promised-check w pins macros g .only edges e in
-      let told : cost ≡ lengths (costIn (netOf w pins macros)) (edgesOf edges) =
-      ap costTold (sym e ∙ promised-check w pins macros g .passes edges (p .0) (p .1)) in
-      omega (arith, told, one-tree-not-cheaper b (edgesOf edges) (p .1 .one) (λ x y m. p .1 .free (x, y) m))
+      let p = passes-told w pins macros g edges cost laid e in
+      omega (arith, p .1, one-tree-not-cheaper b (edgesOf edges) (p .0 .one) (λ x y m. p .0 .free (x, y) m))
 
   -- L11 to L18, from the check alone
   pub promised-best : PromisedBest w pins macros

@@ -1,18 +1,18 @@
 -- The check of a bought-in tree: what is promised of it, from the check of the net alone; and that the refined tree and the slid tree
 -- pass. Their edges are in order, so none stands twice; neither has a loose end; all their points are in range.
 -- Assumes nothing.
-use mathlib.Core.Path.{_≡_, refl, sym, _∙_}
+use mathlib.Core.Path.{_≡_, refl, sym, ap, _∙_}
 use mathlib.Core.List.{List, [], _∷_, Perm·refl}
-use Prim.Native.Nat.{_≤_}
+use Prim.Native.Nat.{ℕ, _≤_}
 use native.Mathlib.Omega.{arith}
-use lib.IntN.{ℤ, pos}
+use lib.IntN.{ℤ, pos, natAbs}
 use lib.ListN.{length}
 use Rattle.lists.specs.Any.{any}
 use Rattle.lists.specs.Member.{_∈_}
 use Rattle.lists.specs.Total.{total}
 use Rattle.lists.proofs.MemberLaws.{is-in}
 use Rattle.lists.proofs.TestLaws.{by, either}
-use Rattle.lent.specs.Told.{refused, given}
+use Rattle.lent.specs.Told.{Told, refused, given}
 use Rattle.lent.specs.Entries.{flat}
 use Rattle.lent.proofs.AfterLaws.{told-apart}
 use Rattle.joined.specs.Cost.{lengths}
@@ -22,7 +22,7 @@ use Rattle.joined.proofs.OtherLaws.{link-others}
 use Rattle.plane.specs.declared.Place.{Place}
 use Rattle.plane.specs.Flat.{macrosOf}
 use Rattle.plane.proofs.PlaceOrder.{place-same}
-use Rattle.net.specs.Net.{Net, netOf, weightsOf}
+use Rattle.net.specs.Net.{Net, netOf, weightsOf, costIn}
 use Rattle.net.specs.declared.Net.{Net as Counts}
 use Rattle.net.specs.declared.Weighing.{Weighing}
 use Rattle.net.specs.Pins.{pinCount, pinPlaces}
@@ -77,6 +77,11 @@ module _ {net : Net} {T : List Edge} (g : Given net T) where
     free = λ e m. g .free (e .0) (e .1) m;
     pinned = all-pinned;
   }
+
+-- the cost that a check of a tree tells
+costTold : Told (ℤ × ℤ) → ℕ
+costTold (refused n) = 0
+costTold (given a) = natAbs (a .0)
 
 -- One pin
 
@@ -166,3 +171,11 @@ module _ (w : Weighing) (pins macros : List ℤ) {v : Counts} (g : checked w pin
     refined = laid-passes;
     slid = slid-passes;
   }
+
+  -- a list that passes is one tree in words, and what is told is what it costs
+  pub passes-told : (edges : List ℤ) (cost laid : ℕ) → checkedTree w pins macros edges ≡ given (pos cost, pos laid) →
+      Passes net (edgesOf edges) × (cost ≡ lengths (costIn net) (edgesOf edges))
+  unfolding costTold
+  passes-told edges cost laid e =
+      let p = of-given edges e in
+      (p .1, ap costTold (sym e ∙ promised-check .passes edges (p .0) (p .1)))

@@ -69,6 +69,9 @@ use Rattle.grid.proofs.SquareLaws.{SameGround, squares-same}
 use Rattle.answers.specs.Distances.{aboveGrid, distancesGiven, gridDistances}
 use Rattle.best.specs.Tree.{BestTree}
 use Rattle.best.proofs.OrderLaws.{best-any-order}
+use Rattle.bound.specs.Bound.{Bound}
+use Rattle.bound.proofs.NetBound.{bound-any-order}
+use Rattle.answers.specs.Bound.{boundRoomShort, boundGiven, lowerBound}
 use Rattle.promises.specs.EveryOrder.{SameForBoth, ByPlaces}
 use Rattle.answers.proofs.AnswerLaws.{only-refused}
 use Rattle.promises.proofs.BestAlike.{same-code, same-work}
@@ -115,6 +118,17 @@ module _ (w : Weighing) (pins pins′ macros macros′ : List ℤ) (p : SamePlac
       ∥∥₁-elim (p .order) (ℕ-set _ _) λ d.
       ∥∥₁-elim (q .order) (ℕ-set _ _) λ e. best-any-order (alike d e) T U (t .best) (u .best)
 
+  -- The lower bound, whose refusals ask for room alone
+
+  same-bound : (left rows n : ℕ) → lowerBound w pins macros left rows n ≡ lowerBound w pins′ macros′ left rows n
+  unfolding lowerBound boundGiven
+  same-bound left rows n =
+      ap (λ (c : Told Counts). onlyIf c (cond (boundRoomShort left rows) (refused 21) (given n))) same-check
+
+  same-bound-number : (m n : ℕ) → Bound (netOf w pins macros) m → Bound (netOf w pins′ macros′) n → m ≡ n
+  same-bound-number m n b c =
+      ∥∥₁-elim (p .order) (ℕ-set _ _) λ d. ∥∥₁-elim (q .order) (ℕ-set _ _) λ e. bound-any-order (alike d e) b c
+
   -- Refused
 
   module _ (n : ℕ) (r : checked w pins macros ≡ refused n) where
@@ -150,6 +164,8 @@ module _ (w : Weighing) (pins pins′ macros macros′ : List ℤ) (p : SamePlac
       best = same-code w pins pins′ macros macros′ same-check same-pins same-macros;
       best-work = same-work w pins pins′ macros macros′ same-check same-pins same-macros;
       best-cost = same-best-cost;
+      bound = same-bound;
+      bound-number = same-bound-number;
     }
 
   -- Allowed
@@ -302,6 +318,8 @@ module _ (w : Weighing) (pins pins′ macros macros′ : List ℤ) (p : SamePlac
       best = same-code w pins pins′ macros macros′ same-check same-pins same-macros;
       best-work = same-work w pins pins′ macros macros′ same-check same-pins same-macros;
       best-cost = same-best-cost;
+      bound = same-bound;
+      bound-number = same-bound-number;
     }
 
   pub by-places : SameForBoth w pins pins′ macros macros′

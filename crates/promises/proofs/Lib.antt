@@ -1,6 +1,7 @@
 pub mod PriceLaws
 pub mod BoughtLaws
 pub mod BestPromise
+pub mod BoundPromise
 pub mod BestAlike
 pub mod EveryOrder
 pub mod DelayOrder

@@ -22,6 +22,7 @@ use Rattle.lines.specs.Edges.{Edge}
 use Rattle.parts.specs.Bounds.{workBound}
 use Rattle.best.specs.Tree.{BestTree}
 use Rattle.bought.specs.Rearranged.{SameEdges}
+use Rattle.bound.specs.Bound.{Bound}
 use Rattle.answers.specs.Graph.{netVertices, netEdges, graphed}
 use Rattle.answers.specs.Terminal.{pathsOf, terminalTree}
 use Rattle.answers.specs.Refined.{laidOf, refinedTree}
@@ -32,6 +33,7 @@ use Rattle.answers.specs.Distances.{gridDistances}
 use Rattle.answers.specs.Price.{netPrice}
 use Rattle.answers.specs.Bought.{checkedTree}
 use Rattle.answers.specs.Best.{bestTree}
+use Rattle.answers.specs.Bound.{lowerBound}
 
 pub record SameForBoth (w : Weighing) (pins pins′ macros macros′ : List ℤ) : Type 0 where
   pub check : checked w pins macros ≡ checked w pins′ macros′
@@ -68,6 +70,9 @@ pub record SameForBoth (w : Weighing) (pins pins′ macros macros′ : List ℤ)
       ≡ after (bestTree w pins′ macros′ work room U) (replicate workBound 0) lent
   pub best-cost : (T U : List Edge) → BestTree (netOf w pins macros) T → BestTree (netOf w pins′ macros′) U
       → lengths (costIn (netOf w pins macros)) T ≡ lengths (costIn (netOf w pins′ macros′)) U
+  -- U6: the lower bound is the same number, and so are its refusals
+  pub bound : (left rows n : ℕ) → lowerBound w pins macros left rows n ≡ lowerBound w pins′ macros′ left rows n
+  pub bound-number : (m n : ℕ) → Bound (netOf w pins macros) m → Bound (netOf w pins′ macros′) n → m ≡ n
 
 -- The theorems, of any two calls; ../proofs/EveryOrder.antt has the proof
 pub record ByPlaces : Type 0 where

@@ -226,11 +226,11 @@ pub fn best_tree(
     }
 }
 
-// Lower bound: a number that no metal that joins all pins costs less than, or 11 to 18, then 21 where fewer than 589,824 numbers are lent
-// for `left` or 147,456 for `rows`. It is the greatest of four sweeps over the pins, which the net's places settle alone: `Bound`
-// (bound/specs/Bound.antt). That no edges of the grid, no metal in unit steps anywhere and no tree of clear edges costs less:
-// `bound-holds`, `bound-metal` and `bound-tree` (bound/proofs/NetBound.antt). Of both lists the first so many numbers are then 0 and the
-// others as they were.
+// Lower bound: a number that no metal clear of the macros costs less than if it joins all pins, or 11 to 18, then 21 where fewer than
+// 589,824 numbers are lent for `left` or 147,456 for `rows`. It is the greatest of four sweeps over the pins, which places, macros and
+// weights settle: `Bound` (bound/specs/Bound.antt). That no edges of the grid, no metal in clear unit steps anywhere and no tree of clear
+// edges costs less: `bound-holds`, `bound-metal` and `bound-tree` (bound/proofs/NetBound.antt). Of both lists the first so many numbers are
+// then 0 and the others as they were.
 pub fn lower_bound(
     w: Weighing,
     pins: &[i32],

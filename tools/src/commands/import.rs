@@ -91,6 +91,7 @@ fn taken(file: &OsString, words: &Words) -> Result<String, Failure> {
     for note in &found.notes {
         say(&format!("calzundi import: {said}: {note}"));
     }
+    on_layers(&said, &found, words)?;
     match words.has("--tree") {
         true => tree(&said, &found, words.has("--split")),
         false => net(&said, found),
@@ -101,6 +102,10 @@ fn found(file: &OsString, words: &Words) -> Result<Found, Failure> {
     let said = name(Some(file));
     let bytes = read_most(Some(file), MOST_LAYOUT)?;
     if gds::is_gds(&bytes) {
+        if words.has("--net") {
+            let other = "--net is of DEF; of GDSII --cell names what is taken";
+            return Err(Failure::Usage(format!("{said} is GDSII, and {other}")));
+        }
         let asked = gds::Asked {
             layers: gds_layers(words)?,
             cell: words.value("--cell").map(str::to_string),
@@ -110,11 +115,41 @@ fn found(file: &OsString, words: &Words) -> Result<Found, Failure> {
     if bytes.contains(&0) || bytes.is_empty() {
         return Err(Failure::wrong(&said, "it is neither GDSII nor DEF"));
     }
+    if words.has("--cell") {
+        let other = "--cell is of GDSII; of DEF --net names what is taken";
+        return Err(Failure::Usage(format!("{said} is no GDSII, and {other}")));
+    }
     let asked = def::Asked {
         layers: def_layers(words)?,
         net: words.value("--net").map(str::to_string),
     };
     def::read(&bytes, &asked).map_err(|bad| Failure::wrong(&said, bad))
+}
+
+/// A layer that the command line names has something on it, if what is written depends on it: a wrong name would leave out all of a kind.
+fn on_layers(said: &str, found: &Found, words: &Words) -> Result<(), Failure> {
+    let is_tree = words.has("--tree");
+    let net = &found.net;
+    for (option, kind, is_asked, is_empty) in [
+        ("--macro-layer", "macro", !is_tree, net.macros.is_empty()),
+        (
+            "--pin-layer",
+            "pin",
+            !is_tree || words.has("--split"),
+            net.pins.is_empty(),
+        ),
+        ("--wire-layer", "wire", is_tree, found.edges.is_empty()),
+    ] {
+        if let Some(layer) = words.value(option).filter(|_| is_asked && is_empty) {
+            let (layer, title) = (plain(layer), plain(&found.title));
+            let mut wrong = format!("{title}: no {kind} is on {layer}, which {option} names");
+            if !found.layers.is_empty() {
+                wrong += &format!("; there are {}", found.layers.join(", "));
+            }
+            return Err(Failure::wrong(said, wrong));
+        }
+    }
+    Ok(())
 }
 
 /// The net as text, below a comment that says whose it is, where the router allows it.
@@ -144,6 +179,18 @@ fn net(said: &str, found: Found) -> Result<String, Failure> {
 /// The tree as text, an edge a line.
 fn tree(said: &str, found: &Found, is_split: bool) -> Result<String, Failure> {
     let pins: Vec<Place> = found.net.pins.iter().map(|pin| pin.place).collect();
+    // A tree without an edge is that of a single place.
+    let is_one = found.missing == 0
+        && pins
+            .first()
+            .is_some_and(|one| pins.iter().all(|pin| pin == one));
+    if found.edges.is_empty() && !is_one {
+        let none = format!(
+            "{}: there is no wire in it, and so no tree",
+            plain(&found.title)
+        );
+        return Err(Failure::wrong(said, none));
+    }
     let edges = match is_split {
         true => split(&found.edges, &pins).map_err(|wrong| Failure::wrong(said, wrong))?,
         false => found.edges.clone(),

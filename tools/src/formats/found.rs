@@ -22,6 +22,8 @@ pub struct Found {
     pub edges: Vec<Edge>,
     /// How many pins the net has that have no place in the file.
     pub missing: usize,
+    /// The layers that it has, or the first of them.
+    pub layers: Vec<String>,
     /// What was passed over, in words.
     pub notes: Vec<String>,
 }
@@ -91,6 +93,18 @@ pub fn spanned(one: Place, other: Place) -> Macro {
         one.x.max(other.x),
         one.y.max(other.y),
     )
+}
+
+/// So many layers are told of.
+const FEW: usize = 6;
+
+/// The first of some layers, and that there are others.
+pub fn first_layers(layers: impl Iterator<Item = String>) -> Vec<String> {
+    let mut first: Vec<String> = layers.take(FEW + 1).collect();
+    if let Some(last) = first.get_mut(FEW) {
+        *last = "others".into();
+    }
+    first
 }
 
 /// A count with its noun: `1 via`, `2 vias`.

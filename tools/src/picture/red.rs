@@ -14,6 +14,8 @@ pub struct Red {
     pub edges: BTreeSet<usize>,
     /// The refusal, then each reason.
     pub said: Vec<String>,
+    /// How many more reasons there are, of which the last line tells.
+    more: usize,
 }
 
 /// So many reasons stand on a sheet.
@@ -35,6 +37,7 @@ impl Red {
             macros: of(Kind::Macro),
             edges: of(Kind::Edge),
             said: said.collect(),
+            more: blame.more.saturating_sub(1),
         }
     }
 
@@ -42,7 +45,7 @@ impl Red {
     pub fn few(&self) -> Vec<String> {
         let mut few: Vec<String> = self.said.iter().take(FEW + 1).cloned().collect();
         if let Some(more) = self.said.len().checked_sub(FEW + 2) {
-            few.push(format!("and {} more", more + 1));
+            few.push(format!("and {} more", more + 1 + self.more));
         }
         few
     }

@@ -6,7 +6,7 @@ use calzundi::{Pin, Place};
 
 use super::words::{Word, Words};
 use super::{Asked, LOAD, WEIGHT_X, WEIGHT_Y};
-use crate::formats::found::{box_of, counted, spanned, Found};
+use crate::formats::found::{box_of, counted, first_layers, spanned, Found};
 use crate::line::{quoted, BadLine};
 use crate::text::Lines;
 
@@ -25,11 +25,13 @@ pub fn read(bytes: &[u8], asked: &Asked) -> Result<Found, BadLine> {
         lines: Lines::default(),
         design: "",
         pins: Vec::new(),
+        names: BTreeSet::new(),
         loads: BTreeMap::new(),
         net: None,
         other: None,
         passed: Passed::default(),
         layer: "",
+        layers: BTreeSet::new(),
     };
     reader.design()?;
     reader.found()
@@ -69,6 +71,8 @@ struct Reader<'a> {
     lines: Lines,
     design: &'a str,
     pins: Vec<Placed<'a>>,
+    /// The names of all pins, also of those on other layers.
+    names: BTreeSet<&'a str>,
     loads: BTreeMap<&'a str, i32>,
     net: Option<Net<'a>>,
     /// A net that is not taken though none was asked for.
@@ -76,6 +80,8 @@ struct Reader<'a> {
     passed: Passed,
     /// The layer of the wire before.
     layer: &'a str,
+    /// The layers that are named.
+    layers: BTreeSet<&'a str>,
 }
 
 /// So many pins of a net, or of a design's list, are kept: each costs a few words of the file.
@@ -186,7 +192,9 @@ impl<'a> Reader<'a> {
             match option.said {
                 "NET" => pin.net = self.words.word()?.said,
                 "LAYER" | "POLYGON" => {
-                    on_layer |= self.asked.layers.pins.as_deref() == Some(self.words.word()?.said);
+                    let layer = self.words.word()?.said;
+                    self.know(layer);
+                    on_layer |= self.asked.layers.pins.as_deref() == Some(layer);
                 }
                 "PLACED" | "FIXED" | "COVER" => {
                     let place = self.words.place()?;
@@ -201,7 +209,8 @@ impl<'a> Reader<'a> {
                 _ => {}
             }
         }
-        if self.pins.len() >= MOST_NAMES {
+        self.names.insert(word.said);
+        if self.pins.len() >= MOST_NAMES || self.names.len() > MOST_NAMES {
             return Err(word.wrong(format!("more than {MOST_NAMES} pins are not read")));
         }
         match on_layer {
@@ -235,6 +244,7 @@ impl<'a> Reader<'a> {
             return self.words.skip();
         }
         let layer = self.words.word()?.said;
+        self.know(layer);
         let wanted = self.asked.layers.macros.as_deref();
         if wanted.is_some_and(|wanted| wanted != layer) {
             self.passed.layers += 1;
@@ -341,6 +351,7 @@ impl<'a> Reader<'a> {
 
     /// The places of one wire. Given back is the word behind it: `NEW`, `+` or `;`.
     fn wire(&mut self, layer: &'a str) -> Result<Word<'a>, BadLine> {
+        self.know(layer);
         let wanted = self.asked.layers.wires.as_deref();
         let is_taken = wanted.is_none_or(|wanted| wanted == layer);
         self.passed.layers += usize::from(!is_taken);
@@ -379,6 +390,13 @@ impl<'a> Reader<'a> {
         }
     }
 
+    /// Keeps the name of a layer, to say which there are.
+    fn know(&mut self, layer: &'a str) {
+        if self.layers.len() < MOST_NAMES {
+            self.layers.insert(layer);
+        }
+    }
+
     /// `( x y x y )`, a patch of metal beside a wire.
     fn patch(&mut self) -> Result<(), BadLine> {
         self.words.expect("(")?;
@@ -408,6 +426,8 @@ impl<'a> Reader<'a> {
         }
         self.found.missing = self.missing(name);
         self.found.notes = self.passed.notes();
+        self.found.notes.extend(self.unknown());
+        self.found.layers = first_layers(self.layers.iter().map(|layer| quoted(layer)));
         let (net, design) = (quoted(name), quoted(self.design));
         self.found.title = format!("net {net} of design {design}{}", self.found.title);
         self.found.lines = Some(self.lines);
@@ -445,6 +465,22 @@ impl<'a> Reader<'a> {
             }
             None => Ok(name),
         }
+    }
+
+    /// A word on loads of pins that are not in the design.
+    fn unknown(&self) -> Option<String> {
+        let loads = self.loads.keys();
+        let unknown: Vec<&str> = loads
+            .filter(|pin| !self.names.contains(*pin))
+            .copied()
+            .collect();
+        let first = quoted(unknown.first()?);
+        Some(match unknown.len() {
+            1 => format!("passed over: the load of pin {first}, which is not in PINS"),
+            many => {
+                format!("passed over: the loads of {many} pins that are not in PINS, {first} first")
+            }
+        })
     }
 
     /// How many pins the net says it joins that have no place here.

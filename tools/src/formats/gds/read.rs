@@ -1,14 +1,15 @@
 //! A net and its wires out of a stream: boxes are macros, paths are wires, texts are pins, each on its layer.
 
-use std::collections::BTreeMap;
+use std::collections::{BTreeMap, BTreeSet};
 use std::fmt;
 
 use calzundi::{Pin, Place, Weights};
 
 use super::record::{from_real, kind, LOAD, WEIGHTS};
 use super::{Asked, Layer};
-use crate::formats::found::{box_of, counted, Found, MOST_SHAPES};
+use crate::formats::found::{box_of, counted, first_layers, Found, MOST_SHAPES};
 use crate::line::quoted;
+use crate::text::numbers;
 
 /// What is wrong with a stream, and at which byte of it.
 #[derive(Clone, Debug, PartialEq, Eq)]
@@ -127,10 +128,9 @@ struct Reader<'a> {
     taken: Option<Cell>,
     /// How many elements stand on layers that nobody asked for.
     others: BTreeMap<Layer, usize>,
+    /// The layers of elements that were taken.
+    used: BTreeSet<Layer>,
 }
-
-/// So many other layers are told of.
-const FEW: usize = 6;
 
 /// What KLayout keeps for itself.
 const NO_CELL: &str = "$$$CONTEXT_INFO$$$";
@@ -147,6 +147,7 @@ impl<'a> Reader<'a> {
             element: None,
             taken: None,
             others: BTreeMap::new(),
+            used: BTreeSet::new(),
         }
     }
 
@@ -197,6 +198,7 @@ impl<'a> Reader<'a> {
             let element = self.element.take().unwrap_or_default();
             return self.end_of(element);
         }
+        let is_wanted = self.is_wanted();
         let Some(element) = &mut self.element else {
             return Ok(());
         };
@@ -212,7 +214,9 @@ impl<'a> Reader<'a> {
             }
             kind::SNAME => element.of = record.letters(),
             kind::PROPATTR => element.property = record.short()?,
-            kind::PROPVALUE => element.know(&record.letters()),
+            kind::PROPVALUE if is_wanted && element.is_pin(self.asked.layers.pins) => {
+                element.know(&record.letters())?;
+            }
             kind::BGNSTR | kind::ENDSTR | kind::ENDLIB => {
                 return Err("an element is not ended".into());
             }
@@ -253,6 +257,7 @@ impl<'a> Reader<'a> {
             None => Err("more than 65536 layers".into()),
             Some(role) => {
                 self.own()?;
+                self.used.insert(layer);
                 self.fill(role, &element)
             }
         }
@@ -319,11 +324,7 @@ impl<'a> Reader<'a> {
     }
 
     fn found(mut self) -> Result<Found, String> {
-        let mut others: Vec<String> = self.others.keys().take(FEW).map(Layer::to_string).collect();
-        if self.others.len() > FEW {
-            others.push("others".into());
-        }
-        let others = others.join(", ");
+        let others = first_layers(self.others.keys().map(Layer::to_string)).join(", ");
         let Some(cell) = &self.taken else {
             let layers = &self.asked.layers;
             let (macros, wires, pins) = (layers.macros, layers.wires, layers.pins);
@@ -337,6 +338,8 @@ impl<'a> Reader<'a> {
             return Err(said);
         };
         self.found.title = format!("cell {}{}", quoted(&cell.name), self.units);
+        let layers: BTreeSet<Layer> = self.others.keys().chain(&self.used).copied().collect();
+        self.found.layers = first_layers(layers.iter().map(Layer::to_string));
         let passed: usize = self.others.values().sum();
         if passed > 0 {
             let shapes = counted(passed, "shape", "shapes");
@@ -361,17 +364,27 @@ fn is_element(record: u16) -> bool {
 }
 
 impl Element {
+    /// Whether it is a pin, as far as it has been read: its layer stands before its properties.
+    fn is_pin(&self, pins: Layer) -> bool {
+        self.kind == kind::TEXT
+            && self.layer == Some(pins.number)
+            && self.datatype == Some(pins.datatype)
+    }
+
     /// A property that our own files have; others say nothing to us.
-    fn know(&mut self, said: &str) {
-        let words: Vec<&str> = said.split(' ').collect();
+    fn know(&mut self, said: &str) -> Result<(), String> {
+        let words: Vec<&str> = said.split_whitespace().collect();
         match (self.property, &words[..]) {
-            (LOAD, ["load", load]) => self.load = load.parse().unwrap_or(0),
-            (WEIGHTS, ["weights", x, y]) => {
-                let both = (x.parse().ok()).zip(y.parse().ok());
-                self.weights = both.map(|(x, y)| Weights { x, y });
+            (LOAD, ["load", words @ ..]) => {
+                [self.load] = numbers("property of a load", ["the load"], words)?;
+            }
+            (WEIGHTS, ["weights", words @ ..]) => {
+                let [x, y] = numbers("property of weights", ["x", "y"], words)?;
+                self.weights = Some(Weights { x, y });
             }
             _ => {}
         }
+        Ok(())
     }
 }
 
