@@ -22,7 +22,7 @@ fn blocks(bytes: &[u8]) -> Vec<Vec<u32>> {
         .collect()
 }
 
-/// Whether bytes are a net file or what is left of one, cut or damaged: the head's kind still stands there, or that of a block at its place.
+/// Whether bytes are a net file or what is left of one, cut or damaged: the head's kind is still there, or that of a block at its place.
 pub fn is_left(bytes: &[u8]) -> bool {
     let is_block = |(number, words): (usize, &Vec<u32>)| {
         (PINS..=LOADED).contains(&words[0]) && words[1] as usize == number

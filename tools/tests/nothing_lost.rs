@@ -244,7 +244,7 @@ fn a_file_in_a_closed_folder_is_written_in_place() {
     assert!(wrong.contains("new.svg: Permission denied"), "{wrong}");
 }
 
-/// Programs in containers may have one number and share a folder: the new file of one was named by its number alone, and removed by the other.
+/// Programs in containers may have one number and share a folder: the new file of one, named by its number alone, was removed by the other.
 #[test]
 fn a_new_file_is_nobody_elses() {
     let (folder, [a, ..]) = nets("same-number");
