@@ -11,23 +11,23 @@ use Rattle.joined.specs.Cost.{lengths}
 use Rattle.net.specs.WorkedNets.{Lists}
 use Rattle.net.specs.declared.Net.{Net as Counts}
 use Rattle.net.specs.declared.Weighing.{Weighing}
-use Rattle.net.specs.Bounds.{pinBound, pointBound, edgeBound, treeBound}
+use Rattle.net.specs.Bounds.{pin_bound, point_bound, edge_bound, tree_bound}
 use Rattle.checks.specs.Check.{checked}
 use Rattle.checks.proofs.WorkedChecks.{answer}
-use Rattle.terminal.proofs.WorkedPaths.{treeIn}
+use Rattle.terminal.proofs.WorkedPaths.{tree_in}
 use Rattle.union.proofs.WorkedUnions.{union}
-use Rattle.beside.specs.Beside.{offer, isPoint, takeSeat, weighed, onWay, free}
-use Rattle.refiner.specs.Graft.{pairKey, notBelow, keyRank, leaf, grafted}
-use Rattle.forest.specs.Parents.{climb, wayAfter}
-use Rattle.refined.specs.Ground.{groundOf}
-use Rattle.refiner.proofs.WorkedTrees.{refinedOf as worked}
-use Rattle.tree.specs.Edges.{edgesFrom}
+use Rattle.beside.specs.Beside.{offer, is_point, take_seat, weighed, on_way, free}
+use Rattle.refiner.specs.Graft.{pair_key, not_below, key_rank, leaf, grafted}
+use Rattle.forest.specs.Parents.{climb, way_after}
+use Rattle.refined.specs.Ground.{ground_of}
+use Rattle.refiner.proofs.WorkedTrees.{refined_of as worked}
+use Rattle.tree.specs.Edges.{edges_from}
 use Rattle.refined.proofs.WorkedWires.{given as wired-given}
-use Rattle.answers.specs.Graph.{netVertices, netEdges, graphRoomShort, graphGiven, graphed}
-use Rattle.answers.specs.Room.{ifRoom}
-use Rattle.answers.specs.Terminal.{pathsOf, pathsTotal, terminalGiven, terminalTree}
-use Rattle.answers.specs.Refined.{refinedOf, edgesIn, totalIn, laid_of, refinedGiven, refinedTree}
-use Rattle.answers.specs.Wires.{wiresOf, wiresGiven, wired}
+use Rattle.answers.specs.Graph.{net_vertices, net_edges, graph_room_short, graph_given, graphed}
+use Rattle.answers.specs.Room.{if_room}
+use Rattle.answers.specs.Terminal.{paths_of, paths_total, terminal_given, terminal_tree}
+use Rattle.answers.specs.Refined.{refined_of, edges_in, total_in, laid_of, refined_given, refined_tree}
+use Rattle.answers.specs.Wires.{wires_of, wires_given, wired}
 
 -- what the operations answer when the space of the largest net is lent
 pub record Answers : Type 0 where
@@ -38,16 +38,16 @@ pub record Answers : Type 0 where
   pub wires : Told ℕ
 
 -- to unfold this is to unfold all that it rests on
-unfoldable pub answersBy : Weighing → Lists → Answers
-unfolding groundOf offer isPoint takeSeat weighed onWay free pairKey notBelow keyRank leaf grafted climb wayAfter answer treeIn union worked
-    wired-given only_if distance lengths edgesFrom netVertices netEdges graphRoomShort graphGiven graphed ifRoom
-    pathsOf pathsTotal terminalGiven terminalTree refinedOf edgesIn totalIn refinedGiven refinedTree wiresGiven wired
-answersBy w net = record {
+unfoldable pub answers_by : Weighing → Lists → Answers
+unfolding ground_of offer is_point take_seat weighed on_way free pair_key not_below key_rank leaf grafted climb way_after answer tree_in union worked
+    wired-given only_if distance lengths edges_from net_vertices net_edges graph_room_short graph_given graphed if_room
+    paths_of paths_total terminal_given terminal_tree refined_of edges_in total_in refined_given refined_tree wires_given wired
+answers_by w net = record {
   check = checked w net.pins net.macros;
-  graph = graphed w net.pins net.macros (pointBound * 2) (edgeBound * 4);
-  terminal = terminalTree w net.pins net.macros (pinBound * 5);
-  refined = refinedTree w net.pins net.macros (treeBound * 4);
-  wires = wired w net.pins net.macros (treeBound * 8);
+  graph = graphed w net.pins net.macros (point_bound * 2) (edge_bound * 4);
+  terminal = terminal_tree w net.pins net.macros (pin_bound * 5);
+  refined = refined_tree w net.pins net.macros (tree_bound * 4);
+  wires = wired w net.pins net.macros (tree_bound * 8);
 }
 
 -- what a tree's operations give
@@ -56,10 +56,10 @@ pub record Trees : Type 0 where
   pub edges : List (Place × Place)
   pub wires : List (Place × Place)
 
-unfoldable pub treesBy : Weighing → Lists → Trees
-unfolding answersBy
-treesBy w net = record {
-  paths = pathsOf w net.pins net.macros;
+unfoldable pub trees_by : Weighing → Lists → Trees
+unfolding answers_by
+trees_by w net = record {
+  paths = paths_of w net.pins net.macros;
   edges = laid_of w net.pins net.macros;
-  wires = wiresOf w net.pins net.macros;
+  wires = wires_of w net.pins net.macros;
 }

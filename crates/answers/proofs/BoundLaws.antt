@@ -10,20 +10,20 @@ use lib.IntN.{ℤ}
 use Rattle.lists.proofs.TestLaws.{or-none}
 use Rattle.lent.specs.Told.{given, refused}
 use Rattle.net.specs.declared.Weighing.{Weighing}
-use Rattle.sweeps.specs.Tables.{wideCrossings, arcBound}
-use Rattle.answers.specs.Bound.{boundRoomShort, boundGiven}
+use Rattle.sweeps.specs.Tables.{wide_crossings, arc_bound}
+use Rattle.answers.specs.Bound.{bound_room_short, bound_given}
 
 module _ (w : Weighing) (pins macros : List ℤ) (left rows n : ℕ) where
-  pub bound-short : (ltb left arcBound || ltb rows wideCrossings) ≡ true → boundGiven w pins macros left rows n ≡ refused 21
-  unfolding boundGiven boundRoomShort
+  pub bound-short : (ltb left arc_bound || ltb rows wide_crossings) ≡ true → bound_given w pins macros left rows n ≡ refused 21
+  unfolding bound_given bound_room_short
   bound-short k = rw k refl
 
-  pub bound-enough : (ltb left arcBound || ltb rows wideCrossings) ≡ false → boundGiven w pins macros left rows n ≡ given n
-  unfolding boundGiven boundRoomShort
+  pub bound-enough : (ltb left arc_bound || ltb rows wide_crossings) ≡ false → bound_given w pins macros left rows n ≡ given n
+  unfolding bound_given bound_room_short
   bound-enough k = rw k refl
 
 -- the room that is there
-pub bound-room : (left rows : ℕ) → (ltb left arcBound || ltb rows wideCrossings) ≡ false → (arcBound ≤ left) × (wideCrossings ≤ rows)
+pub bound-room : (left rows : ℕ) → (ltb left arc_bound || ltb rows wide_crossings) ≡ false → (arc_bound ≤ left) × (wide_crossings ≤ rows)
 bound-room left rows e =
-    let r = or-none (ltb left arcBound) (ltb rows wideCrossings) e in
-    (ltb-false left arcBound r.0, ltb-false rows wideCrossings r.1)
+    let r = or-none (ltb left arc_bound) (ltb rows wide_crossings) e in
+    (ltb-false left arc_bound r.0, ltb-false rows wide_crossings r.1)

@@ -10,31 +10,31 @@ use lib.IntN.{ℤ}
 use Rattle.lists.proofs.TestLaws.{or-neither}
 use Rattle.lent.specs.Told.{given, refused}
 use Rattle.net.specs.declared.Weighing.{Weighing}
-use Rattle.net.specs.Pins.{pinCount, macroCount}
-use Rattle.lines.specs.Bounds.{gridPins, gridMacros}
-use Rattle.answers.specs.Distances.{aboveGrid, distancesGiven}
+use Rattle.net.specs.Pins.{pin_count, macro_count}
+use Rattle.lines.specs.Bounds.{grid_pins, grid_macros}
+use Rattle.answers.specs.Distances.{above_grid, distances_given}
 use Rattle.answers.proofs.AnswerLaws.{room-short, room-enough}
 
 module _ (w : Weighing) (pins macros : List ℤ) (room : ℕ) where
-  pub grid-above : aboveGrid pins macros ≡ true → distancesGiven w pins macros room ≡ refused 36
-  unfolding distancesGiven
+  pub grid-above : above_grid pins macros ≡ true → distances_given w pins macros room ≡ refused 36
+  unfolding distances_given
   grid-above h = rw h refl
 
-  module _ (h : aboveGrid pins macros ≡ false) where
-    pub grid-short : room < pinCount pins * pinCount pins → distancesGiven w pins macros room ≡ refused 21
-    unfolding distancesGiven
-    grid-short k = rw h (room-short (pinCount pins * pinCount pins) room (pinCount pins * pinCount pins) k)
+  module _ (h : above_grid pins macros ≡ false) where
+    pub grid-short : room < pin_count pins * pin_count pins → distances_given w pins macros room ≡ refused 21
+    unfolding distances_given
+    grid-short k = rw h (room-short (pin_count pins * pin_count pins) room (pin_count pins * pin_count pins) k)
 
-    pub grid-enough : pinCount pins * pinCount pins ≤ room → distancesGiven w pins macros room ≡ given (pinCount pins * pinCount pins)
-    unfolding distancesGiven
-    grid-enough k = rw h (room-enough (pinCount pins * pinCount pins) room (pinCount pins * pinCount pins) k)
+    pub grid-enough : pin_count pins * pin_count pins ≤ room → distances_given w pins macros room ≡ given (pin_count pins * pin_count pins)
+    unfolding distances_given
+    grid-enough k = rw h (room-enough (pin_count pins * pin_count pins) room (pin_count pins * pin_count pins) k)
 
-pub within-grid : (pins macros : List ℤ) → pinCount pins ≤ gridPins → macroCount macros ≤ gridMacros → aboveGrid pins macros ≡ false
-unfolding aboveGrid
-within-grid pins macros h k = or-neither _ _ (le-ltb gridPins (pinCount pins) h) (le-ltb gridMacros (macroCount macros) k)
+pub within-grid : (pins macros : List ℤ) → pin_count pins ≤ grid_pins → macro_count macros ≤ grid_macros → above_grid pins macros ≡ false
+unfolding above_grid
+within-grid pins macros h k = or-neither _ _ (le-ltb grid_pins (pin_count pins) h) (le-ltb grid_macros (macro_count macros) k)
 
 -- the test of the code, by what the check has counted
-pub above_of : (pins macros : List ℤ) (m k : ℕ) → m ≡ pinCount pins → k ≡ macroCount macros →
-    (ltb gridPins m || ltb gridMacros k) ≡ aboveGrid pins macros
-unfolding aboveGrid
-above_of pins macros m k e f = ap₂ (λ (a b : ℕ). ltb gridPins a || ltb gridMacros b) e f
+pub above_of : (pins macros : List ℤ) (m k : ℕ) → m ≡ pin_count pins → k ≡ macro_count macros →
+    (ltb grid_pins m || ltb grid_macros k) ≡ above_grid pins macros
+unfolding above_grid
+above_of pins macros m k e f = ap₂ (λ (a b : ℕ). ltb grid_pins a || ltb grid_macros b) e f

@@ -2,33 +2,33 @@
 use Rattle.std.specs.Prelude.{Bool, cond, ◌||◌, List, ℕ, ◌+◌, ◌*◌, ltb, ℤ, length}
 use Rattle.lent.specs.Told.{Told, refused, given, only_if}
 use Rattle.plane.specs.declared.Place.{Place}
-use Rattle.net.specs.Pins.{pinCount, macroCount}
+use Rattle.net.specs.Pins.{pin_count, macro_count}
 use Rattle.net.specs.declared.Weighing.{Weighing}
-use Rattle.net.specs.Net.{netOf}
+use Rattle.net.specs.Net.{net_of}
 use Rattle.checks.specs.Check.{checked}
-use Rattle.room.specs.Needs.{vertexNeed, linkNeed}
-use Rattle.graph.specs.Spanning.{verticesOf, spanning}
+use Rattle.room.specs.Needs.{vertex_need, link_need}
+use Rattle.graph.specs.Spanning.{vertices_of, spanning}
 
-unfoldable pub netVertices : Weighing → List ℤ → List ℤ → List Place
-netVertices w pins macros = verticesOf (netOf w pins macros)
+unfoldable pub net_vertices : Weighing → List ℤ → List ℤ → List Place
+net_vertices w pins macros = vertices_of (net_of w pins macros)
 
-unfoldable pub netEdges : Weighing → List ℤ → List ℤ → List (Place × Place)
-netEdges w pins macros = spanning (netOf w pins macros)
+unfoldable pub net_edges : Weighing → List ℤ → List ℤ → List (Place × Place)
+net_edges w pins macros = spanning (net_of w pins macros)
 
 -- N7: n = m + 4k
-abbrev pub pointCount : List ℤ → List ℤ → ℕ
-pointCount pins macros = pinCount pins + macroCount macros * 4
+abbrev pub point_count : List ℤ → List ℤ → ℕ
+point_count pins macros = pin_count pins + macro_count macros * 4
 
 -- C61: fewer than 2n numbers for vertices or 16n for edges
-unfoldable pub graphRoomShort : ℕ → ℕ → ℕ → Bool
-graphRoomShort n vertexRoom edgeRoom = ltb vertexRoom (vertexNeed n) || ltb edgeRoom (linkNeed n)
+unfoldable pub graph_room_short : ℕ → ℕ → ℕ → Bool
+graph_room_short n vertex_room edge_room = ltb vertex_room (vertex_need n) || ltb edge_room (link_need n)
 
 -- C62, C52: how many vertices and how many edges are given
-unfoldable pub graphGiven : Weighing → List ℤ → List ℤ → ℕ → ℕ → Told (ℕ × ℕ)
-graphGiven w pins macros vertexRoom edgeRoom =
-    cond (graphRoomShort (pointCount pins macros) vertexRoom edgeRoom) (refused 21)
-    (given (length (netVertices w pins macros), length (netEdges w pins macros)))
+unfoldable pub graph_given : Weighing → List ℤ → List ℤ → ℕ → ℕ → Told (ℕ × ℕ)
+graph_given w pins macros vertex_room edge_room =
+    cond (graph_room_short (point_count pins macros) vertex_room edge_room) (refused 21)
+    (given (length (net_vertices w pins macros), length (net_edges w pins macros)))
 
 -- C61: 11 to 18, then 21
 unfoldable pub graphed : Weighing → List ℤ → List ℤ → ℕ → ℕ → Told (ℕ × ℕ)
-graphed w pins macros vertexRoom edgeRoom = only_if (checked w pins macros) (graphGiven w pins macros vertexRoom edgeRoom)
+graphed w pins macros vertex_room edge_room = only_if (checked w pins macros) (graph_given w pins macros vertex_room edge_room)

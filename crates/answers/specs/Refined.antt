@@ -2,56 +2,56 @@
 use Rattle.std.specs.Prelude.{List, ℕ, ℤ, pos, length}
 use Rattle.lent.specs.Told.{Told, only_if}
 use Rattle.plane.specs.declared.Place.{Place}
-use Rattle.net.specs.Pins.{pinCount}
+use Rattle.net.specs.Pins.{pin_count}
 use Rattle.net.specs.declared.Weighing.{Weighing}
-use Rattle.net.specs.Net.{Net, netOf, costIn}
+use Rattle.net.specs.Net.{Net, net_of, cost_in}
 use Rattle.checks.specs.Check.{checked}
-use Rattle.room.specs.Needs.{edgeNeed}
+use Rattle.room.specs.Needs.{edge_need}
 use Rattle.joined.specs.Cost.{lengths}
 use Rattle.tree.specs.Table as table
 use Rattle.refiner.specs.Refined.{refined}
-use Rattle.union.specs.Union.{unionOf}
-use Rattle.tree.specs.Edges.{treeEdges}
-use Rattle.refined.specs.Ground.{groundOf}
+use Rattle.union.specs.Union.{union_of}
+use Rattle.tree.specs.Edges.{tree_edges}
+use Rattle.refined.specs.Ground.{ground_of}
 use Rattle.refined.specs.Metal.{metal}
-use Rattle.answers.specs.Room.{ifRoom}
-use Rattle.answers.specs.Graph.{pointCount}
+use Rattle.answers.specs.Room.{if_room}
+use Rattle.answers.specs.Graph.{point_count}
 
 -- The tree of a net
 
 -- R1: from the union of the kept paths, by rounds on the spanning graph, then pruning
-unfoldable pub refinedOf : Net → table.Tree
-refinedOf net = refined net (groundOf net) (unionOf net)
+unfoldable pub refined_of : Net → table.Tree
+refined_of net = refined net (ground_of net) (union_of net)
 
 -- its edges, in order
-unfoldable pub edgesIn : Net → List (Place × Place)
-edgesIn net = treeEdges (refinedOf net)
+unfoldable pub edges_in : Net → List (Place × Place)
+edges_in net = tree_edges (refined_of net)
 
 -- C66: the total, the costs of the edges added up
-unfoldable pub totalIn : Net → ℕ
-totalIn net = lengths (costIn net) (edgesIn net)
+unfoldable pub total_in : Net → ℕ
+total_in net = lengths (cost_in net) (edges_in net)
 
 -- The operations
 
 -- C66: the edges in order, and their total
 abbrev pub laid_of : Weighing → List ℤ → List ℤ → List (Place × Place)
-laid_of w pins macros = edgesIn (netOf w pins macros)
+laid_of w pins macros = edges_in (net_of w pins macros)
 
-abbrev pub laidTotal : Weighing → List ℤ → List ℤ → ℕ
-laidTotal w pins macros = totalIn (netOf w pins macros)
+abbrev pub laid_total : Weighing → List ℤ → List ℤ → ℕ
+laid_total w pins macros = total_in (net_of w pins macros)
 
 -- R22: the metal to lay, which is neither the terminal tree's total nor any other cost
-abbrev pub metalOf : Weighing → List ℤ → List ℤ → ℕ
-metalOf w pins macros = metal (laid_of w pins macros)
+abbrev pub metal_of : Weighing → List ℤ → List ℤ → ℕ
+metal_of w pins macros = metal (laid_of w pins macros)
 
 -- C52, C66: how many edges are given, their total, and their metal
-abbrev pub laidAnswer : Weighing → List ℤ → List ℤ → ℕ × (ℤ × ℤ)
-laidAnswer w pins macros = (length (laid_of w pins macros), (pos (laidTotal w pins macros), pos (metalOf w pins macros)))
+abbrev pub laid_answer : Weighing → List ℤ → List ℤ → ℕ × (ℤ × ℤ)
+laid_answer w pins macros = (length (laid_of w pins macros), (pos (laid_total w pins macros), pos (metal_of w pins macros)))
 
 -- C65: fewer than 4(n + m) numbers
-unfoldable pub refinedGiven : Weighing → List ℤ → List ℤ → ℕ → Told (ℕ × (ℤ × ℤ))
-refinedGiven w pins macros room = ifRoom (edgeNeed (pointCount pins macros) (pinCount pins)) room (laidAnswer w pins macros)
+unfoldable pub refined_given : Weighing → List ℤ → List ℤ → ℕ → Told (ℕ × (ℤ × ℤ))
+refined_given w pins macros room = if_room (edge_need (point_count pins macros) (pin_count pins)) room (laid_answer w pins macros)
 
 -- C65: 11 to 18, then 21
-unfoldable pub refinedTree : Weighing → List ℤ → List ℤ → ℕ → Told (ℕ × (ℤ × ℤ))
-refinedTree w pins macros room = only_if (checked w pins macros) (refinedGiven w pins macros room)
+unfoldable pub refined_tree : Weighing → List ℤ → List ℤ → ℕ → Told (ℕ × (ℤ × ℤ))
+refined_tree w pins macros room = only_if (checked w pins macros) (refined_given w pins macros room)

@@ -3,5 +3,5 @@ use Rattle.std.specs.Prelude.{cond, ℕ, ltb}
 use Rattle.lent.specs.Told.{Told, refused, given}
 
 -- C21: fewer numbers lent than are needed; otherwise what is given
-unfoldable pub ifRoom : {A : Type 0} → ℕ → ℕ → A → Told A
-ifRoom need room a = cond (ltb room need) (refused 21) (given a)
+unfoldable pub if_room : {A : Type 0} → ℕ → ℕ → A → Told A
+if_room need room a = cond (ltb room need) (refused 21) (given a)

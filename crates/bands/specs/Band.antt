@@ -8,13 +8,13 @@ abbrev pub band : ℕ → ℕ → Band
 band l r = record { limit = l; rate = r }
 
 -- the bands that a flat list holds; a number left over at its end is no band
-unfoldable pub bandsOf : List ℕ → List Band
+unfoldable pub bands_of : List ℕ → List Band
 unfolding twos
-bandsOf s = twos band s
+bands_of s = twos band s
 
 -- the band that begins at the number k of a flat list, and the i-th band
-abbrev pub bandFrom : List ℕ → ℕ → Band
-bandFrom s k = band (get_or s k 0) (get_or s (k + 1) 0)
+abbrev pub band_from : List ℕ → ℕ → Band
+band_from s k = band (get_or s k 0) (get_or s (k + 1) 0)
 
-abbrev pub bandAt : List ℕ → ℕ → Band
-bandAt s i = bandFrom s (i * 2)
+abbrev pub band_at : List ℕ → ℕ → Band
+band_at s i = band_from s (i * 2)

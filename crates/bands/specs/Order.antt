@@ -19,15 +19,15 @@ pub record WellKept (bs : List Band) : Type 0 where
   pub never-falling : NeverFalling bs
 
 -- the band c, next after b, breaks it: its limit is not above b's, or its rate is below
-unfoldable pub stepsBack : Band → Band → Bool
-stepsBack b c = not (ltb b.limit c.limit) || ltb c.rate b.rate
+unfoldable pub steps_back : Band → Band → Bool
+steps_back b c = not (ltb b.limit c.limit) || ltb c.rate b.rate
 
 -- some band breaks it with the one before it, b standing before the first
-unfoldable pub fallsAfter : Band → List Band → Bool
-fallsAfter b [] = false
-fallsAfter b (c ∷ cs) = stepsBack b c || fallsAfter c cs
+unfoldable pub falls_after : Band → List Band → Bool
+falls_after b [] = false
+falls_after b (c ∷ cs) = steps_back b c || falls_after c cs
 
 -- C37: the test. It is false exactly where the list is `WellKept` (proofs/OrderLaws.antt)
-unfoldable pub fallsBack : List Band → Bool
-fallsBack [] = false
-fallsBack (b ∷ bs) = fallsAfter b bs
+unfoldable pub falls_back : List Band → Bool
+falls_back [] = false
+falls_back (b ∷ bs) = falls_after b bs

@@ -3,13 +3,13 @@ use Rattle.std.specs.Prelude.{Bool, not, ◌||◌, List, ℕ, ◌/◌, ◌%◌, 
 use Rattle.bands.specs.declared.Band.{Band}
 
 -- C31: the highest rate
-abbrev pub rateBound : ℕ
-rateBound = 1000000
+abbrev pub rate_bound : ℕ
+rate_bound = 1000000
 
 -- C31: not whole pairs, or no band
-unfoldable pub bandsMiscounted : List ℕ → Bool
-bandsMiscounted s = not (eqb (length s % 2) 0) || eqb (length s / 2) 0
+unfoldable pub bands_miscounted : List ℕ → Bool
+bands_miscounted s = not (eqb (length s % 2) 0) || eqb (length s / 2) 0
 
 -- C31, for one band: its rate is above the highest
-unfoldable pub rateAbove : Band → Bool
-rateAbove b = ltb rateBound b.rate
+unfoldable pub rate_above : Band → Bool
+rate_above b = ltb rate_bound b.rate

@@ -5,9 +5,9 @@
 // 64 bits.
 ghost use Rattle.std.specs.Prelude.{◌≡◌, ◌+◌, ◌*◌, ◌≤◌, length};
 ghost use Rattle.lists.specs.Any.{any};
-ghost use Rattle.bands.specs.Band.{bandsOf, bandAt};
-ghost use Rattle.bands.specs.Tests.{bandsMiscounted, rateAbove};
-ghost use Rattle.bands.specs.Order.{stepsBack, fallsBack};
+ghost use Rattle.bands.specs.Band.{bands_of, band_at};
+ghost use Rattle.bands.specs.Tests.{bands_miscounted, rate_above};
+ghost use Rattle.bands.specs.Order.{steps_back, falls_back};
 
 // The highest rate.
 const RATE: u64 = 1000000;
@@ -21,7 +21,7 @@ pub struct Band {
 
 // Whether the list is not of whole pairs, or has no band.
 pub fn bands_miscounted(bands: &[u64]) -> bool
-    ensures { result ≡ bandsMiscounted bands.now }
+    ensures { result ≡ bands_miscounted bands.now }
 {
     (bands.len() % 2 != 0) | (bands.len() / 2 == 0)
 }
@@ -29,7 +29,7 @@ pub fn bands_miscounted(bands: &[u64]) -> bool
 // The i-th band of a flat list.
 pub fn band_at(bands: &[u64], i: usize) -> Band
     requires { i * 2 + 2 ≤ length bands.now }
-    ensures { result ≡ bandAt bands.now i }
+    ensures { result ≡ band_at bands.now i }
 {
     let k = i * 2;
     Band {
@@ -39,14 +39,14 @@ pub fn band_at(bands: &[u64], i: usize) -> Band
 }
 
 fn is_rate_above(band: Band) -> bool
-    ensures { result ≡ rateAbove band }
+    ensures { result ≡ rate_above band }
 {
     RATE < band.rate
 }
 
 // Whether a rate is above the highest one, in any band, used or not.
 pub fn any_rate_above(bands: &[u64]) -> bool
-    ensures { result ≡ any rateAbove (bandsOf bands.now) }
+    ensures { result ≡ any rate_above (bands_of bands.now) }
 {
     let k = bands.len() / 2;
     let mut i = 0;
@@ -61,14 +61,14 @@ pub fn any_rate_above(bands: &[u64]) -> bool
 
 // Whether a band falls back from the one before it: its limit is not above, or its rate is below.
 fn is_step_back(before: Band, band: Band) -> bool
-    ensures { result ≡ stepsBack before band }
+    ensures { result ≡ steps_back before band }
 {
     !(before.limit < band.limit) | (band.rate < before.rate)
 }
 
 // Whether the list falls back at any band, used or not.
 pub fn any_step_back(bands: &[u64]) -> bool
-    ensures { result ≡ fallsBack (bandsOf bands.now) }
+    ensures { result ≡ falls_back (bands_of bands.now) }
 {
     let k = bands.len() / 2;
     let mut i = 0;

@@ -17,13 +17,13 @@ use Rattle.lists.proofs.SortedLaws.{in-sorted}
 use Rattle.plane.specs.declared.Place.{Place}
 use Rattle.plane.specs.declared.Macro.{Macro}
 use Rattle.plane.specs.Place.{before}
-use Rattle.plane.specs.Flat.{placeAt, macrosOf}
+use Rattle.plane.specs.Flat.{place_at, macros_of}
 use Rattle.plane.proofs.Fits.{PlaceFits, MacroFits}
 use Rattle.plane.proofs.PlaceLaws.{before-irrefl}
 use Rattle.plane.proofs.PlaceOrder.{place-order}
 use Rattle.net.specs.Net.{Net}
-use Rattle.net.specs.Bounds.{pinBound}
-use Rattle.net.specs.Pins.{pinAt}
+use Rattle.net.specs.Bounds.{pin_bound}
+use Rattle.net.specs.Pins.{pin_at}
 use Rattle.tree.specs.Table.{tree}
 use Rattle.joined.specs.Joined.{Link}
 use Rattle.joined.proofs.JoinedLaws.{back, has-link}
@@ -31,23 +31,23 @@ use Rattle.slide.specs.declared.Side.{Side}
 use Rattle.slide.specs.declared.Side.TheVariants.{Above, Below, Right, Left}
 use Rattle.slide.specs.Side.{horizontal}
 use Rattle.slide.specs.Bend.{Edge}
-use Rattle.slide.specs.Bar.{level, onBar}
-use Rattle.slide.specs.Slide.{ends, treePoints, better, move_of, choice}
+use Rattle.slide.specs.Bar.{level, on_bar}
+use Rattle.slide.specs.Slide.{ends, tree_points, better, move_of, choice}
 use Rattle.slide.specs.Promise.{Smaller}
 use Rattle.slide.proofs.OneMove.{one-move}
-use Rattle.straight.specs.Table.{run, firstEnd, secondEnd, edge_at, edgesIn, pointsIn, Held}
+use Rattle.straight.specs.Table.{run, first_end, second_end, edge_at, edges_in, points_in, Held}
 use Rattle.straight.proofs.RunLaws.{run_length, in-run, of-run}
 use Rattle.bars.specs.declared.Best.{Best}
 use Rattle.reach.specs.declared.Size.{Size}
 use Rattle.turned.specs.Steps.{up_to}
-use Rattle.turned.specs.Turned.{View, view, onIt, levelAt}
-use Rattle.labels.specs.Labelling.{leads, labelled, labelsFor}
+use Rattle.turned.specs.Turned.{View, view, on_it, level_at}
+use Rattle.labels.specs.Labelling.{leads, labelled, labels_for}
 use Rattle.hanging.specs.Hanging.{hang}
-use Rattle.moves.specs.Moving.{held, bar, opposite, seatOf}
-use Rattle.bars.specs.Offers.{best, moveBy, reachOf, taken, offered, offeredBoth, noMove, searched}
-use Rattle.moves.specs.Moving.{seatsOf}
+use Rattle.moves.specs.Moving.{held, bar, opposite, seat_of}
+use Rattle.bars.specs.Offers.{best, move_by, reach_of, taken, offered, offered_both, no_move, searched}
+use Rattle.moves.specs.Moving.{seats_of}
 use Rattle.reach.proofs.CodeLaws.{reach-less}
-use Rattle.labels.proofs.LabelLaws.{levelPairs, Labelled, labelled-is, set_below}
+use Rattle.labels.proofs.LabelLaws.{level_pairs, Labelled, labelled-is, set_below}
 use Rattle.bars.proofs.OnLaws.{seat-is, of-pairs, level-at, on-is, sees, level-opposite, on-opposite}
 use Rattle.reach.proofs.ExemptLaws.{any-run}
 use Rattle.bars.proofs.AgreeLaws.{Agrees}
@@ -58,56 +58,56 @@ use Rattle.bars.proofs.SearchLaws.{Again, Direction, searched-agrees}
 -- the tables of a straight tree of the net: its points are the tree points, its numbers fit, and the flat lists are the net's
 pub record Tables (net : Net) (pts : List ℤ) (ks : List ℕ) (z : Size) (pins ms : List ℤ) : Type 0 where
   pub held : Held (tree pts z.points ks z.edges)
-  pub points : treePoints net (edgesIn pts ks z.edges) ≡ pointsIn pts z.points
-  pub fits : (i : ℕ) → i < z.points → PlaceFits (placeAt pts i)
-  pub pins-are : net.pins ≡ run (pinAt pins) 0 z.pins
-  pub few-pins : z.pins ≤ pinBound
-  pub macros-are : net.macros ≡ macrosOf ms
+  pub points : tree_points net (edges_in pts ks z.edges) ≡ points_in pts z.points
+  pub fits : (i : ℕ) → i < z.points → PlaceFits (place_at pts i)
+  pub pins-are : net.pins ≡ run (pin_at pins) 0 z.pins
+  pub few-pins : z.pins ≤ pin_bound
+  pub macros-are : net.macros ≡ macros_of ms
   pub macro-fits : (m : Macro) → m ∈ net.macros → MacroFits m
   pub weights-are : z.weights ≡ net.weights
-  pub smaller : Smaller (edgesIn pts ks z.edges)
+  pub smaller : Smaller (edges_in pts ks z.edges)
 
 -- the label of the best move is that of its bar
 pub record Tied (pts : List ℤ) (n : ℕ) (T : List Edge) (rows columns : List ℕ) (r : Best) : Type 0 where
   pub low : r.label < n
-  pub first : r.best.first ≡ placeAt pts r.label
+  pub first : r.best.first ≡ place_at pts r.label
   pub on : (i : ℕ) → i < n →
-      onBar r.best.side T r.best.first (placeAt pts i) ≡ eqb (get_or (labelsFor r.best.side rows columns) i 0) r.label
+      on_bar r.best.side T r.best.first (place_at pts i) ≡ eqb (get_or (labels_for r.best.side rows columns) i 0) r.label
 
 -- What holds of the best so far and of every bar's move holds of the best of all
 
 module _ (P : Best → Type 0) (z : Size) (ms : List ℤ) (seats : List ℕ) where
-  offered-keeps : (v : View) (c : Best) → P c → ((d : ℕ) → P (best v.label (moveBy v z d))) → P (offered v z ms seats c)
+  offered-keeps : (v : View) (c : Best) → P c → ((d : ℕ) → P (best v.label (move_by v z d))) → P (offered v z ms seats c)
   unfolding offered taken
   offered-keeps v c p q =
       by (leb (hang v z.edges).ahead (hang v z.edges).behind)
       (λ e. rw (offered, e) p)
-      (λ e. by (better (moveBy v z (hang v z.edges).shortest) c.best)
+      (λ e. by (better (move_by v z (hang v z.edges).shortest) c.best)
       (λ g. by (held v seats z.pins)
       (λ h. rw (offered, e, g, h) p)
-      (λ h. by (better (moveBy v z (reachOf v z ms)) c.best)
-      (λ u. rw (offered, e, g, h) (rw (taken, u) (q (reachOf v z ms))))
+      (λ h. by (better (move_by v z (reach_of v z ms)) c.best)
+      (λ u. rw (offered, e, g, h) (rw (taken, u) (q (reach_of v z ms))))
       (λ u. rw (offered, e, g, h) (rw (taken, u) p))))
       (λ g. rw (offered, e, g) p))
 
   module _ (pts : List ℤ) (ks : List ℕ) where
     abbrev Moves : List ℕ → Side → ℕ → Type 0
-    Moves lab s k = (d : ℕ) → P (best (get_or lab (firstEnd (get_or ks k 0)) 0)
-        (moveBy (view pts ks lab s (get_or lab (firstEnd (get_or ks k 0)) 0)) z d))
+    Moves lab s k = (d : ℕ) → P (best (get_or lab (first_end (get_or ks k 0)) 0)
+        (move_by (view pts ks lab s (get_or lab (first_end (get_or ks k 0)) 0)) z d))
 
     both-keeps : (lab : List ℕ) (s : Side) (k : ℕ) (c : Best) → P c → Moves lab s k → Moves lab (opposite s) k
-        → P (offeredBoth pts ks lab z ms seats s k c)
-    unfolding offeredBoth
+        → P (offered_both pts ks lab z ms seats s k c)
+    unfolding offered_both
     both-keeps lab s k c p q o =
         by (leads s pts ks lab k)
-        (λ e. rw (offeredBoth, e) (offered-keeps _ _ (offered-keeps _ c p q) o))
-        (λ e. rw (offeredBoth, e) p)
+        (λ e. rw (offered_both, e) (offered-keeps _ _ (offered-keeps _ c p q) o))
+        (λ e. rw (offered_both, e) p)
 
     module _ (rows columns : List ℕ) (e : ℕ)
         (above : (k : ℕ) → k < e → Moves rows Above k) (below : (k : ℕ) → k < e → Moves rows Below k)
         (right : (k : ℕ) → k < e → Moves columns Right k) (left : (k : ℕ) → k < e → Moves columns Left k) where
-      searched-keeps : (k : ℕ) → k ≤ e → P noMove
-          → P (up_to (λ k c. offeredBoth pts ks columns z ms seats Right k (offeredBoth pts ks rows z ms seats Above k c)) k noMove)
+      searched-keeps : (k : ℕ) → k ≤ e → P no_move
+          → P (up_to (λ k c. offered_both pts ks columns z ms seats Right k (offered_both pts ks rows z ms seats Above k c)) k no_move)
       unfolding up_to opposite
       searched-keeps zero h p = p
       searched-keeps (suc k) h p =
@@ -123,23 +123,23 @@ module _ {net : Net} {pts : List ℤ} {ks : List ℕ} {z : Size} {pins ms : List
   e = z.edges
 
   abbrev T : List Edge
-  T = edgesIn pts ks z.edges
+  T = edges_in pts ks z.edges
 
   abbrev seats : List ℕ
-  seats = seatsOf pts z.points pins z.pins (replicate pinBound 0)
+  seats = seats_of pts z.points pins z.pins (replicate pin_bound 0)
 
-  within : (k : ℕ) → k < e → (firstEnd (get_or ks k 0) < n) × (secondEnd (get_or ks k 0) < n)
+  within : (k : ℕ) → k < e → (first_end (get_or ks k 0) < n) × (second_end (get_or ks k 0) < n)
   within k h = g.held.within.ends k
 
   -- an edge has its smaller point first
-  ends-rise : (k : ℕ) → k < e → firstEnd (get_or ks k 0) < secondEnd (get_or ks k 0)
+  ends-rise : (k : ℕ) → k < e → first_end (get_or ks k 0) < second_end (get_or ks k 0)
   ends-rise k h =
-      let a = firstEnd (get_or ks k 0) in
-      let b = secondEnd (get_or ks k 0) in
-      let m = g.smaller (placeAt pts a) (placeAt pts b) (in-run (edge_at pts ks) e 0 k (omega arith) (omega (arith, h))) in
+      let a = first_end (get_or ks k 0) in
+      let b = second_end (get_or ks k 0) in
+      let m = g.smaller (place_at pts a) (place_at pts b) (in-run (edge_at pts ks) e 0 k (omega arith) (omega (arith, h))) in
       by (ltb a b) (λ t. ltb-true a b t)
       (λ t. by (eqb a b)
-      (λ y. differ (ap (λ (i : ℕ). before (placeAt pts a) (placeAt pts i)) (eqb-true a b y) ∙ m) (before-irrefl (placeAt pts a)))
+      (λ y. differ (ap (λ (i : ℕ). before (place_at pts a) (place_at pts i)) (eqb-true a b y) ∙ m) (before-irrefl (place_at pts a)))
       (λ y.
       let d = eqb-false a b y in
       let u = ltb-false a b t in
@@ -147,29 +147,29 @@ module _ {net : Net} {pts : List ℤ} {ks : List ℕ} {z : Size} {pins ms : List
 
   -- Pins
 
-  pin-in : (j : ℕ) → j < z.pins → pinAt pins j ∈ pointsIn pts n
-  unfolding treePoints
+  pin-in : (j : ℕ) → j < z.pins → pin_at pins j ∈ points_in pts n
+  unfolding tree_points
   pin-in j h =
-      let m : pinAt pins j ∈ net.pins = rw g.pins-are (in-run (pinAt pins) z.pins 0 j (omega arith) (omega (arith, h))) in
-      rw (sym g.points) (in-sorted before place-order (net.pins ++ ends T) (pinAt pins j) (Memᴰ.append_left (ends T) m))
+      let m : pin_at pins j ∈ net.pins = rw g.pins-are (in-run (pin_at pins) z.pins 0 j (omega arith) (omega (arith, h))) in
+      rw (sym g.points) (in-sorted before place-order (net.pins ++ ends T) (pin_at pins j) (Memᴰ.append_left (ends T) m))
 
-  seat-at : (j : ℕ) → j < z.pins → get_or seats j 0 ≡ seatOf pts n (pinAt pins j)
-  unfolding seatsOf
+  seat-at : (j : ℕ) → j < z.pins → get_or seats j 0 ≡ seat_of pts n (pin_at pins j)
+  unfolding seats_of
   seat-at j h =
-      set_below (λ i y. seatOf pts n (pinAt pins i)) (replicate pinBound 0) z.pins j
-      (omega (arith, g.few-pins, length-replicate {A = ℕ} pinBound 0)) h
+      set_below (λ i y. seat_of pts n (pin_at pins i)) (replicate pin_bound 0) z.pins j
+      (omega (arith, g.few-pins, length-replicate {A = ℕ} pin_bound 0)) h
 
-  module _ (v : View) (on : Place → Bool) (is : (i : ℕ) → i < n → on (placeAt pts i) ≡ onIt v i) where
-    pin-on : (j : ℕ) → j < z.pins → on (pinAt pins j) ≡ onIt v (get_or seats j 0)
+  module _ (v : View) (on : Place → Bool) (is : (i : ℕ) → i < n → on (place_at pts i) ≡ on_it v i) where
+    pin-on : (j : ℕ) → j < z.pins → on (pin_at pins j) ≡ on_it v (get_or seats j 0)
     pin-on j h =
-        let u = of-run (placeAt pts) n 0 (pinAt pins j) (pin-in j h) in
+        let u = of-run (place_at pts) n 0 (pin_at pins j) (pin-in j h) in
         let l : u.number < n = omega (arith, u.high) in
-        let q : get_or seats j 0 ≡ u.number = seat-at j h ∙ ap (seatOf pts n) u.is ∙ seat-is pts n g.held.ordered u.number l in
-        ap on u.is ∙ is u.number l ∙ ap (onIt v) (sym q)
+        let q : get_or seats j 0 ≡ u.number = seat-at j h ∙ ap (seat_of pts n) u.is ∙ seat-is pts n g.held.ordered u.number l in
+        ap on u.is ∙ is u.number l ∙ ap (on_it v) (sym q)
 
     pinned : any on net.pins ≡ held v seats z.pins
     unfolding held
-    pinned = ap (any on) g.pins-are ∙ any-run on (pinAt pins) (λ j. onIt v (get_or seats j 0)) z.pins pin-on
+    pinned = ap (any on) g.pins-are ∙ any-run on (pin_at pins) (λ j. on_it v (get_or seats j 0)) z.pins pin-on
 
   -- A direction: its table of labels
 
@@ -180,7 +180,7 @@ module _ {net : Net} {pts : List ℤ} {ks : List ℕ} {z : Size} {pins ms : List
     lab-is : Labelled s pts ks n e lab
     lab-is = labelled-is s pts ks n e within t room
 
-    levels : (k : ℕ) → k < e → level s (edge_at pts ks k) ≡ levelAt s pts ks k
+    levels : (k : ℕ) → k < e → level s (edge_at pts ks k) ≡ level_at s pts ks k
     levels k h = level-at s pts ks n e within g.fits k h
 
     -- the label of a point, and a point by its own label
@@ -198,26 +198,26 @@ module _ {net : Net} {pts : List ℤ} {ks : List ℕ} {z : Size} {pins ms : List
         let w = lab-is.holds i h in
         omega (arith, u, w, lab-is.least i)
 
-    on-label : (a i : ℕ) → a < n → i < n → onBar s T (placeAt pts a) (placeAt pts i) ≡ eqb (get_or lab i 0) (get_or lab a 0)
+    on-label : (a i : ℕ) → a < n → i < n → on_bar s T (place_at pts a) (place_at pts i) ≡ eqb (get_or lab i 0) (get_or lab a 0)
     on-label a i h l = on-is s pts ks n e within g.fits g.held.ordered lab lab-is a i h l
 
     -- to this side, and to the other
     pub record Way (o : Side) : Type 0 where
-      pub on-too : (a i : ℕ) → a < n → i < n → onBar o T (placeAt pts a) (placeAt pts i) ≡ eqb (get_or lab i 0) (get_or lab a 0)
-      pub levels-too : (k : ℕ) → k < e → level o (edge_at pts ks k) ≡ levelAt s pts ks k
+      pub on-too : (a i : ℕ) → a < n → i < n → on_bar o T (place_at pts a) (place_at pts i) ≡ eqb (get_or lab i 0) (get_or lab a 0)
+      pub levels-too : (k : ℕ) → k < e → level o (edge_at pts ks k) ≡ level_at s pts ks k
 
     plain : Way s
     plain = record { on-too = on-label; levels-too = levels }
 
     turned : Way (opposite s)
     turned = record {
-      on-too = λ a i h l. on-opposite s T (placeAt pts a) (placeAt pts i) ∙ on-label a i h l;
+      on-too = λ a i h l. on-opposite s T (place_at pts a) (place_at pts i) ∙ on-label a i h l;
       levels-too = λ k h. level-opposite s (edge_at pts ks k) ∙ levels k h;
     }
 
     module _ (o : Side) (w : Way o) (k : ℕ) (h : k < e) where
       abbrev a : ℕ
-      a = firstEnd (get_or ks k 0)
+      a = first_end (get_or ks k 0)
 
       abbrev v : View
       v = view pts ks lab o (get_or lab a 0)
@@ -234,15 +234,15 @@ module _ {net : Net} {pts : List ℤ} {ks : List ℕ} {z : Size} {pins ms : List
         least = λ i l q. label-least a i l q;
       }
 
-      far : reachOf v z ms ≤ (hang v e).shortest
-      unfolding reachOf
-      far = reach-less v n e ms (bar v n (hang v e).shortest) (reachOf v z ms) refl
+      far : reach_of v z ms ≤ (hang v e).shortest
+      unfolding reach_of
+      far = reach-less v n e ms (bar v n (hang v e).shortest) (reach_of v z ms) refl
 
-      ready : levelAt s pts ks k ≡ true → Ready net v z ms seats k a
+      ready : level_at s pts ks k ≡ true → Ready net v z ms seats k a
       ready q = record {
         stood = stood;
         flat = w.levels-too k h ∙ q;
-        pinned = pinned v (onBar o T (placeAt pts a)) stood.sees.is;
+        pinned = pinned v (on_bar o T (place_at pts a)) stood.sees.is;
         weights = g.weights-are;
         reaches = λ none. reach-is stood g.macros-are g.macro-fits none;
         far = far;
@@ -250,9 +250,9 @@ module _ {net : Net} {pts : List ℤ} {ks : List ℕ} {z : Size} {pins ms : List
 
     -- A first edge of the bar comes before the others
 
-    module _ (k : ℕ) (h : k < e) (q : levelAt s pts ks k ≡ true) (f : leads s pts ks lab k ≡ false) where
+    module _ (k : ℕ) (h : k < e) (q : level_at s pts ks k ≡ true) (f : leads s pts ks lab k ≡ false) where
       abbrev start : ℕ
-      start = firstEnd (get_or ks k 0)
+      start = first_end (get_or ks k 0)
 
       abbrev low_end : ℕ
       low_end = lab-is.label start
@@ -268,10 +268,10 @@ module _ {net : Net} {pts : List ℤ} {ks : List ℕ} {z : Size} {pins ms : List
       record First : Type 0 where
         number : ℕ
         low : number < e
-        is-level : levelAt s pts ks number ≡ true
-        from : low_end ≡ firstEnd (get_or ks number 0)
+        is-level : level_at s pts ks number ≡ true
+        from : low_end ≡ first_end (get_or ks number 0)
 
-      first_of : (c : ℕ) → Link (levelPairs s pts ks e) low_end c → First
+      first_of : (c : ℕ) → Link (level_pairs s pts ks e) low_end c → First
       first_of c m =
           either
           (λ i. let p = of-pairs s pts ks n e within g.fits e low_end c i in
@@ -298,31 +298,31 @@ module _ {net : Net} {pts : List ℤ} {ks : List ℕ} {z : Size} {pins ms : List
           (λ y. absurd (not_same (eqb-true k first_one y)))
           (λ y. absurd (not-later (let d = eqb-false k first_one y in let b = ltb-false first_one k t in omega (arith, d, b)))))
         where
-          u : low_end ≡ firstEnd (get_or ks first_one 0)
+          u : low_end ≡ first_end (get_or ks first_one 0)
           u = first_edge.from
 
           not_same : k ≡ first_one → ⊥
-          not_same y = let d = ap (λ (i : ℕ). firstEnd (get_or ks i 0)) y in omega (arith, u, d, l-less)
+          not_same y = let d = ap (λ (i : ℕ). first_end (get_or ks i 0)) y in omega (arith, u, d, l-less)
 
           not-later : k < first_one → ⊥
           not-later l = let v = g.held.rising k first_one l first_edge.low in omega (arith, u, v, l-less)
 
-      point-in : (i : ℕ) → i < e → (edge_at pts ks i).0 ∈ treePoints net T
-      point-in i c = rw g.points (in-run (placeAt pts) n 0 (firstEnd (get_or ks i 0)) (omega arith)
+      point-in : (i : ℕ) → i < e → (edge_at pts ks i).0 ∈ tree_points net T
+      point-in i c = rw g.points (in-run (place_at pts) n 0 (first_end (get_or ks i 0)) (omega arith)
           (let w = within i c in omega (arith, w)))
 
-      same-label : get_or lab start 0 ≡ get_or lab (firstEnd (get_or ks first_one 0)) 0
+      same-label : get_or lab start 0 ≡ get_or lab (first_end (get_or ks first_one 0)) 0
       same-label =
           lab-is.holds start (within k h).0
           ∙ sym (lab-is.labels.own start)
           ∙ ap lab-is.label first_edge.from
-          ∙ sym (lab-is.holds (firstEnd (get_or ks first_one 0)) (within first_one first_edge.low).0)
+          ∙ sym (lab-is.holds (first_end (get_or ks first_one 0)) (within first_one first_edge.low).0)
 
       same-moves : (o : Side) → Way o → move_of net T o (edge_at pts ks k) ≡ move_of net T o (edge_at pts ks first_one)
       same-moves o w =
           one-move net T o (edge_at pts ks first_one) (edge_at pts ks k) (point-in first_one first_edge.low) (point-in k h)
           (w.levels-too first_one first_edge.low ∙ first_edge.is-level) (w.levels-too k h ∙ q)
-          (w.on-too (firstEnd (get_or ks first_one 0)) start (within first_one first_edge.low).0 (within k h).0 ∙ eq-eqb _ _ same-label)
+          (w.on-too (first_end (get_or ks first_one 0)) start (within first_one first_edge.low).0 (within k h).0 ∙ eq-eqb _ _ same-label)
 
       again : Again net pts ks z ms seats s k
       again = record { earlier = first_one; low = earlier; one = same-moves s plain; other = same-moves (opposite s) turned }
@@ -355,16 +355,16 @@ module _ {net : Net} {pts : List ℤ} {ks : List ℕ} {z : Size} {pins ms : List
     unfolding searched up_to
     choice-none q =
         let h : e ≡ 0 = sym (run_length (edge_at pts ks) e 0) ∙ ap length q in
-        let step : ℕ → Best → Best = λ k c. offeredBoth pts ks C z ms seats Right k (offeredBoth pts ks R z ms seats Above k c) in
-        ap (λ (k : ℕ). (up_to step k noMove).best.saving) h
+        let step : ℕ → Best → Best = λ k c. offered_both pts ks C z ms seats Right k (offered_both pts ks R z ms seats Above k c) in
+        ap (λ (k : ℕ). (up_to step k no_move).best.saving) h
 
     abbrev Ties : Best → Type 0
     Ties c = 0 < c.best.saving → Tied pts n T R C c
 
-    tied : (s o : Side) (t : List ℕ) (h : n ≤ length t) → Way s t h o → labelsFor o R C ≡ labelled s pts ks n e t
+    tied : (s o : Side) (t : List ℕ) (h : n ≤ length t) → Way s t h o → labels_for o R C ≡ labelled s pts ks n e t
         → (k : ℕ) → k < e → (d : ℕ)
-        → Ties (best (get_or (labelled s pts ks n e t) (firstEnd (get_or ks k 0)) 0)
-        (moveBy (view pts ks (labelled s pts ks n e t) o (get_or (labelled s pts ks n e t) (firstEnd (get_or ks k 0)) 0)) z d))
+        → Ties (best (get_or (labelled s pts ks n e t) (first_end (get_or ks k 0)) 0)
+        (move_by (view pts ks (labelled s pts ks n e t) o (get_or (labelled s pts ks n e t) (first_end (get_or ks k 0)) 0)) z d))
     tied s o t h w q k l d saves = record {
       low = label-low s t h _ (within k l).0;
       first = refl;
@@ -374,7 +374,7 @@ module _ {net : Net} {pts : List ℤ} {ks : List ℕ} {z : Size} {pins ms : List
     }
 
     pub choice-tied : 0 < r.best.saving → Tied pts n T R C r
-    unfolding searched labelsFor horizontal opposite
+    unfolding searched labels_for horizontal opposite
     choice-tied =
         searched-keeps Ties z ms seats pts ks R C e
         (λ k h d. tied Above Above rows room (plain Above rows room) refl k h d)

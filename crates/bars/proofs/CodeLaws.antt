@@ -20,23 +20,23 @@ use Rattle.hanging.specs.declared.Hang.{Hang}
 use Rattle.reach.specs.declared.Bar.{Bar}
 use Rattle.reach.specs.declared.Size.{Size}
 use Rattle.bars.specs.declared.Best.{Best}
-use Rattle.plane.specs.Flat.{placeAt}
+use Rattle.plane.specs.Flat.{place_at}
 use Rattle.hanging.specs.Hanging.{hang}
 use Rattle.turned.specs.Turned.{View, view}
-use Rattle.straight.specs.Table.{straightBound, firstEnd}
+use Rattle.straight.specs.Table.{straight_bound, first_end}
 use Rattle.labels.specs.Labelling.{leads}
-use Rattle.reach.specs.Passing.{seenBy, way_of, reached}
+use Rattle.reach.specs.Passing.{seen_by, way_of, reached}
 use Rattle.reach.specs.Hopeless.{Near}
-use Rattle.moves.specs.Moving.{weightIn, bar, held, opposite}
+use Rattle.moves.specs.Moving.{weight_in, bar, held, opposite}
 use Rattle.moves.proofs.MovingLaws.{better-less}
-use Rattle.bars.specs.Offers.{Needed, rateOf, moveBy, move, best, reachOf, taken, offered, offeredBoth}
+use Rattle.bars.specs.Offers.{Needed, rate_of, move_by, move, best, reach_of, taken, offered, offered_both}
 
 -- Products that fit
 
-pub rate-fits : (b c : ℕ) → b ≤ straightBound → c < 256 → b * c ≤ straightBound * 255
+pub rate-fits : (b c : ℕ) → b ≤ straight_bound → c < 256 → b * c ≤ straight_bound * 255
 rate-fits b c h k = mul-le-mul h (let z : c ≤ 255 = omega (arith, k) in z)
 
-pub saving-fits : (a b c : ℕ) → a ≤ 4294967296 → b ≤ straightBound → c < 256 → a * (b * c) ≤ 4294967296 * (straightBound * 255)
+pub saving-fits : (a b c : ℕ) → a ≤ 4294967296 → b ≤ straight_bound → c < 256 → a * (b * c) ≤ 4294967296 * (straight_bound * 255)
 saving-fits a b c h k l = mul-le-mul h (rate-fits b c k l)
 
 pub off : (p : Bool) → not p ≡ false → p ≡ true
@@ -46,52 +46,52 @@ off false e = sym e
 -- Offers
 
 module _ (v : View) (z : Size) (h : Hang) (is : h ≡ hang v z.edges) where
-  pub move-is : (x : ℕ) (p : Place) (d : ℕ) → x ≡ weightIn z.weights v.side → p ≡ placeAt v.points v.label
-      → move (d * ((h.ahead - h.behind) * x)) p v.side d ≡ moveBy v z d
+  pub move-is : (x : ℕ) (p : Place) (d : ℕ) → x ≡ weight_in z.weights v.side → p ≡ place_at v.points v.label
+      → move (d * ((h.ahead - h.behind) * x)) p v.side d ≡ move_by v z d
   move-is x p d e f =
       ap₂ (λ (g : Hang) (y : ℕ). move (d * ((g.ahead - g.behind) * y)) p v.side d) is e
-      ∙ ap (λ (q : Place). move (moveBy v z d).saving q v.side d) f
+      ∙ ap (λ (q : Place). move (move_by v z d).saving q v.side d) f
 
-  pub reach_of : (ms : List ℤ) (b : Bar) (d : ℕ) → b ≡ bar v z.points h.shortest
-      → d ≡ reached b (way_of (seenBy v.points v.keys v.labels b) z.points z.edges ms b) → d ≡ reachOf v z ms
-  unfolding reachOf
-  reach_of ms b d e q =
+  pub reach-of : (ms : List ℤ) (b : Bar) (d : ℕ) → b ≡ bar v z.points h.shortest
+      → d ≡ reached b (way_of (seen_by v.points v.keys v.labels b) z.points z.edges ms b) → d ≡ reach_of v z ms
+  unfolding reach_of
+  reach-of ms b d e q =
       q
-      ∙ ap (λ (a : Bar). reached a (way_of (seenBy v.points v.keys v.labels a) z.points z.edges ms a))
+      ∙ ap (λ (a : Bar). reached a (way_of (seen_by v.points v.keys v.labels a) z.points z.edges ms a))
       (e ∙ ap (λ (g : Hang). bar v z.points g.shortest) is)
 
   -- the distance asked for is that of the move, or both are too short to be the best
   abbrev Judged : List ℤ → Best → ℕ → Type 0
   Judged ms c d =
-      (d ≡ reachOf v z ms)
-      ⊎ ((better (moveBy v z d) c.best ≡ false) × (better (moveBy v z (reachOf v z ms)) c.best ≡ false))
+      (d ≡ reach_of v z ms)
+      ⊎ ((better (move_by v z d) c.best ≡ false) × (better (move_by v z (reach_of v z ms)) c.best ≡ false))
 
-  module _ (ms : List ℤ) (c : Best) (d need : ℕ) (near : Near need d (reachOf v z ms)) where
+  module _ (ms : List ℤ) (c : Best) (d need : ℕ) (near : Near need d (reach_of v z ms)) where
     -- by less than is needed a move saves less
-    worse : 0 < rateOf v z → need * rateOf v z ≤ c.best.saving → (x : ℕ) → suc x ≤ need → better (moveBy v z x) c.best ≡ false
+    worse : 0 < rate_of v z → need * rate_of v z ≤ c.best.saving → (x : ℕ) → suc x ≤ need → better (move_by v z x) c.best ≡ false
     worse some much x h =
-        sym (better-less (moveBy v z x) c.best
-        (omega (arith, some, much, suc-mul x (rateOf v z), mul-le-mul_right (rateOf v z) h)))
+        sym (better-less (move_by v z x) c.best
+        (omega (arith, some, much, suc-mul x (rate_of v z), mul-le-mul_right (rate_of v z) h)))
 
-    judged : Needed c.best.saving (rateOf v z) need → Judged ms c d
+    judged : Needed c.best.saving (rate_of v z) need → Judged ms c d
     judged =
         either (λ l. inl (omega (arith, near, l)))
         (λ w.
-        by (eqb d (reachOf v z ms)) (λ e. inl (eqb-true d (reachOf v z ms) e))
+        by (eqb d (reach_of v z ms)) (λ e. inl (eqb-true d (reach_of v z ms) e))
         (λ e.
-        let apart = eqb-false d (reachOf v z ms) e in
+        let apart = eqb-false d (reach_of v z ms) e in
         let low : suc d ≤ need = omega (arith, near, apart) in
-        let low-2 : suc (reachOf v z ms) ≤ need = omega (arith, near, apart) in
-        inr (worse w.0 w.1 d low, worse w.0 w.1 (reachOf v z ms) low-2)))
+        let low-2 : suc (reach_of v z ms) ≤ need = omega (arith, near, apart) in
+        inr (worse w.0 w.1 d low, worse w.0 w.1 (reach_of v z ms) low-2)))
 
   -- as the code has the rate and the bar
-  pub offer-judged : (ms : List ℤ) (c : Best) (b : Bar) (d need g : ℕ) → g ≡ weightIn z.weights v.side
+  pub offer-judged : (ms : List ℤ) (c : Best) (b : Bar) (d need g : ℕ) → g ≡ weight_in z.weights v.side
       → b ≡ bar v z.points h.shortest
-      → Near need d (reached b (way_of (seenBy v.points v.keys v.labels b) z.points z.edges ms b))
+      → Near need d (reached b (way_of (seen_by v.points v.keys v.labels b) z.points z.edges ms b))
       → Needed c.best.saving ((h.ahead - h.behind) * g) need → Judged ms c d
   offer-judged ms c b d need g y e near w =
       let rate = ap₂ (λ (a : Hang) (x : ℕ). (a.ahead - a.behind) * x) is y in
-      judged ms c d need (near ∙ ap (λ (x : ℕ). max x (need - 1)) (reach_of ms b _ e refl))
+      judged ms c d need (near ∙ ap (λ (x : ℕ). max x (need - 1)) (reach-of ms b _ e refl))
       (rw rate at w)
 
   module _ (ms : List ℤ) (seats : List ℕ) (c : Best) where
@@ -107,9 +107,9 @@ module _ (v : View) (z : Size) (h : Hang) (is : h ≡ hang v z.edges) where
       unequal : leb (hang v z.edges).ahead (hang v z.edges).behind ≡ false
       unequal = ap (λ (g : Hang). leb g.ahead g.behind) (sym is) ∙ lt-leb h.ahead h.behind l
 
-      module _ (m : Move) (y : m ≡ moveBy v z h.shortest) (t : Bool) (q : t ≡ better m c.best) where
-        most : better (moveBy v z (hang v z.edges).shortest) c.best ≡ t
-        most = sym (q ∙ ap (λ (n : Move). better n c.best) (y ∙ ap (λ (g : Hang). moveBy v z g.shortest) is))
+      module _ (m : Move) (y : m ≡ move_by v z h.shortest) (t : Bool) (q : t ≡ better m c.best) where
+        most : better (move_by v z (hang v z.edges).shortest) c.best ≡ t
+        most = sym (q ∙ ap (λ (n : Move). better n c.best) (y ∙ ap (λ (g : Hang). move_by v z g.shortest) is))
 
         pub offer-weak : t ≡ false → c ≡ offered v z ms seats c
         unfolding offered
@@ -120,17 +120,17 @@ module _ (v : View) (z : Size) (h : Hang) (is : h ≡ hang v z.edges) where
           unfolding offered
           offer-held g = sym (rw (offered, unequal, most ∙ k, sym w ∙ g) refl)
 
-          module _ (g : u ≡ false) (n : Move) (d : ℕ) (f : n ≡ moveBy v z d) (e : Judged ms c d) (s : Bool)
+          module _ (g : u ≡ false) (n : Move) (d : ℕ) (f : n ≡ move_by v z d) (e : Judged ms c d) (s : Bool)
               (r : s ≡ better n c.best) where
-            better-d : better (moveBy v z d) c.best ≡ s
+            better-d : better (move_by v z d) c.best ≡ s
             better-d = sym (r ∙ ap (λ (a : Move). better a c.best) f)
 
-            reached-move : s ≡ true → n ≡ moveBy v z (reachOf v z ms)
-            reached-move a = either (λ q. f ∙ ap (moveBy v z) q) (λ x. differ (better-d ∙ a) x.0) e
+            reached-move : s ≡ true → n ≡ move_by v z (reach_of v z ms)
+            reached-move a = either (λ q. f ∙ ap (move_by v z) q) (λ x. differ (better-d ∙ a) x.0) e
 
-            better-is : better (moveBy v z (reachOf v z ms)) c.best ≡ s
+            better-is : better (move_by v z (reach_of v z ms)) c.best ≡ s
             better-is =
-                either (λ q. ap (λ (x : ℕ). better (moveBy v z x) c.best) (sym q) ∙ better-d) (λ x. x.1 ∙ sym x.0 ∙ better-d) e
+                either (λ q. ap (λ (x : ℕ). better (move_by v z x) c.best) (sym q) ∙ better-d) (λ x. x.1 ∙ sym x.0 ∙ better-d) e
 
             pub offer-taken : s ≡ true → best v.label n ≡ offered v z ms seats c
             unfolding offered taken
@@ -144,17 +144,17 @@ module _ (v : View) (z : Size) (h : Hang) (is : h ≡ hang v z.edges) where
 
 module _ (pts : List ℤ) (ks lab : List ℕ) (z : Size) (ms : List ℤ) (seats : List ℕ) (s : Side) (k : ℕ) (c : Best)
     (t : Bool) (is : t ≡ leads s pts ks lab k) where
-  pub both-not : t ≡ false → c ≡ offeredBoth pts ks lab z ms seats s k c
-  unfolding offeredBoth
-  both-not h = sym (rw (offeredBoth, sym is ∙ h) refl)
+  pub both-not : t ≡ false → c ≡ offered_both pts ks lab z ms seats s k c
+  unfolding offered_both
+  both-not h = sym (rw (offered_both, sym is ∙ h) refl)
 
-  pub both-level : t ≡ true → (a : ℕ) (o : Side) (x y : Best) → a ≡ firstEnd (get_or ks k 0) → o ≡ opposite s
+  pub both-level : t ≡ true → (a : ℕ) (o : Side) (x y : Best) → a ≡ first_end (get_or ks k 0) → o ≡ opposite s
       → x ≡ offered (view pts ks lab s (get_or lab a 0)) z ms seats c → y ≡ offered (view pts ks lab o (get_or lab a 0)) z ms seats x
-      → y ≡ offeredBoth pts ks lab z ms seats s k c
-  unfolding offeredBoth
+      → y ≡ offered_both pts ks lab z ms seats s k c
+  unfolding offered_both
   both-level h a o x y e f g j =
       j
       ∙ ap₂ (λ (r : Side) (b : Best). offered (view pts ks lab r (get_or lab a 0)) z ms seats b) f g
       ∙ ap (λ (i : ℕ). offered (view pts ks lab (opposite s) (get_or lab i 0)) z ms seats
       (offered (view pts ks lab s (get_or lab i 0)) z ms seats c)) e
-      ∙ sym (rw (offeredBoth, sym is ∙ h) refl)
+      ∙ sym (rw (offered_both, sym is ∙ h) refl)

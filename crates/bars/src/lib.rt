@@ -4,13 +4,13 @@
 pub mod search; // search.rt: the best move
 
 ghost use Rattle.std.specs.Prelude.{◌≡◌, ◌≤◌, replicate};
-ghost use Rattle.net.specs.Bounds.{pinBound};
-ghost use Rattle.net.specs.Pins.{pinCount};
+ghost use Rattle.net.specs.Bounds.{pin_bound};
+ghost use Rattle.net.specs.Pins.{pin_count};
 ghost use Rattle.tree.specs.Table.{tree};
 ghost use Rattle.slide.specs.declared.Side.TheVariants.{Above, Right};
 ghost use Rattle.straight.specs.Table.{Held};
 ghost use Rattle.labels.specs.Labelling.{labelled};
-ghost use Rattle.moves.specs.Moving.{seatsOf};
+ghost use Rattle.moves.specs.Moving.{seats_of};
 ghost use Rattle.bars.specs.Offers.{Fresh, searched};
 
 use moves::PINS;
@@ -35,14 +35,14 @@ pub fn choice(
     rows: &mut [usize; POINTS],
     columns: &mut [usize; POINTS],
 ) -> Best
-    requires held { (Held (tree pts.now z.points keys.now z.edges)) × ((z.pins ≤ pinBound) × (z.pins ≤ pinCount pins.now)) }
+    requires held { (Held (tree pts.now z.points keys.now z.edges)) × ((z.pins ≤ pin_bound) × (z.pins ≤ pin_count pins.now)) }
     requires fresh { (Fresh rows.old) × (Fresh columns.old) }
     ensures rows_after { (rows.new ≡ labelled Above pts.now keys.now z.points z.edges rows.old)
         × (columns.new ≡ labelled Right pts.now keys.now z.points z.edges columns.old) }
     ensures value { result ≡ searched pts.now keys.now
         (labelled Above pts.now keys.now z.points z.edges rows.old)
         (labelled Right pts.now keys.now z.points z.edges columns.old) z macros.now
-        (seatsOf pts.now z.points pins.now z.pins (replicate pinBound 0)) }
+        (seats_of pts.now z.points pins.now z.pins (replicate pin_bound 0)) }
 {
     labels::label(pts, keys, z.points, z.edges, Side::Above, &mut *rows);
     labels::label(pts, keys, z.points, z.edges, Side::Right, &mut *columns);

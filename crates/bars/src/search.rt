@@ -1,13 +1,13 @@
 // The best move of all bars.
 ghost use Rattle.std.specs.Prelude.{◌≡◌, ◌≤◌, ◌<◌, get_or};
-ghost use Rattle.net.specs.Bounds.{pinBound};
-ghost use Rattle.straight.specs.Table.{straightBound, Small};
+ghost use Rattle.net.specs.Bounds.{pin_bound};
+ghost use Rattle.straight.specs.Table.{straight_bound, Small};
 ghost use Rattle.slide.specs.declared.Side.TheVariants.{Above, Below, Right, Left};
 ghost use Rattle.turned.specs.Steps.{Numbers};
 ghost use Rattle.turned.specs.Turned.{view};
 ghost use Rattle.hanging.specs.Hanging.{hang, Coded, Tallied};
 ghost use Rattle.moves.specs.Moving.{Seated, opposite};
-ghost use Rattle.bars.specs.Offers.{Needed, offered, offeredBoth, searched};
+ghost use Rattle.bars.specs.Offers.{Needed, offered, offered_both, searched};
 
 use crate::Best;
 use moves::PINS;
@@ -43,8 +43,8 @@ fn offer(
     l: usize,
     c: Best,
 ) -> Best
-    requires points_le_straight_bound { ((z.points ≤ straightBound) × (z.edges ≤ straightBound)) × ((Small keys.now) × (l < straightBound)) }
-    requires pins_le_pin_bound { (z.pins ≤ pinBound) × (Seated z.pins seats.now) }
+    requires points_le_straight_bound { ((z.points ≤ straight_bound) × (z.edges ≤ straight_bound)) × ((Small keys.now) × (l < straight_bound)) }
+    requires pins_le_pin_bound { (z.pins ≤ pin_bound) × (Seated z.pins seats.now) }
     requires coded { Coded z.edges (hang (view pts.now keys.now lab.now s l) z.edges) (get_or hangs.now l 0) }
     ensures { result ≡ offered (view pts.now keys.now lab.now s l) z macros.now
         seats.now c }
@@ -102,12 +102,12 @@ fn offer_both(
     k: usize,
     c: Best,
 ) -> Best
-    requires points_le_straight_bound { (((z.points ≤ straightBound) × (z.edges ≤ straightBound)) × (Small keys.now))
-        × ((k < straightBound) × (Numbers lab.now)) }
-    requires pins_le_pin_bound { (z.pins ≤ pinBound) × (Seated z.pins seats.now) }
+    requires points_le_straight_bound { (((z.points ≤ straight_bound) × (z.edges ≤ straight_bound)) × (Small keys.now))
+        × ((k < straight_bound) × (Numbers lab.now)) }
+    requires pins_le_pin_bound { (z.pins ≤ pin_bound) × (Seated z.pins seats.now) }
     requires tallied { (Tallied pts.now keys.now lab.now s z.edges there.now)
         × (Tallied pts.now keys.now lab.now (opposite s) z.edges back.now) }
-    ensures { result ≡ offeredBoth pts.now keys.now lab.now z macros.now
+    ensures { result ≡ offered_both pts.now keys.now lab.now z macros.now
         seats.now s k c }
 {
     if labels::leads(pts, keys, lab, s, k) {
@@ -143,8 +143,8 @@ fn search_by(
     right: &[u64; POINTS],
     left: &[u64; POINTS],
 ) -> Best
-    requires points_le_straight_bound { ((z.points ≤ straightBound) × (z.edges ≤ straightBound)) × (Small keys.now) }
-    requires pins_le_pin_bound { (z.pins ≤ pinBound) × (Seated z.pins seats.now) }
+    requires points_le_straight_bound { ((z.points ≤ straight_bound) × (z.edges ≤ straight_bound)) × (Small keys.now) }
+    requires pins_le_pin_bound { (z.pins ≤ pin_bound) × (Seated z.pins seats.now) }
     requires numbers { (Numbers rows.now) × (Numbers columns.now) }
     requires tallied { (Tallied pts.now keys.now rows.now Above z.edges above.now)
         × (Tallied pts.now keys.now rows.now Below z.edges below.now) }
@@ -205,8 +205,8 @@ pub fn search(
     rows: &[usize; POINTS],
     columns: &[usize; POINTS],
 ) -> Best
-    requires points_le_straight_bound { ((z.points ≤ straightBound) × (z.edges ≤ straightBound)) × (Small keys.now) }
-    requires pins_le_pin_bound { (z.pins ≤ pinBound) × (Seated z.pins seats.now) }
+    requires points_le_straight_bound { ((z.points ≤ straight_bound) × (z.edges ≤ straight_bound)) × (Small keys.now) }
+    requires pins_le_pin_bound { (z.pins ≤ pin_bound) × (Seated z.pins seats.now) }
     requires numbers { (Numbers rows.now) × (Numbers columns.now) }
     ensures { result ≡ searched pts.now keys.now rows.now columns.now z macros.now
         seats.now }

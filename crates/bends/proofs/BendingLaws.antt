@@ -15,52 +15,52 @@ use Rattle.lent.specs.Entries.{flat, entries}
 use Rattle.lent.proofs.OverLaws.{over_none}
 use Rattle.lent.proofs.EntryTable.{entry_more, entries_over, over-entries, length-entries}
 use Rattle.plane.specs.declared.Place.{Place}
-use Rattle.plane.specs.Place.{samePlace}
-use Rattle.plane.specs.Flat.{placeFrom}
+use Rattle.plane.specs.Place.{same_place}
+use Rattle.plane.specs.Flat.{place_from}
 use Rattle.graph.specs.Edges.{edge_of}
-use Rattle.graph.specs.Numbers.{placeNumbers, edgeNumbers, edgeFrom}
+use Rattle.graph.specs.Numbers.{place_numbers, edge_numbers, edge_from}
 use Rattle.graph.proofs.WidthLaws.{place-width, edge-width}
-use Rattle.slide.specs.Bend.{Edge, straight, xFirst, yFirst, taken, Bent, bent, given_back, kept, through, bends}
+use Rattle.slide.specs.Bend.{Edge, straight, x_first, y_first, taken, Bent, bent, given_back, kept, through, bends}
 use Rattle.bends.specs.declared.Corner.{Corner}
 use Rattle.bends.specs.declared.Corner.TheVariants.{At, Taken}
 use Rattle.bends.specs.declared.Bent as declared
-use Rattle.settled.specs.Settled.{edgesOf}
-use Rattle.bends.specs.Bending.{cornerOf, counts, BentAt, BentWhere, BentBy}
+use Rattle.settled.specs.Settled.{edges_of}
+use Rattle.bends.specs.Bending.{corner_of, counts, BentAt, BentWhere, BentBy}
 
 -- Corners
 
 module _ (X : List Place) (e : Edge) where
-  pub corner-x : taken X (xFirst e) ≡ false → cornerOf X e ≡ At (xFirst e)
-  unfolding cornerOf
-  corner-x h = rw (cornerOf, h) refl
+  pub corner-x : taken X (x_first e) ≡ false → corner_of X e ≡ At (x_first e)
+  unfolding corner_of
+  corner-x h = rw (corner_of, h) refl
 
-  pub corner-y : taken X (xFirst e) ≡ true → taken X (yFirst e) ≡ false → cornerOf X e ≡ At (yFirst e)
-  unfolding cornerOf
-  corner-y h k = rw (cornerOf, h, k) refl
+  pub corner-y : taken X (x_first e) ≡ true → taken X (y_first e) ≡ false → corner_of X e ≡ At (y_first e)
+  unfolding corner_of
+  corner-y h k = rw (corner_of, h, k) refl
 
-  pub corner-none : taken X (xFirst e) ≡ true → taken X (yFirst e) ≡ true → cornerOf X e ≡ Taken
-  unfolding cornerOf
-  corner-none h k = rw (cornerOf, h, k) refl
+  pub corner-none : taken X (x_first e) ≡ true → taken X (y_first e) ≡ true → corner_of X e ≡ Taken
+  unfolding corner_of
+  corner-none h k = rw (corner_of, h, k) refl
 
 -- points that are the same, in whatever order, give the same corner
-corner-same : (X : List Place) (e : Edge) (P : List Place) → ((c : Place) → taken P c ≡ taken X c) → cornerOf P e ≡ cornerOf X e
+corner-same : (X : List Place) (e : Edge) (P : List Place) → ((c : Place) → taken P c ≡ taken X c) → corner_of P e ≡ corner_of X e
 corner-same X e P same =
-    by (taken X (xFirst e))
-    (λ h. by (taken X (yFirst e))
-    (λ k. corner-none P e (same (xFirst e) ∙ h) (same (yFirst e) ∙ k) ∙ sym (corner-none X e h k))
-    (λ k. corner-y P e (same (xFirst e) ∙ h) (same (yFirst e) ∙ k) ∙ sym (corner-y X e h k)))
-    (λ h. corner-x P e (same (xFirst e) ∙ h) ∙ sym (corner-x X e h))
+    by (taken X (x_first e))
+    (λ h. by (taken X (y_first e))
+    (λ k. corner-none P e (same (x_first e) ∙ h) (same (y_first e) ∙ k) ∙ sym (corner-none X e h k))
+    (λ k. corner-y P e (same (x_first e) ∙ h) (same (y_first e) ∙ k) ∙ sym (corner-y X e h k)))
+    (λ h. corner-x P e (same (x_first e) ∙ h) ∙ sym (corner-x X e h))
 
 -- what a slanted edge comes to
 abbrev turned : List Place → Edge → List Edge → Corner → Bent
 turned X e T (At c) = through e c (bends (c ∷ X) T)
 turned X e T Taken = given_back
 
-bends-slanted : (X : List Place) (e : Edge) (T : List Edge) → straight e ≡ false → bends X (e ∷ T) ≡ turned X e T (cornerOf X e)
+bends-slanted : (X : List Place) (e : Edge) (T : List Edge) → straight e ≡ false → bends X (e ∷ T) ≡ turned X e T (corner_of X e)
 unfolding bends
 bends-slanted X e T s =
-    by (taken X (xFirst e))
-    (λ h. by (taken X (yFirst e))
+    by (taken X (x_first e))
+    (λ h. by (taken X (y_first e))
     (λ k. rw (corner-none X e h k) (rw (bends, s, h, k) refl))
     (λ k. rw (corner-y X e h k) (rw (bends, s, h, k) refl)))
     (λ h. rw (corner-x X e h) (rw (bends, s, h) refl))
@@ -90,11 +90,11 @@ taken_more : (P : List Place) (c d : Place) → taken (P ++ (c ∷ [])) d ≡ ta
 unfolding taken any
 taken_more [] c d = refl
 taken_more (p ∷ P) c d =
-    ap (λ (t : Bool). samePlace d p || t) (taken_more P c d) ∙ or_swap (samePlace d p) (samePlace d c) (any (samePlace d) P)
+    ap (λ (t : Bool). same_place d p || t) (taken_more P c d) ∙ or_swap (same_place d p) (same_place d c) (any (same_place d) P)
 
 head-same : (P Q : List Place) → ((d : Place) → taken P d ≡ taken Q d) → (c d : Place) → taken (c ∷ P) d ≡ taken (c ∷ Q) d
 unfolding taken any
-head-same P Q h c d = ap (λ (t : Bool). samePlace d c || t) (h d)
+head-same P Q h c d = ap (λ (t : Bool). same_place d c || t) (h d)
 
 snoc-length : {A : Type 0} (l : List A) (x : A) → length (l ++ (x ∷ [])) ≡ length l + 1
 snoc-length l x = length-append l (x ∷ [])
@@ -106,22 +106,22 @@ module _ (X : List Place) (T : List Edge) (pts₀ out₀ : List ℤ) where
     pub placed : List Place
     pub ahead : List Place
     pub done : List Edge
-    pub table : pts ≡ over (flat placeNumbers placed) pts₀
+    pub table : pts ≡ over (flat place_numbers placed) pts₀
     pub many : length placed ≡ points
     pub same : (c : Place) → taken placed c ≡ taken ahead c
     pub long : length placed ≡ length ahead
-    pub given : out ≡ over (flat edgeNumbers done) out₀
+    pub given : out ≡ over (flat edge_numbers done) out₀
     pub made : length done ≡ count
     pub rest : bends X T ≡ before done (bends ahead (drop i T))
 
-  pub bending-none : (n : ℕ) → n * 2 ≤ length pts₀ → X ≡ entries placeFrom 2 pts₀ n → Bending pts₀ out₀ n 0 0
+  pub bending-none : (n : ℕ) → n * 2 ≤ length pts₀ → X ≡ entries place_from 2 pts₀ n → Bending pts₀ out₀ n 0 0
   unfolding flat
   bending-none n h e = record {
     placed = X;
     ahead = X;
     done = [];
-    table = over-entries placeNumbers placeFrom 2 place-width pts₀ n h ∙ ap (λ (P : List Place). over (flat placeNumbers P) pts₀) (sym e);
-    many = ap length e ∙ length-entries placeNumbers placeFrom 2 place-width pts₀ 0 n;
+    table = over-entries place_numbers place_from 2 place-width pts₀ n h ∙ ap (λ (P : List Place). over (flat place_numbers P) pts₀) (sym e);
+    many = ap length e ∙ length-entries place_numbers place_from 2 place-width pts₀ 0 n;
     same = λ c. refl;
     long = refl;
     given = sym (over_none out₀);
@@ -131,19 +131,19 @@ module _ (X : List Place) (T : List Edge) (pts₀ out₀ : List ℤ) where
 
   module _ {pts out : List ℤ} {points count i : ℕ} (r : Bending pts out points count i) where
     -- the places in the table
-    standing : entries placeFrom 2 pts points ≡ r.placed
+    standing : entries place_from 2 pts points ≡ r.placed
     standing =
-        ap (λ (t : List ℤ). entries placeFrom 2 t points) r.table
-        ∙ entries_over placeNumbers placeFrom 2 place-width r.placed pts₀ points r.many
+        ap (λ (t : List ℤ). entries place_from 2 t points) r.table
+        ∙ entries_over place_numbers place_from 2 place-width r.placed pts₀ points r.many
 
-    pub corner-is : (e : Edge) → cornerOf (entries placeFrom 2 pts points) e ≡ cornerOf r.ahead e
-    corner-is e = ap (λ (P : List Place). cornerOf P e) standing ∙ corner-same r.ahead e r.placed r.same
+    pub corner-is : (e : Edge) → corner_of (entries place_from 2 pts points) e ≡ corner_of r.ahead e
+    corner-is e = ap (λ (P : List Place). corner_of P e) standing ∙ corner-same r.ahead e r.placed r.same
 
     module _ (e : Edge) (left : List Edge) (at : drop i T ≡ e ∷ left) (next : drop (i + 1) T ≡ left) where
       here : bends X T ≡ before r.done (bends r.ahead (e ∷ left))
       here = r.rest ∙ ap (λ (l : List Edge). before r.done (bends r.ahead l)) at
 
-      pub bending-straight : straight e ≡ true → count * 4 + 4 ≤ length out₀ → (new : List ℤ) → new ≡ sets out (count * 4) (edgeNumbers e)
+      pub bending-straight : straight e ≡ true → count * 4 + 4 ≤ length out₀ → (new : List ℤ) → new ≡ sets out (count * 4) (edge_numbers e)
           → Bending pts new points (count + 1) (i + 1)
       bending-straight s fits new w = record {
         placed = r.placed;
@@ -155,8 +155,8 @@ module _ (X : List Place) (T : List Edge) (pts₀ out₀ : List ℤ) where
         long = r.long;
         given =
             w
-            ∙ ap (λ (t : List ℤ). sets t (count * 4) (edgeNumbers e)) r.given
-            ∙ entry_more edgeNumbers edgeFrom 4 edge-width r.done e out₀ count r.made fits;
+            ∙ ap (λ (t : List ℤ). sets t (count * 4) (edge_numbers e)) r.given
+            ∙ entry_more edge_numbers edge_from 4 edge-width r.done e out₀ count r.made fits;
         made = snoc-length r.done e ∙ ap (λ (n : ℕ). n + 1) r.made;
         rest =
             here
@@ -165,7 +165,7 @@ module _ (X : List Place) (T : List Edge) (pts₀ out₀ : List ℤ) where
             ∙ ap (λ (l : List Edge). before (r.done ++ (e ∷ [])) (bends r.ahead l)) (sym next);
       }
 
-      pub bending-slanted : (c : Place) → straight e ≡ false → At c ≡ cornerOf (entries placeFrom 2 pts points) e
+      pub bending-slanted : (c : Place) → straight e ≡ false → At c ≡ corner_of (entries place_from 2 pts points) e
           → points * 2 + 2 ≤ length pts₀ → count * 4 + 8 ≤ length out₀
           → (more newer : List ℤ) (a : declared.Bent) (t : Bool) → BentAt c e (counts t points count) pts out a more newer
           → Bending more newer (points + 1) (count + 2) (i + 1)
@@ -180,17 +180,17 @@ module _ (X : List Place) (T : List Edge) (pts₀ out₀ : List ℤ) where
             done = (r.done ++ (a ∷ [])) ++ (b ∷ []);
             table =
                 w.placed
-                ∙ ap (λ (t : List ℤ). sets t (points * 2) (placeNumbers c)) r.table
-                ∙ entry_more placeNumbers placeFrom 2 place-width r.placed c pts₀ points r.many fits;
+                ∙ ap (λ (t : List ℤ). sets t (points * 2) (place_numbers c)) r.table
+                ∙ entry_more place_numbers place_from 2 place-width r.placed c pts₀ points r.many fits;
             many = snoc-length r.placed c ∙ ap (λ (n : ℕ). n + 1) r.many;
             same = λ d. taken_more r.placed c d ∙ head-same r.placed r.ahead r.same c d;
             long = snoc-length r.placed c ∙ omega (arith, r.long);
             given =
                 w.edged
-                ∙ ap (λ (t : List ℤ). sets t ((count + 1) * 4) (edgeNumbers b))
-                (ap (λ (t : List ℤ). sets t (count * 4) (edgeNumbers a)) r.given
-                ∙ entry_more edgeNumbers edgeFrom 4 edge-width r.done a out₀ count r.made (omega arith))
-                ∙ entry_more edgeNumbers edgeFrom 4 edge-width (r.done ++ (a ∷ [])) b out₀ (count + 1) one (omega arith);
+                ∙ ap (λ (t : List ℤ). sets t ((count + 1) * 4) (edge_numbers b))
+                (ap (λ (t : List ℤ). sets t (count * 4) (edge_numbers a)) r.given
+                ∙ entry_more edge_numbers edge_from 4 edge-width r.done a out₀ count r.made (omega arith))
+                ∙ entry_more edge_numbers edge_from 4 edge-width (r.done ++ (a ∷ [])) b out₀ (count + 1) one (omega arith);
             made = snoc-length (r.done ++ (a ∷ [])) b ∙ omega (arith, one);
             rest =
                 here
@@ -200,7 +200,7 @@ module _ (X : List Place) (T : List Edge) (pts₀ out₀ : List ℤ) where
                 ∙ ap (λ (l : List Edge). before ((r.done ++ (a ∷ [])) ++ (b ∷ [])) (bends (c ∷ r.ahead) l)) (sym next);
           }
 
-      pub bending-back : straight e ≡ false → Taken ≡ cornerOf (entries placeFrom 2 pts points) e → bends X T ≡ given_back
+      pub bending-back : straight e ≡ false → Taken ≡ corner_of (entries place_from 2 pts points) e → bends X T ≡ given_back
       unfolding before
       bending-back s k =
           here ∙ ap (before r.done) (bends-slanted r.ahead e left s ∙ ap (turned r.ahead e left) (sym (k ∙ corner-is e)))
@@ -211,7 +211,7 @@ module _ (X : List Place) (T : List Edge) (pts₀ out₀ : List ℤ) where
         goes_back : a.back ≡ true → bends X T ≡ given_back → Slanting a more newer
 
       pub bending-where : straight e ≡ false → points * 2 + 2 ≤ length pts₀ → count * 4 + 8 ≤ length out₀
-          → (corner : Corner) → corner ≡ cornerOf (entries placeFrom 2 pts points) e → (a : declared.Bent) (more newer : List ℤ) (t : Bool)
+          → (corner : Corner) → corner ≡ corner_of (entries place_from 2 pts points) e → (a : declared.Bent) (more newer : List ℤ) (t : Bool)
           → BentWhere corner e (counts t points count) pts out a more newer → Slanting a more newer
       bending-where s fits room (At c) k a more newer t w = goes_on w.counted (bending-slanted c s k fits room more newer a t w)
       bending-where s fits room Taken k a more newer t w = goes_back w (bending-back s k)
@@ -239,8 +239,8 @@ module _ (X : List Place) (T : List Edge) (pts₀ out₀ : List ℤ) where
             p ∙ sym r.many ∙ r.long,
             (
               q ∙ sym r.made,
-              ap₂ edgesOf r.given (q ∙ sym r.made)
-                  ∙ entries_over edgeNumbers edgeFrom 4 edge-width r.done out₀ (length r.done) refl,
+              ap₂ edges_of r.given (q ∙ sym r.made)
+                  ∙ entries_over edge_numbers edge_from 4 edge-width r.done out₀ (length r.done) refl,
             ),
           ),
         )

@@ -3,19 +3,19 @@ use Rattle.std.specs.Prelude.{◌≡◌, Bool, true, false, List, ℕ, ◌+◌, 
 use Rattle.std.proofs.lemmas.List.Edits.{sets}
 use Rattle.plane.specs.declared.Place.{Place}
 use Rattle.graph.specs.Edges.{edge_of}
-use Rattle.graph.specs.Numbers.{placeNumbers, edgeNumbers}
-use Rattle.slide.specs.Bend.{Edge, xFirst, yFirst, taken, Bent, bent, given_back}
+use Rattle.graph.specs.Numbers.{place_numbers, edge_numbers}
+use Rattle.slide.specs.Bend.{Edge, x_first, y_first, taken, Bent, bent, given_back}
 use Rattle.bends.specs.declared.Corner.{Corner}
 use Rattle.bends.specs.declared.Corner.TheVariants.{At, Taken}
 use Rattle.bends.specs.declared.Bent as declared
-use Rattle.settled.specs.Settled.{edgesOf}
+use Rattle.settled.specs.Settled.{edges_of}
 
 -- M3: where a slanted edge bends, X being the tree points and the bends so far
-unfoldable pub cornerOf : List Place → Edge → Corner
-cornerOf X e =
-    elim (taken X (xFirst e)) [
-      | false ↦ At (xFirst e)
-      | true ↦ elim (taken X (yFirst e)) [ false ↦ At (yFirst e) | true ↦ Taken ]
+unfoldable pub corner_of : List Place → Edge → Corner
+corner_of X e =
+    elim (taken X (x_first e)) [
+      | false ↦ At (x_first e)
+      | true ↦ elim (taken X (y_first e)) [ false ↦ At (y_first e) | true ↦ Taken ]
     ]
 
 abbrev pub counts : Bool → ℕ → ℕ → declared.Bent
@@ -23,8 +23,8 @@ counts t n e = record { back = t; points = n; edges = e }
 
 -- the edge e by way of c: c is put after the points, and two edges after the edges
 pub record BentAt (c : Place) (e : Edge) (at : declared.Bent) (pts out : List ℤ) (r : declared.Bent) (pts' out' : List ℤ) : Type 0 where
-  pub placed : pts' ≡ sets pts (at.points * 2) (placeNumbers c)
-  pub edged : out' ≡ sets (sets out (at.edges * 4) (edgeNumbers (edge_of e.0 c))) ((at.edges + 1) * 4) (edgeNumbers (edge_of c e.1))
+  pub placed : pts' ≡ sets pts (at.points * 2) (place_numbers c)
+  pub edged : out' ≡ sets (sets out (at.edges * 4) (edge_numbers (edge_of e.0 c))) ((at.edges + 1) * 4) (edge_numbers (edge_of c e.1))
   pub counted : r ≡ counts false (at.points + 1) (at.edges + 2)
 
 -- what a slanted edge comes to, by where it bends
@@ -34,5 +34,5 @@ BentWhere Taken e at pts out r pts' out' = r.back ≡ true
 
 -- what was bent, as it was found in the space for it
 abbrev pub BentBy : Bent → declared.Bent → List ℤ → Type 0
-BentBy (bent X U) r out = (r.back ≡ false) × ((r.points ≡ length X) × ((r.edges ≡ length U) × (edgesOf out r.edges ≡ U)))
+BentBy (bent X U) r out = (r.back ≡ false) × ((r.points ≡ length X) × ((r.edges ≡ length U) × (edges_of out r.edges ≡ U)))
 BentBy given_back r out = r.back ≡ true

@@ -18,30 +18,30 @@ use Rattle.lists.specs.Member.{◌∈◌}
 use Rattle.plane.specs.declared.Place.{Place}
 use Rattle.plane.specs.declared.Macro.{Macro}
 use Rattle.plane.specs.declared.Weights.{Weights}
-use Rattle.plane.specs.Place.{samePlace}
+use Rattle.plane.specs.Place.{same_place}
 use Rattle.plane.specs.Cost.{cost}
-use Rattle.plane.specs.Middle.{middlePlace}
-use Rattle.plane.specs.Flat.{placeAt}
+use Rattle.plane.specs.Middle.{middle_place}
+use Rattle.plane.specs.Flat.{place_at}
 use Rattle.plane.specs.Rank.{rank}
-use Rattle.forest.specs.Bounds.{pointBound}
+use Rattle.forest.specs.Bounds.{point_bound}
 use Rattle.forest.specs.Edges.{entries, FirstBelow, Listed}
-use Rattle.forest.specs.Parents.{wayAfter, Nearing}
+use Rattle.forest.specs.Parents.{way_after, Nearing}
 use Rattle.forest.proofs.ListedLaws.{read-listed, entry_listed, listed-none, listed_more}
 use Rattle.forest.proofs.WayLaws.{after-go, after_none}
-use Rattle.tree.specs.Table.{treeBound, Low}
+use Rattle.tree.specs.Table.{tree_bound, Low}
 use Rattle.candidates.specs.declared.Best.{Best}
 use Rattle.beside.specs.declared.Choice.{Choice}
 use Rattle.lists.specs.Turns.{turns}
 use Rattle.longest.specs.Longest.{measure, costs, longest, cut_of}
-use Rattle.near.specs.Box.{boxOf, boxCost}
+use Rattle.near.specs.Box.{box_of, box_cost}
 use Rattle.near.proofs.BoxLaws.{box-cost}
-use Rattle.triples.specs.Triple.{sees, dropped, mayGain}
+use Rattle.triples.specs.Triple.{sees, dropped, may_gain}
 use Rattle.candidates.specs.Candidate.{best, chosen}
 use Rattle.candidates.specs.Candidate as tree
 use Rattle.exchanges.specs.Exchange.{stands}
-use Rattle.beside.specs.Beside.{isPoint, sourcesFrom, takeSeat, onWay, free, middleBeside, weighed, offer, search}
+use Rattle.beside.specs.Beside.{is_point, sources_from, take_seat, on_way, free, middle_beside, weighed, offer, search}
 use Rattle.beside.specs.Beside.{chosen_of}
-use Rattle.beside.specs.Beside.{choice, either as chosenEither}
+use Rattle.beside.specs.Beside.{choice, either as chosen_either}
 
 and-false : (a : Bool) → (a && false) ≡ false
 and-false true = refl
@@ -49,8 +49,8 @@ and-false false = refl
 
 -- Sources
 
-pub is-point-is : (pts : List ℤ) (n r : ℕ) (p : Place) (t : Bool) → r ≡ rank pts n p → t ≡ stands pts n r p → t ≡ isPoint pts n p
-unfolding isPoint
+pub is-point-is : (pts : List ℤ) (n r : ℕ) (p : Place) (t : Bool) → r ≡ rank pts n p → t ≡ stands pts n r p → t ≡ is_point pts n p
+unfolding is_point
 is-point-is pts n r p t e f = f ∙ ap (λ (q : ℕ). stands pts n q p) e
 
 module _ (pts : List ℤ) (n : ℕ) (vs : List ℤ) (v : ℕ) where
@@ -58,7 +58,7 @@ module _ (pts : List ℤ) (n : ℕ) (vs : List ℤ) (v : ℕ) where
   pub record Gathering (lent source : List ℕ) (c i : ℕ) : Type 0 where
     pub done : List ℕ
     pub written : Listed done lent source c
-    pub answer : done ++ sourcesFrom pts n vs i (v - i) ≡ sourcesFrom pts n vs 0 v
+    pub answer : done ++ sources_from pts n vs i (v - i) ≡ sources_from pts n vs 0 v
     pub low : (x : ℕ) → x ∈ done → x < i
     pub few : c ≤ i
     pub inside : i ≤ v
@@ -69,7 +69,7 @@ module _ (pts : List ℤ) (n : ℕ) (vs : List ℤ) (v : ℕ) where
       record {
         done = [];
         written = listed-none lent;
-        answer = ap (sourcesFrom pts n vs 0) z;
+        answer = ap (sources_from pts n vs 0) z;
         low = λ x m. elim m [ ];
         few = omega arith;
         inside = omega arith;
@@ -79,27 +79,27 @@ module _ (pts : List ℤ) (n : ℕ) (vs : List ℤ) (v : ℕ) where
     one_less : v - i ≡ suc (v - (i + 1))
     one_less = omega arith
 
-    pub gather-pass : isPoint pts n (placeAt vs i) ≡ false → Gathering lent source c (i + 1)
-    unfolding sourcesFrom
+    pub gather-pass : is_point pts n (place_at vs i) ≡ false → Gathering lent source c (i + 1)
+    unfolding sources_from
     gather-pass t = record {
       done = g.done;
       written = g.written;
       answer =
           ap (λ (r : List ℕ). g.done ++ r)
-          (sym (rw (one_less, sourcesFrom, t, add-one i) refl)) ∙ g.answer;
+          (sym (rw (one_less, sources_from, t, add-one i) refl)) ∙ g.answer;
       low = λ x m. omega (arith, g.low x m);
       few = omega (arith, g.few);
       inside = omega arith;
     }
 
-    pub gather-more : isPoint pts n (placeAt vs i) ≡ true → c < length lent → Gathering lent (set source c i) (c + 1) (i + 1)
-    unfolding sourcesFrom
+    pub gather-more : is_point pts n (place_at vs i) ≡ true → c < length lent → Gathering lent (set source c i) (c + 1) (i + 1)
+    unfolding sources_from
     gather-more t room = record {
       done = g.done ++ (i ∷ []);
       written = listed_more g.done lent source c i g.written room;
       answer =
-          append_snoc g.done i (sourcesFrom pts n vs (i + 1) (v - (i + 1)))
-          ∙ ap (λ (r : List ℕ). g.done ++ r) (sym (rw (one_less, sourcesFrom, t, add-one i) refl)) ∙ g.answer;
+          append_snoc g.done i (sources_from pts n vs (i + 1) (v - (i + 1)))
+          ∙ ap (λ (r : List ℕ). g.done ++ r) (sym (rw (one_less, sources_from, t, add-one i) refl)) ∙ g.answer;
       low = λ x m. with-last x (Memᴰ.append_cases g.done m);
       few = omega (arith, g.few);
       inside = omega arith;
@@ -114,16 +114,16 @@ module _ (pts : List ℤ) (n : ℕ) (vs : List ℤ) (v : ℕ) where
         with-last x (inr k) = last x (Memᴰ.cases_cons k)
 
   module _ (lent source : List ℕ) (c i : ℕ) (g : Gathering lent source c i) (h : v ≤ i) where
-    done-is : g.done ≡ sourcesFrom pts n vs 0 v
-    unfolding sourcesFrom
+    done-is : g.done ≡ sources_from pts n vs 0 v
+    unfolding sources_from
     done-is =
         let z : v - i ≡ 0 = omega arith in
-        sym (append-nil g.done) ∙ ap (λ (r : List ℕ). g.done ++ r) (sym (rw (z, sourcesFrom) refl)) ∙ g.answer
+        sym (append-nil g.done) ∙ ap (λ (r : List ℕ). g.done ++ r) (sym (rw (z, sources_from) refl)) ∙ g.answer
 
-    pub gather-end : entries source 0 c ≡ sourcesFrom pts n vs 0 v
+    pub gather-end : entries source 0 c ≡ sources_from pts n vs 0 v
     gather-end = read-listed g.done lent source c g.written ∙ done-is
 
-    pub gather-low : v ≤ pointBound → FirstBelow source c pointBound
+    pub gather-low : v ≤ point_bound → FirstBelow source c point_bound
     gather-low few = record {
       inside = λ j k. omega (arith, few, g.inside, g.low _ (entry_listed g.done lent source c g.written j k));
     }
@@ -131,33 +131,33 @@ module _ (pts : List ℤ) (n : ℕ) (vs : List ℤ) (v : ℕ) where
 -- Seats
 
 pub take-seat-is : (pts : List ℤ) (n : ℕ) (vs : List ℤ) (roots : List ℕ) (i x r : ℕ) (p : Place) (t : List ℕ) → x ≡ get_or roots i 0
-    → p ≡ placeAt vs x → r ≡ rank pts n p → set t i r ≡ takeSeat pts n vs roots i t
-unfolding takeSeat
+    → p ≡ place_at vs x → r ≡ rank pts n p → set t i r ≡ take_seat pts n vs roots i t
+unfolding take_seat
 take-seat-is pts n vs roots i x r p t e f g = rw (g, f, e) refl
 
 -- Ways
 
 module _ (vs : List ℤ) (s : Place) (fars ups : List ℕ) (u : ℕ) where
-  pub way-stop : pointBound ≤ get_or ups u 0 → false ≡ onWay vs s (wayAfter fars ups u)
-  unfolding onWay
-  way-stop h = sym (ap (onWay vs s) (after_none fars ups u h))
+  pub way-stop : point_bound ≤ get_or ups u 0 → false ≡ on_way vs s (way_after fars ups u)
+  unfolding on_way
+  way-stop h = sym (ap (on_way vs s) (after_none fars ups u h))
 
-  module _ (f : Nearing fars ups) (hu : u < pointBound) (h : get_or ups u 0 < pointBound) where
-    on_step : onWay vs s (wayAfter fars ups u) ≡ (samePlace s (placeAt vs (get_or ups u 0)) || onWay vs s (wayAfter fars ups (get_or ups u 0)))
-    unfolding onWay
-    on_step = ap (onWay vs s) (after-go fars ups f u hu h)
+  module _ (f : Nearing fars ups) (hu : u < point_bound) (h : get_or ups u 0 < point_bound) where
+    on_step : on_way vs s (way_after fars ups u) ≡ (same_place s (place_at vs (get_or ups u 0)) || on_way vs s (way_after fars ups (get_or ups u 0)))
+    unfolding on_way
+    on_step = ap (on_way vs s) (after-go fars ups f u hu h)
 
-    pub way-here : (p : Place) → p ≡ placeAt vs (get_or ups u 0) → samePlace s p ≡ true → true ≡ onWay vs s (wayAfter fars ups u)
+    pub way-here : (p : Place) → p ≡ place_at vs (get_or ups u 0) → same_place s p ≡ true → true ≡ on_way vs s (way_after fars ups u)
     way-here p e t = sym (on_step ∙ rw (← e, t) refl)
 
-    pub way-there : (p : Place) → p ≡ placeAt vs (get_or ups u 0) → samePlace s p ≡ false →
-        onWay vs s (wayAfter fars ups (get_or ups u 0)) ≡ onWay vs s (wayAfter fars ups u)
+    pub way-there : (p : Place) → p ≡ place_at vs (get_or ups u 0) → same_place s p ≡ false →
+        on_way vs s (way_after fars ups (get_or ups u 0)) ≡ on_way vs s (way_after fars ups u)
     way-there p e t = sym (on_step ∙ rw (← e, t) refl)
 
 -- Candidates
 
 module _ (pts : List ℤ) (n : ℕ) (ms : List Macro) (vs : List ℤ) (fars ups : List ℕ) (a b u : ℕ) (s p q r : Place)
-    (f : p ≡ placeAt pts a) (g : q ≡ placeAt pts b) (h : r ≡ placeAt vs u) where
+    (f : p ≡ place_at pts a) (g : q ≡ place_at pts b) (h : r ≡ place_at vs u) where
   pub free-unseen : sees ms p q r ≡ false → false ≡ free pts n ms vs fars ups a b u s
   unfolding free
   free-unseen e = rw (← f, ← g, ← h, e) refl
@@ -167,17 +167,17 @@ module _ (pts : List ℤ) (n : ℕ) (ms : List Macro) (vs : List ℤ) (fars ups 
     unfolding free
     free-dropped d = rw (← f, ← g, ← h, e, d) refl
 
-    pub free-way : dropped pts n a b a s ≡ false → (t : Bool) → t ≡ onWay vs s (wayAfter fars ups u) →
+    pub free-way : dropped pts n a b a s ≡ false → (t : Bool) → t ≡ on_way vs s (way_after fars ups u) →
         not t ≡ free pts n ms vs fars ups a b u s
     unfolding free
     free-way d t o = rw (← f, ← g, ← h, e, d, ← o) refl
 
 -- the places of a candidate, what metal from s to u costs and how far u is from the tree, by their names
 pub record Spots (w : Weights) (pts vs : List ℤ) (fars : List ℕ) (a b u : ℕ) (p q r s : Place) (m f : ℕ) : Type 0 where
-  pub one : p ≡ placeAt pts a
-  pub two : q ≡ placeAt pts b
-  pub three : r ≡ placeAt vs u
-  pub mid : s ≡ middlePlace p q r
+  pub one : p ≡ place_at pts a
+  pub two : q ≡ place_at pts b
+  pub three : r ≡ place_at vs u
+  pub mid : s ≡ middle_place p q r
   pub metal : m ≡ cost w s r
   pub far : f ≡ get_or fars u 0
 
@@ -234,17 +234,17 @@ off-tree x h = ne_eqb x 0 (λ q. let z : ⊥ = omega (arith, h, q) in z)
 
 -- a vertex so far from the box of an edge, with its way, that no edge is long enough
 module _ (w : Weights) (pts : List ℤ) (n : ℕ) (ms : List Macro) (el top : List ℕ) (vs : List ℤ) (fars ups seat : List ℕ)
-    (a b k u : ℕ) (c : Best) (x : ℕ) (low : Low x el) (p q r : Place) (f : p ≡ placeAt pts a) (g : q ≡ placeAt pts b)
-    (h : r ≡ placeAt vs u) where
-  pub offer-far : (m : Macro) (t : Bool) → m ≡ boxOf p q → t ≡ mayGain w m r (get_or fars u 0) c.gain x → t ≡ false →
+    (a b k u : ℕ) (c : Best) (x : ℕ) (low : Low x el) (p q r : Place) (f : p ≡ place_at pts a) (g : q ≡ place_at pts b)
+    (h : r ≡ place_at vs u) where
+  pub offer-far : (m : Macro) (t : Bool) → m ≡ box_of p q → t ≡ may_gain w m r (get_or fars u 0) c.gain x → t ≡ false →
       c ≡ offer w pts n ms el top vs fars ups seat a b k u c
-  unfolding mayGain
+  unfolding may_gain
   offer-far m t i j z =
       let v = get_or seat u 0 in
       let l = cut_of el top a b v in
-      let s = middlePlace p q r in
-      let d : boxCost w m r ≡ cost w s r = ap (λ (o : Macro). boxCost w o r) i ∙ box-cost w p q r in
-      let y : x ≤ c.gain + (boxCost w m r + get_or fars u 0) = ltb-false _ _ (sym j ∙ z) in
+      let s = middle_place p q r in
+      let d : box_cost w m r ≡ cost w s r = ap (λ (o : Macro). box_cost w o r) i ∙ box-cost w p q r in
+      let y : x ≤ c.gain + (box_cost w m r + get_or fars u 0) = ltb-false _ _ (sym j ∙ z) in
       by (eqb (get_or fars u 0) 0)
       (λ e. offer-on w pts n ms el top vs fars ups seat a b k u c e)
       (λ o. by (eqb v a || (eqb v b || eqb l k))
@@ -257,19 +257,19 @@ module _ (w : Weights) (pts : List ℤ) (n : ℕ) (ms : List Macro) (el top : Li
 -- a vertex too far across is so whatever its way costs; and what is chosen gains no less
 module _ (w : Weights) (pts : List ℤ) (n : ℕ) (ms : List Macro) (el top : List ℕ) (vs : List ℤ) (fars ups seat : List ℕ)
     (a b k u : ℕ) (c : Best) where
-  pub offer-beyond : (x : ℕ) → Low x el → (m : Macro) → m ≡ boxOf (placeAt pts a) (placeAt pts b) → (g : ℕ) → g ≤ c.gain
-      → x - g ≤ boxCost w m (placeAt vs u) → offer w pts n ms el top vs fars ups seat a b k u c ≡ c
-  unfolding mayGain
+  pub offer-beyond : (x : ℕ) → Low x el → (m : Macro) → m ≡ box_of (place_at pts a) (place_at pts b) → (g : ℕ) → g ≤ c.gain
+      → x - g ≤ box_cost w m (place_at vs u) → offer w pts n ms el top vs fars ups seat a b k u c ≡ c
+  unfolding may_gain
   offer-beyond x low m i g h f =
-      sym (offer-far w pts n ms el top vs fars ups seat a b k u c x low (placeAt pts a) (placeAt pts b) (placeAt vs u)
+      sym (offer-far w pts n ms el top vs fars ups seat a b k u c x low (place_at pts a) (place_at pts b) (place_at vs u)
       refl refl refl m false i
-      (sym (le-ltb (c.gain + (boxCost w m (placeAt vs u) + get_or fars u 0)) x (omega (arith, h, f)))) refl)
+      (sym (le-ltb (c.gain + (box_cost w m (place_at vs u) + get_or fars u 0)) x (omega (arith, h, f)))) refl)
 
   weighed-more : (l x : ℕ) → c.gain ≤ (weighed w pts n ms vs fars ups a b k u l x c).gain
   unfolding weighed
   weighed-more l x =
-      let s = middleBeside pts vs a b u in
-      let d = cost w s (placeAt vs u) + get_or fars u 0 in
+      let s = middle_beside pts vs a b u in
+      let d = cost w s (place_at vs u) + get_or fars u 0 in
       let o = free pts n ms vs fars ups a b u s in
       by (ltb (c.gain + d) x && o)
       (λ t. rw t (omega (arith, ltb-true (c.gain + d) x (and_left (ltb (c.gain + d) x) o t))))
@@ -284,18 +284,18 @@ module _ (w : Weights) (pts : List ℤ) (n : ℕ) (ms : List Macro) (el top : Li
 
 -- On the tree or beside it
 
-pub either-off : (on off : Best) → on.gain < off.gain → choice true off ≡ chosenEither on off
-unfolding chosenEither
-either-off on off h = rw (chosenEither, lt-ltb _ _ h) refl
+pub either-off : (on off : Best) → on.gain < off.gain → choice true off ≡ chosen_either on off
+unfolding chosen_either
+either-off on off h = rw (chosen_either, lt-ltb _ _ h) refl
 
-pub either-on : (on off : Best) → off.gain ≤ on.gain → choice false on ≡ chosenEither on off
-unfolding chosenEither
-either-on on off h = rw (chosenEither, le-ltb _ _ h) refl
+pub either-on : (on off : Best) → off.gain ≤ on.gain → choice false on ≡ chosen_either on off
+unfolding chosen_either
+either-on on off h = rw (chosen_either, le-ltb _ _ h) refl
 
 module _ (w : Weights) (ms : List Macro) (pts : List ℤ) (n : ℕ) (ks : List ℕ) (e : ℕ) (vs : List ℤ) (v : ℕ) (fars ups seat : List ℕ)
-    (el : List ℕ) (on off : Best) (el-is : el ≡ turns (measure w pts ks) 0 e (replicate treeBound 0))
+    (el : List ℕ) (on off : Best) (el-is : el ≡ turns (measure w pts ks) 0 e (replicate tree_bound 0))
     (on-is : on ≡ tree.search w pts n ms ks e el (longest ks el e n))
     (off-is : off ≡ search w pts n ms ks e el (longest ks el e n) vs v fars ups seat on) where
-  pub chosen_is : (r : Choice) → r ≡ chosenEither on off → r ≡ chosen_of w ms pts n ks e vs v fars ups seat
+  pub chosen_is : (r : Choice) → r ≡ chosen_either on off → r ≡ chosen_of w ms pts n ks e vs v fars ups seat
   unfolding chosen_of costs
   chosen_is r h = h ∙ rw (off-is, on-is, el-is) refl

@@ -1,4 +1,2 @@
 pub mod BesideLaws
 pub mod HangingLaws
-pub mod AsideLaws
-pub mod MovedLaws

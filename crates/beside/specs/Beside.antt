@@ -6,16 +6,16 @@ use Rattle.std.specs.Prelude.{Bool, true, false, not, ◌&&◌, ◌||◌, List, 
 use Rattle.plane.specs.declared.Place.{Place}
 use Rattle.plane.specs.declared.Macro.{Macro}
 use Rattle.plane.specs.declared.Weights.{Weights}
-use Rattle.plane.specs.Place.{samePlace}
+use Rattle.plane.specs.Place.{same_place}
 use Rattle.plane.specs.Cost.{cost}
-use Rattle.plane.specs.Middle.{middlePlace}
-use Rattle.plane.specs.Flat.{placeAt}
+use Rattle.plane.specs.Middle.{middle_place}
+use Rattle.plane.specs.Flat.{place_at}
 use Rattle.plane.specs.Rank.{rank}
-use Rattle.forest.specs.Bounds.{pointBound}
+use Rattle.forest.specs.Bounds.{point_bound}
 use Rattle.forest.specs.Edges.{Graph}
 use Rattle.forest.specs.Labels.{Labels, labelled}
-use Rattle.forest.specs.Parents.{Parents, parented, wayAfter}
-use Rattle.tree.specs.Table.{firstEnd, secondEnd, Tree}
+use Rattle.forest.specs.Parents.{Parents, parented, way_after}
+use Rattle.tree.specs.Table.{first_end, second_end, Tree}
 use Rattle.candidates.specs.declared.Best.{Best}
 use Rattle.beside.specs.declared.Choice.{Choice}
 use Rattle.lists.specs.Turns.{turns}
@@ -35,46 +35,46 @@ abbrev pub ground : List ℤ → ℕ → Graph → Ground
 ground vs n g = record { places = vs; count = n; graph = g }
 
 -- p is the place of one of n points
-unfoldable pub isPoint : List ℤ → ℕ → Place → Bool
-isPoint pts n p = stands pts n (rank pts n p) p
+unfoldable pub is_point : List ℤ → ℕ → Place → Bool
+is_point pts n p = stands pts n (rank pts n p) p
 
 -- R23: the tree points that are vertices, of c vertices from number i on
-unfoldable pub sourcesFrom : List ℤ → ℕ → List ℤ → ℕ → ℕ → List ℕ
-sourcesFrom pts n vs i zero = []
-sourcesFrom pts n vs i (suc c) =
-    elim (isPoint pts n (placeAt vs i)) [ true ↦ i ∷ sourcesFrom pts n vs (suc i) c | false ↦ sourcesFrom pts n vs (suc i) c ]
+unfoldable pub sources_from : List ℤ → ℕ → List ℤ → ℕ → ℕ → List ℕ
+sources_from pts n vs i zero = []
+sources_from pts n vs i (suc c) =
+    elim (is_point pts n (place_at vs i)) [ true ↦ i ∷ sources_from pts n vs (suc i) c | false ↦ sources_from pts n vs (suc i) c ]
 
 -- the number of a vertex's root among the points of the tree
-unfoldable pub takeSeat : List ℤ → ℕ → List ℤ → List ℕ → ℕ → List ℕ → List ℕ
-takeSeat pts n vs roots i t = set t i (rank pts n (placeAt vs (get_or roots i 0)))
+unfoldable pub take_seat : List ℤ → ℕ → List ℤ → List ℕ → ℕ → List ℕ → List ℕ
+take_seat pts n vs roots i t = set t i (rank pts n (place_at vs (get_or roots i 0)))
 
 unfoldable pub seats : List ℤ → ℕ → List ℤ → ℕ → List ℕ → List ℕ
-seats pts n vs v roots = turns (takeSeat pts n vs roots) 0 v (replicate pointBound 0)
+seats pts n vs v roots = turns (take_seat pts n vs roots) 0 v (replicate point_bound 0)
 
 -- the first v vertices have their roots among n points of a tree
 pub record Seated (seat : List ℕ) (v n : ℕ) : Type 0 where
   pub seated : (u : ℕ) → u < v → get_or seat u 0 < n
 
 -- R24: s is the place of one of these vertices
-unfoldable pub onWay : List ℤ → Place → List ℕ → Bool
-onWay vs s [] = false
-onWay vs s (y ∷ ys) = samePlace s (placeAt vs y) || onWay vs s ys
+unfoldable pub on_way : List ℤ → Place → List ℕ → Bool
+on_way vs s [] = false
+on_way vs s (y ∷ ys) = same_place s (place_at vs y) || on_way vs s ys
 
 -- R23: u is clear of a or of b;  R24: s is the place of no tree point but a and b, and of none on the way but u
 unfoldable pub free : List ℤ → ℕ → List Macro → List ℤ → List ℕ → List ℕ → ℕ → ℕ → ℕ → Place → Bool
 free pts n ms vs fars ups a b u s =
-    sees ms (placeAt pts a) (placeAt pts b) (placeAt vs u) && (not (dropped pts n a b a s)
-    && not (onWay vs s (wayAfter fars ups u)))
+    sees ms (place_at pts a) (place_at pts b) (place_at vs u) && (not (dropped pts n a b a s)
+    && not (on_way vs s (way_after fars ups u)))
 
 -- R5: s, the middle of the three places axis by axis
-abbrev pub middleBeside : List ℤ → List ℤ → ℕ → ℕ → ℕ → Place
-middleBeside pts vs a b u = middlePlace (placeAt pts a) (placeAt pts b) (placeAt vs u)
+abbrev pub middle_beside : List ℤ → List ℤ → ℕ → ℕ → ℕ → Place
+middle_beside pts vs a b u = middle_place (place_at pts a) (place_at pts b) (place_at vs u)
 
 -- R25: the way's cost is taken off the gain. The candidate of edge k from a to b and the vertex u, whose L is l and costs x
 unfoldable pub weighed : Weights → List ℤ → ℕ → List Macro → List ℤ → List ℕ → List ℕ → ℕ → ℕ → ℕ → ℕ → ℕ → ℕ → Best → Best
 weighed w pts n ms vs fars ups a b k u l x c =
-    let s = middleBeside pts vs a b u in
-    let d = cost w s (placeAt vs u) + get_or fars u 0 in
+    let s = middle_beside pts vs a b u in
+    let d = cost w s (place_at vs u) + get_or fars u 0 in
     chosen (ltb (c.gain + d) x && free pts n ms vs fars ups a b u s) (best (x - d) k u l) c
 
 -- R23: u is no tree point, so that its distance is not 0;  R24: v is neither a nor b;  R25: L is sought from v
@@ -90,7 +90,7 @@ offer w pts n ms el top vs fars ups seat a b k u c =
 unfoldable pub offers : Weights → List ℤ → ℕ → List Macro → List ℕ → List ℕ → List ℕ → List ℤ → ℕ → List ℕ → List ℕ → List ℕ → ℕ → Best
     → Best
 offers w pts n ms keys el top vs v fars ups seat k c =
-    turns (offer w pts n ms el top vs fars ups seat (firstEnd (get_or keys k 0)) (secondEnd (get_or keys k 0)) k) 0 v c
+    turns (offer w pts n ms el top vs fars ups seat (first_end (get_or keys k 0)) (second_end (get_or keys k 0)) k) 0 v c
 
 -- R26: those beside the tree come after those on it, so only a greater gain counts;  edges and vertices come in order
 unfoldable pub search : Weights → List ℤ → ℕ → List Macro → List ℕ → ℕ → List ℕ → List ℕ → List ℤ → ℕ → List ℕ → List ℕ → List ℕ → Best
@@ -113,16 +113,16 @@ chosen_of w ms pts n keys e vs v fars ups seat =
 
 -- Of a tree
 
-unfoldable pub labelsIn : Ground → Tree → Labels
-labelsIn g t = labelled g.graph g.count (sourcesFrom t.points t.count g.places 0 g.count)
+unfoldable pub labels_in : Ground → Tree → Labels
+labels_in g t = labelled g.graph g.count (sources_from t.points t.count g.places 0 g.count)
 
-unfoldable pub parentsIn : Ground → Tree → Parents
-parentsIn g t = parented g.graph g.count (labelsIn g t)
+unfoldable pub parents_in : Ground → Tree → Parents
+parents_in g t = parented g.graph g.count (labels_in g t)
 
-unfoldable pub seatsIn : Ground → Tree → List ℕ
-seatsIn g t = seats t.points t.count g.places g.count (labelsIn g t).roots
+unfoldable pub seats_in : Ground → Tree → List ℕ
+seats_in g t = seats t.points t.count g.places g.count (labels_in g t).roots
 
-unfoldable pub chosenIn : Weights → List Macro → Ground → Tree → Choice
-chosenIn w ms g t =
-    chosen_of w ms t.points t.count t.edges.keys t.edges.size g.places g.count (labelsIn g t).fars (parentsIn g t).ups
-    (seatsIn g t)
+unfoldable pub chosen_in : Weights → List Macro → Ground → Tree → Choice
+chosen_in w ms g t =
+    chosen_of w ms t.points t.count t.edges.keys t.edges.size g.places g.count (labels_in g t).fars (parents_in g t).ups
+    (seats_in g t)

@@ -2,21 +2,20 @@
 //
 // Roots and parents with the tree's own vertices as sources: the root of a vertex beside the tree is the tree point v that it is joined to,
 // and its way to the root is the way that is laid.
-ghost use Rattle.std.specs.Prelude.{◌≡◌, true, false, List, ℕ, ◌*◌, ◌≤◌, ◌<◌, length, get_or};
-ghost use Rattle.plane.specs.Flat.{placeAt, macrosOf};
+ghost use Rattle.std.specs.Prelude.{◌≡◌, true, List, ℕ, ◌*◌, ◌≤◌, ◌<◌, length, get_or};
+ghost use Rattle.plane.specs.Flat.{place_at, macros_of};
 ghost use Rattle.plane.specs.Rank.{InOrder};
-ghost use Rattle.forest.specs.Bounds.{pointBound};
+ghost use Rattle.forest.specs.Bounds.{point_bound};
 ghost use Rattle.forest.specs.Edges.{entries, Below, FirstBelow};
 ghost use Rattle.forest.specs.Labels.{Low};
-ghost use Rattle.forest.specs.Parents.{wayAfter, Nearing};
+ghost use Rattle.forest.specs.Parents.{way_after, Nearing};
 ghost use Rattle.lists.specs.Turns.{turns};
-ghost use Rattle.tree.specs.Table.{treeBound, pairBound, Small, Within};
+ghost use Rattle.tree.specs.Table.{tree_bound, pair_bound, Small, Within};
 ghost use Rattle.tree.specs.Table as table;
 ghost use Rattle.longest.specs.Longest.{cut_of, longest};
 ghost use Rattle.longest.specs.Hung.{ties, Hanging, Spanned};
-ghost use Rattle.bounds.specs.Carried.{Held, From};
-ghost use Rattle.beside.specs.Beside.{isPoint, sourcesFrom, takeSeat, Seated, onWay, free, weighed, offer, offers, search, chosen_of};
-ghost use Rattle.beside.specs.Bounded.{Moved, Bounded, HeldBeside, FromBeside};
+ghost use Rattle.bounds.specs.Carried.{Held, Was};
+ghost use Rattle.beside.specs.Beside.{is_point, sources_from, take_seat, Seated, on_way, free, weighed, offer, offers, search, chosen_of};
 
 use candidates::{Best, candidate};
 use exchanges::exchange;
@@ -41,8 +40,8 @@ pub struct Choice {
 }
 
 pub fn vertex_at(vertices: &[i32; VERTEX_NUMBERS], v: usize) -> Place
-    requires { v < pointBound }
-    ensures { result ≡ placeAt vertices.now v }
+    requires { v < point_bound }
+    ensures { result ≡ place_at vertices.now v }
 {
     Place {
         x: vertices[v * 2],
@@ -52,9 +51,9 @@ pub fn vertex_at(vertices: &[i32; VERTEX_NUMBERS], v: usize) -> Place
 
 // Whether p is the place of a tree point.
 fn is_point(pts: &[i32; NUMBERS], n: usize, p: Place) -> bool
-    requires n_le_tree_bound { n ≤ treeBound }
+    requires n_le_tree_bound { n ≤ tree_bound }
     requires n_in_bounds { (n * 2 ≤ length pts.now) × (InOrder pts.now n) }
-    ensures { result ≡ isPoint pts.now n p }
+    ensures { result ≡ is_point pts.now n p }
 {
     exchange::stands(pts, n, plane::rank(pts, n, p), p)
 }
@@ -67,11 +66,11 @@ pub fn sources(
     v: usize,
     source: &mut [usize; VERTICES],
 ) -> usize
-    requires n_le_tree_bound { (n ≤ treeBound) × (v ≤ pointBound) }
+    requires n_le_tree_bound { (n ≤ tree_bound) × (v ≤ point_bound) }
     requires n_in_bounds { (n * 2 ≤ length pts.now) × (InOrder pts.now n) }
-    requires source_len { length source.old ≡ pointBound }
-    ensures result_after { entries source.new 0 result ≡ sourcesFrom pts.now n vertices.now 0 v }
-    ensures upper_bound { (result ≤ pointBound) × (FirstBelow source.new result pointBound) }
+    requires source_len { length source.old ≡ point_bound }
+    ensures result_after { entries source.new 0 result ≡ sources_from pts.now n vertices.now 0 v }
+    ensures upper_bound { (result ≤ point_bound) × (FirstBelow source.new result point_bound) }
 {
     let mut c = 0;
     let mut i = 0;
@@ -95,40 +94,15 @@ pub fn seats(
     root: &[usize; VERTICES],
     seat: &mut [usize; VERTICES],
 )
-    requires n_lt_tree_bound { (n < treeBound) × (v ≤ pointBound) }
+    requires n_lt_tree_bound { (n < tree_bound) × (v ≤ point_bound) }
     requires n_in_bounds { (n * 2 ≤ length pts.now) × (InOrder pts.now n) }
-    requires below { Below pointBound root.now }
-    ensures { seat.new ≡ turns (takeSeat pts.now n vertices.now root.now) 0 v
+    requires below { Below point_bound root.now }
+    ensures { seat.new ≡ turns (take_seat pts.now n vertices.now root.now) 0 v
         seat.old }
 {
     let mut i = 0;
     while i < v {
         seat[i] = plane::rank(pts, n, vertex_at(vertices, root[i]));
-        i += 1;
-    }
-}
-
-// Whether p is the place of a vertex.
-pub fn is_vertex(vertices: &[i32; VERTEX_NUMBERS], v: usize, p: Place) -> bool
-    requires { (v ≤ pointBound) × ((v * 2 ≤ length vertices.now) × (InOrder vertices.now v)) }
-    ensures { result ≡ isPoint vertices.now v p }
-{
-    let i = plane::rank(vertices, v, p);
-    if i < v {
-        return plane::is_same_place(p, vertex_at(vertices, i));
-    }
-    false
-}
-
-// The numbers of roots among the points of now, from those among the points before.
-pub fn reseat(at: &[usize; POINTS], v: usize, seat: &mut [usize; VERTICES])
-    requires { (v ≤ pointBound) × ((length seat.old ≡ pointBound) ×
-        ((u : ℕ) → u < v → get_or seat.old u 0 < treeBound)) }
-    ensures { Moved at.now v seat.old seat.new }
-{
-    let mut i = 0;
-    while i < v {
-        seat[i] = at[seat[i]];
         i += 1;
     }
 }
@@ -141,8 +115,8 @@ fn on_way(
     u: usize,
     s: Place,
 ) -> bool
-    requires { (Nearing far.now up.now) × (u < pointBound) }
-    ensures { result ≡ onWay vertices.now s (wayAfter far.now up.now u) }
+    requires { (Nearing far.now up.now) × (u < point_bound) }
+    ensures { result ≡ on_way vertices.now s (way_after far.now up.now u) }
 {
     let y = up[u];
     if y < VERTICES {
@@ -167,9 +141,9 @@ fn is_free(
     u: usize,
     s: Place,
 ) -> bool
-    requires a_lt_tree_bound { ((a < treeBound) × (b < treeBound)) × ((u < pointBound) × (n ≤ treeBound)) }
+    requires a_lt_tree_bound { ((a < tree_bound) × (b < tree_bound)) × ((u < point_bound) × (n ≤ tree_bound)) }
     requires nearing { Nearing far.now up.now }
-    ensures { result ≡ free pts.now n (macrosOf macros.now) vertices.now far.now
+    ensures { result ≡ free pts.now n (macros_of macros.now) vertices.now far.now
         up.now a b u s }
 {
     if triples::sees(
@@ -203,9 +177,9 @@ fn weigh(
     long: u64,
     c: Best,
 ) -> Best
-    requires a_lt_tree_bound { ((a < treeBound) × (b < treeBound)) × ((u < pointBound) × (n ≤ treeBound)) }
+    requires a_lt_tree_bound { ((a < tree_bound) × (b < tree_bound)) × ((u < point_bound) × (n ≤ tree_bound)) }
     requires low { (Low far.now) × (Nearing far.now up.now) }
-    ensures { result ≡ weighed w pts.now n (macrosOf macros.now) vertices.now far.now
+    ensures { result ≡ weighed w pts.now n (macros_of macros.now) vertices.now far.now
         up.now a b k u l long c }
 {
     let r = vertex_at(vertices, u);
@@ -247,10 +221,10 @@ fn offer(
     l: usize,
     c: Best,
 ) -> Best
-    requires a_lt_tree_bound { ((a < treeBound) × (b < treeBound)) × ((u < pointBound) × ((l < treeBound) × (n ≤ treeBound))) }
+    requires a_lt_tree_bound { ((a < tree_bound) × (b < tree_bound)) × ((u < point_bound) × ((l < tree_bound) × (n ≤ tree_bound))) }
     requires low { (Low far.now) × (Nearing far.now up.now) }
     ensures { (t seat : List ℕ) → 0 < get_or far.now u 0 → v ≡ get_or seat u 0 → l ≡ cut_of el.now t a b v
-        → result ≡ offer w pts.now n (macrosOf macros.now) el.now t vertices.now
+        → result ≡ offer w pts.now n (macros_of macros.now) el.now t vertices.now
         far.now up.now seat a b k u c }
 {
     if (v == a) | ((v == b) | (l == k)) {
@@ -286,12 +260,12 @@ fn offers(
     k: usize,
     c: Best,
 ) -> Best
-    requires k_lt_e { ((k < e) × (e ≤ treeBound)) × ((n ≤ treeBound) × (Within n keys.now)) }
-    requires v_le_point_bound { (v ≤ pointBound) × (Seated seat.now v n) }
+    requires k_lt_e { ((k < e) × (e ≤ tree_bound)) × ((n ≤ tree_bound) × (Within n keys.now)) }
+    requires v_le_point_bound { (v ≤ point_bound) × (Seated seat.now v n) }
     requires v_in_bounds { (v * 2 ≤ length vertices.now) × (InOrder vertices.now v) }
     requires low { (Low far.now) × (Nearing far.now up.now) }
     requires low_2 { (table.Low most el.now) × (Hanging keys.now el.now e n (ties onto.now link.now turn.now)) }
-    ensures { result ≡ offers w pts.now n (macrosOf macros.now) keys.now el.now
+    ensures { result ≡ offers w pts.now n (macros_of macros.now) keys.now el.now
         (longest keys.now el.now e n) vertices.now v far.now up.now
         seat.now k c }
 {
@@ -323,83 +297,6 @@ fn offers(
     found
 }
 
-// The best so far with edge k, which is sought only where its bound is above what is gained already. The bound is then
-// what it gains.
-fn ask(
-    w: Weights,
-    pts: &[i32; NUMBERS],
-    n: usize,
-    macros: &[i32],
-    keys: &[usize; POINTS],
-    e: usize,
-    el: &[u64; POINTS],
-    most: u64,
-    onto: &[usize; POINTS],
-    link: &[usize; POINTS],
-    turn: &[usize; POINTS],
-    vertices: &[i32; VERTEX_NUMBERS],
-    v: usize,
-    far: &[u64; VERTICES],
-    up: &[usize; VERTICES],
-    seat: &[usize; VERTICES],
-    bound: &mut [u64; POINTS],
-    k: usize,
-    c: Best,
-) -> Best
-    requires k_lt_e { ((k < e) × (e ≤ treeBound)) × ((n ≤ treeBound) × (Within n keys.now)) }
-    requires v_le_point_bound { (v ≤ pointBound) × (Seated seat.now v n) }
-    requires v_in_bounds { (v * 2 ≤ length vertices.now) × (InOrder vertices.now v) }
-    requires low { (Low far.now) × (Nearing far.now up.now) }
-    requires low_2 { (table.Low most el.now) × (Hanging keys.now el.now e n
-        (ties onto.now link.now turn.now)) }
-    requires bounded { Bounded w pts.now n (macrosOf macros.now) keys.now e el.now (longest keys.now el.now e n)
-        vertices.now v far.now up.now seat.now bound.old }
-    ensures value { result ≡ offers w pts.now n (macrosOf macros.now) keys.now
-        el.now
-        (longest keys.now el.now e n) vertices.now v far.now
-        up.now
-        seat.now k c }
-    ensures bounded_2 { Bounded w pts.now n (macrosOf macros.now) keys.now e
-        el.now
-        (longest keys.now el.now e n) vertices.now v far.now
-        up.now
-        seat.now bound.new }
-{
-    if bound[k] <= c.gain {
-        return c;
-    }
-    let own = offers(
-        w,
-        pts,
-        n,
-        macros,
-        keys,
-        e,
-        el,
-        most,
-        onto,
-        link,
-        turn,
-        vertices,
-        v,
-        far,
-        up,
-        seat,
-        k,
-        Best {
-            gain: 0,
-            edge: 0,
-            point: 0,
-            cut: 0,
-        },
-    );
-    bound[k] = own.gain;
-    if c.gain < own.gain {
-        return own;
-    }
-    c
-}
-
 // The best candidate with a vertex beside the tree whose gain is above that of c; c, where there is none.
 fn search(
     w: Weights,
@@ -418,47 +315,22 @@ fn search(
     far: &[u64; VERTICES],
     up: &[usize; VERTICES],
     seat: &[usize; VERTICES],
-    bound: &mut [u64; POINTS],
     c: Best,
 ) -> Best
-    requires e_le_tree_bound { (e ≤ treeBound) × ((n ≤ treeBound) × (Within n keys.now)) }
-    requires v_le_point_bound { (v ≤ pointBound) × (Seated seat.now v n) }
+    requires e_le_tree_bound { (e ≤ tree_bound) × ((n ≤ tree_bound) × (Within n keys.now)) }
+    requires v_le_point_bound { (v ≤ point_bound) × (Seated seat.now v n) }
     requires v_in_bounds { (v * 2 ≤ length vertices.now) × (InOrder vertices.now v) }
     requires low { (Low far.now) × (Nearing far.now up.now) }
     requires low_2 { (table.Low most el.now) × (Hanging keys.now el.now e n (ties onto.now link.now turn.now)) }
-    requires bounded { Bounded w pts.now n (macrosOf macros.now) keys.now e el.now (longest keys.now el.now e n)
-        vertices.now v far.now up.now seat.now bound.old }
-    ensures value { result ≡ search w pts.now n (macrosOf macros.now) keys.now e el.now
+    ensures { result ≡ search w pts.now n (macros_of macros.now) keys.now e el.now
         (longest keys.now el.now e n) vertices.now v far.now up.now
         seat.now c }
-    ensures bounded_2 { Bounded w pts.now n (macrosOf macros.now) keys.now e
-        el.now
-        (longest keys.now el.now e n) vertices.now v far.now
-        up.now
-        seat.now bound.new }
 {
     let mut found = c;
     let mut k = 0;
     while k < e {
-        found = ask(
-            w,
-            pts,
-            n,
-            macros,
-            keys,
-            e,
-            el,
-            most,
-            onto,
-            link,
-            turn,
-            vertices,
-            v,
-            far,
-            up,
-            seat,
-            &mut *bound,
-            k,
+        found = offers(
+            w, pts, n, macros, keys, e, el, most, onto, link, turn, vertices, v, far, up, seat, k,
             found,
         );
         k += 1;
@@ -466,23 +338,15 @@ fn search(
     found
 }
 
-// What is known of the tree before: whether all its points are found in that of now; whether besides no vertex has
-// joined it; the number of the further point, or how many there are, where there is none.
-#[derive(Drop)]
-pub struct Since {
-    pub all: bool,
-    pub same: bool,
-    pub fresh: usize,
-}
-
 // The candidate that a round takes: of those on the tree the best, unless one beside it gains more.
-// The bounds of edges are those of the tree before, as far as it is known, and then those of this one.
+// The bounds of edges are those of the tree before, where it is known, and then those of this one.
 pub fn found(
     w: Weights,
-    since: Since,
+    known: bool,
+    old: &[i32; NUMBERS],
+    m: usize,
     before: &[usize; POINTS],
     f: usize,
-    at: &[usize; POINTS],
     pts: &[i32; NUMBERS],
     n: usize,
     macros: &[i32],
@@ -494,25 +358,16 @@ pub fn found(
     up: &[usize; VERTICES],
     seat: &[usize; VERTICES],
     bound: &mut [u64; POINTS],
-    aside: &mut [u64; POINTS],
 ) -> Choice
     requires spanned { Spanned keys.now e n }
-    requires v_le_point_bound { (v ≤ pointBound) × (Seated seat.now v n) }
+    requires v_le_point_bound { (v ≤ point_bound) × (Seated seat.now v n) }
     requires n_in_bounds { (n * 2 ≤ length pts.now) × (InOrder pts.now n) }
     requires v_in_bounds { (v * 2 ≤ length vertices.now) × (InOrder vertices.now v) }
     requires low { (Low far.now) × (Nearing far.now up.now) }
-    requires small { (Small pairBound before.now) × (Small treeBound at.now) }
-    requires from { since.all ≡ true → From w (macrosOf macros.now) before.now f bound.old pts.now n
-        since.fresh at.now }
-    requires from_beside { since.same ≡ true → FromBeside w (macrosOf macros.now) before.now f bound.old pts.now n
-        since.fresh at.now
-        vertices.now v far.now up.now seat.now aside.old }
-    ensures value { result ≡ chosen_of w (macrosOf macros.now) pts.now n keys.now e vertices.now v
+    requires small { (Small pair_bound before.now) × (known ≡ true → Was w (macros_of macros.now) old.now m before.now f bound.old) }
+    ensures value { result ≡ chosen_of w (macros_of macros.now) pts.now n keys.now e vertices.now v
         far.now up.now seat.now }
-    ensures held { Held w (macrosOf macros.now) pts.now n keys.now e bound.new }
-    ensures held_beside { HeldBeside w (macrosOf macros.now) pts.now n keys.now e
-        vertices.now v
-        far.now up.now seat.now aside.new }
+    ensures held { Held w (macros_of macros.now) pts.now n keys.now e bound.new }
 {
     let mut el = [0u64; POINTS];
     let most = longest::costs(w, pts, keys, e, &mut el);
@@ -521,14 +376,13 @@ pub fn found(
     let mut turn = [0usize; POINTS];
     turn[0] = 1;
     longest::reached(keys, e, &mut onto, &mut link, &mut turn);
-    let stand = bounds::stand(w, since.all, pts, &el, &onto, &link, &turn, before, f, at);
     bounds::renew(
         w,
-        stand,
+        known,
+        old,
+        m,
         before,
         f,
-        at,
-        since.fresh,
         pts,
         n,
         macros,
@@ -555,35 +409,8 @@ pub fn found(
         &turn,
         &mut *bound,
     );
-    bounds::keep(
-        stand & since.same,
-        before,
-        f,
-        at,
-        keys,
-        e,
-        most,
-        &mut *aside,
-    );
     let off = search(
-        w,
-        pts,
-        n,
-        macros,
-        keys,
-        e,
-        &el,
-        most,
-        &onto,
-        &link,
-        &turn,
-        vertices,
-        v,
-        far,
-        up,
-        seat,
-        &mut *aside,
-        on,
+        w, pts, n, macros, keys, e, &el, most, &onto, &link, &turn, vertices, v, far, up, seat, on,
     );
     if on.gain < off.gain {
         return Choice {

@@ -13,37 +13,37 @@ use lib.IntN.{ℤ, pos}
 use lib.ListN.{length, get_or}
 use lib.Signed.{lt_z}
 use Rattle.lists.specs.Member.{◌∈◌, here, there, Among, Once}
-use Rattle.lists.specs.Sorted.{Ascending, position, firstThen}
+use Rattle.lists.specs.Sorted.{Ascending, position, first_then}
 use Rattle.lists.specs.Those.{those}
 use Rattle.lists.specs.Total.{total}
 use Rattle.lists.proofs.TestLaws.{by, either}
 use Rattle.lists.proofs.MapLaws.{in_map, of_map, map-then}
 use Rattle.lists.proofs.ThoseLaws.{in-those, of-those, those-once}
-use Rattle.lists.proofs.MemberLaws.{getD-in}
+use Rattle.lists.proofs.MemberLaws.{get_d-in}
 use Rattle.lists.proofs.TotalLaws.{once-total}
 use Rattle.lists.proofs.SortedLaws.{position-small, at_position}
 use Rattle.signed.specs.Sides.{Lt}
-use Rattle.signed.proofs.SideLaws.{ltZ-true}
+use Rattle.signed.proofs.SideLaws.{z_lt-true}
 use Rattle.joined.specs.Joined.{stay}
 use Rattle.joined.specs.Cost.{lengths}
 use Rattle.joined.proofs.JoinedLaws.{more}
 use Rattle.plane.specs.declared.Place.{Place}
 use Rattle.plane.specs.Place.{before}
 use Rattle.plane.proofs.PlaceLaws.{before-by-x, before-by-y, before-irrefl}
-use Rattle.net.specs.Net.{Net, costIn}
+use Rattle.net.specs.Net.{Net, cost_in}
 use Rattle.net.specs.Allowed.{PlaceInRange}
 use Rattle.net.proofs.AllowedLaws.{allowed-positive}
-use Rattle.graph.specs.Edges.{beforeEdge}
+use Rattle.graph.specs.Edges.{before_edge}
 use Rattle.forest.specs.Edges.{from}
 use Rattle.forest.proofs.EdgeLaws.{of-from, in-from}
-use Rattle.union.specs.Marks.{marks, isMarked}
+use Rattle.union.specs.Marks.{marks, is_marked}
 use Rattle.lines.specs.declared.Grid.{Grid}
 use Rattle.lines.specs.declared.Axis.TheVariants.{Across, Along}
-use Rattle.lines.specs.Bounds.{lineBound, unreached}
-use Rattle.lines.specs.Lines.{xLines, yLines, Crossing}
-use Rattle.lines.specs.Edges.{Edge, gridEdges}
-use Rattle.lines.specs.Crossings.{isCrossing, crossingNumber}
-use Rattle.grid.specs.Tables.{crossingAt, target}
+use Rattle.lines.specs.Bounds.{line_bound, unreached}
+use Rattle.lines.specs.Lines.{x_lines, y_lines, Crossing}
+use Rattle.lines.specs.Edges.{Edge, grid_edges}
+use Rattle.lines.specs.Crossings.{is_crossing, crossing_number}
+use Rattle.grid.specs.Tables.{crossing_at, target}
 use Rattle.lines.proofs.EdgeLaws.{x-ascending, y-ascending}
 use Rattle.lines.proofs.LineLaws.{line-order}
 use Rattle.lines.proofs.GridCost.{grid-cost, line-range}
@@ -51,12 +51,12 @@ use Rattle.grid.proofs.NetDistance.{pins-joined}
 use Rattle.grid.proofs.SegmentLaws.{target-even, target-odd, target-above}
 use Rattle.parts.specs.Numbers.{number}
 use Rattle.best.specs.Sets.{Edges, Reaches, JoinsAt}
-use Rattle.best.specs.Masks.{maskPins}
+use Rattle.best.specs.Masks.{mask_pins}
 use Rattle.parts.specs.Tables.{value_at}
-use Rattle.traced.specs.Routes.{inOrder, edge_at, markedEdges, Traced}
+use Rattle.traced.specs.Routes.{in_their_order, edge_at, marked_edges, Traced}
 use Rattle.best.specs.Tree.{BestTree, IsBest}
 use Rattle.best.proofs.CheapestTree.{Cheapest}
-use Rattle.best.proofs.BestTree.{allPins, chosen-ones, ones, table-finite, table-least, cheapest-best}
+use Rattle.best.proofs.BestTree.{all_pins, chosen-ones, ones, table-finite, table-least, cheapest-best}
 use Rattle.best.proofs.LoneLaws.{ones-number}
 use Rattle.traced.proofs.RouteLaws.{turns, EdgeOf, route-edges}
 use Rattle.best.proofs.NetBest.{Tabled, Values, filled, route-joins, crossing-of, pin-on, place-back}
@@ -74,14 +74,14 @@ from-once k (suc n) = (λ i. let z : ⊥ = omega (arith, (of-from (suc k) n k i)
 line_at : (L : List ℤ) → Ascending lt_z L → (i j : ℕ) → i < j → j < length L → lt_z (get_or L i (pos 0)) (get_or L j (pos 0)) ≡ true
 line_at [] h i j k l = absurd (let z : ⊥ = omega (arith, l) in z)
 line_at (x ∷ L) h zero zero k l = absurd (let z : ⊥ = omega (arith, k) in z)
-line_at (x ∷ L) h zero (suc j) k l = h.0 (get_or L j (pos 0)) (getD-in L j (pos 0) (omega (arith, l)))
+line_at (x ∷ L) h zero (suc j) k l = h.0 (get_or L j (pos 0)) (get_d-in L j (pos 0) (omega (arith, l)))
 line_at (x ∷ L) h (suc i) zero k l = absurd (let z : ⊥ = omega (arith, k) in z)
 line_at (x ∷ L) h (suc i) (suc j) k l = line_at L h.1 i j (omega (arith, k)) (omega (arith, l))
 
 line-below : (L : List ℤ) → Ascending lt_z L → (a b : ℤ) → a ∈ L → b ∈ L → position lt_z L a < position lt_z L b → Lt a b
 line-below L h a b i k l =
     let r = line_at L h (position lt_z L a) (position lt_z L b) l (position-small lt_z line-order L h b k) in
-    ltZ-true a b
+    z_lt-true a b
     (ap₂ lt_z (sym (at_position lt_z line-order L h a (pos 0) i)) (sym (at_position lt_z line-order L h b (pos 0) k)) ∙ r)
 
 line_same : (L : List ℤ) → Ascending lt_z L → (a b : ℤ) → a ∈ L → b ∈ L → position lt_z L a ≡ position lt_z L b → a ≡ b
@@ -93,16 +93,16 @@ lengths-by : (d : Place → Place → ℕ) (f : ℕ → Edge) (l : List ℕ) →
 unfolding lengths
 lengths-by d f l = ap total (map-then f (λ (e : Edge). d e.0 e.1) (λ (j : ℕ). d (f j).0 (f j).1) l (λ x i. refl))
 
-first-before : (a b c d : Place) → before a b ≡ true → beforeEdge (a, c) (b, d) ≡ true
-unfolding beforeEdge firstThen
-first-before a b c d e = rw (firstThen, e) refl
+first-before : (a b c d : Place) → before a b ≡ true → before_edge (a, c) (b, d) ≡ true
+unfolding before_edge first_then
+first-before a b c d e = rw (first_then, e) refl
 
-then-before : (a b c d : Place) → a ≡ b → before c d ≡ true → beforeEdge (a, c) (b, d) ≡ true
-unfolding beforeEdge firstThen
+then-before : (a b c d : Place) → a ≡ b → before c d ≡ true → before_edge (a, c) (b, d) ≡ true
+unfolding before_edge first_then
 then-before a b c d e f =
     let i : before a b ≡ false = rw e (before-irrefl b) in
     let k : before b a ≡ false = rw e (before-irrefl b) in
-    rw (firstThen, i, k) f
+    rw (first_then, i, k) f
 
 empty-list : {A : Type 0} (l : List A) → ((x : A) → x ∈ l → ⊥) → l ≡ []
 empty-list [] h = refl
@@ -118,37 +118,37 @@ none-least d n = omega (arith, lengths_none d)
 module _ {net : Net} {g : Grid} {xs ys : List ℤ} {costs : List ℕ} {e : ℕ} {numbers work : List ℕ} {p0 : Place} {goals : List Place}
     (t : Tabled net g xs ys costs e numbers work p0 goals) where
   abbrev G : List Edge
-  G = gridEdges net
+  G = grid_edges net
 
   abbrev price : Place → Place → ℕ
-  price = costIn net
+  price = cost_in net
 
   abbrev on : Place → Bool
-  on = isCrossing (xLines net) (yLines net)
+  on = is_crossing (x_lines net) (y_lines net)
 
   abbrev name : Place → ℕ
-  name = crossingNumber (xLines net) (yLines net)
+  name = crossing_number (x_lines net) (y_lines net)
 
   -- numbers go as places do
   number-before : (a b : Place) → on a ≡ true → on b ≡ true → name a < name b → before a b ≡ true
-  unfolding crossingNumber
+  unfolding crossing_number
   number-before a b i k l =
       let p = crossing-of t a i in
       let q = crossing-of t b k in
-      let small-a = position-small lt_z line-order (yLines net) (y-ascending net) a.y p.along in
-      let small_b = position-small lt_z line-order (yLines net) (y-ascending net) b.y q.along in
-      let room : length (yLines net) ≤ lineBound = omega (arith, t.made.few.along, t.made.y-count) in
-      pick p q room small-a small_b (ℕ_discrete (position lt_z (xLines net) a.x) (position lt_z (xLines net) b.x))
+      let small-a = position-small lt_z line-order (y_lines net) (y-ascending net) a.y p.along in
+      let small_b = position-small lt_z line-order (y_lines net) (y-ascending net) b.y q.along in
+      let room : length (y_lines net) ≤ line_bound = omega (arith, t.made.few.along, t.made.y-count) in
+      pick p q room small-a small_b (ℕ_discrete (position lt_z (x_lines net) a.x) (position lt_z (x_lines net) b.x))
     where
-      pick : Crossing (xLines net) (yLines net) a → Crossing (xLines net) (yLines net) b → length (yLines net) ≤ lineBound →
-          position lt_z (yLines net) a.y < length (yLines net) → position lt_z (yLines net) b.y < length (yLines net) →
-          Dec (position lt_z (xLines net) a.x ≡ position lt_z (xLines net) b.x) → before a b ≡ true
+      pick : Crossing (x_lines net) (y_lines net) a → Crossing (x_lines net) (y_lines net) b → length (y_lines net) ≤ line_bound →
+          position lt_z (y_lines net) a.y < length (y_lines net) → position lt_z (y_lines net) b.y < length (y_lines net) →
+          Dec (position lt_z (x_lines net) a.x ≡ position lt_z (x_lines net) b.x) → before a b ≡ true
       pick p q room sa sb (yes f) =
-          before-by-y a b (line_same (xLines net) (x-ascending net) a.x b.x p.across q.across f)
-          (line-below (yLines net) (y-ascending net) a.y b.y p.along q.along (omega (arith, l, f)))
+          before-by-y a b (line_same (x_lines net) (x-ascending net) a.x b.x p.across q.across f)
+          (line-below (y_lines net) (y-ascending net) a.y b.y p.along q.along (omega (arith, l, f)))
       pick p q room sa sb (no n) =
           before-by-x a b
-          (line-below (xLines net) (x-ascending net) a.x b.x p.across q.across (omega (arith, l, n, room, sa, sb)))
+          (line-below (x_lines net) (x-ascending net) a.x b.x p.across q.across (omega (arith, l, n, room, sa, sb)))
 
   -- Edges by number
 
@@ -159,7 +159,7 @@ module _ {net : Net} {g : Grid} {xs ys : List ℤ} {costs : List ℕ} {e : ℕ} 
     one_on : on one ≡ true
     other-on : on other ≡ true
     one-is : name one ≡ j / 2
-    other-is : name other ≡ target (inOrder j)
+    other-is : name other ≡ target (in_their_order j)
     edge : edge_at xs ys j ≡ (one, other)
 
   ends_of : (j : ℕ) → EdgeOf costs e j → Ends j
@@ -168,7 +168,7 @@ module _ {net : Net} {g : Grid} {xs ys : List ℤ} {costs : List ℕ} {e : ℕ} 
       let n = near-grid net g xs ys costs e t.made (k / 2) (target k) (get_or costs k 0)
       (k, (d.inside, record { ends = inl (refl, refl); price = refl; is = d.some })) in
       let c = ends-crossings net n.from n.to n.link in
-      let back : inOrder j ≡ k = ap inOrder d.is ∙ (turns k).twice in
+      let back : in_their_order j ≡ k = ap in_their_order d.is ∙ (turns k).twice in
       let half : k / 2 ≡ j / 2 = ap (λ (i : ℕ). i / 2) (sym back) ∙ (turns j).half in
       record {
         one = n.from;
@@ -178,8 +178,8 @@ module _ {net : Net} {g : Grid} {xs ys : List ℤ} {costs : List ℕ} {e : ℕ} 
         one-is = sym n.from_is ∙ half;
         other-is = sym n.to_is ∙ ap target (sym back);
         edge = ap₂ (λ (x y : Place). (x, y))
-            (ap (crossingAt xs ys) (ap (λ (i : ℕ). i / 2) back ∙ n.from_is) ∙ place-back t n.from c.0)
-            (ap (crossingAt xs ys) (ap target back ∙ n.to_is) ∙ place-back t n.to c.1);
+            (ap (crossing_at xs ys) (ap (λ (i : ℕ). i / 2) back ∙ n.from_is) ∙ place-back t n.from c.0)
+            (ap (crossing_at xs ys) (ap target back ∙ n.to_is) ∙ place-back t n.to c.1);
       }
 
   smaller : (j : ℕ) → EdgeOf costs e j → before (edge_at xs ys j).0 (edge_at xs ys j).1 ≡ true
@@ -187,17 +187,17 @@ module _ {net : Net} {g : Grid} {xs ys : List ℤ} {costs : List ℕ} {e : ℕ} 
       let n = ends_of j d in
       subst (λ (z : Edge). before z.0 z.1 ≡ true) (sym n.edge)
       (number-before n.one n.other n.one_on n.other-on
-      (let z : name n.one < name n.other = omega (arith, n.one-is, n.other-is, target-above (inOrder j), (turns j).half) in z))
+      (let z : name n.one < name n.other = omega (arith, n.one-is, n.other-is, target-above (in_their_order j), (turns j).half) in z))
 
   -- the order of numbers is the order of edges
-  edge_order : (i j : ℕ) → EdgeOf costs e i → EdgeOf costs e j → i < j → beforeEdge (edge_at xs ys i) (edge_at xs ys j) ≡ true
+  edge_order : (i j : ℕ) → EdgeOf costs e i → EdgeOf costs e j → i < j → before_edge (edge_at xs ys i) (edge_at xs ys j) ≡ true
   edge_order i j c d h =
       let m = ends_of i c in
       let n = ends_of j d in
-      subst (λ (z : Edge). beforeEdge z (edge_at xs ys j) ≡ true) (sym m.edge)
-      (subst (λ (z : Edge). beforeEdge (m.one, m.other) z ≡ true) (sym n.edge) (pick m n (ℕ_discrete (i / 2) (j / 2))))
+      subst (λ (z : Edge). before_edge z (edge_at xs ys j) ≡ true) (sym m.edge)
+      (subst (λ (z : Edge). before_edge (m.one, m.other) z ≡ true) (sym n.edge) (pick m n (ℕ_discrete (i / 2) (j / 2))))
     where
-      pick : (m : Ends i) (n : Ends j) → Dec (i / 2 ≡ j / 2) → beforeEdge (m.one, m.other) (n.one, n.other) ≡ true
+      pick : (m : Ends i) (n : Ends j) → Dec (i / 2 ≡ j / 2) → before_edge (m.one, m.other) (n.one, n.other) ≡ true
       pick m n (no k) =
           first-before m.one n.one m.other n.other
           (number-before m.one n.one m.one_on n.one_on
@@ -207,15 +207,15 @@ module _ {net : Net} {g : Grid} {xs ys : List ℤ} {costs : List ℕ} {e : ℕ} 
           let odd : j % 2 ≡ 0 → ⊥ = λ z. let y : ⊥ = omega (arith, h, k, z) in y in
           let turned-i = turns i in
           let turned-j = turns j in
-          let i-odd : inOrder i % 2 ≡ 0 → ⊥ = λ z. let y : ⊥ = omega (arith, z, even, turned-i.other) in y in
-          let j-even : inOrder j % 2 ≡ 0 = omega (arith, odd, turned-j.other) in
+          let i-odd : in_their_order i % 2 ≡ 0 → ⊥ = λ z. let y : ⊥ = omega (arith, z, even, turned-i.other) in y in
+          let j-even : in_their_order j % 2 ≡ 0 = omega (arith, odd, turned-j.other) in
           let less : name m.other < name n.other =
           omega (
             arith,
             m.other-is,
             n.other-is,
-            target-odd (inOrder i) i-odd,
-            target-even (inOrder j) j-even,
+            target-odd (in_their_order i) i-odd,
+            target-even (in_their_order j) j-even,
             turned-i.half,
             turned-j.half,
             k,
@@ -227,36 +227,36 @@ module _ {net : Net} {g : Grid} {xs ys : List ℤ} {costs : List ℕ} {e : ℕ} 
 
   module _ (used : List ℕ) (real : (j : ℕ) → 1 ≤ get_or used j 0 → EdgeOf costs e j) where
     abbrev given : List Edge
-    given = markedEdges xs ys used e
+    given = marked_edges xs ys used e
 
-    marked-real : (j : ℕ) → isMarked used j ≡ true → EdgeOf costs e j
+    marked-real : (j : ℕ) → is_marked used j ≡ true → EdgeOf costs e j
     marked-real j h = real j (ltb-true 0 (get_or used j 0) h)
 
-    ordered : (k n : ℕ) → Ascending beforeEdge (map (edge_at xs ys) (those (isMarked used) (from k n)))
+    ordered : (k n : ℕ) → Ascending before_edge (map (edge_at xs ys) (those (is_marked used) (from k n)))
     unfolding from those
     ordered k zero = tt
     ordered k (suc n) =
-        by (isMarked used k)
+        by (is_marked used k)
         (λ h. rw (those, h) (
-          (λ b i. let s = of_map (edge_at xs ys) (those (isMarked used) (from (suc k) n)) i in
-              let q = of-those (isMarked used) (from (suc k) n) s.stands in
-              subst (λ (z : Edge). beforeEdge (edge_at xs ys k) z ≡ true) (sym s.is)
+          (λ b i. let s = of_map (edge_at xs ys) (those (is_marked used) (from (suc k) n)) i in
+              let q = of-those (is_marked used) (from (suc k) n) s.stands in
+              subst (λ (z : Edge). before_edge (edge_at xs ys k) z ≡ true) (sym s.is)
               (edge_order k s.entry (marked-real k h) (marked-real s.entry q.1)
               (let z : k < s.entry = omega (arith, (of-from (suc k) n s.entry q.0).0) in z))),
           ordered (suc k) n,
         ))
         (λ h. rw (those, h) (ordered (suc k) n))
 
-    pub given-order : Ascending beforeEdge given
-    unfolding markedEdges marks
+    pub given-order : Ascending before_edge given
+    unfolding marked_edges marks
     given-order = ordered 0 e
 
     -- which they are
     in-given : (x : Edge) → x ∈ given → (j : ℕ) × ((1 ≤ get_or used j 0) × (x ≡ edge_at xs ys j))
-    unfolding markedEdges marks
+    unfolding marked_edges marks
     in-given x i =
-        let s = of_map (edge_at xs ys) (those (isMarked used) (from 0 e)) i in
-        let q = of-those (isMarked used) (from 0 e) s.stands in
+        let s = of_map (edge_at xs ys) (those (is_marked used) (from 0 e)) i in
+        let q = of-those (is_marked used) (from 0 e) s.stands in
         (s.entry, (ltb-true 0 (get_or used s.entry 0) q.1, s.is))
 
     pub given-smaller : (a b : Place) → (a, b) ∈ given → before a b ≡ true
@@ -282,19 +282,19 @@ module _ {net : Net} {g : Grid} {xs ys : List ℤ} {costs : List ℕ} {e : ℕ} 
     inside j d = omega (arith, d.inside, d.is, (turns d.segment).half, t.made.count)
 
     given-in : (j : ℕ) → 1 ≤ get_or used j 0 → edge_at xs ys j ∈ given
-    unfolding markedEdges marks
+    unfolding marked_edges marks
     given-in j h =
         in_map (edge_at xs ys)
-        (in-those (isMarked used) (from 0 e) (in-from 0 e j (omega arith) (let z : j < 0 + e = omega (arith, inside j (real j h)) in z))
+        (in-those (is_marked used) (from 0 e) (in-from 0 e j (omega arith) (let z : j < 0 + e = omega (arith, inside j (real j h)) in z))
         (lt-ltb 0 (get_or used j 0) h))
 
     marks-once : Once (marks used e)
     unfolding marks
-    marks-once = those-once (isMarked used) (from 0 e) (from-once 0 e)
+    marks-once = those-once (is_marked used) (from 0 e) (from-once 0 e)
 
     in-marks : (j : ℕ) → j ∈ marks used e → 1 ≤ get_or used j 0
     unfolding marks
-    in-marks j i = ltb-true 0 (get_or used j 0) (of-those (isMarked used) (from 0 e) i).1
+    in-marks j i = ltb-true 0 (get_or used j 0) (of-those (is_marked used) (from 0 e) i).1
 
     pub given-tree : IsBest net given → BestTree net given
     given-tree b = record { best = b; smaller-first = given-smaller; in_order = given-order; in-range = given-range }
@@ -309,10 +309,10 @@ module _ {net : Net} {g : Grid} {xs ys : List ℤ} {costs : List ℕ} {e : ℕ} 
         (route-edges costs e (length goals) work (2 ^ length goals - 1) (name p0) d.edges d.route j) (d.marks.only j h)
 
     abbrev tree : List Edge
-    tree = markedEdges xs ys used e
+    tree = marked_edges xs ys used e
 
     abbrev whole : ℕ
-    whole = Values t (allPins goals q goal) p0
+    whole = Values t (all_pins goals q goal) p0
 
     last-is : number (ones goals) ≡ 2 ^ length goals - 1
     last-is = omega (arith, ones-number goals)
@@ -323,9 +323,9 @@ module _ {net : Net} {g : Grid} {xs ys : List ℤ} {costs : List ℕ} {e : ℕ} 
         (grid-cost t.allowed (omega (arith, t.few-pins)) t.few-macros)
         (λ p i. pins-joined t.allowed (first-pin t) (goals-pins t p i))
 
-    found : JoinsAt (maskPins goals) G price (map (edge_at xs ys) d.edges) (allPins goals q goal) p0 whole
-    unfolding allPins
-    found = route-joins t d.route (allPins goals q goal) last-is p0 (pin-on t p0 (first-pin t)) refl finite
+    found : JoinsAt (mask_pins goals) G price (map (edge_at xs ys) d.edges) (all_pins goals q goal) p0 whole
+    unfolding all_pins
+    found = route-joins t d.route (all_pins goals q goal) last-is p0 (pin-on t p0 (first-pin t)) refl finite
 
     tree-edges : Edges G tree
     tree-edges a b i =
@@ -339,13 +339,13 @@ module _ {net : Net} {g : Grid} {xs ys : List ℤ} {costs : List ℕ} {e : ℕ} 
         subst (λ (z : Edge). z ∈ tree) (sym s.is) (given-in used traced-real s.entry (d.marks.there s.entry s.stands))
 
     tree-reaches : Reaches tree p0 net.pins
-    unfolding allPins
+    unfolding all_pins
     tree-reaches p i =
         either (λ f. stay (sym f))
         (λ k. more among (found.reaches p (rw chosen-ones k))) (all-pins t p i)
 
     tree-cost : lengths price tree ≤ whole
-    unfolding markedEdges
+    unfolding marked_edges
     tree-cost =
         let w : ℕ → ℕ = λ j. price (edge_at xs ys j).0 (edge_at xs ys j).1 in
         omega (
@@ -373,9 +373,9 @@ module _ {net : Net} {g : Grid} {xs ys : List ℤ} {costs : List ℕ} {e : ℕ} 
     traced-best = given-tree used traced-real (cheapest-best net (allowed-positive t.allowed) tree-cheapest)
 
     pub traced-cost : value_at work (2 ^ length goals - 1) (name p0) ≡ lengths price tree
-    unfolding allPins
+    unfolding all_pins
     traced-cost =
-        let v = value-at t (allPins goals q goal) p0 (pin-on t p0 (first-pin t)) in
+        let v = value-at t (all_pins goals q goal) p0 (pin-on t p0 (first-pin t)) in
         let v' : whole ≡ value_at work (2 ^ length goals - 1) (name p0) = v ∙ ap (λ (z : ℕ). value_at work z (name p0)) last-is in
         omega (arith, v', tree-cost, bound tree tree-edges tree-reaches)
 
@@ -386,7 +386,7 @@ module _ {net : Net} {g : Grid} {xs ys : List ℤ} {costs : List ℕ} {e : ℕ} 
     nothing j h = absurd (let z : ⊥ = omega (arith, h, fresh j) in z)
 
     abbrev bare : List Edge
-    bare = markedEdges xs ys used e
+    bare = marked_edges xs ys used e
 
     no_edge : (x : Edge) → x ∈ bare → ⊥
     no_edge x i = let r = in-given used nothing x i in let z : ⊥ = omega (arith, r.1.0, fresh r.0) in z

@@ -22,9 +22,9 @@ use Rattle.plane.specs.declared.Place.{Place}
 use Rattle.plane.specs.Place.{place}
 use Rattle.plane.specs.Cost.{Positive}
 use Rattle.plane.proofs.PlaceOrder.{place_same}
-use Rattle.net.specs.Net.{Net, costIn}
-use Rattle.lines.specs.Lines.{xLines, yLines, Crossing}
-use Rattle.lines.specs.Edges.{Edge, gridEdges}
+use Rattle.net.specs.Net.{Net, cost_in}
+use Rattle.lines.specs.Lines.{x_lines, y_lines, Crossing}
+use Rattle.lines.specs.Edges.{Edge, grid_edges}
 use Rattle.lines.proofs.AxisLaws.{cost-length}
 use Rattle.lines.proofs.EdgeLaws.{link-grid, pin-crossing}
 use Rattle.lines.proofs.CrossingLaws.{step-crossings}
@@ -33,7 +33,7 @@ use Rattle.grid.proofs.DistanceLaws.{IsCrossing}
 use Rattle.grid.proofs.TableGrid.{link-cost}
 use Rattle.best.specs.Sets.{Edges, Reaches}
 use Rattle.best.specs.Tree.{IsBest}
-use Rattle.best.specs.Masks.{chosen, Mask, maskPins, Filled}
+use Rattle.best.specs.Masks.{chosen, Mask, mask_pins, Filled}
 use Rattle.best.proofs.LowerBound.{lower-bound}
 use Rattle.best.proofs.MaskLaws.{filled-closed}
 use Rattle.best.proofs.CheapestTree.{Cheapest, points-are, cheapest-short, cheapest-one-tree, cheapest-simple, cheapest-two}
@@ -55,11 +55,11 @@ module _ {A : Type 0} where
   ones-size [] = refl
   ones-size (p ∷ ps) = ap suc (ones-size ps)
 
-  unfoldable pub allPins : (pins : List A) (p : A) → p ∈ pins → Mask pins
-  allPins pins p m = record { bits = ones pins; size = ones-size pins; pin = p; some = rw chosen-ones m }
+  unfoldable pub all_pins : (pins : List A) (p : A) → p ∈ pins → Mask pins
+  all_pins pins p m = record { bits = ones pins; size = ones-size pins; pin = p; some = rw chosen-ones m }
 
-  pub all-pins : (pins : List A) (p : A) (m : p ∈ pins) → maskPins pins (allPins pins p m) ≡ pins
-  unfolding allPins
+  pub all-pins : (pins : List A) (p : A) (m : p ∈ pins) → mask_pins pins (all_pins pins p m) ≡ pins
+  unfolding all_pins
   all-pins pins p m = chosen-ones pins
 
 -- All crossings
@@ -92,13 +92,13 @@ in-crossings xs ys a c = at xs c.across
 
 module _ (net : Net) (positive : Positive net.weights) where
   abbrev G : List Edge
-  G = gridEdges net
+  G = grid_edges net
 
   abbrev price : Place → Place → ℕ
-  price = costIn net
+  price = cost_in net
 
   ends_on : (a b : Place) → Link G a b → IsCrossing net a × IsCrossing net b
-  ends_on a b l = step-crossings (xLines net) (yLines net) net.macros a b (link-grid net a b l)
+  ends_on a b l = step-crossings (x_lines net) (y_lines net) net.macros a b (link-grid net a b l)
 
   -- A cheapest list of edges is a best tree
 
@@ -110,12 +110,12 @@ module _ (net : Net) (positive : Positive net.weights) where
     point-crossing a (inl i) = pin-crossing net a i
     point-crossing a (inr r) = (ends_on a r.0 (either (c.edges a r.0) (λ m. turn (c.edges r.0 a m)) r.1)).0
 
-    few : length O < length (xLines net) * length (yLines net)
+    few : length O < length (x_lines net) * length (y_lines net)
     few =
-        let k = cheapest-short place_same (cost-length net.weights) (link-cost net positive) c (crossings (xLines net) (yLines net))
-        (λ a m. in-crossings (xLines net) (yLines net) a
+        let k = cheapest-short place_same (cost-length net.weights) (link-cost net positive) c (crossings (x_lines net) (y_lines net))
+        (λ a m. in-crossings (x_lines net) (y_lines net) a
         (point-crossing a (points-are place_same (cost-length net.weights) (link-cost net positive) c a m))) in
-        omega (arith, k, crossings-count (xLines net) (yLines net))
+        omega (arith, k, crossings-count (x_lines net) (y_lines net))
 
     pub cheapest-best : IsBest net O
     cheapest-best = record {
@@ -123,7 +123,7 @@ module _ (net : Net) (positive : Positive net.weights) where
       least = λ F h. c.least F h.on-grid (λ p m. h.joins p0 p c.root m);
       one-tree = cheapest-one-tree place_same (cost-length net.weights) (link-cost net positive) c;
       simple = cheapest-simple place_same (cost-length net.weights) (link-cost net positive) c;
-      free = λ a b m. grid-clear net.macros net.weights (xLines net) (yLines net) a b (link-grid net a b (c.edges a b m));
+      free = λ a b m. grid-clear net.macros net.weights (x_lines net) (y_lines net) a b (link-grid net a b (c.edges a b m));
       two = cheapest-two place_same (cost-length net.weights) (link-cost net positive) c;
       few = few;
     }
@@ -133,12 +133,12 @@ module _ (net : Net) (positive : Positive net.weights) where
   module _ (goals : List Place) (cap : ℕ) (T : Mask goals → Place → ℕ) (t : Filled goals G price cap T) (p0 q : Place) (goal : q ∈ goals)
     where
       abbrev whole : ℕ
-      whole = T (allPins goals q goal) p0
+      whole = T (all_pins goals q goal) p0
 
       below : (F : List Edge) → Edges G F → lengths price F < cap → Reaches F p0 goals → whole ≤ lengths price F
       below F e low r =
-          lower-bound place_same (maskPins goals) G price (cost-length net.weights) cap T (filled-closed goals G price cap T t) F
-          (allPins goals q goal) p0 low e (λ p m. r p (rw (all-pins goals q goal) at m))
+          lower-bound place_same (mask_pins goals) G price (cost-length net.weights) cap T (filled-closed goals G price cap T t) F
+          (all_pins goals q goal) p0 low e (λ p m. r p (rw (all-pins goals q goal) at m))
 
       -- where the grid joins the pins and costs less than the cap, the value is below it
       pub table-finite : lengths price G < cap → Reaches G p0 goals → whole < cap
@@ -153,5 +153,5 @@ module _ (net : Net) (positive : Positive net.weights) where
           (λ k. omega (arith, finite, ltb-false (lengths price F) cap k))
 
 -- all best trees cost the same
-pub best-alike : (net : Net) (O P : List Edge) → IsBest net O → IsBest net P → lengths (costIn net) O ≡ lengths (costIn net) P
+pub best-alike : (net : Net) (O P : List Edge) → IsBest net O → IsBest net P → lengths (cost_in net) O ≡ lengths (cost_in net) P
 best-alike net O P o p = omega (arith, o.least P p.all-joined, p.least O o.all-joined)

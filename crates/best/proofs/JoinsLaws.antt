@@ -15,11 +15,11 @@ use Rattle.joined.proofs.JoinedLaws.{firsts, seconds, turn, more, older}
 use Rattle.joined.proofs.CostLaws.{lengths-append}
 use Rattle.best.specs.Sets.{JoinsAt}
 
-module _ {A M : Type 0} (pinsOf : M → List A) (G : List (A × A)) (d : A → A → ℕ) where
+module _ {A M : Type 0} (pins_of : M → List A) (G : List (A × A)) (d : A → A → ℕ) where
   abbrev Joins : List (A × A) → M → A → ℕ → Type 0
-  Joins F S v n = JoinsAt pinsOf G d F S v n
+  Joins F S v n = JoinsAt pins_of G d F S v n
 
-  pub joins-lone : (S : M) (v : A) → ((p : A) → p ∈ pinsOf S → p ≡ v) → Joins [] S v 0
+  pub joins-lone : (S : M) (v : A) → ((p : A) → p ∈ pins_of S → p ≡ v) → Joins [] S v 0
   unfolding lengths total
   joins-lone S v h = record { on-grid = λ a b m. elim m [ ]; reaches = λ p m. stay (sym (h p m)); cost = refl }
 
@@ -32,7 +32,7 @@ module _ {A M : Type 0} (pinsOf : M → List A) (G : List (A × A)) (d : A → A
     cost = omega (arith, k.cost);
   }
 
-  pub joins-met : (F H : List (A × A)) (S P Q : M) (v : A) (m n : ℕ) → ((p : A) → p ∈ pinsOf S → (p ∈ pinsOf P) ⊎ (p ∈ pinsOf Q)) →
+  pub joins-met : (F H : List (A × A)) (S P Q : M) (v : A) (m n : ℕ) → ((p : A) → p ∈ pins_of S → (p ∈ pins_of P) ⊎ (p ∈ pins_of Q)) →
       Joins F P v m → Joins H Q v n → Joins (F ++ H) S v (m + n)
   joins-met F H S P Q v m n h j k = record {
     on-grid = λ a b i. either (j.on-grid a b) (k.on-grid a b) (Memᴰ.append_cases F i);

@@ -15,8 +15,8 @@ use Rattle.lists.specs.Those.{those}
 use Rattle.lists.proofs.TestLaws.{either}
 use Rattle.best.specs.Masks.{chosen}
 use Rattle.parts.specs.Numbers.{number, part_of}
-use Rattle.parts.specs.Starts.{under, properPart, sums}
-use Rattle.parts.specs.Tables.{lonePin}
+use Rattle.parts.specs.Starts.{under, proper_part, sums}
+use Rattle.parts.specs.Tables.{lone_pin}
 use Rattle.best.proofs.StartLaws.{some_number, number-some}
 use Rattle.parts.proofs.WorkLaws.{lone-one, lone-two, lone-three, lone-four, lone-none}
 use Rattle.best.proofs.BestTree.{ones}
@@ -85,7 +85,7 @@ module _ {A : Type 0} (none : A) where
 
 -- The lone pin by number
 
-pub lone-power : (i : ℕ) → i < 4 → lonePin (2 ^ i) ≡ i + 1
+pub lone-power : (i : ℕ) → i < 4 → lone_pin (2 ^ i) ≡ i + 1
 lone-power zero h = sym (lone-one (2 ^ 0) refl)
 lone-power (suc zero) h = sym (lone-two (2 ^ 1) refl)
 lone-power (suc (suc zero)) h = sym (lone-three (2 ^ 2) refl)
@@ -96,9 +96,9 @@ pub record LonePower (s : ℕ) : Type 0 where
   pub place : ℕ
   pub few : place < 4
   pub is : s ≡ 2 ^ place
-  pub pin : lonePin s ≡ place + 1
+  pub pin : lone_pin s ≡ place + 1
 
-pub lone_is : (s : ℕ) → 1 ≤ lonePin s → LonePower s
+pub lone_is : (s : ℕ) → 1 ≤ lone_pin s → LonePower s
 lone_is s h = at (ℕ_discrete s 1) (ℕ_discrete s 2) (ℕ_discrete s 4) (ℕ_discrete s 8)
   where
     at : Dec (s ≡ 1) → Dec (s ≡ 2) → Dec (s ≡ 4) → Dec (s ≡ 8) → LonePower s
@@ -110,7 +110,7 @@ lone_is s h = at (ℕ_discrete s 1) (ℕ_discrete s 2) (ℕ_discrete s 4) (ℕ_d
 
 -- a power of two has no parts
 powers : (m i v : ℕ) (value : ℕ → ℕ → ℕ) → i < 4 → 2 ^ i < 2 ^ m → sums m value (2 ^ i) v ≡ []
-unfolding sums properPart part_of under those
+unfolding sums proper_part part_of under those
 powers m zero v value h k = refl
 powers zero (suc zero) v value h k = absurd (let z : 2 < 1 = k in let y : ⊥ = omega (arith, z) in y)
 powers (suc m) (suc zero) v value h k = refl

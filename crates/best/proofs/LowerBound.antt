@@ -56,14 +56,14 @@ start {A} {F} v (q ∷ l) r = at (r q (here refl)) (start v l (λ p m. r p (ther
     at (stay e) (inr s) = inr s
     at (stay e) (inl h) = inl (λ p m. either (λ k. k ∙ sym e) (h p) (Memᴰ.cases_cons m))
 
-module _ {A M : Type 0} (same : Discrete A) (pinsOf : M → List A) (G : List (A × A)) (d : A → A → ℕ) (metric : Cost d)
-    (cap : ℕ) (T : M → A → ℕ) (c : Closed pinsOf G d cap T) where
+module _ {A M : Type 0} (same : Discrete A) (pins_of : M → List A) (G : List (A × A)) (d : A → A → ℕ) (metric : Cost d)
+    (cap : ℕ) (T : M → A → ℕ) (c : Closed pins_of G d cap T) where
   -- what is to be shown of lists of at most n edges
   abbrev Bound : ℕ → Type 0
-  Bound n = (F : List (A × A)) (S : M) (v : A) → length F ≤ n → lengths d F < cap → Edges G F → Reaches F v (pinsOf S) → T S v ≤ lengths d F
+  Bound n = (F : List (A × A)) (S : M) (v : A) → length F ≤ n → lengths d F < cap → Edges G F → Reaches F v (pins_of S) → T S v ≤ lengths d F
 
   module _ (n : ℕ) (ih : Bound n) (F : List (A × A)) (S : M) (v w : A) (l : Link F v w) (size : length F ≤ suc n)
-      (low : lengths d F < cap) (edges : Edges G F) (reaches : Reaches F v (pinsOf S)) where
+      (low : lengths d F < cap) (edges : Edges G F) (reaches : Reaches F v (pins_of S)) where
     abbrev left : List (A × A)
     left = others l
 
@@ -80,11 +80,11 @@ module _ {A M : Type 0} (same : Discrete A) (pinsOf : M → List A) (G : List (A
     left-edges a b m = edges a b (others-among l (a, b) m)
 
     -- a pin that is not joined with v any more is joined with w
-    other-end : (p : A) → p ∈ pinsOf S → f p ≡ false → Joined left w p
+    other-end : (p : A) → p ∈ pins_of S → f p ≡ false → Joined left w p
     other-end p m e = either (λ j. differ (joined-with same left v p j) e) (λ j. j) (end-or-end l (reaches p m))
 
     -- the edge was not needed
-    all_near : ((p : A) → p ∈ pinsOf S → f p ≡ true) → T S v ≤ lengths d F
+    all_near : ((p : A) → p ∈ pins_of S → f p ≡ true) → T S v ≤ lengths d F
     all_near h =
         omega (
           arith,
@@ -94,7 +94,7 @@ module _ {A M : Type 0} (same : Discrete A) (pinsOf : M → List A) (G : List (A
         )
 
     -- one edge further
-    all-far : ((p : A) → p ∈ pinsOf S → f p ≡ false) → T S v ≤ lengths d F
+    all-far : ((p : A) → p ∈ pins_of S → f p ≡ false) → T S v ≤ lengths d F
     all-far h =
         let r = ih left S w (omega (arith, length-others l)) (omega (arith, cost)) left-edges (λ p m. other-end p m (h p m)) in
         omega (arith, cost, r, c.further S v w edge (omega (arith, cost, r)))
@@ -106,7 +106,7 @@ module _ {A M : Type 0} (same : Discrete A) (pinsOf : M → List A) (G : List (A
     away-steady : Steady away left
     away-steady a b i = ap not (with-steady same left v a b i)
 
-    both : Split pinsOf G d cap T S f → T S v ≤ lengths d F
+    both : Split pins_of G d cap T S f → T S v ≤ lengths d F
     both s =
         let costs = part-costs d f left in
         let r = near-bound in
@@ -121,7 +121,7 @@ module _ {A M : Type 0} (same : Discrete A) (pinsOf : M → List A) (G : List (A
             (λ p m. part-joins f left (with-steady same left v) (with-joined same left v p (s.first-pins p m).1)
             (joined-with same left v v (stay refl)))
 
-        far-reaches : Reaches (part away left) w (pinsOf s.second)
+        far-reaches : Reaches (part away left) w (pins_of s.second)
         far-reaches p m =
             let r = s.second-pins p m in
             let j = other-end p r.0 r.1 in
@@ -137,21 +137,21 @@ module _ {A M : Type 0} (same : Discrete A) (pinsOf : M → List A) (G : List (A
             (λ a b m. left-edges a b (part-among away left (a, b) m)) far-reaches
 
     linked : T S v ≤ lengths d F
-    linked = at (all-or-one f (pinsOf S)) (all-or-one (λ x. not (f x)) (pinsOf S))
+    linked = at (all-or-one f (pins_of S)) (all-or-one (λ x. not (f x)) (pins_of S))
       where
-        at : ((p : A) → p ∈ pinsOf S → f p ≡ true) ⊎ ((p : A) × ((p ∈ pinsOf S) × (f p ≡ false))) →
-            ((p : A) → p ∈ pinsOf S → not (f p) ≡ true) ⊎ ((p : A) × ((p ∈ pinsOf S) × (not (f p) ≡ false))) → T S v ≤ lengths d F
+        at : ((p : A) → p ∈ pins_of S → f p ≡ true) ⊎ ((p : A) × ((p ∈ pins_of S) × (f p ≡ false))) →
+            ((p : A) → p ∈ pins_of S → not (f p) ≡ true) ⊎ ((p : A) × ((p ∈ pins_of S) × (not (f p) ≡ false))) → T S v ≤ lengths d F
         at (inl h) r = all_near h
         at (inr q) (inl h) = all-far (λ p m. not-true (f p) (h p m))
         at (inr q) (inr p) = both (c.split S f p.0 q.0 p.1.0 q.1.0 (not-false (f p.0) p.1.1) q.1.1)
 
   bound : (n : ℕ) → Bound n
   bound zero F S v size low edges r =
-      either (λ h. omega (arith, c.at_pin S v h)) (λ k. omega (arith, length-others k.1)) (start v (pinsOf S) r)
+      either (λ h. omega (arith, c.at_pin S v h)) (λ k. omega (arith, length-others k.1)) (start v (pins_of S) r)
   bound (suc n) F S v size low edges r =
       either (λ h. omega (arith, c.at_pin S v h))
-      (λ k. linked n (bound n) F S v k.0 k.1 size low edges r) (start v (pinsOf S) r)
+      (λ k. linked n (bound n) F S v k.0 k.1 size low edges r) (start v (pins_of S) r)
 
-  pub lower-bound : (F : List (A × A)) (S : M) (v : A) → lengths d F < cap → Edges G F → Reaches F v (pinsOf S) →
+  pub lower-bound : (F : List (A × A)) (S : M) (v : A) → lengths d F < cap → Edges G F → Reaches F v (pins_of S) →
       T S v ≤ lengths d F
   lower-bound F S v low edges r = bound (length F) F S v (omega arith) low edges r

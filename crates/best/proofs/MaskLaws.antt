@@ -13,7 +13,7 @@ use Rattle.lists.specs.Those.{those}
 use Rattle.lists.proofs.TestLaws.{by, either, not-true}
 use Rattle.lists.proofs.ThoseLaws.{in-those, of-those}
 use Rattle.best.specs.Sets.{Split, Closed}
-use Rattle.best.specs.Masks.{chosen, passing, Mask, maskPins, Halves, none, left, right, neither, Filled}
+use Rattle.best.specs.Masks.{chosen, passing, Mask, mask_pins, Halves, none, left, right, neither, Filled}
 
 module _ {A : Type 0} where
   chosen-passing : (f : A → Bool) (bs : List Bool) (ps : List A) → chosen (passing f bs ps) ps ≡ those f (chosen bs ps)
@@ -59,7 +59,7 @@ module _ {A : Type 0} where
 
 module _ {A : Type 0} (pins : List A) where
   -- those pins of a mask that pass, where one does
-  unfoldable passed : (S : Mask pins) (f : A → Bool) (p : A) → p ∈ maskPins pins S → f p ≡ true → Mask pins
+  unfoldable passed : (S : Mask pins) (f : A → Bool) (p : A) → p ∈ mask_pins pins S → f p ≡ true → Mask pins
   passed S f p m e = record {
     bits = passing f S.bits pins;
     size = passing-size f S.bits pins S.size;
@@ -67,14 +67,14 @@ module _ {A : Type 0} (pins : List A) where
     some = rw (chosen-passing f S.bits pins) (in-those f (chosen S.bits pins) m e);
   }
 
-  passed-pins : (S : Mask pins) (f : A → Bool) (p : A) (m : p ∈ maskPins pins S) (e : f p ≡ true) (q : A) → q ∈ maskPins pins
+  passed-pins : (S : Mask pins) (f : A → Bool) (p : A) (m : p ∈ mask_pins pins S) (e : f p ≡ true) (q : A) → q ∈ mask_pins pins
       (passed S f p m e) →
-      (q ∈ maskPins pins S) × (f q ≡ true)
+      (q ∈ mask_pins pins S) × (f q ≡ true)
   unfolding passed
   passed-pins S f p m e q i = of-those f (chosen S.bits pins) (rw chosen-passing at i)
 
   module _ (G : List (A × A)) (d : A → A → ℕ) (cap : ℕ) (T : Mask pins → A → ℕ) (t : Filled pins G d cap T) where
-    pub filled-closed : Closed (maskPins pins) G d cap T
+    pub filled-closed : Closed (mask_pins pins) G d cap T
     unfolding passed
     filled-closed = record {
       at_pin = λ S v h. omega (arith, t.below S v, (t.starts S v).at_pin h);
@@ -82,8 +82,8 @@ module _ {A : Type 0} (pins : List A) where
       split = split;
     }
       where
-        split : (S : Mask pins) (f : A → Bool) (p q : A) → p ∈ maskPins pins S → q ∈ maskPins pins S → f p ≡ true → f q ≡ false →
-            Split (maskPins pins) G d cap T S f
+        split : (S : Mask pins) (f : A → Bool) (p q : A) → p ∈ mask_pins pins S → q ∈ mask_pins pins S → f p ≡ true → f q ≡ false →
+            Split (mask_pins pins) G d cap T S f
         split S f p q i k e n =
             let first = passed S f p i e in
             let second = passed S (λ x. not (f x)) q k (rw n refl) in

@@ -20,24 +20,24 @@ use Rattle.lists.specs.Those.{those}
 use Rattle.lists.proofs.TestLaws.{by, either, differ, and_left, and_right}
 use Rattle.lists.proofs.MapLaws.{of_map}
 use Rattle.lists.proofs.ThoseLaws.{of-those}
-use Rattle.lists.proofs.MemberLaws.{getD-in}
+use Rattle.lists.proofs.MemberLaws.{get_d-in}
 use Rattle.lists.proofs.SortedLaws.{of-sorted, in-sorted, sorted-ascending, ascending-once, position-small, at_position}
 use Rattle.joined.specs.Joined.{Link}
 use Rattle.plane.specs.declared.Place.{Place}
 use Rattle.plane.specs.Place.{place, before}
 use Rattle.plane.proofs.PlaceOrder.{place-order}
-use Rattle.net.specs.Net.{Net, costIn}
+use Rattle.net.specs.Net.{Net, cost_in}
 use Rattle.net.specs.Allowed.{Allowed}
 use Rattle.net.proofs.AllowedLaws.{allowed-positive}
 use Rattle.lines.specs.declared.Grid.{Grid}
 use Rattle.lines.specs.declared.Axis.TheVariants.{Across, Along}
-use Rattle.lines.specs.Bounds.{gridPins, gridMacros, lineBound, crossingBound, unreached}
-use Rattle.lines.specs.Lines.{xLines, yLines, Crossing}
-use Rattle.lines.specs.Edges.{Edge, gridEdges}
-use Rattle.lines.specs.Crossings.{isCrossing, crossingNumber}
+use Rattle.lines.specs.Bounds.{grid_pins, grid_macros, line_bound, crossing_bound, unreached}
+use Rattle.lines.specs.Lines.{x_lines, y_lines, Crossing}
+use Rattle.lines.specs.Edges.{Edge, grid_edges}
+use Rattle.lines.specs.Crossings.{is_crossing, crossing_number}
 use Rattle.grid.specs.Rows.{at}
-use Rattle.grid.specs.Tables.{crossingAt, target, Near}
-use Rattle.grid.specs.Distance.{pinsInOrder}
+use Rattle.grid.specs.Tables.{crossing_at, target, Near}
+use Rattle.grid.specs.Distance.{pins_in_order}
 use Rattle.lines.proofs.AxisLaws.{cost-length}
 use Rattle.lines.proofs.EdgeLaws.{pin-crossing, x-ascending, y-ascending}
 use Rattle.lines.proofs.CrossingLaws.{is-crossing, crossing_is, numbers-single, number-below, ends-crossings}
@@ -46,13 +46,13 @@ use Rattle.grid.proofs.RowLaws.{held-near, quiet-near, quiet-why}
 use Rattle.grid.proofs.Spread.{spread, spread-on, spread-off}
 use Rattle.grid.proofs.TableGrid.{Made, NearGrid, near-grid, grid-near}
 use Rattle.grid.proofs.NetDistance.{few-lines, order-count}
-use Rattle.parts.specs.Bounds.{bestPins}
+use Rattle.parts.specs.Bounds.{best_pins}
 use Rattle.best.specs.Sets.{JoinsAt}
-use Rattle.best.specs.Masks.{Mask, maskPins, Lone, Filled}
+use Rattle.best.specs.Masks.{Mask, mask_pins, Lone, Filled}
 use Rattle.parts.specs.Numbers.{number, part_of}
-use Rattle.parts.specs.Starts.{under, least, properPart, sums}
-use Rattle.parts.specs.Tables.{value_at, row_of, lonePin, MaskRow}
-use Rattle.traced.specs.Routes.{inOrder, edge_at, otherEnd, leads, meets, Route, stop, over, met}
+use Rattle.parts.specs.Starts.{under, least, proper_part, sums}
+use Rattle.parts.specs.Tables.{value_at, row_of, lone_pin, MaskRow}
+use Rattle.traced.specs.Routes.{in_their_order, edge_at, other_end, leads, meets, Route, stop, over, met}
 use Rattle.parts.proofs.Under.{of-under}
 use Rattle.best.proofs.MaskLaws.{halves-pins}
 use Rattle.best.proofs.StartLaws.{mask-parts, T, Begins, table_filled, least-in, some, small}
@@ -71,7 +71,7 @@ empty = refl
 -- a sum of parts that is the number itself is one that fits
 found_part : (m : ℕ) (work : List ℕ) (s v n : ℕ) → n ∈ sums m (value_at work) s v → n ≡ value_at work s v →
     ((p : ℕ) → 1 ≤ p → p < s → meets m work s v p ≡ false) → ⊥
-unfolding sums properPart
+unfolding sums proper_part
 found_part m work s v n i e no_part =
     let r = of_map (λ (p : ℕ). value_at work p v + value_at work (s - p) v) (those (λ (p : ℕ). leb 1 p && part_of m p s) (under s)) i in
     let q = of-those (λ (p : ℕ). leb 1 p && part_of m p s) (under s) r.stands in
@@ -83,50 +83,50 @@ found_part m work s v n i e no_part =
 pub record Tabled (net : Net) (g : Grid) (xs ys : List ℤ) (costs : List ℕ) (e : ℕ) (numbers work : List ℕ) (p0 : Place)
     (goals : List Place) : Type 0 where
   pub allowed : Allowed net
-  pub few-pins : length net.pins ≤ bestPins
-  pub few-macros : length net.macros ≤ gridMacros
+  pub few-pins : length net.pins ≤ best_pins
+  pub few-macros : length net.macros ≤ grid_macros
   pub made : Made net g xs ys costs e
-  pub order : pinsInOrder net ≡ p0 ∷ goals
-  pub first-is : get_or numbers 0 0 ≡ crossingNumber (xLines net) (yLines net) p0
-  pub goal-is : (i : ℕ) → i < length goals → get_or numbers (i + 1) 0 ≡ crossingNumber (xLines net) (yLines net) (get_or goals i none)
+  pub order : pins_in_order net ≡ p0 ∷ goals
+  pub first-is : get_or numbers 0 0 ≡ crossing_number (x_lines net) (y_lines net) p0
+  pub goal-is : (i : ℕ) → i < length goals → get_or numbers (i + 1) 0 ≡ crossing_number (x_lines net) (y_lines net) (get_or goals i none)
   pub rows : (s : ℕ) → 1 ≤ s → s < 2 ^ length goals → MaskRow (Near costs e) (length goals) numbers work s
 
 module _ {net : Net} {g : Grid} {xs ys : List ℤ} {costs : List ℕ} {e : ℕ} {numbers work : List ℕ} {p0 : Place} {goals : List Place}
     (t : Tabled net g xs ys costs e numbers work p0 goals) where
   abbrev G : List Edge
-  G = gridEdges net
+  G = grid_edges net
 
   abbrev price : Place → Place → ℕ
-  price = costIn net
+  price = cost_in net
 
   abbrev on : Place → Bool
-  on = isCrossing (xLines net) (yLines net)
+  on = is_crossing (x_lines net) (y_lines net)
 
   abbrev name : Place → ℕ
-  name = crossingNumber (xLines net) (yLines net)
+  name = crossing_number (x_lines net) (y_lines net)
 
   abbrev m : ℕ
   m = length goals
 
   -- Pins
 
-  few : length net.pins ≤ gridPins
+  few : length net.pins ≤ grid_pins
   few = omega (arith, t.few-pins)
 
   pub single : (a b : Place) → on a ≡ true → on b ≡ true → name a ≡ name b → a ≡ b
   single =
-      numbers-single (xLines net) (yLines net) (x-ascending net) (y-ascending net) (few-lines t.allowed few t.few-macros Across)
+      numbers-single (x_lines net) (y_lines net) (x-ascending net) (y-ascending net) (few-lines t.allowed few t.few-macros Across)
       (few-lines t.allowed few t.few-macros Along)
 
-  pub crossing-of : (a : Place) → on a ≡ true → Crossing (xLines net) (yLines net) a
-  crossing-of = crossing_is (xLines net) (yLines net) (x-ascending net) (y-ascending net)
+  pub crossing-of : (a : Place) → on a ≡ true → Crossing (x_lines net) (y_lines net) a
+  crossing-of = crossing_is (x_lines net) (y_lines net) (x-ascending net) (y-ascending net)
 
-  pub on_of : (a : Place) → Crossing (xLines net) (yLines net) a → on a ≡ true
-  on_of = is-crossing (xLines net) (yLines net) (x-ascending net) (y-ascending net)
+  pub on_of : (a : Place) → Crossing (x_lines net) (y_lines net) a → on a ≡ true
+  on_of = is-crossing (x_lines net) (y_lines net) (x-ascending net) (y-ascending net)
 
-  below : (a : Place) → on a ≡ true → name a < crossingBound
+  below : (a : Place) → on a ≡ true → name a < crossing_bound
   below a o =
-      number-below (xLines net) (yLines net) (x-ascending net) (y-ascending net) (few-lines t.allowed few t.few-macros Across)
+      number-below (x_lines net) (y_lines net) (x-ascending net) (y-ascending net) (few-lines t.allowed few t.few-macros Across)
       (few-lines t.allowed few t.few-macros Along) a (crossing-of a o)
 
   in_order : Ascending before (p0 ∷ goals)
@@ -145,7 +145,7 @@ module _ {net : Net} {g : Grid} {xs ys : List ℤ} {costs : List ℕ} {e : ℕ} 
   all-pins p i = Memᴰ.cases_cons (subst (λ (l : List Place). p ∈ l) t.order (in-sorted before place-order net.pins p i))
 
   goals-few : m ≤ 4
-  goals-few = let c : length (pinsInOrder net) ≡ length (p0 ∷ goals) = ap length t.order in
+  goals-few = let c : length (pins_in_order net) ≡ length (p0 ∷ goals) = ap length t.order in
       omega (arith, c, order-count t.allowed, t.few-pins)
 
   pub pin-on : (p : Place) → p ∈ net.pins → on p ≡ true
@@ -153,21 +153,21 @@ module _ {net : Net} {g : Grid} {xs ys : List ℤ} {costs : List ℕ} {e : ℕ} 
 
   -- Crossings by number
 
-  pub place-back : (a : Place) → on a ≡ true → crossingAt xs ys (name a) ≡ a
-  unfolding crossingNumber
+  pub place-back : (a : Place) → on a ≡ true → crossing_at xs ys (name a) ≡ a
+  unfolding crossing_number
   place-back a o =
       let c = crossing-of a o in
-      let i = position lt_z (xLines net) a.x in
-      let j = position lt_z (yLines net) a.y in
-      let hi = position-small lt_z line-order (xLines net) (x-ascending net) a.x c.across in
-      let hj = position-small lt_z line-order (yLines net) (y-ascending net) a.y c.along in
+      let i = position lt_z (x_lines net) a.x in
+      let j = position lt_z (y_lines net) a.y in
+      let hi = position-small lt_z line-order (x_lines net) (x-ascending net) a.x c.across in
+      let hj = position-small lt_z line-order (y_lines net) (y-ascending net) a.y c.along in
       let room = few-lines t.allowed few t.few-macros Along in
-      let d : (i * lineBound + j) / lineBound ≡ i = omega (arith, hj, room) in
-      let r : (i * lineBound + j) % lineBound ≡ j = omega (arith, hj, room) in
+      let d : (i * line_bound + j) / line_bound ≡ i = omega (arith, hj, room) in
+      let r : (i * line_bound + j) % line_bound ≡ j = omega (arith, hj, room) in
       ap₂ place
-      (ap (λ (n : ℕ). get_or xs n (pos 0)) d ∙ t.made.x-at i hi ∙ at_position lt_z line-order (xLines net) (x-ascending net) a.x
+      (ap (λ (n : ℕ). get_or xs n (pos 0)) d ∙ t.made.x-at i hi ∙ at_position lt_z line-order (x_lines net) (x-ascending net) a.x
       (pos 0) c.across)
-      (ap (λ (n : ℕ). get_or ys n (pos 0)) r ∙ t.made.y-at j hj ∙ at_position lt_z line-order (yLines net) (y-ascending net) a.y
+      (ap (λ (n : ℕ). get_or ys n (pos 0)) r ∙ t.made.y-at j hj ∙ at_position lt_z line-order (y_lines net) (y-ascending net) a.y
       (pos 0) c.along)
 
   -- a segment that is an edge at a crossing leads to another
@@ -177,7 +177,7 @@ module _ {net : Net} {g : Grid} {xs ys : List ℤ} {costs : List ℕ} {e : ℕ} 
     pub to-on : on to ≡ true
     pub to_is : w ≡ name to
     pub cost : get_or costs k 0 ≡ price a to
-    pub edge : (edge_at xs ys (inOrder k) ≡ (a, to)) ⊎ (edge_at xs ys (inOrder k) ≡ (to, a))
+    pub edge : (edge_at xs ys (in_their_order k) ≡ (a, to)) ⊎ (edge_at xs ys (in_their_order k) ≡ (to, a))
 
   pub onward : (a : Place) (k w : ℕ) → on a ≡ true → k < e → 1 ≤ get_or costs k 0 →
       ((name a ≡ k / 2) × (w ≡ target k)) ⊎ ((name a ≡ target k) × (w ≡ k / 2)) → Onward a k w
@@ -200,17 +200,17 @@ module _ {net : Net} {g : Grid} {xs ys : List ℤ} {costs : List ℕ} {e : ℕ} 
         edge = edges n.to c.1 n.to_is ends;
       }
     where
-      turned : (inOrder (inOrder k) / 2 ≡ k / 2) × (target (inOrder (inOrder k)) ≡ target k)
+      turned : (in_their_order (in_their_order k) / 2 ≡ k / 2) × (target (in_their_order (in_their_order k)) ≡ target k)
       turned = (ap (λ (i : ℕ). i / 2) (turns k).twice, ap target (turns k).twice)
 
       edges : (b : Place) → on b ≡ true → w ≡ name b → ((name a ≡ k / 2) × (w ≡ target k)) ⊎ ((name a ≡ target k) × (w ≡ k / 2)) →
-          (edge_at xs ys (inOrder k) ≡ (a, b)) ⊎ (edge_at xs ys (inOrder k) ≡ (b, a))
+          (edge_at xs ys (in_their_order k) ≡ (a, b)) ⊎ (edge_at xs ys (in_their_order k) ≡ (b, a))
       edges b i f (inl s) = inl (ap₂ (λ (x y : Place). (x, y))
-          (ap (crossingAt xs ys) (turned.0 ∙ sym s.0) ∙ place-back a o)
-          (ap (crossingAt xs ys) (turned.1 ∙ sym s.1 ∙ f) ∙ place-back b i))
+          (ap (crossing_at xs ys) (turned.0 ∙ sym s.0) ∙ place-back a o)
+          (ap (crossing_at xs ys) (turned.1 ∙ sym s.1 ∙ f) ∙ place-back b i))
       edges b i f (inr s) = inr (ap₂ (λ (x y : Place). (x, y))
-          (ap (crossingAt xs ys) (turned.0 ∙ sym s.1 ∙ f) ∙ place-back b i)
-          (ap (crossingAt xs ys) (turned.1 ∙ sym s.0) ∙ place-back a o))
+          (ap (crossing_at xs ys) (turned.0 ∙ sym s.1 ∙ f) ∙ place-back b i)
+          (ap (crossing_at xs ys) (turned.1 ∙ sym s.0) ∙ place-back a o))
 
   -- The table by masks and places
 
@@ -237,24 +237,24 @@ module _ {net : Net} {g : Grid} {xs ys : List ℤ} {costs : List ℕ} {e : ℕ} 
     abbrev row : MaskRow (Near costs e) m numbers work (number S.bits)
     row = row-of S
 
-    its-pin : (l.place < m) × ((p : Place) → p ∈ maskPins goals S → p ≡ get_or goals l.place none)
+    its-pin : (l.place < m) × ((p : Place) → p ∈ mask_pins goals S → p ≡ get_or goals l.place none)
     its-pin = power-pin none S.bits goals S.size l.place l.is
 
     abbrev goal : Place
     goal = get_or goals l.place none
 
     goal-in : goal ∈ goals
-    goal-in = getD-in goals l.place none its-pin.0
+    goal-in = get_d-in goals l.place none its-pin.0
 
     goal-on : on goal ≡ true
     goal-on = pin-on goal (goals-pins goal goal-in)
 
-    number_is : get_or numbers (lonePin (number S.bits)) 0 ≡ name goal
+    number_is : get_or numbers (lone_pin (number S.bits)) 0 ≡ name goal
     number_is = ap (λ (i : ℕ). get_or numbers i 0) l.pin ∙ t.goal-is l.place its-pin.0
 
     starts-at : at row.start (name goal) ≡ 0
     starts-at =
-        ap (at row.start) (sym number_is) ∙ (row.begun.lone (let z : 1 ≤ lonePin (number S.bits) = omega (arith, l.pin) in z)).here
+        ap (at row.start) (sym number_is) ∙ (row.begun.lone (let z : 1 ≤ lone_pin (number S.bits) = omega (arith, l.pin) in z)).here
 
     starts-only : (a : Place) → on a ≡ true → at row.start (name a) < unreached → a ≡ goal
     starts-only a o low = pick (ℕ_discrete (name a) (name goal))
@@ -262,7 +262,7 @@ module _ {net : Net} {g : Grid} {xs ys : List ℤ} {costs : List ℕ} {e : ℕ} 
         pick : Dec (name a ≡ name goal) → a ≡ goal
         pick (yes f) = single a goal o goal-on f
         pick (no n) =
-            let s = row.begun.lone (let z : 1 ≤ lonePin (number S.bits) = omega (arith, l.pin) in z) in
+            let s = row.begun.lone (let z : 1 ≤ lone_pin (number S.bits) = omega (arith, l.pin) in z) in
             let z : ⊥ = omega (arith, low, s.elsewhere (name a) (below a o) (λ f. n (f ∙ number_is))) in
             absurd z
 
@@ -279,7 +279,7 @@ module _ {net : Net} {g : Grid} {xs ys : List ℤ} {costs : List ℕ} {e : ℕ} 
           place = o.place;
           few = f;
           is = o.is;
-          pin = ap lonePin o.is ∙ lone-power o.place f;
+          pin = ap lone_pin o.is ∙ lone-power o.place f;
         },
         o.at,
       )
@@ -290,8 +290,8 @@ module _ {net : Net} {g : Grid} {xs ys : List ℤ} {costs : List ℕ} {e : ℕ} 
     lone = λ h. let r = lone-power-of S a h in
         subst (λ (z : Place). spread G price unreached on name (row-of S).start z ≡ 0) r.1
         (spread-on G price unreached on name (row-of S).start (goal S r.0) (goal-on S r.0) ∙ starts-at S r.0);
-    low = λ o. pick_low o (ℕ_discrete (lonePin s) 0);
-    why = λ low. by on-a (λ o. pick-why o low (ℕ_discrete (lonePin s) 0))
+    low = λ o. pick_low o (ℕ_discrete (lone_pin s) 0);
+    why = λ low. by on-a (λ o. pick-why o low (ℕ_discrete (lone_pin s) 0))
         (λ o. let z : ⊥ = omega (arith, low, spread-off G price unreached on name (row-of S).start a o) in absurd z);
   }
     where
@@ -301,13 +301,13 @@ module _ {net : Net} {g : Grid} {xs ys : List ℤ} {costs : List ℕ} {e : ℕ} 
       on-a : Bool
       on-a = on a
 
-      many : on a ≡ true → lonePin (number S.bits) ≡ 0 → spread G price unreached on name (row-of S).start a
+      many : on a ≡ true → lone_pin (number S.bits) ≡ 0 → spread G price unreached on name (row-of S).start a
           ≡ least unreached (sums m (λ p u. at (row_of work p) u) (number S.bits) (name a))
       many o z =
           spread-on G price unreached on name (row-of S).start a o ∙ (row-of S).begun.parts z (name a) (below a o)
           ∙ ap (least unreached) (sums_same (number S.bits) a o)
 
-      pick_low : on a ≡ true → Dec (lonePin (number S.bits) ≡ 0) → spread G price unreached on name (row-of S).start a
+      pick_low : on a ≡ true → Dec (lone_pin (number S.bits) ≡ 0) → spread G price unreached on name (row-of S).start a
           ≤ least unreached (sums m (λ p u. at (row_of work p) u) (number S.bits) (name a))
       pick_low o (yes z) = omega (arith, many o z)
       pick_low o (no n) =
@@ -320,7 +320,7 @@ module _ {net : Net} {g : Grid} {xs ys : List ℤ} {costs : List ℕ} {e : ℕ} 
           least-none : least unreached [] ≡ unreached
           least-none = empty
 
-      pick-why : on a ≡ true → spread G price unreached on name (row-of S).start a < unreached → Dec (lonePin (number S.bits) ≡ 0) →
+      pick-why : on a ≡ true → spread G price unreached on name (row-of S).start a < unreached → Dec (lone_pin (number S.bits) ≡ 0) →
           (Lone goals S a × (spread G price unreached on name (row-of S).start a ≡ 0)) ⊎ ((on a ≡ true) ×
           (spread G price unreached on name (row-of S).start a ≡ least unreached (sums m (λ p u. at (row_of work p) u) (number
           S.bits) (name a))))
@@ -344,7 +344,7 @@ module _ {net : Net} {g : Grid} {xs ys : List ℤ} {costs : List ℕ} {e : ℕ} 
   -- What is read back
 
   abbrev Joins : List ℕ → Mask goals → Place → Type 0
-  Joins js S a = JoinsAt (maskPins goals) G price (map (edge_at xs ys) js) S a (Values S a)
+  Joins js S a = JoinsAt (mask_pins goals) G price (map (edge_at xs ys) js) S a (Values S a)
 
   -- where nothing leads on and no parts fit, the mask is one pin and this is its place
   at-end : (S : Mask goals) (a : Place) → on a ≡ true → Values S a < unreached →
@@ -356,7 +356,7 @@ module _ {net : Net} {g : Grid} {xs ys : List ℤ} {costs : List ℕ} {e : ℕ} 
       value = spread-on G price unreached on name (row_of work (number S.bits)) a o
 
       -- the least sum would be that of a part
-      parted : at (row-of S).start (name a) ≡ at (row_of work (number S.bits)) (name a) → lonePin (number S.bits) ≡ 0 → ⊥
+      parted : at (row-of S).start (name a) ≡ at (row_of work (number S.bits)) (name a) → lone_pin (number S.bits) ≡ 0 → ⊥
       parted f z =
           let is = (row-of S).begun.parts z (name a) (below a o) in
           let less : least unreached (sums m (value_at work) (number S.bits) (name a)) < unreached = omega (arith, is, f, value, low) in
@@ -373,16 +373,16 @@ module _ {net : Net} {g : Grid} {xs ys : List ℤ} {costs : List ℕ} {e : ℕ} 
           (at (row_of work (number S.bits)) (name a) ≡ at (row_of work (number S.bits)) w + c)))) → Joins [] S a
       at-start (inr (w, (c, ((k, (h, r)), f)))) =
           differ (leads-is costs (row_of work (number S.bits)) e k (name a) w c r f) (no_edge k h)
-      at-start (inl f) = pick (ℕ_discrete (lonePin (number S.bits)) 0)
+      at-start (inl f) = pick (ℕ_discrete (lone_pin (number S.bits)) 0)
         where
-          pick : Dec (lonePin (number S.bits) ≡ 0) → Joins [] S a
+          pick : Dec (lone_pin (number S.bits) ≡ 0) → Joins [] S a
           pick (yes z) = absurd (parted (sym f) z)
           pick (no n) =
               let l = lone_is (number S.bits) (omega (arith, n)) in
               let same = starts-only S l a o (omega (arith, low, value, f)) in
-              joins-cost (maskPins goals) G price
+              joins-cost (mask_pins goals) G price
               (value ∙ f ∙ ap (λ (z : Place). at (row-of S).start (name z)) same ∙ starts-at S l)
-              (joins-lone (maskPins goals) G price S a (lone-at S l a same))
+              (joins-lone (mask_pins goals) G price S a (lone-at S l a same))
 
   pub route-joins : {s v : ℕ} {js : List ℕ} → Route costs e m work s v js → (S : Mask goals) → number S.bits ≡ s → (a : Place) →
       on a ≡ true → name a ≡ v → Values S a < unreached → Joins js S a
@@ -395,17 +395,17 @@ module _ {net : Net} {g : Grid} {xs ys : List ℤ} {costs : List ℕ} {e : ℕ} 
       both p q = ap₂ (λ (c d : ℕ). (c, d)) (sym p) (sym q)
   route-joins (over {s = s} {v = v} {js = js} k h l r) S f a o is low =
       let q = leading costs (row_of work s) v k l in
-      let n = onward a k (otherEnd k v) o h q.some
+      let n = onward a k (other_end k v) o h q.some
       (either (λ z. inl (is ∙ z.0, z.1)) (λ z. inr (is ∙ z.0, z.1)) q.ends) in
       let here-is : Values S a ≡ at (row_of work s) v =
       spread-on G price unreached on name (row_of work (number S.bits)) a o ∙ ap₂ (λ (c d : ℕ). at (row_of work c) d) f is in
-      let there-is : Values S n.to ≡ at (row_of work s) (otherEnd k v) =
+      let there-is : Values S n.to ≡ at (row_of work s) (other_end k v) =
       spread-on G price unreached on name (row_of work (number S.bits)) n.to n.to-on
       ∙ ap₂ (λ (c d : ℕ). at (row_of work c) d) f (sym n.to_is) in
       let sum : Values S a ≡ Values S n.to + price a n.to = omega (arith, here-is, there-is, q.is, n.cost) in
-      joins-cost (maskPins goals) G price sum
-      (joins-edge (maskPins goals) G price (cost-length net.weights) (map (edge_at xs ys) js) S a n.to (Values S n.to)
-      (edge_at xs ys (inOrder k)) n.edge n.link (route-joins r S f n.to n.to-on (sym n.to_is) (omega (arith, low, sum))))
+      joins-cost (mask_pins goals) G price sum
+      (joins-edge (mask_pins goals) G price (cost-length net.weights) (map (edge_at xs ys) js) S a n.to (Values S n.to)
+      (edge_at xs ys (in_their_order k)) n.edge n.link (route-joins r S f n.to n.to-on (sym n.to_is) (omega (arith, low, sum))))
   route-joins (met {s = s} {v = v} {is = is} {js = js} p one h l r q) S f a o at-v low =
       let w = meeting m work s v p l in
       let c = mask-parts goals S p one (omega (arith, f, h)) (subst (λ (z : ℕ). part_of m p z ≡ true) (sym f) w.part) in
@@ -416,8 +416,8 @@ module _ {net : Net} {g : Grid} {xs ys : List ℤ} {costs : List ℕ} {e : ℕ} 
       let rest-is : number Q.bits ≡ s - p = c.second_is ∙ ap (λ (z : ℕ). z - p) f in
       let right : Values Q a ≡ value_at work (s - p) v = value-at Q a o ∙ ap₂ (value_at work) rest-is at-v in
       let sum : Values S a ≡ Values P a + Values Q a = omega (arith, whole, left, right, w.sum) in
-      joins-cost (maskPins goals) G price sum
-      (subst (λ (F : List Edge). JoinsAt (maskPins goals) G price F S a (Values P a + Values Q a)) (sym (map-append (edge_at xs ys) is js))
-      (joins-met (maskPins goals) G price (map (edge_at xs ys) is) (map (edge_at xs ys) js) S P Q a (Values P a) (Values Q a)
+      joins-cost (mask_pins goals) G price sum
+      (subst (λ (F : List Edge). JoinsAt (mask_pins goals) G price F S a (Values P a + Values Q a)) (sym (map-append (edge_at xs ys) is js))
+      (joins-met (mask_pins goals) G price (map (edge_at xs ys) is) (map (edge_at xs ys) js) S P Q a (Values P a) (Values Q a)
       (halves-pins c.halves goals)
       (route-joins r P c.first-is a o at-v (omega (arith, low, sum))) (route-joins q Q rest-is a o at-v (omega (arith, low, sum)))))

@@ -20,11 +20,11 @@ use Rattle.plane.specs.Place.{place}
 use Rattle.plane.specs.Cost.{cost}
 use Rattle.lines.specs.declared.Axis.{Axis}
 use Rattle.lines.specs.declared.Axis.TheVariants.{Across, Along}
-use Rattle.lines.specs.Lines.{coordinate, sides, marks, lines_of, xLines, yLines, GridStep, across, along}
-use Rattle.lines.specs.Edges.{Edge, gridEdges}
+use Rattle.lines.specs.Lines.{coordinate, sides, marks, lines_of, x_lines, y_lines, GridStep, across, along}
+use Rattle.lines.specs.Edges.{Edge, grid_edges}
 use Rattle.lines.proofs.LineLaws.{line-order}
 use Rattle.lines.proofs.EdgeLaws.{link-grid, grid-link}
-use Rattle.rules.proofs.TreesOrder.{netBy, SameNet, turned}
+use Rattle.rules.proofs.TreesOrder.{net_by, SameNet, turned}
 use Rattle.best.specs.Tree.{JoinsPins, IsBest}
 
 sides-in : (ms : List Macro) (p : Place) → p ∈ sides ms → (n : List Macro) → Among ms n → p ∈ sides n
@@ -62,14 +62,14 @@ module _ {W : Weights} {ps qs : List Place} {ms ns : List Macro} (h : SameNet W 
   step_same xs ys a b (across s e m c) = across s e m (sym (h.clears a b) ∙ c)
   step_same xs ys a b (along s e m c) = along s e m (sym (h.clears a b) ∙ c)
 
-  pub link-same : (a b : Place) → Link (gridEdges (netBy W ps ms)) a b → Link (gridEdges (netBy W qs ns)) a b
+  pub link-same : (a b : Place) → Link (grid_edges (net_by W ps ms)) a b → Link (grid_edges (net_by W qs ns)) a b
   link-same a b l =
-      grid-link (netBy W qs ns) a b
-      (subst (λ (xs : List ℤ). GridStep xs (yLines (netBy W qs ns)) ns a b) (lines_same Across)
-      (subst (λ (ys : List ℤ). GridStep (xLines (netBy W ps ms)) ys ns a b) (lines_same Along)
-      (step_same _ _ a b (link-grid (netBy W ps ms) a b l))))
+      grid-link (net_by W qs ns) a b
+      (subst (λ (xs : List ℤ). GridStep xs (y_lines (net_by W qs ns)) ns a b) (lines_same Across)
+      (subst (λ (ys : List ℤ). GridStep (x_lines (net_by W ps ms)) ys ns a b) (lines_same Along)
+      (step_same _ _ a b (link-grid (net_by W ps ms) a b l))))
 
-  joins-same : (F : List Edge) → JoinsPins (netBy W ps ms) F → JoinsPins (netBy W qs ns) F
+  joins-same : (F : List Edge) → JoinsPins (net_by W ps ms) F → JoinsPins (net_by W qs ns) F
   joins-same F j = record {
     on-grid = λ a b m. link-same a b (j.on-grid a b m);
     joins = λ p q i k. j.joins p q (h.from p i) (h.from q k);
@@ -77,6 +77,6 @@ module _ {W : Weights} {ps qs : List Place} {ms ns : List Macro} (h : SameNet W 
 
 -- the cost is the same for every order of the lists
 pub best-any-order : {W : Weights} {ps qs : List Place} {ms ns : List Macro} → SameNet W ps qs ms ns → (O P : List Edge) →
-    IsBest (netBy W ps ms) O → IsBest (netBy W qs ns) P → lengths (cost W) O ≡ lengths (cost W) P
+    IsBest (net_by W ps ms) O → IsBest (net_by W qs ns) P → lengths (cost W) O ≡ lengths (cost W) P
 best-any-order h O P o p =
     omega (arith, o.least P (joins-same (turned h) P p.all-joined), p.least O (joins-same h O o.all-joined))

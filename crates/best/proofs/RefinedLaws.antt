@@ -14,7 +14,7 @@ use Rattle.joined.proofs.WayLaws.{way-joined}
 use Rattle.plane.specs.declared.Place.{Place}
 use Rattle.plane.specs.Macro.{clear}
 use Rattle.plane.proofs.PlaceOrder.{place_same}
-use Rattle.net.specs.Net.{Net, costIn}
+use Rattle.net.specs.Net.{Net, cost_in}
 use Rattle.net.specs.Allowed.{Allowed}
 use Rattle.lines.specs.Edges.{Edge}
 use Rattle.rules.specs.Terminal.{Path}
@@ -35,18 +35,18 @@ one-tree-joined {pins} {T} o p q i k = at (place_same p q)
 
 module _ {net : Net} {O : List Edge} (b : IsBest net O) where
   -- L17: the cheapest of all metal
-  pub best-least : LeastMetal net (lengths (costIn net) O)
+  pub best-least : LeastMetal net (lengths (cost_in net) O)
   best-least =
       grid-least net O b.all-joined.on-grid b.all-joined.joins (λ F on j. b.least F record { on-grid = on; joins = j })
 
   -- L17: one tree that holds all pins, of clear edges
   pub one-tree-not-cheaper : (T : List Edge) → OneTree net.pins T → ((x y : Place) → (x, y) ∈ T → clear x y net.macros ≡ true) →
-      lengths (costIn net) O ≤ lengths (costIn net) T
-  one-tree-not-cheaper T one free = tree-not-cheaper net best-least.least T free (one-tree-joined one)
+      lengths (cost_in net) O ≤ lengths (cost_in net) T
+  one-tree-not-cheaper T one free = tree-not-cheaper net best-least T free (one-tree-joined one)
 
 -- L14: what the rules say the refined tree of an allowed net is, costs no less
 pub refined-not-cheaper : {net : Net} → Allowed net → {O : List Edge} → IsBest net O → {vs : List Place} {es : List Edge} {ks : List Path}
-    {rs : List Edge} → Trees net vs es ks rs → lengths (costIn net) O ≤ lengths (costIn net) rs
+    {rs : List Edge} → Trees net vs es ks rs → lengths (cost_in net) O ≤ lengths (cost_in net) rs
 refined-not-cheaper {net} a {O} o t =
-    subst (λ (rs : List Edge). lengths (costIn net) O ≤ lengths (costIn net) rs) (sym (trees-only a t).refined)
+    subst (λ (rs : List Edge). lengths (cost_in net) O ≤ lengths (cost_in net) rs) (sym (trees-only a t).refined)
     (let tree = refined-tree a in one-tree-not-cheaper o _ tree.one (λ p q m. tree.clear-edges (p, q) m))

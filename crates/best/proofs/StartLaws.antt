@@ -19,7 +19,7 @@ use Rattle.joined.specs.Joined.{Link}
 use Rattle.grid.specs.Rows.{at, Held, Quiet}
 use Rattle.best.specs.Masks.{chosen, Mask, Halves, Lone, Start, Filled}
 use Rattle.parts.specs.Numbers.{number, bits_of, part_of}
-use Rattle.parts.specs.Starts.{under, least, properPart, sums}
+use Rattle.parts.specs.Starts.{under, least, proper_part, sums}
 use Rattle.parts.proofs.Under.{in-under, of-under}
 use Rattle.best.proofs.NumberLaws.{bits-size, number-bits, bits-number, number_small, halves-sum, halves-part, part-halves}
 use Rattle.grid.proofs.Spread.{NearOf, spread, spread-on, spread-off, spread-below, spread-quiet, spread-why}
@@ -58,14 +58,14 @@ module _ {A : Type 0} where
   number-some (false ∷ bs) (q ∷ ps) e h = number-some bs ps (omega arith) (omega (arith, h))
 
   -- the mask of a number
-  unfoldable pub mask_of : (pins : List A) (n : ℕ) → 1 ≤ n → n < 2 ^ length pins → Mask pins
-  mask_of pins n h k =
+  unfoldable pub mask-of : (pins : List A) (n : ℕ) → 1 ≤ n → n < 2 ^ length pins → Mask pins
+  mask-of pins n h k =
       let s = number-some (bits_of (length pins) n) pins (bits-size (length pins) n) (rw (number-bits (length pins) n k) h) in
       record { bits = bits_of (length pins) n; size = bits-size (length pins) n; pin = s.0; some = s.1 }
 
-  pub maskOf-number : (pins : List A) (n : ℕ) (h : 1 ≤ n) (k : n < 2 ^ length pins) → number (mask_of pins n h k).bits ≡ n
-  unfolding mask_of
-  maskOf-number pins n h k = number-bits (length pins) n k
+  pub mask_of-number : (pins : List A) (n : ℕ) (h : 1 ≤ n) (k : n < 2 ^ length pins) → number (mask-of pins n h k).bits ≡ n
+  unfolding mask-of
+  mask_of-number pins n h k = number-bits (length pins) n k
 
 -- A part of a mask's number, and its rest, as masks
 
@@ -78,18 +78,18 @@ pub record Parts {A : Type 0} (pins : List A) (S : Mask pins) (p : ℕ) : Type 0
 
 pub mask-parts : {A : Type 0} (pins : List A) (S : Mask pins) (p : ℕ) → 1 ≤ p → p < number S.bits →
     part_of (length pins) p (number S.bits) ≡ true → Parts pins S p
-unfolding mask_of
+unfolding mask-of
 mask-parts pins S p one less part =
     let s = number S.bits in
     let small : s < 2 ^ length pins = subst (λ (m : ℕ). s < 2 ^ m) S.size (number_small S.bits) in
     let bits : bits_of (length pins) s ≡ S.bits = subst (λ (m : ℕ). bits_of m s ≡ S.bits) S.size (bits-number S.bits) in
-    let P = mask_of pins p one (omega (arith, less, small)) in
-    let Q = mask_of pins (s - p) (omega (arith, less)) (omega (arith, less, small)) in
+    let P = mask-of pins p one (omega (arith, less, small)) in
+    let Q = mask-of pins (s - p) (omega (arith, less)) (omega (arith, less, small)) in
     record {
       first = P;
       second = Q;
-      first-is = maskOf-number pins p one (omega (arith, less, small));
-      second_is = maskOf-number pins (s - p) (omega (arith, less)) (omega (arith, less, small));
+      first-is = mask_of-number pins p one (omega (arith, less, small));
+      second_is = mask_of-number pins (s - p) (omega (arith, less)) (omega (arith, less, small));
       halves = subst (λ (l : List Bool). Halves l P.bits Q.bits) bits (part-halves (length pins) p s part (omega (arith, less)));
     }
 
@@ -100,22 +100,22 @@ module _ {A : Type 0} (G : List (A × A)) (d : A → A → ℕ) (cap : ℕ) (on 
   abbrev pub T : Mask pins → A → ℕ
   T S v = spread G d cap on name (table (number S.bits)) v
 
-  abbrev sumsAt : Mask pins → A → List ℕ
-  sumsAt S v = sums (length pins) (λ p u. at (table p) u) (number S.bits) (name v)
+  abbrev sums_at : Mask pins → A → List ℕ
+  sums_at S v = sums (length pins) (λ p u. at (table p) u) (number S.bits) (name v)
 
   -- what a program's start row is at v: 0 at a lone pin, and else the least sum
   pub record Begins (S : Mask pins) (v : A) (n : ℕ) : Type 0 where
     pub lone : Lone pins S v → n ≡ 0
-    pub low : on v ≡ true → n ≤ least cap (sumsAt S v)
-    pub why : n < cap → (Lone pins S v × (n ≡ 0)) ⊎ ((on v ≡ true) × (n ≡ least cap (sumsAt S v)))
+    pub low : on v ≡ true → n ≤ least cap (sums_at S v)
+    pub why : n < cap → (Lone pins S v × (n ≡ 0)) ⊎ ((on v ≡ true) × (n ≡ least cap (sums_at S v)))
 
   module _ (S : Mask pins) (v : A) where
     abbrev s : ℕ
     s = number S.bits
 
     -- two halves are among the sums
-    pub in-sums : on v ≡ true → (P Q : Mask pins) → Halves S.bits P.bits Q.bits → (T P v + T Q v) ∈ sumsAt S v
-    unfolding sums properPart
+    pub in-sums : on v ≡ true → (P Q : Mask pins) → Halves S.bits P.bits Q.bits → (T P v + T Q v) ∈ sums_at S v
+    unfolding sums proper_part
     in-sums e P Q h =
         let p = number P.bits in
         let sum = halves-sum h in
@@ -155,8 +155,8 @@ module _ {A : Type 0} (G : List (A × A)) (d : A → A → ℕ) (cap : ℕ) (on 
     sum-cast : {n k : ℕ} → n ≡ k → Sum k → Sum n
     sum-cast e x = record { first = x.first; second = x.second; halves = x.halves; is = e ∙ x.is }
 
-    of-sums : on v ≡ true → (n : ℕ) → n ∈ sumsAt S v → Sum n
-    unfolding sums properPart
+    of-sums : on v ≡ true → (n : ℕ) → n ∈ sums_at S v → Sum n
+    unfolding sums proper_part
     of-sums e n m =
         let r = of_map (λ (p : ℕ). at (table p) (name v) + at (table (s - p)) (name v)) (those (λ (p : ℕ). leb 1 p && part_of
         (length pins) p s) (under s)) m in
@@ -169,10 +169,10 @@ module _ {A : Type 0} (G : List (A × A)) (d : A → A → ℕ) (cap : ℕ) (on 
     begins-start n b = record {
       at_pin = b.lone;
       at_split = λ P Q h low. by (on v)
-          (λ e. omega (arith, b.low e, least-le cap (sumsAt S v) (T P v + T Q v) (in-sums e P Q h)))
+          (λ e. omega (arith, b.low e, least-le cap (sums_at S v) (T P v + T Q v) (in-sums e P Q h)))
           (λ e. let z : ⊥ = omega (arith, low, spread-off G d cap on name (table (number P.bits)) v e) in absurd z);
       why = λ low. either inl
-          (λ r. let x = of-sums r.0 n (subst (λ (k : ℕ). k ∈ sumsAt S v) (sym r.1) (least-in cap (sumsAt S v) (omega (
+          (λ r. let x = of-sums r.0 n (subst (λ (k : ℕ). k ∈ sums_at S v) (sym r.1) (least-in cap (sums_at S v) (omega (
             arith,
             low,
             r.1,

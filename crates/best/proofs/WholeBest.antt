@@ -20,25 +20,25 @@ use Rattle.plane.specs.declared.Place.{Place}
 use Rattle.plane.specs.declared.Weights.{Weights}
 use Rattle.plane.specs.Place.{place, before}
 use Rattle.plane.specs.Distance.{distance}
-use Rattle.plane.specs.Flat.{macrosOf}
+use Rattle.plane.specs.Flat.{macros_of}
 use Rattle.plane.proofs.FlatLaws.{length-macros}
-use Rattle.net.specs.Pins.{pinCount, pinPlaces, macroCount}
-use Rattle.net.specs.Net.{Net, netWith, costIn}
+use Rattle.net.specs.Pins.{pin_count, pin_places, macro_count}
+use Rattle.net.specs.Net.{Net, net_with, cost_in}
 use Rattle.net.proofs.PinLaws.{length-pins}
-use Rattle.graph.specs.Numbers.{edgeNumbers}
+use Rattle.graph.specs.Numbers.{edge_numbers}
 use Rattle.lines.specs.declared.Grid.{Grid}
 use Rattle.lines.specs.declared.Axis.TheVariants.{Across, Along}
-use Rattle.lines.specs.Bounds.{gridPins, lineBound, crossingBound, segmentBound}
-use Rattle.lines.specs.Lines.{xLines, yLines}
-use Rattle.lines.specs.Crossings.{crossingNumber}
+use Rattle.lines.specs.Bounds.{grid_pins, line_bound, crossing_bound, segment_bound}
+use Rattle.lines.specs.Lines.{x_lines, y_lines}
+use Rattle.lines.specs.Crossings.{crossing_number}
 use Rattle.grid.specs.Tables.{target, CostsTo, Near}
-use Rattle.grid.specs.Distance.{pinsInOrder}
+use Rattle.grid.specs.Distance.{pins_in_order}
 use Rattle.lines.proofs.GridCost.{line-count}
 use Rattle.grid.proofs.NetDistance.{order-count, number_at, zeros-read}
 use Rattle.grid.proofs.WholeLaws.{Small, Lined, pins-few, macros-few, whole-fits, made, zero-at, zero-long, renamed}
-use Rattle.parts.specs.Bounds.{bestPins, maskBound, workBound}
+use Rattle.parts.specs.Bounds.{best_pins, mask_bound, work_bound}
 use Rattle.parts.specs.Tables.{value_at, MaskRow, FilledTo}
-use Rattle.traced.specs.Routes.{inOrder, markedEdges, Traced, ReadBack}
+use Rattle.traced.specs.Routes.{in_their_order, marked_edges, Traced, ReadBack}
 use Rattle.best.specs.Tree.{BestTree, BestOver}
 use Rattle.traced.proofs.RouteLaws.{EdgeOf, turns}
 use Rattle.best.proofs.NetBest.{Tabled}
@@ -56,38 +56,38 @@ headed (p ∷ l) h = record { first = p; rest = l; is = refl }
 
 -- the work cleared, whatever the rows had become
 pub work-cleared : (near : ℕ → ℕ → ℕ → Type 0) (m : ℕ) (numbers : List ℕ) (n : ℕ) (w u x : List ℕ) → FilledTo near m numbers n w u →
-    x ≡ over (replicate workBound 0) u → x ≡ over (replicate workBound 0) w
+    x ≡ over (replicate work_bound 0) u → x ≡ over (replicate work_bound 0) w
 unfolding over
 work-cleared near m numbers n w u x f e =
-    e ∙ ap (λ (l : List ℕ). replicate workBound 0 ++ l)
+    e ∙ ap (λ (l : List ℕ). replicate work_bound 0 ++ l)
     (ext_get_or 0 (drop k u) (drop k w) (length-drop k u ∙ ap (λ (i : ℕ). i - k) f.size ∙ sym (length-drop k w))
-    (λ i h. get_or-drop k u i 0 ∙ f.past (k + i) (let z : maskBound * crossingBound ≤ k + i = omega (arith, long) in z) ∙ sym
+    (λ i h. get_or-drop k u i 0 ∙ f.past (k + i) (let z : mask_bound * crossing_bound ≤ k + i = omega (arith, long) in z) ∙ sym
     (get_or-drop k w i 0)))
   where
     blank : List ℕ
-    blank = replicate workBound 0
+    blank = replicate work_bound 0
 
     k : ℕ
     k = length blank
 
-    long : k ≡ workBound
-    long = length-replicate {A = ℕ} workBound 0
+    long : k ≡ work_bound
+    long = length-replicate {A = ℕ} work_bound 0
 
-module _ {w : Weights} {pins macros : List ℤ} (s : Small w pins macros) (few : pinCount pins ≤ bestPins) {g : Grid} {xs ys : List ℤ}
+module _ {w : Weights} {pins macros : List ℤ} (s : Small w pins macros) (few : pin_count pins ≤ best_pins) {g : Grid} {xs ys : List ℤ}
     (lx : Lined Across pins macros g.across xs) (ly : Lined Along pins macros g.along ys) {costs : List ℕ} {e : ℕ}
-    (count : e ≡ g.across * lineBound * 2) (c : CostsTo w (macrosOf macros) g xs ys e costs) (zeros numbers : List ℕ)
-    (fresh : zeros ≡ replicate gridPins 0)
-    (numbered : numbers ≡ over (map (crossingNumber (take g.across xs) (take g.along ys)) (sorted before (pinPlaces pins))) zeros)
-    (m n : ℕ) (m-is : m ≡ pinCount pins) (n-is : n ≡ 2 ^ (m - 1)) (w0 w1 : List ℕ)
+    (count : e ≡ g.across * line_bound * 2) (c : CostsTo w (macros_of macros) g xs ys e costs) (zeros numbers : List ℕ)
+    (fresh : zeros ≡ replicate grid_pins 0)
+    (numbered : numbers ≡ over (map (crossing_number (take g.across xs) (take g.along ys)) (sorted before (pin_places pins))) zeros)
+    (m n : ℕ) (m-is : m ≡ pin_count pins) (n-is : n ≡ 2 ^ (m - 1)) (w0 w1 : List ℕ)
     (filled : FilledTo (Near costs e) (m - 1) numbers n w0 w1) where
   abbrev net : Net
-  net = netWith w pins macros
+  net = net_with w pins macros
 
   abbrev name : Place → ℕ
-  name = crossingNumber (xLines net) (yLines net)
+  name = crossing_number (x_lines net) (y_lines net)
 
-  in_order : Headed (pinsInOrder net)
-  in_order = headed (pinsInOrder net) (omega (arith, order-count s.allowed, s.allowed.some-pin))
+  in_order : Headed (pins_in_order net)
+  in_order = headed (pins_in_order net) (omega (arith, order-count s.allowed, s.allowed.some-pin))
 
   abbrev p0 : Place
   p0 = in_order.first
@@ -97,7 +97,7 @@ module _ {w : Weights} {pins macros : List ℤ} (s : Small w pins macros) (few :
 
   goals-count : m - 1 ≡ length goals
   goals-count =
-      let l : length (pinsInOrder net) ≡ length (p0 ∷ goals) = ap length in_order.is in
+      let l : length (pins_in_order net) ≡ length (p0 ∷ goals) = ap length in_order.is in
       omega (arith, l, order-count s.allowed, length-pins pins, m-is)
 
   number_is : (i : ℕ) → i < length net.pins → get_or numbers i 0 ≡ name (get_or (p0 ∷ goals) i (place (pos 0) (pos 0)))
@@ -108,7 +108,7 @@ module _ {w : Weights} {pins macros : List ℤ} (s : Small w pins macros) (few :
       ∙ ap (λ (l : List Place). name (get_or l i (place (pos 0) (pos 0)))) in_order.is
 
   pins-many : suc (length goals) ≡ length net.pins
-  pins-many = let l : length (pinsInOrder net) ≡ length (p0 ∷ goals) = ap length in_order.is in omega (
+  pins-many = let l : length (pins_in_order net) ≡ length (p0 ∷ goals) = ap length in_order.is in omega (
     arith,
     l,
     order-count
@@ -135,16 +135,16 @@ module _ {w : Weights} {pins macros : List ℤ} (s : Small w pins macros) (few :
       masks-is : n ≡ 2 ^ length goals
       masks-is = n-is ∙ ap (λ (k : ℕ). 2 ^ k) goals-count
 
-  module _ (clear used : List ℕ) (blank : clear ≡ replicate segmentBound 0) (total : ℕ)
+  module _ (clear used : List ℕ) (blank : clear ≡ replicate segment_bound 0) (total : ℕ)
       (back : ReadBack costs e (m - 1) w1 n (get_or numbers 0 0) clear used total) where
     blank-at : (j : ℕ) → get_or clear j 0 ≡ 0
-    blank-at j = ap (λ (l : List ℕ). get_or l j 0) blank ∙ zeros-read segmentBound 0 j
+    blank-at j = ap (λ (l : List ℕ). get_or l j 0) blank ∙ zeros-read segment_bound 0 j
 
     -- what has been read back
     record Read : Type 0 where
       real : (j : ℕ) → 1 ≤ get_or used j 0 → EdgeOf costs e j
-      best : BestTree net (markedEdges xs ys used e)
-      cost : total ≡ lengths (costIn net) (markedEdges xs ys used e)
+      best : BestTree net (marked_edges xs ys used e)
+      cost : total ≡ lengths (cost_in net) (marked_edges xs ys used e)
 
     masks-are : n ≡ 2 ^ length goals
     masks-are = n-is ∙ ap (λ (k : ℕ). 2 ^ k) goals-count
@@ -191,26 +191,26 @@ module _ {w : Weights} {pins macros : List ℤ} (s : Small w pins macros) (few :
     read : Read
     read = read_of back
 
-    pub whole-targets : (j : ℕ) → j < e → 1 ≤ get_or used j 0 → target (inOrder j) < crossingBound
+    pub whole-targets : (j : ℕ) → j < e → 1 ≤ get_or used j 0 → target (in_their_order j) < crossing_bound
     whole-targets j h k =
         let d = read.real j k in
-        let is : inOrder j ≡ d.segment = ap inOrder d.is ∙ (turns d.segment).twice in
-        subst (λ (i : ℕ). target i < crossingBound) (sym is) ((whole-fits s lx ly count c).ends d.segment d.inside d.some)
+        let is : in_their_order j ≡ d.segment = ap in_their_order d.is ∙ (turns d.segment).twice in
+        subst (λ (i : ℕ). target i < crossing_bound) (sym is) ((whole-fits s lx ly count c).ends d.segment d.inside d.some)
 
-    pub whole_room : (room : ℕ) → (pinCount pins + macroCount macros * 2) * (pinCount pins + macroCount macros * 2) * 4 ≤ room →
-        length (markedEdges xs ys used e) * 4 ≤ room
+    pub whole_room : (room : ℕ) → (pin_count pins + macro_count macros * 2) * (pin_count pins + macro_count macros * 2) * 4 ≤ room →
+        length (marked_edges xs ys used e) * 4 ≤ room
     whole_room room h =
-        let x : length (xLines net) ≤ pinCount pins + macroCount macros * 2 =
+        let x : length (x_lines net) ≤ pin_count pins + macro_count macros * 2 =
         omega (arith, line-count Across net, length-pins pins, length-macros macros) in
-        let y : length (yLines net) ≤ pinCount pins + macroCount macros * 2 =
+        let y : length (y_lines net) ≤ pin_count pins + macro_count macros * 2 =
         omega (arith, line-count Along net, length-pins pins, length-macros macros) in
         omega (arith, h, read.best.best.few, mul-le-mul x y)
 
-    pub whole-over : (lent lent' : List ℤ) (k metal : ℕ) → k ≡ length (markedEdges xs ys used e) →
-        metal ≡ lengths distance (markedEdges xs ys used e) →
-        lent' ≡ over (flat edgeNumbers (markedEdges xs ys used e)) lent → BestOver net lent lent' k total metal
+    pub whole-over : (lent lent' : List ℤ) (k metal : ℕ) → k ≡ length (marked_edges xs ys used e) →
+        metal ≡ lengths distance (marked_edges xs ys used e) →
+        lent' ≡ over (flat edge_numbers (marked_edges xs ys used e)) lent → BestOver net lent lent' k total metal
     whole-over lent lent' k metal f p l = record {
-      tree = markedEdges xs ys used e;
+      tree = marked_edges xs ys used e;
       is-best = read.best;
       count = f;
       cost = read.cost;

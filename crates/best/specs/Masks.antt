@@ -25,12 +25,12 @@ module _ {A : Type 0} where
     pub pin : A
     pub some : pin ∈ chosen bits pins
 
-  abbrev pub maskPins : (pins : List A) → Mask pins → List A
-  maskPins pins S = chosen S.bits pins
+  abbrev pub mask_pins : (pins : List A) → Mask pins → List A
+  mask_pins pins S = chosen S.bits pins
 
   -- all pins of S are at v: S is one pin, as pins differ
   abbrev pub Lone : (pins : List A) → Mask pins → A → Type 0
-  Lone pins S v = (p : A) → p ∈ maskPins pins S → p ≡ v
+  Lone pins S v = (p : A) → p ∈ mask_pins pins S → p ≡ v
 
 -- a mask in two that share no bit
 pub data Halves : List Bool → List Bool → List Bool → Type 0 where

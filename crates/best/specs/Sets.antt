@@ -14,11 +14,11 @@ module _ {A : Type 0} where
   abbrev pub Reaches : List (A × A) → A → List A → Type 0
   Reaches F v pins = (p : A) → p ∈ pins → Joined F v p
 
-module _ {A M : Type 0} (pinsOf : M → List A) (G : List (A × A)) (d : A → A → ℕ) where
+module _ {A M : Type 0} (pins_of : M → List A) (G : List (A × A)) (d : A → A → ℕ) where
   -- the edges F join v with all pins of S, at cost n
   pub record JoinsAt (F : List (A × A)) (S : M) (v : A) (n : ℕ) : Type 0 where
     pub on-grid : Edges G F
-    pub reaches : Reaches F v (pinsOf S)
+    pub reaches : Reaches F v (pins_of S)
     pub cost : lengths d F ≡ n
 
   module _ (cap : ℕ) (T : M → A → ℕ) where
@@ -26,15 +26,15 @@ module _ {A M : Type 0} (pinsOf : M → List A) (G : List (A × A)) (d : A → A
     pub record Split (S : M) (f : A → Bool) : Type 0 where
       pub first : M
       pub second : M
-      pub first-pins : (p : A) → p ∈ pinsOf first → (p ∈ pinsOf S) × (f p ≡ true)
-      pub second-pins : (p : A) → p ∈ pinsOf second → (p ∈ pinsOf S) × (f p ≡ false)
+      pub first-pins : (p : A) → p ∈ pins_of first → (p ∈ pins_of S) × (f p ≡ true)
+      pub second-pins : (p : A) → p ∈ pins_of second → (p ∈ pins_of S) × (f p ≡ false)
       pub sum : (v : A) → T first v + T second v < cap → T S v ≤ T first v + T second v
 
     -- what is asked of the table, of values below the cap: nothing is left to lower
     pub record Closed : Type 0 where
       -- a lone pin costs nothing at its own place
-      pub at_pin : (S : M) (v : A) → ((p : A) → p ∈ pinsOf S → p ≡ v) → T S v ≡ 0
+      pub at_pin : (S : M) (v : A) → ((p : A) → p ∈ pins_of S → p ≡ v) → T S v ≡ 0
       -- one edge further
       pub further : (S : M) (v w : A) → Link G v w → T S w + d v w < cap → T S v ≤ T S w + d v w
       -- two parts that meet
-      pub split : (S : M) (f : A → Bool) (p q : A) → p ∈ pinsOf S → q ∈ pinsOf S → f p ≡ true → f q ≡ false → Split S f
+      pub split : (S : M) (f : A → Bool) (p q : A) → p ∈ pins_of S → q ∈ pins_of S → f p ≡ true → f q ≡ false → Split S f

@@ -4,15 +4,15 @@ ghost use Rattle.joined.specs.Cost.{lengths};
 ghost use Rattle.lent.specs.Over.{over};
 ghost use Rattle.lent.specs.Entries.{flat};
 ghost use Rattle.plane.specs.Distance.{distance};
-ghost use Rattle.plane.specs.Cost.{costLimit};
-ghost use Rattle.graph.specs.Numbers.{edgeNumbers};
-ghost use Rattle.net.specs.Pins.{pinCount, macroCount};
-ghost use Rattle.net.specs.Net.{netWith};
+ghost use Rattle.plane.specs.Cost.{cost_limit};
+ghost use Rattle.graph.specs.Numbers.{edge_numbers};
+ghost use Rattle.net.specs.Pins.{pin_count, macro_count};
+ghost use Rattle.net.specs.Net.{net_with};
 ghost use Rattle.net.specs.Allowed.{Allowed};
-ghost use Rattle.lines.specs.Bounds.{gridMacros, crossingBound, segmentBound};
+ghost use Rattle.lines.specs.Bounds.{grid_macros, crossing_bound, segment_bound};
 ghost use Rattle.grid.specs.Tables.{target};
-ghost use Rattle.parts.specs.Bounds.{bestPins, workBound};
-ghost use Rattle.traced.specs.Routes.{inOrder, markedEdges, LengthOf, MarkedPut};
+ghost use Rattle.parts.specs.Bounds.{best_pins, work_bound};
+ghost use Rattle.traced.specs.Routes.{in_their_order, marked_edges, LengthOf, MarkedPut};
 ghost use Rattle.best.specs.Tree.{BestOver};
 
 use lines::{Axis, Grid};
@@ -39,7 +39,7 @@ impl Best {
 
 // How many sets of all but one of m pins there are.
 fn masks(m: usize) -> usize
-    requires { (1 ≤ m) × (m ≤ bestPins) }
+    requires { (1 ≤ m) × (m ≤ best_pins) }
     ensures { result ≡ 2 ^ (m - 1) }
 {
     if m < 2 {
@@ -80,7 +80,7 @@ fn put_marked(
     edges: &mut [i32],
     count: usize,
 ) -> usize
-    requires j_lt_segment_bound { (j < segmentBound) × (1 ≤ get_or used.now j 0 → target (inOrder j) < crossingBound) }
+    requires j_lt_segment_bound { (j < segment_bound) × (1 ≤ get_or used.now j 0 → target (in_their_order j) < crossing_bound) }
     requires count_in_bounds { 1 ≤ get_or used.now j 0 → count * 4 + 4 ≤ length edges.old }
     ensures { MarkedPut xs.now ys.now used.now j count edges.old result
         edges.new }
@@ -104,10 +104,10 @@ fn put_edges(
     e: usize,
     edges: &mut [i32],
 ) -> usize
-    requires e_le_segment_bound { (e ≤ segmentBound) × ((j : _) → j < e → 1 ≤ get_or used.now j 0 → target (inOrder j) < crossingBound) }
-    requires e_in_bounds { length (markedEdges xs.now ys.now used.now e) * 4 ≤ length edges.old }
-    ensures value { result ≡ length (markedEdges xs.now ys.now used.now e) }
-    ensures edges_after { edges.new ≡ over (flat edgeNumbers (markedEdges xs.now ys.now used.now e))
+    requires e_le_segment_bound { (e ≤ segment_bound) × ((j : _) → j < e → 1 ≤ get_or used.now j 0 → target (in_their_order j) < crossing_bound) }
+    requires e_in_bounds { length (marked_edges xs.now ys.now used.now e) * 4 ≤ length edges.old }
+    ensures value { result ≡ length (marked_edges xs.now ys.now used.now e) }
+    ensures edges_after { edges.new ≡ over (flat edge_numbers (marked_edges xs.now ys.now used.now e))
         edges.old }
 {
     let mut count = 0;
@@ -126,8 +126,8 @@ fn marked_length(
     used: &[usize; Grid::SEGMENTS],
     j: usize,
 ) -> u64
-    requires { (j < segmentBound) × (1 ≤ get_or used.now j 0 → target (inOrder j) < crossingBound) }
-    ensures { (LengthOf xs.now ys.now used.now j result) × (result < costLimit) }
+    requires { (j < segment_bound) × (1 ≤ get_or used.now j 0 → target (in_their_order j) < crossing_bound) }
+    ensures { (LengthOf xs.now ys.now used.now j result) × (result < cost_limit) }
 {
     if used[j] == 0 {
         return 0;
@@ -150,8 +150,8 @@ fn metal(
     used: &[usize; Grid::SEGMENTS],
     e: usize,
 ) -> u64
-    requires { (e ≤ segmentBound) × ((j : _) → j < e → 1 ≤ get_or used.now j 0 → target (inOrder j) < crossingBound) }
-    ensures { result ≡ lengths distance (markedEdges xs.now ys.now used.now e) }
+    requires { (e ≤ segment_bound) × ((j : _) → j < e → 1 ≤ get_or used.now j 0 → target (in_their_order j) < crossing_bound) }
+    ensures { result ≡ lengths distance (marked_edges xs.now ys.now used.now e) }
 {
     let mut sum = 0;
     let mut j = 0;
@@ -171,13 +171,13 @@ pub fn best_tree(
     work: &mut [u32],
     edges: &mut [i32],
 ) -> Best
-    requires allowed { Allowed (netWith w pins.now macros.now) }
-    requires pins_bound { (pinCount pins.now ≤ bestPins) × (macroCount macros.now ≤ gridMacros) }
-    requires work_bound_in_bounds { (workBound ≤ length work.old) × ((pinCount pins.now + macroCount macros.now * 2)
-        * (pinCount pins.now + macroCount macros.now * 2) * 4 ≤ length edges.old) }
-    ensures best_over { BestOver (netWith w pins.now macros.now) edges.old edges.new result.edges
+    requires allowed { Allowed (net_with w pins.now macros.now) }
+    requires pins_bound { (pin_count pins.now ≤ best_pins) × (macro_count macros.now ≤ grid_macros) }
+    requires work_bound_in_bounds { (work_bound ≤ length work.old) × ((pin_count pins.now + macro_count macros.now * 2)
+        * (pin_count pins.now + macro_count macros.now * 2) * 4 ≤ length edges.old) }
+    ensures best_over { BestOver (net_with w pins.now macros.now) edges.old edges.new result.edges
         result.total result.metal }
-    ensures work_after { work.new ≡ over (replicate workBound 0) work.old }
+    ensures work_after { work.new ≡ over (replicate work_bound 0) work.old }
 {
     let mut xs = [0i32; Grid::LINES];
     let mut ys = [0i32; Grid::LINES];

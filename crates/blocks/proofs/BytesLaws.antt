@@ -4,19 +4,19 @@ use Rattle.std.proofs.Common.{◌≡◌, ℕ, ◌+◌, ◌*◌, ◌/◌, ◌<◌
 use Rattle.lists.proofs.EntryLaws.{fours-next, length-fours}
 use Rattle.lent.specs.Over.{over}
 use Rattle.lent.proofs.OverLaws.{over-more}
-use Rattle.blocks.specs.Sizes.{blockWords, blockBytes}
-use Rattle.blocks.specs.Words.{word, words_of, wordFrom}
+use Rattle.blocks.specs.Sizes.{block_words, block_bytes}
+use Rattle.blocks.specs.Words.{word, words_of, word_from}
 use Rattle.blocks.specs.Block.{block_of}
 use Rattle.blocks.proofs.SumLaws.{word_more}
 
 -- Words
 
-words-next : (s : List ℕ) (i : ℕ) → i * 4 + 4 ≤ length s → drop i (words_of s) ≡ wordFrom s (i * 4) ∷ drop (i + 1) (words_of s)
+words-next : (s : List ℕ) (i : ℕ) → i * 4 + 4 ≤ length s → drop i (words_of s) ≡ word_from s (i * 4) ∷ drop (i + 1) (words_of s)
 unfolding words_of
 words-next = fours-next 0 word
 
 -- the i-th word
-pub word-is : (s : List ℕ) (i : ℕ) → i * 4 + 4 ≤ length s → get_or (words_of s) i 0 ≡ wordFrom s (i * 4)
+pub word-is : (s : List ℕ) (i : ℕ) → i * 4 + 4 ≤ length s → get_or (words_of s) i 0 ≡ word_from s (i * 4)
 word-is s i h =
     sym (get_or-drop i (words_of s) 0 0 ∙ ap (λ (n : ℕ). get_or (words_of s) n 0) (add-zero i))
     ∙ ap (λ (l : List ℕ). get_or l 0 0) (words-next s i h)
@@ -35,22 +35,22 @@ word_none s i h =
 -- Blocks
 
 -- one word more of a block that is read into zeros
-module _ (s : List ℕ) (b i : ℕ) (whole : b * blockBytes + blockBytes ≤ length s) (less : i < blockWords) where
-  left-long : blockWords ≤ length (drop (b * blockWords) (words_of s))
+module _ (s : List ℕ) (b i : ℕ) (whole : b * block_bytes + block_bytes ≤ length s) (less : i < block_words) where
+  left-long : block_words ≤ length (drop (b * block_words) (words_of s))
   left-long = simp length-drop (omega (arith, length-words-of s))
 
-  pub read_more : set (over (take i (drop (b * blockWords) (words_of s))) (replicate blockWords 0)) i (wordFrom s ((b * blockWords + i) * 4))
-      ≡ over (take (i + 1) (drop (b * blockWords) (words_of s))) (replicate blockWords 0)
+  pub read_more : set (over (take i (drop (b * block_words) (words_of s))) (replicate block_words 0)) i (word_from s ((b * block_words + i) * 4))
+      ≡ over (take (i + 1) (drop (b * block_words) (words_of s))) (replicate block_words 0)
   read_more =
-      let l = drop (b * blockWords) (words_of s) in
-      let k = b * blockWords + i in
+      let l = drop (b * block_words) (words_of s) in
+      let k = b * block_words + i in
       let e : length (take i l) ≡ i = length-take i l ∙ omega (arith, left-long) in
-      let v : get_or l i 0 ≡ wordFrom s (k * 4) = get_or-drop (b * blockWords) (words_of s) i 0 ∙ word-is s k (omega arith) in
-      ap (set (over (take i l) (replicate blockWords 0)) i) (sym v)
-      ∙ over-more (take i l) (replicate blockWords 0) i (get_or l i 0) e less
-      ∙ ap (λ (ws : List ℕ). over ws (replicate blockWords 0)) (sym (word_more l i (omega (arith, left-long))))
+      let v : get_or l i 0 ≡ word_from s (k * 4) = get_or-drop (b * block_words) (words_of s) i 0 ∙ word-is s k (omega arith) in
+      ap (set (over (take i l) (replicate block_words 0)) i) (sym v)
+      ∙ over-more (take i l) (replicate block_words 0) i (get_or l i 0) e less
+      ∙ ap (λ (ws : List ℕ). over ws (replicate block_words 0)) (sym (word_more l i (omega (arith, left-long))))
 
-pub block-full : (s : List ℕ) (b : ℕ) → b * blockBytes + blockBytes ≤ length s → length (block_of b (words_of s)) ≡ blockWords
+pub block-full : (s : List ℕ) (b : ℕ) → b * block_bytes + block_bytes ≤ length s → length (block_of b (words_of s)) ≡ block_words
 block-full s b h =
-    length-take blockWords (drop (b * blockWords) (words_of s))
-    ∙ omega (arith, length-drop (b * blockWords) (words_of s), length-words-of s)
+    length-take block_words (drop (b * block_words) (words_of s))
+    ∙ omega (arith, length-drop (b * block_words) (words_of s), length-words-of s)

@@ -7,26 +7,26 @@
 -- serves all kinds. The head has how many there are and the two weights, of which 1 is written as 0: so a net with both weights 1 has the
 -- file that it had before there were any (crate older, FirstRelease).
 --
---   Sizes    blockWords, blockBytes, summedWords    a block's words, its bytes, its words before the sums
---            secondSum, firstEntry, perBlock        where the second sum stands and entries begin; the numbers of a full block
---            pinCountWord, macroCountWord           where the head has m and k
---            firstWeightWord, secondWeightWord      and its two weights
---            headKind, pinKind, macroKind           the kinds of blocks
---            loadedKind, placeWidth                 that of pins with loads; the numbers of a pin that is stored without
---            loadedPerBlock, filePins               the entries of its full block; the numbers of the most pins of a file
---            pinsPerBlock, macrosPerBlock           the entries of a full block
---            pinListBound, macroListBound           the numbers of the longest lists
---            blocksFor n, blockCount n k            how many blocks n numbers take, and a file of n and k
---            fileBlocks, fileBound, fileNumbers     the longest file: its blocks, its bytes, the numbers that it has room for
---            fileBlocksWithin b                     its blocks for a machine of other bounds
---   Words    wordsOf bytes, bytesOf words           words from bytes and back, low byte first
---            wordOf z, coordinate w                 a coordinate's two's complement word, and the coordinate of a word
---            weightWord n, weightIn w               a weight's word, and the weight of a word
---   Sums     plainSum ws, sumOfSums ws              the two sums modulo 2^32
---            sealed ws, wrongSums block             words with their sums behind them; a block whose sums are wrong
+--   Sizes    block_words, block_bytes, summed_words    a block's words, its bytes, its words before the sums
+--            second_sum, first_entry, per_block        where the second sum stands and entries begin; the numbers of a full block
+--            pin_count_word, macro_count_word           where the head has m and k
+--            first_weight_word, second_weight_word      and its two weights
+--            head_kind, pin_kind, macro_kind           the kinds of blocks
+--            loaded_kind, place_width                 that of pins with loads; the numbers of a pin that is stored without
+--            loaded_per_block, file_pins               the entries of its full block; the numbers of the most pins of a file
+--            pins_per_block, macros_per_block           the entries of a full block
+--            pin_list_bound, macro_list_bound           the numbers of the longest lists
+--            blocks_for n, block_count n k            how many blocks n numbers take, and a file of n and k
+--            file_blocks, file_bound, file_numbers     the longest file: its blocks, its bytes, the numbers that it has room for
+--            file_blocks_within b                     its blocks for a machine of other bounds
+--   Words    words_of bytes, bytes_of words           words from bytes and back, low byte first
+--            word_of z, coordinate w                 a coordinate's two's complement word, and the coordinate of a word
+--            weight_word n, weight_in w               a weight's word, and the weight of a word
+--   Sums     plain_sum ws, sum_of_sums ws              the two sums modulo 2^32
+--            sealed ws, wrong_sums block             words with their sums behind them; a block whose sums are wrong
 --   Block    block kind number count entries        one block
---            headBlock m k w, listBlock             the head, and a block of entries
---            blockOf b words                        the block b of a file's words
+--            head_block m k w, list_block             the head, and a block of entries
+--            block_of b words                        the block b of a file's words
 pub mod Sizes
 pub mod Words
 pub mod Sums

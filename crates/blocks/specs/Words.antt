@@ -12,28 +12,28 @@ unfolding fours
 words_of s = fours word s
 
 -- the word that begins at the byte k
-abbrev pub wordFrom : List ℕ → ℕ → ℕ
-wordFrom bytes k = word (slice_index bytes k) (slice_index bytes (k + 1)) (slice_index bytes (k + 2)) (slice_index bytes (k + 3))
+abbrev pub word_from : List ℕ → ℕ → ℕ
+word_from bytes k = word (slice_index bytes k) (slice_index bytes (k + 1)) (slice_index bytes (k + 2)) (slice_index bytes (k + 3))
 
 -- the bytes of words, low byte first
-unfoldable pub bytesOfWord : ℕ → List ℕ
-bytesOfWord w = w % 256 ∷ (w / 256 % 256 ∷ (w / 65536 % 256 ∷ (w / 16777216 % 256 ∷ [])))
+unfoldable pub bytes_of_word : ℕ → List ℕ
+bytes_of_word w = w % 256 ∷ (w / 256 % 256 ∷ (w / 65536 % 256 ∷ (w / 16777216 % 256 ∷ [])))
 
 unfoldable pub bytes_of : List ℕ → List ℕ
 bytes_of [] = []
-bytes_of (w ∷ ws) = bytesOfWord w ++ bytes_of ws
+bytes_of (w ∷ ws) = bytes_of_word w ++ bytes_of ws
 
 -- F8: a coordinate is its two's complement
-unfoldable pub wordOf : ℤ → ℕ
-wordOf (pos n) = n
-wordOf (negsuc n) = 4294967296 - suc n
+unfoldable pub word_of : ℤ → ℕ
+word_of (pos n) = n
+word_of (negsuc n) = 4294967296 - suc n
 
 unfoldable pub coordinate : ℕ → ℤ
 coordinate w = elim (nat_lt w 2147483648) [ true ↦ pos w | false ↦ negsuc (4294967296 - suc w) ]
 
 -- F18: a weight is itself, but for 1, which is 0; and the weight of a word
-unfoldable pub weightWord : ℕ → ℕ
-weightWord n = cond (n == 1) 0 n
+unfoldable pub weight_word : ℕ → ℕ
+weight_word n = cond (n == 1) 0 n
 
-unfoldable pub weightIn : ℕ → ℕ
-weightIn w = cond (w == 0) 1 w
+unfoldable pub weight_in : ℕ → ℕ
+weight_in w = cond (w == 0) 1 w

@@ -4,19 +4,19 @@
 // 128 words is made and sealed in one place, and the reader sums it by the same function.
 ghost use Rattle.std.specs.Prelude.{◌≡◌, ◌+◌, ◌*◌, ◌<◌, ◌≤◌, length, take};
 ghost use Rattle.std.proofs.lemmas.List.Edits.{sets};
-ghost use Rattle.net.specs.Bounds.{weightBound};
+ghost use Rattle.net.specs.Bounds.{weight_bound};
 ghost use Rattle.blocks.specs.Sizes.{
-  blockWords,
-  blockBytes,
-  summedWords,
-  perBlock,
-  blocksFor,
-  fileBlocks,
-  fileNumbers,
+  block_words,
+  block_bytes,
+  summed_words,
+  per_block,
+  blocks_for,
+  file_blocks,
+  file_numbers,
 };
-ghost use Rattle.blocks.specs.Words.{words_of, wordFrom, bytesOfWord, bytes_of, wordOf, coordinate, weightWord, weightIn};
-ghost use Rattle.blocks.specs.Sums.{plainSum, sumOfSums, sealed, wrongSums};
-ghost use Rattle.blocks.specs.Block.{headBlock, listBlock, block_of};
+ghost use Rattle.blocks.specs.Words.{words_of, word_from, bytes_of_word, bytes_of, word_of, coordinate, weight_word, weight_in};
+ghost use Rattle.blocks.specs.Sums.{plain_sum, sum_of_sums, sealed, wrong_sums};
+ghost use Rattle.blocks.specs.Block.{head_block, list_block, block_of};
 
 use net::Net;
 use plane::Weights;
@@ -90,7 +90,7 @@ fn wide(b: u8) -> u32
 // The i-th word, low byte first.
 pub fn word_at(bytes: &[u8], i: usize) -> u32
     requires { i * 4 + 4 ≤ length bytes.now }
-    ensures { result ≡ wordFrom bytes.now (i * 4) }
+    ensures { result ≡ word_from bytes.now (i * 4) }
 {
     let k = i * 4;
     wide(bytes[k])
@@ -102,7 +102,7 @@ pub fn word_at(bytes: &[u8], i: usize) -> u32
 // A word stored as the i-th, low byte first.
 fn put_word(bytes: &mut [u8], i: usize, w: u32)
     requires { i * 4 + 4 ≤ length bytes.old }
-    ensures { bytes.new ≡ sets bytes.old (i * 4) (bytesOfWord w) }
+    ensures { bytes.new ≡ sets bytes.old (i * 4) (bytes_of_word w) }
 {
     let k = i * 4;
     bytes[k] = (w % 256) as u8;
@@ -113,7 +113,7 @@ fn put_word(bytes: &mut [u8], i: usize, w: u32)
 
 // The two's complement word of a coordinate.
 fn word_of(z: i32) -> u32
-    ensures { result ≡ wordOf z }
+    ensures { result ≡ word_of z }
 {
     if z < 0 {
         return (z as i64 + 4294967296) as u32;
@@ -133,7 +133,7 @@ pub fn coordinate_of(w: u32) -> i32
 
 // The word of a weight: 0 for 1, so that a net with both weights 1 has the file that it had before there were weights.
 fn weight_word(weight: u8) -> u32
-    ensures { result ≡ weightWord weight }
+    ensures { result ≡ weight_word weight }
 {
     if weight == 1 {
         return 0;
@@ -143,8 +143,8 @@ fn weight_word(weight: u8) -> u32
 
 // The weight that a word of the head stands for.
 pub fn weight_of(word: usize) -> u8
-    requires { word ≤ weightBound }
-    ensures { result ≡ weightIn word }
+    requires { word ≤ weight_bound }
+    ensures { result ≡ weight_in word }
 {
     if word == 0 {
         return 1;
@@ -154,9 +154,9 @@ pub fn weight_of(word: usize) -> u8
 
 // The sums of the words before them: a wrapping sum, and a wrapping sum of the running sums.
 fn sums_of(block: &[u32; BLOCK_WORDS]) -> Sums
-    requires { length block.now ≡ blockWords }
-    ensures { (result.plain ≡ plainSum (take summedWords block.now))
-        × (result.running ≡ sumOfSums (take summedWords block.now)) }
+    requires { length block.now ≡ block_words }
+    ensures { (result.plain ≡ plain_sum (take summed_words block.now))
+        × (result.running ≡ sum_of_sums (take summed_words block.now)) }
 {
     let mut plain: u32 = 0;
     let mut running: u32 = 0;
@@ -171,8 +171,8 @@ fn sums_of(block: &[u32; BLOCK_WORDS]) -> Sums
 
 // The words of a block, with their sums as its last two.
 fn seal(block: [u32; BLOCK_WORDS]) -> [u32; BLOCK_WORDS]
-    requires { length block ≡ blockWords }
-    ensures { result ≡ sealed (take summedWords block) }
+    requires { length block ≡ block_words }
+    ensures { result ≡ sealed (take summed_words block) }
 {
     let s = sums_of(&block);
     let mut t = block;
@@ -183,8 +183,8 @@ fn seal(block: [u32; BLOCK_WORDS]) -> [u32; BLOCK_WORDS]
 
 // The head of a file of m pins, k macros and two weights.
 pub fn head_block(m: usize, k: usize, w: Weights) -> [u32; BLOCK_WORDS]
-    requires { (m ≤ fileNumbers) × (k ≤ fileNumbers) }
-    ensures { result ≡ headBlock m k w }
+    requires { (m ≤ file_numbers) × (k ≤ file_numbers) }
+    ensures { result ≡ head_block m k w }
 {
     let mut t = [0u32; BLOCK_WORDS];
     t[0] = HEAD_KIND;
@@ -197,8 +197,8 @@ pub fn head_block(m: usize, k: usize, w: Weights) -> [u32; BLOCK_WORDS]
 
 // The block of some numbers, `w` an entry.
 pub fn list_block(kind: u32, w: usize, number: usize, numbers: &[i32]) -> [u32; BLOCK_WORDS]
-    requires { ((0 < w) × (number ≤ fileBlocks)) × (length numbers.now ≤ perBlock) }
-    ensures { result ≡ listBlock kind w number numbers.now }
+    requires { ((0 < w) × (number ≤ file_blocks)) × (length numbers.now ≤ per_block) }
+    ensures { result ≡ list_block kind w number numbers.now }
 {
     let mut t = [0u32; BLOCK_WORDS];
     t[0] = kind;
@@ -214,8 +214,8 @@ pub fn list_block(kind: u32, w: usize, number: usize, numbers: &[i32]) -> [u32; 
 
 // A block's words stored as the block of that number.
 pub fn put_block(bytes: &mut [u8], number: usize, block: [u32; BLOCK_WORDS])
-    requires { (length block ≡ blockWords) × (number * blockBytes + blockBytes ≤ length bytes.old) }
-    ensures { bytes.new ≡ sets bytes.old (number * blockBytes) (bytes_of block) }
+    requires { (length block ≡ block_words) × (number * block_bytes + block_bytes ≤ length bytes.old) }
+    ensures { bytes.new ≡ sets bytes.old (number * block_bytes) (bytes_of block) }
 {
     let mut i = 0;
     while i < BLOCK_WORDS {
@@ -226,14 +226,14 @@ pub fn put_block(bytes: &mut [u8], number: usize, block: [u32; BLOCK_WORDS])
 
 // How many blocks n numbers take; n may be any number, as a head may count.
 pub fn blocks_for(n: usize) -> usize
-    ensures { result ≡ blocksFor n }
+    ensures { result ≡ blocks_for n }
 {
     n / PER_BLOCK + (n % PER_BLOCK + (PER_BLOCK - 1)) / PER_BLOCK
 }
 
 // The words of the block numbered b.
 pub fn block_at(bytes: &[u8], b: usize) -> [u32; BLOCK_WORDS]
-    requires { b * blockBytes + blockBytes ≤ length bytes.now }
+    requires { b * block_bytes + block_bytes ≤ length bytes.now }
     ensures { result ≡ block_of b (words_of bytes.now) }
 {
     let mut t = [0u32; BLOCK_WORDS];
@@ -247,8 +247,8 @@ pub fn block_at(bytes: &[u8], b: usize) -> [u32; BLOCK_WORDS]
 
 // One of a block's last two words is wrong.
 pub fn has_wrong_sums(block: [u32; BLOCK_WORDS]) -> bool
-    requires { length block ≡ blockWords }
-    ensures { result ≡ wrongSums block }
+    requires { length block ≡ block_words }
+    ensures { result ≡ wrong_sums block }
 {
     let s = sums_of(&block);
     (block[SUMMED_WORDS] != s.plain) | (block[SECOND_SUM] != s.running)

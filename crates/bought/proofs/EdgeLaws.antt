@@ -16,23 +16,23 @@ use Rattle.joined.specs.Joined.{Link}
 use Rattle.joined.proofs.JoinedLaws.{firsts, seconds}
 use Rattle.plane.specs.declared.Place.{Place}
 use Rattle.plane.specs.Place.{place}
-use Rattle.plane.specs.Flat.{places_of, placeAt}
-use Rattle.bought.specs.Edges.{Edge, edge, edgesOf, edge_at, endsOf}
+use Rattle.plane.specs.Flat.{places_of, place_at}
+use Rattle.bought.specs.Edges.{Edge, edge, edges_of, edge_at, ends_of}
 
-pub edges-next : (s : List ℤ) (i : ℕ) → i * 4 + 4 ≤ length s → drop i (edgesOf s) ≡ edge_at s i ∷ drop (i + 1) (edgesOf s)
-unfolding edgesOf
+pub edges-next : (s : List ℤ) (i : ℕ) → i * 4 + 4 ≤ length s → drop i (edges_of s) ≡ edge_at s i ∷ drop (i + 1) (edges_of s)
+unfolding edges_of
 edges-next = fours-next (pos 0) edge
 
-pub edges-end : (s : List ℤ) (i : ℕ) → length s < i * 4 + 4 → drop i (edgesOf s) ≡ []
-unfolding edgesOf
+pub edges-end : (s : List ℤ) (i : ℕ) → length s < i * 4 + 4 → drop i (edges_of s) ≡ []
+unfolding edges_of
 edges-end = fours-end (pos 0) edge
 
-pub length-edges : (s : List ℤ) → length (edgesOf s) ≡ length s / 4
-unfolding edgesOf
+pub length-edges : (s : List ℤ) → length (edges_of s) ≡ length s / 4
+unfolding edges_of
 length-edges s = length-fours edge s
 
 -- the i-th edge is read as two places
-pub edge-read : (s : List ℤ) (i : ℕ) → (placeAt s (i * 2), placeAt s (i * 2 + 1)) ≡ edge_at s i
+pub edge-read : (s : List ℤ) (i : ℕ) → (place_at s (i * 2), place_at s (i * 2 + 1)) ≡ edge_at s i
 edge-read s i =
     let one : i * 2 * 2 ≡ i * 4 = omega arith in
     let two : i * 2 * 2 + 1 ≡ i * 4 + 1 = omega arith in
@@ -43,8 +43,8 @@ edge-read s i =
     (ap₂ place (ap (λ (k : ℕ). get_or s k (pos 0)) three) (ap (λ (k : ℕ). get_or s k (pos 0)) four))
 
 -- the places of a list of whole edges are their ends
-pub places-ends : (s : List ℤ) → length s % 4 ≡ 0 → places_of s ≡ endsOf (edgesOf s)
-unfolding places_of edgesOf endsOf twos fours
+pub places-ends : (s : List ℤ) → length s % 4 ≡ 0 → places_of s ≡ ends_of (edges_of s)
+unfolding places_of edges_of ends_of twos fours
 places-ends [] h = refl
 places-ends (a ∷ []) h = absurd (let z : ⊥ = omega arith in z)
 places-ends (a ∷ (b ∷ [])) h = absurd (let z : ⊥ = omega arith in z)
@@ -54,17 +54,17 @@ places-ends (a ∷ (b ∷ (c ∷ (d ∷ s)))) h =
 
 -- Ends of edges, and links
 
-pub in-ends : (T : List Edge) {a b : Place} → (a, b) ∈ T → (a ∈ endsOf T) × (b ∈ endsOf T)
-unfolding endsOf
+pub in-ends : (T : List Edge) {a b : Place} → (a, b) ∈ T → (a ∈ ends_of T) × (b ∈ ends_of T)
+unfolding ends_of
 in-ends (e ∷ T) (here p) = (here (firsts p), there (here (seconds p)))
 in-ends (e ∷ T) (there m) = let r = in-ends T m in (there (there r.0), there (there r.1))
 
-pub link-end : (T : List Edge) {a b : Place} → Link T a b → a ∈ endsOf T
+pub link-end : (T : List Edge) {a b : Place} → Link T a b → a ∈ ends_of T
 link-end T (inl m) = (in-ends T m).0
 link-end T (inr m) = (in-ends T m).1
 
-pub of-ends : (T : List Edge) {x : Place} → x ∈ endsOf T → (z : Place) × Link T x z
-unfolding endsOf
+pub of-ends : (T : List Edge) {x : Place} → x ∈ ends_of T → (z : Place) × Link T x z
+unfolding ends_of
 of-ends [] m = elim m [ ]
 of-ends (e ∷ T) {x} m =
     either (λ p. (e.1, inl (here (ap₂ (λ (a b : Place). (a, b)) p refl))))
@@ -76,7 +76,7 @@ of-ends (e ∷ T) {x} m =
     later (z, inl i) = (z, inl (there i))
     later (z, inr i) = (z, inr (there i))
 
-pub length-ends : (T : List Edge) → length (endsOf T) ≡ length T * 2
-unfolding endsOf
+pub length-ends : (T : List Edge) → length (ends_of T) ≡ length T * 2
+unfolding ends_of
 length-ends [] = refl
 length-ends (e ∷ T) = omega (arith, length-ends T)

@@ -20,9 +20,9 @@ use Rattle.joined.proofs.JoinedLaws.{has-link}
 use Rattle.plane.specs.declared.Place.{Place}
 use Rattle.plane.proofs.PlaceOrder.{place_same}
 use Rattle.net.specs.Net.{Net}
-use Rattle.bought.specs.Edges.{Edge, endsOf, points_of}
+use Rattle.bought.specs.Edges.{Edge, ends_of, points_of}
 use Rattle.bought.specs.Passes.{Passes}
-use Rattle.bought.specs.Verdict.{endsAt}
+use Rattle.bought.specs.Verdict.{ends_at}
 use Rattle.bought.proofs.EdgeLaws.{length-ends, link-end, in-ends}
 use Rattle.bought.proofs.TreeTest.{points-once, pin-point, end-point, of-points}
 use Rattle.bought.proofs.BareLaws.{some_at, one_single, ends-sum}
@@ -71,8 +71,8 @@ pub lone-fails : (net : Net) (p : Place) → net.pins ≡ p ∷ [] → (T : List
 lone-fails net p is T {e} m ps =
     let z : ⊥ = omega (
       arith,
-      two-but (endsAt (endsOf T)) p (points_of net.pins T) (points-once net.pins T) some two,
-      ends-sum (points_of net.pins T) (endsOf T) (points-once net.pins T),
+      two-but (ends_at (ends_of T)) p (points_of net.pins T) (points-once net.pins T) some two,
+      ends-sum (points_of net.pins T) (ends_of T) (points-once net.pins T),
       length-ends T,
       tree.size,
     ) in z
@@ -87,27 +87,27 @@ lone-fails net p is T {e} m ps =
     pin-only x i = Memᴰ.eq_of_singleton (rw is at i)
 
     -- the pin is an end, for it is joined to one
-    pin-end : p ∈ endsOf T
+    pin-end : p ∈ ends_of T
     pin-end = at (place_same p e.0)
       where
-        at : Dec (p ≡ e.0) → p ∈ endsOf T
+        at : Dec (p ≡ e.0) → p ∈ ends_of T
         at (yes q) = rw q (in-ends T m).0
         at (no n) =
             let end = end-point net.pins T e.0 (in-ends T m).0 in
             link-end T (has-link n (tree.joins p e.0 (pin-point net.pins T p pin) end)).1
 
-    is-end : (x : Place) → x ∈ points_of net.pins T → x ∈ endsOf T
+    is-end : (x : Place) → x ∈ points_of net.pins T → x ∈ ends_of T
     is-end x i = at (of-points net.pins T x i)
       where
-        at : Point net.pins T x → x ∈ endsOf T
+        at : Point net.pins T x → x ∈ ends_of T
         at (inl k) = rw (pin-only x k) pin-end
         at (inr (y, l)) = link-end T l
 
-    some : (x : Place) → x ∈ points_of net.pins T → 1 ≤ endsAt (endsOf T) x
-    some x i = some_at x (endsOf T) (is-end x i)
+    some : (x : Place) → x ∈ points_of net.pins T → 1 ≤ ends_at (ends_of T) x
+    some x i = some_at x (ends_of T) (is-end x i)
 
-    two : (x : Place) → x ∈ points_of net.pins T → (x ≡ p → ⊥) → 2 ≤ endsAt (endsOf T) x
+    two : (x : Place) → x ∈ points_of net.pins T → (x ≡ p → ⊥) → 2 ≤ ends_at (ends_of T) x
     two x i n =
-        by (eqb (endsAt (endsOf T) x) 1)
+        by (eqb (ends_at (ends_of T) x) 1)
         (λ q. absurd (n (pin-only x (ps.pinned x (one_single x T (is-end x i) (eqb-true _ 1 q))))))
-        (λ q. let d = eqb-false (endsAt (endsOf T) x) 1 q in omega (arith, some x i, d))
+        (λ q. let d = eqb-false (ends_at (ends_of T) x) 1 q in omega (arith, some x i, d))

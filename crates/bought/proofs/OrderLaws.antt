@@ -28,7 +28,7 @@ use Rattle.joined.proofs.TreeLaws.{tree-linked}
 use Rattle.plane.specs.declared.Place.{Place}
 use Rattle.plane.specs.declared.Macro.{Macro}
 use Rattle.plane.specs.declared.Weights.{Weights}
-use Rattle.plane.specs.Place.{before, samePlace}
+use Rattle.plane.specs.Place.{before, same_place}
 use Rattle.plane.specs.Distance.{distance}
 use Rattle.plane.specs.Cost.{cost}
 use Rattle.plane.specs.Macro.{clear}
@@ -38,11 +38,11 @@ use Rattle.plane.proofs.MacroLaws.{clear_comm}
 use Rattle.plane.proofs.CostLaws.{cost-comm}
 use Rattle.plane.proofs.DistanceLaws.{distance-comm}
 use Rattle.net.specs.Net.{Net}
-use Rattle.net.specs.Tests.{outOfRange}
-use Rattle.bought.specs.Bounds.{boughtBound}
-use Rattle.bought.specs.Edges.{Edge, edgesOf, endsOf, points_of}
+use Rattle.net.specs.Tests.{out_of_range}
+use Rattle.bought.specs.Bounds.{bought_bound}
+use Rattle.bought.specs.Edges.{Edge, edges_of, ends_of, points_of}
 use Rattle.bought.specs.Rearranged.{Rearranged, none, keep, turn, swap, then, SameEdges}
-use Rattle.bought.specs.Verdict.{edgesMiscounted, unfit, isTree, endsAt, bare, noTree, verdict, bought}
+use Rattle.bought.specs.Verdict.{edges_miscounted, unfit, is_tree, ends_at, bare, no_tree, verdict, bought}
 use Rattle.bought.proofs.EdgeLaws.{of-ends, link-end}
 use Rattle.bought.proofs.TreeTest.{points-ascending, pin-point, end-point, of-points, tree_of, of_tree}
 use Rattle.bought.proofs.BareLaws.{as-false, ends_more}
@@ -95,7 +95,7 @@ link-kept : {T U : List Edge} → Rearranged T U → {a b : Place} → Link T a 
 link-kept r (inl m) = pair-kept r _ _ m
 link-kept r (inr m) = either inr inl (pair-kept r _ _ m)
 
-ends-kept : {T U : List Edge} → Rearranged T U → (v : Place) → endsAt (endsOf T) v ≡ endsAt (endsOf U) v
+ends-kept : {T U : List Edge} → Rearranged T U → (v : Place) → ends_at (ends_of T) v ≡ ends_at (ends_of U) v
 ends-kept none v = refl
 ends-kept (keep {e} {T} {U} r) v = omega (arith, ends_more v e T, ends_more v e U, ends-kept r v)
 ends-kept (turn {a} {b} {T} {U} r) v = omega (arith, ends_more v (a, b) T, ends_more v (b, a) U, ends-kept r v)
@@ -103,7 +103,7 @@ ends-kept (swap {e} {f} {T}) v =
     omega (arith, ends_more v e (f ∷ T), ends_more v f T, ends_more v f (e ∷ T), ends_more v e T)
 ends-kept (then r s) v = ends-kept r v ∙ ends-kept s v
 
-among-kept : {T U : List Edge} → Rearranged T U → Among (endsOf T) (endsOf U)
+among-kept : {T U : List Edge} → Rearranged T U → Among (ends_of T) (ends_of U)
 among-kept {T} {U} r x m = link-end U (link-kept r (of-ends T m).1)
 
 -- Tests that imply each other
@@ -132,24 +132,24 @@ module _ {ps qs : List Place} (order : Perm ps qs) {T U : List Edge} (r : Rearra
       either (λ i. pin-point ps T x (perm-among (Permᴰ.symm d) x i))
       (λ l. end-point ps T x (link-end T (link-kept (rearranged-back r) l.1))) (of-points qs U x m))
 
-  same-bare : any (bare ps (endsOf T)) (endsOf T) ≡ any (bare qs (endsOf U)) (endsOf U)
+  same-bare : any (bare ps (ends_of T)) (ends_of T) ≡ any (bare qs (ends_of U)) (ends_of U)
   unfolding bare
   same-bare =
-      any-agree (bare ps (endsOf T)) (bare qs (endsOf U))
-      (λ v. ap₂ (λ (n : ℕ) (b : Bool). eqb n 1 && not b) (ends-kept r v) (any-perm (samePlace v) ps qs order)) (endsOf T)
-      ∙ any-among (bare qs (endsOf U)) (among-kept r) (among-kept (rearranged-back r))
+      any-agree (bare ps (ends_of T)) (bare qs (ends_of U))
+      (λ v. ap₂ (λ (n : ℕ) (b : Bool). eqb n 1 && not b) (ends-kept r v) (any-perm (same_place v) ps qs order)) (ends_of T)
+      ∙ any-among (bare qs (ends_of U)) (among-kept r) (among-kept (rearranged-back r))
 
   module _ {p q : Place} (pin : p ∈ ps) (other : q ∈ qs) where
-    same-tree : isTree ps T ≡ isTree qs U
+    same-tree : is_tree ps T ≡ is_tree qs U
     same-tree =
-        as-true (isTree ps T) (isTree qs U)
+        as-true (is_tree ps T) (is_tree qs U)
         (λ e. of_tree qs U other (subst (λ (X : List Place). TreeOn X U) same_points
         (tree-linked (tree_of ps T e) (pair-kept r) (length-kept r))))
         (λ e. of_tree ps T pin (subst (λ (X : List Place). TreeOn X T) (sym same_points)
         (tree-linked (tree_of qs U e) (pair-kept (rearranged-back r)) (length-kept (rearranged-back r)))))
 
-    same_none : noTree ps T ≡ noTree qs U
-    unfolding noTree
+    same_none : no_tree ps T ≡ no_tree qs U
+    unfolding no_tree
     same_none = ap₂ (λ (a b : Bool). not a || b) same-tree same-bare
 
     pub same-verdict : (w : Weights) (ms ns : List Macro) → ((x y : Place) → clear x y ms ≡ clear x y ns) →
@@ -157,17 +157,17 @@ module _ {ps qs : List Place} (order : Perm ps qs) {T U : List Edge} (r : Rearra
     unfolding verdict unfit
     same-verdict w ms ns clears =
         let fits : any (unfit ms) T ≡ any (unfit ns) U =
-        any-agree (unfit ms) (unfit ns) (λ e. ap (λ (b : Bool). samePlace e.0 e.1 || not b) (clears e.0 e.1)) T
+        any-agree (unfit ms) (unfit ns) (λ e. ap (λ (b : Bool). same_place e.0 e.1 || not b) (clears e.0 e.1)) T
         ∙ any-kept (unfit ns) (λ a b. ap₂ (λ (s t : Bool). s || not t) (same-comm a b) (clear_comm a b ns)) r in
         let sums : (ℤ × ℤ) = (pos (lengths (cost w) U), pos (lengths distance U)) in
-        ap₂ (λ (m n : ℕ). cond (any (unfit ms) T) (refused 34) (cond (noTree ps T) (refused 35) (given (pos m, pos n))))
+        ap₂ (λ (m n : ℕ). cond (any (unfit ms) T) (refused 34) (cond (no_tree ps T) (refused 35) (given (pos m, pos n))))
         (lengths-kept (cost w) (cost-comm w) r) (lengths-kept distance distance-comm r)
         ∙ ap₂ (λ (a b : Bool). cond a (refused 34) (cond b (refused 35) (given sums))) fits same_none
 
 -- 33 on the edges, where they are whole
 
-abbrev edgeOut : Edge → Bool
-edgeOut e = (outOfRange e.0.x || outOfRange e.0.y) || (outOfRange e.1.x || outOfRange e.1.y)
+abbrev edge_out : Edge → Bool
+edge_out e = (out_of_range e.0.x || out_of_range e.0.y) || (out_of_range e.1.x || out_of_range e.1.y)
 
 four : (p q r s t : Bool) → (p || (q || (r || (s || t)))) ≡ (((p || q) || (r || s)) || t)
 four true q r s t = refl
@@ -181,15 +181,15 @@ or_comm true false = refl
 or_comm false true = refl
 or_comm false false = refl
 
-pub range-edges : (s : List ℤ) → length s % 4 ≡ 0 → any outOfRange s ≡ any edgeOut (edgesOf s)
-unfolding any edgesOf fours
+pub range-edges : (s : List ℤ) → length s % 4 ≡ 0 → any out_of_range s ≡ any edge_out (edges_of s)
+unfolding any edges_of fours
 range-edges [] h = refl
 range-edges (a ∷ []) h = absurd (let z : ⊥ = omega arith in z)
 range-edges (a ∷ (b ∷ [])) h = absurd (let z : ⊥ = omega arith in z)
 range-edges (a ∷ (b ∷ (c ∷ []))) h = absurd (let z : ⊥ = omega arith in z)
 range-edges (a ∷ (b ∷ (c ∷ (d ∷ s)))) h =
-    four (outOfRange a) (outOfRange b) (outOfRange c) (outOfRange d) (any outOfRange s)
-    ∙ ap (λ (t : Bool). ((outOfRange a || outOfRange b) || (outOfRange c || outOfRange d)) || t) (range-edges s (omega arith))
+    four (out_of_range a) (out_of_range b) (out_of_range c) (out_of_range d) (any out_of_range s)
+    ∙ ap (λ (t : Bool). ((out_of_range a || out_of_range b) || (out_of_range c || out_of_range d)) || t) (range-edges s (omega arith))
 
 module _ {ps qs : List Place} (order : Perm ps qs) {p q : Place} (pin : p ∈ ps) (other : q ∈ qs) (w : Weights) (ms ns : List Macro)
     (clears : (x y : Place) → clear x y ms ≡ clear x y ns) where
@@ -200,18 +200,18 @@ module _ {ps qs : List Place} (order : Perm ps qs) {p q : Place} (pin : p ∈ ps
   two = record { pins = qs; macros = ns; weights = w }
 
   pub same-bought : (s t : List ℤ) → SameEdges s t → bought one s ≡ bought two t
-  unfolding bought edgesMiscounted
+  unfolding bought edges_miscounted
   same-bought s t e =
-      by (edgesMiscounted s)
+      by (edges_miscounted s)
       (λ m. miscounted-33 one s m ∙ sym (miscounted-33 two t (sym counts ∙ m)))
       (λ m.
-      let range : any outOfRange s ≡ any outOfRange t =
-      range-edges s (whole one s m) ∙ any-kept edgeOut turned e.order ∙ sym (range-edges t (whole two t (sym counts ∙ m))) in
+      let range : any out_of_range s ≡ any out_of_range t =
+      range-edges s (whole one s m) ∙ any-kept edge_out turned e.order ∙ sym (range-edges t (whole two t (sym counts ∙ m))) in
       ap₂ (λ (b : Bool) (v : Told (ℤ × ℤ)). cond b (refused 33) v) (ap₂ ◌||◌ counts range)
       (same-verdict order e.order pin other w ms ns clears))
     where
-      turned : (a b : Place) → edgeOut (a, b) ≡ edgeOut (b, a)
-      turned a b = or_comm (outOfRange a.x || outOfRange a.y) (outOfRange b.x || outOfRange b.y)
+      turned : (a b : Place) → edge_out (a, b) ≡ edge_out (b, a)
+      turned a b = or_comm (out_of_range a.x || out_of_range a.y) (out_of_range b.x || out_of_range b.y)
 
-      counts : edgesMiscounted s ≡ edgesMiscounted t
-      counts = ap (λ (n : ℕ). not (eqb (n % 4) 0) || ltb boughtBound (n / 4)) e.many
+      counts : edges_miscounted s ≡ edges_miscounted t
+      counts = ap (λ (n : ℕ). not (eqb (n % 4) 0) || ltb bought_bound (n / 4)) e.many

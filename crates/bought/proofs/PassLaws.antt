@@ -19,14 +19,14 @@ use Rattle.joined.specs.Way.{Way, stop, go}
 use Rattle.joined.specs.Cost.{lengths}
 use Rattle.joined.proofs.OneTreeLaws.{tree-one, tree-simple}
 use Rattle.plane.specs.declared.Place.{Place}
-use Rattle.plane.specs.Place.{samePlace}
+use Rattle.plane.specs.Place.{same_place}
 use Rattle.plane.specs.Distance.{distance}
 use Rattle.plane.specs.Macro.{clear}
 use Rattle.plane.proofs.PlaceOrder.{place_same}
-use Rattle.net.specs.Net.{Net, costIn}
-use Rattle.bought.specs.Edges.{Edge, endsOf, points_of}
+use Rattle.net.specs.Net.{Net, cost_in}
+use Rattle.bought.specs.Edges.{Edge, ends_of, points_of}
 use Rattle.bought.specs.Passes.{Single, Passes}
-use Rattle.bought.specs.Verdict.{unfit, isTree, bare, noTree, verdict}
+use Rattle.bought.specs.Verdict.{unfit, is_tree, bare, no_tree, verdict}
 use Rattle.bought.proofs.TreeTest.{points-inside, pin-point, tree_of, of_tree, tree-counted}
 use Rattle.bought.proofs.BareLaws.{same_false, same_of, bare-pinned, pinned-bare}
 use Rattle.bought.proofs.VerdictLaws.{verdict-unfit, verdict-none, verdict-passed}
@@ -38,14 +38,14 @@ module _ (net : Net) (T : List Edge) where
   unfolding unfit
   fit_of apart free =
       none_any (unfit net.macros) T (λ e m.
-      or-neither (samePlace e.0 e.1) (not (clear e.0 e.1 net.macros))
+      or-neither (same_place e.0 e.1) (not (clear e.0 e.1 net.macros))
       (same_false e.0 e.1 (apart e m)) (ap not (free e m)))
 
   module _ (fit : any (unfit net.macros) T ≡ false) where
-    both : (e : Edge) → e ∈ T → (samePlace e.0 e.1 ≡ false) × (not (clear e.0 e.1 net.macros) ≡ false)
+    both : (e : Edge) → e ∈ T → (same_place e.0 e.1 ≡ false) × (not (clear e.0 e.1 net.macros) ≡ false)
     unfolding unfit
     both e m =
-        or-none (samePlace e.0 e.1) (not (clear e.0 e.1 net.macros)) (any_none (unfit net.macros) T fit e m)
+        or-none (same_place e.0 e.1) (not (clear e.0 e.1 net.macros)) (any_none (unfit net.macros) T fit e m)
 
     pub fit_apart : (e : Edge) → e ∈ T → e.0 ≡ e.1 → ⊥
     fit_apart e m k = differ (same_of e.0 e.1 k) (both e m).0
@@ -81,21 +81,21 @@ module _ (net : Net) (T : List Edge) {p : Place} (pin : p ∈ net.pins) where
   passes-tree ps =
       tree-counted net.pins T pin ps.one (record { apart = λ a b m e. ps.apart (a, b) m e; single = ps.once })
 
-  passes_none : Passes net T → noTree net.pins T ≡ false
-  unfolding noTree
+  passes_none : Passes net T → no_tree net.pins T ≡ false
+  unfolding no_tree
   passes_none ps =
-      or-neither (not (isTree net.pins T)) (any (bare net.pins (endsOf T)) (endsOf T))
+      or-neither (not (is_tree net.pins T)) (any (bare net.pins (ends_of T)) (ends_of T))
       (ap not (of_tree net.pins T pin (passes-tree ps))) (pinned-bare net.pins T ps.pinned)
 
-  none_passes : any (unfit net.macros) T ≡ false → noTree net.pins T ≡ false → Passes net T
-  unfolding noTree
+  none_passes : any (unfit net.macros) T ≡ false → no_tree net.pins T ≡ false → Passes net T
+  unfolding no_tree
   none_passes fit e =
-      let r = or-none (not (isTree net.pins T)) (any (bare net.pins (endsOf T)) (endsOf T)) e in
-      tree-passes fit (tree_of net.pins T (not-false (isTree net.pins T) r.0))
+      let r = or-none (not (is_tree net.pins T)) (any (bare net.pins (ends_of T)) (ends_of T)) e in
+      tree-passes fit (tree_of net.pins T (not-false (is_tree net.pins T) r.0))
       (bare-pinned net.pins T r.1 (fit_apart net T fit))
 
   -- what passes is given its cost and its metal
-  pub passes-given : Passes net T → verdict net T ≡ given (pos (lengths (costIn net) T), pos (lengths distance T))
+  pub passes-given : Passes net T → verdict net T ≡ given (pos (lengths (cost_in net) T), pos (lengths distance T))
   passes-given ps = verdict-passed net T (fit_of net T ps.apart ps.free) (passes_none ps)
 
   -- and only what passes is given anything
@@ -103,11 +103,11 @@ module _ (net : Net) (T : List Edge) {p : Place} (pin : p ∈ net.pins) where
   given-passes {a} e =
       by (any (unfit net.macros) T)
       (λ t. told-apart 34 a (sym (verdict-unfit net T t) ∙ e))
-      (λ f. by (noTree net.pins T) (λ t. told-apart 35 a (sym (verdict-none net T f t) ∙ e)) (λ g. none_passes f g))
+      (λ f. by (no_tree net.pins T) (λ t. told-apart 35 a (sym (verdict-none net T f t) ∙ e)) (λ g. none_passes f g))
 
   -- fit edges that do not pass are 35
   pub other-35 : any (unfit net.macros) T ≡ false → (Passes net T → ⊥) → verdict net T ≡ refused 35
-  other-35 f n = by (noTree net.pins T) (λ t. verdict-none net T f t) (λ g. absurd (n (none_passes f g)))
+  other-35 f n = by (no_tree net.pins T) (λ t. verdict-none net T f t) (λ g. absurd (n (none_passes f g)))
 
   -- V4: an edge given twice, from either end, is 35
   pub twice-35 : any (unfit net.macros) T ≡ false → (a b : Place) (l : Link T a b) → Link (others l) a b → verdict net T ≡ refused 35

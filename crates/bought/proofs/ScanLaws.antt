@@ -10,25 +10,25 @@ use Rattle.lists.specs.Member.{◌∈◌, here, there}
 use Rattle.lists.specs.Total.{total}
 use Rattle.lists.proofs.ThoseLaws.{those-hit, those-miss, those-none}
 use Rattle.joined.specs.Cost.{lengths}
-use Rattle.joined.specs.Table.{changed, mergedBy}
+use Rattle.joined.specs.Table.{changed, merged_by}
 use Rattle.plane.specs.declared.Place.{Place}
-use Rattle.plane.specs.Place.{samePlace}
+use Rattle.plane.specs.Place.{same_place}
 use Rattle.bought.specs.Edges.{Edge}
-use Rattle.bought.specs.Verdict.{endsAt}
+use Rattle.bought.specs.Verdict.{ends_at}
 
 -- ends at p: `left` begins with q, and `rest` is what follows
 module _ (p : Place) (left : List Place) (q : Place) (rest : List Place) (at : left ≡ q ∷ rest) where
-  pub at-hit : samePlace p q ≡ true → endsAt left p ≡ suc (endsAt rest p)
-  unfolding endsAt
-  at-hit e = rw (at, those-hit (samePlace p) q rest e) refl
+  pub at-hit : same_place p q ≡ true → ends_at left p ≡ suc (ends_at rest p)
+  unfolding ends_at
+  at-hit e = rw (at, those-hit (same_place p) q rest e) refl
 
-  pub at-miss : samePlace p q ≡ false → endsAt left p ≡ endsAt rest p
-  unfolding endsAt
-  at-miss e = rw (at, those-miss (samePlace p) q rest e) refl
+  pub at-miss : same_place p q ≡ false → ends_at left p ≡ ends_at rest p
+  unfolding ends_at
+  at-miss e = rw (at, those-miss (same_place p) q rest e) refl
 
-pub at-end : (p : Place) (left : List Place) → left ≡ [] → endsAt left p ≡ 0
-unfolding endsAt
-at-end p left e = rw (e, those-none (samePlace p)) refl
+pub at-end : (p : Place) (left : List Place) → left ≡ [] → ends_at left p ≡ 0
+unfolding ends_at
+at-end p left e = rw (e, those-none (same_place p)) refl
 
 -- sums
 pub lengths-next : (d : Place → Place → ℕ) (left : List Edge) (e : Edge) (rest : List Edge) → left ≡ e ∷ rest →
@@ -48,10 +48,10 @@ in_left (suc i) (y ∷ l) e = there (in_left i l e)
 
 -- groups
 pub merged-next : (ends : Edge → ℕ × ℕ) (left : List Edge) (e : Edge) (rest : List Edge) → left ≡ e ∷ rest → (a b : ℕ) (g g' : List ℕ) →
-    a ≡ get_or g (ends e).0 0 → b ≡ get_or g (ends e).1 0 → g' ≡ map (changed a b) g → mergedBy ends left g ≡ mergedBy ends rest g'
-unfolding mergedBy
+    a ≡ get_or g (ends e).0 0 → b ≡ get_or g (ends e).1 0 → g' ≡ map (changed a b) g → merged_by ends left g ≡ merged_by ends rest g'
+unfolding merged_by
 merged-next ends left e rest at a b g g' p q r = rw (at, r, p, q) refl
 
-pub merged-end : (ends : Edge → ℕ × ℕ) (left : List Edge) (g : List ℕ) → left ≡ [] → mergedBy ends left g ≡ g
-unfolding mergedBy
+pub merged-end : (ends : Edge → ℕ × ℕ) (left : List Edge) (g : List ℕ) → left ≡ [] → merged_by ends left g ≡ g
+unfolding merged_by
 merged-end ends left g at = rw at refl

@@ -18,12 +18,12 @@ use Rattle.lists.specs.Sorted.{position, Ascending}
 use Rattle.lists.proofs.AnyLaws.{any_none, none_any}
 use Rattle.lists.proofs.MapLaws.{in_map, of_map}
 use Rattle.lists.proofs.SortedLaws.{of-sorted, in-sorted, sorted-ascending, ascending-once, position-small, at_position, position_at}
-use Rattle.lists.proofs.MemberLaws.{getD-in}
+use Rattle.lists.proofs.MemberLaws.{get_d-in}
 use Rattle.lists.proofs.TestLaws.{either, not-true, and_left, and_right, and_both}
 use Rattle.joined.specs.Joined.{Joined, Joins, Inside}
 use Rattle.joined.specs.Tree.{TreeOn}
 use Rattle.joined.specs.OneTree.{Point, OneTree, Simple}
-use Rattle.joined.specs.Table.{mergedBy, Below}
+use Rattle.joined.specs.Table.{merged_by, Below}
 use Rattle.joined.proofs.JoinedLaws.{one, between, carried, firsts, seconds}
 use Rattle.joined.proofs.TableLaws.{merged-joined, joined-merged}
 use Rattle.joined.proofs.OneTreeLaws.{one-tree}
@@ -31,9 +31,9 @@ use Rattle.plane.specs.declared.Place.{Place}
 use Rattle.plane.specs.Place.{place, before}
 use Rattle.plane.proofs.PlaceOrder.{place-order, place_same}
 use Rattle.forest.specs.Edges.{from, entries}
-use Rattle.forest.proofs.EdgeLaws.{length_from, getD-from}
-use Rattle.bought.specs.Edges.{Edge, endsOf, points_of}
-use Rattle.bought.specs.Verdict.{endNumbers, oneGroup, isTree}
+use Rattle.forest.proofs.EdgeLaws.{length_from, get_d-from}
+use Rattle.bought.specs.Edges.{Edge, ends_of, points_of}
+use Rattle.bought.specs.Verdict.{end_numbers, one_group, is_tree}
 use Rattle.bought.proofs.EdgeLaws.{in-ends, of-ends}
 
 -- Entries of a table
@@ -60,16 +60,16 @@ of-entries t k (suc n) y m =
 
 -- one label
 module _ (t : List ℕ) (n : ℕ) where
-  pub one_label : oneGroup t n ≡ true → (x : ℕ) → x < n → get_or t x 0 ≡ get_or t 0 0
-  unfolding oneGroup
+  pub one_label : one_group t n ≡ true → (x : ℕ) → x < n → get_or t x 0 ≡ get_or t 0 0
+  unfolding one_group
   one_label e x h =
       let f : ℕ → Bool = λ y. not (eqb y (get_or t 0 0)) in
       let same : 0 + x ≡ x = omega arith in
       let none = any_none f (entries t 0 n) (not-true (any f (entries t 0 n)) e) (get_or t x 0) (rw same at (in-entries t 0 n x h)) in
       eqb-true (get_or t x 0) (get_or t 0 0) (not-false (eqb (get_or t x 0) (get_or t 0 0)) none)
 
-  pub label-one : ((x : ℕ) → x < n → get_or t x 0 ≡ get_or t 0 0) → oneGroup t n ≡ true
-  unfolding oneGroup
+  pub label-one : ((x : ℕ) → x < n → get_or t x 0 ≡ get_or t 0 0) → one_group t n ≡ true
+  unfolding one_group
   label-one h =
       let f : ℕ → Bool = λ y. not (eqb y (get_or t 0 0)) in
       ap not (none_any f (entries t 0 n) (λ y m.
@@ -92,11 +92,11 @@ module _ (pins : List Place) (T : List Edge) where
 
   pub pin-point : Among pins (points_of pins T)
   unfolding points_of
-  pin-point x m = in-sorted before place-order (pins ++ endsOf T) x (Memᴰ.append_left _ m)
+  pin-point x m = in-sorted before place-order (pins ++ ends_of T) x (Memᴰ.append_left _ m)
 
-  pub end-point : Among (endsOf T) (points_of pins T)
+  pub end-point : Among (ends_of T) (points_of pins T)
   unfolding points_of
-  end-point x m = in-sorted before place-order (pins ++ endsOf T) x (Memᴰ.append_right pins m)
+  end-point x m = in-sorted before place-order (pins ++ ends_of T) x (Memᴰ.append_right pins m)
 
   pub points-inside : Inside (points_of pins T) T
   points-inside a b m = let r = in-ends T m in (end-point a r.0, end-point b r.1)
@@ -104,7 +104,7 @@ module _ (pins : List Place) (T : List Edge) where
   -- V2: they are the pins and the ends
   pub of-points : (x : Place) → x ∈ points_of pins T → Point pins T x
   unfolding points_of
-  of-points x m = either inl (λ i. inr (of-ends T i)) (Memᴰ.append_cases pins (of-sorted before (pins ++ endsOf T) x m))
+  of-points x m = either inl (λ i. inr (of-ends T i)) (Memᴰ.append_cases pins (of-sorted before (pins ++ ends_of T) x m))
 
   -- Numbers and places
 
@@ -117,67 +117,67 @@ module _ (pins : List Place) (T : List Edge) where
   at-number : (x : Place) → x ∈ X → at (position before X x) ≡ x
   at-number x m = at_position before place-order X points-ascending x (place (pos 0) (pos 0)) m
 
-  pub numbers-below : Below (endNumbers (points_of pins T)) (length (points_of pins T)) T
+  pub numbers-below : Below (end_numbers (points_of pins T)) (length (points_of pins T)) T
   numbers-below e m = let r = points-inside e.0 e.1 m in (number_small e.0 r.0, number_small e.1 r.1)
 
-  by-places : {i j : ℕ} → Joined (map (endNumbers X) T) i j → Joined T (at i) (at j)
+  by-places : {i j : ℕ} → Joined (map (end_numbers X) T) i j → Joined T (at i) (at j)
   by-places = carried at (λ i j m.
-      let s = of_map (endNumbers X) T m in
+      let s = of_map (end_numbers X) T m in
       let r = points-inside s.entry.0 s.entry.1 s.stands in
       between (ap at (firsts s.is) ∙ at-number s.entry.0 r.0) (ap at (seconds s.is) ∙ at-number s.entry.1 r.1)
       (one (inl s.stands)))
 
-  by-numbers : {x y : Place} → Joined T x y → Joined (map (endNumbers X) T) (position before X x) (position before X y)
-  by-numbers = carried (position before X) (λ a b m. one (inl (in_map (endNumbers X) m)))
+  by-numbers : {x y : Place} → Joined T x y → Joined (map (end_numbers X) T) (position before X x) (position before X y)
+  by-numbers = carried (position before X) (λ a b m. one (inl (in_map (end_numbers X) m)))
 
   -- The labels
 
   own : (x : ℕ) → x < length X → get_or (from 0 (length X)) x 0 ≡ x
-  own x h = omega (arith, getD-from 0 (length X) x h)
+  own x h = omega (arith, get_d-from 0 (length X) x h)
 
   room : length X ≤ length (from 0 (length X))
   room = omega (arith, length_from 0 (length X))
 
   abbrev table : List ℕ
-  table = mergedBy (endNumbers X) T (from 0 (length X))
+  table = merged_by (end_numbers X) T (from 0 (length X))
 
-  pub labels_join : oneGroup table (length X) ≡ true → Joins X T
+  pub labels_join : one_group table (length X) ≡ true → Joins X T
   labels_join e x y i k =
       let a = number_small x i in
       let b = number_small y k in
       let same = one_label table (length X) e _ a ∙ sym (one_label table (length X) e _ b) in
       between (sym (at-number x i)) (sym (at-number y k))
-      (by-places (merged-joined (endNumbers X) (length X) T numbers-below (from 0 (length X)) room own _ _ a b same))
+      (by-places (merged-joined (end_numbers X) (length X) T numbers-below (from 0 (length X)) room own _ _ a b same))
 
-  pub join-labels : Joins X T → {p : Place} → p ∈ X → oneGroup table (length X) ≡ true
+  pub join-labels : Joins X T → {p : Place} → p ∈ X → one_group table (length X) ≡ true
   join-labels j {p} i = label-one table (length X) first
     where
       -- the number of a point is that of a place, so any two labels are one
       label : (x : ℕ) → x < length X → (y : ℕ) → y < length X → get_or table x 0 ≡ get_or table y 0
       label x h y k =
           let d = place (pos 0) (pos 0) in
-          joined-merged (endNumbers X) (length X) T numbers-below (from 0 (length X)) room own x y h k
+          joined-merged (end_numbers X) (length X) T numbers-below (from 0 (length X)) room own x y h k
           (between (sym (position_at before place-order X points-ascending x d h))
           (sym (position_at before place-order X points-ascending y d k))
-          (by-numbers (j (at x) (at y) (getD-in X x d h) (getD-in X y d k))))
+          (by-numbers (j (at x) (at y) (get_d-in X x d h) (get_d-in X y d k))))
 
       first : (x : ℕ) → x < length X → get_or table x 0 ≡ get_or table 0 0
       first x h = label x h 0 (omega (arith, h))
 
   -- By the count
 
-  pub tree_of : isTree pins T ≡ true → TreeOn (points_of pins T) T
-  unfolding isTree
+  pub tree_of : is_tree pins T ≡ true → TreeOn (points_of pins T) T
+  unfolding is_tree
   tree_of e = record {
     once = points-once;
-    joins = labels_join (and_right (eqb (length X) (suc (length T))) (oneGroup table (length X)) e);
-    size = sym (eqb-true (length X) (suc (length T)) (and_left (eqb (length X) (suc (length T))) (oneGroup table (length X)) e));
+    joins = labels_join (and_right (eqb (length X) (suc (length T))) (one_group table (length X)) e);
+    size = sym (eqb-true (length X) (suc (length T)) (and_left (eqb (length X) (suc (length T))) (one_group table (length X)) e));
   }
 
-  pub of_tree : {p : Place} → p ∈ pins → TreeOn (points_of pins T) T → isTree pins T ≡ true
-  unfolding isTree
+  pub of_tree : {p : Place} → p ∈ pins → TreeOn (points_of pins T) T → is_tree pins T ≡ true
+  unfolding is_tree
   of_tree {p} m t =
-      and_both (eqb (length X) (suc (length T))) (oneGroup table (length X)) (eq-eqb (length X) (suc (length T)) (sym t.size))
+      and_both (eqb (length X) (suc (length T))) (one_group table (length X)) (eq-eqb (length X) (suc (length T)) (sym t.size))
       (join-labels t.joins (pin-point p m))
 
   -- one tree as R20 has it, its edges each once, is a tree by the count

@@ -16,11 +16,11 @@ use Rattle.joined.specs.Cost.{lengths}
 use Rattle.plane.specs.Distance.{distance}
 use Rattle.plane.specs.Cost.{cost, plain}
 use Rattle.plane.proofs.CostLaws.{cost-plain}
-use Rattle.net.specs.Net.{Net, costIn}
-use Rattle.net.specs.Tests.{outOfRange}
-use Rattle.bought.specs.Bounds.{boughtBound}
-use Rattle.bought.specs.Edges.{Edge, edgesOf}
-use Rattle.bought.specs.Verdict.{edgesMiscounted, unfit, noTree, verdict, bought}
+use Rattle.net.specs.Net.{Net, cost_in}
+use Rattle.net.specs.Tests.{out_of_range}
+use Rattle.bought.specs.Bounds.{bought_bound}
+use Rattle.bought.specs.Edges.{Edge, edges_of}
+use Rattle.bought.specs.Verdict.{edges_miscounted, unfit, no_tree, verdict, bought}
 
 module _ (net : Net) (T : List Edge) where
   pub verdict-unfit : any (unfit net.macros) T ≡ true → verdict net T ≡ refused 34
@@ -28,49 +28,49 @@ module _ (net : Net) (T : List Edge) where
   verdict-unfit e = rw e refl
 
   module _ (fit : any (unfit net.macros) T ≡ false) where
-    pub verdict-none : noTree net.pins T ≡ true → verdict net T ≡ refused 35
+    pub verdict-none : no_tree net.pins T ≡ true → verdict net T ≡ refused 35
     unfolding verdict
     verdict-none e = rw (fit, e) refl
 
-    pub verdict-passed : noTree net.pins T ≡ false → verdict net T ≡ given (pos (lengths (costIn net) T), pos (lengths distance T))
+    pub verdict-passed : no_tree net.pins T ≡ false → verdict net T ≡ given (pos (lengths (cost_in net) T), pos (lengths distance T))
     unfolding verdict
     verdict-passed e = rw (fit, e) refl
 
 module _ (net : Net) (s : List ℤ) where
-  pub miscounted-33 : edgesMiscounted s ≡ true → bought net s ≡ refused 33
+  pub miscounted-33 : edges_miscounted s ≡ true → bought net s ≡ refused 33
   unfolding bought
   miscounted-33 e = rw e refl
 
-  module _ (counted : edgesMiscounted s ≡ false) where
-    pub range-33 : any outOfRange s ≡ true → bought net s ≡ refused 33
+  module _ (counted : edges_miscounted s ≡ false) where
+    pub range-33 : any out_of_range s ≡ true → bought net s ≡ refused 33
     unfolding bought
     range-33 e = rw (counted, e) refl
 
     pub whole : length s % 4 ≡ 0
-    unfolding edgesMiscounted
+    unfolding edges_miscounted
     whole =
         eqb-true (length s % 4) 0
-        (not-false (eqb (length s % 4) 0) (or-none (not (eqb (length s % 4) 0)) (ltb boughtBound (length s / 4)) counted).0)
+        (not-false (eqb (length s % 4) 0) (or-none (not (eqb (length s % 4) 0)) (ltb bought_bound (length s / 4)) counted).0)
 
-    pub few : length s / 4 ≤ boughtBound
-    unfolding edgesMiscounted
-    few = ltb-false boughtBound (length s / 4) (or-none (not (eqb (length s % 4) 0)) (ltb boughtBound (length s / 4)) counted).1
+    pub few : length s / 4 ≤ bought_bound
+    unfolding edges_miscounted
+    few = ltb-false bought_bound (length s / 4) (or-none (not (eqb (length s % 4) 0)) (ltb bought_bound (length s / 4)) counted).1
 
-    module _ (inside : any outOfRange s ≡ false) where
-      pub past-33 : bought net s ≡ verdict net (edgesOf s)
+    module _ (inside : any out_of_range s ≡ false) where
+      pub past-33 : bought net s ≡ verdict net (edges_of s)
       unfolding bought
       past-33 = rw (counted, inside) refl
 
-      pub unfit-34 : any (unfit net.macros) (edgesOf s) ≡ true → bought net s ≡ refused 34
-      unfit-34 e = past-33 ∙ verdict-unfit net (edgesOf s) e
+      pub unfit-34 : any (unfit net.macros) (edges_of s) ≡ true → bought net s ≡ refused 34
+      unfit-34 e = past-33 ∙ verdict-unfit net (edges_of s) e
 
-      module _ (fit : any (unfit net.macros) (edgesOf s) ≡ false) where
-        pub none-35 : noTree net.pins (edgesOf s) ≡ true → bought net s ≡ refused 35
-        none-35 e = past-33 ∙ verdict-none net (edgesOf s) fit e
+      module _ (fit : any (unfit net.macros) (edges_of s) ≡ false) where
+        pub none-35 : no_tree net.pins (edges_of s) ≡ true → bought net s ≡ refused 35
+        none-35 e = past-33 ∙ verdict-none net (edges_of s) fit e
 
-        pub passed : noTree net.pins (edgesOf s) ≡ false →
-            bought net s ≡ given (pos (lengths (costIn net) (edgesOf s)), pos (lengths distance (edgesOf s)))
-        passed e = past-33 ∙ verdict-passed net (edgesOf s) fit e
+        pub passed : no_tree net.pins (edges_of s) ≡ false →
+            bought net s ≡ given (pos (lengths (cost_in net) (edges_of s)), pos (lengths distance (edges_of s)))
+        passed e = past-33 ∙ verdict-passed net (edges_of s) fit e
 
 -- with weights of 1 the cost is the metal
 pub plain-lengths : (T : List Edge) → lengths (cost plain) T ≡ lengths distance T

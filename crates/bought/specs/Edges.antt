@@ -13,18 +13,18 @@ abbrev pub edge : ℤ → ℤ → ℤ → ℤ → Edge
 edge a b c d = (place a b, place c d)
 
 -- the edges that a flat list holds; up to three numbers left over at its end are none
-unfoldable pub edgesOf : List ℤ → List Edge
+unfoldable pub edges_of : List ℤ → List Edge
 unfolding fours
-edgesOf s = fours edge s
+edges_of s = fours edge s
 
 -- the i-th
 abbrev pub edge_at : List ℤ → ℕ → Edge
 edge_at s i = edge (get_or s (i * 4) (pos 0)) (get_or s (i * 4 + 1) (pos 0)) (get_or s (i * 4 + 2) (pos 0)) (get_or s (i * 4 + 3) (pos 0))
 
-unfoldable pub endsOf : List Edge → List Place
-endsOf [] = []
-endsOf (e ∷ T) = e.0 ∷ (e.1 ∷ endsOf T)
+unfoldable pub ends_of : List Edge → List Place
+ends_of [] = []
+ends_of (e ∷ T) = e.0 ∷ (e.1 ∷ ends_of T)
 
 -- V2: the points are the pins and the ends of the edges
 unfoldable pub points_of : List Place → List Edge → List Place
-points_of pins T = sorted before (pins ++ endsOf T)
+points_of pins T = sorted before (pins ++ ends_of T)

@@ -5,16 +5,16 @@
 -- one edge fewer than points; each edge in its turn gives its two ends one label, and in the end there is one label. That the two say the
 -- same is proved (proofs/PassLaws).
 --
---   Bounds     boughtBound, pointLimit         1,535 edges; the points that they and the pins can have
---   Edges      edgesOf s, edgeAt s i           the edges of a flat list, and the i-th
---              endsOf T                        the ends of edges, one after the other
---              pointsOf pins T                 pins and ends in the order of places, each once
+--   Bounds     bought_bound, point_limit         1,535 edges; the points that they and the pins can have
+--   Edges      edges_of s, edge_at s i           the edges of a flat list, and the i-th
+--              ends_of T                        the ends of edges, one after the other
+--              points_of pins T                 pins and ends in the order of places, each once
 --   Passes     Single T v, Passes net T        a point with a single edge; a list that passes, in words
---   Verdict    edgesMiscounted, unfit          the tests for 33 and 34
---              oneGroup, isTree, bare          the tests for 35
+--   Verdict    edges_miscounted, unfit          the tests for 33 and 34
+--              one_group, is_tree, bare          the tests for 35
 --              verdict net T, bought net s     34, 35 or cost and metal; 33 before them
---              toldVerdict r                   what the code's answer says
---   Counted    metBy, bareAt                   the edges of each point counted by its number, and V6 by that count
+--              told_verdict r                   what the code's answer says
+--   Counted    met_by, bare_at                   the edges of each point counted by its number, and V6 by that count
 --   Rearranged Rearranged T U, SameEdges s t   the same edges in another order, any of them from its other end; in flat lists
 pub mod Bounds
 pub mod Edges

@@ -1,7 +1,7 @@
 -- V8: the same edges in another order, any of them given from its other end; and flat lists that hold them.
 use Rattle.std.specs.Prelude.{◌≡◌, List, [], ◌∷◌, ℤ, length}
 use Rattle.plane.specs.declared.Place.{Place}
-use Rattle.bought.specs.Edges.{Edge, edgesOf}
+use Rattle.bought.specs.Edges.{Edge, edges_of}
 
 pub data Rearranged : List Edge → List Edge → Type 0 where
   none : Rearranged [] []
@@ -12,4 +12,4 @@ pub data Rearranged : List Edge → List Edge → Type 0 where
 
 pub record SameEdges (s s' : List ℤ) : Type 0 where
   pub many : length s ≡ length s'
-  pub order : Rearranged (edgesOf s) (edgesOf s')
+  pub order : Rearranged (edges_of s) (edges_of s')

@@ -1,7 +1,6 @@
 pub mod ArcLaws
 pub mod OrderLaws
 pub mod NetBound
-pub mod FewPins
 pub mod NetArcs
 pub mod FilledLaws
 pub mod NetSwept

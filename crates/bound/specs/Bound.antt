@@ -3,16 +3,16 @@ use Rattle.std.specs.Prelude.{◌≡◌, List, reverse, ℕ, max}
 use Rattle.lists.specs.Sorted.{sorted}
 use Rattle.joined.specs.Joined.{Link}
 use Rattle.plane.specs.declared.Place.{Place}
-use Rattle.net.specs.Net.{Net, costIn}
+use Rattle.net.specs.Net.{Net, cost_in}
 use Rattle.lines.specs.declared.Axis.{Axis}
 use Rattle.lines.specs.declared.Axis.TheVariants.{Across, Along}
-use Rattle.lines.specs.Edges.{gridEdges}
+use Rattle.lines.specs.Edges.{grid_edges}
 use Rattle.sweeps.specs.Sweep.{Swept}
 use Rattle.bound.specs.Order.{towards}
 
 -- a sweep over a net's pins in this order
 abbrev pub SweptPins : Net → List Place → ℕ → Type 0
-SweptPins net pins n = Swept (Link (gridEdges net)) (costIn net) pins n
+SweptPins net pins n = Swept (Link (grid_edges net)) (cost_in net) pins n
 
 -- the greater of two sweeps along an axis: from its end to its start, and from its start to its end
 pub record BothWays (net : Net) (axis : Axis) (n : ℕ) : Type 0 where

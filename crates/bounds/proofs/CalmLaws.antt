@@ -10,11 +10,11 @@ use borrow.Author.Tests.{ltb-true, ltb-false}
 use Rattle.lists.proofs.TestLaws.{by, either}
 use Rattle.tree.specs.Table.{Within}
 use Rattle.longest.specs.Longest.{longer}
-use Rattle.longest.specs.Hung.{Ties, ontoOf, link_of, turn_of, top_of, Tied, Told, Hanging, tall}
+use Rattle.longest.specs.Hung.{Ties, onto_of, link_of, turn_of, top_of, Tied, Told, Hanging, tall}
 use Rattle.longest.proofs.WinsLaws.{none-longer}
 
 module _ (el : List ℕ) (s : Ties) (tied : Tied s) (t : List ℕ) (told : Told el s t) where
-  pub hung-cost : (x y d : ℕ) → 0 < turn_of s y → ontoOf s x ≡ y → turn_of s y < turn_of s x → d ≡ get_or el (link_of s x) 0 → d ≡ tall el t x y
+  pub hung-cost : (x y d : ℕ) → 0 < turn_of s y → onto_of s x ≡ y → turn_of s y < turn_of s x → d ≡ get_or el (link_of s x) 0 → d ≡ tall el t x y
   hung-cost x y d g on l q =
       let p : top_of t x y ≡ link_of s x = told.woven.step x y g l
       ∙ ap (λ (z : ℕ). longer el (top_of t z y) (link_of s x)) on
@@ -22,13 +22,13 @@ module _ (el : List ℕ) (s : Ties) (tied : Tied s) (t : List ℕ) (told : Told 
       ∙ none-longer el told.none (link_of s x) (tied.edges.small x) in
       q ∙ ap (λ (z : ℕ). get_or el z 0) (sym p)
 
-  pub held-cost : (x y d : ℕ) → 0 < turn_of s x → ontoOf s y ≡ x → turn_of s x < turn_of s y → d ≡ get_or el (link_of s y) 0 → d ≡ tall el t x y
+  pub held-cost : (x y d : ℕ) → 0 < turn_of s x → onto_of s y ≡ x → turn_of s x < turn_of s y → d ≡ get_or el (link_of s y) 0 → d ≡ tall el t x y
   held-cost x y d g on l q = hung-cost y x d g on l q ∙ ap (λ (z : ℕ). get_or el z 0) (told.woven.even y x (omega (arith, l)) g)
 
 -- What hangs are the points
 
 module _ (ks el : List ℕ) (e n : ℕ) (s : Ties) (h : Hanging ks el e n s) (within : Within n ks) (some : 0 < n) where
-  end_low : (v : ℕ) → 1 < turn_of s v → (v < n) × (ontoOf s v < n)
+  end_low : (v : ℕ) → 1 < turn_of s v → (v < n) × (onto_of s v < n)
   end_low v g =
       let d = h.ends v g in
       let i = within.ends (link_of s v) in
@@ -39,7 +39,7 @@ module _ (ks el : List ℕ) (e n : ℕ) (s : Ties) (h : Hanging ks el e n s) (wi
   first zero x l i = absurd (let z : ⊥ = omega (arith, l, h.all x i) in z)
   first (suc f) x l i =
       by (ltb 1 (turn_of s x))
-      (λ t. let g = ltb-true 1 (turn_of s x) t in first f (ontoOf s x) (omega (arith, l, (h.tied.up x g).1)) (end_low x g).1)
+      (λ t. let g = ltb-true 1 (turn_of s x) t in first f (onto_of s x) (omega (arith, l, (h.tied.up x g).1)) (end_low x g).1)
       (λ t. (x, (i, omega (arith, h.all x i, ltb-false 1 (turn_of s x) t))))
 
   pub hanging-low : (v : ℕ) → 0 < turn_of s v → v < n

@@ -9,23 +9,23 @@ use lib.Dec.{eqb}
 use lib.ListN.{length, get_or, set, length-set, replicate}
 use borrow.Author.Tests.{eqb-true, eqb-false}
 use Rattle.lists.proofs.TestLaws.{by}
-use Rattle.tree.specs.Table.{treeBound}
+use Rattle.tree.specs.Table.{tree_bound}
 use Rattle.tree.proofs.SumLaws.{other, here as put-here}
 use Rattle.longest.proofs.HungLaws.{same-entry, same_length}
-use Rattle.bounds.specs.Carried.{keyIn, Origin, Origins}
+use Rattle.bounds.specs.Carried.{key_in, Origin, Origins}
 
 module _ (before : List ℕ) (f : ℕ) (at keys : List ℕ) (e most : ℕ) (was : List ℕ) where
   pub record Carrying (next : List ℕ) : Type 0 where
-    pub room : length next ≡ treeBound
+    pub room : length next ≡ tree_bound
     pub each : Origins before f at keys e most was next
 
-  pub carrying-start : e ≤ treeBound → Carrying (replicate treeBound most)
+  pub carrying-start : e ≤ tree_bound → Carrying (replicate tree_bound most)
   carrying-start h = record {
-    room = same_length treeBound most;
-    each = λ k l. inl (same-entry treeBound most k (omega (arith, h, l)));
+    room = same_length tree_bound most;
+    each = λ k l. inl (same-entry tree_bound most k (omega (arith, h, l)));
   }
 
-  pub carrying-next : (next : List ℕ) (j k : ℕ) → Carrying next → j < f → k < e → e ≤ treeBound → keyIn before at j ≡ get_or keys k 0 →
+  pub carrying-next : (next : List ℕ) (j k : ℕ) → Carrying next → j < f → k < e → e ≤ tree_bound → key_in before at j ≡ get_or keys k 0 →
       Carrying (set next k (get_or was j 0))
   carrying-next next j k c hj hk few q = record {
     room = length-set next k _ ∙ c.room;

@@ -11,8 +11,8 @@ use borrow.Author.Tests.{ltb-true, ltb-false, eqb-false, ne_eqb}
 use Rattle.lists.specs.Turns.{seek}
 use Rattle.lists.proofs.TestLaws.{by, differ, and_left, and_right, and_both, or-none, or-neither, not-true}
 use Rattle.plane.specs.declared.Place.{Place}
-use Rattle.plane.specs.Place.{samePlace}
-use Rattle.plane.specs.Flat.{placeAt}
+use Rattle.plane.specs.Place.{same_place}
+use Rattle.plane.specs.Flat.{place_at}
 use Rattle.plane.proofs.PlaceLaws.{same_true, same_refl}
 use Rattle.triples.specs.Triple.{taken, dropped}
 use Rattle.exchanges.proofs.OpenedLaws.{seek-before, seek_hit}
@@ -20,14 +20,14 @@ use Rattle.exchanges.proofs.OpenedLaws.{seek-before, seek_hit}
 -- R6: a point other than a, b and u stands at s
 module _ (pts : List ℤ) (n a b u : ℕ) (s : Place) where
   abbrev pub Other : ℕ → Type 0
-  Other i = ((i ≡ a → ⊥) × ((i ≡ b → ⊥) × (i ≡ u → ⊥))) × (s ≡ placeAt pts i)
+  Other i = ((i ≡ a → ⊥) × ((i ≡ b → ⊥) × (i ≡ u → ⊥))) × (s ≡ place_at pts i)
 
   taken_yes : (i : ℕ) → Other i → taken pts a b u s i ≡ true
   unfolding taken
   taken_yes i h =
       and_both (not (eqb i a || (eqb i b || eqb i u))) _
       (ap not (or-neither _ _ (ne_eqb i a h.0.0) (or-neither _ _ (ne_eqb i b h.0.1.0) (ne_eqb i u h.0.1.1))))
-      (ap (samePlace s) (sym h.1) ∙ same_refl s)
+      (ap (same_place s) (sym h.1) ∙ same_refl s)
 
   taken_is : (i : ℕ) → taken pts a b u s i ≡ true → Other i
   unfolding taken
@@ -35,7 +35,7 @@ module _ (pts : List ℤ) (n a b u : ℕ) (s : Place) where
       let p = or-none (eqb i a) (eqb i b || eqb i u) (not-true _ (and_left _ _ t)) in
       let q = or-none (eqb i b) (eqb i u) p.1 in (
         (eqb-false i a p.0, (eqb-false i b q.0, eqb-false i u q.1)),
-        same_true _ _ (and_right (not (eqb i a || (eqb i b || eqb i u))) (samePlace s (placeAt pts i)) t),
+        same_true _ _ (and_right (not (eqb i a || (eqb i b || eqb i u))) (same_place s (place_at pts i)) t),
       )
 
   -- a candidate is not dropped where it is no such place

@@ -9,8 +9,8 @@ use lib.IntN.{ℤ}
 use lib.ListN.{length, get_or, set, length-set}
 use borrow.Author.Tests.{ltb-true, ltb-false, eqb-true, eqb-false}
 use Rattle.lists.proofs.TestLaws.{by}
-use Rattle.plane.specs.Flat.{placeAt}
-use Rattle.tree.specs.Table.{treeBound, Small}
+use Rattle.plane.specs.Flat.{place_at}
+use Rattle.tree.specs.Table.{tree_bound, Small}
 use Rattle.tree.proofs.SumLaws.{other, here as put-here}
 use Rattle.longest.proofs.LongestLaws.{small-set}
 use Rattle.bounds.specs.Carried.{Numbered}
@@ -20,15 +20,15 @@ last k i b f d = by (ltb k i) (λ t. d (ltb-true k i t)) (λ t. f (omega (arith,
 
 -- i points before are found among the first j of now
 pub record Finding (old : List ℤ) (m : ℕ) (pts : List ℤ) (n fresh i j : ℕ) (at : List ℕ) : Type 0 where
-  pub room : length at ≡ treeBound
-  pub small : Small treeBound at
+  pub room : length at ≡ tree_bound
+  pub small : Small tree_bound at
   pub few : (i ≤ m) × (j ≤ n)
   pub low : (k : ℕ) → k < i → get_or at k 0 < n
-  pub same : (k : ℕ) → k < i → placeAt pts (get_or at k 0) ≡ placeAt old k
+  pub same : (k : ℕ) → k < i → place_at pts (get_or at k 0) ≡ place_at old k
   pub known : (l : ℕ) → l < j → (l ≡ fresh → ⊥) → (k : ℕ) × ((k < i) × (get_or at k 0 ≡ l))
 
-module _ (old : List ℤ) (m : ℕ) (pts : List ℤ) (n : ℕ) (few : n ≤ treeBound) (fewer : m ≤ treeBound) where
-  pub finding-start : (at : List ℕ) → length at ≡ treeBound → Small treeBound at → Finding old m pts n n 0 0 at
+module _ (old : List ℤ) (m : ℕ) (pts : List ℤ) (n : ℕ) (few : n ≤ tree_bound) (fewer : m ≤ tree_bound) where
+  pub finding-start : (at : List ℕ) → length at ≡ tree_bound → Small tree_bound at → Finding old m pts n n 0 0 at
   finding-start at room small = record {
     room = room;
     small = small;
@@ -40,20 +40,20 @@ module _ (old : List ℤ) (m : ℕ) (pts : List ℤ) (n : ℕ) (few : n ≤ tree
 
   module _ (fresh i j : ℕ) (at : List ℕ) (g : Finding old m pts n fresh i j at) (h : j < n) where
     -- the next point before stands there
-    pub finding-next : i < m → placeAt pts j ≡ placeAt old i → Finding old m pts n fresh (i + 1) (j + 1) (set at i j)
+    pub finding-next : i < m → place_at pts j ≡ place_at old i → Finding old m pts n fresh (i + 1) (j + 1) (set at i j)
     finding-next l q =
         let at' = set at i j in
         let here : get_or at' i 0 ≡ j = put-here at i j (rw g.room (omega (arith, l, fewer))) in
         let old-at : (k : ℕ) → k < i → get_or at' k 0 ≡ get_or at k 0 = λ k b. other at i k j (λ t. let z : ⊥ = omega (arith, t, b) in z) in
         record {
           room = length-set at i j ∙ g.room;
-          small = small-set treeBound at i j (omega (arith, h, few)) g.small;
+          small = small-set tree_bound at i j (omega (arith, h, few)) g.small;
           few = (omega (arith, l), omega (arith, h));
           low = λ k b. last k i b (λ t. omega (arith, ap (λ (x : ℕ). get_or at' x 0) t, here, h))
               (λ t. omega (arith, old-at k t, g.low k t));
           same = λ k b. last k i b
-              (λ t. subst (λ (x : ℕ). placeAt pts (get_or at' x 0) ≡ placeAt old x) (sym t) (ap (placeAt pts) here ∙ q))
-              (λ t. ap (placeAt pts) (old-at k t) ∙ g.same k t);
+              (λ t. subst (λ (x : ℕ). place_at pts (get_or at' x 0) ≡ place_at old x) (sym t) (ap (place_at pts) here ∙ q))
+              (λ t. ap (place_at pts) (old-at k t) ∙ g.same k t);
           known = λ x b d.
               by (eqb x j) (λ t. (i, (omega arith, here ∙ sym (eqb-true x j t))))
               (λ t.

@@ -9,7 +9,6 @@
 --              Origins                     where the bounds of now are from
 --              Another                     L is another edge than that of the candidate
 --              Held, Was                   the rows of a tree and the bounds of its edges; the same of the tree before
---              From                        a tree before whose points are found in that of now
 --
 --   CarriedLaws  carried                   bounds stand from one tree to the next
 --   NoLonger (crate longest)               the law behind it

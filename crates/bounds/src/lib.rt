@@ -1,13 +1,13 @@
 // What a round leaves of the bounds of edges: which numbers the points of the tree before have in the tree of now, whether no longest edge
 // between two of them has become longer, and the bounds of the edges that are still there.
-ghost use Rattle.std.specs.Prelude.{◌≡◌, true, false, List, ℕ, ◌≤◌, ◌<◌, length, get_or};
+ghost use Rattle.std.specs.Prelude.{◌≡◌, true, List, ℕ, ◌≤◌, ◌<◌, length, get_or};
 ghost use Rattle.plane.specs.Cost.{cost};
-ghost use Rattle.plane.specs.Flat.{placeAt, macrosOf};
-ghost use Rattle.tree.specs.Table.{treeBound, pairBound, firstEnd, secondEnd, Small, Low, Within};
+ghost use Rattle.plane.specs.Flat.{place_at, macros_of};
+ghost use Rattle.tree.specs.Table.{tree_bound, pair_bound, first_end, second_end, Small, Low, Within};
 ghost use Rattle.longest.specs.Longest.{longest};
 ghost use Rattle.longest.specs.Hung.{ties, tall, Tied, Told, Hanging};
 ghost use Rattle.candidates.specs.Bounded.{Bounded};
-ghost use Rattle.bounds.specs.Carried.{Numbered, Calm, Origins, From, keyIn};
+ghost use Rattle.bounds.specs.Carried.{Numbered, Calm, Origins, Was, key_in};
 
 use candidates::candidate;
 use longest::UNKNOWN;
@@ -24,8 +24,8 @@ pub struct Found {
 
 // The i-th of m points stands at p.
 fn is_next(old: &[i32; NUMBERS], m: usize, i: usize, p: Place) -> bool
-    requires { m ≤ treeBound }
-    ensures { result ≡ true → (i < m) × (p ≡ placeAt old.now i) }
+    requires { m ≤ tree_bound }
+    ensures { result ≡ true → (i < m) × (p ≡ place_at old.now i) }
 {
     if i < m {
         return plane::is_same_place(p, tree::point_at(old, i));
@@ -41,8 +41,8 @@ pub fn numbers(
     n: usize,
     at: &mut [usize; POINTS],
 ) -> Found
-    requires { ((m ≤ treeBound) × (n ≤ treeBound)) × ((length at.old ≡ treeBound) × (Small treeBound at.old)) }
-    ensures at_len { (length at.new ≡ treeBound) × (Small treeBound at.new) }
+    requires { ((m ≤ tree_bound) × (n ≤ tree_bound)) × ((length at.old ≡ tree_bound) × (Small tree_bound at.old)) }
+    ensures small { Small tree_bound at.new }
     ensures numbered { result.all ≡ true → Numbered old.now m pts.now n result.fresh at.new }
 {
     let mut fresh = n;
@@ -72,7 +72,7 @@ pub fn numbers(
 
 // Whether x hangs on y.
 fn hangs(onto: &[usize; POINTS], turn: &[usize; POINTS], x: usize, y: usize) -> bool
-    requires { (x < treeBound) × (y < treeBound) }
+    requires { (x < tree_bound) × (y < tree_bound) }
     ensures { result ≡ true → (get_or onto.now x 0 ≡ y) × (get_or turn.now y 0 < get_or turn.now x 0) }
 {
     if onto[x] == y {
@@ -83,7 +83,7 @@ fn hangs(onto: &[usize; POINTS], turn: &[usize; POINTS], x: usize, y: usize) -> 
 
 // What the edge costs by which x hangs.
 fn link_cost(el: &[u64; POINTS], link: &[usize; POINTS], x: usize) -> u64
-    requires { (x < treeBound) × (Small treeBound link.now) }
+    requires { (x < tree_bound) × (Small tree_bound link.now) }
     ensures { result ≡ get_or el.now (get_or link.now x 0) 0 }
 {
     el[link[x]]
@@ -118,7 +118,7 @@ fn between(
     x: usize,
     y: usize,
 ) -> u64
-    requires tied { (Tied (ties onto.now link.now turn.now)) × ((x < treeBound) × (y < treeBound)) }
+    requires tied { (Tied (ties onto.now link.now turn.now)) × ((x < tree_bound) × (y < tree_bound)) }
     requires nonzero { (0 < get_or turn.now x 0) × (0 < get_or turn.now y 0) }
     ensures { (t : List ℕ) → Told el.now (ties onto.now link.now turn.now) t
         → result ≡ tall el.now t x y }
@@ -143,10 +143,10 @@ fn is_joined(
     x: usize,
     y: usize,
 ) -> bool
-    requires tied { (Tied (ties onto.now link.now turn.now)) × ((x < treeBound) × (y < treeBound)) }
+    requires tied { (Tied (ties onto.now link.now turn.now)) × ((x < tree_bound) × (y < tree_bound)) }
     requires nonzero { (0 < get_or turn.now x 0) × (0 < get_or turn.now y 0) }
     ensures { (t : List ℕ) → Told el.now (ties onto.now link.now turn.now) t
-        → result ≡ true → tall el.now t x y ≤ cost w (placeAt pts.now x) (placeAt pts.now y) }
+        → result ≡ true → tall el.now t x y ≤ cost w (place_at pts.now x) (place_at pts.now y) }
 {
     let d = plane::cost(w, tree::point_at(pts, x), tree::point_at(pts, y));
     between(el, onto, link, turn, x, y) <= d
@@ -164,10 +164,10 @@ pub fn is_calm(
     f: usize,
     at: &[usize; POINTS],
 ) -> bool
-    requires f_le_tree_bound { ((f ≤ treeBound) × (Small pairBound keys.now)) × ((Small treeBound at.now) × (Tied (ties onto.now link.now
+    requires f_le_tree_bound { ((f ≤ tree_bound) × (Small pair_bound keys.now)) × ((Small tree_bound at.now) × (Tied (ties onto.now link.now
         turn.now))) }
-    requires by_index { (k : ℕ) → k < f → (0 < get_or turn.now (get_or at.now (firstEnd (get_or keys.now k 0)) 0) 0)
-        × (0 < get_or turn.now (get_or at.now (secondEnd (get_or keys.now k 0)) 0) 0) }
+    requires by_index { (k : ℕ) → k < f → (0 < get_or turn.now (get_or at.now (first_end (get_or keys.now k 0)) 0) 0)
+        × (0 < get_or turn.now (get_or at.now (second_end (get_or keys.now k 0)) 0) 0) }
     ensures { (t : List ℕ) → Told el.now (ties onto.now link.now turn.now) t
         → result ≡ true → Calm w pts.now el.now t keys.now f at.now }
 {
@@ -187,8 +187,8 @@ pub fn is_calm(
 
 // The key that the edge k before has now.
 fn key_now(keys: &[usize; POINTS], at: &[usize; POINTS], k: usize) -> usize
-    requires { ((k < treeBound) × (Small pairBound keys.now)) × (Small treeBound at.now) }
-    ensures { result ≡ keyIn keys.now at.now k }
+    requires { ((k < tree_bound) × (Small pair_bound keys.now)) × (Small tree_bound at.now) }
+    ensures { result ≡ key_in keys.now at.now k }
 {
     let q = keys[k];
     at[q / POINTS] * POINTS + at[q % POINTS]
@@ -204,10 +204,10 @@ pub fn carry(
     most: u64,
     bound: &mut [u64; POINTS],
 )
-    requires f_le_tree_bound { ((f ≤ treeBound) × (e ≤ treeBound)) × ((Small pairBound before.now) × (Small treeBound at.now)) }
-    requires bound_len { length bound.old ≡ treeBound }
+    requires f_le_tree_bound { ((f ≤ tree_bound) × (e ≤ tree_bound)) × ((Small pair_bound before.now) × (Small tree_bound at.now)) }
+    requires bound_len { length bound.old ≡ tree_bound }
     ensures { (Origins before.now f at.now keys.now e most bound.old bound.new)
-        × (length bound.new ≡ treeBound) }
+        × (length bound.new ≡ tree_bound) }
 {
     let mut next = [most; POINTS];
     let mut j = 0;
@@ -227,70 +227,71 @@ pub fn carry(
     *bound = next;
 }
 
-// Whether the bounds of the tree before stand in that of now: all its points are found, and no longest edge has become
-// longer.
-pub fn stand(
+// The bounds of the tree of now from those of the tree before; whether they are had. They are not where a point before is not found, more
+// than one is new, or a longest edge may have become longer.
+fn carried(
     w: Weights,
-    all: bool,
+    old: &[i32; NUMBERS],
+    m: usize,
+    before: &[usize; POINTS],
+    f: usize,
     pts: &[i32; NUMBERS],
+    n: usize,
+    macros: &[i32],
+    keys: &[usize; POINTS],
+    e: usize,
     el: &[u64; POINTS],
+    most: u64,
     onto: &[usize; POINTS],
     link: &[usize; POINTS],
     turn: &[usize; POINTS],
-    before: &[usize; POINTS],
-    f: usize,
-    at: &[usize; POINTS],
+    bound: &mut [u64; POINTS],
 ) -> bool
-    requires small { (Small pairBound before.now) × ((Small treeBound at.now) ×
-        (Tied (ties onto.now link.now turn.now))) }
-    requires f_le_tree_bound { all ≡ true → (f ≤ treeBound) × ((k : ℕ) → k < f
-        → (0 < get_or turn.now (get_or at.now (firstEnd (get_or before.now k 0)) 0) 0)
-        × (0 < get_or turn.now (get_or at.now (secondEnd (get_or before.now k 0)) 0) 0)) }
-    ensures { (t : List ℕ) → Told el.now
-        (ties onto.now link.now turn.now) t
-        → result ≡ true → (all ≡ true)
-        × (Calm w pts.now el.now t before.now f at.now) }
+    requires n_le_tree_bound { ((n ≤ tree_bound) × (e ≤ tree_bound)) × ((Within n keys.now) × (Small pair_bound before.now)) }
+    requires low { (Low most el.now) × (Hanging keys.now el.now e n (ties onto.now link.now turn.now)) }
+    requires was { Was w (macros_of macros.now) old.now m before.now f bound.old }
+    ensures bound_len { length bound.new ≡ tree_bound }
+    ensures bounded { result ≡ true → Bounded w pts.now n (macros_of macros.now) keys.now e el.now
+        (longest keys.now el.now e n) n bound.new }
 {
-    if all {
-        return is_calm(w, pts, el, onto, link, turn, before, f, at);
+    let mut at = [0usize; POINTS];
+    let r = numbers(old, m, pts, n, &mut at);
+    if r.all {
+        if is_calm(w, pts, el, onto, link, turn, before, f, &at) {
+            carry(before, f, &at, keys, e, most, &mut *bound);
+            let fresh = r.fresh;
+            if fresh < n {
+                candidate::raise(
+                    w,
+                    pts,
+                    n,
+                    macros,
+                    keys,
+                    e,
+                    el,
+                    onto,
+                    link,
+                    turn,
+                    fresh,
+                    &mut *bound,
+                );
+                return true;
+            }
+            return true;
+        }
+        return false;
     }
     false
 }
 
-// The bounds of the e edges of now: where those before stand, what is left of them; otherwise most.
-pub fn keep(
-    stand: bool,
-    before: &[usize; POINTS],
-    f: usize,
-    at: &[usize; POINTS],
-    keys: &[usize; POINTS],
-    e: usize,
-    most: u64,
-    bound: &mut [u64; POINTS],
-)
-    requires e_le_tree_bound { (e ≤ treeBound) × ((Small pairBound before.now) × (Small treeBound at.now)) }
-    requires f_le_tree_bound { stand ≡ true → (f ≤ treeBound) × (length bound.old ≡ treeBound) }
-    ensures bound_len { length bound.new ≡ treeBound }
-    ensures origins { stand ≡ true → Origins before.now f at.now keys.now e most
-        bound.old
-        bound.new }
-    ensures k_after { stand ≡ false → (k : ℕ) → k < e → get_or bound.new k 0 ≡ most }
-{
-    if stand {
-        carry(before, f, at, keys, e, most, &mut *bound);
-        return;
-    }
-    *bound = [most; POINTS];
-}
-
-// The bounds of the edges on the tree: where those before stand, what is left of them, and the further point taken in.
+// The bounds of the tree of now: those of the tree before, where it is known and they stand; otherwise what no candidate gains more than.
 pub fn renew(
     w: Weights,
-    stand: bool,
+    known: bool,
+    old: &[i32; NUMBERS],
+    m: usize,
     before: &[usize; POINTS],
     f: usize,
-    at: &[usize; POINTS],
-    fresh: usize,
     pts: &[i32; NUMBERS],
     n: usize,
     macros: &[i32],
@@ -303,30 +304,35 @@ pub fn renew(
     turn: &[usize; POINTS],
     bound: &mut [u64; POINTS],
 )
-    requires n_le_tree_bound { ((n ≤ treeBound) × (e ≤ treeBound)) × ((Within n keys.now) × ((Small pairBound before.now)
-        × (Small treeBound at.now))) }
+    requires n_le_tree_bound { ((n ≤ tree_bound) × (e ≤ tree_bound)) × ((Within n keys.now) × (Small pair_bound before.now)) }
     requires low { (Low most el.now) × (Hanging keys.now el.now e n (ties onto.now link.now turn.now)) }
-    requires from { stand ≡ true → (From w (macrosOf macros.now) before.now f bound.old pts.now n fresh at.now)
-        × (Calm w pts.now el.now (longest keys.now el.now e n) before.now f at.now) }
-    ensures { Bounded w pts.now n (macrosOf macros.now) keys.now e el.now
+    requires was { known ≡ true → Was w (macros_of macros.now) old.now m before.now f bound.old }
+    ensures { Bounded w pts.now n (macros_of macros.now) keys.now e el.now
         (longest keys.now el.now e n) n bound.new }
 {
-    keep(stand, before, f, at, keys, e, most, &mut *bound);
-    if stand & (fresh < n) {
-        candidate::raise(
+    if known {
+        if carried(
             w,
+            old,
+            m,
+            before,
+            f,
             pts,
             n,
             macros,
             keys,
             e,
             el,
+            most,
             onto,
             link,
             turn,
-            fresh,
             &mut *bound,
-        );
+        ) {
+            return;
+        }
+        *bound = [most; POINTS];
         return;
     }
+    *bound = [most; POINTS];
 }

@@ -5,11 +5,11 @@ use mathlib.Core.List.{List, [], ◌∷◌, ◌++◌, map}
 use Prim.Native.Nat.{ℕ, ◌+◌, ◌-◌, ◌≤◌, ◌<◌}
 use native.Mathlib.Omega.{arith}
 use Rattle.lists.specs.Total.{total}
-use Rattle.forest.specs.Bounds.{pathBound}
+use Rattle.forest.specs.Bounds.{path_bound}
 use Rattle.forest.specs.Edges.{Graph, one, two, len, Fits}
 use Rattle.forest.specs.Labels.{Low}
-use Rattle.forest.specs.Parents.{Parents, way, wayLength, Falls}
-use Rattle.bridges.specs.Bridges.{path, pathLength}
+use Rattle.forest.specs.Parents.{Parents, way, way_length, Falls}
+use Rattle.bridges.specs.Bridges.{path, path_length}
 use Rattle.forest.proofs.WayLaws.{way-low}
 
 total-map : (f : ℕ → ℕ) (l m : List ℕ) → total (map f (l ++ m)) ≡ total (map f l) + total (map f m)
@@ -19,12 +19,12 @@ total-map f (x ∷ l) m = omega (arith, total-map f l m)
 
 -- a path is a way, the bridge and a way
 pub path-parts : (g : Graph) (fars : List ℕ) (p : Parents) (k : ℕ) →
-    pathLength g fars p k ≡ wayLength g.lengths fars p (one g k) + len g k + wayLength g.lengths fars p (two g k)
-unfolding pathLength path wayLength total
+    path_length g fars p k ≡ way_length g.lengths fars p (one g k) + len g k + way_length g.lengths fars p (two g k)
+unfolding path_length path way_length total
 path-parts g fars p k = omega (arith, total-map (len g) (way fars p (one g k)) (k ∷ way fars p (two g k)))
 
 pub path-low : (g : Graph) (fars : List ℕ) (p : Parents) → Fits g → Falls g.lengths fars p → Low fars → (k : ℕ) → k < g.count →
-    pathLength g fars p k ≤ pathBound
+    path_length g fars p k ≤ path_bound
 path-low g fars p fits f l k h =
     omega (
       arith,

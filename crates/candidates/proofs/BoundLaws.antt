@@ -16,8 +16,8 @@ use Rattle.candidates.specs.declared.Best.{Best}
 use Rattle.plane.specs.declared.Macro.{Macro}
 use Rattle.plane.specs.declared.Weights.{Weights}
 use Rattle.plane.specs.Cost.{cost}
-use Rattle.plane.specs.Flat.{placeAt}
-use Rattle.tree.specs.Table.{treeBound, firstEnd, secondEnd}
+use Rattle.plane.specs.Flat.{place_at}
+use Rattle.tree.specs.Table.{tree_bound, first_end, second_end}
 use Rattle.tree.proofs.SumLaws.{other, here as put-here}
 use Rattle.longest.specs.Longest.{shorter, cut_of}
 use Rattle.longest.specs.Hung.{Ties, turn_of, top_of, Told}
@@ -28,7 +28,7 @@ use Rattle.candidates.proofs.NearLaws.{turns-back}
 
 -- One candidate: refused, or weighed with what it costs and L's cost
 
-unfoldable pub step : Bool → ℕ → ℕ → Bool → ℕ → ℕ → ℕ → Best → Best
+pub step : Bool → ℕ → ℕ → Bool → ℕ → ℕ → ℕ → Best → Best
 step out d x ok k u l c = chosen out c (chosen (ltb (c.gain + d) x && ok) (best (x - d) k u l) c)
 
 -- the best so far of c and d, where d gains no less: it stays, or what comes is one for both
@@ -153,29 +153,29 @@ module _ (w : Weights) (pts : List ℤ) (n : ℕ) (ms : List Macro) (el top : Li
   abbrev pub out_of : ℕ → Bool
   out_of u = eqb u a || (eqb u b || eqb (cut_of el top a b u) k)
 
-  abbrev pub costOf : ℕ → ℕ
-  costOf u = cost w (middle_of pts a b u) (placeAt pts u)
+  abbrev pub cost_of : ℕ → ℕ
+  cost_of u = cost w (middle_of pts a b u) (place_at pts u)
 
-  abbrev pub longOf : ℕ → ℕ
-  longOf u = get_or el (cut_of el top a b u) 0
+  abbrev pub long_of : ℕ → ℕ
+  long_of u = get_or el (cut_of el top a b u) 0
 
   abbrev pub ok_of : ℕ → Bool
   ok_of u = allowed pts n ms a b u (middle_of pts a b u)
 
   pub offer-step : (u : ℕ) (c : Best) →
-      offer w pts n ms el top a b k u c ≡ step (out_of u) (costOf u) (longOf u) (ok_of u) k u (cut_of el top a b u) c
+      offer w pts n ms el top a b k u c ≡ step (out_of u) (cost_of u) (long_of u) (ok_of u) k u (cut_of el top a b u) c
   unfolding offer weighed step
   offer-step u c = refl
 
   pub offer-strict : (u : ℕ) → Strict (offer w pts n ms el top a b k u)
   unfolding offer weighed step
-  offer-strict u = one-strict (out_of u) (costOf u) (longOf u) (ok_of u) k u (cut_of el top a b u)
+  offer-strict u = one-strict (out_of u) (cost_of u) (long_of u) (ok_of u) k u (cut_of el top a b u)
 
 -- Bounds by edge
 
 module _ (w : Weights) (pts : List ℤ) (n : ℕ) (ms : List Macro) (keys : List ℕ) (e : ℕ) (el top : List ℕ) where
   abbrev of : ℕ → ℕ → Best → Best
-  of k = offer w pts n ms el top (firstEnd (get_or keys k 0)) (secondEnd (get_or keys k 0)) k
+  of k = offer w pts n ms el top (first_end (get_or keys k 0)) (second_end (get_or keys k 0)) k
 
   -- a best so far that gains no less than the bound stays
   pub bound-stays : (bound : List ℕ) → Bounded w pts n ms keys e el top n bound → (k : ℕ) → k < e → (c : Best) →
@@ -200,7 +200,7 @@ module _ (w : Weights) (pts : List ℤ) (n : ℕ) (ms : List Macro) (keys : List
     pub own_shut : Shut (of k) n n own.gain
     own_shut u h _ c g = own-bounds (of k) (offer-strict w pts n ms el top _ _ k) n own own_is u h c g
 
-  pub bounded-set : (bound : List ℕ) (k x : ℕ) → Bounded w pts n ms keys e el top n bound → k < e → e ≤ treeBound → Shut (of k) n n x →
+  pub bounded-set : (bound : List ℕ) (k x : ℕ) → Bounded w pts n ms keys e el top n bound → k < e → e ≤ tree_bound → Shut (of k) n n x →
       Bounded w pts n ms keys e el top n (set bound k x)
   bounded-set bound k x b h few s = record {
     room = length-set bound k x ∙ b.room;
@@ -213,7 +213,7 @@ module _ (w : Weights) (pts : List ℤ) (n : ℕ) (ms : List Macro) (keys : List
   -- Bounds while a point s is taken in: those before k count it
 
   pub record Raising (s k : ℕ) (bound : List ℕ) : Type 0 where
-    pub room : length bound ≡ treeBound
+    pub room : length bound ≡ tree_bound
     pub done : (j : ℕ) → j < k → j < e → Shut (of j) n n (get_or bound j 0)
     pub left : (j : ℕ) → k ≤ j → j < e → Shut (of j) n s (get_or bound j 0)
 
@@ -224,11 +224,11 @@ module _ (w : Weights) (pts : List ℤ) (n : ℕ) (ms : List Macro) (keys : List
     left = λ j l. b.shut j;
   }
 
-  pub raising-next : (s k : ℕ) (bound : List ℕ) (x : ℕ) → Raising s k bound → k < e → e ≤ treeBound →
+  pub raising-next : (s k : ℕ) (bound : List ℕ) (x : ℕ) → Raising s k bound → k < e → e ≤ tree_bound →
       x ≡ (of k s (best (get_or bound k 0) 0 0 0)).gain → Raising s (k + 1) (set bound k x)
   raising-next s k bound x r h few q =
       let at : k < length bound = rw r.room (omega (arith, h, few)) in
-      let strict = offer-strict w pts n ms el top (firstEnd (get_or keys k 0)) (secondEnd (get_or keys k 0)) k s in
+      let strict = offer-strict w pts n ms el top (first_end (get_or keys k 0)) (second_end (get_or keys k 0)) k s in
       let b = best (get_or bound k 0) 0 0 0 in
       let shut : Shut (of k) n n x = λ u i _ c g. by (eqb u s)
       (λ t. subst (λ (v : ℕ). of k v c ≡ c) (sym (eqb-true u s t))

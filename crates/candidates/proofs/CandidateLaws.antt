@@ -15,13 +15,13 @@ use Rattle.plane.specs.declared.Macro.{Macro}
 use Rattle.plane.specs.declared.Weights.{Weights}
 use Rattle.candidates.specs.declared.Best.{Best}
 use Rattle.plane.specs.Cost.{cost}
-use Rattle.plane.specs.Middle.{middlePlace}
-use Rattle.plane.specs.Flat.{placeAt}
+use Rattle.plane.specs.Middle.{middle_place}
+use Rattle.plane.specs.Flat.{place_at}
 use Rattle.tree.specs.Table.{Low}
 use Rattle.longest.specs.Longest.{cut_of}
-use Rattle.near.specs.Box.{boxOf, boxCost}
+use Rattle.near.specs.Box.{box_of, box_cost}
 use Rattle.near.proofs.BoxLaws.{box-cost}
-use Rattle.triples.specs.Triple.{allowed, mayGain}
+use Rattle.triples.specs.Triple.{allowed, may_gain}
 use Rattle.candidates.specs.Candidate.{best, chosen, weighed, offer}
 
 and-false : (a : Bool) → (a && false) ≡ false
@@ -30,10 +30,10 @@ and-false false = refl
 
 -- the places of a candidate and what metal from s to u costs, by their names
 pub record Spots (w : Weights) (pts : List ℤ) (a b u : ℕ) (p q r s : Place) (d : ℕ) : Type 0 where
-  pub one : p ≡ placeAt pts a
-  pub two : q ≡ placeAt pts b
-  pub three : r ≡ placeAt pts u
-  pub mid : s ≡ middlePlace p q r
+  pub one : p ≡ place_at pts a
+  pub two : q ≡ place_at pts b
+  pub three : r ≡ place_at pts u
+  pub mid : s ≡ middle_place p q r
   pub far : d ≡ cost w s r
 
 module _ (w : Weights) (pts : List ℤ) (n : ℕ) (ms : List Macro) (a b k u l x : ℕ) (c : Best) where
@@ -68,23 +68,23 @@ module _ (w : Weights) (pts : List ℤ) (n : ℕ) (ms : List Macro) (el top : Li
 
 -- a point so far from the box of an edge that L is not long enough, or no edge is
 module _ (w : Weights) (pts : List ℤ) (n : ℕ) (ms : List Macro) (el top : List ℕ) (a b k u : ℕ) (c : Best)
-    (m : Macro) (i : m ≡ boxOf (placeAt pts a) (placeAt pts b)) (r : Place) (h : r ≡ placeAt pts u) where
-  far-low : (l x : ℕ) → get_or el l 0 ≤ x → (t : Bool) → t ≡ mayGain w m r 0 c.gain x → t ≡ false →
+    (m : Macro) (i : m ≡ box_of (place_at pts a) (place_at pts b)) (r : Place) (h : r ≡ place_at pts u) where
+  far-low : (l x : ℕ) → get_or el l 0 ≤ x → (t : Bool) → t ≡ may_gain w m r 0 c.gain x → t ≡ false →
       c ≡ weighed w pts n ms a b k u l (get_or el l 0) c
-  unfolding mayGain
+  unfolding may_gain
   far-low l x v t j z =
-      let p = placeAt pts a in
-      let q = placeAt pts b in
-      let d : boxCost w m r ≡ cost w (middlePlace p q r) r = ap (λ (o : Macro). boxCost w o r) i ∙ box-cost w p q r in
-      let y : x ≤ c.gain + (boxCost w m r + 0) = ltb-false _ _ (sym j ∙ z) in
-      weigh-low w pts n ms a b k u l (get_or el l 0) c p q r (middlePlace p q r) (cost w (middlePlace p q r) r)
+      let p = place_at pts a in
+      let q = place_at pts b in
+      let d : box_cost w m r ≡ cost w (middle_place p q r) r = ap (λ (o : Macro). box_cost w o r) i ∙ box-cost w p q r in
+      let y : x ≤ c.gain + (box_cost w m r + 0) = ltb-false _ _ (sym j ∙ z) in
+      weigh-low w pts n ms a b k u l (get_or el l 0) c p q r (middle_place p q r) (cost w (middle_place p q r) r)
       (record { one = refl; two = refl; three = h; mid = refl; far = refl }) (omega (arith, v, y, d))
 
   pub offer-near : (l : ℕ) → l ≡ cut_of el top a b u → (eqb u a || (eqb u b || eqb l k)) ≡ false →
-      (t : Bool) → t ≡ mayGain w m r 0 c.gain (get_or el l 0) → t ≡ false → c ≡ offer w pts n ms el top a b k u c
+      (t : Bool) → t ≡ may_gain w m r 0 c.gain (get_or el l 0) → t ≡ false → c ≡ offer w pts n ms el top a b k u c
   offer-near l e o t j z = far-low l (get_or el l 0) (omega arith) t j z ∙ offer-is w pts n ms el top a b k u l c e o
 
-  pub offer-far : (x : ℕ) → Low x el → (t : Bool) → t ≡ mayGain w m r 0 c.gain x → t ≡ false →
+  pub offer-far : (x : ℕ) → Low x el → (t : Bool) → t ≡ may_gain w m r 0 c.gain x → t ≡ false →
       c ≡ offer w pts n ms el top a b k u c
   offer-far x low t j z =
       let l = cut_of el top a b u in

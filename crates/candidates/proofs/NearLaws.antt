@@ -14,12 +14,12 @@ use Rattle.lists.proofs.TestLaws.{by, and_left}
 use Rattle.plane.specs.declared.Macro.{Macro}
 use Rattle.plane.specs.declared.Weights.{Weights}
 use Rattle.plane.specs.Cost.{cost}
-use Rattle.plane.specs.Flat.{placeAt}
+use Rattle.plane.specs.Flat.{place_at}
 use Rattle.tree.specs.Table.{Low}
 use Rattle.longest.specs.Longest.{cut_of}
-use Rattle.near.specs.Box.{boxOf, boxCost}
+use Rattle.near.specs.Box.{box_of, box_cost}
 use Rattle.candidates.specs.declared.Best.{Best}
-use Rattle.triples.specs.Triple.{allowed, mayGain}
+use Rattle.triples.specs.Triple.{allowed, may_gain}
 use Rattle.candidates.specs.Candidate.{middle_of, weighed, offer}
 use Rattle.candidates.proofs.CandidateLaws.{offer-far}
 
@@ -55,7 +55,7 @@ module _ (w : Weights) (pts : List ℤ) (n : ℕ) (ms : List Macro) (a b k u : �
   weighed-more : (l x : ℕ) (c : Best) → c.gain ≤ (weighed w pts n ms a b k u l x c).gain
   unfolding weighed
   weighed-more l x c =
-      let d = cost w (middle_of pts a b u) (placeAt pts u) in
+      let d = cost w (middle_of pts a b u) (place_at pts u) in
       let s = allowed pts n ms a b u (middle_of pts a b u) in
       by (ltb (c.gain + d) x && s)
       (λ t. rw t (omega (arith, ltb-true (c.gain + d) x (and_left (ltb (c.gain + d) x) s t))))
@@ -69,9 +69,9 @@ module _ (w : Weights) (pts : List ℤ) (n : ℕ) (ms : List Macro) (a b k u : �
 
 -- so a point too far at the start of an edge is so for all of it
 module _ (w : Weights) (pts : List ℤ) (n : ℕ) (ms : List Macro) (el top : List ℕ) (a b k u : ℕ) (c : Best)
-    (m : Macro) (i : m ≡ boxOf (placeAt pts a) (placeAt pts b)) (most : ℕ) (low : Low most el) where
-  pub offer-beyond : (g : ℕ) → g ≤ c.gain → most - g ≤ boxCost w m (placeAt pts u) → offer w pts n ms el top a b k u c ≡ c
-  unfolding mayGain
+    (m : Macro) (i : m ≡ box_of (place_at pts a) (place_at pts b)) (most : ℕ) (low : Low most el) where
+  pub offer-beyond : (g : ℕ) → g ≤ c.gain → most - g ≤ box_cost w m (place_at pts u) → offer w pts n ms el top a b k u c ≡ c
+  unfolding may_gain
   offer-beyond g h f =
-      sym (offer-far w pts n ms el top a b k u c m i (placeAt pts u) refl most low false
-      (sym (le-ltb (c.gain + (boxCost w m (placeAt pts u) + 0)) most (omega (arith, h, f)))) refl)
+      sym (offer-far w pts n ms el top a b k u c m i (place_at pts u) refl most low false
+      (sym (le-ltb (c.gain + (box_cost w m (place_at pts u) + 0)) most (omega (arith, h, f)))) refl)

@@ -2,7 +2,7 @@
 use Rattle.std.specs.Prelude.{◌≡◌, List, ℕ, ◌≤◌, ◌<◌, ℤ, length, get_or}
 use Rattle.plane.specs.declared.Macro.{Macro}
 use Rattle.plane.specs.declared.Weights.{Weights}
-use Rattle.tree.specs.Table.{treeBound, firstEnd, secondEnd}
+use Rattle.tree.specs.Table.{tree_bound, first_end, second_end}
 use Rattle.candidates.specs.declared.Best.{Best}
 use Rattle.candidates.specs.Candidate.{offer}
 
@@ -13,6 +13,6 @@ Shut f n but b = (u : ℕ) → u < n → (u ≡ but → ⊥) → (c : Best) → 
 -- the bounds of e edges on the tree, for all points but one
 pub record Bounded (w : Weights) (pts : List ℤ) (n : ℕ) (ms : List Macro) (keys : List ℕ) (e : ℕ) (el top : List ℕ) (but : ℕ)
     (bound : List ℕ) : Type 0 where
-  pub room : length bound ≡ treeBound
+  pub room : length bound ≡ tree_bound
   pub shut : (k : ℕ) → k < e →
-      Shut (offer w pts n ms el top (firstEnd (get_or keys k 0)) (secondEnd (get_or keys k 0)) k) n but (get_or bound k 0)
+      Shut (offer w pts n ms el top (first_end (get_or keys k 0)) (second_end (get_or keys k 0)) k) n but (get_or bound k 0)

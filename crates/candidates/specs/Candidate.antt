@@ -4,11 +4,11 @@ use Rattle.plane.specs.declared.Place.{Place}
 use Rattle.plane.specs.declared.Macro.{Macro}
 use Rattle.plane.specs.declared.Weights.{Weights}
 use Rattle.plane.specs.Cost.{cost}
-use Rattle.plane.specs.Middle.{middlePlace}
-use Rattle.plane.specs.Flat.{placeAt}
+use Rattle.plane.specs.Middle.{middle_place}
+use Rattle.plane.specs.Flat.{place_at}
 use Rattle.candidates.specs.declared.Best.{Best}
 use Rattle.lists.specs.Turns.{turns}
-use Rattle.tree.specs.Table.{firstEnd, secondEnd}
+use Rattle.tree.specs.Table.{first_end, second_end}
 use Rattle.longest.specs.Longest.{cut_of, costs, longest}
 use Rattle.triples.specs.Triple.{allowed}
 
@@ -18,7 +18,7 @@ best g k u l = record { gain = g; edge = k; point = u; cut = l }
 
 -- R5: s, the middle of the three places axis by axis
 abbrev pub middle_of : List ℤ → ℕ → ℕ → ℕ → Place
-middle_of pts a b u = middlePlace (placeAt pts a) (placeAt pts b) (placeAt pts u)
+middle_of pts a b u = middle_place (place_at pts a) (place_at pts b) (place_at pts u)
 
 abbrev pub chosen : Bool → Best → Best → Best
 chosen true new old = new
@@ -28,7 +28,7 @@ chosen false new old = old
 -- takes the place of the best so far where its gain is greater and it is allowed.
 unfoldable pub weighed : Weights → List ℤ → ℕ → List Macro → ℕ → ℕ → ℕ → ℕ → ℕ → ℕ → Best → Best
 weighed w pts n ms a b k u l x c =
-    let d = cost w (middle_of pts a b u) (placeAt pts u) in
+    let d = cost w (middle_of pts a b u) (place_at pts u) in
     chosen (ltb (c.gain + d) x && allowed pts n ms a b u (middle_of pts a b u)) (best (x - d) k u l) c
 
 -- R3: u is neither a nor b. That L is another edge than (a, b) is tested too; in a tree it always is.
@@ -39,7 +39,7 @@ offer w pts n ms el top a b k u c =
 
 -- edge k with all points
 unfoldable pub offers : Weights → List ℤ → ℕ → List Macro → List ℕ → List ℕ → List ℕ → ℕ → Best → Best
-offers w pts n ms keys el top k c = turns (offer w pts n ms el top (firstEnd (get_or keys k 0)) (secondEnd (get_or keys k 0)) k) 0 n c
+offers w pts n ms keys el top k c = turns (offer w pts n ms el top (first_end (get_or keys k 0)) (second_end (get_or keys k 0)) k) 0 n c
 
 -- R10: a round takes the greatest gain above zero, then the smallest edge, then the smallest point. Edges and points come in order, so the
 -- first of the greatest stays.

@@ -7,7 +7,7 @@
 -- L is that of crate longest; what a candidate must be stands in crate triples.
 -- Machines take the weights first and then what they need of the net.
 --
---   Candidate  middleOf                    s
+--   Candidate  middle_of                    s
 --              weighed, offer, search      the best candidate so far with one more; the one that a round takes
 --              found                       the same from the tables of a tree
 --   Taken      Taken                       what is known of a candidate that a round takes

@@ -1,11 +1,11 @@
 // Candidates, and the one that a round takes.
 ghost use Rattle.std.specs.Prelude.{◌≡◌, List, ℕ, ◌*◌, ◌≤◌, ◌<◌, length, get_or};
-ghost use Rattle.plane.specs.Flat.{placeAt, macrosOf};
+ghost use Rattle.plane.specs.Flat.{place_at, macros_of};
 ghost use Rattle.plane.specs.Rank.{InOrder};
-ghost use Rattle.tree.specs.Table.{treeBound, firstEnd, secondEnd, Low, Within};
+ghost use Rattle.tree.specs.Table.{tree_bound, first_end, second_end, Low, Within};
 ghost use Rattle.longest.specs.Longest.{cut_of, longest};
 ghost use Rattle.longest.specs.Hung.{ties, top_of, Tied, Told, Begun, Row, Hanging};
-ghost use Rattle.near.specs.Box.{boxOf};
+ghost use Rattle.near.specs.Box.{box_of};
 ghost use Rattle.candidates.specs.Candidate.{best, weighed, offer, offers, search};
 ghost use Rattle.candidates.specs.Bounded.{Bounded};
 
@@ -15,7 +15,7 @@ use plane::{Macro, Weights};
 use tree::{NUMBERS, POINTS};
 
 // The best so far, or the candidate of edge k from a to b and the point u, whose L is l. What is clear is asked last: it looks at every
-// macro, and first at that of number `by`, which blocked last. No answer hangs on it.
+// macro.
 fn weigh(
     w: Weights,
     pts: &[i32; NUMBERS],
@@ -27,11 +27,10 @@ fn weigh(
     u: usize,
     l: usize,
     long: u64,
-    by: &mut usize,
     c: Best,
 ) -> Best
-    requires { ((a < treeBound) × (b < treeBound)) × ((u < treeBound) × (n ≤ treeBound)) }
-    ensures { result ≡ weighed w pts.now n (macrosOf macros.now) a b k u l long c }
+    requires { ((a < tree_bound) × (b < tree_bound)) × ((u < tree_bound) × (n ≤ tree_bound)) }
+    ensures { result ≡ weighed w pts.now n (macros_of macros.now) a b k u l long c }
 {
     let r = tree::point_at(pts, u);
     let s = plane::middle_place(tree::point_at(pts, a), tree::point_at(pts, b), r);
@@ -43,7 +42,7 @@ fn weigh(
     if g <= c.gain {
         return c;
     }
-    if triples::is_allowed(pts, n, macros, a, b, u, s, &mut *by) {
+    if triples::is_allowed(pts, n, macros, a, b, u, s) {
         return Best {
             gain: g,
             edge: k,
@@ -67,20 +66,19 @@ fn offer(
     k: usize,
     u: usize,
     l: usize,
-    by: &mut usize,
     c: Best,
 ) -> Best
-    requires a_lt_tree_bound { ((a < treeBound) × (b < treeBound)) × ((u < treeBound) × ((l < treeBound) × (n ≤ treeBound))) }
-    requires m_value { m ≡ boxOf (placeAt pts.now a) (placeAt pts.now b) }
+    requires a_lt_tree_bound { ((a < tree_bound) × (b < tree_bound)) × ((u < tree_bound) × ((l < tree_bound) × (n ≤ tree_bound))) }
+    requires m_value { m ≡ box_of (place_at pts.now a) (place_at pts.now b) }
     ensures { (t : List ℕ) → l ≡ cut_of el.now t a b u
-        → result ≡ offer w pts.now n (macrosOf macros.now) el.now t a b k u c }
+        → result ≡ offer w pts.now n (macros_of macros.now) el.now t a b k u c }
 {
     if (u == a) | ((u == b) | (l == k)) {
         return c;
     }
     let long = el[l];
     if triples::may_gain(w, m, tree::point_at(pts, u), 0, c.gain, long) {
-        return weigh(w, pts, n, macros, a, b, k, u, l, long, &mut *by, c);
+        return weigh(w, pts, n, macros, a, b, k, u, l, long, c);
     }
     c
 }
@@ -98,13 +96,12 @@ fn offers(
     link: &[usize; POINTS],
     turn: &[usize; POINTS],
     k: usize,
-    by: &mut usize,
     c: Best,
 ) -> Best
-    requires k_lt_e { ((k < e) × (e ≤ treeBound)) × ((n ≤ treeBound) × (Within n keys.now)) }
+    requires k_lt_e { ((k < e) × (e ≤ tree_bound)) × ((n ≤ tree_bound) × (Within n keys.now)) }
     requires n_in_bounds { (n * 2 ≤ length pts.now) × (InOrder pts.now n) }
     requires low { (Low most el.now) × (Hanging keys.now el.now e n (ties onto.now link.now turn.now)) }
-    ensures { result ≡ offers w pts.now n (macrosOf macros.now) keys.now el.now
+    ensures { result ≡ offers w pts.now n (macros_of macros.now) keys.now el.now
         (longest keys.now el.now e n) k c }
 {
     let a = keys[k] / POINTS;
@@ -123,7 +120,7 @@ fn offers(
         u += 1;
         if triples::may_gain(w, m, tree::point_at(pts, at), 0, found.gain, most) {
             let l = longest::cut_at(el, onto, link, turn, at, &mut row);
-            found = offer(w, pts, n, macros, el, m, a, b, k, at, l, &mut *by, found);
+            found = offer(w, pts, n, macros, el, m, a, b, k, at, l, found);
         }
     }
     found
@@ -144,16 +141,15 @@ fn ask(
     turn: &[usize; POINTS],
     bound: &mut [u64; POINTS],
     k: usize,
-    by: &mut usize,
     c: Best,
 ) -> Best
-    requires k_lt_e { ((k < e) × (e ≤ treeBound)) × ((n ≤ treeBound) × (Within n keys.now)) }
+    requires k_lt_e { ((k < e) × (e ≤ tree_bound)) × ((n ≤ tree_bound) × (Within n keys.now)) }
     requires n_in_bounds { (n * 2 ≤ length pts.now) × (InOrder pts.now n) }
     requires low { (Low most el.now) × (Hanging keys.now el.now e n (ties onto.now link.now turn.now)) }
-    requires bounded { Bounded w pts.now n (macrosOf macros.now) keys.now e el.now (longest keys.now el.now e n) n bound.old }
-    ensures value { result ≡ offers w pts.now n (macrosOf macros.now) keys.now el.now
+    requires bounded { Bounded w pts.now n (macros_of macros.now) keys.now e el.now (longest keys.now el.now e n) n bound.old }
+    ensures value { result ≡ offers w pts.now n (macros_of macros.now) keys.now el.now
         (longest keys.now el.now e n) k c }
-    ensures bounded_2 { Bounded w pts.now n (macrosOf macros.now) keys.now e el.now
+    ensures bounded_2 { Bounded w pts.now n (macros_of macros.now) keys.now e el.now
         (longest keys.now el.now e n) n bound.new }
 {
     if bound[k] <= c.gain {
@@ -172,7 +168,6 @@ fn ask(
         link,
         turn,
         k,
-        &mut *by,
         Best {
             gain: 0,
             edge: 0,
@@ -201,18 +196,17 @@ fn raised(
     s: usize,
     k: usize,
     row: &mut [u16; POINTS],
-    by: &mut usize,
     g: u64,
 ) -> u64
-    requires k_lt_tree_bound { ((k < treeBound) × (s < n)) × ((n ≤ treeBound) × (Within n keys.now)) }
+    requires k_lt_tree_bound { ((k < tree_bound) × (s < n)) × ((n ≤ tree_bound) × (Within n keys.now)) }
     requires tied { (Tied (ties onto.now link.now turn.now)) × ((v : ℕ) → v < n → 0 < get_or turn.now v 0) }
     requires begun { Begun (ties onto.now link.now turn.now) row.old }
     ensures begun_2 { Begun (ties onto.now link.now turn.now) row.new }
     ensures by_index { (t : List ℕ) → Told el.now (ties onto.now link.now turn.now) t
         → Row el.now (ties onto.now link.now turn.now) (top_of t s) row.old
         → (Row el.now (ties onto.now link.now turn.now) (top_of t s) row.new)
-        × (result ≡ (offer w pts.now n (macrosOf macros.now) el.now t
-        (firstEnd (get_or keys.now k 0)) (secondEnd (get_or keys.now k 0)) k s (best g 0 0 0)).gain) }
+        × (result ≡ (offer w pts.now n (macros_of macros.now) el.now t
+        (first_end (get_or keys.now k 0)) (second_end (get_or keys.now k 0)) k s (best g 0 0 0)).gain) }
 {
     let a = keys[k] / POINTS;
     let b = keys[k] % POINTS;
@@ -232,7 +226,6 @@ fn raised(
         k,
         s,
         l,
-        &mut *by,
         Best {
             gain: g,
             edge: 0,
@@ -258,19 +251,18 @@ pub fn raise(
     s: usize,
     bound: &mut [u64; POINTS],
 )
-    requires e_le_tree_bound { ((e ≤ treeBound) × (s < n)) × ((n ≤ treeBound) × (Within n keys.now)) }
+    requires e_le_tree_bound { ((e ≤ tree_bound) × (s < n)) × ((n ≤ tree_bound) × (Within n keys.now)) }
     requires hanging { Hanging keys.now el.now e n (ties onto.now link.now turn.now) }
-    requires bounded { Bounded w pts.now n (macrosOf macros.now) keys.now e el.now (longest keys.now el.now e n) s bound.old }
-    ensures { Bounded w pts.now n (macrosOf macros.now) keys.now e el.now
+    requires bounded { Bounded w pts.now n (macros_of macros.now) keys.now e el.now (longest keys.now el.now e n) s bound.old }
+    ensures { Bounded w pts.now n (macros_of macros.now) keys.now e el.now
         (longest keys.now el.now e n) n bound.new }
 {
     let mut tops = [UNKNOWN; POINTS];
     longest::row_of(el, onto, link, turn, s, &mut tops);
-    let mut by = 0;
     let mut k = 0;
     while k < e {
         bound[k] = raised(
-            w, pts, n, macros, keys, el, onto, link, turn, s, k, &mut tops, &mut by, bound[k],
+            w, pts, n, macros, keys, el, onto, link, turn, s, k, &mut tops, bound[k],
         );
         k += 1;
     }
@@ -291,13 +283,13 @@ pub fn search(
     turn: &[usize; POINTS],
     bound: &mut [u64; POINTS],
 ) -> Best
-    requires e_le_tree_bound { (e ≤ treeBound) × ((n ≤ treeBound) × (Within n keys.now)) }
+    requires e_le_tree_bound { (e ≤ tree_bound) × ((n ≤ tree_bound) × (Within n keys.now)) }
     requires n_in_bounds { (n * 2 ≤ length pts.now) × (InOrder pts.now n) }
     requires low { (Low most el.now) × (Hanging keys.now el.now e n (ties onto.now link.now turn.now)) }
-    requires bounded { Bounded w pts.now n (macrosOf macros.now) keys.now e el.now (longest keys.now el.now e n) n bound.old }
-    ensures value { result ≡ search w pts.now n (macrosOf macros.now) keys.now e el.now
+    requires bounded { Bounded w pts.now n (macros_of macros.now) keys.now e el.now (longest keys.now el.now e n) n bound.old }
+    ensures value { result ≡ search w pts.now n (macros_of macros.now) keys.now e el.now
         (longest keys.now el.now e n) }
-    ensures bounded_2 { Bounded w pts.now n (macrosOf macros.now) keys.now e el.now
+    ensures bounded_2 { Bounded w pts.now n (macros_of macros.now) keys.now e el.now
         (longest keys.now el.now e n) n bound.new }
 {
     let mut found = Best {
@@ -306,7 +298,6 @@ pub fn search(
         point: 0,
         cut: 0,
     };
-    let mut by = 0;
     let mut k = 0;
     while k < e {
         found = ask(
@@ -323,7 +314,6 @@ pub fn search(
             turn,
             &mut *bound,
             k,
-            &mut by,
             found,
         );
         k += 1;

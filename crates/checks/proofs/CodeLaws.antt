@@ -7,17 +7,17 @@ use Prim.Native.Nat.{ℕ}
 use borrow.Author.Tests.{eqb-false}
 use lib.Dec.{eqb}
 use lib.IntN.{ℤ}
-use Rattle.lists.specs.Any.{any, anyTwo}
+use Rattle.lists.specs.Any.{any, any_two}
 use Rattle.lent.specs.Told.{Told, refused, given, code}
-use Rattle.plane.specs.Place.{samePlace}
-use Rattle.plane.specs.Macro.{interiorsMeet}
-use Rattle.plane.specs.Flat.{macrosOf}
+use Rattle.plane.specs.Place.{same_place}
+use Rattle.plane.specs.Macro.{interiors_meet}
+use Rattle.plane.specs.Flat.{macros_of}
 use Rattle.net.specs.declared.Weighing.{Weighing}
 use Rattle.net.specs.declared.Net.{Net as Counts}
-use Rattle.net.specs.Pins.{pinPlaces}
-use Rattle.net.specs.Counts.{countsOf}
-use Rattle.net.specs.Tests.{pinsMiscounted, macrosMiscounted, outOfRange, pinsOutOfRange, notUpright, insideAny, weightsWrong}
-use Rattle.checks.specs.Check.{checked, checkedWithin}
+use Rattle.net.specs.Pins.{pin_places}
+use Rattle.net.specs.Counts.{counts_of}
+use Rattle.net.specs.Tests.{pins_miscounted, macros_miscounted, out_of_range, pins_out_of_range, not_upright, inside_any, weights_wrong}
+use Rattle.checks.specs.Check.{checked, checked_within}
 
 no_number : (net : Counts) (n : ℕ) → eqb 0 n ≡ false → code (given net) ≡ n → ⊥
 unfolding code
@@ -34,14 +34,14 @@ another true m n next d f = one_number m n d
 another false m n next d f = f
 
 -- C18: weights that pass are never what a net is refused for
-pub not-18 : (w : Weighing) (pins macros : List ℤ) → weightsWrong w ≡ false → code (checked w pins macros) ≡ 18 → ⊥
-unfolding checkedWithin
+pub not-18 : (w : Weighing) (pins macros : List ℤ) → weights_wrong w ≡ false → code (checked w pins macros) ≡ 18 → ⊥
+unfolding checked_within
 not-18 w pins macros e =
     rw e
-    (another (pinsMiscounted pins) 11 18 _ refl
-    (another (macrosMiscounted macros) 12 18 _ refl
-    (another (pinsOutOfRange pins || any outOfRange macros) 13 18 _ refl
-    (another (any notUpright (macrosOf macros)) 14 18 _ refl
-    (another (anyTwo samePlace (pinPlaces pins)) 15 18 _ refl
-    (another (anyTwo interiorsMeet (macrosOf macros)) 16 18 _ refl
-    (another (any (insideAny (macrosOf macros)) (pinPlaces pins)) 17 18 _ refl (no_number (countsOf w pins macros) 18 refl))))))))
+    (another (pins_miscounted pins) 11 18 _ refl
+    (another (macros_miscounted macros) 12 18 _ refl
+    (another (pins_out_of_range pins || any out_of_range macros) 13 18 _ refl
+    (another (any not_upright (macros_of macros)) 14 18 _ refl
+    (another (any_two same_place (pin_places pins)) 15 18 _ refl
+    (another (any_two interiors_meet (macros_of macros)) 16 18 _ refl
+    (another (any (inside_any (macros_of macros)) (pin_places pins)) 17 18 _ refl (no_number (counts_of w pins macros) 18 refl))))))))

@@ -4,6 +4,6 @@
 -- for what each asks. Definitions speak the numbers of the rules; the code speaks enums, and `told` translates.
 --
 --   Check      checked w pins macros                     the first number that applies, or what is given
---              checkedWithin b ..                        the same within any bounds, of which it is an instance
+--              checked_within b ..                        the same within any bounds, of which it is an instance
 --              told r                                    what the code's answer says
 pub mod Check

@@ -1,11 +1,11 @@
 // The check of a net: each test of crate net over the whole net, in the order of the rules.
 ghost use Rattle.std.specs.Prelude.{◌≡◌, drop};
-ghost use Rattle.lists.specs.Any.{any, anyTwo};
-ghost use Rattle.plane.specs.Place.{samePlace};
-ghost use Rattle.plane.specs.Macro.{interiorsMeet};
-ghost use Rattle.plane.specs.Flat.{macrosOf};
-ghost use Rattle.net.specs.Pins.{pinPlaces, pinLoads};
-ghost use Rattle.net.specs.Tests.{outOfRange, placeOut, noLoad, pinsOutOfRange, notUpright, insideAny};
+ghost use Rattle.lists.specs.Any.{any, any_two};
+ghost use Rattle.plane.specs.Place.{same_place};
+ghost use Rattle.plane.specs.Macro.{interiors_meet};
+ghost use Rattle.plane.specs.Flat.{macros_of};
+ghost use Rattle.net.specs.Pins.{pin_places, pin_loads};
+ghost use Rattle.net.specs.Tests.{out_of_range, place_out, no_load, pins_out_of_range, not_upright, inside_any};
 ghost use Rattle.checks.specs.Check.{checked, told};
 
 use net::{Net, Refusal, Weighing};
@@ -20,7 +20,7 @@ pub enum Checked {
 
 // Whether one of the numbers is farther from 0 than coordinates go.
 pub fn any_out_of_range(numbers: &[i32]) -> bool
-    ensures { result ≡ any outOfRange numbers.now }
+    ensures { result ≡ any out_of_range numbers.now }
 {
     let mut i = 0;
     while i < numbers.len() {
@@ -33,7 +33,7 @@ pub fn any_out_of_range(numbers: &[i32]) -> bool
 }
 
 fn any_place_out(pins: &[i32]) -> bool
-    ensures { result ≡ any placeOut (pinPlaces pins.now) }
+    ensures { result ≡ any place_out (pin_places pins.now) }
 {
     let m = net::pin_count(pins);
     let mut i = 0;
@@ -47,7 +47,7 @@ fn any_place_out(pins: &[i32]) -> bool
 }
 
 fn any_no_load(pins: &[i32]) -> bool
-    ensures { result ≡ any noLoad (pinLoads pins.now) }
+    ensures { result ≡ any no_load (pin_loads pins.now) }
 {
     let m = net::pin_count(pins);
     let mut i = 0;
@@ -62,13 +62,13 @@ fn any_no_load(pins: &[i32]) -> bool
 
 // Whether a pin's place or its load is out of range.
 fn are_pins_out(pins: &[i32]) -> bool
-    ensures { result ≡ pinsOutOfRange pins.now }
+    ensures { result ≡ pins_out_of_range pins.now }
 {
     any_place_out(pins) | any_no_load(pins)
 }
 
 fn any_not_upright(macros: &[i32]) -> bool
-    ensures { result ≡ any notUpright (macrosOf macros.now) }
+    ensures { result ≡ any not_upright (macros_of macros.now) }
 {
     let k = net::macro_count(macros);
     let mut i = 0;
@@ -83,7 +83,7 @@ fn any_not_upright(macros: &[i32]) -> bool
 
 // Whether p is among the pins from the one numbered `from` on.
 pub fn is_among(p: Place, pins: &[i32], from: usize) -> bool
-    ensures { result ≡ any (samePlace p) (drop from (pinPlaces pins.now)) }
+    ensures { result ≡ any (same_place p) (drop from (pin_places pins.now)) }
 {
     let m = net::pin_count(pins);
     let mut j = from;
@@ -97,7 +97,7 @@ pub fn is_among(p: Place, pins: &[i32], from: usize) -> bool
 }
 
 fn any_same_place(pins: &[i32]) -> bool
-    ensures { result ≡ anyTwo samePlace (pinPlaces pins.now) }
+    ensures { result ≡ any_two same_place (pin_places pins.now) }
 {
     let m = net::pin_count(pins);
     let mut i = 0;
@@ -112,7 +112,7 @@ fn any_same_place(pins: &[i32]) -> bool
 
 // Whether two macros' interiors meet. The search for an overlap ends at the first pair found.
 fn any_overlap(macros: &[i32]) -> bool
-    ensures { result ≡ anyTwo interiorsMeet (macrosOf macros.now) }
+    ensures { result ≡ any_two interiors_meet (macros_of macros.now) }
 {
     let k = net::macro_count(macros);
     let mut found = false;
@@ -134,7 +134,7 @@ fn any_overlap(macros: &[i32]) -> bool
 
 // Whether a pin lies in an interior: the box of a pin and itself meets it.
 fn any_pin_inside(pins: &[i32], macros: &[i32]) -> bool
-    ensures { result ≡ any (insideAny (macrosOf macros.now)) (pinPlaces pins.now) }
+    ensures { result ≡ any (inside_any (macros_of macros.now)) (pin_places pins.now) }
 {
     let m = net::pin_count(pins);
     let mut i = 0;

@@ -11,7 +11,7 @@ use Rattle.lists.proofs.TestLaws.{by}
 use Rattle.lists.proofs.AnyLaws.{any-hit}
 use Rattle.plane.specs.declared.Place.{Place}
 use Rattle.plane.specs.Macro.{meets}
-use Rattle.plane.specs.Flat.{macrosOf, macroAt}
+use Rattle.plane.specs.Flat.{macros_of, macro_at}
 use Rattle.plane.proofs.FlatLaws.{macros-next}
 
 -- what is found in the rest of a list is in the list
@@ -21,6 +21,6 @@ any_left f zero xs e = e
 any_left f (suc i) [] e = e
 any_left f (suc i) (x ∷ xs) e = by (f x) (λ t. rw t refl) (λ t. rw t (any_left f i xs e))
 
-pub one-meets : (a b : Place) (s : List ℤ) (i : ℕ) → i * 4 + 4 ≤ length s → meets a b (macroAt s i) ≡ true
-    → any (meets a b) (macrosOf s) ≡ true
-one-meets a b s i h e = any_left (meets a b) i (macrosOf s) (any-hit _ _ _ _ (macros-next s i h) e)
+pub one-meets : (a b : Place) (s : List ℤ) (i : ℕ) → i * 4 + 4 ≤ length s → meets a b (macro_at s i) ≡ true
+    → any (meets a b) (macros_of s) ≡ true
+one-meets a b s i h e = any_left (meets a b) i (macros_of s) (any-hit _ _ _ _ (macros-next s i h) e)

@@ -2,15 +2,15 @@
 // other among the macros of a flat list.
 ghost use Rattle.std.specs.Prelude.{◌≡◌, true, ◌+◌, ◌*◌, ◌≤◌, length};
 ghost use Rattle.lists.specs.Any.{any};
-ghost use Rattle.plane.specs.Macro.{spanMeets, meets, openSpansMeet, interiorsMeet, clear};
-ghost use Rattle.plane.specs.Flat.{macrosOf, macroAt};
+ghost use Rattle.plane.specs.Macro.{span_meets, meets, open_spans_meet, interiors_meet, clear};
+ghost use Rattle.plane.specs.Flat.{macros_of, macro_at};
 
 use plane::{Macro, Place};
 
 // The i-th macro of a flat list.
 pub fn macro_at(macros: &[i32], i: usize) -> Macro
     requires { i * 4 + 4 ≤ length macros.now }
-    ensures { result ≡ macroAt macros.now i }
+    ensures { result ≡ macro_at macros.now i }
 {
     let k = i * 4;
     Macro {
@@ -23,7 +23,7 @@ pub fn macro_at(macros: &[i32], i: usize) -> Macro
 
 // The closed span of a and b meets the open one between from and to.
 fn span_meets(a: i32, b: i32, from: i32, to: i32) -> bool
-    ensures { result ≡ spanMeets a b from to }
+    ensures { result ≡ span_meets a b from to }
 {
     plane::smaller(a, b) < to && from < plane::greater(a, b)
 }
@@ -37,14 +37,14 @@ pub fn box_meets(a: Place, b: Place, m: Macro) -> bool
 
 // The open spans from a to b and from c to d meet.
 fn open_spans_meet(a: i32, b: i32, c: i32, d: i32) -> bool
-    ensures { result ≡ openSpansMeet a b c d }
+    ensures { result ≡ open_spans_meet a b c d }
 {
     plane::greater(a, c) < plane::smaller(b, d)
 }
 
 // The interiors of m and n meet.
 pub fn interiors_meet(m: Macro, n: Macro) -> bool
-    ensures { result ≡ interiorsMeet m n }
+    ensures { result ≡ interiors_meet m n }
 {
     open_spans_meet(m.left, m.right, n.left, n.right)
         && open_spans_meet(m.bottom, m.top, n.bottom, n.top)
@@ -59,7 +59,7 @@ pub struct Sight {
 
 // The i-th macro is one that blocks.
 fn is_blocked(a: Place, b: Place, macros: &[i32], i: usize) -> bool
-    ensures { result ≡ true → any (meets a b) (macrosOf macros.now) ≡ true }
+    ensures { result ≡ true → any (meets a b) (macros_of macros.now) ≡ true }
 {
     if i < macros.len() / 4 {
         return box_meets(a, b, macro_at(macros, i));
@@ -69,7 +69,7 @@ fn is_blocked(a: Place, b: Place, macros: &[i32], i: usize) -> bool
 
 // All macros are asked. Where none blocks, the answer names `by`.
 fn look_around(a: Place, b: Place, macros: &[i32], by: usize) -> Sight
-    ensures { result.free ≡ clear a b (macrosOf macros.now) }
+    ensures { result.free ≡ clear a b (macros_of macros.now) }
 {
     let k = macros.len() / 4;
     let mut i = 0;
@@ -84,7 +84,7 @@ fn look_around(a: Place, b: Place, macros: &[i32], by: usize) -> Sight
 
 // The box of a and b meets no macro's interior.
 pub fn is_clear(a: Place, b: Place, macros: &[i32]) -> bool
-    ensures { result ≡ clear a b (macrosOf macros.now) }
+    ensures { result ≡ clear a b (macros_of macros.now) }
 {
     let sight = look_around(a, b, macros, 0);
     sight.free
@@ -92,7 +92,7 @@ pub fn is_clear(a: Place, b: Place, macros: &[i32]) -> bool
 
 // What `is_clear` says, whatever `by` is: the macro of that number is asked first, since what blocked once often blocks again.
 pub fn look(a: Place, b: Place, macros: &[i32], by: usize) -> Sight
-    ensures { result.free ≡ clear a b (macrosOf macros.now) }
+    ensures { result.free ≡ clear a b (macros_of macros.now) }
 {
     if is_blocked(a, b, macros, by) {
         return Sight {

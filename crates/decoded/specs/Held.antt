@@ -4,91 +4,91 @@ use Rattle.std.specs.Prelude.{◌≡◌, Bool, not, cond, ◌||◌, List, [], �
 use Rattle.lists.specs.Any.{any}
 use Rattle.plane.specs.declared.Weights.{Weights}
 use Rattle.plane.specs.Flat.{places_of}
-use Rattle.net.specs.Bounds.{Bounds, today, weightBound, pinWidth, macroWidth}
-use Rattle.net.specs.Pins.{flatPins}
-use Rattle.blocks.specs.Sizes.{blockWords, blockBytes, firstEntry, pinCountWord, macroCountWord, firstWeightWord, secondWeightWord}
-use Rattle.blocks.specs.Sizes.{perBlock, loadedKind, placeWidth, blocksFor, blockCount, fileBlocksWithin, fileBound}
-use Rattle.blocks.specs.Words.{words_of, coordinate, weightIn}
-use Rattle.blocks.specs.Sums.{wrongSums}
+use Rattle.net.specs.Bounds.{Bounds, today, weight_bound, pin_width, macro_width}
+use Rattle.net.specs.Pins.{flat_pins}
+use Rattle.blocks.specs.Sizes.{block_words, block_bytes, first_entry, pin_count_word, macro_count_word, first_weight_word, second_weight_word}
+use Rattle.blocks.specs.Sizes.{per_block, loaded_kind, place_width, blocks_for, block_count, file_blocks_within, file_bound}
+use Rattle.blocks.specs.Words.{words_of, coordinate, weight_in}
+use Rattle.blocks.specs.Sums.{wrong_sums}
 
 -- C1: the length is not that of whole blocks, from one to those of the longest file
 
-unfoldable pub blocksMiscountedWithin : Bounds → List ℕ → Bool
-blocksMiscountedWithin b bytes =
-    not (eqb (length bytes % blockBytes) 0) || (eqb (length bytes / blockBytes) 0 || ltb (fileBlocksWithin b) (length bytes / blockBytes))
+unfoldable pub blocks_miscounted_within : Bounds → List ℕ → Bool
+blocks_miscounted_within b bytes =
+    not (eqb (length bytes % block_bytes) 0) || (eqb (length bytes / block_bytes) 0 || ltb (file_blocks_within b) (length bytes / block_bytes))
 
-abbrev pub blocksMiscounted : List ℕ → Bool
-blocksMiscounted = blocksMiscountedWithin today
+abbrev pub blocks_miscounted : List ℕ → Bool
+blocks_miscounted = blocks_miscounted_within today
 
 -- the first n blocks
-unfoldable pub blocksOf : ℕ → List ℕ → List (List ℕ)
-blocksOf zero words = []
-blocksOf (suc n) words = take blockWords words ∷ blocksOf n (drop blockWords words)
+unfoldable pub blocks_of : ℕ → List ℕ → List (List ℕ)
+blocks_of zero words = []
+blocks_of (suc n) words = take block_words words ∷ blocks_of n (drop block_words words)
 
 -- C2: in some block a sum is wrong
-unfoldable pub sumsWrong : List ℕ → Bool
-sumsWrong bytes = any wrongSums (blocksOf (length bytes / blockBytes) (words_of bytes))
+unfoldable pub sums_wrong : List ℕ → Bool
+sums_wrong bytes = any wrong_sums (blocks_of (length bytes / block_bytes) (words_of bytes))
 
 -- a word of the head
-unfoldable pub headWord : ℕ → List ℕ → ℕ
-headWord i bytes = get_or (words_of bytes) i 0
+unfoldable pub head_word : ℕ → List ℕ → ℕ
+head_word i bytes = get_or (words_of bytes) i 0
 
 -- F26: the block after the head is one of pins with loads. The head does not tell, so this is asked of every file; where it counts no
 -- pin it makes no difference what that block is [11]
-unfoldable pub loadedIn : List ℕ → Bool
-loadedIn bytes = eqb (get_or (words_of bytes) blockWords 0) loadedKind
+unfoldable pub loaded_in : List ℕ → Bool
+loaded_in bytes = eqb (get_or (words_of bytes) block_words 0) loaded_kind
 
 -- F9: how many numbers are stored for the pins and for the macros, by m and k in the head
-unfoldable pub pinLength : List ℕ → ℕ
-pinLength bytes = cond (loadedIn bytes) (headWord pinCountWord bytes * pinWidth) (headWord pinCountWord bytes * placeWidth)
+unfoldable pub pin_length : List ℕ → ℕ
+pin_length bytes = cond (loaded_in bytes) (head_word pin_count_word bytes * pin_width) (head_word pin_count_word bytes * place_width)
 
-abbrev pub macroLength : List ℕ → ℕ
-macroLength bytes = headWord macroCountWord bytes * macroWidth
+abbrev pub macro_length : List ℕ → ℕ
+macro_length bytes = head_word macro_count_word bytes * macro_width
 
 -- F17: the two weights, by the head
-abbrev pub weightsIn : List ℕ → Weights
-weightsIn bytes = record {
-  across = weightIn (headWord firstWeightWord bytes);
-  along = weightIn (headWord secondWeightWord bytes);
+abbrev pub weights_in : List ℕ → Weights
+weights_in bytes = record {
+  across = weight_in (head_word first_weight_word bytes);
+  along = weight_in (head_word second_weight_word bytes);
 }
 
 -- F6, F14: the word of the number j among those of its list's blocks
 abbrev pub place_in : ℕ → ℕ
-place_in j = j / perBlock * blockWords + (firstEntry + j % perBlock)
+place_in j = j / per_block * block_words + (first_entry + j % per_block)
 
 -- the number j of a list whose blocks begin at the block b
 unfoldable pub number_in : List ℕ → ℕ → ℕ → ℤ
-number_in bytes b j = coordinate (get_or (words_of bytes) (b * blockWords + place_in j) 0)
+number_in bytes b j = coordinate (get_or (words_of bytes) (b * block_words + place_in j) 0)
 
 -- n numbers of such a list, from the one numbered j on
-unfoldable pub numbersIn : List ℕ → ℕ → ℕ → ℕ → List ℤ
-numbersIn bytes b j zero = []
-numbersIn bytes b j (suc n) = number_in bytes b j ∷ numbersIn bytes b (suc j) n
+unfoldable pub numbers_in : List ℕ → ℕ → ℕ → ℕ → List ℤ
+numbers_in bytes b j zero = []
+numbers_in bytes b j (suc n) = number_in bytes b j ∷ numbers_in bytes b (suc j) n
 
 -- the lists that a file holds: as many pins and macros as its head says, the pins from block 1 on, the macros in the blocks after theirs
-unfoldable pub storedIn : List ℕ → List ℤ
-storedIn bytes = numbersIn bytes 1 0 (pinLength bytes)
+unfoldable pub stored_in : List ℕ → List ℤ
+stored_in bytes = numbers_in bytes 1 0 (pin_length bytes)
 
 -- pins are three numbers each, however they are stored: those of places alone have a load of 0 [11]
-unfoldable pub pinsIn : List ℕ → List ℤ
-pinsIn bytes = cond (loadedIn bytes) (storedIn bytes) (flatPins (places_of (storedIn bytes)))
+unfoldable pub pins_in : List ℕ → List ℤ
+pins_in bytes = cond (loaded_in bytes) (stored_in bytes) (flat_pins (places_of (stored_in bytes)))
 
-unfoldable pub macrosIn : List ℕ → List ℤ
-macrosIn bytes = numbersIn bytes (1 + blocksFor (pinLength bytes)) 0 (macroLength bytes)
+unfoldable pub macros_in : List ℕ → List ℤ
+macros_in bytes = numbers_in bytes (1 + blocks_for (pin_length bytes)) 0 (macro_length bytes)
 
 -- C3: the head's counts do not fit the blocks that there are
-unfoldable pub countsWrong : List ℕ → Bool
-countsWrong bytes = not (eqb (length bytes / blockBytes) (blockCount (pinLength bytes) (macroLength bytes)))
+unfoldable pub counts_wrong : List ℕ → Bool
+counts_wrong bytes = not (eqb (length bytes / block_bytes) (block_count (pin_length bytes) (macro_length bytes)))
 
 -- C3, F18: a word that stands for a weight is above the greatest. A written 1 is below: it is refused because the layout makes a 0 of it.
-unfoldable pub weightsMiswritten : List ℕ → Bool
-weightsMiswritten bytes = ltb weightBound (headWord firstWeightWord bytes) || ltb weightBound (headWord secondWeightWord bytes)
+unfoldable pub weights_miswritten : List ℕ → Bool
+weights_miswritten bytes = ltb weight_bound (head_word first_weight_word bytes) || ltb weight_bound (head_word second_weight_word bytes)
 
 -- C3: the head's own words, before anything is read by them
-unfoldable pub headWrong : List ℕ → Bool
-headWrong bytes = countsWrong bytes || weightsMiswritten bytes
+unfoldable pub head_wrong : List ℕ → Bool
+head_wrong bytes = counts_wrong bytes || weights_miswritten bytes
 
 -- a file of as many bytes as n numbers of pins and k of macros take, and no longer than the longest; the code's own condition
 pub record Sized (bytes : List ℕ) (n k : ℕ) : Type 0 where
-  pub few : length bytes ≤ fileBound
-  pub fit : length bytes ≡ blockCount n k * blockBytes
+  pub few : length bytes ≤ file_bound
+  pub fit : length bytes ≡ block_count n k * block_bytes

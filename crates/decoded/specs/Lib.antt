@@ -5,17 +5,17 @@
 -- in blocks of kind 4, or blocks of pins of both kinds: the layout makes other ones of them. A word above 8 needs one, or it would be given
 -- back as a weight and refused by the check, as 18; with it no read is ever refused so (crate netfile, WeightLaws).
 --
---   Held     blocksMiscounted, sumsWrong            refusals 1 and 2; blocksMiscountedWithin b within any bounds
---            blocksOf n words                       the first n blocks
---            headWord i bytes                       a word of the head
---            loadedIn bytes                         whether its pins have loads, by the block after the head
---            pinLength bytes, macroLength bytes     how many numbers are stored for the two lists, by the head
---            weightsIn bytes                        the weights, by the head
---            placeIn j                              the word of the number j among those of its list's blocks
---            numberIn bytes b j                     the number j of the list whose blocks begin at the block b
---            storedIn bytes                         the numbers that a file has for its pins
---            pinsIn bytes, macrosIn bytes           the lists that a file holds
---            countsWrong, weightsMiswritten         refusal 3 for the head's counts, and for a weight above 8
---            headWrong bytes                        for either
+--   Held     blocks_miscounted, sums_wrong            refusals 1 and 2; blocks_miscounted_within b within any bounds
+--            blocks_of n words                       the first n blocks
+--            head_word i bytes                       a word of the head
+--            loaded_in bytes                         whether its pins have loads, by the block after the head
+--            pin_length bytes, macro_length bytes     how many numbers are stored for the two lists, by the head
+--            weights_in bytes                        the weights, by the head
+--            place_in j                              the word of the number j among those of its list's blocks
+--            number_in bytes b j                     the number j of the list whose blocks begin at the block b
+--            stored_in bytes                         the numbers that a file has for its pins
+--            pins_in bytes, macros_in bytes           the lists that a file holds
+--            counts_wrong, weights_miswritten         refusal 3 for the head's counts, and for a weight above 8
+--            head_wrong bytes                        for either
 --            Sized bytes n k                        as long as n numbers of pins and k of macros take: the code's own condition
 pub mod Held

@@ -4,23 +4,23 @@
 ghost use Rattle.std.specs.Prelude.{false, ◌≡◌, ◌+◌, ◌*◌, ◌/◌, ◌≤◌, ◌<◌, length};
 ghost use Rattle.lent.specs.Over.{over};
 ghost use Rattle.plane.specs.Flat.{places_of};
-ghost use Rattle.net.specs.Pins.{flatPins};
-ghost use Rattle.blocks.specs.Sizes.{blockBytes, perBlock, blocksFor, fileNumbers};
+ghost use Rattle.net.specs.Pins.{flat_pins};
+ghost use Rattle.blocks.specs.Sizes.{block_bytes, per_block, blocks_for, file_numbers};
 ghost use Rattle.decoded.specs.Held.{
-  blocksMiscounted,
-  sumsWrong,
-  headWord,
-  loadedIn,
-  pinLength,
-  macroLength,
-  weightsIn,
+  blocks_miscounted,
+  sums_wrong,
+  head_word,
+  loaded_in,
+  pin_length,
+  macro_length,
+  weights_in,
   number_in,
-  numbersIn,
-  pinsIn,
-  macrosIn,
-  countsWrong,
-  weightsMiswritten,
-  headWrong,
+  numbers_in,
+  pins_in,
+  macros_in,
+  counts_wrong,
+  weights_miswritten,
+  head_wrong,
   Sized,
 };
 
@@ -36,7 +36,7 @@ const WEIGHT: usize = Net::WEIGHT as usize;
 
 // Not whole blocks, none, or more than the longest file has.
 pub fn blocks_miscounted(bytes: &[u8]) -> bool
-    ensures { result ≡ blocksMiscounted bytes.now }
+    ensures { result ≡ blocks_miscounted bytes.now }
 {
     let n = bytes.len() / BLOCK_BYTES;
     (bytes.len() % BLOCK_BYTES != 0) | ((n == 0) | (FILE_BLOCKS < n))
@@ -44,7 +44,7 @@ pub fn blocks_miscounted(bytes: &[u8]) -> bool
 
 // So it is in some block.
 pub fn any_wrong_sums(bytes: &[u8]) -> bool
-    ensures { result ≡ sumsWrong bytes.now }
+    ensures { result ≡ sums_wrong bytes.now }
 {
     let n = bytes.len() / BLOCK_BYTES;
     let mut b = 0;
@@ -60,14 +60,14 @@ pub fn any_wrong_sums(bytes: &[u8]) -> bool
 // The i-th word of the head.
 pub fn head_word(bytes: &[u8], i: usize) -> usize
     requires { i * 4 + 4 ≤ length bytes.now }
-    ensures { (result ≡ headWord i bytes.now) × (result < 4294967296) }
+    ensures { (result ≡ head_word i bytes.now) × (result < 4294967296) }
 {
     blocks::word_at(bytes, i) as usize
 }
 
 // Whether the block after the head has pins with loads; a file of a head alone has no such block.
 fn are_loaded_in(bytes: &[u8]) -> bool
-    ensures { result ≡ loadedIn bytes.now }
+    ensures { result ≡ loaded_in bytes.now }
 {
     if bytes.len() < BLOCK_BYTES + 4 {
         return false;
@@ -77,8 +77,8 @@ fn are_loaded_in(bytes: &[u8]) -> bool
 
 // The numbers that are stored for the pins that the head counts.
 fn pin_length(bytes: &[u8]) -> usize
-    requires { blockBytes ≤ length bytes.now }
-    ensures { result ≡ pinLength bytes.now }
+    requires { block_bytes ≤ length bytes.now }
+    ensures { result ≡ pin_length bytes.now }
 {
     let m = head_word(bytes, PIN_COUNT_WORD);
     if are_loaded_in(bytes) {
@@ -89,16 +89,16 @@ fn pin_length(bytes: &[u8]) -> usize
 
 // The numbers of the macros that it counts.
 pub fn macro_length(bytes: &[u8]) -> usize
-    requires { blockBytes ≤ length bytes.now }
-    ensures { result ≡ macroLength bytes.now }
+    requires { block_bytes ≤ length bytes.now }
+    ensures { result ≡ macro_length bytes.now }
 {
     head_word(bytes, MACRO_COUNT_WORD) * Net::MACRO_NUMBERS
 }
 
 // The head's counts do not fit the blocks.
 fn counts_wrong(bytes: &[u8]) -> bool
-    requires { blockBytes ≤ length bytes.now }
-    ensures { result ≡ countsWrong bytes.now }
+    requires { block_bytes ≤ length bytes.now }
+    ensures { result ≡ counts_wrong bytes.now }
 {
     let pin_blocks = blocks::blocks_for(pin_length(bytes));
     let macro_blocks = blocks::blocks_for(macro_length(bytes));
@@ -107,8 +107,8 @@ fn counts_wrong(bytes: &[u8]) -> bool
 
 // A word that stands for a weight is above the greatest. A written 1 is found with the layout: the file made anew has a 0 there.
 fn weights_miswritten(bytes: &[u8]) -> bool
-    requires { blockBytes ≤ length bytes.now }
-    ensures { result ≡ weightsMiswritten bytes.now }
+    requires { block_bytes ≤ length bytes.now }
+    ensures { result ≡ weights_miswritten bytes.now }
 {
     let first = head_word(bytes, FIRST_WEIGHT_WORD);
     let second = head_word(bytes, SECOND_WEIGHT_WORD);
@@ -117,16 +117,16 @@ fn weights_miswritten(bytes: &[u8]) -> bool
 
 // The head's counts or its weights are wrong.
 pub fn head_wrong(bytes: &[u8]) -> bool
-    requires { blockBytes ≤ length bytes.now }
-    ensures { result ≡ headWrong bytes.now }
+    requires { block_bytes ≤ length bytes.now }
+    ensures { result ≡ head_wrong bytes.now }
 {
     counts_wrong(bytes) | weights_miswritten(bytes)
 }
 
 // The weights that the head has.
 pub fn weights_in(bytes: &[u8]) -> Weights
-    requires { (blockBytes ≤ length bytes.now) × (weightsMiswritten bytes.now ≡ false) }
-    ensures { result ≡ weightsIn bytes.now }
+    requires { (block_bytes ≤ length bytes.now) × (weights_miswritten bytes.now ≡ false) }
+    ensures { result ≡ weights_in bytes.now }
 {
     Weights {
         across: blocks::weight_of(head_word(bytes, FIRST_WEIGHT_WORD)),
@@ -136,7 +136,7 @@ pub fn weights_in(bytes: &[u8]) -> Weights
 
 // The number j of the list whose blocks begin at the block b.
 fn number_in(bytes: &[u8], b: usize, j: usize) -> i32
-    requires { (b + j / perBlock) * blockBytes + blockBytes ≤ length bytes.now }
+    requires { (b + j / per_block) * block_bytes + block_bytes ≤ length bytes.now }
     ensures { result ≡ number_in bytes.now b j }
 {
     let place = j / PER_BLOCK * BLOCK_WORDS + (FIRST_ENTRY + j % PER_BLOCK);
@@ -145,8 +145,8 @@ fn number_in(bytes: &[u8], b: usize, j: usize) -> i32
 
 // The n numbers of the list whose blocks begin at the block b.
 fn take_numbers(bytes: &[u8], b: usize, n: usize, numbers: &mut [i32])
-    requires { ((b + blocksFor n) * blockBytes ≤ length bytes.now) × (n ≤ length numbers.old) }
-    ensures { numbers.new ≡ over (numbersIn bytes.now b 0 n) numbers.old }
+    requires { ((b + blocks_for n) * block_bytes ≤ length bytes.now) × (n ≤ length numbers.old) }
+    ensures { numbers.new ≡ over (numbers_in bytes.now b 0 n) numbers.old }
 {
     let mut j = 0;
     while j < n {
@@ -158,8 +158,8 @@ fn take_numbers(bytes: &[u8], b: usize, n: usize, numbers: &mut [i32])
 
 // Pins without a load at places that stand in a list of their own.
 fn put_bare(places: &[i32], pins: &mut [i32])
-    requires { length (flatPins (places_of places.now)) ≤ length pins.old }
-    ensures { pins.new ≡ over (flatPins (places_of places.now)) pins.old }
+    requires { length (flat_pins (places_of places.now)) ≤ length pins.old }
+    ensures { pins.new ≡ over (flat_pins (places_of places.now)) pins.old }
 {
     let m = places.len() / PLACE_NUMBERS;
     let mut i = 0;
@@ -171,9 +171,9 @@ fn put_bare(places: &[i32], pins: &mut [i32])
 
 // The pins of a file whose head's counts fit its blocks.
 fn take_pins(bytes: &[u8], pins: &mut [i32])
-    requires { ((1 + blocksFor (pinLength bytes.now)) * blockBytes ≤ length bytes.now)
-        × ((pinLength bytes.now ≤ fileNumbers) × (length (pinsIn bytes.now) ≤ length pins.old)) }
-    ensures { pins.new ≡ over (pinsIn bytes.now) pins.old }
+    requires { ((1 + blocks_for (pin_length bytes.now)) * block_bytes ≤ length bytes.now)
+        × ((pin_length bytes.now ≤ file_numbers) × (length (pins_in bytes.now) ≤ length pins.old)) }
+    ensures { pins.new ≡ over (pins_in bytes.now) pins.old }
 {
     let n = pin_length(bytes);
     if are_loaded_in(bytes) {
@@ -187,10 +187,10 @@ fn take_pins(bytes: &[u8], pins: &mut [i32])
 
 // The lists of a file whose head's counts fit its blocks, into tables that they fit.
 pub fn take_lists(bytes: &[u8], pins: &mut [i32], macros: &mut [i32])
-    requires { (Sized bytes.now (pinLength bytes.now) (macroLength bytes.now))
-        × ((length (pinsIn bytes.now) ≤ length pins.old) × (macroLength bytes.now ≤ length macros.old)) }
-    ensures pins { pins.new ≡ over (pinsIn bytes.now) pins.old }
-    ensures macros { macros.new ≡ over (macrosIn bytes.now) macros.old }
+    requires { (Sized bytes.now (pin_length bytes.now) (macro_length bytes.now))
+        × ((length (pins_in bytes.now) ≤ length pins.old) × (macro_length bytes.now ≤ length macros.old)) }
+    ensures pins { pins.new ≡ over (pins_in bytes.now) pins.old }
+    ensures macros { macros.new ≡ over (macros_in bytes.now) macros.old }
 {
     let n = pin_length(bytes);
     let k = macro_length(bytes);

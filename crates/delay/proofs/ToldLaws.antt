@@ -10,15 +10,15 @@ use lib.Ieee.{Float, binary64, of_bits}
 use borrow.Author.Tests.{lt-ltb, le-ltb}
 use Rattle.lists.specs.Any.{any}
 use Rattle.lent.specs.Told.{refused, given}
-use Rattle.tree.specs.Table.{treeBound}
+use Rattle.tree.specs.Table.{tree_bound}
 use Rattle.floats.specs.declared.Technology.{Technology}
 use Rattle.floats.specs.declared.Delay.{Delay}
 use Rattle.floats.specs.Float as float
 use Rattle.elmore.specs.Elmore.{delays}
-use Rattle.floats.specs.Mark.{isMark, usable}
-use Rattle.delay.specs.Answer.{unlessMarked, delayed}
-use Rattle.elmore.specs.Table.{hung, apartIn, loadIn, stored}
-use Rattle.delay.specs.Table.{tableFrom}
+use Rattle.floats.specs.Mark.{is_mark, usable}
+use Rattle.delay.specs.Answer.{unless_marked, delayed}
+use Rattle.elmore.specs.Table.{hung, apart_in, load_in, stored}
+use Rattle.delay.specs.Table.{table_from}
 use Rattle.floats.proofs.MarkLaws.{zero_bits}
 
 -- What is said before there is a tree
@@ -38,27 +38,27 @@ module _ (room m : ℕ) (t : Technology) (found : Bool) (marks : List Delay) whe
       unfolding delayed
       delayed-driver f = rw (le-ltb room m enough, fair, f) refl
 
-      pub delayed-passed : found ≡ true → delayed room m t found marks ≡ unlessMarked m marks
+      pub delayed-passed : found ≡ true → delayed room m t found marks ≡ unless_marked m marks
       unfolding delayed
       delayed-passed f = rw (le-ltb room m enough, fair, f) refl
 
 -- What the delays say
 
-pub told-mark : (m : ℕ) (marks : List Delay) → any isMark marks ≡ true → unlessMarked m marks ≡ refused 40
-unfolding unlessMarked
+pub told-mark : (m : ℕ) (marks : List Delay) → any is_mark marks ≡ true → unless_marked m marks ≡ refused 40
+unfolding unless_marked
 told-mark m marks e = rw e refl
 
-pub told-given : (m : ℕ) (marks : List Delay) → any isMark marks ≡ false → unlessMarked m marks ≡ given m
-unfolding unlessMarked
+pub told-given : (m : ℕ) (marks : List Delay) → any is_mark marks ≡ false → unless_marked m marks ≡ given m
+unfolding unless_marked
 told-given m marks e = rw e refl
 
 -- the table that the passes leave
 pub table_is : (pts : List ℤ) (ks : List ℕ) (e : ℕ) (loads : List ℕ) (t : Technology) (d driver : ℕ) (table : List Float)
     → table
-    ≡ stored (delays (apartIn pts) (loadIn loads) t d (of_bits binary64 0) (hung ks e e d d)) (replicate treeBound (of_bits binary64 0))
-    → d ≡ driver → table ≡ tableFrom pts ks e loads t driver
-unfolding tableFrom
+    ≡ stored (delays (apart_in pts) (load_in loads) t d (of_bits binary64 0) (hung ks e e d d)) (replicate tree_bound (of_bits binary64 0))
+    → d ≡ driver → table ≡ table_from pts ks e loads t driver
+unfolding table_from
 table_is pts ks e loads t d driver table h g =
     h
-    ∙ ap (λ (z : Float). stored (delays (apartIn pts) (loadIn loads) t d z (hung ks e e d d)) (replicate treeBound z)) zero_bits
-    ∙ ap (λ (k : ℕ). stored (delays (apartIn pts) (loadIn loads) t k float.zero (hung ks e e k k)) (replicate treeBound float.zero)) g
+    ∙ ap (λ (z : Float). stored (delays (apart_in pts) (load_in loads) t d z (hung ks e e d d)) (replicate tree_bound z)) zero_bits
+    ∙ ap (λ (k : ℕ). stored (delays (apart_in pts) (load_in loads) t k float.zero (hung ks e e k k)) (replicate tree_bound float.zero)) g

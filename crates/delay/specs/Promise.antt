@@ -6,14 +6,14 @@ use Rattle.plane.specs.Distance.{distance}
 use Rattle.floats.specs.declared.Technology.{Technology}
 use Rattle.floats.specs.Float.{zero}
 use Rattle.elmore.specs.Rooted.{Branches, none, branch, visited, rooted}
-use Rattle.elmore.specs.Elmore.{delayOfChild}
-use Rattle.delay.specs.Answer.{delayOf}
+use Rattle.elmore.specs.Elmore.{delay_of_child}
+use Rattle.delay.specs.Answer.{delay_of}
 
 -- Y5, at every child that hangs from p: its delay is made of its parent's
 abbrev pub Follows : {A : Type 0} → (A → A → ℕ) → (A → ℕ) → Technology → (A → Float) → A → Branches A → Type 0
 Follows apart load t delay p none = Unit {0}
 Follows apart load t delay p (branch c below beside) =
-    (delay c ≡ delayOfChild apart load t p (delay p) c below)
+    (delay c ≡ delay_of_child apart load t p (delay p) c below)
     × (Follows apart load t delay c below × Follows apart load t delay p beside)
 
 -- for a tree of edges over the points X (`timed`, proofs/TimedLaws.antt)
@@ -22,6 +22,6 @@ pub record Timed (X : List Place) (es : List (Place × Place)) (load : Place →
   pub each-once : Once (driver ∷ visited (rooted es driver))
   pub none_left : Among X (driver ∷ visited (rooted es driver))
   -- Y6: the driver's own delay is 0
-  pub driver-zero : delayOf es load t driver driver ≡ zero
+  pub driver-zero : delay_of es load t driver driver ≡ zero
   -- Y5: each child's delay is made of its parent's
-  pub follows : Follows distance load t (delayOf es load t driver) driver (rooted es driver)
+  pub follows : Follows distance load t (delay_of es load t driver) driver (rooted es driver)

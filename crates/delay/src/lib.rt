@@ -3,10 +3,10 @@ pub mod loads; // loads.rt: the pins among a tree's points, and their loads
 
 ghost use Rattle.std.specs.Prelude.{◌≡◌, ◌≤◌, ◌<◌, length};
 ghost use Rattle.lent.specs.Over.{after};
-ghost use Rattle.tree.specs.Table.{treeBound};
-ghost use Rattle.floats.specs.Mark.{finites, pinsFrom, marksFrom};
-ghost use Rattle.delay.specs.Answer.{unlessMarked, toldDelays};
-ghost use Rattle.delay.specs.Table.{isDriver, driverIn, tableFrom};
+ghost use Rattle.tree.specs.Table.{tree_bound};
+ghost use Rattle.floats.specs.Mark.{finites, pins_from, marks_from};
+ghost use Rattle.delay.specs.Answer.{unless_marked, told_delays};
+ghost use Rattle.delay.specs.Table.{is_driver, driver_in, table_from};
 
 use elmore::Visit;
 use floats::Technology;
@@ -23,8 +23,8 @@ pub enum Delayed {
 
 // Whether point i is the pin at q.
 fn is_driver(pts: &[i32; NUMBERS], pin: &[usize; POINTS], q: Place, i: usize) -> bool
-    requires { i < treeBound }
-    ensures { result ≡ isDriver pts.now pin.now q i }
+    requires { i < tree_bound }
+    ensures { result ≡ is_driver pts.now pin.now q i }
 {
     if pin[i] == 1 {
         return plane::is_same_place(tree::point_at(pts, i), q);
@@ -34,8 +34,8 @@ fn is_driver(pts: &[i32; NUMBERS], pin: &[usize; POINTS], q: Place, i: usize) ->
 
 // The number of the pin at q, or n.
 fn find(pts: &[i32; NUMBERS], pin: &[usize; POINTS], n: usize, q: Place) -> usize
-    requires { n ≤ treeBound }
-    ensures { (result ≡ driverIn pts.now pin.now n q) × (result ≤ n) }
+    requires { n ≤ tree_bound }
+    ensures { (result ≡ driver_in pts.now pin.now n q) × (result ≤ n) }
 {
     let mut i = 0;
     while i < n {
@@ -60,14 +60,14 @@ pub fn delays(
     m: usize,
     lent: &mut [f64],
 ) -> Delayed
-    requires points_le_tree_bound { (z.points ≤ treeBound) × ((z.edges ≤ treeBound) × (m ≡ length (pinsFrom pin.now 0 z.points))) }
-    requires m_in_bounds { (m ≤ length lent.old) × (driverIn pts.now pin.now z.points driver < z.points) }
-    ensures result_value { toldDelays result ≡ unlessMarked m
-        (marksFrom (tableFrom pts.now keys.now z.edges loads.now t
-        (driverIn pts.now pin.now z.points driver)) pin.now 0 z.points) }
-    ensures lent_after { lent.new ≡ after (toldDelays result)
-        (finites (marksFrom (tableFrom pts.now keys.now z.edges loads.now t
-        (driverIn pts.now pin.now z.points driver)) pin.now 0 z.points)) lent.old }
+    requires points_le_tree_bound { (z.points ≤ tree_bound) × ((z.edges ≤ tree_bound) × (m ≡ length (pins_from pin.now 0 z.points))) }
+    requires m_in_bounds { (m ≤ length lent.old) × (driver_in pts.now pin.now z.points driver < z.points) }
+    ensures result_value { told_delays result ≡ unless_marked m
+        (marks_from (table_from pts.now keys.now z.edges loads.now t
+        (driver_in pts.now pin.now z.points driver)) pin.now 0 z.points) }
+    ensures lent_after { lent.new ≡ after (told_delays result)
+        (finites (marks_from (table_from pts.now keys.now z.edges loads.now t
+        (driver_in pts.now pin.now z.points driver)) pin.now 0 z.points)) lent.old }
 {
     let d = find(pts, pin, z.points, driver);
     let top = Visit {

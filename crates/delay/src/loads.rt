@@ -2,11 +2,11 @@
 ghost use Rattle.std.specs.Prelude.{◌≡◌, false, cond, ◌≤◌, ◌<◌, length};
 ghost use Rattle.lists.specs.Any.{any};
 ghost use Rattle.signed.specs.Sides.{up};
-ghost use Rattle.plane.specs.Place.{samePlace};
-ghost use Rattle.net.specs.Tests.{noLoad};
-ghost use Rattle.net.specs.Pins.{pinPlaces, pinLoads, pinEntries};
-ghost use Rattle.tree.specs.Table.{treeBound};
-ghost use Rattle.delay.specs.Load.{loadOf};
+ghost use Rattle.plane.specs.Place.{same_place};
+ghost use Rattle.net.specs.Tests.{no_load};
+ghost use Rattle.net.specs.Pins.{pin_places, pin_loads, pin_entries};
+ghost use Rattle.tree.specs.Table.{tree_bound};
+ghost use Rattle.delay.specs.Load.{load_of};
 ghost use Rattle.delay.specs.Table.{Loaded};
 
 use plane::Place;
@@ -14,7 +14,7 @@ use tree::{NUMBERS, POINTS};
 
 // A load in range.
 fn unsigned(z: i32) -> u64
-    requires { noLoad z ≡ false }
+    requires { no_load z ≡ false }
     ensures { result ≡ up z }
 {
     z as u64
@@ -22,7 +22,7 @@ fn unsigned(z: i32) -> u64
 
 // Whether a pin is at q.
 pub fn is_pin(pins: &[i32], q: Place) -> bool
-    ensures { result ≡ any (samePlace q) (pinPlaces pins.now) }
+    ensures { result ≡ any (same_place q) (pin_places pins.now) }
 {
     let m = net::pin_count(pins);
     let mut i = 0;
@@ -37,7 +37,7 @@ pub fn is_pin(pins: &[i32], q: Place) -> bool
 
 // 1 where a pin is at q, otherwise 0.
 fn pin_mark(pins: &[i32], q: Place) -> usize
-    ensures { result ≡ cond (any (samePlace q) (pinPlaces pins.now)) 1 0 }
+    ensures { result ≡ cond (any (same_place q) (pin_places pins.now)) 1 0 }
 {
     if is_pin(pins, q) {
         return 1;
@@ -47,8 +47,8 @@ fn pin_mark(pins: &[i32], q: Place) -> usize
 
 // The load of the pin at q, and 0 where no pin is.
 fn load_of(pins: &[i32], q: Place) -> u64
-    requires { any noLoad (pinLoads pins.now) ≡ false }
-    ensures { result ≡ loadOf (pinEntries pins.now) q }
+    requires { any no_load (pin_loads pins.now) ≡ false }
+    ensures { result ≡ load_of (pin_entries pins.now) q }
 {
     let m = net::pin_count(pins);
     let mut i = 0;
@@ -69,8 +69,8 @@ pub fn load(
     pin: &mut [usize; POINTS],
     loads: &mut [u64; POINTS],
 )
-    requires n_le_tree_bound { (n ≤ treeBound) × (any noLoad (pinLoads pins.now) ≡ false) }
-    requires pin_len { (length pin.old ≡ treeBound) × (length loads.old ≡ treeBound) }
+    requires n_le_tree_bound { (n ≤ tree_bound) × (any no_load (pin_loads pins.now) ≡ false) }
+    requires pin_len { (length pin.old ≡ tree_bound) × (length loads.old ≡ tree_bound) }
     ensures { Loaded pins.now pts.now n pin.new loads.new }
 {
     let mut i = 0;

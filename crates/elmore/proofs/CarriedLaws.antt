@@ -9,8 +9,8 @@ use Rattle.lists.proofs.TestLaws.{by, either}
 use Rattle.floats.specs.declared.Technology.{Technology}
 use Rattle.floats.specs.Float.{whole}
 use Rattle.elmore.specs.Rooted.{Branches, none, branch, sprout, renamed, Every}
-use Rattle.elmore.specs.Elmore.{edgeValue, withChild, childDelay, edgeCapacitance, capacitance, gathered}
-use Rattle.elmore.specs.Elmore.{delayOfChild, delays, delayIn}
+use Rattle.elmore.specs.Elmore.{edge_value, with_child, child_delay, edge_capacitance, capacitance, gathered}
+use Rattle.elmore.specs.Elmore.{delay_of_child, delays, delay_in}
 use Rattle.elmore.specs.Table.{stored}
 
 map-append : {A B : Type 0} (g : A → B) (l m : List A) → map g (l ++ m) ≡ map g l ++ map g m
@@ -41,8 +41,8 @@ module _ {A B : Type 0} (f : A → B) where
         gathered-renamed below e.1.0 c (whole (load c))
         ∙ ap (λ (n : ℕ). gathered apart' load' t (f c) (whole n) (renamed f below)) (h c e.0) in
         gathered-renamed beside e.1.1 p
-        (withChild s (gathered apart load t c (whole (load c)) below) (edgeCapacitance apart load t p c))
-        ∙ ap₂ (λ (x : Float) (n : ℕ). gathered apart' load' t (f p) (withChild s x (edgeValue t.capacitance n)) (renamed f beside))
+        (with_child s (gathered apart load t c (whole (load c)) below) (edge_capacitance apart load t p c))
+        ∙ ap₂ (λ (x : Float) (n : ℕ). gathered apart' load' t (f p) (with_child s x (edge_value t.capacitance n)) (renamed f beside))
         one (far p c)
 
     pub capacitance-renamed : (c : A) (b : Branches A) → P c → Every P b
@@ -55,9 +55,9 @@ module _ {A B : Type 0} (f : A → B) where
     unfolding delays renamed
     delays-renamed none e p d = refl
     delays-renamed (branch c below beside) e p d =
-        let mine = delayOfChild apart load t p d c below in
-        let one : mine ≡ delayOfChild apart' load' t (f p) d (f c) (renamed f below) =
-        ap₂ (λ (n : ℕ) (x : Float). childDelay d (edgeValue t.resistance n) (edgeValue t.capacitance n) x) (far p c)
+        let mine = delay_of_child apart load t p d c below in
+        let one : mine ≡ delay_of_child apart' load' t (f p) d (f c) (renamed f below) =
+        ap₂ (λ (n : ℕ) (x : Float). child_delay d (edge_value t.resistance n) (edge_value t.capacitance n) x) (far p c)
         (capacitance-renamed c below e.0 e.1.0) in
         ap₂ (λ (x : B × Float) (l : List (B × Float)). x ∷ l) (ap (λ (x : Float). (f c, x)) one)
         (map-append named (delays apart load t c mine below) (delays apart load t p d beside)
@@ -66,13 +66,13 @@ module _ {A B : Type 0} (f : A → B) where
         (delays-renamed beside e.1.1 p d))
 
   -- the delay that a list has for a point
-  pub delayIn-renamed : (same : A → A → Bool) (same' : B → B → Bool) (q : A) (d : Float) (l : List (A × Float))
-      → ((x : A × Float) → x ∈ l → same x.0 q ≡ same' (f x.0) (f q)) → delayIn same q d l ≡ delayIn same' (f q) d (map named l)
-  unfolding delayIn
-  delayIn-renamed same same' q d [] e = refl
-  delayIn-renamed same same' q d (x ∷ l) e =
-      delayIn-renamed same same' q (cond (same x.0 q) x.1 d) l (λ y m. e y (there m))
-      ∙ ap (λ (b : Bool). delayIn same' (f q) (cond b x.1 d) (map named l)) (e x (here refl))
+  pub delay_in-renamed : (same : A → A → Bool) (same' : B → B → Bool) (q : A) (d : Float) (l : List (A × Float))
+      → ((x : A × Float) → x ∈ l → same x.0 q ≡ same' (f x.0) (f q)) → delay_in same q d l ≡ delay_in same' (f q) d (map named l)
+  unfolding delay_in
+  delay_in-renamed same same' q d [] e = refl
+  delay_in-renamed same same' q d (x ∷ l) e =
+      delay_in-renamed same same' q (cond (same x.0 q) x.1 d) l (λ y m. e y (there m))
+      ∙ ap (λ (b : Bool). delay_in same' (f q) (cond b x.1 d) (map named l)) (e x (here refl))
 
 -- What holds of every point
 
@@ -90,8 +90,8 @@ module _ {A : Type 0} (P : A → Type 0) where
     delays-every none e p d x m = elim m [ ]
     delays-every (branch c below beside) e p d x m =
         either (λ k. rw k e.0)
-        (λ i. either (delays-every below e.1.0 c (delayOfChild apart load t p d c below) x) (delays-every beside e.1.1 p d x)
-        (Memᴰ.append_cases (delays apart load t c (delayOfChild apart load t p d c below) below) i))
+        (λ i. either (delays-every below e.1.0 c (delay_of_child apart load t p d c below) x) (delays-every beside e.1.1 p d x)
+        (Memᴰ.append_cases (delays apart load t c (delay_of_child apart load t p d c below) below) i))
         (Memᴰ.cases_cons m)
 
 -- A table of delays holds what its list has
@@ -104,9 +104,9 @@ set-read table c q v h =
     (λ t. rw t (get_or-set_other table c q v nan (λ e. eqb-false c q t (sym e))))
 
 pub stored-read : (l : List (ℕ × Float)) (table : List Float) (q : ℕ) → q < length table
-    → get_or (stored l table) q nan ≡ delayIn eqb q (get_or table q nan) l
-unfolding stored delayIn
+    → get_or (stored l table) q nan ≡ delay_in eqb q (get_or table q nan) l
+unfolding stored delay_in
 stored-read [] table q h = refl
 stored-read (x ∷ l) table q h =
     stored-read l (set table x.0 x.1) q (rw (length-set table x.0 x.1) h)
-    ∙ ap (λ (d : Float). delayIn eqb q d l) (set-read table x.0 q x.1 h)
+    ∙ ap (λ (d : Float). delay_in eqb q d l) (set-read table x.0 q x.1 h)

@@ -10,7 +10,7 @@ use Rattle.lists.proofs.TestLaws.{by, differ, either, not-true}
 use Rattle.lists.proofs.SortedLaws.{of-put, put-old, put-new, put-ascending, ascending-once, ascending-same}
 use Rattle.lists.proofs.ThoseLaws.{in-those, of-those, those-once}
 use Rattle.plane.specs.declared.Place.{Place}
-use Rattle.plane.specs.Place.{before, samePlace}
+use Rattle.plane.specs.Place.{before, same_place}
 use Rattle.plane.proofs.PlaceLaws.{same_true, same_refl}
 use Rattle.plane.proofs.PlaceOrder.{place-order}
 use Rattle.joined.specs.Joined.{Link}
@@ -20,8 +20,8 @@ use Rattle.elmore.specs.Rooted.{neighbours, children}
 abbrev Edges : Type 0
 Edges = List (Place × Place)
 
-pub same_if : (a b : Place) → b ≡ a → samePlace a b ≡ true
-same_if a b e = ap (samePlace a) e ∙ same_refl a
+pub same_if : (a b : Place) → b ≡ a → same_place a b ≡ true
+same_if a b e = ap (same_place a) e ∙ same_refl a
 
 link-more : (x : Place × Place) (es : Edges) (p q : Place) → Link es p q → Link (x ∷ es) p q
 link-more x es p q (inl m) = inl (there m)
@@ -34,10 +34,10 @@ pub of-neighbours : (es : Edges) (p q : Place) → q ∈ neighbours es p → Lin
 unfolding neighbours
 of-neighbours [] p q m = elim m [ ]
 of-neighbours ((a, b) ∷ es) p q m =
-    by (samePlace a p)
+    by (same_place a p)
     (λ s. either (λ k. inl (here (both (sym (same_true a p s)) k))) (λ i. older (of-neighbours es p q i))
     (of-put before b (neighbours es p) (rw (neighbours, s) at m)))
-    (λ s. by (samePlace b p)
+    (λ s. by (same_place b p)
     (λ u. either (λ k. inr (here (both k (sym (same_true b p u))))) (λ i. older (of-neighbours es p q i))
     (of-put before a (neighbours es p) (rw (neighbours, s, u) at m)))
     (λ u. older (of-neighbours es p q (rw (neighbours, s, u) at m))))
@@ -48,9 +48,9 @@ of-neighbours ((a, b) ∷ es) p q m =
 neighbours-old : (a b : Place) (es : Edges) (p : Place) → Among (neighbours es p) (neighbours ((a, b) ∷ es) p)
 unfolding neighbours
 neighbours-old a b es p q i =
-    by (samePlace a p)
+    by (same_place a p)
     (λ s. rw (neighbours, s) (put-old before b (neighbours es p) q i))
-    (λ s. by (samePlace b p)
+    (λ s. by (same_place b p)
     (λ u. rw (neighbours, s, u) (put-old before a (neighbours es p) q i))
     (λ u. rw (neighbours, s, u) i))
 
@@ -62,7 +62,7 @@ in-neighbours ((a, b) ∷ es) p q (inl (here k)) =
     rw (neighbours, same_if a p (firsts k)) (Memᴰ.cast (seconds k) (put-new before place-order b (neighbours es p)))
 in-neighbours ((a, b) ∷ es) p q (inl (there m)) = neighbours-old a b es p q (in-neighbours es p q (inl m))
 in-neighbours ((a, b) ∷ es) p q (inr (here k)) =
-    by (samePlace a p)
+    by (same_place a p)
     (λ s.
     let z : q ≡ b = firsts k ∙ same_true a p s ∙ seconds k in
     rw (neighbours, s) (Memᴰ.cast z (put-new before place-order b (neighbours es p))))
@@ -73,9 +73,9 @@ pub neighbours-ascending : (es : Edges) (p : Place) → Ascending before (neighb
 unfolding neighbours
 neighbours-ascending [] p = tt
 neighbours-ascending ((a, b) ∷ es) p =
-    by (samePlace a p)
+    by (same_place a p)
     (λ s. rw (neighbours, s) (put-ascending before place-order b (neighbours es p) (neighbours-ascending es p)))
-    (λ s. by (samePlace b p)
+    (λ s. by (same_place b p)
     (λ u. rw (neighbours, s, u) (put-ascending before place-order a (neighbours es p) (neighbours-ascending es p)))
     (λ u. rw (neighbours, s, u) (neighbours-ascending es p)))
 
@@ -95,17 +95,17 @@ module _ (es : Edges) (up p : Place) where
   pub of-children : (c : Place) → c ∈ children es up p → Link es p c × (c ≡ up → ⊥)
   unfolding children
   of-children c m =
-      let r = of-those (λ q. not (samePlace q up)) (neighbours es p) m in
-      (of-neighbours es p c r.0, λ k. differ (same_if c up (sym k)) (not-true (samePlace c up) r.1))
+      let r = of-those (λ q. not (same_place q up)) (neighbours es p) m in
+      (of-neighbours es p c r.0, λ k. differ (same_if c up (sym k)) (not-true (same_place c up) r.1))
 
   pub in-children : (c : Place) → Link es p c → (c ≡ up → ⊥) → c ∈ children es up p
   unfolding children
   in-children c l n =
-      in-those (λ q. not (samePlace q up)) (neighbours es p) (in-neighbours es p c l)
-      (by (samePlace c up) (λ s. absurd (n (same_true c up s))) (λ s. rw s refl))
+      in-those (λ q. not (same_place q up)) (neighbours es p) (in-neighbours es p c l)
+      (by (same_place c up) (λ s. absurd (n (same_true c up s))) (λ s. rw s refl))
 
   pub children-once : Once (children es up p)
   unfolding children
   children-once =
-      those-once (λ q. not (samePlace q up)) (neighbours es p)
+      those-once (λ q. not (same_place q up)) (neighbours es p)
       (ascending-once before place-order (neighbours es p) (neighbours-ascending es p))

@@ -5,24 +5,24 @@ use lib.ListN.{length-replicate, get_or-replicate}
 use lib.Ieee.{Float, nan}
 use borrow.Author.Tests.{eqb-false}
 use Rattle.lists.proofs.TestLaws.{by}
-use Rattle.tree.specs.Table.{treeBound}
+use Rattle.tree.specs.Table.{tree_bound}
 use Rattle.floats.specs.declared.Technology.{Technology}
 use Rattle.elmore.specs.Elmore.{capacitance}
-use Rattle.elmore.specs.Table.{hung, apartIn, loadIn}
-use Rattle.elmore.specs.Memo.{visitNumber, Memo}
+use Rattle.elmore.specs.Table.{hung, apart_in, load_in}
+use Rattle.elmore.specs.Memo.{visit_number, Memo}
 
 module _ (pts : List ℤ) (ks : List ℕ) (e : ℕ) (loads : List ℕ) (t : Technology) where
   -- no entry: 0 is no visit's number
-  pub memo-none : (x : Float) → Memo pts ks e loads t (replicate treeBound x) (replicate treeBound 0)
+  pub memo-none : (x : Float) → Memo pts ks e loads t (replicate tree_bound x) (replicate tree_bound 0)
   memo-none x = record {
-    held-long = length-replicate treeBound x;
-    whose-long = length-replicate {A = ℕ} treeBound 0;
-    entry = λ up left p l h n. absurd (let z : ⊥ = omega (arith, n, get_or-replicate {A = ℕ} treeBound p 0 0 h) in z);
+    held-long = length-replicate tree_bound x;
+    whose-long = length-replicate {A = ℕ} tree_bound 0;
+    entry = λ up left p l h n. absurd (let z : ⊥ = omega (arith, n, get_or-replicate {A = ℕ} tree_bound p 0 0 h) in z);
   }
 
-  module _ {held : List Float} {whose : List ℕ} (m : Memo pts ks e loads t held whose) (up left p : ℕ) (steps : left ≤ treeBound)
-      (low : p < treeBound) (sum : Float) (number : ℕ) (is : number ≡ visitNumber up left)
-      (worked : sum ≡ capacitance (apartIn pts) (loadIn loads) t p (hung ks e left up p)) where
+  module _ {held : List Float} {whose : List ℕ} (m : Memo pts ks e loads t held whose) (up left p : ℕ) (steps : left ≤ tree_bound)
+      (low : p < tree_bound) (sum : Float) (number : ℕ) (is : number ≡ visit_number up left)
+      (worked : sum ≡ capacitance (apart_in pts) (load_in loads) t p (hung ks e left up p)) where
     -- one entry more, at p
     pub memo-more : Memo pts ks e loads t (set held p sum) (set whose p number)
     memo-more = record {
@@ -33,7 +33,7 @@ module _ (pts : List ℤ) (ks : List ℕ) (e : ℕ) (loads : List ℕ) (t : Tech
           by (eqb q p)
           (λ b.
           let z : q ≡ p = eqb-true q p b in
-          let same : visitNumber up left ≡ visitNumber up' left' =
+          let same : visit_number up left ≡ visit_number up' left' =
           sym is ∙ sym (get_or-set_same whose p number 0 (omega (arith, low, m.whose-long))) ∙ (rw z at n) in
           let u : up ≡ up' = omega (arith, same, steps, l) in
           let v : left ≡ left' = omega (arith, same, steps, l) in

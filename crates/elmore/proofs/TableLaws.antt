@@ -2,50 +2,50 @@
 -- Assumes nothing.
 use Rattle.std.proofs.Common.{◌≡◌, ℕ, zero, suc, ◌+◌, ◌-◌, ◌<◌, ◌≤◌, false, List, [], ◌∷◌, ◌++◌, get_or, set, negsuc, sym, refl, ap, ◌∙◌, arith, le-ltb, lt-ltb, eq-eqb, ne_eqb}
 use lib.Ieee.{Float, fin, binary64, of_bits}
-use Rattle.tree.specs.Table.{treeBound, firstEnd, secondEnd}
+use Rattle.tree.specs.Table.{tree_bound, first_end, second_end}
 use Rattle.floats.specs.declared.Technology.{Technology}
 use Rattle.floats.specs.Float.{whole}
 use Rattle.elmore.specs.Rooted.{Branches, none, branch, sprout}
-use Rattle.elmore.specs.Elmore.{edgeValue, withChild, childDelay, edgeResistance, edgeCapacitance, capacitance, gathered}
-use Rattle.elmore.specs.Elmore.{delayOfChild, delays}
-use Rattle.elmore.specs.Table.{otherEnd, childAt, childrenFrom, hung, stored}
+use Rattle.elmore.specs.Elmore.{edge_value, with_child, child_delay, edge_resistance, edge_capacitance, capacitance, gathered}
+use Rattle.elmore.specs.Elmore.{delay_of_child, delays}
+use Rattle.elmore.specs.Table.{other_end, child_at, children_from, hung, stored}
 
 -- One edge
 
-pub other-first : (k p : ℕ) → firstEnd k ≡ p → secondEnd k ≡ otherEnd k p
-unfolding otherEnd
-other-first k p e = rw (otherEnd, eq-eqb (firstEnd k) p e) refl
+pub other-first : (k p : ℕ) → first_end k ≡ p → second_end k ≡ other_end k p
+unfolding other_end
+other-first k p e = rw (other_end, eq-eqb (first_end k) p e) refl
 
-pub other-second : (k p : ℕ) → (firstEnd k ≡ p → ⊥) → secondEnd k ≡ p → firstEnd k ≡ otherEnd k p
-unfolding otherEnd
-other-second k p n e = rw (otherEnd, ne_eqb (firstEnd k) p n, eq-eqb (secondEnd k) p e) refl
+pub other-second : (k p : ℕ) → (first_end k ≡ p → ⊥) → second_end k ≡ p → first_end k ≡ other_end k p
+unfolding other_end
+other-second k p n e = rw (other_end, ne_eqb (first_end k) p n, eq-eqb (second_end k) p e) refl
 
-pub other_none : (k p : ℕ) → (firstEnd k ≡ p → ⊥) → (secondEnd k ≡ p → ⊥) → treeBound ≡ otherEnd k p
-unfolding otherEnd
-other_none k p n e = rw (otherEnd, ne_eqb (firstEnd k) p n, ne_eqb (secondEnd k) p e) refl
+pub other_none : (k p : ℕ) → (first_end k ≡ p → ⊥) → (second_end k ≡ p → ⊥) → tree_bound ≡ other_end k p
+unfolding other_end
+other_none k p n e = rw (other_end, ne_eqb (first_end k) p n, ne_eqb (second_end k) p e) refl
 
-pub child-parent : (k up p c : ℕ) → c ≡ otherEnd k p → c ≡ up → treeBound ≡ childAt k up p
-unfolding childAt
-child-parent k up p c o e = rw (childAt, eq-eqb (otherEnd k p) up (sym o ∙ e)) refl
+pub child-parent : (k up p c : ℕ) → c ≡ other_end k p → c ≡ up → tree_bound ≡ child_at k up p
+unfolding child_at
+child-parent k up p c o e = rw (child_at, eq-eqb (other_end k p) up (sym o ∙ e)) refl
 
-pub child-other : (k up p c : ℕ) → c ≡ otherEnd k p → (c ≡ up → ⊥) → c ≡ childAt k up p
-unfolding childAt
-child-other k up p c o n = o ∙ rw (childAt, ne_eqb (otherEnd k p) up (λ e. n (o ∙ e))) refl
+pub child-other : (k up p c : ℕ) → c ≡ other_end k p → (c ≡ up → ⊥) → c ≡ child_at k up p
+unfolding child_at
+child-other k up p c o n = o ∙ rw (child_at, ne_eqb (other_end k p) up (λ e. n (o ∙ e))) refl
 
 -- 0.5 as the code has it
 pub half-bits : of_bits binary64 0x3fe0_0000_0000_0000 ≡ fin false 1 (negsuc 0)
 unfolding of_bits
 half-bits = refl
 
-pub child-added : (sum child edge unit r : Float) (n m : ℕ) → r ≡ withChild sum child edge → edge ≡ edgeValue unit n → n ≡ m
-    → r ≡ withChild sum child (edgeValue unit m)
-child-added sum child edge unit r n m e f g = e ∙ ap (withChild sum child) (f ∙ ap (edgeValue unit) g)
+pub child-added : (sum child edge unit r : Float) (n m : ℕ) → r ≡ with_child sum child edge → edge ≡ edge_value unit n → n ≡ m
+    → r ≡ with_child sum child (edge_value unit m)
+child-added sum child edge unit r n m e f g = e ∙ ap (with_child sum child) (f ∙ ap (edge_value unit) g)
 
-pub child-delayed : (d child res edge x y r : Float) (n m : ℕ) → r ≡ childDelay d res edge child → res ≡ edgeValue x n
-    → edge ≡ edgeValue y n → n ≡ m → r ≡ childDelay d (edgeValue x m) (edgeValue y m) child
+pub child-delayed : (d child res edge x y r : Float) (n m : ℕ) → r ≡ child_delay d res edge child → res ≡ edge_value x n
+    → edge ≡ edge_value y n → n ≡ m → r ≡ child_delay d (edge_value x m) (edge_value y m) child
 child-delayed d child res edge x y r n m e f g h =
-    e ∙ ap (λ (z : Float). childDelay d z edge child) (f ∙ ap (edgeValue x) h)
-    ∙ ap (λ (z : Float). childDelay d (edgeValue x m) z child) (g ∙ ap (edgeValue y) h)
+    e ∙ ap (λ (z : Float). child_delay d z edge child) (f ∙ ap (edge_value x) h)
+    ∙ ap (λ (z : Float). child_delay d (edge_value x m) z child) (g ∙ ap (edge_value y) h)
 
 -- What hangs from a point
 
@@ -53,7 +53,7 @@ pub hung-none : (ks : List ℕ) (e n up p : ℕ) → n ≡ 0 → hung ks e n up 
 unfolding hung
 hung-none ks e n up p h = rw h refl
 
-pub hung-some : (ks : List ℕ) (e n up p : ℕ) → (n ≡ 0 → ⊥) → hung ks e n up p ≡ sprout (hung ks e (n - 1) p) (childrenFrom ks up p 0 e)
+pub hung-some : (ks : List ℕ) (e n up p : ℕ) → (n ≡ 0 → ⊥) → hung ks e n up p ≡ sprout (hung ks e (n - 1) p) (children_from ks up p 0 e)
 unfolding hung
 hung-some ks e zero up p h = absurd (h refl)
 hung-some ks e (suc n) up p h = let z : suc n - 1 ≡ n = omega arith in rw z refl
@@ -67,38 +67,38 @@ stored-append (x ∷ l) m table = stored-append l m (set table x.0 x.1)
 -- The scan
 
 module _ (ks : List ℕ) (up p e : ℕ) where
-  children-hit : (k : ℕ) → k < e → childAt (get_or ks k 0) up p < treeBound →
-      childrenFrom ks up p k (e - k) ≡ childAt (get_or ks k 0) up p ∷ childrenFrom ks up p (k + 1) (e - (k + 1))
-  unfolding childrenFrom
+  children-hit : (k : ℕ) → k < e → child_at (get_or ks k 0) up p < tree_bound →
+      children_from ks up p k (e - k) ≡ child_at (get_or ks k 0) up p ∷ children_from ks up p (k + 1) (e - (k + 1))
+  unfolding children_from
   children-hit k h t =
       let n : e - k ≡ suc (e - (k + 1)) = omega arith in
-      rw (n, childrenFrom, lt-ltb _ _ t) refl
+      rw (n, children_from, lt-ltb _ _ t) refl
 
-  children-miss : (k : ℕ) → k < e → treeBound ≤ childAt (get_or ks k 0) up p →
-      childrenFrom ks up p k (e - k) ≡ childrenFrom ks up p (k + 1) (e - (k + 1))
-  unfolding childrenFrom
+  children-miss : (k : ℕ) → k < e → tree_bound ≤ child_at (get_or ks k 0) up p →
+      children_from ks up p k (e - k) ≡ children_from ks up p (k + 1) (e - (k + 1))
+  unfolding children_from
   children-miss k h t =
       let n : e - k ≡ suc (e - (k + 1)) = omega arith in
-      rw (n, childrenFrom, le-ltb _ _ t) refl
+      rw (n, children_from, le-ltb _ _ t) refl
 
-  children-end : (k : ℕ) → e ≤ k → childrenFrom ks up p k (e - k) ≡ []
-  unfolding childrenFrom
+  children-end : (k : ℕ) → e ≤ k → children_from ks up p k (e - k) ≡ []
+  unfolding children_from
   children-end k h = let n : e - k ≡ 0 = omega arith in rw n refl
 
   module _ (below : ℕ → Branches ℕ) where
     -- what hangs from p by the edges from number k on
     abbrev pub pending : ℕ → Branches ℕ
-    pending k = sprout below (childrenFrom ks up p k (e - k))
+    pending k = sprout below (children_from ks up p k (e - k))
 
-    pub pending-all : pending 0 ≡ sprout below (childrenFrom ks up p 0 e)
-    pending-all = let n : e - 0 ≡ e = omega arith in ap (λ (m : ℕ). sprout below (childrenFrom ks up p 0 m)) n
+    pub pending-all : pending 0 ≡ sprout below (children_from ks up p 0 e)
+    pending-all = let n : e - 0 ≡ e = omega arith in ap (λ (m : ℕ). sprout below (children_from ks up p 0 m)) n
 
-    pending-hit : (k : ℕ) → k < e → childAt (get_or ks k 0) up p < treeBound →
-        pending k ≡ branch (childAt (get_or ks k 0) up p) (below (childAt (get_or ks k 0) up p)) (pending (k + 1))
+    pending-hit : (k : ℕ) → k < e → child_at (get_or ks k 0) up p < tree_bound →
+        pending k ≡ branch (child_at (get_or ks k 0) up p) (below (child_at (get_or ks k 0) up p)) (pending (k + 1))
     unfolding sprout
     pending-hit k h t = ap (sprout below) (children-hit k h t)
 
-    pending-miss : (k : ℕ) → k < e → treeBound ≤ childAt (get_or ks k 0) up p → pending k ≡ pending (k + 1)
+    pending-miss : (k : ℕ) → k < e → tree_bound ≤ child_at (get_or ks k 0) up p → pending k ≡ pending (k + 1)
     pending-miss k h t = ap (sprout below) (children-miss k h t)
 
     pending-end : (k : ℕ) → e ≤ k → pending k ≡ none
@@ -109,19 +109,19 @@ module _ (ks : List ℕ) (up p e : ℕ) where
 
     module _ (apart : ℕ → ℕ → ℕ) (load : ℕ → ℕ) (t : Technology) where
       pub gather-hit : (k c : ℕ) (sum child more all : Float) → gathered apart load t p sum (pending k) ≡ all → k < e
-          → c ≡ childAt (get_or ks k 0) up p → c < treeBound → child ≡ capacitance apart load t c (below c)
-          → more ≡ withChild sum child (edgeCapacitance apart load t p c)
+          → c ≡ child_at (get_or ks k 0) up p → c < tree_bound → child ≡ capacitance apart load t c (below c)
+          → more ≡ with_child sum child (edge_capacitance apart load t p c)
           → gathered apart load t p more (pending (k + 1)) ≡ all
       unfolding gathered
       gather-hit k c sum child more all g h o f q m =
           let step : pending k ≡ branch c (below c) (pending (k + 1)) = rw o (pending-hit k h (rw o at f)) in
           ap (λ (s : Float). gathered apart load t p s (pending (k + 1)))
-          (m ∙ ap (λ (s : Float). withChild sum s (edgeCapacitance apart load t p c)) q)
+          (m ∙ ap (λ (s : Float). with_child sum s (edge_capacitance apart load t p c)) q)
           ∙ sym (ap (gathered apart load t p sum) step)
           ∙ g
 
       pub gather-miss : (k c : ℕ) (sum all : Float) → gathered apart load t p sum (pending k) ≡ all → k < e
-          → c ≡ childAt (get_or ks k 0) up p → treeBound ≤ c → gathered apart load t p sum (pending (k + 1)) ≡ all
+          → c ≡ child_at (get_or ks k 0) up p → tree_bound ≤ c → gathered apart load t p sum (pending (k + 1)) ≡ all
       gather-miss k c sum all g h e f = sym (ap (gathered apart load t p sum) (pending-miss k h (rw e at f))) ∙ g
 
       pub gather-end : (k : ℕ) (sum all : Float) → gathered apart load t p sum (pending k) ≡ all → e ≤ k → sum ≡ all
@@ -130,24 +130,24 @@ module _ (ks : List ℕ) (up p e : ℕ) where
 
       pub lay-hit : (k c : ℕ) (d child f : Float) (table next all : List Float)
           → stored (delays apart load t p d (pending k)) table ≡ all → k < e
-          → c ≡ childAt (get_or ks k 0) up p → c < treeBound → child ≡ capacitance apart load t c (below c)
-          → f ≡ childDelay d (edgeResistance apart load t p c) (edgeCapacitance apart load t p c) child
+          → c ≡ child_at (get_or ks k 0) up p → c < tree_bound → child ≡ capacitance apart load t c (below c)
+          → f ≡ child_delay d (edge_resistance apart load t p c) (edge_capacitance apart load t p c) child
           → next ≡ stored (delays apart load t c f (below c)) (set table c f)
           → stored (delays apart load t p d (pending (k + 1))) next ≡ all
       unfolding delays stored
       lay-hit k c d child f table next all g h o b q m n =
           let step : pending k ≡ branch c (below c) (pending (k + 1)) = rw o (pending-hit k h (rw o at b)) in
           let one : Float → List Float = λ x. stored (delays apart load t c x (below c)) (set table c x) in
-          let is : f ≡ delayOfChild apart load t p d c (below c) =
-          m ∙ ap (childDelay d (edgeResistance apart load t p c) (edgeCapacitance apart load t p c)) q in
+          let is : f ≡ delay_of_child apart load t p d c (below c) =
+          m ∙ ap (child_delay d (edge_resistance apart load t p c) (edge_capacitance apart load t p c)) q in
           ap (stored (delays apart load t p d (pending (k + 1)))) (n ∙ ap one is)
-          ∙ sym (stored-append (delays apart load t c (delayOfChild apart load t p d c (below c)) (below c))
-          (delays apart load t p d (pending (k + 1))) (set table c (delayOfChild apart load t p d c (below c))))
+          ∙ sym (stored-append (delays apart load t c (delay_of_child apart load t p d c (below c)) (below c))
+          (delays apart load t p d (pending (k + 1))) (set table c (delay_of_child apart load t p d c (below c))))
           ∙ sym (ap (λ (x : Branches ℕ). stored (delays apart load t p d x) table) step)
           ∙ g
 
       pub lay-miss : (k c : ℕ) (d : Float) (table all : List Float) → stored (delays apart load t p d (pending k)) table ≡ all → k < e
-          → c ≡ childAt (get_or ks k 0) up p → treeBound ≤ c → stored (delays apart load t p d (pending (k + 1))) table ≡ all
+          → c ≡ child_at (get_or ks k 0) up p → tree_bound ≤ c → stored (delays apart load t p d (pending (k + 1))) table ≡ all
       lay-miss k c d table all g h e f =
           sym (ap (λ (b : Branches ℕ). stored (delays apart load t p d b) table) (pending-miss k h (rw e at f))) ∙ g
 

@@ -8,11 +8,11 @@
 --              neighbours, children        the points that an edge joins to a point, in the order of places; all but its parent
 --              rooted es driver            the tree of the edges es, rooted at the driver
 --              visited                     its points but the driver, each child after its parent
---   Elmore     edgeResistance, edgeCapacitance    an edge's values: the technology's number times plain length
+--   Elmore     edge_resistance, edge_capacitance    an edge's values: the technology's number times plain length
 --              capacitance, delays         the two passes
---              delayIn                     the delay that a list has for a point
---   Table      childrenFrom, hung          the rooted tree by numbers of points, as the code has it;  stored: delays put into a table
---   Memo       visitNumber, Memo           capacitances kept, each with the number of the visit that it is for
+--              delay_in                     the delay that a list has for a point
+--   Table      children_from, hung          the rooted tree by numbers of points, as the code has it;  stored: delays put into a table
+--   Memo       visit_number, Memo           capacitances kept, each with the number of the visit that it is for
 pub mod Rooted
 pub mod Elmore
 pub mod Table

@@ -3,7 +3,7 @@ use Rattle.std.specs.Prelude.{ℕ, zero, suc, true, false, not, List, [], ◌∷
 use Rattle.lists.specs.Those.{those}
 use Rattle.lists.specs.Sorted.{put}
 use Rattle.plane.specs.declared.Place.{Place}
-use Rattle.plane.specs.Place.{before, samePlace}
+use Rattle.plane.specs.Place.{before, same_place}
 
 -- what hangs from a point: nothing, or a child, what hangs from that child, and the children after it
 pub data Branches (A : Type 0) : Type 0 where
@@ -34,14 +34,14 @@ Every P (branch c below beside) = P c × (Every P below × Every P beside)
 unfoldable pub neighbours : List (Place × Place) → Place → List Place
 neighbours [] p = []
 neighbours (e ∷ es) p =
-    elim (samePlace e.0 p) [
+    elim (same_place e.0 p) [
       | true ↦ put before e.1 (neighbours es p)
-      | false ↦ elim (samePlace e.1 p) [ true ↦ put before e.0 (neighbours es p) | false ↦ neighbours es p ]
+      | false ↦ elim (same_place e.1 p) [ true ↦ put before e.0 (neighbours es p) | false ↦ neighbours es p ]
     ]
 
 -- Y1: the children of p are its neighbours but its parent `up`
 unfoldable pub children : List (Place × Place) → Place → Place → List Place
-children es up p = those (λ q. not (samePlace q up)) (neighbours es p)
+children es up p = those (λ q. not (same_place q up)) (neighbours es p)
 
 -- what hangs from p, whose parent is `up`, down to n steps below it
 unfoldable pub hanging : List (Place × Place) → ℕ → Place → Place → Branches Place

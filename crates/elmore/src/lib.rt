@@ -2,11 +2,11 @@
 mod child; // child.rt: the children of a point
 
 ghost use Rattle.std.specs.Prelude.{◌≡◌, ◌<◌, ◌≤◌};
-ghost use Rattle.tree.specs.Table.{treeBound};
+ghost use Rattle.tree.specs.Table.{tree_bound};
 ghost use Rattle.floats.specs.Float.{whole};
-ghost use Rattle.elmore.specs.Elmore.{edgeValue, withChild, childDelay, capacitance, delays};
-ghost use Rattle.elmore.specs.Table.{hung, apartIn, loadIn, stored};
-ghost use Rattle.elmore.specs.Memo.{Inside, visitNumber, Memo};
+ghost use Rattle.elmore.specs.Elmore.{edge_value, with_child, child_delay, capacitance, delays};
+ghost use Rattle.elmore.specs.Table.{hung, apart_in, load_in, stored};
+ghost use Rattle.elmore.specs.Memo.{Inside, visit_number, Memo};
 
 use crate::child::child_at;
 use floats::Technology;
@@ -22,53 +22,53 @@ pub struct Visit {
 
 // An edge's resistance or capacitance: the technology's number for a unit times the edge's length.
 fn edge_value(unit: f64, length: u64) -> f64
-    ensures { result ≡ edgeValue unit length }
+    ensures { result ≡ edge_value unit length }
 {
     unit * std::num::nearest_u64_to_f64(length)
 }
 
 // A sum of capacitances with one child more.
 fn with_child(sum: f64, child: f64, edge: f64) -> f64
-    ensures { result ≡ withChild sum child edge }
+    ensures { result ≡ with_child sum child edge }
 {
     sum + (child + edge)
 }
 
 // A child's delay.
 fn child_delay(parent: f64, resistance: f64, edge: f64, child: f64) -> f64
-    ensures { result ≡ childDelay parent resistance edge child }
+    ensures { result ≡ child_delay parent resistance edge child }
 {
     parent + resistance * (edge * 0.5 + child)
 }
 
 // The plain length of the edge of a and b.
 fn length(pts: &[i32; NUMBERS], a: usize, b: usize) -> u64
-    requires { (a < treeBound) × (b < treeBound) }
-    ensures { result ≡ apartIn pts.now a b }
+    requires { (a < tree_bound) × (b < tree_bound) }
+    ensures { result ≡ apart_in pts.now a b }
 {
     plane::distance(tree::point_at(pts, a), tree::point_at(pts, b))
 }
 
 fn load(loads: &[u64; POINTS], p: usize) -> f64
-    requires { p < treeBound }
-    ensures { result ≡ whole (loadIn loads.now p) }
+    requires { p < tree_bound }
+    ensures { result ≡ whole (load_in loads.now p) }
 {
     std::num::nearest_u64_to_f64(loads[p])
 }
 
 // A sum of capacitances at p with its child c more, whose own capacitance is known.
 fn add_child(pts: &[i32; NUMBERS], t: Technology, p: usize, c: usize, sum: f64, child: f64) -> f64
-    requires { (p < treeBound) × (c < treeBound) }
-    ensures { result ≡ withChild sum child (edgeValue t.capacitance (apartIn pts.now p c)) }
+    requires { (p < tree_bound) × (c < tree_bound) }
+    ensures { result ≡ with_child sum child (edge_value t.capacitance (apart_in pts.now p c)) }
 {
     with_child(sum, child, edge_value(t.capacitance, length(pts, p, c)))
 }
 
 // The delay of the child c of p, where the delay is d, from the child's capacitance.
 fn delay_below(pts: &[i32; NUMBERS], t: Technology, p: usize, c: usize, d: f64, child: f64) -> f64
-    requires { (p < treeBound) × (c < treeBound) }
-    ensures { result ≡ childDelay d (edgeValue t.resistance (apartIn pts.now p c))
-        (edgeValue t.capacitance (apartIn pts.now p c)) child }
+    requires { (p < tree_bound) × (c < tree_bound) }
+    ensures { result ≡ child_delay d (edge_value t.resistance (apart_in pts.now p c))
+        (edge_value t.capacitance (apart_in pts.now p c)) child }
 {
     let n = length(pts, p, c);
     child_delay(
@@ -82,7 +82,7 @@ fn delay_below(pts: &[i32; NUMBERS], t: Technology, p: usize, c: usize, d: f64, 
 // The number of a visit: no other's of its point, and not 0.
 fn visit_number(v: Visit) -> u32
     requires { Inside v }
-    ensures { result ≡ visitNumber v.up v.left }
+    ensures { result ≡ visit_number v.up v.left }
 {
     (v.up * (POINTS + 1) + v.left + 1) as u32
 }
@@ -99,9 +99,9 @@ pub fn capacitance(
     held: &mut [f64; POINTS],
     whose: &mut [u32; POINTS],
 ) -> f64
-    requires e_le_tree_bound { (e ≤ treeBound) × Inside v }
+    requires e_le_tree_bound { (e ≤ tree_bound) × Inside v }
     requires memo { Memo pts.now keys.now e loads.now t held.old whose.old }
-    ensures value { result ≡ capacitance (apartIn pts.now) (loadIn loads.now) t v.point
+    ensures value { result ≡ capacitance (apart_in pts.now) (load_in loads.now) t v.point
         (hung keys.now e v.left v.up v.point) }
     ensures memo_2 { Memo pts.now keys.now e loads.now t held.new whose.new }
 {
@@ -147,9 +147,9 @@ pub fn lay(
     whose: &mut [u32; POINTS],
     table: &mut [f64; POINTS],
 )
-    requires e_le_tree_bound { (e ≤ treeBound) × Inside v }
+    requires e_le_tree_bound { (e ≤ tree_bound) × Inside v }
     requires memo { Memo pts.now keys.now e loads.now t held.old whose.old }
-    ensures table_after { table.new ≡ stored (delays (apartIn pts.now) (loadIn loads.now) t v.point d
+    ensures table_after { table.new ≡ stored (delays (apart_in pts.now) (load_in loads.now) t v.point d
         (hung keys.now e v.left v.up v.point)) table.old }
     ensures memo_2 { Memo pts.now keys.now e loads.now t held.new whose.new }
 {

@@ -6,12 +6,12 @@ ghost use Rattle.std.specs.Prelude.{◌≡◌, ◌+◌, ◌*◌, ◌≤◌, ◌<
 ghost use Rattle.std.proofs.lemmas.List.Edits.{sets};
 ghost use Rattle.lent.specs.Over.{over};
 ghost use Rattle.lent.specs.Entries.{flat};
-ghost use Rattle.plane.specs.Flat.{placeNumbers};
-ghost use Rattle.net.specs.Pins.{pinPlaces};
-ghost use Rattle.blocks.specs.Sizes.{blockBytes, perBlock, blocksFor, blockCount, fileBlocks};
+ghost use Rattle.plane.specs.Flat.{place_numbers};
+ghost use Rattle.net.specs.Pins.{pin_places};
+ghost use Rattle.blocks.specs.Sizes.{block_bytes, per_block, blocks_for, block_count, file_blocks};
 ghost use Rattle.blocks.specs.Words.{bytes_of};
-ghost use Rattle.blocks.specs.Block.{listBlock};
-ghost use Rattle.encoded.specs.Layout.{allBlocks, isLoad, loaded, stored, laidBytes, fileBytes};
+ghost use Rattle.blocks.specs.Block.{list_block};
+ghost use Rattle.encoded.specs.Layout.{all_blocks, is_load, loaded, stored, laid_bytes, file_bytes};
 ghost use Rattle.encoded.specs.Same.{same_numbers};
 
 use blocks::{
@@ -29,8 +29,8 @@ fn next_block(
     numbers: &[i32],
     from: usize,
 ) -> [u32; BLOCK_WORDS]
-    requires { ((0 < w) × (number ≤ fileBlocks)) × (from ≤ length numbers.now) }
-    ensures { result ≡ listBlock kind w number (take perBlock (drop from numbers.now)) }
+    requires { ((0 < w) × (number ≤ file_blocks)) × (from ≤ length numbers.now) }
+    ensures { result ≡ list_block kind w number (take per_block (drop from numbers.now)) }
 {
     if numbers.len() - from < PER_BLOCK {
         return blocks::list_block(kind, w, number, &numbers[from..]);
@@ -41,10 +41,10 @@ fn next_block(
 
 // The blocks of a list, from the one numbered `first` on.
 fn put_list(bytes: &mut [u8], kind: u32, w: usize, first: usize, numbers: &[i32])
-    requires { (0 < w) × ((first + blocksFor (length numbers.now) ≤ fileBlocks)
-        × ((first + blocksFor (length numbers.now)) * blockBytes ≤ length bytes.old)) }
+    requires { (0 < w) × ((first + blocks_for (length numbers.now) ≤ file_blocks)
+        × ((first + blocks_for (length numbers.now)) * block_bytes ≤ length bytes.old)) }
     ensures { bytes.new
-        ≡ sets bytes.old (first * blockBytes) (bytes_of (allBlocks kind w first numbers.now)) }
+        ≡ sets bytes.old (first * block_bytes) (bytes_of (all_blocks kind w first numbers.now)) }
 {
     let count = blocks::blocks_for(numbers.len());
     let mut j = 0;
@@ -68,9 +68,9 @@ fn put_lists(
     numbers: &[i32],
     macros: &[i32],
 )
-    requires { (0 < w) × ((blockCount (length numbers.now) (length macros.now) ≤ fileBlocks)
-        × (blockCount (length numbers.now) (length macros.now) * blockBytes ≤ length bytes.old)) }
-    ensures { bytes.new ≡ over (laidBytes weights (record { kind = kind; width = w; numbers = numbers.now })
+    requires { (0 < w) × ((block_count (length numbers.now) (length macros.now) ≤ file_blocks)
+        × (block_count (length numbers.now) (length macros.now) * block_bytes ≤ length bytes.old)) }
+    ensures { bytes.new ≡ over (laid_bytes weights (record { kind = kind; width = w; numbers = numbers.now })
         macros.now) bytes.old }
 {
     let first = 1 + blocks::blocks_for(numbers.len());
@@ -85,7 +85,7 @@ fn put_lists(
 
 // Whether a number is a load: any number but 0.
 fn is_load(z: i32) -> bool
-    ensures { result ≡ isLoad z }
+    ensures { result ≡ is_load z }
 {
     (z < 0) | (0 < z)
 }
@@ -117,8 +117,8 @@ fn stored_length(pins: &[i32]) -> usize
 
 // The pins' places alone.
 fn put_places(pins: &[i32], places: &mut [i32])
-    requires { length (flat placeNumbers (pinPlaces pins.now)) ≤ length places.old }
-    ensures { places.new ≡ over (flat placeNumbers (pinPlaces pins.now)) places.old }
+    requires { length (flat place_numbers (pin_places pins.now)) ≤ length places.old }
+    ensures { places.new ≡ over (flat place_numbers (pin_places pins.now)) places.old }
 {
     let m = net::pin_count(pins);
     let mut i = 0;
@@ -130,9 +130,9 @@ fn put_places(pins: &[i32], places: &mut [i32])
 
 // The file of two weights and two lists, from the first lent byte on.
 pub fn put_file(bytes: &mut [u8], w: Weights, pins: &[i32], macros: &[i32])
-    requires { (blockCount (length (stored pins.now).numbers) (length macros.now) ≤ fileBlocks)
-        × (blockCount (length (stored pins.now).numbers) (length macros.now) * blockBytes ≤ length bytes.old) }
-    ensures { bytes.new ≡ over (fileBytes w pins.now macros.now) bytes.old }
+    requires { (block_count (length (stored pins.now).numbers) (length macros.now) ≤ file_blocks)
+        × (block_count (length (stored pins.now).numbers) (length macros.now) * block_bytes ≤ length bytes.old) }
+    ensures { bytes.new ≡ over (file_bytes w pins.now macros.now) bytes.old }
 {
     if are_loaded(pins) {
         put_lists(&mut *bytes, w, LOADED_KIND, Net::PIN_NUMBERS, pins, macros);
@@ -153,8 +153,8 @@ pub fn put_file(bytes: &mut [u8], w: Weights, pins: &[i32], macros: &[i32])
 
 // The bytes of the file of two lists, which its weights do not change.
 pub fn file_length(pins: &[i32], macros: &[i32]) -> usize
-    requires { blockCount (length (stored pins.now).numbers) (length macros.now) ≤ fileBlocks }
-    ensures { result ≡ blockCount (length (stored pins.now).numbers) (length macros.now) * blockBytes }
+    requires { block_count (length (stored pins.now).numbers) (length macros.now) ≤ file_blocks }
+    ensures { result ≡ block_count (length (stored pins.now).numbers) (length macros.now) * block_bytes }
 {
     (1 + blocks::blocks_for(stored_length(pins)) + blocks::blocks_for(macros.len())) * BLOCK_BYTES
 }
@@ -178,8 +178,8 @@ fn same_bytes(a: &[u8], b: &[u8]) -> bool
 
 // Whether the bytes are the file of two weights and two lists: that file is written, and compared.
 pub fn is_file_of(bytes: &[u8], w: Weights, pins: &[i32], macros: &[i32]) -> bool
-    requires { blockCount (length (stored pins.now).numbers) (length macros.now) ≤ fileBlocks }
-    ensures { result ≡ same_numbers bytes.now (fileBytes w pins.now macros.now) }
+    requires { block_count (length (stored pins.now).numbers) (length macros.now) ≤ file_blocks }
+    ensures { result ≡ same_numbers bytes.now (file_bytes w pins.now macros.now) }
 {
     let mut file = [0u8; LONGEST];
     put_file(&mut file, w, pins, macros);

@@ -19,15 +19,15 @@ use Rattle.plane.specs.declared.Macro.{Macro}
 use Rattle.plane.specs.declared.Weights.{Weights}
 use Rattle.plane.specs.Cost.{cost}
 use Rattle.plane.specs.Macro.{clear}
-use Rattle.plane.specs.Flat.{placeAt}
+use Rattle.plane.specs.Flat.{place_at}
 use Rattle.plane.proofs.CostLaws.{cost-comm, cost-self}
 use Rattle.plane.proofs.MacroLaws.{clear_comm}
 use Rattle.joined.specs.Joined.{Link, Alike, Joined, stay}
 use Rattle.joined.proofs.JoinedLaws.{one as one_link}
-use Rattle.tree.specs.Table.{treeBound, key, firstEnd, secondEnd, Tree, In, Within}
-use Rattle.tree.specs.Sum.{sumOver}
-use Rattle.exchanges.specs.Exchange.{dropTwo}
-use Rattle.tree.specs.Places.{endsOf, edgesOf, keyCost}
+use Rattle.tree.specs.Table.{tree_bound, key, first_end, second_end, Tree, In, Within}
+use Rattle.tree.specs.Sum.{sum_over}
+use Rattle.exchanges.specs.Exchange.{drop_two}
+use Rattle.tree.specs.Places.{ends_of, edges_of, key_cost}
 use Rattle.tree.proofs.SumLaws.{below-same, below_at, below-some, one, one_same, one-some, one-not, in_table, of-table}
 use Rattle.exchanges.proofs.ExchangeSums.{between}
 use Rattle.exchanges.proofs.ExchangeSums.{over-dropped}
@@ -66,53 +66,53 @@ between_none g p a e =
 
 -- the tables after an exchange: point i has the number m i, s the number p; the edges k and l are gone
 pub record After (pts : List ℤ) (n : ℕ) (ks : List ℕ) (e k l a b u p : ℕ) (s : Place) (m : ℕ → ℕ) (t : Tree) : Type 0 where
-  pub old : (i : ℕ) → i < n → placeAt t.points (m i) ≡ placeAt pts i
-  pub new : placeAt t.points p ≡ s
-  pub low : (i : ℕ) → i < n → m i < treeBound
-  pub lowest : p < treeBound
-  pub sums : (g : ℕ → ℕ) → sumOver g t.edges.keys t.edges.size
-      ≡ between g p (m u) + (between g p (m b) + (between g p (m a) + sumOver (λ j. g (key (m (firstEnd j)) (m (secondEnd j))))
-      (dropTwo e k l ks) e))
+  pub old : (i : ℕ) → i < n → place_at t.points (m i) ≡ place_at pts i
+  pub new : place_at t.points p ≡ s
+  pub low : (i : ℕ) → i < n → m i < tree_bound
+  pub lowest : p < tree_bound
+  pub sums : (g : ℕ → ℕ) → sum_over g t.edges.keys t.edges.size
+      ≡ between g p (m u) + (between g p (m b) + (between g p (m a) + sum_over (λ j. g (key (m (first_end j)) (m (second_end j))))
+      (drop_two e k l ks) e))
 
-pub first_of : (x y : ℕ) → y < treeBound → firstEnd (key x y) ≡ x
+pub first_of : (x y : ℕ) → y < tree_bound → first_end (key x y) ≡ x
 first_of x y h = omega arith
 
-pub second-of : (x y : ℕ) → y < treeBound → secondEnd (key x y) ≡ y
+pub second-of : (x y : ℕ) → y < tree_bound → second_end (key x y) ≡ y
 second-of x y h = omega arith
 
 module _ {pts : List ℤ} {n : ℕ} {ks : List ℕ} {e k l a b u p : ℕ} {s : Place} {m : ℕ → ℕ} {t : Tree}
     (after : After pts n ks e k l a b u p s m t) (w : Within n ks) (hk : k < suc (suc e)) (hl : l < suc (suc e)) (kl : k ≡ l → ⊥)
     (ha : a < n) (hb : b < n) (hu : u < n) where
   abbrev pub T : List (Place × Place)
-  T = edgesOf pts ks (suc (suc e))
+  T = edges_of pts ks (suc (suc e))
 
   abbrev pub U : List (Place × Place)
-  U = edgesOf t.points t.edges.keys t.edges.size
+  U = edges_of t.points t.edges.keys t.edges.size
 
   abbrev pub moved : ℕ → ℕ
-  moved j = key (m (firstEnd j)) (m (secondEnd j))
+  moved j = key (m (first_end j)) (m (second_end j))
 
   -- the ends of an edge under its new number
-  pub moved_ends : (j : ℕ) → In n j → endsOf t.points (moved j) ≡ endsOf pts j
+  pub moved_ends : (j : ℕ) → In n j → ends_of t.points (moved j) ≡ ends_of pts j
   moved_ends j i =
       ap₂ (λ (x y : Place). (x, y))
-      (ap (placeAt t.points) (first_of (m (firstEnd j)) (m (secondEnd j)) (after.low _ i.1)) ∙ after.old _ i.0)
-      (ap (placeAt t.points) (second-of (m (firstEnd j)) (m (secondEnd j)) (after.low _ i.1)) ∙ after.old _ i.1)
+      (ap (place_at t.points) (first_of (m (first_end j)) (m (second_end j)) (after.low _ i.1)) ∙ after.old _ i.0)
+      (ap (place_at t.points) (second-of (m (first_end j)) (m (second_end j)) (after.low _ i.1)) ∙ after.old _ i.1)
 
   -- an edge whose key has a part in the sums is there
-  pub there-is : (j : ℕ) (x y : Place) → 0 < sumOver (one j) t.edges.keys t.edges.size → endsOf t.points j ≡ (x, y) → (x, y) ∈ U
+  pub there-is : (j : ℕ) (x y : Place) → 0 < sum_over (one j) t.edges.keys t.edges.size → ends_of t.points j ≡ (x, y) → (x, y) ∈ U
   there-is j x y h f =
       let r = in_table j t.edges.keys t.edges.size h in
-      Memᴰ.cast (sym f ∙ ap (endsOf t.points) (sym r.1.1))
-      (in-listing (λ i. endsOf t.points (get_or t.edges.keys i 0)) t.edges.size
+      Memᴰ.cast (sym f ∙ ap (ends_of t.points) (sym r.1.1))
+      (in-listing (λ i. ends_of t.points (get_or t.edges.keys i 0)) t.edges.size
       r.0 r.1.0)
 
   -- an edge that is neither k nor l is still there
-  left : (i : ℕ) → i < suc (suc e) → (get_or ks i 0 ≡ get_or ks k 0 → ⊥) → (get_or ks i 0 ≡ get_or ks l 0 → ⊥) → endsOf pts (get_or ks i 0) ∈ U
+  left : (i : ℕ) → i < suc (suc e) → (get_or ks i 0 ≡ get_or ks k 0 → ⊥) → (get_or ks i 0 ≡ get_or ks l 0 → ⊥) → ends_of pts (get_or ks i 0) ∈ U
   left i h nk nl =
       let j = get_or ks i 0 in
       let d = over-dropped (one j) e k l ks hk hl kl in
-      let some : 0 < sumOver (one j) (dropTwo e k l ks) e
+      let some : 0 < sum_over (one j) (drop_two e k l ks) e
       = omega (
         arith,
         d,
@@ -121,31 +121,31 @@ module _ {pts : List ℤ} {n : ℕ} {ks : List ℕ} {e k l a b u p : ℕ} {s : P
         one-not j (get_or ks l 0)
             (λ q. nl (sym q)),
       ) in
-      let r = in_table j (dropTwo e k l ks) e some in
-      let v : one (moved j) (moved (get_or (dropTwo e k l ks) r.0 0)) ≡ 1 = ap (λ (q : ℕ). one (moved j) (moved q)) r.1.1
+      let r = in_table j (drop_two e k l ks) e some in
+      let v : one (moved j) (moved (get_or (drop_two e k l ks) r.0 0)) ≡ 1 = ap (λ (q : ℕ). one (moved j) (moved q)) r.1.1
       ∙ one_same (moved j) in
-      let x = below_at (λ q. one (moved j) (moved (get_or (dropTwo e k l ks) q 0))) e r.0 r.1.0 in
+      let x = below_at (λ q. one (moved j) (moved (get_or (drop_two e k l ks) q 0))) e r.0 r.1.0 in
       there-is (moved j) _ _ (omega (arith, after.sums (one (moved j)), v, x)) (moved_ends j (w.ends i))
 
   abbrev pub Sorted : Place → Place → Type 0
-  Sorted x y = ((x, y) ≡ endsOf pts (get_or ks k 0)) ⊎ (((x, y) ≡ endsOf pts (get_or ks l 0)) ⊎ ((x, y) ∈ U))
+  Sorted x y = ((x, y) ≡ ends_of pts (get_or ks k 0)) ⊎ (((x, y) ≡ ends_of pts (get_or ks l 0)) ⊎ ((x, y) ∈ U))
 
   pub sorted : (x y : Place) → (x, y) ∈ T → Sorted x y
-  sorted x y i = at (of-listing (λ j. endsOf pts (get_or ks j 0)) (suc (suc e)) (x, y) i)
+  sorted x y i = at (of-listing (λ j. ends_of pts (get_or ks j 0)) (suc (suc e)) (x, y) i)
     where
-      at : (j : ℕ) × ((j < suc (suc e)) × ((x, y) ≡ endsOf pts (get_or ks j 0))) → Sorted x y
+      at : (j : ℕ) × ((j < suc (suc e)) × ((x, y) ≡ ends_of pts (get_or ks j 0))) → Sorted x y
       at r =
           let j = get_or ks r.0 0 in
           by (eqb j (get_or ks k 0))
-          (λ q. inl (r.1.1 ∙ ap (endsOf pts) (eqb-true _ _ q)))
+          (λ q. inl (r.1.1 ∙ ap (ends_of pts) (eqb-true _ _ q)))
           (λ q.
           by (eqb j (get_or ks l 0))
-          (λ v. inr (inl (r.1.1 ∙ ap (endsOf pts) (eqb-true _ _ v))))
+          (λ v. inr (inl (r.1.1 ∙ ap (ends_of pts) (eqb-true _ _ v))))
           (λ v. inr (inr (Memᴰ.cast r.1.1 (left r.0 r.1.0 (eqb-false _ _ q) (eqb-false _ _ v))))))
 
   -- each link is the edge k, or l, or still there
-  pub still : (x y : Place) → Link T x y → Alike x y (endsOf pts (get_or ks k 0)).0 (endsOf pts (get_or ks k 0)).1
-      ⊎ (Alike x y (endsOf pts (get_or ks l 0)).0 (endsOf pts (get_or ks l 0)).1 ⊎ Link U x y)
+  pub still : (x y : Place) → Link T x y → Alike x y (ends_of pts (get_or ks k 0)).0 (ends_of pts (get_or ks k 0)).1
+      ⊎ (Alike x y (ends_of pts (get_or ks l 0)).0 (ends_of pts (get_or ks l 0)).1 ⊎ Link U x y)
   still x y (inl i) =
       either (λ q. inl (inl (ap (λ (z : Place × Place). z.0) q, ap (λ (z : Place × Place). z.1) q)))
       (either (λ q. inr (inl (inl (ap (λ (z : Place × Place). z.0) q, ap (λ (z : Place × Place). z.1) q)))) (λ q. inr (inr (inl q))))
@@ -155,65 +155,65 @@ module _ {pts : List ℤ} {n : ℕ} {ks : List ℕ} {e k l a b u p : ℕ} {s : P
       (either (λ q. inr (inl (inr (ap (λ (z : Place × Place). z.1) q, ap (λ (z : Place × Place). z.0) q)))) (λ q. inr (inr (inr q))))
       (sorted y x i)
 
-  pub ends : (c d : ℕ) (x y : Place) → d < treeBound → placeAt t.points c ≡ x → placeAt t.points d ≡ y →
-      endsOf t.points (key c d) ≡ (x, y)
+  pub ends : (c d : ℕ) (x y : Place) → d < tree_bound → place_at t.points c ≡ x → place_at t.points d ≡ y →
+      ends_of t.points (key c d) ≡ (x, y)
   ends c d x y h f g =
-      ap₂ (λ (v z : Place). (v, z)) (ap (placeAt t.points) (first_of c d h) ∙ f) (ap (placeAt t.points) (second-of c d h) ∙ g)
+      ap₂ (λ (v z : Place). (v, z)) (ap (place_at t.points) (first_of c d h) ∙ f) (ap (place_at t.points) (second-of c d h) ∙ g)
 
   -- s is joined with a point to which an edge is laid
-  laid : (x : ℕ) → x < n → ((g : ℕ → ℕ) → between g p (m x) ≤ sumOver g t.edges.keys t.edges.size) → Joined U s (placeAt pts x)
+  laid : (x : ℕ) → x < n → ((g : ℕ → ℕ) → between g p (m x) ≤ sum_over g t.edges.keys t.edges.size) → Joined U s (place_at pts x)
   laid x h part =
       by (ltb p (m x))
       (λ q.
       let j = key p (m x) in
       let v : between (one j) p (m x) ≡ one j j = between-less (one j) p (m x) q in
-      one_link (inl (there-is j s (placeAt pts x) (omega (arith, part (one j), v, one_same j))
-      (ends p (m x) s (placeAt pts x) (after.low x h) after.new (after.old x h)))))
+      one_link (inl (there-is j s (place_at pts x) (omega (arith, part (one j), v, one_same j))
+      (ends p (m x) s (place_at pts x) (after.low x h) after.new (after.old x h)))))
       (λ q.
       by (ltb (m x) p)
       (λ r.
       let j = key (m x) p in
       let v : between (one j) p (m x) ≡ one j j = between_more (one j) p (m x) q r in
-      one_link (inr (there-is j (placeAt pts x) s (omega (arith, part (one j), v, one_same j))
-      (ends (m x) p (placeAt pts x) s after.lowest (after.old x h) after.new))))
+      one_link (inr (there-is j (place_at pts x) s (omega (arith, part (one j), v, one_same j))
+      (ends (m x) p (place_at pts x) s after.lowest (after.old x h) after.new))))
       (λ r.
       let v : p ≡ m x = omega (arith, ltb-false p (m x) q, ltb-false (m x) p r) in
-      stay (sym after.new ∙ ap (placeAt t.points) v ∙ after.old x h)))
+      stay (sym after.new ∙ ap (place_at t.points) v ∙ after.old x h)))
 
-  pub to-a : Joined U s (placeAt pts a)
+  pub to-a : Joined U s (place_at pts a)
   to-a = laid a ha (λ g. omega (arith, after.sums g))
 
-  pub to-b : Joined U s (placeAt pts b)
+  pub to-b : Joined U s (place_at pts b)
   to-b = laid b hb (λ g. omega (arith, after.sums g))
 
-  pub to-u : Joined U s (placeAt pts u)
+  pub to-u : Joined U s (place_at pts u)
   to-u = laid u hu (λ g. omega (arith, after.sums g))
 
   -- an edge of the key j is one from s, or was there
   pub data Origin (j : ℕ) : Type 0 where
-    from-s : (x : ℕ) → x < n → (x ≡ a) ⊎ ((x ≡ b) ⊎ (x ≡ u)) → endsOf t.points j ≡ (s, placeAt pts x) → Origin j
-    to-s : (x : ℕ) → x < n → (x ≡ a) ⊎ ((x ≡ b) ⊎ (x ≡ u)) → endsOf t.points j ≡ (placeAt pts x, s) → Origin j
-    was : (i : ℕ) → i < suc (suc e) → endsOf t.points j ≡ endsOf pts (get_or ks i 0) → Origin j
+    from-s : (x : ℕ) → x < n → (x ≡ a) ⊎ ((x ≡ b) ⊎ (x ≡ u)) → ends_of t.points j ≡ (s, place_at pts x) → Origin j
+    to-s : (x : ℕ) → x < n → (x ≡ a) ⊎ ((x ≡ b) ⊎ (x ≡ u)) → ends_of t.points j ≡ (place_at pts x, s) → Origin j
+    was : (i : ℕ) → i < suc (suc e) → ends_of t.points j ≡ ends_of pts (get_or ks i 0) → Origin j
 
   pub from-part : (j x : ℕ) → x < n → (x ≡ a) ⊎ ((x ≡ b) ⊎ (x ≡ u)) → 0 < between (one j) p (m x) → Origin j
   from-part j x h which some =
       either
-      (λ q. from-s x h which (ap (endsOf t.points) (sym (one-some j (key p (m x)) q)) ∙ ends p (m x) s (placeAt pts x) (after.low x h)
+      (λ q. from-s x h which (ap (ends_of t.points) (sym (one-some j (key p (m x)) q)) ∙ ends p (m x) s (place_at pts x) (after.low x h)
       after.new (after.old x h)))
-      (λ q. to-s x h which (ap (endsOf t.points) (sym (one-some j (key (m x) p) q)) ∙ ends (m x) p (placeAt pts x) s after.lowest
+      (λ q. to-s x h which (ap (ends_of t.points) (sym (one-some j (key (m x) p) q)) ∙ ends (m x) p (place_at pts x) s after.lowest
       (after.old x h) after.new))
       (between-some (one j) p (m x) some)
 
-  from-left : (j : ℕ) → 0 < sumOver (λ q. one j (moved q)) (dropTwo e k l ks) e → Origin j
+  from-left : (j : ℕ) → 0 < sum_over (λ q. one j (moved q)) (drop_two e k l ks) e → Origin j
   from-left j some =
       let r = below-some _ e some in
-      let q = get_or (dropTwo e k l ks) r.0 0 in
+      let q = get_or (drop_two e k l ks) r.0 0 in
       let d = over-dropped (one q) e k l ks hk hl kl in
-      let o = in_table q ks (suc (suc e)) (omega (arith, d, of-table (dropTwo e k l ks) e r.0 r.1.0)) in
+      let o = in_table q ks (suc (suc e)) (omega (arith, d, of-table (drop_two e k l ks) e r.0 r.1.0)) in
       was o.0 o.1.0
-      (ap (endsOf t.points) (sym (one-some j (moved q) r.1.1))
+      (ap (ends_of t.points) (sym (one-some j (moved q) r.1.1))
       ∙ moved_ends q ((within-dropped n e k l ks w).ends r.0)
-      ∙ ap (endsOf pts) (sym o.1.1))
+      ∙ ap (ends_of pts) (sym o.1.1))
 
   origin : (i : ℕ) → i < t.edges.size → Origin (get_or t.edges.keys i 0)
   origin i h =
@@ -234,23 +234,23 @@ module _ {pts : List ℤ} {n : ℕ} {ks : List ℕ} {e k l a b u p : ℕ} {s : P
       ))
 
   -- every edge is clear, where those of before and those from s are
-  module _ (ms : List Macro) (sa : clear s (placeAt pts a) ms ≡ true) (sb : clear s (placeAt pts b) ms ≡ true)
-      (su : clear s (placeAt pts u) ms ≡ true)
-      (free : (i : ℕ) → i < suc (suc e) → clear (endsOf pts (get_or ks i 0)).0 (endsOf pts (get_or ks i 0)).1 ms ≡ true) where
-    s-clear : (x : ℕ) → (x ≡ a) ⊎ ((x ≡ b) ⊎ (x ≡ u)) → clear s (placeAt pts x) ms ≡ true
-    s-clear x (inl q) = ap (λ (y : ℕ). clear s (placeAt pts y) ms) q ∙ sa
-    s-clear x (inr (inl q)) = ap (λ (y : ℕ). clear s (placeAt pts y) ms) q ∙ sb
-    s-clear x (inr (inr q)) = ap (λ (y : ℕ). clear s (placeAt pts y) ms) q ∙ su
+  module _ (ms : List Macro) (sa : clear s (place_at pts a) ms ≡ true) (sb : clear s (place_at pts b) ms ≡ true)
+      (su : clear s (place_at pts u) ms ≡ true)
+      (free : (i : ℕ) → i < suc (suc e) → clear (ends_of pts (get_or ks i 0)).0 (ends_of pts (get_or ks i 0)).1 ms ≡ true) where
+    s-clear : (x : ℕ) → (x ≡ a) ⊎ ((x ≡ b) ⊎ (x ≡ u)) → clear s (place_at pts x) ms ≡ true
+    s-clear x (inl q) = ap (λ (y : ℕ). clear s (place_at pts y) ms) q ∙ sa
+    s-clear x (inr (inl q)) = ap (λ (y : ℕ). clear s (place_at pts y) ms) q ∙ sb
+    s-clear x (inr (inr q)) = ap (λ (y : ℕ). clear s (place_at pts y) ms) q ∙ su
 
     abbrev Clear : Place × Place → Type 0
     Clear z = clear z.0 z.1 ms ≡ true
 
-    clear_at : (j : ℕ) → Origin j → Clear (endsOf t.points j)
+    clear_at : (j : ℕ) → Origin j → Clear (ends_of t.points j)
     clear_at j (from-s x h which q) = subst Clear (sym q) (s-clear x which)
-    clear_at j (to-s x h which q) = subst Clear (sym q) (clear_comm (placeAt pts x) s ms ∙ s-clear x which)
+    clear_at j (to-s x h which q) = subst Clear (sym q) (clear_comm (place_at pts x) s ms ∙ s-clear x which)
     clear_at j (was i h q) = subst Clear (sym q) (free i h)
 
-    pub after-clear : (i : ℕ) → i < t.edges.size → Clear (endsOf t.points (get_or t.edges.keys i 0))
+    pub after-clear : (i : ℕ) → i < t.edges.size → Clear (ends_of t.points (get_or t.edges.keys i 0))
     after-clear i h = clear_at _ (origin i h)
 
   -- the costs
@@ -258,30 +258,30 @@ module _ {pts : List ℤ} {n : ℕ} {ks : List ℕ} {e k l a b u p : ℕ} {s : P
     abbrev long : Place × Place → ℕ
     long z = cost weights z.0 z.1
 
-    cost-part : (x : ℕ) → x < n → between (keyCost weights t.points) p (m x) ≡ cost weights s (placeAt pts x)
+    cost-part : (x : ℕ) → x < n → between (key_cost weights t.points) p (m x) ≡ cost weights s (place_at pts x)
     cost-part x h =
         by (ltb p (m x))
         (λ q.
-        between-less (keyCost weights t.points) p (m x) q
-        ∙ ap long (ends p (m x) s (placeAt pts x) (after.low x h) after.new (after.old x h)))
+        between-less (key_cost weights t.points) p (m x) q
+        ∙ ap long (ends p (m x) s (place_at pts x) (after.low x h) after.new (after.old x h)))
         (λ q.
         by (ltb (m x) p)
         (λ r.
-        between_more (keyCost weights t.points) p (m x) q r
-        ∙ ap long (ends (m x) p (placeAt pts x) s after.lowest (after.old x h) after.new)
-        ∙ cost-comm weights (placeAt pts x) s)
+        between_more (key_cost weights t.points) p (m x) q r
+        ∙ ap long (ends (m x) p (place_at pts x) s after.lowest (after.old x h) after.new)
+        ∙ cost-comm weights (place_at pts x) s)
         (λ r.
         let v : p ≡ m x = omega (arith, ltb-false p (m x) q, ltb-false (m x) p r) in
-        let o : s ≡ placeAt pts x = sym after.new ∙ ap (placeAt t.points) v ∙ after.old x h in
-        between_none (keyCost weights t.points) p (m x) v ∙ sym (ap (cost weights s) (sym o) ∙ cost-self weights s)))
+        let o : s ≡ place_at pts x = sym after.new ∙ ap (place_at t.points) v ∙ after.old x h in
+        between_none (key_cost weights t.points) p (m x) v ∙ sym (ap (cost weights s) (sym o) ∙ cost-self weights s)))
 
-    pub after-costs : sumOver (keyCost weights t.points) t.edges.keys t.edges.size
-        + (keyCost weights pts (get_or ks k 0) + keyCost weights pts (get_or ks l 0))
-        ≡ sumOver (keyCost weights pts) ks (suc (suc e))
-        + (cost weights s (placeAt pts u) + (cost weights s (placeAt pts b) + cost weights s (placeAt pts a)))
+    pub after-costs : sum_over (key_cost weights t.points) t.edges.keys t.edges.size
+        + (key_cost weights pts (get_or ks k 0) + key_cost weights pts (get_or ks l 0))
+        ≡ sum_over (key_cost weights pts) ks (suc (suc e))
+        + (cost weights s (place_at pts u) + (cost weights s (place_at pts b) + cost weights s (place_at pts a)))
     after-costs =
-        let same : sumOver (λ j. keyCost weights t.points (moved j)) (dropTwo e k l ks) e ≡ sumOver (keyCost weights pts)
-        (dropTwo e k l ks) e
+        let same : sum_over (λ j. key_cost weights t.points (moved j)) (drop_two e k l ks) e ≡ sum_over (key_cost weights pts)
+        (drop_two e k l ks) e
         = below-same _ _ e (λ i h. ap long (moved_ends _ ((within-dropped n e k l ks w).ends i))) in
-        let dropped = over-dropped (keyCost weights pts) e k l ks hk hl kl in
-        omega (arith, after.sums (keyCost weights t.points), dropped, same, cost-part a ha, cost-part b hb, cost-part u hu)
+        let dropped = over-dropped (key_cost weights pts) e k l ks hk hl kl in
+        omega (arith, after.sums (key_cost weights t.points), dropped, same, cost-part a ha, cost-part b hb, cost-part u hu)

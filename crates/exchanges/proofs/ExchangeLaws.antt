@@ -9,24 +9,24 @@ use lib.IntN.{ℤ}
 use lib.ListN.{get_or, set}
 use borrow.Author.Tests.{lt-ltb, le-ltb}
 use Rattle.plane.specs.declared.Place.{Place}
-use Rattle.plane.specs.Flat.{placeAt}
-use Rattle.plane.specs.Place.{before, samePlace}
+use Rattle.plane.specs.Flat.{place_at}
+use Rattle.plane.specs.Place.{before, same_place}
 use Rattle.plane.specs.Rank.{later}
-use Rattle.exchanges.specs.Exchange.{bump, bumpAt, carrying, closed, closing, dropTwo, hand, lay, lays, star, opened, push}
-use Rattle.tree.specs.Table.{setPoint}
+use Rattle.exchanges.specs.Exchange.{bump, bump_at, carrying, closed, closing, drop_two, hand, lay, lays, star, opened, push}
+use Rattle.tree.specs.Table.{set_point}
 use Rattle.exchanges.specs.Exchange.{stands}
-use Rattle.tree.specs.Table.{Row, firstEnd, key, treeBound, row, secondEnd}
+use Rattle.tree.specs.Table.{Row, first_end, key, tree_bound, row, second_end}
 use Rattle.lists.specs.Turns.{turns}
 
-pub drop-less : (n k l : ℕ) (xs ys zs : List ℕ) → k < l → ys ≡ closed l (n + 1) xs → zs ≡ closed k n ys → zs ≡ dropTwo n k l xs
-unfolding dropTwo
-drop-less n k l xs ys zs h e f = rw (dropTwo, lt-ltb _ _ h, f, e) refl
+pub drop-less : (n k l : ℕ) (xs ys zs : List ℕ) → k < l → ys ≡ closed l (n + 1) xs → zs ≡ closed k n ys → zs ≡ drop_two n k l xs
+unfolding drop_two
+drop-less n k l xs ys zs h e f = rw (drop_two, lt-ltb _ _ h, f, e) refl
 
-pub drop_more : (n k l : ℕ) (xs ys zs : List ℕ) → l ≤ k → ys ≡ closed k (n + 1) xs → zs ≡ closed l n ys → zs ≡ dropTwo n k l xs
-unfolding dropTwo
-drop_more n k l xs ys zs h e f = rw (dropTwo, le-ltb _ _ h, f, e) refl
+pub drop_more : (n k l : ℕ) (xs ys zs : List ℕ) → l ≤ k → ys ≡ closed k (n + 1) xs → zs ≡ closed l n ys → zs ≡ drop_two n k l xs
+unfolding drop_two
+drop_more n k l xs ys zs h e f = rw (drop_two, le-ltb _ _ h, f, e) refl
 
-pub later-is : (pts : List ℤ) (s p : Place) (i : ℕ) (t : Bool) → p ≡ placeAt pts i → before p s ≡ t → later pts s i ≡ not t
+pub later-is : (pts : List ℤ) (s p : Place) (i : ℕ) (t : Bool) → p ≡ place_at pts i → before p s ≡ t → later pts s i ≡ not t
 unfolding later
 later-is pts s p i t e f = rw (← e, f) refl
 
@@ -38,17 +38,17 @@ pub bump-ge : (p i : ℕ) → p ≤ i → i + 1 ≡ bump p i
 unfolding bump
 bump-ge p i h = rw (bump, le-ltb _ _ h) refl
 
-pub bump-at-is : (p i a b : ℕ) (xs : List ℕ) → a ≡ bump p (firstEnd (get_or xs i 0)) → b ≡ bump p (secondEnd (get_or xs i 0)) →
-    set xs i (key a b) ≡ bumpAt p i xs
-unfolding bumpAt
+pub bump-at-is : (p i a b : ℕ) (xs : List ℕ) → a ≡ bump p (first_end (get_or xs i 0)) → b ≡ bump p (second_end (get_or xs i 0)) →
+    set xs i (key a b) ≡ bump_at p i xs
+unfolding bump_at
 bump-at-is p i a b xs e f = rw (e, f) refl
 
-pub push-is : (i : ℕ) (p r : List ℤ) (q v : Place) → v ≡ placeAt p i → r ≡ setPoint p i q → hand r v ≡ push i (hand p q)
+pub push-is : (i : ℕ) (p r : List ℤ) (q v : Place) → v ≡ place_at p i → r ≡ set_point p i q → hand r v ≡ push i (hand p q)
 unfolding push
 push-is i p r q v e f = rw (e, f) refl
 
 pub opened-is : (pts : List ℤ) (n p : ℕ) (s : Place) (r z : List ℤ) (q : Place) → hand r q ≡ turns push p (n - p) (hand pts s) → z
-    ≡ setPoint r n q
+    ≡ set_point r n q
     → z ≡ opened pts n p s
 unfolding opened closing
 opened-is pts n p s r z q e f = f ∙ ap (closing n) e
@@ -70,7 +70,7 @@ pub lay-three-is : (p a b u : ℕ) (r s t w : Row) → s ≡ lay p a r → t ≡
 unfolding lays
 lay-three-is p a b u r s t w e f g = rw (g, f, e) refl
 
-pub stands-yes : (pts : List ℤ) (n p : ℕ) (s q : Place) → p < n → q ≡ placeAt pts p → samePlace s q ≡ stands pts n p s
+pub stands-yes : (pts : List ℤ) (n p : ℕ) (s q : Place) → p < n → q ≡ place_at pts p → same_place s q ≡ stands pts n p s
 unfolding stands
 stands-yes pts n p s q h e = rw (lt-ltb _ _ h, ← e) refl
 
@@ -85,6 +85,6 @@ set_past (y ∷ ys) zero (suc j) x h = refl
 set_past (y ∷ ys) (suc i) (suc j) x h = set_past ys i j x (omega arith)
 
 -- entries that are still to come are as they were
-pub ahead : (p i : ℕ) (xs ys : List ℕ) → ys ≡ bumpAt p i xs → (m j : ℕ) → i < j → get_or xs j 0 < m → get_or ys j 0 < m
-unfolding bumpAt
-ahead p i xs ys e m j h l = rw (e, set_past xs i j (bump p (firstEnd (get_or xs i 0)) * treeBound + bump p (secondEnd (get_or xs i 0))) h) l
+pub ahead : (p i : ℕ) (xs ys : List ℕ) → ys ≡ bump_at p i xs → (m j : ℕ) → i < j → get_or xs j 0 < m → get_or ys j 0 < m
+unfolding bump_at
+ahead p i xs ys e m j h l = rw (e, set_past xs i j (bump p (first_end (get_or xs i 0)) * tree_bound + bump p (second_end (get_or xs i 0))) h) l

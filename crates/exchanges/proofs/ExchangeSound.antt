@@ -16,11 +16,11 @@ use Rattle.lists.specs.Member.{◌∈◌}
 use Rattle.lists.proofs.TestLaws.{by, differ, either, and_left, and_right}
 use Rattle.plane.specs.declared.Place.{Place}
 use Rattle.plane.specs.declared.Macro.{Macro}
-use Rattle.plane.specs.Place.{samePlace}
+use Rattle.plane.specs.Place.{same_place}
 use Rattle.plane.specs.Macro.{clear}
-use Rattle.plane.specs.Flat.{placeAt}
+use Rattle.plane.specs.Flat.{place_at}
 use Rattle.plane.specs.Rank.{InOrder, rank}
-use Rattle.net.specs.Net.{Net, costIn}
+use Rattle.net.specs.Net.{Net, cost_in}
 use Rattle.plane.proofs.PlaceLaws.{same_true, same_refl}
 use Rattle.plane.proofs.MacroLaws.{clear_comm}
 use Rattle.plane.proofs.BoxLaws.{middle-clear-first, middle-clear-outer, middle-clear-last}
@@ -31,12 +31,12 @@ use Rattle.joined.proofs.OtherLaws.{alike-sym, alike-trans}
 use Rattle.joined.proofs.ExchangeLaws.{exchange-tree}
 use Rattle.joined.proofs.OneTreeLaws.{tree-simple}
 use Rattle.lists.specs.Turns.{turns, seek}
-use Rattle.tree.specs.Table.{treeBound, key, firstEnd, secondEnd, row, Tree, tree, Within}
+use Rattle.tree.specs.Table.{tree_bound, key, first_end, second_end, row, Tree, tree, Within}
 use Rattle.triples.specs.Triple.{sees, taken, dropped}
 use Rattle.candidates.specs.Candidate.{middle_of}
-use Rattle.exchanges.specs.Exchange.{dropTwo, stands, opened, bump, bumpAt, lays, star, laidAt}
-use Rattle.tree.specs.Sum.{sumOver}
-use Rattle.tree.specs.Places.{endsOf, points_of, edgesOf, keyCost, Sound}
+use Rattle.exchanges.specs.Exchange.{drop_two, stands, opened, bump, bump_at, lays, star, laid_at}
+use Rattle.tree.specs.Sum.{sum_over}
+use Rattle.tree.specs.Places.{ends_of, points_of, edges_of, key_cost, Sound}
 use Rattle.candidates.specs.Taken.{Taken}
 use Rattle.exchanges.proofs.WithinLaws.{rank-le, bump-in, within-dropped, within-joined}
 use Rattle.exchanges.proofs.ExchangeLaws.{bump-lt, bump-ge}
@@ -45,19 +45,19 @@ use Rattle.exchanges.proofs.ExchangeSums.{between, over-lays, over-bumped, lengt
 use Rattle.exchanges.proofs.OpenedLaws.{seek-before, opened-low, opened-new, opened-past, opened-bump, opened-order}
 use Rattle.tree.proofs.ListingLaws.{listing-length, in-listing, of-listing}
 use Rattle.exchanges.proofs.AfterLaws.{After, between_is, between_none, still, to-a, to-b, to-u, after-clear, after-costs}
-use Rattle.tree.proofs.PointLaws.{same_place, order-once}
+use Rattle.tree.proofs.PointLaws.{same-place, order-once}
 
 -- The tables after an exchange
 
 module _ (pts : List ℤ) (n : ℕ) (ks : List ℕ) (e k l a b u p : ℕ) (s : Place) (rooms : e + 2 < length ks) where
   abbrev left : List ℕ
-  left = dropTwo e k l ks
+  left = drop_two e k l ks
 
   -- s is a point
   abbrev old-tree : Tree
   old-tree = record { points = pts; count = n; edges = lays (star p a b u) (row left e) }
 
-  pub after-old : n ≤ treeBound → p < n → s ≡ placeAt pts p → After pts n ks e k l a b u p s (λ i. i) old-tree
+  pub after-old : n ≤ tree_bound → p < n → s ≡ place_at pts p → After pts n ks e k l a b u p s (λ i. i) old-tree
   after-old few h at = record {
     old = λ i q. refl;
     new = sym at;
@@ -66,8 +66,8 @@ module _ (pts : List ℤ) (n : ℕ) (ks : List ℕ) (e k l a b u p : ℕ) (s : P
     sums =
         λ g.
         let laid = over-lays g (star p a b u) (row left e) (rw (length-dropped e k l ks) (omega arith)) in
-        let back : (j : ℕ) → j ≡ key (firstEnd j) (secondEnd j) = λ j. omega arith in
-        let same : sumOver g left e ≡ sumOver (λ j. g (key (firstEnd j) (secondEnd j))) left e =
+        let back : (j : ℕ) → j ≡ key (first_end j) (second_end j) = λ j. omega arith in
+        let same : sum_over g left e ≡ sum_over (λ j. g (key (first_end j) (second_end j))) left e =
         below-same _ _ e (λ i q. ap g (back (get_or left i 0))) in
         omega (arith, laid, same);
   }
@@ -77,10 +77,10 @@ module _ (pts : List ℤ) (n : ℕ) (ks : List ℕ) (e k l a b u p : ℕ) (s : P
   new-tree = record {
     points = opened pts n p s;
     count = n + 1;
-    edges = lays (star p (bump p a) (bump p b) (bump p u)) (row (turns (bumpAt p) 0 e left) e);
+    edges = lays (star p (bump p a) (bump p b) (bump p u)) (row (turns (bump_at p) 0 e left) e);
   }
 
-  pub after-new : n < treeBound → p ≤ n → n * 2 + 2 ≤ length pts → After pts n ks e k l a b u p s (bump p) new-tree
+  pub after-new : n < tree_bound → p ≤ n → n * 2 + 2 ≤ length pts → After pts n ks e k l a b u p s (bump p) new-tree
   after-new few h room = record {
     old = λ i q. opened-bump pts n p s h room i q;
     new = opened-new pts n p s h room;
@@ -88,7 +88,7 @@ module _ (pts : List ℤ) (n : ℕ) (ks : List ℕ) (e k l a b u p : ℕ) (s : P
     lowest = omega arith;
     sums =
         λ g.
-        let laid = over-lays g (star p (bump p a) (bump p b) (bump p u)) (row (turns (bumpAt p) 0 e left) e)
+        let laid = over-lays g (star p (bump p a) (bump p b) (bump p u)) (row (turns (bump_at p) 0 e left) e)
         (rw (length-bumps p e left, length-dropped e k l ks) (omega arith)) in
         let moved = over-bumped g p e left (rw (length-dropped e k l ks) (omega arith)) in
         omega (arith, laid, moved);
@@ -108,15 +108,15 @@ bump-not p x e =
 
 module _ (net : Net) (pts : List ℤ) (n : ℕ) (ks : List ℕ) (e k l u : ℕ)
     (sound : Sound net (tree pts n ks (suc (suc e)))) (c : Taken net.macros pts n ks (suc (suc e)) k l u)
-    (few : n < treeBound) (room : n * 2 + 2 ≤ length pts) (rooms : e + 2 < length ks) where
+    (few : n < tree_bound) (room : n * 2 + 2 ≤ length pts) (rooms : e + 2 < length ks) where
   abbrev ms : List Macro
   ms = net.macros
 
   abbrev a : ℕ
-  a = firstEnd (get_or ks k 0)
+  a = first_end (get_or ks k 0)
 
   abbrev b : ℕ
-  b = secondEnd (get_or ks k 0)
+  b = second_end (get_or ks k 0)
 
   abbrev s : Place
   s = middle_of pts a b u
@@ -130,17 +130,17 @@ module _ (net : Net) (pts : List ℤ) (n : ℕ) (ks : List ℕ) (e k l u : ℕ)
   hb : b < n
   hb = (sound.within.ends k).1
 
-  edge-clear : clear (placeAt pts a) (placeAt pts b) ms ≡ true
+  edge-clear : clear (place_at pts a) (place_at pts b) ms ≡ true
   edge-clear = sound.free k c.edge
 
-  u-clear : clear s (placeAt pts u) ms ≡ true
+  u-clear : clear s (place_at pts u) ms ≡ true
   unfolding sees
   u-clear =
-      by (clear (placeAt pts u) (placeAt pts a) ms)
-      (λ t. middle-clear-outer (placeAt pts a) (placeAt pts b) (placeAt pts u) ms (clear_comm (placeAt pts a) (placeAt pts u) ms ∙ t))
+      by (clear (place_at pts u) (place_at pts a) ms)
+      (λ t. middle-clear-outer (place_at pts a) (place_at pts b) (place_at pts u) ms (clear_comm (place_at pts a) (place_at pts u) ms ∙ t))
       (λ t.
-      let v : clear (placeAt pts u) (placeAt pts b) ms ≡ true = rw t at c.seen in
-      middle-clear-last (placeAt pts a) (placeAt pts b) (placeAt pts u) ms (clear_comm (placeAt pts b) (placeAt pts u) ms ∙ v))
+      let v : clear (place_at pts u) (place_at pts b) ms ≡ true = rw t at c.seen in
+      middle-clear-last (place_at pts a) (place_at pts b) (place_at pts u) ms (clear_comm (place_at pts b) (place_at pts u) ms ∙ v))
 
   -- whichever numbers moved on
   module _ {m : ℕ → ℕ} {t : Tree} (after : After pts n ks e k l a b u p s m t) (ordered : InOrder t.points t.count)
@@ -148,9 +148,9 @@ module _ (net : Net) (pts : List ℤ) (n : ℕ) (ks : List ℕ) (e k l u : ℕ)
       (known : (y : Place) → y ∈ points_of t.points t.count → (y ≡ s) ⊎ (y ∈ points_of pts n))
       (size : suc t.edges.size ≡ t.count) where
     abbrev U : List (Place × Place)
-    U = edgesOf t.points t.edges.keys t.edges.size
+    U = edges_of t.points t.edges.keys t.edges.size
 
-    links : (x y : Place) → Link (edgesOf pts ks (suc (suc e))) x y → Alike x y (placeAt pts a) (placeAt pts b)
+    links : (x y : Place) → Link (edges_of pts ks (suc (suc e))) x y → Alike x y (place_at pts a) (place_at pts b)
         ⊎ (Alike x y c.one c.other ⊎ Link U x y)
     links x y i =
         either inl (λ q. inr (either (λ v. inl (alike-trans v (alike-sym c.longest))) inr q))
@@ -162,7 +162,7 @@ module _ (net : Net) (pts : List ℤ) (n : ℕ) (ks : List ℕ) (e k l u : ℕ)
         (to-a after sound.within c.edge c.cut c.two ha hb c.point)
         (to-b after sound.within c.edge c.cut c.two ha hb c.point)
         (to-u after sound.within c.edge c.cut c.two ha hb c.point)
-        sound.whole (in-listing (placeAt pts) n a ha) (order-once t.points t.count ordered) known
+        sound.whole (in-listing (place_at pts) n a ha) (order-once t.points t.count ordered) known
         (ap suc (listing-length _ t.edges.size) ∙ size ∙ sym (listing-length _ t.count))
 
     after-sound : Sound net t
@@ -172,18 +172,18 @@ module _ (net : Net) (pts : List ℤ) (n : ℕ) (ks : List ℕ) (e k l u : ℕ)
       whole = after-tree;
       free =
           after-clear after sound.within c.edge c.cut c.two ha hb c.point ms
-          (middle-clear-first (placeAt pts a) (placeAt pts b) (placeAt pts u) ms edge-clear).0
-          (middle-clear-first (placeAt pts a) (placeAt pts b) (placeAt pts u) ms edge-clear).1
+          (middle-clear-first (place_at pts a) (place_at pts b) (place_at pts u) ms edge-clear).0
+          (middle-clear-first (place_at pts a) (place_at pts b) (place_at pts u) ms edge-clear).1
           u-clear sound.free;
       pinned =
           λ y i.
-          let r = of-listing (placeAt pts) n y (sound.pinned y i) in
+          let r = of-listing (place_at pts) n y (sound.pinned y i) in
           Memᴰ.cast (r.1.1 ∙ sym (after.old r.0 r.1.0))
-          (in-listing (placeAt t.points) t.count (m r.0) (inside r.0 r.1.0));
+          (in-listing (place_at t.points) t.count (m r.0) (inside r.0 r.1.0));
     }
 
   edges-of : suc (suc (suc e)) ≡ n
-  edges-of = sym (ap suc (listing-length _ (suc (suc e)))) ∙ sound.whole.size ∙ listing-length (placeAt pts) n
+  edges-of = sym (ap suc (listing-length _ (suc (suc e)))) ∙ sound.whole.size ∙ listing-length (place_at pts) n
 
   -- each edge of length one: how many there are
   counted : {m : ℕ → ℕ} {t : Tree} → After pts n ks e k l a b u p s m t →
@@ -194,9 +194,9 @@ module _ (net : Net) (pts : List ℤ) (n : ℕ) (ks : List ℕ) (e k l u : ℕ)
 
   ends-apart : a ≡ b → ⊥
   ends-apart q =
-      (tree-simple same_place sound.whole).apart (placeAt pts a) (placeAt pts b)
-      (in-listing (λ i. endsOf pts (get_or ks i 0)) (suc (suc e)) k c.edge)
-      (ap (placeAt pts) q)
+      (tree-simple same-place sound.whole).apart (place_at pts a) (place_at pts b)
+      (in-listing (λ i. ends_of pts (get_or ks i 0)) (suc (suc e)) k c.edge)
+      (ap (place_at pts) q)
 
   -- Where s is put in
 
@@ -205,24 +205,24 @@ module _ (net : Net) (pts : List ℤ) (n : ℕ) (ks : List ℕ) (e k l u : ℕ)
     put = after-new pts n ks e k l a b u p s rooms few (rank-le pts n s) room
 
     put-known : (y : Place) → y ∈ points_of (opened pts n p s) (n + 1) → (y ≡ s) ⊎ (y ∈ points_of pts n)
-    put-known y i = at (of-listing (placeAt (opened pts n p s)) (n + 1) y i)
+    put-known y i = at (of-listing (place_at (opened pts n p s)) (n + 1) y i)
       where
-        at : (j : ℕ) × ((j < n + 1) × (y ≡ placeAt (opened pts n p s) j)) → (y ≡ s) ⊎ (y ∈ points_of pts n)
+        at : (j : ℕ) × ((j < n + 1) × (y ≡ place_at (opened pts n p s) j)) → (y ≡ s) ⊎ (y ∈ points_of pts n)
         at r =
             by (ltb r.0 p)
             (λ t.
             let h : r.0 < p = ltb-true _ _ t in
             inr (Memᴰ.cast (r.1.1 ∙ opened-low pts n p s (rank-le pts n s) room r.0 h)
-            (in-listing (placeAt pts) n r.0 (omega (arith, rank-le pts n s)))))
+            (in-listing (place_at pts) n r.0 (omega (arith, rank-le pts n s)))))
             (λ t.
             by (ltb p r.0)
             (λ v.
             let h : p < r.0 = ltb-true _ _ v in
             inr (Memᴰ.cast (r.1.1 ∙ opened-past pts n p s (rank-le pts n s) room r.0 h (omega (arith, r.1.0)))
-            (in-listing (placeAt pts) n (r.0 - 1) (omega (arith, r.1.0)))))
+            (in-listing (place_at pts) n (r.0 - 1) (omega (arith, r.1.0)))))
             (λ v.
             let q : r.0 ≡ p = omega (arith, ltb-false r.0 p t, ltb-false p r.0 v) in
-            inl (r.1.1 ∙ ap (placeAt (opened pts n p s)) q ∙ opened-new pts n p s (rank-le pts n s) room)))
+            inl (r.1.1 ∙ ap (place_at (opened pts n p s)) q ∙ opened-new pts n p s (rank-le pts n s) room)))
 
     put-size : suc (new-tree pts n ks e k l a b u p s rooms).edges.size ≡ n + 1
     put-size =
@@ -237,10 +237,10 @@ module _ (net : Net) (pts : List ℤ) (n : ℕ) (ks : List ℕ) (e k l u : ℕ)
         )
 
     put-within : Within (n + 1) (new-tree pts n ks e k l a b u p s rooms).edges.keys
-    unfolding laidAt
+    unfolding laid_at
     put-within =
-        rw (laidAt, new) at
-        (within-joined pts n (dropTwo e k l ks) e p a b u s few (rank-le pts n s) ha hb c.point
+        rw (laid_at, new) at
+        (within-joined pts n (drop_two e k l ks) e p a b u s few (rank-le pts n s) ha hb c.point
         (within-dropped n e k l ks sound.within))
 
     put-sound : Sound net (new-tree pts n ks e k l a b u p s rooms)
@@ -254,9 +254,9 @@ module _ (net : Net) (pts : List ℤ) (n : ℕ) (ks : List ℕ) (e k l u : ℕ)
     unfolding stands
     in-points = ltb-true p n (and_left _ _ there)
 
-    at-point : s ≡ placeAt pts p
+    at-point : s ≡ place_at pts p
     unfolding stands
-    at-point = same_true s (placeAt pts p) (and_right (ltb p n) _ there)
+    at-point = same_true s (place_at pts p) (and_right (ltb p n) _ there)
 
     stood : After pts n ks e k l a b u p s (λ i. i) (old-tree pts n ks e k l a b u p s rooms)
     stood = after-old pts n ks e k l a b u p s rooms (omega arith) in-points at-point
@@ -269,7 +269,7 @@ module _ (net : Net) (pts : List ℤ) (n : ℕ) (ks : List ℕ) (e k l u : ℕ)
         let no_other : taken pts a b u s p ≡ false = seek-before (taken pts a b u s) n 0 p (omega arith) (omega (arith, in-points)) in
         by (eqb p a || (eqb p b || eqb p u)) (λ t. t)
         (λ t.
-        let y : samePlace s (placeAt pts p) ≡ true = ap (samePlace s) (sym at-point) ∙ same_refl s in
+        let y : same_place s (place_at pts p) ≡ true = ap (same_place s) (sym at-point) ∙ same_refl s in
         differ y (rw t at no_other))
 
     stood-size : suc (old-tree pts n ks e k l a b u p s rooms).edges.size ≡ n
@@ -282,7 +282,7 @@ module _ (net : Net) (pts : List ℤ) (n : ℕ) (ks : List ℕ) (e k l u : ℕ)
           counted stood,
           between_none (λ _. 1) p a q,
           ones-not p b (λ v. ends-apart (sym q ∙ v)),
-          ones-not p u (λ v. c.notFirst (sym v ∙ q)),
+          ones-not p u (λ v. c.not_first (sym v ∙ q)),
           edges-of,
         ))
         (λ t.
@@ -294,7 +294,7 @@ module _ (net : Net) (pts : List ℤ) (n : ℕ) (ks : List ℕ) (e k l u : ℕ)
           counted stood,
           between_none (λ _. 1) p b q,
           ones-not p a (eqb-false _ _ t),
-          ones-not p u (λ z. c.notSecond (sym z ∙ q)),
+          ones-not p u (λ z. c.not_second (sym z ∙ q)),
           edges-of,
         ))
         (λ v.
@@ -309,10 +309,10 @@ module _ (net : Net) (pts : List ℤ) (n : ℕ) (ks : List ℕ) (e k l u : ℕ)
         )))
 
     stood-within : Within n (old-tree pts n ks e k l a b u p s rooms).edges.keys
-    unfolding laidAt
+    unfolding laid_at
     stood-within =
-        rw (laidAt, there) at
-        (within-joined pts n (dropTwo e k l ks) e p a b u s few (rank-le pts n s) ha hb c.point
+        rw (laid_at, there) at
+        (within-joined pts n (drop_two e k l ks) e p a b u s few (rank-le pts n s) ha hb c.point
         (within-dropped n e k l ks sound.within))
 
     stood-sound : Sound net (old-tree pts n ks e k l a b u p s rooms)
@@ -321,35 +321,35 @@ module _ (net : Net) (pts : List ℤ) (n : ℕ) (ks : List ℕ) (e k l u : ℕ)
   -- Both
 
   abbrev result : Tree
-  result = laidAt pts n (dropTwo e k l ks) e p a b u s
+  result = laid_at pts n (drop_two e k l ks) e p a b u s
 
   pub laid-sound : Sound net result
-  unfolding laidAt
-  laid-sound = by (stands pts n p s) (λ t. rw (laidAt, t) (stood-sound t)) (λ t. rw (laidAt, t) (put-sound t))
+  unfolding laid_at
+  laid-sound = by (stands pts n p s) (λ t. rw (laid_at, t) (stood-sound t)) (λ t. rw (laid_at, t) (put-sound t))
 
   -- no point is new but s
   pub laid-known : (y : Place) → y ∈ points_of result.points result.count → (y ≡ s) ⊎ (y ∈ points_of pts n)
-  unfolding laidAt
-  laid-known = by (stands pts n p s) (λ t. rw (laidAt, t) (λ y i. inr i)) (λ t. rw (laidAt, t) (put-known t))
+  unfolding laid_at
+  laid-known = by (stands pts n p s) (λ t. rw (laid_at, t) (λ y i. inr i)) (λ t. rw (laid_at, t) (put-known t))
 
   through-s : {m : ℕ → ℕ} {t : Tree} → After pts n ks e k l a b u p s m t →
-      sumOver (keyCost net.weights t.points) t.edges.keys t.edges.size + keyCost net.weights pts (get_or ks l 0)
-      ≡ sumOver (keyCost net.weights pts) ks (suc (suc e)) + costIn net s (placeAt pts u)
+      sum_over (key_cost net.weights t.points) t.edges.keys t.edges.size + key_cost net.weights pts (get_or ks l 0)
+      ≡ sum_over (key_cost net.weights pts) ks (suc (suc e)) + cost_in net s (place_at pts u)
   through-s after =
       omega (
         arith,
         after-costs after sound.within c.edge c.cut c.two ha hb c.point net.weights,
-        middle-through net.weights (placeAt pts a) (placeAt pts b) (placeAt pts u),
+        middle-through net.weights (place_at pts a) (place_at pts b) (place_at pts u),
       )
 
   -- the total falls by the gain, the cost of L less that from s to u
-  pub laid-costs : sumOver (keyCost net.weights result.points) result.edges.keys result.edges.size
-      + keyCost net.weights pts (get_or ks l 0)
-      ≡ sumOver (keyCost net.weights pts) ks (suc (suc e)) + costIn net s (placeAt pts u)
-  unfolding laidAt
-  laid-costs = by (stands pts n p s) (λ t. rw (laidAt, t) (through-s (stood t))) (λ t. rw (laidAt, t) (through-s (put t)))
+  pub laid-costs : sum_over (key_cost net.weights result.points) result.edges.keys result.edges.size
+      + key_cost net.weights pts (get_or ks l 0)
+      ≡ sum_over (key_cost net.weights pts) ks (suc (suc e)) + cost_in net s (place_at pts u)
+  unfolding laid_at
+  laid-costs = by (stands pts n p s) (λ t. rw (laid_at, t) (through-s (stood t))) (λ t. rw (laid_at, t) (through-s (put t)))
 
   -- the tables after the exchange, whichever numbers moved on
   pub laid-after : (m : ℕ → ℕ) × After pts n ks e k l a b u p s m result
-  unfolding laidAt
-  laid-after = by (stands pts n p s) (λ t. rw (laidAt, t) (λ i. i, stood t)) (λ t. rw (laidAt, t) (bump p, put t))
+  unfolding laid_at
+  laid-after = by (stands pts n p s) (λ t. rw (laid_at, t) (λ i. i, stood t)) (λ t. rw (laid_at, t) (bump p, put t))

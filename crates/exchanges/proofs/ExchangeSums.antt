@@ -11,9 +11,9 @@ use lib.ListN.{length, get_or, set, length-set}
 use borrow.Author.Tests.{ltb-true, ltb-false, lt-ltb, le-ltb}
 use Rattle.lists.proofs.TestLaws.{by}
 use Rattle.lists.specs.Turns.{turns}
-use Rattle.tree.specs.Table.{key, firstEnd, secondEnd, Row}
-use Rattle.tree.specs.Sum.{below, sumOver}
-use Rattle.exchanges.specs.Exchange.{shift, closed, dropTwo, bump, bumpAt, carrying, lay, lays}
+use Rattle.tree.specs.Table.{key, first_end, second_end, Row}
+use Rattle.tree.specs.Sum.{below, sum_over}
+use Rattle.exchanges.specs.Exchange.{shift, closed, drop_two, bump, bump_at, carrying, lay, lays}
 use Rattle.tree.proofs.SumLaws.{below-same, from, from-below, from-same, other, here}
 
 -- One taken out
@@ -78,10 +78,10 @@ below-skip f k (suc n) h =
     let s : below (λ i. f (skip k i)) (suc n) ≡ below f (suc n) = below-same _ f (suc n) (λ i l. ap f (skip-low k i (omega arith))) in
     ap₂ ◌+◌ (ap f e) s)
 
-pub over_closed : (g : ℕ → ℕ) (k n : ℕ) (xs : List ℕ) → k ≤ n → g (get_or xs k 0) + sumOver g (closed k n xs) n ≡ sumOver g xs (suc n)
+pub over_closed : (g : ℕ → ℕ) (k n : ℕ) (xs : List ℕ) → k ≤ n → g (get_or xs k 0) + sum_over g (closed k n xs) n ≡ sum_over g xs (suc n)
 over_closed g k n xs h =
-    let e : sumOver g (closed k n xs) n ≡ below (λ i. g (get_or xs (skip k i) 0)) n = below-same _ _ n (λ i l. ap g (closed_at k n xs i l)) in
-    let r : g (get_or xs k 0) + below (λ i. g (get_or xs (skip k i) 0)) n ≡ sumOver g xs (suc n) = below-skip (λ i. g (get_or xs i 0)) k n h in
+    let e : sum_over g (closed k n xs) n ≡ below (λ i. g (get_or xs (skip k i) 0)) n = below-same _ _ n (λ i l. ap g (closed_at k n xs i l)) in
+    let r : g (get_or xs k 0) + below (λ i. g (get_or xs (skip k i) 0)) n ≡ sum_over g xs (suc n) = below-skip (λ i. g (get_or xs i 0)) k n h in
     omega (arith, e, r)
 
 -- One put in
@@ -123,7 +123,7 @@ from-carrying g (suc n) i q xs h =
         let a : g (get_or (carrying (suc i) n q xs) i 0) ≡ g (get_or xs i 0) = ap g (carrying-low n (suc i) q xs i (omega arith)) in
         omega (arith, a, b)
 
-pub over-carrying : (g : ℕ → ℕ) (e q : ℕ) (xs : List ℕ) → e < length xs → sumOver g (carrying 0 e q xs) (suc e) ≡ g q + sumOver g xs e
+pub over-carrying : (g : ℕ → ℕ) (e q : ℕ) (xs : List ℕ) → e < length xs → sum_over g (carrying 0 e q xs) (suc e) ≡ g q + sum_over g xs e
 over-carrying g e q xs h =
     sym (from-below _ (suc e)) ∙ from-carrying g e 0 q xs (omega arith) ∙ ap (λ (s : ℕ). g q + s) (from-below _ e)
 
@@ -133,15 +133,15 @@ between g p a = elim (ltb p a) [ true ↦ g (key p a) | false ↦ elim (ltb a p)
 
 -- what laying an edge does to a table: its sums, its room and its size
 pub over-lay : (g : ℕ → ℕ) (p a : ℕ) (r : Row) → r.size < length r.keys →
-    sumOver g (lay p a r).keys (lay p a r).size ≡ between g p a + sumOver g r.keys r.size
+    sum_over g (lay p a r).keys (lay p a r).size ≡ between g p a + sum_over g r.keys r.size
 unfolding lay between
 over-lay g p a r h =
     by (ltb p a)
-    (λ t. rw (lay, between, t) (ap (sumOver g (carrying 0 r.size (key p a) r.keys)) (add-one r.size)
+    (λ t. rw (lay, between, t) (ap (sum_over g (carrying 0 r.size (key p a) r.keys)) (add-one r.size)
     ∙ over-carrying g r.size (key p a) r.keys h))
     (λ t.
     by (ltb a p)
-    (λ s. rw (lay, between, t, s) (ap (sumOver g (carrying 0 r.size (key a p) r.keys)) (add-one r.size)
+    (λ s. rw (lay, between, t, s) (ap (sum_over g (carrying 0 r.size (key a p) r.keys)) (add-one r.size)
     ∙ over-carrying g r.size (key a p)
     r.keys h))
     (λ s. rw (lay, between, t, s) (omega arith)))
@@ -177,7 +177,7 @@ length-lays [] r = refl
 length-lays (e ∷ es) r = length-lays es (lay e.0 e.1 r) ∙ length-lay e.0 e.1 r
 
 pub over-lays : (g : ℕ → ℕ) (es : List (ℕ × ℕ)) (r : Row) → r.size + length es ≤ length r.keys →
-    sumOver g (lays es r).keys (lays es r).size ≡ betweens g es + sumOver g r.keys r.size
+    sum_over g (lays es r).keys (lays es r).size ≡ betweens g es + sum_over g r.keys r.size
 unfolding lays
 over-lays g [] r h = omega arith
 over-lays g (e ∷ es) r h =
@@ -189,28 +189,28 @@ over-lays g (e ∷ es) r h =
 -- Two taken out
 
 pub over-dropped : (g : ℕ → ℕ) (n k l : ℕ) (xs : List ℕ) → k < suc (suc n) → l < suc (suc n) → (k ≡ l → ⊥) →
-    g (get_or xs k 0) + (g (get_or xs l 0) + sumOver g (dropTwo n k l xs) n) ≡ sumOver g xs (suc (suc n))
-unfolding dropTwo
+    g (get_or xs k 0) + (g (get_or xs l 0) + sum_over g (drop_two n k l xs) n) ≡ sum_over g xs (suc (suc n))
+unfolding drop_two
 over-dropped g n k l xs h i d =
     by (ltb k l)
     (λ t.
     let lt : k < l = ltb-true k l t in
     let same : get_or (closed l (n + 1) xs) k 0 ≡ get_or xs k 0 = closed_at l (n + 1) xs k (omega arith)
     ∙ ap (λ (j : ℕ). get_or xs j 0) (skip-low l k lt) in
-    rw (dropTwo, t) (both l k lt same i))
+    rw (drop_two, t) (both l k lt same i))
     (λ t.
     let le : l ≤ k = ltb-false k l t in
     let lt : l < k = omega arith in
     let same : get_or (closed k (n + 1) xs) l 0 ≡ get_or xs l 0 = closed_at k (n + 1) xs l (omega arith)
     ∙ ap (λ (j : ℕ). get_or xs j 0) (skip-low k l lt) in
-    rw (dropTwo, t) (let r = both k l lt same h in omega (arith, r)))
+    rw (drop_two, t) (let r = both k l lt same h in omega (arith, r)))
   where
     both : (hi lo : ℕ) → lo < hi → get_or (closed hi (n + 1) xs) lo 0 ≡ get_or xs lo 0 → hi < suc (suc n) →
-        g (get_or xs lo 0) + (g (get_or xs hi 0) + sumOver g (closed lo n (closed hi (n + 1) xs)) n) ≡ sumOver g xs (suc (suc n))
+        g (get_or xs lo 0) + (g (get_or xs hi 0) + sum_over g (closed lo n (closed hi (n + 1) xs)) n) ≡ sum_over g xs (suc (suc n))
     both hi lo lt same top =
-        let a : g (get_or xs hi 0) + sumOver g (closed hi (n + 1) xs) (suc n) ≡ sumOver g xs (suc (suc n))
+        let a : g (get_or xs hi 0) + sum_over g (closed hi (n + 1) xs) (suc n) ≡ sum_over g xs (suc (suc n))
         = rw (← add-one n) (over_closed g hi (n + 1) xs (omega arith)) in
-        let b : g (get_or (closed hi (n + 1) xs) lo 0) + sumOver g (closed lo n (closed hi (n + 1) xs)) n ≡ sumOver g
+        let b : g (get_or (closed hi (n + 1) xs) lo 0) + sum_over g (closed lo n (closed hi (n + 1) xs)) n ≡ sum_over g
         (closed hi (n + 1) xs) (suc n)
         = over_closed g lo n (closed hi (n + 1) xs) (omega arith) in
         let c : g (get_or (closed hi (n + 1) xs) lo 0) ≡ g (get_or xs lo 0) = ap g same in
@@ -218,40 +218,40 @@ over-dropped g n k l xs h i d =
 
 -- Numbers moved on
 
-abbrev pub bumpKey : ℕ → ℕ → ℕ
-bumpKey p k = key (bump p (firstEnd k)) (bump p (secondEnd k))
+abbrev pub bump_key : ℕ → ℕ → ℕ
+bump_key p k = key (bump p (first_end k)) (bump p (second_end k))
 
-bumps-low : (p n i : ℕ) (xs : List ℕ) (j : ℕ) → j < i → get_or (turns (bumpAt p) i n xs) j 0 ≡ get_or xs j 0
-unfolding turns bumpAt
+bumps-low : (p n i : ℕ) (xs : List ℕ) (j : ℕ) → j < i → get_or (turns (bump_at p) i n xs) j 0 ≡ get_or xs j 0
+unfolding turns bump_at
 bumps-low p zero i xs j h = refl
 bumps-low p (suc n) i xs j h =
-    bumps-low p n (suc i) _ j (omega arith) ∙ other xs i j (bumpKey p (get_or xs i 0)) (λ e. let z : ⊥ = omega arith in z)
+    bumps-low p n (suc i) _ j (omega arith) ∙ other xs i j (bump_key p (get_or xs i 0)) (λ e. let z : ⊥ = omega arith in z)
 
-pub bumps_at : (p n i : ℕ) (xs : List ℕ) (j : ℕ) → i + n ≤ length xs → i ≤ j → j < i + n → get_or (turns (bumpAt p) i n xs) j 0
-    ≡ bumpKey p (get_or xs j 0)
-unfolding turns bumpAt
+pub bumps_at : (p n i : ℕ) (xs : List ℕ) (j : ℕ) → i + n ≤ length xs → i ≤ j → j < i + n → get_or (turns (bump_at p) i n xs) j 0
+    ≡ bump_key p (get_or xs j 0)
+unfolding turns bump_at
 bumps_at p zero i xs j b h l = absurd (let z : ⊥ = omega arith in z)
 bumps_at p (suc n) i xs j b h l =
-    let x = bumpKey p (get_or xs i 0) in
+    let x = bump_key p (get_or xs i 0) in
     by (ltb i j)
     (λ t.
     let m : i < j = ltb-true i j t in
     bumps_at p n (suc i) (set xs i x) j (rw (length-set xs i x) (omega arith)) m (omega arith)
-    ∙ ap (bumpKey p) (other xs i j x (λ e. let z : ⊥ = omega arith in z)))
+    ∙ ap (bump_key p) (other xs i j x (λ e. let z : ⊥ = omega arith in z)))
     (λ t.
     let e : j ≡ i = omega (arith, ltb-false i j t) in
     bumps-low p n (suc i) (set xs i x) j (omega arith) ∙ rw e (here xs i x (omega arith)))
 
-pub over-bumped : (g : ℕ → ℕ) (p e : ℕ) (xs : List ℕ) → e ≤ length xs → sumOver g (turns (bumpAt p) 0 e xs) e
-    ≡ sumOver (λ k. g (bumpKey p k)) xs e
+pub over-bumped : (g : ℕ → ℕ) (p e : ℕ) (xs : List ℕ) → e ≤ length xs → sum_over g (turns (bump_at p) 0 e xs) e
+    ≡ sum_over (λ k. g (bump_key p k)) xs e
 over-bumped g p e xs h = below-same _ _ e (λ i l. ap g (bumps_at p e 0 xs i (omega arith) (omega arith) (omega arith)))
 
-length-bumped : (p n i : ℕ) (xs : List ℕ) → length (turns (bumpAt p) i n xs) ≡ length xs
-unfolding turns bumpAt
+length-bumped : (p n i : ℕ) (xs : List ℕ) → length (turns (bump_at p) i n xs) ≡ length xs
+unfolding turns bump_at
 length-bumped p zero i xs = refl
-length-bumped p (suc n) i xs = length-bumped p n (suc i) _ ∙ length-set xs i (bumpKey p (get_or xs i 0))
+length-bumped p (suc n) i xs = length-bumped p n (suc i) _ ∙ length-set xs i (bump_key p (get_or xs i 0))
 
-pub length-bumps : (p e : ℕ) (xs : List ℕ) → length (turns (bumpAt p) 0 e xs) ≡ length xs
+pub length-bumps : (p e : ℕ) (xs : List ℕ) → length (turns (bump_at p) 0 e xs) ≡ length xs
 length-bumps p e xs = length-bumped p e 0 xs
 
 length-shifts : (n k : ℕ) (xs : List ℕ) → length (turns shift k n xs) ≡ length xs
@@ -259,9 +259,9 @@ unfolding turns shift
 length-shifts zero k xs = refl
 length-shifts (suc n) k xs = length-shifts n (suc k) _ ∙ length-set xs k (get_or xs (suc k) 0)
 
-pub length-dropped : (n k l : ℕ) (xs : List ℕ) → length (dropTwo n k l xs) ≡ length xs
-unfolding dropTwo closed
+pub length-dropped : (n k l : ℕ) (xs : List ℕ) → length (drop_two n k l xs) ≡ length xs
+unfolding drop_two closed
 length-dropped n k l xs =
     by (ltb k l)
-    (λ t. rw (dropTwo, t) (length-shifts (n - k) k _ ∙ length-shifts (n + 1 - l) l xs))
-    (λ t. rw (dropTwo, t) (length-shifts (n - l) l _ ∙ length-shifts (n + 1 - k) k xs))
+    (λ t. rw (drop_two, t) (length-shifts (n - k) k _ ∙ length-shifts (n + 1 - l) l xs))
+    (λ t. rw (drop_two, t) (length-shifts (n - l) l _ ∙ length-shifts (n + 1 - k) k xs))

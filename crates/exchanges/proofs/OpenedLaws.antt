@@ -12,53 +12,53 @@ use lib.Seq.{get_or-set_same, get_or-set_other}
 use borrow.Author.Tests.{ltb-true, ltb-false, lt-ltb}
 use Rattle.lists.proofs.TestLaws.{by, differ, and_both}
 use Rattle.plane.specs.declared.Place.{Place}
-use Rattle.plane.specs.Place.{place, before, samePlace}
-use Rattle.plane.specs.Flat.{placeAt}
+use Rattle.plane.specs.Place.{place, before, same_place}
+use Rattle.plane.specs.Flat.{place_at}
 use Rattle.plane.specs.Rank.{InOrder, later, rank}
 use Rattle.plane.proofs.PlaceLaws.{same_refl, before-trans, before-tie}
 use Rattle.lists.specs.Turns.{turns, seek}
 use Rattle.exchanges.specs.Exchange.{stands, Hand, hand, push, closing, opened, bump}
-use Rattle.tree.specs.Table.{setPoint}
+use Rattle.tree.specs.Table.{set_point}
 use Rattle.exchanges.proofs.WithinLaws.{rank-le}
 use Rattle.exchanges.proofs.ExchangeLaws.{bump-lt, bump-ge}
 
 -- One place stored
 
-place_here : (pts : List ℤ) (i : ℕ) (q : Place) → i * 2 + 2 ≤ length pts → placeAt (setPoint pts i q) i ≡ q
+place_here : (pts : List ℤ) (i : ℕ) (q : Place) → i * 2 + 2 ≤ length pts → place_at (set_point pts i q) i ≡ q
 place_here pts i q h =
     ap₂ place
     (get_or-set_other (set pts (i * 2) q.x) (i * 2 + 1) (i * 2) q.y (pos 0) (λ e. let z : ⊥ = omega arith in z)
     ∙ get_or-set_same pts (i * 2) q.x (pos 0) (omega arith))
     (get_or-set_same (set pts (i * 2) q.x) (i * 2 + 1) q.y (pos 0) (rw (length-set pts (i * 2) q.x) (omega arith)))
 
-place_other : (pts : List ℤ) (i j : ℕ) (q : Place) → (i ≡ j → ⊥) → placeAt (setPoint pts i q) j ≡ placeAt pts j
+place_other : (pts : List ℤ) (i j : ℕ) (q : Place) → (i ≡ j → ⊥) → place_at (set_point pts i q) j ≡ place_at pts j
 place_other pts i j q n = ap₂ place (at (j * 2) (λ e. n (omega arith)) (λ e. n (omega arith)))
     (at (j * 2 + 1) (λ e. n (omega arith)) (λ e. n (omega arith)))
   where
-    at : (k : ℕ) → (k ≡ i * 2 → ⊥) → (k ≡ i * 2 + 1 → ⊥) → get_or (setPoint pts i q) k (pos 0) ≡ get_or pts k (pos 0)
+    at : (k : ℕ) → (k ≡ i * 2 → ⊥) → (k ≡ i * 2 + 1 → ⊥) → get_or (set_point pts i q) k (pos 0) ≡ get_or pts k (pos 0)
     at k a b = get_or-set_other (set pts (i * 2) q.x) (i * 2 + 1) k q.y (pos 0) b ∙ get_or-set_other pts (i * 2) k q.x (pos 0) a
 
 -- Places moved on, the one in hand first
 
-pushed-low : (c i : ℕ) (h : Hand) (j : ℕ) → j < i → placeAt (closing (i + c) (turns push i c h)) j ≡ placeAt h.pts j
+pushed-low : (c i : ℕ) (h : Hand) (j : ℕ) → j < i → place_at (closing (i + c) (turns push i c h)) j ≡ place_at h.pts j
 unfolding turns push closing
 pushed-low zero i h j l = let z : i + 0 ≡ i = omega arith in rw z (place_other h.pts i j h.held (λ e. let y : ⊥ = omega arith in y))
 pushed-low (suc c) i h j l =
     let z : i + suc c ≡ suc i + c = omega arith in
     rw z (pushed-low c (suc i) (push i h) j (omega arith) ∙ place_other h.pts i j h.held (λ e. let y : ⊥ = omega arith in y))
 
-pushed-first : (c i : ℕ) (h : Hand) → i * 2 + 2 ≤ length h.pts → placeAt (closing (i + c) (turns push i c h)) i ≡ h.held
+pushed-first : (c i : ℕ) (h : Hand) → i * 2 + 2 ≤ length h.pts → place_at (closing (i + c) (turns push i c h)) i ≡ h.held
 unfolding turns push closing
 pushed-first zero i h r = let z : i + 0 ≡ i = omega arith in rw z (place_here h.pts i h.held r)
 pushed-first (suc c) i h r =
     let z : i + suc c ≡ suc i + c = omega arith in
     rw z (pushed-low c (suc i) (push i h) i (omega arith) ∙ place_here h.pts i h.held r)
 
-length-point : (pts : List ℤ) (i : ℕ) (q : Place) → length (setPoint pts i q) ≡ length pts
+length-point : (pts : List ℤ) (i : ℕ) (q : Place) → length (set_point pts i q) ≡ length pts
 length-point pts i q = length-set (set pts (i * 2) q.x) (i * 2 + 1) q.y ∙ length-set pts (i * 2) q.x
 
 pushed-high : (c i : ℕ) (h : Hand) (j : ℕ) → (i + c) * 2 + 2 ≤ length h.pts → i ≤ j → j < i + c →
-    placeAt (closing (i + c) (turns push i c h)) (suc j) ≡ placeAt h.pts j
+    place_at (closing (i + c) (turns push i c h)) (suc j) ≡ place_at h.pts j
 unfolding turns push closing
 pushed-high zero i h j r l m = absurd (let y : ⊥ = omega arith in y)
 pushed-high (suc c) i h j r l m =
@@ -88,26 +88,26 @@ module _ (pts : List ℤ) (n p : ℕ) (s : Place) (hp : p ≤ n) (room : n * 2 +
   whole : p + (n - p) ≡ n
   whole = omega arith
 
-  pub opened-low : (j : ℕ) → j < p → placeAt (opened pts n p s) j ≡ placeAt pts j
+  pub opened-low : (j : ℕ) → j < p → place_at (opened pts n p s) j ≡ place_at pts j
   unfolding opened
   opened-low j h = rw whole at (pushed-low (n - p) p (hand pts s) j h)
 
-  pub opened-new : placeAt (opened pts n p s) p ≡ s
+  pub opened-new : place_at (opened pts n p s) p ≡ s
   unfolding opened
   opened-new = rw whole at (pushed-first (n - p) p (hand pts s) (omega arith))
 
-  pub opened-high : (j : ℕ) → p ≤ j → j < n → placeAt (opened pts n p s) (suc j) ≡ placeAt pts j
+  pub opened-high : (j : ℕ) → p ≤ j → j < n → place_at (opened pts n p s) (suc j) ≡ place_at pts j
   unfolding opened
   opened-high j h l = rw whole at (pushed-high (n - p) p (hand pts s) j (rw whole (omega arith)) h (omega arith))
 
-  pub opened-bump : (i : ℕ) → i < n → placeAt (opened pts n p s) (bump p i) ≡ placeAt pts i
+  pub opened-bump : (i : ℕ) → i < n → place_at (opened pts n p s) (bump p i) ≡ place_at pts i
   opened-bump i h =
       by (ltb i p)
       (λ t. let l : i < p = ltb-true i p t in rw (← bump-lt p i l) (opened-low i l))
       (λ t. let l : p ≤ i = ltb-false i p t in let e : i + 1 ≡ suc i = omega arith in rw (← bump-ge p i l, e) (opened-high i l h))
 
-  pub opened-past : (j : ℕ) → p < j → j < suc n → placeAt (opened pts n p s) j ≡ placeAt pts (j - 1)
-  opened-past j h l = let e : j ≡ suc (j - 1) = omega arith in ap (placeAt (opened pts n p s)) e ∙ opened-high (j - 1) (omega arith)
+  pub opened-past : (j : ℕ) → p < j → j < suc n → place_at (opened pts n p s) j ≡ place_at pts (j - 1)
+  opened-past j h l = let e : j ≡ suc (j - 1) = omega arith in ap (place_at (opened pts n p s)) e ∙ opened-high (j - 1) (omega arith)
       (omega arith)
 
 -- The rank of s
@@ -136,26 +136,26 @@ not-true true e = sym e
 not-true false e = refl
 
 module _ (pts : List ℤ) (n : ℕ) (s : Place) (o : InOrder pts n) where
-  pub rank_below : (j : ℕ) → j < rank pts n s → before (placeAt pts j) s ≡ true
+  pub rank_below : (j : ℕ) → j < rank pts n s → before (place_at pts j) s ≡ true
   unfolding rank later
   rank_below j h = not-false _ (seek-before (later pts s) n 0 j (omega arith) h)
 
   module _ (new : stands pts n (rank pts n s) s ≡ false) where
-    first-after : rank pts n s < n → before s (placeAt pts (rank pts n s)) ≡ true
+    first-after : rank pts n s < n → before s (place_at pts (rank pts n s)) ≡ true
     unfolding rank later stands
     first-after h =
         let r = seek (later pts s) 0 n in
-        let a : before (placeAt pts r) s ≡ false = not-true _ (seek_hit (later pts s) n 0 (omega arith)) in
-        by (before s (placeAt pts r)) (λ t. t)
+        let a : before (place_at pts r) s ≡ false = not-true _ (seek_hit (later pts s) n 0 (omega arith)) in
+        by (before s (place_at pts r)) (λ t. t)
         (λ t.
-        let e : s ≡ placeAt pts r = before-tie s (placeAt pts r) t a in
-        let y : samePlace s (placeAt pts r) ≡ true = ap (samePlace s) (sym e) ∙ same_refl s in
+        let e : s ≡ place_at pts r = before-tie s (place_at pts r) t a in
+        let y : same_place s (place_at pts r) ≡ true = ap (same_place s) (sym e) ∙ same_refl s in
         differ (and_both _ _ (lt-ltb r n h) y) new)
 
-    pub rank-above : (j : ℕ) → rank pts n s ≤ j → j < n → before s (placeAt pts j) ≡ true
+    pub rank-above : (j : ℕ) → rank pts n s ≤ j → j < n → before s (place_at pts j) ≡ true
     rank-above j h l =
         by (ltb (rank pts n s) j)
-        (λ t. before-trans s (placeAt pts (rank pts n s)) (placeAt pts j) (first-after (omega arith))
+        (λ t. before-trans s (place_at pts (rank pts n s)) (place_at pts j) (first-after (omega arith))
         (o (rank pts n s) j (ltb-true _ _ t) l))
         (λ t. let e : j ≡ rank pts n s = omega (arith, ltb-false (rank pts n s) j t) in rw e (first-after (omega arith)))
 
@@ -181,7 +181,7 @@ module _ (pts : List ℤ) (n : ℕ) (s : Place) (o : InOrder pts n) where
           (λ y. let pi : p < i = ltb-true p i y in ap₂ before (past i pi (omega arith)) q ∙ o (i - 1) (j - 1) (omega arith) (omega arith))
           (λ y.
           let e : i ≡ p = omega (arith, ltb-false i p x, ltb-false p i y) in
-          ap₂ before (ap (placeAt (opened pts n p s)) e ∙ new) q ∙ rank-above (j - 1) (omega arith) (omega arith))))
+          ap₂ before (ap (place_at (opened pts n p s)) e ∙ new) q ∙ rank-above (j - 1) (omega arith) (omega arith))))
           (λ v.
           let e : j ≡ p = omega (arith, ltb-false j p t, ltb-false p j v) in
-          ap₂ before (low i (omega arith)) (ap (placeAt (opened pts n p s)) e ∙ new) ∙ rank_below i (omega arith)))
+          ap₂ before (low i (omega arith)) (ap (place_at (opened pts n p s)) e ∙ new) ∙ rank_below i (omega arith)))

@@ -20,18 +20,18 @@ use Rattle.joined.proofs.JoinedLaws.{one as one_link}
 use Rattle.joined.proofs.TreeLaws.{tree-cuts, cuts-forest}
 use Rattle.lists.specs.Turns.{turns}
 use Rattle.net.specs.Net.{Net}
-use Rattle.tree.specs.Table.{treeBound, key, firstEnd, secondEnd, Row, row, Tree, Within}
-use Rattle.exchanges.specs.Exchange.{closed, dropTwo, stands, bump, bumpAt, carrying, lay, lays, star, laidAt}
-use Rattle.exchanges.specs.Prune.{firstLoose, prune}
-use Rattle.tree.specs.Places.{listing, endsOf, edgesOf, Ranked, Sound}
+use Rattle.tree.specs.Table.{tree_bound, key, first_end, second_end, Row, row, Tree, Within}
+use Rattle.exchanges.specs.Exchange.{closed, drop_two, stands, bump, bump_at, carrying, lay, lays, star, laid_at}
+use Rattle.exchanges.specs.Prune.{first_loose, prune}
+use Rattle.tree.specs.Places.{listing, ends_of, edges_of, Ranked, Sound}
 use Rattle.exchanges.proofs.ExchangeLaws.{bump-lt, bump-ge}
 use Rattle.exchanges.proofs.WithinLaws.{bump-in, Ends, star-ends}
 use Rattle.tree.proofs.SumLaws.{other, here}
-use Rattle.exchanges.proofs.ExchangeSums.{skip, skip-low, skip-high, closed_at, bumpKey, bumps_at, length-bumps, length-lay}
+use Rattle.exchanges.proofs.ExchangeSums.{skip, skip-low, skip-high, closed_at, bump_key, bumps_at, length-bumps, length-lay}
 use Rattle.exchanges.proofs.ExchangeSums.{size-lay}
 use Rattle.tree.proofs.ListingLaws.{in-listing}
 use Rattle.exchanges.proofs.AfterLaws.{first_of, second-of}
-use Rattle.tree.proofs.PointLaws.{same_place}
+use Rattle.tree.proofs.PointLaws.{same-place}
 
 -- Some taken out
 
@@ -50,27 +50,27 @@ skip-in k i n h =
 
 pub closed-ranked : (k n : ℕ) (xs : List ℕ) → Ranked xs (suc n) → Ranked (closed k n xs) n
 closed-ranked k n xs r = record {
-  upward = λ i h. subst (λ (j : ℕ). firstEnd j < secondEnd j) (sym (closed_at k n xs i h)) (r.upward (skip k i) (skip-in k i n h));
+  upward = λ i h. subst (λ (j : ℕ). first_end j < second_end j) (sym (closed_at k n xs i h)) (r.upward (skip k i) (skip-in k i n h));
   rising =
       λ i j h l.
       let o = r.rising (skip k i) (skip k j) (skip-less k i j h) (skip-in k j n l) in
       omega (arith, o, closed_at k n xs i (omega arith), closed_at k n xs j l);
 }
 
-pub dropped-ranked : (n k l : ℕ) (xs : List ℕ) → Ranked xs (suc (suc n)) → Ranked (dropTwo n k l xs) n
-unfolding dropTwo
+pub dropped-ranked : (n k l : ℕ) (xs : List ℕ) → Ranked xs (suc (suc n)) → Ranked (drop_two n k l xs) n
+unfolding drop_two
 dropped-ranked n k l xs r =
     let q : Ranked xs (suc (n + 1)) = subst (λ (m : ℕ). Ranked xs (suc m)) (sym (add-one n)) r in
     by (ltb k l)
-    (λ t. rw (dropTwo, t) (closed-ranked k n _ (subst (Ranked (closed l (n + 1) xs)) (add-one n) (closed-ranked l (n + 1) xs q))))
-    (λ t. rw (dropTwo, t) (closed-ranked l n _ (subst (Ranked (closed k (n + 1) xs)) (add-one n) (closed-ranked k (n + 1) xs q))))
+    (λ t. rw (drop_two, t) (closed-ranked k n _ (subst (Ranked (closed l (n + 1) xs)) (add-one n) (closed-ranked l (n + 1) xs q))))
+    (λ t. rw (drop_two, t) (closed-ranked l n _ (subst (Ranked (closed k (n + 1) xs)) (add-one n) (closed-ranked k (n + 1) xs q))))
 
 pub prune-ranked : (pin : List ℕ) (e : ℕ) (ks : List ℕ) → Ranked ks e → Ranked (prune pin ks e).keys (prune pin ks e).size
 unfolding prune
 prune-ranked pin zero ks r = r
 prune-ranked pin (suc e) ks r =
-    by (eqb (firstLoose pin ks (suc e)) (suc e)) (λ t. rw (prune, t) r)
-    (λ t. rw (prune, t) (prune-ranked pin e _ (closed-ranked (firstLoose pin ks (suc e)) e ks r)))
+    by (eqb (first_loose pin ks (suc e)) (suc e)) (λ t. rw (prune, t) r)
+    (λ t. rw (prune, t) (prune-ranked pin e _ (closed-ranked (first_loose pin ks (suc e)) e ks r)))
 
 -- Numbers moved on
 
@@ -83,31 +83,31 @@ bump-less p a b h =
     (λ v. omega (arith, bump-lt p a (ltb-true a p t), bump-ge p b (ltb-false b p v))))
     (λ t. let g : p ≤ a = ltb-false a p t in omega (arith, bump-ge p a g, bump-ge p b (omega arith)))
 
-bump-key-less : (n p j k : ℕ) → n < treeBound → secondEnd j < n → secondEnd k < n → j < k → bumpKey p j < bumpKey p k
+bump-key-less : (n p j k : ℕ) → n < tree_bound → second_end j < n → second_end k < n → j < k → bump_key p j < bump_key p k
 bump-key-less n p j k few hj hk h =
-    let bj = bump-in n p (secondEnd j) hj in
-    by (ltb (firstEnd j) (firstEnd k))
-    (λ t. omega (arith, bj, bump-less p (firstEnd j) (firstEnd k) (ltb-true _ _ t)))
+    let bj = bump-in n p (second_end j) hj in
+    by (ltb (first_end j) (first_end k))
+    (λ t. omega (arith, bj, bump-less p (first_end j) (first_end k) (ltb-true _ _ t)))
     (λ t.
-    let e : firstEnd j ≡ firstEnd k = omega (arith, ltb-false (firstEnd j) (firstEnd k) t) in
-    let f : bump p (firstEnd j) ≡ bump p (firstEnd k) = ap (bump p) e in
-    omega (arith, f, bump-less p (secondEnd j) (secondEnd k) (omega (arith, e))))
+    let e : first_end j ≡ first_end k = omega (arith, ltb-false (first_end j) (first_end k) t) in
+    let f : bump p (first_end j) ≡ bump p (first_end k) = ap (bump p) e in
+    omega (arith, f, bump-less p (second_end j) (second_end k) (omega (arith, e))))
 
-pub bumped-ranked : (n p e : ℕ) (ks : List ℕ) → n < treeBound → e ≤ length ks → Within n ks → Ranked ks e
-    → Ranked (turns (bumpAt p) 0 e ks) e
+pub bumped-ranked : (n p e : ℕ) (ks : List ℕ) → n < tree_bound → e ≤ length ks → Within n ks → Ranked ks e
+    → Ranked (turns (bump_at p) 0 e ks) e
 bumped-ranked n p e ks few room w r = record {
   upward =
       λ i h.
       let k = get_or ks i 0 in
-      let high : bump p (secondEnd k) < treeBound = omega (arith, bump-in n p (secondEnd k) (w.ends i).1) in
-      let up = bump-less p (firstEnd k) (secondEnd k) (r.upward i h) in
-      subst (λ (j : ℕ). firstEnd j < secondEnd j) (sym (at i h))
+      let high : bump p (second_end k) < tree_bound = omega (arith, bump-in n p (second_end k) (w.ends i).1) in
+      let up = bump-less p (first_end k) (second_end k) (r.upward i h) in
+      subst (λ (j : ℕ). first_end j < second_end j) (sym (at i h))
       (omega (
         arith,
         up,
-        first_of (bump p (firstEnd k)) (bump p (secondEnd k)) high,
-        second-of (bump p (firstEnd k))
-            (bump p (secondEnd k)) high,
+        first_of (bump p (first_end k)) (bump p (second_end k)) high,
+        second-of (bump p (first_end k))
+            (bump p (second_end k)) high,
       ));
   rising =
       λ i j h l.
@@ -115,32 +115,32 @@ bumped-ranked n p e ks few room w r = record {
       omega (arith, o, at i (omega arith), at j l);
 }
   where
-    at : (i : ℕ) → i < e → get_or (turns (bumpAt p) 0 e ks) i 0 ≡ bumpKey p (get_or ks i 0)
+    at : (i : ℕ) → i < e → get_or (turns (bump_at p) 0 e ks) i 0 ≡ bump_key p (get_or ks i 0)
     at i h = bumps_at p e 0 ks i (omega arith) (omega arith) (omega arith)
 
 -- Edges laid
 
 -- the same with equal keys allowed: what tables show by themselves
 pub record Level (ks : List ℕ) (e : ℕ) : Type 0 where
-  pub upward : (i : ℕ) → i < e → firstEnd (get_or ks i 0) < secondEnd (get_or ks i 0)
+  pub upward : (i : ℕ) → i < e → first_end (get_or ks i 0) < second_end (get_or ks i 0)
   pub level : (i j : ℕ) → i < j → j < e → get_or ks i 0 ≤ get_or ks j 0
 
 pub ranked-level : {ks : List ℕ} {e : ℕ} → Ranked ks e → Level ks e
 ranked-level r = record { upward = r.upward; level = λ i j h l. omega (arith, r.rising i j h l) }
 
 -- q in the place of an entry, not below those before it nor above those after it
-module _ (xs : List ℕ) (i n q : ℕ) (room : i < length xs) (up : firstEnd q < secondEnd q) (low : (j : ℕ) → j < i → get_or xs j 0 ≤ q)
+module _ (xs : List ℕ) (i n q : ℕ) (room : i < length xs) (up : first_end q < second_end q) (low : (j : ℕ) → j < i → get_or xs j 0 ≤ q)
     (high : (j : ℕ) → i < j → j < n → q ≤ get_or xs j 0) where
-  put_up : ((j : ℕ) → j < n → (i ≡ j → ⊥) → firstEnd (get_or xs j 0) < secondEnd (get_or xs j 0))
-      → (j : ℕ) → j < n → firstEnd (get_or (set xs i q) j 0) < secondEnd (get_or (set xs i q) j 0)
+  put_up : ((j : ℕ) → j < n → (i ≡ j → ⊥) → first_end (get_or xs j 0) < second_end (get_or xs j 0))
+      → (j : ℕ) → j < n → first_end (get_or (set xs i q) j 0) < second_end (get_or (set xs i q) j 0)
   put_up old j h =
       by (eqb i j)
       (λ t.
       let e : get_or (set xs i q) j 0 ≡ q = ap (λ (k : ℕ). get_or (set xs i q) k 0) (sym (eqb-true i j t)) ∙ here xs i q room in
-      subst (λ (k : ℕ). firstEnd k < secondEnd k) (sym e) up)
+      subst (λ (k : ℕ). first_end k < second_end k) (sym e) up)
       (λ t.
       let d : i ≡ j → ⊥ = eqb-false i j t in
-      subst (λ (k : ℕ). firstEnd k < secondEnd k) (sym (other xs i j q d)) (old j h d))
+      subst (λ (k : ℕ). first_end k < second_end k) (sym (other xs i j q d)) (old j h d))
 
   put-level : ((j k : ℕ) → j < k → k < n → (i ≡ j → ⊥) → (i ≡ k → ⊥) → get_or xs j 0 ≤ get_or xs k 0)
       → (j k : ℕ) → j < k → k < n → get_or (set xs i q) j 0 ≤ get_or (set xs i q) k 0
@@ -159,7 +159,7 @@ module _ (xs : List ℕ) (i n q : ℕ) (room : i < length xs) (up : firstEnd q <
       let f : i ≡ k → ⊥ = eqb-false i k v in
       omega (arith, other xs i j q d, other xs i k q f, old j k h l d f)))
 
-pub carry-level : (c i q : ℕ) (xs : List ℕ) → i + c < length xs → firstEnd q < secondEnd q → ((j : ℕ) → j < i → get_or xs j 0 ≤ q) →
+pub carry-level : (c i q : ℕ) (xs : List ℕ) → i + c < length xs → first_end q < second_end q → ((j : ℕ) → j < i → get_or xs j 0 ≤ q) →
     Level xs (i + c)
     → Level (carrying i c q xs) (suc (i + c))
 unfolding carrying
@@ -205,7 +205,7 @@ carry-level (suc c) i q xs room up low g =
         (λ v. let e : get_or xs i 0 ≡ get_or xs j 0 = ap (λ (m : ℕ). get_or xs m 0) (eqb-true i j v) in omega (arith, e, t))
         (λ v. let d : i ≡ j → ⊥ = eqb-false i j v in low j (omega (arith, d)))
 
-lay-level : (p a : ℕ) (r : Row) → p < treeBound → a < treeBound → r.size < length r.keys → Level r.keys r.size
+lay-level : (p a : ℕ) (r : Row) → p < tree_bound → a < tree_bound → r.size < length r.keys → Level r.keys r.size
     → Level (lay p a r).keys (lay p a r).size
 unfolding lay
 lay-level p a r hp ha room g =
@@ -213,7 +213,7 @@ lay-level p a r hp ha room g =
     (λ t. rw (lay, t) (put p a (ltb-true p a t) ha))
     (λ t. by (ltb a p) (λ s. rw (lay, t, s) (put a p (ltb-true a p s) hp)) (λ s. rw (lay, t, s) g))
   where
-    put : (x y : ℕ) → x < y → y < treeBound → Level (carrying 0 r.size (key x y) r.keys) (r.size + 1)
+    put : (x y : ℕ) → x < y → y < tree_bound → Level (carrying 0 r.size (key x y) r.keys) (r.size + 1)
     put x y h l =
         let z : suc (0 + r.size) ≡ r.size + 1 = omega arith in
         let n : r.size ≡ 0 + r.size = omega arith in
@@ -221,7 +221,7 @@ lay-level p a r hp ha room g =
         (carry-level r.size 0 (key x y) r.keys (omega arith) (omega (arith, first_of x y l, second-of x y l))
         (λ j f. absurd (let z : ⊥ = omega arith in z)) (subst (Level r.keys) n g))
 
-lays-level : (es : List (ℕ × ℕ)) (r : Row) → Ends treeBound es → r.size + length es ≤ length r.keys → Level r.keys r.size
+lays-level : (es : List (ℕ × ℕ)) (r : Row) → Ends tree_bound es → r.size + length es ≤ length r.keys → Level r.keys r.size
     → Level (lays es r).keys (lays es r).size
 unfolding lays
 lays-level [] r h room g = g
@@ -229,20 +229,20 @@ lays-level (e ∷ es) r h room g =
     lays-level es (lay e.0 e.1 r) h.1 (rw (length-lay e.0 e.1 r) (omega (arith, size-lay e.0 e.1 r)))
     (lay-level e.0 e.1 r h.0.0 h.0.1 (omega arith) g)
 
-pub laid-level : (pts : List ℤ) (n : ℕ) (ks : List ℕ) (e p a b u : ℕ) (s : Place) → n < treeBound → e + 2 < length ks → p ≤ n → a < n → b
+pub laid-level : (pts : List ℤ) (n : ℕ) (ks : List ℕ) (e p a b u : ℕ) (s : Place) → n < tree_bound → e + 2 < length ks → p ≤ n → a < n → b
     < n → u < n
-    → Within n ks → Ranked ks e → Level (laidAt pts n ks e p a b u s).edges.keys (laidAt pts n ks e p a b u s).edges.size
-unfolding laidAt
+    → Within n ks → Ranked ks e → Level (laid_at pts n ks e p a b u s).edges.keys (laid_at pts n ks e p a b u s).edges.size
+unfolding laid_at
 laid-level pts n ks e p a b u s few room hp ha hb hu w r =
     by (stands pts n p s)
     (λ t.
-    rw (laidAt, t)
-    (lays-level (star p a b u) (row ks e) (star-ends treeBound p a b u (omega arith) (omega arith) (omega arith) (omega arith))
+    rw (laid_at, t)
+    (lays-level (star p a b u) (row ks e) (star-ends tree_bound p a b u (omega arith) (omega arith) (omega arith) (omega arith))
     (omega arith) (ranked-level r)))
     (λ t.
-    rw (laidAt, t)
-    (lays-level (star p (bump p a) (bump p b) (bump p u)) (row (turns (bumpAt p) 0 e ks) e)
-    (star-ends treeBound p (bump p a) (bump p b) (bump p u) (omega arith) (omega (arith, bump-in n p a ha))
+    rw (laid_at, t)
+    (lays-level (star p (bump p a) (bump p b) (bump p u)) (row (turns (bump_at p) 0 e ks) e)
+    (star-ends tree_bound p (bump p a) (bump p b) (bump p u) (omega arith) (omega (arith, bump-in n p a ha))
     (omega (arith, bump-in n p b hb)) (omega (arith, bump-in n p u hu)))
     (rw (length-bumps p e ks) (omega arith))
     (ranked-level (bumped-ranked n p e ks few (omega arith) w r))))
@@ -265,14 +265,14 @@ once-listing f (suc n) o i j h l e =
 pub ranked-of : {net : Net} (t : Tree) → Sound net t → Level t.edges.keys t.edges.size
     → Ranked t.edges.keys t.edges.size
 ranked-of t sound g =
-    let edges = edgesOf t.points t.edges.keys t.edges.size in
-    let once : Once edges = forest-once edges (cuts-forest edges (tree-cuts same_place sound.whole)) in
+    let edges = edges_of t.points t.edges.keys t.edges.size in
+    let once : Once edges = forest-once edges (cuts-forest edges (tree-cuts same-place sound.whole)) in
     record {
       upward = g.upward;
       rising =
           λ i j h l.
           let d : get_or t.edges.keys i 0 ≡ get_or t.edges.keys j 0 → ⊥
-          = λ e. once-listing (λ i. endsOf t.points (get_or t.edges.keys i 0)) t.edges.size once i j h l
-          (ap (endsOf t.points) e) in
+          = λ e. once-listing (λ i. ends_of t.points (get_or t.edges.keys i 0)) t.edges.size once i j h l
+          (ap (ends_of t.points) e) in
           omega (arith, g.level i j h l, d);
     }

@@ -12,18 +12,18 @@ use borrow.Author.Tests.{ltb-true, ltb-false, eq-eqb, ne_eqb}
 use Rattle.plane.specs.declared.Place.{Place}
 use Rattle.plane.specs.declared.Macro.{Macro}
 use Rattle.plane.specs.declared.Weights.{Weights}
-use Rattle.plane.specs.Flat.{placeAt}
-use Rattle.plane.specs.Place.{samePlace}
+use Rattle.plane.specs.Flat.{place_at}
+use Rattle.plane.specs.Place.{same_place}
 use Rattle.plane.specs.Rank.{later, rank}
 use Rattle.lists.proofs.TestLaws.{by, and_left}
 use Rattle.candidates.specs.declared.Best.{Best}
 use Rattle.candidates.specs.Candidate.{found}
-use Rattle.exchanges.specs.Exchange.{bump, bumpAt, carrying, closed, dropTwo, exchange, laidAt}
+use Rattle.exchanges.specs.Exchange.{bump, bump_at, carrying, closed, drop_two, exchange, laid_at}
 use Rattle.exchanges.specs.Exchange.{lay, lays, star, shift, stands}
 use Rattle.longest.specs.Longest.{costs, measure}
 use Rattle.exchanges.specs.Prune.{pruned}
-use Rattle.exchanges.specs.Prune.{marks, firstLoose, prune}
-use Rattle.tree.specs.Table.{In, Row, Small, Tree, Within, key, pairBound, treeBound, row, tree}
+use Rattle.exchanges.specs.Prune.{marks, first_loose, prune}
+use Rattle.tree.specs.Table.{In, Row, Small, Tree, Within, key, pair_bound, tree_bound, row, tree}
 use Rattle.lists.specs.Turns.{seek, turns}
 use Rattle.candidates.proofs.CandidateBounds.{Fine, fine-search}
 use Rattle.lists.proofs.TurnLaws.{turns-keep}
@@ -38,11 +38,11 @@ all_set P (y ∷ ys) (suc v) x h l (suc i) = all_set P ys v x h (λ j. l (suc j)
 within-set : (n : ℕ) (xs : List ℕ) (v x : ℕ) → In n x → Within n xs → Within n (set xs v x)
 within-set n xs v x h w = record { ends = all_set (In n) xs v x h w.ends }
 
-pub in-key : (n p a : ℕ) → p < n → a < n → n ≤ treeBound → In n (key p a)
+pub in-key : (n p a : ℕ) → p < n → a < n → n ≤ tree_bound → In n (key p a)
 in-key n p a h i l =
-    let b : a < treeBound = omega arith in
-    let d : (key p a) / treeBound ≡ p = omega arith in
-    let m : (key p a) % treeBound ≡ a = omega arith in
+    let b : a < tree_bound = omega arith in
+    let d : (key p a) / tree_bound ≡ p = omega arith in
+    let m : (key p a) % tree_bound ≡ a = omega arith in
     (rw d h, rw m i)
 
 pub within-carrying : (n i c q : ℕ) (xs : List ℕ) → In n q → Within n xs → Within n (carrying i c q xs)
@@ -53,7 +53,7 @@ within-carrying n i (suc c) q xs h w =
     (λ t. rw (carrying, t) (within-carrying n (suc i) c (get_or xs i 0) (set xs i q) (w.ends i) (within-set n xs i q h w)))
     (λ t. rw (carrying, t) (within-carrying n (suc i) c q xs h w))
 
-within-lay : (n p a : ℕ) (r : Row) → p < n → a < n → n ≤ treeBound → Within n r.keys → Within n (lay p a r).keys
+within-lay : (n p a : ℕ) (r : Row) → p < n → a < n → n ≤ tree_bound → Within n r.keys → Within n (lay p a r).keys
 unfolding lay
 within-lay n p a r h i l w =
     by (ltb p a)
@@ -69,7 +69,7 @@ Ends n (e ∷ es) = ((e.0 < n) × (e.1 < n)) × Ends n es
 pub star-ends : (n p a b u : ℕ) → p < n → a < n → b < n → u < n → Ends n (star p a b u)
 star-ends n p a b u h i j k = ((h, i), ((h, j), ((h, k), tt)))
 
-within-lays : (n : ℕ) (es : List (ℕ × ℕ)) (r : Row) → Ends n es → n ≤ treeBound → Within n r.keys → Within n (lays es r).keys
+within-lays : (n : ℕ) (es : List (ℕ × ℕ)) (r : Row) → Ends n es → n ≤ tree_bound → Within n r.keys → Within n (lays es r).keys
 unfolding lays
 within-lays n [] r h l w = w
 within-lays n (e ∷ es) r h l w = within-lays n es _ h.1 l (within-lay n e.0 e.1 r h.0.0 h.0.1 l w)
@@ -78,11 +78,11 @@ pub within-closed : (n k m : ℕ) (xs : List ℕ) → Within n xs → Within n (
 unfolding closed shift
 within-closed n k m xs w = turns-keep shift (Within n) (m - k) k xs (λ j t q. within-set n t j _ (q.ends (suc j)) q) w
 
-pub within-dropped : (n m k l : ℕ) (xs : List ℕ) → Within n xs → Within n (dropTwo m k l xs)
-unfolding dropTwo
+pub within-dropped : (n m k l : ℕ) (xs : List ℕ) → Within n xs → Within n (drop_two m k l xs)
+unfolding drop_two
 within-dropped n m k l xs w =
-    by (ltb k l) (λ t. rw (dropTwo, t) (within-closed n k m _ (within-closed n l (m + 1) xs w)))
-    (λ t. rw (dropTwo, t) (within-closed n l m _ (within-closed n k (m + 1) xs w)))
+    by (ltb k l) (λ t. rw (drop_two, t) (within-closed n k m _ (within-closed n l (m + 1) xs w)))
+    (λ t. rw (drop_two, t) (within-closed n l m _ (within-closed n k (m + 1) xs w)))
 
 pub bump-in : (n p i : ℕ) → i < n → bump p i < n + 1
 unfolding bump
@@ -94,9 +94,9 @@ past (y ∷ ys) i zero x h = absurd (let z : ⊥ = omega arith in z)
 past (y ∷ ys) zero (suc j) x h = refl
 past (y ∷ ys) (suc i) (suc j) x h = past ys i j x (omega arith)
 
-pub within-bumped : (n p : ℕ) → n < treeBound → (c i : ℕ) (xs : List ℕ) → Within (n + 1) xs → ((j : ℕ) → i ≤ j → In n (get_or xs j 0))
-    → Within (n + 1) (turns (bumpAt p) i c xs)
-unfolding turns bumpAt
+pub within-bumped : (n p : ℕ) → n < tree_bound → (c i : ℕ) (xs : List ℕ) → Within (n + 1) xs → ((j : ℕ) → i ≤ j → In n (get_or xs j 0))
+    → Within (n + 1) (turns (bump_at p) i c xs)
+unfolding turns bump_at
 within-bumped n p l zero i xs w h = w
 within-bumped n p l (suc c) i xs w h =
     let q = h i (omega arith) in
@@ -107,19 +107,19 @@ within-bumped n p l (suc c) i xs w h =
 pub within_more : (n : ℕ) (xs : List ℕ) → Within n xs → Within (n + 1) xs
 within_more n xs w = record { ends = λ i. (omega (arith, (w.ends i).0), omega (arith, (w.ends i).1)) }
 
-module _ (pts : List ℤ) (n : ℕ) (ks : List ℕ) (e p a b u : ℕ) (s : Place) (l : n < treeBound) (hp : p ≤ n) (ha : a < n) (hb : b < n)
+module _ (pts : List ℤ) (n : ℕ) (ks : List ℕ) (e p a b u : ℕ) (s : Place) (l : n < tree_bound) (hp : p ≤ n) (ha : a < n) (hb : b < n)
     (hu : u < n)
     (w : Within n ks) where
-  pub within-joined : Within (laidAt pts n ks e p a b u s).count (laidAt pts n ks e p a b u s).edges.keys
-  unfolding laidAt stands
+  pub within-joined : Within (laid_at pts n ks e p a b u s).count (laid_at pts n ks e p a b u s).edges.keys
+  unfolding laid_at stands
   within-joined =
-      by (ltb p n && samePlace s (placeAt pts p))
+      by (ltb p n && same_place s (place_at pts p))
       (λ t.
-      rw (laidAt, t)
+      rw (laid_at, t)
       (within-lays n (star p a b u) (row ks e) (star-ends n p a b u (ltb-true p n (and_left _ _ t)) ha hb hu) (omega arith) w))
       (λ t.
-      rw (laidAt, t)
-      (within-lays (n + 1) (star p _ _ _) (row (turns (bumpAt p) 0 e ks) e)
+      rw (laid_at, t)
+      (within-lays (n + 1) (star p _ _ _) (row (turns (bump_at p) 0 e ks) e)
       (star-ends (n + 1) p _ _ _ (omega arith) (bump-in n p a ha) (bump-in n p b hb) (bump-in n p u hu)) (omega arith)
       (within-bumped n p l e 0 ks (within_more n ks w) (λ j _. w.ends j))))
 
@@ -132,7 +132,7 @@ pub rank-le : (pts : List ℤ) (n : ℕ) (s : Place) → rank pts n s ≤ n
 unfolding rank
 rank-le pts n s = omega (arith, seek-le (later pts s) n 0)
 
-pub within-exchange : (c : Best) (pts : List ℤ) (n : ℕ) (ks : List ℕ) (e : ℕ) → n < treeBound → c.point < n → Within n ks
+pub within-exchange : (c : Best) (pts : List ℤ) (n : ℕ) (ks : List ℕ) (e : ℕ) → n < tree_bound → c.point < n → Within n ks
     → Within (exchange c pts n ks e).count (exchange c pts n ks e).edges.keys
 unfolding exchange
 within-exchange c pts n ks e l h w =
@@ -140,7 +140,7 @@ within-exchange c pts n ks e l h w =
     within-joined pts n _ _ _ _ _ _ _ l (rank-le pts n _) q.0 q.1 h (within-dropped n _ _ _ ks w)
 
 pub within-after : (c : Best) (pts qts : List ℤ) (n m : ℕ) (ks ls : List ℕ) (e f : ℕ) → tree qts m ls f ≡ exchange c pts n ks e → n
-    < treeBound
+    < tree_bound
     → c.point < n → Within n ks → Within m ls
 within-after c pts qts n m ks ls e f q l h w =
     rw (ap (λ (t : Tree). t.count) q, ap (λ (t : Tree). t.edges.keys) q) (within-exchange c pts n ks e l h w)
@@ -163,8 +163,8 @@ cut_in w pts ks e l h =
     by (ltb l e) (λ t. ltb-true l e t)
     (λ t. absurd (
     let g : e ≤ l = ltb-false l e t in
-    let z : get_or (turns (measure w pts ks) 0 e (replicate treeBound 0)) l 0 ≡ 0
-    = measured-past w pts ks l e 0 _ (omega arith) ∙ zeros-at treeBound l in
+    let z : get_or (turns (measure w pts ks) 0 e (replicate tree_bound 0)) l 0 ≡ 0
+    = measured-past w pts ks l e 0 _ (omega arith) ∙ zeros-at tree_bound l in
     let y : ⊥ = omega arith in y))
 
 pub fine-found : (w : Weights) (ms : List Macro) (pts : List ℤ) (n : ℕ) (ks : List ℕ) (e : ℕ) (c : Best) → c ≡ found w ms pts n ks e
@@ -176,7 +176,7 @@ fine-found w ms pts n ks e c q g =
     let i = h (omega arith) in
     ((i.0.0, cut_in w pts ks e c.cut i.1.0), (i.1.1, i.0.1))
 
-pub within-small : (n : ℕ) (ks : List ℕ) → n ≤ treeBound → Within n ks → Small pairBound ks
+pub within-small : (n : ℕ) (ks : List ℕ) → n ≤ tree_bound → Within n ks → Small pair_bound ks
 within-small n ks h w = record { small = λ i. omega (arith, (w.ends i).0, (w.ends i).1) }
 
 -- pruning adds no edge
@@ -184,16 +184,16 @@ pub pruned-few : (pin ks : List ℕ) (e : ℕ) → (prune pin ks e).size ≤ e
 unfolding prune
 pruned-few pin ks zero = omega arith
 pruned-few pin ks (suc e) =
-    by (eqb (firstLoose pin ks (suc e)) (suc e)) (λ t. rw (prune, t) (omega arith))
-    (λ t. rw (prune, t) (omega (arith, pruned-few pin (closed (firstLoose pin ks (suc e)) e ks) e)))
+    by (eqb (first_loose pin ks (suc e)) (suc e)) (λ t. rw (prune, t) (omega arith))
+    (λ t. rw (prune, t) (omega (arith, pruned-few pin (closed (first_loose pin ks (suc e)) e ks) e)))
 
 pub pruned-within : (n : ℕ) (pin ks : List ℕ) (e : ℕ) → Within n ks → Within n (prune pin ks e).keys
 unfolding prune
 pruned-within n pin ks zero w = w
 pruned-within n pin ks (suc e) w =
-    by (eqb (firstLoose pin ks (suc e)) (suc e)) (λ t. rw (prune, t) w)
-    (λ t. rw (prune, t) (pruned-within n pin (closed (firstLoose pin ks (suc e)) e ks) e
-    (within-closed n (firstLoose pin ks (suc e)) e ks w)))
+    by (eqb (first_loose pin ks (suc e)) (suc e)) (λ t. rw (prune, t) w)
+    (λ t. rw (prune, t) (pruned-within n pin (closed (first_loose pin ks (suc e)) e ks) e
+    (within-closed n (first_loose pin ks (suc e)) e ks w)))
 
 pub after-pruning : (pins : List Place) (pts : List ℤ) (n : ℕ) (ks : List ℕ) (e k : ℕ) (ls : List ℕ) (f : ℕ)
     → row ls f ≡ (pruned pins (tree pts n ks e)).edges → Within k ks → (f ≤ e) × Within k ls

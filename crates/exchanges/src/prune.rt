@@ -1,18 +1,18 @@
 // Pruning: points that are no pins and have a single edge go.
 ghost use Rattle.std.specs.Prelude.{◌≡◌, ◌≤◌, ◌<◌, ◌*◌};
 ghost use Rattle.lists.specs.Any.{any};
-ghost use Rattle.plane.specs.Place.{samePlace};
-ghost use Rattle.net.specs.Pins.{pinPlaces};
+ghost use Rattle.plane.specs.Place.{same_place};
+ghost use Rattle.net.specs.Pins.{pin_places};
 ghost use Rattle.lists.specs.Turns.{turns, seek};
-ghost use Rattle.tree.specs.Table.{treeBound, pairBound, row, tree, Small, Low};
-ghost use Rattle.exchanges.specs.Prune.{countEnds, loose, looseEdge, firstLoose, mark, prune, pruned};
+ghost use Rattle.tree.specs.Table.{tree_bound, pair_bound, row, tree, Small, Low};
+ghost use Rattle.exchanges.specs.Prune.{count_ends, loose, loose_edge, first_loose, mark, prune, pruned};
 
 use crate::exchange;
 use plane::Place;
 use tree::{NUMBERS, POINTS};
 
 fn is_pin(pins: &[i32], p: Place) -> bool
-    ensures { result ≡ any (samePlace p) (pinPlaces pins.now) }
+    ensures { result ≡ any (same_place p) (pin_places pins.now) }
 {
     let m = net::pin_count(pins);
     let mut i = 0;
@@ -26,8 +26,8 @@ fn is_pin(pins: &[i32], p: Place) -> bool
 }
 
 fn mark(pins: &[i32], pts: &[i32; NUMBERS], i: usize, pin: &mut [usize; POINTS])
-    requires { i < treeBound }
-    ensures { pin.new ≡ mark (pinPlaces pins.now) pts.now i pin.old }
+    requires { i < tree_bound }
+    ensures { pin.new ≡ mark (pin_places pins.now) pts.now i pin.old }
 {
     if is_pin(pins, tree::point_at(pts, i)) {
         pin[i] = 1;
@@ -37,8 +37,8 @@ fn mark(pins: &[i32], pts: &[i32; NUMBERS], i: usize, pin: &mut [usize; POINTS])
 }
 
 fn mark_pins(pins: &[i32], pts: &[i32; NUMBERS], n: usize, pin: &mut [usize; POINTS])
-    requires { n ≤ treeBound }
-    ensures { pin.new ≡ turns (mark (pinPlaces pins.now) pts.now) 0 n pin.old }
+    requires { n ≤ tree_bound }
+    ensures { pin.new ≡ turns (mark (pin_places pins.now) pts.now) 0 n pin.old }
 {
     let mut i = 0;
     while i < n {
@@ -48,8 +48,8 @@ fn mark_pins(pins: &[i32], pts: &[i32; NUMBERS], n: usize, pin: &mut [usize; POI
 }
 
 fn count_ends(keys: &[usize; POINTS], i: usize, deg: &mut [usize; POINTS])
-    requires { (i < treeBound) × ((Small pairBound keys.now) × (Low (treeBound * 2) deg.old)) }
-    ensures { deg.new ≡ countEnds keys.now i deg.old }
+    requires { (i < tree_bound) × ((Small pair_bound keys.now) × (Low (tree_bound * 2) deg.old)) }
+    ensures { deg.new ≡ count_ends keys.now i deg.old }
 {
     let a = keys[i] / POINTS;
     let b = keys[i] % POINTS;
@@ -58,8 +58,8 @@ fn count_ends(keys: &[usize; POINTS], i: usize, deg: &mut [usize; POINTS])
 }
 
 fn degrees(keys: &[usize; POINTS], e: usize, deg: &mut [usize; POINTS])
-    requires { (e ≤ treeBound) × ((Small pairBound keys.now) × (Low 0 deg.old)) }
-    ensures { deg.new ≡ turns (countEnds keys.now) 0 e deg.old }
+    requires { (e ≤ tree_bound) × ((Small pair_bound keys.now) × (Low 0 deg.old)) }
+    ensures { deg.new ≡ turns (count_ends keys.now) 0 e deg.old }
 {
     let mut i = 0;
     while i < e {
@@ -69,7 +69,7 @@ fn degrees(keys: &[usize; POINTS], e: usize, deg: &mut [usize; POINTS])
 }
 
 fn is_loose(pin: &[usize; POINTS], deg: &[usize; POINTS], v: usize) -> bool
-    requires { v < treeBound }
+    requires { v < tree_bound }
     ensures { result ≡ loose pin.now deg.now v }
 {
     (pin[v] == 0) & (deg[v] == 1)
@@ -81,8 +81,8 @@ fn is_loose_edge(
     keys: &[usize; POINTS],
     i: usize,
 ) -> bool
-    requires { (i < treeBound) × (Small pairBound keys.now) }
-    ensures { result ≡ looseEdge pin.now deg.now keys.now i }
+    requires { (i < tree_bound) × (Small pair_bound keys.now) }
+    ensures { result ≡ loose_edge pin.now deg.now keys.now i }
 {
     let k = keys[i];
     is_loose(pin, deg, k / POINTS) | is_loose(pin, deg, k % POINTS)
@@ -94,8 +94,8 @@ fn seek_loose(
     keys: &[usize; POINTS],
     e: usize,
 ) -> usize
-    requires { (e ≤ treeBound) × (Small pairBound keys.now) }
-    ensures { (result ≡ seek (looseEdge pin.now deg.now keys.now) 0 e) × (result ≤ e) }
+    requires { (e ≤ tree_bound) × (Small pair_bound keys.now) }
+    ensures { (result ≡ seek (loose_edge pin.now deg.now keys.now) 0 e) × (result ≤ e) }
 {
     let mut i = 0;
     while i < e {
@@ -108,8 +108,8 @@ fn seek_loose(
 }
 
 fn first_loose(pin: &[usize; POINTS], keys: &[usize; POINTS], e: usize) -> usize
-    requires { (e ≤ treeBound) × (Small pairBound keys.now) }
-    ensures { (result ≡ firstLoose pin.now keys.now e) × (result ≤ e) }
+    requires { (e ≤ tree_bound) × (Small pair_bound keys.now) }
+    ensures { (result ≡ first_loose pin.now keys.now e) × (result ≤ e) }
 {
     let mut deg = [0usize; POINTS];
     degrees(keys, e, &mut deg);
@@ -117,7 +117,7 @@ fn first_loose(pin: &[usize; POINTS], keys: &[usize; POINTS], e: usize) -> usize
 }
 
 pub fn prune(pin: &[usize; POINTS], keys: &mut [usize; POINTS], e: usize) -> usize
-    requires { (e ≤ treeBound) × (Small pairBound keys.old) }
+    requires { (e ≤ tree_bound) × (Small pair_bound keys.old) }
     ensures { row keys.new result ≡ prune pin.now keys.old e }
 {
     let mut f = e;
@@ -140,8 +140,8 @@ pub fn prune_points(
     keys: &mut [usize; POINTS],
     e: usize,
 ) -> usize
-    requires { (n ≤ treeBound) × ((e ≤ treeBound) × (Small pairBound keys.old)) }
-    ensures { row keys.new result ≡ (pruned (pinPlaces pins.now)
+    requires { (n ≤ tree_bound) × ((e ≤ tree_bound) × (Small pair_bound keys.old)) }
+    ensures { row keys.new result ≡ (pruned (pin_places pins.now)
         (tree pts.now n keys.old e)).edges }
 {
     let mut pin = [0usize; POINTS];

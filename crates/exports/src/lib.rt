@@ -5,29 +5,28 @@ ghost use Rattle.std.specs.Prelude.{◌≡◌, pos, length};
 ghost use Rattle.lent.specs.Told.{code};
 ghost use Rattle.lent.specs.Entries.{flat};
 ghost use Rattle.plane.specs.Place.{place};
-ghost use Rattle.net.specs.Net.{weighing, weightsOf, netOf};
+ghost use Rattle.net.specs.Net.{weighing, weights_of, net_of};
 ghost use Rattle.checks.specs.Check.{checked};
-ghost use Rattle.graph.specs.Numbers.{placeNumbers, edgeNumbers};
-ghost use Rattle.terminal.specs.Tree.{pathNumbers};
-ghost use Rattle.answers.specs.Graph.{netVertices, netEdges, graphed};
-ghost use Rattle.answers.specs.Terminal.{pathsOf, terminalTree};
-ghost use Rattle.answers.specs.Refined.{laid_of, refinedTree};
-ghost use Rattle.answers.specs.Slid.{slidOf, slidTree};
-ghost use Rattle.answers.specs.Wires.{wiresOf, wired};
-ghost use Rattle.answers.specs.Distances.{gridDistances};
+ghost use Rattle.graph.specs.Numbers.{place_numbers, edge_numbers};
+ghost use Rattle.terminal.specs.Tree.{path_numbers};
+ghost use Rattle.answers.specs.Graph.{net_vertices, net_edges, graphed};
+ghost use Rattle.answers.specs.Terminal.{paths_of, terminal_tree};
+ghost use Rattle.answers.specs.Refined.{laid_of, refined_tree};
+ghost use Rattle.answers.specs.Slid.{slid_of, slid_tree};
+ghost use Rattle.answers.specs.Wires.{wires_of, wired};
+ghost use Rattle.answers.specs.Distances.{grid_distances};
 ghost use Rattle.elmore.specs.Elmore.{technology};
 ghost use Rattle.floats.specs.Mark.{finites};
-ghost use Rattle.answers.specs.Delay.{delaysOf, pinDelays};
-ghost use Rattle.answers.specs.Best.{bestTree};
-ghost use Rattle.answers.specs.Bound.{lowerBound};
-ghost use Rattle.answers.specs.Price.{netPrice};
-ghost use Rattle.answers.specs.Bought.{checkedTree};
-ghost use Rattle.encoded.specs.Layout.{fileBytes};
-ghost use Rattle.decoded.specs.Held.{pinsIn, macrosIn};
+ghost use Rattle.answers.specs.Delay.{delays_of, pin_delays};
+ghost use Rattle.answers.specs.Best.{best_tree};
+ghost use Rattle.answers.specs.Price.{net_price};
+ghost use Rattle.answers.specs.Bought.{checked_tree};
+ghost use Rattle.encoded.specs.Layout.{file_bytes};
+ghost use Rattle.decoded.specs.Held.{pins_in, macros_in};
 ghost use Rattle.netfile.specs.Write.{written};
-ghost use Rattle.netfile.specs.Read.{readFile};
+ghost use Rattle.netfile.specs.Read.{read_file};
 ghost use Rattle.exports.specs.Handed.{GraphHanded, PathsHanded, TreeHanded, BestHanded, ListHanded, SquareHanded};
-ghost use Rattle.exports.specs.Handed.{BoundHanded, ChargeHanded, SumsHanded, NetHanded};
+ghost use Rattle.exports.specs.Handed.{ChargeHanded, SumsHanded, NetHanded};
 
 use bought::Verdict;
 use checks::Checked;
@@ -37,7 +36,7 @@ use net::Weighing;
 use netfile::Written;
 use plane::Place;
 use price::Priced;
-use router::{BoundAnswer, DistanceAnswer, Graphed, TerminalAnswer, TreeAnswer, Wired};
+use router::{DistanceAnswer, Graphed, TerminalAnswer, TreeAnswer, Wired};
 
 // The two weights as one.
 fn weighing(x: i32, y: i32) -> Weighing
@@ -94,8 +93,8 @@ pub extern "C" fn calzundi_graph(
     ensures { GraphHanded
         (graphed (weighing x y) pins.now macros.now (length vertices.old)
         (length edges.old))
-        (flat placeNumbers (netVertices (weighing x y) pins.now macros.now))
-        (flat edgeNumbers (netEdges (weighing x y) pins.now macros.now))
+        (flat place_numbers (net_vertices (weighing x y) pins.now macros.now))
+        (flat edge_numbers (net_edges (weighing x y) pins.now macros.now))
         vertices.old edges.old v.old e.old result
         vertices.new edges.new v.new e.new }
 {
@@ -123,8 +122,8 @@ pub extern "C" fn calzundi_terminal_tree(
     total: &mut i64,
 ) -> i32
     ensures { PathsHanded
-        (terminalTree (weighing x y) pins.now macros.now (length paths.old))
-        (flat pathNumbers (pathsOf (weighing x y) pins.now macros.now))
+        (terminal_tree (weighing x y) pins.now macros.now (length paths.old))
+        (flat path_numbers (paths_of (weighing x y) pins.now macros.now))
         paths.old count.old total.old result
         paths.new count.new total.new }
 {
@@ -153,8 +152,8 @@ pub extern "C" fn calzundi_refined_tree(
     metal: &mut i64,
 ) -> i32
     ensures { TreeHanded
-        (refinedTree (weighing x y) pins.now macros.now (length edges.old))
-        (flat edgeNumbers (laid_of (weighing x y) pins.now macros.now))
+        (refined_tree (weighing x y) pins.now macros.now (length edges.old))
+        (flat edge_numbers (laid_of (weighing x y) pins.now macros.now))
         edges.old count.old total.old metal.old result
         edges.new count.new total.new metal.new }
 {
@@ -184,8 +183,8 @@ pub extern "C" fn calzundi_slid_tree(
     metal: &mut i64,
 ) -> i32
     ensures { TreeHanded
-        (slidTree (weighing x y) pins.now macros.now (length edges.old))
-        (flat edgeNumbers (slidOf (weighing x y) pins.now macros.now))
+        (slid_tree (weighing x y) pins.now macros.now (length edges.old))
+        (flat edge_numbers (slid_of (weighing x y) pins.now macros.now))
         edges.old count.old total.old metal.old result
         edges.new count.new total.new metal.new }
 {
@@ -215,8 +214,8 @@ pub extern "C" fn calzundi_best_tree(
     total: &mut i64,
     metal: &mut i64,
 ) -> i32
-    ensures { BestHanded (netOf (weighing x y) pins.now macros.now)
-        (bestTree (weighing x y) pins.now macros.now (length work.old) (length edges.old))
+    ensures { BestHanded (net_of (weighing x y) pins.now macros.now)
+        (best_tree (weighing x y) pins.now macros.now (length work.old) (length edges.old))
         work.old edges.old count.old total.old metal.old result
         work.new edges.new count.new total.new metal.new }
 {
@@ -233,33 +232,6 @@ pub extern "C" fn calzundi_best_tree(
     }
 }
 
-// 0 and the lower bound, or the number of the refusal. Both lists of work are cleared.
-#[unsafe(no_mangle)]
-pub extern "C" fn calzundi_lower_bound(
-    pins: &[i32],
-    macros: &[i32],
-    x: i32,
-    y: i32,
-    left: &mut [u32],
-    rows: &mut [u64],
-    bound: &mut u64,
-) -> i32
-    ensures { BoundHanded (netOf (weighing x y) pins.now macros.now)
-        (lowerBound (weighing x y) pins.now macros.now (length left.old) (length rows.old))
-        left.old rows.old bound.old result
-        left.new rows.new bound.new }
-{
-    let weights = weighing(x, y);
-    let answer = router::lower_bound(weights, pins, macros, &mut *left, &mut *rows);
-    match answer {
-        BoundAnswer::Given(cost) => {
-            *bound = cost;
-            0
-        }
-        BoundAnswer::Refused(refusal) => refusal.number(),
-    }
-}
-
 // 0 and the number of wires given, or the number of the refusal.
 #[unsafe(no_mangle)]
 pub extern "C" fn calzundi_wires(
@@ -272,7 +244,7 @@ pub extern "C" fn calzundi_wires(
 ) -> i32
     ensures { ListHanded
         (wired (weighing x y) pins.now macros.now (length wires.old))
-        (flat edgeNumbers (wiresOf (weighing x y) pins.now macros.now))
+        (flat edge_numbers (wires_of (weighing x y) pins.now macros.now))
         wires.old count.old result wires.new count.new }
 {
     let weights = weighing(x, y);
@@ -296,8 +268,8 @@ pub extern "C" fn calzundi_grid_distances(
     table: &mut [i64],
     count: &mut usize,
 ) -> i32
-    ensures { SquareHanded (netOf (weighing x y) pins.now macros.now)
-        (gridDistances (weighing x y) pins.now macros.now (length table.old))
+    ensures { SquareHanded (net_of (weighing x y) pins.now macros.now)
+        (grid_distances (weighing x y) pins.now macros.now (length table.old))
         table.old count.old result table.new count.new }
 {
     let weights = weighing(x, y);
@@ -326,9 +298,9 @@ pub extern "C" fn calzundi_delay(
     count: &mut usize,
 ) -> i32
     ensures { ListHanded
-        (pinDelays (weighing x y) pins.now macros.now (place u v) (technology resistance capacitance)
+        (pin_delays (weighing x y) pins.now macros.now (place u v) (technology resistance capacitance)
         (length delays.old))
-        (finites (delaysOf (weighing x y) pins.now macros.now (place u v)
+        (finites (delays_of (weighing x y) pins.now macros.now (place u v)
         (technology resistance capacitance)))
         delays.old count.old result delays.new count.new }
 {
@@ -356,7 +328,7 @@ pub extern "C" fn calzundi_price(
     charge: &mut u64,
 ) -> i32
     ensures { ChargeHanded
-        (netPrice (weighing x y) pins.now macros.now bands.now)
+        (net_price (weighing x y) pins.now macros.now bands.now)
         charge.old result charge.new }
 {
     let weights = weighing(x, y);
@@ -382,7 +354,7 @@ pub extern "C" fn calzundi_check_tree(
     metal: &mut i64,
 ) -> i32
     ensures { SumsHanded
-        (checkedTree (weighing x y) pins.now macros.now edges.now)
+        (checked_tree (weighing x y) pins.now macros.now edges.now)
         cost.old metal.old result cost.new metal.new }
 {
     let weights = weighing(x, y);
@@ -409,7 +381,7 @@ pub extern "C" fn calzundi_write_file(
 ) -> i32
     ensures { ListHanded
         (written (weighing x y) pins.now macros.now (length bytes.old))
-        (fileBytes (weightsOf (weighing x y)) pins.now macros.now)
+        (file_bytes (weights_of (weighing x y)) pins.now macros.now)
         bytes.old given.old result bytes.new given.new }
 {
     let weights = weighing(x, y);
@@ -435,8 +407,8 @@ pub extern "C" fn calzundi_read_file(
     y: &mut i32,
 ) -> i32
     ensures { NetHanded
-        (readFile bytes.now (length pins.old) (length macros.old))
-        (pinsIn bytes.now) (macrosIn bytes.now) pins.old macros.old
+        (read_file bytes.now (length pins.old) (length macros.old))
+        (pins_in bytes.now) (macros_in bytes.now) pins.old macros.old
         (record { m = m.entry.now; k = k.old; x = x.old; y = y.old }) result
         pins.new macros.new
         (record { m = m.exit.now; k = k.new; x = x.new; y = y.new }) }
@@ -455,21 +427,4 @@ pub extern "C" fn calzundi_read_file(
         }
         Checked::Refused(refusal) => refusal.number(),
     }
-}
-
-// The library's version, a thousand times the first number and the second. include/calzundi.h has it in words, and a test holds both.
-#[unsafe(no_mangle)]
-pub extern "C" fn calzundi_version() -> u32
-    ensures { result ≡ 2010 }
-{
-    2010
-}
-
-// A name that says since which version lists mean what they do: three numbers a pin, with two weights. The header refers to it, so that a
-// library whose lists mean something else is not linked. Where the meaning of a list changes, the name does.
-#[unsafe(no_mangle)]
-pub extern "C" fn calzundi_lists_since_1_12() -> u32
-    ensures { result ≡ 3 }
-{
-    3
 }

@@ -19,7 +19,7 @@ use Rattle.floats.specs.declared.Technology.{Technology}
 use Rattle.floats.specs.declared.Delay.{Delay}
 use Rattle.floats.specs.declared.Delay.TheVariants.{Finite, NotFinite}
 use Rattle.floats.specs.Float.{zero, finite, positive}
-use Rattle.floats.specs.Mark.{marked, isMark, finites, fair, usable, isPin, pinsFrom, marksFrom}
+use Rattle.floats.specs.Mark.{marked, is_mark, finites, fair, usable, is_pin, pins_from, marks_from}
 
 -- Tests
 
@@ -108,75 +108,75 @@ module _ (pin : List ℕ) (i n : ℕ) (h : i < n) where
   step : n - i ≡ suc (n - (i + 1))
   step = omega arith
 
-  pins-hit : get_or pin i 0 ≡ 1 → pinsFrom pin i (n - i) ≡ i ∷ pinsFrom pin (i + 1) (n - (i + 1))
-  unfolding pinsFrom isPin
-  pins-hit e = rw (step, pinsFrom, eq-eqb (get_or pin i 0) 1 e) refl
+  pins-hit : get_or pin i 0 ≡ 1 → pins_from pin i (n - i) ≡ i ∷ pins_from pin (i + 1) (n - (i + 1))
+  unfolding pins_from is_pin
+  pins-hit e = rw (step, pins_from, eq-eqb (get_or pin i 0) 1 e) refl
 
-  pins-miss : (get_or pin i 0 ≡ 1 → ⊥) → pinsFrom pin i (n - i) ≡ pinsFrom pin (i + 1) (n - (i + 1))
-  unfolding pinsFrom isPin
-  pins-miss e = rw (step, pinsFrom, ne_eqb (get_or pin i 0) 1 e) refl
+  pins-miss : (get_or pin i 0 ≡ 1 → ⊥) → pins_from pin i (n - i) ≡ pins_from pin (i + 1) (n - (i + 1))
+  unfolding pins_from is_pin
+  pins-miss e = rw (step, pins_from, ne_eqb (get_or pin i 0) 1 e) refl
 
   module _ (table : List Float) where
     marks-hit : get_or pin i 0 ≡ 1
-        → marksFrom table pin i (n - i) ≡ marked (get_or table i nan) ∷ marksFrom table pin (i + 1) (n - (i + 1))
-    unfolding marksFrom
+        → marks_from table pin i (n - i) ≡ marked (get_or table i nan) ∷ marks_from table pin (i + 1) (n - (i + 1))
+    unfolding marks_from
     marks-hit e = ap (map (λ (q : ℕ). marked (get_or table q nan))) (pins-hit e)
 
-    marks-miss : (get_or pin i 0 ≡ 1 → ⊥) → marksFrom table pin i (n - i) ≡ marksFrom table pin (i + 1) (n - (i + 1))
-    unfolding marksFrom
+    marks-miss : (get_or pin i 0 ≡ 1 → ⊥) → marks_from table pin i (n - i) ≡ marks_from table pin (i + 1) (n - (i + 1))
+    unfolding marks_from
     marks-miss e = ap (map (λ (q : ℕ). marked (get_or table q nan))) (pins-miss e)
 
-marks-end : (table : List Float) (pin : List ℕ) (i n : ℕ) → n ≤ i → marksFrom table pin i (n - i) ≡ []
-unfolding marksFrom pinsFrom
+marks-end : (table : List Float) (pin : List ℕ) (i n : ℕ) → n ≤ i → marks_from table pin i (n - i) ≡ []
+unfolding marks_from pins_from
 marks-end table pin i n h = let z : n - i ≡ 0 = omega arith in rw z refl
 
-marks-all : (table : List Float) (pin : List ℕ) (n : ℕ) → marksFrom table pin 0 (n - 0) ≡ marksFrom table pin 0 n
-marks-all table pin n = let z : n - 0 ≡ n = omega arith in ap (marksFrom table pin 0) z
+marks-all : (table : List Float) (pin : List ℕ) (n : ℕ) → marks_from table pin 0 (n - 0) ≡ marks_from table pin 0 n
+marks-all table pin n = let z : n - 0 ≡ n = omega arith in ap (marks_from table pin 0) z
 
 -- one pin's test
 pub pin-marked : (table : List Float) (pin : List ℕ) (i : ℕ) (d : Delay) (r : Bool) → get_or pin i 0 ≡ 1 → d ≡ marked (get_or table i nan)
-    → r ≡ isMark d → r ≡ (isPin pin i && isMark (marked (get_or table i nan)))
-unfolding isPin
+    → r ≡ is_mark d → r ≡ (is_pin pin i && is_mark (marked (get_or table i nan)))
+unfolding is_pin
 pin-marked table pin i d r e f g =
-    both_if (isPin pin i) (isMark (marked (get_or table i nan))) true r (sym (eq-eqb (get_or pin i 0) 1 e)) refl (g ∙ ap isMark f)
+    both_if (is_pin pin i) (is_mark (marked (get_or table i nan))) true r (sym (eq-eqb (get_or pin i 0) 1 e)) refl (g ∙ ap is_mark f)
 
 pub pin-none : (table : List Float) (pin : List ℕ) (i : ℕ) → (get_or pin i 0 ≡ 1 → ⊥)
-    → false ≡ (isPin pin i && isMark (marked (get_or table i nan)))
-unfolding isPin
+    → false ≡ (is_pin pin i && is_mark (marked (get_or table i nan)))
+unfolding is_pin
 pin-none table pin i e =
-    both-not (isPin pin i) (isMark (marked (get_or table i nan))) false (sym (ne_eqb (get_or pin i 0) 1 e)) refl
+    both-not (is_pin pin i) (is_mark (marked (get_or table i nan))) false (sym (ne_eqb (get_or pin i 0) 1 e)) refl
 
 -- The search for a mark: the whole search ≡ the search from here on
 
 module _ (table : List Float) (pin : List ℕ) where
-  pub mark-all : (n : ℕ) → any isMark (marksFrom table pin 0 (n - 0)) ≡ any isMark (marksFrom table pin 0 n)
-  mark-all n = ap (any isMark) (marks-all table pin n)
+  pub mark-all : (n : ℕ) → any is_mark (marks_from table pin 0 (n - 0)) ≡ any is_mark (marks_from table pin 0 n)
+  mark-all n = ap (any is_mark) (marks-all table pin n)
 
-  pub mark-stop : (i n : ℕ) (all : Bool) → any isMark (marksFrom table pin i (n - i)) ≡ all → i < n
-      → (isPin pin i && isMark (marked (get_or table i nan))) ≡ true → true ≡ all
-  unfolding any isPin
+  pub mark-stop : (i n : ℕ) (all : Bool) → any is_mark (marks_from table pin i (n - i)) ≡ all → i < n
+      → (is_pin pin i && is_mark (marked (get_or table i nan))) ≡ true → true ≡ all
+  unfolding any is_pin
   mark-stop i n all g h e =
-      let p : get_or pin i 0 ≡ 1 = eqb-true (get_or pin i 0) 1 (and_left (isPin pin i) (isMark (marked (get_or table i nan))) e) in
-      let m : isMark (marked (get_or table i nan)) ≡ true = and_right (isPin pin i) (isMark (marked (get_or table i nan))) e in
-      sym (ap (any isMark) (marks-hit pin i n h table p)
-      ∙ ap (λ (b : Bool). b || any isMark (marksFrom table pin (i + 1) (n - (i + 1)))) m)
+      let p : get_or pin i 0 ≡ 1 = eqb-true (get_or pin i 0) 1 (and_left (is_pin pin i) (is_mark (marked (get_or table i nan))) e) in
+      let m : is_mark (marked (get_or table i nan)) ≡ true = and_right (is_pin pin i) (is_mark (marked (get_or table i nan))) e in
+      sym (ap (any is_mark) (marks-hit pin i n h table p)
+      ∙ ap (λ (b : Bool). b || any is_mark (marks_from table pin (i + 1) (n - (i + 1)))) m)
       ∙ g
 
-  pub mark-next : (i n : ℕ) (all : Bool) → any isMark (marksFrom table pin i (n - i)) ≡ all → i < n
-      → (isPin pin i && isMark (marked (get_or table i nan))) ≡ false → any isMark (marksFrom table pin (i + 1) (n - (i + 1))) ≡ all
-  unfolding any isPin
+  pub mark-next : (i n : ℕ) (all : Bool) → any is_mark (marks_from table pin i (n - i)) ≡ all → i < n
+      → (is_pin pin i && is_mark (marked (get_or table i nan))) ≡ false → any is_mark (marks_from table pin (i + 1) (n - (i + 1))) ≡ all
+  unfolding any is_pin
   mark-next i n all g h e =
       by (eqb (get_or pin i 0) 1)
       (λ t.
-      let m : isMark (marked (get_or table i nan)) ≡ false = ap (λ (b : Bool). b && isMark (marked (get_or table i nan))) (sym t) ∙ e in
-      sym (ap (any isMark) (marks-hit pin i n h table (eqb-true (get_or pin i 0) 1 t))
-      ∙ ap (λ (b : Bool). b || any isMark (marksFrom table pin (i + 1) (n - (i + 1)))) m)
+      let m : is_mark (marked (get_or table i nan)) ≡ false = ap (λ (b : Bool). b && is_mark (marked (get_or table i nan))) (sym t) ∙ e in
+      sym (ap (any is_mark) (marks-hit pin i n h table (eqb-true (get_or pin i 0) 1 t))
+      ∙ ap (λ (b : Bool). b || any is_mark (marks_from table pin (i + 1) (n - (i + 1)))) m)
       ∙ g)
-      (λ t. sym (ap (any isMark) (marks-miss pin i n h table (eqb-false (get_or pin i 0) 1 t))) ∙ g)
+      (λ t. sym (ap (any is_mark) (marks-miss pin i n h table (eqb-false (get_or pin i 0) 1 t))) ∙ g)
 
-  pub mark-end : (i n : ℕ) (all : Bool) → any isMark (marksFrom table pin i (n - i)) ≡ all → n ≤ i → false ≡ all
+  pub mark-end : (i n : ℕ) (all : Bool) → any is_mark (marks_from table pin i (n - i)) ≡ all → n ≤ i → false ≡ all
   unfolding any
-  mark-end i n all g h = sym (ap (any isMark) (marks-end table pin i n h)) ∙ g
+  mark-end i n all g h = sym (ap (any is_mark) (marks-end table pin i n h)) ∙ g
 
 -- The delays given so far
 
@@ -184,8 +184,8 @@ pub record Filled (table : List Float) (pin : List ℕ) (n : ℕ) (lent₀ lent 
   pub done : List Float
   pub is : lent ≡ over done lent₀
   pub count : length done ≡ k
-  pub all : done ++ finites (marksFrom table pin i (n - i)) ≡ finites (marksFrom table pin 0 n)
-  pub room : k + length (pinsFrom pin i (n - i)) ≤ length (pinsFrom pin 0 n)
+  pub all : done ++ finites (marks_from table pin i (n - i)) ≡ finites (marks_from table pin 0 n)
+  pub room : k + length (pins_from pin i (n - i)) ≤ length (pins_from pin 0 n)
 
 module _ (table : List Float) (pin : List ℕ) (n : ℕ) (lent₀ : List Float) where
   pub filled_none : Filled table pin n lent₀ lent₀ 0 0
@@ -200,10 +200,10 @@ module _ (table : List Float) (pin : List ℕ) (n : ℕ) (lent₀ : List Float) 
       }
 
   module _ (lent : List Float) (k i : ℕ) (f : Filled table pin n lent₀ lent k i) where
-    pub filled-room : i < n → get_or pin i 0 ≡ 1 → length (pinsFrom pin 0 n) ≤ length lent₀ → k < length lent₀
+    pub filled-room : i < n → get_or pin i 0 ≡ 1 → length (pins_from pin 0 n) ≤ length lent₀ → k < length lent₀
     filled-room h e r = omega (arith, f.room, r, ap length (pins-hit pin i n h e))
 
-    pub filled-hit : (d : Delay) (next : List Float) (j : ℕ) → i < n → get_or pin i 0 ≡ 1 → length (pinsFrom pin 0 n) ≤ length lent₀
+    pub filled-hit : (d : Delay) (next : List Float) (j : ℕ) → i < n → get_or pin i 0 ≡ 1 → length (pins_from pin 0 n) ≤ length lent₀
         → d ≡ marked (get_or table i nan) → j ≡ k + length (finites (d ∷ [])) → next ≡ sets lent k (finites (d ∷ []))
         → Filled table pin n lent₀ next j (i + 1)
     filled-hit d next j h e r m c w = record {
@@ -219,7 +219,7 @@ module _ (table : List Float) (pin : List ℕ) (n : ℕ) (lent₀ : List Float) 
     }
       where
         left : List Delay
-        left = marksFrom table pin (i + 1) (n - (i + 1))
+        left = marks_from table pin (i + 1) (n - (i + 1))
 
     pub filled-miss : i < n → (get_or pin i 0 ≡ 1 → ⊥) → Filled table pin n lent₀ lent k (i + 1)
     filled-miss h e = record {
@@ -230,7 +230,7 @@ module _ (table : List Float) (pin : List ℕ) (n : ℕ) (lent₀ : List Float) 
       room = omega (arith, f.room, ap length (pins-miss pin i n h e));
     }
 
-    pub filled-end : n ≤ i → lent ≡ over (finites (marksFrom table pin 0 n)) lent₀
+    pub filled-end : n ≤ i → lent ≡ over (finites (marks_from table pin 0 n)) lent₀
     unfolding finites
     filled-end h =
         f.is

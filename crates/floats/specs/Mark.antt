@@ -10,9 +10,9 @@ use Rattle.floats.specs.Float.{finite, positive}
 unfoldable pub marked : Float → Delay
 marked d = elim (finite d) [ true ↦ Finite d | false ↦ NotFinite ]
 
-unfoldable pub isMark : Delay → Bool
-isMark (Finite d) = false
-isMark NotFinite = true
+unfoldable pub is_mark : Delay → Bool
+is_mark (Finite d) = false
+is_mark NotFinite = true
 
 -- the delays among them
 unfoldable pub finites : List Delay → List Float
@@ -29,14 +29,14 @@ usable t = fair t.resistance && fair t.capacitance
 
 -- The pins among a table's points
 
-unfoldable pub isPin : List ℕ → ℕ → Bool
-isPin pin i = eqb (get_or pin i 0) 1
+unfoldable pub is_pin : List ℕ → ℕ → Bool
+is_pin pin i = eqb (get_or pin i 0) 1
 
 -- the numbers of the pins among n points from number i on
-unfoldable pub pinsFrom : List ℕ → ℕ → ℕ → List ℕ
-pinsFrom pin i zero = []
-pinsFrom pin i (suc n) = elim (isPin pin i) [ true ↦ i ∷ pinsFrom pin (i + 1) n | false ↦ pinsFrom pin (i + 1) n ]
+unfoldable pub pins_from : List ℕ → ℕ → ℕ → List ℕ
+pins_from pin i zero = []
+pins_from pin i (suc n) = elim (is_pin pin i) [ true ↦ i ∷ pins_from pin (i + 1) n | false ↦ pins_from pin (i + 1) n ]
 
 -- the marks of a table's pins, from number i on
-unfoldable pub marksFrom : List Float → List ℕ → ℕ → ℕ → List Delay
-marksFrom table pin i n = map (λ q. marked (get_or table q nan)) (pinsFrom pin i n)
+unfoldable pub marks_from : List Float → List ℕ → ℕ → ℕ → List Delay
+marks_from table pin i n = map (λ q. marked (get_or table q nan)) (pins_from pin i n)

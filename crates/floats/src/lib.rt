@@ -4,9 +4,9 @@ ghost use Rattle.std.proofs.lemmas.List.Edits.{sets};
 ghost use Rattle.std.specs.Float.{nan};
 ghost use Rattle.lists.specs.Any.{any};
 ghost use Rattle.lent.specs.Over.{over};
-ghost use Rattle.tree.specs.Table.{treeBound};
+ghost use Rattle.tree.specs.Table.{tree_bound};
 ghost use Rattle.floats.specs.Float.{finite};
-ghost use Rattle.floats.specs.Mark.{marked, isMark, finites, fair, usable, isPin, pinsFrom, marksFrom};
+ghost use Rattle.floats.specs.Mark.{marked, is_mark, finites, fair, usable, is_pin, pins_from, marks_from};
 
 use tree::POINTS;
 
@@ -67,7 +67,7 @@ fn marked(d: f64) -> Delay
 
 // Whether the delay is a mark.
 fn is_mark(d: Delay) -> bool
-    ensures { result ≡ isMark d }
+    ensures { result ≡ is_mark d }
 {
     match d {
         Delay::Finite(_) => false,
@@ -77,8 +77,8 @@ fn is_mark(d: Delay) -> bool
 
 // Whether point i is a pin with a mark.
 fn is_marked_pin(table: &[f64; POINTS], pin: &[usize; POINTS], i: usize) -> bool
-    requires { i < treeBound }
-    ensures { result ≡ isPin pin.now i && isMark (marked (get_or table.now i nan)) }
+    requires { i < tree_bound }
+    ensures { result ≡ is_pin pin.now i && is_mark (marked (get_or table.now i nan)) }
 {
     if pin[i] == 1 {
         return is_mark(marked(table[i]));
@@ -88,8 +88,8 @@ fn is_marked_pin(table: &[f64; POINTS], pin: &[usize; POINTS], i: usize) -> bool
 
 // Whether a pin among the first n points has a mark.
 pub fn has_mark(table: &[f64; POINTS], pin: &[usize; POINTS], n: usize) -> bool
-    requires { n ≤ treeBound }
-    ensures { result ≡ any isMark (marksFrom table.now pin.now 0 n) }
+    requires { n ≤ tree_bound }
+    ensures { result ≡ any is_mark (marks_from table.now pin.now 0 n) }
 {
     let mut i = 0;
     while i < n {
@@ -117,8 +117,8 @@ fn put(lent: &mut [f64], k: usize, d: Delay) -> usize
 
 // The delays of the pins among the first n points, in the order of places.
 pub fn give(table: &[f64; POINTS], pin: &[usize; POINTS], n: usize, lent: &mut [f64])
-    requires { (n ≤ treeBound) × (length (pinsFrom pin.now 0 n) ≤ length lent.old) }
-    ensures { lent.new ≡ over (finites (marksFrom table.now pin.now 0 n)) lent.old }
+    requires { (n ≤ tree_bound) × (length (pins_from pin.now 0 n) ≤ length lent.old) }
+    ensures { lent.new ≡ over (finites (marks_from table.now pin.now 0 n)) lent.old }
 {
     let mut k = 0;
     let mut i = 0;

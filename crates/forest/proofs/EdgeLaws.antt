@@ -26,9 +26,9 @@ module _ (k n : ℕ) where
   unfolding from
   from_next h = rw (one_less h, add-one k) refl
 
-  pub from_end : n ≤ k → from k (n - k) ≡ []
+  pub from-end : n ≤ k → from k (n - k) ≡ []
   unfolding from
-  from_end h = rw (none_left h) refl
+  from-end h = rw (none_left h) refl
 
   pub entries_next : (xs : List ℕ) → k < n → entries xs k (n - k) ≡ get_or xs k 0 ∷ entries xs (k + 1) (n - (k + 1))
   unfolding entries
@@ -46,11 +46,11 @@ unfolding from
 length_from k zero = refl
 length_from k (suc n) = ap suc (length_from (suc k) n)
 
-pub getD-from : (k n j : ℕ) → j < n → get_or (from k n) j 0 ≡ k + j
+pub get_d-from : (k n j : ℕ) → j < n → get_or (from k n) j 0 ≡ k + j
 unfolding from
-getD-from k zero j h = absurd (let z : ⊥ = omega arith in z)
-getD-from k (suc n) zero h = omega arith
-getD-from k (suc n) (suc j) h = omega (arith, getD-from (suc k) n j (omega arith))
+get_d-from k zero j h = absurd (let z : ⊥ = omega arith in z)
+get_d-from k (suc n) zero h = omega arith
+get_d-from k (suc n) (suc j) h = omega (arith, get_d-from (suc k) n j (omega arith))
 
 pub of-from : (k n j : ℕ) → j ∈ from k n → (k ≤ j) × (j < k + n)
 unfolding from

@@ -3,7 +3,7 @@
 use mathlib.Core.Path.{◌≡◌, refl, ap, ◌∙◌}
 use mathlib.Core.List.{List}
 use Prim.Native.Nat.{ℕ, ◌≤◌}
-use Rattle.forest.specs.Bounds.{pointBound}
+use Rattle.forest.specs.Bounds.{point_bound}
 use Rattle.forest.specs.Edges.{Graph, from, entries, Fits, FirstBelow}
 use Rattle.forest.specs.Labels.{Labels, settled, starts, unlabelled, labelled}
 use Rattle.forest.specs.Parents.{Parents, parented, Falls}
@@ -24,7 +24,7 @@ staged g n sources t₀ t₁ t₂ p a c d f =
 
 -- Labels and parents that the code made are bounded, and distances fall along parents
 module _ (g : Graph) (n m : ℕ) (sources : List ℕ) (t : Labels) (p : Parents)
-    (fits : Fits g) (small : n ≤ pointBound) (inside : FirstBelow sources m pointBound)
+    (fits : Fits g) (small : n ≤ point_bound) (inside : FirstBelow sources m point_bound)
     (t-is : t ≡ labelled g n (entries sources 0 m)) (p-is : p ≡ parented g n (labelled g n (entries sources 0 m))) where
   pub made-fine : Fine t
   unfolding labelled

@@ -21,10 +21,10 @@ use Rattle.joined.specs.Way.{Way, stop, go, long, On}
 use Rattle.joined.proofs.OtherLaws.{alike-sym}
 use Rattle.joined.proofs.WayLaws.{way-more}
 use Rattle.forest.specs.declared.Step.{Step}
-use Rattle.forest.specs.Bounds.{pointBound}
+use Rattle.forest.specs.Bounds.{point_bound}
 use Rattle.forest.specs.Edges.{Graph, one, two, len, from}
 use Rattle.forest.specs.Labels.{Labels, far, root, labelled}
-use Rattle.forest.specs.Parents.{none, parent, Parents, up, via, parented, way_of, way, wayLength, climb}
+use Rattle.forest.specs.Parents.{none, parent, Parents, up, via, parented, way_of, way, way_length, climb}
 use Rattle.forest.specs.Setting.{ends, pairs, Setting, Whole}
 use Rattle.forest.proofs.EdgeLaws.{below-from, in-from}
 use Rattle.forest.proofs.ParentLaws.{Candidate, Found, parent-found, parented-up, parented-via}
@@ -143,7 +143,7 @@ module _ {g : Graph} {n : ℕ} {d : ℕ → ℕ → ℕ} {sources : List ℕ} (s
           let w = some-onward v h m in
           let i = (link-in s v w.0 w.1.link).far-in in
           let l = least w.0 w.1 in
-          let z : (parent g T v).to ≡ pointBound = ap (λ (r : Step). r.to) e in
+          let z : (parent g T v).to ≡ point_bound = ap (λ (r : Step). r.to) e in
           absurd (let y : ⊥ = omega (arith, s.vertices) in y)
       at (inr c) =
           let k = below-from g.count (parent g T v).via c.0 in
@@ -185,7 +185,7 @@ module _ {g : Graph} {n : ℕ} {d : ℕ → ℕ → ℕ} {sources : List ℕ} (s
       (onward-through v (up P v) p.is, λ w t. p.smallest w (through-onward v w h t))
 
   -- a source has no parent
-  pub source-parent : (p : ℕ) → p ∈ sources → up P p ≡ pointBound
+  pub source-parent : (p : ℕ) → p ∈ sources → up P p ≡ point_bound
   source-parent p m =
       parented-up g n T s.vertices p (s.sources-in p m)
       ∙ either (λ e. ap (λ (r : Step). r.to) e)
@@ -270,7 +270,7 @@ module _ {g : Graph} {n : ℕ} {d : ℕ → ℕ → ℕ} {sources : List ℕ} (s
     where
       at : Dec (v ∈ sources) → Home v (climb P.ups zero v) (way_of P zero v)
       at (yes m) =
-          let u : pointBound ≤ up P v = omega (arith, source-parent v m) in
+          let u : point_bound ≤ up P v = omega (arith, source-parent v m) in
           rw (climb-none P.ups zero v u, way-none P zero v u) (at_source v m)
       at (no m) = absurd (let z : ⊥ = omega (arith, far-off v h m) in z)
   home (suc k) v h l = at (λ p. home k (up P v) p.inside (lower k v l p)) (is-in ℕ_discrete v sources)
@@ -278,11 +278,11 @@ module _ {g : Graph} {n : ℕ} {d : ℕ → ℕ → ℕ} {sources : List ℕ} (s
       at : (Parent v → Home (up P v) (climb P.ups k (up P v)) (way_of P k (up P v))) → Dec (v ∈ sources) →
           Home v (climb P.ups (suc k) v) (way_of P (suc k) v)
       at up-home (yes m) =
-          let u : pointBound ≤ up P v = omega (arith, source-parent v m) in
+          let u : point_bound ≤ up P v = omega (arith, source-parent v m) in
           rw (climb-none P.ups (suc k) v u, way-none P (suc k) v u) (at_source v m)
       at up-home (no m) =
           let p = parent_is v h m in
-          let u : up P v < pointBound = omega (arith, p.inside, s.vertices) in
+          let u : up P v < point_bound = omega (arith, p.inside, s.vertices) in
           rw (climb-go P.ups k v u, way-go P k v u) (one_up v _ _ p (up-home p))
 
   -- T8: a way goes from parent to parent and ends at the root
@@ -294,15 +294,15 @@ module _ {g : Graph} {n : ℕ} {d : ℕ → ℕ → ℕ} {sources : List ℕ} (s
   climbs zero v h l = at (is-in ℕ_discrete v sources)
     where
       at : Dec (v ∈ sources) → Upward v (climb P.ups zero v)
-      at (yes m) = let u : pointBound ≤ up P v = omega (arith, source-parent v m) in rw (climb-none P.ups zero v u) (arrived m)
+      at (yes m) = let u : point_bound ≤ up P v = omega (arith, source-parent v m) in rw (climb-none P.ups zero v u) (arrived m)
       at (no m) = absurd (let z : ⊥ = omega (arith, far-off v h m) in z)
   climbs (suc k) v h l = at (λ p. climbs k (up P v) p.inside (lower k v l p)) (is-in ℕ_discrete v sources)
     where
       at : (Parent v → Upward (up P v) (climb P.ups k (up P v))) → Dec (v ∈ sources) → Upward v (climb P.ups (suc k) v)
-      at above (yes m) = let u : pointBound ≤ up P v = omega (arith, source-parent v m) in rw (climb-none P.ups (suc k) v u) (arrived m)
+      at above (yes m) = let u : point_bound ≤ up P v = omega (arith, source-parent v m) in rw (climb-none P.ups (suc k) v u) (arrived m)
       at above (no m) =
           let p = parent_is v h m in
-          let u : up P v < pointBound = omega (arith, p.inside, s.vertices) in
+          let u : up P v < point_bound = omega (arith, p.inside, s.vertices) in
           rw (climb-go P.ups k v u) (onto m (above p))
 
   -- a way goes on, from each of its vertices, with that vertex's parent
@@ -320,39 +320,39 @@ module _ {g : Graph} {n : ℕ} {d : ℕ → ℕ → ℕ} {sources : List ℕ} (s
           (z ≡ v) ⊎ (z ∈ climb P.ups (suc k) v) → up P z ∈ climb P.ups (suc k) v
       at next (yes i) (inl e) = absurd (o (rw e i))
       at next (yes i) (inr j) =
-          let u : pointBound ≤ up P v = omega (arith, source-parent v i) in
+          let u : point_bound ≤ up P v = omega (arith, source-parent v i) in
           elim (rw (climb-none P.ups (suc k) v u) at j) [ ]
       at next (no i) c =
           let p = parent_is v h i in
-          let u : up P v < pointBound = omega (arith, p.inside, s.vertices) in
+          let u : up P v < point_bound = omega (arith, p.inside, s.vertices) in
           rw (climb-go P.ups k v u)
           (either (λ e. here (ap (up P) e)) (λ j. there (next p (rw (climb-go P.ups k v u) at j))) c)
 
   -- the vertices after v on its way
-  abbrev pub wayPoints : ℕ → List ℕ
-  wayPoints v = climb P.ups (far T v) v
+  abbrev pub way_points : ℕ → List ℕ
+  way_points v = climb P.ups (far T v) v
 
-  pub way_home : (v : ℕ) → v < n → Home v (wayPoints v) (way T.fars P v)
+  pub way_home : (v : ℕ) → v < n → Home v (way_points v) (way T.fars P v)
   unfolding way
   way_home v h = home (far T v) v h (omega arith)
 
-  pub way-upward : (v : ℕ) → v < n → Upward v (wayPoints v)
+  pub way-upward : (v : ℕ) → v < n → Upward v (way_points v)
   way-upward v h = climbs (far T v) v h (omega arith)
 
   -- it runs along edges of the graph
-  pub way-runs : (v : ℕ) → v < n → Way (pairs g) v (wayPoints v) (root T v)
+  pub way-runs : (v : ℕ) → v < n → Way (pairs g) v (way_points v) (root T v)
   way-runs v h = let r = way_home v h in way-more (edges-among s (way T.fars P v) r.inside) r.along
 
-  pub way-once : (v : ℕ) → v < n → Once (v ∷ wayPoints v)
-  way-once v h = falling-once v (wayPoints v) (way_home v h).falling
+  pub way-once : (v : ℕ) → v < n → Once (v ∷ way_points v)
+  way-once v h = falling-once v (way_points v) (way_home v h).falling
 
   -- no vertex on it but the root is a source
-  pub way-source : (v : ℕ) → v < n → (z : ℕ) → z ∈ (v ∷ wayPoints v) → z ∈ sources → z ≡ root T v
+  pub way-source : (v : ℕ) → v < n → (z : ℕ) → z ∈ (v ∷ way_points v) → z ∈ sources → z ≡ root T v
   way-source v h z m p = sym (source-label z p).1 ∙ (way_home v h).alike z m
 
-  pub way-goes-on : (v : ℕ) → v < n → (z : ℕ) → z ∈ (v ∷ wayPoints v) → (z ∈ sources → ⊥) → up P z ∈ wayPoints v
+  pub way-goes-on : (v : ℕ) → v < n → (z : ℕ) → z ∈ (v ∷ way_points v) → (z ∈ sources → ⊥) → up P z ∈ way_points v
   way-goes-on v h z m o = goes_on (far T v) v h (omega arith) z m o
 
-  pub way-length : (v : ℕ) → v < n → wayLength g.lengths T.fars P v ≡ far T v
-  unfolding wayLength
+  pub way-length : (v : ℕ) → v < n → way_length g.lengths T.fars P v ≡ far T v
+  unfolding way_length
   way-length v h = (way_home v h).edges_are

@@ -10,9 +10,9 @@ use lib.Dec.{ltb}
 use lib.ListN.{get_or, set}
 use borrow.Author.Tests.{ltb-true, ltb-false}
 use Rattle.lists.proofs.TestLaws.{by, differ, or-none}
-use Rattle.forest.specs.Bounds.{pointBound, unreached}
+use Rattle.forest.specs.Bounds.{point_bound, unreached}
 use Rattle.forest.specs.Edges.{Graph, one, two, len, entries, FirstBelow, Below}
-use Rattle.forest.specs.Labels.{Labels, labels, far, root, better, gains, offer, relaxEdge, moves, relax, changes, settled}
+use Rattle.forest.specs.Labels.{Labels, labels, far, root, better, gains, offer, relax_edge, moves, relax, changes, settled}
 use Rattle.forest.specs.Labels.{starts, unlabelled, Low}
 use Rattle.forest.proofs.EdgeLaws.{entries_next, entries-end, below_set, below-replicate}
 
@@ -44,7 +44,7 @@ both_ways a b d t t' t'' p q h i = (rw (h.0, i.0, h.1) refl, i.1 ∙ ap (offer b
 -- distances that can be added to, and roots that are vertices
 pub record Fine (t : Labels) : Type 0 where
   pub low : Low t.fars
-  pub rooted : Below pointBound t.roots
+  pub rooted : Below point_bound t.roots
 
 low_of : {xs : List ℕ} → Below (suc unreached) xs → Low xs
 low_of s = record { low = λ k. (let h = s.below k in omega arith) }
@@ -65,23 +65,23 @@ low-offer u v d t l =
 pub low-offered : (u v d : ℕ) (t t' : Labels) → t' ≡ offer u v d t → Low t.fars → Low t'.fars
 low-offered u v d t t' e l = rw e (low-offer u v d t l)
 
-root-offer : (u v d : ℕ) (t : Labels) → Below pointBound t.roots → Below pointBound (offer u v d t).roots
+root-offer : (u v d : ℕ) (t : Labels) → Below point_bound t.roots → Below point_bound (offer u v d t).roots
 root-offer u v d t s =
     by (gains u v d t)
-    (λ e. rw (offer-yes u v d t e) (below_set pointBound t.roots v (root t u) (s.below u) s))
+    (λ e. rw (offer-yes u v d t e) (below_set point_bound t.roots v (root t u) (s.below u) s))
     (λ e. rw (offer-no u v d t e) s)
 
-low-edge : (g : Graph) (k : ℕ) (t : Labels) → Low t.fars → Low (relaxEdge g k t).fars
-unfolding relaxEdge
+low-edge : (g : Graph) (k : ℕ) (t : Labels) → Low t.fars → Low (relax_edge g k t).fars
+unfolding relax_edge
 low-edge g k t l = low-offer _ _ _ _ (low-offer _ _ _ _ l)
 
 low-relax : (g : Graph) (ks : List ℕ) (t : Labels) → Low t.fars → Low (relax g ks t).fars
 unfolding relax
 low-relax g [] t l = l
-low-relax g (k ∷ ks) t l = low-relax g ks (relaxEdge g k t) (low-edge g k t l)
+low-relax g (k ∷ ks) t l = low-relax g ks (relax_edge g k t) (low-edge g k t l)
 
-root-relax : (g : Graph) (ks : List ℕ) (t : Labels) → Below pointBound t.roots → Below pointBound (relax g ks t).roots
-unfolding relax relaxEdge
+root-relax : (g : Graph) (ks : List ℕ) (t : Labels) → Below point_bound t.roots → Below point_bound (relax g ks t).roots
+unfolding relax relax_edge
 root-relax g [] t s = s
 root-relax g (k ∷ ks) t s = root-relax g ks _ (root-offer _ _ _ _ (root-offer _ _ _ t s))
 
@@ -100,11 +100,11 @@ fine-settled n g ks t t' e f = rw e (fine-rounds n g ks t f)
 
 pub fine-unlabelled : Fine unlabelled
 fine-unlabelled = record {
-  low = low_of (below-replicate _ pointBound _ (omega arith));
-  rooted = below-replicate _ pointBound _ (omega arith);
+  low = low_of (below-replicate _ point_bound _ (omega arith));
+  rooted = below-replicate _ point_bound _ (omega arith);
 }
 
-fine_sources : (sources : List ℕ) (i n m : ℕ) (t : Labels) → i + n ≤ m → FirstBelow sources m pointBound → Fine t →
+fine_sources : (sources : List ℕ) (i n m : ℕ) (t : Labels) → i + n ≤ m → FirstBelow sources m point_bound → Fine t →
     Fine (starts (entries sources i n) t)
 unfolding starts entries
 fine_sources sources i zero m t h s f = f
@@ -114,7 +114,7 @@ fine_sources sources i (suc n) m t h s f =
       rooted = below_set _ t.roots _ _ (s.inside i (omega arith)) f.rooted;
     })
 
-pub fine-starts : (sources : List ℕ) (m : ℕ) (t t' : Labels) → t' ≡ starts (entries sources 0 m) t → FirstBelow sources m pointBound →
+pub fine-starts : (sources : List ℕ) (m : ℕ) (t t' : Labels) → t' ≡ starts (entries sources 0 m) t → FirstBelow sources m point_bound →
     Fine t → Fine t'
 fine-starts sources m t t' e s f = rw e (fine_sources sources 0 m m t (omega arith) s f)
 
@@ -139,14 +139,14 @@ module _ (g : Graph) where
   pass-none ks t l = record { low = l; table = refl; flag = refl }
 
   module _ (all : List ℕ) (start : Labels) (left : List ℕ) (t : Labels) (moved : Bool) (p : Passing g all start left t moved) where
-    pub pass-more : (k : ℕ) (ks : List ℕ) (t' : Labels) (m : Bool) → left ≡ k ∷ ks → (m ≡ moves g k t) × (t' ≡ relaxEdge g k t) →
+    pub pass-more : (k : ℕ) (ks : List ℕ) (t' : Labels) (m : Bool) → left ≡ k ∷ ks → (m ≡ moves g k t) × (t' ≡ relax_edge g k t) →
         Passing g all start ks t' (moved || m)
     unfolding relax changes
     pass-more k ks t' m q r =
         rw (r.0, r.1) (record {
           low = low-edge g k t p.low;
           table = ap (λ (l : List ℕ). relax g l t) (sym q) ∙ p.table;
-          flag = or_assoc moved (moves g k t) (changes g ks (relaxEdge g k t)) ∙ ap (λ (l : List ℕ). moved || changes g l t) (sym q)
+          flag = or_assoc moved (moves g k t) (changes g ks (relax_edge g k t)) ∙ ap (λ (l : List ℕ). moved || changes g l t) (sym q)
               ∙ p.flag;
         })
 
@@ -158,8 +158,8 @@ module _ (g : Graph) where
     )
 
   -- a pass that changes nothing
-  still-edge : (k : ℕ) (t : Labels) → moves g k t ≡ false → relaxEdge g k t ≡ t
-  unfolding moves relaxEdge
+  still-edge : (k : ℕ) (t : Labels) → moves g k t ≡ false → relax_edge g k t ≡ t
+  unfolding moves relax_edge
   still-edge k t h =
       let n = or-none (gains (one g k) (two g k) (len g k) t) (gains (two g k) (one g k) (len g k) (offer (one g k) (two g k) (len g k) t))
       h in
@@ -169,8 +169,8 @@ module _ (g : Graph) where
   unfolding changes relax
   still [] t h = refl
   still (k ∷ ks) t h =
-      let n = or-none (moves g k t) (changes g ks (relaxEdge g k t)) h in
-      still ks (relaxEdge g k t) n.1 ∙ still-edge k t n.0
+      let n = or-none (moves g k t) (changes g ks (relax_edge g k t)) h in
+      still ks (relax_edge g k t) n.1 ∙ still-edge k t n.0
 
 -- Passes until one changes nothing
 

@@ -7,7 +7,7 @@ use native.Mathlib.Omega.{arith}
 use lib.ListN.{length, get_or, set, drop, length-append}
 use lib.Seq.{get_or_at, append_snoc}
 use Rattle.lists.specs.Member.{◌∈◌}
-use Rattle.lists.proofs.MemberLaws.{getD-in}
+use Rattle.lists.proofs.MemberLaws.{get_d-in}
 use Rattle.lent.specs.Over.{over}
 use Rattle.lent.proofs.OverLaws.{over_none, over-more}
 use Rattle.forest.specs.Edges.{entries, Listed}
@@ -31,7 +31,7 @@ pub entry_listed : (xs lent table : List ℕ) (n : ℕ) → Listed xs lent table
 unfolding over
 entry_listed xs lent table n l i h =
     let r : i < length xs = omega (arith, l.count) in
-    rw (l.table_is, front xs (drop (length xs) lent) i r) (getD-in xs i 0 r)
+    rw (l.table_is, front xs (drop (length xs) lent) i r) (get_d-in xs i 0 r)
   where
     front : (ys zs : List ℕ) (j : ℕ) → j < length ys → get_or (ys ++ zs) j 0 ≡ get_or ys j 0
     front [] zs j k = absurd (let z : ⊥ = omega arith in z)

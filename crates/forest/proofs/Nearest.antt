@@ -19,9 +19,9 @@ use Rattle.joined.specs.Joined.{Link, Alike}
 use Rattle.joined.specs.Way.{Way, stop, go, long}
 use Rattle.joined.proofs.JoinedLaws.{firsts, seconds}
 use Rattle.joined.proofs.WayLaws.{loop-free, joined-way}
-use Rattle.forest.specs.Bounds.{pointBound, costBound, unreached}
+use Rattle.forest.specs.Bounds.{point_bound, cost_bound, unreached}
 use Rattle.forest.specs.Edges.{Graph, one, two, len, from, Fits}
-use Rattle.forest.specs.Labels.{Labels, labels, far, root, offer, relaxEdge, relax, starts, unlabelled, labelled}
+use Rattle.forest.specs.Labels.{Labels, labels, far, root, offer, relax_edge, relax, starts, unlabelled, labelled}
 use Rattle.forest.specs.Setting.{ends, pairs, Setting, Whole}
 use Rattle.forest.proofs.EdgeLaws.{in-from, below-from, length_from}
 use Rattle.forest.proofs.Offers.{lex-same, lex-then, lex-more, Best, Sized, sized-offer, After, kept, taken, after-offer}
@@ -138,7 +138,7 @@ module _ {g : Graph} {n : ℕ} {d : ℕ → ℕ → ℕ} {sources : List ℕ} (s
     pub near-in : x < n
     pub far-in : y < n
     pub some : 1 ≤ d x y
-    pub short : d x y ≤ costBound
+    pub short : d x y ≤ cost_bound
 
   pub link-in : (x y : ℕ) → Link (pairs g) x y → Bounded x y
   link-in x y l =
@@ -173,8 +173,8 @@ module _ {g : Graph} {n : ℕ} {d : ℕ → ℕ → ℕ} {sources : List ℕ} (s
 
   sized-unlabelled : Sized n unlabelled
   sized-unlabelled = record {
-    fars = omega (arith, length-replicate {A = ℕ} pointBound unreached, s.vertices);
-    roots = omega (arith, length-replicate {A = ℕ} pointBound 0, s.vertices);
+    fars = omega (arith, length-replicate {A = ℕ} point_bound unreached, s.vertices);
+    roots = omega (arith, length-replicate {A = ℕ} point_bound 0, s.vertices);
   }
 
   sized-first : Sized n first
@@ -256,8 +256,8 @@ module _ {g : Graph} {n : ℕ} {d : ℕ → ℕ → ℕ} {sources : List ℕ} (s
             λ j. reach ((h u c.far-in).1 (omega arith)),
           )
 
-  sound-edge : (k : ℕ) → k < g.count → (t : Labels) → Sized n t → Sound t → Sound (relaxEdge g k t)
-  unfolding relaxEdge
+  sound-edge : (k : ℕ) → k < g.count → (t : Labels) → Sized n t → Sound t → Sound (relax_edge g k t)
+  unfolding relax_edge
   sound-edge k h t z f =
       let l = edge-link (two g k) (one g k) k h (inr (refl, refl)) in
       let m = edge-link (one g k) (two g k) k h (inl (refl, refl)) in
@@ -273,7 +273,7 @@ module _ {g : Graph} {n : ℕ} {d : ℕ → ℕ → ℕ} {sources : List ℕ} (s
   unfolding relax
   sound-relax [] i t z h = h
   sound-relax (k ∷ ks) i t z h =
-      sound-relax ks (λ j m. i j (there m)) (relaxEdge g k t) (sized-edge g n k t z) (sound-edge k (i k (here refl)) t z h)
+      sound-relax ks (λ j m. i j (there m)) (relax_edge g k t) (sized-edge g n k t z) (sound-edge k (i k (here refl)) t z h)
 
   sound-first : Sound first
   unfolding long
@@ -285,7 +285,7 @@ module _ {g : Graph} {n : ℕ} {d : ℕ → ℕ → ℕ} {sources : List ℕ} (s
           rw (f.0, f.1) (omega arith, λ k. record { points = []; way = stop refl; long-is = refl; source = m })
       at (no m) =
           let e : far first v ≡ unreached =
-          (start-other sources unlabelled v m).0 ∙ get_or-replicate pointBound v unreached 0 (omega (arith, s.vertices))
+          (start-other sources unlabelled v m).0 ∙ get_or-replicate point_bound v unreached 0 (omega (arith, s.vertices))
           in
           (omega arith, λ k. absurd (let z : ⊥ = omega arith in z))
 
@@ -324,7 +324,7 @@ module _ {g : Graph} {n : ℕ} {d : ℕ → ℕ → ℕ} {sources : List ℕ} (s
 
   -- Where the graph joins its vertices, every vertex is reached
 
-  way-short : {x y : ℕ} (ps : List ℕ) → Way (pairs g) x ps y → long d x ps ≤ costBound * length ps
+  way-short : {x y : ℕ} (ps : List ℕ) → Way (pairs g) x ps y → long d x ps ≤ cost_bound * length ps
   unfolding long
   way-short [] w = omega arith
   way-short {x} (y ∷ ps) (go l w) = omega (arith, (link-in x y l).short, way-short ps w)

@@ -15,7 +15,7 @@ use lib.Seq.{get_or-set_same, get_or-set_other}
 use Rattle.lists.specs.Member.{◌∈◌, here, there}
 use Rattle.lists.proofs.TestLaws.{by, differ, either}
 use Rattle.forest.specs.Edges.{Graph, one, two, len}
-use Rattle.forest.specs.Labels.{Labels, far, root, better, gains, offer, relaxEdge, relax, changes, settled}
+use Rattle.forest.specs.Labels.{Labels, far, root, better, gains, offer, relax_edge, relax, changes, settled}
 use Rattle.forest.proofs.LabelLaws.{offer-yes, offer-no, still}
 
 -- Labels compared
@@ -129,27 +129,27 @@ module _ (g : Graph) (n k : ℕ) (t : Labels) (s : Sized n t) where
   abbrev half : Labels
   half = offer (one g k) (two g k) (len g k) t
 
-  pub sized-edge : Sized n (relaxEdge g k t)
-  unfolding relaxEdge
+  pub sized-edge : Sized n (relax_edge g k t)
+  unfolding relax_edge
   sized-edge = sized-offer n _ _ _ _ (sized-offer n _ _ _ t s)
 
   module _ (one_in : one g k < n) (two_in : two g k < n) where
-    edge-falls : (w : ℕ) → Best (relaxEdge g k t) w (far t w) (root t w)
-    unfolding relaxEdge
+    edge-falls : (w : ℕ) → Best (relax_edge g k t) w (far t w) (root t w)
+    unfolding relax_edge
     edge-falls w =
         lex-then
         (offer-falls n (two g k) (one g k) (len g k) half (sized-offer n _ _ _ t s) one_in w)
         (offer-falls n (one g k) (two g k) (len g k) t s two_in w)
 
-    edge-forth : Best (relaxEdge g k t) (two g k) (far t (one g k) + len g k) (root t (one g k))
-    unfolding relaxEdge
+    edge-forth : Best (relax_edge g k t) (two g k) (far t (one g k) + len g k) (root t (one g k))
+    unfolding relax_edge
     edge-forth =
         lex-then
         (offer-falls n (two g k) (one g k) (len g k) half (sized-offer n _ _ _ t s) one_in (two g k))
         (offer-meets n (one g k) (two g k) (len g k) t s two_in)
 
-    edge-back : Best (relaxEdge g k t) (one g k) (far t (two g k) + len g k) (root t (two g k))
-    unfolding relaxEdge
+    edge-back : Best (relax_edge g k t) (one g k) (far t (two g k) + len g k) (root t (two g k))
+    unfolding relax_edge
     edge-back =
         lex-then
         (offer-meets n (two g k) (one g k) (len g k) half (sized-offer n _ _ _ t s) one_in)
@@ -165,14 +165,14 @@ module _ (g : Graph) (n : ℕ) where
   pub sized-relax : (ks : List ℕ) (t : Labels) → Sized n t → Sized n (relax g ks t)
   unfolding relax
   sized-relax [] t s = s
-  sized-relax (k ∷ ks) t s = sized-relax ks (relaxEdge g k t) (sized-edge g n k t s)
+  sized-relax (k ∷ ks) t s = sized-relax ks (relax_edge g k t) (sized-edge g n k t s)
 
   relax-falls : (ks : List ℕ) (t : Labels) → Sized n t → Within g n ks → (w : ℕ) → Best (relax g ks t) w (far t w) (root t w)
   unfolding relax
   relax-falls [] t s h w = lex-same refl refl
   relax-falls (k ∷ ks) t s h w =
       let i = h k (here refl) in
-      lex-then (relax-falls ks (relaxEdge g k t) (sized-edge g n k t s) (λ j m. h j (there m)) w) (edge-falls g n k t s i.0 i.1 w)
+      lex-then (relax-falls ks (relax_edge g k t) (sized-edge g n k t s) (λ j m. h j (there m)) w) (edge-falls g n k t s i.0 i.1 w)
 
   -- what edge j offers is met
   abbrev Met : Labels → Labels → ℕ → Type 0
@@ -185,7 +185,7 @@ module _ (g : Graph) (n : ℕ) where
       let i = h k (here refl) in
       let s' = sized-edge g n k t s in
       let left : Within g n ks = λ l x. h l (there x) in
-      let falls = relax-falls ks (relaxEdge g k t) s' left in
+      let falls = relax-falls ks (relax_edge g k t) s' left in
       let before = edge-falls g n k t s i.0 i.1 in
       either
       (λ e.
@@ -194,7 +194,7 @@ module _ (g : Graph) (n : ℕ) where
         lex-then (falls (one g k)) (edge-back g n k t s i.0 i.1),
       ))
       (λ x.
-      let r = relax-meets ks (relaxEdge g k t) s' left j x in
+      let r = relax-meets ks (relax_edge g k t) s' left j x in
       (lex-then r.0 (lex-more (len g j) (before (one g j))), lex-then r.1 (lex-more (len g j) (before (two g j)))))
       (Memᴰ.cases_cons m)
 

@@ -16,12 +16,12 @@ use Rattle.lists.specs.Member.{◌∈◌, here, there}
 use Rattle.lists.proofs.TestLaws.{by, either, and_left, and_right}
 use Rattle.joined.specs.Joined.{Alike}
 use Rattle.forest.specs.declared.Step.{Step}
-use Rattle.forest.specs.Bounds.{pointBound, edgeBound}
+use Rattle.forest.specs.Bounds.{point_bound, edge_bound}
 use Rattle.forest.specs.Edges.{Graph, one, two, len, from, filled, Fits}
 use Rattle.forest.specs.Labels.{Labels, far, root}
-use Rattle.forest.specs.Parents.{step, none, leads, nearer, through, parentAmong, parent, adoptBy}
+use Rattle.forest.specs.Parents.{step, none, leads, nearer, through, parent_among, parent, adopt_by}
 use Rattle.forest.specs.Parents.{Parents, parents, up, via, orphans, adopted, parented, Falls}
-use Rattle.forest.proofs.EdgeLaws.{all_left, from_next, from_end, below-from, length-filled, filled-here, filled-beyond}
+use Rattle.forest.proofs.EdgeLaws.{all_left, from_next, from-end, below-from, length-filled, filled-here, filled-beyond}
 
 -- An edge at a time
 
@@ -31,48 +31,48 @@ at p v = step (up p v) (via p v)
 
 -- tables of as many entries as there are points
 abbrev Sized : Parents → Type 0
-Sized p = (length p.ups ≡ pointBound) × (length p.vias ≡ pointBound)
+Sized p = (length p.ups ≡ point_bound) × (length p.vias ≡ point_bound)
 
 module _ (n : ℕ) (t : Labels) (v w k d : ℕ) (p : Parents) where
   pub adopt-yes : (m : Bool) → m ≡ leads t w v d → (ltb v n && (m && ltb w (up p v))) ≡ true →
-      parents (set p.ups v w) (set p.vias v k) ≡ adoptBy n t v w k d p
-  unfolding adoptBy
-  adopt-yes m is h = let e : (ltb v n && (leads t w v d && ltb w (up p v))) ≡ true = rw (← is) h in rw (adoptBy, e) refl
+      parents (set p.ups v w) (set p.vias v k) ≡ adopt_by n t v w k d p
+  unfolding adopt_by
+  adopt-yes m is h = let e : (ltb v n && (leads t w v d && ltb w (up p v))) ≡ true = rw (← is) h in rw (adopt_by, e) refl
 
-  pub adopt-no : (m : Bool) → m ≡ leads t w v d → (ltb v n && (m && ltb w (up p v))) ≡ false → p ≡ adoptBy n t v w k d p
-  unfolding adoptBy
-  adopt-no m is h = let e : (ltb v n && (leads t w v d && ltb w (up p v))) ≡ false = rw (← is) h in rw (adoptBy, e) refl
+  pub adopt-no : (m : Bool) → m ≡ leads t w v d → (ltb v n && (m && ltb w (up p v))) ≡ false → p ≡ adopt_by n t v w k d p
+  unfolding adopt_by
+  adopt-no m is h = let e : (ltb v n && (leads t w v d && ltb w (up p v))) ≡ false = rw (← is) h in rw (adopt_by, e) refl
 
-  adopt-sized : Sized p → Sized (adoptBy n t v w k d p)
-  unfolding adoptBy
+  adopt-sized : Sized p → Sized (adopt_by n t v w k d p)
+  unfolding adopt_by
   adopt-sized z =
       by (ltb v n && (leads t w v d && ltb w (up p v)))
-      (λ e. rw (adoptBy, e) (length-set p.ups v w ∙ z.0, length-set p.vias v k ∙ z.1))
-      (λ e. rw (adoptBy, e) z)
+      (λ e. rw (adopt_by, e) (length-set p.ups v w ∙ z.0, length-set p.vias v k ∙ z.1))
+      (λ e. rw (adopt_by, e) z)
 
   -- v gets the nearer step
-  adopt-here : Sized p → v < n → v < pointBound → at (adoptBy n t v w k d p) v ≡ nearer t v w k d (at p v)
-  unfolding adoptBy nearer
+  adopt-here : Sized p → v < n → v < point_bound → at (adopt_by n t v w k d p) v ≡ nearer t v w k d (at p v)
+  unfolding adopt_by nearer
   adopt-here z h i =
       by (leads t w v d && ltb w (up p v))
       (λ e.
-      rw (adoptBy, nearer, lt-ltb v n h, e)
+      rw (adopt_by, nearer, lt-ltb v n h, e)
       (ap₂ step (get_or-set_same p.ups v w 0 (omega (arith, z.0))) (get_or-set_same p.vias v k 0 (omega (arith, z.1)))))
-      (λ e. rw (adoptBy, nearer, lt-ltb v n h, e) refl)
+      (λ e. rw (adopt_by, nearer, lt-ltb v n h, e) refl)
 
   -- every other vertex keeps its step, and so does one that is not below n
-  adopt-other : (x : ℕ) → (x ≡ v → ⊥) → at (adoptBy n t v w k d p) x ≡ at p x
-  unfolding adoptBy
+  adopt-other : (x : ℕ) → (x ≡ v → ⊥) → at (adopt_by n t v w k d p) x ≡ at p x
+  unfolding adopt_by
   adopt-other x o =
       by (ltb v n && (leads t w v d && ltb w (up p v)))
-      (λ e. rw (adoptBy, e) (ap₂ step (get_or-set_other p.ups v x w 0 o) (get_or-set_other p.vias v x k 0 o)))
-      (λ e. rw (adoptBy, e) refl)
+      (λ e. rw (adopt_by, e) (ap₂ step (get_or-set_other p.ups v x w 0 o) (get_or-set_other p.vias v x k 0 o)))
+      (λ e. rw (adopt_by, e) refl)
 
-  adopt-beyond : (x : ℕ) → n ≤ x → at (adoptBy n t v w k d p) x ≡ at p x
-  unfolding adoptBy
+  adopt-beyond : (x : ℕ) → n ≤ x → at (adopt_by n t v w k d p) x ≡ at p x
+  unfolding adopt_by
   adopt-beyond x h =
       by (eqb x v)
-      (λ e. let q = eqb-true x v e in let l : n ≤ v = omega arith in rw (adoptBy, le-ltb v n l) refl)
+      (λ e. let q = eqb-true x v e in let l : n ≤ v = omega arith in rw (adopt_by, le-ltb v n l) refl)
       (λ e. adopt-other x (eqb-false x v e))
 
 -- an offer made twice is made once
@@ -97,12 +97,12 @@ module _ (t : Labels) (v w k d : ℕ) where
 -- both offers of edge k, from a to b: what the scan of any vertex makes of it
 module _ (n : ℕ) (t : Labels) (a b k d : ℕ) (p : Parents) (z : Sized p) where
   abbrev once : Parents
-  once = adoptBy n t a b k d p
+  once = adopt_by n t a b k d p
 
   abbrev both : Parents
-  both = adoptBy n t b a k d once
+  both = adopt_by n t b a k d once
 
-  adopt-both : (v : ℕ) → v < n → v < pointBound → at both v ≡ through t v a b k d (at p v)
+  adopt-both : (v : ℕ) → v < n → v < point_bound → at both v ≡ through t v a b k d (at p v)
   unfolding through
   adopt-both v h i =
       by (eqb v a)
@@ -122,7 +122,7 @@ module _ (n : ℕ) (t : Labels) (a b k d : ℕ) (p : Parents) (z : Sized p) wher
       rw (through, e, f) (next ∙ ap (nearer t v a k d) still))
       (λ f. rw (through, e, f) (adopt-other n t b a k d once v (eqb-false v b f) ∙ still)))
     where
-      twice : v ≡ a → v ≡ b → v < n → v < pointBound → at once v ≡ nearer t v b k d (at p v) → at both v ≡ nearer t v b k d (at p v)
+      twice : v ≡ a → v ≡ b → v < n → v < point_bound → at once v ≡ nearer t v b k d (at p v) → at both v ≡ nearer t v b k d (at p v)
       twice q r l j first =
           let z' = adopt-sized n t a b k d p z in
           let next : at both v ≡ nearer t v a k d (at once v) = rw r (adopt-here n t b a k d once z' (rw r at l) (rw r at j)) in
@@ -134,26 +134,26 @@ module _ (n : ℕ) (t : Labels) (a b k d : ℕ) (p : Parents) (z : Sized p) wher
 -- the edges from k on are still to come: each vertex's scan goes on from the step that the tables hold
 pub record Adopting (g : Graph) (n : ℕ) (t : Labels) (k : ℕ) (p : Parents) : Type 0 where
   pub sized : Sized p
-  pub inside : (v : ℕ) → v < n → parentAmong g t v (from k (g.count - k)) (at p v) ≡ parent g t v
+  pub inside : (v : ℕ) → v < n → parent_among g t v (from k (g.count - k)) (at p v) ≡ parent g t v
   pub beyond : (v : ℕ) → n ≤ v → at p v ≡ at orphans v
 
-module _ (g : Graph) (n : ℕ) (t : Labels) (small : n ≤ pointBound) where
+module _ (g : Graph) (n : ℕ) (t : Labels) (small : n ≤ point_bound) where
   pub adopt-none : (p : Parents) → p ≡ orphans → Adopting g n t 0 p
   unfolding parent
   adopt-none p e =
       rw e (record {
-        sized = (length-replicate pointBound pointBound, length-replicate pointBound edgeBound);
-        inside = λ v h. ap₂ (parentAmong g t v) (ap (from 0) (all_left g.count)) (orphan v (omega arith));
+        sized = (length-replicate point_bound point_bound, length-replicate point_bound edge_bound);
+        inside = λ v h. ap₂ (parent_among g t v) (ap (from 0) (all_left g.count)) (orphan v (omega arith));
         beyond = λ v h. refl;
       })
     where
-      orphan : (v : ℕ) → v < pointBound → at orphans v ≡ none
-      orphan v i = ap₂ step (get_or-replicate pointBound v pointBound 0 i) (get_or-replicate pointBound v edgeBound 0 i)
+      orphan : (v : ℕ) → v < point_bound → at orphans v ≡ none
+      orphan v i = ap₂ step (get_or-replicate point_bound v point_bound 0 i) (get_or-replicate point_bound v edge_bound 0 i)
 
   module _ (k : ℕ) (p : Parents) (o : Adopting g n t k p) where
-    pub adopt-more : (p' p'' : Parents) → k < g.count → p' ≡ adoptBy n t (one g k) (two g k) k (len g k) p →
-        p'' ≡ adoptBy n t (two g k) (one g k) k (len g k) p' → Adopting g n t (k + 1) p''
-    unfolding parentAmong
+    pub adopt-more : (p' p'' : Parents) → k < g.count → p' ≡ adopt_by n t (one g k) (two g k) k (len g k) p →
+        p'' ≡ adopt_by n t (two g k) (one g k) k (len g k) p' → Adopting g n t (k + 1) p''
+    unfolding parent_among
     adopt-more p' p'' h e f =
         rw (f, e) (record {
           sized = adopt-sized n t _ _ k _ _ (adopt-sized n t _ _ k _ p o.sized);
@@ -162,22 +162,22 @@ module _ (g : Graph) (n : ℕ) (t : Labels) (small : n ≤ pointBound) where
         })
       where
         next : (v : ℕ) → v < n →
-            parentAmong g t v (from (k + 1) (g.count - (k + 1))) (at (both n t (one g k) (two g k) k (len g k) p o.sized) v)
+            parent_among g t v (from (k + 1) (g.count - (k + 1))) (at (both n t (one g k) (two g k) k (len g k) p o.sized) v)
             ≡ parent g t v
         next v i =
-            ap (parentAmong g t v (from (k + 1) (g.count - (k + 1))))
+            ap (parent_among g t v (from (k + 1) (g.count - (k + 1))))
             (adopt-both n t (one g k) (two g k) k (len g k) p o.sized v i (omega arith))
-            ∙ ap (λ (l : List ℕ). parentAmong g t v l (at p v)) (sym (from_next k g.count h)) ∙ o.inside v i
+            ∙ ap (λ (l : List ℕ). parent_among g t v l (at p v)) (sym (from_next k g.count h)) ∙ o.inside v i
 
     pub adopt-end : g.count ≤ k → p ≡ parented g n t
-    unfolding parented adopted parentAmong
+    unfolding parented adopted parent_among
     adopt-end h =
         ap₂ parents
-        (ext_get_or 0 _ _ (o.sized.0 ∙ sym (length-filled _ 0 n _ ∙ length-replicate pointBound pointBound)) (λ v i. ups v))
-        (ext_get_or 0 _ _ (o.sized.1 ∙ sym (length-filled _ 0 n _ ∙ length-replicate pointBound edgeBound)) (λ v i. vias v))
+        (ext_get_or 0 _ _ (o.sized.0 ∙ sym (length-filled _ 0 n _ ∙ length-replicate point_bound point_bound)) (λ v i. ups v))
+        (ext_get_or 0 _ _ (o.sized.1 ∙ sym (length-filled _ 0 n _ ∙ length-replicate point_bound edge_bound)) (λ v i. vias v))
       where
         found : (v : ℕ) → v < n → at p v ≡ parent g t v
-        found v i = ap (λ (l : List ℕ). parentAmong g t v l (at p v)) (sym (from_end k g.count h)) ∙ o.inside v i
+        found v i = ap (λ (l : List ℕ). parent_among g t v l (at p v)) (sym (from-end k g.count h)) ∙ o.inside v i
 
         ups : (v : ℕ) → up p v ≡ get_or (filled (λ w. (parent g t w).to) 0 n orphans.ups) v 0
         ups v =
@@ -185,7 +185,7 @@ module _ (g : Graph) (n : ℕ) (t : Labels) (small : n ≤ pointBound) where
             (λ e.
             let i = ltb-true v n e in
             ap (λ (s : Step). s.to) (found v i)
-            ∙ sym (filled-here _ n orphans.ups v (omega (arith, length-replicate pointBound pointBound)) i))
+            ∙ sym (filled-here _ n orphans.ups v (omega (arith, length-replicate point_bound point_bound)) i))
             (λ e.
             let i = ltb-false v n e in
             ap (λ (s : Step). s.to) (o.beyond v i) ∙ sym (filled-beyond (λ w. (parent g t w).to) n orphans.ups v i))
@@ -196,7 +196,7 @@ module _ (g : Graph) (n : ℕ) (t : Labels) (small : n ≤ pointBound) where
             (λ e.
             let i = ltb-true v n e in
             ap (λ (s : Step). s.via) (found v i)
-            ∙ sym (filled-here _ n orphans.vias v (omega (arith, length-replicate pointBound edgeBound)) i))
+            ∙ sym (filled-here _ n orphans.vias v (omega (arith, length-replicate point_bound edge_bound)) i))
             (λ e.
             let i = ltb-false v n e in
             ap (λ (s : Step). s.via) (o.beyond v i) ∙ sym (filled-beyond (λ w. (parent g t w).via) n orphans.vias v i))
@@ -282,8 +282,8 @@ module _ (g : Graph) (t : Labels) (v : ℕ) where
       other-end u h (inl e, f) = e.1
       other-end u h (inr e, f) = absurd (let s : far t u ≡ far t v = ap (far t) (e.1 ∙ sym h) in let z : ⊥ = omega (arith, s, f.0) in z)
 
-  scan-found : (ks : List ℕ) → ((k : ℕ) → k ∈ ks → 1 ≤ len g k) → (best : Step) → Found ks best (parentAmong g t v ks best)
-  unfolding parentAmong
+  scan-found : (ks : List ℕ) → ((k : ℕ) → k ∈ ks → 1 ≤ len g k) → (best : Step) → Found ks best (parent_among g t v ks best)
+  unfolding parent_among
   scan-found [] h best = record { low = omega arith; least = λ k m. elim m [ ]; is = inl refl }
   scan-found (k ∷ ks) h best =
       let a = through-found k best (h k (here refl)) in
@@ -295,12 +295,12 @@ module _ (g : Graph) (t : Labels) (v : ℕ) where
         is = either (λ e. first e a.is) (λ c. inr (there c.0, c.1)) b.is;
       }
     where
-      first : parentAmong g t v ks (over k best) ≡ over k best →
+      first : parent_among g t v ks (over k best) ≡ over k best →
           (over k best ≡ best)
           ⊎ (((over k best).via ∈ (k ∷ [])) × Candidate (over k best).to (over k best).via) →
-          (parentAmong g t v ks (over k best) ≡ best)
-          ⊎ (((parentAmong g t v ks (over k best)).via ∈ (k ∷ ks))
-          × Candidate (parentAmong g t v ks (over k best)).to (parentAmong g t v ks (over k best)).via)
+          (parent_among g t v ks (over k best) ≡ best)
+          ⊎ (((parent_among g t v ks (over k best)).via ∈ (k ∷ ks))
+          × Candidate (parent_among g t v ks (over k best)).to (parent_among g t v ks (over k best)).via)
       first e (inl f) = inl (e ∙ f)
       first e (inr c) = inr (rw e (here (Memᴰ.eq_of_singleton c.0), c.1))
 
@@ -310,29 +310,29 @@ module _ (g : Graph) (t : Labels) (v : ℕ) where
 
 -- The tables of parents
 
-module _ (g : Graph) (n : ℕ) (t : Labels) (small : n ≤ pointBound) where
+module _ (g : Graph) (n : ℕ) (t : Labels) (small : n ≤ point_bound) where
   module _ (v : ℕ) (h : v < n) where
     pub parented-up : up (parented g n t) v ≡ (parent g t v).to
     unfolding parented adopted
-    parented-up = filled-here (λ w. (parent g t w).to) n orphans.ups v (omega (arith, length-replicate pointBound pointBound)) h
+    parented-up = filled-here (λ w. (parent g t w).to) n orphans.ups v (omega (arith, length-replicate point_bound point_bound)) h
 
     pub parented-via : via (parented g n t) v ≡ (parent g t v).via
     unfolding parented adopted
-    parented-via = filled-here (λ w. (parent g t w).via) n orphans.vias v (omega (arith, length-replicate pointBound edgeBound)) h
+    parented-via = filled-here (λ w. (parent g t w).via) n orphans.vias v (omega (arith, length-replicate point_bound edge_bound)) h
 
-  past-none : (v : ℕ) → n ≤ v → v < pointBound → up (parented g n t) v ≡ pointBound
+  past-none : (v : ℕ) → n ≤ v → v < point_bound → up (parented g n t) v ≡ point_bound
   unfolding parented adopted
-  past-none v h i = filled-beyond (λ w. (parent g t w).to) n orphans.ups v h ∙ get_or-replicate pointBound v pointBound 0 i
+  past-none v h i = filled-beyond (λ w. (parent g t w).to) n orphans.ups v h ∙ get_or-replicate point_bound v point_bound 0 i
 
   -- a vertex that has a parent is below n, and its step is what the scan found
-  pub has-parent : (v : ℕ) → v < pointBound → up (parented g n t) v < pointBound → v < n
+  pub has-parent : (v : ℕ) → v < point_bound → up (parented g n t) v < point_bound → v < n
   has-parent v h u = by (ltb v n) (λ e. ltb-true v n e) (λ e. absurd (let z : ⊥ = omega (arith, past-none v (ltb-false v n e) h) in z))
 
   pub falls-parented : Fits g → Falls g.lengths t.fars (parented g n t)
   falls-parented fits = record { edge = λ v h u. (step_is v h u).0; some = λ v h u. (step_is v h u).1; falls = λ v h u. (step_is v h u).2 }
     where
-      step_is : (v : ℕ) → v < pointBound → up (parented g n t) v < pointBound →
-          (via (parented g n t) v < edgeBound)
+      step_is : (v : ℕ) → v < point_bound → up (parented g n t) v < point_bound →
+          (via (parented g n t) v < edge_bound)
           × (1 ≤ len g (via (parented g n t) v))
           × (far t (up (parented g n t) v) + len g (via (parented g n t) v) ≡ far t v)
       step_is v h u =
@@ -341,6 +341,6 @@ module _ (g : Graph) (n : ℕ) (t : Labels) (small : n ≤ pointBound) where
           let b = parented-via v i in
           rw (a, b)
           (either
-          (λ e. absurd (let z : (parent g t v).to ≡ pointBound = ap (λ (s : Step). s.to) e in let y : ⊥ = omega (arith, a) in y))
+          (λ e. absurd (let z : (parent g t v).to ≡ point_bound = ap (λ (s : Step). s.to) e in let y : ⊥ = omega (arith, a) in y))
           (λ c. let k = below-from g.count _ c.0 in (omega (arith, k, fits.count), fits.some _ k, c.1.1.0))
           (parent-found g t v fits).is)

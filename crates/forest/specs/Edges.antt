@@ -1,7 +1,7 @@
 -- The graph as tables: a vertex is its number in the order of places, and edge k has two ends and a length.
 use Rattle.std.specs.Prelude.{◌≡◌, List, [], ◌∷◌, ℕ, zero, suc, ◌≤◌, ◌<◌, length, get_or, set}
 use Rattle.lent.specs.Over.{over}
-use Rattle.forest.specs.Bounds.{pointBound, edgeBound, costBound}
+use Rattle.forest.specs.Bounds.{point_bound, edge_bound, cost_bound}
 
 -- the ends of the edges, smaller ones and greater ones, their lengths, and how many edges there are
 pub record Graph : Type 0 where
@@ -41,23 +41,23 @@ filled f i (suc n) xs = filled f (suc i) n (set xs i (f i))
 -- What the code asks of the tables
 
 pub record Fits (g : Graph) : Type 0 where
-  pub count : g.count ≤ edgeBound
-  pub one_in : (k : ℕ) → k < g.count → one g k < pointBound
-  pub two_in : (k : ℕ) → k < g.count → two g k < pointBound
+  pub count : g.count ≤ edge_bound
+  pub one_in : (k : ℕ) → k < g.count → one g k < point_bound
+  pub two_in : (k : ℕ) → k < g.count → two g k < point_bound
   pub some : (k : ℕ) → k < g.count → 1 ≤ len g k
-  pub short : (k : ℕ) → k < g.count → len g k ≤ costBound
+  pub short : (k : ℕ) → k < g.count → len g k ≤ cost_bound
 
 -- the ends of e edges are vertices
 pub record Ends (ones twos : List ℕ) (e : ℕ) : Type 0 where
-  pub count : e ≤ edgeBound
-  pub one_in : (k : ℕ) → k < e → get_or ones k 0 < pointBound
-  pub two_in : (k : ℕ) → k < e → get_or twos k 0 < pointBound
+  pub count : e ≤ edge_bound
+  pub one_in : (k : ℕ) → k < e → get_or ones k 0 < point_bound
+  pub two_in : (k : ℕ) → k < e → get_or twos k 0 < point_bound
 
 -- the first n entries of a table are edges whose ends are vertices
 pub record Named (ones twos order : List ℕ) (n : ℕ) : Type 0 where
-  pub edge : (i : ℕ) → i < n → get_or order i 0 < edgeBound
-  pub one_in : (i : ℕ) → i < n → get_or ones (get_or order i 0) 0 < pointBound
-  pub two_in : (i : ℕ) → i < n → get_or twos (get_or order i 0) 0 < pointBound
+  pub edge : (i : ℕ) → i < n → get_or order i 0 < edge_bound
+  pub one_in : (i : ℕ) → i < n → get_or ones (get_or order i 0) 0 < point_bound
+  pub two_in : (i : ℕ) → i < n → get_or twos (get_or order i 0) 0 < point_bound
 
 -- every entry is below n
 pub record Below (n : ℕ) (xs : List ℕ) : Type 0 where

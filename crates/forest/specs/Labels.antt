@@ -5,7 +5,7 @@
 -- changes nothing. That these are the least length of a walk to a source, and the smallest source at that length, is proved in
 -- ../proofs/Nearest.antt.
 use Rattle.std.specs.Prelude.{Bool, true, false, ◌||◌, List, [], ◌∷◌, ℕ, zero, suc, ◌+◌, ◌≤◌, ltb, get_or, set, replicate}
-use Rattle.forest.specs.Bounds.{pointBound, unreached}
+use Rattle.forest.specs.Bounds.{point_bound, unreached}
 use Rattle.forest.specs.Edges.{Graph, one, two, len, from}
 
 pub record Labels : Type 0 where
@@ -34,8 +34,8 @@ unfoldable pub offer : ℕ → ℕ → ℕ → Labels → Labels
 offer u v d t = elim (gains u v d t) [ true ↦ labels (set t.fars v (far t u + d)) (set t.roots v (root t u)) | false ↦ t ]
 
 -- edge k offers both ways
-unfoldable pub relaxEdge : Graph → ℕ → Labels → Labels
-relaxEdge g k t = offer (two g k) (one g k) (len g k) (offer (one g k) (two g k) (len g k) t)
+unfoldable pub relax_edge : Graph → ℕ → Labels → Labels
+relax_edge g k t = offer (two g k) (one g k) (len g k) (offer (one g k) (two g k) (len g k) t)
 
 unfoldable pub moves : Graph → ℕ → Labels → Bool
 moves g k t = gains (one g k) (two g k) (len g k) t || gains (two g k) (one g k) (len g k) (offer (one g k) (two g k) (len g k) t)
@@ -43,11 +43,11 @@ moves g k t = gains (one g k) (two g k) (len g k) t || gains (two g k) (one g k)
 -- a pass over edges, and whether it changes a label
 unfoldable pub relax : Graph → List ℕ → Labels → Labels
 relax g [] t = t
-relax g (k ∷ ks) t = relax g ks (relaxEdge g k t)
+relax g (k ∷ ks) t = relax g ks (relax_edge g k t)
 
 unfoldable pub changes : Graph → List ℕ → Labels → Bool
 changes g [] t = false
-changes g (k ∷ ks) t = moves g k t || changes g ks (relaxEdge g k t)
+changes g (k ∷ ks) t = moves g k t || changes g ks (relax_edge g k t)
 
 -- passes until one changes nothing, n at most
 unfoldable pub settled : ℕ → Graph → List ℕ → Labels → Labels
@@ -61,7 +61,7 @@ starts (s ∷ ss) t = starts ss (labels (set t.fars s 0) (set t.roots s s))
 
 -- no vertex is reached
 abbrev pub unlabelled : Labels
-unlabelled = labels (replicate pointBound unreached) (replicate pointBound 0)
+unlabelled = labels (replicate point_bound unreached) (replicate point_bound 0)
 
 -- the labels of a graph of n vertices with these sources
 unfoldable pub labelled : Graph → ℕ → List ℕ → Labels

@@ -1,10 +1,10 @@
 // Roots, parents and ways of a graph on tables: a vertex is its number in the order of places, an edge its number in the order of edges.
 // Edge k joins the vertices ea[k] and eb[k] and is el[k] long, which is what it costs. What each table holds stands in specs/.
 ghost use Rattle.std.specs.Prelude.{◌≡◌, ◌||◌, ◌+◌, ◌≤◌, ◌<◌, get_or};
-ghost use Rattle.forest.specs.Bounds.{pointBound, costBound};
+ghost use Rattle.forest.specs.Bounds.{point_bound, cost_bound};
 ghost use Rattle.forest.specs.Edges.{graph, from, entries, Fits, FirstBelow};
 ghost use Rattle.forest.specs.Labels.{labels, better, gains, offer, relax, changes, settled, starts, unlabelled, labelled, Low};
-ghost use Rattle.forest.specs.Parents.{leads, parents, orphans, adoptBy, parented, wayLength, Falls};
+ghost use Rattle.forest.specs.Parents.{leads, parents, orphans, adopt_by, parented, way_length, Falls};
 
 use net::Net;
 
@@ -37,8 +37,8 @@ fn is_better(f: u64, r: usize, g: u64, s: usize) -> bool
 
 // v takes u's label, d farther, where that is better; whether it did.
 fn offer(far: &mut [u64; POINTS], root: &mut [usize; POINTS], u: usize, v: usize, d: u64) -> bool
-    requires u_lt_point_bound { (u < pointBound) × (v < pointBound) }
-    requires low { (Low far.old) × (d ≤ costBound) }
+    requires u_lt_point_bound { (u < point_bound) × (v < point_bound) }
+    requires low { (Low far.old) × (d ≤ cost_bound) }
     ensures value { result ≡ gains u v d (labels far.old root.old) }
     ensures root_after { labels far.new root.new ≡ offer u v d (labels far.old root.old) }
 {
@@ -60,8 +60,8 @@ fn relax_edge(
     b: usize,
     d: u64,
 ) -> bool
-    requires a_lt_point_bound { (a < pointBound) × (b < pointBound) }
-    requires low { (Low far.old) × (d ≤ costBound) }
+    requires a_lt_point_bound { (a < point_bound) × (b < point_bound) }
+    requires low { (Low far.old) × (d ≤ cost_bound) }
     ensures value { result ≡ (gains a b d (labels far.old root.old)
         || gains b a d (offer a b d (labels far.old root.old))) }
     ensures root_after { labels far.new root.new
@@ -122,7 +122,7 @@ fn settle(
 
 // Each of the m sources is its own root.
 fn start(sources: &[usize; POINTS], m: usize, far: &mut [u64; POINTS], root: &mut [usize; POINTS])
-    requires { (m ≤ pointBound) × (FirstBelow sources.now m pointBound) }
+    requires { (m ≤ point_bound) × (FirstBelow sources.now m point_bound) }
     ensures { labels far.new root.new ≡ starts (entries sources.now 0 m)
         (labels far.old root.old) }
 {
@@ -137,8 +137,8 @@ fn start(sources: &[usize; POINTS], m: usize, far: &mut [u64; POINTS], root: &mu
 
 // Whether w has v's root and a shortest way of v runs through w, over an edge of length d.
 fn leads(far: &[u64; POINTS], root: &[usize; POINTS], w: usize, v: usize, d: u64) -> bool
-    requires w_lt_point_bound { (w < pointBound) × (v < pointBound) }
-    requires low { (Low far.now) × (d ≤ costBound) }
+    requires w_lt_point_bound { (w < point_bound) × (v < point_bound) }
+    requires low { (Low far.now) × (d ≤ cost_bound) }
     ensures { result ≡ leads (labels far.now root.now) w v d }
 {
     (root[w] == root[v]) & (far[w] + d == far[v])
@@ -156,9 +156,9 @@ fn adopt_by(
     up: &mut [usize; POINTS],
     via: &mut [usize; POINTS],
 )
-    requires w_lt_point_bound { (w < pointBound) × (v < pointBound) }
-    requires low { (Low far.now) × (d ≤ costBound) }
-    ensures { parents up.new via.new ≡ adoptBy n (labels far.now root.now) v w k d
+    requires w_lt_point_bound { (w < point_bound) × (v < point_bound) }
+    requires low { (Low far.now) × (d ≤ cost_bound) }
+    ensures { parents up.new via.new ≡ adopt_by n (labels far.now root.now) v w k d
         (parents up.old via.old) }
 {
     let is_smaller = w < up[v];
@@ -180,7 +180,7 @@ fn adopt(
     up: &mut [usize; POINTS],
     via: &mut [usize; POINTS],
 )
-    requires fits { (Fits (graph ea.now eb.now el.now e)) × ((Low far.now) × (n ≤ pointBound)) }
+    requires fits { (Fits (graph ea.now eb.now el.now e)) × ((Low far.now) × (n ≤ point_bound)) }
     requires via_value { parents up.old via.old ≡ orphans }
     ensures { parents up.new via.new ≡ parented (graph ea.now eb.now el.now e) n
         (labels far.now root.now) }
@@ -204,8 +204,8 @@ pub fn way_length(
     via: &[usize; POINTS],
     v: usize,
 ) -> u64
-    requires { (Falls el.now far.now (parents up.now via.now)) × ((Low far.now) × (v < pointBound)) }
-    ensures value { result ≡ wayLength el.now far.now (parents up.now via.now) v }
+    requires { (Falls el.now far.now (parents up.now via.now)) × ((Low far.now) × (v < point_bound)) }
+    ensures value { result ≡ way_length el.now far.now (parents up.now via.now) v }
     ensures upper_bound { result ≤ get_or far.now v 0 }
 {
     let u = up[v];
@@ -231,7 +231,7 @@ pub fn forest(
     via: &mut [usize; POINTS],
 )
     requires fits { (Fits (graph ea.now eb.now el.now e))
-        × ((n ≤ pointBound) × ((m ≤ pointBound) × (FirstBelow sources.now m pointBound))) }
+        × ((n ≤ point_bound) × ((m ≤ point_bound) × (FirstBelow sources.now m point_bound))) }
     requires root_value { (labels far.old root.old ≡ unlabelled) × (parents up.old via.old ≡ orphans) }
     ensures root_after { labels far.new root.new ≡ labelled
         (graph ea.now eb.now el.now e) n (entries sources.now 0 m) }

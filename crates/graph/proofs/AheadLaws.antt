@@ -12,7 +12,7 @@ use Rattle.lists.specs.Member.{◌∈◌}
 use Rattle.lists.proofs.TestLaws.{either, and_left, and_right, and_both}
 use Rattle.lists.proofs.LeastOf.{LeastOf, least-of}
 use Rattle.signed.specs.Sides.{Lt, Le}
-use Rattle.signed.proofs.SideLaws.{ltZ-true, leZ-true, lt-ltZ, le-leZ, signed}
+use Rattle.signed.proofs.SideLaws.{z_lt-true, z_le-true, lt-z_lt, le-z_le, signed}
 use Rattle.plane.specs.declared.Place.{Place}
 use Rattle.plane.specs.declared.Macro.{Macro}
 use Rattle.plane.specs.Place.{place}
@@ -21,8 +21,8 @@ use Rattle.plane.proofs.MeetLaws.{Hits, hits-up, hits-down, hits-meets, clear_of
 use Rattle.net.specs.Net.{Net}
 use Rattle.net.specs.Allowed.{Allowed}
 use Rattle.net.proofs.ApartLaws.{sides-in-order, overlap-one}
-use Rattle.graph.specs.Vertices.{cornersOf}
-use Rattle.graph.specs.Spanning.{verticesOf}
+use Rattle.graph.specs.Vertices.{corners_of}
+use Rattle.graph.specs.Spanning.{vertices_of}
 use Rattle.picks.proofs.QuadrantLaws.{InFirst, InFourth, Ahead, compare, first-ahead, fourth-ahead}
 use Rattle.graph.proofs.VertexLaws.{lower-left, upper-left, lower-right, upper-right, corner-vertex}
 use Rattle.graph.proofs.OutsideLaws.{vertex-outside}
@@ -60,37 +60,37 @@ unfolding facing
 facing-is u m e =
     let f = and_right (le_z u.x m.left) _ e in
     record {
-      left = leZ-true _ _ (and_left _ (lt_z m.bottom u.y && lt_z u.y m.top) e);
-      bottom = ltZ-true _ _ (and_left _ (lt_z u.y m.top) f);
-      top = ltZ-true _ _ (and_right (lt_z m.bottom u.y) _ f);
+      left = z_le-true _ _ (and_left _ (lt_z m.bottom u.y && lt_z u.y m.top) e);
+      bottom = z_lt-true _ _ (and_left _ (lt_z u.y m.top) f);
+      top = z_lt-true _ _ (and_right (lt_z m.bottom u.y) _ f);
     }
 
 facing-of : (u : Place) (m : Macro) → Facing u m → facing u m ≡ true
 unfolding facing
-facing-of u m f = and_both _ _ (le-leZ _ _ f.left) (and_both _ _ (lt-ltZ _ _ f.bottom) (lt-ltZ _ _ f.top))
+facing-of u m f = and_both _ _ (le-z_le _ _ f.left) (and_both _ _ (lt-z_lt _ _ f.bottom) (lt-z_lt _ _ f.top))
 
 -- A clear vertex ahead
 
 pub record ClearAhead (net : Net) (u : Place) : Type 0 where
   pub to : Place
-  pub stands : to ∈ verticesOf net
+  pub stands : to ∈ vertices_of net
   pub ahead : Ahead u to
   pub is-clear : clear u to net.macros ≡ true
 
-module _ {net : Net} (a : Allowed net) (u : Place) (at : u ∈ verticesOf net) where
-  found : (v : Place) → v ∈ verticesOf net → Ahead u v → ((m : Macro) → m ∈ net.macros → meets u v m ≡ true → ⊥) → ClearAhead net u
+module _ {net : Net} (a : Allowed net) (u : Place) (at : u ∈ vertices_of net) where
+  found : (v : Place) → v ∈ vertices_of net → Ahead u v → ((m : Macro) → m ∈ net.macros → meets u v m ≡ true → ⊥) → ClearAhead net u
   found v i h free = record { to = v; stands = i; ahead = h; is-clear = clear_of u v net.macros free }
 
   -- up to the right, or down to the right or straight down, where no macro meets the box
-  rising : (v : Place) → v ∈ verticesOf net → InFirst u v → ((m : Macro) → m ∈ net.macros → Hits u.x u.y v.x v.y m → ⊥)
+  rising : (v : Place) → v ∈ vertices_of net → InFirst u v → ((m : Macro) → m ∈ net.macros → Hits u.x u.y v.x v.y m → ⊥)
       → ClearAhead net u
   rising v i f free = found v i (first-ahead u v f) (λ m k h. free m k (hits-up u v m (omega signed) f.along h))
 
-  sinking : (v : Place) → v ∈ verticesOf net → InFourth u v → ((m : Macro) → m ∈ net.macros → Hits u.x v.y v.x u.y m → ⊥)
+  sinking : (v : Place) → v ∈ vertices_of net → InFourth u v → ((m : Macro) → m ∈ net.macros → Hits u.x v.y v.x u.y m → ⊥)
       → ClearAhead net u
   sinking v i f free = found v i (fourth-ahead u v f) (λ m k h. free m k (hits-down u v m f.across (omega signed) h))
 
-  corner : (m : Macro) → m ∈ net.macros → (c : Place) → c ∈ cornersOf m → c ∈ verticesOf net
+  corner : (m : Macro) → m ∈ net.macros → (c : Place) → c ∈ corners_of m → c ∈ vertices_of net
   corner m i c j = corner-vertex net i j
 
   -- a macro at the height of u that is not wholly to the left of it faces it
@@ -157,55 +157,55 @@ module _ {net : Net} (a : Allowed net) (u : Place) (at : u ∈ verticesOf net) w
 
   -- Cases 2 and 3: no macro faces u
   module _ (unfaced : (m : Macro) → m ∈ net.macros → facing u m ≡ true → ⊥) where
-    abbrev toRight : Place → Bool
-    toRight v = lt_z u.x v.x
+    abbrev to_right : Place → Bool
+    to_right v = lt_z u.x v.x
 
-    abbrev upRight : Place → Bool
-    upRight v = lt_z u.x v.x && le_z u.y v.y
+    abbrev up_right : Place → Bool
+    up_right v = lt_z u.x v.x && le_z u.y v.y
 
-    rise : LeastOf upRight (NoHigher (λ v. v.y)) (verticesOf net) → ClearAhead net u
+    rise : LeastOf up_right (NoHigher (λ v. v.y)) (vertices_of net) → ClearAhead net u
     rise r =
         let v = r.entry in
         let f : InFirst u v = record {
-          across = ltZ-true _ _ (and_left _ (le_z u.y v.y) r.passes);
-          along = leZ-true _ _ (and_right (lt_z u.x v.x) _ r.passes);
+          across = z_lt-true _ _ (and_left _ (le_z u.y v.y) r.passes);
+          along = z_le-true _ _ (and_right (lt_z u.x v.x) _ r.passes);
         } in
         rising v r.stands f
         (λ m k h.
         either
-        (λ b. let n = r.below _ (corner m k _ (lower-right m)) (and_both _ _ (lt-ltZ _ _ h.right) (le-leZ _ _ b)) in
+        (λ b. let n = r.below _ (corner m k _ (lower-right m)) (and_both _ _ (lt-z_lt _ _ h.right) (le-z_le _ _ b)) in
         omega (signed, n, h.bottom))
         (λ b. unfaced m k (faces m k h.right b h.top))
         (compare u.y m.bottom))
 
-    sink : ((v : Place) → v ∈ verticesOf net → upRight v ≡ true → ⊥) → LeastOf toRight (NoLower (λ v. v.y)) (verticesOf net)
+    sink : ((v : Place) → v ∈ vertices_of net → up_right v ≡ true → ⊥) → LeastOf to_right (NoLower (λ v. v.y)) (vertices_of net)
         → ClearAhead net u
     sink none r =
         let v = r.entry in
-        let x : Lt u.x v.x = ltZ-true _ _ r.passes in
+        let x : Lt u.x v.x = z_lt-true _ _ r.passes in
         let y : Lt v.y u.y =
-        either (λ b. absurd (none v r.stands (and_both _ _ r.passes (le-leZ _ _ b)))) (λ b. b) (compare u.y v.y) in
+        either (λ b. absurd (none v r.stands (and_both _ _ r.passes (le-z_le _ _ b)))) (λ b. b) (compare u.y v.y) in
         sinking v r.stands (record { across = omega signed; along = y })
         (λ m k h.
         either
-        (λ t. let n = r.below _ (corner m k _ (upper-right m)) (lt-ltZ _ _ h.right) in omega (signed, n, h.top))
+        (λ t. let n = r.below _ (corner m k _ (upper-right m)) (lt-z_lt _ _ h.right) in omega (signed, n, h.top))
         (λ t. unfaced m k (faces m k h.right h.bottom t))
         (compare m.top u.y))
 
     -- w is straight below, and no vertex is to the right
-    drop : ((v : Place) → v ∈ verticesOf net → toRight v ≡ true → ⊥) → (w : Place) → w ∈ verticesOf net → Ahead u w → ClearAhead net u
-    drop none w i (inl h) = absurd (none w i (lt-ltZ _ _ h))
+    drop : ((v : Place) → v ∈ vertices_of net → to_right v ≡ true → ⊥) → (w : Place) → w ∈ vertices_of net → Ahead u w → ClearAhead net u
+    drop none w i (inl h) = absurd (none w i (lt-z_lt _ _ h))
     drop none w i (inr h) =
         sinking w i (record { across = rw h.0 (omega signed); along = h.1 })
-        (λ m k g. none _ (corner m k _ (lower-right m)) (lt-ltZ _ _ g.right))
+        (λ m k g. none _ (corner m k _ (lower-right m)) (lt-z_lt _ _ g.right))
 
-    in-the-open : (w : Place) → w ∈ verticesOf net → Ahead u w → ClearAhead net u
+    in-the-open : (w : Place) → w ∈ vertices_of net → Ahead u w → ClearAhead net u
     in-the-open w i h =
         either rise
-        (λ n. either (sink n) (λ k. drop k w i h) (highest (λ v. v.y) toRight (verticesOf net)))
-        (lowest (λ v. v.y) upRight (verticesOf net))
+        (λ n. either (sink n) (λ k. drop k w i h) (highest (λ v. v.y) to_right (vertices_of net)))
+        (lowest (λ v. v.y) up_right (vertices_of net))
 
-  pub clear-ahead : (w : Place) → w ∈ verticesOf net → Ahead u w → ClearAhead net u
+  pub clear-ahead : (w : Place) → w ∈ vertices_of net → Ahead u w → ClearAhead net u
   clear-ahead w i h = either met (λ n. in-the-open n w i h) (lowest (λ m. m.left) (facing u) net.macros)
     where
       met : LeastOf (facing u) (NoHigher (λ m. m.left)) net.macros → ClearAhead net u

@@ -23,7 +23,7 @@ use Rattle.picks.specs.declared.Quadrant.TheVariants.{First, Fourth}
 use Rattle.picks.specs.declared.Picked.{Picked}
 use Rattle.picks.specs.declared.Picked.TheVariants.{At, Nothing}
 use Rattle.picks.specs.Pick.{within, pick}
-use Rattle.graph.specs.Spanning.{verticesOf, spanning}
+use Rattle.graph.specs.Spanning.{vertices_of, spanning}
 use Rattle.picks.proofs.QuadrantLaws.{Ahead, ahead-along, ahead-never, ahead-total, first-or-fourth-ahead, ahead-first-or-fourth}
 use Rattle.graph.proofs.VertexLaws.{vertices-ascending}
 use Rattle.picks.proofs.PickLaws.{Fit, pick_at, pick-nothing}
@@ -50,7 +50,7 @@ later-never u = by (later u u) (λ e. absurd (ahead-never u (later-is u u e))) (
 
 module _ {net : Net} (a : Allowed net) where
   abbrev vs : List Place
-  vs = verticesOf net
+  vs = vertices_of net
 
   -- An edge ahead
 
@@ -125,7 +125,7 @@ module _ {net : Net} (a : Allowed net) where
           (ahead-total s.last t.last n)
 
   -- G7: the graph of every allowed net joins all its vertices
-  pub connected : Joins (verticesOf net) (spanning net)
+  pub connected : Joins (vertices_of net) (spanning net)
   connected u v i k =
       let s = to_last u i in
       let t = to_last v k in

@@ -32,7 +32,7 @@ use Rattle.picks.specs.declared.Quadrant.TheVariants.{First, Second, Third, Four
 use Rattle.picks.specs.declared.Picked.{Picked}
 use Rattle.picks.specs.declared.Picked.TheVariants.{At, Nothing}
 use Rattle.picks.specs.Pick.{pick}
-use Rattle.graph.specs.Edges.{edge_of, beforeEdge, edgeOfPick, picks_of, allPicks, edges}
+use Rattle.graph.specs.Edges.{edge_of, before_edge, edge_of_pick, picks_of, all_picks, edges}
 use Rattle.graph.proofs.GraphSteps.{picks-none, picks_more, picks-few}
 use Rattle.picks.proofs.QuadrantLaws.{within-differs}
 use Rattle.picks.proofs.PickLaws.{pick_at}
@@ -40,8 +40,8 @@ use Rattle.picks.proofs.PickLaws.{pick_at}
 -- The order of edges, and the edge of two places
 
 -- N16: the order of edges, by first place and then by second
-pub edge_order : Order beforeEdge
-unfolding beforeEdge
+pub edge_order : Order before_edge
+unfolding before_edge
 edge_order = pair-order before before place-order place-order
 
 -- u and v, smaller first: whatever holds of both orders
@@ -66,11 +66,11 @@ module _ (w : Weights) (ms : List Macro) (vs : List Place) where
     pub picked : PickedBy from to
     pub is : e ≡ edge_of from to
 
-  of_one : (u : Place) → u ∈ vs → (q : Quadrant) {e : Place × Place} → e ∈ edgeOfPick u (pick w ms q u vs) → OfPick e
-  unfolding edgeOfPick
+  of_one : (u : Place) → u ∈ vs → (q : Quadrant) {e : Place × Place} → e ∈ edge_of_pick u (pick w ms q u vs) → OfPick e
+  unfolding edge_of_pick
   of_one u i q {e} m = at (pick w ms q u vs) refl m
     where
-      at : (p : Picked) → pick w ms q u vs ≡ p → e ∈ edgeOfPick u p → OfPick e
+      at : (p : Picked) → pick w ms q u vs ≡ p → e ∈ edge_of_pick u p → OfPick e
       at Nothing k m = elim m [ ]
       at (At v) k (here h) = record { from = u; to = v; picked = record { stands = i; quadrant = q; picks = k }; is = h }
       at (At v) k (there m) = elim m [ ]
@@ -81,38 +81,38 @@ module _ (w : Weights) (ms : List Macro) (vs : List Place) where
       either (of_one u i First)
       (λ m. either (of_one u i Second)
       (λ m. either (of_one u i Third) (of_one u i Fourth)
-      (Memᴰ.append_cases (edgeOfPick u (pick w ms Third u vs)) m)) (Memᴰ.append_cases (edgeOfPick u (pick w ms Second u vs)) m))
-      (Memᴰ.append_cases (edgeOfPick u (pick w ms First u vs)) m)
+      (Memᴰ.append_cases (edge_of_pick u (pick w ms Third u vs)) m)) (Memᴰ.append_cases (edge_of_pick u (pick w ms Second u vs)) m))
+      (Memᴰ.append_cases (edge_of_pick u (pick w ms First u vs)) m)
 
-  in_one : (q : Quadrant) (u v : Place) → pick w ms q u vs ≡ At v → edge_of u v ∈ edgeOfPick u (pick w ms q u vs)
-  unfolding edgeOfPick
+  in_one : (q : Quadrant) (u v : Place) → pick w ms q u vs ≡ At v → edge_of u v ∈ edge_of_pick u (pick w ms q u vs)
+  unfolding edge_of_pick
   in_one q u v e = rw e (here refl)
 
   in-picks : (q : Quadrant) (u v : Place) → pick w ms q u vs ≡ At v → edge_of u v ∈ picks_of w ms vs u
   unfolding picks_of
   in-picks First u v e = Memᴰ.append_left _ (in_one First u v e)
-  in-picks Second u v e = Memᴰ.append_right (edgeOfPick u (pick w ms First u vs)) (Memᴰ.append_left _ (in_one Second u v e))
+  in-picks Second u v e = Memᴰ.append_right (edge_of_pick u (pick w ms First u vs)) (Memᴰ.append_left _ (in_one Second u v e))
   in-picks Third u v e =
-      Memᴰ.append_right (edgeOfPick u (pick w ms First u vs))
-      (Memᴰ.append_right (edgeOfPick u (pick w ms Second u vs)) (Memᴰ.append_left _ (in_one Third u v e)))
+      Memᴰ.append_right (edge_of_pick u (pick w ms First u vs))
+      (Memᴰ.append_right (edge_of_pick u (pick w ms Second u vs)) (Memᴰ.append_left _ (in_one Third u v e)))
   in-picks Fourth u v e =
-      Memᴰ.append_right (edgeOfPick u (pick w ms First u vs))
-      (Memᴰ.append_right (edgeOfPick u (pick w ms Second u vs))
-      (Memᴰ.append_right (edgeOfPick u (pick w ms Third u vs)) (in_one Fourth u v e)))
+      Memᴰ.append_right (edge_of_pick u (pick w ms First u vs))
+      (Memᴰ.append_right (edge_of_pick u (pick w ms Second u vs))
+      (Memᴰ.append_right (edge_of_pick u (pick w ms Third u vs)) (in_one Fourth u v e)))
 
   -- e is an edge exactly when it is the edge of a pick
   pub of-edges : {e : Place × Place} → e ∈ edges w ms vs → OfPick e
   unfolding edges
   of-edges m =
-      let p = of-each (picks_of w ms vs) (allPicks w ms vs) (picks-none w ms vs) (picks_more w ms vs) vs
-      (of-sorted beforeEdge (allPicks w ms vs vs) _ m) in
+      let p = of-each (picks_of w ms vs) (all_picks w ms vs) (picks-none w ms vs) (picks_more w ms vs) vs
+      (of-sorted before_edge (all_picks w ms vs vs) _ m) in
       of-picks p.entry p.stands p.holds
 
   pub pick-edge : {u v : Place} → PickedBy u v → edge_of u v ∈ edges w ms vs
   unfolding edges
   pick-edge {u} {v} p =
-      in-sorted beforeEdge edge_order (allPicks w ms vs vs) _
-      (in-each (picks_of w ms vs) (allPicks w ms vs) (picks-none w ms vs) (picks_more w ms vs) vs p.stands
+      in-sorted before_edge edge_order (all_picks w ms vs vs) _
+      (in-each (picks_of w ms vs) (all_picks w ms vs) (picks-none w ms vs) (picks_more w ms vs) vs p.stands
       (in-picks p.quadrant u v p.picks))
 
   pub in-edges : {e : Place × Place} → OfPick e → e ∈ edges w ms vs
@@ -144,20 +144,20 @@ module _ (w : Weights) (ms : List Macro) (vs : List Place) where
 
   -- How many, and in order
 
-  pub edges-ascending : Ascending beforeEdge (edges w ms vs)
+  pub edges-ascending : Ascending before_edge (edges w ms vs)
   unfolding edges
-  edges-ascending = sorted-ascending beforeEdge edge_order (allPicks w ms vs vs)
+  edges-ascending = sorted-ascending before_edge edge_order (all_picks w ms vs vs)
 
   pub edges-once : Once (edges w ms vs)
-  edges-once = ascending-once beforeEdge edge_order (edges w ms vs) edges-ascending
+  edges-once = ascending-once before_edge edge_order (edges w ms vs) edges-ascending
 
   pub length-edges : length (edges w ms vs) ≤ 4 * length vs
   unfolding edges
   length-edges =
       omega (
         arith,
-        length-sorted beforeEdge (allPicks w ms vs vs),
-        length-each (picks_of w ms vs) (allPicks w ms vs) (picks-none w ms vs) (picks_more w ms vs) 4 (picks-few w ms vs) vs,
+        length-sorted before_edge (all_picks w ms vs vs),
+        length-each (picks_of w ms vs) (all_picks w ms vs) (picks-none w ms vs) (picks_more w ms vs) 4 (picks-few w ms vs) vs,
       )
 
 -- What holds of each edge

@@ -18,11 +18,11 @@ use Rattle.plane.specs.declared.Place.{Place}
 use Rattle.plane.specs.declared.Macro.{Macro}
 use Rattle.plane.specs.declared.Weights.{Weights}
 use Rattle.plane.specs.Place.{before}
-use Rattle.plane.specs.Flat.{places_of, placeAt}
+use Rattle.plane.specs.Flat.{places_of, place_at}
 use Rattle.plane.proofs.FlatLaws.{length-places}
-use Rattle.graph.specs.Numbers.{edgeNumbers, edgeFrom}
+use Rattle.graph.specs.Numbers.{edge_numbers, edge_from}
 use Rattle.graph.specs.Edges.{edges}
-use Rattle.links.specs.Links.{PicksHeld, isLinked, rowFrom, row, rows}
+use Rattle.links.specs.Links.{PicksHeld, is_linked, row_from, row, rows}
 use Rattle.links.proofs.LinkLaws.{row-none, row-hit, row-miss, rows_none, rows_more}
 use Rattle.graph.proofs.WidthLaws.{edge-width}
 use Rattle.graph.proofs.EdgeLaws.{length-edges}
@@ -48,8 +48,8 @@ module _ {X : Type 0} where
 abbrev pub Edge : Type 0
 Edge = Place × Place
 
-pub edges-long : (es : List Edge) → length (flat edgeNumbers es) ≡ length es * 4
-edges-long es = length-flat edgeNumbers edgeFrom 4 edge-width es
+pub edges-long : (es : List Edge) → length (flat edge_numbers es) ≡ length es * 4
+edges-long es = length-flat edge_numbers edge_from 4 edge-width es
 
 -- A row: the a-th vertex's edges to later ones, from the i-th edge on
 
@@ -58,8 +58,8 @@ module _ (picked : List ℕ) (s : List ℤ) (n a i : ℕ) (lent : List ℤ) wher
   pub record InRow (table : List ℤ) (count b : ℕ) : Type 0 where
     pub done : List Edge
     pub counted : count ≡ i + length done
-    pub written : table ≡ sets lent (i * 4) (flat edgeNumbers done)
-    pub goal : done ++ rowFrom picked s a b (n - b) ≡ row picked s a n
+    pub written : table ≡ sets lent (i * 4) (flat edge_numbers done)
+    pub goal : done ++ row_from picked s a b (n - b) ≡ row picked s a n
 
   pub row-start : InRow lent i (a + 1)
   unfolding flat
@@ -67,54 +67,54 @@ module _ (picked : List ℕ) (s : List ℤ) (n a i : ℕ) (lent : List ℤ) wher
     done = [];
     counted = omega arith;
     written = refl;
-    goal = ap₂ (λ (b m : ℕ). rowFrom picked s a b m) (add-one a) (ap (λ (b : ℕ). n - b) (add-one a));
+    goal = ap₂ (λ (b m : ℕ). row_from picked s a b m) (add-one a) (ap (λ (b : ℕ). n - b) (add-one a));
   }
 
   module _ {table : List ℤ} {count b : ℕ} (g : InRow table count b) (h : b < n) where
     -- what is left begins with b
-    next : rowFrom picked s a b (n - b) ≡ rowFrom picked s a b (suc (n - (b + 1)))
-    next = let e : n - b ≡ suc (n - (b + 1)) = omega arith in ap (rowFrom picked s a b) e
+    next : row_from picked s a b (n - b) ≡ row_from picked s a b (suc (n - (b + 1)))
+    next = let e : n - b ≡ suc (n - (b + 1)) = omega arith in ap (row_from picked s a b) e
 
-    hit : isLinked picked a b ≡ true → g.done ++ ((placeAt s a, placeAt s b) ∷ rowFrom picked s a (b + 1) (n - (b + 1))) ≡ row picked s a n
+    hit : is_linked picked a b ≡ true → g.done ++ ((place_at s a, place_at s b) ∷ row_from picked s a (b + 1) (n - (b + 1))) ≡ row picked s a n
     hit t =
         ap (λ (l : List Edge). g.done ++ l)
-        (ap (λ (c : ℕ). (placeAt s a, placeAt s b) ∷ rowFrom picked s a c (n - (b + 1))) (add-one b)
+        (ap (λ (c : ℕ). (place_at s a, place_at s b) ∷ row_from picked s a c (n - (b + 1))) (add-one b)
         ∙ sym (next ∙ row-hit picked s a b (n - (b + 1)) t))
         ∙ g.goal
 
     -- there is room for one edge more
-    pub row_room : isLinked picked a b ≡ true → count + 1 ≤ i + length (row picked s a n)
+    pub row_room : is_linked picked a b ≡ true → count + 1 ≤ i + length (row picked s a n)
     row_room t =
         omega (
           arith,
           g.counted,
           ap length (hit t),
-          length-append g.done ((placeAt s a, placeAt s b) ∷ rowFrom picked s a (b + 1) (n - (b + 1))),
+          length-append g.done ((place_at s a, place_at s b) ∷ row_from picked s a (b + 1) (n - (b + 1))),
         )
 
-    pub row_put : isLinked picked a b ≡ true → (after : List ℤ) → after ≡ sets table (count * 4) (edgeNumbers (placeAt s a, placeAt s b))
+    pub row_put : is_linked picked a b ≡ true → (after : List ℤ) → after ≡ sets table (count * 4) (edge_numbers (place_at s a, place_at s b))
         → InRow after (count + 1) (b + 1)
     unfolding flat
     row_put t after e = record {
-      done = g.done ++ ((placeAt s a, placeAt s b) ∷ []);
-      counted = omega (arith, g.counted, length-append g.done ((placeAt s a, placeAt s b) ∷ []));
+      done = g.done ++ ((place_at s a, place_at s b) ∷ []);
+      counted = omega (arith, g.counted, length-append g.done ((place_at s a, place_at s b) ∷ []));
       written =
           e
-          ∙ ap (λ (l : List ℤ). sets l (count * 4) (edgeNumbers (placeAt s a, placeAt s b))) g.written
-          ∙ sets-append lent (i * 4) (count * 4) (flat edgeNumbers g.done) (edgeNumbers (placeAt s a, placeAt s b))
+          ∙ ap (λ (l : List ℤ). sets l (count * 4) (edge_numbers (place_at s a, place_at s b))) g.written
+          ∙ sets-append lent (i * 4) (count * 4) (flat edge_numbers g.done) (edge_numbers (place_at s a, place_at s b))
           (omega (arith, g.counted, edges-long g.done))
-          ∙ ap (sets lent (i * 4)) (sym (flat_append edgeNumbers g.done ((placeAt s a, placeAt s b) ∷ [])));
-      goal = append_assoc g.done ((placeAt s a, placeAt s b) ∷ []) (rowFrom picked s a (b + 1) (n - (b + 1))) ∙ hit t;
+          ∙ ap (sets lent (i * 4)) (sym (flat_append edge_numbers g.done ((place_at s a, place_at s b) ∷ [])));
+      goal = append_assoc g.done ((place_at s a, place_at s b) ∷ []) (row_from picked s a (b + 1) (n - (b + 1))) ∙ hit t;
     }
 
-    pub row-pass : isLinked picked a b ≡ false → InRow table count (b + 1)
+    pub row-pass : is_linked picked a b ≡ false → InRow table count (b + 1)
     row-pass t = record {
       done = g.done;
       counted = g.counted;
       written = g.written;
       goal =
           ap (λ (l : List Edge). g.done ++ l)
-          (ap (λ (c : ℕ). rowFrom picked s a c (n - (b + 1))) (add-one b) ∙ sym (next ∙ row-miss picked s a b (n - (b + 1)) t))
+          (ap (λ (c : ℕ). row_from picked s a c (n - (b + 1))) (add-one b) ∙ sym (next ∙ row-miss picked s a b (n - (b + 1)) t))
           ∙ g.goal;
     }
 
@@ -123,14 +123,14 @@ module _ (picked : List ℕ) (s : List ℤ) (n a i : ℕ) (lent : List ℤ) wher
     whole =
         let e : n - b ≡ 0 = omega arith in
         sym (append-nil g.done)
-        ∙ ap (λ (l : List Edge). g.done ++ l) (sym (ap (rowFrom picked s a b) e ∙ row-none picked s a b))
+        ∙ ap (λ (l : List Edge). g.done ++ l) (sym (ap (row_from picked s a b) e ∙ row-none picked s a b))
         ∙ g.goal
 
-    pub row-end : (count ≡ i + length (row picked s a n)) × (table ≡ sets lent (i * 4) (flat edgeNumbers (row picked s a n)))
+    pub row-end : (count ≡ i + length (row picked s a n)) × (table ≡ sets lent (i * 4) (flat edge_numbers (row picked s a n)))
     row-end = (
       g.counted ∙ ap (λ (l : List Edge). i + length l) whole,
       g.written
-          ∙ ap (λ (l : List Edge). sets lent (i * 4) (flat edgeNumbers l)) whole,
+          ∙ ap (λ (l : List Edge). sets lent (i * 4) (flat edge_numbers l)) whole,
     )
 
 -- All rows
@@ -143,7 +143,7 @@ module _ (s : List ℤ) (picked : List ℕ) (lent : List ℤ) where
   pub record InRows (table : List ℤ) (count a : ℕ) : Type 0 where
     pub done : List Edge
     pub counted : count ≡ length done
-    pub written : table ≡ over (flat edgeNumbers done) lent
+    pub written : table ≡ over (flat edge_numbers done) lent
     pub goal : done ++ rows picked s (length s / 2) a (length s / 2 - a) ≡ all_rows
 
   pub rows_start : InRows lent 0 0
@@ -177,17 +177,17 @@ module _ (s : List ℤ) (picked : List ℕ) (lent : List ℤ) where
         omega (arith, g.counted, long, room)
 
     pub rows-turn : (after : List ℤ) (r : ℕ) → r ≡ count + length (row picked s a (length s / 2))
-        → after ≡ sets table (count * 4) (flat edgeNumbers (row picked s a (length s / 2))) → InRows after r (a + 1)
+        → after ≡ sets table (count * 4) (flat edge_numbers (row picked s a (length s / 2))) → InRows after r (a + 1)
     rows-turn after r more e = record {
       done = g.done ++ row picked s a (length s / 2);
       counted = omega (arith, more, g.counted, length-append g.done (row picked s a (length s / 2)));
       written =
           e
-          ∙ ap (λ (l : List ℤ). sets l (count * 4) (flat edgeNumbers (row picked s a (length s / 2)))) g.written
-          ∙ over-sets (flat edgeNumbers g.done) (flat edgeNumbers (row picked s a (length s / 2))) lent (count * 4)
+          ∙ ap (λ (l : List ℤ). sets l (count * 4) (flat edge_numbers (row picked s a (length s / 2)))) g.written
+          ∙ over-sets (flat edge_numbers g.done) (flat edge_numbers (row picked s a (length s / 2))) lent (count * 4)
           (edges-long g.done ∙ omega (arith, g.counted))
           (omega (arith, edges-long (row picked s a (length s / 2)), rows-room))
-          ∙ ap (λ (l : List ℤ). over l lent) (sym (flat_append edgeNumbers g.done (row picked s a (length s / 2))));
+          ∙ ap (λ (l : List ℤ). over l lent) (sym (flat_append edge_numbers g.done (row picked s a (length s / 2))));
       goal = append_assoc g.done (row picked s a (length s / 2)) (rows picked s (length s / 2) (a + 1) (length s / 2 - (a + 1))) ∙ turn;
     }
 
@@ -198,7 +198,7 @@ module _ (s : List ℤ) (picked : List ℕ) (lent : List ℤ) where
         omega (arith, ap length (rows-are-edges w ms s ascending picked p), length-edges w ms (places_of s), length-places s)
 
     pub rows_end : {table : List ℤ} {count a : ℕ} → InRows table count a → length s / 2 ≤ a
-        → (count ≡ length (edges w ms (places_of s))) × (table ≡ over (flat edgeNumbers (edges w ms (places_of s))) lent)
+        → (count ≡ length (edges w ms (places_of s))) × (table ≡ over (flat edge_numbers (edges w ms (places_of s))) lent)
     rows_end {table} {count} {a} g h =
         let e : length s / 2 - a ≡ 0 = omega arith in
         let all : g.done ≡ edges w ms (places_of s) =
@@ -206,4 +206,4 @@ module _ (s : List ℤ) (picked : List ℕ) (lent : List ℤ) where
         ∙ ap (λ (l : List Edge). g.done ++ l) (sym (ap (rows picked s (length s / 2) a) e ∙ rows_none picked s (length s / 2) a))
         ∙ g.goal
         ∙ rows-are-edges w ms s ascending picked p in
-        (g.counted ∙ ap length all, g.written ∙ ap (λ (l : List Edge). over (flat edgeNumbers l) lent) all)
+        (g.counted ∙ ap length all, g.written ∙ ap (λ (l : List Edge). over (flat edge_numbers l) lent) all)

@@ -10,30 +10,30 @@ use Rattle.lists.proofs.TestLaws.{either}
 use Rattle.lists.proofs.EachLaws.{Piece}
 use Rattle.joined.specs.Joined.{Inside}
 use Rattle.plane.specs.declared.Place.{Place}
-use Rattle.net.specs.Net.{Net, costIn}
+use Rattle.net.specs.Net.{Net, cost_in}
 use Rattle.net.specs.Allowed.{PlaceInRange, Allowed}
-use Rattle.net.specs.Bounds.{pointBound, edgeBound, costBound}
+use Rattle.net.specs.Bounds.{point_bound, edge_bound, cost_bound}
 use Rattle.net.proofs.RangeBounds.{cost-in-range}
 use Rattle.net.proofs.AllowedLaws.{allowed-positive}
-use Rattle.graph.specs.Vertices.{cornersOf}
-use Rattle.graph.specs.Edges.{beforeEdge}
-use Rattle.graph.specs.Spanning.{verticesOf, spanning}
+use Rattle.graph.specs.Vertices.{corners_of}
+use Rattle.graph.specs.Edges.{before_edge}
+use Rattle.graph.specs.Spanning.{vertices_of, spanning}
 use Rattle.graph.proofs.VertexLaws.{at-corner, of-vertices, vertices-ascending, length-vertices}
 use Rattle.graph.proofs.EdgeLaws.{Edge, edge-of, edge-some, edges-ascending, edges-inside, length-edges}
 
 module _ (net : Net) where
-  pub spanning-ascending : Ascending beforeEdge (spanning net)
-  spanning-ascending = edges-ascending net.weights net.macros (verticesOf net)
+  pub spanning-ascending : Ascending before_edge (spanning net)
+  spanning-ascending = edges-ascending net.weights net.macros (vertices_of net)
 
   -- what holds of each edge, and that both its ends are vertices
-  pub spanning-edge : (e : Place × Place) → e ∈ spanning net → Edge net.macros (verticesOf net) e.0 e.1
-  spanning-edge = edge-of net.macros (verticesOf net) net.weights (vertices-ascending net)
+  pub spanning-edge : (e : Place × Place) → e ∈ spanning net → Edge net.macros (vertices_of net) e.0 e.1
+  spanning-edge = edge-of net.macros (vertices_of net) net.weights (vertices-ascending net)
 
-  pub spanning-inside : Inside (verticesOf net) (spanning net)
-  spanning-inside = edges-inside net.macros (verticesOf net) net.weights (vertices-ascending net)
+  pub spanning-inside : Inside (vertices_of net) (spanning net)
+  spanning-inside = edges-inside net.macros (vertices_of net) net.weights (vertices-ascending net)
 
 module _ {net : Net} (a : Allowed net) where
-  corner-in-range : (c : Place) → Piece cornersOf net.macros c → PlaceInRange c
+  corner-in-range : (c : Place) → Piece corners_of net.macros c → PlaceInRange c
   corner-in-range c p =
       let r = a.macros-in-range p.entry p.stands in
       at-corner p.entry PlaceInRange
@@ -43,21 +43,21 @@ module _ {net : Net} (a : Allowed net) where
       (record { x = r.right; y = r.top })
       c p.holds
 
-  pub vertex-in-range : (v : Place) → v ∈ verticesOf net → PlaceInRange v
+  pub vertex-in-range : (v : Place) → v ∈ vertices_of net → PlaceInRange v
   vertex-in-range v i = either (a.pins-in-range v) (corner-in-range v) (of-vertices net i)
 
   -- what an edge costs, at least and at most
-  pub edge-least : (e : Place × Place) → e ∈ spanning net → 1 ≤ costIn net e.0 e.1
+  pub edge-least : (e : Place × Place) → e ∈ spanning net → 1 ≤ cost_in net e.0 e.1
   edge-least e m = edge-some net.weights (allowed-positive a) e.0 e.1 (spanning-edge net e m)
 
-  pub edge-bound : (e : Place × Place) → e ∈ spanning net → costIn net e.0 e.1 ≤ costBound
+  pub edge-bound : (e : Place × Place) → e ∈ spanning net → cost_in net e.0 e.1 ≤ cost_bound
   edge-bound e m =
       let r = spanning-edge net e m in
       cost-in-range a e.0 e.1 (vertex-in-range _ r.first) (vertex-in-range _ r.second)
 
   -- N23: at most 640 points and 2,560 edges
-  pub few-vertices : length (verticesOf net) ≤ pointBound
+  pub few-vertices : length (vertices_of net) ≤ point_bound
   few-vertices = omega (arith, length-vertices net, a.few-pins, a.few-macros)
 
-  pub few-edges : length (spanning net) ≤ edgeBound
-  few-edges = omega (arith, length-edges net.weights net.macros (verticesOf net), few-vertices)
+  pub few-edges : length (spanning net) ≤ edge_bound
+  few-edges = omega (arith, length-edges net.weights net.macros (vertices_of net), few-vertices)

@@ -14,8 +14,8 @@ use Rattle.plane.proofs.MeetLaws.{Overlap, InInterior}
 use Rattle.net.specs.Net.{Net}
 use Rattle.net.specs.Allowed.{Allowed}
 use Rattle.net.proofs.ApartLaws.{SidesInOrder, sides-in-order, overlap-one, pin-outside}
-use Rattle.graph.specs.Vertices.{cornersOf}
-use Rattle.graph.specs.Spanning.{verticesOf}
+use Rattle.graph.specs.Vertices.{corners_of}
+use Rattle.graph.specs.Spanning.{vertices_of}
 use Rattle.graph.proofs.VertexLaws.{at-corner, of-vertices}
 
 -- c is on the closed box of m and not in its interior
@@ -33,7 +33,7 @@ module _ (m : Macro) (s : SidesInOrder m) where
   on-right : (y : ℤ) → Le m.bottom y → Le y m.top → Rim m (place m.right y)
   on-right y b t = record { left = omega signed; right = omega signed; bottom = b; top = t; not_within = λ h. omega signed }
 
-  corner-rim : (c : Place) → c ∈ cornersOf m → Rim m c
+  corner-rim : (c : Place) → c ∈ corners_of m → Rim m c
   corner-rim =
       at-corner m (Rim m)
       (on-left m.bottom (omega signed) (omega signed))
@@ -42,12 +42,12 @@ module _ (m : Macro) (s : SidesInOrder m) where
       (on-right m.top (omega signed) (omega signed))
 
 module _ {net : Net} (a : Allowed net) where
-  corner-outside : (c : Place) → Piece cornersOf net.macros c → (m : Macro) → m ∈ net.macros → InInterior c m → ⊥
+  corner-outside : (c : Place) → Piece corners_of net.macros c → (m : Macro) → m ∈ net.macros → InInterior c m → ⊥
   corner-outside c p m i h =
       let n = p.entry in
       let r = corner-rim n (sides-in-order a n p.stands) c p.holds in
       let o : Overlap m n = record { left = omega signed; right = omega signed; bottom = omega signed; top = omega signed } in
       r.not_within (rw (overlap-one a m n i p.stands o) at h)
 
-  pub vertex-outside : (u : Place) → u ∈ verticesOf net → (m : Macro) → m ∈ net.macros → InInterior u m → ⊥
+  pub vertex-outside : (u : Place) → u ∈ vertices_of net → (m : Macro) → m ∈ net.macros → InInterior u m → ⊥
   vertex-outside u k = either (pin-outside a u) (corner-outside u) (of-vertices net k)

@@ -18,34 +18,34 @@ use Rattle.plane.specs.declared.Macro.{Macro}
 use Rattle.plane.specs.Place.{place, before}
 use Rattle.plane.proofs.PlaceOrder.{place-order}
 use Rattle.net.specs.Net.{Net}
-use Rattle.graph.specs.Vertices.{cornersOf, corners, vertices}
-use Rattle.graph.specs.Spanning.{verticesOf}
+use Rattle.graph.specs.Vertices.{corners_of, corners, vertices}
+use Rattle.graph.specs.Spanning.{vertices_of}
 use Rattle.graph.proofs.GraphSteps.{corners-none, corners-more, corners-few}
 
 -- The corners of a macro
 
 module _ (m : Macro) where
-  pub lower-left : place m.left m.bottom ∈ cornersOf m
-  unfolding cornersOf
+  pub lower-left : place m.left m.bottom ∈ corners_of m
+  unfolding corners_of
   lower-left = here refl
 
-  pub upper-left : place m.left m.top ∈ cornersOf m
-  unfolding cornersOf
+  pub upper-left : place m.left m.top ∈ corners_of m
+  unfolding corners_of
   upper-left = there (here refl)
 
-  pub lower-right : place m.right m.bottom ∈ cornersOf m
-  unfolding cornersOf
+  pub lower-right : place m.right m.bottom ∈ corners_of m
+  unfolding corners_of
   lower-right = there (there (here refl))
 
-  pub upper-right : place m.right m.top ∈ cornersOf m
-  unfolding cornersOf
+  pub upper-right : place m.right m.top ∈ corners_of m
+  unfolding corners_of
   upper-right = there (there (there (here refl)))
 
   -- and no others: for whatever holds at the four corners
   pub at-corner : (P : Place → Type 0)
       → P (place m.left m.bottom) → P (place m.left m.top) → P (place m.right m.bottom) → P (place m.right m.top)
-      → (c : Place) → c ∈ cornersOf m → P c
-  unfolding cornersOf
+      → (c : Place) → c ∈ corners_of m → P c
+  unfolding corners_of
   at-corner P a b d e c (here k) = rw k a
   at-corner P a b d e c (there (here k)) = rw k b
   at-corner P a b d e c (there (there (here k))) = rw k d
@@ -54,43 +54,43 @@ module _ (m : Macro) where
 
 -- The corners of all macros
 
-pub of-corners : (ms : List Macro) {c : Place} → c ∈ corners ms → Piece cornersOf ms c
-of-corners = of-each cornersOf corners corners-none corners-more
+pub of-corners : (ms : List Macro) {c : Place} → c ∈ corners ms → Piece corners_of ms c
+of-corners = of-each corners_of corners corners-none corners-more
 
-pub in-corners : (ms : List Macro) {m : Macro} {c : Place} → m ∈ ms → c ∈ cornersOf m → c ∈ corners ms
-in-corners = in-each cornersOf corners corners-none corners-more
+pub in-corners : (ms : List Macro) {m : Macro} {c : Place} → m ∈ ms → c ∈ corners_of m → c ∈ corners ms
+in-corners = in-each corners_of corners corners-none corners-more
 
 -- Vertices
 
 module _ (net : Net) where
   -- G1: pins and corners of macros, and nothing else
-  pub pin-vertex : {p : Place} → p ∈ net.pins → p ∈ verticesOf net
+  pub pin-vertex : {p : Place} → p ∈ net.pins → p ∈ vertices_of net
   unfolding vertices
   pin-vertex i = in-sorted before place-order (net.pins ++ corners net.macros) _ (Memᴰ.append_left (corners net.macros) i)
 
-  pub corner-vertex : {m : Macro} {c : Place} → m ∈ net.macros → c ∈ cornersOf m → c ∈ verticesOf net
+  pub corner-vertex : {m : Macro} {c : Place} → m ∈ net.macros → c ∈ corners_of m → c ∈ vertices_of net
   unfolding vertices
   corner-vertex i j =
       in-sorted before place-order (net.pins ++ corners net.macros) _ (Memᴰ.append_right net.pins (in-corners net.macros i j))
 
-  pub of-vertices : {v : Place} → v ∈ verticesOf net → (v ∈ net.pins) ⊎ Piece cornersOf net.macros v
+  pub of-vertices : {v : Place} → v ∈ vertices_of net → (v ∈ net.pins) ⊎ Piece corners_of net.macros v
   unfolding vertices
   of-vertices i =
       either inl (λ k. inr (of-corners net.macros k))
       (Memᴰ.append_cases net.pins (of-sorted before (net.pins ++ corners net.macros) _ i))
 
   -- G1: equal places are one vertex, and they are in order
-  pub vertices-ascending : Ascending before (verticesOf net)
+  pub vertices-ascending : Ascending before (vertices_of net)
   unfolding vertices
   vertices-ascending = sorted-ascending before place-order (net.pins ++ corners net.macros)
 
   -- N7: at most n of them
-  pub length-vertices : length (verticesOf net) ≤ length net.pins + 4 * length net.macros
+  pub length-vertices : length (vertices_of net) ≤ length net.pins + 4 * length net.macros
   unfolding vertices
   length-vertices =
       omega (
         arith,
         length-sorted before (net.pins ++ corners net.macros),
         length-append net.pins (corners net.macros),
-        length-each cornersOf corners corners-none corners-more 4 corners-few net.macros,
+        length-each corners_of corners corners-none corners-more 4 corners-few net.macros,
       )

@@ -1,6 +1,6 @@
 -- G5: an edge joins two vertices where one of them picks the other.
 use Rattle.std.specs.Prelude.{Bool, true, false, List, [], ◌∷◌, ◌++◌}
-use Rattle.lists.specs.Sorted.{sorted, firstThen}
+use Rattle.lists.specs.Sorted.{sorted, first_then}
 use Rattle.plane.specs.declared.Place.{Place}
 use Rattle.plane.specs.declared.Macro.{Macro}
 use Rattle.plane.specs.declared.Weights.{Weights}
@@ -15,24 +15,24 @@ unfoldable pub edge_of : Place → Place → Place × Place
 edge_of u v = elim (before u v) [ true ↦ (u, v) | false ↦ (v, u) ]
 
 -- N16: edges go by first place, then by second
-unfoldable pub beforeEdge : Place × Place → Place × Place → Bool
-beforeEdge = firstThen before before
+unfoldable pub before_edge : Place × Place → Place × Place → Bool
+before_edge = first_then before before
 
 -- the edge of a pick, or none
-unfoldable pub edgeOfPick : Place → Picked → List (Place × Place)
-edgeOfPick u Nothing = []
-edgeOfPick u (At v) = edge_of u v ∷ []
+unfoldable pub edge_of_pick : Place → Picked → List (Place × Place)
+edge_of_pick u Nothing = []
+edge_of_pick u (At v) = edge_of u v ∷ []
 
 -- the edges that u picks
 unfoldable pub picks_of : Weights → List Macro → List Place → Place → List (Place × Place)
 picks_of w ms vs u =
-    edgeOfPick u (pick w ms First u vs)
-    ++ (edgeOfPick u (pick w ms Second u vs) ++ (edgeOfPick u (pick w ms Third u vs) ++ edgeOfPick u (pick w ms Fourth u vs)))
+    edge_of_pick u (pick w ms First u vs)
+    ++ (edge_of_pick u (pick w ms Second u vs) ++ (edge_of_pick u (pick w ms Third u vs) ++ edge_of_pick u (pick w ms Fourth u vs)))
 
 -- the edges that some vertices pick
-unfoldable pub allPicks : Weights → List Macro → List Place → List Place → List (Place × Place)
-allPicks w ms vs [] = []
-allPicks w ms vs (u ∷ us) = picks_of w ms vs u ++ allPicks w ms vs us
+unfoldable pub all_picks : Weights → List Macro → List Place → List Place → List (Place × Place)
+all_picks w ms vs [] = []
+all_picks w ms vs (u ∷ us) = picks_of w ms vs u ++ all_picks w ms vs us
 
 unfoldable pub edges : Weights → List Macro → List Place → List (Place × Place)
-edges w ms vs = sorted beforeEdge (allPicks w ms vs vs)
+edges w ms vs = sorted before_edge (all_picks w ms vs vs)

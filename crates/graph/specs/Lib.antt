@@ -5,11 +5,11 @@
 -- speak of a net's graph, with the net as its only argument.
 --
 --   Vertices   corners ms, vertices ps ms       the corners of macros; all vertices, sorted, equal places once
---   Edges      edgeOf u v                       the edge of two places, smaller first
---              picksOf w ms vs u                the edges that u picks, quadrant by quadrant
+--   Edges      edge_of u v                       the edge of two places, smaller first
+--              picks_of w ms vs u                the edges that u picks, quadrant by quadrant
 --              edges w ms vs                    all edges, sorted, each once
---   Spanning   verticesOf net, spanning net     the vertices and the edges of a net's graph
---   Numbers    placeNumbers, edgeNumbers        a place and an edge as the numbers that are given
+--   Spanning   vertices_of net, spanning net     the vertices and the edges of a net's graph
+--   Numbers    place_numbers, edge_numbers        a place and an edge as the numbers that are given
 pub mod Vertices
 pub mod Edges
 pub mod Spanning

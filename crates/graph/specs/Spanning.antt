@@ -5,8 +5,8 @@ use Rattle.net.specs.Net.{Net}
 use Rattle.graph.specs.Vertices.{vertices}
 use Rattle.graph.specs.Edges.{edges}
 
-abbrev pub verticesOf : Net → List Place
-verticesOf net = vertices net.pins net.macros
+abbrev pub vertices_of : Net → List Place
+vertices_of net = vertices net.pins net.macros
 
 abbrev pub spanning : Net → List (Place × Place)
-spanning net = edges net.weights net.macros (verticesOf net)
+spanning net = edges net.weights net.macros (vertices_of net)

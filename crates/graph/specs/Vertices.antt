@@ -6,13 +6,13 @@ use Rattle.plane.specs.declared.Macro.{Macro}
 use Rattle.plane.specs.Place.{place, before}
 
 -- the four corners of a macro, and of all macros
-unfoldable pub cornersOf : Macro → List Place
-cornersOf m =
+unfoldable pub corners_of : Macro → List Place
+corners_of m =
     place m.left m.bottom ∷ (place m.left m.top ∷ (place m.right m.bottom ∷ (place m.right m.top ∷ [])))
 
 unfoldable pub corners : List Macro → List Place
 corners [] = []
-corners (m ∷ ms) = cornersOf m ++ corners ms
+corners (m ∷ ms) = corners_of m ++ corners ms
 
 unfoldable pub vertices : List Place → List Macro → List Place
 vertices pins macros = sorted before (pins ++ corners macros)

@@ -10,7 +10,7 @@ use Rattle.lists.specs.Member.{◌∈◌}
 use Rattle.lists.proofs.TestLaws.{by, differ, not-true}
 use Rattle.lists.proofs.AnyLaws.{any_none}
 use Rattle.signed.specs.Sides.{Lt, Le}
-use Rattle.signed.proofs.SideLaws.{ltZ-true, signed}
+use Rattle.signed.proofs.SideLaws.{z_lt-true, signed}
 use Rattle.plane.specs.declared.Place.{Place}
 use Rattle.plane.specs.declared.Macro.{Macro}
 use Rattle.plane.specs.Place.{place}
@@ -22,18 +22,18 @@ use Rattle.lines.proofs.LineLaws.{About}
 -- a number at a side of an open span that a line is in: the number is in it too
 module _ (L : List ℤ) (b y from to : ℤ) (a : About L b y) where
   pub about-top : to ∈ L → Lt b to → Lt y to
-  about-top m h = by (lt_z y to) (λ e. ltZ-true y to e) (λ e. absurd (a.below to m h (omega (signed, e))))
+  about-top m h = by (lt_z y to) (λ e. z_lt-true y to e) (λ e. absurd (a.below to m h (omega (signed, e))))
 
   pub about-bottom : from ∈ L → Lt from b → Lt from y
-  about-bottom m h = by (lt_z from y) (λ e. ltZ-true from y e) (λ e. absurd (a.above from m (omega (signed, e)) h))
+  about-bottom m h = by (lt_z from y) (λ e. z_lt-true from y e) (λ e. absurd (a.above from m (omega (signed, e)) h))
 
 -- an open span that meets the one between neighbouring lines reaches past both
 module _ (L : List ℤ) (lo hi from to : ℤ) (n : Neighbours L lo hi) where
   pub past-low : from ∈ L → Lt from hi → Le from lo
-  past-low m h = by (lt_z lo from) (λ e. absurd (n.none from m (ltZ-true lo from e) h)) (λ e. omega (signed, e))
+  past-low m h = by (lt_z lo from) (λ e. absurd (n.none from m (z_lt-true lo from e) h)) (λ e. omega (signed, e))
 
   pub past-high : to ∈ L → Lt lo to → Le hi to
-  past-high m h = by (lt_z to hi) (λ e. absurd (n.none to m h (ltZ-true to hi e))) (λ e. omega (signed, e))
+  past-high m h = by (lt_z to hi) (λ e. absurd (n.none to m h (z_lt-true to hi e))) (λ e. omega (signed, e))
 
 -- no macro meets a box that is clear
 pub clear_none : (u v : Place) (ms : List Macro) → clear u v ms ≡ true → (m : Macro) → m ∈ ms → meets u v m ≡ true → ⊥

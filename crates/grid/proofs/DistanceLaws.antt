@@ -16,10 +16,10 @@ use Rattle.joined.specs.Joined.{Joined}
 use Rattle.joined.specs.Way.{Way, stop, long, turned}
 use Rattle.joined.proofs.WayLaws.{way-joined, joined-way, turned-way, turned-long}
 use Rattle.plane.proofs.CostLaws.{cost-comm}
-use Rattle.net.specs.Net.{Net, costIn}
+use Rattle.net.specs.Net.{Net, cost_in}
 use Rattle.grid.specs.Walk.{Walk, Exactly}
-use Rattle.lines.specs.Lines.{xLines, yLines, Crossing, UnitStep, ClearStep}
-use Rattle.lines.specs.Edges.{gridEdges}
+use Rattle.lines.specs.Lines.{x_lines, y_lines, Crossing, UnitStep, ClearStep}
+use Rattle.lines.specs.Edges.{grid_edges}
 use Rattle.grid.specs.Distance.{GridDistance, TrueDistance}
 use Rattle.grid.proofs.WalkLaws.{walk-map, walk-way, way-walk}
 use Rattle.grid.proofs.Retract.{retract}
@@ -28,29 +28,29 @@ use Rattle.lines.proofs.EdgeLaws.{lines-sides, pin-crossing, grid-link, link-gri
 
 -- a place on two lines of the net
 abbrev pub IsCrossing : Net → Place → Type 0
-IsCrossing net p = Crossing (xLines net) (yLines net) p
+IsCrossing net p = Crossing (x_lines net) (y_lines net) p
 
 module _ (net : Net) where
   abbrev price : Place → Place → ℕ
-  price = costIn net
+  price = cost_in net
 
   -- a way along the grid's edges that costs at most so much
   pub record GridWay (p q : Place) (most : ℕ) : Type 0 where
     pub points : List Place
-    pub way : Way (gridEdges net) p points q
+    pub way : Way (grid_edges net) p points q
     pub within : long price p points ≤ most
 
   -- for each walk in unit steps there is one
   pub no-walk-cheaper : {p q : Place} {ps : List Place} → IsCrossing net p → IsCrossing net q → Walk (UnitStep net.macros) p ps q →
       GridWay p q (long price p ps)
   no-walk-cheaper a c w =
-      let r = retract (xLines net) (yLines net) net.macros (lines-sides net) net.weights a c w in
+      let r = retract (x_lines net) (y_lines net) net.macros (lines-sides net) net.weights a c w in
       record { points = r.points; way = walk-way (walk-map (grid-link net) r.walk); within = r.within }
 
   -- and a way along the grid is such a walk
-  pub grid-way-walk : {p q : Place} {ps : List Place} → Way (gridEdges net) p ps q → Exactly (UnitStep net.macros) price p q
+  pub grid-way-walk : {p q : Place} {ps : List Place} → Way (grid_edges net) p ps q → Exactly (UnitStep net.macros) price p q
       (long price p ps)
-  grid-way-walk w = grid-walk net.macros net.weights (xLines net) (yLines net) (walk-map (link-grid net) (way-walk w))
+  grid-way-walk w = grid-walk net.macros net.weights (x_lines net) (y_lines net) (walk-map (link-grid net) (way-walk w))
 
   -- a walk over clear edges, whose inner places may be anywhere
   pub no-clear-walk-cheaper : {p q : Place} {ps : List Place} → IsCrossing net p → IsCrossing net q →
@@ -71,7 +71,7 @@ module _ (net : Net) where
 
   -- what such pairs join, the grid joins
   pub grid-joins : (L : List (Place × Place)) → ((a b : Place) → (a, b) ∈ L → clear a b net.macros ≡ true) →
-      {p q : Place} → p ∈ net.pins → q ∈ net.pins → Joined L p q → Joined (gridEdges net) p q
+      {p q : Place} → p ∈ net.pins → q ∈ net.pins → Joined L p q → Joined (grid_edges net) p q
   grid-joins L h i k j = way-joined (no-way-cheaper L h i k (joined-way j).1).way
 
   -- L7: the cheapest cost along the grid is the true distance
@@ -98,12 +98,12 @@ unfolding long
 grid-turn {net} {p} {q} {n} d = record {
   points = turned p d.points [];
   way = turned-way d.way (stop refl);
-  costs = omega (arith, turned-long (costIn net) (cost-comm net.weights) d.way [], d.costs);
+  costs = omega (arith, turned-long (cost_in net) (cost-comm net.weights) d.way [], d.costs);
   least = λ qs w.
       omega (
         arith,
         d.least (turned q qs []) (turned-way w (stop refl)),
-        turned-long (costIn net) (cost-comm net.weights) w [],
+        turned-long (cost_in net) (cost-comm net.weights) w [],
       );
 }
 

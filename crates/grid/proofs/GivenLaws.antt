@@ -18,7 +18,7 @@ use Rattle.lists.proofs.MapLaws.{get_d_map}
 use Rattle.lent.specs.Over.{over}
 use Rattle.lent.proofs.OverLaws.{over_none}
 use Rattle.terminal.proofs.FillLaws.{over-sets}
-use Rattle.lines.specs.Bounds.{crossingBound, unreached}
+use Rattle.lines.specs.Bounds.{crossing_bound, unreached}
 use Rattle.grid.specs.Rows.{at}
 use Rattle.grid.specs.Tables.{Starts, picked, Settled, RowPut, RowsOver}
 
@@ -45,11 +45,11 @@ module _ (n u q : ℕ) (t : List ℕ) (fresh : t ≡ replicate n u) (inside : q 
           (λ h. let z : length (set t q 0) ≤ v = omega (arith, ltb-false v n h, fresh-length, length-set t q 0) in
           omega (arith, get_or-eq_default (set t q 0) 0 z))
 
-pub start-set : (q : ℕ) (t : List ℕ) → t ≡ replicate crossingBound unreached → q < crossingBound → Starts q (set t q 0)
+pub start-set : (q : ℕ) (t : List ℕ) → t ≡ replicate crossing_bound unreached → q < crossing_bound → Starts q (set t q 0)
 start-set q t e h = record {
-  row = record { size = length-set t q 0 ∙ fresh-length crossingBound unreached q t e h; low = set-low crossingBound unreached q t e h };
-  here = set_here crossingBound unreached q t e h;
-  elsewhere = set_else crossingBound unreached q t e h;
+  row = record { size = length-set t q 0 ∙ fresh-length crossing_bound unreached q t e h; low = set-low crossing_bound unreached q t e h };
+  here = set_here crossing_bound unreached q t e h;
+  elsewhere = set_else crossing_bound unreached q t e h;
 }
 
 -- Rows one after the other

@@ -12,7 +12,7 @@ use native.Mathlib.Omega.{arith}
 use lib.ListN.{length, get_or}
 use Rattle.lists.specs.Total.{total}
 use Rattle.lists.proofs.TestLaws.{differ, or-none}
-use Rattle.lines.specs.Bounds.{lineBound, crossingBound, unreached}
+use Rattle.lines.specs.Bounds.{line_bound, crossing_bound, unreached}
 use Rattle.grid.specs.Rows.{at, Held, Quiet}
 use Rattle.grid.proofs.RowLaws.{lowered-miss, lowered-less, lowered-there, lowered-other, held_start, held-lowered, held_then}
 use Rattle.grid.specs.Tables.{target, Row, Fits, Near, Lowered, Ahead, Onward, Backward, Passed, PassedBoth}
@@ -152,23 +152,23 @@ module _ (costs : List ℕ) (e : ℕ) where
 
     -- what is asked of a call with an edge's ends
     ends-in : (k w : ℕ) → k < e → v ≡ k / 2 → w ≡ target k →
-        (get_or costs k 0 ≤ unreached) × (1 ≤ get_or costs k 0 → (v < crossingBound) × (w < crossingBound))
+        (get_or costs k 0 ≤ unreached) × (1 ≤ get_or costs k 0 → (v < crossing_bound) × (w < crossing_bound))
     ends-in k w h near far =
         (fits.low k h, λ is. (omega (arith, near, h, fits.count), omega (arith, far, fits.ends k h is)))
 
     pub across-in : (get_or costs (v * 2) 0 ≤ unreached)
-        × (1 ≤ get_or costs (v * 2) 0 → (v < crossingBound) × (v + lineBound < crossingBound))
-    across-in = ends-in (v * 2) (v + lineBound) in-across (omega arith) (target-across v)
+        × (1 ≤ get_or costs (v * 2) 0 → (v < crossing_bound) × (v + line_bound < crossing_bound))
+    across-in = ends-in (v * 2) (v + line_bound) in-across (omega arith) (target-across v)
 
     pub along-in : (get_or costs (v * 2 + 1) 0 ≤ unreached)
-        × (1 ≤ get_or costs (v * 2 + 1) 0 → (v < crossingBound) × (v + 1 < crossingBound))
+        × (1 ≤ get_or costs (v * 2 + 1) 0 → (v < crossing_bound) × (v + 1 < crossing_bound))
     along-in = ends-in (v * 2 + 1) (v + 1) in-along (omega arith) (target-along v)
 
     module _ (s t u : List ℕ) (row : Row s) (moved m : Bool) where
-      pub on-across : Passed costs e (Onward costs e (v * 2)) moved s t → Lowered (v + lineBound) v (get_or costs (v * 2) 0) t m u →
+      pub on-across : Passed costs e (Onward costs e (v * 2)) moved s t → Lowered (v + line_bound) v (get_or costs (v * 2) 0) t m u →
           Passed costs e (Onward costs e (v * 2 + 1)) (moved || m) s u
       on-across =
-          on_step fits s t u row (v * 2) (v * 2 + 1) refl in-across moved m (v + lineBound) v (get_or costs (v * 2) 0) refl (omega arith)
+          on_step fits s t u row (v * 2) (v * 2 + 1) refl in-across moved m (v + line_bound) v (get_or costs (v * 2) 0) refl (omega arith)
           (target-across v)
 
       pub on-along : Passed costs e (Onward costs e (v * 2 + 1)) moved s t → Lowered (v + 1) v (get_or costs (v * 2 + 1) 0) t m u →
@@ -183,10 +183,10 @@ module _ (costs : List ℕ) (e : ℕ) where
           back_step fits s t u row (v * 2 + 1) (n * 2) (omega (arith, h)) in-along moved m v (v + 1) (get_or costs (v * 2 + 1) 0) refl
           (omega arith) (target-along v)
 
-      pub back-across : Passed costs e (Backward costs e (v * 2 + 1)) moved s t → Lowered v (v + lineBound) (get_or costs (v * 2) 0) t m u →
+      pub back-across : Passed costs e (Backward costs e (v * 2 + 1)) moved s t → Lowered v (v + line_bound) (get_or costs (v * 2) 0) t m u →
           Passed costs e (Backward costs e (v * 2)) (moved || m) s u
       back-across =
-          back_step fits s t u row (v * 2) (v * 2 + 1) refl in-across moved m v (v + lineBound) (get_or costs (v * 2) 0) refl (omega arith)
+          back_step fits s t u row (v * 2) (v * 2 + 1) refl in-across moved m v (v + line_bound) (get_or costs (v * 2) 0) refl (omega arith)
           (target-across v)
 
   -- Passes one after the other

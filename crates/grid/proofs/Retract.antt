@@ -35,13 +35,13 @@ module _ (xs ys : List ℤ) (ms : List Macro) (sides : Sides xs ys ms) (w : Weig
 
   -- a crossing about z, and a grid walk from there to q
   record Behind (z q : Place) (n : ℕ) : Type 0 where
-    pub lineX : ℤ
-    pub lineY : ℤ
-    pub about-x : About xs lineX z.x
-    pub about-y : About ys lineY z.y
+    pub line_x : ℤ
+    pub line_y : ℤ
+    pub about-x : About xs line_x z.x
+    pub about-y : About ys line_y z.y
     pub points : List Place
-    pub walk : Walk (GridStep xs ys ms) (place lineX lineY) points q
-    pub within : long price (place lineX lineY) points + price (place lineX lineY) z ≤ n
+    pub walk : Walk (GridStep xs ys ms) (place line_x line_y) points q
+    pub within : long price (place line_x line_y) points + price (place line_x line_y) z ≤ n
 
   -- a step from z along x to z', by what becomes of the line about z'
   module _ (z t q : Place) (n : ℕ) (unit : apart z.x t.x ≡ 1) (level : z.y ≡ t.y) (free : clear z t ms ≡ true)
@@ -50,36 +50,36 @@ module _ (xs ys : List ℤ) (ms : List Macro) (sides : Sides xs ys ms) (w : Weig
     flat = ap (λ (y : ℤ). place z.x y) (sym level)
 
     -- the segment from the old crossing to the new one
-    edge : Beside xs z.x b.lineX → clear (place z.x b.lineY) (place b.lineX b.lineY) ms ≡ true →
-        GridStep xs ys ms (place z.x b.lineY) (place b.lineX b.lineY)
+    edge : Beside xs z.x b.line_x → clear (place z.x b.line_y) (place b.line_x b.line_y) ms ≡ true →
+        GridStep xs ys ms (place z.x b.line_y) (place b.line_x b.line_y)
     edge s c = across s refl b.about-y.line c
 
-    crossed : Beside xs z.x b.lineX → clear (place z.x b.lineY) (place b.lineX b.lineY) ms ≡ true → z.x ∈ xs →
-        apart b.lineX z.x ≡ apart b.lineX t.x + 1 → Behind z q (price z t + n)
+    crossed : Beside xs z.x b.line_x → clear (place z.x b.line_y) (place b.line_x b.line_y) ms ≡ true → z.x ∈ xs →
+        apart b.line_x z.x ≡ apart b.line_x t.x + 1 → Behind z q (price z t + n)
     unfolding cost long
     crossed s c m e = record {
-      lineX = z.x;
-      lineY = b.lineY;
+      line_x = z.x;
+      line_y = b.line_y;
       about-x = about-itself xs z.x m;
       about-y = rw level b.about-y;
-      points = place b.lineX b.lineY ∷ b.points;
+      points = place b.line_x b.line_y ∷ b.points;
       walk = go (edge s c) b.walk;
       within = rw level (omega (
         arith,
         b.within,
-        axis-comm w.across z.x b.lineX,
-        axis-more w.across b.lineX z.x b.lineX t.x e,
+        axis-comm w.across z.x b.line_x,
+        axis-more w.across b.line_x z.x b.line_x t.x e,
         axis-one w.across z.x t.x unit,
-        axis-self w.along b.lineY,
+        axis-self w.along b.line_y,
         axis-self w.across z.x,
       ));
     }
 
-    stepped-across : Moved xs b.lineX t.x z.x → Behind z q (price z t + n)
+    stepped-across : Moved xs b.line_x t.x z.x → Behind z q (price z t + n)
     unfolding cost
     stepped-across (stays a e) = record {
-      lineX = b.lineX;
-      lineY = b.lineY;
+      line_x = b.line_x;
+      line_y = b.line_y;
       about-x = a;
       about-y = rw level b.about-y;
       points = b.points;
@@ -87,18 +87,18 @@ module _ (xs ys : List ℤ) (ms : List Macro) (sides : Sides xs ys ms) (w : Weig
       within = rw level (omega (
         arith,
         b.within,
-        axis-le w.across b.lineX z.x b.lineX t.x e,
+        axis-le w.across b.line_x z.x b.line_x t.x e,
         axis-one w.across z.x t.x unit,
       ));
     }
     stepped-across (rises s h k e) =
         crossed (inr s)
-        (clear_comm _ _ ms ∙ clear-across xs ys ms sides b.lineX z.x t.x z.x b.lineY t.y s h k (omega signed) b.about-y
+        (clear_comm _ _ ms ∙ clear-across xs ys ms sides b.line_x z.x t.x z.x b.line_y t.y s h k (omega signed) b.about-y
         (clear_comm _ _ ms ∙ rw flat free))
         s.second e
     stepped-across (falls s h k e) =
         crossed (inl s)
-        (clear-across xs ys ms sides z.x b.lineX z.x t.x b.lineY t.y s (omega signed) k h b.about-y (rw flat free))
+        (clear-across xs ys ms sides z.x b.line_x z.x t.x b.line_y t.y s (omega signed) k h b.about-y (rw flat free))
         s.first e
 
   -- the same along y
@@ -107,32 +107,32 @@ module _ (xs ys : List ℤ) (ms : List Macro) (sides : Sides xs ys ms) (w : Weig
     upright : place t.x z.y ≡ z
     upright = ap (λ (x : ℤ). place x z.y) (sym plumb)
 
-    climbed : Beside ys z.y b.lineY → clear (place b.lineX z.y) (place b.lineX b.lineY) ms ≡ true → z.y ∈ ys →
-        apart b.lineY z.y ≡ apart b.lineY t.y + 1 → Behind z q (price z t + n)
+    climbed : Beside ys z.y b.line_y → clear (place b.line_x z.y) (place b.line_x b.line_y) ms ≡ true → z.y ∈ ys →
+        apart b.line_y z.y ≡ apart b.line_y t.y + 1 → Behind z q (price z t + n)
     unfolding cost long
     climbed s c m e = record {
-      lineX = b.lineX;
-      lineY = z.y;
+      line_x = b.line_x;
+      line_y = z.y;
       about-x = rw plumb b.about-x;
       about-y = about-itself ys z.y m;
-      points = place b.lineX b.lineY ∷ b.points;
+      points = place b.line_x b.line_y ∷ b.points;
       walk = go (along s refl b.about-x.line c) b.walk;
       within = rw plumb (omega (
         arith,
         b.within,
-        axis-comm w.along z.y b.lineY,
-        axis-more w.along b.lineY z.y b.lineY t.y e,
+        axis-comm w.along z.y b.line_y,
+        axis-more w.along b.line_y z.y b.line_y t.y e,
         axis-one w.along z.y t.y unit,
-        axis-self w.across b.lineX,
+        axis-self w.across b.line_x,
         axis-self w.along z.y,
       ));
     }
 
-    stepped-along : Moved ys b.lineY t.y z.y → Behind z q (price z t + n)
+    stepped-along : Moved ys b.line_y t.y z.y → Behind z q (price z t + n)
     unfolding cost
     stepped-along (stays a e) = record {
-      lineX = b.lineX;
-      lineY = b.lineY;
+      line_x = b.line_x;
+      line_y = b.line_y;
       about-x = rw plumb b.about-x;
       about-y = a;
       points = b.points;
@@ -140,34 +140,34 @@ module _ (xs ys : List ℤ) (ms : List Macro) (sides : Sides xs ys ms) (w : Weig
       within = rw plumb (omega (
         arith,
         b.within,
-        axis-le w.along b.lineY z.y b.lineY t.y e,
+        axis-le w.along b.line_y z.y b.line_y t.y e,
         axis-one w.along z.y t.y unit,
       ));
     }
     stepped-along (rises s h k e) =
         climbed (inr s)
-        (clear_comm _ _ ms ∙ clear-along xs ys ms sides b.lineY z.y t.y z.y b.lineX t.x s h k (omega signed) b.about-x
+        (clear_comm _ _ ms ∙ clear-along xs ys ms sides b.line_y z.y t.y z.y b.line_x t.x s h k (omega signed) b.about-x
         (clear_comm _ _ ms ∙ rw upright free))
         s.second e
     stepped-along (falls s h k e) =
         climbed (inl s)
-        (clear-along xs ys ms sides z.y b.lineY z.y t.y b.lineX t.x s (omega signed) k h b.about-x (rw upright free))
+        (clear-along xs ys ms sides z.y b.line_y z.y t.y b.line_x t.x s (omega signed) k h b.about-x (rw upright free))
         s.first e
 
   stepped : (z t q : Place) (n : ℕ) → UnitStep ms z t → Behind t q n → Behind z q (price z t + n)
   stepped z t q n u b =
       either
       (λ h. stepped-across z t q n h.0 h.1 u.free b
-      (moved xs b.lineX t.x z.x b.about-x (apart-comm t.x z.x ∙ h.0)))
+      (moved xs b.line_x t.x z.x b.about-x (apart-comm t.x z.x ∙ h.0)))
       (λ h. stepped-along z t q n h.0 h.1 u.free b
-      (moved ys b.lineY t.y z.y b.about-y (apart-comm t.y z.y ∙ h.1)))
+      (moved ys b.line_y t.y z.y b.about-y (apart-comm t.y z.y ∙ h.1)))
       (unit-axes z t u.unit)
 
   behind : {z q : Place} {ps : List Place} → Crossing xs ys q → Walk (UnitStep ms) z ps q → Behind z q (long price z ps)
   unfolding long
   behind {z} {q} c (stop e) = record {
-    lineX = q.x;
-    lineY = q.y;
+    line_x = q.x;
+    line_y = q.y;
     about-x = rw e (about-itself xs q.x c.across);
     about-y = rw e (about-itself ys q.y c.along);
     points = [];
@@ -183,8 +183,8 @@ module _ (xs ys : List ℤ) (ms : List Macro) (sides : Sides xs ys ms) (w : Weig
     where
       at : Behind p q (long price p ps) → Within (GridStep xs ys ms) price p q (long price p ps)
       at b =
-          let e : place b.lineX b.lineY ≡ p =
-          ap₂ place (about-line xs b.lineX p.x b.about-x a.across) (about-line ys b.lineY p.y b.about-y a.along) in
+          let e : place b.line_x b.line_y ≡ p =
+          ap₂ place (about-line xs b.line_x p.x b.about-x a.across) (about-line ys b.line_y p.y b.about-y a.along) in
           record {
             points = b.points;
             walk = subst (λ (z : Place). Walk (GridStep xs ys ms) z b.points q) e b.walk;

@@ -14,7 +14,7 @@ use lib.Seq.{ext_get_or}
 use Rattle.lists.specs.Member.{◌∈◌, Among}
 use Rattle.lists.specs.Sorted.{sorted}
 use Rattle.lists.proofs.TestLaws.{by}
-use Rattle.lists.proofs.MemberLaws.{getD-in}
+use Rattle.lists.proofs.MemberLaws.{get_d-in}
 use Rattle.lists.proofs.SortedLaws.{of-sorted, in-sorted, sorted-ascending, ascending-same}
 use Rattle.plane.specs.declared.Place.{Place}
 use Rattle.plane.specs.declared.Macro.{Macro}
@@ -26,19 +26,19 @@ use Rattle.net.specs.Net.{Net}
 use Rattle.net.specs.Allowed.{Allowed}
 use Rattle.graph.specs.Spanning.{spanning}
 use Rattle.lines.specs.Lines.{UnitStep}
-use Rattle.grid.specs.Distance.{TrueDistance, pinsInOrder, pinInOrder, entry_at, Square, TrueSquare}
+use Rattle.grid.specs.Distance.{TrueDistance, pins_in_order, pin_in_order, entry_at, Square, TrueSquare}
 use Rattle.grid.proofs.WalkLaws.{walk-map}
 use Rattle.lines.proofs.EdgeLaws.{pin-crossing}
 use Rattle.grid.proofs.DistanceLaws.{no-way-cheaper, grid-true, grid-only, true-only, grid-turn, grid-self}
 use Rattle.grid.proofs.NetDistance.{spanning-clear, pins-joined, order-count}
 
-pub in_order : {net : Net} → Allowed net → (i : ℕ) → i < length net.pins → pinInOrder net i ∈ net.pins
+pub in_order : {net : Net} → Allowed net → (i : ℕ) → i < length net.pins → pin_in_order net i ∈ net.pins
 in_order {net} a i h =
-    of-sorted before net.pins (pinInOrder net i) (getD-in (pinsInOrder net) i (place (pos 0) (pos 0)) (omega (arith, h, order-count a)))
+    of-sorted before net.pins (pin_in_order net i) (get_d-in (pins_in_order net) i (place (pos 0) (pos 0)) (omega (arith, h, order-count a)))
 
 module _ {net : Net} (a : Allowed net) (numbers : List ℕ) (s : Square net numbers) where
   entry-true : (i j : ℕ) → i < length net.pins → j < length net.pins →
-      TrueDistance net (pinInOrder net i) (pinInOrder net j) (entry_at net numbers i j)
+      TrueDistance net (pin_in_order net i) (pin_in_order net j) (entry_at net numbers i j)
   entry-true i j h k = grid-true net (pin-crossing net _ (in_order a i h)) (pin-crossing net _ (in_order a j k)) (s.each i j h k)
 
   pub square-true : TrueSquare net numbers
@@ -90,7 +90,7 @@ module _ (w : Weights) {ps qs : List Place} {ms ns : List Macro} (same : SameGro
   abbrev net' : Net
   net' = record { pins = qs; macros = ns; weights = w }
 
-  same-order : pinsInOrder net ≡ pinsInOrder net'
+  same-order : pins_in_order net ≡ pins_in_order net'
   same-order =
       ascending-same before place-order (sorted before ps) (sorted before qs) (sorted-ascending before place-order ps)
       (sorted-ascending before place-order qs)
@@ -114,7 +114,7 @@ module _ (w : Weights) {ps qs : List Place} {ms ns : List Macro} (same : SameGro
   module _ (a : Allowed net) (b : Allowed net') (t u : List ℕ) (s : Square net t) (r : Square net' u) where
     same-entry : (i j : ℕ) → i < length ps → j < length ps → entry_at net t i j ≡ entry_at net' u i j
     same-entry i j h k =
-        let one : TrueDistance net' (pinInOrder net i) (pinInOrder net j) (entry_at net t i j) = true-there
+        let one : TrueDistance net' (pin_in_order net i) (pin_in_order net j) (entry_at net t i j) = true-there
         ((square-true a t s).each i j h k) in
         let two = (square-true b u r).each i j (omega (arith, h, same.count)) (omega (arith, k, same.count)) in
         true-only (subst (λ (l : List Place). TrueDistance net' (get_or l i (place (pos 0) (pos 0))) (get_or l j (place (pos 0) (pos 0)))

@@ -15,7 +15,7 @@ use lib.Signed.{lt_z}
 use Rattle.lists.specs.Member.{◌∈◌, here, there}
 use Rattle.lists.specs.Sorted.{position}
 use Rattle.lists.proofs.TestLaws.{by}
-use Rattle.lists.proofs.MemberLaws.{getD-in}
+use Rattle.lists.proofs.MemberLaws.{get_d-in}
 use Rattle.lists.proofs.SortedLaws.{position-small, position_at, at_position}
 use Rattle.signed.specs.Sides.{Lt}
 use Rattle.signed.proofs.SideLaws.{signed}
@@ -28,14 +28,14 @@ use Rattle.plane.specs.Cost.{Positive}
 use Rattle.plane.specs.Macro.{clear}
 use Rattle.plane.proofs.MacroLaws.{clear_comm}
 use Rattle.plane.proofs.CostLaws.{cost-comm, cost-none}
-use Rattle.net.specs.Net.{Net, costIn}
+use Rattle.net.specs.Net.{Net, cost_in}
 use Rattle.lines.specs.declared.Grid.{Grid}
-use Rattle.lines.specs.Bounds.{lineBound, unreached}
-use Rattle.lines.specs.Lines.{xLines, yLines, Neighbours, Beside, GridStep, across, along}
-use Rattle.lines.specs.Edges.{nexts, gridEdges}
-use Rattle.lines.specs.Crossings.{isCrossing, crossingNumber}
+use Rattle.lines.specs.Bounds.{line_bound, unreached}
+use Rattle.lines.specs.Lines.{x_lines, y_lines, Neighbours, Beside, GridStep, across, along}
+use Rattle.lines.specs.Edges.{nexts, grid_edges}
+use Rattle.lines.specs.Crossings.{is_crossing, crossing_number}
 use Rattle.lines.specs.Tables.{FewLines}
-use Rattle.grid.specs.Tables.{crossingAt, target, isSegment, segmentCost, CostsTo, Reads, Near}
+use Rattle.grid.specs.Tables.{crossing_at, target, is_segment, segment_cost, CostsTo, Reads, Near}
 use Rattle.lines.proofs.LineLaws.{line-order}
 use Rattle.lines.proofs.EdgeLaws.{in-nexts, of-nexts, x-ascending, y-ascending, grid-link, link-grid}
 use Rattle.grid.proofs.SegmentLaws.{target-even, target-odd, segment-clear, segment-met, even-segment, odd-segment, segment-inside}
@@ -43,7 +43,7 @@ use Rattle.grid.proofs.SegmentLaws.{edge_none, edge-there}
 use Rattle.grid.proofs.Spread.{NearOf}
 
 -- a number of a crossing, taken apart
-taken-apart : (n i j : ℕ) → n ≡ i * lineBound + j → j < lineBound → (n / lineBound ≡ i) × (n % lineBound ≡ j)
+taken-apart : (n i j : ℕ) → n ≡ i * line_bound + j → j < line_bound → (n / line_bound ≡ i) × (n % line_bound ≡ j)
 taken-apart n i j e h = (omega (arith, e, h), omega (arith, e, h))
 
 -- Neighbouring lines by their positions
@@ -82,40 +82,40 @@ step-differs : (xs ys : List ℤ) (ms : List Macro) (a b : Place) → GridStep x
 step-differs xs ys ms a b (across n f m h) e = beside-differs xs a.x b.x n (ap (λ (p : Place). p.x) e)
 step-differs xs ys ms a b (along n f m h) e = beside-differs ys a.y b.y n (ap (λ (p : Place). p.y) e)
 
-pub link-cost : (net : Net) → Positive net.weights → (a b : Place) → Link (gridEdges net) a b → 1 ≤ costIn net a b
-link-cost net positive a b l = at (costIn net a b) refl
+pub link-cost : (net : Net) → Positive net.weights → (a b : Place) → Link (grid_edges net) a b → 1 ≤ cost_in net a b
+link-cost net positive a b l = at (cost_in net a b) refl
   where
-    at : (k : ℕ) → costIn net a b ≡ k → 1 ≤ costIn net a b
+    at : (k : ℕ) → cost_in net a b ≡ k → 1 ≤ cost_in net a b
     at zero f =
-        absurd (step-differs (xLines net) (yLines net) net.macros a b (link-grid net a b l) (cost-none net.weights positive a b f))
+        absurd (step-differs (x_lines net) (y_lines net) net.macros a b (link-grid net a b l) (cost-none net.weights positive a b f))
     at (suc k) f = omega (arith, f)
 
 -- the tables of a net's grid
 pub record Made (net : Net) (g : Grid) (xs ys : List ℤ) (costs : List ℕ) (e : ℕ) : Type 0 where
-  pub x-count : g.across ≡ length (xLines net)
-  pub y-count : g.along ≡ length (yLines net)
+  pub x-count : g.across ≡ length (x_lines net)
+  pub y-count : g.along ≡ length (y_lines net)
   pub few : FewLines g
-  pub x-at : (i : ℕ) → i < length (xLines net) → get_or xs i (pos 0) ≡ get_or (xLines net) i (pos 0)
-  pub y-at : (i : ℕ) → i < length (yLines net) → get_or ys i (pos 0) ≡ get_or (yLines net) i (pos 0)
-  pub count : e ≡ g.across * lineBound * 2
+  pub x-at : (i : ℕ) → i < length (x_lines net) → get_or xs i (pos 0) ≡ get_or (x_lines net) i (pos 0)
+  pub y-at : (i : ℕ) → i < length (y_lines net) → get_or ys i (pos 0) ≡ get_or (y_lines net) i (pos 0)
+  pub count : e ≡ g.across * line_bound * 2
   pub filled : CostsTo net.weights net.macros g xs ys e costs
 
 module _ (net : Net) (g : Grid) (xs ys : List ℤ) (costs : List ℕ) (e : ℕ) (made : Made net g xs ys costs e) where
   abbrev pub name : Place → ℕ
-  name = crossingNumber (xLines net) (yLines net)
+  name = crossing_number (x_lines net) (y_lines net)
 
   -- the crossing of two lines by their positions
   abbrev crossing : ℕ → ℕ → Place
-  crossing i j = place (get_or (xLines net) i (pos 0)) (get_or (yLines net) j (pos 0))
+  crossing i j = place (get_or (x_lines net) i (pos 0)) (get_or (y_lines net) j (pos 0))
 
-  name-at : (i j : ℕ) → i < length (xLines net) → j < length (yLines net) → name (crossing i j) ≡ i * lineBound + j
-  unfolding crossingNumber
+  name-at : (i j : ℕ) → i < length (x_lines net) → j < length (y_lines net) → name (crossing i j) ≡ i * line_bound + j
+  unfolding crossing_number
   name-at i j h k =
-      ap₂ (λ (a b : ℕ). a * lineBound + b)
-      (position_at lt_z line-order (xLines net) (x-ascending net) i (pos 0) h)
-      (position_at lt_z line-order (yLines net) (y-ascending net) j (pos 0) k)
+      ap₂ (λ (a b : ℕ). a * line_bound + b)
+      (position_at lt_z line-order (x_lines net) (x-ascending net) i (pos 0) h)
+      (position_at lt_z line-order (y_lines net) (y-ascending net) j (pos 0) k)
 
-  at-crossing : (v i j : ℕ) → v ≡ i * lineBound + j → i < length (xLines net) → j < length (yLines net) → crossingAt xs ys v ≡ crossing i j
+  at-crossing : (v i j : ℕ) → v ≡ i * line_bound + j → i < length (x_lines net) → j < length (y_lines net) → crossing_at xs ys v ≡ crossing i j
   at-crossing v i j e h k =
       let r = taken-apart v i j e (omega (arith, k, made.y-count, made.few.along)) in
       ap₂ place (ap (λ (n : ℕ). get_or xs n (pos 0)) r.0 ∙ made.x-at i h) (ap (λ (n : ℕ). get_or ys n (pos 0)) r.1 ∙ made.y-at j k)
@@ -125,15 +125,15 @@ module _ (net : Net) (g : Grid) (xs ys : List ℤ) (costs : List ℕ) (e : ℕ) 
     inside : k < e
     from_is : k / 2 ≡ name a
     to_is : target k ≡ name b
-    price : get_or costs k 0 ≡ segmentCost net.weights net.macros a b
+    price : get_or costs k 0 ≡ segment_cost net.weights net.macros a b
 
   module _ (i j : ℕ) where
-    even-facts : i + 1 < length (xLines net) → j < length (yLines net) → Facts ((i * lineBound + j) * 2) (crossing i j) (crossing (i + 1) j)
+    even-facts : i + 1 < length (x_lines net) → j < length (y_lines net) → Facts ((i * line_bound + j) * 2) (crossing i j) (crossing (i + 1) j)
     even-facts h l =
-        let k = (i * lineBound + j) * 2 in
-        let half : k / 2 ≡ i * lineBound + j = omega arith in
+        let k = (i * line_bound + j) * 2 in
+        let half : k / 2 ≡ i * line_bound + j = omega arith in
         let z : k % 2 ≡ 0 = omega arith in
-        let to : target k ≡ (i + 1) * lineBound + j = omega (arith, target-even k z, half) in
+        let to : target k ≡ (i + 1) * line_bound + j = omega (arith, target-even k z, half) in
         let inside : k < e = omega (arith, h, l, made.x-count, made.y-count, made.few.along, made.count) in
         let apart = taken-apart (k / 2) i j half (omega (arith, l, made.y-count, made.few.along)) in
         let there = even-segment g k z (omega (arith, h, apart.0, made.x-count)) (omega (arith, l, apart.1, made.y-count)) in
@@ -144,17 +144,17 @@ module _ (net : Net) (g : Grid) (xs ys : List ℤ) (costs : List ℕ) (e : ℕ) 
           price =
               made.filled.each k inside
               ∙ edge-there net.weights net.macros g xs ys k there
-              ∙ ap₂ (segmentCost net.weights net.macros) (at-crossing (k / 2) i j half (omega (arith, h)) l)
+              ∙ ap₂ (segment_cost net.weights net.macros) (at-crossing (k / 2) i j half (omega (arith, h)) l)
               (at-crossing (target k) (i + 1) j to h l);
         }
 
-    odd-facts : i < length (xLines net) → j + 1 < length (yLines net) → Facts ((i * lineBound + j) * 2 + 1) (crossing i j)
+    odd-facts : i < length (x_lines net) → j + 1 < length (y_lines net) → Facts ((i * line_bound + j) * 2 + 1) (crossing i j)
         (crossing i (j + 1))
     odd-facts h l =
-        let k = (i * lineBound + j) * 2 + 1 in
-        let half : k / 2 ≡ i * lineBound + j = omega arith in
+        let k = (i * line_bound + j) * 2 + 1 in
+        let half : k / 2 ≡ i * line_bound + j = omega arith in
         let z : k % 2 ≡ 0 → ⊥ = λ f. omega (arith, f) in
-        let to : target k ≡ i * lineBound + (j + 1) = omega (arith, target-odd k z, half) in
+        let to : target k ≡ i * line_bound + (j + 1) = omega (arith, target-odd k z, half) in
         let inside : k < e = omega (arith, h, l, made.x-count, made.y-count, made.few.along, made.count) in
         let apart = taken-apart (k / 2) i j half (omega (arith, l, made.y-count, made.few.along)) in
         let there = odd-segment g k z (omega (arith, h, apart.0, made.x-count)) (omega (arith, l, apart.1, made.y-count)) in
@@ -165,32 +165,32 @@ module _ (net : Net) (g : Grid) (xs ys : List ℤ) (costs : List ℕ) (e : ℕ) 
           price =
               made.filled.each k inside
               ∙ edge-there net.weights net.macros g xs ys k there
-              ∙ ap₂ (segmentCost net.weights net.macros) (at-crossing (k / 2) i j half h (omega (arith, l)))
+              ∙ ap₂ (segment_cost net.weights net.macros) (at-crossing (k / 2) i j half h (omega (arith, l)))
               (at-crossing (target k) i (j + 1) to h l);
         }
 
   -- From the tables to the grid
 
   abbrev On : Place → Bool
-  On = isCrossing (xLines net) (yLines net)
+  On = is_crossing (x_lines net) (y_lines net)
 
   abbrev pub NearGrid : ℕ → ℕ → ℕ → Type 0
-  NearGrid = NearOf (gridEdges net) (costIn net) unreached On name
+  NearGrid = NearOf (grid_edges net) (cost_in net) unreached On name
 
   -- a segment that costs something is clear
-  costs-clear : (a b : Place) → 1 ≤ segmentCost net.weights net.macros a b → clear a b net.macros ≡ true
+  costs-clear : (a b : Place) → 1 ≤ segment_cost net.weights net.macros a b → clear a b net.macros ≡ true
   costs-clear a b h =
       by (clear a b net.macros) (λ f. f)
       (λ f. let z : ⊥ = omega (arith, h, segment-met net.weights net.macros a b f) in absurd z)
 
-  facts-near : (k v w c : ℕ) (a b : Place) → Facts k a b → (clear a b net.macros ≡ true → Link (gridEdges net) a b) →
+  facts-near : (k v w c : ℕ) (a b : Place) → Facts k a b → (clear a b net.macros ≡ true → Link (grid_edges net) a b) →
       Reads costs e k v w c → NearGrid v w c
   facts-near k v w c a b f link r = at r.ends
     where
       free : clear a b net.macros ≡ true
       free = costs-clear a b (omega (arith, f.price, r.is))
 
-      price : c ≡ costIn net a b
+      price : c ≡ cost_in net a b
       price = r.price ∙ f.price ∙ segment-clear net.weights net.macros a b free
 
       at : ((v ≡ k / 2) × (w ≡ target k)) ⊎ ((v ≡ target k) × (w ≡ k / 2)) → NearGrid v w c
@@ -205,47 +205,47 @@ module _ (net : Net) (g : Grid) (xs ys : List ℤ) (costs : List ℕ) (e : ℕ) 
       }
 
   module _ (v w c i j : ℕ) where
-    even-near : i + 1 < length (xLines net) → j < length (yLines net) → Reads costs e ((i * lineBound + j) * 2) v w c → NearGrid v w c
+    even-near : i + 1 < length (x_lines net) → j < length (y_lines net) → Reads costs e ((i * line_bound + j) * 2) v w c → NearGrid v w c
     even-near h l s =
-        facts-near ((i * lineBound + j) * 2) v w c (crossing i j) (crossing (i + 1) j) (even-facts i j h l)
+        facts-near ((i * line_bound + j) * 2) v w c (crossing i j) (crossing (i + 1) j) (even-facts i j h l)
         (λ free. grid-link net (crossing i j) (crossing (i + 1) j)
-        (across (inl (of-nexts (xLines net) (x-ascending net) _ _ (next-at (xLines net) i h))) refl
-        (getD-in (yLines net) j (pos 0) l) free)) s
+        (across (inl (of-nexts (x_lines net) (x-ascending net) _ _ (next-at (x_lines net) i h))) refl
+        (get_d-in (y_lines net) j (pos 0) l) free)) s
 
-    odd-near : i < length (xLines net) → j + 1 < length (yLines net) → Reads costs e ((i * lineBound + j) * 2 + 1) v w c → NearGrid v w c
+    odd-near : i < length (x_lines net) → j + 1 < length (y_lines net) → Reads costs e ((i * line_bound + j) * 2 + 1) v w c → NearGrid v w c
     odd-near h l s =
-        facts-near ((i * lineBound + j) * 2 + 1) v w c (crossing i j) (crossing i (j + 1)) (odd-facts i j h l)
+        facts-near ((i * line_bound + j) * 2 + 1) v w c (crossing i j) (crossing i (j + 1)) (odd-facts i j h l)
         (λ free. grid-link net (crossing i j) (crossing i (j + 1))
-        (along (inl (of-nexts (yLines net) (y-ascending net) _ _ (next-at (yLines net) j l))) refl
-        (getD-in (xLines net) i (pos 0) h) free)) s
+        (along (inl (of-nexts (y_lines net) (y-ascending net) _ _ (next-at (y_lines net) j l))) refl
+        (get_d-in (x_lines net) i (pos 0) h) free)) s
 
   pub near-grid : (v w c : ℕ) → Near costs e v w c → NearGrid v w c
   near-grid v w c (k, (inside, r)) = at (ℕ_discrete (k % 2) 0)
     where
-      there : isSegment g k ≡ true
+      there : is_segment g k ≡ true
       there =
-          by (isSegment g k) (λ f. f)
+          by (is_segment g k) (λ f. f)
           (λ f. let z : ⊥ = omega (arith, r.is, made.filled.each k inside, edge_none net.weights net.macros g xs ys k f) in
           absurd z)
 
       at : Dec (k % 2 ≡ 0) → NearGrid v w c
       at (yes z) =
           let s = (segment-inside g k there).even z in
-          let n : k ≡ (k / 2 / lineBound * lineBound + k / 2 % lineBound) * 2 = omega (arith, z) in
-          even-near v w c (k / 2 / lineBound) (k / 2 % lineBound) (omega (arith, s, made.x-count)) (omega (arith, s, made.y-count))
+          let n : k ≡ (k / 2 / line_bound * line_bound + k / 2 % line_bound) * 2 = omega (arith, z) in
+          even-near v w c (k / 2 / line_bound) (k / 2 % line_bound) (omega (arith, s, made.x-count)) (omega (arith, s, made.y-count))
           (subst (λ (m : ℕ). Reads costs e m v w c) n r)
       at (no z) =
           let s = (segment-inside g k there).odd z in
-          let n : k ≡ (k / 2 / lineBound * lineBound + k / 2 % lineBound) * 2 + 1 = omega (arith, z) in
-          odd-near v w c (k / 2 / lineBound) (k / 2 % lineBound) (omega (arith, s, made.x-count)) (omega (arith, s, made.y-count))
+          let n : k ≡ (k / 2 / line_bound * line_bound + k / 2 % line_bound) * 2 + 1 = omega (arith, z) in
+          odd-near v w c (k / 2 / line_bound) (k / 2 % line_bound) (omega (arith, s, made.x-count)) (omega (arith, s, made.y-count))
           (subst (λ (m : ℕ). Reads costs e m v w c) n r)
 
   -- And back
 
-  facts-reads : (k : ℕ) (a b c d : Place) → Facts k c d → a ≡ c → b ≡ d → clear a b net.macros ≡ true → 1 ≤ costIn net a b →
-      Near costs e (name a) (name b) (costIn net a b)
+  facts-reads : (k : ℕ) (a b c d : Place) → Facts k c d → a ≡ c → b ≡ d → clear a b net.macros ≡ true → 1 ≤ cost_in net a b →
+      Near costs e (name a) (name b) (cost_in net a b)
   facts-reads k a b c d f g h free some =
-      let price : get_or costs k 0 ≡ costIn net a b = rw (g, h)
+      let price : get_or costs k 0 ≡ cost_in net a b = rw (g, h)
       (f.price ∙ segment-clear net.weights net.macros c d (rw (g, h) at free)) in (
         k,
         (
@@ -267,37 +267,37 @@ module _ (net : Net) (g : Grid) (xs ys : List ℤ) (costs : List ℕ) (e : ℕ) 
       at (inr s) = inl (s.1, s.0)
 
   module _ (positive : Positive net.weights) where
-    up-across : (a b : Place) → Neighbours (xLines net) a.x b.x → a.y ≡ b.y → a.y ∈ yLines net → clear a b net.macros ≡ true →
-        1 ≤ costIn net a b → Near costs e (name a) (name b) (costIn net a b)
+    up-across : (a b : Place) → Neighbours (x_lines net) a.x b.x → a.y ≡ b.y → a.y ∈ y_lines net → clear a b net.macros ≡ true →
+        1 ≤ cost_in net a b → Near costs e (name a) (name b) (cost_in net a b)
     up-across a b n f m free some =
-        let p = of-next (xLines net) a.x b.x (in-nexts (xLines net) (x-ascending net) a.x b.x n) in
-        let j = position lt_z (yLines net) a.y in
-        let y = at_position lt_z line-order (yLines net) (y-ascending net) a.y (pos 0) m in
-        facts-reads ((p.number * lineBound + j) * 2) a b (crossing p.number j) (crossing (p.number + 1) j)
-        (even-facts p.number j (omega (arith, p.inside)) (position-small lt_z line-order (yLines net) (y-ascending net) a.y m))
-        (ap₂ place p.first (sym y)) (ap₂ place (p.second ∙ ap (λ (n : ℕ). get_or (xLines net) n (pos 0)) (sym (add-one p.number)))
+        let p = of-next (x_lines net) a.x b.x (in-nexts (x_lines net) (x-ascending net) a.x b.x n) in
+        let j = position lt_z (y_lines net) a.y in
+        let y = at_position lt_z line-order (y_lines net) (y-ascending net) a.y (pos 0) m in
+        facts-reads ((p.number * line_bound + j) * 2) a b (crossing p.number j) (crossing (p.number + 1) j)
+        (even-facts p.number j (omega (arith, p.inside)) (position-small lt_z line-order (y_lines net) (y-ascending net) a.y m))
+        (ap₂ place p.first (sym y)) (ap₂ place (p.second ∙ ap (λ (n : ℕ). get_or (x_lines net) n (pos 0)) (sym (add-one p.number)))
         (sym (y ∙ f))) free some
 
-    up-along : (a b : Place) → Neighbours (yLines net) a.y b.y → a.x ≡ b.x → a.x ∈ xLines net → clear a b net.macros ≡ true →
-        1 ≤ costIn net a b → Near costs e (name a) (name b) (costIn net a b)
+    up-along : (a b : Place) → Neighbours (y_lines net) a.y b.y → a.x ≡ b.x → a.x ∈ x_lines net → clear a b net.macros ≡ true →
+        1 ≤ cost_in net a b → Near costs e (name a) (name b) (cost_in net a b)
     up-along a b n f m free some =
-        let p = of-next (yLines net) a.y b.y (in-nexts (yLines net) (y-ascending net) a.y b.y n) in
-        let i = position lt_z (xLines net) a.x in
-        let x = at_position lt_z line-order (xLines net) (x-ascending net) a.x (pos 0) m in
-        facts-reads ((i * lineBound + p.number) * 2 + 1) a b (crossing i p.number) (crossing i (p.number + 1))
-        (odd-facts i p.number (position-small lt_z line-order (xLines net) (x-ascending net) a.x m) (omega (arith, p.inside)))
+        let p = of-next (y_lines net) a.y b.y (in-nexts (y_lines net) (y-ascending net) a.y b.y n) in
+        let i = position lt_z (x_lines net) a.x in
+        let x = at_position lt_z line-order (x_lines net) (x-ascending net) a.x (pos 0) m in
+        facts-reads ((i * line_bound + p.number) * 2 + 1) a b (crossing i p.number) (crossing i (p.number + 1))
+        (odd-facts i p.number (position-small lt_z line-order (x_lines net) (x-ascending net) a.x m) (omega (arith, p.inside)))
         (ap₂ place (sym x) p.first) (ap₂ place (sym (x ∙ f))
-        (p.second ∙ ap (λ (n : ℕ). get_or (yLines net) n (pos 0)) (sym (add-one p.number)))) free some
+        (p.second ∙ ap (λ (n : ℕ). get_or (y_lines net) n (pos 0)) (sym (add-one p.number)))) free some
 
-    step-near : (a b : Place) → GridStep (xLines net) (yLines net) net.macros a b → 1 ≤ costIn net a b →
-        Near costs e (name a) (name b) (costIn net a b)
+    step-near : (a b : Place) → GridStep (x_lines net) (y_lines net) net.macros a b → 1 ≤ cost_in net a b →
+        Near costs e (name a) (name b) (cost_in net a b)
     step-near a b (across (inl n) f m free) some = up-across a b n f m free some
     step-near a b (across (inr n) f m free) some =
-        near-turn (name b) (name a) (costIn net b a) (costIn net a b) (cost-comm net.weights b a)
+        near-turn (name b) (name a) (cost_in net b a) (cost_in net a b) (cost-comm net.weights b a)
         (up-across b a n (sym f) (rw (← f) m) (clear_comm b a net.macros ∙ free) (omega (arith, some, cost-comm net.weights b a)))
     step-near a b (along (inl n) f m free) some = up-along a b n f m free some
     step-near a b (along (inr n) f m free) some =
-        near-turn (name b) (name a) (costIn net b a) (costIn net a b) (cost-comm net.weights b a)
+        near-turn (name b) (name a) (cost_in net b a) (cost_in net a b) (cost-comm net.weights b a)
         (up-along b a n (sym f) (rw (← f) m) (clear_comm b a net.macros ∙ free) (omega (arith, some, cost-comm net.weights b a)))
 
     pub grid-near : (v w c : ℕ) → NearGrid v w c → Near costs e v w c

@@ -7,32 +7,32 @@ use Rattle.joined.specs.Way.{Way, long}
 use Rattle.lent.specs.Over.{over}
 use Rattle.plane.specs.declared.Place.{Place}
 use Rattle.plane.specs.Place.{place, before}
-use Rattle.net.specs.Net.{Net, costIn}
+use Rattle.net.specs.Net.{Net, cost_in}
 use Rattle.graph.specs.Spanning.{spanning}
 use Rattle.grid.specs.Walk.{Walk}
 use Rattle.lines.specs.Lines.{UnitStep}
-use Rattle.lines.specs.Edges.{gridEdges}
+use Rattle.lines.specs.Edges.{grid_edges}
 
 -- L5: n is the cheapest cost of p and q along the grid: a way along its edges costs just that, and none costs less
 pub record GridDistance (net : Net) (p q : Place) (n : ℕ) : Type 0 where
   pub points : List Place
-  pub way : Way (gridEdges net) p points q
-  pub costs : long (costIn net) p points ≡ n
-  pub least : (qs : List Place) → Way (gridEdges net) p qs q → n ≤ long (costIn net) p qs
+  pub way : Way (grid_edges net) p points q
+  pub costs : long (cost_in net) p points ≡ n
+  pub least : (qs : List Place) → Way (grid_edges net) p qs q → n ≤ long (cost_in net) p qs
 
 -- L7: and it is true: a walk in unit steps, each clear of the interiors, costs just that, and none costs less
 pub record TrueDistance (net : Net) (p q : Place) (n : ℕ) : Type 0 where
   pub points : List Place
   pub walk : Walk (UnitStep net.macros) p points q
-  pub costs : long (costIn net) p points ≡ n
-  pub least : (qs : List Place) → Walk (UnitStep net.macros) p qs q → n ≤ long (costIn net) p qs
+  pub costs : long (cost_in net) p points ≡ n
+  pub least : (qs : List Place) → Walk (UnitStep net.macros) p qs q → n ≤ long (cost_in net) p qs
 
 -- L6: the pins in the order of places
-abbrev pub pinsInOrder : Net → List Place
-pinsInOrder net = sorted before net.pins
+abbrev pub pins_in_order : Net → List Place
+pins_in_order net = sorted before net.pins
 
-abbrev pub pinInOrder : Net → ℕ → Place
-pinInOrder net i = get_or (pinsInOrder net) i (place (pos 0) (pos 0))
+abbrev pub pin_in_order : Net → ℕ → Place
+pin_in_order net i = get_or (pins_in_order net) i (place (pos 0) (pos 0))
 
 -- the number at i·m + j of a table of m numbers a row
 abbrev pub entry_at : Net → List ℕ → ℕ → ℕ → ℕ
@@ -42,7 +42,7 @@ entry_at net numbers i j = get_or numbers (i * length net.pins + j) 0
 pub record Rows (net : Net) (r : ℕ) (numbers : List ℕ) : Type 0 where
   pub size : length numbers ≡ r * length net.pins
   pub each : (i j : ℕ) → i < r → j < length net.pins →
-      GridDistance net (pinInOrder net i) (pinInOrder net j) (entry_at net numbers i j)
+      GridDistance net (pin_in_order net i) (pin_in_order net j) (entry_at net numbers i j)
 
 -- L6: the square table of a net
 abbrev pub Square : Net → List ℕ → Type 0
@@ -58,12 +58,12 @@ pub record SquareOver (net : Net) (lent lent' : List ℤ) : Type 0 where
 pub record TrueSquare (net : Net) (numbers : List ℕ) : Type 0 where
   -- no walk in clear unit steps joins two pins for less, and one costs just that
   pub each : (i j : ℕ) → i < length net.pins → j < length net.pins →
-      TrueDistance net (pinInOrder net i) (pinInOrder net j) (entry_at net numbers i j)
+      TrueDistance net (pin_in_order net i) (pin_in_order net j) (entry_at net numbers i j)
   -- the same both ways, with 0 from each pin to itself
   pub even : (i j : ℕ) → i < length net.pins → j < length net.pins → entry_at net numbers i j ≡ entry_at net numbers j i
   pub diagonal : (i : ℕ) → i < length net.pins → entry_at net numbers i i ≡ 0
   -- a way along the spanning graph is never cheaper
   pub graph : (i j : ℕ) → i < length net.pins → j < length net.pins → (ps : List Place) →
-      Way (spanning net) (pinInOrder net i) ps (pinInOrder net j) → entry_at net numbers i j ≤ long (costIn net) (pinInOrder net i) ps
+      Way (spanning net) (pin_in_order net i) ps (pin_in_order net j) → entry_at net numbers i j ≤ long (cost_in net) (pin_in_order net i) ps
   -- each two pins are joined along the grid
-  pub joined : (p q : Place) → p ∈ net.pins → q ∈ net.pins → Joined (gridEdges net) p q
+  pub joined : (p q : Place) → p ∈ net.pins → q ∈ net.pins → Joined (grid_edges net) p q

@@ -11,13 +11,13 @@
 --   Walk       Walk R x ps y, Within, Exactly            from x through ps to y, each step in R; of at most a cost, and of just a cost
 --   Rows       lowered, Held, Quiet                      one number lowered; what became of a row; nothing is left to lower
 --   Nearest    Nearest G d cap p t                       a settled table of distances to p
---   Tables     target, isSegment, edgeCost, CostsTo      segments by number, and what they cost: 0 where there is no edge
+--   Tables     target, is_segment, edge_cost, CostsTo      segments by number, and what they cost: 0 where there is no edge
 --              Row, Starts, Fits, Near                   what the program asks of its tables
 --              Lowered, Onward, Backward, Passed          one edge asked; the edges of a pass on or back, and what it comes to
 --              Settled, RowPut, RowsOver                 a number of a settled row; rows in a lent list
 --   Distance   GridDistance net p q n                    n is the cheapest cost along the grid
 --              TrueDistance net p q n                    n is the cheapest cost of walks in clear unit steps
---              pinsInOrder, entryAt, Square              the pins in the order of places, and the square table
+--              pins_in_order, entry_at, Square              the pins in the order of places, and the square table
 --              SquareOver net lent lent'                 such a table at the front of a lent list
 --              TrueSquare net numbers                    what is promised of it
 pub mod Walk

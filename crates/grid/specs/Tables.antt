@@ -10,56 +10,56 @@ use Rattle.plane.specs.declared.Weights.{Weights}
 use Rattle.plane.specs.Place.{place}
 use Rattle.plane.specs.Cost.{cost}
 use Rattle.plane.specs.Macro.{clear}
-use Rattle.net.specs.Bounds.{costBound}
+use Rattle.net.specs.Bounds.{cost_bound}
 use Rattle.lines.specs.declared.Grid.{Grid}
-use Rattle.lines.specs.Bounds.{lineBound, crossingBound, segmentBound, unreached}
+use Rattle.lines.specs.Bounds.{line_bound, crossing_bound, segment_bound, unreached}
 use Rattle.grid.specs.Rows.{at, lowered, Held, Quiet}
 
 -- Segments
 
 -- the place of a crossing, by the tables of lines
-abbrev pub crossingAt : List ℤ → List ℤ → ℕ → Place
-crossingAt xs ys v = place (get_or xs (v / lineBound) (pos 0)) (get_or ys (v % lineBound) (pos 0))
+abbrev pub crossing_at : List ℤ → List ℤ → ℕ → Place
+crossing_at xs ys v = place (get_or xs (v / line_bound) (pos 0)) (get_or ys (v % line_bound) (pos 0))
 
 -- the crossing that a segment leads to, and whether both its ends are within the lines
 unfoldable pub target : ℕ → ℕ
-target k = elim (eqb (k % 2) 0) [ true ↦ k / 2 + lineBound | false ↦ k / 2 + 1 ]
+target k = elim (eqb (k % 2) 0) [ true ↦ k / 2 + line_bound | false ↦ k / 2 + 1 ]
 
-unfoldable pub isSegment : Grid → ℕ → Bool
-isSegment g k =
+unfoldable pub is_segment : Grid → ℕ → Bool
+is_segment g k =
     elim (eqb (k % 2) 0) [
-      | true ↦ ltb (k / 2 / lineBound + 1) g.across && ltb (k / 2 % lineBound) g.along
-      | false ↦ ltb (k / 2 / lineBound) g.across && ltb (k / 2 % lineBound + 1) g.along
+      | true ↦ ltb (k / 2 / line_bound + 1) g.across && ltb (k / 2 % line_bound) g.along
+      | false ↦ ltb (k / 2 / line_bound) g.across && ltb (k / 2 % line_bound + 1) g.along
     ]
 
 -- what the segment of two places costs, 0 where it meets an interior
-unfoldable pub segmentCost : Weights → List Macro → Place → Place → ℕ
-segmentCost w ms a b = elim (clear a b ms) [ true ↦ cost w a b | false ↦ 0 ]
+unfoldable pub segment_cost : Weights → List Macro → Place → Place → ℕ
+segment_cost w ms a b = elim (clear a b ms) [ true ↦ cost w a b | false ↦ 0 ]
 
-unfoldable pub edgeCost : Weights → List Macro → Grid → List ℤ → List ℤ → ℕ → ℕ
-edgeCost w ms g xs ys k =
-    elim (isSegment g k) [ true ↦ segmentCost w ms (crossingAt xs ys (k / 2)) (crossingAt xs ys (target k)) | false ↦ 0 ]
+unfoldable pub edge_cost : Weights → List Macro → Grid → List ℤ → List ℤ → ℕ → ℕ
+edge_cost w ms g xs ys k =
+    elim (is_segment g k) [ true ↦ segment_cost w ms (crossing_at xs ys (k / 2)) (crossing_at xs ys (target k)) | false ↦ 0 ]
 
 -- no segment between crossings costs more than metal between two places of an allowed net
 abbrev pub Priced : Weights → List ℤ → List ℤ → Type 0
-Priced w xs ys = (u v : ℕ) → cost w (crossingAt xs ys u) (crossingAt xs ys v) ≤ costBound
+Priced w xs ys = (u v : ℕ) → cost w (crossing_at xs ys u) (crossing_at xs ys v) ≤ cost_bound
 
 -- the first n numbers of a table of costs
 pub record CostsTo (w : Weights) (ms : List Macro) (g : Grid) (xs ys : List ℤ) (n : ℕ) (t : List ℕ) : Type 0 where
-  pub each : (k : ℕ) → k < n → get_or t k 0 ≡ edgeCost w ms g xs ys k
+  pub each : (k : ℕ) → k < n → get_or t k 0 ≡ edge_cost w ms g xs ys k
 
 -- Rows
 
 -- a row has a number for each crossing, none above the one for no way
 pub record Row (t : List ℕ) : Type 0 where
-  pub size : length t ≡ crossingBound
+  pub size : length t ≡ crossing_bound
   pub low : (v : ℕ) → at t v ≤ unreached
 
 -- the row that a crossing starts with: 0 there, and no way elsewhere
 pub record Starts (q : ℕ) (t : List ℕ) : Type 0 where
   pub row : Row t
   pub here : at t q ≡ 0
-  pub elsewhere : (v : ℕ) → v < crossingBound → (v ≡ q → ⊥) → at t v ≡ unreached
+  pub elsewhere : (v : ℕ) → v < crossing_bound → (v ≡ q → ⊥) → at t v ≡ unreached
 
 -- what asking one edge does to a row, from t to u, and whether it changed it: v is lowered by w; nothing where there is no edge
 abbrev pub Lowered : ℕ → ℕ → ℕ → List ℕ → Bool → List ℕ → Type 0
@@ -70,9 +70,9 @@ Lowered v w c t m u =
 module _ (costs : List ℕ) (e : ℕ) where
   -- what is asked of them: two a crossing; segments lead to crossings, and cost no more than all edges do
   pub record Fits : Type 0 where
-    pub count : e ≤ segmentBound
+    pub count : e ≤ segment_bound
     pub even : e % 2 ≡ 0
-    pub ends : (k : ℕ) → k < e → 1 ≤ get_or costs k 0 → target k < crossingBound
+    pub ends : (k : ℕ) → k < e → 1 ≤ get_or costs k 0 → target k < crossing_bound
     pub low : (k : ℕ) → k < e → get_or costs k 0 ≤ unreached
 
   -- segment k is an edge and, read one way or the other, leads from v to w at cost c

@@ -11,7 +11,7 @@ use Rattle.lists.specs.Member.{◌∈◌}
 use Rattle.lists.proofs.TestLaws.{by, either}
 use Rattle.lists.proofs.MemberLaws.{is-in}
 use Rattle.signed.specs.Sides.{Lt}
-use Rattle.joined.specs.Pairs.{Each, movedPair}
+use Rattle.joined.specs.Pairs.{Each, moved_pair}
 use Rattle.joined.specs.Cost.{lengths}
 use Rattle.joined.proofs.JoinedLaws.{between}
 use Rattle.joined.proofs.PairLaws.{moved-each, moved-joined}
@@ -24,12 +24,12 @@ use Rattle.lines.specs.Lines.{Sides, Crossing, Neighbours}
 use Rattle.lines.specs.Edges.{Edge}
 use Rattle.lines.proofs.LineLaws.{line_same, About}
 use Rattle.lines.proofs.StepLaws.{sides-among}
-use Rattle.grid_hanan.specs.Balance.{goesUp}
+use Rattle.grid_hanan.specs.Balance.{goes_up}
 use Rattle.grid_hanan.proofs.InsteadLaws.{Instead, instead-same, instead-then}
 use Rattle.grid_hanan.proofs.NextLines.{differs, one_below, one-above, not-it, next-below, next-above}
 use Rattle.grid_hanan.proofs.NextLines.{off-line, about-below, about-above}
 use Rattle.grid_hanan.proofs.OneLine.{shifted-line}
-use Rattle.grid_hanan.proofs.StepLaws.{Kept, shiftedPlace, kept-shifted, line-twice}
+use Rattle.grid_hanan.proofs.StepLaws.{Kept, shifted_place, kept-shifted, line-twice}
 use Rattle.grid_hanan.proofs.ShiftCost.{up-no-dearer, down-no-dearer, even-all, drawn-all}
 
 -- edges along these lines, and points, that join what F joins of their crossings, for no more
@@ -42,16 +42,16 @@ module _ (ys : List ℤ) (ms : List Macro) (w : Weights) where
   module _ (c : ℤ) (xs : List ℤ) (sides : Sides xs ys ms) (F : List Edge) (k : Each (Kept (c ∷ xs) ys ms) F) where
     module _ (fresh : c ∈ xs → ⊥) where
       -- c has gone to t
-      gone-to : (t : ℤ) → About xs t c → lengths (cost w) (map (movedPair (shiftedPlace c t)) F) ≤ lengths (cost w) F →
+      gone-to : (t : ℤ) → About xs t c → lengths (cost w) (map (moved_pair (shifted_place c t)) F) ≤ lengths (cost w) F →
           Thinned xs ys ms w F
       gone-to t about l = record {
-        edges = map (movedPair (shiftedPlace c t)) F;
-        each = moved-each (shiftedPlace c t) F (Kept (c ∷ xs) ys ms) (Kept xs ys ms) (kept-shifted xs ys ms sides c t fresh about) k;
-        joins = λ p q i j h. between (sym (still p i)) (sym (still q j)) (moved-joined (shiftedPlace c t) F h);
+        edges = map (moved_pair (shifted_place c t)) F;
+        each = moved-each (shifted_place c t) F (Kept (c ∷ xs) ys ms) (Kept xs ys ms) (kept-shifted xs ys ms sides c t fresh about) k;
+        joins = λ p q i j h. between (sym (still p i)) (sym (still q j)) (moved-joined (shifted_place c t) F h);
         costs = l;
       }
         where
-          still : (p : Place) → Crossing xs ys p → shiftedPlace c t p ≡ p
+          still : (p : Place) → Crossing xs ys p → shifted_place c t p ≡ p
           still p i = ap₂ place (shifted-line xs c t fresh about p.x i.across) refl
 
       -- to the side with more edges, or to the only side that has lines
@@ -59,7 +59,7 @@ module _ (ys : List ℤ) (ms : List Macro) (w : Weights) where
           ((b : ℤ) × Neighbours (c ∷ xs) c b) ⊎ ((y : ℤ) → y ∈ xs → Lt c y → ⊥) → Thinned xs ys ms w F
       goes z i (inl (a, low)) (inl (b, high)) =
           let even = even-all xs ys ms w c a b low high F k in
-          by (goesUp even)
+          by (goes_up even)
           (λ e. gone-to b (about-above xs c fresh b high) (up-no-dearer even e))
           (λ e. gone-to a (about-below xs c fresh a low) (down-no-dearer even e))
       goes z i (inl (a, low)) (inr none) =

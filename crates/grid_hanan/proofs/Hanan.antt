@@ -13,7 +13,7 @@ use Rattle.lists.specs.Member.{◌∈◌, here, there}
 use Rattle.lists.specs.Total.{total}
 use Rattle.lists.proofs.TestLaws.{by, either}
 use Rattle.lists.proofs.MapLaws.{in_map}
-use Rattle.signed.proofs.SideLaws.{ltZ-true, signed}
+use Rattle.signed.proofs.SideLaws.{z_lt-true, signed}
 use Rattle.joined.specs.Joined.{Link, stay}
 use Rattle.joined.specs.Pairs.{Each}
 use Rattle.joined.specs.Cost.{lengths}
@@ -24,9 +24,9 @@ use Rattle.plane.specs.declared.Macro.{Macro}
 use Rattle.plane.specs.declared.Weights.{Weights}
 use Rattle.plane.specs.Distance.{apart}
 use Rattle.plane.proofs.DistanceLaws.{apart-comm, apart-ordered}
-use Rattle.net.specs.Net.{Net, costIn}
-use Rattle.lines.specs.Lines.{xLines, yLines, Sides, Crossing, Beside, GridStep, across, along, UnitStep}
-use Rattle.lines.specs.Edges.{Edge, gridEdges}
+use Rattle.net.specs.Net.{Net, cost_in}
+use Rattle.lines.specs.Lines.{x_lines, y_lines, Sides, Crossing, Beside, GridStep, across, along, UnitStep}
+use Rattle.lines.specs.Edges.{Edge, grid_edges}
 use Rattle.lines.proofs.AxisLaws.{unit-axes}
 use Rattle.lines.proofs.StepLaws.{sides-among}
 use Rattle.lines.proofs.EdgeLaws.{lines-sides, pin-crossing, grid-link}
@@ -69,7 +69,7 @@ unit-beside L u v i j e =
     (λ l. inl record {
       first = i;
       second = j;
-      rise = ltZ-true u v l;
+      rise = z_lt-true u v l;
       none = λ c m h k. omega (signed, h, k, e, apart-ordered u v (omega (signed, l)));
     })
     (λ l. let r = apart-ordered v u (omega (signed, l)) in inr record {
@@ -112,21 +112,21 @@ gridded xs ys ms w s o c U u =
     (λ p h. record { across = h.across; along = Memᴰ.append_right fs h.along }) (λ p h. h)
 
 -- L17: and for a net
-pub hanan : (net : Net) (U : List Edge) → UnitMetal net U → GridMetal net (lengths (costIn net) U)
+pub hanan : (net : Net) (U : List Edge) → UnitMetal net U → GridMetal net (lengths (cost_in net) U)
 unfolding lengths total
 hanan net U m = at net.pins refl
   where
-    at : (l : List Place) → net.pins ≡ l → GridMetal net (lengths (costIn net) U)
+    at : (l : List Place) → net.pins ≡ l → GridMetal net (lengths (cost_in net) U)
     at [] e = record {
       edges = [];
-      on-grid = each_none (Link (gridEdges net));
+      on-grid = each_none (Link (grid_edges net));
       joins = λ p q i. let j : p ∈ [] = rw e at i in elim j [ ];
       within = omega arith;
     }
     at (o ∷ l) e =
         let first : o ∈ net.pins = rw e (here refl) in
         let c = pin-crossing net o first in
-        let g = gridded (xLines net) (yLines net) net.macros net.weights (lines-sides net) o c U m.units in
+        let g = gridded (x_lines net) (y_lines net) net.macros net.weights (lines-sides net) o c U m.units in
         record {
           edges = g.edges;
           on-grid = λ a b i. grid-link net a b (g.each a b i);

@@ -6,7 +6,7 @@ use mathlib.Core.Path.{◌≡◌, refl}
 use mathlib.Core.Logic.{inl}
 use mathlib.Core.List.Memᴰ
 use mathlib.Core.List.{List, [], ◌∷◌, ◌++◌}
-use Prim.Native.Nat.{ℕ, ◌≤◌}
+use Prim.Native.Nat.{ℕ, ◌+◌, ◌≤◌}
 use native.Mathlib.Omega.{arith}
 use Rattle.lists.specs.Member.{here, there}
 use Rattle.lists.specs.Total.{total}
@@ -22,13 +22,13 @@ use Rattle.plane.specs.declared.Place.{Place}
 use Rattle.plane.specs.declared.Macro.{Macro}
 use Rattle.plane.specs.declared.Weights.{Weights}
 use Rattle.plane.specs.Cost.{cost}
-use Rattle.net.specs.Net.{Net, costIn}
-use Rattle.lines.specs.Lines.{xLines, yLines, UnitStep, ClearStep}
-use Rattle.lines.specs.Edges.{Edge, gridEdges}
+use Rattle.net.specs.Net.{Net, cost_in}
+use Rattle.lines.specs.Lines.{x_lines, y_lines, UnitStep, ClearStep}
+use Rattle.lines.specs.Edges.{Edge, grid_edges}
 use Rattle.lines.proofs.EdgeLaws.{link-grid}
 use Rattle.grid.specs.Walk.{Walk, stop, go}
 use Rattle.grid.proofs.BoxWalk.{box-walk, grid-clear}
-use Rattle.grid_hanan.specs.Metal.{UnitMetal, NoCheaper, LeastMetal}
+use Rattle.grid_hanan.specs.Metal.{UnitMetal, LeastMetal}
 use Rattle.grid_hanan.proofs.InsteadLaws.{Instead, Anywhere, instead-same}
 use Rattle.grid_hanan.proofs.Hanan.{hanan}
 
@@ -66,7 +66,7 @@ in-units ms w ((p, q) ∷ T) c =
 
 module _ (net : Net) where
   abbrev price : Place → Place → ℕ
-  price = costIn net
+  price = cost_in net
 
   -- clear edges that join all pins, as metal that costs no more
   pub metal-of : (T : List Edge) → Each (ClearStep net.macros) T → Joins net.pins T →
@@ -77,25 +77,25 @@ module _ (net : Net) where
 
   -- clear edges that join all pins, if no metal costs less, are the cheapest
   pub clear-least : (T : List Edge) → Each (ClearStep net.macros) T → Joins net.pins T →
-      NoCheaper net (lengths price T) → LeastMetal net (lengths price T)
+      ((U : List Edge) → UnitMetal net U → lengths price T ≤ lengths price U) → LeastMetal net (lengths price T)
   clear-least T c j least =
       let r = metal-of T c j in
       record { metal = r.0; is-metal = r.1.0; costs = omega (arith, r.1.1, least r.0 r.1.0); least = least }
 
   -- edges of the grid that join all pins, if none do for less, are the cheapest of all metal: for any number of pins
-  pub grid-least : (O : List Edge) → Each (Link (gridEdges net)) O → Joins net.pins O →
-      ((F : List Edge) → Each (Link (gridEdges net)) F → Joins net.pins F → lengths price O ≤ lengths price F) →
+  pub grid-least : (O : List Edge) → Each (Link (grid_edges net)) O → Joins net.pins O →
+      ((F : List Edge) → Each (Link (grid_edges net)) F → Joins net.pins F → lengths price O ≤ lengths price F) →
       LeastMetal net (lengths price O)
   grid-least O on j least =
       clear-least O
-      (λ a b m. grid-clear net.macros net.weights (xLines net) (yLines net) a b (link-grid net a b (on a b m))) j
+      (λ a b m. grid-clear net.macros net.weights (x_lines net) (y_lines net) a b (link-grid net a b (on a b m))) j
       (λ U m. let g = hanan net U m in omega (arith, least g.edges g.on-grid g.joins, g.within))
 
-  -- where no metal costs less, no tree of clear edges does, wherever its points lie
-  pub tree-not-cheaper : {n : ℕ} → NoCheaper net n → (T : List Edge) → Each (ClearStep net.macros) T → Joins net.pins T →
-      n ≤ lengths price T
-  tree-not-cheaper least T c j = let r = metal-of T c j in omega (arith, least r.0 r.1.0, r.1.1)
+  module _ {n : ℕ} (l : LeastMetal net n) where
+    -- no tree of clear edges costs less, wherever its points lie
+    pub tree-not-cheaper : (T : List Edge) → Each (ClearStep net.macros) T → Joins net.pins T → n ≤ lengths price T
+    tree-not-cheaper T c j = let r = metal-of T c j in omega (arith, l.least r.0 r.1.0, r.1.1)
 
-  -- the cheapest is one number
-  pub least-alike : {n k : ℕ} → LeastMetal net n → LeastMetal net k → n ≡ k
-  least-alike l o = omega (arith, l.least o.metal o.is-metal, o.least l.metal l.is-metal, l.costs, o.costs)
+    -- one number only
+    pub least-alike : {k : ℕ} → LeastMetal net k → n ≡ k
+    least-alike o = omega (arith, l.least o.metal o.is-metal, o.least l.metal l.is-metal, l.costs, o.costs)

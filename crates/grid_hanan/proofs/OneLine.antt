@@ -11,7 +11,7 @@ use lib.Signed.{lt_z}
 use Rattle.lists.specs.Member.{◌∈◌, there}
 use Rattle.lists.proofs.TestLaws.{by, either}
 use Rattle.signed.specs.Sides.{Le}
-use Rattle.signed.proofs.SideLaws.{ltZ-true, eq_of, signed}
+use Rattle.signed.proofs.SideLaws.{z_lt-true, eq_of, signed}
 use Rattle.lines.specs.Lines.{Neighbours}
 use Rattle.lines.proofs.LineLaws.{line_same, About, about-itself}
 use Rattle.grid_hanan.proofs.NextLines.{differs, not-it, off-line}
@@ -72,8 +72,8 @@ module _ (L : List ℤ) (c t : ℤ) (fresh : c ∈ L → ⊥) (about : About L t
     where
       same : lt_z c t ≡ true → t ≡ v
       same e =
-          by (lt_z t v) (λ f. absurd (n.none t (there about.line) (ltZ-true c t e) (ltZ-true t v f)))
-          (λ f. by (lt_z v t) (λ g. absurd (about.above v i (let s = n.rise in omega (signed, s)) (ltZ-true v t g)))
+          by (lt_z t v) (λ f. absurd (n.none t (there about.line) (z_lt-true c t e) (z_lt-true t v f)))
+          (λ f. by (lt_z v t) (λ g. absurd (about.above v i (let s = n.rise in omega (signed, s)) (z_lt-true v t g)))
           (λ g. eq_of t v (omega (signed, f, g))))
 
   onto-line : (u : ℤ) → Neighbours (c ∷ L) u c → u ∈ L → (u ≡ t) ⊎ (Neighbours L u t × Le c t)
@@ -92,8 +92,8 @@ module _ (L : List ℤ) (c t : ℤ) (fresh : c ∈ L → ⊥) (about : About L t
     where
       same : lt_z t c ≡ true → u ≡ t
       same e =
-          by (lt_z u t) (λ f. absurd (n.none t (there about.line) (ltZ-true u t f) (ltZ-true t c e)))
-          (λ f. by (lt_z t u) (λ g. absurd (about.below u i (ltZ-true t u g) (let s = n.rise in omega (signed, s))))
+          by (lt_z u t) (λ f. absurd (n.none t (there about.line) (z_lt-true u t f) (z_lt-true t c e)))
+          (λ f. by (lt_z t u) (λ g. absurd (about.below u i (z_lt-true t u g) (let s = n.rise in omega (signed, s))))
           (λ g. eq_of u t (omega (signed, f, g))))
 
   pub shifted-beside : (u v : ℤ) → Neighbours (c ∷ L) u v → (to u ≡ to v) ⊎ Wider u v

@@ -14,7 +14,7 @@ use borrow.Author.Tests.{ltb-true, ltb-false}
 use Rattle.lists.specs.Member.{here, there}
 use Rattle.lists.specs.Total.{total}
 use Rattle.signed.proofs.SideLaws.{signed}
-use Rattle.joined.specs.Pairs.{Each, movedPair}
+use Rattle.joined.specs.Pairs.{Each, moved_pair}
 use Rattle.joined.specs.Cost.{lengths}
 use Rattle.plane.specs.declared.Place.{Place}
 use Rattle.plane.specs.declared.Macro.{Macro}
@@ -28,10 +28,10 @@ use Rattle.lines.specs.Edges.{Edge}
 use Rattle.lines.proofs.LineLaws.{line_same}
 use Rattle.lines.proofs.StepLaws.{step-cases}
 use Rattle.lines.proofs.AxisLaws.{axis-self, axis-sum}
-use Rattle.grid_hanan.specs.Balance.{Balanced, goesUp}
+use Rattle.grid_hanan.specs.Balance.{Balanced, goes_up}
 use Rattle.grid_hanan.proofs.NextLines.{differs, one_below, one-above}
 use Rattle.grid_hanan.proofs.OneLine.{shifted, shifted-on, shifted-off}
-use Rattle.grid_hanan.proofs.StepLaws.{Kept, shiftedPlace}
+use Rattle.grid_hanan.proofs.StepLaws.{Kept, shifted_place}
 
 module _ {G H : ℕ} where
   balanced-same : (n : ℕ) → Balanced G H n n n
@@ -49,14 +49,14 @@ module _ {G H : ℕ} where
   balanced-is e f g b = rw (e, f, g) b
 
   -- where the line goes to, the edges are no dearer
-  pub up-no-dearer : {n l u : ℕ} (b : Balanced G H n l u) → goesUp b ≡ true → u ≤ n
-  unfolding goesUp
+  pub up-no-dearer : {n l u : ℕ} (b : Balanced G H n l u) → goes_up b ≡ true → u ≤ n
+  unfolding goes_up
   up-no-dearer b e =
       let k : b.under ≤ b.over = omega (arith, ltb-true b.under b.over e) in
       omega (arith, b.upper, mul-le-mul_right H k)
 
-  pub down-no-dearer : {n l u : ℕ} (b : Balanced G H n l u) → goesUp b ≡ false → l ≤ n
-  unfolding goesUp
+  pub down-no-dearer : {n l u : ℕ} (b : Balanced G H n l u) → goes_up b ≡ false → l ≤ n
+  unfolding goes_up
   down-no-dearer b e =
       let k : b.over ≤ b.under = omega (arith, ltb-false b.under b.over e) in
       omega (arith, b.lower, mul-le-mul_right G k)
@@ -132,7 +132,7 @@ module _ (xs ys : List ℤ) (ms : List Macro) (w : Weights) (c : ℤ) where
 
     -- and what two places cost
     abbrev EvenEdge : Place → Place → Type 0
-    EvenEdge p q = Even (cost w p q) (cost w (shiftedPlace c a p) (shiftedPlace c a q)) (cost w (shiftedPlace c b p) (shiftedPlace c b q))
+    EvenEdge p q = Even (cost w p q) (cost w (shifted_place c a p) (shifted_place c a q)) (cost w (shifted_place c b p) (shifted_place c b q))
 
     even-level : (p q : Place) → Neighbours K p.x q.x → EvenEdge p q
     unfolding cost
@@ -161,7 +161,7 @@ module _ (xs ys : List ℤ) (ms : List Macro) (w : Weights) (c : ℤ) where
         } p q s
 
     pub even-all : (F : List Edge) → Each (Kept K ys ms) F → Even (lengths (cost w) F)
-        (lengths (cost w) (map (movedPair (shiftedPlace c a)) F)) (lengths (cost w) (map (movedPair (shiftedPlace c b)) F))
+        (lengths (cost w) (map (moved_pair (shifted_place c a)) F)) (lengths (cost w) (map (moved_pair (shifted_place c b)) F))
     unfolding lengths total
     even-all [] k = balanced-same 0
     even-all ((p, q) ∷ F) k = balanced-sum (even-edge p q (k p q (here refl))) (even-all F (λ a b m. k a b (there m)))
@@ -170,7 +170,7 @@ module _ (xs ys : List ℤ) (ms : List Macro) (w : Weights) (c : ℤ) where
 
   module _ (t : ℤ) (only_below : (u : ℤ) → Neighbours K u c → u ≡ t) (only_above : (v : ℤ) → Neighbours K c v → v ≡ t) where
     abbrev to : Place → Place
-    to p = shiftedPlace c t p
+    to p = shifted_place c t p
 
     -- no further apart than before
     drawn : (u v : ℤ) → Lies u v → apart (shifted c t u) (shifted c t v) ≤ apart u v
@@ -199,7 +199,7 @@ module _ (xs ys : List ℤ) (ms : List Macro) (w : Weights) (c : ℤ) where
           upright = λ a b n e m h. drawn-upright a b e;
         } p q s
 
-    pub drawn-all : (F : List Edge) → Each (Kept K ys ms) F → lengths (cost w) (map (movedPair to) F) ≤ lengths (cost w) F
+    pub drawn-all : (F : List Edge) → Each (Kept K ys ms) F → lengths (cost w) (map (moved_pair to) F) ≤ lengths (cost w) F
     unfolding lengths total
     drawn-all [] k = omega arith
     drawn-all ((p, q) ∷ F) k = omega (arith, drawn-edge p q (k p q (here refl)), drawn-all F (λ a b m. k a b (there m)))

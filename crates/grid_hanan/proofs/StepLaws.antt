@@ -29,12 +29,12 @@ module _ {xs ys : List ℤ} {ms : List Macro} where
   kept_back (inr s) = inr (step_back s)
 
 -- a place on the line c goes to t
-abbrev pub shiftedPlace : ℤ → ℤ → Place → Place
-shiftedPlace c t p = place (shifted c t p.x) p.y
+abbrev pub shifted_place : ℤ → ℤ → Place → Place
+shifted_place c t p = place (shifted c t p.x) p.y
 
 module _ (xs ys : List ℤ) (ms : List Macro) (sides : Sides xs ys ms) (c t : ℤ) (fresh : c ∈ xs → ⊥) (about : About xs t c) where
   abbrev to : Place → Place
-  to p = shiftedPlace c t p
+  to p = shifted_place c t p
 
   level : (p q : Place) → Neighbours (c ∷ xs) p.x q.x → p.y ≡ q.y → p.y ∈ ys → clear p q ms ≡ true → Kept xs ys ms (to p) (to q)
   level p q n e m h =

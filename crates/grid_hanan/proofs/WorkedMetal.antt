@@ -11,7 +11,7 @@ use Rattle.lists.specs.Member.{◌∈◌, here, there}
 use Rattle.lists.specs.Any.{any}
 use Rattle.lists.specs.Total.{total}
 use Rattle.lists.proofs.TestLaws.{either}
-use Rattle.signed.specs.Order.{minZ, maxZ}
+use Rattle.signed.specs.Order.{z_min, z_max}
 use Rattle.joined.specs.Joined.{Joined, stay, step}
 use Rattle.joined.specs.Pairs.{Each}
 use Rattle.joined.specs.Cost.{lengths}
@@ -21,8 +21,8 @@ use Rattle.plane.specs.declared.Place.{Place}
 use Rattle.plane.specs.Place.{place}
 use Rattle.plane.specs.Cost.{cost, plain}
 use Rattle.plane.specs.Distance.{apart, distance}
-use Rattle.plane.specs.Macro.{macro, spanMeets, meets, clear}
-use Rattle.net.specs.Net.{Net, costIn}
+use Rattle.plane.specs.Macro.{macro, span_meets, meets, clear}
+use Rattle.net.specs.Net.{Net, cost_in}
 use Rattle.lines.specs.Lines.{UnitStep}
 use Rattle.lines.specs.Edges.{Edge}
 use Rattle.grid_hanan.specs.Metal.{UnitMetal, GridMetal}
@@ -54,7 +54,7 @@ abbrev around : List Edge
 around = (west, p1) ∷ ((p1, p2) ∷ ((p2, p3) ∷ ((p3, p4) ∷ ((p4, east) ∷ []))))
 
 units : Each (UnitStep net.macros) around
-unfolding distance apart clear any meets spanMeets minZ maxZ
+unfolding distance apart clear any meets span_meets z_min z_max
 units =
     let P : Place → Place → Type 0 = UnitStep net.macros in
     each-cons P _ _ _ record { unit = refl; free = refl }
@@ -74,14 +74,14 @@ reaches p m = either (λ e. stay (sym e)) (λ i. either whole (λ j. elim j [ ])
 off-grid : UnitMetal net around
 off-grid = record { units = units; joins = λ p q i k. then (back (reaches p i)) (reaches q k) }
 
-costs-five : lengths (costIn net) around ≡ 5
+costs-five : lengths (cost_in net) around ≡ 5
 unfolding lengths total cost apart
 costs-five = refl
 
-on-grid : GridMetal net (lengths (costIn net) around)
+on-grid : GridMetal net (lengths (cost_in net) around)
 on-grid = hanan net around off-grid
 
 -- straight through
 blocked : clear west east net.macros ≡ false
-unfolding clear any meets spanMeets minZ maxZ
+unfolding clear any meets span_meets z_min z_max
 blocked = refl

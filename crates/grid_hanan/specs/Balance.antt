@@ -12,5 +12,5 @@ pub record Balanced (G H n l u : ℕ) : Type 0 where
   pub upper : u + over * H ≡ n + under * H
 
 -- c goes up where more of them come from above, and else down
-unfoldable pub goesUp : {G H n l u : ℕ} → Balanced G H n l u → Bool
-goesUp b = ltb b.under b.over
+unfoldable pub goes_up : {G H n l u : ℕ} → Balanced G H n l u → Bool
+goes_up b = ltb b.under b.over

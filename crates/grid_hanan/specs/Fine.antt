@@ -7,22 +7,18 @@ use Rattle.plane.specs.declared.Macro.{Macro}
 use Rattle.plane.specs.Place.{place}
 use Rattle.plane.specs.Macro.{macro}
 use Rattle.net.specs.Net.{Net}
-use Rattle.grid_hanan.specs.Metal.{NoCheaper, LeastMetal}
+use Rattle.grid_hanan.specs.Metal.{LeastMetal}
 
 module _ (d : ℕ) where
-  abbrev pub finePlace : Place → Place
-  finePlace p = place (p.x *ℤ pos d) (p.y *ℤ pos d)
+  abbrev pub fine_place : Place → Place
+  fine_place p = place (p.x *ℤ pos d) (p.y *ℤ pos d)
 
-  abbrev pub fineMacro : Macro → Macro
-  fineMacro m = macro (m.left *ℤ pos d) (m.bottom *ℤ pos d) (m.right *ℤ pos d) (m.top *ℤ pos d)
+  abbrev pub fine_macro : Macro → Macro
+  fine_macro m = macro (m.left *ℤ pos d) (m.bottom *ℤ pos d) (m.right *ℤ pos d) (m.top *ℤ pos d)
 
-  abbrev pub fineNet : Net → Net
-  fineNet net = record { pins = map finePlace net.pins; macros = map fineMacro net.macros; weights = net.weights }
+  abbrev pub fine_net : Net → Net
+  fine_net net = record { pins = map fine_place net.pins; macros = map fine_macro net.macros; weights = net.weights }
 
--- no metal in steps of 1/d that joins the pins costs less than n, whatever d: so many units are n times d of 1/d
-abbrev pub NoCheaperInFractions : Net → ℕ → Type 0
-NoCheaperInFractions net n = (d : ℕ) → 1 ≤ d → NoCheaper (fineNet d net) (n * d)
-
--- n is the least cost of all metal in steps of 1/d that joins the pins, whatever d
+-- n is the least cost of all metal in steps of 1/d that joins the pins, whatever d: so many units are n times d of 1/d
 abbrev pub LeastInFractions : Net → ℕ → Type 0
-LeastInFractions net n = (d : ℕ) → 1 ≤ d → LeastMetal (fineNet d net) (n * d)
+LeastInFractions net n = (d : ℕ) → 1 ≤ d → LeastMetal (fine_net d net) (n * d)

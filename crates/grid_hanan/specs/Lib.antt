@@ -13,19 +13,17 @@
 --
 --   Metal      UnitMetal net U       clear unit steps that join all pins
 --              GridMetal net most    edges of the grid that join all pins for at most so much
---              NoCheaper net n       no metal that joins the pins costs less than n
 --              LeastMetal net n      n is the least that metal which joins the pins costs: some costs just that, none costs less
---   Fine       fineNet d net         the net drawn d times as large;  finePlace, fineMacro
---              NoCheaperInFractions net n, LeastInFractions net n   the same of metal in steps of any fraction
---   Balance    Balanced, goesUp      what edges cost when a line moves down or up, and where it goes
+--   Fine       fine_net d net         the net drawn d times as large;  fine_place, fine_macro
+--              LeastInFractions net n   n is the least of metal in steps of any fraction too
+--   Balance    Balanced, goes_up      what edges cost when a line moves down or up, and where it goes
 --
 -- THE THEOREMS
 --   Hanan      hanan                 for all metal that joins the pins there are edges of the grid that do, for no more
 --   LeastLaws  grid-least            the cheapest edges of the grid that join all pins are the cheapest metal
---              tree-not-cheaper      what no metal costs less than, no clear edges do, wherever their ends lie
+--              tree-not-cheaper      no clear edges that join all pins cost less than the cheapest metal, wherever their ends lie
 --              least-alike           the least cost is one number
---   FineMetal  no-cheaper-in-fractions   what no metal costs less than, no metal in fractions does
---              least-in-fractions    drawn d times as large, a net's least cost is d times as much: fractions make nothing cheaper
+--   FineMetal  least-in-fractions    drawn d times as large, a net's least cost is d times as much: fractions make nothing cheaper
 pub mod Metal
 pub mod Fine
 pub mod Balance

@@ -10,7 +10,7 @@ use Rattle.lists.proofs.TestLaws.{by}
 use Rattle.turned.specs.declared.Seen.{Seen}
 use Rattle.hanging.specs.declared.Hang.{Hang}
 use Rattle.hanging.specs.Hanging.{counted, shorter, hung}
-use Rattle.turned.specs.Turned.{ahead_of, behindOf, longOf}
+use Rattle.turned.specs.Turned.{ahead_of, behind_of, long_of}
 
 pub shorter-first : (d : ℕ) (h : Hang) → h.ahead ≡ 0 → d ≡ shorter true d h
 unfolding shorter
@@ -20,17 +20,17 @@ pub shorter-next : (d : ℕ) (h : Hang) → (h.ahead ≡ 0 → ⊥) → min h.sh
 unfolding shorter
 shorter-next d h e = rw (shorter, ne_eqb h.ahead 0 e) refl
 
-abbrev hangOf : ℕ → ℕ → ℕ → Hang
-hangOf a b d = record { ahead = a; behind = b; shortest = d }
+abbrev hang_of : ℕ → ℕ → ℕ → Hang
+hang_of a b d = record { ahead = a; behind = b; shortest = d }
 
-pub hung-ahead : (e : Seen) (h : Hang) (b n m : ℕ) (t u : Bool) → t ≡ ahead_of e → t ≡ true → u ≡ behindOf e → b ≡ counted u h.behind
-    → n ≡ longOf e → m ≡ shorter true n h → hangOf (h.ahead + 1) b m ≡ hung e h
+pub hung-ahead : (e : Seen) (h : Hang) (b n m : ℕ) (t u : Bool) → t ≡ ahead_of e → t ≡ true → u ≡ behind_of e → b ≡ counted u h.behind
+    → n ≡ long_of e → m ≡ shorter true n h → hang_of (h.ahead + 1) b m ≡ hung e h
 unfolding hung counted
 hung-ahead e h b n m t u p q r s v w =
     rw (hung, sym p ∙ q, s, r, w, v) refl
 
-pub hung-not : (e : Seen) (h : Hang) (b : ℕ) (t u : Bool) → t ≡ ahead_of e → t ≡ false → u ≡ behindOf e → b ≡ counted u h.behind
-    → hangOf h.ahead b h.shortest ≡ hung e h
+pub hung-not : (e : Seen) (h : Hang) (b : ℕ) (t u : Bool) → t ≡ ahead_of e → t ≡ false → u ≡ behind_of e → b ≡ counted u h.behind
+    → hang_of h.ahead b h.shortest ≡ hung e h
 unfolding hung counted shorter
 hung-not e h b t u p q r s = rw (hung, sym p ∙ q, s, r) refl
 
@@ -50,6 +50,6 @@ pub hung-small : (e : Seen) (h r : Hang) (k n : ℕ) → r ≡ hung e h → h.ah
 unfolding hung
 hung-small e h r k n q a b c d f =
     rw q (
-      (count_small (ahead_of e) h.ahead k a, count_small (behindOf e) h.behind k b),
-      short-small (ahead_of e) (longOf e) h n c (omega arith),
+      (count_small (ahead_of e) h.ahead k a, count_small (behind_of e) h.behind k b),
+      short-small (ahead_of e) (long_of e) h n c (omega arith),
     )

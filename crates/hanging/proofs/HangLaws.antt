@@ -13,12 +13,12 @@ use Rattle.lists.proofs.TestLaws.{by}
 use Rattle.plane.specs.declared.Place.{Place}
 use Rattle.slide.specs.Bend.{Edge}
 use Rattle.slide.specs.Bar.{ahead, behind, long, least, shortest}
-use Rattle.straight.specs.Table.{run, edge_at, edgesIn}
+use Rattle.straight.specs.Table.{run, edge_at, edges_in}
 use Rattle.turned.specs.declared.Seen.{Seen}
 use Rattle.hanging.specs.declared.Hang.{Hang}
 use Rattle.turned.specs.Steps.{up_to}
-use Rattle.turned.specs.Turned.{View, seenEdge, ahead_of, behindOf, longOf}
-use Rattle.hanging.specs.Hanging.{counted, shorter, hung, noneHung, hang}
+use Rattle.turned.specs.Turned.{View, seen_edge, ahead_of, behind_of, long_of}
+use Rattle.hanging.specs.Hanging.{counted, shorter, hung, none_hung, hang}
 use Rattle.turned.proofs.StepLaws.{run_more}
 use Rattle.turned.proofs.SeenLaws.{Sees, ahead-is, behind-is, long-is}
 
@@ -72,11 +72,11 @@ least-last (n ∷ (m ∷ l)) d =
     ∙ min-three n (least (m ∷ l)) d
     ∙ sym (not_none (suc (length l)) d (min (min n (least (m ∷ l))) d))
 
-abbrev hangIn : {A : Type 0} → (A → Bool) → (A → Bool) → (A → ℕ) → List A → Hang
-hangIn p q g l = record { ahead = length (those p l); behind = length (those q l); shortest = least (map g (those p l)) }
+abbrev hang_in : {A : Type 0} → (A → Bool) → (A → Bool) → (A → ℕ) → List A → Hang
+hang_in p q g l = record { ahead = length (those p l); behind = length (those q l); shortest = least (map g (those p l)) }
 
 least_more : {A : Type 0} (p : A → Bool) (q : A → Bool) (g : A → ℕ) (l : List A) (x : A)
-    → least (map g (those p (l ++ (x ∷ [])))) ≡ shorter (p x) (g x) (hangIn p q g l)
+    → least (map g (those p (l ++ (x ∷ [])))) ≡ shorter (p x) (g x) (hang_in p q g l)
 unfolding those shorter
 least_more p q g l x =
     ap (λ k. least (map g k)) (those-append p l (x ∷ []))
@@ -86,12 +86,12 @@ least_more p q g l x =
     ∙ ap (λ (n : ℕ). elim (eqb n 0) as (λ t. ℕ) [ true ↦ g x | false ↦ min (least (map g (those p l))) (g x) ]) (length-map g (those p l))))
     (λ e. rw (those, shorter, e) (ap (λ k. least (map g k)) (append-none (those p l))))
 
-hung-more : {A : Type 0} (p q : A → Bool) (g : A → ℕ) (l : List A) (x : A) (e : Seen) → p x ≡ ahead_of e → q x ≡ behindOf e → g x ≡ longOf e
-    → hung e (hangIn p q g l) ≡ hangIn p q g (l ++ (x ∷ []))
+hung-more : {A : Type 0} (p q : A → Bool) (g : A → ℕ) (l : List A) (x : A) (e : Seen) → p x ≡ ahead_of e → q x ≡ behind_of e → g x ≡ long_of e
+    → hung e (hang_in p q g l) ≡ hang_in p q g (l ++ (x ∷ []))
 unfolding hung
 hung-more p q g l x e a b c =
     rw (hung, sym a, sym b, sym c)
-    (ap₂ (λ (i j : ℕ). let r : Hang = record { ahead = i; behind = j; shortest = shorter (p x) (g x) (hangIn p q g l) } in r)
+    (ap₂ (λ (i j : ℕ). let r : Hang = record { ahead = i; behind = j; shortest = shorter (p x) (g x) (hang_in p q g l) } in r)
     (sym (count-last p l x)) (sym (count-last q l x))
     ∙ ap (λ (d : ℕ). let r : Hang = record {
       ahead = length (those p (l ++ (x ∷ [])));
@@ -101,19 +101,19 @@ hung-more p q g l x e a b c =
     (sym (least_more p q g l x)))
 
 module _ {v : View} {n e : ℕ} {on : Place → Bool} (r : Sees v n e on) where
-  abbrev hangOn : List Edge → Hang
-  hangOn = hangIn (ahead v.side on) (behind v.side on) (long v.side)
+  abbrev hang_on : List Edge → Hang
+  hang_on = hang_in (ahead v.side on) (behind v.side on) (long v.side)
 
-  scan : (k : ℕ) → k ≤ e → up_to (λ j. hung (seenEdge v j)) k noneHung ≡ hangOn (edgesIn v.points v.keys k)
+  scan : (k : ℕ) → k ≤ e → up_to (λ j. hung (seen_edge v j)) k none_hung ≡ hang_on (edges_in v.points v.keys k)
   unfolding up_to run those least
   scan zero h = refl
   scan (suc k) h =
-      ap (hung (seenEdge v k)) (scan k (omega arith))
-      ∙ hung-more (ahead v.side on) (behind v.side on) (long v.side) (edgesIn v.points v.keys k)
+      ap (hung (seen_edge v k)) (scan k (omega arith))
+      ∙ hung-more (ahead v.side on) (behind v.side on) (long v.side) (edges_in v.points v.keys k)
       (edge_at v.points v.keys k)
-      (seenEdge v k) (ahead-is r k (omega arith)) (behind-is r k (omega arith)) (long-is r k (omega arith))
-      ∙ ap hangOn (sym (run_more (edge_at v.points v.keys) k))
+      (seen_edge v k) (ahead-is r k (omega arith)) (behind-is r k (omega arith)) (long-is r k (omega arith))
+      ∙ ap hang_on (sym (run_more (edge_at v.points v.keys) k))
 
-  pub hang-is : hang v e ≡ hangOn (edgesIn v.points v.keys e)
+  pub hang-is : hang v e ≡ hang_on (edges_in v.points v.keys e)
   unfolding hang
   hang-is = scan e (omega arith)

@@ -1,6 +1,6 @@
 // What hangs from a bar.
 ghost use Rattle.std.specs.Prelude.{◌≡◌, true, ◌+◌, ◌^◌, ◌≤◌, ◌<◌, get_or, replicate};
-ghost use Rattle.straight.specs.Table.{straightBound, keyBound, Small};
+ghost use Rattle.straight.specs.Table.{straight_bound, key_bound, Small};
 ghost use Rattle.turned.specs.Steps.{Numbers};
 ghost use Rattle.turned.specs.Turned.{view};
 ghost use Rattle.hanging.specs.Hanging.{counted, shorter, hung, hang, code, uncode, Coded, Added, Tallied};
@@ -64,7 +64,7 @@ fn hung(e: Seen, h: Hang) -> Hang
 
 // What hangs as one number: the counts above the length.
 fn code(h: Hang) -> u64
-    requires { ((h.ahead ≤ straightBound) × (h.behind ≤ straightBound)) × (h.shortest ≤ 2 ^ 32) }
+    requires { ((h.ahead ≤ straight_bound) × (h.behind ≤ straight_bound)) × (h.shortest ≤ 2 ^ 32) }
     ensures { result ≡ code h }
 {
     (h.ahead as u64 * COUNTS + h.behind as u64) * LENGTHS + h.shortest
@@ -72,7 +72,7 @@ fn code(h: Hang) -> u64
 
 // What hangs from the bar with label l, of a table of these numbers.
 pub fn hang_at(hangs: &[u64; POINTS], l: usize) -> Hang
-    requires { l < straightBound }
+    requires { l < straight_bound }
     ensures { result ≡ uncode (get_or hangs.now l 0) }
 {
     let c = hangs[l];
@@ -94,7 +94,7 @@ fn add(
     l: usize,
     hangs: &mut [u64; POINTS],
 )
-    requires k_lt_straight_bound { ((k < straightBound) × (get_or keys.now k 0 < keyBound)) × (l < straightBound) }
+    requires k_lt_straight_bound { ((k < straight_bound) × (get_or keys.now k 0 < key_bound)) × (l < straight_bound) }
     requires coded { Coded k (hang (view pts.now keys.now lab.now s l) k) (get_or hangs.old l 0) }
     ensures { Added (view pts.now keys.now lab.now s l) k hangs.old
         hangs.new }
@@ -113,7 +113,7 @@ fn add_edge(
     k: usize,
     hangs: &mut [u64; POINTS],
 )
-    requires k_lt_straight_bound { ((k < straightBound) × (get_or keys.now k 0 < keyBound)) × (Numbers lab.now) }
+    requires k_lt_straight_bound { ((k < straight_bound) × (get_or keys.now k 0 < key_bound)) × (Numbers lab.now) }
     requires tallied { Tallied pts.now keys.now lab.now s k hangs.old }
     ensures { Tallied pts.now keys.now lab.now s (k + 1) hangs.new }
 {
@@ -134,8 +134,8 @@ pub fn tally(
     s: Side,
     hangs: &mut [u64; POINTS],
 )
-    requires e_le_straight_bound { ((e ≤ straightBound) × (Small keys.now)) × (Numbers lab.now) }
-    requires hangs_value { hangs.old ≡ replicate straightBound 0 }
+    requires e_le_straight_bound { ((e ≤ straight_bound) × (Small keys.now)) × (Numbers lab.now) }
+    requires hangs_value { hangs.old ≡ replicate straight_bound 0 }
     ensures { Tallied pts.now keys.now lab.now s e hangs.new }
 {
     let mut k = 0;

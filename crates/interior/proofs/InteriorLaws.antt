@@ -15,10 +15,10 @@ use Rattle.lists.specs.Member.{◌∈◌}
 use Rattle.lists.proofs.TestLaws.{differ, not-true, and_left, and_right, and_both}
 use Rattle.lists.proofs.AnyLaws.{any_none}
 use Rattle.signed.specs.Sides.{Lt}
-use Rattle.signed.proofs.SideLaws.{ltZ-true, add-sides, up_pos, down_pos, signed}
+use Rattle.signed.proofs.SideLaws.{z_lt-true, add-sides, up_pos, down_pos, signed}
 use Rattle.plane.specs.declared.Place.{Place}
 use Rattle.plane.specs.declared.Macro.{Macro}
-use Rattle.plane.specs.Macro.{inside, spanMeets, meets, openSpansMeet, interiorsMeet, clear}
+use Rattle.plane.specs.Macro.{inside, span_meets, meets, open_spans_meet, interiors_meet, clear}
 use Rattle.plane.proofs.MeetLaws.{clear_of}
 use Rattle.net.specs.Allowed.{Upright}
 use Rattle.interior.specs.Interior.{PlanePoint, SamePoint, point_of, Interior, Box, Some, Common}
@@ -45,8 +45,8 @@ pub box-meets : (a b : Place) (m : Macro) → Upright m → (meets a b m ≡ tru
 unfolding meets
 box-meets a b m u = (
   (λ h.
-      let s = closed-open-share _ _ _ _ u.across (and_left _ (spanMeets a.y b.y m.bottom m.top) h) in
-      let t = closed-open-share _ _ _ _ u.along (and_right (spanMeets a.x b.x m.left m.right) _ h) in
+      let s = closed-open-share _ _ _ _ u.across (and_left _ (span_meets a.y b.y m.bottom m.top) h) in
+      let t = closed-open-share _ _ _ _ u.along (and_right (span_meets a.x b.x m.left m.right) _ h) in
       record {
         point = halves s.0 t.0;
         over = refl;
@@ -57,20 +57,20 @@ box-meets a b m u = (
 
 -- Two interiors
 
-pub interiors-meet-any : (m n : Macro) (q : PlanePoint) → Interior m q → Interior n q → interiorsMeet m n ≡ true
-unfolding interiorsMeet
+pub interiors-meet-any : (m n : Macro) (q : PlanePoint) → Interior m q → Interior n q → interiors_meet m n ≡ true
+unfolding interiors_meet
 interiors-meet-any m n q i j =
     and_both _ _
     (open-open _ _ _ _ _ _ i.across j.across)
     (open-open _ _ _ _ _ _ i.along j.along)
 
 -- the macros need not be known to be upright: where the test passes they are
-pub interiors-meet : (m n : Macro) → (interiorsMeet m n ≡ true) ↔ Common 2 (Interior m) (Interior n)
-unfolding interiorsMeet
+pub interiors-meet : (m n : Macro) → (interiors_meet m n ≡ true) ↔ Common 2 (Interior m) (Interior n)
+unfolding interiors_meet
 interiors-meet m n = (
   (λ h.
-      let s = open-open-share _ _ _ _ (and_left _ (openSpansMeet m.bottom m.top n.bottom n.top) h) in
-      let t = open-open-share _ _ _ _ (and_right (openSpansMeet m.left m.right n.left n.right) _ h) in
+      let s = open-open-share _ _ _ _ (and_left _ (open_spans_meet m.bottom m.top n.bottom n.top) h) in
+      let t = open-open-share _ _ _ _ (and_right (open_spans_meet m.left m.right n.left n.right) _ h) in
       record {
         point = halves s.0 t.0;
         over = refl;
@@ -98,8 +98,8 @@ pub unit-wide : (p : Place) (m : Macro) → m.right ≡ m.left +ℤ pos 1 → in
 unfolding inside
 unit-wide p m e h =
     let a = and_left _ (lt_z m.bottom p.y && lt_z p.y m.top) h in
-    let l : Lt m.left p.x = ltZ-true _ _ (and_left _ (lt_z p.x m.right) a) in
-    let r : Lt p.x m.right = ltZ-true _ _ (and_right (lt_z m.left p.x) _ a) in
+    let l : Lt m.left p.x = z_lt-true _ _ (and_left _ (lt_z p.x m.right) a) in
+    let r : Lt p.x m.right = z_lt-true _ _ (and_right (lt_z m.left p.x) _ a) in
     omega (signed, rw e at r, add-sides m.left (pos 1), up_pos 1, down_pos 1)
 
 -- a place passes the test exactly when it lies in the interior, over whatever denominator it is written
@@ -181,7 +181,7 @@ box-meets-even a b m u k h = (
 )
 
 pub interiors-meet-even : (m n : Macro) (k : ℕ) → 1 ≤ k
-    → (interiorsMeet m n ≡ true) ↔ Common (2 * k) (Interior m) (Interior n)
+    → (interiors_meet m n ≡ true) ↔ Common (2 * k) (Interior m) (Interior n)
 interiors-meet-even m n k h = (
   (λ e. common-finer (Interior m) (Interior n) (same-interior m) (same-interior n) 2 k h ((interiors-meet m n).0 e)),
   (λ c. interiors-meet-any m n c.point c.lies.0 c.lies.1),

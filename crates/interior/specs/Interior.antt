@@ -1,7 +1,7 @@
 -- Interiors and boxes as points of the plane, fractions included.
 use Rattle.std.specs.Prelude.{◌≡◌, true, ℕ, ◌≤◌, ℤ, pos, ◌*ℤ◌}
 use Rattle.std.specs.Int.Signed.{lt_z, le_z}
-use Rattle.signed.specs.Order.{minZ, maxZ}
+use Rattle.signed.specs.Order.{z_min, z_max}
 use Rattle.plane.specs.declared.Place.{Place}
 use Rattle.plane.specs.declared.Macro.{Macro}
 
@@ -28,8 +28,8 @@ pub record InOpenSpan (n : ℤ) (d : ℕ) (from to : ℤ) : Type 0 where
 
 -- n / d is at least the smaller of a and b and at most the greater: the ends are taken in
 pub record InClosedSpan (n : ℤ) (d : ℕ) (a b : ℤ) : Type 0 where
-  pub least : le_z (minZ a b *ℤ pos d) n ≡ true
-  pub greatest : le_z n (maxZ a b *ℤ pos d) ≡ true
+  pub least : le_z (z_min a b *ℤ pos d) n ≡ true
+  pub greatest : le_z n (z_max a b *ℤ pos d) ≡ true
 
 -- q lies in the interior of m: left < x < right and bottom < y < top
 pub record Interior (m : Macro) (q : PlanePoint) : Type 0 where

@@ -1,6 +1,6 @@
 -- What an interior is: its points, fractions included (N8 to N14 of docs/RULES.md).
 --
---   Interior   PlanePoint, SamePoint, pointOf    a point with fractions
+--   Interior   PlanePoint, SamePoint, point_of    a point with fractions
 --              Interior, Box                     when it lies in an interior, in a closed box
 --              Some, Common                      a point of a set; of two sets, with a given denominator
 --

@@ -16,7 +16,7 @@ use Rattle.lists.proofs.MemberLaws.{in-reverse, of_reverse}
 use Rattle.joined.specs.Joined.{Joined}
 use Rattle.joined.specs.Labels.{renamed, merge, labels}
 use Rattle.joined.specs.Keep.{keep, kept}
-use Rattle.joined.specs.Table.{changed, keptBy, mergedBy, Below}
+use Rattle.joined.specs.Table.{changed, kept_by, merged_by, Below}
 use Rattle.joined.proofs.JoinedLaws.{more}
 use Rattle.joined.proofs.LabelLaws.{renamed-hit, renamed-miss, labelled, joined_same, same-joined}
 use Rattle.joined.proofs.KeepLaws.{Keeps, dropped, taken, keeps, keep-none}
@@ -76,8 +76,8 @@ module _ {B : Type 0} (ends : B → ℕ × ℕ) (n : ℕ) where
     )
 
   pass : (L : List B) → Below ends n L → (t : List ℕ) (M : List B) → Holds t M →
-      keep ℕ_discrete ends (reverse_aux L M) ≡ reverse_aux (keptBy ends L t) (keep ℕ_discrete ends M)
-  unfolding keptBy
+      keep ℕ_discrete ends (reverse_aux L M) ≡ reverse_aux (kept_by ends L t) (keep ℕ_discrete ends M)
+  unfolding kept_by
   pass [] s t M h = refl
   pass (e ∷ L) s t M h =
       let i = s e (here refl) in
@@ -87,11 +87,11 @@ module _ {B : Type 0} (ends : B → ℕ × ℕ) (n : ℕ) where
       by (eqb p q)
       (λ k.
       let r = same-label e i.0 i.1 t M h (eqb-true p q k) in
-      rw (keptBy, k) (pass L left t (e ∷ M) (holds_same e i.0 i.1 t M h r) ∙ ap (reverse_aux (keptBy ends L t)) r))
+      rw (kept_by, k) (pass L left t (e ∷ M) (holds_same e i.0 i.1 t M h r) ∙ ap (reverse_aux (kept_by ends L t)) r))
       (λ k.
       let r = other-label e i.0 i.1 t M h (eqb-false p q k) in
       let u = map (changed p q) t in
-      rw (keptBy, k) (pass L left u (e ∷ M) (holds-merged e i.0 i.1 t M h r) ∙ ap (reverse_aux (keptBy ends L u)) r))
+      rw (kept_by, k) (pass L left u (e ∷ M) (holds-merged e i.0 i.1 t M h r) ∙ ap (reverse_aux (kept_by ends L u)) r))
 
   -- from a table in which each number is its own label
   module _ (L : List B) (s : Below ends n L) (t : List ℕ) (room : n ≤ length t) (own : (x : ℕ) → x < n → get_or t x 0 ≡ x) where
@@ -99,12 +99,12 @@ module _ {B : Type 0} (ends : B → ℕ × ℕ) (n : ℕ) where
     unfolding labels
     starts = (room, λ x l. own x l ∙ rw (keep-none ℕ_discrete ends) refl)
 
-    turned : keep ℕ_discrete ends (reverse L) ≡ reverse (keptBy ends L t)
-    turned = pass L s t [] starts ∙ ap (reverse_aux (keptBy ends L t)) (keep-none ℕ_discrete ends)
+    turned : keep ℕ_discrete ends (reverse L) ≡ reverse (kept_by ends L t)
+    turned = pass L s t [] starts ∙ ap (reverse_aux (kept_by ends L t)) (keep-none ℕ_discrete ends)
 
-    pub table-keeps : keptBy ends L t ≡ kept ℕ_discrete ends L
+    pub table-keeps : kept_by ends L t ≡ kept ℕ_discrete ends L
     unfolding kept
-    table-keeps = sym (reverse-reverse (keptBy ends L t)) ∙ ap reverse (sym turned)
+    table-keeps = sym (reverse-reverse (kept_by ends L t)) ∙ ap reverse (sym turned)
 
 -- All items taken: two numbers have one label exactly when the items join them
 
@@ -127,8 +127,8 @@ module _ {B : Type 0} (ends : B → ℕ × ℕ) (n : ℕ) where
       )
 
   shows-all : (L : List B) → Below ends n L → (t : List ℕ) (M : List (ℕ × ℕ)) → Shows t M →
-      Shows (mergedBy ends L t) (reverse_aux (map ends L) M)
-  unfolding mergedBy
+      Shows (merged_by ends L t) (reverse_aux (map ends L) M)
+  unfolding merged_by
   shows-all [] s t M h = h
   shows-all (e ∷ L) s t M h =
       let i = s e (here refl) in
@@ -136,15 +136,15 @@ module _ {B : Type 0} (ends : B → ℕ × ℕ) (n : ℕ) where
 
   -- from a table in which each number is its own label
   module _ (L : List B) (s : Below ends n L) (t : List ℕ) (room : n ≤ length t) (own : (x : ℕ) → x < n → get_or t x 0 ≡ x) where
-    shows : Shows (mergedBy ends L t) (reverse (map ends L))
+    shows : Shows (merged_by ends L t) (reverse (map ends L))
     unfolding labels
     shows = shows-all L s t [] (room, own)
 
-    pub merged-joined : (x y : ℕ) → x < n → y < n → get_or (mergedBy ends L t) x 0 ≡ get_or (mergedBy ends L t) y 0 → Joined (map ends L) x y
+    pub merged-joined : (x y : ℕ) → x < n → y < n → get_or (merged_by ends L t) x 0 ≡ get_or (merged_by ends L t) y 0 → Joined (map ends L) x y
     merged-joined x y h k e =
         more (of_reverse (map ends L))
         (same-joined (labelled ℕ_discrete _) x y (sym (shows.1 x h) ∙ e ∙ shows.1 y k))
 
-    pub joined-merged : (x y : ℕ) → x < n → y < n → Joined (map ends L) x y → get_or (mergedBy ends L t) x 0 ≡ get_or (mergedBy ends L t) y 0
+    pub joined-merged : (x y : ℕ) → x < n → y < n → Joined (map ends L) x y → get_or (merged_by ends L t) x 0 ≡ get_or (merged_by ends L t) y 0
     joined-merged x y h k j =
         shows.1 x h ∙ joined_same (labelled ℕ_discrete _) (more (in-reverse (map ends L)) j) ∙ sym (shows.1 y k)

@@ -14,7 +14,7 @@ use Rattle.lists.specs.Total.{total, most}
 use Rattle.joined.specs.Joined.{Joined, stay, Inside}
 use Rattle.joined.specs.Labels.{equal, renamed, merge, labels}
 use Rattle.joined.specs.Keep.{keep, kept, Offered}
-use Rattle.joined.specs.Table.{changed, keptBy}
+use Rattle.joined.specs.Table.{changed, kept_by}
 use Rattle.joined.specs.Exchange.{laid, three}
 use Rattle.joined.proofs.JoinedLaws.{one, cast, then, back, firsts, seconds}
 use Rattle.joined.proofs.Ours.{ours-count}
@@ -39,8 +39,8 @@ by-labels : kept ℕ_discrete ends offered ≡ chosen
 unfolding kept keep labels merge renamed equal ℕ_discrete
 by-labels = refl
 
-by-table : keptBy ends offered (0 ∷ (1 ∷ (2 ∷ (3 ∷ [])))) ≡ chosen
-unfolding keptBy changed
+by-table : kept_by ends offered (0 ∷ (1 ∷ (2 ∷ (3 ∷ [])))) ≡ chosen
+unfolding kept_by changed
 by-table = refl
 
 sums : (total (map weight chosen) ≡ 8) × (most (map weight chosen) ≡ 5)

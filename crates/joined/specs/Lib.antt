@@ -19,7 +19,7 @@
 --  * Labels are there to decide and to compute what is joined: the second end's label becomes the first's, as in a program's table. They
 --    carry no theorem but that they are equal exactly on joined points.
 --  * `keep` reads its list from the end, so that what is offered before an item is the rest of the list; `kept` is the same in the order
---    of offering, and `keptBy` the same by a table, as code does it.
+--    of offering, and `kept_by` the same by a table, as code does it.
 --
 -- WHAT IS ASKED, each in one record or name: `Discrete A`, where two points must be told apart; `Cost d`; `Offered` and `Dominated`, what
 -- Kruskal's choice needs of the bridges; `Hangs`, what the union of the kept paths must look like.
@@ -45,7 +45,7 @@
 --   Across L v w x y          x and y are joined by L and the pair of v and w: beside it, or over it
 -- PAIRS (Pairs.antt)
 --   Each P L                  P holds of the two points of each pair
---   movedPair f e             the pair of the points to which f takes those of e
+--   moved_pair f e             the pair of the points to which f takes those of e
 -- TREES AND WAYS (Tree.antt, Way.antt, OneTree.antt)
 --   TreeOn X T                T joins all of X, with one pair fewer than points
 --   Forest T, Cuts T          no pair joins what the pairs after it, or all others, join
@@ -64,8 +64,8 @@
 --   light w t L, heavy        the items up to weight t, and those above
 --   Offered ends w X L        the items L join X, the lighter offered first
 --   Dominated ends w L e t    items of weight t at most join the ends e
---   keptBy ends L t           what a pass over L keeps by the table of labels t, which it relabels by `changed`
---   mergedBy ends L t         the table of labels after all of L
+--   kept_by ends L t           what a pass over L keeps by the table of labels t, which it relabels by `changed`
+--   merged_by ends L t         the table of labels after all of L
 -- EXCHANGE AND UNION (Exchange.antt, Graft.antt)
 --   Parted T x p q y ps       a way parted at its step from p to q
 --   grown, rooted, Hangs      points that hang on roots by their parents, and items whose roots are a tree

@@ -6,5 +6,5 @@ use Rattle.lists.specs.Member.{◌∈◌}
 abbrev pub Each : {A : Type 0} → (A → A → Type 0) → List (A × A) → Type 0
 Each P F = (a b : _) → (a, b) ∈ F → P a b
 
-abbrev pub movedPair : {A B : Type 0} → (A → B) → A × A → B × B
-movedPair f e = (f e.0, f e.1)
+abbrev pub moved_pair : {A B : Type 0} → (A → B) → A × A → B × B
+moved_pair f e = (f e.0, f e.1)

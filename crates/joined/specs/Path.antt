@@ -17,8 +17,8 @@ pub record TerminalPath {A : Type 0} (L : List (A × A)) (pins : List A) : Type 
   pub inner : (v : A) → v ∈ (start ∷ points) → v ∈ pins → (v ≡ start) ⊎ (v ≡ finish)
 
 module _ {A : Type 0} {L : List (A × A)} {pins : List A} where
-  abbrev pub endsOf : TerminalPath L pins → A × A
-  endsOf c = (c.start, c.finish)
+  abbrev pub ends_of : TerminalPath L pins → A × A
+  ends_of c = (c.start, c.finish)
 
   -- the sum over its edges
   abbrev pub length_of : (A → A → ℕ) → TerminalPath L pins → ℕ

@@ -8,17 +8,17 @@ changed a b x = elim (eqb x b) [ true ↦ a | false ↦ x ]
 
 -- The item at the head of the list is offered first. It is kept where its ends have different labels, and then the label of its second
 -- end becomes that of its first, throughout the table.
-unfoldable pub keptBy : {B : Type 0} → (B → ℕ × ℕ) → List B → List ℕ → List B
-keptBy ends [] t = []
-keptBy ends (e ∷ L) t =
+unfoldable pub kept_by : {B : Type 0} → (B → ℕ × ℕ) → List B → List ℕ → List B
+kept_by ends [] t = []
+kept_by ends (e ∷ L) t =
     let p = get_or t (ends e).0 0 in
     let q = get_or t (ends e).1 0 in
-    elim (eqb p q) [ true ↦ keptBy ends L t | false ↦ e ∷ keptBy ends L (map (changed p q) t) ]
+    elim (eqb p q) [ true ↦ kept_by ends L t | false ↦ e ∷ kept_by ends L (map (changed p q) t) ]
 
 -- Items that are all taken, one after another: the label of the second end becomes that of the first, throughout the table.
-unfoldable pub mergedBy : {B : Type 0} → (B → ℕ × ℕ) → List B → List ℕ → List ℕ
-mergedBy ends [] t = t
-mergedBy ends (e ∷ L) t = mergedBy ends L (map (changed (get_or t (ends e).0 0) (get_or t (ends e).1 0)) t)
+unfoldable pub merged_by : {B : Type 0} → (B → ℕ × ℕ) → List B → List ℕ → List ℕ
+merged_by ends [] t = t
+merged_by ends (e ∷ L) t = merged_by ends L (map (changed (get_or t (ends e).0 0) (get_or t (ends e).1 0)) t)
 
 -- both ends of each item are numbers below n
 abbrev pub Below : {B : Type 0} → (B → ℕ × ℕ) → ℕ → List B → Type 0

@@ -13,10 +13,10 @@ use lib.ListN.{length, get_or, set, drop, length-append, length-map}
 use lib.Seq.{set_at, get_or_at, append_snoc}
 use Rattle.lists.specs.Member.{◌∈◌}
 use Rattle.lists.specs.Total.{total}
-use Rattle.lists.proofs.MemberLaws.{getD-in}
+use Rattle.lists.proofs.MemberLaws.{get_d-in}
 use Rattle.lent.specs.Over.{over}
 use Rattle.lent.proofs.OverLaws.{over_none, over-more}
-use Rattle.joined.specs.Table.{changed, keptBy}
+use Rattle.joined.specs.Table.{changed, kept_by}
 use Rattle.forest.specs.Edges.{entries, Listed}
 use Rattle.forest.proofs.EdgeLaws.{one_less, none_left}
 
@@ -80,7 +80,7 @@ pub entry_listed : (xs lent table : List ℕ) (n : ℕ) → Listed xs lent table
 unfolding over
 entry_listed xs lent table n l i h =
     let r : i < length xs = omega (arith, l.count) in
-    rw (l.table_is, front xs (drop (length xs) lent) i r) (getD-in xs i 0 r)
+    rw (l.table_is, front xs (drop (length xs) lent) i r) (get_d-in xs i 0 r)
   where
     front : (ys zs : List ℕ) (j : ℕ) → j < length ys → get_or (ys ++ zs) j 0 ≡ get_or ys j 0
     front [] zs j k = absurd (let z : ⊥ = omega arith in z)
@@ -93,7 +93,7 @@ entry_listed xs lent table n l i h =
 pub record Keeping (ends : ℕ → ℕ × ℕ) (all g₀ left g lent kept : List ℕ) (count : ℕ) : Type 0 where
   pub done : List ℕ
   pub written : Listed done lent kept count
-  pub answer : done ++ keptBy ends left g ≡ keptBy ends all g₀
+  pub answer : done ++ kept_by ends left g ≡ kept_by ends all g₀
 
 module _ (ends : ℕ → ℕ × ℕ) where
   pub keep-none : (all g lent : List ℕ) → Keeping ends all g all g lent lent 0
@@ -102,18 +102,18 @@ module _ (ends : ℕ → ℕ × ℕ) where
   module _ (all g₀ left g lent kept : List ℕ) (count : ℕ) (s : Keeping ends all g₀ left g lent kept count)
       (k : ℕ) (ks : List ℕ) (l : left ≡ k ∷ ks) (a b : ℕ) (p : a ≡ get_or g (ends k).0 0) (q : b ≡ get_or g (ends k).1 0) where
     pub keep-pass : a ≡ b → Keeping ends all g₀ ks g lent kept count
-    unfolding keptBy
+    unfolding kept_by
     keep-pass e =
         let t : eqb (get_or g (ends k).0 0) (get_or g (ends k).1 0) ≡ true = eq-eqb _ _ (sym p ∙ e ∙ q) in
         record {
           done = s.done;
           written = s.written;
-          answer = ap (λ (r : List ℕ). s.done ++ r) (sym (rw (l, keptBy, t) refl)) ∙ s.answer;
+          answer = ap (λ (r : List ℕ). s.done ++ r) (sym (rw (l, kept_by, t) refl)) ∙ s.answer;
         }
 
     pub keep-more : (g' : List ℕ) → (a ≡ b → ⊥) → g' ≡ map (changed a b) g → count < length lent →
         Keeping ends all g₀ ks g' lent (set kept count k) (count + 1)
-    unfolding keptBy
+    unfolding kept_by
     keep-more g' n m h =
         let t : eqb (get_or g (ends k).0 0) (get_or g (ends k).1 0) ≡ false = ne_eqb _ _ (λ e. n (p ∙ e ∙ sym q)) in
         let w : g' ≡ map (changed (get_or g (ends k).0 0) (get_or g (ends k).1 0)) g = m ∙ rw (p, q) refl in
@@ -124,14 +124,14 @@ module _ (ends : ℕ → ℕ × ℕ) where
             count = omega (arith, length-append s.done (k ∷ []));
             table_is = ap (λ (o : List ℕ). set o count k) s.written.table_is ∙ over-more s.done lent count k c h;
           };
-          answer = append_snoc s.done k _ ∙ ap (λ (r : List ℕ). s.done ++ r) (sym (rw (l, keptBy, t, w) refl)) ∙ s.answer;
+          answer = append_snoc s.done k _ ∙ ap (λ (r : List ℕ). s.done ++ r) (sym (rw (l, kept_by, t, w) refl)) ∙ s.answer;
         }
 
   pub keep-end : (all g₀ left g lent kept : List ℕ) (count : ℕ) → Keeping ends all g₀ left g lent kept count → left ≡ [] →
-      Listed (keptBy ends all g₀) lent kept count
-  unfolding keptBy
+      Listed (kept_by ends all g₀) lent kept count
+  unfolding kept_by
   keep-end all g₀ left g lent kept count s l =
-      let e : s.done ≡ keptBy ends all g₀ = sym (rw (l, keptBy) (append-nil s.done)) ∙ s.answer in
+      let e : s.done ≡ kept_by ends all g₀ = sym (rw (l, kept_by) (append-nil s.done)) ∙ s.answer in
       rw (← e) s.written
 
 -- The lengths of paths, one after the other

@@ -1,21 +1,21 @@
 -- The kept bridges, and the terminal tree as a whole.
 use Rattle.std.specs.Prelude.{List, map, ℕ}
 use Rattle.lists.specs.Total.{total}
-use Rattle.joined.specs.Table.{keptBy}
-use Rattle.forest.specs.Bounds.{pointBound}
+use Rattle.joined.specs.Table.{kept_by}
+use Rattle.forest.specs.Bounds.{point_bound}
 use Rattle.forest.specs.Edges.{Graph, from}
 use Rattle.forest.specs.Labels.{Labels, labelled}
 use Rattle.forest.specs.Parents.{Parents, parented}
-use Rattle.bridges.specs.Bridges.{rootsOf, pathLength, bridges}
+use Rattle.bridges.specs.Bridges.{roots_of, path_length, bridges}
 
 -- T13: a bridge is kept where those kept before it do not join its two roots. Pins have the same group when they are joined; at first each
 -- vertex is its own group.
-unfoldable pub keptBridges : Graph → Labels → Parents → List ℕ
-keptBridges g t p = keptBy (rootsOf g t) (bridges g t p) (from 0 pointBound)
+unfoldable pub kept_bridges : Graph → Labels → Parents → List ℕ
+kept_bridges g t p = kept_by (roots_of g t) (bridges g t p) (from 0 point_bound)
 
 -- T15: the length of each kept path, every edge of it counted
-unfoldable pub keptLengths : Graph → Labels → Parents → List ℕ
-keptLengths g t p = map (pathLength g t.fars p) (keptBridges g t p)
+unfoldable pub kept_lengths : Graph → Labels → Parents → List ℕ
+kept_lengths g t p = map (path_length g t.fars p) (kept_bridges g t p)
 
 -- The labels, the parents, the kept bridges with the lengths of their paths, and the total, their sum (T16)
 pub record Terminal : Type 0 where
@@ -30,4 +30,4 @@ unfoldable pub terminal : Graph → ℕ → List ℕ → Terminal
 terminal g n pins =
     let t = labelled g n pins in
     let p = parented g n t in
-    record { labels = t; parents = p; bridges = keptBridges g t p; lengths = keptLengths g t p; total = total (keptLengths g t p) }
+    record { labels = t; parents = p; bridges = kept_bridges g t p; lengths = kept_lengths g t p; total = total (kept_lengths g t p) }

@@ -3,6 +3,6 @@
 -- Groups of pins are joined by one bridge after the other, in their order, unless they are one group already. That the kept bridges stand
 -- for terminal paths, join the pins, and do so with the least length, is proved in ../proofs (OurTree), of any graph in tables.
 --
---   Kept       keptBridges g t p, keptLengths       the kept ones in the order kept, and the lengths of their paths
+--   Kept       kept_bridges g t p, kept_lengths       the kept ones in the order kept, and the lengths of their paths
 --              terminal g n pins                    all of it, with the total
 pub mod Kept

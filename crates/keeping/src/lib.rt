@@ -1,13 +1,13 @@
 // The kept bridges on tables, and the terminal tree of a graph on tables.
 ghost use Rattle.std.specs.Prelude.{◌≡◌, map, ◌+◌, ◌^◌, ◌≤◌, ◌<◌, length, get_or};
-ghost use Rattle.forest.specs.Bounds.{pointBound, edgeBound, pathBound};
+ghost use Rattle.forest.specs.Bounds.{point_bound, edge_bound, path_bound};
 ghost use Rattle.forest.specs.Edges.{graph, entries, filled, Fits, Named, FirstBelow, Below, Listed};
 ghost use Rattle.forest.specs.Labels.{labels, unlabelled, Low};
 ghost use Rattle.forest.specs.Parents.{parents, orphans, Falls};
-ghost use Rattle.bridges.specs.Bridges.{rootsIn};
-ghost use Rattle.keeping.specs.Kept.{keptBridges, keptLengths, terminal};
+ghost use Rattle.bridges.specs.Bridges.{roots_in};
+ghost use Rattle.keeping.specs.Kept.{kept_bridges, kept_lengths, terminal};
 ghost use Rattle.lists.specs.Total.{total};
-ghost use Rattle.joined.specs.Table.{changed, keptBy};
+ghost use Rattle.joined.specs.Table.{changed, kept_by};
 
 use forest::{EDGES, POINTS};
 
@@ -56,7 +56,7 @@ pub fn number(group: &mut [u16], n: usize)
 
 // The group of the root of one end of edge k.
 fn group_at(ends: &[usize; EDGES], root: &[usize; POINTS], group: &[u16; POINTS], k: usize) -> u16
-    requires { (k < edgeBound) × ((get_or ends.now k 0 < pointBound) × (Below pointBound root.now)) }
+    requires { (k < edge_bound) × ((get_or ends.now k 0 < point_bound) × (Below point_bound root.now)) }
     ensures { result ≡ get_or group.now (get_or root.now (get_or ends.now k 0) 0) 0 }
 {
     group[root[ends[k]]]
@@ -72,9 +72,9 @@ fn keep(
     group: &mut [u16; POINTS],
     kept: &mut [usize; EDGES],
 ) -> usize
-    requires named { (Named ea.now eb.now order.now n) × ((Below pointBound root.now) × (n ≤ edgeBound)) }
-    requires group_len { (length group.old ≡ pointBound) × (length kept.old ≡ edgeBound) }
-    ensures listed { Listed (keptBy (rootsIn ea.now eb.now root.now) (entries order.now 0 n)
+    requires named { (Named ea.now eb.now order.now n) × ((Below point_bound root.now) × (n ≤ edge_bound)) }
+    requires group_len { (length group.old ≡ point_bound) × (length kept.old ≡ edge_bound) }
+    ensures listed { Listed (kept_by (roots_in ea.now eb.now root.now) (entries order.now 0 n)
         group.old) kept.old kept.new result }
     ensures upper_bound { result ≤ n }
 {
@@ -96,8 +96,8 @@ fn keep(
 
 // The lengths of the first n paths that are kept; their sum.
 fn measure(w: &[u64; EDGES], kept: &[usize; EDGES], n: usize, long: &mut [u64; EDGES]) -> u64
-    requires n_le_edge_bound { (n ≤ edgeBound) × ((FirstBelow kept.now n edgeBound) × (length long.old ≡ edgeBound)) }
-    requires below { Below (pathBound + 1) w.now }
+    requires n_le_edge_bound { (n ≤ edge_bound) × ((FirstBelow kept.now n edge_bound) × (length long.old ≡ edge_bound)) }
+    requires below { Below (path_bound + 1) w.now }
     ensures listed { Listed (map (λ k. get_or w.now k 0) (entries kept.now 0 n)) long.old
         long.new n }
     ensures value { result ≡ total (map (λ k. get_or w.now k 0) (entries kept.now 0 n)) }
@@ -126,16 +126,16 @@ fn kept_paths(
     kept: &mut [usize; EDGES],
     long: &mut [u64; EDGES],
 ) -> Kept
-    requires fits { (Fits (graph ea.now eb.now el.now e)) × ((Low far.now) × (Below pointBound root.now)) }
+    requires fits { (Fits (graph ea.now eb.now el.now e)) × ((Low far.now) × (Below point_bound root.now)) }
     requires falls { Falls el.now far.now (parents up.now via.now) }
-    requires kept_len { (length kept.old ≡ edgeBound) × (length long.old ≡ edgeBound) }
-    ensures listed { Listed (keptBridges (graph ea.now eb.now el.now e)
+    requires kept_len { (length kept.old ≡ edge_bound) × (length long.old ≡ edge_bound) }
+    ensures listed { Listed (kept_bridges (graph ea.now eb.now el.now e)
         (labels far.now root.now) (parents up.now via.now)) kept.old
         kept.new result.count }
-    ensures listed_2 { Listed (keptLengths (graph ea.now eb.now el.now e)
+    ensures listed_2 { Listed (kept_lengths (graph ea.now eb.now el.now e)
         (labels far.now root.now) (parents up.now via.now)) long.old
         long.new result.count }
-    ensures total_value { result.total ≡ total (keptLengths (graph ea.now eb.now el.now e)
+    ensures total_value { result.total ≡ total (kept_lengths (graph ea.now eb.now el.now e)
         (labels far.now root.now) (parents up.now via.now)) }
 {
     let mut w = [0u64; EDGES];
@@ -170,9 +170,9 @@ pub fn kept_tree(
     long: &mut [u64; EDGES],
 ) -> Kept
     requires fits { (Fits (graph ea.now eb.now el.now e))
-        × ((n ≤ pointBound) × ((m ≤ pointBound) × (FirstBelow pin.now m pointBound))) }
+        × ((n ≤ point_bound) × ((m ≤ point_bound) × (FirstBelow pin.now m point_bound))) }
     requires root_value { (labels far.old root.old ≡ unlabelled) × (parents up.old via.old ≡ orphans) }
-    requires kept_len { (length kept.old ≡ edgeBound) × (length long.old ≡ edgeBound) }
+    requires kept_len { (length kept.old ≡ edge_bound) × (length long.old ≡ edge_bound) }
     ensures root_after { labels far.new root.new ≡
         (terminal (graph ea.now eb.now el.now e) n (entries pin.now 0 m)).labels }
     ensures via_after { parents up.new via.new ≡

@@ -23,35 +23,35 @@ use Rattle.joined.proofs.JoinedLaws.{one, carried, firsts, seconds, between}
 use Rattle.joined.proofs.LabelLaws.{merged}
 use Rattle.joined.proofs.TableLaws.{changed-renamed}
 use Rattle.slide.specs.declared.Side.{Side}
-use Rattle.straight.specs.Table.{straightBound, firstEnd, secondEnd}
-use Rattle.turned.specs.Steps.{up_to, setBy, setUpTo}
-use Rattle.turned.specs.Turned.{levelAt}
-use Rattle.labels.specs.Labelling.{united, joinedBy, labelled}
+use Rattle.straight.specs.Table.{straight_bound, first_end, second_end}
+use Rattle.turned.specs.Steps.{up_to, set_by, set_up_to}
+use Rattle.turned.specs.Turned.{level_at}
+use Rattle.labels.specs.Labelling.{united, joined_by, labelled}
 
 -- Tables written up to a number
 
 module _ (f : ℕ → ℕ → ℕ) (t : List ℕ) where
-  pub set-length : (n : ℕ) → length (setUpTo f n t) ≡ length t
+  pub set-length : (n : ℕ) → length (set_up_to f n t) ≡ length t
   unfolding up_to
   set-length zero = refl
-  set-length (suc n) = length-set (setUpTo f n t) n _ ∙ set-length n
+  set-length (suc n) = length-set (set_up_to f n t) n _ ∙ set-length n
 
-  pub set-above : (n x : ℕ) → n ≤ x → get_or (setUpTo f n t) x 0 ≡ get_or t x 0
+  pub set-above : (n x : ℕ) → n ≤ x → get_or (set_up_to f n t) x 0 ≡ get_or t x 0
   unfolding up_to
   set-above zero x h = refl
   set-above (suc n) x h =
-      get_or-set_other (setUpTo f n t) n x _ 0 (λ e. let z : ⊥ = omega (arith, e) in z) ∙ set-above n x (omega arith)
+      get_or-set_other (set_up_to f n t) n x _ 0 (λ e. let z : ⊥ = omega (arith, e) in z) ∙ set-above n x (omega arith)
 
-  pub set_below : (n x : ℕ) → n ≤ length t → x < n → get_or (setUpTo f n t) x 0 ≡ f x (get_or t x 0)
+  pub set_below : (n x : ℕ) → n ≤ length t → x < n → get_or (set_up_to f n t) x 0 ≡ f x (get_or t x 0)
   unfolding up_to
   set_below zero x l h = absurd (let z : ⊥ = omega arith in z)
   set_below (suc n) x l h =
       by (ltb x n)
       (λ e. let i = ltb-true x n e in
-      get_or-set_other (setUpTo f n t) n x _ 0 (λ k. let z : ⊥ = omega (arith, i, k) in z) ∙ set_below n x (omega arith) i)
+      get_or-set_other (set_up_to f n t) n x _ 0 (λ k. let z : ⊥ = omega (arith, i, k) in z) ∙ set_below n x (omega arith) i)
       (λ e.
       let i : x ≡ n = omega (arith, ltb-false x n e) in
-      rw i (get_or-set_same (setUpTo f n t) n _ 0 (omega (arith, set-length n)) ∙ ap (f n) (set-above n n (omega arith))))
+      rw i (get_or-set_same (set_up_to f n t) n _ 0 (omega (arith, set-length n)) ∙ ap (f n) (set-above n n (omega arith))))
 
 -- Labels by the least of two
 
@@ -99,25 +99,25 @@ lesser-labels {L} {f} s a b =
 -- The table
 
 -- the level edges among the first k, as pairs of numbers
-unfoldable pub levelPairs : Side → List ℤ → List ℕ → ℕ → List (ℕ × ℕ)
-levelPairs s pts ks zero = []
-levelPairs s pts ks (suc k) =
-    elim (levelAt s pts ks k) [
-      | true ↦ (firstEnd (get_or ks k 0), secondEnd (get_or ks k 0)) ∷ levelPairs s pts ks k
-      | false ↦ levelPairs s pts ks k
+unfoldable pub level_pairs : Side → List ℤ → List ℕ → ℕ → List (ℕ × ℕ)
+level_pairs s pts ks zero = []
+level_pairs s pts ks (suc k) =
+    elim (level_at s pts ks k) [
+      | true ↦ (first_end (get_or ks k 0), second_end (get_or ks k 0)) ∷ level_pairs s pts ks k
+      | false ↦ level_pairs s pts ks k
     ]
 
 -- the first n entries of the table are labels of the level edges, none above its point
 pub record Labelled (s : Side) (pts : List ℤ) (ks : List ℕ) (n e : ℕ) (t : List ℕ) : Type 0 where
   pub label : ℕ → ℕ
-  pub labels : Labels (levelPairs s pts ks e) label
+  pub labels : Labels (level_pairs s pts ks e) label
   pub least : (x : ℕ) → label x ≤ x
   pub holds : (x : ℕ) → x < n → get_or t x 0 ≡ label x
   pub room : n ≤ length t
 
 module _ (s : Side) (pts : List ℤ) (ks : List ℕ) (n : ℕ) where
-  numbered : (t : List ℕ) → n ≤ length t → Labelled s pts ks n 0 (setUpTo (λ i x. i) n t)
-  unfolding levelPairs
+  numbered : (t : List ℕ) → n ≤ length t → Labelled s pts ks n 0 (set_up_to (λ i x. i) n t)
+  unfolding level_pairs
   numbered t h = record {
     label = λ x. x;
     labels = record { own = λ x. refl; to = λ x. stay refl; ends = λ a b m. elim m [ ] };
@@ -126,20 +126,20 @@ module _ (s : Side) (pts : List ℤ) (ks : List ℕ) (n : ℕ) where
     room = omega (arith, h, set-length (λ i x. i) t n);
   }
 
-  module _ (k : ℕ) (t : List ℕ) (r : Labelled s pts ks n k t) (ia : firstEnd (get_or ks k 0) < n) (ib : secondEnd (get_or ks k 0) < n) where
+  module _ (k : ℕ) (t : List ℕ) (r : Labelled s pts ks n k t) (ia : first_end (get_or ks k 0) < n) (ib : second_end (get_or ks k 0) < n) where
     abbrev a : ℕ
-    a = firstEnd (get_or ks k 0)
+    a = first_end (get_or ks k 0)
 
     abbrev b : ℕ
-    b = secondEnd (get_or ks k 0)
+    b = second_end (get_or ks k 0)
 
-    level-next : levelAt s pts ks k ≡ true → Labelled s pts ks n (suc k) (joinedBy s pts ks n k t)
-    unfolding levelPairs joinedBy united
+    level-next : level_at s pts ks k ≡ true → Labelled s pts ks n (suc k) (joined_by s pts ks n k t)
+    unfolding level_pairs joined_by united
     level-next e =
-        rw (joinedBy, e)
+        rw (joined_by, e)
         (record {
           label = lesser r.label a b;
-          labels = rw (levelPairs, e) (lesser-labels r.labels a b);
+          labels = rw (level_pairs, e) (lesser-labels r.labels a b);
           least = λ x. let l = r.least x in
               let m = changed-least (min (r.label a) (r.label b)) (max (r.label a) (r.label b)) (r.label x) (omega arith) in
               omega (arith, l, m);
@@ -149,25 +149,25 @@ module _ (s : Side) (pts : List ℤ) (ks : List ℕ) (n : ℕ) where
           room = omega (arith, r.room, set-length (λ i x. changed (min (get_or t a 0) (get_or t b 0)) (max (get_or t a 0) (get_or t b 0)) x) t n);
         })
 
-    level-not : levelAt s pts ks k ≡ false → Labelled s pts ks n (suc k) (joinedBy s pts ks n k t)
-    unfolding levelPairs joinedBy
-    level-not e = rw (joinedBy, e) (record {
+    level-not : level_at s pts ks k ≡ false → Labelled s pts ks n (suc k) (joined_by s pts ks n k t)
+    unfolding level_pairs joined_by
+    level-not e = rw (joined_by, e) (record {
       label = r.label;
-      labels = rw (levelPairs, e) r.labels;
+      labels = rw (level_pairs, e) r.labels;
       least = r.least;
       holds = r.holds;
       room = r.room;
     })
 
-  module _ (e : ℕ) (within : (k : ℕ) → k < e → (firstEnd (get_or ks k 0) < n) × (secondEnd (get_or ks k 0) < n)) (t : List ℕ)
+  module _ (e : ℕ) (within : (k : ℕ) → k < e → (first_end (get_or ks k 0) < n) × (second_end (get_or ks k 0) < n)) (t : List ℕ)
       (h : n ≤ length t) where
-    steps : (k : ℕ) → k ≤ e → Labelled s pts ks n k (up_to (joinedBy s pts ks n) k (setUpTo (λ i x. i) n t))
+    steps : (k : ℕ) → k ≤ e → Labelled s pts ks n k (up_to (joined_by s pts ks n) k (set_up_to (λ i x. i) n t))
     unfolding up_to
     steps zero l = numbered t h
     steps (suc k) l =
         let r = steps k (omega arith) in
         let w = within k (omega arith) in
-        by (levelAt s pts ks k) (λ g. level-next k _ r w.0 w.1 g) (λ g. level-not k _ r w.0 w.1 g)
+        by (level_at s pts ks k) (λ g. level-next k _ r w.0 w.1 g) (λ g. level-not k _ r w.0 w.1 g)
 
     pub labelled-is : Labelled s pts ks n e (labelled s pts ks n e t)
     unfolding labelled

@@ -12,7 +12,7 @@ use lib.ListN.{get_or, set}
 use lib.Seq.{get_or-set_other, set-get_or}
 use Rattle.lists.proofs.TestLaws.{by, and_left, and_right}
 use Rattle.joined.specs.Table.{changed}
-use Rattle.turned.specs.Steps.{up_to, setUpTo}
+use Rattle.turned.specs.Steps.{up_to, set_up_to}
 use Rattle.labels.specs.Labelling.{united, Own}
 use Rattle.labels.proofs.CodeLaws.{changed-yes, changed-no, unite-less}
 use Rattle.labels.proofs.LabelLaws.{set-above}
@@ -31,22 +31,22 @@ set-again t i v e = ap (λ (y : ℕ). set t i y) e ∙ set-get_or t i 0
 -- Entries up to a number
 
 module _ (f : ℕ → ℕ → ℕ) (t : List ℕ) where
-  set-some : (n x : ℕ) → x < n → 0 < get_or (setUpTo f n t) x 0 → get_or (setUpTo f n t) x 0 ≡ f x (get_or t x 0)
+  set-some : (n x : ℕ) → x < n → 0 < get_or (set_up_to f n t) x 0 → get_or (set_up_to f n t) x 0 ≡ f x (get_or t x 0)
   unfolding up_to
   set-some zero x h k = absurd (let z : ⊥ = omega arith in z)
   set-some (suc n) x h k =
       by (ltb x n)
       (λ e.
       let i = ltb-true x n e in
-      let same = get_or-set_other (setUpTo f n t) n x (f n (get_or (setUpTo f n t) n 0)) 0 (λ j. let z : ⊥ = omega (arith, i, j) in z) in
+      let same = get_or-set_other (set_up_to f n t) n x (f n (get_or (set_up_to f n t) n 0)) 0 (λ j. let z : ⊥ = omega (arith, i, j) in z) in
       same ∙ set-some n x i (rw same at k))
       (λ e.
       let i : x ≡ n = omega (arith, ltb-false x n e) in
-      rw i (set_here (setUpTo f n t) n _ (rw i at k) ∙ ap (f n) (set-above f t n n (omega arith))))
+      rw i (set_here (set_up_to f n t) n _ (rw i at k) ∙ ap (f n) (set-above f t n n (omega arith))))
 
 -- Labels of their own
 
-pub own-numbered : (n : ℕ) (t u : List ℕ) → u ≡ setUpTo (λ i x. i) n t → Own n 0 u
+pub own-numbered : (n : ℕ) (t u : List ℕ) → u ≡ set_up_to (λ i x. i) n t → Own n 0 u
 own-numbered n t u e = rw e (record { own = λ c h k. set-some (λ i x. i) t n c h k })
 
 -- joining leaves such labels, or gives one that is not above p
@@ -54,8 +54,8 @@ pub own-joined : (n p q top : ℕ) (t u : List ℕ) → u ≡ united n p q t →
 unfolding united
 own-joined n p q top t u e o = rw e (record { own = own })
   where
-    own : (c : ℕ) → c < n → max top p < get_or (setUpTo (λ i x. changed (min p q) (max p q) x) n t) c 0 →
-        get_or (setUpTo (λ i x. changed (min p q) (max p q) x) n t) c 0 ≡ c
+    own : (c : ℕ) → c < n → max top p < get_or (set_up_to (λ i x. changed (min p q) (max p q) x) n t) c 0 →
+        get_or (set_up_to (λ i x. changed (min p q) (max p q) x) n t) c 0 ≡ c
     own c h k =
         let x = get_or t c 0 in
         let is = set-some (λ i y. changed (min p q) (max p q) y) t n c h (omega (arith, k)) in
@@ -69,7 +69,7 @@ own-joined n p q top t u e o = rw e (record { own = own })
 
 module _ (n p b top : ℕ) (t : List ℕ) (o : Own n top t) (low : top < b) where
   -- no other among the first m has it
-  none-changed : (m : ℕ) → m ≤ n → m ≤ b → setUpTo (λ i x. changed p b x) m t ≡ t
+  none-changed : (m : ℕ) → m ≤ n → m ≤ b → set_up_to (λ i x. changed p b x) m t ≡ t
   unfolding up_to
   none-changed zero h k = refl
   none-changed (suc m) h k =
@@ -78,7 +78,7 @@ module _ (n p b top : ℕ) (t : List ℕ) (o : Own n top t) (low : top < b) wher
       (sym (changed-no p b (get_or t m 0) (λ e. let z : ⊥ = omega (arith, e, k, o.own m (omega arith) (omega (arith, e))) in z))))
 
   module _ (mine : get_or t b 0 ≡ b) where
-    one-changed : (m : ℕ) → m ≤ n → b < m → setUpTo (λ i x. changed p b x) m t ≡ set t b p
+    one-changed : (m : ℕ) → m ≤ n → b < m → set_up_to (λ i x. changed p b x) m t ≡ set t b p
     unfolding up_to
     one-changed zero h k = absurd (let z : ⊥ = omega arith in z)
     one-changed (suc m) h k =

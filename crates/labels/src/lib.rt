@@ -1,16 +1,16 @@
 // Labels of points: two have the same exactly when level edges join them, and a label is the least number that has it.
 ghost use Rattle.std.specs.Prelude.{◌≡◌, ◌&&◌, ◌≤◌, ◌<◌, max, eqb, ltb, get_or};
 ghost use Rattle.joined.specs.Table.{changed};
-ghost use Rattle.straight.specs.Table.{straightBound, keyBound, Small};
-ghost use Rattle.turned.specs.Steps.{setUpTo};
-ghost use Rattle.labels.specs.Labelling.{leads, united, Own, joinedBy, labelled};
+ghost use Rattle.straight.specs.Table.{straight_bound, key_bound, Small};
+ghost use Rattle.turned.specs.Steps.{set_up_to};
+ghost use Rattle.labels.specs.Labelling.{leads, united, Own, joined_by, labelled};
 
 use slide::Side;
 use straight::{NUMBERS, POINTS};
 
 fn number(lab: &mut [usize; POINTS], n: usize)
-    requires { n ≤ straightBound }
-    ensures { lab.new ≡ setUpTo (λ i x. i) n lab.old }
+    requires { n ≤ straight_bound }
+    ensures { lab.new ≡ set_up_to (λ i x. i) n lab.old }
 {
     let mut i = 0;
     while i < n {
@@ -30,8 +30,8 @@ fn changed(a: usize, b: usize, x: usize) -> usize
 
 // The label b becomes a.
 fn merge(lab: &mut [usize; POINTS], n: usize, a: usize, b: usize)
-    requires { n ≤ straightBound }
-    ensures { lab.new ≡ setUpTo (λ i x. changed a b x) n lab.old }
+    requires { n ≤ straight_bound }
+    ensures { lab.new ≡ set_up_to (λ i x. changed a b x) n lab.old }
 {
     let mut i = 0;
     while i < n {
@@ -58,7 +58,7 @@ fn is_lone(n: usize, p: usize, b: usize, q: usize, top: usize) -> bool
 
 // Of the label p and that of point b the greater becomes the smaller. Where no other point has b's label, b takes p.
 fn unite(lab: &mut [usize; POINTS], n: usize, p: usize, b: usize, top: usize)
-    requires { ((n ≤ straightBound) × (b < straightBound)) × (Own n top lab.old) }
+    requires { ((n ≤ straight_bound) × (b < straight_bound)) × (Own n top lab.old) }
     ensures { lab.new ≡ united n p (get_or lab.old b 0) lab.old }
 {
     let q = lab[b];
@@ -81,7 +81,7 @@ pub fn leads(
     s: Side,
     k: usize,
 ) -> bool
-    requires { (k < straightBound) × (get_or keys.now k 0 < keyBound) }
+    requires { (k < straight_bound) × (get_or keys.now k 0 < key_bound) }
     ensures { result ≡ leads s pts.now keys.now lab.now k }
 {
     let a = straight::first_end(keys, k);
@@ -98,9 +98,9 @@ fn join(
     lab: &mut [usize; POINTS],
     top: usize,
 ) -> usize
-    requires n_le_straight_bound { (n ≤ straightBound) × ((k < straightBound) × (get_or keys.now k 0 < keyBound)) }
+    requires n_le_straight_bound { (n ≤ straight_bound) × ((k < straight_bound) × (get_or keys.now k 0 < key_bound)) }
     requires own { Own n top lab.old }
-    ensures lab_after { lab.new ≡ joinedBy s pts.now keys.now n k lab.old }
+    ensures lab_after { lab.new ≡ joined_by s pts.now keys.now n k lab.old }
     ensures own_2 { Own n result lab.new }
 {
     if turned::is_level(pts, keys, s, k) {
@@ -119,7 +119,7 @@ pub fn label(
     s: Side,
     lab: &mut [usize; POINTS],
 )
-    requires { (n ≤ straightBound) × ((e ≤ straightBound) × (Small keys.now)) }
+    requires { (n ≤ straight_bound) × ((e ≤ straight_bound) × (Small keys.now)) }
     ensures { lab.new ≡ labelled s pts.now keys.now n e lab.old }
 {
     number(&mut *lab, n);

@@ -2,13 +2,13 @@
 use Rattle.std.specs.Prelude.{List, ℕ, ◌*◌, ℤ}
 use Rattle.lent.specs.Entries.{entries}
 use Rattle.plane.specs.declared.Place.{Place}
-use Rattle.net.specs.Bounds.{treeBound}
-use Rattle.graph.specs.Numbers.{edgeFrom}
+use Rattle.net.specs.Bounds.{tree_bound}
+use Rattle.graph.specs.Numbers.{edge_from}
 
 -- the first e
-abbrev pub edgesOf : List ℤ → ℕ → List (Place × Place)
-edgesOf s e = entries edgeFrom 4 s e
+abbrev pub edges_of : List ℤ → ℕ → List (Place × Place)
+edges_of s e = entries edge_from 4 s e
 
 -- two for each edge of a refined tree
-abbrev pub laidBound : ℕ
-laidBound = treeBound * 2
+abbrev pub laid_bound : ℕ
+laid_bound = tree_bound * 2

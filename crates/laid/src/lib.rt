@@ -3,17 +3,17 @@ ghost use Rattle.std.specs.Prelude.{◌≡◌, ◌*◌, ◌≤◌, length};
 ghost use Rattle.lent.specs.Over.{over};
 ghost use Rattle.lent.specs.Entries.{flat};
 ghost use Rattle.joined.specs.Cost.{lengths};
-ghost use Rattle.plane.specs.Cost.{cost, costLimit};
+ghost use Rattle.plane.specs.Cost.{cost, cost_limit};
 ghost use Rattle.plane.specs.Distance.{distance};
-ghost use Rattle.graph.specs.Numbers.{edgeNumbers};
-ghost use Rattle.laid.specs.Edges.{edgesOf, laidBound};
+ghost use Rattle.graph.specs.Numbers.{edge_numbers};
+ghost use Rattle.laid.specs.Edges.{edges_of, laid_bound};
 
 use plane::Weights;
 
 // What the first e edges cost together.
 pub fn total(w: Weights, edges: &[i32], e: usize) -> u64
-    requires { (e * 4 ≤ length edges.now) × (e ≤ laidBound) }
-    ensures { (result ≡ lengths (cost w) (edgesOf edges.now e)) × (result ≤ e * costLimit) }
+    requires { (e * 4 ≤ length edges.now) × (e ≤ laid_bound) }
+    ensures { (result ≡ lengths (cost w) (edges_of edges.now e)) × (result ≤ e * cost_limit) }
 {
     let mut sum = 0;
     let mut i = 0;
@@ -28,8 +28,8 @@ pub fn total(w: Weights, edges: &[i32], e: usize) -> u64
 
 // The metal to lay for them: their lengths added up, whatever the net's weights.
 pub fn metal(edges: &[i32], e: usize) -> u64
-    requires { (e * 4 ≤ length edges.now) × (e ≤ laidBound) }
-    ensures { (result ≡ lengths distance (edgesOf edges.now e)) × (result ≤ e * costLimit) }
+    requires { (e * 4 ≤ length edges.now) × (e ≤ laid_bound) }
+    ensures { (result ≡ lengths distance (edges_of edges.now e)) × (result ≤ e * cost_limit) }
 {
     let plain = Weights {
         across: 1,
@@ -41,7 +41,7 @@ pub fn metal(edges: &[i32], e: usize) -> u64
 // The first e edges, in order.
 pub fn give(edges: &[i32], e: usize, lent: &mut [i32])
     requires { (e * 4 ≤ length edges.now) × (e * 4 ≤ length lent.old) }
-    ensures { lent.new ≡ over (flat edgeNumbers (edgesOf edges.now e)) lent.old }
+    ensures { lent.new ≡ over (flat edge_numbers (edges_of edges.now e)) lent.old }
 {
     let mut i = 0;
     while i < e {

@@ -9,7 +9,7 @@ use native.Mathlib.Omega.{arith}
 use lib.ListN.{length, take, drop, length-append, length-drop, take-append-drop}
 use lib.Seq.{sets, sets-eq, take-append_seam, drop-append-add, drop_at, drop-drop, length-take-le, take-add}
 use Rattle.lent.specs.Over.{over}
-use Rattle.lent.specs.Entries.{flat, entriesFrom, entries, Width}
+use Rattle.lent.specs.Entries.{flat, entries_from, entries, Width}
 use Rattle.lent.proofs.OverLaws.{over-of}
 
 -- a part of a list replaced by one as long
@@ -96,9 +96,9 @@ module _ {A B : Type 0} (numbers : B → List A) where
         (drop-drop w n lent ∙ ap (λ (k : ℕ). drop k lent) (sym more))
 
     -- what is written is read back
-    read-from : (xs : List A) (bs : List B) (r : List A) (k : ℕ) → length xs ≡ k → entriesFrom from w (xs ++ (flat numbers bs ++ r)) k
+    read-from : (xs : List A) (bs : List B) (r : List A) (k : ℕ) → length xs ≡ k → entries_from from w (xs ++ (flat numbers bs ++ r)) k
         (length bs) ≡ bs
-    unfolding flat entriesFrom
+    unfolding flat entries_from
     read-from xs [] r k e = refl
     read-from xs (b ∷ bs) r k e =
         let next : length (xs ++ numbers b) ≡ k + w = length-append xs (numbers b) ∙ omega (arith, e, wide.each b) in
@@ -106,7 +106,7 @@ module _ {A B : Type 0} (numbers : B → List A) where
         ap (λ (l : List A). xs ++ l) (append_assoc (numbers b) (flat numbers bs) r) in
         ap₂ (λ (c : B) (cs : List B). c ∷ cs)
         (ap₂ from text (sym e) ∙ wide.back xs b (flat numbers bs ++ r))
-        (ap (λ (l : List A). entriesFrom from w l (k + w) (length bs)) (text ∙ sym (append_assoc xs (numbers b) (flat numbers bs ++ r)))
+        (ap (λ (l : List A). entries_from from w l (k + w) (length bs)) (text ∙ sym (append_assoc xs (numbers b) (flat numbers bs ++ r)))
         ∙ read-from (xs ++ numbers b) bs r (k + w) next)
 
     pub entries_over : (bs : List B) (lent : List A) (n : ℕ) → length bs ≡ n → entries from w (over (flat numbers bs) lent) n ≡ bs
@@ -114,8 +114,8 @@ module _ {A B : Type 0} (numbers : B → List A) where
     entries_over bs lent n e = rw (← e) (read-from [] bs (drop (length (flat numbers bs)) lent) 0 refl)
 
     -- a list is its first entries over itself
-    front : (s : List A) (k n : ℕ) → k + n * w ≤ length s → flat numbers (entriesFrom from w s k n) ≡ take (n * w) (drop k s)
-    unfolding flat entriesFrom
+    front : (s : List A) (k n : ℕ) → k + n * w ≤ length s → flat numbers (entries_from from w s k n) ≡ take (n * w) (drop k s)
+    unfolding flat entries_from
     front s k zero h = sym (ap (λ (m : ℕ). take m (drop k s)) (zero-mul w))
     front s k (suc n) h =
         let e : suc n * w ≡ w + n * w = omega (arith, suc-mul n w) in
@@ -124,8 +124,8 @@ module _ {A B : Type 0} (numbers : B → List A) where
         ∙ sym (take-add w (n * w) (drop k s))
         ∙ ap (λ (m : ℕ). take m (drop k s)) (sym e)
 
-    pub length-entries : (s : List A) (k n : ℕ) → length (entriesFrom from w s k n) ≡ n
-    unfolding entriesFrom
+    pub length-entries : (s : List A) (k n : ℕ) → length (entries_from from w s k n) ≡ n
+    unfolding entries_from
     length-entries s k zero = refl
     length-entries s k (suc n) = ap suc (length-entries s (k + w) n)
 

@@ -7,13 +7,13 @@ flat numbers [] = []
 flat numbers (b ∷ bs) = numbers b ++ flat numbers bs
 
 -- n entries read from the number k on, w numbers each; `from` reads the one that begins at a number
-unfoldable pub entriesFrom : {A B : Type 0} → (List A → ℕ → B) → ℕ → List A → ℕ → ℕ → List B
-entriesFrom from w s k zero = []
-entriesFrom from w s k (suc n) = from s k ∷ entriesFrom from w s (k + w) n
+unfoldable pub entries_from : {A B : Type 0} → (List A → ℕ → B) → ℕ → List A → ℕ → ℕ → List B
+entries_from from w s k zero = []
+entries_from from w s k (suc n) = from s k ∷ entries_from from w s (k + w) n
 
 -- the first n entries
 abbrev pub entries : {A B : Type 0} → (List A → ℕ → B) → ℕ → List A → ℕ → List B
-entries from w s n = entriesFrom from w s 0 n
+entries from w s n = entries_from from w s 0 n
 
 -- how entries are written and read: as many numbers for each, and reading and writing undo each other
 pub record Width {A B : Type 0} (numbers : B → List A) (from : List A → ℕ → B) (w : ℕ) : Type 0 where

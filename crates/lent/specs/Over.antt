@@ -12,6 +12,6 @@ after (refused n) xs lent = lent
 after (given a) xs lent = over xs lent
 
 -- the same for one lent value, which the answer gives through f
-unfoldable pub valueAfter : {A X : Type 0} → (A → X) → Told A → X → X
-valueAfter f (refused n) lent = lent
-valueAfter f (given a) lent = f a
+unfoldable pub value_after : {A X : Type 0} → (A → X) → Told A → X → X
+value_after f (refused n) lent = lent
+value_after f (given a) lent = f a

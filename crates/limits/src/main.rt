@@ -1,6 +1,6 @@
 // E12 to E14, E20 and E33: checks nets at the bounds and one past them, and writes each answer on a line of its own.
 ghost use Rattle.std.specs.Prelude.{◌≡◌, ◌+◌, ◌*◌, ◌≤◌, length};
-ghost use Rattle.net.specs.Bounds.{macroBound, macroWidth};
+ghost use Rattle.net.specs.Bounds.{macro_bound, macro_width};
 
 use checks::Checked;
 use net::{Net, Weighing};
@@ -32,7 +32,7 @@ const NUMBERS: usize = (Net::MACROS + 1) * Net::MACRO_NUMBERS;
 
 // 0, 1, 2 and so on: read as pins, places on a diagonal, each with a load; read as macros, squares along it that do not touch.
 fn counted_up() -> [i32; NUMBERS]
-    ensures { (macroBound + 1) * macroWidth ≡ length result }
+    ensures { (macro_bound + 1) * macro_width ≡ length result }
 {
     let mut numbers = [0i32; NUMBERS];
     let mut i: usize = 0;

@@ -15,38 +15,38 @@ use Rattle.lists.specs.Sorted.{Ascending, position}
 use Rattle.lists.proofs.TestLaws.{by, differ, and_left, and_right, and_both}
 use Rattle.lists.proofs.AnyLaws.{any_none}
 use Rattle.lists.proofs.SortedLaws.{position-small, at_position}
-use Rattle.signed.specs.Order.{eqZ}
-use Rattle.signed.proofs.OrderLaws.{eqZ-true, eqZ-refl}
+use Rattle.signed.specs.Order.{z_eq}
+use Rattle.signed.proofs.OrderLaws.{z_eq-true, z_eq-refl}
 use Rattle.joined.specs.Joined.{Link}
 use Rattle.plane.specs.declared.Place.{Place}
 use Rattle.plane.specs.declared.Macro.{Macro}
 use Rattle.plane.specs.Place.{place}
 use Rattle.net.specs.Net.{Net}
-use Rattle.lines.specs.Lines.{xLines, yLines, Crossing, Beside, GridStep, across, along}
-use Rattle.lines.specs.Edges.{gridEdges}
-use Rattle.lines.specs.Bounds.{lineBound, crossingBound}
-use Rattle.lines.specs.Crossings.{isCrossing, crossingNumber}
+use Rattle.lines.specs.Lines.{x_lines, y_lines, Crossing, Beside, GridStep, across, along}
+use Rattle.lines.specs.Edges.{grid_edges}
+use Rattle.lines.specs.Bounds.{line_bound, crossing_bound}
+use Rattle.lines.specs.Crossings.{is_crossing, crossing_number}
 use Rattle.lines.proofs.LineLaws.{line-order}
 use Rattle.lines.proofs.EdgeLaws.{x-ascending, y-ascending, link-grid}
 
-any-line : (L : List ℤ) (c : ℤ) → any (eqZ c) L ≡ true → c ∈ L
+any-line : (L : List ℤ) (c : ℤ) → any (z_eq c) L ≡ true → c ∈ L
 unfolding any
 any-line [] c e = differ e refl
-any-line (x ∷ l) c e = by (eqZ c x) (λ h. here (eqZ-true c x h)) (λ h. there (any-line l c (rw (any, h) at e)))
+any-line (x ∷ l) c e = by (z_eq c x) (λ h. here (z_eq-true c x h)) (λ h. there (any-line l c (rw (any, h) at e)))
 
-line-any : (L : List ℤ) (c : ℤ) → c ∈ L → any (eqZ c) L ≡ true
-line-any L c m = by (any (eqZ c) L) (λ e. e) (λ e. differ (eqZ-refl c) (any_none (eqZ c) L e c m))
+line-any : (L : List ℤ) (c : ℤ) → c ∈ L → any (z_eq c) L ≡ true
+line-any L c m = by (any (z_eq c) L) (λ e. e) (λ e. differ (z_eq-refl c) (any_none (z_eq c) L e c m))
 
 module _ (xs ys : List ℤ) (hx : Ascending lt_z xs) (hy : Ascending lt_z ys) where
-  pub crossing_is : (v : Place) → isCrossing xs ys v ≡ true → Crossing xs ys v
-  unfolding isCrossing
+  pub crossing_is : (v : Place) → is_crossing xs ys v ≡ true → Crossing xs ys v
+  unfolding is_crossing
   crossing_is v e = record {
-    across = any-line xs v.x (and_left _ (any (eqZ v.y) ys) e);
-    along = any-line ys v.y (and_right (any (eqZ v.x) xs) _ e);
+    across = any-line xs v.x (and_left _ (any (z_eq v.y) ys) e);
+    along = any-line ys v.y (and_right (any (z_eq v.x) xs) _ e);
   }
 
-  pub is-crossing : (v : Place) → Crossing xs ys v → isCrossing xs ys v ≡ true
-  unfolding isCrossing
+  pub is-crossing : (v : Place) → Crossing xs ys v → is_crossing xs ys v ≡ true
+  unfolding is_crossing
   is-crossing v c = and_both _ _ (line-any xs v.x c.across) (line-any ys v.y c.along)
 
   same-position : (L : List ℤ) → Ascending lt_z L → (a b : ℤ) → a ∈ L → b ∈ L → position lt_z L a ≡ position lt_z L b → a ≡ b
@@ -54,10 +54,10 @@ module _ (xs ys : List ℤ) (hx : Ascending lt_z xs) (hy : Ascending lt_z ys) wh
       sym (at_position lt_z line-order L h a (pos 0) i) ∙ ap (λ (n : ℕ). get_or L n (pos 0)) e ∙ at_position lt_z line-order L h b (pos 0) k
 
   -- no more lines than a row of crossings has numbers
-  module _ (few-x : length xs ≤ lineBound) (few-y : length ys ≤ lineBound) where
-    pub numbers-single : (a b : Place) → isCrossing xs ys a ≡ true → isCrossing xs ys b ≡ true →
-        crossingNumber xs ys a ≡ crossingNumber xs ys b → a ≡ b
-    unfolding crossingNumber
+  module _ (few-x : length xs ≤ line_bound) (few-y : length ys ≤ line_bound) where
+    pub numbers-single : (a b : Place) → is_crossing xs ys a ≡ true → is_crossing xs ys b ≡ true →
+        crossing_number xs ys a ≡ crossing_number xs ys b → a ≡ b
+    unfolding crossing_number
     numbers-single a b i k e =
         let p = crossing_is a i in
         let q = crossing_is b k in
@@ -67,8 +67,8 @@ module _ (xs ys : List ℤ) (hx : Ascending lt_z xs) (hy : Ascending lt_z ys) wh
         (same-position xs hx a.x b.x p.across q.across (omega (arith, e, h, l, few-y)))
         (same-position ys hy a.y b.y p.along q.along (omega (arith, e, h, l, few-y)))
 
-    pub number-below : (a : Place) → Crossing xs ys a → crossingNumber xs ys a < crossingBound
-    unfolding crossingNumber
+    pub number-below : (a : Place) → Crossing xs ys a → crossing_number xs ys a < crossing_bound
+    unfolding crossing_number
     number-below a p =
         let h = position-small lt_z line-order xs hx a.x p.across in
         let k = position-small lt_z line-order ys hy a.y p.along in
@@ -96,9 +96,9 @@ step-crossings xs ys ms a b (along s e m h) = (record { across = m; along = firs
     second_of (inl n) = n.second
     second_of (inr n) = n.first
 
-pub ends-crossings : (net : Net) (a b : Place) → Link (gridEdges net) a b →
-    (isCrossing (xLines net) (yLines net) a ≡ true) × (isCrossing (xLines net) (yLines net) b ≡ true)
+pub ends-crossings : (net : Net) (a b : Place) → Link (grid_edges net) a b →
+    (is_crossing (x_lines net) (y_lines net) a ≡ true) × (is_crossing (x_lines net) (y_lines net) b ≡ true)
 ends-crossings net a b l =
-    let r = step-crossings (xLines net) (yLines net) net.macros a b (link-grid net a b l) in
-    let c = is-crossing (xLines net) (yLines net) (x-ascending net) (y-ascending net) in
+    let r = step-crossings (x_lines net) (y_lines net) net.macros a b (link-grid net a b l) in
+    let c = is-crossing (x_lines net) (y_lines net) (x-ascending net) (y-ascending net) in
     (c a r.0, c b r.1)

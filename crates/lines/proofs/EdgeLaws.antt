@@ -15,7 +15,7 @@ use Rattle.lists.proofs.ThoseLaws.{in-those, of-those}
 use Rattle.lists.proofs.EachLaws.{of-each, in-each}
 use Rattle.lists.proofs.SortedLaws.{in-sorted, sorted-ascending}
 use Rattle.signed.specs.Sides.{Lt}
-use Rattle.signed.proofs.SideLaws.{ltZ-true, signed}
+use Rattle.signed.proofs.SideLaws.{z_lt-true, signed}
 use Rattle.joined.specs.Joined.{Link}
 use Rattle.joined.proofs.JoinedLaws.{firsts, seconds, turn}
 use Rattle.plane.specs.declared.Place.{Place}
@@ -24,8 +24,8 @@ use Rattle.plane.specs.Place.{place}
 use Rattle.plane.specs.Macro.{clear}
 use Rattle.net.specs.Net.{Net}
 use Rattle.lines.specs.declared.Axis.TheVariants.{Across, Along}
-use Rattle.lines.specs.Lines.{coordinate, sides, marks, lines_of, xLines, yLines, Sides, Crossing, Neighbours, GridStep, across, along}
-use Rattle.lines.specs.Edges.{nexts, Edge, row, column, rows, columns, edgesOf, gridEdges}
+use Rattle.lines.specs.Lines.{coordinate, sides, marks, lines_of, x_lines, y_lines, Sides, Crossing, Neighbours, GridStep, across, along}
+use Rattle.lines.specs.Edges.{nexts, Edge, row, column, rows, columns, edges_of, grid_edges}
 use Rattle.lines.proofs.LineLaws.{line-order}
 use Rattle.lines.proofs.StepLaws.{step_back, step-cases}
 
@@ -45,12 +45,12 @@ in-nexts (x ∷ (y ∷ l)) h a b n =
   where
     -- what follows x is above it
     over : (c : ℤ) → c ∈ (y ∷ l) → Lt x c
-    over c m = ltZ-true x c (h.0 c m)
+    over c m = z_lt-true x c (h.0 c m)
 
     -- a is x, so b is y
     first : a ≡ x → (b ≡ y) ⊎ (b ∈ l) → (a, b) ∈ ((x, y) ∷ nexts (y ∷ l))
     first e (inl f) = here (ap₂ (λ (p q : ℤ). (p, q)) e f)
-    first e (inr m) = absurd (n.none y (there (here refl)) (rw e (over y (here refl))) (ltZ-true y b (h.1.0 b m)))
+    first e (inr m) = absurd (n.none y (there (here refl)) (rw e (over y (here refl))) (z_lt-true y b (h.1.0 b m)))
 
     at : (Neighbours (y ∷ l) a b → (a, b) ∈ nexts (y ∷ l)) → (a ≡ x) ⊎ (a ∈ (y ∷ l)) → (b ≡ x) ⊎ (b ∈ (y ∷ l)) →
         (a, b) ∈ ((x, y) ∷ nexts (y ∷ l))
@@ -71,14 +71,14 @@ of-nexts (x ∷ (y ∷ l)) h a b m = either (λ e. head (firsts e) (seconds e)) 
     none c (inr j) k i =
         either
         (λ e. let r : Lt y y = rw e at i in omega (signed, r))
-        (λ p. let r = ltZ-true y c (h.1.0 c p) in omega (signed, r, i))
+        (λ p. let r = z_lt-true y c (h.1.0 c p) in omega (signed, r, i))
         (Memᴰ.cases_cons j)
 
     head : a ≡ x → b ≡ y → Neighbours (x ∷ (y ∷ l)) a b
     head e f = rw (e, f) record {
       first = here refl;
       second = there (here refl);
-      rise = ltZ-true x y (h.0 y (here refl));
+      rise = z_lt-true x y (h.0 y (here refl));
       none = λ c i. none c (Memᴰ.cases_cons i);
     }
 
@@ -88,7 +88,7 @@ of-nexts (x ∷ (y ∷ l)) h a b m = either (λ e. head (firsts e) (seconds e)) 
       second = there n.second;
       rise = n.rise;
       none = λ c i k j. either
-          (λ e. let r = ltZ-true x a (h.0 a n.first) in let s : Lt a x = rw e at k in omega (signed, r, s))
+          (λ e. let r = z_lt-true x a (h.0 a n.first) in let s : Lt a x = rw e at k in omega (signed, r, s))
           (λ p. n.none c p k j) (Memᴰ.cases_cons i);
     }
 
@@ -105,24 +105,24 @@ module _ (xs ys : List ℤ) (ms : List Macro) where
 
   module _ (hx : Ascending lt_z xs) (hy : Ascending lt_z ys) where
     -- a clear segment of a row or of a column
-    in_row : (a b : Place) → Neighbours xs a.x b.x → a.y ≡ b.y → a.y ∈ ys → clear a b ms ≡ true → (a, b) ∈ edgesOf xs ys ms
-    unfolding edgesOf row
+    in_row : (a b : Place) → Neighbours xs a.x b.x → a.y ≡ b.y → a.y ∈ ys → clear a b ms ≡ true → (a, b) ∈ edges_of xs ys ms
+    unfolding edges_of row
     in_row a b n e m h =
         in-those (λ (e : Edge). clear e.0 e.1 ms) _
         (Memᴰ.append_left _ (rows_in m
         (Memᴰ.cast (ap (λ (y : ℤ). (a, place b.x y)) (sym e))
         (in_map (λ (s : ℤ × ℤ). (place s.0 a.y, place s.1 a.y)) (in-nexts xs hx a.x b.x n))))) h
 
-    in-column : (a b : Place) → Neighbours ys a.y b.y → a.x ≡ b.x → a.x ∈ xs → clear a b ms ≡ true → (a, b) ∈ edgesOf xs ys ms
-    unfolding edgesOf column
+    in-column : (a b : Place) → Neighbours ys a.y b.y → a.x ≡ b.x → a.x ∈ xs → clear a b ms ≡ true → (a, b) ∈ edges_of xs ys ms
+    unfolding edges_of column
     in-column a b n e m h =
         in-those (λ (e : Edge). clear e.0 e.1 ms) _
         (Memᴰ.append_right (rows xs ys) (columns-in m
         (Memᴰ.cast (ap (λ (x : ℤ). (a, place x b.y)) (sym e))
         (in_map (λ (s : ℤ × ℤ). (place a.x s.0, place a.x s.1)) (in-nexts ys hy a.y b.y n))))) h
 
-    pub step-link : (a b : Place) → GridStep xs ys ms a b → Link (edgesOf xs ys ms) a b
-    step-link = step-cases xs ys ms (Link (edgesOf xs ys ms)) record {
+    pub step-link : (a b : Place) → GridStep xs ys ms a b → Link (edges_of xs ys ms) a b
+    step-link = step-cases xs ys ms (Link (edges_of xs ys ms)) record {
       turned = λ a b l. turn l;
       level = λ a b n e m h. inl (in_row a b n e m h);
       upright = λ a b n e m h. inl (in-column a b n e m h);
@@ -155,13 +155,13 @@ module _ (xs ys : List ℤ) (ms : List Macro) where
         let eb : b ≡ place p.entry s.entry.1 = seconds s.is in
         along-at a b s.entry.0 s.entry.1 p.entry ea eb (of-nexts ys hy s.entry.0 s.entry.1 s.stands) p.stands h
 
-    pub edge-step : (a b : Place) → (a, b) ∈ edgesOf xs ys ms → GridStep xs ys ms a b
-    unfolding edgesOf
+    pub edge-step : (a b : Place) → (a, b) ∈ edges_of xs ys ms → GridStep xs ys ms a b
+    unfolding edges_of
     edge-step a b m =
         let r = of-those (λ (e : Edge). clear e.0 e.1 ms) (rows xs ys ++ columns ys xs) m in
         either (of_row a b r.1) (of-column a b r.1) (Memᴰ.append_cases (rows xs ys) r.0)
 
-    pub link-step : (a b : Place) → Link (edgesOf xs ys ms) a b → GridStep xs ys ms a b
+    pub link-step : (a b : Place) → Link (edges_of xs ys ms) a b → GridStep xs ys ms a b
     link-step a b (inl m) = edge-step a b m
     link-step a b (inr m) = step_back (edge-step b a m)
 
@@ -179,11 +179,11 @@ upper_in (n ∷ ms) m (there i) = there (there (upper_in ms m i))
 
 module _ (net : Net) where
   -- the coordinates of marks are lines
-  x-line : (p : Place) → p ∈ marks net.pins net.macros → p.x ∈ xLines net
+  x-line : (p : Place) → p ∈ marks net.pins net.macros → p.x ∈ x_lines net
   unfolding lines_of coordinate
   x-line p m = in-sorted lt_z line-order (map (coordinate Across) (marks net.pins net.macros)) p.x (in_map (coordinate Across) m)
 
-  y-line : (p : Place) → p ∈ marks net.pins net.macros → p.y ∈ yLines net
+  y-line : (p : Place) → p ∈ marks net.pins net.macros → p.y ∈ y_lines net
   unfolding lines_of coordinate
   y-line p m = in-sorted lt_z line-order (map (coordinate Along) (marks net.pins net.macros)) p.y (in_map (coordinate Along) m)
 
@@ -195,7 +195,7 @@ module _ (net : Net) where
   unfolding marks
   upper-mark m i = Memᴰ.append_right net.pins (upper_in net.macros m i)
 
-  pub lines-sides : Sides (xLines net) (yLines net) net.macros
+  pub lines-sides : Sides (x_lines net) (y_lines net) net.macros
   lines-sides = record {
     left = λ m i. x-line (place m.left m.bottom) (lower-mark m i);
     right = λ m i. x-line (place m.right m.top) (upper-mark m i);
@@ -203,22 +203,22 @@ module _ (net : Net) where
     top = λ m i. y-line (place m.right m.top) (upper-mark m i);
   }
 
-  pub pin-crossing : (p : Place) → p ∈ net.pins → Crossing (xLines net) (yLines net) p
+  pub pin-crossing : (p : Place) → p ∈ net.pins → Crossing (x_lines net) (y_lines net) p
   unfolding marks
   pin-crossing p i = record { across = x-line p (Memᴰ.append_left _ i); along = y-line p (Memᴰ.append_left _ i) }
 
-  pub x-ascending : Ascending lt_z (xLines net)
+  pub x-ascending : Ascending lt_z (x_lines net)
   unfolding lines_of
   x-ascending = sorted-ascending lt_z line-order (map (coordinate Across) (marks net.pins net.macros))
 
-  pub y-ascending : Ascending lt_z (yLines net)
+  pub y-ascending : Ascending lt_z (y_lines net)
   unfolding lines_of
   y-ascending = sorted-ascending lt_z line-order (map (coordinate Along) (marks net.pins net.macros))
 
-  pub grid-link : (a b : Place) → GridStep (xLines net) (yLines net) net.macros a b → Link (gridEdges net) a b
-  unfolding gridEdges
-  grid-link a b s = step-link (xLines net) (yLines net) net.macros x-ascending y-ascending a b s
+  pub grid-link : (a b : Place) → GridStep (x_lines net) (y_lines net) net.macros a b → Link (grid_edges net) a b
+  unfolding grid_edges
+  grid-link a b s = step-link (x_lines net) (y_lines net) net.macros x-ascending y-ascending a b s
 
-  pub link-grid : (a b : Place) → Link (gridEdges net) a b → GridStep (xLines net) (yLines net) net.macros a b
-  unfolding gridEdges
-  link-grid a b l = link-step (xLines net) (yLines net) net.macros x-ascending y-ascending a b l
+  pub link-grid : (a b : Place) → Link (grid_edges net) a b → GridStep (x_lines net) (y_lines net) net.macros a b
+  unfolding grid_edges
+  link-grid a b l = link-step (x_lines net) (y_lines net) net.macros x-ascending y-ascending a b l

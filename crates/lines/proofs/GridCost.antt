@@ -19,7 +19,7 @@ use Rattle.lists.proofs.TestLaws.{by, either}
 use Rattle.lists.proofs.MapLaws.{of_map}
 use Rattle.lists.proofs.SortedLaws.{length-sorted, sorted-ascending, of-sorted}
 use Rattle.signed.specs.Sides.{Le}
-use Rattle.signed.proofs.SideLaws.{ltZ-true, up_pos, down_pos, signed}
+use Rattle.signed.proofs.SideLaws.{z_lt-true, up_pos, down_pos, signed}
 use Rattle.joined.specs.Cost.{lengths}
 use Rattle.joined.proofs.CostLaws.{lengths-append}
 use Rattle.plane.specs.declared.Place.{Place}
@@ -27,18 +27,18 @@ use Rattle.plane.specs.declared.Macro.{Macro}
 use Rattle.plane.specs.declared.Weights.{Weights}
 use Rattle.plane.specs.Distance.{apart}
 use Rattle.plane.specs.Cost.{cost}
-use Rattle.net.specs.Bounds.{coordinateBound, weightBound}
-use Rattle.net.specs.Net.{Net, costIn}
-use Rattle.net.specs.Tests.{outOfRange}
+use Rattle.net.specs.Bounds.{coordinate_bound, weight_bound}
+use Rattle.net.specs.Net.{Net, cost_in}
+use Rattle.net.specs.Tests.{out_of_range}
 use Rattle.net.specs.Allowed.{Allowed}
 use Rattle.net.proofs.RangeBounds.{Near, in-range-near}
-use Rattle.lines.specs.Bounds.{gridPins, gridMacros, lineBound, unreached}
+use Rattle.lines.specs.Bounds.{grid_pins, grid_macros, line_bound, unreached}
 use Rattle.lines.specs.declared.Axis.{Axis}
 use Rattle.lines.specs.declared.Axis.TheVariants.{Across, Along}
-use Rattle.lines.specs.Lines.{coordinate, sides, marks, lines_of, xLines, yLines}
+use Rattle.lines.specs.Lines.{coordinate, sides, marks, lines_of, x_lines, y_lines}
 use Rattle.plane.specs.Macro.{clear}
 use Rattle.plane.proofs.DistanceLaws.{apart-ordered}
-use Rattle.lines.specs.Edges.{nexts, Edge, row, column, rows, columns, edgesOf, gridEdges}
+use Rattle.lines.specs.Edges.{nexts, Edge, row, column, rows, columns, edges_of, grid_edges}
 use Rattle.lines.proofs.LineLaws.{line-order}
 use Rattle.lines.proofs.AxisLaws.{axis-self, axis-sum}
 
@@ -64,7 +64,7 @@ module _ (w : Weights) where
   unfolding lengths total row nexts cost
   row-cost hi y x [] h i k = omega arith
   row-cost hi y x (z ∷ l) h i k =
-      let less = ltZ-true x z (h.0 z (here refl)) in
+      let less = z_lt-true x z (h.0 z (here refl)) in
       let up = k z (here refl) in
       let sum = axis-sum w.across x z z hi x hi
       (omega (signed, apart-ordered x z (omega (signed, less)), apart-ordered z hi up, apart-ordered x hi i)) in
@@ -75,7 +75,7 @@ module _ (w : Weights) where
   unfolding lengths total column nexts cost
   column-cost hi x y [] h i k = omega arith
   column-cost hi x y (z ∷ l) h i k =
-      let less = ltZ-true y z (h.0 z (here refl)) in
+      let less = z_lt-true y z (h.0 z (here refl)) in
       let up = k z (here refl) in
       let sum = axis-sum w.along y z z hi y hi
       (omega (signed, apart-ordered y z (omega (signed, less)), apart-ordered z hi up, apart-ordered y hi i)) in
@@ -117,8 +117,8 @@ module _ (w : Weights) where
       )
 
   pub edges-cost : (xs ys : List ℤ) (ms : List Macro) (hi : ℤ) (span : ℕ) → Extent xs hi span → Extent ys hi span →
-      lengths price (edgesOf xs ys ms) ≤ length ys * (span * w.across) + length xs * (span * w.along)
-  unfolding edgesOf
+      lengths price (edges_of xs ys ms) ≤ length ys * (span * w.across) + length xs * (span * w.along)
+  unfolding edges_of
   edges-cost xs ys ms hi span ex ey =
       omega (
         arith,
@@ -130,10 +130,10 @@ module _ (w : Weights) where
 
 -- The lines of an allowed net
 
-near-highest : (c : ℤ) → Near c → (Le c (pos coordinateBound)) × (apart c (pos coordinateBound) ≤ coordinateBound * 2)
+near-highest : (c : ℤ) → Near c → (Le c (pos coordinate_bound)) × (apart c (pos coordinate_bound) ≤ coordinate_bound * 2)
 near-highest c n =
-    let le : Le c (pos coordinateBound) = omega (signed, n.above, up_pos coordinateBound, down_pos coordinateBound) in
-    (le, omega (signed, n.below, n.above, apart-ordered c (pos coordinateBound) le, up_pos coordinateBound, down_pos coordinateBound))
+    let le : Le c (pos coordinate_bound) = omega (signed, n.above, up_pos coordinate_bound, down_pos coordinate_bound) in
+    (le, omega (signed, n.below, n.above, apart-ordered c (pos coordinate_bound) le, up_pos coordinate_bound, down_pos coordinate_bound))
 
 pub sides-count : (ms : List Macro) → length (sides ms) ≡ length ms * 2
 unfolding sides
@@ -153,7 +153,7 @@ line-count axis net =
 
 module _ {net : Net} (a : Allowed net) where
   side-range : (axis : Axis) (ms : List Macro) → ((m : Macro) → m ∈ ms → m ∈ net.macros) → (p : Place) → p ∈ sides ms →
-      outOfRange (coordinate axis p) ≡ false
+      out_of_range (coordinate axis p) ≡ false
   unfolding sides coordinate
   side-range Across (m ∷ ms) h p (here e) = rw e (a.macros-in-range m (h m (here refl))).left
   side-range Across (m ∷ ms) h p (there (here e)) = rw e (a.macros-in-range m (h m (here refl))).right
@@ -162,24 +162,24 @@ module _ {net : Net} (a : Allowed net) where
   side-range Along (m ∷ ms) h p (there (here e)) = rw e (a.macros-in-range m (h m (here refl))).top
   side-range Along (m ∷ ms) h p (there (there i)) = side-range Along ms (λ n k. h n (there k)) p i
 
-  pin-range : (axis : Axis) (p : Place) → p ∈ net.pins → outOfRange (coordinate axis p) ≡ false
+  pin-range : (axis : Axis) (p : Place) → p ∈ net.pins → out_of_range (coordinate axis p) ≡ false
   unfolding coordinate
   pin-range Across p i = (a.pins-in-range p i).x
   pin-range Along p i = (a.pins-in-range p i).y
 
-  mark-range : (axis : Axis) (p : Place) → p ∈ marks net.pins net.macros → outOfRange (coordinate axis p) ≡ false
+  mark-range : (axis : Axis) (p : Place) → p ∈ marks net.pins net.macros → out_of_range (coordinate axis p) ≡ false
   unfolding marks
   mark-range axis p m =
       either (pin-range axis p) (side-range axis net.macros (λ n k. k) p) (Memᴰ.append_cases net.pins m)
 
-  pub line-range : (axis : Axis) (c : ℤ) → c ∈ lines_of axis net.pins net.macros → outOfRange c ≡ false
+  pub line-range : (axis : Axis) (c : ℤ) → c ∈ lines_of axis net.pins net.macros → out_of_range c ≡ false
   unfolding lines_of
   line-range axis c m =
       let s = of_map (coordinate axis) (marks net.pins net.macros)
       (of-sorted lt_z (map (coordinate axis) (marks net.pins net.macros)) c m) in
       rw s.is (mark-range axis s.entry s.stands)
 
-  extent : (axis : Axis) → Extent (lines_of axis net.pins net.macros) (pos coordinateBound) (coordinateBound * 2)
+  extent : (axis : Axis) → Extent (lines_of axis net.pins net.macros) (pos coordinate_bound) (coordinate_bound * 2)
   unfolding lines_of
   extent axis = record {
     ascending = sorted-ascending lt_z line-order (map (coordinate axis) (marks net.pins net.macros));
@@ -187,17 +187,17 @@ module _ {net : Net} (a : Allowed net) where
     near = λ c m. (near-highest c (in-range-near c (line-range axis c m))).1;
   }
 
-  bound : (k w : ℕ) → k ≤ lineBound → w ≤ weightBound → k * (coordinateBound * 2 * w) ≤ lineBound * (coordinateBound * 2 * weightBound)
-  bound k w h i = mul-le-mul h (let z : coordinateBound * 2 * w ≤ coordinateBound * 2 * weightBound = omega (arith, i) in z)
+  bound : (k w : ℕ) → k ≤ line_bound → w ≤ weight_bound → k * (coordinate_bound * 2 * w) ≤ line_bound * (coordinate_bound * 2 * weight_bound)
+  bound k w h i = mul-le-mul h (let z : coordinate_bound * 2 * w ≤ coordinate_bound * 2 * weight_bound = omega (arith, i) in z)
 
   -- what all edges of the grid cost together
-  pub grid-cost : length net.pins ≤ gridPins → length net.macros ≤ gridMacros → lengths (costIn net) (gridEdges net) < unreached
-  unfolding gridEdges
+  pub grid-cost : length net.pins ≤ grid_pins → length net.macros ≤ grid_macros → lengths (cost_in net) (grid_edges net) < unreached
+  unfolding grid_edges
   grid-cost h k =
       omega (
         arith,
-        edges-cost net.weights (xLines net) (yLines net) net.macros (pos coordinateBound) (coordinateBound * 2) (extent Across)
+        edges-cost net.weights (x_lines net) (y_lines net) net.macros (pos coordinate_bound) (coordinate_bound * 2) (extent Across)
             (extent Along),
-        bound (length (yLines net)) net.weights.across (omega (arith, h, k, line-count Along net)) a.weighted.across,
-        bound (length (xLines net)) net.weights.along (omega (arith, h, k, line-count Across net)) a.weighted.along,
+        bound (length (y_lines net)) net.weights.across (omega (arith, h, k, line-count Along net)) a.weighted.across,
+        bound (length (x_lines net)) net.weights.along (omega (arith, h, k, line-count Across net)) a.weighted.along,
       )

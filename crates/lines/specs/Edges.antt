@@ -6,7 +6,7 @@ use Rattle.plane.specs.declared.Macro.{Macro}
 use Rattle.plane.specs.Place.{place}
 use Rattle.plane.specs.Macro.{clear}
 use Rattle.net.specs.Net.{Net}
-use Rattle.lines.specs.Lines.{xLines, yLines}
+use Rattle.lines.specs.Lines.{x_lines, y_lines}
 
 -- each entry with the one after it
 unfoldable pub nexts : List ℤ → List (ℤ × ℤ)
@@ -32,8 +32,8 @@ unfoldable pub columns : List ℤ → List ℤ → List Edge
 columns ys [] = []
 columns ys (x ∷ xs) = column ys x ++ columns ys xs
 
-unfoldable pub edgesOf : List ℤ → List ℤ → List Macro → List Edge
-edgesOf xs ys ms = those (λ (e : Edge). clear e.0 e.1 ms) (rows xs ys ++ columns ys xs)
+unfoldable pub edges_of : List ℤ → List ℤ → List Macro → List Edge
+edges_of xs ys ms = those (λ (e : Edge). clear e.0 e.1 ms) (rows xs ys ++ columns ys xs)
 
-unfoldable pub gridEdges : Net → List Edge
-gridEdges net = edgesOf (xLines net) (yLines net) net.macros
+unfoldable pub grid_edges : Net → List Edge
+grid_edges net = edges_of (x_lines net) (y_lines net) net.macros

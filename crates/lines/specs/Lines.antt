@@ -32,11 +32,11 @@ marks pins ms = pins ++ sides ms
 unfoldable pub lines_of : Axis → List Place → List Macro → List ℤ
 lines_of axis pins ms = sorted lt_z (map (coordinate axis) (marks pins ms))
 
-abbrev pub xLines : Net → List ℤ
-xLines net = lines_of Across net.pins net.macros
+abbrev pub x_lines : Net → List ℤ
+x_lines net = lines_of Across net.pins net.macros
 
-abbrev pub yLines : Net → List ℤ
-yLines net = lines_of Along net.pins net.macros
+abbrev pub y_lines : Net → List ℤ
+y_lines net = lines_of Along net.pins net.macros
 
 -- the sides of all macros are lines
 pub record Sides (xs ys : List ℤ) (ms : List Macro) : Type 0 where

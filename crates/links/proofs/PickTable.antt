@@ -13,14 +13,14 @@ use lib.Seq.{sets, get_or-set_same, get_or-set_other}
 use Rattle.lists.proofs.TestLaws.{by}
 use Rattle.plane.specs.declared.Macro.{Macro}
 use Rattle.plane.specs.declared.Weights.{Weights}
-use Rattle.plane.specs.Flat.{places_of, placeAt}
-use Rattle.net.specs.Bounds.{pointBound, edgeBound}
+use Rattle.plane.specs.Flat.{places_of, place_at}
+use Rattle.net.specs.Bounds.{point_bound, edge_bound}
 use Rattle.picks.specs.declared.Quadrant.{Quadrant}
 use Rattle.picks.specs.declared.Quadrant.TheVariants.{First, Second, Third, Fourth}
 use Rattle.picks.specs.declared.TwoPicks.{TwoPicks}
 use Rattle.picks.specs.Pick.{pick}
-use Rattle.picks.specs.Pass.{vertexPicked}
-use Rattle.links.specs.Links.{column, fourPicks, PicksHeld}
+use Rattle.picks.specs.Pass.{vertex_picked}
+use Rattle.links.specs.Links.{column, four_picks, PicksHeld}
 
 -- Stores one after the other
 
@@ -60,30 +60,30 @@ module _ (w : Weights) (ms : List Macro) (s : List ℤ) where
   held_none picked = record { held = λ k h q. absurd (let z : ⊥ = omega arith in z) }
 
   module _ (k : ℕ) (above below : TwoPicks)
-      (first : vertexPicked s above.right ≡ pick w ms First (placeAt s k) (places_of s))
-      (second : vertexPicked s above.left ≡ pick w ms Second (placeAt s k) (places_of s))
-      (third : vertexPicked s below.left ≡ pick w ms Third (placeAt s k) (places_of s))
-      (fourth : vertexPicked s below.right ≡ pick w ms Fourth (placeAt s k) (places_of s)) where
-    fresh : (q : Quadrant) → vertexPicked s (get_or (fourPicks above below) (column q) 0) ≡ pick w ms q (placeAt s k) (places_of s)
+      (first : vertex_picked s above.right ≡ pick w ms First (place_at s k) (places_of s))
+      (second : vertex_picked s above.left ≡ pick w ms Second (place_at s k) (places_of s))
+      (third : vertex_picked s below.left ≡ pick w ms Third (place_at s k) (places_of s))
+      (fourth : vertex_picked s below.right ≡ pick w ms Fourth (place_at s k) (places_of s)) where
+    fresh : (q : Quadrant) → vertex_picked s (get_or (four_picks above below) (column q) 0) ≡ pick w ms q (place_at s k) (places_of s)
     unfolding column
     fresh First = first
     fresh Second = second
     fresh Third = third
     fresh Fourth = fourth
 
-    pub held_more : (picked : List ℕ) → length picked ≡ edgeBound → k < pointBound → PicksHeld w ms s picked k
-        → PicksHeld w ms s (sets picked (k * 4) (fourPicks above below)) (k + 1)
+    pub held_more : (picked : List ℕ) → length picked ≡ edge_bound → k < point_bound → PicksHeld w ms s picked k
+        → PicksHeld w ms s (sets picked (k * 4) (four_picks above below)) (k + 1)
     held_more picked e l p = record {
       held = λ j h q.
           by (ltb j k)
           (λ t.
-          ap (vertexPicked s)
-          (sets-before picked (k * 4) (fourPicks above below) (j * 4 + column q) 0 (omega (arith, ltb-true j k t, column-small q)))
+          ap (vertex_picked s)
+          (sets-before picked (k * 4) (four_picks above below) (j * 4 + column q) 0 (omega (arith, ltb-true j k t, column-small q)))
           ∙ p.held j (ltb-true j k t) q)
           (λ t.
           let n : j ≡ k = omega (arith, h, ltb-false j k t) in
-          ap (λ (i : ℕ). vertexPicked s (get_or (sets picked (k * 4) (fourPicks above below)) (i * 4 + column q) 0)) n
-          ∙ ap (vertexPicked s) (sets-at picked (k * 4) (fourPicks above below) (column q) 0 (column-small q) (omega (arith, e, l)))
+          ap (λ (i : ℕ). vertex_picked s (get_or (sets picked (k * 4) (four_picks above below)) (i * 4 + column q) 0)) n
+          ∙ ap (vertex_picked s) (sets-at picked (k * 4) (four_picks above below) (column q) 0 (column-small q) (omega (arith, e, l)))
           ∙ fresh q
-          ∙ ap (λ (i : ℕ). pick w ms q (placeAt s i) (places_of s)) (sym n));
+          ∙ ap (λ (i : ℕ). pick w ms q (place_at s i) (places_of s)) (sym n));
     }

@@ -3,9 +3,9 @@ ghost use Rattle.std.specs.Prelude.{◌≡◌, ◌⊎◌, ◌+◌, ◌*◌, ◌/
 ghost use Rattle.std.proofs.lemmas.List.Edits.{sets};
 ghost use Rattle.lists.specs.Sorted.{Ascending};
 ghost use Rattle.plane.specs.Place.{before};
-ghost use Rattle.plane.specs.Flat.{places_of, macrosOf};
-ghost use Rattle.net.specs.Bounds.{pointBound, edgeBound};
-ghost use Rattle.links.specs.Links.{fourPicks, hasPicked, isLinked, PicksHeld, Widened, Reached};
+ghost use Rattle.plane.specs.Flat.{places_of, macros_of};
+ghost use Rattle.net.specs.Bounds.{point_bound, edge_bound};
+ghost use Rattle.links.specs.Links.{four_picks, has_picked, is_linked, PicksHeld, Widened, Reached};
 
 use net::Net;
 use picks::{Quadrant, TwoPicks};
@@ -18,8 +18,8 @@ pub const POINTS: usize = Net::POINTS;
 
 // What the k-th vertex picks above and below it, quadrant by quadrant.
 fn put_four(picked: &mut [u16; PICKS], k: usize, above: TwoPicks, below: TwoPicks)
-    requires { k < pointBound }
-    ensures { picked.new ≡ sets picked.old (k * 4) (fourPicks above below) }
+    requires { k < point_bound }
+    ensures { picked.new ≡ sets picked.old (k * 4) (four_picks above below) }
 {
     let i = k * 4;
     picked[i] = above.right;
@@ -30,9 +30,9 @@ fn put_four(picked: &mut [u16; PICKS], k: usize, above: TwoPicks, below: TwoPick
 
 // The numbers that each of n vertices picks, four a vertex.
 pub fn put_picks(w: Weights, macros: &[i32], vertices: &[i32], n: usize, picked: &mut [u16; PICKS])
-    requires ascending { (Ascending before (places_of vertices.now)) × ((n ≡ length vertices.now / 2) × (n ≤ pointBound)) }
-    requires picked_len { length picked.old ≡ edgeBound }
-    ensures { PicksHeld w (macrosOf macros.now) vertices.now picked.new n }
+    requires ascending { (Ascending before (places_of vertices.now)) × ((n ≡ length vertices.now / 2) × (n ≤ point_bound)) }
+    requires picked_len { length picked.old ≡ edge_bound }
+    ensures { PicksHeld w (macros_of macros.now) vertices.now picked.new n }
 {
     let mut k = 0;
     while k < n {
@@ -45,8 +45,8 @@ pub fn put_picks(w: Weights, macros: &[i32], vertices: &[i32], n: usize, picked:
 
 // The a-th vertex picks the b-th.
 fn has_picked(picked: &[u16; PICKS], a: usize, b: u16) -> bool
-    requires { a < pointBound }
-    ensures { result ≡ hasPicked picked.now a b }
+    requires { a < point_bound }
+    ensures { result ≡ has_picked picked.now a b }
 {
     let k = a * 4;
     (picked[k] == b) | (picked[k + 1] == b) | (picked[k + 2] == b) | (picked[k + 3] == b)
@@ -54,8 +54,8 @@ fn has_picked(picked: &[u16; PICKS], a: usize, b: u16) -> bool
 
 // One of two vertices picks the other.
 pub fn is_linked(picked: &[u16; PICKS], a: usize, b: usize) -> bool
-    requires { (a < pointBound) × (b < pointBound) }
-    ensures { result ≡ isLinked picked.now a b }
+    requires { (a < point_bound) × (b < point_bound) }
+    ensures { result ≡ is_linked picked.now a b }
 {
     has_picked(picked, a, picks::narrow(b)) | has_picked(picked, b, picks::narrow(a))
 }
@@ -73,7 +73,7 @@ fn larger(x: u16, y: u16) -> u16
 
 // The a-th of n vertices picks the b-th, or none: each of the two reaches the other.
 fn widen(last: &mut [u16; POINTS], n: usize, a: usize, b: u16)
-    requires { (a < n) × ((n ≤ pointBound) × (length last.old ≡ pointBound)) }
+    requires { (a < n) × ((n ≤ point_bound) × (length last.old ≡ point_bound)) }
     ensures { Widened n a b last.old last.new }
 {
     let c = b as usize;
@@ -85,9 +85,9 @@ fn widen(last: &mut [u16; POINTS], n: usize, a: usize, b: u16)
 
 // The four picks of the k-th vertex.
 fn widen_four(picked: &[u16; PICKS], n: usize, k: usize, last: &mut [u16; POINTS])
-    requires k_lt_n { (k < n) × ((n ≤ pointBound) × (length last.old ≡ pointBound)) }
+    requires k_lt_n { (k < n) × ((n ≤ point_bound) × (length last.old ≡ point_bound)) }
     requires reached { Reached picked.now last.old n k }
-    ensures { (length last.new ≡ pointBound) × (Reached picked.now last.new n (k + 1)) }
+    ensures { (length last.new ≡ point_bound) × (Reached picked.now last.new n (k + 1)) }
 {
     let i = k * 4;
     widen(&mut *last, n, k, picked[i]);
@@ -98,7 +98,7 @@ fn widen_four(picked: &[u16; PICKS], n: usize, k: usize, last: &mut [u16; POINTS
 
 // A number for each of n vertices that none linked to it exceeds.
 pub fn reach(picked: &[u16; PICKS], n: usize, last: &mut [u16; POINTS])
-    requires { (n ≤ pointBound) × (length last.old ≡ pointBound) }
+    requires { (n ≤ point_bound) × (length last.old ≡ point_bound) }
     ensures { Reached picked.now last.new n n }
 {
     let mut k = 0;
@@ -110,7 +110,7 @@ pub fn reach(picked: &[u16; PICKS], n: usize, last: &mut [u16; POINTS])
 
 // Where the row of the a-th of n vertices ends: no vertex from there on is linked to it.
 pub fn row_end(n: usize, a: usize, last: u16) -> usize
-    requires { (a < n) × (n ≤ pointBound) }
+    requires { (a < n) × (n ≤ point_bound) }
     ensures { ((a < result) × (result ≤ n)) × ((last < result) ⊎ (result ≡ n)) }
 {
     let far = last as usize;

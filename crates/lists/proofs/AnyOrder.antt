@@ -7,7 +7,7 @@ use mathlib.Core.Logic.{∥∥₁_elim}
 use Prim.Native.Nat.{ℕ, suc}
 use native.Mathlib.Nat.{ℕ_set}
 use lib.ListN.{length}
-use Rattle.lists.specs.Any.{any, anyTwo}
+use Rattle.lists.specs.Any.{any, any_two}
 use Rattle.lists.proofs.TestLaws.{or_swap}
 
 module _ {A : Type 0} (f : A → Bool) where
@@ -29,19 +29,19 @@ or-exchange false true false s = refl
 or-exchange false false r s = refl
 
 module _ {A : Type 0} (f : A → A → Bool) (either_way : (x y : A) → f x y ≡ f y x) where
-  two-swapped : {xs ys : List A} → Permᴰ xs ys → anyTwo f xs ≡ anyTwo f ys
-  unfolding any anyTwo
+  two-swapped : {xs ys : List A} → Permᴰ xs ys → any_two f xs ≡ any_two f ys
+  unfolding any any_two
   two-swapped Permᴰ.nil = refl
   two-swapped (Permᴰ.cons {a = x} {b = y} {l₁ = xs} {l₂ = ys} e d) =
       ap₂ ◌||◌ (ap (λ (z : A). any (f z) xs) e ∙ any-swapped (f y) d) (two-swapped d)
   two-swapped (Permᴰ.swap {a = x} {b = y} {a' = y'} {b' = x'} {l = l} e d) =
-      ap₂ (λ (u v : A). (f u v || any (f u) l) || (any (f v) l || anyTwo f l)) e d
-      ∙ ap (λ (t : Bool). (t || any (f x') l) || (any (f y') l || anyTwo f l)) (either_way x' y')
-      ∙ or-exchange (f y' x') (any (f x') l) (any (f y') l) (anyTwo f l)
+      ap₂ (λ (u v : A). (f u v || any (f u) l) || (any (f v) l || any_two f l)) e d
+      ∙ ap (λ (t : Bool). (t || any (f x') l) || (any (f y') l || any_two f l)) (either_way x' y')
+      ∙ or-exchange (f y' x') (any (f x') l) (any (f y') l) (any_two f l)
   two-swapped (Permᴰ.trans d e) = two-swapped d ∙ two-swapped e
 
-  pub two-perm : (xs ys : List A) → Perm xs ys → anyTwo f xs ≡ anyTwo f ys
-  two-perm xs ys p = ∥∥₁_elim p (Bool-set (anyTwo f xs) (anyTwo f ys)) two-swapped
+  pub two-perm : (xs ys : List A) → Perm xs ys → any_two f xs ≡ any_two f ys
+  two-perm xs ys p = ∥∥₁_elim p (Bool-set (any_two f xs) (any_two f ys)) two-swapped
 
 -- the length, as the machine counts it
 module _ {A : Type 0} where

@@ -74,29 +74,29 @@ map-undone {A} f h (x ∷ l) e = ap₂ (λ (y : A) (m : List A). y ∷ m) (e x (
 -- A map that is given for the entries alone
 
 module _ {A B : Type 0} where
-  unfoldable pub mapIn : (l : List A) → ((x : A) → x ∈ l → B) → List B
-  mapIn [] f = []
-  mapIn (x ∷ l) f = f x (here refl) ∷ mapIn l (λ y m. f y (there m))
+  unfoldable pub map_in : (l : List A) → ((x : A) → x ∈ l → B) → List B
+  map_in [] f = []
+  map_in (x ∷ l) f = f x (here refl) ∷ map_in l (λ y m. f y (there m))
 
-  pub mapIn-then : {C : Type 0} (h : B → C) (k : A → C) (l : List A) (f : (x : A) → x ∈ l → B) →
-      ((x : A) (m : x ∈ l) → h (f x m) ≡ k x) → map h (mapIn l f) ≡ map k l
-  unfolding mapIn
-  mapIn-then h k [] f e = refl
-  mapIn-then {C} h k (x ∷ l) f e =
-      ap₂ (λ (y : C) (m : List C). y ∷ m) (e x (here refl)) (mapIn-then h k l (λ y m. f y (there m)) (λ y m. e y (there m)))
+  pub map_in-then : {C : Type 0} (h : B → C) (k : A → C) (l : List A) (f : (x : A) → x ∈ l → B) →
+      ((x : A) (m : x ∈ l) → h (f x m) ≡ k x) → map h (map_in l f) ≡ map k l
+  unfolding map_in
+  map_in-then h k [] f e = refl
+  map_in-then {C} h k (x ∷ l) f e =
+      ap₂ (λ (y : C) (m : List C). y ∷ m) (e x (here refl)) (map_in-then h k l (λ y m. f y (there m)) (λ y m. e y (there m)))
 
   -- what stands in its image, and where that comes from
-  pub mapIn-has : (l : List A) (f : (x : A) → x ∈ l → B) (x : A) → x ∈ l → (y : A) × ((m : y ∈ l) × ((x ≡ y) × (f y m ∈ mapIn l f)))
-  unfolding mapIn
-  mapIn-has (y ∷ l) f x (here e) = (y, (here refl, (e, here refl)))
-  mapIn-has (y ∷ l) f x (there m) =
-      let r = mapIn-has l (λ z i. f z (there i)) x m in
+  pub map_in-has : (l : List A) (f : (x : A) → x ∈ l → B) (x : A) → x ∈ l → (y : A) × ((m : y ∈ l) × ((x ≡ y) × (f y m ∈ map_in l f)))
+  unfolding map_in
+  map_in-has (y ∷ l) f x (here e) = (y, (here refl, (e, here refl)))
+  map_in-has (y ∷ l) f x (there m) =
+      let r = map_in-has l (λ z i. f z (there i)) x m in
       (r.0, (there r.1.0, (r.1.1.0, there r.1.1.1)))
 
-  pub mapIn-of : (l : List A) (f : (x : A) → x ∈ l → B) (c : B) → c ∈ mapIn l f → (x : A) × ((m : x ∈ l) × (c ≡ f x m))
-  unfolding mapIn
-  mapIn-of [] f c i = elim i [ ]
-  mapIn-of (y ∷ l) f c i =
+  pub map_in-of : (l : List A) (f : (x : A) → x ∈ l → B) (c : B) → c ∈ map_in l f → (x : A) × ((m : x ∈ l) × (c ≡ f x m))
+  unfolding map_in
+  map_in-of [] f c i = elim i [ ]
+  map_in-of (y ∷ l) f c i =
       either (λ e. (y, (here refl, e)))
-      (λ k. let r = mapIn-of l (λ z j. f z (there j)) c k in (r.0, (there r.1.0, r.1.1)))
+      (λ k. let r = map_in-of l (λ z j. f z (there j)) c k in (r.0, (there r.1.0, r.1.1)))
       (Memᴰ.cases_cons i)

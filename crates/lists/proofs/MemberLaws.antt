@@ -86,10 +86,10 @@ module _ {A : Type 0} where
 
   -- The entry at a place, counted from 0
 
-  pub getD-in : (l : List A) (i : ℕ) (d : A) → i < length l → get_or l i d ∈ l
-  getD-in [] i d h = absurd (let z : ⊥ = omega arith in z)
-  getD-in (x ∷ l) zero d h = here refl
-  getD-in (x ∷ l) (suc i) d h = there (getD-in l i d (omega arith))
+  pub get_d-in : (l : List A) (i : ℕ) (d : A) → i < length l → get_or l i d ∈ l
+  get_d-in [] i d h = absurd (let z : ⊥ = omega arith in z)
+  get_d-in (x ∷ l) zero d h = here refl
+  get_d-in (x ∷ l) (suc i) d h = there (get_d-in l i d (omega arith))
 
   -- Membership decided
 

@@ -9,9 +9,9 @@ module _ {A : Type 0} where
   any f (x ∷ xs) = f x || any f xs
 
   -- two entries at different positions pass the test, the earlier one first
-  unfoldable pub anyTwo : (A → A → Bool) → List A → Bool
-  anyTwo f [] = false
-  anyTwo f (x ∷ xs) = any (f x) xs || anyTwo f xs
+  unfoldable pub any_two : (A → A → Bool) → List A → Bool
+  any_two f [] = false
+  any_two f (x ∷ xs) = any (f x) xs || any_two f xs
 
   -- no entry passes the test together with one after it
   abbrev pub NoTwo : (A → A → Bool) → List A → Type 0

@@ -12,7 +12,7 @@
 -- Sorting is over any order that is given by its test, so that places, edges and bridges share it (../proofs/SortedLaws.antt).
 --
 --   any f xs          some entry of xs passes f
---   anyTwo f xs       two entries at different positions pass f, the earlier one as its first argument
+--   any_two f xs       two entries at different positions pass f, the earlier one as its first argument
 --   NoTwo f xs        no entry passes f together with one after it, in words
 --   twos, threes, fours entry s    the entries of a flat list, of two, three or four numbers each
 --   x ∈ l             x stands in l: `here e` at the head, to which it is equal by e, `there m` further on
@@ -21,12 +21,12 @@
 --   rest m            the list in which m is a position, without that position
 --   those f l         the entries that pass f, in their order
 --   Order before      the test `before` is a strict order that leaves no tie
---   firstThen p q     the order of pairs by p on their first parts, then by q on their second
+--   first_then p q     the order of pairs by p on their first parts, then by q on their second
 --   put before a l    a put into the sorted list l, unless it is there
 --   sorted before l   the entries of l in order, each once
 --   Ascending before l    each entry comes before all that follow it
 --   position before l a   where a stands in the ascending list l, counted from 0
---   carry, carryAll   sorted insertion as a program does it, from the front
+--   carry, carry_all   sorted insertion as a program does it, from the front
 --   Least le l        an entry of l that is `le` each entry
 --   total l, most l   the sum and the greatest of a list of numbers
 --   above t l         how many numbers of a list are above t

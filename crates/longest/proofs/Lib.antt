@@ -3,7 +3,6 @@ pub mod FoundLaws
 pub mod ReadingLaws
 pub mod WinsLaws
 pub mod HungLaws
-pub mod PassLaws
 pub mod RowLaws
 pub mod PairLaws
 pub mod NoLonger

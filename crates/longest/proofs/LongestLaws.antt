@@ -12,18 +12,18 @@ use lib.IntN.{ℤ}
 use Rattle.plane.specs.declared.Place.{Place}
 use Rattle.plane.specs.declared.Weights.{Weights}
 use Rattle.plane.specs.Cost.{cost}
-use Rattle.plane.specs.Flat.{placeAt}
+use Rattle.plane.specs.Flat.{place_at}
 use Rattle.lists.proofs.TestLaws.{by}
-use Rattle.longest.specs.Longest.{Reach, attach, hang, longer, measure, edgeCost, no_edge, shorter, spread, spreads, wins}
-use Rattle.tree.specs.Table.{Small, firstEnd, key, treeBound, secondEnd}
+use Rattle.longest.specs.Longest.{Reach, attach, hang, longer, measure, edge_cost, no_edge, shorter, spread, spreads, wins}
+use Rattle.tree.specs.Table.{Small, first_end, key, tree_bound, second_end}
 use Rattle.lists.proofs.TurnLaws.{turns-keep}
 
-pub cost-is : (w : Weights) (pts : List ℤ) (keys : List ℕ) (k d : ℕ) (p q : Place) → p ≡ placeAt pts (firstEnd (get_or keys k 0))
-    → q ≡ placeAt pts (secondEnd (get_or keys k 0)) → d ≡ cost w p q → d ≡ edgeCost w pts keys k
-unfolding edgeCost
+pub cost-is : (w : Weights) (pts : List ℤ) (keys : List ℕ) (k d : ℕ) (p q : Place) → p ≡ place_at pts (first_end (get_or keys k 0))
+    → q ≡ place_at pts (second_end (get_or keys k 0)) → d ≡ cost w p q → d ≡ edge_cost w pts keys k
+unfolding edge_cost
 cost-is w pts keys k d p q e f g = rw (g, e, f) refl
 
-pub measure-is : (w : Weights) (pts : List ℤ) (keys : List ℕ) (k d : ℕ) (el : List ℕ) → d ≡ edgeCost w pts keys k
+pub measure-is : (w : Weights) (pts : List ℤ) (keys : List ℕ) (k d : ℕ) (el : List ℕ) → d ≡ edge_cost w pts keys k
     → set el k d ≡ measure w pts keys k el
 unfolding measure
 measure-is w pts keys k d el e = rw e refl
@@ -76,14 +76,14 @@ small-spread m el v p k w t h s =
     let x = longer-small m el (get_or t (key p w) 0) k (s.small (key p w)) h in
     small-set m _ _ _ x (small-set m t _ _ x s)
 
-pub small-spreads : (el : List ℕ) (n v p k : ℕ) (t : List ℕ) → k < treeBound → Small treeBound t → Small treeBound (spreads el n v p k t)
+pub small-spreads : (el : List ℕ) (n v p k : ℕ) (t : List ℕ) → k < tree_bound → Small tree_bound t → Small tree_bound (spreads el n v p k t)
 unfolding spreads
 small-spreads el n v p k t h s =
-    small-set treeBound _ _ _ (omega arith) (turns-keep (spread el v p k) (Small treeBound) n 0 t
-    (λ j u q. small-spread treeBound el v p k j u h q) s)
+    small-set tree_bound _ _ _ (omega arith) (turns-keep (spread el v p k) (Small tree_bound) n 0 t
+    (λ j u q. small-spread tree_bound el v p k j u h q) s)
 
-pub small-attach : (el : List ℕ) (n a b k : ℕ) (r : Reach) → k < treeBound → Small treeBound r.top →
-    Small treeBound (attach el n a b k r).top
+pub small-attach : (el : List ℕ) (n a b k : ℕ) (r : Reach) → k < tree_bound → Small tree_bound r.top →
+    Small tree_bound (attach el n a b k r).top
 unfolding attach hang
 small-attach el n a b k r h s =
     by (eqb (get_or r.seen a 0) (get_or r.seen b 0))

@@ -11,7 +11,7 @@ use lib.ListN.{get_or}
 use borrow.Author.Tests.{ltb-true, ltb-false}
 use Rattle.lists.proofs.TestLaws.{by}
 use Rattle.longest.specs.Longest.{wins, longer}
-use Rattle.longest.specs.Hung.{Ties, ontoOf, link_of, turn_of, top_of, Tied, Told, tall}
+use Rattle.longest.specs.Hung.{Ties, onto_of, link_of, turn_of, top_of, Tied, Told, tall}
 use Rattle.longest.proofs.LongestLaws.{longer-yes, longer-no}
 use Rattle.longest.proofs.WinsLaws.{longer-first, longer-second}
 
@@ -29,16 +29,16 @@ longer-cost el k l x a b = by (wins el k l) (λ t. rw (← longer-yes el k l t) 
 module _ (el : List ℕ) (s : Ties) (tied : Tied s) (t : List ℕ) (told : Told el s t) where
   -- from v to what was hung before it
   pub step-cost : (v w : ℕ) → 0 < turn_of s w → turn_of s w < turn_of s v →
-      (tall el t (ontoOf s v) w ≤ tall el t v w) × (get_or el (link_of s v) 0 ≤ tall el t v w)
+      (tall el t (onto_of s v) w ≤ tall el t v w) × (get_or el (link_of s v) 0 ≤ tall el t v w)
   step-cost v w g h =
-      let p = top_of t (ontoOf s v) w in
+      let p = top_of t (onto_of s v) w in
       let q = ap (λ (i : ℕ). get_or el i 0) (told.woven.step v w g h) in
       (omega (arith, q, (longer-first el p (link_of s v)).0), omega (arith, q, (longer-second el p (link_of s v)).0))
 
-  pub step-most : (v w x : ℕ) → 0 < turn_of s w → turn_of s w < turn_of s v → tall el t (ontoOf s v) w ≤ x → get_or el (link_of s v) 0 ≤ x →
+  pub step-most : (v w x : ℕ) → 0 < turn_of s w → turn_of s w < turn_of s v → tall el t (onto_of s v) w ≤ x → get_or el (link_of s v) 0 ≤ x →
       tall el t v w ≤ x
   step-most v w x g h a b =
-      omega (arith, ap (λ (i : ℕ). get_or el i 0) (told.woven.step v w g h), longer-cost el (top_of t (ontoOf s v) w) (link_of s v) x a b)
+      omega (arith, ap (λ (i : ℕ). get_or el i 0) (told.woven.step v w g h), longer-cost el (top_of t (onto_of s v) w) (link_of s v) x a b)
 
   pub even-cost : (v w : ℕ) → 0 < turn_of s v → 0 < turn_of s w → tall el t v w ≡ tall el t w v
   even-cost v w g h = ap (λ (i : ℕ). get_or el i 0) (told.woven.even v w g h)
@@ -59,12 +59,12 @@ module _ (el : List ℕ) (s : Ties) (tied : Tied s) (t : List ℕ) (told : Told 
         let up = tied.up i (omega (arith, b, k)) in
         let r = step-cost i m b k in
         step-most i j x c l
-        (less (ontoOf s i) m j x (omega (arith, h, up.1)) up.0 b c (omega (arith, r.0, p)) q) (omega (arith, r.1, p))
+        (less (onto_of s i) m j x (omega (arith, h, up.1)) up.0 b c (omega (arith, r.0, p)) q) (omega (arith, r.1, p))
 
     past-third : turn_of s i < turn_of s j → turn_of s m < turn_of s j → tall el t i j ≤ x
     past-third l k =
         let up = tied.up j (omega (arith, b, k)) in
-        let o = ontoOf s j in
+        let o = onto_of s j in
         let r = step-cost j m b k in
         let e = even-cost m j b c in
         let d = less i m o x (omega (arith, h, up.1)) a b up.0 p (omega (arith, r.0, q, e, even-cost m o b up.0)) in
@@ -77,7 +77,7 @@ module _ (el : List ℕ) (s : Ties) (tied : Tied s) (t : List ℕ) (told : Told 
     past-between : turn_of s j < turn_of s m → turn_of s i < turn_of s m → tall el t i j ≤ x
     past-between l k =
         let up = tied.up m (omega (arith, a, k)) in
-        let o = ontoOf s m in
+        let o = onto_of s m in
         less i o j x (omega (arith, h, up.1)) a up.0 c
         (omega (arith, (step-cost m i a k).0, p, even-cost i m a b, even-cost i o a up.0))
         (omega (arith, (step-cost m j c l).0, q))
@@ -104,7 +104,7 @@ module _ (el : List ℕ) (s : Ties) (tied : Tied s) (t : List ℕ) (told : Told 
 -- the old tree s, the new one s', in which an old point v has the number f v
 module _ (el : List ℕ) (s : Ties) (tied : Tied s) (t : List ℕ) (told : Told el s t) (el' : List ℕ) (s' : Ties) (tied' : Tied s')
     (t' : List ℕ) (told' : Told el' s' t') (f : ℕ → ℕ) (hung : (v : ℕ) → 0 < turn_of s v → 0 < turn_of s' (f v))
-    (calm : (v : ℕ) → 1 < turn_of s v → tall el' t' (f v) (f (ontoOf s v)) ≤ get_or el (link_of s v) 0) where
+    (calm : (v : ℕ) → 1 < turn_of s v → tall el' t' (f v) (f (onto_of s v)) ≤ get_or el (link_of s v) 0) where
   abbrev NoLonger : ℕ → Type 0
   NoLonger m = (v w : ℕ) → turn_of s v + turn_of s w ≤ m → 0 < turn_of s v → 0 < turn_of s w → tall el' t' (f v) (f w) ≤ tall el t v w
 
@@ -112,7 +112,7 @@ module _ (el : List ℕ) (s : Ties) (tied : Tied s) (t : List ℕ) (told : Told 
       turn_of s y < turn_of s x → tall el' t' (f x) (f y) ≤ tall el t x y
   down m less x y d g k l =
       let up = tied.up x (omega (arith, k, l)) in
-      let o = ontoOf s x in
+      let o = onto_of s x in
       let r = step-cost el s tied t told x y k l in
       past el' s' tied' t' told' (f x) (f o) (f y) (tall el t x y) (hung x g) (hung o up.0) (hung y k)
       (omega (arith, calm x (omega (arith, k, l)), r.1))

@@ -12,11 +12,11 @@ use borrow.Author.Tests.{ltb-true, ltb-false, eqb-true, eqb-false}
 use Rattle.lists.specs.Member.{◌∈◌, Among, Once}
 use Rattle.lists.proofs.TestLaws.{by, either}
 use Rattle.lists.proofs.MemberLaws.{once-length}
-use Rattle.tree.specs.Table.{treeBound, firstEnd, secondEnd, Small}
+use Rattle.tree.specs.Table.{tree_bound, first_end, second_end, Small}
 use Rattle.tree.specs.Places.{listing}
 use Rattle.tree.proofs.ListingLaws.{listing-length, in-listing, of-listing, listing-once}
 use Rattle.longest.specs.Longest.{no_edge, Reach, reached, start, longest}
-use Rattle.longest.specs.Hung.{Ties, ontoOf, link_of, turn_of, Joins, Hung, Paired, Hanging, Spanned}
+use Rattle.longest.specs.Hung.{Ties, onto_of, link_of, turn_of, Joins, Hung, Paired, Hanging, Spanned}
 use Rattle.longest.proofs.FoundLaws.{small-longest}
 
 -- m different numbers below m are all of them
@@ -65,11 +65,11 @@ module _ (ks el : List ℕ) (e n c : ℕ) (s : Ties) (r : Reach) (h : Hung ks el
       absurd (let z : ⊥ = omega (arith, q) in z))
 
   -- no two points hang on each other
-  crossed : (v w : ℕ) → 1 < turn_of s v → 1 < turn_of s w → v ≡ ontoOf s w → ontoOf s v ≡ w → ⊥
+  crossed : (v w : ℕ) → 1 < turn_of s v → 1 < turn_of s w → v ≡ onto_of s w → onto_of s v ≡ w → ⊥
   crossed v w f g a b = omega (arith, (h.tied.up v f).1, (h.tied.up w g).1, ap (turn_of s) a, ap (turn_of s) b)
 
   -- points that hang by one edge are one point
-  one-point : (v w k : ℕ) → 1 < turn_of s v → 1 < turn_of s w → Joins ks k v (ontoOf s v) → Joins ks k w (ontoOf s w) → v ≡ w
+  one-point : (v w k : ℕ) → 1 < turn_of s v → 1 < turn_of s w → Joins ks k v (onto_of s v) → Joins ks k w (onto_of s w) → v ≡ w
   one-point v w k f g (inl p) (inl q) = sym p.0 ∙ q.0
   one-point v w k f g (inl p) (inr q) = absurd (crossed v w f g (sym p.0 ∙ q.0) (sym p.1 ∙ q.1))
   one-point v w k f g (inr p) (inl q) = absurd (crossed v w f g (sym p.1 ∙ q.1) (sym p.0 ∙ q.0))
@@ -83,21 +83,21 @@ module _ (ks el : List ℕ) (e n c : ℕ) (s : Ties) (r : Reach) (h : Hung ks el
       (rw (← q) (h.ends (suc i) f).1) (h.ends (suc j) g).1 in
       omega (arith, p, l)
 
-  pair_of : (v k : ℕ) → 1 < turn_of s v → Joins ks k v (ontoOf s v) → Paired s (firstEnd (get_or ks k 0)) (secondEnd (get_or ks k 0))
+  pair_of : (v k : ℕ) → 1 < turn_of s v → Joins ks k v (onto_of s v) → Paired s (first_end (get_or ks k 0)) (second_end (get_or ks k 0))
   pair_of v k g (inl p) = inr (
-    ap (ontoOf s) p.0 ∙ sym p.1,
+    ap (onto_of s) p.0 ∙ sym p.1,
     omega (arith, (h.tied.up v g).1, ap (turn_of s) p.0, ap (turn_of s) p.1),
   )
   pair_of v k g (inr p) = inl (
-    ap (ontoOf s) p.1 ∙ sym p.0,
+    ap (onto_of s) p.1 ∙ sym p.0,
     omega (arith, (h.tied.up v g).1, ap (turn_of s) p.0, ap (turn_of s) p.1),
   )
 
-  pub paired : (k : ℕ) → k < e → Paired s (firstEnd (get_or ks k 0)) (secondEnd (get_or ks k 0))
+  pub paired : (k : ℕ) → k < e → Paired s (first_end (get_or ks k 0)) (second_end (get_or ks k 0))
   paired k l =
       let r = every (λ i. link_of s (suc i)) e (λ i m. (h.ends (suc i) (not_first i m)).0) links-apart k l in
       let g = not_first r.0 r.1.0 in
-      pair_of (suc r.0) k g (subst (λ (x : ℕ). Joins ks x (suc r.0) (ontoOf s (suc r.0))) r.1.1 (h.ends (suc r.0) g).1)
+      pair_of (suc r.0) k g (subst (λ (x : ℕ). Joins ks x (suc r.0) (onto_of s (suc r.0))) r.1.1 (h.ends (suc r.0) g).1)
 
 -- the rows of a tree when all passes are done
 pub hanging : (ks el : List ℕ) (e n c : ℕ) (s : Ties) → Hung ks el e n c s (reached ks el e n start) → Spanned ks e n →

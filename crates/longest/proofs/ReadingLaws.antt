@@ -7,7 +7,7 @@ use native.Mathlib.Omega.{arith}
 use native.Mathlib.Decide.{dec_le}
 use lib.ListN.{length, get_or, set, length-set}
 use Rattle.longest.specs.Longest.{longer, no_edge, spread, spreads}
-use Rattle.tree.specs.Table.{key, pairBound, treeBound}
+use Rattle.tree.specs.Table.{key, pair_bound, tree_bound}
 use Rattle.lists.specs.Turns.{turns}
 use Rattle.lists.proofs.TurnLaws.{turns-below}
 
@@ -23,15 +23,15 @@ here [] i x h = absurd (let z : ⊥ = omega arith in z)
 here (y ∷ ys) zero x h = refl
 here (y ∷ ys) (suc i) x h = here ys i x (omega arith)
 
-apart : (a b c d : ℕ) → b < treeBound → d < treeBound → (a ≡ c → ⊥) → key a b ≡ key c d → ⊥
+apart : (a b c d : ℕ) → b < tree_bound → d < tree_bound → (a ≡ c → ⊥) → key a b ≡ key c d → ⊥
 apart a b c d h i n e = n (omega arith)
 
-low_part : (a b c d : ℕ) → b < treeBound → d < treeBound → key a b ≡ key c d → b ≡ d
+low_part : (a b c d : ℕ) → b < tree_bound → d < tree_bound → key a b ≡ key c d → b ≡ d
 low_part a b c d h i e = omega arith
 
-module _ (el : List ℕ) (v p k : ℕ) (hv : v < treeBound) where
-  -- ways middlePlace other points stay
-  still : (w : ℕ) (t : List ℕ) (x y : ℕ) → w < treeBound → y < treeBound → (v ≡ x → ⊥) → (v ≡ y → ⊥)
+module _ (el : List ℕ) (v p k : ℕ) (hv : v < tree_bound) where
+  -- ways middle_place other points stay
+  still : (w : ℕ) (t : List ℕ) (x y : ℕ) → w < tree_bound → y < tree_bound → (v ≡ x → ⊥) → (v ≡ y → ⊥)
       → get_or (spread el v p k w t) (key x y) 0 ≡ get_or t (key x y) 0
   unfolding spread
   still w t x y hw hy nx ny =
@@ -39,18 +39,18 @@ module _ (el : List ℕ) (v p k : ℕ) (hv : v < treeBound) where
       other (set t (key v w) z) (key w v) (key x y) z (λ e. ny (low_part w v x y hv hy e))
       ∙ other t (key v w) (key x y) z (apart v w x y hw hy nx)
 
-  pub untouched : (n : ℕ) (t : List ℕ) (x y : ℕ) → n ≤ treeBound → y < treeBound → (v ≡ x → ⊥) → (v ≡ y → ⊥)
+  pub untouched : (n : ℕ) (t : List ℕ) (x y : ℕ) → n ≤ tree_bound → y < tree_bound → (v ≡ x → ⊥) → (v ≡ y → ⊥)
       → get_or (spreads el n v p k t) (key x y) 0 ≡ get_or t (key x y) 0
   unfolding spreads
   untouched n t x y h hy nx ny =
       other (turns (spread el v p k) 0 n t) (key v v) (key x y) no_edge (apart v v x y hv hy nx)
-      ∙ turns-below (spread el v p k) (λ s. get_or s (key x y) 0 ≡ get_or t (key x y) 0) treeBound (λ w s hw q. still w s x y hw hy nx ny ∙ q)
+      ∙ turns-below (spread el v p k) (λ s. get_or s (key x y) 0 ≡ get_or t (key x y) 0) tree_bound (λ w s hw q. still w s x y hw hy nx ny ∙ q)
       n 0 t
       (omega arith) refl
 
   -- the row of v: as from p, or the new edge
   -- once a turn has written v's entry for y, later turns leave it
-  settled : (n i : ℕ) (t : List ℕ) (y : ℕ) → i + n ≤ treeBound → y < i → (v ≡ y → ⊥) → get_or (turns (spread el v p k) i n t) (key v y) 0
+  settled : (n i : ℕ) (t : List ℕ) (y : ℕ) → i + n ≤ tree_bound → y < i → (v ≡ y → ⊥) → get_or (turns (spread el v p k) i n t) (key v y) 0
       ≡ get_or t (key v y) 0
   unfolding turns spread
   settled zero i t y b h ny = refl
@@ -60,7 +60,7 @@ module _ (el : List ℕ) (v p k : ℕ) (hv : v < treeBound) where
       ∙ other (set t (key v i) x) (key i v) (key v y) x (λ e. ny (low_part i v v y hv (omega arith) e))
       ∙ other t (key v i) (key v y) x (λ e. let q : i ≡ y = low_part v i v y (omega arith) (omega arith) e in let z : ⊥ = omega arith in z)
 
-  pub row-of : (n i : ℕ) (t : List ℕ) (y : ℕ) → i + n ≤ treeBound → length t ≡ pairBound → (v ≡ p → ⊥) → (v ≡ y → ⊥) → i ≤ y → y < i + n
+  pub row-of : (n i : ℕ) (t : List ℕ) (y : ℕ) → i + n ≤ tree_bound → length t ≡ pair_bound → (v ≡ p → ⊥) → (v ≡ y → ⊥) → i ≤ y → y < i + n
       → get_or (turns (spread el v p k) i n t) (key v y) 0 ≡ longer el (get_or t (key p y) 0) k
   unfolding turns spread
   row-of zero i t y b l np ny h g = absurd (let z : ⊥ = omega arith in z)
@@ -91,7 +91,7 @@ module _ (el : List ℕ) (v p k : ℕ) (hv : v < treeBound) where
           (key v i) (key p y) x (apart v i p y (omega arith) (omega arith) np))
 
   -- the column of v, in the same way
-  settled-column : (n i : ℕ) (t : List ℕ) (y : ℕ) → i + n ≤ treeBound → y < i → (v ≡ y → ⊥) →
+  settled-column : (n i : ℕ) (t : List ℕ) (y : ℕ) → i + n ≤ tree_bound → y < i → (v ≡ y → ⊥) →
       get_or (turns (spread el v p k) i n t) (key y v) 0 ≡ get_or t (key y v) 0
   unfolding turns spread
   settled-column zero i t y b h ny = refl
@@ -101,7 +101,7 @@ module _ (el : List ℕ) (v p k : ℕ) (hv : v < treeBound) where
       ∙ other (set t (key v i) x) (key i v) (key y v) x (λ e. let q : i ≡ y = omega arith in let z : ⊥ = omega arith in z)
       ∙ other t (key v i) (key y v) x (apart v i y v (omega arith) hv ny)
 
-  pub column-of : (n i : ℕ) (t : List ℕ) (y : ℕ) → i + n ≤ treeBound → length t ≡ pairBound → (v ≡ p → ⊥) → (v ≡ y → ⊥) → i ≤ y → y < i
+  pub column-of : (n i : ℕ) (t : List ℕ) (y : ℕ) → i + n ≤ tree_bound → length t ≡ pair_bound → (v ≡ p → ⊥) → (v ≡ y → ⊥) → i ≤ y → y < i
       + n →
       get_or (turns (spread el v p k) i n t) (key y v) 0 ≡ longer el (get_or t (key p y) 0) k
   unfolding turns spread
@@ -132,7 +132,7 @@ module _ (el : List ℕ) (v p k : ℕ) (hv : v < treeBound) where
           ∙ other t (key v i) (key p y) x (apart v i p y (omega arith) (omega arith) np))
 
   -- the whole table
-  module _ (n : ℕ) (t : List ℕ) (hn : n ≤ treeBound) (l : length t ≡ pairBound) (np : v ≡ p → ⊥) where
+  module _ (n : ℕ) (t : List ℕ) (hn : n ≤ tree_bound) (l : length t ≡ pair_bound) (np : v ≡ p → ⊥) where
     length-spreads : (c i : ℕ) (s : List ℕ) → length (turns (spread el v p k) i c s) ≡ length s
     unfolding turns spread
     length-spreads zero i s = refl
@@ -141,7 +141,7 @@ module _ (el : List ℕ) (v p k : ℕ) (hv : v < treeBound) where
         length-spreads c (suc i) (set (set s (key v i) x) (key i v) x)
         ∙ (length-set (set s (key v i) x) (key i v) x ∙ length-set s (key v i) x)
 
-    pub spreads-length : length (spreads el n v p k t) ≡ pairBound
+    pub spreads-length : length (spreads el n v p k t) ≡ pair_bound
     unfolding spreads
     spreads-length = length-set (turns (spread el v p k) 0 n t) (key v v) no_edge ∙ length-spreads n 0 t ∙ l
 

@@ -8,49 +8,49 @@ use lib.Dec.{ltb, eqb}
 use lib.ListN.{length, get_or, set, length-set, replicate}
 use borrow.Author.Tests.{ltb-true, ltb-false, eqb-true, eqb-false}
 use Rattle.lists.proofs.TestLaws.{by}
-use Rattle.tree.specs.Table.{treeBound, key}
+use Rattle.tree.specs.Table.{tree_bound, key}
 use Rattle.tree.proofs.SumLaws.{other, here as put-here}
 use Rattle.longest.specs.Longest.{longer, shorter, no_edge, cut_of}
-use Rattle.longest.specs.Hung.{Ties, ontoOf, link_of, turn_of, top_of, Tied, Told, Known, Begun, Fresh, Row, Climbed}
+use Rattle.longest.specs.Hung.{Ties, onto_of, link_of, turn_of, top_of, Tied, Told, Known, Begun, Fresh, Row, Climbed}
 use Rattle.longest.proofs.HungLaws.{same-entry}
 use Rattle.longest.proofs.WinsLaws.{longer-swap, longer-turn, shorter-longer, longer-shorter, shorter-both}
 use Rattle.longest.proofs.WinsLaws.{longer-none, none-longer, shorter-none, none-shorter}
 
 -- One entry written
 
-known-set : (row : List ℕ) (i x v : ℕ) → x < treeBound → Known row v → Known (set row i x) v
+known-set : (row : List ℕ) (i x v : ℕ) → x < tree_bound → Known row v → Known (set row i x) v
 known-set [] i x v h k = k
 known-set (y ∷ ys) zero x zero h k = h
 known-set (y ∷ ys) zero x (suc v) h k = k
 known-set (y ∷ ys) (suc i) x zero h k = k
 known-set (y ∷ ys) (suc i) x (suc v) h k = known-set ys i x v h k
 
-pub known-here : (row : List ℕ) (i x : ℕ) → i < length row → x < treeBound → Known (set row i x) i
+pub known-here : (row : List ℕ) (i x : ℕ) → i < length row → x < tree_bound → Known (set row i x) i
 known-here row i x l h = omega (arith, h, put-here row i x l)
 
 -- known elsewhere, or not, as before
 was-known : (row : List ℕ) (i x v : ℕ) → (i ≡ v → ⊥) → Known (set row i x) v → Known row v
-was-known row i x v d k = subst (λ (z : ℕ). z < treeBound) (other row i v x d) k
+was-known row i x v d k = subst (λ (z : ℕ). z < tree_bound) (other row i v x d) k
 
-was-not : (row : List ℕ) (i x v : ℕ) → x < treeBound → i < length row → treeBound ≤ get_or (set row i x) v 0 →
-    (i ≡ v → ⊥) × (treeBound ≤ get_or row v 0)
+was-not : (row : List ℕ) (i x v : ℕ) → x < tree_bound → i < length row → tree_bound ≤ get_or (set row i x) v 0 →
+    (i ≡ v → ⊥) × (tree_bound ≤ get_or row v 0)
 was-not row i x v h l k =
     by (eqb i v)
     (λ q. absurd (let z : ⊥ = omega (arith, k, h, ap (λ (j : ℕ). get_or (set row i x) j 0) (eqb-true i v q), put-here row i x l) in z))
     (λ q. let d = eqb-false i v q in (d, omega (arith, k, other row i v x d)))
 
-pub begun-set : (s : Ties) (row : List ℕ) (i x : ℕ) → x < treeBound → Begun s row → Begun s (set row i x)
+pub begun-set : (s : Ties) (row : List ℕ) (i x : ℕ) → x < tree_bound → Begun s row → Begun s (set row i x)
 begun-set s row i x h b = record {
   room = length-set row i x ∙ b.room;
   first = λ v q. known-set row i x v h (b.first v q);
 }
 
 -- a row in which nothing is known
-pub fresh_start : (s : Ties) → Tied s → Fresh s (replicate treeBound treeBound)
-fresh_start s tied v g = omega (arith, same-entry treeBound treeBound v (tied.low v g))
+pub fresh_start : (s : Ties) → Tied s → Fresh s (replicate tree_bound tree_bound)
+fresh_start s tied v g = omega (arith, same-entry tree_bound tree_bound v (tied.low v g))
 
 -- not known, so not the first
-pub later : (s : Ties) (row : List ℕ) (v : ℕ) → Begun s row → 0 < turn_of s v → treeBound ≤ get_or row v 0 → 1 < turn_of s v
+pub later : (s : Ties) (row : List ℕ) (v : ℕ) → Begun s row → 0 < turn_of s v → tree_bound ≤ get_or row v 0 → 1 < turn_of s v
 later s row v b g k =
     by (ltb 1 (turn_of s v)) (λ q. ltb-true _ _ q)
     (λ q. absurd (let z : ⊥ = omega (arith, b.first v (omega (arith, g, ltb-false 1 (turn_of s v) q)), k) in z))
@@ -60,23 +60,23 @@ later s row v b g k =
 pub record Chain (el : List ℕ) (s : Ties) (t : List ℕ) (x v l : ℕ) (row : List ℕ) : Type 0 where
   pub far : (w : ℕ) → 0 < turn_of s w → turn_of s w ≤ turn_of s v → top_of t x w ≡ longer el l (top_of t v w)
   pub right : (w : ℕ) → 0 < turn_of s w → Known row w → (get_or row w 0 ≡ top_of t x w) × (turn_of s w ≤ turn_of s x)
-  pub closed : (w : ℕ) → 1 < turn_of s w → Known row w → (w ≡ v → ⊥) → Known row (ontoOf s w)
+  pub closed : (w : ℕ) → 1 < turn_of s w → Known row w → (w ≡ v → ⊥) → Known row (onto_of s w)
   pub here : Known row x
   pub below : turn_of s v ≤ turn_of s x
 
-pub cut-known : (el : List ℕ) (s : Ties) (f : ℕ → ℕ) (row : List ℕ) (v x : ℕ) → x ≡ get_or row v 0 → x < treeBound → 0 < turn_of s v →
+pub cut-known : (el : List ℕ) (s : Ties) (f : ℕ → ℕ) (row : List ℕ) (v x : ℕ) → x ≡ get_or row v 0 → x < tree_bound → 0 < turn_of s v →
     Row el s f row → (x ≡ f v) × Row el s f row
 cut-known el s f row v x q h g r = (q ∙ r.right v g (omega (arith, q, h)), r)
 
 module _ (el : List ℕ) (s : Ties) (tied : Tied s) where
   -- Filling in
 
-  module _ (f : ℕ → ℕ) (before : List ℕ) (v y l : ℕ) (g : 0 < turn_of s v) (un : treeBound ≤ get_or before v 0)
-      (q : l ≡ longer el y (link_of s v)) (b : Row el s f before) (e : y ≡ f (ontoOf s v)) where
+  module _ (f : ℕ → ℕ) (before : List ℕ) (v y l : ℕ) (g : 0 < turn_of s v) (un : tree_bound ≤ get_or before v 0)
+      (q : l ≡ longer el y (link_of s v)) (b : Row el s f before) (e : y ≡ f (onto_of s v)) where
     pub fill_is : l ≡ f v
     fill_is = q ∙ ap (λ (z : ℕ). longer el z (link_of s v)) e ∙ sym (b.grows v g un)
 
-    pub fill-row : (row : List ℕ) (z : ℕ) → length row ≡ treeBound → l < treeBound → z ≡ l → Row el s f row → Row el s f (set row v z)
+    pub fill-row : (row : List ℕ) (z : ℕ) → length row ≡ tree_bound → l < tree_bound → z ≡ l → Row el s f row → Row el s f (set row v z)
     fill-row row z room hl p r =
         let i : v < length row = rw room (tied.low v g) in
         let k : Row el s f (set row v l) = record {
@@ -91,7 +91,7 @@ module _ (el : List ℕ) (s : Ties) (tied : Tied s) where
         subst (λ (x : ℕ). Row el s f (set row v x)) (sym p) k
 
   module _ (t : List ℕ) (told : Told el s t) where
-    pub chain-start : (x : ℕ) (row : List ℕ) → 0 < turn_of s x → length row ≡ treeBound → Fresh s row →
+    pub chain-start : (x : ℕ) (row : List ℕ) → 0 < turn_of s x → length row ≡ tree_bound → Fresh s row →
         Chain el s t x x no_edge (set row x no_edge)
     chain-start x row g room fresh =
         let i : x < length row = rw room (tied.low x g) in
@@ -112,10 +112,10 @@ module _ (el : List ℕ) (s : Ties) (tied : Tied s) where
           below = omega arith;
         }
 
-    step : (x v l : ℕ) (row : List ℕ) (l' : ℕ) → 1 < turn_of s v → length row ≡ treeBound → l' ≡ longer el l (link_of s v) →
-        l' < treeBound → Chain el s t x v l row → Chain el s t x (ontoOf s v) l' (set row (ontoOf s v) l')
+    step : (x v l : ℕ) (row : List ℕ) (l' : ℕ) → 1 < turn_of s v → length row ≡ tree_bound → l' ≡ longer el l (link_of s v) →
+        l' < tree_bound → Chain el s t x v l row → Chain el s t x (onto_of s v) l' (set row (onto_of s v) l')
     step x v l row l' g room q small c =
-        let u = ontoOf s v in
+        let u = onto_of s v in
         let up = tied.up v g in
         let i : u < length row = rw room (tied.low u up.0) in
         let known = put-here row u l' i in
@@ -138,18 +138,18 @@ module _ (el : List ℕ) (s : Ties) (tied : Tied s) where
               (other row u w l' d ∙ r.0, r.1));
           closed = λ w a k d.
               by (eqb w v)
-              (λ e. subst (λ (z : ℕ). Known (set row u l') (ontoOf s z)) (sym (eqb-true w v e)) (omega (arith, known, small)))
+              (λ e. subst (λ (z : ℕ). Known (set row u l') (onto_of s z)) (sym (eqb-true w v e)) (omega (arith, known, small)))
               (λ e.
-              known-set row u l' (ontoOf s w) small
+              known-set row u l' (onto_of s w) small
               (c.closed w a (was-known row u l' w (λ z. d (sym z)) k) (eqb-false w v e)));
           here = known-set row u l' x small c.here;
           below = omega (arith, up.1, c.below);
         }
 
-    pub chain-step : (x v l : ℕ) (row : List ℕ) (l' y : ℕ) → 1 < turn_of s v → length row ≡ treeBound → l' ≡ longer el l (link_of s v) →
-        l' < treeBound → y ≡ l' → Chain el s t x v l row → Chain el s t x (ontoOf s v) l' (set row (ontoOf s v) y)
+    pub chain-step : (x v l : ℕ) (row : List ℕ) (l' y : ℕ) → 1 < turn_of s v → length row ≡ tree_bound → l' ≡ longer el l (link_of s v) →
+        l' < tree_bound → y ≡ l' → Chain el s t x v l row → Chain el s t x (onto_of s v) l' (set row (onto_of s v) y)
     chain-step x v l row l' y g room q small p c =
-        subst (λ (z : ℕ). Chain el s t x (ontoOf s v) l' (set row (ontoOf s v) z)) (sym p) (step x v l row l' g room q small c)
+        subst (λ (z : ℕ). Chain el s t x (onto_of s v) l' (set row (onto_of s v) z)) (sym p) (step x v l row l' g room q small c)
 
     pub chain-end : (x v l : ℕ) (row : List ℕ) → turn_of s v ≤ 1 → Chain el s t x v l row → Climbed s t x row
     chain-end x v l row h c = record {
@@ -158,7 +158,7 @@ module _ (el : List ℕ) (s : Ties) (tied : Tied s) where
       here = c.here;
     }
 
-  pub begun-end : (v : ℕ) (row : List ℕ) → 0 < turn_of s v → turn_of s v ≤ 1 → Known row v → length row ≡ treeBound → Begun s row
+  pub begun-end : (v : ℕ) (row : List ℕ) → 0 < turn_of s v → turn_of s v ≤ 1 → Known row v → length row ≡ tree_bound → Begun s row
   begun-end v row g h k room = record {
     room = room;
     first = λ w q. subst (Known row) (tied.alone v w g (omega (arith, g, h, q))) k;
@@ -167,10 +167,10 @@ module _ (el : List ℕ) (s : Ties) (tied : Tied s) where
   -- A point that is not known hangs outside the ways of those that are
 
   module _ (t : List ℕ) (told : Told el s t) (row : List ℕ)
-      (closed : (v : ℕ) → 1 < turn_of s v → Known row v → Known row (ontoOf s v)) (v : ℕ) (g : 1 < turn_of s v)
-      (un : treeBound ≤ get_or row v 0) where
+      (closed : (v : ℕ) → 1 < turn_of s v → Known row v → Known row (onto_of s v)) (v : ℕ) (g : 1 < turn_of s v)
+      (un : tree_bound ≤ get_or row v 0) where
     abbrev u : ℕ
-    u = ontoOf s v
+    u = onto_of s v
 
     abbrev Grown : ℕ → Type 0
     Grown x = top_of t x v ≡ longer el (top_of t x u) (link_of s v)
@@ -189,7 +189,7 @@ module _ (el : List ℕ) (s : Ties) (tied : Tied s) where
         (λ p.
         let lt : turn_of s v < turn_of s x = ltb-true _ _ p in
         let xs = tied.up x (omega (arith, g, lt)) in
-        let y = ontoOf s x in
+        let y = onto_of s x in
         let i : Grown y = grown m y (omega (arith, h, xs.1)) xs.0 (closed x (omega (arith, g, lt)) k) in
         told.woven.step x v (omega (arith, g)) lt
         ∙ ap (λ (z : ℕ). longer el z (link_of s x)) i
@@ -214,7 +214,7 @@ module _ (el : List ℕ) (s : Ties) (tied : Tied s) where
   -- The row of an edge: c hangs on p
 
   module _ (t : List ℕ) (told : Told el s t) (p c : ℕ) (row : List ℕ) (climbed : Climbed s t p row) (begun : Begun s row)
-      (hp : 0 < turn_of s p) (on : ontoOf s c ≡ p) (lt : turn_of s p < turn_of s c) where
+      (hp : 0 < turn_of s p) (on : onto_of s c ≡ p) (lt : turn_of s p < turn_of s c) where
     abbrev after : List ℕ
     after = set row c no_edge
 
@@ -227,11 +227,11 @@ module _ (el : List ℕ) (s : Ties) (tied : Tied s) where
     known-after : (v : ℕ) → Known row v → Known after v
     known-after v k = known-set row c no_edge v (omega arith) k
 
-    after-closed : (v : ℕ) → 1 < turn_of s v → Known after v → Known after (ontoOf s v)
+    after-closed : (v : ℕ) → 1 < turn_of s v → Known after v → Known after (onto_of s v)
     after-closed v g k =
         by (eqb c v)
-        (λ q. subst (λ (z : ℕ). Known after (ontoOf s z)) (eqb-true c v q) (subst (Known after) (sym on) (known-after p climbed.here)))
-        (λ q. known-after (ontoOf s v) (climbed.closed v g (was-known row c no_edge v (eqb-false c v q) k)))
+        (λ q. subst (λ (z : ℕ). Known after (onto_of s z)) (eqb-true c v q) (subst (Known after) (sym on) (known-after p climbed.here)))
+        (λ q. known-after (onto_of s v) (climbed.closed v g (was-known row c no_edge v (eqb-false c v q) k)))
 
     -- at a point that p hangs on
     above : (v : ℕ) → 0 < turn_of s v → turn_of s v ≤ turn_of s p → top_of t c v ≡ longer el (top_of t p v) (link_of s c)
@@ -251,11 +251,11 @@ module _ (el : List ℕ) (s : Ties) (tied : Tied s) where
         let r = climbed.right v g (was-known row c no_edge v d k) in
         other row c v no_edge d ∙ r.0 ∙ sym (fv v g r.1))
 
-    small_at : (v w : ℕ) → top_of t v w < treeBound
+    small_at : (v w : ℕ) → top_of t v w < tree_bound
     small_at v w = told.small.small (key v w)
 
-    unknown : (v x : ℕ) → 0 < turn_of s v → treeBound ≤ get_or after v 0 → 0 < turn_of s x → Known after x →
-        top_of t x v ≡ longer el (top_of t x (ontoOf s v)) (link_of s v)
+    unknown : (v x : ℕ) → 0 < turn_of s v → tree_bound ≤ get_or after v 0 → 0 < turn_of s x → Known after x →
+        top_of t x v ≡ longer el (top_of t x (onto_of s v)) (link_of s v)
     unknown v x g k a b =
         grown-at t told after after-closed v (later s row v begun g (was-not row c no_edge v (omega arith) in_row k).1) k x a b
 
@@ -273,7 +273,7 @@ module _ (el : List ℕ) (s : Ties) (tied : Tied s) where
           (λ v g h. ap (shorter el (top_of t p v)) (above v g h) ∙ shorter-longer el (top_of t p v) (link_of s c));
       grows = λ v g k.
           ap₂ (shorter el) (unknown v p g k hp known-p) (unknown v c g k (omega (arith, lt)) known-c)
-          ∙ shorter-both el (top_of t p (ontoOf s v)) (top_of t c (ontoOf s v)) (link_of s v);
+          ∙ shorter-both el (top_of t p (onto_of s v)) (top_of t c (onto_of s v)) (link_of s v);
     }
 
     pub row_before : Row el s (cut_of el t c p) after
@@ -285,5 +285,5 @@ module _ (el : List ℕ) (s : Ties) (tied : Tied s) where
           (λ v g h. ap (λ (z : ℕ). shorter el z (top_of t p v)) (above v g h) ∙ longer-shorter el (top_of t p v) (link_of s c));
       grows = λ v g k.
           ap₂ (shorter el) (unknown v c g k (omega (arith, lt)) known-c) (unknown v p g k hp known-p)
-          ∙ shorter-both el (top_of t c (ontoOf s v)) (top_of t p (ontoOf s v)) (link_of s v);
+          ∙ shorter-both el (top_of t c (onto_of s v)) (top_of t p (onto_of s v)) (link_of s v);
     }

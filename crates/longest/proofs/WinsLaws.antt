@@ -9,7 +9,7 @@ use lib.Dec.{ltb}
 use lib.ListN.{get_or}
 use borrow.Author.Tests.{ltb-true, ltb-false}
 use Rattle.lists.proofs.TestLaws.{by, differ}
-use Rattle.tree.specs.Table.{treeBound}
+use Rattle.tree.specs.Table.{tree_bound}
 use Rattle.longest.specs.Longest.{wins, longer, shorter, no_edge}
 use Rattle.longest.proofs.LongestLaws.{longer-yes, longer-no, shorter-yes, shorter-no}
 
@@ -117,19 +117,19 @@ module _ (el : List ℕ) where
 
   -- no edge is the shortest
   module _ (none : get_or el no_edge 0 ≡ 0) where
-    none-under : (x : ℕ) → x < treeBound → Under el no_edge x
+    none-under : (x : ℕ) → x < tree_bound → Under el no_edge x
     none-under x h = (omega (arith, none), λ l. omega (arith, h))
 
-    pub longer-none : (x : ℕ) → x < treeBound → longer el x no_edge ≡ x
+    pub longer-none : (x : ℕ) → x < tree_bound → longer el x no_edge ≡ x
     longer-none x h = under_same _ _ (longer-least x no_edge x (under-self x) (none-under x h)) (longer-first x no_edge)
 
-    pub none-longer : (x : ℕ) → x < treeBound → longer el no_edge x ≡ x
+    pub none-longer : (x : ℕ) → x < tree_bound → longer el no_edge x ≡ x
     none-longer x h = under_same _ _ (longer-least no_edge x x (none-under x h) (under-self x)) (longer-second no_edge x)
 
-    pub shorter-none : (x : ℕ) → x < treeBound → shorter el x no_edge ≡ no_edge
+    pub shorter-none : (x : ℕ) → x < tree_bound → shorter el x no_edge ≡ no_edge
     shorter-none x h =
         under_same _ _ (shorter-second x no_edge) (shorter-greatest x no_edge no_edge (none-under x h) (under-self no_edge))
 
-    pub none-shorter : (x : ℕ) → x < treeBound → shorter el no_edge x ≡ no_edge
+    pub none-shorter : (x : ℕ) → x < tree_bound → shorter el no_edge x ≡ no_edge
     none-shorter x h =
         under_same _ _ (shorter-first no_edge x) (shorter-greatest no_edge x no_edge (under-self no_edge) (none-under x h))

@@ -5,12 +5,11 @@
 -- hanging one point after the other on those that are reached. The code has no such table. It keeps what hangs on what, and of each edge a
 -- row, filled in where it is asked; that these say what the table says is proved.
 --
---   Longest    edgeCost w, costs w         what an edge costs; all of them
+--   Longest    edge_cost w, costs w         what an edge costs; all of them
 --              wins, longer, shorter       the longer edge, by cost, the smaller on a tie
 --              longest                     the table of the longest edge between every two points
---              cutOf                       L for an edge and a point
+--              cut_of                       L for an edge and a point
 --   Hung       Tied, Hung, Woven           what hangs on what, and that the table is that of these rows
---              Idle, Skips                 edges that hang nothing any more
 --              Begun, Row, Climbed         the row of an edge
 --              Hanging, Spanned            the rows of a tree; what they are filled for
 pub mod Longest

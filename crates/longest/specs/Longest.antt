@@ -5,20 +5,20 @@
 use Rattle.std.specs.Prelude.{Bool, true, false, List, ℕ, ◌-◌, ltb, eqb, ℤ, get_or, set, replicate}
 use Rattle.plane.specs.declared.Weights.{Weights}
 use Rattle.plane.specs.Cost.{cost}
-use Rattle.plane.specs.Flat.{placeAt}
+use Rattle.plane.specs.Flat.{place_at}
 use Rattle.lists.specs.Turns.{turns}
-use Rattle.tree.specs.Table.{treeBound, pairBound, key, firstEnd, secondEnd}
+use Rattle.tree.specs.Table.{tree_bound, pair_bound, key, first_end, second_end}
 
 -- what the edge k costs
-unfoldable pub edgeCost : Weights → List ℤ → List ℕ → ℕ → ℕ
-edgeCost w pts keys k = cost w (placeAt pts (firstEnd (get_or keys k 0))) (placeAt pts (secondEnd (get_or keys k 0)))
+unfoldable pub edge_cost : Weights → List ℤ → List ℕ → ℕ → ℕ
+edge_cost w pts keys k = cost w (place_at pts (first_end (get_or keys k 0))) (place_at pts (second_end (get_or keys k 0)))
 
 unfoldable pub measure : Weights → List ℤ → List ℕ → ℕ → List ℕ → List ℕ
-measure w pts keys k el = set el k (edgeCost w pts keys k)
+measure w pts keys k el = set el k (edge_cost w pts keys k)
 
 -- the costs of all edges; past them no cost stands
 unfoldable pub costs : Weights → List ℤ → List ℕ → ℕ → List ℕ
-costs w pts keys e = turns (measure w pts keys) 0 e (replicate treeBound 0)
+costs w pts keys e = turns (measure w pts keys) 0 e (replicate tree_bound 0)
 
 -- R8: k is longer than l, or as long and smaller
 unfoldable pub wins : List ℕ → ℕ → ℕ → Bool
@@ -36,7 +36,7 @@ shorter el k l = elim (wins el k l) [ true ↦ l | false ↦ k ]
 
 -- no edge: the last number, which no edge of a tree has; it costs 0
 abbrev pub no_edge : ℕ
-no_edge = treeBound - 1
+no_edge = tree_bound - 1
 
 -- v hangs on p by edge k: the longest edge on the way from v to w, and back
 unfoldable pub spread : List ℕ → ℕ → ℕ → ℕ → ℕ → List ℕ → List ℕ
@@ -68,7 +68,7 @@ attach el n a b k r =
     ]
 
 unfoldable pub pass : List ℕ → List ℕ → ℕ → ℕ → Reach → Reach
-pass keys el n k r = attach el n (firstEnd (get_or keys k 0)) (secondEnd (get_or keys k 0)) k r
+pass keys el n k r = attach el n (first_end (get_or keys k 0)) (second_end (get_or keys k 0)) k r
 
 -- as many passes over the edges as there are edges
 unfoldable pub reached : List ℕ → List ℕ → ℕ → ℕ → Reach → Reach
@@ -76,7 +76,7 @@ reached keys el e n r = turns (λ _ q. turns (pass keys el n) 0 e q) 0 e r
 
 -- at first the point 0 is reached
 unfoldable pub start : Reach
-start = reach (set (replicate treeBound 0) 0 1) (replicate pairBound no_edge)
+start = reach (set (replicate tree_bound 0) 0 1) (replicate pair_bound no_edge)
 
 unfoldable pub longest : List ℕ → List ℕ → ℕ → ℕ → List ℕ
 longest keys el e n = (reached keys el e n start).top

@@ -1,11 +1,10 @@
 // What edges cost, and the longest edge between points, from rows: what hangs on what, and L of an edge for each point.
 ghost use Rattle.std.specs.Prelude.{◌≡◌, List, ℕ, ◌+◌, ◌≤◌, ◌<◌, length, get_or, set};
-ghost use Rattle.plane.specs.Cost.{costLimit};
+ghost use Rattle.plane.specs.Cost.{cost_limit};
 ghost use Rattle.lists.specs.Turns.{turns};
-ghost use Rattle.tree.specs.Table.{treeBound, pairBound, firstEnd, secondEnd, Small, Low, Within};
-ghost use Rattle.longest.specs.Longest.{edgeCost, measure, wins, longer, shorter, Reach, pass, reached, cut_of};
-ghost use Rattle.longest.specs.Hung.{ties, top_of, Tied, Hung, Idle, Skips, Short};
-ghost use Rattle.longest.specs.Hung.{Told, Paired, Begun, Fresh, Row, Climbed};
+ghost use Rattle.tree.specs.Table.{tree_bound, pair_bound, first_end, second_end, Small, Low, Within};
+ghost use Rattle.longest.specs.Longest.{edge_cost, measure, wins, longer, shorter, Reach, pass, reached, cut_of};
+ghost use Rattle.longest.specs.Hung.{ties, top_of, Tied, Hung, Told, Paired, Begun, Fresh, Row, Climbed};
 
 use plane::Weights;
 use tree::{NUMBERS, POINTS};
@@ -18,8 +17,8 @@ pub const UNKNOWN: u16 = POINTS as u16;
 
 // What the edge k costs.
 pub fn edge_cost(w: Weights, pts: &[i32; NUMBERS], keys: &[usize; POINTS], k: usize) -> u64
-    requires { (k < treeBound) × (Small pairBound keys.now) }
-    ensures { (result ≡ edgeCost w pts.now keys.now k) × (result < costLimit) }
+    requires { (k < tree_bound) × (Small pair_bound keys.now) }
+    ensures { (result ≡ edge_cost w pts.now keys.now k) × (result < cost_limit) }
 {
     let q = keys[k];
     plane::cost(
@@ -37,7 +36,7 @@ pub fn costs(
     e: usize,
     el: &mut [u64; POINTS],
 ) -> u64
-    requires e_le_tree_bound { (e ≤ treeBound) × (Small pairBound keys.now) }
+    requires e_le_tree_bound { (e ≤ tree_bound) × (Small pair_bound keys.now) }
     requires low { Low 0 el.old }
     ensures el_after { el.new ≡ turns (measure w pts.now keys.now) 0 e el.old }
     ensures low_2 { Low result el.new }
@@ -56,7 +55,7 @@ pub fn costs(
 }
 
 fn wins(el: &[u64; POINTS], k: usize, l: usize) -> bool
-    requires { (k < treeBound) × (l < treeBound) }
+    requires { (k < tree_bound) × (l < tree_bound) }
     ensures { result ≡ wins el.now k l }
 {
     if el[l] < el[k] {
@@ -69,8 +68,8 @@ fn wins(el: &[u64; POINTS], k: usize, l: usize) -> bool
 }
 
 fn longer(el: &[u64; POINTS], k: usize, l: usize) -> usize
-    requires { (k < treeBound) × (l < treeBound) }
-    ensures { (result ≡ longer el.now k l) × (result < treeBound) }
+    requires { (k < tree_bound) × (l < tree_bound) }
+    ensures { (result ≡ longer el.now k l) × (result < tree_bound) }
 {
     if wins(el, k, l) {
         return k;
@@ -80,8 +79,8 @@ fn longer(el: &[u64; POINTS], k: usize, l: usize) -> usize
 
 // Of two edges the one that does not win.
 pub fn shorter(el: &[u64; POINTS], k: usize, l: usize) -> usize
-    requires { (k < treeBound) × (l < treeBound) }
-    ensures { (result ≡ shorter el.now k l) × (result < treeBound) }
+    requires { (k < tree_bound) × (l < tree_bound) }
+    ensures { (result ≡ shorter el.now k l) × (result < tree_bound) }
 {
     if wins(el, k, l) {
         return l;
@@ -96,7 +95,7 @@ fn wide(x: u16) -> usize
 }
 
 fn narrow(x: usize) -> u16
-    requires { x < treeBound }
+    requires { x < tree_bound }
     ensures { result ≡ x }
 {
     x as u16
@@ -112,7 +111,7 @@ fn hang(
     link: &mut [usize; POINTS],
     turn: &mut [usize; POINTS],
 )
-    requires { v < treeBound }
+    requires { v < tree_bound }
     ensures { ties onto.new link.new turn.new
         ≡ ties (set onto.old v p) (set link.old v k) (set turn.old v c) }
 {
@@ -131,13 +130,13 @@ fn attach(
     link: &mut [usize; POINTS],
     turn: &mut [usize; POINTS],
 ) -> usize
-    requires { ((a < treeBound) × (b < treeBound)) × (c ≤ pairBound + pairBound) }
+    requires { ((a < tree_bound) × (b < tree_bound)) × (c ≤ pair_bound + pair_bound) }
     ensures lower_bound { (c ≤ result) × (result ≤ c + 1) }
-    ensures by_index { (ks el : List ℕ) (e n : ℕ) (r : Reach) → n ≤ treeBound → e ≤ treeBound → Within n ks → k < e
-        → a ≡ firstEnd (get_or ks k 0) → b ≡ secondEnd (get_or ks k 0)
+    ensures by_index { (ks el : List ℕ) (e n : ℕ) (r : Reach) → n ≤ tree_bound → e ≤ tree_bound → Within n ks → k < e
+        → a ≡ first_end (get_or ks k 0) → b ≡ second_end (get_or ks k 0)
         → Hung ks el e n c (ties onto.old link.old turn.old) r
         → (Hung ks el e n result (ties onto.new link.new turn.new) (pass ks el n k r))
-        × ((result ≡ c → pass ks el n k r ≡ r) × (c < result → Idle ks (pass ks el n k r) k)) }
+        × (result ≡ c → pass ks el n k r ≡ r) }
 {
     if turn[a] == 0 {
         if turn[b] == 0 {
@@ -153,33 +152,28 @@ fn attach(
     c
 }
 
-// A pass over all edges; how many points hang after it. Of an edge with both ends hung nothing is asked again: from the
-// edge i on there are skip[i] of them. Those that are passed already, from p on, are such edges too.
+// A pass over all edges; how many points hang after it.
 fn pass(
     keys: &[usize; POINTS],
     e: usize,
     c: usize,
-    skip: &mut [u16; POINTS],
     onto: &mut [usize; POINTS],
     link: &mut [usize; POINTS],
     turn: &mut [usize; POINTS],
 ) -> usize
-    requires { ((e < treeBound) × (Small pairBound keys.now)) × ((c ≤ pairBound) × (Short e skip.old)) }
-    ensures lower_bound { ((c ≤ result) × (result ≤ c + e)) × (Short e skip.new) }
-    ensures by_index { (el : List ℕ) (n : ℕ) (r : Reach) → n ≤ treeBound → Within n keys.now
+    requires { ((e ≤ tree_bound) × (Small pair_bound keys.now)) × (c ≤ pair_bound) }
+    ensures lower_bound { (c ≤ result) × (result ≤ c + e) }
+    ensures by_index { (el : List ℕ) (n : ℕ) (r : Reach) → n ≤ tree_bound → Within n keys.now
         → Hung keys.now el e n c (ties onto.old link.old turn.old) r
-        → Skips keys.now skip.old r
         → (Hung keys.now el e n result (ties onto.new link.new turn.new)
         (turns (pass keys.now el n) 0 e r))
-        × ((result ≡ c → turns (pass keys.now el n) 0 e r ≡ r)
-        × (Skips keys.now skip.new (turns (pass keys.now el n) 0 e r))) }
+        × (result ≡ c → turns (pass keys.now el n) 0 e r ≡ r) }
 {
     let mut d = c;
-    let mut p = 0;
-    let mut k = wide(skip[0]);
+    let mut k = 0;
     while k < e {
         let q = keys[k];
-        let x = attach(
+        d = attach(
             q / POINTS,
             q % POINTS,
             k,
@@ -188,14 +182,7 @@ fn pass(
             &mut *link,
             &mut *turn,
         );
-        let i = k + 1;
-        k = i + wide(skip[i]);
-        if x == d {
-            p = i;
-        } else {
-            d = x;
-            skip[p] = narrow(k - p);
-        }
+        k += 1;
     }
     d
 }
@@ -208,17 +195,16 @@ pub fn reached(
     link: &mut [usize; POINTS],
     turn: &mut [usize; POINTS],
 ) -> usize
-    requires { (e < treeBound) × (Small pairBound keys.now) }
-    ensures { (el : List ℕ) (n : ℕ) (r : Reach) → n ≤ treeBound → Within n keys.now
+    requires { (e < tree_bound) × (Small pair_bound keys.now) }
+    ensures { (el : List ℕ) (n : ℕ) (r : Reach) → n ≤ tree_bound → Within n keys.now
         → Hung keys.now el e n 1 (ties onto.old link.old turn.old) r
         → Hung keys.now el e n result (ties onto.new link.new turn.new)
         (reached keys.now el e n r) }
 {
-    let mut skip = [0u16; POINTS];
     let mut c = 1;
     let mut i = 0;
     while i < e {
-        let d = pass(keys, e, c, &mut skip, &mut *onto, &mut *link, &mut *turn);
+        let d = pass(keys, e, c, &mut *onto, &mut *link, &mut *turn);
         if d == c {
             return c;
         }
@@ -237,7 +223,7 @@ fn climb(
     x: usize,
     row: &mut [u16; POINTS],
 )
-    requires { (Tied (ties onto.now link.now turn.now)) × ((0 < get_or turn.now x 0) × (length row.old ≡ treeBound)) }
+    requires { (Tied (ties onto.now link.now turn.now)) × ((0 < get_or turn.now x 0) × (length row.old ≡ tree_bound)) }
     ensures begun { Begun (ties onto.now link.now turn.now) row.new }
     ensures by_index { (t : List ℕ) → Told el.now (ties onto.now link.now turn.now) t
         → Fresh (ties onto.now link.now turn.now) row.old
@@ -262,7 +248,7 @@ pub fn row_of(
     x: usize,
     row: &mut [u16; POINTS],
 )
-    requires { (Tied (ties onto.now link.now turn.now)) × ((0 < get_or turn.now x 0) × (length row.old ≡ treeBound)) }
+    requires { (Tied (ties onto.now link.now turn.now)) × ((0 < get_or turn.now x 0) × (length row.old ≡ tree_bound)) }
     ensures begun { Begun (ties onto.now link.now turn.now) row.new }
     ensures by_index { (t : List ℕ) → Told el.now (ties onto.now link.now turn.now) t
         → Fresh (ties onto.now link.now turn.now) row.old
@@ -282,7 +268,7 @@ pub fn start(
     row: &mut [u16; POINTS],
 )
     requires { (Tied (ties onto.now link.now turn.now))
-        × (((0 < get_or turn.now a 0) × (0 < get_or turn.now b 0)) × (length row.old ≡ treeBound)) }
+        × (((0 < get_or turn.now a 0) × (0 < get_or turn.now b 0)) × (length row.old ≡ tree_bound)) }
     ensures begun { Begun (ties onto.now link.now turn.now) row.new }
     ensures by_index { (t : List ℕ) → Told el.now (ties onto.now link.now turn.now) t
         → Fresh (ties onto.now link.now turn.now) row.old
@@ -310,7 +296,7 @@ pub fn cut_at(
 ) -> usize
     requires { (Tied (ties onto.now link.now turn.now))
         × ((0 < get_or turn.now v 0) × (Begun (ties onto.now link.now turn.now) row.old)) }
-    ensures upper_bound { (result < treeBound) × (Begun (ties onto.now link.now turn.now) row.new) }
+    ensures upper_bound { (result < tree_bound) × (Begun (ties onto.now link.now turn.now) row.new) }
     ensures by_index { (f : ℕ → ℕ) → Row el.now (ties onto.now link.now turn.now) f
         row.old
         → (result ≡ f v) × (Row el.now (ties onto.now link.now turn.now) f row.new) }

@@ -2,6 +2,6 @@
 -- `refiner`.
 --
 --   Counted      Counted n w pins macros              what the check hands on: what it counted, of an allowed net
---   Trees        refinedPart t                        the refined tree's part of what is known of both
+--   Trees        refined_part t                        the refined tree's part of what is known of both
 pub mod Counted
 pub mod Trees

@@ -2,5 +2,5 @@
 use Rattle.refiner.specs.declared.Refined.{Refined}
 use Rattle.made.specs.declared.Trees.{Trees}
 
-abbrev pub refinedPart : Trees → Refined
-refinedPart t = record { points = t.points; edges = t.edges; total = t.total }
+abbrev pub refined_part : Trees → Refined
+refined_part t = record { points = t.points; edges = t.edges; total = t.total }

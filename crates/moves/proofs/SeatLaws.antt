@@ -10,25 +10,25 @@ use lib.Dec.{ltb}
 use lib.IntN.{ℤ}
 use Rattle.lists.proofs.TestLaws.{by, differ}
 use Rattle.plane.specs.declared.Place.{Place}
-use Rattle.plane.specs.Place.{before, samePlace}
-use Rattle.plane.specs.Flat.{placeAt}
+use Rattle.plane.specs.Place.{before, same_place}
+use Rattle.plane.specs.Flat.{place_at}
 use Rattle.plane.specs.Rank.{InOrder, rank}
 use Rattle.plane.proofs.PlaceLaws.{same_true, before-irrefl, before-trans}
 use Rattle.plane.proofs.RankLaws.{rank_is}
 use Rattle.turned.specs.Steps.{up_to}
-use Rattle.moves.specs.Moving.{chosen, seatOf}
+use Rattle.moves.specs.Moving.{chosen, seat_of}
 
 module _ (pts : List ℤ) (p : Place) where
   abbrev same : ℕ → Bool
-  same i = samePlace p (placeAt pts i)
+  same i = same_place p (place_at pts i)
 
-  seat-none : (m : ℕ) → ((i : ℕ) → i < m → same i ≡ false) → 0 ≡ seatOf pts m p
-  unfolding seatOf up_to chosen
+  seat-none : (m : ℕ) → ((i : ℕ) → i < m → same i ≡ false) → 0 ≡ seat_of pts m p
+  unfolding seat_of up_to chosen
   seat-none zero h = refl
   seat-none (suc m) h = rw (h m (omega arith)) (seat-none m (λ i l. h i (omega arith)))
 
-  seat-one : (r m : ℕ) → r < m → same r ≡ true → ((i : ℕ) → i < m → r < i → same i ≡ false) → r ≡ seatOf pts m p
-  unfolding seatOf up_to chosen
+  seat-one : (r m : ℕ) → r < m → same r ≡ true → ((i : ℕ) → i < m → r < i → same i ≡ false) → r ≡ seat_of pts m p
+  unfolding seat_of up_to chosen
   seat-one r zero l e h = absurd (let z : ⊥ = omega arith in z)
   seat-one r (suc m) l e h =
       by (ltb r m)
@@ -41,16 +41,16 @@ module _ (pts : List ℤ) (p : Place) where
     -- whichever point is at p, its number is the rank
     at-rank : (i : ℕ) → i < n → same i ≡ true → i ≡ rank pts n p
     at-rank i h e =
-        let is = same_true p (placeAt pts i) e in
+        let is = same_true p (place_at pts i) e in
         rank_is pts n p i (omega arith) (λ u l. rw is (o u i l h))
         (λ u l k.
-        by (before (placeAt pts u) p)
+        by (before (place_at pts u) p)
         (λ t.
         by (ltb i u)
-        (λ g. differ (before-trans (placeAt pts u) p (placeAt pts u) t (rw is (o i u (ltb-true i u g) k))) (before-irrefl (placeAt pts u)))
+        (λ g. differ (before-trans (place_at pts u) p (place_at pts u) t (rw is (o i u (ltb-true i u g) k))) (before-irrefl (place_at pts u)))
         (λ g.
         let j : u ≡ i = omega (arith, ltb-false i u g) in
-        differ (ap (λ (q : Place). before q p) (is ∙ ap (placeAt pts) (sym j)) ∙ t) (before-irrefl p)))
+        differ (ap (λ (q : Place). before q p) (is ∙ ap (place_at pts) (sym j)) ∙ t) (before-irrefl p)))
         (λ t. t))
 
     not_at : (i : ℕ) → i < n → (i ≡ rank pts n p → ⊥) → same i ≡ false
@@ -58,10 +58,10 @@ module _ (pts : List ℤ) (p : Place) where
 
     -- by the code's tests at the rank r
     module _ (r : ℕ) (is : r ≡ rank pts n p) where
-      pub seat-past : n ≤ r → 0 ≡ seatOf pts n p
+      pub seat-past : n ≤ r → 0 ≡ seat_of pts n p
       seat-past h = seat-none n (λ i l. not_at i l (λ e. let z : ⊥ = omega (arith, e, is) in z))
 
-      pub seat-there : r < n → chosen (same r) r 0 ≡ seatOf pts n p
+      pub seat-there : r < n → chosen (same r) r 0 ≡ seat_of pts n p
       unfolding chosen
       seat-there h =
           by (same r)

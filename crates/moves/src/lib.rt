@@ -3,13 +3,13 @@
 // A bar is told by the label of its points; a pin by its seat, the number of its point.
 ghost use Rattle.std.specs.Prelude.{◌≡◌, [], ◌^◌, ◌≤◌, ◌<◌};
 ghost use Rattle.plane.specs.Rank.{InOrder};
-ghost use Rattle.net.specs.Bounds.{pinBound};
-ghost use Rattle.net.specs.Pins.{pinCount};
+ghost use Rattle.net.specs.Bounds.{pin_bound};
+ghost use Rattle.net.specs.Pins.{pin_count};
 ghost use Rattle.slide.specs.Side.{horizontal};
 ghost use Rattle.slide.specs.Slide.{better};
-ghost use Rattle.straight.specs.Table.{straightBound};
+ghost use Rattle.straight.specs.Table.{straight_bound};
 ghost use Rattle.turned.specs.Turned.{view};
-ghost use Rattle.moves.specs.Moving.{opposite, weightIn, labelView, Seated, held, chosen, lastOn, bar, seatOf, seatsOf};
+ghost use Rattle.moves.specs.Moving.{opposite, weight_in, label_view, Seated, held, chosen, last_on, bar, seat_of, seats_of};
 
 use net::Net;
 use plane::{Place, Weights};
@@ -45,7 +45,7 @@ pub fn opposite(s: Side) -> Side
 
 // What a unit of a hanging edge costs.
 pub fn weight_of(w: Weights, s: Side) -> u64
-    ensures { (result ≡ weightIn w s) × (result < 2 ^ 8) }
+    ensures { (result ≡ weight_in w s) × (result < 2 ^ 8) }
 {
     if is_horizontal(s) {
         return w.along as u64;
@@ -76,8 +76,8 @@ pub fn is_better(m: Move, n: Move) -> bool
 
 // A pin has the label l; a pin is known by the number of its point.
 pub fn is_held(seats: &[usize; PINS], m: usize, lab: &[usize; POINTS], l: usize) -> bool
-    requires { (m ≤ pinBound) × (Seated m seats.now) }
-    ensures { result ≡ held (labelView lab.now l) seats.now m }
+    requires { (m ≤ pin_bound) × (Seated m seats.now) }
+    ensures { result ≡ held (label_view lab.now l) seats.now m }
 {
     let mut held = false;
     let mut i = 0;
@@ -99,8 +99,8 @@ fn chosen(t: bool, a: usize, b: usize) -> usize
 
 // The last point with the label l.
 fn last_of(lab: &[usize; POINTS], n: usize, l: usize) -> usize
-    requires { (n ≤ straightBound) × (l < straightBound) }
-    ensures { (result ≡ lastOn (labelView lab.now l) n) × (result < straightBound) }
+    requires { (n ≤ straight_bound) × (l < straight_bound) }
+    ensures { (result ≡ last_on (label_view lab.now l) n) × (result < straight_bound) }
 {
     let mut last = l;
     let mut i = 0;
@@ -120,7 +120,7 @@ pub fn bar_of(
     l: usize,
     d: u64,
 ) -> Bar
-    requires { ((n ≤ straightBound) × (l < straightBound)) × (d ≤ 2 ^ 32) }
+    requires { ((n ≤ straight_bound) × (l < straight_bound)) × (d ≤ 2 ^ 32) }
     ensures { result ≡ bar (view pts.now [] lab.now s l) n d }
 {
     let first = turned::spot_at(pts, s, l);
@@ -137,8 +137,8 @@ pub fn bar_of(
 
 // The number of the point at p, found by halving.
 fn seat_of(pts: &[i32; NUMBERS], n: usize, p: Place) -> usize
-    requires { (n ≤ straightBound) × (InOrder pts.now n) }
-    ensures { (result ≡ seatOf pts.now n p) × (result < straightBound) }
+    requires { (n ≤ straight_bound) × (InOrder pts.now n) }
+    ensures { (result ≡ seat_of pts.now n p) × (result < straight_bound) }
 {
     let at = plane::rank(pts, n, p);
     if n <= at {
@@ -149,8 +149,8 @@ fn seat_of(pts: &[i32; NUMBERS], n: usize, p: Place) -> usize
 
 // The numbers of the points of the first m pins.
 pub fn seat(pts: &[i32; NUMBERS], n: usize, pins: &[i32], m: usize, seats: &mut [usize; PINS])
-    requires { ((n ≤ straightBound) × (InOrder pts.now n)) × ((m ≤ pinBound) × (m ≤ pinCount pins.now)) }
-    ensures { seats.new ≡ seatsOf pts.now n pins.now m seats.old }
+    requires { ((n ≤ straight_bound) × (InOrder pts.now n)) × ((m ≤ pin_bound) × (m ≤ pin_count pins.now)) }
+    ensures { seats.new ≡ seats_of pts.now n pins.now m seats.old }
 {
     let mut j = 0;
     while j < m {

@@ -15,24 +15,24 @@ use Rattle.plane.specs.declared.Place.{Place}
 use Rattle.plane.specs.declared.Macro.{Macro}
 use Rattle.plane.specs.declared.Weights.{Weights}
 use Rattle.plane.specs.Place.{before}
-use Rattle.plane.specs.Flat.{placeAt}
+use Rattle.plane.specs.Flat.{place_at}
 use Rattle.plane.specs.Rank.{InOrder}
 use Rattle.plane.proofs.PlaceLaws.{before-true}
-use Rattle.near.specs.Box.{boxCost, FarLeft, FarRight}
+use Rattle.near.specs.Box.{box_cost, FarLeft, FarRight}
 
 before-x : (p q : Place) → before p q ≡ true → Le p.x q.x
 before-x p q h = either (λ l. omega (signed, l)) (λ r. rw r.0 (omega signed)) (before-true p q h)
 
-in_order : (pts : List ℤ) (n : ℕ) → InOrder pts n → (i j : ℕ) → i ≤ j → j < n → Le (placeAt pts i).x (placeAt pts j).x
+in_order : (pts : List ℤ) (n : ℕ) → InOrder pts n → (i j : ℕ) → i ≤ j → j < n → Le (place_at pts i).x (place_at pts j).x
 in_order pts n o i j h k =
     by (ltb i j)
-    (λ t. before-x (placeAt pts i) (placeAt pts j) (o i j (ltb-true i j t) k))
+    (λ t. before-x (place_at pts i) (place_at pts j) (o i j (ltb-true i j t) k))
     (λ t. let e : i ≡ j = omega (arith, ltb-false i j t) in rw e (omega signed))
 
 module _ (w : Weights) (m : Macro) (pts : List ℤ) (n : ℕ) (o : InOrder pts n) (limit mid : ℕ) (k : mid < n) where
-  pub left-of : FarLeft w m (placeAt pts mid) limit → (u : ℕ) → u < mid + 1 → limit ≤ boxCost w m (placeAt pts u)
-  left-of f u h = f (placeAt pts u) (in_order pts n o u mid (omega arith) k)
+  pub left-of : FarLeft w m (place_at pts mid) limit → (u : ℕ) → u < mid + 1 → limit ≤ box_cost w m (place_at pts u)
+  left-of f u h = f (place_at pts u) (in_order pts n o u mid (omega arith) k)
 
-  pub right_of : Le m.left m.right → FarRight w m (placeAt pts mid) limit → (u : ℕ) → mid ≤ u → u < n
-      → limit ≤ boxCost w m (placeAt pts u)
-  right_of i f u h l = f i (placeAt pts u) (in_order pts n o mid u h l)
+  pub right_of : Le m.left m.right → FarRight w m (place_at pts mid) limit → (u : ℕ) → mid ≤ u → u < n
+      → limit ≤ box_cost w m (place_at pts u)
+  right_of i f u h l = f i (place_at pts u) (in_order pts n o mid u h l)

@@ -2,15 +2,15 @@
 // places, so those too far left stand first in a table and those too far right last, and both are found by halving.
 ghost use Rattle.std.specs.Prelude.{◌≡◌, true, ℕ, ◌*◌, ◌^◌, ◌≤◌, ◌<◌, ltb, length};
 ghost use Rattle.signed.specs.Sides.{Le};
-ghost use Rattle.plane.specs.Flat.{placeAt};
+ghost use Rattle.plane.specs.Flat.{place_at};
 ghost use Rattle.plane.specs.Rank.{InOrder};
-ghost use Rattle.near.specs.Box.{boxOf, outside, boxCost, FarLeft, FarRight};
+ghost use Rattle.near.specs.Box.{box_of, outside, box_cost, FarLeft, FarRight};
 
 use plane::{Macro, Place, Weights};
 
 // The closed upright box of two places.
 pub fn box_of(a: Place, b: Place) -> Macro
-    ensures { result ≡ boxOf a b }
+    ensures { result ≡ box_of a b }
 {
     Macro {
         left: plane::smaller(a.x, b.x),
@@ -35,7 +35,7 @@ fn outside(low: i32, high: i32, z: i32) -> u64
 
 // Whether metal from u to the nearest place of a box costs less than limit. Most places are too far across already.
 pub fn is_near_box(w: Weights, m: Macro, u: Place, limit: u64) -> bool
-    ensures { result ≡ ltb (boxCost w m u) limit }
+    ensures { result ≡ ltb (box_cost w m u) limit }
 {
     let across = plane::axis_cost(outside(m.left, m.right, u.x), w.across);
     if limit <= across {
@@ -67,7 +67,7 @@ fn is_far_right(w: Weights, m: Macro, u: Place, limit: u64) -> bool
 // How many points at the front are too far left.
 pub fn from(w: Weights, m: Macro, pts: &[i32], n: usize, limit: u64) -> usize
     requires { (n * 2 ≤ length pts.now) × (InOrder pts.now n) }
-    ensures { (result ≤ n) × ((u : ℕ) → u < result → limit ≤ boxCost w m (placeAt pts.now u)) }
+    ensures { (result ≤ n) × ((u : ℕ) → u < result → limit ≤ box_cost w m (place_at pts.now u)) }
 {
     let mut far = 0;
     let mut near = n;
@@ -86,7 +86,7 @@ pub fn from(w: Weights, m: Macro, pts: &[i32], n: usize, limit: u64) -> usize
 pub fn to(w: Weights, m: Macro, pts: &[i32], n: usize, limit: u64) -> usize
     requires n_in_bounds { (n * 2 ≤ length pts.now) × (InOrder pts.now n) }
     requires le { Le m.left m.right }
-    ensures { (result ≤ n) × ((u : ℕ) → result ≤ u → u < n → limit ≤ boxCost w m (placeAt pts.now u)) }
+    ensures { (result ≤ n) × ((u : ℕ) → result ≤ u → u < n → limit ≤ box_cost w m (place_at pts.now u)) }
 {
     let mut near = 0;
     let mut far = n;

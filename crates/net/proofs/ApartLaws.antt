@@ -6,10 +6,10 @@ use Rattle.lists.specs.Member.{◌∈◌}
 use Rattle.lists.proofs.TestLaws.{differ}
 use Rattle.lists.proofs.TwoLaws.{no-two-one}
 use Rattle.signed.specs.Sides.{Lt}
-use Rattle.signed.proofs.SideLaws.{ltZ-true}
+use Rattle.signed.proofs.SideLaws.{z_lt-true}
 use Rattle.plane.specs.declared.Place.{Place}
 use Rattle.plane.specs.declared.Macro.{Macro}
-use Rattle.plane.specs.Macro.{interiorsMeet}
+use Rattle.plane.specs.Macro.{interiors_meet}
 use Rattle.plane.proofs.MacroLaws.{interiors-comm}
 use Rattle.plane.proofs.MeetLaws.{Overlap, overlap-meets, InInterior, interior-inside}
 use Rattle.net.specs.Net.{Net}
@@ -22,13 +22,13 @@ pub record SidesInOrder (m : Macro) : Type 0 where
 
 module _ {net : Net} (a : Allowed net) where
   pub sides-in-order : (m : Macro) → m ∈ net.macros → SidesInOrder m
-  sides-in-order m i = let u = a.upright m i in record { across = ltZ-true _ _ u.across; along = ltZ-true _ _ u.along }
+  sides-in-order m i = let u = a.upright m i in record { across = z_lt-true _ _ u.across; along = z_lt-true _ _ u.along }
 
   pub overlap-one : (m n : Macro) → m ∈ net.macros → n ∈ net.macros → Overlap m n → m ≡ n
   overlap-one m n i j o =
       let s = sides-in-order m i in
       let t = sides-in-order n j in
-      no-two-one interiorsMeet interiors-comm net.macros a.macros-apart m n i j
+      no-two-one interiors_meet interiors-comm net.macros a.macros-apart m n i j
       (overlap-meets m n s.across s.along t.across t.along o)
 
   pub pin-outside : (p : Place) → p ∈ net.pins → (m : Macro) → m ∈ net.macros → InInterior p m → ⊥

@@ -9,46 +9,46 @@ use borrow.Author.Tests.{eq-eqb, ne_eqb, le-ltb, eqb-true, eqb-false, ltb-false,
 use lib.IntN.{ℤ}
 use lib.ListN.{length}
 use Rattle.lists.proofs.TestLaws.{or-none, or-neither}
-use Rattle.net.specs.Bounds.{pinBound, macroBound, pinWidth, macroWidth}
-use Rattle.net.specs.Pins.{pinCount, macroCount}
-use Rattle.net.specs.Tests.{pinsMiscounted, pinsMiscountedWithin, macrosMiscounted, macrosMiscountedWithin}
+use Rattle.net.specs.Bounds.{pin_bound, macro_bound, pin_width, macro_width}
+use Rattle.net.specs.Pins.{pin_count, macro_count}
+use Rattle.net.specs.Tests.{pins_miscounted, pins_miscounted_within, macros_miscounted, macros_miscounted_within}
 
 -- lists of whole entries, within the bounds
 pub record PinsCounted (pins : List ℤ) : Type 0 where
-  pub whole : length pins % pinWidth ≡ 0
-  pub some : 1 ≤ pinCount pins
-  pub few : pinCount pins ≤ pinBound
+  pub whole : length pins % pin_width ≡ 0
+  pub some : 1 ≤ pin_count pins
+  pub few : pin_count pins ≤ pin_bound
 
 pub record MacrosCounted (macros : List ℤ) : Type 0 where
-  pub whole : length macros % macroWidth ≡ 0
-  pub few : macroCount macros ≤ macroBound
+  pub whole : length macros % macro_width ≡ 0
+  pub few : macro_count macros ≤ macro_bound
 
-pub pins-counted : (pins : List ℤ) → pinsMiscounted pins ≡ false → PinsCounted pins
-unfolding pinsMiscountedWithin
+pub pins-counted : (pins : List ℤ) → pins_miscounted pins ≡ false → PinsCounted pins
+unfolding pins_miscounted_within
 pins-counted pins e =
     let r = or-none _ _ e in
     let s = or-none _ _ r.1 in
-    let n : pinCount pins ≡ 0 → ⊥ = eqb-false (pinCount pins) 0 s.0 in
+    let n : pin_count pins ≡ 0 → ⊥ = eqb-false (pin_count pins) 0 s.0 in
     record {
-      whole = eqb-true (length pins % pinWidth) 0 (not-false _ r.0);
+      whole = eqb-true (length pins % pin_width) 0 (not-false _ r.0);
       some = omega (arith, n);
-      few = ltb-false pinBound (pinCount pins) s.1;
+      few = ltb-false pin_bound (pin_count pins) s.1;
     }
 
-pub macros-counted : (macros : List ℤ) → macrosMiscounted macros ≡ false → MacrosCounted macros
-unfolding macrosMiscountedWithin
+pub macros-counted : (macros : List ℤ) → macros_miscounted macros ≡ false → MacrosCounted macros
+unfolding macros_miscounted_within
 macros-counted macros e =
     let r = or-none _ _ e in
-    record { whole = eqb-true (length macros % macroWidth) 0 (not-false _ r.0); few = ltb-false macroBound (macroCount macros) r.1 }
+    record { whole = eqb-true (length macros % macro_width) 0 (not-false _ r.0); few = ltb-false macro_bound (macro_count macros) r.1 }
 
 -- and the other way
 module _ (s : List ℤ) where
-  pub threes-whole : length s % pinWidth ≡ 0 → 1 ≤ pinCount s → pinCount s ≤ pinBound → pinsMiscounted s ≡ false
-  unfolding pinsMiscountedWithin
+  pub threes-whole : length s % pin_width ≡ 0 → 1 ≤ pin_count s → pin_count s ≤ pin_bound → pins_miscounted s ≡ false
+  unfolding pins_miscounted_within
   threes-whole e l h =
-      or-neither _ _ (ap not (eq-eqb (length s % pinWidth) 0 e))
-      (or-neither _ _ (ne_eqb (pinCount s) 0 (λ z. omega arith)) (le-ltb pinBound (pinCount s) h))
+      or-neither _ _ (ap not (eq-eqb (length s % pin_width) 0 e))
+      (or-neither _ _ (ne_eqb (pin_count s) 0 (λ z. omega arith)) (le-ltb pin_bound (pin_count s) h))
 
-  pub fours-whole : length s % macroWidth ≡ 0 → macroCount s ≤ macroBound → macrosMiscounted s ≡ false
-  unfolding macrosMiscountedWithin
-  fours-whole e h = or-neither _ _ (ap not (eq-eqb (length s % macroWidth) 0 e)) (le-ltb macroBound (macroCount s) h)
+  pub fours-whole : length s % macro_width ≡ 0 → macro_count s ≤ macro_bound → macros_miscounted s ≡ false
+  unfolding macros_miscounted_within
+  fours-whole e h = or-neither _ _ (ap not (eq-eqb (length s % macro_width) 0 e)) (le-ltb macro_bound (macro_count s) h)

@@ -9,40 +9,40 @@ use lib.IntN.{ℤ, pos, neg_ℤ}
 use lib.Signed.{lt_z}
 use Rattle.lists.proofs.TestLaws.{or-none}
 use Rattle.signed.specs.Sides.{up, down}
-use Rattle.signed.proofs.SideLaws.{ltZ-false, up_pos, down_pos, one_side, signed}
+use Rattle.signed.proofs.SideLaws.{z_lt-false, up_pos, down_pos, one_side, signed}
 use Rattle.plane.specs.declared.Place.{Place}
 use Rattle.plane.specs.Distance.{apart}
 use Rattle.plane.proofs.DistanceLaws.{apart-sides}
 use Rattle.plane.proofs.CostLaws.{cost-parts}
-use Rattle.net.specs.Bounds.{coordinateBound, costBound}
-use Rattle.net.specs.Net.{Net, costIn}
-use Rattle.net.specs.Tests.{outOfRange}
+use Rattle.net.specs.Bounds.{coordinate_bound, cost_bound}
+use Rattle.net.specs.Net.{Net, cost_in}
+use Rattle.net.specs.Tests.{out_of_range}
 use Rattle.net.specs.Allowed.{PlaceInRange, Allowed}
 
 -- N4: a coordinate is at most 1,000,000 from 0
 pub record Near (z : ℤ) : Type 0 where
-  pub above : up z ≤ coordinateBound
-  pub below : down z ≤ coordinateBound
+  pub above : up z ≤ coordinate_bound
+  pub below : down z ≤ coordinate_bound
 
-least-sides : (up (neg_ℤ (pos coordinateBound)) ≡ 0) × (down (neg_ℤ (pos coordinateBound)) ≡ coordinateBound)
+least-sides : (up (neg_ℤ (pos coordinate_bound)) ≡ 0) × (down (neg_ℤ (pos coordinate_bound)) ≡ coordinate_bound)
 unfolding up down
 least-sides = (refl, refl)
 
-pub in-range-near : (z : ℤ) → outOfRange z ≡ false → Near z
-unfolding outOfRange
+pub in-range-near : (z : ℤ) → out_of_range z ≡ false → Near z
+unfolding out_of_range
 in-range-near z e =
-    let r = or-none (lt_z z (neg_ℤ (pos coordinateBound))) (lt_z (pos coordinateBound) z) e in
-    let low = ltZ-false z (neg_ℤ (pos coordinateBound)) r.0 in
-    let high = ltZ-false (pos coordinateBound) z r.1 in
+    let r = or-none (lt_z z (neg_ℤ (pos coordinate_bound))) (lt_z (pos coordinate_bound) z) e in
+    let low = z_lt-false z (neg_ℤ (pos coordinate_bound)) r.0 in
+    let high = z_lt-false (pos coordinate_bound) z r.1 in
     record {
-      above = omega (signed, high, one_side z, up_pos coordinateBound, down_pos coordinateBound);
+      above = omega (signed, high, one_side z, up_pos coordinate_bound, down_pos coordinate_bound);
       below = omega (signed, low, one_side z, least-sides);
     }
 
-apart-near : (a b : ℤ) → Near a → Near b → apart a b ≤ coordinateBound * 2
+apart-near : (a b : ℤ) → Near a → Near b → apart a b ≤ coordinate_bound * 2
 apart-near a b m n = omega (signed, apart-sides a b)
 
-pub cost-in-range : {net : Net} → Allowed net → (a b : Place) → PlaceInRange a → PlaceInRange b → costIn net a b ≤ costBound
+pub cost-in-range : {net : Net} → Allowed net → (a b : Place) → PlaceInRange a → PlaceInRange b → cost_in net a b ≤ cost_bound
 cost-in-range {net} h a b r s =
     let across = apart-near _ _ (in-range-near _ r.x) (in-range-near _ s.x) in
     let along = apart-near _ _ (in-range-near _ r.y) (in-range-near _ s.y) in

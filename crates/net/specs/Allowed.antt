@@ -6,29 +6,29 @@ use Rattle.lists.specs.Any.{NoTwo}
 use Rattle.plane.specs.declared.Place.{Place}
 use Rattle.plane.specs.declared.Macro.{Macro}
 use Rattle.plane.specs.declared.Weights.{Weights}
-use Rattle.plane.specs.Place.{samePlace}
+use Rattle.plane.specs.Place.{same_place}
 use Rattle.plane.specs.Cost.{Positive}
-use Rattle.plane.specs.Macro.{inside, interiorsMeet}
-use Rattle.net.specs.Bounds.{pinBound, macroBound, weightBound, pinWidth, macroWidth}
-use Rattle.net.specs.Pins.{pinLoads}
+use Rattle.plane.specs.Macro.{inside, interiors_meet}
+use Rattle.net.specs.Bounds.{pin_bound, macro_bound, weight_bound, pin_width, macro_width}
+use Rattle.net.specs.Pins.{pin_loads}
 use Rattle.net.specs.Net.{Net}
-use Rattle.net.specs.Tests.{outOfRange, noLoad}
+use Rattle.net.specs.Tests.{out_of_range, no_load}
 
 -- the lists hold whole entries only, and the loads, of which the net itself knows nothing, are in range [11]
 pub record Whole (pins macros : List ℤ) : Type 0 where
-  pub threes : length pins % pinWidth ≡ 0
-  pub fours : length macros % macroWidth ≡ 0
-  pub loads : (z : ℤ) → Memᴰ z (pinLoads pins) → noLoad z ≡ false
+  pub threes : length pins % pin_width ≡ 0
+  pub fours : length macros % macro_width ≡ 0
+  pub loads : (z : ℤ) → Memᴰ z (pin_loads pins) → no_load z ≡ false
 
 pub record PlaceInRange (p : Place) : Type 0 where
-  pub x : outOfRange p.x ≡ false
-  pub y : outOfRange p.y ≡ false
+  pub x : out_of_range p.x ≡ false
+  pub y : out_of_range p.y ≡ false
 
 pub record MacroInRange (m : Macro) : Type 0 where
-  pub left : outOfRange m.left ≡ false
-  pub bottom : outOfRange m.bottom ≡ false
-  pub right : outOfRange m.right ≡ false
-  pub top : outOfRange m.top ≡ false
+  pub left : out_of_range m.left ≡ false
+  pub bottom : out_of_range m.bottom ≡ false
+  pub right : out_of_range m.right ≡ false
+  pub top : out_of_range m.top ≡ false
 
 pub record Upright (m : Macro) : Type 0 where
   pub across : lt_z m.left m.right ≡ true
@@ -37,17 +37,17 @@ pub record Upright (m : Macro) : Type 0 where
 -- each weight from 1 to the bound
 pub record Weighted (w : Weights) : Type 0 where
   pub positive : Positive w
-  pub across : w.across ≤ weightBound
-  pub along : w.along ≤ weightBound
+  pub across : w.across ≤ weight_bound
+  pub along : w.along ≤ weight_bound
 
 pub record Allowed (net : Net) : Type 0 where
   pub some-pin : 1 ≤ length net.pins
-  pub few-pins : length net.pins ≤ pinBound
-  pub few-macros : length net.macros ≤ macroBound
+  pub few-pins : length net.pins ≤ pin_bound
+  pub few-macros : length net.macros ≤ macro_bound
   pub weighted : Weighted net.weights
   pub pins-in-range : (p : Place) → Memᴰ p net.pins → PlaceInRange p
   pub macros-in-range : (m : Macro) → Memᴰ m net.macros → MacroInRange m
   pub upright : (m : Macro) → Memᴰ m net.macros → Upright m
-  pub pins-apart : NoTwo samePlace net.pins
-  pub macros-apart : NoTwo interiorsMeet net.macros
+  pub pins-apart : NoTwo same_place net.pins
+  pub macros-apart : NoTwo interiors_meet net.macros
   pub pins-outside : (p : Place) → Memᴰ p net.pins → (m : Macro) → Memᴰ m net.macros → inside p m ≡ false

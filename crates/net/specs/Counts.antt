@@ -1,16 +1,16 @@
 -- What the check gives of a net that it allows, in the code's own struct.
 use Rattle.std.specs.Prelude.{List, ℕ, ◌+◌, ◌*◌, ℤ}
-use Rattle.net.specs.Pins.{pinCount, macroCount}
-use Rattle.net.specs.Net.{weightsOf}
+use Rattle.net.specs.Pins.{pin_count, macro_count}
+use Rattle.net.specs.Net.{weights_of}
 use Rattle.net.specs.declared.Weighing.{Weighing}
 use Rattle.net.specs.declared.Net.{Net as Counts}
 
 -- N7: m and k, and the weights; and the points of the graph at most, n = m + 4k
 abbrev pub counted : Weighing → ℕ → ℕ → Counts
-counted w m k = record { pins = m; macros = k; weights = weightsOf w }
+counted w m k = record { pins = m; macros = k; weights = weights_of w }
 
-abbrev pub countsOf : Weighing → List ℤ → List ℤ → Counts
-countsOf w pins macros = counted w (pinCount pins) (macroCount macros)
+abbrev pub counts_of : Weighing → List ℤ → List ℤ → Counts
+counts_of w pins macros = counted w (pin_count pins) (macro_count macros)
 
-abbrev pub pointCount : Counts → ℕ
-pointCount net = net.pins + net.macros * 4
+abbrev pub point_count : Counts → ℕ
+point_count net = net.pins + net.macros * 4

@@ -5,10 +5,10 @@ use Rattle.signed.specs.Sides.{up}
 use Rattle.plane.specs.declared.Place.{Place}
 use Rattle.plane.specs.declared.Macro.{Macro}
 use Rattle.plane.specs.declared.Weights.{Weights}
-use Rattle.plane.specs.Flat.{macrosOf}
+use Rattle.plane.specs.Flat.{macros_of}
 use Rattle.plane.specs.Cost.{cost}
 use Rattle.net.specs.declared.Weighing.{Weighing}
-use Rattle.net.specs.Pins.{pinPlaces}
+use Rattle.net.specs.Pins.{pin_places}
 
 pub record Net : Type 0 where
   pub pins : List Place
@@ -23,19 +23,19 @@ abbrev pub plainly : Weighing
 plainly = weighing (pos 1) (pos 1)
 
 -- the weights that they are, where the check finds both from 1 to 8; and the other way
-abbrev pub weightsOf : Weighing → Weights
-weightsOf w = record { across = up w.first; along = up w.second }
+abbrev pub weights_of : Weighing → Weights
+weights_of w = record { across = up w.first; along = up w.second }
 
 abbrev pub handed : Weights → Weighing
 handed w = weighing (pos w.across) (pos w.along)
 
 -- the net of two flat lists with these weights, known or as handed over
-abbrev pub netWith : Weights → List ℤ → List ℤ → Net
-netWith w pins macros = record { pins = pinPlaces pins; macros = macrosOf macros; weights = w }
+abbrev pub net_with : Weights → List ℤ → List ℤ → Net
+net_with w pins macros = record { pins = pin_places pins; macros = macros_of macros; weights = w }
 
-abbrev pub netOf : Weighing → List ℤ → List ℤ → Net
-netOf w pins macros = netWith (weightsOf w) pins macros
+abbrev pub net_of : Weighing → List ℤ → List ℤ → Net
+net_of w pins macros = net_with (weights_of w) pins macros
 
 -- what metal between two places costs in a net
-abbrev pub costIn : Net → Place → Place → ℕ
-costIn net = cost net.weights
+abbrev pub cost_in : Net → Place → Place → ℕ
+cost_in net = cost net.weights

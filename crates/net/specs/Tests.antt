@@ -5,51 +5,51 @@ use Rattle.lists.specs.Any.{any}
 use Rattle.plane.specs.declared.Place.{Place}
 use Rattle.plane.specs.declared.Macro.{Macro}
 use Rattle.plane.specs.Macro.{inside}
-use Rattle.net.specs.Bounds.{Bounds, today, coordinateBound, loadBound, weightBound, pinWidth, macroWidth}
-use Rattle.net.specs.Pins.{pinCount, pinPlaces, pinLoads, macroCount}
+use Rattle.net.specs.Bounds.{Bounds, today, coordinate_bound, load_bound, weight_bound, pin_width, macro_width}
+use Rattle.net.specs.Pins.{pin_count, pin_places, pin_loads, macro_count}
 use Rattle.net.specs.declared.Weighing.{Weighing}
 
 -- C11: not whole threes [11], no pin, or more than the bound, which is 128
-unfoldable pub pinsMiscountedWithin : Bounds → List ℤ → Bool
-pinsMiscountedWithin b pins = not (eqb (length pins % pinWidth) 0) || (eqb (pinCount pins) 0 || ltb b.pins (pinCount pins))
+unfoldable pub pins_miscounted_within : Bounds → List ℤ → Bool
+pins_miscounted_within b pins = not (eqb (length pins % pin_width) 0) || (eqb (pin_count pins) 0 || ltb b.pins (pin_count pins))
 
-abbrev pub pinsMiscounted : List ℤ → Bool
-pinsMiscounted = pinsMiscountedWithin today
+abbrev pub pins_miscounted : List ℤ → Bool
+pins_miscounted = pins_miscounted_within today
 
 -- C12: not whole fours, or more macros than the bound, which is 128
-unfoldable pub macrosMiscountedWithin : Bounds → List ℤ → Bool
-macrosMiscountedWithin b macros = not (eqb (length macros % macroWidth) 0) || ltb b.macros (macroCount macros)
+unfoldable pub macros_miscounted_within : Bounds → List ℤ → Bool
+macros_miscounted_within b macros = not (eqb (length macros % macro_width) 0) || ltb b.macros (macro_count macros)
 
-abbrev pub macrosMiscounted : List ℤ → Bool
-macrosMiscounted = macrosMiscountedWithin today
+abbrev pub macros_miscounted : List ℤ → Bool
+macros_miscounted = macros_miscounted_within today
 
 -- C13: farther from 0 than coordinates go
-unfoldable pub outOfRange : ℤ → Bool
-outOfRange z = lt_z z (neg_ℤ (pos coordinateBound)) || lt_z (pos coordinateBound) z
+unfoldable pub out_of_range : ℤ → Bool
+out_of_range z = lt_z z (neg_ℤ (pos coordinate_bound)) || lt_z (pos coordinate_bound) z
 
-abbrev pub placeOut : Place → Bool
-placeOut p = outOfRange p.x || outOfRange p.y
+abbrev pub place_out : Place → Bool
+place_out p = out_of_range p.x || out_of_range p.y
 
 -- C13, for one load: below 0 or above the greatest [11]
-unfoldable pub noLoad : ℤ → Bool
-noLoad z = lt_z z (pos 0) || lt_z (pos loadBound) z
+unfoldable pub no_load : ℤ → Bool
+no_load z = lt_z z (pos 0) || lt_z (pos load_bound) z
 
 -- C13, for the pins: a place or a load
-unfoldable pub pinsOutOfRange : List ℤ → Bool
-pinsOutOfRange pins = any placeOut (pinPlaces pins) || any noLoad (pinLoads pins)
+unfoldable pub pins_out_of_range : List ℤ → Bool
+pins_out_of_range pins = any place_out (pin_places pins) || any no_load (pin_loads pins)
 
 -- C14: a macro without width or without height
-unfoldable pub notUpright : Macro → Bool
-notUpright m = not (lt_z m.left m.right) || not (lt_z m.bottom m.top)
+unfoldable pub not_upright : Macro → Bool
+not_upright m = not (lt_z m.left m.right) || not (lt_z m.bottom m.top)
 
 -- C17, for one pin: it is in an interior
-unfoldable pub insideAny : List Macro → Place → Bool
-insideAny macros p = any (inside p) macros
+unfoldable pub inside_any : List Macro → Place → Bool
+inside_any macros p = any (inside p) macros
 
 -- C18, for one of the two: outside 1 to 8
-unfoldable pub noWeight : ℤ → Bool
-noWeight z = lt_z z (pos 1) || lt_z (pos weightBound) z
+unfoldable pub no_weight : ℤ → Bool
+no_weight z = lt_z z (pos 1) || lt_z (pos weight_bound) z
 
 -- C18: one of the two
-unfoldable pub weightsWrong : Weighing → Bool
-weightsWrong w = noWeight w.first || noWeight w.second
+unfoldable pub weights_wrong : Weighing → Bool
+weights_wrong w = no_weight w.first || no_weight w.second

@@ -2,12 +2,12 @@
 ghost use Rattle.std.specs.Prelude.{false, ◌≡◌, ◌+◌, ◌*◌, ◌≤◌, ◌<◌, pos, length};
 ghost use Rattle.std.proofs.lemmas.List.Edits.{sets};
 ghost use Rattle.signed.specs.Sides.{up};
-ghost use Rattle.net.specs.Bounds.{pinBound, macroBound, pinWidth};
-ghost use Rattle.net.specs.Pins.{pinCount, pinAt, loadAt, pinNumbers, bare, macroCount};
-ghost use Rattle.net.specs.Net.{weightsOf, handed};
+ghost use Rattle.net.specs.Bounds.{pin_bound, macro_bound, pin_width};
+ghost use Rattle.net.specs.Pins.{pin_count, pin_at, load_at, pin_numbers, bare, macro_count};
+ghost use Rattle.net.specs.Net.{weights_of, handed};
 ghost use Rattle.net.specs.Answer.{number};
-ghost use Rattle.net.specs.Counts.{pointCount};
-ghost use Rattle.net.specs.Tests.{pinsMiscounted, macrosMiscounted, outOfRange, placeOut, noLoad, notUpright, noWeight, weightsWrong};
+ghost use Rattle.net.specs.Counts.{point_count};
+ghost use Rattle.net.specs.Tests.{pins_miscounted, macros_miscounted, out_of_range, place_out, no_load, not_upright, no_weight, weights_wrong};
 
 use plane::{Macro, Place, Weights};
 
@@ -122,15 +122,15 @@ impl Refusal {
 
 // How many pins a list holds.
 pub fn pin_count(pins: &[i32]) -> usize
-    ensures { result ≡ pinCount pins.now }
+    ensures { result ≡ pin_count pins.now }
 {
     pins.len() / Net::PIN_NUMBERS
 }
 
 // The place of the pin numbered i.
 pub fn pin_at(pins: &[i32], i: usize) -> Place
-    requires { i < pinCount pins.now }
-    ensures { result ≡ pinAt pins.now i }
+    requires { i < pin_count pins.now }
+    ensures { result ≡ pin_at pins.now i }
 {
     let k = i * Net::PIN_NUMBERS;
     Place {
@@ -141,16 +141,16 @@ pub fn pin_at(pins: &[i32], i: usize) -> Place
 
 // The load of the pin numbered i.
 pub fn load_at(pins: &[i32], i: usize) -> i32
-    requires { i < pinCount pins.now }
-    ensures { result ≡ loadAt pins.now i }
+    requires { i < pin_count pins.now }
+    ensures { result ≡ load_at pins.now i }
 {
     pins[i * Net::PIN_NUMBERS + 2]
 }
 
 // p as the i-th pin of a list, without a load.
 pub fn put_bare_pin(pins: &mut [i32], i: usize, p: Place)
-    requires { i * pinWidth + pinWidth ≤ length pins.old }
-    ensures { pins.new ≡ sets pins.old (i * pinWidth) (pinNumbers (bare p)) }
+    requires { i * pin_width + pin_width ≤ length pins.old }
+    ensures { pins.new ≡ sets pins.old (i * pin_width) (pin_numbers (bare p)) }
 {
     let k = i * Net::PIN_NUMBERS;
     let x = p.x;
@@ -162,23 +162,23 @@ pub fn put_bare_pin(pins: &mut [i32], i: usize, p: Place)
 
 // How many macros a list holds.
 pub fn macro_count(macros: &[i32]) -> usize
-    ensures { result ≡ macroCount macros.now }
+    ensures { result ≡ macro_count macros.now }
 {
     macros.len() / Net::MACRO_NUMBERS
 }
 
 // At most so many points has a net's graph: its pins and four corners of each macro.
 pub fn point_count(net: Net) -> usize
-    requires pins_le_pin_bound { net.pins ≤ pinBound }
-    requires macros_le_macro_bound { net.macros ≤ macroBound }
-    ensures { result ≡ pointCount net }
+    requires pins_le_pin_bound { net.pins ≤ pin_bound }
+    requires macros_le_macro_bound { net.macros ≤ macro_bound }
+    ensures { result ≡ point_count net }
 {
     net.pins + net.macros * 4
 }
 
 // Refusal 11: numbers left over past the last whole pin, no pin, or more than the bound.
 pub fn pins_miscounted(pins: &[i32]) -> bool
-    ensures { result ≡ pinsMiscounted pins.now }
+    ensures { result ≡ pins_miscounted pins.now }
 {
     let m = pin_count(pins);
     (pins.len() % Net::PIN_NUMBERS != 0) | ((m == 0) | (Net::PINS < m))
@@ -186,7 +186,7 @@ pub fn pins_miscounted(pins: &[i32]) -> bool
 
 // Refusal 12: numbers left over past the last whole macro, or more macros than the bound.
 pub fn macros_miscounted(macros: &[i32]) -> bool
-    ensures { result ≡ macrosMiscounted macros.now }
+    ensures { result ≡ macros_miscounted macros.now }
 {
     let k = macro_count(macros);
     (macros.len() % Net::MACRO_NUMBERS != 0) | (Net::MACROS < k)
@@ -194,48 +194,48 @@ pub fn macros_miscounted(macros: &[i32]) -> bool
 
 // Whether a number is farther from 0 than coordinates go.
 pub fn is_out_of_range(z: i32) -> bool
-    ensures { result ≡ outOfRange z }
+    ensures { result ≡ out_of_range z }
 {
     (z < -Net::COORDINATE) | (Net::COORDINATE < z)
 }
 
 // So for either coordinate of a place.
 pub fn is_place_out(p: Place) -> bool
-    ensures { result ≡ placeOut p }
+    ensures { result ≡ place_out p }
 {
     is_out_of_range(p.x) | is_out_of_range(p.y)
 }
 
 // Whether a number is below 0 or above the greatest load.
 pub fn is_no_load(z: i32) -> bool
-    ensures { result ≡ noLoad z }
+    ensures { result ≡ no_load z }
 {
     (z < 0) | (Net::LOAD < z)
 }
 
 // Refusal 14, for one macro: no width or no height.
 pub fn is_not_upright(m: Macro) -> bool
-    ensures { result ≡ notUpright m }
+    ensures { result ≡ not_upright m }
 {
     !(m.left < m.right) | !(m.bottom < m.top)
 }
 
 fn is_no_weight(z: i32) -> bool
-    ensures { result ≡ noWeight z }
+    ensures { result ≡ no_weight z }
 {
     (z < 1) | (Net::WEIGHT < z)
 }
 
 // Refusal 18: one of the two weights is outside 1 to 8.
 pub fn are_weights_wrong(w: Weighing) -> bool
-    ensures { result ≡ weightsWrong w }
+    ensures { result ≡ weights_wrong w }
 {
     is_no_weight(w.first) | is_no_weight(w.second)
 }
 
 // A weight from 1 to 8 as the net's own struct has it.
 fn weight_of(z: i32) -> u8
-    requires { noWeight z ≡ false }
+    requires { no_weight z ≡ false }
     ensures { result ≡ up z }
 {
     z as u8
@@ -243,8 +243,8 @@ fn weight_of(z: i32) -> u8
 
 // The weights of a net as its own struct has them, of two that pass.
 pub fn weights_of(w: Weighing) -> Weights
-    requires { weightsWrong w ≡ false }
-    ensures { result ≡ weightsOf w }
+    requires { weights_wrong w ≡ false }
+    ensures { result ≡ weights_of w }
 {
     Weights {
         across: weight_of(w.first),

@@ -5,12 +5,12 @@
 -- definition, and that reading gives back what was written is a theorem (../proofs/RoundTrip.antt).
 --
 --   Write    fitted needed room                     21, or the number of bytes
---            written w pins macros room             the answer of a write into so many lent bytes; writtenWithin b within any bounds
---            toldBytes r                            what the code's answer says
---   Read     roomShort p q                          refusal 21
---            laidOut bytes w pins macros            refusal 3 for anything but the head, or the answer of the check
---            answerIn bytes                         so for the weights and lists that a file holds
---            readFile bytes pinRoom macroRoom       the answer of a read into so many lent numbers
---            readFileWithin b, answerWithin b ..    the same within any bounds, of which those above are instances
+--            written w pins macros room             the answer of a write into so many lent bytes; written_within b within any bounds
+--            told_bytes r                            what the code's answer says
+--   Read     room_short p q                          refusal 21
+--            laid_out bytes w pins macros            refusal 3 for anything but the head, or the answer of the check
+--            answer_in bytes                         so for the weights and lists that a file holds
+--            read_file bytes pin_room macro_room       the answer of a read into so many lent numbers
+--            read_file_within b, answer_within b ..    the same within any bounds, of which those above are instances
 pub mod Write
 pub mod Read

@@ -3,43 +3,43 @@ use Rattle.std.specs.Prelude.{Bool, cond, ◌||◌, List, ℕ, ◌*◌, ltb, ℤ
 use Rattle.lent.specs.Told.{Told, refused}
 use Rattle.plane.specs.declared.Weights.{Weights}
 use Rattle.net.specs.declared.Net.{Net as Counts}
-use Rattle.net.specs.Bounds.{Bounds, today, pinWidth, macroWidth}
+use Rattle.net.specs.Bounds.{Bounds, today, pin_width, macro_width}
 use Rattle.net.specs.Net.{handed}
-use Rattle.checks.specs.Check.{checkedWithin}
-use Rattle.encoded.specs.Layout.{fileBytes}
+use Rattle.checks.specs.Check.{checked_within}
+use Rattle.encoded.specs.Layout.{file_bytes}
 use Rattle.encoded.specs.Same.{same_numbers}
-use Rattle.decoded.specs.Held.{blocksMiscountedWithin, sumsWrong, weightsIn, pinsIn, macrosIn, headWrong}
+use Rattle.decoded.specs.Held.{blocks_miscounted_within, sums_wrong, weights_in, pins_in, macros_in, head_wrong}
 
 -- C3: the file is not the one that the layout makes of the weights and lists that it holds. C73: after that, the net's own refusals.
-unfoldable pub laidOutWithin : Bounds → List ℕ → Weights → List ℤ → List ℤ → Told Counts
-laidOutWithin b bytes w pins macros =
-    cond (same_numbers bytes (fileBytes w pins macros)) (checkedWithin b (handed w) pins macros) (refused 3)
+unfoldable pub laid_out_within : Bounds → List ℕ → Weights → List ℤ → List ℤ → Told Counts
+laid_out_within b bytes w pins macros =
+    cond (same_numbers bytes (file_bytes w pins macros)) (checked_within b (handed w) pins macros) (refused 3)
 
-abbrev pub laidOut : List ℕ → Weights → List ℤ → List ℤ → Told Counts
-laidOut = laidOutWithin today
+abbrev pub laid_out : List ℕ → Weights → List ℤ → List ℤ → Told Counts
+laid_out = laid_out_within today
 
 -- so for the weights and lists that a file holds
-abbrev pub answerWithin : Bounds → List ℕ → Told Counts
-answerWithin b bytes = laidOutWithin b bytes (weightsIn bytes) (pinsIn bytes) (macrosIn bytes)
+abbrev pub answer_within : Bounds → List ℕ → Told Counts
+answer_within b bytes = laid_out_within b bytes (weights_in bytes) (pins_in bytes) (macros_in bytes)
 
 abbrev pub answer_in : List ℕ → Told Counts
-answer_in = answerWithin today
+answer_in = answer_within today
 
 -- C71: fewer numbers for pins or for macros than the longest lists have
-unfoldable pub roomShortWithin : Bounds → ℕ → ℕ → Bool
-roomShortWithin b pinRoom macroRoom = ltb pinRoom (b.pins * pinWidth) || ltb macroRoom (b.macros * macroWidth)
+unfoldable pub room_short_within : Bounds → ℕ → ℕ → Bool
+room_short_within b pin_room macro_room = ltb pin_room (b.pins * pin_width) || ltb macro_room (b.macros * macro_width)
 
-abbrev pub roomShort : ℕ → ℕ → Bool
-roomShort = roomShortWithin today
+abbrev pub room_short : ℕ → ℕ → Bool
+room_short = room_short_within today
 
--- C71, C52: the answer of a read into `pinRoom` and `macroRoom` lent numbers, with what the check gives
-unfoldable pub readFileWithin : Bounds → List ℕ → ℕ → ℕ → Told Counts
-readFileWithin b bytes pinRoom macroRoom =
-    cond (roomShortWithin b pinRoom macroRoom) (refused 21)
-    (cond (blocksMiscountedWithin b bytes) (refused 1)
-    (cond (sumsWrong bytes) (refused 2)
-    (cond (headWrong bytes) (refused 3)
-    (answerWithin b bytes))))
+-- C71, C52: the answer of a read into `pin_room` and `macro_room` lent numbers, with what the check gives
+unfoldable pub read_file_within : Bounds → List ℕ → ℕ → ℕ → Told Counts
+read_file_within b bytes pin_room macro_room =
+    cond (room_short_within b pin_room macro_room) (refused 21)
+    (cond (blocks_miscounted_within b bytes) (refused 1)
+    (cond (sums_wrong bytes) (refused 2)
+    (cond (head_wrong bytes) (refused 3)
+    (answer_within b bytes))))
 
-abbrev pub readFile : List ℕ → ℕ → ℕ → Told Counts
-readFile = readFileWithin today
+abbrev pub read_file : List ℕ → ℕ → ℕ → Told Counts
+read_file = read_file_within today

@@ -4,13 +4,13 @@
 // compares: crate encoded has the file of a net, crate decoded what a file holds.
 ghost use Rattle.std.specs.Prelude.{false, ◌≡◌, ◌≤◌, length};
 ghost use Rattle.lent.specs.Over.{after};
-ghost use Rattle.net.specs.Net.{weightsOf};
+ghost use Rattle.net.specs.Net.{weights_of};
 ghost use Rattle.checks.specs.Check.{told};
-ghost use Rattle.blocks.specs.Sizes.{blockCount, fileBlocks};
-ghost use Rattle.encoded.specs.Layout.{stored, fileBytes};
-ghost use Rattle.decoded.specs.Held.{pinLength, macroLength, pinsIn, macrosIn, Sized, weightsMiswritten};
-ghost use Rattle.netfile.specs.Write.{fitted, written, toldBytes};
-ghost use Rattle.netfile.specs.Read.{laidOut, answer_in, roomShort, readFile};
+ghost use Rattle.blocks.specs.Sizes.{block_count, file_blocks};
+ghost use Rattle.encoded.specs.Layout.{stored, file_bytes};
+ghost use Rattle.decoded.specs.Held.{pin_length, macro_length, pins_in, macros_in, Sized, weights_miswritten};
+ghost use Rattle.netfile.specs.Write.{fitted, written, told_bytes};
+ghost use Rattle.netfile.specs.Read.{laid_out, answer_in, room_short, read_file};
 
 use blocks::{FILE_NUMBERS, FILE_PINS, PIN_COUNT_WORD};
 use checks::Checked;
@@ -31,12 +31,12 @@ pub enum Written {
 
 // Write the file of a checked net.
 fn write_checked(w: Weights, pins: &[i32], macros: &[i32], bytes: &mut [u8]) -> Written
-    requires { blockCount (length (stored pins.now).numbers) (length macros.now) ≤ fileBlocks }
-    ensures answer { toldBytes result ≡ fitted (length (fileBytes w pins.now macros.now))
+    requires { block_count (length (stored pins.now).numbers) (length macros.now) ≤ file_blocks }
+    ensures answer { told_bytes result ≡ fitted (length (file_bytes w pins.now macros.now))
         (length bytes.old) }
     ensures lent { bytes.new
-        ≡ after (fitted (length (fileBytes w pins.now macros.now)) (length bytes.old))
-        (fileBytes w pins.now macros.now) bytes.old }
+        ≡ after (fitted (length (file_bytes w pins.now macros.now)) (length bytes.old))
+        (file_bytes w pins.now macros.now) bytes.old }
 {
     let n = encoded::file_length(pins, macros);
     if bytes.len() < n {
@@ -48,10 +48,10 @@ fn write_checked(w: Weights, pins: &[i32], macros: &[i32], bytes: &mut [u8]) -> 
 
 // Write a net file: 11 to 18, then 21 where the lent bytes are fewer than the file's.
 pub fn write(w: Weighing, pins: &[i32], macros: &[i32], bytes: &mut [u8]) -> Written
-    ensures answer { toldBytes result ≡ written w pins.now macros.now (length bytes.old) }
+    ensures answer { told_bytes result ≡ written w pins.now macros.now (length bytes.old) }
     ensures lent { bytes.new
         ≡ after (written w pins.now macros.now (length bytes.old))
-        (fileBytes (weightsOf w) pins.now macros.now) bytes.old }
+        (file_bytes (weights_of w) pins.now macros.now) bytes.old }
 {
     let answer = checks::check(w, pins, macros);
     match answer {
@@ -62,8 +62,8 @@ pub fn write(w: Weighing, pins: &[i32], macros: &[i32], bytes: &mut [u8]) -> Wri
 
 // The layout of a file against the weights and lists that it holds, and then the check of these.
 fn check_lists(bytes: &[u8], w: Weights, pins: &[i32], macros: &[i32]) -> Checked
-    requires { blockCount (length (stored pins.now).numbers) (length macros.now) ≤ fileBlocks }
-    ensures { told result ≡ laidOut bytes.now w pins.now macros.now }
+    requires { block_count (length (stored pins.now).numbers) (length macros.now) ≤ file_blocks }
+    ensures { told result ≡ laid_out bytes.now w pins.now macros.now }
 {
     if encoded::is_file_of(bytes, w, pins, macros) {
         return checks::check(net::handed(w), pins, macros);
@@ -74,7 +74,7 @@ fn check_lists(bytes: &[u8], w: Weights, pins: &[i32], macros: &[i32]) -> Checke
 // The check of a file whose head is right: of its layout, and then of its weights and lists. Nothing is lent for the lists yet, so they go
 // into tables that no list of a file is too long for.
 fn check_file(bytes: &[u8]) -> Checked
-    requires { (Sized bytes.now (pinLength bytes.now) (macroLength bytes.now)) × (weightsMiswritten bytes.now ≡ false) }
+    requires { (Sized bytes.now (pin_length bytes.now) (macro_length bytes.now)) × (weights_miswritten bytes.now ≡ false) }
     ensures { told result ≡ answer_in bytes.now }
 {
     let w = decoded::weights_in(bytes);
@@ -88,13 +88,13 @@ fn check_file(bytes: &[u8]) -> Checked
 
 // Read a file whose head is right, into room for the largest net.
 fn read_counted(bytes: &[u8], pins: &mut [i32], macros: &mut [i32]) -> Checked
-    requires { ((Sized bytes.now (pinLength bytes.now) (macroLength bytes.now)) × (weightsMiswritten bytes.now ≡ false))
-        × (roomShort (length pins.old) (length macros.old) ≡ false) }
+    requires { ((Sized bytes.now (pin_length bytes.now) (macro_length bytes.now)) × (weights_miswritten bytes.now ≡ false))
+        × (room_short (length pins.old) (length macros.old) ≡ false) }
     ensures answer { told result ≡ answer_in bytes.now }
     ensures pins { pins.new
-        ≡ after (answer_in bytes.now) (pinsIn bytes.now) pins.old }
+        ≡ after (answer_in bytes.now) (pins_in bytes.now) pins.old }
     ensures macros { macros.new
-        ≡ after (answer_in bytes.now) (macrosIn bytes.now) macros.old }
+        ≡ after (answer_in bytes.now) (macros_in bytes.now) macros.old }
 {
     let answer = check_file(bytes);
     match answer {
@@ -108,7 +108,7 @@ fn read_counted(bytes: &[u8], pins: &mut [i32], macros: &mut [i32]) -> Checked
 
 // Fewer numbers lent than the largest net has.
 fn room_short(pins: &[i32], macros: &[i32]) -> bool
-    ensures { result ≡ roomShort (length pins.now) (length macros.now) }
+    ensures { result ≡ room_short (length pins.now) (length macros.now) }
 {
     (pins.len() < PIN_LIST) | (macros.len() < MACRO_LIST)
 }
@@ -116,13 +116,13 @@ fn room_short(pins: &[i32], macros: &[i32]) -> bool
 // Read a net file: 21 where less than the largest net is lent, 1 to 3 for the file, then 11 to 17 for its lists. No file is refused by 18:
 // weights that would be are 3.
 pub fn read(bytes: &[u8], pins: &mut [i32], macros: &mut [i32]) -> Checked
-    ensures answer { told result ≡ readFile bytes.now (length pins.old) (length macros.old) }
+    ensures answer { told result ≡ read_file bytes.now (length pins.old) (length macros.old) }
     ensures pins { pins.new
-        ≡ after (readFile bytes.now (length pins.old) (length macros.old))
-        (pinsIn bytes.now) pins.old }
+        ≡ after (read_file bytes.now (length pins.old) (length macros.old))
+        (pins_in bytes.now) pins.old }
     ensures macros { macros.new
-        ≡ after (readFile bytes.now (length pins.old) (length macros.old))
-        (macrosIn bytes.now) macros.old }
+        ≡ after (read_file bytes.now (length pins.old) (length macros.old))
+        (macros_in bytes.now) macros.old }
 {
     if room_short(&*pins, &*macros) {
         return Checked::Refused(Refusal::Space);

@@ -12,12 +12,12 @@ use Rattle.net.specs.declared.Net.{Net as Counts}
 use Rattle.net.specs.Bounds.{Bounds, today}
 use Rattle.net.specs.Net.{plainly}
 use Rattle.net.specs.Counts.{counted}
-use Rattle.net.specs.WorkedNets.{Lists, aroundOne}
+use Rattle.net.specs.WorkedNets.{Lists, around_one}
 use Rattle.blocks.specs.Words.{bytes_of}
-use Rattle.netfile.specs.Write.{fitted, writtenWithin}
-use Rattle.netfile.specs.Read.{readFileWithin}
-use Rattle.older.specs.Older.{older, leftBy}
-use Rattle.netfile.proofs.WorkedFiles.{words, readWords}
+use Rattle.netfile.specs.Write.{fitted, written_within}
+use Rattle.netfile.specs.Read.{read_file_within}
+use Rattle.older.specs.Older.{older, left_by}
+use Rattle.netfile.proofs.WorkedFiles.{words, read_words}
 
 -- n pins without a load on a diagonal, and n squares along it with their corners there
 unfoldable pub diagonal : ℕ → ℕ → List ℤ
@@ -33,21 +33,21 @@ many m k = record { pins = diagonal m 0; macros = squares k 0 }
 
 -- a machine's answer to the file of a net, lent so much; and what its writer leaves in so many lent bytes
 unfoldable pub read_by : Bounds → Lists → ℕ → ℕ → Told Counts
-unfolding words readWords diagonal squares
-read_by b net p q = readFileWithin b (bytes_of (words plain net)) p q
+unfolding words read_words diagonal squares
+read_by b net p q = read_file_within b (bytes_of (words plain net)) p q
 
 unfoldable pub left : Bounds → Lists → ℕ → List ℕ
-unfolding words readWords after only_if fitted writtenWithin
-left b net room = leftBy b plainly net.pins net.macros (replicate room 7)
+unfolding words read_words after only_if fitted written_within
+left b net room = left_by b plainly net.pins net.macros (replicate room 7)
 
 pub record Table : Type 0 where
   -- the net of E3: the same bytes, and one too few
-  pub old-file : left older aroundOne 1540 ≡ left today aroundOne 1540
-  pub one-short : left today aroundOne 1535 ≡ replicate 1535 7
+  pub old-file : left older around_one 1540 ≡ left today around_one 1540
+  pub one-short : left today around_one 1535 ≡ replicate 1535 7
   -- its file read by both, and now with what was lent before
-  pub read-then : read_by older aroundOne 192 256 ≡ given (counted plainly 2 1)
-  pub read-before : read_by today aroundOne 384 512 ≡ given (counted plainly 2 1)
-  pub less-room : read_by today aroundOne 192 256 ≡ refused 21
+  pub read-then : read_by older around_one 192 256 ≡ given (counted plainly 2 1)
+  pub read-before : read_by today around_one 384 512 ≡ given (counted plainly 2 1)
+  pub less-room : read_by today around_one 192 256 ≡ refused 21
   -- 65 pins in three blocks
   pub more-pins-now : read_by today (many 65 0) 384 512 ≡ given (counted plainly 65 0)
   pub more-pins : read_by older (many 65 0) 192 256 ≡ refused 11

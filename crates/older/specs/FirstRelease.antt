@@ -2,22 +2,22 @@
 -- 0, and one with weights of 1 too, is held to. Its pins are a flat list of places, two numbers each.
 use Rattle.std.specs.Prelude.{List, [], ◌∷◌, ◌++◌, ℕ, ◌+◌, ◌/◌, ℤ, length}
 use Rattle.plane.specs.declared.Weights.{Weights}
-use Rattle.net.specs.Bounds.{macroWidth}
-use Rattle.net.specs.Pins.{macroCount}
-use Rattle.blocks.specs.Sizes.{headKind, pinKind, macroKind, placeWidth, blocksFor}
+use Rattle.net.specs.Bounds.{macro_width}
+use Rattle.net.specs.Pins.{macro_count}
+use Rattle.blocks.specs.Sizes.{head_kind, pin_kind, macro_kind, place_width, blocks_for}
 use Rattle.blocks.specs.Words.{bytes_of}
 use Rattle.blocks.specs.Block.{block}
-use Rattle.encoded.specs.Layout.{allBlocks, laidBytes}
+use Rattle.encoded.specs.Layout.{all_blocks, laid_bytes}
 
 -- F25: without loads, with any weights
-abbrev pub unloadedFile : Weights → List ℤ → List ℤ → List ℕ
-unloadedFile w places macros = laidBytes w (record { kind = pinKind; width = placeWidth; numbers = places }) macros
+abbrev pub unloaded_file : Weights → List ℤ → List ℤ → List ℕ
+unloaded_file w places macros = laid_bytes w (record { kind = pin_kind; width = place_width; numbers = places }) macros
 
 -- F9: m and k, and zeros behind them
-abbrev pub firstHead : ℕ → ℕ → List ℕ
-firstHead m k = block headKind 0 0 (m ∷ (k ∷ []))
+abbrev pub first_head : ℕ → ℕ → List ℕ
+first_head m k = block head_kind 0 0 (m ∷ (k ∷ []))
 
-abbrev pub firstFile : List ℤ → List ℤ → List ℕ
-firstFile places macros =
-    bytes_of (firstHead (length places / placeWidth) (macroCount macros)
-    ++ (allBlocks pinKind placeWidth 1 places ++ allBlocks macroKind macroWidth (1 + blocksFor (length places)) macros))
+abbrev pub first_file : List ℤ → List ℤ → List ℕ
+first_file places macros =
+    bytes_of (first_head (length places / place_width) (macro_count macros)
+    ++ (all_blocks pin_kind place_width 1 places ++ all_blocks macro_kind macro_width (1 + blocks_for (length places)) macros))

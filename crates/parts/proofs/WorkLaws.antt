@@ -15,14 +15,14 @@ use Rattle.lists.specs.Member.{◌∈◌, here, there}
 use Rattle.lists.specs.Those.{those}
 use Rattle.lists.proofs.TestLaws.{by, and_left, and_right, and_both}
 use Rattle.lists.proofs.ThoseLaws.{of-those}
-use Rattle.lines.specs.Bounds.{crossingBound, unreached}
+use Rattle.lines.specs.Bounds.{crossing_bound, unreached}
 use Rattle.grid.specs.Rows.{at, Held, Quiet}
 use Rattle.grid.specs.Tables.{Row, Starts}
 use Rattle.grid.proofs.PassLaws.{held-row}
-use Rattle.parts.specs.Bounds.{maskBound, workBound}
+use Rattle.parts.specs.Bounds.{mask_bound, work_bound}
 use Rattle.parts.specs.Numbers.{part_of}
-use Rattle.parts.specs.Starts.{under, least, properPart, sums, trying}
-use Rattle.parts.specs.Tables.{value_at, row_of, RowsTo, lonePin, Tried, Begun, RowPut, RowFilled, MaskRow, FilledTo}
+use Rattle.parts.specs.Starts.{under, least, proper_part, sums, trying}
+use Rattle.parts.specs.Tables.{value_at, row_of, RowsTo, lone_pin, Tried, Begun, RowPut, RowFilled, MaskRow, FilledTo}
 use Rattle.parts.proofs.Under.{of-under}
 
 -- Parts, bit by bit
@@ -57,43 +57,43 @@ part-rest (suc m) p s h e =
 
 -- The lone pin of a set
 
-pub lone-one : (s : ℕ) → s ≡ 1 → 1 ≡ lonePin s
-unfolding lonePin
+pub lone-one : (s : ℕ) → s ≡ 1 → 1 ≡ lone_pin s
+unfolding lone_pin
 lone-one s e = rw e refl
 
-pub lone-two : (s : ℕ) → s ≡ 2 → 2 ≡ lonePin s
-unfolding lonePin
+pub lone-two : (s : ℕ) → s ≡ 2 → 2 ≡ lone_pin s
+unfolding lone_pin
 lone-two s e = rw e refl
 
-pub lone-three : (s : ℕ) → s ≡ 4 → 3 ≡ lonePin s
-unfolding lonePin
+pub lone-three : (s : ℕ) → s ≡ 4 → 3 ≡ lone_pin s
+unfolding lone_pin
 lone-three s e = rw e refl
 
-pub lone-four : (s : ℕ) → s ≡ 8 → 4 ≡ lonePin s
-unfolding lonePin
+pub lone-four : (s : ℕ) → s ≡ 8 → 4 ≡ lone_pin s
+unfolding lone_pin
 lone-four s e = rw e refl
 
-pub lone-none : (s : ℕ) → (s ≡ 1 → ⊥) → (s ≡ 2 → ⊥) → (s ≡ 4 → ⊥) → (s ≡ 8 → ⊥) → 0 ≡ lonePin s
-unfolding lonePin
-lone-none s a b c d = rw (lonePin, ne_eqb s 1 a, ne_eqb s 2 b, ne_eqb s 4 c, ne_eqb s 8 d) refl
+pub lone-none : (s : ℕ) → (s ≡ 1 → ⊥) → (s ≡ 2 → ⊥) → (s ≡ 4 → ⊥) → (s ≡ 8 → ⊥) → 0 ≡ lone_pin s
+unfolding lone_pin
+lone-none s a b c d = rw (lone_pin, ne_eqb s 1 a, ne_eqb s 2 b, ne_eqb s 4 c, ne_eqb s 8 d) refl
 
 -- Rows
 
-pub row_at : (w : List ℕ) (s v : ℕ) → v < crossingBound → at (row_of w s) v ≡ value_at w s v
+pub row_at : (w : List ℕ) (s v : ℕ) → v < crossing_bound → at (row_of w s) v ≡ value_at w s v
 unfolding row_of
-row_at w s v h = get_or-take crossingBound (drop (s * crossingBound) w) v 0 h ∙ get_or-drop (s * crossingBound) w v 0
+row_at w s v h = get_or-take crossing_bound (drop (s * crossing_bound) w) v 0 h ∙ get_or-drop (s * crossing_bound) w v 0
 
-pub row-long : (w : List ℕ) (s : ℕ) → workBound ≤ length w → s < maskBound → length (row_of w s) ≡ crossingBound
+pub row-long : (w : List ℕ) (s : ℕ) → work_bound ≤ length w → s < mask_bound → length (row_of w s) ≡ crossing_bound
 unfolding row_of
 row-long w s h k =
-    length-take-le crossingBound (drop (s * crossingBound) w) (omega (arith, h, k, length-drop (s * crossingBound) w))
+    length-take-le crossing_bound (drop (s * crossing_bound) w) (omega (arith, h, k, length-drop (s * crossing_bound) w))
 
 -- a list with the numbers of a row is the row
-pub row_is : (w : List ℕ) (s : ℕ) (row : List ℕ) → workBound ≤ length w → s < maskBound → length row ≡ crossingBound →
-    ((v : ℕ) → v < crossingBound → at row v ≡ value_at w s v) → row ≡ row_of w s
+pub row_is : (w : List ℕ) (s : ℕ) (row : List ℕ) → work_bound ≤ length w → s < mask_bound → length row ≡ crossing_bound →
+    ((v : ℕ) → v < crossing_bound → at row v ≡ value_at w s v) → row ≡ row_of w s
 row_is w s row h k long each =
     ext_get_or 0 row (row_of w s) (long ∙ sym (row-long w s h k))
-    (λ v i. let j : v < crossingBound = omega (arith, i, long) in each v j ∙ sym (row_at w s v j))
+    (λ v i. let j : v < crossing_bound = omega (arith, i, long) in each v j ∙ sym (row_at w s v j))
 
 -- Sums so far
 
@@ -104,11 +104,11 @@ map-agree f g (x ∷ l) h = ap₂ (λ (a : ℕ) (r : List ℕ). a ∷ r) (h x (h
 -- the sums look at the parts only
 pub sums-agree : (m s v : ℕ) (value other : ℕ → ℕ → ℕ) → ((p : ℕ) → 1 ≤ p → p < s → value p v ≡ other p v) →
     sums m value s v ≡ sums m other s v
-unfolding sums properPart
+unfolding sums proper_part
 sums-agree m s v value other h =
     map-agree (λ (p : ℕ). value p v + value (s - p) v) (λ (p : ℕ). other p v + other (s - p) v)
-    (those (properPart m s) (under s))
-    (λ p i. let r = of-those (properPart m s) (under s) i in
+    (those (proper_part m s) (under s))
+    (λ p i. let r = of-those (proper_part m s) (under s) i in
     let less = of-under s p r.0 in
     let one = leb-true 1 p (and_left (leb 1 p) (part_of m p s) r.1) in
     ap₂ ◌+◌ (h p one less) (h (s - p) (omega (arith, less)) (omega (arith, less, one))))
@@ -116,14 +116,14 @@ sums-agree m s v value other h =
 module _ (m : ℕ) (value : ℕ → ℕ → ℕ) (s v : ℕ) where
   -- over the parts below p
   unfoldable pub sofar : ℕ → ℕ
-  sofar p = least unreached (map (λ (p : ℕ). value p v + value (s - p) v) (those (properPart m s) (under p)))
+  sofar p = least unreached (map (λ (p : ℕ). value p v + value (s - p) v) (those (proper_part m s) (under p)))
 
   pub sofar-none : sofar 1 ≡ unreached
-  unfolding sofar under properPart those least
+  unfolding sofar under proper_part those least
   sofar-none = refl
 
   pub sofar-more : (p : ℕ) → 1 ≤ p → trying m value s v p (sofar p) ≡ sofar (p + 1)
-  unfolding sofar under trying properPart those least
+  unfolding sofar under trying proper_part those least
   sofar-more p h =
       let n : p + 1 ≡ suc p = omega arith in
       let one = le-leb 1 p h in
@@ -191,7 +191,7 @@ module _ (m : ℕ) (value : ℕ → ℕ → ℕ) (s p : ℕ) (t : List ℕ) wher
   pub trying-none : Row t → Trying m value s p t 0 t
   trying-none r = record { row = r; each = λ x h. let z : ⊥ = omega (arith, h) in absurd z; rest = λ x h. refl }
 
-  pub trying-more : (v sum n : ℕ) (u : List ℕ) → v < crossingBound → part_of m p s ≡ true → sum ≡ value p v + value (s - p) v →
+  pub trying-more : (v sum n : ℕ) (u : List ℕ) → v < crossing_bound → part_of m p s ≡ true → sum ≡ value p v + value (s - p) v →
       n ≡ min sum (at u v) → Trying m value s p t v u → Trying m value s p t (v + 1) (set u v n)
   trying-more v sum n u h e f k b = record {
     row = record { size = length-set u v n ∙ b.row.size; low = λ x. low x (ℕ_discrete x v) };
@@ -215,34 +215,34 @@ module _ (m : ℕ) (value : ℕ → ℕ → ℕ) (s p : ℕ) (t : List ℕ) wher
       each x i (yes z) = subst (λ (y : ℕ). at (set u v n) y ≡ trying m value s y p (at t y)) (sym z) here-tried
       each x i (no z) = get_or-set_other u v x n 0 z ∙ b.each x (omega (arith, i, z))
 
-  pub trying-end : (v : ℕ) (u : List ℕ) → crossingBound ≤ v → Trying m value s p t v u → Tried m value s p t u
+  pub trying-end : (v : ℕ) (u : List ℕ) → crossing_bound ≤ v → Trying m value s p t v u → Tried m value s p t u
   trying-end v u h b = record { row = b.row; each = λ x i. b.each x (omega (arith, i, h)) }
 
 -- The start row, part by part
 
 -- one in which no crossing is reached
-fresh-past : (v : ℕ) → crossingBound ≤ v → at (replicate crossingBound unreached) v ≡ 0
+fresh-past : (v : ℕ) → crossing_bound ≤ v → at (replicate crossing_bound unreached) v ≡ 0
 fresh-past v h =
-    get_or-eq_default (replicate crossingBound unreached) 0
-    (let z : length (replicate crossingBound unreached) ≤ v = omega (arith, h, length-replicate crossingBound unreached) in z)
+    get_or-eq_default (replicate crossing_bound unreached) 0
+    (let z : length (replicate crossing_bound unreached) ≤ v = omega (arith, h, length-replicate crossing_bound unreached) in z)
 
-pub fresh-row : (t : List ℕ) → t ≡ replicate crossingBound unreached → Row t
+pub fresh-row : (t : List ℕ) → t ≡ replicate crossing_bound unreached → Row t
 fresh-row t e = record {
-  size = ap length e ∙ length-replicate crossingBound unreached;
-  low = λ v. by (ltb v crossingBound)
-      (λ h. omega (arith, ap (λ (l : List ℕ). at l v) e, get_or-replicate crossingBound v unreached 0 (ltb-true v crossingBound h)))
-      (λ h. omega (arith, ap (λ (l : List ℕ). at l v) e, fresh-past v (ltb-false v crossingBound h)));
+  size = ap length e ∙ length-replicate crossing_bound unreached;
+  low = λ v. by (ltb v crossing_bound)
+      (λ h. omega (arith, ap (λ (l : List ℕ). at l v) e, get_or-replicate crossing_bound v unreached 0 (ltb-true v crossing_bound h)))
+      (λ h. omega (arith, ap (λ (l : List ℕ). at l v) e, fresh-past v (ltb-false v crossing_bound h)));
 }
 
 pub record Beginning (m : ℕ) (work : List ℕ) (s p : ℕ) (t : List ℕ) : Type 0 where
   pub row : Row t
-  pub each : (v : ℕ) → v < crossingBound → at t v ≡ sofar m (value_at work) s v p
+  pub each : (v : ℕ) → v < crossing_bound → at t v ≡ sofar m (value_at work) s v p
 
 module _ (m : ℕ) (work : List ℕ) (s : ℕ) where
-  pub begin-none : (t : List ℕ) → t ≡ replicate crossingBound unreached → Beginning m work s 1 t
+  pub begin-none : (t : List ℕ) → t ≡ replicate crossing_bound unreached → Beginning m work s 1 t
   begin-none t e = record {
     row = fresh-row t e;
-    each = λ v h. ap (λ (l : List ℕ). at l v) e ∙ get_or-replicate crossingBound v unreached 0 h ∙ sym (sofar-none m (value_at work) s v);
+    each = λ v h. ap (λ (l : List ℕ). at l v) e ∙ get_or-replicate crossing_bound v unreached 0 h ∙ sym (sofar-none m (value_at work) s v);
   }
 
   pub begin-more : (p : ℕ) (t u : List ℕ) → 1 ≤ p → Beginning m work s p t → Tried m (value_at work) s p t u →
@@ -252,7 +252,7 @@ module _ (m : ℕ) (work : List ℕ) (s : ℕ) where
     each = λ v i. r.each v i ∙ ap (trying m (value_at work) s v p) (b.each v i) ∙ sofar-more m (value_at work) s v p h;
   }
 
-  pub begin-end : (numbers : List ℕ) (p : ℕ) (t : List ℕ) → lonePin s ≡ 0 → p ≤ s → s < p + p → Beginning m work s p t →
+  pub begin-end : (numbers : List ℕ) (p : ℕ) (t : List ℕ) → lone_pin s ≡ 0 → p ≤ s → s < p + p → Beginning m work s p t →
       Begun m numbers work s t
   begin-end numbers p t z h k b = record {
     row = b.row;
@@ -260,7 +260,7 @@ module _ (m : ℕ) (work : List ℕ) (s : ℕ) where
     parts = λ o v i. b.each v i ∙ sofar-end m (value_at work) s v p h k;
   }
 
-  pub begin-lone : (numbers : List ℕ) (i : ℕ) (t : List ℕ) → i ≡ lonePin s → 0 < i → Starts (get_or numbers i 0) t → Begun m numbers work s t
+  pub begin-lone : (numbers : List ℕ) (i : ℕ) (t : List ℕ) → i ≡ lone_pin s → 0 < i → Starts (get_or numbers i 0) t → Begun m numbers work s t
   begin-lone numbers i t e h r = record {
     row = r.row;
     lone = λ k. subst (λ (z : ℕ). Starts (get_or numbers z 0) t) e r;
@@ -272,34 +272,34 @@ module _ (m : ℕ) (work : List ℕ) (s : ℕ) where
 pub record Putting (s : ℕ) (row w : List ℕ) (v : ℕ) (u : List ℕ) : Type 0 where
   pub size : length u ≡ length w
   pub here : (i : ℕ) → i < v → value_at u s i ≡ at row i
-  pub below : (i : ℕ) → i < s * crossingBound → get_or u i 0 ≡ get_or w i 0
-  pub above : (i : ℕ) → s * crossingBound + v ≤ i → get_or u i 0 ≡ get_or w i 0
+  pub below : (i : ℕ) → i < s * crossing_bound → get_or u i 0 ≡ get_or w i 0
+  pub above : (i : ℕ) → s * crossing_bound + v ≤ i → get_or u i 0 ≡ get_or w i 0
 
 module _ (s : ℕ) (row w : List ℕ) where
   pub put-none : Putting s row w 0 w
   put-none = record { size = refl; here = λ i h. let z : ⊥ = omega (arith, h) in absurd z; below = λ i h. refl; above = λ i h. refl }
 
-  pub put-more : (v x : ℕ) (u : List ℕ) → x ≡ at row v → s * crossingBound + v < length u → Putting s row w v u →
-      Putting s row w (v + 1) (set u (s * crossingBound + v) x)
+  pub put-more : (v x : ℕ) (u : List ℕ) → x ≡ at row v → s * crossing_bound + v < length u → Putting s row w v u →
+      Putting s row w (v + 1) (set u (s * crossing_bound + v) x)
   put-more v x u e h p = record {
-    size = length-set u (s * crossingBound + v) x ∙ p.size;
+    size = length-set u (s * crossing_bound + v) x ∙ p.size;
     here = λ i k. at_here i k (ℕ_discrete i v);
-    below = λ i k. get_or-set_other u (s * crossingBound + v) i x 0 (λ z. let y : ⊥ = omega (arith, z, k) in y) ∙ p.below i k;
-    above = λ i k. get_or-set_other u (s * crossingBound + v) i x 0 (λ z. let y : ⊥ = omega (arith, z, k) in y) ∙ p.above i (omega (
+    below = λ i k. get_or-set_other u (s * crossing_bound + v) i x 0 (λ z. let y : ⊥ = omega (arith, z, k) in y) ∙ p.below i k;
+    above = λ i k. get_or-set_other u (s * crossing_bound + v) i x 0 (λ z. let y : ⊥ = omega (arith, z, k) in y) ∙ p.above i (omega (
       arith,
       k,
     ));
   }
     where
-      at_here : (i : ℕ) → i < v + 1 → Dec (i ≡ v) → value_at (set u (s * crossingBound + v) x) s i ≡ at row i
+      at_here : (i : ℕ) → i < v + 1 → Dec (i ≡ v) → value_at (set u (s * crossing_bound + v) x) s i ≡ at row i
       at_here i k (yes z) =
-          subst (λ (n : ℕ). value_at (set u (s * crossingBound + v) x) s n ≡ at row n) (sym z)
-          (get_or-set_same u (s * crossingBound + v) x 0 h ∙ e)
+          subst (λ (n : ℕ). value_at (set u (s * crossing_bound + v) x) s n ≡ at row n) (sym z)
+          (get_or-set_same u (s * crossing_bound + v) x 0 h ∙ e)
       at_here i k (no n) =
-          get_or-set_other u (s * crossingBound + v) (s * crossingBound + i) x 0 (λ z. n (let y : i ≡ v = omega (arith, z) in y))
+          get_or-set_other u (s * crossing_bound + v) (s * crossing_bound + i) x 0 (λ z. n (let y : i ≡ v = omega (arith, z) in y))
           ∙ p.here i (omega (arith, k, n))
 
-  pub put-end : (v : ℕ) (u : List ℕ) → crossingBound ≤ v → v ≤ crossingBound → Putting s row w v u → RowPut s row w u
+  pub put-end : (v : ℕ) (u : List ℕ) → crossing_bound ≤ v → v ≤ crossing_bound → Putting s row w v u → RowPut s row w u
   put-end v u h k p = record {
     size = p.size;
     here = λ i z. p.here i (omega (arith, z, h));
@@ -310,14 +310,14 @@ module _ (s : ℕ) (row w : List ℕ) where
 -- A row taken out, number by number
 
 pub record Taking (work : List ℕ) (s v : ℕ) (t : List ℕ) : Type 0 where
-  pub size : length t ≡ crossingBound
+  pub size : length t ≡ crossing_bound
   pub each : (u : ℕ) → u < v → at t u ≡ value_at work s u
 
 module _ (work : List ℕ) (s : ℕ) where
-  pub take_none : (t : List ℕ) → length t ≡ crossingBound → Taking work s 0 t
+  pub take_none : (t : List ℕ) → length t ≡ crossing_bound → Taking work s 0 t
   take_none t e = record { size = e; each = λ u h. let z : ⊥ = omega (arith, h) in absurd z }
 
-  pub take_more : (v x : ℕ) (t : List ℕ) → v < crossingBound → x ≡ value_at work s v → Taking work s v t → Taking work s (v + 1) (set t v x)
+  pub take_more : (v x : ℕ) (t : List ℕ) → v < crossing_bound → x ≡ value_at work s v → Taking work s v t → Taking work s (v + 1) (set t v x)
   take_more v x t h e b = record { size = length-set t v x ∙ b.size; each = λ u i. each u i (ℕ_discrete u v) }
     where
       each : (u : ℕ) → u < v + 1 → Dec (u ≡ v) → at (set t v x) u ≡ value_at work s u
@@ -325,23 +325,23 @@ module _ (work : List ℕ) (s : ℕ) where
           subst (λ (z : ℕ). at (set t v x) z ≡ value_at work s z) (sym k) (get_or-set_same t v x 0 (omega (arith, h, b.size)) ∙ e)
       each u i (no n) = get_or-set_other t v u x 0 n ∙ b.each u (omega (arith, i, n))
 
-  pub take-end : (v : ℕ) (t : List ℕ) → workBound ≤ length work → s < maskBound → crossingBound ≤ v → Taking work s v t →
+  pub take-end : (v : ℕ) (t : List ℕ) → work_bound ≤ length work → s < mask_bound → crossing_bound ≤ v → Taking work s v t →
       t ≡ row_of work s
   take-end v t h k z b = row_is work s t h k b.size (λ u i. b.each u (omega (arith, i, z)))
 
 -- Rows one after the other
 
 module _ (near : ℕ → ℕ → ℕ → Type 0) (m : ℕ) (numbers : List ℕ) where
-  row_kept : (w u : List ℕ) (s p : ℕ) (row : List ℕ) → workBound ≤ length w → RowPut s row w u → s < maskBound → p < s →
+  row_kept : (w u : List ℕ) (s p : ℕ) (row : List ℕ) → work_bound ≤ length w → RowPut s row w u → s < mask_bound → p < s →
       row_of u p ≡ row_of w p
   row_kept w u s p row long r h k =
       row_is w p (row_of u p) long (omega (arith, h, k)) (row-long u p (omega (arith, long, r.size)) (omega (arith, h, k)))
-      (λ v i. row_at u p v i ∙ r.below (p * crossingBound + v) (omega (arith, i, k)))
+      (λ v i. row_at u p v i ∙ r.below (p * crossing_bound + v) (omega (arith, i, k)))
 
   pub fill_none : (w : List ℕ) → FilledTo near m numbers 1 w w
   fill_none w = record { size = refl; past = λ i h. refl; each = λ s h k. let z : ⊥ = omega (arith, h, k) in absurd z }
 
-  pub fill_more : (n : ℕ) (w u x : List ℕ) → workBound ≤ length w → 1 ≤ n → n < maskBound → FilledTo near m numbers n w u →
+  pub fill_more : (n : ℕ) (w u x : List ℕ) → work_bound ≤ length w → 1 ≤ n → n < mask_bound → FilledTo near m numbers n w u →
       RowFilled near m numbers n u x → FilledTo near m numbers (n + 1) w x
   fill_more n w u x long one h f r = record {
     size = r.put.size ∙ f.size;
@@ -349,7 +349,7 @@ module _ (near : ℕ → ℕ → ℕ → Type 0) (m : ℕ) (numbers : List ℕ) 
     each = λ s i k. each s i k (ℕ_discrete s n);
   }
     where
-      room : workBound ≤ length u
+      room : work_bound ≤ length u
       room = omega (arith, long, f.size)
 
       begun_kept : (s : ℕ) (t : List ℕ) → s ≤ n → Begun m numbers u s t → Begun m numbers x s t
@@ -358,7 +358,7 @@ module _ (near : ℕ → ℕ → ℕ → Type 0) (m : ℕ) (numbers : List ℕ) 
         lone = b.lone;
         parts = λ z v i. b.parts z v i ∙ ap (least unreached)
             (sums-agree m s v (value_at u) (value_at x)
-            (λ p a c. sym (r.put.below (p * crossingBound + v) (omega (arith, c, k, i)))));
+            (λ p a c. sym (r.put.below (p * crossing_bound + v) (omega (arith, c, k, i)))));
       }
 
       each : (s : ℕ) → 1 ≤ s → s < n + 1 → Dec (s ≡ n) → MaskRow near m numbers x s
@@ -381,7 +381,7 @@ module _ (near : ℕ → ℕ → ℕ → Type 0) (m : ℕ) (numbers : List ℕ) 
             quiet = λ v y c j. subst (Quiet near) (sym same) o.quiet v y c j;
           }
 
-  pub fill-rows : (n : ℕ) (w u : List ℕ) → workBound ≤ length w → FilledTo near m numbers n w u → RowsTo n u
+  pub fill-rows : (n : ℕ) (w u : List ℕ) → work_bound ≤ length w → FilledTo near m numbers n w u → RowsTo n u
   fill-rows n w u long f = record {
     size = omega (arith, long, f.size);
     low = λ p v one h i.
@@ -396,13 +396,13 @@ module _ (near : ℕ → ℕ → ℕ → Type 0) (m : ℕ) (numbers : List ℕ) 
 pub rows-fewer : (n k : ℕ) (w : List ℕ) → n ≤ k → RowsTo k w → RowsTo n w
 rows-fewer n k w h r = record { size = r.size; low = λ p v a b c. r.low p v a (omega (arith, b, h)) c }
 
-pub row_low : (n s : ℕ) (w : List ℕ) → 1 ≤ s → s < n → s < maskBound → RowsTo n w → Row (row_of w s)
+pub row_low : (n s : ℕ) (w : List ℕ) → 1 ≤ s → s < n → s < mask_bound → RowsTo n w → Row (row_of w s)
 row_low n s w one h k r = record {
   size = row-long w s r.size k;
-  low = λ v. by (ltb v crossingBound)
-      (λ e. let i = ltb-true v crossingBound e in omega (arith, row_at w s v i, r.low s v one h i))
-      (λ e. omega (arith, past v (ltb-false v crossingBound e)));
+  low = λ v. by (ltb v crossing_bound)
+      (λ e. let i = ltb-true v crossing_bound e in omega (arith, row_at w s v i, r.low s v one h i))
+      (λ e. omega (arith, past v (ltb-false v crossing_bound e)));
 }
   where
-    past : (v : ℕ) → crossingBound ≤ v → at (row_of w s) v ≡ 0
+    past : (v : ℕ) → crossing_bound ≤ v → at (row_of w s) v ≡ 0
     past v i = get_or-eq_default (row_of w s) 0 (let z : length (row_of w s) ≤ v = omega (arith, i, row-long w s r.size k) in z)

@@ -3,12 +3,12 @@
 -- the grid's.
 use Rattle.std.specs.Prelude.{ℕ}
 
-abbrev pub bestPins : ℕ
-bestPins = 5
+abbrev pub best_pins : ℕ
+best_pins = 5
 
-abbrev pub maskBound : ℕ
-maskBound = 16
+abbrev pub mask_bound : ℕ
+mask_bound = 16
 
 -- L16
-abbrev pub workBound : ℕ
-workBound = 65536
+abbrev pub work_bound : ℕ
+work_bound = 65536

@@ -14,13 +14,13 @@ least cap [] = cap
 least cap (x ∷ l) = min x (least cap l)
 
 -- p is a part of s, neither empty nor all of it (p is below s)
-unfoldable pub properPart : ℕ → ℕ → ℕ → Bool
-properPart m s p = leb 1 p && part_of m p s
+unfoldable pub proper_part : ℕ → ℕ → ℕ → Bool
+proper_part m s p = leb 1 p && part_of m p s
 
 module _ (m : ℕ) (value : ℕ → ℕ → ℕ) (s v : ℕ) where
   -- what the crossing v costs with each part and the rest; value p v is that of the mask p at v
   unfoldable pub sums : List ℕ
-  sums = map (λ (p : ℕ). value p v + value (s - p) v) (those (properPart m s) (under s))
+  sums = map (λ (p : ℕ). value p v + value (s - p) v) (those (proper_part m s) (under s))
 
   -- the least sum so far, once p has been tried too
   unfoldable pub trying : ℕ → ℕ → ℕ

@@ -3,12 +3,12 @@
 // A set is a number, a bit a pin. Its row in the lent work has a number for each crossing: what it costs to join that crossing with the
 // pins of the set.
 ghost use Rattle.std.specs.Prelude.{◌≡◌, ◌+◌, ◌≤◌, ◌<◌, min, length, replicate};
-ghost use Rattle.lines.specs.Bounds.{crossingBound, unreached};
+ghost use Rattle.lines.specs.Bounds.{crossing_bound, unreached};
 ghost use Rattle.grid.specs.Rows.{Below};
 ghost use Rattle.grid.specs.Tables.{Row, Fits, Near};
-ghost use Rattle.parts.specs.Bounds.{bestPins, maskBound, workBound};
+ghost use Rattle.parts.specs.Bounds.{best_pins, mask_bound, work_bound};
 ghost use Rattle.parts.specs.Numbers.{part_of};
-ghost use Rattle.parts.specs.Tables.{value_at, row_of, RowsTo, lonePin, Tried, Begun, RowPut, RowFilled, FilledTo};
+ghost use Rattle.parts.specs.Tables.{value_at, row_of, RowsTo, lone_pin, Tried, Begun, RowPut, RowFilled, FilledTo};
 
 use lines::Grid;
 
@@ -34,7 +34,7 @@ pub fn is_part(m: usize, p: usize, s: usize) -> bool
 
 // The number of the one pin of a set, 0 where it has more pins.
 fn lone_pin(s: usize) -> usize
-    ensures { (result ≡ lonePin s) × (result < bestPins) }
+    ensures { (result ≡ lone_pin s) × (result < best_pins) }
 {
     if s == 1 {
         return 1;
@@ -55,7 +55,7 @@ fn lone_pin(s: usize) -> usize
 
 // What crossing v costs with the pins of p and the pins of q.
 pub fn sum_at(work: &[u32], p: usize, q: usize, v: usize) -> u32
-    requires work_bound_in_bounds { (workBound ≤ length work.now) × (((p < maskBound) × (q < maskBound)) × (v < crossingBound)) }
+    requires work_bound_in_bounds { (work_bound ≤ length work.now) × (((p < mask_bound) × (q < mask_bound)) × (v < crossing_bound)) }
     requires v_bound { (value_at work.now p v ≤ unreached) × (value_at work.now q v ≤ unreached) }
     ensures { result ≡ value_at work.now p v + value_at work.now q v }
 {
@@ -73,7 +73,7 @@ fn lesser(x: u32, y: u32) -> u32
 
 // The numbers of a row lowered to what the part p of s costs with the rest of s; as they were where p is no part.
 fn try_part(work: &[u32], m: usize, s: usize, p: usize, row: &mut [u32; Grid::CROSSINGS])
-    requires rows_to { (RowsTo s work.now) × (s < maskBound) }
+    requires rows_to { (RowsTo s work.now) × (s < mask_bound) }
     requires le_p { ((1 ≤ p) × (p < s)) × (Row row.old) }
     ensures { Tried m (value_at work.now) s p row.old row.new }
 {
@@ -96,8 +96,8 @@ fn begin(
     s: usize,
     row: &mut [u32; Grid::CROSSINGS],
 )
-    requires rows_to { (RowsTo s work.now) × ((1 ≤ s) × (s < maskBound)) }
-    requires below { (Below crossingBound numbers.now) × (row.old ≡ replicate crossingBound unreached) }
+    requires rows_to { (RowsTo s work.now) × ((1 ≤ s) × (s < mask_bound)) }
+    requires below { (Below crossing_bound numbers.now) × (row.old ≡ replicate crossing_bound unreached) }
     ensures { Begun m numbers.now work.now s row.new }
 {
     let i = lone_pin(s);
@@ -116,7 +116,7 @@ fn begin(
 
 // A row into the work as that of set s.
 fn put_row(row: &[u32; Grid::CROSSINGS], s: usize, work: &mut [u32])
-    requires { (workBound ≤ length work.old) × (s < maskBound) }
+    requires { (work_bound ≤ length work.old) × (s < mask_bound) }
     ensures { RowPut s row.now work.old work.new }
 {
     let mut v = 0;
@@ -128,8 +128,8 @@ fn put_row(row: &[u32; Grid::CROSSINGS], s: usize, work: &mut [u32])
 
 // The row of set s out of the work.
 pub fn get_row(work: &[u32], s: usize, row: &mut [u32; Grid::CROSSINGS])
-    requires work_bound_in_bounds { (workBound ≤ length work.now) × (s < maskBound) }
-    requires row_len { length row.old ≡ crossingBound }
+    requires work_bound_in_bounds { (work_bound ≤ length work.now) × (s < mask_bound) }
+    requires row_len { length row.old ≡ crossing_bound }
     ensures { row.new ≡ row_of work.now s }
 {
     let mut v = 0;
@@ -148,8 +148,8 @@ fn fill_row(
     s: usize,
     work: &mut [u32],
 )
-    requires fits { (Fits costs.now e) × (Below crossingBound numbers.now) }
-    requires rows_to { (RowsTo s work.old) × ((1 ≤ s) × (s < maskBound)) }
+    requires fits { (Fits costs.now e) × (Below crossing_bound numbers.now) }
+    requires rows_to { (RowsTo s work.old) × ((1 ≤ s) × (s < mask_bound)) }
     ensures { RowFilled (Near costs.now e) m numbers.now s work.old work.new }
 {
     let mut row = [Grid::UNREACHED; Grid::CROSSINGS];
@@ -167,8 +167,8 @@ pub fn fill(
     n: usize,
     work: &mut [u32],
 )
-    requires fits { (Fits costs.now e) × (Below crossingBound numbers.now) }
-    requires work_bound_in_bounds { (workBound ≤ length work.old) × ((1 ≤ n) × (n ≤ maskBound)) }
+    requires fits { (Fits costs.now e) × (Below crossing_bound numbers.now) }
+    requires work_bound_in_bounds { (work_bound ≤ length work.old) × ((1 ≤ n) × (n ≤ mask_bound)) }
     ensures { FilledTo (Near costs.now e) m numbers.now n work.old work.new }
 {
     let mut s = 1;

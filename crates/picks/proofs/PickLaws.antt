@@ -24,7 +24,7 @@ use Rattle.plane.proofs.PlaceLaws.{before-trans, before-irrefl}
 use Rattle.picks.specs.declared.Quadrant.{Quadrant}
 use Rattle.picks.specs.declared.Picked.{Picked}
 use Rattle.picks.specs.declared.Picked.TheVariants.{At, Nothing}
-use Rattle.picks.specs.Pick.{within, nearer, better, pickFrom, pick}
+use Rattle.picks.specs.Pick.{within, nearer, better, pick_from, pick}
 
 -- G4: v is before x in what u prefers, by cost and then by place
 abbrev pub Preferred : Weights → Place → Place → Place → Type 0
@@ -122,8 +122,8 @@ module _ (w : Weights) (ms : List Macro) (q : Quadrant) (u : Place) where
 
   scan : (vs seen : List Place) (best : Picked)
       → Ascending before vs → ((x v : Place) → x ∈ seen → v ∈ vs → before x v ≡ true)
-      → Picks seen best → Picks (reverse_aux vs seen) (pickFrom w ms q u best vs)
-  unfolding pickFrom
+      → Picks seen best → Picks (reverse_aux vs seen) (pick_from w ms q u best vs)
+  unfolding pick_from
   scan [] seen best a o h = h
   scan (v ∷ vs) seen best a o h =
       scan vs (v ∷ seen) (better w ms q u best v) a.1

@@ -5,8 +5,8 @@
 --
 --   Pick       within q u v                     v is in the quadrant q of u
 --              pick w ms q u vs                 what u picks in q among the vertices vs
---   Pass       vertexPicked s i                 the i-th of the vertices in a flat list, or none
---              isNext w q u best i v            a vertex is in the quadrant and comes before the best so far
+--   Pass       vertex_picked s i                 the i-th of the vertices in a flat list, or none
+--              is_next w q u best i v            a vertex is in the quadrant and comes before the best so far
 --              nearest w ms q u best i v        the best of a pass with one vertex more
 pub mod Pick
 pub mod Pass

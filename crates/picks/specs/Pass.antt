@@ -8,7 +8,7 @@ use Rattle.plane.specs.declared.Weights.{Weights}
 use Rattle.plane.specs.Place.{place}
 use Rattle.plane.specs.Cost.{cost}
 use Rattle.plane.specs.Macro.{clear}
-use Rattle.plane.specs.Flat.{placeAt}
+use Rattle.plane.specs.Flat.{place_at}
 use Rattle.picks.specs.declared.Quadrant.{Quadrant}
 use Rattle.picks.specs.declared.Picked.{Picked}
 use Rattle.picks.specs.declared.Picked.TheVariants.{At, Nothing}
@@ -17,24 +17,24 @@ use Rattle.picks.specs.declared.Standing.{Standing}
 use Rattle.picks.specs.Pick.{within}
 
 -- the i-th of the vertices in a flat list, or none where there is no such vertex
-unfoldable pub vertexPicked : List ℤ → ℕ → Picked
-vertexPicked s i = cond (ltb i (length s / 2)) (At (placeAt s i)) Nothing
+unfoldable pub vertex_picked : List ℤ → ℕ → Picked
+vertex_picked s i = cond (ltb i (length s / 2)) (At (place_at s i)) Nothing
 
 -- G4's order, by cost and then by place: in order of places a smaller one has the smaller number
 unfoldable pub leads : Near → ℕ → ℕ → Bool
 leads best far i = ltb best.far far || (eqb best.far far && leb best.at i)
 
 -- the best of a pass, without the macro that blocked last
-abbrev pub bestOf : Standing → Near
-bestOf s = record { at = s.at; far = s.far }
+abbrev pub best_of : Standing → Near
+best_of s = record { at = s.at; far = s.far }
 
 -- the i-th vertex v is in the quadrant and comes before the best so far
-unfoldable pub isNext : Weights → Quadrant → Place → Near → ℕ → Place → Bool
-isNext w q u best i v = within q u v && not (leads best (cost w u v) i)
+unfoldable pub is_next : Weights → Quadrant → Place → Near → ℕ → Place → Bool
+is_next w q u best i v = within q u v && not (leads best (cost w u v) i)
 
 -- it takes the place of the best so far where it is clear
-unfoldable pub ifClear : Weights → List Macro → Place → Near → ℕ → Place → Near
-ifClear w ms u best i v = cond (clear u v ms) (record { at = i; far = cost w u v }) best
+unfoldable pub if_clear : Weights → List Macro → Place → Near → ℕ → Place → Near
+if_clear w ms u best i v = cond (clear u v ms) (record { at = i; far = cost w u v }) best
 
 -- the best so far with the i-th vertex v more, which takes its place where it is in the quadrant, comes earlier, and is clear
 unfoldable pub nearest : Weights → List Macro → Quadrant → Place → Near → ℕ → Place → Near
@@ -42,8 +42,8 @@ nearest w ms q u best i v =
     cond (within q u v && (not (leads best (cost w u v) i) && clear u v ms)) (record { at = i; far = cost w u v }) best
 
 -- what it costs to come as far across as v is above what the best on that side costs
-unfoldable pub isPast : Weights → Place → Place → ℕ → ℕ → Bool
-isPast w u v left right = ltb (cond (lt_z v.x u.x) left right) (cost w u (place v.x u.y))
+unfoldable pub is_past : Weights → Place → Place → ℕ → ℕ → Bool
+is_past w u v left right = ltb (cond (lt_z v.x u.x) left right) (cost w u (place v.x u.y))
 
 -- a quadrant that reaches to the left only, and one that reaches to the right only
 pub record OnLeft (q : Quadrant) : Type 0 where

@@ -27,11 +27,11 @@ nearer w u v (At p) = ltb (cost w u v) (cost w u p)
 unfoldable pub better : Weights → List Macro → Quadrant → Place → Picked → Place → Picked
 better w ms q u best v = cond (within q u v && (nearer w u v best && clear u v ms)) (At v) best
 
-unfoldable pub pickFrom : Weights → List Macro → Quadrant → Place → Picked → List Place → Picked
-pickFrom w ms q u best [] = best
-pickFrom w ms q u best (v ∷ vs) = pickFrom w ms q u (better w ms q u best v) vs
+unfoldable pub pick_from : Weights → List Macro → Quadrant → Place → Picked → List Place → Picked
+pick_from w ms q u best [] = best
+pick_from w ms q u best (v ∷ vs) = pick_from w ms q u (better w ms q u best v) vs
 
 -- G4: in a quadrant u picks the nearest vertex that is clear of it, of several the smallest, or none. The vertices come in order, so the
 -- first of the nearest stays.
 unfoldable pub pick : Weights → List Macro → Quadrant → Place → List Place → Picked
-pick w ms q u vs = pickFrom w ms q u Nothing vs
+pick w ms q u vs = pick_from w ms q u Nothing vs

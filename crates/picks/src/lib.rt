@@ -2,10 +2,10 @@
 ghost use Rattle.std.specs.Prelude.{◌≡◌, ◌+◌, ◌/◌, ◌≤◌, ◌<◌, length};
 ghost use Rattle.lists.specs.Sorted.{Ascending};
 ghost use Rattle.plane.specs.Place.{before};
-ghost use Rattle.plane.specs.Flat.{places_of, macrosOf, placeAt};
-ghost use Rattle.net.specs.Bounds.{pointBound};
+ghost use Rattle.plane.specs.Flat.{places_of, macros_of, place_at};
+ghost use Rattle.net.specs.Bounds.{point_bound};
 ghost use Rattle.picks.specs.Pick.{within, pick};
-ghost use Rattle.picks.specs.Pass.{leads, bestOf, isNext, ifClear, isPast, OnLeft, OnRight, vertexPicked};
+ghost use Rattle.picks.specs.Pass.{leads, best_of, is_next, if_clear, is_past, OnLeft, OnRight, vertex_picked};
 
 use plane::{Place, Weights};
 
@@ -67,7 +67,7 @@ fn leads(best: Near, far: u64, i: usize) -> bool
 
 // The i-th vertex, v, is in the quadrant and comes before the best so far.
 fn is_next(w: Weights, q: Quadrant, u: Place, held: Standing, i: usize, v: Place) -> bool
-    ensures { result ≡ isNext w q u (bestOf held) i v }
+    ensures { result ≡ is_next w q u (best_of held) i v }
 {
     if !is_within(q, u, v) {
         return false;
@@ -81,7 +81,7 @@ fn is_next(w: Weights, q: Quadrant, u: Place, held: Standing, i: usize, v: Place
 
 // The i-th vertex, v, where it is clear, else the best so far. This is asked last: it looks at every macro.
 fn look_at(w: Weights, macros: &[i32], u: Place, held: Standing, i: usize, v: Place) -> Standing
-    ensures { bestOf result ≡ ifClear w (macrosOf macros.now) u (bestOf held) i v }
+    ensures { best_of result ≡ if_clear w (macros_of macros.now) u (best_of held) i v }
 {
     let sight = clear::look(u, v, macros, held.by);
     if !sight.free {
@@ -120,7 +120,7 @@ fn side_end(k: usize, t: usize, n: usize) -> usize
 
 // Whatever stands as far from u across as v, or farther, is beyond the best on that side.
 fn is_past(w: Weights, u: Place, v: Place, left: u64, right: u64) -> bool
-    ensures { result ≡ isPast w u v left right }
+    ensures { result ≡ is_past w u v left right }
 {
     let across = plane::cost(w, u, Place { x: v.x, y: u.y });
     if v.x < u.x {
@@ -131,7 +131,7 @@ fn is_past(w: Weights, u: Place, v: Place, left: u64, right: u64) -> bool
 
 // A number of a vertex, or that of all, as it stands in a table.
 pub fn narrow(i: usize) -> u16
-    requires { i ≤ pointBound }
+    requires { i ≤ point_bound }
     ensures { result ≡ i }
 {
     i as u16
@@ -149,11 +149,11 @@ pub fn picks(
 ) -> TwoPicks
     requires on_left { (OnLeft leftward) × (OnRight rightward) }
     requires ascending { (Ascending before (places_of vertices.now))
-        × ((k < length vertices.now / 2) × (length vertices.now / 2 ≤ pointBound)) }
-    ensures left_value { vertexPicked vertices.now result.left ≡ pick w (macrosOf macros.now) leftward
-        (placeAt vertices.now k) (places_of vertices.now) }
-    ensures right_value { vertexPicked vertices.now result.right ≡ pick w (macrosOf macros.now) rightward
-        (placeAt vertices.now k) (places_of vertices.now) }
+        × ((k < length vertices.now / 2) × (length vertices.now / 2 ≤ point_bound)) }
+    ensures left_value { vertex_picked vertices.now result.left ≡ pick w (macros_of macros.now) leftward
+        (place_at vertices.now k) (places_of vertices.now) }
+    ensures right_value { vertex_picked vertices.now result.right ≡ pick w (macros_of macros.now) rightward
+        (place_at vertices.now k) (places_of vertices.now) }
 {
     let n = vertices.len() / 2;
     let u = plane::place_at(vertices, k);

@@ -11,15 +11,15 @@ use lib.Signed.{lt_z}
 use Rattle.lists.specs.Any.{any}
 use Rattle.lists.proofs.TestLaws.{contrapose, and_left, and_right, and_both}
 use Rattle.lists.proofs.AnyLaws.{any_none, none_any}
-use Rattle.signed.specs.Order.{minZ, maxZ}
-use Rattle.signed.proofs.SideLaws.{ltZ-true, lt-ltZ, signed}
+use Rattle.signed.specs.Order.{z_min, z_max}
+use Rattle.signed.proofs.SideLaws.{z_lt-true, lt-z_lt, signed}
 use Rattle.signed.proofs.OrderLaws.{min-sides, max-sides}
 use Rattle.plane.specs.declared.Place.{Place}
 use Rattle.plane.specs.declared.Macro.{Macro}
 use Rattle.plane.specs.Box.{Between, InBox}
 use Rattle.plane.specs.Distance.{distance}
-use Rattle.plane.specs.Middle.{middlePlace}
-use Rattle.plane.specs.Macro.{spanMeets, meets, clear}
+use Rattle.plane.specs.Middle.{middle_place}
+use Rattle.plane.specs.Macro.{span_meets, meets, clear}
 use Rattle.plane.proofs.DistanceLaws.{apart-through}
 use Rattle.plane.proofs.MiddleLaws.{middle-first, middle-outer, middle-last}
 
@@ -36,26 +36,26 @@ last-in-box a b = record {
 }
 
 -- a span within a span meets no more
-low-within : (c d a b to : ℤ) → Between c a b → Between d a b → lt_z (minZ c d) to ≡ true → lt_z (minZ a b) to ≡ true
-low-within c d a b to i j h = lt-ltZ (minZ a b) to (omega (signed, ltZ-true (minZ c d) to h, i.0, j.0, min-sides c d))
+low-within : (c d a b to : ℤ) → Between c a b → Between d a b → lt_z (z_min c d) to ≡ true → lt_z (z_min a b) to ≡ true
+low-within c d a b to i j h = lt-z_lt (z_min a b) to (omega (signed, z_lt-true (z_min c d) to h, i.0, j.0, min-sides c d))
 
-high-within : (c d a b from : ℤ) → Between c a b → Between d a b → lt_z from (maxZ c d) ≡ true → lt_z from (maxZ a b) ≡ true
-high-within c d a b from i j h = lt-ltZ from (maxZ a b) (omega (signed, ltZ-true from (maxZ c d) h, i.1, j.1, max-sides c d))
+high-within : (c d a b from : ℤ) → Between c a b → Between d a b → lt_z from (z_max c d) ≡ true → lt_z from (z_max a b) ≡ true
+high-within c d a b from i j h = lt-z_lt from (z_max a b) (omega (signed, z_lt-true from (z_max c d) h, i.1, j.1, max-sides c d))
 
-span-within : (c d a b from to : ℤ) → Between c a b → Between d a b → spanMeets c d from to ≡ true → spanMeets a b from to ≡ true
-unfolding spanMeets
+span-within : (c d a b from to : ℤ) → Between c a b → Between d a b → span_meets c d from to ≡ true → span_meets a b from to ≡ true
+unfolding span_meets
 span-within c d a b from to i j h =
     and_both _ _
-    (low-within c d a b to i j (and_left _ (lt_z from (maxZ c d)) h))
-    (high-within c d a b from i j (and_right (lt_z (minZ c d) to) _ h))
+    (low-within c d a b to i j (and_left _ (lt_z from (z_max c d)) h))
+    (high-within c d a b from i j (and_right (lt_z (z_min c d) to) _ h))
 
 module _ (c d a b : Place) (i : InBox c a b) (j : InBox d a b) where
   meets-within : (m : Macro) → meets c d m ≡ true → meets a b m ≡ true
   unfolding meets
   meets-within m h =
       and_both _ _
-      (span-within _ _ _ _ _ _ i.across j.across (and_left _ (spanMeets c.y d.y m.bottom m.top) h))
-      (span-within _ _ _ _ _ _ i.along j.along (and_right (spanMeets c.x d.x m.left m.right) _ h))
+      (span-within _ _ _ _ _ _ i.across j.across (and_left _ (span_meets c.y d.y m.bottom m.top) h))
+      (span-within _ _ _ _ _ _ i.along j.along (and_right (span_meets c.x d.x m.left m.right) _ h))
 
   pub clear_within : (ms : List Macro) → clear a b ms ≡ true → clear c d ms ≡ true
   unfolding clear
@@ -71,28 +71,28 @@ distance-through s a b i =
     omega (signed, apart-through s.x a.x b.x i.across, apart-through s.y a.y b.y i.along)
 
 module _ (a b u : Place) where
-  pub middle-in-first : InBox (middlePlace a b u) a b
-  unfolding middlePlace
+  pub middle-in-first : InBox (middle_place a b u) a b
+  unfolding middle_place
   middle-in-first = record { across = middle-first a.x b.x u.x; along = middle-first a.y b.y u.y }
 
-  pub middle-in-outer : InBox (middlePlace a b u) a u
-  unfolding middlePlace
+  pub middle-in-outer : InBox (middle_place a b u) a u
+  unfolding middle_place
   middle-in-outer = record { across = middle-outer a.x b.x u.x; along = middle-outer a.y b.y u.y }
 
-  pub middle-in-last : InBox (middlePlace a b u) b u
-  unfolding middlePlace
+  pub middle-in-last : InBox (middle_place a b u) b u
+  unfolding middle_place
   middle-in-last = record { across = middle-last a.x b.x u.x; along = middle-last a.y b.y u.y }
 
   -- clear of what two of the three are clear of
-  pub middle-clear-first : (ms : List Macro) → clear a b ms ≡ true → (clear (middlePlace a b u) a ms ≡ true)
-      × (clear (middlePlace a b u) b ms ≡ true)
+  pub middle-clear-first : (ms : List Macro) → clear a b ms ≡ true → (clear (middle_place a b u) a ms ≡ true)
+      × (clear (middle_place a b u) b ms ≡ true)
   middle-clear-first ms h = (
     clear_within _ _ a b middle-in-first (first-in-box a b) ms h,
     clear_within _ _ a b middle-in-first (last-in-box a b) ms h,
   )
 
-  pub middle-clear-outer : (ms : List Macro) → clear a u ms ≡ true → clear (middlePlace a b u) u ms ≡ true
+  pub middle-clear-outer : (ms : List Macro) → clear a u ms ≡ true → clear (middle_place a b u) u ms ≡ true
   middle-clear-outer ms h = clear_within _ _ a u middle-in-outer (last-in-box a u) ms h
 
-  pub middle-clear-last : (ms : List Macro) → clear b u ms ≡ true → clear (middlePlace a b u) u ms ≡ true
+  pub middle-clear-last : (ms : List Macro) → clear b u ms ≡ true → clear (middle_place a b u) u ms ≡ true
   middle-clear-last ms h = clear_within _ _ b u middle-in-last (last-in-box b u) ms h

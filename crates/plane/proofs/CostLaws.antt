@@ -10,8 +10,8 @@ use Rattle.plane.specs.declared.Weights.{Weights}
 use Rattle.plane.specs.Place.{place}
 use Rattle.plane.specs.Box.{InBox}
 use Rattle.plane.specs.Distance.{apart, distance}
-use Rattle.plane.specs.Middle.{middlePlace}
-use Rattle.plane.specs.Cost.{cost, plain, costLimit, Positive}
+use Rattle.plane.specs.Middle.{middle_place}
+use Rattle.plane.specs.Cost.{cost, plain, cost_limit, Positive}
 use Rattle.plane.proofs.Fits.{PlaceFits}
 use Rattle.plane.proofs.DistanceLaws.{apart-comm, apart-self, apart_none, apart-through, apart-triangle, apart_fits}
 use Rattle.plane.proofs.BoxLaws.{middle-in-first}
@@ -77,8 +77,8 @@ module _ (w : Weights) where
       )
 
   -- nor one through the middle place
-  pub middle-through : (a b u : Place) → cost w (middlePlace a b u) a + cost w (middlePlace a b u) b ≡ cost w a b
-  middle-through a b u = cost-through (middlePlace a b u) a b (middle-in-first a b u)
+  pub middle-through : (a b u : Place) → cost w (middle_place a b u) a + cost w (middle_place a b u) b ≡ cost w a b
+  middle-through a b u = cost-through (middle_place a b u) a b (middle-in-first a b u)
 
   -- the triangle
   pub cost-triangle : (a b c : Place) → cost w a c ≤ cost w a b + cost w b c
@@ -102,7 +102,7 @@ module _ (w : Weights) where
   cost-parts a b h k = omega (arith, mul-le-mul_right w.across h, mul-le-mul_right w.along k)
 
   -- of any two places of 32 bits
-  pub cost-fits : w.across < 2 ^ 8 → w.along < 2 ^ 8 → (a b : Place) → PlaceFits a → PlaceFits b → cost w a b < costLimit
+  pub cost-fits : w.across < 2 ^ 8 → w.along < 2 ^ 8 → (a b : Place) → PlaceFits a → PlaceFits b → cost w a b < cost_limit
   unfolding cost
   cost-fits h k a b f g =
       omega (

@@ -11,11 +11,11 @@ use Rattle.plane.specs.declared.Place.{Place}
 use Rattle.plane.specs.declared.Macro.{Macro}
 use Rattle.plane.specs.Place.{place}
 use Rattle.plane.specs.Macro.{macro}
-use Rattle.plane.specs.Flat.{places_of, macrosOf, placeAt, macroAt, flatPlaces}
+use Rattle.plane.specs.Flat.{places_of, macros_of, place_at, macro_at, flat_places}
 
 -- Places
 
-pub places-next : (s : List ℤ) (i : ℕ) → i * 2 + 2 ≤ length s → drop i (places_of s) ≡ placeAt s i ∷ drop (i + 1) (places_of s)
+pub places-next : (s : List ℤ) (i : ℕ) → i * 2 + 2 ≤ length s → drop i (places_of s) ≡ place_at s i ∷ drop (i + 1) (places_of s)
 unfolding places_of
 places-next = twos-next (pos 0) place
 
@@ -27,26 +27,26 @@ pub length-places : (s : List ℤ) → length (places_of s) ≡ length s / 2
 unfolding places_of
 length-places = length-twos place
 
-pub places-flat : (ps : List Place) → places_of (flatPlaces ps) ≡ ps
-unfolding places_of flatPlaces
+pub places-flat : (ps : List Place) → places_of (flat_places ps) ≡ ps
+unfolding places_of flat_places
 places-flat [] = refl
 places-flat (p ∷ ps) = ap (λ (l : List Place). p ∷ l) (places-flat ps)
 
-pub length-flat-places : (ps : List Place) → length (flatPlaces ps) ≡ length ps * 2
-unfolding flatPlaces
+pub length-flat-places : (ps : List Place) → length (flat_places ps) ≡ length ps * 2
+unfolding flat_places
 length-flat-places [] = refl
 length-flat-places (p ∷ ps) = omega (arith, length-flat-places ps)
 
 -- Macros
 
-pub macros-next : (s : List ℤ) (i : ℕ) → i * 4 + 4 ≤ length s → drop i (macrosOf s) ≡ macroAt s i ∷ drop (i + 1) (macrosOf s)
-unfolding macrosOf
+pub macros-next : (s : List ℤ) (i : ℕ) → i * 4 + 4 ≤ length s → drop i (macros_of s) ≡ macro_at s i ∷ drop (i + 1) (macros_of s)
+unfolding macros_of
 macros-next = fours-next (pos 0) macro
 
-pub macros-end : (s : List ℤ) (i : ℕ) → length s < i * 4 + 4 → drop i (macrosOf s) ≡ []
-unfolding macrosOf
+pub macros-end : (s : List ℤ) (i : ℕ) → length s < i * 4 + 4 → drop i (macros_of s) ≡ []
+unfolding macros_of
 macros-end = fours-end (pos 0) macro
 
-pub length-macros : (s : List ℤ) → length (macrosOf s) ≡ length s / 4
-unfolding macrosOf
+pub length-macros : (s : List ℤ) → length (macros_of s) ≡ length s / 4
+unfolding macros_of
 length-macros = length-fours macro

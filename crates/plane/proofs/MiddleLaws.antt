@@ -7,7 +7,7 @@ use lib.IntN.{ℤ}
 use lib.Signed.{le_z}
 use Rattle.lists.proofs.TestLaws.{by}
 use Rattle.signed.specs.Sides.{up, down}
-use Rattle.signed.specs.Order.{minZ, maxZ}
+use Rattle.signed.specs.Order.{z_min, z_max}
 use Rattle.signed.proofs.SideLaws.{eq_of, signed}
 use Rattle.signed.proofs.OrderLaws.{min-sides, max-sides}
 use Rattle.plane.specs.Middle.{middle}
@@ -20,7 +20,7 @@ pub middle-sides : (a b c : ℤ)
     + down (middle a b c)
 unfolding middle
 middle-sides a b c =
-    omega (signed, max-sides (minZ a b) (minZ (maxZ a b) c), min-sides a b, min-sides (maxZ a b) c, max-sides a b)
+    omega (signed, max-sides (z_min a b) (z_min (z_max a b) c), min-sides a b, min-sides (z_max a b) c, max-sides a b)
 
 pub middle-first : (a b c : ℤ) → Between (middle a b c) a b
 middle-first a b c =

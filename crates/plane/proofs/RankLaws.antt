@@ -12,7 +12,7 @@ use Rattle.lists.specs.Turns.{seek}
 use Rattle.lists.proofs.TestLaws.{by, differ, contrapose}
 use Rattle.plane.specs.declared.Place.{Place}
 use Rattle.plane.specs.Place.{before}
-use Rattle.plane.specs.Flat.{placeAt}
+use Rattle.plane.specs.Flat.{place_at}
 use Rattle.plane.specs.Rank.{InOrder, later, rank}
 use Rattle.plane.proofs.PlaceLaws.{before-trans}
 
@@ -32,23 +32,23 @@ seek_is t (suc n) i r a b f g =
 
 module _ (s : List ℤ) (n : ℕ) (p : Place) where
   -- the number before which all places come before p, and none from there on
-  pub rank_is : (r : ℕ) → r ≤ n → ((u : ℕ) → u < r → before (placeAt s u) p ≡ true)
-      → ((u : ℕ) → r ≤ u → u < n → before (placeAt s u) p ≡ false) → r ≡ rank s n p
+  pub rank_is : (r : ℕ) → r ≤ n → ((u : ℕ) → u < r → before (place_at s u) p ≡ true)
+      → ((u : ℕ) → r ≤ u → u < n → before (place_at s u) p ≡ false) → r ≡ rank s n p
   unfolding rank later
   rank_is r h f g =
       seek_is (later s p) n 0 r (omega arith) (omega arith) (λ u a b. ap not (f u b)) (λ a. ap not (g r (omega arith) (omega arith)))
 
   module _ (o : InOrder s n) (m : ℕ) (h : m < n) where
-    pub ahead_of : before (placeAt s m) p ≡ true → (u : ℕ) → u < m + 1 → before (placeAt s u) p ≡ true
+    pub ahead_of : before (place_at s m) p ≡ true → (u : ℕ) → u < m + 1 → before (place_at s u) p ≡ true
     ahead_of e u l =
         by (ltb u m)
-        (λ t. before-trans (placeAt s u) (placeAt s m) p (o u m (ltb-true u m t) h) e)
+        (λ t. before-trans (place_at s u) (place_at s m) p (o u m (ltb-true u m t) h) e)
         (λ t. let k : u ≡ m = omega (arith, ltb-false u m t) in rw k e)
 
-    pub none_after : before (placeAt s m) p ≡ false → (u : ℕ) → m ≤ u → u < n → before (placeAt s u) p ≡ false
+    pub none_after : before (place_at s m) p ≡ false → (u : ℕ) → m ≤ u → u < n → before (place_at s u) p ≡ false
     none_after e u l k =
         by (ltb m u)
         (λ t.
-        contrapose (before (placeAt s u) p) (before (placeAt s m) p)
-        (before-trans (placeAt s m) (placeAt s u) p (o m u (ltb-true m u t) k)) e)
+        contrapose (before (place_at s u) p) (before (place_at s m) p)
+        (before-trans (place_at s m) (place_at s u) p (o m u (ltb-true m u t) k)) e)
         (λ t. let i : u ≡ m = omega (arith, ltb-false m u t) in rw i e)

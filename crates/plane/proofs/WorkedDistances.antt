@@ -2,7 +2,7 @@
 -- Assumes nothing.
 use mathlib.Core.Path.{◌≡◌, refl}
 use lib.IntN.{ℤ, pos, negsuc}
-use Rattle.signed.specs.Order.{minZ, maxZ}
+use Rattle.signed.specs.Order.{z_min, z_max}
 use Rattle.plane.specs.Place.{place}
 use Rattle.plane.specs.Distance.{apart, distance}
 use Rattle.plane.specs.declared.Weights.{Weights}
@@ -23,8 +23,8 @@ abbrev greatest : ℤ
 greatest = pos 2147483647
 
 -- twice as dear along as across, and the dearest that bytes allow
-abbrev dearAlong : Weights
-dearAlong = record { across = 1; along = 2 }
+abbrev dear_along : Weights
+dear_along = record { across = 1; along = 2 }
 
 abbrev dearest : Weights
 dearest = record { across = 255; along = 255 }
@@ -38,14 +38,14 @@ pub record Table : Type 0 where
   pub from-high : distance (place high high) (place (pos 0) (negsuc 0)) ≡ 2000001
   pub across-i32 : distance (place least least) (place greatest greatest) ≡ 8589934590
   pub plain-cost : cost plain (place low low) (place high high) ≡ 4000000
-  pub dear-along : cost dearAlong (place (pos 0) (negsuc 0)) (place (pos 3) (pos 4)) ≡ 13
+  pub dear-along : cost dear_along (place (pos 0) (negsuc 0)) (place (pos 3) (pos 4)) ≡ 13
   pub dearest-across-i32 : cost dearest (place least least) (place greatest greatest) ≡ 2190433320450
   pub middle-of-ends : middle low high (negsuc 0) ≡ negsuc 0
   pub middle-of-i32 : middle greatest least (pos 0) ≡ pos 0
   pub middle-of-two-low : middle low high low ≡ low
 
 pub worked-distances : Table
-unfolding apart distance cost minZ maxZ middle
+unfolding apart distance cost z_min z_max middle
 worked-distances = record {
   across-range = refl;
   back-across = refl;

@@ -13,8 +13,8 @@ abbrev pub plain : Weights
 plain = record { across = 1; along = 1 }
 
 -- above every cost of 32-bit places: a gap is below 2^32 and a weight below 2^8
-abbrev pub costLimit : ℕ
-costLimit = 2 ^ 41
+abbrev pub cost_limit : ℕ
+cost_limit = 2 ^ 41
 
 -- weights with which only equal places cost nothing
 pub record Positive (w : Weights) : Type 0 where

@@ -12,29 +12,29 @@ unfolding twos
 places_of s = twos place s
 
 -- the macros that a flat list holds; up to three numbers left over at its end are no macro
-unfoldable pub macrosOf : List ℤ → List Macro
+unfoldable pub macros_of : List ℤ → List Macro
 unfolding fours
-macrosOf s = fours macro s
+macros_of s = fours macro s
 
 -- the place that begins at the number k of a flat list, and the i-th place
-abbrev pub placeFrom : List ℤ → ℕ → Place
-placeFrom s k = place (get_or s k (pos 0)) (get_or s (k + 1) (pos 0))
+abbrev pub place_from : List ℤ → ℕ → Place
+place_from s k = place (get_or s k (pos 0)) (get_or s (k + 1) (pos 0))
 
-abbrev pub placeAt : List ℤ → ℕ → Place
-placeAt s i = placeFrom s (i * 2)
+abbrev pub place_at : List ℤ → ℕ → Place
+place_at s i = place_from s (i * 2)
 
 -- the numbers of a place
-abbrev pub placeNumbers : Place → List ℤ
-placeNumbers p = p.x ∷ (p.y ∷ [])
+abbrev pub place_numbers : Place → List ℤ
+place_numbers p = p.x ∷ (p.y ∷ [])
 
 -- the macro that begins at the number k of a flat list, and the i-th macro
-abbrev pub macroFrom : List ℤ → ℕ → Macro
-macroFrom s k = macro (get_or s k (pos 0)) (get_or s (k + 1) (pos 0)) (get_or s (k + 2) (pos 0)) (get_or s (k + 3) (pos 0))
+abbrev pub macro_from : List ℤ → ℕ → Macro
+macro_from s k = macro (get_or s k (pos 0)) (get_or s (k + 1) (pos 0)) (get_or s (k + 2) (pos 0)) (get_or s (k + 3) (pos 0))
 
-abbrev pub macroAt : List ℤ → ℕ → Macro
-macroAt s i = macroFrom s (i * 4)
+abbrev pub macro_at : List ℤ → ℕ → Macro
+macro_at s i = macro_from s (i * 4)
 
 -- places as a flat list
-unfoldable pub flatPlaces : List Place → List ℤ
-flatPlaces [] = []
-flatPlaces (p ∷ ps) = p.x ∷ (p.y ∷ flatPlaces ps)
+unfoldable pub flat_places : List Place → List ℤ
+flat_places [] = []
+flat_places (p ∷ ps) = p.x ∷ (p.y ∷ flat_places ps)

@@ -1,7 +1,7 @@
 -- Places and their order.
 use Rattle.std.specs.Prelude.{Bool, true, false, ◌&&◌, ℤ}
 use Rattle.std.specs.Int.Signed.{lt_z}
-use Rattle.signed.specs.Order.{eqZ}
+use Rattle.signed.specs.Order.{z_eq}
 use Rattle.plane.specs.declared.Place.{Place}
 
 -- N2: a place by its x and y
@@ -13,5 +13,5 @@ unfoldable pub before : Place → Place → Bool
 before a b =
     elim (lt_z a.x b.x) [ true ↦ true | false ↦ elim (lt_z b.x a.x) [ true ↦ false | false ↦ lt_z a.y b.y ] ]
 
-unfoldable pub samePlace : Place → Place → Bool
-samePlace a b = eqZ a.x b.x && eqZ a.y b.y
+unfoldable pub same_place : Place → Place → Bool
+same_place a b = z_eq a.x b.x && z_eq a.y b.y

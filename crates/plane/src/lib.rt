@@ -3,13 +3,13 @@
 // Coordinates are i32 and any value is taken; differences and sums of them are worked out in 64 bits, where none can overflow.
 ghost use Rattle.std.specs.Prelude.{◌≡◌, ◌+◌, ◌*◌, ◌≤◌, ◌^◌, ◌<◌, pos, ◌-ℤ◌, nat_abs, length};
 ghost use Rattle.std.proofs.lemmas.List.Edits.{sets};
-ghost use Rattle.plane.specs.Place.{before, samePlace};
+ghost use Rattle.plane.specs.Place.{before, same_place};
 ghost use Rattle.plane.specs.Distance.{apart, distance};
-ghost use Rattle.plane.specs.Cost.{cost, costLimit};
-ghost use Rattle.plane.specs.Middle.{middle, middlePlace};
-ghost use Rattle.plane.specs.Flat.{placeAt, placeNumbers};
+ghost use Rattle.plane.specs.Cost.{cost, cost_limit};
+ghost use Rattle.plane.specs.Middle.{middle, middle_place};
+ghost use Rattle.plane.specs.Flat.{place_at, place_numbers};
 ghost use Rattle.plane.specs.Rank.{InOrder, rank};
-ghost use Rattle.signed.specs.Order.{minZ, maxZ};
+ghost use Rattle.signed.specs.Order.{z_min, z_max};
 ghost use Rattle.signed.specs.Sides.{down};
 
 // A place of the plane.
@@ -37,13 +37,13 @@ pub struct Weights {
 
 // The smaller and the greater of two coordinates, for the sides of boxes and spans.
 pub fn smaller(a: i32, b: i32) -> i32
-    ensures { result ≡ minZ a b }
+    ensures { result ≡ z_min a b }
 {
     if a <= b { a } else { b }
 }
 
 pub fn greater(a: i32, b: i32) -> i32
-    ensures { result ≡ maxZ a b }
+    ensures { result ≡ z_max a b }
 {
     if a <= b { b } else { a }
 }
@@ -96,7 +96,7 @@ pub fn is_before(a: Place, b: Place) -> bool
 }
 
 pub fn is_same_place(a: Place, b: Place) -> bool
-    ensures { result ≡ samePlace a b }
+    ensures { result ≡ same_place a b }
 {
     a.x == b.x && a.y == b.y
 }
@@ -110,14 +110,14 @@ pub fn distance(a: Place, b: Place) -> u64
 
 // What metal between two places costs.
 pub fn cost(w: Weights, a: Place, b: Place) -> u64
-    ensures { (result ≡ cost w a b) × (result < costLimit) }
+    ensures { (result ≡ cost w a b) × (result < cost_limit) }
 {
     axis_cost(gap(a.x, b.x), w.across) + axis_cost(gap(a.y, b.y), w.along)
 }
 
 // The place in the middle of three, axis by axis.
 pub fn middle_place(a: Place, b: Place, u: Place) -> Place
-    ensures { result ≡ middlePlace a b u }
+    ensures { result ≡ middle_place a b u }
 {
     Place {
         x: median(a.x, b.x, u.x),
@@ -128,7 +128,7 @@ pub fn middle_place(a: Place, b: Place, u: Place) -> Place
 // The i-th place of a flat list.
 pub fn place_at(places: &[i32], i: usize) -> Place
     requires { i * 2 + 2 ≤ length places.now }
-    ensures { result ≡ placeAt places.now i }
+    ensures { result ≡ place_at places.now i }
 {
     let k = i * 2;
     Place {
@@ -140,7 +140,7 @@ pub fn place_at(places: &[i32], i: usize) -> Place
 // p as the i-th place of a flat list.
 pub fn put_place(places: &mut [i32], i: usize, p: Place)
     requires { i * 2 + 2 ≤ length places.old }
-    ensures { places.new ≡ sets places.old (i * 2) (placeNumbers p) }
+    ensures { places.new ≡ sets places.old (i * 2) (place_numbers p) }
 {
     let k = i * 2;
     let x = p.x;

@@ -8,8 +8,8 @@ use native.Mathlib.Omega.{arith}
 use borrow.Author.Tests.{lt-ltb, le-ltb, ltb-true, ltb-false}
 use lib.Dec.{ltb}
 use Rattle.lists.proofs.TestLaws.{by}
-use Rattle.bands.specs.Tests.{rateBound}
-use Rattle.price.specs.Charge.{metalBound, units, rounded, charge}
+use Rattle.bands.specs.Tests.{rate_bound}
+use Rattle.price.specs.Charge.{metal_bound, units, rounded, charge}
 
 -- Rounding
 
@@ -105,11 +105,11 @@ module _ (metal rate : ℕ) where
   pub charge-odd : over ≡ units → (whole % 2 ≡ 0 → ⊥) → whole + 1 ≡ charge metal rate
   charge-odd h e = omega (arith, charge-half h, e)
 
-  pub part-fits : rate ≤ rateBound → metal % units * rate ≤ units * rateBound
+  pub part-fits : rate ≤ rate_bound → metal % units * rate ≤ units * rate_bound
   part-fits h = let low : metal % units ≤ units = omega arith in mul-le-mul low h
 
-  pub thousands-fit : metal ≤ metalBound → rate ≤ rateBound → metal / units * rate ≤ metalBound / units * rateBound
-  thousands-fit h k = let low : metal / units ≤ metalBound / units = omega arith in mul-le-mul low k
+  pub thousands-fit : metal ≤ metal_bound → rate ≤ rate_bound → metal / units * rate ≤ metal_bound / units * rate_bound
+  thousands-fit h k = let low : metal / units ≤ metal_bound / units = omega arith in mul-le-mul low k
 
-  pub whole-fits : metal ≤ metalBound → rate ≤ rateBound → whole ≤ metalBound / units * rateBound + rateBound
+  pub whole-fits : metal ≤ metal_bound → rate ≤ rate_bound → whole ≤ metal_bound / units * rate_bound + rate_bound
   whole-fits h k = omega (arith, part-fits k, thousands-fit h k)

@@ -15,9 +15,9 @@ use Rattle.lists.proofs.TestLaws.{by, not-true, contrapose}
 use Rattle.lent.specs.Told.{given}
 use Rattle.lent.proofs.AfterLaws.{told-apart}
 use Rattle.bands.specs.declared.Band.{Band}
-use Rattle.bands.specs.Band.{bandsOf}
+use Rattle.bands.specs.Band.{bands_of}
 use Rattle.bands.specs.Order.{NeverFalling, WellKept}
-use Rattle.price.specs.Charge.{charge, reaches, byFirst}
+use Rattle.price.specs.Charge.{charge, reaches, by_first}
 use Rattle.price.specs.Price.{priced}
 use Rattle.bands.proofs.OrderLaws.{kept}
 use Rattle.price.proofs.ChargeLaws.{charge-rises}
@@ -33,7 +33,7 @@ pub record AtRate (metal : ℕ) (bs : List Band) (h : ℕ) : Type 0 where
 given-same : {h k : ℕ} → given h ≡ given k → h ≡ k
 given-same e = cc
 
-at-rate : {metal h : ℕ} (bs : List Band) → byFirst metal bs ≡ given h → AtRate metal bs h
+at-rate : {metal h : ℕ} (bs : List Band) → by_first metal bs ≡ given h → AtRate metal bs h
 at-rate {metal} {h} [] e = told-apart 32 h (sym (first-end metal [] refl) ∙ e)
 at-rate {metal} {h} (b ∷ bs) e =
     by (reaches metal b)
@@ -48,11 +48,11 @@ unfolding reaches
 reaches-less {m} {n} b h t = rw (le-ltb b.limit m (omega (arith, ltb-false b.limit n (not-true (ltb b.limit n) t)))) refl
 
 -- B5: a list that charges anything is kept in order
-pub kept-in-order : (metal : ℕ) (s : List ℕ) {h : ℕ} → priced metal s ≡ given h → WellKept (bandsOf s)
-kept-in-order metal s e = kept (bandsOf s) (given-passed metal s e).onward
+pub kept-in-order : (metal : ℕ) (s : List ℕ) {h : ℕ} → priced metal s ≡ given h → WellKept (bands_of s)
+kept-in-order metal s e = kept (bands_of s) (given-passed metal s e).onward
 
 module _ {m n : ℕ} (more : m ≤ n) where
-  pub first-rises : {h k : ℕ} (bs : List Band) → NeverFalling bs → byFirst m bs ≡ given h → byFirst n bs ≡ given k → h ≤ k
+  pub first-rises : {h k : ℕ} (bs : List Band) → NeverFalling bs → by_first m bs ≡ given h → by_first n bs ≡ given k → h ≤ k
   first-rises {h} {k} [] never e f = told-apart 32 h (sym (first-end m [] refl) ∙ e)
   first-rises {h} {k} (b ∷ bs) never e f =
       by (reaches m b)
@@ -70,4 +70,4 @@ module _ {m n : ℕ} (more : m ≤ n) where
   pub longer-never-less : {h k : ℕ} (s : List ℕ) → priced m s ≡ given h → priced n s ≡ given k → h ≤ k
   longer-never-less s e f =
       let p = given-passed m s e in
-      first-rises (bandsOf s) (kept-in-order m s e).never-falling (sym (price-first m s p) ∙ e) (sym (price-first n s p) ∙ f)
+      first-rises (bands_of s) (kept-in-order m s e).never-falling (sym (price-first m s p) ∙ e) (sym (price-first n s p) ∙ f)

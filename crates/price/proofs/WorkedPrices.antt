@@ -5,15 +5,15 @@ use mathlib.Core.List.{List, [], ◌∷◌}
 use Prim.Native.Nat.{ℕ}
 use Rattle.lists.specs.Any.{any}
 use Rattle.lent.specs.Told.{Told, refused, given}
-use Rattle.bands.specs.Band.{bandsOf}
-use Rattle.bands.specs.Tests.{bandsMiscounted, rateAbove}
-use Rattle.bands.specs.Order.{stepsBack, fallsAfter, fallsBack}
-use Rattle.price.specs.Charge.{rounded, charge, reaches, byFirst}
+use Rattle.bands.specs.Band.{bands_of}
+use Rattle.bands.specs.Tests.{bands_miscounted, rate_above}
+use Rattle.bands.specs.Order.{steps_back, falls_after, falls_back}
+use Rattle.price.specs.Charge.{rounded, charge, reaches, by_first}
 use Rattle.price.specs.Price.{priced}
 
 -- to unfold this is to unfold all that it rests on
 unfoldable pub answer : ℕ → List ℕ → Told ℕ
-unfolding any bandsOf rounded charge reaches byFirst bandsMiscounted rateAbove priced stepsBack fallsAfter fallsBack
+unfolding any bands_of rounded charge reaches by_first bands_miscounted rate_above priced steps_back falls_after falls_back
 answer metal s = priced metal s
 
 -- two bands that are kept in order: up to 100 units at rate 10, up to 200 at rate 20

@@ -8,8 +8,8 @@ abbrev pub units : ℕ
 units = 1000
 
 -- far above the metal of any net, and low enough that no charge at the highest rate overflows: 2^53
-abbrev pub metalBound : ℕ
-metalBound = 9007199254740992
+abbrev pub metal_bound : ℕ
+metal_bound = 9007199254740992
 
 -- B4: from thousandths to whole ones, the nearest; half way between two, the even one
 unfoldable pub rounded : ℕ → ℕ
@@ -24,6 +24,6 @@ unfoldable pub reaches : ℕ → Band → Bool
 reaches metal b = not (ltb b.limit metal)
 
 -- B3, C32: the first band of the list that reaches the metal sets the rate; 32 where none does
-unfoldable pub byFirst : ℕ → List Band → Told ℕ
-byFirst metal [] = refused 32
-byFirst metal (b ∷ bs) = cond (reaches metal b) (given (charge metal b.rate)) (byFirst metal bs)
+unfoldable pub by_first : ℕ → List Band → Told ℕ
+by_first metal [] = refused 32
+by_first metal (b ∷ bs) = cond (reaches metal b) (given (charge metal b.rate)) (by_first metal bs)

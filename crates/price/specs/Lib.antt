@@ -5,8 +5,8 @@
 --
 --   Charge     reaches metal b                 the band's limit is not below the metal
 --              rounded n, charge metal rate    thousandths to whole ones, a half to the even one; the charge at a rate
---              byFirst metal bs                the charge by the first band that reaches the metal, or 32
+--              by_first metal bs                the charge by the first band that reaches the metal, or 32
 --   Price      priced metal s                  31, then 37 for a list that falls back, then 32, then the charge
---              toldPrice r                     what the code's answer says
+--              told_price r                     what the code's answer says
 pub mod Charge
 pub mod Price

@@ -2,10 +2,10 @@
 // metal to charge for.
 ghost use Rattle.std.specs.Prelude.{◌≡◌, false, ◌≤◌};
 ghost use Rattle.lists.specs.Any.{any};
-ghost use Rattle.bands.specs.Band.{bandsOf};
-ghost use Rattle.bands.specs.Tests.{rateBound, rateAbove};
-ghost use Rattle.price.specs.Charge.{metalBound, charge, reaches, byFirst};
-ghost use Rattle.price.specs.Price.{toldPrice};
+ghost use Rattle.bands.specs.Band.{bands_of};
+ghost use Rattle.bands.specs.Tests.{rate_bound, rate_above};
+ghost use Rattle.price.specs.Charge.{metal_bound, charge, reaches, by_first};
+ghost use Rattle.price.specs.Price.{told_price};
 
 use bands::Band;
 use net::Refusal;
@@ -29,7 +29,7 @@ fn is_reaching(metal: u64, band: Band) -> bool
 // Metal times rate over 1,000, to the hundredth. Metal is split by the thousand first: whole thousands are charged their rate, and only
 // what is left of metal is multiplied out. Half way between two hundredths the even one is charged.
 fn charge(metal: u64, rate: u64) -> u64
-    requires { (metal ≤ metalBound) × (rate ≤ rateBound) }
+    requires { (metal ≤ metal_bound) × (rate ≤ rate_bound) }
     ensures { result ≡ charge metal rate }
 {
     let part = metal % UNITS * rate;
@@ -49,8 +49,8 @@ fn charge(metal: u64, rate: u64) -> u64
 
 // The charge by the first band that reaches the metal, or 32.
 pub fn by_first(metal: u64, bands: &[u64]) -> Priced
-    requires { (metal ≤ metalBound) × (any rateAbove (bandsOf bands.now) ≡ false) }
-    ensures { toldPrice result ≡ byFirst metal (bandsOf bands.now) }
+    requires { (metal ≤ metal_bound) × (any rate_above (bands_of bands.now) ≡ false) }
+    ensures { told_price result ≡ by_first metal (bands_of bands.now) }
 {
     let k = bands.len() / 2;
     let mut i = 0;

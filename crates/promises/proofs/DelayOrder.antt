@@ -21,12 +21,12 @@ use Rattle.lent.specs.Told.{Told, refused, given, only_if}
 use Rattle.lent.specs.Over.{after}
 use Rattle.lent.proofs.AfterLaws.{after-refused}
 use Rattle.plane.specs.declared.Place.{Place}
-use Rattle.plane.specs.Place.{before, samePlace}
+use Rattle.plane.specs.Place.{before, same_place}
 use Rattle.plane.proofs.PlaceOrder.{place-order}
 use Rattle.net.specs.declared.Net.{Net as Counts}
 use Rattle.net.specs.declared.Weighing.{Weighing}
-use Rattle.net.specs.Net.{netOf}
-use Rattle.net.specs.Pins.{pinPlaces, pinEntries}
+use Rattle.net.specs.Net.{net_of}
+use Rattle.net.specs.Pins.{pin_places, pin_entries}
 use Rattle.net.specs.Allowed.{Allowed}
 use Rattle.net.specs.Order.{SamePins, SamePlaces, SameMacros}
 use Rattle.net.proofs.PinLaws.{entry-places}
@@ -37,19 +37,19 @@ use Rattle.terminal.proofs.NumberLaws.{apart-once}
 use Rattle.floats.specs.declared.Technology.{Technology}
 use Rattle.floats.specs.declared.Delay.{Delay}
 use Rattle.floats.specs.Mark.{marked, finites}
-use Rattle.delay.specs.Answer.{delayOf, marksOf, delayed, delayAnswer}
+use Rattle.delay.specs.Answer.{delay_of, marks_of, delayed, delay_answer}
 use Rattle.delay.proofs.LoadLaws.{loads-same}
-use Rattle.delay.proofs.TimedLaws.{same-sorted, marksOf-same}
+use Rattle.delay.proofs.TimedLaws.{same-sorted, marks_of-same}
 use Rattle.answers.specs.Refined.{laid_of}
-use Rattle.answers.specs.Delay.{loadsOf, delaysOf, delayGiven, pinDelays}
+use Rattle.answers.specs.Delay.{loads_of, delays_of, delay_given, pin_delays}
 use Rattle.answers.proofs.AnswerLaws.{only-refused}
-use Rattle.promises.specs.Delay.{SameDelays}
+use Rattle.router.specs.Delay.{SameDelays}
 use Rattle.promises.proofs.EveryOrder.{same-laid}
 
 -- no two pins of an allowed net are at one place
-pub places-once : (w : Weighing) (pins macros : List ℤ) → Allowed (netOf w pins macros) →
-    Once (map (λ (e : Place × ℤ). e.0) (pinEntries pins))
-places-once w pins macros a = rw (entry-places pins) (apart-once (pinPlaces pins) a.pins-apart)
+pub places-once : (w : Weighing) (pins macros : List ℤ) → Allowed (net_of w pins macros) →
+    Once (map (λ (e : Place × ℤ). e.0) (pin_entries pins))
+places-once w pins macros a = rw (entry-places pins) (apart-once (pin_places pins) a.pins-apart)
 
 module _ (w : Weighing) (pins pins' macros macros' : List ℤ) (p : SamePins pins pins') (q : SameMacros macros macros') (driver : Place)
     (t : Technology) where
@@ -62,7 +62,7 @@ module _ (w : Weighing) (pins pins' macros macros' : List ℤ) (p : SamePins pin
   -- Refused
 
   refused-both : (n : ℕ) → checked w pins macros ≡ refused n → SameDelays w pins pins' macros macros' driver t
-  unfolding pinDelays
+  unfolding pin_delays
   refused-both n r = record {
     answer = λ room. only-refused _ _ n r ∙ sym (only-refused _ _ n (sym same_check ∙ r));
     delays = λ room lent.
@@ -72,41 +72,41 @@ module _ (w : Weighing) (pins pins' macros macros' : List ℤ) (p : SamePins pin
   -- Allowed
 
   module _ (net : Counts) (g : checked w pins macros ≡ given net) where
-    a : Allowed (netOf w pins macros)
+    a : Allowed (net_of w pins macros)
     a = (given-allowed w pins macros g).1
 
-    b : Allowed (netOf w pins' macros')
+    b : Allowed (net_of w pins' macros')
     b = (given-allowed w pins' macros' (sym same_check ∙ g)).1
 
-    same-order : sorted before (pinPlaces pins) ≡ sorted before (pinPlaces pins')
+    same-order : sorted before (pin_places pins) ≡ sorted before (pin_places pins')
     same-order =
         ∥∥₁_elim places.order (order-lists-set place-order _ _) λ d.
-        same-sorted (pinPlaces pins) (pinPlaces pins') (perm-among d) (perm-among (Permᴰ.symm d))
+        same-sorted (pin_places pins) (pin_places pins') (perm-among d) (perm-among (Permᴰ.symm d))
 
-    same_load : (x : Place) → loadsOf pins x ≡ loadsOf pins' x
+    same_load : (x : Place) → loads_of pins x ≡ loads_of pins' x
     same_load x =
         ∥∥₁_elim p.order (hedberg (order_same number-order) _ _) λ d.
-        loads-same (pinEntries pins) (pinEntries pins') (places-once w pins macros a) (places-once w pins' macros' b)
+        loads-same (pin_entries pins) (pin_entries pins') (places-once w pins macros a) (places-once w pins' macros' b)
         (perm-among d) (perm-among (Permᴰ.symm d)) x
 
-    same-delays : delaysOf w pins macros driver t ≡ delaysOf w pins' macros' driver t
-    unfolding delaysOf marksOf
+    same-delays : delays_of w pins macros driver t ≡ delays_of w pins' macros' driver t
+    unfolding delays_of marks_of
     same-delays =
-        marksOf-same (laid_of w pins macros) (laid_of w pins macros) (λ x m. m) (λ x m. m) refl (loadsOf pins) (loadsOf pins') same_load t
-        driver (pinPlaces pins) (pinPlaces pins) (λ x m. m) (λ x m. m)
-        ∙ ap₂ (λ (es : List (Place × Place)) (l : List Place). map (λ x. marked (delayOf es (loadsOf pins') t driver x)) l)
+        marks_of-same (laid_of w pins macros) (laid_of w pins macros) (λ x m. m) (λ x m. m) refl (loads_of pins) (loads_of pins') same_load t
+        driver (pin_places pins) (pin_places pins) (λ x m. m) (λ x m. m)
+        ∙ ap₂ (λ (es : List (Place × Place)) (l : List Place). map (λ x. marked (delay_of es (loads_of pins') t driver x)) l)
         (same-laid w pins pins' macros macros' places q net g) same-order
 
-    same-given : (room : ℕ) → delayGiven w pins macros driver t room ≡ delayGiven w pins' macros' driver t room
-    unfolding delayGiven delayAnswer delaysOf
+    same-given : (room : ℕ) → delay_given w pins macros driver t room ≡ delay_given w pins' macros' driver t room
+    unfolding delay_given delay_answer delays_of
     same-given room =
-        ap (λ (n : ℕ). delayed room n t (any (samePlace driver) (pinPlaces pins)) (delaysOf w pins macros driver t))
+        ap (λ (n : ℕ). delayed room n t (any (same_place driver) (pin_places pins)) (delays_of w pins macros driver t))
         (length-perm _ _ places.order)
-        ∙ ap₂ (λ (f : Bool) (l : List Delay). delayed room (length (pinPlaces pins')) t f l)
-        (any-perm (samePlace driver) _ _ places.order) same-delays
+        ∙ ap₂ (λ (f : Bool) (l : List Delay). delayed room (length (pin_places pins')) t f l)
+        (any-perm (same_place driver) _ _ places.order) same-delays
 
-    same-told : (room : ℕ) → pinDelays w pins macros driver t room ≡ pinDelays w pins' macros' driver t room
-    unfolding pinDelays
+    same-told : (room : ℕ) → pin_delays w pins macros driver t room ≡ pin_delays w pins' macros' driver t room
+    unfolding pin_delays
     same-told room = ap₂ only_if same_check (same-given room)
 
     given_both : SameDelays w pins pins' macros macros' driver t

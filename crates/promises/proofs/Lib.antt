@@ -1,7 +1,4 @@
 pub mod PriceLaws
-pub mod SlidPromise
-pub mod DistancePromise
-pub mod DelayPromise
 pub mod BoughtLaws
 pub mod BestPromise
 pub mod BoundPromise
@@ -11,5 +8,3 @@ pub mod DelayOrder
 pub mod EverySite
 pub mod Published
 pub mod FirstRelease
-pub mod FilePromise
-pub mod AllPromises

@@ -11,10 +11,10 @@ use Rattle.net.specs.declared.Weighing.{Weighing}
 use Rattle.checks.specs.Check.{checked}
 use Rattle.price.specs.Price.{priced}
 use Rattle.price.proofs.LongerLaws as longer
-use Rattle.answers.specs.Refined.{metalOf}
-use Rattle.answers.specs.Price.{netPrice}
+use Rattle.answers.specs.Refined.{metal_of}
+use Rattle.answers.specs.Price.{net_price}
 use Rattle.answers.proofs.AnswerLaws.{only-given}
-use Rattle.promises.specs.Price.{NeverLess}
+use Rattle.router.specs.Price.{NeverLess}
 
 -- an answer that is given is the next one's
 given-past : {A B : Type 0} (t : Told A) (next : Told B) (b : B) → only_if t next ≡ given b → next ≡ given b
@@ -25,14 +25,14 @@ given-past (given a) next b e = e
 module _ (w : Weighing) (pins macros : List ℤ) where
   -- D1b: an allowed net gets what the bands say of its metal
   pub price-allowed : {net : Counts} (bands : List ℕ) → checked w pins macros ≡ given net
-      → netPrice w pins macros bands ≡ priced (metalOf w pins macros) bands
-  unfolding netPrice
-  price-allowed {net} bands g = only-given (checked w pins macros) (priced (metalOf w pins macros) bands) net g
+      → net_price w pins macros bands ≡ priced (metal_of w pins macros) bands
+  unfolding net_price
+  price-allowed {net} bands g = only-given (checked w pins macros) (priced (metal_of w pins macros) bands) net g
 
   -- a charge is what the bands say
-  pub charged-by : (bands : List ℕ) (h : ℕ) → netPrice w pins macros bands ≡ given h → priced (metalOf w pins macros) bands ≡ given h
-  unfolding netPrice
-  charged-by bands h e = given-past (checked w pins macros) (priced (metalOf w pins macros) bands) h e
+  pub charged-by : (bands : List ℕ) (h : ℕ) → net_price w pins macros bands ≡ given h → priced (metal_of w pins macros) bands ≡ given h
+  unfolding net_price
+  charged-by bands h e = given-past (checked w pins macros) (priced (metal_of w pins macros) bands) h e
 
 -- B6: by every list, with no premise
 pub never_less : (bands : List ℕ) → NeverLess bands

@@ -16,19 +16,19 @@ use Rattle.plane.proofs.Fits.{PlaceFits}
 use Rattle.slide.specs.declared.Side.{Side}
 use Rattle.slide.specs.Side.{along, across, moved}
 use Rattle.slide.specs.Bend.{Edge}
-use Rattle.slide.specs.Bar.{ahead, far, long, shortest, farEnds}
-use Rattle.slide.specs.Sweep.{onlyIn}
-use Rattle.straight.specs.Table.{run, firstEnd, edge_at, edgesIn}
+use Rattle.slide.specs.Bar.{ahead, far, long, shortest, far_ends}
+use Rattle.slide.specs.Sweep.{only_in}
+use Rattle.straight.specs.Table.{run, first_end, edge_at, edges_in}
 use Rattle.reach.specs.declared.Bar.{Bar}
 use Rattle.turned.specs.declared.Seen.{Seen}
 use Rattle.turned.specs.declared.Spot.{Spot}
 use Rattle.turned.specs.Steps.{up_to}
-use Rattle.turned.specs.Turned.{spot, View, onIt, seenEdge, ahead_of, longOf, sameSpot}
-use Rattle.reach.specs.Passing.{low_of, high_of, endsAt, isFar, exempt}
+use Rattle.turned.specs.Turned.{spot, View, on_it, seen_edge, ahead_of, long_of, same_spot}
+use Rattle.reach.specs.Passing.{low_of, high_of, ends_at, is_far, exempt}
 use Rattle.turned.proofs.SeenLaws.{across-high, along-high, Sees, ahead-is, long-is}
 use Rattle.turned.proofs.StepLaws.{run_more}
-use Rattle.reach.proofs.CornerLaws.{lowSpot, highSpot, only-is}
-use Rattle.reach.proofs.PassLaws.{Stands, asSeen, along-M, beside-le, across-le, top-is, high-M}
+use Rattle.reach.proofs.CornerLaws.{low_spot, high_spot, only-is}
+use Rattle.reach.proofs.PassLaws.{Stands, as_seen, along-M, beside-le, across-le, top-is, high-M}
 
 -- Scans
 
@@ -77,23 +77,23 @@ up-false f (suc k) h = ap₂ ◌||◌ (up-false f k (λ j l. h j (omega arith)))
 
 -- Spots
 
-same-spots : (a b : Spot) → sameSpot a b ≡ true → a ≡ b
-unfolding sameSpot
+same-spots : (a b : Spot) → same_spot a b ≡ true → a ≡ b
+unfolding same_spot
 same-spots a b e =
     ap₂ (λ (i j : ℕ). let r : Spot = record { along = i; across = j } in r)
     (eqb-true a.along b.along (and_left _ (eqb a.across b.across) e))
     (eqb-true a.across b.across (and_right (eqb a.along b.along) _ e))
 
 -- the spot of the end that is not on the bar
-abbrev farSpot : Seen → Spot
-farSpot t = elim t.first as (λ u. Spot) [ true ↦ t.to | false ↦ t.from ]
+abbrev far_spot : Seen → Spot
+far_spot t = elim t.first as (λ u. Spot) [ true ↦ t.to | false ↦ t.from ]
 
-ends_as : (t : Seen) (n : ℕ) (c : Spot) → endsAt t n c ≡ ((ahead_of t && eqb (longOf t) n) && sameSpot c (farSpot t))
-unfolding endsAt
+ends_as : (t : Seen) (n : ℕ) (c : Spot) → ends_at t n c ≡ ((ahead_of t && eqb (long_of t) n) && same_spot c (far_spot t))
+unfolding ends_at
 ends_as t n c =
-    by (ahead_of t && eqb (longOf t) n)
-    (λ e. by t.first (λ g. rw (endsAt, e, g) refl) (λ g. rw (endsAt, e, g) refl))
-    (λ e. rw (endsAt, e) refl)
+    by (ahead_of t && eqb (long_of t) n)
+    (λ e. by t.first (λ g. rw (ends_at, e, g) refl) (λ g. rw (ends_at, e, g) refl))
+    (λ e. rw (ends_at, e) refl)
 
 twice : (p q : Bool) → (p && (q && q)) ≡ (p && q)
 twice p true = refl
@@ -112,13 +112,13 @@ module _ {v : View} {n e : ℕ} {on : Place → Bool} (r : Sees v n e on) where
   s = v.side
 
   abbrev T : List Edge
-  T = edgesIn v.points v.keys e
+  T = edges_in v.points v.keys e
 
-  far-spot : (k : ℕ) → k < e → spot s (far on (edge_at v.points v.keys k)) ≡ farSpot (seenEdge v k)
+  far-spot : (k : ℕ) → k < e → spot s (far on (edge_at v.points v.keys k)) ≡ far_spot (seen_edge v k)
   unfolding far
   far-spot k h =
-      let q = r.is (firstEnd (get_or v.keys k 0)) (r.within k h).0 in
-      by (onIt v (firstEnd (get_or v.keys k 0)))
+      let q = r.is (first_end (get_or v.keys k 0)) (r.within k h).0 in
+      by (on_it v (first_end (get_or v.keys k 0)))
       (λ g. rw (far, q ∙ g) (sym (rw g refl)))
       (λ g. rw (far, q ∙ g) (sym (rw g refl)))
 
@@ -131,9 +131,9 @@ module _ {v : View} {n e : ℕ} {on : Place → Bool} (r : Sees v n e on) where
 
   -- a test of the far ends that is one of their spots
   pub far-any : (p : Place → Bool) (g : Spot → Bool) → ((q : Place) → PlaceFits q → p q ≡ g (spot s q))
-      → any p (farEnds s on T) ≡ up_to
-      (λ k t. t || ((ahead_of (seenEdge v k) && eqb (longOf (seenEdge v k)) (shortest s on T)) && g (farSpot (seenEdge v k)))) e false
-  unfolding farEnds
+      → any p (far_ends s on T) ≡ up_to
+      (λ k t. t || ((ahead_of (seen_edge v k) && eqb (long_of (seen_edge v k)) (shortest s on T)) && g (far_spot (seen_edge v k)))) e false
+  unfolding far_ends
   far-any p g is =
       any-those p (far on) (λ y. eqb (long s y) (shortest s on T)) (ahead s on) T
       ∙ any-run _ (edge_at v.points v.keys) _ e
@@ -147,19 +147,19 @@ module _ {v : View} {n e : ℕ} {on : Place → Bool} (r : Sees v n e on) where
     abbrev box : Place
     box = moved s b.most L
 
-    low-is : low_of b (asSeen s on x) ≡ lowSpot s x F box
+    low-is : low_of b (as_seen s on x) ≡ low_spot s x F box
     low-is = rw st.first refl
 
-    high_is : high_of b (asSeen s on x) ≡ highSpot s x F box
+    high_is : high_of b (as_seen s on x) ≡ high_spot s x F box
     high_is = rw (st.last, st.top, top-is st on x f0 f1, along-M st on x f0 f1) refl
 
     abbrev lo : Spot
-    lo = lowSpot s x F box
+    lo = low_spot s x F box
 
     abbrev hi : Spot
-    hi = highSpot s x F box
+    hi = high_spot s x F box
 
-    only-spots : (q : Place) → PlaceFits q → onlyIn x (F, box) q ≡ (sameSpot lo (spot s q) && sameSpot hi (spot s q))
+    only-spots : (q : Place) → PlaceFits q → only_in x (F, box) q ≡ (same_spot lo (spot s q) && same_spot hi (spot s q))
     only-spots q f =
         only-is s x F box q (beside-le st on x f0 f1) (across-le st on x f0 f1)
         (along-high s _ f0, across-high s _ f0) (along-high s _ f1, across-high s _ f1)
@@ -169,29 +169,29 @@ module _ {v : View} {n e : ℕ} {on : Place → Bool} (r : Sees v n e on) where
 
     -- the edge of number j is a shortest one ahead; and then both corners are its far end, or the first of them is
     abbrev hangs-near : ℕ → Bool
-    hangs-near j = ahead_of (seenEdge v j) && eqb (longOf (seenEdge v j)) (shortest s on T)
+    hangs-near j = ahead_of (seen_edge v j) && eqb (long_of (seen_edge v j)) (shortest s on T)
 
     abbrev both_at : ℕ → Bool
-    both_at j = hangs-near j && (sameSpot lo (farSpot (seenEdge v j)) && sameSpot hi (farSpot (seenEdge v j)))
+    both_at j = hangs-near j && (same_spot lo (far_spot (seen_edge v j)) && same_spot hi (far_spot (seen_edge v j)))
 
     abbrev first-at : ℕ → Bool
-    first-at j = endsAt (seenEdge v j) (shortest s on T) lo
+    first-at j = ends_at (seen_edge v j) (shortest s on T) lo
 
     one-corner : lo ≡ hi → (j : ℕ) → both_at j ≡ first-at j
     one-corner k j =
-        ap (λ (c : Spot). hangs-near j && (sameSpot lo (farSpot (seenEdge v j)) && sameSpot c (farSpot (seenEdge v j)))) (sym k)
-        ∙ twice (hangs-near j) (sameSpot lo (farSpot (seenEdge v j)))
-        ∙ sym (ends_as (seenEdge v j) (shortest s on T) lo)
+        ap (λ (c : Spot). hangs-near j && (same_spot lo (far_spot (seen_edge v j)) && same_spot c (far_spot (seen_edge v j)))) (sym k)
+        ∙ twice (hangs-near j) (same_spot lo (far_spot (seen_edge v j)))
+        ∙ sym (ends_as (seen_edge v j) (shortest s on T) lo)
 
-    two-corners : sameSpot lo hi ≡ false → (j : ℕ) → both_at j ≡ false
+    two-corners : same_spot lo hi ≡ false → (j : ℕ) → both_at j ≡ false
     two-corners g j =
-        never (hangs-near j) (sameSpot lo (farSpot (seenEdge v j))) (sameSpot hi (farSpot (seenEdge v j)))
-        (λ a c. differ (ap (λ (i : Spot). sameSpot lo i) (same-spots hi (farSpot (seenEdge v j)) c) ∙ a) g)
+        never (hangs-near j) (same_spot lo (far_spot (seen_edge v j))) (same_spot hi (far_spot (seen_edge v j)))
+        (λ a c. differ (ap (λ (i : Spot). same_spot lo i) (same-spots hi (far_spot (seen_edge v j)) c) ∙ a) g)
 
-    pub exempt-is : any (onlyIn x (F, box)) (farEnds s on T) ≡ exempt v e b (asSeen s on x)
-    unfolding exempt isFar
+    pub exempt-is : any (only_in x (F, box)) (far_ends s on T) ≡ exempt v e b (as_seen s on x)
+    unfolding exempt is_far
     exempt-is =
-        far-any (onlyIn x (F, box)) (λ c. sameSpot lo c && sameSpot hi c) only-spots
-        ∙ by (sameSpot lo hi)
+        far-any (only_in x (F, box)) (λ c. same_spot lo c && same_spot hi c) only-spots
+        ∙ by (same_spot lo hi)
         (λ g. up_same both_at first-at e (λ j h. one-corner (same-spots lo hi g) j) ∙ sym (rw (low-is, high_is, g, most) refl))
         (λ g. up-false both_at e (λ j h. two-corners g j) ∙ sym (rw (low-is, high_is, g) refl))

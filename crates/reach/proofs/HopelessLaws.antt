@@ -12,22 +12,22 @@ use lib.Dec.{ltb, leb}
 use lib.IntN.{ℤ}
 use lib.ListN.{length}
 use Rattle.lists.proofs.TestLaws.{by, either, not-true, and_left, and_right, and_both}
-use Rattle.plane.specs.Flat.{macroAt}
+use Rattle.plane.specs.Flat.{macro_at}
 use Rattle.turned.specs.declared.Face.{Face}
 use Rattle.turned.specs.declared.Seen.{Seen}
 use Rattle.turned.specs.Steps.{up_to}
-use Rattle.turned.specs.Turned.{View, seenEdge, seenPoint, face}
+use Rattle.turned.specs.Turned.{View, seen_edge, seen_point, face}
 use Rattle.reach.specs.declared.Bar.{Bar}
 use Rattle.reach.specs.declared.Way.{Way}
 use Rattle.reach.specs.Passing.{
   own_of,
-  frontOf,
+  front_of,
   way,
   past,
-  pastPoints,
-  pastEdges,
-  pastFace,
-  pastMacros,
+  past_points,
+  past_edges,
+  past_face,
+  past_macros,
   reached,
   way_of,
 }
@@ -52,21 +52,21 @@ module _ (need : ℕ) where
   past-barred : (v : View) (e : ℕ) (b : Bar) (t : Seen) (w : Way) → w.free ≡ false → (past v e b t w).free ≡ false
   unfolding past
   past-barred v e b t w f =
-      by (own_of t || not (frontOf b t)) (λ h. rw (past, h) f) (λ h. rw (past, h) (rw f f))
+      by (own_of t || not (front_of b t)) (λ h. rw (past, h) f) (λ h. rw (past, h) (rw f f))
 
-  face-barred : (b : Bar) (f : Face) (w : Way) → w.free ≡ false → (pastFace b f w).free ≡ false
-  unfolding pastFace
-  face-barred b f w g = by (faced b f w) (λ h. rw (pastFace, h) (rw g refl)) (λ h. rw (pastFace, h) g)
+  face-barred : (b : Bar) (f : Face) (w : Way) → w.free ≡ false → (past_face b f w).free ≡ false
+  unfolding past_face
+  face-barred b f w g = by (faced b f w) (λ h. rw (past_face, h) (rw g refl)) (λ h. rw (past_face, h) g)
 
   pub past-hopeless : (v : View) (e : ℕ) (b : Bar) (t : Seen) (w : Way) → hopeless need w ≡ true → hopeless need (past v e b t w) ≡ true
   past-hopeless v e b t w h =
       let r = barred w h in
       barred-is (past v e b t w) (past-barred v e b t w r.0) (omega (arith, past-less v e b t w, r.1))
 
-  pub face-hopeless : (b : Bar) (f : Face) (w : Way) → hopeless need w ≡ true → hopeless need (pastFace b f w) ≡ true
+  pub face-hopeless : (b : Bar) (f : Face) (w : Way) → hopeless need w ≡ true → hopeless need (past_face b f w) ≡ true
   face-hopeless b f w h =
       let r = barred w h in
-      barred-is (pastFace b f w) (face-barred b f w r.0) (omega (arith, face-less b f w, r.1))
+      barred-is (past_face b f w) (face-barred b f w r.0) (omega (arith, face-less b f w, r.1))
 
   -- past all of a kind
 
@@ -109,17 +109,17 @@ module _ (need : ℕ) where
 
   -- past macros, points and edges
 
-  module _ (ms : List ℤ) (b : Bar) (k : ℕ) (w v : Way) (at : v ≡ up_to (λ i. pastFace b (face b.side (macroAt ms i))) k w)
+  module _ (ms : List ℤ) (b : Bar) (k : ℕ) (w v : Way) (at : v ≡ up_to (λ i. past_face b (face b.side (macro_at ms i))) k w)
       (h : k ≤ length ms / 4) where
     abbrev one-face : ℕ → Way → Way
-    one-face i = pastFace b (face b.side (macroAt ms i))
+    one-face i = past_face b (face b.side (macro_at ms i))
 
-    pub macros-end : length ms / 4 ≤ k → Alike need w v (pastMacros ms b w)
-    unfolding pastMacros
+    pub macros-end : length ms / 4 ≤ k → Alike need w v (past_macros ms b w)
+    unfolding past_macros
     macros-end l = alike_end one-face (λ i x. face-hopeless b _ x) (λ i x. face-less b _ x) k (length ms / 4) w v at h l
 
-    pub macros-stop : hopeless need v ≡ true → Alike need w v (pastMacros ms b w)
-    unfolding pastMacros
+    pub macros-stop : hopeless need v ≡ true → Alike need w v (past_macros ms b w)
+    unfolding past_macros
     macros-stop t = alike-stop one-face (λ i x. face-hopeless b _ x) (λ i x. face-less b _ x) k (length ms / 4) w v at h t
 
   module _ (u : View) (e : ℕ) (b : Bar) where
@@ -132,31 +132,31 @@ module _ (need : ℕ) where
     less : (t : ℕ → Seen) (i : ℕ) (w : Way) → (one_seen t i w).stop ≤ w.stop
     less t i w = past-less u e b (t i) w
 
-    module _ (n k : ℕ) (w v : Way) (at : v ≡ up_to (λ i. past u e b (seenPoint u i)) k w) (h : k ≤ n) where
-      pub points-end : n ≤ k → Alike need w v (pastPoints u n e b w)
-      unfolding pastPoints
-      points-end l = alike_end (one_seen (seenPoint u)) (keeps (seenPoint u)) (less (seenPoint u)) k n w v at h l
+    module _ (n k : ℕ) (w v : Way) (at : v ≡ up_to (λ i. past u e b (seen_point u i)) k w) (h : k ≤ n) where
+      pub points-end : n ≤ k → Alike need w v (past_points u n e b w)
+      unfolding past_points
+      points-end l = alike_end (one_seen (seen_point u)) (keeps (seen_point u)) (less (seen_point u)) k n w v at h l
 
-      pub points-stop : hopeless need v ≡ true → Alike need w v (pastPoints u n e b w)
-      unfolding pastPoints
-      points-stop t = alike-stop (one_seen (seenPoint u)) (keeps (seenPoint u)) (less (seenPoint u)) k n w v at h t
+      pub points-stop : hopeless need v ≡ true → Alike need w v (past_points u n e b w)
+      unfolding past_points
+      points-stop t = alike-stop (one_seen (seen_point u)) (keeps (seen_point u)) (less (seen_point u)) k n w v at h t
 
-    module _ (k : ℕ) (w v : Way) (at : v ≡ up_to (λ i. past u e b (seenEdge u i)) k w) (h : k ≤ e) where
-      pub edges-end : e ≤ k → Alike need w v (pastEdges u e b w)
-      unfolding pastEdges
-      edges-end l = alike_end (one_seen (seenEdge u)) (keeps (seenEdge u)) (less (seenEdge u)) k e w v at h l
+    module _ (k : ℕ) (w v : Way) (at : v ≡ up_to (λ i. past u e b (seen_edge u i)) k w) (h : k ≤ e) where
+      pub edges-end : e ≤ k → Alike need w v (past_edges u e b w)
+      unfolding past_edges
+      edges-end l = alike_end (one_seen (seen_edge u)) (keeps (seen_edge u)) (less (seen_edge u)) k e w v at h l
 
-      pub edges-stop : hopeless need v ≡ true → Alike need w v (pastEdges u e b w)
-      unfolding pastEdges
-      edges-stop t = alike-stop (one_seen (seenEdge u)) (keeps (seenEdge u)) (less (seenEdge u)) k e w v at h t
+      pub edges-stop : hopeless need v ≡ true → Alike need w v (past_edges u e b w)
+      unfolding past_edges
+      edges-stop t = alike-stop (one_seen (seen_edge u)) (keeps (seen_edge u)) (less (seen_edge u)) k e w v at h t
 
     -- the whole way
-    pub way-alike : (n : ℕ) (ms : List ℤ) (w x y : Way) → Alike need (way b.most true) w (pastMacros ms b (way b.most true)) →
-        Alike need w x (pastPoints u n e b w) → Alike need x y (pastEdges u e b x) → Alike need (way b.most true) y (way_of u n e ms b)
-    unfolding way_of pastPoints pastEdges
+    pub way-alike : (n : ℕ) (ms : List ℤ) (w x y : Way) → Alike need (way b.most true) w (past_macros ms b (way b.most true)) →
+        Alike need w x (past_points u n e b w) → Alike need x y (past_edges u e b x) → Alike need (way b.most true) y (way_of u n e ms b)
+    unfolding way_of past_points past_edges
     way-alike n ms w x y p q r =
-        alike_then (one_seen (seenEdge u)) (keeps (seenEdge u)) (less (seenEdge u)) e _ x _ y
-        (alike_then (one_seen (seenPoint u)) (keeps (seenPoint u)) (less (seenPoint u)) n _ w _ x p q) r
+        alike_then (one_seen (seen_edge u)) (keeps (seen_edge u)) (less (seen_edge u)) e _ x _ y
+        (alike_then (one_seen (seen_point u)) (keeps (seen_point u)) (less (seen_point u)) n _ w _ x p q) r
 
   -- the distance
   pub near-reached : (b : Bar) (w v x : Way) (d : ℕ) → Alike need w v x → d ≡ reached b v → Near need d (reached b x)

@@ -11,17 +11,17 @@ use lib.IntN.{ℤ, pos, ◌+ℤ◌}
 use lib.ListN.{length, drop}
 use lib.Signed.{lt_z}
 use Rattle.lists.proofs.TestLaws.{by, and_left, and_right, and_both}
-use Rattle.signed.proofs.SideLaws.{one_side, ltZ-true, lt-ltZ, add-sides, up_pos, down_pos}
+use Rattle.signed.proofs.SideLaws.{one_side, z_lt-true, lt-z_lt, add-sides, up_pos, down_pos}
 use Rattle.plane.specs.declared.Place.{Place}
 use Rattle.plane.specs.declared.Macro.{Macro}
-use Rattle.plane.specs.Flat.{macrosOf, macroAt}
+use Rattle.plane.specs.Flat.{macros_of, macro_at}
 use Rattle.plane.specs.Macro.{meets}
 use Rattle.plane.proofs.Fits.{MacroFits}
 use Rattle.plane.proofs.FlatLaws.{macros-next, macros-end}
 use Rattle.slide.specs.declared.Side.{Side}
 use Rattle.slide.specs.declared.Side.TheVariants.{Above, Below, Right, Left}
 use Rattle.slide.specs.Side.{along, across, moved}
-use Rattle.slide.specs.Stop.{starts, finishes, nearSide, farSide, beyond, macroAhead, macroStop}
+use Rattle.slide.specs.Stop.{starts, finishes, near_side, far_side, beyond, macro_ahead, macro_stop}
 use Rattle.slide.proofs.AcrossLaws.{along-moved}
 use Rattle.slide.proofs.LabelledBars.{agree}
 use Rattle.slide.proofs.TouchLaws.{hit, hits}
@@ -29,7 +29,7 @@ use Rattle.straight.specs.Table.{run}
 use Rattle.reach.specs.declared.Bar.{Bar}
 use Rattle.reach.specs.declared.Way.{Way}
 use Rattle.turned.specs.Turned.{raised, face}
-use Rattle.reach.specs.Passing.{way, pastFace}
+use Rattle.reach.specs.Passing.{way, past_face}
 use Rattle.turned.proofs.RaisedLaws.{High, high, high-turned, raised_lt, raised-beyond}
 use Rattle.turned.proofs.SeenLaws.{across-high, along-high}
 use Rattle.reach.proofs.PassLaws.{and-three, Stands, beside-le, across-le, top-is, high-M}
@@ -39,11 +39,11 @@ use Rattle.reach.proofs.PassLaws.{and-three, Stands, beside-le, across-le, top-i
 pub record HighFace (s : Side) (m : Macro) : Type 0 where
   pub starts-high : High (starts s m)
   pub finishes-high : High (finishes s m)
-  pub near-high : High (nearSide s m)
-  pub far-high : High (farSide s m)
+  pub near-high : High (near_side s m)
+  pub far-high : High (far_side s m)
 
 pub face-high : (s : Side) (m : Macro) → MacroFits m → HighFace s m
-unfolding starts finishes nearSide farSide
+unfolding starts finishes near_side far_side
 face-high Above m f = record {
   starts-high = high m.left f.left;
   finishes-high = high m.right f.right;
@@ -100,14 +100,14 @@ module _ {s : Side} {b : Bar} {F L : Place} (r : Stands s b F L) (m : Macro) (fi
   on p = true
 
   abbrev d : ℕ
-  d = raised (nearSide s m) + 1 - raised (across s F)
+  d = raised (near_side s m) + 1 - raised (across s F)
 
   abbrev front : Bool
   front = ltb (raised (starts s m)) (raised (along s L))
-      && (ltb (raised (along s F)) (raised (finishes s m)) && ltb (raised (across s F)) (raised (farSide s m)))
+      && (ltb (raised (along s F)) (raised (finishes s m)) && ltb (raised (across s F)) (raised (far_side s m)))
 
-  front-is : macroAhead s F L m ≡ front
-  unfolding macroAhead
+  front-is : macro_ahead s F L m ≡ front
+  unfolding macro_ahead
   front-is =
       ap₂ ◌&&◌
       (ap₂ ◌&&◌ (raised_lt _ _ g.starts-high (along-high s L r.fits-L))
@@ -116,20 +116,20 @@ module _ {s : Side} {b : Bar} {F L : Place} (r : Stands s b F L) (m : Macro) (fi
       ∙ and-three
       (ltb (raised (starts s m)) (raised (along s L)))
       (ltb (raised (along s F)) (raised (finishes s m)))
-      (ltb (raised (across s F)) (raised (farSide s m)))
+      (ltb (raised (across s F)) (raised (far_side s m)))
 
-  beyond-is : beyond (across s F) (nearSide s m +ℤ pos 1) ≡ d
+  beyond-is : beyond (across s F) (near_side s m +ℤ pos 1) ≡ d
   unfolding beyond
   beyond-is =
       raised-beyond _ _ (across-high s F r.fits-F) (next-high _ g.near-high)
-      ∙ ap (λ (i : ℕ). i - raised (across s F)) (raised-next (nearSide s m) g.near-high)
+      ∙ ap (λ (i : ℕ). i - raised (across s F)) (raised-next (near_side s m) g.near-high)
 
   -- it begins before the box ends
-  near-M : lt_z (nearSide s m) (across s M) ≡ not (ltb b.most d)
+  near-M : lt_z (near_side s m) (across s M) ≡ not (ltb b.most d)
   near-M =
       raised_lt _ _ g.near-high (high-M r on (F, F) r.fits-F r.fits-F)
-      ∙ ap (ltb (raised (nearSide s m))) (top-is r on (F, F) r.fits-F r.fits-F)
-      ∙ shifted (raised (nearSide s m)) (raised (across s F)) b.most
+      ∙ ap (ltb (raised (near_side s m))) (top-is r on (F, F) r.fits-F r.fits-F)
+      ∙ shifted (raised (near_side s m)) (raised (across s F)) b.most
     where
       shifted : (i j k : ℕ) → ltb i (j + k) ≡ not (ltb k (i + 1 - j))
       shifted i j k =
@@ -137,8 +137,8 @@ module _ {s : Side} {b : Bar} {F L : Place} (r : Stands s b F L) (m : Macro) (fi
           (λ e. rw e (le-ltb i (j + k) (let z = ltb-true k (i + 1 - j) e in omega (arith, z))))
           (λ e. rw e (lt-ltb i (j + k) (let z = ltb-false k (i + 1 - j) e in omega (arith, z))))
 
-  meets-is : meets F M m ≡ (macroAhead s F L m && not (ltb b.most d))
-  unfolding macroAhead
+  meets-is : meets F M m ≡ (macro_ahead s F L m && not (ltb b.most d))
+  unfolding macro_ahead
   meets-is =
       let bl = beside-le r on (F, F) r.fits-F r.fits-F in
       let al = across-le r on (F, F) r.fits-F r.fits-F in
@@ -147,31 +147,31 @@ module _ {s : Side} {b : Bar} {F L : Place} (r : Stands s b F L) (m : Macro) (fi
       let t = hit s F M m bl al e in
       and_both _ _
       (and_both _ _
-      (and_both _ _ (lt-ltZ _ _ (rw (along-moved s b.most L) at t.beside.1)) (lt-ltZ _ _ t.beside.0))
-      (lt-ltZ _ _ t.ahead.0))
-      (sym near-M ∙ lt-ltZ _ _ t.ahead.1))
+      (and_both _ _ (lt-z_lt _ _ (rw (along-moved s b.most L) at t.beside.1)) (lt-z_lt _ _ t.beside.0))
+      (lt-z_lt _ _ t.ahead.0))
+      (sym near-M ∙ lt-z_lt _ _ t.ahead.1))
       (λ e.
-      let k = and_left (macroAhead s F L m) (not (ltb b.most d)) e in
+      let k = and_left (macro_ahead s F L m) (not (ltb b.most d)) e in
       let p = and_left (lt_z (starts s m) (along s L) && lt_z (along s F) (finishes s m)) _ k in
       hits s F M m bl al
       (record {
         beside = (
-          ltZ-true (along s F) (finishes s m) (and_right (lt_z (starts s m) (along s L)) _ p),
-          rw (along-moved s b.most L) (ltZ-true (starts s m) (along s L) (and_left _ (lt_z (along s F) (finishes s m)) p)),
+          z_lt-true (along s F) (finishes s m) (and_right (lt_z (starts s m) (along s L)) _ p),
+          rw (along-moved s b.most L) (z_lt-true (starts s m) (along s L) (and_left _ (lt_z (along s F) (finishes s m)) p)),
         );
         ahead = (
-          ltZ-true (across s F) (farSide s m) (and_right (lt_z (starts s m) (along s L) && lt_z (along s F) (finishes s m)) _ k),
-          ltZ-true (nearSide s m) (across s M) (near-M ∙ and_right (macroAhead s F L m) (not (ltb b.most d)) e),
+          z_lt-true (across s F) (far_side s m) (and_right (lt_z (starts s m) (along s L) && lt_z (along s F) (finishes s m)) _ k),
+          z_lt-true (near_side s m) (across s M) (near-M ∙ and_right (macro_ahead s F L m) (not (ltb b.most d)) e),
         );
       }))
 
   pub macro-past : (w : Way) → w.stop ≤ b.most
-      → pastFace b (face s m) w ≡ way (min w.stop (macroStop s F L b.most m)) (w.free && not (meets F M m))
-  unfolding pastFace macroStop
+      → past_face b (face s m) w ≡ way (min w.stop (macro_stop s F L b.most m)) (w.free && not (meets F M m))
+  unfolding past_face macro_stop
   macro-past w l =
-      let p : pastFace b (face s m) w ≡ given front w.free w.stop b.most d = rw (r.first, r.last) refl in
-      let a : macroStop s F L b.most m ≡ elim front as (λ u. ℕ) [ true ↦ d | false ↦ b.most ] =
-      rw (macroStop, front-is) (ap (λ (i : ℕ). elim front as (λ u. ℕ) [ true ↦ i | false ↦ b.most ]) beyond-is)
+      let p : past_face b (face s m) w ≡ given front w.free w.stop b.most d = rw (r.first, r.last) refl in
+      let a : macro_stop s F L b.most m ≡ elim front as (λ u. ℕ) [ true ↦ d | false ↦ b.most ] =
+      rw (macro_stop, front-is) (ap (λ (i : ℕ). elim front as (λ u. ℕ) [ true ↦ i | false ↦ b.most ]) beyond-is)
       in
       let c : meets F M m ≡ (front && not (ltb b.most d)) = meets-is ∙ ap (λ (t : Bool). t && not (ltb b.most d)) front-is in
       p
@@ -180,14 +180,14 @@ module _ {s : Side} {b : Bar} {F L : Place} (r : Stands s b F L) (m : Macro) (fi
 
 -- The macros of a flat list, one after the other
 
-macros-from : (s : List ℤ) (k i : ℕ) → i + k ≡ length s / 4 → drop i (macrosOf s) ≡ run (macroAt s) i k
+macros-from : (s : List ℤ) (k i : ℕ) → i + k ≡ length s / 4 → drop i (macros_of s) ≡ run (macro_at s) i k
 unfolding run
 macros-from s zero i e = macros-end s i (omega (arith, e))
 macros-from s (suc k) i e =
     let z : i + 1 ≡ suc i = omega arith in
     macros-next s i (omega (arith, e))
-    ∙ ap (λ (j : ℕ). macroAt s i ∷ drop j (macrosOf s)) z
-    ∙ ap (λ (l : List Macro). macroAt s i ∷ l) (macros-from s k (suc i) (omega (arith, e)))
+    ∙ ap (λ (j : ℕ). macro_at s i ∷ drop j (macros_of s)) z
+    ∙ ap (λ (l : List Macro). macro_at s i ∷ l) (macros-from s k (suc i) (omega (arith, e)))
 
-pub macros-run : (s : List ℤ) → macrosOf s ≡ run (macroAt s) 0 (length s / 4)
+pub macros-run : (s : List ℤ) → macros_of s ≡ run (macro_at s) 0 (length s / 4)
 macros-run s = macros-from s (length s / 4) 0 (omega arith)

@@ -1,9 +1,9 @@
 // How far a bar may move.
 ghost use Rattle.std.specs.Prelude.{◌≡◌, ◌≤◌};
-ghost use Rattle.straight.specs.Table.{straightBound, Small};
+ghost use Rattle.straight.specs.Table.{straight_bound, Small};
 ghost use Rattle.turned.specs.Turned.{face};
-ghost use Rattle.reach.specs.Passing.{own_of, frontOf, low_of, high_of, endsAt, seenBy, isFar};
-ghost use Rattle.reach.specs.Passing.{exempt, past, pastPoints, pastEdges, pastFace, pastMacros, reached, way_of};
+ghost use Rattle.reach.specs.Passing.{own_of, front_of, low_of, high_of, ends_at, seen_by, is_far};
+ghost use Rattle.reach.specs.Passing.{exempt, past, past_points, past_edges, past_face, past_macros, reached, way_of};
 ghost use Rattle.reach.specs.Hopeless.{hopeless, Alike, Near};
 
 use plane::{Macro, Weights};
@@ -51,7 +51,7 @@ fn is_own(e: Seen) -> bool
 
 // It stands ahead of the bar, or across it: a box that grows far enough meets it.
 fn is_in_front(bar: Bar, e: Seen) -> bool
-    ensures { result ≡ frontOf bar e }
+    ensures { result ≡ front_of bar e }
 {
     (turned::smaller(e.from.along, e.to.along) <= bar.last.along)
         & ((bar.first.along <= turned::greater(e.from.along, e.to.along))
@@ -82,7 +82,7 @@ fn high_corner(bar: Bar, e: Seen) -> Spot
 
 // The edge is a shortest one ahead, and c its far end.
 fn ends_at(e: Seen, most: u64, c: Spot) -> bool
-    ensures { result ≡ endsAt e most c }
+    ensures { result ≡ ends_at e most c }
 {
     if turned::is_ahead(e) & (turned::long(e) == most) {
         if e.first {
@@ -101,8 +101,8 @@ fn is_far_end(
     bar: Bar,
     c: Spot,
 ) -> bool
-    requires { (e ≤ straightBound) × (Small keys.now) }
-    ensures { result ≡ isFar (seenBy pts.now keys.now lab.now bar) e bar.most c }
+    requires { (e ≤ straight_bound) × (Small keys.now) }
+    ensures { result ≡ is_far (seen_by pts.now keys.now lab.now bar) e bar.most c }
 {
     let side = bar.side;
     let mut found = false;
@@ -124,8 +124,8 @@ fn is_exempt(
     bar: Bar,
     t: Seen,
 ) -> bool
-    requires { (e ≤ straightBound) × (Small keys.now) }
-    ensures { result ≡ exempt (seenBy pts.now keys.now lab.now bar) e bar t }
+    requires { (e ≤ straight_bound) × (Small keys.now) }
+    ensures { result ≡ exempt (seen_by pts.now keys.now lab.now bar) e bar t }
 {
     let c = low_corner(bar, t);
     if turned::is_same(c, high_corner(bar, t)) {
@@ -144,8 +144,8 @@ fn past(
     t: Seen,
     w: Way,
 ) -> Way
-    requires { (e ≤ straightBound) × (Small keys.now) }
-    ensures { result ≡ past (seenBy pts.now keys.now lab.now bar) e bar t w }
+    requires { (e ≤ straight_bound) × (Small keys.now) }
+    ensures { result ≡ past (seen_by pts.now keys.now lab.now bar) e bar t w }
 {
     if is_own(t) | !is_in_front(bar, t) {
         return w;
@@ -184,8 +184,8 @@ fn past_points(
     need: u64,
     w: Way,
 ) -> Way
-    requires { ((z.points ≤ straightBound) × (z.edges ≤ straightBound)) × (Small keys.now) }
-    ensures { Alike need w result (pastPoints (seenBy pts.now keys.now lab.now bar) z.points
+    requires { ((z.points ≤ straight_bound) × (z.edges ≤ straight_bound)) × (Small keys.now) }
+    ensures { Alike need w result (past_points (seen_by pts.now keys.now lab.now bar) z.points
         z.edges bar w) }
 {
     let side = bar.side;
@@ -211,8 +211,8 @@ fn past_edges(
     need: u64,
     w: Way,
 ) -> Way
-    requires { ((z.points ≤ straightBound) × (z.edges ≤ straightBound)) × (Small keys.now) }
-    ensures { Alike need w result (pastEdges (seenBy pts.now keys.now lab.now bar) z.edges
+    requires { ((z.points ≤ straight_bound) × (z.edges ≤ straight_bound)) × (Small keys.now) }
+    ensures { Alike need w result (past_edges (seen_by pts.now keys.now lab.now bar) z.edges
         bar w) }
 {
     let side = bar.side;
@@ -231,7 +231,7 @@ fn past_edges(
 
 // The way past a macro: the box may touch it and no more.
 fn past_macro(bar: Bar, m: Macro, w: Way) -> Way
-    ensures { result ≡ pastFace bar (face bar.side m) w }
+    ensures { result ≡ past_face bar (face bar.side m) w }
 {
     let side = bar.side;
     let f = turned::face_of(side, m);
@@ -246,7 +246,7 @@ fn past_macro(bar: Bar, m: Macro, w: Way) -> Way
 }
 
 fn past_macros(macros: &[i32], bar: Bar, need: u64, w: Way) -> Way
-    ensures { Alike need w result (pastMacros macros.now bar w) }
+    ensures { Alike need w result (past_macros macros.now bar w) }
 {
     let k = macros.len() / 4;
     let mut way = w;
@@ -272,8 +272,8 @@ pub fn reach(
     bar: Bar,
     need: u64,
 ) -> u64
-    requires { ((z.points ≤ straightBound) × (z.edges ≤ straightBound)) × (Small keys.now) }
-    ensures near { Near need result (reached bar (way_of (seenBy pts.now keys.now lab.now bar) z.points
+    requires { ((z.points ≤ straight_bound) × (z.edges ≤ straight_bound)) × (Small keys.now) }
+    ensures near { Near need result (reached bar (way_of (seen_by pts.now keys.now lab.now bar) z.points
         z.edges macros.now bar)) }
     ensures upper_bound { result ≤ bar.most }
 {

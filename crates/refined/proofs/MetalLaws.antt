@@ -11,7 +11,7 @@ use Rattle.plane.specs.declared.Weights.{Weights}
 use Rattle.plane.specs.Cost.{cost, plain, Positive}
 use Rattle.plane.proofs.CostLaws.{cost-plain, distance-cost}
 use Rattle.joined.specs.Cost.{lengths}
-use Rattle.tree.specs.Edges.{tableEdges}
+use Rattle.tree.specs.Edges.{table_edges}
 use Rattle.tree.proofs.EdgeLaws.{edges-total}
 use Rattle.refiner.specs.Refined.{total}
 use Rattle.refiner.proofs.RoundSound.{total_of}
@@ -24,8 +24,8 @@ length-plain [] = refl
 length-plain (e ∷ es) = ap₂ ◌+◌ (cost-plain e.0 e.1) (length-plain es)
 
 -- so the refiner's sum with these weights is metal
-pub total-plain : (pts : List ℤ) (ks : List ℕ) (e : ℕ) → total plain pts ks e ≡ metal (tableEdges pts ks e)
-total-plain pts ks e = total_of plain pts 0 ks e ∙ sym (edges-total pts ks plain e) ∙ length-plain (tableEdges pts ks e)
+pub total-plain : (pts : List ℤ) (ks : List ℕ) (e : ℕ) → total plain pts ks e ≡ metal (table_edges pts ks e)
+total-plain pts ks e = total_of plain pts 0 ks e ∙ sym (edges-total pts ks plain e) ∙ length-plain (table_edges pts ks e)
 
 -- no weight is below 1
 pub metal-low : (w : Weights) → Positive w → (es : List (Place × Place)) → metal es ≤ lengths (cost w) es

@@ -11,13 +11,13 @@ use lib.ListN.{length, length-append}
 use lib.Seq.{sets}
 use Rattle.lent.specs.Entries.{flat}
 use Rattle.lent.proofs.EntryTable.{flat_append}
-use Rattle.graph.specs.Numbers.{edgeNumbers}
+use Rattle.graph.specs.Numbers.{edge_numbers}
 use Rattle.lists.proofs.TestLaws.{by}
 use Rattle.lists.proofs.EachLaws.{length-each}
 use Rattle.plane.specs.declared.Place.{Place}
 use Rattle.plane.specs.Distance.{distance}
 use Rattle.plane.proofs.DistanceLaws.{distance_none, distance_self}
-use Rattle.refined.specs.Wires.{drawn, bend, wiresOfEdge, wires}
+use Rattle.refined.specs.Wires.{drawn, bend, wires_of_edge, wires}
 use Rattle.refined.proofs.GivenLaws.{sets-append, edges-long}
 
 pub drawn-none : (a b : Place) → distance a b ≡ 0 → drawn a b ≡ []
@@ -44,36 +44,36 @@ pub wires-none : wires [] ≡ []
 unfolding wires
 wires-none = refl
 
-pub wires-more : (e : Place × Place) (es : List (Place × Place)) → wires (e ∷ es) ≡ wiresOfEdge e ++ wires es
+pub wires-more : (e : Place × Place) (es : List (Place × Place)) → wires (e ∷ es) ≡ wires_of_edge e ++ wires es
 unfolding wires
 wires-more e es = refl
 
-pub edge-wires : (a b : Place) → wiresOfEdge (a, b) ≡ drawn a (bend a b) ++ drawn (bend a b) b
-unfolding wiresOfEdge
+pub edge-wires : (a b : Place) → wires_of_edge (a, b) ≡ drawn a (bend a b) ++ drawn (bend a b) b
+unfolding wires_of_edge
 edge-wires a b = refl
 
-pub edge_few : (e : Place × Place) → length (wiresOfEdge e) ≤ 2
-unfolding wiresOfEdge
+pub edge_few : (e : Place × Place) → length (wires_of_edge e) ≤ 2
+unfolding wires_of_edge
 edge_few e =
     let c = bend e.0 e.1 in
     omega (arith, length-append (drawn e.0 c) (drawn c e.1), drawn-few e.0 c, drawn-few c e.1)
 
 -- at most two wires an edge
 pub wires-few : (es : List (Place × Place)) → length (wires es) ≤ 2 * length es
-wires-few es = length-each wiresOfEdge wires wires-none wires-more 2 edge_few es
+wires-few es = length-each wires_of_edge wires wires-none wires-more 2 edge_few es
 
 -- two wires given one behind the other: how many there are then, and the table
 module _ (a b c : Place) (at : c ≡ bend a b) (i j r : ℕ) (t u v : List ℤ) where
-  pub both-put : (j ≡ i + length (drawn a c)) × (u ≡ sets t (i * 4) (flat edgeNumbers (drawn a c)))
-      → (r ≡ j + length (drawn c b)) × (v ≡ sets u (j * 4) (flat edgeNumbers (drawn c b)))
-      → (r ≡ i + length (wiresOfEdge (a, b))) × (v ≡ sets t (i * 4) (flat edgeNumbers (wiresOfEdge (a, b))))
+  pub both-put : (j ≡ i + length (drawn a c)) × (u ≡ sets t (i * 4) (flat edge_numbers (drawn a c)))
+      → (r ≡ j + length (drawn c b)) × (v ≡ sets u (j * 4) (flat edge_numbers (drawn c b)))
+      → (r ≡ i + length (wires_of_edge (a, b))) × (v ≡ sets t (i * 4) (flat edge_numbers (wires_of_edge (a, b))))
   both-put f g =
-      let two : wiresOfEdge (a, b) ≡ drawn a c ++ drawn c b = edge-wires a b ∙ ap (λ (d : Place). drawn a d ++ drawn d b) (sym at) in
-      let past : j * 4 ≡ i * 4 + length (flat edgeNumbers (drawn a c)) = omega (arith, f.0, edges-long (drawn a c)) in
+      let two : wires_of_edge (a, b) ≡ drawn a c ++ drawn c b = edge-wires a b ∙ ap (λ (d : Place). drawn a d ++ drawn d b) (sym at) in
+      let past : j * 4 ≡ i * 4 + length (flat edge_numbers (drawn a c)) = omega (arith, f.0, edges-long (drawn a c)) in
       rw two (
         omega (arith, f.0, g.0, length-append (drawn a c) (drawn c b)),
         g.1
-            ∙ ap (λ (l : List ℤ). sets l (j * 4) (flat edgeNumbers (drawn c b))) f.1
-            ∙ sets-append t (i * 4) (j * 4) (flat edgeNumbers (drawn a c)) (flat edgeNumbers (drawn c b)) past
-            ∙ ap (sets t (i * 4)) (sym (flat_append edgeNumbers (drawn a c) (drawn c b))),
+            ∙ ap (λ (l : List ℤ). sets l (j * 4) (flat edge_numbers (drawn c b))) f.1
+            ∙ sets-append t (i * 4) (j * 4) (flat edge_numbers (drawn a c)) (flat edge_numbers (drawn c b)) past
+            ∙ ap (sets t (i * 4)) (sym (flat_append edge_numbers (drawn a c) (drawn c b))),
       )

@@ -14,7 +14,7 @@ use Rattle.lists.specs.Member.{◌∈◌}
 use Rattle.lists.specs.Total.{total}
 use Rattle.lists.proofs.TestLaws.{either}
 use Rattle.lists.proofs.EachLaws.{of-each}
-use Rattle.signed.proofs.SideLaws.{lt-ltZ}
+use Rattle.signed.proofs.SideLaws.{lt-z_lt}
 use Rattle.plane.specs.declared.Place.{Place}
 use Rattle.plane.specs.Place.{place, before}
 use Rattle.plane.specs.Distance.{distance}
@@ -24,7 +24,7 @@ use Rattle.plane.specs.Box.{InBox}
 use Rattle.plane.proofs.BoxLaws.{first-in-box, last-in-box, clear_within, distance-through}
 use Rattle.joined.specs.Cost.{lengths}
 use Rattle.joined.proofs.CostLaws.{lengths-append}
-use Rattle.refined.specs.Wires.{drawn, bend, wiresOfEdge, wires}
+use Rattle.refined.specs.Wires.{drawn, bend, wires_of_edge, wires}
 use Rattle.refined.specs.Promise.{Horizontal, Vertical, Leads, EdgeWires, Wired}
 use Rattle.refined.proofs.WireLaws.{drawn-cases, drawn-few, edge-wires, wires-none, wires-more, wires-few}
 
@@ -64,15 +64,15 @@ module _ (a b : Place) where
   rightward h w i =
       let r = of-drawn a (bend a b) w i in
       subst (λ (v : Place × Place). lt_z v.0.x v.1.x ≡ true) (sym r.0)
-      (either (λ l. lt-ltZ a.x b.x l) (λ e. absurd (r.1 (ap (λ (x : ℤ). place x a.y) e.0))) (before-true a b h))
+      (either (λ l. lt-z_lt a.x b.x l) (λ e. absurd (r.1 (ap (λ (x : ℤ). place x a.y) e.0))) (before-true a b h))
 
-  from-to : Leads a (wiresOfEdge (a, b)) b
+  from-to : Leads a (wires_of_edge (a, b)) b
   from-to =
       rw (edge-wires a b)
       (drawn-leads a (bend a b) b (drawn (bend a b) b)
       (subst (λ (ws : List (Place × Place)). Leads (bend a b) ws b) (append-nil (drawn (bend a b) b)) (drawn-leads (bend a b) b b [] refl)))
 
-  long : lengths distance (wiresOfEdge (a, b)) ≡ distance a b
+  long : lengths distance (wires_of_edge (a, b)) ≡ distance a b
   long =
       let c = bend a b in
       ap (lengths distance) (edge-wires a b)
@@ -84,12 +84,12 @@ module _ (a b : Place) where
   ends-in-box : (c d : Place) → InBox c a b → InBox d a b → (w : Place × Place) → w ∈ drawn c d → InBox w.0 a b × InBox w.1 a b
   ends-in-box c d h k w i = subst (λ (v : Place × Place). InBox v.0 a b × InBox v.1 a b) (sym (of-drawn c d w i).0) (h, k)
 
-  inside : (w : Place × Place) → w ∈ wiresOfEdge (a, b) → InBox w.0 a b × InBox w.1 a b
+  inside : (w : Place × Place) → w ∈ wires_of_edge (a, b) → InBox w.0 a b × InBox w.1 a b
   inside w i =
       either (ends-in-box a (bend a b) (first-in-box a b) bend-in-box w) (ends-in-box (bend a b) b bend-in-box (last-in-box a b) w)
       (Memᴰ.append_cases (drawn a (bend a b)) (subst (λ (l : List (Place × Place)). w ∈ l) (edge-wires a b) i))
 
-pub edge-wired : (e : Place × Place) → EdgeWires e (wiresOfEdge e)
+pub edge-wired : (e : Place × Place) → EdgeWires e (wires_of_edge e)
 edge-wired e =
     let a = e.0 in
     let b = e.1 in
@@ -114,10 +114,10 @@ unfolding lengths total
 wires-long [] = ap (lengths distance) wires-none
 wires-long (e ∷ es) =
     ap (lengths distance) (wires-more e es)
-    ∙ lengths-append distance (wiresOfEdge e) (wires es)
+    ∙ lengths-append distance (wires_of_edge e) (wires es)
     ∙ ap₂ ◌+◌ (long e.0 e.1) (wires-long es)
 
-wires-axis : (e w : Place × Place) → w ∈ wiresOfEdge e → Horizontal w ⊎ Vertical w
+wires-axis : (e w : Place × Place) → w ∈ wires_of_edge e → Horizontal w ⊎ Vertical w
 wires-axis e w i =
     let a = e.0 in
     let b = e.1 in
@@ -127,10 +127,10 @@ wires-axis e w i =
 pub wired : (es : List (Place × Place)) → Wired es (wires es)
 wired es = record {
   few = wires-few es;
-  axis = λ w i. let p = of-each wiresOfEdge wires wires-none wires-more es i in wires-axis p.entry w p.holds;
+  axis = λ w i. let p = of-each wires_of_edge wires wires-none wires-more es i in wires-axis p.entry w p.holds;
   long = wires-long es;
   free =
       λ ms h w i.
-      let p = of-each wiresOfEdge wires wires-none wires-more es i in
+      let p = of-each wires_of_edge wires wires-none wires-more es i in
       (edge-wired p.entry).free ms (h p.entry p.stands) w p.holds;
 }

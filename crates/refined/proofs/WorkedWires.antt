@@ -8,13 +8,13 @@ use Rattle.lent.specs.Entries.{flat}
 use Rattle.plane.specs.declared.Place.{Place}
 use Rattle.plane.specs.Place.{place}
 use Rattle.plane.specs.Distance.{apart, distance}
-use Rattle.graph.specs.Numbers.{edgeNumbers}
-use Rattle.refined.specs.Wires.{drawn, wiresOfEdge, wires}
+use Rattle.graph.specs.Numbers.{edge_numbers}
+use Rattle.refined.specs.Wires.{drawn, wires_of_edge, wires}
 
 -- to unfold this is to unfold all that it rests on
 unfoldable pub given : List (Place × Place) → List ℤ
-unfolding apart distance flat drawn wiresOfEdge wires
-given es = flat edgeNumbers (wires es)
+unfolding apart distance flat drawn wires_of_edge wires
+given es = flat edge_numbers (wires es)
 
 abbrev at : ℕ → ℕ → Place
 at x y = place (pos x) (pos y)

@@ -5,10 +5,10 @@
 -- cost, as the refiner chooses; wires are metal, and measured by plain length.
 --
 --   Metal      metal es                    R22: the metal to lay for edges, their plain lengths added up
---   Ground     groundOf net                the net's spanning graph as the tables hold it, which its tree is refined on
+--   Ground     ground_of net                the net's spanning graph as the tables hold it, which its tree is refined on
 --   Wires      drawn a b                   the wire from a to b, unless its length is zero
 --              bend a b                    where the horizontal wire ends and the vertical one begins
---              wiresOfEdge e, wires es     the wires of an edge; of edges one after the other
+--              wires_of_edge e, wires es     the wires of an edge; of edges one after the other
 --   Promise    Horizontal, Vertical        along one axis
 --              Leads a ws b                from a to b, each wire beginning where the one before ended
 --              EdgeWires, Wired            what is promised of an edge's wires; of the wires of edges

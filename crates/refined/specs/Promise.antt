@@ -9,13 +9,13 @@ use Rattle.plane.specs.Place.{before}
 use Rattle.plane.specs.Distance.{distance}
 use Rattle.plane.specs.Macro.{clear}
 use Rattle.plane.specs.Box.{InBox}
-use Rattle.net.specs.Net.{Net, costIn}
+use Rattle.net.specs.Net.{Net, cost_in}
 use Rattle.joined.specs.Cost.{lengths}
 use Rattle.joined.specs.OneTree.{OneTree}
-use Rattle.graph.specs.Edges.{beforeEdge}
+use Rattle.graph.specs.Edges.{before_edge}
 use Rattle.tree.specs.Table.{Tree}
 use Rattle.beside.specs.Beside.{Ground}
-use Rattle.tree.specs.Edges.{treeEdges}
+use Rattle.tree.specs.Edges.{tree_edges}
 
 -- Wires
 
@@ -69,9 +69,9 @@ pub record Given (net : Net) (g : Ground) (t : Tree) (es : List (Place × Place)
   pub free : (e : Place × Place) → e ∈ es → clear e.0 e.1 net.macros ≡ true
   -- N16: each edge has its smaller place first, and edges are in order
   pub smaller : (e : Place × Place) → e ∈ es → before e.0 e.1 ≡ true
-  pub ordered : Ascending beforeEdge es
+  pub ordered : Ascending before_edge es
   -- C66: the total is what they cost together, no more than those of the tree
-  pub sum : total ≡ lengths (costIn net) es
-  pub less : total ≤ lengths (costIn net) (treeEdges t)
+  pub sum : total ≡ lengths (cost_in net) es
+  pub less : total ≤ lengths (cost_in net) (tree_edges t)
   -- fewer than the points that there can be: the graph's vertices, and one further point for each pin
   pub few : length es < g.count + length net.pins

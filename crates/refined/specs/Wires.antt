@@ -14,9 +14,9 @@ bend a b = place b.x a.y
 
 -- W2: an edge gives a horizontal wire from its smaller place, which it has first, and then a vertical one to its larger place; W4: each by
 -- its start and its end as it is drawn
-unfoldable pub wiresOfEdge : Place × Place → List (Place × Place)
-wiresOfEdge e = drawn e.0 (bend e.0 e.1) ++ drawn (bend e.0 e.1) e.1
+unfoldable pub wires_of_edge : Place × Place → List (Place × Place)
+wires_of_edge e = drawn e.0 (bend e.0 e.1) ++ drawn (bend e.0 e.1) e.1
 
 unfoldable pub wires : List (Place × Place) → List (Place × Place)
 wires [] = []
-wires (e ∷ es) = wiresOfEdge e ++ wires es
+wires (e ∷ es) = wires_of_edge e ++ wires es

@@ -16,15 +16,15 @@ use Rattle.lists.proofs.TestLaws.{by, differ, either, and_left, and_right, and_b
 use Rattle.plane.specs.declared.Macro.{Macro}
 use Rattle.plane.specs.declared.Weights.{Weights}
 use Rattle.plane.specs.Cost.{cost}
-use Rattle.plane.specs.Flat.{placeAt}
-use Rattle.forest.specs.Parents.{wayAfter}
-use Rattle.tree.specs.Table.{firstEnd, secondEnd}
+use Rattle.plane.specs.Flat.{place_at}
+use Rattle.forest.specs.Parents.{way_after}
+use Rattle.tree.specs.Table.{first_end, second_end}
 use Rattle.candidates.specs.declared.Best.{Best}
 use Rattle.lists.specs.Turns.{turns}
 use Rattle.longest.specs.Longest.{cut_of}
 use Rattle.triples.specs.Triple.{sees, dropped}
 use Rattle.candidates.specs.Candidate.{best}
-use Rattle.beside.specs.Beside.{onWay, free, middleBeside, weighed, offer, offers, search}
+use Rattle.beside.specs.Beside.{on_way, free, middle_beside, weighed, offer, offers, search}
 use Rattle.refiner.proofs.TakesLaws.{last_or}
 
 -- the candidate of the edge k and the vertex u, with L and gain
@@ -33,15 +33,15 @@ pub record WinnerOff (w : Weights) (ms : List Macro) (pts : List ℤ) (n : ℕ) 
   pub edge : k < e
   pub vertex : u < v
   pub off : get_or fars u 0 ≡ 0 → ⊥
-  pub notFirst : get_or seat u 0 ≡ firstEnd (get_or ks k 0) → ⊥
-  pub notSecond : get_or seat u 0 ≡ secondEnd (get_or ks k 0) → ⊥
+  pub not_first : get_or seat u 0 ≡ first_end (get_or ks k 0) → ⊥
+  pub not_second : get_or seat u 0 ≡ second_end (get_or ks k 0) → ⊥
   pub two : l ≡ k → ⊥
-  pub cut : l ≡ cut_of el top (firstEnd (get_or ks k 0)) (secondEnd (get_or ks k 0)) (get_or seat u 0)
-  pub seen : sees ms (placeAt pts (firstEnd (get_or ks k 0))) (placeAt pts (secondEnd (get_or ks k 0))) (placeAt vs u) ≡ true
-  pub kept : dropped pts n (firstEnd (get_or ks k 0)) (secondEnd (get_or ks k 0)) (firstEnd (get_or ks k 0))
-      (middleBeside pts vs (firstEnd (get_or ks k 0)) (secondEnd (get_or ks k 0)) u) ≡ false
-  pub away : onWay vs (middleBeside pts vs (firstEnd (get_or ks k 0)) (secondEnd (get_or ks k 0)) u) (wayAfter fars ups u) ≡ false
-  pub gained : gain + (cost w (middleBeside pts vs (firstEnd (get_or ks k 0)) (secondEnd (get_or ks k 0)) u) (placeAt vs u) + get_or fars u 0)
+  pub cut : l ≡ cut_of el top (first_end (get_or ks k 0)) (second_end (get_or ks k 0)) (get_or seat u 0)
+  pub seen : sees ms (place_at pts (first_end (get_or ks k 0))) (place_at pts (second_end (get_or ks k 0))) (place_at vs u) ≡ true
+  pub kept : dropped pts n (first_end (get_or ks k 0)) (second_end (get_or ks k 0)) (first_end (get_or ks k 0))
+      (middle_beside pts vs (first_end (get_or ks k 0)) (second_end (get_or ks k 0)) u) ≡ false
+  pub away : on_way vs (middle_beside pts vs (first_end (get_or ks k 0)) (second_end (get_or ks k 0)) u) (way_after fars ups u) ≡ false
+  pub gained : gain + (cost w (middle_beside pts vs (first_end (get_or ks k 0)) (second_end (get_or ks k 0)) u) (place_at vs u) + get_or fars u 0)
       ≡ get_or el l 0
 
 module _ (w : Weights) (ms : List Macro) (pts : List ℤ) (n : ℕ) (ks : List ℕ) (e : ℕ) (el top : List ℕ) (vs : List ℤ) (v : ℕ)
@@ -94,24 +94,24 @@ module _ (w : Weights) (ms : List Macro) (pts : List ℤ) (n : ℕ) (ks : List �
   }
 
   offer-leads : (k u : ℕ) (c : Best) → k < e → u < v → LeadsOff c k u →
-      LeadsOff (offer w pts n ms el top vs fars ups seat (firstEnd (get_or ks k 0)) (secondEnd (get_or ks k 0)) k u c) k (suc u)
+      LeadsOff (offer w pts n ms el top vs fars ups seat (first_end (get_or ks k 0)) (second_end (get_or ks k 0)) k u c) k (suc u)
   unfolding offer weighed free
   offer-leads k u c hk hu h =
-      let a = firstEnd (get_or ks k 0) in
-      let b = secondEnd (get_or ks k 0) in
+      let a = first_end (get_or ks k 0) in
+      let b = second_end (get_or ks k 0) in
       let f = get_or fars u 0 in
       let x = get_or seat u 0 in
       let l = cut_of el top a b x in
-      let s = middleBeside pts vs a b u in
-      let d = cost w s (placeAt vs u) + f in
-      let saw = sees ms (placeAt pts a) (placeAt pts b) (placeAt vs u) in
+      let s = middle_beside pts vs a b u in
+      let d = cost w s (place_at vs u) + f in
+      let saw = sees ms (place_at pts a) (place_at pts b) (place_at vs u) in
       let gone = dropped pts n a b a s in
-      let met = onWay vs s (wayAfter fars ups u) in
+      let met = on_way vs s (way_after fars ups u) in
       let gained : (g m : ℕ) → Win g k u m → g + d ≡ get_or el l 0 = λ g m y. y.gained ∙ ap (λ (i : ℕ). get_or el i 0) y.cut in
       by (eqb f 0 || (eqb x a || (eqb x b || eqb l k)))
       (λ t. rw t (stays c k u h (λ g m y.
-      differ t (or-neither _ _ (ne_eqb f 0 y.off) (or-neither _ _ (ne_eqb x a y.notFirst)
-      (or-neither _ _ (ne_eqb x b y.notSecond) (ne_eqb l k (λ q. y.two (y.cut ∙ q))))))))) λ t.
+      differ t (or-neither _ _ (ne_eqb f 0 y.off) (or-neither _ _ (ne_eqb x a y.not_first)
+      (or-neither _ _ (ne_eqb x b y.not_second) (ne_eqb l k (λ q. y.two (y.cut ∙ q))))))))) λ t.
       by (ltb (c.gain + d) (get_or el l 0) && (saw && (not gone && not met)))
       (λ z.
       let more = ltb-true (c.gain + d) (get_or el l 0) (and_left _ _ z) in
@@ -124,8 +124,8 @@ module _ (w : Weights) (ms : List Macro) (pts : List ℤ) (n : ℕ) (ks : List �
         edge = hk;
         vertex = hu;
         off = eqb-false _ _ no-f.0;
-        notFirst = eqb-false _ _ no-a.0;
-        notSecond = eqb-false _ _ no-b.0;
+        not_first = eqb-false _ _ no-a.0;
+        not_second = eqb-false _ _ no-b.0;
         two = eqb-false _ _ no-b.1;
         cut = refl;
         seen = and_left _ _ fit;
@@ -140,7 +140,7 @@ module _ (w : Weights) (ms : List Macro) (pts : List ℤ) (n : ℕ) (ks : List �
 
   -- all vertices of one edge
   vertices-lead : (k : ℕ) → k < e → (m x : ℕ) (c : Best) → x + m ≡ v → LeadsOff c k x →
-      LeadsOff (turns (offer w pts n ms el top vs fars ups seat (firstEnd (get_or ks k 0)) (secondEnd (get_or ks k 0)) k) x m c) k v
+      LeadsOff (turns (offer w pts n ms el top vs fars ups seat (first_end (get_or ks k 0)) (second_end (get_or ks k 0)) k) x m c) k v
   unfolding turns
   vertices-lead k hk zero x c q h = subst (λ (y : ℕ). LeadsOff c k y) (omega arith) h
   vertices-lead k hk (suc m) x c q h = vertices-lead k hk m (suc x) _ (omega arith) (offer-leads k x c hk (omega arith) h)

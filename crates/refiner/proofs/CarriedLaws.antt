@@ -12,7 +12,7 @@ use Rattle.lists.proofs.TestLaws.{by, differ}
 use Rattle.tree.proofs.SumLaws.{other, here}
 use Rattle.lists.specs.Turns.{seek}
 use Rattle.exchanges.specs.Exchange.{bump, carrying}
-use Rattle.refiner.specs.Graft.{notBelow, keyRank}
+use Rattle.refiner.specs.Graft.{not_below, key_rank}
 use Rattle.exchanges.proofs.ExchangeLaws.{bump-lt, bump-ge}
 use Rattle.exchanges.proofs.ExchangeSums.{carrying-low}
 use Rattle.exchanges.proofs.OpenedLaws.{seek-before, seek_hit}
@@ -92,31 +92,31 @@ carry-at (suc n) i q xs room r k h l =
 -- Counted by the keys below it
 
 module _ (xs : List ℕ) (e q : ℕ) (room : e < length xs) (rising : (j k : ℕ) → j < k → k < e → get_or xs j 0 < get_or xs k 0) where
-  below-rank : (k : ℕ) → k < keyRank xs e q → get_or xs k 0 < q
-  unfolding keyRank notBelow
+  below-rank : (k : ℕ) → k < key_rank xs e q → get_or xs k 0 < q
+  unfolding key_rank not_below
   below-rank k h =
       by (ltb (get_or xs k 0) q) (λ t. ltb-true _ _ t)
-      (λ t. differ (rw t refl) (seek-before (notBelow xs q) e 0 k (omega arith) h))
+      (λ t. differ (rw t refl) (seek-before (not_below xs q) e 0 k (omega arith) h))
 
-  above-rank : (k : ℕ) → keyRank xs e q ≤ k → k < e → q ≤ get_or xs k 0
-  unfolding keyRank notBelow
+  above-rank : (k : ℕ) → key_rank xs e q ≤ k → k < e → q ≤ get_or xs k 0
+  unfolding key_rank not_below
   above-rank k h l =
-      let i = seek (notBelow xs q) 0 e in
+      let i = seek (not_below xs q) 0 e in
       let at : q ≤ get_or xs i 0 = by (ltb (get_or xs i 0) q)
-      (λ t. differ (seek_hit (notBelow xs q) e 0 (omega arith)) (rw t refl)) (λ t. ltb-false _ _ t) in
+      (λ t. differ (seek_hit (not_below xs q) e 0 (omega arith)) (rw t refl)) (λ t. ltb-false _ _ t) in
       by (ltb i k) (λ t. omega (arith, at, rising i k (ltb-true i k t) l))
       (λ t. let j : k ≡ i = omega (arith, ltb-false i k t) in rw j at)
 
   -- the key i is then at the number that it has moved on to
-  pub carried-at : (k : ℕ) → k < e → get_or (carrying 0 e q xs) (bump (keyRank xs e q) k) 0 ≡ get_or xs k 0
+  pub carried-at : (k : ℕ) → k < e → get_or (carrying 0 e q xs) (bump (key_rank xs e q) k) 0 ≡ get_or xs k 0
   carried-at k h =
       let z : 0 + e ≡ e = omega arith in
       let r = carry-at e 0 q xs (omega arith) (λ c d v w x. rising c d w (omega arith)) k (omega arith) (omega arith) in
-      by (ltb k (keyRank xs e q))
+      by (ltb k (key_rank xs e q))
       (λ t.
-      let m : k < keyRank xs e q = ltb-true _ _ t in
-      ap (λ (j : ℕ). get_or (carrying 0 e q xs) j 0) (sym (bump-lt (keyRank xs e q) k m)) ∙ r.0 (below-rank k m))
+      let m : k < key_rank xs e q = ltb-true _ _ t in
+      ap (λ (j : ℕ). get_or (carrying 0 e q xs) j 0) (sym (bump-lt (key_rank xs e q) k m)) ∙ r.0 (below-rank k m))
       (λ t.
-      let m : keyRank xs e q ≤ k = ltb-false _ _ t in
+      let m : key_rank xs e q ≤ k = ltb-false _ _ t in
       let j : k + 1 ≡ suc k = omega arith in
-      ap (λ (j : ℕ). get_or (carrying 0 e q xs) j 0) (sym (bump-ge (keyRank xs e q) k m) ∙ j) ∙ r.1 (above-rank k m h))
+      ap (λ (j : ℕ). get_or (carrying 0 e q xs) j 0) (sym (bump-ge (key_rank xs e q) k m) ∙ j) ∙ r.1 (above-rank k m h))

@@ -11,39 +11,39 @@ use lib.ListN.{length, get_or}
 use borrow.Author.Tests.{ltb-true, ltb-false, lt-ltb, le-ltb}
 use Rattle.lists.proofs.TestLaws.{by}
 use Rattle.plane.specs.declared.Place.{Place}
-use Rattle.plane.specs.Flat.{placeAt}
+use Rattle.plane.specs.Flat.{place_at}
 use Rattle.plane.specs.Rank.{rank}
-use Rattle.forest.specs.Bounds.{pointBound}
-use Rattle.forest.specs.Parents.{wayAfter, Nearing}
+use Rattle.forest.specs.Bounds.{point_bound}
+use Rattle.forest.specs.Parents.{way_after, Nearing}
 use Rattle.forest.proofs.WayLaws.{after-go, after_none}
-use Rattle.tree.specs.Table.{treeBound, key, In, Within}
+use Rattle.tree.specs.Table.{tree_bound, key, In, Within}
 use Rattle.refiner.specs.declared.Growth.{Growth}
 use Rattle.lists.specs.Turns.{turns, seek}
-use Rattle.exchanges.specs.Exchange.{opened, bump, bumpAt, carrying}
-use Rattle.refiner.specs.Graft.{Grown, grown, pairKey, notBelow, keyRank, leaf, grafted, Growing}
+use Rattle.exchanges.specs.Exchange.{opened, bump, bump_at, carrying}
+use Rattle.refiner.specs.Graft.{Grown, grown, pair_key, not_below, key_rank, leaf, grafted, Growing}
 use Rattle.exchanges.proofs.ExchangeLaws.{bump-lt, bump-ge}
 use Rattle.exchanges.proofs.WithinLaws.{bump-in, in-key, within_more, within-bumped, within-carrying, rank-le}
 
 -- Keys
 
-pub pair-less : (a b : ℕ) → a < b → key a b ≡ pairKey a b
-unfolding pairKey
-pair-less a b h = rw (pairKey, lt-ltb a b h) refl
+pub pair-less : (a b : ℕ) → a < b → key a b ≡ pair_key a b
+unfolding pair_key
+pair-less a b h = rw (pair_key, lt-ltb a b h) refl
 
-pub pair-more : (a b : ℕ) → b ≤ a → key b a ≡ pairKey a b
-unfolding pairKey
-pair-more a b h = rw (pairKey, le-ltb a b h) refl
+pub pair-more : (a b : ℕ) → b ≤ a → key b a ≡ pair_key a b
+unfolding pair_key
+pair-more a b h = rw (pair_key, le-ltb a b h) refl
 
-pub in_pair : (n a b : ℕ) → a < n → b < n → n ≤ treeBound → In n (pairKey a b)
-unfolding pairKey
-in_pair n a b h i l = by (ltb a b) (λ t. rw (pairKey, t) (in-key n a b h i l)) (λ t. rw (pairKey, t) (in-key n b a i h l))
+pub in_pair : (n a b : ℕ) → a < n → b < n → n ≤ tree_bound → In n (pair_key a b)
+unfolding pair_key
+in_pair n a b h i l = by (ltb a b) (λ t. rw (pair_key, t) (in-key n a b h i l)) (λ t. rw (pair_key, t) (in-key n b a i h l))
 
-pub not-below-yes : (keys : List ℕ) (j i : ℕ) → j ≤ get_or keys i 0 → notBelow keys j i ≡ true
-unfolding notBelow
+pub not-below-yes : (keys : List ℕ) (j i : ℕ) → j ≤ get_or keys i 0 → not_below keys j i ≡ true
+unfolding not_below
 not-below-yes keys j i h = rw (le-ltb (get_or keys i 0) j h) refl
 
-pub not-below-no : (keys : List ℕ) (j i : ℕ) → get_or keys i 0 < j → notBelow keys j i ≡ false
-unfolding notBelow
+pub not-below-no : (keys : List ℕ) (j i : ℕ) → get_or keys i 0 < j → not_below keys j i ≡ false
+unfolding not_below
 not-below-no keys j i h = rw (lt-ltb (get_or keys i 0) j h) refl
 
 -- numbers that move on stay apart
@@ -69,8 +69,8 @@ bump-apart p a b n e =
 
 module _ (x : Place) (pts : List ℤ) (keys : List ℕ) (g : Growth) (p last key i edge cut : ℕ) (qts : List ℤ) (ks ls : List ℕ)
     (rank_is : p ≡ rank pts g.points x) (points-are : qts ≡ opened pts g.points p x)
-    (moved : ks ≡ turns (bumpAt p) 0 g.edges keys) (last-is : last ≡ bump p g.last) (key-is : key ≡ pairKey p last)
-    (place_is : i ≡ keyRank ks g.edges key) (keys-are : ls ≡ carrying 0 g.edges key ks) (edge-is : edge ≡ bump i g.edge)
+    (moved : ks ≡ turns (bump_at p) 0 g.edges keys) (last-is : last ≡ bump p g.last) (key-is : key ≡ pair_key p last)
+    (place_is : i ≡ key_rank ks g.edges key) (keys-are : ls ≡ carrying 0 g.edges key ks) (edge-is : edge ≡ bump i g.edge)
     (cut-is : cut ≡ bump i g.cut) where
   abbrev after : Growth
   after = record { points = g.points + 1; edges = g.edges + 1; last = p; edge = edge; cut = cut }
@@ -79,7 +79,7 @@ module _ (x : Place) (pts : List ℤ) (keys : List ℕ) (g : Growth) (p last key
   unfolding leaf
   leaf-is = rw (edge-is, cut-is, keys-are, place_is, key-is, last-is, moved, points-are, rank_is) refl
 
-  pub leaf-growing : g.points < treeBound → Growing g keys → Growing after ls
+  pub leaf-growing : g.points < tree_bound → Growing g keys → Growing after ls
   leaf-growing few w = record {
     last = omega (arith, rank_is, rank-le pts g.points x);
     edge = rw edge-is (bump-in g.edges i g.edge w.edge);
@@ -98,21 +98,21 @@ module _ (x : Place) (pts : List ℤ) (keys : List ℕ) (g : Growth) (p last key
 -- The way
 
 module _ (fars ups : List ℕ) (u : ℕ) where
-  pub steps-none : pointBound ≤ get_or ups u 0 → length (wayAfter fars ups u) ≡ 0
+  pub steps-none : point_bound ≤ get_or ups u 0 → length (way_after fars ups u) ≡ 0
   steps-none h = ap length (after_none fars ups u h)
 
-  pub steps-more : Nearing fars ups → u < pointBound → get_or ups u 0 < pointBound →
-      length (wayAfter fars ups u) ≡ suc (length (wayAfter fars ups (get_or ups u 0)))
+  pub steps-more : Nearing fars ups → u < point_bound → get_or ups u 0 < point_bound →
+      length (way_after fars ups u) ≡ suc (length (way_after fars ups (get_or ups u 0)))
   steps-more f hu h = ap length (after-go fars ups f u hu h)
 
   module _ (vs : List ℤ) where
-    pub graft-none : (g : Grown) → pointBound ≤ get_or ups u 0 → g ≡ grafted vs (wayAfter fars ups u) u g
+    pub graft-none : (g : Grown) → point_bound ≤ get_or ups u 0 → g ≡ grafted vs (way_after fars ups u) u g
     unfolding grafted
     graft-none g h = sym (ap (λ (ys : List ℕ). grafted vs ys u g) (after_none fars ups u h))
 
-    pub graft-more : Nearing fars ups → u < pointBound → get_or ups u 0 < pointBound → (g k r : Grown) (p : Place)
-        → k ≡ grafted vs (wayAfter fars ups (get_or ups u 0)) (get_or ups u 0) g
-        → p ≡ placeAt vs u → r ≡ leaf p k → r ≡ grafted vs (wayAfter fars ups u) u g
+    pub graft-more : Nearing fars ups → u < point_bound → get_or ups u 0 < point_bound → (g k r : Grown) (p : Place)
+        → k ≡ grafted vs (way_after fars ups (get_or ups u 0)) (get_or ups u 0) g
+        → p ≡ place_at vs u → r ≡ leaf p k → r ≡ grafted vs (way_after fars ups u) u g
     unfolding grafted
     graft-more f hu h g k r p d e q =
         q ∙ rw (d, e) refl ∙ sym (ap (λ (ys : List ℕ). grafted vs ys u g) (after-go fars ups f u hu h))

@@ -15,47 +15,47 @@ use Rattle.lists.specs.Member.{◌∈◌}
 use Rattle.lists.proofs.TestLaws.{by, differ, either, and_both, or-none}
 use Rattle.lists.proofs.AnyLaws.{none_any}
 use Rattle.plane.specs.declared.Place.{Place}
-use Rattle.plane.specs.Place.{samePlace}
-use Rattle.plane.specs.Flat.{placeAt}
+use Rattle.plane.specs.Place.{same_place}
+use Rattle.plane.specs.Flat.{place_at}
 use Rattle.net.specs.Net.{Net}
 use Rattle.plane.proofs.PlaceLaws.{same_true}
 use Rattle.joined.proofs.OneTreeLaws.{tree-simple}
 use Rattle.lists.specs.Turns.{turns}
-use Rattle.tree.specs.Table.{treeBound, firstEnd, secondEnd, Tree, Within}
+use Rattle.tree.specs.Table.{tree_bound, first_end, second_end, Tree, Within}
 use Rattle.exchanges.specs.Exchange.{closed}
-use Rattle.exchanges.specs.Prune.{mark_of, marks, countEnds, loose, looseEdge, firstLoose, prune, pruned}
-use Rattle.tree.specs.Sum.{below, sumOver}
-use Rattle.tree.specs.Places.{endsOf, Sound}
+use Rattle.exchanges.specs.Prune.{mark_of, marks, count_ends, loose, loose_edge, first_loose, prune, pruned}
+use Rattle.tree.specs.Sum.{below, sum_over}
+use Rattle.tree.specs.Places.{ends_of, Sound}
 use Rattle.refiner.specs.Sentences.{NoneLeft}
 use Rattle.tree.proofs.SumLaws.{below_at, below-some, one, one_same, one-some, one-not}
 use Rattle.exchanges.proofs.OpenedLaws.{seek-before}
 use Rattle.exchanges.proofs.WithinLaws.{seek-le, pruned-within}
 use Rattle.tree.proofs.ListingLaws.{in-listing}
-use Rattle.tree.proofs.PointLaws.{same_place}
-use Rattle.exchanges.proofs.PruneSound.{endCount, degree, pruned-was}
+use Rattle.tree.proofs.PointLaws.{same-place}
+use Rattle.exchanges.proofs.PruneSound.{end_count, degree, pruned-was}
 use Rattle.refiner.proofs.RefinedSound.{marks-at, zeros-length}
 
-first-none : (pin ks : List ℕ) → firstLoose pin ks 0 ≡ 0
-unfolding firstLoose
-first-none pin ks = omega (arith, seek-le (looseEdge pin (turns (countEnds ks) 0 0 (replicate treeBound 0)) ks) 0 0)
+first-none : (pin ks : List ℕ) → first_loose pin ks 0 ≡ 0
+unfolding first_loose
+first-none pin ks = omega (arith, seek-le (loose_edge pin (turns (count_ends ks) 0 0 (replicate tree_bound 0)) ks) 0 0)
 
 -- after pruning there is no edge to go
-pub none-loose : (pin : List ℕ) (e : ℕ) (ks : List ℕ) → firstLoose pin (prune pin ks e).keys (prune pin ks e).size ≡ (prune pin ks e).size
+pub none-loose : (pin : List ℕ) (e : ℕ) (ks : List ℕ) → first_loose pin (prune pin ks e).keys (prune pin ks e).size ≡ (prune pin ks e).size
 unfolding prune
 none-loose pin zero ks = first-none pin ks
 none-loose pin (suc e) ks =
-    by (eqb (firstLoose pin ks (suc e)) (suc e)) (λ t. rw (prune, t) (eqb-true _ _ t))
-    (λ t. rw (prune, t) (none-loose pin e (closed (firstLoose pin ks (suc e)) e ks)))
+    by (eqb (first_loose pin ks (suc e)) (suc e)) (λ t. rw (prune, t) (eqb-true _ _ t))
+    (λ t. rw (prune, t) (none-loose pin e (closed (first_loose pin ks (suc e)) e ks)))
 
 -- where none is to go, no edge has a point that is no pin and has a single edge
-not-loose : (pin ks : List ℕ) (e : ℕ) → firstLoose pin ks e ≡ e → (i : ℕ) → i < e →
-    looseEdge pin (turns (countEnds ks) 0 e (replicate treeBound 0)) ks i ≡ false
-unfolding firstLoose
-not-loose pin ks e q i h = seek-before (looseEdge pin (turns (countEnds ks) 0 e (replicate treeBound 0)) ks) e 0 i (omega arith)
+not-loose : (pin ks : List ℕ) (e : ℕ) → first_loose pin ks e ≡ e → (i : ℕ) → i < e →
+    loose_edge pin (turns (count_ends ks) 0 e (replicate tree_bound 0)) ks i ≡ false
+unfolding first_loose
+not-loose pin ks e q i h = seek-before (loose_edge pin (turns (count_ends ks) 0 e (replicate tree_bound 0)) ks) e 0 i (omega arith)
     (omega (arith, q))
 
 pub pruned-none : (pin ks : List ℕ) (e i : ℕ) → i < (prune pin ks e).size →
-    looseEdge pin (turns (countEnds (prune pin ks e).keys) 0 (prune pin ks e).size (replicate treeBound 0)) (prune pin ks e).keys i
+    loose_edge pin (turns (count_ends (prune pin ks e).keys) 0 (prune pin ks e).size (replicate tree_bound 0)) (prune pin ks e).keys i
     ≡ false
 pruned-none pin ks e i h = not-loose pin (prune pin ks e).keys (prune pin ks e).size (none-loose pin e ks) i h
 
@@ -78,64 +78,64 @@ below_two f (suc n) i h l =
     (r.0, (omega (arith, r.1.0), (r.1.1.0, r.1.1.1)))))
 
 -- an edge with two ends has each once
-ends-count : (v k : ℕ) → (firstEnd k ≡ secondEnd k → ⊥) → (v ≡ firstEnd k) ⊎ (v ≡ secondEnd k) → endCount v k ≡ 1
+ends-count : (v k : ℕ) → (first_end k ≡ second_end k → ⊥) → (v ≡ first_end k) ⊎ (v ≡ second_end k) → end_count v k ≡ 1
 ends-count v k d (inl q) =
-    let a : one v (firstEnd k) ≡ 1 = ap (one v) (sym q) ∙ one_same v in
-    omega (arith, a, one-not v (secondEnd k) (λ r. d (sym q ∙ sym r)))
+    let a : one v (first_end k) ≡ 1 = ap (one v) (sym q) ∙ one_same v in
+    omega (arith, a, one-not v (second_end k) (λ r. d (sym q ∙ sym r)))
 ends-count v k d (inr q) =
-    let a : one v (secondEnd k) ≡ 1 = ap (one v) (sym q) ∙ one_same v in
-    omega (arith, a, one-not v (firstEnd k) (λ r. d (r ∙ q)))
+    let a : one v (second_end k) ≡ 1 = ap (one v) (sym q) ∙ one_same v in
+    omega (arith, a, one-not v (first_end k) (λ r. d (r ∙ q)))
 
-count-ends : (v k : ℕ) → 0 < endCount v k → (v ≡ firstEnd k) ⊎ (v ≡ secondEnd k)
+count-ends : (v k : ℕ) → 0 < end_count v k → (v ≡ first_end k) ⊎ (v ≡ second_end k)
 count-ends v k h =
-    by (ltb 0 (one v (firstEnd k))) (λ t. inl (sym (one-some v (firstEnd k) (ltb-true 0 _ t))))
-    (λ t. inr (sym (one-some v (secondEnd k) (omega (arith, ltb-false 0 (one v (firstEnd k)) t)))))
+    by (ltb 0 (one v (first_end k))) (λ t. inl (sym (one-some v (first_end k) (ltb-true 0 _ t))))
+    (λ t. inr (sym (one-some v (second_end k) (omega (arith, ltb-false 0 (one v (first_end k)) t)))))
 
 -- no edge with a loose point: a point that is no pin and has an edge has another
-module _ (n : ℕ) (pin ks : List ℕ) (e : ℕ) (few : n ≤ treeBound) (w : Within n ks)
-    (apart : (i : ℕ) → i < e → firstEnd (get_or ks i 0) ≡ secondEnd (get_or ks i 0) → ⊥)
-    (done : (i : ℕ) → i < e → looseEdge pin (turns (countEnds ks) 0 e (replicate treeBound 0)) ks i ≡ false) where
+module _ (n : ℕ) (pin ks : List ℕ) (e : ℕ) (few : n ≤ tree_bound) (w : Within n ks)
+    (apart : (i : ℕ) → i < e → first_end (get_or ks i 0) ≡ second_end (get_or ks i 0) → ⊥)
+    (done : (i : ℕ) → i < e → loose_edge pin (turns (count_ends ks) 0 e (replicate tree_bound 0)) ks i ≡ false) where
   abbrev counted : List ℕ
-  counted = turns (countEnds ks) 0 e (replicate treeBound 0)
+  counted = turns (count_ends ks) 0 e (replicate tree_bound 0)
 
   -- such a point has not a single edge
-  not-single : (v i : ℕ) → i < e → (v ≡ firstEnd (get_or ks i 0)) ⊎ (v ≡ secondEnd (get_or ks i 0)) → get_or pin v 0 ≡ 0 → get_or counted v 0 ≡ 1 →
+  not-single : (v i : ℕ) → i < e → (v ≡ first_end (get_or ks i 0)) ⊎ (v ≡ second_end (get_or ks i 0)) → get_or pin v 0 ≡ 0 → get_or counted v 0 ≡ 1 →
       ⊥
-  unfolding looseEdge loose
+  unfolding loose_edge loose
   not-single v i h q free single =
-      let z = or-none (loose pin counted (firstEnd (get_or ks i 0))) (loose pin counted (secondEnd (get_or ks i 0))) (done i h) in
+      let z = or-none (loose pin counted (first_end (get_or ks i 0))) (loose pin counted (second_end (get_or ks i 0))) (done i h) in
       let yes : loose pin counted v ≡ true = and_both _ _ (eq-eqb _ _ free) (eq-eqb _ _ single) in
       either (λ p. differ yes (ap (loose pin counted) p ∙ z.0)) (λ p. differ yes (ap (loose pin counted) p ∙ z.1)) q
 
-  pub two_edges : (v i : ℕ) → i < e → (v ≡ firstEnd (get_or ks i 0)) ⊎ (v ≡ secondEnd (get_or ks i 0)) → get_or pin v 0 ≡ 0 →
-      (j : ℕ) × ((j < e) × ((j ≡ i → ⊥) × ((v ≡ firstEnd (get_or ks j 0)) ⊎ (v ≡ secondEnd (get_or ks j 0)))))
+  pub two_edges : (v i : ℕ) → i < e → (v ≡ first_end (get_or ks i 0)) ⊎ (v ≡ second_end (get_or ks i 0)) → get_or pin v 0 ≡ 0 →
+      (j : ℕ) × ((j < e) × ((j ≡ i → ⊥) × ((v ≡ first_end (get_or ks j 0)) ⊎ (v ≡ second_end (get_or ks j 0)))))
   two_edges v i h q free =
       let own = ends-count v (get_or ks i 0) (apart i h) q in
       let all = degree n ks e v w few in
-      let at = below_at (λ j. endCount v (get_or ks j 0)) e i h in
-      let more : sumOver (endCount v) ks e ≡ 1 → ⊥ = λ s. not-single v i h q free (all ∙ s) in
-      let r = below_two (λ j. endCount v (get_or ks j 0)) e i h (omega (arith, own, at, more)) in
+      let at = below_at (λ j. end_count v (get_or ks j 0)) e i h in
+      let more : sum_over (end_count v) ks e ≡ 1 → ⊥ = λ s. not-single v i h q free (all ∙ s) in
+      let r = below_two (λ j. end_count v (get_or ks j 0)) e i h (omega (arith, own, at, more)) in
       (r.0, (r.1.0, (r.1.1.0, count-ends v (get_or ks r.0 0) r.1.1.1)))
 
 -- a point that is no pin has the mark 0
-pub no_pin : (pins : List Place) (pts : List ℤ) (n : ℕ) → n ≤ treeBound → (v : ℕ) → v < n → (placeAt pts v ∈ pins → ⊥) →
+pub no-pin : (pins : List Place) (pts : List ℤ) (n : ℕ) → n ≤ tree_bound → (v : ℕ) → v < n → (place_at pts v ∈ pins → ⊥) →
     get_or (marks pins pts n) v 0 ≡ 0
 unfolding marks mark_of
-no_pin pins pts n few v h d =
-    marks-at pins pts n 0 (replicate treeBound 0) v (rw (zeros-length treeBound) (omega arith)) (omega arith) (omega arith)
-    ∙ ap mark_of (none_any (samePlace (placeAt pts v)) pins none)
+no-pin pins pts n few v h d =
+    marks-at pins pts n 0 (replicate tree_bound 0) v (rw (zeros-length tree_bound) (omega arith)) (omega arith) (omega arith)
+    ∙ ap mark_of (none_any (same_place (place_at pts v)) pins none)
   where
-    none : (x : Place) → x ∈ pins → samePlace (placeAt pts v) x ≡ false
-    none x m = by (samePlace (placeAt pts v) x) (λ t. absurd (d (subst (λ (y : Place). y ∈ pins) (sym (same_true _ _ t)) m))) (λ t. t)
+    none : (x : Place) → x ∈ pins → same_place (place_at pts v) x ≡ false
+    none x m = by (same_place (place_at pts v) x) (λ t. absurd (d (subst (λ (y : Place). y ∈ pins) (sym (same_true _ _ t)) m))) (λ t. t)
 
 -- R16, its end, of a tree over its points
-pub pruned-left : (net : Net) (t : Tree) → Sound net t → t.count ≤ treeBound → NoneLeft net.pins (pruned net.pins t)
+pub pruned-left : (net : Net) (t : Tree) → Sound net t → t.count ≤ tree_bound → NoneLeft net.pins (pruned net.pins t)
 unfolding pruned
 pruned-left net t sound few = record {
   two =
       λ v i h q free.
       two_edges t.count pin left size few within apart (pruned-none pin t.edges.keys t.edges.size) v i h q
-      (no_pin net.pins t.points t.count few v (low v i q) free);
+      (no-pin net.pins t.points t.count few v (low v i q) free);
 }
   where
     pin : List ℕ
@@ -150,14 +150,14 @@ pruned-left net t sound few = record {
     within : Within t.count left
     within = pruned-within t.count pin t.edges.keys t.edges.size sound.within
 
-    low : (v i : ℕ) → (v ≡ firstEnd (get_or left i 0)) ⊎ (v ≡ secondEnd (get_or left i 0)) → v < t.count
+    low : (v i : ℕ) → (v ≡ first_end (get_or left i 0)) ⊎ (v ≡ second_end (get_or left i 0)) → v < t.count
     low v i (inl q) = omega (arith, q, (within.ends i).0)
     low v i (inr q) = omega (arith, q, (within.ends i).1)
 
-    apart : (i : ℕ) → i < size → firstEnd (get_or left i 0) ≡ secondEnd (get_or left i 0) → ⊥
+    apart : (i : ℕ) → i < size → first_end (get_or left i 0) ≡ second_end (get_or left i 0) → ⊥
     apart i h q =
         let r = pruned-was pin t.edges.size t.edges.keys i h in
         let k = get_or t.edges.keys r.0 0 in
-        let p : firstEnd k ≡ secondEnd k = ap firstEnd (sym r.1.1) ∙ q ∙ ap secondEnd r.1.1 in
-        (tree-simple same_place sound.whole).apart (placeAt t.points (firstEnd k)) (placeAt t.points (secondEnd k))
-        (in-listing (λ j. endsOf t.points (get_or t.edges.keys j 0)) t.edges.size r.0 r.1.0) (ap (placeAt t.points) p)
+        let p : first_end k ≡ second_end k = ap first_end (sym r.1.1) ∙ q ∙ ap second_end r.1.1 in
+        (tree-simple same-place sound.whole).apart (place_at t.points (first_end k)) (place_at t.points (second_end k))
+        (in-listing (λ j. ends_of t.points (get_or t.edges.keys j 0)) t.edges.size r.0 r.1.0) (ap (place_at t.points) p)

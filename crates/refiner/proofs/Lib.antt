@@ -19,7 +19,6 @@ pub mod LeafSound
 pub mod GraftSound
 pub mod WayFound
 pub mod WayBeside
-pub mod SurveyLaws
 pub mod BesideWins
 pub mod TakenKept
 pub mod GraftTaken

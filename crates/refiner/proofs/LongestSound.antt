@@ -16,16 +16,16 @@ use Rattle.lists.specs.Member.{◌∈◌, here, there, Once}
 use Rattle.lists.proofs.TestLaws.{by, either}
 use Rattle.lists.proofs.MemberLaws.{once-end}
 use Rattle.plane.specs.declared.Place.{Place}
-use Rattle.plane.specs.Flat.{placeAt}
+use Rattle.plane.specs.Flat.{place_at}
 use Rattle.plane.specs.Rank.{InOrder}
 use Rattle.joined.specs.Joined.{Link, Alike}
 use Rattle.joined.specs.Way.{Way, stop, go}
 use Rattle.joined.specs.Exchange.{steps}
 use Rattle.joined.proofs.JoinedLaws.{firsts, seconds}
 use Rattle.joined.proofs.OtherLaws.{alike-trans}
-use Rattle.tree.specs.Table.{treeBound, pairBound, key, firstEnd, secondEnd}
+use Rattle.tree.specs.Table.{tree_bound, pair_bound, key, first_end, second_end}
 use Rattle.longest.specs.Longest.{wins, longer, no_edge, spreads, Reach, reach}
-use Rattle.tree.specs.Places.{endsOf, edgesOf}
+use Rattle.tree.specs.Places.{ends_of, edges_of}
 use Rattle.longest.proofs.LongestLaws.{longer-yes, longer-no}
 use Rattle.longest.proofs.WinsLaws.{Under, wins-under, under-trans, longer-first, longer-second}
 use Rattle.longest.proofs.ReadingLaws.{untouched, spreads-length, spreads-row, spreads-column, spreads-self}
@@ -57,10 +57,10 @@ steps-last z (go k w) = there (steps-last z w)
 
 module _ (pts : List ℤ) (n : ℕ) (ks : List ℕ) (e : ℕ) (el : List ℕ) where
   abbrev pub T : List (Place × Place)
-  T = edgesOf pts ks e
+  T = edges_of pts ks e
 
   abbrev pub Ends : ℕ → Place → Place → Type 0
-  Ends j c d = Alike c d (placeAt pts (firstEnd (get_or ks j 0))) (placeAt pts (secondEnd (get_or ks j 0)))
+  Ends j c d = Alike c d (place_at pts (first_end (get_or ks j 0))) (place_at pts (second_end (get_or ks j 0)))
 
   -- x is the longest edge of the way from a through ps, the smallest on a tie; of no step there is none
   pub record Top (x : ℕ) (a : Place) (ps : List Place) : Type 0 where
@@ -72,19 +72,19 @@ module _ (pts : List ℤ) (n : ℕ) (ks : List ℕ) (e : ℕ) (el : List ℕ) wh
 
   pub record Known (r : Reach) (v w : ℕ) : Type 0 where
     pub points : List Place
-    pub way : Way T (placeAt pts v) points (placeAt pts w)
-    pub once : Once (placeAt pts v ∷ points)
-    pub seen : (z : Place) → z ∈ (placeAt pts v ∷ points) → (i : ℕ) × (Seen r.seen i × (z ≡ placeAt pts i))
-    pub top : Top (get_or r.top (key v w) 0) (placeAt pts v) points
+    pub way : Way T (place_at pts v) points (place_at pts w)
+    pub once : Once (place_at pts v ∷ points)
+    pub seen : (z : Place) → z ∈ (place_at pts v ∷ points) → (i : ℕ) × (Seen r.seen i × (z ≡ place_at pts i))
+    pub top : Top (get_or r.top (key v w) 0) (place_at pts v) points
 
   pub record Good (r : Reach) : Type 0 where
-    pub room : length r.seen ≡ treeBound
-    pub sized : length r.top ≡ pairBound
+    pub room : length r.seen ≡ tree_bound
+    pub sized : length r.top ≡ pair_bound
     pub marks : (i : ℕ) → (get_or r.seen i 0 ≡ 0) ⊎ (get_or r.seen i 0 ≡ 1)
     pub known : (v w : ℕ) → Seen r.seen v → Seen r.seen w → Known r v w
     pub even : (v w : ℕ) → Seen r.seen v → Seen r.seen w → get_or r.top (key v w) 0 ≡ get_or r.top (key w v) 0
 
-  module _ (o : InOrder pts n) (few : n ≤ treeBound) (fewer : e < treeBound) (none : get_or el no_edge 0 ≡ 0)
+  module _ (o : InOrder pts n) (few : n ≤ tree_bound) (fewer : e < tree_bound) (none : get_or el no_edge 0 ≡ 0)
       (alone : (i j : ℕ) (c d : Place) → i < e → j < e → Ends i c d → Ends j c d → i ≡ j) where
     -- the edge k is not longer than a way with no step
     not_none : (k x : ℕ) → k < e → x ≡ no_edge → wins el x k ≡ true → ⊥
@@ -143,9 +143,9 @@ module _ (pts : List ℤ) (n : ℕ) (ks : List ℕ) (e : ℕ) (el : List ℕ) wh
 
     edge-link : (k : ℕ) (c d : Place) → k < e → Ends k c d → Link T c d
     edge-link k c d h (inl q) = inl (Memᴰ.cast (ap₂ (λ (x y : Place). (x, y)) q.0 q.1)
-        (in-listing (λ i. endsOf pts (get_or ks i 0)) e k h))
+        (in-listing (λ i. ends_of pts (get_or ks i 0)) e k h))
     edge-link k c d h (inr q) = inr (Memᴰ.cast (ap₂ (λ (x y : Place). (x, y)) q.1 q.0)
-        (in-listing (λ i. endsOf pts (get_or ks i 0)) e k h))
+        (in-listing (λ i. ends_of pts (get_or ks i 0)) e k h))
 
     turn-ends : (k : ℕ) (c d : Place) → Ends k c d → Ends k d c
     turn-ends k c d (inl q) = inr (q.1, q.0)
@@ -153,7 +153,7 @@ module _ (pts : List ℤ) (n : ℕ) (ks : List ℕ) (e : ℕ) (el : List ℕ) wh
 
     -- v hangs on p by the edge k
     module _ (r : Reach) (good : Good r) (v p k : ℕ) (hv : v < n) (sp : Seen r.seen p) (unseen : get_or r.seen v 0 ≡ 0) (hk : k < e)
-        (g : Ends k (placeAt pts v) (placeAt pts p)) where
+        (g : Ends k (place_at pts v) (place_at pts p)) where
       abbrev after : Reach
       after = reach (set r.seen v 1) (spreads el n v p k r.top)
 
@@ -178,25 +178,25 @@ module _ (pts : List ℤ) (n : ℕ) (ks : List ℕ) (e : ℕ) (el : List ℕ) wh
       not-v : (i : ℕ) → Seen r.seen i → v ≡ i → ⊥
       not-v i s q = let z : get_or r.seen v 0 ≡ 1 = ap (λ (j : ℕ). get_or r.seen j 0) q ∙ s.1 in omega (arith, z, unseen)
 
-      later-seen : {a : Place} {ps : List Place} → ((z : Place) → z ∈ (a ∷ ps) → (i : ℕ) × (Seen r.seen i × (z ≡ placeAt pts i))) →
-          (z : Place) → z ∈ (a ∷ ps) → (i : ℕ) × (Seen after.seen i × (z ≡ placeAt pts i))
+      later-seen : {a : Place} {ps : List Place} → ((z : Place) → z ∈ (a ∷ ps) → (i : ℕ) × (Seen r.seen i × (z ≡ place_at pts i))) →
+          (z : Place) → z ∈ (a ∷ ps) → (i : ℕ) × (Seen after.seen i × (z ≡ place_at pts i))
       later-seen h z m = let q = h z m in (q.0, (still_seen q.0 q.1.0, q.1.1))
 
       -- v is on no way between points that were seen
-      not_on : {a : Place} {ps : List Place} → ((z : Place) → z ∈ (a ∷ ps) → (i : ℕ) × (Seen r.seen i × (z ≡ placeAt pts i))) →
-          placeAt pts v ∈ (a ∷ ps) → ⊥
-      not_on h m = let q = h (placeAt pts v) m in not-v q.0 q.1.0 (order_same pts n v q.0 o hv q.1.0.0 q.1.1)
+      not_on : {a : Place} {ps : List Place} → ((z : Place) → z ∈ (a ∷ ps) → (i : ℕ) × (Seen r.seen i × (z ≡ place_at pts i))) →
+          place_at pts v ∈ (a ∷ ps) → ⊥
+      not_on h m = let q = h (place_at pts v) m in not-v q.0 q.1.0 (order_same pts n v q.0 o hv q.1.0.0 q.1.1)
 
       v-first : (w : ℕ) → Seen r.seen w → Known after v w
       v-first w s =
           let f = good.known p w sp s in
           let x = spreads-row el v p k (omega arith) n r.top few good.sized apart w s.0 (not-v w s) in
           record {
-            points = placeAt pts p ∷ f.points;
+            points = place_at pts p ∷ f.points;
             way = go (edge-link k _ _ hk g) f.way;
             once = (not_on f.seen, f.once);
             seen = λ z m. either (λ q. (v, (now-seen, q))) (λ i. later-seen f.seen z i) (Memᴰ.cases_cons m);
-            top = subst (λ (y : ℕ). Top y (placeAt pts v) (placeAt pts p ∷ f.points)) (sym x) (top-front _ k _ _ _ hk g f.top);
+            top = subst (λ (y : ℕ). Top y (place_at pts v) (place_at pts p ∷ f.points)) (sym x) (top-front _ k _ _ _ hk g f.top);
           }
 
       v-last : (w : ℕ) → Seen r.seen w → Known after w v
@@ -206,14 +206,14 @@ module _ (pts : List ℤ) (n : ℕ) (ks : List ℕ) (e : ℕ) (el : List ℕ) wh
           ∙ ap (λ (y : ℕ). longer el y k) (good.even p w sp s) in
           let back = turn-ends k _ _ g in
           record {
-            points = f.points ++ (placeAt pts v ∷ []);
+            points = f.points ++ (place_at pts v ∷ []);
             way = way_end f.way (edge-link k _ _ hk back);
-            once = once-end (placeAt pts w ∷ f.points) (placeAt pts v) f.once (not_on f.seen);
+            once = once-end (place_at pts w ∷ f.points) (place_at pts v) f.once (not_on f.seen);
             seen =
                 λ z m.
                 either (λ i. later-seen f.seen z i) (λ i. either (λ q. (v, (now-seen, q))) (λ q. elim q [ ]) (Memᴰ.cases_cons i))
-                (Memᴰ.append_cases (placeAt pts w ∷ f.points) m);
-            top = subst (λ (y : ℕ). Top y (placeAt pts w) (f.points ++ (placeAt pts v ∷ []))) (sym x)
+                (Memᴰ.append_cases (place_at pts w ∷ f.points) m);
+            top = subst (λ (y : ℕ). Top y (place_at pts w) (f.points ++ (place_at pts v ∷ []))) (sym x)
                 (top-end _ k _ _ _ _ hk back f.way f.top);
           }
 
@@ -241,7 +241,7 @@ module _ (pts : List ℤ) (n : ℕ) (ks : List ℕ) (e : ℕ) (el : List ℕ) wh
             way = f.way;
             once = f.once;
             seen = later-seen f.seen;
-            top = subst (λ (z : ℕ). Top z (placeAt pts x) f.points) (sym (untouched-at x y s q)) f.top;
+            top = subst (λ (z : ℕ). Top z (place_at pts x) f.points) (sym (untouched-at x y s q)) f.top;
           }
 
       pub hung : Good after

@@ -15,7 +15,7 @@ use Rattle.lists.specs.Member.{◌∈◌, Among}
 use Rattle.lists.proofs.TestLaws.{by, either}
 use Rattle.lists.proofs.MemberLaws.{once-length}
 use Rattle.plane.specs.declared.Place.{Place}
-use Rattle.plane.specs.Flat.{placeAt}
+use Rattle.plane.specs.Flat.{place_at}
 use Rattle.plane.specs.Rank.{InOrder}
 use Rattle.joined.specs.Joined.{Link}
 use Rattle.joined.specs.Tree as joined
@@ -23,13 +23,13 @@ use Rattle.joined.specs.Way.{Way, stop, go}
 use Rattle.joined.specs.Exchange.{steps}
 use Rattle.joined.proofs.WayLaws.{joined_free}
 use Rattle.lists.specs.Turns.{turns}
-use Rattle.tree.specs.Table.{treeBound, pairBound, key, firstEnd, secondEnd, Within}
+use Rattle.tree.specs.Table.{tree_bound, pair_bound, key, first_end, second_end, Within}
 use Rattle.longest.specs.Longest.{no_edge, Reach, hang, attach, pass, reached, start}
-use Rattle.tree.specs.Places.{endsOf, points_of, edgesOf}
+use Rattle.tree.specs.Places.{ends_of, points_of, edges_of}
 use Rattle.lists.proofs.TurnLaws.{turns-keep, turns-below}
 use Rattle.tree.proofs.SumLaws.{other, here as put-here}
 use Rattle.tree.proofs.ListingLaws.{listing-length, in-listing, of-listing}
-use Rattle.tree.proofs.PointLaws.{same_place}
+use Rattle.tree.proofs.PointLaws.{same-place}
 use Rattle.exchanges.proofs.PruneSound.{order_same}
 use Rattle.refiner.proofs.LongestSound.{Ends, Known, Good, hung}
 
@@ -44,13 +44,13 @@ zero-entry (suc m) zero = refl
 zero-entry (suc m) (suc i) = zero-entry m i
 
 abbrev zeros : List ℕ
-zeros = replicate treeBound 0
+zeros = replicate tree_bound 0
 
 same_length : (m x : ℕ) → length (replicate m x) ≡ m
 same_length zero x = refl
 same_length (suc m) x = ap suc (same_length m x)
 
-module _ (pts : List ℤ) (n : ℕ) (ks : List ℕ) (e : ℕ) (el : List ℕ) (o : InOrder pts n) (few : n ≤ treeBound) (fewer : e < treeBound)
+module _ (pts : List ℤ) (n : ℕ) (ks : List ℕ) (e : ℕ) (el : List ℕ) (o : InOrder pts n) (few : n ≤ tree_bound) (fewer : e < tree_bound)
     (none : get_or el no_edge 0 ≡ 0) (alone : (i j : ℕ) (c d : Place) → i < e → j < e → Ends pts n ks e el i c d → Ends pts n ks e el j c d →
     i ≡ j)
     (w : Within n ks) where
@@ -63,10 +63,10 @@ module _ (pts : List ℤ) (n : ℕ) (ks : List ℕ) (e : ℕ) (el : List ℕ) (o
   -- one edge
   module _ (k : ℕ) (hk : k < e) (r : Reach) (good : Fine r) where
     abbrev a : ℕ
-    a = firstEnd (get_or ks k 0)
+    a = first_end (get_or ks k 0)
 
     abbrev b : ℕ
-    b = secondEnd (get_or ks k 0)
+    b = second_end (get_or ks k 0)
 
     zero_or : (i j : ℕ) → (get_or r.seen i 0 ≡ get_or r.seen j 0 → ⊥) → get_or r.seen i 0 ≡ 0 → Has r j
     zero_or i j d z = either (λ q. absurd (d (z ∙ sym q))) (λ q. q) (good.marks j)
@@ -130,8 +130,8 @@ module _ (pts : List ℤ) (n : ℕ) (ks : List ℕ) (e : ℕ) (el : List ℕ) (o
       (pass-keeps i (omega arith) r g x s)
 
   reaches : (c i : ℕ) (r : Reach) → Fine r → i + c ≤ e → (j : ℕ) → i ≤ j → j < i + c →
-      Has r (firstEnd (get_or ks j 0)) ⊎ Has r (secondEnd (get_or ks j 0)) →
-      Has (turns (pass ks el n) i c r) (firstEnd (get_or ks j 0)) × Has (turns (pass ks el n) i c r) (secondEnd (get_or ks j 0))
+      Has r (first_end (get_or ks j 0)) ⊎ Has r (second_end (get_or ks j 0)) →
+      Has (turns (pass ks el n) i c r) (first_end (get_or ks j 0)) × Has (turns (pass ks el n) i c r) (second_end (get_or ks j 0))
   unfolding turns
   reaches zero i r g h j l m s = absurd (let z : ⊥ = omega arith in z)
   reaches (suc c) i r g h j l m s =
@@ -143,10 +143,10 @@ module _ (pts : List ℤ) (n : ℕ) (ks : List ℕ) (e : ℕ) (el : List ℕ) (o
       (either (λ q. inl (pass-keeps i (omega arith) r g _ q)) (λ q. inr (pass-keeps i (omega arith) r g _ q)) s))
       (λ t.
       let q : i ≡ j = omega (arith, ltb-false i j t) in
-      let two = pass-both i (omega arith) r g (subst (λ (y : ℕ). Has r (firstEnd (get_or ks y 0)) ⊎ Has r (secondEnd (get_or ks y 0)))
+      let two = pass-both i (omega arith) r g (subst (λ (y : ℕ). Has r (first_end (get_or ks y 0)) ⊎ Has r (second_end (get_or ks y 0)))
       (sym q) s) in
-      subst (λ (y : ℕ). Has (turns (pass ks el n) (suc i) c next) (firstEnd (get_or ks y 0)) × Has (turns (pass ks el n) (suc i) c next)
-      (secondEnd (get_or ks y 0))) q
+      subst (λ (y : ℕ). Has (turns (pass ks el n) (suc i) c next) (first_end (get_or ks y 0)) × Has (turns (pass ks el n) (suc i) c next)
+      (second_end (get_or ks y 0))) q
       (keeps c (suc i) next good (omega arith) _ two.0, keeps c (suc i) next good (omega arith) _ two.1))
 
   abbrev sweep : ℕ → Reach → Reach
@@ -162,35 +162,35 @@ module _ (pts : List ℤ) (n : ℕ) (ks : List ℕ) (e : ℕ) (el : List ℕ) (o
 
   -- along a way, a sweep a step
   along : (ps : List Place) (c i : ℕ) (r : Reach) → Fine r → (x y : ℕ) → x < n → y < n → Has r x →
-      Way (edgesOf pts ks e) (placeAt pts x) ps (placeAt pts y) →
+      Way (edges_of pts ks e) (place_at pts x) ps (place_at pts y) →
       length ps ≤ c → Has (turns sweep i c r) y
   unfolding turns
   along [] c i r g x y hx hy s (stop q) l = sweeps-keep c i r g y (subst (λ (z : ℕ). Has r z) (order_same pts n x y o hx hy q) s)
   along (z ∷ ps) zero i r g x y hx hy s v l = absurd (let f : ⊥ = omega arith in f)
   along (z ∷ ps) (suc c) i r g x y hx hy s (go (inl m) v) l =
-      let q = of-listing (λ j. endsOf pts (get_or ks j 0)) e (placeAt pts x, z) m in
+      let q = of-listing (λ j. ends_of pts (get_or ks j 0)) e (place_at pts x, z) m in
       let f = w.ends q.0 in
-      let at : x ≡ firstEnd (get_or ks q.0 0) = order_same pts n _ _ o hx f.0 (ap (λ (t : Place × Place). t.0) q.1.1) in
+      let at : x ≡ first_end (get_or ks q.0 0) = order_same pts n _ _ o hx f.0 (ap (λ (t : Place × Place). t.0) q.1.1) in
       let two = reaches e 0 r g (omega arith) q.0 (omega arith) (omega (arith, q.1.0)) (inl (subst (λ (t : ℕ). Has r t) at s)) in
-      along ps c (suc i) (sweep 0 r) (sweep-good r g) (secondEnd (get_or ks q.0 0)) y f.1 hy two.1
-      (subst (λ (t : Place). Way (edgesOf pts ks e) t ps (placeAt pts y)) (ap (λ (t : Place × Place). t.1) q.1.1) v) (omega arith)
+      along ps c (suc i) (sweep 0 r) (sweep-good r g) (second_end (get_or ks q.0 0)) y f.1 hy two.1
+      (subst (λ (t : Place). Way (edges_of pts ks e) t ps (place_at pts y)) (ap (λ (t : Place × Place). t.1) q.1.1) v) (omega arith)
   along (z ∷ ps) (suc c) i r g x y hx hy s (go (inr m) v) l =
-      let q = of-listing (λ j. endsOf pts (get_or ks j 0)) e (z, placeAt pts x) m in
+      let q = of-listing (λ j. ends_of pts (get_or ks j 0)) e (z, place_at pts x) m in
       let f = w.ends q.0 in
-      let at : x ≡ secondEnd (get_or ks q.0 0) = order_same pts n _ _ o hx f.1 (ap (λ (t : Place × Place). t.1) q.1.1) in
+      let at : x ≡ second_end (get_or ks q.0 0) = order_same pts n _ _ o hx f.1 (ap (λ (t : Place × Place). t.1) q.1.1) in
       let two = reaches e 0 r g (omega arith) q.0 (omega arith) (omega (arith, q.1.0)) (inr (subst (λ (t : ℕ). Has r t) at s)) in
-      along ps c (suc i) (sweep 0 r) (sweep-good r g) (firstEnd (get_or ks q.0 0)) y f.0 hy two.0
-      (subst (λ (t : Place). Way (edgesOf pts ks e) t ps (placeAt pts y)) (ap (λ (t : Place × Place). t.0) q.1.1) v) (omega arith)
+      along ps c (suc i) (sweep 0 r) (sweep-good r g) (first_end (get_or ks q.0 0)) y f.0 hy two.0
+      (subst (λ (t : Place). Way (edges_of pts ks e) t ps (place_at pts y)) (ap (λ (t : Place × Place). t.0) q.1.1) v) (omega arith)
 
   -- All points
 
   begin : 0 < n → Fine start
   unfolding start steps
   begin h = record {
-    room = length-set zeros 0 1 ∙ same_length treeBound 0;
-    sized = same_length pairBound no_edge;
+    room = length-set zeros 0 1 ∙ same_length tree_bound 0;
+    sized = same_length pair_bound no_edge;
     marks = λ i. by (eqb 0 i) (λ q. inr (ap (λ (j : ℕ). get_or (set zeros 0 1) j 0) (sym (eqb-true 0 i q))))
-        (λ q. inl (other zeros 0 i 1 (eqb-false 0 i q) ∙ zero-entry treeBound i));
+        (λ q. inl (other zeros 0 i 1 (eqb-false 0 i q) ∙ zero-entry tree_bound i));
     known = λ x y s q. subst (λ (i : ℕ). Known pts n ks e el start i y) (sym (only x s.1))
         (subst (λ (i : ℕ). Known pts n ks e el start 0 i) (sym (only y q.1)) first);
     even = λ x y s q. ap₂ (λ (i j : ℕ). get_or start.top (key i j) 0) (only x s.1 ∙ sym (only y q.1))
@@ -200,7 +200,7 @@ module _ (pts : List ℤ) (n : ℕ) (ks : List ℕ) (e : ℕ) (el : List ℕ) (o
       only : (i : ℕ) → Has start i → i ≡ 0
       only i s =
           by (eqb 0 i) (λ q. sym (eqb-true 0 i q))
-          (λ q. absurd (let z : get_or (set zeros 0 1) i 0 ≡ 0 = other zeros 0 i 1 (eqb-false 0 i q) ∙ zero-entry treeBound i in
+          (λ q. absurd (let z : get_or (set zeros 0 1) i 0 ≡ 0 = other zeros 0 i 1 (eqb-false 0 i q) ∙ zero-entry tree_bound i in
           let y : ⊥ = omega
           (arith, s, z) in y))
 
@@ -210,25 +210,25 @@ module _ (pts : List ℤ) (n : ℕ) (ks : List ℕ) (e : ℕ) (el : List ℕ) (o
         way = stop refl;
         once = (λ m. elim m [ ], tt);
         seen = λ z m. either (λ q. (0, ((h, refl), q))) (λ i. elim i [ ]) (Memᴰ.cases_cons m);
-        top = record { is = inl (refl, same-entry pairBound no_edge 0 (omega arith)); best = λ j hj c d m f. elim m [ ] };
+        top = record { is = inl (refl, same-entry pair_bound no_edge 0 (omega arith)); best = λ j hj c d m f. elim m [ ] };
       }
 
-  module _ (whole : joined.TreeOn (points_of pts n) (edgesOf pts ks e)) where
-    points-of : (x : Place) (ps : List Place) (y : Place) → x ∈ points_of pts n → Way (edgesOf pts ks e) x ps y →
+  module _ (whole : joined.TreeOn (points_of pts n) (edges_of pts ks e)) where
+    points-of : (x : Place) (ps : List Place) (y : Place) → x ∈ points_of pts n → Way (edges_of pts ks e) x ps y →
         Among (x ∷ ps) (points_of pts n)
     points-of x ps y i (stop q) z m = either (λ q. Memᴰ.cast q i) (λ j. elim j [ ]) (Memᴰ.cases_cons m)
     points-of x (v ∷ ps) y i (go l t) z m = either (λ q. Memᴰ.cast q i) (λ j. points-of v ps y (next l) t z j) (Memᴰ.cases_cons m)
       where
-        next : Link (edgesOf pts ks e) x v → v ∈ points_of pts n
+        next : Link (edges_of pts ks e) x v → v ∈ points_of pts n
         next (inl j) =
-            let q = of-listing (λ j. endsOf pts (get_or ks j 0)) e (x, v) j in
-            Memᴰ.cast (ap (λ (t : Place × Place). t.1) q.1.1) (in-listing (placeAt pts) n _ (w.ends q.0).1)
+            let q = of-listing (λ j. ends_of pts (get_or ks j 0)) e (x, v) j in
+            Memᴰ.cast (ap (λ (t : Place × Place). t.1) q.1.1) (in-listing (place_at pts) n _ (w.ends q.0).1)
         next (inr j) =
-            let q = of-listing (λ j. endsOf pts (get_or ks j 0)) e (v, x) j in
-            Memᴰ.cast (ap (λ (t : Place × Place). t.0) q.1.1) (in-listing (placeAt pts) n _ (w.ends q.0).0)
+            let q = of-listing (λ j. ends_of pts (get_or ks j 0)) e (v, x) j in
+            Memᴰ.cast (ap (λ (t : Place × Place). t.0) q.1.1) (in-listing (place_at pts) n _ (w.ends q.0).0)
 
     size : suc e ≡ n
-    size = ap suc (sym (listing-length _ e)) ∙ whole.size ∙ listing-length (placeAt pts) n
+    size = ap suc (sym (listing-length _ e)) ∙ whole.size ∙ listing-length (place_at pts) n
 
     abbrev pub last : Reach
     last = reached ks el e n start
@@ -244,10 +244,10 @@ module _ (pts : List ℤ) (n : ℕ) (ks : List ℕ) (e : ℕ) (el : List ℕ) (o
     pub last-seen : (y : ℕ) → y < n → Has last y
     unfolding reached
     last-seen y h =
-        let x : placeAt pts 0 ∈ points_of pts n = in-listing (placeAt pts) n 0 (omega (arith, size)) in
-        let f = joined_free same_place (whole.joins (placeAt pts 0) (placeAt pts y) x (in-listing (placeAt pts) n y h)) in
-        let l = once-length (placeAt pts 0 ∷ f.points) (points_of pts n) f.once (points-of _ _ _ x f.way) in
-        let z = listing-length (placeAt pts) n in
+        let x : place_at pts 0 ∈ points_of pts n = in-listing (place_at pts) n 0 (omega (arith, size)) in
+        let f = joined_free same-place (whole.joins (place_at pts 0) (place_at pts y) x (in-listing (place_at pts) n y h)) in
+        let l = once-length (place_at pts 0 ∷ f.points) (points_of pts n) f.once (points-of _ _ _ x f.way) in
+        let z = listing-length (place_at pts) n in
         along f.points e 0 start (begin (omega (arith, size))) 0 y (omega (arith, size)) h (begin-has) f.way
         (omega (arith, l, z, size))
 

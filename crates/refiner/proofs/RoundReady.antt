@@ -18,12 +18,12 @@ use Rattle.plane.specs.declared.Place.{Place}
 use Rattle.plane.specs.declared.Macro.{Macro}
 use Rattle.plane.specs.declared.Weights.{Weights}
 use Rattle.plane.specs.Cost.{cost}
-use Rattle.plane.specs.Flat.{placeAt}
-use Rattle.net.specs.Net.{Net, costIn}
+use Rattle.plane.specs.Flat.{place_at}
+use Rattle.net.specs.Net.{Net, cost_in}
 use Rattle.forest.specs.Labels.{far}
-use Rattle.forest.specs.Parents.{wayAfter}
-use Rattle.tree.specs.Table.{treeBound, firstEnd, secondEnd, Tree}
-use Rattle.tree.specs.Places.{points_of, keyCost, treeTotal, Ranked, Sound}
+use Rattle.forest.specs.Parents.{way_after}
+use Rattle.tree.specs.Table.{tree_bound, first_end, second_end, Tree}
+use Rattle.tree.specs.Places.{points_of, key_cost, tree_total, Ranked, Sound}
 use Rattle.tree.specs.Outside.{strangers}
 use Rattle.tree.proofs.ListingLaws.{listing-length, in-listing}
 use Rattle.tree.proofs.PointLaws.{order-once}
@@ -34,10 +34,10 @@ use Rattle.longest.specs.Longest.{costs, longest}
 use Rattle.candidates.specs.Candidate.{best, found, middle_of}
 use Rattle.candidates.specs.Candidate as tree
 use Rattle.exchanges.specs.Exchange.{exchange}
-use Rattle.beside.specs.Beside.{Ground, search, middleBeside, either, chosen_of, chosenIn, labelsIn, parentsIn, seatsIn}
+use Rattle.beside.specs.Beside.{Ground, search, middle_beside, either, chosen_of, chosen_in, labels_in, parents_in, seats_in}
 use Rattle.refiner.specs.Graft.{Grown}
-use Rattle.refiner.specs.Round.{exchangeWith, exchangeIn, roundsIn}
-use Rattle.refiner.specs.Ready.{verticesOf, vertexAt, Grounded, Ready, Roomy}
+use Rattle.refiner.specs.Round.{exchange_with, exchange_in, rounds_in}
+use Rattle.refiner.specs.Ready.{vertices_of, vertex_at, Grounded, Ready, Roomy}
 use Rattle.refiner.specs.Sentences.{key_at}
 use Rattle.bounds.proofs.CostLaws.{cost-at}
 use Rattle.refiner.proofs.WinnerLaws.{Winner, found-wins}
@@ -54,23 +54,23 @@ use Rattle.refiner.proofs.TakenKept.{Exchanged, taken-kept}
 pub ready-roomy : (net : Net) (g : Ground) (t : Tree) (m : ℕ) → Ready net g t (suc m) → Roomy g t
 ready-roomy net g t m r =
     let size = tree-size net t r.sound in
-    let vertices = listing-length (vertexAt g) g.count in
+    let vertices = listing-length (vertex_at g) g.count in
     record {
       spanned = record {
         size = size;
-        few = omega (arith, count-strangers (verticesOf g) t r.sound.ordered, vertices, r.room);
+        few = omega (arith, count-strangers (vertices_of g) t r.sound.ordered, vertices, r.room);
         within = r.sound.within;
         reaches = λ el none v h.
             tree-reaches t.points t.count t.edges.keys t.edges.size el r.sound.ordered
-            (omega (arith, count-strangers (verticesOf g) t r.sound.ordered, vertices, r.room))
-            (omega (arith, size, count-strangers (verticesOf g) t r.sound.ordered, vertices, r.room)) none r.sound.within
+            (omega (arith, count-strangers (vertices_of g) t r.sound.ordered, vertices, r.room))
+            (omega (arith, size, count-strangers (vertices_of g) t r.sound.ordered, vertices, r.room)) none r.sound.within
             r.sound.whole v h;
       };
       room = λ u h. omega (arith, way-room net g t r.grounded r.sound u h, r.room);
       seated = λ u h. (seated net g t r.grounded r.sound u h).0;
-      few = omega (arith, count-strangers (verticesOf g) t r.sound.ordered, vertices, r.room);
+      few = omega (arith, count-strangers (vertices_of g) t r.sound.ordered, vertices, r.room);
       points = (
-        omega (arith, count-strangers (verticesOf g) t r.sound.ordered, vertices, r.room, r.places),
+        omega (arith, count-strangers (vertices_of g) t r.sound.ordered, vertices, r.room, r.places),
         r.sound.ordered,
       );
       vertices = (omega (arith, r.grounded.sized, r.grounded.few-vertices), r.grounded.ordered);
@@ -81,8 +81,8 @@ ready-roomy net g t m r =
 -- what a round with the gain c keeps
 pub record Onward (net : Net) (g : Ground) (t r : Tree) (m gain : ℕ) : Type 0 where
   pub ready : Ready net g r m
-  pub strange : strangers (verticesOf g) r ≤ strangers (verticesOf g) t + 1
-  pub falls : treeTotal net.weights r + gain ≡ treeTotal net.weights t
+  pub strange : strangers (vertices_of g) r ≤ strangers (vertices_of g) t + 1
+  pub falls : tree_total net.weights r + gain ≡ tree_total net.weights t
 
 module _ (net : Net) (g : Ground) (t : Tree) (m : ℕ) (r : Ready net g t (suc m)) where
   abbrev pub el : List ℕ
@@ -97,9 +97,9 @@ module _ (net : Net) (g : Ground) (t : Tree) (m : ℕ) (r : Ready net g t (suc m
   abbrev pub off : Best
   off =
       search net.weights t.points t.count net.macros t.edges.keys t.edges.size el top g.places g.count
-      (labelsIn g t).fars (parentsIn g t).ups (seatsIn g t) on
+      (labels_in g t).fars (parents_in g t).ups (seats_in g t) on
 
-  few : t.count < treeBound
+  few : t.count < tree_bound
   few = (ready-roomy net g t m r).few
 
   -- on the tree
@@ -119,11 +119,11 @@ module _ (net : Net) (g : Ground) (t : Tree) (m : ℕ) (r : Ready net g t (suc m
           grounded = r.grounded;
           sound = k.sound;
           ranked = k.ranked r.ranked;
-          room = omega (arith, k.points (verticesOf g), r.room);
+          room = omega (arith, k.points (vertices_of g), r.room);
           places = k.places ∙ r.places;
           rows = k.rows ∙ r.rows;
         };
-        strange = k.points (verticesOf g);
+        strange = k.points (vertices_of g);
         falls =
             round-falls net t.points t.count t.edges.keys few r.places r.rows on t.edges.size r.sound (on-won h);
       }
@@ -132,18 +132,18 @@ module _ (net : Net) (g : Ground) (t : Tree) (m : ℕ) (r : Ready net g t (suc m
 
   module _ (h : on.gain < off.gain) where
     pub win : WinnerOff net.weights net.macros t.points t.count t.edges.keys t.edges.size el top g.places g.count
-        (labelsIn g t).fars (parentsIn g t).ups (seatsIn g t) off.gain off.edge off.point off.cut
+        (labels_in g t).fars (parents_in g t).ups (seats_in g t) off.gain off.edge off.point off.cut
     win =
         (search-leads-off net.weights net.macros t.points t.count t.edges.keys t.edges.size el top g.places g.count
-        (labelsIn g t).fars (parentsIn g t).ups (seatsIn g t) on.gain on refl).wins h
+        (labels_in g t).fars (parents_in g t).ups (seats_in g t) on.gain on refl).wins h
 
-    far-enough : t.count + length (wayAfter (labelsIn g t).fars (parentsIn g t).ups off.point) < treeBound
+    far-enough : t.count + length (way_after (labels_in g t).fars (parents_in g t).ups off.point) < tree_bound
     far-enough = (ready-roomy net g t m r).room off.point win.vertex
 
-    pub room-way : length (wayAfter (labelsIn g t).fars (parentsIn g t).ups off.point) + t.count ≤ treeBound
+    pub room-way : length (way_after (labels_in g t).fars (parents_in g t).ups off.point) + t.count ≤ tree_bound
     room-way = omega (arith, far-enough)
 
-    pub low : t.count ≤ treeBound
+    pub low : t.count ≤ tree_bound
     low = omega (arith, few)
 
     abbrev pub grown : Grown
@@ -151,19 +151,19 @@ module _ (net : Net) (g : Ground) (t : Tree) (m : ℕ) (r : Ready net g t (suc m
         off.cut win room-way
 
     abbrev x : Place
-    x = vertexAt g off.point
+    x = vertex_at g off.point
 
     pub grows : Grows net t off.edge off.cut x (graft.qs net g t r.grounded r.sound r.ranked r.places r.rows low
         off.gain off.edge off.point off.cut win room-way) grown
     grows = graft.grows net g t r.grounded r.sound r.ranked r.places r.rows low off.gain off.edge off.point
         off.cut win room-way
 
-    pub grown-few : grown.tree.count < treeBound
+    pub grown-few : grown.tree.count < tree_bound
     grown-few =
         omega (
           arith,
           grows.count,
-          length-map (wayAfter (labelsIn g t).fars (parentsIn g t).ups off.point) (vertexAt g),
+          length-map (way_after (labels_in g t).fars (parents_in g t).ups off.point) (vertex_at g),
           far-enough,
         )
 
@@ -181,42 +181,42 @@ module _ (net : Net) (g : Ground) (t : Tree) (m : ℕ) (r : Ready net g t (suc m
 
     -- the points of the way are vertices
     way-known : (z : Place) → z ∈ (x ∷ graft.qs net g t r.grounded r.sound r.ranked r.places r.rows low off.gain
-        off.edge off.point off.cut win room-way) → z ∈ verticesOf g
+        off.edge off.point off.cut win room-way) → z ∈ vertices_of g
     way-known z i =
-        let s = of_map (vertexAt g) (off.point ∷ wayAfter (labelsIn g t).fars (parentsIn g t).ups off.point) i in
+        let s = of_map (vertex_at g) (off.point ∷ way_after (labels_in g t).fars (parents_in g t).ups off.point) i in
         Memᴰ.cast s.is
-        (in-listing (vertexAt g) g.count s.entry
+        (in-listing (vertex_at g) g.count s.entry
         (way-low net g t r.grounded r.sound win.vertex (way-along net g t r.grounded r.sound off.point win.vertex)
         s.entry s.stands))
 
-    grown-strangers : strangers (verticesOf g) grown.tree ≤ strangers (verticesOf g) t
+    grown-strangers : strangers (vertices_of g) grown.tree ≤ strangers (vertices_of g) t
     grown-strangers =
-        outside-fewer (verticesOf g) (points_of t.points t.count) (points_of grown.tree.points grown.tree.count)
+        outside-fewer (vertices_of g) (points_of t.points t.count) (points_of grown.tree.points grown.tree.count)
         (order-once grown.tree.points grown.tree.count grows.sound.ordered)
         (λ y i. cases inr (λ j. inl (way-known y j)) (grows.point-known y i))
 
-    one-stranger : strangers (verticesOf g) off_next ≤ strangers (verticesOf g) grown.tree + 1
+    one-stranger : strangers (vertices_of g) off_next ≤ strangers (vertices_of g) grown.tree + 1
     one-stranger =
-        outside-more (verticesOf g) (points_of grown.tree.points grown.tree.count) (points_of off_next.points off_next.count) _
+        outside-more (vertices_of g) (points_of grown.tree.points grown.tree.count) (points_of off_next.points off_next.count) _
         (order-once off_next.points off_next.count kept.sound.ordered) kept.known
 
-    cut-cost : keyCost net.weights grown.tree.points (get_or grown.tree.edges.keys grown.cut 0) ≡ get_or el off.cut 0
+    cut-cost : key_cost net.weights grown.tree.points (get_or grown.tree.edges.keys grown.cut 0) ≡ get_or el off.cut 0
     cut-cost =
         ap (λ (z : Place × Place). cost net.weights z.0 z.1) grows.cut-at
         ∙ sym (cost-at net.weights t.points t.edges.keys t.edges.size off.cut
         (omega (arith, tree-size net t r.sound, low)) (graft.cut net g t r.grounded r.sound r.ranked r.places r.rows low
         off.gain off.edge off.point off.cut win room-way).longest.step.edge)
 
-    laid-cost : treeTotal net.weights grown.tree ≡ far (labelsIn g t) off.point + treeTotal net.weights t
+    laid-cost : tree_total net.weights grown.tree ≡ far (labels_in g t) off.point + tree_total net.weights t
     laid-cost =
         grows.total
-        ∙ ap (λ (k : ℕ). k + treeTotal net.weights t) (way_long net g t r.grounded r.sound off.point win.vertex)
+        ∙ ap (λ (k : ℕ). k + tree_total net.weights t) (way_long net g t r.grounded r.sound off.point win.vertex)
 
-    s-cost : costIn net (middle_of grown.tree.points (firstEnd (get_or grown.tree.edges.keys grown.edge 0))
-        (secondEnd (get_or grown.tree.edges.keys grown.edge 0)) grown.last) (placeAt grown.tree.points grown.last)
-        ≡ costIn net (middleBeside t.points g.places (firstEnd (key_at t off.edge)) (secondEnd (key_at t off.edge)) off.point)
+    s-cost : cost_in net (middle_of grown.tree.points (first_end (get_or grown.tree.edges.keys grown.edge 0))
+        (second_end (get_or grown.tree.edges.keys grown.edge 0)) grown.last) (place_at grown.tree.points grown.last)
+        ≡ cost_in net (middle_beside t.points g.places (first_end (key_at t off.edge)) (second_end (key_at t off.edge)) off.point)
         x
-    s-cost = ap₂ (costIn net) (graft.s-is net g t r.grounded r.sound r.ranked r.places r.rows low off.gain off.edge
+    s-cost = ap₂ (cost_in net) (graft.s-is net g t r.grounded r.sound r.ranked r.places r.rows low off.gain off.edge
         off.point off.cut win room-way) grows.last-at
 
     off-onward : Onward net g t off_next m off.gain
@@ -236,26 +236,26 @@ module _ (net : Net) (g : Ground) (t : Tree) (m : ℕ) (r : Ready net g t (suc m
   -- either
 
   abbrev pub next : Tree
-  next = exchangeIn g t (chosenIn net.weights net.macros g t)
+  next = exchange_in g t (chosen_in net.weights net.macros g t)
 
-  pub either-onward : ((either on off).gain ≡ 0 → ⊥) → Onward net g t (exchangeIn g t (either on off)) m (either on off).gain
-  unfolding either exchangeIn exchangeWith
+  pub either-onward : ((either on off).gain ≡ 0 → ⊥) → Onward net g t (exchange_in g t (either on off)) m (either on off).gain
+  unfolding either exchange_in exchange_with
   either-onward =
       by (ltb on.gain off.gain)
       (λ b. rw (either, b) (λ h. off-onward (ltb-true _ _ b)))
       (λ b. rw (either, b) (λ h. on-onward (omega (arith, h))))
 
-  pub round-onward : ((chosenIn net.weights net.macros g t).gain ≡ 0 → ⊥) →
-      Onward net g t next m (chosenIn net.weights net.macros g t).gain
-  unfolding chosenIn chosen_of
+  pub round-onward : ((chosen_in net.weights net.macros g t).gain ≡ 0 → ⊥) →
+      Onward net g t next m (chosen_in net.weights net.macros g t).gain
+  unfolding chosen_in chosen_of
   round-onward h = either-onward h
 
 -- All rounds
 
 -- the points are in the tables
-pub ready-few : {net : Net} {g : Ground} {t : Tree} {m : ℕ} → Ready net g t m → t.count ≤ treeBound
+pub ready-few : {net : Net} {g : Ground} {t : Tree} {m : ℕ} → Ready net g t m → t.count ≤ tree_bound
 ready-few {net} {g} {t} r =
-    omega (arith, count-strangers (verticesOf g) t r.sound.ordered, listing-length (vertexAt g) g.count, r.room)
+    omega (arith, count-strangers (vertices_of g) t r.sound.ordered, listing-length (vertex_at g) g.count, r.room)
 
 pub ready-less : {net : Net} {g : Ground} {t : Tree} {m : ℕ} → Ready net g t m → Ready net g t 0
 ready-less r = record {
@@ -268,53 +268,53 @@ ready-less r = record {
 }
 
 pub rounds-ready : (net : Net) (g : Ground) (m : ℕ) (t : Tree) → Ready net g t m →
-    Ready net g (roundsIn net.weights net.macros g m t) 0
-    × (treeTotal net.weights (roundsIn net.weights net.macros g m t) ≤ treeTotal net.weights t)
-unfolding roundsIn
+    Ready net g (rounds_in net.weights net.macros g m t) 0
+    × (tree_total net.weights (rounds_in net.weights net.macros g m t) ≤ tree_total net.weights t)
+unfolding rounds_in
 rounds-ready net g zero t r = (r, omega arith)
 rounds-ready net g (suc m) t r =
-    let c = chosenIn net.weights net.macros g t in
-    by (eqb c.gain 0) (λ q. rw (roundsIn, q) (ready-less r, omega arith))
+    let c = chosen_in net.weights net.macros g t in
+    by (eqb c.gain 0) (λ q. rw (rounds_in, q) (ready-less r, omega arith))
     (λ q.
     let o = round-onward net g t m r (eqb-false _ _ q) in
-    let more = rounds-ready net g m (exchangeIn g t c) o.ready in
-    rw (roundsIn, q) (more.0, omega (arith, more.1, o.falls)))
+    let more = rounds-ready net g m (exchange_in g t c) o.ready in
+    rw (rounds_in, q) (more.0, omega (arith, more.1, o.falls)))
 
 -- each round adds at most one point that is no vertex
 rounds-strange : (net : Net) (g : Ground) (m : ℕ) (t : Tree) → Ready net g t m →
-    strangers (verticesOf g) (roundsIn net.weights net.macros g m t) ≤ strangers (verticesOf g) t + m
-unfolding roundsIn
+    strangers (vertices_of g) (rounds_in net.weights net.macros g m t) ≤ strangers (vertices_of g) t + m
+unfolding rounds_in
 rounds-strange net g zero t r = omega arith
 rounds-strange net g (suc m) t r =
-    let c = chosenIn net.weights net.macros g t in
-    by (eqb c.gain 0) (λ q. rw (roundsIn, q) (omega arith))
+    let c = chosen_in net.weights net.macros g t in
+    by (eqb c.gain 0) (λ q. rw (rounds_in, q) (omega arith))
     (λ q.
     let o = round-onward net g t m r (eqb-false _ _ q) in
-    rw (roundsIn, q) (omega (arith, rounds-strange net g m (exchangeIn g t c) o.ready, o.strange)))
+    rw (rounds_in, q) (omega (arith, rounds-strange net g m (exchange_in g t c) o.ready, o.strange)))
 
 -- so there are at most the vertices and one further point a round
 pub rounds-count : (net : Net) (g : Ground) (m : ℕ) (t : Tree) → Ready net g t m →
-    (roundsIn net.weights net.macros g m t).count ≤ g.count + (strangers (verticesOf g) t + m)
+    (rounds_in net.weights net.macros g m t).count ≤ g.count + (strangers (vertices_of g) t + m)
 rounds-count net g m t r =
     omega (
       arith,
-      count-strangers (verticesOf g) (roundsIn net.weights net.macros g m t) (rounds-ready net g m t r).0.sound.ordered,
-      listing-length (vertexAt g) g.count,
+      count-strangers (vertices_of g) (rounds_in net.weights net.macros g m t) (rounds-ready net g m t r).0.sound.ordered,
+      listing-length (vertex_at g) g.count,
       rounds-strange net g m t r,
     )
 
 -- The rounds one after the other, as the code goes through them
 
-module _ (w : Weights) (ms : List Macro) (g : Ground) (k : ℕ) (t all : Tree) (h : roundsIn w ms g k t ≡ all) where
-  pub rounds-stop : (less : ℕ) → k ≡ suc less → (chosenIn w ms g t).gain ≡ 0 → t ≡ all
-  unfolding roundsIn
-  rounds-stop less i q = sym (rw (i, roundsIn, eq-eqb _ _ q) refl) ∙ h
+module _ (w : Weights) (ms : List Macro) (g : Ground) (k : ℕ) (t all : Tree) (h : rounds_in w ms g k t ≡ all) where
+  pub rounds-stop : (less : ℕ) → k ≡ suc less → (chosen_in w ms g t).gain ≡ 0 → t ≡ all
+  unfolding rounds_in
+  rounds-stop less i q = sym (rw (i, rounds_in, eq-eqb _ _ q) refl) ∙ h
 
-  pub rounds-more : (less : ℕ) → k ≡ suc less → ((chosenIn w ms g t).gain ≡ 0 → ⊥) → (r : Tree) → r ≡ exchangeIn g t (chosenIn w ms g t) →
-      roundsIn w ms g less r ≡ all
-  unfolding roundsIn
-  rounds-more less i q r e = rw e (sym (rw (i, roundsIn, ne_eqb _ _ q) refl) ∙ h)
+  pub rounds-more : (less : ℕ) → k ≡ suc less → ((chosen_in w ms g t).gain ≡ 0 → ⊥) → (r : Tree) → r ≡ exchange_in g t (chosen_in w ms g t) →
+      rounds_in w ms g less r ≡ all
+  unfolding rounds_in
+  rounds-more less i q r e = rw e (sym (rw (i, rounds_in, ne_eqb _ _ q) refl) ∙ h)
 
   pub rounds-end : k ≡ 0 → t ≡ all
-  unfolding roundsIn
+  unfolding rounds_in
   rounds-end e = sym (rw e refl) ∙ h

@@ -18,16 +18,16 @@ use Rattle.plane.specs.declared.Macro.{Macro}
 use Rattle.plane.specs.declared.Weights.{Weights}
 use Rattle.plane.specs.Cost.{cost}
 use Rattle.plane.specs.Macro.{clear}
-use Rattle.plane.specs.Flat.{placeAt}
+use Rattle.plane.specs.Flat.{place_at}
 use Rattle.net.specs.Net.{Net}
 use Rattle.candidates.specs.declared.Best.{Best}
 use Rattle.lists.specs.Turns.{turns}
-use Rattle.tree.specs.Table.{treeBound, firstEnd, secondEnd, Tree}
+use Rattle.tree.specs.Table.{tree_bound, first_end, second_end, Tree}
 use Rattle.longest.specs.Longest.{costs, longest, cut_of}
 use Rattle.triples.specs.Triple.{sees, taken, dropped, allowed}
 use Rattle.candidates.specs.Candidate.{best, middle_of, weighed, offer, offers, search, found}
 use Rattle.tree.specs.Places.{Sound}
-use Rattle.refiner.specs.Sentences.{key_at, endA, endB, costAt, EndOf, middleAt, CutAt, cut_in, Gains, Takes}
+use Rattle.refiner.specs.Sentences.{key_at, end_a, end_b, cost_at, EndOf, middle_at, CutAt, cut_in, Gains, Takes}
 use Rattle.bounds.proofs.DroppedLaws.{not-dropped, dropped-not}
 use Rattle.bounds.proofs.CostLaws.{cost-at}
 use Rattle.refiner.proofs.WinnerLaws.{Winner, found-wins}
@@ -84,20 +84,20 @@ module _ (w : Weights) (ms : List Macro) (pts : List ℤ) (n : ℕ) (ks : List �
   }
 
   offer-leads : (k u : ℕ) (c : Best) → k < e → u < n → Leads c k u →
-      Leads (offer w pts n ms el top (firstEnd (get_or ks k 0)) (secondEnd (get_or ks k 0)) k u c) k (suc u)
+      Leads (offer w pts n ms el top (first_end (get_or ks k 0)) (second_end (get_or ks k 0)) k u c) k (suc u)
   unfolding offer weighed allowed
   offer-leads k u c hk hu h =
-      let a = firstEnd (get_or ks k 0) in
-      let b = secondEnd (get_or ks k 0) in
+      let a = first_end (get_or ks k 0) in
+      let b = second_end (get_or ks k 0) in
       let l = cut_of el top a b u in
       let s = middle_of pts a b u in
-      let d = cost w s (placeAt pts u) in
+      let d = cost w s (place_at pts u) in
       let gained : (g m : ℕ) → Win g k u m → g + d ≡ get_or el l 0 = λ g m x. x.gained ∙ ap (λ (i : ℕ). get_or el i 0) x.cut in
       by (eqb u a || (eqb u b || eqb l k))
       (λ t. rw t (stays c k u h (λ g m x.
-      differ t (or-neither _ _ (ne_eqb u a x.notFirst)
-      (or-neither _ _ (ne_eqb u b x.notSecond) (ne_eqb l k (λ q. x.two (x.cut ∙ q)))))))) λ t.
-      by (ltb (c.gain + d) (get_or el l 0) && (sees ms (placeAt pts a) (placeAt pts b) (placeAt pts u) && not (dropped pts n a b u s)))
+      differ t (or-neither _ _ (ne_eqb u a x.not_first)
+      (or-neither _ _ (ne_eqb u b x.not_second) (ne_eqb l k (λ q. x.two (x.cut ∙ q)))))))) λ t.
+      by (ltb (c.gain + d) (get_or el l 0) && (sees ms (place_at pts a) (place_at pts b) (place_at pts u) && not (dropped pts n a b u s)))
       (λ z.
       let more = ltb-true (c.gain + d) (get_or el l 0) (and_left _ _ z) in
       rw (t, z) (comes c k u (get_or el l 0 - d) l h (omega (arith, more)) (λ g m x. omega (arith, gained g m x))))
@@ -107,7 +107,7 @@ module _ (w : Weights) (ms : List Macro) (pts : List ℤ) (n : ℕ) (ks : List �
 
   -- all points of one edge
   points-lead : (k : ℕ) → k < e → (m v : ℕ) (c : Best) → v + m ≡ n → Leads c k v →
-      Leads (turns (offer w pts n ms el top (firstEnd (get_or ks k 0)) (secondEnd (get_or ks k 0)) k) v m c) k n
+      Leads (turns (offer w pts n ms el top (first_end (get_or ks k 0)) (second_end (get_or ks k 0)) k) v m c) k n
   unfolding turns
   points-lead k hk zero v c q h = subst (λ (x : ℕ). Leads c k x) (omega arith) h
   points-lead k hk (suc m) v c q h = points-lead k hk m (suc v) _ (omega arith) (offer-leads k v c hk (omega arith) h)
@@ -147,14 +147,14 @@ unfolding sees
 one-sees ms a b u (inl t) = rw t refl
 one-sees ms a b u (inr t) = by (clear u a ms) (λ f. rw f refl) (λ f. rw (f, t) refl)
 
-module _ (net : Net) (t : Tree) (sound : Sound net t) (few : t.count ≤ treeBound) where
+module _ (net : Net) (t : Tree) (sound : Sound net t) (few : t.count ≤ tree_bound) where
   abbrev Won : ℕ → ℕ → ℕ → ℕ → Type 0
   Won g k u l =
       let el = costs net.weights t.points t.edges.keys t.edges.size in
       Winner net.weights net.macros t.points t.count t.edges.keys t.edges.size el
       (longest t.edges.keys el t.edges.size t.count) g k u l
 
-  cost-of : (j : ℕ) → j < t.edges.size → get_or (costs net.weights t.points t.edges.keys t.edges.size) j 0 ≡ costAt net t j
+  cost-of : (j : ℕ) → j < t.edges.size → get_or (costs net.weights t.points t.edges.keys t.edges.size) j 0 ≡ cost_at net t j
   cost-of j h = cost-at net.weights t.points t.edges.keys t.edges.size j (omega (arith, tree-size net t sound)) h
 
   -- a candidate that gains is weighed as such
@@ -164,15 +164,15 @@ module _ (net : Net) (t : Tree) (sound : Sound net t) (few : t.count ≤ treeBou
       record {
         edge = c.edge;
         point = c.point;
-        notFirst = λ q. c.third (inl q);
-        notSecond = λ q. c.third (inr q);
+        not_first = λ q. c.third (inl q);
+        not_second = λ q. c.third (inr q);
         two = cut-another net t sound few k u l h.cut;
         cut =
             cut-one net t sound few k u l (cut_in net t k u) c.edge h.cut
             (cut-at net t sound few k u c.edge c.point c.third);
-        seen = one-sees net.macros (endA t k) (endB t k) (placeAt t.points u) c.seen;
+        seen = one-sees net.macros (end_a t k) (end_b t k) (place_at t.points u) c.seen;
         kept =
-            not-dropped t.points t.count (firstEnd (key_at t k)) (secondEnd (key_at t k)) u (middleAt t k u)
+            not-dropped t.points t.count (first_end (key_at t k)) (second_end (key_at t k)) u (middle_at t k u)
             (λ i b q. c.kept i b (either q.0.0 q.0.1.0) q.0.1.1 q.1);
         gained = h.gain ∙ sym (cost-of l h.cut.longest.step.edge);
       }
@@ -183,10 +183,10 @@ module _ (net : Net) (t : Tree) (sound : Sound net t) (few : t.count ≤ treeBou
       edge = w.edge;
       point = w.point;
       third = third;
-      seen = sees-one net.macros (endA t k) (endB t k) (placeAt t.points u) w.seen;
+      seen = sees-one net.macros (end_a t k) (end_b t k) (place_at t.points u) w.seen;
       kept =
           λ i b ab iu s.
-          dropped-not t.points t.count (firstEnd (key_at t k)) (secondEnd (key_at t k)) u (middleAt t k u) w.kept i b
+          dropped-not t.points t.count (first_end (key_at t k)) (second_end (key_at t k)) u (middle_at t k u) w.kept i b
           (((λ q. ab (inl q)), ((λ q. ab (inr q)), iu)), s);
     };
     cut = cut;
@@ -195,7 +195,7 @@ module _ (net : Net) (t : Tree) (sound : Sound net t) (few : t.count ≤ treeBou
   }
     where
       third : EndOf t u k → ⊥
-      third = either w.notFirst w.notSecond
+      third = either w.not_first w.not_second
 
       cut : CutAt net t k u l
       cut = subst (λ (x : ℕ). CutAt net t k u x) (sym w.cut) (cut-at net t sound few k u w.edge w.point third)

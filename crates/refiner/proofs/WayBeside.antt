@@ -18,23 +18,23 @@ use Rattle.lists.proofs.TestLaws.{by, differ, either}
 use Rattle.lists.proofs.AnyLaws.{any_none}
 use Rattle.lists.proofs.MapLaws.{of_map, map-once}
 use Rattle.plane.specs.declared.Place.{Place}
-use Rattle.plane.specs.Place.{before, samePlace}
+use Rattle.plane.specs.Place.{before, same_place}
 use Rattle.plane.specs.Macro.{clear}
-use Rattle.plane.specs.Flat.{placeAt}
+use Rattle.plane.specs.Flat.{place_at}
 use Rattle.plane.specs.Rank.{rank}
 use Rattle.plane.proofs.PlaceLaws.{same_refl, before-irrefl}
 use Rattle.plane.proofs.MacroLaws.{clear_comm}
-use Rattle.net.specs.Net.{Net, costIn}
+use Rattle.net.specs.Net.{Net, cost_in}
 use Rattle.joined.specs.Joined.{Link}
 use Rattle.joined.specs.Way.{Way, stop, go, long}
 use Rattle.joined.proofs.WayLaws.{way-last}
-use Rattle.forest.specs.Bounds.{pointBound}
+use Rattle.forest.specs.Bounds.{point_bound}
 use Rattle.forest.specs.Labels.{Labels, far, root}
-use Rattle.forest.specs.Parents.{Parents, wayAfter}
+use Rattle.forest.specs.Parents.{Parents, way_after}
 use Rattle.forest.specs.Setting.{pairs}
 use Rattle.forest.proofs.Nearest.{joint, link-in}
 use Rattle.forest.proofs.Homeward.{source-label, far-off, root-source, way_home, way-runs, way-once, way-source}
-use Rattle.tree.specs.Table.{treeBound, Tree}
+use Rattle.tree.specs.Table.{tree_bound, Tree}
 use Rattle.tree.specs.Places.{points_of, Sound}
 use Rattle.tree.specs.Outside.{outside, strangers}
 use Rattle.tree.proofs.SumLaws.{other, here as set_here}
@@ -42,26 +42,26 @@ use Rattle.tree.proofs.ListingLaws.{listing-length, in-listing}
 use Rattle.tree.proofs.PointLaws.{order-once}
 use Rattle.tree.proofs.OutsideLaws.{outside-rest}
 use Rattle.lists.specs.Turns.{turns}
-use Rattle.beside.specs.Beside.{Ground, takeSeat, seats, labelsIn, parentsIn, seatsIn}
-use Rattle.refiner.specs.Ready.{verticesOf, vertexAt, Grounded}
+use Rattle.beside.specs.Beside.{Ground, take_seat, seats, labels_in, parents_in, seats_in}
+use Rattle.refiner.specs.Ready.{vertices_of, vertex_at, Grounded}
 use Rattle.refiner.proofs.WayFound.{point-is, is-seated, sources, distance, source_in, in_source, setting, whole}
 use Rattle.refiner.proofs.GraftSound.{Hanging}
 
 -- The table of seats
 
 module _ (pts : List ℤ) (n : ℕ) (vs : List ℤ) (roots : List ℕ) where
-  seats-before : (c i : ℕ) (t : List ℕ) (j : ℕ) → j < i → get_or (turns (takeSeat pts n vs roots) i c t) j 0 ≡ get_or t j 0
-  unfolding turns takeSeat
+  seats-before : (c i : ℕ) (t : List ℕ) (j : ℕ) → j < i → get_or (turns (take_seat pts n vs roots) i c t) j 0 ≡ get_or t j 0
+  unfolding turns take_seat
   seats-before zero i t j h = refl
   seats-before (suc c) i t j h =
-      seats-before c (suc i) _ j (omega arith) ∙ other t i j (rank pts n (placeAt vs (get_or roots i 0))) (λ q. let z : ⊥ = omega arith in z)
+      seats-before c (suc i) _ j (omega arith) ∙ other t i j (rank pts n (place_at vs (get_or roots i 0))) (λ q. let z : ⊥ = omega arith in z)
 
-  pub seats-from : (c i : ℕ) (t : List ℕ) (j : ℕ) → i + c ≤ length t → i ≤ j → j < i + c →
-      get_or (turns (takeSeat pts n vs roots) i c t) j 0 ≡ rank pts n (placeAt vs (get_or roots j 0))
-  unfolding turns takeSeat
+  seats-from : (c i : ℕ) (t : List ℕ) (j : ℕ) → i + c ≤ length t → i ≤ j → j < i + c →
+      get_or (turns (take_seat pts n vs roots) i c t) j 0 ≡ rank pts n (place_at vs (get_or roots j 0))
+  unfolding turns take_seat
   seats-from zero i t j b h l = absurd (let z : ⊥ = omega arith in z)
   seats-from (suc c) i t j b h l =
-      let x = rank pts n (placeAt vs (get_or roots i 0)) in
+      let x = rank pts n (place_at vs (get_or roots i 0)) in
       by (ltb i j)
       (λ q. seats-from c (suc i) (set t i x) j (rw (length-set t i x) (omega arith)) (ltb-true i j q) (omega arith))
       (λ q.
@@ -77,8 +77,8 @@ outside-known : (vs ws ps : List Place) → ((z : Place) → z ∈ ws → z ∈ 
 unfolding outside
 outside-known vs [] ps h = refl
 outside-known vs (w ∷ ws) ps h =
-    by (any (samePlace w) vs) (λ t. rw (outside, t) (outside-known vs ws ps (λ z i. h z (there i))))
-    (λ t. differ (same_refl w) (any_none (samePlace w) vs t w (h w (here refl))))
+    by (any (same_place w) vs) (λ t. rw (outside, t) (outside-known vs ws ps (λ z i. h z (there i))))
+    (λ t. differ (same_refl w) (any_none (same_place w) vs t w (h w (here refl))))
 
 once-append : (l m : List Place) → Once l → Once m → ((z : Place) → z ∈ l → z ∈ m → ⊥) → Once (l ++ m)
 once-append [] m o r h = r
@@ -104,65 +104,65 @@ fore-once u (y ∷ ys) o = (λ m. o.0 (fore-in y ys u m), fore-once y ys o.1)
 
 module _ (net : Net) (g : Ground) (t : Tree) (ground : Grounded net g) (sound : Sound net t) where
   abbrev pub T : Labels
-  T = labelsIn g t
+  T = labels_in g t
 
   abbrev pub P : Parents
-  P = parentsIn g t
+  P = parents_in g t
 
   abbrev pub way_of : ℕ → List ℕ
-  way_of u = wayAfter T.fars P.ups u
+  way_of u = way_after T.fars P.ups u
 
   -- Distances
 
   -- a vertex on the tree is at no distance, one beside it is
-  pub on-near : (u : ℕ) → u < g.count → vertexAt g u ∈ points_of t.points t.count → far T u ≡ 0
-  unfolding labelsIn
+  pub on-near : (u : ℕ) → u < g.count → vertex_at g u ∈ points_of t.points t.count → far T u ≡ 0
+  unfolding labels_in
   on-near u h m = (source-label (setting net g t ground sound) (whole net g t ground sound) u (in_source net g t ground sound u h m)).0
 
-  pub off-far : (u : ℕ) → u < g.count → (vertexAt g u ∈ points_of t.points t.count → ⊥) → 1 ≤ far T u
-  unfolding labelsIn
+  pub off-far : (u : ℕ) → u < g.count → (vertex_at g u ∈ points_of t.points t.count → ⊥) → 1 ≤ far T u
+  unfolding labels_in
   off-far u h n =
       far-off (setting net g t ground sound) (whole net g t ground sound) u h (λ m. n (source_in net g t ground sound u m).1)
 
   -- The root and its seat
 
-  pub root-on : (u : ℕ) → u < g.count → (root T u < g.count) × (vertexAt g (root T u) ∈ points_of t.points t.count)
-  unfolding labelsIn
+  pub root-on : (u : ℕ) → u < g.count → (root T u < g.count) × (vertex_at g (root T u) ∈ points_of t.points t.count)
+  unfolding labels_in
   root-on u h =
       source_in net g t ground sound _ (root-source (setting net g t ground sound) (whole net g t ground sound) u h)
 
-  seat-is : (u : ℕ) → u < g.count → get_or (seatsIn g t) u 0 ≡ rank t.points t.count (vertexAt g (root T u))
-  unfolding seatsIn seats
+  seat-is : (u : ℕ) → u < g.count → get_or (seats_in g t) u 0 ≡ rank t.points t.count (vertex_at g (root T u))
+  unfolding seats_in seats
   seat-is u h =
-      seats-from t.points t.count g.places T.roots g.count 0 (replicate pointBound 0) u
-      (rw (zeros-length pointBound) (omega (arith, ground.setting.vertices))) (omega arith) (omega arith)
+      seats-from t.points t.count g.places T.roots g.count 0 (replicate point_bound 0) u
+      (rw (zeros-length point_bound) (omega (arith, ground.setting.vertices))) (omega arith) (omega arith)
 
   pub seated : (u : ℕ) → u < g.count →
-      (get_or (seatsIn g t) u 0 < t.count) × (placeAt t.points (get_or (seatsIn g t) u 0) ≡ vertexAt g (root T u))
+      (get_or (seats_in g t) u 0 < t.count) × (place_at t.points (get_or (seats_in g t) u 0) ≡ vertex_at g (root T u))
   seated u h =
-      let s = is-seated t.points t.count sound.ordered (vertexAt g (root T u))
-      (point-is t.points t.count sound.ordered (vertexAt g (root T u)) (root-on u h).1) in
-      (omega (arith, seat-is u h, s.0), ap (placeAt t.points) (seat-is u h) ∙ s.1)
+      let s = is-seated t.points t.count sound.ordered (vertex_at g (root T u))
+      (point-is t.points t.count sound.ordered (vertex_at g (root T u)) (root-on u h).1) in
+      (omega (arith, seat-is u h, s.0), ap (place_at t.points) (seat-is u h) ∙ s.1)
 
   -- The way
 
-  step_clear : (x y : ℕ) → Link (pairs g.graph) x y → clear (vertexAt g x) (vertexAt g y) net.macros ≡ true
+  step_clear : (x y : ℕ) → Link (pairs g.graph) x y → clear (vertex_at g x) (vertex_at g y) net.macros ≡ true
   step_clear x y l =
       let j = joint (setting net g t ground sound) x y l in
       let free = ground.free j.edge j.inside in
       either
-      (λ e. ap₂ (λ (a b : ℕ). clear (vertexAt g a) (vertexAt g b) net.macros) e.0 e.1 ∙ free)
+      (λ e. ap₂ (λ (a b : ℕ). clear (vertex_at g a) (vertex_at g b) net.macros) e.0 e.1 ∙ free)
       (λ e.
-      ap₂ (λ (a b : ℕ). clear (vertexAt g a) (vertexAt g b) net.macros) e.0 e.1
+      ap₂ (λ (a b : ℕ). clear (vertex_at g a) (vertex_at g b) net.macros) e.0 e.1
       ∙ clear_comm _ _ net.macros ∙ free)
       j.ends-are
 
-  pub vertex-one : (x y : ℕ) → x < g.count → y < g.count → vertexAt g x ≡ vertexAt g y → x ≡ y
+  pub vertex-one : (x y : ℕ) → x < g.count → y < g.count → vertex_at g x ≡ vertex_at g y → x ≡ y
   vertex-one x y hx hy e =
-      by (ltb x y) (λ b. differ (ap (before (vertexAt g x)) e ∙ ground.ordered x y (ltb-true x y b) hy) (before-irrefl (vertexAt g x)))
+      by (ltb x y) (λ b. differ (ap (before (vertex_at g x)) e ∙ ground.ordered x y (ltb-true x y b) hy) (before-irrefl (vertex_at g x)))
       (λ b.
-      by (ltb y x) (λ c. differ (ap (before (vertexAt g y)) (sym e) ∙ ground.ordered y x (ltb-true y x c) hx)
-      (before-irrefl (vertexAt g y)))
+      by (ltb y x) (λ c. differ (ap (before (vertex_at g y)) (sym e) ∙ ground.ordered y x (ltb-true y x c) hx)
+      (before-irrefl (vertex_at g y)))
       (λ c. omega (arith, ltb-false x y b, ltb-false y x c)))
 
   pub way-low : {u r : ℕ} {ys : List ℕ} → u < g.count → Way (pairs g.graph) u ys r → (z : ℕ) → z ∈ (u ∷ ys) → z < g.count
@@ -170,10 +170,10 @@ module _ (net : Net) (g : Ground) (t : Tree) (ground : Grounded net g) (sound : 
   way-low h (stop e) z (there m) = elim m [ ]
   way-low {u} h (go {y = y} l w) z (there m) = way-low (link-in (setting net g t ground sound) u y l).far-in w z m
 
-  hang : {r : ℕ} (k l v : ℕ) → vertexAt g r ≡ placeAt t.points v → {u : ℕ} {ys : List ℕ} → u < g.count →
+  hang : {r : ℕ} (k l v : ℕ) → vertex_at g r ≡ place_at t.points v → {u : ℕ} {ys : List ℕ} → u < g.count →
       Way (pairs g.graph) u ys r → Once (u ∷ ys) →
-      ((z : ℕ) → z ∈ (u ∷ ys) → vertexAt g z ∈ points_of t.points t.count → z ≡ r) → Hanging net t k l v g.places ys u
-  hang k l v at h (stop e) o f = ap (vertexAt g) e ∙ at
+      ((z : ℕ) → z ∈ (u ∷ ys) → vertex_at g z ∈ points_of t.points t.count → z ≡ r) → Hanging net t k l v g.places ys u
+  hang k l v at h (stop e) o f = ap (vertex_at g) e ∙ at
   hang k l v at {u} h (go {y = y} {ps = ys} link w) o f =
       let low = (link-in (setting net g t ground sound) u y link).far-in in (
         step_clear u y link,
@@ -181,7 +181,7 @@ module _ (net : Net) (g : Ground) (t : Tree) (ground : Grounded net g) (sound : 
           λ m. o.0 (Memᴰ.cast (f u (here refl) m) (way-last w)),
           (
             λ m.
-                let s = of_map (vertexAt g) (y ∷ ys) m in
+                let s = of_map (vertex_at g) (y ∷ ys) m in
                 o.0 (Memᴰ.cast (vertex-one u s.entry h (way-low low w s.entry s.stands) s.is) s.stands),
             hang k l v at low w o.1 (λ z i. f z (there i)),
           ),
@@ -189,66 +189,66 @@ module _ (net : Net) (g : Ground) (t : Tree) (ground : Grounded net g) (sound : 
       )
 
   pub way-along : (u : ℕ) → u < g.count → Way (pairs g.graph) u (way_of u) (root T u)
-  unfolding labelsIn parentsIn wayAfter
+  unfolding labels_in parents_in way_after
   way-along u h = way-runs (setting net g t ground sound) (whole net g t ground sound) u h
 
   pub way-single : (u : ℕ) → u < g.count → Once (u ∷ way_of u)
-  unfolding labelsIn parentsIn wayAfter
+  unfolding labels_in parents_in way_after
   way-single u h = way-once (setting net g t ground sound) (whole net g t ground sound) u h
 
-  pub way-meets : (u : ℕ) → u < g.count → (z : ℕ) → z ∈ (u ∷ way_of u) → vertexAt g z ∈ points_of t.points t.count → z ≡ root T u
-  unfolding labelsIn parentsIn wayAfter
+  pub way-meets : (u : ℕ) → u < g.count → (z : ℕ) → z ∈ (u ∷ way_of u) → vertex_at g z ∈ points_of t.points t.count → z ≡ root T u
+  unfolding labels_in parents_in way_after
   way-meets u h z m p =
       way-source (setting net g t ground sound) (whole net g t ground sound) u h z m
       (in_source net g t ground sound z (way-low h (way-runs (setting net g t ground sound) (whole net g t ground sound) u h) z m) p)
 
-  pub way-hangs : (k l u : ℕ) → u < g.count → Hanging net t k l (get_or (seatsIn g t) u 0) g.places (way_of u) u
+  pub way-hangs : (k l u : ℕ) → u < g.count → Hanging net t k l (get_or (seats_in g t) u 0) g.places (way_of u) u
   way-hangs k l u h =
-      hang k l (get_or (seatsIn g t) u 0) (sym (seated u h).1) h (way-along u h) (way-single u h) (way-meets u h)
+      hang k l (get_or (seats_in g t) u 0) (sym (seated u h).1) h (way-along u h) (way-single u h) (way-meets u h)
 
   pub long-places : {u r : ℕ} {ys : List ℕ} → Way (pairs g.graph) u ys r →
-      long (costIn net) (vertexAt g u) (map (vertexAt g) ys) ≡ long (distance net g t ground sound) u ys
+      long (cost_in net) (vertex_at g u) (map (vertex_at g) ys) ≡ long (distance net g t ground sound) u ys
   unfolding long
   long-places (stop e) = refl
-  long-places {u} (go {y = y} l w) = ap (λ (s : ℕ). costIn net (vertexAt g u) (vertexAt g y) + s) (long-places w)
+  long-places {u} (go {y = y} l w) = ap (λ (s : ℕ). cost_in net (vertex_at g u) (vertex_at g y) + s) (long-places w)
 
   -- it is as long as the vertex is far
-  pub way_long : (u : ℕ) → u < g.count → long (costIn net) (vertexAt g u) (map (vertexAt g) (way_of u)) ≡ far T u
-  unfolding labelsIn parentsIn wayAfter
+  pub way_long : (u : ℕ) → u < g.count → long (cost_in net) (vertex_at g u) (map (vertex_at g) (way_of u)) ≡ far T u
+  unfolding labels_in parents_in way_after
   way_long u h =
       long-places (way-runs (setting net g t ground sound) (whole net g t ground sound) u h)
       ∙ (way_home (setting net g t ground sound) (whole net g t ground sound) u h).length-is
 
   -- How many
 
-  pub way-room : (u : ℕ) → u < g.count → t.count + length (way_of u) ≤ g.count + strangers (verticesOf g) t
+  pub way-room : (u : ℕ) → u < g.count → t.count + length (way_of u) ≤ g.count + strangers (vertices_of g) t
   way-room u h =
-      let ws = map (vertexAt g) (fore u (way_of u)) in
+      let ws = map (vertex_at g) (fore u (way_of u)) in
       let ps = points_of t.points t.count in
       let low = way-low h (way-along u h) in
-      let known : (z : Place) → z ∈ ws → z ∈ verticesOf g
+      let known : (z : Place) → z ∈ ws → z ∈ vertices_of g
       = λ z m.
-      let s = of_map (vertexAt g) (fore u (way_of u)) m in
-      Memᴰ.cast s.is (in-listing (vertexAt g) g.count s.entry (low s.entry (fore-in u (way_of u) s.entry s.stands))) in
+      let s = of_map (vertex_at g) (fore u (way_of u)) m in
+      Memᴰ.cast s.is (in-listing (vertex_at g) g.count s.entry (low s.entry (fore-in u (way_of u) s.entry s.stands))) in
       let once : Once (ws ++ ps)
       = once-append ws ps
-      (map-once (vertexAt g) (fore u (way_of u))
+      (map-once (vertex_at g) (fore u (way_of u))
       (λ x y i k e. vertex-one x y (low x (fore-in u (way_of u) x i)) (low y (fore-in u (way_of u) y k)) e)
       (fore-once u (way_of u) (way-single u h)))
       (order-once t.points t.count sound.ordered)
       (λ z m p.
-      let s = of_map (vertexAt g) (fore u (way_of u)) m in
+      let s = of_map (vertex_at g) (fore u (way_of u)) m in
       fore-last u (way_of u) (root T u) (way-along u h) (way-single u h) s.entry s.stands
       (way-meets u h s.entry (fore-in u (way_of u) s.entry s.stands) (Memᴰ.cast (sym s.is) p))) in
       omega (
         arith,
-        outside-rest (verticesOf g) (ws ++ ps) once,
-        outside-known (verticesOf g) ws ps known,
+        outside-rest (vertices_of g) (ws ++ ps) once,
+        outside-known (vertices_of g) ws ps known,
         length-append ws ps,
-        length-map (fore u (way_of u)) (vertexAt g),
+        length-map (fore u (way_of u)) (vertex_at g),
         fore-length u (way_of u),
-        listing-length (placeAt t.points) t.count,
-        listing-length (vertexAt g) g.count,
+        listing-length (place_at t.points) t.count,
+        listing-length (vertex_at g) g.count,
       )
     where
       -- the last vertex is none of those before it

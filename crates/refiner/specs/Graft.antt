@@ -3,12 +3,12 @@
 -- Numbers of points and of edges move on; the last point and the two edges that the exchange will take out are followed through it.
 use Rattle.std.specs.Prelude.{◌≡◌, Bool, true, false, not, List, [], ◌∷◌, ℕ, ◌+◌, ◌<◌, ltb, ℤ, get_or}
 use Rattle.plane.specs.declared.Place.{Place}
-use Rattle.plane.specs.Flat.{placeAt}
+use Rattle.plane.specs.Flat.{place_at}
 use Rattle.plane.specs.Rank.{rank}
 use Rattle.tree.specs.Table.{key, Tree, tree, Within}
 use Rattle.refiner.specs.declared.Growth.{Growth}
 use Rattle.lists.specs.Turns.{turns, seek}
-use Rattle.exchanges.specs.Exchange.{opened, bump, bumpAt, carrying}
+use Rattle.exchanges.specs.Exchange.{opened, bump, bump_at, carrying}
 
 -- a tree, the last point that was put in, and two edges
 pub record Grown : Type 0 where
@@ -22,24 +22,24 @@ abbrev pub grown : List ℤ → List ℕ → Growth → Grown
 grown pts keys g = record { tree = tree pts g.points keys g.edges; last = g.last; edge = g.edge; cut = g.cut }
 
 -- the key of the edge of two points
-unfoldable pub pairKey : ℕ → ℕ → ℕ
-pairKey a b = elim (ltb a b) [ true ↦ key a b | false ↦ key b a ]
+unfoldable pub pair_key : ℕ → ℕ → ℕ
+pair_key a b = elim (ltb a b) [ true ↦ key a b | false ↦ key b a ]
 
 -- how many of e keys come before a key
-unfoldable pub notBelow : List ℕ → ℕ → ℕ → Bool
-notBelow keys j i = not (ltb (get_or keys i 0) j)
+unfoldable pub not_below : List ℕ → ℕ → ℕ → Bool
+not_below keys j i = not (ltb (get_or keys i 0) j)
 
-unfoldable pub keyRank : List ℕ → ℕ → ℕ → ℕ
-keyRank keys e j = seek (notBelow keys j) 0 e
+unfoldable pub key_rank : List ℕ → ℕ → ℕ → ℕ
+key_rank keys e j = seek (not_below keys j) 0 e
 
 -- x put in, with an edge to the last point
 unfoldable pub leaf : Place → Grown → Grown
 leaf x g =
     let t = g.tree in
     let p = rank t.points t.count x in
-    let keys = turns (bumpAt p) 0 t.edges.size t.edges.keys in
-    let j = pairKey p (bump p g.last) in
-    let i = keyRank keys t.edges.size j in
+    let keys = turns (bump_at p) 0 t.edges.size t.edges.keys in
+    let j = pair_key p (bump p g.last) in
+    let i = key_rank keys t.edges.size j in
     record {
       tree = tree (opened t.points t.count p x) (t.count + 1) (carrying 0 t.edges.size j keys) (t.edges.size + 1);
       last = p;
@@ -50,7 +50,7 @@ leaf x g =
 -- the way from the last point to u, whose vertices after u are ys
 unfoldable pub grafted : List ℤ → List ℕ → ℕ → Grown → Grown
 grafted vs [] u g = g
-grafted vs (y ∷ ys) u g = leaf (placeAt vs u) (grafted vs ys y g)
+grafted vs (y ∷ ys) u g = leaf (place_at vs u) (grafted vs ys y g)
 
 -- what is kept while a way is laid: the last point is one, the two edges are two
 pub record Growing (g : Growth) (keys : List ℕ) : Type 0 where

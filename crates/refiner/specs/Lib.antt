@@ -11,10 +11,8 @@
 -- Machines take the weights first and then what they need of the net; sentences and promises take the net.
 --
 --   Graft      grafted                     the way laid from the tree, leaf by leaf
---   Round      exchangeIn, roundsIn        what a round does; at most m of them
+--   Round      exchange_in, rounds_in        what a round does; at most m of them
 --   Ready      Ready                       what the tables hold before each round
---   Survey     Surveyed, Stood             roots and ways beside a tree; those of the tree before
---              Followed                    what is left of them
 --   Refined    refined                     at most m rounds, then pruning
 --              total w                     the sum of what the edges cost
 --              Answer                      what the tables and the answer hold when a tree is refined
@@ -29,8 +27,7 @@
 -- THE THEOREMS, in the order of their proof.
 --   CutLaws        cut-is              `cut_of` is the longest edge, the smallest on a tie, of the way to whichever end is met first
 --   RoundReady     rounds-ready        so do the rounds, each with at most one point more that is no vertex
---   SurveyLaws     followed            where no vertex has joined the tree, roots and ways are the same
---   RoundSound     total-of            the contract's sum is `treeTotal`
+--   RoundSound     total-of            the contract's sum is `tree_total`
 --   RefinedSound   refined-promise     the refined tree of a sound tree keeps `Promise`
 --                  refined-tabled      and `Tabled`, where the tree's edges are in order
 --   CutSound       cut-at              in a sound tree `cut_of` is `CutAt`;  cut-one: it alone is;
@@ -45,4 +42,3 @@ pub mod Refined
 pub mod Promise
 pub mod Sentences
 pub mod Ready
-pub mod Survey

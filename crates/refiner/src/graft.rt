@@ -1,9 +1,9 @@
 // A way from the tree to a vertex beside it, laid point by point from the tree outwards.
 ghost use Rattle.std.specs.Prelude.{◌≡◌, ◌+◌, ◌≤◌, ◌<◌, length};
-ghost use Rattle.forest.specs.Bounds.{pointBound};
-ghost use Rattle.forest.specs.Parents.{wayAfter, Nearing};
-ghost use Rattle.tree.specs.Table.{treeBound};
-ghost use Rattle.refiner.specs.Graft.{pairKey, keyRank, grown, leaf, grafted, Growing};
+ghost use Rattle.forest.specs.Bounds.{point_bound};
+ghost use Rattle.forest.specs.Parents.{way_after, Nearing};
+ghost use Rattle.tree.specs.Table.{tree_bound};
+ghost use Rattle.refiner.specs.Graft.{pair_key, key_rank, grown, leaf, grafted, Growing};
 
 use crate::Growth;
 use beside::{VERTEX_NUMBERS, VERTICES};
@@ -13,8 +13,8 @@ use tree::{NUMBERS, POINTS};
 
 // The key of the edge of two points.
 fn pair_key(a: usize, b: usize) -> usize
-    requires { (a ≤ treeBound) × (b ≤ treeBound) }
-    ensures { result ≡ pairKey a b }
+    requires { (a ≤ tree_bound) × (b ≤ tree_bound) }
+    ensures { result ≡ pair_key a b }
 {
     if a < b {
         return a * POINTS + b;
@@ -24,8 +24,8 @@ fn pair_key(a: usize, b: usize) -> usize
 
 // How many of e keys come before a key.
 fn key_rank(keys: &[usize; POINTS], e: usize, key: usize) -> usize
-    requires { e ≤ treeBound }
-    ensures { result ≡ keyRank keys.now e key }
+    requires { e ≤ tree_bound }
+    ensures { result ≡ key_rank keys.now e key }
 {
     let mut i = 0;
     while i < e {
@@ -39,7 +39,7 @@ fn key_rank(keys: &[usize; POINTS], e: usize, key: usize) -> usize
 
 // x put in, with an edge to the last point.
 fn leaf(pts: &mut [i32; NUMBERS], keys: &mut [usize; POINTS], x: Place, g: Growth) -> Growth
-    requires { ((g.points < treeBound) × (g.edges < treeBound)) × (Growing g keys.old) }
+    requires { ((g.points < tree_bound) × (g.edges < tree_bound)) × (Growing g keys.old) }
     ensures result_after { grown pts.new keys.new result ≡ leaf x (grown pts.old keys.old g) }
     ensures points_value { ((result.points ≡ g.points + 1) × (result.edges ≡ g.edges + 1)) × (Growing result keys.new) }
 {
@@ -68,13 +68,13 @@ pub fn graft(
     keys: &mut [usize; POINTS],
     g: Growth,
 ) -> Growth
-    requires nearing { (Nearing far.now up.now) × (u < pointBound) }
-    requires u_bound { (g.points + length (wayAfter far.now up.now u) ≤ treeBound)
-        × ((g.edges + length (wayAfter far.now up.now u) ≤ treeBound) × (Growing g keys.old)) }
+    requires nearing { (Nearing far.now up.now) × (u < point_bound) }
+    requires u_bound { (g.points + length (way_after far.now up.now u) ≤ tree_bound)
+        × ((g.edges + length (way_after far.now up.now u) ≤ tree_bound) × (Growing g keys.old)) }
     ensures result_after { grown pts.new keys.new result ≡ grafted vertices.now
-        (wayAfter far.now up.now u) u (grown pts.old keys.old g) }
-    ensures points_value { ((result.points ≡ g.points + length (wayAfter far.now up.now u))
-        × (result.edges ≡ g.edges + length (wayAfter far.now up.now u)))
+        (way_after far.now up.now u) u (grown pts.old keys.old g) }
+    ensures points_value { ((result.points ≡ g.points + length (way_after far.now up.now u))
+        × (result.edges ≡ g.edges + length (way_after far.now up.now u)))
         × (Growing result keys.new) }
 {
     let y = up[u];

@@ -6,17 +6,17 @@ mod graft; // graft.rt: a way to a vertex beside the tree, laid
 mod round; // round.rt: a round
 
 ghost use Rattle.std.specs.Prelude.{◌≡◌, ◌≤◌};
-ghost use Rattle.plane.specs.Flat.{macrosOf};
-ghost use Rattle.net.specs.Pins.{pinCount};
-ghost use Rattle.net.specs.Net.{netWith};
-ghost use Rattle.tree.specs.Table.{treeBound, pairBound, tree, Small, Within};
+ghost use Rattle.plane.specs.Flat.{macros_of};
+ghost use Rattle.net.specs.Pins.{pin_count};
+ghost use Rattle.net.specs.Net.{net_with};
+ghost use Rattle.tree.specs.Table.{tree_bound, pair_bound, tree, Small, Within};
 ghost use Rattle.forest.specs.Edges.{graph};
 ghost use Rattle.beside.specs.Beside.{ground};
-ghost use Rattle.refiner.specs.Round.{roundsIn};
+ghost use Rattle.refiner.specs.Round.{rounds_in};
 ghost use Rattle.refiner.specs.Refined.{total, Answer};
 ghost use Rattle.refiner.specs.Ready.{Ready};
 
-use beside::{VERTEX_NUMBERS, VERTICES};
+use beside::VERTEX_NUMBERS;
 use exchanges::prune;
 use net::Net;
 use plane::Weights;
@@ -68,13 +68,13 @@ pub fn rounds(
     el: &[u64; EDGES],
     f: usize,
 ) -> Size
-    requires { Ready (netWith w pins.now macros.now) (ground vertices.now v (graph ea.now eb.now el.now f))
-        (tree pts.old n keys.old e) (pinCount pins.now) }
+    requires { Ready (net_with w pins.now macros.now) (ground vertices.now v (graph ea.now eb.now el.now f))
+        (tree pts.old n keys.old e) (pin_count pins.now) }
     ensures { (tree pts.new result.points keys.new result.edges
-        ≡ roundsIn w (macrosOf macros.now)
+        ≡ rounds_in w (macros_of macros.now)
         (ground vertices.now v (graph ea.now eb.now el.now f))
-        (pinCount pins.now) (tree pts.old n keys.old e))
-        × (((result.points ≤ treeBound) × (result.edges ≤ treeBound)) × (Within result.points keys.new)) }
+        (pin_count pins.now) (tree pts.old n keys.old e))
+        × (((result.points ≤ tree_bound) × (result.edges ≤ tree_bound)) × (Within result.points keys.new)) }
 {
     let m = net::pin_count(pins);
     let mut z = Size {
@@ -83,27 +83,19 @@ pub fn rounds(
     };
     let mut old = [0i32; NUMBERS];
     let mut before = [0usize; POINTS];
-    let mut at = [0usize; POINTS];
     let mut bound = [0u64; POINTS];
-    let mut aside = [0u64; POINTS];
-    let mut far = [0u64; VERTICES];
-    let mut up = [0usize; VERTICES];
-    let mut seat = [0usize; VERTICES];
     let mut was = z;
     let mut known = false;
     let mut r = 0;
     while r < m {
-        let since = round::survey(
-            known, &old, was.points, &*pts, z.points, vertices, v, ea, eb, el, f, &mut at,
-            &mut far, &mut up, &mut seat,
-        );
         let y = round::round(
             w,
-            since,
+            known,
             &mut old,
+            was.points,
             &mut before,
             was.edges,
-            &at,
+            &mut bound,
             &mut *pts,
             z.points,
             macros,
@@ -111,11 +103,10 @@ pub fn rounds(
             z.edges,
             vertices,
             v,
-            &far,
-            &up,
-            &seat,
-            &mut bound,
-            &mut aside,
+            ea,
+            eb,
+            el,
+            f,
         );
         if !y.moved {
             return z;
@@ -133,7 +124,7 @@ pub fn rounds(
 
 // What the first e edges cost together.
 pub fn total(w: Weights, pts: &[i32; NUMBERS], keys: &[usize; POINTS], e: usize) -> u64
-    requires { (e ≤ treeBound) × (Small pairBound keys.now) }
+    requires { (e ≤ tree_bound) × (Small pair_bound keys.now) }
     ensures { result ≡ total w pts.now keys.now e }
 {
     let mut sum = 0;
@@ -161,9 +152,9 @@ pub fn refine(
     el: &[u64; EDGES],
     f: usize,
 ) -> Refined
-    requires { Ready (netWith net.weights pins.now macros.now) (ground vertices.now v (graph ea.now eb.now el.now f))
-        (tree pts.old n keys.old e) (pinCount pins.now) }
-    ensures { Answer (netWith net.weights pins.now macros.now)
+    requires { Ready (net_with net.weights pins.now macros.now) (ground vertices.now v (graph ea.now eb.now el.now f))
+        (tree pts.old n keys.old e) (pin_count pins.now) }
+    ensures { Answer (net_with net.weights pins.now macros.now)
         (ground vertices.now v (graph ea.now eb.now el.now f))
         (tree pts.old n keys.old e) pts.new keys.new result }
 {

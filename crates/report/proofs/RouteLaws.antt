@@ -15,28 +15,28 @@ use Rattle.lent.proofs.EntryTable.{length-flat, entries_over}
 use Rattle.plane.specs.declared.Place.{Place}
 use Rattle.plane.specs.declared.Weights.{Weights}
 use Rattle.net.specs.declared.Net.{Net as Counts}
-use Rattle.net.specs.Bounds.{pinBound, macroBound, pinWidth, macroWidth, treeBound}
+use Rattle.net.specs.Bounds.{pin_bound, macro_bound, pin_width, macro_width, tree_bound}
 use Rattle.net.specs.declared.Weighing.{Weighing}
 use Rattle.net.specs.Net.{handed}
-use Rattle.net.specs.Pins.{pinCount, macroCount}
-use Rattle.net.specs.Counts.{countsOf}
+use Rattle.net.specs.Pins.{pin_count, macro_count}
+use Rattle.net.specs.Counts.{counts_of}
 use Rattle.net.proofs.CountLaws.{pins-counted, macros-counted}
 use Rattle.checks.specs.Check.{checked}
 use Rattle.checks.proofs.PassedLaws.{passed-all}
 use Rattle.checks.proofs.CheckLaws.{allow}
 use Rattle.checks.proofs.GivenLaws.{given-counts}
 use Rattle.net.proofs.PinLaws as pin-laws
-use Rattle.graph.specs.Numbers.{edgeNumbers, edgeFrom}
+use Rattle.graph.specs.Numbers.{edge_numbers, edge_from}
 use Rattle.graph.proofs.WidthLaws.{edge-width}
-use Rattle.blocks.specs.Sizes.{pinListBound, macroListBound}
-use Rattle.decoded.specs.Held.{pinsIn, macrosIn}
-use Rattle.netfile.specs.Read.{readFile}
+use Rattle.blocks.specs.Sizes.{pin_list_bound, macro_list_bound}
+use Rattle.decoded.specs.Held.{pins_in, macros_in}
+use Rattle.netfile.specs.Read.{read_file}
 use Rattle.netfile.proofs.RoundTrip.{accepted-is-ours}
-use Rattle.answers.specs.Graph.{pointCount}
-use Rattle.answers.specs.Both.{bothAnswer, bothGiven, bothTrees}
+use Rattle.answers.specs.Graph.{point_count}
+use Rattle.answers.specs.Both.{both_answer, both_given, both_trees}
 use Rattle.answers.proofs.AnswerLaws.{only-given, room-enough}
-use Rattle.text.specs.Text.{treeText, refusedText}
-use Rattle.report.specs.Route.{treesText, answerText, routeText}
+use Rattle.text.specs.Text.{tree_text, refused_text}
+use Rattle.report.specs.Route.{trees_text, answer_text, route_text}
 
 -- what an answer gives is one thing, part by part
 pub same-given : {A : Type 0} (a b : A) → given a ≡ given b → a ≡ b
@@ -56,11 +56,11 @@ same-four {A} {B} {C} {D} {a} {a'} {b} {b'} {c} {c'} {d} {d'} e =
 
 -- the counts of an allowed net
 pub record Counted (w : Weighing) (pins macros : List ℤ) : Type 0 where
-  pub allowed : checked w pins macros ≡ given (countsOf w pins macros)
-  pub pin-numbers : pinCount pins * pinWidth ≡ length pins
-  pub macro-numbers : macroCount macros * macroWidth ≡ length macros
-  pub few-pins : pinCount pins ≤ pinBound
-  pub few-macros : macroCount macros ≤ macroBound
+  pub allowed : checked w pins macros ≡ given (counts_of w pins macros)
+  pub pin-numbers : pin_count pins * pin_width ≡ length pins
+  pub macro-numbers : macro_count macros * macro_width ≡ length macros
+  pub few-pins : pin_count pins ≤ pin_bound
+  pub few-macros : macro_count macros ≤ macro_bound
 
 module _ (w : Weighing) (pins macros : List ℤ) where
   pub counted : (net : Counts) → checked w pins macros ≡ given net → Counted w pins macros
@@ -77,14 +77,14 @@ module _ (w : Weighing) (pins macros : List ℤ) where
       }
 
   module _ (c : Counted w pins macros) where
-    pub both-given : bothTrees w pins macros (treeBound * 4) ≡ given (bothAnswer w pins macros)
-    unfolding bothTrees bothGiven
+    pub both-given : both_trees w pins macros (tree_bound * 4) ≡ given (both_answer w pins macros)
+    unfolding both_trees both_given
     both-given =
-        only-given (checked w pins macros) (bothGiven w pins macros (treeBound * 4)) _ c.allowed
-        ∙ room-enough ((pointCount pins macros + pinCount pins) * 4) (treeBound * 4) _ (omega (arith, c.few-pins, c.few-macros))
+        only-given (checked w pins macros) (both_given w pins macros (tree_bound * 4)) _ c.allowed
+        ∙ room-enough ((point_count pins macros + pin_count pins) * 4) (tree_bound * 4) _ (omega (arith, c.few-pins, c.few-macros))
 
 -- the edges given, read back from the table that they were given in
-module _ (es : List (Place × Place)) (lent table : List ℤ) (n : ℕ) (t : table ≡ over (flat edgeNumbers es) lent) (e : n ≡ length es) where
+module _ (es : List (Place × Place)) (lent table : List ℤ) (n : ℕ) (t : table ≡ over (flat edge_numbers es) lent) (e : n ≡ length es) where
   pub edges_fit : n * 4 ≤ length table
   unfolding over
   edges_fit =
@@ -92,38 +92,38 @@ module _ (es : List (Place × Place)) (lent table : List ℤ) (n : ℕ) (t : tab
         arith,
         e,
         ap length t,
-        length-append (flat edgeNumbers es) (drop (length (flat edgeNumbers es)) lent),
-        length-flat edgeNumbers edgeFrom 4 edge-width es,
+        length-append (flat edge_numbers es) (drop (length (flat edge_numbers es)) lent),
+        length-flat edge_numbers edge_from 4 edge-width es,
       )
 
-  pub edges-back : entries edgeFrom 4 table n ≡ es
-  edges-back = rw t (entries_over edgeNumbers edgeFrom 4 edge-width es lent n (sym e))
+  pub edges-back : entries edge_from 4 table n ≡ es
+  edges-back = rw t (entries_over edge_numbers edge_from 4 edge-width es lent n (sym e))
 
 -- a list at the front of a table
 pub front : (xs lent table : List ℤ) (n : ℕ) → table ≡ over xs lent → n ≡ length xs → take n table ≡ xs
 front xs lent table n t e = rw (t, e) (take-over xs lent)
 
 -- an accepted file
-module _ (file : List ℕ) (net : Counts) (given-net : readFile file pinListBound macroListBound ≡ given net) where
-  pub lists : checked (handed net.weights) (pinsIn file) (macrosIn file) ≡ given net
+module _ (file : List ℕ) (net : Counts) (given-net : read_file file pin_list_bound macro_list_bound ≡ given net) where
+  pub lists : checked (handed net.weights) (pins_in file) (macros_in file) ≡ given net
   lists =
-      let ours = accepted-is-ours file pinListBound macroListBound net given-net in
-      ap (λ (v : Weights). checked (handed v) (pinsIn file) (macrosIn file)) ours.weights ∙ ours.lists
+      let ours = accepted-is-ours file pin_list_bound macro_list_bound net given-net in
+      ap (λ (v : Weights). checked (handed v) (pins_in file) (macros_in file)) ours.weights ∙ ours.lists
 
-  pub net-is : net ≡ countsOf (handed net.weights) (pinsIn file) (macrosIn file)
-  net-is = given-counts (handed net.weights) (pinsIn file) (macrosIn file) lists
+  pub net-is : net ≡ counts_of (handed net.weights) (pins_in file) (macros_in file)
+  net-is = given-counts (handed net.weights) (pins_in file) (macros_in file) lists
 
-  pub route-given : treesText net (pinsIn file) (macrosIn file) ≡ routeText file
-  unfolding routeText answerText
+  pub route-given : trees_text net (pins_in file) (macros_in file) ≡ route_text file
+  unfolding route_text answer_text
   route-given = rw given-net refl
 
-pub route-refused : (file : List ℕ) (n : ℕ) → readFile file pinListBound macroListBound ≡ refused n → refusedText (pos n)
-    ≡ routeText file
-unfolding routeText answerText
+pub route-refused : (file : List ℕ) (n : ℕ) → read_file file pin_list_bound macro_list_bound ≡ refused n → refused_text (pos n)
+    ≡ route_text file
+unfolding route_text answer_text
 route-refused file n e = rw e refl
 
 -- texts of the same numbers
 pub same_text : (w : Weights) (m k : ℕ) {t t' r r' l l' : ℤ} {es es' : List (Place × Place)} → t ≡ t' → r ≡ r' → l ≡ l' → es ≡ es'
-    → treeText w (record { pins = m; macros = k; terminal = t; refined = r; metal = l }) es
-    ≡ treeText w (record { pins = m; macros = k; terminal = t'; refined = r'; metal = l' }) es'
+    → tree_text w (record { pins = m; macros = k; terminal = t; refined = r; metal = l }) es
+    ≡ tree_text w (record { pins = m; macros = k; terminal = t'; refined = r'; metal = l' }) es'
 same_text w m k a b c d = cc

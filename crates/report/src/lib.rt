@@ -4,7 +4,7 @@ ghost use Rattle.lent.specs.Told.{given};
 ghost use Rattle.net.specs.Net.{handed};
 ghost use Rattle.checks.specs.Check.{checked};
 ghost use Rattle.text.specs.Put.{Filled};
-ghost use Rattle.report.specs.Route.{treesText, routeText};
+ghost use Rattle.report.specs.Route.{trees_text, route_text};
 
 use checks::Checked;
 use net::Net;
@@ -23,7 +23,7 @@ pub const TEXT: usize = 140 + Net::TREE_POINTS * 105;
 // The text of an allowed net; how many bytes it has. With room for the largest tree no allowed net is refused here.
 fn trees_text(net: Net, pins: &[i32], macros: &[i32], out: &mut [u8; TEXT]) -> usize
     requires { checked (handed net.weights) pins.now macros.now ≡ given net }
-    ensures { Filled (treesText net pins.now macros.now) out.old out.new result }
+    ensures { Filled (trees_text net pins.now macros.now) out.old out.new result }
 {
     let mut edges = [0i32; EDGE_NUMBERS];
     let answer = router::both_trees(net::handed(net.weights), pins, macros, &mut edges);
@@ -44,7 +44,7 @@ fn trees_text(net: Net, pins: &[i32], macros: &[i32], out: &mut [u8; TEXT]) -> u
 
 // The text that `route` prints for a file; how many bytes it has.
 pub fn route(file: &[u8], out: &mut [u8; TEXT]) -> usize
-    ensures { Filled (routeText file.now) out.old out.new result }
+    ensures { Filled (route_text file.now) out.old out.new result }
 {
     let mut pins = [0i32; netfile::PIN_LIST];
     let mut macros = [0i32; netfile::MACRO_LIST];

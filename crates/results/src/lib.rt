@@ -4,16 +4,16 @@ ghost use Rattle.std.specs.Prelude.{◌≡◌, ◌≤◌, length};
 ghost use Rattle.lent.specs.Over.{over};
 ghost use Rattle.lent.specs.Entries.{flat};
 ghost use Rattle.net.specs.Net.{handed};
-ghost use Rattle.net.specs.Pins.{pinCount};
-ghost use Rattle.room.specs.Needs.{vertexNeed, linkNeed, edgeNeed, wireNeed};
-ghost use Rattle.graph.specs.Numbers.{placeNumbers, edgeNumbers};
+ghost use Rattle.net.specs.Pins.{pin_count};
+ghost use Rattle.room.specs.Needs.{vertex_need, link_need, edge_need, wire_need};
+ghost use Rattle.graph.specs.Numbers.{place_numbers, edge_numbers};
 ghost use Rattle.made.specs.Counted.{Counted};
-ghost use Rattle.price.specs.Charge.{metalBound};
-ghost use Rattle.price.specs.Price.{priced, toldPrice};
-ghost use Rattle.answers.specs.Graph.{netVertices, netEdges, pointCount};
-ghost use Rattle.answers.specs.Terminal.{pathsTotal};
-ghost use Rattle.answers.specs.Refined.{laid_of, laidTotal, metalOf};
-ghost use Rattle.answers.specs.Wires.{wiresOf};
+ghost use Rattle.price.specs.Charge.{metal_bound};
+ghost use Rattle.price.specs.Price.{priced, told_price};
+ghost use Rattle.answers.specs.Graph.{net_vertices, net_edges, point_count};
+ghost use Rattle.answers.specs.Terminal.{paths_total};
+ghost use Rattle.answers.specs.Refined.{laid_of, laid_total, metal_of};
+ghost use Rattle.answers.specs.Wires.{wires_of};
 
 use net::{Net, Refusal};
 use price::Priced;
@@ -43,13 +43,13 @@ pub fn graph(
     edges: &mut [i32],
 ) -> Spanned
     requires counted { Counted net (handed net.weights) pins.now macros.now }
-    requires macros_in_bounds { (vertexNeed (pointCount pins.now macros.now) ≤ length vertices.old)
-        × (linkNeed (pointCount pins.now macros.now) ≤ length edges.old) }
-    ensures vertices_value { result.vertices ≡ length (netVertices (handed net.weights) pins.now macros.now) }
-    ensures edges_value { result.edges ≡ length (netEdges (handed net.weights) pins.now macros.now) }
-    ensures vertices_after { vertices.new ≡ over (flat placeNumbers (netVertices (handed net.weights) pins.now
+    requires macros_in_bounds { (vertex_need (point_count pins.now macros.now) ≤ length vertices.old)
+        × (link_need (point_count pins.now macros.now) ≤ length edges.old) }
+    ensures vertices_value { result.vertices ≡ length (net_vertices (handed net.weights) pins.now macros.now) }
+    ensures edges_value { result.edges ≡ length (net_edges (handed net.weights) pins.now macros.now) }
+    ensures vertices_after { vertices.new ≡ over (flat place_numbers (net_vertices (handed net.weights) pins.now
         macros.now)) vertices.old }
-    ensures edges_after { edges.new ≡ over (flat edgeNumbers (netEdges (handed net.weights) pins.now
+    ensures edges_after { edges.new ≡ over (flat edge_numbers (net_edges (handed net.weights) pins.now
         macros.now)) edges.old }
 {
     let v = graph::vertices(pins, macros, &mut *vertices);
@@ -63,12 +63,12 @@ pub fn graph(
 // The refined tree's edges.
 pub fn edges(net: Net, pins: &[i32], macros: &[i32], edges: &mut [i32]) -> Laid
     requires counted { Counted net (handed net.weights) pins.now macros.now }
-    requires pins_in_bounds { edgeNeed (pointCount pins.now macros.now) (pinCount pins.now) ≤ length edges.old }
+    requires pins_in_bounds { edge_need (point_count pins.now macros.now) (pin_count pins.now) ≤ length edges.old }
     ensures edges_value { result.edges ≡ length (laid_of (handed net.weights) pins.now macros.now) }
-    ensures total_value { result.total ≡ laidTotal (handed net.weights) pins.now macros.now }
-    ensures metal_value { result.metal ≡ metalOf (handed net.weights) pins.now macros.now }
-    ensures terminal_value { result.terminal ≡ pathsTotal (handed net.weights) pins.now macros.now }
-    ensures edges_after { edges.new ≡ over (flat edgeNumbers (laid_of (handed net.weights) pins.now
+    ensures total_value { result.total ≡ laid_total (handed net.weights) pins.now macros.now }
+    ensures metal_value { result.metal ≡ metal_of (handed net.weights) pins.now macros.now }
+    ensures terminal_value { result.terminal ≡ paths_total (handed net.weights) pins.now macros.now }
+    ensures edges_after { edges.new ≡ over (flat edge_numbers (laid_of (handed net.weights) pins.now
         macros.now)) edges.old }
 {
     let mut points = [0i32; tree::NUMBERS];
@@ -87,9 +87,9 @@ pub fn edges(net: Net, pins: &[i32], macros: &[i32], edges: &mut [i32]) -> Laid
 // Its wires, and how many there are.
 pub fn wires(net: Net, pins: &[i32], macros: &[i32], wires: &mut [i32]) -> usize
     requires counted { Counted net (handed net.weights) pins.now macros.now }
-    requires pins_in_bounds { wireNeed (pointCount pins.now macros.now) (pinCount pins.now) ≤ length wires.old }
-    ensures value { result ≡ length (wiresOf (handed net.weights) pins.now macros.now) }
-    ensures wires_after { wires.new ≡ over (flat edgeNumbers (wiresOf (handed net.weights) pins.now
+    requires pins_in_bounds { wire_need (point_count pins.now macros.now) (pin_count pins.now) ≤ length wires.old }
+    ensures value { result ≡ length (wires_of (handed net.weights) pins.now macros.now) }
+    ensures wires_after { wires.new ≡ over (flat edge_numbers (wires_of (handed net.weights) pins.now
         macros.now)) wires.old }
 {
     let mut points = [0i32; tree::NUMBERS];
@@ -101,7 +101,7 @@ pub fn wires(net: Net, pins: &[i32], macros: &[i32], wires: &mut [i32]) -> usize
 // The metal of the refined tree.
 fn metal(net: Net, pins: &[i32], macros: &[i32]) -> u64
     requires { Counted net (handed net.weights) pins.now macros.now }
-    ensures { (result ≡ metalOf (handed net.weights) pins.now macros.now) × (result ≤ metalBound) }
+    ensures { (result ≡ metal_of (handed net.weights) pins.now macros.now) × (result ≤ metal_bound) }
 {
     let mut points = [0i32; tree::NUMBERS];
     let mut keys = [0usize; tree::POINTS];
@@ -112,7 +112,7 @@ fn metal(net: Net, pins: &[i32], macros: &[i32]) -> u64
 // The price of its metal. The list of bands is tested before there is a tree: 31, then 37.
 pub fn price(net: Net, pins: &[i32], macros: &[i32], bands: &[u64]) -> Priced
     requires { Counted net (handed net.weights) pins.now macros.now }
-    ensures { toldPrice result ≡ priced (metalOf (handed net.weights) pins.now macros.now)
+    ensures { told_price result ≡ priced (metal_of (handed net.weights) pins.now macros.now)
         bands.now }
 {
     if bands::bands_miscounted(bands) {

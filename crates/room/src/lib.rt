@@ -1,17 +1,17 @@
 // What an operation must be lent: each function says whether it is too little, by the numbers of pins and of points that the check has
 // counted. Each is small and by itself, so that a wrong number is found without the operations being checked again.
 ghost use Rattle.std.specs.Prelude.{◌≡◌, ◌||◌, ◌≤◌, ltb};
-ghost use Rattle.net.specs.Bounds.{pinBound, macroBound};
-ghost use Rattle.net.specs.Counts.{pointCount};
-ghost use Rattle.room.specs.Needs.{vertexNeed, linkNeed, pathNeed, edgeNeed, wireNeed};
+ghost use Rattle.net.specs.Bounds.{pin_bound, macro_bound};
+ghost use Rattle.net.specs.Counts.{point_count};
+ghost use Rattle.room.specs.Needs.{vertex_need, link_need, path_need, edge_need, wire_need};
 
 use net::Net;
 
 // The graph: 2n numbers for vertices, and 16n for edges.
 pub fn graph_short(net: Net, vertices: usize, edges: usize) -> bool
-    requires pins_le_pin_bound { net.pins ≤ pinBound }
-    requires macros_le_macro_bound { net.macros ≤ macroBound }
-    ensures { result ≡ (ltb vertices (vertexNeed (pointCount net)) || ltb edges (linkNeed (pointCount net))) }
+    requires pins_le_pin_bound { net.pins ≤ pin_bound }
+    requires macros_le_macro_bound { net.macros ≤ macro_bound }
+    ensures { result ≡ (ltb vertices (vertex_need (point_count net)) || ltb edges (link_need (point_count net))) }
 {
     let n = net::point_count(net);
     (vertices < n * 2) | (edges < n * 16)
@@ -19,26 +19,26 @@ pub fn graph_short(net: Net, vertices: usize, edges: usize) -> bool
 
 // The terminal tree: 5m numbers for paths.
 pub fn paths_short(net: Net, paths: usize) -> bool
-    requires { net.pins ≤ pinBound }
-    ensures { result ≡ ltb paths (pathNeed net.pins) }
+    requires { net.pins ≤ pin_bound }
+    ensures { result ≡ ltb paths (path_need net.pins) }
 {
     paths < net.pins * 5
 }
 
 // The refined tree: 4(n + m) numbers for edges.
 pub fn edges_short(net: Net, edges: usize) -> bool
-    requires pins_le_pin_bound { net.pins ≤ pinBound }
-    requires macros_le_macro_bound { net.macros ≤ macroBound }
-    ensures { result ≡ ltb edges (edgeNeed (pointCount net) net.pins) }
+    requires pins_le_pin_bound { net.pins ≤ pin_bound }
+    requires macros_le_macro_bound { net.macros ≤ macro_bound }
+    ensures { result ≡ ltb edges (edge_need (point_count net) net.pins) }
 {
     edges < (net::point_count(net) + net.pins) * 4
 }
 
 // Its wires, and the slid tree: 8(n + m) numbers.
 pub fn wires_short(net: Net, wires: usize) -> bool
-    requires pins_le_pin_bound { net.pins ≤ pinBound }
-    requires macros_le_macro_bound { net.macros ≤ macroBound }
-    ensures { result ≡ ltb wires (wireNeed (pointCount net) net.pins) }
+    requires pins_le_pin_bound { net.pins ≤ pin_bound }
+    requires macros_le_macro_bound { net.macros ≤ macro_bound }
+    ensures { result ≡ ltb wires (wire_need (point_count net) net.pins) }
 {
     wires < (net::point_count(net) + net.pins) * 8
 }

@@ -14,24 +14,24 @@ use Rattle.lent.proofs.AfterLaws.{after-refused, after-given, told-apart}
 use Rattle.net.specs.declared.Refusal.{Refusal}
 use Rattle.net.specs.declared.Weighing.{Weighing}
 use Rattle.net.specs.Answer.{number}
-use Rattle.net.specs.Pins.{pinCount}
-use Rattle.net.specs.Net.{Net, costIn}
+use Rattle.net.specs.Pins.{pin_count}
+use Rattle.net.specs.Net.{Net, cost_in}
 use Rattle.checks.specs.Check.{checked}
 use Rattle.joined.specs.Cost.{lengths}
 use Rattle.plane.specs.Distance.{distance}
-use Rattle.graph.specs.Numbers.{edgeNumbers}
+use Rattle.graph.specs.Numbers.{edge_numbers}
 use Rattle.grid.specs.Distance.{SquareOver}
 use Rattle.lines.specs.Edges.{Edge}
-use Rattle.parts.specs.Bounds.{workBound}
+use Rattle.parts.specs.Bounds.{work_bound}
 use Rattle.best.specs.Tree.{BestOver}
-use Rattle.sweeps.specs.Tables.{wideCrossings, arcBound}
+use Rattle.sweeps.specs.Tables.{wide_crossings, arc_bound}
 use Rattle.bound.specs.Bound.{Bound}
-use Rattle.answers.specs.Room.{ifRoom}
-use Rattle.answers.specs.Graph.{pointCount}
-use Rattle.answers.specs.Refined.{laid_of, refinedGiven, refinedTree}
-use Rattle.answers.specs.Both.{bothAnswer, bothGiven, bothTrees}
+use Rattle.answers.specs.Room.{if_room}
+use Rattle.answers.specs.Graph.{point_count}
+use Rattle.answers.specs.Refined.{laid_of, refined_given, refined_tree}
+use Rattle.answers.specs.Both.{both_answer, both_given, both_trees}
 use Rattle.router.specs.declared.DistanceAnswer.{DistanceAnswer}
-use Rattle.router.specs.Answers.{toldDistances, toldTree, toldBoth, toldBound}
+use Rattle.router.specs.Answers.{told_distances, told_tree, told_both, told_bound}
 use Rattle.router.specs.declared.TreeAnswer.{TreeAnswer}
 use Rattle.router.specs.declared.BoundAnswer.{BoundAnswer}
 use Rattle.router.specs.declared.BothAnswer.{BothAnswer}
@@ -64,7 +64,7 @@ module _ {A R X : Type 0} {saying : R → Told A} {t : Told A} {xs ys lent other
   two-as {lent' = lent'} {other' = other'} e g = subst (λ (z : Told A). GivesTwo saying z xs ys lent other r lent' other') e g
 
 module _ {net : Net} {t : Told ℕ} {lent : List ℤ} {r : DistanceAnswer} where
-  pub square-refused : {n : ℕ} → toldDistances r ≡ refused n → t ≡ refused n → GivesSquare net t lent r lent
+  pub square-refused : {n : ℕ} → told_distances r ≡ refused n → t ≡ refused n → GivesSquare net t lent r lent
   square-refused {n} s e = record {
     numbers = [];
     answer = s ∙ sym e;
@@ -72,7 +72,7 @@ module _ {net : Net} {t : Told ℕ} {lent : List ℤ} {r : DistanceAnswer} where
     square = λ k g. told-apart n k (sym e ∙ g);
   }
 
-  pub square-given : {n : ℕ} {lent' : List ℤ} → toldDistances r ≡ given n → t ≡ given n → SquareOver net lent lent' →
+  pub square-given : {n : ℕ} {lent' : List ℤ} → told_distances r ≡ given n → t ≡ given n → SquareOver net lent lent' →
       GivesSquare net t lent r lent'
   square-given {n} s e o = record {
     numbers = o.numbers;
@@ -85,19 +85,19 @@ module _ {net : Net} {t : Told ℕ} {lent : List ℤ} {r : DistanceAnswer} where
   square-as {lent' = lent'} e g = subst (λ (z : Told ℕ). GivesSquare net z lent r lent') e g
 
 module _ {net : Net} {said : List Edge → Told (ℕ × (ℤ × ℤ))} {work : List ℕ} {lent : List ℤ} {r : TreeAnswer} where
-  pub best-refused : {n : ℕ} → toldTree r ≡ refused n → said [] ≡ refused n → GivesBest net said work lent r work lent
+  pub best-refused : {n : ℕ} → told_tree r ≡ refused n → said [] ≡ refused n → GivesBest net said work lent r work lent
   best-refused {n} s e = record {
     tree = [];
     answer = s ∙ sym e;
-    list = after-refused (said []) (flat edgeNumbers []) lent n e;
-    cleared = after-refused (said []) (replicate workBound 0) work n e;
+    list = after-refused (said []) (flat edge_numbers []) lent n e;
+    cleared = after-refused (said []) (replicate work_bound 0) work n e;
     best = λ a g. told-apart n a (sym e ∙ g);
   }
 
   pub best-given : {work' : List ℕ} {lent' : List ℤ} {count total metal : ℕ} (o : BestOver net lent lent' count total metal) →
-      toldTree r ≡ given (count, (pos total, pos metal)) →
-      said o.tree ≡ given (length o.tree, (pos (lengths (costIn net) o.tree), pos (lengths distance o.tree))) →
-      work' ≡ over (replicate workBound 0) work → GivesBest net said work lent r work' lent'
+      told_tree r ≡ given (count, (pos total, pos metal)) →
+      said o.tree ≡ given (length o.tree, (pos (lengths (cost_in net) o.tree), pos (lengths distance o.tree))) →
+      work' ≡ over (replicate work_bound 0) work → GivesBest net said work lent r work' lent'
   best-given o s e z = record {
     tree = o.tree;
     answer =
@@ -105,8 +105,8 @@ module _ {net : Net} {said : List Edge → Told (ℕ × (ℤ × ℤ))} {work : L
         ∙ ap₂ (λ (n : ℕ) (sums : ℤ × ℤ). given (n, sums)) o.count
         (ap₂ (λ (t m : ℕ). (pos t, pos m)) o.cost o.plain)
         ∙ sym e;
-    list = o.list ∙ after-given (said o.tree) (flat edgeNumbers o.tree) lent _ e;
-    cleared = z ∙ after-given (said o.tree) (replicate workBound 0) work _ e;
+    list = o.list ∙ after-given (said o.tree) (flat edge_numbers o.tree) lent _ e;
+    cleared = z ∙ after-given (said o.tree) (replicate work_bound 0) work _ e;
     best = λ a g. o.is-best;
   }
 
@@ -115,28 +115,28 @@ module _ {net : Net} {said : List Edge → Told (ℕ × (ℤ × ℤ))} {work : L
   best-as e g = record {
     tree = g.tree;
     answer = g.answer ∙ e g.tree;
-    list = g.list ∙ ap (λ (t : Told (ℕ × (ℤ × ℤ))). after t (flat edgeNumbers g.tree) lent) (e g.tree);
-    cleared = g.cleared ∙ ap (λ (t : Told (ℕ × (ℤ × ℤ))). after t (replicate workBound 0) work) (e g.tree);
+    list = g.list ∙ ap (λ (t : Told (ℕ × (ℤ × ℤ))). after t (flat edge_numbers g.tree) lent) (e g.tree);
+    cleared = g.cleared ∙ ap (λ (t : Told (ℕ × (ℤ × ℤ))). after t (replicate work_bound 0) work) (e g.tree);
     best = λ a h. g.best a (e g.tree ∙ h);
   }
 
 module _ {net : Net} {said : ℕ → Told ℕ} {left rows : List ℕ} {r : BoundAnswer} where
-  pub bound-refused : {n : ℕ} → toldBound r ≡ refused n → said 0 ≡ refused n → GivesBound net said left rows r left rows
+  pub bound-refused : {n : ℕ} → told_bound r ≡ refused n → said 0 ≡ refused n → GivesBound net said left rows r left rows
   bound-refused {n} s e = record {
     bound = 0;
     answer = s ∙ sym e;
-    first = after-refused (said 0) (replicate arcBound 0) left n e;
-    second = after-refused (said 0) (replicate wideCrossings 0) rows n e;
+    first = after-refused (said 0) (replicate arc_bound 0) left n e;
+    second = after-refused (said 0) (replicate wide_crossings 0) rows n e;
     is = λ a g. told-apart n a (sym e ∙ g);
   }
 
-  pub bound-given : {left' rows' : List ℕ} {n : ℕ} → Bound net n → toldBound r ≡ given n → said n ≡ given n →
-      left' ≡ over (replicate arcBound 0) left → rows' ≡ over (replicate wideCrossings 0) rows → GivesBound net said left rows r left' rows'
+  pub bound-given : {left' rows' : List ℕ} {n : ℕ} → Bound net n → told_bound r ≡ given n → said n ≡ given n →
+      left' ≡ over (replicate arc_bound 0) left → rows' ≡ over (replicate wide_crossings 0) rows → GivesBound net said left rows r left' rows'
   bound-given {n = n} b s e f g = record {
     bound = n;
     answer = s ∙ sym e;
-    first = f ∙ after-given (said n) (replicate arcBound 0) left _ e;
-    second = g ∙ after-given (said n) (replicate wideCrossings 0) rows _ e;
+    first = f ∙ after-given (said n) (replicate arc_bound 0) left _ e;
+    second = g ∙ after-given (said n) (replicate wide_crossings 0) rows _ e;
     is = λ a h. b;
   }
 
@@ -145,8 +145,8 @@ module _ {net : Net} {said : ℕ → Told ℕ} {left rows : List ℕ} {r : Bound
   bound-as e g = record {
     bound = g.bound;
     answer = g.answer ∙ e g.bound;
-    first = g.first ∙ ap (λ (t : Told ℕ). after t (replicate arcBound 0) left) (e g.bound);
-    second = g.second ∙ ap (λ (t : Told ℕ). after t (replicate wideCrossings 0) rows) (e g.bound);
+    first = g.first ∙ ap (λ (t : Told ℕ). after t (replicate arc_bound 0) left) (e g.bound);
+    second = g.second ∙ ap (λ (t : Told ℕ). after t (replicate wide_crossings 0) rows) (e g.bound);
     is = λ a h. g.is a (e g.bound ∙ h);
   }
 
@@ -166,35 +166,35 @@ unfolding alone only_if
 alone-only (refused n) u = refl
 alone-only (given a) u = refl
 
-alone-room : (need room : ℕ) (a : ℕ × (ℤ × (ℤ × ℤ))) → alone (ifRoom need room a) ≡ ifRoom need room (a.0, a.1.1)
-unfolding alone ifRoom
+alone-room : (need room : ℕ) (a : ℕ × (ℤ × (ℤ × ℤ))) → alone (if_room need room a) ≡ if_room need room (a.0, a.1.1)
+unfolding alone if_room
 alone-room need room a = by (ltb room need) (λ e. rw e refl) (λ e. rw e refl)
 
 module _ (w : Weighing) (pins macros : List ℤ) (room : ℕ) where
-  both-refined : alone (bothTrees w pins macros room) ≡ refinedTree w pins macros room
-  unfolding bothTrees bothGiven refinedTree refinedGiven
+  both-refined : alone (both_trees w pins macros room) ≡ refined_tree w pins macros room
+  unfolding both_trees both_given refined_tree refined_given
   both-refined =
-      alone-only (checked w pins macros) (bothGiven w pins macros room)
-      ∙ ap (only_if (checked w pins macros)) (alone-room ((pointCount pins macros + pinCount pins) * 4) room (bothAnswer w pins macros))
+      alone-only (checked w pins macros) (both_given w pins macros room)
+      ∙ ap (only_if (checked w pins macros)) (alone-room ((point_count pins macros + pin_count pins) * 4) room (both_answer w pins macros))
 
 -- an answer that leaves the terminal tree's total out
 pub refined-alone : (w : Weighing) (pins macros : List ℤ) {edges : List ℤ} {b : BothAnswer} {edges' : List ℤ}
-    → BothCall bothTrees w pins macros edges b edges'
-    → (r : TreeAnswer) → toldTree r ≡ alone (toldBoth b) → RefinedCall refinedTree w pins macros edges r edges'
+    → BothCall both_trees w pins macros edges b edges'
+    → (r : TreeAnswer) → told_tree r ≡ alone (told_both b) → RefinedCall refined_tree w pins macros edges r edges'
 refined-alone w pins macros {edges} g r e = record {
   answer = e ∙ ap alone g.answer ∙ both-refined w pins macros (length edges);
   list =
       g.list
-      ∙ alone-after (bothTrees w pins macros (length edges)) _ edges
-      ∙ ap (λ (t : Told (ℕ × (ℤ × ℤ))). after t (flat edgeNumbers (laid_of w pins macros)) edges)
+      ∙ alone-after (both_trees w pins macros (length edges)) _ edges
+      ∙ ap (λ (t : Told (ℕ × (ℤ × ℤ))). after t (flat edge_numbers (laid_of w pins macros)) edges)
       (both-refined w pins macros (length edges));
 }
 
 pub alone-given : {b : BothAnswer} (n : ℕ) (terminal total metal : ℤ) → b ≡ Given n terminal total metal
-    → given (n, (total, metal)) ≡ alone (toldBoth b)
-unfolding alone toldBoth
+    → given (n, (total, metal)) ≡ alone (told_both b)
+unfolding alone told_both
 alone-given n terminal total metal e = rw e refl
 
-pub alone-refused : {b : BothAnswer} (f : Refusal) → b ≡ Refused f → refused (number f) ≡ alone (toldBoth b)
-unfolding alone toldBoth
+pub alone-refused : {b : BothAnswer} (f : Refusal) → b ≡ Refused f → refused (number f) ≡ alone (told_both b)
+unfolding alone told_both
 alone-refused f e = rw e refl

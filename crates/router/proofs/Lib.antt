@@ -1,5 +1,6 @@
 pub mod RoomLaws
 pub mod CallLaws
+pub mod Distances
 pub mod BestLaws
 pub mod RefinedRange
 pub mod SlidLaws

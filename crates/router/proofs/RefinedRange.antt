@@ -11,15 +11,15 @@ use lib.ListN.{length}
 use lib.Signed.{le_z}
 use Rattle.lists.specs.Member.{◌∈◌}
 use Rattle.lists.proofs.TestLaws.{by, either}
-use Rattle.signed.specs.Order.{minZ, maxZ}
+use Rattle.signed.specs.Order.{z_min, z_max}
 use Rattle.joined.specs.Joined.{Link, Alike}
 use Rattle.joined.specs.OneTree.{Point}
 use Rattle.joined.specs.Way.{On}
 use Rattle.joined.proofs.WayLaws.{on-link}
 use Rattle.plane.specs.declared.Place.{Place}
-use Rattle.plane.specs.Middle.{middle, middlePlace}
+use Rattle.plane.specs.Middle.{middle, middle_place}
 use Rattle.net.specs.Net.{Net}
-use Rattle.net.specs.Tests.{outOfRange}
+use Rattle.net.specs.Tests.{out_of_range}
 use Rattle.net.specs.Allowed.{PlaceInRange, Allowed}
 use Rattle.rules.specs.Edges.{Edge}
 use Rattle.rules.specs.Spanning.{Vertex}
@@ -29,24 +29,24 @@ use Rattle.rules.specs.Demand.{TerminalAs}
 
 -- the smaller, the greater and the middle are among what they are taken of
 module _ (P : ℤ → Type 0) where
-  smaller-has : (a b : ℤ) → P a → P b → P (minZ a b)
-  unfolding minZ
-  smaller-has a b p q = by (le_z a b) (λ e. rw (minZ, e) p) (λ e. rw (minZ, e) q)
+  smaller-has : (a b : ℤ) → P a → P b → P (z_min a b)
+  unfolding z_min
+  smaller-has a b p q = by (le_z a b) (λ e. rw (z_min, e) p) (λ e. rw (z_min, e) q)
 
-  greater-has : (a b : ℤ) → P a → P b → P (maxZ a b)
-  unfolding maxZ
-  greater-has a b p q = by (le_z a b) (λ e. rw (maxZ, e) q) (λ e. rw (maxZ, e) p)
+  greater-has : (a b : ℤ) → P a → P b → P (z_max a b)
+  unfolding z_max
+  greater-has a b p q = by (le_z a b) (λ e. rw (z_max, e) q) (λ e. rw (z_max, e) p)
 
   middle-has : (a b c : ℤ) → P a → P b → P c → P (middle a b c)
   unfolding middle
   middle-has a b c p q r =
-      greater-has (minZ a b) (minZ (maxZ a b) c) (smaller-has a b p q) (smaller-has (maxZ a b) c (greater-has a b p q) r)
+      greater-has (z_min a b) (z_min (z_max a b) c) (smaller-has a b p q) (smaller-has (z_max a b) c (greater-has a b p q) r)
 
 abbrev In : ℤ → Type 0
-In z = outOfRange z ≡ false
+In z = out_of_range z ≡ false
 
-middle-in-range : (a b u : Place) → PlaceInRange a → PlaceInRange b → PlaceInRange u → PlaceInRange (middlePlace a b u)
-unfolding middlePlace
+middle-in-range : (a b u : Place) → PlaceInRange a → PlaceInRange b → PlaceInRange u → PlaceInRange (middle_place a b u)
+unfolding middle_place
 middle-in-range a b u p q r = record {
   x = middle-has In a.x b.x u.x p.x q.x r.x;
   y = middle-has In a.y b.y u.y p.y q.y r.y;
@@ -88,7 +88,7 @@ module _ {net : Net} (a : Allowed net) {G : List Edge} (graph : Ranged G) where
       third =
           either (λ i. point-ranged h r.u i.1.0) (λ i. vertex-ranged r.u i.1.vertex) r.takes.taken.candidate.reach
 
-      middle-ranged : PlaceInRange (middlePlace r.a r.b r.u)
+      middle-ranged : PlaceInRange (middle_place r.a r.b r.u)
       middle-ranged = middle-in-range r.a r.b r.u ends.0 ends.1 third
 
       at : After G T r.a r.b r.u r.qs r.l e → PlaceInRange e.0 × PlaceInRange e.1

@@ -8,23 +8,23 @@ use lib.Dec.{ltb}
 use lib.IntN.{ℤ}
 use Rattle.net.specs.declared.Net.{Net as Counts}
 use Rattle.net.specs.declared.Weighing.{Weighing}
-use Rattle.net.specs.Pins.{pinCount}
-use Rattle.net.specs.Counts.{pointCount as countedPoints}
-use Rattle.room.specs.Needs.{vertexNeed, linkNeed, pathNeed, edgeNeed, wireNeed}
+use Rattle.net.specs.Pins.{pin_count}
+use Rattle.net.specs.Counts.{point_count as counted_points}
+use Rattle.room.specs.Needs.{vertex_need, link_need, path_need, edge_need, wire_need}
 use Rattle.made.specs.Counted.{Counted}
 use Rattle.made.proofs.CountedLaws.{as-points, as-pins}
-use Rattle.answers.specs.Graph.{pointCount}
+use Rattle.answers.specs.Graph.{point_count}
 
 module _ {n : Counts} {w : Weighing} {pins macros : List ℤ} (c : Counted n w pins macros) (room : ℕ) where
-  pub graph-asks : (edges : ℕ) → (ltb room (vertexNeed (countedPoints n)) || ltb edges (linkNeed (countedPoints n)))
-      ≡ (ltb room (vertexNeed (pointCount pins macros)) || ltb edges (linkNeed (pointCount pins macros)))
-  graph-asks edges = ap (λ (k : ℕ). ltb room (vertexNeed k) || ltb edges (linkNeed k)) (as-points c)
+  pub graph-asks : (edges : ℕ) → (ltb room (vertex_need (counted_points n)) || ltb edges (link_need (counted_points n)))
+      ≡ (ltb room (vertex_need (point_count pins macros)) || ltb edges (link_need (point_count pins macros)))
+  graph-asks edges = ap (λ (k : ℕ). ltb room (vertex_need k) || ltb edges (link_need k)) (as-points c)
 
-  pub paths-ask : ltb room (pathNeed n.pins) ≡ ltb room (pathNeed (pinCount pins))
-  paths-ask = ap (λ (m : ℕ). ltb room (pathNeed m)) (as-pins c)
+  pub paths-ask : ltb room (path_need n.pins) ≡ ltb room (path_need (pin_count pins))
+  paths-ask = ap (λ (m : ℕ). ltb room (path_need m)) (as-pins c)
 
-  pub edges-ask : ltb room (edgeNeed (countedPoints n) n.pins) ≡ ltb room (edgeNeed (pointCount pins macros) (pinCount pins))
-  edges-ask = ap₂ (λ (k m : ℕ). ltb room (edgeNeed k m)) (as-points c) (as-pins c)
+  pub edges-ask : ltb room (edge_need (counted_points n) n.pins) ≡ ltb room (edge_need (point_count pins macros) (pin_count pins))
+  edges-ask = ap₂ (λ (k m : ℕ). ltb room (edge_need k m)) (as-points c) (as-pins c)
 
-  pub wires-ask : ltb room (wireNeed (countedPoints n) n.pins) ≡ ltb room (wireNeed (pointCount pins macros) (pinCount pins))
-  wires-ask = ap₂ (λ (k m : ℕ). ltb room (wireNeed k m)) (as-points c) (as-pins c)
+  pub wires-ask : ltb room (wire_need (counted_points n) n.pins) ≡ ltb room (wire_need (point_count pins macros) (pin_count pins))
+  wires-ask = ap₂ (λ (k m : ℕ). ltb room (wire_need k m)) (as-points c) (as-pins c)

@@ -1,33 +1,51 @@
--- The slid tree of an allowed net, from what is promised of its refined tree: there a point with a single edge that is no
--- pin would be loose.
+-- What is promised of the slid tree of an allowed net, from what is promised of its refined tree: there a point with a single edge that is
+-- no pin would be loose.
 -- Assumes nothing.
 use mathlib.Core.Path.{◌≡◌, refl, sym, ap, ap₂, ◌∙◌, subst}
 use mathlib.Core.Logic.{◌⊎◌, inl, inr}
 use mathlib.Core.List.Memᴰ
 use mathlib.Core.List.{List, [], ◌∷◌}
-use Prim.Native.Nat.{◌+◌, ◌*◌, ◌<◌}
+use Prim.Native.Nat.{ℕ, ◌+◌, ◌*◌, ◌<◌}
 use native.Mathlib.Omega.{arith}
+use lib.IntN.{ℤ}
 use lib.ListN.{length}
 use Rattle.lists.specs.Member.{◌∈◌, here, there}
 use Rattle.lists.proofs.PermLaws.{order_same}
 use Rattle.lists.proofs.TestLaws.{differ, either}
+use Rattle.lent.specs.Told.{given}
 use Rattle.plane.specs.declared.Place.{Place}
+use Rattle.plane.specs.Flat.{macros_of}
+use Rattle.plane.proofs.FlatLaws.{length-macros}
 use Rattle.plane.proofs.PlaceOrder.{place-order, place_same}
 use Rattle.joined.specs.Joined.{Link}
-use Rattle.net.specs.Net.{Net}
+use Rattle.net.specs.declared.Net.{Net as Counts}
+use Rattle.net.specs.declared.Weighing.{Weighing}
+use Rattle.net.specs.Net.{Net, net_of}
+use Rattle.net.specs.Pins.{pin_count}
 use Rattle.net.specs.Allowed.{Allowed}
+use Rattle.net.proofs.AllowedLaws.{allowed-positive}
+use Rattle.net.proofs.PinLaws.{length-pins}
+use Rattle.checks.specs.Check.{checked}
+use Rattle.checks.proofs.GivenLaws.{given-allowed}
 use Rattle.graph.proofs.GraphBounds.{spanning-inside, vertex-in-range}
+use Rattle.refined.proofs.MetalLaws.{metal-low}
 use Rattle.rules.specs.Edges.{Edge}
 use Rattle.rules.specs.Refined.{EndOf, Loose}
 use Rattle.rules.proofs.EdgeLaws.{edge_order}
+use Rattle.interior.proofs.InteriorLaws.{clear-points}
 use Rattle.rules.proofs.BestLaws.{best-joining}
 use Rattle.rules.proofs.RefinedOurs.{refined-ours, refined-tree}
 use Rattle.slide.specs.Promise.{Smaller, EndsPins, Given, Promise}
+use Rattle.slide.proofs.AcrossLaws.{straight_line}
 use Rattle.slide.proofs.EndLaws.{decide}
+use Rattle.slide.proofs.InRange.{least_place, greatest_place, range-box, box-in-range}
 use Rattle.slide.proofs.SlidSound.{slid-promise}
 use Rattle.slide.proofs.StateLaws.{first-pin}
-use Rattle.answers.specs.Refined.{refinedOf, edgesIn}
-use Rattle.answers.specs.Slid.{slidIn}
+use Rattle.answers.specs.Graph.{point_count}
+use Rattle.answers.specs.Refined.{refined_of, edges_in, total_in}
+use Rattle.answers.specs.Slid.{slid_in, slid_of, slid_answer, slid_given, slid_tree}
+use Rattle.answers.proofs.AnswerLaws.{only-given, room-enough}
+use Rattle.router.specs.Slid.{PromisedSlid}
 use Rattle.router.proofs.RefinedRange.{Ranged, refined-in-range}
 
 -- Loose points
@@ -110,36 +128,65 @@ module _ (net : Net) (T : List Edge) where
 -- An allowed net
 
 module _ {net : Net} (a : Allowed net) where
-  refined-smaller : Smaller (edgesIn net)
-  unfolding edgesIn refinedOf
+  refined-smaller : Smaller (edges_in net)
+  unfolding edges_in refined_of
   refined-smaller x y m = (refined-tree a).smaller-first (x, y) m
 
   -- the refined tree is what the slider asks for
-  pub refined-given : Given net (edgesIn net)
-  unfolding edgesIn refinedOf
+  pub refined-given : Given net (edges_in net)
+  unfolding edges_in refined_of
   refined-given = record {
     one = (refined-tree a).one;
     free = λ x y m. (refined-tree a).clear-edges (x, y) m;
     smaller = refined-smaller;
     ordered = (refined-tree a).in_order;
-    ends = ends-pins net (edgesIn net) refined-smaller (refined-ours a).refines.prunes.none;
+    ends = ends-pins net (edges_in net) refined-smaller (refined-ours a).refines.prunes.none;
   }
 
-  pub refined-ranged : Ranged (edgesIn net)
-  unfolding edgesIn refinedOf
+  pub refined-ranged : Ranged (edges_in net)
+  unfolding edges_in refined_of
   refined-ranged =
       refined-in-range a
       (λ e m. let i = spanning-inside net e.0 e.1 m in (vertex-in-range a e.0 i.0, vertex-in-range a e.1 i.1))
       (best-joining a).terminal (refined-ours a)
 
-  pub slid-refined : Promise net (edgesIn net) (slidIn net)
-  unfolding slidIn
+  pub slid-refined : Promise net (edges_in net) (slid_in net)
+  unfolding slid_in
   slid-refined =
-      let p = first-pin net.pins a.some-pin in slid-promise net a.upright p.0 p.1 (edgesIn net) refined-given
+      let p = first-pin net.pins a.some-pin in slid-promise net a.upright p.0 p.1 (edges_in net) refined-given
 
-  pub refined-few : length (edgesIn net) < length net.pins + length net.macros * 4 + length net.pins
-  unfolding edgesIn refinedOf
+  pub refined-few : length (edges_in net) < length net.pins + length net.macros * 4 + length net.pins
+  unfolding edges_in refined_of
   refined-few = (refined-tree a).few
 
-  pub slid-few : length (slidIn net) * 4 < (length net.pins + length net.macros * 4 + length net.pins) * 8
+  pub slid-few : length (slid_in net) * 4 < (length net.pins + length net.macros * 4 + length net.pins) * 8
   slid-few = omega (arith, slid-refined.few, refined-few)
+
+pub promised-slid : (w : Weighing) (pins macros : List ℤ) {net : Counts} → checked w pins macros ≡ given net → PromisedSlid w pins macros
+unfolding slid_tree slid_given edges_in refined_of total_in
+promised-slid w pins macros {net} g =
+    let a = (given-allowed w pins macros g).1 in
+    let r = slid-refined a in
+    record {
+      slid-given =
+          λ room h.
+          only-given (checked w pins macros) (slid_given w pins macros room) net g
+          ∙ room-enough {A = ℕ × (ℤ × ℤ)} ((point_count pins macros + pin_count pins) * 8) room (slid_answer w pins macros) h;
+      one = r.given.one;
+      clear-edges = λ e m. r.given.free e.0 e.1 m;
+      outside = λ e m. (clear-points e.0 e.1 (macros_of macros) a.upright).0 (r.given.free e.0 e.1 m);
+      smaller-first = λ e m. r.given.smaller e.0 e.1 m;
+      in_order = r.given.ordered;
+      ends-pins = none-loose (net_of w pins macros) (slid_of w pins macros) r.given.ends;
+      straight = λ Y U k e m. straight_line e.0 e.1 (r.lines Y U k e.0 e.1 m);
+      back = r.back;
+      no-dearer = r.cheaper;
+      rounds = r.rounds;
+      metal-low = metal-low (net_of w pins macros).weights (allowed-positive a) (slid_of w pins macros);
+      in-range =
+          λ e m.
+          let b = r.within least_place greatest_place
+          (λ x y i. let q = refined-ranged a (x, y) i in (range-box x q.0, range-box y q.1)) e.0 e.1 m in
+          (box-in-range e.0 b.0, box-in-range e.1 b.1);
+      few = omega (arith, slid-few a, length-pins pins, length-macros macros);
+    }

@@ -12,35 +12,35 @@ use Rattle.lent.specs.Entries.{flat}
 use Rattle.lent.proofs.EntryTable.{entries_over, length-entries}
 use Rattle.joined.specs.Cost.{lengths}
 use Rattle.net.specs.declared.Net.{Net as Counts}
-use Rattle.net.specs.Bounds.{pinBound}
-use Rattle.net.specs.Net.{Net, netWith, netOf, handed, costIn}
+use Rattle.net.specs.Bounds.{pin_bound}
+use Rattle.net.specs.Net.{Net, net_with, net_of, handed, cost_in}
 use Rattle.net.specs.Allowed.{Allowed}
 use Rattle.net.proofs.AllowedLaws.{allowed-positive}
-use Rattle.forest.specs.Bounds.{pathBound}
-use Rattle.graph.specs.Numbers.{edgeNumbers, edgeFrom}
+use Rattle.forest.specs.Bounds.{path_bound}
+use Rattle.graph.specs.Numbers.{edge_numbers, edge_from}
 use Rattle.graph.proofs.WidthLaws.{edge-width}
-use Rattle.tree.specs.Edges.{tableEdges}
+use Rattle.tree.specs.Edges.{table_edges}
 use Rattle.tree.proofs.EdgeLaws.{edges-count}
 use Rattle.refiner.specs.declared.Refined.{Refined}
 use Rattle.refiner.specs.Refined.{Answer}
-use Rattle.union.specs.Union.{unionOf}
-use Rattle.refined.specs.Ground.{groundOf}
+use Rattle.union.specs.Union.{union_of}
+use Rattle.refined.specs.Ground.{ground_of}
 use Rattle.refined.specs.Metal.{metal}
 use Rattle.refined.proofs.MetalLaws.{metal-low}
-use Rattle.laid.specs.Edges.{edgesOf, laidBound}
+use Rattle.laid.specs.Edges.{edges_of, laid_bound}
 use Rattle.slide.specs.Slide.{slid}
 use Rattle.slide.specs.Promise.{Slidable}
 use Rattle.made.specs.Counted.{Counted}
-use Rattle.answers.specs.Refined.{refinedOf, edgesIn, totalIn}
-use Rattle.answers.specs.Slid.{slidIn}
+use Rattle.answers.specs.Refined.{refined_of, edges_in, total_in}
+use Rattle.answers.specs.Slid.{slid_in}
 use Rattle.results.proofs.RefinedLaws.{total-low, answer-edges}
 use Rattle.router.proofs.SlidLaws.{refined-few, refined-given, refined-ranged, slid-refined, slid-few}
 use Rattle.made.proofs.CountedLaws.{as-net}
 
 module _ {net : Net} (a : Allowed net) where
   -- the refined tree's edges are what the slider asks for
-  pub refined-slidable : Slidable net (edgesIn net)
-  unfolding edgesIn refinedOf
+  pub refined-slidable : Slidable net (edges_in net)
+  unfolding edges_in refined_of
   refined-slidable = record {
     allowed = a;
     given = refined-given a;
@@ -49,42 +49,42 @@ module _ {net : Net} (a : Allowed net) where
   }
 
   -- the total fits 63 bits, and so does the metal
-  pub slid-low : lengths (costIn net) (slidIn net) ≤ pinBound * pathBound
-  unfolding totalIn
+  pub slid-low : lengths (cost_in net) (slid_in net) ≤ pin_bound * path_bound
+  unfolding total_in
   slid-low = omega (arith, (slid-refined a).cheaper, total-low a)
 
-  pub slid-metal-low : metal (slidIn net) ≤ pinBound * pathBound
-  slid-metal-low = omega (arith, metal-low net.weights (allowed-positive a) (slidIn net), slid-low)
+  pub slid-metal-low : metal (slid_in net) ≤ pin_bound * path_bound
+  slid-metal-low = omega (arith, metal-low net.weights (allowed-positive a) (slid_in net), slid-low)
 
   -- r edges of a flat list that are the slid tree's
-  module _ (t : List ℤ) (r : ℕ) (is : edgesOf t r ≡ slidIn net) where
-    pub slid-count : r ≡ length (slidIn net)
-    slid-count = sym (length-entries edgeNumbers edgeFrom 4 edge-width t 0 r) ∙ ap length is
+  module _ (t : List ℤ) (r : ℕ) (is : edges_of t r ≡ slid_in net) where
+    pub slid-count : r ≡ length (slid_in net)
+    slid-count = sym (length-entries edge_numbers edge_from 4 edge-width t 0 r) ∙ ap length is
 
-    pub slid-within : r ≤ laidBound
+    pub slid-within : r ≤ laid_bound
     slid-within = omega (arith, slid-count, slid-few a, a.few-pins, a.few-macros)
 
 -- What the refiner has left, given into a table
 
 module _ {n : Counts} {pins macros : List ℤ} (c : Counted n (handed n.weights) pins macros) {pts : List ℤ} {ks : List ℕ} {r : Refined}
-    (answer : Answer (netOf (handed n.weights) pins macros) (groundOf (netOf (handed n.weights) pins macros))
-    (unionOf (netOf (handed n.weights) pins macros)) pts ks r)
-    (t lent : List ℤ) (stored : t ≡ over (flat edgeNumbers (tableEdges pts ks r.edges)) lent) where
+    (answer : Answer (net_of (handed n.weights) pins macros) (ground_of (net_of (handed n.weights) pins macros))
+    (union_of (net_of (handed n.weights) pins macros)) pts ks r)
+    (t lent : List ℤ) (stored : t ≡ over (flat edge_numbers (table_edges pts ks r.edges)) lent) where
   abbrev net : Net
-  net = netOf (handed n.weights) pins macros
+  net = net_of (handed n.weights) pins macros
 
-  table-edges : edgesOf t r.edges ≡ edgesIn net
+  table-edges : edges_of t r.edges ≡ edges_in net
   table-edges =
-      ap (λ (s : List ℤ). edgesOf s r.edges) stored
-      ∙ entries_over edgeNumbers edgeFrom 4 edge-width (tableEdges pts ks r.edges) lent r.edges (edges-count pts ks r.edges)
+      ap (λ (s : List ℤ). edges_of s r.edges) stored
+      ∙ entries_over edge_numbers edge_from 4 edge-width (table_edges pts ks r.edges) lent r.edges (edges-count pts ks r.edges)
       ∙ answer-edges c.allowed answer
 
-  pub table-slidable : Slidable (netWith n.weights pins macros) (edgesOf t r.edges)
+  pub table-slidable : Slidable (net_with n.weights pins macros) (edges_of t r.edges)
   table-slidable =
-      subst (Slidable (netWith n.weights pins macros)) (sym table-edges)
-      (subst (λ (z : Net). Slidable z (edgesIn net)) (sym (as-net c)) (refined-slidable c.allowed))
+      subst (Slidable (net_with n.weights pins macros)) (sym table-edges)
+      (subst (λ (z : Net). Slidable z (edges_in net)) (sym (as-net c)) (refined-slidable c.allowed))
 
-  pub table-slid : (t' : List ℤ) (k : ℕ) → edgesOf t' k ≡ slid (netWith n.weights pins macros) (edgesOf t r.edges) →
-      edgesOf t' k ≡ slidIn net
-  unfolding slidIn
+  pub table-slid : (t' : List ℤ) (k : ℕ) → edges_of t' k ≡ slid (net_with n.weights pins macros) (edges_of t r.edges) →
+      edges_of t' k ≡ slid_in net
+  unfolding slid_in
   table-slid t' k e = e ∙ ap₂ slid (as-net c) table-edges

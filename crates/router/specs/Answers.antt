@@ -18,36 +18,36 @@ use Rattle.router.specs.declared.BoundAnswer.{BoundAnswer}
 use Rattle.router.specs.declared.BoundAnswer.TheVariants as bound
 
 -- how many vertices and how many edges
-unfoldable pub toldGraph : Graphed → Told (ℕ × ℕ)
-toldGraph (graph.Given v e) = given (v, e)
-toldGraph (graph.Refused f) = refused (number f)
+unfoldable pub told_graph : Graphed → Told (ℕ × ℕ)
+told_graph (graph.Given v e) = given (v, e)
+told_graph (graph.Refused f) = refused (number f)
 
 -- how many paths, and their total
-unfoldable pub toldTerminal : TerminalAnswer → Told (ℕ × ℤ)
-toldTerminal (terminal.Given n total) = given (n, total)
-toldTerminal (terminal.Refused f) = refused (number f)
+unfoldable pub told_terminal : TerminalAnswer → Told (ℕ × ℤ)
+told_terminal (terminal.Given n total) = given (n, total)
+told_terminal (terminal.Refused f) = refused (number f)
 
 -- how many edges, their total, and their metal
-unfoldable pub toldTree : TreeAnswer → Told (ℕ × (ℤ × ℤ))
-toldTree (tree.Given n total metal) = given (n, (total, metal))
-toldTree (tree.Refused f) = refused (number f)
+unfoldable pub told_tree : TreeAnswer → Told (ℕ × (ℤ × ℤ))
+told_tree (tree.Given n total metal) = given (n, (total, metal))
+told_tree (tree.Refused f) = refused (number f)
 
 -- the same with the terminal tree's total before the refined tree's
-unfoldable pub toldBoth : BothAnswer → Told (ℕ × (ℤ × (ℤ × ℤ)))
-toldBoth (both.Given n terminal total metal) = given (n, (terminal, (total, metal)))
-toldBoth (both.Refused f) = refused (number f)
+unfoldable pub told_both : BothAnswer → Told (ℕ × (ℤ × (ℤ × ℤ)))
+told_both (both.Given n terminal total metal) = given (n, (terminal, (total, metal)))
+told_both (both.Refused f) = refused (number f)
 
 -- how many wires
-unfoldable pub toldWires : Wired → Told ℕ
-toldWires (wires.Given n) = given n
-toldWires (wires.Refused f) = refused (number f)
+unfoldable pub told_wires : Wired → Told ℕ
+told_wires (wires.Given n) = given n
+told_wires (wires.Refused f) = refused (number f)
 
 -- how many numbers
-unfoldable pub toldDistances : DistanceAnswer → Told ℕ
-toldDistances (distances.Given n) = given n
-toldDistances (distances.Refused f) = refused (number f)
+unfoldable pub told_distances : DistanceAnswer → Told ℕ
+told_distances (distances.Given n) = given n
+told_distances (distances.Refused f) = refused (number f)
 
 -- the lower bound
-unfoldable pub toldBound : BoundAnswer → Told ℕ
-toldBound (bound.Given n) = given n
-toldBound (bound.Refused f) = refused (number f)
+unfoldable pub told_bound : BoundAnswer → Told ℕ
+told_bound (bound.Given n) = given n
+told_bound (bound.Refused f) = refused (number f)

@@ -2,22 +2,22 @@
 ghost use Rattle.std.specs.Prelude.{◌≡◌, true, ◌*◌, ◌≤◌, length};
 ghost use Rattle.lists.specs.Any.{any};
 ghost use Rattle.lent.specs.Over.{after};
-ghost use Rattle.plane.specs.Place.{samePlace};
+ghost use Rattle.plane.specs.Place.{same_place};
 ghost use Rattle.net.specs.Net.{handed};
-ghost use Rattle.net.specs.Pins.{pinPlaces};
+ghost use Rattle.net.specs.Pins.{pin_places};
 ghost use Rattle.floats.specs.Mark.{finites};
-ghost use Rattle.delay.specs.Answer.{unlessMarked, toldDelays};
+ghost use Rattle.delay.specs.Answer.{unless_marked, told_delays};
 ghost use Rattle.made.specs.Counted.{Counted};
-ghost use Rattle.answers.specs.Graph.{graphGiven};
-ghost use Rattle.answers.specs.Terminal.{terminalGiven};
-ghost use Rattle.answers.specs.Both.{bothGiven};
-ghost use Rattle.laid.specs.Edges.{edgesOf, laidBound};
-ghost use Rattle.answers.specs.Slid.{slidOf, slidGiven};
-ghost use Rattle.answers.specs.Wires.{wiresGiven};
-ghost use Rattle.answers.specs.Distances.{distancesGiven};
-ghost use Rattle.answers.specs.Delay.{delaysOf, delayGiven};
-ghost use Rattle.answers.specs.Best.{bestGiven};
-ghost use Rattle.answers.specs.Bound.{boundGiven};
+ghost use Rattle.answers.specs.Graph.{graph_given};
+ghost use Rattle.answers.specs.Terminal.{terminal_given};
+ghost use Rattle.answers.specs.Both.{both_given};
+ghost use Rattle.laid.specs.Edges.{edges_of, laid_bound};
+ghost use Rattle.answers.specs.Slid.{slid_of, slid_given};
+ghost use Rattle.answers.specs.Wires.{wires_given};
+ghost use Rattle.answers.specs.Distances.{distances_given};
+ghost use Rattle.answers.specs.Delay.{delays_of, delay_given};
+ghost use Rattle.answers.specs.Best.{best_given};
+ghost use Rattle.answers.specs.Bound.{bound_given};
 ghost use Rattle.router.specs.Call.{GraphCall, TerminalCall, BothCall, SlidCall, WiresCall, DistancesCall, DelayCall, BestCall};
 ghost use Rattle.router.specs.Call.{BoundCall};
 
@@ -41,7 +41,7 @@ pub fn graph(
     edges: &mut [i32],
 ) -> Graphed
     requires { Counted net (handed net.weights) pins.now macros.now }
-    ensures { GraphCall graphGiven (handed net.weights) pins.now macros.now vertices.old
+    ensures { GraphCall graph_given (handed net.weights) pins.now macros.now vertices.old
         edges.old result vertices.new edges.new }
 {
     if room::graph_short(net, vertices.len(), edges.len()) {
@@ -54,7 +54,7 @@ pub fn graph(
 // The terminal tree.
 pub fn terminal_tree(net: Net, pins: &[i32], macros: &[i32], paths: &mut [i64]) -> TerminalAnswer
     requires { Counted net (handed net.weights) pins.now macros.now }
-    ensures { TerminalCall terminalGiven (handed net.weights) pins.now macros.now paths.old result
+    ensures { TerminalCall terminal_given (handed net.weights) pins.now macros.now paths.old result
         paths.new }
 {
     if room::paths_short(net, paths.len()) {
@@ -67,7 +67,7 @@ pub fn terminal_tree(net: Net, pins: &[i32], macros: &[i32], paths: &mut [i64]) 
 // Both trees: the edges of the refined one, and the totals of both.
 pub fn both_trees(net: Net, pins: &[i32], macros: &[i32], edges: &mut [i32]) -> BothAnswer
     requires { Counted net (handed net.weights) pins.now macros.now }
-    ensures { BothCall bothGiven (handed net.weights) pins.now macros.now edges.old result
+    ensures { BothCall both_given (handed net.weights) pins.now macros.now edges.old result
         edges.new }
 {
     if room::edges_short(net, edges.len()) {
@@ -85,7 +85,7 @@ pub fn both_trees(net: Net, pins: &[i32], macros: &[i32], edges: &mut [i32]) -> 
 // The slid tree.
 pub fn slid_tree(net: Net, pins: &[i32], macros: &[i32], edges: &mut [i32]) -> TreeAnswer
     requires { Counted net (handed net.weights) pins.now macros.now }
-    ensures { SlidCall slidGiven (handed net.weights) pins.now macros.now edges.old result
+    ensures { SlidCall slid_given (handed net.weights) pins.now macros.now edges.old result
         edges.new }
 {
     if room::wires_short(net, edges.len()) {
@@ -102,7 +102,7 @@ pub fn slid_tree(net: Net, pins: &[i32], macros: &[i32], edges: &mut [i32]) -> T
 // The wires.
 pub fn wires(net: Net, pins: &[i32], macros: &[i32], wires: &mut [i32]) -> Wired
     requires { Counted net (handed net.weights) pins.now macros.now }
-    ensures { WiresCall wiresGiven (handed net.weights) pins.now macros.now wires.old result
+    ensures { WiresCall wires_given (handed net.weights) pins.now macros.now wires.old result
         wires.new }
 {
     if room::wires_short(net, wires.len()) {
@@ -122,7 +122,7 @@ pub fn delay(
     delays: &mut [f64],
 ) -> Delayed
     requires { Counted net (handed net.weights) pins.now macros.now }
-    ensures { DelayCall delayGiven (handed net.weights) pins.now macros.now driver t delays.old result
+    ensures { DelayCall delay_given (handed net.weights) pins.now macros.now driver t delays.old result
         delays.new }
 {
     let usable = floats::is_usable(t);
@@ -149,11 +149,11 @@ fn time(
     delays: &mut [f64],
 ) -> Delayed
     requires counted { Counted net (handed net.weights) pins.now macros.now }
-    requires pins_in_bounds { (net.pins ≤ length delays.old) × (any (samePlace driver) (pinPlaces pins.now) ≡ true) }
-    ensures result_value { toldDelays result ≡ unlessMarked net.pins
-        (delaysOf (handed net.weights) pins.now macros.now driver t) }
-    ensures delays_after { delays.new ≡ after (toldDelays result)
-        (finites (delaysOf (handed net.weights) pins.now macros.now driver t)) delays.old }
+    requires pins_in_bounds { (net.pins ≤ length delays.old) × (any (same_place driver) (pin_places pins.now) ≡ true) }
+    ensures result_value { told_delays result ≡ unless_marked net.pins
+        (delays_of (handed net.weights) pins.now macros.now driver t) }
+    ensures delays_after { delays.new ≡ after (told_delays result)
+        (finites (delays_of (handed net.weights) pins.now macros.now driver t)) delays.old }
 {
     let mut points = [0i32; tree::NUMBERS];
     let mut keys = [0usize; tree::POINTS];
@@ -181,8 +181,8 @@ fn time(
 // The slid tree of an allowed net as a flat list of edges, in a table that is fresh; how many there are.
 fn slide(net: Net, pins: &[i32], macros: &[i32], table: &mut [i32]) -> usize
     requires counted { Counted net (handed net.weights) pins.now macros.now }
-    requires table_len { length table.old ≡ laidBound * 4 }
-    ensures { edgesOf table.new result ≡ slidOf (handed net.weights) pins.now macros.now }
+    requires table_len { length table.old ≡ laid_bound * 4 }
+    ensures { edges_of table.new result ≡ slid_of (handed net.weights) pins.now macros.now }
 {
     let mut points = [0i32; tree::NUMBERS];
     let mut keys = [0usize; tree::POINTS];
@@ -194,7 +194,7 @@ fn slide(net: Net, pins: &[i32], macros: &[i32], table: &mut [i32]) -> usize
 // The distances on the grid.
 pub fn grid_distances(net: Net, pins: &[i32], macros: &[i32], table: &mut [i64]) -> DistanceAnswer
     requires { Counted net (handed net.weights) pins.now macros.now }
-    ensures { DistancesCall distancesGiven (handed net.weights) pins.now macros.now table.old result
+    ensures { DistancesCall distances_given (handed net.weights) pins.now macros.now table.old result
         table.new }
 {
     if (Grid::PINS < net.pins) | (Grid::MACROS < net.macros) {
@@ -217,7 +217,7 @@ pub fn best_tree(
     edges: &mut [i32],
 ) -> TreeAnswer
     requires { Counted net (handed net.weights) pins.now macros.now }
-    ensures { BestCall bestGiven (handed net.weights) pins.now macros.now work.old
+    ensures { BestCall best_given (handed net.weights) pins.now macros.now work.old
         edges.old result work.new edges.new }
 {
     if (Best::PINS < net.pins) | (Grid::MACROS < net.macros) {
@@ -241,7 +241,7 @@ pub fn lower_bound(
     rows: &mut [u64],
 ) -> BoundAnswer
     requires { Counted net (handed net.weights) pins.now macros.now }
-    ensures { BoundCall boundGiven (handed net.weights) pins.now macros.now left.old
+    ensures { BoundCall bound_given (handed net.weights) pins.now macros.now left.old
         rows.old result left.new rows.new }
 {
     if (left.len() < Wide::ARCS) | (rows.len() < Wide::CROSSINGS) {

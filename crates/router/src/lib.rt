@@ -3,26 +3,25 @@
 //
 // The contract of one that is lent space names one record (specs/Call.antt): the answer, as the rules have it, and what each lent list then
 // holds, refused calls too. Those of check, price and check_tree, which are lent none, are one equation each.
-// What the trees that are given are, and what is promised of them, is `Promised` (promises/specs/Published.antt); all that
-// is promised is `AllPromises` beside it.
+// What the trees that are given are, and what is promised of them, is `Promised` (promises/specs/Published.antt).
 mod allowed; // allowed.rt: what goes on once the check has passed
 
 ghost use Rattle.std.specs.Prelude.{◌≡◌};
 ghost use Rattle.checks.specs.Check.{checked, told};
-ghost use Rattle.price.specs.Price.{toldPrice};
-ghost use Rattle.bought.specs.Verdict.{toldVerdict};
+ghost use Rattle.price.specs.Price.{told_price};
+ghost use Rattle.bought.specs.Verdict.{told_verdict};
 ghost use Rattle.answers.specs.Graph.{graphed};
-ghost use Rattle.answers.specs.Terminal.{terminalTree};
-ghost use Rattle.answers.specs.Refined.{refinedTree};
-ghost use Rattle.answers.specs.Both.{bothTrees};
-ghost use Rattle.answers.specs.Slid.{slidTree};
+ghost use Rattle.answers.specs.Terminal.{terminal_tree};
+ghost use Rattle.answers.specs.Refined.{refined_tree};
+ghost use Rattle.answers.specs.Both.{both_trees};
+ghost use Rattle.answers.specs.Slid.{slid_tree};
 ghost use Rattle.answers.specs.Wires.{wired};
-ghost use Rattle.answers.specs.Distances.{gridDistances};
-ghost use Rattle.answers.specs.Delay.{pinDelays};
-ghost use Rattle.answers.specs.Best.{bestTree};
-ghost use Rattle.answers.specs.Bound.{lowerBound};
-ghost use Rattle.answers.specs.Price.{netPrice};
-ghost use Rattle.answers.specs.Bought.{checkedTree};
+ghost use Rattle.answers.specs.Distances.{grid_distances};
+ghost use Rattle.answers.specs.Delay.{pin_delays};
+ghost use Rattle.answers.specs.Best.{best_tree};
+ghost use Rattle.answers.specs.Bound.{lower_bound};
+ghost use Rattle.answers.specs.Price.{net_price};
+ghost use Rattle.answers.specs.Bought.{checked_tree};
 ghost use Rattle.router.specs.Call.{GraphCall, TerminalCall, RefinedCall, BothCall, SlidCall, WiresCall, DistancesCall};
 ghost use Rattle.router.specs.Call.{DelayCall, BestCall, BoundCall, WriteCall, ReadCall};
 
@@ -113,7 +112,7 @@ pub fn graph(
 // Terminal tree: each kept path's bridge and length in the order kept, how many there are and their total, or 11 to 18, then 21 where
 // fewer than 5m numbers are lent. That no joining is shorter and no chain has a lower longest path: `Promised`.
 pub fn terminal_tree(w: Weighing, pins: &[i32], macros: &[i32], paths: &mut [i64]) -> TerminalAnswer
-    ensures { TerminalCall terminalTree w pins.now macros.now paths.old result paths.new }
+    ensures { TerminalCall terminal_tree w pins.now macros.now paths.old result paths.new }
 {
     let answer = checks::check(w, pins, macros);
     match answer {
@@ -125,7 +124,7 @@ pub fn terminal_tree(w: Weighing, pins: &[i32], macros: &[i32], paths: &mut [i64
 // Refined tree: its edges in order, how many there are, their total and the metal to lay, or 11 to 18, then 21 where fewer than 4(n + m)
 // numbers are lent. That they hold all pins as one tree, enter no interior and cost no more than the terminal tree: `Promised`.
 pub fn refined_tree(w: Weighing, pins: &[i32], macros: &[i32], edges: &mut [i32]) -> TreeAnswer
-    ensures { RefinedCall refinedTree w pins.now macros.now edges.old result edges.new }
+    ensures { RefinedCall refined_tree w pins.now macros.now edges.old result edges.new }
 {
     let answer = both_trees(w, pins, macros, &mut *edges);
     match answer {
@@ -137,7 +136,7 @@ pub fn refined_tree(w: Weighing, pins: &[i32], macros: &[i32], edges: &mut [i32]
 // Both trees, from one graph: what the refined tree gives, and with it the terminal tree's total, or 11 to 18, then 21 as for the refined
 // tree.
 pub fn both_trees(w: Weighing, pins: &[i32], macros: &[i32], edges: &mut [i32]) -> BothAnswer
-    ensures { BothCall bothTrees w pins.now macros.now edges.old result edges.new }
+    ensures { BothCall both_trees w pins.now macros.now edges.old result edges.new }
 {
     let answer = checks::check(w, pins, macros);
     match answer {
@@ -148,10 +147,9 @@ pub fn both_trees(w: Weighing, pins: &[i32], macros: &[i32], edges: &mut [i32]) 
 
 // Slid tree: the refined tree's edges made straight, bars of them moved where that saves: its edges in order, how many there are, their
 // total and the metal to lay, or 11 to 18, then 21 where fewer than 8(n + m) numbers are lent. That they hold all pins as one tree, enter
-// no interior, are along one axis unless the refined tree is given back, and cost no more than it: `PromisedSlid`
-// (promises/specs/Slid.antt).
+// no interior, are along one axis unless the refined tree is given back, and cost no more than it: `PromisedSlid` (specs/Slid.antt).
 pub fn slid_tree(w: Weighing, pins: &[i32], macros: &[i32], edges: &mut [i32]) -> TreeAnswer
-    ensures { SlidCall slidTree w pins.now macros.now edges.old result edges.new }
+    ensures { SlidCall slid_tree w pins.now macros.now edges.old result edges.new }
 {
     let answer = checks::check(w, pins, macros);
     match answer {
@@ -174,14 +172,14 @@ pub fn wires(w: Weighing, pins: &[i32], macros: &[i32], wires: &mut [i32]) -> Wi
 
 // Distances on the grid: the cheapest cost along the grid between every two pins, row by row in the order of places, and how many numbers
 // that is, or 11 to 18, then 36 above 16 pins or 16 macros, then 21 where fewer than m times m numbers are lent. That no walk in clear unit
-// steps is cheaper, nor any way along the spanning graph: `PromisedDistances` (promises/specs/Distances.antt).
+// steps is cheaper, nor any way along the spanning graph: `PromisedDistances` (specs/Distances.antt).
 pub fn grid_distances(
     w: Weighing,
     pins: &[i32],
     macros: &[i32],
     table: &mut [i64],
 ) -> DistanceAnswer
-    ensures { DistancesCall gridDistances w pins.now macros.now table.old result table.new }
+    ensures { DistancesCall grid_distances w pins.now macros.now table.old result table.new }
 {
     let answer = checks::check(w, pins, macros);
     match answer {
@@ -193,7 +191,7 @@ pub fn grid_distances(
 // Delay: the Elmore delay of the refined tree from a driver to each pin, in the order of places, and how many there are, or 11 to 18, then
 // 21 where fewer than m numbers are lent, 38 for a technology that is not usable, 39 where the driver is no pin, 40 where a delay is not
 // finite. That each point hangs once from the driver, and that delays are the same for every order of the lists: `PromisedDelay`,
-// `SameDelays` (promises/specs/Delay.antt).
+// `SameDelays` (specs/Delay.antt).
 pub fn delay(
     w: Weighing,
     pins: &[i32],
@@ -202,7 +200,7 @@ pub fn delay(
     t: Technology,
     delays: &mut [f64],
 ) -> Delayed
-    ensures { DelayCall pinDelays w pins.now macros.now driver t delays.old result
+    ensures { DelayCall pin_delays w pins.now macros.now driver t delays.old result
         delays.new }
 {
     let answer = checks::check(w, pins, macros);
@@ -216,8 +214,8 @@ pub fn delay(
 // metal to lay, or 11 to 18, then 41 for a larger net, then 21 where fewer than 65,536 numbers of work are lent, or fewer than 4(m + 2k)²
 // for the edges. Which tree, where several cost the same, is left to the program, and the contract says so; that no metal clear of the
 // macros joins all pins for less, on the grid or off it, in units or in fractions, that the check of bought-in trees passes it, and that no
-// refined tree, no slid tree and no list that this check passes is cheaper: `PromisedBest` (promises/specs/Best.antt). Of the
-// work the first 65,536 numbers are then 0 and the others as they were.
+// refined tree, no slid tree and no list that this check passes is cheaper: `PromisedBest` (specs/Best.antt). Of the work the first 65,536
+// numbers are then 0 and the others as they were.
 pub fn best_tree(
     w: Weighing,
     pins: &[i32],
@@ -225,7 +223,7 @@ pub fn best_tree(
     work: &mut [u32],
     edges: &mut [i32],
 ) -> TreeAnswer
-    ensures { BestCall bestTree w pins.now macros.now work.old edges.old result
+    ensures { BestCall best_tree w pins.now macros.now work.old edges.old result
         work.new edges.new }
 {
     let answer = checks::check(w, pins, macros);
@@ -247,7 +245,7 @@ pub fn lower_bound(
     left: &mut [u32],
     rows: &mut [u64],
 ) -> BoundAnswer
-    ensures { BoundCall lowerBound w pins.now macros.now left.old rows.old result
+    ensures { BoundCall lower_bound w pins.now macros.now left.old rows.old result
         left.new rows.new }
 {
     let answer = checks::check(w, pins, macros);
@@ -261,7 +259,7 @@ pub fn lower_bound(
 // numbers each, the most metal that the band reaches and its rate per 1,000 units. Metal is the refined tree's plain length (R22). That
 // more metal is never charged less by one list: `NeverLess` (specs/Price.antt).
 pub fn price(w: Weighing, pins: &[i32], macros: &[i32], bands: &[u64]) -> Priced
-    ensures { toldPrice result ≡ netPrice w pins.now macros.now bands.now }
+    ensures { told_price result ≡ net_price w pins.now macros.now bands.now }
 {
     let answer = checks::check(w, pins, macros);
     match answer {
@@ -272,9 +270,9 @@ pub fn price(w: Weighing, pins: &[i32], macros: &[i32], bands: &[u64]) -> Priced
 
 // Check a bought-in tree: what its edges, four numbers each, cost and their metal, or 11 to 18, then 33, 34 and 35, each over the whole
 // list. Which lists pass, that the order of the edges and of their ends does not matter, and that every refined tree and every slid tree
-// passes: `PromisedCheck` (promises/specs/Bought.antt).
+// passes: `PromisedCheck` (specs/Bought.antt).
 pub fn check_tree(w: Weighing, pins: &[i32], macros: &[i32], edges: &[i32]) -> Verdict
-    ensures { toldVerdict result ≡ checkedTree w pins.now macros.now edges.now }
+    ensures { told_verdict result ≡ checked_tree w pins.now macros.now edges.now }
 {
     let answer = checks::check(w, pins, macros);
     match answer {

@@ -12,14 +12,14 @@ use Rattle.joined.specs.Joined.{Link}
 use Rattle.joined.specs.Way.{Way, stop, go, long}
 use Rattle.joined.specs.OneTree.{Point}
 use Rattle.joined.proofs.WayLaws.{way-cast}
-use Rattle.net.specs.Net.{Net, costIn}
+use Rattle.net.specs.Net.{Net, cost_in}
 use Rattle.rules.specs.Edges.{Edge}
 use Rattle.rules.specs.Spanning.{Vertex}
 use Rattle.rules.specs.Refined.{Shortest, Lowest, Beside}
 
 -- what is asked of a graph: its edges cost something, and join vertices
 pub record Lawful (net : Net) (G : List Edge) : Type 0 where
-  pub positive : (x y : Place) → Link G x y → 0 < costIn net x y
+  pub positive : (x y : Place) → Link G x y → 0 < cost_in net x y
   pub vertex : (x y : Place) → Link G x y → Vertex net y
 
 -- a way parted at one of its points
@@ -28,7 +28,7 @@ pub record PartedAt (net : Net) (G : List Edge) (x c v : Place) (qs : List Place
   pub second : List Place
   pub to : Way G x first c
   pub from : Way G c second v
-  pub lengths : long (costIn net) x qs ≡ long (costIn net) x first + long (costIn net) c second
+  pub lengths : long (cost_in net) x qs ≡ long (cost_in net) x first + long (cost_in net) c second
 
 module _ {net : Net} {G : List Edge} where
   pub parted : {x c v : Place} {qs : List Place} → Way G x qs v → c ∈ (x ∷ qs) → PartedAt net G x c v qs
@@ -38,7 +38,7 @@ module _ {net : Net} {G : List Edge} where
     second = qs;
     to = stop (sym e);
     from = way-cast e w;
-    lengths = omega (arith, ap (λ (z : Place). long (costIn net) z qs) e);
+    lengths = omega (arith, ap (λ (z : Place). long (cost_in net) z qs) e);
   }
   parted (stop e) (there m) = elim m [ ]
   parted (go {x = x} {y = y} l w) (there m) =
@@ -46,11 +46,11 @@ module _ {net : Net} {G : List Edge} where
       record { first = y ∷ r.first; second = r.second; to = go l r.to; from = r.from; lengths = omega (arith, r.lengths) }
 
 module _ {net : Net} {G : List Edge} (law : Lawful net G) where
-  pub link-long : {x y : Place} → Link G x y → 0 < costIn net x y
+  pub link-long : {x y : Place} → Link G x y → 0 < cost_in net x y
   link-long {x} {y} l = law.positive x y l
 
   -- a way of length zero stands still
-  pub zero-way : {x v : Place} {qs : List Place} → Way G x qs v → long (costIn net) x qs ≡ 0 → x ≡ v
+  pub zero-way : {x v : Place} {qs : List Place} → Way G x qs v → long (cost_in net) x qs ≡ 0 → x ≡ v
   unfolding long
   zero-way (stop e) z = e
   zero-way (go l w) z = absurd (let f : ⊥ = omega (arith, link-long l) in f)
@@ -58,12 +58,12 @@ module _ {net : Net} {G : List Edge} (law : Lawful net G) where
   -- Shortest ways
 
   pub shortest-rest : {x y v : Place} {qs : List Place} → Link G x y → Way G y qs v →
-      ((rs : List Place) → Way G x rs v → long (costIn net) x (y ∷ qs) ≤ long (costIn net) x rs) → Shortest net G y qs v
+      ((rs : List Place) → Way G x rs v → long (cost_in net) x (y ∷ qs) ≤ long (cost_in net) x rs) → Shortest net G y qs v
   unfolding long
   shortest-rest {y = y} l w h = (w, λ rs v. omega (arith, h (y ∷ rs) (go l v)))
 
   pub shortest-once : {x v : Place} {qs : List Place} → Way G x qs v →
-      ((rs : List Place) → Way G x rs v → long (costIn net) x qs ≤ long (costIn net) x rs) → Once (x ∷ qs)
+      ((rs : List Place) → Way G x rs v → long (cost_in net) x qs ≤ long (cost_in net) x rs) → Once (x ∷ qs)
   unfolding long
   shortest-once (stop e) h = (λ m. elim m [ ], tt)
   shortest-once (go {x = x} {y = y} l w) h = (
@@ -75,8 +75,8 @@ module _ {net : Net} {G : List Edge} (law : Lawful net G) where
 
   -- the way by smallest next vertices is the only one
   pub lowest-only : {x v : Place} {qs rs : List Place} → Way G x qs v → Way G x rs v →
-      ((ts : List Place) → Way G x ts v → long (costIn net) x qs ≤ long (costIn net) x ts) →
-      ((ts : List Place) → Way G x ts v → long (costIn net) x rs ≤ long (costIn net) x ts) →
+      ((ts : List Place) → Way G x ts v → long (cost_in net) x qs ≤ long (cost_in net) x ts) →
+      ((ts : List Place) → Way G x ts v → long (cost_in net) x rs ≤ long (cost_in net) x ts) →
       Lowest net G x qs v → Lowest net G x rs v → qs ≡ rs
   unfolding long
   lowest-only (stop e) (stop f) h k p q = refl
@@ -89,7 +89,7 @@ module _ {net : Net} {G : List Edge} (law : Lawful net G) where
       e : y ≡ z
       e = place-order.tie y z (q.0 y qs (go l w, h)) (p.0 z rs (go m u, k))
 
-      least : (ts : List Place) → Way G y ts v → long (costIn net) y rs ≤ long (costIn net) y ts
+      least : (ts : List Place) → Way G y ts v → long (cost_in net) y rs ≤ long (cost_in net) y ts
       least = (subst (λ (c : Place). Shortest net G c rs v) (sym e) (shortest-rest m u k)).1
 
   -- A point beside the tree
@@ -119,7 +119,7 @@ module _ {net : Net} {G : List Edge} (law : Lawful net G) where
   beside-only {T} {u} {v} {w} {qs} {rs} p q =
       (e, lowest-only p.way other.0 (beside-shortest p).1 other.1 p.lowest (subst (Lowest net G u rs) (sym e) q.lowest))
     where
-      even : long (costIn net) u qs ≡ long (costIn net) u rs
+      even : long (cost_in net) u qs ≡ long (cost_in net) u rs
       even = omega (arith, p.nearest w rs q.point q.itself q.way, q.nearest v qs p.point p.itself p.way)
 
       e : v ≡ w

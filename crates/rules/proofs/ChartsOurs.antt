@@ -10,24 +10,24 @@ use Rattle.lists.specs.Member.{◌∈◌}
 use Rattle.lent.specs.Over.{over}
 use Rattle.lent.specs.Entries.{flat}
 use Rattle.plane.specs.declared.Place.{Place}
-use Rattle.plane.specs.Flat.{placeAt}
+use Rattle.plane.specs.Flat.{place_at}
 use Rattle.net.specs.Net.{Net}
 use Rattle.net.specs.Allowed.{Allowed}
 use Rattle.joined.specs.Joined.{Link}
 use Rattle.joined.specs.Way.{Way, stop, go}
-use Rattle.graph.specs.Spanning.{verticesOf, spanning}
-use Rattle.graph.specs.Numbers.{placeNumbers}
+use Rattle.graph.specs.Spanning.{vertices_of, spanning}
+use Rattle.graph.specs.Numbers.{place_numbers}
 use Rattle.graph.proofs.VertexLaws.{vertices-ascending}
 use Rattle.graph.proofs.GraphBounds.{spanning-edge}
-use Rattle.forest.specs.Bounds.{pointBound}
+use Rattle.forest.specs.Bounds.{point_bound}
 use Rattle.forest.specs.Setting.{pairs}
 use Rattle.forest.proofs.Nearest.{link-in}
-use Rattle.terminal.specs.Number.{number_of, vertexAt}
+use Rattle.terminal.specs.Number.{number_of, vertex_at}
 use Rattle.terminal.specs.Tree.{graph_of}
 use Rattle.terminal.proofs.NumberLaws.{vertex-in, vertex-of-number, number-of-vertex, number_small}
 use Rattle.terminal.proofs.SettingOf.{setting}
 use Rattle.terminal.proofs.CrossingLaws.{way-places, way-numbers}
-use Rattle.refined.specs.Ground.{groundOf}
+use Rattle.refined.specs.Ground.{ground_of}
 use Rattle.refined.proofs.NetGround.{place_is, net-grounded}
 use Rattle.rules.specs.Edges.{Edge}
 use Rattle.rules.specs.Spanning.{Vertex}
@@ -43,10 +43,10 @@ one-step l = go l (stop refl)
 
 module _ {net : Net} (a : Allowed net) where
   abbrev vs : List Place
-  vs = verticesOf net
+  vs = vertices_of net
 
   abbrev at : ℕ → Place
-  at i = placeAt (over (flat placeNumbers (verticesOf net)) (replicate (pointBound * 2) (pos 0))) i
+  at i = place_at (over (flat place_numbers (vertices_of net)) (replicate (point_bound * 2) (pos 0))) i
 
   to-vertex : (i : ℕ) → i < length vs → Vertex net (at i)
   to-vertex i h = ((graph-ours net).vertices (at i)).0 (subst (λ (p : Place). p ∈ vs) (sym (place_is a i h)) (vertex-in vs i h))
@@ -61,7 +61,7 @@ module _ {net : Net} (a : Allowed net) where
   linked i j l =
       let b = link-in (setting a) i j l in
       subst (λ (p : Place). Link (spanning net) p (at j)) (sym (place_is a i b.near-in))
-      (subst (λ (p : Place). Link (spanning net) (vertexAt vs i) p) (sym (place_is a j b.far-in))
+      (subst (λ (p : Place). Link (spanning net) (vertex_at vs i) p) (sym (place_is a j b.far-in))
       (link-of (way-places a (one-step l))))
 
   unlinked : (i j : ℕ) → i < length vs → j < length vs → Link (spanning net) (at i) (at j) → Link (pairs (graph_of net)) i j
@@ -77,8 +77,8 @@ module _ {net : Net} (a : Allowed net) where
   ends-in x y (inr m) =
       let e = spanning-edge net (y, x) m in (((graph-ours net).vertices x).0 e.second, ((graph-ours net).vertices y).0 e.first)
 
-  pub net-charts : Charts net (spanning net) (groundOf net)
-  unfolding groundOf
+  pub net-charts : Charts net (spanning net) (ground_of net)
+  unfolding ground_of
   net-charts = record {
     grounded = net-grounded a;
     vertex-to = to-vertex;

@@ -5,9 +5,9 @@ use Rattle.lists.specs.Sorted.{Order}
 use Rattle.lists.proofs.OrderLaws.{pair-order}
 use Rattle.plane.specs.Place.{before}
 use Rattle.plane.proofs.PlaceOrder.{place-order}
-use Rattle.rules.specs.Edges.{Edge, edgeBefore, Same}
+use Rattle.rules.specs.Edges.{Edge, edge_before, Same}
 
-pub edge_order : Order edgeBefore
+pub edge_order : Order edge_before
 edge_order = pair-order before before place-order place-order
 
 pub same_turn : {T U : List Edge} → Same T U → Same U T

@@ -15,31 +15,31 @@ use Rattle.lists.specs.Member.{◌∈◌, here, there}
 use Rattle.lists.proofs.TestLaws.{by, differ, either}
 use Rattle.plane.specs.declared.Place.{Place}
 use Rattle.plane.specs.Place.{before}
-use Rattle.plane.specs.Flat.{placeAt}
+use Rattle.plane.specs.Flat.{place_at}
 use Rattle.plane.proofs.PlaceOrder.{place-order}
 use Rattle.net.specs.Net.{Net}
 use Rattle.joined.specs.Joined.{Link, Alike}
 use Rattle.joined.specs.Way.{Way, stop, go}
 use Rattle.joined.specs.Exchange.{steps}
 use Rattle.joined.proofs.JoinedLaws.{firsts, seconds}
-use Rattle.tree.specs.Table.{treeBound, firstEnd, secondEnd, Tree, tree}
-use Rattle.tree.specs.Places.{endsOf, points_of, edgesOf, Ranked, Sound}
+use Rattle.tree.specs.Table.{tree_bound, first_end, second_end, Tree, tree}
+use Rattle.tree.specs.Places.{ends_of, points_of, edges_of, Ranked, Sound}
 use Rattle.tree.proofs.ListingLaws.{in-listing}
 use Rattle.candidates.specs.declared.Best.{Best}
-use Rattle.plane.specs.Middle.{middlePlace}
+use Rattle.plane.specs.Middle.{middle_place}
 use Rattle.candidates.specs.Candidate.{found}
 use Rattle.longest.specs.Longest.{costs, longest}
 use Rattle.exchanges.specs.Exchange.{exchange}
 use Rattle.candidates.specs.Taken.{Taken}
 use Rattle.refiner.specs.Sentences as tables
-use Rattle.beside.specs.Beside.{Ground, labelsIn, parentsIn, seatsIn}
-use Rattle.refiner.specs.Ready.{vertexAt, Ready}
+use Rattle.beside.specs.Beside.{Ground, labels_in, parents_in, seats_in}
+use Rattle.refiner.specs.Ready.{vertex_at, Ready}
 use Rattle.refiner.proofs.CutSound.{tree-size}
 use Rattle.exchanges.proofs.ExchangeSound.{laid-after}
 use Rattle.refiner.proofs.WinnerLaws.{Winner, found-wins}
 use Rattle.refiner.proofs.RoundSound.{taken, exchange-laid}
 use Rattle.refiner.specs.Graft.{Grown}
-use Rattle.forest.specs.Parents.{wayAfter}
+use Rattle.forest.specs.Parents.{way_after}
 use Rattle.refiner.proofs.TakenKept.{taken-kept}
 use Rattle.refiner.proofs.GraftSound.{StepAt, Hanging}
 use Rattle.refiner.proofs.GraftTaken as graft
@@ -47,7 +47,7 @@ use Rattle.refiner.proofs.WayBeside.{way-hangs}
 use Rattle.refiner.proofs.RoundReady.{ready-roomy, on, off, win, low, room-way, grown, grows, grown-few, off-best, off_next}
 use Rattle.rules.specs.Edges.{Edge}
 use Rattle.rules.specs.Refined.{Lays, Step, After, Round}
-use Rattle.rules.proofs.GainOurs.{not_after, edgesIn, pointAt, edge_at, edge-one}
+use Rattle.rules.proofs.GainOurs.{not_after, edges_in, point_at, edge_at, edge-one}
 use Rattle.rules.proofs.ReachOurs.{Charts}
 use Rattle.rules.proofs.GainBeside.{joint, laid, beside_at}
 use Rattle.rules.proofs.RoundOurs.{upward, of-after, in_after, few, takes-on, takes-off}
@@ -57,14 +57,14 @@ use Rattle.rules.proofs.RoundOurs.{upward, of-after, in_after, few, takes-on, ta
 -- x is there after the exchange of a candidate
 abbrev pub Left : Tree → Best → Edge → Type 0
 Left t c x =
-    ((x ∈ edgesIn t) × ((x ≡ edge_at t c.edge → ⊥) × (x ≡ edge_at t c.cut → ⊥))) ⊎
-    (Lays (tables.middleAt t c.edge c.point) (tables.endA t c.edge) x ⊎ (Lays (tables.middleAt t c.edge c.point)
-    (tables.endB t c.edge) x ⊎ Lays (tables.middleAt t c.edge c.point) (pointAt t c.point) x))
+    ((x ∈ edges_in t) × ((x ≡ edge_at t c.edge → ⊥) × (x ≡ edge_at t c.cut → ⊥))) ⊎
+    (Lays (tables.middle_at t c.edge c.point) (tables.end_a t c.edge) x ⊎ (Lays (tables.middle_at t c.edge c.point)
+    (tables.end_b t c.edge) x ⊎ Lays (tables.middle_at t c.edge c.point) (point_at t c.point) x))
 
-module _ (net : Net) (pts : List ℤ) (n : ℕ) (ks : List ℕ) (few : n < treeBound) (room : length pts ≡ treeBound * 2)
-    (rooms : length ks ≡ treeBound) (c : Best) where
+module _ (net : Net) (pts : List ℤ) (n : ℕ) (ks : List ℕ) (few : n < tree_bound) (room : length pts ≡ tree_bound * 2)
+    (rooms : length ks ≡ tree_bound) (c : Best) where
   left_at : (e : ℕ) → Sound net (tree pts n ks e) → Ranked ks e → Taken net.macros pts n ks e c.edge c.cut c.point →
-      (x : Edge) → (x ∈ edgesIn (exchange c pts n ks e)) ↔ Left (tree pts n ks e) c x
+      (x : Edge) → (x ∈ edges_in (exchange c pts n ks e)) ↔ Left (tree pts n ks e) c x
   left_at zero sound ranked t x = absurd (let z : ⊥ = omega (arith, t.edge) in z)
   left_at (suc zero) sound ranked t x = absurd (t.two (let z : c.edge ≡ c.cut = omega (arith, t.edge, t.cut) in z))
   left_at (suc (suc e)) sound ranked t x =
@@ -76,17 +76,17 @@ module _ (net : Net) (pts : List ℤ) (n : ℕ) (ks : List ℕ) (few : n < treeB
       let up = upward _ (subst (Sound net) q kept.sound)
       (subst (λ (z : Tree). Ranked z.edges.keys z.edges.size) q (kept.ranked ranked)) in
       let one_key = edge-one before sound ranked in
-      subst (λ (z : Tree). ◌↔◌ (x ∈ edgesIn z) (Left before c x)) (sym q) (
+      subst (λ (z : Tree). ◌↔◌ (x ∈ edges_in z) (Left before c x)) (sym q) (
         of-after laid.1 sound.within t.edge t.cut t.two (sound.within.ends c.edge).0
             (sound.within.ends c.edge).1 t.point ranked.rising one_key up x,
         in_after laid.1 sound.within t.edge t.cut t.two (sound.within.ends c.edge).0
             (sound.within.ends c.edge).1 t.point ranked.rising one_key up x,
       )
 
-left-edges : (net : Net) (t : Tree) (c : Best) → t.count < treeBound → length t.points ≡ treeBound * 2 →
-    length t.edges.keys ≡ treeBound → Sound net t → Ranked t.edges.keys t.edges.size →
+left-edges : (net : Net) (t : Tree) (c : Best) → t.count < tree_bound → length t.points ≡ tree_bound * 2 →
+    length t.edges.keys ≡ tree_bound → Sound net t → Ranked t.edges.keys t.edges.size →
     Taken net.macros t.points t.count t.edges.keys t.edges.size c.edge c.cut c.point →
-    (x : Edge) → (x ∈ edgesIn (exchange c t.points t.count t.edges.keys t.edges.size)) ↔ Left t c x
+    (x : Edge) → (x ∈ edges_in (exchange c t.points t.count t.edges.keys t.edges.size)) ↔ Left t c x
 left-edges net t c few room rooms sound ranked taken x =
     left_at net t.points t.count t.edges.keys few room rooms c t.edges.size sound ranked taken x
 
@@ -114,14 +114,14 @@ steps-link {L} (go l w) p q m =
 
 -- each step of a way that hangs on the tree begins beside it
 step-off : (net : Net) (t : Tree) (k l v : ℕ) (vs : List ℤ) (ys : List ℕ) (u : ℕ) → Hanging net t k l v vs ys u → (c d : Place) →
-    (c, d) ∈ steps (placeAt vs u) (map (placeAt vs) ys) → c ∈ points_of t.points t.count → ⊥
+    (c, d) ∈ steps (place_at vs u) (map (place_at vs) ys) → c ∈ points_of t.points t.count → ⊥
 unfolding steps
 step-off net t k l v vs [] u h c d m i = elim m [ ]
 step-off net t k l v vs (y ∷ ys) u h c d m i =
     either (λ e. h.1.0 (Memᴰ.cast (sym (firsts e)) i)) (λ j. step-off net t k l v vs ys y h.1.1.1 c d j i) (Memᴰ.cases_cons m)
 
 -- what is known of a candidate that is found on the tree
-on-taken : (net : Net) (pts : List ℤ) (n : ℕ) (ks : List ℕ) (e : ℕ) → Sound net (tree pts n ks e) → n < treeBound → (gain k u l : ℕ) →
+on-taken : (net : Net) (pts : List ℤ) (n : ℕ) (ks : List ℕ) (e : ℕ) → Sound net (tree pts n ks e) → n < tree_bound → (gain k u l : ℕ) →
     Winner net.weights net.macros pts n ks e (costs net.weights pts ks e)
     (longest ks (costs net.weights pts ks e) e n) gain k u l →
     Taken net.macros pts n ks e k l u
@@ -135,7 +135,7 @@ abbrev pub Gained : Net → List Edge → List Edge → List Edge → ℕ → Ty
 Gained net G T U h = (r : Round net G T U) × (r.g ≡ h)
 
 module _ {net : Net} {G : List Edge} {g : Ground} (charts : Charts net G g) (t : Tree) (m : ℕ) (ready : Ready net g t (suc m)) where
-  low_count : t.count < treeBound
+  low_count : t.count < tree_bound
   low_count = (ready-roomy net g t m ready).few
 
   abbrev c : Best
@@ -153,14 +153,14 @@ module _ {net : Net} {G : List Edge} {g : Ground} (charts : Charts net G g) (t :
       (found-wins net.weights net.macros t.points t.count t.edges.keys t.edges.size h)
 
   wider : (x : Edge) → Left t c x →
-      After G (edgesIn t) (tables.endA t c.edge) (tables.endB t c.edge) (pointAt t c.point) [] (edge_at t c.cut) x
+      After G (edges_in t) (tables.end_a t c.edge) (tables.end_b t c.edge) (point_at t c.point) [] (edge_at t c.cut) x
   wider x (inl i) = inl i
   wider x (inr (inl i)) = inr (inl i)
   wider x (inr (inr (inl i))) = inr (inr (inl i))
   wider x (inr (inr (inr i))) = inr (inr (inr (inl i)))
 
   narrower : (x : Edge) →
-      After G (edgesIn t) (tables.endA t c.edge) (tables.endB t c.edge) (pointAt t c.point) [] (edge_at t c.cut) x → Left t c x
+      After G (edges_in t) (tables.end_a t c.edge) (tables.end_b t c.edge) (point_at t c.point) [] (edge_at t c.cut) x → Left t c x
   unfolding steps
   narrower x (inl i) = inl i
   narrower x (inr (inl i)) = inr (inl i)
@@ -169,16 +169,16 @@ module _ {net : Net} {G : List Edge} {g : Ground} (charts : Charts net G g) (t :
   narrower x (inr (inr (inr (inr i)))) = elim i.on [ ]
 
   pub round-on : 0 < (on net g t m ready).gain → (off net g t m ready).gain ≤ (on net g t m ready).gain →
-      Gained net G (edgesIn t)
-      (edgesIn (exchange (on net g t m ready) t.points t.count t.edges.keys t.edges.size)) (on net g t m ready).gain
+      Gained net G (edges_in t)
+      (edges_in (exchange (on net g t m ready) t.points t.count t.edges.keys t.edges.size)) (on net g t m ready).gain
   round-on above less =
       let there-is = left-edges net t c low_count ready.places ready.rows ready.sound ready.ranked (on-won above) in (
         record {
           k = false;
-          a = tables.endA t c.edge;
-          b = tables.endB t c.edge;
-          u = pointAt t c.point;
-          v = pointAt t c.point;
+          a = tables.end_a t c.edge;
+          b = tables.end_b t c.edge;
+          u = point_at t c.point;
+          v = point_at t c.point;
           qs = [];
           l = edge_at t c.cut;
           g = c.gain;
@@ -198,26 +198,26 @@ module _ {net : Net} {G : List Edge} {g : Ground} (charts : Charts net G g) (t :
     qs = laid charts t ready.sound ready.ranked (few charts t m ready) d.point
 
     abbrev u : Place
-    u = vertexAt g d.point
+    u = vertex_at g d.point
 
-    grown-up : (e : Edge) → e ∈ edgesIn after.tree → before e.0 e.1 ≡ true
+    grown-up : (e : Edge) → e ∈ edges_in after.tree → before e.0 e.1 ≡ true
     grown-up = upward after.tree (grows net g t m ready h).sound (grows net g t m ready h).ranked
 
-    hanging : Hanging net t d.edge d.cut (get_or (seatsIn g t) d.point 0) g.places
-        (wayAfter (labelsIn g t).fars (parentsIn g t).ups d.point) d.point
+    hanging : Hanging net t d.edge d.cut (get_or (seats_in g t) d.point 0) g.places
+        (way_after (labels_in g t).fars (parents_in g t).ups d.point) d.point
     hanging = way-hangs net g t ready.grounded ready.sound d.edge d.cut d.point (win net g t m ready h).vertex
 
     -- a step of the way is no edge of the tree
     step-new : (x : Edge) → Step G u qs x → (k : ℕ) → x ≡ edge_at t k → ⊥
     step-new x s k e =
-        step-off net t d.edge d.cut (get_or (seatsIn g t) d.point 0) g.places
-        (wayAfter (labelsIn g t).fars (parentsIn g t).ups d.point) d.point hanging s.one s.other s.on
+        step-off net t d.edge d.cut (get_or (seats_in g t) d.point 0) g.places
+        (way_after (labels_in g t).fars (parents_in g t).ups d.point) d.point hanging s.one s.other s.on
         (either
-        (λ q. Memᴰ.cast (q.0 ∙ firsts e) (in-listing (placeAt t.points) t.count _ (ready.sound.within.ends k).0))
-        (λ q. Memᴰ.cast (q.0 ∙ seconds e) (in-listing (placeAt t.points) t.count _ (ready.sound.within.ends k).1))
+        (λ q. Memᴰ.cast (q.0 ∙ firsts e) (in-listing (place_at t.points) t.count _ (ready.sound.within.ends k).0))
+        (λ q. Memᴰ.cast (q.0 ∙ seconds e) (in-listing (place_at t.points) t.count _ (ready.sound.within.ends k).1))
         s.ends)
 
-    graph-step : (x : Edge) → x ∈ edgesIn after.tree → StepAt u qs x → Step G u qs x
+    graph-step : (x : Edge) → x ∈ edges_in after.tree → StepAt u qs x → Step G u qs x
     graph-step x i s = record {
       edge =
           linked-in charts.upward x s.one s.other (grown-up x i) s.ends
@@ -229,7 +229,7 @@ module _ {net : Net} {G : List Edge} {g : Ground} (charts : Charts net G g) (t :
       ends = s.ends;
     }
 
-    step_in : (x : Edge) → Step G u qs x → x ∈ edgesIn after.tree
+    step_in : (x : Edge) → Step G u qs x → x ∈ edges_in after.tree
     step_in x s =
         linked-in grown-up x s.one s.other (charts.upward x s.edge) s.ends
         ((grows net g t m ready h).edge-way s.one s.other s.on)
@@ -240,7 +240,7 @@ module _ {net : Net} {G : List Edge} {g : Ground} (charts : Charts net G g) (t :
     cut-is : edge_at after.tree after.cut ≡ edge_at t d.cut
     cut-is = (grows net g t m ready h).cut-at
 
-    s-is : tables.middleAt after.tree after.edge after.last ≡ middlePlace (tables.endA t d.edge) (tables.endB t d.edge) u
+    s-is : tables.middle_at after.tree after.edge after.last ≡ middle_place (tables.end_a t d.edge) (tables.end_b t d.edge) u
     s-is = graft.s-is net g t ready.grounded ready.sound ready.ranked ready.places ready.rows (low net g t m ready h)
         (off net g t m ready).gain (off net g t m ready).edge (off net g t m ready).point (off net g t m ready).cut
         (win net g t m ready h) (room-way net g t m ready h)
@@ -251,8 +251,8 @@ module _ {net : Net} {G : List Edge} {g : Ground} (charts : Charts net G g) (t :
     abbrev best-off : Best
     best-off = off-best net g t m ready h
 
-    to-after : (x : Edge) → x ∈ edgesIn (off_next net g t m ready h) → Left after.tree best-off x →
-        After G (edgesIn t) (tables.endA t d.edge) (tables.endB t d.edge) u qs (edge_at t d.cut) x
+    to-after : (x : Edge) → x ∈ edges_in (off_next net g t m ready h) → Left after.tree best-off x →
+        After G (edges_in t) (tables.end_a t d.edge) (tables.end_b t d.edge) u qs (edge_at t d.cut) x
     to-after x _ (inl (i, (na, nl))) =
         either (λ j. inl (j, ((λ q. na (q ∙ sym edge-is)), (λ q. nl (q ∙ sym cut-is)))))
         (λ s. inr (inr (inr (inr (graph-step x i s))))) ((grows net g t m ready h).edge-known x i)
@@ -260,7 +260,7 @@ module _ {net : Net} {G : List Edge} {g : Ground} (charts : Charts net G g) (t :
     to-after x _ (inr (inr (inl l))) = inr (inr (inl (lays-as s-is (seconds edge-is) l)))
     to-after x _ (inr (inr (inr l))) = inr (inr (inr (inl (lays-as s-is (grows net g t m ready h).last-at l))))
 
-    from-after : (x : Edge) → After G (edgesIn t) (tables.endA t d.edge) (tables.endB t d.edge) u qs (edge_at t d.cut) x →
+    from-after : (x : Edge) → After G (edges_in t) (tables.end_a t d.edge) (tables.end_b t d.edge) u qs (edge_at t d.cut) x →
         Left after.tree best-off x
     from-after x (inl (i, (na, nl))) =
         inl ((grows net g t m ready h).edge-old x i, ((λ q. na (q ∙ edge-is)), (λ q. nl (q ∙ cut-is))))
@@ -270,7 +270,7 @@ module _ {net : Net} {G : List Edge} {g : Ground} (charts : Charts net G g) (t :
     from-after x (inr (inr (inr (inr s)))) =
         inl (step_in x s, ((λ q. step-new x s d.edge (q ∙ edge-is)), (λ q. step-new x s d.cut (q ∙ cut-is))))
 
-    pub round-off : Gained net G (edgesIn t) (edgesIn (off_next net g t m ready h)) (off net g t m ready).gain
+    pub round-off : Gained net G (edges_in t) (edges_in (off_next net g t m ready h)) (off net g t m ready).gain
     round-off =
         let there-is = left-edges net after.tree best-off (grown-few net g t m ready h) (grows net g t m ready h).places
         (grows net g t m ready h).rows (grows net g t m ready h).sound (grows net g t m ready h).ranked
@@ -279,8 +279,8 @@ module _ {net : Net} {G : List Edge} {g : Ground} (charts : Charts net G g) (t :
         (win net g t m ready h) (room-way net g t m ready h)) in (
           record {
             k = true;
-            a = tables.endA t d.edge;
-            b = tables.endB t d.edge;
+            a = tables.end_a t d.edge;
+            b = tables.end_b t d.edge;
             u = u;
             v = joint charts t ready.sound ready.ranked (few charts t m ready) d.point;
             qs = qs;

@@ -19,8 +19,8 @@ use Rattle.joined.specs.Tree.{Cuts}
 use Rattle.joined.proofs.WayLaws.{way-more}
 use Rattle.joined.proofs.TowardLaws.{toward-only}
 use Rattle.net.specs.Net.{Net}
-use Rattle.rules.specs.Edges.{Edge, edgeBefore, Same}
-use Rattle.rules.specs.Refined.{Beside, Reach, Step, Longest, Cut, Gain, onFirst, earlier, Takes, After, Round}
+use Rattle.rules.specs.Edges.{Edge, edge_before, Same}
+use Rattle.rules.specs.Refined.{Beside, Reach, Step, Longest, Cut, Gain, on_first, earlier, Takes, After, Round}
 use Rattle.rules.proofs.EdgeLaws.{edge_order, same_turn}
 use Rattle.rules.proofs.BesideOnly.{Lawful, beside-only}
 
@@ -33,27 +33,27 @@ point-same h ps v (inr (z, inr m)) = inr (z, inr (h.0 (z, v) m))
 
 -- The order of candidates
 
-on-order : Order onFirst
-unfolding onFirst
+on-order : Order on_first
+unfolding on_first
 on-order = record { never = never; along = along; tie = tie }
   where
-    never : (k : Bool) → onFirst k k ≡ false
+    never : (k : Bool) → on_first k k ≡ false
     never true = refl
     never false = refl
 
-    along : (i j k : Bool) → onFirst i j ≡ true → onFirst j k ≡ true → onFirst i k ≡ true
+    along : (i j k : Bool) → on_first i j ≡ true → on_first j k ≡ true → on_first i k ≡ true
     along true j k e f = differ e refl
     along false true k e f = differ f refl
     along false false k e f = f
 
-    tie : (j k : Bool) → onFirst j k ≡ false → onFirst k j ≡ false → j ≡ k
+    tie : (j k : Bool) → on_first j k ≡ false → on_first k j ≡ false → j ≡ k
     tie true true e f = refl
     tie true false e f = differ refl f
     tie false true e f = differ refl e
     tie false false e f = refl
 
 pub earlier-order : Order earlier
-earlier-order = pair-order onFirst _ on-order (pair-order edgeBefore before edge_order place-order)
+earlier-order = pair-order on_first _ on-order (pair-order edge_before before edge_order place-order)
 
 -- Edges as a set
 
@@ -93,8 +93,8 @@ module _ {net : Net} {G : List Edge} {T U : List Edge} (h : Same T U) where
     candidate = record {
       edge = h.0 (a, b) x.candidate.edge;
       reach = reach-same h x.candidate.reach;
-      notFirst = x.candidate.notFirst;
-      notSecond = x.candidate.notSecond;
+      not_first = x.candidate.not_first;
+      not_second = x.candidate.not_second;
       seen = x.candidate.seen;
       kept = λ w i. x.candidate.kept w (point-same (same_turn h) net.pins w i);
       away = x.candidate.away;

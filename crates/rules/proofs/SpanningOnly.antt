@@ -8,7 +8,7 @@ use Rattle.plane.specs.declared.Place.{Place}
 use Rattle.plane.specs.Place.{before}
 use Rattle.plane.proofs.PlaceOrder.{place-order}
 use Rattle.net.specs.Net.{Net}
-use Rattle.rules.specs.Edges.{Edge, edgeBefore}
+use Rattle.rules.specs.Edges.{Edge, edge_before}
 use Rattle.rules.specs.Spanning.{Neighbours, Spanning}
 use Rattle.rules.proofs.EdgeLaws.{edge_order}
 
@@ -28,6 +28,6 @@ module _ {net : Net} {vs ws : List Place} {es fs : List Edge}
 
   pub edges-one : es ≡ fs
   edges-one =
-      ascending-same edgeBefore edge_order es fs s.edges-in-order t.edges-in-order
+      ascending-same edge_before edge_order es fs s.edges-in-order t.edges-in-order
       (λ e i. (t.edges e.0 e.1).1 (to e.0 e.1 ((s.edges e.0 e.1).0 i)))
       (λ e i. (s.edges e.0 e.1).1 (from e.0 e.1 ((t.edges e.0 e.1).0 i)))

@@ -19,14 +19,14 @@ use Rattle.plane.specs.declared.Place.{Place}
 use Rattle.plane.specs.declared.Macro.{Macro}
 use Rattle.plane.specs.Place.{place, before}
 use Rattle.plane.proofs.PlaceOrder.{place-order}
-use Rattle.net.specs.Net.{Net, costIn}
-use Rattle.graph.specs.Spanning.{verticesOf, spanning}
+use Rattle.net.specs.Net.{Net, cost_in}
+use Rattle.graph.specs.Spanning.{vertices_of, spanning}
 use Rattle.picks.specs.declared.Quadrant as code
 use Rattle.picks.specs.declared.Quadrant.TheVariants.{First, Second, Third, Fourth}
 use Rattle.picks.specs.declared.Picked.TheVariants.{At}
 use Rattle.picks.specs.Pick.{within}
-use Rattle.graph.specs.Vertices.{cornersOf}
-use Rattle.graph.specs.Edges.{beforeEdge, edges as ourEdges}
+use Rattle.graph.specs.Vertices.{corners_of}
+use Rattle.graph.specs.Edges.{before_edge, edges as our_edges}
 use Rattle.picks.proofs.QuadrantLaws.{one-quadrant}
 use Rattle.graph.proofs.VertexLaws.{lower-left, upper-left, lower-right, upper-right, at-corner, pin-vertex, corner-vertex}
 use Rattle.graph.proofs.VertexLaws.{of-vertices, vertices-ascending}
@@ -42,21 +42,21 @@ never_back v w h = by (before w v) (λ k. differ (place-order.along v w v h k) (
 
 -- Vertices
 
-corner-of : (m : Macro) (v : Place) → v ∈ cornersOf m → CornerOf m v
+corner-of : (m : Macro) (v : Place) → v ∈ corners_of m → CornerOf m v
 corner-of m =
     at-corner m (CornerOf m) (inl refl, inl refl) (inl refl, inr refl) (inr refl, inl refl) (inr refl, inr refl)
 
-of-corner : (m : Macro) (v : Place) → CornerOf m v → v ∈ cornersOf m
+of-corner : (m : Macro) (v : Place) → CornerOf m v → v ∈ corners_of m
 of-corner m v (inl x, inl y) = Memᴰ.cast (ap₂ place x y) (lower-left m)
 of-corner m v (inl x, inr y) = Memᴰ.cast (ap₂ place x y) (upper-left m)
 of-corner m v (inr x, inl y) = Memᴰ.cast (ap₂ place x y) (lower-right m)
 of-corner m v (inr x, inr y) = Memᴰ.cast (ap₂ place x y) (upper-right m)
 
 module _ (net : Net) where
-  vertex-of : (v : Place) → v ∈ verticesOf net → Vertex net v
+  vertex-of : (v : Place) → v ∈ vertices_of net → Vertex net v
   vertex-of v i = either inl (λ c. inr (c.entry, (c.stands, corner-of c.entry v c.holds))) (of-vertices net i)
 
-  of-vertex : (v : Place) → Vertex net v → v ∈ verticesOf net
+  of-vertex : (v : Place) → Vertex net v → v ∈ vertices_of net
   of-vertex v (inl i) = pin-vertex net i
   of-vertex v (inr (m, (i, c))) = corner-vertex net i (of-corner m v c)
 
@@ -124,21 +124,21 @@ module _ (net : Net) (vs : List Place) (ascending : Ascending before vs) where
   fit-may : (q : Quadrant) (u w : Place) → w ∈ vs → Fit net.macros (coded q) u w → May net vs q u w
   fit-may q u w i f = record { vertex = i; lies = within-lies q u w f.in-quadrant; seen = f.is-clear }
 
-  near_of : (u v w : Place) → Preferred net.weights u v w → costIn net u v ≤ costIn net u w
+  near_of : (u v w : Place) → Preferred net.weights u v w → cost_in net u v ≤ cost_in net u w
   near_of u v w (inl h) = omega arith
   near_of u v w (inr h) = omega (arith, h.0)
 
-  small_of : (u v w : Place) → Preferred net.weights u v w → costIn net u w ≡ costIn net u v → before w v ≡ false
+  small_of : (u v w : Place) → Preferred net.weights u v w → cost_in net u w ≡ cost_in net u v → before w v ≡ false
   small_of u v w (inl h) e = absurd (let z : ⊥ = omega (arith, h, e) in z)
   small_of u v w (inr h) e = either (λ k. rw k (place-order.never w)) (never_back v w) h.1
 
-  preferred-of : (u v w : Place) → costIn net u v ≤ costIn net u w → (costIn net u w ≡ costIn net u v → before w v ≡ false) →
+  preferred-of : (u v w : Place) → cost_in net u v ≤ cost_in net u w → (cost_in net u w ≡ cost_in net u v → before w v ≡ false) →
       Preferred net.weights u v w
   preferred-of u v w n s =
-      by (ltb (costIn net u v) (costIn net u w))
-      (λ h. inl (ltb-true (costIn net u v) (costIn net u w) h))
+      by (ltb (cost_in net u v) (cost_in net u w))
+      (λ h. inl (ltb-true (cost_in net u v) (cost_in net u w) h))
       (λ h.
-      let e : costIn net u w ≡ costIn net u v = omega (arith, n, ltb-false (costIn net u v) (costIn net u w) h) in
+      let e : cost_in net u w ≡ cost_in net u v = omega (arith, n, ltb-false (cost_in net u v) (cost_in net u w) h) in
       inr (sym e, by (before v w) inr (λ k. inl (place-order.tie v w k (s e)))))
 
   picks_of : (u v : Place) → PickedBy net.weights net.macros vs u v → Picks net vs u v
@@ -172,7 +172,7 @@ module _ (net : Net) (vs : List Place) (ascending : Ascending before vs) where
 
   -- Edges
 
-  neighbours-of : (u v : Place) → (u, v) ∈ ourEdges net.weights net.macros vs → Neighbours net vs u v
+  neighbours-of : (u v : Place) → (u, v) ∈ our_edges net.weights net.macros vs → Neighbours net vs u v
   neighbours-of u v m =
       let e = edge-of net.macros vs net.weights ascending (u, v) m in
       record {
@@ -182,12 +182,12 @@ module _ (net : Net) (vs : List Place) (ascending : Ascending before vs) where
         picked = either (λ p. inl (picks_of u v p)) (λ p. inr (picks_of v u p)) (link-picked net.weights net.macros vs u v (inl m));
       }
 
-  of-neighbours : (u v : Place) → Neighbours net vs u v → (u, v) ∈ ourEdges net.weights net.macros vs
+  of-neighbours : (u v : Place) → Neighbours net vs u v → (u, v) ∈ our_edges net.weights net.macros vs
   of-neighbours u v j =
       at (picked-link net.weights net.macros vs u v (either (λ p. inl (of-picks u v j.one p))
       (λ p. inr (of-picks v u j.other p)) j.picked))
     where
-      at : Link (ourEdges net.weights net.macros vs) u v → (u, v) ∈ ourEdges net.weights net.macros vs
+      at : Link (our_edges net.weights net.macros vs) u v → (u, v) ∈ our_edges net.weights net.macros vs
       at (inl m) = m
       at (inr m) = differ (edge-of net.macros vs net.weights ascending (v, u) m).smaller-first (never_back u v j.smaller)
 
@@ -195,8 +195,8 @@ module _ (net : Net) (vs : List Place) (ascending : Ascending before vs) where
 
 module _ (net : Net) where
   -- what is worked out is the spanning graph
-  pub graph-ours : Spanning net (verticesOf net) (spanning net)
-  unfolding beforeEdge
+  pub graph-ours : Spanning net (vertices_of net) (spanning net)
+  unfolding before_edge
   graph-ours =
       let a = vertices-ascending net in
       record {
@@ -208,5 +208,5 @@ module _ (net : Net) where
 
   -- and there is no other
   pub graph-only : {vs : List Place} {es : List Edge} → Spanning net vs es →
-      (vs ≡ verticesOf net) × (es ≡ spanning net)
+      (vs ≡ vertices_of net) × (es ≡ spanning net)
   graph-only s = (vertices-one s graph-ours, edges-one s graph-ours)

@@ -7,7 +7,7 @@ use mathlib.Core.List.{List, ◌∷◌}
 use native.Mathlib.Omega.{arith}
 use lib.Dec.{ltb}
 use Rattle.lists.specs.Member.{◌∈◌, Among}
-use Rattle.lists.specs.Sorted.{Order, firstThen}
+use Rattle.lists.specs.Sorted.{Order, first_then}
 use Rattle.lists.proofs.OrderLaws.{number-order, pair-order}
 use Rattle.lists.proofs.SortedLaws.{ascending-alike}
 use Rattle.joined.specs.Way.{turned}
@@ -16,8 +16,8 @@ use Rattle.joined.proofs.KeepingLaws.{keeping-only}
 use Rattle.plane.specs.declared.Place.{Place}
 use Rattle.plane.proofs.PlaceOrder.{place-order}
 use Rattle.net.specs.Net.{Net}
-use Rattle.rules.specs.Edges.{Edge, edgeBefore}
-use Rattle.rules.specs.Terminal.{Path, pathEnds, pathCost, takenFirst, Root, Parent, Up, arrived, upward, Bridge, Terminal}
+use Rattle.rules.specs.Edges.{Edge, edge_before}
+use Rattle.rules.specs.Terminal.{Path, path_ends, path_cost, taken_first, Root, Parent, Up, arrived, upward, Bridge, Terminal}
 use Rattle.rules.proofs.EdgeLaws.{edge_order}
 
 -- paths are equal by their parts
@@ -27,8 +27,8 @@ path-same j k e s p f =
     ∙ ap₂ (λ (l : List Place) (y : Place). record { bridge = k.bridge; start = k.start; points = l; finish = y }) p f
 
 -- by length, then by bridge
-pub weight-order : Order (firstThen ltb edgeBefore)
-weight-order = pair-order ltb edgeBefore number-order edge_order
+pub weight-order : Order (first_then ltb edge_before)
+weight-order = pair-order ltb edge_before number-order edge_order
 
 module _ {net : Net} {G : List Edge} where
   pub root-only : {v p q : Place} → Root net G v p → Root net G v q → p ≡ q
@@ -71,11 +71,11 @@ module _ {net : Net} {G : List Edge} where
 
   pub terminal-one : {js ks : List Path} → Terminal net G js → Terminal net G ks → js ≡ ks
   terminal-one {js} {ks} t s =
-      keeping-only pathEnds t.keeps (subst (λ (l : List Path). Keeping pathEnds _ l ks) (sym offered-one) s.keeps)
+      keeping-only path_ends t.keeps (subst (λ (l : List Path). Keeping path_ends _ l ks) (sym offered-one) s.keeps)
     where
       offered-one : t.offered ≡ s.offered
       offered-one =
-          ascending-alike (takenFirst net)
-          (λ k. weight-order.never (pathCost net k, k.bridge))
-          (λ i j k. weight-order.along (pathCost net i, i.bridge) (pathCost net j, j.bridge) (pathCost net k, k.bridge))
+          ascending-alike (taken_first net)
+          (λ k. weight-order.never (path_cost net k, k.bridge))
+          (λ i j k. weight-order.along (path_cost net i, i.bridge) (path_cost net j, j.bridge) (path_cost net k, k.bridge))
           t.offered s.offered t.in-turn s.in-turn (offered-in t s) (offered-in s t)

@@ -11,14 +11,14 @@ use native.Mathlib.Omega.{arith}
 use lib.Dec.{ltb}
 use lib.ListN.{length}
 use Rattle.lists.specs.Member.{◌∈◌, here, there}
-use Rattle.lists.specs.Sorted.{firstThen, Ascending}
+use Rattle.lists.specs.Sorted.{first_then, Ascending}
 use Rattle.lists.proofs.TestLaws.{either}
 use Rattle.lists.proofs.MapLaws.{in_map, of_map, map-once, map-undone}
 use Rattle.plane.specs.declared.Place.{Place}
 use Rattle.plane.specs.Place.{before}
-use Rattle.plane.specs.Middle.{middlePlace}
+use Rattle.plane.specs.Middle.{middle_place}
 use Rattle.plane.specs.Macro.{clear}
-use Rattle.net.specs.Net.{Net, costIn}
+use Rattle.net.specs.Net.{Net, cost_in}
 use Rattle.joined.specs.Joined.{Joined}
 use Rattle.joined.specs.Way.{Way, long, On, turned}
 use Rattle.joined.specs.Keep.{Keeping, over, takes, leaves}
@@ -26,19 +26,19 @@ use Rattle.joined.specs.Exchange.{Toward, steps}
 use Rattle.joined.specs.OneTree.{Point}
 use Rattle.joined.proofs.JoinedLaws.{one, carried, firsts, seconds}
 use Rattle.joined.proofs.CarriedLaws.{alike-carried, on-carried, turned-carried, link-carried, way-carried}
-use Rattle.rules.specs.Edges.{Edge, edgeBefore, edgeCost, Same}
+use Rattle.rules.specs.Edges.{Edge, edge_before, edge_cost, Same}
 use Rattle.rules.specs.Spanning.{Vertex, Quadrant, Lies, May, Picks, Neighbours, Spanning}
-use Rattle.rules.specs.Terminal.{Path, pathEnds, pathCost, takenFirst, Root, Through, Parent, Up, arrived, upward, Bridge, Terminal}
+use Rattle.rules.specs.Terminal.{Path, path_ends, path_cost, taken_first, Root, Through, Parent, Up, arrived, upward, Bridge, Terminal}
 use Rattle.rules.specs.Trees.{Trees}
-use Rattle.rules.specs.Moved.{movedEdge, movedPath}
+use Rattle.rules.specs.Moved.{moved_edge, moved_path}
 
 -- f carries what is known of the net to the other, and h undoes it
 pub record Carries (f h : Place → Place) (net other : Net) : Type 0 where
   pub undone : (x : Place) → h (f x) ≡ x
   pub order : (x y : Place) → before (f x) (f y) ≡ before x y
   pub lies : (q : Quadrant) (x y : Place) → Lies q x y → Lies q (f x) (f y)
-  pub costs : (x y : Place) → costIn other (f x) (f y) ≡ costIn net x y
-  pub middle : (a b u : Place) → middlePlace (f a) (f b) (f u) ≡ f (middlePlace a b u)
+  pub costs : (x y : Place) → cost_in other (f x) (f y) ≡ cost_in net x y
+  pub middle : (a b u : Place) → middle_place (f a) (f b) (f u) ≡ f (middle_place a b u)
   pub clears : (x y : Place) → clear (f x) (f y) other.macros ≡ clear x y net.macros
   pub pin : (x : Place) → x ∈ net.pins → f x ∈ other.pins
   pub vertex : (x : Place) → Vertex net x → Vertex other (f x)
@@ -49,15 +49,15 @@ pub record Moves (f h : Place → Place) (net other : Net) : Type 0 where
   pub back : Carries h f other net
   pub count : length net.pins ≡ length other.pins
 
-pub turnedBack : {f h : Place → Place} {net other : Net} → Moves f h net other → Moves h f other net
-turnedBack m = record { to = m.back; back = m.to; count = sym m.count }
+pub turned_back : {f h : Place → Place} {net other : Net} → Moves f h net other → Moves h f other net
+turned_back m = record { to = m.back; back = m.to; count = sym m.count }
 
 -- the places ws are the places vs moved, the edges U the edges T
 abbrev pub MovedPlaces : (Place → Place) → (Place → Place) → List Place → List Place → Type 0
 MovedPlaces f h vs ws = ((v : Place) → v ∈ vs → f v ∈ ws) × ((w : Place) → w ∈ ws → h w ∈ vs)
 
 abbrev pub Moved : (Place → Place) → (Place → Place) → List Edge → List Edge → Type 0
-Moved f h T U = ((e : Edge) → e ∈ T → movedEdge f e ∈ U) × ((e : Edge) → e ∈ U → movedEdge h e ∈ T)
+Moved f h T U = ((e : Edge) → e ∈ T → moved_edge f e ∈ U) × ((e : Edge) → e ∈ U → moved_edge h e ∈ T)
 
 -- an order by first parts, then second, from its three tests
 unfoldable pub choose : Bool → Bool → Bool → Bool
@@ -81,31 +81,31 @@ module _ {f h : Place → Place} {net other : Net} (m : Moves f h net other) whe
   pub across : (x y : Place) → h y ≡ x → y ≡ f x
   across x y e = sym (m.back.undone y) ∙ ap f e
 
-  pub edge-back : (e : Edge) → movedEdge f (movedEdge h e) ≡ e
+  pub edge-back : (e : Edge) → moved_edge f (moved_edge h e) ≡ e
   edge-back e = ap₂ (λ (x y : Place). (x, y)) (m.back.undone e.0) (m.back.undone e.1)
 
-  pub edge-only : (e d : Edge) → movedEdge f e ≡ movedEdge f d → e ≡ d
+  pub edge-only : (e d : Edge) → moved_edge f e ≡ moved_edge f d → e ≡ d
   edge-only e d q = ap₂ (λ (x y : Place). (x, y)) (only _ _ (firsts q)) (only _ _ (seconds q))
 
-  pub edges-there : (e d : Edge) → edgeBefore (movedEdge f e) (movedEdge f d) ≡ edgeBefore e d
-  unfolding firstThen choose
+  pub edges-there : (e d : Edge) → edge_before (moved_edge f e) (moved_edge f d) ≡ edge_before e d
+  unfolding first_then choose
   edges-there e d =
       ap (λ (x : Bool). choose x (before (f d.0) (f e.0)) (before (f e.1) (f d.1))) (m.to.order e.0 d.0)
       ∙ ap₂ (λ (y z : Bool). choose (before e.0 d.0) y z) (m.to.order d.0 e.0) (m.to.order e.1 d.1)
 
   -- against a place of the other net
-  pub cost-to : (u w : Place) → costIn other (f u) w ≡ costIn net u (h w)
-  cost-to u w = ap (costIn other (f u)) (sym (m.back.undone w)) ∙ m.to.costs u (h w)
+  pub cost-to : (u w : Place) → cost_in other (f u) w ≡ cost_in net u (h w)
+  cost-to u w = ap (cost_in other (f u)) (sym (m.back.undone w)) ∙ m.to.costs u (h w)
 
   pub before-to : (w v : Place) → before w (f v) ≡ before (h w) v
   before-to w v = ap (λ (z : Place). before z (f v)) (sym (m.back.undone w)) ∙ m.to.order (h w) v
 
-  pub moved-map : (X : List Edge) → Moved f h X (map (movedEdge f) X)
+  pub moved-map : (X : List Edge) → Moved f h X (map (moved_edge f) X)
   moved-map X = (
-    λ e i. in_map (movedEdge f) i,
+    λ e i. in_map (moved_edge f) i,
     λ e i.
-        let s = of_map (movedEdge f) X i in
-        Memᴰ.cast (ap (movedEdge h) s.is ∙ ap₂ (λ (x y : Place). (x, y)) (m.to.undone s.entry.0) (m.to.undone s.entry.1))
+        let s = of_map (moved_edge f) X i in
+        Memᴰ.cast (ap (moved_edge h) s.is ∙ ap₂ (λ (x y : Place). (x, y)) (m.to.undone s.entry.0) (m.to.undone s.entry.1))
         s.stands,
   )
 
@@ -115,22 +115,22 @@ module _ {f h : Place → Place} {net other : Net} (m : Moves f h net other) whe
     λ w i. let s = of_map f vs i in Memᴰ.cast (ap h s.is ∙ m.to.undone s.entry) s.stands,
   )
 
-  pub in_moved : (X : List Edge) (e : Edge) → movedEdge h e ∈ X → e ∈ map (movedEdge f) X
-  in_moved X e i = Memᴰ.cast (sym (edge-back e)) (in_map (movedEdge f) i)
+  pub in_moved : (X : List Edge) (e : Edge) → moved_edge h e ∈ X → e ∈ map (moved_edge f) X
+  in_moved X e i = Memᴰ.cast (sym (edge-back e)) (in_map (moved_edge f) i)
 
   pub in-places : (vs : List Place) (v : Place) → h v ∈ vs → v ∈ map f vs
   in-places vs v i = Memᴰ.cast (sym (m.back.undone v)) (in_map f i)
 
   -- Ways
 
-  pub long-there : (x : Place) (qs : List Place) → long (costIn other) (f x) (map f qs) ≡ long (costIn net) x qs
+  pub long-there : (x : Place) (qs : List Place) → long (cost_in other) (f x) (map f qs) ≡ long (cost_in net) x qs
   unfolding long
   long-there x [] = refl
   long-there x (y ∷ qs) = ap₂ ◌+◌ (m.to.costs x y) (long-there y qs)
 
-  pub long-to : (x : Place) (qs : List Place) → long (costIn other) (f x) qs ≡ long (costIn net) x (map h qs)
+  pub long-to : (x : Place) (qs : List Place) → long (cost_in other) (f x) qs ≡ long (cost_in net) x (map h qs)
   long-to x qs =
-      ap (long (costIn other) (f x)) (sym (map-undone h f qs (λ z i. m.back.undone z))) ∙ long-there x (map h qs)
+      ap (long (cost_in other) (f x)) (sym (map-undone h f qs (λ z i. m.back.undone z))) ∙ long-there x (map h qs)
 
   module _ {G H : List Edge} (k : Moved f h G H) where
     pub way-there : {x y : Place} {qs : List Place} → Way G x qs y → Way H (f x) (map f qs) (f y)
@@ -153,7 +153,7 @@ module _ {f h : Place → Place} {net other : Net} (m : Moves f h net other) {vs
 module _ {f h : Place → Place} {net other : Net} (m : Moves f h net other) {vs ws : List Place} (k : MovedPlaces f h vs ws) where
   may-back : {q : Quadrant} {u w : Place} → May other ws q (f u) w → May net vs q u (h w)
   may-back {q} {u} {w} x =
-      subst (λ (z : Place). May net vs q z (h w)) (m.to.undone u) (may-there (turnedBack m) (k.1, k.0) x)
+      subst (λ (z : Place). May net vs q z (h w)) (m.to.undone u) (may-there (turned_back m) (k.1, k.0) x)
 
   picks-there : {u v : Place} → Picks net vs u v → Picks other ws (f u) (f v)
   picks-there {u} {v} p = record {
@@ -172,7 +172,7 @@ module _ {f h : Place → Place} {net other : Net} (m : Moves f h net other) {vs
   }
 
 module _ {f h : Place → Place} {net other : Net} (m : Moves f h net other) where
-  pub spanning-there : {vs : List Place} {es : List Edge} → Spanning net vs es → Spanning other (map f vs) (map (movedEdge f) es)
+  pub spanning-there : {vs : List Place} {es : List Edge} → Spanning net vs es → Spanning other (map f vs) (map (moved_edge f) es)
   spanning-there {vs} {es} s = record {
     vertices =
         λ v. (
@@ -185,12 +185,12 @@ module _ {f h : Place → Place} {net other : Net} (m : Moves f h net other) whe
     edges =
         λ u v. (
           λ i.
-              let r = of_map (movedEdge f) es i in
+              let r = of_map (moved_edge f) es i in
               subst (λ (z : Edge). Neighbours other (map f vs) z.0 z.1) (sym r.is)
               (neighbours-there m (places-map m vs) ((s.edges r.entry.0 r.entry.1).0 r.stands)),
-          λ x. in_moved m es (u, v) ((s.edges (h u) (h v)).1 (neighbours-there (turnedBack m) ((places-map m vs).1, (places-map m vs).0) x)),
+          λ x. in_moved m es (u, v) ((s.edges (h u) (h v)).1 (neighbours-there (turned_back m) ((places-map m vs).1, (places-map m vs).0) x)),
         );
-    edges-in-order = ascending-there (movedEdge f) edgeBefore edgeBefore (edges-there m) es s.edges-in-order;
+    edges-in-order = ascending-there (moved_edge f) edge_before edge_before (edges-there m) es s.edges-in-order;
   }
 
 -- The terminal tree
@@ -226,11 +226,11 @@ module _ {f h : Place → Place} {net other : Net} (m : Moves f h net other) {G 
 
 module _ {f h : Place → Place} {net other : Net} (m : Moves f h net other) {G H : List Edge} (k : Moved f h G H) where
   root-back : {v p : Place} → Root other H (f v) p → Root net G v (h p)
-  root-back {v} {p} r = subst (λ (z : Place). Root net G z (h p)) (m.to.undone v) (root-there (turnedBack m) (k.1, k.0) r)
+  root-back {v} {p} r = subst (λ (z : Place). Root net G z (h p)) (m.to.undone v) (root-there (turned_back m) (k.1, k.0) r)
 
   through-back : {v w : Place} → Through other H (f v) w → Through net G v (h w)
   through-back {v} {w} t =
-      subst (λ (z : Place). Through net G z (h w)) (m.to.undone v) (through-there (turnedBack m) (k.1, k.0) t)
+      subst (λ (z : Place). Through net G z (h w)) (m.to.undone v) (through-there (turned_back m) (k.1, k.0) t)
 
   parent-there : {v p : Place} → Parent net G v p → Parent other H (f v) (f p)
   parent-there {v} {p} r = record {
@@ -243,7 +243,7 @@ module _ {f h : Place → Place} {net other : Net} (m : Moves f h net other) {G 
   up-there {v} (upward n p u) =
       upward (λ i. n (Memᴰ.cast (sym (m.to.undone v)) (m.back.pin (f v) i))) (parent-there p) (up-there u)
 
-  bridge-there : (p : Path) → Bridge net G p → Bridge other H (movedPath f p)
+  bridge-there : (p : Path) → Bridge net G p → Bridge other H (moved_path f p)
   bridge-there p b = record {
     edge = k.0 p.bridge b.edge;
     start-root = root-there m k b.start-root;
@@ -258,56 +258,56 @@ module _ {f h : Place → Place} {net other : Net} (m : Moves f h net other) {G 
 
 -- what is kept of moved paths
 module _ {f h : Place → Place} {net other : Net} (m : Moves f h net other) where
-  joined-there : (B : List Path) {x y : Place} → Joined (map pathEnds B) x y →
-      Joined (map pathEnds (map (movedPath f) B)) (f x) (f y)
+  joined-there : (B : List Path) {x y : Place} → Joined (map path_ends B) x y →
+      Joined (map path_ends (map (moved_path f) B)) (f x) (f y)
   joined-there B j =
       carried f (λ a b i.
-      let s = of_map pathEnds B i in
-      subst (λ (z : Edge). Joined (map pathEnds (map (movedPath f) B)) (f z.0) (f z.1)) (sym s.is)
-      (one (inl (in_map pathEnds (in_map (movedPath f) s.stands))))) j
+      let s = of_map path_ends B i in
+      subst (λ (z : Edge). Joined (map path_ends (map (moved_path f) B)) (f z.0) (f z.1)) (sym s.is)
+      (one (inl (in_map path_ends (in_map (moved_path f) s.stands))))) j
 
-  joined_back : (B : List Path) {x y : Place} → Joined (map pathEnds (map (movedPath f) B)) (f x) (f y) → Joined (map pathEnds B) x y
+  joined_back : (B : List Path) {x y : Place} → Joined (map path_ends (map (moved_path f) B)) (f x) (f y) → Joined (map path_ends B) x y
   joined_back B {x} {y} j =
-      subst (λ (z : Place). Joined (map pathEnds B) z y) (m.to.undone x)
-      (subst (λ (z : Place). Joined (map pathEnds B) (h (f x)) z) (m.to.undone y)
+      subst (λ (z : Place). Joined (map path_ends B) z y) (m.to.undone x)
+      (subst (λ (z : Place). Joined (map path_ends B) (h (f x)) z) (m.to.undone y)
       (carried h (λ a b i.
-      let r = of_map pathEnds (map (movedPath f) B) i in
-      let s = of_map (movedPath f) B r.stands in
-      let is : (a, b) ≡ movedEdge f (pathEnds s.entry) = r.is ∙ ap pathEnds s.is in
-      subst (λ (z : Edge). Joined (map pathEnds B) (h z.0) (h z.1)) (sym is)
-      (subst (λ (z : Place). Joined (map pathEnds B) z (h (f s.entry.finish))) (sym (m.to.undone s.entry.start))
-      (subst (Joined (map pathEnds B) s.entry.start) (sym (m.to.undone s.entry.finish))
-      (one (inl (in_map pathEnds s.stands)))))) j))
+      let r = of_map path_ends (map (moved_path f) B) i in
+      let s = of_map (moved_path f) B r.stands in
+      let is : (a, b) ≡ moved_edge f (path_ends s.entry) = r.is ∙ ap path_ends s.is in
+      subst (λ (z : Edge). Joined (map path_ends B) (h z.0) (h z.1)) (sym is)
+      (subst (λ (z : Place). Joined (map path_ends B) z (h (f s.entry.finish))) (sym (m.to.undone s.entry.start))
+      (subst (Joined (map path_ends B) s.entry.start) (sym (m.to.undone s.entry.finish))
+      (one (inl (in_map path_ends s.stands)))))) j))
 
-  keeping-there : {B O K : List Path} → Keeping pathEnds B O K →
-      Keeping pathEnds (map (movedPath f) B) (map (movedPath f) O) (map (movedPath f) K)
+  keeping-there : {B O K : List Path} → Keeping path_ends B O K →
+      Keeping path_ends (map (moved_path f) B) (map (moved_path f) O) (map (moved_path f) K)
   keeping-there over = over
   keeping-there {B = B} (takes n r) = takes (λ j. n (joined_back B j)) (keeping-there r)
   keeping-there {B = B} (leaves j r) = leaves (joined-there B j) (keeping-there r)
 
-  pub path-cost : (p : Path) → pathCost other (movedPath f p) ≡ pathCost net p
+  pub path-cost : (p : Path) → path_cost other (moved_path f p) ≡ path_cost net p
   path-cost p = long-there m p.start p.points
 
-  taken-there : (j p : Path) → takenFirst other (movedPath f j) (movedPath f p) ≡ takenFirst net j p
-  unfolding firstThen choose
+  taken-there : (j p : Path) → taken_first other (moved_path f j) (moved_path f p) ≡ taken_first net j p
+  unfolding first_then choose
   taken-there j p =
-      ap₂ (λ (a b : ℕ). choose (ltb a b) (ltb b a) (edgeBefore (movedEdge f j.bridge) (movedEdge f p.bridge)))
+      ap₂ (λ (a b : ℕ). choose (ltb a b) (ltb b a) (edge_before (moved_edge f j.bridge) (moved_edge f p.bridge)))
       (path-cost j) (path-cost p)
-      ∙ ap (choose (ltb (pathCost net j) (pathCost net p)) (ltb (pathCost net p) (pathCost net j))) (edges-there m j.bridge p.bridge)
+      ∙ ap (choose (ltb (path_cost net j) (path_cost net p)) (ltb (path_cost net p) (path_cost net j))) (edges-there m j.bridge p.bridge)
 
   module _ {G H : List Edge} (k : Moved f h G H) where
-    pub terminal-there : {ks : List Path} → Terminal net G ks → Terminal other H (map (movedPath f) ks)
+    pub terminal-there : {ks : List Path} → Terminal net G ks → Terminal other H (map (moved_path f) ks)
     terminal-there t = record {
-      offered = map (movedPath f) t.offered;
+      offered = map (moved_path f) t.offered;
       bridges =
           λ p i.
-          let s = of_map (movedPath f) t.offered i in
+          let s = of_map (moved_path f) t.offered i in
           subst (Bridge other H) (sym s.is) (bridge-there m k s.entry (t.bridges s.entry s.stands));
       all =
           λ e i p q r s n.
-          let u = t.all (movedEdge h e) (k.1 e i) (h p) (h q) (root-there (turnedBack m) (k.1, k.0) r)
-          (root-there (turnedBack m) (k.1, k.0) s) (λ x. n (only (turnedBack m) p q x)) in
-          (movedPath f u.0, (in_map (movedPath f) u.1.0, ap (movedEdge f) u.1.1 ∙ edge-back m e));
-      in-turn = ascending-there (movedPath f) (takenFirst net) (takenFirst other) taken-there t.offered t.in-turn;
+          let u = t.all (moved_edge h e) (k.1 e i) (h p) (h q) (root-there (turned_back m) (k.1, k.0) r)
+          (root-there (turned_back m) (k.1, k.0) s) (λ x. n (only (turned_back m) p q x)) in
+          (moved_path f u.0, (in_map (moved_path f) u.1.0, ap (moved_edge f) u.1.1 ∙ edge-back m e));
+      in-turn = ascending-there (moved_path f) (taken_first net) (taken_first other) taken-there t.offered t.in-turn;
       keeps = keeping-there t.keeps;
     }

@@ -16,13 +16,13 @@ use Rattle.rules.specs.Edges.{Edge}
 use Rattle.rules.specs.Spanning.{Vertex}
 use Rattle.rules.specs.Terminal.{Path}
 use Rattle.rules.specs.Trees.{Trees}
-use Rattle.rules.specs.Moved.{movedEdge, movedPath}
+use Rattle.rules.specs.Moved.{moved_edge, moved_path}
 use Rattle.rules.proofs.TreesMoved.{Carries, Moves}
 use Rattle.rules.proofs.RefinedMoved.{trees-there}
 
 -- the net of these pins, macros and weights
-abbrev pub netBy : Weights → List Place → List Macro → Net
-netBy w ps ms = record { pins = ps; macros = ms; weights = w }
+abbrev pub net_by : Weights → List Place → List Macro → Net
+net_by w ps ms = record { pins = ps; macros = ms; weights = w }
 
 -- two nets with the weights W: the same pins, as many; the same macros, and so the same places clear of each other
 pub record SameNet (W : Weights) (ps qs : List Place) (ms ns : List Macro) : Type 0 where
@@ -44,7 +44,7 @@ turned h = record {
 }
 
 vertex-in : {W : Weights} {ps qs : List Place} {ms ns : List Macro} → SameNet W ps qs ms ns → (v : Place) →
-    Vertex (netBy W ps ms) v → Vertex (netBy W qs ns) v
+    Vertex (net_by W ps ms) v → Vertex (net_by W qs ns) v
 vertex-in h v (inl m) = inl (h.to v m)
 vertex-in h v (inr (m, (i, c))) = inr (m, (h.macros-to m i, c))
 
@@ -53,7 +53,7 @@ abbrev stays : Place → Place
 stays x = x
 
 carries_same : {W : Weights} {ps qs : List Place} {ms ns : List Macro} → SameNet W ps qs ms ns →
-    Carries stays stays (netBy W ps ms) (netBy W qs ns)
+    Carries stays stays (net_by W ps ms) (net_by W qs ns)
 carries_same h = record {
   undone = λ x. refl;
   order = λ x y. refl;
@@ -66,25 +66,25 @@ carries_same h = record {
 }
 
 moves-same : {W : Weights} {ps qs : List Place} {ms ns : List Macro} → SameNet W ps qs ms ns →
-    Moves stays stays (netBy W ps ms) (netBy W qs ns)
+    Moves stays stays (net_by W ps ms) (net_by W qs ns)
 moves-same h = record { to = carries_same h; back = carries_same (turned h); count = h.count }
 
 unmoved : {A : Type 0} (f : A → A) → ((x : A) → f x ≡ x) → (l : List A) → map f l ≡ l
 unmoved f k [] = refl
 unmoved {A} f k (x ∷ l) = ap₂ (λ (y : A) (r : List A). y ∷ r) (k x) (unmoved f k l)
 
-path-stays : (k : Path) → movedPath stays k ≡ k
+path-stays : (k : Path) → moved_path stays k ≡ k
 path-stays k =
     ap (λ (l : List Place). record { bridge = k.bridge; start = k.start; points = l; finish = k.finish })
     (unmoved stays (λ x. refl) k.points)
 
 -- all of it
 pub trees-in : {W : Weights} {ps qs : List Place} {ms ns : List Macro} {vs : List Place} {es rs : List Edge} {ks : List Path} →
-    SameNet W ps qs ms ns → Trees (netBy W ps ms) vs es ks rs → Trees (netBy W qs ns) vs es ks rs
+    SameNet W ps qs ms ns → Trees (net_by W ps ms) vs es ks rs → Trees (net_by W qs ns) vs es ks rs
 trees-in {vs = vs} {es = es} {rs = rs} {ks = ks} h t =
     rw (
       unmoved stays (λ x. refl) vs,
-      unmoved (movedEdge stays) (λ x. refl) es,
-      unmoved (movedPath stays) path-stays ks,
-      unmoved (movedEdge stays) (λ x. refl) rs,
+      unmoved (moved_edge stays) (λ x. refl) es,
+      unmoved (moved_path stays) path-stays ks,
+      unmoved (moved_edge stays) (λ x. refl) rs,
     ) at (trees-there (moves-same h) t)

@@ -10,11 +10,11 @@
 -- "the longest", "the first" are said by comparison with every other. So the order of a net's lists is nowhere, and that it does not
 -- matter follows from "one solution" alone (`trees-same`).
 --
---   Edges      Edge, edgeBefore, edgeCost       edges, their order and their cost
+--   Edges      Edge, edge_before, edge_cost       edges, their order and their cost
 --              Same T U                         the same edges, as sets
 --   Spanning   Vertex, Lies, May, Picks         vertices; quadrants; what a vertex may pick, and what it picks
 --              Spanning net vs es               vs and es are vertices and edges of the graph, in order
---   Terminal   Path, givenFor                   a path of the tree with its bridge; what is given for it
+--   Terminal   Path, given_for                   a path of the tree with its bridge; what is given for it
 --              Root, Parent, Up, Bridge         roots, parents and ways; what a bridge stands for
 --              Terminal net G ks                ks are the kept paths, in the order kept
 --   Refined    OnSome, Union                    an edge of one of the paths; the start
@@ -25,7 +25,7 @@
 --              Loose, Strips, Prunes            points that go, in any order, until there is none
 --              Refined net G ks rs              rs are the edges of the refined tree, in order
 --   Trees      Trees net vs es ks rs            all three;  Equal: the same four lists
---   Moved      movedEdge, movedPath             where a map of the plane takes them
+--   Moved      moved_edge, moved_path             where a map of the plane takes them
 --   Demand     BestJoining net G ks             D3 of the kept paths;  RefinedTree: D3 of the refined tree
 --
 -- THE THEOREMS (proofs/)

@@ -3,7 +3,7 @@
 use Rattle.std.specs.Prelude.{◌≡◌, Bool, true, false, ◌⊎◌, ◌↔◌, List, [], ◌∷◌, ℕ, zero, suc, ◌+◌, ◌≤◌, ◌<◌, length}
 use Rattle.std.proofs.Common.{inl, inr}
 use Rattle.lists.specs.Member.{◌∈◌}
-use Rattle.lists.specs.Sorted.{firstThen, Ascending}
+use Rattle.lists.specs.Sorted.{first_then, Ascending}
 use Rattle.joined.specs.Cost.{lengths}
 use Rattle.joined.specs.Joined.{Alike}
 use Rattle.joined.specs.Way.{Way, long, On}
@@ -11,10 +11,10 @@ use Rattle.joined.specs.Exchange.{Toward, steps}
 use Rattle.joined.specs.OneTree.{Point, OneTree}
 use Rattle.plane.specs.declared.Place.{Place}
 use Rattle.plane.specs.Place.{before}
-use Rattle.plane.specs.Middle.{middlePlace}
+use Rattle.plane.specs.Middle.{middle_place}
 use Rattle.plane.specs.Macro.{clear}
-use Rattle.net.specs.Net.{Net, costIn}
-use Rattle.rules.specs.Edges.{Edge, edgeBefore, edgeCost, Same}
+use Rattle.net.specs.Net.{Net, cost_in}
+use Rattle.rules.specs.Edges.{Edge, edge_before, edge_cost, Same}
 use Rattle.rules.specs.Spanning.{Vertex}
 use Rattle.rules.specs.Terminal.{Path}
 
@@ -35,7 +35,7 @@ Union ks T = (e : Edge) → (e ∈ T) ↔ OnSome ks e
 
 -- R23: a shortest way of the graph from x through qs to y
 abbrev pub Shortest : Net → List Edge → Place → List Place → Place → Type 0
-Shortest net G x qs y = Way G x qs y × ((rs : List Place) → Way G x rs y → long (costIn net) x qs ≤ long (costIn net) x rs)
+Shortest net G x qs y = Way G x qs y × ((rs : List Place) → Way G x rs y → long (cost_in net) x qs ≤ long (cost_in net) x rs)
 
 -- R23: at each step it goes on to the smallest next vertex that still lies on a shortest way
 abbrev pub Lowest : Net → List Edge → Place → List Place → Place → Type 0
@@ -52,9 +52,9 @@ pub record Beside (net : Net) (G T : List Edge) (u v : Place) (qs : List Place) 
   pub itself : Vertex net v
   pub way : Way G u qs v
   pub nearest : (w : Place) (rs : List Place) → Point net.pins T w → Vertex net w → Way G u rs w →
-      long (costIn net) u qs ≤ long (costIn net) u rs
+      long (cost_in net) u qs ≤ long (cost_in net) u rs
   pub smallest : (w : Place) (rs : List Place) → Point net.pins T w → Vertex net w → Way G u rs w →
-      long (costIn net) u rs ≡ long (costIn net) u qs → before w v ≡ false
+      long (cost_in net) u rs ≡ long (cost_in net) u qs → before w v ≡ false
   pub lowest : Lowest net G u qs v
 
 -- u is a tree point, v is u and there is no way; or u is beside the tree. k says whether it is
@@ -69,12 +69,12 @@ pub record Candidate (net : Net) (G T : List Edge) (k : Bool) (a b u v : Place) 
   pub edge : (a, b) ∈ T
   pub reach : Reach net G T k u v qs
   -- R3: on the tree, u is neither a nor b;  R24: beside it, v is
-  pub notFirst : v ≡ a → ⊥
-  pub notSecond : v ≡ b → ⊥
+  pub not_first : v ≡ a → ⊥
+  pub not_second : v ≡ b → ⊥
   pub seen : (clear u a net.macros ≡ true) ⊎ (clear u b net.macros ≡ true)
   -- R5, R6: s is the place of no further tree point;  R24: nor of a point of the way but u
-  pub kept : (w : Place) → Point net.pins T w → (w ≡ a → ⊥) → (w ≡ b → ⊥) → (w ≡ u → ⊥) → middlePlace a b u ≡ w → ⊥
-  pub away : (w : Place) → w ∈ qs → middlePlace a b u ≡ w → ⊥
+  pub kept : (w : Place) → Point net.pins T w → (w ≡ a → ⊥) → (w ≡ b → ⊥) → (w ≡ u → ⊥) → middle_place a b u ≡ w → ⊥
+  pub away : (w : Place) → w ∈ qs → middle_place a b u ≡ w → ⊥
 
 -- R7: e is a step of the way from x through the places qs
 pub record Step (T : List Edge) (x : Place) (qs : List Place) (e : Edge) : Type 0 where
@@ -87,8 +87,8 @@ pub record Step (T : List Edge) (x : Place) (qs : List Place) (e : Edge) : Type 
 -- R8: l is the longest edge of that way, and of those the smallest
 pub record Longest (net : Net) (T : List Edge) (x : Place) (qs : List Place) (l : Edge) : Type 0 where
   pub step : Step T x qs l
-  pub longest : (e : Edge) → Step T x qs e → edgeCost net e ≤ edgeCost net l
-  pub smallest : (e : Edge) → Step T x qs e → edgeCost net e ≡ edgeCost net l → edgeBefore e l ≡ false
+  pub longest : (e : Edge) → Step T x qs e → edge_cost net e ≤ edge_cost net l
+  pub smallest : (e : Edge) → Step T x qs e → edge_cost net e ≡ edge_cost net l → edge_before e l ≡ false
 
 -- R8: l is L, the longest edge on the loop-free way from v to whichever of a and b comes first on it
 pub record Cut (net : Net) (T : List Edge) (a b v : Place) (l : Edge) : Type 0 where
@@ -99,20 +99,20 @@ pub record Cut (net : Net) (T : List Edge) (a b v : Place) (l : Edge) : Type 0 w
 pub record Gain (net : Net) (G T : List Edge) (k : Bool) (a b u v : Place) (qs : List Place) (l : Edge) (g : ℕ) : Type 0 where
   pub candidate : Candidate net G T k a b u v qs
   pub cut : Cut net T a b v l
-  pub gain : g + (costIn net (middlePlace a b u) u + long (costIn net) u qs) ≡ edgeCost net l
+  pub gain : g + (cost_in net (middle_place a b u) u + long (cost_in net) u qs) ≡ edge_cost net l
   pub above : 0 < g
 
 -- Rounds
 
 -- R26: on the tree first
-unfoldable pub onFirst : Bool → Bool → Bool
-onFirst false true = true
-onFirst false false = false
-onFirst true k = false
+unfoldable pub on_first : Bool → Bool → Bool
+on_first false true = true
+on_first false false = false
+on_first true k = false
 
 -- R10, R26: then the smallest (a, b), then the smallest u
 abbrev pub earlier : Bool × (Edge × Place) → Bool × (Edge × Place) → Bool
-earlier = firstThen onFirst (firstThen edgeBefore before)
+earlier = first_then on_first (first_then edge_before before)
 
 -- R10, R11: the candidate that a round takes: the greatest gain, then the first in this order
 pub record Takes (net : Net) (G T : List Edge) (k : Bool) (a b u v : Place) (qs : List Place) (l : Edge) (g : ℕ) : Type 0 where
@@ -129,7 +129,7 @@ Lays s x e = (before e.0 e.1 ≡ true) × Alike e.0 e.1 s x
 abbrev pub After : List Edge → List Edge → Place → Place → Place → List Place → Edge → Edge → Type 0
 After G T a b u qs l e =
     ((e ∈ T) × ((e ≡ (a, b) → ⊥) × (e ≡ l → ⊥))) ⊎
-    (Lays (middlePlace a b u) a e ⊎ (Lays (middlePlace a b u) b e ⊎ (Lays (middlePlace a b u) u e ⊎ Step G u qs e)))
+    (Lays (middle_place a b u) a e ⊎ (Lays (middle_place a b u) b e ⊎ (Lays (middle_place a b u) u e ⊎ Step G u qs e)))
 
 -- a round leads from the edges T to the edges U
 pub record Round (net : Net) (G T U : List Edge) : Type 0 where
@@ -164,8 +164,8 @@ abbrev pub FallsThrough : (net : Net) (G : List Edge) (m : ℕ) (T U : List Edge
 FallsThrough net G zero T U r = Unit {0}
 FallsThrough net G (suc m) T U (inl r) = Unit {0}
 FallsThrough net G (suc m) T U (inr (X, (r, more))) =
-    ((before after : List Edge) → Ascending edgeBefore before → Ascending edgeBefore after → Same T before → Same X after →
-    lengths (costIn net) after + r.g ≡ lengths (costIn net) before) × FallsThrough net G m X U more
+    ((before after : List Edge) → Ascending edge_before before → Ascending edge_before after → Same T before → Same X after →
+    lengths (cost_in net) after + r.g ≡ lengths (cost_in net) before) × FallsThrough net G m X U more
 
 -- Pruning
 
@@ -203,4 +203,4 @@ pub record Refined (net : Net) (G : List Edge) (ks : List Path) (rs : List Edge)
   pub start : List Edge
   pub union : Union ks start
   pub refines : Refines net G start rs
-  pub in_order : Ascending edgeBefore rs
+  pub in_order : Ascending edge_before rs

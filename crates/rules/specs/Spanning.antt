@@ -7,8 +7,8 @@ use Rattle.plane.specs.declared.Place.{Place}
 use Rattle.plane.specs.declared.Macro.{Macro}
 use Rattle.plane.specs.Place.{before}
 use Rattle.plane.specs.Macro.{clear}
-use Rattle.net.specs.Net.{Net, costIn}
-use Rattle.rules.specs.Edges.{Edge, edgeBefore}
+use Rattle.net.specs.Net.{Net, cost_in}
+use Rattle.rules.specs.Edges.{Edge, edge_before}
 
 -- N3: v is one of the four corners of m
 abbrev pub CornerOf : Macro → Place → Type 0
@@ -43,8 +43,8 @@ module _ (net : Net) (vs : List Place) where
   pub record Picks (u v : Place) : Type 0 where
     pub quadrant : Quadrant
     pub may : May quadrant u v
-    pub nearest : (w : Place) → May quadrant u w → costIn net u v ≤ costIn net u w
-    pub smallest : (w : Place) → May quadrant u w → costIn net u w ≡ costIn net u v → before w v ≡ false
+    pub nearest : (w : Place) → May quadrant u w → cost_in net u v ≤ cost_in net u w
+    pub smallest : (w : Place) → May quadrant u w → cost_in net u w ≡ cost_in net u v → before w v ≡ false
 
   -- G5: u and v are joined by an edge, written smaller place first (N16): one vertex picks the other
   pub record Neighbours (u v : Place) : Type 0 where
@@ -58,4 +58,4 @@ pub record Spanning (net : Net) (vs : List Place) (es : List Edge) : Type 0 wher
   pub vertices : (v : Place) → (v ∈ vs) ↔ Vertex net v
   pub vertices-in-order : Ascending before vs
   pub edges : (u v : Place) → ((u, v) ∈ es) ↔ Neighbours net vs u v
-  pub edges-in-order : Ascending edgeBefore es
+  pub edges-in-order : Ascending edge_before es

@@ -2,14 +2,14 @@
 -- That the paths are terminal paths (T2), a joining and none shorter, is D3 and stands in Demand.antt.
 use Rattle.std.specs.Prelude.{◌≡◌, Bool, false, List, [], ◌∷◌, ℕ, ◌+◌, ◌≤◌, ltb}
 use Rattle.lists.specs.Member.{◌∈◌}
-use Rattle.lists.specs.Sorted.{firstThen, Ascending}
+use Rattle.lists.specs.Sorted.{first_then, Ascending}
 use Rattle.joined.specs.Joined.{Link}
 use Rattle.joined.specs.Way.{Way, long, turned}
 use Rattle.joined.specs.Keep.{Keeping}
 use Rattle.plane.specs.declared.Place.{Place}
 use Rattle.plane.specs.Place.{before}
-use Rattle.net.specs.Net.{Net, costIn}
-use Rattle.rules.specs.Edges.{Edge, edgeBefore}
+use Rattle.net.specs.Net.{Net, cost_in}
+use Rattle.rules.specs.Edges.{Edge, edge_before}
 
 -- Paths
 
@@ -21,20 +21,20 @@ pub record Path : Type 0 where
   pub finish : Place
 
 -- the two pins that a path joins
-abbrev pub pathEnds : Path → Place × Place
-pathEnds k = (k.start, k.finish)
+abbrev pub path_ends : Path → Place × Place
+path_ends k = (k.start, k.finish)
 
 -- T4: its cost, every edge of it counted
-abbrev pub pathCost : Net → Path → ℕ
-pathCost net k = long (costIn net) k.start k.points
+abbrev pub path_cost : Net → Path → ℕ
+path_cost net k = long (cost_in net) k.start k.points
 
 -- C64: what is given for a path: its bridge and its cost
-abbrev pub givenFor : Net → Path → Edge × ℕ
-givenFor net k = (k.bridge, pathCost net k)
+abbrev pub given_for : Net → Path → Edge × ℕ
+given_for net k = (k.bridge, path_cost net k)
 
 -- T11, T12: the cheaper path is taken first, and of equal ones the one with the smaller bridge
-abbrev pub takenFirst : Net → Path → Path → Bool
-takenFirst net j k = firstThen ltb edgeBefore (pathCost net j, j.bridge) (pathCost net k, k.bridge)
+abbrev pub taken_first : Net → Path → Path → Bool
+taken_first net j k = first_then ltb edge_before (path_cost net j, j.bridge) (path_cost net k, k.bridge)
 
 module _ (net : Net) (G : List Edge) where
   -- Roots, parents and ways
@@ -44,8 +44,8 @@ module _ (net : Net) (G : List Edge) where
     pub pin : p ∈ net.pins
     pub points : List Place
     pub way : Way G v points p
-    pub nearest : (q : Place) (qs : List Place) → q ∈ net.pins → Way G v qs q → long (costIn net) v points ≤ long (costIn net) v qs
-    pub smallest : (q : Place) (qs : List Place) → q ∈ net.pins → Way G v qs q → long (costIn net) v qs ≡ long (costIn net) v points →
+    pub nearest : (q : Place) (qs : List Place) → q ∈ net.pins → Way G v qs q → long (cost_in net) v points ≤ long (cost_in net) v qs
+    pub smallest : (q : Place) (qs : List Place) → q ∈ net.pins → Way G v qs q → long (cost_in net) v qs ≡ long (cost_in net) v points →
         before q p ≡ false
 
   -- T7: w is a neighbour of v with the same root, and a shortest way from v to that root goes over it
@@ -56,7 +56,7 @@ module _ (net : Net) (G : List Edge) where
     pub same : Root w root
     pub points : List Place
     pub way : Way G w points root
-    pub shortest : (qs : List Place) → Way G v qs root → costIn net v w + long (costIn net) w points ≤ long (costIn net) v qs
+    pub shortest : (qs : List Place) → Way G v qs root → cost_in net v w + long (cost_in net) w points ≤ long (cost_in net) v qs
 
   -- T7: p is the parent of v: the smallest such neighbour
   pub record Parent (v p : Place) : Type 0 where
@@ -90,5 +90,5 @@ module _ (net : Net) (G : List Edge) where
     pub bridges : (k : Path) → k ∈ offered → Bridge k
     pub all : (e : Edge) → e ∈ G → (p q : Place) → Root e.0 p → Root e.1 q → (p ≡ q → ⊥) →
         (k : Path) × ((k ∈ offered) × (k.bridge ≡ e))
-    pub in-turn : Ascending (takenFirst net) offered
-    pub keeps : Keeping pathEnds [] offered ks
+    pub in-turn : Ascending (taken_first net) offered
+    pub keeps : Keeping path_ends [] offered ks

@@ -16,34 +16,34 @@ use Rattle.lent.specs.Entries.{flat}
 use Rattle.lent.proofs.OverLaws.{over_none}
 use Rattle.lent.proofs.EntryTable.{entry_more, entries_over}
 use Rattle.plane.specs.declared.Place.{Place}
-use Rattle.plane.specs.Flat.{placeAt}
-use Rattle.graph.specs.Numbers.{edgeNumbers, edgeFrom}
+use Rattle.plane.specs.Flat.{place_at}
+use Rattle.graph.specs.Numbers.{edge_numbers, edge_from}
 use Rattle.graph.proofs.WidthLaws.{edge-width}
 use Rattle.slide.specs.Bend.{Edge}
-use Rattle.slide.specs.Slide.{shift, shiftEdge, proper, slide}
-use Rattle.straight.specs.Table.{firstEnd, secondEnd, edge_at, run, edgesIn, Within}
+use Rattle.slide.specs.Slide.{shift, shift_edge, proper, slide}
+use Rattle.straight.specs.Table.{first_end, second_end, edge_at, run, edges_in, Within}
 use Rattle.straight.proofs.RunLaws.{run-next, run_end, run-map, run-same}
-use Rattle.settled.specs.Settled.{edgesOf}
+use Rattle.settled.specs.Settled.{edges_of}
 use Rattle.shifted.specs.declared.Shift.{Shift}
-use Rattle.shifted.specs.Shift.{onLabel, placed, shiftedAt, shiftedEdge, shifted, PutIf}
+use Rattle.shifted.specs.Shift.{on_label, placed, shifted_at, shifted_edge, shifted, PutIf}
 
 -- A move by labels
 
 module _ (m : Shift) (pts : List ℤ) (lab ks : List ℕ) (n e : ℕ) (on : Place → Bool)
-    (same : (i : ℕ) → i < n → onLabel m lab i ≡ on (placeAt pts i)) (within : Within n ks) where
-  placed-is : (i : ℕ) → i < n → shiftedAt m pts lab i ≡ shift m.side on m.distance (placeAt pts i)
+    (same : (i : ℕ) → i < n → on_label m lab i ≡ on (place_at pts i)) (within : Within n ks) where
+  placed-is : (i : ℕ) → i < n → shifted_at m pts lab i ≡ shift m.side on m.distance (place_at pts i)
   unfolding placed shift
   placed-is i h = rw (same i h) refl
 
-  pub shifted-is : shifted m pts lab ks e ≡ slide m.side on m.distance (edgesIn pts ks e)
-  unfolding slide shiftEdge
+  pub shifted-is : shifted m pts lab ks e ≡ slide m.side on m.distance (edges_in pts ks e)
+  unfolding slide shift_edge
   shifted-is =
       ap (those proper)
-      (run-same (λ i. shiftedEdge m pts lab (get_or ks i 0)) (λ i. shiftEdge m.side on m.distance (edge_at pts ks i)) e 0
+      (run-same (λ i. shifted_edge m pts lab (get_or ks i 0)) (λ i. shift_edge m.side on m.distance (edge_at pts ks i)) e 0
       (λ i l h.
       let z = within.ends i in
-      ap₂ (λ (a b : Place). (a, b)) (placed-is (firstEnd (get_or ks i 0)) z.0) (placed-is (secondEnd (get_or ks i 0)) z.1))
-      ∙ sym (run-map (shiftEdge m.side on m.distance) (edge_at pts ks) e 0))
+      ap₂ (λ (a b : Place). (a, b)) (placed-is (first_end (get_or ks i 0)) z.0) (placed-is (second_end (get_or ks i 0)) z.1))
+      ∙ sym (run-map (shift_edge m.side on m.distance) (edge_at pts ks) e 0))
 
 -- Edges put one after the other
 
@@ -52,7 +52,7 @@ module _ (f : ℕ → Edge) (e : ℕ) (out₀ : List ℤ) where
   pub record Putting (out : List ℤ) (count k : ℕ) : Type 0 where
     pub done : List Edge
     pub counted : length done ≡ count
-    pub written : out ≡ over (flat edgeNumbers done) out₀
+    pub written : out ≡ over (flat edge_numbers done) out₀
     pub goal : done ++ those proper (run f k (e - k)) ≡ those proper (run f 0 e)
 
   pub putting-none : Putting out₀ 0 0
@@ -86,8 +86,8 @@ module _ (f : ℕ → Edge) (e : ℕ) (out₀ : List ℤ) where
       counted = length-append g.done (f k ∷ []) ∙ omega (arith, g.counted, w.1);
       written =
           w.0
-          ∙ ap (λ (l : List ℤ). sets l (count * 4) (edgeNumbers (f k))) g.written
-          ∙ entry_more edgeNumbers edgeFrom 4 edge-width g.done (f k) out₀ count g.counted room;
+          ∙ ap (λ (l : List ℤ). sets l (count * 4) (edge_numbers (f k))) g.written
+          ∙ entry_more edge_numbers edge_from 4 edge-width g.done (f k) out₀ count g.counted room;
       goal = next-proper h t;
     }
     putting-more h room false t new r w = record {
@@ -97,10 +97,10 @@ module _ (f : ℕ → Edge) (e : ℕ) (out₀ : List ℤ) where
       goal = next-none h t;
     }
 
-    pub putting-end : e ≤ k → edgesOf out count ≡ those proper (run f 0 e)
+    pub putting-end : e ≤ k → edges_of out count ≡ those proper (run f 0 e)
     putting-end h =
-        ap₂ edgesOf g.written (sym g.counted)
-        ∙ entries_over edgeNumbers edgeFrom 4 edge-width g.done out₀ (length g.done) refl
+        ap₂ edges_of g.written (sym g.counted)
+        ∙ entries_over edge_numbers edge_from 4 edge-width g.done out₀ (length g.done) refl
         ∙ sym (append-nil g.done)
         ∙ ap (λ (l : List Edge). g.done ++ l) (sym (ap (those proper) (run_end f k e h) ∙ those-none proper))
         ∙ g.goal

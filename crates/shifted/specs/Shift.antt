@@ -5,36 +5,36 @@ use Rattle.std.specs.Int.{w32}
 use Rattle.std.proofs.Common.{SFits}
 use Rattle.lists.specs.Those.{those}
 use Rattle.plane.specs.declared.Place.{Place}
-use Rattle.plane.specs.Flat.{placeAt}
-use Rattle.graph.specs.Numbers.{edgeNumbers}
+use Rattle.plane.specs.Flat.{place_at}
+use Rattle.graph.specs.Numbers.{edge_numbers}
 use Rattle.slide.specs.declared.Side.{Side}
 use Rattle.slide.specs.Side.{moved}
 use Rattle.slide.specs.Bend.{Edge}
 use Rattle.slide.specs.Slide.{proper}
-use Rattle.straight.specs.Table.{firstEnd, secondEnd, run}
+use Rattle.straight.specs.Table.{first_end, second_end, run}
 use Rattle.shifted.specs.declared.Shift.{Shift}
 
 -- point i is one of the bar's
-abbrev pub onLabel : Shift → List ℕ → ℕ → Bool
-onLabel m lab i = eqb (get_or lab i 0) m.label
+abbrev pub on_label : Shift → List ℕ → ℕ → Bool
+on_label m lab i = eqb (get_or lab i 0) m.label
 
 -- M13: a place that moves or stays
 unfoldable pub placed : Shift → Bool → Place → Place
 placed m t p = elim t [ true ↦ moved m.side m.distance p | false ↦ p ]
 
 -- point i, the edge of a key and the first e edges after the move
-abbrev pub shiftedAt : Shift → List ℤ → List ℕ → ℕ → Place
-shiftedAt m pts lab i = placed m (onLabel m lab i) (placeAt pts i)
+abbrev pub shifted_at : Shift → List ℤ → List ℕ → ℕ → Place
+shifted_at m pts lab i = placed m (on_label m lab i) (place_at pts i)
 
-abbrev pub shiftedEdge : Shift → List ℤ → List ℕ → ℕ → Edge
-shiftedEdge m pts lab k = (shiftedAt m pts lab (firstEnd k), shiftedAt m pts lab (secondEnd k))
+abbrev pub shifted_edge : Shift → List ℤ → List ℕ → ℕ → Edge
+shifted_edge m pts lab k = (shifted_at m pts lab (first_end k), shifted_at m pts lab (second_end k))
 
 abbrev pub shifted : Shift → List ℤ → List ℕ → List ℕ → ℕ → List Edge
-shifted m pts lab ks e = those proper (run (λ i. shiftedEdge m pts lab (get_or ks i 0)) 0 e)
+shifted m pts lab ks e = those proper (run (λ i. shifted_edge m pts lab (get_or ks i 0)) 0 e)
 
 -- x as the next of a list of edges, if so
 abbrev pub PutIf : Bool → Edge → List ℤ → ℕ → List ℤ → ℕ → Type 0
-PutIf true x out count new r = (new ≡ sets out (count * 4) (edgeNumbers x)) × (r ≡ count + 1)
+PutIf true x out count new r = (new ≡ sets out (count * 4) (edge_numbers x)) × (r ≡ count + 1)
 PutIf false x out count new r = (new ≡ out) × (r ≡ count)
 
 -- a place moved has coordinates of 32 bits
@@ -45,7 +45,7 @@ pub record MoveFits (s : Side) (d : ℕ) (p : Place) : Type 0 where
 
 -- point i has, if it moves; every point of a table has
 pub record Fitting (m : Shift) (pts : List ℤ) (lab : List ℕ) (i : ℕ) : Type 0 where
-  pub fits : onLabel m lab i ≡ true → MoveFits m.side m.distance (placeAt pts i)
+  pub fits : on_label m lab i ≡ true → MoveFits m.side m.distance (place_at pts i)
 
 pub record Movable (m : Shift) (pts : List ℤ) (n : ℕ) (lab : List ℕ) : Type 0 where
   pub each : (i : ℕ) → i < n → Fitting m pts lab i

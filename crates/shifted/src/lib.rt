@@ -3,9 +3,9 @@ mod place; // place.rt: places moved
 
 ghost use Rattle.std.specs.Prelude.{◌≡◌, ◌+◌, ◌*◌, ◌≤◌, ◌<◌, length, get_or};
 ghost use Rattle.slide.specs.Slide.{proper};
-ghost use Rattle.straight.specs.Table.{straightBound, keyBound, firstEnd, secondEnd, Within};
-ghost use Rattle.settled.specs.Settled.{edgesOf};
-ghost use Rattle.shifted.specs.Shift.{shiftedAt, shiftedEdge, shifted, PutIf, Fitting, Movable};
+ghost use Rattle.straight.specs.Table.{straight_bound, key_bound, first_end, second_end, Within};
+ghost use Rattle.settled.specs.Settled.{edges_of};
+ghost use Rattle.shifted.specs.Shift.{shifted_at, shifted_edge, shifted, PutIf, Fitting, Movable};
 
 use graph::put_edge;
 use plane::Place;
@@ -22,8 +22,8 @@ pub struct Shift {
 
 // The place of point i after the move.
 fn shifted_point(pts: &[i32; NUMBERS], lab: &[usize; POINTS], m: Shift, i: usize) -> Place
-    requires { (i < straightBound) × (Fitting m pts.now lab.now i) }
-    ensures { result ≡ shiftedAt m pts.now lab.now i }
+    requires { (i < straight_bound) × (Fitting m pts.now lab.now i) }
+    ensures { result ≡ shifted_at m pts.now lab.now i }
 {
     let p = straight::point_at(pts, i);
     if lab[i] == m.label {
@@ -55,11 +55,11 @@ fn put_shifted(
     out: &mut [i32],
     count: usize,
 ) -> usize
-    requires k_lt_straight_bound { (k < straightBound) × ((get_or keys.now k 0 < keyBound) × (count * 4 + 4 ≤ length out.old)) }
-    requires fitting { (Fitting m pts.now lab.now (firstEnd (get_or keys.now k 0)))
-        × (Fitting m pts.now lab.now (secondEnd (get_or keys.now k 0))) }
-    ensures { PutIf (proper (shiftedEdge m pts.now lab.now (get_or keys.now k 0)))
-        (shiftedEdge m pts.now lab.now (get_or keys.now k 0)) out.old count
+    requires k_lt_straight_bound { (k < straight_bound) × ((get_or keys.now k 0 < key_bound) × (count * 4 + 4 ≤ length out.old)) }
+    requires fitting { (Fitting m pts.now lab.now (first_end (get_or keys.now k 0)))
+        × (Fitting m pts.now lab.now (second_end (get_or keys.now k 0))) }
+    ensures { PutIf (proper (shifted_edge m pts.now lab.now (get_or keys.now k 0)))
+        (shifted_edge m pts.now lab.now (get_or keys.now k 0)) out.old count
         out.new result }
 {
     let a = shifted_point(pts, lab, m, straight::first_end(keys, k));
@@ -77,9 +77,9 @@ pub fn shift_edges(
     m: Shift,
     out: &mut [i32],
 ) -> usize
-    requires n_le_straight_bound { (n ≤ straightBound) × ((e ≤ straightBound) × (Within n keys.now)) }
+    requires n_le_straight_bound { (n ≤ straight_bound) × ((e ≤ straight_bound) × (Within n keys.now)) }
     requires movable { (Movable m pts.now n lab.now) × (e * 4 ≤ length out.old) }
-    ensures { (edgesOf out.new result ≡ shifted m pts.now lab.now keys.now e) × (result ≤ e) }
+    ensures { (edges_of out.new result ≡ shifted m pts.now lab.now keys.now e) × (result ≤ e) }
 {
     let mut count = 0;
     let mut k = 0;

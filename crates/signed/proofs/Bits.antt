@@ -12,9 +12,9 @@ use mir.Syntax.{Width, w32, w64}
 use mir.Val.{SFits, to_z, of_z}
 use mir.ValLaws.{to_z-of_z}
 use Rattle.lists.proofs.TestLaws.{by, differ}
-use Rattle.signed.specs.Order.{eqZ}
+use Rattle.signed.specs.Order.{z_eq}
 use Rattle.signed.proofs.SideLaws.{one_side, of-sfits, to-sfits, sub-sides}
-use Rattle.signed.proofs.OrderLaws.{eqZ-true, eqZ-refl}
+use Rattle.signed.proofs.OrderLaws.{z_eq-true, z_eq-refl}
 
 -- an i32 fits an i64
 pub widen : (z : ℤ) → SFits w32 z → SFits w64 z
@@ -42,12 +42,12 @@ pub flag-le : (w : Width) (a b : ℤ) {t : Bool} → SFits w a → SFits w b →
 flag-le w a b {t} f g e = subst (λ (z : ℤ). le_z z b ≡ t) (to_z-of_z w a f) (subst (λ (z : ℤ). le_z (to_z w (of_z w a)) z ≡ t) (to_z-of_z w b g) e)
 
 -- two numbers that fit have the same bits exactly when they are equal
-pub flag-eq : (w : Width) (a b : ℤ) → SFits w a → SFits w b → eqb (of_z w a) (of_z w b) ≡ eqZ a b
+pub flag-eq : (w : Width) (a b : ℤ) → SFits w a → SFits w b → eqb (of_z w a) (of_z w b) ≡ z_eq a b
 flag-eq w a b f g =
     by (eqb (of_z w a) (of_z w b))
     (λ e. let s : a ≡ b = sym (to_z-of_z w a f) ∙ ap (to_z w) (eqb-true (of_z w a) (of_z w b) e) ∙ to_z-of_z w b g in e
-    ∙ sym (ap (λ (z : ℤ). eqZ z b) s ∙ eqZ-refl b))
-    (λ e. by (eqZ a b) (λ k. differ (eq-eqb (of_z w a) (of_z w b) (ap (of_z w) (eqZ-true a b k))) e) (λ k. e ∙ sym k))
+    ∙ sym (ap (λ (z : ℤ). z_eq z b) s ∙ z_eq-refl b))
+    (λ e. by (z_eq a b) (λ k. differ (eq-eqb (of_z w a) (of_z w b) (ap (of_z w) (z_eq-true a b k))) e) (λ k. e ∙ sym k))
 
 -- the machine's sum of two i64 that are not negative
 module _ (x y : ℤ) (m n : ℕ) (ex : x ≡ pos m) (ey : y ≡ pos n) (h : m + n < 2 ^ 63) where

@@ -18,61 +18,61 @@ unfolding up down
 one_side (pos n) = omega arith
 one_side (negsuc n) = omega arith
 
-pub ltZ-true : (a b : ℤ) → lt_z a b ≡ true → up a + down b < up b + down a
+pub z_lt-true : (a b : ℤ) → lt_z a b ≡ true → up a + down b < up b + down a
 unfolding up down
-ltZ-true (pos a) (pos b) e = omega (arith, ltb-true)
-ltZ-true (pos a) (negsuc b) e = let z : ◌≡◌ {A = ℕ} 0 1 = cc in omega arith
-ltZ-true (negsuc a) (pos b) e = omega arith
-ltZ-true (negsuc a) (negsuc b) e = omega (arith, ltb-true)
+z_lt-true (pos a) (pos b) e = omega (arith, ltb-true)
+z_lt-true (pos a) (negsuc b) e = let z : ◌≡◌ {A = ℕ} 0 1 = cc in omega arith
+z_lt-true (negsuc a) (pos b) e = omega arith
+z_lt-true (negsuc a) (negsuc b) e = omega (arith, ltb-true)
 
-pub ltZ-false : (a b : ℤ) → lt_z a b ≡ false → up b + down a ≤ up a + down b
+pub z_lt-false : (a b : ℤ) → lt_z a b ≡ false → up b + down a ≤ up a + down b
 unfolding up down
-ltZ-false (pos a) (pos b) e = omega (arith, ltb-false)
-ltZ-false (pos a) (negsuc b) e = omega arith
-ltZ-false (negsuc a) (pos b) e = let z : ◌≡◌ {A = ℕ} 0 1 = cc in omega arith
-ltZ-false (negsuc a) (negsuc b) e = omega (arith, ltb-false)
+z_lt-false (pos a) (pos b) e = omega (arith, ltb-false)
+z_lt-false (pos a) (negsuc b) e = omega arith
+z_lt-false (negsuc a) (pos b) e = let z : ◌≡◌ {A = ℕ} 0 1 = cc in omega arith
+z_lt-false (negsuc a) (negsuc b) e = omega (arith, ltb-false)
 
-pub leZ-true : (a b : ℤ) → le_z a b ≡ true → up a + down b ≤ up b + down a
+pub z_le-true : (a b : ℤ) → le_z a b ≡ true → up a + down b ≤ up b + down a
 unfolding up down
-leZ-true (pos a) (pos b) e = omega (arith, leb-true)
-leZ-true (pos a) (negsuc b) e = let z : ◌≡◌ {A = ℕ} 0 1 = cc in omega arith
-leZ-true (negsuc a) (pos b) e = omega arith
-leZ-true (negsuc a) (negsuc b) e = omega (arith, leb-true)
+z_le-true (pos a) (pos b) e = omega (arith, leb-true)
+z_le-true (pos a) (negsuc b) e = let z : ◌≡◌ {A = ℕ} 0 1 = cc in omega arith
+z_le-true (negsuc a) (pos b) e = omega arith
+z_le-true (negsuc a) (negsuc b) e = omega (arith, leb-true)
 
-pub leZ-false : (a b : ℤ) → le_z a b ≡ false → up b + down a < up a + down b
+pub z_le-false : (a b : ℤ) → le_z a b ≡ false → up b + down a < up a + down b
 unfolding up down
-leZ-false (pos a) (pos b) e = omega (arith, leb-false)
-leZ-false (pos a) (negsuc b) e = omega arith
-leZ-false (negsuc a) (pos b) e = let z : ◌≡◌ {A = ℕ} 0 1 = cc in omega arith
-leZ-false (negsuc a) (negsuc b) e = omega (arith, leb-false)
+z_le-false (pos a) (pos b) e = omega (arith, leb-false)
+z_le-false (pos a) (negsuc b) e = omega arith
+z_le-false (negsuc a) (pos b) e = let z : ◌≡◌ {A = ℕ} 0 1 = cc in omega arith
+z_le-false (negsuc a) (negsuc b) e = omega (arith, leb-false)
 
-pub lt-ltZ : (a b : ℤ) → up a + down b < up b + down a → lt_z a b ≡ true
+pub lt-z_lt : (a b : ℤ) → up a + down b < up b + down a → lt_z a b ≡ true
 unfolding up down
-lt-ltZ (pos a) (pos b) h = lt-ltb a b (omega arith)
-lt-ltZ (pos a) (negsuc b) h = absurd (let f : ⊥ = omega arith in f)
-lt-ltZ (negsuc a) (pos b) h = refl
-lt-ltZ (negsuc a) (negsuc b) h = lt-ltb b a (omega arith)
+lt-z_lt (pos a) (pos b) h = lt-ltb a b (omega arith)
+lt-z_lt (pos a) (negsuc b) h = absurd (let f : ⊥ = omega arith in f)
+lt-z_lt (negsuc a) (pos b) h = refl
+lt-z_lt (negsuc a) (negsuc b) h = lt-ltb b a (omega arith)
 
-pub le-ltZ : (a b : ℤ) → up b + down a ≤ up a + down b → lt_z a b ≡ false
+pub le-z_lt : (a b : ℤ) → up b + down a ≤ up a + down b → lt_z a b ≡ false
 unfolding up down
-le-ltZ (pos a) (pos b) h = le-ltb a b (omega arith)
-le-ltZ (pos a) (negsuc b) h = refl
-le-ltZ (negsuc a) (pos b) h = absurd (let f : ⊥ = omega arith in f)
-le-ltZ (negsuc a) (negsuc b) h = le-ltb b a (omega arith)
+le-z_lt (pos a) (pos b) h = le-ltb a b (omega arith)
+le-z_lt (pos a) (negsuc b) h = refl
+le-z_lt (negsuc a) (pos b) h = absurd (let f : ⊥ = omega arith in f)
+le-z_lt (negsuc a) (negsuc b) h = le-ltb b a (omega arith)
 
-pub le-leZ : (a b : ℤ) → up a + down b ≤ up b + down a → le_z a b ≡ true
+pub le-z_le : (a b : ℤ) → up a + down b ≤ up b + down a → le_z a b ≡ true
 unfolding up down
-le-leZ (pos a) (pos b) h = le-leb a b (omega arith)
-le-leZ (pos a) (negsuc b) h = absurd (let f : ⊥ = omega arith in f)
-le-leZ (negsuc a) (pos b) h = refl
-le-leZ (negsuc a) (negsuc b) h = le-leb b a (omega arith)
+le-z_le (pos a) (pos b) h = le-leb a b (omega arith)
+le-z_le (pos a) (negsuc b) h = absurd (let f : ⊥ = omega arith in f)
+le-z_le (negsuc a) (pos b) h = refl
+le-z_le (negsuc a) (negsuc b) h = le-leb b a (omega arith)
 
-pub lt-leZ : (a b : ℤ) → up b + down a < up a + down b → le_z a b ≡ false
+pub lt-z_le : (a b : ℤ) → up b + down a < up a + down b → le_z a b ≡ false
 unfolding up down
-lt-leZ (pos a) (pos b) h = lt-leb a b (omega arith)
-lt-leZ (pos a) (negsuc b) h = refl
-lt-leZ (negsuc a) (pos b) h = absurd (let f : ⊥ = omega arith in f)
-lt-leZ (negsuc a) (negsuc b) h = lt-leb b a (omega arith)
+lt-z_le (pos a) (pos b) h = lt-leb a b (omega arith)
+lt-z_le (pos a) (negsuc b) h = refl
+lt-z_le (negsuc a) (pos b) h = absurd (let f : ⊥ = omega arith in f)
+lt-z_le (negsuc a) (negsuc b) h = lt-leb b a (omega arith)
 
 pub eq_of : (a b : ℤ) → up a + down b ≡ up b + down a → a ≡ b
 unfolding up down
@@ -130,4 +130,4 @@ unfolding down
 down_pos n = refl
 
 -- `omega (signed, facts)` reads and proves tests of whole numbers
-pub ruleset signed = (arith, ltZ-true, ltZ-false, leZ-true, leZ-false, lt-ltZ, le-ltZ, le-leZ, lt-leZ, eq_of)
+pub ruleset signed = (arith, z_lt-true, z_lt-false, z_le-true, z_le-false, lt-z_lt, le-z_lt, le-z_le, lt-z_le, eq_of)

@@ -4,7 +4,7 @@
 -- number z is split into its two sides, of which one is 0: z = up z - down z. An order of two numbers is then an order of cross sums,
 -- and the ruleset `signed` (../proofs/SideLaws.antt) lets `omega` read and prove the tests of ℤ.
 --
---   eqZ a b, minZ a b, maxZ a b    the test for equality, the smaller and the greater of two numbers
+--   z_eq a b, z_min a b, z_max a b    the test for equality, the smaller and the greater of two numbers
 --   up z, down z                   how far z lies above 0, and how far below
 --   Lt a b, Le a b                 a < b and a ≤ b, as `omega` reads them
 pub mod Order

@@ -12,11 +12,10 @@ use Rattle.lists.specs.Any.{any}
 use Rattle.lists.specs.Those.{those}
 use Rattle.lists.specs.Sorted.{sorted}
 use Rattle.lists.proofs.TestLaws.{by}
-use Rattle.bound.proofs.OrderLaws.{sorted-there}
-use Rattle.signed.specs.Order.{eqZ, minZ, maxZ}
+use Rattle.signed.specs.Order.{z_eq, z_min, z_max}
 use Rattle.signed.proofs.SideLaws.{eq_of, add-sides, sub-sides}
 use Rattle.plane.specs.declared.Place.{Place}
-use Rattle.plane.specs.Place.{place, before, samePlace}
+use Rattle.plane.specs.Place.{place, before, same_place}
 use Rattle.plane.specs.Distance.{apart}
 use Rattle.net.specs.Net.{Net}
 use Rattle.graph.specs.Edges.{edge_of}
@@ -24,13 +23,13 @@ use Rattle.joined.specs.Labels.{equal, labels}
 use Rattle.slide.specs.declared.Side.{Side}
 use Rattle.slide.specs.declared.Side.TheVariants.{Above, Below, Right, Left}
 use Rattle.slide.specs.Side.{across, moved}
-use Rattle.slide.specs.Bend.{Edge, straight, xFirst, yFirst, taken, Bent, bent, given_back, kept, through, bends}
-use Rattle.slide.specs.Bar.{same, level, onBar, ofBar, hangs, ahead, behind, far, long, least, shortest, farEnds, first_of, last_of}
-use Rattle.slide.specs.Slide.{ends, treePoints}
-use Rattle.rules.specs.Moved.{movedEdge}
-use Rattle.site.specs.Shift.{shift, shiftNet}
+use Rattle.slide.specs.Bend.{Edge, straight, x_first, y_first, taken, Bent, bent, given_back, kept, through, bends}
+use Rattle.slide.specs.Bar.{same, level, on_bar, of_bar, hangs, ahead, behind, far, long, least, shortest, far_ends, first_of, last_of}
+use Rattle.slide.specs.Slide.{ends, tree_points}
+use Rattle.rules.specs.Moved.{moved_edge}
+use Rattle.site.specs.Shift.{shift, shift_net}
 use Rattle.site.proofs.ShiftLaws.{lt-there, eq-there, apart-there, before-there, same-there}
-use Rattle.site.proofs.ListShift.{any-there, those-there, equal-there, labels-there}
+use Rattle.site.proofs.ListShift.{any-there, those-there, sorted-there, equal-there, labels-there}
 use Rattle.site.proofs.NetShift.{unshifted, unshift}
 
 pub map-append : {A B : Type 0} (f : A → B) (l m : List A) → map f (l ++ m) ≡ map f l ++ map f m
@@ -47,7 +46,7 @@ module _ (dx dy : ℤ) where
   F = shift dx dy
 
   abbrev pub E : Edge → Edge
-  E = movedEdge (shift dx dy)
+  E = moved_edge (shift dx dy)
 
   pub only : (x y : Place) → F x ≡ F y → x ≡ y
   only x y e = sym (unshifted dx dy x) ∙ ap (unshift dx dy) e ∙ unshifted dx dy y
@@ -58,17 +57,17 @@ module _ (dx dy : ℤ) where
   unfolding straight
   straight-there e = ap₂ ◌||◌ (eq-there dx e.0.x e.1.x) (eq-there dy e.0.y e.1.y)
 
-  x-there : (e : Edge) → xFirst (E e) ≡ F (xFirst e)
-  unfolding xFirst
+  x-there : (e : Edge) → x_first (E e) ≡ F (x_first e)
+  unfolding x_first
   x-there e = refl
 
-  y-there : (e : Edge) → yFirst (E e) ≡ F (yFirst e)
-  unfolding yFirst
+  y-there : (e : Edge) → y_first (E e) ≡ F (y_first e)
+  unfolding y_first
   y-there e = refl
 
   pub taken-there : (X : List Place) (c : Place) → taken (map F X) (F c) ≡ taken X c
   unfolding taken
-  taken-there X c = any-there F (samePlace c) (samePlace (F c)) (same-there dx dy c) X
+  taken-there X c = any-there F (same_place c) (same_place (F c)) (same-there dx dy c) X
 
   edge-of-there : (u v : Place) → edge_of (F u) (F v) ≡ E (edge_of u v)
   unfolding edge_of
@@ -77,24 +76,24 @@ module _ (dx dy : ℤ) where
       (λ e. let g : before (F u) (F v) ≡ true = before-there dx dy u v ∙ e in rw (edge_of, g, e) refl)
       (λ e. let g : before (F u) (F v) ≡ false = before-there dx dy u v ∙ e in rw (edge_of, g, e) refl)
 
-  unfoldable pub movedBent : Bent → Bent
-  movedBent (bent X T) = bent (map F X) (map E T)
-  movedBent given_back = given_back
+  unfoldable pub moved_bent : Bent → Bent
+  moved_bent (bent X T) = bent (map F X) (map E T)
+  moved_bent given_back = given_back
 
-  kept_there : (e : Edge) (r : Bent) → kept (E e) (movedBent r) ≡ movedBent (kept e r)
-  unfolding kept movedBent
+  kept_there : (e : Edge) (r : Bent) → kept (E e) (moved_bent r) ≡ moved_bent (kept e r)
+  unfolding kept moved_bent
   kept_there e (bent X T) = refl
   kept_there e given_back = refl
 
-  through-there : (e : Edge) (c : Place) (r : Bent) → through (E e) (F c) (movedBent r) ≡ movedBent (through e c r)
+  through-there : (e : Edge) (c : Place) (r : Bent) → through (E e) (F c) (moved_bent r) ≡ moved_bent (through e c r)
   unfolding through
   through-there e c r =
-      ap₂ (λ (a b : Edge). kept a (kept b (movedBent r))) (edge-of-there e.0 c) (edge-of-there c e.1)
+      ap₂ (λ (a b : Edge). kept a (kept b (moved_bent r))) (edge-of-there e.0 c) (edge-of-there c e.1)
       ∙ ap (kept (E (edge_of e.0 c))) (kept_there (edge_of c e.1) r)
       ∙ kept_there (edge_of e.0 c) (kept (edge_of c e.1) r)
 
-  pub bends-there : (X : List Place) (T : List Edge) → bends (map F X) (map E T) ≡ movedBent (bends X T)
-  unfolding bends movedBent
+  pub bends-there : (X : List Place) (T : List Edge) → bends (map F X) (map E T) ≡ moved_bent (bends X T)
+  unfolding bends moved_bent
   bends-there X [] = refl
   bends-there X (e ∷ T) =
       by (straight e)
@@ -102,25 +101,25 @@ module _ (dx dy : ℤ) where
       let s' : straight (E e) ≡ true = straight-there e ∙ s in
       rw (bends, s', s) (ap (kept (E e)) (bends-there X T) ∙ kept_there e (bends X T))) λ s.
       let s' : straight (E e) ≡ false = straight-there e ∙ s in
-      by (taken X (xFirst e))
+      by (taken X (x_first e))
       (λ t.
-      let t' : taken (map F X) (xFirst (E e)) ≡ true = ap (taken (map F X)) (x-there e) ∙ taken-there X (xFirst e) ∙ t in
-      by (taken X (yFirst e))
+      let t' : taken (map F X) (x_first (E e)) ≡ true = ap (taken (map F X)) (x-there e) ∙ taken-there X (x_first e) ∙ t in
+      by (taken X (y_first e))
       (λ u.
-      let u' : taken (map F X) (yFirst (E e)) ≡ true = ap (taken (map F X)) (y-there e) ∙ taken-there X (yFirst e) ∙ u in
+      let u' : taken (map F X) (y_first (E e)) ≡ true = ap (taken (map F X)) (y-there e) ∙ taken-there X (y_first e) ∙ u in
       rw (bends, s', s, t', t, u', u) refl)
       (λ u.
-      let u' : taken (map F X) (yFirst (E e)) ≡ false = ap (taken (map F X)) (y-there e) ∙ taken-there X (yFirst e) ∙ u in
+      let u' : taken (map F X) (y_first (E e)) ≡ false = ap (taken (map F X)) (y-there e) ∙ taken-there X (y_first e) ∙ u in
       rw (bends, s', s, t', t, u', u)
       (ap (λ (c : Place). through (E e) c (bends (c ∷ map F X) (map E T))) (y-there e)
-      ∙ ap (through (E e) (F (yFirst e))) (bends-there (yFirst e ∷ X) T)
-      ∙ through-there e (yFirst e) (bends (yFirst e ∷ X) T))))
+      ∙ ap (through (E e) (F (y_first e))) (bends-there (y_first e ∷ X) T)
+      ∙ through-there e (y_first e) (bends (y_first e ∷ X) T))))
       (λ t.
-      let t' : taken (map F X) (xFirst (E e)) ≡ false = ap (taken (map F X)) (x-there e) ∙ taken-there X (xFirst e) ∙ t in
+      let t' : taken (map F X) (x_first (E e)) ≡ false = ap (taken (map F X)) (x-there e) ∙ taken-there X (x_first e) ∙ t in
       rw (bends, s', s, t', t)
       (ap (λ (c : Place). through (E e) c (bends (c ∷ map F X) (map E T))) (x-there e)
-      ∙ ap (through (E e) (F (xFirst e))) (bends-there (xFirst e ∷ X) T)
-      ∙ through-there e (xFirst e) (bends (xFirst e ∷ X) T)))
+      ∙ ap (through (E e) (F (x_first e))) (bends-there (x_first e ∷ X) T)
+      ∙ through-there e (x_first e) (bends (x_first e ∷ X) T)))
 
   -- Tree points
 
@@ -129,8 +128,8 @@ module _ (dx dy : ℤ) where
   ends_there [] = refl
   ends_there (e ∷ T) = ap (λ (l : List Place). F e.0 ∷ (F e.1 ∷ l)) (ends_there T)
 
-  pub points-there : (net : Net) (T : List Edge) → treePoints (shiftNet dx dy net) (map E T) ≡ map F (treePoints net T)
-  unfolding treePoints
+  pub points-there : (net : Net) (T : List Edge) → tree_points (shift_net dx dy net) (map E T) ≡ map F (tree_points net T)
+  unfolding tree_points
   points-there net T =
       ap (λ (l : List Place). sorted before (map F net.pins ++ l)) (ends_there T)
       ∙ ap (sorted before) (sym (map-append F net.pins (ends T)))
@@ -174,10 +173,10 @@ module _ (dx dy : ℤ) where
   pub level-there : (s : Side) (e : Edge) → level s (E e) ≡ level s e
   unfolding level
   level-there s e =
-      ap₂ eqZ (across-there s e.0) (across-there s e.1) ∙ eq-there (adds s) (across s e.0) (across s e.1)
+      ap₂ z_eq (across-there s e.0) (across-there s e.1) ∙ eq-there (adds s) (across s e.0) (across s e.1)
 
-  pub on-there : (s : Side) (T : List Edge) (a p : Place) → onBar s (map E T) (F a) (F p) ≡ onBar s T a p
-  unfolding onBar
+  pub on-there : (s : Side) (T : List Edge) (a p : Place) → on_bar s (map E T) (F a) (F p) ≡ on_bar s T a p
+  unfolding on_bar
   on-there s T a p =
       ap (λ (L : List Edge). equal same (labels same L (F a)) (labels same L (F p)))
       (those-there E (level s) (level s) (level-there s) T)
@@ -194,8 +193,8 @@ module _ (dx dy : ℤ) where
 
   -- a bar and its shifted one, by their tests
   module _ (s : Side) (on on' : Place → Bool) (k : (p : Place) → on' (F p) ≡ on p) where
-    pub of-bar-there : (e : Edge) → ofBar s on' (E e) ≡ ofBar s on e
-    unfolding ofBar
+    pub of-bar-there : (e : Edge) → of_bar s on' (E e) ≡ of_bar s on e
+    unfolding of_bar
     of-bar-there e = ap₂ ◌&&◌ (level-there s e) (ap₂ ◌&&◌ (k e.0) (k e.1))
 
     pub hangs-there : (e : Edge) → hangs s on' (E e) ≡ hangs s on e
@@ -232,8 +231,8 @@ module _ (dx dy : ℤ) where
         longs [] = refl
         longs (e ∷ l) = ap₂ (λ (n : ℕ) (r : List ℕ). n ∷ r) (long-there s e) (longs l)
 
-    pub far-ends-there : (T : List Edge) → farEnds s on' (map E T) ≡ map F (farEnds s on T)
-    unfolding farEnds
+    pub far-ends-there : (T : List Edge) → far_ends s on' (map E T) ≡ map F (far_ends s on T)
+    unfolding far_ends
     far-ends-there T =
         ap (λ (l : List Edge). map (far on') (those (λ e. eqb (long s e) (shortest s on' (map E T))) l)) (those-ahead T)
         ∙ ap (map (far on')) (those-there E (λ e. eqb (long s e) (shortest s on T)) (λ e. eqb (long s e) (shortest s on' (map E T)))

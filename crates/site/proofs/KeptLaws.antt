@@ -3,8 +3,8 @@
 use mathlib.Core.Path.{sym}
 use lib.IntN.{ℤ}
 use Rattle.plane.specs.Place.{before}
-use Rattle.graph.specs.Spanning.{verticesOf}
-use Rattle.site.specs.Shift.{shiftNet}
+use Rattle.graph.specs.Spanning.{vertices_of}
+use Rattle.site.specs.Shift.{shift_net}
 use Rattle.site.specs.Kept.{tie, table, Kept}
 use Rattle.site.proofs.ShiftLaws.{before-there}
 use Rattle.site.proofs.NetShift.{trees-shifted, stays_same}
@@ -16,6 +16,6 @@ kept dx dy = record {
   ties = before-there dx dy;
   lengths = distance-there dx dy;
   tables = λ net a b.
-      sym (trees-shifted dx dy net.weights net.pins (shiftNet dx dy net).pins net.macros (shiftNet dx dy net).macros
+      sym (trees-shifted dx dy net.weights net.pins (shift_net dx dy net).pins net.macros (shift_net dx dy net).macros
       (stays_same dx dy net) a b).vertices;
 }

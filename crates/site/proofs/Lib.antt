@@ -9,5 +9,4 @@ pub mod GridShift
 pub mod CheckShift
 pub mod DelayShift
 pub mod BestShift
-pub mod BoundShift
 pub mod WorkedSites

@@ -1,10 +1,11 @@
--- Searches and labels under a map that keeps their tests.
+-- Searches, sorting and labels under a map that keeps their tests.
 -- Assumes nothing.
 use mathlib.Core.Path.{◌≡◌, refl, sym, ap, ap₂, ◌∙◌}
 use mathlib.Core.Bool.{Bool, true, false, ◌||◌}
 use mathlib.Core.List.{List, [], ◌∷◌, map}
-use Rattle.lists.specs.Any.{any, anyTwo}
+use Rattle.lists.specs.Any.{any, any_two}
 use Rattle.lists.specs.Those.{those}
+use Rattle.lists.specs.Sorted.{put, sorted}
 use Rattle.lists.proofs.TestLaws.{by}
 use Rattle.lists.proofs.ThoseLaws.{those-hit, those-miss}
 use Rattle.joined.specs.Labels.{equal, renamed, merge, labels}
@@ -16,8 +17,8 @@ module _ {A B : Type 0} (f : A → B) where
   any-there p q k (x ∷ l) = ap₂ ◌||◌ (k x) (any-there p q k l)
 
   pub two-there : (p : A → A → Bool) (q : B → B → Bool) → ((x y : A) → q (f x) (f y) ≡ p x y) → (l : List A) →
-      anyTwo q (map f l) ≡ anyTwo p l
-  unfolding anyTwo
+      any_two q (map f l) ≡ any_two p l
+  unfolding any_two
   two-there p q k [] = refl
   two-there p q k (x ∷ l) = ap₂ ◌||◌ (any-there (p x) (q (f x)) (k x) l) (two-there p q k l)
 
@@ -29,6 +30,24 @@ module _ {A B : Type 0} (f : A → B) where
       (λ e. those-hit q (f x) (map f l) (k x ∙ e) ∙ ap (λ (r : List B). f x ∷ r) (those-there p q k l)
       ∙ ap (map f) (sym (those-hit p x l e)))
       (λ e. those-miss q (f x) (map f l) (k x ∙ e) ∙ those-there p q k l ∙ ap (map f) (sym (those-miss p x l e)))
+
+  module _ (p : A → A → Bool) (q : B → B → Bool) (k : (x y : A) → q (f x) (f y) ≡ p x y) where
+    pub put-there : (a : A) (l : List A) → put q (f a) (map f l) ≡ map f (put p a l)
+    unfolding put
+    put-there a [] = refl
+    put-there a (b ∷ l) =
+        by (p a b) (λ e. let u : q (f a) (f b) ≡ true = k a b ∙ e in rw (put, u, e) refl) λ e.
+        let u : q (f a) (f b) ≡ false = k a b ∙ e in
+        by (p b a)
+        (λ g.
+        let v : q (f b) (f a) ≡ true = k b a ∙ g in
+        rw (put, u, v, e, g) (ap (λ (r : List B). f b ∷ r) (put-there a l)))
+        (λ g. let v : q (f b) (f a) ≡ false = k b a ∙ g in rw (put, u, v, e, g) refl)
+
+    pub sorted-there : (l : List A) → sorted q (map f l) ≡ map f (sorted p l)
+    unfolding sorted
+    sorted-there [] = refl
+    sorted-there (a ∷ l) = ap (put q (f a)) (sorted-there l) ∙ put-there a (sorted p l)
 
 -- Labels, where different points stay different
 module _ {A B : Type 0} (same : Discrete A) (alike : Discrete B) (f : A → B) (only : (x y : A) → f x ≡ f y → x ≡ y) where

@@ -17,19 +17,19 @@ use Rattle.plane.specs.Place.{place}
 use Rattle.plane.specs.Macro.{macro, clear}
 use Rattle.net.specs.Net.{Net}
 use Rattle.net.specs.Allowed.{Allowed}
-use Rattle.graph.specs.Spanning.{verticesOf, spanning}
+use Rattle.graph.specs.Spanning.{vertices_of, spanning}
 use Rattle.refiner.specs.Refined.{refined}
-use Rattle.union.specs.Union.{unionOf}
-use Rattle.tree.specs.Edges.{treeEdges}
-use Rattle.refined.specs.Ground.{groundOf}
+use Rattle.union.specs.Union.{union_of}
+use Rattle.tree.specs.Edges.{tree_edges}
+use Rattle.refined.specs.Ground.{ground_of}
 use Rattle.rules.specs.Edges.{Edge}
 use Rattle.rules.specs.Spanning.{CornerOf, Vertex, Quadrant, first, second, third, fourth, Lies}
 use Rattle.rules.specs.Trees.{Equal}
-use Rattle.rules.proofs.TerminalOurs.{ourPaths}
-use Rattle.rules.proofs.TreesOrder.{netBy, SameNet}
+use Rattle.rules.proofs.TerminalOurs.{our_paths}
+use Rattle.rules.proofs.TreesOrder.{net_by, SameNet}
 use Rattle.rules.proofs.TreesOurs.{trees-ours, trees-only}
-use Rattle.rules.specs.Moved.{movedEdge, movedPath}
-use Rattle.site.specs.Shift.{shift, shiftMacro, shiftNet}
+use Rattle.rules.specs.Moved.{moved_edge, moved_path}
+use Rattle.site.specs.Shift.{shift, shift_macro, shift_net}
 use Rattle.site.proofs.ShiftLaws.{lt-there, le-there, add-neg, neg-add, before-there, cost-there, middle-place-there, clear-there}
 use Rattle.rules.proofs.TreesMoved.{Moves}
 use Rattle.rules.proofs.RefinedMoved.{trees-there}
@@ -44,7 +44,7 @@ module _ (dx dy : ℤ) where
   pub shifted : (p : Place) → shift dx dy (unshift p) ≡ p
   shifted p = ap₂ place (neg-add dx p.x) (neg-add dy p.y)
 
-  pub macro-unshifted : (m : Macro) → shiftMacro (neg_ℤ dx) (neg_ℤ dy) (shiftMacro dx dy m) ≡ m
+  pub macro-unshifted : (m : Macro) → shift_macro (neg_ℤ dx) (neg_ℤ dy) (shift_macro dx dy m) ≡ m
   macro-unshifted m =
       ap₂ (λ (f : ℤ → ℤ → Macro) (p : ℤ × ℤ). f p.0 p.1)
       (ap₂ macro (add-neg dx m.left) (add-neg dy m.bottom))
@@ -59,33 +59,33 @@ module _ (dx dy : ℤ) where
   side-there : (d : ℤ) {v a b : ℤ} → (v ≡ a) ⊎ (v ≡ b) → (v +ℤ d ≡ a +ℤ d) ⊎ (v +ℤ d ≡ b +ℤ d)
   side-there d c = either (λ e. inl (ap (λ (z : ℤ). z +ℤ d) e)) (λ e. inr (ap (λ (z : ℤ). z +ℤ d) e)) c
 
-  corner-there : (m : Macro) (v : Place) → CornerOf m v → CornerOf (shiftMacro dx dy m) (shift dx dy v)
+  corner-there : (m : Macro) (v : Place) → CornerOf m v → CornerOf (shift_macro dx dy m) (shift dx dy v)
   corner-there m v c = (side-there dx c.0, side-there dy c.1)
 
-abbrev pub refinedEdges : Net → List Edge
-refinedEdges net = treeEdges (refined net (groundOf net) (unionOf net))
+abbrev pub refined_edges : Net → List Edge
+refined_edges net = tree_edges (refined net (ground_of net) (union_of net))
 
 -- A net, and another with the entries of the shifted one in whatever order
 module _ (dx dy : ℤ) (W : Weights) (ps qs : List Place) (ms ns : List Macro)
-    (h : SameNet W (map (shift dx dy) ps) qs (map (shiftMacro dx dy) ms) ns) where
-  vertex-there : (v : Place) → Vertex (netBy W ps ms) v → Vertex (netBy W qs ns) (shift dx dy v)
+    (h : SameNet W (map (shift dx dy) ps) qs (map (shift_macro dx dy) ms) ns) where
+  vertex-there : (v : Place) → Vertex (net_by W ps ms) v → Vertex (net_by W qs ns) (shift dx dy v)
   vertex-there v (inl i) = inl (h.to (shift dx dy v) (in_map (shift dx dy) i))
   vertex-there v (inr (m, (i, c))) =
-      inr (shiftMacro dx dy m, (h.macros-to (shiftMacro dx dy m) (in_map (shiftMacro dx dy) i), corner-there dx dy m v c))
+      inr (shift_macro dx dy m, (h.macros-to (shift_macro dx dy m) (in_map (shift_macro dx dy) i), corner-there dx dy m v c))
 
   pin-back : (v : Place) → v ∈ qs → unshift dx dy v ∈ ps
   pin-back v i =
       let s = of_map (shift dx dy) ps (h.from v i) in Memᴰ.cast (ap (unshift dx dy) s.is ∙ unshifted dx dy s.entry) s.stands
 
-  vertex-back : (v : Place) → Vertex (netBy W qs ns) v → Vertex (netBy W ps ms) (unshift dx dy v)
+  vertex-back : (v : Place) → Vertex (net_by W qs ns) v → Vertex (net_by W ps ms) (unshift dx dy v)
   vertex-back v (inl i) = inl (pin-back v i)
   vertex-back v (inr (m, (i, c))) =
-      let s = of_map (shiftMacro dx dy) ms (h.macros-from m i) in
-      let e : shiftMacro (neg_ℤ dx) (neg_ℤ dy) m ≡ s.entry
-      = ap (shiftMacro (neg_ℤ dx) (neg_ℤ dy)) s.is ∙ macro-unshifted dx dy s.entry in
+      let s = of_map (shift_macro dx dy) ms (h.macros-from m i) in
+      let e : shift_macro (neg_ℤ dx) (neg_ℤ dy) m ≡ s.entry
+      = ap (shift_macro (neg_ℤ dx) (neg_ℤ dy)) s.is ∙ macro-unshifted dx dy s.entry in
       inr (s.entry, (s.stands, subst (λ (z : Macro). CornerOf z (unshift dx dy v)) e (corner-there (neg_ℤ dx) (neg_ℤ dy) m v c)))
 
-  pub moves-with : Moves (shift dx dy) (unshift dx dy) (netBy W ps ms) (netBy W qs ns)
+  pub moves-with : Moves (shift dx dy) (unshift dx dy) (net_by W ps ms) (net_by W qs ns)
   moves-with = record {
     to = record {
       undone = unshifted dx dy;
@@ -106,7 +106,7 @@ module _ (dx dy : ℤ) (W : Weights) (ps qs : List Place) (ms ns : List Macro)
       clears =
           λ x y.
           sym (clear-there dx dy (unshift dx dy x) (unshift dx dy y) ms)
-          ∙ ap₂ (λ (p q : Place). clear p q (map (shiftMacro dx dy) ms)) (shifted dx dy x) (shifted dx dy y)
+          ∙ ap₂ (λ (p q : Place). clear p q (map (shift_macro dx dy) ms)) (shifted dx dy x) (shifted dx dy y)
           ∙ h.clears x y;
       pin = pin-back;
       vertex = vertex-back;
@@ -115,16 +115,16 @@ module _ (dx dy : ℤ) (W : Weights) (ps qs : List Place) (ms ns : List Macro)
   }
 
   -- so the trees that are given for it are those of the net, shifted
-  pub trees-shifted : (a : Allowed (netBy W ps ms)) (b : Allowed (netBy W qs ns)) →
-      Equal (map (shift dx dy) (verticesOf (netBy W ps ms))) (verticesOf (netBy W qs ns))
-      (map (movedEdge (shift dx dy)) (spanning (netBy W ps ms))) (spanning (netBy W qs ns))
-      (map (movedPath (shift dx dy)) (ourPaths a)) (ourPaths b)
-      (map (movedEdge (shift dx dy)) (refinedEdges (netBy W ps ms))) (refinedEdges (netBy W qs ns))
+  pub trees-shifted : (a : Allowed (net_by W ps ms)) (b : Allowed (net_by W qs ns)) →
+      Equal (map (shift dx dy) (vertices_of (net_by W ps ms))) (vertices_of (net_by W qs ns))
+      (map (moved_edge (shift dx dy)) (spanning (net_by W ps ms))) (spanning (net_by W qs ns))
+      (map (moved_path (shift dx dy)) (our_paths a)) (our_paths b)
+      (map (moved_edge (shift dx dy)) (refined_edges (net_by W ps ms))) (refined_edges (net_by W qs ns))
   trees-shifted a b = trees-only b (trees-there moves-with (trees-ours a))
 
 -- the shifted net itself
-pub stays_same : (dx dy : ℤ) (net : Net) → SameNet net.weights (map (shift dx dy) net.pins) (shiftNet dx dy net).pins
-    (map (shiftMacro dx dy) net.macros) (shiftNet dx dy net).macros
+pub stays_same : (dx dy : ℤ) (net : Net) → SameNet net.weights (map (shift dx dy) net.pins) (shift_net dx dy net).pins
+    (map (shift_macro dx dy) net.macros) (shift_net dx dy net).macros
 stays_same dx dy net = record {
   to = λ x i. i;
   from = λ x i. i;
@@ -134,6 +134,6 @@ stays_same dx dy net = record {
   clears = λ x y. refl;
 }
 
-pub moves : (dx dy : ℤ) (net : Net) → Moves (shift dx dy) (unshift dx dy) net (shiftNet dx dy net)
+pub moves : (dx dy : ℤ) (net : Net) → Moves (shift dx dy) (unshift dx dy) net (shift_net dx dy net)
 moves dx dy net =
-    moves-with dx dy net.weights net.pins (shiftNet dx dy net).pins net.macros (shiftNet dx dy net).macros (stays_same dx dy net)
+    moves-with dx dy net.weights net.pins (shift_net dx dy net).pins net.macros (shift_net dx dy net).macros (stays_same dx dy net)

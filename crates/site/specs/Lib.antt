@@ -1,6 +1,6 @@
 -- The same net on every site: a net of whole entries, in range, moved by a fixed amount in x and in y.
 --
---   Shift    shift, shiftEntry, shiftMacro, shiftNet    a place, a pin with its load, a macro and a net, moved
+--   Shift    shift, shift_entry, shift_macro, shift_net    a place, a pin with its load, a macro and a net, moved
 --   Sites    OnDie pins macros                          whole entries, in range
 --            Shifted dx dy pins pins' macros macros'    both are on the die, and the second are the first moved, in any order
 --   Kept     tie, table, Kept                           what settles ties and what the trees start from, and that a shift keeps it
@@ -11,7 +11,6 @@
 --   SlidShift    slid-there       the slid tree
 --   TreeShift    wires-there, metal-there, verdict-there    wires, metal, and what is said of a bought-in tree
 --   GridShift    square-there     distances on the grid;  BestShift: best-there, what a best tree costs
---   BoundShift   bound-there      the lower bound
 --   DelayShift   marks-there      delays
 --   CheckShift   check-there      the check
 pub mod Shift

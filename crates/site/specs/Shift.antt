@@ -11,11 +11,11 @@ module _ (dx dy : ℤ) where
   shift p = place (p.x +ℤ dx) (p.y +ℤ dy)
 
   -- a pin with its load, which stays
-  abbrev pub shiftEntry : Place × ℤ → Place × ℤ
-  shiftEntry e = (shift e.0, e.1)
+  abbrev pub shift_entry : Place × ℤ → Place × ℤ
+  shift_entry e = (shift e.0, e.1)
 
-  abbrev pub shiftMacro : Macro → Macro
-  shiftMacro m = macro (m.left +ℤ dx) (m.bottom +ℤ dy) (m.right +ℤ dx) (m.top +ℤ dy)
+  abbrev pub shift_macro : Macro → Macro
+  shift_macro m = macro (m.left +ℤ dx) (m.bottom +ℤ dy) (m.right +ℤ dx) (m.top +ℤ dy)
 
-  abbrev pub shiftNet : Net → Net
-  shiftNet net = record { pins = map shift net.pins; macros = map shiftMacro net.macros; weights = net.weights }
+  abbrev pub shift_net : Net → Net
+  shift_net net = record { pins = map shift net.pins; macros = map shift_macro net.macros; weights = net.weights }

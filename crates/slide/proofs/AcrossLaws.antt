@@ -11,9 +11,9 @@ use lib.IntN.{ℤ, pos, ◌+ℤ◌, ◌-ℤ◌}
 use lib.Signed.{le_z, lt_z}
 use Rattle.lists.proofs.TestLaws.{by, differ, either}
 use Rattle.signed.specs.Sides.{up, down, Lt, Le}
-use Rattle.signed.specs.Order.{eqZ}
+use Rattle.signed.specs.Order.{z_eq}
 use Rattle.signed.proofs.SideLaws.{add-sides, sub-sides, up_pos, down_pos, eq_of, signed}
-use Rattle.signed.proofs.OrderLaws.{min-sides, max-sides, eqZ-true, eqZ-refl}
+use Rattle.signed.proofs.OrderLaws.{min-sides, max-sides, z_eq-true, z_eq-refl}
 use Rattle.plane.specs.declared.Place.{Place}
 use Rattle.plane.specs.Place.{place, before}
 use Rattle.plane.specs.Distance.{apart}
@@ -21,10 +21,10 @@ use Rattle.plane.specs.Cost.{cost}
 use Rattle.plane.specs.Box.{Between, InBox}
 use Rattle.plane.proofs.DistanceLaws.{apart-sides}
 use Rattle.plane.proofs.PlaceLaws.{before-by-x, before-by-y}
-use Rattle.net.specs.Net.{Net, costIn}
+use Rattle.net.specs.Net.{Net, cost_in}
 use Rattle.slide.specs.declared.Side.{Side}
 use Rattle.slide.specs.declared.Side.TheVariants.{Above, Below, Right, Left}
-use Rattle.slide.specs.Side.{along, across, moved, weight, weightAlong}
+use Rattle.slide.specs.Side.{along, across, moved, weight, weight_along}
 use Rattle.slide.specs.Bend.{Edge, straight}
 use Rattle.slide.specs.Bar.{level}
 
@@ -108,14 +108,14 @@ in-box Left c a b h k l m =
 
 -- the only place above `plane` where cost is taken apart: a bar's saving is of one axis
 cost-axes : (net : Net) (a b : Place) →
-    costIn net a b ≡ net.weights.across * apart a.x b.x + net.weights.along * apart a.y b.y
+    cost_in net a b ≡ net.weights.across * apart a.x b.x + net.weights.along * apart a.y b.y
 unfolding cost
 cost-axes net a b =
     ap₂ ◌+◌ (mul_comm (apart a.x b.x) net.weights.across) (mul_comm (apart a.y b.y) net.weights.along)
 
 pub cost-by : (net : Net) (s : Side) (a b : Place) →
-    costIn net a b ≡ weightAlong net s * apart (along s a) (along s b) + weight net s * apart (across s a) (across s b)
-unfolding along across weight weightAlong
+    cost_in net a b ≡ weight_along net s * apart (along s a) (along s b) + weight net s * apart (across s a) (across s b)
+unfolding along across weight weight_along
 cost-by net Above a b = cost-axes net a b
 cost-by net Below a b = rw (turned_apart a.y b.y) (cost-axes net a b)
 cost-by net Right a b = omega (arith, cost-axes net a b)
@@ -140,14 +140,14 @@ level-line Left a b e = inl (turned-eq a.x b.x e)
 
 pub line-straight : (a b : Place) → (a.x ≡ b.x) ⊎ (a.y ≡ b.y) → straight (a, b) ≡ true
 unfolding straight
-line-straight a b (inl e) = rw (ap (eqZ a.x) (sym e) ∙ eqZ-refl a.x) refl
+line-straight a b (inl e) = rw (ap (z_eq a.x) (sym e) ∙ z_eq-refl a.x) refl
 line-straight a b (inr e) =
-    by (eqZ a.x b.x) (λ h. rw h refl) (λ h. rw (h, ap (eqZ a.y) (sym e) ∙ eqZ-refl a.y) refl)
+    by (z_eq a.x b.x) (λ h. rw h refl) (λ h. rw (h, ap (z_eq a.y) (sym e) ∙ z_eq-refl a.y) refl)
 
 pub straight_line : (a b : Place) → straight (a, b) ≡ true → (a.x ≡ b.x) ⊎ (a.y ≡ b.y)
 unfolding straight
 straight_line a b h =
-    by (eqZ a.x b.x) (λ e. inl (eqZ-true _ _ e)) (λ e. inr (eqZ-true a.y b.y (rw e at h)))
+    by (z_eq a.x b.x) (λ e. inl (z_eq-true _ _ e)) (λ e. inr (z_eq-true a.y b.y (rw e at h)))
 
 -- an axis-parallel edge is at right angles to a bar or level
 pub upright-or-level : (s : Side) (a b : Place) → straight (a, b) ≡ true → (along s a ≡ along s b) ⊎ (across s a ≡ across s b)
@@ -159,15 +159,15 @@ upright-or-level Left a b h = either (λ e. inr (ap (λ (z : ℤ). pos 0 -ℤ z)
 
 pub level-true : (s : Side) (a b : Place) → level s (a, b) ≡ true → across s a ≡ across s b
 unfolding level
-level-true s a b h = eqZ-true _ _ h
+level-true s a b h = z_eq-true _ _ h
 
 pub true-level : (s : Side) (a b : Place) → across s a ≡ across s b → level s (a, b) ≡ true
 unfolding level
-true-level s a b e = ap (eqZ (across s a)) (sym e) ∙ eqZ-refl (across s a)
+true-level s a b e = ap (z_eq (across s a)) (sym e) ∙ z_eq-refl (across s a)
 
 -- There and back
 
-unfoldable pub opposite : Side → Side
+pub opposite : Side → Side
 opposite Above = Below
 opposite Below = Above
 opposite Right = Left

@@ -20,12 +20,12 @@ use Rattle.lists.proofs.AnyLaws.{any_none}
 use Rattle.lists.proofs.MapLaws.{in_map, of_map}
 use Rattle.lists.proofs.ThoseLaws.{in-those, of-those}
 use Rattle.signed.specs.Sides.{up, down, Lt, Le}
-use Rattle.signed.specs.Order.{minZ, maxZ}
-use Rattle.signed.proofs.SideLaws.{ltZ-true, ltZ-false, lt-ltZ, le-leZ, eq_of, signed}
+use Rattle.signed.specs.Order.{z_min, z_max}
+use Rattle.signed.proofs.SideLaws.{z_lt-true, z_lt-false, lt-z_lt, le-z_le, eq_of, signed}
 use Rattle.signed.proofs.OrderLaws.{min-sides, max-sides, min_self, max_self}
 use Rattle.plane.specs.declared.Place.{Place}
 use Rattle.plane.specs.declared.Macro.{Macro}
-use Rattle.plane.specs.Place.{before, samePlace}
+use Rattle.plane.specs.Place.{before, same_place}
 use Rattle.plane.specs.Distance.{apart}
 use Rattle.plane.specs.Macro.{clear}
 use Rattle.plane.specs.Box.{Between, InBox}
@@ -40,8 +40,8 @@ use Rattle.net.specs.Net.{Net}
 use Rattle.slide.specs.declared.Side.{Side}
 use Rattle.slide.specs.Side.{along, across, moved}
 use Rattle.slide.specs.Bend.{Edge, straight, taken}
-use Rattle.slide.specs.Bar.{same, level, onBar, ahead, far, long, least, shortest, farEnds, first_of, last_of}
-use Rattle.slide.specs.Sweep.{lowCorner, highCorner, boxesMeet, firstPlace, lastPlace, swept, pointBars, edgeBars, allowed, greatest}
+use Rattle.slide.specs.Bar.{same, level, on_bar, ahead, far, long, least, shortest, far_ends, first_of, last_of}
+use Rattle.slide.specs.Sweep.{low_corner, high_corner, boxes_meet, first_place, last_place, swept, point_bars, edge_bars, allowed, greatest}
 use Rattle.slide.specs.Sweep.{reach}
 use Rattle.slide.specs.Bars.{IsBar, FarEnd, Allowed}
 use Rattle.slide.specs.Promise.{Straight}
@@ -50,22 +50,22 @@ use Rattle.slide.proofs.AcrossLaws.{along-moved, in-box, upright-or-level, level
 -- The bar of a point
 
 module _ (s : Side) (net : Net) (X : List Place) (T : List Edge) (a : Place) where
-  abbrev flatEdges : List Edge
-  flatEdges = those (level s) T
+  abbrev flat_edges : List Edge
+  flat_edges = those (level s) T
 
-  pub on-joined : (p : Place) → onBar s T a p ≡ true → Joined flatEdges a p
-  unfolding onBar
-  on-joined p e = same-joined (labelled same flatEdges) a p (equal-true same _ _ e)
+  pub on-joined : (p : Place) → on_bar s T a p ≡ true → Joined flat_edges a p
+  unfolding on_bar
+  on-joined p e = same-joined (labelled same flat_edges) a p (equal-true same _ _ e)
 
-  pub is-bar : Inside X T → a ∈ X → any (onBar s T a) net.pins ≡ false → IsBar s net X T (onBar s T a)
-  unfolding onBar
+  pub is-bar : Inside X T → a ∈ X → any (on_bar s T a) net.pins ≡ false → IsBar s net X T (on_bar s T a)
+  unfolding on_bar
   is-bar inside stands none = record {
     height = across s a;
     flat = λ p e. sym (constant (across s) (λ u v m. level-true s u v (of-those (level s) T m).1) (on-joined p e));
     inside = λ p e. joined-inside (λ u v m. inside u v (of-those (level s) T m).0) (on-joined p e) stands;
     closed = λ u v m e.
-        ap (equal same (labels same flatEdges a)) ((labelled same flatEdges).ends u v (in-those (level s) T m (true-level s u v e)));
-    free = λ p m. any_none (onBar s T a) net.pins none p m;
+        ap (equal same (labels same flat_edges a)) ((labelled same flat_edges).ends u v (in-those (level s) T m (true-level s u v e)));
+    free = λ p m. any_none (on_bar s T a) net.pins none p m;
   }
 
 -- The first and the last of some places
@@ -135,13 +135,13 @@ last-greatest a (q ∷ l) p m =
     (Memᴰ.cases_cons m)))
 
 -- a place in a box meets it
-span-holds : (q a b : ℤ) → Between q a b → le_z (maxZ (minZ q q) (minZ a b)) (minZ (maxZ q q) (maxZ a b)) ≡ true
+span-holds : (q a b : ℤ) → Between q a b → le_z (z_max (z_min q q) (z_min a b)) (z_min (z_max q q) (z_max a b)) ≡ true
 span-holds q a b h =
     rw (min_self q, max_self q)
-    (le-leZ (maxZ q (minZ a b)) (minZ q (maxZ a b)) (omega (signed, h.0, h.1, max-sides q (minZ a b), min-sides q (maxZ a b))))
+    (le-z_le (z_max q (z_min a b)) (z_min q (z_max a b)) (omega (signed, h.0, h.1, max-sides q (z_min a b), min-sides q (z_max a b))))
 
-pub box-holds : (q a b : Place) → InBox q a b → boxesMeet (q, q) (a, b) ≡ true
-unfolding boxesMeet lowCorner highCorner
+pub box-holds : (q a b : Place) → InBox q a b → boxes_meet (q, q) (a, b) ≡ true
+unfolding boxes_meet low_corner high_corner
 box-holds q a b i = and_both _ _ (span-holds q.x a.x b.x i.across) (span-holds q.y a.y b.y i.along)
 
 -- an entry that passes
@@ -170,7 +170,7 @@ module _ (s : Side) (on : Place → Bool) (T : List Edge) where
   ahead-link : (a b : Place) → on a ≡ true → Lt (across s a) (across s b) → (ahead s on (a, b) ≡ true) × (ahead s on (b, a) ≡ true)
   unfolding ahead
   ahead-link a b e h =
-      let k = lt-ltZ (across s a) (across s b) h in
+      let k = lt-z_lt (across s a) (across s b) h in
       (rw (e, k) refl, by (on b && lt_z (across s b) (across s a)) (λ g. rw (g) refl) (λ g. rw (g, e, k) refl))
 
   pub shortest-le : (e : Edge) → e ∈ T → ahead s on e ≡ true → shortest s on T ≤ long s e
@@ -200,12 +200,12 @@ module _ (s : Side) (on : Place → Bool) (T : List Edge) where
       (or_cases _ _ h)
     where
       away : (y z : ℤ) → y ≡ z → lt_z y z ≡ true → ⊥
-      away y z e k = let h = ltZ-true y z k in let u = ap up e in let v = ap down e in omega (arith, h)
+      away y z e k = let h = z_lt-true y z k in let u = ap up e in let v = ap down e in omega (arith, h)
 
-  pub far-end : Straight T → (q : Place) → taken (farEnds s on T) q ≡ true → FarEnd s T on q
-  unfolding taken farEnds far
+  pub far-end : Straight T → (q : Place) → taken (far_ends s on T) q ≡ true → FarEnd s T on q
+  unfolding taken far_ends far
   far-end lines q h =
-      let r = some (samePlace q) (farEnds s on T) h in
+      let r = some (same_place q) (far_ends s on T) h in
       let m = of_map (far on) (those (λ e. eqb (long s e) (shortest s on T)) (those (ahead s on) T)) r.1.0 in
       let e = m.entry in
       let i = of-those (ahead s on) T (of-those (λ e. eqb (long s e) (shortest s on T)) (those (ahead s on) T) m.stands).0 in
@@ -254,59 +254,59 @@ greatest-greatest ok (suc n) k h e =
 module _ {s : Side} {net : Net} {X : List Place} {T : List Edge} {on : Place → Bool} (c : IsBar s net X T on) (a : Place)
     (at_a : on a ≡ true) where
   abbrev F : Place
-  F = firstPlace s on X T a
+  F = first_place s on X T a
 
   abbrev L : Place
-  L = lastPlace s on X T a
+  L = last_place s on X T a
 
   -- a and the points of the bar
   bar-points : (p : Place) → p ∈ (a ∷ those on X) → on p ≡ true
   bar-points p m = either (λ k. rw k at_a) (λ i. (of-those on X i).1) (Memᴰ.cases_cons m)
 
   pub first_on : on F ≡ true
-  unfolding firstPlace
+  unfolding first_place
   first_on = bar-points F (first_one a (those on X))
 
-  pub last_on : on L ≡ true
-  unfolding lastPlace
-  last_on = bar-points L (last_one a (those on X))
+  pub last-on : on L ≡ true
+  unfolding last_place
+  last-on = bar-points L (last_one a (those on X))
 
   -- by the order of places on one line
   rises-along : (p q : Place) → on p ≡ true → on q ≡ true → before q p ≡ false → Le (along s p) (along s q)
   rises-along p q e f h =
       by (lt_z (along s q) (along s p))
-      (λ k. differ (before-along s q p (c.flat q f ∙ sym (c.flat p e)) (ltZ-true _ _ k)) h)
-      (λ k. ltZ-false (along s q) (along s p) k)
+      (λ k. differ (before-along s q p (c.flat q f ∙ sym (c.flat p e)) (z_lt-true _ _ k)) h)
+      (λ k. z_lt-false (along s q) (along s p) k)
 
   pub covered : (p : Place) → on p ≡ true → Le (along s F) (along s p) × Le (along s p) (along s L)
-  unfolding firstPlace lastPlace
+  unfolding first_place last_place
   covered p e =
       let m : p ∈ (a ∷ those on X) = there (in-those on X (c.inside p e) e) in
-      (rises-along F p first_on e (first-least a (those on X) p m), rises-along p L e last_on (last-greatest a (those on X) p m))
+      (rises-along F p first_on e (first-least a (those on X) p m), rises-along p L e last-on (last-greatest a (those on X) p m))
 
 -- A distance that passes the test
 
 module _ {s : Side} {net : Net} {X : List Place} {T : List Edge} {on : Place → Bool} (c : IsBar s net X T on) (lines : Straight T)
     (a : Place) (at_a : on a ≡ true) (d : ℕ) (short : d ≤ shortest s on T) (ok : allowed s on X T a net d ≡ true) where
   abbrev first : Place
-  first = firstPlace s on X T a
+  first = first_place s on X T a
 
   abbrev last : Place
-  last = lastPlace s on X T a
+  last = last_place s on X T a
 
-  no-point : (q : Place) → q ∈ X → on q ≡ false → InBox q first (moved s d last) → taken (farEnds s on T) q ≡ true
-  unfolding allowed pointBars swept
+  no-point : (q : Place) → q ∈ X → on q ≡ false → InBox q first (moved s d last) → taken (far_ends s on T) q ≡ true
+  unfolding allowed point_bars swept
   no-point q m e i =
       let rest = and_right (clear first (moved s d last) net.macros) _ ok in
-      let none = any_none (pointBars s on X T a d) X (not-true _ (and_left _ (not (any (edgeBars s on X T a d) T)) rest)) q m in
-      by (taken (farEnds s on T) q) (λ h. h)
+      let none = any_none (point_bars s on X T a d) X (not-true _ (and_left _ (not (any (edge_bars s on X T a d) T)) rest)) q m in
+      by (taken (far_ends s on T) q) (λ h. h)
       (λ h. differ (and_both _ _ (box-holds q first (moved s d last) i) (rw (e, h) refl)) none)
 
   pub is-allowed : Allowed s net X T on first last d
   unfolding allowed swept
   is-allowed = record {
     first_on = first_on c a at_a;
-    last_on = last_on c a at_a;
+    last-on = last-on c a at_a;
     covers = covered c a at_a;
     empty = and_left _ _ ok;
     meets = λ q m e h k i j. far-end s on T lines q

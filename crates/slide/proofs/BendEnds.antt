@@ -12,7 +12,7 @@ use Rattle.plane.specs.declared.Place.{Place}
 use Rattle.joined.specs.Joined.{Link, Alike, Inside}
 use Rattle.joined.proofs.JoinedLaws.{turn, firsts, seconds}
 use Rattle.graph.specs.Edges.{edge_of}
-use Rattle.slide.specs.Bend.{Edge, straight, xFirst, yFirst, taken, Bent, bent, given_back, kept, through, bends}
+use Rattle.slide.specs.Bend.{Edge, straight, x_first, y_first, taken, Bent, bent, given_back, kept, through, bends}
 use Rattle.slide.specs.Promise.{EndsPins}
 use Rattle.slide.proofs.BendLaws.{edge-has, not_taken}
 use Rattle.slide.proofs.AcrossLaws.{line-straight}
@@ -109,7 +109,7 @@ module _ (pins : List Place) where
       edge-has (λ f. (x, y) ≡ f → Alike x y a c) a c (λ k. inl (firsts k, seconds k)) (λ k. inr (firsts k, seconds k)) e
 
   -- one edge through its bend
-  module _ (X : List Place) (D T : List Edge) (e : Edge) (c : Place) (insideD : Inside X D) (insideT : Inside X (e ∷ T))
+  module _ (X : List Place) (D T : List Edge) (e : Edge) (c : Place) (inside_d : Inside X D) (inside_t : Inside X (e ∷ T))
       (slanted : straight e ≡ false) (new : c ∈ X → ⊥) where
     abbrev e1 : Edge
     e1 = edge_of e.0 c
@@ -118,7 +118,7 @@ module _ (pins : List Place) where
     e2 = edge_of c e.1
 
     inside : Inside X (D ++ (e ∷ T))
-    inside a b m = either (insideD a b) (insideT a b) (Memᴰ.append_cases D m)
+    inside a b m = either (inside_d a b) (inside_t a b) (Memᴰ.append_cases D m)
 
     apart : e.0 ≡ e.1 → ⊥
     apart k = differ (line-straight e.0 e.1 (inl (ap (λ (p : Place). p.x) k))) slanted
@@ -175,10 +175,10 @@ module _ (pins : List Place) where
       (keep-ending D e (bends X T)
       (all-ends X T (e ∷ D) (λ a b m. i a b (there m)) keeping
       (same_ends (more-links (D ++ (e ∷ T)) _ (to-head D T e)) (more-links _ (D ++ (e ∷ T)) (of-head D T e)) h))))
-      (λ s. by (taken X (xFirst e))
-      (λ t. by (taken X (yFirst e)) (λ u. rw (bends, s, t, u) tt) (λ u. rw (bends, s, t, u) (bend s (yFirst e) u
-      (all-ends (yFirst e ∷ X) T (edge_of (yFirst e) e.1 ∷ (edge_of e.0 (yFirst e) ∷ D))))))
-      (λ t. rw (bends, s, t) (bend s (xFirst e) t (all-ends (xFirst e ∷ X) T (edge_of (xFirst e) e.1 ∷ (edge_of e.0 (xFirst e) ∷ D))))))
+      (λ s. by (taken X (x_first e))
+      (λ t. by (taken X (y_first e)) (λ u. rw (bends, s, t, u) tt) (λ u. rw (bends, s, t, u) (bend s (y_first e) u
+      (all-ends (y_first e ∷ X) T (edge_of (y_first e) e.1 ∷ (edge_of e.0 (y_first e) ∷ D))))))
+      (λ t. rw (bends, s, t) (bend s (x_first e) t (all-ends (x_first e ∷ X) T (edge_of (x_first e) e.1 ∷ (edge_of e.0 (x_first e) ∷ D))))))
     where
       keeping : Inside X (e ∷ D)
       keeping a b m = either (λ k. i a b (here k)) (j a b) (Memᴰ.cases_cons m)

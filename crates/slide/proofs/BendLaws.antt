@@ -14,11 +14,11 @@ use Rattle.lists.specs.Member.{◌∈◌, here, there, Among, Once}
 use Rattle.lists.specs.Total.{total}
 use Rattle.lists.proofs.TestLaws.{by, differ, either}
 use Rattle.lists.proofs.AnyLaws.{any_none}
-use Rattle.signed.specs.Order.{eqZ}
-use Rattle.signed.proofs.OrderLaws.{eqZ-refl, eqZ-true, eqZ-comm}
+use Rattle.signed.specs.Order.{z_eq}
+use Rattle.signed.proofs.OrderLaws.{z_eq-refl, z_eq-true, z_eq-comm}
 use Rattle.plane.specs.declared.Place.{Place}
 use Rattle.plane.specs.declared.Macro.{Macro}
-use Rattle.plane.specs.Place.{before, samePlace}
+use Rattle.plane.specs.Place.{before, same_place}
 use Rattle.plane.specs.Macro.{clear}
 use Rattle.plane.specs.Box.{InBox}
 use Rattle.plane.proofs.PlaceLaws.{same_refl}
@@ -27,10 +27,10 @@ use Rattle.plane.proofs.BoxLaws.{first-in-box, last-in-box, clear_within}
 use Rattle.joined.specs.Joined.{Link, Joined, stay, Inside}
 use Rattle.joined.specs.Tree.{TreeOn}
 use Rattle.joined.specs.Cost.{lengths}
-use Rattle.joined.proofs.JoinedLaws.{one, then, back, between, older, through as carriedOver, firsts, seconds}
+use Rattle.joined.proofs.JoinedLaws.{one, then, back, between, older, through as carried_over, firsts, seconds}
 use Rattle.graph.specs.Edges.{edge_of}
-use Rattle.net.specs.Net.{Net, costIn}
-use Rattle.slide.specs.Bend.{Edge, straight, xFirst, yFirst, taken, Bent, bent, given_back, kept, through, bends}
+use Rattle.net.specs.Net.{Net, cost_in}
+use Rattle.slide.specs.Bend.{Edge, straight, x_first, y_first, taken, Bent, bent, given_back, kept, through, bends}
 use Rattle.slide.specs.Promise.{Clear, Straight}
 use Rattle.plane.proofs.CostLaws.{cost-comm, cost-through}
 
@@ -41,7 +41,7 @@ edge-is a b = by (before a b) (λ e. inl (rw (edge_of, e) refl)) (λ e. inr (rw 
 
 pub straight-comm : (a b : Place) → straight (a, b) ≡ straight (b, a)
 unfolding straight
-straight-comm a b = rw (eqZ-comm a.x b.x, eqZ-comm a.y b.y) refl
+straight-comm a b = rw (z_eq-comm a.x b.x, z_eq-comm a.y b.y) refl
 
 -- what does not depend on which end is named first holds of an edge as it is written
 pub edge-has {ℓ} : (P : Edge → Type ℓ) (a b : Place) → P (a, b) → P (b, a) → P (edge_of a b)
@@ -49,7 +49,7 @@ edge-has P a b h k = either (λ e. rw e h) (λ e. rw e k) (edge-is a b)
 
 -- c is a corner of the box of a and b: on a's row and b's column, or on a's column and b's row
 pub record Corner (a b c : Place) : Type 0 where
-  pub inBox : InBox c a b
+  pub in_box : InBox c a b
   pub first : straight (a, c) ≡ true
   pub second : straight (c, b) ≡ true
 
@@ -60,26 +60,26 @@ or_right : (p q : Bool) → q ≡ true → (p || q) ≡ true
 or_right true q e = refl
 or_right false q e = e
 
-pub x-corner : (e : Edge) → Corner e.0 e.1 (xFirst e)
-unfolding straight xFirst
+pub x-corner : (e : Edge) → Corner e.0 e.1 (x_first e)
+unfolding straight x_first
 x-corner e = record {
-  inBox = record { across = (last-in-box e.0 e.1).across; along = (first-in-box e.0 e.1).along };
-  first = or_right (eqZ e.0.x e.1.x) _ (eqZ-refl e.0.y);
-  second = or_left _ (eqZ e.0.y e.1.y) (eqZ-refl e.1.x);
+  in_box = record { across = (last-in-box e.0 e.1).across; along = (first-in-box e.0 e.1).along };
+  first = or_right (z_eq e.0.x e.1.x) _ (z_eq-refl e.0.y);
+  second = or_left _ (z_eq e.0.y e.1.y) (z_eq-refl e.1.x);
 }
 
-pub y-corner : (e : Edge) → Corner e.0 e.1 (yFirst e)
-unfolding straight yFirst
+pub y-corner : (e : Edge) → Corner e.0 e.1 (y_first e)
+unfolding straight y_first
 y-corner e = record {
-  inBox = record { across = (first-in-box e.0 e.1).across; along = (last-in-box e.0 e.1).along };
-  first = or_left _ (eqZ e.0.y e.1.y) (eqZ-refl e.0.x);
-  second = or_right (eqZ e.0.x e.1.x) _ (eqZ-refl e.1.y);
+  in_box = record { across = (first-in-box e.0 e.1).across; along = (last-in-box e.0 e.1).along };
+  first = or_left _ (z_eq e.0.y e.1.y) (z_eq-refl e.0.x);
+  second = or_right (z_eq e.0.x e.1.x) _ (z_eq-refl e.1.y);
 }
 
 -- a place that is not taken is none of the points
 pub not_taken : (X : List Place) (c : Place) → taken X c ≡ false → c ∈ X → ⊥
 unfolding taken
-not_taken X c e m = differ (same_refl c) (any_none (samePlace c) X e c m)
+not_taken X c e m = differ (same_refl c) (any_none (same_place c) X e c m)
 
 module _ (net : Net) where
   -- what bends do to the points X and the edges T
@@ -93,7 +93,7 @@ module _ (net : Net) where
     pub hangs : (y : Place) → y ∈ Y → (x : Place) × ((x ∈ X) × Joined U y x)
     pub free : Clear net.macros T → Clear net.macros U
     pub straight : Straight U
-    pub costs : lengths (costIn net) U ≡ lengths (costIn net) T
+    pub costs : lengths (cost_in net) U ≡ lengths (cost_in net) T
 
   -- an edge that is kept
   keep-edge : (X : List Place) (T : List Edge) (Y : List Place) (U : List Edge) (e : Edge) →
@@ -133,8 +133,8 @@ module _ (net : Net) where
         (Memᴰ.cases_cons h.1.0);
     free = λ t x y m.
         let h = t e.0 e.1 (here refl) in
-        let ac = clear_within e.0 c e.0 e.1 (first-in-box e.0 e.1) q.inBox net.macros h in
-        let cb = clear_within c e.1 e.0 e.1 q.inBox (last-in-box e.0 e.1) net.macros h in
+        let ac = clear_within e.0 c e.0 e.1 (first-in-box e.0 e.1) q.in_box net.macros h in
+        let cb = clear_within c e.1 e.0 e.1 q.in_box (last-in-box e.0 e.1) net.macros h in
         both (λ f. clear f.0 f.1 net.macros ≡ true) ac (clear_comm c e.0 net.macros ∙ ac) cb
         (clear_comm e.1 c net.macros ∙ cb)
         (r.free (λ u v l. t u v (there l))) x y m;
@@ -142,14 +142,14 @@ module _ (net : Net) where
         both (λ f. straight f ≡ true) q.first (straight-comm c e.0 ∙ q.first) q.second (straight-comm e.1 c ∙ q.second)
         r.straight x y m;
     costs =
-        let d = costIn net in
+        let d = cost_in net in
         let ac : d (edge_of e.0 c).0 (edge_of e.0 c).1 ≡ d c e.0 =
         edge-has (λ f. d f.0 f.1 ≡ d c e.0) e.0 c (cost-comm net.weights e.0 c) refl
         in
         let cb : d (edge_of c e.1).0 (edge_of c e.1).1 ≡ d c e.1 =
         edge-has (λ f. d f.0 f.1 ≡ d c e.1) c e.1 refl (cost-comm net.weights e.1 c)
         in
-        omega (arith, ac, cb, cost-through net.weights c e.0 e.1 q.inBox, r.costs);
+        omega (arith, ac, cb, cost-through net.weights c e.0 e.1 q.in_box, r.costs);
   }
     where
       a_in : e.0 ∈ Y
@@ -213,13 +213,13 @@ module _ (net : Net) where
       let later : Inside X T = λ a b m. i a b (there m) in
       let wider : (c : Place) → Inside (c ∷ X) T = λ c a b m. let h = later a b m in (there h.0, there h.1) in
       by (straight e) (λ s. rw (bends, s) (keeping X T e (bends X T) s i (all-bends X T later)))
-      (λ s. by (taken X (xFirst e))
-      (λ t. by (taken X (yFirst e))
+      (λ s. by (taken X (x_first e))
+      (λ t. by (taken X (y_first e))
       (λ u. rw (bends, s, t, u) tt)
-      (λ u. rw (bends, s, t, u) (bending X T e (yFirst e) (bends (yFirst e ∷ X) T) (y-corner e) u i
-      (all-bends (yFirst e ∷ X) T (wider (yFirst e))))))
-      (λ t. rw (bends, s, t) (bending X T e (xFirst e) (bends (xFirst e ∷ X) T) (x-corner e) t i
-      (all-bends (xFirst e ∷ X) T (wider (xFirst e))))))
+      (λ u. rw (bends, s, t, u) (bending X T e (y_first e) (bends (y_first e ∷ X) T) (y-corner e) u i
+      (all-bends (y_first e ∷ X) T (wider (y_first e))))))
+      (λ t. rw (bends, s, t) (bending X T e (x_first e) (bends (x_first e ∷ X) T) (x-corner e) t i
+      (all-bends (x_first e ∷ X) T (wider (x_first e))))))
 
   pub bends-do : (X : List Place) (T : List Edge) (Y : List Place) (U : List Edge) → Inside X T → bends X T ≡ bent Y U → Bends X T Y U
   bends-do X T Y U i e = rw e at (all-bends X T i)
@@ -232,7 +232,7 @@ module _ (net : Net) where
       joins = λ x y i k.
           let g = r.hangs x i in
           let h = r.hangs y k in
-          then g.1.1 (then (carriedOver r.over (t.joins g.0 h.0 g.1.0 h.1.0)) (back h.1.1));
+          then g.1.1 (then (carried_over r.over (t.joins g.0 h.0 g.1.0 h.1.0)) (back h.1.1));
       size = omega (arith, r.count, t.size);
     }
 
@@ -261,10 +261,10 @@ module _ (P : Edge → Type 0) (split : (e : Edge) (c : Place) → straight e �
       let p = h e (here refl) in
       let later : (f : Edge) → f ∈ T → P f = λ f m. h f (there m) in
       by (straight e) (λ s. rw (bends, s) (keep-each e (bends X T) p (all-each X T later)))
-      (λ s. by (taken X (xFirst e))
-      (λ t. by (taken X (yFirst e)) (λ u. rw (bends, s, t, u) tt)
-      (λ u. rw (bends, s, t, u) (split-each e (yFirst e) _ s (y-corner e) p (all-each (yFirst e ∷ X) T later))))
-      (λ t. rw (bends, s, t) (split-each e (xFirst e) _ s (x-corner e) p (all-each (xFirst e ∷ X) T later))))
+      (λ s. by (taken X (x_first e))
+      (λ t. by (taken X (y_first e)) (λ u. rw (bends, s, t, u) tt)
+      (λ u. rw (bends, s, t, u) (split-each e (y_first e) _ s (y-corner e) p (all-each (y_first e ∷ X) T later))))
+      (λ t. rw (bends, s, t) (split-each e (x_first e) _ s (x-corner e) p (all-each (x_first e ∷ X) T later))))
 
   pub each-bent : (X : List Place) (T : List Edge) (Y : List Place) (U : List Edge) → bends X T ≡ bent Y U →
       ((e : Edge) → e ∈ T → P e) → (e : Edge) → e ∈ U → P e

@@ -10,7 +10,7 @@ use native.Mathlib.Omega.{arith}
 use borrow.Author.Tests.{ltb-true, ltb-false}
 use lib.Dec.{ltb}
 use Rattle.lists.specs.Member.{◌∈◌, here, there}
-use Rattle.lists.specs.Sorted.{Order, firstThen}
+use Rattle.lists.specs.Sorted.{Order, first_then}
 use Rattle.lists.proofs.TestLaws.{by, differ, either}
 use Rattle.lists.proofs.OrderLaws.{number-order, pair-order}
 use Rattle.plane.specs.declared.Place.{Place}
@@ -23,7 +23,7 @@ use Rattle.slide.specs.declared.Side.TheVariants.{Above, Below, Right, Left}
 use Rattle.slide.specs.Side.{horizontal}
 use Rattle.slide.specs.Bend.{Edge}
 use Rattle.slide.specs.declared.Move.{Move}
-use Rattle.slide.specs.Slide.{move_of, moves_of, greater, flatter, rank, better, bestOf, choice}
+use Rattle.slide.specs.Slide.{move_of, moves_of, greater, flatter, rank, better, best_of, choice}
 
 greater-order : Order greater
 greater-order = record {
@@ -50,8 +50,8 @@ flatter-order = record { never = never; along = along; tie = tie }
     tie false true e f = differ refl f
     tie false false e f = refl
 
-pub rank-order : Order (firstThen greater (firstThen before flatter))
-rank-order = pair-order greater (firstThen before flatter) greater-order (pair-order before flatter place-order flatter-order)
+rank-order : Order (first_then greater (first_then before flatter))
+rank-order = pair-order greater (first_then before flatter) greater-order (pair-order before flatter place-order flatter-order)
 
 -- not better and not better is not better
 no-better : (k m n : Move) → better k m ≡ false → better m n ≡ false → better k n ≡ false
@@ -60,7 +60,7 @@ no-better k m n h g =
     by (better k n)
     (λ e. by (better n m)
     (λ f. differ (rank-order.along (rank k) (rank n) (rank m) e f) h)
-    (λ f. differ (ap (firstThen greater (firstThen before flatter) (rank k)) (rank-order.tie (rank m) (rank n) g f) ∙ e) h))
+    (λ f. differ (ap (first_then greater (first_then before flatter) (rank k)) (rank-order.tie (rank m) (rank n) g f) ∙ e) h))
     (λ e. e)
 
 not_itself : (m : Move) → better m m ≡ false
@@ -71,33 +71,33 @@ not-both : (m n : Move) → better n m ≡ true → better m n ≡ false
 unfolding better
 not-both m n e = by (better m n) (λ f. differ (rank-order.along (rank m) (rank n) (rank m) f e) (rank-order.never (rank m))) (λ f. f)
 
-best-first : (m : Move) (l : List Move) → better m (bestOf m l) ≡ false
-unfolding bestOf
+best-first : (m : Move) (l : List Move) → better m (best_of m l) ≡ false
+unfolding best_of
 best-first m [] = not_itself m
 best-first m (n ∷ l) =
     by (better n m)
-    (λ e. rw (bestOf, e) (no-better m n (bestOf n l) (not-both m n e) (best-first n l)))
-    (λ e. rw (bestOf, e) (best-first m l))
+    (λ e. rw (best_of, e) (no-better m n (best_of n l) (not-both m n e) (best-first n l)))
+    (λ e. rw (best_of, e) (best-first m l))
 
-best-all : (m : Move) (l : List Move) (k : Move) → k ∈ l → better k (bestOf m l) ≡ false
-unfolding bestOf
+best-all : (m : Move) (l : List Move) (k : Move) → k ∈ l → better k (best_of m l) ≡ false
+unfolding best_of
 best-all m (n ∷ l) k i =
     by (better n m)
-    (λ e. rw (bestOf, e) (either (λ q. rw q (best-first n l)) (best-all n l k) (Memᴰ.cases_cons i)))
-    (λ e. rw (bestOf, e) (either (λ q. rw q (no-better n m (bestOf m l) e (best-first m l))) (best-all m l k) (Memᴰ.cases_cons i)))
+    (λ e. rw (best_of, e) (either (λ q. rw q (best-first n l)) (best-all n l k) (Memᴰ.cases_cons i)))
+    (λ e. rw (best_of, e) (either (λ q. rw q (no-better n m (best_of m l) e (best-first m l))) (best-all m l k) (Memᴰ.cases_cons i)))
 
 -- A scan: what is best so far, then the rest; a move that was met before changes nothing
 
-pub best-scan : (m : Move) (k l : List Move) → bestOf m (k ++ l) ≡ bestOf (bestOf m k) l
-unfolding bestOf
+pub best-scan : (m : Move) (k l : List Move) → best_of m (k ++ l) ≡ best_of (best_of m k) l
+unfolding best_of
 best-scan m [] l = refl
 best-scan m (n ∷ k) l =
-    by (better n m) (λ e. rw (bestOf, e) (best-scan n k l)) (λ e. rw (bestOf, e) (best-scan m k l))
+    by (better n m) (λ e. rw (best_of, e) (best-scan n k l)) (λ e. rw (best_of, e) (best-scan m k l))
 
-pub best-again : (m : Move) (k l : List Move) (n : Move) → n ∈ k → bestOf m (k ++ (n ∷ l)) ≡ bestOf m (k ++ l)
-unfolding bestOf
+pub best-again : (m : Move) (k l : List Move) (n : Move) → n ∈ k → best_of m (k ++ (n ∷ l)) ≡ best_of m (k ++ l)
+unfolding best_of
 best-again m k l n i =
-    best-scan m k (n ∷ l) ∙ rw (bestOf, best-all m k n i) (sym (best-scan m k l))
+    best-scan m k (n ∷ l) ∙ rw (best_of, best-all m k n i) (sym (best-scan m k l))
 
 module _ (net : Net) where
   -- every bar is among the moves

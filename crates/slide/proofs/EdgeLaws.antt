@@ -9,7 +9,7 @@ use lib.Signed.{lt_z}
 use Rattle.lists.specs.Member.{◌∈◌}
 use Rattle.lists.proofs.TestLaws.{by, differ, either}
 use Rattle.signed.specs.Sides.{up, down, Lt, Le}
-use Rattle.signed.proofs.SideLaws.{ltZ-true, ltZ-false, lt-ltZ, le-ltZ, eq_of, signed}
+use Rattle.signed.proofs.SideLaws.{z_lt-true, z_lt-false, lt-z_lt, le-z_lt, eq_of, signed}
 use Rattle.plane.specs.declared.Place.{Place}
 use Rattle.plane.specs.declared.Macro.{Macro}
 use Rattle.plane.specs.Macro.{clear}
@@ -18,7 +18,7 @@ use Rattle.net.specs.Net.{Net}
 use Rattle.slide.specs.declared.Side.{Side}
 use Rattle.slide.specs.Side.{along, across, moved}
 use Rattle.slide.specs.Bend.{Edge, straight}
-use Rattle.slide.specs.Bar.{level, ofBar, hangs, ahead, behind}
+use Rattle.slide.specs.Bar.{level, of_bar, hangs, ahead, behind}
 use Rattle.slide.specs.Slide.{shift}
 use Rattle.slide.specs.Bars.{IsBar}
 use Rattle.slide.proofs.BendLaws.{straight-comm}
@@ -64,9 +64,9 @@ module _ (s : Side) (on : Place → Bool) where
         let h : Hangs a b =
         record { near = e; away = f; line = either (λ q. q) (λ q. absurd (apart q)) (upright-or-level s a b u) }
         in
-        by (lt_z (across s a) (across s b)) (λ k. rises h (ltZ-true _ _ k)) λ k.
-        by (lt_z (across s b) (across s a)) (λ m. falls h (ltZ-true _ _ m)) λ m.
-        absurd (apart (eq_of _ _ (omega (signed, ltZ-false (across s a) (across s b) k, ltZ-false (across s b) (across s a) m))))
+        by (lt_z (across s a) (across s b)) (λ k. rises h (z_lt-true _ _ k)) λ k.
+        by (lt_z (across s b) (across s a)) (λ m. falls h (z_lt-true _ _ m)) λ m.
+        absurd (apart (eq_of _ _ (omega (signed, z_lt-false (across s a) (across s b) k, z_lt-false (across s b) (across s a) m))))
       where
         agree : Link T a b → across s a ≡ across s b → on a ≡ on b
         agree (inl m) q = c.closed a b m q
@@ -80,18 +80,18 @@ module _ (s : Side) (on : Place → Bool) where
 
     -- each edge with an end on the bar is of the bar or hangs from it
     pub at-bar : (a b : Place) → (a, b) ∈ T → straight (a, b) ≡ true → (on a || on b) ≡ true →
-        (ofBar s on (a, b) || hangs s on (a, b)) ≡ true
-    unfolding ofBar hangs
+        (of_bar s on (a, b) || hangs s on (a, b)) ≡ true
+    unfolding of_bar hangs
     at-bar a b m u h = at (kind a b m u)
       where
         slant : Hangs a b ⊎ Hangs b a → level s (a, b) ≡ true → ⊥
         slant (inl k) e = differ k.near (c.closed a b m (level-true s a b e) ∙ k.away)
         slant (inr k) e = differ (c.closed a b m (level-true s a b e) ∙ k.near) k.away
 
-        hung : Hangs a b ⊎ Hangs b a → (ofBar s on (a, b) || hangs s on (a, b)) ≡ true
+        hung : Hangs a b ⊎ Hangs b a → (of_bar s on (a, b) || hangs s on (a, b)) ≡ true
         hung k = by (level s (a, b)) (λ e. absurd (slant k e)) (λ e. rw (e, h) refl)
 
-        at : Kind a b → (ofBar s on (a, b) || hangs s on (a, b)) ≡ true
+        at : Kind a b → (of_bar s on (a, b) || hangs s on (a, b)) ≡ true
         at (bar e f q) = rw (true-level s a b q, e, f) refl
         at (first k) = hung (inl (hang k))
         at (second k) = hung (inr (hang k))

@@ -12,12 +12,12 @@ use Rattle.lists.specs.Member.{◌∈◌}
 use Rattle.lists.proofs.TestLaws.{by, differ, and_left, and_right, and_both}
 use Rattle.lists.proofs.AnyLaws.{any_none, none_any}
 use Rattle.signed.specs.Sides.{up, down, Lt, Le}
-use Rattle.signed.specs.Order.{minZ, maxZ}
-use Rattle.signed.proofs.SideLaws.{ltZ-true, ltZ-false, lt-ltZ, eq_of, signed}
+use Rattle.signed.specs.Order.{z_min, z_max}
+use Rattle.signed.proofs.SideLaws.{z_lt-true, z_lt-false, lt-z_lt, eq_of, signed}
 use Rattle.signed.proofs.OrderLaws.{min-sides, max-sides}
 use Rattle.plane.specs.declared.Place.{Place}
 use Rattle.plane.specs.declared.Macro.{Macro}
-use Rattle.plane.specs.Macro.{spanMeets, meets, clear}
+use Rattle.plane.specs.Macro.{span_meets, meets, clear}
 use Rattle.plane.specs.Box.{Between, InBox}
 use Rattle.plane.proofs.MacroLaws.{clear_comm}
 use Rattle.net.specs.Allowed.{Upright}
@@ -26,26 +26,26 @@ use Rattle.net.specs.Allowed.{Upright}
 abbrev pub UprightAll : List Macro → Type 0
 UprightAll ms = (m : Macro) → m ∈ ms → Upright m
 
-pub span-true : (a b from to : ℤ) → Le a b → Lt a to → Lt from b → spanMeets a b from to ≡ true
-unfolding spanMeets
+pub span-true : (a b from to : ℤ) → Le a b → Lt a to → Lt from b → span_meets a b from to ≡ true
+unfolding span_meets
 span-true a b from to l h k =
-    and_both _ _ (lt-ltZ (minZ a b) to (omega (signed, min-sides a b))) (lt-ltZ from (maxZ a b) (omega (signed, max-sides a b)))
+    and_both _ _ (lt-z_lt (z_min a b) to (omega (signed, min-sides a b))) (lt-z_lt from (z_max a b) (omega (signed, max-sides a b)))
 
-pub span-parts : (a b from to : ℤ) → Le a b → spanMeets a b from to ≡ true → Lt a to × Lt from b
-unfolding spanMeets
+pub span-parts : (a b from to : ℤ) → Le a b → span_meets a b from to ≡ true → Lt a to × Lt from b
+unfolding span_meets
 span-parts a b from to l h =
-    let p = ltZ-true (minZ a b) to (and_left _ (lt_z from (maxZ a b)) h) in
-    let q = ltZ-true from (maxZ a b) (and_right (lt_z (minZ a b) to) _ h) in
+    let p = z_lt-true (z_min a b) to (and_left _ (lt_z from (z_max a b)) h) in
+    let q = z_lt-true from (z_max a b) (and_right (lt_z (z_min a b) to) _ h) in
     (omega (signed, p, min-sides a b), omega (signed, q, max-sides a b))
 
 -- a span cut at s
 span-cut : (a s b from to : ℤ) → Le a s → Le s b → Lt from to →
-    spanMeets a b from to ≡ true → spanMeets a s from to ≡ false → spanMeets s b from to ≡ true
+    span_meets a b from to ≡ true → span_meets a s from to ≡ false → span_meets s b from to ≡ true
 span-cut a s b from to h k l m n =
     let p = span-parts a b from to (omega (signed, h, k)) m in
     by (lt_z from s)
-    (λ e. differ (span-true a s from to h p.0 (ltZ-true from s e)) n)
-    (λ e. span-true s b from to k (omega (signed, ltZ-false from s e, l)) p.1)
+    (λ e. differ (span-true a s from to h p.0 (z_lt-true from s e)) n)
+    (λ e. span-true s b from to k (omega (signed, z_lt-false from s e, l)) p.1)
 
 and_cut : (p q r t : Bool) → (q ≡ true → r ≡ false → t ≡ true) → (p && q) ≡ true → (p && r) ≡ false → (p && t) ≡ true
 and_cut true q r t h e f = h e f
@@ -74,26 +74,26 @@ module _ (ms : List Macro) (upright : UprightAll ms) (a s b : Place) where
       clear a s ms ≡ true → clear s b ms ≡ true → clear a b ms ≡ true
   unfolding meets
   glue-up e f h k = glued λ m i p q.
-      let l = ap (λ (z : ℤ). spanMeets a.x z m.left m.right) f in
-      let r = ap (λ (z : ℤ). spanMeets z b.x m.left m.right) (f ∙ sym e) in
-      let q' : (spanMeets a.x b.x m.left m.right && spanMeets a.y s.y m.bottom m.top) ≡ false =
-      ap (λ (t : Bool). t && spanMeets a.y s.y m.bottom m.top) (sym l) ∙ q
+      let l = ap (λ (z : ℤ). span_meets a.x z m.left m.right) f in
+      let r = ap (λ (z : ℤ). span_meets z b.x m.left m.right) (f ∙ sym e) in
+      let q' : (span_meets a.x b.x m.left m.right && span_meets a.y s.y m.bottom m.top) ≡ false =
+      ap (λ (t : Bool). t && span_meets a.y s.y m.bottom m.top) (sym l) ∙ q
       in
-      ap (λ (t : Bool). t && spanMeets s.y b.y m.bottom m.top) r
-      ∙ and_cut (spanMeets a.x b.x m.left m.right) _ _ _ (span-cut a.y s.y b.y m.bottom m.top h k
-      (ltZ-true _ _ (upright m i).along)) p q'
+      ap (λ (t : Bool). t && span_meets s.y b.y m.bottom m.top) r
+      ∙ and_cut (span_meets a.x b.x m.left m.right) _ _ _ (span-cut a.y s.y b.y m.bottom m.top h k
+      (z_lt-true _ _ (upright m i).along)) p q'
 
   glue-right : a.y ≡ b.y → s.y ≡ b.y → Le a.x s.x → Le s.x b.x →
       clear a s ms ≡ true → clear s b ms ≡ true → clear a b ms ≡ true
   unfolding meets
   glue-right e f h k = glued λ m i p q.
-      let l = ap (λ (z : ℤ). spanMeets a.y z m.bottom m.top) f in
-      let r = ap (λ (z : ℤ). spanMeets z b.y m.bottom m.top) (f ∙ sym e) in
-      let q' : (spanMeets a.x s.x m.left m.right && spanMeets a.y b.y m.bottom m.top) ≡ false =
-      ap (λ (t : Bool). spanMeets a.x s.x m.left m.right && t) (sym l) ∙ q
+      let l = ap (λ (z : ℤ). span_meets a.y z m.bottom m.top) f in
+      let r = ap (λ (z : ℤ). span_meets z b.y m.bottom m.top) (f ∙ sym e) in
+      let q' : (span_meets a.x s.x m.left m.right && span_meets a.y b.y m.bottom m.top) ≡ false =
+      ap (λ (t : Bool). span_meets a.x s.x m.left m.right && t) (sym l) ∙ q
       in
-      ap (λ (t : Bool). spanMeets s.x b.x m.left m.right && t) r
-      ∙ cut-and _ _ _ _ (span-cut a.x s.x b.x m.left m.right h k (ltZ-true _ _ (upright m i).across)) p q'
+      ap (λ (t : Bool). span_meets s.x b.x m.left m.right && t) r
+      ∙ cut-and _ _ _ _ (span-cut a.x s.x b.x m.left m.right h k (z_lt-true _ _ (upright m i).across)) p q'
 
 -- what is between two equal numbers
 on_line : (z x y : ℤ) → x ≡ y → Between z x y → z ≡ y

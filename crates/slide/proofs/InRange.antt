@@ -6,32 +6,32 @@ use lib.IntN.{ℤ, pos, neg_ℤ}
 use lib.Signed.{lt_z}
 use Rattle.lists.proofs.TestLaws.{or-none, or-neither}
 use Rattle.signed.specs.Sides.{Le}
-use Rattle.signed.proofs.SideLaws.{ltZ-false, le-ltZ, signed}
+use Rattle.signed.proofs.SideLaws.{z_lt-false, le-z_lt, signed}
 use Rattle.signed.proofs.OrderLaws.{min-sides, max-sides}
 use Rattle.plane.specs.declared.Place.{Place}
 use Rattle.plane.specs.Place.{place}
 use Rattle.plane.specs.Box.{Between, InBox}
-use Rattle.net.specs.Bounds.{coordinateBound}
-use Rattle.net.specs.Tests.{outOfRange}
+use Rattle.net.specs.Bounds.{coordinate_bound}
+use Rattle.net.specs.Tests.{out_of_range}
 use Rattle.net.specs.Allowed.{PlaceInRange}
 
 abbrev lowest : ℤ
-lowest = neg_ℤ (pos coordinateBound)
+lowest = neg_ℤ (pos coordinate_bound)
 
 abbrev highest : ℤ
-highest = pos coordinateBound
+highest = pos coordinate_bound
 
-number-range : (z : ℤ) → outOfRange z ≡ false → Le lowest z × Le z highest
-unfolding outOfRange
+number-range : (z : ℤ) → out_of_range z ≡ false → Le lowest z × Le z highest
+unfolding out_of_range
 number-range z e =
     let r = or-none (lt_z z lowest) (lt_z highest z) e in
-    (ltZ-false z lowest r.0, ltZ-false highest z r.1)
+    (z_lt-false z lowest r.0, z_lt-false highest z r.1)
 
-range-number : (z : ℤ) → Le lowest z → Le z highest → outOfRange z ≡ false
-unfolding outOfRange
-range-number z h k = or-neither _ _ (le-ltZ z lowest h) (le-ltZ highest z k)
+range-number : (z : ℤ) → Le lowest z → Le z highest → out_of_range z ≡ false
+unfolding out_of_range
+range-number z h k = or-neither _ _ (le-z_lt z lowest h) (le-z_lt highest z k)
 
-between-range : (z x y : ℤ) → Between z x y → outOfRange x ≡ false → outOfRange y ≡ false → outOfRange z ≡ false
+between-range : (z x y : ℤ) → Between z x y → out_of_range x ≡ false → out_of_range y ≡ false → out_of_range z ≡ false
 between-range z x y b h k =
     let p = number-range x h in
     let q = number-range y k in
@@ -45,26 +45,26 @@ box-range s a b i p q = record {
 }
 
 -- the box of all coordinates
-abbrev pub leastPlace : Place
-leastPlace = place lowest lowest
+abbrev pub least_place : Place
+least_place = place lowest lowest
 
-abbrev pub greatestPlace : Place
-greatestPlace = place highest highest
+abbrev pub greatest_place : Place
+greatest_place = place highest highest
 
-range-between : (z : ℤ) → outOfRange z ≡ false → Between z lowest highest
+range-between : (z : ℤ) → out_of_range z ≡ false → Between z lowest highest
 range-between z e =
     let r = number-range z e in
     (omega (signed, r.0, min-sides lowest highest), omega (signed, r.1, max-sides lowest highest))
 
-pub range-box : (p : Place) → PlaceInRange p → InBox p leastPlace greatestPlace
+pub range-box : (p : Place) → PlaceInRange p → InBox p least_place greatest_place
 range-box p r = record { across = range-between p.x r.x; along = range-between p.y r.y }
 
-ends-range : (outOfRange lowest ≡ false) × (outOfRange highest ≡ false)
-unfolding outOfRange
+ends-range : (out_of_range lowest ≡ false) × (out_of_range highest ≡ false)
+unfolding out_of_range
 ends-range = (refl, refl)
 
-corner-places : PlaceInRange leastPlace × PlaceInRange greatestPlace
+corner-places : PlaceInRange least_place × PlaceInRange greatest_place
 corner-places = (record { x = ends-range.0; y = ends-range.0 }, record { x = ends-range.1; y = ends-range.1 })
 
-pub box-in-range : (p : Place) → InBox p leastPlace greatestPlace → PlaceInRange p
-box-in-range p i = box-range p leastPlace greatestPlace i corner-places.0 corner-places.1
+pub box-in-range : (p : Place) → InBox p least_place greatest_place → PlaceInRange p
+box-in-range p i = box-range p least_place greatest_place i corner-places.0 corner-places.1

@@ -15,7 +15,7 @@ use Rattle.joined.proofs.JoinedLaws.{one, between, carried, firsts, seconds}
 use Rattle.joined.proofs.LabelLaws.{equal-true, equal-false, labelled, joined_same, same-joined}
 use Rattle.slide.specs.declared.Side.{Side}
 use Rattle.slide.specs.Bend.{Edge}
-use Rattle.slide.specs.Bar.{same, level, onBar}
+use Rattle.slide.specs.Bar.{same, level, on_bar}
 
 -- two tests that say the same are equal
 pub agree : (p q : Bool) → (p ≡ true → q ≡ true) → (q ≡ true → p ≡ true) → p ≡ q
@@ -44,8 +44,8 @@ module _ {A : Type 0} (alike : Discrete A) (f : A → Place) (X : List A) (L : L
     places-joined : {u v : A} → Joined L u v → Joined (those (level s) T) (f u) (f v)
     places-joined j = carried f (λ u v m. one (inl (forth u v m))) j
 
-    pub on-by-labels : (u v : A) → u ∈ X → v ∈ X → onBar s T (f u) (f v) ≡ equal alike (g u) (g v)
-    unfolding onBar
+    pub on-by-labels : (u v : A) → u ∈ X → v ∈ X → on_bar s T (f u) (f v) ≡ equal alike (g u) (g v)
+    unfolding on_bar
     on-by-labels u v i k =
         agree _ _
         (λ e. true-equal alike (g u) (g v)

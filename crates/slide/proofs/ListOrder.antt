@@ -24,10 +24,10 @@ use Rattle.slide.specs.declared.Side.{Side}
 use Rattle.slide.specs.declared.Side.TheVariants.{Above, Below, Right, Left}
 use Rattle.slide.specs.Side.{weight}
 use Rattle.slide.specs.Bend.{Edge, Bent, bent, given_back, bends}
-use Rattle.slide.specs.Bar.{level, onBar, shortest}
-use Rattle.slide.specs.Sweep.{swept, pointBars, edgeBars, allowed, greatest, reach, surplus, savingOf, firstPlace}
+use Rattle.slide.specs.Bar.{level, on_bar, shortest}
+use Rattle.slide.specs.Sweep.{swept, point_bars, edge_bars, allowed, greatest, reach, surplus, saving_of, first_place}
 use Rattle.slide.specs.declared.Move.{Move}
-use Rattle.slide.specs.Slide.{ends, treePoints, inOrder, moves, distance_of, move_of, moves_of, bestOf, choice, make, rounds, afterBends}
+use Rattle.slide.specs.Slide.{ends, tree_points, in_their_order, moves, distance_of, move_of, moves_of, best_of, choice, make, rounds, after_bends}
 use Rattle.slide.specs.Slide.{slid}
 use Rattle.slide.proofs.BarLaws.{some}
 use Rattle.slide.proofs.ReachLaws.{any-in}
@@ -43,8 +43,8 @@ among-both l m k h x i = either (λ j. Memᴰ.append_left k (h x j)) (λ j. Mem�
 
 module _ (net net' : Net) (mn : Among net.macros net'.macros) (nm : Among net'.macros net.macros)
     (pq : Among net.pins net'.pins) (qp : Among net'.pins net.pins) (weigh : net.weights ≡ net'.weights) where
-  points-same : (T : List Edge) → treePoints net T ≡ treePoints net' T
-  unfolding treePoints
+  points-same : (T : List Edge) → tree_points net T ≡ tree_points net' T
+  unfolding tree_points
   points-same T =
       ascending-same before place-order (sorted before (net.pins ++ ends T)) (sorted before (net'.pins ++ ends T))
       (sorted-ascending before place-order (net.pins ++ ends T)) (sorted-ascending before place-order (net'.pins ++ ends T))
@@ -69,7 +69,7 @@ module _ (net net' : Net) (mn : Among net.macros net'.macros) (nm : Among net'.m
     allowed_same : (on : Place → Bool) (X : List Place) (a : Place) (d : ℕ) → allowed s on X T a net d ≡ allowed s on X T a net' d
     unfolding allowed
     allowed_same on X a d =
-        ap (λ (t : Bool). t && (not (any (pointBars s on X T a d) X) && not (any (edgeBars s on X T a d) T)))
+        ap (λ (t : Bool). t && (not (any (point_bars s on X T a d) X) && not (any (edge_bars s on X T a d) T)))
         (clear-same (swept s on X T a d).0 (swept s on X T a d).1)
 
     reach-same : (on : Place → Bool) (X : List Place) (a : Place) → reach s on net X T a ≡ reach s on net' X T a
@@ -80,32 +80,32 @@ module _ (net net' : Net) (mn : Among net.macros net'.macros) (nm : Among net'.m
       moves-same : moves net T s e ≡ moves net' T s e
       unfolding moves
       moves-same =
-          ap (λ (t : Bool). level s e && (not t && ltb 0 (surplus s (onBar s T e.0) T)))
-          (any_same (onBar s T e.0) net.pins net'.pins pq qp)
+          ap (λ (t : Bool). level s e && (not t && ltb 0 (surplus s (on_bar s T e.0) T)))
+          (any_same (on_bar s T e.0) net.pins net'.pins pq qp)
 
       distance-same : distance_of net T s e ≡ distance_of net' T s e
       unfolding distance_of
       distance-same =
           by (moves net T s e)
           (λ g. rw (distance_of, g, sym moves-same ∙ g)
-          (reach-same (onBar s T e.0) (treePoints net T) e.0 ∙ ap (λ (X : List Place). reach s (onBar s T e.0) net' X T e.0)
+          (reach-same (on_bar s T e.0) (tree_points net T) e.0 ∙ ap (λ (X : List Place). reach s (on_bar s T e.0) net' X T e.0)
           (points-same T)))
           (λ g. rw (distance_of, g, sym moves-same ∙ g) refl)
 
       -- a move by the tree points, the distance and the weight
-      abbrev moveBy : List Place → ℕ → ℕ → Move
-      moveBy X d k = record {
-        saving = d * surplus s (onBar s T e.0) T * k;
-        first = firstPlace s (onBar s T e.0) X T e.0;
+      abbrev move_by : List Place → ℕ → ℕ → Move
+      move_by X d k = record {
+        saving = d * surplus s (on_bar s T e.0) T * k;
+        first = first_place s (on_bar s T e.0) X T e.0;
         side = s;
         distance = d;
       }
 
       move_same : move_of net T s e ≡ move_of net' T s e
-      unfolding move_of savingOf
+      unfolding move_of saving_of
       move_same =
-          ap₂ (λ (X : List Place) (d : ℕ). moveBy X d (weight net s)) (points-same T) distance-same
-          ∙ ap (moveBy (treePoints net' T) (distance_of net' T s e)) (weight-same s)
+          ap₂ (λ (X : List Place) (d : ℕ). move_by X d (weight net s)) (points-same T) distance-same
+          ∙ ap (move_by (tree_points net' T) (distance_of net' T s e)) (weight-same s)
 
   list_same : (T L : List Edge) → moves_of net T L ≡ moves_of net' T L
   unfolding moves_of
@@ -118,7 +118,7 @@ module _ (net net' : Net) (mn : Among net.macros net'.macros) (nm : Among net'.m
 
   choice-same : (T : List Edge) (e : Edge) (L : List Edge) → choice net T e L ≡ choice net' T e L
   unfolding choice
-  choice-same T e L = ap₂ bestOf (move_same T Above e) (list_same T (e ∷ L))
+  choice-same T e L = ap₂ best_of (move_same T Above e) (list_same T (e ∷ L))
 
   rounds-same : (n : ℕ) (T : List Edge) → rounds net n T ≡ rounds net' n T
   unfolding rounds make
@@ -131,9 +131,9 @@ module _ (net net' : Net) (mn : Among net.macros net'.macros) (nm : Among net'.m
       ∙ ap (λ (l : List Edge). elim (eqb k.saving 0) as (λ t. List Edge) [ true ↦ e ∷ L | false ↦ l ]) (rounds-same n (make k (e ∷ L)))
 
   pub slid-same : (T : List Edge) → slid net T ≡ slid net' T
-  unfolding slid afterBends
-  slid-same T = at (bends (treePoints net T) T) ∙ ap (λ (X : List Place). afterBends net' T (bends X T)) (points-same T)
+  unfolding slid after_bends
+  slid-same T = at (bends (tree_points net T) T) ∙ ap (λ (X : List Place). after_bends net' T (bends X T)) (points-same T)
     where
-      at : (r : Bent) → afterBends net T r ≡ afterBends net' T r
-      at (bent X U) = rounds-same (length X) (inOrder U)
+      at : (r : Bent) → after_bends net T r ≡ after_bends net' T r
+      at (bent X U) = rounds-same (length X) (in_their_order U)
       at given_back = refl

@@ -46,13 +46,13 @@ map-ascending g (p ∷ l) h a = (
 
 module _ {s : Side} {net : Net} {X : List Place} {T : List Edge} {on : Place → Bool} (c : IsBar s net X T on) (d : ℕ)
     (order : Ascending before X) where
-  abbrev movedRun : List Place
-  movedRun = map (moved s d) (those on X)
+  abbrev moved_run : List Place
+  moved_run = map (moved s d) (those on X)
 
-  abbrev otherRun : List Place
-  otherRun = those (λ p. not (on p)) X
+  abbrev other_run : List Place
+  other_run = those (λ p. not (on p)) X
 
-  pub moved-ascending : Ascending before movedRun
+  pub moved-ascending : Ascending before moved_run
   moved-ascending = map-ascending (moved s d) (those on X) keeps (those-ascending on X order)
     where
       keeps : (p q : Place) → p ∈ those on X → q ∈ those on X → before p q ≡ true → before (moved s d p) (moved s d q) ≡ true
@@ -60,12 +60,12 @@ module _ {s : Side} {net : Net} {X : List Place} {T : List Edge} {on : Place →
           let line = c.flat p (of-those on X i).1 ∙ sym (c.flat q (of-those on X k).1) in
           same-level s p q (moved s d p) (moved s d q) line (moved-level s on d p q line) (along-moved s d p) (along-moved s d q) o
 
-  pub others-ascending : Ascending before otherRun
+  pub others-ascending : Ascending before other_run
   others-ascending = those-ascending (λ p. not (on p)) X order
 
   -- an ascending list of both runs is that of the moved points
-  pub merged : (Z : List Place) → Ascending before Z → Among movedRun Z → Among otherRun Z →
-      ((z : Place) → z ∈ Z → (z ∈ movedRun) ⊎ (z ∈ otherRun)) →
+  pub merged : (Z : List Place) → Ascending before Z → Among moved_run Z → Among other_run Z →
+      ((z : Place) → z ∈ Z → (z ∈ moved_run) ⊎ (z ∈ other_run)) →
       Z ≡ sorted before (map (shift s on d) X)
   merged Z a h k only =
       ascending-same before place-order Z (sorted before (map (shift s on d) X)) a
@@ -73,13 +73,13 @@ module _ {s : Side} {net : Net} {X : List Place} {T : List Edge} {on : Place →
       (λ z m. in-sorted before place-order (map (shift s on d) X) z (either from-moved from-others (only z m)))
       (λ z m. to-run (of-sorted before (map (shift s on d) X) z m))
     where
-      from-moved : {z : Place} → z ∈ movedRun → z ∈ map (shift s on d) X
+      from-moved : {z : Place} → z ∈ moved_run → z ∈ map (shift s on d) X
       from-moved m =
           let r = of_map (moved s d) (those on X) m in
           let q = of-those on X r.stands in
           Memᴰ.cast (r.is ∙ sym (shift-on s on d r.entry q.1)) (in_map (shift s on d) q.0)
 
-      from-others : {z : Place} → z ∈ otherRun → z ∈ map (shift s on d) X
+      from-others : {z : Place} → z ∈ other_run → z ∈ map (shift s on d) X
       from-others {z} m =
           let q = of-those (λ p. not (on p)) X m in
           Memᴰ.cast (sym (shift-off s on d z (not-true (on z) q.1))) (in_map (shift s on d) q.0)

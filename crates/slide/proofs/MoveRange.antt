@@ -14,7 +14,7 @@ use Rattle.signed.proofs.SideLaws.{up_pos, down_pos, one_side, sub-sides}
 use Rattle.plane.specs.declared.Place.{Place}
 use Rattle.joined.specs.Joined.{Link}
 use Rattle.net.specs.Net.{Net}
-use Rattle.net.specs.Bounds.{coordinateBound}
+use Rattle.net.specs.Bounds.{coordinate_bound}
 use Rattle.net.specs.Allowed.{PlaceInRange}
 use Rattle.net.proofs.RangeBounds.{Near, in-range-near}
 use Rattle.slide.specs.declared.Side.{Side}
@@ -22,12 +22,12 @@ use Rattle.slide.specs.declared.Side.TheVariants.{Above, Below, Right, Left}
 use Rattle.slide.specs.declared.Move.{Move}
 use Rattle.slide.specs.Side.{across, moved}
 use Rattle.slide.specs.Bend.{Edge}
-use Rattle.slide.specs.Bar.{onBar}
-use Rattle.slide.specs.Slide.{treePoints, moves, move_of, choice}
+use Rattle.slide.specs.Bar.{on_bar}
+use Rattle.slide.specs.Slide.{tree_points, moves, move_of, choice}
 use Rattle.slide.specs.Promise.{State}
 use Rattle.slide.proofs.BarLaws.{is-bar, is-allowed}
 use Rattle.slide.proofs.RangeLaws.{leads, moved-within}
-use Rattle.slide.proofs.InRange.{leastPlace, greatestPlace, range-box, box-in-range}
+use Rattle.slide.proofs.InRange.{least_place, greatest_place, range-box, box-in-range}
 use Rattle.slide.proofs.RoundLaws.{on-itself, one-bar, first-on-bar, no-saving, moves-parts, distance-stays, distance-moves}
 use Rattle.slide.proofs.RoundLaws.{choice-has}
 use Rattle.slide.proofs.StateLaws.{range-within}
@@ -50,8 +50,8 @@ across-near Left p r = turned-near p.x (in-range-near p.x r.x)
 
 -- the distance is at most that of two coordinates, and the bar's points stay in range
 pub record Carries (T : List Edge) (m : Move) : Type 0 where
-  pub near : m.distance ≤ coordinateBound * 2
-  pub in-range : (p : Place) → onBar m.side T m.first p ≡ true → PlaceInRange p → PlaceInRange (moved m.side m.distance p)
+  pub near : m.distance ≤ coordinate_bound * 2
+  pub in-range : (p : Place) → on_bar m.side T m.first p ≡ true → PlaceInRange p → PlaceInRange (moved m.side m.distance p)
 
 module _ {net : Net} {T : List Edge} (t : State net T) where
   ends-in-range : {p q : Place} → Link T p q → PlaceInRange p × PlaceInRange q
@@ -65,10 +65,10 @@ module _ {net : Net} {T : List Edge} (t : State net T) where
       (λ h.
       let p = moves-parts net T s e h in
       let r = distance-moves net T s e h in
-      either (λ z. absurd (saves (no-saving s (onBar s T e.0) net T _ z)))
+      either (λ z. absurd (saves (no-saving s (on_bar s T e.0) net T _ z)))
       (λ ok.
-      let on = onBar s T e.0 in
-      let X = treePoints net T in
+      let on = on_bar s T e.0 in
+      let X = tree_points net T in
       let bar = is-bar s net X T e.0 t.sound.inside (t.sound.inside e.0 e.1 m).0 p.0 in
       let far = is-allowed bar t.lines e.0 (on-itself s T e.0) _ r.0 ok in
       let g = leads s T on (omega (arith, p.1)) in
@@ -79,12 +79,12 @@ module _ {net : Net} {T : List Edge} (t : State net T) where
         near = omega (arith, a, b, far.short g.near g.away g.edge g.point g.rises);
         in-range = λ q k i.
             box-in-range _
-            (moved-within bar far g leastPlace greatestPlace (range-within T t.in-range) q
+            (moved-within bar far g least_place greatest_place (range-within T t.in-range) q
             (sym (ap (λ (o : Place → Bool). o q) (one-bar s T e.0 _ (first-on-bar s T X e.0))) ∙ k)
             (range-box q i));
       })
       r.1)
-      (λ h. absurd (saves (no-saving s (onBar s T e.0) net T _ (distance-stays net T s e h))))
+      (λ h. absurd (saves (no-saving s (on_bar s T e.0) net T _ (distance-stays net T s e h))))
 
 pub choice-carries : {net : Net} {e : Edge} {L : List Edge} → State net (e ∷ L) → ((choice net (e ∷ L) e L).saving ≡ 0 → ⊥) →
     Carries (e ∷ L) (choice net (e ∷ L) e L)

@@ -19,11 +19,11 @@ use Rattle.net.specs.Net.{Net}
 use Rattle.slide.specs.declared.Side.{Side}
 use Rattle.slide.specs.Side.{moved}
 use Rattle.slide.specs.Bend.{Edge, taken}
-use Rattle.slide.specs.Bar.{level, onBar, ofBar, hangs, shortest, farEnds, first_of, last_of}
-use Rattle.slide.specs.Sweep.{boxesMeet, onlyIn, firstPlace, lastPlace, swept, pointBars, edgeBars, allowed, greatest, reach, surplus}
-use Rattle.slide.specs.Sweep.{savingOf}
+use Rattle.slide.specs.Bar.{level, on_bar, of_bar, hangs, shortest, far_ends, first_of, last_of}
+use Rattle.slide.specs.Sweep.{boxes_meet, only_in, first_place, last_place, swept, point_bars, edge_bars, allowed, greatest, reach, surplus}
+use Rattle.slide.specs.Sweep.{saving_of}
 use Rattle.slide.specs.declared.Move.{Move}
-use Rattle.slide.specs.Slide.{treePoints, moves, distance_of, move_of}
+use Rattle.slide.specs.Slide.{tree_points, moves, distance_of, move_of}
 use Rattle.slide.proofs.BarLaws.{first_one, last_one, first-least, last-greatest}
 use Rattle.slide.proofs.RoundLaws.{on-itself, one-bar}
 
@@ -48,23 +48,23 @@ module _ (l : List Place) (a b : Place) (i : a ∈ l) (k : b ∈ l) where
 -- The distance, from whichever point of the bar
 
 module _ (s : Side) (on : Place → Bool) (X : List Place) (T : List Edge) (a b : Place) (i : a ∈ those on X) (k : b ∈ those on X) where
-  first-place : firstPlace s on X T a ≡ firstPlace s on X T b
-  unfolding firstPlace
+  first-place : first_place s on X T a ≡ first_place s on X T b
+  unfolding first_place
   first-place = first-same (those on X) a b i k
 
-  last-place : lastPlace s on X T a ≡ lastPlace s on X T b
-  unfolding lastPlace
+  last-place : last_place s on X T a ≡ last_place s on X T b
+  unfolding last_place
   last-place = last-same (those on X) a b i k
 
   allowed-from : (net : Net) (d : ℕ) → allowed s on X T a net d ≡ allowed s on X T b net d
-  unfolding allowed swept pointBars edgeBars
+  unfolding allowed swept point_bars edge_bars
   allowed-from net d =
       ap₂
       (λ (f l : Place).
       clear f (moved s d l) net.macros
-      && (not (any (λ (p : Place). boxesMeet (p, p) (f, moved s d l) && (not (on p) && not (taken (farEnds s on T) p))) X)
+      && (not (any (λ (p : Place). boxes_meet (p, p) (f, moved s d l) && (not (on p) && not (taken (far_ends s on T) p))) X)
       && not (any (λ (e : Edge).
-      boxesMeet e (f, moved s d l) && (not (ofBar s on e || hangs s on e) && not (any (onlyIn e (f, moved s d l)) (farEnds s on T)))) T)))
+      boxes_meet e (f, moved s d l) && (not (of_bar s on e || hangs s on e) && not (any (only_in e (f, moved s d l)) (far_ends s on T)))) T)))
       first-place last-place
 
   reach-from : (net : Net) → reach s on net X T a ≡ reach s on net X T b
@@ -75,19 +75,19 @@ module _ (s : Side) (on : Place → Bool) (X : List Place) (T : List Edge) (a b 
 
 module _ (net : Net) (T : List Edge) (s : Side) where
   -- a move by the test for its bar, a point of it, and whether it moves
-  abbrev moveBy : (Place → Bool) → Place → Bool → Move
-  moveBy on a t =
-      let X = treePoints net T in
+  abbrev move_by : (Place → Bool) → Place → Bool → Move
+  move_by on a t =
+      let X = tree_points net T in
       let d = elim t as (λ u. ℕ) [ true ↦ reach s on net X T a | false ↦ 0 ] in
-      record { saving = savingOf s on net T d; first = firstPlace s on X T a; side = s; distance = d }
+      record { saving = saving_of s on net T d; first = first_place s on X T a; side = s; distance = d }
 
-  move-by : (e : Edge) → move_of net T s e ≡ moveBy (onBar s T e.0) e.0 (moves net T s e)
+  move-by : (e : Edge) → move_of net T s e ≡ move_by (on_bar s T e.0) e.0 (moves net T s e)
   unfolding move_of distance_of
   move-by e = refl
 
-  module _ (d e : Edge) (on-d : d.0 ∈ treePoints net T) (on-e : e.0 ∈ treePoints net T)
-      (level-d : level s d ≡ true) (level-e : level s e ≡ true) (one : onBar s T d.0 e.0 ≡ true) where
-    bar : onBar s T e.0 ≡ onBar s T d.0
+  module _ (d e : Edge) (on-d : d.0 ∈ tree_points net T) (on-e : e.0 ∈ tree_points net T)
+      (level-d : level s d ≡ true) (level-e : level s e ≡ true) (one : on_bar s T d.0 e.0 ≡ true) where
+    bar : on_bar s T e.0 ≡ on_bar s T d.0
     bar = one-bar s T d.0 e.0 one
 
     moves-one : moves net T s e ≡ moves net T s d
@@ -95,21 +95,21 @@ module _ (net : Net) (T : List Edge) (s : Side) where
     moves-one =
         ap₂ (λ (t : Bool) (on : Place → Bool). t && (not (any on net.pins) && ltb 0 (surplus s on T))) (level-e ∙ sym level-d) bar
 
-    from-point : moveBy (onBar s T d.0) e.0 (moves net T s d) ≡ moveBy (onBar s T d.0) d.0 (moves net T s d)
+    from-point : move_by (on_bar s T d.0) e.0 (moves net T s d) ≡ move_by (on_bar s T d.0) d.0 (moves net T s d)
     from-point =
-        let on = onBar s T d.0 in
-        let X = treePoints net T in
+        let on = on_bar s T d.0 in
+        let X = tree_points net T in
         let i = in-those on X on-e one in
         let k = in-those on X on-d (on-itself s T d.0) in
         ap₂
         (λ (f : Place) (r : ℕ).
         let n = elim (moves net T s d) as (λ u. ℕ) [ true ↦ r | false ↦ 0 ] in
-        record { saving = savingOf s on net T n; first = f; side = s; distance = n })
+        record { saving = saving_of s on net T n; first = f; side = s; distance = n })
         (first-place s on X T e.0 d.0 i k) (reach-from s on X T e.0 d.0 i k net)
 
     pub one-move : move_of net T s e ≡ move_of net T s d
     one-move =
         move-by e
-        ∙ ap₂ (λ (on : Place → Bool) (t : Bool). moveBy on e.0 t) bar moves-one
+        ∙ ap₂ (λ (on : Place → Bool) (t : Bool). move_by on e.0 t) bar moves-one
         ∙ from-point
         ∙ sym (move-by d)

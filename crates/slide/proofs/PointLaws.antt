@@ -9,7 +9,7 @@ use Prim.Native.Nat.{ℕ}
 use native.Mathlib.Omega.{arith}
 use lib.ListN.{length}
 use Rattle.lists.specs.Member.{◌∈◌, here, there, Among, Once}
-use Rattle.lists.specs.Sorted.{sorted, firstThen, Order, Ascending}
+use Rattle.lists.specs.Sorted.{sorted, first_then, Order, Ascending}
 use Rattle.lists.proofs.TestLaws.{either}
 use Rattle.lists.proofs.MemberLaws.{once-length}
 use Rattle.lists.proofs.OrderLaws.{pair-order}
@@ -24,9 +24,9 @@ use Rattle.joined.specs.Cost.{lengths}
 use Rattle.joined.proofs.JoinedLaws.{has-link, one}
 use Rattle.joined.proofs.TreeLaws.{tree-linked, tree-forest}
 use Rattle.joined.proofs.CostLaws.{lengths-once}
-use Rattle.net.specs.Net.{Net, costIn}
+use Rattle.net.specs.Net.{Net, cost_in}
 use Rattle.slide.specs.Bend.{Edge}
-use Rattle.slide.specs.Slide.{ends, treePoints, inOrder}
+use Rattle.slide.specs.Slide.{ends, tree_points, in_their_order}
 use Rattle.slide.specs.Promise.{EndsPins, Sound}
 use Rattle.slide.proofs.BendEnds.{same_ends, more-links}
 use Rattle.slide.proofs.EndLaws.{decide}
@@ -57,15 +57,15 @@ link-ends T x z (inl m) = (in-ends T x z m).0
 link-ends T x z (inr m) = (in-ends T z x m).1
 
 module _ (net : Net) (T : List Edge) where
-  pub points-ascending : Ascending before (treePoints net T)
-  unfolding treePoints
+  pub points-ascending : Ascending before (tree_points net T)
+  unfolding tree_points
   points-ascending = sorted-ascending before place-order (net.pins ++ ends T)
 
   -- the points of a tree with a pin are the pins and the ends of its edges
   module _ {X : List Place} (tree : TreeOn X T) (inside : Inside X T) (pinned : Among net.pins X) (pin : Place)
       (p : pin ∈ net.pins) where
-    pub points-in : Among (treePoints net T) X
-    unfolding treePoints
+    pub points-in : Among (tree_points net T) X
+    unfolding tree_points
     points-in x m =
         either (pinned x) (λ i. stands (of-ends T x i).1)
         (Memᴰ.append_cases net.pins (of-sorted before (net.pins ++ ends T) x m))
@@ -74,8 +74,8 @@ module _ (net : Net) (T : List Edge) where
         stands (inl m) = (inside _ _ m).0
         stands (inr m) = (inside _ _ m).1
 
-    pub in-points : Among X (treePoints net T)
-    unfolding treePoints
+    pub in-points : Among X (tree_points net T)
+    unfolding tree_points
     in-points x m =
         in-sorted before place-order (net.pins ++ ends T) x
         (decide (place_same x pin)
@@ -83,12 +83,12 @@ module _ (net : Net) (T : List Edge) where
         (λ n. let r = has-link n (tree.joins x pin m (pinned pin p)) in Memᴰ.append_right net.pins (link-ends T x r.0 r.1)))
 
     -- in order, they are the tree's points
-    pub points-are : Ascending before X → X ≡ treePoints net T
-    points-are o = ascending-same before place-order X (treePoints net T) o points-ascending in-points points-in
+    pub points-are : Ascending before X → X ≡ tree_points net T
+    points-are o = ascending-same before place-order X (tree_points net T) o points-ascending in-points points-in
 
 -- The edges in order
 
-pub edge_order : Order (firstThen before before)
+pub edge_order : Order (first_then before before)
 edge_order = pair-order before before place-order place-order
 
 -- no edge of a tree stands twice
@@ -100,43 +100,43 @@ module _ {net : Net} {X : List Place} (T : List Edge) (t : Sound net X T) where
   once : Once T
   once = forest-once T (tree-forest place_same t.tree)
 
-  there-too : Among T (inOrder T)
-  there-too = in-sorted (firstThen before before) edge_order T
+  there-too : Among T (in_their_order T)
+  there-too = in-sorted (first_then before before) edge_order T
 
-  here-too : Among (inOrder T) T
-  here-too = of-sorted (firstThen before before) T
+  here-too : Among (in_their_order T) T
+  here-too = of-sorted (first_then before before) T
 
-  once-too : Once (inOrder T)
-  once-too = ascending-once (firstThen before before) edge_order (inOrder T) (sorted-ascending (firstThen before before) edge_order T)
+  once-too : Once (in_their_order T)
+  once-too = ascending-once (first_then before before) edge_order (in_their_order T) (sorted-ascending (first_then before before) edge_order T)
 
-  pub sorted-length : length (inOrder T) ≡ length T
-  sorted-length = omega (arith, once-length (inOrder T) T once-too here-too, once-length T (inOrder T) once there-too)
+  pub sorted-length : length (in_their_order T) ≡ length T
+  sorted-length = omega (arith, once-length (in_their_order T) T once-too here-too, once-length T (in_their_order T) once there-too)
 
-  pub sorted-sound : Sound net X (inOrder T)
+  pub sorted-sound : Sound net X (in_their_order T)
   sorted-sound = record {
     tree = tree-linked t.tree (λ a b m. inl (there-too (a, b) m)) sorted-length;
     inside = λ a b m. t.inside a b (here-too (a, b) m);
     pinned = t.pinned;
     free = λ a b m. t.free a b (here-too (a, b) m);
-    ends = same_ends net.pins (more-links net.pins T (inOrder T) there-too) (more-links net.pins (inOrder T) T here-too) t.ends;
+    ends = same_ends net.pins (more-links net.pins T (in_their_order T) there-too) (more-links net.pins (in_their_order T) T here-too) t.ends;
   }
 
-  pub sorted-costs : lengths (costIn net) (inOrder T) ≡ lengths (costIn net) T
+  pub sorted-costs : lengths (cost_in net) (in_their_order T) ≡ lengths (cost_in net) T
   sorted-costs =
-      omega (arith, lengths-once (costIn net) (inOrder T) T once-too here-too, lengths-once (costIn net) T (inOrder T) once there-too)
+      omega (arith, lengths-once (cost_in net) (in_their_order T) T once-too here-too, lengths-once (cost_in net) T (in_their_order T) once there-too)
 
 -- The points in order
 
 module _ {net : Net} {X : List Place} (T : List Edge) (t : Sound net X T) (pin : Place) (has-pin : pin ∈ net.pins) where
-  pub points-sound : Sound net (treePoints net T) T
+  pub points-sound : Sound net (tree_points net T) T
   points-sound = record {
     tree = record {
       once = once-points;
       joins = λ x y i k. t.tree.joins x y (to x i) (to y k);
       size = t.tree.size ∙ omega (
         arith,
-        once-length X (treePoints net T) t.tree.once back,
-        once-length (treePoints net T) X once-points to,
+        once-length X (tree_points net T) t.tree.once back,
+        once-length (tree_points net T) X once-points to,
       );
     };
     inside = λ a b m. let h = t.inside a b m in (back a h.0, back b h.1);
@@ -145,11 +145,11 @@ module _ {net : Net} {X : List Place} (T : List Edge) (t : Sound net X T) (pin :
     ends = t.ends;
   }
     where
-      once-points : Once (treePoints net T)
-      once-points = ascending-once before place-order (treePoints net T) (points-ascending net T)
+      once-points : Once (tree_points net T)
+      once-points = ascending-once before place-order (tree_points net T) (points-ascending net T)
 
-      to : Among (treePoints net T) X
+      to : Among (tree_points net T) X
       to = points-in net T t.tree t.inside t.pinned pin has-pin
 
-      back : Among X (treePoints net T)
+      back : Among X (tree_points net T)
       back = in-points net T t.tree t.inside t.pinned pin has-pin

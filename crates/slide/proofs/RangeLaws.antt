@@ -14,7 +14,7 @@ use Rattle.lists.specs.Those.{those}
 use Rattle.lists.proofs.TestLaws.{by, either, and_left, and_right}
 use Rattle.lists.proofs.ThoseLaws.{of-those}
 use Rattle.signed.specs.Sides.{up, down, Lt, Le}
-use Rattle.signed.proofs.SideLaws.{ltZ-true, signed}
+use Rattle.signed.proofs.SideLaws.{z_lt-true, signed}
 use Rattle.signed.proofs.OrderLaws.{min-sides, max-sides}
 use Rattle.plane.specs.declared.Place.{Place}
 use Rattle.plane.specs.declared.Macro.{Macro}
@@ -83,7 +83,7 @@ bends-within lo hi X T Y U e w a b m =
         (InBox (edge_of f.0 c).0 lo hi × InBox (edge_of f.0 c).1 lo hi) ×
         (InBox (edge_of c f.1).0 lo hi × InBox (edge_of c f.1).1 lo hi)
     split f c s q h =
-        let k = box-in-box c f.0 f.1 lo hi q.inBox h.0 h.1 in (
+        let k = box-in-box c f.0 f.1 lo hi q.in_box h.0 h.1 in (
           edge-has (λ g. InBox g.0 lo hi × InBox g.1 lo hi) f.0 c (h.0, k) (k, h.0),
           edge-has (λ g. InBox g.0 lo hi × InBox g.1 lo hi) c f.1 (k, h.1) (h.1, k),
         )
@@ -115,14 +115,14 @@ leads s T on h =
       away = b;
       edge = inl r.0;
       point = and_left _ (lt_z (across s a) (across s b)) k;
-      rises = ltZ-true _ _ (and_right (on a) _ k);
+      rises = z_lt-true _ _ (and_right (on a) _ k);
     })
     (λ k. record {
       near = b;
       away = a;
       edge = inr r.0;
       point = and_left _ (lt_z (across s b) (across s a)) k;
-      rises = ltZ-true _ _ (and_right (on b) _ k);
+      rises = z_lt-true _ _ (and_right (on b) _ k);
     })
     (or_cases _ _ r.1)
 

@@ -19,12 +19,12 @@ use Rattle.lists.proofs.TestLaws.{by, differ, either, and_left, and_right, and_b
 use Rattle.lists.proofs.AnyLaws.{any_none, none_any}
 use Rattle.lists.proofs.MapLaws.{of_map}
 use Rattle.lists.proofs.ThoseLaws.{in-those, of-those}
-use Rattle.signed.specs.Order.{minZ, maxZ}
+use Rattle.signed.specs.Order.{z_min, z_max}
 use Rattle.signed.specs.Sides.{up, down, Le}
-use Rattle.signed.proofs.SideLaws.{leZ-true, le-leZ, eq_of, signed}
+use Rattle.signed.proofs.SideLaws.{z_le-true, le-z_le, eq_of, signed}
 use Rattle.signed.proofs.OrderLaws.{min-sides, max-sides}
 use Rattle.plane.specs.declared.Place.{Place}
-use Rattle.plane.specs.Place.{place, samePlace}
+use Rattle.plane.specs.Place.{place, same_place}
 use Rattle.plane.specs.Box.{Between, InBox}
 use Rattle.plane.specs.Macro.{clear}
 use Rattle.plane.proofs.PlaceLaws.{same_true, same_refl}
@@ -36,8 +36,8 @@ use Rattle.net.specs.Net.{Net}
 use Rattle.slide.specs.declared.Side.{Side}
 use Rattle.slide.specs.Side.{across}
 use Rattle.slide.specs.Bend.{Edge, taken}
-use Rattle.slide.specs.Bar.{same, level, onBar, ofBar, hangs, ahead, far, long, shortest, farEnds}
-use Rattle.slide.specs.Sweep.{lowCorner, highCorner, boxesMeet, onlyIn, swept, pointBars, edgeBars, allowed, reach}
+use Rattle.slide.specs.Bar.{same, level, on_bar, of_bar, hangs, ahead, far, long, shortest, far_ends}
+use Rattle.slide.specs.Sweep.{low_corner, high_corner, boxes_meet, only_in, swept, point_bars, edge_bars, allowed, reach}
 use Rattle.slide.specs.Sentences.{IsGreatest, IsFarEnd, InSwept, PointFree, EdgeFree, Unblocked, MovesAsFar}
 use Rattle.slide.proofs.AcrossLaws.{level-true, true-level}
 use Rattle.slide.proofs.BarLaws.{box-holds, some, or_cases, shortest-le, greatest-le, greatest-passes, greatest-greatest}
@@ -46,7 +46,7 @@ use Rattle.slide.proofs.ReachLaws.{any-in, not-false}
 -- A bar
 
 pub is-greatest : (s : Side) (T : List Edge) (a : Place) → IsGreatest s T a
-unfolding onBar
+unfolding on_bar
 is-greatest s T a = record {
   connected = λ p. (joined p, λ j. equal_as _ _ (joined_same (labelled same L) j));
   line = λ p e. sym (constant (across s) (λ u v m. level-true s u v (of-those (level s) T m).1) (joined p e));
@@ -67,58 +67,58 @@ is-greatest s T a = record {
 -- along one axis: the spans of p and q, and of f and m
 module _ (p q f m : ℤ) where
   abbrev low : ℤ
-  low = maxZ (minZ p q) (minZ f m)
+  low = z_max (z_min p q) (z_min f m)
 
   abbrev high : ℤ
-  high = minZ (maxZ p q) (maxZ f m)
+  high = z_min (z_max p q) (z_max f m)
 
   common-span : (c : ℤ) → Between c p q → Between c f m → Le low c × Le c high
   common-span c h k =
-      (omega (signed, h.0, k.0, max-sides (minZ p q) (minZ f m)), omega (signed, h.1, k.1, min-sides (maxZ p q) (maxZ f m)))
+      (omega (signed, h.0, k.0, max-sides (z_min p q) (z_min f m)), omega (signed, h.1, k.1, min-sides (z_max p q) (z_max f m)))
 
   common-order : (c : ℤ) → Between c p q → Between c f m → Le low high
   common-order c h k = let r = common-span c h k in omega (signed, r.0, r.1)
 
   span-low : Le low high → Between low p q × Between low f m
   span-low h =
-      let l = max-sides (minZ p q) (minZ f m) in
-      let r = min-sides (maxZ p q) (maxZ f m) in
+      let l = max-sides (z_min p q) (z_min f m) in
+      let r = min-sides (z_max p q) (z_max f m) in
       ((omega (signed, l), omega (signed, h, r)), (omega (signed, l), omega (signed, h, r)))
 
   span-high : Le low high → Between high p q × Between high f m
   span-high h =
-      let l = max-sides (minZ p q) (minZ f m) in
-      let r = min-sides (maxZ p q) (maxZ f m) in
+      let l = max-sides (z_min p q) (z_min f m) in
+      let r = min-sides (z_max p q) (z_max f m) in
       ((omega (signed, h, l), omega (signed, r)), (omega (signed, h, l), omega (signed, r)))
 
 module _ (e : Edge) (u v : Place) where
   -- a place in both
-  common-meet : (q : Place) → InBox q e.0 e.1 → InBox q u v → boxesMeet e (u, v) ≡ true
-  unfolding boxesMeet lowCorner highCorner
+  common-meet : (q : Place) → InBox q e.0 e.1 → InBox q u v → boxes_meet e (u, v) ≡ true
+  unfolding boxes_meet low_corner high_corner
   common-meet q i k =
       and_both _ _
-      (le-leZ _ _ (common-order e.0.x e.1.x u.x v.x q.x i.across k.across))
-      (le-leZ _ _ (common-order e.0.y e.1.y u.y v.y q.y i.along k.along))
+      (le-z_le _ _ (common-order e.0.x e.1.x u.x v.x q.x i.across k.across))
+      (le-z_le _ _ (common-order e.0.y e.1.y u.y v.y q.y i.along k.along))
 
   -- the corners are in both
-  meet-parts : boxesMeet e (u, v) ≡ true →
-      Le (lowCorner e (u, v)).x (highCorner e (u, v)).x × Le (lowCorner e (u, v)).y (highCorner e (u, v)).y
-  unfolding boxesMeet
+  meet-parts : boxes_meet e (u, v) ≡ true →
+      Le (low_corner e (u, v)).x (high_corner e (u, v)).x × Le (low_corner e (u, v)).y (high_corner e (u, v)).y
+  unfolding boxes_meet
   meet-parts h = (
-    leZ-true _ _ (and_left _ (le_z (lowCorner e (u, v)).y (highCorner e (u, v)).y) h),
-    leZ-true _ _ (and_right (le_z (lowCorner e (u, v)).x (highCorner e (u, v)).x) _ h),
+    z_le-true _ _ (and_left _ (le_z (low_corner e (u, v)).y (high_corner e (u, v)).y) h),
+    z_le-true _ _ (and_right (le_z (low_corner e (u, v)).x (high_corner e (u, v)).x) _ h),
   )
 
-  low-common : boxesMeet e (u, v) ≡ true → InBox (lowCorner e (u, v)) e.0 e.1 × InBox (lowCorner e (u, v)) u v
-  unfolding lowCorner highCorner
+  low-common : boxes_meet e (u, v) ≡ true → InBox (low_corner e (u, v)) e.0 e.1 × InBox (low_corner e (u, v)) u v
+  unfolding low_corner high_corner
   low-common h =
       let r = meet-parts h in
       let x = span-low e.0.x e.1.x u.x v.x r.0 in
       let y = span-low e.0.y e.1.y u.y v.y r.1 in
       (record { across = x.0; along = y.0 }, record { across = x.1; along = y.1 })
 
-  high-common : boxesMeet e (u, v) ≡ true → InBox (highCorner e (u, v)) e.0 e.1 × InBox (highCorner e (u, v)) u v
-  unfolding lowCorner highCorner
+  high-common : boxes_meet e (u, v) ≡ true → InBox (high_corner e (u, v)) e.0 e.1 × InBox (high_corner e (u, v)) u v
+  unfolding low_corner high_corner
   high-common h =
       let r = meet-parts h in
       let x = span-high e.0.x e.1.x u.x v.x r.0 in
@@ -134,44 +134,44 @@ module _ (e : Edge) (u v : Place) where
       let b1 = ap down b in
       eq_of c z (omega (arith, i, k, a0, a1, b0, b1))
 
-  only-common : (f q : Place) → onlyIn e (u, v) f ≡ true → InBox q e.0 e.1 → InBox q u v → q ≡ f
-  unfolding onlyIn lowCorner highCorner
+  only-common : (f q : Place) → only_in e (u, v) f ≡ true → InBox q e.0 e.1 → InBox q u v → q ≡ f
+  unfolding only_in low_corner high_corner
   only-common f q o i k =
-      let l = same_true _ f (and_left _ (samePlace (highCorner e (u, v)) f) o) in
-      let h = same_true _ f (and_right (samePlace (lowCorner e (u, v)) f) _ o) in
+      let l = same_true _ f (and_left _ (same_place (high_corner e (u, v)) f) o) in
+      let h = same_true _ f (and_right (same_place (low_corner e (u, v)) f) _ o) in
       let x = common-span e.0.x e.1.x u.x v.x q.x i.across k.across in
       let y = common-span e.0.y e.1.y u.y v.y q.y i.along k.along in
       ap₂ place
       (one_number _ _ q.x f.x (ap (λ (p : Place). p.x) l) (ap (λ (p : Place). p.x) h) x.0 x.1)
       (one_number _ _ q.y f.y (ap (λ (p : Place). p.y) l) (ap (λ (p : Place). p.y) h) y.0 y.1)
 
-  common-only : (f : Place) → boxesMeet e (u, v) ≡ true → ((q : Place) → InBox q e.0 e.1 → InBox q u v → q ≡ f) →
-      onlyIn e (u, v) f ≡ true
-  unfolding onlyIn
+  common-only : (f : Place) → boxes_meet e (u, v) ≡ true → ((q : Place) → InBox q e.0 e.1 → InBox q u v → q ≡ f) →
+      only_in e (u, v) f ≡ true
+  unfolding only_in
   common-only f h only =
       let l = low-common h in
       let k = high-common h in
-      and_both _ _ (ap (λ (p : Place). samePlace p f) (only _ l.0 l.1) ∙ same_refl f)
-      (ap (λ (p : Place). samePlace p f) (only _ k.0 k.1) ∙ same_refl f)
+      and_both _ _ (ap (λ (p : Place). same_place p f) (only _ l.0 l.1) ∙ same_refl f)
+      (ap (λ (p : Place). same_place p f) (only _ k.0 k.1) ∙ same_refl f)
 
 -- a place that meets a box is in it
 at_place : (z x : ℤ) → Between z x x → z ≡ x
 at_place z x h = eq_of z x (omega (signed, h.0, h.1, min-sides x x, max-sides x x))
 
-meets-in : (p u v : Place) → boxesMeet (p, p) (u, v) ≡ true → InBox p u v
+meets-in : (p u v : Place) → boxes_meet (p, p) (u, v) ≡ true → InBox p u v
 meets-in p u v b =
     let k = low-common (p, p) u v b in
-    let is : lowCorner (p, p) (u, v) ≡ p = ap₂ place (at_place _ p.x k.0.across) (at_place _ p.y k.0.along) in
+    let is : low_corner (p, p) (u, v) ≡ p = ap₂ place (at_place _ p.x k.0.across) (at_place _ p.y k.0.along) in
     subst (λ (q : Place). InBox q u v) is k.1
 
 -- a place that is taken is one of the points
-pub taken_in : (X : List Place) (c : Place) → taken X c ≡ true → c ∈ X
+taken_in : (X : List Place) (c : Place) → taken X c ≡ true → c ∈ X
 unfolding taken
-taken_in X c h = let r = some (samePlace c) X h in Memᴰ.cast (same_true c r.0 r.1.1) r.1.0
+taken_in X c h = let r = some (same_place c) X h in Memᴰ.cast (same_true c r.0 r.1.1) r.1.0
 
-pub in_taken : (X : List Place) (c : Place) → c ∈ X → taken X c ≡ true
+in_taken : (X : List Place) (c : Place) → c ∈ X → taken X c ≡ true
 unfolding taken
-in_taken X c m = any-in (samePlace c) X c m (same_refl c)
+in_taken X c m = any-in (same_place c) X c m (same_refl c)
 
 -- What is allowed
 
@@ -183,56 +183,56 @@ module _ (s : Side) (on : Place → Bool) (X : List Place) (T : List Edge) (a : 
     abbrev M : Place
     M = (swept s on X T a d).1
 
-    point-free : (p : Place) → pointBars s on X T a d p ≡ false → InSwept s on X T a net d p → PointFree s on X T a net d p
-    unfolding pointBars
+    point-free : (p : Place) → point_bars s on X T a d p ≡ false → InSwept s on X T a net d p → PointFree s on X T a net d p
+    unfolding point_bars
     point-free p h i =
-        by (on p) inl (λ e. by (taken (farEnds s on T) p) (λ t. inr (taken_in (farEnds s on T) p t))
+        by (on p) inl (λ e. by (taken (far_ends s on T) p) (λ t. inr (taken_in (far_ends s on T) p t))
         (λ t. differ (and_both _ _ (box-holds p F M i) (rw (e, t) refl)) h))
 
-    free-point : (p : Place) → (InSwept s on X T a net d p → PointFree s on X T a net d p) → pointBars s on X T a d p ≡ false
-    unfolding pointBars
-    free-point p h = by (boxesMeet (p, p) (F, M)) (λ b. rw b (at (h (meets-in p F M b)))) (λ b. rw b refl)
+    free-point : (p : Place) → (InSwept s on X T a net d p → PointFree s on X T a net d p) → point_bars s on X T a d p ≡ false
+    unfolding point_bars
+    free-point p h = by (boxes_meet (p, p) (F, M)) (λ b. rw b (at (h (meets-in p F M b)))) (λ b. rw b refl)
       where
-        at : PointFree s on X T a net d p → (not (on p) && not (taken (farEnds s on T) p)) ≡ false
+        at : PointFree s on X T a net d p → (not (on p) && not (taken (far_ends s on T) p)) ≡ false
         at (inl e) = rw e refl
-        at (inr m) = by (on p) (λ e. rw e refl) (λ e. rw (e, in_taken (farEnds s on T) p m) refl)
+        at (inr m) = by (on p) (λ e. rw e refl) (λ e. rw (e, in_taken (far_ends s on T) p m) refl)
 
-    edge-free : (e : Edge) → edgeBars s on X T a d e ≡ false → (q : Place) → InBox q e.0 e.1 → InSwept s on X T a net d q →
+    edge-free : (e : Edge) → edge_bars s on X T a d e ≡ false → (q : Place) → InBox q e.0 e.1 → InSwept s on X T a net d q →
         EdgeFree s on X T a net d e
-    unfolding edgeBars
+    unfolding edge_bars
     edge-free e h q i k =
-        by (ofBar s on e) inl (λ b. by (hangs s on e) (λ g. inr (inl g))
-        (λ g. by (any (onlyIn e (F, M)) (farEnds s on T))
-        (λ t. let r = some (onlyIn e (F, M)) (farEnds s on T) t in
+        by (of_bar s on e) inl (λ b. by (hangs s on e) (λ g. inr (inl g))
+        (λ g. by (any (only_in e (F, M)) (far_ends s on T))
+        (λ t. let r = some (only_in e (F, M)) (far_ends s on T) t in
         inr (inr (r.0, (r.1.0, λ c j l. only-common e F M r.0 c r.1.1 j l))))
         (λ t. differ (and_both _ _ (common-meet e F M q i k) (rw (b, g, t) refl)) h)))
 
     free-edge : (e : Edge) → ((q : Place) → InBox q e.0 e.1 → InSwept s on X T a net d q → EdgeFree s on X T a net d e) →
-        edgeBars s on X T a d e ≡ false
-    unfolding edgeBars
+        edge_bars s on X T a d e ≡ false
+    unfolding edge_bars
     free-edge e h =
-        by (boxesMeet e (F, M))
-        (λ b. let l = low-common e F M b in rw b (at b (h (lowCorner e (F, M)) l.0 l.1)))
+        by (boxes_meet e (F, M))
+        (λ b. let l = low-common e F M b in rw b (at b (h (low_corner e (F, M)) l.0 l.1)))
         (λ b. rw b refl)
       where
-        at : boxesMeet e (F, M) ≡ true → EdgeFree s on X T a net d e →
-            (not (ofBar s on e || hangs s on e) && not (any (onlyIn e (F, M)) (farEnds s on T))) ≡ false
+        at : boxes_meet e (F, M) ≡ true → EdgeFree s on X T a net d e →
+            (not (of_bar s on e || hangs s on e) && not (any (only_in e (F, M)) (far_ends s on T))) ≡ false
         at b (inl g) = rw g refl
-        at b (inr (inl g)) = by (ofBar s on e) (λ k. rw k refl) (λ k. rw (k, g) refl)
+        at b (inr (inl g)) = by (of_bar s on e) (λ k. rw k refl) (λ k. rw (k, g) refl)
         at b (inr (inr (f, (m, only)))) =
-            let some = any-in (onlyIn e (F, M)) (farEnds s on T) f m (common-only e F M f b only) in
-            by (ofBar s on e || hangs s on e) (λ k. rw k refl) (λ k. rw (k, some) refl)
+            let some = any-in (only_in e (F, M)) (far_ends s on T) f m (common-only e F M f b only) in
+            by (of_bar s on e || hangs s on e) (λ k. rw k refl) (λ k. rw (k, some) refl)
 
     allowed-unblocked : allowed s on X T a net d ≡ true → Unblocked s on X T a net d
     unfolding allowed
     allowed-unblocked h =
         let rest = and_right (clear F M net.macros) _ h in
-        let points = not-true _ (and_left (not (any (pointBars s on X T a d) X)) _ rest) in
-        let edges = not-true _ (and_right (not (any (pointBars s on X T a d) X)) _ rest) in
+        let points = not-true _ (and_left (not (any (point_bars s on X T a d) X)) _ rest) in
+        let edges = not-true _ (and_right (not (any (point_bars s on X T a d) X)) _ rest) in
         record {
           macros = and_left _ _ h;
-          points = λ p m i. point-free p (any_none (pointBars s on X T a d) X points p m) i;
-          edges = λ e m q i k. edge-free e (any_none (edgeBars s on X T a d) T edges e m) q i k;
+          points = λ p m i. point-free p (any_none (point_bars s on X T a d) X points p m) i;
+          edges = λ e m q i k. edge-free e (any_none (edge_bars s on X T a d) T edges e m) q i k;
         }
 
     unblocked-allowed : Unblocked s on X T a net d → allowed s on X T a net d ≡ true
@@ -240,12 +240,12 @@ module _ (s : Side) (on : Place → Bool) (X : List Place) (T : List Edge) (a : 
     unblocked-allowed u =
         and_both _ _ u.macros
         (and_both _ _
-        (not-false _ (none_any (pointBars s on X T a d) X (λ p m. free-point p (λ i. u.points p m i))))
-        (not-false _ (none_any (edgeBars s on X T a d) T (λ e m. free-edge e (λ q i k. u.edges e m q i k)))))
+        (not-false _ (none_any (point_bars s on X T a d) X (λ p m. free-point p (λ i. u.points p m i))))
+        (not-false _ (none_any (edge_bars s on X T a d) T (λ e m. free-edge e (λ q i k. u.edges e m q i k)))))
 
   -- the far ends
-  is-far-end : (f : Place) → f ∈ farEnds s on T → IsFarEnd s on T f
-  unfolding farEnds
+  is-far-end : (f : Place) → f ∈ far_ends s on T → IsFarEnd s on T f
+  unfolding far_ends
   is-far-end f m =
       let r = of_map (far on) (those (λ e. eqb (long s e) (shortest s on T)) (those (ahead s on) T)) m in
       let p = of-those (λ e. eqb (long s e) (shortest s on T)) (those (ahead s on) T) r.stands in

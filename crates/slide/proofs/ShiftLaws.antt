@@ -13,7 +13,7 @@ use lib.Signed.{lt_z, le_z}
 use Rattle.lists.specs.Member.{◌∈◌, here}
 use Rattle.lists.proofs.TestLaws.{by, differ, either}
 use Rattle.signed.specs.Sides.{up, down, Lt, Le}
-use Rattle.signed.proofs.SideLaws.{ltZ-true, ltZ-false, lt-ltZ, le-ltZ, eq_of, signed}
+use Rattle.signed.proofs.SideLaws.{z_lt-true, z_lt-false, lt-z_lt, le-z_lt, eq_of, signed}
 use Rattle.plane.specs.declared.Place.{Place}
 use Rattle.plane.specs.declared.Macro.{Macro}
 use Rattle.plane.specs.Distance.{apart}
@@ -23,11 +23,11 @@ use Rattle.plane.proofs.DistanceLaws.{apart-ordered, apart-comm, apart-self}
 use Rattle.plane.proofs.MacroLaws.{clear_comm}
 use Rattle.plane.proofs.BoxLaws.{first-in-box, last-in-box, clear_within}
 use Rattle.joined.specs.Joined.{Link}
-use Rattle.net.specs.Net.{Net, costIn}
+use Rattle.net.specs.Net.{Net, cost_in}
 use Rattle.slide.specs.declared.Side.{Side}
-use Rattle.slide.specs.Side.{along, across, moved, weight, weightAlong}
+use Rattle.slide.specs.Side.{along, across, moved, weight, weight_along}
 use Rattle.slide.specs.Bend.{Edge, straight}
-use Rattle.slide.specs.Bar.{level, ofBar, hangs, ahead, behind}
+use Rattle.slide.specs.Bar.{level, of_bar, hangs, ahead, behind}
 use Rattle.slide.specs.Slide.{shift}
 use Rattle.slide.specs.Bars.{IsBar, Allowed}
 use Rattle.slide.proofs.GlueLaws.{UprightAll, glue}
@@ -139,11 +139,11 @@ module _ (net : Net) (s : Side) (on : Place → Bool) (d : ℕ) where
   -- what becomes of the cost of an edge
   pub data Change (a b : Place) : Type 0 where
     less : ahead s on (a, b) ≡ true → behind s on (a, b) ≡ false →
-        costIn net (shift s on d a) (shift s on d b) + weight net s * d ≡ costIn net a b → Change a b
+        cost_in net (shift s on d a) (shift s on d b) + weight net s * d ≡ cost_in net a b → Change a b
     more : ahead s on (a, b) ≡ false → behind s on (a, b) ≡ true →
-        costIn net (shift s on d a) (shift s on d b) ≡ costIn net a b + weight net s * d → Change a b
+        cost_in net (shift s on d a) (shift s on d b) ≡ cost_in net a b + weight net s * d → Change a b
     none : ahead s on (a, b) ≡ false → behind s on (a, b) ≡ false →
-        costIn net (shift s on d a) (shift s on d b) ≡ costIn net a b → Change a b
+        cost_in net (shift s on d a) (shift s on d b) ≡ cost_in net a b → Change a b
 
   change-comm : (a b : Place) → Change b a → Change a b
   change-comm a b (less h k e) =
@@ -161,19 +161,19 @@ module _ (net : Net) (s : Side) (on : Place → Bool) (d : ℕ) where
     tests-up : Lt (across s a) (across s b) → (ahead s on (a, b) ≡ true) × (behind s on (a, b) ≡ false)
     unfolding ahead behind
     tests-up k =
-        let x = lt-ltZ (across s a) (across s b) k in
-        let y : lt_z (across s b) (across s a) ≡ false = le-ltZ (across s b) (across s a) (omega (arith, k)) in
+        let x = lt-z_lt (across s a) (across s b) k in
+        let y : lt_z (across s b) (across s a) ≡ false = le-z_lt (across s b) (across s a) (omega (arith, k)) in
         (rw (h.near, h.away, x) refl, rw (h.near, h.away, y) refl)
 
     tests-down : Lt (across s b) (across s a) → (ahead s on (a, b) ≡ false) × (behind s on (a, b) ≡ true)
     unfolding ahead behind
     tests-down k =
-        let x = lt-ltZ (across s b) (across s a) k in
-        let y : lt_z (across s a) (across s b) ≡ false = le-ltZ (across s a) (across s b) (omega (arith, k)) in
+        let x = lt-z_lt (across s b) (across s a) k in
+        let y : lt_z (across s a) (across s b) ≡ false = le-z_lt (across s a) (across s b) (omega (arith, k)) in
         (rw (h.near, h.away, y) refl, rw (h.near, h.away, x) refl)
 
     -- the cost, once one end has moved
-    cost-moved : costIn net (moved s d a) b ≡ weightAlong net s * apart (along s a) (along s b) + weight net s * apart
+    cost-moved : cost_in net (moved s d a) b ≡ weight_along net s * apart (along s a) (along s b) + weight net s * apart
         (across s (moved s d a)) (across s b)
     cost-moved = cost-by net s (moved s d a) b ∙ rw (along-moved s d a) refl
 
@@ -213,10 +213,10 @@ module _ (net : Net) (s : Side) (on : Place → Bool) (d : ℕ) where
       (omega (arith, cost-moved a b h, cost-by net s a b, mul-add (weight net s) (apart (across s a) (across s b)) d)))
 
   -- edges of the bar cost what they did
-  bar-cost : (a b : Place) → across s a ≡ across s b → costIn net (moved s d a) (moved s d b) ≡ costIn net a b
+  bar-cost : (a b : Place) → across s a ≡ across s b → cost_in net (moved s d a) (moved s d b) ≡ cost_in net a b
   bar-cost a b q =
       cost-by net s (moved s d a) (moved s d b)
-      ∙ ap₂ (λ (m n : ℕ). weightAlong net s * m + weight net s * n)
+      ∙ ap₂ (λ (m n : ℕ). weight_along net s * m + weight net s * n)
       (ap₂ apart (along-moved s d a) (along-moved s d b))
       (ap (apart (across s (moved s d a))) (sym (moved-level s on d a b q)) ∙ apart-self _ ∙ sym
       (ap (apart (across s a)) (sym q) ∙ apart-self _))
@@ -225,8 +225,8 @@ module _ (net : Net) (s : Side) (on : Place → Bool) (d : ℕ) where
   level-tests : (a b : Place) → across s a ≡ across s b → (ahead s on (a, b) ≡ false) × (behind s on (a, b) ≡ false)
   unfolding ahead behind
   level-tests a b q =
-      let x : lt_z (across s a) (across s b) ≡ false = rw q (le-ltZ (across s b) (across s b) (omega arith)) in
-      let y : lt_z (across s b) (across s a) ≡ false = rw q (le-ltZ (across s b) (across s b) (omega arith)) in (
+      let x : lt_z (across s a) (across s b) ≡ false = rw q (le-z_lt (across s b) (across s b) (omega arith)) in
+      let y : lt_z (across s b) (across s a) ≡ false = rw q (le-z_lt (across s b) (across s b) (omega arith)) in (
         rw (x, y) (by (on a) (λ e. by (on b) (λ g. rw (e, g) refl) (λ g. rw (e, g) refl))
             (λ e. by (on b) (λ g. rw (e, g) refl) (λ g. rw (e, g) refl))),
         rw (x, y) (by (on a) (λ e. by (on b) (λ g. rw (e, g) refl) (λ g. rw (e, g) refl))

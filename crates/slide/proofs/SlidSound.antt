@@ -10,7 +10,7 @@ use Prim.Native.Nat.{ℕ, suc, ◌+◌, ◌≤◌}
 use native.Mathlib.Omega.{arith}
 use lib.ListN.{length}
 use Rattle.lists.specs.Member.{◌∈◌, here, there, Among, Once, rest}
-use Rattle.lists.specs.Sorted.{sorted, firstThen, Order, Ascending}
+use Rattle.lists.specs.Sorted.{sorted, first_then, Order, Ascending}
 use Rattle.lists.proofs.TestLaws.{by, differ, either}
 use Rattle.lists.proofs.MemberLaws.{rest_in, rest-gone}
 use Rattle.lists.proofs.OrderLaws.{pair-order}
@@ -25,9 +25,9 @@ use Rattle.joined.specs.Tree.{TreeOn, Forest}
 use Rattle.joined.specs.Cost.{lengths}
 use Rattle.joined.proofs.JoinedLaws.{one}
 use Rattle.joined.proofs.OneTreeLaws.{tree-one, one-tree}
-use Rattle.net.specs.Net.{Net, costIn}
+use Rattle.net.specs.Net.{Net, cost_in}
 use Rattle.slide.specs.Bend.{Edge, straight, Bent, bent, given_back, bends}
-use Rattle.slide.specs.Slide.{ends, treePoints, inOrder, rounds, afterBends, slid}
+use Rattle.slide.specs.Slide.{ends, tree_points, in_their_order, rounds, after_bends, slid}
 use Rattle.slide.specs.Promise.{Straight, Smaller, Within, Sound, Given, RoundsOf, Promise}
 use Rattle.slide.proofs.GlueLaws.{UprightAll}
 use Rattle.slide.proofs.BendLaws.{Bends, bends-do, bends-tree}
@@ -38,7 +38,7 @@ use Rattle.slide.proofs.PointLaws.{in-ends, of-ends, points-ascending, edge_orde
 use Rattle.slide.proofs.PointLaws.{points-sound}
 use Rattle.slide.proofs.RoundLaws.{Rounds, rounds-sound, rounds-of}
 
-module _ {T : List Edge} (small : Smaller T) (ordered : Ascending (firstThen before before) T) where
+module _ {T : List Edge} (small : Smaller T) (ordered : Ascending (first_then before before) T) where
   -- no edge twice, read either way, and none with equal ends
   pub simple : Simple T
   unfolding others
@@ -48,7 +48,7 @@ module _ {T : List Edge} (small : Smaller T) (ordered : Ascending (firstThen bef
       place-differs a b h e = differ h (ap (before a) (sym e) ∙ place-order.never a)
 
       once : Once T
-      once = ascending-once (firstThen before before) edge_order T ordered
+      once = ascending-once (first_then before before) edge_order T ordered
 
       both_ways : (a b : Place) → before a b ≡ true → before b a ≡ true → ⊥
       both_ways a b h k = differ (place-order.along a b a h k) (place-order.never a)
@@ -61,10 +61,10 @@ module _ {T : List Edge} (small : Smaller T) (ordered : Ascending (firstThen bef
 
 module _ (net : Net) (pin : Place) (has-pin : pin ∈ net.pins) (T : List Edge) where
   abbrev points : List Place
-  points = treePoints net T
+  points = tree_points net T
 
   points-inside : Inside points T
-  unfolding treePoints
+  unfolding tree_points
   points-inside a b m =
       let h = in-ends T a b m in (
         in-sorted before place-order _ a (Memᴰ.append_right net.pins h.0),
@@ -72,16 +72,16 @@ module _ (net : Net) (pin : Place) (has-pin : pin ∈ net.pins) (T : List Edge) 
       )
 
   points-pinned : Among net.pins points
-  unfolding treePoints
+  unfolding tree_points
   points-pinned p i = in-sorted before place-order _ p (Memᴰ.append_left (ends T) i)
 
   -- a tree point is a pin or the end of an edge
   is-point : (x : Place) → Point points T x → Point net.pins T x
-  unfolding treePoints
+  unfolding tree_points
   is-point x (inr l) = inr l
   is-point x (inl m) = either inl (λ i. inr (of-ends T x i)) (Memᴰ.append_cases net.pins (of-sorted before _ x m))
 
-  pub given-sound : Given net T → Sound net (treePoints net T) T
+  pub given-sound : Given net T → Sound net (tree_points net T) T
   given-sound g = record {
     tree =
         one-tree place_same points-inside (simple g.smaller g.ordered)
@@ -98,28 +98,28 @@ module _ (net : Net) (pin : Place) (has-pin : pin ∈ net.pins) (T : List Edge) 
 
 module _ (net : Net) (upright : UprightAll net.macros) (pin : Place) (has-pin : pin ∈ net.pins) (T : List Edge) where
   pub record Slid (S : List Edge) : Type 0 where
-    pub sound : Sound net (treePoints net S) S
-    pub cheaper : lengths (costIn net) S ≤ lengths (costIn net) T
+    pub sound : Sound net (tree_points net S) S
+    pub cheaper : lengths (cost_in net) S ≤ lengths (cost_in net) T
     pub few : length S ≤ length T + length T
-    pub lines : (Y : List Place) (U : List Edge) → bends (treePoints net T) T ≡ bent Y U → Straight S
-    pub back : bends (treePoints net T) T ≡ given_back → S ≡ T
+    pub lines : (Y : List Place) (U : List Edge) → bends (tree_points net T) T ≡ bent Y U → Straight S
+    pub back : bends (tree_points net T) T ≡ given_back → S ≡ T
     pub within : (lo hi : Place) → Within lo hi T → Within lo hi S
     pub smaller : Smaller T → Smaller S
-    pub ordered : Ascending (firstThen before before) T → Ascending (firstThen before before) S
-    pub rounds : (Y : List Place) (U : List Edge) → bends (treePoints net T) T ≡ bent Y U → RoundsOf net (length Y) (inOrder U)
+    pub ordered : Ascending (first_then before before) T → Ascending (first_then before before) S
+    pub rounds : (Y : List Place) (U : List Edge) → bends (tree_points net T) T ≡ bent Y U → RoundsOf net (length Y) (in_their_order U)
 
   -- one of the two
   bent-or-back : {Y : List Place} {U : List Edge} → bent Y U ≡ given_back → ⊥
-  bent-or-back e = subst bentOnly e tt
+  bent-or-back e = subst bent_only e tt
     where
-      bentOnly : Bent → Type 0
-      bentOnly (bent Y U) = Unit {0}
-      bentOnly given_back = ⊥
+      bent_only : Bent → Type 0
+      bent_only (bent Y U) = Unit {0}
+      bent_only given_back = ⊥
 
   -- what bends leave
-  module _ (t : Sound net (treePoints net T) T) (Y : List Place) (U : List Edge) (e : bends (treePoints net T) T ≡ bent Y U) where
-    pub bent-does : Bends net (treePoints net T) T Y U
-    bent-does = bends-do net (treePoints net T) T Y U t.inside e
+  module _ (t : Sound net (tree_points net T) T) (Y : List Place) (U : List Edge) (e : bends (tree_points net T) T ≡ bent Y U) where
+    pub bent-does : Bends net (tree_points net T) T Y U
+    bent-does = bends-do net (tree_points net T) T Y U t.inside e
 
     pub bent-sound : Sound net Y U
     bent-sound = record {
@@ -127,35 +127,35 @@ module _ (net : Net) (upright : UprightAll net.macros) (pin : Place) (has-pin : 
       inside = bent-does.inside;
       pinned = λ p i. bent-does.keeps p (t.pinned p i);
       free = bent-does.free t.free;
-      ends = bends-ends net.pins (treePoints net T) T Y U t.inside e t.ends;
+      ends = bends-ends net.pins (tree_points net T) T Y U t.inside e t.ends;
     }
 
-    pub in-order-sound : Sound net (treePoints net (inOrder U)) (inOrder U)
-    in-order-sound = points-sound (inOrder U) (sorted-sound U bent-sound) pin has-pin
+    pub in-order-sound : Sound net (tree_points net (in_their_order U)) (in_their_order U)
+    in-order-sound = points-sound (in_their_order U) (sorted-sound U bent-sound) pin has-pin
 
-    pub bent-lines : Straight (inOrder U)
-    bent-lines x y m = bent-does.straight x y (of-sorted (firstThen before before) U (x, y) m)
+    pub bent-lines : Straight (in_their_order U)
+    bent-lines x y m = bent-does.straight x y (of-sorted (first_then before before) U (x, y) m)
 
-    played : Rounds net upright pin has-pin (inOrder U) (rounds net (length Y) (inOrder U))
-    played = rounds-sound net upright pin has-pin (length Y) (inOrder U) in-order-sound bent-lines
+    played : Rounds net upright pin has-pin (in_their_order U) (rounds net (length Y) (in_their_order U))
+    played = rounds-sound net upright pin has-pin (length Y) (in_their_order U) in-order-sound bent-lines
 
-    each-round : RoundsOf net (length Y) (inOrder U)
-    each-round = rounds-of net upright pin has-pin (length Y) (inOrder U) in-order-sound bent-lines
+    each-round : RoundsOf net (length Y) (in_their_order U)
+    each-round = rounds-of net upright pin has-pin (length Y) (in_their_order U) in-order-sound bent-lines
 
-  slid_at : (t : Sound net (treePoints net T) T) (r : Bent) → bends (treePoints net T) T ≡ r → Slid (afterBends net T r)
-  unfolding afterBends
+  slid_at : (t : Sound net (tree_points net T) T) (r : Bent) → bends (tree_points net T) T ≡ r → Slid (after_bends net T r)
+  unfolding after_bends
   slid_at t (bent Y U) e =
       let p = played t Y U e in
-      let in-U : (x y : Place) → (x, y) ∈ inOrder U → (x, y) ∈ U = λ x y m. of-sorted (firstThen before before) U (x, y) m in
+      let in-U : (x y : Place) → (x, y) ∈ in_their_order U → (x, y) ∈ U = λ x y m. of-sorted (first_then before before) U (x, y) m in
       record {
         sound = p.sound;
         cheaper = omega (arith, sorted-costs U (bent-sound t Y U e), p.cheaper, (bent-does t Y U e).costs);
         few = omega (arith, sorted-length U (bent-sound t Y U e), p.fewer, (bent-does t Y U e).few);
         lines = λ Z W k. p.lines;
         back = λ k. absurd (bent-or-back (sym e ∙ k));
-        within = λ lo hi i. p.within lo hi (λ x y m. bends-within lo hi (treePoints net T) T Y U e i x y (in-U x y m));
-        smaller = λ i. p.smaller (λ x y m. bends-smaller (treePoints net T) T Y U e i x y (in-U x y m));
-        ordered = λ i. p.ordered (sorted-ascending (firstThen before before) edge_order U);
+        within = λ lo hi i. p.within lo hi (λ x y m. bends-within lo hi (tree_points net T) T Y U e i x y (in-U x y m));
+        smaller = λ i. p.smaller (λ x y m. bends-smaller (tree_points net T) T Y U e i x y (in-U x y m));
+        ordered = λ i. p.ordered (sorted-ascending (first_then before before) edge_order U);
         rounds = λ Z W k. each-round t Z W k;
       }
   slid_at t given_back e = record {
@@ -172,7 +172,7 @@ module _ (net : Net) (upright : UprightAll net.macros) (pin : Place) (has-pin : 
 
   pub slid-sound : {X : List Place} → Sound net X T → Slid (slid net T)
   unfolding slid
-  slid-sound t = slid_at (points-sound T t pin has-pin) (bends (treePoints net T) T) refl
+  slid-sound t = slid_at (points-sound T t pin has-pin) (bends (tree_points net T) T) refl
 
   -- The theorem
 

@@ -23,7 +23,7 @@ use Rattle.signed.specs.Sides.{up, down, Lt, Le}
 use Rattle.signed.proofs.SideLaws.{eq_of, signed}
 use Rattle.plane.specs.declared.Place.{Place}
 use Rattle.plane.specs.declared.Macro.{Macro}
-use Rattle.plane.specs.Place.{samePlace}
+use Rattle.plane.specs.Place.{same_place}
 use Rattle.plane.specs.Macro.{clear}
 use Rattle.plane.proofs.PlaceLaws.{same_true, same_refl}
 use Rattle.plane.proofs.PlaceOrder.{place_same}
@@ -32,13 +32,13 @@ use Rattle.joined.specs.Tree.{TreeOn}
 use Rattle.joined.specs.Cost.{lengths}
 use Rattle.joined.proofs.JoinedLaws.{one, between, carried, firsts, seconds}
 use Rattle.joined.proofs.CountLaws.{enough}
-use Rattle.net.specs.Net.{Net, costIn}
+use Rattle.net.specs.Net.{Net, cost_in}
 use Rattle.slide.specs.declared.Side.{Side}
 use Rattle.slide.specs.Side.{along, across, moved, weight}
 use Rattle.slide.specs.Bend.{Edge, straight}
 use Rattle.slide.specs.Bar.{ahead, behind}
-use Rattle.slide.specs.Sweep.{surplus, savingOf}
-use Rattle.slide.specs.Slide.{shift, shiftEdge, proper, slide}
+use Rattle.slide.specs.Sweep.{surplus, saving_of}
+use Rattle.slide.specs.Slide.{shift, shift_edge, proper, slide}
 use Rattle.slide.specs.Bars.{IsBar, FarEnd, Allowed}
 use Rattle.slide.specs.Promise.{Clear, Straight}
 use Rattle.slide.proofs.GlueLaws.{UprightAll}
@@ -51,7 +51,7 @@ use Rattle.slide.proofs.ShiftLaws.{le-eq, shift-clear, shift-straight, Change, l
 
 pub proper-false : (a b : Place) → proper (a, b) ≡ false → a ≡ b
 unfolding proper
-proper-false a b e = by (samePlace a b) (λ h. same_true a b h) (λ h. differ (rw h refl) e)
+proper-false a b e = by (same_place a b) (λ h. same_true a b h) (λ h. differ (rw h refl) e)
 
 pub false-proper : (a b : Place) → a ≡ b → proper (a, b) ≡ false
 unfolding proper
@@ -61,10 +61,10 @@ false-proper a b e = rw (e, same_refl b) refl
 
 module _ (s : Side) (on : Place → Bool) (d : ℕ) (T : List Edge) where
   pub in-slide : (a b : Place) → (a, b) ∈ T → (shift s on d a ≡ shift s on d b) ⊎ ((shift s on d a, shift s on d b) ∈ slide s on d T)
-  unfolding slide shiftEdge
+  unfolding slide shift_edge
   in-slide a b m =
       by (proper (shift s on d a, shift s on d b))
-      (λ e. inr (in-those proper (map (shiftEdge s on d) T) (in_map (shiftEdge s on d) m) e))
+      (λ e. inr (in-those proper (map (shift_edge s on d) T) (in_map (shift_edge s on d) m) e))
       (λ e. inl (proper-false _ _ e))
 
   -- where an edge comes from
@@ -77,15 +77,15 @@ module _ (s : Side) (on : Place → Bool) (d : ℕ) (T : List Edge) where
     pub two : proper (x, y) ≡ true
 
   pub of-slide : (x y : Place) → (x, y) ∈ slide s on d T → Slid x y
-  unfolding slide shiftEdge
+  unfolding slide shift_edge
   of-slide x y m =
-      let r = of-those proper (map (shiftEdge s on d) T) m in
-      let q = of_map (shiftEdge s on d) T r.0 in
+      let r = of-those proper (map (shift_edge s on d) T) m in
+      let q = of_map (shift_edge s on d) T r.0 in
       record { a = q.entry.0; b = q.entry.1; stands = q.stands; first = firsts q.is; second = seconds q.is; two = r.1 }
 
   pub slide-fewer : length (slide s on d T) ≤ length T
   unfolding slide
-  slide-fewer = omega (arith, those-split proper (map (shiftEdge s on d) T), length-map T (shiftEdge s on d))
+  slide-fewer = omega (arith, those-split proper (map (shift_edge s on d) T), length-map T (shift_edge s on d))
 
   -- what holds of each edge once it is shifted
   pub each-slid : (P : Place → Place → Type 0) → ((a b : Place) → (a, b) ∈ T → P (shift s on d a) (shift s on d b)) →
@@ -98,14 +98,14 @@ module _ (s : Side) (on : Place → Bool) (d : ℕ) (T : List Edge) where
 -- The cost
 
 module _ (net : Net) where
-  lengths-proper : (L : List Edge) → lengths (costIn net) (those proper L) ≡ lengths (costIn net) L
+  lengths-proper : (L : List Edge) → lengths (cost_in net) (those proper L) ≡ lengths (cost_in net) L
   unfolding lengths total those
   lengths-proper [] = refl
   lengths-proper (e ∷ L) =
       by (proper e)
       (λ h. rw (those, h) (omega (arith, lengths-proper L)))
       (λ h. rw (those, h)
-      (let z : costIn net e.0 e.1 ≡ 0 = rw (proper-false e.0 e.1 h) (cost-self net.weights e.1) in
+      (let z : cost_in net e.0 e.1 ≡ 0 = rw (proper-false e.0 e.1 h) (cost-self net.weights e.1) in
       omega (arith, lengths-proper L)))
 
   module _ (s : Side) (on : Place → Bool) (d : ℕ) where
@@ -113,9 +113,9 @@ module _ (net : Net) where
     unit = weight net s * d
 
     shifted-cost : (T : List Edge) → ((a b : Place) → (a, b) ∈ T → Change net s on d a b) →
-        lengths (costIn net) (map (shiftEdge s on d) T) + unit * length (those (ahead s on) T)
-        ≡ lengths (costIn net) T + unit * length (those (behind s on) T)
-    unfolding lengths total those shiftEdge
+        lengths (cost_in net) (map (shift_edge s on d) T) + unit * length (those (ahead s on) T)
+        ≡ lengths (cost_in net) T + unit * length (those (behind s on) T)
+    unfolding lengths total those shift_edge
     shifted-cost [] h = refl
     shifted-cost (e ∷ T) h = at (shifted-cost T (λ a b m. h a b (there m))) (h e.0 e.1 (here refl))
       where
@@ -125,10 +125,10 @@ module _ (net : Net) where
         B : ℕ
         B = length (those (behind s on) T)
 
-        at : lengths (costIn net) (map (shiftEdge s on d) T) + unit * A ≡ lengths (costIn net) T + unit * B → Change net s on d e.0
+        at : lengths (cost_in net) (map (shift_edge s on d) T) + unit * A ≡ lengths (cost_in net) T + unit * B → Change net s on d e.0
             e.1 →
-            lengths (costIn net) (map (shiftEdge s on d) (e ∷ T)) + unit * length (those (ahead s on) (e ∷ T))
-            ≡ lengths (costIn net) (e ∷ T) + unit * length (those (behind s on) (e ∷ T))
+            lengths (cost_in net) (map (shift_edge s on d) (e ∷ T)) + unit * length (those (ahead s on) (e ∷ T))
+            ≡ lengths (cost_in net) (e ∷ T) + unit * length (those (behind s on) (e ∷ T))
         at ih (less p q r) = rw (those-hit (ahead s on) e T p, those-miss (behind s on) e T q) (omega (arith, mul-suc unit A, ih, r))
         at ih (more p q r) = rw (those-miss (ahead s on) e T p, those-hit (behind s on) e T q) (omega (arith, mul-suc unit B, ih, r))
         at ih (none p q r) = rw (those-miss (ahead s on) e T p, those-miss (behind s on) e T q) (omega (arith, ih, r))
@@ -136,8 +136,8 @@ module _ (net : Net) where
     -- M11: distance times surplus times weight
     pub saved : (T : List Edge) → ((a b : Place) → (a, b) ∈ T → Change net s on d a b) →
         length (those (behind s on) T) ≤ length (those (ahead s on) T) →
-        lengths (costIn net) (slide s on d T) + savingOf s on net T d ≡ lengths (costIn net) T
-    unfolding slide savingOf surplus
+        lengths (cost_in net) (slide s on d T) + saving_of s on net T d ≡ lengths (cost_in net) T
+    unfolding slide saving_of surplus
     saved T h le =
         let A = length (those (ahead s on) T) in
         let B = length (those (behind s on) T) in
@@ -145,7 +145,7 @@ module _ (net : Net) where
         let split : A ≡ B + k = omega arith in
         let times : unit * A ≡ unit * B + unit * k = ap (λ (n : ℕ). unit * n) split ∙ mul-add unit B k in
         let order : d * k * weight net s ≡ unit * k = mul_comm (d * k) (weight net s) ∙ sym (mul_assoc (weight net s) d k) in
-        omega (arith, lengths-proper (map (shiftEdge s on d) T), shifted-cost T h, times, order)
+        omega (arith, lengths-proper (map (shift_edge s on d) T), shifted-cost T h, times, order)
 
 -- The tree
 
@@ -187,18 +187,18 @@ module _ {s : Side} {on : Place → Bool} {net : Net} {X : List Place} {T : List
 
   -- the edges that go
   gone : List Edge
-  gone = those (λ e. not (proper e)) (map (shiftEdge s on d) T)
+  gone = those (λ e. not (proper e)) (map (shift_edge s on d) T)
 
   gone-count : length (slide s on d T) + length gone ≡ length T
   unfolding gone slide
-  gone-count = those-split proper (map (shiftEdge s on d) T) ∙ length-map T (shiftEdge s on d)
+  gone-count = those-split proper (map (shift_edge s on d) T) ∙ length-map T (shift_edge s on d)
 
   -- a link whose ends become one
   in-gone : (a b : Place) → (a, b) ∈ T → moving a ≡ moving b → moving a ∈ map (λ (e : Edge). e.0) gone
-  unfolding gone shiftEdge
+  unfolding gone shift_edge
   in-gone a b m e =
       in_map (λ (e : Edge). e.0)
-      (in-those (λ e. not (proper e)) (map (shiftEdge s on d) T) (in_map (shiftEdge s on d) m)
+      (in-those (λ e. not (proper e)) (map (shift_edge s on d) T) (in_map (shift_edge s on d) m)
       (rw (false-proper (moving a) (moving b) e) refl))
 
   -- each tree point comes back, or went with an edge
@@ -271,7 +271,7 @@ module _ {s : Side} {on : Place → Bool} {net : Net} {X : List Place} {T : List
       shift-straight s on d a b (kind s on c a b m (lines a b m)) (lines a b m)
 
   pub slide-saves : (net : Net) → Straight T → length (those (behind s on) T) ≤ length (those (ahead s on) T) →
-      lengths (costIn net) (slide s on d T) + savingOf s on net T d ≡ lengths (costIn net) T
+      lengths (cost_in net) (slide s on d T) + saving_of s on net T d ≡ lengths (cost_in net) T
   slide-saves net lines le = saved net s on d T (λ a b m. change net s on d a b (near a b m) (kind s on c a b m (lines a b m))) le
     where
       near : (a b : Place) → (a, b) ∈ T → (p q : Place) → Link ((a, b) ∷ []) p q → on p ≡ true → Lt (across s p) (across s q) →

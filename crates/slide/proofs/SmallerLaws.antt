@@ -11,7 +11,7 @@ use lib.Signed.{lt_z}
 use Rattle.lists.specs.Member.{◌∈◌}
 use Rattle.lists.proofs.TestLaws.{by, differ, either}
 use Rattle.signed.specs.Sides.{up, down, Lt, Le}
-use Rattle.signed.proofs.SideLaws.{ltZ-true, ltZ-false, sub-sides, up_pos, down_pos, eq_of, signed}
+use Rattle.signed.proofs.SideLaws.{z_lt-true, z_lt-false, sub-sides, up_pos, down_pos, eq_of, signed}
 use Rattle.plane.specs.declared.Place.{Place}
 use Rattle.plane.specs.declared.Macro.{Macro}
 use Rattle.plane.specs.Place.{before}
@@ -84,11 +84,11 @@ pub same-level : (s : Side) (a b p q : Place) → across s a ≡ across s b → 
     before a b ≡ true → before p q ≡ true
 same-level s a b p q e g h k o =
     by (lt_z (along s a) (along s b))
-    (λ t. before-along s p q g (let z = ltZ-true (along s a) (along s b) t in rw (h, k) z)) λ t.
+    (λ t. before-along s p q g (let z = z_lt-true (along s a) (along s b) t in rw (h, k) z)) λ t.
     by (lt_z (along s b) (along s a))
-    (λ u. differ (place-order.along a b a o (before-along s b a (sym e) (ltZ-true _ _ u))) (place-order.never a)) λ u.
+    (λ u. differ (place-order.along a b a o (before-along s b a (sym e) (z_lt-true _ _ u))) (place-order.never a)) λ u.
     let z : along s a ≡ along s b =
-    eq_of _ _ (omega (signed, ltZ-false (along s a) (along s b) t, ltZ-false (along s b) (along s a) u))
+    eq_of _ _ (omega (signed, z_lt-false (along s a) (along s b) t, z_lt-false (along s b) (along s a) u))
     in
     differ o (ap (before a) (sym (one_place s a b z e)) ∙ place-order.never a)
 
@@ -100,9 +100,9 @@ module _ {s : Side} {on : Place → Bool} {net : Net} {X : List Place} {T : List
     up-still n k =
         let t = w.short a b e h.near k in
         let r = across-moved s d a in
-        by (lt_z (across s (moved s d a)) (across s b)) (λ z. ltZ-true _ _ z)
+        by (lt_z (across s (moved s d a)) (across s b)) (λ z. z_lt-true _ _ z)
         (λ z. absurd (n (one_place s (moved s d a) b (along-moved s d a ∙ h.line)
-        (eq_of _ _ (omega (arith, t, r, ltZ-false (across s (moved s d a)) (across s b) z))))))
+        (eq_of _ _ (omega (arith, t, r, z_lt-false (across s (moved s d a)) (across s b) z))))))
 
     down-still : Lt (across s b) (across s a) → Lt (across s b) (across s (moved s d a))
     down-still k = omega (arith, k, across-moved s d a)

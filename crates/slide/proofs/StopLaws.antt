@@ -20,12 +20,12 @@ use Rattle.lists.proofs.AnyLaws.{any_none, none_any}
 use Rattle.lists.proofs.MapLaws.{of_map}
 use Rattle.lists.proofs.ThoseLaws.{of-those}
 use Rattle.signed.specs.Sides.{up, down, Lt, Le}
-use Rattle.signed.specs.Order.{minZ, maxZ}
-use Rattle.signed.proofs.SideLaws.{one_side, ltZ-true, ltZ-false, lt-ltZ, leZ-true, le-leZ, add-sides, sub-sides, up_pos, down_pos, signed}
+use Rattle.signed.specs.Order.{z_min, z_max}
+use Rattle.signed.proofs.SideLaws.{one_side, z_lt-true, z_lt-false, lt-z_lt, z_le-true, le-z_le, add-sides, sub-sides, up_pos, down_pos, signed}
 use Rattle.signed.proofs.OrderLaws.{min-sides, max-sides, min_self}
 use Rattle.plane.specs.declared.Place.{Place}
 use Rattle.plane.specs.declared.Macro.{Macro}
-use Rattle.plane.specs.Place.{samePlace}
+use Rattle.plane.specs.Place.{same_place}
 use Rattle.plane.specs.Macro.{meets, clear}
 use Rattle.plane.specs.Box.{Between, InBox}
 use Rattle.plane.proofs.DistanceLaws.{apart-ordered, apart-comm}
@@ -34,14 +34,14 @@ use Rattle.net.specs.Net.{Net}
 use Rattle.slide.specs.declared.Side.{Side}
 use Rattle.slide.specs.Side.{along, across, moved}
 use Rattle.slide.specs.Bend.{Edge, taken}
-use Rattle.slide.specs.Bar.{ofBar, hangs, ahead, far, long, shortest, farEnds}
-use Rattle.slide.specs.Sweep.{lowCorner, highCorner, boxesMeet, onlyIn, firstPlace, lastPlace, swept, pointBars, edgeBars, allowed}
+use Rattle.slide.specs.Bar.{of_bar, hangs, ahead, far, long, shortest, far_ends}
+use Rattle.slide.specs.Sweep.{low_corner, high_corner, boxes_meet, only_in, first_place, last_place, swept, point_bars, edge_bars, allowed}
 use Rattle.slide.specs.Sweep.{greatest, reach}
-use Rattle.slide.specs.Stop.{starts, finishes, nearSide, farSide, beyond, lowAlong, highAlong, lowAcross, highAcross}
-use Rattle.slide.specs.Stop.{edgeAhead, macroAhead, edgeStop, macroStop, leastStop, stop, closed}
+use Rattle.slide.specs.Stop.{starts, finishes, near_side, far_side, beyond, low_along, high_along, low_across, high_across}
+use Rattle.slide.specs.Stop.{edge_ahead, macro_ahead, edge_stop, macro_stop, least_stop, stop, closed}
 use Rattle.slide.specs.Bars.{IsBar}
 use Rattle.slide.proofs.AcrossLaws.{along-moved, across-moved}
-use Rattle.slide.proofs.BarLaws.{first_on, last_on, covered, some, or_cases, box-holds}
+use Rattle.slide.proofs.BarLaws.{first_on, last-on, covered, some, or_cases, box-holds}
 use Rattle.slide.proofs.ReachLaws.{not-false, any-in, allowed-less, greatest-is}
 use Rattle.slide.proofs.TouchLaws.{Touch, touch, touched, Hit, hit, hits}
 
@@ -65,24 +65,24 @@ le_next z w h = omega (arith, h, add-sides z (pos 1), up_pos 1, down_pos 1)
 -- The least of a list
 
 module _ {A : Type 0} (g : A → ℕ) (n : ℕ) where
-  least_at : (l : List A) (x : A) → x ∈ l → leastStop g n l ≤ g x
-  unfolding leastStop
+  least_at : (l : List A) (x : A) → x ∈ l → least_stop g n l ≤ g x
+  unfolding least_stop
   least_at (y ∷ l) x m =
       either (λ k. let h = ap g k in omega (arith, h)) (λ i. omega (arith, least_at l x i)) (Memᴰ.cases_cons m)
 
-  least-most : (l : List A) → leastStop g n l ≤ n
-  unfolding leastStop
+  least-most : (l : List A) → least_stop g n l ≤ n
+  unfolding least_stop
   least-most [] = omega arith
   least-most (y ∷ l) = omega (arith, least-most l)
 
   -- it is n, or that of an entry
-  least-is : (l : List A) → (leastStop g n l ≡ n) ⊎ ((x : A) × ((x ∈ l) × (leastStop g n l ≡ g x)))
-  unfolding leastStop
+  least-is : (l : List A) → (least_stop g n l ≡ n) ⊎ ((x : A) × ((x ∈ l) × (least_stop g n l ≡ g x)))
+  unfolding least_stop
   least-is [] = inl refl
   least-is (y ∷ l) =
-      by (leb (g y) (leastStop g n l))
-      (λ e. inr (y, (here refl, let h = leb-true (g y) (leastStop g n l) e in omega (arith, h))))
-      (λ e. let h = leb-false (g y) (leastStop g n l) e in
+      by (leb (g y) (least_stop g n l))
+      (λ e. inr (y, (here refl, let h = leb-true (g y) (least_stop g n l) e in omega (arith, h))))
+      (λ e. let h = leb-false (g y) (least_stop g n l) e in
       either (λ k. inl (omega (arith, h, k))) (λ r. inr (r.0, (there r.1.0, omega (arith, h, r.1.1)))) (least-is l))
 
 -- A bar, and the box that it sweeps
@@ -90,10 +90,10 @@ module _ {A : Type 0} (g : A → ℕ) (n : ℕ) where
 module _ {s : Side} {net : Net} {X : List Place} {T : List Edge} {on : Place → Bool} (c : IsBar s net X T on) (a : Place)
     (at_a : on a ≡ true) where
   abbrev F : Place
-  F = firstPlace s on X T a
+  F = first_place s on X T a
 
   abbrev L : Place
-  L = lastPlace s on X T a
+  L = last_place s on X T a
 
   abbrev n : ℕ
   n = shortest s on T
@@ -104,7 +104,7 @@ module _ {s : Side} {net : Net} {X : List Place} {T : List Edge} {on : Place →
   -- the box ends d beyond the bar
   box-end : (d : ℕ) → up (across s (moved s d L)) + down (across s F) ≡ d + up (across s F) + down (across s (moved s d L))
   box-end d =
-      let flat = c.flat F (first_on c a at_a) ∙ sym (c.flat L (last_on c a at_a)) in
+      let flat = c.flat F (first_on c a at_a) ∙ sym (c.flat L (last-on c a at_a)) in
       let u = ap up flat in
       let v = ap down flat in
       omega (arith, across-moved s d L)
@@ -115,84 +115,84 @@ module _ {s : Side} {net : Net} {X : List Place} {T : List Edge} {on : Place →
   -- Edges, and places as edges
 
   module _ (d : ℕ) (e : Edge) where
-    edge-met : boxesMeet e (F, moved s d L) ≡ true → (edgeAhead s F L e ≡ true) × (beyond (across s F) (lowAcross s e) ≤ d)
-    unfolding edgeAhead
+    edge-met : boxes_meet e (F, moved s d L) ≡ true → (edge_ahead s F L e ≡ true) × (beyond (across s F) (low_across s e) ≤ d)
+    unfolding edge_ahead
     edge-met h =
         let t = touch s e F (moved s d L) (along-F d) (across-F d) h in (
           and_both _ _
-              (and_both _ _ (le-leZ _ _ (rw (along-moved s d L) at t.beside.0)) (le-leZ _ _ t.beside.1))
-              (le-leZ _ _ t.ahead.1),
-          beyond-le (across s F) (lowAcross s e) (across s (moved s d L)) d (box-end d) t.ahead.0,
+              (and_both _ _ (le-z_le _ _ (rw (along-moved s d L) at t.beside.0)) (le-z_le _ _ t.beside.1))
+              (le-z_le _ _ t.ahead.1),
+          beyond-le (across s F) (low_across s e) (across s (moved s d L)) d (box-end d) t.ahead.0,
         )
 
-    met-edge : edgeAhead s F L e ≡ true → beyond (across s F) (lowAcross s e) ≤ d → boxesMeet e (F, moved s d L) ≡ true
-    unfolding edgeAhead
+    met-edge : edge_ahead s F L e ≡ true → beyond (across s F) (low_across s e) ≤ d → boxes_meet e (F, moved s d L) ≡ true
+    unfolding edge_ahead
     met-edge h k =
-        let p = and_left (le_z (lowAlong s e) (along s L) && le_z (along s F) (highAlong s e)) _ h in
+        let p = and_left (le_z (low_along s e) (along s L) && le_z (along s F) (high_along s e)) _ h in
         touched s e F (moved s d L) (along-F d) (across-F d)
         (record {
           beside = (
-            rw (along-moved s d L) (leZ-true (lowAlong s e) (along s L) (and_left _ (le_z (along s F) (highAlong s e)) p)),
-            leZ-true (along s F) (highAlong s e) (and_right (le_z (lowAlong s e) (along s L)) _ p),
+            rw (along-moved s d L) (z_le-true (low_along s e) (along s L) (and_left _ (le_z (along s F) (high_along s e)) p)),
+            z_le-true (along s F) (high_along s e) (and_right (le_z (low_along s e) (along s L)) _ p),
           );
           ahead = (
-            le-beyond (across s F) (lowAcross s e) (across s (moved s d L)) d (box-end d) k,
-            leZ-true (across s F) (highAcross s e) (and_right (le_z (lowAlong s e) (along s L) && le_z (along s F) (highAlong s e)) _ h),
+            le-beyond (across s F) (low_across s e) (across s (moved s d L)) d (box-end d) k,
+            z_le-true (across s F) (high_across s e) (and_right (le_z (low_along s e) (along s L) && le_z (along s F) (high_along s e)) _ h),
           );
         })
 
   -- what stops at m is in the way from m on
   module _ (own : Edge → Bool) (e : Edge) where
-    stop-met : (d : ℕ) → boxesMeet e (F, moved s d L) ≡ true → own e ≡ false → edgeStop s F L n own e ≤ d
-    unfolding edgeStop
-    stop-met d h o = let r = edge-met d e h in rw (edgeStop, r.0, o) r.1
+    stop-met : (d : ℕ) → boxes_meet e (F, moved s d L) ≡ true → own e ≡ false → edge_stop s F L n own e ≤ d
+    unfolding edge_stop
+    stop-met d h o = let r = edge-met d e h in rw (edge_stop, r.0, o) r.1
 
-    stop_is : edgeStop s F L n own e < n → (own e ≡ false) × (boxesMeet e (F, moved s (edgeStop s F L n own e) L) ≡ true)
-    unfolding edgeStop
+    stop_is : edge_stop s F L n own e < n → (own e ≡ false) × (boxes_meet e (F, moved s (edge_stop s F L n own e) L) ≡ true)
+    unfolding edge_stop
     stop_is h =
-        by (edgeAhead s F L e)
+        by (edge_ahead s F L e)
         (λ g. by (own e)
-        (λ o. absurd (let z = rw (edgeStop, g, o) at h in let y : ⊥ = omega (arith, z) in y))
-        (λ o. (o, rw (edgeStop, g, o) (met-edge (beyond (across s F) (lowAcross s e)) e g (omega arith)))))
-        (λ g. absurd (let z = rw (edgeStop, g) at h in let y : ⊥ = omega (arith, z) in y))
+        (λ o. absurd (let z = rw (edge_stop, g, o) at h in let y : ⊥ = omega (arith, z) in y))
+        (λ o. (o, rw (edge_stop, g, o) (met-edge (beyond (across s F) (low_across s e)) e g (omega arith)))))
+        (λ g. absurd (let z = rw (edge_stop, g) at h in let y : ⊥ = omega (arith, z) in y))
 
   -- Macros
 
   module _ (m : Macro) where
-    macro-met : (d : ℕ) → meets F (moved s d L) m ≡ true → macroStop s F L n m ≤ d
-    unfolding macroStop macroAhead
+    macro-met : (d : ℕ) → meets F (moved s d L) m ≡ true → macro_stop s F L n m ≤ d
+    unfolding macro_stop macro_ahead
     macro-met d h =
         let t = hit s F (moved s d L) m (along-F d) (across-F d) h in
-        let g : macroAhead s F L m ≡ true =
+        let g : macro_ahead s F L m ≡ true =
         and_both _ _
-        (and_both _ _ (lt-ltZ _ _ (rw (along-moved s d L) at t.beside.1)) (lt-ltZ _ _ t.beside.0))
-        (lt-ltZ _ _ t.ahead.0)
+        (and_both _ _ (lt-z_lt _ _ (rw (along-moved s d L) at t.beside.1)) (lt-z_lt _ _ t.beside.0))
+        (lt-z_lt _ _ t.ahead.0)
         in
-        rw (macroStop, g)
-        (beyond-le (across s F) (nearSide s m +ℤ pos 1) (across s (moved s d L)) d (box-end d) (next_le _ _ t.ahead.1))
+        rw (macro_stop, g)
+        (beyond-le (across s F) (near_side s m +ℤ pos 1) (across s (moved s d L)) d (box-end d) (next_le _ _ t.ahead.1))
 
-    met-macro : macroAhead s F L m ≡ true → (d : ℕ) → beyond (across s F) (nearSide s m +ℤ pos 1) ≤ d → meets F (moved s d L) m ≡ true
-    unfolding macroAhead
+    met-macro : macro_ahead s F L m ≡ true → (d : ℕ) → beyond (across s F) (near_side s m +ℤ pos 1) ≤ d → meets F (moved s d L) m ≡ true
+    unfolding macro_ahead
     met-macro g d k =
         let p = and_left (lt_z (starts s m) (along s L) && lt_z (along s F) (finishes s m)) _ g in
         hits s F (moved s d L) m (along-F d) (across-F d)
         (record {
           beside = (
-            ltZ-true (along s F) (finishes s m) (and_right (lt_z (starts s m) (along s L)) _ p),
-            rw (along-moved s d L) (ltZ-true (starts s m) (along s L) (and_left _ (lt_z (along s F) (finishes s m)) p)),
+            z_lt-true (along s F) (finishes s m) (and_right (lt_z (starts s m) (along s L)) _ p),
+            rw (along-moved s d L) (z_lt-true (starts s m) (along s L) (and_left _ (lt_z (along s F) (finishes s m)) p)),
           );
           ahead = (
-            ltZ-true (across s F) (farSide s m) (and_right (lt_z (starts s m) (along s L) && lt_z (along s F) (finishes s m)) _ g),
-            le_next (nearSide s m) _ (le-beyond (across s F) (nearSide s m +ℤ pos 1) (across s (moved s d L)) d (box-end d) k),
+            z_lt-true (across s F) (far_side s m) (and_right (lt_z (starts s m) (along s L) && lt_z (along s F) (finishes s m)) _ g),
+            le_next (near_side s m) _ (le-beyond (across s F) (near_side s m +ℤ pos 1) (across s (moved s d L)) d (box-end d) k),
           );
         })
 
-    macro-is : macroStop s F L n m < n → meets F (moved s (macroStop s F L n m) L) m ≡ true
-    unfolding macroStop
+    macro-is : macro_stop s F L n m < n → meets F (moved s (macro_stop s F L n m) L) m ≡ true
+    unfolding macro_stop
     macro-is h =
-        by (macroAhead s F L m)
-        (λ g. rw (macroStop, g) (met-macro g (beyond (across s F) (nearSide s m +ℤ pos 1)) (omega arith)))
-        (λ g. absurd (let z = rw (macroStop, g) at h in let y : ⊥ = omega (arith, z) in y))
+        by (macro_ahead s F L m)
+        (λ g. rw (macro_stop, g) (met-macro g (beyond (across s F) (near_side s m +ℤ pos 1)) (omega arith)))
+        (λ g. absurd (let z = rw (macro_stop, g) at h in let y : ⊥ = omega (arith, z) in y))
 
   -- Far ends are beyond a box that is shorter
 
@@ -220,11 +220,11 @@ module _ {s : Side} {net : Net} {X : List Place} {T : List Edge} {on : Place →
       same_line p q e g t =
           let y = ap up (level p e ∙ sym (level q g)) in
           let z = ap down (level p e ∙ sym (level q g)) in
-          omega (arith, ltZ-true (across s p) (across s q) t)
+          omega (arith, z_lt-true (across s p) (across s q) t)
 
       from_first : on u ≡ true → n + (up (across s F) + down (across s v)) ≡ up (across s v) + down (across s F)
       from_first e =
-          let l = ltZ-true (across s u) (across s v)
+          let l = z_lt-true (across s u) (across s v)
           (either (λ z. and_right (on u) _ z)
           (λ z. absurd (same_line v u (and_left _ (lt_z (across s v) (across s u)) z) e (and_right (on v) _ z))) (or_cases _ _ h))
           in
@@ -234,7 +234,7 @@ module _ {s : Side} {net : Net} {X : List Place} {T : List Edge} {on : Place →
       from_second e =
           let z = either (λ z. differ (and_left _ (lt_z (across s u) (across s v)) z) e) (λ z. z) (or_cases _ _ h) in
           let g = and_left _ (lt_z (across s v) (across s u)) z in
-          let l = ltZ-true (across s v) (across s u) (and_right (on v) _ z) in
+          let l = z_lt-true (across s v) (across s u) (and_right (on v) _ z) in
           reaches v u g l (omega (
             arith,
             k,
@@ -244,8 +244,8 @@ module _ {s : Side} {net : Net} {X : List Place} {T : List Edge} {on : Place →
           ))
 
   -- q is a far end of a shortest edge, and in the box
-  no-far : (d : ℕ) → d < n → (q : Place) → q ∈ farEnds s on T → boxesMeet (q, q) (F, moved s d L) ≡ true → ⊥
-  unfolding farEnds lowAcross
+  no-far : (d : ℕ) → d < n → (q : Place) → q ∈ far_ends s on T → boxes_meet (q, q) (F, moved s d L) ≡ true → ⊥
+  unfolding far_ends low_across
   no-far d h q m o =
       let r = of_map (far on) (those (λ e. eqb (long s e) (shortest s on T)) (those (ahead s on) T)) m in
       let i = of-those (λ e. eqb (long s e) (shortest s on T)) (those (ahead s on) T) r.stands in
@@ -261,59 +261,59 @@ module _ {s : Side} {net : Net} {X : List Place} {T : List Edge} {on : Place →
       omega (arith, h, x, t, box-end d)
 
   -- where an edge meets the box is in the box
-  corner-in : (e : Edge) (m : Place) → boxesMeet e (F, m) ≡ true → InBox (lowCorner e (F, m)) F m
-  unfolding boxesMeet lowCorner highCorner
+  corner-in : (e : Edge) (m : Place) → boxes_meet e (F, m) ≡ true → InBox (low_corner e (F, m)) F m
+  unfolding boxes_meet low_corner high_corner
   corner-in e m o = record {
-    across = corner e.0.x e.1.x F.x m.x (leZ-true _ _ (and_left _ (le_z (lowCorner e (F, m)).y (highCorner e (F, m)).y) o));
-    along = corner e.0.y e.1.y F.y m.y (leZ-true _ _ (and_right (le_z (lowCorner e (F, m)).x (highCorner e (F, m)).x) _ o));
+    across = corner e.0.x e.1.x F.x m.x (z_le-true _ _ (and_left _ (le_z (low_corner e (F, m)).y (high_corner e (F, m)).y) o));
+    along = corner e.0.y e.1.y F.y m.y (z_le-true _ _ (and_right (le_z (low_corner e (F, m)).x (high_corner e (F, m)).x) _ o));
   }
     where
-      corner : (p q f m : ℤ) → Le (maxZ (minZ p q) (minZ f m)) (minZ (maxZ p q) (maxZ f m)) → Between (maxZ (minZ p q) (minZ f m)) f m
-      corner p q f m h = (omega (arith, max-sides (minZ p q) (minZ f m)), omega (arith, h, min-sides (maxZ p q) (maxZ f m)))
+      corner : (p q f m : ℤ) → Le (z_max (z_min p q) (z_min f m)) (z_min (z_max p q) (z_max f m)) → Between (z_max (z_min p q) (z_min f m)) f m
+      corner p q f m h = (omega (arith, max-sides (z_min p q) (z_min f m)), omega (arith, h, min-sides (z_max p q) (z_max f m)))
 
   -- Allowed before the stop, and not at it
 
-  abbrev pointOwn : Edge → Bool
-  pointOwn e = on e.0
+  abbrev point_own : Edge → Bool
+  point_own e = on e.0
 
-  abbrev edgeOwn : Edge → Bool
-  edgeOwn e = ofBar s on e || hangs s on e
+  abbrev edge_own : Edge → Bool
+  edge_own e = of_bar s on e || hangs s on e
 
-  abbrev pointStop : Place → ℕ
-  pointStop p = edgeStop s F L n pointOwn (p, p)
+  abbrev point_stop : Place → ℕ
+  point_stop p = edge_stop s F L n point_own (p, p)
 
   abbrev A : ℕ
-  A = leastStop (macroStop s F L n) n net.macros
+  A = least_stop (macro_stop s F L n) n net.macros
 
   abbrev B : ℕ
-  B = leastStop pointStop n X
+  B = least_stop point_stop n X
 
   abbrev C : ℕ
-  C = leastStop (edgeStop s F L n edgeOwn) n T
+  C = least_stop (edge_stop s F L n edge_own) n T
 
   stop-parts : stop s on net X T a ≡ min A (min B C)
   unfolding stop
   stop-parts = refl
 
   pub allowed-before : (k : ℕ) → k < stop s on net X T a → allowed s on X T a net k ≡ true
-  unfolding allowed swept pointBars edgeBars clear
+  unfolding allowed swept point_bars edge_bars clear
   allowed-before k h =
       let z = stop-parts in
       and_both _ _
       (not-false _ (none_any (meets F (moved s k L)) net.macros (λ m i. by (meets F (moved s k L) m)
-      (λ e. absurd (let y : ⊥ = omega (arith, h, z, least_at (macroStop s F L n) n net.macros m i, macro-met m k e) in y)) (λ e. e))))
+      (λ e. absurd (let y : ⊥ = omega (arith, h, z, least_at (macro_stop s F L n) n net.macros m i, macro-met m k e) in y)) (λ e. e))))
       (and_both _ _
-      (not-false _ (none_any (pointBars s on X T a k) X (λ p i. by (pointBars s on X T a k p)
+      (not-false _ (none_any (point_bars s on X T a k) X (λ p i. by (point_bars s on X T a k p)
       (λ e.
-      let o = and_left (boxesMeet (p, p) (F, moved s k L)) _ e in
-      let g = not-true (on p) (and_left (not (on p)) _ (and_right (boxesMeet (p, p) (F, moved s k L)) _ e)) in
-      absurd (let y : ⊥ = omega (arith, h, z, least_at pointStop n X p i, stop-met pointOwn (p, p) k o g) in y))
+      let o = and_left (boxes_meet (p, p) (F, moved s k L)) _ e in
+      let g = not-true (on p) (and_left (not (on p)) _ (and_right (boxes_meet (p, p) (F, moved s k L)) _ e)) in
+      absurd (let y : ⊥ = omega (arith, h, z, least_at point_stop n X p i, stop-met point_own (p, p) k o g) in y))
       (λ e. e))))
-      (not-false _ (none_any (edgeBars s on X T a k) T (λ e i. by (edgeBars s on X T a k e)
+      (not-false _ (none_any (edge_bars s on X T a k) T (λ e i. by (edge_bars s on X T a k e)
       (λ t.
-      let o = and_left (boxesMeet e (F, moved s k L)) _ t in
-      let g = not-true (edgeOwn e) (and_left (not (edgeOwn e)) _ (and_right (boxesMeet e (F, moved s k L)) _ t)) in
-      absurd (let y : ⊥ = omega (arith, h, z, least_at (edgeStop s F L n edgeOwn) n T e i, stop-met edgeOwn e k o g) in y))
+      let o = and_left (boxes_meet e (F, moved s k L)) _ t in
+      let g = not-true (edge_own e) (and_left (not (edge_own e)) _ (and_right (boxes_meet e (F, moved s k L)) _ t)) in
+      absurd (let y : ⊥ = omega (arith, h, z, least_at (edge_stop s F L n edge_own) n T e i, stop-met edge_own e k o g) in y))
       (λ t. t)))))
 
   -- something is in the way
@@ -325,34 +325,34 @@ module _ {s : Side} {net : Net} {X : List Place} {T : List Edge} {on : Place →
   and-false true q e = e
   and-false false q e = refl
 
-  point-blocks : (d : ℕ) → d < n → (p : Place) → p ∈ X → on p ≡ false → boxesMeet (p, p) (F, moved s d L) ≡ true →
+  point-blocks : (d : ℕ) → d < n → (p : Place) → p ∈ X → on p ≡ false → boxes_meet (p, p) (F, moved s d L) ≡ true →
       allowed s on X T a net d ≡ false
-  unfolding allowed swept pointBars taken
+  unfolding allowed swept point_bars taken
   point-blocks d h p i g o =
-      let untaken : any (samePlace p) (farEnds s on T) ≡ false =
-      none_any (samePlace p) (farEnds s on T) (λ q j. by (samePlace p q)
-      (λ e. absurd (no-far d h q j (ap (λ (r : Place). boxesMeet (r, r) (F, moved s d L)) (sym (same_true p q e)) ∙ o)))
+      let untaken : any (same_place p) (far_ends s on T) ≡ false =
+      none_any (same_place p) (far_ends s on T) (λ q j. by (same_place p q)
+      (λ e. absurd (no-far d h q j (ap (λ (r : Place). boxes_meet (r, r) (F, moved s d L)) (sym (same_true p q e)) ∙ o)))
       (λ e. e))
       in
-      let t : pointBars s on X T a d p ≡ true = and_both _ _ o (rw (g, untaken) refl) in
-      let y : any (pointBars s on X T a d) X ≡ true = any-in (pointBars s on X T a d) X p i t in
-      and-false (clear F (moved s d L) net.macros) _ (ap (λ (b : Bool). not b && not (any (edgeBars s on X T a d) T)) y)
+      let t : point_bars s on X T a d p ≡ true = and_both _ _ o (rw (g, untaken) refl) in
+      let y : any (point_bars s on X T a d) X ≡ true = any-in (point_bars s on X T a d) X p i t in
+      and-false (clear F (moved s d L) net.macros) _ (ap (λ (b : Bool). not b && not (any (edge_bars s on X T a d) T)) y)
 
-  edge-blocks : (d : ℕ) → d < n → (e : Edge) → e ∈ T → edgeOwn e ≡ false → boxesMeet e (F, moved s d L) ≡ true →
+  edge-blocks : (d : ℕ) → d < n → (e : Edge) → e ∈ T → edge_own e ≡ false → boxes_meet e (F, moved s d L) ≡ true →
       allowed s on X T a net d ≡ false
-  unfolding allowed swept edgeBars onlyIn
+  unfolding allowed swept edge_bars only_in
   edge-blocks d h e i g o =
-      let elsewhere : any (onlyIn e (F, moved s d L)) (farEnds s on T) ≡ false =
-      none_any (onlyIn e (F, moved s d L)) (farEnds s on T) (λ q j. by (onlyIn e (F, moved s d L) q)
+      let elsewhere : any (only_in e (F, moved s d L)) (far_ends s on T) ≡ false =
+      none_any (only_in e (F, moved s d L)) (far_ends s on T) (λ q j. by (only_in e (F, moved s d L) q)
       (λ t.
-      let k : lowCorner e (F, moved s d L) ≡ q = same_true _ _ (and_left _ (samePlace (highCorner e (F, moved s d L)) q) t) in
-      let inner = box-holds (lowCorner e (F, moved s d L)) F (moved s d L) (corner-in e (moved s d L) o) in
-      absurd (no-far d h q j (ap (λ (r : Place). boxesMeet (r, r) (F, moved s d L)) (sym k) ∙ inner)))
+      let k : low_corner e (F, moved s d L) ≡ q = same_true _ _ (and_left _ (same_place (high_corner e (F, moved s d L)) q) t) in
+      let inner = box-holds (low_corner e (F, moved s d L)) F (moved s d L) (corner-in e (moved s d L) o) in
+      absurd (no-far d h q j (ap (λ (r : Place). boxes_meet (r, r) (F, moved s d L)) (sym k) ∙ inner)))
       (λ t. t))
       in
-      let t : edgeBars s on X T a d e ≡ true = and_both _ _ o (and_both _ _ (not-false _ g) (not-false _ elsewhere)) in
-      let y : any (edgeBars s on X T a d) T ≡ true = any-in (edgeBars s on X T a d) T e i t in
-      and-false (clear F (moved s d L) net.macros) _ (and-false (not (any (pointBars s on X T a d) X)) _ (ap not y))
+      let t : edge_bars s on X T a d e ≡ true = and_both _ _ o (and_both _ _ (not-false _ g) (not-false _ elsewhere)) in
+      let y : any (edge_bars s on X T a d) T ≡ true = any-in (edge_bars s on X T a d) T e i t in
+      and-false (clear F (moved s d L) net.macros) _ (and-false (not (any (point_bars s on X T a d) X)) _ (ap not y))
 
   pub blocked : stop s on net X T a < n → allowed s on X T a net (stop s on net X T a) ≡ false
   blocked h =
@@ -362,30 +362,30 @@ module _ {s : Side} {net : Net} {X : List Place} {T : List Edge} {on : Place →
       let q : stop s on net X T a ≡ A = let w = leb-true A (min B C) e in omega (arith, z, w) in
       either (λ k. absurd (let y : ⊥ = omega (arith, h, q, k) in y))
       (λ r.
-      let k : macroStop s F L n r.0 ≡ stop s on net X T a = sym (q ∙ r.1.1) in
+      let k : macro_stop s F L n r.0 ≡ stop s on net X T a = sym (q ∙ r.1.1) in
       macro-blocks _ r.0 r.1.0
       (ap (λ (d : ℕ). meets F (moved s d L) r.0) (sym k) ∙ macro-is r.0 (omega (arith, h, k))))
-      (least-is (macroStop s F L n) n net.macros))
+      (least-is (macro_stop s F L n) n net.macros))
       (λ e. by (leb B C)
       (λ f.
       let q : stop s on net X T a ≡ B = let w = leb-false A (min B C) e in let v = leb-true B C f in omega (arith, z, w, v) in
       either (λ k. absurd (let y : ⊥ = omega (arith, h, q, k) in y))
       (λ r.
-      let k : pointStop r.0 ≡ stop s on net X T a = sym (q ∙ r.1.1) in
-      let t = stop_is pointOwn (r.0, r.0) (omega (arith, h, k)) in
-      point-blocks _ h r.0 r.1.0 t.0 (ap (λ (d : ℕ). boxesMeet (r.0, r.0) (F, moved s d L)) (sym k) ∙ t.1))
-      (least-is pointStop n X))
+      let k : point_stop r.0 ≡ stop s on net X T a = sym (q ∙ r.1.1) in
+      let t = stop_is point_own (r.0, r.0) (omega (arith, h, k)) in
+      point-blocks _ h r.0 r.1.0 t.0 (ap (λ (d : ℕ). boxes_meet (r.0, r.0) (F, moved s d L)) (sym k) ∙ t.1))
+      (least-is point_stop n X))
       (λ f.
       let q : stop s on net X T a ≡ C = let w = leb-false A (min B C) e in let v = leb-false B C f in omega (arith, z, w, v) in
       either (λ k. absurd (let y : ⊥ = omega (arith, h, q, k) in y))
       (λ r.
-      let k : edgeStop s F L n edgeOwn r.0 ≡ stop s on net X T a = sym (q ∙ r.1.1) in
-      let t = stop_is edgeOwn r.0 (omega (arith, h, k)) in
-      edge-blocks _ h r.0 r.1.0 t.0 (ap (λ (d : ℕ). boxesMeet r.0 (F, moved s d L)) (sym k) ∙ t.1))
-      (least-is (edgeStop s F L n edgeOwn) n T)))
+      let k : edge_stop s F L n edge_own r.0 ≡ stop s on net X T a = sym (q ∙ r.1.1) in
+      let t = stop_is edge_own r.0 (omega (arith, h, k)) in
+      edge-blocks _ h r.0 r.1.0 t.0 (ap (λ (d : ℕ). boxes_meet r.0 (F, moved s d L)) (sym k) ∙ t.1))
+      (least-is (edge_stop s F L n edge_own) n T)))
 
   stop-most : stop s on net X T a ≤ n
-  stop-most = omega (arith, stop-parts, least-most (macroStop s F L n) n net.macros)
+  stop-most = omega (arith, stop-parts, least-most (macro_stop s F L n) n net.macros)
 
   -- The closed form is the greatest distance
 

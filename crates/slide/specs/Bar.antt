@@ -5,7 +5,7 @@ use Rattle.std.proofs.Math.Decide.{ℕ_discrete}
 use Rattle.std.proofs.Math.IntN.{pos-ne-negsuc}
 use Rattle.std.specs.Int.Signed.{lt_z}
 use Rattle.lists.specs.Those.{those}
-use Rattle.signed.specs.Order.{eqZ}
+use Rattle.signed.specs.Order.{z_eq}
 use Rattle.plane.specs.declared.Place.{Place}
 use Rattle.plane.specs.Place.{place, before}
 use Rattle.plane.specs.Distance.{apart}
@@ -19,33 +19,33 @@ abbrev size : ℤ → ℕ
 size (pos n) = n
 size (negsuc n) = n
 
-unfoldable sameNumber : Discrete ℤ
-sameNumber (pos m) (pos n) = elim (ℕ_discrete m n) [ yes e ↦ yes (ap pos e) | no k ↦ no (λ e. k (ap size e)) ]
-sameNumber (pos m) (negsuc n) = no (pos-ne-negsuc m n)
-sameNumber (negsuc m) (pos n) = no (λ e. pos-ne-negsuc n m (sym e))
-sameNumber (negsuc m) (negsuc n) = elim (ℕ_discrete m n) [ yes e ↦ yes (ap negsuc e) | no k ↦ no (λ e. k (ap size e)) ]
+unfoldable same_number : Discrete ℤ
+same_number (pos m) (pos n) = elim (ℕ_discrete m n) [ yes e ↦ yes (ap pos e) | no k ↦ no (λ e. k (ap size e)) ]
+same_number (pos m) (negsuc n) = no (pos-ne-negsuc m n)
+same_number (negsuc m) (pos n) = no (λ e. pos-ne-negsuc n m (sym e))
+same_number (negsuc m) (negsuc n) = elim (ℕ_discrete m n) [ yes e ↦ yes (ap negsuc e) | no k ↦ no (λ e. k (ap size e)) ]
 
 unfoldable pub same : Discrete Place
-unfolding sameNumber ℕ_discrete
+unfolding same_number ℕ_discrete
 same a b =
-    elim (sameNumber a.x b.x) [
-      | yes e ↦ elim (sameNumber a.y b.y) [ yes f ↦ yes (ap₂ place e f) | no k ↦ no (λ e. k (ap (λ p. p.y) e)) ]
+    elim (same_number a.x b.x) [
+      | yes e ↦ elim (same_number a.y b.y) [ yes f ↦ yes (ap₂ place e f) | no k ↦ no (λ e. k (ap (λ p. p.y) e)) ]
       | no k ↦ no (λ e. k (ap (λ p. p.x) e))
     ]
 
 -- an edge along a bar's line, or on a parallel to it
 unfoldable pub level : Side → Edge → Bool
-level s e = eqZ (across s e.0) (across s e.1)
+level s e = z_eq (across s e.0) (across s e.1)
 
 -- M5: p is a point of the bar of a: level edges join the two. Level edges that share a point are on one line.
-unfoldable pub onBar : Side → List Edge → Place → Place → Bool
-onBar s T a p = let label = labels same (those (level s) T) in equal same (label a) (label p)
+unfoldable pub on_bar : Side → List Edge → Place → Place → Bool
+on_bar s T a p = let label = labels same (those (level s) T) in equal same (label a) (label p)
 
 -- In what follows a bar is given by the test `on` for its points.
 
 -- M5: an edge of the bar
-unfoldable pub ofBar : Side → (Place → Bool) → Edge → Bool
-ofBar s on e = level s e && (on e.0 && on e.1)
+unfoldable pub of_bar : Side → (Place → Bool) → Edge → Bool
+of_bar s on e = level s e && (on e.0 && on e.1)
 
 -- M6: an edge at right angles to the bar that ends at one of its points
 unfoldable pub hangs : Side → (Place → Bool) → Edge → Bool
@@ -78,8 +78,8 @@ unfoldable pub shortest : Side → (Place → Bool) → List Edge → ℕ
 shortest s on T = least (map (long s) (those (ahead s on) T))
 
 -- M9: their far ends
-unfoldable pub farEnds : Side → (Place → Bool) → List Edge → List Place
-farEnds s on T = map (far on) (those (λ e. eqb (long s e) (shortest s on T)) (those (ahead s on) T))
+unfoldable pub far_ends : Side → (Place → Bool) → List Edge → List Place
+far_ends s on T = map (far on) (those (λ e. eqb (long s e) (shortest s on T)) (those (ahead s on) T))
 
 -- M8: the first and the last of a and the points of a list, in the order of places
 unfoldable pub first_of : Place → List Place → Place

@@ -1,9 +1,9 @@
 -- The refined tree made of straight edges: rules M2 to M4.
 use Rattle.std.specs.Prelude.{Bool, true, false, ◌||◌, List, [], ◌∷◌}
 use Rattle.lists.specs.Any.{any}
-use Rattle.signed.specs.Order.{eqZ}
+use Rattle.signed.specs.Order.{z_eq}
 use Rattle.plane.specs.declared.Place.{Place}
-use Rattle.plane.specs.Place.{place, samePlace}
+use Rattle.plane.specs.Place.{place, same_place}
 use Rattle.graph.specs.Edges.{edge_of}
 
 -- N16: an edge is a pair of places
@@ -12,18 +12,18 @@ Edge = Place × Place
 
 -- M2: along one axis
 unfoldable pub straight : Edge → Bool
-straight e = eqZ e.0.x e.1.x || eqZ e.0.y e.1.y
+straight e = z_eq e.0.x e.1.x || z_eq e.0.y e.1.y
 
 -- M2: where a slanted edge bends if it goes along x first, and if along y first
-unfoldable pub xFirst : Edge → Place
-xFirst e = place e.1.x e.0.y
+unfoldable pub x_first : Edge → Place
+x_first e = place e.1.x e.0.y
 
-unfoldable pub yFirst : Edge → Place
-yFirst e = place e.0.x e.1.y
+unfoldable pub y_first : Edge → Place
+y_first e = place e.0.x e.1.y
 
 -- M3: one of these points stands at c
 unfoldable pub taken : List Place → Place → Bool
-taken X c = any (samePlace c) X
+taken X c = any (same_place c) X
 
 -- the points and the edges after bending; or, M4, the tree is given back
 pub data Bent : Type 0 where
@@ -45,9 +45,9 @@ bends X (e ∷ T) =
     elim (straight e) [
       | true ↦ kept e (bends X T)
       | false ↦
-          elim (taken X (xFirst e)) [
-            | false ↦ through e (xFirst e) (bends (xFirst e ∷ X) T)
+          elim (taken X (x_first e)) [
+            | false ↦ through e (x_first e) (bends (x_first e ∷ X) T)
             | true ↦
-                elim (taken X (yFirst e)) [ false ↦ through e (yFirst e) (bends (yFirst e ∷ X) T) | true ↦ given_back ]
+                elim (taken X (y_first e)) [ false ↦ through e (y_first e) (bends (y_first e ∷ X) T) | true ↦ given_back ]
           ]
     ]

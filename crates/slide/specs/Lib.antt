@@ -16,15 +16,15 @@
 --  * The edges are in order after bending and after each round, so code that holds them in order has the same list at each step.
 --
 --   Side       Side, along, across, moved      the four ways to move
---              weight, weightAlong             what a unit costs at right angles to a bar, and along it
+--              weight, weight_along             what a unit costs at right angles to a bar, and along it
 --   Bend       straight, bends X T             edges along one axis; the tree made of such, or given back
---   Bar        level, onBar, ofBar, hangs      a bar and what hangs from it;  ahead, behind: on the side, on the other
---              shortest, farEnds               the shortest hanging edge on the side, the far ends of such
+--   Bar        level, on_bar, of_bar, hangs      a bar and what hangs from it;  ahead, behind: on the side, on the other
+--              shortest, far_ends               the shortest hanging edge on the side, the far ends of such
 --   Sweep      swept, allowed, reach           the box that is swept, the test of a distance, the greatest
---              surplus, savingOf               how many more edges hang on the side; what a move saves
+--              surplus, saving_of               how many more edges hang on the side; what a move saves
 --   Stop       stop, closed                    the distance in closed form
---   Slide      treePoints                      the pins and the ends of edges, in order
---              slide, moveOf, better, choice   the edges after a move; a bar's move; the round's choice
+--   Slide      tree_points                      the pins and the ends of edges, in order
+--              slide, move_of, better, choice   the edges after a move; a bar's move; the round's choice
 --              rounds, slid                    rounds, and the slid tree
 --   Bars       IsBar, Allowed                  what is asked for a move to keep the tree: less than the definitions give
 --   Promise    Clear, Straight, Smaller        properties of edges

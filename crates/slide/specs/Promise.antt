@@ -1,14 +1,14 @@
 -- What holds of the tree after bending, after each round and in the end: rule M15.
 use Rattle.std.specs.Prelude.{◌≡◌, true, false, ◌⊎◌, List, [], ◌∷◌, ℕ, zero, suc, ◌+◌, ◌*◌, ◌≤◌, ◌<◌, length}
 use Rattle.lists.specs.Member.{◌∈◌, Among}
-use Rattle.lists.specs.Sorted.{firstThen, Ascending}
+use Rattle.lists.specs.Sorted.{first_then, Ascending}
 use Rattle.plane.specs.declared.Place.{Place}
 use Rattle.plane.specs.declared.Macro.{Macro}
 use Rattle.plane.specs.Place.{before}
 use Rattle.plane.specs.Macro.{clear}
 use Rattle.plane.specs.Box.{InBox}
-use Rattle.net.specs.Net.{Net, costIn}
-use Rattle.net.specs.Bounds.{treeBound}
+use Rattle.net.specs.Net.{Net, cost_in}
+use Rattle.net.specs.Bounds.{tree_bound}
 use Rattle.net.specs.Allowed.{PlaceInRange, Allowed}
 use Rattle.joined.specs.Joined.{Link, Inside}
 use Rattle.joined.specs.Tree.{TreeOn}
@@ -18,9 +18,9 @@ use Rattle.slide.specs.declared.Side.{Side}
 use Rattle.slide.specs.declared.Move.{Move}
 use Rattle.slide.specs.Side.{weight}
 use Rattle.slide.specs.Bend.{Edge, straight, bent, given_back, bends}
-use Rattle.slide.specs.Bar.{onBar}
+use Rattle.slide.specs.Bar.{on_bar}
 use Rattle.slide.specs.Sweep.{surplus}
-use Rattle.slide.specs.Slide.{treePoints, inOrder, move_of, better, choice, make}
+use Rattle.slide.specs.Slide.{tree_points, in_their_order, move_of, better, choice, make}
 
 -- R21: every edge is clear;  M2: or straight
 abbrev pub Clear : List Macro → List Edge → Type 0
@@ -59,7 +59,7 @@ pub record Given (net : Net) (T : List Edge) : Type 0 where
   pub free : Clear net.macros T
   -- N16: each edge smaller place first, and edges in order
   pub smaller : Smaller T
-  pub ordered : Ascending (firstThen before before) T
+  pub ordered : Ascending (first_then before before) T
   -- R16: every point with a single edge is a pin
   pub ends : EndsPins net.pins T
 
@@ -67,18 +67,18 @@ pub record Given (net : Net) (T : List Edge) : Type 0 where
 pub record Slidable (net : Net) (T : List Edge) : Type 0 where
   pub allowed : Allowed net
   pub given : Given net T
-  pub few : length T < treeBound
+  pub few : length T < tree_bound
   pub in-range : (e : Edge) → e ∈ T → PlaceInRange e.0 × PlaceInRange e.1
 
 -- what such code has of the edges before each round
 pub record State (net : Net) (T : List Edge) : Type 0 where
   pub allowed : Allowed net
-  pub sound : Sound net (treePoints net T) T
+  pub sound : Sound net (tree_points net T) T
   pub lines : Straight T
   pub smaller : Smaller T
-  pub ordered : Ascending (firstThen before before) T
+  pub ordered : Ascending (first_then before before) T
   -- and one point more
-  pub few : suc (length T) < treeBound * 2
+  pub few : suc (length T) < tree_bound * 2
   pub in-range : (e : Edge) → e ∈ T → PlaceInRange e.0 × PlaceInRange e.1
 
 -- M11 to M13: the round from the edges T to the edges U, by the move m
@@ -86,8 +86,8 @@ pub record Round (net : Net) (m : Move) (T U : List Edge) : Type 0 where
   -- no bar has a better move
   pub best : (s : Side) (e : Edge) → e ∈ T → better (move_of net T s e) m ≡ false
   -- it saves distance times surplus times weight, and the cost falls by just that
-  pub saving : m.saving ≡ m.distance * surplus m.side (onBar m.side T m.first) T * weight net m.side
-  pub falls : lengths (costIn net) U + m.saving ≡ lengths (costIn net) T
+  pub saving : m.saving ≡ m.distance * surplus m.side (on_bar m.side T m.first) T * weight net m.side
+  pub falls : lengths (cost_in net) U + m.saving ≡ lengths (cost_in net) T
   -- and still one tree holds all pins, clear and of straight edges
   pub one : OneTree net.pins U
   pub free : Clear net.macros U
@@ -106,13 +106,13 @@ RoundsOf net (suc n) (e ∷ L) =
 pub record Promise (net : Net) (T S : List Edge) : Type 0 where
   pub given : Given net S
   -- no dearer than before
-  pub cheaper : lengths (costIn net) S ≤ lengths (costIn net) T
+  pub cheaper : lengths (cost_in net) S ≤ lengths (cost_in net) T
   -- at most two edges for each
   pub few : length S ≤ length T + length T
   -- every edge is straight, unless the tree is given back as it was
-  pub lines : (Y : List Place) (U : List Edge) → bends (treePoints net T) T ≡ bent Y U → Straight S
-  pub back : bends (treePoints net T) T ≡ given_back → S ≡ T
+  pub lines : (Y : List Place) (U : List Edge) → bends (tree_points net T) T ≡ bent Y U → Straight S
+  pub back : bends (tree_points net T) T ≡ given_back → S ≡ T
   -- in each box that holds the tree before
   pub within : (lo hi : Place) → Within lo hi T → Within lo hi S
   -- and round by round
-  pub rounds : (Y : List Place) (U : List Edge) → bends (treePoints net T) T ≡ bent Y U → RoundsOf net (length Y) (inOrder U)
+  pub rounds : (Y : List Place) (U : List Edge) → bends (tree_points net T) T ≡ bent Y U → RoundsOf net (length Y) (in_their_order U)

@@ -42,8 +42,8 @@ weight net Below = net.weights.along
 weight net Right = net.weights.across
 weight net Left = net.weights.across
 
-unfoldable pub weightAlong : Net → Side → ℕ
-weightAlong net Above = net.weights.across
-weightAlong net Below = net.weights.across
-weightAlong net Right = net.weights.along
-weightAlong net Left = net.weights.along
+unfoldable pub weight_along : Net → Side → ℕ
+weight_along net Above = net.weights.across
+weight_along net Below = net.weights.across
+weight_along net Right = net.weights.along
+weight_along net Left = net.weights.along

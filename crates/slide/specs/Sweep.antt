@@ -3,61 +3,61 @@ use Rattle.std.specs.Prelude.{Bool, true, false, not, ◌&&◌, ◌||◌, List, 
 use Rattle.std.specs.Int.Signed.{le_z}
 use Rattle.lists.specs.Any.{any}
 use Rattle.lists.specs.Those.{those}
-use Rattle.signed.specs.Order.{minZ, maxZ}
+use Rattle.signed.specs.Order.{z_min, z_max}
 use Rattle.plane.specs.declared.Place.{Place}
-use Rattle.plane.specs.Place.{place, samePlace}
+use Rattle.plane.specs.Place.{place, same_place}
 use Rattle.plane.specs.Macro.{clear}
 use Rattle.net.specs.Net.{Net}
 use Rattle.slide.specs.declared.Side.{Side}
 use Rattle.slide.specs.Side.{moved, weight}
 use Rattle.slide.specs.Bend.{Edge, taken}
-use Rattle.slide.specs.Bar.{ofBar, hangs, ahead, behind, shortest, farEnds, first_of, last_of}
+use Rattle.slide.specs.Bar.{of_bar, hangs, ahead, behind, shortest, far_ends, first_of, last_of}
 
 -- where the closed boxes of two pairs of places meet: the box of these two places, if the first is not beyond the second
-unfoldable pub lowCorner : Edge → Edge → Place
-lowCorner e f =
-    place (maxZ (minZ e.0.x e.1.x) (minZ f.0.x f.1.x))
-    (maxZ (minZ e.0.y e.1.y) (minZ f.0.y f.1.y))
+unfoldable pub low_corner : Edge → Edge → Place
+low_corner e f =
+    place (z_max (z_min e.0.x e.1.x) (z_min f.0.x f.1.x))
+    (z_max (z_min e.0.y e.1.y) (z_min f.0.y f.1.y))
 
-unfoldable pub highCorner : Edge → Edge → Place
-highCorner e f =
-    place (minZ (maxZ e.0.x e.1.x) (maxZ f.0.x f.1.x))
-    (minZ (maxZ e.0.y e.1.y) (maxZ f.0.y f.1.y))
+unfoldable pub high_corner : Edge → Edge → Place
+high_corner e f =
+    place (z_min (z_max e.0.x e.1.x) (z_max f.0.x f.1.x))
+    (z_min (z_max e.0.y e.1.y) (z_max f.0.y f.1.y))
 
-unfoldable pub boxesMeet : Edge → Edge → Bool
-boxesMeet e f = le_z (lowCorner e f).x (highCorner e f).x && le_z (lowCorner e f).y (highCorner e f).y
+unfoldable pub boxes_meet : Edge → Edge → Bool
+boxes_meet e f = le_z (low_corner e f).x (high_corner e f).x && le_z (low_corner e f).y (high_corner e f).y
 
 -- they meet in the place q and nowhere else
-unfoldable pub onlyIn : Edge → Edge → Place → Bool
-onlyIn e f q = samePlace (lowCorner e f) q && samePlace (highCorner e f) q
+unfoldable pub only_in : Edge → Edge → Place → Bool
+only_in e f q = same_place (low_corner e f) q && same_place (high_corner e f) q
 
 -- X: the tree points;  T: the edges;  a: a point of the bar
 module _ (s : Side) (on : Place → Bool) (X : List Place) (T : List Edge) (a : Place) where
   -- M8: the bar's ends
-  unfoldable pub firstPlace : Place
-  firstPlace = first_of a (those on X)
+  unfoldable pub first_place : Place
+  first_place = first_of a (those on X)
 
-  unfoldable pub lastPlace : Place
-  lastPlace = last_of a (those on X)
+  unfoldable pub last_place : Place
+  last_place = last_of a (those on X)
 
   -- M8: the closed box that a move by d sweeps, by two of its corners
   unfoldable pub swept : ℕ → Edge
-  swept d = (firstPlace, moved s d lastPlace)
+  swept d = (first_place, moved s d last_place)
 
   -- M9: a tree point blocks if it is in the box, not on the bar and not the far end of a shortest hanging edge
-  unfoldable pub pointBars : ℕ → Place → Bool
-  pointBars d p = boxesMeet (p, p) (swept d) && (not (on p) && not (taken (farEnds s on T) p))
+  unfoldable pub point_bars : ℕ → Place → Bool
+  point_bars d p = boxes_meet (p, p) (swept d) && (not (on p) && not (taken (far_ends s on T) p))
 
   -- M9: an edge blocks if it meets the box, is not of the bar and does not hang from it, and does not meet the box in such a far end alone
-  unfoldable pub edgeBars : ℕ → Edge → Bool
-  edgeBars d e =
-      boxesMeet e (swept d)
-      && (not (ofBar s on e || hangs s on e) && not (any (onlyIn e (swept d)) (farEnds s on T)))
+  unfoldable pub edge_bars : ℕ → Edge → Bool
+  edge_bars d e =
+      boxes_meet e (swept d)
+      && (not (of_bar s on e || hangs s on e) && not (any (only_in e (swept d)) (far_ends s on T)))
 
   -- M9: no interior, no tree point and no edge blocks
   unfoldable pub allowed : Net → ℕ → Bool
   allowed net d =
-      clear (swept d).0 (swept d).1 net.macros && (not (any (pointBars d) X) && not (any (edgeBars d) T))
+      clear (swept d).0 (swept d).1 net.macros && (not (any (point_bars d) X) && not (any (edge_bars d) T))
 
 -- the greatest number up to n that passes the test; 0 also where none does
 unfoldable pub greatest : (ℕ → Bool) → ℕ → ℕ
@@ -74,5 +74,5 @@ module _ (s : Side) (on : Place → Bool) where
   surplus T = length (those (ahead s on) T) - length (those (behind s on) T)
 
   -- M11: what a move by d saves
-  unfoldable pub savingOf : Net → List Edge → ℕ → ℕ
-  savingOf net T d = d * surplus T * weight net s
+  unfoldable pub saving_of : Net → List Edge → ℕ → ℕ
+  saving_of net T d = d * surplus T * weight net s

@@ -10,21 +10,21 @@ use borrow.Author.Tests.{eq-eqb, ne_eqb}
 use lib.Dec.{eqb}
 use lib.IntN.{ℤ}
 use lib.ListN.{get_or}
-use Rattle.plane.specs.Flat.{placeAt}
+use Rattle.plane.specs.Flat.{place_at}
 use Rattle.net.specs.Net.{Net}
 use Rattle.net.specs.Allowed.{PlaceInRange}
 use Rattle.slide.specs.declared.Move.{Move}
 use Rattle.slide.specs.Bend.{Edge}
-use Rattle.slide.specs.Bar.{onBar}
-use Rattle.slide.specs.Slide.{inOrder, slide, choice, make, rounds}
+use Rattle.slide.specs.Bar.{on_bar}
+use Rattle.slide.specs.Slide.{in_their_order, slide, choice, make, rounds}
 use Rattle.slide.specs.Promise.{State}
 use Rattle.slide.proofs.MoveRange.{Carries, choice-carries}
-use Rattle.straight.specs.Table.{edgesIn, Within}
+use Rattle.straight.specs.Table.{edges_in, Within}
 use Rattle.bars.specs.declared.Best.{Best}
 use Rattle.bars.proofs.AgreeLaws.{Agrees}
 use Rattle.shifted.specs.declared.Shift.{Shift}
-use Rattle.shifted.specs.Shift.{onLabel, shifted, Movable}
-use Rattle.labels.specs.Labelling.{labelsFor}
+use Rattle.shifted.specs.Shift.{on_label, shifted, Movable}
+use Rattle.labels.specs.Labelling.{labels_for}
 use Rattle.slider.specs.Round.{saves}
 use Rattle.shifted.proofs.ShiftedLaws.{shifted-is}
 use Rattle.slider.proofs.RoundLaws.{round-made, place-fits}
@@ -34,7 +34,7 @@ pub record Found (net : Net) (pts : List ℤ) (n : ℕ) (rows columns : List ℕ
   pub agrees : (e : Edge) (L : List Edge) → T ≡ e ∷ L → Agrees r.best (choice net T e L)
   pub none : T ≡ [] → r.best.saving ≡ 0
   pub on : 0 < r.best.saving → (i : ℕ) → i < n →
-      onBar r.best.side T r.best.first (placeAt pts i) ≡ eqb (get_or (labelsFor r.best.side rows columns) i 0) r.label
+      on_bar r.best.side T r.best.first (place_at pts i) ≡ eqb (get_or (labels_for r.best.side rows columns) i 0) r.label
 
 abbrev pub shift_of : Best → Shift
 shift_of r = record { label = r.label; side = r.best.side; distance = r.best.distance }
@@ -74,27 +74,27 @@ module _ {net : Net} {pts : List ℤ} {n : ℕ} {rows columns : List ℕ} {r : B
 
   module _ (T : List Edge) (s : State net T) (f : Found net pts n rows columns r T) (h : r.best.saving ≡ 0 → ⊥) where
     told : (i : ℕ) → i < n →
-        onLabel (shift_of r) (labelsFor r.best.side rows columns) i ≡ onBar r.best.side T r.best.first (placeAt pts i)
+        on_label (shift_of r) (labels_for r.best.side rows columns) i ≡ on_bar r.best.side T r.best.first (place_at pts i)
     told i l = sym (f.on (omega (arith, h)) i l)
 
-    pub found-movable : ((i : ℕ) → i < n → PlaceInRange (placeAt pts i)) →
-        Movable (shift_of r) pts n (labelsFor r.best.side rows columns)
+    pub found-movable : ((i : ℕ) → i < n → PlaceInRange (place_at pts i)) →
+        Movable (shift_of r) pts n (labels_for r.best.side rows columns)
     found-movable ranged = record {
       each = λ i l. record {
         fits = λ t.
             let c = found-carries T s f h in
-            let p = place-fits _ (c.in-range (placeAt pts i) (sym (told i l) ∙ t) (ranged i l)) in
+            let p = place-fits _ (c.in-range (place_at pts i) (sym (told i l) ∙ t) (ranged i l)) in
             record { small = omega (arith, c.near); x = p.x; y = p.y };
       };
     }
 
     -- the edges after the round
-    pub found-edges : (keys : List ℕ) (e : ℕ) → Within n keys → edgesIn pts keys e ≡ T →
-        inOrder (shifted (shift_of r) pts (labelsFor r.best.side rows columns) keys e) ≡ rounds net 1 T
+    pub found-edges : (keys : List ℕ) (e : ℕ) → Within n keys → edges_in pts keys e ≡ T →
+        in_their_order (shifted (shift_of r) pts (labels_for r.best.side rows columns) keys e) ≡ rounds net 1 T
     unfolding make
     found-edges keys e within listed =
-        let on = onBar r.best.side T r.best.first in
-        ap inOrder
-        (shifted-is (shift_of r) pts (labelsFor r.best.side rows columns) keys n e on told within
+        let on = on_bar r.best.side T r.best.first in
+        ap in_their_order
+        (shifted-is (shift_of r) pts (labels_for r.best.side rows columns) keys n e on told within
         ∙ ap (slide r.best.side on r.best.distance) listed)
         ∙ sym (found-made T f h)

@@ -12,7 +12,7 @@ use lib.ListN.{length, drop}
 use mir.Syntax.{w32}
 use mir.Val.{SFits}
 use Rattle.lists.specs.Member.{◌∈◌}
-use Rattle.lists.specs.Sorted.{firstThen}
+use Rattle.lists.specs.Sorted.{first_then}
 use Rattle.lists.proofs.TestLaws.{by, either, not-true}
 use Rattle.lists.proofs.SortedLaws.{in-sorted, of-sorted, sorted-ascending, ascending-same}
 use Rattle.signed.proofs.SideLaws.{to-sfits}
@@ -21,33 +21,33 @@ use Rattle.plane.specs.declared.Macro.{Macro}
 use Rattle.plane.specs.Place.{before}
 use Rattle.plane.proofs.Fits.{PlaceFits, MacroFits}
 use Rattle.net.specs.Net.{Net}
-use Rattle.net.specs.Pins.{pinCount, pinPlaces, pinAt}
-use Rattle.net.specs.Tests.{outOfRange}
+use Rattle.net.specs.Pins.{pin_count, pin_places, pin_at}
+use Rattle.net.specs.Tests.{out_of_range}
 use Rattle.net.specs.Allowed.{PlaceInRange, MacroInRange}
 use Rattle.net.proofs.PinLaws.{pins-next, pins-end}
 use Rattle.net.proofs.RangeBounds.{in-range-near}
 use Rattle.slide.specs.declared.Side.{Side}
 use Rattle.slide.specs.Side.{horizontal}
 use Rattle.slide.specs.Bend.{Edge}
-use Rattle.slide.specs.Slide.{ends, treePoints, inOrder, choice, make, rounds}
+use Rattle.slide.specs.Slide.{ends, tree_points, in_their_order, choice, make, rounds}
 use Rattle.slide.specs.Promise.{State}
 use Rattle.slide.proofs.PointLaws.{of-ends, edge_order}
 use Rattle.slide.proofs.StateLaws.{next-state, state-points, rounds-over, rounds-next}
-use Rattle.straight.specs.Table.{straightBound, run}
-use Rattle.labels.specs.Labelling.{labelsFor}
+use Rattle.straight.specs.Table.{straight_bound, run}
+use Rattle.labels.specs.Labelling.{labels_for}
 use Rattle.settled.specs.Settled.{points_of}
 use Rattle.slider.specs.Round.{saves}
 
 -- Labels
 
 module _ (s : Side) (rows columns : List ℕ) where
-  pub labels-rows : horizontal s ≡ true → labelsFor s rows columns ≡ rows
-  unfolding labelsFor
-  labels-rows e = rw (labelsFor, e) refl
+  pub labels-rows : horizontal s ≡ true → labels_for s rows columns ≡ rows
+  unfolding labels_for
+  labels-rows e = rw (labels_for, e) refl
 
-  pub labels-columns : horizontal s ≡ false → labelsFor s rows columns ≡ columns
-  unfolding labelsFor
-  labels-columns e = rw (labelsFor, e) refl
+  pub labels-columns : horizontal s ≡ false → labels_for s rows columns ≡ columns
+  unfolding labels_for
+  labels-columns e = rw (labels_for, e) refl
 
 -- Rounds
 
@@ -95,14 +95,14 @@ module _ (net : Net) where
 -- Before a round
 
 module _ {net : Net} {T : List Edge} (s : State net T) where
-  pub state-in-order : inOrder T ≡ T
+  pub state-in-order : in_their_order T ≡ T
   state-in-order =
-      ascending-same (firstThen before before) edge_order (inOrder T) T
-      (sorted-ascending (firstThen before before) edge_order T) s.ordered
-      (of-sorted (firstThen before before) T) (in-sorted (firstThen before before) edge_order T)
+      ascending-same (first_then before before) edge_order (in_their_order T) T
+      (sorted-ascending (first_then before before) edge_order T) s.ordered
+      (of-sorted (first_then before before) T) (in-sorted (first_then before before) edge_order T)
 
-  pub few-points : length (points_of net.pins T) < straightBound
-  unfolding treePoints
+  pub few-points : length (points_of net.pins T) < straight_bound
+  unfolding tree_points
   few-points = omega (arith, state-points s, s.few)
 
   pub point-in-range : (p : Place) → p ∈ points_of net.pins T → PlaceInRange p
@@ -113,7 +113,7 @@ module _ {net : Net} {T : List Edge} (s : State net T) where
 
 -- In range is more than 32 bits ask for
 
-number_fits : (z : ℤ) → outOfRange z ≡ false → SFits w32 z
+number_fits : (z : ℤ) → out_of_range z ≡ false → SFits w32 z
 number_fits z e = let n = in-range-near z e in to-sfits w32 z (omega (arith, n)) (omega (arith, n))
 
 pub place-fits : (p : Place) → PlaceInRange p → PlaceFits p
@@ -130,14 +130,14 @@ macro-fits m r = record {
 -- The pins one by one
 
 module _ (pins : List ℤ) where
-  pins-from : (n i : ℕ) → i + n ≡ pinCount pins → drop i (pinPlaces pins) ≡ run (pinAt pins) i n
+  pins-from : (n i : ℕ) → i + n ≡ pin_count pins → drop i (pin_places pins) ≡ run (pin_at pins) i n
   unfolding run
   pins-from zero i e = pins-end pins i (omega (arith, e))
   pins-from (suc n) i e =
       let next : i + 1 ≡ suc i = omega arith in
       pins-next pins i (omega (arith, e))
-      ∙ ap (λ (l : List Place). pinAt pins i ∷ l)
-      (ap (λ (j : ℕ). drop j (pinPlaces pins)) next ∙ pins-from n (suc i) (omega (arith, e)))
+      ∙ ap (λ (l : List Place). pin_at pins i ∷ l)
+      (ap (λ (j : ℕ). drop j (pin_places pins)) next ∙ pins-from n (suc i) (omega (arith, e)))
 
-  pub pins-run : pinPlaces pins ≡ run (pinAt pins) 0 (pinCount pins)
-  pins-run = pins-from (pinCount pins) 0 (omega arith)
+  pub pins-run : pin_places pins ≡ run (pin_at pins) 0 (pin_count pins)
+  pins-run = pins-from (pin_count pins) 0 (omega arith)

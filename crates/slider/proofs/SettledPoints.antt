@@ -4,7 +4,7 @@ use mathlib.Core.Path.{◌≡◌, sym, ap, ◌∙◌}
 use mathlib.Core.List.Memᴰ
 use mathlib.Core.List.{List, ◌++◌}
 use Rattle.lists.specs.Member.{Among}
-use Rattle.lists.specs.Sorted.{sorted, firstThen}
+use Rattle.lists.specs.Sorted.{sorted, first_then}
 use Rattle.lists.proofs.TestLaws.{either}
 use Rattle.lists.proofs.SortedLaws.{in-sorted, of-sorted, sorted-ascending, ascending-same}
 use Rattle.plane.specs.declared.Place.{Place}
@@ -12,7 +12,7 @@ use Rattle.plane.specs.Place.{before}
 use Rattle.plane.proofs.PlaceOrder.{place-order}
 use Rattle.tree.specs.Table.{Tree}
 use Rattle.slide.specs.Bend.{Edge}
-use Rattle.slide.specs.Slide.{ends, inOrder}
+use Rattle.slide.specs.Slide.{ends, in_their_order}
 use Rattle.slide.proofs.PointLaws.{in-ends, of-ends, edge_order}
 use Rattle.straight.specs.Table.{points, edges}
 use Rattle.settled.specs.Settled.{points_of, Settled}
@@ -33,8 +33,8 @@ points-among pins T U h x m =
 pub settled-points : (pins : List Place) (U : List Edge) (t : Tree) → Settled pins U t → points t ≡ points_of pins (edges t)
 settled-points pins U t s =
     s.placed
-    ∙ ascending-same before place-order (points_of pins U) (points_of pins (inOrder U))
-    (sorted-ascending before place-order (pins ++ ends U)) (sorted-ascending before place-order (pins ++ ends (inOrder U)))
-    (points-among pins U (inOrder U) (in-sorted (firstThen before before) edge_order U))
-    (points-among pins (inOrder U) U (of-sorted (firstThen before before) U))
+    ∙ ascending-same before place-order (points_of pins U) (points_of pins (in_their_order U))
+    (sorted-ascending before place-order (pins ++ ends U)) (sorted-ascending before place-order (pins ++ ends (in_their_order U)))
+    (points-among pins U (in_their_order U) (in-sorted (first_then before before) edge_order U))
+    (points-among pins (in_their_order U) U (of-sorted (first_then before before) U))
     ∙ ap (points_of pins) (sym s.sorted)

@@ -13,20 +13,20 @@ use Rattle.lent.specs.Entries.{flat}
 use Rattle.lent.proofs.EntryTable.{entries_over}
 use Rattle.plane.specs.declared.Place.{Place}
 use Rattle.plane.specs.declared.Weights.{Weights}
-use Rattle.net.specs.Net.{Net, netWith}
-use Rattle.net.specs.Pins.{pinCount, pinPlaces}
+use Rattle.net.specs.Net.{Net, net_with}
+use Rattle.net.specs.Pins.{pin_count, pin_places}
 use Rattle.net.proofs.PinLaws.{length-pins}
-use Rattle.graph.specs.Numbers.{edgeNumbers, edgeFrom}
+use Rattle.graph.specs.Numbers.{edge_numbers, edge_from}
 use Rattle.graph.proofs.WidthLaws.{edge-width}
-use Rattle.laid.specs.Edges.{laidBound}
+use Rattle.laid.specs.Edges.{laid_bound}
 use Rattle.slide.specs.Bend.{Edge, Bent, bent, given_back, bends}
-use Rattle.slide.specs.Slide.{treePoints, inOrder, rounds, slid}
+use Rattle.slide.specs.Slide.{tree_points, in_their_order, rounds, slid}
 use Rattle.slide.specs.Promise.{Slidable, State}
 use Rattle.slide.proofs.SlidSound.{bent-does}
 use Rattle.slide.proofs.StateLaws.{first-pin, slidable-sound, bent-state, slid-bent, slid-back}
-use Rattle.straight.specs.Table.{straightBound}
+use Rattle.straight.specs.Table.{straight_bound}
 use Rattle.bends.specs.declared.Bent as declared
-use Rattle.settled.specs.Settled.{edgesOf, points_of}
+use Rattle.settled.specs.Settled.{edges_of, points_of}
 use Rattle.bends.specs.Bending.{BentBy}
 use Rattle.slider.proofs.TurnLaws.{edges-count}
 
@@ -42,7 +42,7 @@ pub record BentTo (b : Bent) (r : declared.Bent) (out : List ℤ) : Type 0 where
   pub is : b ≡ bent places lines
   pub counted : r.points ≡ length places
   pub many : r.edges ≡ length lines
-  pub listed : edgesOf out r.edges ≡ lines
+  pub listed : edges_of out r.edges ≡ lines
 
 pub bent-to : (b : Bent) (r : declared.Bent) (out : List ℤ) → BentBy b r out → r.back ≡ false → BentTo b r out
 bent-to (bent X U) r out h e = record {
@@ -57,26 +57,26 @@ bent-to given_back r out h e = differ h e
 
 -- The edges given
 
-pub edges-given : (row before after : List ℤ) (n : ℕ) → after ≡ over (flat edgeNumbers (edgesOf row n)) before →
-    edgesOf after n ≡ edgesOf row n
+pub edges-given : (row before after : List ℤ) (n : ℕ) → after ≡ over (flat edge_numbers (edges_of row n)) before →
+    edges_of after n ≡ edges_of row n
 edges-given row before after n h =
-    ap (λ (t : List ℤ). edgesOf t n) h
-    ∙ entries_over edgeNumbers edgeFrom 4 edge-width (edgesOf row n) before n (edges-count row n)
+    ap (λ (t : List ℤ). edges_of t n) h
+    ∙ entries_over edge_numbers edge_from 4 edge-width (edges_of row n) before n (edges-count row n)
 
-module _ (w : Weights) (pins macros edges : List ℤ) (e : ℕ) (s : Slidable (netWith w pins macros) (edgesOf edges e)) where
+module _ (w : Weights) (pins macros edges : List ℤ) (e : ℕ) (s : Slidable (net_with w pins macros) (edges_of edges e)) where
   abbrev net : Net
-  net = netWith w pins macros
+  net = net_with w pins macros
 
   abbrev T : List Edge
-  T = edgesOf edges e
+  T = edges_of edges e
 
-  points-few : length (points_of (pinPlaces pins) T) + e < straightBound
-  unfolding treePoints
+  points-few : length (points_of (pin_places pins) T) + e < straight_bound
+  unfolding tree_points
   points-few = omega (arith, (slidable-sound s).tree.size, s.few, edges-count edges e)
 
-  pub bend-asks : length edges ≡ laidBound * 4 →
-      ((e * 4 ≤ length edges) × ((e * 8 ≤ straightBound * 4) × (pinCount pins ≤ straightBound)))
-      × (length (points_of (pinPlaces pins) T) + e < straightBound)
+  pub bend-asks : length edges ≡ laid_bound * 4 →
+      ((e * 4 ≤ length edges) × ((e * 8 ≤ straight_bound * 4) × (pin_count pins ≤ straight_bound)))
+      × (length (points_of (pin_places pins) T) + e < straight_bound)
   bend-asks long = (
     (
       omega (arith, long, s.few, edges-count edges e),
@@ -85,19 +85,19 @@ module _ (w : Weights) (pins macros edges : List ℤ) (e : ℕ) (s : Slidable (n
     points-few,
   )
 
-  pub slid-given-back : (r : declared.Bent) (out : List ℤ) → BentBy (bends (points_of (pinPlaces pins) T) T) r out → r.back ≡ true →
+  pub slid-given-back : (r : declared.Bent) (out : List ℤ) → BentBy (bends (points_of (pin_places pins) T) T) r out → r.back ≡ true →
       T ≡ slid net T
-  unfolding treePoints
+  unfolding tree_points
   slid-given-back r out h e = sym (slid-back net T (bent-back _ r out h e))
 
-  module _ (r : declared.Bent) (out : List ℤ) (b : BentTo (bends (points_of (pinPlaces pins) T) T) r out) where
-    bends-so : bends (treePoints net T) T ≡ bent b.places b.lines
-    unfolding treePoints
+  module _ (r : declared.Bent) (out : List ℤ) (b : BentTo (bends (points_of (pin_places pins) T) T) r out) where
+    bends-so : bends (tree_points net T) T ≡ bent b.places b.lines
+    unfolding tree_points
     bends-so = b.is
 
     pub bent-few : r.edges ≤ e + e
     bent-few =
-        let p = first-pin (pinPlaces pins) s.allowed.some-pin in
+        let p = first-pin (pin_places pins) s.allowed.some-pin in
         omega (
           arith,
           (bent-does net s.allowed.upright p.0 p.1 T (slidable-sound s) b.places b.lines bends-so).few,
@@ -105,16 +105,16 @@ module _ (w : Weights) (pins macros edges : List ℤ) (e : ℕ) (s : Slidable (n
           edges-count edges e,
         )
 
-    pub few-room : r.edges * 4 ≤ straightBound * 4
+    pub few-room : r.edges * 4 ≤ straight_bound * 4
     few-room = omega (arith, bent-few, s.few, edges-count edges e)
 
     -- the first n of a list are the bent edges in order
-    module _ (row : List ℤ) (n : ℕ) (q : edgesOf row n ≡ inOrder (edgesOf out r.edges)) where
-      in_row : edgesOf row n ≡ inOrder b.lines
-      in_row = q ∙ ap inOrder b.listed
+    module _ (row : List ℤ) (n : ℕ) (q : edges_of row n ≡ in_their_order (edges_of out r.edges)) where
+      in_row : edges_of row n ≡ in_their_order b.lines
+      in_row = q ∙ ap in_their_order b.listed
 
-      pub start-state : State net (edgesOf row n)
+      pub start-state : State net (edges_of row n)
       start-state = subst (λ (U : List Edge). State net U) (sym in_row) (bent-state s b.places b.lines bends-so)
 
-      pub slid-rounds : rounds net r.points (edgesOf row n) ≡ slid net T
+      pub slid-rounds : rounds net r.points (edges_of row n) ≡ slid net T
       slid-rounds = ap₂ (rounds net) b.counted in_row ∙ sym (slid-bent net T b.places b.lines bends-so)

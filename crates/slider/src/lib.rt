@@ -2,11 +2,11 @@
 mod round; // round.rt: a round, and rounds until one saves nothing
 
 ghost use Rattle.std.specs.Prelude.{◌≡◌, ◌*◌, length};
-ghost use Rattle.net.specs.Net.{netWith};
-ghost use Rattle.laid.specs.Edges.{laidBound};
+ghost use Rattle.net.specs.Net.{net_with};
+ghost use Rattle.laid.specs.Edges.{laid_bound};
 ghost use Rattle.slide.specs.Slide.{slid};
 ghost use Rattle.slide.specs.Promise.{Slidable};
-ghost use Rattle.settled.specs.Settled.{edgesOf};
+ghost use Rattle.settled.specs.Settled.{edges_of};
 
 use plane::Weights;
 use straight::EDGE_NUMBERS;
@@ -20,10 +20,10 @@ pub struct Turn {
 
 // The slid tree of the first e edges: slanted edges bent, then rounds. How many edges it has.
 pub fn slide(w: Weights, pins: &[i32], macros: &[i32], edges: &mut [i32], e: usize) -> usize
-    requires slidable { Slidable (netWith w pins.now macros.now) (edgesOf edges.old e) }
-    requires edges_len { length edges.old ≡ laidBound * 4 }
-    ensures { edgesOf edges.new result
-        ≡ slid (netWith w pins.now macros.now) (edgesOf edges.old e) }
+    requires slidable { Slidable (net_with w pins.now macros.now) (edges_of edges.old e) }
+    requires edges_len { length edges.old ≡ laid_bound * 4 }
+    ensures { edges_of edges.new result
+        ≡ slid (net_with w pins.now macros.now) (edges_of edges.old e) }
 {
     let mut list = [0i32; EDGE_NUMBERS];
     let bent = bends::bend_tree(pins, &*edges, e, &mut list);

@@ -1,11 +1,11 @@
 // A round: the best move of all bars made; and rounds until one saves nothing.
 ghost use Rattle.std.specs.Prelude.{◌≡◌, ◌*◌, ◌≤◌, length};
-ghost use Rattle.net.specs.Net.{netWith};
-ghost use Rattle.slide.specs.Slide.{inOrder, rounds};
+ghost use Rattle.net.specs.Net.{net_with};
+ghost use Rattle.slide.specs.Slide.{in_their_order, rounds};
 ghost use Rattle.slide.specs.Promise.{State};
-ghost use Rattle.straight.specs.Table.{straightBound, Within};
-ghost use Rattle.labels.specs.Labelling.{labelsFor};
-ghost use Rattle.settled.specs.Settled.{edgesOf};
+ghost use Rattle.straight.specs.Table.{straight_bound, Within};
+ghost use Rattle.labels.specs.Labelling.{labels_for};
+ghost use Rattle.settled.specs.Settled.{edges_of};
 ghost use Rattle.shifted.specs.Shift.{shifted, Movable};
 ghost use Rattle.slider.specs.Round.{saves};
 
@@ -25,10 +25,10 @@ fn shift_bar(
     m: Shift,
     out: &mut [i32],
 ) -> usize
-    requires points_le_straight_bound { (z.points ≤ straightBound) × ((z.edges ≤ straightBound) × (Within z.points keys.now)) }
-    requires movable { (Movable m pts.now z.points (labelsFor m.side rows.now columns.now)) × (z.edges * 4 ≤ length out.old) }
-    ensures { (edgesOf out.new result ≡ shifted m pts.now
-        (labelsFor m.side rows.now columns.now) keys.now z.edges) × (result ≤ z.edges) }
+    requires points_le_straight_bound { (z.points ≤ straight_bound) × ((z.edges ≤ straight_bound) × (Within z.points keys.now)) }
+    requires movable { (Movable m pts.now z.points (labels_for m.side rows.now columns.now)) × (z.edges * 4 ≤ length out.old) }
+    ensures { (edges_of out.new result ≡ shifted m pts.now
+        (labels_for m.side rows.now columns.now) keys.now z.edges) × (result ≤ z.edges) }
 {
     let s = m.side;
     if moves::is_horizontal(s) {
@@ -47,11 +47,11 @@ fn make(
     m: Shift,
     list: &mut [i32],
 ) -> usize
-    requires points_le_straight_bound { (z.points ≤ straightBound) × ((z.edges ≤ straightBound) × (Within z.points keys.now)) }
-    requires movable { (Movable m pts.now z.points (labelsFor m.side rows.now columns.now))
-        × (length list.old ≡ straightBound * 4) }
-    ensures { edgesOf list.new result ≡ inOrder (shifted m pts.now
-        (labelsFor m.side rows.now columns.now) keys.now z.edges) }
+    requires points_le_straight_bound { (z.points ≤ straight_bound) × ((z.edges ≤ straight_bound) × (Within z.points keys.now)) }
+    requires movable { (Movable m pts.now z.points (labels_for m.side rows.now columns.now))
+        × (length list.old ≡ straight_bound * 4) }
+    ensures { edges_of list.new result ≡ in_their_order (shifted m pts.now
+        (labels_for m.side rows.now columns.now) keys.now z.edges) }
 {
     let mut out = [0i32; EDGE_NUMBERS];
     let count = shift_bar(pts, keys, z, rows, columns, m, &mut out);
@@ -60,11 +60,11 @@ fn make(
 
 // The best move of all bars made, if it saves.
 fn round(w: Weights, pins: &[i32], macros: &[i32], list: &mut [i32], e: usize) -> Turn
-    requires state { State (netWith w pins.now macros.now) (edgesOf list.old e) }
-    requires list_len { length list.old ≡ straightBound * 4 }
-    ensures { (result.moved ≡ saves (netWith w pins.now macros.now) (edgesOf list.old e))
-        × (edgesOf list.new result.edges
-        ≡ rounds (netWith w pins.now macros.now) 1 (edgesOf list.old e)) }
+    requires state { State (net_with w pins.now macros.now) (edges_of list.old e) }
+    requires list_len { length list.old ≡ straight_bound * 4 }
+    ensures { (result.moved ≡ saves (net_with w pins.now macros.now) (edges_of list.old e))
+        × (edges_of list.new result.edges
+        ≡ rounds (net_with w pins.now macros.now) 1 (edges_of list.old e)) }
 {
     let mut pts = [0i32; NUMBERS];
     let mut keys = [0; POINTS];
@@ -107,10 +107,10 @@ pub fn rounds(
     e: usize,
     n: usize,
 ) -> usize
-    requires state { State (netWith w pins.now macros.now) (edgesOf list.old e) }
-    requires list_len { length list.old ≡ straightBound * 4 }
-    ensures { (edgesOf list.new result
-        ≡ rounds (netWith w pins.now macros.now) n (edgesOf list.old e)) × (result ≤ straightBound) }
+    requires state { State (net_with w pins.now macros.now) (edges_of list.old e) }
+    requires list_len { length list.old ≡ straight_bound * 4 }
+    ensures { (edges_of list.new result
+        ≡ rounds (net_with w pins.now macros.now) n (edges_of list.old e)) × (result ≤ straight_bound) }
 {
     let mut count = e;
     let mut i = 0;

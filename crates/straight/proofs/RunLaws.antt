@@ -13,9 +13,9 @@ use borrow.Author.Tests.{ltb-true, ltb-false}
 use Rattle.lists.specs.Member.{◌∈◌, here, there}
 use Rattle.lists.specs.Sorted.{Ascending}
 use Rattle.lists.proofs.TestLaws.{by, either}
-use Rattle.lent.specs.Entries.{entriesFrom, entries}
-use Rattle.plane.specs.Flat.{placeFrom}
-use Rattle.straight.specs.Table.{run, pointsIn}
+use Rattle.lent.specs.Entries.{entries_from, entries}
+use Rattle.plane.specs.Flat.{place_from}
+use Rattle.straight.specs.Table.{run, points_in}
 
 module _ {A : Type 0} (f : ℕ → A) where
   pub run_length : (n i : ℕ) → length (run f i n) ≡ n
@@ -90,12 +90,12 @@ run-same f g (suc n) i h =
 
 -- entries of a table are its values
 pub run-entries : {A B : Type 0} (from : List A → ℕ → B) (w : ℕ) (s : List A) (n i k : ℕ) → k ≡ i * w
-    → entriesFrom from w s k n ≡ run (λ j. from s (j * w)) i n
-unfolding run entriesFrom
+    → entries_from from w s k n ≡ run (λ j. from s (j * w)) i n
+unfolding run entries_from
 run-entries from w s zero i k e = refl
 run-entries from w s (suc n) i k e =
     ap₂ (λ a l. a ∷ l) (ap (from s) e) (run-entries from w s n (suc i) (k + w) (omega (arith, e)))
 
 -- the places of a table are its points
-pub points-are : (pts : List ℤ) (n : ℕ) → entries placeFrom 2 pts n ≡ pointsIn pts n
-points-are pts n = run-entries placeFrom 2 pts n 0 0 refl
+pub points-are : (pts : List ℤ) (n : ℕ) → entries place_from 2 pts n ≡ points_in pts n
+points-are pts n = run-entries place_from 2 pts n 0 0 refl

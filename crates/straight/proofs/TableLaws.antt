@@ -3,8 +3,8 @@
 use mathlib.Core.List.{List}
 use Prim.Native.Nat.{ℕ, ◌≤◌}
 use native.Mathlib.Omega.{arith}
-use Rattle.straight.specs.Table.{straightBound, key, Small, Within}
+use Rattle.straight.specs.Table.{straight_bound, key, Small, Within}
 
 -- ends below the bound make small keys
-pub within-small : (n : ℕ) (ks : List ℕ) → n ≤ straightBound → Within n ks → Small ks
+pub within-small : (n : ℕ) (ks : List ℕ) → n ≤ straight_bound → Within n ks → Small ks
 within-small n ks h w = record { small = λ i. let z = w.ends i in omega (arith, z) }

@@ -4,8 +4,8 @@
 -- keys of their ends' numbers. So the order of numbers is the order of places and of edges. The record is crate tree's; only the bound by
 -- which keys are made differs.
 --
---   Table      straightBound               how many points there may be, 2(n + m)
---              key, firstEnd, secondEnd    the number of an edge, and its ends
+--   Table      straight_bound               how many points there may be, 2(n + m)
+--              key, first_end, second_end    the number of an edge, and its ends
 --              run f i n                   n values of a sequence from number i on
 --              points t, edges t           the points and the edges of tables, in order
 --              Small, Within, Held         what is asked of the tables

@@ -20,8 +20,8 @@ use Rattle.best.proofs.LowerBound.{lower-bound}
 use Rattle.sweeps.specs.Raises.{Raise, raised, falls, Packed}
 
 module _ {A : Type 0} where
-  abbrev pub pinsRaised : List (Raise A) → List A
-  pinsRaised R = map (λ (r : Raise A). r.pin) R
+  abbrev pub pins_raised : List (Raise A) → List A
+  pins_raised R = map (λ (r : Raise A). r.pin) R
 
   -- Sums
 
@@ -59,7 +59,7 @@ module _ {A : Type 0} (same : Discrete A) (G : List (A × A)) (d : A → A → �
     pub packed : Packed G d raises
 
   abbrev pins : Pack → List A
-  pins S = pinsRaised S.raises
+  pins S = pins_raised S.raises
 
   abbrev sums : Pack → A → ℕ
   sums S v = raised S.raises v
@@ -99,7 +99,7 @@ module _ {A : Type 0} (same : Discrete A) (G : List (A × A)) (d : A → A → �
       two S f v = omega (arith, raised-parts (λ (r : Raise A). f r.pin) S.raises v)
 
   -- THE THEOREM
-  pub packed-bound : (R : List (Raise A)) → Packed G d R → (F : List (A × A)) → Edges G F → (v : A) → Reaches F v (pinsRaised R) →
+  pub packed-bound : (R : List (Raise A)) → Packed G d R → (F : List (A × A)) → Edges G F → (v : A) → Reaches F v (pins_raised R) →
       raised R v ≤ lengths d F
   packed-bound R p F edges v reaches =
       lower-bound same pins G d metric (suc (lengths d F)) sums (closed (suc (lengths d F))) F (record { raises = R; packed = p }) v

@@ -18,7 +18,7 @@ use Rattle.grid.proofs.WalkLaws.{walk-map}
 use Rattle.best.specs.Sets.{Edges, Reaches}
 use Rattle.sweeps.specs.Raises.{Raise, raised, falls, Packed}
 use Rattle.sweeps.specs.Sweep.{Nearest, Heights, lessened, Swept, last, raise}
-use Rattle.sweeps.proofs.PackedLaws.{packed-bound, pinsRaised}
+use Rattle.sweeps.proofs.PackedLaws.{packed-bound, pins_raised}
 
 module _ {A : Type 0} (L : A → A → Type 0) where
   -- One raise
@@ -54,7 +54,7 @@ module _ {A : Type 0} (L : A → A → Type 0) where
     pub within : (v w : A) → L v w → falls raises v w ≤ left v w
     pub root : A
     pub root_in : root ∈ pins
-    pub among : (p : A) → p ∈ pinsRaised raises → p ∈ pins
+    pub among : (p : A) → p ∈ pins_raised raises → p ∈ pins
     pub sum : raised raises root ≡ n
 
   pub swept-packs : {left : A → A → ℕ} {pins : List A} {n : ℕ} → Swept L left pins n → Packs left pins n

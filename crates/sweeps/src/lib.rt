@@ -1,19 +1,14 @@
 // A number that no tree of a net goes below: heights above each pin, raised one after the other on the grid.
 //
-// Arc a leads to crossing a / 4 from its neighbour: on the right, on the left, above, below. Its number in the lent
-// table is what is left of its cost and one more, 0 where there is no edge. A row has a height for each crossing.
-//
-// Heights are lowered in waves from the crossing that is raised: a wave visits the arcs that lead to the crossings of
-// the one before and notes those that it lowers. Where none is noted, a pass visits the arcs of the whole grid; the
-// heights are right when it lowers none. So a wave may forget crossings, and a list of a few hundred is enough.
-ghost use Rattle.std.specs.Prelude.{◌≡◌, ◌+◌, ◌*◌, ◌/◌, ◌%◌, ◌≤◌, ◌<◌, min, length, replicate};
-ghost use Rattle.net.specs.Bounds.{pinBound};
+// Arc a leads to crossing a / 4 from its neighbour: on the right, on the left, above, below. Its number in the lent table is what is left
+// of its cost and one more, 0 where there is no edge. A row has a height for each crossing.
+ghost use Rattle.std.specs.Prelude.{◌≡◌, ◌+◌, ◌/◌, ◌%◌, ◌≤◌, ◌<◌, min, length, replicate};
 ghost use Rattle.grid.specs.Rows.{at, Below};
 ghost use Rattle.sweeps.specs.Tables.{
-  wideLines,
-  wideCrossings,
-  arcBound,
-  waveBound,
+  wide_lines,
+  wide_crossings,
+  arc_bound,
+  far,
   offset,
   source,
   ArcsFit,
@@ -21,16 +16,12 @@ ghost use Rattle.sweeps.specs.Tables.{
   Above,
   Passed,
   Quiet,
-  Takes,
+  fall,
   TakenOff,
-  TakesAround,
   Lessened,
-  LessenedAround,
   LeastAt,
   SweptTable,
 };
-
-use net::Net;
 
 // The bounds of the tables.
 #[derive(Drop)]
@@ -40,172 +31,97 @@ pub struct Wide {
 
 impl Wide {
     // Lines along one axis: one a pin and two a macro.
-    pub const LINES: usize = Net::PINS + Net::MACROS * 2;
+    pub const LINES: usize = 384;
 
-    pub const CROSSINGS: usize = Wide::LINES * Wide::LINES;
+    pub const CROSSINGS: usize = 147456;
 
-    pub const ARCS: usize = Wide::CROSSINGS * 4;
+    pub const ARCS: usize = 589824;
 
     // Above what all edges of a grid cost together.
-    pub const FAR: u64 = Wide::ARCS as u64 * Net::COST + 1;
-
-    // How far a neighbour's number is above that of the crossing one line further left: on the right, above, below.
-    pub const RIGHT: usize = Wide::LINES * 2;
-
-    pub const ABOVE: usize = Wide::LINES + 1;
-
-    pub const BELOW: usize = Wide::LINES - 1;
-
-    // Crossings that are noted of a wave; more are left to the pass that ends it.
-    pub const WAVE: usize = 512;
+    pub const FAR: u64 = 18874368000001;
 }
 
 // How far the number of the neighbour in a direction is above that of the crossing one line further left.
 fn offset(i: usize) -> usize
-    ensures { (result ≡ offset i) × (result ≤ wideLines * 2) }
+    ensures { (result ≡ offset i) × (result ≤ 768) }
 {
     if i == 0 {
-        return Wide::RIGHT;
+        return 768;
     }
     if i == 1 {
         return 0;
     }
     if i == 2 {
-        return Wide::ABOVE;
+        return 385;
     }
-    Wide::BELOW
+    383
 }
 
 // The crossing that an arc comes from.
 pub fn source(a: usize) -> usize
-    requires { (a < arcBound) × (wideLines ≤ a / 4 + offset (a % 4)) }
+    requires { (a < arc_bound) × (wide_lines ≤ a / 4 + offset (a % 4)) }
     ensures { result ≡ source a }
 {
     a / 4 + offset(a % 4) - Wide::LINES
 }
 
-// Waves
-
-// A crossing noted after the first n of a list, while there is room; how many are noted.
-fn note(list: &mut [usize; Wide::WAVE], n: usize, v: usize) -> usize
-    requires { (n ≤ waveBound) × ((v < wideCrossings) × (Below wideCrossings list.old)) }
-    ensures { (0 < result) × ((result ≤ waveBound) × (Below wideCrossings list.new)) }
-{
-    if n < Wide::WAVE {
-        list[n] = v;
-        return n + 1;
-    }
-    n
-}
-
-// A visit of arc a: the height it comes from is lowered to that it leads to, if that is below the cap, and what is
-// left of it; then the crossing is noted.
-fn visit(
-    left: &[u32],
-    row: &mut [u64],
-    cap: u64,
-    a: usize,
-    list: &mut [usize; Wide::WAVE],
-    n: usize,
-) -> usize
-    requires arcs_fit { (ArcsFit left.now) × ((Row row.old) × (a < arcBound)) }
-    requires n_le_wave_bound { (n ≤ waveBound) × (Below wideCrossings list.old) }
-    ensures passed { Passed left.now cap (λ b. b ≡ a) n result row.old row.new }
-    ensures upper_bound { (result ≤ waveBound) × (Below wideCrossings list.new) }
+// A visit of arc a: the height it comes from is lowered to that it leads to, if that is below the cap, and what is left of it; whether
+// it was.
+fn visit(left: &[u32], row: &mut [u64], cap: u64, a: usize) -> bool
+    requires { (ArcsFit left.now) × ((Row row.old) × (a < arc_bound)) }
+    ensures { Passed left.now cap (λ b. b ≡ a) result row.old row.new }
 {
     let d = row[a / 4];
     if cap <= d {
-        return n;
+        return false;
     }
     let s = left[a];
     if s == 0 {
-        return n;
+        return false;
     }
     let u = source(a);
     let x = d + (s - 1) as u64;
     if x < row[u] {
         row[u] = x;
-        return note(&mut *list, n, u);
+        return true;
     }
-    n
+    false
 }
 
-// The four arcs that lead to crossing v visited.
-fn spread(
-    left: &[u32],
-    row: &mut [u64],
-    cap: u64,
-    v: usize,
-    list: &mut [usize; Wide::WAVE],
-    n: usize,
-) -> usize
-    requires arcs_fit { (ArcsFit left.now) × ((Row row.old) × (v < wideCrossings)) }
-    requires n_le_wave_bound { (n ≤ waveBound) × (Below wideCrossings list.old) }
-    ensures passed { Passed left.now cap (λ a. a / 4 ≡ v) n result row.old row.new }
-    ensures upper_bound { (result ≤ waveBound) × (Below wideCrossings list.new) }
+// The first e arcs visited, the first one first; whether a height was lowered.
+fn pass_up(left: &[u32], row: &mut [u64], cap: u64, e: usize) -> bool
+    requires { (ArcsFit left.now) × ((Row row.old) × (e ≤ arc_bound)) }
+    ensures { Passed left.now cap (λ a. a < e) result row.old row.new }
 {
-    if cap <= row[v] {
-        return n;
+    let mut moved = false;
+    let mut a = 0;
+    while a < e {
+        let m = visit(left, &mut *row, cap, a);
+        moved = moved | m;
+        a += 1;
     }
-    let i = visit(left, &mut *row, cap, v * 4, &mut *list, n);
-    let j = visit(left, &mut *row, cap, v * 4 + 1, &mut *list, i);
-    let k = visit(left, &mut *row, cap, v * 4 + 2, &mut *list, j);
-    visit(left, &mut *row, cap, v * 4 + 3, &mut *list, k)
+    moved
 }
 
-// One wave: from the first n crossings of a list, those lowered noted in another; how many they are.
-fn wave(
-    left: &[u32],
-    row: &mut [u64],
-    cap: u64,
-    from: &[usize; Wide::WAVE],
-    n: usize,
-    into: &mut [usize; Wide::WAVE],
-) -> usize
-    requires arcs_fit { (ArcsFit left.now) × (Row row.old) }
-    requires n_le_wave_bound { (n ≤ waveBound) × ((Below wideCrossings from.now) × (Below wideCrossings into.old)) }
-    ensures passed { Passed left.now cap (λ a. ⊥) 0 result row.old row.new }
-    ensures upper_bound { (result ≤ waveBound) × (Below wideCrossings into.new) }
+// The same, the last one first.
+fn pass_down(left: &[u32], row: &mut [u64], cap: u64, e: usize) -> bool
+    requires { (ArcsFit left.now) × ((Row row.old) × (e ≤ arc_bound)) }
+    ensures { Passed left.now cap (λ a. a < e) result row.old row.new }
 {
-    let mut noted = 0;
-    let mut i = 0;
-    while i < n {
-        noted = spread(left, &mut *row, cap, from[i], &mut *into, noted);
-        i += 1;
+    let mut moved = false;
+    let mut a = e;
+    while 0 < a {
+        a -= 1;
+        let m = visit(left, &mut *row, cap, a);
+        moved = moved | m;
     }
-    noted
-}
-
-// Where nothing is noted yet, the arcs to the first `top` crossings visited; how many are noted then.
-fn pass(
-    left: &[u32],
-    row: &mut [u64],
-    cap: u64,
-    top: usize,
-    list: &mut [usize; Wide::WAVE],
-    n: usize,
-) -> usize
-    requires arcs_fit { (ArcsFit left.now) × ((Row row.old) × (top ≤ wideCrossings)) }
-    requires n_le_wave_bound { (n ≤ waveBound) × (Below wideCrossings list.old) }
-    ensures passed { Passed left.now cap (λ a. a / 4 < top) n result row.old row.new }
-    ensures upper_bound { (result ≤ waveBound) × (Below wideCrossings list.new) }
-{
-    if 0 < n {
-        return n;
-    }
-    let mut noted = n;
-    let mut v = 0;
-    while v < top {
-        noted = spread(left, &mut *row, cap, v, &mut *list, noted);
-        v += 1;
-    }
-    noted
+    moved
 }
 
 // Each height of a row put to x.
 pub fn fill(row: &mut [u64], x: u64)
-    requires { length row.old ≡ wideCrossings }
-    ensures { row.new ≡ replicate wideCrossings x }
+    requires { length row.old ≡ wide_crossings }
+    ensures { row.new ≡ replicate wide_crossings x }
 {
     let mut v = 0;
     while v < Wide::CROSSINGS {
@@ -216,7 +132,7 @@ pub fn fill(row: &mut [u64], x: u64)
 
 // The row that crossing q starts with: 0 there, and no way elsewhere.
 fn start(row: &mut [u64], q: usize)
-    requires { (length row.old ≡ wideCrossings) × (q < wideCrossings) }
+    requires { (length row.old ≡ wide_crossings) × (q < wide_crossings) }
     ensures { (Row row.new) × ((left : _) → Above left q row.new) }
 {
     fill(&mut *row, Wide::FAR);
@@ -233,9 +149,9 @@ fn least(a: u64, b: u64) -> u64
 }
 
 // The least height at the first n of some crossings.
-fn nearest(row: &[u64], numbers: &[usize; Net::PINS], n: usize) -> u64
-    requires row { (Row row.now) × ((n ≤ pinBound) × (length numbers.now ≡ pinBound)) }
-    requires below { Below wideCrossings numbers.now }
+fn nearest(row: &[u64], numbers: &[usize; 128], n: usize) -> u64
+    requires row { (Row row.now) × ((n ≤ 128) × (length numbers.now ≡ 128)) }
+    requires below { Below wide_crossings numbers.now }
     ensures { LeastAt row.now numbers.now n result }
 {
     let mut t = Wide::FAR;
@@ -247,41 +163,35 @@ fn nearest(row: &[u64], numbers: &[usize; Net::PINS], n: usize) -> u64
     t
 }
 
-// Waves until a pass over the first `top` crossings lowers nothing, below the least height so far at the first n of
-// some crossings; that height. Each round lowers a height or is the last: the sum of the row bounds the work.
+// Passes down and up until one up changes nothing, below the least height so far at the first n of some crossings; that height.
 fn settle(
     left: &[u32],
     row: &mut [u64],
-    numbers: &[usize; Net::PINS],
+    numbers: &[usize; 128],
     n: usize,
-    top: usize,
+    e: usize,
     q: usize,
 ) -> u64
-    requires arcs_fit { (ArcsFit left.now) × ((Row row.old) × (top ≤ wideCrossings)) }
-    requires n_le_pin_bound { (n ≤ pinBound) × ((length numbers.now ≡ pinBound) × (Below wideCrossings numbers.now)) }
-    requires above { (Above left.now q row.old) × (q < wideCrossings) }
+    requires arcs_fit { (ArcsFit left.now) × ((Row row.old) × (e ≤ arc_bound)) }
+    requires n_bound { (n ≤ 128) × ((length numbers.now ≡ 128) × (Below wide_crossings numbers.now)) }
+    requires above { Above left.now q row.old }
     ensures row { (Row row.new) × (Above left.now q row.new) }
-    ensures least_at { (LeastAt row.new numbers.now n result)
-        × (Quiet left.now (top * 4) result row.new) }
+    ensures least_at { (LeastAt row.new numbers.now n result) × (Quiet left.now e result row.new) }
 {
-    let mut here = [0usize; Wide::WAVE];
-    let mut next = [0usize; Wide::WAVE];
-    here[0] = q;
-    let mut noted = 1;
     let mut cap = Wide::FAR;
-    while 0 < noted {
-        let far = wave(left, &mut *row, cap, &here, noted, &mut next);
-        let farther = wave(left, &mut *row, cap, &next, far, &mut here);
+    let mut more = true;
+    while more {
+        pass_down(left, &mut *row, cap, e);
+        more = pass_up(left, &mut *row, cap, e);
         cap = nearest(&*row, numbers, n);
-        noted = pass(left, &mut *row, cap, top, &mut here, farther);
     }
     cap
 }
 
 // Arc a with the fall of the heights, cut at t, taken off.
 fn take_off(left: &mut [u32], row: &[u64], t: u64, a: usize)
-    requires arcs_fit { (ArcsFit left.old) × ((Row row.now) × (a < arcBound)) }
-    requires takes { Takes row.now t a left.old }
+    requires arcs_fit { (ArcsFit left.old) × ((Row row.now) × (a < arc_bound)) }
+    requires a_bound { 1 ≤ at left.old a → fall row.now t a + 1 ≤ at left.old a }
     ensures { TakenOff row.now t a left.old left.new }
 {
     let low = row[a / 4];
@@ -298,75 +208,48 @@ fn take_off(left: &mut [u32], row: &[u64], t: u64, a: usize)
     }
 }
 
-// The four arcs that lead to crossing v with the falls taken off, if it is below t.
-fn take_around(left: &mut [u32], row: &[u64], t: u64, v: usize)
-    requires arcs_fit { (ArcsFit left.old) × ((Row row.now) × (v < wideCrossings)) }
-    requires takes_around { TakesAround row.now t v left.old }
-    ensures { LessenedAround row.now t v left.old left.new }
+// The first e arcs with the falls taken off.
+fn lessen(left: &mut [u32], row: &[u64], t: u64, e: usize)
+    requires arcs_fit { (ArcsFit left.old) × ((Row row.now) × (e ≤ arc_bound)) }
+    requires quiet { Quiet left.old e t row.now }
+    ensures { Lessened row.now t e left.old left.new }
 {
-    if t <= row[v] {
-        return;
-    }
-    take_off(&mut *left, row, t, v * 4);
-    take_off(&mut *left, row, t, v * 4 + 1);
-    take_off(&mut *left, row, t, v * 4 + 2);
-    take_off(&mut *left, row, t, v * 4 + 3);
-}
-
-// The arcs to the first `top` crossings with the falls taken off.
-fn lessen(left: &mut [u32], row: &[u64], t: u64, top: usize)
-    requires arcs_fit { (ArcsFit left.old) × ((Row row.now) × (top ≤ wideCrossings)) }
-    requires quiet { Quiet left.old (top * 4) t row.now }
-    ensures { Lessened row.now t (top * 4) left.old left.new }
-{
-    let mut v = 0;
-    while v < top {
-        take_around(&mut *left, row, t, v);
-        v += 1;
+    let mut a = 0;
+    while a < e {
+        take_off(&mut *left, row, t, a);
+        a += 1;
     }
 }
 
 // One raise: the heights above crossing i until the nearest of those before it, taken off what is left; how high.
-fn raise(
-    left: &mut [u32],
-    row: &mut [u64],
-    numbers: &[usize; Net::PINS],
-    i: usize,
-    top: usize,
-) -> u64
-    requires arcs_fit { (ArcsFit left.old) × ((length row.old ≡ wideCrossings) × (top ≤ wideCrossings)) }
-    requires i_lt_pin_bound { (i < pinBound) × ((length numbers.now ≡ pinBound) × (Below wideCrossings numbers.now)) }
+fn raise(left: &mut [u32], row: &mut [u64], numbers: &[usize; 128], i: usize, e: usize) -> u64
+    requires arcs_fit { (ArcsFit left.old) × ((length row.old ≡ wide_crossings) × (e ≤ arc_bound)) }
+    requires i_bound { (i < 128) × ((length numbers.now ≡ 128) × (Below wide_crossings numbers.now)) }
     ensures row { (Row row.new) × ((Above left.old (at numbers.now i) row.new)
-        × (Quiet left.old (top * 4) result row.new)) }
+        × (Quiet left.old e result row.new)) }
     ensures least_at { (LeastAt row.new numbers.now i result)
-        × (Lessened row.new result (top * 4) left.old left.new) }
+        × (Lessened row.new result e left.old left.new) }
     ensures arcs_fit_2 { ArcsFit left.new }
 {
     let q = numbers[i];
     start(&mut *row, q);
-    let t = settle(&*left, &mut *row, numbers, i, top, q);
-    lessen(&mut *left, &*row, t, top);
+    let t = settle(&*left, &mut *row, numbers, i, e, q);
+    lessen(&mut *left, &*row, t, e);
     t
 }
 
 // The sum of the raises of the first m of some crossings, the last one first, each until it meets one before it.
-pub fn sweep(
-    left: &mut [u32],
-    row: &mut [u64],
-    numbers: &[usize; Net::PINS],
-    m: usize,
-    top: usize,
-) -> u64
-    requires arcs_fit { (ArcsFit left.old) × ((length row.old ≡ wideCrossings) × (top ≤ wideCrossings)) }
-    requires m_le_pin_bound { (m ≤ pinBound) × ((length numbers.now ≡ pinBound) × (Below wideCrossings numbers.now)) }
-    ensures swept_table { SweptTable numbers.now (top * 4) left.old m result }
-    ensures row_len { (length row.new ≡ wideCrossings) × (ArcsFit left.new) }
+pub fn sweep(left: &mut [u32], row: &mut [u64], numbers: &[usize; 128], m: usize, e: usize) -> u64
+    requires arcs_fit { (ArcsFit left.old) × ((length row.old ≡ wide_crossings) × (e ≤ arc_bound)) }
+    requires m_bound { (m ≤ 128) × ((length numbers.now ≡ 128) × (Below wide_crossings numbers.now)) }
+    ensures swept_table { SweptTable numbers.now e left.old m result }
+    ensures row_len { (length row.new ≡ wide_crossings) × (ArcsFit left.new) }
 {
     let mut sum = 0;
     let mut i = m;
     while 1 < i {
         i -= 1;
-        let t = raise(&mut *left, &mut *row, numbers, i, top);
+        let t = raise(&mut *left, &mut *row, numbers, i, e);
         sum += t;
     }
     sum

@@ -11,7 +11,7 @@ use lib.ListN.{length, get_or, length-map}
 use lib.Seq.{drop-nil, ext_get_or}
 use Rattle.lists.specs.Member.{◌∈◌, here, there}
 use Rattle.lists.specs.Total.{total}
-use Rattle.lists.proofs.MemberLaws.{getD-in}
+use Rattle.lists.proofs.MemberLaws.{get_d-in}
 use Rattle.lists.proofs.MapLaws.{of_map, get_d_map}
 use Rattle.lent.specs.Over.{over}
 use Rattle.plane.specs.declared.Place.{Place}
@@ -19,27 +19,27 @@ use Rattle.plane.specs.Place.{place}
 use Rattle.net.specs.Allowed.{Allowed}
 use Rattle.net.specs.Net.{Net}
 use Rattle.sorted.proofs.NumberLaws.{entry_at}
-use Rattle.graph.specs.Spanning.{verticesOf, spanning}
-use Rattle.graph.specs.Numbers.{edgeFrom}
+use Rattle.graph.specs.Spanning.{vertices_of, spanning}
+use Rattle.graph.specs.Numbers.{edge_from}
 use Rattle.graph.proofs.VertexLaws.{pin-vertex, vertices-ascending}
 use Rattle.graph.proofs.GraphBounds.{few-vertices, few-edges}
-use Rattle.net.specs.Bounds.{pinBound}
-use Rattle.forest.specs.Bounds.{pointBound, pathBound}
-use Rattle.forest.specs.Edges.{from, entries as entriesIn, FirstBelow, Listed}
+use Rattle.net.specs.Bounds.{pin_bound}
+use Rattle.forest.specs.Bounds.{point_bound, path_bound}
+use Rattle.forest.specs.Edges.{from, entries as entries_in, FirstBelow, Listed}
 use Rattle.forest.specs.Labels.{labelled}
 use Rattle.forest.specs.Parents.{parented}
-use Rattle.bridges.specs.Bridges.{pathLength}
-use Rattle.keeping.specs.Kept.{keptLengths, terminal}
-use Rattle.forest.proofs.EdgeLaws.{getD-from, length_from}
+use Rattle.bridges.specs.Bridges.{path_length}
+use Rattle.keeping.specs.Kept.{kept_lengths, terminal}
+use Rattle.forest.proofs.EdgeLaws.{get_d-from, length_from}
 use Rattle.bridges.proofs.PathParts.{path-low}
 use Rattle.keeping.proofs.KeptLaws.{read-listed, entry_listed}
 use Rattle.keeping.proofs.WholeLaws.{of-kept}
 use Rattle.forest.proofs.ForestLaws.{made-fine, made-falls}
 use Rattle.forest.proofs.Nearest.{fits}
 use Rattle.terminal.specs.declared.TerminalTree.{TerminalTree}
-use Rattle.terminal.specs.Number.{edge_at, pinNumbers}
-use Rattle.terminal.specs.Tree.{graph_of, tree_of, bridgesOf, lengthsOf, total_of, pathsOf}
-use Rattle.terminal.specs.Tables.{Tables, Fresh, Worked, pathAt, pathsIn, Givable}
+use Rattle.terminal.specs.Number.{edge_at, pin_numbers}
+use Rattle.terminal.specs.Tree.{graph_of, tree_of, bridges_of, lengths_of, total_of, paths_of}
+use Rattle.terminal.specs.Tables.{Tables, Fresh, Worked, path_at, paths_in, Givable}
 use Rattle.terminal.proofs.NumberLaws.{get_d_over, count_of, pin-small}
 use Rattle.terminal.proofs.SettingOf.{setting, paths-count}
 use Rattle.terminal.proofs.WorkLaws.{worked-charted, edges-in, links-long}
@@ -48,41 +48,41 @@ use Rattle.terminal.proofs.WorkLaws.{worked-charted, edges-in, links-long}
 
 module _ (net : Net) where
   -- the length of the path over edge k
-  abbrev pub lengthOver : ℕ → ℕ
-  lengthOver = pathLength (graph_of net) (tree_of net).labels.fars (tree_of net).parents
+  abbrev pub length_over : ℕ → ℕ
+  length_over = path_length (graph_of net) (tree_of net).labels.fars (tree_of net).parents
 
-  pub lengths-over : lengthsOf net ≡ map lengthOver (tree_of net).bridges
-  unfolding tree_of terminal keptLengths
+  pub lengths-over : lengths_of net ≡ map length_over (tree_of net).bridges
+  unfolding tree_of terminal kept_lengths
   lengths-over = refl
 
   pub bridge-inside : (k : ℕ) → k ∈ (tree_of net).bridges → k < length (spanning net)
   unfolding tree_of terminal
   bridge-inside k m =
       let r = (of-kept (graph_of net) (tree_of net).labels (tree_of net).parents k m).0 in
-      rw (count_of net.weights (verticesOf net) (spanning net)) at r
+      rw (count_of net.weights (vertices_of net) (spanning net)) at r
 
   -- their bridges and their lengths
-  pub paths-bridges : map (λ (p : (Place × Place) × ℕ). p.0) (pathsOf net) ≡ bridgesOf net
-  unfolding pathsOf bridgesOf
+  pub paths-bridges : map (λ (p : (Place × Place) × ℕ). p.0) (paths_of net) ≡ bridges_of net
+  unfolding paths_of bridges_of
   paths-bridges = each (tree_of net).bridges
     where
       each : (ks : List ℕ)
-          → map (λ (p : (Place × Place) × ℕ). p.0) (map (λ k. (edge_at (spanning net) k, lengthOver k)) ks)
+          → map (λ (p : (Place × Place) × ℕ). p.0) (map (λ k. (edge_at (spanning net) k, length_over k)) ks)
           ≡ map (edge_at (spanning net)) ks
       each [] = refl
       each (k ∷ ks) = ap (λ (l : List (Place × Place)). edge_at (spanning net) k ∷ l) (each ks)
 
-  pub paths-lengths : map (λ (p : (Place × Place) × ℕ). p.1) (pathsOf net) ≡ lengthsOf net
-  unfolding pathsOf
+  pub paths-lengths : map (λ (p : (Place × Place) × ℕ). p.1) (paths_of net) ≡ lengths_of net
+  unfolding paths_of
   paths-lengths = each (tree_of net).bridges ∙ sym lengths-over
     where
-      each : (ks : List ℕ) → map (λ (p : (Place × Place) × ℕ). p.1) (map (λ k. (edge_at (spanning net) k, lengthOver k)) ks)
-          ≡ map lengthOver ks
+      each : (ks : List ℕ) → map (λ (p : (Place × Place) × ℕ). p.1) (map (λ k. (edge_at (spanning net) k, length_over k)) ks)
+          ≡ map length_over ks
       each [] = refl
-      each (k ∷ ks) = ap (λ (l : List ℕ). lengthOver k ∷ l) (each ks)
+      each (k ∷ ks) = ap (λ (l : List ℕ). length_over k ∷ l) (each ks)
 
   -- T16: the total is the sum of the lengths
-  pub total-sum : total_of net ≡ total (lengthsOf net)
+  pub total-sum : total_of net ≡ total (lengths_of net)
   unfolding tree_of terminal
   total-sum = refl
 
@@ -101,25 +101,25 @@ total-le b [] h = omega arith
 total-le b (x ∷ l) h = omega (arith, h x (here refl), total-le b l (λ y m. h y (there m)), suc-mul (length l) b)
 
 module _ {net : Net} (a : Allowed net) where
-  pins-below : (m : ℕ) → m ≡ length (pinNumbers (verticesOf net) net.pins) →
-      FirstBelow (pinNumbers (verticesOf net) net.pins) m pointBound
+  pins-below : (m : ℕ) → m ≡ length (pin_numbers (vertices_of net) net.pins) →
+      FirstBelow (pin_numbers (vertices_of net) net.pins) m point_bound
   pins-below m e = record {
     inside = λ i h.
-        (let j : i < length (pinNumbers (verticesOf net) net.pins) = omega (arith, e, h) in
-        let r = pin-small (verticesOf net) net.pins (vertices-ascending net) (λ q k. pin-vertex net k) _
-        (getD-in (pinNumbers (verticesOf net) net.pins) i 0 j) in
+        (let j : i < length (pin_numbers (vertices_of net) net.pins) = omega (arith, e, h) in
+        let r = pin-small (vertices_of net) net.pins (vertices-ascending net) (λ q k. pin-vertex net k) _
+        (get_d-in (pin_numbers (vertices_of net) net.pins) i 0 j) in
         omega (arith, r, few-vertices a));
   }
 
-  pub path-small : (k : ℕ) → k ∈ (tree_of net).bridges → lengthOver net k ≤ pathBound
+  pub path-small : (k : ℕ) → k ∈ (tree_of net).bridges → length_over net k ≤ path_bound
   unfolding tree_of terminal
   path-small k m =
-      let pins = pinNumbers (verticesOf net) net.pins in
-      let n = length (verticesOf net) in
-      let same : entriesIn pins 0 (length pins) ≡ pins = read-listed pins [] pins (length pins) (alone pins) in
-      let t-is : (tree_of net).labels ≡ labelled (graph_of net) n (entriesIn pins 0 (length pins)) =
+      let pins = pin_numbers (vertices_of net) net.pins in
+      let n = length (vertices_of net) in
+      let same : entries_in pins 0 (length pins) ≡ pins = read-listed pins [] pins (length pins) (alone pins) in
+      let t-is : (tree_of net).labels ≡ labelled (graph_of net) n (entries_in pins 0 (length pins)) =
       ap (labelled (graph_of net) n) (sym same) in
-      let p-is : (tree_of net).parents ≡ parented (graph_of net) n (labelled (graph_of net) n (entriesIn pins 0 (length pins))) =
+      let p-is : (tree_of net).parents ≡ parented (graph_of net) n (labelled (graph_of net) n (entries_in pins 0 (length pins))) =
       ap (λ (l : List ℕ). parented (graph_of net) n (labelled (graph_of net) n l)) (sym same) in
       let f = fits (setting a) in
       let inside = pins-below (length pins) refl in
@@ -128,23 +128,23 @@ module _ {net : Net} (a : Allowed net) where
       (made-fine (graph_of net) n (length pins) pins _ (tree_of net).parents f (few-vertices a) inside t-is p-is).low
       k (of-kept (graph_of net) (tree_of net).labels (tree_of net).parents k m).0
 
-  length-small : (d : ℕ) → d ∈ lengthsOf net → d ≤ pathBound
+  length-small : (d : ℕ) → d ∈ lengths_of net → d ≤ path_bound
   length-small d m =
-      let r = of_map (lengthOver net) (tree_of net).bridges (rw (lengths-over net) at m) in
+      let r = of_map (length_over net) (tree_of net).bridges (rw (lengths-over net) at m) in
       rw r.is (path-small r.entry r.stands)
 
   -- the total is far below what 64 bits hold
-  pub total-small : total_of net ≤ pinBound * pathBound
+  pub total-small : total_of net ≤ pin_bound * path_bound
   total-small =
-      let n : length (lengthsOf net) ≡ length (tree_of net).bridges =
-      ap length (lengths-over net) ∙ length-map (tree_of net).bridges (lengthOver net) in
-      omega (arith, total-sum net, total-le pathBound (lengthsOf net) length-small, n, paths-count a, a.few-pins)
+      let n : length (lengths_of net) ≡ length (tree_of net).bridges =
+      ap length (lengths-over net) ∙ length-map (tree_of net).bridges (length_over net) in
+      omega (arith, total-sum net, total-le path_bound (lengths_of net) length-small, n, paths-count a, a.few-pins)
 
   -- T14: m − 1 paths are kept
-  pub paths-one-fewer : suc (length (pathsOf net)) ≡ length net.pins
-  unfolding pathsOf
+  pub paths-one-fewer : suc (length (paths_of net)) ≡ length net.pins
+  unfolding paths_of
   paths-one-fewer =
-      ap suc (length-map (tree_of net).bridges (λ k. (edge_at (spanning net) k, lengthOver net k))) ∙ paths-count a
+      ap suc (length-map (tree_of net).bridges (λ k. (edge_at (spanning net) k, length_over net k))) ∙ paths-count a
 
   -- What the tables hold
 
@@ -153,35 +153,35 @@ module _ {net : Net} (a : Allowed net) where
     pub kept-fewer : suc r.kept ≡ length net.pins
     kept-fewer = ap suc w.bridges-are.count ∙ paths-count a
 
-    edge-read : (k : ℕ) → k < length (spanning net) → edgeFrom t.links (k * 4) ≡ edge_at (spanning net) k
+    edge-read : (k : ℕ) → k < length (spanning net) → edge_from t.links (k * 4) ≡ edge_at (spanning net) k
     edge-read k h =
-        sym (entry_at edgeFrom 4 t.links r.edges k (place (pos 0) (pos 0), place (pos 0) (pos 0)) (omega (arith, h, w.edge_count)))
+        sym (entry_at edge_from 4 t.links r.edges k (place (pos 0) (pos 0), place (pos 0) (pos 0)) (omega (arith, h, w.edge_count)))
         ∙ ap (λ (es : List (Place × Place)). edge_at es k) (edges-in a fresh (worked-charted w))
 
     -- the i-th kept path
     at : (i : ℕ) → i < length (tree_of net).bridges
-        → pathAt t.links t.kept t.longs i
-        ≡ (edge_at (spanning net) (get_or (tree_of net).bridges i 0), lengthOver net (get_or (tree_of net).bridges i 0))
+        → path_at t.links t.kept t.longs i
+        ≡ (edge_at (spanning net) (get_or (tree_of net).bridges i 0), length_over net (get_or (tree_of net).bridges i 0))
     at i h =
         let ks = (tree_of net).bridges in
         let k : get_or t.kept i 0 ≡ get_or ks i 0 =
         ap (λ (l : List ℕ). get_or l i 0) w.bridges-are.table_is ∙ get_d_over ks lent.kept i 0 h in
-        let more : i < length (lengthsOf net) = omega (arith, ap length (lengths-over net), length-map ks (lengthOver net), h) in
-        let d : get_or t.longs i 0 ≡ lengthOver net (get_or ks i 0) =
+        let more : i < length (lengths_of net) = omega (arith, ap length (lengths-over net), length-map ks (length_over net), h) in
+        let d : get_or t.longs i 0 ≡ length_over net (get_or ks i 0) =
         ap (λ (l : List ℕ). get_or l i 0) w.lengths-are.table_is
-        ∙ get_d_over (lengthsOf net) lent.longs i 0 more
+        ∙ get_d_over (lengths_of net) lent.longs i 0 more
         ∙ ap (λ (l : List ℕ). get_or l i 0) (lengths-over net)
-        ∙ get_d_map (lengthOver net) ks i 0 0 h in
-        let e : edgeFrom t.links (get_or t.kept i 0 * 4) ≡ edge_at (spanning net) (get_or ks i 0) =
-        ap (λ (j : ℕ). edgeFrom t.links (j * 4)) k ∙ edge-read (get_or ks i 0) (bridge-inside net _ (getD-in ks i 0 h)) in
+        ∙ get_d_map (length_over net) ks i 0 0 h in
+        let e : edge_from t.links (get_or t.kept i 0 * 4) ≡ edge_at (spanning net) (get_or ks i 0) =
+        ap (λ (j : ℕ). edge_from t.links (j * 4)) k ∙ edge-read (get_or ks i 0) (bridge-inside net _ (get_d-in ks i 0 h)) in
         ap₂ (λ (q : Place × Place) (n : ℕ). (q, n)) e d
 
-    pub worked-paths : pathsIn t.links t.kept t.longs r.kept ≡ pathsOf net
-    unfolding pathsIn pathsOf
+    pub worked-paths : paths_in t.links t.kept t.longs r.kept ≡ paths_of net
+    unfolding paths_in paths_of
     worked-paths =
         let ks = (tree_of net).bridges in
-        let f : ℕ → (Place × Place) × ℕ = pathAt t.links t.kept t.longs in
-        let g : ℕ → (Place × Place) × ℕ = λ k. (edge_at (spanning net) k, lengthOver net k) in
+        let f : ℕ → (Place × Place) × ℕ = path_at t.links t.kept t.longs in
+        let g : ℕ → (Place × Place) × ℕ = λ k. (edge_at (spanning net) k, length_over net k) in
         let none : (Place × Place) × ℕ = ((place (pos 0) (pos 0), place (pos 0) (pos 0)), 0) in
         let n = r.kept in
         let count = w.bridges-are.count in
@@ -191,7 +191,7 @@ module _ {net : Net} (a : Allowed net) where
         (let j : i < n = omega (arith, length-map (from 0 n) f, length_from 0 n, h) in
         let j' : i < length (from 0 n) = omega (arith, length_from 0 n, j) in
         let m : i < length ks = omega (arith, count, j) in
-        get_d_map f (from 0 n) i 0 none j' ∙ ap f (getD-from 0 n i j ∙ omega arith) ∙ at i m ∙ sym (get_d_map g ks i 0 none m)))
+        get_d_map f (from 0 n) i 0 none j' ∙ ap f (get_d-from 0 n i j ∙ omega arith) ∙ at i m ∙ sym (get_d_map g ks i 0 none m)))
 
     pub worked-givable : (room : ℕ) → length net.pins * 5 ≤ room → Givable t.links t.kept t.longs r.kept room
     worked-givable room h =

@@ -18,18 +18,18 @@ use Rattle.joined.proofs.CarriedLaws.{link-carried, link-in as linked, same_poin
 use Rattle.plane.specs.declared.Place.{Place}
 use Rattle.plane.specs.Place.{before}
 use Rattle.net.specs.Allowed.{Allowed}
-use Rattle.net.specs.Net.{Net, costIn}
-use Rattle.graph.specs.Spanning.{verticesOf, spanning}
+use Rattle.net.specs.Net.{Net, cost_in}
+use Rattle.graph.specs.Spanning.{vertices_of, spanning}
 use Rattle.graph.proofs.VertexLaws.{vertices-ascending}
 use Rattle.keeping.specs.Kept.{terminal}
 use Rattle.forest.specs.Labels.{far, root}
 use Rattle.forest.specs.Parents.{up}
 use Rattle.forest.proofs.Nearest.{link-in, NearestSource, nearest-source}
 use Rattle.forest.proofs.Homeward.{Through as Onto, parent-through, Upward, arrived as there, onto, parent_is}
-use Rattle.forest.proofs.Homeward.{wayPoints, way-upward, way-runs, way-once, way_home as way-home-by-number}
-use Rattle.terminal.specs.Number.{number_of, vertexAt}
-use Rattle.terminal.specs.Tree.{tree_of, rootOf}
-use Rattle.terminal.specs.Roots.{farOf, parent_of, NearestRoot, Through, SmallestParent, WayUp, arrived, upward, HomeWay}
+use Rattle.forest.proofs.Homeward.{way_points, way-upward, way-runs, way-once, way_home as way-home-by-number}
+use Rattle.terminal.specs.Number.{number_of, vertex_at}
+use Rattle.terminal.specs.Tree.{tree_of, root_of}
+use Rattle.terminal.specs.Roots.{far_of, parent_of, NearestRoot, Through, SmallestParent, WayUp, arrived, upward, HomeWay}
 use Rattle.terminal.proofs.NumberLaws.{vertex-in, number_small, vertex-of-number, number-of-vertex, number-order}
 use Rattle.terminal.proofs.SettingOf.{setting, whole}
 use Rattle.terminal.proofs.CrossingLaws.{pins, T, P, to-places, to-numbers, way-places, way-numbers, long-places, long-numbers}
@@ -45,33 +45,33 @@ way-up-only {net} (upward {v = v} m u) (upward n w) = ap (λ (l : List Place). p
 
 module _ {net : Net} (a : Allowed net) where
   abbrev vs : List Place
-  vs = verticesOf net
+  vs = vertices_of net
 
-  far-by-number : (v : Place) → farOf net v ≡ far (T a) (number_of vs v)
-  unfolding farOf tree_of terminal
+  far-by-number : (v : Place) → far_of net v ≡ far (T a) (number_of vs v)
+  unfolding far_of tree_of terminal
   far-by-number v = refl
 
-  parent-by-number : (v : Place) → parent_of net v ≡ vertexAt vs (up (P a) (number_of vs v))
+  parent-by-number : (v : Place) → parent_of net v ≡ vertex_at vs (up (P a) (number_of vs v))
   unfolding parent_of tree_of terminal
   parent-by-number v = refl
 
   number_in : (v : Place) → v ∈ vs → number_of vs v < length vs
   number_in v i = number_small vs (vertices-ascending net) v i
 
-  again : (v : Place) → v ∈ vs → vertexAt vs (number_of vs v) ≡ v
+  again : (v : Place) → v ∈ vs → vertex_at vs (number_of vs v) ≡ v
   again v i = vertex-of-number vs (vertices-ascending net) v i
 
   -- the vertex of a number that is not above that of w does not come after w
-  not-before : (w : Place) (i : ℕ) → w ∈ vs → i < length vs → i ≤ number_of vs w → before w (vertexAt vs i) ≡ false
+  not-before : (w : Place) (i : ℕ) → w ∈ vs → i < length vs → i ≤ number_of vs w → before w (vertex_at vs i) ≡ false
   not-before w i m h l =
-      number-order vs (vertices-ascending net) w (vertexAt vs i) m (vertex-in vs i h)
-      ∙ le-ltb (number_of vs w) (number_of vs (vertexAt vs i)) (omega (arith, number-of-vertex vs (vertices-ascending net) i h))
+      number-order vs (vertices-ascending net) w (vertex_at vs i) m (vertex-in vs i h)
+      ∙ le-ltb (number_of vs w) (number_of vs (vertex_at vs i)) (omega (arith, number-of-vertex vs (vertices-ascending net) i h))
 
   -- Roots
 
   module _ (v : Place) (i : v ∈ vs) where
     abbrev number : ℕ
-    number = number_of (verticesOf net) v
+    number = number_of (vertices_of net) v
 
     near : NearestSource (setting a) number (far (T a) number) (root (T a) number)
     near = nearest-source (setting a) (whole a) number (number_in v i)
@@ -79,10 +79,10 @@ module _ {net : Net} (a : Allowed net) where
     pub nearest-root : NearestRoot net v
     nearest-root = record {
       is-pin = rw (root-by-number a v) ((to-places a).pin _ near.is-reached.source);
-      points = map (vertexAt vs) near.is-reached.points;
+      points = map (vertex_at vs) near.is-reached.points;
       walk = rw (root-by-number a v) (way-cast (sym (again v i)) (way-places a near.is-reached.way));
       walk-long =
-          ap (λ (u : Place). long (costIn net) u (map (vertexAt vs) near.is-reached.points)) (sym (again v i))
+          ap (λ (u : Place). long (cost_in net) u (map (vertex_at vs) near.is-reached.points)) (sym (again v i))
           ∙ sym (long-places a near.is-reached.way) ∙ near.is-reached.long-is ∙ sym (far-by-number v);
       nearest = λ p qs m w.
           omega (arith, near.nearest _ _ ((to-numbers a).pin p m) (way-numbers a w), long-numbers a w, far-by-number v);
@@ -95,16 +95,16 @@ module _ {net : Net} (a : Allowed net) where
   -- Parents
 
   -- the root of a vertex by its number
-  root-at : (j : ℕ) → j < length vs → rootOf net (vertexAt vs j) ≡ vertexAt vs (root (T a) j)
+  root-at : (j : ℕ) → j < length vs → root_of net (vertex_at vs j) ≡ vertex_at vs (root (T a) j)
   root-at j h =
-      root-by-number a _ ∙ ap (λ (k : ℕ). vertexAt vs (root (T a) k)) (number-of-vertex vs (vertices-ascending net) j h)
+      root-by-number a _ ∙ ap (λ (k : ℕ). vertex_at vs (root (T a) k)) (number-of-vertex vs (vertices-ascending net) j h)
 
-  through-places : (v : Place) → v ∈ vs → (j : ℕ) → Onto (setting a) (whole a) (number_of vs v) j → Through net v (vertexAt vs j)
+  through-places : (v : Place) → v ∈ vs → (j : ℕ) → Onto (setting a) (whole a) (number_of vs v) j → Through net v (vertex_at vs j)
   through-places v i j t = record {
-    link = subst (λ (u : Place). Link (spanning net) u (vertexAt vs j)) (again v i)
-        (link-carried (vertexAt vs) (to-places a).pair t.link);
-    same-root = root-at j h ∙ ap (vertexAt vs) t.same-root ∙ sym (root-by-number a v);
-    points = map (vertexAt vs) t.points;
+    link = subst (λ (u : Place). Link (spanning net) u (vertex_at vs j)) (again v i)
+        (link-carried (vertex_at vs) (to-places a).pair t.link);
+    same-root = root-at j h ∙ ap (vertex_at vs) t.same-root ∙ sym (root-by-number a v);
+    points = map (vertex_at vs) t.points;
     way = rw (root-by-number a v) (way-places a t.way);
     shortest =
         omega (
@@ -112,7 +112,7 @@ module _ {net : Net} (a : Allowed net) where
           t.shortest,
           long-places a t.way,
           far-by-number v,
-          ap (λ (u : Place). costIn net u (vertexAt vs j)) (again v i),
+          ap (λ (u : Place). cost_in net u (vertex_at vs j)) (again v i),
         );
   }
     where
@@ -134,12 +134,12 @@ module _ {net : Net} (a : Allowed net) where
       m : (v ∈ vs) × (w ∈ vs)
       m = linked (to-numbers a) t.link
 
-  no_pin : (v : Place) → v ∈ vs → (v ∈ net.pins → ⊥) → number_of vs v ∈ pins a → ⊥
-  no_pin v i n m = n (Memᴰ.cast (sym (again v i)) ((to-numbers a).pin-back _ m))
+  no-pin : (v : Place) → v ∈ vs → (v ∈ net.pins → ⊥) → number_of vs v ∈ pins a → ⊥
+  no-pin v i n m = n (Memᴰ.cast (sym (again v i)) ((to-numbers a).pin-back _ m))
 
   pub smallest-parent : (v : Place) → v ∈ vs → (v ∈ net.pins → ⊥) → SmallestParent net v
   smallest-parent v i n =
-      let r = parent-through (setting a) (whole a) (number_of vs v) (number_in v i) (no_pin v i n) in
+      let r = parent-through (setting a) (whole a) (number_of vs v) (number_in v i) (no-pin v i n) in
       let h = (link-in (setting a) _ _ r.0.link).far-in in
       record {
         through = rw (parent-by-number v) (through-places v i _ r.0);
@@ -151,40 +151,40 @@ module _ {net : Net} (a : Allowed net) where
   -- Ways
 
   up-places : (i : ℕ) → i < length vs → {qs : List ℕ} → Upward (setting a) (whole a) i qs →
-      WayUp net (vertexAt vs i) (map (vertexAt vs) qs)
+      WayUp net (vertex_at vs i) (map (vertex_at vs) qs)
   up-places i h (there m) = arrived ((to-places a).pin i m)
   up-places i h (onto {ps = qs} n u) =
       let p = parent_is (setting a) (whole a) i h n in
       let e = number-of-vertex vs (vertices-ascending net) i h in
-      let above = parent-by-number (vertexAt vs i) ∙ ap (λ (k : ℕ). vertexAt vs (up (P a) k)) e in
-      subst (λ (u : Place). WayUp net (vertexAt vs i) (u ∷ map (vertexAt vs) qs)) above
+      let above = parent-by-number (vertex_at vs i) ∙ ap (λ (k : ℕ). vertex_at vs (up (P a) k)) e in
+      subst (λ (u : Place). WayUp net (vertex_at vs i) (u ∷ map (vertex_at vs) qs)) above
       (upward (λ m. n (Memᴰ.cast (sym e) ((to-numbers a).pin _ m)))
-      (subst (λ (u : Place). WayUp net u (map (vertexAt vs) qs)) (sym above) (up-places _ p.inside u)))
+      (subst (λ (u : Place). WayUp net u (map (vertex_at vs) qs)) (sym above) (up-places _ p.inside u)))
 
   -- the places after a vertex on its way to its root
-  abbrev pub wayPlaces : ℕ → List Place
-  wayPlaces i = map (vertexAt (verticesOf net)) (wayPoints (setting a) (whole a) i)
+  abbrev pub way_places : ℕ → List Place
+  way_places i = map (vertex_at (vertices_of net)) (way_points (setting a) (whole a) i)
 
-  pub way_up : (i : ℕ) → i < length (verticesOf net) → WayUp net (vertexAt (verticesOf net) i) (wayPlaces i)
+  pub way_up : (i : ℕ) → i < length (vertices_of net) → WayUp net (vertex_at (vertices_of net) i) (way_places i)
   way_up i h = up-places i h (way-upward (setting a) (whole a) i h)
 
   -- T8: a way goes from parent to parent and ends at the root
-  pub way_home : (v : Place) → v ∈ verticesOf net → HomeWay net v
+  pub way_home : (v : Place) → v ∈ vertices_of net → HomeWay net v
   way_home v i = record {
-    points = wayPlaces (number_of vs v);
-    up = subst (λ (u : Place). WayUp net u (wayPlaces (number_of vs v))) (again v i) (way_up (number_of vs v) (number_in v i));
+    points = way_places (number_of vs v);
+    up = subst (λ (u : Place). WayUp net u (way_places (number_of vs v))) (again v i) (way_up (number_of vs v) (number_in v i));
     way = rw (root-by-number a v) (way-cast (sym (again v i))
         (way-places a (way-runs (setting a) (whole a) (number_of vs v) (number_in v i))));
     once =
-        subst (λ (u : Place). Once (u ∷ wayPlaces (number_of vs v))) (again v i)
-        (map-once (vertexAt vs) (number_of vs v ∷ wayPoints (setting a) (whole a) (number_of vs v))
+        subst (λ (u : Place). Once (u ∷ way_places (number_of vs v))) (again v i)
+        (map-once (vertex_at vs) (number_of vs v ∷ way_points (setting a) (whole a) (number_of vs v))
         (λ j k m n. same_point (to-places a) j k (inside j m) (inside k n))
         (way-once (setting a) (whole a) (number_of vs v) (number_in v i)));
     long-is =
-        ap (λ (u : Place). long (costIn net) u (wayPlaces (number_of vs v))) (sym (again v i))
+        ap (λ (u : Place). long (cost_in net) u (way_places (number_of vs v))) (sym (again v i))
         ∙ sym (long-places a (way-runs (setting a) (whole a) (number_of vs v) (number_in v i)))
         ∙ (way-home-by-number (setting a) (whole a) (number_of vs v) (number_in v i)).length-is ∙ sym (far-by-number v);
   }
     where
-      inside : (j : ℕ) → j ∈ (number_of vs v ∷ wayPoints (setting a) (whole a) (number_of vs v)) → j < length vs
+      inside : (j : ℕ) → j ∈ (number_of vs v ∷ way_points (setting a) (whole a) (number_of vs v)) → j < length vs
       inside j m = way_in (to-places a) (number_in v i) (way-runs (setting a) (whole a) (number_of vs v) (number_in v i)) j m

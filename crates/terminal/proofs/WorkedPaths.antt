@@ -9,23 +9,23 @@ use Rattle.lent.specs.Over.{over}
 use Rattle.plane.specs.declared.Place.{Place}
 use Rattle.plane.specs.Place.{place}
 use Rattle.plane.specs.Cost.{plain}
-use Rattle.net.specs.Net.{netWith}
-use Rattle.net.specs.WorkedNets.{Lists, onePin, aroundOne, threePins, sharedSide, onSides, onBoundary}
+use Rattle.net.specs.Net.{net_with}
+use Rattle.net.specs.WorkedNets.{Lists, one_pin, around_one, three_pins, shared_side, on_sides, on_boundary}
 use Rattle.graph.proofs.WorkedGraphs.{graph_of as worked}
 use Rattle.keeping.proofs.WorkedTrees.{tree}
-use Rattle.terminal.specs.Number.{numbered, pinNumbers}
-use Rattle.terminal.specs.Tree.{tree_of, total_of, pathsOf}
+use Rattle.terminal.specs.Number.{numbered, pin_numbers}
+use Rattle.terminal.specs.Tree.{tree_of, total_of, paths_of}
 
 pub record Paths : Type 0 where
   pub paths : List ((Place × Place) × ℕ)
   pub total : ℕ
 
 -- the paths of a net and their total; to unfold this is to unfold all that it rests on
-unfoldable pub treeIn : Lists → Paths
-unfolding worked tree position over numbered pinNumbers tree_of pathsOf
-treeIn lists = record {
-  paths = pathsOf (netWith plain lists.pins lists.macros);
-  total = total_of (netWith plain lists.pins lists.macros);
+unfoldable pub tree_in : Lists → Paths
+unfolding worked tree position over numbered pin_numbers tree_of paths_of
+tree_in lists = record {
+  paths = paths_of (net_with plain lists.pins lists.macros);
+  total = total_of (net_with plain lists.pins lists.macros);
 }
 
 -- a path by its bridge's four numbers and its length
@@ -34,27 +34,27 @@ over-bridge a b c d n = ((place a b, place c d), n)
 
 pub record Table : Type 0 where
   -- E1: no path, total 0
-  pub one-pin : treeIn onePin ≡ record { paths = []; total = 0 }
+  pub one-pin : tree_in one_pin ≡ record { paths = []; total = 0 }
   -- E3: one path, of length 14, below the macro
-  pub around-one : treeIn aroundOne ≡ record { paths = over-bridge (pos 4) (negsuc 1) (pos 6) (negsuc 1) 14 ∷ []; total = 14 }
+  pub around-one : tree_in around_one ≡ record { paths = over-bridge (pos 4) (negsuc 1) (pos 6) (negsuc 1) 14 ∷ []; total = 14 }
   -- E4: total 9
   pub three-pins :
-      treeIn threePins
+      tree_in three_pins
       ≡ record { paths = over-bridge (pos 0) (pos 0) (pos 4) (pos 0) 4 ∷ over-bridge (pos 0) (pos 0) (pos 2) (pos 3) 5 ∷ []; total = 9 }
   -- E5: total 4, along the shared side
-  pub shared-side : treeIn sharedSide ≡ record { paths = over-bridge (pos 2) (pos 0) (pos 2) (pos 2) 4 ∷ []; total = 4 }
+  pub shared-side : tree_in shared_side ≡ record { paths = over-bridge (pos 2) (pos 0) (pos 2) (pos 2) 4 ∷ []; total = 4 }
   -- E6: one path, of length 3, below the macro
-  pub on_sides : treeIn onSides ≡ record { paths = over-bridge (pos 0) (pos 0) (pos 1) (pos 0) 3 ∷ []; total = 3 }
+  pub on-sides : tree_in on_sides ≡ record { paths = over-bridge (pos 0) (pos 0) (pos 1) (pos 0) 3 ∷ []; total = 3 }
   -- E8: allowed, with one pin and so no path
-  pub on-boundary : treeIn onBoundary ≡ record { paths = []; total = 0 }
+  pub on-boundary : tree_in on_boundary ≡ record { paths = []; total = 0 }
 
 pub worked-net-paths : Table
-unfolding treeIn
+unfolding tree_in
 worked-net-paths = record {
   one-pin = refl;
   around-one = refl;
   three-pins = refl;
   shared-side = refl;
-  on_sides = refl;
+  on-sides = refl;
   on-boundary = refl;
 }

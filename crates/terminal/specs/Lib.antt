@@ -7,27 +7,27 @@
 -- order of edge numbers the order of edges. Everything is a function of the vertices, the edges and the pins in order, so that the order of
 -- a net's lists is forgotten before the first number is given.
 --
---   Number     numberOf vs p, vertexAt vs i         the number of a vertex; the vertex of a number
---              edgeAt es k                          the edge of a number
+--   Number     number_of vs p, vertex_at vs i         the number of a vertex; the vertex of a number
+--              edge_at es k                          the edge of a number
 --              numbered w vs es                     the graph by numbers, in the router's tables
---              pinNumbers vs ps                     the pins by numbers, in order
---   Tree       treeOf net                          the terminal tree of a net, by numbers
---              bridgesOf, lengthsOf, totalOf        its kept bridges as edges, the lengths of their paths, their sum
---              pathsOf net, pathNumbers            bridge and length of each kept path; the five numbers that are given for it
---              rootOf net v, rootsOf net b         the root of a vertex; the two pins that a bridge's path joins
---   Roots      farOf net v, parentOf net v         how far a vertex is from its root; its parent
+--              pin_numbers vs ps                     the pins by numbers, in order
+--   Tree       tree_of net                          the terminal tree of a net, by numbers
+--              bridges_of, lengths_of, total_of        its kept bridges as edges, the lengths of their paths, their sum
+--              paths_of net, path_numbers            bridge and length of each kept path; the five numbers that are given for it
+--              root_of net v, roots_of net b         the root of a vertex; the two pins that a bridge's path joins
+--   Roots      far_of net v, parent_of net v         how far a vertex is from its root; its parent
 --              NearestRoot net v                   the root is the nearest pin, the smallest on a tie
 --              Through, SmallestParent net v       the parent is the smallest neighbour on a shortest way to the root
 --              WayUp net v qs                      qs are the places after v on its way to its root
 --              HomeWay net v                       such a way, loop-free to the root
---   Stands     KeptPath, keptEnds net k            a kept path, bridge and length; the two pins that it joins
+--   Stands     KeptPath, kept_ends net k            a kept path, bridge and length; the two pins that it joins
 --              PathOf net                          a terminal path of the net's graph
 --              Stands net b l                      the bridge b stands for a terminal path of length l
---   KeptBridges takenBefore j k                      by path length, ties by the order of edges
+--   KeptBridges taken_before j k                      by path length, ties by the order of edges
 --              KeptBridges net                     the bridges in this order, and the given paths are those that are kept of them
 --   Tables     tables .., Fresh                     the tables that are lent for it, and what is asked of them
 --              Worked net lent t r                 what they hold once the tree is worked out
---              pathsIn es kept long n               the kept paths as the tables have them
+--              paths_in es kept long n               the kept paths as the tables have them
 --              Givable                              what is asked to give them
 pub mod Number
 pub mod Tree

@@ -6,15 +6,15 @@ use Rattle.plane.specs.declared.Place.{Place}
 use Rattle.plane.specs.Place.{place, before}
 use Rattle.plane.specs.declared.Weights.{Weights}
 use Rattle.plane.specs.Cost.{cost}
-use Rattle.forest.specs.Bounds.{edgeBound}
+use Rattle.forest.specs.Bounds.{edge_bound}
 use Rattle.forest.specs.Edges.{Graph, graph}
 
 -- how many vertices come before it, and the vertex of which that is the number
 abbrev pub number_of : List Place → Place → ℕ
 number_of vs p = position before vs p
 
-abbrev pub vertexAt : List Place → ℕ → Place
-vertexAt vs i = get_or vs i (place (pos 0) (pos 0))
+abbrev pub vertex_at : List Place → ℕ → Place
+vertex_at vs i = get_or vs i (place (pos 0) (pos 0))
 
 -- the edge of a number
 abbrev pub edge_at : List (Place × Place) → ℕ → Place × Place
@@ -22,7 +22,7 @@ edge_at es k = get_or es k (place (pos 0) (pos 0), place (pos 0) (pos 0))
 
 -- a fresh table of the router with the numbers xs at its front
 abbrev pub table : List ℕ → List ℕ
-table xs = over xs (replicate edgeBound 0)
+table xs = over xs (replicate edge_bound 0)
 
 -- the graph by numbers: the two ends of each edge, and its cost
 unfoldable pub numbered : Weights → List Place → List (Place × Place) → Graph
@@ -34,5 +34,5 @@ numbered w vs es =
     (length es)
 
 -- the pins by numbers, in the order of places
-unfoldable pub pinNumbers : List Place → List Place → List ℕ
-pinNumbers vs ps = map (number_of vs) (sorted before ps)
+unfoldable pub pin_numbers : List Place → List Place → List ℕ
+pin_numbers vs ps = map (number_of vs) (sorted before ps)

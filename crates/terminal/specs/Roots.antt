@@ -6,38 +6,38 @@ use Rattle.joined.specs.Joined.{Link}
 use Rattle.joined.specs.Way.{Way, long}
 use Rattle.plane.specs.declared.Place.{Place}
 use Rattle.plane.specs.Place.{before}
-use Rattle.net.specs.Net.{Net, costIn}
-use Rattle.graph.specs.Spanning.{verticesOf, spanning}
+use Rattle.net.specs.Net.{Net, cost_in}
+use Rattle.graph.specs.Spanning.{vertices_of, spanning}
 use Rattle.forest.specs.Labels.{far}
 use Rattle.forest.specs.Parents.{up}
-use Rattle.terminal.specs.Number.{number_of, vertexAt}
-use Rattle.terminal.specs.Tree.{tree_of, rootOf}
+use Rattle.terminal.specs.Number.{number_of, vertex_at}
+use Rattle.terminal.specs.Tree.{tree_of, root_of}
 
 module _ (net : Net) where
   -- how far a vertex is from its root along the graph, and its parent
-  unfoldable pub farOf : Place → ℕ
-  farOf v = far (tree_of net).labels (number_of (verticesOf net) v)
+  unfoldable pub far_of : Place → ℕ
+  far_of v = far (tree_of net).labels (number_of (vertices_of net) v)
 
   unfoldable pub parent_of : Place → Place
-  parent_of v = vertexAt (verticesOf net) (up (tree_of net).parents (number_of (verticesOf net) v))
+  parent_of v = vertex_at (vertices_of net) (up (tree_of net).parents (number_of (vertices_of net) v))
 
   -- T6: the root of a vertex is the pin nearest to it along the graph, of several the smallest
   pub record NearestRoot (v : Place) : Type 0 where
-    pub is-pin : rootOf net v ∈ net.pins
+    pub is-pin : root_of net v ∈ net.pins
     pub points : List Place
-    pub walk : Way (spanning net) v points (rootOf net v)
-    pub walk-long : long (costIn net) v points ≡ farOf v
-    pub nearest : (p : Place) (qs : List Place) → p ∈ net.pins → Way (spanning net) v qs p → farOf v ≤ long (costIn net) v qs
-    pub smallest : (p : Place) (qs : List Place) → p ∈ net.pins → Way (spanning net) v qs p → long (costIn net) v qs ≡ farOf v →
-        before p (rootOf net v) ≡ false
+    pub walk : Way (spanning net) v points (root_of net v)
+    pub walk-long : long (cost_in net) v points ≡ far_of v
+    pub nearest : (p : Place) (qs : List Place) → p ∈ net.pins → Way (spanning net) v qs p → far_of v ≤ long (cost_in net) v qs
+    pub smallest : (p : Place) (qs : List Place) → p ∈ net.pins → Way (spanning net) v qs p → long (cost_in net) v qs ≡ far_of v →
+        before p (root_of net v) ≡ false
 
   -- T7: w is a neighbour with the same root, and a shortest way to that root goes on from it
   pub record Through (v w : Place) : Type 0 where
     pub link : Link (spanning net) v w
-    pub same-root : rootOf net w ≡ rootOf net v
+    pub same-root : root_of net w ≡ root_of net v
     pub points : List Place
-    pub way : Way (spanning net) w points (rootOf net v)
-    pub shortest : costIn net v w + long (costIn net) w points ≡ farOf v
+    pub way : Way (spanning net) w points (root_of net v)
+    pub shortest : cost_in net v w + long (cost_in net) w points ≡ far_of v
 
   -- T7: the parent of a vertex that is no pin is the smallest such neighbour
   pub record SmallestParent (v : Place) : Type 0 where
@@ -53,6 +53,6 @@ module _ (net : Net) where
   pub record HomeWay (v : Place) : Type 0 where
     pub points : List Place
     pub up : WayUp v points
-    pub way : Way (spanning net) v points (rootOf net v)
+    pub way : Way (spanning net) v points (root_of net v)
     pub once : Once (v ∷ points)
-    pub long-is : long (costIn net) v points ≡ farOf v
+    pub long-is : long (cost_in net) v points ≡ far_of v

@@ -16,20 +16,20 @@ use mir.Val.{Fits, SFits, to_z, of_z}
 use mir.ValLaws.{to_z-of_z}
 use Rattle.lists.proofs.TestLaws.{by, differ}
 use Rattle.signed.proofs.SideLaws.{signed, one_side, of-sfits, to-sfits, add-sides, sub-sides, abs-sides, up_pos, down_pos, eq_of}
-use Rattle.text.specs.Text.{digitsIn, decimal, whole}
+use Rattle.text.specs.Text.{digits_in, decimal, whole}
 
 -- Digits
 
-few-digits : (most n : ℕ) → n < 10 → digitsIn (suc most) n ≡ (48 + n) ∷ []
-unfolding digitsIn
-few-digits most n h = rw (lt-ltb n 10 h, digitsIn) refl
+few-digits : (most n : ℕ) → n < 10 → digits_in (suc most) n ≡ (48 + n) ∷ []
+unfolding digits_in
+few-digits most n h = rw (lt-ltb n 10 h, digits_in) refl
 
-more-digits : (most n : ℕ) → 10 ≤ n → digitsIn (suc most) n ≡ digitsIn most (n / 10) ++ ((48 + n % 10) ∷ [])
-unfolding digitsIn
-more-digits most n h = rw (le-ltb n 10 h, digitsIn) refl
+more-digits : (most n : ℕ) → 10 ≤ n → digits_in (suc most) n ≡ digits_in most (n / 10) ++ ((48 + n % 10) ∷ [])
+unfolding digits_in
+more-digits most n h = rw (le-ltb n 10 h, digits_in) refl
 
 -- the bound on the digits does not matter where it is above the number
-enough : (f g n : ℕ) → n < f → n < g → digitsIn f n ≡ digitsIn g n
+enough : (f g n : ℕ) → n < f → n < g → digits_in f n ≡ digits_in g n
 enough zero g n h k = absurd (let f : ⊥ = omega arith in f)
 enough (suc f) zero n h k = absurd (let f : ⊥ = omega arith in f)
 enough (suc f) (suc g) n h k =

@@ -9,13 +9,13 @@ use Rattle.text.specs.declared.Header.{Header}
 -- Numbers
 
 -- the decimal digits of n, where they are at most `most`
-unfoldable pub digitsIn : ℕ → ℕ → List ℕ
-digitsIn zero n = []
-digitsIn (suc most) n = elim (ltb n 10) [ true ↦ (48 + n) ∷ [] | false ↦ digitsIn most (n / 10) ++ ((48 + n % 10) ∷ []) ]
+unfoldable pub digits_in : ℕ → ℕ → List ℕ
+digits_in zero n = []
+digits_in (suc most) n = elim (ltb n 10) [ true ↦ (48 + n) ∷ [] | false ↦ digits_in most (n / 10) ++ ((48 + n % 10) ∷ []) ]
 
 -- a natural number in decimal digits, with no zero in front of another digit
 unfoldable pub decimal : ℕ → List ℕ
-decimal n = digitsIn (suc n) n
+decimal n = digits_in (suc n) n
 
 -- a whole number: one below zero has a minus sign in front
 unfoldable pub whole : ℤ → List ℕ
@@ -37,52 +37,52 @@ line (z ∷ []) = whole z ++ (newline ∷ [])
 line (z ∷ (y ∷ rest)) = whole z ++ (space ∷ line (y ∷ rest))
 
 -- P3: the line of an edge, its two places and its cost
-unfoldable pub edgeLine : Weights → Place × Place → List ℕ
-edgeLine w e = line (e.0.x ∷ (e.0.y ∷ (e.1.x ∷ (e.1.y ∷ (pos (cost w e.0 e.1) ∷ [])))))
+unfoldable pub edge_line : Weights → Place × Place → List ℕ
+edge_line w e = line (e.0.x ∷ (e.0.y ∷ (e.1.x ∷ (e.1.y ∷ (pos (cost w e.0 e.1) ∷ [])))))
 
 -- Words, each with the spaces that stand around it
 
 -- "pins "
-abbrev pub pinsWord : List ℕ
-pinsWord = 112 ∷ (105 ∷ (110 ∷ (115 ∷ (32 ∷ []))))
+abbrev pub pins_word : List ℕ
+pins_word = 112 ∷ (105 ∷ (110 ∷ (115 ∷ (32 ∷ []))))
 
 -- " macros "
-abbrev pub macrosWord : List ℕ
-macrosWord = 32 ∷ (109 ∷ (97 ∷ (99 ∷ (114 ∷ (111 ∷ (115 ∷ (32 ∷ [])))))))
+abbrev pub macros_word : List ℕ
+macros_word = 32 ∷ (109 ∷ (97 ∷ (99 ∷ (114 ∷ (111 ∷ (115 ∷ (32 ∷ [])))))))
 
 -- " terminal "
-abbrev pub terminalWord : List ℕ
-terminalWord = 32 ∷ (116 ∷ (101 ∷ (114 ∷ (109 ∷ (105 ∷ (110 ∷ (97 ∷ (108 ∷ (32 ∷ [])))))))))
+abbrev pub terminal_word : List ℕ
+terminal_word = 32 ∷ (116 ∷ (101 ∷ (114 ∷ (109 ∷ (105 ∷ (110 ∷ (97 ∷ (108 ∷ (32 ∷ [])))))))))
 
 -- " refined "
-abbrev pub refinedWord : List ℕ
-refinedWord = 32 ∷ (114 ∷ (101 ∷ (102 ∷ (105 ∷ (110 ∷ (101 ∷ (100 ∷ (32 ∷ []))))))))
+abbrev pub refined_word : List ℕ
+refined_word = 32 ∷ (114 ∷ (101 ∷ (102 ∷ (105 ∷ (110 ∷ (101 ∷ (100 ∷ (32 ∷ []))))))))
 
 -- " metal "
-abbrev pub metalWord : List ℕ
-metalWord = 32 ∷ (109 ∷ (101 ∷ (116 ∷ (97 ∷ (108 ∷ (32 ∷ []))))))
+abbrev pub metal_word : List ℕ
+metal_word = 32 ∷ (109 ∷ (101 ∷ (116 ∷ (97 ∷ (108 ∷ (32 ∷ []))))))
 
 -- "refused "
-abbrev pub refusedWord : List ℕ
-refusedWord = 114 ∷ (101 ∷ (102 ∷ (117 ∷ (115 ∷ (101 ∷ (100 ∷ (32 ∷ [])))))))
+abbrev pub refused_word : List ℕ
+refused_word = 114 ∷ (101 ∷ (102 ∷ (117 ∷ (115 ∷ (101 ∷ (100 ∷ (32 ∷ [])))))))
 
 -- The text
 
 -- P2: the header, with m and k, and then the two totals and the metal to lay
-unfoldable pub countsText : ℕ → ℕ → List ℕ
-countsText m k = pinsWord ++ (decimal m ++ (macrosWord ++ decimal k))
+unfoldable pub counts_text : ℕ → ℕ → List ℕ
+counts_text m k = pins_word ++ (decimal m ++ (macros_word ++ decimal k))
 
-unfoldable pub totalsText : ℤ → ℤ → ℤ → List ℕ
-totalsText terminal refined metal =
-    terminalWord ++ (whole terminal ++ (refinedWord ++ (whole refined ++ (metalWord ++ (whole metal ++ (newline ∷ []))))))
+unfoldable pub totals_text : ℤ → ℤ → ℤ → List ℕ
+totals_text terminal refined metal =
+    terminal_word ++ (whole terminal ++ (refined_word ++ (whole refined ++ (metal_word ++ (whole metal ++ (newline ∷ []))))))
 
 unfoldable pub header : Header → List ℕ
-header h = countsText h.pins h.macros ++ totalsText h.terminal h.refined h.metal
+header h = counts_text h.pins h.macros ++ totals_text h.terminal h.refined h.metal
 
 -- P3: the header, then a line for each edge in order
-unfoldable pub treeText : Weights → Header → List (Place × Place) → List ℕ
-treeText w h edges = header h ++ flat (edgeLine w) edges
+unfoldable pub tree_text : Weights → Header → List (Place × Place) → List ℕ
+tree_text w h edges = header h ++ flat (edge_line w) edges
 
 -- P4: the word and the number
-unfoldable pub refusedText : ℤ → List ℕ
-refusedText n = refusedWord ++ line (n ∷ [])
+unfoldable pub refused_text : ℤ → List ℕ
+refused_text n = refused_word ++ line (n ∷ [])

@@ -3,17 +3,17 @@
 ghost use Rattle.std.specs.Prelude.{◌≡◌, [], ◌∷◌, ◌++◌, ◌+◌, ◌*◌, ◌≤◌, pos, nat_abs, length};
 ghost use Rattle.lent.specs.Entries.{flat, entries};
 ghost use Rattle.plane.specs.Cost.{cost};
-ghost use Rattle.graph.specs.Numbers.{edgeFrom};
+ghost use Rattle.graph.specs.Numbers.{edge_from};
 ghost use Rattle.text.specs.Text.{
   decimal,
   whole,
   space,
-  edgeLine,
-  countsText,
-  totalsText,
+  edge_line,
+  counts_text,
+  totals_text,
   header,
-  treeText,
-  refusedText,
+  tree_text,
+  refused_text,
 };
 ghost use Rattle.text.specs.Put.{Put, Filled};
 
@@ -134,7 +134,7 @@ fn cost(w: Weights, a: Place, b: Place) -> i64
 // The line of an edge: its places and its cost.
 fn put_edge(out: &mut [u8], at: usize, w: Weights, a: Place, b: Place) -> usize
     requires { at + 105 ≤ length out.old }
-    ensures put { Put out.old at (edgeLine w (a, b)) out.new result }
+    ensures put { Put out.old at (edge_line w (a, b)) out.new result }
     ensures within { result ≤ at + 105 }
 {
     let second = put_place(&mut *out, at, a);
@@ -145,7 +145,7 @@ fn put_edge(out: &mut [u8], at: usize, w: Weights, a: Place, b: Place) -> usize
 // The lines of the first `count` edges of a flat list.
 fn put_edges(out: &mut [u8], at: usize, w: Weights, edges: &[i32], count: usize) -> usize
     requires { (at + count * 105 ≤ length out.old) × (count * 4 ≤ length edges.now) }
-    ensures put { Put out.old at (flat (edgeLine w) (entries edgeFrom 4 edges.now count))
+    ensures put { Put out.old at (flat (edge_line w) (entries edge_from 4 edges.now count))
         out.new result }
     ensures within { result ≤ at + count * 105 }
 {
@@ -185,7 +185,7 @@ fn put_total(out: &mut [u8], at: usize, word: &[u8], z: i64) -> usize
 // The header's counts, at the front.
 fn put_counts(out: &mut [u8], m: usize, k: usize) -> usize
     requires { 53 ≤ length out.old }
-    ensures put { Put out.old 0 (countsText m k) out.new result }
+    ensures put { Put out.old 0 (counts_text m k) out.new result }
     ensures within { result ≤ 53 }
 {
     let next = put_count(&mut *out, 0, b"pins ", m);
@@ -195,7 +195,7 @@ fn put_counts(out: &mut [u8], m: usize, k: usize) -> usize
 // Its totals and the metal, and the line's end.
 fn put_totals(out: &mut [u8], at: usize, h: Header) -> usize
     requires { at + 87 ≤ length out.old }
-    ensures put { Put out.old at (totalsText h.terminal h.refined h.metal) out.new result }
+    ensures put { Put out.old at (totals_text h.terminal h.refined h.metal) out.new result }
     ensures within { result ≤ at + 87 }
 {
     let second = put_total(&mut *out, at, b" terminal ", h.terminal);
@@ -218,7 +218,7 @@ fn put_header(out: &mut [u8], h: Header) -> usize
 // The text of a tree: its header, and the first `count` edges of a flat list, by these weights; how many bytes it has.
 pub fn tree(w: Weights, h: Header, edges: &[i32], count: usize, out: &mut [u8]) -> usize
     requires { (140 + count * 105 ≤ length out.old) × (count * 4 ≤ length edges.now) }
-    ensures { Filled (treeText w h (entries edgeFrom 4 edges.now count)) out.old out.new result }
+    ensures { Filled (tree_text w h (entries edge_from 4 edges.now count)) out.old out.new result }
 {
     let next = put_header(&mut *out, h);
     put_edges(&mut *out, next, w, edges, count)
@@ -227,7 +227,7 @@ pub fn tree(w: Weights, h: Header, edges: &[i32], count: usize, out: &mut [u8]) 
 // The text of a refusal; how many bytes it has.
 pub fn refused(n: i32, out: &mut [u8]) -> usize
     requires { 29 ≤ length out.old }
-    ensures { Filled (refusedText n) out.old out.new result }
+    ensures { Filled (refused_text n) out.old out.new result }
 {
     let next = put_bytes(&mut *out, 0, b"refused ");
     put_number(&mut *out, next, n as i64, b'\n')

@@ -15,32 +15,32 @@ use lib.Seq.{get_or-set_same, get_or-set_other}
 use Rattle.lists.specs.Member.{◌∈◌, here, there}
 use Rattle.lists.proofs.TestLaws.{by, either, and_left, and_right}
 use Rattle.lists.proofs.MemberLaws.{in-turned, of-turned}
-use Rattle.lines.specs.Bounds.{lineBound, crossingBound, segmentBound}
+use Rattle.lines.specs.Bounds.{line_bound, crossing_bound, segment_bound}
 use Rattle.grid.specs.Rows.{at}
 use Rattle.grid.specs.Tables.{target, Fits, Reads}
 use Rattle.grid.proofs.SegmentLaws.{target-even, target-odd, target-above}
 use Rattle.parts.specs.Numbers.{part_of}
 use Rattle.parts.specs.Tables.{value_at, row_of}
-use Rattle.traced.specs.Routes.{inOrder, otherEnd, touches, leads, meets, StepFound, PartFound, Marked, Down, start, over as further}
-use Rattle.traced.specs.Routes.{segmentAt, Walked}
+use Rattle.traced.specs.Routes.{in_their_order, other_end, touches, leads, meets, StepFound, PartFound, Marked, Down, start, over as further}
+use Rattle.traced.specs.Routes.{segment_at, Walked}
 use Rattle.traced.specs.Routes.{Route, stop, over as across, met, Traced}
 
 -- Segments in order
 
-pub order-even : (k : ℕ) → k % 2 ≡ 0 → inOrder k ≡ k + 1
-unfolding inOrder
-order-even k e = rw (inOrder, eq-eqb (k % 2) 0 e) refl
+pub order-even : (k : ℕ) → k % 2 ≡ 0 → in_their_order k ≡ k + 1
+unfolding in_their_order
+order-even k e = rw (in_their_order, eq-eqb (k % 2) 0 e) refl
 
-pub order-odd : (k : ℕ) → (k % 2 ≡ 0 → ⊥) → inOrder k ≡ k - 1
-unfolding inOrder
-order-odd k n = rw (inOrder, ne_eqb (k % 2) 0 n) refl
+pub order-odd : (k : ℕ) → (k % 2 ≡ 0 → ⊥) → in_their_order k ≡ k - 1
+unfolding in_their_order
+order-odd k n = rw (in_their_order, ne_eqb (k % 2) 0 n) refl
 
 -- what is known of it: at the same crossing, and back again
 pub record Turns (k : ℕ) : Type 0 where
-  pub half : inOrder k / 2 ≡ k / 2
-  pub twice : inOrder (inOrder k) ≡ k
-  pub small : k < segmentBound → inOrder k < segmentBound
-  pub other : inOrder k % 2 + k % 2 ≡ 1
+  pub half : in_their_order k / 2 ≡ k / 2
+  pub twice : in_their_order (in_their_order k) ≡ k
+  pub small : k < segment_bound → in_their_order k < segment_bound
+  pub other : in_their_order k % 2 + k % 2 ≡ 1
 
 pub turns : (k : ℕ) → Turns k
 turns k = at (ℕ_discrete (k % 2) 0)
@@ -48,32 +48,32 @@ turns k = at (ℕ_discrete (k % 2) 0)
     at : Dec (k % 2 ≡ 0) → Turns k
     at (yes e) =
         let f = order-even k e in
-        let n : inOrder k % 2 ≡ 0 → ⊥ = λ z. let y : ⊥ = omega (arith, e, f, z) in y in
+        let n : in_their_order k % 2 ≡ 0 → ⊥ = λ z. let y : ⊥ = omega (arith, e, f, z) in y in
         record {
           half = omega (arith, e, f);
-          twice = order-odd (inOrder k) n ∙ (let z : inOrder k - 1 ≡ k = omega (arith, f) in z);
+          twice = order-odd (in_their_order k) n ∙ (let z : in_their_order k - 1 ≡ k = omega (arith, f) in z);
           small = λ h. omega (arith, e, f, h);
           other = omega (arith, e, f);
         }
     at (no d) =
         let f = order-odd k d in
-        let n : inOrder k % 2 ≡ 0 = omega (arith, d, f) in
+        let n : in_their_order k % 2 ≡ 0 = omega (arith, d, f) in
         record {
           half = omega (arith, d, f);
-          twice = order-even (inOrder k) n ∙ (let z : inOrder k + 1 ≡ k = omega (arith, d, f) in z);
+          twice = order-even (in_their_order k) n ∙ (let z : in_their_order k + 1 ≡ k = omega (arith, d, f) in z);
           small = λ h. omega (arith, f, h);
           other = omega (arith, d, f);
         }
 
 -- Ends
 
-pub other-hit : (k v : ℕ) → k / 2 ≡ v → otherEnd k v ≡ target k
-unfolding otherEnd
-other-hit k v e = rw (otherEnd, eq-eqb (k / 2) v e) refl
+pub other-hit : (k v : ℕ) → k / 2 ≡ v → other_end k v ≡ target k
+unfolding other_end
+other-hit k v e = rw (other_end, eq-eqb (k / 2) v e) refl
 
-pub other-miss : (k v : ℕ) → (k / 2 ≡ v → ⊥) → otherEnd k v ≡ k / 2
-unfolding otherEnd
-other-miss k v n = rw (otherEnd, ne_eqb (k / 2) v n) refl
+pub other-miss : (k v : ℕ) → (k / 2 ≡ v → ⊥) → other_end k v ≡ k / 2
+unfolding other_end
+other-miss k v n = rw (other_end, ne_eqb (k / 2) v n) refl
 
 pub touch_is : (k v b : ℕ) → b ≡ target k → (eqb (k / 2) v || eqb b v) ≡ touches k v
 unfolding touches
@@ -88,42 +88,42 @@ unfolding touches
 touch-two k v e = by (eqb (k / 2) v) (λ f. rw f refl) (λ f. rw (f, eq-eqb (target k) v e) refl)
 
 -- v is one end, and the other end is the other
-pub touch-ends : (k v : ℕ) → touches k v ≡ true → ((v ≡ k / 2) × (otherEnd k v ≡ target k)) ⊎ ((v ≡ target k) × (otherEnd k v ≡ k / 2))
+pub touch-ends : (k v : ℕ) → touches k v ≡ true → ((v ≡ k / 2) × (other_end k v ≡ target k)) ⊎ ((v ≡ target k) × (other_end k v ≡ k / 2))
 unfolding touches
 touch-ends k v e = at (ℕ_discrete (k / 2) v)
   where
-    at : Dec (k / 2 ≡ v) → ((v ≡ k / 2) × (otherEnd k v ≡ target k)) ⊎ ((v ≡ target k) × (otherEnd k v ≡ k / 2))
+    at : Dec (k / 2 ≡ v) → ((v ≡ k / 2) × (other_end k v ≡ target k)) ⊎ ((v ≡ target k) × (other_end k v ≡ k / 2))
     at (yes f) = inl (sym f, other-hit k v f)
     at (no n) = inr (sym (eqb-true (target k) v (rw (ne_eqb (k / 2) v n) at e)), other-miss k v n)
 
 -- The four segments at a crossing
 
 module _ (v i : ℕ) where
-  pub segment-none-across : i ≡ 0 → v < lineBound → segmentAt v i ≡ segmentBound
-  unfolding segmentAt
-  segment-none-across e h = rw (segmentAt, eq-eqb i 0 e, lt-ltb v lineBound h) refl
+  pub segment-none-across : i ≡ 0 → v < line_bound → segment_at v i ≡ segment_bound
+  unfolding segment_at
+  segment-none-across e h = rw (segment_at, eq-eqb i 0 e, lt-ltb v line_bound h) refl
 
-  pub segment-across : i ≡ 0 → lineBound ≤ v → segmentAt v i ≡ (v - lineBound) * 2
-  unfolding segmentAt
-  segment-across e h = rw (segmentAt, eq-eqb i 0 e, le-ltb v lineBound h) refl
+  pub segment-across : i ≡ 0 → line_bound ≤ v → segment_at v i ≡ (v - line_bound) * 2
+  unfolding segment_at
+  segment-across e h = rw (segment_at, eq-eqb i 0 e, le-ltb v line_bound h) refl
 
-  pub segment-none-along : (i ≡ 0 → ⊥) → i ≡ 1 → v ≡ 0 → segmentAt v i ≡ segmentBound
-  unfolding segmentAt
-  segment-none-along n e h = rw (segmentAt, ne_eqb i 0 n, eq-eqb i 1 e, eq-eqb v 0 h) refl
+  pub segment-none-along : (i ≡ 0 → ⊥) → i ≡ 1 → v ≡ 0 → segment_at v i ≡ segment_bound
+  unfolding segment_at
+  segment-none-along n e h = rw (segment_at, ne_eqb i 0 n, eq-eqb i 1 e, eq-eqb v 0 h) refl
 
-  pub segment-along : (i ≡ 0 → ⊥) → i ≡ 1 → (v ≡ 0 → ⊥) → segmentAt v i ≡ v * 2 - 1
-  unfolding segmentAt
-  segment-along n e h = rw (segmentAt, ne_eqb i 0 n, eq-eqb i 1 e, ne_eqb v 0 h) refl
+  pub segment-along : (i ≡ 0 → ⊥) → i ≡ 1 → (v ≡ 0 → ⊥) → segment_at v i ≡ v * 2 - 1
+  unfolding segment_at
+  segment-along n e h = rw (segment_at, ne_eqb i 0 n, eq-eqb i 1 e, ne_eqb v 0 h) refl
 
-  pub segment-from : (i ≡ 0 → ⊥) → (i ≡ 1 → ⊥) → segmentAt v i ≡ v * 2 + (i - 2)
-  unfolding segmentAt
-  segment-from n h = rw (segmentAt, ne_eqb i 0 n, ne_eqb i 1 h) refl
+  pub segment-from : (i ≡ 0 → ⊥) → (i ≡ 1 → ⊥) → segment_at v i ≡ v * 2 + (i - 2)
+  unfolding segment_at
+  segment-from n h = rw (segment_at, ne_eqb i 0 n, ne_eqb i 1 h) refl
 
 -- they are all that touch it
 pub record AtCrossing (v k : ℕ) : Type 0 where
   pub place : ℕ
   pub small : place < 4
-  pub is : segmentAt v place ≡ k
+  pub is : segment_at v place ≡ k
 
 pub touch-four : (k v : ℕ) → touches k v ≡ true → AtCrossing v k
 touch-four k v e = at (touch-ends k v e) (ℕ_discrete (k % 2) 0)
@@ -131,7 +131,7 @@ touch-four k v e = at (touch-ends k v e) (ℕ_discrete (k % 2) 0)
     not : (a b : ℕ) → a < b → b ≡ a → ⊥
     not a b h z = omega (arith, h, z)
 
-    at : ((v ≡ k / 2) × (otherEnd k v ≡ target k)) ⊎ ((v ≡ target k) × (otherEnd k v ≡ k / 2)) → Dec (k % 2 ≡ 0) → AtCrossing v k
+    at : ((v ≡ k / 2) × (other_end k v ≡ target k)) ⊎ ((v ≡ target k) × (other_end k v ≡ k / 2)) → Dec (k % 2 ≡ 0) → AtCrossing v k
     at (inl f) (yes d) = record {
       place = 2;
       small = omega arith;
@@ -147,7 +147,7 @@ touch-four k v e = at (touch-ends k v e) (ℕ_discrete (k % 2) 0)
         record {
           place = 0;
           small = omega arith;
-          is = segment-across v 0 refl (omega (arith, f.0, t)) ∙ (let z : (v - lineBound) * 2 ≡ k = omega (arith, f.0, t, d) in z);
+          is = segment-across v 0 refl (omega (arith, f.0, t)) ∙ (let z : (v - line_bound) * 2 ≡ k = omega (arith, f.0, t, d) in z);
         }
     at (inr f) (no n) =
         let t = target-odd k n in
@@ -158,10 +158,10 @@ touch-four k v e = at (touch-ends k v e) (ℕ_discrete (k % 2) 0)
               ∙ (let z : v * 2 - 1 ≡ k = omega (arith, f.0, t, n) in z);
         }
 
-pub other-inside : (costs : List ℕ) (e k v : ℕ) → Fits costs e → k < e → 1 ≤ get_or costs k 0 → otherEnd k v < crossingBound
+pub other-inside : (costs : List ℕ) (e k v : ℕ) → Fits costs e → k < e → 1 ≤ get_or costs k 0 → other_end k v < crossing_bound
 other-inside costs e k v f h some = at (ℕ_discrete (k / 2) v)
   where
-    at : Dec (k / 2 ≡ v) → otherEnd k v < crossingBound
+    at : Dec (k / 2 ≡ v) → other_end k v < crossing_bound
     at (yes d) = omega (arith, other-hit k v d, f.ends k h some)
     at (no n) = omega (arith, other-miss k v n, f.count, h)
 
@@ -176,15 +176,15 @@ module _ (costs row : List ℕ) (v k : ℕ) where
   unfolding leads
   leads-away e = by (ltb 0 (get_or costs k 0)) (λ f. rw (f, e) refl) (λ f. rw f refl)
 
-  pub leads-there : 1 ≤ get_or costs k 0 → touches k v ≡ true → (w : ℕ) → w ≡ otherEnd k v →
+  pub leads-there : 1 ≤ get_or costs k 0 → touches k v ≡ true → (w : ℕ) → w ≡ other_end k v →
       eqb (at row w + get_or costs k 0) (at row v) ≡ leads costs row v k
   unfolding leads
   leads-there h e w f = rw (lt-ltb 0 (get_or costs k 0) h, e, f) refl
 
   pub record Leading : Type 0 where
     pub some : 1 ≤ get_or costs k 0
-    pub ends : ((v ≡ k / 2) × (otherEnd k v ≡ target k)) ⊎ ((v ≡ target k) × (otherEnd k v ≡ k / 2))
-    pub is : at row v ≡ at row (otherEnd k v) + get_or costs k 0
+    pub ends : ((v ≡ k / 2) × (other_end k v ≡ target k)) ⊎ ((v ≡ target k) × (other_end k v ≡ k / 2))
+    pub is : at row v ≡ at row (other_end k v) + get_or costs k 0
 
   pub leading : leads costs row v k ≡ true → Leading
   unfolding leads
@@ -214,13 +214,13 @@ module _ (m : ℕ) (work : List ℕ) (s v p : ℕ) where
 -- none of the first i segments at v leads on
 module _ (costs : List ℕ) (e : ℕ) (row : List ℕ) (v : ℕ) where
   abbrev pub NoneTo : ℕ → Type 0
-  NoneTo i = (j : ℕ) → j < i → segmentAt v j < e → leads costs row v (segmentAt v j) ≡ false
+  NoneTo i = (j : ℕ) → j < i → segment_at v j < e → leads costs row v (segment_at v j) ≡ false
 
-  pub none_more : (i k : ℕ) → k ≡ segmentAt v i → NoneTo i → (k < e → leads costs row v k ≡ false) → NoneTo (i + 1)
+  pub none_more : (i k : ℕ) → k ≡ segment_at v i → NoneTo i → (k < e → leads costs row v k ≡ false) → NoneTo (i + 1)
   none_more i k is h f j l = at (ℕ_discrete j i)
     where
-      at : Dec (j ≡ i) → segmentAt v j < e → leads costs row v (segmentAt v j) ≡ false
-      at (yes d) = subst (λ (z : ℕ). z < e → leads costs row v z ≡ false) (is ∙ ap (segmentAt v) (sym d)) f
+      at : Dec (j ≡ i) → segment_at v j < e → leads costs row v (segment_at v j) ≡ false
+      at (yes d) = subst (λ (z : ℕ). z < e → leads costs row v z ≡ false) (is ∙ ap (segment_at v) (sym d)) f
       at (no n) = h j (omega (arith, l, n))
 
   pub none_end : (i : ℕ) → 4 ≤ i → NoneTo i → (k : ℕ) → k < e → leads costs row v k ≡ false
@@ -309,11 +309,11 @@ module _ (costs : List ℕ) (e : ℕ) where
   pub walk_none : (row : List ℕ) (v : ℕ) (t : List ℕ) → Walking row v v t t
   walk_none row v t = record { edges = []; down = start; marks = mark-none t }
 
-  pub walk_more : (row : List ℕ) (v u k j w : ℕ) (t t' : List ℕ) → k < e → leads costs row u k ≡ true → j ≡ inOrder k → j < length t' →
-      w ≡ otherEnd k u → Walking row v u t t' → Walking row v w t (set t' j 1)
+  pub walk_more : (row : List ℕ) (v u k j w : ℕ) (t t' : List ℕ) → k < e → leads costs row u k ≡ true → j ≡ in_their_order k → j < length t' →
+      w ≡ other_end k u → Walking row v u t t' → Walking row v w t (set t' j 1)
   walk_more row v u k j w t t' h l is room to a =
       subst (λ (z : ℕ). Walking row v z t (set t' j 1)) (sym to) record {
-        edges = inOrder k ∷ a.edges;
+        edges = in_their_order k ∷ a.edges;
         down = further k h l a.down;
         marks = subst (λ (i : ℕ). Marked (i ∷ a.edges) t (set t' j 1)) is (mark-more a.edges t t' j room a.marks);
       }
@@ -337,7 +337,7 @@ module _ (costs : List ℕ) (e : ℕ) where
     down-route : (s v u : ℕ) (js is : List ℕ) → Down costs e (row_of work s) v u js → Route costs e m work s u is →
         Route costs e m work s v (reverse_aux js is)
     down-route s v u [] is start r = r
-    down-route s v u (j ∷ js) is (further {u = x} k h l d) r = down-route s v x js (inOrder k ∷ is) d (across k h l r)
+    down-route s v u (j ∷ js) is (further {u = x} k h l d) r = down-route s v x js (in_their_order k ∷ is) d (across k h l r)
 
     joined-marks : (js is t u x : List ℕ) → Marked js t u → Marked is u x → Marked (reverse_aux js is) t x
     joined-marks js is t u x a b =
@@ -368,11 +368,11 @@ module _ (costs : List ℕ) (e : ℕ) where
         }
 
 -- one step of a walk: the number falls, and the crossing is one
-pub step_down : (costs row : List ℕ) (u k w : ℕ) → leads costs row u k ≡ true → w ≡ otherEnd k u → at row w < at row u
+pub step_down : (costs row : List ℕ) (u k w : ℕ) → leads costs row u k ≡ true → w ≡ other_end k u → at row w < at row u
 step_down costs row u k w l e = let q = leading costs row u k l in omega (arith, q.is, q.some, ap (at row) e)
 
-pub step-inside : (costs row : List ℕ) (e u k w : ℕ) → Fits costs e → k < e → leads costs row u k ≡ true → w ≡ otherEnd k u →
-    w < crossingBound
+pub step-inside : (costs row : List ℕ) (e u k w : ℕ) → Fits costs e → k < e → leads costs row u k ≡ true → w ≡ other_end k u →
+    w < crossing_bound
 step-inside costs row e u k w f h l is = omega (arith, is, other-inside costs e k u f h (leading costs row u k l).some)
 
 -- an end of a segment that the other is had from
@@ -380,14 +380,14 @@ pub leads-is : (costs row : List ℕ) (e k v w c : ℕ) → Reads costs e k v w 
 unfolding leads
 leads-is costs row e k v w c r is = at-end r.ends
   where
-    there : touches k v ≡ true → otherEnd k v ≡ w →
-        (ltb 0 (get_or costs k 0) && (touches k v && eqb (at row (otherEnd k v) + get_or costs k 0) (at row v))) ≡ true
+    there : touches k v ≡ true → other_end k v ≡ w →
+        (ltb 0 (get_or costs k 0) && (touches k v && eqb (at row (other_end k v) + get_or costs k 0) (at row v))) ≡ true
     there t o =
-        let same : at row (otherEnd k v) + get_or costs k 0 ≡ at row v = omega (arith, is, r.price, ap (at row) o) in
-        rw (lt-ltb 0 (get_or costs k 0) r.is, t, eq-eqb (at row (otherEnd k v) + get_or costs k 0) (at row v) same) refl
+        let same : at row (other_end k v) + get_or costs k 0 ≡ at row v = omega (arith, is, r.price, ap (at row) o) in
+        rw (lt-ltb 0 (get_or costs k 0) r.is, t, eq-eqb (at row (other_end k v) + get_or costs k 0) (at row v) same) refl
 
     at-end : ((v ≡ k / 2) × (w ≡ target k)) ⊎ ((v ≡ target k) × (w ≡ k / 2)) →
-        (ltb 0 (get_or costs k 0) && (touches k v && eqb (at row (otherEnd k v) + get_or costs k 0) (at row v))) ≡ true
+        (ltb 0 (get_or costs k 0) && (touches k v && eqb (at row (other_end k v) + get_or costs k 0) (at row v))) ≡ true
     at-end (inl f) = there (touch-one k v (sym f.0)) (other-hit k v (sym f.0) ∙ sym f.1)
     at-end (inr f) =
         there (touch-two k v (sym f.0))
@@ -413,7 +413,7 @@ meeting m work s v p e = record {
 pub record EdgeOf (costs : List ℕ) (e j : ℕ) : Type 0 where
   pub segment : ℕ
   pub inside : segment < e
-  pub is : j ≡ inOrder segment
+  pub is : j ≡ in_their_order segment
   pub some : 1 ≤ get_or costs segment 0
 
 pub route-edges : (costs : List ℕ) (e m : ℕ) (work : List ℕ) (s v : ℕ) (js : List ℕ) → Route costs e m work s v js → (j : ℕ) → j ∈ js →
@@ -421,6 +421,6 @@ pub route-edges : (costs : List ℕ) (e m : ℕ) (work : List ℕ) (s v : ℕ) (
 route-edges costs e m work s v js (stop a b) j i = elim i [ ]
 route-edges costs e m work s v js (across {js = is} k h l r) j i =
     either (λ f. record { segment = k; inside = h; is = f; some = (leading costs (row_of work s) v k l).some })
-    (λ z. route-edges costs e m work s (otherEnd k v) is r j z) (Memᴰ.cases_cons i)
+    (λ z. route-edges costs e m work s (other_end k v) is r j z) (Memᴰ.cases_cons i)
 route-edges costs e m work s v js (met {is = is} {js = ks} p one h l r q) j i =
     either (λ z. route-edges costs e m work p v is r j z) (λ z. route-edges costs e m work (s - p) v ks q j z) (Memᴰ.append_cases is i)

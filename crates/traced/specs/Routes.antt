@@ -5,32 +5,32 @@ use Rattle.std.specs.Prelude.{◌≡◌, Bool, true, false, ◌&&◌, ◌||◌, 
 use Rattle.std.proofs.lemmas.List.Edits.{sets}
 use Rattle.lists.specs.Member.{◌∈◌}
 use Rattle.plane.specs.Distance.{distance}
-use Rattle.graph.specs.Numbers.{edgeNumbers}
+use Rattle.graph.specs.Numbers.{edge_numbers}
 use Rattle.union.specs.Marks.{marks}
-use Rattle.lines.specs.Bounds.{lineBound, segmentBound}
+use Rattle.lines.specs.Bounds.{line_bound, segment_bound}
 use Rattle.lines.specs.Edges.{Edge}
 use Rattle.grid.specs.Rows.{at}
-use Rattle.grid.specs.Tables.{crossingAt, target}
+use Rattle.grid.specs.Tables.{crossing_at, target}
 use Rattle.parts.specs.Numbers.{part_of}
 use Rattle.parts.specs.Tables.{value_at, row_of}
 
 -- segment k in the order of edges, and the other way: the last bit turned
-unfoldable pub inOrder : ℕ → ℕ
-inOrder k = elim (eqb (k % 2) 0) [ true ↦ k + 1 | false ↦ k - 1 ]
+unfoldable pub in_their_order : ℕ → ℕ
+in_their_order k = elim (eqb (k % 2) 0) [ true ↦ k + 1 | false ↦ k - 1 ]
 
 -- the edge of the segment that comes j-th in the order of edges
 abbrev pub edge_at : List ℤ → List ℤ → ℕ → Edge
-edge_at xs ys j = (crossingAt xs ys (inOrder j / 2), crossingAt xs ys (target (inOrder j)))
+edge_at xs ys j = (crossing_at xs ys (in_their_order j / 2), crossing_at xs ys (target (in_their_order j)))
 
 -- those of the first e that are marked
-unfoldable pub markedEdges : List ℤ → List ℤ → List ℕ → ℕ → List Edge
-markedEdges xs ys used e = map (edge_at xs ys) (marks used e)
+unfoldable pub marked_edges : List ℤ → List ℤ → List ℕ → ℕ → List Edge
+marked_edges xs ys used e = map (edge_at xs ys) (marks used e)
 
 -- the j-th put as edge `count` of a table, if it is marked: how many there are then
 abbrev pub MarkedPut : List ℤ → List ℤ → List ℕ → ℕ → ℕ → List ℤ → ℕ → List ℤ → Type 0
 MarkedPut xs ys used j count t r u =
     ((get_or used j 0 ≡ 0) × ((r ≡ count) × (u ≡ t)))
-    ⊎ ((1 ≤ get_or used j 0) × ((r ≡ count + 1) × (u ≡ sets t (count * 4) (edgeNumbers (edge_at xs ys j)))))
+    ⊎ ((1 ≤ get_or used j 0) × ((r ≡ count + 1) × (u ≡ sets t (count * 4) (edge_numbers (edge_at xs ys j)))))
 
 -- the plain length of the j-th, 0 where it is not marked
 abbrev pub LengthOf : List ℤ → List ℤ → List ℕ → ℕ → ℕ → Type 0
@@ -38,24 +38,24 @@ LengthOf xs ys used j r =
     ((get_or used j 0 ≡ 0) × (r ≡ 0)) ⊎ ((1 ≤ get_or used j 0) × (r ≡ distance (edge_at xs ys j).0 (edge_at xs ys j).1))
 
 -- the other end of segment k
-unfoldable pub otherEnd : ℕ → ℕ → ℕ
-otherEnd k v = elim (eqb (k / 2) v) [ true ↦ target k | false ↦ k / 2 ]
+unfoldable pub other_end : ℕ → ℕ → ℕ
+other_end k v = elim (eqb (k / 2) v) [ true ↦ target k | false ↦ k / 2 ]
 
 unfoldable pub touches : ℕ → ℕ → Bool
 touches k v = eqb (k / 2) v || eqb (target k) v
 
 -- the i-th of the four segments at v, in the order of their numbers; past all where it would come from outside the lines
-unfoldable pub segmentAt : ℕ → ℕ → ℕ
-segmentAt v i =
+unfoldable pub segment_at : ℕ → ℕ → ℕ
+segment_at v i =
     elim (eqb i 0) [
-      | true ↦ elim (ltb v lineBound) [ true ↦ segmentBound | false ↦ (v - lineBound) * 2 ]
-      | false ↦ elim (eqb i 1) [ true ↦ elim (eqb v 0) [ true ↦ segmentBound | false ↦ v * 2 - 1 ] | false ↦ v * 2 + (i - 2) ]
+      | true ↦ elim (ltb v line_bound) [ true ↦ segment_bound | false ↦ (v - line_bound) * 2 ]
+      | false ↦ elim (eqb i 1) [ true ↦ elim (eqb v 0) [ true ↦ segment_bound | false ↦ v * 2 - 1 ] | false ↦ v * 2 + (i - 2) ]
     ]
 
 -- segment k is an edge at v by which the number at v is had
 unfoldable pub leads : List ℕ → List ℕ → ℕ → ℕ → Bool
 leads costs row v k =
-    ltb 0 (get_or costs k 0) && (touches k v && eqb (at row (otherEnd k v) + get_or costs k 0) (at row v))
+    ltb 0 (get_or costs k 0) && (touches k v && eqb (at row (other_end k v) + get_or costs k 0) (at row v))
 
 -- the number of s at v is that of its part p and of the rest
 unfoldable pub meets : ℕ → List ℕ → ℕ → ℕ → ℕ → Bool
@@ -82,7 +82,7 @@ module _ (costs : List ℕ) (e : ℕ) where
   pub data Down (row : List ℕ) (v : ℕ) : ℕ → List ℕ → Type 0 where
     start : Down row v v []
     over : {u : ℕ} {js : List ℕ} (k : ℕ) → k < e → leads costs row u k ≡ true → Down row v u js →
-        Down row v (otherEnd k u) (inOrder k ∷ js)
+        Down row v (other_end k u) (in_their_order k ∷ js)
 
   -- as far as it goes
   pub record Walked (row : List ℕ) (v u : ℕ) (t t' : List ℕ) : Type 0 where
@@ -95,8 +95,8 @@ module _ (costs : List ℕ) (e : ℕ) where
     pub data Route : ℕ → ℕ → List ℕ → Type 0 where
       stop : {s v : ℕ} → ((k : ℕ) → k < e → leads costs (row_of work s) v k ≡ false) →
           ((p : ℕ) → 1 ≤ p → p < s → meets m work s v p ≡ false) → Route s v []
-      over : {s v : ℕ} {js : List ℕ} (k : ℕ) → k < e → leads costs (row_of work s) v k ≡ true → Route s (otherEnd k v) js →
-          Route s v (inOrder k ∷ js)
+      over : {s v : ℕ} {js : List ℕ} (k : ℕ) → k < e → leads costs (row_of work s) v k ≡ true → Route s (other_end k v) js →
+          Route s v (in_their_order k ∷ js)
       met : {s v : ℕ} {is js : List ℕ} (p : ℕ) → 1 ≤ p → p < s → meets m work s v p ≡ true → Route p v is → Route (s - p) v js →
           Route s v (is ++ js)
 

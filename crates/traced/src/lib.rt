@@ -1,14 +1,14 @@
 // A tree read back from the rows of a table of costs: its edges marked, in the order of edges.
 ghost use Rattle.std.specs.Prelude.{◌≡◌, ◌+◌, ◌≤◌, ◌<◌, length};
-ghost use Rattle.lines.specs.Bounds.{crossingBound, segmentBound};
+ghost use Rattle.lines.specs.Bounds.{crossing_bound, segment_bound};
 ghost use Rattle.grid.specs.Tables.{Row, Fits};
-ghost use Rattle.parts.specs.Bounds.{maskBound};
+ghost use Rattle.parts.specs.Bounds.{mask_bound};
 ghost use Rattle.parts.specs.Tables.{RowsTo};
 ghost use Rattle.traced.specs.Routes.{
-  inOrder,
-  otherEnd,
+  in_their_order,
+  other_end,
   touches,
-  segmentAt,
+  segment_at,
   leads,
   meets,
   StepFound,
@@ -24,8 +24,8 @@ use lines::Grid;
 
 // Where a segment stands in the order of edges, and the other way.
 pub fn in_order(k: usize) -> usize
-    requires { k < segmentBound }
-    ensures { (result ≡ inOrder k) × (result < segmentBound) }
+    requires { k < segment_bound }
+    ensures { (result ≡ in_their_order k) × (result < segment_bound) }
 {
     if k % 2 == 0 {
         return k + 1;
@@ -35,8 +35,8 @@ pub fn in_order(k: usize) -> usize
 
 // The other end of segment k.
 fn other_end(k: usize, v: usize) -> usize
-    requires { k < segmentBound }
-    ensures { result ≡ otherEnd k v }
+    requires { k < segment_bound }
+    ensures { result ≡ other_end k v }
 {
     if k / 2 == v {
         return grid::target(k);
@@ -46,7 +46,7 @@ fn other_end(k: usize, v: usize) -> usize
 
 // Whether v is an end of segment k.
 fn touches(k: usize, v: usize) -> bool
-    requires { k < segmentBound }
+    requires { k < segment_bound }
     ensures { result ≡ touches k v }
 {
     let b = grid::target(k);
@@ -62,7 +62,7 @@ fn leads(
     k: usize,
 ) -> bool
     requires fits { (Fits costs.now e) × (k < e) }
-    requires row { (Row row.now) × (v < crossingBound) }
+    requires row { (Row row.now) × (v < crossing_bound) }
     ensures { result ≡ leads costs.now row.now v k }
 {
     let c = costs[k];
@@ -77,8 +77,8 @@ fn leads(
 
 // The four segments at v, in the order of their numbers: the i-th, or one past all where it would come from outside the lines.
 fn segment_at(v: usize, i: usize) -> usize
-    requires { (v < crossingBound) × (i < 4) }
-    ensures { result ≡ segmentAt v i }
+    requires { (v < crossing_bound) × (i < 4) }
+    ensures { result ≡ segment_at v i }
 {
     if i == 0 {
         if v < Grid::LINES {
@@ -103,7 +103,7 @@ fn step_from(
     v: usize,
 ) -> usize
     requires fits { Fits costs.now e }
-    requires row { (Row row.now) × (v < crossingBound) }
+    requires row { (Row row.now) × (v < crossing_bound) }
     ensures { StepFound costs.now e row.now v result }
 {
     let mut i = 0;
@@ -127,9 +127,9 @@ fn walk(
     v: usize,
     used: &mut [usize; Grid::SEGMENTS],
 ) -> usize
-    requires fits { (Fits costs.now e) × (length used.old ≡ segmentBound) }
-    requires row { (Row row.now) × (v < crossingBound) }
-    ensures { (Walked costs.now e row.now v result used.old used.new) × (result < crossingBound) }
+    requires fits { (Fits costs.now e) × (length used.old ≡ segment_bound) }
+    requires row { (Row row.now) × (v < crossing_bound) }
+    ensures { (Walked costs.now e row.now v result used.old used.new) × (result < crossing_bound) }
 {
     let mut u = v;
     let mut k = step_from(costs, e, row, u);
@@ -146,7 +146,7 @@ fn walk(
 
 // Whether the number of s at v is that of its part p and of the rest.
 fn meets(work: &[u32], m: usize, s: usize, v: usize, p: usize) -> bool
-    requires rows_to { (RowsTo (s + 1) work.now) × ((s < maskBound) × (v < crossingBound)) }
+    requires rows_to { (RowsTo (s + 1) work.now) × ((s < mask_bound) × (v < crossing_bound)) }
     requires le_p { (1 ≤ p) × (p < s) }
     ensures { result ≡ meets m work.now s v p }
 {
@@ -158,7 +158,7 @@ fn meets(work: &[u32], m: usize, s: usize, v: usize, p: usize) -> bool
 
 // A part of s by which its number at v is had; 0 where there is none.
 fn part_from(work: &[u32], m: usize, s: usize, v: usize) -> usize
-    requires { (RowsTo (s + 1) work.now) × ((s < maskBound) × (v < crossingBound)) }
+    requires { (RowsTo (s + 1) work.now) × ((s < mask_bound) × (v < crossing_bound)) }
     ensures { PartFound m work.now s v result }
 {
     let mut p = 1;
@@ -181,8 +181,8 @@ fn trace(
     v: usize,
     used: &mut [usize; Grid::SEGMENTS],
 )
-    requires fits { (Fits costs.now e) × (length used.old ≡ segmentBound) }
-    requires rows_to { (RowsTo (s + 1) work.now) × (((1 ≤ s) × (s < maskBound)) × (v < crossingBound)) }
+    requires fits { (Fits costs.now e) × (length used.old ≡ segment_bound) }
+    requires rows_to { (RowsTo (s + 1) work.now) × (((1 ≤ s) × (s < mask_bound)) × (v < crossing_bound)) }
     ensures { Traced costs.now e m work.now s v used.old used.new }
 {
     let mut row = [0u32; Grid::CROSSINGS];
@@ -205,8 +205,8 @@ pub fn read_back(
     v: usize,
     used: &mut [usize; Grid::SEGMENTS],
 ) -> u64
-    requires fits { (Fits costs.now e) × (length used.old ≡ segmentBound) }
-    requires rows_to { (RowsTo n work.now) × (((1 ≤ n) × (n ≤ maskBound)) × (v < crossingBound)) }
+    requires fits { (Fits costs.now e) × (length used.old ≡ segment_bound) }
+    requires rows_to { (RowsTo n work.now) × (((1 ≤ n) × (n ≤ mask_bound)) × (v < crossing_bound)) }
     ensures { ReadBack costs.now e m work.now n v used.old used.new result }
 {
     if n < 2 {

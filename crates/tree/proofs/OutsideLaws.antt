@@ -15,8 +15,8 @@ use Rattle.lists.proofs.TestLaws.{by, differ, either}
 use Rattle.lists.proofs.AnyLaws.{any_none}
 use Rattle.lists.proofs.MemberLaws.{once-length}
 use Rattle.plane.specs.declared.Place.{Place}
-use Rattle.plane.specs.Place.{samePlace}
-use Rattle.plane.specs.Flat.{placeAt}
+use Rattle.plane.specs.Place.{same_place}
+use Rattle.plane.specs.Flat.{place_at}
 use Rattle.plane.specs.Rank.{InOrder}
 use Rattle.plane.proofs.PlaceLaws.{same_true, same_refl}
 use Rattle.tree.specs.Table.{Tree}
@@ -26,10 +26,10 @@ use Rattle.tree.proofs.ListingLaws.{listing-length}
 use Rattle.tree.proofs.PointLaws.{order-once}
 
 -- a place that is among them
-standing : (p : Place) (vs : List Place) → any (samePlace p) vs ≡ true → p ∈ vs
+standing : (p : Place) (vs : List Place) → any (same_place p) vs ≡ true → p ∈ vs
 unfolding any
 standing p [] e = differ e refl
-standing p (v ∷ vs) e = by (samePlace p v) (λ t. here (same_true p v t)) (λ t. there (standing p vs (rw t at e)))
+standing p (v ∷ vs) e = by (same_place p v) (λ t. here (same_true p v t)) (λ t. there (standing p vs (rw t at e)))
 
 module _ (vs : List Place) where
   -- Which they are
@@ -38,11 +38,11 @@ module _ (vs : List Place) where
   unfolding outside
   of-outside [] x m = elim m [ ]
   of-outside (p ∷ ps) x m =
-      by (any (samePlace p) vs)
+      by (any (same_place p) vs)
       (λ t. let r = of-outside ps x (rw (outside, t) at m) in (there r.0, r.1))
       (λ t.
       either
-      (λ e. (here e, λ i. differ (ap (samePlace p) e ∙ same_refl p) (any_none (samePlace p) vs t x i)))
+      (λ e. (here e, λ i. differ (ap (same_place p) e ∙ same_refl p) (any_none (same_place p) vs t x i)))
       (λ i. let r = of-outside ps x i in (there r.0, r.1))
       (Memᴰ.cases_cons (rw (outside, t) at m)))
 
@@ -50,7 +50,7 @@ module _ (vs : List Place) where
   unfolding outside
   in-outside [] x m = elim m [ ]
   in-outside (p ∷ ps) x m =
-      by (any (samePlace p) vs)
+      by (any (same_place p) vs)
       (λ t. rw (outside, t) (either (λ e. inl (rw e (standing p vs t))) (λ i. in-outside ps x i) (Memᴰ.cases_cons m)))
       (λ t.
       rw (outside, t) (either (λ e. inr (here e)) (λ i. either inl (λ j. inr (there j)) (in-outside ps x i)) (Memᴰ.cases_cons m)))
@@ -59,7 +59,7 @@ module _ (vs : List Place) where
   unfolding outside
   outside-once [] o = tt
   outside-once (p ∷ ps) o =
-      by (any (samePlace p) vs) (λ t. rw (outside, t) (outside-once ps o.1))
+      by (any (same_place p) vs) (λ t. rw (outside, t) (outside-once ps o.1))
       (λ t. rw (outside, t) (λ m. o.0 (of-outside ps p m).0, outside-once ps o.1))
 
   -- How many
@@ -68,8 +68,8 @@ module _ (vs : List Place) where
   unfolding outside
   outside-none [] h = refl
   outside-none (p ∷ ps) h =
-      by (any (samePlace p) vs) (λ t. rw (outside, t) (outside-none ps (λ x i. h x (there i))))
-      (λ t. differ (same_refl p) (any_none (samePlace p) vs t p (h p (here refl))))
+      by (any (same_place p) vs) (λ t. rw (outside, t) (outside-none ps (λ x i. h x (there i))))
+      (λ t. differ (same_refl p) (any_none (same_place p) vs t p (h p (here refl))))
 
   pub outside-rest : (ps : List Place) → Once ps → length ps ≤ length vs + length (outside vs ps)
   outside-rest ps o =
@@ -102,5 +102,5 @@ count-strangers vs t o =
     omega (
       arith,
       outside-rest vs (points_of t.points t.count) (order-once t.points t.count o),
-      listing-length (placeAt t.points) t.count,
+      listing-length (place_at t.points) t.count,
     )

@@ -9,7 +9,7 @@ use lib.Dec.{ltb, eqb}
 use lib.ListN.{length, get_or, set}
 use borrow.Author.Tests.{ltb-true, ltb-false, eqb-true, eq-eqb, ne_eqb}
 use Rattle.lists.proofs.TestLaws.{by}
-use Rattle.tree.specs.Sum.{below, sumOver}
+use Rattle.tree.specs.Sum.{below, sum_over}
 
 -- Sums
 
@@ -97,8 +97,8 @@ pub one-not : (k j : ℕ) → (j ≡ k → ⊥) → one k j ≡ 0
 unfolding one
 one-not k j n = rw (one, ne_eqb j k n) refl
 
-pub in_table : (k : ℕ) (xs : List ℕ) (n : ℕ) → 0 < sumOver (one k) xs n → (i : ℕ) × ((i < n) × (get_or xs i 0 ≡ k))
+pub in_table : (k : ℕ) (xs : List ℕ) (n : ℕ) → 0 < sum_over (one k) xs n → (i : ℕ) × ((i < n) × (get_or xs i 0 ≡ k))
 in_table k xs n h = let r = below-some _ n h in (r.0, (r.1.0, one-some k (get_or xs r.0 0) r.1.1))
 
-pub of-table : (xs : List ℕ) (n i : ℕ) → i < n → 0 < sumOver (one (get_or xs i 0)) xs n
+pub of-table : (xs : List ℕ) (n i : ℕ) → i < n → 0 < sum_over (one (get_or xs i 0)) xs n
 of-table xs n i h = omega (arith, below_at (λ j. one (get_or xs i 0) (get_or xs j 0)) n i h, one_same (get_or xs i 0))

@@ -1,18 +1,18 @@
--- A tree's edges as they are given, in the order of their table. `edgesOf` lists the same edges from the last to the first.
+-- A tree's edges as they are given, in the order of their table. `edges_of` lists the same edges from the last to the first.
 use Rattle.std.specs.Prelude.{List, [], ◌∷◌, ℕ, zero, suc, ℤ, get_or}
 use Rattle.plane.specs.declared.Place.{Place}
 use Rattle.tree.specs.Table.{Tree}
-use Rattle.tree.specs.Places.{endsOf}
+use Rattle.tree.specs.Places.{ends_of}
 
 -- n edges of a tree's tables from number i on, as pairs of places
-unfoldable pub edgesFrom : List ℤ → List ℕ → ℕ → ℕ → List (Place × Place)
-edgesFrom pts ks i zero = []
-edgesFrom pts ks i (suc n) = endsOf pts (get_or ks i 0) ∷ edgesFrom pts ks (suc i) n
+unfoldable pub edges_from : List ℤ → List ℕ → ℕ → ℕ → List (Place × Place)
+edges_from pts ks i zero = []
+edges_from pts ks i (suc n) = ends_of pts (get_or ks i 0) ∷ edges_from pts ks (suc i) n
 
 -- the first e of them
-abbrev pub tableEdges : List ℤ → List ℕ → ℕ → List (Place × Place)
-tableEdges pts ks e = edgesFrom pts ks 0 e
+abbrev pub table_edges : List ℤ → List ℕ → ℕ → List (Place × Place)
+table_edges pts ks e = edges_from pts ks 0 e
 
 -- all edges of a tree
-abbrev pub treeEdges : Tree → List (Place × Place)
-treeEdges t = tableEdges t.points t.edges.keys t.edges.size
+abbrev pub tree_edges : Tree → List (Place × Place)
+tree_edges t = table_edges t.points t.edges.keys t.edges.size

@@ -8,5 +8,5 @@ below f zero = 0
 below f (suc n) = f n + below f n
 
 -- the sum of g over the first n entries
-abbrev pub sumOver : (ℕ → ℕ) → List ℕ → ℕ → ℕ
-sumOver g xs n = below (λ i. g (get_or xs i 0)) n
+abbrev pub sum_over : (ℕ → ℕ) → List ℕ → ℕ → ℕ
+sum_over g xs n = below (λ i. g (get_or xs i 0)) n

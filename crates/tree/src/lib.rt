@@ -1,8 +1,8 @@
 // The tables of a tree, which union, refiner and refined share: its points in the order of places, two numbers each, and its edges as keys
 // of their ends' numbers, in the order of edges.
 ghost use Rattle.std.specs.Prelude.{◌≡◌, ◌<◌};
-ghost use Rattle.plane.specs.Flat.{placeAt};
-ghost use Rattle.tree.specs.Table.{treeBound, setPoint};
+ghost use Rattle.plane.specs.Flat.{place_at};
+ghost use Rattle.tree.specs.Table.{tree_bound, set_point};
 
 use net::Net;
 use plane::Place;
@@ -21,8 +21,8 @@ pub struct Size {
 
 // The place of point i.
 pub fn point_at(pts: &[i32; NUMBERS], i: usize) -> Place
-    requires { i < treeBound }
-    ensures { result ≡ placeAt pts.now i }
+    requires { i < tree_bound }
+    ensures { result ≡ place_at pts.now i }
 {
     Place {
         x: pts[i * 2],
@@ -32,8 +32,8 @@ pub fn point_at(pts: &[i32; NUMBERS], i: usize) -> Place
 
 // p as the place of point i.
 pub fn put_point(pts: &mut [i32; NUMBERS], i: usize, p: Place)
-    requires { i < treeBound }
-    ensures { pts.new ≡ setPoint pts.old i p }
+    requires { i < tree_bound }
+    ensures { pts.new ≡ set_point pts.old i p }
 {
     let x = p.x;
     let y = p.y;

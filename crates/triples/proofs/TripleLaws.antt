@@ -13,11 +13,11 @@ use Rattle.lists.proofs.TestLaws.{by}
 use Rattle.plane.specs.declared.Place.{Place}
 use Rattle.plane.specs.declared.Macro.{Macro}
 use Rattle.plane.specs.declared.Weights.{Weights}
-use Rattle.plane.specs.Place.{samePlace}
+use Rattle.plane.specs.Place.{same_place}
 use Rattle.plane.specs.Macro.{clear}
-use Rattle.plane.specs.Flat.{placeAt}
-use Rattle.near.specs.Box.{boxCost}
-use Rattle.triples.specs.Triple.{sees, taken, dropped, allowed, mayGain}
+use Rattle.plane.specs.Flat.{place_at}
+use Rattle.near.specs.Box.{box_cost}
+use Rattle.triples.specs.Triple.{sees, taken, dropped, allowed, may_gain}
 
 pub sees-yes : (ms : List Macro) (a b u : Place) → clear u a ms ≡ true → true ≡ sees ms a b u
 unfolding sees
@@ -28,22 +28,21 @@ unfolding sees
 sees-no ms a b u e = rw e refl
 
 module _ (pts : List ℤ) (a b u : ℕ) (s : Place) (i : ℕ) where
-  pub taken-there : (p : Place) (t : Bool) → p ≡ placeAt pts i → t ≡ samePlace s p → t ≡ true →
-      not (eqb i a || (eqb i b || eqb i u)) ≡ taken pts a b u s i
+  pub taken-self : (eqb i a || (eqb i b || eqb i u)) ≡ true → false ≡ taken pts a b u s i
   unfolding taken
-  taken-there p t f g h = by (eqb i a || (eqb i b || eqb i u)) (λ e. rw e refl) (λ e. rw (e, ← f, ← g, h) refl)
+  taken-self e = rw e refl
 
-  pub taken-elsewhere : (p : Place) (t : Bool) → p ≡ placeAt pts i → t ≡ samePlace s p → t ≡ false →
-      false ≡ taken pts a b u s i
+  pub taken-other : (eqb i a || (eqb i b || eqb i u)) ≡ false → (p : Place) (t : Bool) → p ≡ place_at pts i → t ≡ same_place s p → t
+      ≡ taken pts a b u s i
   unfolding taken
-  taken-elsewhere p t f g h = by (eqb i a || (eqb i b || eqb i u)) (λ e. rw e refl) (λ e. rw (e, ← f, ← g, h) refl)
+  taken-other e p t f g = rw (e, g, f) refl
 
 pub dropped-is : (pts : List ℤ) (n a b u : ℕ) (s : Place) (i : ℕ) → i ≡ seek (taken pts a b u s) 0 n → ltb i n ≡ dropped pts n a b u s
 unfolding dropped
 dropped-is pts n a b u s i e = rw e refl
 
-module _ (pts : List ℤ) (n : ℕ) (ms : List Macro) (a b u : ℕ) (s p q r : Place) (f : p ≡ placeAt pts a) (g : q ≡ placeAt pts b)
-    (h : r ≡ placeAt pts u) where
+module _ (pts : List ℤ) (n : ℕ) (ms : List Macro) (a b u : ℕ) (s p q r : Place) (f : p ≡ place_at pts a) (g : q ≡ place_at pts b)
+    (h : r ≡ place_at pts u) where
   pub allowed-no : sees ms p q r ≡ false → false ≡ allowed pts n ms a b u s
   unfolding allowed
   allowed-no e = rw (← f, ← g, ← h, e) refl
@@ -54,14 +53,14 @@ module _ (pts : List ℤ) (n : ℕ) (ms : List Macro) (a b u : ℕ) (s p q r : P
 
 -- What can be gained
 
-pub may-gain-not : (w : Weights) (m : Macro) (p : Place) (f g x : ℕ) → x ≤ g + f → false ≡ mayGain w m p f g x
-unfolding mayGain
-may-gain-not w m p f g x h = sym (le-ltb (g + (boxCost w m p + f)) x (omega arith))
+pub may-gain-not : (w : Weights) (m : Macro) (p : Place) (f g x : ℕ) → x ≤ g + f → false ≡ may_gain w m p f g x
+unfolding may_gain
+may-gain-not w m p f g x h = sym (le-ltb (g + (box_cost w m p + f)) x (omega arith))
 
-pub may-gain-is : (w : Weights) (m : Macro) (p : Place) (f g x : ℕ) → f + g < x → ltb (boxCost w m p) (x - f - g) ≡ mayGain w m p f g x
-unfolding mayGain
+pub may-gain-is : (w : Weights) (m : Macro) (p : Place) (f g x : ℕ) → f + g < x → ltb (box_cost w m p) (x - f - g) ≡ may_gain w m p f g x
+unfolding may_gain
 may-gain-is w m p f g x h =
-    let d = boxCost w m p in
+    let d = box_cost w m p in
     by (ltb d (x - f - g))
     (λ t. t ∙ sym (lt-ltb (g + (d + f)) x (omega (arith, ltb-true d (x - f - g) t))))
     (λ t. t ∙ sym (le-ltb (g + (d + f)) x (omega (arith, ltb-false d (x - f - g) t))))

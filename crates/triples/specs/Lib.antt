@@ -3,5 +3,5 @@
 -- Points are numbers in the table of a tree's points, as crate candidates says.
 --
 --   Triple     sees, dropped, allowed      what a candidate must be
---              mayGain                     more than so much can be gained, by the box of the edge
+--              may_gain                     more than so much can be gained, by the box of the edge
 pub mod Triple

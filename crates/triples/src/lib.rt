@@ -1,49 +1,37 @@
 // An edge from a to b and a third point u, with s, the middle of the three: what is asked of them before they are a candidate.
 ghost use Rattle.std.specs.Prelude.{◌≡◌, ◌≤◌, ◌<◌};
 ghost use Rattle.lists.specs.Turns.{seek};
-ghost use Rattle.plane.specs.Flat.{macrosOf};
-ghost use Rattle.tree.specs.Table.{treeBound};
-ghost use Rattle.triples.specs.Triple.{sees, taken, dropped, allowed, mayGain};
+ghost use Rattle.plane.specs.Flat.{macros_of};
+ghost use Rattle.tree.specs.Table.{tree_bound};
+ghost use Rattle.triples.specs.Triple.{sees, taken, dropped, allowed, may_gain};
 
 use plane::{Macro, Place, Weights};
 use tree::NUMBERS;
 
-// What `sees` says, whatever `by` is: the macro of that number is asked first, since what blocked last often blocks
-// again.
-pub fn look(macros: &[i32], a: Place, b: Place, u: Place, by: &mut usize) -> bool
-    ensures { result ≡ sees (macrosOf macros.now) a b u }
-{
-    let one = clear::look(u, a, macros, *by);
-    if one.free {
-        return true;
-    }
-    let two = clear::look(u, b, macros, one.by);
-    *by = two.by;
-    two.free
-}
-
 // u is clear of a or of b.
 pub fn sees(macros: &[i32], a: Place, b: Place, u: Place) -> bool
-    ensures { result ≡ sees (macrosOf macros.now) a b u }
+    ensures { result ≡ sees (macros_of macros.now) a b u }
 {
-    let mut by = 0;
-    look(macros, a, b, u, &mut by)
+    if clear::is_clear(u, a, macros) {
+        return true;
+    }
+    clear::is_clear(u, b, macros)
 }
 
 // The point i stands at s and is none of a, b and u.
 fn is_taken(pts: &[i32; NUMBERS], a: usize, b: usize, u: usize, s: Place, i: usize) -> bool
-    requires { i < treeBound }
+    requires { i < tree_bound }
     ensures { result ≡ taken pts.now a b u s i }
 {
-    if plane::is_same_place(s, tree::point_at(pts, i)) {
-        return !((i == a) | ((i == b) | (i == u)));
+    if (i == a) | ((i == b) | (i == u)) {
+        return false;
     }
-    false
+    plane::is_same_place(s, tree::point_at(pts, i))
 }
 
 // The first such point, or n.
 fn find_taken(pts: &[i32; NUMBERS], n: usize, a: usize, b: usize, u: usize, s: Place) -> usize
-    requires { n ≤ treeBound }
+    requires { n ≤ tree_bound }
     ensures { result ≡ seek (taken pts.now a b u s) 0 n }
 {
     let mut i = 0;
@@ -58,13 +46,13 @@ fn find_taken(pts: &[i32; NUMBERS], n: usize, a: usize, b: usize, u: usize, s: P
 
 // Another point than a, b and u stands at s.
 pub fn is_dropped(pts: &[i32; NUMBERS], n: usize, a: usize, b: usize, u: usize, s: Place) -> bool
-    requires { n ≤ treeBound }
+    requires { n ≤ tree_bound }
     ensures { result ≡ dropped pts.now n a b u s }
 {
     find_taken(pts, n, a, b, u, s) < n
 }
 
-// u sees the edge of a and b, and s is free. The macro of number `by` is asked first.
+// u sees the edge of a and b, and s is free.
 pub fn is_allowed(
     pts: &[i32; NUMBERS],
     n: usize,
@@ -73,17 +61,15 @@ pub fn is_allowed(
     b: usize,
     u: usize,
     s: Place,
-    by: &mut usize,
 ) -> bool
-    requires { ((a < treeBound) × (b < treeBound)) × ((u < treeBound) × (n ≤ treeBound)) }
-    ensures { result ≡ allowed pts.now n (macrosOf macros.now) a b u s }
+    requires { ((a < tree_bound) × (b < tree_bound)) × ((u < tree_bound) × (n ≤ tree_bound)) }
+    ensures { result ≡ allowed pts.now n (macros_of macros.now) a b u s }
 {
-    if look(
+    if sees(
         macros,
         tree::point_at(pts, a),
         tree::point_at(pts, b),
         tree::point_at(pts, u),
-        &mut *by,
     ) {
         return !is_dropped(pts, n, a, b, u, s);
     }
@@ -93,7 +79,7 @@ pub fn is_allowed(
 // Whether more than g can be gained with a place p that is f away from the tree, of edges in the box m, where none costs more than most.
 // The box is asked last, and before L, what is clear and what is dropped.
 pub fn may_gain(w: Weights, m: Macro, p: Place, f: u64, g: u64, most: u64) -> bool
-    ensures { result ≡ mayGain w m p f g most }
+    ensures { result ≡ may_gain w m p f g most }
 {
     if most <= f {
         return false;

@@ -12,10 +12,10 @@ use mir.Syntax.{w32, w64}
 use mir.Val.{SFits}
 use Rattle.lists.proofs.TestLaws.{by, differ}
 use Rattle.signed.specs.Sides.{up, down}
-use Rattle.signed.specs.Order.{eqZ, minZ, maxZ}
-use Rattle.signed.proofs.SideLaws.{one_side, of-sfits, to-sfits, add-sides, sub-sides, abs-sides, up_pos, down_pos, ltZ-true, ltZ-false}
-use Rattle.signed.proofs.SideLaws.{leZ-true, leZ-false, eq_of}
-use Rattle.signed.proofs.OrderLaws.{min-sides, max-sides, eqZ-true, eqZ-refl}
+use Rattle.signed.specs.Order.{z_eq, z_min, z_max}
+use Rattle.signed.proofs.SideLaws.{one_side, of-sfits, to-sfits, add-sides, sub-sides, abs-sides, up_pos, down_pos, z_lt-true, z_lt-false}
+use Rattle.signed.proofs.SideLaws.{z_le-true, z_le-false, eq_of}
+use Rattle.signed.proofs.OrderLaws.{min-sides, max-sides, z_eq-true, z_eq-refl}
 use Rattle.turned.specs.Turned.{raised}
 
 -- As the machine has it
@@ -103,35 +103,35 @@ module _ (a b : ℤ) (h : High a) (k : High b) where
   raised-le =
       by (le_z a b)
       (λ e. by (leb (raised a) (raised b)) (λ g. e ∙ sym g)
-      (λ g. absurd (let x : ⊥ = omega (arith, h, k, leZ-true a b e, leb-false (raised a) (raised b) g) in x)))
+      (λ g. absurd (let x : ⊥ = omega (arith, h, k, z_le-true a b e, leb-false (raised a) (raised b) g) in x)))
       (λ e. by (leb (raised a) (raised b))
-      (λ g. absurd (let x : ⊥ = omega (arith, h, k, leZ-false a b e, leb-true (raised a) (raised b) g) in x)) (λ g. e ∙ sym g))
+      (λ g. absurd (let x : ⊥ = omega (arith, h, k, z_le-false a b e, leb-true (raised a) (raised b) g) in x)) (λ g. e ∙ sym g))
 
   pub raised_lt : lt_z a b ≡ ltb (raised a) (raised b)
   unfolding raised
   raised_lt =
       by (lt_z a b)
       (λ e. by (ltb (raised a) (raised b)) (λ g. e ∙ sym g)
-      (λ g. absurd (let x : ⊥ = omega (arith, h, k, ltZ-true a b e, ltb-false (raised a) (raised b) g) in x)))
+      (λ g. absurd (let x : ⊥ = omega (arith, h, k, z_lt-true a b e, ltb-false (raised a) (raised b) g) in x)))
       (λ e. by (ltb (raised a) (raised b))
-      (λ g. absurd (let x : ⊥ = omega (arith, h, k, ltZ-false a b e, ltb-true (raised a) (raised b) g) in x)) (λ g. e ∙ sym g))
+      (λ g. absurd (let x : ⊥ = omega (arith, h, k, z_lt-false a b e, ltb-true (raised a) (raised b) g) in x)) (λ g. e ∙ sym g))
 
-  pub raised-eq : eqZ a b ≡ eqb (raised a) (raised b)
+  pub raised-eq : z_eq a b ≡ eqb (raised a) (raised b)
   unfolding raised
   raised-eq =
-      by (eqZ a b)
-      (λ e. e ∙ sym (eq-eqb (raised a) (raised b) (ap raised (eqZ-true a b e))))
+      by (z_eq a b)
+      (λ e. e ∙ sym (eq-eqb (raised a) (raised b) (ap raised (z_eq-true a b e))))
       (λ e. by (eqb (raised a) (raised b))
       (λ g. let q : a ≡ b = eq_of a b (omega (arith, h, k, eqb-true (raised a) (raised b) g)) in
-      differ (ap (λ (z : ℤ). eqZ z b) q ∙ eqZ-refl b) e) (λ g. e ∙ sym g))
+      differ (ap (λ (z : ℤ). z_eq z b) q ∙ z_eq-refl b) e) (λ g. e ∙ sym g))
 
-  pub raised-min : raised (minZ a b) ≡ min (raised a) (raised b)
+  pub raised-min : raised (z_min a b) ≡ min (raised a) (raised b)
   unfolding raised
-  raised-min = omega (arith, h, k, min-sides a b, one_side (minZ a b))
+  raised-min = omega (arith, h, k, min-sides a b, one_side (z_min a b))
 
-  pub raised-max : raised (maxZ a b) ≡ max (raised a) (raised b)
+  pub raised-max : raised (z_max a b) ≡ max (raised a) (raised b)
   unfolding raised
-  raised-max = omega (arith, h, k, max-sides a b, one_side (maxZ a b))
+  raised-max = omega (arith, h, k, max-sides a b, one_side (z_max a b))
 
   -- how far beyond
   pub raised-beyond : up (b -ℤ a) ≡ raised b - raised a
@@ -140,15 +140,15 @@ module _ (a b : ℤ) (h : High a) (k : High b) where
 
 -- Turned about zero
 
-pub negated : (a b : ℤ) → eqZ (pos 0 -ℤ a) (pos 0 -ℤ b) ≡ eqZ a b
+pub negated : (a b : ℤ) → z_eq (pos 0 -ℤ a) (pos 0 -ℤ b) ≡ z_eq a b
 negated a b =
-    by (eqZ a b)
-    (λ e. let q = eqZ-true a b e in ap (λ (z : ℤ). eqZ (pos 0 -ℤ z) (pos 0 -ℤ b)) q ∙ eqZ-refl (pos 0 -ℤ b) ∙ sym e)
-    (λ e. by (eqZ (pos 0 -ℤ a) (pos 0 -ℤ b))
+    by (z_eq a b)
+    (λ e. let q = z_eq-true a b e in ap (λ (z : ℤ). z_eq (pos 0 -ℤ z) (pos 0 -ℤ b)) q ∙ z_eq-refl (pos 0 -ℤ b) ∙ sym e)
+    (λ e. by (z_eq (pos 0 -ℤ a) (pos 0 -ℤ b))
     (λ g.
-    let q = eqZ-true (pos 0 -ℤ a) (pos 0 -ℤ b) g in
+    let q = z_eq-true (pos 0 -ℤ a) (pos 0 -ℤ b) g in
     let u = ap up q in
     let d = ap down q in
     let w : a ≡ b = eq_of a b (omega (arith, u, d, sub-sides (pos 0) a, sub-sides (pos 0) b)) in
-    differ (ap (λ (z : ℤ). eqZ z b) w ∙ eqZ-refl b) e)
+    differ (ap (λ (z : ℤ). z_eq z b) w ∙ z_eq-refl b) e)
     (λ g. g ∙ sym e))

@@ -11,15 +11,15 @@ use lib.Signed.{lt_z}
 use Rattle.signed.proofs.SideLaws.{one_side, sub-sides, abs-sides}
 use Rattle.plane.specs.declared.Place.{Place}
 use Rattle.plane.specs.Distance.{apart}
-use Rattle.plane.specs.Flat.{placeAt}
+use Rattle.plane.specs.Flat.{place_at}
 use Rattle.plane.proofs.Fits.{PlaceFits}
 use Rattle.slide.specs.declared.Side.{Side}
 use Rattle.slide.specs.declared.Side.TheVariants.{Above, Below, Right, Left}
 use Rattle.slide.specs.Side.{along, across}
 use Rattle.slide.specs.Bend.{Edge}
 use Rattle.slide.specs.Bar.{level, ahead, behind, long}
-use Rattle.straight.specs.Table.{firstEnd, secondEnd, edge_at}
-use Rattle.turned.specs.Turned.{raised, View, onIt, seenEdge, levelAt, ahead_of, behindOf, gap, longOf}
+use Rattle.straight.specs.Table.{first_end, second_end, edge_at}
+use Rattle.turned.specs.Turned.{raised, View, on_it, seen_edge, level_at, ahead_of, behind_of, gap, long_of}
 use Rattle.turned.proofs.RaisedLaws.{High, high, high-turned, raised_lt, raised-eq}
 
 pub across-high : (s : Side) (p : Place) → PlaceFits p → High (across s p)
@@ -42,9 +42,9 @@ raised-apart a b h k = omega (arith, h, k, abs-sides (a -ℤ b), sub-sides a b, 
 
 -- The tables are seen with n points, e edges, and the test `on` for the bar's points
 pub record Sees (v : View) (n e : ℕ) (on : Place → Bool) : Type 0 where
-  pub is : (i : ℕ) → i < n → on (placeAt v.points i) ≡ onIt v i
-  pub within : (k : ℕ) → k < e → (firstEnd (get_or v.keys k 0) < n) × (secondEnd (get_or v.keys k 0) < n)
-  pub fits : (i : ℕ) → i < n → PlaceFits (placeAt v.points i)
+  pub is : (i : ℕ) → i < n → on (place_at v.points i) ≡ on_it v i
+  pub within : (k : ℕ) → k < e → (first_end (get_or v.keys k 0) < n) × (second_end (get_or v.keys k 0) < n)
+  pub fits : (i : ℕ) → i < n → PlaceFits (place_at v.points i)
 
 module _ {v : View} {n e : ℕ} {on : Place → Bool} (r : Sees v n e on) (k : ℕ) (h : k < e) where
   abbrev s : Side
@@ -54,15 +54,15 @@ module _ {v : View} {n e : ℕ} {on : Place → Bool} (r : Sees v n e on) (k : �
   x = edge_at v.points v.keys k
 
   abbrev a : ℕ
-  a = firstEnd (get_or v.keys k 0)
+  a = first_end (get_or v.keys k 0)
 
   abbrev b : ℕ
-  b = secondEnd (get_or v.keys k 0)
+  b = second_end (get_or v.keys k 0)
 
-  first-is : on x.0 ≡ onIt v a
+  first-is : on x.0 ≡ on_it v a
   first-is = r.is a (r.within k h).0
 
-  second_is : on x.1 ≡ onIt v b
+  second_is : on x.1 ≡ on_it v b
   second_is = r.is b (r.within k h).1
 
   high-a : High (across s x.0)
@@ -80,24 +80,24 @@ module _ {v : View} {n e : ℕ} {on : Place → Bool} (r : Sees v n e on) (k : �
   abbrev either_way : Bool → Bool → Bool → Bool → Bool
   either_way p l q m = (p && l) || (q && m)
 
-  pub ahead-is : ahead s on x ≡ ahead_of (seenEdge v k)
+  pub ahead-is : ahead s on x ≡ ahead_of (seen_edge v k)
   unfolding ahead ahead_of
   ahead-is =
       ap₂ (λ (p q : Bool). either_way p (lt_z (across s x.0) (across s x.1)) q (lt_z (across s x.1) (across s x.0)))
       first-is second_is
-      ∙ ap₂ (λ (l m : Bool). either_way (onIt v a) l (onIt v b) m) lower higher
+      ∙ ap₂ (λ (l m : Bool). either_way (on_it v a) l (on_it v b) m) lower higher
 
-  pub behind-is : behind s on x ≡ behindOf (seenEdge v k)
-  unfolding behind behindOf
+  pub behind-is : behind s on x ≡ behind_of (seen_edge v k)
+  unfolding behind behind_of
   behind-is =
       ap₂ (λ (p q : Bool). either_way p (lt_z (across s x.1) (across s x.0)) q (lt_z (across s x.0) (across s x.1)))
       first-is second_is
-      ∙ ap₂ (λ (l m : Bool). either_way (onIt v a) l (onIt v b) m) higher lower
+      ∙ ap₂ (λ (l m : Bool). either_way (on_it v a) l (on_it v b) m) higher lower
 
-  pub long-is : long s x ≡ longOf (seenEdge v k)
+  pub long-is : long s x ≡ long_of (seen_edge v k)
   unfolding long
   long-is = raised-apart (across s x.0) (across s x.1) high-a high-b
 
-  pub level-is : level s x ≡ levelAt s v.points v.keys k
-  unfolding level levelAt
+  pub level-is : level s x ≡ level_at s v.points v.keys k
+  unfolding level level_at
   level-is = raised-eq (across s x.0) (across s x.1) high-a high-b

@@ -4,9 +4,9 @@
 -- above zero, so that tests and distances are those of natural numbers, for one direction. Each loop is a state that goes through the
 -- numbers below n.
 --
---   Turned     raised, spot, face         a number, a place and a macro turned;  levelAt: an edge along the bars
---              View, seen                 how a bar sees the tables: an edge or a point;  aheadOf, behindOf, longOf: an edge that hangs
---   Steps      upTo f n s                 the state s after f at each number below n;  setUpTo: a table so
+--   Turned     raised, spot, face         a number, a place and a macro turned;  level_at: an edge along the bars
+--              View, seen                 how a bar sees the tables: an edge or a point;  ahead_of, behind_of, long_of: an edge that hangs
+--   Steps      up_to f n s                 the state s after f at each number below n;  set_up_to: a table so
 --
 -- ../proofs/SeenLaws.antt: what a bar sees is what crate slide says of places.
 pub mod Turned

@@ -3,11 +3,11 @@ use Rattle.std.specs.Prelude.{Bool, ◌&&◌, ◌||◌, List, ℕ, ◌+◌, ◌-
 use Rattle.signed.specs.Sides.{up, down}
 use Rattle.plane.specs.declared.Place.{Place}
 use Rattle.plane.specs.declared.Macro.{Macro}
-use Rattle.plane.specs.Flat.{placeAt}
+use Rattle.plane.specs.Flat.{place_at}
 use Rattle.slide.specs.declared.Side.{Side}
 use Rattle.slide.specs.Side.{along, across}
-use Rattle.slide.specs.Stop.{starts, finishes, nearSide, farSide}
-use Rattle.straight.specs.Table.{firstEnd, secondEnd, edge_at}
+use Rattle.slide.specs.Stop.{starts, finishes, near_side, far_side}
+use Rattle.straight.specs.Table.{first_end, second_end, edge_at}
 use Rattle.turned.specs.declared.Spot.{Spot}
 use Rattle.turned.specs.declared.Face.{Face}
 use Rattle.turned.specs.declared.Seen.{Seen}
@@ -23,16 +23,16 @@ abbrev pub face : Side → Macro → Face
 face s m = record {
   starts = raised (starts s m);
   finishes = raised (finishes s m);
-  near = raised (nearSide s m);
-  far = raised (farSide s m);
+  near = raised (near_side s m);
+  far = raised (far_side s m);
 }
 
-unfoldable pub sameSpot : Spot → Spot → Bool
-sameSpot a b = eqb a.along b.along && eqb a.across b.across
+unfoldable pub same_spot : Spot → Spot → Bool
+same_spot a b = eqb a.along b.along && eqb a.across b.across
 
 -- edge k is along the bars that move to the side
-unfoldable pub levelAt : Side → List ℤ → List ℕ → ℕ → Bool
-levelAt s pts ks k = eqb (spot s (edge_at pts ks k).0).across (spot s (edge_at pts ks k).1).across
+unfoldable pub level_at : Side → List ℤ → List ℕ → ℕ → Bool
+level_at s pts ks k = eqb (spot s (edge_at pts ks k).0).across (spot s (edge_at pts ks k).1).across
 
 -- What a bar sees the tables by: its side, its label, the points and their labels, the keys of the edges
 pub record View : Type 0 where
@@ -46,21 +46,21 @@ abbrev pub view : List ℤ → List ℕ → List ℕ → Side → ℕ → View
 view pts ks lab s l = record { side = s; label = l; points = pts; keys = ks; labels = lab }
 
 -- the point i is on the bar
-abbrev pub onIt : View → ℕ → Bool
-onIt v i = eqb (get_or v.labels i 0) v.label
+abbrev pub on_it : View → ℕ → Bool
+on_it v i = eqb (get_or v.labels i 0) v.label
 
-abbrev pub spotAt : View → ℕ → Spot
-spotAt v i = spot v.side (placeAt v.points i)
+abbrev pub spot_at : View → ℕ → Spot
+spot_at v i = spot v.side (place_at v.points i)
 
 -- two points as an edge
 abbrev pub seen : View → ℕ → ℕ → Seen
-seen v a b = record { first = onIt v a; second = onIt v b; from = spotAt v a; to = spotAt v b }
+seen v a b = record { first = on_it v a; second = on_it v b; from = spot_at v a; to = spot_at v b }
 
-abbrev pub seenEdge : View → ℕ → Seen
-seenEdge v k = seen v (firstEnd (get_or v.keys k 0)) (secondEnd (get_or v.keys k 0))
+abbrev pub seen_edge : View → ℕ → Seen
+seen_edge v k = seen v (first_end (get_or v.keys k 0)) (second_end (get_or v.keys k 0))
 
-abbrev pub seenPoint : View → ℕ → Seen
-seenPoint v i = seen v i i
+abbrev pub seen_point : View → ℕ → Seen
+seen_point v i = seen v i i
 
 -- An edge as a bar sees it: ahead of the bar, behind it, and how long across it
 
@@ -68,13 +68,13 @@ unfoldable pub ahead_of : Seen → Bool
 ahead_of e =
     (e.first && ltb e.from.across e.to.across) || (e.second && ltb e.to.across e.from.across)
 
-unfoldable pub behindOf : Seen → Bool
-behindOf e =
+unfoldable pub behind_of : Seen → Bool
+behind_of e =
     (e.first && ltb e.to.across e.from.across) || (e.second && ltb e.from.across e.to.across)
 
 -- how far two numbers are apart
 abbrev pub gap : ℕ → ℕ → ℕ
 gap a b = (a - b) + (b - a)
 
-abbrev pub longOf : Seen → ℕ
-longOf e = gap e.from.across e.to.across
+abbrev pub long_of : Seen → ℕ
+long_of e = gap e.from.across e.to.across

@@ -1,9 +1,9 @@
 // Places and macros turned as a bar has them that moves to a side: a bar's line is the first number and the side to which it moves the
 // second, both raised above zero. What follows is said for one direction.
 ghost use Rattle.std.specs.Prelude.{◌≡◌, ◌-◌, ◌^◌, ◌≤◌, ◌<◌, min, max, pos, ◌-ℤ◌, get_or, []};
-ghost use Rattle.plane.specs.Flat.{placeAt};
-ghost use Rattle.straight.specs.Table.{straightBound, keyBound};
-ghost use Rattle.turned.specs.Turned.{raised, spot, face, sameSpot, levelAt, view, seen, seenEdge, gap, ahead_of, behindOf, longOf};
+ghost use Rattle.plane.specs.Flat.{place_at};
+ghost use Rattle.straight.specs.Table.{straight_bound, key_bound};
+ghost use Rattle.turned.specs.Turned.{raised, spot, face, same_spot, level_at, view, seen, seen_edge, gap, ahead_of, behind_of, long_of};
 
 use plane::{Macro, Place};
 use slide::Side;
@@ -142,14 +142,14 @@ pub fn gap(a: u64, b: u64) -> u64
 }
 
 pub fn is_same(a: Spot, b: Spot) -> bool
-    ensures { result ≡ sameSpot a b }
+    ensures { result ≡ same_spot a b }
 {
     (a.along == b.along) & (a.across == b.across)
 }
 
 pub fn spot_at(pts: &[i32; NUMBERS], s: Side, i: usize) -> Spot
-    requires { i < straightBound }
-    ensures { (result ≡ spot s (placeAt pts.now i)) × (result.across ≤ 2 ^ 32) }
+    requires { i < straight_bound }
+    ensures { (result ≡ spot s (place_at pts.now i)) × (result.across ≤ 2 ^ 32) }
 {
     spot_of(s, straight::point_at(pts, i))
 }
@@ -163,8 +163,8 @@ pub fn seen_edge(
     l: usize,
     k: usize,
 ) -> Seen
-    requires { (k < straightBound) × (get_or keys.now k 0 < keyBound) }
-    ensures { (result ≡ seenEdge (view pts.now keys.now lab.now s l) k)
+    requires { (k < straight_bound) × (get_or keys.now k 0 < key_bound) }
+    ensures { (result ≡ seen_edge (view pts.now keys.now lab.now s l) k)
         × ((result.from.across ≤ 2 ^ 32) × (result.to.across ≤ 2 ^ 32)) }
 {
     let a = straight::first_end(keys, k);
@@ -179,7 +179,7 @@ pub fn seen_edge(
 
 // Point i so.
 pub fn seen_point(pts: &[i32; NUMBERS], lab: &[usize; POINTS], s: Side, l: usize, i: usize) -> Seen
-    requires { i < straightBound }
+    requires { i < straight_bound }
     ensures { result ≡ seen (view pts.now [] lab.now s l) i i }
 {
     let p = spot_at(pts, s, i);
@@ -193,8 +193,8 @@ pub fn seen_point(pts: &[i32; NUMBERS], lab: &[usize; POINTS], s: Side, l: usize
 
 // Edge k is along the bars that move to this side.
 pub fn is_level(pts: &[i32; NUMBERS], keys: &[usize; POINTS], s: Side, k: usize) -> bool
-    requires { (k < straightBound) × (get_or keys.now k 0 < keyBound) }
-    ensures { result ≡ levelAt s pts.now keys.now k }
+    requires { (k < straight_bound) × (get_or keys.now k 0 < key_bound) }
+    ensures { result ≡ level_at s pts.now keys.now k }
 {
     let p = spot_at(pts, s, straight::first_end(keys, k));
     let q = spot_at(pts, s, straight::second_end(keys, k));
@@ -208,13 +208,13 @@ pub fn is_ahead(e: Seen) -> bool
 }
 
 pub fn is_behind(e: Seen) -> bool
-    ensures { result ≡ behindOf e }
+    ensures { result ≡ behind_of e }
 {
     (e.first & (e.to.across < e.from.across)) | (e.second & (e.from.across < e.to.across))
 }
 
 pub fn long(e: Seen) -> u64
-    ensures { result ≡ longOf e }
+    ensures { result ≡ long_of e }
 {
     gap(e.from.across, e.to.across)
 }

@@ -19,17 +19,17 @@ use Rattle.lent.specs.Entries.{flat}
 use Rattle.lent.proofs.OverLaws.{over_none, over-more}
 use Rattle.lent.proofs.EntryTable.{entry_more}
 use Rattle.plane.specs.declared.Place.{Place}
-use Rattle.plane.specs.Flat.{placeFrom}
-use Rattle.graph.specs.Numbers.{placeNumbers}
+use Rattle.plane.specs.Flat.{place_from}
+use Rattle.graph.specs.Numbers.{place_numbers}
 use Rattle.graph.proofs.WidthLaws.{place-width}
-use Rattle.forest.specs.Bounds.{pointBound}
+use Rattle.forest.specs.Bounds.{point_bound}
 use Rattle.forest.specs.Edges.{from, entries, Below}
 use Rattle.forest.specs.Parents.{Parents, up, via, way, Falls}
-use Rattle.forest.proofs.EdgeLaws.{from_next, from_end, entries_next, entries-end, below_set}
+use Rattle.forest.proofs.EdgeLaws.{from_next, from-end, entries_next, entries-end, below_set}
 use Rattle.forest.proofs.WayLaws.{way-none, way_step}
-use Rattle.tree.specs.Table.{setPoint}
-use Rattle.union.specs.Union.{bothEnds}
-use Rattle.union.specs.Marks.{marked, isMarked, marks, Ranking}
+use Rattle.tree.specs.Table.{set_point}
+use Rattle.union.specs.Union.{both_ends}
+use Rattle.union.specs.Marks.{marked, is_marked, marks, Ranking}
 
 pub marked_append : (l m t : List ℕ) → marked (l ++ m) t ≡ marked m (marked l t)
 unfolding marked
@@ -43,11 +43,11 @@ mark-both l m k t t₁ t₂ a b = b ∙ ap (λ (s : List ℕ). marked m (set s k
 
 -- Ways
 
-pub mark-stop : (fars : List ℕ) (p : Parents) (v : ℕ) (t : List ℕ) → pointBound ≤ up p v → t ≡ marked (way fars p v) t
+pub mark-stop : (fars : List ℕ) (p : Parents) (v : ℕ) (t : List ℕ) → point_bound ≤ up p v → t ≡ marked (way fars p v) t
 unfolding way marked
 mark-stop fars p v t h = rw (way-none p (get_or fars v 0) v h) refl
 
-pub mark-go : (lengths fars : List ℕ) (p : Parents) → Falls lengths fars p → (v : ℕ) (t : List ℕ) → v < pointBound → up p v < pointBound →
+pub mark-go : (lengths fars : List ℕ) (p : Parents) → Falls lengths fars p → (v : ℕ) (t : List ℕ) → v < point_bound → up p v < point_bound →
     marked (way fars p (up p v)) (set t (via p v) 1) ≡ marked (way fars p v) t
 unfolding marked
 mark-go lengths fars p f v t h u = rw (way_step lengths fars p f v h u) refl
@@ -81,18 +81,18 @@ module _ (piece : ℕ → List ℕ) (xs : List ℕ) (i m : ℕ) (t all : List �
 
 -- both ends of each of n edges that passes a test
 module _ (ones twos : List ℕ) (test : ℕ → Bool) (k n : ℕ) (t all : List ℕ)
-    (p : marked (flat (bothEnds ones twos) (those test (from k (n - k)))) t ≡ all) where
+    (p : marked (flat (both_ends ones twos) (those test (from k (n - k)))) t ≡ all) where
   pub ends-hit : k < n → test k ≡ true →
-      marked (flat (bothEnds ones twos) (those test (from (k + 1) (n - (k + 1))))) (set (set t (get_or ones k 0) 1) (get_or twos k 0) 1) ≡ all
+      marked (flat (both_ends ones twos) (those test (from (k + 1) (n - (k + 1))))) (set (set t (get_or ones k 0) 1) (get_or twos k 0) 1) ≡ all
   unfolding marked flat
   ends-hit h e = sym (rw (from_next k n h, those-hit test k (from (k + 1) (n - (k + 1))) e) refl) ∙ p
 
-  pub ends-miss : k < n → test k ≡ false → marked (flat (bothEnds ones twos) (those test (from (k + 1) (n - (k + 1))))) t ≡ all
+  pub ends-miss : k < n → test k ≡ false → marked (flat (both_ends ones twos) (those test (from (k + 1) (n - (k + 1))))) t ≡ all
   ends-miss h e = sym (rw (from_next k n h, those-miss test k (from (k + 1) (n - (k + 1))) e) refl) ∙ p
 
   pub ends-end : n ≤ k → t ≡ all
   unfolding marked flat those
-  ends-end h = sym (rw (from_end k n h) refl) ∙ p
+  ends-end h = sym (rw (from-end k n h) refl) ∙ p
 
 -- The marked numbers, upwards
 
@@ -113,21 +113,21 @@ those-append f (x ∷ l) m =
     (λ e. those-miss f x (l ++ m) e ∙ those-append f l m ∙ ap (λ (r : List ℕ). r ++ those f m) (sym (those-miss f x l e)))
 
 module _ (t : List ℕ) (n : ℕ) where
-  last : marks t (n + 1) ≡ marks t n ++ those (isMarked t) (n ∷ [])
+  last : marks t (n + 1) ≡ marks t n ++ those (is_marked t) (n ∷ [])
   unfolding marks from
   last =
-      ap (those (isMarked t)) (from_parts 0 n 1 ∙ ap (λ (j : ℕ). from 0 n ++ (j ∷ [])) (let e : 0 + n ≡ n = omega arith in e))
-      ∙ those-append (isMarked t) (from 0 n) (n ∷ [])
+      ap (those (is_marked t)) (from_parts 0 n 1 ∙ ap (λ (j : ℕ). from 0 n ++ (j ∷ [])) (let e : 0 + n ≡ n = omega arith in e))
+      ∙ those-append (is_marked t) (from 0 n) (n ∷ [])
 
-  pub marks-hit : isMarked t n ≡ true → marks t (n + 1) ≡ marks t n ++ (n ∷ [])
+  pub marks-hit : is_marked t n ≡ true → marks t (n + 1) ≡ marks t n ++ (n ∷ [])
   marks-hit e =
-      last ∙ ap (λ (l : List ℕ). marks t n ++ l) (those-hit (isMarked t) n [] e ∙ ap (λ (l : List ℕ). n ∷ l) (those-none (isMarked t)))
+      last ∙ ap (λ (l : List ℕ). marks t n ++ l) (those-hit (is_marked t) n [] e ∙ ap (λ (l : List ℕ). n ∷ l) (those-none (is_marked t)))
 
-  pub marks-miss : isMarked t n ≡ false → marks t (n + 1) ≡ marks t n
+  pub marks-miss : is_marked t n ≡ false → marks t (n + 1) ≡ marks t n
   marks-miss e =
-      last ∙ ap (λ (l : List ℕ). marks t n ++ l) (those-miss (isMarked t) n [] e ∙ those-none (isMarked t)) ∙ append-nil (marks t n)
+      last ∙ ap (λ (l : List ℕ). marks t n ++ l) (those-miss (is_marked t) n [] e ∙ those-none (is_marked t)) ∙ append-nil (marks t n)
 
-  pub one_more : isMarked t n ≡ true → length (marks t (n + 1)) ≡ length (marks t n) + 1
+  pub one_more : is_marked t n ≡ true → length (marks t (n + 1)) ≡ length (marks t n) + 1
   one_more e = ap length (marks-hit e) ∙ length-append (marks t n) (n ∷ [])
 
 pub marks-none : (t : List ℕ) → marks t 0 ≡ []
@@ -138,7 +138,7 @@ marks-none t = refl
 pub marks-few : (t : List ℕ) (n : ℕ) → length (marks t n) ≤ n
 marks-few t zero = omega (arith, ap length (marks-none t))
 marks-few t (suc n) =
-    by (isMarked t n)
+    by (is_marked t n)
     (λ e. rw (← add-one n) (omega (arith, one_more t n e, marks-few t n)))
     (λ e. rw (← add-one n) (omega (arith, ap length (marks-miss t n e), marks-few t n)))
 
@@ -148,11 +148,11 @@ marks-more t n zero = let e : n + 0 ≡ n = omega arith in rw e (omega arith)
 marks-more t n (suc d) =
     let e : n + suc d ≡ n + d + 1 = omega arith in
     rw e
-    (by (isMarked t (n + d))
+    (by (is_marked t (n + d))
     (λ h. omega (arith, one_more t (n + d) h, marks-more t n d))
     (λ h. omega (arith, ap length (marks-miss t (n + d) h), marks-more t n d)))
 
-pub marks-room : (t : List ℕ) (i n : ℕ) → i < n → isMarked t i ≡ true → length (marks t i) < length (marks t n)
+pub marks-room : (t : List ℕ) (i n : ℕ) → i < n → is_marked t i ≡ true → length (marks t i) < length (marks t n)
 marks-room t i n h e =
     let d = n - (i + 1) in
     let q : i + 1 + d ≡ n = omega arith in
@@ -167,13 +167,13 @@ map-append f (x ∷ l) m = ap (λ (r : List _). f x ∷ r) (map-append f l m)
 
 pub record Placing (places : ℕ → Place) (t : List ℕ) (lent : List ℤ) (i c : ℕ) (pts : List ℤ) (ranks : List ℕ) : Type 0 where
   pub count : c ≡ length (marks t i)
-  pub written : pts ≡ over (flat placeNumbers (map places (marks t i))) lent
-  pub room : length ranks ≡ pointBound
-  pub small : Below pointBound ranks
+  pub written : pts ≡ over (flat place_numbers (map places (marks t i))) lent
+  pub room : length ranks ≡ point_bound
+  pub small : Below point_bound ranks
   pub ranked : Ranking t i ranks
 
 module _ (places : ℕ → Place) (t : List ℕ) (lent : List ℤ) where
-  pub place_none : (ranks : List ℕ) → length ranks ≡ pointBound → Below pointBound ranks → Placing places t lent 0 0 lent ranks
+  pub place_none : (ranks : List ℕ) → length ranks ≡ point_bound → Below point_bound ranks → Placing places t lent 0 0 lent ranks
   unfolding flat
   place_none ranks r b = record {
     count = sym (ap length (marks-none t));
@@ -186,25 +186,25 @@ module _ (places : ℕ → Place) (t : List ℕ) (lent : List ℤ) where
   module _ (i c : ℕ) (pts : List ℤ) (ranks : List ℕ) (s : Placing places t lent i c pts ranks) where
     pub place-pass : get_or t i 0 ≤ 0 → Placing places t lent (i + 1) c pts ranks
     place-pass l =
-        let e : isMarked t i ≡ false = le-ltb 0 (get_or t i 0) l in
+        let e : is_marked t i ≡ false = le-ltb 0 (get_or t i 0) l in
         record {
           count = s.count ∙ sym (ap length (marks-miss t i e));
-          written = s.written ∙ ap (λ (m : List ℕ). over (flat placeNumbers (map places m)) lent) (sym (marks-miss t i e));
+          written = s.written ∙ ap (λ (m : List ℕ). over (flat place_numbers (map places m)) lent) (sym (marks-miss t i e));
           room = s.room;
           small = s.small;
           ranked = record { rank = old e };
         }
       where
-        old : isMarked t i ≡ false → (v : ℕ) → v < i + 1 → isMarked t v ≡ true → get_or ranks v 0 ≡ length (marks t v)
+        old : is_marked t i ≡ false → (v : ℕ) → v < i + 1 → is_marked t v ≡ true → get_or ranks v 0 ≡ length (marks t v)
         old e v h m =
             by (ltb v i)
             (λ q. s.ranked.rank v (ltb-true v i q) m)
             (λ q. let z : v ≡ i = omega (arith, ltb-false v i q) in differ m (rw z e))
 
-    pub place-more : (pts' : List ℤ) → 0 < get_or t i 0 → i < pointBound → c * 2 + 2 ≤ length lent → pts' ≡ setPoint pts c (places i) →
+    pub place-more : (pts' : List ℤ) → 0 < get_or t i 0 → i < point_bound → c * 2 + 2 ≤ length lent → pts' ≡ set_point pts c (places i) →
         Placing places t lent (i + 1) (c + 1) pts' (set ranks i c)
     place-more pts' l h r w =
-        let e : isMarked t i ≡ true = lt-ltb 0 (get_or t i 0) l in
+        let e : is_marked t i ≡ true = lt-ltb 0 (get_or t i 0) l in
         let n : length (map places (marks t i)) ≡ c = length-map (marks t i) places ∙ sym s.count in
         let few = marks-few t i in
         record {
@@ -212,16 +212,16 @@ module _ (places : ℕ → Place) (t : List ℕ) (lent : List ℤ) where
           written =
               w
               ∙ rw add-one refl
-              ∙ ap (λ (k : List ℤ). sets k (c * 2) (placeNumbers (places i))) s.written
-              ∙ entry_more placeNumbers placeFrom 2 place-width (map places (marks t i)) (places i) lent c n r
-              ∙ ap (λ (m : List Place). over (flat placeNumbers m) lent)
+              ∙ ap (λ (k : List ℤ). sets k (c * 2) (place_numbers (places i))) s.written
+              ∙ entry_more place_numbers place_from 2 place-width (map places (marks t i)) (places i) lent c n r
+              ∙ ap (λ (m : List Place). over (flat place_numbers m) lent)
               (sym (map-append places (marks t i) (i ∷ [])) ∙ ap (map places) (sym (marks-hit t i e)));
           room = length-set ranks i c ∙ s.room;
-          small = below_set pointBound ranks i c (omega (arith, s.count)) s.small;
+          small = below_set point_bound ranks i c (omega (arith, s.count)) s.small;
           ranked = record { rank = next e };
         }
       where
-        next : isMarked t i ≡ true → (v : ℕ) → v < i + 1 → isMarked t v ≡ true → get_or (set ranks i c) v 0 ≡ length (marks t v)
+        next : is_marked t i ≡ true → (v : ℕ) → v < i + 1 → is_marked t v ≡ true → get_or (set ranks i c) v 0 ≡ length (marks t v)
         next e v k m =
             by (ltb v i)
             (λ q.
@@ -244,7 +244,7 @@ module _ (code : ℕ → ℕ) (t lent : List ℕ) where
   module _ (i c : ℕ) (keys : List ℕ) (s : Keying code t lent i c keys) where
     pub key-pass : get_or t i 0 ≤ 0 → Keying code t lent (i + 1) c keys
     key-pass l =
-        let e : isMarked t i ≡ false = le-ltb 0 (get_or t i 0) l in
+        let e : is_marked t i ≡ false = le-ltb 0 (get_or t i 0) l in
         record {
           count = s.count ∙ sym (ap length (marks-miss t i e));
           written = s.written ∙ ap (λ (m : List ℕ). over (map code m) lent) (sym (marks-miss t i e));
@@ -252,7 +252,7 @@ module _ (code : ℕ → ℕ) (t lent : List ℕ) where
 
     pub key_more : 0 < get_or t i 0 → c < length lent → Keying code t lent (i + 1) (c + 1) (set keys c (code i))
     key_more l r =
-        let e : isMarked t i ≡ true = lt-ltb 0 (get_or t i 0) l in
+        let e : is_marked t i ≡ true = lt-ltb 0 (get_or t i 0) l in
         let n : length (map code (marks t i)) ≡ c = length-map (marks t i) code ∙ sym s.count in
         record {
           count = omega (arith, one_more t i e, s.count);

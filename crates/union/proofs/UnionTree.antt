@@ -31,8 +31,8 @@ use Rattle.joined.proofs.GraftLaws.{grown-tree}
 use Rattle.forest.specs.Edges.{Graph, one, two, len, from}
 use Rattle.forest.specs.Labels.{Labels, far, root, labelled}
 use Rattle.forest.specs.Parents.{Parents, up, via, parented, way, Falls}
-use Rattle.bridges.specs.Bridges.{oneRoot, sameRoot, rootsOf, path, pathLength}
-use Rattle.keeping.specs.Kept.{keptBridges, keptLengths, terminal}
+use Rattle.bridges.specs.Bridges.{one_root, same_root, roots_of, path, path_length}
+use Rattle.keeping.specs.Kept.{kept_bridges, kept_lengths, terminal}
 use Rattle.forest.specs.Setting.{ends, Setting, Whole}
 use Rattle.forest.proofs.EdgeLaws.{below-from, in-from}
 use Rattle.forest.proofs.ParentLaws.{falls-parented}
@@ -41,7 +41,7 @@ use Rattle.keeping.proofs.WholeLaws.{of-kept}
 use Rattle.forest.proofs.Nearest.{fits}
 use Rattle.forest.proofs.Homeward.{source-label, root-source, far-off, Parent, parent_is, source-parent, way_home}
 use Rattle.keeping.proofs.OurTree.{kept-count, ours-tree}
-use Rattle.union.specs.Union.{listed, bothEnds, keptEdges, unionEdges, unionPoints}
+use Rattle.union.specs.Union.{listed, both_ends, kept_edges, union_edges, union_points}
 use Rattle.union.proofs.ListedLaws.{in-listed, of-listed, in-flat, of-flat, total-flat, once_join, picked-once}
 
 -- a forest has no pair twice, so its items are without repeats
@@ -57,16 +57,16 @@ module _ {g : Graph} {n : ℕ} {d : ℕ → ℕ → ℕ} {pins : List ℕ} (s : 
   P = parented g n (labelled g n pins)
 
   abbrev pub K : List ℕ
-  K = keptBridges g (labelled g n pins) (parented g n (labelled g n pins))
+  K = kept_bridges g (labelled g n pins) (parented g n (labelled g n pins))
 
   -- the edges and the points of the union
   abbrev pub E : List ℕ
-  E = unionEdges g (labelled g n pins).fars (parented g n (labelled g n pins))
-      (keptBridges g (labelled g n pins) (parented g n (labelled g n pins)))
+  E = union_edges g (labelled g n pins).fars (parented g n (labelled g n pins))
+      (kept_bridges g (labelled g n pins) (parented g n (labelled g n pins)))
 
   abbrev pub W : List ℕ
-  W = unionPoints g (labelled g n pins).fars (parented g n (labelled g n pins))
-      (keptBridges g (labelled g n pins) (parented g n (labelled g n pins))) n pins
+  W = union_points g (labelled g n pins).fars (parented g n (labelled g n pins))
+      (kept_bridges g (labelled g n pins) (parented g n (labelled g n pins))) n pins
 
   abbrev pub home : ℕ → List ℕ
   home v = way (labelled g n pins).fars (parented g n (labelled g n pins)) v
@@ -96,7 +96,7 @@ module _ {g : Graph} {n : ℕ} {d : ℕ → ℕ → ℕ} {pins : List ℕ} (s : 
   record Step (u k : ℕ) : Type 0 where
     point : ℕ
     inside : point < n
-    no_pin : point ∈ pins → ⊥
+    no-pin : point ∈ pins → ⊥
     is : k ≡ via P point
     onward : Among (home point) (home u)
 
@@ -116,7 +116,7 @@ module _ {g : Graph} {n : ℕ} {d : ℕ → ℕ → ℕ} {pins : List ℕ} (s : 
       further o t = record {
         point = t.point;
         inside = t.inside;
-        no_pin = t.no_pin;
+        no-pin = t.no_pin;
         is = t.is;
         onward = λ j q. rw (next_way u h o) (there (t.onward j q));
       }
@@ -125,14 +125,14 @@ module _ {g : Graph} {n : ℕ} {d : ℕ → ℕ → ℕ} {pins : List ℕ} (s : 
       at next (yes o) = no_step u k o i
       at next (no o) =
           either
-          (λ e. record { point = u; inside = h; no_pin = o; is = e; onward = λ j q. q })
+          (λ e. record { point = u; inside = h; no-pin = o; is = e; onward = λ j q. q })
           (λ q. further o (next o q))
           (Memᴰ.cases_cons (rw (next_way u h o) at i))
 
   -- Edges of the union
 
   pub in-union : (k j : ℕ) → k < g.count → j ∈ K → k ∈ walk j → k ∈ E
-  unfolding unionEdges keptEdges
+  unfolding union_edges kept_edges
   in-union k j h m i =
       in-those (λ e. listed e (flat walk K)) (from 0 g.count) (in-from 0 g.count k (omega arith) (omega arith))
       (in-listed k (flat walk K) (in-flat walk K m i))
@@ -145,7 +145,7 @@ module _ {g : Graph} {n : ℕ} {d : ℕ → ℕ → ℕ} {pins : List ℕ} (s : 
     pub on : k ∈ walk bridge
 
   pub of-union : (k : ℕ) → k ∈ E → OnKept k
-  unfolding unionEdges keptEdges
+  unfolding union_edges kept_edges
   of-union k m =
       let r = of-those (λ e. listed e (flat walk K)) (from 0 g.count) m in
       let p = of-flat walk K (of-listed k (flat walk K) r.1) in
@@ -173,14 +173,14 @@ module _ {g : Graph} {n : ℕ} {d : ℕ → ℕ → ℕ} {pins : List ℕ} (s : 
   record Upward (k : ℕ) : Type 0 where
     point : ℕ
     inside : point < n
-    no_pin : point ∈ pins → ⊥
+    no-pin : point ∈ pins → ⊥
     is : k ≡ via P point
     onward : Among (home point) E
 
   upward : (u k : ℕ) → u < n → Among (home u) E → k ∈ home u → Upward k
   upward u k h a i =
       let t = step_of (far T u) u k (omega arith) h i in
-      record { point = t.point; inside = t.inside; no_pin = t.no_pin; is = t.is; onward = λ j q. a j (t.onward j q) }
+      record { point = t.point; inside = t.inside; no-pin = t.no_pin; is = t.is; onward = λ j q. a j (t.onward j q) }
 
   -- an edge of the union is a kept bridge or leads upward
   kind : (k : ℕ) → k ∈ E → (k ∈ K) ⊎ Upward k
@@ -200,10 +200,10 @@ module _ {g : Graph} {n : ℕ} {d : ℕ → ℕ → ℕ} {pins : List ℕ} (s : 
   -- Points of the union
 
   abbrev Ends : List ℕ
-  Ends = flat (bothEnds g.ones g.twos) E
+  Ends = flat (both_ends g.ones g.twos) E
 
   in-points : (v : ℕ) → v < n → v ∈ (pins ++ Ends) → v ∈ W
-  unfolding unionPoints
+  unfolding union_points
   in-points v h m =
       in-those (λ w. listed w (pins ++ Ends)) (from 0 n) (in-from 0 n v (omega arith) (omega arith)) (in-listed v (pins ++ Ends) m)
 
@@ -213,12 +213,12 @@ module _ {g : Graph} {n : ℕ} {d : ℕ → ℕ → ℕ} {pins : List ℕ} (s : 
   pub first-point : (k : ℕ) → k ∈ E → one g k ∈ W
   first-point k m =
       in-points (one g k) (s.one_in k (of-union k m).inside)
-      (Memᴰ.append_right pins (in-flat (bothEnds g.ones g.twos) E m (here refl)))
+      (Memᴰ.append_right pins (in-flat (both_ends g.ones g.twos) E m (here refl)))
 
   pub second-point : (k : ℕ) → k ∈ E → two g k ∈ W
   second-point k m =
       in-points (two g k) (s.two_in k (of-union k m).inside)
-      (Memᴰ.append_right pins (in-flat (bothEnds g.ones g.twos) E m (there (here refl))))
+      (Memᴰ.append_right pins (in-flat (both_ends g.ones g.twos) E m (there (here refl))))
 
   -- a point is a pin, or an end of an edge
   record EndOf (v : ℕ) : Type 0 where
@@ -227,15 +227,15 @@ module _ {g : Graph} {n : ℕ} {d : ℕ → ℕ → ℕ} {pins : List ℕ} (s : 
     is : (v ≡ one g edge) ⊎ (v ≡ two g edge)
 
   of-points : (v : ℕ) → v ∈ W → (v < n) × ((v ∈ pins) ⊎ EndOf v)
-  unfolding unionPoints
+  unfolding union_points
   of-points v m =
       let r = of-those (λ w. listed w (pins ++ Ends)) (from 0 n) m in (
         below-from n v r.0,
-        either inl (λ i. inr (ended (of-flat (bothEnds g.ones g.twos) E i)))
+        either inl (λ i. inr (ended (of-flat (both_ends g.ones g.twos) E i)))
             (Memᴰ.append_cases pins (of-listed v (pins ++ Ends) r.1)),
       )
     where
-      ended : Piece (bothEnds g.ones g.twos) E v → EndOf v
+      ended : Piece (both_ends g.ones g.twos) E v → EndOf v
       ended p = record {
         edge = p.entry;
         stands-in = p.stands;
@@ -304,12 +304,12 @@ module _ {g : Graph} {n : ℕ} {d : ℕ → ℕ → ℕ} {pins : List ℕ} (s : 
   of-sorted-point v m = either (λ i. pin-point v i) (λ i. (of_others v i).0) (Memᴰ.append_cases pins m)
 
   pub points-once : Once W
-  unfolding unionPoints
+  unfolding union_points
   points-once = picked-once (λ v. listed v (pins ++ Ends)) n
 
   pub edges-once : Once E
-  unfolding unionEdges
-  edges-once = picked-once (λ k. listed k (keptEdges g T.fars P K)) g.count
+  unfolding union_edges
+  edges-once = picked-once (λ k. listed k (kept_edges g T.fars P K)) g.count
 
   sorted-once : Once (pins ++ N)
   sorted-once = once_join pins N whole.once (those-once (λ v. not (listed v pins)) W points-once) (λ v i k. (of_others v k).1 i)
@@ -344,12 +344,12 @@ module _ {g : Graph} {n : ℕ} {d : ℕ → ℕ → ℕ} {pins : List ℕ} (s : 
 
   -- an edge to a parent is no bridge
   no-bridge : (k : ℕ) → k ∈ map (via P) N → k ∈ K → ⊥
-  unfolding oneRoot
+  unfolding one_root
   no-bridge k i m =
       let r = of_map (via P) N i in
       let v = r.entry in
       let p = parent v r.stands in
-      let f : sameRoot g T (via P v) ≡ false = rw r.is at (of-kept g T P k m).1 in
+      let f : same_root g T (via P v) ≡ false = rw r.is at (of-kept g T P k m).1 in
       eqb-false _ _ f (at p.ends-are p.is.same-root)
     where
       at : {v : ℕ} → Alike v (up P v) (one g (via P v)) (two g (via P v)) → root T (up P v) ≡ root T v →
@@ -362,7 +362,7 @@ module _ {g : Graph} {n : ℕ} {d : ℕ → ℕ → ℕ} {pins : List ℕ} (s : 
   F = map (via P) N ++ K
 
   kept-once : Once K
-  kept-once = forest-once (rootsOf g T) K (tree-forest ℕ_discrete (ours-tree s whole))
+  kept-once = forest-once (roots_of g T) K (tree-forest ℕ_discrete (ours-tree s whole))
 
   parted-once : Once F
   parted-once =
@@ -452,7 +452,7 @@ module _ {g : Graph} {n : ℕ} {d : ℕ → ℕ → ℕ} {pins : List ℕ} (s : 
 
   -- each edge of it is counted on a kept path
   pub union-total : total (map (len g) E) ≤ (terminal g n pins).total
-  unfolding terminal keptLengths pathLength
+  unfolding terminal kept_lengths path_length
   union-total =
       omega (
         arith,

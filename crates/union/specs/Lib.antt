@@ -8,11 +8,11 @@
 -- tables and the terminal tree of a net both give them.
 --
 --   Union      listed k l                           a number stands in a list
---              keptEdges g fars p ks                the edges of the kept paths, one path after the other
---              unionEdges, unionPoints .. n pins    the union's edges and points, in order, each once
---              startOf .. places n pins             the same as the refiner's tables
---              unionOf net                          that of a net
---   Marks      marked l t, isMarked t k             a table with the numbers of a list marked, as the code makes it and reads it
+--              kept_edges g fars p ks                the edges of the kept paths, one path after the other
+--              union_edges, union_points .. n pins    the union's edges and points, in order, each once
+--              start_of .. places n pins             the same as the refiner's tables
+--              union_of net                          that of a net
+--   Marks      marked l t, is_marked t k             a table with the numbers of a list marked, as the code makes it and reads it
 --              marks t n                            the marked ones of n numbers, in order
 --              Ranking t n ranks                    a table of how many marked numbers come before each
 --              Startable                            what the code asks of the tables of a terminal tree

@@ -5,14 +5,14 @@
 ghost use Rattle.std.specs.Prelude.{◌≡◌, ◌∷◌, ◌++◌, map, ◌*◌, ◌+◌, ◌≤◌, ◌<◌, pos, length, get_or, replicate};
 ghost use Rattle.lent.specs.Over.{over};
 ghost use Rattle.lent.specs.Entries.{flat};
-ghost use Rattle.plane.specs.Flat.{placeAt};
-ghost use Rattle.graph.specs.Numbers.{placeNumbers};
-ghost use Rattle.forest.specs.Bounds.{pointBound, edgeBound};
+ghost use Rattle.plane.specs.Flat.{place_at};
+ghost use Rattle.graph.specs.Numbers.{place_numbers};
+ghost use Rattle.forest.specs.Bounds.{point_bound, edge_bound};
 ghost use Rattle.forest.specs.Edges.{graph, entries, Fits, Ends, FirstBelow, Below};
 ghost use Rattle.forest.specs.Parents.{parents, way, Falls};
 ghost use Rattle.tree.specs.Table.{tree, key};
 ghost use Rattle.tree.specs.Table as tables;
-ghost use Rattle.union.specs.Union.{bothEnds, keptEdges, start_of};
+ghost use Rattle.union.specs.Union.{both_ends, kept_edges, start_of};
 ghost use Rattle.union.specs.Marks.{marked, marks, Ranking, Startable};
 
 use net::Net;
@@ -35,7 +35,7 @@ fn mark_way(
     v: usize,
     on: &mut [usize; EDGES],
 )
-    requires { (Falls el.now far.now (parents up.now via.now)) × (v < pointBound) }
+    requires { (Falls el.now far.now (parents up.now via.now)) × (v < point_bound) }
     ensures { on.new ≡ marked (way far.now (parents up.now via.now) v) on.old }
 {
     let u = up[v];
@@ -57,7 +57,7 @@ fn mark_path(
     on: &mut [usize; EDGES],
 )
     requires falls { Falls el.now far.now (parents up.now via.now) }
-    requires a_lt_point_bound { (a < pointBound) × ((b < pointBound) × (k < edgeBound)) }
+    requires a_lt_point_bound { (a < point_bound) × ((b < point_bound) × (k < edge_bound)) }
     ensures { on.new ≡ marked (way far.now (parents up.now via.now) a
         ++ (k ∷ way far.now (parents up.now via.now) b)) on.old }
 {
@@ -80,8 +80,8 @@ fn mark_paths(
     on: &mut [usize; EDGES],
 )
     requires falls { (Falls el.now far.now (parents up.now via.now)) × (Fits (graph ea.now eb.now el.now e)) }
-    requires count_le_edge_bound { (count ≤ edgeBound) × (FirstBelow kept.now count e) }
-    ensures { on.new ≡ marked (keptEdges (graph ea.now eb.now el.now e) far.now
+    requires count_le_edge_bound { (count ≤ edge_bound) × (FirstBelow kept.now count e) }
+    ensures { on.new ≡ marked (kept_edges (graph ea.now eb.now el.now e) far.now
         (parents up.now via.now) (entries kept.now 0 count)) on.old }
 {
     let mut i = 0;
@@ -94,7 +94,7 @@ fn mark_paths(
 
 // The m pins.
 fn mark_pins(pin: &[usize; POINTS], m: usize, at: &mut [usize; POINTS])
-    requires { (m ≤ pointBound) × (FirstBelow pin.now m pointBound) }
+    requires { (m ≤ point_bound) × (FirstBelow pin.now m point_bound) }
     ensures { at.new ≡ marked (entries pin.now 0 m) at.old }
 {
     let mut i = 0;
@@ -114,7 +114,7 @@ fn mark_ends(
     at: &mut [usize; POINTS],
 )
     requires { Ends ea.now eb.now e }
-    ensures { at.new ≡ marked (flat (bothEnds ea.now eb.now) (marks on.now e))
+    ensures { at.new ≡ marked (flat (both_ends ea.now eb.now) (marks on.now e))
         at.old }
 {
     let mut k = 0;
@@ -131,8 +131,8 @@ fn mark_ends(
 }
 
 fn vertex_at(vertices: &[i32; VERTEX_NUMBERS], v: usize) -> Place
-    requires { v < pointBound }
-    ensures { result ≡ placeAt vertices.now v }
+    requires { v < point_bound }
+    ensures { result ≡ place_at vertices.now v }
 {
     Place {
         x: vertices[v * 2],
@@ -148,12 +148,12 @@ fn put_points(
     rank: &mut [usize; POINTS],
     pts: &mut [i32; tree::NUMBERS],
 ) -> usize
-    requires n_le_point_bound { (n ≤ pointBound) × ((length pts.old ≡ tables.treeBound * 2) × (length rank.old ≡ pointBound)) }
-    requires below { Below pointBound rank.old }
+    requires n_le_point_bound { (n ≤ point_bound) × ((length pts.old ≡ tables.tree_bound * 2) × (length rank.old ≡ point_bound)) }
+    requires below { Below point_bound rank.old }
     ensures value { result ≡ length (marks at.now n) }
-    ensures pts_after { pts.new ≡ over (flat placeNumbers (map (placeAt vertices.now) (marks at.now n)))
+    ensures pts_after { pts.new ≡ over (flat place_numbers (map (place_at vertices.now) (marks at.now n)))
         pts.old }
-    ensures ranking { (Ranking at.now n rank.new) × (Below pointBound rank.new) }
+    ensures ranking { (Ranking at.now n rank.new) × (Below point_bound rank.new) }
 {
     let mut c = 0;
     let mut v = 0;
@@ -171,7 +171,7 @@ fn put_points(
 
 // The edge of two points by their ranks.
 fn key_of(rank: &[usize; POINTS], a: usize, b: usize) -> usize
-    requires { (Below pointBound rank.now) × ((a < pointBound) × (b < pointBound)) }
+    requires { (Below point_bound rank.now) × ((a < point_bound) × (b < point_bound)) }
     ensures { result ≡ key (get_or rank.now a 0) (get_or rank.now b 0) }
 {
     rank[a] * tree::POINTS + rank[b]
@@ -186,8 +186,8 @@ fn put_keys(
     rank: &[usize; POINTS],
     keys: &mut [usize; tree::POINTS],
 ) -> usize
-    requires ends { (Ends ea.now eb.now e) × (Below pointBound rank.now) }
-    requires e_len_bound { (length (marks on.now e) ≤ tables.treeBound) × (length keys.old ≡ tables.treeBound) }
+    requires ends { (Ends ea.now eb.now e) × (Below point_bound rank.now) }
+    requires e_len_bound { (length (marks on.now e) ≤ tables.tree_bound) × (length keys.old ≡ tables.tree_bound) }
     ensures value { result ≡ length (marks on.now e) }
     ensures keys_after { keys.new ≡ over (map (λ k. key (get_or rank.now (get_or ea.now k 0) 0)
         (get_or rank.now (get_or eb.now k 0) 0)) (marks on.now e)) keys.old }
@@ -224,11 +224,11 @@ pub fn start(
     keys: &mut [usize; tree::POINTS],
 ) -> Size
     requires startable { Startable (graph ea.now eb.now el.now e) n pin.now m far.now (parents up.now via.now) kept.now count }
-    requires pts_value { (pts.old ≡ replicate (tables.treeBound * 2) (pos 0)) × (keys.old ≡ replicate tables.treeBound 0) }
+    requires pts_value { (pts.old ≡ replicate (tables.tree_bound * 2) (pos 0)) × (keys.old ≡ replicate tables.tree_bound 0) }
     ensures { tree pts.new result.points keys.new result.edges
         ≡ start_of (graph ea.now eb.now el.now e) far.now
         (parents up.now via.now)
-        (entries kept.now 0 count) (placeAt vertices.now) n (entries pin.now 0 m) }
+        (entries kept.now 0 count) (place_at vertices.now) n (entries pin.now 0 m) }
 {
     let mut on = [0usize; EDGES];
     mark_paths(ea, eb, el, e, far, up, via, kept, count, &mut on);

@@ -6,14 +6,14 @@ use native.Mathlib.Omega.{arith}
 use lib.ListN.{drop}
 use Rattle.lists.specs.Any.{any}
 use Rattle.lists.proofs.AnyLaws.{any-hit, any-miss, any-end}
-use Rattle.bands.specs.Band.{bandsOf, bandAt}
-use Rattle.bands.specs.Tests.{rateAbove}
+use Rattle.bands.specs.Band.{bands_of, band_at}
+use Rattle.bands.specs.Tests.{rate_above}
 use Rattle.bands.proofs.BandLaws.{bands-next, bands-end}
 use Rattle.bands.proofs.any_rate_above.Statement.{statement}
 use Rattle.bands.proofs.any_rate_above.Tie as tie
 
 abbrev invariant-loop : tie.invariant-loop
-invariant-loop bands k i₀ i = (i ≤ k) × (any rateAbove (bandsOf bands) ≡ any rateAbove (drop i (bandsOf bands)))
+invariant-loop bands k i₀ i = (i ≤ k) × (any rate_above (bands_of bands) ≡ any rate_above (drop i (bands_of bands)))
 
 abbrev decreases-loop : tie.decreases-loop
 decreases-loop bands k i₀ i = k - i
@@ -21,25 +21,25 @@ decreases-loop bands k i₀ i = k - i
 -- what the call says, of the list
 told : (c : tie.After-is-rate-above invariant-loop decreases-loop)
     → c.is-rate-above.result
-    ≡ rateAbove (bandAt c.before.before.before.before.before.args.bands.now c.before.before.before.loop.i)
-told c = c.is-rate-above.ensures ∙ ap rateAbove c.before.band-at.ensures
+    ≡ rate_above (band_at c.before.before.before.before.before.args.bands.now c.before.before.before.loop.i)
+told c = c.is-rate-above.ensures ∙ ap rate_above c.before.band-at.ensures
 
 returns : tie.Need-returns invariant-loop decreases-loop
 returns c =
     let l = c.before.before.before.before in
     let next = bands-next l.before.before.args.bands.now l.loop.i (omega arith) in
-    sym (l.loop.invariant.1 ∙ any-hit rateAbove _ _ _ next (sym (told c.before) ∙ c.if1.true))
+    sym (l.loop.invariant.1 ∙ any-hit rate_above _ _ _ next (sym (told c.before) ∙ c.if1.true))
 
 loop-again : tie.Need-loop-preserved invariant-loop decreases-loop
 loop-again c =
     let l = c.before.before.before.before in
     let next = bands-next l.before.before.args.bands.now l.loop.i (omega arith) in
-    (omega arith, l.loop.invariant.1 ∙ any-miss rateAbove _ _ _ next (sym (told c.before) ∙ c.if1.false))
+    (omega arith, l.loop.invariant.1 ∙ any-miss rate_above _ _ _ next (sym (told c.before) ∙ c.if1.false))
 
 returns-2 : tie.Need-returns-2 invariant-loop decreases-loop
 returns-2 c =
     let l = c.before in
-    sym (l.loop.invariant.1 ∙ any-end rateAbove _ (bands-end l.before.before.args.bands.now l.loop.i (omega arith)))
+    sym (l.loop.invariant.1 ∙ any-end rate_above _ (bands-end l.before.before.args.bands.now l.loop.i (omega arith)))
 
 pub any-rate-above-spec : {M : Type 1} → statement M
 any-rate-above-spec =

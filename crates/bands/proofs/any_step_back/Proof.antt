@@ -5,15 +5,15 @@ use Prim.Native.Nat.{◌+◌, ◌≤◌, ◌-◌}
 use native.Mathlib.Omega.{arith}
 use lib.ListN.{drop}
 use lib.Seq.{drop-drop}
-use Rattle.bands.specs.Band.{bandsOf, bandAt}
-use Rattle.bands.specs.Order.{stepsBack, fallsBack}
+use Rattle.bands.specs.Band.{bands_of, band_at}
+use Rattle.bands.specs.Order.{steps_back, falls_back}
 use Rattle.bands.proofs.BandLaws.{bands-next, bands-end}
 use Rattle.bands.proofs.OrderLaws.{back-hit, back-miss, back_end}
 use Rattle.bands.proofs.any_step_back.Statement.{statement}
 use Rattle.bands.proofs.any_step_back.Tie as tie
 
 abbrev invariant-loop : tie.invariant-loop
-invariant-loop bands k i₀ i = (i ≤ k) × (fallsBack (bandsOf bands) ≡ fallsBack (drop i (bandsOf bands)))
+invariant-loop bands k i₀ i = (i ≤ k) × (falls_back (bands_of bands) ≡ falls_back (drop i (bands_of bands)))
 
 abbrev decreases-loop : tie.decreases-loop
 decreases-loop bands k i₀ i = k - i
@@ -22,8 +22,8 @@ decreases-loop bands k i₀ i = k - i
 told : (c : tie.After-is-step-back invariant-loop decreases-loop)
     → let s = c.before.before.before.before.before.before.args.bands.now in
     let i = c.before.before.before.before.loop.i in
-    c.is-step-back.result ≡ stepsBack (bandAt s i) (bandAt s (i + 1))
-told c = c.is-step-back.ensures ∙ ap₂ stepsBack c.before.before.band-at.ensures c.before.band-at2.ensures
+    c.is-step-back.result ≡ steps_back (band_at s i) (band_at s (i + 1))
+told c = c.is-step-back.ensures ∙ ap₂ steps_back c.before.before.band-at.ensures c.before.band-at2.ensures
 
 returns : tie.Need-returns invariant-loop decreases-loop
 returns c =
@@ -46,7 +46,7 @@ returns-2 c =
     let l = c.before in
     let s = l.before.before.args.bands.now in
     let end = bands-end s (l.loop.i + 1) (omega arith) in
-    sym (l.loop.invariant.1 ∙ back_end _ (drop-drop 1 l.loop.i (bandsOf s) ∙ end))
+    sym (l.loop.invariant.1 ∙ back_end _ (drop-drop 1 l.loop.i (bands_of s) ∙ end))
 
 pub any-step-back-spec : {M : Type 1} → statement M
 any-step-back-spec =

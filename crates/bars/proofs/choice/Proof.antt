@@ -3,7 +3,7 @@
 use Prim.Native.Nat.{ℕ}
 use native.Mathlib.Omega.{arith}
 use lib.ListN.{length-replicate}
-use Rattle.net.specs.Bounds.{pinBound}
+use Rattle.net.specs.Bounds.{pin_bound}
 use Rattle.straight.proofs.TableLaws.{within-small}
 use Rattle.bars.proofs.CallLaws.{labelled-numbers, seated, searched-by}
 use Rattle.bars.proofs.choice.Statement.{statement}
@@ -29,7 +29,7 @@ search-requires c κs =
         (
           p.0.1.0,
           rw c.before.before.before.seat.ensures
-              (seated _ _ _ _ _ h.few (omega (arith, p.0.1, length-replicate {A = ℕ} pinBound 0))),
+              (seated _ _ _ _ _ h.few (omega (arith, p.0.1, length-replicate {A = ℕ} pin_bound 0))),
         ),
         (
           rw c.before.before.before.before.before.before.before.label.ensures

@@ -11,11 +11,11 @@ use lib.ListN.{length, drop}
 use lib.Seq.{sets}
 use Rattle.lent.specs.Entries.{entries}
 use Rattle.plane.specs.declared.Place.{Place}
-use Rattle.plane.specs.Flat.{placeFrom}
-use Rattle.graph.specs.Numbers.{edgeNumbers, edgeFrom}
+use Rattle.plane.specs.Flat.{place_from}
+use Rattle.graph.specs.Numbers.{edge_numbers, edge_from}
 use Rattle.slide.specs.Bend.{Edge, straight}
-use Rattle.settled.specs.Settled.{edgesOf}
-use Rattle.bends.specs.Bending.{cornerOf}
+use Rattle.settled.specs.Settled.{edges_of}
+use Rattle.bends.specs.Bending.{corner_of}
 use Rattle.settled.proofs.EntryScan.{entries_next, entries-end}
 use Rattle.bends.proofs.BendingLaws.{
   Bending,
@@ -33,7 +33,7 @@ use Rattle.bends.proofs.bend.Tie as tie
 abbrev invariant-loop : tie.invariant-loop
 invariant-loop edges e pts₀ n out₀ at₀ i₀ pts out at i =
     (i ≤ e) × ((at.points ≤ n + i) × (at.edges ≤ i * 2)) × ((length pts ≡ length pts₀) × (length out ≡ length out₀))
-    × Bending (entries placeFrom 2 pts₀ n) (edgesOf edges e) pts₀ out₀ pts out at.points at.edges i
+    × Bending (entries place_from 2 pts₀ n) (edges_of edges e) pts₀ out₀ pts out at.points at.edges i
     × (at.back ≡ false)
 
 abbrev decreases-loop : tie.decreases-loop
@@ -44,7 +44,7 @@ loop-holds c = (
   omega arith,
   (omega arith, omega arith),
   (refl, refl),
-  bending-none (entries placeFrom 2 c.args.pts.now c.args.n) (edgesOf c.args.edges.now c.args.e) _ _ c.args.n
+  bending-none (entries place_from 2 c.args.pts.now c.args.n) (edges_of c.args.edges.now c.args.e) _ _ c.args.n
       (omega (arith, c.requires.1.0)) refl,
   refl,
 )
@@ -58,13 +58,13 @@ module _ (d : tie.After-is-straight invariant-loop decreases-loop) where
   s = l.before.args.edges.now
 
   abbrev x : Edge
-  x = edgeFrom s (l.loop.i * 4)
+  x = edge_from s (l.loop.i * 4)
 
   more : l.loop.i < l.before.args.e
   more = omega arith
 
-  next : drop l.loop.i (edgesOf s l.before.args.e) ≡ x ∷ drop (l.loop.i + 1) (edgesOf s l.before.args.e)
-  next = entries_next edgeFrom 4 s l.before.args.e l.loop.i more
+  next : drop l.loop.i (edges_of s l.before.args.e) ≡ x ∷ drop (l.loop.i + 1) (edges_of s l.before.args.e)
+  next = entries_next edge_from 4 s l.before.args.e l.loop.i more
 
   read : (d.before.before.first_of.result, d.before.second-of.result) ≡ x
   read = ap₂ (λ (a b : Place). (a, b)) d.before.before.first_of.ensures d.before.second-of.ensures
@@ -93,7 +93,7 @@ loop-again c =
       ((l d).loop.invariant.2.0, put.auto.0 ∙ (l d).loop.invariant.2.1),
       bending-straight _ _ _ _ (l d).loop.invariant.3 (x d) _ (next d) refl (sym (told d) ∙ c.before.before.before.if1.true)
           (omega (arith, room-edges d)) _
-          (put.ensures.1 ∙ ap (λ (y : Edge). sets (l d).loop.out ((l d).loop.at.edges * 4) (edgeNumbers y)) (read d)),
+          (put.ensures.1 ∙ ap (λ (y : Edge). sets (l d).loop.out ((l d).loop.at.edges * 4) (edge_numbers y)) (read d)),
       refl,
     )
 
@@ -114,7 +114,7 @@ module _ (b : tie.After-bend-slanted invariant-loop decreases-loop) where
       b.bend-slanted.last.1.0
   came =
       bending-where _ _ _ _ (l turn).loop.inv.3 (x turn) _ (next turn) refl slants (room-points turn) (room-edges turn)
-      (cornerOf (entries placeFrom 2 (l turn).loop.pts (l turn).loop.at.points) (x turn)) refl _ _ _ (l turn).loop.at.back
+      (corner_of (entries place_from 2 (l turn).loop.pts (l turn).loop.at.points) (x turn)) refl _ _ _ (l turn).loop.at.back
       (rw (read turn) at b.bend-slanted.ensures)
 
 same_length : tie.Need-same-length invariant-loop decreases-loop
@@ -145,7 +145,7 @@ returns-2 : tie.Need-returns-2 invariant-loop decreases-loop
 returns-2 c =
     let k = c.before in
     bending-end _ _ _ _ k.loop.invariant.3
-    (entries-end edgeFrom 4 k.before.args.edges.now k.before.args.e k.loop.i (omega arith)) k.loop.at
+    (entries-end edge_from 4 k.before.args.edges.now k.before.args.e k.loop.i (omega arith)) k.loop.at
     k.loop.invariant.4 refl refl
 
 pub bend-spec : {M : Type 1} → statement M

@@ -7,10 +7,10 @@ use native.Mathlib.Omega.{arith}
 use lib.ListN.{length}
 use borrow.Author.Rules.{rules}
 use Rattle.plane.specs.declared.Place.{Place}
-use Rattle.net.specs.Pins.{pinPlaces}
+use Rattle.net.specs.Pins.{pin_places}
 use Rattle.slide.specs.Bend.{bends}
-use Rattle.straight.specs.Table.{straightBound}
-use Rattle.settled.specs.Settled.{edgesOf}
+use Rattle.straight.specs.Table.{straight_bound}
+use Rattle.settled.specs.Settled.{edges_of}
 use Rattle.bends.specs.Bending.{BentBy}
 use Rattle.settled.proofs.InsertLaws.{held-sorted}
 use Rattle.settled.proofs.SettledLaws.{count-points}
@@ -21,8 +21,8 @@ bend-requires : tie.Need-bend-requires
 bend-requires c κs =
     let d = c.before.before.before in
     let s = d.before.before in
-    let long : length d.points.new.1.1.1.0 ≡ straightBound * 2 = d.points.auto.1.1.1.0 in
-    let many = count-points (pinPlaces s.args.pins.now) (edgesOf s.args.edges.now s.args.e) _ _ _ d.points.ensures in
+    let long : length d.points.new.1.1.1.0 ≡ straight_bound * 2 = d.points.auto.1.1.1.0 in
+    let many = count-points (pin_places s.args.pins.now) (edges_of s.args.edges.now s.args.e) _ _ _ d.points.ensures in
     (omega (arith, s.requires.0), (omega (arith, many, long, s.requires.1), omega (arith, s.requires.0)))
 
 returns : tie.Need-returns
@@ -31,7 +31,7 @@ returns c =
     let d = b.before.before.before.before in
     let s = d.before.before in
     subst
-    (λ (X : List Place). BentBy (bends X (edgesOf s.args.edges.now s.args.e)) b.bend.result b.bend.new.1.1.1.1.0)
+    (λ (X : List Place). BentBy (bends X (edges_of s.args.edges.now s.args.e)) b.bend.result b.bend.new.1.1.1.1.0)
     (held-sorted d.points.ensures) b.bend.ensures
 
 pub bend-tree-spec : {M : Type 1} → statement M

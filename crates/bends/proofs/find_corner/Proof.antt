@@ -7,8 +7,8 @@ use borrow.Author.Rules.{rules}
 use borrow.Author.Tests.{not-true, not-false}
 use Rattle.lent.specs.Entries.{entries}
 use Rattle.plane.specs.declared.Place.{Place}
-use Rattle.plane.specs.Flat.{placeFrom}
-use Rattle.slide.specs.Bend.{Edge, taken, xFirst, yFirst}
+use Rattle.plane.specs.Flat.{place_from}
+use Rattle.slide.specs.Bend.{Edge, taken, x_first, y_first}
 use Rattle.bends.specs.declared.Corner.TheVariants.{At}
 use Rattle.bends.proofs.BendingLaws.{corner-x, corner-y, corner-none}
 use Rattle.bends.proofs.find_corner.Statement.{statement}
@@ -17,22 +17,22 @@ use Rattle.bends.proofs.find_corner.Tie as tie
 -- what the calls say of the two places
 module _ (d : tie.After-is-taken) where
   abbrev X : List Place
-  X = entries placeFrom 2 d.before.before.args.pts.now d.before.before.args.n
+  X = entries place_from 2 d.before.before.args.pts.now d.before.before.args.n
 
   abbrev slant : Edge
   slant = (d.before.before.args.a, d.before.before.args.b)
 
-  told-x : d.is-taken.result ≡ taken X (xFirst slant)
+  told-x : d.is-taken.result ≡ taken X (x_first slant)
   told-x = d.is-taken.ensures ∙ ap (taken X) d.before.x-first.ensures
 
 module _ (d : tie.After-is-taken2) where
   abbrev first : tie.After-is-taken
   first = d.before.before.before
 
-  told-y : d.is-taken2.result ≡ taken (X first) (yFirst (slant first))
+  told-y : d.is-taken2.result ≡ taken (X first) (y_first (slant first))
   told-y = d.is-taken2.ensures ∙ ap (taken (X first)) d.before.y-first.ensures
 
-  passed-x : taken (X first) (xFirst (slant first)) ≡ true
+  passed-x : taken (X first) (x_first (slant first)) ≡ true
   passed-x = sym (told-x first) ∙ not-false first.is-taken.result d.before.before.if1.left
 
 returns : tie.Need-returns

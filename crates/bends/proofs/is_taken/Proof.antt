@@ -7,15 +7,15 @@ use lib.ListN.{drop}
 use Rattle.lists.specs.Any.{any}
 use Rattle.lists.proofs.AnyLaws.{any-hit, any-miss, any-end}
 use Rattle.lent.specs.Entries.{entries}
-use Rattle.plane.specs.Place.{samePlace}
-use Rattle.plane.specs.Flat.{placeFrom}
+use Rattle.plane.specs.Place.{same_place}
+use Rattle.plane.specs.Flat.{place_from}
 use Rattle.slide.specs.Bend.{taken}
 use Rattle.settled.proofs.EntryScan.{entries_next, entries-end}
 use Rattle.bends.proofs.is_taken.Statement.{statement}
 use Rattle.bends.proofs.is_taken.Tie as tie
 
 abbrev invariant-loop : tie.invariant-loop
-invariant-loop pts n c i₀ i = taken (entries placeFrom 2 pts n) c ≡ any (samePlace c) (drop i (entries placeFrom 2 pts n))
+invariant-loop pts n c i₀ i = taken (entries place_from 2 pts n) c ≡ any (same_place c) (drop i (entries place_from 2 pts n))
 
 abbrev decreases-loop : tie.decreases-loop
 decreases-loop pts n c i₀ i = n - i
@@ -26,29 +26,29 @@ loop-holds c = refl
 
 -- what the call says, of the list
 told : (d : tie.After-is-same-place invariant-loop decreases-loop) → d.is-same-place.result
-    ≡ samePlace d.before.before.before.before.args.c
-    (placeFrom d.before.before.before.before.args.pts.now (d.before.before.before.loop.i * 2))
-told d = d.is-same-place.ensures ∙ ap (samePlace d.before.before.before.before.args.c) d.before.place_at.ensures
+    ≡ same_place d.before.before.before.before.args.c
+    (place_from d.before.before.before.before.args.pts.now (d.before.before.before.loop.i * 2))
+told d = d.is-same-place.ensures ∙ ap (same_place d.before.before.before.before.args.c) d.before.place_at.ensures
 
 returns : tie.Need-returns invariant-loop decreases-loop
 returns c =
     let l = c.before.before.before.before in
-    sym (l.loop.invariant ∙ any-hit (samePlace l.before.args.c) _ _ _
-    (entries_next placeFrom 2 l.before.args.pts.now l.before.args.n l.loop.i (omega arith))
+    sym (l.loop.invariant ∙ any-hit (same_place l.before.args.c) _ _ _
+    (entries_next place_from 2 l.before.args.pts.now l.before.args.n l.loop.i (omega arith))
     (sym (told c.before) ∙ c.if1.true))
 
 loop-again : tie.Need-loop-preserved invariant-loop decreases-loop
 loop-again c =
     let l = c.before.before.before.before in
-    l.loop.invariant ∙ any-miss (samePlace l.before.args.c) _ _ _
-    (entries_next placeFrom 2 l.before.args.pts.now l.before.args.n l.loop.i (omega arith))
+    l.loop.invariant ∙ any-miss (same_place l.before.args.c) _ _ _
+    (entries_next place_from 2 l.before.args.pts.now l.before.args.n l.loop.i (omega arith))
     (sym (told c.before) ∙ c.if1.false)
 
 returns-2 : tie.Need-returns-2 invariant-loop decreases-loop
 returns-2 c =
     let l = c.before in
-    sym (l.loop.invariant ∙ any-end (samePlace l.before.args.c) _
-    (entries-end placeFrom 2 l.before.args.pts.now l.before.args.n l.loop.i (omega arith)))
+    sym (l.loop.invariant ∙ any-end (same_place l.before.args.c) _
+    (entries-end place_from 2 l.before.args.pts.now l.before.args.n l.loop.i (omega arith)))
 
 pub is-taken-spec : {M : Type 1} → statement M
 is-taken-spec =

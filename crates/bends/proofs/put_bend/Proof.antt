@@ -7,7 +7,7 @@ use lib.IntN.{ℤ}
 use lib.Seq.{sets}
 use borrow.Author.Rules.{rules}
 use Rattle.graph.specs.Edges.{edge_of}
-use Rattle.graph.specs.Numbers.{edgeNumbers}
+use Rattle.graph.specs.Numbers.{edge_numbers}
 use Rattle.bends.proofs.put_bend.Statement.{statement}
 use Rattle.bends.proofs.put_bend.Tie as tie
 
@@ -20,7 +20,7 @@ returns c =
       placed = c.before.before.before.before.before.before.before.before.before.before.put-place.ensures;
       edged =
           second.put-smaller2.ensures
-          ∙ ap (λ (t : List ℤ). sets t ((s.args.at.edges + 1) * 4) (edgeNumbers (edge_of s.args.c s.args.b)))
+          ∙ ap (λ (t : List ℤ). sets t ((s.args.at.edges + 1) * 4) (edge_numbers (edge_of s.args.c s.args.b)))
           first.put-smaller.ensures;
       counted = refl;
     }

@@ -1,12 +1,12 @@
 -- `bends::x_first` meets its contract.
 -- Assumes nothing.
 use borrow.Author.Rules.{rules}
-use Rattle.slide.specs.Bend.{xFirst}
+use Rattle.slide.specs.Bend.{x_first}
 use Rattle.bends.proofs.x_first.Statement.{statement}
 use Rattle.bends.proofs.x_first.Tie as tie
 
 returns : tie.Need-returns
-unfolding xFirst
+unfolding x_first
 returns c = search rules
 
 pub x-first-spec : {M : Type 1} → statement M

@@ -1,12 +1,12 @@
 -- `bends::y_first` meets its contract.
 -- Assumes nothing.
 use borrow.Author.Rules.{rules}
-use Rattle.slide.specs.Bend.{yFirst}
+use Rattle.slide.specs.Bend.{y_first}
 use Rattle.bends.proofs.y_first.Statement.{statement}
 use Rattle.bends.proofs.y_first.Tie as tie
 
 returns : tie.Need-returns
-unfolding yFirst
+unfolding y_first
 returns c = search rules
 
 pub y-first-spec : {M : Type 1} → statement M

@@ -6,15 +6,15 @@ use Prim.Native.Nat.{◌≤◌, ◌<◌, ◌-◌}
 use native.Mathlib.Omega.{arith}
 use borrow.Author.Rules.{rules}
 use lib.ListN.{get_or}
-use Rattle.plane.specs.Flat.{placeAt, macrosOf}
-use Rattle.tree.specs.Table.{treeBound, firstEnd, secondEnd}
+use Rattle.plane.specs.Flat.{place_at, macros_of}
+use Rattle.tree.specs.Table.{tree_bound, first_end, second_end}
 use Rattle.candidates.specs.declared.Best.{Best}
 use Rattle.candidates.proofs.NearLaws.{turns-back, turns-from}
 use Rattle.longest.specs.Longest.{cut_of, longest}
 use Rattle.longest.specs.Hung.{ties, Begun, Row}
 use Rattle.longest.proofs.HungLaws.{same_length}
 use Rattle.longest.proofs.RowLaws.{fresh_start}
-use Rattle.near.specs.Box.{boxOf}
+use Rattle.near.specs.Box.{box_of}
 use Rattle.near.proofs.BoxLaws.{box-is, box-sides}
 use Rattle.lists.specs.Turns.{turns}
 use Rattle.beside.specs.Beside.{offer, offers}
@@ -26,8 +26,8 @@ use Rattle.beside.proofs.offers.Tie as tie
 abbrev invariant-loop : tie.invariant-loop
 invariant-loop w pts n macros keys e el most onto link turn vertices v far up seat k a b m last u₀ row₀ found₀ u row found =
     ((u ≤ v) × (last ≤ v)) × ((Begun (ties onto link turn) row × Row el (ties onto link turn) (cut_of el (longest keys el e n) a b) row)
-    × ((turns (offer w pts n (macrosOf macros) el (longest keys el e n) vertices far up seat a b k) u (v - u) found
-    ≡ turns (offer w pts n (macrosOf macros) el (longest keys el e n) vertices far up seat a b k) 0 v found₀)
+    × ((turns (offer w pts n (macros_of macros) el (longest keys el e n) vertices far up seat a b k) u (v - u) found
+    ≡ turns (offer w pts n (macros_of macros) el (longest keys el e n) vertices far up seat a b k) 0 v found₀)
     × (found₀.gain ≤ found.gain)))
 
 abbrev decreases-loop : tie.decreases-loop
@@ -47,12 +47,12 @@ point-at-requires-2 c κs =
 
 -- the box is that of the edge's ends
 edge-box : (c : tie.After-box-of invariant-loop decreases-loop) → let s = c.before.before.before.before.before.args in
-    c.box_of.result ≡ boxOf (placeAt s.pts.now (firstEnd (get_or s.keys.now s.k 0)))
-    (placeAt s.pts.now (secondEnd (get_or s.keys.now s.k 0)))
+    c.box_of.result ≡ box_of (place_at s.pts.now (first_end (get_or s.keys.now s.k 0)))
+    (place_at s.pts.now (second_end (get_or s.keys.now s.k 0)))
 edge-box c =
     let s = c.before.before.before.before.before.args in
     let q = get_or s.keys.now s.k 0 in
-    box-is s.pts.now (firstEnd q) (secondEnd q) _ _ _
+    box-is s.pts.now (first_end q) (second_end q) _ _ _
     c.before.before.point_at.ensures c.before.point-at2.ensures c.box_of.ensures
 
 -- seen from the loop: the box made, and the call as it began
@@ -85,7 +85,7 @@ start-requires c κs =
     let s = c.before.before.before.before.before.before.before.before.before.before.before.before.before.before in
     let w = s.requires.0.1.1.ends s.args.k in
     let h = s.requires.1.1.1.1.1 in
-    (h.tied, ((h.all _ w.0, h.all _ w.1), same_length treeBound treeBound))
+    (h.tied, ((h.all _ w.0, h.all _ w.1), same_length tree_bound tree_bound))
 
 loop-holds : tie.Need-loop-init invariant-loop decreases-loop
 loop-holds c =

@@ -1,47 +1,43 @@
--- `beside::search` meets its contract. The loop's invariant: the edges that are left decide, and bounds stand. The
--- measure is how many they are.
+-- `beside::search` meets its contract. The loop's invariant: the edges that are left decide. The measure is how many they are.
 -- Assumes nothing.
 use mathlib.Core.Path.{◌≡◌}
 use Prim.Native.Nat.{◌≤◌, ◌-◌}
 use native.Mathlib.Omega.{arith}
-use Rattle.plane.specs.Flat.{macrosOf}
+use Rattle.plane.specs.Flat.{macros_of}
 use Rattle.lists.specs.Turns.{turns}
 use Rattle.longest.specs.Longest.{longest}
 use Rattle.beside.specs.Beside.{offers, search}
-use Rattle.beside.specs.Bounded.{Bounded}
 use Rattle.lists.proofs.TurnLaws.{turns-none, turns_next, turns-end}
 use Rattle.beside.proofs.search.Statement.{statement}
 use Rattle.beside.proofs.search.Tie as tie
 
 abbrev invariant-loop : tie.invariant-loop
-invariant-loop w pts n macros keys e el most onto link turn vertices v far up seat bound₀ found₀ k₀ bound found k =
-    ((k ≤ e) × Bounded w pts n (macrosOf macros) keys e el (longest keys el e n) vertices v far up seat bound)
-    × (turns (offers w pts n (macrosOf macros) keys el (longest keys el e n) vertices v far up seat) k (e - k) found
-    ≡ turns (offers w pts n (macrosOf macros) keys el (longest keys el e n) vertices v far up seat) 0 e found₀)
+invariant-loop w pts n macros keys e el most onto link turn vertices v far up seat found₀ k₀ found k =
+    (k ≤ e) × (turns (offers w pts n (macros_of macros) keys el (longest keys el e n) vertices v far up seat) k (e - k) found
+    ≡ turns (offers w pts n (macros_of macros) keys el (longest keys el e n) vertices v far up seat) 0 e found₀)
 
 abbrev decreases-loop : tie.decreases-loop
-decreases-loop w pts n macros keys e el most onto link turn vertices v far up seat bound₀ found₀ k₀ bound found k = e - k
+decreases-loop w pts n macros keys e el most onto link turn vertices v far up seat found₀ k₀ found k = e - k
 
 loop-holds : tie.Need-loop-init invariant-loop decreases-loop
-loop-holds c = ((omega arith, c.requires.1.1.1.1.1), turns-none _ _ _)
+loop-holds c = (omega arith, turns-none _ _ _)
 
-ask-requires : tie.Need-ask-requires invariant-loop decreases-loop
-ask-requires c κs =
-    let l = c.before.before in
-    let s = l.before in
-    let p = s.requires.1 in
-    (((omega arith, s.requires.0.0), s.requires.0.1), (p.0, (p.1.0, (p.1.1.0, (p.1.1.1.0, l.loop.invariant.0.1)))))
+offers-requires : tie.Need-offers-requires invariant-loop decreases-loop
+offers-requires c κs =
+    let s = c.before.before in
+    (((omega arith, s.requires.0.0), s.requires.0.1), s.requires.1)
 
 loop-again : tie.Need-loop-preserved invariant-loop decreases-loop
-loop-again c =
-    let l = c.before.before.before in
-    ((omega arith, c.ask.ensures.1), turns_next _ _ _ _ _ _ l.loop.invariant.1 (omega arith) c.ask.ensures.0)
+loop-again c = (
+  omega arith,
+  turns_next _ _ _ _ _ _ c.before.before.loop.invariant.1 (omega arith) c.offers.ensures,
+)
 
 returns : tie.Need-returns invariant-loop decreases-loop
 unfolding search
-returns c = (turns-end _ _ _ _ _ c.before.loop.invariant.1 (omega arith), c.before.loop.invariant.0.1)
+returns c = turns-end _ _ _ _ _ c.before.loop.invariant.1 (omega arith)
 
 pub search-spec : {M : Type 1} → statement M
 search-spec =
     tie.close
-    (tie.spec invariant-loop decreases-loop loop-holds ask-requires (λ c. omega arith) (λ c. omega arith) loop-again returns)
+    (tie.spec invariant-loop decreases-loop loop-holds offers-requires (λ c. omega arith) (λ c. omega arith) loop-again returns)

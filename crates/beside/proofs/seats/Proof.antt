@@ -4,14 +4,14 @@ use mathlib.Core.Path.{◌≡◌, refl}
 use Prim.Native.Nat.{◌≤◌, ◌-◌}
 use native.Mathlib.Omega.{arith}
 use Rattle.lists.specs.Turns.{turns}
-use Rattle.beside.specs.Beside.{takeSeat}
+use Rattle.beside.specs.Beside.{take_seat}
 use Rattle.lists.proofs.TurnLaws.{turns-none, turns_next, turns-end}
 use Rattle.beside.proofs.BesideLaws.{take-seat-is}
 use Rattle.beside.proofs.seats.Statement.{statement}
 use Rattle.beside.proofs.seats.Tie as tie
 
 abbrev invariant-loop : tie.invariant-loop
-invariant-loop pts n vertices v root seat₀ i₀ seat i = (i ≤ v) × (turns (takeSeat pts n vertices root) i (v - i) seat ≡ turns (takeSeat pts n vertices root) 0 v seat₀)
+invariant-loop pts n vertices v root seat₀ i₀ seat i = (i ≤ v) × (turns (take_seat pts n vertices root) i (v - i) seat ≡ turns (take_seat pts n vertices root) 0 v seat₀)
 
 abbrev decreases-loop : tie.decreases-loop
 decreases-loop pts n vertices v root seat₀ i₀ seat i = v - i

@@ -3,7 +3,7 @@
 -- Assumes nothing.
 use Prim.Native.Nat.{◌-◌}
 use mathlib.Core.Path.{sym, ◌∙◌, ap}
-use Rattle.beside.specs.Beside.{isPoint}
+use Rattle.beside.specs.Beside.{is_point}
 use native.Mathlib.Omega.{arith}
 use Rattle.beside.proofs.BesideLaws.{Gathering, gather_none, gather-pass, gather-more, gather-end, gather-low}
 use Rattle.beside.proofs.sources.Statement.{statement}
@@ -27,13 +27,13 @@ loop-again : tie.Need-loop-preserved invariant-loop decreases-loop
 loop-again c =
     let l = c.before.before.before.before in
     gather-more _ _ _ _ _ _ _ _ l.loop.invariant (omega arith)
-    (ap (isPoint _ _) (sym c.before.before.vertex-at.ensures) ∙ sym c.before.is-point.ensures ∙ c.if1.true)
+    (ap (is_point _ _) (sym c.before.before.vertex-at.ensures) ∙ sym c.before.is-point.ensures ∙ c.if1.true)
     (omega (arith, l.loop.invariant.few, l.before.requires.1.1))
 
 loop-again-2 : tie.Need-loop-preserved-2 invariant-loop decreases-loop
 loop-again-2 c =
     gather-pass _ _ _ _ _ _ _ _ c.before.before.before.before.loop.invariant (omega arith)
-    (ap (isPoint _ _) (sym c.before.before.vertex-at.ensures) ∙ sym c.before.is-point.ensures ∙ c.if1.false)
+    (ap (is_point _ _) (sym c.before.before.vertex-at.ensures) ∙ sym c.before.is-point.ensures ∙ c.if1.false)
 
 returns : tie.Need-returns invariant-loop decreases-loop
 returns c =

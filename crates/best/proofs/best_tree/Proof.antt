@@ -8,7 +8,7 @@ use native.Mathlib.Omega.{arith}
 use Rattle.net.proofs.PinLaws.{length-pins}
 use Rattle.lines.specs.declared.Axis.TheVariants.{Across, Along}
 use Rattle.grid.proofs.WholeLaws.{Small, Lined, table-long, whole-few, whole-priced, whole-fits, whole_below}
-use Rattle.parts.specs.Bounds.{bestPins}
+use Rattle.parts.specs.Bounds.{best_pins}
 use Rattle.parts.proofs.WorkLaws.{fill-rows}
 use Rattle.best.proofs.SizeLaws.{sets-bound}
 use Rattle.best.proofs.WholeBest.{whole-targets, whole_room, whole-over, work-cleared}
@@ -85,7 +85,7 @@ some-pins p =
     let s = start_of (lines_of (costs-of (numbers_of p))) in
     omega (arith, p.pin-count.ensures, s.pre.0.some-pin, length-pins s.args.pins.now)
 
-few-pins : (p : tie.After-pin-count) → p.pin-count.result ≤ bestPins
+few-pins : (p : tie.After-pin-count) → p.pin-count.result ≤ best_pins
 few-pins p =
     let s = start_of (lines_of (costs-of (numbers_of p))) in
     omega (arith, p.pin-count.ensures, s.pre.1.0.0)

@@ -5,14 +5,14 @@ use Prim.Native.Nat.{◌≤◌, ◌-◌, ◌*◌}
 use native.Mathlib.Omega.{arith}
 use Rattle.joined.specs.Cost.{lengths}
 use Rattle.plane.specs.Distance.{distance}
-use Rattle.plane.specs.Cost.{costLimit}
-use Rattle.traced.specs.Routes.{markedEdges}
+use Rattle.plane.specs.Cost.{cost_limit}
+use Rattle.traced.specs.Routes.{marked_edges}
 use Rattle.best.proofs.GivenLaws.{metal-none, metal-more, metal-end}
 use Rattle.best.proofs.metal.Statement.{statement}
 use Rattle.best.proofs.metal.Tie as tie
 
 abbrev invariant-loop : tie.invariant-loop
-invariant-loop xs ys used e sum₀ j₀ sum j = (j ≤ e) × ((sum ≤ j * costLimit) × (sum ≡ lengths distance (markedEdges xs ys used j)))
+invariant-loop xs ys used e sum₀ j₀ sum j = (j ≤ e) × ((sum ≤ j * cost_limit) × (sum ≡ lengths distance (marked_edges xs ys used j)))
 
 abbrev decreases-loop : tie.decreases-loop
 decreases-loop xs ys used e sum₀ j₀ sum j = e - j

@@ -2,7 +2,7 @@
 -- Assumes nothing.
 use Rattle.std.proofs.Common.{◌≡◌, ℕ, ◌-◌, ◌*◌, ◌≤◌, List, take, drop, set, replicate, refl, ◌∙◌, ap₂, arith}
 use Rattle.lent.specs.Over.{over}
-use Rattle.blocks.specs.Sizes.{blockWords}
+use Rattle.blocks.specs.Sizes.{block_words}
 use Rattle.blocks.specs.Words.{words_of}
 use Rattle.blocks.specs.Block.{block_of}
 use Rattle.blocks.proofs.BytesLaws.{read_more, block-full}
@@ -11,10 +11,10 @@ use Rattle.blocks.proofs.block_at.Statement.{statement}
 use Rattle.blocks.proofs.block_at.Tie as tie
 
 abbrev invariant-loop : tie.invariant-loop
-invariant-loop bytes b t₀ i₀ t i = (i ≤ blockWords) × (t ≡ over (take i (drop (b * blockWords) (words_of bytes))) (replicate blockWords 0))
+invariant-loop bytes b t₀ i₀ t i = (i ≤ block_words) × (t ≡ over (take i (drop (b * block_words) (words_of bytes))) (replicate block_words 0))
 
 abbrev decreases-loop : tie.decreases-loop
-decreases-loop bytes b t₀ i₀ t i = blockWords - i
+decreases-loop bytes b t₀ i₀ t i = block_words - i
 
 loop-holds : tie.Need-loop-init invariant-loop decreases-loop
 unfolding over
@@ -34,10 +34,10 @@ returns : tie.Need-returns invariant-loop decreases-loop
 returns c =
     let l = c.before in
     let s = l.before.before in
-    let e : l.loop.i ≡ blockWords = omega arith in
+    let e : l.loop.i ≡ block_words = omega arith in
     let w = block_of s.args.b (words_of s.args.bytes.now) in
     let f = block-full s.args.bytes.now s.args.b s.requires in
-    rw e at l.loop.invariant.1 ∙ over-full w (replicate blockWords 0) (omega (arith, f))
+    rw e at l.loop.invariant.1 ∙ over-full w (replicate block_words 0) (omega (arith, f))
 
 pub block-at-spec : {M : Type 1} → statement M
 block-at-spec =

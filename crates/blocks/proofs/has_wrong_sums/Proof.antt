@@ -1,16 +1,16 @@
 -- `blocks::has_wrong_sums` meets its contract: its tests are those of the definition.
 -- Assumes nothing.
 use Rattle.std.proofs.Common.{ℕ, ◌-◌, not, ◌||◌, eqb, get_or, ap₂, rules}
-use Rattle.blocks.specs.Sizes.{summedWords, secondSum}
-use Rattle.blocks.specs.Sums.{wrongSums}
+use Rattle.blocks.specs.Sizes.{summed_words, second_sum}
+use Rattle.blocks.specs.Sums.{wrong_sums}
 use Rattle.blocks.proofs.has_wrong_sums.Statement.{statement}
 use Rattle.blocks.proofs.has_wrong_sums.Tie as tie
 
 returns : tie.Need-returns
-unfolding wrongSums
+unfolding wrong_sums
 returns c =
     let b = c.before.before.before.before.args.t1 in
-    ap₂ (λ (p q : ℕ). not (eqb (get_or b summedWords 0) p) || not (eqb (get_or b secondSum 0) q))
+    ap₂ (λ (p q : ℕ). not (eqb (get_or b summed_words 0) p) || not (eqb (get_or b second_sum 0) q))
     c.before.before.sums-of.ensures.0 c.before.before.sums-of.ensures.1
 
 pub has-wrong-sums-spec : {M : Type 1} → statement M

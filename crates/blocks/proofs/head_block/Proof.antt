@@ -2,17 +2,17 @@
 -- Assumes nothing.
 use Rattle.std.proofs.Common.{ℕ, [], ◌∷◌, ◌∙◌, ap₂, rules}
 use Rattle.lent.specs.Over.{over}
-use Rattle.blocks.specs.Sizes.{headKind}
-use Rattle.blocks.specs.Block.{block, headBlock}
+use Rattle.blocks.specs.Sizes.{head_kind}
+use Rattle.blocks.specs.Block.{block, head_block}
 use Rattle.blocks.proofs.head_block.Statement.{statement}
 use Rattle.blocks.proofs.head_block.Tie as tie
 
 returns : tie.Need-returns
-unfolding over block headBlock
+unfolding over block head_block
 returns c =
     let a = c.before.before.before.args in
     c.seal.ensures
-    ∙ ap₂ (λ (first second : ℕ). block headKind 0 0 (a.m ∷ (a.k ∷ (first ∷ (second ∷ [])))))
+    ∙ ap₂ (λ (first second : ℕ). block head_kind 0 0 (a.m ∷ (a.k ∷ (first ∷ (second ∷ [])))))
     c.before.before.weight-word.ensures c.before.weight-word2.ensures
 
 pub head-block-spec : {M : Type 1} → statement M

@@ -6,17 +6,17 @@ use lib.ListN.{length-map}
 use mir.ValLaws.{to_z-of_z}
 use Rattle.lent.specs.Over.{over}
 use Rattle.lent.proofs.OverLaws.{length_over}
-use Rattle.blocks.specs.Sizes.{blockWords, summedWords, firstEntry}
-use Rattle.blocks.specs.Words.{wordOf}
+use Rattle.blocks.specs.Sizes.{block_words, summed_words, first_entry}
+use Rattle.blocks.specs.Words.{word_of}
 use Rattle.blocks.specs.Sums.{sealed}
-use Rattle.blocks.specs.Block.{block, listBlock}
+use Rattle.blocks.specs.Block.{block, list_block}
 use Rattle.blocks.proofs.BlockLaws.{over-cut, entry_more}
 use Rattle.blocks.proofs.list_block.Statement.{statement}
 use Rattle.blocks.proofs.list_block.Tie as tie
 
 abbrev invariant-loop : tie.invariant-loop
 invariant-loop kind w number numbers t₀ i₀ t i =
-    (i ≤ length numbers) × (t ≡ over (kind ∷ (number ∷ (length numbers / w ∷ (0 ∷ map wordOf (take i numbers))))) (replicate blockWords 0))
+    (i ≤ length numbers) × (t ≡ over (kind ∷ (number ∷ (length numbers / w ∷ (0 ∷ map word_of (take i numbers))))) (replicate block_words 0))
 
 abbrev decreases-loop : tie.decreases-loop
 decreases-loop kind w number numbers t₀ i₀ t i = length numbers - i
@@ -38,7 +38,7 @@ loop-again c =
     let s = l.before.args.numbers.now in
     let f : SFits w32 (get_or s i (pos 0)) = search rules in (
       omega arith,
-      ap₂ (λ (t : List ℕ) (v : ℕ). set t (firstEntry + i) v) l.loop.invariant.1 (c.word_of.ensures ∙ ap wordOf (to_z-of_z w32 _ f))
+      ap₂ (λ (t : List ℕ) (v : ℕ). set t (first_entry + i) v) l.loop.invariant.1 (c.word_of.ensures ∙ ap word_of (to_z-of_z w32 _ f))
           ∙ entry_more _ _ _ 0 s i (omega arith) (omega arith),
     )
 
@@ -46,19 +46,19 @@ seal-requires : tie.Need-seal-requires invariant-loop decreases-loop
 seal-requires c κs =
     let l = c.before in
     let s = l.before.args.numbers.now in
-    let h = length-map (take l.loop.i s) wordOf in
-    ap length l.loop.invariant.1 ∙ length_over _ (replicate blockWords 0) (omega (arith, h, length-take l.loop.i s))
+    let h = length-map (take l.loop.i s) word_of in
+    ap length l.loop.invariant.1 ∙ length_over _ (replicate block_words 0) (omega (arith, h, length-take l.loop.i s))
 
 returns : tie.Need-returns invariant-loop decreases-loop
-unfolding block listBlock
+unfolding block list_block
 returns c =
     let l = c.before.before in
     let s = l.before.args.numbers.now in
     let e : take l.loop.i s ≡ s = take_all l.loop.i s (omega arith) in
-    let h = length-map s wordOf in
+    let h = length-map s word_of in
     c.seal.ensures
-    ∙ ap (λ (t : List ℕ). sealed (take summedWords t)) (rw e at l.loop.invariant.1)
-    ∙ ap sealed (over-cut _ summedWords blockWords (omega (arith, h)) (omega arith))
+    ∙ ap (λ (t : List ℕ). sealed (take summed_words t)) (rw e at l.loop.invariant.1)
+    ∙ ap sealed (over-cut _ summed_words block_words (omega (arith, h)) (omega arith))
 
 pub list-block-spec : {M : Type 1} → statement M
 list-block-spec =

@@ -3,18 +3,18 @@
 -- Assumes nothing.
 use Rattle.std.proofs.Common.{◌≡◌, ℕ, ◌+◌, ◌-◌, ◌*◌, ◌≤◌, List, length, get_or, take, refl, ap, ◌∙◌, ap₂, arith, take_all}
 use lib.Seq.{sets, length-sets}
-use Rattle.blocks.specs.Sizes.{blockWords, blockBytes}
-use Rattle.blocks.specs.Words.{bytesOfWord, bytes_of}
+use Rattle.blocks.specs.Sizes.{block_words, block_bytes}
+use Rattle.blocks.specs.Words.{bytes_of_word, bytes_of}
 use Rattle.blocks.proofs.BlockLaws.{put-more}
 use Rattle.blocks.proofs.put_block.Statement.{statement}
 use Rattle.blocks.proofs.put_block.Tie as tie
 
 abbrev invariant-loop : tie.invariant-loop
 invariant-loop bytes₀ number block i₀ bytes i =
-    (i ≤ blockWords) × ((length bytes ≡ length bytes₀) × (bytes ≡ sets bytes₀ (number * blockBytes) (bytes_of (take i block))))
+    (i ≤ block_words) × ((length bytes ≡ length bytes₀) × (bytes ≡ sets bytes₀ (number * block_bytes) (bytes_of (take i block))))
 
 abbrev decreases-loop : tie.decreases-loop
-decreases-loop bytes₀ number block i₀ bytes i = blockWords - i
+decreases-loop bytes₀ number block i₀ bytes i = block_words - i
 
 loop-holds : tie.Need-loop-init invariant-loop decreases-loop
 unfolding bytes_of
@@ -26,13 +26,13 @@ loop-again c =
     let l = p.before.before.before in
     let a = l.before.before.args in
     let i = l.loop.i in
-    let e : (a.number * blockWords + i) * 4 ≡ a.number * blockBytes + i * 4 = omega arith in
+    let e : (a.number * block_words + i) * 4 ≡ a.number * block_bytes + i * 4 = omega arith in
     let b =
     p.put_word.ensures
-    ∙ ap₂ (λ (bs : List ℕ) (k : ℕ). sets bs k (bytesOfWord (get_or a.t3 i 0))) l.loop.invariant.1.1 e
-    ∙ put-more _ a.t3 (a.number * blockBytes) i (omega arith)
+    ∙ ap₂ (λ (bs : List ℕ) (k : ℕ). sets bs k (bytes_of_word (get_or a.t3 i 0))) l.loop.invariant.1.1 e
+    ∙ put-more _ a.t3 (a.number * block_bytes) i (omega arith)
     in
-    (omega arith, (ap length b ∙ length-sets a.bytes.now (a.number * blockBytes) (bytes_of (take (i + 1) a.t3)), b))
+    (omega arith, (ap length b ∙ length-sets a.bytes.now (a.number * block_bytes) (bytes_of (take (i + 1) a.t3)), b))
 
 same_length : tie.Need-same-length invariant-loop decreases-loop
 same_length c = c.before.loop.invariant.1.0
@@ -42,7 +42,7 @@ returns c =
     let l = c.before in
     let a = l.before.before.args in
     l.loop.invariant.1.1
-    ∙ ap (λ (ws : List ℕ). sets a.bytes.now (a.number * blockBytes) (bytes_of ws)) (take_all l.loop.i a.t3 (omega arith))
+    ∙ ap (λ (ws : List ℕ). sets a.bytes.now (a.number * block_bytes) (bytes_of ws)) (take_all l.loop.i a.t3 (omega arith))
 
 pub put-block-spec : {M : Type 1} → statement M
 put-block-spec =

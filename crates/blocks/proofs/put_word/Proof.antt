@@ -1,7 +1,7 @@
 -- `blocks::put_word` meets its contract: its four stores are those of the definition's list.
 -- Assumes nothing.
 use Rattle.std.proofs.Common.{◌≡◌, suc, ◌+◌, ◌*◌, refl, arith, length-set, rules}
-use Rattle.blocks.specs.Words.{bytesOfWord}
+use Rattle.blocks.specs.Words.{bytes_of_word}
 use Rattle.blocks.proofs.put_word.Statement.{statement}
 use Rattle.blocks.proofs.put_word.Tie as tie
 
@@ -15,7 +15,7 @@ slice-write-bytes-4 : tie.Need-slice-write-bytes-4
 slice-write-bytes-4 c = simp length-set (omega arith)
 
 returns : tie.Need-returns
-unfolding bytesOfWord
+unfolding bytes_of_word
 returns c =
     let k = c.args.i * 4 in
     let one : k + 1 ≡ suc k = omega arith in

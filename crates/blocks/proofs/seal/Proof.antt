@@ -1,7 +1,7 @@
 -- `blocks::seal` meets its contract: its two stores are the last two words.
 -- Assumes nothing.
 use Rattle.std.proofs.Common.{ℕ, [], ◌∷◌, ◌++◌, take, ◌∙◌, ap₂, rules}
-use Rattle.blocks.specs.Sizes.{summedWords}
+use Rattle.blocks.specs.Sizes.{summed_words}
 use Rattle.blocks.specs.Sums.{sealed}
 use Rattle.blocks.proofs.BlockLaws.{last-two}
 use Rattle.blocks.proofs.seal.Statement.{statement}
@@ -12,7 +12,7 @@ unfolding sealed
 returns c =
     let ws = c.before.before.args.t1 in
     last-two ws _ _ c.before.before.requires
-    ∙ ap₂ (λ (a b : ℕ). take summedWords ws ++ (a ∷ (b ∷ []))) c.sums-of.ensures.0 c.sums-of.ensures.1
+    ∙ ap₂ (λ (a b : ℕ). take summed_words ws ++ (a ∷ (b ∷ []))) c.sums-of.ensures.0 c.sums-of.ensures.1
 
 pub seal-spec : {M : Type 1} → statement M
 seal-spec = tie.close (tie.spec (λ c κs. search rules) (λ c. search rules) (λ c. search rules) returns)

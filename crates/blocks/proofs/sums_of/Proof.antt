@@ -1,21 +1,21 @@
 -- `blocks::sums_of` meets its contract. The loop's invariant: the two sums are those of the words passed. The measure is what is left.
 -- Assumes nothing.
 use Rattle.std.proofs.Common.{◌≡◌, ℕ, ◌+◌, ◌-◌, ◌%◌, ◌≤◌, get_or, take, refl, ap, ◌∙◌, ap₂, arith}
-use Rattle.blocks.specs.Sizes.{summedWords}
-use Rattle.blocks.specs.Sums.{total, runningSums, plainSum, sumOfSums}
+use Rattle.blocks.specs.Sizes.{summed_words}
+use Rattle.blocks.specs.Sums.{total, running_sums, plain_sum, sum_of_sums}
 use Rattle.blocks.proofs.SumLaws.{plain_more, sums-more, word_more}
 use Rattle.blocks.proofs.sums_of.Statement.{statement}
 use Rattle.blocks.proofs.sums_of.Tie as tie
 
 abbrev invariant-loop : tie.invariant-loop
 invariant-loop block plain₀ running₀ i₀ plain running i =
-    (i ≤ summedWords) × ((plain ≡ plainSum (take i block)) × (running ≡ sumOfSums (take i block)))
+    (i ≤ summed_words) × ((plain ≡ plain_sum (take i block)) × (running ≡ sum_of_sums (take i block)))
 
 abbrev decreases-loop : tie.decreases-loop
-decreases-loop block plain₀ running₀ i₀ plain running i = summedWords - i
+decreases-loop block plain₀ running₀ i₀ plain running i = summed_words - i
 
 loop-holds : tie.Need-loop-init invariant-loop decreases-loop
-unfolding total runningSums plainSum sumOfSums
+unfolding total running_sums plain_sum sum_of_sums
 loop-holds c = (omega arith, (refl, refl))
 
 wrapping-add-u32-requires : tie.Need-wrapping-add-u32-requires invariant-loop decreases-loop
@@ -40,7 +40,7 @@ loop-again c =
 
 returns : tie.Need-returns invariant-loop decreases-loop
 returns c =
-    let e : c.before.loop.i ≡ summedWords = omega arith in
+    let e : c.before.loop.i ≡ summed_words = omega arith in
     (rw e at c.before.loop.invariant.1.0, rw e at c.before.loop.invariant.1.1)
 
 pub sums-of-spec : {M : Type 1} → statement M

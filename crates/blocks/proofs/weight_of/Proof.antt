@@ -1,16 +1,16 @@
 -- `blocks::weight_of` meets its contract: 0 stands for 1, any other word for itself.
 -- Assumes nothing.
 use Rattle.std.proofs.Common.{refl, rules, ne_eqb}
-use Rattle.blocks.specs.Words.{weightIn}
+use Rattle.blocks.specs.Words.{weight_in}
 use Rattle.blocks.proofs.weight_of.Statement.{statement}
 use Rattle.blocks.proofs.weight_of.Tie as tie
 
 returns : tie.Need-returns
-unfolding weightIn
+unfolding weight_in
 returns c = rw c.if1.true refl
 
 returns-2 : tie.Need-returns-2
-unfolding weightIn
+unfolding weight_in
 returns-2 c = rw (ne_eqb _ 0 c.if1.false) refl
 
 pub weight-of-spec : {M : Type 1} → statement M

@@ -1,16 +1,16 @@
 -- `blocks::weight_word` meets its contract: 1 is written as 0, any other weight as itself.
 -- Assumes nothing.
 use Rattle.std.proofs.Common.{refl, ne_eqb}
-use Rattle.blocks.specs.Words.{weightWord}
+use Rattle.blocks.specs.Words.{weight_word}
 use Rattle.blocks.proofs.weight_word.Statement.{statement}
 use Rattle.blocks.proofs.weight_word.Tie as tie
 
 returns : tie.Need-returns
-unfolding weightWord
+unfolding weight_word
 returns c = rw c.if1.true refl
 
 returns-2 : tie.Need-returns-2
-unfolding weightWord
+unfolding weight_word
 returns-2 c = rw (ne_eqb _ 1 c.if1.false) refl
 
 pub weight-word-spec : {M : Type 1} → statement M

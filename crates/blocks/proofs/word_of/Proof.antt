@@ -4,7 +4,7 @@ use Rattle.std.proofs.Common.{◌≡◌, true, pos, nat_abs, ap, ◌∙◌, arit
 use lib.Signed.{lt_z}
 use mir.ValLaws.{to_z-of_z}
 use Rattle.signed.proofs.Bits.{cast-wide, flag-lt}
-use Rattle.blocks.specs.Words.{wordOf}
+use Rattle.blocks.specs.Words.{word_of}
 use Rattle.blocks.proofs.WordLaws.{word_small, word-up, raised-fits, raised-back}
 use Rattle.blocks.proofs.word_of.Statement.{statement}
 use Rattle.blocks.proofs.word_of.Tie as tie
@@ -12,7 +12,7 @@ use Rattle.blocks.proofs.word_of.Tie as tie
 negative : (c : tie.Then1) → lt_z c.before.args.z (pos 0) ≡ true
 negative c = flag-lt w32 _ (pos 0) c.before.ranges.z (record { sfits = omega arith }) c.if1.true
 
-up : (c : tie.Else1) → to_z w32 (of_z w32 c.before.args.z) ≡ pos (wordOf c.before.args.z)
+up : (c : tie.Else1) → to_z w32 (of_z w32 c.before.args.z) ≡ pos (word_of c.before.args.z)
 up c =
     to_z-of_z w32 _ c.before.ranges.z
     ∙ word-up _ (flag-lt w32 _ (pos 0) c.before.ranges.z (record { sfits = omega arith }) c.if1.false)

@@ -3,7 +3,7 @@
 use native.Mathlib.Omega.{arith}
 use borrow.Author.Rules.{rules}
 use lib.ListN.{get_or}
-use Rattle.tree.specs.Table.{firstEnd, secondEnd}
+use Rattle.tree.specs.Table.{first_end, second_end}
 use Rattle.bounds.proofs.key_now.Statement.{statement}
 use Rattle.bounds.proofs.key_now.Tie as tie
 
@@ -11,7 +11,7 @@ add-result : tie.Need-overflow-add-result
 add-result c =
     let s = c.before.before.before in
     let q = get_or s.args.keys.now s.args.k 0 in
-    omega (arith, s.requires.1.small (firstEnd q), s.requires.1.small (secondEnd q))
+    omega (arith, s.requires.1.small (first_end q), s.requires.1.small (second_end q))
 
 mul-result : tie.Need-overflow-mul-result
 mul-result c = let s = c.before in omega (arith, s.requires.0.1.small s.args.k)
@@ -20,7 +20,7 @@ element-copy-out-result : tie.Need-element-copy-out-result
 element-copy-out-result c = let s = c.before in omega (arith, s.requires.0.1.small s.args.k)
 
 mul-result-2 : tie.Need-overflow-mul-result-2
-mul-result-2 c = let s = c.before.before in omega (arith, s.requires.1.small (firstEnd (get_or s.args.keys.now s.args.k 0)))
+mul-result-2 c = let s = c.before.before in omega (arith, s.requires.1.small (first_end (get_or s.args.keys.now s.args.k 0)))
 
 pub key-now-spec : {M : Type 1} → statement M
 key-now-spec =

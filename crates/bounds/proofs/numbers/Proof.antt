@@ -37,9 +37,7 @@ loop-again c =
     (sym c.before.before.point_at.ensures ∙ n.1)
 
 returns : tie.Need-returns invariant-loop decreases-loop
-returns c =
-    let i = c.before.before.before.before.before.loop.invariant in
-    ((i.room, i.small), λ e. differ e refl)
+returns c = (c.before.before.before.before.before.loop.invariant.small, λ e. differ e refl)
 
 loop-again-2 : tie.Need-loop-preserved-2 invariant-loop decreases-loop
 loop-again-2 c =
@@ -52,7 +50,7 @@ returns-2 : tie.Need-returns-2 invariant-loop decreases-loop
 returns-2 c =
     let l = c.before in
     let s = l.before in (
-      (l.loop.invariant.room, l.loop.invariant.small),
+      l.loop.invariant.small,
       λ e.
           finding-end _ _ _ _ s.requires.0.1 s.requires.0.0 _ _ _ _ l.loop.invariant c.loop-test.false
           (eqb-true l.loop.i s.args.m e),

@@ -9,14 +9,14 @@ use mir.Syntax.{w32}
 use mir.ValLaws.{to_z-of_z}
 use Rattle.lists.specs.Any.{any}
 use Rattle.lists.proofs.AnyLaws.{any-hit, any-miss, any-end}
-use Rattle.net.specs.Pins.{pinLoads, loadAt}
-use Rattle.net.specs.Tests.{noLoad}
+use Rattle.net.specs.Pins.{pin_loads, load_at}
+use Rattle.net.specs.Tests.{no_load}
 use Rattle.net.proofs.PinLaws.{loads-next, loads-end}
 use Rattle.checks.proofs.any_no_load.Statement.{statement}
 use Rattle.checks.proofs.any_no_load.Tie as tie
 
 abbrev invariant-loop : tie.invariant-loop
-invariant-loop pins m i₀ i = (i ≤ m) × (any noLoad (pinLoads pins) ≡ any noLoad (drop i (pinLoads pins)))
+invariant-loop pins m i₀ i = (i ≤ m) × (any no_load (pin_loads pins) ≡ any no_load (drop i (pin_loads pins)))
 
 abbrev decreases-loop : tie.decreases-loop
 decreases-loop pins m i₀ i = m - i
@@ -26,25 +26,25 @@ loop-holds c = (omega arith, refl)
 
 -- what the call says, of the list
 told : (c : tie.After-is-no-load invariant-loop decreases-loop) → c.is-no-load.result
-    ≡ noLoad (loadAt c.before.before.before.before.before.args.pins.now c.before.before.before.loop.i)
-told c = c.is-no-load.ensures ∙ ap noLoad (to_z-of_z w32 _ (search rules) ∙ c.before.load_at.ensures)
+    ≡ no_load (load_at c.before.before.before.before.before.args.pins.now c.before.before.before.loop.i)
+told c = c.is-no-load.ensures ∙ ap no_load (to_z-of_z w32 _ (search rules) ∙ c.before.load_at.ensures)
 
 returns : tie.Need-returns invariant-loop decreases-loop
 returns c =
     let l = c.before.before.before.before in
     let next = loads-next l.before.before.args.pins.now l.loop.i (omega arith) in
-    sym (l.loop.invariant.1 ∙ any-hit noLoad _ _ _ next (sym (told c.before) ∙ c.if1.true))
+    sym (l.loop.invariant.1 ∙ any-hit no_load _ _ _ next (sym (told c.before) ∙ c.if1.true))
 
 loop-again : tie.Need-loop-preserved invariant-loop decreases-loop
 loop-again c =
     let l = c.before.before.before.before in
     let next = loads-next l.before.before.args.pins.now l.loop.i (omega arith) in
-    (omega arith, l.loop.invariant.1 ∙ any-miss noLoad _ _ _ next (sym (told c.before) ∙ c.if1.false))
+    (omega arith, l.loop.invariant.1 ∙ any-miss no_load _ _ _ next (sym (told c.before) ∙ c.if1.false))
 
 returns-2 : tie.Need-returns-2 invariant-loop decreases-loop
 returns-2 c =
     let l = c.before in
-    sym (l.loop.invariant.1 ∙ any-end noLoad _ (loads-end l.before.before.args.pins.now l.loop.i (omega arith)))
+    sym (l.loop.invariant.1 ∙ any-end no_load _ (loads-end l.before.before.args.pins.now l.loop.i (omega arith)))
 
 pub any-no-load-spec : {M : Type 1} → statement M
 any-no-load-spec =

@@ -6,14 +6,14 @@ use native.Mathlib.Omega.{arith}
 use lib.ListN.{drop}
 use Rattle.lists.specs.Any.{any}
 use Rattle.lists.proofs.AnyLaws.{any-hit, any-miss, any-end}
-use Rattle.plane.specs.Flat.{macrosOf, macroAt}
+use Rattle.plane.specs.Flat.{macros_of, macro_at}
 use Rattle.plane.proofs.FlatLaws.{macros-next, macros-end}
-use Rattle.net.specs.Tests.{notUpright}
+use Rattle.net.specs.Tests.{not_upright}
 use Rattle.checks.proofs.any_not_upright.Statement.{statement}
 use Rattle.checks.proofs.any_not_upright.Tie as tie
 
 abbrev invariant-loop : tie.invariant-loop
-invariant-loop macros k i₀ i = (i ≤ k) × (any notUpright (macrosOf macros) ≡ any notUpright (drop i (macrosOf macros)))
+invariant-loop macros k i₀ i = (i ≤ k) × (any not_upright (macros_of macros) ≡ any not_upright (drop i (macros_of macros)))
 
 abbrev decreases-loop : tie.decreases-loop
 decreases-loop macros k i₀ i = k - i
@@ -30,15 +30,15 @@ is-not-upright-requires c κs = tt
 -- what the call says, of the list
 told : (c : tie.After-is-not-upright invariant-loop decreases-loop)
     → c.is-not-upright.result
-    ≡ notUpright (macroAt c.before.before.before.before.before.args.macros.now c.before.before.before.loop.i)
-told c = c.is-not-upright.ensures ∙ ap notUpright c.before.macro-at.ensures
+    ≡ not_upright (macro_at c.before.before.before.before.before.args.macros.now c.before.before.before.loop.i)
+told c = c.is-not-upright.ensures ∙ ap not_upright c.before.macro-at.ensures
 
 returns : tie.Need-returns invariant-loop decreases-loop
 returns c =
     let l = c.before.before.before.before in
     sym
     (l.loop.invariant.1
-    ∙ any-hit notUpright _ _ _ (macros-next l.before.before.args.macros.now l.loop.i (omega arith))
+    ∙ any-hit not_upright _ _ _ (macros-next l.before.before.args.macros.now l.loop.i (omega arith))
     (sym (told c.before) ∙ c.if1.true))
 
 loop-again : tie.Need-loop-preserved invariant-loop decreases-loop
@@ -46,14 +46,14 @@ loop-again c =
     let l = c.before.before.before.before in (
       omega arith,
       l.loop.invariant.1
-          ∙ any-miss notUpright _ _ _ (macros-next l.before.before.args.macros.now l.loop.i (omega arith))
+          ∙ any-miss not_upright _ _ _ (macros-next l.before.before.args.macros.now l.loop.i (omega arith))
           (sym (told c.before) ∙ c.if1.false),
     )
 
 returns-2 : tie.Need-returns-2 invariant-loop decreases-loop
 returns-2 c =
     let l = c.before in
-    sym (l.loop.invariant.1 ∙ any-end notUpright _ (macros-end l.before.before.args.macros.now l.loop.i (omega arith)))
+    sym (l.loop.invariant.1 ∙ any-end not_upright _ (macros-end l.before.before.args.macros.now l.loop.i (omega arith)))
 
 pub any-not-upright-spec : {M : Type 1} → statement M
 any-not-upright-spec =

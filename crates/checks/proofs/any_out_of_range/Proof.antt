@@ -14,12 +14,12 @@ use mir.Val.{SFits}
 use mir.ValLaws.{to_z-of_z}
 use Rattle.lists.specs.Any.{any}
 use Rattle.lists.proofs.AnyLaws.{any-hit, any-miss, any-end}
-use Rattle.net.specs.Tests.{outOfRange}
+use Rattle.net.specs.Tests.{out_of_range}
 use Rattle.checks.proofs.any_out_of_range.Statement.{statement}
 use Rattle.checks.proofs.any_out_of_range.Tie as tie
 
 abbrev invariant-loop : tie.invariant-loop
-invariant-loop numbers i₀ i = (i ≤ length numbers) × (any outOfRange numbers ≡ any outOfRange (drop i numbers))
+invariant-loop numbers i₀ i = (i ≤ length numbers) × (any out_of_range numbers ≡ any out_of_range (drop i numbers))
 
 abbrev decreases-loop : tie.decreases-loop
 decreases-loop numbers i₀ i = length numbers - i
@@ -41,18 +41,18 @@ next s i h = rw add-one (drop-cons s i (pos 0) h)
 -- what the call says, of the list
 told : (c : tie.After-is-out-of-range invariant-loop decreases-loop)
     → c.is-out-of-range.result
-    ≡ outOfRange (get_or c.before.before.before.before.args.numbers.now c.before.before.before.loop.i (pos 0))
+    ≡ out_of_range (get_or c.before.before.before.before.args.numbers.now c.before.before.before.loop.i (pos 0))
 told c =
     let n = get_or c.before.before.before.before.args.numbers.now c.before.before.before.loop.i (pos 0) in
     let f : SFits w32 n = search rules in
-    c.is-out-of-range.ensures ∙ ap outOfRange (to_z-of_z w32 n f)
+    c.is-out-of-range.ensures ∙ ap out_of_range (to_z-of_z w32 n f)
 
 returns : tie.Need-returns invariant-loop decreases-loop
 returns c =
     let l = c.before.before.before.before in
     sym
     (l.loop.invariant.1
-    ∙ any-hit outOfRange _ _ _ (next l.before.args.numbers.now l.loop.i (omega arith))
+    ∙ any-hit out_of_range _ _ _ (next l.before.args.numbers.now l.loop.i (omega arith))
     (sym (told c.before) ∙ c.if1.true))
 
 loop-again : tie.Need-loop-preserved invariant-loop decreases-loop
@@ -60,7 +60,7 @@ loop-again c =
     let l = c.before.before.before.before in (
       omega arith,
       l.loop.invariant.1
-          ∙ any-miss outOfRange _ _ _ (next l.before.args.numbers.now l.loop.i (omega arith))
+          ∙ any-miss out_of_range _ _ _ (next l.before.args.numbers.now l.loop.i (omega arith))
           (sym (told c.before) ∙ c.if1.false),
     )
 
@@ -69,7 +69,7 @@ returns-2 c =
     let l = c.before in
     let s = l.before.args.numbers.now in
     let e : length s ≤ l.loop.i = omega arith in
-    sym (l.loop.invariant.1 ∙ any-end outOfRange _ (drop_of_length-le s e))
+    sym (l.loop.invariant.1 ∙ any-end out_of_range _ (drop_of_length-le s e))
 
 pub any-out-of-range-spec : {M : Type 1} → statement M
 any-out-of-range-spec =

@@ -6,24 +6,24 @@ use mathlib.Core.Bool.{true, false}
 use Prim.Native.Nat.{◌≤◌, ◌-◌, ◌+◌}
 use native.Mathlib.Omega.{arith}
 use lib.ListN.{drop}
-use Rattle.lists.specs.Any.{any, anyTwo}
+use Rattle.lists.specs.Any.{any, any_two}
 use Rattle.lists.proofs.AnyLaws.{any-hit, any-miss, any-end, two-hit, two-miss, two-end}
-use Rattle.plane.specs.Macro.{interiorsMeet}
-use Rattle.plane.specs.Flat.{macrosOf, macroAt}
+use Rattle.plane.specs.Macro.{interiors_meet}
+use Rattle.plane.specs.Flat.{macros_of, macro_at}
 use Rattle.plane.proofs.FlatLaws.{macros-next, macros-end}
 use Rattle.checks.proofs.any_overlap.Statement.{statement}
 use Rattle.checks.proofs.any_overlap.Tie as tie
 
 abbrev invariant-loop : tie.invariant-loop
 invariant-loop macros k found₀ i m j₀ found j =
-    (j ≤ k) × (found ≡ false) × (any (interiorsMeet m) (drop (i + 1) (macrosOf macros)) ≡ any (interiorsMeet m) (drop j (macrosOf macros)))
+    (j ≤ k) × (found ≡ false) × (any (interiors_meet m) (drop (i + 1) (macros_of macros)) ≡ any (interiors_meet m) (drop j (macros_of macros)))
 
 abbrev decreases-loop : tie.decreases-loop
 decreases-loop macros k found₀ i m j₀ found j = k - j
 
 abbrev invariant-search : tie.invariant-search
 invariant-search macros k found₀ i₀ found i =
-    (i ≤ k) × (found ≡ false) × (anyTwo interiorsMeet (macrosOf macros) ≡ anyTwo interiorsMeet (drop i (macrosOf macros)))
+    (i ≤ k) × (found ≡ false) × (any_two interiors_meet (macros_of macros) ≡ any_two interiors_meet (drop i (macros_of macros)))
 
 abbrev decreases-search : tie.decreases-search
 decreases-search macros k found₀ i₀ found i = k - i
@@ -43,11 +43,11 @@ interiors-meet-requires c κs = tt
 -- what the test of a pair says, of the list
 told : (c : tie.After-interiors-meet invariant-loop decreases-loop invariant-search decreases-search)
     → c.interiors-meet.result
-    ≡ interiorsMeet c.before.before.before.before.macro-at.result
-    (macroAt c.before.before.before.before.before.before.before.before.args.macros.now c.before.before.before.loop.j)
+    ≡ interiors_meet c.before.before.before.before.macro-at.result
+    (macro_at c.before.before.before.before.before.before.before.before.args.macros.now c.before.before.before.loop.j)
 told c =
     c.interiors-meet.ensures
-    ∙ ap (interiorsMeet c.before.before.before.before.macro-at.result) c.before.macro-at2.ensures
+    ∙ ap (interiors_meet c.before.before.before.before.macro-at.result) c.before.macro-at2.ensures
 
 loop-again : tie.Need-loop-preserved invariant-loop decreases-loop invariant-search decreases-search
 loop-again c =
@@ -56,7 +56,7 @@ loop-again c =
       omega arith,
       l.loop.invariant.1,
       l.loop.invariant.2
-          ∙ any-miss (interiorsMeet l.before.macro-at.result) _ _ _ (macros-next s l.loop.j (omega arith))
+          ∙ any-miss (interiors_meet l.before.macro-at.result) _ _ _ (macros-next s l.loop.j (omega arith))
           (sym (told c.before) ∙ c.if1.false),
     )
 
@@ -65,29 +65,29 @@ search-again c =
     let l = c.before in
     let o = l.before.before.before in
     let s = o.before.before.args.macros.now in
-    let none : any (interiorsMeet (macroAt s o.search.i)) (drop (o.search.i + 1) (macrosOf s)) ≡ false =
+    let none : any (interiors_meet (macro_at s o.search.i)) (drop (o.search.i + 1) (macros_of s)) ≡ false =
     rw (← l.before.macro-at.ensures) (l.loop.invariant.2
-    ∙ any-end (interiorsMeet l.before.macro-at.result) _ (macros-end s l.loop.j (omega arith)))
+    ∙ any-end (interiors_meet l.before.macro-at.result) _ (macros-end s l.loop.j (omega arith)))
     in
-    (omega arith, l.loop.invariant.1, o.search.invariant.2 ∙ two-miss interiorsMeet _ _ _ (macros-next s o.search.i (omega arith)) none)
+    (omega arith, l.loop.invariant.1, o.search.invariant.2 ∙ two-miss interiors_meet _ _ _ (macros-next s o.search.i (omega arith)) none)
 
 returns : tie.Need-returns invariant-loop decreases-loop invariant-search decreases-search
 returns c =
     let o = c.before in
     o.search.invariant.1
-    ∙ sym (o.search.invariant.2 ∙ two-end interiorsMeet _ (macros-end o.before.before.args.macros.now o.search.i (omega arith)))
+    ∙ sym (o.search.invariant.2 ∙ two-end interiors_meet _ (macros-end o.before.before.args.macros.now o.search.i (omega arith)))
 
 returns-2 : tie.Need-returns-2 invariant-loop decreases-loop invariant-search decreases-search
 returns-2 c =
     let l = c.before.before.before.before in
     let o = l.before.before.before in
     let s = o.before.before.args.macros.now in
-    let some : any (interiorsMeet (macroAt s o.search.i)) (drop (o.search.i + 1) (macrosOf s)) ≡ true =
+    let some : any (interiors_meet (macro_at s o.search.i)) (drop (o.search.i + 1) (macros_of s)) ≡ true =
     rw (← l.before.macro-at.ensures) (l.loop.invariant.2
-    ∙ any-hit (interiorsMeet l.before.macro-at.result) _ _ _ (macros-next s l.loop.j (omega arith))
+    ∙ any-hit (interiors_meet l.before.macro-at.result) _ _ _ (macros-next s l.loop.j (omega arith))
     (sym (told c.before) ∙ c.if1.true))
     in
-    sym (o.search.invariant.2 ∙ two-hit interiorsMeet _ _ _ (macros-next s o.search.i (omega arith)) some)
+    sym (o.search.invariant.2 ∙ two-hit interiors_meet _ _ _ (macros-next s o.search.i (omega arith)) some)
 
 pub any-overlap-spec : {M : Type 1} → statement M
 any-overlap-spec =

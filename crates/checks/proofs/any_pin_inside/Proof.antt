@@ -9,17 +9,17 @@ use Rattle.lists.specs.Any.{any}
 use Rattle.lists.proofs.AnyLaws.{any-hit, any-miss, any-end}
 use Rattle.plane.specs.declared.Place.{Place}
 use Rattle.plane.specs.Macro.{clear}
-use Rattle.plane.specs.Flat.{macrosOf}
-use Rattle.net.specs.Pins.{pinPlaces, pinAt}
+use Rattle.plane.specs.Flat.{macros_of}
+use Rattle.net.specs.Pins.{pin_places, pin_at}
 use Rattle.net.proofs.PinLaws.{pins-next, pins-end}
 use Rattle.plane.proofs.MacroLaws.{clear-of-itself}
-use Rattle.net.specs.Tests.{insideAny}
+use Rattle.net.specs.Tests.{inside_any}
 use Rattle.checks.proofs.any_pin_inside.Statement.{statement}
 use Rattle.checks.proofs.any_pin_inside.Tie as tie
 
 abbrev invariant-loop : tie.invariant-loop
 invariant-loop pins macros m i₀ i =
-    (i ≤ m) × (any (insideAny (macrosOf macros)) (pinPlaces pins) ≡ any (insideAny (macrosOf macros)) (drop i (pinPlaces pins)))
+    (i ≤ m) × (any (inside_any (macros_of macros)) (pin_places pins) ≡ any (inside_any (macros_of macros)) (drop i (pin_places pins)))
 
 abbrev decreases-loop : tie.decreases-loop
 decreases-loop pins macros m i₀ i = m - i
@@ -36,11 +36,11 @@ is-clear-requires c κs = tt
 -- what the call says, of the lists
 told : (c : tie.After-is-clear invariant-loop decreases-loop)
     → not c.is-clear.result
-    ≡ insideAny (macrosOf c.before.before.before.before.before.args.macros.now)
-    (pinAt c.before.before.before.before.before.args.pins.now c.before.before.before.loop.i)
-unfolding insideAny
+    ≡ inside_any (macros_of c.before.before.before.before.before.args.macros.now)
+    (pin_at c.before.before.before.before.before.args.pins.now c.before.before.before.loop.i)
+unfolding inside_any
 told c =
-    let ms = macrosOf c.before.before.before.before.before.args.macros.now in
+    let ms = macros_of c.before.before.before.before.before.args.macros.now in
     ap not c.is-clear.ensures ∙ ap (λ (p : Place). not (clear p p ms)) c.before.pin_at.ensures ∙ clear-of-itself _ ms
 
 returns : tie.Need-returns invariant-loop decreases-loop
@@ -48,7 +48,7 @@ returns c =
     let l = c.before.before.before.before in
     sym
     (l.loop.invariant.1
-    ∙ any-hit (insideAny _) _ _ _ (pins-next l.before.before.args.pins.now l.loop.i (omega arith))
+    ∙ any-hit (inside_any _) _ _ _ (pins-next l.before.before.args.pins.now l.loop.i (omega arith))
     (sym (told c.before) ∙ c.if1.true))
 
 loop-again : tie.Need-loop-preserved invariant-loop decreases-loop
@@ -56,14 +56,14 @@ loop-again c =
     let l = c.before.before.before.before in (
       omega arith,
       l.loop.invariant.1
-          ∙ any-miss (insideAny _) _ _ _ (pins-next l.before.before.args.pins.now l.loop.i (omega arith))
+          ∙ any-miss (inside_any _) _ _ _ (pins-next l.before.before.args.pins.now l.loop.i (omega arith))
           (sym (told c.before) ∙ c.if1.false),
     )
 
 returns-2 : tie.Need-returns-2 invariant-loop decreases-loop
 returns-2 c =
     let l = c.before in
-    sym (l.loop.invariant.1 ∙ any-end (insideAny _) _ (pins-end l.before.before.args.pins.now l.loop.i (omega arith)))
+    sym (l.loop.invariant.1 ∙ any-end (inside_any _) _ (pins-end l.before.before.args.pins.now l.loop.i (omega arith)))
 
 pub any-pin-inside-spec : {M : Type 1} → statement M
 any-pin-inside-spec =

@@ -6,14 +6,14 @@ use native.Mathlib.Omega.{arith}
 use lib.ListN.{drop}
 use Rattle.lists.specs.Any.{any}
 use Rattle.lists.proofs.AnyLaws.{any-hit, any-miss, any-end}
-use Rattle.net.specs.Pins.{pinPlaces, pinAt}
-use Rattle.net.specs.Tests.{placeOut}
+use Rattle.net.specs.Pins.{pin_places, pin_at}
+use Rattle.net.specs.Tests.{place_out}
 use Rattle.net.proofs.PinLaws.{pins-next, pins-end}
 use Rattle.checks.proofs.any_place_out.Statement.{statement}
 use Rattle.checks.proofs.any_place_out.Tie as tie
 
 abbrev invariant-loop : tie.invariant-loop
-invariant-loop pins m i₀ i = (i ≤ m) × (any placeOut (pinPlaces pins) ≡ any placeOut (drop i (pinPlaces pins)))
+invariant-loop pins m i₀ i = (i ≤ m) × (any place_out (pin_places pins) ≡ any place_out (drop i (pin_places pins)))
 
 abbrev decreases-loop : tie.decreases-loop
 decreases-loop pins m i₀ i = m - i
@@ -23,25 +23,25 @@ loop-holds c = (omega arith, refl)
 
 -- what the call says, of the list
 told : (c : tie.After-is-place-out invariant-loop decreases-loop) → c.is-place-out.result
-    ≡ placeOut (pinAt c.before.before.before.before.before.args.pins.now c.before.before.before.loop.i)
-told c = c.is-place-out.ensures ∙ ap placeOut c.before.pin_at.ensures
+    ≡ place_out (pin_at c.before.before.before.before.before.args.pins.now c.before.before.before.loop.i)
+told c = c.is-place-out.ensures ∙ ap place_out c.before.pin_at.ensures
 
 returns : tie.Need-returns invariant-loop decreases-loop
 returns c =
     let l = c.before.before.before.before in
     let next = pins-next l.before.before.args.pins.now l.loop.i (omega arith) in
-    sym (l.loop.invariant.1 ∙ any-hit placeOut _ _ _ next (sym (told c.before) ∙ c.if1.true))
+    sym (l.loop.invariant.1 ∙ any-hit place_out _ _ _ next (sym (told c.before) ∙ c.if1.true))
 
 loop-again : tie.Need-loop-preserved invariant-loop decreases-loop
 loop-again c =
     let l = c.before.before.before.before in
     let next = pins-next l.before.before.args.pins.now l.loop.i (omega arith) in
-    (omega arith, l.loop.invariant.1 ∙ any-miss placeOut _ _ _ next (sym (told c.before) ∙ c.if1.false))
+    (omega arith, l.loop.invariant.1 ∙ any-miss place_out _ _ _ next (sym (told c.before) ∙ c.if1.false))
 
 returns-2 : tie.Need-returns-2 invariant-loop decreases-loop
 returns-2 c =
     let l = c.before in
-    sym (l.loop.invariant.1 ∙ any-end placeOut _ (pins-end l.before.before.args.pins.now l.loop.i (omega arith)))
+    sym (l.loop.invariant.1 ∙ any-end place_out _ (pins-end l.before.before.args.pins.now l.loop.i (omega arith)))
 
 pub any-place-out-spec : {M : Type 1} → statement M
 any-place-out-spec =

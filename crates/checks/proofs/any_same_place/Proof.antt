@@ -4,17 +4,17 @@ use mathlib.Core.Path.{◌≡◌, refl, sym, ap, ◌∙◌}
 use Prim.Native.Nat.{◌≤◌, ◌-◌, ◌+◌}
 use native.Mathlib.Omega.{arith}
 use lib.ListN.{drop}
-use Rattle.lists.specs.Any.{any, anyTwo}
+use Rattle.lists.specs.Any.{any, any_two}
 use Rattle.lists.proofs.AnyLaws.{two-hit, two-miss, two-end}
 use Rattle.plane.specs.declared.Place.{Place}
-use Rattle.plane.specs.Place.{samePlace}
-use Rattle.net.specs.Pins.{pinCount, pinPlaces, pinAt}
+use Rattle.plane.specs.Place.{same_place}
+use Rattle.net.specs.Pins.{pin_count, pin_places, pin_at}
 use Rattle.net.proofs.PinLaws.{pins-next, pins-end}
 use Rattle.checks.proofs.any_same_place.Statement.{statement}
 use Rattle.checks.proofs.any_same_place.Tie as tie
 
 abbrev invariant-loop : tie.invariant-loop
-invariant-loop pins m i₀ i = (i ≤ m) × (anyTwo samePlace (pinPlaces pins) ≡ anyTwo samePlace (drop i (pinPlaces pins)))
+invariant-loop pins m i₀ i = (i ≤ m) × (any_two same_place (pin_places pins) ≡ any_two same_place (drop i (pin_places pins)))
 
 abbrev decreases-loop : tie.decreases-loop
 decreases-loop pins m i₀ i = m - i
@@ -26,7 +26,7 @@ loop-holds : tie.Need-loop-init invariant-loop decreases-loop
 loop-holds c = (omega arith, refl)
 
 add-is-among : tie.Need-overflow-add-is-among invariant-loop decreases-loop
-unfolding pinCount
+unfolding pin_count
 add-is-among c = omega arith
 
 is-among-requires : tie.Need-is-among-requires invariant-loop decreases-loop
@@ -35,12 +35,12 @@ is-among-requires c κs = tt
 -- what the call says, of the list
 told : (c : tie.After-is-among invariant-loop decreases-loop)
     → c.is_among.result
-    ≡ any (samePlace (pinAt c.before.before.before.before.before.args.pins.now c.before.before.before.loop.i))
-    (drop (c.before.before.before.loop.i + 1) (pinPlaces c.before.before.before.before.before.args.pins.now))
+    ≡ any (same_place (pin_at c.before.before.before.before.before.args.pins.now c.before.before.before.loop.i))
+    (drop (c.before.before.before.loop.i + 1) (pin_places c.before.before.before.before.before.args.pins.now))
 told c =
     let l = c.before.before.before in
     c.is_among.ensures
-    ∙ ap (λ (p : Place). any (samePlace p) (drop (l.loop.i + 1) (pinPlaces l.before.before.args.pins.now)))
+    ∙ ap (λ (p : Place). any (same_place p) (drop (l.loop.i + 1) (pin_places l.before.before.args.pins.now)))
     c.before.pin_at.ensures
 
 returns : tie.Need-returns invariant-loop decreases-loop
@@ -48,7 +48,7 @@ returns c =
     let l = c.before.before.before.before in
     sym
     (l.loop.invariant.1
-    ∙ two-hit samePlace _ _ _ (pins-next l.before.before.args.pins.now l.loop.i (omega arith))
+    ∙ two-hit same_place _ _ _ (pins-next l.before.before.args.pins.now l.loop.i (omega arith))
     (sym (told c.before) ∙ c.if1.true))
 
 loop-again : tie.Need-loop-preserved invariant-loop decreases-loop
@@ -56,14 +56,14 @@ loop-again c =
     let l = c.before.before.before.before in (
       omega arith,
       l.loop.invariant.1
-          ∙ two-miss samePlace _ _ _ (pins-next l.before.before.args.pins.now l.loop.i (omega arith))
+          ∙ two-miss same_place _ _ _ (pins-next l.before.before.args.pins.now l.loop.i (omega arith))
           (sym (told c.before) ∙ c.if1.false),
     )
 
 returns-2 : tie.Need-returns-2 invariant-loop decreases-loop
 returns-2 c =
     let l = c.before in
-    sym (l.loop.invariant.1 ∙ two-end samePlace _ (pins-end l.before.before.args.pins.now l.loop.i (omega arith)))
+    sym (l.loop.invariant.1 ∙ two-end same_place _ (pins-end l.before.before.args.pins.now l.loop.i (omega arith)))
 
 pub any-same-place-spec : {M : Type 1} → statement M
 any-same-place-spec =

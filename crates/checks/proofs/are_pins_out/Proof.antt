@@ -3,12 +3,12 @@
 use borrow.Author.Rules.{rules}
 use mathlib.Core.Path.{ap₂}
 use mathlib.Core.Bool.{◌||◌}
-use Rattle.net.specs.Tests.{pinsOutOfRange}
+use Rattle.net.specs.Tests.{pins_out_of_range}
 use Rattle.checks.proofs.are_pins_out.Statement.{statement}
 use Rattle.checks.proofs.are_pins_out.Tie as tie
 
 returns : tie.Need-returns
-unfolding pinsOutOfRange
+unfolding pins_out_of_range
 returns c = ap₂ ◌||◌ c.before.any-place-out.ensures c.any-no-load.ensures
 
 pub are-pins-out-spec : {M : Type 1} → statement M

@@ -9,7 +9,7 @@ use Rattle.lent.specs.Told.{given}
 use Rattle.plane.specs.declared.Weights.{Weights}
 use Rattle.net.specs.declared.Net.{Net}
 use Rattle.net.specs.declared.Weighing.{Weighing}
-use Rattle.net.specs.Pins.{pinCount, macroCount}
+use Rattle.net.specs.Pins.{pin_count, macro_count}
 use Rattle.net.specs.Answer.{number}
 use Rattle.checks.specs.Check.{told}
 use Rattle.checks.proofs.CheckLaws.{Past11, Past12, Past13-pins, Past13, Past14, Past15, Past16, Past17, Past18, refuse-11}
@@ -128,7 +128,7 @@ unfolding told
 returns-10 c =
     let s = start9 c.before.before.before in
     ap₂ (λ (m k : ℕ). given (counts m k c.weights-of.result)) c.before.before.pin-count.ensures c.before.macro-count.ensures
-    ∙ ap (λ (v : Weights). given (counts (pinCount (pins-of s)) (macroCount (macros-of s)) v)) c.weights-of.ensures
+    ∙ ap (λ (v : Weights). given (counts (pin_count (pins-of s)) (macro_count (macros-of s)) v)) c.weights-of.ensures
     ∙ sym (allow _ _ _ (past9 c.before.before.before))
 
 pub check-spec : {M : Type 1} → statement M

@@ -4,7 +4,7 @@ use borrow.Author.Rules.{rules}
 use mathlib.Core.Path.{◌≡◌, refl}
 use mir.Syntax.{w32}
 use mir.ValLaws.{to_z-of_z}
-use Rattle.plane.specs.Macro.{spanMeets, meets}
+use Rattle.plane.specs.Macro.{span_meets, meets}
 use Rattle.plane.proofs.Fits.{PlaceFits, MacroFits}
 use Rattle.clear.proofs.box_meets.Statement.{statement}
 use Rattle.clear.proofs.box_meets.Tie as tie
@@ -20,7 +20,7 @@ module _ (s : tie.Start) where
   of-m = record { left = search rules; bottom = search rules; right = search rules; top = search rules }
 
 across : (c : tie.After-span-meets) → let s = c.before.before.before.before.before in
-    c.span-meets.result ≡ spanMeets s.args.a.x s.args.b.x s.args.m.left s.args.m.right
+    c.span-meets.result ≡ span_meets s.args.a.x s.args.b.x s.args.m.left s.args.m.right
 across c =
     let s = c.before.before.before.before.before in
     rw (to_z-of_z w32 _ (of-a s).x, to_z-of_z w32 _ (of-b s).x, to_z-of_z w32 _ (of-m s).left, to_z-of_z w32 _ (of-m s).right)
@@ -31,7 +31,7 @@ unfolding meets
 returns c =
     let d = c.before.before.before.before.before.before in
     let s = d.before.before.before.before.before in
-    let u : c.span-meets2.result ≡ spanMeets s.args.a.y s.args.b.y s.args.m.bottom s.args.m.top =
+    let u : c.span-meets2.result ≡ span_meets s.args.a.y s.args.b.y s.args.m.bottom s.args.m.top =
     rw (to_z-of_z w32 _ (of-a s).y, to_z-of_z w32 _ (of-b s).y, to_z-of_z w32 _ (of-m s).bottom, to_z-of_z w32 _ (of-m s).top)
     at c.span-meets2.ensures in
     rw (← across d, c.before.before.before.before.before.if1.true) u

@@ -4,7 +4,7 @@ use borrow.Author.Rules.{rules}
 use mathlib.Core.Path.{◌≡◌, refl}
 use mir.Syntax.{w32}
 use mir.ValLaws.{to_z-of_z}
-use Rattle.plane.specs.Macro.{openSpansMeet, interiorsMeet}
+use Rattle.plane.specs.Macro.{open_spans_meet, interiors_meet}
 use Rattle.plane.proofs.Fits.{MacroFits}
 use Rattle.clear.proofs.interiors_meet.Statement.{statement}
 use Rattle.clear.proofs.interiors_meet.Tie as tie
@@ -17,14 +17,14 @@ module _ (s : tie.Start) where
   of-n = record { left = search rules; bottom = search rules; right = search rules; top = search rules }
 
 across : (c : tie.After-open-spans-meet) → let s = c.before.before.before.before.before in
-    c.open-spans-meet.result ≡ openSpansMeet s.args.m.left s.args.m.right s.args.n.left s.args.n.right
+    c.open-spans-meet.result ≡ open_spans_meet s.args.m.left s.args.m.right s.args.n.left s.args.n.right
 across c =
     let s = c.before.before.before.before.before in
     rw (to_z-of_z w32 _ (of-m s).left, to_z-of_z w32 _ (of-m s).right, to_z-of_z w32 _ (of-n s).left, to_z-of_z w32 _ (of-n s).right)
     at c.open-spans-meet.ensures
 
 returns : tie.Need-returns
-unfolding interiorsMeet
+unfolding interiors_meet
 returns c =
     let d = c.before.before.before.before.before.before in
     let s = d.before.before.before.before.before in
@@ -33,7 +33,7 @@ returns c =
     at c.open-spans-meet2.ensures)
 
 returns-2 : tie.Need-returns-2
-unfolding interiorsMeet
+unfolding interiors_meet
 returns-2 c = rw (← across c.before, c.if1.false) refl
 
 pub interiors-meet-spec : {M : Type 1} → statement M

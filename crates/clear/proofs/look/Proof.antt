@@ -1,6 +1,6 @@
 -- `clear::look` meets its contract: a macro that blocks settles it, and else all are asked.
 -- Assumes nothing.
-use Rattle.plane.specs.Flat.{macrosOf}
+use Rattle.plane.specs.Flat.{macros_of}
 use Rattle.plane.proofs.MacroLaws.{clear-is}
 use Rattle.clear.proofs.look.Statement.{statement}
 use Rattle.clear.proofs.look.Tie as tie
@@ -8,7 +8,7 @@ use Rattle.clear.proofs.look.Tie as tie
 returns : tie.Need-returns
 returns c =
     let s = c.before.before in
-    clear-is _ _ (macrosOf s.args.macros.now) (c.before.is-blocked.ensures c.if1.true)
+    clear-is _ _ (macros_of s.args.macros.now) (c.before.is-blocked.ensures c.if1.true)
 
 returns-2 : tie.Need-returns-2
 returns-2 c = c.look-around.ensures

@@ -8,14 +8,14 @@ use Rattle.lists.specs.Any.{any}
 use Rattle.lists.proofs.AnyLaws.{any-hit, any-miss, any-end}
 use Rattle.plane.specs.declared.Macro.{Macro}
 use Rattle.plane.specs.Macro.{meets}
-use Rattle.plane.specs.Flat.{macrosOf, macroAt}
+use Rattle.plane.specs.Flat.{macros_of, macro_at}
 use Rattle.plane.proofs.FlatLaws.{macros-next, macros-end}
 use Rattle.plane.proofs.MacroLaws.{clear-is}
 use Rattle.clear.proofs.look_around.Statement.{statement}
 use Rattle.clear.proofs.look_around.Tie as tie
 
 abbrev invariant-loop : tie.invariant-loop
-invariant-loop a b macros by k i₀ i = (i ≤ k) × (any (meets a b) (macrosOf macros) ≡ any (meets a b) (drop i (macrosOf macros)))
+invariant-loop a b macros by k i₀ i = (i ≤ k) × (any (meets a b) (macros_of macros) ≡ any (meets a b) (drop i (macros_of macros)))
 
 abbrev decreases-loop : tie.decreases-loop
 decreases-loop a b macros by k i₀ i = k - i
@@ -23,7 +23,7 @@ decreases-loop a b macros by k i₀ i = k - i
 -- what the call says, of the list
 met : (c : tie.After-box-meets invariant-loop decreases-loop) →
     let s = c.before.before.before.before in
-    c.box-meets.result ≡ meets s.args.a s.args.b (macroAt s.args.macros.now c.before.before.before.loop.i)
+    c.box-meets.result ≡ meets s.args.a s.args.b (macro_at s.args.macros.now c.before.before.before.loop.i)
 met c =
     let s = c.before.before.before.before in
     c.box-meets.ensures ∙ ap (λ (m : Macro). meets s.args.a s.args.b m) c.before.macro-at.ensures
@@ -33,7 +33,7 @@ returns c =
     let l = c.before.before.before.before in
     let s = l.before.args.macros.now in
     let hit = any-hit _ _ _ _ (macros-next s l.loop.i (omega arith)) (sym (met c.before) ∙ c.if1.true) in
-    clear-is _ _ (macrosOf s) (l.loop.invariant.1 ∙ hit)
+    clear-is _ _ (macros_of s) (l.loop.invariant.1 ∙ hit)
 
 loop-again : tie.Need-loop-preserved invariant-loop decreases-loop
 loop-again c =
@@ -45,7 +45,7 @@ returns-2 : tie.Need-returns-2 invariant-loop decreases-loop
 returns-2 c =
     let l = c.before in
     let s = l.before.args.macros.now in
-    clear-is _ _ (macrosOf s) (l.loop.invariant.1 ∙ any-end _ _ (macros-end s l.loop.i (omega arith)))
+    clear-is _ _ (macros_of s) (l.loop.invariant.1 ∙ any-end _ _ (macros-end s l.loop.i (omega arith)))
 
 pub look-around-spec : {M : Type 1} → statement M
 look-around-spec =

@@ -9,35 +9,35 @@ use mir.Syntax.{w32}
 use mir.Val.{SFits}
 use mir.ValLaws.{to_z-of_z}
 use Rattle.signed.proofs.Bits.{flag-lt}
-use Rattle.signed.specs.Order.{minZ, maxZ}
-use Rattle.plane.specs.Macro.{spanMeets}
+use Rattle.signed.specs.Order.{z_min, z_max}
+use Rattle.plane.specs.Macro.{span_meets}
 use Rattle.clear.proofs.span_meets.Statement.{statement}
 use Rattle.clear.proofs.span_meets.Tie as tie
 
-small_is : (c : tie.After-smaller) → c.smaller.result ≡ minZ c.before.args.a c.before.args.b
+small_is : (c : tie.After-smaller) → c.smaller.result ≡ z_min c.before.args.a c.before.args.b
 small_is c = rw (to_z-of_z w32 _ c.before.ranges.a, to_z-of_z w32 _ c.before.ranges.b) at c.smaller.ensures
 
 small-fits : (c : tie.After-smaller) → SFits w32 c.smaller.result
 small-fits c = search rules
 
 returns : tie.Need-returns
-unfolding spanMeets
+unfolding span_meets
 returns c =
     let s = c.before.before.before in
     let d = c.before.before in
-    let g : c.greater.result ≡ maxZ s.args.a s.args.b =
+    let g : c.greater.result ≡ z_max s.args.a s.args.b =
     rw (to_z-of_z w32 _ s.ranges.a, to_z-of_z w32 _ s.ranges.b) at c.greater.ensures in
-    let t : lt_z (minZ s.args.a s.args.b) s.args.to ≡ true =
+    let t : lt_z (z_min s.args.a s.args.b) s.args.to ≡ true =
     subst (λ (z : ℤ). lt_z z s.args.to ≡ true) (small_is d) (flag-lt w32 _ _ (small-fits d) s.ranges.to c.before.if1.true) in
     let f : SFits w32 c.greater.result = search rules in
     rw (to_z-of_z w32 _ s.ranges.from, to_z-of_z w32 c.greater.result f, g, t) refl
 
 returns-2 : tie.Need-returns-2
-unfolding spanMeets
+unfolding span_meets
 returns-2 c =
     let s = c.before.before in
     let d = c.before in
-    let t : lt_z (minZ s.args.a s.args.b) s.args.to ≡ false =
+    let t : lt_z (z_min s.args.a s.args.b) s.args.to ≡ false =
     subst (λ (z : ℤ). lt_z z s.args.to ≡ false) (small_is d) (flag-lt w32 _ _ (small-fits d) s.ranges.to c.if1.false) in
     c.if1.false ∙ rw t refl
 

@@ -6,11 +6,11 @@ use native.Mathlib.Omega.{arith}
 use lib.ListN.{length, drop}
 use Rattle.lists.specs.Any.{any}
 use Rattle.lists.proofs.AnyLaws.{any-hit, any-miss, any-end}
-use Rattle.blocks.specs.Sizes.{blockWords, blockBytes}
+use Rattle.blocks.specs.Sizes.{block_words, block_bytes}
 use Rattle.blocks.specs.Words.{words_of}
-use Rattle.blocks.specs.Sums.{wrongSums}
+use Rattle.blocks.specs.Sums.{wrong_sums}
 use Rattle.blocks.specs.Block.{block_of}
-use Rattle.decoded.specs.Held.{blocksOf, sumsWrong}
+use Rattle.decoded.specs.Held.{blocks_of, sums_wrong}
 use Rattle.blocks.proofs.BytesLaws.{block-full}
 use Rattle.decoded.proofs.ReadLaws.{blocks-next, blocks_end}
 use Rattle.decoded.proofs.any_wrong_sums.Statement.{statement}
@@ -18,16 +18,16 @@ use Rattle.decoded.proofs.any_wrong_sums.Tie as tie
 
 abbrev invariant-loop : tie.invariant-loop
 invariant-loop bytes n b₀ b =
-    (b ≤ n) × (any wrongSums (blocksOf n (words_of bytes)) ≡ any wrongSums (blocksOf (n - b) (drop (b * blockWords) (words_of bytes))))
+    (b ≤ n) × (any wrong_sums (blocks_of n (words_of bytes)) ≡ any wrong_sums (blocks_of (n - b) (drop (b * block_words) (words_of bytes))))
 
 abbrev decreases-loop : tie.decreases-loop
 decreases-loop bytes n b₀ b = n - b
 
 loop-holds : tie.Need-loop-init invariant-loop decreases-loop
 loop-holds c =
-    let n = length c.before.args.bytes.now / blockBytes in
+    let n = length c.before.args.bytes.now / block_bytes in
     let e : n ≡ n - 0 = omega arith in
-    (omega arith, ap (λ (k : ℕ). any wrongSums (blocksOf k (words_of c.before.args.bytes.now))) e)
+    (omega arith, ap (λ (k : ℕ). any wrong_sums (blocks_of k (words_of c.before.args.bytes.now))) e)
 
 has-wrong-sums-requires : tie.Need-has-wrong-sums-requires invariant-loop decreases-loop
 has-wrong-sums-requires c κs =
@@ -36,17 +36,17 @@ has-wrong-sums-requires c κs =
 
 -- what the calls say, of the words
 met : (c : tie.After-has-wrong-sums invariant-loop decreases-loop) → c.has-wrong-sums.result
-    ≡ wrongSums (block_of c.before.before.before.loop.b (words_of c.before.before.before.before.before.args.bytes.now))
-met c = c.has-wrong-sums.ensures ∙ ap wrongSums c.before.block_at.ensures
+    ≡ wrong_sums (block_of c.before.before.before.loop.b (words_of c.before.before.before.before.before.args.bytes.now))
+met c = c.has-wrong-sums.ensures ∙ ap wrong_sums c.before.block_at.ensures
 
 returns : tie.Need-returns invariant-loop decreases-loop
-unfolding sumsWrong
+unfolding sums_wrong
 returns c =
     let l = c.before.before.before.before in
     let s = l.before.before.args.bytes.now in
     sym
     (l.loop.invariant.1
-    ∙ any-hit wrongSums _ _ _ (blocks-next (length s / blockBytes) l.loop.b (words_of s) (omega arith))
+    ∙ any-hit wrong_sums _ _ _ (blocks-next (length s / block_bytes) l.loop.b (words_of s) (omega arith))
     (sym (met c.before) ∙ c.if1.true))
 
 loop-again : tie.Need-loop-preserved invariant-loop decreases-loop
@@ -55,16 +55,16 @@ loop-again c =
     let s = l.before.before.args.bytes.now in (
       omega arith,
       l.loop.invariant.1
-          ∙ any-miss wrongSums _ _ _ (blocks-next (length s / blockBytes) l.loop.b (words_of s) (omega arith))
+          ∙ any-miss wrong_sums _ _ _ (blocks-next (length s / block_bytes) l.loop.b (words_of s) (omega arith))
           (sym (met c.before) ∙ c.if1.false),
     )
 
 returns-2 : tie.Need-returns-2 invariant-loop decreases-loop
-unfolding sumsWrong
+unfolding sums_wrong
 returns-2 c =
     let l = c.before in
     let s = l.before.before.args.bytes.now in
-    sym (l.loop.invariant.1 ∙ any-end wrongSums _ (blocks_end (length s / blockBytes) l.loop.b (words_of s) (omega arith)))
+    sym (l.loop.invariant.1 ∙ any-end wrong_sums _ (blocks_end (length s / block_bytes) l.loop.b (words_of s) (omega arith)))
 
 pub any-wrong-sums-spec : {M : Type 1} → statement M
 any-wrong-sums-spec =

@@ -7,8 +7,8 @@ use lib.Dec.{eqb}
 use Prim.Native.Nat.{ℕ, ◌-◌, ◌+◌, ◌/◌}
 use native.Mathlib.Omega.{arith}
 use lib.ListN.{length}
-use Rattle.blocks.specs.Sizes.{blockBytes, blocksFor}
-use Rattle.decoded.specs.Held.{countsWrong}
+use Rattle.blocks.specs.Sizes.{block_bytes, blocks_for}
+use Rattle.decoded.specs.Held.{counts_wrong}
 use Rattle.blocks.proofs.SizeLaws.{no_more}
 use borrow.Author.Rules.{rules}
 use Rattle.decoded.proofs.counts_wrong.Statement.{statement}
@@ -22,13 +22,13 @@ add-result-2 c =
     omega (arith, no_more c.before.before.before.pin-length.result, no_more c.before.macro-length.result)
 
 returns : tie.Need-returns
-unfolding countsWrong
+unfolding counts_wrong
 returns c =
     let p = c.before.before in
     let b = p.before.before.before.args.bytes.now in
-    ap₂ (λ (n k : ℕ). not (eqb (length b / blockBytes) (1 + n + k)))
-    (p.blocks-for.ensures ∙ ap blocksFor p.before.pin-length.ensures)
-    (c.blocks-for2.ensures ∙ ap blocksFor c.before.macro-length.ensures)
+    ap₂ (λ (n k : ℕ). not (eqb (length b / block_bytes) (1 + n + k)))
+    (p.blocks-for.ensures ∙ ap blocks_for p.before.pin-length.ensures)
+    (c.blocks-for2.ensures ∙ ap blocks_for c.before.macro-length.ensures)
 
 pub counts-wrong-spec : {M : Type 1} → statement M
 counts-wrong-spec =

@@ -3,14 +3,14 @@
 use mathlib.Core.Path.{sym, ◌∙◌}
 use Prim.Native.Nat.{◌-◌}
 use native.Mathlib.Omega.{arith}
-use Rattle.decoded.specs.Held.{headWord}
+use Rattle.decoded.specs.Held.{head_word}
 use Rattle.blocks.proofs.BytesLaws.{word-is}
 use borrow.Author.Rules.{rules}
 use Rattle.decoded.proofs.head_word.Statement.{statement}
 use Rattle.decoded.proofs.head_word.Tie as tie
 
 returns : tie.Need-returns
-unfolding headWord
+unfolding head_word
 returns c =
     let s = c.before.before in
     (c.word_at.ensures ∙ sym (word-is s.args.bytes.now s.args.i s.requires), omega arith)

@@ -2,13 +2,13 @@
 -- Assumes nothing.
 use mathlib.Core.Path.{ap₂}
 use mathlib.Core.Bool.{◌||◌}
-use Rattle.decoded.specs.Held.{headWrong}
+use Rattle.decoded.specs.Held.{head_wrong}
 use borrow.Author.Rules.{rules}
 use Rattle.decoded.proofs.head_wrong.Statement.{statement}
 use Rattle.decoded.proofs.head_wrong.Tie as tie
 
 returns : tie.Need-returns
-unfolding headWrong
+unfolding head_wrong
 returns c = ap₂ ◌||◌ c.before.counts-wrong.ensures c.weights-miswritten.ensures
 
 pub head-wrong-spec : {M : Type 1} → statement M

@@ -5,7 +5,7 @@ use Prim.Native.Nat.{◌-◌, ◌+◌, ◌*◌}
 use native.Mathlib.Omega.{arith}
 use mir.Syntax.{w32}
 use mir.ValLaws.{to_z-of_z}
-use Rattle.blocks.specs.Sizes.{blockWords}
+use Rattle.blocks.specs.Sizes.{block_words}
 use Rattle.blocks.specs.Words.{coordinate}
 use Rattle.decoded.specs.Held.{place_in, number_in}
 use Rattle.blocks.proofs.BytesLaws.{word-is}
@@ -21,7 +21,7 @@ returns c =
     to_z-of_z w32 _ (search rules)
     ∙ c.coordinate-of.ensures
     ∙ ap coordinate
-    (c.before.word_at.ensures ∙ sym (word-is b (s.args.b * blockWords + place_in s.args.j) (omega arith)))
+    (c.before.word_at.ensures ∙ sym (word-is b (s.args.b * block_words + place_in s.args.j) (omega arith)))
 
 pub number-in-spec : {M : Type 1} → statement M
 number-in-spec =

@@ -2,8 +2,8 @@
 -- Assumes nothing.
 use mathlib.Core.Path.{sym, ap, ◌∙◌}
 use Prim.Native.Nat.{ℕ, ◌*◌}
-use Rattle.net.specs.Bounds.{pinWidth}
-use Rattle.blocks.specs.Sizes.{placeWidth}
+use Rattle.net.specs.Bounds.{pin_width}
+use Rattle.blocks.specs.Sizes.{place_width}
 use Rattle.decoded.proofs.HeldLaws.{long-with, long-alone}
 use borrow.Author.Rules.{rules}
 use Rattle.decoded.proofs.pin_length.Statement.{statement}
@@ -13,14 +13,14 @@ returns : tie.Need-returns
 returns c =
     let l = c.before in
     let h = l.before in
-    ap (λ (n : ℕ). n * pinWidth) h.head-word.ensures.0
+    ap (λ (n : ℕ). n * pin_width) h.head-word.ensures.0
     ∙ sym (long-with h.before.before.args.bytes.now (sym l.are-loaded-in.ensures ∙ c.if1.true))
 
 returns-2 : tie.Need-returns-2
 returns-2 c =
     let l = c.before in
     let h = l.before in
-    ap (λ (n : ℕ). n * placeWidth) h.head-word.ensures.0
+    ap (λ (n : ℕ). n * place_width) h.head-word.ensures.0
     ∙ sym (long-alone h.before.before.args.bytes.now (sym l.are-loaded-in.ensures ∙ c.if1.false))
 
 pub pin-length-spec : {M : Type 1} → statement M

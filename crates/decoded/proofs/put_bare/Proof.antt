@@ -11,13 +11,13 @@ use lib.Seq.{sets}
 use Rattle.lent.specs.Over.{over}
 use Rattle.lent.specs.Entries.{flat}
 use Rattle.plane.specs.declared.Place.{Place}
-use Rattle.plane.specs.Flat.{places_of, placeAt}
+use Rattle.plane.specs.Flat.{places_of, place_at}
 use Rattle.plane.proofs.FlatLaws.{places-next, places-end, length-places}
-use Rattle.net.specs.Bounds.{pinWidth}
-use Rattle.net.specs.Pins.{pinFrom, pinNumbers, bare, flatPins}
+use Rattle.net.specs.Bounds.{pin_width}
+use Rattle.net.specs.Pins.{pin_from, pin_numbers, bare, flat_pins}
 use Rattle.net.proofs.WidthLaws.{pin-width}
 use Rattle.net.proofs.PinLaws.{length-flat-pins}
-use Rattle.blocks.specs.Sizes.{placeWidth}
+use Rattle.blocks.specs.Sizes.{place_width}
 use Rattle.blocks.proofs.FillLaws.{fill_more, fill-all, map-drop}
 use Rattle.decoded.proofs.put_bare.Statement.{statement}
 use Rattle.decoded.proofs.put_bare.Tie as tie
@@ -28,24 +28,24 @@ entries_at places = map bare (places_of places)
 
 abbrev invariant-loop : tie.invariant-loop
 invariant-loop places pins₀ m i₀ pins i =
-    (i ≤ m) × ((length pins ≡ length pins₀) × (pins ≡ over (flat pinNumbers (take i (entries_at places))) pins₀))
+    (i ≤ m) × ((length pins ≡ length pins₀) × (pins ≡ over (flat pin_numbers (take i (entries_at places))) pins₀))
 
 abbrev decreases-loop : tie.decreases-loop
 decreases-loop places pins₀ m i₀ pins i = m - i
 
 -- the next of them, and the end
-next : (s : List ℤ) (i : ℕ) → i < length s / placeWidth → drop i (entries_at s) ≡ bare (placeAt s i) ∷ drop (i + 1) (entries_at s)
+next : (s : List ℤ) (i : ℕ) → i < length s / place_width → drop i (entries_at s) ≡ bare (place_at s i) ∷ drop (i + 1) (entries_at s)
 next s i h =
     sym (map-drop bare i (places_of s))
     ∙ ap (map bare) (places-next s i (omega arith))
-    ∙ ap (λ (l : List (Place × ℤ)). bare (placeAt s i) ∷ l) (map-drop bare (i + 1) (places_of s))
+    ∙ ap (λ (l : List (Place × ℤ)). bare (place_at s i) ∷ l) (map-drop bare (i + 1) (places_of s))
 
-end : (s : List ℤ) (i : ℕ) → length s / placeWidth ≤ i → drop i (entries_at s) ≡ []
+end : (s : List ℤ) (i : ℕ) → length s / place_width ≤ i → drop i (entries_at s) ≡ []
 end s i h = sym (map-drop bare i (places_of s)) ∙ ap (map bare) (places-end s i (omega arith))
 
 -- how many numbers all of them have
-all-long : (s : List ℤ) → length (flatPins (places_of s)) ≡ length s / placeWidth * pinWidth
-all-long s = length-flat-pins (places_of s) ∙ ap (λ (n : ℕ). n * pinWidth) (length-places s)
+all-long : (s : List ℤ) → length (flat_pins (places_of s)) ≡ length s / place_width * pin_width
+all-long s = length-flat-pins (places_of s) ∙ ap (λ (n : ℕ). n * pin_width) (length-places s)
 
 loop-holds : tie.Need-loop-init invariant-loop decreases-loop
 unfolding over flat
@@ -66,8 +66,8 @@ loop-again c =
       (
         d.put-bare-pin.auto.0 ∙ l.loop.invariant.1.0,
         d.put-bare-pin.ensures
-            ∙ ap (λ (p : Place). sets l.loop.pins (i * pinWidth) (pinNumbers (bare p))) d.before.place_at.ensures
-            ∙ fill_more pinNumbers pinFrom pinWidth pin-width (entries_at s) i _ _ _ _ (next s i (omega arith)) l.loop.invariant.1.1
+            ∙ ap (λ (p : Place). sets l.loop.pins (i * pin_width) (pin_numbers (bare p))) d.before.place_at.ensures
+            ∙ fill_more pin_numbers pin_from pin_width pin-width (entries_at s) i _ _ _ _ (next s i (omega arith)) l.loop.invariant.1.1
             (omega (arith, all-long s)),
       ),
     )
@@ -76,11 +76,11 @@ same_length : tie.Need-same-length invariant-loop decreases-loop
 same_length c = c.before.loop.invariant.1.0
 
 returns : tie.Need-returns invariant-loop decreases-loop
-unfolding flatPins
+unfolding flat_pins
 returns c =
     let l = c.before in
     let s = l.before.args.places.now in
-    fill-all pinNumbers pinFrom pinWidth pin-width (entries_at s) l.loop.i _ _ (end s l.loop.i (omega arith)) l.loop.invariant.1.1
+    fill-all pin_numbers pin_from pin_width pin-width (entries_at s) l.loop.i _ _ (end s l.loop.i (omega arith)) l.loop.invariant.1.1
 
 pub put-bare-spec : {M : Type 1} → statement M
 put-bare-spec =

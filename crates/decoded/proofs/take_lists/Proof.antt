@@ -5,7 +5,7 @@ use mathlib.Core.List.{List}
 use native.Mathlib.Omega.{arith}
 use lib.IntN.{ℤ}
 use Rattle.lent.specs.Over.{over}
-use Rattle.blocks.specs.Sizes.{blocksFor}
+use Rattle.blocks.specs.Sizes.{blocks_for}
 use Rattle.decoded.specs.Held.{Sized}
 use Rattle.blocks.proofs.SizeLaws.{pins-few}
 use Rattle.decoded.proofs.ReadLaws.{blocks-few}
@@ -31,7 +31,7 @@ add-take-numbers c =
     omega (arith, blocks-few h.before.before.before.args.bytes.now _ _ (sized h))
 
 take-numbers-requires : tie.Need-take-numbers-requires
-unfolding blocksFor
+unfolding blocks_for
 take-numbers-requires c κs = (omega (arith, (sized c.before.before.before.before.before).fit), omega arith)
 
 returns : tie.Need-returns

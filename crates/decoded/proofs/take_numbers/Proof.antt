@@ -11,7 +11,7 @@ use lib.ListN.{length, set, length-set}
 use mir.Syntax.{w32}
 use mir.ValLaws.{to_z-of_z}
 use Rattle.lent.specs.Over.{over}
-use Rattle.decoded.specs.Held.{numbersIn}
+use Rattle.decoded.specs.Held.{numbers_in}
 use Rattle.blocks.proofs.SizeLaws.{block_within}
 use Rattle.decoded.proofs.ReadLaws.{numbers_more}
 use Rattle.decoded.proofs.take_numbers.Statement.{statement}
@@ -19,13 +19,13 @@ use Rattle.decoded.proofs.take_numbers.Tie as tie
 
 abbrev invariant-loop : tie.invariant-loop
 invariant-loop bytes b n numbers₀ j₀ numbers j =
-    (j ≤ n) × ((length numbers ≡ length numbers₀) × (numbers ≡ over (numbersIn bytes b 0 j) numbers₀))
+    (j ≤ n) × ((length numbers ≡ length numbers₀) × (numbers ≡ over (numbers_in bytes b 0 j) numbers₀))
 
 abbrev decreases-loop : tie.decreases-loop
 decreases-loop bytes b n numbers₀ j₀ numbers j = n - j
 
 loop-holds : tie.Need-loop-init invariant-loop decreases-loop
-unfolding over numbersIn
+unfolding over numbers_in
 loop-holds c = (omega arith, (refl, refl))
 
 number-in-requires : tie.Need-number-in-requires invariant-loop decreases-loop

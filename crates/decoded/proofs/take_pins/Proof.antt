@@ -8,9 +8,9 @@ use lib.IntN.{ℤ, pos}
 use lib.ListN.{length, take, replicate}
 use Rattle.lent.specs.Over.{over}
 use Rattle.plane.specs.Flat.{places_of}
-use Rattle.net.specs.Pins.{flatPins}
-use Rattle.blocks.specs.Sizes.{blockBytes, blocksFor, fileNumbers}
-use Rattle.decoded.specs.Held.{pinLength, numbersIn, storedIn, pinsIn}
+use Rattle.net.specs.Pins.{flat_pins}
+use Rattle.blocks.specs.Sizes.{block_bytes, blocks_for, file_numbers}
+use Rattle.decoded.specs.Held.{pin_length, numbers_in, stored_in, pins_in}
 use Rattle.blocks.proofs.FillLaws.{part-of-over, over-long}
 use Rattle.decoded.proofs.ReadLaws.{length-numbers}
 use Rattle.decoded.proofs.HeldLaws.{in-with, in-alone, length-stored-in, stored-taken}
@@ -22,7 +22,7 @@ abbrev bytes_of : tie.Start → List ℕ
 bytes_of s = s.args.bytes.now
 
 -- the blocks of so many numbers are in the file
-blocks-there : (s : tie.Start) (n : ℕ) → n ≡ pinLength (bytes_of s) → (1 + blocksFor n) * blockBytes ≤ length (bytes_of s)
+blocks-there : (s : tie.Start) (n : ℕ) → n ≡ pin_length (bytes_of s) → (1 + blocks_for n) * block_bytes ≤ length (bytes_of s)
 blocks-there s n e = rw e s.requires.0
 
 -- With loads
@@ -31,7 +31,7 @@ module _ (c : tie.Then1) where
   abbrev start-with : tie.Start
   start-with = c.before.before.before.before
 
-  with-is : pinsIn (bytes_of start-with) ≡ storedIn (bytes_of start-with)
+  with-is : pins_in (bytes_of start-with) ≡ stored_in (bytes_of start-with)
   with-is = in-with _ (sym c.before.are-loaded-in.ensures ∙ c.if1.true)
 
   with-fits : c.before.before.pin-length.result ≤ length start-with.args.pins.now
@@ -41,7 +41,7 @@ module _ (c : tie.Then1) where
 
 -- the blocks of other counts would be known here too: a wrong count is refused by `returns`, for what it gives
 take-numbers-requires : tie.Need-take-numbers-requires
-unfolding blocksFor
+unfolding blocks_for
 take-numbers-requires c κs =
     let t = c.before in
     let there = blocks-there (start-with t) _ t.before.before.pin-length.ensures in
@@ -67,10 +67,10 @@ module _ (c : tie.Else1) where
   abbrev count : ℕ
   count = c.before.before.pin-length.result
 
-  count-is : count ≡ pinLength bytes
+  count-is : count ≡ pin_length bytes
   count-is = c.before.before.pin-length.ensures
 
-  alone-is : pinsIn bytes ≡ flatPins (places_of (storedIn bytes))
+  alone-is : pins_in bytes ≡ flat_pins (places_of (stored_in bytes))
   alone-is = in-alone _ (sym c.before.are-loaded-in.ensures ∙ c.if1.false)
 
 take-numbers-requires-2 : tie.Need-take-numbers-requires-2
@@ -86,19 +86,19 @@ module _ (q : tie.After-take-numbers2) where
   abbrev table : List ℤ
   table = q.take-numbers2.last.1.1.1.0
 
-  table_is : table ≡ over (storedIn (bytes before-it)) (replicate fileNumbers (pos 0))
+  table_is : table ≡ over (stored_in (bytes before-it)) (replicate file_numbers (pos 0))
   table_is =
       q.take-numbers2.ensures
-      ∙ ap (λ (l : List ℤ). over l (replicate fileNumbers (pos 0))) (stored-taken (bytes before-it) _ (count-is before-it))
+      ∙ ap (λ (l : List ℤ). over l (replicate file_numbers (pos 0))) (stored-taken (bytes before-it) _ (count-is before-it))
 
-  table-part : take (count before-it - 0) table ≡ storedIn (bytes before-it)
-  table-part = part-of-over _ _ (replicate fileNumbers (pos 0)) _ table_is (length-stored-in (bytes before-it) ∙ sym (count-is before-it))
+  table-part : take (count before-it - 0) table ≡ stored_in (bytes before-it)
+  table-part = part-of-over _ _ (replicate file_numbers (pos 0)) _ table_is (length-stored-in (bytes before-it) ∙ sym (count-is before-it))
 
 put-bare-requires : tie.Need-put-bare-requires
 put-bare-requires c κs =
     let q = c.before.before.before.before in
     let e = before-it q in
-    rw (ap (λ (l : List ℤ). length (flatPins (places_of l))) (table-part q), sym (ap length (alone-is e))) (start-alone e).pre.1.1
+    rw (ap (λ (l : List ℤ). length (flat_pins (places_of l))) (table-part q), sym (ap length (alone-is e))) (start-alone e).pre.1.1
 
 returns-2 : tie.Need-returns-2
 returns-2 c =
@@ -106,7 +106,7 @@ returns-2 c =
     let q = r.before.before.before.before.before in
     let e = before-it q in
     r.put-bare.ensures
-    ∙ ap (λ (l : List ℤ). over (flatPins (places_of l)) (start-alone e).args.pins.now) (table-part q)
+    ∙ ap (λ (l : List ℤ). over (flat_pins (places_of l)) (start-alone e).args.pins.now) (table-part q)
     ∙ ap (λ (l : List ℤ). over l (start-alone e).args.pins.now) (sym (alone-is e))
 
 pub take-pins-spec : {M : Type 1} → statement M

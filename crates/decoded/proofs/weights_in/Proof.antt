@@ -2,18 +2,18 @@
 -- Assumes nothing.
 use mathlib.Core.Path.{ap, ap₂, ◌∙◌}
 use Prim.Native.Nat.{◌≤◌}
-use Rattle.net.specs.Bounds.{weightBound}
-use Rattle.blocks.specs.Sizes.{firstWeightWord, secondWeightWord}
-use Rattle.blocks.specs.Words.{weightIn}
-use Rattle.decoded.specs.Held.{headWord}
-use Rattle.decoded.proofs.HeldLaws.{weight-words, twoWeights}
+use Rattle.net.specs.Bounds.{weight_bound}
+use Rattle.blocks.specs.Sizes.{first_weight_word, second_weight_word}
+use Rattle.blocks.specs.Words.{weight_in}
+use Rattle.decoded.specs.Held.{head_word}
+use Rattle.decoded.proofs.HeldLaws.{weight-words, two_weights}
 use borrow.Author.Rules.{rules}
 use Rattle.decoded.proofs.weights_in.Statement.{statement}
 use Rattle.decoded.proofs.weights_in.Tie as tie
 
 -- both words
-words_of : (s : tie.Start) → (headWord firstWeightWord s.args.bytes.now ≤ weightBound)
-    × (headWord secondWeightWord s.args.bytes.now ≤ weightBound)
+words_of : (s : tie.Start) → (head_word first_weight_word s.args.bytes.now ≤ weight_bound)
+    × (head_word second_weight_word s.args.bytes.now ≤ weight_bound)
 words_of s = weight-words s.args.bytes.now s.requires.1
 
 weight-of-requires : tie.Need-weight-of-requires
@@ -25,8 +25,8 @@ weight-of-requires-2 c κs = rw c.head-word2.ensures.0 (words_of c.before.before
 returns : tie.Need-returns
 returns c =
     let d = c.before.before in
-    ap₂ twoWeights (d.weight-of.ensures ∙ ap weightIn d.before.head-word.ensures.0)
-    (c.weight-of2.ensures ∙ ap weightIn c.before.head-word2.ensures.0)
+    ap₂ two_weights (d.weight-of.ensures ∙ ap weight_in d.before.head-word.ensures.0)
+    (c.weight-of2.ensures ∙ ap weight_in c.before.head-word2.ensures.0)
 
 pub weights-in-spec : {M : Type 1} → statement M
 weights-in-spec =

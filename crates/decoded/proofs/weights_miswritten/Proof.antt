@@ -4,16 +4,16 @@ use mathlib.Core.Path.{ap₂}
 use mathlib.Core.Bool.{◌||◌}
 use Prim.Native.Nat.{ℕ}
 use lib.Dec.{ltb}
-use Rattle.net.specs.Bounds.{weightBound}
-use Rattle.decoded.specs.Held.{weightsMiswritten}
+use Rattle.net.specs.Bounds.{weight_bound}
+use Rattle.decoded.specs.Held.{weights_miswritten}
 use borrow.Author.Rules.{rules}
 use Rattle.decoded.proofs.weights_miswritten.Statement.{statement}
 use Rattle.decoded.proofs.weights_miswritten.Tie as tie
 
 returns : tie.Need-returns
-unfolding weightsMiswritten
+unfolding weights_miswritten
 returns c =
-    ap₂ (λ (a b : ℕ). ltb weightBound a || ltb weightBound b) c.before.head-word.ensures.0 c.head-word2.ensures.0
+    ap₂ (λ (a b : ℕ). ltb weight_bound a || ltb weight_bound b) c.before.head-word.ensures.0 c.head-word2.ensures.0
 
 pub weights-miswritten-spec : {M : Type 1} → statement M
 weights-miswritten-spec = tie.close (tie.spec (λ c κs. search rules) (λ c κs. search rules) returns)

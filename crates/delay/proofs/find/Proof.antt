@@ -6,12 +6,12 @@ use Prim.Native.Nat.{◌-◌, ◌≤◌}
 use native.Mathlib.Omega.{arith}
 use Rattle.lists.specs.Turns.{seek}
 use Rattle.lists.proofs.TurnLaws.{seek-none, seek_stop, seek-next, seek-end}
-use Rattle.delay.specs.Table.{isDriver}
+use Rattle.delay.specs.Table.{is_driver}
 use Rattle.delay.proofs.find.Statement.{statement}
 use Rattle.delay.proofs.find.Tie as tie
 
 abbrev invariant-loop : tie.invariant-loop
-invariant-loop pts pin n q i₀ i = (i ≤ n) × (seek (isDriver pts pin q) i (n - i) ≡ seek (isDriver pts pin q) 0 n)
+invariant-loop pts pin n q i₀ i = (i ≤ n) × (seek (is_driver pts pin q) i (n - i) ≡ seek (is_driver pts pin q) 0 n)
 
 abbrev decreases-loop : tie.decreases-loop
 decreases-loop pts pin n q i₀ i = n - i

@@ -6,7 +6,7 @@ use Rattle.std.proofs.Common.{◌≡◌, ℕ, ◌-◌, ◌<◌, ◌≤◌, ◌�
 use borrow.Fn.Kinds.{In}
 use borrow.Fn.PlainCycle.{Measures, is, falls, and}
 use Rattle.elmore.specs.Elmore as elmore
-use Rattle.elmore.specs.Table.{hung, apartIn, loadIn}
+use Rattle.elmore.specs.Table.{hung, apart_in, load_in}
 use Rattle.elmore.specs.Memo.{Memo}
 use Rattle.elmore.proofs.TableLaws.{pending, gather_none, gather-start, gather-hit, gather-miss, gather-end}
 use Rattle.elmore.proofs.MemoLaws.{memo-more}
@@ -44,8 +44,8 @@ claims t = (
 abbrev invariant-loop : lts.invariant-loop
 invariant-loop pts keys e loads t v held₀ whose₀ p number sum₀ left k₀ held whose sum k =
     (k ≤ e)
-    × ((elmore.gathered (apartIn pts) (loadIn loads) t p sum (pending keys v.up p e (hung keys e left p) k)
-    ≡ elmore.capacitance (apartIn pts) (loadIn loads) t p (hung keys e v.left v.up p))
+    × ((elmore.gathered (apart_in pts) (load_in loads) t p sum (pending keys v.up p e (hung keys e left p) k)
+    ≡ elmore.capacitance (apart_in pts) (load_in loads) t p (hung keys e v.left v.up p))
     × Memo pts keys e loads t held whose)
 
 abbrev decreases-loop : lts.decreases-loop

@@ -6,7 +6,7 @@ use Rattle.std.proofs.Common.{◌≡◌, ℕ, ◌-◌, ◌<◌, ◌≤◌, arith
 use borrow.Fn.Kinds.{In}
 use borrow.Fn.PlainCycle.{Measures, is, falls, and}
 use Rattle.elmore.specs.Elmore.{delays}
-use Rattle.elmore.specs.Table.{hung, apartIn, loadIn, stored}
+use Rattle.elmore.specs.Table.{hung, apart_in, load_in, stored}
 use Rattle.elmore.specs.Memo.{Memo}
 use Rattle.elmore.proofs.TableLaws.{pending, lay-none, lay-start, lay-hit, lay-miss, lay-end}
 use Rattle.elmore.proofs.lay.Reads as own
@@ -40,8 +40,8 @@ claims t = (
 abbrev invariant-loop : lts.invariant-loop
 invariant-loop pts keys e loads t v d held₀ whose₀ table₀ p left k₀ held whose table k =
     (k ≤ e)
-    × ((stored (delays (apartIn pts) (loadIn loads) t p d (pending keys v.up p e (hung keys e left p) k)) table
-    ≡ stored (delays (apartIn pts) (loadIn loads) t p d (hung keys e v.left v.up p)) table₀)
+    × ((stored (delays (apart_in pts) (load_in loads) t p d (pending keys v.up p e (hung keys e left p) k)) table
+    ≡ stored (delays (apart_in pts) (load_in loads) t p d (hung keys e v.left v.up p)) table₀)
     × Memo pts keys e loads t held whose)
 
 abbrev decreases-loop : lts.decreases-loop

@@ -9,14 +9,14 @@ use mir.Syntax.{w32}
 use mir.ValLaws.{to_z-of_z}
 use Rattle.lists.specs.Any.{any}
 use Rattle.lists.proofs.AnyLaws.{any-hit, any-miss, any-end}
-use Rattle.net.specs.Pins.{pinLoads, loadAt}
-use Rattle.encoded.specs.Layout.{isLoad, loaded}
+use Rattle.net.specs.Pins.{pin_loads, load_at}
+use Rattle.encoded.specs.Layout.{is_load, loaded}
 use Rattle.net.proofs.PinLaws.{loads-next, loads-end}
 use Rattle.encoded.proofs.are_loaded.Statement.{statement}
 use Rattle.encoded.proofs.are_loaded.Tie as tie
 
 abbrev invariant-loop : tie.invariant-loop
-invariant-loop pins m i₀ i = (i ≤ m) × (any isLoad (pinLoads pins) ≡ any isLoad (drop i (pinLoads pins)))
+invariant-loop pins m i₀ i = (i ≤ m) × (any is_load (pin_loads pins) ≡ any is_load (drop i (pin_loads pins)))
 
 abbrev decreases-loop : tie.decreases-loop
 decreases-loop pins m i₀ i = m - i
@@ -26,27 +26,27 @@ loop-holds c = (omega arith, refl)
 
 -- what the call says, of the list
 told : (c : tie.After-is-load invariant-loop decreases-loop) → c.is-load.result
-    ≡ isLoad (loadAt c.before.before.before.before.before.args.pins.now c.before.before.before.loop.i)
-told c = c.is-load.ensures ∙ ap isLoad (to_z-of_z w32 _ (search rules) ∙ c.before.load_at.ensures)
+    ≡ is_load (load_at c.before.before.before.before.before.args.pins.now c.before.before.before.loop.i)
+told c = c.is-load.ensures ∙ ap is_load (to_z-of_z w32 _ (search rules) ∙ c.before.load_at.ensures)
 
 returns : tie.Need-returns invariant-loop decreases-loop
 unfolding loaded
 returns c =
     let l = c.before.before.before.before in
     let next = loads-next l.before.before.args.pins.now l.loop.i (omega arith) in
-    sym (l.loop.invariant.1 ∙ any-hit isLoad _ _ _ next (sym (told c.before) ∙ c.if1.true))
+    sym (l.loop.invariant.1 ∙ any-hit is_load _ _ _ next (sym (told c.before) ∙ c.if1.true))
 
 loop-again : tie.Need-loop-preserved invariant-loop decreases-loop
 loop-again c =
     let l = c.before.before.before.before in
     let next = loads-next l.before.before.args.pins.now l.loop.i (omega arith) in
-    (omega arith, l.loop.invariant.1 ∙ any-miss isLoad _ _ _ next (sym (told c.before) ∙ c.if1.false))
+    (omega arith, l.loop.invariant.1 ∙ any-miss is_load _ _ _ next (sym (told c.before) ∙ c.if1.false))
 
 returns-2 : tie.Need-returns-2 invariant-loop decreases-loop
 unfolding loaded
 returns-2 c =
     let l = c.before in
-    sym (l.loop.invariant.1 ∙ any-end isLoad _ (loads-end l.before.before.args.pins.now l.loop.i (omega arith)))
+    sym (l.loop.invariant.1 ∙ any-end is_load _ (loads-end l.before.before.args.pins.now l.loop.i (omega arith)))
 
 pub are-loaded-spec : {M : Type 1} → statement M
 are-loaded-spec =

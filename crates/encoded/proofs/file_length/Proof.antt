@@ -4,15 +4,15 @@ use mathlib.Core.Path.{◌≡◌, ap, ap₂, ◌∙◌}
 use Prim.Native.Nat.{ℕ, ◌+◌, ◌*◌}
 use native.Mathlib.Omega.{arith}
 use lib.ListN.{length}
-use Rattle.blocks.specs.Sizes.{blockBytes, blocksFor}
+use Rattle.blocks.specs.Sizes.{block_bytes, blocks_for}
 use Rattle.encoded.specs.Layout.{stored}
 use borrow.Author.Rules.{rules}
 use Rattle.encoded.proofs.file_length.Statement.{statement}
 use Rattle.encoded.proofs.file_length.Tie as tie
 
 pins-counted : (c : tie.After-blocks-for) → c.blocks-for.result
-    ≡ blocksFor (length (stored c.before.before.args.pins.now).numbers)
-pins-counted c = c.blocks-for.ensures ∙ ap blocksFor c.before.stored-length.ensures
+    ≡ blocks_for (length (stored c.before.before.args.pins.now).numbers)
+pins-counted c = c.blocks-for.ensures ∙ ap blocks_for c.before.stored-length.ensures
 
 add-result-2 : tie.Need-overflow-add-result-2
 add-result-2 c = omega (arith, pins-counted c.before, c.blocks-for2.ensures)
@@ -22,7 +22,7 @@ mul-result c = omega (arith, pins-counted c.before, c.blocks-for2.ensures)
 
 returns : tie.Need-returns
 returns c =
-    ap₂ (λ (n k : ℕ). (1 + n + k) * blockBytes) (pins-counted c.before) c.blocks-for2.ensures
+    ap₂ (λ (n k : ℕ). (1 + n + k) * block_bytes) (pins-counted c.before) c.blocks-for2.ensures
 
 pub file-length-spec : {M : Type 1} → statement M
 file-length-spec =

@@ -3,8 +3,8 @@
 use mathlib.Core.Path.{ap, sym, ◌∙◌}
 use native.Mathlib.Omega.{arith}
 use lib.ListN.{length, replicate}
-use Rattle.blocks.specs.Sizes.{fileBound}
-use Rattle.encoded.specs.Layout.{stored, fileBytes}
+use Rattle.blocks.specs.Sizes.{file_bound}
+use Rattle.encoded.specs.Layout.{stored, file_bytes}
 use Rattle.encoded.specs.Same.{same_numbers}
 use Rattle.blocks.proofs.FillLaws.{part-of-over}
 use Rattle.encoded.proofs.LayoutLaws.{length-file}
@@ -17,10 +17,10 @@ returns c =
     let n = c.before.before.before in
     let p = n.before.before in
     let s = p.before.before.before in
-    let f = fileBytes s.args.w s.args.pins.now s.args.macros.now in
+    let f = file_bytes s.args.w s.args.pins.now s.args.macros.now in
     c.same_bytes.ensures
     ∙ ap (same_numbers s.args.bytes.now)
-    (part-of-over f _ (replicate fileBound 0) n.file-length.result p.put-file.ensures
+    (part-of-over f _ (replicate file_bound 0) n.file-length.result p.put-file.ensures
     (length-file s.args.w (stored s.args.pins.now) s.args.macros.now ∙ sym n.file-length.ensures))
 
 pub is-file-of-spec : {M : Type 1} → statement M

@@ -3,12 +3,12 @@
 use mathlib.Core.Path.{refl}
 use mir.Syntax.{w32}
 use mir.ValLaws.{to_z-of_z}
-use Rattle.encoded.specs.Layout.{isLoad}
+use Rattle.encoded.specs.Layout.{is_load}
 use Rattle.encoded.proofs.is_load.Statement.{statement}
 use Rattle.encoded.proofs.is_load.Tie as tie
 
 returns : tie.Need-returns
-unfolding isLoad
+unfolding is_load
 returns c = rw (to_z-of_z w32 _ c.ranges.z) refl
 
 pub is-load-spec : {M : Type 1} → statement M

@@ -5,8 +5,8 @@ use Prim.Native.Nat.{ℕ, ◌≤◌, ◌-◌, ◌+◌}
 use native.Mathlib.Omega.{arith}
 use lib.ListN.{length, take, drop, length-drop}
 use lib.Seq.{take_all}
-use Rattle.blocks.specs.Sizes.{perBlock}
-use Rattle.blocks.specs.Block.{listBlock}
+use Rattle.blocks.specs.Sizes.{per_block}
+use Rattle.blocks.specs.Block.{list_block}
 use borrow.Author.Rules.{rules}
 use Rattle.encoded.proofs.next_block.Statement.{statement}
 use Rattle.encoded.proofs.next_block.Tie as tie
@@ -16,16 +16,16 @@ returns c =
     let a = c.before.before.before.args in
     let s = drop a.from a.numbers.now in
     let h : length s ≤ length a.numbers.now - a.from = simp length-drop (omega arith) in
-    let g : length s ≤ perBlock = simp length-drop (omega arith) in
+    let g : length s ≤ per_block = simp length-drop (omega arith) in
     c.list-block.ensures
-    ∙ ap (listBlock a.kind a.w a.number) (take_all (length a.numbers.now - a.from) s h ∙ sym (take_all perBlock s g))
+    ∙ ap (list_block a.kind a.w a.number) (take_all (length a.numbers.now - a.from) s h ∙ sym (take_all per_block s g))
 
 returns-2 : tie.Need-returns-2
 returns-2 c =
     let a = c.before.before.before.args in
-    let e : a.from + perBlock - a.from ≡ perBlock = omega arith in
+    let e : a.from + per_block - a.from ≡ per_block = omega arith in
     c.list-block2.ensures
-    ∙ ap (λ (n : ℕ). listBlock a.kind a.w a.number (take n (drop a.from a.numbers.now))) e
+    ∙ ap (λ (n : ℕ). list_block a.kind a.w a.number (take n (drop a.from a.numbers.now))) e
 
 pub next-block-spec : {M : Type 1} → statement M
 next-block-spec =

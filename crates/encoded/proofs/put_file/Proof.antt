@@ -10,10 +10,10 @@ use lib.IntN.{ℤ, pos}
 use lib.ListN.{length, take, replicate}
 use Rattle.lent.specs.Over.{over}
 use Rattle.lent.specs.Entries.{flat}
-use Rattle.plane.specs.Flat.{placeNumbers}
-use Rattle.net.specs.Pins.{pinCount, pinPlaces}
-use Rattle.blocks.specs.Sizes.{blockBytes, placeWidth, pinKind, blockCount, fileBlocks, fileNumbers}
-use Rattle.encoded.specs.Layout.{Stored, loaded, stored, withLoads, placesAlone, laidBytes}
+use Rattle.plane.specs.Flat.{place_numbers}
+use Rattle.net.specs.Pins.{pin_count, pin_places}
+use Rattle.blocks.specs.Sizes.{block_bytes, place_width, pin_kind, block_count, file_blocks, file_numbers}
+use Rattle.encoded.specs.Layout.{Stored, loaded, stored, with_loads, places_alone, laid_bytes}
 use Rattle.blocks.proofs.SizeLaws.{pins-few}
 use Rattle.blocks.proofs.FillLaws.{part-of-over, over-long}
 use Rattle.encoded.proofs.StoredLaws.{stored-with, stored-alone, length-alone}
@@ -24,12 +24,12 @@ use Rattle.encoded.proofs.put_file.Tie as tie
 -- the file of pins that are stored so fits
 abbrev Fits : tie.Start → Stored → Type 0
 Fits s k =
-    (blockCount (length k.numbers) (length s.args.macros.now) ≤ fileBlocks)
-    × (blockCount (length k.numbers) (length s.args.macros.now) * blockBytes ≤ length s.args.bytes.now)
+    (block_count (length k.numbers) (length s.args.macros.now) ≤ file_blocks)
+    × (block_count (length k.numbers) (length s.args.macros.now) * block_bytes ≤ length s.args.bytes.now)
 
 -- and what stands there then
 abbrev laid : tie.Start → Stored → List ℕ
-laid s k = over (laidBytes s.args.w k s.args.macros.now) s.args.bytes.now
+laid s k = over (laid_bytes s.args.w k s.args.macros.now) s.args.bytes.now
 
 -- With loads
 
@@ -37,10 +37,10 @@ module _ (c : tie.Then1) where
   abbrev start-with : tie.Start
   start-with = c.before.before.before
 
-  with-is : stored start-with.args.pins.now ≡ withLoads start-with.args.pins.now
+  with-is : stored start-with.args.pins.now ≡ with_loads start-with.args.pins.now
   with-is = stored-with _ (sym c.before.are-loaded.ensures ∙ c.if1.true)
 
-  with-fits : Fits start-with (withLoads start-with.args.pins.now)
+  with-fits : Fits start-with (with_loads start-with.args.pins.now)
   with-fits = rw with-is at start-with.pre
 
 put-lists-requires : tie.Need-put-lists-requires
@@ -61,17 +61,17 @@ module _ (c : tie.Else1) where
   abbrev pins : List ℤ
   pins = start-alone.args.pins.now
 
-  alone-is : stored pins ≡ placesAlone pins
+  alone-is : stored pins ≡ places_alone pins
   alone-is = stored-alone _ (sym c.before.are-loaded.ensures ∙ c.if1.false)
 
-  alone-fits : Fits start-alone (placesAlone pins)
+  alone-fits : Fits start-alone (places_alone pins)
   alone-fits = rw alone-is at start-alone.pre
 
-  alone-few : length (flat placeNumbers (pinPlaces pins)) ≤ fileNumbers
+  alone-few : length (flat place_numbers (pin_places pins)) ≤ file_numbers
   alone-few = pins-few _ _ alone-fits.0
 
 mul-n : tie.Need-overflow-mul-n
-unfolding pinCount
+unfolding pin_count
 mul-n c = omega (arith, c.pin-count.ensures)
 
 put-places-requires : tie.Need-put-places-requires
@@ -85,14 +85,14 @@ module _ (q : tie.After-put-places) where
   abbrev table : List ℤ
   table = q.put-places.last.1.0
 
-  table-long : length table ≡ fileNumbers
-  table-long = over-long _ _ (replicate fileNumbers (pos 0)) fileNumbers q.put-places.ensures (alone-few before-it) refl
+  table-long : length table ≡ file_numbers
+  table-long = over-long _ _ (replicate file_numbers (pos 0)) file_numbers q.put-places.ensures (alone-few before-it) refl
 
-  count-is : q.before.before.pin-count.result * placeWidth ≡ length (flat placeNumbers (pinPlaces (pins before-it)))
-  count-is = ap (λ (n : ℕ). n * placeWidth) q.before.before.pin-count.ensures ∙ sym (length-alone (pins before-it))
+  count-is : q.before.before.pin-count.result * place_width ≡ length (flat place_numbers (pin_places (pins before-it)))
+  count-is = ap (λ (n : ℕ). n * place_width) q.before.before.pin-count.ensures ∙ sym (length-alone (pins before-it))
 
-  table-part : take (q.before.before.pin-count.result * placeWidth - 0) table ≡ flat placeNumbers (pinPlaces (pins before-it))
-  table-part = part-of-over _ _ (replicate fileNumbers (pos 0)) _ q.put-places.ensures (sym count-is)
+  table-part : take (q.before.before.pin-count.result * place_width - 0) table ≡ flat place_numbers (pin_places (pins before-it))
+  table-part = part-of-over _ _ (replicate file_numbers (pos 0)) _ q.put-places.ensures (sym count-is)
 
 part-put-lists-end : tie.Need-slice-bounds-put-lists-end
 part-put-lists-end c =
@@ -109,7 +109,7 @@ returns-2 c =
     let r = c.before.before in
     let q = r.before.before.before.before.before in
     let e = before-it q in
-    let kept : List ℤ → Stored = λ (l : List ℤ). record { kind = pinKind; width = placeWidth; numbers = l } in
+    let kept : List ℤ → Stored = λ (l : List ℤ). record { kind = pin_kind; width = place_width; numbers = l } in
     r.put-lists2.ensures
     ∙ ap (λ (l : List ℤ). laid (start-alone e) (kept l)) (table-part q)
     ∙ ap (laid (start-alone e)) (sym (alone-is e))

@@ -7,9 +7,9 @@ use Prim.Native.Nat.{ℕ, ◌≤◌, ◌<◌, ◌-◌, ◌+◌, ◌*◌}
 use native.Mathlib.Omega.{arith}
 use lib.ListN.{length, drop}
 use lib.Seq.{sets, length-sets}
-use Rattle.blocks.specs.Sizes.{blockBytes, perBlock, blocksFor}
+use Rattle.blocks.specs.Sizes.{block_bytes, per_block, blocks_for}
 use Rattle.blocks.specs.Words.{bytes_of}
-use Rattle.encoded.specs.Layout.{listBlocks}
+use Rattle.encoded.specs.Layout.{list_blocks}
 use Rattle.blocks.proofs.SizeLaws.{begins-within}
 use Rattle.blocks.proofs.BlockLaws.{length-next-block}
 use Rattle.encoded.proofs.LayoutLaws.{list-more}
@@ -19,18 +19,18 @@ use Rattle.encoded.proofs.put_list.Tie as tie
 abbrev invariant-loop : tie.invariant-loop
 invariant-loop bytes₀ kind w first numbers count j₀ bytes j =
     (j ≤ count)
-    × ((length bytes ≡ length bytes₀) × (bytes ≡ sets bytes₀ (first * blockBytes) (bytes_of (listBlocks kind w first j numbers))))
+    × ((length bytes ≡ length bytes₀) × (bytes ≡ sets bytes₀ (first * block_bytes) (bytes_of (list_blocks kind w first j numbers))))
 
 abbrev decreases-loop : tie.decreases-loop
 decreases-loop bytes₀ kind w first numbers count j₀ bytes j = count - j
 
 loop-holds : tie.Need-loop-init invariant-loop decreases-loop
-unfolding bytes_of listBlocks
+unfolding bytes_of list_blocks
 loop-holds c = (omega arith, (refl, refl))
 
 -- where the block begins that is laid out in a turn
 begins : (c : tie.After-put-block-arg invariant-loop decreases-loop)
-    → c.before.before.loop.j * perBlock < length c.before.before.before.before.before.args.numbers.now
+    → c.before.before.loop.j * per_block < length c.before.before.before.before.before.args.numbers.now
 begins c = begins-within _ c.before.before.loop.j (omega arith)
 
 next-block-requires : tie.Need-next-block-requires invariant-loop decreases-loop
@@ -41,7 +41,7 @@ put-block-requires c κs =
     let l = c.before.before.before in
     let a = l.before.before.before.args in (
       ap length c.next-block.ensures
-          ∙ length-next-block a.kind a.w _ (drop (l.loop.j * perBlock) a.numbers.now),
+          ∙ length-next-block a.kind a.w _ (drop (l.loop.j * per_block) a.numbers.now),
       omega arith,
     )
 
@@ -53,11 +53,11 @@ loop-again c =
     let j = l.loop.j in
     let b =
     p.put-block.ensures
-    ∙ ap₂ (λ (bs ws : List ℕ). sets bs ((a.first + j) * blockBytes) (bytes_of ws)) l.loop.invariant.1.1 p.before.next-block.ensures
+    ∙ ap₂ (λ (bs ws : List ℕ). sets bs ((a.first + j) * block_bytes) (bytes_of ws)) l.loop.invariant.1.1 p.before.next-block.ensures
     ∙ list-more a.bytes.now a.kind a.w a.first j a.numbers.now
     in
-    let k = listBlocks a.kind a.w a.first (j + 1) a.numbers.now in
-    (omega arith, (ap length b ∙ length-sets a.bytes.now (a.first * blockBytes) (bytes_of k), b))
+    let k = list_blocks a.kind a.w a.first (j + 1) a.numbers.now in
+    (omega arith, (ap length b ∙ length-sets a.bytes.now (a.first * block_bytes) (bytes_of k), b))
 
 same_length : tie.Need-same-length invariant-loop decreases-loop
 same_length c = c.before.loop.invariant.1.0
@@ -66,10 +66,10 @@ returns : tie.Need-returns invariant-loop decreases-loop
 returns c =
     let l = c.before in
     let a = l.before.before.before.args in
-    let e : l.loop.j ≡ blocksFor (length a.numbers.now) = omega arith in
-    let blocks = listBlocks a.kind a.w a.first in
+    let e : l.loop.j ≡ blocks_for (length a.numbers.now) = omega arith in
+    let blocks = list_blocks a.kind a.w a.first in
     l.loop.invariant.1.1
-    ∙ ap (λ (n : ℕ). sets a.bytes.now (a.first * blockBytes) (bytes_of (blocks n a.numbers.now))) e
+    ∙ ap (λ (n : ℕ). sets a.bytes.now (a.first * block_bytes) (bytes_of (blocks n a.numbers.now))) e
 
 pub put-list-spec : {M : Type 1} → statement M
 put-list-spec =

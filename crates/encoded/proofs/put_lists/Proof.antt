@@ -7,11 +7,11 @@ use native.Mathlib.Nat.{div-le_self}
 use native.Mathlib.Omega.{arith}
 use lib.ListN.{length}
 use lib.Seq.{sets}
-use Rattle.net.specs.Bounds.{macroWidth}
-use Rattle.blocks.specs.Sizes.{blockBytes, macroKind, blocksFor}
+use Rattle.net.specs.Bounds.{macro_width}
+use Rattle.blocks.specs.Sizes.{block_bytes, macro_kind, blocks_for}
 use Rattle.blocks.specs.Words.{bytes_of}
-use Rattle.blocks.specs.Block.{headBlock}
-use Rattle.encoded.specs.Layout.{listBlocks, Stored}
+use Rattle.blocks.specs.Block.{head_block}
+use Rattle.encoded.specs.Layout.{list_blocks, Stored}
 use Rattle.blocks.proofs.SizeLaws.{pins-few, macros-few}
 use Rattle.encoded.proofs.LayoutLaws.{file-laid}
 use borrow.Author.Rules.{rules}
@@ -40,11 +40,11 @@ returns c =
     let kept : Stored = record { kind = a.kind; width = a.w; numbers = a.numbers.now } in
     let m = a.macros.now in
     r.put-list2.ensures
-    ∙ ap₂ (λ (l : List ℕ) (n : ℕ). sets l (n * blockBytes) (bytes_of (listBlocks macroKind macroWidth n (blocksFor (length m)) m)))
+    ∙ ap₂ (λ (l : List ℕ) (n : ℕ). sets l (n * block_bytes) (bytes_of (list_blocks macro_kind macro_width n (blocks_for (length m)) m)))
     (q.put-list.ensures
-    ∙ ap (λ (l : List ℕ). sets l blockBytes (bytes_of (listBlocks a.kind a.w 1 (blocksFor (length kept.numbers)) kept.numbers)))
+    ∙ ap (λ (l : List ℕ). sets l block_bytes (bytes_of (list_blocks a.kind a.w 1 (blocks_for (length kept.numbers)) kept.numbers)))
     (h.put-block.ensures ∙ ap (λ (t : List ℕ). sets a.bytes.now 0 (bytes_of t)) (h.before.head-block.ensures
-    ∙ ap (λ (n : ℕ). headBlock (length kept.numbers / a.w) n a.weights) k.macro-count.ensures)))
+    ∙ ap (λ (n : ℕ). head_block (length kept.numbers / a.w) n a.weights) k.macro-count.ensures)))
     (ap (λ (n : ℕ). 1 + n) b.blocks-for.ensures)
     ∙ file-laid a.bytes.now a.weights kept m (omega arith)
 

@@ -11,8 +11,8 @@ use lib.Seq.{sets}
 use Rattle.lent.specs.Over.{over}
 use Rattle.lent.specs.Entries.{flat}
 use Rattle.plane.specs.declared.Place.{Place}
-use Rattle.plane.specs.Flat.{placeFrom, placeNumbers}
-use Rattle.net.specs.Pins.{pinPlaces}
+use Rattle.plane.specs.Flat.{place_from, place_numbers}
+use Rattle.net.specs.Pins.{pin_places}
 use Rattle.net.proofs.WidthLaws.{place-width}
 use Rattle.net.proofs.PinLaws.{pins-next, pins-end}
 use Rattle.blocks.proofs.FillLaws.{fill_more, fill-all}
@@ -22,7 +22,7 @@ use Rattle.encoded.proofs.put_places.Tie as tie
 
 abbrev invariant-loop : tie.invariant-loop
 invariant-loop pins places₀ m i₀ places i =
-    (i ≤ m) × ((length places ≡ length places₀) × (places ≡ over (flat placeNumbers (take i (pinPlaces pins))) places₀))
+    (i ≤ m) × ((length places ≡ length places₀) × (places ≡ over (flat place_numbers (take i (pin_places pins))) places₀))
 
 abbrev decreases-loop : tie.decreases-loop
 decreases-loop pins places₀ m i₀ places i = m - i
@@ -46,8 +46,8 @@ loop-again c =
       (
         d.put-place.auto.0 ∙ l.loop.invariant.1.0,
         d.put-place.ensures
-            ∙ ap (λ (p : Place). sets l.loop.places (i * 2) (placeNumbers p)) d.before.pin_at.ensures
-            ∙ fill_more placeNumbers placeFrom 2 place-width (pinPlaces s) i _ _ _ _ (pins-next s i (omega arith)) l.loop.invariant.1.1
+            ∙ ap (λ (p : Place). sets l.loop.places (i * 2) (place_numbers p)) d.before.pin_at.ensures
+            ∙ fill_more place_numbers place_from 2 place-width (pin_places s) i _ _ _ _ (pins-next s i (omega arith)) l.loop.invariant.1.1
             (omega (arith, length-alone s)),
       ),
     )
@@ -59,7 +59,7 @@ returns : tie.Need-returns invariant-loop decreases-loop
 returns c =
     let l = c.before in
     let s = l.before.before.args.pins.now in
-    fill-all placeNumbers placeFrom 2 place-width (pinPlaces s) l.loop.i _ _ (pins-end s l.loop.i (omega arith))
+    fill-all place_numbers place_from 2 place-width (pin_places s) l.loop.i _ _ (pins-end s l.loop.i (omega arith))
     l.loop.invariant.1.1
 
 pub put-places-spec : {M : Type 1} → statement M

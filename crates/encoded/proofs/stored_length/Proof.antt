@@ -4,8 +4,8 @@ use mathlib.Core.Path.{sym, ap, ◌∙◌}
 use native.Mathlib.Omega.{arith}
 use Prim.Native.Nat.{ℕ, ◌*◌}
 use lib.ListN.{length}
-use Rattle.net.specs.Pins.{pinCount}
-use Rattle.blocks.specs.Sizes.{placeWidth}
+use Rattle.net.specs.Pins.{pin_count}
+use Rattle.blocks.specs.Sizes.{place_width}
 use Rattle.encoded.specs.Layout.{Stored}
 use Rattle.encoded.proofs.StoredLaws.{stored-with, stored-alone, length-alone}
 use borrow.Author.Rules.{rules}
@@ -19,14 +19,14 @@ returns c =
     (sym (stored-with l.args.pins.now (sym c.before.are-loaded.ensures ∙ c.if1.true)))
 
 mul-result : tie.Need-overflow-mul-result
-unfolding pinCount
+unfolding pin_count
 mul-result c = omega arith
 
 returns-2 : tie.Need-returns-2
 returns-2 c =
     let e = c.before in
     let p = e.before.before.args.pins.now in
-    ap (λ (n : ℕ). n * placeWidth) c.pin-count.ensures
+    ap (λ (n : ℕ). n * place_width) c.pin-count.ensures
     ∙ sym (length-alone p)
     ∙ ap (λ (s : Stored). length s.numbers) (sym (stored-alone p (sym e.before.are-loaded.ensures ∙ e.if1.false)))
 

@@ -4,11 +4,11 @@ use mathlib.Core.Path.{◌∙◌, subst}
 use mir.Syntax.{w32, w64}
 use mir.ValLaws.{to_z-of_z}
 use Rattle.lent.specs.Told.{code}
-use Rattle.lent.specs.Over.{valueAfter}
+use Rattle.lent.specs.Over.{value_after}
 use Rattle.net.specs.declared.Weighing.{Weighing}
 use Rattle.net.specs.Net.{weighing}
-use Rattle.answers.specs.Best.{bestTree}
-use Rattle.router.specs.Answers.{toldTree}
+use Rattle.answers.specs.Best.{best_tree}
+use Rattle.router.specs.Answers.{told_tree}
 use Rattle.router.specs.Call.{BestCall}
 use Rattle.exports.proofs.HandedLaws.{code-handed, value-handed, read_back}
 use borrow.Author.Rules.{rules}
@@ -19,36 +19,36 @@ abbrev start : tie.After-best-tree → tie.Start
 start d = d.before.before.before.before.before
 
 -- the call, by the weights as they were handed over
-call : (d : tie.After-best-tree) → BestCall bestTree (weighing (start d).args.x (start d).args.y) (start d).args.pins.now
+call : (d : tie.After-best-tree) → BestCall best_tree (weighing (start d).args.x (start d).args.y) (start d).args.pins.now
     (start d).args.macros.now (start d).args.work.now (start d).args.edges.now d.best-tree.result
     d.best-tree.new.1.1.1.0 d.best-tree.new.1.1.1.1.0
 call d =
     let a = (start d).args in
-    subst (λ (w : Weighing). BestCall bestTree w a.pins.now a.macros.now a.work.now a.edges.now d.best-tree.result
+    subst (λ (w : Weighing). BestCall best_tree w a.pins.now a.macros.now a.work.now a.edges.now d.best-tree.result
     d.best-tree.new.1.1.1.0 d.best-tree.new.1.1.1.1.0)
     (read_back a.x a.y (start d).ranges.x (start d).ranges.y d.before.before.before.weighing.ensures)
     d.best-tree.ensures
 
 returns : tie.Need-returns
-unfolding code valueAfter toldTree
+unfolding code value_after told_tree
 returns c =
     let g = call c.before.before.before.before.before.before in
     let i = c.before.answer.given.1 in
     record {
       tree = g.tree;
       handed = record {
-        answer = code-handed toldTree g.answer i;
+        answer = code-handed told_tree g.answer i;
         list = g.list;
-        count = value-handed toldTree g.answer i (λ tree. tree.0) _;
-        total = to_z-of_z w64 _ (search rules) ∙ value-handed toldTree g.answer i (λ tree. tree.1.0) _;
-        metal = to_z-of_z w64 _ (search rules) ∙ value-handed toldTree g.answer i (λ tree. tree.1.1) _;
+        count = value-handed told_tree g.answer i (λ tree. tree.0) _;
+        total = to_z-of_z w64 _ (search rules) ∙ value-handed told_tree g.answer i (λ tree. tree.1.0) _;
+        metal = to_z-of_z w64 _ (search rules) ∙ value-handed told_tree g.answer i (λ tree. tree.1.1) _;
       };
       cleared = g.cleared;
       best = g.best;
     }
 
 returns-2 : tie.Need-returns-2
-unfolding code valueAfter toldTree
+unfolding code value_after told_tree
 returns-2 c =
     let a = c.before.before in
     let g = call a.before.before.before.before.before in
@@ -56,11 +56,11 @@ returns-2 c =
     record {
       tree = g.tree;
       handed = record {
-        answer = to_z-of_z w32 _ (search rules) ∙ c.number.ensures ∙ code-handed toldTree g.answer i;
+        answer = to_z-of_z w32 _ (search rules) ∙ c.number.ensures ∙ code-handed told_tree g.answer i;
         list = g.list;
-        count = value-handed toldTree g.answer i (λ tree. tree.0) _;
-        total = value-handed toldTree g.answer i (λ tree. tree.1.0) _;
-        metal = value-handed toldTree g.answer i (λ tree. tree.1.1) _;
+        count = value-handed told_tree g.answer i (λ tree. tree.0) _;
+        total = value-handed told_tree g.answer i (λ tree. tree.1.0) _;
+        metal = value-handed told_tree g.answer i (λ tree. tree.1.1) _;
       };
       cleared = g.cleared;
       best = g.best;

@@ -4,11 +4,11 @@ use mathlib.Core.Path.{◌≡◌, ap, ◌∙◌}
 use mir.Syntax.{w32, w64}
 use mir.ValLaws.{to_z-of_z}
 use Rattle.lent.specs.Told.{code}
-use Rattle.lent.specs.Over.{valueAfter}
+use Rattle.lent.specs.Over.{value_after}
 use Rattle.net.specs.declared.Weighing.{Weighing}
 use Rattle.net.specs.Net.{weighing}
-use Rattle.bought.specs.Verdict.{toldVerdict}
-use Rattle.answers.specs.Bought.{checkedTree}
+use Rattle.bought.specs.Verdict.{told_verdict}
+use Rattle.answers.specs.Bought.{checked_tree}
 use Rattle.exports.proofs.HandedLaws.{code-handed, value-handed, read_back}
 use borrow.Author.Rules.{rules}
 use Rattle.exports.proofs.calzundi_check_tree.Statement.{statement}
@@ -20,34 +20,34 @@ start d = d.before.before
 -- what the check says, of the weights as they were handed over
 said : (d : tie.After-check-tree)
     → let a = (start d).args in
-    toldVerdict d.check-tree.result ≡ checkedTree (weighing a.x a.y) a.pins.now a.macros.now a.edges.now
+    told_verdict d.check-tree.result ≡ checked_tree (weighing a.x a.y) a.pins.now a.macros.now a.edges.now
 said d =
     let a = (start d).args in
     d.check-tree.ensures
-    ∙ ap (λ (w : Weighing). checkedTree w a.pins.now a.macros.now a.edges.now)
+    ∙ ap (λ (w : Weighing). checked_tree w a.pins.now a.macros.now a.edges.now)
     (read_back a.x a.y (start d).ranges.x (start d).ranges.y d.before.weighing.ensures)
 
 returns : tie.Need-returns
-unfolding code valueAfter toldVerdict
+unfolding code value_after told_verdict
 returns c =
     let g = said c.before.before.before in
     let i = c.before.answer.given.1 in
     record {
-      answer = code-handed toldVerdict g i;
-      cost = to_z-of_z w64 _ (search rules) ∙ value-handed toldVerdict g i (λ sums. sums.0) _;
-      metal = to_z-of_z w64 _ (search rules) ∙ value-handed toldVerdict g i (λ sums. sums.1) _;
+      answer = code-handed told_verdict g i;
+      cost = to_z-of_z w64 _ (search rules) ∙ value-handed told_verdict g i (λ sums. sums.0) _;
+      metal = to_z-of_z w64 _ (search rules) ∙ value-handed told_verdict g i (λ sums. sums.1) _;
     }
 
 returns-2 : tie.Need-returns-2
-unfolding code valueAfter toldVerdict
+unfolding code value_after told_verdict
 returns-2 c =
     let a = c.before.before in
     let g = said a.before.before in
     let i = a.answer2.given.1 in
     record {
-      answer = to_z-of_z w32 _ (search rules) ∙ c.number.ensures ∙ code-handed toldVerdict g i;
-      cost = value-handed toldVerdict g i (λ sums. sums.0) _;
-      metal = value-handed toldVerdict g i (λ sums. sums.1) _;
+      answer = to_z-of_z w32 _ (search rules) ∙ c.number.ensures ∙ code-handed told_verdict g i;
+      cost = value-handed told_verdict g i (λ sums. sums.0) _;
+      metal = value-handed told_verdict g i (λ sums. sums.1) _;
     }
 
 pub calzundi-check-tree-spec : {M : Type 1} → statement M

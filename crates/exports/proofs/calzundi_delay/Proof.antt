@@ -4,15 +4,15 @@ use mathlib.Core.Path.{◌∙◌, subst}
 use mir.Syntax.{w32}
 use mir.ValLaws.{to_z-of_z}
 use Rattle.lent.specs.Told.{code}
-use Rattle.lent.specs.Over.{valueAfter}
+use Rattle.lent.specs.Over.{value_after}
 use Rattle.plane.specs.declared.Place.{Place}
 use Rattle.plane.specs.Place.{place}
 use Rattle.net.specs.declared.Weighing.{Weighing}
 use Rattle.net.specs.Net.{weighing}
 use Rattle.floats.specs.declared.Technology.{Technology}
 use Rattle.elmore.specs.Elmore.{technology}
-use Rattle.delay.specs.Answer.{toldDelays}
-use Rattle.answers.specs.Delay.{pinDelays}
+use Rattle.delay.specs.Answer.{told_delays}
+use Rattle.answers.specs.Delay.{pin_delays}
 use Rattle.router.specs.Call.{DelayCall}
 use Rattle.exports.proofs.HandedLaws.{code-handed, value-handed, read_back, place-back}
 use borrow.Author.Rules.{rules}
@@ -23,7 +23,7 @@ abbrev start : tie.After-delay → tie.Start
 start d = d.before.before.before.before.before.before
 
 -- the call, by the numbers as they were handed over
-call : (d : tie.After-delay) → DelayCall pinDelays (weighing (start d).args.x (start d).args.y) (start d).args.pins.now
+call : (d : tie.After-delay) → DelayCall pin_delays (weighing (start d).args.x (start d).args.y) (start d).args.pins.now
     (start d).args.macros.now (place (start d).args.u (start d).args.v)
     (technology (start d).args.resistance (start d).args.capacitance) (start d).args.delays.now d.delay.result
     d.delay.new.1.1.1.1.1.0
@@ -32,38 +32,38 @@ call d =
     let t = d.before.before in
     let p = t.before in
     let w = p.before in
-    subst (λ (z : Technology). DelayCall pinDelays (weighing a.x a.y) a.pins.now a.macros.now (place a.u a.v) z
+    subst (λ (z : Technology). DelayCall pin_delays (weighing a.x a.y) a.pins.now a.macros.now (place a.u a.v) z
     a.delays.now d.delay.result d.delay.new.1.1.1.1.1.0)
     t.technology.ensures
-    (subst (λ (z : Place). DelayCall pinDelays (weighing a.x a.y) a.pins.now a.macros.now z t.technology.result
+    (subst (λ (z : Place). DelayCall pin_delays (weighing a.x a.y) a.pins.now a.macros.now z t.technology.result
     a.delays.now d.delay.result d.delay.new.1.1.1.1.1.0)
     (place-back a.u a.v (start d).ranges.u (start d).ranges.v p.place.ensures)
-    (subst (λ (z : Weighing). DelayCall pinDelays z a.pins.now a.macros.now p.place.result t.technology.result
+    (subst (λ (z : Weighing). DelayCall pin_delays z a.pins.now a.macros.now p.place.result t.technology.result
     a.delays.now d.delay.result d.delay.new.1.1.1.1.1.0)
     (read_back a.x a.y (start d).ranges.x (start d).ranges.y w.weighing.ensures)
     d.delay.ensures))
 
 returns : tie.Need-returns
-unfolding code valueAfter toldDelays
+unfolding code value_after told_delays
 returns c =
     let g = call c.before.before.before.before.before in
     let i = c.before.answer.given.1 in
     record {
-      answer = code-handed toldDelays g.answer i;
+      answer = code-handed told_delays g.answer i;
       list = g.list;
-      count = value-handed toldDelays g.answer i (λ n. n) _;
+      count = value-handed told_delays g.answer i (λ n. n) _;
     }
 
 returns-2 : tie.Need-returns-2
-unfolding code valueAfter toldDelays
+unfolding code value_after told_delays
 returns-2 c =
     let a = c.before.before in
     let g = call a.before.before.before.before in
     let i = a.answer2.given.1 in
     record {
-      answer = to_z-of_z w32 _ (search rules) ∙ c.number.ensures ∙ code-handed toldDelays g.answer i;
+      answer = to_z-of_z w32 _ (search rules) ∙ c.number.ensures ∙ code-handed told_delays g.answer i;
       list = g.list;
-      count = value-handed toldDelays g.answer i (λ n. n) _;
+      count = value-handed told_delays g.answer i (λ n. n) _;
     }
 
 pub calzundi-delay-spec : {M : Type 1} → statement M

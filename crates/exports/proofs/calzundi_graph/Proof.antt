@@ -4,11 +4,11 @@ use mathlib.Core.Path.{◌∙◌, subst}
 use mir.Syntax.{w32}
 use mir.ValLaws.{to_z-of_z}
 use Rattle.lent.specs.Told.{code}
-use Rattle.lent.specs.Over.{valueAfter}
+use Rattle.lent.specs.Over.{value_after}
 use Rattle.net.specs.declared.Weighing.{Weighing}
 use Rattle.net.specs.Net.{weighing}
 use Rattle.answers.specs.Graph.{graphed}
-use Rattle.router.specs.Answers.{toldGraph}
+use Rattle.router.specs.Answers.{told_graph}
 use Rattle.router.specs.Call.{GraphCall}
 use Rattle.exports.proofs.HandedLaws.{code-handed, value-handed, read_back}
 use borrow.Author.Rules.{rules}
@@ -30,30 +30,30 @@ call d =
     d.graph.ensures
 
 returns : tie.Need-returns
-unfolding code valueAfter toldGraph
+unfolding code value_after told_graph
 returns c =
     let g = call c.before.before.before.before.before in
     let i = c.before.answer.given.1 in
     record {
-      answer = code-handed toldGraph g.answer i;
+      answer = code-handed told_graph g.answer i;
       vertices = g.first;
       edges = g.second;
-      vertex-count = value-handed toldGraph g.answer i (λ counts. counts.0) _;
-      edge_count = value-handed toldGraph g.answer i (λ counts. counts.1) _;
+      vertex-count = value-handed told_graph g.answer i (λ counts. counts.0) _;
+      edge_count = value-handed told_graph g.answer i (λ counts. counts.1) _;
     }
 
 returns-2 : tie.Need-returns-2
-unfolding code valueAfter toldGraph
+unfolding code value_after told_graph
 returns-2 c =
     let a = c.before.before in
     let g = call a.before.before.before.before in
     let i = a.answer2.given.1 in
     record {
-      answer = to_z-of_z w32 _ (search rules) ∙ c.number.ensures ∙ code-handed toldGraph g.answer i;
+      answer = to_z-of_z w32 _ (search rules) ∙ c.number.ensures ∙ code-handed told_graph g.answer i;
       vertices = g.first;
       edges = g.second;
-      vertex-count = value-handed toldGraph g.answer i (λ counts. counts.0) _;
-      edge_count = value-handed toldGraph g.answer i (λ counts. counts.1) _;
+      vertex-count = value-handed told_graph g.answer i (λ counts. counts.0) _;
+      edge_count = value-handed told_graph g.answer i (λ counts. counts.1) _;
     }
 
 pub calzundi-graph-spec : {M : Type 1} → statement M

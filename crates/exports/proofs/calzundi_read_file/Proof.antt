@@ -5,7 +5,7 @@ use lib.IntN.{pos}
 use mir.Syntax.{w32}
 use mir.ValLaws.{to_z-of_z}
 use Rattle.lent.specs.Told.{code}
-use Rattle.lent.specs.Over.{valueAfter}
+use Rattle.lent.specs.Over.{value_after}
 use Rattle.net.specs.declared.Weighing.{Weighing}
 use Rattle.checks.specs.Check.{told}
 use Rattle.exports.proofs.HandedLaws.{code-handed, value-handed}
@@ -14,7 +14,7 @@ use Rattle.exports.proofs.calzundi_read_file.Statement.{statement}
 use Rattle.exports.proofs.calzundi_read_file.Tie as tie
 
 returns : tie.Need-returns
-unfolding code valueAfter told
+unfolding code value_after told
 returns c =
     let g = c.before.before.before.before.before.before.before.before.read-file.ensures in
     let i = c.before.before.before.before.answer.given.1 in
@@ -34,7 +34,7 @@ returns c =
     }
 
 returns-2 : tie.Need-returns-2
-unfolding code valueAfter told
+unfolding code value_after told
 returns-2 c =
     let a = c.before.before in
     let g = a.before.before.before.before.read-file.ensures in

@@ -4,11 +4,11 @@ use mathlib.Core.Path.{◌∙◌, subst}
 use mir.Syntax.{w32}
 use mir.ValLaws.{to_z-of_z}
 use Rattle.lent.specs.Told.{code}
-use Rattle.lent.specs.Over.{valueAfter}
+use Rattle.lent.specs.Over.{value_after}
 use Rattle.net.specs.declared.Weighing.{Weighing}
 use Rattle.net.specs.Net.{weighing}
 use Rattle.answers.specs.Wires.{wired}
-use Rattle.router.specs.Answers.{toldWires}
+use Rattle.router.specs.Answers.{told_wires}
 use Rattle.router.specs.Call.{WiresCall}
 use Rattle.exports.proofs.HandedLaws.{code-handed, value-handed, read_back}
 use borrow.Author.Rules.{rules}
@@ -28,26 +28,26 @@ call d =
     d.wires.ensures
 
 returns : tie.Need-returns
-unfolding code valueAfter toldWires
+unfolding code value_after told_wires
 returns c =
     let g = call c.before.before.before.before in
     let i = c.before.answer.given.1 in
     record {
-      answer = code-handed toldWires g.answer i;
+      answer = code-handed told_wires g.answer i;
       list = g.list;
-      count = value-handed toldWires g.answer i (λ n. n) _;
+      count = value-handed told_wires g.answer i (λ n. n) _;
     }
 
 returns-2 : tie.Need-returns-2
-unfolding code valueAfter toldWires
+unfolding code value_after told_wires
 returns-2 c =
     let a = c.before.before in
     let g = call a.before.before.before in
     let i = a.answer2.given.1 in
     record {
-      answer = to_z-of_z w32 _ (search rules) ∙ c.number.ensures ∙ code-handed toldWires g.answer i;
+      answer = to_z-of_z w32 _ (search rules) ∙ c.number.ensures ∙ code-handed told_wires g.answer i;
       list = g.list;
-      count = value-handed toldWires g.answer i (λ n. n) _;
+      count = value-handed told_wires g.answer i (λ n. n) _;
     }
 
 pub calzundi-wires-spec : {M : Type 1} → statement M

@@ -4,10 +4,10 @@ use mathlib.Core.Path.{◌∙◌, subst}
 use mir.Syntax.{w32}
 use mir.ValLaws.{to_z-of_z}
 use Rattle.lent.specs.Told.{code}
-use Rattle.lent.specs.Over.{valueAfter}
+use Rattle.lent.specs.Over.{value_after}
 use Rattle.net.specs.declared.Weighing.{Weighing}
 use Rattle.net.specs.Net.{weighing}
-use Rattle.netfile.specs.Write.{toldBytes}
+use Rattle.netfile.specs.Write.{told_bytes}
 use Rattle.router.specs.Call.{WriteCall}
 use Rattle.exports.proofs.HandedLaws.{code-handed, value-handed, read_back}
 use borrow.Author.Rules.{rules}
@@ -27,26 +27,26 @@ call d =
     d.write-file.ensures
 
 returns : tie.Need-returns
-unfolding code valueAfter toldBytes
+unfolding code value_after told_bytes
 returns c =
     let g = call c.before.before.before.before.before in
     let i = c.before.answer.given.1 in
     record {
-      answer = code-handed toldBytes g.answer i;
+      answer = code-handed told_bytes g.answer i;
       list = g.list;
-      count = value-handed toldBytes g.answer i (λ n. n) _;
+      count = value-handed told_bytes g.answer i (λ n. n) _;
     }
 
 returns-2 : tie.Need-returns-2
-unfolding code valueAfter toldBytes
+unfolding code value_after told_bytes
 returns-2 c =
     let a = c.before.before in
     let g = call a.before.before.before.before in
     let i = a.answer2.given.1 in
     record {
-      answer = to_z-of_z w32 _ (search rules) ∙ c.number.ensures ∙ code-handed toldBytes g.answer i;
+      answer = to_z-of_z w32 _ (search rules) ∙ c.number.ensures ∙ code-handed told_bytes g.answer i;
       list = g.list;
-      count = value-handed toldBytes g.answer i (λ n. n) _;
+      count = value-handed told_bytes g.answer i (λ n. n) _;
     }
 
 pub calzundi-write-file-spec : {M : Type 1} → statement M

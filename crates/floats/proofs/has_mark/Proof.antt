@@ -5,14 +5,14 @@ use mathlib.Core.Path.{◌≡◌, sym, ◌∙◌}
 use Prim.Native.Nat.{◌-◌, ◌≤◌}
 use native.Mathlib.Omega.{arith}
 use Rattle.lists.specs.Any.{any}
-use Rattle.floats.specs.Mark.{isMark, marksFrom}
+use Rattle.floats.specs.Mark.{is_mark, marks_from}
 use Rattle.floats.proofs.MarkLaws.{mark-all, mark-stop, mark-next, mark-end}
 use Rattle.floats.proofs.has_mark.Statement.{statement}
 use Rattle.floats.proofs.has_mark.Tie as tie
 
 abbrev invariant-loop : tie.invariant-loop
 invariant-loop table pin n i₀ i =
-    (i ≤ n) × (any isMark (marksFrom table pin i (n - i)) ≡ any isMark (marksFrom table pin 0 n))
+    (i ≤ n) × (any is_mark (marks_from table pin i (n - i)) ≡ any is_mark (marks_from table pin 0 n))
 
 abbrev decreases-loop : tie.decreases-loop
 decreases-loop table pin n i₀ i = n - i

@@ -2,17 +2,17 @@
 -- Assumes nothing.
 use mathlib.Core.Path.{sym, ap}
 use borrow.Author.Rules.{rules}
-use Rattle.floats.specs.Mark.{isMark}
+use Rattle.floats.specs.Mark.{is_mark}
 use Rattle.floats.proofs.is_mark.Statement.{statement}
 use Rattle.floats.proofs.is_mark.Tie as tie
 
 returns : tie.Need-returns
-unfolding isMark
-returns c = sym (ap isMark c.enum_told.given.1)
+unfolding is_mark
+returns c = sym (ap is_mark c.enum_told.given.1)
 
 returns-2 : tie.Need-returns-2
-unfolding isMark
-returns-2 c = sym (ap isMark c.enum-told2.given.1)
+unfolding is_mark
+returns-2 c = sym (ap is_mark c.enum-told2.given.1)
 
 pub is-mark-spec : {M : Type 1} → statement M
 is-mark-spec = tie.close (tie.spec (λ c. search rules) (λ c. search rules) returns returns-2)

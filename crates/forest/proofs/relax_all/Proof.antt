@@ -4,8 +4,8 @@
 use Prim.Native.Nat.{◌≤◌, ◌-◌}
 use native.Mathlib.Omega.{arith}
 use Rattle.forest.specs.Edges.{graph, from}
-use Rattle.forest.specs.Labels.{labels, relaxEdge, moves}
-use Rattle.forest.proofs.EdgeLaws.{all_left, from_next, from_end}
+use Rattle.forest.specs.Labels.{labels, relax_edge, moves}
+use Rattle.forest.proofs.EdgeLaws.{all_left, from_next, from-end}
 use Rattle.forest.proofs.LabelLaws.{Passing, pass-none, pass-more, pass-end}
 use Rattle.forest.proofs.relax_all.Statement.{statement}
 use Rattle.forest.proofs.relax_all.Tie as tie
@@ -28,14 +28,14 @@ relax-edge-requires c κs =
     ((f.one_in _ h, f.two_in _ h), (l.loop.invariant.1.low, f.short _ h))
 
 loop-again : tie.Need-loop-preserved invariant-loop decreases-loop
-unfolding relaxEdge moves
+unfolding relax_edge moves
 loop-again c =
     let l = c.before.before.before.before.before.before.before in
     let h = c.before.before.before.before.before.before.loop-test.true in
     (omega arith, pass-more _ _ _ _ _ _ l.loop.invariant.1 _ _ _ _ (from_next _ _ h) c.relax-edge.ensures)
 
 returns : tie.Need-returns invariant-loop decreases-loop
-returns c = pass-end _ _ _ _ _ _ c.before.loop.invariant.1 (from_end _ _ c.loop-test.false)
+returns c = pass-end _ _ _ _ _ _ c.before.loop.invariant.1 (from-end _ _ c.loop-test.false)
 
 pub relax-all-spec : {M : Type 1} → statement M
 relax-all-spec =

@@ -4,16 +4,16 @@ use mathlib.Core.Path.{◌≡◌, refl, ◌∙◌}
 use Prim.Native.Nat.{◌≤◌, ◌<◌, ◌-◌}
 use native.Mathlib.Omega.{arith}
 use lib.ListN.{length, length-set}
-use Rattle.plane.specs.Flat.{macrosOf}
-use Rattle.lines.specs.Bounds.{segmentBound}
+use Rattle.plane.specs.Flat.{macros_of}
+use Rattle.lines.specs.Bounds.{segment_bound}
 use Rattle.grid.specs.Tables.{CostsTo}
 use Rattle.grid.proofs.TableLaws.{costs-none, costs-more, costs-end}
 use Rattle.grid.proofs.put_costs.Statement.{statement}
 use Rattle.grid.proofs.put_costs.Tie as tie
 
 abbrev invariant-loop : tie.invariant-loop
-invariant-loop w macros grid xs ys costs₀ e k₀ costs k = ((k ≤ e) × (e ≤ segmentBound)) ×
-    ((length costs ≡ segmentBound) × CostsTo w (macrosOf macros) grid xs ys k costs)
+invariant-loop w macros grid xs ys costs₀ e k₀ costs k = ((k ≤ e) × (e ≤ segment_bound)) ×
+    ((length costs ≡ segment_bound) × CostsTo w (macros_of macros) grid xs ys k costs)
 
 abbrev decreases-loop : tie.decreases-loop
 decreases-loop w macros grid xs ys costs₀ e k₀ costs k = e - k

@@ -5,9 +5,9 @@ use mathlib.Core.Path.{◌≡◌}
 use Prim.Native.Nat.{◌≤◌, ◌<◌, ◌-◌, ◌^◌}
 use native.Mathlib.Omega.{arith}
 use lib.ListN.{length, get_or}
-use Rattle.forest.specs.Bounds.{pointBound, edgeBound}
+use Rattle.forest.specs.Bounds.{point_bound, edge_bound}
 use Rattle.forest.specs.Edges.{entries}
-use Rattle.bridges.specs.Bridges.{rootsIn}
+use Rattle.bridges.specs.Bridges.{roots_in}
 use Rattle.forest.proofs.EdgeLaws.{all_left, entries_next, entries-end}
 use Rattle.keeping.proofs.KeptLaws.{Keeping, keep-none, keep-pass, keep-more, keep-end, merged-length}
 use Rattle.keeping.proofs.keep.Statement.{statement}
@@ -16,8 +16,8 @@ use Rattle.keeping.proofs.keep.Tie as tie
 abbrev invariant-loop : tie.invariant-loop
 invariant-loop ea eb root order n group₀ kept₀ count₀ i₀ group kept count i =
     ((i ≤ n) × (count ≤ i))
-    × ((length group ≡ pointBound)
-    × Keeping (rootsIn ea eb root) (entries order 0 n) group₀ (entries order i (n - i)) group kept₀ kept count)
+    × ((length group ≡ point_bound)
+    × Keeping (roots_in ea eb root) (entries order 0 n) group₀ (entries order i (n - i)) group kept₀ kept count)
 
 abbrev decreases-loop : tie.decreases-loop
 decreases-loop ea eb root order n group₀ kept₀ count₀ i₀ group kept count i = n - i
@@ -29,7 +29,7 @@ loop-holds c = ((omega arith, omega arith), (c.requires.1.0, rw (all_left c.args
 wide-k : tie.Need-overflow-cast-k invariant-loop decreases-loop
 wide-k c =
     let s = c.before.before.before in
-    let h : get_or s.args.order.now c.before.before.loop.i 0 < edgeBound = s.requires.0.0.edge _ c.before.loop-test.true in
+    let h : get_or s.args.order.now c.before.before.loop.i 0 < edge_bound = s.requires.0.0.edge _ c.before.loop-test.true in
     let f : get_or s.args.order.now c.before.before.loop.i 0 < 2 ^ 64 = omega (arith, h) in
     record { fits = f }
 

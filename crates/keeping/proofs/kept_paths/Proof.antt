@@ -3,7 +3,7 @@
 use mathlib.Core.Path.{refl, ap, ◌∙◌}
 use native.Mathlib.Omega.{arith}
 use lib.ListN.{length}
-use Rattle.forest.specs.Bounds.{pointBound, edgeBound}
+use Rattle.forest.specs.Bounds.{point_bound, edge_bound}
 use Rattle.forest.proofs.EdgeLaws.{below-replicate, length-filled}
 use Rattle.keeping.proofs.WholeLaws.{ends_of, light, ordered, kept-listed, kept-inside, lengths-listed}
 use borrow.Author.Rules.{rules}
@@ -16,7 +16,7 @@ weigh-requires c κs =
     ((s.requires.1.0, s.requires.0.1.0), s.requires.0.0)
 
 sort-bridges-requires : tie.Need-sort-bridges-requires
-sort-bridges-requires c κs = (ends_of _ c.before.before.before.before.requires.0.0, (below-replicate edgeBound edgeBound 0 (omega arith), refl))
+sort-bridges-requires c κs = (ends_of _ c.before.before.before.before.requires.0.0, (below-replicate edge_bound edge_bound 0 (omega arith), refl))
 
 keep-requires : tie.Need-keep-requires
 keep-requires c κs =
@@ -26,7 +26,7 @@ keep-requires c κs =
     let o = c.before.before.before.before.before.before.sort-bridges.ensures in
     let n = c.before.before.before.before.number.ensures in (
       (ordered _ _ _ fits _ _ _ w o.0, (s.requires.0.1.1, omega (arith, o.1, fits.count))),
-      (ap length n ∙ length-filled _ 0 pointBound _, s.requires.1.1.0),
+      (ap length n ∙ length-filled _ 0 point_bound _, s.requires.1.1.0),
     )
 
 measure-requires : tie.Need-measure-requires

@@ -5,7 +5,7 @@ use mathlib.Core.Path.{◌≡◌}
 use Prim.Native.Nat.{◌≤◌, ◌<◌, ◌-◌}
 use native.Mathlib.Omega.{arith}
 use lib.ListN.{length, get_or}
-use Rattle.forest.specs.Bounds.{pathBound}
+use Rattle.forest.specs.Bounds.{path_bound}
 use Rattle.forest.specs.Edges.{entries}
 use Rattle.forest.proofs.EdgeLaws.{all_left, entries_next, entries-end}
 use Rattle.keeping.proofs.KeptLaws.{Measuring, measure-none, measure-more, measure-end}
@@ -14,7 +14,7 @@ use Rattle.keeping.proofs.measure.Tie as tie
 
 abbrev invariant-loop : tie.invariant-loop
 invariant-loop w kept n long₀ sum₀ i₀ long sum i =
-    (i ≤ n) × Measuring (λ k. get_or w k 0) pathBound (entries kept 0 n) (entries kept i (n - i)) long₀ long i sum
+    (i ≤ n) × Measuring (λ k. get_or w k 0) path_bound (entries kept 0 n) (entries kept i (n - i)) long₀ long i sum
 
 abbrev decreases-loop : tie.decreases-loop
 decreases-loop w kept n long₀ sum₀ i₀ long sum i = n - i
@@ -35,7 +35,7 @@ element-copy-out-d-2 c =
 -- a length that is read is small
 light : (c : tie.After-d2 invariant-loop decreases-loop) →
     let s = c.before.before.before.before in
-    get_or s.args.w.now (get_or s.args.kept.now c.before.before.before.loop.i 0) 0 ≤ pathBound
+    get_or s.args.w.now (get_or s.args.kept.now c.before.before.before.loop.i 0) 0 ≤ path_bound
 light c =
     let s = c.before.before.before.before in
     let b = s.requires.1.below (get_or s.args.kept.now c.before.before.before.loop.i 0) in

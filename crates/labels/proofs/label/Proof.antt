@@ -7,13 +7,13 @@ use Rattle.turned.proofs.StepLaws.{up_start, up_next, up-end}
 use Prim.Native.Nat.{ℕ, ◌-◌, ◌≤◌}
 use mathlib.Core.List.{List}
 use Rattle.turned.specs.Steps.{up_to}
-use Rattle.labels.specs.Labelling.{Own, joinedBy, labelled}
+use Rattle.labels.specs.Labelling.{Own, joined_by, labelled}
 use Rattle.labels.proofs.OwnLaws.{own-numbered}
 use Rattle.labels.proofs.label.Statement.{statement}
 use Rattle.labels.proofs.label.Tie as tie
 
 abbrev invariant-loop : tie.invariant-loop
-invariant-loop pts keys n e s lab₀ top₀ k₀ lab top k = (k ≤ e) × ((lab ≡ up_to (joinedBy s pts keys n) k lab₀) × Own n top lab)
+invariant-loop pts keys n e s lab₀ top₀ k₀ lab top k = (k ≤ e) × ((lab ≡ up_to (joined_by s pts keys n) k lab₀) × Own n top lab)
 
 abbrev decreases-loop : tie.decreases-loop
 decreases-loop pts keys n e s lab₀ top₀ k₀ lab top k = e - k
@@ -35,7 +35,7 @@ unfolding labelled
 returns c =
     let s = c.before.before.before.before.args in
     up-end _ _ _ _ _ c.before.loop.invariant.1.0 (omega arith) (omega arith)
-    ∙ ap (λ (t : List ℕ). up_to (joinedBy s.s s.pts.now s.keys.now s.n) s.e t) c.before.before.number.ensures
+    ∙ ap (λ (t : List ℕ). up_to (joined_by s.s s.pts.now s.keys.now s.n) s.e t) c.before.before.number.ensures
 
 pub label-spec : {M : Type 1} → statement M
 label-spec =

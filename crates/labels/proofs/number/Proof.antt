@@ -5,12 +5,12 @@ use mathlib.Core.Path.{◌≡◌, refl, sym, ap, ◌∙◌}
 use native.Mathlib.Omega.{arith}
 use Prim.Native.Nat.{◌≤◌, ◌-◌}
 use Rattle.turned.proofs.StepLaws.{up_start, up_next, up-end}
-use Rattle.turned.specs.Steps.{up_to, setBy}
+use Rattle.turned.specs.Steps.{up_to, set_by}
 use Rattle.labels.proofs.number.Statement.{statement}
 use Rattle.labels.proofs.number.Tie as tie
 
 abbrev invariant-loop : tie.invariant-loop
-invariant-loop lab₀ n i₀ lab i = (i ≤ n) × (lab ≡ up_to (setBy (λ j x. j)) i lab₀)
+invariant-loop lab₀ n i₀ lab i = (i ≤ n) × (lab ≡ up_to (set_by (λ j x. j)) i lab₀)
 
 abbrev decreases-loop : tie.decreases-loop
 decreases-loop lab₀ n i₀ lab i = n - i

@@ -5,22 +5,22 @@ use mathlib.Core.Path.{◌≡◌, refl, sym, ap, ◌∙◌}
 use Prim.Native.Nat.{◌*◌, ◌≤◌, ◌-◌}
 use native.Mathlib.Omega.{arith}
 use Rattle.lists.specs.Total.{total}
-use Rattle.lent.specs.Entries.{entriesFrom}
+use Rattle.lent.specs.Entries.{entries_from}
 use Rattle.joined.specs.Cost.{lengths}
-use Rattle.plane.specs.Cost.{cost, costLimit}
-use Rattle.laid.specs.Edges.{edgesOf}
+use Rattle.plane.specs.Cost.{cost, cost_limit}
+use Rattle.laid.specs.Edges.{edges_of}
 use Rattle.laid.proofs.EdgeLaws.{lengths-more}
 use Rattle.laid.proofs.total.Statement.{statement}
 use Rattle.laid.proofs.total.Tie as tie
 
 abbrev invariant-loop : tie.invariant-loop
-invariant-loop w edges e sum₀ i₀ sum i = ((i ≤ e) × (sum ≤ i * costLimit)) × (sum ≡ lengths (cost w) (edgesOf edges i))
+invariant-loop w edges e sum₀ i₀ sum i = ((i ≤ e) × (sum ≤ i * cost_limit)) × (sum ≡ lengths (cost w) (edges_of edges i))
 
 abbrev decreases-loop : tie.decreases-loop
 decreases-loop w edges e sum₀ i₀ sum i = e - i
 
 loop-holds : tie.Need-loop-init invariant-loop decreases-loop
-unfolding lengths total entriesFrom
+unfolding lengths total entries_from
 loop-holds c = ((omega arith, omega arith), refl)
 
 loop-again : tie.Need-loop-preserved invariant-loop decreases-loop
@@ -38,7 +38,7 @@ returns c =
     let l = c.before in
     let s = l.before.args in
     let end : l.loop.i ≡ s.e = omega arith in (
-      l.loop.invariant.1 ∙ ap (λ i. lengths (cost s.w) (edgesOf s.edges.now i)) end,
+      l.loop.invariant.1 ∙ ap (λ i. lengths (cost s.w) (edges_of s.edges.now i)) end,
       omega (arith, l.loop.invariant.0),
     )
 

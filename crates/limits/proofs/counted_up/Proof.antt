@@ -4,12 +4,12 @@ use mathlib.Core.Path.{◌≡◌, refl}
 use Prim.Native.Nat.{ℕ, ◌+◌, ◌*◌, ◌-◌, ◌≤◌}
 use native.Mathlib.Omega.{arith}
 use lib.ListN.{length, length-set}
-use Rattle.net.specs.Bounds.{macroBound, macroWidth}
+use Rattle.net.specs.Bounds.{macro_bound, macro_width}
 use Rattle.limits.proofs.counted_up.Statement.{statement}
 use Rattle.limits.proofs.counted_up.Tie as tie
 
 abbrev many : ℕ
-many = (macroBound + 1) * macroWidth
+many = (macro_bound + 1) * macro_width
 
 abbrev invariant-loop : tie.invariant-loop
 invariant-loop numbers₀ i₀ numbers i = (i ≤ many) × (many ≡ length numbers)

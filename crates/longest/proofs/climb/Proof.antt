@@ -6,7 +6,7 @@ use mathlib.Core.List.{List}
 use Prim.Native.Nat.{ℕ, ◌-◌, ◌≤◌, ◌<◌}
 use native.Mathlib.Omega.{arith}
 use lib.ListN.{length, get_or, length-set}
-use Rattle.tree.specs.Table.{treeBound}
+use Rattle.tree.specs.Table.{tree_bound}
 use Rattle.longest.specs.Longest.{no_edge}
 use Rattle.longest.specs.Hung.{ties, Told, Known}
 use Rattle.longest.proofs.RowLaws.{known-here, Chain, chain-start, chain-step, chain-end, begun-end}
@@ -14,7 +14,7 @@ use Rattle.longest.proofs.climb.Statement.{statement}
 use Rattle.longest.proofs.climb.Tie as tie
 
 abbrev invariant-loop : tie.invariant-loop
-invariant-loop el onto link turn x row₀ l₀ v₀ row l v = (((0 < get_or turn v 0) × (l < treeBound)) × ((length row ≡ treeBound) × Known row v))
+invariant-loop el onto link turn x row₀ l₀ v₀ row l v = (((0 < get_or turn v 0) × (l < tree_bound)) × ((length row ≡ tree_bound) × Known row v))
     × ((t : List ℕ) → Told el (ties onto link turn) t → Chain el (ties onto link turn) t x x no_edge row₀ →
     Chain el (ties onto link turn) t x v l row)
 

@@ -8,9 +8,9 @@ use lib.ListN.{length}
 use Rattle.lent.specs.Over.{over}
 use Rattle.lent.specs.Entries.{flat}
 use Rattle.plane.specs.declared.Place.{Place}
-use Rattle.net.specs.Pins.{pinPlaces}
+use Rattle.net.specs.Pins.{pin_places}
 use Rattle.net.proofs.PinLaws.{length-pins}
-use Rattle.terminal.specs.Tree.{pathNumbers}
+use Rattle.terminal.specs.Tree.{path_numbers}
 use Rattle.terminal.proofs.PathLaws.{paths-one-fewer, kept-fewer, worked-paths, worked-givable}
 use Rattle.made.proofs.FreshTables.{fresh}
 use Rattle.made.proofs.CountedLaws.{as-allowed, as-worked}
@@ -26,7 +26,7 @@ terminal-tree-requires c κs =
     (as-allowed c.before.before.before.before.before.before.before.before.before.before.before.before.requires.0, fresh)
 
 -- the room that there is
-room : (d : tie.After-terminal-tree) → length (pinPlaces (start d).args.pins.now) * 5 ≤ length (start d).args.paths.now
+room : (d : tie.After-terminal-tree) → length (pin_places (start d).args.pins.now) * 5 ≤ length (start d).args.paths.now
 room d = omega (arith, (start d).requires.1, length-pins (start d).args.pins.now)
 
 give-paths-requires : tie.Need-give-paths-requires
@@ -46,7 +46,7 @@ returns c =
       (
         w.total-is,
         g.give-paths.ensures
-            ∙ ap (λ (ps : List ((Place × Place) × ℕ)). over (flat pathNumbers ps) s.args.paths.now) (worked-paths al fresh w),
+            ∙ ap (λ (ps : List ((Place × Place) × ℕ)). over (flat path_numbers ps) s.args.paths.now) (worked-paths al fresh w),
       ),
     )
 

@@ -8,14 +8,14 @@ use Rattle.turned.proofs.StepLaws.{up_start, up_next, up-end}
 use mathlib.Core.Bool.{false, ◌||◌}
 use lib.ListN.{get_or}
 use Rattle.turned.specs.Steps.{up_to}
-use Rattle.turned.specs.Turned.{onIt}
-use Rattle.moves.specs.Moving.{labelView, held}
+use Rattle.turned.specs.Turned.{on_it}
+use Rattle.moves.specs.Moving.{label_view, held}
 use Rattle.moves.proofs.is_held.Statement.{statement}
 use Rattle.moves.proofs.is_held.Tie as tie
 
 abbrev invariant-loop : tie.invariant-loop
 invariant-loop seats m lab l held₀ i₀ held i =
-    (i ≤ m) × (held ≡ up_to (λ j t. t || onIt (labelView lab l) (get_or seats j 0)) i false)
+    (i ≤ m) × (held ≡ up_to (λ j t. t || on_it (label_view lab l) (get_or seats j 0)) i false)
 
 abbrev decreases-loop : tie.decreases-loop
 decreases-loop seats m lab l held₀ i₀ held i = m - i

@@ -6,16 +6,16 @@ use native.Mathlib.Omega.{arith}
 use Prim.Native.Nat.{◌-◌, ◌≤◌, ◌<◌}
 use Rattle.turned.proofs.StepLaws.{up_start, up_next, up-end}
 use Rattle.turned.specs.Steps.{up_to}
-use Rattle.turned.specs.Turned.{onIt}
-use Rattle.moves.specs.Moving.{labelView, chosen, lastOn}
-use Rattle.straight.specs.Table.{straightBound}
+use Rattle.turned.specs.Turned.{on_it}
+use Rattle.moves.specs.Moving.{label_view, chosen, last_on}
+use Rattle.straight.specs.Table.{straight_bound}
 use Rattle.moves.proofs.MovingLaws.{chosen_less}
 use Rattle.moves.proofs.last_of.Statement.{statement}
 use Rattle.moves.proofs.last_of.Tie as tie
 
 abbrev invariant-loop : tie.invariant-loop
 invariant-loop lab n l last₀ i₀ last i =
-    (i ≤ n) × ((last ≡ up_to (λ j x. chosen (onIt (labelView lab l) j) j x) i l) × (last < straightBound))
+    (i ≤ n) × ((last ≡ up_to (λ j x. chosen (on_it (label_view lab l) j) j x) i l) × (last < straight_bound))
 
 abbrev decreases-loop : tie.decreases-loop
 decreases-loop lab n l last₀ i₀ last i = n - i
@@ -37,7 +37,7 @@ loop-again c =
     )
 
 returns : tie.Need-returns invariant-loop decreases-loop
-unfolding lastOn
+unfolding last_on
 returns c = (up-end _ _ _ _ _ c.before.loop.invariant.1.0 (omega arith) (omega arith), c.before.loop.invariant.1.1)
 
 pub last-of-spec : {M : Type 1} → statement M

@@ -6,15 +6,15 @@ use Prim.Native.Nat.{ℕ, ◌-◌, ◌≤◌}
 use native.Mathlib.Omega.{arith}
 use lib.ListN.{set}
 use Rattle.plane.specs.declared.Place.{Place}
-use Rattle.net.specs.Pins.{pinAt}
-use Rattle.turned.specs.Steps.{up_to, setBy}
-use Rattle.moves.specs.Moving.{seatOf, seatsOf}
+use Rattle.net.specs.Pins.{pin_at}
+use Rattle.turned.specs.Steps.{up_to, set_by}
+use Rattle.moves.specs.Moving.{seat_of, seats_of}
 use Rattle.turned.proofs.StepLaws.{up_start, up_next, up-end}
 use Rattle.moves.proofs.seat.Statement.{statement}
 use Rattle.moves.proofs.seat.Tie as tie
 
 abbrev invariant-loop : tie.invariant-loop
-invariant-loop pts n pins m seats₀ j₀ seats j = (j ≤ m) × (seats ≡ up_to (setBy (λ i x. seatOf pts n (pinAt pins i))) j seats₀)
+invariant-loop pts n pins m seats₀ j₀ seats j = (j ≤ m) × (seats ≡ up_to (set_by (λ i x. seat_of pts n (pin_at pins i))) j seats₀)
 
 abbrev decreases-loop : tie.decreases-loop
 decreases-loop pts n pins m seats₀ j₀ seats j = m - j
@@ -26,11 +26,11 @@ loop-again c =
       omega arith,
       up_next _ _ _ _ _ l.loop.invariant.1
           (ap (λ (x : ℕ). set l.loop.seats l.loop.j x)
-          (c.seat-of.ensures.0 ∙ ap (λ (p : Place). seatOf s.pts.now s.n p) c.before.pin_at.ensures)),
+          (c.seat-of.ensures.0 ∙ ap (λ (p : Place). seat_of s.pts.now s.n p) c.before.pin_at.ensures)),
     )
 
 returns : tie.Need-returns invariant-loop decreases-loop
-unfolding seatsOf
+unfolding seats_of
 returns c = up-end _ _ _ _ _ c.before.loop.invariant.1 (omega arith) (omega arith)
 
 pub seat-spec : {M : Type 1} → statement M

@@ -5,7 +5,7 @@ use mathlib.Core.Path.{ap, ◌∙◌}
 use mathlib.Core.Bool.{Bool}
 use native.Mathlib.Omega.{arith}
 use Rattle.plane.specs.declared.Place.{Place}
-use Rattle.plane.specs.Place.{samePlace}
+use Rattle.plane.specs.Place.{same_place}
 use Rattle.moves.specs.Moving.{chosen}
 use Rattle.moves.proofs.MovingLaws.{chosen_less}
 use Rattle.moves.proofs.SeatLaws.{seat-past, seat-there}
@@ -26,7 +26,7 @@ returns-2 c =
     let s = r.before.before in
     let a = s.args in
     let same = c.before.is-same-place.ensures
-    ∙ ap (λ (q : Place). samePlace a.p q) c.before.before.point_at.ensures in (
+    ∙ ap (λ (q : Place). same_place a.p q) c.before.before.point_at.ensures in (
       c.chosen.ensures ∙ ap (λ (t : Bool). chosen t r.rank.result 0) same
           ∙ seat-there a.pts.now a.p a.n s.requires.1 _ r.rank.ensures.0 e.if1.false,
       rw c.chosen.ensures (chosen_less _ _ _ _ (omega (arith, e.if1.false, s.requires.0)) (omega arith)),

@@ -4,7 +4,7 @@ use borrow.Author.Rules.{rules}
 use mathlib.Core.Path.{◌∙◌}
 use mir.Syntax.{w32}
 use mir.ValLaws.{to_z-of_z}
-use Rattle.near.specs.Box.{boxOf}
+use Rattle.near.specs.Box.{box_of}
 use Rattle.plane.proofs.Fits.{PlaceFits}
 use Rattle.near.proofs.box_of.Statement.{statement}
 use Rattle.near.proofs.box_of.Tie as tie
@@ -17,7 +17,7 @@ module _ (s : tie.Start) where
   of-b = record { x = search rules; y = search rules }
 
 returns : tie.Need-returns
-unfolding boxOf
+unfolding box_of
 returns c =
     let r = c.before.before.before in
     let q = r.before.before.before in

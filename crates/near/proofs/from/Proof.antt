@@ -6,15 +6,15 @@ use Prim.Native.Nat.{ℕ, ◌+◌, ◌-◌, ◌/◌, ◌≤◌, ◌<◌}
 use native.Mathlib.Omega.{arith}
 use borrow.Author.Rules.{rules}
 use Rattle.plane.specs.declared.Place.{Place}
-use Rattle.plane.specs.Flat.{placeAt}
-use Rattle.near.specs.Box.{boxCost, FarLeft}
+use Rattle.plane.specs.Flat.{place_at}
+use Rattle.near.specs.Box.{box_cost, FarLeft}
 use Rattle.near.proofs.TableLaws.{left-of}
 use Rattle.near.proofs.from.Statement.{statement}
 use Rattle.near.proofs.from.Tie as tie
 
 abbrev invariant-loop : tie.invariant-loop
 invariant-loop w m pts n limit far₀ near₀ far near =
-    (far ≤ near) × ((near ≤ n) × ((u : ℕ) → u < far → limit ≤ boxCost w m (placeAt pts u)))
+    (far ≤ near) × ((near ≤ n) × ((u : ℕ) → u < far → limit ≤ box_cost w m (place_at pts u)))
 
 abbrev decreases-loop : tie.decreases-loop
 decreases-loop w m pts n limit far₀ near₀ far near = near - far

@@ -6,15 +6,15 @@ use Prim.Native.Nat.{ℕ, ◌+◌, ◌-◌, ◌/◌, ◌≤◌, ◌<◌}
 use native.Mathlib.Omega.{arith}
 use borrow.Author.Rules.{rules}
 use Rattle.plane.specs.declared.Place.{Place}
-use Rattle.plane.specs.Flat.{placeAt}
-use Rattle.near.specs.Box.{boxCost, FarRight}
+use Rattle.plane.specs.Flat.{place_at}
+use Rattle.near.specs.Box.{box_cost, FarRight}
 use Rattle.near.proofs.TableLaws.{right_of}
 use Rattle.near.proofs.to.Statement.{statement}
 use Rattle.near.proofs.to.Tie as tie
 
 abbrev invariant-loop : tie.invariant-loop
 invariant-loop w m pts n limit near₀ far₀ near far =
-    (near ≤ far) × ((far ≤ n) × ((u : ℕ) → far ≤ u → u < n → limit ≤ boxCost w m (placeAt pts u)))
+    (near ≤ far) × ((far ≤ n) × ((u : ℕ) → far ≤ u → u < n → limit ≤ box_cost w m (place_at pts u)))
 
 abbrev decreases-loop : tie.decreases-loop
 decreases-loop w m pts n limit near₀ far₀ near far = far - near

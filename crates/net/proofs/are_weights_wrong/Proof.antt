@@ -5,7 +5,7 @@ use mathlib.Core.Path.{ap₂}
 use mathlib.Core.Bool.{◌||◌}
 use mir.Syntax.{w32}
 use mir.ValLaws.{to_z-of_z}
-use Rattle.net.specs.Tests.{weightsWrong}
+use Rattle.net.specs.Tests.{weights_wrong}
 use Rattle.net.proofs.WeighingFits.{WeighingFits}
 use Rattle.net.proofs.are_weights_wrong.Statement.{statement}
 use Rattle.net.proofs.are_weights_wrong.Tie as tie
@@ -14,7 +14,7 @@ of-w : (s : tie.Start) → WeighingFits s.args.w
 of-w s = record { first = search rules; second = search rules }
 
 returns : tie.Need-returns
-unfolding weightsWrong
+unfolding weights_wrong
 returns c =
     let d = c.before.before in
     let s = d.before.before in

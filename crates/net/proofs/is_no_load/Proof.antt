@@ -3,12 +3,12 @@
 use mathlib.Core.Path.{refl}
 use mir.Syntax.{w32}
 use mir.ValLaws.{to_z-of_z}
-use Rattle.net.specs.Tests.{noLoad}
+use Rattle.net.specs.Tests.{no_load}
 use Rattle.net.proofs.is_no_load.Statement.{statement}
 use Rattle.net.proofs.is_no_load.Tie as tie
 
 returns : tie.Need-returns
-unfolding noLoad
+unfolding no_load
 returns c = rw (to_z-of_z w32 _ c.ranges.z) refl
 
 pub is-no-load-spec : {M : Type 1} → statement M

@@ -3,12 +3,12 @@
 use mathlib.Core.Path.{refl}
 use mir.Syntax.{w32}
 use mir.ValLaws.{to_z-of_z}
-use Rattle.net.specs.Tests.{noWeight}
+use Rattle.net.specs.Tests.{no_weight}
 use Rattle.net.proofs.is_no_weight.Statement.{statement}
 use Rattle.net.proofs.is_no_weight.Tie as tie
 
 returns : tie.Need-returns
-unfolding noWeight
+unfolding no_weight
 returns c = rw (to_z-of_z w32 _ c.ranges.z) refl
 
 pub is-no-weight-spec : {M : Type 1} → statement M

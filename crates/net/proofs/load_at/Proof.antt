@@ -2,24 +2,24 @@
 -- Assumes nothing.
 use borrow.Author.Rules.{rules}
 use native.Mathlib.Omega.{arith}
-use Rattle.net.specs.Pins.{pinCount}
+use Rattle.net.specs.Pins.{pin_count}
 use Rattle.net.proofs.load_at.Statement.{statement}
 use Rattle.net.proofs.load_at.Tie as tie
 
 mul-result : tie.Need-overflow-mul-result
-unfolding pinCount
+unfolding pin_count
 mul-result c = omega arith
 
 add-result : tie.Need-overflow-add-result
-unfolding pinCount
+unfolding pin_count
 add-result c = omega arith
 
 mul-result-2 : tie.Need-overflow-mul-result-2
-unfolding pinCount
+unfolding pin_count
 mul-result-2 c = omega arith
 
 shared-slice-copy-out-result : tie.Need-shared-slice-copy-out-result
-unfolding pinCount
+unfolding pin_count
 shared-slice-copy-out-result c = omega arith
 
 pub load-at-spec : {M : Type 1} → statement M

@@ -1,7 +1,7 @@
 -- `net::macros_miscounted` meets its contract: its tests are those of the definition.
 -- Assumes nothing.
 use mathlib.Core.Path.{refl}
-use Rattle.net.specs.Tests.{macrosMiscountedWithin}
+use Rattle.net.specs.Tests.{macros_miscounted_within}
 use Rattle.net.proofs.macros_miscounted.Statement.{statement}
 use Rattle.net.proofs.macros_miscounted.Tie as tie
 
@@ -9,7 +9,7 @@ macro-count-requires : tie.Need-macro-count-requires
 macro-count-requires c κs = tt
 
 returns : tie.Need-returns
-unfolding macrosMiscountedWithin
+unfolding macros_miscounted_within
 returns c = rw c.macro-count.ensures refl
 
 pub macros-miscounted-spec : {M : Type 1} → statement M

@@ -2,32 +2,32 @@
 -- Assumes nothing.
 use borrow.Author.Rules.{rules}
 use native.Mathlib.Omega.{arith}
-use Rattle.net.specs.Pins.{pinCount}
+use Rattle.net.specs.Pins.{pin_count}
 use Rattle.net.proofs.pin_at.Statement.{statement}
 use Rattle.net.proofs.pin_at.Tie as tie
 
 mul-k : tie.Need-overflow-mul-k
-unfolding pinCount
+unfolding pin_count
 mul-k c = omega arith
 
 mul-t4 : tie.Need-overflow-mul-t4
-unfolding pinCount
+unfolding pin_count
 mul-t4 c = omega arith
 
 shared-slice-copy-out-t6 : tie.Need-shared-slice-copy-out-t6
-unfolding pinCount
+unfolding pin_count
 shared-slice-copy-out-t6 c = omega arith
 
 add-t7 : tie.Need-overflow-add-t7
-unfolding pinCount
+unfolding pin_count
 add-t7 c = omega arith
 
 mul-t8 : tie.Need-overflow-mul-t8
-unfolding pinCount
+unfolding pin_count
 mul-t8 c = omega arith
 
 shared-slice-copy-out-t10 : tie.Need-shared-slice-copy-out-t10
-unfolding pinCount
+unfolding pin_count
 shared-slice-copy-out-t10 c = omega arith
 
 pub pin-at-spec : {M : Type 1} → statement M

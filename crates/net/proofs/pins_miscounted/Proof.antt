@@ -1,7 +1,7 @@
 -- `net::pins_miscounted` meets its contract: its tests are those of the definition.
 -- Assumes nothing.
 use mathlib.Core.Path.{refl}
-use Rattle.net.specs.Tests.{pinsMiscountedWithin}
+use Rattle.net.specs.Tests.{pins_miscounted_within}
 use Rattle.net.proofs.pins_miscounted.Statement.{statement}
 use Rattle.net.proofs.pins_miscounted.Tie as tie
 
@@ -9,7 +9,7 @@ pin-count-requires : tie.Need-pin-count-requires
 pin-count-requires c κs = tt
 
 returns : tie.Need-returns
-unfolding pinsMiscountedWithin
+unfolding pins_miscounted_within
 returns c = rw c.pin-count.ensures refl
 
 pub pins-miscounted-spec : {M : Type 1} → statement M

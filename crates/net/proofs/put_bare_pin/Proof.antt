@@ -8,7 +8,7 @@ use lib.ListN.{length-set}
 use mir.Syntax.{w32}
 use mir.ValLaws.{to_z-of_z}
 use Rattle.plane.proofs.Fits.{PlaceFits}
-use Rattle.net.specs.Bounds.{pinWidth}
+use Rattle.net.specs.Bounds.{pin_width}
 use borrow.Author.Rules.{rules}
 use Rattle.net.proofs.put_bare_pin.Statement.{statement}
 use Rattle.net.proofs.put_bare_pin.Tie as tie
@@ -29,7 +29,7 @@ two-more k = omega arith
 returns : tie.Need-returns
 returns c =
     let s = c.before.before in
-    rw (two-more (s.args.i * pinWidth), add-one, to_z-of_z w32 _ (of-p s).x, to_z-of_z w32 _ (of-p s).y) refl
+    rw (two-more (s.args.i * pin_width), add-one, to_z-of_z w32 _ (of-p s).x, to_z-of_z w32 _ (of-p s).y) refl
 
 pub put-bare-pin-spec : {M : Type 1} → statement M
 put-bare-pin-spec =

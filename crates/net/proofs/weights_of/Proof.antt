@@ -8,7 +8,7 @@ use mir.Syntax.{w32}
 use mir.ValLaws.{to_z-of_z}
 use Rattle.lists.proofs.TestLaws.{or-none}
 use Rattle.plane.specs.declared.Weights.{Weights}
-use Rattle.net.specs.Tests.{noWeight, weightsWrong}
+use Rattle.net.specs.Tests.{no_weight, weights_wrong}
 use Rattle.net.proofs.WeighingFits.{WeighingFits}
 use Rattle.net.proofs.weights_of.Statement.{statement}
 use Rattle.net.proofs.weights_of.Tie as tie
@@ -17,9 +17,9 @@ module _ (s : tie.Start) where
   of-w : WeighingFits s.args.w
   of-w = record { first = search rules; second = search rules }
 
-  both : (noWeight s.args.w.first ≡ false) × (noWeight s.args.w.second ≡ false)
-  unfolding weightsWrong
-  both = or-none (noWeight s.args.w.first) (noWeight s.args.w.second) s.pre
+  both : (no_weight s.args.w.first ≡ false) × (no_weight s.args.w.second ≡ false)
+  unfolding weights_wrong
+  both = or-none (no_weight s.args.w.first) (no_weight s.args.w.second) s.pre
 
 weight-of-requires : tie.Need-weight-of-requires
 weight-of-requires c κs = rw (to_z-of_z w32 _ (of-w c.before).first) (both c.before).0

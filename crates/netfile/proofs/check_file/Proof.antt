@@ -8,11 +8,11 @@ use lib.IntN.{ℤ, pos}
 use lib.ListN.{length, take, replicate}
 use Rattle.lists.proofs.TestLaws.{by}
 use Rattle.plane.specs.declared.Weights.{Weights}
-use Rattle.net.specs.Bounds.{pinWidth}
-use Rattle.blocks.specs.Sizes.{blockCount, fileBlocks, fileNumbers, filePins}
+use Rattle.net.specs.Bounds.{pin_width}
+use Rattle.blocks.specs.Sizes.{block_count, file_blocks, file_numbers, file_pins}
 use Rattle.encoded.specs.Layout.{stored}
-use Rattle.decoded.specs.Held.{loadedIn, pinsIn, macrosIn, pinLength, macroLength, Sized}
-use Rattle.netfile.specs.Read.{laidOut}
+use Rattle.decoded.specs.Held.{loaded_in, pins_in, macros_in, pin_length, macro_length, Sized}
+use Rattle.netfile.specs.Read.{laid_out}
 use Rattle.blocks.proofs.SizeLaws.{fewer, pins-few, macros-few}
 use Rattle.blocks.proofs.FillLaws.{part-of-over, over-long}
 use Rattle.decoded.proofs.ReadLaws.{blocks-few}
@@ -23,23 +23,23 @@ use Rattle.netfile.proofs.check_file.Statement.{statement}
 use Rattle.netfile.proofs.check_file.Tie as tie
 
 -- the two tables
-abbrev pinZeros : List ℤ
-pinZeros = replicate filePins (pos 0)
+abbrev pin_zeros : List ℤ
+pin_zeros = replicate file_pins (pos 0)
 
 abbrev zeros : List ℤ
-zeros = replicate fileNumbers (pos 0)
+zeros = replicate file_numbers (pos 0)
 
 -- the pins of a file fit into the first
-fits-table : (bytes : List ℕ) → Sized bytes (pinLength bytes) (macroLength bytes) → length (pinsIn bytes) ≤ filePins
+fits-table : (bytes : List ℕ) → Sized bytes (pin_length bytes) (macro_length bytes) → length (pins_in bytes) ≤ file_pins
 fits-table bytes sized =
     let few = pins-few _ _ (blocks-few bytes _ _ sized) in
-    by (loadedIn bytes)
+    by (loaded_in bytes)
     (λ e. omega (arith, length-pins-in bytes, long-with bytes e, few))
     (λ e. omega (arith, length-pins-in bytes, long-alone bytes e, few))
 
 -- and their file into the longest
-stored-blocks : (bytes : List ℕ) → blockCount (pinLength bytes) (macroLength bytes) ≤ fileBlocks
-    → blockCount (length (stored (pinsIn bytes)).numbers) (macroLength bytes) ≤ fileBlocks
+stored-blocks : (bytes : List ℕ) → block_count (pin_length bytes) (macro_length bytes) ≤ file_blocks
+    → block_count (length (stored (pins_in bytes)).numbers) (macro_length bytes) ≤ file_blocks
 stored-blocks bytes few = omega (arith, fewer _ _ (stored-within bytes))
 
 -- the tables after the lists were taken: as long as they were, and the lists stand at their beginnings
@@ -47,29 +47,29 @@ module _ (t : tie.After-take-lists) where
   abbrev bytes : List ℕ
   bytes = t.before.before.before.before.before.before.before.args.bytes.now
 
-  sized : Sized bytes (pinLength bytes) (macroLength bytes)
+  sized : Sized bytes (pin_length bytes) (macro_length bytes)
   sized = t.before.before.before.before.before.before.before.pre.0
 
-  few : blockCount (pinLength bytes) (macroLength bytes) ≤ fileBlocks
+  few : block_count (pin_length bytes) (macro_length bytes) ≤ file_blocks
   few = blocks-few bytes _ _ sized
 
-  pins-fit : length (pinsIn bytes) ≤ filePins
+  pins-fit : length (pins_in bytes) ≤ file_pins
   pins-fit = fits-table bytes sized
 
-  pins-long : length t.take-lists.last.1.0 ≡ filePins
-  pins-long = over-long _ _ pinZeros filePins t.take-lists.ensures.0 pins-fit refl
+  pins-long : length t.take-lists.last.1.0 ≡ file_pins
+  pins-long = over-long _ _ pin_zeros file_pins t.take-lists.ensures.0 pins-fit refl
 
-  macros-long : length t.take-lists.last.1.1.0 ≡ fileNumbers
+  macros-long : length t.take-lists.last.1.1.0 ≡ file_numbers
   macros-long =
-      over-long _ _ zeros fileNumbers t.take-lists.ensures.1 (omega (arith, length-macros-in bytes, macros-few _ _ few)) refl
+      over-long _ _ zeros file_numbers t.take-lists.ensures.1 (omega (arith, length-macros-in bytes, macros-few _ _ few)) refl
 
-  pins-counted : length (pinsIn bytes) ≡ t.before.before.before.before.head-word.result * pinWidth
-  pins-counted = length-pins-in bytes ∙ ap (λ (n : ℕ). n * pinWidth) (sym t.before.before.before.before.head-word.ensures.0)
+  pins-counted : length (pins_in bytes) ≡ t.before.before.before.before.head-word.result * pin_width
+  pins-counted = length-pins-in bytes ∙ ap (λ (n : ℕ). n * pin_width) (sym t.before.before.before.before.head-word.ensures.0)
 
-  pins-part : take (t.before.before.before.before.head-word.result * pinWidth - 0) t.take-lists.last.1.0 ≡ pinsIn bytes
-  pins-part = part-of-over _ _ pinZeros _ t.take-lists.ensures.0 pins-counted
+  pins-part : take (t.before.before.before.before.head-word.result * pin_width - 0) t.take-lists.last.1.0 ≡ pins_in bytes
+  pins-part = part-of-over _ _ pin_zeros _ t.take-lists.ensures.0 pins-counted
 
-  macros-part : take (t.before.before.before.macro-length.result - 0) t.take-lists.last.1.1.0 ≡ macrosIn bytes
+  macros-part : take (t.before.before.before.macro-length.result - 0) t.take-lists.last.1.1.0 ≡ macros_in bytes
   macros-part =
       part-of-over _ _ zeros _ t.take-lists.ensures.1
       (length-macros-in bytes ∙ sym t.before.before.before.macro-length.ensures)
@@ -101,8 +101,8 @@ returns : tie.Need-returns
 returns c =
     let t = c.before.before.before.before.before.before.before in
     c.check-lists.ensures
-    ∙ ap₂ (laidOut (bytes t) _) (pins-part t) (macros-part t)
-    ∙ ap (λ (w : Weights). laidOut (bytes t) w (pinsIn (bytes t)) (macrosIn (bytes t)))
+    ∙ ap₂ (laid_out (bytes t) _) (pins-part t) (macros-part t)
+    ∙ ap (λ (w : Weights). laid_out (bytes t) w (pins_in (bytes t)) (macros_in (bytes t)))
     t.before.before.before.before.before.weights-in.ensures
 
 pub check-file-spec : {M : Type 1} → statement M

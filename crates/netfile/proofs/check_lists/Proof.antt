@@ -5,7 +5,7 @@ use Rattle.net.specs.declared.Weighing.{Weighing}
 use Rattle.net.specs.Bounds.{today}
 use Rattle.net.specs.Answer.{number}
 use Rattle.checks.specs.Check.{checked, told}
-use Rattle.netfile.proofs.AnswerLaws.{laid_out, laid-wrong}
+use Rattle.netfile.proofs.AnswerLaws.{laid-out, laid-wrong}
 use borrow.Author.Rules.{rules}
 use Rattle.netfile.proofs.check_lists.Statement.{statement}
 use Rattle.netfile.proofs.check_lists.Tie as tie
@@ -17,7 +17,7 @@ returns c =
     let s = f.before.before in
     c.check.ensures
     ∙ ap (λ (v : Weighing). checked v s.args.pins.now s.args.macros.now) h.handed.ensures
-    ∙ sym (laid_out today _ _ _ _ (sym f.is-file-of.ensures ∙ h.before.if1.true))
+    ∙ sym (laid-out today _ _ _ _ (sym f.is-file-of.ensures ∙ h.before.if1.true))
 
 returns-2 : tie.Need-returns-2
 unfolding told number

@@ -14,8 +14,8 @@ use Rattle.net.specs.declared.Net.{Net as Counts}
 use Rattle.net.specs.Bounds.{today}
 use Rattle.net.specs.Answer.{number}
 use Rattle.checks.specs.Check.{told}
-use Rattle.decoded.specs.Held.{blocksMiscounted, sumsWrong, headWrong, pinsIn, macrosIn}
-use Rattle.netfile.specs.Read.{roomShort, readFile}
+use Rattle.decoded.specs.Held.{blocks_miscounted, sums_wrong, head_wrong, pins_in, macros_in}
+use Rattle.netfile.specs.Read.{room_short, read_file}
 use Rattle.decoded.proofs.HeldLaws.{blocks-counted, head-right, sized-by-head}
 use Rattle.netfile.proofs.AnswerLaws.{refuse-21, refuse-1, refuse-2, refuse-3, read-on, unaltered}
 use borrow.Author.Rules.{rules}
@@ -32,7 +32,7 @@ abbrev macros-of : tie.Start → List ℤ
 macros-of s = s.args.macros.now
 
 abbrev answer-of : tie.Start → Told Counts
-answer-of s = readFile (bytes_of s) (length (pins-of s)) (length (macros-of s))
+answer-of s = read_file (bytes_of s) (length (pins-of s)) (length (macros-of s))
 
 abbrev start1 : tie.Else1 → tie.Start
 start1 c = c.before.before.before.before.before
@@ -47,27 +47,27 @@ abbrev start4 : tie.Else4 → tie.Start
 start4 c = start3 c.before.before
 
 -- the tests that were passed
-room : (c : tie.Else1) → roomShort (length (pins-of (start1 c))) (length (macros-of (start1 c))) ≡ false
+room : (c : tie.Else1) → room_short (length (pins-of (start1 c))) (length (macros-of (start1 c))) ≡ false
 room c = sym c.before.room-short.ensures ∙ c.if1.false
 
-blocks : (c : tie.Else2) → blocksMiscounted (bytes_of (start2 c)) ≡ false
+blocks : (c : tie.Else2) → blocks_miscounted (bytes_of (start2 c)) ≡ false
 blocks c = sym c.before.blocks-miscounted.ensures ∙ c.if2.false
 
-sums : (c : tie.Else3) → sumsWrong (bytes_of (start3 c)) ≡ false
+sums : (c : tie.Else3) → sums_wrong (bytes_of (start3 c)) ≡ false
 sums c = sym c.before.any-wrong-sums.ensures ∙ c.if3.false
 
-head : (c : tie.Else4) → headWrong (bytes_of (start4 c)) ≡ false
+head : (c : tie.Else4) → head_wrong (bytes_of (start4 c)) ≡ false
 head c = sym c.before.head-wrong.ensures ∙ c.if4.false
 
 -- a refusal
 abbrev Turned : tie.Start → ℕ → Type 0
 Turned s n =
     (refused n ≡ answer-of s)
-    × ((pins-of s ≡ after (answer-of s) (pinsIn (bytes_of s)) (pins-of s))
-    × (macros-of s ≡ after (answer-of s) (macrosIn (bytes_of s)) (macros-of s)))
+    × ((pins-of s ≡ after (answer-of s) (pins_in (bytes_of s)) (pins-of s))
+    × (macros-of s ≡ after (answer-of s) (macros_in (bytes_of s)) (macros-of s)))
 
 turned : (s : tie.Start) (n : ℕ) → answer-of s ≡ refused n → Turned s n
-turned s n e = unaltered (answer-of s) (pinsIn (bytes_of s)) (macrosIn (bytes_of s)) (pins-of s) (macros-of s) n e
+turned s n e = unaltered (answer-of s) (pins_in (bytes_of s)) (macros_in (bytes_of s)) (pins-of s) (macros-of s) n e
 
 returns : tie.Need-returns
 unfolding told number
@@ -123,8 +123,8 @@ returns-5 c =
     let e = sym (read-on today (bytes_of s) _ _ (room q.before.before) (blocks q) (sums p) (head r)) in (
       d.read-counted.ensures.0 ∙ e,
       (
-        d.read-counted.ensures.1.0 ∙ ap (λ (t : Told Counts). after t (pinsIn (bytes_of s)) (pins-of s)) e,
-        d.read-counted.ensures.1.1 ∙ ap (λ (t : Told Counts). after t (macrosIn (bytes_of s)) (macros-of s)) e,
+        d.read-counted.ensures.1.0 ∙ ap (λ (t : Told Counts). after t (pins_in (bytes_of s)) (pins-of s)) e,
+        d.read-counted.ensures.1.1 ∙ ap (λ (t : Told Counts). after t (macros_in (bytes_of s)) (macros-of s)) e,
       ),
     )
 

@@ -6,7 +6,7 @@ use Rattle.lent.specs.Told.{Told, given}
 use Rattle.lent.proofs.AfterLaws.{after-given}
 use Rattle.net.specs.declared.Net.{Net as Counts}
 use Rattle.checks.specs.Check.{told}
-use Rattle.decoded.specs.Held.{pinsIn, macrosIn}
+use Rattle.decoded.specs.Held.{pins_in, macros_in}
 use Rattle.netfile.specs.Read.{answer_in}
 use Rattle.netfile.proofs.AnswerLaws.{lists-fit, unaltered}
 use borrow.Author.Rules.{rules}
@@ -38,8 +38,8 @@ returns c =
     let e = accepted k in (
       k.before.before.check-file.ensures,
       (
-        l.take-lists.ensures.0 ∙ after-given _ (pinsIn b) s.args.pins.now _ e,
-        l.take-lists.ensures.1 ∙ after-given _ (macrosIn b) s.args.macros.now _ e,
+        l.take-lists.ensures.0 ∙ after-given _ (pins_in b) s.args.pins.now _ e,
+        l.take-lists.ensures.1 ∙ after-given _ (macros_in b) s.args.macros.now _ e,
       ),
     )
 
@@ -50,7 +50,7 @@ returns-2 c =
     let s = k.before.before in
     let b = s.args.bytes.now in
     let e = sym k.check-file.ensures ∙ ap told c.enum-told2.given.1 in
-    (k.check-file.ensures, (unaltered _ (pinsIn b) (macrosIn b) s.args.pins.now s.args.macros.now _ e).1)
+    (k.check-file.ensures, (unaltered _ (pins_in b) (macros_in b) s.args.pins.now s.args.macros.now _ e).1)
 
 pub read-counted-spec : {M : Type 1} → statement M
 read-counted-spec =

@@ -10,11 +10,11 @@ use Rattle.lent.specs.Over.{after}
 use Rattle.lent.proofs.AfterLaws.{after-refused}
 use Rattle.plane.specs.declared.Weights.{Weights}
 use Rattle.net.specs.declared.Net.{Net as Counts}
-use Rattle.net.specs.Net.{weightsOf}
+use Rattle.net.specs.Net.{weights_of}
 use Rattle.checks.specs.Check.{checked, told}
 use Rattle.checks.proofs.GivenLaws.{given-counts}
-use Rattle.encoded.specs.Layout.{fileBytes}
-use Rattle.netfile.specs.Write.{fitted, toldBytes}
+use Rattle.encoded.specs.Layout.{file_bytes}
+use Rattle.netfile.specs.Write.{fitted, told_bytes}
 use Rattle.netfile.proofs.WriteLaws.{written-refused, written-allowed, allowed-blocks}
 use borrow.Author.Rules.{rules}
 use Rattle.netfile.proofs.write.Statement.{statement}
@@ -31,7 +31,7 @@ bytes_of s = s.args.bytes.now
 
 -- the file of a net with these weights
 abbrev file-of : tie.Start → Weights → List ℕ
-file-of s w = fileBytes w (pins-of s) (macros-of s)
+file-of s w = file_bytes w (pins-of s) (macros-of s)
 
 -- the answer of the check, where the net is allowed
 abbrev checked-of : tie.Start → Told Counts
@@ -49,7 +49,7 @@ module _ (c : tie.After-write-checked-arg) where
   allowed = sym c.before.before.before.before.check.ensures ∙ ap told c.before.before.answer.given.1
 
   -- the weights found are those handed over
-  found : net.weights ≡ weightsOf start.args.w
+  found : net.weights ≡ weights_of start.args.w
   found = ap (λ (n : Counts). n.weights) (given-counts _ _ _ allowed)
 
 write-checked-requires : tie.Need-write-checked-requires
@@ -69,7 +69,7 @@ returns c =
     )
 
 returns-2 : tie.Need-returns-2
-unfolding toldBytes told
+unfolding told_bytes told
 returns-2 c =
     let k = c.before.before.before in
     let s = k.before.before in
@@ -77,7 +77,7 @@ returns-2 c =
     written-refused s.args.w (pins-of s) (macros-of s) (length (bytes_of s)) _
     (sym k.check.ensures ∙ ap told c.before.answer2.given.1)
     in
-    (sym e, after-refused _ (file-of s (weightsOf s.args.w)) (bytes_of s) _ e)
+    (sym e, after-refused _ (file-of s (weights_of s.args.w)) (bytes_of s) _ e)
 
 pub write_spec : {M : Type 1} → statement M
 write_spec =

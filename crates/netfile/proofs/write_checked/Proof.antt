@@ -6,8 +6,8 @@ use lib.ListN.{length}
 use Rattle.lent.specs.Told.{given}
 use Rattle.lent.proofs.AfterLaws.{after-refused, after-given}
 use Rattle.net.specs.Answer.{number}
-use Rattle.encoded.specs.Layout.{stored, fileBytes}
-use Rattle.netfile.specs.Write.{toldBytes}
+use Rattle.encoded.specs.Layout.{stored, file_bytes}
+use Rattle.netfile.specs.Write.{told_bytes}
 use Rattle.encoded.proofs.LayoutLaws.{length-file}
 use Rattle.netfile.proofs.WriteLaws.{fitted_short, fitted-given}
 use borrow.Author.Rules.{rules}
@@ -15,23 +15,23 @@ use Rattle.netfile.proofs.write_checked.Statement.{statement}
 use Rattle.netfile.proofs.write_checked.Tie as tie
 
 returns : tie.Need-returns
-unfolding toldBytes number
+unfolding told_bytes number
 returns c =
     let k = c.before in
     let a = k.before.before.args in
-    let f = fileBytes a.w a.pins.now a.macros.now in
+    let f = file_bytes a.w a.pins.now a.macros.now in
     let n = length-file a.w (stored a.pins.now) a.macros.now in
     let e = fitted_short (length f) (length a.bytes.now) (omega (arith, n, k.file-length.ensures)) in
     (sym e, after-refused _ f a.bytes.now 21 e)
 
 returns-2 : tie.Need-returns-2
-unfolding toldBytes
+unfolding told_bytes
 returns-2 c =
     let p = c.before.before in
     let k = p.before.before.before in
     let a = k.before.before.args in
     let b = a.bytes.now in
-    let f = fileBytes a.w a.pins.now a.macros.now in
+    let f = file_bytes a.w a.pins.now a.macros.now in
     let n = length-file a.w (stored a.pins.now) a.macros.now in
     let e : k.file-length.result ≡ length f = k.file-length.ensures ∙ sym n in
     let g = fitted-given (length f) (length b) (omega (arith, n, k.file-length.ensures)) in

@@ -4,14 +4,14 @@
 use mathlib.Core.Path.{◌≡◌}
 use Prim.Native.Nat.{◌≤◌, ◌-◌}
 use native.Mathlib.Omega.{arith}
-use Rattle.parts.specs.Tables.{lonePin}
+use Rattle.parts.specs.Tables.{lone_pin}
 use Rattle.parts.proofs.WorkLaws.{Beginning, begin-none, begin-more, begin-end, begin-lone}
 use borrow.Author.Rules.{rules}
 use Rattle.parts.proofs.begin.Statement.{statement}
 use Rattle.parts.proofs.begin.Tie as tie
 
 abbrev invariant-loop : tie.invariant-loop
-invariant-loop work numbers m s row₀ i p₀ row p = ((1 ≤ p) × (p ≤ s)) × ((lonePin s ≡ 0) × Beginning m work s p row)
+invariant-loop work numbers m s row₀ i p₀ row p = ((1 ≤ p) × (p ≤ s)) × ((lone_pin s ≡ 0) × Beginning m work s p row)
 
 abbrev decreases-loop : tie.decreases-loop
 decreases-loop work numbers m s row₀ i p₀ row p = s - p

@@ -3,16 +3,16 @@
 use mathlib.Core.Path.{refl}
 use Prim.Native.Nat.{◌≤◌, ◌-◌}
 use native.Mathlib.Omega.{arith}
-use Rattle.lines.specs.Bounds.{crossingBound}
+use Rattle.lines.specs.Bounds.{crossing_bound}
 use Rattle.parts.proofs.WorkLaws.{Taking, take_none, take_more, take-end}
 use Rattle.parts.proofs.get_row.Statement.{statement}
 use Rattle.parts.proofs.get_row.Tie as tie
 
 abbrev invariant-loop : tie.invariant-loop
-invariant-loop work s row₀ v₀ row v = (v ≤ crossingBound) × Taking work s v row
+invariant-loop work s row₀ v₀ row v = (v ≤ crossing_bound) × Taking work s v row
 
 abbrev decreases-loop : tie.decreases-loop
-decreases-loop work s row₀ v₀ row v = crossingBound - v
+decreases-loop work s row₀ v₀ row v = crossing_bound - v
 
 loop-holds : tie.Need-loop-init invariant-loop decreases-loop
 loop-holds c = (omega arith, take_none _ _ _ c.requires.1)

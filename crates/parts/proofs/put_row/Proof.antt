@@ -4,16 +4,16 @@ use mathlib.Core.Path.{◌≡◌, refl}
 use Prim.Native.Nat.{◌≤◌, ◌-◌}
 use native.Mathlib.Omega.{arith}
 use lib.ListN.{length}
-use Rattle.lines.specs.Bounds.{crossingBound}
+use Rattle.lines.specs.Bounds.{crossing_bound}
 use Rattle.parts.proofs.WorkLaws.{Putting, put-none, put-more, put-end}
 use Rattle.parts.proofs.put_row.Statement.{statement}
 use Rattle.parts.proofs.put_row.Tie as tie
 
 abbrev invariant-loop : tie.invariant-loop
-invariant-loop row s work₀ v₀ work v = (v ≤ crossingBound) × ((length work ≡ length work₀) × Putting s row work₀ v work)
+invariant-loop row s work₀ v₀ work v = (v ≤ crossing_bound) × ((length work ≡ length work₀) × Putting s row work₀ v work)
 
 abbrev decreases-loop : tie.decreases-loop
-decreases-loop row s work₀ v₀ work v = crossingBound - v
+decreases-loop row s work₀ v₀ work v = crossing_bound - v
 
 loop-holds : tie.Need-loop-init invariant-loop decreases-loop
 loop-holds c = (omega arith, (refl, put-none _ _ _))

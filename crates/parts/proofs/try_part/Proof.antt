@@ -6,7 +6,7 @@ use mathlib.Core.Bool.{true}
 use Prim.Native.Nat.{◌≤◌, ◌-◌}
 use native.Mathlib.Omega.{arith}
 use borrow.Author.Tests.{not-true, not-false}
-use Rattle.lines.specs.Bounds.{crossingBound}
+use Rattle.lines.specs.Bounds.{crossing_bound}
 use Rattle.parts.specs.Numbers.{part_of}
 use Rattle.parts.specs.Tables.{value_at}
 use Rattle.parts.proofs.WorkLaws.{Trying, tried-none, trying-none, trying-more, trying-end}
@@ -15,10 +15,10 @@ use Rattle.parts.proofs.try_part.Statement.{statement}
 use Rattle.parts.proofs.try_part.Tie as tie
 
 abbrev invariant-loop : tie.invariant-loop
-invariant-loop work m s p row₀ v₀ row v = (v ≤ crossingBound) × ((part_of m p s ≡ true) × Trying m (value_at work) s p row₀ v row)
+invariant-loop work m s p row₀ v₀ row v = (v ≤ crossing_bound) × ((part_of m p s ≡ true) × Trying m (value_at work) s p row₀ v row)
 
 abbrev decreases-loop : tie.decreases-loop
-decreases-loop work m s p row₀ v₀ row v = crossingBound - v
+decreases-loop work m s p row₀ v₀ row v = crossing_bound - v
 
 returns : tie.Need-returns invariant-loop decreases-loop
 returns c =

@@ -6,9 +6,9 @@ use mathlib.Core.Path.{◌≡◌, sym, ◌∙◌}
 use lib.Dec.{eqb}
 use mir.Syntax.{w32}
 use mir.Val.{of_z}
-use Rattle.signed.specs.Order.{eqZ}
+use Rattle.signed.specs.Order.{z_eq}
 use Rattle.signed.proofs.Bits.{flag-eq}
-use Rattle.plane.specs.Place.{samePlace}
+use Rattle.plane.specs.Place.{same_place}
 use Rattle.plane.proofs.Fits.{PlaceFits}
 use Rattle.plane.proofs.is_same_place.Statement.{statement}
 use Rattle.plane.proofs.is_same_place.Tie as tie
@@ -20,21 +20,21 @@ module _ (s : tie.Start) where
   of-b : PlaceFits s.args.b
   of-b = record { x = search rules; y = search rules }
 
-  across : eqb (of_z w32 s.args.a.x) (of_z w32 s.args.b.x) ≡ eqZ s.args.a.x s.args.b.x
+  across : eqb (of_z w32 s.args.a.x) (of_z w32 s.args.b.x) ≡ z_eq s.args.a.x s.args.b.x
   across = flag-eq w32 _ _ of-a.x of-b.x
 
-  along : eqb (of_z w32 s.args.a.y) (of_z w32 s.args.b.y) ≡ eqZ s.args.a.y s.args.b.y
+  along : eqb (of_z w32 s.args.a.y) (of_z w32 s.args.b.y) ≡ z_eq s.args.a.y s.args.b.y
   along = flag-eq w32 _ _ of-a.y of-b.y
 
 returns : tie.Need-returns
-unfolding samePlace
+unfolding same_place
 returns c =
     let d = c.before.before.before.before in
     let s = d.before.before.before.before.before in
     rw (sym (across s) ∙ eq-eqb _ _ d.if1.true) (along s)
 
 returns-2 : tie.Need-returns-2
-unfolding samePlace
+unfolding same_place
 returns-2 c =
     let s = c.before.before.before.before.before in
     rw (sym (across s) ∙ ne_eqb _ _ c.if1.false) (ne_eqb _ _ c.if1.false)

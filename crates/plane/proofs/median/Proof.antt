@@ -5,15 +5,15 @@ use mathlib.Core.Path.{◌≡◌, ◌∙◌}
 use mir.Syntax.{w32}
 use mir.Val.{SFits}
 use mir.ValLaws.{to_z-of_z}
-use Rattle.signed.specs.Order.{minZ, maxZ}
+use Rattle.signed.specs.Order.{z_min, z_max}
 use Rattle.plane.specs.Middle.{middle}
 use Rattle.plane.proofs.median.Statement.{statement}
 use Rattle.plane.proofs.median.Tie as tie
 
-low : (c : tie.After-smaller) → c.smaller.result ≡ minZ c.before.args.a c.before.args.b
+low : (c : tie.After-smaller) → c.smaller.result ≡ z_min c.before.args.a c.before.args.b
 low c = rw (to_z-of_z w32 _ c.before.ranges.a, to_z-of_z w32 _ c.before.ranges.b) at c.smaller.ensures
 
-high : (c : tie.After-greater) → c.greater.result ≡ maxZ c.before.before.args.a c.before.before.args.b
+high : (c : tie.After-greater) → c.greater.result ≡ z_max c.before.before.args.a c.before.before.args.b
 high c =
     let s = c.before.before in
     rw (to_z-of_z w32 _ s.ranges.a, to_z-of_z w32 _ s.ranges.b) at c.greater.ensures
@@ -21,7 +21,7 @@ high c =
 high_fits : (c : tie.After-greater) → SFits w32 c.greater.result
 high_fits c = search rules
 
-capped : (c : tie.After-smaller2) → c.smaller2.result ≡ minZ (maxZ c.before.before.before.args.a c.before.before.before.args.b) c.before.before.before.args.c
+capped : (c : tie.After-smaller2) → c.smaller2.result ≡ z_min (z_max c.before.before.before.args.a c.before.before.before.args.b) c.before.before.before.args.c
 capped c =
     let s = c.before.before.before in
     rw (to_z-of_z w32 _ (high_fits c.before), to_z-of_z w32 _ s.ranges.c, high c.before) at c.smaller2.ensures

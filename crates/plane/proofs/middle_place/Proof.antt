@@ -6,7 +6,7 @@ use mir.Syntax.{w32}
 use mir.Val.{to_z, of_z}
 use mir.ValLaws.{to_z-of_z}
 use Rattle.plane.specs.Place.{place}
-use Rattle.plane.specs.Middle.{middle, middlePlace}
+use Rattle.plane.specs.Middle.{middle, middle_place}
 use Rattle.plane.proofs.Fits.{PlaceFits}
 use Rattle.plane.proofs.middle_place.Statement.{statement}
 use Rattle.plane.proofs.middle_place.Tie as tie
@@ -22,7 +22,7 @@ module _ (s : tie.Start) where
   of-u = record { x = search rules; y = search rules }
 
 returns : tie.Need-returns
-unfolding middlePlace
+unfolding middle_place
 returns c =
     let d = c.before.before.before.before in
     let s = d.before.before.before.before in

@@ -7,15 +7,15 @@ use Prim.Native.Nat.{ℕ, ◌+◌, ◌-◌, ◌/◌, ◌≤◌, ◌<◌}
 use native.Mathlib.Omega.{arith}
 use Rattle.plane.specs.declared.Place.{Place}
 use Rattle.plane.specs.Place.{before}
-use Rattle.plane.specs.Flat.{placeAt}
+use Rattle.plane.specs.Flat.{place_at}
 use Rattle.plane.proofs.RankLaws.{rank_is, ahead_of, none_after}
 use Rattle.plane.proofs.rank.Statement.{statement}
 use Rattle.plane.proofs.rank.Tie as tie
 
 abbrev invariant-loop : tie.invariant-loop
 invariant-loop places n p low₀ high₀ low high =
-    ((low ≤ high) × (high ≤ n)) × (((u : ℕ) → u < low → before (placeAt places u) p ≡ true)
-    × ((u : ℕ) → high ≤ u → u < n → before (placeAt places u) p ≡ false))
+    ((low ≤ high) × (high ≤ n)) × (((u : ℕ) → u < low → before (place_at places u) p ≡ true)
+    × ((u : ℕ) → high ≤ u → u < n → before (place_at places u) p ≡ false))
 
 abbrev decreases-loop : tie.decreases-loop
 decreases-loop places n p low₀ high₀ low high = high - low
@@ -25,7 +25,7 @@ loop-holds c = ((omega arith, omega arith), (λ u h. absurd (let z : ⊥ = omega
 
 -- what the test says of the place in the middle
 asked : (d : tie.After-is-before invariant-loop decreases-loop) → let l = d.before.before.before in
-    before (placeAt l.before.args.places.now (l.loop.low + (l.loop.high - l.loop.low) / 2)) l.before.args.p
+    before (place_at l.before.args.places.now (l.loop.low + (l.loop.high - l.loop.low) / 2)) l.before.args.p
     ≡ d.is-before.result
 asked d =
     let q = d.before.before.before.before.args.p in

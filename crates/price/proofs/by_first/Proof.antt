@@ -11,10 +11,10 @@ use Rattle.lists.specs.Any.{any}
 use Rattle.lent.specs.Told.{given}
 use Rattle.net.specs.Answer.{number}
 use Rattle.bands.specs.declared.Band.{Band}
-use Rattle.bands.specs.Band.{bandsOf, bandAt}
-use Rattle.bands.specs.Tests.{rateAbove}
-use Rattle.price.specs.Charge.{charge, reaches, byFirst}
-use Rattle.price.specs.Price.{toldPrice}
+use Rattle.bands.specs.Band.{bands_of, band_at}
+use Rattle.bands.specs.Tests.{rate_above}
+use Rattle.price.specs.Charge.{charge, reaches, by_first}
+use Rattle.price.specs.Price.{told_price}
 use Rattle.bands.proofs.BandLaws.{bands-next, bands-end}
 use Rattle.price.proofs.FirstLaws.{first-hit, first-miss, first-end}
 use Rattle.price.proofs.PriceLaws.{rate-low, rest-low}
@@ -24,8 +24,8 @@ use Rattle.price.proofs.by_first.Tie as tie
 abbrev invariant-loop : tie.invariant-loop
 invariant-loop metal bands k i₀ i =
     (i ≤ k)
-    × ((byFirst metal (bandsOf bands) ≡ byFirst metal (drop i (bandsOf bands)))
-    × (any rateAbove (drop i (bandsOf bands)) ≡ false))
+    × ((by_first metal (bands_of bands) ≡ by_first metal (drop i (bands_of bands)))
+    × (any rate_above (drop i (bands_of bands)) ≡ false))
 
 abbrev decreases-loop : tie.decreases-loop
 decreases-loop metal bands k i₀ i = k - i
@@ -35,15 +35,15 @@ loop-holds c = (omega arith, (refl, c.before.requires.1))
 
 -- the next band of the scan
 next : (l : tie.At-loop invariant-loop decreases-loop) → l.loop.i * 2 + 2 ≤ length l.before.before.args.bands.now
-    → drop l.loop.i (bandsOf l.before.before.args.bands.now)
-    ≡ bandAt l.before.before.args.bands.now l.loop.i ∷ drop (l.loop.i + 1) (bandsOf l.before.before.args.bands.now)
+    → drop l.loop.i (bands_of l.before.before.args.bands.now)
+    ≡ band_at l.before.before.args.bands.now l.loop.i ∷ drop (l.loop.i + 1) (bands_of l.before.before.args.bands.now)
 next l h = bands-next l.before.before.args.bands.now l.loop.i h
 
 -- what the test says, of the list
 told : (c : tie.After-is-reaching invariant-loop decreases-loop)
     → c.is-reaching.result
     ≡ reaches c.before.before.before.before.before.args.metal
-    (bandAt c.before.before.before.before.before.args.bands.now c.before.before.before.loop.i)
+    (band_at c.before.before.before.before.before.args.bands.now c.before.before.before.loop.i)
 told c =
     c.is-reaching.ensures ∙ ap (reaches c.before.before.before.before.before.args.metal) c.before.band-at.ensures
 
@@ -54,7 +54,7 @@ charge-requires c κs =
     (s.requires.0, rw c.before.before.band-at.ensures (rate-low _ _ _ (next l (omega arith)) l.loop.invariant.1.1))
 
 returns : tie.Need-returns invariant-loop decreases-loop
-unfolding toldPrice
+unfolding told_price
 returns c =
     let t = c.before in
     let l = t.before.before.before.before in
@@ -76,7 +76,7 @@ loop-again c =
     )
 
 returns-2 : tie.Need-returns-2 invariant-loop decreases-loop
-unfolding toldPrice number
+unfolding told_price number
 returns-2 c =
     let l = c.before in
     let end = bands-end l.before.before.args.bands.now l.loop.i (omega arith) in

@@ -8,14 +8,14 @@ use Rattle.turned.proofs.StepLaws.{up_start, up_next, up-end}
 use mathlib.Core.Bool.{Bool, false, ◌||◌}
 use Rattle.turned.specs.declared.Seen.{Seen}
 use Rattle.turned.specs.Steps.{up_to}
-use Rattle.turned.specs.Turned.{seenEdge, sameSpot}
-use Rattle.reach.specs.Passing.{endsAt, seenBy, isFar, exempt, past, pastPoints, pastEdges, pastFace, pastMacros}
+use Rattle.turned.specs.Turned.{seen_edge, same_spot}
+use Rattle.reach.specs.Passing.{ends_at, seen_by, is_far, exempt, past, past_points, past_edges, past_face, past_macros}
 use Rattle.reach.proofs.is_far_end.Statement.{statement}
 use Rattle.reach.proofs.is_far_end.Tie as tie
 
 abbrev invariant-loop : tie.invariant-loop
 invariant-loop pts keys e lab bar c side found₀ k₀ found k =
-    (k ≤ e) × (found ≡ up_to (λ j t. t || endsAt (seenEdge (seenBy pts keys lab bar) j) bar.most c) k false)
+    (k ≤ e) × (found ≡ up_to (λ j t. t || ends_at (seen_edge (seen_by pts keys lab bar) j) bar.most c) k false)
 
 abbrev decreases-loop : tie.decreases-loop
 decreases-loop pts keys e lab bar c side found₀ k₀ found k = e - k
@@ -35,11 +35,11 @@ loop-again c =
       omega arith,
       up_next _ _ _ _ _ c.before.before.before.loop.invariant.1
           (ap (λ (t : Bool). c.before.before.before.loop.found || t)
-          (c.ends_at.ensures ∙ ap (λ (t : Seen). endsAt t s.bar.most s.c) c.before.seen-edge.ensures.0)),
+          (c.ends_at.ensures ∙ ap (λ (t : Seen). ends_at t s.bar.most s.c) c.before.seen-edge.ensures.0)),
     )
 
 returns : tie.Need-returns invariant-loop decreases-loop
-unfolding isFar
+unfolding is_far
 returns c = up-end _ _ _ _ _ c.before.loop.invariant.1 (omega arith) (omega arith)
 
 pub is-far-end-spec : {M : Type 1} → statement M

@@ -7,15 +7,15 @@ use Prim.Native.Nat.{◌-◌, ◌≤◌}
 use Rattle.turned.proofs.StepLaws.{up_start, up_next}
 use Rattle.turned.specs.declared.Seen.{Seen}
 use Rattle.turned.specs.Steps.{up_to}
-use Rattle.turned.specs.Turned.{seenEdge}
-use Rattle.reach.specs.Passing.{seenBy, past}
+use Rattle.turned.specs.Turned.{seen_edge}
+use Rattle.reach.specs.Passing.{seen_by, past}
 use Rattle.reach.proofs.HopelessLaws.{edges-end, edges-stop}
 use Rattle.reach.proofs.past_edges.Statement.{statement}
 use Rattle.reach.proofs.past_edges.Tie as tie
 
 abbrev invariant-loop : tie.invariant-loop
 invariant-loop pts keys z lab bar need side way₀ k₀ way k =
-    (k ≤ z.edges) × (way ≡ up_to (λ j. past (seenBy pts keys lab bar) z.edges bar (seenEdge (seenBy pts keys lab bar) j)) k way₀)
+    (k ≤ z.edges) × (way ≡ up_to (λ j. past (seen_by pts keys lab bar) z.edges bar (seen_edge (seen_by pts keys lab bar) j)) k way₀)
 
 abbrev decreases-loop : tie.decreases-loop
 decreases-loop pts keys z lab bar need side way₀ k₀ way k = z.edges - k
@@ -43,7 +43,7 @@ loop-again c =
     let s = l.before.args in (
       omega arith,
       up_next _ _ _ _ _ l.loop.invariant.1
-          (c.past.ensures ∙ ap (λ (t : Seen). past (seenBy s.pts.now s.keys.now s.lab.now s.bar) s.z.edges s.bar
+          (c.past.ensures ∙ ap (λ (t : Seen). past (seen_by s.pts.now s.keys.now s.lab.now s.bar) s.z.edges s.bar
           t l.loop.way) c.before.seen-edge.ensures.0),
     )
 

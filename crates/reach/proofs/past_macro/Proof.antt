@@ -2,8 +2,8 @@
 -- Assumes nothing.
 use mathlib.Core.Path.{◌≡◌, refl, sym, ap, ap₂, ◌∙◌}
 use Rattle.turned.specs.declared.Face.{Face}
-use Rattle.reach.specs.Passing.{endsAt, seenBy, isFar, exempt, past, pastPoints, pastEdges, pastFace, pastMacros}
-use Rattle.turned.specs.Turned.{sameSpot}
+use Rattle.reach.specs.Passing.{ends_at, seen_by, is_far, exempt, past, past_points, past_edges, past_face, past_macros}
+use Rattle.turned.specs.Turned.{same_spot}
 use Rattle.reach.proofs.CodeLaws.{face-met, face-not}
 use borrow.Author.Rules.{rules}
 use Rattle.reach.proofs.past_macro.Statement.{statement}
@@ -14,14 +14,14 @@ returns c =
     let s = c.before.before.before.before.before.before.before.before.before.before.before.before.before.args in
     let f = c.before.before.before.before.before.before.before.before.before.before.before.before.face-of in
     face-met s.bar f.result s.w c.before.before.before.before.before.if1.true _ _
-    c.before.before.before.beyond.ensures c.before.before.smaller.ensures ∙ ap (λ (g : Face). pastFace s.bar g s.w)
+    c.before.before.before.beyond.ensures c.before.before.smaller.ensures ∙ ap (λ (g : Face). past_face s.bar g s.w)
     f.ensures.0
 
 returns-2 : tie.Need-returns-2
 returns-2 c =
     let s = c.before.before.before.before.before.before.before.before.args in
     let f = c.before.before.before.before.before.before.before.face-of in
-    face-not s.bar f.result s.w c.if1.false ∙ ap (λ (g : Face). pastFace s.bar g s.w) f.ensures.0
+    face-not s.bar f.result s.w c.if1.false ∙ ap (λ (g : Face). past_face s.bar g s.w) f.ensures.0
 
 pub past-macro-spec : {M : Type 1} → statement M
 past-macro-spec =

@@ -6,17 +6,17 @@ use native.Mathlib.Omega.{arith}
 use Prim.Native.Nat.{◌-◌, ◌≤◌}
 use Rattle.turned.proofs.StepLaws.{up_start, up_next}
 use Rattle.plane.specs.declared.Macro.{Macro}
-use Rattle.plane.specs.Flat.{macroAt}
+use Rattle.plane.specs.Flat.{macro_at}
 use Rattle.turned.specs.Steps.{up_to}
 use Rattle.turned.specs.Turned.{face}
-use Rattle.reach.specs.Passing.{pastFace}
+use Rattle.reach.specs.Passing.{past_face}
 use Rattle.reach.proofs.HopelessLaws.{macros-end, macros-stop}
 use Rattle.reach.proofs.past_macros.Statement.{statement}
 use Rattle.reach.proofs.past_macros.Tie as tie
 
 abbrev invariant-loop : tie.invariant-loop
 invariant-loop macros bar need k way₀ i₀ way i =
-    (i ≤ k) × (way ≡ up_to (λ j. pastFace bar (face bar.side (macroAt macros j))) i way₀)
+    (i ≤ k) × (way ≡ up_to (λ j. past_face bar (face bar.side (macro_at macros j))) i way₀)
 
 abbrev decreases-loop : tie.decreases-loop
 decreases-loop macros bar need k way₀ i₀ way i = k - i
@@ -35,7 +35,7 @@ loop-again c =
     let s = l.before.args in (
       omega arith,
       up_next _ _ _ _ _ l.loop.invariant.1
-          (c.past-macro.ensures ∙ ap (λ (m : Macro). pastFace s.bar (face s.bar.side m) l.loop.way) c.before.macro-at.ensures),
+          (c.past-macro.ensures ∙ ap (λ (m : Macro). past_face s.bar (face s.bar.side m) l.loop.way) c.before.macro-at.ensures),
     )
 
 returns-2 : tie.Need-returns-2 invariant-loop decreases-loop

@@ -7,15 +7,15 @@ use Prim.Native.Nat.{◌-◌, ◌≤◌}
 use Rattle.turned.proofs.StepLaws.{up_start, up_next}
 use Rattle.turned.specs.declared.Seen.{Seen}
 use Rattle.turned.specs.Steps.{up_to}
-use Rattle.turned.specs.Turned.{seenPoint}
-use Rattle.reach.specs.Passing.{seenBy, past}
+use Rattle.turned.specs.Turned.{seen_point}
+use Rattle.reach.specs.Passing.{seen_by, past}
 use Rattle.reach.proofs.HopelessLaws.{points-end, points-stop}
 use Rattle.reach.proofs.past_points.Statement.{statement}
 use Rattle.reach.proofs.past_points.Tie as tie
 
 abbrev invariant-loop : tie.invariant-loop
 invariant-loop pts keys z lab bar need side way₀ i₀ way i =
-    (i ≤ z.points) × (way ≡ up_to (λ j. past (seenBy pts keys lab bar) z.edges bar (seenPoint (seenBy pts keys lab bar) j)) i way₀)
+    (i ≤ z.points) × (way ≡ up_to (λ j. past (seen_by pts keys lab bar) z.edges bar (seen_point (seen_by pts keys lab bar) j)) i way₀)
 
 abbrev decreases-loop : tie.decreases-loop
 decreases-loop pts keys z lab bar need side way₀ i₀ way i = z.points - i
@@ -37,7 +37,7 @@ loop-again c =
     let s = l.before.args in (
       omega arith,
       up_next _ _ _ _ _ l.loop.invariant.1
-          (c.past.ensures ∙ ap (λ (t : Seen). past (seenBy s.pts.now s.keys.now s.lab.now s.bar) s.z.edges s.bar
+          (c.past.ensures ∙ ap (λ (t : Seen). past (seen_by s.pts.now s.keys.now s.lab.now s.bar) s.z.edges s.bar
           t l.loop.way) c.before.seen-point.ensures),
     )
 

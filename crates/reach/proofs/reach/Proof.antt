@@ -3,7 +3,7 @@
 use borrow.Author.Rules.{rules}
 use mathlib.Core.Path.{◌∙◌}
 use mathlib.Core.Bool.{true}
-use Rattle.reach.specs.Passing.{seenBy, way_of, way}
+use Rattle.reach.specs.Passing.{seen_by, way_of, way}
 use Rattle.reach.specs.Hopeless.{Alike}
 use Rattle.reach.proofs.CodeLaws.{reach-free, reach-stop}
 use Rattle.reach.proofs.HopelessLaws.{way-alike, near-reached, reached-less}
@@ -13,10 +13,10 @@ use Rattle.reach.proofs.reach.Tie as tie
 -- the whole way
 whole : (c : tie.After-past-edges) → let s = c.before.before.before.args in
     Alike s.need (way s.bar.most true) c.past-edges.result
-    (way_of (seenBy s.pts.now s.keys.now s.lab.now s.bar) s.z.points s.z.edges s.macros.now s.bar)
+    (way_of (seen_by s.pts.now s.keys.now s.lab.now s.bar) s.z.points s.z.edges s.macros.now s.bar)
 whole c =
     let s = c.before.before.before.args in
-    way-alike s.need (seenBy s.pts.now s.keys.now s.lab.now s.bar) s.z.edges s.bar s.z.points
+    way-alike s.need (seen_by s.pts.now s.keys.now s.lab.now s.bar) s.z.edges s.bar s.z.points
     s.macros.now _ _ _ c.before.before.past-macros.ensures c.before.past-Points.ensures c.past-edges.ensures
 
 returns : tie.Need-returns

@@ -6,7 +6,7 @@ use Prim.Native.Nat.{◌≤◌, ◌-◌, ◌*◌}
 use native.Mathlib.Omega.{arith}
 use lib.ListN.{length}
 use Rattle.plane.specs.declared.Place.{Place}
-use Rattle.refined.specs.Wires.{wiresOfEdge, wires}
+use Rattle.refined.specs.Wires.{wires_of_edge, wires}
 use Rattle.refined.proofs.GivenLaws.{Giving, giving-none, giving-more, giving-count, giving-end}
 use Rattle.refined.proofs.WireLaws.{wires-none, wires-more, edge_few}
 use Rattle.refined.proofs.give_wires.Statement.{statement}
@@ -14,13 +14,13 @@ use Rattle.refined.proofs.give_wires.Tie as tie
 
 abbrev invariant-loop : tie.invariant-loop
 invariant-loop pts keys e lent₀ count₀ k₀ lent count k =
-    ((k ≤ e) × (count ≤ 2 * k)) × (length lent ≡ length lent₀) × Giving wiresOfEdge wires pts keys e lent₀ lent count k
+    ((k ≤ e) × (count ≤ 2 * k)) × (length lent ≡ length lent₀) × Giving wires_of_edge wires pts keys e lent₀ lent count k
 
 abbrev decreases-loop : tie.decreases-loop
 decreases-loop pts keys e lent₀ count₀ k₀ lent count k = e - k
 
 loop-holds : tie.Need-loop-init invariant-loop decreases-loop
-loop-holds c = ((omega arith, omega arith), refl, giving-none wiresOfEdge wires _ _ _ _)
+loop-holds c = ((omega arith, omega arith), refl, giving-none wires_of_edge wires _ _ _ _)
 
 point-at-requires : tie.Need-point-at-requires invariant-loop decreases-loop
 point-at-requires c κs = let l = c.before.before in omega (arith, l.before.requires.1.0.small l.loop.k)
@@ -37,7 +37,7 @@ loop-again c =
     let few = edge_few (a.point_at.result, b.point-at2.result) in (
       (omega arith, omega (arith, l.loop.invariant.0, d.put-wires.ensures.0, few)),
       d.put-wires.auto.0 ∙ l.loop.invariant.1,
-      giving-more wiresOfEdge wires _ _ _ _ l.loop.invariant.2 wires-more (omega arith) _
+      giving-more wires_of_edge wires _ _ _ _ l.loop.invariant.2 wires-more (omega arith) _
           (ap₂ (λ (x y : Place). (x, y)) a.point_at.ensures b.point-at2.ensures)
           (omega (arith, l.loop.invariant.0, l.before.requires.1.1, few)) _ _ d.put-wires.ensures.1 d.put-wires.ensures.0,
     )
@@ -48,7 +48,7 @@ same_length c = c.before.loop.invariant.1
 returns : tie.Need-returns invariant-loop decreases-loop
 returns c =
     let g = c.before.loop.invariant.2 in
-    (giving-count wiresOfEdge wires _ _ _ _ g wires-none (omega arith), giving-end wiresOfEdge wires _ _ _ _ g wires-none (omega arith))
+    (giving-count wires_of_edge wires _ _ _ _ g wires-none (omega arith), giving-end wires_of_edge wires _ _ _ _ g wires-none (omega arith))
 
 pub give-wires-spec : {M : Type 1} → statement M
 give-wires-spec =

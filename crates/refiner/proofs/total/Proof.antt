@@ -5,15 +5,15 @@ use mathlib.Core.Path.{◌≡◌}
 use Prim.Native.Nat.{◌≤◌, ◌-◌, ◌*◌}
 use native.Mathlib.Omega.{arith}
 use Rattle.lists.specs.Turns.{turns}
-use Rattle.plane.specs.Cost.{costLimit}
-use Rattle.refiner.specs.Refined.{addCost, total}
+use Rattle.plane.specs.Cost.{cost_limit}
+use Rattle.refiner.specs.Refined.{add_cost, total}
 use Rattle.lists.proofs.TurnLaws.{turns_next, turns-end}
 use Rattle.refiner.proofs.RoundLaws.{total-none, total-next}
 use Rattle.refiner.proofs.total.Statement.{statement}
 use Rattle.refiner.proofs.total.Tie as tie
 
 abbrev invariant-loop : tie.invariant-loop
-invariant-loop w pts keys e sum₀ k₀ sum k = (k ≤ e) × ((sum ≤ k * costLimit) × (turns (addCost w pts keys) k (e - k) sum ≡ total w pts keys e))
+invariant-loop w pts keys e sum₀ k₀ sum k = (k ≤ e) × ((sum ≤ k * cost_limit) × (turns (add_cost w pts keys) k (e - k) sum ≡ total w pts keys e))
 
 abbrev decreases-loop : tie.decreases-loop
 decreases-loop w pts keys e sum₀ k₀ sum k = e - k

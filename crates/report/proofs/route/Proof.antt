@@ -12,14 +12,14 @@ use mir.ValLaws.{to_z-of_z}
 use Rattle.lent.specs.Told.{given}
 use Rattle.lent.proofs.AfterLaws.{after-given}
 use Rattle.net.specs.declared.Net.{Net as Counts}
-use Rattle.net.specs.Bounds.{pinWidth, macroWidth}
+use Rattle.net.specs.Bounds.{pin_width, macro_width}
 use Rattle.net.specs.Net.{handed}
 use Rattle.checks.specs.Check.{told}
-use Rattle.blocks.specs.Sizes.{pinListBound, macroListBound}
-use Rattle.decoded.specs.Held.{pinsIn, macrosIn}
-use Rattle.netfile.specs.Read.{readFile}
-use Rattle.text.specs.Text.{refusedText}
-use Rattle.report.specs.Route.{treesText}
+use Rattle.blocks.specs.Sizes.{pin_list_bound, macro_list_bound}
+use Rattle.decoded.specs.Held.{pins_in, macros_in}
+use Rattle.netfile.specs.Read.{read_file}
+use Rattle.text.specs.Text.{refused_text}
+use Rattle.report.specs.Route.{trees_text}
 use Rattle.text.proofs.PutLaws.{filled-as}
 use Rattle.report.proofs.RouteLaws.{Counted, counted, lists, net-is, front, route-given, route-refused}
 use borrow.Author.Rules.{rules}
@@ -30,30 +30,30 @@ abbrev start : tie.After-answer → tie.Start
 start c = c.before.before.before.before.before.before.before.before
 
 -- the answer of the read, and the lists that it took
-read : (c : tie.After-answer) → readFile (start c).args.file.now pinListBound macroListBound
+read : (c : tie.After-answer) → read_file (start c).args.file.now pin_list_bound macro_list_bound
     ≡ given c.answer.given.0.0
 unfolding told
 read c = sym c.before.before.before.before.read-file.ensures.answer ∙ ap told c.answer.given.1
 
 net : (c : tie.After-answer)
-    → Counted (handed c.answer.given.0.0.weights) (pinsIn (start c).args.file.now) (macrosIn (start c).args.file.now)
+    → Counted (handed c.answer.given.0.0.weights) (pins_in (start c).args.file.now) (macros_in (start c).args.file.now)
 net c = counted _ _ _ _ (lists _ _ (read c))
 
-pin-numbers : (c : tie.After-answer) → c.answer.given.0.0.pins * pinWidth ≡ length (pinsIn (start c).args.file.now)
+pin-numbers : (c : tie.After-answer) → c.answer.given.0.0.pins * pin_width ≡ length (pins_in (start c).args.file.now)
 pin-numbers c = omega (arith, ap (λ (v : Counts). v.pins) (net-is _ _ (read c)), (net c).pin-numbers)
 
-macro-numbers : (c : tie.After-answer) → c.answer.given.0.0.macros * macroWidth ≡ length (macrosIn (start c).args.file.now)
+macro-numbers : (c : tie.After-answer) → c.answer.given.0.0.macros * macro_width ≡ length (macros_in (start c).args.file.now)
 macro-numbers c = omega (arith, ap (λ (v : Counts). v.macros) (net-is _ _ (read c)), (net c).macro-numbers)
 
 pin-list : (c : tie.After-answer)
-    → take (c.answer.given.0.0.pins * pinWidth) c.before.before.before.before.read-file.new.1.0
-    ≡ pinsIn (start c).args.file.now
+    → take (c.answer.given.0.0.pins * pin_width) c.before.before.before.before.read-file.new.1.0
+    ≡ pins_in (start c).args.file.now
 pin-list c =
     front _ _ _ _ (c.before.before.before.before.read-file.ensures.first ∙ sym (after-given _ _ _ _ (read c))) (pin-numbers c)
 
 macro-list : (c : tie.After-answer)
-    → take (c.answer.given.0.0.macros * macroWidth) c.before.before.before.before.read-file.new.1.1.0
-    ≡ macrosIn (start c).args.file.now
+    → take (c.answer.given.0.0.macros * macro_width) c.before.before.before.before.read-file.new.1.1.0
+    ≡ macros_in (start c).args.file.now
 macro-list c =
     front _ _ _ _ (c.before.before.before.before.read-file.ensures.second ∙ sym (after-given _ _ _ _ (read c))) (macro-numbers c)
 
@@ -90,7 +90,7 @@ returns : tie.Need-returns
 returns c =
     let a = c.before.before.before.before.before.before.before in
     filled-as
-    (ap₂ (treesText a.answer.given.0.0) (pin-list a) (macro-list a) ∙ route-given _ _ (read a))
+    (ap₂ (trees_text a.answer.given.0.0) (pin-list a) (macro-list a) ∙ route-given _ _ (read a))
     c.trees-text.ensures
 
 returns-2 : tie.Need-returns-2
@@ -101,7 +101,7 @@ returns-2 c =
     let r = a.before.before.before.before in
     let e = to_z-of_z w32 _ (search rules) ∙ n.number.ensures in
     let f = sym r.read-file.ensures.answer ∙ ap told a.answer2.given.1 in
-    filled-as (ap refusedText e ∙ route-refused _ _ f) c.refused.ensures
+    filled-as (ap refused_text e ∙ route-refused _ _ f) c.refused.ensures
 
 pub route-spec : {M : Type 1} → statement M
 route-spec =

@@ -13,16 +13,16 @@ use Rattle.lent.specs.Told.{given}
 use Rattle.lent.specs.Over.{over}
 use Rattle.lent.specs.Entries.{flat}
 use Rattle.lent.proofs.AfterLaws.{after-given, told-apart}
-use Rattle.net.specs.Bounds.{treeBound}
-use Rattle.graph.specs.Numbers.{edgeNumbers}
+use Rattle.net.specs.Bounds.{tree_bound}
+use Rattle.graph.specs.Numbers.{edge_numbers}
 use Rattle.net.specs.declared.Weighing.{Weighing}
 use Rattle.net.specs.Net.{handed}
-use Rattle.answers.specs.Terminal.{pathsTotal}
-use Rattle.answers.specs.Refined.{laid_of, laidTotal, metalOf}
-use Rattle.answers.specs.Both.{bothAnswer, bothTrees}
-use Rattle.router.specs.Answers.{toldBoth}
+use Rattle.answers.specs.Terminal.{paths_total}
+use Rattle.answers.specs.Refined.{laid_of, laid_total, metal_of}
+use Rattle.answers.specs.Both.{both_answer, both_trees}
+use Rattle.router.specs.Answers.{told_both}
 use Rattle.router.specs.Call.{BothCall}
-use Rattle.report.specs.Route.{treesText}
+use Rattle.report.specs.Route.{trees_text}
 use Rattle.text.proofs.PutLaws.{filled-as}
 use Rattle.report.proofs.RouteLaws.{same-four, Counted, counted, both-given, edges_fit, edges-back, same_text}
 use borrow.Author.Rules.{rules}
@@ -36,21 +36,21 @@ abbrev begin : tie.After-both-trees → tie.Start
 begin c = c.before.before.before
 
 -- the call, by the net's weights
-call : (c : tie.After-both-trees) → BothCall bothTrees (handed (begin c).args.net.weights) (begin c).args.pins.now
-    (begin c).args.macros.now (replicate (treeBound * 4) (pos 0)) c.both-trees.result c.both-trees.new.1.1.1.0
+call : (c : tie.After-both-trees) → BothCall both_trees (handed (begin c).args.net.weights) (begin c).args.pins.now
+    (begin c).args.macros.now (replicate (tree_bound * 4) (pos 0)) c.both-trees.result c.both-trees.new.1.1.1.0
 call c =
     let a = (begin c).args in
-    subst (λ (w : Weighing). BothCall bothTrees w a.pins.now a.macros.now (replicate (treeBound * 4) (pos 0)) c.both-trees.result
+    subst (λ (w : Weighing). BothCall both_trees w a.pins.now a.macros.now (replicate (tree_bound * 4) (pos 0)) c.both-trees.result
     c.both-trees.new.1.1.1.0) c.before.before.handed.ensures c.both-trees.ensures
 
 -- the answer, and the table of edges
-answer : (c : tie.After-both-trees) → toldBoth c.both-trees.result
-    ≡ given (bothAnswer (handed (begin c).args.net.weights) (begin c).args.pins.now (begin c).args.macros.now)
+answer : (c : tie.After-both-trees) → told_both c.both-trees.result
+    ≡ given (both_answer (handed (begin c).args.net.weights) (begin c).args.pins.now (begin c).args.macros.now)
 answer c = (call c).answer ∙ both-given _ _ _ (net (begin c))
 
 table : (c : tie.After-both-trees) → c.both-trees.new.1.1.1.0
-    ≡ over (flat edgeNumbers (laid_of (handed (begin c).args.net.weights) (begin c).args.pins.now (begin c).args.macros.now))
-    (replicate (treeBound * 4) (pos 0))
+    ≡ over (flat edge_numbers (laid_of (handed (begin c).args.net.weights) (begin c).args.pins.now (begin c).args.macros.now))
+    (replicate (tree_bound * 4) (pos 0))
 table c = (call c).list ∙ sym (after-given _ _ _ _ (both-given _ _ _ (net (begin c))))
 
 abbrev start : tie.After-answer → tie.Start
@@ -59,11 +59,11 @@ start c = begin c.before.before.before
 -- how many edges were given, their total and their metal
 given_is : (c : tie.After-answer) →
     (c.answer.given.0.0 ≡ length (laid_of (handed (start c).args.net.weights) (start c).args.pins.now (start c).args.macros.now))
-    × ((c.answer.given.0.1.0 ≡ pos (pathsTotal (handed (start c).args.net.weights) (start c).args.pins.now (start c).args.macros.now))
-    × ((c.answer.given.0.1.1.0 ≡ pos (laidTotal (handed (start c).args.net.weights) (start c).args.pins.now (start c).args.macros.now))
-    × (c.answer.given.0.1.1.1.0 ≡ pos (metalOf (handed (start c).args.net.weights) (start c).args.pins.now (start c).args.macros.now))))
-unfolding toldBoth
-given_is c = same-four (sym (ap toldBoth c.answer.given.1) ∙ answer c.before.before.before)
+    × ((c.answer.given.0.1.0 ≡ pos (paths_total (handed (start c).args.net.weights) (start c).args.pins.now (start c).args.macros.now))
+    × ((c.answer.given.0.1.1.0 ≡ pos (laid_total (handed (start c).args.net.weights) (start c).args.pins.now (start c).args.macros.now))
+    × (c.answer.given.0.1.1.1.0 ≡ pos (metal_of (handed (start c).args.net.weights) (start c).args.pins.now (start c).args.macros.now))))
+unfolding told_both
+given_is c = same-four (sym (ap told_both c.answer.given.1) ∙ answer c.before.before.before)
 
 tree-requires : tie.Need-tree-requires
 tree-requires c κs =
@@ -82,7 +82,7 @@ metal-fits : (c : tie.After-known-told) → SFits w64 c.before.answer.given.0.1.
 metal-fits c = search rules
 
 returns : tie.Need-returns
-unfolding treesText
+unfolding trees_text
 returns c =
     let a = c.before.before.before.before in
     let r = a.before.before.before in
@@ -95,10 +95,10 @@ returns c =
     c.tree.ensures
 
 returns-2 : tie.Need-returns-2
-unfolding toldBoth
+unfolding told_both
 returns-2 c =
     let a = c.before.before.before.before in
-    told-apart _ _ (sym (ap toldBoth a.answer2.given.1) ∙ answer a.before.before.before)
+    told-apart _ _ (sym (ap told_both a.answer2.given.1) ∙ answer a.before.before.before)
 
 pub trees-text-spec : {M : Type 1} → statement M
 trees-text-spec =

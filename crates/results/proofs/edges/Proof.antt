@@ -7,11 +7,11 @@ use Rattle.lent.specs.Over.{over}
 use Rattle.lent.specs.Entries.{flat}
 use Rattle.plane.specs.declared.Place.{Place}
 use Rattle.plane.proofs.FlatLaws.{length-macros}
-use Rattle.net.specs.Net.{netOf, handed}
+use Rattle.net.specs.Net.{net_of, handed}
 use Rattle.net.specs.Allowed.{Allowed}
 use Rattle.net.proofs.PinLaws.{length-pins}
-use Rattle.graph.specs.Numbers.{edgeNumbers}
-use Rattle.answers.specs.Terminal.{pathsTotal}
+use Rattle.graph.specs.Numbers.{edge_numbers}
+use Rattle.answers.specs.Terminal.{paths_total}
 use Rattle.results.proofs.RefinedLaws.{answer-edges, answer-count, answer-total, answer-small, answer-few, answer-metal, metal-asks}
 use borrow.Author.Rules.{rules}
 use Rattle.results.proofs.edges.Statement.{statement}
@@ -24,7 +24,7 @@ abbrev start : tie.After-refine → tie.Start
 start d = d.before.before.before
 
 abbrev allowed : (d : tie.After-refine) →
-    Allowed (netOf (handed (start d).args.net.weights) (start d).args.pins.now (start d).args.macros.now)
+    Allowed (net_of (handed (start d).args.net.weights) (start d).args.pins.now (start d).args.macros.now)
 allowed d = (start d).requires.0.allowed
 
 metal-requires : tie.Need-metal-requires
@@ -43,7 +43,7 @@ give-edges-requires c κs =
     )
 
 returns : tie.Need-returns
-unfolding pathsTotal
+unfolding paths_total
 returns c =
     let l = c.before.before.before.before.before in
     let d = l.before.before.before in
@@ -57,7 +57,7 @@ returns c =
           (
             d.refine.ensures.1,
             c.before.give-edges.ensures
-                ∙ ap (λ (es : List (Place × Place)). over (flat edgeNumbers es) a.edges.now) (answer-edges (allowed d) w),
+                ∙ ap (λ (es : List (Place × Place)). over (flat edge_numbers es) a.edges.now) (answer-edges (allowed d) w),
           ),
         ),
       ),

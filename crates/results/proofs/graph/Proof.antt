@@ -11,15 +11,15 @@ use Rattle.lent.specs.Over.{over}
 use Rattle.lent.specs.Entries.{flat}
 use Rattle.plane.specs.declared.Place.{Place}
 use Rattle.plane.specs.Place.{before}
-use Rattle.plane.specs.Flat.{places_of, macrosOf}
-use Rattle.net.specs.Net.{netOf, handed}
+use Rattle.plane.specs.Flat.{places_of, macros_of}
+use Rattle.net.specs.Net.{net_of, handed}
 use Rattle.graph.specs.Spanning.{spanning}
 use Rattle.graph.specs.Edges.{edges}
-use Rattle.graph.specs.Numbers.{edgeNumbers}
+use Rattle.graph.specs.Numbers.{edge_numbers}
 use Rattle.graph.proofs.VertexLaws.{vertices-ascending}
 use Rattle.graph.proofs.ReadBack.{vertices-back}
 use Rattle.made.proofs.CountedLaws.{as-net, points-few}
-use Rattle.answers.specs.Graph.{netVertices, netEdges, pointCount}
+use Rattle.answers.specs.Graph.{net_vertices, net_edges, point_count}
 use Rattle.answers.proofs.GraphLaws.{vertices-few}
 use borrow.Author.Rules.{rules}
 use Rattle.results.proofs.graph.Statement.{statement}
@@ -29,8 +29,8 @@ abbrev start : tie.After-vertices → tie.Start
 start d = d.before.before
 
 -- how many vertices there are
-few : (d : tie.After-vertices) → d.vertices.result ≤ pointCount (start d).args.pins.now (start d).args.macros.now
-unfolding netVertices
+few : (d : tie.After-vertices) → d.vertices.result ≤ point_count (start d).args.pins.now (start d).args.macros.now
+unfolding net_vertices
 few d =
     let a = (start d).args in
     omega (arith, d.vertices.ensures.0, vertices-few (handed a.net.weights) a.pins.now a.macros.now)
@@ -48,38 +48,38 @@ slice-aggregate-edges : tie.Need-slice-aggregate-edges
 slice-aggregate-edges c = sym (length-take-le _ _ (fits c.before.before))
 
 edges-requires : tie.Need-edges-requires
-unfolding netVertices
+unfolding net_vertices
 edges-requires c κs =
     let d = c.before.before.before in
     let s = start d in
     let a = s.args in
-    let vs = netVertices (handed a.net.weights) a.pins.now a.macros.now in
+    let vs = net_vertices (handed a.net.weights) a.pins.now a.macros.now in
     let n = length-take-le (d.vertices.result * 2) d.vertices.new.1.1.0 (fits d) in
     let back = vertices-back vs a.vertices.now _ _ d.vertices.ensures.1 d.vertices.ensures.0 in (
       (
-        subst (Ascending before) (sym back) (vertices-ascending (netOf (handed a.net.weights) a.pins.now a.macros.now)),
+        subst (Ascending before) (sym back) (vertices-ascending (net_of (handed a.net.weights) a.pins.now a.macros.now)),
         omega (arith, n, few d, points-few s.pre.0),
       ),
       omega (arith, n, few d, s.pre.1),
     )
 
 returns : tie.Need-returns
-unfolding netVertices netEdges
+unfolding net_vertices net_edges
 returns c =
     let d = c.before.before.before.before.before in
     let a = (start d).args in
-    let vs = netVertices (handed a.net.weights) a.pins.now a.macros.now in
+    let vs = net_vertices (handed a.net.weights) a.pins.now a.macros.now in
     let seen = take (d.vertices.result * 2) d.vertices.new.1.1.0 in
     let back : places_of seen ≡ vs = vertices-back vs a.vertices.now _ _ d.vertices.ensures.1 d.vertices.ensures.0 in
-    let these : edges a.net.weights (macrosOf a.macros.now) (places_of seen)
-    ≡ netEdges (handed a.net.weights) a.pins.now a.macros.now =
-    ap (edges a.net.weights (macrosOf a.macros.now)) back ∙ ap spanning (as-net (start d).requires.0) in (
+    let these : edges a.net.weights (macros_of a.macros.now) (places_of seen)
+    ≡ net_edges (handed a.net.weights) a.pins.now a.macros.now =
+    ap (edges a.net.weights (macros_of a.macros.now)) back ∙ ap spanning (as-net (start d).requires.0) in (
       d.vertices.ensures.0,
       (
         c.before.edges.ensures.0 ∙ ap length these,
         (
           d.vertices.ensures.1,
-          c.before.edges.ensures.1 ∙ ap (λ (es : List (Place × Place)). over (flat edgeNumbers es) a.edges.now) these,
+          c.before.edges.ensures.1 ∙ ap (λ (es : List (Place × Place)). over (flat edge_numbers es) a.edges.now) these,
         ),
       ),
     )

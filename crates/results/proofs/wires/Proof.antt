@@ -9,7 +9,7 @@ use Rattle.lent.specs.Entries.{flat}
 use Rattle.plane.specs.declared.Place.{Place}
 use Rattle.plane.proofs.FlatLaws.{length-macros}
 use Rattle.net.proofs.PinLaws.{length-pins}
-use Rattle.graph.specs.Numbers.{edgeNumbers}
+use Rattle.graph.specs.Numbers.{edge_numbers}
 use Rattle.refined.specs.Wires.{wires}
 use Rattle.results.proofs.RefinedLaws.{answer-edges, answer-small, answer-few}
 use borrow.Author.Rules.{rules}
@@ -41,7 +41,7 @@ returns c =
     let s = start d in
     let edges = answer-edges s.pre.0.allowed d.refine.ensures.0 in (
       g.give-wires.ensures.0 ∙ ap (λ (es : List (Place × Place)). length (wires es)) edges,
-      g.give-wires.ensures.1 ∙ ap (λ (es : List (Place × Place)). over (flat edgeNumbers (wires es)) s.args.wires.now) edges,
+      g.give-wires.ensures.1 ∙ ap (λ (es : List (Place × Place)). over (flat edge_numbers (wires es)) s.args.wires.now) edges,
     )
 
 pub wires-spec : {M : Type 1} → statement M

@@ -4,7 +4,7 @@ use mathlib.Core.Path.{ap}
 use mathlib.Core.Bool.{◌||◌}
 use Prim.Native.Nat.{ℕ}
 use lib.Dec.{ltb}
-use Rattle.room.specs.Needs.{vertexNeed, linkNeed}
+use Rattle.room.specs.Needs.{vertex_need, link_need}
 use borrow.Author.Rules.{rules}
 use Rattle.room.proofs.graph_short.Statement.{statement}
 use Rattle.room.proofs.graph_short.Tie as tie
@@ -12,7 +12,7 @@ use Rattle.room.proofs.graph_short.Tie as tie
 returns : tie.Need-returns
 returns c =
     let a = c.before.args in
-    ap (λ (n : ℕ). ltb a.vertices (vertexNeed n) || ltb a.edges (linkNeed n)) c.point-count.ensures
+    ap (λ (n : ℕ). ltb a.vertices (vertex_need n) || ltb a.edges (link_need n)) c.point-count.ensures
 
 pub graph-short-spec : {M : Type 1} → statement M
 graph-short-spec = tie.close (tie.spec (λ c κs. search rules) (λ c. search rules) (λ c. search rules) returns)

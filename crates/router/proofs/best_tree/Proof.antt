@@ -7,9 +7,9 @@ use Rattle.lent.specs.Told.{given}
 use Rattle.net.specs.declared.Weighing.{Weighing}
 use Rattle.checks.specs.Check.{checked, told}
 use Rattle.checks.proofs.GivenLaws.{handed-back}
-use Rattle.answers.specs.Best.{bestGiven, bestTree}
+use Rattle.answers.specs.Best.{best_given, best_tree}
 use Rattle.answers.proofs.AnswerLaws.{only-refused, only-given}
-use Rattle.router.specs.Answers.{toldTree}
+use Rattle.router.specs.Answers.{told_tree}
 use Rattle.router.specs.Call.{BestCall}
 use Rattle.made.proofs.CountedLaws.{counted_of}
 use Rattle.router.proofs.CallLaws.{best-refused, best-as}
@@ -29,7 +29,7 @@ best-tree-requires : tie.Need-best-tree-requires
 best-tree-requires c κs = counted_of _ _ _ (allowed c.before.before.before)
 
 returns : tie.Need-returns
-unfolding bestTree
+unfolding best_tree
 returns c =
     let r = c.before.before.before in
     let d = r.before.before.before.before in
@@ -37,19 +37,19 @@ returns c =
     let check = allowed d in
     best-as
     (λ T. sym (only-given (checked a.w a.pins.now a.macros.now)
-    (bestGiven a.w a.pins.now a.macros.now (length a.work.now) (length a.edges.now) T) _ check))
-    (subst (λ (z : Weighing). BestCall bestGiven z a.pins.now a.macros.now a.work.now a.edges.now r.best-tree.result
+    (best_given a.w a.pins.now a.macros.now (length a.work.now) (length a.edges.now) T) _ check))
+    (subst (λ (z : Weighing). BestCall best_given z a.pins.now a.macros.now a.work.now a.edges.now r.best-tree.result
     r.best-tree.new.1.1.1.0 r.best-tree.new.1.1.1.1.0) (handed-back _ _ _ check) r.best-tree.ensures)
 
 returns-2 : tie.Need-returns-2
-unfolding bestTree toldTree told
+unfolding best_tree told_tree told
 returns-2 c =
     let s = c.before.before.before in
     let a = s.before.before.args in
     let check = sym s.check.ensures ∙ ap told c.before.answer2.given.1 in
     best-refused refl
     (only-refused (checked a.w a.pins.now a.macros.now)
-    (bestGiven a.w a.pins.now a.macros.now (length a.work.now) (length a.edges.now) []) _ check)
+    (best_given a.w a.pins.now a.macros.now (length a.work.now) (length a.edges.now) []) _ check)
 
 pub best-tree-spec : {M : Type 1} → statement M
 best-tree-spec =

@@ -6,9 +6,9 @@ use Rattle.lent.specs.Told.{given}
 use Rattle.net.specs.declared.Weighing.{Weighing}
 use Rattle.checks.specs.Check.{checked, told}
 use Rattle.checks.proofs.GivenLaws.{handed-back}
-use Rattle.answers.specs.Both.{bothGiven, bothTrees}
+use Rattle.answers.specs.Both.{both_given, both_trees}
 use Rattle.answers.proofs.AnswerLaws.{only-refused, only-given}
-use Rattle.router.specs.Answers.{toldBoth}
+use Rattle.router.specs.Answers.{told_both}
 use Rattle.router.specs.Call.{BothCall}
 use Rattle.made.proofs.CountedLaws.{counted_of}
 use Rattle.router.proofs.CallLaws.{gives-refused, gives_as}
@@ -27,22 +27,22 @@ both-trees-requires : tie.Need-both-trees-requires
 both-trees-requires c κs = counted_of _ _ _ (allowed c.before.before)
 
 returns : tie.Need-returns
-unfolding bothTrees
+unfolding both_trees
 returns c =
     let r = c.before in
     let d = r.before.before.before in
     let a = d.before.before.before.args in
-    let next = bothGiven a.w a.pins.now a.macros.now (length a.edges.now) in
+    let next = both_given a.w a.pins.now a.macros.now (length a.edges.now) in
     gives_as (sym (only-given (checked a.w a.pins.now a.macros.now) next _ (allowed d)))
-    (subst (λ (z : Weighing). BothCall bothGiven z a.pins.now a.macros.now a.edges.now r.both-trees.result r.both-trees.new.1.1.1.0)
+    (subst (λ (z : Weighing). BothCall both_given z a.pins.now a.macros.now a.edges.now r.both-trees.result r.both-trees.new.1.1.1.0)
     (handed-back _ _ _ (allowed d)) r.both-trees.ensures)
 
 returns-2 : tie.Need-returns-2
-unfolding bothTrees toldBoth told
+unfolding both_trees told_both told
 returns-2 c =
     let s = c.before.before.before in
     let a = s.before.args in
-    let next = bothGiven a.w a.pins.now a.macros.now (length a.edges.now) in
+    let next = both_given a.w a.pins.now a.macros.now (length a.edges.now) in
     let check = sym s.check.ensures ∙ ap told c.before.answer2.given.1 in
     gives-refused refl (only-refused (checked a.w a.pins.now a.macros.now) next _ check)
 

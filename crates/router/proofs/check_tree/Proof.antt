@@ -4,12 +4,12 @@ use mathlib.Core.Path.{◌≡◌, sym, ap, ◌∙◌}
 use native.Mathlib.Omega.{arith}
 use Rattle.lent.specs.Told.{given}
 use Rattle.net.specs.declared.Weighing.{Weighing}
-use Rattle.net.specs.Net.{Net, netOf}
+use Rattle.net.specs.Net.{Net, net_of}
 use Rattle.net.proofs.PinLaws.{length-pins}
 use Rattle.checks.specs.Check.{checked, told}
 use Rattle.checks.proofs.GivenLaws.{handed-back}
-use Rattle.bought.specs.Verdict.{bought, toldVerdict}
-use Rattle.answers.specs.Bought.{checkedTree}
+use Rattle.bought.specs.Verdict.{bought, told_verdict}
+use Rattle.answers.specs.Bought.{checked_tree}
 use Rattle.answers.proofs.AnswerLaws.{only-refused, only-given}
 use Rattle.made.proofs.CountedLaws.{counted_of, as-net}
 use borrow.Author.Rules.{rules}
@@ -30,22 +30,22 @@ check-tree-requires c κs =
     omega (arith, (counted_of _ _ _ (allowed d)).allowed.few-pins, length-pins pins)
 
 returns : tie.Need-returns
-unfolding checkedTree
+unfolding checked_tree
 returns c =
     let d = c.before.before in
     let a = d.before.before.before.args in
-    let next = bought (netOf a.w a.pins.now a.macros.now) a.edges.now in
+    let next = bought (net_of a.w a.pins.now a.macros.now) a.edges.now in
     c.check-tree.ensures
     ∙ ap (λ (net : Net). bought net a.edges.now) (as-net (counted_of _ _ _ (allowed d)))
-    ∙ ap (λ (z : Weighing). bought (netOf z a.pins.now a.macros.now) a.edges.now) (handed-back _ _ _ (allowed d))
+    ∙ ap (λ (z : Weighing). bought (net_of z a.pins.now a.macros.now) a.edges.now) (handed-back _ _ _ (allowed d))
     ∙ sym (only-given (checked a.w a.pins.now a.macros.now) next _ (allowed d))
 
 returns-2 : tie.Need-returns-2
-unfolding checkedTree toldVerdict told
+unfolding checked_tree told_verdict told
 returns-2 c =
     let s = c.before.before.before in
     let a = s.before.args in
-    let next = bought (netOf a.w a.pins.now a.macros.now) a.edges.now in
+    let next = bought (net_of a.w a.pins.now a.macros.now) a.edges.now in
     let check = sym s.check.ensures ∙ ap told c.before.answer2.given.1 in
     sym (only-refused (checked a.w a.pins.now a.macros.now) next _ check)
 

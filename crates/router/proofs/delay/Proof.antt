@@ -6,8 +6,8 @@ use Rattle.lent.specs.Told.{given}
 use Rattle.net.specs.declared.Weighing.{Weighing}
 use Rattle.checks.specs.Check.{checked, told}
 use Rattle.checks.proofs.GivenLaws.{handed-back}
-use Rattle.delay.specs.Answer.{toldDelays}
-use Rattle.answers.specs.Delay.{delayGiven, pinDelays}
+use Rattle.delay.specs.Answer.{told_delays}
+use Rattle.answers.specs.Delay.{delay_given, pin_delays}
 use Rattle.answers.proofs.AnswerLaws.{only-refused, only-given}
 use Rattle.router.specs.Call.{DelayCall}
 use Rattle.made.proofs.CountedLaws.{counted_of}
@@ -28,23 +28,23 @@ delay-requires : tie.Need-delay-requires
 delay-requires c κs = counted_of _ _ _ (allowed c.before.before)
 
 returns : tie.Need-returns
-unfolding pinDelays
+unfolding pin_delays
 returns c =
     let r = c.before.before in
     let d = r.before.before.before in
     let a = d.before.before.before.before.args in
-    let next = delayGiven a.w a.pins.now a.macros.now a.driver a.t (length a.delays.now) in
+    let next = delay_given a.w a.pins.now a.macros.now a.driver a.t (length a.delays.now) in
     gives_as (sym (only-given (checked a.w a.pins.now a.macros.now) next _ (allowed d)))
-    (subst (λ (z : Weighing). DelayCall delayGiven z a.pins.now a.macros.now a.driver a.t a.delays.now
+    (subst (λ (z : Weighing). DelayCall delay_given z a.pins.now a.macros.now a.driver a.t a.delays.now
     r.delay.result r.delay.new.1.1.1.1.1.0)
     (handed-back _ _ _ (allowed d)) r.delay.ensures)
 
 returns-2 : tie.Need-returns-2
-unfolding pinDelays toldDelays told
+unfolding pin_delays told_delays told
 returns-2 c =
     let s = c.before.before.before in
     let a = s.before.before.args in
-    let next = delayGiven a.w a.pins.now a.macros.now a.driver a.t (length a.delays.now) in
+    let next = delay_given a.w a.pins.now a.macros.now a.driver a.t (length a.delays.now) in
     let check = sym s.check.ensures ∙ ap told c.before.answer2.given.1 in
     gives-refused refl (only-refused (checked a.w a.pins.now a.macros.now) next _ check)
 

@@ -6,10 +6,10 @@ use Rattle.lent.specs.Told.{given}
 use Rattle.net.specs.declared.Weighing.{Weighing}
 use Rattle.checks.specs.Check.{checked, told}
 use Rattle.checks.proofs.GivenLaws.{handed-back}
-use Rattle.answers.specs.Graph.{graphGiven}
+use Rattle.answers.specs.Graph.{graph_given}
 use Rattle.answers.proofs.GraphLaws.{graphed-refused, graphed-allowed}
 use Rattle.router.specs.Call.{GraphCall}
-use Rattle.router.specs.Answers.{toldGraph}
+use Rattle.router.specs.Answers.{told_graph}
 use Rattle.made.proofs.CountedLaws.{counted_of}
 use Rattle.router.proofs.CallLaws.{two-refused, two-as}
 use borrow.Author.Rules.{rules}
@@ -33,11 +33,11 @@ returns c =
     let a = d.before.before.before.args in
     let check = allowed d in
     two-as (sym (graphed-allowed a.w a.pins.now a.macros.now (length a.vertices.now) (length a.edges.now) _ check))
-    (subst (λ (z : Weighing). GraphCall graphGiven z a.pins.now a.macros.now a.vertices.now a.edges.now r.graph.result
+    (subst (λ (z : Weighing). GraphCall graph_given z a.pins.now a.macros.now a.vertices.now a.edges.now r.graph.result
     r.graph.new.1.1.1.0 r.graph.new.1.1.1.1.0) (handed-back _ _ _ check) r.graph.ensures)
 
 returns-2 : tie.Need-returns-2
-unfolding toldGraph told
+unfolding told_graph told
 returns-2 c =
     let s = c.before.before.before in
     let a = s.before.args in

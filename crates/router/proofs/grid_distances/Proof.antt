@@ -6,9 +6,9 @@ use Rattle.lent.specs.Told.{given}
 use Rattle.net.specs.declared.Weighing.{Weighing}
 use Rattle.checks.specs.Check.{checked, told}
 use Rattle.checks.proofs.GivenLaws.{handed-back}
-use Rattle.answers.specs.Distances.{distancesGiven, gridDistances}
+use Rattle.answers.specs.Distances.{distances_given, grid_distances}
 use Rattle.answers.proofs.AnswerLaws.{only-refused, only-given}
-use Rattle.router.specs.Answers.{toldDistances}
+use Rattle.router.specs.Answers.{told_distances}
 use Rattle.router.specs.Call.{DistancesCall}
 use Rattle.made.proofs.CountedLaws.{counted_of}
 use Rattle.router.proofs.CallLaws.{square-refused, square-as}
@@ -28,23 +28,23 @@ grid-distances-requires : tie.Need-grid-distances-requires
 grid-distances-requires c κs = counted_of _ _ _ (allowed c.before.before)
 
 returns : tie.Need-returns
-unfolding gridDistances
+unfolding grid_distances
 returns c =
     let r = c.before in
     let d = r.before.before.before in
     let a = d.before.before.before.args in
-    let next = distancesGiven a.w a.pins.now a.macros.now (length a.table.now) in
+    let next = distances_given a.w a.pins.now a.macros.now (length a.table.now) in
     square-as (sym (only-given (checked a.w a.pins.now a.macros.now) next _ (allowed d)))
-    (subst (λ (z : Weighing). DistancesCall distancesGiven z a.pins.now a.macros.now a.table.now r.grid-distances.result
+    (subst (λ (z : Weighing). DistancesCall distances_given z a.pins.now a.macros.now a.table.now r.grid-distances.result
     r.grid-distances.new.1.1.1.0)
     (handed-back _ _ _ (allowed d)) r.grid-distances.ensures)
 
 returns-2 : tie.Need-returns-2
-unfolding gridDistances toldDistances told
+unfolding grid_distances told_distances told
 returns-2 c =
     let s = c.before.before.before in
     let a = s.before.args in
-    let next = distancesGiven a.w a.pins.now a.macros.now (length a.table.now) in
+    let next = distances_given a.w a.pins.now a.macros.now (length a.table.now) in
     let check = sym s.check.ensures ∙ ap told c.before.answer2.given.1 in
     square-refused refl (only-refused (checked a.w a.pins.now a.macros.now) next _ check)
 

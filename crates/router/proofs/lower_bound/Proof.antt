@@ -6,9 +6,9 @@ use Rattle.lent.specs.Told.{given}
 use Rattle.net.specs.declared.Weighing.{Weighing}
 use Rattle.checks.specs.Check.{checked, told}
 use Rattle.checks.proofs.GivenLaws.{handed-back}
-use Rattle.answers.specs.Bound.{boundGiven, lowerBound}
+use Rattle.answers.specs.Bound.{bound_given, lower_bound}
 use Rattle.answers.proofs.AnswerLaws.{only-refused, only-given}
-use Rattle.router.specs.Answers.{toldBound}
+use Rattle.router.specs.Answers.{told_bound}
 use Rattle.router.specs.Call.{BoundCall}
 use Rattle.made.proofs.CountedLaws.{counted_of}
 use Rattle.router.proofs.CallLaws.{bound-refused, bound-as}
@@ -28,7 +28,7 @@ lower-bound-requires : tie.Need-lower-bound-requires
 lower-bound-requires c κs = counted_of _ _ _ (allowed c.before.before.before)
 
 returns : tie.Need-returns
-unfolding lowerBound
+unfolding lower_bound
 returns c =
     let r = c.before.before.before.before in
     let d = r.before.before.before.before in
@@ -36,19 +36,19 @@ returns c =
     let check = allowed d in
     bound-as
     (λ n. sym (only-given (checked a.w a.pins.now a.macros.now)
-    (boundGiven a.w a.pins.now a.macros.now (length a.left.now) (length a.rows.now) n) _ check))
-    (subst (λ (z : Weighing). BoundCall boundGiven z a.pins.now a.macros.now a.left.now a.rows.now r.lower-bound.result
+    (bound_given a.w a.pins.now a.macros.now (length a.left.now) (length a.rows.now) n) _ check))
+    (subst (λ (z : Weighing). BoundCall bound_given z a.pins.now a.macros.now a.left.now a.rows.now r.lower-bound.result
     r.lower-bound.new.1.1.1.0 r.lower-bound.new.1.1.1.1.0) (handed-back _ _ _ check) r.lower-bound.ensures)
 
 returns-2 : tie.Need-returns-2
-unfolding lowerBound toldBound told
+unfolding lower_bound told_bound told
 returns-2 c =
     let s = c.before.before.before in
     let a = s.before.before.before.args in
     let check = sym s.check.ensures ∙ ap told c.before.answer2.given.1 in
     bound-refused refl
     (only-refused (checked a.w a.pins.now a.macros.now)
-    (boundGiven a.w a.pins.now a.macros.now (length a.left.now) (length a.rows.now) 0) _ check)
+    (bound_given a.w a.pins.now a.macros.now (length a.left.now) (length a.rows.now) 0) _ check)
 
 pub lower-bound-spec : {M : Type 1} → statement M
 lower-bound-spec =

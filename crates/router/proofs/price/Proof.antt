@@ -3,11 +3,11 @@
 use mathlib.Core.Path.{◌≡◌, sym, ap, ◌∙◌}
 use Rattle.lent.specs.Told.{given}
 use Rattle.net.specs.declared.Weighing.{Weighing}
-use Rattle.price.specs.Price.{priced, toldPrice}
+use Rattle.price.specs.Price.{priced, told_price}
 use Rattle.checks.specs.Check.{checked, told}
 use Rattle.checks.proofs.GivenLaws.{handed-back}
-use Rattle.answers.specs.Refined.{metalOf}
-use Rattle.answers.specs.Price.{netPrice}
+use Rattle.answers.specs.Refined.{metal_of}
+use Rattle.answers.specs.Price.{net_price}
 use Rattle.answers.proofs.AnswerLaws.{only-refused, only-given}
 use Rattle.made.proofs.CountedLaws.{counted_of}
 use borrow.Author.Rules.{rules}
@@ -25,21 +25,21 @@ price-requires : tie.Need-price-requires
 price-requires c κs = counted_of _ _ _ (allowed c.before)
 
 returns : tie.Need-returns
-unfolding netPrice
+unfolding net_price
 returns c =
     let d = c.before.before in
     let a = d.before.before.before.before.args in
-    let next = priced (metalOf a.w a.pins.now a.macros.now) a.bands.now in
+    let next = priced (metal_of a.w a.pins.now a.macros.now) a.bands.now in
     c.price.ensures
-    ∙ ap (λ (z : Weighing). priced (metalOf z a.pins.now a.macros.now) a.bands.now) (handed-back _ _ _ (allowed d))
+    ∙ ap (λ (z : Weighing). priced (metal_of z a.pins.now a.macros.now) a.bands.now) (handed-back _ _ _ (allowed d))
     ∙ sym (only-given (checked a.w a.pins.now a.macros.now) next _ (allowed d))
 
 returns-2 : tie.Need-returns-2
-unfolding netPrice toldPrice told
+unfolding net_price told_price told
 returns-2 c =
     let s = c.before.before.before in
     let a = s.before.before.args in
-    let next = priced (metalOf a.w a.pins.now a.macros.now) a.bands.now in
+    let next = priced (metal_of a.w a.pins.now a.macros.now) a.bands.now in
     let check = sym s.check.ensures ∙ ap told c.before.answer2.given.1 in
     sym (only-refused (checked a.w a.pins.now a.macros.now) next _ check)
 

@@ -7,7 +7,7 @@ use mir.Syntax.{w64}
 use mir.Val.{SFits}
 use mir.ValLaws.{to_z-of_z}
 use Rattle.lent.specs.Told.{given}
-use Rattle.router.specs.Answers.{toldTree}
+use Rattle.router.specs.Answers.{told_tree}
 use Rattle.router.proofs.CallLaws.{alone, refined-alone, alone-given, alone-refused}
 use Rattle.router.proofs.refined_tree.Statement.{statement}
 use Rattle.router.proofs.refined_tree.Tie as tie
@@ -19,7 +19,7 @@ metal-fits : (c : tie.After-known-told) → SFits w64 c.before.answer.given.0.1.
 metal-fits c = search rules
 
 returns : tie.Need-returns
-unfolding toldTree
+unfolding told_tree
 returns c =
     let v = c.before.answer.given in
     let a = c.before.before.before.before.before.before.args in
@@ -28,7 +28,7 @@ returns c =
     ∙ alone-given v.0.0 v.0.1.0 v.0.1.1.0 v.0.1.1.1.0 v.1)
 
 returns-2 : tie.Need-returns-2
-unfolding toldTree
+unfolding told_tree
 returns-2 c =
     let v = c.before.answer2.given in
     let a = c.before.before.before.before.before.before.args in

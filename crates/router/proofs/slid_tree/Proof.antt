@@ -6,9 +6,9 @@ use Rattle.lent.specs.Told.{given}
 use Rattle.net.specs.declared.Weighing.{Weighing}
 use Rattle.checks.specs.Check.{checked, told}
 use Rattle.checks.proofs.GivenLaws.{handed-back}
-use Rattle.answers.specs.Slid.{slidGiven, slidTree}
+use Rattle.answers.specs.Slid.{slid_given, slid_tree}
 use Rattle.answers.proofs.AnswerLaws.{only-refused, only-given}
-use Rattle.router.specs.Answers.{toldTree}
+use Rattle.router.specs.Answers.{told_tree}
 use Rattle.router.specs.Call.{SlidCall}
 use Rattle.made.proofs.CountedLaws.{counted_of}
 use Rattle.router.proofs.CallLaws.{gives-refused, gives_as}
@@ -28,23 +28,23 @@ slid-tree-requires : tie.Need-slid-tree-requires
 slid-tree-requires c κs = counted_of _ _ _ (allowed c.before.before)
 
 returns : tie.Need-returns
-unfolding slidTree
+unfolding slid_tree
 returns c =
     let r = c.before in
     let d = r.before.before.before in
     let a = d.before.before.before.args in
-    let next = slidGiven a.w a.pins.now a.macros.now (length a.edges.now) in
+    let next = slid_given a.w a.pins.now a.macros.now (length a.edges.now) in
     gives_as (sym (only-given (checked a.w a.pins.now a.macros.now) next _ (allowed d)))
-    (subst (λ (z : Weighing). SlidCall slidGiven z a.pins.now a.macros.now a.edges.now r.slid-tree.result
+    (subst (λ (z : Weighing). SlidCall slid_given z a.pins.now a.macros.now a.edges.now r.slid-tree.result
     r.slid-tree.new.1.1.1.0)
     (handed-back _ _ _ (allowed d)) r.slid-tree.ensures)
 
 returns-2 : tie.Need-returns-2
-unfolding slidTree toldTree told
+unfolding slid_tree told_tree told
 returns-2 c =
     let s = c.before.before.before in
     let a = s.before.args in
-    let next = slidGiven a.w a.pins.now a.macros.now (length a.edges.now) in
+    let next = slid_given a.w a.pins.now a.macros.now (length a.edges.now) in
     let check = sym s.check.ensures ∙ ap told c.before.answer2.given.1 in
     gives-refused refl (only-refused (checked a.w a.pins.now a.macros.now) next _ check)
 

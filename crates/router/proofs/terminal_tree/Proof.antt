@@ -6,9 +6,9 @@ use Rattle.lent.specs.Told.{given}
 use Rattle.net.specs.declared.Weighing.{Weighing}
 use Rattle.checks.specs.Check.{checked, told}
 use Rattle.checks.proofs.GivenLaws.{handed-back}
-use Rattle.answers.specs.Terminal.{terminalGiven, terminalTree}
+use Rattle.answers.specs.Terminal.{terminal_given, terminal_tree}
 use Rattle.answers.proofs.AnswerLaws.{only-refused, only-given}
-use Rattle.router.specs.Answers.{toldTerminal}
+use Rattle.router.specs.Answers.{told_terminal}
 use Rattle.router.specs.Call.{TerminalCall}
 use Rattle.made.proofs.CountedLaws.{counted_of}
 use Rattle.router.proofs.CallLaws.{gives-refused, gives_as}
@@ -27,22 +27,22 @@ terminal-tree-requires : tie.Need-terminal-tree-requires
 terminal-tree-requires c κs = counted_of _ _ _ (allowed c.before.before)
 
 returns : tie.Need-returns
-unfolding terminalTree
+unfolding terminal_tree
 returns c =
     let r = c.before in
     let d = r.before.before.before in
     let a = d.before.before.before.args in
-    let next = terminalGiven a.w a.pins.now a.macros.now (length a.paths.now) in
+    let next = terminal_given a.w a.pins.now a.macros.now (length a.paths.now) in
     gives_as (sym (only-given (checked a.w a.pins.now a.macros.now) next _ (allowed d)))
-    (subst (λ (z : Weighing). TerminalCall terminalGiven z a.pins.now a.macros.now a.paths.now r.terminal-tree.result r.terminal-tree.new.1.1.1.0)
+    (subst (λ (z : Weighing). TerminalCall terminal_given z a.pins.now a.macros.now a.paths.now r.terminal-tree.result r.terminal-tree.new.1.1.1.0)
     (handed-back _ _ _ (allowed d)) r.terminal-tree.ensures)
 
 returns-2 : tie.Need-returns-2
-unfolding terminalTree toldTerminal told
+unfolding terminal_tree told_terminal told
 returns-2 c =
     let s = c.before.before.before in
     let a = s.before.args in
-    let next = terminalGiven a.w a.pins.now a.macros.now (length a.paths.now) in
+    let next = terminal_given a.w a.pins.now a.macros.now (length a.paths.now) in
     let check = sym s.check.ensures ∙ ap told c.before.answer2.given.1 in
     gives-refused refl (only-refused (checked a.w a.pins.now a.macros.now) next _ check)
 

@@ -6,9 +6,9 @@ use Rattle.lent.specs.Told.{given}
 use Rattle.net.specs.declared.Weighing.{Weighing}
 use Rattle.checks.specs.Check.{checked, told}
 use Rattle.checks.proofs.GivenLaws.{handed-back}
-use Rattle.answers.specs.Wires.{wiresGiven, wired}
+use Rattle.answers.specs.Wires.{wires_given, wired}
 use Rattle.answers.proofs.AnswerLaws.{only-refused, only-given}
-use Rattle.router.specs.Answers.{toldWires}
+use Rattle.router.specs.Answers.{told_wires}
 use Rattle.router.specs.Call.{WiresCall}
 use Rattle.made.proofs.CountedLaws.{counted_of}
 use Rattle.router.proofs.CallLaws.{gives-refused, gives_as}
@@ -32,17 +32,17 @@ returns c =
     let r = c.before in
     let d = r.before.before.before in
     let a = d.before.before.before.args in
-    let next = wiresGiven a.w a.pins.now a.macros.now (length a.wires.now) in
+    let next = wires_given a.w a.pins.now a.macros.now (length a.wires.now) in
     gives_as (sym (only-given (checked a.w a.pins.now a.macros.now) next _ (allowed d)))
-    (subst (λ (z : Weighing). WiresCall wiresGiven z a.pins.now a.macros.now a.wires.now r.wires.result r.wires.new.1.1.1.0)
+    (subst (λ (z : Weighing). WiresCall wires_given z a.pins.now a.macros.now a.wires.now r.wires.result r.wires.new.1.1.1.0)
     (handed-back _ _ _ (allowed d)) r.wires.ensures)
 
 returns-2 : tie.Need-returns-2
-unfolding wired toldWires told
+unfolding wired told_wires told
 returns-2 c =
     let s = c.before.before.before in
     let a = s.before.args in
-    let next = wiresGiven a.w a.pins.now a.macros.now (length a.wires.now) in
+    let next = wires_given a.w a.pins.now a.macros.now (length a.wires.now) in
     let check = sym s.check.ensures ∙ ap told c.before.answer2.given.1 in
     gives-refused refl (only-refused (checked a.w a.pins.now a.macros.now) next _ check)
 

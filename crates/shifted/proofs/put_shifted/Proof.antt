@@ -6,7 +6,7 @@ use lib.ListN.{get_or}
 use Rattle.plane.specs.declared.Place.{Place}
 use Rattle.slide.specs.Bend.{Edge}
 use Rattle.slide.specs.Slide.{proper}
-use Rattle.shifted.specs.Shift.{shiftedAt, shiftedEdge, PutIf}
+use Rattle.shifted.specs.Shift.{shifted_at, shifted_edge, PutIf}
 use Rattle.shifted.proofs.put_shifted.Statement.{statement}
 use Rattle.shifted.proofs.put_shifted.Tie as tie
 
@@ -21,9 +21,9 @@ returns c =
     let b = c.before.before.before in
     let a = b.before.before in
     let s = a.before.before in
-    let at = shiftedAt s.args.m s.args.pts.now s.args.lab.now in
+    let at = shifted_at s.args.m s.args.pts.now s.args.lab.now in
     let ends : (a.shifted-point.result, b.shifted-point2.result)
-    ≡ shiftedEdge s.args.m s.args.pts.now s.args.lab.now (get_or s.args.keys.now s.args.k 0) =
+    ≡ shifted_edge s.args.m s.args.pts.now s.args.lab.now (get_or s.args.keys.now s.args.k 0) =
     ap₂ (λ (p q : Place). (p, q))
     (a.shifted-point.ensures ∙ ap at a.before.first-end.ensures.0)
     (b.shifted-point2.ensures ∙ ap at b.before.second-end.ensures.0) in

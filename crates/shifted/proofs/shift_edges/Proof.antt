@@ -8,7 +8,7 @@ use lib.ListN.{length, get_or}
 use Rattle.slide.specs.Bend.{Edge}
 use Rattle.slide.specs.Slide.{proper}
 use Rattle.straight.proofs.TableLaws.{within-small}
-use Rattle.shifted.specs.Shift.{shiftedEdge}
+use Rattle.shifted.specs.Shift.{shifted_edge}
 use Rattle.shifted.proofs.ShiftedLaws.{Putting, putting-none, putting-more, putting-end, put-few}
 use Rattle.shifted.proofs.shift_edges.Statement.{statement}
 use Rattle.shifted.proofs.shift_edges.Tie as tie
@@ -16,14 +16,14 @@ use Rattle.shifted.proofs.shift_edges.Tie as tie
 abbrev invariant-loop : tie.invariant-loop
 invariant-loop pts n keys e lab m out₀ count₀ k₀ out count k =
     (k ≤ e) × (count ≤ k) × (length out ≡ length out₀)
-    × Putting (λ i. shiftedEdge m pts lab (get_or keys i 0)) e out₀ out count k
+    × Putting (λ i. shifted_edge m pts lab (get_or keys i 0)) e out₀ out count k
 
 abbrev decreases-loop : tie.decreases-loop
 decreases-loop pts n keys e lab m out₀ count₀ k₀ out count k = e - k
 
 -- the edges after the move, one after the other
 abbrev after : tie.Start invariant-loop decreases-loop → ℕ → Edge
-after s i = shiftedEdge s.args.m s.args.pts.now s.args.lab.now (get_or s.args.keys.now i 0)
+after s i = shifted_edge s.args.m s.args.pts.now s.args.lab.now (get_or s.args.keys.now i 0)
 
 loop-holds : tie.Need-loop-init invariant-loop decreases-loop
 loop-holds c = (omega arith, omega arith, refl, putting-none (after c) _ _)

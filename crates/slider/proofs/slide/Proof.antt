@@ -8,13 +8,13 @@ use native.Mathlib.Omega.{arith}
 use borrow.Author.Rules.{rules}
 use lib.IntN.{ℤ}
 use lib.ListN.{length}
-use Rattle.net.specs.Net.{Net, netWith}
-use Rattle.net.specs.Pins.{pinPlaces}
+use Rattle.net.specs.Net.{Net, net_with}
+use Rattle.net.specs.Pins.{pin_places}
 use Rattle.slide.specs.Bend.{Edge, bends}
-use Rattle.slide.specs.Slide.{inOrder, rounds, slid}
+use Rattle.slide.specs.Slide.{in_their_order, rounds, slid}
 use Rattle.slide.specs.Promise.{State}
-use Rattle.straight.specs.Table.{straightBound}
-use Rattle.settled.specs.Settled.{edgesOf, points_of}
+use Rattle.straight.specs.Table.{straight_bound}
+use Rattle.settled.specs.Settled.{edges_of, points_of}
 use Rattle.settled.proofs.SettledLaws.{edges-in-order}
 use Rattle.slider.proofs.SlidLaws.{BentTo, bent-to, edges-given, bend-asks, slid-given-back, few-room, start-state, slid-rounds}
 use Rattle.slider.proofs.slide.Statement.{statement}
@@ -31,30 +31,30 @@ module _ (d : tie.After-bend-tree) where
   start = d.before.before.before
 
   abbrev net : Net
-  net = netWith start.args.w start.args.pins.now start.args.macros.now
+  net = net_with start.args.w start.args.pins.now start.args.macros.now
 
   abbrev T : List Edge
-  T = edgesOf start.args.edges.now start.args.e
+  T = edges_of start.args.edges.now start.args.e
 
   abbrev out : List ℤ
   out = d.bend-tree.last.1.1.1.0
 
   module _ (h : d.bend-tree.result.back ≡ false) where
-    to : BentTo (bends (points_of (pinPlaces start.args.pins.now) T) T) d.bend-tree.result out
+    to : BentTo (bends (points_of (pin_places start.args.pins.now) T) T) d.bend-tree.result out
     to = bent-to _ d.bend-tree.result out d.bend-tree.ensures h
 
-    room : d.bend-tree.result.edges * 4 ≤ straightBound * 4
+    room : d.bend-tree.result.edges * 4 ≤ straight_bound * 4
     room =
         few-room start.args.w start.args.pins.now start.args.macros.now start.args.edges.now start.args.e
         start.pre.0 d.bend-tree.result out to
 
-    module _ (row : List ℤ) (n : ℕ) (q : edgesOf row n ≡ inOrder (edgesOf out d.bend-tree.result.edges)) where
-      state : State net (edgesOf row n)
+    module _ (row : List ℤ) (n : ℕ) (q : edges_of row n ≡ in_their_order (edges_of out d.bend-tree.result.edges)) where
+      state : State net (edges_of row n)
       state =
           start-state start.args.w start.args.pins.now start.args.macros.now start.args.edges.now start.args.e
           start.pre.0 d.bend-tree.result out to row n q
 
-      all : rounds net d.bend-tree.result.points (edgesOf row n) ≡ slid net T
+      all : rounds net d.bend-tree.result.points (edges_of row n) ≡ slid net T
       all =
           slid-rounds start.args.w start.args.pins.now start.args.macros.now start.args.edges.now start.args.e
           start.pre.0 d.bend-tree.result out to row n q
@@ -69,7 +69,7 @@ returns c =
 sort-edges-requires : tie.Need-sort-edges-requires
 sort-edges-requires c κs =
     let d = c.before.before.before.before in
-    let wide : length (out d) ≡ straightBound * 4 = d.bend-tree.auto.1.1.1.0 in
+    let wide : length (out d) ≡ straight_bound * 4 = d.bend-tree.auto.1.1.1.0 in
     let few = room d c.before.before.if1.false in
     (omega (arith, few, wide), omega (arith, few))
 

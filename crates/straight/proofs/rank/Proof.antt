@@ -5,7 +5,7 @@ use mathlib.Core.List.{List}
 use Rattle.lists.specs.Sorted.{position}
 use Rattle.plane.specs.declared.Place.{Place}
 use Rattle.plane.specs.Place.{before}
-use Rattle.plane.specs.Flat.{placeFrom}
+use Rattle.plane.specs.Flat.{place_from}
 use Rattle.sorted.proofs.NumberLaws.{rank-position}
 use Rattle.straight.proofs.RunLaws.{points-are}
 use Rattle.straight.proofs.rank.Statement.{statement}

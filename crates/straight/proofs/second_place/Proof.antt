@@ -2,12 +2,12 @@
 -- Assumes nothing.
 use mathlib.Core.Path.{ap, ◌∙◌}
 use borrow.Author.Rules.{rules}
-use Rattle.plane.specs.Flat.{placeAt}
+use Rattle.plane.specs.Flat.{place_at}
 use Rattle.straight.proofs.second_place.Statement.{statement}
 use Rattle.straight.proofs.second_place.Tie as tie
 
 returns : tie.Need-returns
-returns c = c.point_at.ensures ∙ ap (placeAt c.before.before.args.pts.now) c.before.second-end.ensures.0
+returns c = c.point_at.ensures ∙ ap (place_at c.before.before.args.pts.now) c.before.second-end.ensures.0
 
 pub second-place-spec : {M : Type 1} → statement M
 second-place-spec = tie.close (tie.spec (λ c κs. search rules) (λ c κs. search rules) returns)

@@ -6,15 +6,15 @@ use native.Mathlib.Omega.{arith}
 use lib.ListN.{length, replicate, length-set}
 use Rattle.lent.specs.Over.{over}
 use Rattle.best.proofs.SizeLaws.{filled_none, filled_more, filled-end, filled-all}
-use Rattle.sweeps.specs.Tables.{wideCrossings}
+use Rattle.sweeps.specs.Tables.{wide_crossings}
 use Rattle.sweeps.proofs.fill.Statement.{statement}
 use Rattle.sweeps.proofs.fill.Tie as tie
 
 abbrev invariant-loop : tie.invariant-loop
-invariant-loop row₀ x v₀ row v = (v ≤ wideCrossings) × ((length row ≡ wideCrossings) × (row ≡ over (replicate v x) row₀))
+invariant-loop row₀ x v₀ row v = (v ≤ wide_crossings) × ((length row ≡ wide_crossings) × (row ≡ over (replicate v x) row₀))
 
 abbrev decreases-loop : tie.decreases-loop
-decreases-loop row₀ x v₀ row v = wideCrossings - v
+decreases-loop row₀ x v₀ row v = wide_crossings - v
 
 loop-holds : tie.Need-loop-init invariant-loop decreases-loop
 loop-holds c = (omega arith, (c.requires, filled_none c.args.x _))

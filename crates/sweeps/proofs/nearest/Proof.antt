@@ -7,7 +7,7 @@ use native.Mathlib.Omega.{arith}
 use borrow.Author.Rules.{rules}
 use lib.ListN.{length}
 use Rattle.grid.specs.Rows.{at}
-use Rattle.sweeps.specs.Tables.{wideCrossings, far, LeastAt}
+use Rattle.sweeps.specs.Tables.{wide_crossings, far, LeastAt}
 use Rattle.sweeps.proofs.TableLaws as laws
 use Rattle.sweeps.proofs.nearest.Statement.{statement}
 use Rattle.sweeps.proofs.nearest.Tie as tie
@@ -31,9 +31,7 @@ mul-least-2 : tie.Need-overflow-mul-least-2 invariant-loop decreases-loop
 mul-least-2 c = omega (arith, c.before.before.before.before.requires.1 c.before.before.loop.i)
 
 shared-slice-read-least : tie.Need-shared-slice-read-least invariant-loop decreases-loop
-shared-slice-read-least c =
-    let f = c.before.before.before.before.before.requires in
-    omega (arith, f.1 c.before.before.before.loop.i, f.0.0.size)
+shared-slice-read-least c = omega (arith, c.before.before.before.before.before.requires.1 c.before.before.before.loop.i, c.before.before.before.before.before.requires.0.0.size)
 
 least-requires : tie.Need-least-requires invariant-loop decreases-loop
 least-requires c κs = tt
@@ -45,9 +43,7 @@ loop-less : tie.Need-loop-smaller invariant-loop decreases-loop
 loop-less c = omega (arith, c.before.before.before.loop-test.true)
 
 loop-again : tie.Need-loop-preserved invariant-loop decreases-loop
-loop-again c =
-    let l = c.before.before.before.before.loop.invariant.1 in
-    (omega (arith, c.before.before.before.loop-test.true), laws.least_step _ _ _ _ l _ c.least.ensures)
+loop-again c = (omega (arith, c.before.before.before.loop-test.true), laws.least_step _ _ _ _ c.before.before.before.before.loop.invariant.1 _ c.least.ensures)
 
 returns : tie.Need-returns invariant-loop decreases-loop
 returns c =

@@ -21,7 +21,7 @@ settle-requires : tie.Need-settle-requires
 settle-requires c κs =
     let f = c.before.before.before.before.before.before.before.before.before.requires in
     let t = c.before.before.before.before.start.ensures in
-    ((f.0.0, (t.0, f.0.1.1)), ((omega (arith, f.1.0), f.1.1), (t.1 _, f.1.1.1 _)))
+    ((f.0.0, (t.0, f.0.1.1)), ((omega (arith, f.1.0), f.1.1), t.1 _))
 
 lessen-requires : tie.Need-lessen-requires
 lessen-requires c κs = search rules
@@ -36,8 +36,7 @@ returns : tie.Need-returns
 returns c =
     let s = c.before.before.before.before.before.before.before.settle.ensures in
     let o = c.before.before.lessen.ensures in
-    let f = c.before.before.before.before.before.before.before.before.before.before.before.before.before.before.before.before.before.requires.0.0 in
-    ((s.0.0, (s.0.1, s.1.1)), ((s.1.0, o), lessened-fit _ _ _ _ _ f o))
+    ((s.0.0, (s.0.1, s.1.1)), ((s.1.0, o), lessened-fit _ _ _ _ _ c.before.before.before.before.before.before.before.before.before.before.before.before.before.before.before.before.before.requires.0.0 o))
 
 pub raise-spec : {M : Type 1} → statement M
 raise-spec =

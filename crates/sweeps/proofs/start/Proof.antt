@@ -16,6 +16,4 @@ returns : tie.Need-returns
 returns c = start-row _ _ c.before.before.fill.ensures c.before.before.before.before.before.requires.1
 
 pub start_spec : {M : Type 1} → statement M
-start_spec =
-    tie.close
-    (tie.spec (λ c κs. search rules) (λ c. omega (arith, c.before.before.before.before.before.requires.1)) slice-write-row (λ c. search rules) returns)
+start_spec = tie.close (tie.spec (λ c κs. search rules) (λ c. omega (arith, c.before.before.before.before.before.requires.1)) slice-write-row (λ c. search rules) returns)

@@ -6,18 +6,17 @@ use native.Mathlib.Omega.{arith}
 use borrow.Author.Rules.{rules}
 use lib.ListN.{length}
 use Rattle.grid.specs.Rows.{at}
-use Rattle.sweeps.specs.Tables.{wideCrossings, far, ArcsFit}
+use Rattle.sweeps.specs.Tables.{wide_crossings, far, ArcsFit}
 use Rattle.sweeps.proofs.TableLaws as laws
 use Rattle.sweeps.proofs.sweep.Statement.{statement}
 use Rattle.sweeps.proofs.sweep.Tie as tie
 
 abbrev invariant-loop : tie.invariant-loop
-invariant-loop left₀ row₀ numbers m top sum₀ i₀ left row sum i =
-    (i ≤ m) × ((sum + i * far ≤ m * far) × ((ArcsFit left × (length row ≡ wideCrossings))
-    × laws.Sweeping numbers (top * 4) m left₀ left i sum))
+invariant-loop left₀ row₀ numbers m e sum₀ i₀ left row sum i =
+    (i ≤ m) × ((sum + i * far ≤ m * far) × ((ArcsFit left × (length row ≡ wide_crossings)) × laws.Sweeping numbers e m left₀ left i sum))
 
 abbrev decreases-loop : tie.decreases-loop
-decreases-loop left₀ row₀ numbers m top sum₀ i₀ left row sum i = i
+decreases-loop left₀ row₀ numbers m e sum₀ i₀ left row sum i = i
 
 loop-holds : tie.Need-loop-init invariant-loop decreases-loop
 loop-holds c =
@@ -36,9 +35,7 @@ raise-requires c κs =
 add-sum : tie.Need-overflow-add-sum invariant-loop decreases-loop
 add-sum c =
     let l = c.before.before.before.before.before.before.before.before.loop.invariant in
-    let h = c.before.before.before.before.before.before.before.loop-test.true in
-    let few = c.before.before.before.before.before.before.before.before.before.before.before.requires.1.0 in
-    omega (arith, l.0, l.1.0, h, few, c.before.before.before.before.raise.ensures.1.0.0.most)
+    omega (arith, l.0, l.1.0, c.before.before.before.before.before.before.before.loop-test.true, c.before.before.before.before.before.before.before.before.before.before.before.requires.1.0, c.before.before.before.before.raise.ensures.1.0.0.most)
 
 loop-less : tie.Need-loop-smaller invariant-loop decreases-loop
 loop-less c = omega (arith, c.before.before.before.before.before.before.before.loop-test.true)
@@ -53,8 +50,7 @@ loop-again c =
         omega (arith, l.1.0, h, r.1.0.0.most),
         (
           (r.1.1, r.0.0.size),
-          laws.sweep-step _ _ _ _ _ _ _ _ _ _ _ (omega (arith, h)) (omega (arith, h)) r.0.0 r.0.1.0 r.0.1.1
-              r.1.0.0 r.1.0.1 l.1.1.1,
+          laws.sweep-step _ _ _ _ _ _ _ _ _ _ _ (omega (arith, h)) (omega (arith, h)) r.0.0 r.0.1.0 r.0.1.1 r.1.0.0 r.1.0.1 l.1.1.1,
         ),
       ),
     )

@@ -55,25 +55,27 @@ least-requires c κs = search rules
 sub-left : tie.Need-overflow-sub-left
 sub-left c = search rules
 
--- what is taken off is less than the number
-fits : (d : tie.After-least) → let s = d.before.before.before.before.before.before.before.before.before.args in
-    (d.least.result - at s.row.now (s.a / 4)) + 1 ≤ at s.left.now s.a
-fits d =
-    let s = d.before.before.before.before.before.before.before.before.before in
-    let u = d.before.before in
-    let some = let z : 1 ≤ at s.args.left.now s.args.a = omega (arith, u.before.if2.false) in z in
-    laws.fall-fits s.args.row.now s.args.left.now s.args.t s.args.a u.source.result d.least.result
-    u.before.before.before.if1.false some u.source.ensures d.least.ensures (s.requires.1 some)
-
 cast-left : tie.Need-overflow-cast-left
 cast-left c =
     let s = c.before.before.before.before.before.before.before.before.before.before in
-    omega (arith, s.requires.0.0.low s.args.a, fits c.before)
+    let some = let z : 1 ≤ at s.args.left.now s.args.a = omega (arith, c.before.before.before.before.if2.false) in z in
+    omega (
+      arith,
+      s.requires.0.0.low s.args.a,
+      laws.fall-fits s.args.row.now s.args.left.now s.args.t s.args.a c.before.before.before.source.result c.before.least.result
+          c.before.before.before.before.before.before.if1.false some c.before.before.before.source.ensures c.before.least.ensures (s.requires.1 some),
+    )
 
 sub-left-2 : tie.Need-overflow-sub-left-2
 sub-left-2 c =
     let s = c.before.before.before.before.before.before.before.before.before.before in
-    omega (arith, s.requires.0.0.low s.args.a, fits c.before)
+    let some = let z : 1 ≤ at s.args.left.now s.args.a = omega (arith, c.before.before.before.before.if2.false) in z in
+    omega (
+      arith,
+      s.requires.0.0.low s.args.a,
+      laws.fall-fits s.args.row.now s.args.left.now s.args.t s.args.a c.before.before.before.source.result c.before.least.result
+          c.before.before.before.before.before.before.if1.false some c.before.before.before.source.ensures c.before.least.ensures (s.requires.1 some),
+    )
 
 mul_left : tie.Need-overflow-mul-left
 mul_left c = search rules
@@ -87,14 +89,12 @@ same_length c = search rules
 returns-3 : tie.Need-returns-3
 returns-3 c =
     let s = c.before.before.before.before.before.before.before.before.before.before in
-    let u = c.before.before.before in
-    laws.off-some _ _ _ _ _ _ u.before.before.before.if1.false (omega (arith, u.before.if2.false)) u.source.ensures c.before.least.ensures
+    laws.off-some _ _ _ _ _ _ c.before.before.before.before.before.before.if1.false (omega (arith, c.before.before.before.before.if2.false)) c.before.before.before.source.ensures c.before.least.ensures
     (omega (arith, s.requires.0.0.size, s.requires.0.1.1))
 
 returns-4 : tie.Need-returns-4
 returns-4 c =
-    let u = c.before.before.before in
-    laws.off-level _ _ _ _ _ _ u.before.before.before.if1.false (omega (arith, u.before.if2.false)) u.source.ensures c.before.least.ensures
+    laws.off-level _ _ _ _ _ _ c.before.before.before.before.before.before.if1.false (omega (arith, c.before.before.before.before.if2.false)) c.before.before.before.source.ensures c.before.least.ensures
     c.if3.false
 
 pub take-off-spec : {M : Type 1} → statement M

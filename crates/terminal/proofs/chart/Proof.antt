@@ -6,19 +6,19 @@ use Prim.Native.Nat.{◌*◌, ◌≤◌}
 use native.Mathlib.Omega.{arith}
 use lib.ListN.{length, take}
 use lib.Seq.{length-take-le}
-use Rattle.net.specs.Bounds.{pointBound}
+use Rattle.net.specs.Bounds.{point_bound}
 use Rattle.lists.specs.Sorted.{Ascending}
 use Rattle.lent.specs.Over.{over}
 use Rattle.lent.specs.Entries.{flat}
 use Rattle.plane.specs.declared.Place.{Place}
 use Rattle.plane.specs.Place.{before}
-use Rattle.plane.specs.Flat.{places_of, macrosOf}
+use Rattle.plane.specs.Flat.{places_of, macros_of}
 use Rattle.plane.proofs.FlatLaws.{length-macros}
-use Rattle.net.specs.Net.{netWith}
+use Rattle.net.specs.Net.{net_with}
 use Rattle.net.proofs.PinLaws.{length-pins}
 use Rattle.graph.specs.Spanning.{spanning}
 use Rattle.graph.specs.Edges.{edges}
-use Rattle.graph.specs.Numbers.{edgeNumbers}
+use Rattle.graph.specs.Numbers.{edge_numbers}
 use Rattle.graph.proofs.VertexLaws.{vertices-ascending}
 use Rattle.graph.proofs.GraphBounds.{few-vertices}
 use Rattle.graph.proofs.ReadBack.{vertices-back}
@@ -39,7 +39,7 @@ vertices-requires c κs =
     )
 
 -- the vertices fit their table
-few : (d : tie.After-vertices) → d.vertices.result ≤ pointBound
+few : (d : tie.After-vertices) → d.vertices.result ≤ point_bound
 few d = omega (arith, d.vertices.ensures.0, few-vertices d.before.before.requires.0)
 
 fits : (d : tie.After-vertices) → d.vertices.result * 2 ≤ length d.vertices.new.1.1.0
@@ -61,7 +61,7 @@ edges-requires c κs =
     let v = d.vertices.ensures in
     let n = length-take-le (d.vertices.result * 2) d.vertices.new.1.1.0 (fits d) in
     let back = vertices-back _ a.points.now d.vertices.new.1.1.0 d.vertices.result v.1 v.0 in (
-      (subst (Ascending before) (sym back) (vertices-ascending (netWith a.w a.pins.now a.macros.now)), omega (arith, n, few d)),
+      (subst (Ascending before) (sym back) (vertices-ascending (net_with a.w a.pins.now a.macros.now)), omega (arith, n, few d)),
       omega (arith, n, few d, d.before.before.requires.1),
     )
 
@@ -69,15 +69,15 @@ returns : tie.Need-returns
 returns c =
     let d = c.before.before.before.before.before in
     let a = d.before.before.args in
-    let net = netWith a.w a.pins.now a.macros.now in
-    let ms = macrosOf a.macros.now in
+    let net = net_with a.w a.pins.now a.macros.now in
+    let ms = macros_of a.macros.now in
     let v = d.vertices.ensures in
     let back = vertices-back _ a.points.now d.vertices.new.1.1.0 d.vertices.result v.1 v.0 in
     let these : edges a.w ms (places_of (take (d.vertices.result * 2) d.vertices.new.1.1.0)) ≡ spanning net = ap (edges a.w ms) back in (
       (v.0, c.before.edges.ensures.0 ∙ ap length these),
       (
         v.1,
-        c.before.edges.ensures.1 ∙ ap (λ (es : List (Place × Place)). over (flat edgeNumbers es) a.links.now) these,
+        c.before.edges.ensures.1 ∙ ap (λ (es : List (Place × Place)). over (flat edge_numbers es) a.links.now) these,
       ),
     )
 

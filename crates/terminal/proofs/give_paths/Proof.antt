@@ -7,16 +7,16 @@ use native.Mathlib.Omega.{arith}
 use lib.ListN.{length, get_or}
 use Rattle.lent.specs.Over.{over}
 use Rattle.lent.specs.Entries.{flat}
-use Rattle.forest.specs.Bounds.{edgeBound}
-use Rattle.terminal.specs.Tree.{pathNumbers}
-use Rattle.terminal.specs.Tables.{pathsIn}
+use Rattle.forest.specs.Bounds.{edge_bound}
+use Rattle.terminal.specs.Tree.{path_numbers}
+use Rattle.terminal.specs.Tables.{paths_in}
 use Rattle.terminal.proofs.GiveLaws.{give-none, give-more}
 use Rattle.terminal.proofs.give_paths.Statement.{statement}
 use Rattle.terminal.proofs.give_paths.Tie as tie
 
 abbrev invariant-loop : tie.invariant-loop
 invariant-loop edges kept long count paths₀ i₀ paths i =
-    (i ≤ count) × (length paths ≡ length paths₀) × (paths ≡ over (flat pathNumbers (pathsIn edges kept long i)) paths₀)
+    (i ≤ count) × (length paths ≡ length paths₀) × (paths ≡ over (flat path_numbers (paths_in edges kept long i)) paths₀)
 
 abbrev decreases-loop : tie.decreases-loop
 decreases-loop edges kept long count paths₀ i₀ paths i = count - i
@@ -25,7 +25,7 @@ loop-holds : tie.Need-loop-init invariant-loop decreases-loop
 loop-holds c = (omega arith, refl, give-none _ _ _ _)
 
 -- the bridge that is read is an edge
-bridge : (d : tie.In-loop invariant-loop decreases-loop) → get_or d.before.before.args.kept.now d.before.loop.i 0 < edgeBound
+bridge : (d : tie.In-loop invariant-loop decreases-loop) → get_or d.before.before.args.kept.now d.before.loop.i 0 < edge_bound
 bridge d = d.before.before.requires.bridge _ d.loop-test.true
 
 mul-place-at : tie.Need-overflow-mul-place-at invariant-loop decreases-loop

@@ -6,16 +6,16 @@ use Prim.Native.Nat.{◌≤◌, ◌<◌, ◌-◌}
 use native.Mathlib.Omega.{arith}
 use lib.ListN.{length}
 use Rattle.lent.specs.Entries.{entries}
-use Rattle.plane.specs.Flat.{placeFrom}
-use Rattle.graph.specs.Numbers.{edgeFrom}
-use Rattle.forest.specs.Bounds.{edgeBound}
+use Rattle.plane.specs.Flat.{place_from}
+use Rattle.graph.specs.Numbers.{edge_from}
+use Rattle.forest.specs.Bounds.{edge_bound}
 use Rattle.terminal.proofs.EdgeTables.{Numbering, number-none, number_more, number-end, read-edge, edge-entries}
 use Rattle.terminal.proofs.number_edges.Statement.{statement}
 use Rattle.terminal.proofs.number_edges.Tie as tie
 
 abbrev invariant-loop : tie.invariant-loop
 invariant-loop w edges e vertices n ea₀ eb₀ el₀ k₀ ea eb el k =
-    (k ≤ e) × Numbering w (entries placeFrom 2 vertices n) (entries edgeFrom 4 edges e) ea eb el k
+    (k ≤ e) × Numbering w (entries place_from 2 vertices n) (entries edge_from 4 edges e) ea eb el k
 
 abbrev decreases-loop : tie.decreases-loop
 decreases-loop w edges e vertices n ea₀ eb₀ el₀ k₀ ea eb el k = e - k
@@ -37,8 +37,8 @@ loop-again c =
     let one = c.before.before.before.before.place_at in
     let two = c.before.before.before.place-at2 in
     let read = read-edge a.edges.now a.e l.loop.k h one.result two.result one.ensures two.ensures in
-    let more : l.loop.k < length (entries edgeFrom 4 a.edges.now a.e) = omega (arith, n, h) in
-    let few : length (entries edgeFrom 4 a.edges.now a.e) ≤ edgeBound = omega (arith, n, l.before.requires) in (
+    let more : l.loop.k < length (entries edge_from 4 a.edges.now a.e) = omega (arith, n, h) in
+    let few : length (entries edge_from 4 a.edges.now a.e) ≤ edge_bound = omega (arith, n, l.before.requires) in (
       omega arith,
       number_more _ _ _ _ _ _ _ l.loop.invariant.1 one.result two.result _ _ _ more few read c.before.before.number-of.ensures
           c.before.number-of2.ensures c.cost.ensures.0,
@@ -49,7 +49,7 @@ returns c =
     let l = c.before in
     let a = l.before.args in
     let n = edge-entries a.edges.now a.e in
-    let all : length (entries edgeFrom 4 a.edges.now a.e) ≤ l.loop.k = omega (arith, n, c.loop-test.false) in
+    let all : length (entries edge_from 4 a.edges.now a.e) ≤ l.loop.k = omega (arith, n, c.loop-test.false) in
     number-end _ _ _ _ _ _ _ l.loop.invariant.1 a.e all (sym n)
 
 pub number-edges-spec : {M : Type 1} → statement M

@@ -2,18 +2,18 @@
 -- Assumes nothing.
 use Prim.Native.Nat.{◌≤◌}
 use native.Mathlib.Omega.{arith}
-use Rattle.net.specs.Pins.{pinPlaces}
+use Rattle.net.specs.Pins.{pin_places}
 use Rattle.net.proofs.PinLaws.{length-pins}
-use Rattle.net.specs.Bounds.{pinBound}
+use Rattle.net.specs.Bounds.{pin_bound}
 use Rattle.terminal.proofs.WorkLaws.{pins-few, pins-numbered}
 use borrow.Author.Rules.{rules}
 use Rattle.terminal.proofs.number_pins.Statement.{statement}
 use Rattle.terminal.proofs.number_pins.Tie as tie
 
-few : (d : tie.After-vertices) → d.vertices.result ≤ pinBound
+few : (d : tie.After-vertices) → d.vertices.result ≤ pin_bound
 few d =
     let s = d.before.before.before in
-    omega (arith, d.vertices.ensures.0, pins-few (pinPlaces s.args.pins.now), length-pins s.args.pins.now, s.requires)
+    omega (arith, d.vertices.ensures.0, pins-few (pin_places s.args.pins.now), length-pins s.args.pins.now, s.requires)
 
 number-places-requires : tie.Need-number-places-requires
 number-places-requires c κs =

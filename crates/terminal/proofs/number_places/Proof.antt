@@ -8,7 +8,7 @@ use lib.IntN.{pos}
 use lib.ListN.{length}
 use Rattle.lent.specs.Entries.{entries}
 use Rattle.plane.specs.Place.{place}
-use Rattle.plane.specs.Flat.{placeFrom}
+use Rattle.plane.specs.Flat.{place_from}
 use Rattle.sorted.proofs.NumberLaws.{entry_at, place-entries}
 use Rattle.terminal.specs.Number.{number_of}
 use Rattle.terminal.proofs.FillLaws.{Filling, fill_none, fill_more, fill_end}
@@ -17,7 +17,7 @@ use Rattle.terminal.proofs.number_places.Tie as tie
 
 abbrev invariant-loop : tie.invariant-loop
 invariant-loop places m vertices n numbers₀ i₀ numbers i =
-    (i ≤ m) × Filling (number_of (entries placeFrom 2 vertices n)) (entries placeFrom 2 places m) numbers₀ numbers i
+    (i ≤ m) × Filling (number_of (entries place_from 2 vertices n)) (entries place_from 2 places m) numbers₀ numbers i
 
 abbrev decreases-loop : tie.decreases-loop
 decreases-loop places m vertices n numbers₀ i₀ numbers i = m - i
@@ -30,17 +30,17 @@ loop-again c =
     let l = c.before.before.before in
     let a = l.before.args in
     let h = c.before.before.loop-test.true in
-    let more : l.loop.i < length (entries placeFrom 2 a.places.now a.m) = omega (arith, place-entries a.places.now a.m, h) in
+    let more : l.loop.i < length (entries place_from 2 a.places.now a.m) = omega (arith, place-entries a.places.now a.m, h) in
     let room : l.loop.i < length a.numbers.now = omega (arith, l.before.requires, h) in
-    let read = c.before.place_at.ensures ∙ sym (entry_at placeFrom 2 a.places.now a.m l.loop.i (place (pos 0) (pos 0)) h) in
-    let same = ap (number_of (entries placeFrom 2 a.vertices.now a.n)) read in
+    let read = c.before.place_at.ensures ∙ sym (entry_at place_from 2 a.places.now a.m l.loop.i (place (pos 0) (pos 0)) h) in
+    let same = ap (number_of (entries place_from 2 a.vertices.now a.n)) read in
     (omega arith, fill_more l.loop.invariant.1 _ _ more room (c.number-of.ensures ∙ same))
 
 returns : tie.Need-returns invariant-loop decreases-loop
 returns c =
     let l = c.before in
     let a = l.before.args in
-    let all : length (entries placeFrom 2 a.places.now a.m) ≤ l.loop.i =
+    let all : length (entries place_from 2 a.places.now a.m) ≤ l.loop.i =
     omega (arith, place-entries a.places.now a.m, c.loop-test.false) in
     fill_end l.loop.invariant.1 all
 

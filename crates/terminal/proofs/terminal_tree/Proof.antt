@@ -4,7 +4,7 @@ use mathlib.Core.Path.{refl}
 use mathlib.Core.List.{List}
 use native.Mathlib.Omega.{arith}
 use lib.IntN.{ℤ}
-use Rattle.net.specs.Net.{netWith}
+use Rattle.net.specs.Net.{net_with}
 use Rattle.net.proofs.PinLaws.{length-pins}
 use Rattle.terminal.specs.Tables.{Tables, tables}
 use Rattle.terminal.proofs.WorkLaws.{Charted, vertices-fit, vertices-in-order, edges_fit, few-links, tree-asks, all-worked}
@@ -30,7 +30,7 @@ module _ (d : tie.After-chart) where
   links = d.chart.last.1.1.1.1.0
 
   charted :
-      Charted (netWith begun.args.w begun.args.pins.now begun.args.macros.now) (lent begun) points links
+      Charted (net_with begun.args.w begun.args.pins.now begun.args.macros.now) (lent begun) points links
       d.chart.result.points d.chart.result.edges
   charted =
       let e = d.chart.ensures in

@@ -6,8 +6,8 @@ use native.Mathlib.Omega.{arith}
 use lib.ListN.{length}
 use Rattle.lent.specs.Entries.{flat, entries}
 use Rattle.plane.specs.declared.Place.{Place}
-use Rattle.graph.specs.Numbers.{edgeFrom}
-use Rattle.text.specs.Text.{edgeLine}
+use Rattle.graph.specs.Numbers.{edge_from}
+use Rattle.text.specs.Text.{edge_line}
 use Rattle.text.specs.Put.{Put}
 use Rattle.text.proofs.PutLaws.{put_then, put_as}
 use Rattle.text.proofs.LineLaws.{lines_more, no_lines}
@@ -16,7 +16,7 @@ use Rattle.text.proofs.put_edges.Tie as tie
 
 abbrev invariant-loop : tie.invariant-loop
 invariant-loop out₀ at w edges count next₀ i₀ out next i =
-    ((i ≤ count) × (length out ≡ length out₀)) × ((next ≤ at + i * 105) × Put out₀ at (flat (edgeLine w) (entries edgeFrom 4 edges i)) out next)
+    ((i ≤ count) × (length out ≡ length out₀)) × ((next ≤ at + i * 105) × Put out₀ at (flat (edge_line w) (entries edge_from 4 edges i)) out next)
 
 abbrev decreases-loop : tie.decreases-loop
 decreases-loop out₀ at w edges count next₀ i₀ out next i = count - i
@@ -32,7 +32,7 @@ loop-again c =
     let l = p.before.before in
     let a = l.before.before.args in
     let line =
-    put_as (ap₂ (λ (u v : Place). edgeLine a.w (u, v)) p.place_at.ensures q.place-at2.ensures) e.put-edge.ensures.0
+    put_as (ap₂ (λ (u v : Place). edge_line a.w (u, v)) p.place_at.ensures q.place-at2.ensures) e.put-edge.ensures.0
     in
     let text = put_as (lines_more a.w a.edges.now l.loop.i) (put_then l.loop.invariant.1.1 line) in
     ((omega arith, e.put-edge.auto.0 ∙ l.loop.invariant.0.1), (omega (arith, e.put-edge.ensures.1, l.loop.invariant.1.0), text))
@@ -45,7 +45,7 @@ returns c =
     let l = c.before in
     let a = l.before.before.args in
     let e : l.loop.i ≡ a.count = omega arith in
-    (put_as (ap (λ (n : ℕ). flat (edgeLine a.w) (entries edgeFrom 4 a.edges.now n)) e) l.loop.invariant.1.1, omega (arith, l.loop.invariant.1.0))
+    (put_as (ap (λ (n : ℕ). flat (edge_line a.w) (entries edge_from 4 a.edges.now n)) e) l.loop.invariant.1.1, omega (arith, l.loop.invariant.1.0))
 
 pub put-edges-spec : {M : Type 1} → statement M
 put-edges-spec =

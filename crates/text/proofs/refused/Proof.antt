@@ -4,7 +4,7 @@ use mathlib.Core.Path.{ap}
 use native.Mathlib.Omega.{arith}
 use lib.IntN.{ℤ}
 use Rattle.signed.proofs.Bits.{cast-wide, wide_is}
-use Rattle.text.specs.Text.{newline, line, refusedText}
+use Rattle.text.specs.Text.{newline, line, refused_text}
 use Rattle.text.proofs.PutLaws.{put_then, put_as, put-filled}
 use Rattle.text.proofs.LineLaws.{number}
 use borrow.Author.Rules.{rules}
@@ -15,7 +15,7 @@ cast-put-number : tie.Need-overflow-cast-put-number
 cast-put-number c = cast-wide _ c.before.before.before.before.before.before.before.ranges.n
 
 returns : tie.Need-returns
-unfolding refusedText line
+unfolding refused_text line
 returns c =
     let d = c.before.before in
     let w = d.before.before.before.before in

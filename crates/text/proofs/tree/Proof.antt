@@ -1,14 +1,14 @@
 -- `text::tree` meets its contract: the header, and the lines behind it.
 -- Assumes nothing.
 use native.Mathlib.Omega.{arith}
-use Rattle.text.specs.Text.{treeText}
+use Rattle.text.specs.Text.{tree_text}
 use Rattle.text.proofs.PutLaws.{put_then, put-filled}
 use borrow.Author.Rules.{rules}
 use Rattle.text.proofs.tree.Statement.{statement}
 use Rattle.text.proofs.tree.Tie as tie
 
 returns : tie.Need-returns
-unfolding treeText
+unfolding tree_text
 returns c =
     let l = c.before.before in
     let h = l.before.before.before.before in

@@ -5,8 +5,8 @@ use native.Mathlib.Omega.{arith}
 use borrow.Author.Tests.{not-true, not-false}
 use Prim.Native.Nat.{◌≤◌, ◌<◌}
 use lib.ListN.{get_or}
-use Rattle.traced.specs.Routes.{otherEnd}
-use Rattle.lines.specs.Bounds.{crossingBound}
+use Rattle.traced.specs.Routes.{other_end}
+use Rattle.lines.specs.Bounds.{crossing_bound}
 use Rattle.traced.proofs.RouteLaws.{other-inside, leads-none, leads-away, leads-there}
 use borrow.Author.Rules.{rules}
 use Rattle.traced.proofs.leads.Statement.{statement}
@@ -22,8 +22,8 @@ returns-2 c = sym (leads-away _ _ _ _ (sym c.before.touches.ensures ∙ not-true
 some_of : (c : tie.After-other-end) → let s = c.before.before.before.before.before in 1 ≤ get_or s.args.costs.now s.args.k 0
 some_of c = omega (arith, c.before.before.before.if1.false)
 
-inside_of : (c : tie.After-other-end) → let s = c.before.before.before.before.before in otherEnd s.args.k
-    s.args.v < crossingBound
+inside_of : (c : tie.After-other-end) → let s = c.before.before.before.before.before in other_end s.args.k
+    s.args.v < crossing_bound
 inside_of c =
     let s = c.before.before.before.before.before in
     other-inside s.args.costs.now s.args.e s.args.k s.args.v s.requires.0.0 s.requires.0.1 (some_of c)

@@ -4,7 +4,7 @@ use mathlib.Core.Path.{◌≡◌, ◌∙◌}
 use Prim.Native.Nat.{◌<◌}
 use native.Mathlib.Omega.{arith}
 use lib.ListN.{length}
-use Rattle.lines.specs.Bounds.{crossingBound, segmentBound}
+use Rattle.lines.specs.Bounds.{crossing_bound, segment_bound}
 use Rattle.grid.specs.Rows.{at}
 use Rattle.traced.specs.Routes.{StepFound}
 use Rattle.traced.proofs.RouteLaws.{Walking, walk_none, walk_more, walk_end, step-none, step-some, step_down, step-inside}
@@ -13,7 +13,7 @@ use Rattle.traced.proofs.walk.Tie as tie
 
 abbrev invariant-loop : tie.invariant-loop
 invariant-loop costs e row v used₀ u₀ k₀ used u k =
-    (u < crossingBound) × ((length used ≡ segmentBound) × (StepFound costs e row u k × Walking costs e row v u used₀ used))
+    (u < crossing_bound) × ((length used ≡ segment_bound) × (StepFound costs e row u k × Walking costs e row v u used₀ used))
 
 abbrev decreases-loop : tie.decreases-loop
 decreases-loop costs e row v used₀ u₀ k₀ used u k = at row u

@@ -9,15 +9,15 @@ use Rattle.triples.proofs.is_allowed.Tie as tie
 returns : tie.Need-returns
 returns c =
     let s = c.before.before in
-    let p = s.before.before in
+    let p = s.before in
     allowed-yes _ _ _ _ _ _ _ _ _ _ p.before.before.point_at.ensures p.before.point-at2.ensures p.point-at3.ensures
-    (sym s.look.ensures ∙ c.before.if1.true) _ c.is-dropped.ensures
+    (sym s.sees.ensures ∙ c.before.if1.true) _ c.is-dropped.ensures
 
 returns-2 : tie.Need-returns-2
 returns-2 c =
-    let p = c.before.before.before in
+    let p = c.before.before in
     allowed-no _ _ _ _ _ _ _ _ _ _ p.before.before.point_at.ensures p.before.point-at2.ensures p.point-at3.ensures
-    (sym c.before.look.ensures ∙ c.if1.false)
+    (sym c.before.sees.ensures ∙ c.if1.false)
 
 pub is-allowed-spec : {M : Type 1} → statement M
 is-allowed-spec =

@@ -6,7 +6,7 @@ use mir.Val.{to_z, of_z}
 use mir.ValLaws.{to_z-of_z}
 use Rattle.slide.specs.declared.Side.{Side}
 use Rattle.slide.specs.declared.Side.TheVariants.{Above, Below, Right, Left}
-use Rattle.slide.specs.Stop.{starts, finishes, nearSide, farSide}
+use Rattle.slide.specs.Stop.{starts, finishes, near_side, far_side}
 use Rattle.plane.proofs.Fits.{MacroFits}
 use Rattle.turned.proofs.CodeLaws.{face-is}
 use borrow.Author.Rules.{rules}
@@ -17,7 +17,7 @@ fits : (s : tie.Start) → MacroFits s.args.m
 fits s = record { left = search rules; bottom = search rules; right = search rules; top = search rules }
 
 returns : tie.Need-returns
-unfolding starts finishes nearSide farSide
+unfolding starts finishes near_side far_side
 returns c =
     let f = fits c.before.before.before.before.before.before.before.before.before.before in (
       face-is _ Above _ _ _ _ _ c.before.before.before.before.before.before.before.before.enum_told.given.1
@@ -29,7 +29,7 @@ returns c =
     )
 
 returns-2 : tie.Need-returns-2
-unfolding starts finishes nearSide farSide
+unfolding starts finishes near_side far_side
 returns-2 c =
     let f = fits c.before.before.before.before.before.before.before.before.before.before in (
       face-is _ Below _ _ _ _ _ c.before.before.before.before.before.before.before.before.enum-told2.given.1
@@ -41,7 +41,7 @@ returns-2 c =
     )
 
 returns-3 : tie.Need-returns-3
-unfolding starts finishes nearSide farSide
+unfolding starts finishes near_side far_side
 returns-3 c =
     let f = fits c.before.before.before.before.before.before.before.before.before.before in (
       face-is _ Right _ _ _ _ _ c.before.before.before.before.before.before.before.before.enum-told3.given.1
@@ -53,7 +53,7 @@ returns-3 c =
     )
 
 returns-4 : tie.Need-returns-4
-unfolding starts finishes nearSide farSide
+unfolding starts finishes near_side far_side
 returns-4 c =
     let f = fits c.before.before.before.before.before.before.before.before.before.before in (
       face-is _ Left _ _ _ _ _ c.before.before.before.before.before.before.before.before.enum-told4.given.1

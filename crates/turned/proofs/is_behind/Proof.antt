@@ -1,12 +1,12 @@
 -- `turned::is_behind` meets its contract, each answer by the law of its case.
 -- Assumes nothing.
 use mathlib.Core.Path.{◌≡◌, refl, sym, ap, ◌∙◌}
-use Rattle.turned.specs.Turned.{behindOf}
+use Rattle.turned.specs.Turned.{behind_of}
 use Rattle.turned.proofs.is_behind.Statement.{statement}
 use Rattle.turned.proofs.is_behind.Tie as tie
 
 returns : tie.Need-returns
-unfolding behindOf
+unfolding behind_of
 returns c = refl
 
 pub is-behind-spec : {M : Type 1} → statement M

@@ -3,20 +3,20 @@
 use mathlib.Core.Path.{◌≡◌, refl, sym, ap, ap₂, ◌∙◌}
 use native.Mathlib.Omega.{arith}
 use Prim.Native.Nat.{◌+◌, ◌-◌, ◌^◌, ◌≤◌, ◌<◌, min, max}
-use Rattle.turned.specs.Turned.{levelAt, spot}
+use Rattle.turned.specs.Turned.{level_at, spot}
 use lib.Dec.{eqb}
 use Prim.Native.Nat.{ℕ}
-use Rattle.plane.specs.Flat.{placeAt}
+use Rattle.plane.specs.Flat.{place_at}
 use Rattle.turned.specs.declared.Spot.{Spot}
 use borrow.Author.Rules.{rules}
 use Rattle.turned.proofs.is_level.Statement.{statement}
 use Rattle.turned.proofs.is_level.Tie as tie
 
 returns : tie.Need-returns
-unfolding levelAt
+unfolding level_at
 returns c =
     let s = c.before.before.before.before.before.before in
-    let at : ℕ → Spot = λ (i : ℕ). spot s.args.s (placeAt s.args.pts.now i) in
+    let at : ℕ → Spot = λ (i : ℕ). spot s.args.s (place_at s.args.pts.now i) in
     ap₂ (λ (p q : Spot). eqb p.across q.across) (c.before.before.before.before.spot-at.ensures.0
     ∙ ap at c.before.before.before.before.before.first-end.ensures.0) (c.before.before.spot-at2.ensures.0
     ∙ ap at c.before.before.before.second-end.ensures.0)

@@ -9,8 +9,8 @@ use Rattle.lists.specs.Those.{those}
 use Rattle.lent.specs.Entries.{flat}
 use Rattle.forest.specs.Edges.{from}
 use Rattle.forest.proofs.EdgeLaws.{all_left}
-use Rattle.union.specs.Union.{bothEnds}
-use Rattle.union.specs.Marks.{marked, isMarked, marks}
+use Rattle.union.specs.Union.{both_ends}
+use Rattle.union.specs.Marks.{marked, is_marked, marks}
 use Rattle.union.proofs.MarkLaws.{ends-hit, ends-miss, ends-end}
 use Rattle.union.proofs.mark_ends.Statement.{statement}
 use Rattle.union.proofs.mark_ends.Tie as tie
@@ -18,7 +18,7 @@ use Rattle.union.proofs.mark_ends.Tie as tie
 abbrev invariant-loop : tie.invariant-loop
 invariant-loop ea eb e on at₀ k₀ at k =
     (k ≤ e)
-    × (marked (flat (bothEnds ea eb) (those (isMarked on) (from k (e - k)))) at ≡ marked (flat (bothEnds ea eb) (marks on e)) at₀)
+    × (marked (flat (both_ends ea eb) (those (is_marked on) (from k (e - k)))) at ≡ marked (flat (both_ends ea eb) (marks on e)) at₀)
 
 abbrev decreases-loop : tie.decreases-loop
 decreases-loop ea eb e on at₀ k₀ at k = e - k
@@ -44,19 +44,19 @@ loop-again c =
     let l = c.before.before.before.before.before in
     let h = c.before.before.before.before.loop-test.true in
     let a = l.before.args in
-    (omega arith, ends-hit a.ea.now a.eb.now (isMarked a.on.now) _ _ _ _ l.loop.invariant.1 h (lt-ltb 0 _ c.before.before.if1.true))
+    (omega arith, ends-hit a.ea.now a.eb.now (is_marked a.on.now) _ _ _ _ l.loop.invariant.1 h (lt-ltb 0 _ c.before.before.if1.true))
 
 loop-again-2 : tie.Need-loop-preserved-2 invariant-loop decreases-loop
 loop-again-2 c =
     let l = c.before.before.before in
     let h = c.before.before.loop-test.true in
     let a = l.before.args in
-    (omega arith, ends-miss a.ea.now a.eb.now (isMarked a.on.now) _ _ _ _ l.loop.invariant.1 h (le-ltb 0 _ c.if1.false))
+    (omega arith, ends-miss a.ea.now a.eb.now (is_marked a.on.now) _ _ _ _ l.loop.invariant.1 h (le-ltb 0 _ c.if1.false))
 
 returns : tie.Need-returns invariant-loop decreases-loop
 returns c =
     let a = c.before.before.args in
-    ends-end a.ea.now a.eb.now (isMarked a.on.now) _ _ _ _ c.before.loop.invariant.1 c.loop-test.false
+    ends-end a.ea.now a.eb.now (is_marked a.on.now) _ _ _ _ c.before.loop.invariant.1 c.loop-test.false
 
 pub mark-ends-spec : {M : Type 1} → statement M
 mark-ends-spec =

@@ -9,7 +9,7 @@ use Rattle.forest.specs.Edges.{graph, entries}
 use Rattle.forest.specs.Parents.{parents}
 use Rattle.bridges.specs.Bridges.{path}
 use Rattle.forest.proofs.EdgeLaws.{all_left}
-use Rattle.union.specs.Union.{keptEdges}
+use Rattle.union.specs.Union.{kept_edges}
 use Rattle.union.specs.Marks.{marked}
 use Rattle.union.proofs.MarkLaws.{piece-marked, pieces-marked}
 use Rattle.union.proofs.mark_paths.Statement.{statement}
@@ -19,13 +19,13 @@ abbrev invariant-loop : tie.invariant-loop
 invariant-loop ea eb el e far up via kept count on₀ i₀ on i =
     (i ≤ count)
     × (marked (flat (path (graph ea eb el e) far (parents up via)) (entries kept i (count - i))) on
-    ≡ marked (keptEdges (graph ea eb el e) far (parents up via) (entries kept 0 count)) on₀)
+    ≡ marked (kept_edges (graph ea eb el e) far (parents up via) (entries kept 0 count)) on₀)
 
 abbrev decreases-loop : tie.decreases-loop
 decreases-loop ea eb el e far up via kept count on₀ i₀ on i = count - i
 
 loop-holds : tie.Need-loop-init invariant-loop decreases-loop
-unfolding keptEdges
+unfolding kept_edges
 loop-holds c = (omega arith, rw (all_left c.args.count) refl)
 
 mul-mark-path : tie.Need-overflow-mul-mark-path invariant-loop decreases-loop

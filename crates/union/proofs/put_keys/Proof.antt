@@ -6,7 +6,7 @@ use Prim.Native.Nat.{◌≤◌, ◌<◌, ◌-◌}
 use native.Mathlib.Omega.{arith}
 use lib.ListN.{length, get_or}
 use borrow.Author.Tests.{lt-ltb}
-use Rattle.net.specs.Bounds.{treeBound}
+use Rattle.net.specs.Bounds.{tree_bound}
 use Rattle.tree.specs.Table.{key}
 use Rattle.union.proofs.MarkLaws.{marks-room, Keying, key-none, key-pass, key_more}
 use Rattle.union.proofs.put_keys.Statement.{statement}
@@ -28,7 +28,7 @@ key-of-requires c κs =
     (s.requires.0.1, (s.requires.0.0.one_in _ h, s.requires.0.0.two_in _ h))
 
 -- a marked edge finds room
-room : (c : tie.After-key-of invariant-loop decreases-loop) → c.before.before.before.before.before.before.loop.c < treeBound
+room : (c : tie.After-key-of invariant-loop decreases-loop) → c.before.before.before.before.before.before.loop.c < tree_bound
 room c =
     let l = c.before.before.before.before.before.before in
     let h = c.before.before.before.before.before.loop-test.true in

@@ -5,15 +5,15 @@ use mathlib.Core.Path.{◌≡◌, ap, ◌∙◌}
 use Prim.Native.Nat.{◌*◌, ◌+◌, ◌≤◌, ◌<◌, ◌-◌}
 use lib.ListN.{length}
 use native.Mathlib.Omega.{arith}
-use Rattle.net.specs.Bounds.{pointBound}
-use Rattle.plane.specs.Flat.{placeAt}
-use Rattle.tree.specs.Table.{setPoint}
+use Rattle.net.specs.Bounds.{point_bound}
+use Rattle.plane.specs.Flat.{place_at}
+use Rattle.tree.specs.Table.{set_point}
 use Rattle.union.proofs.MarkLaws.{marks-few, Placing, place_none, place-pass, place-more}
 use Rattle.union.proofs.put_points.Statement.{statement}
 use Rattle.union.proofs.put_points.Tie as tie
 
 abbrev invariant-loop : tie.invariant-loop
-invariant-loop vertices n at rank₀ pts₀ c₀ v₀ rank pts c v = (v ≤ n) × Placing (placeAt vertices) at pts₀ v c pts rank
+invariant-loop vertices n at rank₀ pts₀ c₀ v₀ rank pts c v = (v ≤ n) × Placing (place_at vertices) at pts₀ v c pts rank
 
 abbrev decreases-loop : tie.decreases-loop
 decreases-loop vertices n at rank₀ pts₀ c₀ v₀ rank pts c v = n - v
@@ -38,11 +38,11 @@ loop-again c =
     let l = c.before.before.before.before.before.before in
     let s = l.before in
     let few = marks-few s.args.at.now l.loop.v in
-    let i : l.loop.v < pointBound = omega arith in
+    let i : l.loop.v < point_bound = omega arith in
     let r : l.loop.c * 2 + 2 ≤ length s.args.pts.now = omega (arith, l.loop.invariant.1.count, s.requires.0.1.0) in (
       omega arith,
       place-more _ _ _ _ _ _ _ l.loop.invariant.1 _ c.before.before.before.if1.true i r
-          (c.put-point.ensures ∙ ap (setPoint l.loop.pts l.loop.c) c.before.vertex-at.ensures),
+          (c.put-point.ensures ∙ ap (set_point l.loop.pts l.loop.c) c.before.vertex-at.ensures),
     )
 
 loop-again-2 : tie.Need-loop-preserved-2 invariant-loop decreases-loop

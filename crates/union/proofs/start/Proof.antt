@@ -3,7 +3,7 @@
 use mathlib.Core.Path.{refl, ap}
 use native.Mathlib.Omega.{arith}
 use lib.ListN.{length}
-use Rattle.forest.specs.Bounds.{pointBound}
+use Rattle.forest.specs.Bounds.{point_bound}
 use Rattle.forest.proofs.EdgeLaws.{below-replicate}
 use Rattle.keeping.proofs.WholeLaws.{ends_of}
 use Rattle.union.proofs.StartLaws.{edges_are, started}
@@ -26,7 +26,7 @@ mark-ends-requires c κs = ends_of _ c.before.before.before.before.before.before
 put-points-requires : tie.Need-put-points-requires
 put-points-requires c κs =
     let s = c.before.before.before.before.before.before.before.before.before.before in
-    ((s.requires.0.vertices, (ap length s.requires.1.0, refl)), below-replicate pointBound pointBound 0 (omega arith))
+    ((s.requires.0.vertices, (ap length s.requires.1.0, refl)), below-replicate point_bound point_bound 0 (omega arith))
 
 put-keys-requires : tie.Need-put-keys-requires
 put-keys-requires c κs =

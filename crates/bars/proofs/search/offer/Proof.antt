@@ -4,14 +4,14 @@ use mathlib.Core.Path.{◌≡◌, ap, ◌∙◌}
 use native.Mathlib.Omega.{arith}
 use Prim.Native.Nat.{ℕ, ◌-◌, ◌*◌, ◌^◌, ◌≤◌}
 use Rattle.lists.proofs.TestLaws.{not-true}
-use Rattle.straight.specs.Table.{straightBound}
+use Rattle.straight.specs.Table.{straight_bound}
 use Rattle.reach.specs.declared.Bar.{Bar}
 use Rattle.hanging.specs.declared.Hang.{Hang}
 use Rattle.reach.specs.declared.Size.{Size}
 use Rattle.turned.specs.Turned.{View, view}
 use Rattle.hanging.specs.Hanging.{hang}
-use Rattle.moves.specs.Moving.{held, lastOn}
-use Rattle.bars.specs.Offers.{moveBy, move}
+use Rattle.moves.specs.Moving.{held, last_on}
+use Rattle.bars.specs.Offers.{move_by, move}
 use Rattle.bars.proofs.CodeLaws.{off, rate-fits, saving-fits, move-is, offer-judged}
 use Rattle.bars.proofs.CodeLaws.{offer-equal, offer-weak, offer-held, offer-taken, offer-left}
 use Rattle.hanging.proofs.TallyLaws.{read_back}
@@ -40,7 +40,7 @@ module _ (h : tie.After-hang-at) where
     omega (arith, ap (λ (x : Hang). x.shortest) known, h.before.pre.1.1.short),
   )
 
-  surplus-fits : h.hang-at.result.ahead - h.hang-at.result.behind ≤ straightBound
+  surplus-fits : h.hang-at.result.ahead - h.hang-at.result.behind ≤ straight_bound
   surplus-fits = omega (arith, few, h.before.pre.0)
 
 -- and what its move saves by a unit, and its first place
@@ -50,7 +50,7 @@ module _ (p : tie.After-point-at) where
 
   move-by : (d : ℕ) → move (d * ((hung.hang-at.result.ahead - hung.hang-at.result.behind) * p.before.weight-of.result))
       p.point_at.result hung.before.args.s d
-      ≡ moveBy (seen hung) (size hung) d
+      ≡ move_by (seen hung) (size hung) d
   move-by d =
       move-is (seen hung) (size hung) hung.hang-at.result (known hung) _ _ d p.before.weight-of.ensures.0
       p.point_at.ensures
@@ -116,7 +116,7 @@ is-better-requires-2 : tie.Need-is-better-requires-2
 is-better-requires-2 c κs = tt
 
 returns-4 : tie.Need-returns-4
-unfolding held lastOn
+unfolding held last_on
 returns-4 c =
     let r = c.before.before in
     let b = r.before.before in
@@ -130,7 +130,7 @@ returns-4 c =
     c.before.is-better2.ensures c.if4.true
 
 returns-5 : tie.Need-returns-5
-unfolding held lastOn
+unfolding held last_on
 returns-5 c =
     let r = c.before.before in
     let b = r.before.before in

@@ -9,14 +9,14 @@ use Rattle.slide.specs.declared.Side.TheVariants.{Above, Right}
 use Rattle.bars.specs.declared.Best.{Best}
 use Rattle.turned.specs.Steps.{up_to}
 use Rattle.moves.specs.Moving.{opposite}
-use Rattle.bars.specs.Offers.{offeredBoth, noMove, searched}
+use Rattle.bars.specs.Offers.{offered_both, no_move, searched}
 use Rattle.bars.proofs.search.search_by.Statement.{statement}
 use Rattle.bars.proofs.search.search_by.Tie as tie
 
 abbrev invariant-loop : tie.invariant-loop
 invariant-loop pts keys z macros seats rows columns above below right left c₀ k₀ c k =
     (k ≤ z.edges) × (c ≡ up_to
-    (λ j d. offeredBoth pts keys columns z macros seats Right j (offeredBoth pts keys rows z macros seats Above j d)) k noMove)
+    (λ j d. offered_both pts keys columns z macros seats Right j (offered_both pts keys rows z macros seats Above j d)) k no_move)
 
 abbrev decreases-loop : tie.decreases-loop
 decreases-loop pts keys z macros seats rows columns above below right left c₀ k₀ c k = z.edges - k
@@ -50,7 +50,7 @@ loop-again c =
       omega (arith, c.before.before.if1.true),
       up_next _ _ _ _ _ c.before.before.before.before.loop.invariant.1
           (c.offer-both2.ensures
-          ∙ ap (λ (d : Best). offeredBoth s.pts.now s.keys.now s.columns.now s.z s.macros.now s.seats.now Right
+          ∙ ap (λ (d : Best). offered_both s.pts.now s.keys.now s.columns.now s.z s.macros.now s.seats.now Right
           c.before.before.before.before.loop.k d) c.before.offer-both.ensures),
     )
 

@@ -14,7 +14,7 @@ returns c =
 returns-2 : tie.Need-returns-2
 returns-2 c =
     let o = c.before.before.before in
-    let s = o.before.before.before.before.before in (
+    let s = o.before.before.before.before in (
       bound-comes _ _ _ _ _ s.args.e _ _ _ _ o.offers.ensures _ c.if2.true,
       bounded-set _ _ _ _ _ _ _ _ _ _ _ s.requires.1.1.1 s.requires.0.0.0 s.requires.0.0.1
           (own_shut _ _ _ _ _ s.args.e _ _ _ _ o.offers.ensures),
@@ -23,7 +23,7 @@ returns-2 c =
 returns-3 : tie.Need-returns-3
 returns-3 c =
     let o = c.before.before.before in
-    let s = o.before.before.before.before.before in (
+    let s = o.before.before.before.before in (
       bound-keeps _ _ _ _ _ s.args.e _ _ _ _ o.offers.ensures _ c.if2.false,
       bounded-set _ _ _ _ _ _ _ _ _ _ _ s.requires.1.1.1 s.requires.0.0.0 s.requires.0.0.1
           (own_shut _ _ _ _ _ s.args.e _ _ _ _ o.offers.ensures),

@@ -12,7 +12,7 @@ returns c = λ t q. offer-none _ _ _ _ _ t _ _ _ _ _ _ q c.if1.true
 returns-2 : tie.Need-returns-2
 returns-2 c =
     λ t q.
-    let i = c.before.before.before.before.before.before in
+    let i = c.before.before.before.before.before in
     c.weigh.ensures ∙ offer-is _ _ _ _ _ t _ _ _ _ _ _ q i.if1.false
 
 returns-3 : tie.Need-returns-3

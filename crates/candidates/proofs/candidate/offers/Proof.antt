@@ -6,8 +6,8 @@ use Prim.Native.Nat.{◌≤◌, ◌<◌, ◌-◌}
 use native.Mathlib.Omega.{arith}
 use borrow.Author.Rules.{rules}
 use lib.ListN.{get_or}
-use Rattle.tree.specs.Table.{treeBound, firstEnd, secondEnd}
-use Rattle.plane.specs.Flat.{placeAt, macrosOf}
+use Rattle.tree.specs.Table.{tree_bound, first_end, second_end}
+use Rattle.plane.specs.Flat.{place_at, macros_of}
 use Rattle.longest.specs.Longest.{cut_of, longest}
 use Rattle.longest.specs.Hung.{ties, Begun, Row}
 use Rattle.candidates.specs.declared.Best.{Best}
@@ -17,20 +17,20 @@ use Rattle.candidates.proofs.CandidateLaws.{offer-far}
 use Rattle.candidates.proofs.NearLaws.{turns-back, turns-from, offer-more, offer-beyond}
 use Rattle.longest.proofs.HungLaws.{same_length}
 use Rattle.longest.proofs.RowLaws.{fresh_start}
-use Rattle.near.specs.Box.{boxOf}
+use Rattle.near.specs.Box.{box_of}
 use Rattle.near.proofs.BoxLaws.{box-is, box-sides}
 use Rattle.lists.proofs.TurnLaws.{turns_next}
 use Rattle.candidates.proofs.candidate.offers.Statement.{statement}
 use Rattle.candidates.proofs.candidate.offers.Tie as tie
 
 abbrev invariant-loop : tie.invariant-loop
-invariant-loop w pts n macros keys e el most onto link turn k by₀ a b m last u₀ row₀ found₀ by u row found =
+invariant-loop w pts n macros keys e el most onto link turn k a b m last u₀ row₀ found₀ u row found =
     ((u ≤ n) × (last ≤ n)) × ((Begun (ties onto link turn) row × Row el (ties onto link turn) (cut_of el (longest keys el e n) a b) row)
-    × ((turns (offer w pts n (macrosOf macros) el (longest keys el e n) a b k) u (n - u) found
-    ≡ turns (offer w pts n (macrosOf macros) el (longest keys el e n) a b k) 0 n found₀) × (found₀.gain ≤ found.gain)))
+    × ((turns (offer w pts n (macros_of macros) el (longest keys el e n) a b k) u (n - u) found
+    ≡ turns (offer w pts n (macros_of macros) el (longest keys el e n) a b k) 0 n found₀) × (found₀.gain ≤ found.gain)))
 
 abbrev decreases-loop : tie.decreases-loop
-decreases-loop w pts n macros keys e el most onto link turn k by₀ a b m last u₀ row₀ found₀ by u row found = n - u
+decreases-loop w pts n macros keys e el most onto link turn k a b m last u₀ row₀ found₀ u row found = n - u
 
 point-at-requires : tie.Need-point-at-requires invariant-loop decreases-loop
 point-at-requires c κs =
@@ -46,12 +46,12 @@ point-at-requires-2 c κs =
 
 -- the box is that of the edge's ends
 edge-box : (c : tie.After-box-of invariant-loop decreases-loop) → let s = c.before.before.before.before.before.args in
-    c.box_of.result ≡ boxOf (placeAt s.pts.now (firstEnd (get_or s.keys.now s.k 0)))
-    (placeAt s.pts.now (secondEnd (get_or s.keys.now s.k 0)))
+    c.box_of.result ≡ box_of (place_at s.pts.now (first_end (get_or s.keys.now s.k 0)))
+    (place_at s.pts.now (second_end (get_or s.keys.now s.k 0)))
 edge-box c =
     let s = c.before.before.before.before.before.args in
     let q = get_or s.keys.now s.k 0 in
-    box-is s.pts.now (firstEnd q) (secondEnd q) _ _ _
+    box-is s.pts.now (first_end q) (second_end q) _ _ _
     c.before.before.point_at.ensures c.before.point-at2.ensures c.box_of.ensures
 
 -- seen from the loop: the box made, and the call as it began
@@ -84,7 +84,7 @@ start-requires c κs =
     let s = c.before.before.before.before.before.before.before.before.before.before.before.before.before.before in
     let w = s.requires.0.1.1.ends s.args.k in
     let h = s.requires.1.1.1 in
-    (h.tied, ((h.all _ w.0, h.all _ w.1), same_length treeBound treeBound))
+    (h.tied, ((h.all _ w.0, h.all _ w.1), same_length tree_bound tree_bound))
 
 loop-holds : tie.Need-loop-init invariant-loop decreases-loop
 loop-holds c =
@@ -120,15 +120,15 @@ cut-at-requires c κs =
 
 offer-requires : tie.Need-offer-requires invariant-loop decreases-loop
 offer-requires c κs =
-    let l = c.before.before.before.before.before.before.before in
+    let l = c.before.before.before.before.before.before in
     let s = begun l in
     let w = s.pre.0.1.1.ends s.args.k in
     let n = s.pre.0.1.0 in (
       (
         (omega (arith, w.0, n), omega (arith, w.1, n)),
         (
-          omega (arith, c.before.before.before.before.before.before.loop-test.true, l.loop.invariant.0.1, n),
-          (c.before.cut-at.ensures.0.0, n),
+          omega (arith, c.before.before.before.before.before.loop-test.true, l.loop.invariant.0.1, n),
+          (c.cut-at.ensures.0.0, n),
         ),
       ),
       edge-box (boxed l),
@@ -136,14 +136,14 @@ offer-requires c κs =
 
 loop-less : tie.Need-loop-smaller invariant-loop decreases-loop
 loop-less c =
-    let t = c.before.before.before.before.before.before.before in
+    let t = c.before.before.before.before.before.before in
     omega (arith, t.loop-test.true, t.before.loop.invariant.0.1)
 
 loop-again : tie.Need-loop-preserved invariant-loop decreases-loop
 loop-again c =
-    let t = c.before.before.before.before.before.before.before in
+    let t = c.before.before.before.before.before.before in
     let i = t.before.loop.invariant in
-    let m = c.before.before.cut-at.ensures in
+    let m = c.before.cut-at.ensures in
     let k = m.1 _ i.1.0.1 in
     let e = c.offer.ensures _ k.0 in (
       (omega (arith, t.loop-test.true, i.0.1), i.0.1),

@@ -3,8 +3,8 @@
 -- Assumes nothing.
 use Prim.Native.Nat.{◌-◌}
 use native.Mathlib.Omega.{arith}
-use Rattle.plane.specs.Flat.{macrosOf}
-use Rattle.tree.specs.Table.{treeBound}
+use Rattle.plane.specs.Flat.{macros_of}
+use Rattle.tree.specs.Table.{tree_bound}
 use Rattle.longest.specs.Longest.{longest}
 use Rattle.longest.specs.Hung.{ties, top_of, Begun, Row}
 use Rattle.longest.proofs.HungLaws.{same_length}
@@ -14,18 +14,18 @@ use Rattle.candidates.proofs.candidate.raise.Statement.{statement}
 use Rattle.candidates.proofs.candidate.raise.Tie as tie
 
 abbrev invariant-loop : tie.invariant-loop
-invariant-loop w pts n macros keys e el onto link turn s bound₀ row₀ by₀ k₀ bound row by k =
+invariant-loop w pts n macros keys e el onto link turn s bound₀ row₀ k₀ bound row k =
     (Begun (ties onto link turn) row × Row el (ties onto link turn) (top_of (longest keys el e n) s) row)
-    × Raising w pts n (macrosOf macros) keys e el (longest keys el e n) s k bound
+    × Raising w pts n (macros_of macros) keys e el (longest keys el e n) s k bound
 
 abbrev decreases-loop : tie.decreases-loop
-decreases-loop w pts n macros keys e el onto link turn s bound₀ row₀ by₀ k₀ bound row by k = e - k
+decreases-loop w pts n macros keys e el onto link turn s bound₀ row₀ k₀ bound row k = e - k
 
 row-of-requires : tie.Need-row-of-requires invariant-loop decreases-loop
 row-of-requires c κs =
     let s = c.before in
     let h = s.requires.1.0 in
-    (h.tied, (h.all s.args.s s.requires.0.0.1, same_length treeBound treeBound))
+    (h.tied, (h.all s.args.s s.requires.0.0.1, same_length tree_bound tree_bound))
 
 loop-holds : tie.Need-loop-init invariant-loop decreases-loop
 loop-holds c =
@@ -36,21 +36,18 @@ loop-holds c =
 
 raised-requires : tie.Need-raised-requires invariant-loop decreases-loop
 raised-requires c κs =
-    let l = c.before.before.before.before in
+    let l = c.before.before.before in
     let s = l.before.before.before in
     let h = s.requires.1.0 in
     (((omega arith, s.requires.0.0.1), s.requires.0.1), ((h.tied, h.all), l.loop.invariant.0.0))
 
 loop-again : tie.Need-loop-preserved invariant-loop decreases-loop
 loop-again c =
-    let l = c.before.before.before.before.before in
+    let l = c.before.before.before.before in
     let s = l.before.before.before in
     let m = c.raised.ensures in
-    let r = m.1 _ s.requires.1.0.told l.loop.invariant.0.1 in (
-      (m.0, r.0),
-      raising-next _ _ _ _ _ _ _ _ _ _ _ _ l.loop.invariant.1
-          (omega (arith, c.before.before.before.before.loop-test.true)) s.requires.0.0.0 r.1,
-    )
+    let r = m.1 _ s.requires.1.0.told l.loop.invariant.0.1 in
+    ((m.0, r.0), raising-next _ _ _ _ _ _ _ _ _ _ _ _ l.loop.invariant.1 (omega arith) s.requires.0.0.0 r.1)
 
 returns : tie.Need-returns invariant-loop decreases-loop
 returns c = raising-end _ _ _ _ _ _ _ _ _ _ _ c.before.loop.invariant.1 (omega arith)

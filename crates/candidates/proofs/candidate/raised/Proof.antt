@@ -4,7 +4,7 @@ use mathlib.Core.Path.{ap}
 use native.Mathlib.Omega.{arith}
 use borrow.Author.Rules.{rules}
 use lib.ListN.{get_or}
-use Rattle.tree.specs.Table.{firstEnd, secondEnd}
+use Rattle.tree.specs.Table.{first_end, second_end}
 use Rattle.near.proofs.BoxLaws.{box-is}
 use Rattle.candidates.specs.declared.Best.{Best}
 use Rattle.candidates.proofs.BoundLaws.{cut-from}
@@ -28,21 +28,21 @@ point-at-requires c κs =
 
 offer-requires : tie.Need-offer-requires
 offer-requires c κs =
-    let s = c.before.before.before.before.before.before.before.before.before.before.before in
+    let s = c.before.before.before.before.before.before.before.before.before.before in
     let n = s.requires.0.1.0 in
     let e = s.requires.0.1.1.ends s.args.k in
     let q = get_or s.args.keys.now s.args.k 0 in (
       (
         (omega (arith, e.0, n), omega (arith, e.1, n)),
-        (omega (arith, s.requires.0.0.1, n), (c.before.before.before.before.shorter.ensures.1, n)),
+        (omega (arith, s.requires.0.0.1, n), (c.before.before.before.shorter.ensures.1, n)),
       ),
-      box-is s.args.pts.now (firstEnd q) (secondEnd q) _ _ _ c.before.before.before.point_at.ensures c.before.before.point-at2.ensures
-          c.before.box_of.ensures,
+      box-is s.args.pts.now (first_end q) (second_end q) _ _ _ c.before.before.point_at.ensures c.before.point-at2.ensures
+          c.box_of.ensures,
     )
 
 returns : tie.Need-returns
 returns c =
-    let h = c.before.before.before.before.before in
+    let h = c.before.before.before.before in
     let two = h.before.cut-at2.ensures in
     let one = h.before.before.before.cut-at.ensures in
     let s = h.before.before.before.before.before.before.before in

@@ -4,7 +4,7 @@
 use mathlib.Core.Path.{◌≡◌}
 use Prim.Native.Nat.{◌≤◌, ◌-◌}
 use native.Mathlib.Omega.{arith}
-use Rattle.plane.specs.Flat.{macrosOf}
+use Rattle.plane.specs.Flat.{macros_of}
 use Rattle.longest.specs.Longest.{longest}
 use Rattle.candidates.specs.Candidate.{best, offers, search}
 use Rattle.candidates.specs.Bounded.{Bounded}
@@ -14,26 +14,26 @@ use Rattle.candidates.proofs.candidate.search.Statement.{statement}
 use Rattle.candidates.proofs.candidate.search.Tie as tie
 
 abbrev invariant-loop : tie.invariant-loop
-invariant-loop w pts n macros keys e el most onto link turn bound₀ found₀ by₀ k₀ bound found by k =
-    ((k ≤ e) × Bounded w pts n (macrosOf macros) keys e el (longest keys el e n) n bound) ×
-    (turns (offers w pts n (macrosOf macros) keys el (longest keys el e n)) k (e - k) found
-    ≡ turns (offers w pts n (macrosOf macros) keys el (longest keys el e n)) 0 e (best 0 0 0 0))
+invariant-loop w pts n macros keys e el most onto link turn bound₀ found₀ k₀ bound found k =
+    ((k ≤ e) × Bounded w pts n (macros_of macros) keys e el (longest keys el e n) n bound) ×
+    (turns (offers w pts n (macros_of macros) keys el (longest keys el e n)) k (e - k) found
+    ≡ turns (offers w pts n (macros_of macros) keys el (longest keys el e n)) 0 e (best 0 0 0 0))
 
 abbrev decreases-loop : tie.decreases-loop
-decreases-loop w pts n macros keys e el most onto link turn bound₀ found₀ by₀ k₀ bound found by k = e - k
+decreases-loop w pts n macros keys e el most onto link turn bound₀ found₀ k₀ bound found k = e - k
 
 loop-holds : tie.Need-loop-init invariant-loop decreases-loop
 loop-holds c = ((omega arith, c.requires.1.1.1), turns-none _ _ _)
 
 ask-requires : tie.Need-ask-requires invariant-loop decreases-loop
 ask-requires c κs =
-    let l = c.before.before.before in
+    let l = c.before.before in
     let s = l.before in
     (((omega arith, s.requires.0.0), s.requires.0.1), (s.requires.1.0, (s.requires.1.1.0, l.loop.invariant.0.1)))
 
 loop-again : tie.Need-loop-preserved invariant-loop decreases-loop
 loop-again c =
-    let l = c.before.before.before.before in
+    let l = c.before.before.before in
     ((omega arith, c.ask.ensures.1), turns_next _ _ _ _ _ _ l.loop.invariant.1 (omega arith) c.ask.ensures.0)
 
 returns : tie.Need-returns invariant-loop decreases-loop

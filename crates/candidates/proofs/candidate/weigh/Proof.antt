@@ -32,13 +32,13 @@ returns-2 c = weigh-low _ _ _ _ _ _ _ _ _ _ _ _ _ _ _ _ (spots c.before.before.b
 
 returns-3 : tie.Need-returns-3
 returns-3 c =
-    weigh-yes _ _ _ _ _ _ _ _ _ _ _ _ _ _ _ _ (spots c.before.before.before.before.before.before) _ refl
-    (omega (arith, c.before.before.before.if2.false, c.before.before.before.before.before.if1.false))
+    weigh-yes _ _ _ _ _ _ _ _ _ _ _ _ _ _ _ _ (spots c.before.before.before.before.before) _ refl
+    (omega (arith, c.before.before.if2.false, c.before.before.before.before.if1.false))
     (sym c.before.is-allowed.ensures ∙ c.if3.true)
 
 returns-4 : tie.Need-returns-4
 returns-4 c =
-    weigh-no _ _ _ _ _ _ _ _ _ _ _ _ _ _ _ _ (spots c.before.before.before.before.before.before)
+    weigh-no _ _ _ _ _ _ _ _ _ _ _ _ _ _ _ _ (spots c.before.before.before.before.before)
     (sym c.before.is-allowed.ensures ∙ c.if3.false)
 
 pub weigh-spec : {M : Type 1} → statement M

@@ -6,14 +6,14 @@ use native.Mathlib.Omega.{arith}
 use lib.ListN.{drop}
 use Rattle.lists.specs.Any.{any}
 use Rattle.lists.proofs.AnyLaws.{any-hit, any-miss, any-end}
-use Rattle.plane.specs.Place.{samePlace}
-use Rattle.net.specs.Pins.{pinPlaces, pinAt}
+use Rattle.plane.specs.Place.{same_place}
+use Rattle.net.specs.Pins.{pin_places, pin_at}
 use Rattle.net.proofs.PinLaws.{pins-next, pins-end}
 use Rattle.delay.proofs.loads.is_pin.Statement.{statement}
 use Rattle.delay.proofs.loads.is_pin.Tie as tie
 
 abbrev invariant-loop : tie.invariant-loop
-invariant-loop pins q m i₀ i = any (samePlace q) (pinPlaces pins) ≡ any (samePlace q) (drop i (pinPlaces pins))
+invariant-loop pins q m i₀ i = any (same_place q) (pin_places pins) ≡ any (same_place q) (drop i (pin_places pins))
 
 abbrev decreases-loop : tie.decreases-loop
 decreases-loop pins q m i₀ i = m - i
@@ -26,28 +26,28 @@ is-same-place-requires c κs = tt
 
 -- what the call says, of the list
 told : (c : tie.After-is-same-place invariant-loop decreases-loop) → c.is-same-place.result
-    ≡ samePlace c.before.before.before.before.before.args.q
-    (pinAt c.before.before.before.before.before.args.pins.now c.before.before.before.loop.i)
-told c = c.is-same-place.ensures ∙ ap (samePlace c.before.before.before.before.before.args.q) c.before.pin_at.ensures
+    ≡ same_place c.before.before.before.before.before.args.q
+    (pin_at c.before.before.before.before.before.args.pins.now c.before.before.before.loop.i)
+told c = c.is-same-place.ensures ∙ ap (same_place c.before.before.before.before.before.args.q) c.before.pin_at.ensures
 
 returns : tie.Need-returns invariant-loop decreases-loop
 returns c =
     let l = c.before.before.before.before in
-    sym (l.loop.invariant ∙ any-hit (samePlace l.before.before.args.q) _ _ _
+    sym (l.loop.invariant ∙ any-hit (same_place l.before.before.args.q) _ _ _
     (pins-next l.before.before.args.pins.now l.loop.i (omega arith))
     (sym (told c.before) ∙ c.if1.true))
 
 loop-again : tie.Need-loop-preserved invariant-loop decreases-loop
 loop-again c =
     let l = c.before.before.before.before in
-    l.loop.invariant ∙ any-miss (samePlace l.before.before.args.q) _ _ _
+    l.loop.invariant ∙ any-miss (same_place l.before.before.args.q) _ _ _
     (pins-next l.before.before.args.pins.now l.loop.i (omega arith))
     (sym (told c.before) ∙ c.if1.false)
 
 returns-2 : tie.Need-returns-2 invariant-loop decreases-loop
 returns-2 c =
     let l = c.before in
-    sym (l.loop.invariant ∙ any-end (samePlace l.before.before.args.q) _
+    sym (l.loop.invariant ∙ any-end (same_place l.before.before.args.q) _
     (pins-end l.before.before.args.pins.now l.loop.i (omega arith)))
 
 pub is-pin-spec : {M : Type 1} → statement M

@@ -9,10 +9,10 @@ use lib.ListN.{length, length-set}
 use borrow.Author.Rules.{rules}
 use Rattle.lists.specs.Any.{any}
 use Rattle.plane.specs.declared.Place.{Place}
-use Rattle.plane.specs.Place.{samePlace}
-use Rattle.net.specs.Pins.{pinPlaces, pinEntries}
-use Rattle.tree.specs.Table.{treeBound}
-use Rattle.delay.specs.Load.{loadOf}
+use Rattle.plane.specs.Place.{same_place}
+use Rattle.net.specs.Pins.{pin_places, pin_entries}
+use Rattle.tree.specs.Table.{tree_bound}
+use Rattle.delay.specs.Load.{load_of}
 use Rattle.delay.specs.Table.{Loaded}
 use Rattle.delay.proofs.LoadedLaws.{loaded-none, loaded-next}
 use Rattle.delay.proofs.loads.load.Statement.{statement}
@@ -20,7 +20,7 @@ use Rattle.delay.proofs.loads.load.Tie as tie
 
 abbrev invariant-loop : tie.invariant-loop
 invariant-loop pins pts n pin₀ loads₀ i₀ pin loads i =
-    (i ≤ n) × (((length pin ≡ treeBound) × (length loads ≡ treeBound)) × Loaded pins pts i pin loads)
+    (i ≤ n) × (((length pin ≡ tree_bound) × (length loads ≡ tree_bound)) × Loaded pins pts i pin loads)
 
 abbrev decreases-loop : tie.decreases-loop
 decreases-loop pins pts n pin₀ loads₀ i₀ pin loads i = n - i
@@ -56,8 +56,8 @@ loop-again c =
         (length-set l.loop.pin l.loop.i _ ∙ long.0, length-set l.loop.loads l.loop.i _ ∙ long.1),
         loaded-next l.loop.pin l.loop.loads l.loop.i l.loop.invariant.1.1 (omega (arith, t.loop-test.true, few, long.0))
             (omega (arith, t.loop-test.true, few, long.1)) _ _
-            (m.pin-mark.ensures ∙ ap (λ (p : Place). cond (any (samePlace p) (pinPlaces pins)) 1 0) q.point_at.ensures)
-            (c.load_of.ensures ∙ ap (loadOf (pinEntries pins)) q.point_at.ensures),
+            (m.pin-mark.ensures ∙ ap (λ (p : Place). cond (any (same_place p) (pin_places pins)) 1 0) q.point_at.ensures)
+            (c.load_of.ensures ∙ ap (load_of (pin_entries pins)) q.point_at.ensures),
       ),
     )
 

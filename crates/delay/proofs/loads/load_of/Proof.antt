@@ -11,19 +11,19 @@ use mir.ValLaws.{to_z-of_z}
 use borrow.Author.Rules.{rules}
 use Rattle.lists.specs.Any.{any}
 use Rattle.signed.specs.Sides.{up}
-use Rattle.plane.specs.Place.{samePlace}
+use Rattle.plane.specs.Place.{same_place}
 use Rattle.plane.specs.declared.Place.{Place}
-use Rattle.net.specs.Tests.{noLoad}
-use Rattle.net.specs.Pins.{pinAt, pinLoads, pinEntries, loadAt}
+use Rattle.net.specs.Tests.{no_load}
+use Rattle.net.specs.Pins.{pin_at, pin_loads, pin_entries, load_at}
 use Rattle.net.proofs.PinLaws.{entries_next, entries-end, loads-next}
-use Rattle.delay.specs.Load.{loadOf}
+use Rattle.delay.specs.Load.{load_of}
 use Rattle.delay.proofs.LoadedLaws.{load-hit, load-miss, load-end, none-next}
 use Rattle.delay.proofs.loads.load_of.Statement.{statement}
 use Rattle.delay.proofs.loads.load_of.Tie as tie
 
 abbrev invariant-loop : tie.invariant-loop
 invariant-loop pins q m i₀ i =
-    (loadOf (pinEntries pins) q ≡ loadOf (drop i (pinEntries pins)) q) × (any noLoad (drop i (pinLoads pins)) ≡ false)
+    (load_of (pin_entries pins) q ≡ load_of (drop i (pin_entries pins)) q) × (any no_load (drop i (pin_loads pins)) ≡ false)
 
 abbrev decreases-loop : tie.decreases-loop
 decreases-loop pins q m i₀ i = m - i
@@ -33,18 +33,18 @@ loop-holds c = (refl, c.before.requires)
 
 -- what the call says, of the list
 told : (c : tie.After-is-same-place invariant-loop decreases-loop) → c.is-same-place.result
-    ≡ samePlace (pinAt c.before.before.before.before.before.args.pins.now c.before.before.before.loop.i)
+    ≡ same_place (pin_at c.before.before.before.before.before.args.pins.now c.before.before.before.loop.i)
     c.before.before.before.before.before.args.q
 told c =
     c.is-same-place.ensures
-    ∙ ap (λ (p : Place). samePlace p c.before.before.before.before.before.args.q) c.before.pin_at.ensures
+    ∙ ap (λ (p : Place). same_place p c.before.before.before.before.before.args.q) c.before.pin_at.ensures
 
 unsigned-requires : tie.Need-unsigned-requires invariant-loop decreases-loop
 unsigned-requires c κs =
     let l = c.before.before.before.before.before in
     let pins = l.before.before.args.pins.now in
-    ap noLoad (to_z-of_z w32 _ (search rules) ∙ c.load_at.ensures)
-    ∙ (none-next noLoad _ _ _ (loads-next pins l.loop.i (omega arith)) l.loop.invariant.1).0
+    ap no_load (to_z-of_z w32 _ (search rules) ∙ c.load_at.ensures)
+    ∙ (none-next no_load _ _ _ (loads-next pins l.loop.i (omega arith)) l.loop.invariant.1).0
 
 returns : tie.Need-returns invariant-loop decreases-loop
 returns c =
@@ -63,7 +63,7 @@ loop-again c =
     let pins = l.before.before.args.pins.now in (
       l.loop.invariant.0 ∙ load-miss l.before.before.args.q _ _ _ _ (entries_next pins l.loop.i (omega arith))
           (sym (told c.before) ∙ c.if1.false),
-      (none-next noLoad _ _ _ (loads-next pins l.loop.i (omega arith)) l.loop.invariant.1).1,
+      (none-next no_load _ _ _ (loads-next pins l.loop.i (omega arith)) l.loop.invariant.1).1,
     )
 
 returns-2 : tie.Need-returns-2 invariant-loop decreases-loop

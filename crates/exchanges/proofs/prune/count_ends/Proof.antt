@@ -5,7 +5,7 @@ use Prim.Native.Nat.{◌*◌, ◌/◌, ◌%◌}
 use mathlib.Core.Path.{◌≡◌}
 use native.Mathlib.Omega.{arith}
 use borrow.Author.Rules.{rules}
-use Rattle.tree.specs.Table.{treeBound}
+use Rattle.tree.specs.Table.{tree_bound}
 use Rattle.exchanges.proofs.PruneLaws.{count-is}
 use Rattle.tree.proofs.LowLaws.{low_step}
 use Rattle.exchanges.proofs.prune.count_ends.Statement.{statement}
@@ -27,7 +27,7 @@ add-deg : tie.Need-overflow-add-deg
 add-deg c =
     let s = c.before.before.before in
     let q = s.requires.1.0.small s.args.i in
-    omega (arith, s.requires.1.1.low (get_or s.args.keys.now s.args.i 0 / treeBound))
+    omega (arith, s.requires.1.1.low (get_or s.args.keys.now s.args.i 0 / tree_bound))
 
 mul-deg-2 : tie.Need-overflow-mul-deg-2
 mul-deg-2 c =
@@ -47,8 +47,8 @@ add-deg-2 c =
     let q = s.requires.1.0.small s.args.i in
     omega (
       arith,
-      (low_step (treeBound * 2) s.args.deg.now (get_or s.args.keys.now s.args.i 0 / treeBound) s.requires.1.1).low
-          (get_or s.args.keys.now s.args.i 0 % treeBound),
+      (low_step (tree_bound * 2) s.args.deg.now (get_or s.args.keys.now s.args.i 0 / tree_bound) s.requires.1.1).low
+          (get_or s.args.keys.now s.args.i 0 % tree_bound),
     )
 
 returns : tie.Need-returns

@@ -4,8 +4,8 @@
 use mathlib.Core.Path.{◌≡◌}
 use Prim.Native.Nat.{◌≤◌, ◌-◌, ◌*◌}
 use native.Mathlib.Omega.{arith}
-use Rattle.exchanges.specs.Prune.{countEnds}
-use Rattle.tree.specs.Table.{treeBound, Low}
+use Rattle.exchanges.specs.Prune.{count_ends}
+use Rattle.tree.specs.Table.{tree_bound, Low}
 use Rattle.lists.specs.Turns.{turns}
 use Rattle.exchanges.proofs.PruneLaws.{low_count}
 use Rattle.tree.proofs.LowLaws.{low-more}
@@ -14,7 +14,7 @@ use Rattle.exchanges.proofs.prune.degrees.Statement.{statement}
 use Rattle.exchanges.proofs.prune.degrees.Tie as tie
 
 abbrev invariant-loop : tie.invariant-loop
-invariant-loop keys e deg₀ i₀ deg i = (i ≤ e) × (Low (i * 2) deg × (turns (countEnds keys) i (e - i) deg ≡ turns (countEnds keys) 0 e deg₀))
+invariant-loop keys e deg₀ i₀ deg i = (i ≤ e) × (Low (i * 2) deg × (turns (count_ends keys) i (e - i) deg ≡ turns (count_ends keys) 0 e deg₀))
 
 abbrev decreases-loop : tie.decreases-loop
 decreases-loop keys e deg₀ i₀ deg i = e - i
@@ -25,7 +25,7 @@ loop-holds c = (omega arith, (c.requires.1.1, turns-none _ _ _))
 count-ends-requires : tie.Need-count-ends-requires invariant-loop decreases-loop
 count-ends-requires c κs =
     let l = c.before.before in
-    (omega arith, (l.before.requires.1.0, low-more _ _ _ (let h : l.loop.i * 2 ≤ treeBound * 2 = omega arith in h) l.loop.invariant.1.0))
+    (omega arith, (l.before.requires.1.0, low-more _ _ _ (let h : l.loop.i * 2 ≤ tree_bound * 2 = omega arith in h) l.loop.invariant.1.0))
 
 loop-again : tie.Need-loop-preserved invariant-loop decreases-loop
 loop-again c =

@@ -2,14 +2,14 @@
 -- Assumes nothing.
 use mathlib.Core.Path.{◌≡◌}
 use borrow.Author.Rules.{rules}
-use Rattle.tree.specs.Table.{treeBound}
+use Rattle.tree.specs.Table.{tree_bound}
 use Rattle.exchanges.proofs.PruneLaws.{first-loose-is}
 use Rattle.tree.proofs.LowLaws.{low_zeros}
 use Rattle.exchanges.proofs.prune.first_loose.Statement.{statement}
 use Rattle.exchanges.proofs.prune.first_loose.Tie as tie
 
 degrees-requires : tie.Need-degrees-requires
-degrees-requires c κs = (c.before.requires.0, (c.before.requires.1, low_zeros treeBound))
+degrees-requires c κs = (c.before.requires.0, (c.before.requires.1, low_zeros tree_bound))
 
 returns : tie.Need-returns
 returns c = (first-loose-is _ _ _ _ _ c.before.before.degrees.ensures c.seek-loose.ensures.0, c.seek-loose.ensures.1)

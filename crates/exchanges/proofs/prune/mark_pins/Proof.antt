@@ -3,7 +3,7 @@
 use mathlib.Core.Path.{◌≡◌}
 use Prim.Native.Nat.{◌≤◌, ◌-◌}
 use native.Mathlib.Omega.{arith}
-use Rattle.net.specs.Pins.{pinPlaces}
+use Rattle.net.specs.Pins.{pin_places}
 use Rattle.lists.specs.Turns.{turns}
 use Rattle.exchanges.specs.Prune.{mark}
 use Rattle.lists.proofs.TurnLaws.{turns-none, turns_next, turns-end}
@@ -11,7 +11,7 @@ use Rattle.exchanges.proofs.prune.mark_pins.Statement.{statement}
 use Rattle.exchanges.proofs.prune.mark_pins.Tie as tie
 
 abbrev invariant-loop : tie.invariant-loop
-invariant-loop pins pts n pin₀ i₀ pin i = (i ≤ n) × (turns (mark (pinPlaces pins) pts) i (n - i) pin ≡ turns (mark (pinPlaces pins) pts) 0 n pin₀)
+invariant-loop pins pts n pin₀ i₀ pin i = (i ≤ n) × (turns (mark (pin_places pins) pts) i (n - i) pin ≡ turns (mark (pin_places pins) pts) 0 n pin₀)
 
 abbrev decreases-loop : tie.decreases-loop
 decreases-loop pins pts n pin₀ i₀ pin i = n - i

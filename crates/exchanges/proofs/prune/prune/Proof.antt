@@ -4,14 +4,14 @@ use mathlib.Core.Path.{◌≡◌, refl}
 use Prim.Native.Nat.{◌≤◌}
 use native.Mathlib.Omega.{arith}
 use Rattle.exchanges.specs.Prune.{prune}
-use Rattle.tree.specs.Table.{Small, pairBound}
+use Rattle.tree.specs.Table.{Small, pair_bound}
 use Rattle.exchanges.proofs.PruneLaws.{prune-stop, prune-more, prune-end}
 use Rattle.exchanges.proofs.LaidLaws.{small-closed}
 use Rattle.exchanges.proofs.prune.prune.Statement.{statement}
 use Rattle.exchanges.proofs.prune.prune.Tie as tie
 
 abbrev invariant-loop : tie.invariant-loop
-invariant-loop pin keys₀ e f₀ keys f = (f ≤ e) × (Small pairBound keys × (prune pin keys f ≡ prune pin keys₀ e))
+invariant-loop pin keys₀ e f₀ keys f = (f ≤ e) × (Small pair_bound keys × (prune pin keys f ≡ prune pin keys₀ e))
 
 abbrev decreases-loop : tie.decreases-loop
 decreases-loop pin keys₀ e f₀ keys f = f

@@ -3,14 +3,14 @@
 use mathlib.Core.Path.{◌≡◌, sym, ◌∙◌}
 use Prim.Native.Nat.{◌≤◌, ◌-◌}
 use native.Mathlib.Omega.{arith}
-use Rattle.exchanges.specs.Prune.{looseEdge}
+use Rattle.exchanges.specs.Prune.{loose_edge}
 use Rattle.lists.specs.Turns.{seek}
 use Rattle.lists.proofs.TurnLaws.{seek-none, seek_stop, seek-next, seek-end}
 use Rattle.exchanges.proofs.prune.seek_loose.Statement.{statement}
 use Rattle.exchanges.proofs.prune.seek_loose.Tie as tie
 
 abbrev invariant-loop : tie.invariant-loop
-invariant-loop pin deg keys e i₀ i = (i ≤ e) × (seek (looseEdge pin deg keys) i (e - i) ≡ seek (looseEdge pin deg keys) 0 e)
+invariant-loop pin deg keys e i₀ i = (i ≤ e) × (seek (loose_edge pin deg keys) i (e - i) ≡ seek (loose_edge pin deg keys) 0 e)
 
 abbrev decreases-loop : tie.decreases-loop
 decreases-loop pin deg keys e i₀ i = e - i

@@ -3,7 +3,7 @@
 use mathlib.Core.Path.{◌≡◌}
 use Prim.Native.Nat.{◌≤◌, ◌-◌}
 use native.Mathlib.Omega.{arith}
-use Rattle.refiner.specs.Graft.{notBelow, keyRank}
+use Rattle.refiner.specs.Graft.{not_below, key_rank}
 use Rattle.lists.specs.Turns.{seek}
 use Rattle.lists.proofs.TurnLaws.{seek-none, seek_stop, seek-next, seek-end}
 use Rattle.refiner.proofs.GraftLaws.{not-below-yes, not-below-no}
@@ -11,7 +11,7 @@ use Rattle.refiner.proofs.graft.key_rank.Statement.{statement}
 use Rattle.refiner.proofs.graft.key_rank.Tie as tie
 
 abbrev invariant-loop : tie.invariant-loop
-invariant-loop keys e key i₀ i = (i ≤ e) × (seek (notBelow keys key) i (e - i) ≡ seek (notBelow keys key) 0 e)
+invariant-loop keys e key i₀ i = (i ≤ e) × (seek (not_below keys key) i (e - i) ≡ seek (not_below keys key) 0 e)
 
 abbrev decreases-loop : tie.decreases-loop
 decreases-loop keys e key i₀ i = e - i
@@ -20,7 +20,7 @@ loop-holds : tie.Need-loop-init invariant-loop decreases-loop
 loop-holds c = (omega arith, seek-none _ _)
 
 returns : tie.Need-returns invariant-loop decreases-loop
-unfolding keyRank
+unfolding key_rank
 returns c = seek_stop _ _ _ _ c.before.before.before.loop.invariant.1 (omega arith) (not-below-yes _ _ _ c.if1.true)
 
 loop-again : tie.Need-loop-preserved invariant-loop decreases-loop
@@ -30,7 +30,7 @@ loop-again c = (
 )
 
 returns-2 : tie.Need-returns-2 invariant-loop decreases-loop
-unfolding keyRank
+unfolding key_rank
 returns-2 c = seek-end _ _ _ _ c.before.loop.invariant.1 (omega arith)
 
 pub key-rank-spec : {M : Type 1} → statement M

@@ -17,14 +17,14 @@ use Rattle.lists.proofs.TestLaws.{or-none}
 use Rattle.lent.specs.Told.{given}
 use Rattle.net.specs.declared.Net.{Net as Counts}
 use Rattle.net.specs.Answer.{number}
-use Rattle.net.specs.Pins.{pinCount, macroCount}
-use Rattle.net.specs.Net.{Net, handed, netOf}
-use Rattle.lines.specs.Bounds.{gridMacros}
-use Rattle.parts.specs.Bounds.{bestPins, workBound}
+use Rattle.net.specs.Pins.{pin_count, macro_count}
+use Rattle.net.specs.Net.{Net, handed, net_of}
+use Rattle.lines.specs.Bounds.{grid_macros}
+use Rattle.parts.specs.Bounds.{best_pins, work_bound}
 use Rattle.best.specs.Tree.{BestOver}
-use Rattle.answers.specs.Best.{aboveBest, bestNumbers}
+use Rattle.answers.specs.Best.{above_best, best_numbers}
 use Rattle.answers.proofs.BestLaws.{best-above, best-short, best-enough, best-room, above-best}
-use Rattle.router.specs.Answers.{toldTree}
+use Rattle.router.specs.Answers.{told_tree}
 use Rattle.router.proofs.BestLaws.{best-low, best-metal-low}
 use Rattle.made.proofs.CountedLaws.{as-net, as-allowed, as-pins, counts-few}
 use Rattle.router.proofs.CallLaws.{best-refused, best-given}
@@ -34,40 +34,40 @@ use Rattle.router.proofs.allowed.best_tree.Tie as tie
 
 -- m and k, as the check has counted them
 module _ (s : tie.Start) where
-  pins-are : s.args.net.pins ≡ pinCount s.args.pins.now
+  pins-are : s.args.net.pins ≡ pin_count s.args.pins.now
   pins-are = as-pins s.requires
 
-  macros-are : s.args.net.macros ≡ macroCount s.args.macros.now
+  macros-are : s.args.net.macros ≡ macro_count s.args.macros.now
   macros-are = ap (λ (k : Counts). k.macros) s.pre.counts
 
-  lines_are : s.args.net.pins + s.args.net.macros * 2 ≡ pinCount s.args.pins.now + macroCount s.args.macros.now * 2
+  lines_are : s.args.net.pins + s.args.net.macros * 2 ≡ pin_count s.args.pins.now + macro_count s.args.macros.now * 2
   lines_are = ap₂ (λ (m k : ℕ). m + k * 2) pins-are macros-are
 
   lines-few : s.args.net.pins + s.args.net.macros * 2 ≤ 384
   lines-few = omega (arith, counts-few s.pre)
 
-  size : {t : Bool} → (ltb bestPins s.args.net.pins || ltb gridMacros s.args.net.macros) ≡ t →
-      aboveBest s.args.pins.now s.args.macros.now ≡ t
+  size : {t : Bool} → (ltb best_pins s.args.net.pins || ltb grid_macros s.args.net.macros) ≡ t →
+      above_best s.args.pins.now s.args.macros.now ≡ t
   size e = sym (above-best s.args.pins.now s.args.macros.now _ _ pins-are macros-are) ∙ e
 
-  size_few : (ltb bestPins s.args.net.pins || ltb gridMacros s.args.net.macros) ≡ false →
-      (pinCount s.args.pins.now ≤ bestPins) × (macroCount s.args.macros.now ≤ gridMacros)
+  size_few : (ltb best_pins s.args.net.pins || ltb grid_macros s.args.net.macros) ≡ false →
+      (pin_count s.args.pins.now ≤ best_pins) × (macro_count s.args.macros.now ≤ grid_macros)
   size_few e =
-      let r = or-none (ltb bestPins s.args.net.pins) (ltb gridMacros s.args.net.macros) e in (
-        omega (arith, ltb-false bestPins s.args.net.pins r.0, pins-are),
-        omega (arith, ltb-false gridMacros s.args.net.macros r.1, macros-are),
+      let r = or-none (ltb best_pins s.args.net.pins) (ltb grid_macros s.args.net.macros) e in (
+        omega (arith, ltb-false best_pins s.args.net.pins r.0, pins-are),
+        omega (arith, ltb-false grid_macros s.args.net.macros r.1, macros-are),
       )
 
   -- the room by these numbers
-  room : {t : Bool} → (ltb (length s.args.work.now) workBound || ltb (length s.args.edges.now)
+  room : {t : Bool} → (ltb (length s.args.work.now) work_bound || ltb (length s.args.edges.now)
       ((s.args.net.pins + s.args.net.macros * 2) * (s.args.net.pins + s.args.net.macros * 2) * 4)) ≡ t →
-      (ltb (length s.args.work.now) workBound || ltb (length s.args.edges.now)
-      (bestNumbers s.args.pins.now s.args.macros.now)) ≡ t
+      (ltb (length s.args.work.now) work_bound || ltb (length s.args.edges.now)
+      (best_numbers s.args.pins.now s.args.macros.now)) ≡ t
   room {t} e = subst
-      (λ (n : ℕ). (ltb (length s.args.work.now) workBound || ltb (length s.args.edges.now) (n * n * 4)) ≡ t) lines_are e
+      (λ (n : ℕ). (ltb (length s.args.work.now) work_bound || ltb (length s.args.edges.now) (n * n * 4)) ≡ t) lines_are e
 
 returns : tie.Need-returns
-unfolding toldTree number
+unfolding told_tree number
 returns c =
     let s = c.before.before.before.before in
     let a = s.args in
@@ -94,7 +94,7 @@ mul-n-2 c =
     record { fits = omega (arith, l) }
 
 returns-2 : tie.Need-returns-2
-unfolding toldTree number
+unfolding told_tree number
 returns-2 c =
     let d = c.before.before.before in
     let s = d.before.before.before.before in
@@ -121,7 +121,7 @@ abbrev start : tie.After-best-tree → tie.Start
 start g = g.before.before.before.before.before.before.before.before.before.before
 
 over : (g : tie.After-best-tree) → let a = (start g).args in
-    BestOver (netOf (handed a.net.weights) a.pins.now a.macros.now) a.edges.now g.best-tree.new.1.1.1.1.0
+    BestOver (net_of (handed a.net.weights) a.pins.now a.macros.now) a.edges.now g.best-tree.new.1.1.1.1.0
     g.best-tree.result.edges g.best-tree.result.total g.best-tree.result.metal
 over g =
     let a = (start g).args in
@@ -145,7 +145,7 @@ cast-t21 : tie.Need-overflow-cast-t21
 cast-t21 c = record { sfits = metal-fits c.before.before.before.before.before }
 
 returns-3 : tie.Need-returns-3
-unfolding toldTree
+unfolding told_tree
 returns-3 c =
     let g = c.before.before.before.before.before in
     let s = start g in

@@ -13,19 +13,19 @@ use mir.Val.{to_z}
 use mir.ValLaws.{to_z_pos}
 use Rattle.lent.specs.Told.{given}
 use Rattle.net.specs.Answer.{number}
-use Rattle.net.specs.Pins.{pinCount}
-use Rattle.net.specs.Net.{netOf, handed}
+use Rattle.net.specs.Pins.{pin_count}
+use Rattle.net.specs.Net.{net_of, handed}
 use Rattle.net.specs.Allowed.{Allowed}
-use Rattle.room.specs.Needs.{edgeNeed}
+use Rattle.room.specs.Needs.{edge_need}
 use Rattle.terminal.proofs.PathLaws.{total-small}
 use Rattle.made.proofs.CountedLaws.{counts-few}
-use Rattle.answers.specs.Graph.{pointCount}
-use Rattle.answers.specs.Terminal.{pathsTotal}
-use Rattle.answers.specs.Refined.{laidTotal, metalOf}
-use Rattle.answers.specs.Both.{bothAnswer, bothGiven}
+use Rattle.answers.specs.Graph.{point_count}
+use Rattle.answers.specs.Terminal.{paths_total}
+use Rattle.answers.specs.Refined.{laid_total, metal_of}
+use Rattle.answers.specs.Both.{both_answer, both_given}
 use Rattle.answers.proofs.AnswerLaws.{room-short, room-enough}
 use Rattle.results.proofs.RefinedLaws.{total-low, metal-low}
-use Rattle.router.specs.Answers.{toldBoth}
+use Rattle.router.specs.Answers.{told_both}
 use Rattle.router.proofs.RoomLaws.{edges-ask}
 use Rattle.router.proofs.CallLaws.{gives-refused, gives-given}
 use borrow.Author.Rules.{rules}
@@ -37,14 +37,14 @@ edges-short-requires c κs = counts-few c.requires
 
 -- what must be lent, in the numbers of the lists
 abbrev asked : tie.Start → ℕ
-asked s = edgeNeed (pointCount s.args.pins.now s.args.macros.now) (pinCount s.args.pins.now)
+asked s = edge_need (point_count s.args.pins.now s.args.macros.now) (pin_count s.args.pins.now)
 
 -- whether too little is lent
 short : (d : tie.After-edges-short) → d.edges-short.result ≡ ltb (length d.before.args.edges.now) (asked d.before)
 short d = d.edges-short.ensures ∙ edges-ask d.before.requires _
 
 returns : tie.Need-returns
-unfolding bothGiven toldBoth number
+unfolding both_given told_both number
 returns c =
     let s = c.before.before in
     gives-refused refl (room-short (asked s) (length s.args.edges.now) _ (ltb-true _ _ (sym (short c.before) ∙ c.if1.true)))
@@ -60,7 +60,7 @@ abbrev start : tie.After-edges → tie.Start
 start d = d.before.before.before.before
 
 abbrev allowed : (d : tie.After-edges) →
-    Allowed (netOf (handed (start d).args.net.weights) (start d).args.pins.now (start d).args.macros.now)
+    Allowed (net_of (handed (start d).args.net.weights) (start d).args.pins.now (start d).args.macros.now)
 allowed d = (start d).requires.allowed
 
 -- both totals and the metal fit
@@ -71,7 +71,7 @@ metal-fits : (d : tie.After-edges) → d.edges.result.metal < 2 ^ 63
 metal-fits d = omega (arith, d.edges.ensures.1.1.0, metal-low (allowed d), total-low (allowed d))
 
 terminal-fits : (d : tie.After-edges) → d.edges.result.terminal < 2 ^ 63
-unfolding pathsTotal
+unfolding paths_total
 terminal-fits d = omega (arith, d.edges.ensures.1.1.1.0, total-small (allowed d))
 
 cast-t11 : tie.Need-overflow-cast-t11
@@ -84,17 +84,17 @@ cast-t13 : tie.Need-overflow-cast-t13
 cast-t13 c = record { sfits = metal-fits c.before.before.before.before }
 
 returns-2 : tie.Need-returns-2
-unfolding bothGiven toldBoth
+unfolding both_given told_both
 returns-2 c =
     let d = c.before.before.before.before in
     let a = (start d).args in
     let is = d.edges.ensures.1 in
-    let given_is : ℕ × (ℤ × (ℤ × ℤ)) = bothAnswer (handed a.net.weights) a.pins.now a.macros.now in
-    let sum : to_z w64 d.edges.result.total ≡ pos (laidTotal (handed a.net.weights) a.pins.now a.macros.now) =
+    let given_is : ℕ × (ℤ × (ℤ × ℤ)) = both_answer (handed a.net.weights) a.pins.now a.macros.now in
+    let sum : to_z w64 d.edges.result.total ≡ pos (laid_total (handed a.net.weights) a.pins.now a.macros.now) =
     to_z_pos w64 d.edges.result.total (total-fits d) ∙ ap pos is.0 in
-    let laid : to_z w64 d.edges.result.metal ≡ pos (metalOf (handed a.net.weights) a.pins.now a.macros.now) =
+    let laid : to_z w64 d.edges.result.metal ≡ pos (metal_of (handed a.net.weights) a.pins.now a.macros.now) =
     to_z_pos w64 d.edges.result.metal (metal-fits d) ∙ ap pos is.1.0 in
-    let paths : to_z w64 d.edges.result.terminal ≡ pos (pathsTotal (handed a.net.weights) a.pins.now a.macros.now) =
+    let paths : to_z w64 d.edges.result.terminal ≡ pos (paths_total (handed a.net.weights) a.pins.now a.macros.now) =
     to_z_pos w64 d.edges.result.terminal (terminal-fits d) ∙ ap pos is.1.1.0 in
     gives-given
     (ap₂ (λ (n : ℕ) (z : ℤ × (ℤ × ℤ)). given (n, z)) d.edges.ensures.0

@@ -10,29 +10,29 @@ use lib.ListN.{length}
 use Rattle.lists.specs.Any.{any}
 use Rattle.lent.specs.Told.{Told}
 use Rattle.lent.specs.Over.{after}
-use Rattle.plane.specs.Place.{samePlace}
+use Rattle.plane.specs.Place.{same_place}
 use Rattle.net.specs.Answer.{number}
 use Rattle.net.specs.Net.{handed}
-use Rattle.net.specs.Pins.{pinPlaces}
+use Rattle.net.specs.Pins.{pin_places}
 use Rattle.net.proofs.PinLaws.{length-pins}
 use Rattle.floats.specs.Mark.{usable, finites}
-use Rattle.delay.specs.Answer.{unlessMarked, delayAnswer, toldDelays}
+use Rattle.delay.specs.Answer.{unless_marked, delay_answer, told_delays}
 use Rattle.delay.proofs.ToldLaws.{delayed-space, delayed-technology, delayed-driver, delayed-passed}
 use Rattle.made.proofs.CountedLaws.{as-pins}
-use Rattle.answers.specs.Delay.{delaysOf, delayGiven}
+use Rattle.answers.specs.Delay.{delays_of, delay_given}
 use Rattle.router.proofs.CallLaws.{gives-refused}
 use Rattle.router.proofs.allowed.delay.Statement.{statement}
 use Rattle.router.proofs.allowed.delay.Tie as tie
 
 -- as many pins as the check has counted
-pins-are : (s : tie.Start) → s.args.net.pins ≡ length (pinPlaces s.args.pins.now)
+pins-are : (s : tie.Start) → s.args.net.pins ≡ length (pin_places s.args.pins.now)
 pins-are s = as-pins s.requires ∙ sym (length-pins s.args.pins.now)
 
 returns : tie.Need-returns
-unfolding delayGiven delayAnswer toldDelays number
+unfolding delay_given delay_answer told_delays number
 returns c =
     let s = c.before.before.before.before.before in
-    let short : length s.args.delays.now < length (pinPlaces s.args.pins.now) = omega (arith, c.if1.true, pins-are s) in
+    let short : length s.args.delays.now < length (pin_places s.args.pins.now) = omega (arith, c.if1.true, pins-are s) in
     gives-refused refl (delayed-space _ _ _ _ _ short)
 
 -- where the two tests were made, and where they began
@@ -43,11 +43,11 @@ abbrev start : tie.Else1 → tie.Start
 start c = (usability c).before.before
 
 -- there is room
-enough : (c : tie.Else1) → let a = (start c).args in length (pinPlaces a.pins.now) ≤ length a.delays.now
+enough : (c : tie.Else1) → let a = (start c).args in length (pin_places a.pins.now) ≤ length a.delays.now
 enough c = omega (arith, c.if1.false, pins-are (start c))
 
 returns-2 : tie.Need-returns-2
-unfolding delayGiven delayAnswer toldDelays number
+unfolding delay_given delay_answer told_delays number
 returns-2 c =
     let u = usability c.before in
     gives-refused refl
@@ -60,7 +60,7 @@ fair c =
     sym u.is-usable.ensures ∙ not-false u.is-usable.result c.if2.false
 
 returns-3 : tie.Need-returns-3
-unfolding delayGiven delayAnswer toldDelays number
+unfolding delay_given delay_answer told_delays number
 returns-3 c =
     let e = c.before.before in
     let p = e.before.before in
@@ -69,7 +69,7 @@ returns-3 c =
     (sym p.is-pin.ensures ∙ not-true p.is-pin.result c.if3.true))
 
 -- and the driver is a pin
-stands : (c : tie.Else3) → let a = (start c.before.before).args in any (samePlace a.driver) (pinPlaces a.pins.now) ≡ true
+stands : (c : tie.Else3) → let a = (start c.before.before).args in any (same_place a.driver) (pin_places a.pins.now) ≡ true
 stands c =
     let p = c.before.before.before.before in
     sym p.is-pin.ensures ∙ not-false p.is-pin.result c.if3.false
@@ -78,17 +78,17 @@ time-requires : tie.Need-time-requires
 time-requires c κs = let d = c.before in let e = d.before.before in ((start e).requires, (e.if1.false, stands d))
 
 returns-4 : tie.Need-returns-4
-unfolding delayGiven delayAnswer delaysOf
+unfolding delay_given delay_answer delays_of
 returns-4 c =
     let g = c.before.before in
     let d = g.before.before in
     let e = d.before.before in
     let a = (start e).args in
-    let marks = delaysOf (handed a.net.weights) a.pins.now a.macros.now a.driver a.t in
-    let said : toldDelays g.time.result
-    ≡ delayGiven (handed a.net.weights) a.pins.now a.macros.now a.driver a.t (length a.delays.now) =
+    let marks = delays_of (handed a.net.weights) a.pins.now a.macros.now a.driver a.t in
+    let said : told_delays g.time.result
+    ≡ delay_given (handed a.net.weights) a.pins.now a.macros.now a.driver a.t (length a.delays.now) =
     g.time.ensures.0
-    ∙ ap (λ (m : ℕ). unlessMarked m marks) (pins-are (start e))
+    ∙ ap (λ (m : ℕ). unless_marked m marks) (pins-are (start e))
     ∙ sym (delayed-passed _ _ _ _ marks (enough e) (fair d.before) (stands d)) in
     record { answer = said; list = g.time.ensures.1 ∙ ap (λ (z : Told ℕ). after z (finites marks) a.delays.now) said }
 

@@ -8,11 +8,11 @@ use lib.ListN.{length}
 use Rattle.lent.specs.Told.{given}
 use Rattle.net.specs.Net.{handed}
 use Rattle.net.specs.Answer.{number}
-use Rattle.room.specs.Needs.{vertexNeed, linkNeed}
+use Rattle.room.specs.Needs.{vertex_need, link_need}
 use Rattle.made.proofs.CountedLaws.{counts-few}
-use Rattle.answers.specs.Graph.{pointCount}
+use Rattle.answers.specs.Graph.{point_count}
 use Rattle.answers.proofs.GraphLaws.{graph-short, graph-fits, graph-room}
-use Rattle.router.specs.Answers.{toldGraph}
+use Rattle.router.specs.Answers.{told_graph}
 use Rattle.router.proofs.RoomLaws.{graph-asks}
 use Rattle.router.proofs.CallLaws.{two-refused, two-given}
 use borrow.Author.Rules.{rules}
@@ -23,12 +23,12 @@ graph-short-requires : tie.Need-graph-short-requires
 graph-short-requires c κs = counts-few c.requires
 
 -- whether too little is lent, in the numbers of the lists
-short : (d : tie.After-graph-short) → let a = d.before.args in let n = pointCount a.pins.now a.macros.now in
-    d.graph-short.result ≡ (ltb (length a.vertices.now) (vertexNeed n) || ltb (length a.edges.now) (linkNeed n))
+short : (d : tie.After-graph-short) → let a = d.before.args in let n = point_count a.pins.now a.macros.now in
+    d.graph-short.result ≡ (ltb (length a.vertices.now) (vertex_need n) || ltb (length a.edges.now) (link_need n))
 short d = d.graph-short.ensures ∙ graph-asks d.before.requires _ _
 
 returns : tie.Need-returns
-unfolding toldGraph number
+unfolding told_graph number
 returns c =
     let a = c.before.before.args in
     two-refused refl
@@ -46,7 +46,7 @@ graph-requires c κs =
     )
 
 returns-2 : tie.Need-returns-2
-unfolding toldGraph
+unfolding told_graph
 returns-2 c =
     let d = c.before.before in
     let e = d.before.before.before in

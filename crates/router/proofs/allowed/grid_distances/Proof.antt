@@ -12,13 +12,13 @@ use Rattle.lists.proofs.TestLaws.{or-none}
 use Rattle.lent.specs.Told.{given}
 use Rattle.net.specs.declared.Net.{Net as Counts}
 use Rattle.net.specs.Answer.{number}
-use Rattle.net.specs.Pins.{pinCount, macroCount}
+use Rattle.net.specs.Pins.{pin_count, macro_count}
 use Rattle.net.specs.Net.{Net, handed}
-use Rattle.lines.specs.Bounds.{gridPins, gridMacros}
+use Rattle.lines.specs.Bounds.{grid_pins, grid_macros}
 use Rattle.grid.specs.Distance.{SquareOver}
-use Rattle.answers.specs.Distances.{aboveGrid}
+use Rattle.answers.specs.Distances.{above_grid}
 use Rattle.answers.proofs.DistanceLaws.{grid-above, grid-short, grid-enough, above_of}
-use Rattle.router.specs.Answers.{toldDistances}
+use Rattle.router.specs.Answers.{told_distances}
 use Rattle.made.proofs.CountedLaws.{as-net, as-allowed, as-pins, counts-few}
 use Rattle.router.proofs.CallLaws.{square-refused, square-given}
 use borrow.Author.Rules.{rules}
@@ -27,29 +27,29 @@ use Rattle.router.proofs.allowed.grid_distances.Tie as tie
 
 -- m and k, as the check has counted them
 module _ (s : tie.Start) where
-  pins-are : s.args.net.pins ≡ pinCount s.args.pins.now
+  pins-are : s.args.net.pins ≡ pin_count s.args.pins.now
   pins-are = as-pins s.requires
 
-  macros-are : s.args.net.macros ≡ macroCount s.args.macros.now
+  macros-are : s.args.net.macros ≡ macro_count s.args.macros.now
   macros-are = ap (λ (k : Counts). k.macros) s.pre.counts
 
-  square-are : s.args.net.pins * s.args.net.pins ≡ pinCount s.args.pins.now * pinCount s.args.pins.now
+  square-are : s.args.net.pins * s.args.net.pins ≡ pin_count s.args.pins.now * pin_count s.args.pins.now
   square-are = ap₂ ◌*◌ pins-are pins-are
 
-  size : {t : Bool} → (ltb gridPins s.args.net.pins || ltb gridMacros s.args.net.macros) ≡ t →
-      aboveGrid s.args.pins.now s.args.macros.now ≡ t
+  size : {t : Bool} → (ltb grid_pins s.args.net.pins || ltb grid_macros s.args.net.macros) ≡ t →
+      above_grid s.args.pins.now s.args.macros.now ≡ t
   size e = sym (above_of s.args.pins.now s.args.macros.now _ _ pins-are macros-are) ∙ e
 
-  size_few : (ltb gridPins s.args.net.pins || ltb gridMacros s.args.net.macros) ≡ false →
-      (pinCount s.args.pins.now ≤ gridPins) × (macroCount s.args.macros.now ≤ gridMacros)
+  size_few : (ltb grid_pins s.args.net.pins || ltb grid_macros s.args.net.macros) ≡ false →
+      (pin_count s.args.pins.now ≤ grid_pins) × (macro_count s.args.macros.now ≤ grid_macros)
   size_few e =
-      let r = or-none (ltb gridPins s.args.net.pins) (ltb gridMacros s.args.net.macros) e in (
-        omega (arith, ltb-false gridPins s.args.net.pins r.0, pins-are),
-        omega (arith, ltb-false gridMacros s.args.net.macros r.1, macros-are),
+      let r = or-none (ltb grid_pins s.args.net.pins) (ltb grid_macros s.args.net.macros) e in (
+        omega (arith, ltb-false grid_pins s.args.net.pins r.0, pins-are),
+        omega (arith, ltb-false grid_macros s.args.net.macros r.1, macros-are),
       )
 
 returns : tie.Need-returns
-unfolding toldDistances number
+unfolding told_distances number
 returns c =
     let s = c.before.before.before in
     let a = s.args in
@@ -63,7 +63,7 @@ mul-n c =
     record { fits = omega (arith, l) }
 
 returns-2 : tie.Need-returns-2
-unfolding toldDistances number
+unfolding told_distances number
 returns-2 c =
     let d = c.before.before in
     let s = d.before.before.before in
@@ -81,7 +81,7 @@ distances-requires c κs =
     (as-allowed s.requires, (few, subst (λ (n : ℕ). n ≤ length s.args.table.now) (square-are s) e.if2.false))
 
 returns-3 : tie.Need-returns-3
-unfolding toldDistances
+unfolding told_distances
 returns-3 c =
     let g = c.before in
     let e = g.before.before in

@@ -4,10 +4,10 @@ use mathlib.Core.Path.{refl, subst}
 use Prim.Native.Nat.{ℕ}
 use lib.ListN.{length}
 use Rattle.net.specs.Answer.{number}
-use Rattle.net.specs.Net.{Net, handed, netOf}
+use Rattle.net.specs.Net.{Net, handed, net_of}
 use Rattle.bound.specs.Bound.{Bound}
 use Rattle.answers.proofs.BoundLaws.{bound-short, bound-enough, bound-room}
-use Rattle.router.specs.Answers.{toldBound}
+use Rattle.router.specs.Answers.{told_bound}
 use Rattle.made.proofs.CountedLaws.{as-net, as-allowed}
 use Rattle.router.proofs.CallLaws.{bound-refused, bound-given}
 use borrow.Author.Rules.{rules}
@@ -15,7 +15,7 @@ use Rattle.router.proofs.allowed.lower_bound.Statement.{statement}
 use Rattle.router.proofs.allowed.lower_bound.Tie as tie
 
 returns : tie.Need-returns
-unfolding toldBound number
+unfolding told_bound number
 returns c =
     let a = c.before.before.before.args in
     bound-refused refl
@@ -29,7 +29,7 @@ lower-bound-requires c κs =
     (as-allowed s.requires, bound-room (length s.args.left.now) (length s.args.rows.now) e.if1.false)
 
 returns-2 : tie.Need-returns-2
-unfolding toldBound
+unfolding told_bound
 returns-2 c =
     let d = c.before.before.before.before in
     let e = d.before.before.before in

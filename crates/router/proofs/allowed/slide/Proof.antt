@@ -4,9 +4,9 @@ use mathlib.Core.Path.{◌≡◌, ◌∙◌}
 use Prim.Native.Nat.{◌*◌}
 use native.Mathlib.Omega.{arith}
 use lib.ListN.{length}
-use Rattle.net.specs.Net.{netOf, handed}
+use Rattle.net.specs.Net.{net_of, handed}
 use Rattle.net.specs.Allowed.{Allowed}
-use Rattle.laid.specs.Edges.{laidBound}
+use Rattle.laid.specs.Edges.{laid_bound}
 use Rattle.results.proofs.RefinedLaws.{answer-small}
 use Rattle.router.proofs.SlidTable.{table-slidable, table-slid}
 use borrow.Author.Rules.{rules}
@@ -26,7 +26,7 @@ abbrev refined : tie.After-give-edges → tie.After-refine
 refined g = g.before.before.before.before
 
 -- the table is as long as it was
-kept : (g : tie.After-give-edges) → length g.give-edges.new.1.1.1.0 ≡ laidBound * 4
+kept : (g : tie.After-give-edges) → length g.give-edges.new.1.1.1.0 ≡ laid_bound * 4
 kept g = g.give-edges.auto.1.1.1.0 ∙ (start (refined g)).requires.1
 
 slide-requires : tie.Need-slide-requires

@@ -11,14 +11,14 @@ use mir.Syntax.{w64}
 use mir.ValLaws.{to_z_pos}
 use Rattle.lent.specs.Told.{given}
 use Rattle.net.specs.Answer.{number}
-use Rattle.net.specs.Pins.{pinCount}
+use Rattle.net.specs.Pins.{pin_count}
 use Rattle.net.specs.Net.{handed}
-use Rattle.room.specs.Needs.{pathNeed}
+use Rattle.room.specs.Needs.{path_need}
 use Rattle.terminal.proofs.PathLaws.{total-small}
 use Rattle.made.proofs.CountedLaws.{counts-few}
-use Rattle.answers.specs.Terminal.{pathsOf, pathsTotal, terminalGiven}
+use Rattle.answers.specs.Terminal.{paths_of, paths_total, terminal_given}
 use Rattle.answers.proofs.AnswerLaws.{room-short, room-enough}
-use Rattle.router.specs.Answers.{toldTerminal}
+use Rattle.router.specs.Answers.{told_terminal}
 use Rattle.router.proofs.RoomLaws.{paths-ask}
 use Rattle.router.proofs.CallLaws.{gives-refused, gives-given}
 use borrow.Author.Rules.{rules}
@@ -30,18 +30,18 @@ paths-short-requires c κs = (counts-few c.requires).0
 
 -- whether too little is lent, in the numbers of the lists
 short : (d : tie.After-paths-short) → let a = d.before.args in
-    d.paths-short.result ≡ ltb (length a.paths.now) (pathNeed (pinCount a.pins.now))
+    d.paths-short.result ≡ ltb (length a.paths.now) (path_need (pin_count a.pins.now))
 short d = d.paths-short.ensures ∙ paths-ask d.before.requires _
 
 returns : tie.Need-returns
-unfolding terminalGiven toldTerminal number
+unfolding terminal_given told_terminal number
 returns c =
     let a = c.before.before.args in
     gives-refused refl
-    (room-short (pathNeed (pinCount a.pins.now)) (length a.paths.now) _ (ltb-true _ _ (sym (short c.before) ∙ c.if1.true)))
+    (room-short (path_need (pin_count a.pins.now)) (length a.paths.now) _ (ltb-true _ _ (sym (short c.before) ∙ c.if1.true)))
 
 -- the room that there is
-room : (c : tie.After-terminal-tree-arg) → let a = c.before.before.before.args in pathNeed (pinCount a.pins.now) ≤ length a.paths.now
+room : (c : tie.After-terminal-tree-arg) → let a = c.before.before.before.args in path_need (pin_count a.pins.now) ≤ length a.paths.now
 room c = ltb-false _ _ (sym (short c.before.before) ∙ c.before.if1.false)
 
 terminal-tree-requires : tie.Need-terminal-tree-requires
@@ -55,17 +55,17 @@ cast-t11 : tie.Need-overflow-cast-t11
 cast-t11 c = record { sfits = total-fits c.before.before }
 
 returns-2 : tie.Need-returns-2
-unfolding terminalGiven toldTerminal pathsTotal pathsOf
+unfolding terminal_given told_terminal paths_total paths_of
 returns-2 c =
     let d = c.before.before in
     let a = d.before.before.before.before.args in
     let w = handed a.net.weights in
     let given_is : ℕ × ℤ =
-    (length (pathsOf w a.pins.now a.macros.now), pos (pathsTotal w a.pins.now a.macros.now)) in
+    (length (paths_of w a.pins.now a.macros.now), pos (paths_total w a.pins.now a.macros.now)) in
     gives-given
     (ap₂ (λ (n : ℕ) (z : ℤ). given (n, z)) d.terminal-tree.ensures.0
     (to_z_pos w64 d.terminal-tree.result.total (total-fits d) ∙ ap pos d.terminal-tree.ensures.1.0))
-    (room-enough {A = ℕ × ℤ} (pathNeed (pinCount a.pins.now)) (length a.paths.now) given_is (room d.before))
+    (room-enough {A = ℕ × ℤ} (path_need (pin_count a.pins.now)) (length a.paths.now) given_is (room d.before))
     d.terminal-tree.ensures.1.1
 
 pub terminal-tree-spec : {M : Type 1} → statement M

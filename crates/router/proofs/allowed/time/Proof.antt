@@ -6,11 +6,11 @@ use mathlib.Core.List.{List}
 use Rattle.lists.proofs.AnyLaws.{none_any}
 use Rattle.lent.specs.Over.{after}
 use Rattle.net.specs.Net.{handed}
-use Rattle.net.specs.Pins.{pinLoads}
-use Rattle.net.specs.Tests.{noLoad}
+use Rattle.net.specs.Pins.{pin_loads}
+use Rattle.net.specs.Tests.{no_load}
 use Rattle.floats.specs.declared.Delay.{Delay}
 use Rattle.floats.specs.Mark.{finites}
-use Rattle.delay.specs.Answer.{unlessMarked, toldDelays}
+use Rattle.delay.specs.Answer.{unless_marked, told_delays}
 use Rattle.made.proofs.CountedLaws.{as-pins}
 use Rattle.router.proofs.DelayLaws.{delays-asked, delays-marks}
 use borrow.Author.Rules.{rules}
@@ -24,7 +24,7 @@ load-requires : tie.Need-load-requires
 load-requires c κs =
     let d = c.before.before.before in
     let s = start d in
-    ((d.refine.ensures.0.few.0, none_any noLoad (pinLoads s.args.pins.now) s.pre.0.whole.loads), (refl, refl))
+    ((d.refine.ensures.0.few.0, none_any no_load (pin_loads s.args.pins.now) s.pre.0.whole.loads), (refl, refl))
 
 abbrev loaded : tie.After-delays-arg → tie.After-load
 loaded q = q.before.before.before.before.before
@@ -48,9 +48,9 @@ returns c =
     let is = delays-marks (handed s.args.net.weights) s.args.pins.now s.args.macros.now s.pre.0.allowed
     d.refine.ensures.0 (loaded q).load.ensures s.args.driver s.pre.1.1 s.args.t s.args.net.pins _
     (as-pins s.pre.0) s.pre.1.0 in (
-      g.delays.ensures.0 ∙ ap (unlessMarked s.args.net.pins) is,
+      g.delays.ensures.0 ∙ ap (unless_marked s.args.net.pins) is,
       g.delays.ensures.1
-          ∙ ap (λ (marks : List Delay). after (toldDelays g.delays.result) (finites marks) s.args.delays.now) is,
+          ∙ ap (λ (marks : List Delay). after (told_delays g.delays.result) (finites marks) s.args.delays.now) is,
     )
 
 pub time-spec : {M : Type 1} → statement M

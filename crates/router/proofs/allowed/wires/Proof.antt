@@ -7,14 +7,14 @@ use lib.Dec.{ltb}
 use lib.ListN.{length}
 use Rattle.lent.specs.Told.{given}
 use Rattle.net.specs.Answer.{number}
-use Rattle.net.specs.Pins.{pinCount}
+use Rattle.net.specs.Pins.{pin_count}
 use Rattle.net.specs.Net.{handed}
-use Rattle.room.specs.Needs.{wireNeed}
+use Rattle.room.specs.Needs.{wire_need}
 use Rattle.made.proofs.CountedLaws.{counts-few}
-use Rattle.answers.specs.Graph.{pointCount}
-use Rattle.answers.specs.Wires.{wiresOf, wiresGiven}
+use Rattle.answers.specs.Graph.{point_count}
+use Rattle.answers.specs.Wires.{wires_of, wires_given}
 use Rattle.answers.proofs.AnswerLaws.{room-short, room-enough}
-use Rattle.router.specs.Answers.{toldWires}
+use Rattle.router.specs.Answers.{told_wires}
 use Rattle.router.proofs.RoomLaws.{wires-ask}
 use Rattle.router.proofs.CallLaws.{gives-refused, gives-given}
 use borrow.Author.Rules.{rules}
@@ -26,14 +26,14 @@ wires-short-requires c κs = counts-few c.requires
 
 -- what must be lent, in the numbers of the lists
 abbrev asked : tie.Start → ℕ
-asked s = wireNeed (pointCount s.args.pins.now s.args.macros.now) (pinCount s.args.pins.now)
+asked s = wire_need (point_count s.args.pins.now s.args.macros.now) (pin_count s.args.pins.now)
 
 -- whether too little is lent
 short : (d : tie.After-wires-short) → d.wires-short.result ≡ ltb (length d.before.args.wires.now) (asked d.before)
 short d = d.wires-short.ensures ∙ wires-ask d.before.requires _
 
 returns : tie.Need-returns
-unfolding wiresGiven toldWires number
+unfolding wires_given told_wires number
 returns c =
     let s = c.before.before in
     gives-refused refl (room-short (asked s) (length s.args.wires.now) _ (ltb-true _ _ (sym (short c.before) ∙ c.if1.true)))
@@ -46,7 +46,7 @@ wires-requires : tie.Need-wires-requires
 wires-requires c κs = let e = c.before in (e.before.before.requires, room e)
 
 returns-2 : tie.Need-returns-2
-unfolding wiresGiven toldWires
+unfolding wires_given told_wires
 returns-2 c =
     let g = c.before in
     let e = g.before.before in
@@ -54,7 +54,7 @@ returns-2 c =
     let a = s.args in
     gives-given
     (ap (λ (n : ℕ). given n) g.wires.ensures.0)
-    (room-enough (asked s) (length a.wires.now) (length (wiresOf (handed a.net.weights) a.pins.now a.macros.now))
+    (room-enough (asked s) (length a.wires.now) (length (wires_of (handed a.net.weights) a.pins.now a.macros.now))
     (room e))
     g.wires.ensures.1
 

@@ -3,7 +3,7 @@
 use mathlib.Core.Path.{ap, ◌∙◌}
 use native.Mathlib.Omega.{arith}
 use borrow.Author.Rules.{rules}
-use Rattle.slide.specs.Slide.{inOrder}
+use Rattle.slide.specs.Slide.{in_their_order}
 use Rattle.settled.proofs.SettledLaws.{edges-in-order}
 use Rattle.slider.proofs.round.make.Statement.{statement}
 use Rattle.slider.proofs.round.make.Tie as tie
@@ -12,7 +12,7 @@ shift-bar-requires : tie.Need-shift-bar-requires
 shift-bar-requires c κs = let s = c.before in (s.requires.0, (s.requires.1.0, omega (arith, s.requires.0)))
 
 returns : tie.Need-returns
-returns c = edges-in-order c.before.sort-edges.ensures ∙ ap inOrder c.before.before.before.before.before.shift-bar.ensures.0
+returns c = edges-in-order c.before.sort-edges.ensures ∙ ap in_their_order c.before.before.before.before.before.shift-bar.ensures.0
 
 pub make_spec : {M : Type 1} → statement M
 make_spec =

@@ -6,12 +6,12 @@ use Prim.Native.Nat.{ℕ, ◌<◌}
 use native.Mathlib.Omega.{arith}
 use borrow.Author.Rules.{rules}
 use lib.IntN.{ℤ}
-use Rattle.plane.specs.Flat.{placeAt}
-use Rattle.net.specs.Net.{Net, netWith}
+use Rattle.plane.specs.Flat.{place_at}
+use Rattle.net.specs.Net.{Net, net_with}
 use Rattle.net.specs.Allowed.{PlaceInRange}
 use Rattle.slide.specs.Bend.{Edge}
-use Rattle.straight.specs.Table.{edgesIn}
-use Rattle.settled.specs.Settled.{edgesOf}
+use Rattle.straight.specs.Table.{edges_in}
+use Rattle.settled.specs.Settled.{edges_of}
 use Rattle.slider.proofs.RoundLaws.{rounds-still}
 use Rattle.slider.proofs.FoundLaws.{Found, found_none, found_some, found-movable, found-edges}
 use Rattle.slider.proofs.TurnLaws.{fresh, few-pins, settle-asks, listed, ranged, found}
@@ -42,10 +42,10 @@ module _ (d : tie.After-choice) where
   start = at.before.before.before.before
 
   abbrev net : Net
-  net = netWith start.args.w start.args.pins.now start.args.macros.now
+  net = net_with start.args.w start.args.pins.now start.args.macros.now
 
   abbrev T : List Edge
-  T = edgesOf start.args.list.now start.args.e
+  T = edges_of start.args.list.now start.args.e
 
   abbrev pts : List ℤ
   pts = at.settle.last.1.1.1.0
@@ -54,12 +54,12 @@ module _ (d : tie.After-choice) where
   keys = at.settle.last.1.1.1.1.0
 
   -- of the law, for these arguments and tables
-  listed_here : edgesIn pts keys at.settle.result.edges ≡ T
+  listed_here : edges_in pts keys at.settle.result.edges ≡ T
   listed_here =
       listed start.args.w start.args.pins.now start.args.macros.now start.args.list.now start.args.e
       start.pre.0 pts keys at.settle.result.points at.settle.result.edges at.settle.ensures
 
-  ranged-here : (i : ℕ) → i < at.settle.result.points → PlaceInRange (placeAt pts i)
+  ranged-here : (i : ℕ) → i < at.settle.result.points → PlaceInRange (place_at pts i)
   ranged-here =
       ranged start.args.w start.args.pins.now start.args.macros.now start.args.list.now start.args.e
       start.pre.0 pts keys at.settle.result.points at.settle.result.edges at.settle.ensures

@@ -7,12 +7,12 @@ use Prim.Native.Nat.{ℕ, ◌+◌, ◌-◌, ◌≤◌}
 use native.Mathlib.Omega.{arith}
 use borrow.Author.Tests.{not-true}
 use lib.ListN.{length}
-use Rattle.net.specs.Net.{Net, netWith}
+use Rattle.net.specs.Net.{Net, net_with}
 use Rattle.slide.specs.Bend.{Edge}
 use Rattle.slide.specs.Slide.{rounds}
 use Rattle.slide.specs.Promise.{State}
-use Rattle.straight.specs.Table.{straightBound}
-use Rattle.settled.specs.Settled.{edgesOf}
+use Rattle.straight.specs.Table.{straight_bound}
+use Rattle.settled.specs.Settled.{edges_of}
 use Rattle.slider.proofs.RoundLaws.{round-state}
 use Rattle.slider.proofs.TurnLaws.{few-edges, turn-next, turn_last, turn_end}
 use Rattle.slider.proofs.round.rounds.Statement.{statement}
@@ -20,19 +20,19 @@ use Rattle.slider.proofs.round.rounds.Tie as tie
 
 abbrev invariant-loop : tie.invariant-loop
 invariant-loop w pins macros list₀ e n count₀ i₀ list count i =
-    (i ≤ n) × (length list ≡ length list₀) × State (netWith w pins macros) (edgesOf list count)
-    × (rounds (netWith w pins macros) (n - i) (edgesOf list count) ≡ rounds (netWith w pins macros) n (edgesOf list₀ e))
+    (i ≤ n) × (length list ≡ length list₀) × State (net_with w pins macros) (edges_of list count)
+    × (rounds (net_with w pins macros) (n - i) (edges_of list count) ≡ rounds (net_with w pins macros) n (edges_of list₀ e))
 
 abbrev decreases-loop : tie.decreases-loop
 decreases-loop w pins macros list₀ e n count₀ i₀ list count i = n - i
 
 abbrev net : tie.Start invariant-loop decreases-loop → Net
-net s = netWith s.args.w s.args.pins.now s.args.macros.now
+net s = net_with s.args.w s.args.pins.now s.args.macros.now
 
 loop-holds : tie.Need-loop-init invariant-loop decreases-loop
 loop-holds c =
     let none : c.args.n - 0 ≡ c.args.n = omega arith in
-    (omega arith, refl, c.requires.0, ap (λ (m : ℕ). rounds (net c) m (edgesOf c.args.list.now c.args.e)) none)
+    (omega arith, refl, c.requires.0, ap (λ (m : ℕ). rounds (net c) m (edges_of c.args.list.now c.args.e)) none)
 
 round-requires : tie.Need-round-requires invariant-loop decreases-loop
 round-requires c κs =
@@ -48,13 +48,13 @@ module _ (d : tie.After-round invariant-loop decreases-loop) where
   start = turn.before
 
   abbrev T : List Edge
-  T = edgesOf turn.loop.list turn.loop.count
+  T = edges_of turn.loop.list turn.loop.count
 
-  next : State (net start) (edgesOf d.round.last.1.1.1.0 d.round.result.edges)
+  next : State (net start) (edges_of d.round.last.1.1.1.0 d.round.result.edges)
   next =
       subst (λ (U : List Edge). State (net start) U) (sym d.round.ensures.1) (round-state (net start) T turn.loop.inv.2)
 
-  few : d.round.result.edges ≤ straightBound
+  few : d.round.result.edges ≤ straight_bound
   few =
       let f = few-edges start.args.w start.args.pins.now start.args.macros.now _ _ next in
       omega (arith, f)
