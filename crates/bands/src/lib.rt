@@ -3,6 +3,7 @@
 // A rate above the highest one is refused wherever it stands (31), so that no product can overflow; a list that falls back is refused
 // wherever it does (37), so that more metal is never charged less. Limits are compared and never multiplied: they may be any numbers of
 // 64 bits.
+#![tactic(auto)]
 ghost use Rattle.std.specs.Prelude.{◌≡◌, ◌+◌, ◌*◌, ◌≤◌, length};
 ghost use Rattle.lists.specs.Any.{any};
 ghost use Rattle.bands.specs.Band.{bands_of, band_at};
@@ -13,7 +14,7 @@ ghost use Rattle.bands.specs.Order.{steps_back, falls_back};
 const RATE: u64 = 1000000;
 
 // A band: the most metal that it reaches, and its rate, in hundredths of the currency per 1,000 units.
-#[derive(Drop)]
+#[derive(Clone, Copy)]
 pub struct Band {
     pub limit: u64,
     pub rate: u64,

@@ -1,6 +1,7 @@
 // The round's choice among the bars of a straight tree, on tables: which bar saves most, to which side and how far it moves.
 //
 // A bar is told by the label of its points, one table of labels for each direction.
+#![tactic(auto)]
 pub mod search; // search.rt: the best move
 
 ghost use Rattle.std.specs.Prelude.{◌≡◌, ◌≤◌, replicate};
@@ -19,7 +20,7 @@ use slide::{Move, Side};
 use straight::{NUMBERS, POINTS};
 
 // The best move so far, and the label of its bar. With saving 0 there is none.
-#[derive(Drop)]
+#[derive(Clone, Copy)]
 pub struct Best {
     pub label: usize,
     pub best: Move,

@@ -2,6 +2,7 @@
 //
 // Roots and parents with the tree's own vertices as sources: the root of a vertex beside the tree is the tree point v that it is joined to,
 // and its way to the root is the way that is laid.
+#![tactic(auto)]
 ghost use Rattle.std.specs.Prelude.{◌≡◌, true, List, ℕ, ◌*◌, ◌≤◌, ◌<◌, length, get_or};
 ghost use Rattle.plane.specs.Flat.{place_at, macros_of};
 ghost use Rattle.plane.specs.Rank.{InOrder};
@@ -30,7 +31,7 @@ pub const VERTEX_NUMBERS: usize = VERTICES * 2;
 
 // The candidate that a round takes: on the tree its point is the number of a tree point, beside it that of a vertex. With gain 0 there is
 // none.
-#[derive(Drop)]
+#[derive(Clone, Copy)]
 pub struct Choice {
     pub beside: bool,
     pub gain: u64,

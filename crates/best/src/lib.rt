@@ -1,4 +1,5 @@
 // The best tree of a net of up to five pins: read back from the rows of its table, and given; the table is cleared.
+#![tactic(auto)]
 ghost use Rattle.std.specs.Prelude.{◌≡◌, ◌+◌, ◌*◌, ◌-◌, ◌^◌, ◌≤◌, ◌<◌, length, get_or, replicate};
 ghost use Rattle.joined.specs.Cost.{lengths};
 ghost use Rattle.lent.specs.Over.{over};
@@ -19,7 +20,7 @@ use lines::{Axis, Grid};
 use plane::Weights;
 
 // How many edges a best tree has, what they cost and the metal to lay. The bounds of a net that gets one are named here.
-#[derive(Drop)]
+#[derive(Clone, Copy)]
 pub struct Best {
     pub edges: usize,
     pub total: u64,

@@ -1,5 +1,6 @@
 // What a round leaves of the bounds of edges: which numbers the points of the tree before have in the tree of now, whether no longest edge
 // between two of them has become longer, and the bounds of the edges that are still there.
+#![tactic(auto)]
 ghost use Rattle.std.specs.Prelude.{◌≡◌, true, List, ℕ, ◌≤◌, ◌<◌, length, get_or};
 ghost use Rattle.plane.specs.Cost.{cost};
 ghost use Rattle.plane.specs.Flat.{place_at, macros_of};
@@ -16,7 +17,7 @@ use tree::{NUMBERS, POINTS};
 
 // The points of the tree before, found among those of now: whether all of them are, with one further point at most, and that point's
 // number; n, where there is none.
-#[derive(Drop)]
+#[derive(Clone, Copy)]
 pub struct Found {
     pub all: bool,
     pub fresh: usize,

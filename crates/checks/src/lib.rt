@@ -1,4 +1,5 @@
 // The check of a net: each test of crate net over the whole net, in the order of the rules.
+#![tactic(auto)]
 ghost use Rattle.std.specs.Prelude.{◌≡◌, drop};
 ghost use Rattle.lists.specs.Any.{any, any_two};
 ghost use Rattle.plane.specs.Place.{same_place};
@@ -12,7 +13,7 @@ use net::{Net, Refusal, Weighing};
 use plane::Place;
 
 // The answer of the check.
-#[derive(Drop)]
+#[derive(Clone, Copy)]
 pub enum Checked {
     Allowed(Net),
     Refused(Refusal),

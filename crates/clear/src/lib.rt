@@ -1,5 +1,6 @@
 // What is clear of macros: whether a closed box, or another interior, meets a macro's interior, and whether two places are clear of each
 // other among the macros of a flat list.
+#![tactic(auto)]
 ghost use Rattle.std.specs.Prelude.{◌≡◌, true, ◌+◌, ◌*◌, ◌≤◌, length};
 ghost use Rattle.lists.specs.Any.{any};
 ghost use Rattle.plane.specs.Macro.{span_meets, meets, open_spans_meet, interiors_meet, clear};
@@ -51,7 +52,7 @@ pub fn interiors_meet(m: Macro, n: Macro) -> bool
 }
 
 // Whether two places are clear of each other, and the macro to ask first the next time: the one that blocks, if one does.
-#[derive(Drop)]
+#[derive(Clone, Copy)]
 pub struct Sight {
     pub free: bool,
     pub by: usize,

@@ -1,4 +1,5 @@
 // The Elmore delay from a driver to each pin of a tree.
+#![tactic(auto)]
 pub mod loads; // loads.rt: the pins among a tree's points, and their loads
 
 ghost use Rattle.std.specs.Prelude.{◌≡◌, ◌≤◌, ◌<◌, length};
@@ -15,7 +16,7 @@ use plane::Place;
 use tree::{NUMBERS, POINTS, Size};
 
 // The answer: how many delays were given, or why none.
-#[derive(Drop)]
+#[derive(Clone, Copy)]
 pub enum Delayed {
     Given(usize),
     Refused(Refusal),

@@ -1,4 +1,5 @@
 // Capacitance and delay, down the rooted tree.
+#![tactic(auto)]
 mod child; // child.rt: the children of a point
 
 ghost use Rattle.std.specs.Prelude.{◌≡◌, ◌<◌, ◌≤◌};
@@ -13,7 +14,7 @@ use floats::Technology;
 use tree::{NUMBERS, POINTS};
 
 // A point on the way down the rooted tree: its parent, its number, and how many steps further down there may be points.
-#[derive(Drop)]
+#[derive(Clone, Copy)]
 pub struct Visit {
     pub up: usize,
     pub point: usize,

@@ -1,6 +1,7 @@
 // The router's operations for C: the static library. A slice passes as a pointer and a length, the weights as a number each. The caller
 // sees to it that each pointer has that length behind it, and that what is lent to be written overlaps nothing else that is handed over.
 // Each contract names one record of specs/Handed.antt: the code, each lent list and each number that goes through a pointer.
+#![tactic(auto)]
 ghost use Rattle.std.specs.Prelude.{◌≡◌, pos, length};
 ghost use Rattle.lent.specs.Told.{code};
 ghost use Rattle.lent.specs.Entries.{flat};

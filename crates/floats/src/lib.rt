@@ -1,4 +1,5 @@
 // Floats tested, delays marked and given.
+#![tactic(auto)]
 ghost use Rattle.std.specs.Prelude.{◌≡◌, ◌&&◌, [], ◌∷◌, ◌+◌, ◌≤◌, ◌<◌, length, get_or};
 ghost use Rattle.std.proofs.lemmas.List.Edits.{sets};
 ghost use Rattle.std.specs.Float.{nan};
@@ -11,14 +12,14 @@ ghost use Rattle.floats.specs.Mark.{marked, is_mark, finites, fair, usable, is_p
 use tree::POINTS;
 
 // A technology: resistance and capacitance for each unit of length.
-#[derive(Drop)]
+#[derive(Clone, Copy)]
 pub struct Technology {
     pub resistance: f64,
     pub capacitance: f64,
 }
 
 // The delay to a pin, or the mark that it is not finite.
-#[derive(Drop)]
+#[derive(Clone, Copy)]
 pub enum Delay {
     Finite(f64),
     NotFinite,

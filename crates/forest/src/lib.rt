@@ -1,5 +1,6 @@
 // Roots, parents and ways of a graph on tables: a vertex is its number in the order of places, an edge its number in the order of edges.
 // Edge k joins the vertices ea[k] and eb[k] and is el[k] long, which is what it costs. What each table holds stands in specs/.
+#![tactic(auto)]
 ghost use Rattle.std.specs.Prelude.{◌≡◌, ◌||◌, ◌+◌, ◌≤◌, ◌<◌, get_or};
 ghost use Rattle.forest.specs.Bounds.{point_bound, cost_bound};
 ghost use Rattle.forest.specs.Edges.{graph, from, entries, Fits, FirstBelow};
@@ -17,7 +18,7 @@ pub const EDGES: usize = Net::EDGES;
 pub const UNREACHED: u64 = Net::POINTS as u64 * Net::COST;
 
 // A step from a vertex to a neighbour, and the edge over which it goes.
-#[derive(Drop)]
+#[derive(Clone, Copy)]
 pub struct Step {
     pub to: usize,
     pub via: usize,

@@ -1,4 +1,5 @@
 // What hangs from a bar.
+#![tactic(auto)]
 ghost use Rattle.std.specs.Prelude.{◌≡◌, true, ◌+◌, ◌^◌, ◌≤◌, ◌<◌, get_or, replicate};
 ghost use Rattle.straight.specs.Table.{straight_bound, key_bound, Small};
 ghost use Rattle.turned.specs.Steps.{Numbers};
@@ -11,7 +12,7 @@ use straight::{NUMBERS, POINTS};
 use turned::Seen;
 
 // What hangs from a bar: how many edges on the side and on the other, and how long the shortest on the side is.
-#[derive(Drop)]
+#[derive(Clone, Copy)]
 pub struct Hang {
     pub ahead: usize,
     pub behind: usize,

@@ -70,10 +70,13 @@ module _ {A B : Type 0} {f : A → B} {g : B → A} {X : A → Type 0} {L : List
   same_point a b i k e = sym (c.undone a i) ∙ ap g e ∙ c.undone b k
 
   -- a way from such a point stays with them
+  way-stays : (z : A) {x y : A} {ps : List A} → X x → Way L x ps y → z ∈ (x ∷ ps) → X z
+  way-stays z i w (here e) = subst X (sym e) i
+  way-stays z i (stop e) (there m) = elim m [ ]
+  way-stays z i (go l w) (there m) = way-stays z (link-in l).1 w m
+
   pub way_in : {x y : A} {ps : List A} → X x → Way L x ps y → (z : A) → z ∈ (x ∷ ps) → X z
-  way_in i w z (here e) = subst X (sym e) i
-  way_in i (stop e) z (there m) = elim m [ ]
-  way_in i (go l w) z (there m) = way_in (link-in l).1 w z m
+  way_in i w z m = way-stays z i w m
 
   pub long-carried : (d : A → A → ℕ) (e : B → B → ℕ) → ((a b : A) → X a → X b → d a b ≡ e (f a) (f b)) →
       {x y : A} {ps : List A} → Way L x ps y → long d x ps ≡ long e (f x) (map f ps)

@@ -92,7 +92,8 @@ module _ {A B : Type 0} (ends : B → A × A) where
     passes-chain : {b : B} {x y z : A} {bs : List B} {ps : List A} → Reads ends b x y → Passes J y bs ps z → Chain ends x (b ∷ bs) z
     passes-chain (inl r) (done e) = last (inl (r.0, sym e ∙ r.1))
     passes-chain (inr r) (done e) = last (inr (r.0, sym e ∙ r.1))
-    passes-chain r (pass m k w) = next r (passes-chain k w)
+    passes-chain {b = b} {x = x} r (pass {b = b'} {bs = bs} {x = x'} {y = y} {z = z} {ps = ps} m k w) =
+        next r (passes-chain {b = b'} k w)
 
     -- No path twice
 

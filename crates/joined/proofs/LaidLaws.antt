@@ -33,6 +33,7 @@ module _ {A : Type 0} (same : Discrete A) (s : A) where
   laid_none = refl
 
   pub laid-joined : (l : List A) (x : A) → x ∈ l → Joined (laid same s l) s x
+  laid-joined [] x m = elim m [ ]
   laid-joined (y ∷ l) x m = at (laid-joined l x) (lays y l) (Memᴰ.cases_cons m)
     where
       at : (x ∈ l → Joined (laid same s l) s x) → Lays y l → (x ≡ y) ⊎ (x ∈ l) → Joined (laid same s (y ∷ l)) s x
@@ -63,6 +64,7 @@ module _ {A : Type 0} (same : Discrete A) (s : A) where
       at ih (pair e r) = ap length r ∙ ap suc ih
 
   pub length-laid-old : (l : List A) → s ∈ l → Once l → suc (length (laid same s l)) ≡ length l
+  length-laid-old [] m o = elim m [ ]
   length-laid-old (x ∷ l) m o = at (λ i. length-laid-old l i o.1) (lays x l)
     where
       at : (s ∈ l → suc (length (laid same s l)) ≡ length l) → Lays x l → suc (length (laid same s (x ∷ l))) ≡ suc (length l)

@@ -53,7 +53,7 @@ module _ {A : Type 0} where
     pub short : z ∈ (x ∷ free.points) → ⊥
 
   -- the start of a loop-free way, up to one of its points that is not the last
-  pub upto : {T : List (A × A)} {x y z : A} {ps : List A} → y ∈ (x ∷ ps) → Way T x ps z → Once (x ∷ ps) → (y ≡ z → ⊥) → Upto T x y z ps
+  pub upto : {T : List (A × A)} {y z x : A} {ps : List A} → y ∈ (x ∷ ps) → Way T x ps z → Once (x ∷ ps) → (y ≡ z → ⊥) → Upto T x y z ps
   upto {x = x} (here e) w o n = record {
     free = record { points = []; way = stop (sym e); once = (λ m. elim m [ ], tt) };
     part = λ p m. either (λ k. here k) (λ i. elim i [ ]) (Memᴰ.cases_cons m);

@@ -1,4 +1,5 @@
 // The kept bridges on tables, and the terminal tree of a graph on tables.
+#![tactic(auto)]
 ghost use Rattle.std.specs.Prelude.{◌≡◌, map, ◌+◌, ◌^◌, ◌≤◌, ◌<◌, length, get_or};
 ghost use Rattle.forest.specs.Bounds.{point_bound, edge_bound, path_bound};
 ghost use Rattle.forest.specs.Edges.{graph, entries, filled, Fits, Named, FirstBelow, Below, Listed};
@@ -12,7 +13,7 @@ ghost use Rattle.joined.specs.Table.{changed, kept_by};
 use forest::{EDGES, POINTS};
 
 // How many paths are kept, and the sum of their lengths.
-#[derive(Drop)]
+#[derive(Clone, Copy)]
 pub struct Kept {
     pub count: usize,
     pub total: u64,

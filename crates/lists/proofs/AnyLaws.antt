@@ -38,6 +38,7 @@ two-end f left e = rw e refl
 -- no entry passes: said of each member
 pub any_none : {A : Type 0} (f : A → Bool) (xs : List A) → any f xs ≡ false → (x : A) → Memᴰ x xs → f x ≡ false
 unfolding any
+any_none {A = A} f [] e x m = elim m [ ]
 any_none f (y ∷ ys) e x m =
     let r = or-none (f y) (any f ys) e in
     either (λ k. rw k r.0) (λ i. any_none f ys r.1 x i) (Memᴰ.cases_cons m)

@@ -30,6 +30,7 @@ module _ {A B : Type 0} (of : A → List B) (all : List A → List B)
       further p = record { entry = p.entry; stands = there p.stands; holds = p.holds }
 
   pub in-each : (l : List A) {a : A} {b : B} → a ∈ l → b ∈ of a → b ∈ all l
+  in-each [] {a = a} {b = b} m i = elim m [ ]
   in-each (c ∷ l) m i =
       rw more
       (either (λ e. Memᴰ.append_left (all l) (rw e at i)) (λ k. Memᴰ.append_right (of c) (in-each l k i)) (Memᴰ.cases_cons m))

@@ -88,6 +88,7 @@ module _ {A B : Type 0} where
   -- what stands in its image, and where that comes from
   pub map_in-has : (l : List A) (f : (x : A) → x ∈ l → B) (x : A) → x ∈ l → (y : A) × ((m : y ∈ l) × ((x ≡ y) × (f y m ∈ map_in l f)))
   unfolding map_in
+  map_in-has [] f x x3 = elim x3 [ ]
   map_in-has (y ∷ l) f x (here e) = (y, (here refl, (e, here refl)))
   map_in-has (y ∷ l) f x (there m) =
       let r = map_in-has l (λ z i. f z (there i)) x m in

@@ -55,6 +55,7 @@ module _ {A : Type 0} where
   once-head e o = (λ m. o.0 (Memᴰ.cast (sym e) m), o.1)
 
   pub once-apart : (l m : List A) → Once (l ++ m) → (x : A) → x ∈ l → x ∈ m → ⊥
+  once-apart [] m o x x5 k = elim x5 [ ]
   once-apart (y ∷ l) m o x (here e) k = o.0 (Memᴰ.append_right l (Memᴰ.cast (sym e) k))
   once-apart (y ∷ l) m o x (there i) k = once-apart l m o.1 x i k
 

@@ -25,6 +25,7 @@ module _ {A : Type 0} (f : A → Bool) where
   those-none = refl
 
   pub in-those : (l : List A) {x : A} → x ∈ l → f x ≡ true → x ∈ those f l
+  in-those [] {x = x} m e = elim m [ ]
   in-those (y ∷ l) {x} m e =
       by (f y)
       (λ h. rw (those-hit y l h) (either (λ k. here k) (λ i. there (in-those l i e)) (Memᴰ.cases_cons m)))
@@ -84,6 +85,7 @@ module _ {A : Type 0} (f g : A → Bool) where
       (l : List A) → ((x : A) → x ∈ l → f x ≡ true → g x ≡ true) →
       (y : A) → y ∈ l → f y ≡ false → g y ≡ true → length (those f l) < length (those g l)
   unfolding those
+  those-lt [] h y m e d = elim m [ ]
   those-lt (x ∷ l) h y m e d =
       let le = those-le l (λ z i. h z (there i)) in
       either

@@ -42,6 +42,7 @@ module _ {B : Type 0} (w : B → ℕ) where
 
   pub le-most : (l : List B) (e : B) → e ∈ l → w e ≤ most (map w l)
   unfolding most
+  le-most [] e m = elim m [ ]
   le-most (d ∷ l) e m =
       either (λ k. let h : w e ≡ w d = ap w k in omega arith) (λ i. omega (arith, le-most l e i)) (Memᴰ.cases_cons m)
 

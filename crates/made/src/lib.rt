@@ -1,5 +1,6 @@
 // The trees of an allowed net, each made in fresh tables: what the operations go on with once the check has passed. Each asks for what the
 // check has shown, and for the room that the operation has found.
+#![tactic(auto)]
 ghost use Rattle.std.specs.Prelude.{◌≡◌, ◌*◌, ◌≤◌, pos, length, replicate};
 ghost use Rattle.lent.specs.Over.{over};
 ghost use Rattle.lent.specs.Entries.{flat};
@@ -18,7 +19,7 @@ use terminal::{EDGE_NUMBERS, EDGES, POINTS, TerminalTree, VERTEX_NUMBERS};
 
 // What is known of both trees besides the refined tree's tables: how many points and edges these hold, their total, and the terminal
 // tree's.
-#[derive(Drop)]
+#[derive(Clone, Copy)]
 pub struct Trees {
     pub points: usize,
     pub edges: usize,

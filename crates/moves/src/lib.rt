@@ -1,6 +1,7 @@
 // What is asked of a bar that may move: its sides and what a unit costs there, whether a pin holds it, and which of two moves is better.
 //
 // A bar is told by the label of its points; a pin by its seat, the number of its point.
+#![tactic(auto)]
 ghost use Rattle.std.specs.Prelude.{◌≡◌, [], ◌^◌, ◌≤◌, ◌<◌};
 ghost use Rattle.plane.specs.Rank.{InOrder};
 ghost use Rattle.net.specs.Bounds.{pin_bound};

@@ -1,4 +1,5 @@
 // The net: its bounds, its pins read, and the tests of it, each of one entry or one count.
+#![tactic(auto)]
 ghost use Rattle.std.specs.Prelude.{false, ◌≡◌, ◌+◌, ◌*◌, ◌≤◌, ◌<◌, pos, length};
 ghost use Rattle.std.proofs.lemmas.List.Edits.{sets};
 ghost use Rattle.signed.specs.Sides.{up};
@@ -12,7 +13,7 @@ ghost use Rattle.net.specs.Tests.{pins_miscounted, macros_miscounted, out_of_ran
 use plane::{Macro, Place, Weights};
 
 // What the check finds of a net that is no list: its numbers of pins and of macros, and its weights. Its bounds are named here.
-#[derive(Drop)]
+#[derive(Clone, Copy)]
 pub struct Net {
     pub pins: usize,
     pub macros: usize,
@@ -54,14 +55,14 @@ impl Net {
 }
 
 // The two weights as a caller hands them over, with the lists: any two numbers. The first is that of x, the second that of y.
-#[derive(Drop)]
+#[derive(Clone, Copy)]
 pub struct Weighing {
     pub first: i32,
     pub second: i32,
 }
 
 // Why an operation refuses; `number` in specs/Answer.antt has the number of each (C1 to C41).
-#[derive(Drop)]
+#[derive(Clone, Copy)]
 pub enum Refusal {
     Blocks,
     Sums,

@@ -2,6 +2,7 @@
 //
 // The reader takes the lists out of a file into tables of its own, writes the file of these lists and of the head's weights beside it, and
 // compares: crate encoded has the file of a net, crate decoded what a file holds.
+#![tactic(auto)]
 ghost use Rattle.std.specs.Prelude.{false, ◌≡◌, ◌≤◌, length};
 ghost use Rattle.lent.specs.Over.{after};
 ghost use Rattle.net.specs.Net.{weights_of};
@@ -23,7 +24,7 @@ pub const PIN_LIST: usize = Net::PINS * Net::PIN_NUMBERS;
 pub const MACRO_LIST: usize = Net::MACROS * Net::MACRO_NUMBERS;
 
 // The answer of a write.
-#[derive(Drop)]
+#[derive(Clone, Copy)]
 pub enum Written {
     Bytes(usize),
     Refused(Refusal),

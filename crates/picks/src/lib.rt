@@ -1,4 +1,5 @@
 // Picks: what a vertex picks in each of its quadrants, by passes over the vertices in order.
+#![tactic(auto)]
 ghost use Rattle.std.specs.Prelude.{◌≡◌, ◌+◌, ◌/◌, ◌≤◌, ◌<◌, length};
 ghost use Rattle.lists.specs.Sorted.{Ascending};
 ghost use Rattle.plane.specs.Place.{before};
@@ -10,7 +11,7 @@ ghost use Rattle.picks.specs.Pass.{leads, best_of, is_next, if_clear, is_past, O
 use plane::{Place, Weights};
 
 // One of the four quadrants of a vertex.
-#[derive(Drop)]
+#[derive(Clone, Copy)]
 pub enum Quadrant {
     First,
     Second,
@@ -19,21 +20,21 @@ pub enum Quadrant {
 }
 
 // What a vertex picks in a quadrant.
-#[derive(Drop)]
+#[derive(Clone, Copy)]
 pub enum Picked {
     At(Place),
     Nothing,
 }
 
 // A vertex by its number, and what metal to it costs. For none, the number of all and a cost above every other.
-#[derive(Drop)]
+#[derive(Clone, Copy)]
 pub struct Near {
     pub at: usize,
     pub far: u64,
 }
 
 // The best so far of a pass, and the macro that blocked last.
-#[derive(Drop)]
+#[derive(Clone, Copy)]
 pub struct Standing {
     pub at: usize,
     pub far: u64,
@@ -41,7 +42,7 @@ pub struct Standing {
 }
 
 // What a vertex picks in two quadrants, by number; the number of all for none. A table of these stands on the stack, so they are narrow.
-#[derive(Drop)]
+#[derive(Clone, Copy)]
 pub struct TwoPicks {
     pub left: u16,
     pub right: u16,

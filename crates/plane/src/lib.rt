@@ -1,6 +1,7 @@
 // The plane: places, macros, and the cost of metal between two places.
 //
 // Coordinates are i32 and any value is taken; differences and sums of them are worked out in 64 bits, where none can overflow.
+#![tactic(auto)]
 ghost use Rattle.std.specs.Prelude.{◌≡◌, ◌+◌, ◌*◌, ◌≤◌, ◌^◌, ◌<◌, pos, ◌-ℤ◌, nat_abs, length};
 ghost use Rattle.std.proofs.lemmas.List.Edits.{sets};
 ghost use Rattle.plane.specs.Place.{before, same_place};
@@ -13,14 +14,14 @@ ghost use Rattle.signed.specs.Order.{z_min, z_max};
 ghost use Rattle.signed.specs.Sides.{down};
 
 // A place of the plane.
-#[derive(Drop)]
+#[derive(Clone, Copy)]
 pub struct Place {
     pub x: i32,
     pub y: i32,
 }
 
 // An upright rectangle.
-#[derive(Drop)]
+#[derive(Clone, Copy)]
 pub struct Macro {
     pub left: i32,
     pub bottom: i32,
@@ -29,7 +30,7 @@ pub struct Macro {
 }
 
 // What a unit of metal costs along each axis: a byte each, so that no cost of 32-bit places can overflow 64 bits.
-#[derive(Drop)]
+#[derive(Clone, Copy)]
 pub struct Weights {
     pub across: u8,
     pub along: u8,

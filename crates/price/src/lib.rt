@@ -1,5 +1,6 @@
 // The price of metal by the list of bands that a bureau lends, once the list is tested: whoever has it refuses 31 and 37 before there is
 // metal to charge for.
+#![tactic(auto)]
 ghost use Rattle.std.specs.Prelude.{◌≡◌, false, ◌≤◌};
 ghost use Rattle.lists.specs.Any.{any};
 ghost use Rattle.bands.specs.Band.{bands_of};
@@ -14,7 +15,7 @@ use net::Refusal;
 const UNITS: u64 = 1000;
 
 // The answer of a price: the charge, in hundredths of the currency.
-#[derive(Drop)]
+#[derive(Clone, Copy)]
 pub enum Priced {
     Charged(u64),
     Refused(Refusal),

@@ -1,4 +1,5 @@
 // How far a bar may move.
+#![tactic(auto)]
 ghost use Rattle.std.specs.Prelude.{◌≡◌, ◌≤◌};
 ghost use Rattle.straight.specs.Table.{straight_bound, Small};
 ghost use Rattle.turned.specs.Turned.{face};
@@ -13,7 +14,7 @@ use turned::{Seen, Spot};
 
 // A bar that may move to a side: the label of its points, its first and last spot, the shortest edge ahead, and where the box that it
 // sweeps by that much ends.
-#[derive(Drop)]
+#[derive(Clone, Copy)]
 pub struct Bar {
     pub side: Side,
     pub label: usize,
@@ -24,14 +25,14 @@ pub struct Bar {
 }
 
 // The way of a bar: where it meets the first thing, and whether nothing bars it as far as the shortest edge.
-#[derive(Drop)]
+#[derive(Clone, Copy)]
 pub struct Way {
     pub stop: u64,
     pub free: bool,
 }
 
 // How many points, edges and pins there are, and the weights.
-#[derive(Drop)]
+#[derive(Clone, Copy)]
 pub struct Size {
     pub points: usize,
     pub edges: usize,

@@ -2,6 +2,7 @@
 //
 // A point is its number in the table of points, which is in the order of places; an edge is the key of its ends' numbers, in a table in the
 // order of edges. So every tie is settled by scanning upwards and giving way only to what is strictly better.
+#![tactic(auto)]
 mod graft; // graft.rt: a way to a vertex beside the tree, laid
 mod round; // round.rt: a round
 
@@ -27,7 +28,7 @@ pub const EDGES: usize = forest::EDGES;
 
 // A tree while a way is laid: how many points and edges it has, the last point that was put in, and the two edges that the exchange will
 // take out, by their numbers.
-#[derive(Drop)]
+#[derive(Clone, Copy)]
 pub struct Growth {
     pub points: usize,
     pub edges: usize,
@@ -37,7 +38,7 @@ pub struct Growth {
 }
 
 // What a round did: whether a candidate gained, and how many points and edges there are then.
-#[derive(Drop)]
+#[derive(Clone, Copy)]
 pub struct Turn {
     pub moved: bool,
     pub points: usize,
@@ -45,7 +46,7 @@ pub struct Turn {
 }
 
 // A refined tree: how many points and edges it has, and what its edges cost together.
-#[derive(Drop)]
+#[derive(Clone, Copy)]
 pub struct Refined {
     pub points: usize,
     pub edges: usize,

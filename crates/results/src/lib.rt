@@ -1,5 +1,6 @@
 // What an allowed net is given: its graph, the refined tree's edges and its wires, and a price. Each asks for what the check has shown, and
 // for the room that the operation has found.
+#![tactic(auto)]
 ghost use Rattle.std.specs.Prelude.{◌≡◌, ◌≤◌, length};
 ghost use Rattle.lent.specs.Over.{over};
 ghost use Rattle.lent.specs.Entries.{flat};
@@ -19,14 +20,14 @@ use net::{Net, Refusal};
 use price::Priced;
 
 // How many vertices and how many edges of a graph were given.
-#[derive(Drop)]
+#[derive(Clone, Copy)]
 pub struct Spanned {
     pub vertices: usize,
     pub edges: usize,
 }
 
 // How many edges of a refined tree were given, their total, their metal, and the terminal tree's total.
-#[derive(Drop)]
+#[derive(Clone, Copy)]
 pub struct Laid {
     pub edges: usize,
     pub total: u64,

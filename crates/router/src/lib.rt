@@ -4,6 +4,7 @@
 // The contract of one that is lent space names one record (specs/Call.antt): the answer, as the rules have it, and what each lent list then
 // holds, refused calls too. Those of check, price and check_tree, which are lent none, are one equation each.
 // What the trees that are given are, and what is promised of them, is `Promised` (promises/specs/Published.antt).
+#![tactic(auto)]
 mod allowed; // allowed.rt: what goes on once the check has passed
 
 ghost use Rattle.std.specs.Prelude.{◌≡◌};
@@ -35,49 +36,49 @@ use plane::Place;
 use price::Priced;
 
 // The answer of a graph: how many vertices and how many edges were given.
-#[derive(Drop)]
+#[derive(Clone, Copy)]
 pub enum Graphed {
     Given(usize, usize),
     Refused(Refusal),
 }
 
 // The answer of a terminal tree: how many paths were given, and their total.
-#[derive(Drop)]
+#[derive(Clone, Copy)]
 pub enum TerminalAnswer {
     Given(usize, i64),
     Refused(Refusal),
 }
 
 // The answer of a refined tree, of a slid tree and of a best tree: how many edges were given, their total, and the metal to lay.
-#[derive(Drop)]
+#[derive(Clone, Copy)]
 pub enum TreeAnswer {
     Given(usize, i64, i64),
     Refused(Refusal),
 }
 
 // The answer of both trees: how many edges of the refined tree were given, the terminal tree's total, the refined tree's, and the metal.
-#[derive(Drop)]
+#[derive(Clone, Copy)]
 pub enum BothAnswer {
     Given(usize, i64, i64, i64),
     Refused(Refusal),
 }
 
 // The answer of wires: how many were given.
-#[derive(Drop)]
+#[derive(Clone, Copy)]
 pub enum Wired {
     Given(usize),
     Refused(Refusal),
 }
 
 // The answer of distances on the grid: how many numbers were given.
-#[derive(Drop)]
+#[derive(Clone, Copy)]
 pub enum DistanceAnswer {
     Given(usize),
     Refused(Refusal),
 }
 
 // The answer of a lower bound: the bound, in cost.
-#[derive(Drop)]
+#[derive(Clone, Copy)]
 pub enum BoundAnswer {
     Given(u64),
     Refused(Refusal),

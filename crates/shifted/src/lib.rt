@@ -1,4 +1,5 @@
 // A bar moved: the edges of a tree after the move, from its tables into a flat list.
+#![tactic(auto)]
 mod place; // place.rt: places moved
 
 ghost use Rattle.std.specs.Prelude.{◌≡◌, ◌+◌, ◌*◌, ◌≤◌, ◌<◌, length, get_or};
@@ -13,7 +14,7 @@ use slide::Side;
 use straight::{NUMBERS, POINTS};
 
 // A bar's move: the label of its points, the side and how far.
-#[derive(Drop)]
+#[derive(Clone, Copy)]
 pub struct Shift {
     pub label: usize,
     pub side: Side,

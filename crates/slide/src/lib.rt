@@ -1,8 +1,9 @@
 // The slid tree: definitions and theorems over places and edges. There is no code here but the words that definitions and code share.
+#![tactic(auto)]
 use plane::Place;
 
 // The side to which a bar moves: a horizontal one up or down, a vertical one right or left.
-#[derive(Drop)]
+#[derive(Clone, Copy)]
 pub enum Side {
     Above,
     Below,
@@ -11,7 +12,7 @@ pub enum Side {
 }
 
 // What a bar would save by moving to a side, and how far it moves; its first place tells it among the bars of one direction.
-#[derive(Drop)]
+#[derive(Clone, Copy)]
 pub struct Move {
     pub saving: u64,
     pub first: Place,

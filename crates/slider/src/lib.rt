@@ -1,4 +1,5 @@
 // The slid tree: bends, then rounds, each of which makes the best move of all bars and tables afresh.
+#![tactic(auto)]
 mod round; // round.rt: a round, and rounds until one saves nothing
 
 ghost use Rattle.std.specs.Prelude.{◌≡◌, ◌*◌, length};
@@ -12,7 +13,7 @@ use plane::Weights;
 use straight::EDGE_NUMBERS;
 
 // What a round came to: whether a bar moved, and how many edges there are.
-#[derive(Drop)]
+#[derive(Clone, Copy)]
 pub struct Turn {
     pub moved: bool,
     pub edges: usize,

@@ -1,5 +1,6 @@
 // The text that the program `route` prints, put into a lent buffer piece by piece: each function takes the byte at which its piece begins
 // and gives the one after it. A number takes at most 20 bytes, and with what stands behind it 21; a line of five numbers at most 105.
+#![tactic(auto)]
 ghost use Rattle.std.specs.Prelude.{◌≡◌, [], ◌∷◌, ◌++◌, ◌+◌, ◌*◌, ◌≤◌, pos, nat_abs, length};
 ghost use Rattle.lent.specs.Entries.{flat, entries};
 ghost use Rattle.plane.specs.Cost.{cost};
@@ -20,7 +21,7 @@ ghost use Rattle.text.specs.Put.{Put, Filled};
 use plane::{Place, Weights};
 
 // What the first line says: m, k, the totals of both trees, and the metal to lay.
-#[derive(Drop)]
+#[derive(Clone, Copy)]
 pub struct Header {
     pub pins: usize,
     pub macros: usize,

@@ -1,5 +1,6 @@
 // The tables of a tree, which union, refiner and refined share: its points in the order of places, two numbers each, and its edges as keys
 // of their ends' numbers, in the order of edges.
+#![tactic(auto)]
 ghost use Rattle.std.specs.Prelude.{◌≡◌, ◌<◌};
 ghost use Rattle.plane.specs.Flat.{place_at};
 ghost use Rattle.tree.specs.Table.{tree_bound, set_point};
@@ -13,7 +14,7 @@ pub const POINTS: usize = Net::TREE_POINTS;
 pub const NUMBERS: usize = POINTS * 2;
 
 // How many points and edges a tree has.
-#[derive(Drop)]
+#[derive(Clone, Copy)]
 pub struct Size {
     pub points: usize,
     pub edges: usize,

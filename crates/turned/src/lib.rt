@@ -1,5 +1,6 @@
 // Places and macros turned as a bar has them that moves to a side: a bar's line is the first number and the side to which it moves the
 // second, both raised above zero. What follows is said for one direction.
+#![tactic(auto)]
 ghost use Rattle.std.specs.Prelude.{◌≡◌, ◌-◌, ◌^◌, ◌≤◌, ◌<◌, min, max, pos, ◌-ℤ◌, get_or, []};
 ghost use Rattle.plane.specs.Flat.{place_at};
 ghost use Rattle.straight.specs.Table.{straight_bound, key_bound};
@@ -10,14 +11,14 @@ use slide::Side;
 use straight::{NUMBERS, POINTS};
 
 // A place as a bar has it that moves to a side: along its line, and across it, rising towards the side.
-#[derive(Drop)]
+#[derive(Clone, Copy)]
 pub struct Spot {
     pub along: u64,
     pub across: u64,
 }
 
 // A macro so: from where to where along the bar's line, and its near and far sides across it.
-#[derive(Drop)]
+#[derive(Clone, Copy)]
 pub struct Face {
     pub starts: u64,
     pub finishes: u64,
@@ -26,7 +27,7 @@ pub struct Face {
 }
 
 // An edge as a bar has it, or a point as the edge of it and itself: which ends are on the bar, and their spots.
-#[derive(Drop)]
+#[derive(Clone, Copy)]
 pub struct Seen {
     pub first: bool,
     pub second: bool,

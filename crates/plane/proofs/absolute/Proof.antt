@@ -7,17 +7,17 @@ use Rattle.plane.proofs.DistanceLaws.{turned, turned-fits, unturned}
 use Rattle.plane.proofs.absolute.Statement.{statement}
 use Rattle.plane.proofs.absolute.Tie as tie
 
-sub-result : tie.Need-overflow-sub-result
+sub-result : tie.Need-overflow_sub-result
 sub-result c = rw (to_z-of_z w64 _ c.before.ranges.d) (turned-fits c.before.args.d c.before.ranges.d c.before.requires)
 
-returns : tie.Need-returns
+returns : tie.Need-returns-then-d-lt0
 returns c =
     to_z-of_z w64 _ (sub-result c)
-    ∙ rw (to_z-of_z w64 _ c.before.ranges.d) (turned c.before.args.d (rw (to_z-of_z w64 _ c.before.ranges.d) at c.if1.true))
+    ∙ rw (to_z-of_z w64 _ c.before.ranges.d) (turned c.before.args.d (rw (to_z-of_z w64 _ c.before.ranges.d) at c.if-d-lt0.true))
 
-returns-2 : tie.Need-returns-2
+returns-2 : tie.Need-returns-else-d-lt0
 returns-2 c =
-    to_z-of_z w64 _ c.before.ranges.d ∙ unturned c.before.args.d (rw (to_z-of_z w64 _ c.before.ranges.d) at c.if1.false)
+    to_z-of_z w64 _ c.before.ranges.d ∙ unturned c.before.args.d (rw (to_z-of_z w64 _ c.before.ranges.d) at c.if-d-lt0.false)
 
-pub absolute-spec : {M : Type 1} → statement M
-absolute-spec = tie.close (tie.spec sub-result returns returns-2)
+pub absolute_spec : {M : Type 1} → statement M
+absolute_spec = tie.close (tie.spec sub-result returns returns-2)

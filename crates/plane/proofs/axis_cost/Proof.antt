@@ -14,5 +14,5 @@ small s = product-fits _ _ s.requires (search rules)
 returns : tie.Need-returns
 returns c = (refl, small c)
 
-pub axis-cost-spec : {M : Type 1} → statement M
-axis-cost-spec = tie.close (tie.spec (λ c. omega (arith, small c)) returns)
+pub axis_cost_spec : {M : Type 1} → statement M
+axis_cost_spec = tie.close (tie.spec (λ c. omega (arith, small c)) returns)

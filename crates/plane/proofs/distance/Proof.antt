@@ -23,15 +23,15 @@ across c =
     let s = c.before.before.before in
     rw (to_z-of_z w32 _ (of-a s).x, to_z-of_z w32 _ (of-b s).x) at c.gap.ensures.0
 
-along : (c : tie.After-gap2) → c.gap2.result
+along : (c : tie.After-gap-2) → c.gap-2.result
     ≡ apart c.before.before.before.before.before.before.args.a.y c.before.before.before.before.before.before.args.b.y
 along c =
     let s = c.before.before.before.before.before.before in
-    rw (to_z-of_z w32 _ (of-a s).y, to_z-of_z w32 _ (of-b s).y) at c.gap2.ensures.0
+    rw (to_z-of_z w32 _ (of-a s).y, to_z-of_z w32 _ (of-b s).y) at c.gap-2.ensures.0
 
 returns : tie.Need-returns
 unfolding distance
 returns c = ap₂ ◌+◌ (across c.before.before.before) (along c)
 
-pub distance-spec : {M : Type 1} → statement M
-distance-spec = tie.close (tie.spec (λ c κs. search rules) (λ c κs. search rules) (λ c. search rules) returns)
+pub distance_spec : {M : Type 1} → statement M
+distance_spec = tie.close (tie.spec (λ c κs. search rules) (λ c κs. search rules) (λ c. search rules) returns)

@@ -31,7 +31,7 @@ absolute-back c =
     ∙ c.absolute.ensures
     ∙ ap (λ (d : ℤ). pos (nat_abs d)) (read_back c.before)
 
-cast-result : tie.Need-overflow-cast-result
+cast-result : tie.Need-overflow_cast-result
 cast-result c =
     let fits : SFits w64 c.absolute.result = search rules in
     (rw (absolute-back c) tt, rw (to_z-of_z w64 _ fits) (Fits-nat_abs {w = w64} {z = c.absolute.result} tt fits))
@@ -42,5 +42,5 @@ returns c =
     let d = ap nat_abs (absolute-back c) in
     (d, rw d (apart_fits _ _ s.ranges.a s.ranges.b))
 
-pub gap-spec : {M : Type 1} → statement M
-gap-spec = tie.close (tie.spec (λ c κs. search rules) absolute-requires cast-result returns)
+pub gap_spec : {M : Type 1} → statement M
+gap_spec = tie.close (tie.spec (λ c κs. search rules) absolute-requires cast-result returns)

@@ -8,17 +8,17 @@ use Rattle.signed.specs.Order.{z_max}
 use Rattle.plane.proofs.greater.Statement.{statement}
 use Rattle.plane.proofs.greater.Tie as tie
 
-returns : tie.Need-returns
+returns : tie.Need-returns-then-a-b
 unfolding z_max
 returns c =
     let s = c.before in
-    to_z-of_z w32 _ s.ranges.b ∙ rw (flag-le w32 _ _ s.ranges.a s.ranges.b c.if1.true)
+    to_z-of_z w32 _ s.ranges.b ∙ rw (flag-le w32 _ _ s.ranges.a s.ranges.b c.if-a-b.true)
 
-returns-2 : tie.Need-returns-2
+returns-2 : tie.Need-returns-else-a-b
 unfolding z_max
 returns-2 c =
     let s = c.before in
-    to_z-of_z w32 _ s.ranges.a ∙ rw (flag-le w32 _ _ s.ranges.a s.ranges.b c.if1.false)
+    to_z-of_z w32 _ s.ranges.a ∙ rw (flag-le w32 _ _ s.ranges.a s.ranges.b c.if-a-b.false)
 
-pub greater-spec : {M : Type 1} → statement M
-greater-spec = tie.close (tie.spec returns returns-2)
+pub greater_spec : {M : Type 1} → statement M
+greater_spec = tie.close (tie.spec returns returns-2)

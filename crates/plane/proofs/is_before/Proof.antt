@@ -25,23 +25,23 @@ less s e = flag-lt w32 _ _ (of-a s).x (of-b s).x e
 more : (s : tie.Start) {t : Bool} → lt_z (to_z w32 (of_z w32 s.args.b.x)) (to_z w32 (of_z w32 s.args.a.x)) ≡ t → lt_z s.args.b.x s.args.a.x ≡ t
 more s e = flag-lt w32 _ _ (of-b s).x (of-a s).x e
 
-returns : tie.Need-returns
+returns : tie.Need-returns-then-a-b
 unfolding before
-returns c = rw (less c.before.before.before.before.before c.if1.true) refl
+returns c = rw (less c.before.before.before.before.before c.if-a-b.true) refl
 
-returns-2 : tie.Need-returns-2
+returns-2 : tie.Need-returns-then-b-a
 unfolding before
 returns-2 c =
     let d = c.before.before.before.before.before in
-    rw (less d.before.before.before.before.before d.if1.false, more d.before.before.before.before.before c.if2.true) refl
+    rw (less d.before.before.before.before.before d.if-a-b.false, more d.before.before.before.before.before c.if-b-a.true) refl
 
-returns-3 : tie.Need-returns-3
+returns-3 : tie.Need-returns
 unfolding before
 returns-3 c =
     let e = c.before.before.before.before in
     let d = e.before.before.before.before.before in
     let s = d.before.before.before.before.before in
-    rw (less s d.if1.false, more s e.if2.false, to_z-of_z w32 _ (of-a s).y, to_z-of_z w32 _ (of-b s).y) refl
+    rw (less s d.if-a-b.false, more s e.if-b-a.false, to_z-of_z w32 _ (of-a s).y, to_z-of_z w32 _ (of-b s).y) refl
 
-pub is-before-spec : {M : Type 1} → statement M
-is-before-spec = tie.close (tie.spec returns returns-2 returns-3)
+pub is_before_spec : {M : Type 1} → statement M
+is_before_spec = tie.close (tie.spec returns returns-2 returns-3)

@@ -21,20 +21,20 @@ high c =
 high_fits : (c : tie.After-greater) → SFits w32 c.greater.result
 high_fits c = search rules
 
-capped : (c : tie.After-smaller2) → c.smaller2.result ≡ z_min (z_max c.before.before.before.args.a c.before.before.before.args.b) c.before.before.before.args.c
+capped : (c : tie.After-smaller-2) → c.smaller-2.result ≡ z_min (z_max c.before.before.before.args.a c.before.before.before.args.b) c.before.before.before.args.c
 capped c =
     let s = c.before.before.before in
-    rw (to_z-of_z w32 _ (high_fits c.before), to_z-of_z w32 _ s.ranges.c, high c.before) at c.smaller2.ensures
+    rw (to_z-of_z w32 _ (high_fits c.before), to_z-of_z w32 _ s.ranges.c, high c.before) at c.smaller-2.ensures
 
 returns : tie.Need-returns
 unfolding middle
 returns c =
     let l : SFits w32 c.before.before.before.smaller.result = search rules in
-    let h : SFits w32 c.before.smaller2.result = search rules in
+    let h : SFits w32 c.before.smaller-2.result = search rules in
     to_z-of_z w32 _ (search rules)
-    ∙ (rw (to_z-of_z w32 _ l, to_z-of_z w32 _ h, low c.before.before.before, capped c.before) at c.greater2.ensures)
+    ∙ (rw (to_z-of_z w32 _ l, to_z-of_z w32 _ h, low c.before.before.before, capped c.before) at c.greater-2.ensures)
 
-pub median-spec : {M : Type 1} → statement M
-median-spec =
+pub median_spec : {M : Type 1} → statement M
+median_spec =
     tie.close
     (tie.spec (λ c κs. search rules) (λ c κs. search rules) (λ c κs. search rules) (λ c κs. search rules) returns)

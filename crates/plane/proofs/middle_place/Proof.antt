@@ -28,7 +28,7 @@ returns c =
     let s = d.before.before.before.before in
     ap₂ place
     (to_z-of_z w32 _ (search rules) ∙ (rw (to_z-of_z w32 _ (of-a s).x, to_z-of_z w32 _ (of-b s).x, to_z-of_z w32 _ (of-u s).x) at d.median.ensures))
-    (to_z-of_z w32 _ (search rules) ∙ (rw (to_z-of_z w32 _ (of-a s).y, to_z-of_z w32 _ (of-b s).y, to_z-of_z w32 _ (of-u s).y) at c.median2.ensures))
+    (to_z-of_z w32 _ (search rules) ∙ (rw (to_z-of_z w32 _ (of-a s).y, to_z-of_z w32 _ (of-b s).y, to_z-of_z w32 _ (of-u s).y) at c.median-2.ensures))
 
-pub middle-place-spec : {M : Type 1} → statement M
-middle-place-spec = tie.close (tie.spec (λ c κs. search rules) (λ c κs. search rules) returns)
+pub middle_place_spec : {M : Type 1} → statement M
+middle_place_spec = tie.close (tie.spec (λ c κs. search rules) (λ c κs. search rules) returns)
