@@ -90,6 +90,7 @@ pub enum Refusal {
 }
 
 impl Refusal {
+    #[tactic(auto, unfolding(crate::specs::Answer::number))]
     pub fn number(self) -> i32
         ensures { result ≡ pos (number self) }
     {

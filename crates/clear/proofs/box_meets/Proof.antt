@@ -19,26 +19,26 @@ module _ (s : tie.Start) where
   of-m : MacroFits s.args.m
   of-m = record { left = search rules; bottom = search rules; right = search rules; top = search rules }
 
-across : (c : tie.After-span-meets) → let s = c.before.before.before.before.before in
-    c.span-meets.result ≡ span_meets s.args.a.x s.args.b.x s.args.m.left s.args.m.right
+across : (c : tie.After-span_meets) → let s = c.before.before.before.before.before in
+    c.span_meets.result ≡ span_meets s.args.a.x s.args.b.x s.args.m.left s.args.m.right
 across c =
     let s = c.before.before.before.before.before in
     rw (to_z-of_z w32 _ (of-a s).x, to_z-of_z w32 _ (of-b s).x, to_z-of_z w32 _ (of-m s).left, to_z-of_z w32 _ (of-m s).right)
-    at c.span-meets.ensures
+    at c.span_meets.ensures
 
-returns : tie.Need-returns
+returns : tie.Need-returns-then-span_meets
 unfolding meets
 returns c =
     let d = c.before.before.before.before.before.before in
     let s = d.before.before.before.before.before in
-    let u : c.span-meets2.result ≡ span_meets s.args.a.y s.args.b.y s.args.m.bottom s.args.m.top =
+    let u : c.span_meets-then-span_meets.result ≡ span_meets s.args.a.y s.args.b.y s.args.m.bottom s.args.m.top =
     rw (to_z-of_z w32 _ (of-a s).y, to_z-of_z w32 _ (of-b s).y, to_z-of_z w32 _ (of-m s).bottom, to_z-of_z w32 _ (of-m s).top)
-    at c.span-meets2.ensures in
-    rw (← across d, c.before.before.before.before.before.if1.true) u
+    at c.span_meets-then-span_meets.ensures in
+    rw (← across d, c.before.before.before.before.before.if-span_meets.true) u
 
-returns-2 : tie.Need-returns-2
+returns-2 : tie.Need-returns-else-span_meets
 unfolding meets
-returns-2 c = rw (← across c.before, c.if1.false) refl
+returns-2 c = rw (← across c.before, c.if-span_meets.false) refl
 
-pub box-meets-spec : {M : Type 1} → statement M
-box-meets-spec = tie.close (tie.spec (λ c κs. search rules) (λ c κs. search rules) returns returns-2)
+pub box_meets_spec : {M : Type 1} → statement M
+box_meets_spec = tie.close (tie.spec (λ c κs. search rules) (λ c κs. search rules) returns returns-2)

@@ -4,7 +4,7 @@ use Rattle.clear.proofs.is_clear.Statement.{statement}
 use Rattle.clear.proofs.is_clear.Tie as tie
 
 returns : tie.Need-returns
-returns c = c.look-around.ensures
+returns c = c.look_around-sight.ensures
 
-pub is-clear-spec : {M : Type 1} → statement M
-is-clear-spec = tie.close (tie.spec (λ c κs. tt) returns)
+pub is_clear_spec : {M : Type 1} → statement M
+is_clear_spec = tie.close (tie.spec (λ c κs. tt) returns)

@@ -5,13 +5,13 @@ use Rattle.plane.proofs.MacroLaws.{clear-is}
 use Rattle.clear.proofs.look.Statement.{statement}
 use Rattle.clear.proofs.look.Tie as tie
 
-returns : tie.Need-returns
+returns : tie.Need-returns-then-is_blocked
 returns c =
     let s = c.before.before in
-    clear-is _ _ (macros_of s.args.macros.now) (c.before.is-blocked.ensures c.if1.true)
+    clear-is _ _ (macros_of s.args.macros.now) (c.before.is_blocked.ensures c.if-is_blocked.true)
 
-returns-2 : tie.Need-returns-2
-returns-2 c = c.look-around.ensures
+returns-2 : tie.Need-returns
+returns-2 c = c.look_around.ensures
 
 pub look_spec : {M : Type 1} → statement M
 look_spec = tie.close (tie.spec (λ c κs. tt) returns (λ c κs. tt) returns-2)

@@ -14,41 +14,41 @@ use Rattle.plane.proofs.MacroLaws.{clear-is}
 use Rattle.clear.proofs.look_around.Statement.{statement}
 use Rattle.clear.proofs.look_around.Tie as tie
 
-abbrev invariant-loop : tie.invariant-loop
+abbrev invariant-loop : tie.invariant-loop-i
 invariant-loop a b macros by k i₀ i = (i ≤ k) × (any (meets a b) (macros_of macros) ≡ any (meets a b) (drop i (macros_of macros)))
 
-abbrev decreases-loop : tie.decreases-loop
+abbrev decreases-loop : tie.decreases-loop-i
 decreases-loop a b macros by k i₀ i = k - i
 
 -- what the call says, of the list
-met : (c : tie.After-box-meets invariant-loop decreases-loop) →
+met : (c : tie.After-box_meets invariant-loop decreases-loop) →
     let s = c.before.before.before.before in
-    c.box-meets.result ≡ meets s.args.a s.args.b (macro_at s.args.macros.now c.before.before.before.loop.i)
+    c.box_meets.result ≡ meets s.args.a s.args.b (macro_at s.args.macros.now c.before.before.before.loop-i.i)
 met c =
     let s = c.before.before.before.before in
-    c.box-meets.ensures ∙ ap (λ (m : Macro). meets s.args.a s.args.b m) c.before.macro-at.ensures
+    c.box_meets.ensures ∙ ap (λ (m : Macro). meets s.args.a s.args.b m) c.before.macro_at.ensures
 
-returns : tie.Need-returns invariant-loop decreases-loop
+returns : tie.Need-returns-then-box_meets invariant-loop decreases-loop
 returns c =
     let l = c.before.before.before.before in
     let s = l.before.args.macros.now in
-    let hit = any-hit _ _ _ _ (macros-next s l.loop.i (omega arith)) (sym (met c.before) ∙ c.if1.true) in
-    clear-is _ _ (macros_of s) (l.loop.invariant.1 ∙ hit)
+    let hit = any-hit _ _ _ _ (macros-next s l.loop-i.i (omega arith)) (sym (met c.before) ∙ c.if-box_meets.true) in
+    clear-is _ _ (macros_of s) (l.loop-i.invariant.1 ∙ hit)
 
-loop-again : tie.Need-loop-preserved invariant-loop decreases-loop
+loop-again : tie.Need-loop-i-preserved invariant-loop decreases-loop
 loop-again c =
     let l = c.before.before.before.before in
     let s = l.before.args.macros.now in
-    (omega arith, l.loop.invariant.1 ∙ any-miss _ _ _ _ (macros-next s l.loop.i (omega arith)) (sym (met c.before) ∙ c.if1.false))
+    (omega arith, l.loop-i.invariant.1 ∙ any-miss _ _ _ _ (macros-next s l.loop-i.i (omega arith)) (sym (met c.before) ∙ c.if-box_meets.false))
 
-returns-2 : tie.Need-returns-2 invariant-loop decreases-loop
+returns-2 : tie.Need-returns invariant-loop decreases-loop
 returns-2 c =
     let l = c.before in
     let s = l.before.args.macros.now in
-    clear-is _ _ (macros_of s) (l.loop.invariant.1 ∙ any-end _ _ (macros-end s l.loop.i (omega arith)))
+    clear-is _ _ (macros_of s) (l.loop-i.invariant.1 ∙ any-end _ _ (macros-end s l.loop-i.i (omega arith)))
 
-pub look-around-spec : {M : Type 1} → statement M
-look-around-spec =
+pub look_around_spec : {M : Type 1} → statement M
+look_around_spec =
     tie.close
     (tie.spec
     invariant-loop

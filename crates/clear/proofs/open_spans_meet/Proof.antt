@@ -22,5 +22,5 @@ returns c =
     let mf : SFits w32 c.smaller.result = search rules in
     rw (to_z-of_z w32 _ gf, to_z-of_z w32 _ mf, g, m) refl
 
-pub open-spans-meet-spec : {M : Type 1} → statement M
-open-spans-meet-spec = tie.close (tie.spec (λ c κs. search rules) (λ c κs. search rules) returns)
+pub open_spans_meet_spec : {M : Type 1} → statement M
+open_spans_meet_spec = tie.close (tie.spec (λ c κs. search rules) (λ c κs. search rules) returns)

@@ -19,8 +19,8 @@ returns c =
     let d = c.before.before in
     let s = d.before.before in
     ap₂ ◌||◌
-    (rw (to_z-of_z w32 _ (of-w s).first) at d.is-no-weight.ensures)
-    (rw (to_z-of_z w32 _ (of-w s).second) at c.is-no-weight2.ensures)
+    (rw (to_z-of_z w32 _ (of-w s).first) at d.is_no_weight.ensures)
+    (rw (to_z-of_z w32 _ (of-w s).second) at c.is_no_weight-2.ensures)
 
-pub are-weights-wrong-spec : {M : Type 1} → statement M
-are-weights-wrong-spec = tie.close (tie.spec (λ c κs. search rules) (λ c κs. search rules) returns)
+pub are_weights_wrong_spec : {M : Type 1} → statement M
+are_weights_wrong_spec = tie.close (tie.spec (λ c κs. search rules) (λ c κs. search rules) returns)

@@ -18,5 +18,5 @@ byte_signed n h = to_z-of_z w32 (pos n) (record { sfits = omega arith })
 returns : tie.Need-returns
 returns c = ap₂ weighing (byte_signed _ (search rules)) (byte_signed _ (search rules))
 
-pub handed-spec : {M : Type 1} → statement M
-handed-spec = tie.close (tie.spec (λ c. search rules) (λ c. search rules) returns)
+pub handed_spec : {M : Type 1} → statement M
+handed_spec = tie.close (tie.spec (λ c. search rules) (λ c. search rules) returns)

@@ -11,5 +11,5 @@ returns : tie.Need-returns
 unfolding no_weight
 returns c = rw (to_z-of_z w32 _ c.ranges.z) refl
 
-pub is-no-weight-spec : {M : Type 1} → statement M
-is-no-weight-spec = tie.close (tie.spec returns)
+pub is_no_weight_spec : {M : Type 1} → statement M
+is_no_weight_spec = tie.close (tie.spec returns)

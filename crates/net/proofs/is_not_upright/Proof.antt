@@ -18,5 +18,5 @@ returns c =
     let s = c.before.before.before.before in
     rw (to_z-of_z w32 _ (of-m s).left, to_z-of_z w32 _ (of-m s).right, to_z-of_z w32 _ (of-m s).bottom, to_z-of_z w32 _ (of-m s).top) refl
 
-pub is-not-upright-spec : {M : Type 1} → statement M
-is-not-upright-spec = tie.close (tie.spec returns)
+pub is_not_upright_spec : {M : Type 1} → statement M
+is_not_upright_spec = tie.close (tie.spec returns)

@@ -12,5 +12,5 @@ returns : tie.Need-returns
 unfolding out_of_range
 returns c = rw (to_z-of_z w32 _ c.ranges.z) refl
 
-pub is-out-of-range-spec : {M : Type 1} → statement M
-is-out-of-range-spec = tie.close (tie.spec (λ c. search rules) returns)
+pub is_out_of_range_spec : {M : Type 1} → statement M
+is_out_of_range_spec = tie.close (tie.spec (λ c. search rules) returns)

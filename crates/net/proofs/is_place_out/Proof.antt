@@ -20,8 +20,8 @@ returns c =
     let d = c.before.before in
     let s = d.before.before in
     ap₂ ◌||◌
-    (rw (to_z-of_z w32 _ (x_fits s)) at d.is-out-of-range.ensures)
-    (rw (to_z-of_z w32 _ (y-fits s)) at c.is-out-of-range2.ensures)
+    (rw (to_z-of_z w32 _ (x_fits s)) at d.is_out_of_range.ensures)
+    (rw (to_z-of_z w32 _ (y-fits s)) at c.is_out_of_range-2.ensures)
 
-pub is-place-out-spec : {M : Type 1} → statement M
-is-place-out-spec = tie.close (tie.spec (λ c κs. search rules) (λ c κs. search rules) returns)
+pub is_place_out_spec : {M : Type 1} → statement M
+is_place_out_spec = tie.close (tie.spec (λ c κs. search rules) (λ c κs. search rules) returns)

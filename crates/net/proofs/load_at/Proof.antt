@@ -6,22 +6,22 @@ use Rattle.net.specs.Pins.{pin_count}
 use Rattle.net.proofs.load_at.Statement.{statement}
 use Rattle.net.proofs.load_at.Tie as tie
 
-mul-result : tie.Need-overflow-mul-result
+mul-result : tie.Need-overflow_mul-result
 unfolding pin_count
 mul-result c = omega arith
 
-add-result : tie.Need-overflow-add-result
+add-result : tie.Need-overflow_add-result
 unfolding pin_count
 add-result c = omega arith
 
-mul-result-2 : tie.Need-overflow-mul-result-2
+mul-result-2 : tie.Need-offset_bounds-pins-i
 unfolding pin_count
 mul-result-2 c = omega arith
 
-shared-slice-copy-out-result : tie.Need-shared-slice-copy-out-result
+shared-slice-copy-out-result : tie.Need-bounds-pins-i
 unfolding pin_count
 shared-slice-copy-out-result c = omega arith
 
-pub load-at-spec : {M : Type 1} → statement M
-load-at-spec =
+pub load_at_spec : {M : Type 1} → statement M
+load_at_spec =
     tie.close (tie.spec mul-result add-result mul-result-2 shared-slice-copy-out-result (λ c. search rules))

@@ -5,12 +5,12 @@ use Rattle.net.specs.Tests.{macros_miscounted_within}
 use Rattle.net.proofs.macros_miscounted.Statement.{statement}
 use Rattle.net.proofs.macros_miscounted.Tie as tie
 
-macro-count-requires : tie.Need-macro-count-requires
+macro-count-requires : tie.Need-macro_count-k-requires
 macro-count-requires c κs = tt
 
 returns : tie.Need-returns
 unfolding macros_miscounted_within
-returns c = rw c.macro-count.ensures refl
+returns c = rw c.macro_count-k.ensures refl
 
-pub macros-miscounted-spec : {M : Type 1} → statement M
-macros-miscounted-spec = tie.close (tie.spec macro-count-requires returns)
+pub macros_miscounted_spec : {M : Type 1} → statement M
+macros_miscounted_spec = tie.close (tie.spec macro-count-requires returns)

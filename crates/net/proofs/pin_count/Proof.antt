@@ -9,5 +9,5 @@ returns : tie.Need-returns
 unfolding pin_count
 returns c = refl
 
-pub pin-count-spec : {M : Type 1} → statement M
-pin-count-spec = tie.close (tie.spec returns)
+pub pin_count_spec : {M : Type 1} → statement M
+pin_count_spec = tie.close (tie.spec returns)

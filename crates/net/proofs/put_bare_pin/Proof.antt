@@ -13,10 +13,10 @@ use borrow.Author.Rules.{rules}
 use Rattle.net.proofs.put_bare_pin.Statement.{statement}
 use Rattle.net.proofs.put_bare_pin.Tie as tie
 
-slice-set-from-y : tie.Need-slice-set-from-y
+slice-set-from-y : tie.Need-bounds-pins-k-2
 slice-set-from-y c = simp length-set (omega arith)
 
-slice-set-of-pins : tie.Need-slice-set-of-pins
+slice-set-of-pins : tie.Need-slice_set_of-pins
 slice-set-of-pins c = simp (length-set, length-set) (omega arith)
 
 of-p : (s : tie.Start) → PlaceFits s.args.p
@@ -31,8 +31,8 @@ returns c =
     let s = c.before.before in
     rw (two-more (s.args.i * pin_width), add-one, to_z-of_z w32 _ (of-p s).x, to_z-of_z w32 _ (of-p s).y) refl
 
-pub put-bare-pin-spec : {M : Type 1} → statement M
-put-bare-pin-spec =
+pub put_bare_pin_spec : {M : Type 1} → statement M
+put_bare_pin_spec =
     tie.close
     (tie.spec
     (λ c. search rules) (λ c. search rules) (λ c. search rules) (λ c. search rules) (λ c. search rules) slice-set-from-y

@@ -14,11 +14,11 @@ use Rattle.net.proofs.weight_of.Tie as tie
 read_back : (s : tie.Start) → to_z w32 (of_z w32 s.args.z) ≡ pos (up s.args.z)
 read_back s = to_z-of_z w32 _ s.ranges.z ∙ weight_is _ s.requires
 
-cast-result : tie.Need-overflow-cast-result
+cast-result : tie.Need-overflow_cast-result
 cast-result c = rw (read_back c) (tt, record { fits = omega (arith, weight-within _ c.requires) })
 
 returns : tie.Need-returns
 returns c = ap nat_abs (read_back c)
 
-pub weight-of-spec : {M : Type 1} → statement M
-weight-of-spec = tie.close (tie.spec cast-result returns)
+pub weight_of_spec : {M : Type 1} → statement M
+weight_of_spec = tie.close (tie.spec cast-result returns)

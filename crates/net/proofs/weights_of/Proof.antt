@@ -19,12 +19,12 @@ module _ (s : tie.Start) where
 
   both : (no_weight s.args.w.first ≡ false) × (no_weight s.args.w.second ≡ false)
   unfolding weights_wrong
-  both = or-none (no_weight s.args.w.first) (no_weight s.args.w.second) s.pre
+  both = or-none (no_weight s.args.w.first) (no_weight s.args.w.second) s.requires
 
-weight-of-requires : tie.Need-weight-of-requires
+weight-of-requires : tie.Need-weight_of-requires
 weight-of-requires c κs = rw (to_z-of_z w32 _ (of-w c.before).first) (both c.before).0
 
-weight-of-requires-2 : tie.Need-weight-of-requires-2
+weight-of-requires-2 : tie.Need-weight_of-requires-2
 weight-of-requires-2 c κs = rw (to_z-of_z w32 _ (of-w c.before.before.before).second) (both c.before.before.before).1
 
 weights : ℕ → ℕ → Weights
@@ -36,8 +36,8 @@ returns c =
     let d = c.before.before in
     let s = d.before.before in
     ap₂ weights
-    (rw (to_z-of_z w32 _ (of-w s).first) at d.weight-of.ensures)
-    (rw (to_z-of_z w32 _ (of-w s).second) at c.weight-of2.ensures)
+    (rw (to_z-of_z w32 _ (of-w s).first) at d.weight_of.ensures)
+    (rw (to_z-of_z w32 _ (of-w s).second) at c.weight_of-2.ensures)
 
-pub weights-of-spec : {M : Type 1} → statement M
-weights-of-spec = tie.close (tie.spec weight-of-requires weight-of-requires-2 returns)
+pub weights_of_spec : {M : Type 1} → statement M
+weights_of_spec = tie.close (tie.spec weight-of-requires weight-of-requires-2 returns)
