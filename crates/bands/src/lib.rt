@@ -4,6 +4,7 @@
 // wherever it does (37), so that more metal is never charged less. Limits are compared and never multiplied: they may be any numbers of
 // 64 bits.
 #![tactic(auto)]
+
 ghost use Rattle.std.specs.Prelude.{◌≡◌, ◌+◌, ◌*◌, ◌≤◌, length};
 ghost use Rattle.lists.specs.Any.{any};
 ghost use Rattle.bands.specs.Band.{bands_of, band_at};

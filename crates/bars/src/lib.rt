@@ -2,6 +2,7 @@
 //
 // A bar is told by the label of its points, one table of labels for each direction.
 #![tactic(auto)]
+
 pub mod search; // search.rt: the best move
 
 ghost use Rattle.std.specs.Prelude.{◌≡◌, ◌≤◌, replicate};

@@ -3,6 +3,7 @@
 // Roots and parents with the tree's own vertices as sources: the root of a vertex beside the tree is the tree point v that it is joined to,
 // and its way to the root is the way that is laid.
 #![tactic(auto)]
+
 ghost use Rattle.std.specs.Prelude.{◌≡◌, true, List, ℕ, ◌*◌, ◌≤◌, ◌<◌, length, get_or};
 ghost use Rattle.plane.specs.Flat.{place_at, macros_of};
 ghost use Rattle.plane.specs.Rank.{InOrder};

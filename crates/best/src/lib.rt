@@ -1,5 +1,6 @@
 // The best tree of a net of up to five pins: read back from the rows of its table, and given; the table is cleared.
 #![tactic(auto)]
+
 ghost use Rattle.std.specs.Prelude.{◌≡◌, ◌+◌, ◌*◌, ◌-◌, ◌^◌, ◌≤◌, ◌<◌, length, get_or, replicate};
 ghost use Rattle.joined.specs.Cost.{lengths};
 ghost use Rattle.lent.specs.Over.{over};

@@ -3,6 +3,7 @@
 // A block is 512 bytes, 128 words of 32 bits: four words that say what it is, then up to 120 numbers, zeros, and two sums. A table of its
 // 128 words is made and sealed in one place, and the reader sums it by the same function.
 #![tactic(auto)]
+
 ghost use Rattle.std.specs.Prelude.{◌≡◌, ◌+◌, ◌*◌, ◌<◌, ◌≤◌, length, take};
 ghost use Rattle.std.proofs.lemmas.List.Edits.{sets};
 ghost use Rattle.net.specs.Bounds.{weight_bound};

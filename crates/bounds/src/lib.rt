@@ -1,6 +1,7 @@
 // What a round leaves of the bounds of edges: which numbers the points of the tree before have in the tree of now, whether no longest edge
 // between two of them has become longer, and the bounds of the edges that are still there.
 #![tactic(auto)]
+
 ghost use Rattle.std.specs.Prelude.{◌≡◌, true, List, ℕ, ◌≤◌, ◌<◌, length, get_or};
 ghost use Rattle.plane.specs.Cost.{cost};
 ghost use Rattle.plane.specs.Flat.{place_at, macros_of};

@@ -3,6 +3,7 @@
 // A point is its number in the table of points, which is in the order of places; an edge is the key of its ends' numbers, in a table in the
 // order of edges. So every tie is settled by scanning upwards and giving way only to what is strictly better.
 #![tactic(auto)]
+
 pub mod candidate; // candidate.rt: candidates on the tree, and the best of them
 
 // A candidate: its gain, the edge (a, b), the point u and the edge L, by their numbers. With gain 0 there is none.

@@ -1,5 +1,6 @@
 // The check of a net: each test of crate net over the whole net, in the order of the rules.
 #![tactic(auto)]
+
 ghost use Rattle.std.specs.Prelude.{◌≡◌, drop};
 ghost use Rattle.lists.specs.Any.{any, any_two};
 ghost use Rattle.plane.specs.Place.{same_place};

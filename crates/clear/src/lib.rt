@@ -1,6 +1,7 @@
 // What is clear of macros: whether a closed box, or another interior, meets a macro's interior, and whether two places are clear of each
 // other among the macros of a flat list.
 #![tactic(auto)]
+
 ghost use Rattle.std.specs.Prelude.{◌≡◌, true, ◌+◌, ◌*◌, ◌≤◌, length};
 ghost use Rattle.lists.specs.Any.{any};
 ghost use Rattle.plane.specs.Macro.{span_meets, meets, open_spans_meet, interiors_meet, clear};

@@ -2,6 +2,7 @@
 //
 // Pins that are stored without loads are given one of 0: for callers a pin is three numbers.
 #![tactic(auto)]
+
 ghost use Rattle.std.specs.Prelude.{false, ◌≡◌, ◌+◌, ◌*◌, ◌/◌, ◌≤◌, ◌<◌, length};
 ghost use Rattle.lent.specs.Over.{over};
 ghost use Rattle.plane.specs.Flat.{places_of};

@@ -1,5 +1,6 @@
 // The Elmore delay from a driver to each pin of a tree.
 #![tactic(auto)]
+
 pub mod loads; // loads.rt: the pins among a tree's points, and their loads
 
 ghost use Rattle.std.specs.Prelude.{◌≡◌, ◌≤◌, ◌<◌, length};

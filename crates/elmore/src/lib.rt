@@ -1,5 +1,6 @@
 // Capacitance and delay, down the rooted tree.
 #![tactic(auto)]
+
 mod child; // child.rt: the children of a point
 
 ghost use Rattle.std.specs.Prelude.{◌≡◌, ◌<◌, ◌≤◌};

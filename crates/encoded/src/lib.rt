@@ -3,6 +3,7 @@
 // Pins are three numbers each for callers; a file has their places alone where none has a load, and then its blocks are of another kind,
 // with two numbers an entry. Whether some bytes are the file of a net is found by writing that file, and comparing.
 #![tactic(auto)]
+
 ghost use Rattle.std.specs.Prelude.{◌≡◌, ◌+◌, ◌*◌, ◌≤◌, ◌<◌, length, take, drop};
 ghost use Rattle.std.proofs.lemmas.List.Edits.{sets};
 ghost use Rattle.lent.specs.Over.{over};

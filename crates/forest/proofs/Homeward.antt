@@ -203,6 +203,7 @@ module _ {g : Graph} {n : ℕ} {d : ℕ → ℕ → ℕ} {sources : List ℕ} (s
   Falling x (y ∷ ps) = (far T y < far T x) × Falling y ps
 
   falling-below : (x : ℕ) (ps : List ℕ) → Falling x ps → (z : ℕ) → z ∈ ps → far T z < far T x
+  falling-below x [] f z m = elim m [ ]
   falling-below x (y ∷ ps) f z m =
       either (λ k. rw k f.0) (λ i. omega (arith, f.0, falling-below y ps f.1 z i)) (Memᴰ.cases_cons m)
 

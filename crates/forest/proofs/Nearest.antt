@@ -50,6 +50,7 @@ start-other (p ∷ ps) t v n =
 start-own : (n : ℕ) (ps : List ℕ) (t : Labels) → Sized n t → ((p : ℕ) → p ∈ ps → p < n) → (v : ℕ) → v ∈ ps →
     (far (starts ps t) v ≡ 0) × (root (starts ps t) v ≡ v)
 unfolding starts
+start-own n [] t s h v m = elim m [ ]
 start-own n (p ∷ ps) t s h v m = at (λ i. start-own n ps next sized (λ q j. h q (there j)) v i) (is-in ℕ_discrete v ps)
   where
     next : Labels

@@ -181,6 +181,7 @@ module _ (g : Graph) (n : ℕ) where
 
   pub relax-meets : (ks : List ℕ) (t : Labels) → Sized n t → Within g n ks → (j : ℕ) → j ∈ ks → Met (relax g ks t) t j
   unfolding relax
+  relax-meets [] t s h j m = elim m [ ]
   relax-meets (k ∷ ks) t s h j m =
       let i = h k (here refl) in
       let s' = sized-edge g n k t s in

@@ -1,6 +1,7 @@
 // Roots, parents and ways of a graph on tables: a vertex is its number in the order of places, an edge its number in the order of edges.
 // Edge k joins the vertices ea[k] and eb[k] and is el[k] long, which is what it costs. What each table holds stands in specs/.
 #![tactic(auto)]
+
 ghost use Rattle.std.specs.Prelude.{◌≡◌, ◌||◌, ◌+◌, ◌≤◌, ◌<◌, get_or};
 ghost use Rattle.forest.specs.Bounds.{point_bound, cost_bound};
 ghost use Rattle.forest.specs.Edges.{graph, from, entries, Fits, FirstBelow};

@@ -1,5 +1,6 @@
 // What hangs from a bar.
 #![tactic(auto)]
+
 ghost use Rattle.std.specs.Prelude.{◌≡◌, true, ◌+◌, ◌^◌, ◌≤◌, ◌<◌, get_or, replicate};
 ghost use Rattle.straight.specs.Table.{straight_bound, key_bound, Small};
 ghost use Rattle.turned.specs.Steps.{Numbers};

@@ -1,5 +1,6 @@
 // The kept bridges on tables, and the terminal tree of a graph on tables.
 #![tactic(auto)]
+
 ghost use Rattle.std.specs.Prelude.{◌≡◌, map, ◌+◌, ◌^◌, ◌≤◌, ◌<◌, length, get_or};
 ghost use Rattle.forest.specs.Bounds.{point_bound, edge_bound, path_bound};
 ghost use Rattle.forest.specs.Edges.{graph, entries, filled, Fits, Named, FirstBelow, Below, Listed};

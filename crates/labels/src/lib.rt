@@ -1,5 +1,6 @@
 // Labels of points: two have the same exactly when level edges join them, and a label is the least number that has it.
 #![tactic(auto)]
+
 ghost use Rattle.std.specs.Prelude.{◌≡◌, ◌&&◌, ◌≤◌, ◌<◌, max, eqb, ltb, get_or};
 ghost use Rattle.joined.specs.Table.{changed};
 ghost use Rattle.straight.specs.Table.{straight_bound, key_bound, Small};

@@ -1,5 +1,6 @@
 // E12 to E14, E20 and E33: checks nets at the bounds and one past them, and writes each answer on a line of its own.
 #![tactic(auto)]
+
 ghost use Rattle.std.specs.Prelude.{◌≡◌, ◌+◌, ◌*◌, ◌≤◌, length};
 ghost use Rattle.net.specs.Bounds.{macro_bound, macro_width};
 

@@ -1,5 +1,6 @@
 // What edges cost, and the longest edge between points, from rows: what hangs on what, and L of an edge for each point.
 #![tactic(auto)]
+
 ghost use Rattle.std.specs.Prelude.{◌≡◌, List, ℕ, ◌+◌, ◌≤◌, ◌<◌, length, get_or, set};
 ghost use Rattle.plane.specs.Cost.{cost_limit};
 ghost use Rattle.lists.specs.Turns.{turns};

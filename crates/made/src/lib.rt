@@ -1,6 +1,7 @@
 // The trees of an allowed net, each made in fresh tables: what the operations go on with once the check has passed. Each asks for what the
 // check has shown, and for the room that the operation has found.
 #![tactic(auto)]
+
 ghost use Rattle.std.specs.Prelude.{◌≡◌, ◌*◌, ◌≤◌, pos, length, replicate};
 ghost use Rattle.lent.specs.Over.{over};
 ghost use Rattle.lent.specs.Entries.{flat};

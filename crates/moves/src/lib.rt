@@ -2,6 +2,7 @@
 //
 // A bar is told by the label of its points; a pin by its seat, the number of its point.
 #![tactic(auto)]
+
 ghost use Rattle.std.specs.Prelude.{◌≡◌, [], ◌^◌, ◌≤◌, ◌<◌};
 ghost use Rattle.plane.specs.Rank.{InOrder};
 ghost use Rattle.net.specs.Bounds.{pin_bound};

@@ -1,6 +1,7 @@
 // What is near the box of two places: what metal to it costs, and which points of a table are near it in x. Points are in the order of
 // places, so those too far left stand first in a table and those too far right last, and both are found by halving.
 #![tactic(auto)]
+
 ghost use Rattle.std.specs.Prelude.{◌≡◌, true, ℕ, ◌*◌, ◌^◌, ◌≤◌, ◌<◌, ltb, length};
 ghost use Rattle.signed.specs.Sides.{Le};
 ghost use Rattle.plane.specs.Flat.{place_at};

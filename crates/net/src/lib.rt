@@ -1,5 +1,6 @@
 // The net: its bounds, its pins read, and the tests of it, each of one entry or one count.
 #![tactic(auto)]
+
 ghost use Rattle.std.specs.Prelude.{false, ◌≡◌, ◌+◌, ◌*◌, ◌≤◌, ◌<◌, pos, length};
 ghost use Rattle.std.proofs.lemmas.List.Edits.{sets};
 ghost use Rattle.signed.specs.Sides.{up};

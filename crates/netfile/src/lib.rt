@@ -3,6 +3,7 @@
 // The reader takes the lists out of a file into tables of its own, writes the file of these lists and of the head's weights beside it, and
 // compares: crate encoded has the file of a net, crate decoded what a file holds.
 #![tactic(auto)]
+
 ghost use Rattle.std.specs.Prelude.{false, ◌≡◌, ◌≤◌, length};
 ghost use Rattle.lent.specs.Over.{after};
 ghost use Rattle.net.specs.Net.{weights_of};

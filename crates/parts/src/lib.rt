@@ -3,6 +3,7 @@
 // A set is a number, a bit a pin. Its row in the lent work has a number for each crossing: what it costs to join that crossing with the
 // pins of the set.
 #![tactic(auto)]
+
 ghost use Rattle.std.specs.Prelude.{◌≡◌, ◌+◌, ◌≤◌, ◌<◌, min, length, replicate};
 ghost use Rattle.lines.specs.Bounds.{crossing_bound, unreached};
 ghost use Rattle.grid.specs.Rows.{Below};

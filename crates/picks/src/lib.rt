@@ -1,5 +1,6 @@
 // Picks: what a vertex picks in each of its quadrants, by passes over the vertices in order.
 #![tactic(auto)]
+
 ghost use Rattle.std.specs.Prelude.{◌≡◌, ◌+◌, ◌/◌, ◌≤◌, ◌<◌, length};
 ghost use Rattle.lists.specs.Sorted.{Ascending};
 ghost use Rattle.plane.specs.Place.{before};

@@ -2,6 +2,7 @@
 //
 // Coordinates are i32 and any value is taken; differences and sums of them are worked out in 64 bits, where none can overflow.
 #![tactic(auto)]
+
 ghost use Rattle.std.specs.Prelude.{◌≡◌, ◌+◌, ◌*◌, ◌≤◌, ◌^◌, ◌<◌, pos, ◌-ℤ◌, nat_abs, length};
 ghost use Rattle.std.proofs.lemmas.List.Edits.{sets};
 ghost use Rattle.plane.specs.Place.{before, same_place};

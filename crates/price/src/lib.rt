@@ -1,6 +1,7 @@
 // The price of metal by the list of bands that a bureau lends, once the list is tested: whoever has it refuses 31 and 37 before there is
 // metal to charge for.
 #![tactic(auto)]
+
 ghost use Rattle.std.specs.Prelude.{◌≡◌, false, ◌≤◌};
 ghost use Rattle.lists.specs.Any.{any};
 ghost use Rattle.bands.specs.Band.{bands_of};

@@ -1,5 +1,6 @@
 // How far a bar may move.
 #![tactic(auto)]
+
 ghost use Rattle.std.specs.Prelude.{◌≡◌, ◌≤◌};
 ghost use Rattle.straight.specs.Table.{straight_bound, Small};
 ghost use Rattle.turned.specs.Turned.{face};

@@ -1,5 +1,6 @@
 // The refined tree's edges and its wires, from the refiner's tables into lent space, and its metal.
 #![tactic(auto)]
+
 ghost use Rattle.std.specs.Prelude.{◌≡◌, ◌+◌, ◌*◌, ◌≤◌, length};
 ghost use Rattle.std.proofs.lemmas.List.Edits.{sets};
 ghost use Rattle.lent.specs.Over.{over};

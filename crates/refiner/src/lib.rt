@@ -3,6 +3,7 @@
 // A point is its number in the table of points, which is in the order of places; an edge is the key of its ends' numbers, in a table in the
 // order of edges. So every tie is settled by scanning upwards and giving way only to what is strictly better.
 #![tactic(auto)]
+
 mod graft; // graft.rt: a way to a vertex beside the tree, laid
 mod round; // round.rt: a round
 

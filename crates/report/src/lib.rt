@@ -1,5 +1,6 @@
 // The text that the program `route` prints for a file: read, routed, and its trees or its refusal put into a lent buffer.
 #![tactic(auto)]
+
 ghost use Rattle.std.specs.Prelude.{◌≡◌};
 ghost use Rattle.lent.specs.Told.{given};
 ghost use Rattle.net.specs.Net.{handed};

@@ -1,6 +1,7 @@
 // What an allowed net is given: its graph, the refined tree's edges and its wires, and a price. Each asks for what the check has shown, and
 // for the room that the operation has found.
 #![tactic(auto)]
+
 ghost use Rattle.std.specs.Prelude.{◌≡◌, ◌≤◌, length};
 ghost use Rattle.lent.specs.Over.{over};
 ghost use Rattle.lent.specs.Entries.{flat};

@@ -1,6 +1,7 @@
 // What an operation must be lent: each function says whether it is too little, by the numbers of pins and of points that the check has
 // counted. Each is small and by itself, so that a wrong number is found without the operations being checked again.
 #![tactic(auto)]
+
 ghost use Rattle.std.specs.Prelude.{◌≡◌, ◌||◌, ◌≤◌, ltb};
 ghost use Rattle.net.specs.Bounds.{pin_bound, macro_bound};
 ghost use Rattle.net.specs.Counts.{point_count};

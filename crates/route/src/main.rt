@@ -1,6 +1,7 @@
 // Reads a net file from standard input and prints its trees: a header with the totals and the metal, and a line for each edge, or one
 // line that says why the file is refused. What is printed is `route_text` of the bytes read (report/specs/Route.antt).
 #![tactic(auto)]
+
 use report::{FILE, TEXT};
 
 // Writes a text. Where it cannot be written, standard error says so; a program has no exit status of its own to say it with.

@@ -5,6 +5,7 @@
 // holds, refused calls too. Those of check, price and check_tree, which are lent none, are one equation each.
 // What the trees that are given are, and what is promised of them, is `Promised` (promises/specs/Published.antt).
 #![tactic(auto)]
+
 mod allowed; // allowed.rt: what goes on once the check has passed
 
 ghost use Rattle.std.specs.Prelude.{◌≡◌};

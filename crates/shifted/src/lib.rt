@@ -1,5 +1,6 @@
 // A bar moved: the edges of a tree after the move, from its tables into a flat list.
 #![tactic(auto)]
+
 mod place; // place.rt: places moved
 
 ghost use Rattle.std.specs.Prelude.{◌≡◌, ◌+◌, ◌*◌, ◌≤◌, ◌<◌, length, get_or};

@@ -1,5 +1,6 @@
 // The slid tree: definitions and theorems over places and edges. There is no code here but the words that definitions and code share.
 #![tactic(auto)]
+
 use plane::Place;
 
 // The side to which a bar moves: a horizontal one up or down, a vertical one right or left.

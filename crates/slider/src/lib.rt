@@ -1,5 +1,6 @@
 // The slid tree: bends, then rounds, each of which makes the best move of all bars and tables afresh.
 #![tactic(auto)]
+
 mod round; // round.rt: a round, and rounds until one saves nothing
 
 ghost use Rattle.std.specs.Prelude.{◌≡◌, ◌*◌, length};

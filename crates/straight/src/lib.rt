@@ -1,5 +1,6 @@
 // The tables of a tree of axis-parallel edges: those of crate tree, for twice as many points, since each edge may bring a bend.
 #![tactic(auto)]
+
 ghost use Rattle.std.specs.Prelude.{◌≡◌, ◌*◌, ◌≤◌, ◌<◌, get_or, length};
 ghost use Rattle.lists.specs.Sorted.{position};
 ghost use Rattle.plane.specs.Place.{before};

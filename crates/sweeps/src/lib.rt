@@ -3,6 +3,7 @@
 // Arc a leads to crossing a / 4 from its neighbour: on the right, on the left, above, below. Its number in the lent table is what is left
 // of its cost and one more, 0 where there is no edge. A row has a height for each crossing.
 #![tactic(auto)]
+
 ghost use Rattle.std.specs.Prelude.{◌≡◌, ◌+◌, ◌/◌, ◌%◌, ◌≤◌, ◌<◌, min, length, replicate};
 ghost use Rattle.grid.specs.Rows.{at, Below};
 ghost use Rattle.sweeps.specs.Tables.{

@@ -1,6 +1,7 @@
 // The text that the program `route` prints, put into a lent buffer piece by piece: each function takes the byte at which its piece begins
 // and gives the one after it. A number takes at most 20 bytes, and with what stands behind it 21; a line of five numbers at most 105.
 #![tactic(auto)]
+
 ghost use Rattle.std.specs.Prelude.{◌≡◌, [], ◌∷◌, ◌++◌, ◌+◌, ◌*◌, ◌≤◌, pos, nat_abs, length};
 ghost use Rattle.lent.specs.Entries.{flat, entries};
 ghost use Rattle.plane.specs.Cost.{cost};

@@ -1,5 +1,6 @@
 // A tree read back from the rows of a table of costs: its edges marked, in the order of edges.
 #![tactic(auto)]
+
 ghost use Rattle.std.specs.Prelude.{◌≡◌, ◌+◌, ◌≤◌, ◌<◌, length};
 ghost use Rattle.lines.specs.Bounds.{crossing_bound, segment_bound};
 ghost use Rattle.grid.specs.Tables.{Row, Fits};

@@ -1,6 +1,7 @@
 // The tables of a tree, which union, refiner and refined share: its points in the order of places, two numbers each, and its edges as keys
 // of their ends' numbers, in the order of edges.
 #![tactic(auto)]
+
 ghost use Rattle.std.specs.Prelude.{◌≡◌, ◌<◌};
 ghost use Rattle.plane.specs.Flat.{place_at};
 ghost use Rattle.tree.specs.Table.{tree_bound, set_point};

@@ -1,5 +1,6 @@
 // An edge from a to b and a third point u, with s, the middle of the three: what is asked of them before they are a candidate.
 #![tactic(auto)]
+
 ghost use Rattle.std.specs.Prelude.{◌≡◌, ◌≤◌, ◌<◌};
 ghost use Rattle.lists.specs.Turns.{seek};
 ghost use Rattle.plane.specs.Flat.{macros_of};

@@ -1,6 +1,7 @@
 // Places and macros turned as a bar has them that moves to a side: a bar's line is the first number and the side to which it moves the
 // second, both raised above zero. What follows is said for one direction.
 #![tactic(auto)]
+
 ghost use Rattle.std.specs.Prelude.{◌≡◌, ◌-◌, ◌^◌, ◌≤◌, ◌<◌, min, max, pos, ◌-ℤ◌, get_or, []};
 ghost use Rattle.plane.specs.Flat.{place_at};
 ghost use Rattle.straight.specs.Table.{straight_bound, key_bound};

@@ -3,6 +3,7 @@
 // Edges of kept paths are marked, then pins and the ends of marked edges. Vertices and edges are taken upwards, so that points and keys
 // come out in order.
 #![tactic(auto)]
+
 ghost use Rattle.std.specs.Prelude.{◌≡◌, ◌∷◌, ◌++◌, map, ◌*◌, ◌+◌, ◌≤◌, ◌<◌, pos, length, get_or, replicate};
 ghost use Rattle.lent.specs.Over.{over};
 ghost use Rattle.lent.specs.Entries.{flat};

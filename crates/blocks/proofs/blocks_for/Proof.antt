@@ -11,5 +11,5 @@ returns : tie.Need-returns
 unfolding blocks_for
 returns c = omega arith
 
-pub blocks-for-spec : {M : Type 1} → statement M
-blocks-for-spec = tie.close (tie.spec (λ c. search rules) (λ c. search rules) (λ c. search rules) returns)
+pub blocks_for_spec : {M : Type 1} → statement M
+blocks_for_spec = tie.close (tie.spec (λ c. search rules) (λ c. search rules) (λ c. search rules) returns)

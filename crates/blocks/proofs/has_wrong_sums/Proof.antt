@@ -11,8 +11,8 @@ unfolding wrong_sums
 returns c =
     let b = c.before.before.before.before.args.t1 in
     ap₂ (λ (p q : ℕ). not (eqb (get_or b summed_words 0) p) || not (eqb (get_or b second_sum 0) q))
-    c.before.before.sums-of.ensures.0 c.before.before.sums-of.ensures.1
+    c.before.before.sums_of-s.ensures.0 c.before.before.sums_of-s.ensures.1
 
-pub has-wrong-sums-spec : {M : Type 1} → statement M
-has-wrong-sums-spec =
+pub has_wrong_sums_spec : {M : Type 1} → statement M
+has_wrong_sums_spec =
     tie.close (tie.spec (λ c κs. search rules) (λ c. search rules) (λ c. search rules) returns)

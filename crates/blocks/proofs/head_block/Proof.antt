@@ -13,10 +13,10 @@ returns c =
     let a = c.before.before.before.args in
     c.seal.ensures
     ∙ ap₂ (λ (first second : ℕ). block head_kind 0 0 (a.m ∷ (a.k ∷ (first ∷ (second ∷ [])))))
-    c.before.before.weight-word.ensures c.before.weight-word2.ensures
+    c.before.before.weight_word.ensures c.before.weight_word-2.ensures
 
-pub head-block-spec : {M : Type 1} → statement M
-head-block-spec =
+pub head_block_spec : {M : Type 1} → statement M
+head_block_spec =
     tie.close
     (tie.spec
     (λ c. search rules) (λ c. search rules) (λ c. search rules) (λ c. search rules) (λ c. search rules)

@@ -9,43 +9,43 @@ use Rattle.blocks.proofs.BlockLaws.{put-more}
 use Rattle.blocks.proofs.put_block.Statement.{statement}
 use Rattle.blocks.proofs.put_block.Tie as tie
 
-abbrev invariant-loop : tie.invariant-loop
+abbrev invariant-loop : tie.invariant-loop-i
 invariant-loop bytes₀ number block i₀ bytes i =
     (i ≤ block_words) × ((length bytes ≡ length bytes₀) × (bytes ≡ sets bytes₀ (number * block_bytes) (bytes_of (take i block))))
 
-abbrev decreases-loop : tie.decreases-loop
+abbrev decreases-loop : tie.decreases-loop-i
 decreases-loop bytes₀ number block i₀ bytes i = block_words - i
 
-loop-holds : tie.Need-loop-init invariant-loop decreases-loop
+loop-holds : tie.Need-loop-i-init invariant-loop decreases-loop
 unfolding bytes_of
 loop-holds c = (omega arith, (refl, refl))
 
-loop-again : tie.Need-loop-preserved invariant-loop decreases-loop
+loop-again : tie.Need-loop-i-preserved invariant-loop decreases-loop
 loop-again c =
     let p = c.before.before in
     let l = p.before.before.before in
     let a = l.before.before.args in
-    let i = l.loop.i in
+    let i = l.loop-i.i in
     let e : (a.number * block_words + i) * 4 ≡ a.number * block_bytes + i * 4 = omega arith in
     let b =
     p.put_word.ensures
-    ∙ ap₂ (λ (bs : List ℕ) (k : ℕ). sets bs k (bytes_of_word (get_or a.t3 i 0))) l.loop.invariant.1.1 e
+    ∙ ap₂ (λ (bs : List ℕ) (k : ℕ). sets bs k (bytes_of_word (get_or a.t3 i 0))) l.loop-i.invariant.1.1 e
     ∙ put-more _ a.t3 (a.number * block_bytes) i (omega arith)
     in
-    (omega arith, (ap length b ∙ length-sets a.bytes.now (a.number * block_bytes) (bytes_of (take (i + 1) a.t3)), b))
+    (omega arith, (ap length b ∙ length-sets a.bytes-1.now (a.number * block_bytes) (bytes_of (take (i + 1) a.t3)), b))
 
-same_length : tie.Need-same-length invariant-loop decreases-loop
-same_length c = c.before.loop.invariant.1.0
+same_length : tie.Need-shape_of-bytes invariant-loop decreases-loop
+same_length c = c.before.loop-i.invariant.1.0
 
 returns : tie.Need-returns invariant-loop decreases-loop
 returns c =
     let l = c.before in
     let a = l.before.before.args in
-    l.loop.invariant.1.1
-    ∙ ap (λ (ws : List ℕ). sets a.bytes.now (a.number * block_bytes) (bytes_of ws)) (take_all l.loop.i a.t3 (omega arith))
+    l.loop-i.invariant.1.1
+    ∙ ap (λ (ws : List ℕ). sets a.bytes-1.now (a.number * block_bytes) (bytes_of ws)) (take_all l.loop-i.i a.t3 (omega arith))
 
-pub put-block-spec : {M : Type 1} → statement M
-put-block-spec =
+pub put_block_spec : {M : Type 1} → statement M
+put_block_spec =
     tie.close
     (tie.spec
     invariant-loop decreases-loop loop-holds (λ c. omega arith) (λ c. omega arith) (λ c. omega arith) (λ c. omega arith)

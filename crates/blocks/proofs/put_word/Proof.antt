@@ -5,13 +5,13 @@ use Rattle.blocks.specs.Words.{bytes_of_word}
 use Rattle.blocks.proofs.put_word.Statement.{statement}
 use Rattle.blocks.proofs.put_word.Tie as tie
 
-slice-write-bytes-2 : tie.Need-slice-write-bytes-2
+slice-write-bytes-2 : tie.Need-bounds-bytes-k-2
 slice-write-bytes-2 c = simp length-set (omega arith)
 
-slice-write-bytes-3 : tie.Need-slice-write-bytes-3
+slice-write-bytes-3 : tie.Need-bounds-bytes-k-3
 slice-write-bytes-3 c = simp length-set (omega arith)
 
-slice-write-bytes-4 : tie.Need-slice-write-bytes-4
+slice-write-bytes-4 : tie.Need-bounds-bytes-k-4
 slice-write-bytes-4 c = simp length-set (omega arith)
 
 returns : tie.Need-returns
@@ -23,8 +23,8 @@ returns c =
     let three : k + 3 ≡ suc (suc (suc k)) = omega arith in
     rw (one, two, three) refl
 
-pub put-word-spec : {M : Type 1} → statement M
-put-word-spec =
+pub put_word_spec : {M : Type 1} → statement M
+put_word_spec =
     tie.close
     (tie.spec
     (λ c. search rules) (λ c. search rules) (λ c. search rules) (λ c. search rules) (λ c. search rules)

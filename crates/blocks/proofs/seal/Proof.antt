@@ -12,7 +12,7 @@ unfolding sealed
 returns c =
     let ws = c.before.before.args.t1 in
     last-two ws _ _ c.before.before.requires
-    ∙ ap₂ (λ (a b : ℕ). take summed_words ws ++ (a ∷ (b ∷ []))) c.sums-of.ensures.0 c.sums-of.ensures.1
+    ∙ ap₂ (λ (a b : ℕ). take summed_words ws ++ (a ∷ (b ∷ []))) c.sums_of-s.ensures.0 c.sums_of-s.ensures.1
 
-pub seal-spec : {M : Type 1} → statement M
-seal-spec = tie.close (tie.spec (λ c κs. search rules) (λ c. search rules) (λ c. search rules) returns)
+pub seal_spec : {M : Type 1} → statement M
+seal_spec = tie.close (tie.spec (λ c κs. search rules) (λ c. search rules) (λ c. search rules) returns)

@@ -5,13 +5,13 @@ use Rattle.blocks.specs.Words.{weight_in}
 use Rattle.blocks.proofs.weight_of.Statement.{statement}
 use Rattle.blocks.proofs.weight_of.Tie as tie
 
-returns : tie.Need-returns
+returns : tie.Need-returns-then-word-eq0
 unfolding weight_in
-returns c = rw c.if1.true refl
+returns c = rw c.if-word-eq0.true refl
 
-returns-2 : tie.Need-returns-2
+returns-2 : tie.Need-returns
 unfolding weight_in
-returns-2 c = rw (ne_eqb _ 0 c.if1.false) refl
+returns-2 c = rw (ne_eqb _ 0 c.if-word-eq0.false) refl
 
-pub weight-of-spec : {M : Type 1} → statement M
-weight-of-spec = tie.close (tie.spec returns (λ c. search rules) returns-2)
+pub weight_of_spec : {M : Type 1} → statement M
+weight_of_spec = tie.close (tie.spec returns (λ c. search rules) returns-2)

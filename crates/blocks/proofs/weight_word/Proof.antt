@@ -5,13 +5,13 @@ use Rattle.blocks.specs.Words.{weight_word}
 use Rattle.blocks.proofs.weight_word.Statement.{statement}
 use Rattle.blocks.proofs.weight_word.Tie as tie
 
-returns : tie.Need-returns
+returns : tie.Need-returns-then-weight-eq1
 unfolding weight_word
-returns c = rw c.if1.true refl
+returns c = rw c.if-weight-eq1.true refl
 
-returns-2 : tie.Need-returns-2
+returns-2 : tie.Need-returns
 unfolding weight_word
-returns-2 c = rw (ne_eqb _ 1 c.if1.false) refl
+returns-2 c = rw (ne_eqb _ 1 c.if-weight-eq1.false) refl
 
-pub weight-word-spec : {M : Type 1} → statement M
-weight-word-spec = tie.close (tie.spec returns returns-2)
+pub weight_word_spec : {M : Type 1} → statement M
+weight_word_spec = tie.close (tie.spec returns returns-2)

@@ -9,33 +9,33 @@ use Rattle.blocks.proofs.WordLaws.{word_small, word-up, raised-fits, raised-back
 use Rattle.blocks.proofs.word_of.Statement.{statement}
 use Rattle.blocks.proofs.word_of.Tie as tie
 
-negative : (c : tie.Then1) → lt_z c.before.args.z (pos 0) ≡ true
-negative c = flag-lt w32 _ (pos 0) c.before.ranges.z (record { sfits = omega arith }) c.if1.true
+negative : (c : tie.Then-z-lt0) → lt_z c.before.args.z (pos 0) ≡ true
+negative c = flag-lt w32 _ (pos 0) c.before.ranges.z (record { sfits = omega arith }) c.if-z-lt0.true
 
-up : (c : tie.Else1) → to_z w32 (of_z w32 c.before.args.z) ≡ pos (word_of c.before.args.z)
+up : (c : tie.Else-z-lt0) → to_z w32 (of_z w32 c.before.args.z) ≡ pos (word_of c.before.args.z)
 up c =
     to_z-of_z w32 _ c.before.ranges.z
-    ∙ word-up _ (flag-lt w32 _ (pos 0) c.before.ranges.z (record { sfits = omega arith }) c.if1.false)
+    ∙ word-up _ (flag-lt w32 _ (pos 0) c.before.ranges.z (record { sfits = omega arith }) c.if-z-lt0.false)
 
-cast-result : tie.Need-overflow-cast-result
+cast-result : tie.Need-overflow_cast-result
 cast-result c = cast-wide _ c.before.ranges.z
 
-add-result : tie.Need-overflow-add-result
+add-result : tie.Need-overflow_add-result
 add-result c = raised-fits _ c.before.ranges.z (negative c)
 
-cast-result-2 : tie.Need-overflow-cast-result-2
+cast-result-2 : tie.Need-overflow_cast-result-then-z-lt0
 cast-result-2 c =
     rw (raised-back _ c.before.ranges.z (negative c)) (tt, record { fits = omega (arith, word_small _ c.before.ranges.z) })
 
-returns : tie.Need-returns
+returns : tie.Need-returns-then-z-lt0
 returns c = ap nat_abs (raised-back _ c.before.ranges.z (negative c))
 
-cast-result-3 : tie.Need-overflow-cast-result-3
+cast-result-3 : tie.Need-overflow_cast-result-2
 cast-result-3 c = rw (up c) (tt, record { fits = omega (arith, word_small _ c.before.ranges.z) })
 
-returns-2 : tie.Need-returns-2
+returns-2 : tie.Need-returns
 returns-2 c = ap nat_abs (up c)
 
-pub word-of-spec : {M : Type 1} → statement M
-word-of-spec =
+pub word_of_spec : {M : Type 1} → statement M
+word_of_spec =
     tie.close (tie.spec cast-result add-result cast-result-2 returns cast-result-3 returns-2)

@@ -15,39 +15,39 @@ use Rattle.net.proofs.PinLaws.{loads-next, loads-end}
 use Rattle.checks.proofs.any_no_load.Statement.{statement}
 use Rattle.checks.proofs.any_no_load.Tie as tie
 
-abbrev invariant-loop : tie.invariant-loop
+abbrev invariant-loop : tie.invariant-loop-i
 invariant-loop pins m i₀ i = (i ≤ m) × (any no_load (pin_loads pins) ≡ any no_load (drop i (pin_loads pins)))
 
-abbrev decreases-loop : tie.decreases-loop
+abbrev decreases-loop : tie.decreases-loop-i
 decreases-loop pins m i₀ i = m - i
 
-loop-holds : tie.Need-loop-init invariant-loop decreases-loop
+loop-holds : tie.Need-loop-i-init invariant-loop decreases-loop
 loop-holds c = (omega arith, refl)
 
 -- what the call says, of the list
-told : (c : tie.After-is-no-load invariant-loop decreases-loop) → c.is-no-load.result
-    ≡ no_load (load_at c.before.before.before.before.before.args.pins.now c.before.before.before.loop.i)
-told c = c.is-no-load.ensures ∙ ap no_load (to_z-of_z w32 _ (search rules) ∙ c.before.load_at.ensures)
+told : (c : tie.After-is_no_load invariant-loop decreases-loop) → c.is_no_load.result
+    ≡ no_load (load_at c.before.before.before.before.before.args.pins.now c.before.before.before.loop-i.i)
+told c = c.is_no_load.ensures ∙ ap no_load (to_z-of_z w32 _ (search rules) ∙ c.before.load_at.ensures)
 
-returns : tie.Need-returns invariant-loop decreases-loop
+returns : tie.Need-returns-then-is_no_load invariant-loop decreases-loop
 returns c =
     let l = c.before.before.before.before in
-    let next = loads-next l.before.before.args.pins.now l.loop.i (omega arith) in
-    sym (l.loop.invariant.1 ∙ any-hit no_load _ _ _ next (sym (told c.before) ∙ c.if1.true))
+    let next = loads-next l.before.before.args.pins.now l.loop-i.i (omega arith) in
+    sym (l.loop-i.invariant.1 ∙ any-hit no_load _ _ _ next (sym (told c.before) ∙ c.if-is_no_load.true))
 
-loop-again : tie.Need-loop-preserved invariant-loop decreases-loop
+loop-again : tie.Need-loop-i-preserved invariant-loop decreases-loop
 loop-again c =
     let l = c.before.before.before.before in
-    let next = loads-next l.before.before.args.pins.now l.loop.i (omega arith) in
-    (omega arith, l.loop.invariant.1 ∙ any-miss no_load _ _ _ next (sym (told c.before) ∙ c.if1.false))
+    let next = loads-next l.before.before.args.pins.now l.loop-i.i (omega arith) in
+    (omega arith, l.loop-i.invariant.1 ∙ any-miss no_load _ _ _ next (sym (told c.before) ∙ c.if-is_no_load.false))
 
-returns-2 : tie.Need-returns-2 invariant-loop decreases-loop
+returns-2 : tie.Need-returns invariant-loop decreases-loop
 returns-2 c =
     let l = c.before in
-    sym (l.loop.invariant.1 ∙ any-end no_load _ (loads-end l.before.before.args.pins.now l.loop.i (omega arith)))
+    sym (l.loop-i.invariant.1 ∙ any-end no_load _ (loads-end l.before.before.args.pins.now l.loop-i.i (omega arith)))
 
-pub any-no-load-spec : {M : Type 1} → statement M
-any-no-load-spec =
+pub any_no_load_spec : {M : Type 1} → statement M
+any_no_load_spec =
     tie.close
     (tie.spec
     invariant-loop

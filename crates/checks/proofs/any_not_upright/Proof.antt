@@ -12,51 +12,51 @@ use Rattle.net.specs.Tests.{not_upright}
 use Rattle.checks.proofs.any_not_upright.Statement.{statement}
 use Rattle.checks.proofs.any_not_upright.Tie as tie
 
-abbrev invariant-loop : tie.invariant-loop
+abbrev invariant-loop : tie.invariant-loop-i
 invariant-loop macros k i₀ i = (i ≤ k) × (any not_upright (macros_of macros) ≡ any not_upright (drop i (macros_of macros)))
 
-abbrev decreases-loop : tie.decreases-loop
+abbrev decreases-loop : tie.decreases-loop-i
 decreases-loop macros k i₀ i = k - i
 
-macro-count-requires : tie.Need-macro-count-requires invariant-loop decreases-loop
+macro-count-requires : tie.Need-macro_count-k-requires invariant-loop decreases-loop
 macro-count-requires c κs = tt
 
-loop-holds : tie.Need-loop-init invariant-loop decreases-loop
+loop-holds : tie.Need-loop-i-init invariant-loop decreases-loop
 loop-holds c = (omega arith, refl)
 
-is-not-upright-requires : tie.Need-is-not-upright-requires invariant-loop decreases-loop
+is-not-upright-requires : tie.Need-is_not_upright-requires invariant-loop decreases-loop
 is-not-upright-requires c κs = tt
 
 -- what the call says, of the list
-told : (c : tie.After-is-not-upright invariant-loop decreases-loop)
-    → c.is-not-upright.result
-    ≡ not_upright (macro_at c.before.before.before.before.before.args.macros.now c.before.before.before.loop.i)
-told c = c.is-not-upright.ensures ∙ ap not_upright c.before.macro-at.ensures
+told : (c : tie.After-is_not_upright invariant-loop decreases-loop)
+    → c.is_not_upright.result
+    ≡ not_upright (macro_at c.before.before.before.before.before.args.macros.now c.before.before.before.loop-i.i)
+told c = c.is_not_upright.ensures ∙ ap not_upright c.before.macro_at.ensures
 
-returns : tie.Need-returns invariant-loop decreases-loop
+returns : tie.Need-returns-then-is_not_upright invariant-loop decreases-loop
 returns c =
     let l = c.before.before.before.before in
     sym
-    (l.loop.invariant.1
-    ∙ any-hit not_upright _ _ _ (macros-next l.before.before.args.macros.now l.loop.i (omega arith))
-    (sym (told c.before) ∙ c.if1.true))
+    (l.loop-i.invariant.1
+    ∙ any-hit not_upright _ _ _ (macros-next l.before.before.args.macros.now l.loop-i.i (omega arith))
+    (sym (told c.before) ∙ c.if-is_not_upright.true))
 
-loop-again : tie.Need-loop-preserved invariant-loop decreases-loop
+loop-again : tie.Need-loop-i-preserved invariant-loop decreases-loop
 loop-again c =
     let l = c.before.before.before.before in (
       omega arith,
-      l.loop.invariant.1
-          ∙ any-miss not_upright _ _ _ (macros-next l.before.before.args.macros.now l.loop.i (omega arith))
-          (sym (told c.before) ∙ c.if1.false),
+      l.loop-i.invariant.1
+          ∙ any-miss not_upright _ _ _ (macros-next l.before.before.args.macros.now l.loop-i.i (omega arith))
+          (sym (told c.before) ∙ c.if-is_not_upright.false),
     )
 
-returns-2 : tie.Need-returns-2 invariant-loop decreases-loop
+returns-2 : tie.Need-returns invariant-loop decreases-loop
 returns-2 c =
     let l = c.before in
-    sym (l.loop.invariant.1 ∙ any-end not_upright _ (macros-end l.before.before.args.macros.now l.loop.i (omega arith)))
+    sym (l.loop-i.invariant.1 ∙ any-end not_upright _ (macros-end l.before.before.args.macros.now l.loop-i.i (omega arith)))
 
-pub any-not-upright-spec : {M : Type 1} → statement M
-any-not-upright-spec =
+pub any_not_upright_spec : {M : Type 1} → statement M
+any_not_upright_spec =
     tie.close
     (tie.spec
     invariant-loop decreases-loop macro-count-requires loop-holds (λ c κs. omega arith) is-not-upright-requires returns

@@ -18,20 +18,20 @@ use Rattle.net.specs.Tests.{out_of_range}
 use Rattle.checks.proofs.any_out_of_range.Statement.{statement}
 use Rattle.checks.proofs.any_out_of_range.Tie as tie
 
-abbrev invariant-loop : tie.invariant-loop
+abbrev invariant-loop : tie.invariant-loop-i
 invariant-loop numbers i₀ i = (i ≤ length numbers) × (any out_of_range numbers ≡ any out_of_range (drop i numbers))
 
-abbrev decreases-loop : tie.decreases-loop
+abbrev decreases-loop : tie.decreases-loop-i
 decreases-loop numbers i₀ i = length numbers - i
 
-loop-holds : tie.Need-loop-init invariant-loop decreases-loop
+loop-holds : tie.Need-loop-i-init invariant-loop decreases-loop
 loop-holds c = (omega arith, refl)
 
 shared-slice-copy-out-is-out-of-range :
-    tie.Need-shared-slice-copy-out-is-out-of-range invariant-loop decreases-loop
+    tie.Need-bounds-numbers-i invariant-loop decreases-loop
 shared-slice-copy-out-is-out-of-range c = omega arith
 
-is-out-of-range-requires : tie.Need-is-out-of-range-requires invariant-loop decreases-loop
+is-out-of-range-requires : tie.Need-is_out_of_range-requires invariant-loop decreases-loop
 is-out-of-range-requires c κs = tt
 
 -- the next number of a scan
@@ -39,40 +39,40 @@ next : (s : List ℤ) (i : ℕ) → i < length s → drop i s ≡ get_or s i (po
 next s i h = rw add-one (drop-cons s i (pos 0) h)
 
 -- what the call says, of the list
-told : (c : tie.After-is-out-of-range invariant-loop decreases-loop)
-    → c.is-out-of-range.result
-    ≡ out_of_range (get_or c.before.before.before.before.args.numbers.now c.before.before.before.loop.i (pos 0))
+told : (c : tie.After-is_out_of_range invariant-loop decreases-loop)
+    → c.is_out_of_range.result
+    ≡ out_of_range (get_or c.before.before.before.before.args.numbers.now c.before.before.before.loop-i.i (pos 0))
 told c =
-    let n = get_or c.before.before.before.before.args.numbers.now c.before.before.before.loop.i (pos 0) in
+    let n = get_or c.before.before.before.before.args.numbers.now c.before.before.before.loop-i.i (pos 0) in
     let f : SFits w32 n = search rules in
-    c.is-out-of-range.ensures ∙ ap out_of_range (to_z-of_z w32 n f)
+    c.is_out_of_range.ensures ∙ ap out_of_range (to_z-of_z w32 n f)
 
-returns : tie.Need-returns invariant-loop decreases-loop
+returns : tie.Need-returns-then-is_out_of_range invariant-loop decreases-loop
 returns c =
     let l = c.before.before.before.before in
     sym
-    (l.loop.invariant.1
-    ∙ any-hit out_of_range _ _ _ (next l.before.args.numbers.now l.loop.i (omega arith))
-    (sym (told c.before) ∙ c.if1.true))
+    (l.loop-i.invariant.1
+    ∙ any-hit out_of_range _ _ _ (next l.before.args.numbers.now l.loop-i.i (omega arith))
+    (sym (told c.before) ∙ c.if-is_out_of_range.true))
 
-loop-again : tie.Need-loop-preserved invariant-loop decreases-loop
+loop-again : tie.Need-loop-i-preserved invariant-loop decreases-loop
 loop-again c =
     let l = c.before.before.before.before in (
       omega arith,
-      l.loop.invariant.1
-          ∙ any-miss out_of_range _ _ _ (next l.before.args.numbers.now l.loop.i (omega arith))
-          (sym (told c.before) ∙ c.if1.false),
+      l.loop-i.invariant.1
+          ∙ any-miss out_of_range _ _ _ (next l.before.args.numbers.now l.loop-i.i (omega arith))
+          (sym (told c.before) ∙ c.if-is_out_of_range.false),
     )
 
-returns-2 : tie.Need-returns-2 invariant-loop decreases-loop
+returns-2 : tie.Need-returns invariant-loop decreases-loop
 returns-2 c =
     let l = c.before in
     let s = l.before.args.numbers.now in
-    let e : length s ≤ l.loop.i = omega arith in
-    sym (l.loop.invariant.1 ∙ any-end out_of_range _ (drop_of_length-le s e))
+    let e : length s ≤ l.loop-i.i = omega arith in
+    sym (l.loop-i.invariant.1 ∙ any-end out_of_range _ (drop_of_length-le s e))
 
-pub any-out-of-range-spec : {M : Type 1} → statement M
-any-out-of-range-spec =
+pub any_out_of_range_spec : {M : Type 1} → statement M
+any_out_of_range_spec =
     tie.close
     (tie.spec
     invariant-loop decreases-loop loop-holds (λ c. omega arith) shared-slice-copy-out-is-out-of-range is-out-of-range-requires returns

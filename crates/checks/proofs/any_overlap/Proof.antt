@@ -14,11 +14,11 @@ use Rattle.plane.proofs.FlatLaws.{macros-next, macros-end}
 use Rattle.checks.proofs.any_overlap.Statement.{statement}
 use Rattle.checks.proofs.any_overlap.Tie as tie
 
-abbrev invariant-loop : tie.invariant-loop
+abbrev invariant-loop : tie.invariant-loop-j
 invariant-loop macros k found₀ i m j₀ found j =
     (j ≤ k) × (found ≡ false) × (any (interiors_meet m) (drop (i + 1) (macros_of macros)) ≡ any (interiors_meet m) (drop j (macros_of macros)))
 
-abbrev decreases-loop : tie.decreases-loop
+abbrev decreases-loop : tie.decreases-loop-j
 decreases-loop macros k found₀ i m j₀ found j = k - j
 
 abbrev invariant-search : tie.invariant-search
@@ -28,36 +28,36 @@ invariant-search macros k found₀ i₀ found i =
 abbrev decreases-search : tie.decreases-search
 decreases-search macros k found₀ i₀ found i = k - i
 
-macro-count-requires : tie.Need-macro-count-requires invariant-loop decreases-loop invariant-search decreases-search
+macro-count-requires : tie.Need-macro_count-k-requires invariant-loop decreases-loop invariant-search decreases-search
 macro-count-requires c κs = tt
 
 search-holds : tie.Need-search-init invariant-loop decreases-loop invariant-search decreases-search
 search-holds c = (omega arith, refl, refl)
 
-loop-holds : tie.Need-loop-init invariant-loop decreases-loop invariant-search decreases-search
+loop-holds : tie.Need-loop-j-init invariant-loop decreases-loop invariant-search decreases-search
 loop-holds c = (omega arith, c.before.before.search.invariant.1, refl)
 
-interiors-meet-requires : tie.Need-interiors-meet-requires invariant-loop decreases-loop invariant-search decreases-search
+interiors-meet-requires : tie.Need-interiors_meet-requires invariant-loop decreases-loop invariant-search decreases-search
 interiors-meet-requires c κs = tt
 
 -- what the test of a pair says, of the list
-told : (c : tie.After-interiors-meet invariant-loop decreases-loop invariant-search decreases-search)
-    → c.interiors-meet.result
-    ≡ interiors_meet c.before.before.before.before.macro-at.result
-    (macro_at c.before.before.before.before.before.before.before.before.args.macros.now c.before.before.before.loop.j)
+told : (c : tie.After-interiors_meet invariant-loop decreases-loop invariant-search decreases-search)
+    → c.interiors_meet.result
+    ≡ interiors_meet c.before.before.before.before.macro_at-m.result
+    (macro_at c.before.before.before.before.before.before.before.before.args.macros.now c.before.before.before.loop-j.j)
 told c =
-    c.interiors-meet.ensures
-    ∙ ap (interiors_meet c.before.before.before.before.macro-at.result) c.before.macro-at2.ensures
+    c.interiors_meet.ensures
+    ∙ ap (interiors_meet c.before.before.before.before.macro_at-m.result) c.before.macro_at.ensures
 
-loop-again : tie.Need-loop-preserved invariant-loop decreases-loop invariant-search decreases-search
+loop-again : tie.Need-loop-j-preserved invariant-loop decreases-loop invariant-search decreases-search
 loop-again c =
     let l = c.before.before.before.before in
     let s = l.before.before.before.before.before.args.macros.now in (
       omega arith,
-      l.loop.invariant.1,
-      l.loop.invariant.2
-          ∙ any-miss (interiors_meet l.before.macro-at.result) _ _ _ (macros-next s l.loop.j (omega arith))
-          (sym (told c.before) ∙ c.if1.false),
+      l.loop-j.invariant.1,
+      l.loop-j.invariant.2
+          ∙ any-miss (interiors_meet l.before.macro_at-m.result) _ _ _ (macros-next s l.loop-j.j (omega arith))
+          (sym (told c.before) ∙ c.if-interiors_meet.false),
     )
 
 search-again : tie.Need-search-preserved invariant-loop decreases-loop invariant-search decreases-search
@@ -66,31 +66,31 @@ search-again c =
     let o = l.before.before.before in
     let s = o.before.before.args.macros.now in
     let none : any (interiors_meet (macro_at s o.search.i)) (drop (o.search.i + 1) (macros_of s)) ≡ false =
-    rw (← l.before.macro-at.ensures) (l.loop.invariant.2
-    ∙ any-end (interiors_meet l.before.macro-at.result) _ (macros-end s l.loop.j (omega arith)))
+    rw (← l.before.macro_at-m.ensures) (l.loop-j.invariant.2
+    ∙ any-end (interiors_meet l.before.macro_at-m.result) _ (macros-end s l.loop-j.j (omega arith)))
     in
-    (omega arith, l.loop.invariant.1, o.search.invariant.2 ∙ two-miss interiors_meet _ _ _ (macros-next s o.search.i (omega arith)) none)
+    (omega arith, l.loop-j.invariant.1, o.search.invariant.2 ∙ two-miss interiors_meet _ _ _ (macros-next s o.search.i (omega arith)) none)
 
-returns : tie.Need-returns invariant-loop decreases-loop invariant-search decreases-search
+returns : tie.Need-returns-after-search invariant-loop decreases-loop invariant-search decreases-search
 returns c =
     let o = c.before in
     o.search.invariant.1
     ∙ sym (o.search.invariant.2 ∙ two-end interiors_meet _ (macros-end o.before.before.args.macros.now o.search.i (omega arith)))
 
-returns-2 : tie.Need-returns-2 invariant-loop decreases-loop invariant-search decreases-search
+returns-2 : tie.Need-returns-then-interiors_meet invariant-loop decreases-loop invariant-search decreases-search
 returns-2 c =
     let l = c.before.before.before.before in
     let o = l.before.before.before in
     let s = o.before.before.args.macros.now in
     let some : any (interiors_meet (macro_at s o.search.i)) (drop (o.search.i + 1) (macros_of s)) ≡ true =
-    rw (← l.before.macro-at.ensures) (l.loop.invariant.2
-    ∙ any-hit (interiors_meet l.before.macro-at.result) _ _ _ (macros-next s l.loop.j (omega arith))
-    (sym (told c.before) ∙ c.if1.true))
+    rw (← l.before.macro_at-m.ensures) (l.loop-j.invariant.2
+    ∙ any-hit (interiors_meet l.before.macro_at-m.result) _ _ _ (macros-next s l.loop-j.j (omega arith))
+    (sym (told c.before) ∙ c.if-interiors_meet.true))
     in
     sym (o.search.invariant.2 ∙ two-hit interiors_meet _ _ _ (macros-next s o.search.i (omega arith)) some)
 
-pub any-overlap-spec : {M : Type 1} → statement M
-any-overlap-spec =
+pub any_overlap_spec : {M : Type 1} → statement M
+any_overlap_spec =
     tie.close
     (tie.spec
     invariant-loop decreases-loop invariant-search decreases-search macro-count-requires search-holds (λ c κs. omega arith) (λ c. omega arith)

@@ -17,56 +17,56 @@ use Rattle.net.specs.Tests.{inside_any}
 use Rattle.checks.proofs.any_pin_inside.Statement.{statement}
 use Rattle.checks.proofs.any_pin_inside.Tie as tie
 
-abbrev invariant-loop : tie.invariant-loop
+abbrev invariant-loop : tie.invariant-loop-i
 invariant-loop pins macros m i₀ i =
     (i ≤ m) × (any (inside_any (macros_of macros)) (pin_places pins) ≡ any (inside_any (macros_of macros)) (drop i (pin_places pins)))
 
-abbrev decreases-loop : tie.decreases-loop
+abbrev decreases-loop : tie.decreases-loop-i
 decreases-loop pins macros m i₀ i = m - i
 
-pin-count-requires : tie.Need-pin-count-requires invariant-loop decreases-loop
+pin-count-requires : tie.Need-pin_count-m-requires invariant-loop decreases-loop
 pin-count-requires c κs = tt
 
-loop-holds : tie.Need-loop-init invariant-loop decreases-loop
+loop-holds : tie.Need-loop-i-init invariant-loop decreases-loop
 loop-holds c = (omega arith, refl)
 
-is-clear-requires : tie.Need-is-clear-requires invariant-loop decreases-loop
+is-clear-requires : tie.Need-is_clear-requires invariant-loop decreases-loop
 is-clear-requires c κs = tt
 
 -- what the call says, of the lists
-told : (c : tie.After-is-clear invariant-loop decreases-loop)
-    → not c.is-clear.result
+told : (c : tie.After-is_clear invariant-loop decreases-loop)
+    → not c.is_clear.result
     ≡ inside_any (macros_of c.before.before.before.before.before.args.macros.now)
-    (pin_at c.before.before.before.before.before.args.pins.now c.before.before.before.loop.i)
+    (pin_at c.before.before.before.before.before.args.pins.now c.before.before.before.loop-i.i)
 unfolding inside_any
 told c =
     let ms = macros_of c.before.before.before.before.before.args.macros.now in
-    ap not c.is-clear.ensures ∙ ap (λ (p : Place). not (clear p p ms)) c.before.pin_at.ensures ∙ clear-of-itself _ ms
+    ap not c.is_clear.ensures ∙ ap (λ (p : Place). not (clear p p ms)) c.before.pin_at-p.ensures ∙ clear-of-itself _ ms
 
-returns : tie.Need-returns invariant-loop decreases-loop
+returns : tie.Need-returns-then-not-is_clear invariant-loop decreases-loop
 returns c =
     let l = c.before.before.before.before in
     sym
-    (l.loop.invariant.1
-    ∙ any-hit (inside_any _) _ _ _ (pins-next l.before.before.args.pins.now l.loop.i (omega arith))
-    (sym (told c.before) ∙ c.if1.true))
+    (l.loop-i.invariant.1
+    ∙ any-hit (inside_any _) _ _ _ (pins-next l.before.before.args.pins.now l.loop-i.i (omega arith))
+    (sym (told c.before) ∙ c.if-not-is_clear.true))
 
-loop-again : tie.Need-loop-preserved invariant-loop decreases-loop
+loop-again : tie.Need-loop-i-preserved invariant-loop decreases-loop
 loop-again c =
     let l = c.before.before.before.before in (
       omega arith,
-      l.loop.invariant.1
-          ∙ any-miss (inside_any _) _ _ _ (pins-next l.before.before.args.pins.now l.loop.i (omega arith))
-          (sym (told c.before) ∙ c.if1.false),
+      l.loop-i.invariant.1
+          ∙ any-miss (inside_any _) _ _ _ (pins-next l.before.before.args.pins.now l.loop-i.i (omega arith))
+          (sym (told c.before) ∙ c.if-not-is_clear.false),
     )
 
-returns-2 : tie.Need-returns-2 invariant-loop decreases-loop
+returns-2 : tie.Need-returns invariant-loop decreases-loop
 returns-2 c =
     let l = c.before in
-    sym (l.loop.invariant.1 ∙ any-end (inside_any _) _ (pins-end l.before.before.args.pins.now l.loop.i (omega arith)))
+    sym (l.loop-i.invariant.1 ∙ any-end (inside_any _) _ (pins-end l.before.before.args.pins.now l.loop-i.i (omega arith)))
 
-pub any-pin-inside-spec : {M : Type 1} → statement M
-any-pin-inside-spec =
+pub any_pin_inside_spec : {M : Type 1} → statement M
+any_pin_inside_spec =
     tie.close
     (tie.spec
     invariant-loop decreases-loop pin-count-requires loop-holds (λ c κs. omega arith) is-clear-requires returns (λ c. omega arith)

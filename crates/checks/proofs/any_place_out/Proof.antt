@@ -12,39 +12,39 @@ use Rattle.net.proofs.PinLaws.{pins-next, pins-end}
 use Rattle.checks.proofs.any_place_out.Statement.{statement}
 use Rattle.checks.proofs.any_place_out.Tie as tie
 
-abbrev invariant-loop : tie.invariant-loop
+abbrev invariant-loop : tie.invariant-loop-i
 invariant-loop pins m i₀ i = (i ≤ m) × (any place_out (pin_places pins) ≡ any place_out (drop i (pin_places pins)))
 
-abbrev decreases-loop : tie.decreases-loop
+abbrev decreases-loop : tie.decreases-loop-i
 decreases-loop pins m i₀ i = m - i
 
-loop-holds : tie.Need-loop-init invariant-loop decreases-loop
+loop-holds : tie.Need-loop-i-init invariant-loop decreases-loop
 loop-holds c = (omega arith, refl)
 
 -- what the call says, of the list
-told : (c : tie.After-is-place-out invariant-loop decreases-loop) → c.is-place-out.result
-    ≡ place_out (pin_at c.before.before.before.before.before.args.pins.now c.before.before.before.loop.i)
-told c = c.is-place-out.ensures ∙ ap place_out c.before.pin_at.ensures
+told : (c : tie.After-is_place_out invariant-loop decreases-loop) → c.is_place_out.result
+    ≡ place_out (pin_at c.before.before.before.before.before.args.pins.now c.before.before.before.loop-i.i)
+told c = c.is_place_out.ensures ∙ ap place_out c.before.pin_at.ensures
 
-returns : tie.Need-returns invariant-loop decreases-loop
+returns : tie.Need-returns-then-is_place_out invariant-loop decreases-loop
 returns c =
     let l = c.before.before.before.before in
-    let next = pins-next l.before.before.args.pins.now l.loop.i (omega arith) in
-    sym (l.loop.invariant.1 ∙ any-hit place_out _ _ _ next (sym (told c.before) ∙ c.if1.true))
+    let next = pins-next l.before.before.args.pins.now l.loop-i.i (omega arith) in
+    sym (l.loop-i.invariant.1 ∙ any-hit place_out _ _ _ next (sym (told c.before) ∙ c.if-is_place_out.true))
 
-loop-again : tie.Need-loop-preserved invariant-loop decreases-loop
+loop-again : tie.Need-loop-i-preserved invariant-loop decreases-loop
 loop-again c =
     let l = c.before.before.before.before in
-    let next = pins-next l.before.before.args.pins.now l.loop.i (omega arith) in
-    (omega arith, l.loop.invariant.1 ∙ any-miss place_out _ _ _ next (sym (told c.before) ∙ c.if1.false))
+    let next = pins-next l.before.before.args.pins.now l.loop-i.i (omega arith) in
+    (omega arith, l.loop-i.invariant.1 ∙ any-miss place_out _ _ _ next (sym (told c.before) ∙ c.if-is_place_out.false))
 
-returns-2 : tie.Need-returns-2 invariant-loop decreases-loop
+returns-2 : tie.Need-returns invariant-loop decreases-loop
 returns-2 c =
     let l = c.before in
-    sym (l.loop.invariant.1 ∙ any-end place_out _ (pins-end l.before.before.args.pins.now l.loop.i (omega arith)))
+    sym (l.loop-i.invariant.1 ∙ any-end place_out _ (pins-end l.before.before.args.pins.now l.loop-i.i (omega arith)))
 
-pub any-place-out-spec : {M : Type 1} → statement M
-any-place-out-spec =
+pub any_place_out_spec : {M : Type 1} → statement M
+any_place_out_spec =
     tie.close
     (tie.spec
     invariant-loop

@@ -13,60 +13,60 @@ use Rattle.net.proofs.PinLaws.{pins-next, pins-end}
 use Rattle.checks.proofs.any_same_place.Statement.{statement}
 use Rattle.checks.proofs.any_same_place.Tie as tie
 
-abbrev invariant-loop : tie.invariant-loop
+abbrev invariant-loop : tie.invariant-loop-i
 invariant-loop pins m i₀ i = (i ≤ m) × (any_two same_place (pin_places pins) ≡ any_two same_place (drop i (pin_places pins)))
 
-abbrev decreases-loop : tie.decreases-loop
+abbrev decreases-loop : tie.decreases-loop-i
 decreases-loop pins m i₀ i = m - i
 
-pin-count-requires : tie.Need-pin-count-requires invariant-loop decreases-loop
+pin-count-requires : tie.Need-pin_count-m-requires invariant-loop decreases-loop
 pin-count-requires c κs = tt
 
-loop-holds : tie.Need-loop-init invariant-loop decreases-loop
+loop-holds : tie.Need-loop-i-init invariant-loop decreases-loop
 loop-holds c = (omega arith, refl)
 
-add-is-among : tie.Need-overflow-add-is-among invariant-loop decreases-loop
+add-is-among : tie.Need-overflow_add-i invariant-loop decreases-loop
 unfolding pin_count
 add-is-among c = omega arith
 
-is-among-requires : tie.Need-is-among-requires invariant-loop decreases-loop
+is-among-requires : tie.Need-is_among-requires invariant-loop decreases-loop
 is-among-requires c κs = tt
 
 -- what the call says, of the list
-told : (c : tie.After-is-among invariant-loop decreases-loop)
+told : (c : tie.After-is_among invariant-loop decreases-loop)
     → c.is_among.result
-    ≡ any (same_place (pin_at c.before.before.before.before.before.args.pins.now c.before.before.before.loop.i))
-    (drop (c.before.before.before.loop.i + 1) (pin_places c.before.before.before.before.before.args.pins.now))
+    ≡ any (same_place (pin_at c.before.before.before.before.before.args.pins.now c.before.before.before.loop-i.i))
+    (drop (c.before.before.before.loop-i.i + 1) (pin_places c.before.before.before.before.before.args.pins.now))
 told c =
     let l = c.before.before.before in
     c.is_among.ensures
-    ∙ ap (λ (p : Place). any (same_place p) (drop (l.loop.i + 1) (pin_places l.before.before.args.pins.now)))
+    ∙ ap (λ (p : Place). any (same_place p) (drop (l.loop-i.i + 1) (pin_places l.before.before.args.pins.now)))
     c.before.pin_at.ensures
 
-returns : tie.Need-returns invariant-loop decreases-loop
+returns : tie.Need-returns-then-is_among invariant-loop decreases-loop
 returns c =
     let l = c.before.before.before.before in
     sym
-    (l.loop.invariant.1
-    ∙ two-hit same_place _ _ _ (pins-next l.before.before.args.pins.now l.loop.i (omega arith))
-    (sym (told c.before) ∙ c.if1.true))
+    (l.loop-i.invariant.1
+    ∙ two-hit same_place _ _ _ (pins-next l.before.before.args.pins.now l.loop-i.i (omega arith))
+    (sym (told c.before) ∙ c.if-is_among.true))
 
-loop-again : tie.Need-loop-preserved invariant-loop decreases-loop
+loop-again : tie.Need-loop-i-preserved invariant-loop decreases-loop
 loop-again c =
     let l = c.before.before.before.before in (
       omega arith,
-      l.loop.invariant.1
-          ∙ two-miss same_place _ _ _ (pins-next l.before.before.args.pins.now l.loop.i (omega arith))
-          (sym (told c.before) ∙ c.if1.false),
+      l.loop-i.invariant.1
+          ∙ two-miss same_place _ _ _ (pins-next l.before.before.args.pins.now l.loop-i.i (omega arith))
+          (sym (told c.before) ∙ c.if-is_among.false),
     )
 
-returns-2 : tie.Need-returns-2 invariant-loop decreases-loop
+returns-2 : tie.Need-returns invariant-loop decreases-loop
 returns-2 c =
     let l = c.before in
-    sym (l.loop.invariant.1 ∙ two-end same_place _ (pins-end l.before.before.args.pins.now l.loop.i (omega arith)))
+    sym (l.loop-i.invariant.1 ∙ two-end same_place _ (pins-end l.before.before.args.pins.now l.loop-i.i (omega arith)))
 
-pub any-same-place-spec : {M : Type 1} → statement M
-any-same-place-spec =
+pub any_same_place_spec : {M : Type 1} → statement M
+any_same_place_spec =
     tie.close
     (tie.spec
     invariant-loop decreases-loop pin-count-requires loop-holds (λ c κs. omega arith) add-is-among is-among-requires returns

@@ -12,49 +12,49 @@ use Rattle.net.proofs.PinLaws.{pins-next, pins-end}
 use Rattle.checks.proofs.is_among.Statement.{statement}
 use Rattle.checks.proofs.is_among.Tie as tie
 
-abbrev invariant-loop : tie.invariant-loop
+abbrev invariant-loop : tie.invariant-loop-j
 invariant-loop p pins from m j₀ j = any (same_place p) (drop from (pin_places pins)) ≡ any (same_place p) (drop j (pin_places pins))
 
-abbrev decreases-loop : tie.decreases-loop
+abbrev decreases-loop : tie.decreases-loop-j
 decreases-loop p pins from m j₀ j = m - j
 
-pin-count-requires : tie.Need-pin-count-requires invariant-loop decreases-loop
+pin-count-requires : tie.Need-pin_count-m-requires invariant-loop decreases-loop
 pin-count-requires c κs = tt
 
-is-same-place-requires : tie.Need-is-same-place-requires invariant-loop decreases-loop
+is-same-place-requires : tie.Need-is_same_place-requires invariant-loop decreases-loop
 is-same-place-requires c κs = tt
 
 -- what the call says, of the list
-told : (c : tie.After-is-same-place invariant-loop decreases-loop)
-    → c.is-same-place.result
+told : (c : tie.After-is_same_place invariant-loop decreases-loop)
+    → c.is_same_place.result
     ≡ same_place c.before.before.before.before.before.args.p
-    (pin_at c.before.before.before.before.before.args.pins.now c.before.before.before.loop.j)
-told c = c.is-same-place.ensures ∙ ap (same_place c.before.before.before.before.before.args.p) c.before.pin_at.ensures
+    (pin_at c.before.before.before.before.before.args.pins.now c.before.before.before.loop-j.j)
+told c = c.is_same_place.ensures ∙ ap (same_place c.before.before.before.before.before.args.p) c.before.pin_at.ensures
 
-returns : tie.Need-returns invariant-loop decreases-loop
+returns : tie.Need-returns-then-is_same_place invariant-loop decreases-loop
 returns c =
     let l = c.before.before.before.before in
     sym
-    (l.loop.invariant
-    ∙ any-hit (same_place l.before.before.args.p) _ _ _ (pins-next l.before.before.args.pins.now l.loop.j (omega arith))
-    (sym (told c.before) ∙ c.if1.true))
+    (l.loop-j.invariant
+    ∙ any-hit (same_place l.before.before.args.p) _ _ _ (pins-next l.before.before.args.pins.now l.loop-j.j (omega arith))
+    (sym (told c.before) ∙ c.if-is_same_place.true))
 
-loop-again : tie.Need-loop-preserved invariant-loop decreases-loop
+loop-again : tie.Need-loop-j-preserved invariant-loop decreases-loop
 loop-again c =
     let l = c.before.before.before.before in
-    l.loop.invariant
-    ∙ any-miss (same_place l.before.before.args.p) _ _ _ (pins-next l.before.before.args.pins.now l.loop.j (omega arith))
-    (sym (told c.before) ∙ c.if1.false)
+    l.loop-j.invariant
+    ∙ any-miss (same_place l.before.before.args.p) _ _ _ (pins-next l.before.before.args.pins.now l.loop-j.j (omega arith))
+    (sym (told c.before) ∙ c.if-is_same_place.false)
 
-returns-2 : tie.Need-returns-2 invariant-loop decreases-loop
+returns-2 : tie.Need-returns invariant-loop decreases-loop
 returns-2 c =
     let l = c.before in
     sym
-    (l.loop.invariant
-    ∙ any-end (same_place l.before.before.args.p) _ (pins-end l.before.before.args.pins.now l.loop.j (omega arith)))
+    (l.loop-j.invariant
+    ∙ any-end (same_place l.before.before.args.p) _ (pins-end l.before.before.args.pins.now l.loop-j.j (omega arith)))
 
-pub is-among-spec : {M : Type 1} → statement M
-is-among-spec =
+pub is_among_spec : {M : Type 1} → statement M
+is_among_spec =
     tie.close
     (tie.spec
     invariant-loop decreases-loop pin-count-requires (λ c. refl) (λ c κs. omega arith) is-same-place-requires returns

@@ -5,14 +5,14 @@ use borrow.Author.Rules.{rules}
 use Rattle.forest.proofs.adopt_by.Statement.{statement}
 use Rattle.forest.proofs.adopt_by.Tie as tie
 
-returns : tie.Need-returns
-returns c = adopt-yes _ _ _ _ _ _ _ _ c.before.leads.ensures c.if1.true
+returns : tie.Need-returns-then-v-n
+returns c = adopt-yes _ _ _ _ _ _ _ _ c.before.leads.ensures c.if-v-n.true
 
-returns-2 : tie.Need-returns-2
-returns-2 c = adopt-no _ _ _ _ _ _ _ _ c.before.leads.ensures c.if1.false
+returns-2 : tie.Need-returns-else-v-n
+returns-2 c = adopt-no _ _ _ _ _ _ _ _ c.before.leads.ensures c.if-v-n.false
 
-pub adopt-by-spec : {M : Type 1} → statement M
-adopt-by-spec =
+pub adopt_by_spec : {M : Type 1} → statement M
+adopt_by_spec =
     tie.close
     (tie.spec
     (λ c. search rules) (λ c. search rules) (λ c κs. search rules) (λ c. search rules) (λ c. search rules)

@@ -32,5 +32,5 @@ returns c =
     c.before.before.before.before.before.before.before.before.start.ensures
     c.before.before.before.before.before.settle.ensures c.adopt.ensures
 
-pub forest-spec : {M : Type 1} → statement M
-forest-spec = tie.close (tie.spec start-requires settle-requires adopt-requires returns)
+pub forest_spec : {M : Type 1} → statement M
+forest_spec = tie.close (tie.spec start-requires settle-requires adopt-requires returns)

@@ -7,7 +7,7 @@ use borrow.Author.Rules.{rules}
 use Rattle.forest.proofs.leads.Statement.{statement}
 use Rattle.forest.proofs.leads.Tie as tie
 
-add-result : tie.Need-overflow-add-result
+add-result : tie.Need-overflow_add-result
 add-result c =
     let s = c.before.before.before in
     omega (arith, s.requires.1.0.low s.args.w)
@@ -16,8 +16,8 @@ returns : tie.Need-returns
 unfolding leads
 returns c = refl
 
-pub leads-spec : {M : Type 1} → statement M
-leads-spec =
+pub leads_spec : {M : Type 1} → statement M
+leads_spec =
     tie.close
     (tie.spec
     (λ c. search rules) (λ c. search rules) (λ c. search rules) (λ c. search rules) (λ c. search rules)

@@ -8,25 +8,25 @@ use borrow.Author.Rules.{rules}
 use Rattle.forest.proofs.offer.Statement.{statement}
 use Rattle.forest.proofs.offer.Tie as tie
 
-add-f : tie.Need-overflow-add-f
+add-f : tie.Need-overflow_add-f
 add-f c =
     let s = c.before in
     omega (arith, s.requires.1.0.low s.args.u)
 
-returns : tie.Need-returns
+returns : tie.Need-returns-then-is_better
 unfolding gains
 returns c =
-    let g = sym c.if1.true ∙ c.before.is-better.ensures in
+    let g = sym c.if-is_better.true ∙ c.before.is_better.ensures in
     (g, sym (offer-yes _ _ _ _ (sym g)))
 
-returns-2 : tie.Need-returns-2
+returns-2 : tie.Need-returns
 unfolding gains
 returns-2 c =
-    let g = sym c.if1.false ∙ c.before.is-better.ensures in
+    let g = sym c.if-is_better.false ∙ c.before.is_better.ensures in
     (g, sym (offer-no _ _ _ _ (sym g)))
 
-pub offer-spec : {M : Type 1} → statement M
-offer-spec =
+pub offer_spec : {M : Type 1} → statement M
+offer_spec =
     tie.close
     (tie.spec
     (λ c. search rules) (λ c. search rules) add-f (λ c. search rules) (λ c. search rules) (λ c. search rules)

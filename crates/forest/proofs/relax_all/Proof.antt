@@ -10,35 +10,35 @@ use Rattle.forest.proofs.LabelLaws.{Passing, pass-none, pass-more, pass-end}
 use Rattle.forest.proofs.relax_all.Statement.{statement}
 use Rattle.forest.proofs.relax_all.Tie as tie
 
-abbrev invariant-loop : tie.invariant-loop
+abbrev invariant-loop : tie.invariant-loop-k
 invariant-loop ea eb el e far₀ root₀ moved₀ k₀ far root moved k =
     (k ≤ e) × Passing (graph ea eb el e) (from 0 e) (labels far₀ root₀) (from k (e - k)) (labels far root) moved
 
-abbrev decreases-loop : tie.decreases-loop
+abbrev decreases-loop : tie.decreases-loop-k
 decreases-loop ea eb el e far₀ root₀ moved₀ k₀ far root moved k = e - k
 
-loop-holds : tie.Need-loop-init invariant-loop decreases-loop
+loop-holds : tie.Need-loop-k-init invariant-loop decreases-loop
 loop-holds c = (omega arith, rw (all_left c.args.e) (pass-none _ _ _ c.requires.1))
 
-relax-edge-requires : tie.Need-relax-edge-requires invariant-loop decreases-loop
+relax-edge-requires : tie.Need-relax_edge-m-requires invariant-loop decreases-loop
 relax-edge-requires c κs =
     let l = c.before.before.before.before.before.before in
     let f = l.before.requires.0 in
-    let h = c.before.before.before.before.before.loop-test.true in
-    ((f.one_in _ h, f.two_in _ h), (l.loop.invariant.1.low, f.short _ h))
+    let h = c.before.before.before.before.before.loop-k-test.true in
+    ((f.one_in _ h, f.two_in _ h), (l.loop-k.invariant.1.low, f.short _ h))
 
-loop-again : tie.Need-loop-preserved invariant-loop decreases-loop
+loop-again : tie.Need-loop-k-preserved invariant-loop decreases-loop
 unfolding relax_edge moves
 loop-again c =
     let l = c.before.before.before.before.before.before.before in
-    let h = c.before.before.before.before.before.before.loop-test.true in
-    (omega arith, pass-more _ _ _ _ _ _ l.loop.invariant.1 _ _ _ _ (from_next _ _ h) c.relax-edge.ensures)
+    let h = c.before.before.before.before.before.before.loop-k-test.true in
+    (omega arith, pass-more _ _ _ _ _ _ l.loop-k.invariant.1 _ _ _ _ (from_next _ _ h) c.relax_edge-m.ensures)
 
 returns : tie.Need-returns invariant-loop decreases-loop
-returns c = pass-end _ _ _ _ _ _ c.before.loop.invariant.1 (from-end _ _ c.loop-test.false)
+returns c = pass-end _ _ _ _ _ _ c.before.loop-k.invariant.1 (from-end _ _ c.loop-k-test.false)
 
-pub relax-all-spec : {M : Type 1} → statement M
-relax-all-spec =
+pub relax_all_spec : {M : Type 1} → statement M
+relax_all_spec =
     tie.close
     (tie.spec
     invariant-loop decreases-loop loop-holds (λ c. omega arith) (λ c. omega arith) (λ c. omega arith) (λ c. omega arith)

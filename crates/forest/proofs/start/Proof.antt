@@ -11,38 +11,38 @@ use Rattle.forest.proofs.LabelLaws.{start-more, start-end}
 use Rattle.forest.proofs.start.Statement.{statement}
 use Rattle.forest.proofs.start.Tie as tie
 
-abbrev invariant-loop : tie.invariant-loop
+abbrev invariant-loop : tie.invariant-loop-i
 invariant-loop sources m far₀ root₀ i₀ far root i = (i ≤ m) × (starts (entries sources i (m - i)) (labels far root) ≡ starts (entries sources 0 m) (labels far₀ root₀))
 
-abbrev decreases-loop : tie.decreases-loop
+abbrev decreases-loop : tie.decreases-loop-i
 decreases-loop sources m far₀ root₀ i₀ far root i = m - i
 
-loop-holds : tie.Need-loop-init invariant-loop decreases-loop
+loop-holds : tie.Need-loop-i-init invariant-loop decreases-loop
 loop-holds c = (omega arith, rw (all_left c.args.m) refl)
 
-mul-far : tie.Need-overflow-mul-far invariant-loop decreases-loop
+mul-far : tie.Need-offset_bounds-far-s invariant-loop decreases-loop
 mul-far c =
     let l = c.before.before in
-    omega (arith, l.before.requires.1.inside l.loop.i c.before.loop-test.true)
+    omega (arith, l.before.requires.1.inside l.loop-i.i c.before.loop-i-test.true)
 
-element-write-far : tie.Need-element-write-far invariant-loop decreases-loop
-element-write-far c = c.before.before.before.requires.1.inside c.before.before.loop.i c.before.loop-test.true
+element-write-far : tie.Need-bounds-far-s invariant-loop decreases-loop
+element-write-far c = c.before.before.before.requires.1.inside c.before.before.loop-i.i c.before.loop-i-test.true
 
-mul-root : tie.Need-overflow-mul-root invariant-loop decreases-loop
+mul-root : tie.Need-offset_bounds-root-s invariant-loop decreases-loop
 mul-root c =
     let l = c.before.before in
-    omega (arith, l.before.requires.1.inside l.loop.i c.before.loop-test.true)
+    omega (arith, l.before.requires.1.inside l.loop-i.i c.before.loop-i-test.true)
 
-element-write-root : tie.Need-element-write-root invariant-loop decreases-loop
-element-write-root c = c.before.before.before.requires.1.inside c.before.before.loop.i c.before.loop-test.true
+element-write-root : tie.Need-bounds-root-s invariant-loop decreases-loop
+element-write-root c = c.before.before.before.requires.1.inside c.before.before.loop-i.i c.before.loop-i-test.true
 
-loop-again : tie.Need-loop-preserved invariant-loop decreases-loop
+loop-again : tie.Need-loop-i-preserved invariant-loop decreases-loop
 loop-again c =
     let l = c.before.before in
-    (omega arith, start-more _ _ _ _ _ _ l.loop.invariant.1 c.before.loop-test.true)
+    (omega arith, start-more _ _ _ _ _ _ l.loop-i.invariant.1 c.before.loop-i-test.true)
 
 returns : tie.Need-returns invariant-loop decreases-loop
-returns c = start-end _ _ _ _ _ c.before.loop.invariant.1 c.loop-test.false
+returns c = start-end _ _ _ _ _ c.before.loop-i.invariant.1 c.loop-i-test.false
 
 pub start_spec : {M : Type 1} → statement M
 start_spec =

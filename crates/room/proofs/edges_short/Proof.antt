@@ -11,7 +11,7 @@ use Rattle.room.proofs.edges_short.Tie as tie
 returns : tie.Need-returns
 returns c =
     let a = c.before.before.args in
-    ap (λ (n : ℕ). ltb a.edges (edge_need n a.net.pins)) c.before.point-count.ensures
+    ap (λ (n : ℕ). ltb a.edges (edge_need n a.net.pins)) c.before.point_count.ensures
 
-pub edges-short-spec : {M : Type 1} → statement M
-edges-short-spec = tie.close (tie.spec (λ c κs. search rules) (λ c. search rules) (λ c. search rules) returns)
+pub edges_short_spec : {M : Type 1} → statement M
+edges_short_spec = tie.close (tie.spec (λ c κs. search rules) (λ c. search rules) (λ c. search rules) returns)

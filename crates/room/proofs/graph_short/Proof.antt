@@ -12,7 +12,7 @@ use Rattle.room.proofs.graph_short.Tie as tie
 returns : tie.Need-returns
 returns c =
     let a = c.before.args in
-    ap (λ (n : ℕ). ltb a.vertices (vertex_need n) || ltb a.edges (link_need n)) c.point-count.ensures
+    ap (λ (n : ℕ). ltb a.vertices (vertex_need n) || ltb a.edges (link_need n)) c.point_count-n.ensures
 
-pub graph-short-spec : {M : Type 1} → statement M
-graph-short-spec = tie.close (tie.spec (λ c κs. search rules) (λ c. search rules) (λ c. search rules) returns)
+pub graph_short_spec : {M : Type 1} → statement M
+graph_short_spec = tie.close (tie.spec (λ c κs. search rules) (λ c. search rules) (λ c. search rules) returns)

@@ -11,7 +11,7 @@ use Rattle.room.proofs.wires_short.Tie as tie
 returns : tie.Need-returns
 returns c =
     let a = c.before.before.args in
-    ap (λ (n : ℕ). ltb a.wires (wire_need n a.net.pins)) c.before.point-count.ensures
+    ap (λ (n : ℕ). ltb a.wires (wire_need n a.net.pins)) c.before.point_count.ensures
 
-pub wires-short-spec : {M : Type 1} → statement M
-wires-short-spec = tie.close (tie.spec (λ c κs. search rules) (λ c. search rules) (λ c. search rules) returns)
+pub wires_short_spec : {M : Type 1} → statement M
+wires_short_spec = tie.close (tie.spec (λ c κs. search rules) (λ c. search rules) (λ c. search rules) returns)
