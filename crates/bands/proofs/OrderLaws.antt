@@ -40,6 +40,7 @@ not_back b c o = rw (lt-ltb b.limit c.limit o.limit, le-ltb c.rate b.rate o.rate
 -- no neighbours fall back: no band does from any before it
 all-onward : (b : Band) (bs : List Band) → falls_after b bs ≡ false → (c : Band) → c ∈ bs → Onward b c
 unfolding falls_after
+all-onward b [] e c x'' = elim x'' [ ]
 all-onward b (d ∷ ds) e c (here p) = rw p (onward b d (or-none (steps_back b d) (falls_after d ds) e).0)
 all-onward b (d ∷ ds) e c (there m) =
     let r = or-none (steps_back b d) (falls_after d ds) e in

@@ -12,37 +12,37 @@ use Rattle.bands.proofs.BandLaws.{bands-next, bands-end}
 use Rattle.bands.proofs.any_rate_above.Statement.{statement}
 use Rattle.bands.proofs.any_rate_above.Tie as tie
 
-abbrev invariant-loop : tie.invariant-loop
+abbrev invariant-loop : tie.invariant-loop-i
 invariant-loop bands k i₀ i = (i ≤ k) × (any rate_above (bands_of bands) ≡ any rate_above (drop i (bands_of bands)))
 
-abbrev decreases-loop : tie.decreases-loop
+abbrev decreases-loop : tie.decreases-loop-i
 decreases-loop bands k i₀ i = k - i
 
 -- what the call says, of the list
-told : (c : tie.After-is-rate-above invariant-loop decreases-loop)
-    → c.is-rate-above.result
-    ≡ rate_above (band_at c.before.before.before.before.before.args.bands.now c.before.before.before.loop.i)
-told c = c.is-rate-above.ensures ∙ ap rate_above c.before.band-at.ensures
+told : (c : tie.After-is_rate_above invariant-loop decreases-loop)
+    → c.is_rate_above.result
+    ≡ rate_above (band_at c.args.bands.now c.loop-i.i)
+told c = c.is_rate_above.ensures ∙ ap rate_above c.band_at.ensures
 
-returns : tie.Need-returns invariant-loop decreases-loop
+returns : tie.Need-returns-then-is_rate_above invariant-loop decreases-loop
 returns c =
-    let l = c.before.before.before.before in
-    let next = bands-next l.before.before.args.bands.now l.loop.i (omega arith) in
-    sym (l.loop.invariant.1 ∙ any-hit rate_above _ _ _ next (sym (told c.before) ∙ c.if1.true))
+    let l = c in
+    let next = bands-next l.args.bands.now l.loop-i.i (omega arith) in
+    sym (l.loop-i.invariant.1 ∙ any-hit rate_above _ _ _ next (sym (told c.before) ∙ c.if-is_rate_above.true))
 
-loop-again : tie.Need-loop-preserved invariant-loop decreases-loop
+loop-again : tie.Need-loop-i-preserved invariant-loop decreases-loop
 loop-again c =
-    let l = c.before.before.before.before in
-    let next = bands-next l.before.before.args.bands.now l.loop.i (omega arith) in
-    (omega arith, l.loop.invariant.1 ∙ any-miss rate_above _ _ _ next (sym (told c.before) ∙ c.if1.false))
+    let l = c in
+    let next = bands-next l.args.bands.now l.loop-i.i (omega arith) in
+    (omega arith, l.loop-i.invariant.1 ∙ any-miss rate_above _ _ _ next (sym (told c.before) ∙ c.if-is_rate_above.false))
 
-returns-2 : tie.Need-returns-2 invariant-loop decreases-loop
+returns-2 : tie.Need-returns invariant-loop decreases-loop
 returns-2 c =
-    let l = c.before in
-    sym (l.loop.invariant.1 ∙ any-end rate_above _ (bands-end l.before.before.args.bands.now l.loop.i (omega arith)))
+    let l = c in
+    sym (l.loop-i.invariant.1 ∙ any-end rate_above _ (bands-end l.args.bands.now l.loop-i.i (omega arith)))
 
-pub any-rate-above-spec : {M : Type 1} → statement M
-any-rate-above-spec =
+pub any_rate_above_spec : {M : Type 1} → statement M
+any_rate_above_spec =
     tie.close
     (tie.spec
     invariant-loop

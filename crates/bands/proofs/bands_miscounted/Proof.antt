@@ -9,5 +9,5 @@ returns : tie.Need-returns
 unfolding bands_miscounted
 returns c = refl
 
-pub bands-miscounted-spec : {M : Type 1} → statement M
-bands-miscounted-spec = tie.close (tie.spec returns)
+pub bands_miscounted_spec : {M : Type 1} → statement M
+bands_miscounted_spec = tie.close (tie.spec returns)

@@ -9,5 +9,5 @@ returns : tie.Need-returns
 unfolding rate_above
 returns c = refl
 
-pub is-rate-above-spec : {M : Type 1} → statement M
-is-rate-above-spec = tie.close (tie.spec returns)
+pub is_rate_above_spec : {M : Type 1} → statement M
+is_rate_above_spec = tie.close (tie.spec returns)

@@ -9,5 +9,5 @@ returns : tie.Need-returns
 unfolding steps_back
 returns c = refl
 
-pub is-step-back-spec : {M : Type 1} → statement M
-is-step-back-spec = tie.close (tie.spec returns)
+pub is_step_back_spec : {M : Type 1} → statement M
+is_step_back_spec = tie.close (tie.spec returns)

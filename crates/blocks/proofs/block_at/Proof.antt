@@ -22,8 +22,8 @@ loop-holds c = (omega arith, refl)
 
 loop-again : tie.Need-loop-i-preserved invariant-loop decreases-loop
 loop-again c =
-    let l = c.before.before in
-    let s = l.before.before in
+    let l = c in
+    let s = l in
     let i = l.loop-i.i in (
       omega arith,
       ap₂ (λ (t : List ℕ) (v : ℕ). set t i v) l.loop-i.invariant.1 c.word_at.ensures
@@ -32,8 +32,8 @@ loop-again c =
 
 returns : tie.Need-returns invariant-loop decreases-loop
 returns c =
-    let l = c.before in
-    let s = l.before.before in
+    let l = c in
+    let s = l in
     let e : l.loop-i.i ≡ block_words = omega arith in
     let w = block_of s.args.b (words_of s.args.bytes.now) in
     let f = block-full s.args.bytes.now s.args.b s.requires in

@@ -6,7 +6,7 @@ use Rattle.blocks.proofs.WordLaws.{coordinate-is, coordinate-fits, lowered-fits,
 use Rattle.blocks.proofs.coordinate_of.Statement.{statement}
 use Rattle.blocks.proofs.coordinate_of.Tie as tie
 
-small : (c : tie.Else-w-lt2147483648) → c.before.args.w < 4294967296
+small : (c : tie.Else-w-lt2147483648) → c.args.w < 4294967296
 small c = omega arith
 
 returns : tie.Need-returns-then-w-lt2147483648

@@ -9,9 +9,9 @@ use Rattle.blocks.proofs.has_wrong_sums.Tie as tie
 returns : tie.Need-returns
 unfolding wrong_sums
 returns c =
-    let b = c.before.before.before.before.args.t1 in
+    let b = c.args.block in
     ap₂ (λ (p q : ℕ). not (eqb (get_or b summed_words 0) p) || not (eqb (get_or b second_sum 0) q))
-    c.before.before.sums_of-s.ensures.0 c.before.before.sums_of-s.ensures.1
+    c.sums_of-s.ensures.0 c.sums_of-s.ensures.1
 
 pub has_wrong_sums_spec : {M : Type 1} → statement M
 has_wrong_sums_spec =

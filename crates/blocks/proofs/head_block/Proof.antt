@@ -10,10 +10,10 @@ use Rattle.blocks.proofs.head_block.Tie as tie
 returns : tie.Need-returns
 unfolding over block head_block
 returns c =
-    let a = c.before.before.before.args in
+    let a = c.args in
     c.seal.ensures
     ∙ ap₂ (λ (first second : ℕ). block head_kind 0 0 (a.m ∷ (a.k ∷ (first ∷ (second ∷ [])))))
-    c.before.before.weight_word.ensures c.before.weight_word-2.ensures
+    c.weight_word.ensures c.weight_word-2.ensures
 
 pub head_block_spec : {M : Type 1} → statement M
 head_block_spec =

@@ -33,9 +33,9 @@ word-of-requires c κs = tt
 
 loop-again : tie.Need-loop-i-preserved invariant-loop decreases-loop
 loop-again c =
-    let l = c.before.before.before in
+    let l = c in
     let i = l.loop-i.i in
-    let s = l.before.args.numbers.now in
+    let s = l.args.numbers.now in
     let f : SFits w32 (get_or s i (pos 0)) = search rules in (
       omega arith,
       ap₂ (λ (t : List ℕ) (v : ℕ). set t (first_entry + i) v) l.loop-i.invariant.1 (c.word_of.ensures ∙ ap word_of (to_z-of_z w32 _ f))
@@ -44,16 +44,16 @@ loop-again c =
 
 seal-requires : tie.Need-seal-requires invariant-loop decreases-loop
 seal-requires c κs =
-    let l = c.before in
-    let s = l.before.args.numbers.now in
+    let l = c in
+    let s = l.args.numbers.now in
     let h = length-map (take l.loop-i.i s) word_of in
     ap length l.loop-i.invariant.1 ∙ length_over _ (replicate block_words 0) (omega (arith, h, length-take l.loop-i.i s))
 
 returns : tie.Need-returns invariant-loop decreases-loop
 unfolding block list_block
 returns c =
-    let l = c.before.before in
-    let s = l.before.args.numbers.now in
+    let l = c in
+    let s = l.args.numbers.now in
     let e : take l.loop-i.i s ≡ s = take_all l.loop-i.i s (omega arith) in
     let h = length-map s word_of in
     c.seal.ensures

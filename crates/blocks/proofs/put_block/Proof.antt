@@ -22,27 +22,27 @@ loop-holds c = (omega arith, (refl, refl))
 
 loop-again : tie.Need-loop-i-preserved invariant-loop decreases-loop
 loop-again c =
-    let p = c.before.before in
-    let l = p.before.before.before in
-    let a = l.before.before.args in
+    let p = c in
+    let l = p in
+    let a = l.args in
     let i = l.loop-i.i in
     let e : (a.number * block_words + i) * 4 ≡ a.number * block_bytes + i * 4 = omega arith in
     let b =
     p.put_word.ensures
-    ∙ ap₂ (λ (bs : List ℕ) (k : ℕ). sets bs k (bytes_of_word (get_or a.t3 i 0))) l.loop-i.invariant.1.1 e
-    ∙ put-more _ a.t3 (a.number * block_bytes) i (omega arith)
+    ∙ ap₂ (λ (bs : List ℕ) (k : ℕ). sets bs k (bytes_of_word (get_or a.block i 0))) l.loop-i.invariant.1.1 e
+    ∙ put-more _ a.block (a.number * block_bytes) i (omega arith)
     in
-    (omega arith, (ap length b ∙ length-sets a.bytes-1.now (a.number * block_bytes) (bytes_of (take (i + 1) a.t3)), b))
+    (omega arith, (ap length b ∙ length-sets a.bytes.now (a.number * block_bytes) (bytes_of (take (i + 1) a.block)), b))
 
 same_length : tie.Need-shape_of-bytes invariant-loop decreases-loop
-same_length c = c.before.loop-i.invariant.1.0
+same_length c = c.loop-i.invariant.1.0
 
 returns : tie.Need-returns invariant-loop decreases-loop
 returns c =
-    let l = c.before in
-    let a = l.before.before.args in
+    let l = c in
+    let a = l.args in
     l.loop-i.invariant.1.1
-    ∙ ap (λ (ws : List ℕ). sets a.bytes-1.now (a.number * block_bytes) (bytes_of ws)) (take_all l.loop-i.i a.t3 (omega arith))
+    ∙ ap (λ (ws : List ℕ). sets a.bytes.now (a.number * block_bytes) (bytes_of ws)) (take_all l.loop-i.i a.block (omega arith))
 
 pub put_block_spec : {M : Type 1} → statement M
 put_block_spec =

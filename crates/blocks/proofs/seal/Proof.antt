@@ -10,8 +10,8 @@ use Rattle.blocks.proofs.seal.Tie as tie
 returns : tie.Need-returns
 unfolding sealed
 returns c =
-    let ws = c.before.before.args.t1 in
-    last-two ws _ _ c.before.before.requires
+    let ws = c.args.block in
+    last-two ws _ _ c.requires
     ∙ ap₂ (λ (a b : ℕ). take summed_words ws ++ (a ∷ (b ∷ []))) c.sums_of-s.ensures.0 c.sums_of-s.ensures.1
 
 pub seal_spec : {M : Type 1} → statement M

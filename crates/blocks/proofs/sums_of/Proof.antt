@@ -26,11 +26,11 @@ wrapping-add-u32-requires-2 c κs = tt
 
 loop-again : tie.Need-loop-i-preserved invariant-loop decreases-loop
 loop-again c =
-    let l = c.before.before.before.before in
-    let ws = l.before.args.block.now in
+    let l = c in
+    let ws = l.args.block.now in
     let m = word_more ws l.loop-i.i (omega arith) in
     let p =
-    c.before.wrapping_add_u32-plain.ensures
+    c.wrapping_add_u32-plain.ensures
     ∙ ap (λ (s : ℕ). (s + get_or ws l.loop-i.i 0) % 4294967296) l.loop-i.invariant.1.0
     ∙ plain_more ws l.loop-i.i _ m
     in (
@@ -40,8 +40,8 @@ loop-again c =
 
 returns : tie.Need-returns invariant-loop decreases-loop
 returns c =
-    let e : c.before.loop-i.i ≡ summed_words = omega arith in
-    (rw e at c.before.loop-i.invariant.1.0, rw e at c.before.loop-i.invariant.1.1)
+    let e : c.loop-i.i ≡ summed_words = omega arith in
+    (rw e at c.loop-i.invariant.1.0, rw e at c.loop-i.invariant.1.1)
 
 pub sums_of_spec : {M : Type 1} → statement M
 sums_of_spec =

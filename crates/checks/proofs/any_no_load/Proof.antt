@@ -26,25 +26,25 @@ loop-holds c = (omega arith, refl)
 
 -- what the call says, of the list
 told : (c : tie.After-is_no_load invariant-loop decreases-loop) → c.is_no_load.result
-    ≡ no_load (load_at c.before.before.before.before.before.args.pins.now c.before.before.before.loop-i.i)
-told c = c.is_no_load.ensures ∙ ap no_load (to_z-of_z w32 _ (search rules) ∙ c.before.load_at.ensures)
+    ≡ no_load (load_at c.args.pins.now c.loop-i.i)
+told c = c.is_no_load.ensures ∙ ap no_load (to_z-of_z w32 _ (search rules) ∙ c.load_at.ensures)
 
 returns : tie.Need-returns-then-is_no_load invariant-loop decreases-loop
 returns c =
-    let l = c.before.before.before.before in
-    let next = loads-next l.before.before.args.pins.now l.loop-i.i (omega arith) in
+    let l = c in
+    let next = loads-next l.args.pins.now l.loop-i.i (omega arith) in
     sym (l.loop-i.invariant.1 ∙ any-hit no_load _ _ _ next (sym (told c.before) ∙ c.if-is_no_load.true))
 
 loop-again : tie.Need-loop-i-preserved invariant-loop decreases-loop
 loop-again c =
-    let l = c.before.before.before.before in
-    let next = loads-next l.before.before.args.pins.now l.loop-i.i (omega arith) in
+    let l = c in
+    let next = loads-next l.args.pins.now l.loop-i.i (omega arith) in
     (omega arith, l.loop-i.invariant.1 ∙ any-miss no_load _ _ _ next (sym (told c.before) ∙ c.if-is_no_load.false))
 
 returns-2 : tie.Need-returns invariant-loop decreases-loop
 returns-2 c =
-    let l = c.before in
-    sym (l.loop-i.invariant.1 ∙ any-end no_load _ (loads-end l.before.before.args.pins.now l.loop-i.i (omega arith)))
+    let l = c in
+    sym (l.loop-i.invariant.1 ∙ any-end no_load _ (loads-end l.args.pins.now l.loop-i.i (omega arith)))
 
 pub any_no_load_spec : {M : Type 1} → statement M
 any_no_load_spec =

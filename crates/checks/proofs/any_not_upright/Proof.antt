@@ -30,30 +30,30 @@ is-not-upright-requires c κs = tt
 -- what the call says, of the list
 told : (c : tie.After-is_not_upright invariant-loop decreases-loop)
     → c.is_not_upright.result
-    ≡ not_upright (macro_at c.before.before.before.before.before.args.macros.now c.before.before.before.loop-i.i)
-told c = c.is_not_upright.ensures ∙ ap not_upright c.before.macro_at.ensures
+    ≡ not_upright (macro_at c.args.macros.now c.loop-i.i)
+told c = c.is_not_upright.ensures ∙ ap not_upright c.macro_at.ensures
 
 returns : tie.Need-returns-then-is_not_upright invariant-loop decreases-loop
 returns c =
-    let l = c.before.before.before.before in
+    let l = c in
     sym
     (l.loop-i.invariant.1
-    ∙ any-hit not_upright _ _ _ (macros-next l.before.before.args.macros.now l.loop-i.i (omega arith))
+    ∙ any-hit not_upright _ _ _ (macros-next l.args.macros.now l.loop-i.i (omega arith))
     (sym (told c.before) ∙ c.if-is_not_upright.true))
 
 loop-again : tie.Need-loop-i-preserved invariant-loop decreases-loop
 loop-again c =
-    let l = c.before.before.before.before in (
+    let l = c in (
       omega arith,
       l.loop-i.invariant.1
-          ∙ any-miss not_upright _ _ _ (macros-next l.before.before.args.macros.now l.loop-i.i (omega arith))
+          ∙ any-miss not_upright _ _ _ (macros-next l.args.macros.now l.loop-i.i (omega arith))
           (sym (told c.before) ∙ c.if-is_not_upright.false),
     )
 
 returns-2 : tie.Need-returns invariant-loop decreases-loop
 returns-2 c =
-    let l = c.before in
-    sym (l.loop-i.invariant.1 ∙ any-end not_upright _ (macros-end l.before.before.args.macros.now l.loop-i.i (omega arith)))
+    let l = c in
+    sym (l.loop-i.invariant.1 ∙ any-end not_upright _ (macros-end l.args.macros.now l.loop-i.i (omega arith)))
 
 pub any_not_upright_spec : {M : Type 1} → statement M
 any_not_upright_spec =

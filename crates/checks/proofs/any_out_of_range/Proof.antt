@@ -41,33 +41,33 @@ next s i h = rw add-one (drop-cons s i (pos 0) h)
 -- what the call says, of the list
 told : (c : tie.After-is_out_of_range invariant-loop decreases-loop)
     → c.is_out_of_range.result
-    ≡ out_of_range (get_or c.before.before.before.before.args.numbers.now c.before.before.before.loop-i.i (pos 0))
+    ≡ out_of_range (get_or c.args.numbers.now c.loop-i.i (pos 0))
 told c =
-    let n = get_or c.before.before.before.before.args.numbers.now c.before.before.before.loop-i.i (pos 0) in
+    let n = get_or c.args.numbers.now c.loop-i.i (pos 0) in
     let f : SFits w32 n = search rules in
     c.is_out_of_range.ensures ∙ ap out_of_range (to_z-of_z w32 n f)
 
 returns : tie.Need-returns-then-is_out_of_range invariant-loop decreases-loop
 returns c =
-    let l = c.before.before.before.before in
+    let l = c in
     sym
     (l.loop-i.invariant.1
-    ∙ any-hit out_of_range _ _ _ (next l.before.args.numbers.now l.loop-i.i (omega arith))
+    ∙ any-hit out_of_range _ _ _ (next l.args.numbers.now l.loop-i.i (omega arith))
     (sym (told c.before) ∙ c.if-is_out_of_range.true))
 
 loop-again : tie.Need-loop-i-preserved invariant-loop decreases-loop
 loop-again c =
-    let l = c.before.before.before.before in (
+    let l = c in (
       omega arith,
       l.loop-i.invariant.1
-          ∙ any-miss out_of_range _ _ _ (next l.before.args.numbers.now l.loop-i.i (omega arith))
+          ∙ any-miss out_of_range _ _ _ (next l.args.numbers.now l.loop-i.i (omega arith))
           (sym (told c.before) ∙ c.if-is_out_of_range.false),
     )
 
 returns-2 : tie.Need-returns invariant-loop decreases-loop
 returns-2 c =
-    let l = c.before in
-    let s = l.before.args.numbers.now in
+    let l = c in
+    let s = l.args.numbers.now in
     let e : length s ≤ l.loop-i.i = omega arith in
     sym (l.loop-i.invariant.1 ∙ any-end out_of_range _ (drop_of_length-le s e))
 

@@ -35,7 +35,7 @@ search-holds : tie.Need-search-init invariant-loop decreases-loop invariant-sear
 search-holds c = (omega arith, refl, refl)
 
 loop-holds : tie.Need-loop-j-init invariant-loop decreases-loop invariant-search decreases-search
-loop-holds c = (omega arith, c.before.before.search.invariant.1, refl)
+loop-holds c = (omega arith, c.search.invariant.1, refl)
 
 interiors-meet-requires : tie.Need-interiors_meet-requires invariant-loop decreases-loop invariant-search decreases-search
 interiors-meet-requires c κs = tt
@@ -43,48 +43,48 @@ interiors-meet-requires c κs = tt
 -- what the test of a pair says, of the list
 told : (c : tie.After-interiors_meet invariant-loop decreases-loop invariant-search decreases-search)
     → c.interiors_meet.result
-    ≡ interiors_meet c.before.before.before.before.macro_at-m.result
-    (macro_at c.before.before.before.before.before.before.before.before.args.macros.now c.before.before.before.loop-j.j)
+    ≡ interiors_meet c.macro_at-m.result
+    (macro_at c.args.macros.now c.loop-j.j)
 told c =
     c.interiors_meet.ensures
-    ∙ ap (interiors_meet c.before.before.before.before.macro_at-m.result) c.before.macro_at.ensures
+    ∙ ap (interiors_meet c.macro_at-m.result) c.macro_at-m.ensures
 
 loop-again : tie.Need-loop-j-preserved invariant-loop decreases-loop invariant-search decreases-search
 loop-again c =
-    let l = c.before.before.before.before in
-    let s = l.before.before.before.before.before.args.macros.now in (
+    let l = c in
+    let s = l.args.macros.now in (
       omega arith,
       l.loop-j.invariant.1,
       l.loop-j.invariant.2
-          ∙ any-miss (interiors_meet l.before.macro_at-m.result) _ _ _ (macros-next s l.loop-j.j (omega arith))
+          ∙ any-miss (interiors_meet l.macro_at-m.result) _ _ _ (macros-next s l.loop-j.j (omega arith))
           (sym (told c.before) ∙ c.if-interiors_meet.false),
     )
 
 search-again : tie.Need-search-preserved invariant-loop decreases-loop invariant-search decreases-search
 search-again c =
-    let l = c.before in
-    let o = l.before.before.before in
-    let s = o.before.before.args.macros.now in
+    let l = c in
+    let o = l in
+    let s = o.args.macros.now in
     let none : any (interiors_meet (macro_at s o.search.i)) (drop (o.search.i + 1) (macros_of s)) ≡ false =
-    rw (← l.before.macro_at-m.ensures) (l.loop-j.invariant.2
-    ∙ any-end (interiors_meet l.before.macro_at-m.result) _ (macros-end s l.loop-j.j (omega arith)))
+    rw (← l.macro_at-m.ensures) (l.loop-j.invariant.2
+    ∙ any-end (interiors_meet l.macro_at-m.result) _ (macros-end s l.loop-j.j (omega arith)))
     in
     (omega arith, l.loop-j.invariant.1, o.search.invariant.2 ∙ two-miss interiors_meet _ _ _ (macros-next s o.search.i (omega arith)) none)
 
 returns : tie.Need-returns-after-search invariant-loop decreases-loop invariant-search decreases-search
 returns c =
-    let o = c.before in
+    let o = c in
     o.search.invariant.1
-    ∙ sym (o.search.invariant.2 ∙ two-end interiors_meet _ (macros-end o.before.before.args.macros.now o.search.i (omega arith)))
+    ∙ sym (o.search.invariant.2 ∙ two-end interiors_meet _ (macros-end o.args.macros.now o.search.i (omega arith)))
 
 returns-2 : tie.Need-returns-then-interiors_meet invariant-loop decreases-loop invariant-search decreases-search
 returns-2 c =
-    let l = c.before.before.before.before in
-    let o = l.before.before.before in
-    let s = o.before.before.args.macros.now in
+    let l = c in
+    let o = l in
+    let s = o.args.macros.now in
     let some : any (interiors_meet (macro_at s o.search.i)) (drop (o.search.i + 1) (macros_of s)) ≡ true =
-    rw (← l.before.macro_at-m.ensures) (l.loop-j.invariant.2
-    ∙ any-hit (interiors_meet l.before.macro_at-m.result) _ _ _ (macros-next s l.loop-j.j (omega arith))
+    rw (← l.macro_at-m.ensures) (l.loop-j.invariant.2
+    ∙ any-hit (interiors_meet l.macro_at-m.result) _ _ _ (macros-next s l.loop-j.j (omega arith))
     (sym (told c.before) ∙ c.if-interiors_meet.true))
     in
     sym (o.search.invariant.2 ∙ two-hit interiors_meet _ _ _ (macros-next s o.search.i (omega arith)) some)

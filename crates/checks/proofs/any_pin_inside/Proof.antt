@@ -36,34 +36,34 @@ is-clear-requires c κs = tt
 -- what the call says, of the lists
 told : (c : tie.After-is_clear invariant-loop decreases-loop)
     → not c.is_clear.result
-    ≡ inside_any (macros_of c.before.before.before.before.before.args.macros.now)
-    (pin_at c.before.before.before.before.before.args.pins.now c.before.before.before.loop-i.i)
+    ≡ inside_any (macros_of c.args.macros.now)
+    (pin_at c.args.pins.now c.loop-i.i)
 unfolding inside_any
 told c =
-    let ms = macros_of c.before.before.before.before.before.args.macros.now in
-    ap not c.is_clear.ensures ∙ ap (λ (p : Place). not (clear p p ms)) c.before.pin_at-p.ensures ∙ clear-of-itself _ ms
+    let ms = macros_of c.args.macros.now in
+    ap not c.is_clear.ensures ∙ ap (λ (p : Place). not (clear p p ms)) c.pin_at-p.ensures ∙ clear-of-itself _ ms
 
 returns : tie.Need-returns-then-not-is_clear invariant-loop decreases-loop
 returns c =
-    let l = c.before.before.before.before in
+    let l = c in
     sym
     (l.loop-i.invariant.1
-    ∙ any-hit (inside_any _) _ _ _ (pins-next l.before.before.args.pins.now l.loop-i.i (omega arith))
+    ∙ any-hit (inside_any _) _ _ _ (pins-next l.args.pins.now l.loop-i.i (omega arith))
     (sym (told c.before) ∙ c.if-not-is_clear.true))
 
 loop-again : tie.Need-loop-i-preserved invariant-loop decreases-loop
 loop-again c =
-    let l = c.before.before.before.before in (
+    let l = c in (
       omega arith,
       l.loop-i.invariant.1
-          ∙ any-miss (inside_any _) _ _ _ (pins-next l.before.before.args.pins.now l.loop-i.i (omega arith))
+          ∙ any-miss (inside_any _) _ _ _ (pins-next l.args.pins.now l.loop-i.i (omega arith))
           (sym (told c.before) ∙ c.if-not-is_clear.false),
     )
 
 returns-2 : tie.Need-returns invariant-loop decreases-loop
 returns-2 c =
-    let l = c.before in
-    sym (l.loop-i.invariant.1 ∙ any-end (inside_any _) _ (pins-end l.before.before.args.pins.now l.loop-i.i (omega arith)))
+    let l = c in
+    sym (l.loop-i.invariant.1 ∙ any-end (inside_any _) _ (pins-end l.args.pins.now l.loop-i.i (omega arith)))
 
 pub any_pin_inside_spec : {M : Type 1} → statement M
 any_pin_inside_spec =

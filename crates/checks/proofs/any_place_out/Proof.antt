@@ -23,25 +23,25 @@ loop-holds c = (omega arith, refl)
 
 -- what the call says, of the list
 told : (c : tie.After-is_place_out invariant-loop decreases-loop) → c.is_place_out.result
-    ≡ place_out (pin_at c.before.before.before.before.before.args.pins.now c.before.before.before.loop-i.i)
-told c = c.is_place_out.ensures ∙ ap place_out c.before.pin_at.ensures
+    ≡ place_out (pin_at c.args.pins.now c.loop-i.i)
+told c = c.is_place_out.ensures ∙ ap place_out c.pin_at.ensures
 
 returns : tie.Need-returns-then-is_place_out invariant-loop decreases-loop
 returns c =
-    let l = c.before.before.before.before in
-    let next = pins-next l.before.before.args.pins.now l.loop-i.i (omega arith) in
+    let l = c in
+    let next = pins-next l.args.pins.now l.loop-i.i (omega arith) in
     sym (l.loop-i.invariant.1 ∙ any-hit place_out _ _ _ next (sym (told c.before) ∙ c.if-is_place_out.true))
 
 loop-again : tie.Need-loop-i-preserved invariant-loop decreases-loop
 loop-again c =
-    let l = c.before.before.before.before in
-    let next = pins-next l.before.before.args.pins.now l.loop-i.i (omega arith) in
+    let l = c in
+    let next = pins-next l.args.pins.now l.loop-i.i (omega arith) in
     (omega arith, l.loop-i.invariant.1 ∙ any-miss place_out _ _ _ next (sym (told c.before) ∙ c.if-is_place_out.false))
 
 returns-2 : tie.Need-returns invariant-loop decreases-loop
 returns-2 c =
-    let l = c.before in
-    sym (l.loop-i.invariant.1 ∙ any-end place_out _ (pins-end l.before.before.args.pins.now l.loop-i.i (omega arith)))
+    let l = c in
+    sym (l.loop-i.invariant.1 ∙ any-end place_out _ (pins-end l.args.pins.now l.loop-i.i (omega arith)))
 
 pub any_place_out_spec : {M : Type 1} → statement M
 any_place_out_spec =

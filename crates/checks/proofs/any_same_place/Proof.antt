@@ -35,35 +35,35 @@ is-among-requires c κs = tt
 -- what the call says, of the list
 told : (c : tie.After-is_among invariant-loop decreases-loop)
     → c.is_among.result
-    ≡ any (same_place (pin_at c.before.before.before.before.before.args.pins.now c.before.before.before.loop-i.i))
-    (drop (c.before.before.before.loop-i.i + 1) (pin_places c.before.before.before.before.before.args.pins.now))
+    ≡ any (same_place (pin_at c.args.pins.now c.loop-i.i))
+    (drop (c.loop-i.i + 1) (pin_places c.args.pins.now))
 told c =
-    let l = c.before.before.before in
+    let l = c in
     c.is_among.ensures
-    ∙ ap (λ (p : Place). any (same_place p) (drop (l.loop-i.i + 1) (pin_places l.before.before.args.pins.now)))
-    c.before.pin_at.ensures
+    ∙ ap (λ (p : Place). any (same_place p) (drop (l.loop-i.i + 1) (pin_places l.args.pins.now)))
+    c.pin_at.ensures
 
 returns : tie.Need-returns-then-is_among invariant-loop decreases-loop
 returns c =
-    let l = c.before.before.before.before in
+    let l = c in
     sym
     (l.loop-i.invariant.1
-    ∙ two-hit same_place _ _ _ (pins-next l.before.before.args.pins.now l.loop-i.i (omega arith))
+    ∙ two-hit same_place _ _ _ (pins-next l.args.pins.now l.loop-i.i (omega arith))
     (sym (told c.before) ∙ c.if-is_among.true))
 
 loop-again : tie.Need-loop-i-preserved invariant-loop decreases-loop
 loop-again c =
-    let l = c.before.before.before.before in (
+    let l = c in (
       omega arith,
       l.loop-i.invariant.1
-          ∙ two-miss same_place _ _ _ (pins-next l.before.before.args.pins.now l.loop-i.i (omega arith))
+          ∙ two-miss same_place _ _ _ (pins-next l.args.pins.now l.loop-i.i (omega arith))
           (sym (told c.before) ∙ c.if-is_among.false),
     )
 
 returns-2 : tie.Need-returns invariant-loop decreases-loop
 returns-2 c =
-    let l = c.before in
-    sym (l.loop-i.invariant.1 ∙ two-end same_place _ (pins-end l.before.before.args.pins.now l.loop-i.i (omega arith)))
+    let l = c in
+    sym (l.loop-i.invariant.1 ∙ two-end same_place _ (pins-end l.args.pins.now l.loop-i.i (omega arith)))
 
 pub any_same_place_spec : {M : Type 1} → statement M
 any_same_place_spec =

@@ -9,7 +9,7 @@ use Rattle.checks.proofs.are_pins_out.Tie as tie
 
 returns : tie.Need-returns
 unfolding pins_out_of_range
-returns c = ap₂ ◌||◌ c.before.any_place_out.ensures c.any_no_load.ensures
+returns c = ap₂ ◌||◌ c.any_place_out.ensures c.any_no_load.ensures
 
 pub are_pins_out_spec : {M : Type 1} → statement M
 are_pins_out_spec = tie.close (tie.spec (λ c κs. search rules) (λ c κs. search rules) returns)

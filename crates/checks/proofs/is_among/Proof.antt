@@ -27,31 +27,31 @@ is-same-place-requires c κs = tt
 -- what the call says, of the list
 told : (c : tie.After-is_same_place invariant-loop decreases-loop)
     → c.is_same_place.result
-    ≡ same_place c.before.before.before.before.before.args.p
-    (pin_at c.before.before.before.before.before.args.pins.now c.before.before.before.loop-j.j)
-told c = c.is_same_place.ensures ∙ ap (same_place c.before.before.before.before.before.args.p) c.before.pin_at.ensures
+    ≡ same_place c.args.p
+    (pin_at c.args.pins.now c.loop-j.j)
+told c = c.is_same_place.ensures ∙ ap (same_place c.args.p) c.pin_at.ensures
 
 returns : tie.Need-returns-then-is_same_place invariant-loop decreases-loop
 returns c =
-    let l = c.before.before.before.before in
+    let l = c in
     sym
     (l.loop-j.invariant
-    ∙ any-hit (same_place l.before.before.args.p) _ _ _ (pins-next l.before.before.args.pins.now l.loop-j.j (omega arith))
+    ∙ any-hit (same_place l.args.p) _ _ _ (pins-next l.args.pins.now l.loop-j.j (omega arith))
     (sym (told c.before) ∙ c.if-is_same_place.true))
 
 loop-again : tie.Need-loop-j-preserved invariant-loop decreases-loop
 loop-again c =
-    let l = c.before.before.before.before in
+    let l = c in
     l.loop-j.invariant
-    ∙ any-miss (same_place l.before.before.args.p) _ _ _ (pins-next l.before.before.args.pins.now l.loop-j.j (omega arith))
+    ∙ any-miss (same_place l.args.p) _ _ _ (pins-next l.args.pins.now l.loop-j.j (omega arith))
     (sym (told c.before) ∙ c.if-is_same_place.false)
 
 returns-2 : tie.Need-returns invariant-loop decreases-loop
 returns-2 c =
-    let l = c.before in
+    let l = c in
     sym
     (l.loop-j.invariant
-    ∙ any-end (same_place l.before.before.args.p) _ (pins-end l.before.before.args.pins.now l.loop-j.j (omega arith)))
+    ∙ any-end (same_place l.args.p) _ (pins-end l.args.pins.now l.loop-j.j (omega arith)))
 
 pub is_among_spec : {M : Type 1} → statement M
 is_among_spec =

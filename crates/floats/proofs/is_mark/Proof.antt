@@ -6,13 +6,13 @@ use Rattle.floats.specs.Mark.{is_mark}
 use Rattle.floats.proofs.is_mark.Statement.{statement}
 use Rattle.floats.proofs.is_mark.Tie as tie
 
-returns : tie.Need-returns
+returns : tie.Need-returns-in-Finite
 unfolding is_mark
-returns c = sym (ap is_mark c.enum_told.given.1)
+returns c = sym (ap is_mark c.enum_told-1.given.1)
 
-returns-2 : tie.Need-returns-2
+returns-2 : tie.Need-returns-in-NotFinite
 unfolding is_mark
-returns-2 c = sym (ap is_mark c.enum-told2.given.1)
+returns-2 c = sym (ap is_mark c.enum_told-in-NotFinite-1.given.1)
 
-pub is-mark-spec : {M : Type 1} → statement M
-is-mark-spec = tie.close (tie.spec (λ c. search rules) (λ c. search rules) returns returns-2)
+pub is_mark_spec : {M : Type 1} → statement M
+is_mark_spec = tie.close (tie.spec (λ c. search rules) (λ c. search rules) returns returns-2)

@@ -5,15 +5,15 @@ use Rattle.floats.proofs.MarkLaws.{pin-marked, pin-none}
 use Rattle.floats.proofs.is_marked_pin.Statement.{statement}
 use Rattle.floats.proofs.is_marked_pin.Tie as tie
 
-returns : tie.Need-returns
+returns : tie.Need-returns-then-pin-i-eq1
 returns c =
-    let p = c.before.before.before in
-    pin-marked p.before.before.args.table.now _ _ _ _ p.if1.true c.before.marked.ensures c.is-mark.ensures
+    let p = c in
+    pin-marked p.args.table.now _ _ _ _ p.if-pin-i-eq1.true c.marked.ensures c.is_mark.ensures
 
-returns-2 : tie.Need-returns-2
-returns-2 c = pin-none c.before.before.args.table.now _ _ c.if1.false
+returns-2 : tie.Need-returns
+returns-2 c = pin-none c.args.table.now _ _ c.if-pin-i-eq1.false
 
-pub is-marked-pin-spec : {M : Type 1} → statement M
-is-marked-pin-spec =
+pub is_marked_pin_spec : {M : Type 1} → statement M
+is_marked_pin_spec =
     tie.close
     (tie.spec (λ c. search rules) (λ c. search rules) (λ c. search rules) (λ c. search rules) (λ c κs. search rules) (λ c κs. search rules) returns returns-2)

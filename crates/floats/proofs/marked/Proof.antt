@@ -5,11 +5,11 @@ use Rattle.floats.proofs.MarkLaws.{marked-finite, marked-not}
 use Rattle.floats.proofs.marked.Statement.{statement}
 use Rattle.floats.proofs.marked.Tie as tie
 
-returns : tie.Need-returns
-returns c = marked-finite _ _ c.before.is_finite.ensures c.if1.true
+returns : tie.Need-returns-then-is_finite
+returns c = marked-finite _ _ c.is_finite.ensures c.if-is_finite.true
 
-returns-2 : tie.Need-returns-2
-returns-2 c = marked-not _ _ c.before.is_finite.ensures c.if1.false
+returns-2 : tie.Need-returns
+returns-2 c = marked-not _ _ c.is_finite.ensures c.if-is_finite.false
 
-pub marked-spec : {M : Type 1} → statement M
-marked-spec = tie.close (tie.spec (λ c κs. search rules) returns returns-2)
+pub marked_spec : {M : Type 1} → statement M
+marked_spec = tie.close (tie.spec (λ c κs. search rules) returns returns-2)

@@ -6,11 +6,11 @@ use Rattle.floats.proofs.MarkLaws.{put-finite, put-mark}
 use Rattle.floats.proofs.put.Statement.{statement}
 use Rattle.floats.proofs.put.Tie as tie
 
-returns : tie.Need-returns
-returns c = put-finite _ _ _ _ c.before.d.given.1
+returns : tie.Need-returns-in-Finite
+returns c = put-finite _ _ _ _ c.d-1.given.1
 
-returns-2 : tie.Need-returns-2
-returns-2 c = put-mark _ _ _ c.enum_told.given.1
+returns-2 : tie.Need-returns-in-NotFinite
+returns-2 c = put-mark _ _ _ c.enum_told-1.given.1
 
 pub put_spec : {M : Type 1} → statement M
 put_spec =

@@ -21,31 +21,31 @@ loop-holds c = (omega arith, adopt-none _ _ _ c.requires.0.1.1 _ c.requires.1)
 
 adopt-by-requires : tie.Need-adopt_by-requires invariant-loop decreases-loop
 adopt-by-requires c κs =
-    let s = c.before.before.before.before.before.before.before in
+    let s = c in
     let f = s.requires.0.0 in
-    let h = c.before.before.before.before.before.loop-k-test.true in
+    let h = c.loop-k-test.true in
     ((f.two_in _ h, f.one_in _ h), (s.requires.0.1.0, f.short _ h))
 
 adopt-by-requires-2 : tie.Need-adopt_by-requires-in-loop-k invariant-loop decreases-loop
 adopt-by-requires-2 c κs =
-    let s = c.before.before.before.before.before.before.before.before.before.before in
+    let s = c in
     let f = s.requires.0.0 in
-    let h = c.before.before.before.before.before.before.before.before.loop-k-test.true in
+    let h = c.loop-k-test.true in
     let one = f.one_in _ h in
     let two = f.two_in _ h in
     ((omega (arith, one, two), omega (arith, one, two)), (s.requires.0.1.0, f.short _ h))
 
 loop-again : tie.Need-loop-k-preserved invariant-loop decreases-loop
 loop-again c =
-    let t = c.before.before.before.before.before.before.before.before.before in
-    let s = t.before.before in (
+    let t = c in
+    let s = t in (
       omega (arith, t.loop-k-test.true),
-      adopt-more _ _ _ s.requires.0.1.1 _ _ t.before.loop-k.invariant.1 _ _ t.loop-k-test.true
-          c.before.before.before.adopt_by.ensures c.adopt_by-in-loop-k.ensures,
+      adopt-more _ _ _ s.requires.0.1.1 _ _ t.loop-k.invariant.1 _ _ t.loop-k-test.true
+          c.adopt_by.ensures c.adopt_by-in-loop-k.ensures,
     )
 
 returns : tie.Need-returns invariant-loop decreases-loop
-returns c = adopt-end _ _ _ c.before.before.requires.0.1.1 _ _ c.before.loop-k.invariant.1 c.loop-k-test.false
+returns c = adopt-end _ _ _ c.requires.0.1.1 _ _ c.loop-k.invariant.1 c.loop-k-test.false
 
 pub adopt_spec : {M : Type 1} → statement M
 adopt_spec =

@@ -6,10 +6,10 @@ use Rattle.forest.proofs.adopt_by.Statement.{statement}
 use Rattle.forest.proofs.adopt_by.Tie as tie
 
 returns : tie.Need-returns-then-v-n
-returns c = adopt-yes _ _ _ _ _ _ _ _ c.before.leads.ensures c.if-v-n.true
+returns c = adopt-yes _ _ _ _ _ _ _ _ c.leads.ensures c.if-v-n.true
 
 returns-2 : tie.Need-returns-else-v-n
-returns-2 c = adopt-no _ _ _ _ _ _ _ _ c.before.leads.ensures c.if-v-n.false
+returns-2 c = adopt-no _ _ _ _ _ _ _ _ c.leads.ensures c.if-v-n.false
 
 pub adopt_by_spec : {M : Type 1} → statement M
 adopt_by_spec =

@@ -9,7 +9,7 @@ use Rattle.forest.proofs.leads.Tie as tie
 
 add-result : tie.Need-overflow_add-result
 add-result c =
-    let s = c.before.before.before in
+    let s = c in
     omega (arith, s.requires.1.0.low s.args.w)
 
 returns : tie.Need-returns

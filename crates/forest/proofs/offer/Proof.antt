@@ -10,19 +10,19 @@ use Rattle.forest.proofs.offer.Tie as tie
 
 add-f : tie.Need-overflow_add-f
 add-f c =
-    let s = c.before in
+    let s = c in
     omega (arith, s.requires.1.0.low s.args.u)
 
 returns : tie.Need-returns-then-is_better
 unfolding gains
 returns c =
-    let g = sym c.if-is_better.true ∙ c.before.is_better.ensures in
+    let g = sym c.if-is_better.true ∙ c.is_better.ensures in
     (g, sym (offer-yes _ _ _ _ (sym g)))
 
 returns-2 : tie.Need-returns
 unfolding gains
 returns-2 c =
-    let g = sym c.if-is_better.false ∙ c.before.is_better.ensures in
+    let g = sym c.if-is_better.false ∙ c.is_better.ensures in
     (g, sym (offer-no _ _ _ _ (sym g)))
 
 pub offer_spec : {M : Type 1} → statement M

@@ -22,20 +22,20 @@ loop-holds c = (omega arith, rw (all_left c.args.e) (pass-none _ _ _ c.requires.
 
 relax-edge-requires : tie.Need-relax_edge-m-requires invariant-loop decreases-loop
 relax-edge-requires c κs =
-    let l = c.before.before.before.before.before.before in
-    let f = l.before.requires.0 in
-    let h = c.before.before.before.before.before.loop-k-test.true in
+    let l = c in
+    let f = l.requires.0 in
+    let h = c.loop-k-test.true in
     ((f.one_in _ h, f.two_in _ h), (l.loop-k.invariant.1.low, f.short _ h))
 
 loop-again : tie.Need-loop-k-preserved invariant-loop decreases-loop
 unfolding relax_edge moves
 loop-again c =
-    let l = c.before.before.before.before.before.before.before in
-    let h = c.before.before.before.before.before.before.loop-k-test.true in
+    let l = c in
+    let h = c.loop-k-test.true in
     (omega arith, pass-more _ _ _ _ _ _ l.loop-k.invariant.1 _ _ _ _ (from_next _ _ h) c.relax_edge-m.ensures)
 
 returns : tie.Need-returns invariant-loop decreases-loop
-returns c = pass-end _ _ _ _ _ _ c.before.loop-k.invariant.1 (from-end _ _ c.loop-k-test.false)
+returns c = pass-end _ _ _ _ _ _ c.loop-k.invariant.1 (from-end _ _ c.loop-k-test.false)
 
 pub relax_all_spec : {M : Type 1} → statement M
 relax_all_spec =

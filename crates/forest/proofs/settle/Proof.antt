@@ -4,7 +4,6 @@
 use mathlib.Core.Path.{sym, ◌∙◌}
 use Prim.Native.Nat.{◌≤◌, ◌-◌}
 use native.Mathlib.Omega.{arith}
-use borrow.Author.Tests.{not-true, not-false}
 use Rattle.forest.specs.Edges.{graph, from}
 use Rattle.forest.specs.Labels.{labels}
 use Rattle.forest.proofs.EdgeLaws.{all_left, one_less, none_left}
@@ -23,25 +22,25 @@ loop-holds c = (omega arith, settle-none _ _ _ _ _ c.requires.1 (all_left c.args
 
 relax-all-requires : tie.Need-relax_all-requires invariant-loop decreases-loop
 relax-all-requires c κs =
-    let l = c.before.before.before in
-    (l.before.requires.0, l.loop-i.invariant.1.low)
+    let l = c in
+    (l.requires.0, l.loop-i.invariant.1.low)
 
 returns : tie.Need-returns-then-not-relax_all invariant-loop decreases-loop
 returns c =
-    let l = c.before.before.before.before.before in
-    let call = c.before.relax_all.ensures in
-    let h = c.before.before.before.before.loop-i-test.true in
-    settle-stop _ _ _ _ _ _ l.loop-i.invariant.1 _ _ (one_less _ _ h) (sym call.0 ∙ not-true _ c.if-not-relax_all.true) call.1
+    let l = c in
+    let call = c.relax_all.ensures in
+    let h = c.loop-i-test.true in
+    settle-stop _ _ _ _ _ _ l.loop-i.invariant.1 _ _ (one_less _ _ h) (sym call.0 ∙ c.if-not-relax_all.true) call.1
 
 loop-again : tie.Need-loop-i-preserved invariant-loop decreases-loop
 loop-again c =
-    let l = c.before.before.before.before.before in
-    let call = c.before.relax_all.ensures in
-    let h = c.before.before.before.before.loop-i-test.true in
-    (omega arith, settle-more _ _ _ _ _ _ l.loop-i.invariant.1 _ _ (one_less _ _ h) (sym call.0 ∙ not-false _ c.if-not-relax_all.false) call.1)
+    let l = c in
+    let call = c.relax_all.ensures in
+    let h = c.loop-i-test.true in
+    (omega arith, settle-more _ _ _ _ _ _ l.loop-i.invariant.1 _ _ (one_less _ _ h) (sym call.0 ∙ c.if-not-relax_all.false) call.1)
 
 returns-2 : tie.Need-returns invariant-loop decreases-loop
-returns-2 c = settle-end _ _ _ _ _ _ c.before.loop-i.invariant.1 (none_left _ _ c.loop-i-test.false)
+returns-2 c = settle-end _ _ _ _ _ _ c.loop-i.invariant.1 (none_left _ _ c.loop-i-test.false)
 
 pub settle_spec : {M : Type 1} → statement M
 settle_spec =

@@ -22,27 +22,27 @@ loop-holds c = (omega arith, rw (all_left c.args.m) refl)
 
 mul-far : tie.Need-offset_bounds-far-s invariant-loop decreases-loop
 mul-far c =
-    let l = c.before.before in
-    omega (arith, l.before.requires.1.inside l.loop-i.i c.before.loop-i-test.true)
+    let l = c in
+    omega (arith, l.requires.1.inside l.loop-i.i c.loop-i-test.true)
 
 element-write-far : tie.Need-bounds-far-s invariant-loop decreases-loop
-element-write-far c = c.before.before.before.requires.1.inside c.before.before.loop-i.i c.before.loop-i-test.true
+element-write-far c = c.requires.1.inside c.loop-i.i c.loop-i-test.true
 
 mul-root : tie.Need-offset_bounds-root-s invariant-loop decreases-loop
 mul-root c =
-    let l = c.before.before in
-    omega (arith, l.before.requires.1.inside l.loop-i.i c.before.loop-i-test.true)
+    let l = c in
+    omega (arith, l.requires.1.inside l.loop-i.i c.loop-i-test.true)
 
 element-write-root : tie.Need-bounds-root-s invariant-loop decreases-loop
-element-write-root c = c.before.before.before.requires.1.inside c.before.before.loop-i.i c.before.loop-i-test.true
+element-write-root c = c.requires.1.inside c.loop-i.i c.loop-i-test.true
 
 loop-again : tie.Need-loop-i-preserved invariant-loop decreases-loop
 loop-again c =
-    let l = c.before.before in
-    (omega arith, start-more _ _ _ _ _ _ l.loop-i.invariant.1 c.before.loop-i-test.true)
+    let l = c in
+    (omega arith, start-more _ _ _ _ _ _ l.loop-i.invariant.1 c.loop-i-test.true)
 
 returns : tie.Need-returns invariant-loop decreases-loop
-returns c = start-end _ _ _ _ _ c.before.loop-i.invariant.1 c.loop-i-test.false
+returns c = start-end _ _ _ _ _ c.loop-i.invariant.1 c.loop-i-test.false
 
 pub start_spec : {M : Type 1} → statement M
 start_spec =

@@ -19,17 +19,17 @@ module _ (s : tie.Start) where
 returns : tie.Need-returns
 unfolding box_of
 returns c =
-    let r = c.before.before.before in
-    let q = r.before.before.before in
-    let p = q.before.before.before in
-    let s = p.before.before.before in
+    let r = c in
+    let q = r in
+    let p = q in
+    let s = p.before.before.before.before.before.before.before.before.before.before.before.before in
     let left = to_z-of_z w32 _ (search rules) ∙ (rw (to_z-of_z w32 _ (of-a s).x, to_z-of_z w32 _ (of-b s).x) at p.smaller.ensures) in
-    let bottom = to_z-of_z w32 _ (search rules) ∙ (rw (to_z-of_z w32 _ (of-a s).y, to_z-of_z w32 _ (of-b s).y) at q.smaller2.ensures) in
+    let bottom = to_z-of_z w32 _ (search rules) ∙ (rw (to_z-of_z w32 _ (of-a s).y, to_z-of_z w32 _ (of-b s).y) at q.smaller-2.ensures) in
     let right = to_z-of_z w32 _ (search rules) ∙ (rw (to_z-of_z w32 _ (of-a s).x, to_z-of_z w32 _ (of-b s).x) at r.greater.ensures) in
-    let top = to_z-of_z w32 _ (search rules) ∙ (rw (to_z-of_z w32 _ (of-a s).y, to_z-of_z w32 _ (of-b s).y) at c.greater2.ensures) in
+    let top = to_z-of_z w32 _ (search rules) ∙ (rw (to_z-of_z w32 _ (of-a s).y, to_z-of_z w32 _ (of-b s).y) at c.greater-2.ensures) in
     rw (left, bottom, right, top)
 
-pub box-of-spec : {M : Type 1} → statement M
-box-of-spec =
+pub box_of_spec : {M : Type 1} → statement M
+box_of_spec =
     tie.close
     (tie.spec (λ c κs. search rules) (λ c κs. search rules) (λ c κs. search rules) (λ c κs. search rules) returns)

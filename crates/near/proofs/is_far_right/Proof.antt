@@ -22,20 +22,20 @@ module _ (s : tie.Start) where
   of-u : PlaceFits s.args.u
   of-u = record { x = search rules; y = search rules }
 
-across : (c : tie.After-axis-cost) → let s = c.before.before.before.before.before.before.before.before.before in
-    c.axis-cost.result ≡ apart s.args.m.right s.args.u.x * s.args.w.across
+across : (c : tie.After-axis_cost) → let s = c.before.before.before.before.before.before.before.before.before in
+    c.axis_cost.result ≡ apart s.args.m.right s.args.u.x * s.args.w.across
 across c =
     let s = c.before.before.before.before.before.before.before.before.before in
-    c.axis-cost.ensures.0
+    c.axis_cost.ensures.0
     ∙ ap (λ (n : ℕ). n * s.args.w.across)
-    (rw (to_z-of_z w32 _ (of-m s).right, to_z-of_z w32 _ (of-u s).x) at c.before.gap.ensures.0)
+    (rw (to_z-of_z w32 _ (of-m s).right, to_z-of_z w32 _ (of-u s).x) at c.gap.ensures.0)
 
-returns : tie.Need-returns
+returns : tie.Need-returns-then-m-u
 returns c t =
     let s = c.before.before.before.before.before.before.before.before.before in
     far-right s.args.w s.args.m s.args.u s.args.limit
-    (flag-lt w32 _ _ (of-m s).right (of-u s).x c.before.before.before.before.if1.true)
-    (omega (arith, leb-true s.args.limit c.axis-cost.result t, across c))
+    (flag-lt w32 _ _ (of-m s).right (of-u s).x c.if-m-u.true)
+    (omega (arith, leb-true s.args.limit c.axis_cost.result t, across c))
 
-pub is-far-right-spec : {M : Type 1} → statement M
-is-far-right-spec = tie.close (tie.spec (λ c κs. search rules) (λ c κs. search rules) returns (λ c t. differ t refl))
+pub is_far_right_spec : {M : Type 1} → statement M
+is_far_right_spec = tie.close (tie.spec (λ c κs. search rules) (λ c κs. search rules) returns (λ c t. differ t refl))

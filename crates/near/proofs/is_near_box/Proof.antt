@@ -20,32 +20,32 @@ module _ (s : tie.Start) where
   of-u = record { x = search rules; y = search rules }
 
 -- each axis, of the fields themselves: a callee is handed what the machine reads back from their bits
-across : (c : tie.After-axis-cost) → let s = c.before.before.before.before.before in
-    c.axis-cost.result ≡ outside s.args.m.left s.args.m.right s.args.u.x * s.args.w.across
+across : (c : tie.After-axis_cost-across) → let s = c.before.before.before.before.before in
+    c.axis_cost-across.result ≡ outside s.args.m.left s.args.m.right s.args.u.x * s.args.w.across
 across c =
     let s = c.before.before.before.before.before in
-    c.axis-cost.ensures.0
+    c.axis_cost-across.ensures.0
     ∙ ap (λ (n : ℕ). n * s.args.w.across)
-    (rw (to_z-of_z w32 _ (of-m s).left, to_z-of_z w32 _ (of-m s).right, to_z-of_z w32 _ (of-u s).x) at c.before.outside.ensures.0)
+    (rw (to_z-of_z w32 _ (of-m s).left, to_z-of_z w32 _ (of-m s).right, to_z-of_z w32 _ (of-u s).x) at c.outside.ensures.0)
 
-along : (c : tie.After-axis-cost2) → let s = c.before.before.before.before.before.before.before.before.before.before.before in
-    c.axis-cost2.result ≡ outside s.args.m.bottom s.args.m.top s.args.u.y * s.args.w.along
+along : (c : tie.After-axis_cost) → let s = c.before.before.before.before.before.before.before.before.before.before.before in
+    c.axis_cost.result ≡ outside s.args.m.bottom s.args.m.top s.args.u.y * s.args.w.along
 along c =
     let s = c.before.before.before.before.before.before.before.before.before.before.before in
-    c.axis-cost2.ensures.0
+    c.axis_cost.ensures.0
     ∙ ap (λ (n : ℕ). n * s.args.w.along)
-    (rw (to_z-of_z w32 _ (of-m s).bottom, to_z-of_z w32 _ (of-m s).top, to_z-of_z w32 _ (of-u s).y) at c.before.outside2.ensures.0)
+    (rw (to_z-of_z w32 _ (of-m s).bottom, to_z-of_z w32 _ (of-m s).top, to_z-of_z w32 _ (of-u s).y) at c.outside-2.ensures.0)
 
-returns : tie.Need-returns
-returns c = box-far _ _ _ _ _ (across c.before) c.if1.true
+returns : tie.Need-returns-then-limit-across
+returns c = box-far _ _ _ _ _ (across c.before) c.if-limit-across.true
 
-returns-2 : tie.Need-returns-2
+returns-2 : tie.Need-returns
 returns-2 c =
-    let d = c.before.before.before.before.before in
-    box-near _ _ _ _ _ _ (across d.before) (along c) d.if1.false
+    let d = c in
+    box-near _ _ _ _ _ _ (across d.before.before.before.before.before.before) (along c) d.if-limit-across.false
 
-pub is-near-box-spec : {M : Type 1} → statement M
-is-near-box-spec =
+pub is_near_box_spec : {M : Type 1} → statement M
+is_near_box_spec =
     tie.close
     (tie.spec
     (λ c κs. search rules) (λ c κs. search rules) returns (λ c κs. search rules) (λ c κs. search rules)

@@ -12,41 +12,41 @@ use Rattle.near.proofs.TableLaws.{right_of}
 use Rattle.near.proofs.to.Statement.{statement}
 use Rattle.near.proofs.to.Tie as tie
 
-abbrev invariant-loop : tie.invariant-loop
+abbrev invariant-loop : tie.invariant-loop-near
 invariant-loop w m pts n limit near₀ far₀ near far =
     (near ≤ far) × ((far ≤ n) × ((u : ℕ) → far ≤ u → u < n → limit ≤ box_cost w m (place_at pts u)))
 
-abbrev decreases-loop : tie.decreases-loop
+abbrev decreases-loop : tie.decreases-loop-near
 decreases-loop w m pts n limit near₀ far₀ near far = far - near
 
-loop-holds : tie.Need-loop-init invariant-loop decreases-loop
+loop-holds : tie.Need-loop-near-init invariant-loop decreases-loop
 loop-holds c = (omega arith, (omega arith, λ u h k. omega (arith, h, k)))
 
-loop-again : tie.Need-loop-preserved invariant-loop decreases-loop
+loop-again : tie.Need-loop-near-preserved-then-is_far_right invariant-loop decreases-loop
 loop-again c =
-    let l = c.before.before.before.before in
-    let s = l.before in
-    let mid = l.loop.near + (l.loop.far - l.loop.near) / 2 in
-    let beyond = subst (λ (p : Place). FarRight s.args.w s.args.m p s.args.limit) c.before.before.place_at.ensures
-    (c.before.is-far-right.ensures c.if1.true) in (
-      omega (arith, c.before.before.before.loop-test.true),
+    let l = c in
+    let s = l in
+    let mid = l.loop-near.near + (l.loop-near.far - l.loop-near.near) / 2 in
+    let beyond = subst (λ (p : Place). FarRight s.args.w s.args.m p s.args.limit) c.place_at.ensures
+    (c.is_far_right.ensures c.if-is_far_right.true) in (
+      omega (arith, c.loop-near-test.true),
       (
-        omega (arith, c.before.before.before.loop-test.true, l.loop.invariant.1.0),
+        omega (arith, c.loop-near-test.true, l.loop-near.invariant.1.0),
         right_of s.args.w s.args.m s.args.pts.now s.args.n s.requires.0.1 s.args.limit mid
-            (omega (arith, c.before.before.before.loop-test.true, l.loop.invariant.1.0)) s.requires.1 beyond,
+            (omega (arith, c.loop-near-test.true, l.loop-near.invariant.1.0)) s.requires.1 beyond,
       ),
     )
 
-loop-again-2 : tie.Need-loop-preserved-2 invariant-loop decreases-loop
+loop-again-2 : tie.Need-loop-near-preserved invariant-loop decreases-loop
 loop-again-2 c =
-    let l = c.before.before.before.before in
-    (omega (arith, c.before.before.before.loop-test.true), l.loop.invariant.1)
+    let l = c in
+    (omega (arith, c.loop-near-test.true), l.loop-near.invariant.1)
 
 returns : tie.Need-returns invariant-loop decreases-loop
-returns c = c.before.loop.invariant.1
+returns c = c.loop-near.invariant.1
 
-pub to-spec : {M : Type 1} → statement M
-to-spec =
+pub to_spec : {M : Type 1} → statement M
+to_spec =
     tie.close
     (tie.spec invariant-loop decreases-loop loop-holds (λ c. omega arith) (λ c. omega arith) (λ c κs. omega arith) (λ c κs. search rules) (λ c. omega arith) loop-again (λ c. omega arith) (λ c. omega arith)
     loop-again-2 returns)
