@@ -155,10 +155,13 @@ module _ {g : Graph} {n : ℕ} {d : ℕ → ℕ → ℕ} {sources : List ℕ} (s
       (λ h. let p = h.0 in let q = h.1 in record { near-in = omega arith; far-in = omega arith; some = omega arith; short = omega arith })
       j.ends-are
 
+  way-inside : (z : ℕ) {x y : ℕ} {ps : List ℕ} → x < n → Way (pairs g) x ps y → z ∈ (x ∷ ps) → z ∈ from 0 n
+  way-inside z h w (here e) = in-from 0 n z (omega arith) (omega arith)
+  way-inside z h (stop e) (there m) = elim m [ ]
+  way-inside z {x} h (go {y = y} l w) (there m) = way-inside z (link-in x y l).far-in w m
+
   way_in : {x y : ℕ} {ps : List ℕ} → x < n → Way (pairs g) x ps y → Among (x ∷ ps) (from 0 n)
-  way_in h w z (here e) = in-from 0 n z (omega arith) (omega arith)
-  way_in h (stop e) z (there m) = elim m [ ]
-  way_in {x} h (go {y = y} l w) z (there m) = way_in (link-in x y l).far-in w z m
+  way_in h w z m = way-inside z h w m
 
   -- a loop-free way has fewer links than there are vertices
   pub few-links : {x y : ℕ} (ps : List ℕ) → x < n → Way (pairs g) x ps y → Once (x ∷ ps) → length ps < n

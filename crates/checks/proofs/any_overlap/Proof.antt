@@ -47,7 +47,7 @@ told : (c : tie.After-interiors_meet invariant-loop decreases-loop invariant-sea
     (macro_at c.args.macros.now c.loop-j.j)
 told c =
     c.interiors_meet.ensures
-    ∙ ap (interiors_meet c.macro_at-m.result) c.macro_at-m.ensures
+    ∙ ap (interiors_meet c.macro_at-m.result) c.macro_at.ensures
 
 loop-again : tie.Need-loop-j-preserved invariant-loop decreases-loop invariant-search decreases-search
 loop-again c =

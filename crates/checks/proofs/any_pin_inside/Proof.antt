@@ -49,7 +49,7 @@ returns c =
     sym
     (l.loop-i.invariant.1
     ∙ any-hit (inside_any _) _ _ _ (pins-next l.args.pins.now l.loop-i.i (omega arith))
-    (sym (told c.before) ∙ c.if-not-is_clear.true))
+    (sym (told c.before) ∙ ap not c.if-not-is_clear.true))
 
 loop-again : tie.Need-loop-i-preserved invariant-loop decreases-loop
 loop-again c =
@@ -57,7 +57,7 @@ loop-again c =
       omega arith,
       l.loop-i.invariant.1
           ∙ any-miss (inside_any _) _ _ _ (pins-next l.args.pins.now l.loop-i.i (omega arith))
-          (sym (told c.before) ∙ c.if-not-is_clear.false),
+          (sym (told c.before) ∙ ap not c.if-not-is_clear.false),
     )
 
 returns-2 : tie.Need-returns invariant-loop decreases-loop

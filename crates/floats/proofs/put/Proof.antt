@@ -7,10 +7,10 @@ use Rattle.floats.proofs.put.Statement.{statement}
 use Rattle.floats.proofs.put.Tie as tie
 
 returns : tie.Need-returns-in-Finite
-returns c = put-finite _ _ _ _ c.d-1.given.1
+returns c = put-finite _ _ _ _ c.in-Finite.is
 
 returns-2 : tie.Need-returns-in-NotFinite
-returns-2 c = put-mark _ _ _ c.enum_told-1.given.1
+returns-2 c = put-mark _ _ _ c.in-NotFinite.is
 
 pub put_spec : {M : Type 1} → statement M
 put_spec =
