@@ -16,58 +16,58 @@ use Rattle.decoded.proofs.ReadLaws.{blocks-next, blocks_end}
 use Rattle.decoded.proofs.any_wrong_sums.Statement.{statement}
 use Rattle.decoded.proofs.any_wrong_sums.Tie as tie
 
-abbrev invariant-loop : tie.invariant-loop
+abbrev invariant-loop : tie.invariant-loop-b
 invariant-loop bytes n b₀ b =
     (b ≤ n) × (any wrong_sums (blocks_of n (words_of bytes)) ≡ any wrong_sums (blocks_of (n - b) (drop (b * block_words) (words_of bytes))))
 
-abbrev decreases-loop : tie.decreases-loop
+abbrev decreases-loop : tie.decreases-loop-b
 decreases-loop bytes n b₀ b = n - b
 
-loop-holds : tie.Need-loop-init invariant-loop decreases-loop
+loop-holds : tie.Need-loop-b-init invariant-loop decreases-loop
 loop-holds c =
-    let n = length c.before.args.bytes.now / block_bytes in
+    let n = length c.args.bytes.now / block_bytes in
     let e : n ≡ n - 0 = omega arith in
-    (omega arith, ap (λ (k : ℕ). any wrong_sums (blocks_of k (words_of c.before.args.bytes.now))) e)
+    (omega arith, ap (λ (k : ℕ). any wrong_sums (blocks_of k (words_of c.args.bytes.now))) e)
 
-has-wrong-sums-requires : tie.Need-has-wrong-sums-requires invariant-loop decreases-loop
+has-wrong-sums-requires : tie.Need-has_wrong_sums-requires invariant-loop decreases-loop
 has-wrong-sums-requires c κs =
-    let l = c.before.before in
-    ap length c.block_at.ensures ∙ block-full l.before.before.args.bytes.now l.loop.b (omega arith)
+    let l = c in
+    ap length c.block_at.ensures ∙ block-full l.args.bytes.now l.loop-b.b (omega arith)
 
 -- what the calls say, of the words
-met : (c : tie.After-has-wrong-sums invariant-loop decreases-loop) → c.has-wrong-sums.result
-    ≡ wrong_sums (block_of c.before.before.before.loop.b (words_of c.before.before.before.before.before.args.bytes.now))
-met c = c.has-wrong-sums.ensures ∙ ap wrong_sums c.before.block_at.ensures
+met : (c : tie.After-has_wrong_sums invariant-loop decreases-loop) → c.has_wrong_sums.result
+    ≡ wrong_sums (block_of c.loop-b.b (words_of c.args.bytes.now))
+met c = c.has_wrong_sums.ensures ∙ ap wrong_sums c.block_at.ensures
 
-returns : tie.Need-returns invariant-loop decreases-loop
+returns : tie.Need-returns-then-has_wrong_sums invariant-loop decreases-loop
 unfolding sums_wrong
 returns c =
-    let l = c.before.before.before.before in
-    let s = l.before.before.args.bytes.now in
+    let l = c in
+    let s = l.args.bytes.now in
     sym
-    (l.loop.invariant.1
-    ∙ any-hit wrong_sums _ _ _ (blocks-next (length s / block_bytes) l.loop.b (words_of s) (omega arith))
-    (sym (met c.before) ∙ c.if1.true))
+    (l.loop-b.invariant.1
+    ∙ any-hit wrong_sums _ _ _ (blocks-next (length s / block_bytes) l.loop-b.b (words_of s) (omega arith))
+    (sym (met c.before) ∙ c.if-has_wrong_sums.true))
 
-loop-again : tie.Need-loop-preserved invariant-loop decreases-loop
+loop-again : tie.Need-loop-b-preserved invariant-loop decreases-loop
 loop-again c =
-    let l = c.before.before.before.before in
-    let s = l.before.before.args.bytes.now in (
+    let l = c in
+    let s = l.args.bytes.now in (
       omega arith,
-      l.loop.invariant.1
-          ∙ any-miss wrong_sums _ _ _ (blocks-next (length s / block_bytes) l.loop.b (words_of s) (omega arith))
-          (sym (met c.before) ∙ c.if1.false),
+      l.loop-b.invariant.1
+          ∙ any-miss wrong_sums _ _ _ (blocks-next (length s / block_bytes) l.loop-b.b (words_of s) (omega arith))
+          (sym (met c.before) ∙ c.if-has_wrong_sums.false),
     )
 
-returns-2 : tie.Need-returns-2 invariant-loop decreases-loop
+returns-2 : tie.Need-returns invariant-loop decreases-loop
 unfolding sums_wrong
 returns-2 c =
-    let l = c.before in
-    let s = l.before.before.args.bytes.now in
-    sym (l.loop.invariant.1 ∙ any-end wrong_sums _ (blocks_end (length s / block_bytes) l.loop.b (words_of s) (omega arith)))
+    let l = c in
+    let s = l.args.bytes.now in
+    sym (l.loop-b.invariant.1 ∙ any-end wrong_sums _ (blocks_end (length s / block_bytes) l.loop-b.b (words_of s) (omega arith)))
 
-pub any-wrong-sums-spec : {M : Type 1} → statement M
-any-wrong-sums-spec =
+pub any_wrong_sums_spec : {M : Type 1} → statement M
+any_wrong_sums_spec =
     tie.close
     (tie.spec
     invariant-loop decreases-loop loop-holds (λ c κs. omega arith) has-wrong-sums-requires returns (λ c. omega arith)

@@ -11,17 +11,17 @@ use borrow.Author.Rules.{rules}
 use Rattle.decoded.proofs.are_loaded_in.Statement.{statement}
 use Rattle.decoded.proofs.are_loaded_in.Tie as tie
 
-returns : tie.Need-returns
+returns : tie.Need-returns-then-bytes
 unfolding loaded_in
 returns c =
-    let s = c.before.before in
+    let s = c in
     sym (ap (λ (k : ℕ). eqb k loaded_kind) (word_none s.args.bytes.now block_words (omega arith)))
 
-returns-2 : tie.Need-returns-2
+returns-2 : tie.Need-returns
 unfolding loaded_in
 returns-2 c =
-    let s = c.before.before.before in
+    let s = c in
     ap (λ (k : ℕ). eqb k loaded_kind) (c.word_at.ensures ∙ sym (word-is s.args.bytes.now block_words (omega arith)))
 
-pub are-loaded-in-spec : {M : Type 1} → statement M
-are-loaded-in-spec = tie.close (tie.spec (λ c. search rules) returns (λ c κs. search rules) returns-2)
+pub are_loaded_in_spec : {M : Type 1} → statement M
+are_loaded_in_spec = tie.close (tie.spec (λ c. search rules) returns (λ c κs. search rules) returns-2)

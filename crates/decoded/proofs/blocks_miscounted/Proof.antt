@@ -9,5 +9,5 @@ returns : tie.Need-returns
 unfolding blocks_miscounted_within
 returns c = refl
 
-pub blocks-miscounted-spec : {M : Type 1} → statement M
-blocks-miscounted-spec = tie.close (tie.spec returns)
+pub blocks_miscounted_spec : {M : Type 1} → statement M
+blocks_miscounted_spec = tie.close (tie.spec returns)

@@ -14,24 +14,24 @@ use borrow.Author.Rules.{rules}
 use Rattle.decoded.proofs.counts_wrong.Statement.{statement}
 use Rattle.decoded.proofs.counts_wrong.Tie as tie
 
-add-result : tie.Need-overflow-add-result
-add-result c = omega (arith, no_more c.before.before.before.pin-length.result)
+add-result : tie.Need-overflow_add-result
+add-result c = omega (arith, no_more c.pin_length.result)
 
-add-result-2 : tie.Need-overflow-add-result-2
+add-result-2 : tie.Need-overflow_add-result-2
 add-result-2 c =
-    omega (arith, no_more c.before.before.before.pin-length.result, no_more c.before.macro-length.result)
+    omega (arith, no_more c.pin_length.result, no_more c.macro_length.result)
 
 returns : tie.Need-returns
 unfolding counts_wrong
 returns c =
-    let p = c.before.before in
-    let b = p.before.before.before.args.bytes.now in
+    let p = c in
+    let b = p.args.bytes.now in
     ap₂ (λ (n k : ℕ). not (eqb (length b / block_bytes) (1 + n + k)))
-    (p.blocks-for.ensures ∙ ap blocks_for p.before.pin-length.ensures)
-    (c.blocks-for2.ensures ∙ ap blocks_for c.before.macro-length.ensures)
+    (p.blocks_for-pin_blocks.ensures ∙ ap blocks_for p.pin_length.ensures)
+    (c.blocks_for-macro_blocks.ensures ∙ ap blocks_for c.macro_length.ensures)
 
-pub counts-wrong-spec : {M : Type 1} → statement M
-counts-wrong-spec =
+pub counts_wrong_spec : {M : Type 1} → statement M
+counts_wrong_spec =
     tie.close
     (tie.spec
     (λ c κs. search rules) (λ c κs. search rules) (λ c κs. search rules) (λ c κs. search rules) add-result add-result-2

@@ -12,8 +12,8 @@ use Rattle.decoded.proofs.head_word.Tie as tie
 returns : tie.Need-returns
 unfolding head_word
 returns c =
-    let s = c.before.before in
+    let s = c in
     (c.word_at.ensures ∙ sym (word-is s.args.bytes.now s.args.i s.requires), omega arith)
 
-pub head-word-spec : {M : Type 1} → statement M
-head-word-spec = tie.close (tie.spec (λ c κs. search rules) (λ c. search rules) returns)
+pub head_word_spec : {M : Type 1} → statement M
+head_word_spec = tie.close (tie.spec (λ c κs. search rules) (λ c. search rules) returns)

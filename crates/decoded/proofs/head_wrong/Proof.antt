@@ -9,7 +9,7 @@ use Rattle.decoded.proofs.head_wrong.Tie as tie
 
 returns : tie.Need-returns
 unfolding head_wrong
-returns c = ap₂ ◌||◌ c.before.counts-wrong.ensures c.weights-miswritten.ensures
+returns c = ap₂ ◌||◌ c.counts_wrong.ensures c.weights_miswritten.ensures
 
-pub head-wrong-spec : {M : Type 1} → statement M
-head-wrong-spec = tie.close (tie.spec (λ c κs. search rules) (λ c κs. search rules) returns)
+pub head_wrong_spec : {M : Type 1} → statement M
+head_wrong_spec = tie.close (tie.spec (λ c κs. search rules) (λ c κs. search rules) returns)

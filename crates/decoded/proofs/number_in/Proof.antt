@@ -16,15 +16,15 @@ use Rattle.decoded.proofs.number_in.Tie as tie
 returns : tie.Need-returns
 unfolding number_in
 returns c =
-    let s = c.before.before.before in
+    let s = c in
     let b = s.args.bytes.now in
     to_z-of_z w32 _ (search rules)
-    ∙ c.coordinate-of.ensures
+    ∙ c.coordinate_of.ensures
     ∙ ap coordinate
-    (c.before.word_at.ensures ∙ sym (word-is b (s.args.b * block_words + place_in s.args.j) (omega arith)))
+    (c.word_at.ensures ∙ sym (word-is b (s.args.b * block_words + place_in s.args.j) (omega arith)))
 
-pub number-in-spec : {M : Type 1} → statement M
-number-in-spec =
+pub number_in_spec : {M : Type 1} → statement M
+number_in_spec =
     tie.close
     (tie.spec
     (λ c. search rules) (λ c. search rules) (λ c. search rules) (λ c. search rules) (λ c. search rules)

@@ -9,22 +9,22 @@ use borrow.Author.Rules.{rules}
 use Rattle.decoded.proofs.pin_length.Statement.{statement}
 use Rattle.decoded.proofs.pin_length.Tie as tie
 
-returns : tie.Need-returns
+returns : tie.Need-returns-then-are_loaded_in
 returns c =
-    let l = c.before in
-    let h = l.before in
-    ap (λ (n : ℕ). n * pin_width) h.head-word.ensures.0
-    ∙ sym (long-with h.before.before.args.bytes.now (sym l.are-loaded-in.ensures ∙ c.if1.true))
+    let l = c in
+    let h = l in
+    ap (λ (n : ℕ). n * pin_width) h.head_word-m.ensures.0
+    ∙ sym (long-with h.args.bytes.now (sym l.are_loaded_in.ensures ∙ c.if-are_loaded_in.true))
 
-returns-2 : tie.Need-returns-2
+returns-2 : tie.Need-returns
 returns-2 c =
-    let l = c.before in
-    let h = l.before in
-    ap (λ (n : ℕ). n * place_width) h.head-word.ensures.0
-    ∙ sym (long-alone h.before.before.args.bytes.now (sym l.are-loaded-in.ensures ∙ c.if1.false))
+    let l = c in
+    let h = l in
+    ap (λ (n : ℕ). n * place_width) h.head_word-m.ensures.0
+    ∙ sym (long-alone h.args.bytes.now (sym l.are_loaded_in.ensures ∙ c.if-are_loaded_in.false))
 
-pub pin-length-spec : {M : Type 1} → statement M
-pin-length-spec =
+pub pin_length_spec : {M : Type 1} → statement M
+pin_length_spec =
     tie.close
     (tie.spec
     (λ c κs. search rules) (λ c κs. search rules) (λ c. search rules) returns (λ c. search rules)

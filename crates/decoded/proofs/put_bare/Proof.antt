@@ -26,11 +26,11 @@ use Rattle.decoded.proofs.put_bare.Tie as tie
 abbrev entries_at : List ℤ → List (Place × ℤ)
 entries_at places = map bare (places_of places)
 
-abbrev invariant-loop : tie.invariant-loop
+abbrev invariant-loop : tie.invariant-loop-i
 invariant-loop places pins₀ m i₀ pins i =
     (i ≤ m) × ((length pins ≡ length pins₀) × (pins ≡ over (flat pin_numbers (take i (entries_at places))) pins₀))
 
-abbrev decreases-loop : tie.decreases-loop
+abbrev decreases-loop : tie.decreases-loop-i
 decreases-loop places pins₀ m i₀ pins i = m - i
 
 -- the next of them, and the end
@@ -47,43 +47,43 @@ end s i h = sym (map-drop bare i (places_of s)) ∙ ap (map bare) (places-end s 
 all-long : (s : List ℤ) → length (flat_pins (places_of s)) ≡ length s / place_width * pin_width
 all-long s = length-flat-pins (places_of s) ∙ ap (λ (n : ℕ). n * pin_width) (length-places s)
 
-loop-holds : tie.Need-loop-init invariant-loop decreases-loop
+loop-holds : tie.Need-loop-i-init invariant-loop decreases-loop
 unfolding over flat
 loop-holds c = (omega arith, (refl, refl))
 
-put-bare-pin-requires : tie.Need-put-bare-pin-requires invariant-loop decreases-loop
+put-bare-pin-requires : tie.Need-put_bare_pin-requires invariant-loop decreases-loop
 put-bare-pin-requires c κs =
-    let l = c.before.before.before in
-    omega (arith, all-long l.before.args.places.now)
+    let l = c in
+    omega (arith, all-long l.args.places.now)
 
-loop-again : tie.Need-loop-preserved invariant-loop decreases-loop
+loop-again : tie.Need-loop-i-preserved invariant-loop decreases-loop
 loop-again c =
-    let d = c.before in
-    let l = d.before.before.before.before in
-    let s = l.before.args.places.now in
-    let i = l.loop.i in (
+    let d = c in
+    let l = d in
+    let s = l.args.places.now in
+    let i = l.loop-i.i in (
       omega arith,
       (
-        d.put-bare-pin.auto.0 ∙ l.loop.invariant.1.0,
-        d.put-bare-pin.ensures
-            ∙ ap (λ (p : Place). sets l.loop.pins (i * pin_width) (pin_numbers (bare p))) d.before.place_at.ensures
-            ∙ fill_more pin_numbers pin_from pin_width pin-width (entries_at s) i _ _ _ _ (next s i (omega arith)) l.loop.invariant.1.1
+        d.put_bare_pin.auto.pins ∙ l.loop-i.invariant.1.0,
+        d.put_bare_pin.ensures
+            ∙ ap (λ (p : Place). sets l.loop-i.pins (i * pin_width) (pin_numbers (bare p))) d.place_at.ensures
+            ∙ fill_more pin_numbers pin_from pin_width pin-width (entries_at s) i _ _ _ _ (next s i (omega arith)) l.loop-i.invariant.1.1
             (omega (arith, all-long s)),
       ),
     )
 
-same_length : tie.Need-same-length invariant-loop decreases-loop
-same_length c = c.before.loop.invariant.1.0
+same_length : tie.Need-shape_of-pins invariant-loop decreases-loop
+same_length c = c.loop-i.invariant.1.0
 
 returns : tie.Need-returns invariant-loop decreases-loop
 unfolding flat_pins
 returns c =
-    let l = c.before in
-    let s = l.before.args.places.now in
-    fill-all pin_numbers pin_from pin_width pin-width (entries_at s) l.loop.i _ _ (end s l.loop.i (omega arith)) l.loop.invariant.1.1
+    let l = c in
+    let s = l.args.places.now in
+    fill-all pin_numbers pin_from pin_width pin-width (entries_at s) l.loop-i.i _ _ (end s l.loop-i.i (omega arith)) l.loop-i.invariant.1.1
 
-pub put-bare-spec : {M : Type 1} → statement M
-put-bare-spec =
+pub put_bare_spec : {M : Type 1} → statement M
+put_bare_spec =
     tie.close
     (tie.spec
     invariant-loop decreases-loop loop-holds (λ c κs. omega arith) put-bare-pin-requires (λ c. omega arith) (λ c. omega arith)

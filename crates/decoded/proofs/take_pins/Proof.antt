@@ -27,37 +27,37 @@ blocks-there s n e = rw e s.requires.0
 
 -- With loads
 
-module _ (c : tie.Then1) where
+module _ (c : tie.Then-are_loaded_in) where
   abbrev start-with : tie.Start
   start-with = c.before.before.before.before
 
   with-is : pins_in (bytes_of start-with) ≡ stored_in (bytes_of start-with)
-  with-is = in-with _ (sym c.before.are-loaded-in.ensures ∙ c.if1.true)
+  with-is = in-with _ (sym c.are_loaded_in.ensures ∙ c.if-are_loaded_in.true)
 
-  with-fits : c.before.before.pin-length.result ≤ length start-with.args.pins.now
+  with-fits : c.pin_length-n.result ≤ length start-with.args.pins.now
   with-fits =
       omega
-      (arith, start-with.pre.1.1, ap length with-is, length-stored-in (bytes_of start-with), c.before.before.pin-length.ensures)
+      (arith, start-with.requires.1.1, ap length with-is, length-stored-in (bytes_of start-with), c.pin_length-n.ensures)
 
 -- the blocks of other counts would be known here too: a wrong count is refused by `returns`, for what it gives
-take-numbers-requires : tie.Need-take-numbers-requires
+take-numbers-requires : tie.Need-take_numbers-requires
 unfolding blocks_for
 take-numbers-requires c κs =
     let t = c.before in
-    let there = blocks-there (start-with t) _ t.before.before.pin-length.ensures in
+    let there = blocks-there (start-with t) _ t.pin_length-n.ensures in
     (omega (arith, there), omega (arith, with-fits t))
 
-returns : tie.Need-returns
+returns : tie.Need-returns-then-are_loaded_in
 returns c =
-    let p = c.before in
-    let t = p.before.before in
-    p.take-numbers.ensures
+    let p = c in
+    let t = p.before.before.before in
+    p.take_numbers.ensures
     ∙ ap (λ (l : List ℤ). over l (start-with t).args.pins.now)
-    (stored-taken (bytes_of (start-with t)) _ t.before.before.pin-length.ensures ∙ sym (with-is t))
+    (stored-taken (bytes_of (start-with t)) _ t.pin_length-n.ensures ∙ sym (with-is t))
 
 -- As places alone
 
-module _ (c : tie.Else1) where
+module _ (c : tie.Else-are_loaded_in) where
   abbrev start-alone : tie.Start
   start-alone = c.before.before.before.before
 
@@ -65,52 +65,52 @@ module _ (c : tie.Else1) where
   bytes = bytes_of start-alone
 
   abbrev count : ℕ
-  count = c.before.before.pin-length.result
+  count = c.pin_length-n.result
 
   count-is : count ≡ pin_length bytes
-  count-is = c.before.before.pin-length.ensures
+  count-is = c.pin_length-n.ensures
 
   alone-is : pins_in bytes ≡ flat_pins (places_of (stored_in bytes))
-  alone-is = in-alone _ (sym c.before.are-loaded-in.ensures ∙ c.if1.false)
+  alone-is = in-alone _ (sym c.are_loaded_in.ensures ∙ c.if-are_loaded_in.false)
 
-take-numbers-requires-2 : tie.Need-take-numbers-requires-2
+take-numbers-requires-2 : tie.Need-take_numbers-requires-2
 take-numbers-requires-2 c κs =
     let e = c.before in
     (blocks-there (start-alone e) _ (count-is e), omega (arith, count-is e, (start-alone e).requires.1.0))
 
 -- the table after the numbers were taken
-module _ (q : tie.After-take-numbers2) where
-  abbrev before-it : tie.Else1
+module _ (q : tie.After-take_numbers-2) where
+  abbrev before-it : tie.Else-are_loaded_in
   before-it = q.before.before
 
   abbrev table : List ℤ
-  table = q.take-numbers2.last.1.1.1.0
+  table = q.take_numbers-2.last.1.1.1.0
 
   table_is : table ≡ over (stored_in (bytes before-it)) (replicate file_numbers (pos 0))
   table_is =
-      q.take-numbers2.ensures
+      q.take_numbers-2.ensures
       ∙ ap (λ (l : List ℤ). over l (replicate file_numbers (pos 0))) (stored-taken (bytes before-it) _ (count-is before-it))
 
   table-part : take (count before-it - 0) table ≡ stored_in (bytes before-it)
   table-part = part-of-over _ _ (replicate file_numbers (pos 0)) _ table_is (length-stored-in (bytes before-it) ∙ sym (count-is before-it))
 
-put-bare-requires : tie.Need-put-bare-requires
+put-bare-requires : tie.Need-put_bare-requires
 put-bare-requires c κs =
-    let q = c.before.before.before.before in
+    let q = c.before.before.before in
     let e = before-it q in
-    rw (ap (λ (l : List ℤ). length (flat_pins (places_of l))) (table-part q), sym (ap length (alone-is e))) (start-alone e).pre.1.1
+    rw (ap (λ (l : List ℤ). length (flat_pins (places_of l))) (table-part q), sym (ap length (alone-is e))) (start-alone e).requires.1.1
 
-returns-2 : tie.Need-returns-2
+returns-2 : tie.Need-returns
 returns-2 c =
-    let r = c.before in
+    let r = c in
     let q = r.before.before.before.before.before in
     let e = before-it q in
-    r.put-bare.ensures
+    r.put_bare.ensures
     ∙ ap (λ (l : List ℤ). over (flat_pins (places_of l)) (start-alone e).args.pins.now) (table-part q)
     ∙ ap (λ (l : List ℤ). over l (start-alone e).args.pins.now) (sym (alone-is e))
 
-pub take-pins-spec : {M : Type 1} → statement M
-take-pins-spec =
+pub take_pins_spec : {M : Type 1} → statement M
+take_pins_spec =
     tie.close
     (tie.spec
     (λ c κs. search rules) (λ c κs. search rules) take-numbers-requires (λ c. search rules) returns (λ c. search rules)

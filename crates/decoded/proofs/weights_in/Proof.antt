@@ -16,20 +16,20 @@ words_of : (s : tie.Start) → (head_word first_weight_word s.args.bytes.now ≤
     × (head_word second_weight_word s.args.bytes.now ≤ weight_bound)
 words_of s = weight-words s.args.bytes.now s.requires.1
 
-weight-of-requires : tie.Need-weight-of-requires
-weight-of-requires c κs = rw c.head-word.ensures.0 (words_of c.before.before).0
+weight-of-requires : tie.Need-weight_of-requires
+weight-of-requires c κs = rw c.head_word.ensures.0 (words_of c.before.before).0
 
-weight-of-requires-2 : tie.Need-weight-of-requires-2
-weight-of-requires-2 c κs = rw c.head-word2.ensures.0 (words_of c.before.before.before.before).1
+weight-of-requires-2 : tie.Need-weight_of-requires-2
+weight-of-requires-2 c κs = rw c.head_word-2.ensures.0 (words_of c.before.before.before.before).1
 
 returns : tie.Need-returns
 returns c =
-    let d = c.before.before in
-    ap₂ two_weights (d.weight-of.ensures ∙ ap weight_in d.before.head-word.ensures.0)
-    (c.weight-of2.ensures ∙ ap weight_in c.before.head-word2.ensures.0)
+    let d = c in
+    ap₂ two_weights (d.weight_of.ensures ∙ ap weight_in d.head_word.ensures.0)
+    (c.weight_of-2.ensures ∙ ap weight_in c.head_word-2.ensures.0)
 
-pub weights-in-spec : {M : Type 1} → statement M
-weights-in-spec =
+pub weights_in_spec : {M : Type 1} → statement M
+weights_in_spec =
     tie.close
     (tie.spec
     (λ c κs. search rules) weight-of-requires (λ c κs. search rules) weight-of-requires-2

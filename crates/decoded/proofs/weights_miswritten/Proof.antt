@@ -13,7 +13,7 @@ use Rattle.decoded.proofs.weights_miswritten.Tie as tie
 returns : tie.Need-returns
 unfolding weights_miswritten
 returns c =
-    ap₂ (λ (a b : ℕ). ltb weight_bound a || ltb weight_bound b) c.before.head-word.ensures.0 c.head-word2.ensures.0
+    ap₂ (λ (a b : ℕ). ltb weight_bound a || ltb weight_bound b) c.head_word-first.ensures.0 c.head_word-second.ensures.0
 
-pub weights-miswritten-spec : {M : Type 1} → statement M
-weights-miswritten-spec = tie.close (tie.spec (λ c κs. search rules) (λ c κs. search rules) returns)
+pub weights_miswritten_spec : {M : Type 1} → statement M
+weights_miswritten_spec = tie.close (tie.spec (λ c κs. search rules) (λ c κs. search rules) returns)

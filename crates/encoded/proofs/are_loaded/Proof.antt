@@ -15,41 +15,41 @@ use Rattle.net.proofs.PinLaws.{loads-next, loads-end}
 use Rattle.encoded.proofs.are_loaded.Statement.{statement}
 use Rattle.encoded.proofs.are_loaded.Tie as tie
 
-abbrev invariant-loop : tie.invariant-loop
+abbrev invariant-loop : tie.invariant-loop-i
 invariant-loop pins m i₀ i = (i ≤ m) × (any is_load (pin_loads pins) ≡ any is_load (drop i (pin_loads pins)))
 
-abbrev decreases-loop : tie.decreases-loop
+abbrev decreases-loop : tie.decreases-loop-i
 decreases-loop pins m i₀ i = m - i
 
-loop-holds : tie.Need-loop-init invariant-loop decreases-loop
+loop-holds : tie.Need-loop-i-init invariant-loop decreases-loop
 loop-holds c = (omega arith, refl)
 
 -- what the call says, of the list
-told : (c : tie.After-is-load invariant-loop decreases-loop) → c.is-load.result
-    ≡ is_load (load_at c.before.before.before.before.before.args.pins.now c.before.before.before.loop.i)
-told c = c.is-load.ensures ∙ ap is_load (to_z-of_z w32 _ (search rules) ∙ c.before.load_at.ensures)
+told : (c : tie.After-is_load invariant-loop decreases-loop) → c.is_load.result
+    ≡ is_load (load_at c.args.pins.now c.loop-i.i)
+told c = c.is_load.ensures ∙ ap is_load (to_z-of_z w32 _ (search rules) ∙ c.load_at.ensures)
 
-returns : tie.Need-returns invariant-loop decreases-loop
+returns : tie.Need-returns-then-is_load invariant-loop decreases-loop
 unfolding loaded
 returns c =
-    let l = c.before.before.before.before in
-    let next = loads-next l.before.before.args.pins.now l.loop.i (omega arith) in
-    sym (l.loop.invariant.1 ∙ any-hit is_load _ _ _ next (sym (told c.before) ∙ c.if1.true))
+    let l = c in
+    let next = loads-next l.args.pins.now l.loop-i.i (omega arith) in
+    sym (l.loop-i.invariant.1 ∙ any-hit is_load _ _ _ next (sym (told c.before) ∙ c.if-is_load.true))
 
-loop-again : tie.Need-loop-preserved invariant-loop decreases-loop
+loop-again : tie.Need-loop-i-preserved invariant-loop decreases-loop
 loop-again c =
-    let l = c.before.before.before.before in
-    let next = loads-next l.before.before.args.pins.now l.loop.i (omega arith) in
-    (omega arith, l.loop.invariant.1 ∙ any-miss is_load _ _ _ next (sym (told c.before) ∙ c.if1.false))
+    let l = c in
+    let next = loads-next l.args.pins.now l.loop-i.i (omega arith) in
+    (omega arith, l.loop-i.invariant.1 ∙ any-miss is_load _ _ _ next (sym (told c.before) ∙ c.if-is_load.false))
 
-returns-2 : tie.Need-returns-2 invariant-loop decreases-loop
+returns-2 : tie.Need-returns invariant-loop decreases-loop
 unfolding loaded
 returns-2 c =
-    let l = c.before in
-    sym (l.loop.invariant.1 ∙ any-end is_load _ (loads-end l.before.before.args.pins.now l.loop.i (omega arith)))
+    let l = c in
+    sym (l.loop-i.invariant.1 ∙ any-end is_load _ (loads-end l.args.pins.now l.loop-i.i (omega arith)))
 
-pub are-loaded-spec : {M : Type 1} → statement M
-are-loaded-spec =
+pub are_loaded_spec : {M : Type 1} → statement M
+are_loaded_spec =
     tie.close
     (tie.spec
     invariant-loop

@@ -10,22 +10,22 @@ use borrow.Author.Rules.{rules}
 use Rattle.encoded.proofs.file_length.Statement.{statement}
 use Rattle.encoded.proofs.file_length.Tie as tie
 
-pins-counted : (c : tie.After-blocks-for) → c.blocks-for.result
-    ≡ blocks_for (length (stored c.before.before.args.pins.now).numbers)
-pins-counted c = c.blocks-for.ensures ∙ ap blocks_for c.before.stored-length.ensures
+pins-counted : (c : tie.After-blocks_for) → c.blocks_for.result
+    ≡ blocks_for (length (stored c.args.pins.now).numbers)
+pins-counted c = c.blocks_for.ensures ∙ ap blocks_for c.stored_length.ensures
 
-add-result-2 : tie.Need-overflow-add-result-2
-add-result-2 c = omega (arith, pins-counted c.before, c.blocks-for2.ensures)
+add-result-2 : tie.Need-overflow_add-result-2
+add-result-2 c = omega (arith, pins-counted c.before, c.blocks_for-2.ensures)
 
-mul-result : tie.Need-overflow-mul-result
-mul-result c = omega (arith, pins-counted c.before, c.blocks-for2.ensures)
+mul-result : tie.Need-overflow_mul-result
+mul-result c = omega (arith, pins-counted c.before, c.blocks_for-2.ensures)
 
 returns : tie.Need-returns
 returns c =
-    ap₂ (λ (n k : ℕ). (1 + n + k) * block_bytes) (pins-counted c.before) c.blocks-for2.ensures
+    ap₂ (λ (n k : ℕ). (1 + n + k) * block_bytes) (pins-counted c.before) c.blocks_for-2.ensures
 
-pub file-length-spec : {M : Type 1} → statement M
-file-length-spec =
+pub file_length_spec : {M : Type 1} → statement M
+file_length_spec =
     tie.close
     (tie.spec
     (λ c κs. search rules) (λ c κs. search rules) (λ c. omega (arith, pins-counted c)) (λ c κs. search rules)

@@ -14,17 +14,17 @@ use Rattle.encoded.proofs.is_file_of.Tie as tie
 
 returns : tie.Need-returns
 returns c =
-    let n = c.before.before.before in
-    let p = n.before.before in
-    let s = p.before.before.before in
+    let n = c in
+    let p = n in
+    let s = p in
     let f = file_bytes s.args.w s.args.pins.now s.args.macros.now in
     c.same_bytes.ensures
     ∙ ap (same_numbers s.args.bytes.now)
-    (part-of-over f _ (replicate file_bound 0) n.file-length.result p.put-file.ensures
-    (length-file s.args.w (stored s.args.pins.now) s.args.macros.now ∙ sym n.file-length.ensures))
+    (part-of-over f _ (replicate file_bound 0) n.file_length-n.result p.put_file.ensures
+    (length-file s.args.w (stored s.args.pins.now) s.args.macros.now ∙ sym n.file_length-n.ensures))
 
-pub is-file-of-spec : {M : Type 1} → statement M
-is-file-of-spec =
+pub is_file_of_spec : {M : Type 1} → statement M
+is_file_of_spec =
     tie.close
     (tie.spec
     (λ c. search rules) (λ c κs. search rules) (λ c κs. search rules) (λ c. search rules) (λ c. search rules)

@@ -11,5 +11,5 @@ returns : tie.Need-returns
 unfolding is_load
 returns c = rw (to_z-of_z w32 _ c.ranges.z) refl
 
-pub is-load-spec : {M : Type 1} → statement M
-is-load-spec = tie.close (tie.spec returns)
+pub is_load_spec : {M : Type 1} → statement M
+is_load_spec = tie.close (tie.spec returns)

@@ -11,24 +11,24 @@ use borrow.Author.Rules.{rules}
 use Rattle.encoded.proofs.next_block.Statement.{statement}
 use Rattle.encoded.proofs.next_block.Tie as tie
 
-returns : tie.Need-returns
+returns : tie.Need-returns-then-numbers-from-lt-PER_BLOCK
 returns c =
-    let a = c.before.before.before.args in
+    let a = c.args in
     let s = drop a.from a.numbers.now in
     let h : length s ≤ length a.numbers.now - a.from = simp length-drop (omega arith) in
     let g : length s ≤ per_block = simp length-drop (omega arith) in
-    c.list-block.ensures
+    c.list_block.ensures
     ∙ ap (list_block a.kind a.w a.number) (take_all (length a.numbers.now - a.from) s h ∙ sym (take_all per_block s g))
 
-returns-2 : tie.Need-returns-2
+returns-2 : tie.Need-returns
 returns-2 c =
-    let a = c.before.before.before.args in
+    let a = c.args in
     let e : a.from + per_block - a.from ≡ per_block = omega arith in
-    c.list-block2.ensures
+    c.list_block-2.ensures
     ∙ ap (λ (n : ℕ). list_block a.kind a.w a.number (take n (drop a.from a.numbers.now))) e
 
-pub next-block-spec : {M : Type 1} → statement M
-next-block-spec =
+pub next_block_spec : {M : Type 1} → statement M
+next_block_spec =
     tie.close
     (tie.spec
     (λ c. search rules) (λ c. search rules) (λ c. search rules) (λ c. search rules) (λ c. search rules)

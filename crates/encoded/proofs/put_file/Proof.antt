@@ -33,28 +33,28 @@ laid s k = over (laid_bytes s.args.w k s.args.macros.now) s.args.bytes.now
 
 -- With loads
 
-module _ (c : tie.Then1) where
+module _ (c : tie.Then-are_loaded) where
   abbrev start-with : tie.Start
   start-with = c.before.before.before
 
   with-is : stored start-with.args.pins.now ≡ with_loads start-with.args.pins.now
-  with-is = stored-with _ (sym c.before.are-loaded.ensures ∙ c.if1.true)
+  with-is = stored-with _ (sym c.are_loaded.ensures ∙ c.if-are_loaded.true)
 
   with-fits : Fits start-with (with_loads start-with.args.pins.now)
-  with-fits = rw with-is at start-with.pre
+  with-fits = rw with-is at start-with.requires
 
-put-lists-requires : tie.Need-put-lists-requires
+put-lists-requires : tie.Need-put_lists-requires
 put-lists-requires c κs = (omega arith, with-fits c.before)
 
-returns : tie.Need-returns
+returns : tie.Need-returns-then-are_loaded
 returns c =
-    let p = c.before.before in
-    let t = p.before.before in
-    p.put-lists.ensures ∙ ap (laid (start-with t)) (sym (with-is t))
+    let p = c in
+    let t = p.before.before.before.before in
+    p.put_lists.ensures ∙ ap (laid (start-with t)) (sym (with-is t))
 
 -- As places alone
 
-module _ (c : tie.Else1) where
+module _ (c : tie.Else-are_loaded) where
   abbrev start-alone : tie.Start
   start-alone = c.before.before.before
 
@@ -62,60 +62,60 @@ module _ (c : tie.Else1) where
   pins = start-alone.args.pins.now
 
   alone-is : stored pins ≡ places_alone pins
-  alone-is = stored-alone _ (sym c.before.are-loaded.ensures ∙ c.if1.false)
+  alone-is = stored-alone _ (sym c.are_loaded.ensures ∙ c.if-are_loaded.false)
 
   alone-fits : Fits start-alone (places_alone pins)
-  alone-fits = rw alone-is at start-alone.pre
+  alone-fits = rw alone-is at start-alone.requires
 
   alone-few : length (flat place_numbers (pin_places pins)) ≤ file_numbers
   alone-few = pins-few _ _ alone-fits.0
 
-mul-n : tie.Need-overflow-mul-n
+mul-n : tie.Need-overflow_mul-n
 unfolding pin_count
-mul-n c = omega (arith, c.pin-count.ensures)
+mul-n c = omega (arith, c.pin_count-n.ensures)
 
-put-places-requires : tie.Need-put-places-requires
+put-places-requires : tie.Need-put_places-requires
 put-places-requires c κs = alone-few c.before.before
 
 -- the table after the places were put there
-module _ (q : tie.After-put-places) where
-  abbrev before-it : tie.Else1
+module _ (q : tie.After-put_places) where
+  abbrev before-it : tie.Else-are_loaded
   before-it = q.before.before.before
 
   abbrev table : List ℤ
-  table = q.put-places.last.1.0
+  table = q.put_places.last.1.0
 
   table-long : length table ≡ file_numbers
-  table-long = over-long _ _ (replicate file_numbers (pos 0)) file_numbers q.put-places.ensures (alone-few before-it) refl
+  table-long = over-long _ _ (replicate file_numbers (pos 0)) file_numbers q.put_places.ensures (alone-few before-it) refl
 
-  count-is : q.before.before.pin-count.result * place_width ≡ length (flat place_numbers (pin_places (pins before-it)))
-  count-is = ap (λ (n : ℕ). n * place_width) q.before.before.pin-count.ensures ∙ sym (length-alone (pins before-it))
+  count-is : q.pin_count-n.result * place_width ≡ length (flat place_numbers (pin_places (pins before-it)))
+  count-is = ap (λ (n : ℕ). n * place_width) q.pin_count-n.ensures ∙ sym (length-alone (pins before-it))
 
-  table-part : take (q.before.before.pin-count.result * place_width - 0) table ≡ flat place_numbers (pin_places (pins before-it))
-  table-part = part-of-over _ _ (replicate file_numbers (pos 0)) _ q.put-places.ensures (sym count-is)
+  table-part : take (q.pin_count-n.result * place_width - 0) table ≡ flat place_numbers (pin_places (pins before-it))
+  table-part = part-of-over _ _ (replicate file_numbers (pos 0)) _ q.put_places.ensures (sym count-is)
 
-part-put-lists-end : tie.Need-slice-bounds-put-lists-end
+part-put-lists-end : tie.Need-slice_bounds-put_lists-end
 part-put-lists-end c =
-    let q = c.before.before.before in
+    let q = c.before.before in
     omega (arith, table-long q, count-is q, alone-few (before-it q))
 
-put-lists-requires-2 : tie.Need-put-lists-requires-2
+put-lists-requires-2 : tie.Need-put_lists-requires-2
 put-lists-requires-2 c κs =
-    let q = c.before.before.before.before in
+    let q = c.before.before.before in
     (omega arith, rw (ap length (table-part q)) (alone-fits (before-it q)))
 
-returns-2 : tie.Need-returns-2
+returns-2 : tie.Need-returns
 returns-2 c =
-    let r = c.before.before in
-    let q = r.before.before.before.before.before in
+    let r = c in
+    let q = r.before.before.before.before.before.before in
     let e = before-it q in
     let kept : List ℤ → Stored = λ (l : List ℤ). record { kind = pin_kind; width = place_width; numbers = l } in
-    r.put-lists2.ensures
+    r.put_lists-2.ensures
     ∙ ap (λ (l : List ℤ). laid (start-alone e) (kept l)) (table-part q)
     ∙ ap (laid (start-alone e)) (sym (alone-is e))
 
-pub put-file-spec : {M : Type 1} → statement M
-put-file-spec =
+pub put_file_spec : {M : Type 1} → statement M
+put_file_spec =
     tie.close
     (tie.spec
     (λ c κs. search rules) put-lists-requires (λ c. search rules) returns (λ c κs. search rules) mul-n

@@ -20,50 +20,50 @@ use Rattle.encoded.proofs.StoredLaws.{length-alone}
 use Rattle.encoded.proofs.put_places.Statement.{statement}
 use Rattle.encoded.proofs.put_places.Tie as tie
 
-abbrev invariant-loop : tie.invariant-loop
+abbrev invariant-loop : tie.invariant-loop-i
 invariant-loop pins places₀ m i₀ places i =
     (i ≤ m) × ((length places ≡ length places₀) × (places ≡ over (flat place_numbers (take i (pin_places pins))) places₀))
 
-abbrev decreases-loop : tie.decreases-loop
+abbrev decreases-loop : tie.decreases-loop-i
 decreases-loop pins places₀ m i₀ places i = m - i
 
-loop-holds : tie.Need-loop-init invariant-loop decreases-loop
+loop-holds : tie.Need-loop-i-init invariant-loop decreases-loop
 unfolding over flat
 loop-holds c = (omega arith, (refl, refl))
 
-put-place-requires : tie.Need-put-place-requires invariant-loop decreases-loop
+put-place-requires : tie.Need-put_place-requires invariant-loop decreases-loop
 put-place-requires c κs =
-    let l = c.before.before.before in
-    omega (arith, length-alone l.before.before.args.pins.now)
+    let l = c in
+    omega (arith, length-alone l.args.pins.now)
 
-loop-again : tie.Need-loop-preserved invariant-loop decreases-loop
+loop-again : tie.Need-loop-i-preserved invariant-loop decreases-loop
 loop-again c =
-    let d = c.before in
-    let l = d.before.before.before.before in
-    let s = l.before.before.args.pins.now in
-    let i = l.loop.i in (
+    let d = c in
+    let l = d in
+    let s = l.args.pins.now in
+    let i = l.loop-i.i in (
       omega arith,
       (
-        d.put-place.auto.0 ∙ l.loop.invariant.1.0,
-        d.put-place.ensures
-            ∙ ap (λ (p : Place). sets l.loop.places (i * 2) (place_numbers p)) d.before.pin_at.ensures
-            ∙ fill_more place_numbers place_from 2 place-width (pin_places s) i _ _ _ _ (pins-next s i (omega arith)) l.loop.invariant.1.1
+        d.put_place.auto.places ∙ l.loop-i.invariant.1.0,
+        d.put_place.ensures
+            ∙ ap (λ (p : Place). sets l.loop-i.places (i * 2) (place_numbers p)) d.pin_at.ensures
+            ∙ fill_more place_numbers place_from 2 place-width (pin_places s) i _ _ _ _ (pins-next s i (omega arith)) l.loop-i.invariant.1.1
             (omega (arith, length-alone s)),
       ),
     )
 
-same_length : tie.Need-same-length invariant-loop decreases-loop
-same_length c = c.before.loop.invariant.1.0
+same_length : tie.Need-shape_of-places invariant-loop decreases-loop
+same_length c = c.loop-i.invariant.1.0
 
 returns : tie.Need-returns invariant-loop decreases-loop
 returns c =
-    let l = c.before in
-    let s = l.before.before.args.pins.now in
-    fill-all place_numbers place_from 2 place-width (pin_places s) l.loop.i _ _ (pins-end s l.loop.i (omega arith))
-    l.loop.invariant.1.1
+    let l = c in
+    let s = l.args.pins.now in
+    fill-all place_numbers place_from 2 place-width (pin_places s) l.loop-i.i _ _ (pins-end s l.loop-i.i (omega arith))
+    l.loop-i.invariant.1.1
 
-pub put-places-spec : {M : Type 1} → statement M
-put-places-spec =
+pub put_places_spec : {M : Type 1} → statement M
+put_places_spec =
     tie.close
     (tie.spec
     invariant-loop

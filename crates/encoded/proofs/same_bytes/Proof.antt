@@ -11,35 +11,35 @@ use Rattle.encoded.proofs.SameLaws.{same_not, same-pass, same_stop, same_end}
 use Rattle.encoded.proofs.same_bytes.Statement.{statement}
 use Rattle.encoded.proofs.same_bytes.Tie as tie
 
-abbrev invariant-loop : tie.invariant-loop
+abbrev invariant-loop : tie.invariant-loop-at
 invariant-loop a b at₀ at = (at ≤ length a) × (same_numbers a b ≡ same_numbers (drop at a) (drop at b))
 
-abbrev decreases-loop : tie.decreases-loop
+abbrev decreases-loop : tie.decreases-loop-at
 decreases-loop a b at₀ at = length a - at
 
-returns : tie.Need-returns invariant-loop decreases-loop
-returns c = sym (same_not _ _ c.if1.true)
+returns : tie.Need-returns-then-a-b invariant-loop decreases-loop
+returns c = sym (same_not _ _ c.if-a-b.true)
 
-loop-holds : tie.Need-loop-init invariant-loop decreases-loop
+loop-holds : tie.Need-loop-at-init invariant-loop decreases-loop
 loop-holds c = (omega arith, refl)
 
-returns-2 : tie.Need-returns-2 invariant-loop decreases-loop
+returns-2 : tie.Need-returns-then-a-at invariant-loop decreases-loop
 returns-2 c =
-    let l = c.before.before.before.before in
-    sym (l.loop.invariant.1 ∙ same_stop _ _ l.loop.at l.before.if1.false (omega arith) (ne_eqb _ _ c.if2.true))
+    let l = c in
+    sym (l.loop-at.invariant.1 ∙ same_stop _ _ l.loop-at.at l.if-a-b.false (omega arith) (ne_eqb _ _ c.if-a-at.true))
 
-loop-again : tie.Need-loop-preserved invariant-loop decreases-loop
+loop-again : tie.Need-loop-at-preserved invariant-loop decreases-loop
 loop-again c =
-    let l = c.before.before.before.before in
-    (omega arith, l.loop.invariant.1 ∙ same-pass _ _ l.loop.at l.before.if1.false (omega arith) (eq-eqb _ _ c.if2.false))
+    let l = c in
+    (omega arith, l.loop-at.invariant.1 ∙ same-pass _ _ l.loop-at.at l.if-a-b.false (omega arith) (eq-eqb _ _ c.if-a-at.false))
 
-returns-3 : tie.Need-returns-3 invariant-loop decreases-loop
+returns-3 : tie.Need-returns invariant-loop decreases-loop
 returns-3 c =
-    let l = c.before in
-    sym (l.loop.invariant.1 ∙ same_end _ _ l.loop.at l.before.if1.false (omega arith))
+    let l = c in
+    sym (l.loop-at.invariant.1 ∙ same_end _ _ l.loop-at.at l.if-a-b.false (omega arith))
 
-pub same-bytes-spec : {M : Type 1} → statement M
-same-bytes-spec =
+pub same_bytes_spec : {M : Type 1} → statement M
+same_bytes_spec =
     tie.close
     (tie.spec
     invariant-loop decreases-loop returns loop-holds (λ c. omega arith) (λ c. omega arith) returns-2 (λ c. omega arith)

@@ -12,23 +12,23 @@ use borrow.Author.Rules.{rules}
 use Rattle.encoded.proofs.stored_length.Statement.{statement}
 use Rattle.encoded.proofs.stored_length.Tie as tie
 
-returns : tie.Need-returns
+returns : tie.Need-returns-then-are_loaded
 returns c =
-    let l = c.before.before in
+    let l = c in
     ap (λ (s : Stored). length s.numbers)
-    (sym (stored-with l.args.pins.now (sym c.before.are-loaded.ensures ∙ c.if1.true)))
+    (sym (stored-with l.args.pins.now (sym c.are_loaded.ensures ∙ c.if-are_loaded.true)))
 
-mul-result : tie.Need-overflow-mul-result
+mul-result : tie.Need-overflow_mul-result
 unfolding pin_count
 mul-result c = omega arith
 
-returns-2 : tie.Need-returns-2
+returns-2 : tie.Need-returns
 returns-2 c =
-    let e = c.before in
-    let p = e.before.before.args.pins.now in
-    ap (λ (n : ℕ). n * place_width) c.pin-count.ensures
+    let e = c in
+    let p = e.args.pins.now in
+    ap (λ (n : ℕ). n * place_width) c.pin_count.ensures
     ∙ sym (length-alone p)
-    ∙ ap (λ (s : Stored). length s.numbers) (sym (stored-alone p (sym e.before.are-loaded.ensures ∙ e.if1.false)))
+    ∙ ap (λ (s : Stored). length s.numbers) (sym (stored-alone p (sym e.are_loaded.ensures ∙ e.if-are_loaded.false)))
 
-pub stored-length-spec : {M : Type 1} → statement M
-stored-length-spec = tie.close (tie.spec (λ c κs. search rules) returns (λ c κs. search rules) mul-result returns-2)
+pub stored_length_spec : {M : Type 1} → statement M
+stored_length_spec = tie.close (tie.spec (λ c κs. search rules) returns (λ c κs. search rules) mul-result returns-2)

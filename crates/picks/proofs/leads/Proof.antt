@@ -9,5 +9,5 @@ returns : tie.Need-returns
 unfolding leads
 returns c = refl
 
-pub leads-spec : {M : Type 1} → statement M
-leads-spec = tie.close (tie.spec returns)
+pub leads_spec : {M : Type 1} → statement M
+leads_spec = tie.close (tie.spec returns)

@@ -9,5 +9,5 @@ returns : tie.Need-returns
 unfolding reaches
 returns c = refl
 
-pub is-reaching-spec : {M : Type 1} → statement M
-is-reaching-spec = tie.close (tie.spec returns)
+pub is_reaching_spec : {M : Type 1} → statement M
+is_reaching_spec = tie.close (tie.spec returns)
