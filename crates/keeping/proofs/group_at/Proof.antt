@@ -6,18 +6,18 @@ use borrow.Author.Rules.{rules}
 use Rattle.keeping.proofs.group_at.Statement.{statement}
 use Rattle.keeping.proofs.group_at.Tie as tie
 
-mul-result-3 : tie.Need-overflow-mul-result-3
+mul-result-3 : tie.Need-offset_bounds-group-root
 mul-result-3 c =
-    let s = c.before.before in
+    let s = c in
     omega (arith, s.requires.1.1.below (get_or s.args.ends.now s.args.k 0))
 
-element-copy-out-result-3 : tie.Need-element-copy-out-result-3
+element-copy-out-result-3 : tie.Need-bounds-group-root
 element-copy-out-result-3 c =
-    let s = c.before.before in
+    let s = c in
     s.requires.1.1.below (get_or s.args.ends.now s.args.k 0)
 
-pub group-at-spec : {M : Type 1} → statement M
-group-at-spec =
+pub group_at_spec : {M : Type 1} → statement M
+group_at_spec =
     tie.close
     (tie.spec
     (λ c. search rules) (λ c. search rules) (λ c. search rules) (λ c. search rules) mul-result-3

@@ -12,49 +12,49 @@ use Rattle.keeping.proofs.kept_paths.Tie as tie
 
 weigh-requires : tie.Need-weigh-requires
 weigh-requires c κs =
-    let s = c.before in
+    let s = c in
     ((s.requires.1.0, s.requires.0.1.0), s.requires.0.0)
 
-sort-bridges-requires : tie.Need-sort-bridges-requires
-sort-bridges-requires c κs = (ends_of _ c.before.before.before.before.requires.0.0, (below-replicate edge_bound edge_bound 0 (omega arith), refl))
+sort-bridges-requires : tie.Need-sort_bridges-n-requires
+sort-bridges-requires c κs = (ends_of _ c.requires.0.0, (below-replicate edge_bound edge_bound 0 (omega arith), refl))
 
-keep-requires : tie.Need-keep-requires
+keep-requires : tie.Need-keep-count-requires
 keep-requires c κs =
-    let s = c.before.before.before.before.before.before.before.before.before.before.before in
+    let s = c in
     let fits = s.requires.0.0 in
-    let w = c.before.before.before.before.before.before.before.before.before.weigh.ensures in
-    let o = c.before.before.before.before.before.before.sort-bridges.ensures in
-    let n = c.before.before.before.before.number.ensures in (
+    let w = c.weigh.ensures in
+    let o = c.sort_bridges-n.ensures in
+    let n = c.number.ensures in (
       (ordered _ _ _ fits _ _ _ w o.0, (s.requires.0.1.1, omega (arith, o.1, fits.count))),
       (ap length n ∙ length-filled _ 0 point_bound _, s.requires.1.1.0),
     )
 
-measure-requires : tie.Need-measure-requires
+measure-requires : tie.Need-measure-total-requires
 measure-requires c κs =
-    let s = c.before.before.before.before.before.before.before.before.before.before.before.before.before.before.before in
+    let s = c in
     let fits = s.requires.0.0 in
-    let w = c.before.before.before.before.before.before.before.before.before.before.before.before.before.weigh.ensures in
-    let o = c.before.before.before.before.before.before.before.before.before.before.sort-bridges.ensures in
-    let n = c.before.before.before.before.before.before.before.before.number.ensures in
-    let k = c.before.before.before.keep.ensures in (
+    let w = c.weigh.ensures in
+    let o = c.sort_bridges-n.ensures in
+    let n = c.number.ensures in
+    let k = c.keep-count.ensures in (
       (omega (arith, k.1, o.1, fits.count), (kept-inside _ _ _ fits _ _ _ w o.0 _ n _ _ _ k.0, s.requires.1.1.1)),
       light _ _ _ fits _ _ _ w o.0 s.requires.1.0 s.requires.0.1.0,
     )
 
 returns : tie.Need-returns
 returns c =
-    let s = c.before.before.before.before.before.before.before.before.before.before.before.before.before.before.before.before in
+    let s = c in
     let fits = s.requires.0.0 in
-    let k = c.before.before.before.before.keep.ensures in
-    let o = c.before.before.before.before.before.before.before.before.before.before.before.sort-bridges.ensures in
-    let w = c.before.before.before.before.before.before.before.before.before.before.before.before.before.before.weigh.ensures in
-    let n = c.before.before.before.before.before.before.before.before.before.number.ensures in (
+    let k = c.keep-count.ensures in
+    let o = c.sort_bridges-n.ensures in
+    let w = c.weigh.ensures in
+    let n = c.number.ensures in (
       kept-listed _ _ _ fits _ _ _ w o.0 _ n _ _ _ k.0,
-      lengths-listed _ _ _ fits _ _ _ w o.0 _ n _ _ _ k.0 _ _ _ c.measure.ensures.0 c.measure.ensures.1,
+      lengths-listed _ _ _ fits _ _ _ w o.0 _ n _ _ _ k.0 _ _ _ c.measure-total.ensures.0 c.measure-total.ensures.1,
     )
 
-pub kept-paths-spec : {M : Type 1} → statement M
-kept-paths-spec =
+pub kept_paths_spec : {M : Type 1} → statement M
+kept_paths_spec =
     tie.close
     (tie.spec
     weigh-requires sort-bridges-requires (λ c. search rules) (λ c κs. search rules) keep-requires measure-requires

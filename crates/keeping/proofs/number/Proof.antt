@@ -10,34 +10,34 @@ use Rattle.forest.proofs.EdgeLaws.{fill-all, fill_more, fill_end}
 use Rattle.keeping.proofs.number.Statement.{statement}
 use Rattle.keeping.proofs.number.Tie as tie
 
-abbrev invariant-loop : tie.invariant-loop
+abbrev invariant-loop : tie.invariant-loop-k
 invariant-loop group₀ n k₀ group k =
     (length group ≡ length group₀) × ((k ≤ n) × (filled (λ j. j) k (n - k) group ≡ filled (λ j. j) 0 n group₀))
 
-abbrev decreases-loop : tie.decreases-loop
+abbrev decreases-loop : tie.decreases-loop-k
 decreases-loop group₀ n k₀ group k = n - k
 
-loop-holds : tie.Need-loop-init invariant-loop decreases-loop
+loop-holds : tie.Need-loop-k-init invariant-loop decreases-loop
 loop-holds c = (refl, (omega arith, fill-all (λ j. j) c.args.n c.args.group.now))
 
 -- a point's number is small
-small : tie.Need-overflow-cast-group invariant-loop decreases-loop
+small : tie.Need-overflow_cast-group invariant-loop decreases-loop
 small c =
-    let f : c.before.loop.k < 2 ^ 16 = omega (arith, c.before.before.requires.1) in
+    let f : c.loop-k.k < 2 ^ 16 = omega (arith, c.requires.1) in
     record { fits = f }
 
-loop-again : tie.Need-loop-preserved invariant-loop decreases-loop
+loop-again : tie.Need-loop-k-preserved invariant-loop decreases-loop
 loop-again c =
-    let l = c.before in
-    (length-set l.loop.group l.loop.k _ ∙ l.loop.invariant.0, (omega arith, fill_more _ _ _ _ _ _ l.loop.invariant.1.1 c.loop-test.true refl))
+    let l = c in
+    (length-set l.loop-k.group l.loop-k.k _ ∙ l.loop-k.invariant.0, (omega arith, fill_more _ _ _ _ _ _ l.loop-k.invariant.1.1 c.loop-k-test.true refl))
 
 returns : tie.Need-returns invariant-loop decreases-loop
-returns c = fill_end _ _ _ _ _ c.before.loop.invariant.1.1 c.loop-test.false
+returns c = fill_end _ _ _ _ _ c.loop-k.invariant.1.1 c.loop-k-test.false
 
-pub number-spec : {M : Type 1} → statement M
-number-spec =
+pub number_spec : {M : Type 1} → statement M
+number_spec =
     tie.close
     (tie.spec
     invariant-loop decreases-loop loop-holds small (λ c. omega arith) (λ c. omega arith) (λ c. omega arith) (λ c. omega arith) loop-again
-    (λ c. c.before.loop.invariant.0)
+    (λ c. c.loop-k.invariant.0)
     returns)
