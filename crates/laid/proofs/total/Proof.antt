@@ -13,42 +13,42 @@ use Rattle.laid.proofs.EdgeLaws.{lengths-more}
 use Rattle.laid.proofs.total.Statement.{statement}
 use Rattle.laid.proofs.total.Tie as tie
 
-abbrev invariant-loop : tie.invariant-loop
+abbrev invariant-loop : tie.invariant-loop-i
 invariant-loop w edges e sum₀ i₀ sum i = ((i ≤ e) × (sum ≤ i * cost_limit)) × (sum ≡ lengths (cost w) (edges_of edges i))
 
-abbrev decreases-loop : tie.decreases-loop
+abbrev decreases-loop : tie.decreases-loop-i
 decreases-loop w edges e sum₀ i₀ sum i = e - i
 
-loop-holds : tie.Need-loop-init invariant-loop decreases-loop
+loop-holds : tie.Need-loop-i-init invariant-loop decreases-loop
 unfolding lengths total entries_from
 loop-holds c = ((omega arith, omega arith), refl)
 
-loop-again : tie.Need-loop-preserved invariant-loop decreases-loop
+loop-again : tie.Need-loop-i-preserved invariant-loop decreases-loop
 loop-again c =
-    let b = c.before in
-    let a = b.before in
-    let l = a.before.before in
-    let s = l.before.args in
-    let next = lengths-more (cost s.w) s.edges.now l.loop.i a.place_at.result b.place-at2.result
-    a.place_at.ensures b.place-at2.ensures in
-    ((omega arith, omega (arith, c.cost.ensures.1, l.loop.invariant.0.1)), omega (arith, c.cost.ensures.0, next, l.loop.invariant.1))
+    let b = c in
+    let a = b in
+    let l = a in
+    let s = l.args in
+    let next = lengths-more (cost s.w) s.edges.now l.loop-i.i a.place_at-a.result b.place_at-b.result
+    a.place_at-a.ensures b.place_at-b.ensures in
+    ((omega arith, omega (arith, c.cost-sum.ensures.1, l.loop-i.invariant.0.1)), omega (arith, c.cost-sum.ensures.0, next, l.loop-i.invariant.1))
 
 returns : tie.Need-returns invariant-loop decreases-loop
 returns c =
-    let l = c.before in
-    let s = l.before.args in
-    let end : l.loop.i ≡ s.e = omega arith in (
-      l.loop.invariant.1 ∙ ap (λ i. lengths (cost s.w) (edges_of s.edges.now i)) end,
-      omega (arith, l.loop.invariant.0),
+    let l = c in
+    let s = l.args in
+    let end : l.loop-i.i ≡ s.e = omega arith in (
+      l.loop-i.invariant.1 ∙ ap (λ i. lengths (cost s.w) (edges_of s.edges.now i)) end,
+      omega (arith, l.loop-i.invariant.0),
     )
 
-pub total-spec : {M : Type 1} → statement M
-total-spec =
+pub total_spec : {M : Type 1} → statement M
+total_spec =
     tie.close
     (tie.spec
     invariant-loop decreases-loop loop-holds (λ c. omega arith) (λ c κs. omega arith) (λ c. omega arith) (λ c. omega arith)
     (λ c κs. omega arith)
     (λ c κs. tt)
-    (λ c. omega (arith, c.cost.ensures.1, c.before.before.before.before.loop.invariant.0.1)) (λ c. omega arith)
+    (λ c. omega (arith, c.cost-sum.ensures.1, c.loop-i.invariant.0.1)) (λ c. omega arith)
     (λ c. omega arith) loop-again
     returns)

@@ -26,9 +26,9 @@ use borrow.Author.Rules.{rules}
 use Rattle.terminal.proofs.chart.Statement.{statement}
 use Rattle.terminal.proofs.chart.Tie as tie
 
-vertices-requires : tie.Need-vertices-requires
+vertices-requires : tie.Need-vertices-n-requires
 vertices-requires c κs =
-    let s = c.before in
+    let s = c in
     omega (
       arith,
       s.requires.0.few-pins,
@@ -39,50 +39,50 @@ vertices-requires c κs =
     )
 
 -- the vertices fit their table
-few : (d : tie.After-vertices) → d.vertices.result ≤ point_bound
-few d = omega (arith, d.vertices.ensures.0, few-vertices d.before.before.requires.0)
+few : (d : tie.After-vertices-n) → d.vertices-n.result ≤ point_bound
+few d = omega (arith, d.vertices-n.ensures.0, few-vertices d.requires.0)
 
-fits : (d : tie.After-vertices) → d.vertices.result * 2 ≤ length d.vertices.new.1.1.0
-fits d = omega (arith, few d, d.vertices.auto.1.1.0, d.before.before.requires.1)
+fits : (d : tie.After-vertices-n) → d.vertices-n.result * 2 ≤ length d.vertices-n.new.table
+fits d = omega (arith, few d, d.vertices-n.auto.table, d.requires.1)
 
-mul-edges : tie.Need-overflow-mul-edges
+mul-edges : tie.Need-overflow_mul-n
 mul-edges c = omega (arith, few c.before)
 
-slice-reshare-prefix-edges : tie.Need-slice-reshare-prefix-edges
+slice-reshare-prefix-edges : tie.Need-slice_bounds-edges-end
 slice-reshare-prefix-edges c = fits c.before
 
-slice-aggregate-edges : tie.Need-slice-aggregate-edges
-slice-aggregate-edges c = sym (length-take-le _ _ (fits c.before.before))
+slice-aggregate-edges : tie.Need-slice_bounds-edges-end-2
+slice-aggregate-edges c = sym (length-take-le _ _ (fits c.before))
 
-edges-requires : tie.Need-edges-requires
+edges-requires : tie.Need-edges-e-requires
 edges-requires c κs =
-    let d = c.before.before.before in
-    let a = d.before.before.args in
-    let v = d.vertices.ensures in
-    let n = length-take-le (d.vertices.result * 2) d.vertices.new.1.1.0 (fits d) in
-    let back = vertices-back _ a.points.now d.vertices.new.1.1.0 d.vertices.result v.1 v.0 in (
+    let d = c.before.before in
+    let a = d.args in
+    let v = d.vertices-n.ensures in
+    let n = length-take-le (d.vertices-n.result * 2) d.vertices-n.new.table (fits d) in
+    let back = vertices-back _ a.points.now d.vertices-n.new.table d.vertices-n.result v.1 v.0 in (
       (subst (Ascending before) (sym back) (vertices-ascending (net_with a.w a.pins.now a.macros.now)), omega (arith, n, few d)),
-      omega (arith, n, few d, d.before.before.requires.1),
+      omega (arith, n, few d, d.requires.1),
     )
 
 returns : tie.Need-returns
 returns c =
-    let d = c.before.before.before.before.before in
-    let a = d.before.before.args in
+    let d = c in
+    let a = d.args in
     let net = net_with a.w a.pins.now a.macros.now in
     let ms = macros_of a.macros.now in
-    let v = d.vertices.ensures in
-    let back = vertices-back _ a.points.now d.vertices.new.1.1.0 d.vertices.result v.1 v.0 in
-    let these : edges a.w ms (places_of (take (d.vertices.result * 2) d.vertices.new.1.1.0)) ≡ spanning net = ap (edges a.w ms) back in (
-      (v.0, c.before.edges.ensures.0 ∙ ap length these),
+    let v = d.vertices-n.ensures in
+    let back = vertices-back _ a.points.now d.vertices-n.new.table d.vertices-n.result v.1 v.0 in
+    let these : edges a.w ms (places_of (take (d.vertices-n.result * 2) d.vertices-n.new.table)) ≡ spanning net = ap (edges a.w ms) back in (
+      (v.0, c.edges-e.ensures.0 ∙ ap length these),
       (
         v.1,
-        c.before.edges.ensures.1 ∙ ap (λ (es : List (Place × Place)). over (flat edge_numbers es) a.links.now) these,
+        c.edges-e.ensures.1 ∙ ap (λ (es : List (Place × Place)). over (flat edge_numbers es) a.links.now) these,
       ),
     )
 
-pub chart-spec : {M : Type 1} → statement M
-chart-spec =
+pub chart_spec : {M : Type 1} → statement M
+chart_spec =
     tie.close
     (tie.spec
     vertices-requires mul-edges slice-reshare-prefix-edges slice-aggregate-edges edges-requires (λ c. search rules)

@@ -14,69 +14,69 @@ use Rattle.terminal.proofs.GiveLaws.{give-none, give-more}
 use Rattle.terminal.proofs.give_paths.Statement.{statement}
 use Rattle.terminal.proofs.give_paths.Tie as tie
 
-abbrev invariant-loop : tie.invariant-loop
+abbrev invariant-loop : tie.invariant-loop-i
 invariant-loop edges kept long count paths₀ i₀ paths i =
     (i ≤ count) × (length paths ≡ length paths₀) × (paths ≡ over (flat path_numbers (paths_in edges kept long i)) paths₀)
 
-abbrev decreases-loop : tie.decreases-loop
+abbrev decreases-loop : tie.decreases-loop-i
 decreases-loop edges kept long count paths₀ i₀ paths i = count - i
 
-loop-holds : tie.Need-loop-init invariant-loop decreases-loop
+loop-holds : tie.Need-loop-i-init invariant-loop decreases-loop
 loop-holds c = (omega arith, refl, give-none _ _ _ _)
 
 -- the bridge that is read is an edge
-bridge : (d : tie.In-loop invariant-loop decreases-loop) → get_or d.before.before.args.kept.now d.before.loop.i 0 < edge_bound
-bridge d = d.before.before.requires.bridge _ d.loop-test.true
+bridge : (d : tie.In-loop-i invariant-loop decreases-loop) → get_or d.args.kept.now d.loop-i.i 0 < edge_bound
+bridge d = d.requires.bridge _ d.loop-i-test.true
 
-mul-place-at : tie.Need-overflow-mul-place-at invariant-loop decreases-loop
-mul-place-at c = let b = bridge c.before.before in omega arith
+mul-place-at : tie.Need-overflow_mul-k invariant-loop decreases-loop
+mul-place-at c = let b = bridge c.before.before.before in omega arith
 
-place-at-requires : tie.Need-place-at-requires invariant-loop decreases-loop
+place-at-requires : tie.Need-place_at-a-requires invariant-loop decreases-loop
 place-at-requires c κs =
-    let d = c.before.before in
-    omega (arith, bridge d, d.before.before.requires.edges-known)
+    let d = c.before.before.before in
+    omega (arith, bridge d, d.requires.edges-known)
 
-mul-place-at-2 : tie.Need-overflow-mul-place-at-2 invariant-loop decreases-loop
-mul-place-at-2 c = let b = bridge c.before.before.before.before in omega arith
+mul-place-at-2 : tie.Need-overflow_mul-k-in-loop-i invariant-loop decreases-loop
+mul-place-at-2 c = let b = bridge c.before.before.before.before.before in omega arith
 
-add-place-at : tie.Need-overflow-add-place-at invariant-loop decreases-loop
-add-place-at c = let b = bridge c.before.before.before.before in omega arith
+add-place-at : tie.Need-overflow_add-k invariant-loop decreases-loop
+add-place-at c = let b = bridge c.before.before.before.before.before in omega arith
 
-place-at-requires-2 : tie.Need-place-at-requires-2 invariant-loop decreases-loop
+place-at-requires-2 : tie.Need-place_at-b-requires invariant-loop decreases-loop
 place-at-requires-2 c κs =
-    let d = c.before.before.before.before in
-    omega (arith, bridge d, d.before.before.requires.edges-known)
+    let d = c.before.before.before.before.before in
+    omega (arith, bridge d, d.requires.edges-known)
 
-put-path-requires : tie.Need-put-path-requires invariant-loop decreases-loop
+put-path-requires : tie.Need-put_path-requires invariant-loop decreases-loop
 put-path-requires c κs =
-    let d = c.before.before.before.before.before.before.before in
-    let s = d.before.before in
-    (omega (arith, d.loop-test.true, s.requires.space, d.before.loop.invariant), s.requires.short _ d.loop-test.true)
+    let d = c in
+    let s = d in
+    (omega (arith, d.loop-i-test.true, s.requires.space, d.loop-i.invariant), s.requires.short _ d.loop-i-test.true)
 
-loop-again : tie.Need-loop-preserved invariant-loop decreases-loop
+loop-again : tie.Need-loop-i-preserved invariant-loop decreases-loop
 loop-again c =
-    let d = c.before.before.before.before.before.before.before.before.before in
-    let l = d.before in
-    let s = l.before in
-    let one = c.before.before.before.before.before.before.place_at in
-    let two = c.before.before.before.before.place-at2 in (
+    let d = c in
+    let l = d in
+    let s = l in
+    let one = c.place_at-a in
+    let two = c.place_at-b in (
       omega arith,
-      c.before.put-path.auto.0 ∙ l.loop.invariant.1,
-      give-more _ _ _ _ _ _ _ _ _ _ l.loop.invariant.2 one.ensures two.ensures refl c.before.put-path.ensures
-          (omega (arith, d.loop-test.true, s.requires.space)),
+      c.put_path.auto.paths ∙ l.loop-i.invariant.1,
+      give-more _ _ _ _ _ _ _ _ _ _ l.loop-i.invariant.2 one.ensures two.ensures refl c.put_path.ensures
+          (omega (arith, d.loop-i-test.true, s.requires.space)),
     )
 
-same_length : tie.Need-same-length invariant-loop decreases-loop
-same_length c = c.before.loop.invariant.1
+same_length : tie.Need-shape_of-paths invariant-loop decreases-loop
+same_length c = c.loop-i.invariant.1
 
 returns : tie.Need-returns invariant-loop decreases-loop
 returns c =
-    let l = c.before in
-    let e : l.loop.i ≡ l.before.args.count = omega arith in
-    rw (← e) l.loop.invariant.2
+    let l = c in
+    let e : l.loop-i.i ≡ l.args.count = omega arith in
+    rw (← e) l.loop-i.invariant.2
 
-pub give-paths-spec : {M : Type 1} → statement M
-give-paths-spec =
+pub give_paths_spec : {M : Type 1} → statement M
+give_paths_spec =
     tie.close
     (tie.spec
     invariant-loop decreases-loop loop-holds (λ c. omega arith) (λ c. omega arith) mul-place-at place-at-requires mul-place-at-2

@@ -10,5 +10,5 @@ use Rattle.terminal.proofs.signed.Tie as tie
 returns : tie.Need-returns
 returns c = to_z_pos w64 c.args.n (omega arith)
 
-pub signed-spec : {M : Type 1} → statement M
-signed-spec = tie.close (tie.spec (λ c. search rules) returns)
+pub signed_spec : {M : Type 1} → statement M
+signed_spec = tie.close (tie.spec (λ c. search rules) returns)

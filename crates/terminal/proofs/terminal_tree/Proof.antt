@@ -19,67 +19,67 @@ lent s =
     s.args.far.now s.args.root.now s.args.up.now s.args.via.now s.args.kept.now s.args.long.now
 
 -- vertices and edges once they are charted
-module _ (d : tie.After-chart) where
+module _ (d : tie.After-chart-size) where
   abbrev begun : tie.Start
   begun = d.before.before.before
 
   abbrev points : List ℤ
-  points = d.chart.last.1.1.1.0
+  points = d.chart-size.new.points
 
   abbrev links : List ℤ
-  links = d.chart.last.1.1.1.1.0
+  links = d.chart-size.new.links
 
   charted :
       Charted (net_with begun.args.w begun.args.pins.now begun.args.macros.now) (lent begun) points links
-      d.chart.result.points d.chart.result.edges
+      d.chart-size.result.points d.chart-size.result.edges
   charted =
-      let e = d.chart.ensures in
+      let e = d.chart-size.ensures in
       record { vertex-count = e.0.0; edge_count = e.0.1; vertices-are = e.1.0; edges_are = e.1.1 }
 
-number-edges-requires : tie.Need-number-edges-requires
+number-edges-requires : tie.Need-number_edges-requires
 number-edges-requires c κs =
     let d = c.before.before.before.before.before.before.before in
     let s = begun d in
-    let f = s.pre.1 in (
-      (edges_fit s.pre.0 f (charted d), vertices-fit s.pre.0 f (charted d)),
+    let f = s.requires.1 in (
+      (edges_fit s.requires.0 f (charted d), vertices-fit s.requires.0 f (charted d)),
       (
-        vertices-in-order s.pre.0 f (charted d),
-        (few-links s.pre.0 f (charted d), (f.ones, (f.twos, f.spans))),
+        vertices-in-order s.requires.0 f (charted d),
+        (few-links s.requires.0 f (charted d), (f.ones, (f.twos, f.spans))),
       ),
     )
 
-number-pins-requires : tie.Need-number-pins-requires
+number-pins-requires : tie.Need-number_pins-m-requires
 number-pins-requires c κs =
     let d = c.before.before.before.before.before.before.before.before.before.before.before in
     let s = begun d in
-    let f = s.pre.1 in (
-      (omega (arith, s.pre.0.few-pins, length-pins s.args.pins.now), vertices-fit s.pre.0 f (charted d)),
-      (vertices-in-order s.pre.0 f (charted d), f.pins),
+    let f = s.requires.1 in (
+      (omega (arith, s.requires.0.few-pins, length-pins s.args.pins.now), vertices-fit s.requires.0 f (charted d)),
+      (vertices-in-order s.requires.0 f (charted d), f.pins),
     )
 
-kept-tree-requires : tie.Need-kept-tree-requires
+kept-tree-requires : tie.Need-kept_tree-tree-requires
 kept-tree-requires c κs =
-    let p = c.before.before.before.before.before.before.before.before.before.before in
-    let e = p.before.before.before.before in
-    let d = e.before.before.before.before.before.before.before.before in
+    let p = c in
+    let e = p in
+    let d = e.before.before.before.before.before.before.before.before.before.before.before.before.before.before.before.before.before.before in
     let s = begun d in
-    let f = s.pre.1 in (
-      tree-asks s.pre.0 f (charted d) e.number-edges.ensures p.number-pins.ensures,
+    let f = s.requires.1 in (
+      tree-asks s.requires.0 f (charted d) e.number_edges.ensures p.number_pins-m.ensures,
       ((f.no_label, f.no-parent), (f.kept, f.longs)),
     )
 
 returns : tie.Need-returns
 returns c =
-    let p = c.before.before.before.before.before.before.before.before.before.before.before in
-    let e = p.before.before.before.before in
-    let d = e.before.before.before.before.before.before.before.before in
+    let p = c in
+    let e = p in
+    let d = e.before.before.before.before.before.before.before.before.before.before.before.before.before.before.before.before.before.before.before in
     let s = begun d in
-    let t = c.kept-tree.ensures in
-    all-worked s.pre.0 s.pre.1 (charted d) e.number-edges.ensures p.number-pins.ensures _ refl t.0 t.1.0 t.1.1.0
+    let t = c.kept_tree-tree.ensures in
+    all-worked s.requires.0 s.requires.1 (charted d) e.number_edges.ensures p.number_pins-m.ensures _ refl t.0 t.1.0 t.1.1.0
     t.1.1.1.0 t.1.1.1.1
 
-pub terminal-tree-spec : {M : Type 1} → statement M
-terminal-tree-spec =
+pub terminal_tree_spec : {M : Type 1} → statement M
+terminal_tree_spec =
     tie.close
     (tie.spec
     (λ c κs. search rules) number-edges-requires number-pins-requires kept-tree-requires

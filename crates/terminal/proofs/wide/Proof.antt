@@ -4,7 +4,7 @@ use Rattle.signed.proofs.Bits.{cast-wide, wide_is}
 use Rattle.terminal.proofs.wide.Statement.{statement}
 use Rattle.terminal.proofs.wide.Tie as tie
 
-cast-result : tie.Need-overflow-cast-result
+cast-result : tie.Need-overflow_cast-result
 cast-result c = cast-wide _ c.ranges.z
 
 returns : tie.Need-returns
