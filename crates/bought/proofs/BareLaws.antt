@@ -70,6 +70,7 @@ module _ (v : Place) where
 
   ends-rest : {e : Edge} (T : List Edge) (m : e ∈ T) → ends_at (ends_of T) v ≡ two e + ends_at (ends_of (rest m)) v
   unfolding rest
+  ends-rest {e = e} [] m = elim m [ ]
   ends-rest {e} (d ∷ T) (here p) = ends_more d T ∙ ap (λ (x : Edge). two x + ends_at (ends_of T) v) (sym p)
   ends-rest {e} (d ∷ T) (there m) = omega (arith, ends_more d T, ends-rest T m, ends_more d (rest m))
 

@@ -56,6 +56,7 @@ places-ends (a ∷ (b ∷ (c ∷ (d ∷ s)))) h =
 
 pub in-ends : (T : List Edge) {a b : Place} → (a, b) ∈ T → (a ∈ ends_of T) × (b ∈ ends_of T)
 unfolding ends_of
+in-ends [] {a = a} {b = b} x' = elim x' [ ]
 in-ends (e ∷ T) (here p) = (here (firsts p), there (here (seconds p)))
 in-ends (e ∷ T) (there m) = let r = in-ends T m in (there (there r.0), there (there r.1))
 

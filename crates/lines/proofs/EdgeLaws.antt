@@ -169,11 +169,13 @@ module _ (xs ys : List ℤ) (ms : List Macro) where
 
 lower_in : (ms : List Macro) (m : Macro) → m ∈ ms → place m.left m.bottom ∈ sides ms
 unfolding sides
+lower_in [] m x' = elim x' [ ]
 lower_in (n ∷ ms) m (here e) = here (ap (λ (m : Macro). place m.left m.bottom) e)
 lower_in (n ∷ ms) m (there i) = there (there (lower_in ms m i))
 
 upper_in : (ms : List Macro) (m : Macro) → m ∈ ms → place m.right m.top ∈ sides ms
 unfolding sides
+upper_in [] m x' = elim x' [ ]
 upper_in (n ∷ ms) m (here e) = there (here (ap (λ (m : Macro). place m.right m.top) e))
 upper_in (n ∷ ms) m (there i) = there (there (upper_in ms m i))
 

@@ -28,6 +28,7 @@ use Rattle.union.specs.Union.{listed}
 
 pub in-listed : (k : ℕ) (l : List ℕ) → k ∈ l → listed k l ≡ true
 unfolding listed
+in-listed k [] m = elim m [ ]
 in-listed k (y ∷ l) m =
     by (eqb k y)
     (λ e. any-hit (eqb k) (y ∷ l) y l refl e)

@@ -15,51 +15,51 @@ use Rattle.union.proofs.MarkLaws.{ends-hit, ends-miss, ends-end}
 use Rattle.union.proofs.mark_ends.Statement.{statement}
 use Rattle.union.proofs.mark_ends.Tie as tie
 
-abbrev invariant-loop : tie.invariant-loop
+abbrev invariant-loop : tie.invariant-loop-k
 invariant-loop ea eb e on at₀ k₀ at k =
     (k ≤ e)
     × (marked (flat (both_ends ea eb) (those (is_marked on) (from k (e - k)))) at ≡ marked (flat (both_ends ea eb) (marks on e)) at₀)
 
-abbrev decreases-loop : tie.decreases-loop
+abbrev decreases-loop : tie.decreases-loop-k
 decreases-loop ea eb e on at₀ k₀ at k = e - k
 
-loop-holds : tie.Need-loop-init invariant-loop decreases-loop
+loop-holds : tie.Need-loop-k-init invariant-loop decreases-loop
 unfolding marks
 loop-holds c = (omega arith, rw (all_left c.args.e) refl)
 
-mul_at : tie.Need-overflow-mul-at invariant-loop decreases-loop
-mul_at c = omega (arith, c.before.before.before.before.before.requires.one_in _ c.before.before.before.loop-test.true)
+mul_at : tie.Need-offset_bounds-at-a invariant-loop decreases-loop
+mul_at c = omega (arith, c.requires.one_in _ c.loop-k-test.true)
 
-element-write-at : tie.Need-element-write-at invariant-loop decreases-loop
-element-write-at c = c.before.before.before.before.before.requires.one_in _ c.before.before.before.loop-test.true
+element-write-at : tie.Need-bounds-at-a invariant-loop decreases-loop
+element-write-at c = c.requires.one_in _ c.loop-k-test.true
 
-mul-at-2 : tie.Need-overflow-mul-at-2 invariant-loop decreases-loop
-mul-at-2 c = omega (arith, c.before.before.before.before.before.before.requires.two_in _ c.before.before.before.before.loop-test.true)
+mul-at-2 : tie.Need-offset_bounds-at-b invariant-loop decreases-loop
+mul-at-2 c = omega (arith, c.requires.two_in _ c.loop-k-test.true)
 
-element-write-at-2 : tie.Need-element-write-at-2 invariant-loop decreases-loop
-element-write-at-2 c = c.before.before.before.before.before.before.requires.two_in _ c.before.before.before.before.loop-test.true
+element-write-at-2 : tie.Need-bounds-at-b invariant-loop decreases-loop
+element-write-at-2 c = c.requires.two_in _ c.loop-k-test.true
 
-loop-again : tie.Need-loop-preserved invariant-loop decreases-loop
+loop-again : tie.Need-loop-k-preserved-then-on-j-gt0 invariant-loop decreases-loop
 loop-again c =
-    let l = c.before.before.before.before.before in
-    let h = c.before.before.before.before.loop-test.true in
-    let a = l.before.args in
-    (omega arith, ends-hit a.ea.now a.eb.now (is_marked a.on.now) _ _ _ _ l.loop.invariant.1 h (lt-ltb 0 _ c.before.before.if1.true))
+    let l = c in
+    let h = c.loop-k-test.true in
+    let a = l.args in
+    (omega arith, ends-hit a.ea.now a.eb.now (is_marked a.on.now) _ _ _ _ l.loop-k.invariant.1 h (lt-ltb 0 _ c.if-on-j-gt0.true))
 
-loop-again-2 : tie.Need-loop-preserved-2 invariant-loop decreases-loop
+loop-again-2 : tie.Need-loop-k-preserved invariant-loop decreases-loop
 loop-again-2 c =
-    let l = c.before.before.before in
-    let h = c.before.before.loop-test.true in
-    let a = l.before.args in
-    (omega arith, ends-miss a.ea.now a.eb.now (is_marked a.on.now) _ _ _ _ l.loop.invariant.1 h (le-ltb 0 _ c.if1.false))
+    let l = c in
+    let h = c.loop-k-test.true in
+    let a = l.args in
+    (omega arith, ends-miss a.ea.now a.eb.now (is_marked a.on.now) _ _ _ _ l.loop-k.invariant.1 h (le-ltb 0 _ c.if-on-j-gt0.false))
 
 returns : tie.Need-returns invariant-loop decreases-loop
 returns c =
-    let a = c.before.before.args in
-    ends-end a.ea.now a.eb.now (is_marked a.on.now) _ _ _ _ c.before.loop.invariant.1 c.loop-test.false
+    let a = c.args in
+    ends-end a.ea.now a.eb.now (is_marked a.on.now) _ _ _ _ c.loop-k.invariant.1 c.loop-k-test.false
 
-pub mark-ends-spec : {M : Type 1} → statement M
-mark-ends-spec =
+pub mark_ends_spec : {M : Type 1} → statement M
+mark_ends_spec =
     tie.close
     (tie.spec
     invariant-loop decreases-loop loop-holds (λ c. omega arith) (λ c. omega arith) (λ c. omega arith) (λ c. omega arith)
