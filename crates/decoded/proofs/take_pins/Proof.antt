@@ -84,7 +84,7 @@ module _ (q : tie.After-take_numbers-2) where
   before-it = q.before.before
 
   abbrev table : List ℤ
-  table = q.take_numbers-2.last.1.1.1.0
+  table = q.take_numbers-2.new.numbers
 
   table_is : table ≡ over (stored_in (bytes before-it)) (replicate file_numbers (pos 0))
   table_is =

@@ -83,7 +83,7 @@ module _ (q : tie.After-put_places) where
   before-it = q.before.before.before
 
   abbrev table : List ℤ
-  table = q.put_places.last.1.0
+  table = q.put_places.new.places
 
   table-long : length table ≡ file_numbers
   table-long = over-long _ _ (replicate file_numbers (pos 0)) file_numbers q.put_places.ensures (alone-few before-it) refl

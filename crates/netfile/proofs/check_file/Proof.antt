@@ -43,12 +43,12 @@ stored-blocks : (bytes : List ℕ) → block_count (pin_length bytes) (macro_len
 stored-blocks bytes few = omega (arith, fewer _ _ (stored-within bytes))
 
 -- the tables after the lists were taken: as long as they were, and the lists stand at their beginnings
-module _ (t : tie.After-take-lists) where
+module _ (t : tie.After-take_lists) where
   abbrev bytes : List ℕ
-  bytes = t.before.before.before.before.before.before.before.args.bytes.now
+  bytes = t.args.bytes.now
 
   sized : Sized bytes (pin_length bytes) (macro_length bytes)
-  sized = t.before.before.before.before.before.before.before.pre.0
+  sized = t.requires.0
 
   few : block_count (pin_length bytes) (macro_length bytes) ≤ file_blocks
   few = blocks-few bytes _ _ sized
@@ -56,57 +56,57 @@ module _ (t : tie.After-take-lists) where
   pins-fit : length (pins_in bytes) ≤ file_pins
   pins-fit = fits-table bytes sized
 
-  pins-long : length t.take-lists.last.1.0 ≡ file_pins
-  pins-long = over-long _ _ pin_zeros file_pins t.take-lists.ensures.0 pins-fit refl
+  pins-long : length t.take_lists.new.pins ≡ file_pins
+  pins-long = over-long _ _ pin_zeros file_pins t.take_lists.ensures.0 pins-fit refl
 
-  macros-long : length t.take-lists.last.1.1.0 ≡ file_numbers
+  macros-long : length t.take_lists.new.macros ≡ file_numbers
   macros-long =
-      over-long _ _ zeros file_numbers t.take-lists.ensures.1 (omega (arith, length-macros-in bytes, macros-few _ _ few)) refl
+      over-long _ _ zeros file_numbers t.take_lists.ensures.1 (omega (arith, length-macros-in bytes, macros-few _ _ few)) refl
 
-  pins-counted : length (pins_in bytes) ≡ t.before.before.before.before.head-word.result * pin_width
-  pins-counted = length-pins-in bytes ∙ ap (λ (n : ℕ). n * pin_width) (sym t.before.before.before.before.head-word.ensures.0)
+  pins-counted : length (pins_in bytes) ≡ t.head_word-n.result * pin_width
+  pins-counted = length-pins-in bytes ∙ ap (λ (n : ℕ). n * pin_width) (sym t.head_word-n.ensures.0)
 
-  pins-part : take (t.before.before.before.before.head-word.result * pin_width - 0) t.take-lists.last.1.0 ≡ pins_in bytes
-  pins-part = part-of-over _ _ pin_zeros _ t.take-lists.ensures.0 pins-counted
+  pins-part : take (t.head_word-n.result * pin_width - 0) t.take_lists.new.pins ≡ pins_in bytes
+  pins-part = part-of-over _ _ pin_zeros _ t.take_lists.ensures.0 pins-counted
 
-  macros-part : take (t.before.before.before.macro-length.result - 0) t.take-lists.last.1.1.0 ≡ macros_in bytes
+  macros-part : take (t.macro_length-k.result - 0) t.take_lists.new.macros ≡ macros_in bytes
   macros-part =
-      part-of-over _ _ zeros _ t.take-lists.ensures.1
-      (length-macros-in bytes ∙ sym t.before.before.before.macro-length.ensures)
+      part-of-over _ _ zeros _ t.take_lists.ensures.1
+      (length-macros-in bytes ∙ sym t.macro_length-k.ensures)
 
-weights-in-requires : tie.Need-weights-in-requires
-weights-in-requires c κs = (omega (arith, c.before.requires.0.fit), c.before.requires.1)
+weights-in-requires : tie.Need-weights_in-w-requires
+weights-in-requires c κs = (omega (arith, c.requires.0.fit), c.requires.1)
 
-take-lists-requires : tie.Need-take-lists-requires
+take-lists-requires : tie.Need-take_lists-requires
 take-lists-requires c κs =
-    let s = c.before.before.before.before.before.before in
+    let s = c in
     (s.requires.0, (fits-table s.args.bytes.now s.requires.0, macros-few _ _ (blocks-few _ _ _ s.requires.0)))
 
-part-check-lists-end : tie.Need-slice-bounds-check-lists-end
+part-check-lists-end : tie.Need-slice_bounds-check_lists-end
 part-check-lists-end c =
-    let t = c.before.before.before in
+    let t = c.before.before in
     omega (arith, pins-fit t, pins-counted t, pins-long t)
 
-part-check-lists-end-2 : tie.Need-slice-bounds-check-lists-end-2
+part-check-lists-end-2 : tie.Need-slice_bounds-check_lists-end-2
 part-check-lists-end-2 c =
-    let t = c.before.before.before.before.before in
+    let t = c.before.before.before in
     omega (arith, macros-few _ _ (few t), macros-long t)
 
-check-lists-requires : tie.Need-check-lists-requires
+check-lists-requires : tie.Need-check_lists-requires
 check-lists-requires c κs =
-    let t = c.before.before.before.before.before.before in
+    let t = c.before.before.before.before in
     rw (pins-part t, ap length (macros-part t) ∙ length-macros-in _) (stored-blocks (bytes t) (few t))
 
 returns : tie.Need-returns
 returns c =
-    let t = c.before.before.before.before.before.before.before in
-    c.check-lists.ensures
+    let t = c.before.before.before.before.before in
+    c.check_lists.ensures
     ∙ ap₂ (laid_out (bytes t) _) (pins-part t) (macros-part t)
     ∙ ap (λ (w : Weights). laid_out (bytes t) w (pins_in (bytes t)) (macros_in (bytes t)))
-    t.before.before.before.before.before.weights-in.ensures
+    t.weights_in-w.ensures
 
-pub check-file-spec : {M : Type 1} → statement M
-check-file-spec =
+pub check_file_spec : {M : Type 1} → statement M
+check_file_spec =
     tie.close
     (tie.spec
     weights-in-requires (λ c κs. search rules) (λ c. search rules) (λ c κs. search rules) (λ c. search rules)

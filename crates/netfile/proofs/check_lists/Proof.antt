@@ -10,18 +10,18 @@ use borrow.Author.Rules.{rules}
 use Rattle.netfile.proofs.check_lists.Statement.{statement}
 use Rattle.netfile.proofs.check_lists.Tie as tie
 
-returns : tie.Need-returns
+returns : tie.Need-returns-then-is_file_of
 returns c =
-    let h = c.before in
-    let f = h.before.before in
-    let s = f.before.before in
+    let h = c in
+    let f = h in
+    let s = f in
     c.check.ensures
     ∙ ap (λ (v : Weighing). checked v s.args.pins.now s.args.macros.now) h.handed.ensures
-    ∙ sym (laid-out today _ _ _ _ (sym f.is-file-of.ensures ∙ h.before.if1.true))
+    ∙ sym (laid-out today _ _ _ _ (sym f.is_file_of.ensures ∙ h.if-is_file_of.true))
 
-returns-2 : tie.Need-returns-2
+returns-2 : tie.Need-returns
 unfolding told number
-returns-2 c = sym (laid-wrong today _ _ _ _ (sym c.before.is-file-of.ensures ∙ c.if1.false))
+returns-2 c = sym (laid-wrong today _ _ _ _ (sym c.is_file_of.ensures ∙ c.if-is_file_of.false))
 
-pub check-lists-spec : {M : Type 1} → statement M
-check-lists-spec = tie.close (tie.spec (λ c κs. search rules) (λ c κs. search rules) (λ c κs. search rules) returns returns-2)
+pub check_lists_spec : {M : Type 1} → statement M
+check_lists_spec = tie.close (tie.spec (λ c κs. search rules) (λ c κs. search rules) (λ c κs. search rules) returns returns-2)

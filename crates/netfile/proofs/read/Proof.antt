@@ -34,30 +34,30 @@ macros-of s = s.args.macros.now
 abbrev answer-of : tie.Start → Told Counts
 answer-of s = read_file (bytes_of s) (length (pins-of s)) (length (macros-of s))
 
-abbrev start1 : tie.Else1 → tie.Start
-start1 c = c.before.before.before.before.before
+abbrev start1 : tie.Else-room_short → tie.Start
+start1 c = c.before.before.before
 
-abbrev start2 : tie.Else2 → tie.Start
+abbrev start2 : tie.Else-blocks_miscounted → tie.Start
 start2 c = start1 c.before.before
 
-abbrev start3 : tie.Else3 → tie.Start
+abbrev start3 : tie.Else-any_wrong_sums → tie.Start
 start3 c = start2 c.before.before
 
-abbrev start4 : tie.Else4 → tie.Start
+abbrev start4 : tie.Else-head_wrong → tie.Start
 start4 c = start3 c.before.before
 
 -- the tests that were passed
-room : (c : tie.Else1) → room_short (length (pins-of (start1 c))) (length (macros-of (start1 c))) ≡ false
-room c = sym c.before.room-short.ensures ∙ c.if1.false
+room : (c : tie.Else-room_short) → room_short (length (pins-of (start1 c))) (length (macros-of (start1 c))) ≡ false
+room c = sym c.room_short.ensures ∙ c.if-room_short.false
 
-blocks : (c : tie.Else2) → blocks_miscounted (bytes_of (start2 c)) ≡ false
-blocks c = sym c.before.blocks-miscounted.ensures ∙ c.if2.false
+blocks : (c : tie.Else-blocks_miscounted) → blocks_miscounted (bytes_of (start2 c)) ≡ false
+blocks c = sym c.blocks_miscounted.ensures ∙ c.if-blocks_miscounted.false
 
-sums : (c : tie.Else3) → sums_wrong (bytes_of (start3 c)) ≡ false
-sums c = sym c.before.any-wrong-sums.ensures ∙ c.if3.false
+sums : (c : tie.Else-any_wrong_sums) → sums_wrong (bytes_of (start3 c)) ≡ false
+sums c = sym c.any_wrong_sums.ensures ∙ c.if-any_wrong_sums.false
 
-head : (c : tie.Else4) → head_wrong (bytes_of (start4 c)) ≡ false
-head c = sym c.before.head-wrong.ensures ∙ c.if4.false
+head : (c : tie.Else-head_wrong) → head_wrong (bytes_of (start4 c)) ≡ false
+head c = sym c.head_wrong.ensures ∙ c.if-head_wrong.false
 
 -- a refusal
 abbrev Turned : tie.Start → ℕ → Type 0
@@ -69,62 +69,62 @@ Turned s n =
 turned : (s : tie.Start) (n : ℕ) → answer-of s ≡ refused n → Turned s n
 turned s n e = unaltered (answer-of s) (pins_in (bytes_of s)) (macros_in (bytes_of s)) (pins-of s) (macros-of s) n e
 
-returns : tie.Need-returns
+returns : tie.Need-returns-then-room_short
 unfolding told number
 returns c =
-    let s = c.before.before.before.before.before in
-    turned s 21 (refuse-21 today (bytes_of s) _ _ (sym c.before.room-short.ensures ∙ c.if1.true))
+    let s = c.before.before.before in
+    turned s 21 (refuse-21 today (bytes_of s) _ _ (sym c.room_short.ensures ∙ c.if-room_short.true))
 
-returns-2 : tie.Need-returns-2
+returns-2 : tie.Need-returns-then-blocks_miscounted
 unfolding told number
 returns-2 c =
     let p = c.before.before in
     let s = start1 p in
-    turned s 1 (refuse-1 today (bytes_of s) _ _ (room p) (sym c.before.blocks-miscounted.ensures ∙ c.if2.true))
+    turned s 1 (refuse-1 today (bytes_of s) _ _ (room p) (sym c.blocks_miscounted.ensures ∙ c.if-blocks_miscounted.true))
 
-returns-3 : tie.Need-returns-3
+returns-3 : tie.Need-returns-then-any_wrong_sums
 unfolding told number
 returns-3 c =
     let p = c.before.before in
     let s = start2 p in
     turned s 2
-    (refuse-2 today (bytes_of s) _ _ (room p.before.before) (blocks p) (sym c.before.any-wrong-sums.ensures ∙ c.if3.true))
+    (refuse-2 today (bytes_of s) _ _ (room p.before.before) (blocks p) (sym c.any_wrong_sums.ensures ∙ c.if-any_wrong_sums.true))
 
-head-wrong-requires : tie.Need-head-wrong-requires
+head-wrong-requires : tie.Need-head_wrong-requires
 head-wrong-requires c κs =
     let b = blocks-counted (bytes_of (start3 c)) (blocks c.before.before) in
     omega (arith, b.some)
 
-returns-4 : tie.Need-returns-4
+returns-4 : tie.Need-returns-then-head_wrong
 unfolding told number
 returns-4 c =
     let p = c.before.before in
     let q = p.before.before in
     let s = start3 p in
     turned s 3
-    (refuse-3 today (bytes_of s) _ _ (room q.before.before) (blocks q) (sums p) (sym c.before.head-wrong.ensures ∙ c.if4.true))
+    (refuse-3 today (bytes_of s) _ _ (room q.before.before) (blocks q) (sums p) (sym c.head_wrong.ensures ∙ c.if-head_wrong.true))
 
-read-counted-requires : tie.Need-read-counted-requires
+read-counted-requires : tie.Need-read_counted-requires
 read-counted-requires c κs =
     let r = c.before.before in
-    let p = r.before.before in
-    let q = p.before.before in
+    let p = r in
+    let q = p.before.before.before.before in
     let s = start4 r in
     let h = head-right (bytes_of s) (head r) in
     ((sized-by-head (bytes_of s) (blocks-counted (bytes_of s) (blocks q)) h.0, h.1), room q.before.before)
 
-returns-5 : tie.Need-returns-5
+returns-5 : tie.Need-returns
 returns-5 c =
-    let d = c.before.before in
-    let r = d.before.before.before in
+    let d = c in
+    let r = d.before.before.before.before.before in
     let p = r.before.before in
     let q = p.before.before in
     let s = start4 r in
     let e = sym (read-on today (bytes_of s) _ _ (room q.before.before) (blocks q) (sums p) (head r)) in (
-      d.read-counted.ensures.0 ∙ e,
+      d.read_counted.ensures.0 ∙ e,
       (
-        d.read-counted.ensures.1.0 ∙ ap (λ (t : Told Counts). after t (pins_in (bytes_of s)) (pins-of s)) e,
-        d.read-counted.ensures.1.1 ∙ ap (λ (t : Told Counts). after t (macros_in (bytes_of s)) (macros-of s)) e,
+        d.read_counted.ensures.1.0 ∙ ap (λ (t : Told Counts). after t (pins_in (bytes_of s)) (pins-of s)) e,
+        d.read_counted.ensures.1.1 ∙ ap (λ (t : Told Counts). after t (macros_in (bytes_of s)) (macros-of s)) e,
       ),
     )
 

@@ -17,43 +17,43 @@ use Rattle.netfile.proofs.read_counted.Tie as tie
 abbrev answer-of : tie.Start → Told Counts
 answer-of s = answer_in s.args.bytes.now
 
-accepted : (c : tie.After-enum-told) → answer-of c.before.before.before.before
-    ≡ given c.enum_told.given.0.0
+accepted : (c : tie.In-Allowed) → answer-of c.before.before.before
+    ≡ given c.in-Allowed.field-0
 unfolding told
-accepted c = sym c.before.before.check-file.ensures ∙ ap told c.enum_told.given.1
+accepted c = sym c.check_file-answer.ensures ∙ ap told c.in-Allowed.is
 
-take-lists-requires : tie.Need-take-lists-requires
+take-lists-requires : tie.Need-take_lists-requires
 take-lists-requires c κs =
     let k = c.before.before in
-    let s = k.before.before.before.before in
+    let s = k in
     let a = s.args in
     (s.requires.0.0, lists-fit a.bytes.now (length a.pins.now) (length a.macros.now) _ (accepted k) s.requires.1)
 
-returns : tie.Need-returns
+returns : tie.Need-returns-in-Allowed
 returns c =
-    let l = c.before.before in
-    let k = l.before.before.before in
-    let s = k.before.before.before.before in
+    let l = c in
+    let k = l.before.before.before.before.before in
+    let s = k in
     let b = s.args.bytes.now in
     let e = accepted k in (
-      k.before.before.check-file.ensures,
+      k.check_file-answer.ensures,
       (
-        l.take-lists.ensures.0 ∙ after-given _ (pins_in b) s.args.pins.now _ e,
-        l.take-lists.ensures.1 ∙ after-given _ (macros_in b) s.args.macros.now _ e,
+        l.take_lists.ensures.0 ∙ after-given _ (pins_in b) s.args.pins.now _ e,
+        l.take_lists.ensures.1 ∙ after-given _ (macros_in b) s.args.macros.now _ e,
       ),
     )
 
-returns-2 : tie.Need-returns-2
+returns-2 : tie.Need-returns-in-Refused
 unfolding told
 returns-2 c =
-    let k = c.before.before in
-    let s = k.before.before in
+    let k = c in
+    let s = k in
     let b = s.args.bytes.now in
-    let e = sym k.check-file.ensures ∙ ap told c.enum-told2.given.1 in
-    (k.check-file.ensures, (unaltered _ (pins_in b) (macros_in b) s.args.pins.now s.args.macros.now _ e).1)
+    let e = sym k.check_file-answer.ensures ∙ ap told c.in-Refused.is in
+    (k.check_file-answer.ensures, (unaltered _ (pins_in b) (macros_in b) s.args.pins.now s.args.macros.now _ e).1)
 
-pub read-counted-spec : {M : Type 1} → statement M
-read-counted-spec =
+pub read_counted_spec : {M : Type 1} → statement M
+read_counted_spec =
     tie.close
     (tie.spec
     (λ c κs. search rules) (λ c. search rules) take-lists-requires (λ c. search rules) (λ c. search rules)

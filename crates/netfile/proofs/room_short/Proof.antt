@@ -9,5 +9,5 @@ returns : tie.Need-returns
 unfolding room_short_within
 returns c = refl
 
-pub room-short-spec : {M : Type 1} → statement M
-room-short-spec = tie.close (tie.spec returns)
+pub room_short_spec : {M : Type 1} → statement M
+room_short_spec = tie.close (tie.spec returns)

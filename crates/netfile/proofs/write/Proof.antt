@@ -37,45 +37,45 @@ file-of s w = file_bytes w (pins-of s) (macros-of s)
 abbrev checked-of : tie.Start → Told Counts
 checked-of s = checked s.args.w (pins-of s) (macros-of s)
 
-module _ (c : tie.After-write-checked-arg) where
+module _ (c : tie.After-write_checked-arg-1) where
   abbrev start : tie.Start
-  start = c.before.before.before.before.before.before
+  start = c.before.before.before.before
 
   abbrev net : Counts
-  net = c.before.before.answer.given.0.0
+  net = c.in-Allowed.net
 
   allowed : checked-of start ≡ given net
   unfolding told
-  allowed = sym c.before.before.before.before.check.ensures ∙ ap told c.before.before.answer.given.1
+  allowed = sym c.check-answer.ensures ∙ ap told c.in-Allowed.is
 
   -- the weights found are those handed over
   found : net.weights ≡ weights_of start.args.w
   found = ap (λ (n : Counts). n.weights) (given-counts _ _ _ allowed)
 
-write-checked-requires : tie.Need-write-checked-requires
-write-checked-requires c κs = allowed-blocks (start c).args.w (pins-of (start c)) (macros-of (start c)) _ (allowed c)
+write-checked-requires : tie.Need-write_checked-requires
+write-checked-requires c κs = allowed-blocks (start c.before).args.w (pins-of (start c.before)) (macros-of (start c.before)) _ (allowed c.before)
 
-returns : tie.Need-returns
+returns : tie.Need-returns-in-Allowed
 returns c =
-    let r = c.before.before in
-    let s = start r.before in
+    let r = c in
+    let s = start r.before.before.before.before in
     let e =
-    ap (λ (w : Weights). fitted (length (file-of s w)) (length (bytes_of s))) (found r.before)
-    ∙ sym (written-allowed s.args.w (pins-of s) (macros-of s) (length (bytes_of s)) _ (allowed r.before))
+    ap (λ (w : Weights). fitted (length (file-of s w)) (length (bytes_of s))) (found r.before.before.before.before)
+    ∙ sym (written-allowed s.args.w (pins-of s) (macros-of s) (length (bytes_of s)) _ (allowed r.before.before.before.before))
     in (
       r.write_checked.ensures.0 ∙ e,
       r.write_checked.ensures.1
-          ∙ ap₂ (λ (t : Told ℕ) (w : Weights). after t (file-of s w) (bytes_of s)) e (found r.before),
+          ∙ ap₂ (λ (t : Told ℕ) (w : Weights). after t (file-of s w) (bytes_of s)) e (found r.before.before.before.before),
     )
 
-returns-2 : tie.Need-returns-2
+returns-2 : tie.Need-returns-in-Refused
 unfolding told_bytes told
 returns-2 c =
-    let k = c.before.before.before in
-    let s = k.before.before in
+    let k = c in
+    let s = k.before.before.before in
     let e =
     written-refused s.args.w (pins-of s) (macros-of s) (length (bytes_of s)) _
-    (sym k.check.ensures ∙ ap told c.before.answer2.given.1)
+    (sym k.check-answer.ensures ∙ ap told c.in-Refused.is)
     in
     (sym e, after-refused _ (file-of s (weights_of s.args.w)) (bytes_of s) _ e)
 

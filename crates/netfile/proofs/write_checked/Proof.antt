@@ -14,30 +14,30 @@ use borrow.Author.Rules.{rules}
 use Rattle.netfile.proofs.write_checked.Statement.{statement}
 use Rattle.netfile.proofs.write_checked.Tie as tie
 
-returns : tie.Need-returns
+returns : tie.Need-returns-then-bytes-n
 unfolding told_bytes number
 returns c =
-    let k = c.before in
-    let a = k.before.before.args in
+    let k = c in
+    let a = k.args in
     let f = file_bytes a.w a.pins.now a.macros.now in
     let n = length-file a.w (stored a.pins.now) a.macros.now in
-    let e = fitted_short (length f) (length a.bytes.now) (omega (arith, n, k.file-length.ensures)) in
+    let e = fitted_short (length f) (length a.bytes.now) (omega (arith, n, k.file_length-n.ensures)) in
     (sym e, after-refused _ f a.bytes.now 21 e)
 
-returns-2 : tie.Need-returns-2
+returns-2 : tie.Need-returns
 unfolding told_bytes
 returns-2 c =
-    let p = c.before.before in
-    let k = p.before.before.before in
-    let a = k.before.before.args in
+    let p = c in
+    let k = p in
+    let a = k.args in
     let b = a.bytes.now in
     let f = file_bytes a.w a.pins.now a.macros.now in
     let n = length-file a.w (stored a.pins.now) a.macros.now in
-    let e : k.file-length.result ≡ length f = k.file-length.ensures ∙ sym n in
-    let g = fitted-given (length f) (length b) (omega (arith, n, k.file-length.ensures)) in
-    (ap given e ∙ sym g, p.put-file.ensures ∙ after-given _ f b (length f) g)
+    let e : k.file_length-n.result ≡ length f = k.file_length-n.ensures ∙ sym n in
+    let g = fitted-given (length f) (length b) (omega (arith, n, k.file_length-n.ensures)) in
+    (ap given e ∙ sym g, p.put_file.ensures ∙ after-given _ f b (length f) g)
 
-pub write-checked-spec : {M : Type 1} → statement M
-write-checked-spec =
+pub write_checked_spec : {M : Type 1} → statement M
+write_checked_spec =
     tie.close
     (tie.spec (λ c κs. search rules) returns (λ c κs. search rules) (λ c. search rules) returns-2)

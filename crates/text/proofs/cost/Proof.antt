@@ -9,11 +9,11 @@ use borrow.Author.Rules.{rules}
 use Rattle.text.proofs.cost.Statement.{statement}
 use Rattle.text.proofs.cost.Tie as tie
 
-cast-result : tie.Need-overflow-cast-result
+cast-result : tie.Need-overflow_cast-result
 cast-result c = record { sfits = omega (arith, c.cost.ensures.1) }
 
 returns : tie.Need-returns
 returns c = to_z_pos w64 c.cost.result (omega (arith, c.cost.ensures.1)) ∙ ap pos c.cost.ensures.0
 
-pub cost-spec : {M : Type 1} → statement M
-cost-spec = tie.close (tie.spec (λ c κs. search rules) cast-result returns)
+pub cost_spec : {M : Type 1} → statement M
+cost_spec = tie.close (tie.spec (λ c κs. search rules) cast-result returns)

@@ -10,14 +10,14 @@ use borrow.Author.Rules.{rules}
 use Rattle.text.proofs.put_coordinate.Statement.{statement}
 use Rattle.text.proofs.put_coordinate.Tie as tie
 
-cast-put-number : tie.Need-overflow-cast-put-number
-cast-put-number c = cast-wide _ c.before.before.ranges.z
+cast-put-number : tie.Need-overflow_cast-z
+cast-put-number c = cast-wide _ c.ranges.z
 
 returns : tie.Need-returns
 returns c =
-    let p = c.before.before in
-    let s = p.before.before.before in
-    (put_as (ap (λ (z : ℤ). whole z ++ (space ∷ [])) (wide_is _ s.ranges.z)) p.put-number.ensures.0, p.put-number.ensures.1)
+    let p = c in
+    let s = p in
+    (put_as (ap (λ (z : ℤ). whole z ++ (space ∷ [])) (wide_is _ s.ranges.z)) p.put_number.ensures.0, p.put_number.ensures.1)
 
-pub put-coordinate-spec : {M : Type 1} → statement M
-put-coordinate-spec = tie.close (tie.spec cast-put-number (λ c κs. search rules) (λ c. search rules) returns)
+pub put_coordinate_spec : {M : Type 1} → statement M
+put_coordinate_spec = tie.close (tie.spec cast-put-number (λ c κs. search rules) (λ c. search rules) returns)

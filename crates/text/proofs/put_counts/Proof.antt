@@ -9,16 +9,13 @@ use Rattle.text.proofs.put_counts.Tie as tie
 
 returns : tie.Need-returns
 returns c =
-    let k = c.before.before in
-    let m = k.before.before.before.before.before in
-    let s = m.before.before.before.before in (
-      put_as (counts-line s.args.m s.args.k) (put_then m.put_count.ensures.0 k.put-count2.ensures.0),
-      omega (arith, m.put_count.ensures.1, k.put-count2.ensures.1),
+    let k = c in
+    let m = k in
+    let s = m in (
+      put_as (counts-line s.args.m s.args.k) (put_then m.put_count-next.ensures.0 k.put_count.ensures.0),
+      omega (arith, m.put_count-next.ensures.1, k.put_count.ensures.1),
     )
 
-pub put-counts-spec : {M : Type 1} → statement M
-put-counts-spec =
-    tie.close
-    (tie.spec
-    (λ c. search rules) (λ c κs. search rules) (λ c. search rules) (λ c κs. search rules) (λ c. search rules)
-    returns)
+pub put_counts_spec : {M : Type 1} → statement M
+put_counts_spec =
+    tie.close (tie.spec (λ c κs. search rules) (λ c κs. search rules) (λ c. search rules) returns)

@@ -14,18 +14,18 @@ use Rattle.text.proofs.put_edge.Tie as tie
 
 returns : tie.Need-returns
 returns c =
-    let n = c.before.before in
-    let q = n.before.before.before.before.before in
-    let p = q.before.before.before.before in
-    let s = p.before.before.before in
-    let d = to_z-of_z w64 _ (search rules) ∙ n.before.cost.ensures in
-    let l = put_as (ap (λ (z : ℤ). number z newline) d) n.put-number.ensures.0 in (
-      put_as (edge-line s.args.w s.args.a s.args.b) (put_then (put_then p.put-place.ensures.0 q.put-place2.ensures.0) l),
-      omega (arith, p.put-place.ensures.1, q.put-place2.ensures.1, n.put-number.ensures.1),
+    let n = c in
+    let q = n in
+    let p = q in
+    let s = p in
+    let d = to_z-of_z w64 _ (search rules) ∙ n.cost.ensures in
+    let l = put_as (ap (λ (z : ℤ). number z newline) d) n.put_number.ensures.0 in (
+      put_as (edge-line s.args.w s.args.a s.args.b) (put_then (put_then p.put_place-second.ensures.0 q.put_place-third.ensures.0) l),
+      omega (arith, p.put_place-second.ensures.1, q.put_place-third.ensures.1, n.put_number.ensures.1),
     )
 
-pub put-edge-spec : {M : Type 1} → statement M
-put-edge-spec =
+pub put_edge_spec : {M : Type 1} → statement M
+put_edge_spec =
     tie.close
     (tie.spec
     (λ c κs. search rules) (λ c κs. search rules) (λ c κs. search rules) (λ c κs. search rules) (λ c. search rules)

@@ -10,9 +10,9 @@ use Rattle.text.proofs.put_header.Tie as tie
 returns : tie.Need-returns
 unfolding header
 returns c =
-    let t = c.before.before in
-    let k = t.before.before.before.before in
-    (put_then k.put-counts.ensures.0 t.put-totals.ensures.0, omega (arith, k.put-counts.ensures.1, t.put-totals.ensures.1))
+    let t = c in
+    let k = t in
+    (put_then k.put_counts-next.ensures.0 t.put_totals.ensures.0, omega (arith, k.put_counts-next.ensures.1, t.put_totals.ensures.1))
 
-pub put-header-spec : {M : Type 1} → statement M
-put-header-spec = tie.close (tie.spec (λ c κs. search rules) (λ c κs. search rules) (λ c. search rules) returns)
+pub put_header_spec : {M : Type 1} → statement M
+put_header_spec = tie.close (tie.spec (λ c κs. search rules) (λ c κs. search rules) (λ c. search rules) returns)

@@ -10,12 +10,12 @@ use Rattle.text.proofs.put_number.Tie as tie
 
 returns : tie.Need-returns
 returns c =
-    let b = c.before.before in
-    let w = b.before.before.before.before in
-    let s = w.before.before.before in (
-      put_then (rw (to_z-of_z w64 _ s.ranges.z) at w.put_whole.ensures.0) b.put_byte.ensures,
-      omega (arith, w.put_whole.ensures.1, b.put_byte.ensures.moves),
+    let b = c in
+    let w = b in
+    let s = w in (
+      put_then (rw (to_z-of_z w64 _ s.ranges.z) at w.put_whole-next.ensures.0) b.put_byte.ensures,
+      omega (arith, w.put_whole-next.ensures.1, b.put_byte.ensures.moves),
     )
 
-pub put-number-spec : {M : Type 1} → statement M
-put-number-spec = tie.close (tie.spec (λ c κs. search rules) (λ c κs. search rules) (λ c. search rules) returns)
+pub put_number_spec : {M : Type 1} → statement M
+put_number_spec = tie.close (tie.spec (λ c κs. search rules) (λ c κs. search rules) (λ c. search rules) returns)

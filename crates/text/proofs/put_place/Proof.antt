@@ -14,15 +14,15 @@ fit s = record { x = search rules; y = search rules }
 
 returns : tie.Need-returns
 returns c =
-    let q = c.before.before in
-    let p = q.before.before.before.before.before in
-    let s = p.before.before.before.before in (
+    let q = c in
+    let p = q in
+    let s = p.before.before.before.before.before.before.before.before.before.before.before in (
       put_then
-          (rw (to_z-of_z w32 _ (fit s).x) at p.put-coordinate.ensures.0)
-          (rw (to_z-of_z w32 _ (fit s).y) at q.put-coordinate2.ensures.0),
-      omega (arith, p.put-coordinate.ensures.1, q.put-coordinate2.ensures.1),
+          (rw (to_z-of_z w32 _ (fit s).x) at p.put_coordinate-next.ensures.0)
+          (rw (to_z-of_z w32 _ (fit s).y) at q.put_coordinate.ensures.0),
+      omega (arith, p.put_coordinate-next.ensures.1, q.put_coordinate.ensures.1),
     )
 
-pub put-place-spec : {M : Type 1} → statement M
-put-place-spec =
+pub put_place_spec : {M : Type 1} → statement M
+put_place_spec =
     tie.close (tie.spec (λ c κs. search rules) (λ c κs. search rules) (λ c. search rules) returns)

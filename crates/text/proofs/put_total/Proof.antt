@@ -10,12 +10,12 @@ use Rattle.text.proofs.put_total.Tie as tie
 
 returns : tie.Need-returns
 returns c =
-    let d = c.before.before in
-    let w = d.before.before.before.before in
-    let s = w.before.before.before.before in (
-      put_then w.put-bytes.ensures (rw (to_z-of_z w64 _ s.ranges.z) at d.put_whole.ensures.0),
-      omega (arith, w.put-bytes.ensures.moves, d.put_whole.ensures.1),
+    let d = c in
+    let w = d in
+    let s = w in (
+      put_then w.put_bytes-next.ensures (rw (to_z-of_z w64 _ s.ranges.z) at d.put_whole.ensures.0),
+      omega (arith, w.put_bytes-next.ensures.moves, d.put_whole.ensures.1),
     )
 
-pub put-total-spec : {M : Type 1} → statement M
-put-total-spec = tie.close (tie.spec (λ c κs. search rules) (λ c κs. search rules) (λ c. search rules) returns)
+pub put_total_spec : {M : Type 1} → statement M
+put_total_spec = tie.close (tie.spec (λ c κs. search rules) (λ c κs. search rules) (λ c. search rules) returns)

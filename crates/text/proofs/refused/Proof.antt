@@ -11,23 +11,21 @@ use borrow.Author.Rules.{rules}
 use Rattle.text.proofs.refused.Statement.{statement}
 use Rattle.text.proofs.refused.Tie as tie
 
-cast-put-number : tie.Need-overflow-cast-put-number
-cast-put-number c = cast-wide _ c.before.before.before.before.before.before.before.ranges.n
+cast-put-number : tie.Need-overflow_cast-n
+cast-put-number c = cast-wide _ c.ranges.n
 
 returns : tie.Need-returns
 unfolding refused_text line
 returns c =
-    let d = c.before.before in
-    let w = d.before.before.before.before in
-    let s = w.before.before.before.before in
-    let n = put_as (ap (λ (z : ℤ). number z newline) (wide_is _ s.ranges.n)) d.put-number.ensures.0 in
-    let t = put_then w.put-bytes.ensures n in
-    let text = put-filled t (omega (arith, w.put-bytes.ensures.moves, d.put-number.ensures.1, t.moves)) in
+    let d = c in
+    let w = d in
+    let s = w in
+    let n = put_as (ap (λ (z : ℤ). number z newline) (wide_is _ s.ranges.n)) d.put_number.ensures.0 in
+    let t = put_then w.put_bytes-next.ensures n in
+    let text = put-filled t (omega (arith, w.put_bytes-next.ensures.moves, d.put_number.ensures.1, t.moves)) in
     text
 
-pub refused-spec : {M : Type 1} → statement M
-refused-spec =
+pub refused_spec : {M : Type 1} → statement M
+refused_spec =
     tie.close
-    (tie.spec
-    (λ c. search rules) (λ c κs. search rules) cast-put-number (λ c κs. search rules) (λ c. search rules)
-    returns)
+    (tie.spec (λ c κs. search rules) cast-put-number (λ c κs. search rules) (λ c. search rules) returns)

@@ -10,10 +10,10 @@ use Rattle.text.proofs.tree.Tie as tie
 returns : tie.Need-returns
 unfolding tree_text
 returns c =
-    let l = c.before.before in
-    let h = l.before.before.before.before in
-    let t = put_then h.put-header.ensures.0 l.put-edges.ensures.0 in
-    put-filled t (omega (arith, t.moves, l.put-edges.ensures.1, h.put-header.ensures.1))
+    let l = c in
+    let h = l in
+    let t = put_then h.put_header-next.ensures.0 l.put_edges.ensures.0 in
+    put-filled t (omega (arith, t.moves, l.put_edges.ensures.1, h.put_header-next.ensures.1))
 
-pub tree-spec : {M : Type 1} → statement M
-tree-spec = tie.close (tie.spec (λ c κs. search rules) (λ c κs. search rules) (λ c. search rules) returns)
+pub tree_spec : {M : Type 1} → statement M
+tree_spec = tie.close (tie.spec (λ c κs. search rules) (λ c κs. search rules) (λ c. search rules) returns)
