@@ -155,6 +155,8 @@ module _ {net : Net} (a : Allowed net) where
   side-range : (axis : Axis) (ms : List Macro) → ((m : Macro) → m ∈ ms → m ∈ net.macros) → (p : Place) → p ∈ sides ms →
       out_of_range (coordinate axis p) ≡ false
   unfolding sides coordinate
+  side-range Along [] h p x7 = elim x7 [ ]
+  side-range Across [] h p x6 = elim x6 [ ]
   side-range Across (m ∷ ms) h p (here e) = rw e (a.macros-in-range m (h m (here refl))).left
   side-range Across (m ∷ ms) h p (there (here e)) = rw e (a.macros-in-range m (h m (here refl))).right
   side-range Across (m ∷ ms) h p (there (there i)) = side-range Across ms (λ n k. h n (there k)) p i

@@ -116,7 +116,7 @@ module _ {g : Graph} {n : ℕ} {d : ℕ → ℕ → ℕ} {pins : List ℕ} (s : 
       further o t = record {
         point = t.point;
         inside = t.inside;
-        no-pin = t.no_pin;
+        no-pin = t.no-pin;
         is = t.is;
         onward = λ j q. rw (next_way u h o) (there (t.onward j q));
       }
@@ -180,7 +180,7 @@ module _ {g : Graph} {n : ℕ} {d : ℕ → ℕ → ℕ} {pins : List ℕ} (s : 
   upward : (u k : ℕ) → u < n → Among (home u) E → k ∈ home u → Upward k
   upward u k h a i =
       let t = step_of (far T u) u k (omega arith) h i in
-      record { point = t.point; inside = t.inside; no-pin = t.no_pin; is = t.is; onward = λ j q. a j (t.onward j q) }
+      record { point = t.point; inside = t.inside; no-pin = t.no-pin; is = t.is; onward = λ j q. a j (t.onward j q) }
 
   -- an edge of the union is a kept bridge or leads upward
   kind : (k : ℕ) → k ∈ E → (k ∈ K) ⊎ Upward k
@@ -268,9 +268,9 @@ module _ {g : Graph} {n : ℕ} {d : ℕ → ℕ → ℕ} {pins : List ℕ} (s : 
       above : (k : ℕ) → k ∈ E → Upward k → (v ≡ one g k) ⊎ (v ≡ two g k) → via P v ∈ E
       above k i u c =
           let z = u.point in
-          let p = parent_is s whole z u.inside u.no_pin in
+          let p = parent_is s whole z u.inside u.no-pin in
           let here_end : v ≡ z → via P v ∈ E = λ e. Memᴰ.cast (ap (via P) e ∙ sym u.is) i in
-          let up-end : v ≡ up P z → via P v ∈ E = λ e. u.onward (via P v) (rw (next_way z u.inside u.no_pin) (there (moved e))) in
+          let up-end : v ≡ up P z → via P v ∈ E = λ e. u.onward (via P v) (rw (next_way z u.inside u.no-pin) (there (moved e))) in
           at u.is p.ends-are c here_end up-end
         where
           at : {z : ℕ} → k ≡ via P z → Alike z (up P z) (one g (via P z)) (two g (via P z)) → (v ≡ one g k) ⊎ (v ≡ two g k) →
@@ -386,8 +386,8 @@ module _ {g : Graph} {n : ℕ} {d : ℕ → ℕ → ℕ} {pins : List ℕ} (s : 
       above : Upward k → k ∈ F
       above u =
           let z = u.point in
-          let w = (lower-point z (parent_is s whole z u.inside u.no_pin).ends-are (Memᴰ.cast (sym u.is) m)).0 in
-          let i : z ∈ N = either (λ p. absurd (u.no_pin p)) (λ q. q) (Memᴰ.append_cases pins (sorted-point z w)) in
+          let w = (lower-point z (parent_is s whole z u.inside u.no-pin).ends-are (Memᴰ.cast (sym u.is) m)).0 in
+          let i : z ∈ N = either (λ p. absurd (u.no-pin p)) (λ q. q) (Memᴰ.append_cases pins (sorted-point z w)) in
           Memᴰ.append_left K (Memᴰ.cast u.is (in_map (via P) i))
 
   pub union-size : suc (length E) ≡ length W
