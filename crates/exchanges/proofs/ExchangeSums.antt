@@ -1,6 +1,6 @@
 -- What taking an entry out of a table, putting one in and moving numbers on does to every sum over its entries.
 -- Assumes nothing.
-use mathlib.Core.Path.{◌≡◌, refl, sym, ap, ap₂, ◌∙◌}
+use mathlib.Core.Path.{◌≡◌, refl, sym, ap, ap₂, subst, ◌∙◌}
 use mathlib.Core.Bool.{true, false}
 use mathlib.Core.List.{List, [], ◌∷◌}
 use Prim.Native.Nat.{ℕ, zero, suc, ◌+◌, ◌-◌, ◌≤◌, ◌<◌}
@@ -95,14 +95,30 @@ carrying-low (suc n) i q xs j h =
     ∙ other xs i j q (λ e. let z : ⊥ = omega arith in z)))
     (λ t. rw (carrying, t) (carrying-low n (suc i) q xs j (omega arith)))
 
+carrying-end : (i q : ℕ) (xs : List ℕ) → carrying i zero q xs ≡ set xs i q
+unfolding carrying
+carrying-end i q xs = refl
+
+carrying-put : (n i q : ℕ) (xs : List ℕ) → ltb q (get_or xs i 0) ≡ true → carrying i (suc n) q xs ≡ carrying (suc i) n (get_or xs i 0) (set xs i q)
+unfolding carrying
+carrying-put n i q xs t = rw (carrying, t) refl
+
+carrying-past : (n i q : ℕ) (xs : List ℕ) → ltb q (get_or xs i 0) ≡ false → carrying i (suc n) q xs ≡ carrying (suc i) n q xs
+unfolding carrying
+carrying-past n i q xs t = rw (carrying, t) refl
+
 from-carrying : (g : ℕ → ℕ) (n i q : ℕ) (xs : List ℕ) → i + n < length xs →
     from (λ j. g (get_or (carrying i n q xs) j 0)) i (suc n) ≡ g q + from (λ j. g (get_or xs j 0)) i n
-unfolding carrying from
-from-carrying g zero i q xs h = let e : g (get_or (set xs i q) i 0) ≡ g q = ap g (here xs i q (omega arith)) in omega (arith, e)
+unfolding from
+from-carrying g zero i q xs h =
+    let e : g (get_or (carrying i zero q xs) i 0) ≡ g q = ap (λ (ys : List ℕ). g (get_or ys i 0)) (carrying-end i q xs) ∙ ap g (here xs i q (omega arith)) in
+    omega (arith, e)
 from-carrying g (suc n) i q xs h =
     by (ltb q (get_or xs i 0))
-    (λ t. rw (carrying, t) (swapped (from-carrying g n (suc i) (get_or xs i 0) (set xs i q) (rw (length-set xs i q) (omega arith)))))
-    (λ t. rw (carrying, t) (stayed (from-carrying g n (suc i) q xs (omega arith))))
+    (λ t. subst (λ (ys : List ℕ). from (λ j. g (get_or ys j 0)) i (suc (suc n)) ≡ g q + from (λ j. g (get_or xs j 0)) i (suc n)) (sym (carrying-put n i q xs t))
+    (swapped (from-carrying g n (suc i) (get_or xs i 0) (set xs i q) (rw (length-set xs i q) (omega arith)))))
+    (λ t. subst (λ (ys : List ℕ). from (λ j. g (get_or ys j 0)) i (suc (suc n)) ≡ g q + from (λ j. g (get_or xs j 0)) i (suc n)) (sym (carrying-past n i q xs t))
+    (stayed (from-carrying g n (suc i) q xs (omega arith))))
   where
     swapped : from (λ j. g (get_or (carrying (suc i) n (get_or xs i 0) (set xs i q)) j 0)) (suc i) (suc n) ≡ g (get_or xs i 0) + from
         (λ j. g (get_or (set xs i q) j 0)) (suc i) n

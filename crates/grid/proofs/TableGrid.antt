@@ -67,6 +67,8 @@ record Position (L : List ℤ) (a b : ℤ) : Type 0 where
 
 of-next : (L : List ℤ) (a b : ℤ) → (a, b) ∈ nexts L → Position L a b
 unfolding nexts
+of-next (x ∷ []) a b x5 = elim x5 [ ]
+of-next [] a b x' = elim x' [ ]
 of-next (x ∷ (y ∷ l)) a b (here e) = record { number = zero; inside = omega arith; first = firsts e; second = seconds e }
 of-next (x ∷ (y ∷ l)) a b (there m) =
     let r = of-next (y ∷ l) a b m in

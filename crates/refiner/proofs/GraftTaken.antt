@@ -66,11 +66,14 @@ module _ {A : Type 0} where
   steps_then (go l w) qs e m = there (steps_then w qs e m)
 
   -- a way from a point of the tree stays among its points
+  way-stays : {X : List A} {T : List (A × A)} (z : A) {x y : A} {ps : List A} → Inside X T → Way T x ps y → x ∈ X → z ∈ (x ∷ ps) → z ∈ X
+  way-stays z h w i (here e) = Memᴰ.cast e i
+  way-stays z h (go (inl m) w) i (there k) = way-stays z h w (h _ _ m).1 k
+  way-stays z h (go (inr m) w) i (there k) = way-stays z h w (h _ _ m).0 k
+  way-stays z h (stop e) i (there k) = elim k [ ]
+
   way-inside : {X : List A} {T : List (A × A)} {x y : A} {ps : List A} → Inside X T → Way T x ps y → x ∈ X → Among (x ∷ ps) X
-  way-inside h w i z (here e) = Memᴰ.cast e i
-  way-inside h (go (inl m) w) i z (there k) = way-inside h w (h _ _ m).1 z k
-  way-inside h (go (inr m) w) i z (there k) = way-inside h w (h _ _ m).0 z k
-  way-inside h (stop e) i z (there k) = elim k [ ]
+  way-inside h w i z m = way-stays z h w i m
 
 -- points in order are told by their places
 pub point-one : (pts : List ℤ) (n : ℕ) → InOrder pts n → (i j : ℕ) → i < n → j < n → place_at pts i ≡ place_at pts j → i ≡ j

@@ -165,10 +165,13 @@ module _ (net : Net) (g : Ground) (t : Tree) (ground : Grounded net g) (sound : 
       (before-irrefl (vertex_at g y)))
       (λ c. omega (arith, ltb-false x y b, ltb-false y x c)))
 
+  way-stays : (z : ℕ) {u r : ℕ} {ys : List ℕ} → u < g.count → Way (pairs g.graph) u ys r → z ∈ (u ∷ ys) → z < g.count
+  way-stays z h w (here e) = omega (arith, e)
+  way-stays z h (stop e) (there m) = elim m [ ]
+  way-stays z {u} h (go {y = y} l w) (there m) = way-stays z (link-in (setting net g t ground sound) u y l).far-in w m
+
   pub way-low : {u r : ℕ} {ys : List ℕ} → u < g.count → Way (pairs g.graph) u ys r → (z : ℕ) → z ∈ (u ∷ ys) → z < g.count
-  way-low h w z (here e) = omega (arith, e)
-  way-low h (stop e) z (there m) = elim m [ ]
-  way-low {u} h (go {y = y} l w) z (there m) = way-low (link-in (setting net g t ground sound) u y l).far-in w z m
+  way-low h w z m = way-stays z h w m
 
   hang : {r : ℕ} (k l v : ℕ) → vertex_at g r ≡ place_at t.points v → {u : ℕ} {ys : List ℕ} → u < g.count →
       Way (pairs g.graph) u ys r → Once (u ∷ ys) →

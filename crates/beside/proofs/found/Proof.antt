@@ -10,50 +10,50 @@ use borrow.Author.Rules.{rules}
 use Rattle.beside.proofs.found.Statement.{statement}
 use Rattle.beside.proofs.found.Tie as tie
 
-costs-requires : tie.Need-costs-requires
+costs-requires : tie.Need-costs-most-requires
 costs-requires c κs =
-    let p = c.before.requires.0 in
+    let p = c.requires.0 in
     ((omega (arith, p.size, p.few), within-small _ _ p.few p.within), low_zeros tree_bound)
 
 reached-requires : tie.Need-reached-requires
 reached-requires c κs =
-    let p = c.before.before.before.before.before.requires.0 in
+    let p = c.requires.0 in
     (omega (arith, p.size, p.few), within-small _ _ p.few p.within)
 
 renew-requires : tie.Need-renew-requires
 renew-requires c κs =
-    let r = c.before.before.before.before.before in
-    let k = r.before.before.before.before in
-    let s = k.before.before in
+    let r = c in
+    let k = r in
+    let s = k in
     let p = s.requires.0 in (
       ((p.few, omega (arith, p.size, p.few)), (p.within, s.requires.1.1.1.1.1.0)),
       (
-        (k.costs.ensures.1, found-hanging _ _ _ _ _ _ _ _ k.costs.ensures.0 p r.reached.ensures),
+        (k.costs-most.ensures.1, found-hanging _ _ _ _ _ _ _ _ k.costs-most.ensures.0 p r.reached.ensures),
         s.requires.1.1.1.1.1.1,
       ),
     )
 
-search-requires : tie.Need-search-requires
+search-requires : tie.Need-search-on-requires
 search-requires c κs =
-    let m = c.before.before.before.before.before in
-    let r = m.before.before.before.before.before.before in
-    let k = r.before.before.before.before in
-    let s = k.before.before in
+    let m = c in
+    let r = m in
+    let k = r in
+    let s = k in
     let p = s.requires.0 in (
       (omega (arith, p.size, p.few), (p.few, p.within)),
       (
         s.requires.1.1.0,
-        ((k.costs.ensures.1, found-hanging _ _ _ _ _ _ _ _ k.costs.ensures.0 p r.reached.ensures), m.renew.ensures),
+        ((k.costs-most.ensures.1, found-hanging _ _ _ _ _ _ _ _ k.costs-most.ensures.0 p r.reached.ensures), m.renew.ensures),
       ),
     )
 
-search-requires-2 : tie.Need-search-requires-2
+search-requires-2 : tie.Need-search-off-requires
 search-requires-2 c κs =
-    let on = c.before.before.before.before in
-    let m = on.before.before.before.before.before.before in
-    let r = m.before.before.before.before.before.before in
-    let k = r.before.before.before.before in
-    let s = k.before.before in
+    let on = c in
+    let m = on in
+    let r = m in
+    let k = r in
+    let s = k in
     let p = s.requires.0 in (
       (omega (arith, p.size, p.few), (p.few, p.within)),
       (
@@ -62,40 +62,40 @@ search-requires-2 c κs =
           s.requires.1.1.1.0,
           (
             s.requires.1.1.1.1.0,
-            (k.costs.ensures.1, found-hanging _ _ _ _ _ _ _ _ k.costs.ensures.0 p r.reached.ensures),
+            (k.costs-most.ensures.1, found-hanging _ _ _ _ _ _ _ _ k.costs-most.ensures.0 p r.reached.ensures),
           ),
         ),
       ),
     )
 
-returns : tie.Need-returns
+returns : tie.Need-returns-then-on-off
 returns c =
-    let off = c.before.before.before in
-    let on = off.before.before.before.before.before in
-    let r = on.before.before.before.before.before.before.before.before.before.before.before.before in
-    let k = r.before.before.before.before in
-    let p = k.before.before.requires.0 in (
-      chosen_is _ _ _ _ _ _ _ _ _ _ _ _ _ _ k.costs.ensures.0 on.search.ensures.0 off.search2.ensures _
-          (either-off _ _ c.if1.true),
-      found-held _ _ _ _ _ _ _ _ _ k.costs.ensures.0
-          (found-hanging _ _ _ _ _ _ _ _ k.costs.ensures.0 p r.reached.ensures) on.search.ensures.1,
+    let off = c in
+    let on = off in
+    let r = on in
+    let k = r in
+    let p = k.requires.0 in (
+      chosen_is _ _ _ _ _ _ _ _ _ _ _ _ _ _ k.costs-most.ensures.0 on.search-on.ensures.0 off.search-off.ensures _
+          (either-off _ _ c.if-on-off.true),
+      found-held _ _ _ _ _ _ _ _ _ k.costs-most.ensures.0
+          (found-hanging _ _ _ _ _ _ _ _ k.costs-most.ensures.0 p r.reached.ensures) on.search-on.ensures.1,
     )
 
-returns-2 : tie.Need-returns-2
+returns-2 : tie.Need-returns
 returns-2 c =
-    let off = c.before.before.before in
-    let on = off.before.before.before.before.before in
-    let r = on.before.before.before.before.before.before.before.before.before.before.before.before in
-    let k = r.before.before.before.before in
-    let p = k.before.before.requires.0 in (
-      chosen_is _ _ _ _ _ _ _ _ _ _ _ _ _ _ k.costs.ensures.0 on.search.ensures.0 off.search2.ensures _
-          (either-on _ _ c.if1.false),
-      found-held _ _ _ _ _ _ _ _ _ k.costs.ensures.0
-          (found-hanging _ _ _ _ _ _ _ _ k.costs.ensures.0 p r.reached.ensures) on.search.ensures.1,
+    let off = c in
+    let on = off in
+    let r = on in
+    let k = r in
+    let p = k.requires.0 in (
+      chosen_is _ _ _ _ _ _ _ _ _ _ _ _ _ _ k.costs-most.ensures.0 on.search-on.ensures.0 off.search-off.ensures _
+          (either-on _ _ c.if-on-off.false),
+      found-held _ _ _ _ _ _ _ _ _ k.costs-most.ensures.0
+          (found-hanging _ _ _ _ _ _ _ _ k.costs-most.ensures.0 p r.reached.ensures) on.search-on.ensures.1,
     )
 
-pub found-spec : {M : Type 1} → statement M
-found-spec =
+pub found_spec : {M : Type 1} → statement M
+found_spec =
     tie.close
     (tie.spec
     costs-requires (λ c. search rules) reached-requires renew-requires search-requires search-requires-2 returns

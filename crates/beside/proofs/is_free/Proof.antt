@@ -6,32 +6,32 @@ use borrow.Author.Rules.{rules}
 use Rattle.beside.proofs.is_free.Statement.{statement}
 use Rattle.beside.proofs.is_free.Tie as tie
 
-returns : tie.Need-returns
+returns : tie.Need-returns-then-is_dropped
 returns c =
-    let d = c.before in
-    let s = d.before.before in
-    let p = s.before in
-    free-dropped _ _ _ _ _ _ _ _ _ _ _ _ _ p.before.before.point_at.ensures p.before.point-at2.ensures p.vertex-at.ensures
-    (sym s.sees.ensures ∙ d.before.if1.true) (sym d.is-dropped.ensures ∙ c.if2.true)
+    let d = c in
+    let s = d in
+    let p = s in
+    free-dropped _ _ _ _ _ _ _ _ _ _ _ _ _ p.point_at.ensures p.point_at-2.ensures p.vertex_at.ensures
+    (sym s.sees.ensures ∙ d.if-sees.true) (sym d.is_dropped.ensures ∙ c.if-is_dropped.true)
 
-returns-2 : tie.Need-returns-2
+returns-2 : tie.Need-returns-then-sees
 returns-2 c =
-    let e = c.before in
-    let d = e.before in
-    let s = d.before.before in
-    let p = s.before in
-    free-way _ _ _ _ _ _ _ _ _ _ _ _ _ p.before.before.point_at.ensures p.before.point-at2.ensures p.vertex-at.ensures
-    (sym s.sees.ensures ∙ d.before.if1.true) (sym d.is-dropped.ensures ∙ e.if2.false) _ c.on-way.ensures
+    let e = c in
+    let d = e in
+    let s = d in
+    let p = s in
+    free-way _ _ _ _ _ _ _ _ _ _ _ _ _ p.point_at.ensures p.point_at-2.ensures p.vertex_at.ensures
+    (sym s.sees.ensures ∙ d.if-sees.true) (sym d.is_dropped.ensures ∙ e.if-is_dropped.false) _ c.on_way.ensures
 
-returns-3 : tie.Need-returns-3
+returns-3 : tie.Need-returns
 returns-3 c =
-    let s = c.before in
-    let p = s.before in
-    free-unseen _ _ _ _ _ _ _ _ _ _ _ _ _ p.before.before.point_at.ensures p.before.point-at2.ensures p.vertex-at.ensures
-    (sym s.sees.ensures ∙ c.if1.false)
+    let s = c in
+    let p = s in
+    free-unseen _ _ _ _ _ _ _ _ _ _ _ _ _ p.point_at.ensures p.point_at-2.ensures p.vertex_at.ensures
+    (sym s.sees.ensures ∙ c.if-sees.false)
 
-pub is-free-spec : {M : Type 1} → statement M
-is-free-spec =
+pub is_free_spec : {M : Type 1} → statement M
+is_free_spec =
     tie.close
     (tie.spec
     (λ c κs. search rules) (λ c κs. search rules) (λ c κs. search rules) (λ c κs. search rules) (λ c κs. search rules)

@@ -6,13 +6,13 @@ use Rattle.beside.proofs.is_point.Statement.{statement}
 use Rattle.beside.proofs.is_point.Tie as tie
 
 rank-requires : tie.Need-rank-requires
-rank-requires c κs = c.before.requires.1
+rank-requires c κs = c.requires.1
 
 stands-requires : tie.Need-stands-requires
-stands-requires c κs = c.before.before.requires.0
+stands-requires c κs = c.requires.0
 
 returns : tie.Need-returns
-returns c = is-point-is _ _ _ _ _ c.before.rank.ensures.0 c.stands.ensures
+returns c = is-point-is _ _ _ _ _ c.rank.ensures.0 c.stands.ensures
 
-pub is-point-spec : {M : Type 1} → statement M
-is-point-spec = tie.close (tie.spec rank-requires stands-requires returns)
+pub is_point_spec : {M : Type 1} → statement M
+is_point_spec = tie.close (tie.spec rank-requires stands-requires returns)

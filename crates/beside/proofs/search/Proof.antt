@@ -11,33 +11,33 @@ use Rattle.lists.proofs.TurnLaws.{turns-none, turns_next, turns-end}
 use Rattle.beside.proofs.search.Statement.{statement}
 use Rattle.beside.proofs.search.Tie as tie
 
-abbrev invariant-loop : tie.invariant-loop
+abbrev invariant-loop : tie.invariant-loop-k
 invariant-loop w pts n macros keys e el most onto link turn vertices v far up seat found₀ k₀ found k =
     (k ≤ e) × (turns (offers w pts n (macros_of macros) keys el (longest keys el e n) vertices v far up seat) k (e - k) found
     ≡ turns (offers w pts n (macros_of macros) keys el (longest keys el e n) vertices v far up seat) 0 e found₀)
 
-abbrev decreases-loop : tie.decreases-loop
+abbrev decreases-loop : tie.decreases-loop-k
 decreases-loop w pts n macros keys e el most onto link turn vertices v far up seat found₀ k₀ found k = e - k
 
-loop-holds : tie.Need-loop-init invariant-loop decreases-loop
+loop-holds : tie.Need-loop-k-init invariant-loop decreases-loop
 loop-holds c = (omega arith, turns-none _ _ _)
 
-offers-requires : tie.Need-offers-requires invariant-loop decreases-loop
+offers-requires : tie.Need-offers-found-requires invariant-loop decreases-loop
 offers-requires c κs =
-    let s = c.before.before in
+    let s = c in
     (((omega arith, s.requires.0.0), s.requires.0.1), s.requires.1)
 
-loop-again : tie.Need-loop-preserved invariant-loop decreases-loop
+loop-again : tie.Need-loop-k-preserved invariant-loop decreases-loop
 loop-again c = (
   omega arith,
-  turns_next _ _ _ _ _ _ c.before.before.loop.invariant.1 (omega arith) c.offers.ensures,
+  turns_next _ _ _ _ _ _ c.loop-k.invariant.1 (omega arith) c.offers-found.ensures,
 )
 
 returns : tie.Need-returns invariant-loop decreases-loop
 unfolding search
-returns c = turns-end _ _ _ _ _ c.before.loop.invariant.1 (omega arith)
+returns c = turns-end _ _ _ _ _ c.loop-k.invariant.1 (omega arith)
 
-pub search-spec : {M : Type 1} → statement M
-search-spec =
+pub search_spec : {M : Type 1} → statement M
+search_spec =
     tie.close
     (tie.spec invariant-loop decreases-loop loop-holds offers-requires (λ c. omega arith) (λ c. omega arith) loop-again returns)

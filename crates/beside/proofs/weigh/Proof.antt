@@ -10,44 +10,44 @@ use Rattle.beside.proofs.weigh.Tie as tie
 
 -- the places and the costs by their names
 spots : (c : tie.After-cost)
-    → let s = c.before.before.before.before.before.args in
+    → let s = c.args in
     Spots s.w s.pts.now s.vertices.now s.far.now s.a s.b s.u
-    c.before.before.before.point_at.result c.before.before.point-at2.result
-    c.before.before.before.before.vertex-at.result c.before.middle-place.result c.cost.result
+    c.point_at.result c.point_at-2.result
+    c.vertex_at-r.result c.middle_place-s.result c.cost.result
     (get_or s.far.now s.u 0)
 spots c =
-    let m = c.before in
+    let m = c in
     record {
-      one = m.before.before.point_at.ensures;
-      two = m.before.point-at2.ensures;
-      three = m.before.before.before.vertex-at.ensures;
-      mid = m.middle-place.ensures;
+      one = m.point_at.ensures;
+      two = m.point_at-2.ensures;
+      three = m.vertex_at-r.ensures;
+      mid = m.middle_place-s.ensures;
       metal = c.cost.ensures.0;
       far = refl;
     }
 
-add-d : tie.Need-overflow-add-d
+add-d : tie.Need-overflow_add-d
 add-d c =
-    let k = c.before in
-    let s = k.before.before.before.before.before in
+    let k = c in
+    let s = k in
     omega (arith, k.cost.ensures.1, s.requires.1.0.low s.args.u)
 
-returns : tie.Need-returns
-returns c = weigh-low _ _ _ _ _ _ _ _ _ _ _ _ _ _ _ _ _ _ _ _ (spots c.before.before) (omega (arith, c.if1.true))
+returns : tie.Need-returns-then-long-d
+returns c = weigh-low _ _ _ _ _ _ _ _ _ _ _ _ _ _ _ _ _ _ _ _ (spots c.before.before.before) (omega (arith, c.if-long-d.true))
 
-returns-2 : tie.Need-returns-2
-returns-2 c = weigh-low _ _ _ _ _ _ _ _ _ _ _ _ _ _ _ _ _ _ _ _ (spots c.before.before.before.before) (omega (arith, c.if2.true))
+returns-2 : tie.Need-returns-then-g-c
+returns-2 c = weigh-low _ _ _ _ _ _ _ _ _ _ _ _ _ _ _ _ _ _ _ _ (spots c.before.before.before.before.before) (omega (arith, c.if-g-c.true))
 
-returns-3 : tie.Need-returns-3
+returns-3 : tie.Need-returns-then-is_free
 returns-3 c =
-    weigh-yes _ _ _ _ _ _ _ _ _ _ _ _ _ _ _ _ _ _ _ _ (spots c.before.before.before.before.before.before) _ refl (omega (arith, c.before.before.if2.false, c.before.before.before.before.if1.false))
-    (sym c.before.is_free.ensures ∙ c.if3.true)
+    weigh-yes _ _ _ _ _ _ _ _ _ _ _ _ _ _ _ _ _ _ _ _ (spots c.before.before.before.before.before.before.before) _ refl (omega (arith, c.if-g-c.false, c.if-long-d.false))
+    (sym c.is_free.ensures ∙ c.if-is_free.true)
 
-returns-4 : tie.Need-returns-4
-returns-4 c = weigh-no _ _ _ _ _ _ _ _ _ _ _ _ _ _ _ _ _ _ _ _ (spots c.before.before.before.before.before.before) (sym c.before.is_free.ensures ∙ c.if3.false)
+returns-4 : tie.Need-returns
+returns-4 c = weigh-no _ _ _ _ _ _ _ _ _ _ _ _ _ _ _ _ _ _ _ _ (spots c.before.before.before.before.before.before.before) (sym c.is_free.ensures ∙ c.if-is_free.false)
 
-pub weigh-spec : {M : Type 1} → statement M
-weigh-spec =
+pub weigh_spec : {M : Type 1} → statement M
+weigh_spec =
     tie.close
     (tie.spec
     (λ c κs. search rules) (λ c κs. search rules) (λ c κs. search rules) (λ c κs. search rules) (λ c κs. search rules)

@@ -13,142 +13,142 @@ use Rattle.bounds.proofs.CarryLaws.{Carrying, carrying-start, carrying-next}
 use Rattle.bounds.proofs.carry.Statement.{statement}
 use Rattle.bounds.proofs.carry.Tie as tie
 
-abbrev invariant-loop : tie.invariant-loop
+abbrev invariant-loop : tie.invariant-loop-j
 invariant-loop before f at keys e most bound next₀ j₀ k₀ next j k =
     ((j ≤ f) × (k ≤ e)) × Carrying before f at keys e most bound next
 
-abbrev decreases-loop : tie.decreases-loop
+abbrev decreases-loop : tie.decreases-loop-j
 decreases-loop before f at keys e most bound next₀ j₀ k₀ next j k = (f - j) + (e - k)
 
 both : (j f k e : ℕ) → (ltb j f && ltb k e) ≡ true → (j < f) × (k < e)
 both j f k e t = (ltb-true j f (and_left (ltb j f) (ltb k e) t), ltb-true k e (and_right (ltb j f) (ltb k e) t))
 
-loop-holds : tie.Need-loop-init invariant-loop decreases-loop
+loop-holds : tie.Need-loop-j-init invariant-loop decreases-loop
 loop-holds c = ((omega arith, omega arith), carrying-start _ _ _ _ _ _ _ c.requires.0.0.1)
 
-key-now-requires : tie.Need-key-now-requires invariant-loop decreases-loop
+key-now-requires : tie.Need-key_now-p-requires invariant-loop decreases-loop
 key-now-requires c κs =
-    let l = c.before in
-    let s = l.before in
-    let g = both l.loop.j s.args.f l.loop.k s.args.e c.loop-test.true in
+    let l = c in
+    let s = l in
+    let g = both l.loop-j.j s.args.f l.loop-j.k s.args.e c.loop-j-test.true in
     ((omega (arith, g.0, s.requires.0.0.0), s.requires.0.1.0), s.requires.0.1.1)
 
-mul-q : tie.Need-overflow-mul-q invariant-loop decreases-loop
+mul-q : tie.Need-offset_bounds-keys-k invariant-loop decreases-loop
 mul-q c =
-    let l = c.before.before in
-    let s = l.before in
-    let g = both l.loop.j s.args.f l.loop.k s.args.e c.before.loop-test.true in
+    let l = c in
+    let s = l in
+    let g = both l.loop-j.j s.args.f l.loop-j.k s.args.e c.loop-j-test.true in
     omega (arith, g.1, s.requires.0.0.1)
 
-element-copy-out-q : tie.Need-element-copy-out-q invariant-loop decreases-loop
+element-copy-out-q : tie.Need-bounds-keys-k invariant-loop decreases-loop
 element-copy-out-q c =
-    let l = c.before.before in
-    let s = l.before in
-    let g = both l.loop.j s.args.f l.loop.k s.args.e c.before.loop-test.true in
+    let l = c in
+    let s = l in
+    let g = both l.loop-j.j s.args.f l.loop-j.k s.args.e c.loop-j-test.true in
     omega (arith, g.1, s.requires.0.0.1)
 
-add-j : tie.Need-overflow-add-j invariant-loop decreases-loop
+add-j : tie.Need-overflow_add-j invariant-loop decreases-loop
 add-j c =
-    let l = c.before.before.before.before in
-    let s = l.before in
-    let g = both l.loop.j s.args.f l.loop.k s.args.e c.before.before.before.loop-test.true in
+    let l = c in
+    let s = l in
+    let g = both l.loop-j.j s.args.f l.loop-j.k s.args.e c.loop-j-test.true in
     omega (arith, g.0, s.requires.0.0.0)
 
-loop-less : tie.Need-loop-smaller invariant-loop decreases-loop
+loop-less : tie.Need-loop-j-smaller-then-p-q invariant-loop decreases-loop
 loop-less c =
-    let l = c.before.before.before.before in
-    let s = l.before in
-    let g = both l.loop.j s.args.f l.loop.k s.args.e c.before.before.before.loop-test.true in
+    let l = c in
+    let s = l in
+    let g = both l.loop-j.j s.args.f l.loop-j.k s.args.e c.loop-j-test.true in
     omega (arith, g)
 
-loop-again : tie.Need-loop-preserved invariant-loop decreases-loop
+loop-again : tie.Need-loop-j-preserved-then-p-q invariant-loop decreases-loop
 loop-again c =
-    let l = c.before.before.before.before in
-    let s = l.before in
-    let g = both l.loop.j s.args.f l.loop.k s.args.e c.before.before.before.loop-test.true in
-    ((omega (arith, g.0), l.loop.invariant.0.1), l.loop.invariant.1)
+    let l = c in
+    let s = l in
+    let g = both l.loop-j.j s.args.f l.loop-j.k s.args.e c.loop-j-test.true in
+    ((omega (arith, g.0), l.loop-j.invariant.0.1), l.loop-j.invariant.1)
 
-add-k : tie.Need-overflow-add-k invariant-loop decreases-loop
+add-k : tie.Need-overflow_add-k invariant-loop decreases-loop
 add-k c =
-    let l = c.before.before.before.before.before in
-    let s = l.before in
-    let g = both l.loop.j s.args.f l.loop.k s.args.e c.before.before.before.before.loop-test.true in
+    let l = c in
+    let s = l in
+    let g = both l.loop-j.j s.args.f l.loop-j.k s.args.e c.loop-j-test.true in
     omega (arith, g.1, s.requires.0.0.1)
 
-loop-less-2 : tie.Need-loop-smaller-2 invariant-loop decreases-loop
+loop-less-2 : tie.Need-loop-j-smaller-then-q-p invariant-loop decreases-loop
 loop-less-2 c =
-    let l = c.before.before.before.before.before in
-    let s = l.before in
-    let g = both l.loop.j s.args.f l.loop.k s.args.e c.before.before.before.before.loop-test.true in
+    let l = c in
+    let s = l in
+    let g = both l.loop-j.j s.args.f l.loop-j.k s.args.e c.loop-j-test.true in
     omega (arith, g)
 
-loop-again-2 : tie.Need-loop-preserved-2 invariant-loop decreases-loop
+loop-again-2 : tie.Need-loop-j-preserved-then-q-p invariant-loop decreases-loop
 loop-again-2 c =
-    let l = c.before.before.before.before.before in
-    let s = l.before in
-    let g = both l.loop.j s.args.f l.loop.k s.args.e c.before.before.before.before.loop-test.true in
-    ((l.loop.invariant.0.0, omega (arith, g.1)), l.loop.invariant.1)
+    let l = c in
+    let s = l in
+    let g = both l.loop-j.j s.args.f l.loop-j.k s.args.e c.loop-j-test.true in
+    ((l.loop-j.invariant.0.0, omega (arith, g.1)), l.loop-j.invariant.1)
 
-mul_next : tie.Need-overflow-mul-next invariant-loop decreases-loop
+mul_next : tie.Need-offset_bounds-bound-j invariant-loop decreases-loop
 mul_next c =
-    let l = c.before.before.before.before.before in
-    let s = l.before in
-    let g = both l.loop.j s.args.f l.loop.k s.args.e c.before.before.before.before.loop-test.true in
+    let l = c in
+    let s = l in
+    let g = both l.loop-j.j s.args.f l.loop-j.k s.args.e c.loop-j-test.true in
     omega (arith, g.0, s.requires.0.0.0)
 
-element-copy-out-next : tie.Need-element-copy-out-next invariant-loop decreases-loop
+element-copy-out-next : tie.Need-bounds-bound-j invariant-loop decreases-loop
 element-copy-out-next c =
-    let l = c.before.before.before.before.before in
-    let s = l.before in
-    let g = both l.loop.j s.args.f l.loop.k s.args.e c.before.before.before.before.loop-test.true in
+    let l = c in
+    let s = l in
+    let g = both l.loop-j.j s.args.f l.loop-j.k s.args.e c.loop-j-test.true in
     omega (arith, g.0, s.requires.0.0.0)
 
-mul-next-2 : tie.Need-overflow-mul-next-2 invariant-loop decreases-loop
+mul-next-2 : tie.Need-offset_bounds-next-k invariant-loop decreases-loop
 mul-next-2 c =
-    let l = c.before.before.before.before.before.before in
-    let s = l.before in
-    let g = both l.loop.j s.args.f l.loop.k s.args.e c.before.before.before.before.before.loop-test.true in
+    let l = c in
+    let s = l in
+    let g = both l.loop-j.j s.args.f l.loop-j.k s.args.e c.loop-j-test.true in
     omega (arith, g.1, s.requires.0.0.1)
 
-array-write-next : tie.Need-array-write-next invariant-loop decreases-loop
+array-write-next : tie.Need-bounds-next-k invariant-loop decreases-loop
 array-write-next c =
-    let l = c.before.before.before.before.before.before in
-    let s = l.before in
-    let g = both l.loop.j s.args.f l.loop.k s.args.e c.before.before.before.before.before.loop-test.true in
+    let l = c in
+    let s = l in
+    let g = both l.loop-j.j s.args.f l.loop-j.k s.args.e c.loop-j-test.true in
     omega (arith, g.1, s.requires.0.0.1)
 
-add-k-2 : tie.Need-overflow-add-k-2 invariant-loop decreases-loop
+add-k-2 : tie.Need-overflow_add-k-else-q-p invariant-loop decreases-loop
 add-k-2 c =
-    let l = c.before.before.before.before.before.before in
-    let s = l.before in
-    let g = both l.loop.j s.args.f l.loop.k s.args.e c.before.before.before.before.before.loop-test.true in
+    let l = c in
+    let s = l in
+    let g = both l.loop-j.j s.args.f l.loop-j.k s.args.e c.loop-j-test.true in
     omega (arith, g.1, s.requires.0.0.1)
 
-loop-less-3 : tie.Need-loop-smaller-3 invariant-loop decreases-loop
+loop-less-3 : tie.Need-loop-j-smaller invariant-loop decreases-loop
 loop-less-3 c =
-    let l = c.before.before.before.before.before.before in
-    let s = l.before in
-    let g = both l.loop.j s.args.f l.loop.k s.args.e c.before.before.before.before.before.loop-test.true in
+    let l = c in
+    let s = l in
+    let g = both l.loop-j.j s.args.f l.loop-j.k s.args.e c.loop-j-test.true in
     omega (arith, g)
 
-loop-again-3 : tie.Need-loop-preserved-3 invariant-loop decreases-loop
+loop-again-3 : tie.Need-loop-j-preserved invariant-loop decreases-loop
 loop-again-3 c =
-    let l = c.before.before.before.before.before.before in
-    let s = l.before in
-    let g = both l.loop.j s.args.f l.loop.k s.args.e c.before.before.before.before.before.loop-test.true in
-    let k = c.before.before.before.before.key-now in
-    let q : k.result ≡ get_or s.args.keys.now l.loop.k 0 = omega (arith, c.before.if2.false, c.before.before.if1.false) in (
-      (l.loop.invariant.0.0, omega (arith, g.1)),
-      carrying-next _ _ _ _ _ _ _ _ _ _ l.loop.invariant.1 g.0 g.1 s.requires.0.0.1 (sym k.ensures ∙ q),
+    let l = c in
+    let s = l in
+    let g = both l.loop-j.j s.args.f l.loop-j.k s.args.e c.loop-j-test.true in
+    let k = c.key_now-p in
+    let q : k.result ≡ get_or s.args.keys.now l.loop-j.k 0 = omega (arith, c.if-q-p.false, c.if-p-q.false) in (
+      (l.loop-j.invariant.0.0, omega (arith, g.1)),
+      carrying-next _ _ _ _ _ _ _ _ _ _ l.loop-j.invariant.1 g.0 g.1 s.requires.0.0.1 (sym k.ensures ∙ q),
     )
 
 returns : tie.Need-returns invariant-loop decreases-loop
 returns c =
-    let l = c.before in
-    (l.loop.invariant.1.each, l.loop.invariant.1.room)
+    let l = c in
+    (l.loop-j.invariant.1.each, l.loop-j.invariant.1.room)
 
-pub carry-spec : {M : Type 1} → statement M
-carry-spec =
+pub carry_spec : {M : Type 1} → statement M
+carry_spec =
     tie.close
     (tie.spec
     invariant-loop decreases-loop loop-holds key-now-requires mul-q element-copy-out-q add-j loop-less loop-again add-k loop-less-2

@@ -6,11 +6,11 @@ use Rattle.lists.proofs.TestLaws.{differ}
 use Rattle.bounds.proofs.hangs.Statement.{statement}
 use Rattle.bounds.proofs.hangs.Tie as tie
 
-returns-2 : tie.Need-returns-2
+returns-2 : tie.Need-returns
 returns-2 c = λ e. differ e refl
 
-pub hangs-spec : {M : Type 1} → statement M
-hangs-spec =
+pub hangs_spec : {M : Type 1} → statement M
+hangs_spec =
     tie.close
     (tie.spec
     (λ c. search rules) (λ c. search rules) (λ c. search rules) (λ c. search rules) (λ c. search rules) (λ c. search rules)

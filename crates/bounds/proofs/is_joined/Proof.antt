@@ -10,12 +10,12 @@ use Rattle.bounds.proofs.is_joined.Tie as tie
 
 returns : tie.Need-returns
 returns c = λ t told e.
-    let s = c.before.before.before.before in
-    let d = c.before.cost.ensures.0
-    ∙ ap₂ (cost s.args.w) c.before.before.before.point_at.ensures c.before.before.point-at2.ensures in
-    omega (arith, leb-true c.between.result c.before.cost.result e, c.between.ensures t told, d)
+    let s = c in
+    let d = c.cost-d.ensures.0
+    ∙ ap₂ (cost s.args.w) c.point_at.ensures c.point_at-2.ensures in
+    omega (arith, leb-true c.between.result c.cost-d.result e, c.between.ensures t told, d)
 
-pub is-joined-spec : {M : Type 1} → statement M
-is-joined-spec =
+pub is_joined_spec : {M : Type 1} → statement M
+is_joined_spec =
     tie.close
     (tie.spec (λ c κs. search rules) (λ c κs. search rules) (λ c κs. search rules) (λ c κs. search rules) returns)

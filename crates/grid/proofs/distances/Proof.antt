@@ -12,71 +12,71 @@ use Rattle.grid.proofs.distances.Tie as tie
 small : (s : tie.Start) → Small s.args.w s.args.pins.now s.args.macros.now
 small s = record { allowed = s.requires.0; few-pins = s.requires.1.0.0; few-macros = s.requires.1.0.1 }
 
-abbrev start_of : tie.After-lines2 → tie.Start
+abbrev start_of : tie.After-lines-along → tie.Start
 start_of d = d.before.before.before.before.before
 
-abbrev lines_of : tie.After-put-costs → tie.After-lines2
+abbrev lines_of : tie.After-put_costs-e → tie.After-lines-along
 lines_of p = p.before.before.before.before.before
 
-across-of : (d : tie.After-lines2) → let s = start_of d in
-    Lined Across s.args.pins.now s.args.macros.now d.before.before.before.lines.result
-    d.before.before.before.lines.new.1.1.1.0
+across-of : (d : tie.After-lines-along) → let s = start_of d in
+    Lined Across s.args.pins.now s.args.macros.now d.lines-across.result
+    d.lines-across.new.table
 across-of d = record {
   lent = _;
   fresh = refl;
-  count = d.before.before.before.lines.ensures.0;
+  count = d.lines-across.ensures.0;
   list =
-      d.before.before.before.lines.ensures.1;
+      d.lines-across.ensures.1;
 }
 
-along-of : (d : tie.After-lines2) → let s = start_of d in
-    Lined Along s.args.pins.now s.args.macros.now d.lines2.result d.lines2.new.1.1.1.0
-along-of d = record { lent = _; fresh = refl; count = d.lines2.ensures.0; list = d.lines2.ensures.1 }
+along-of : (d : tie.After-lines-along) → let s = start_of d in
+    Lined Along s.args.pins.now s.args.macros.now d.lines-along.result d.lines-along.new.table
+along-of d = record { lent = _; fresh = refl; count = d.lines-along.ensures.0; list = d.lines-along.ensures.1 }
 
-put-costs-requires : tie.Need-put-costs-requires
+put-costs-requires : tie.Need-put_costs-e-requires
 put-costs-requires c κs =
     let d = c.before.before.before.before in
     let s = small (start_of d) in
     ((whole-few s (across-of d) (along-of d), refl), whole-priced s (across-of d) (along-of d))
 
-number-pins-requires : tie.Need-number-pins-requires
+number-pins-requires : tie.Need-number_pins-requires
 number-pins-requires c κs =
     let d = lines_of c.before.before.before in
     let s = start_of d in (
       (whole-few (small s) (across-of d) (along-of d), (table-long (small s) (across-of d), table-long (small s) (along-of d))),
-      (s.pre.1.0.0, refl),
+      (s.requires.1.0.0, refl),
     )
 
-give-rows-requires : tie.Need-give-rows-requires
+give-rows-requires : tie.Need-give_rows-requires
 give-rows-requires c κs =
-    let n = c.before.before.before.before in
+    let n = c in
     let p = c.before.before.before.before.before.before.before.before in
     let d = lines_of p in
     let s = start_of d in
-    let m = c.before.pin-count.ensures in
-    let below = whole_below (small s) (across-of d) (along-of d) p.put-costs.ensures.0 p.put-costs.ensures.1 _ _ refl
-    n.number-pins.ensures in
-    let count = whole-count (small s) (across-of d) (along-of d) p.put-costs.ensures.0 p.put-costs.ensures.1 _ _ refl
-    n.number-pins.ensures in (
+    let m = c.pin_count.ensures in
+    let below = whole_below (small s) (across-of d) (along-of d) p.put_costs-e.ensures.0 p.put_costs-e.ensures.1 _ _ refl
+    n.number_pins.ensures in
+    let count = whole-count (small s) (across-of d) (along-of d) p.put_costs-e.ensures.0 p.put_costs-e.ensures.1 _ _ refl
+    n.number_pins.ensures in (
       (
-        whole-fits (small s) (across-of d) (along-of d) p.put-costs.ensures.0 p.put-costs.ensures.1,
-        (rw m s.pre.1.0.0, (below, count)),
+        whole-fits (small s) (across-of d) (along-of d) p.put_costs-e.ensures.0 p.put_costs-e.ensures.1,
+        (rw m s.requires.1.0.0, (below, count)),
       ),
-      rw m s.pre.1.1,
+      rw m s.requires.1.1,
     )
 
 returns : tie.Need-returns
 returns c =
-    let g = c.before in
-    let n = g.before.before.before.before.before in
-    let p = n.before.before.before.before in
+    let g = c in
+    let n = g in
+    let p = n.before.before.before.before.before.before.before.before.before.before in
     let d = lines_of p in
-    whole-square (small (start_of d)) (across-of d) (along-of d) p.put-costs.ensures.0 p.put-costs.ensures.1 _ _ refl
-    n.number-pins.ensures
-    _ _ (rw g.before.before.pin-count.ensures at g.give-rows.ensures)
+    whole-square (small (start_of d)) (across-of d) (along-of d) p.put_costs-e.ensures.0 p.put_costs-e.ensures.1 _ _ refl
+    n.number_pins.ensures
+    _ _ (rw g.pin_count.ensures at g.give_rows.ensures)
 
-pub distances-spec : {M : Type 1} → statement M
-distances-spec =
+pub distances_spec : {M : Type 1} → statement M
+distances_spec =
     tie.close
     (tie.spec
     (λ c. search rules) (λ c κs. search rules) (λ c. search rules) (λ c κs. search rules) put-costs-requires

@@ -5,11 +5,11 @@ use borrow.Author.Rules.{rules}
 use Rattle.grid.proofs.is_segment.Statement.{statement}
 use Rattle.grid.proofs.is_segment.Tie as tie
 
-returns : tie.Need-returns
-returns c = segment-even _ _ c.before.before.if1.true
+returns : tie.Need-returns-then-k-eq0
+returns c = segment-even _ _ c.if-k-eq0.true
 
-returns-2 : tie.Need-returns-2
-returns-2 c = segment-odd _ _ c.before.before.if1.false
+returns-2 : tie.Need-returns
+returns-2 c = segment-odd _ _ c.if-k-eq0.false
 
-pub is-segment-spec : {M : Type 1} → statement M
-is-segment-spec = tie.close (tie.spec (λ c. search rules) returns (λ c. search rules) returns-2)
+pub is_segment_spec : {M : Type 1} → statement M
+is_segment_spec = tie.close (tie.spec (λ c. search rules) returns (λ c. search rules) returns-2)

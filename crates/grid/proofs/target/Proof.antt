@@ -6,11 +6,11 @@ use borrow.Author.Rules.{rules}
 use Rattle.grid.proofs.target.Statement.{statement}
 use Rattle.grid.proofs.target.Tie as tie
 
-returns : tie.Need-returns
-returns c = sym (target-even _ c.if1.true)
+returns : tie.Need-returns-then-k-eq0
+returns c = sym (target-even _ c.if-k-eq0.true)
 
-returns-2 : tie.Need-returns-2
-returns-2 c = sym (target-odd _ c.if1.false)
+returns-2 : tie.Need-returns
+returns-2 c = sym (target-odd _ c.if-k-eq0.false)
 
-pub target-spec : {M : Type 1} → statement M
-target-spec = tie.close (tie.spec (λ c. search rules) returns (λ c. search rules) returns-2)
+pub target_spec : {M : Type 1} → statement M
+target_spec = tie.close (tie.spec (λ c. search rules) returns (λ c. search rules) returns-2)

@@ -13,44 +13,44 @@ use Rattle.tree.proofs.LowLaws.{low-raised}
 use Rattle.longest.proofs.costs.Statement.{statement}
 use Rattle.longest.proofs.costs.Tie as tie
 
-abbrev invariant-loop : tie.invariant-loop
+abbrev invariant-loop : tie.invariant-loop-k
 invariant-loop w pts keys e el₀ most₀ k₀ el most k =
     (k ≤ e) × ((turns (measure w pts keys) k (e - k) el ≡ turns (measure w pts keys) 0 e el₀) × Low most el)
 
-abbrev decreases-loop : tie.decreases-loop
+abbrev decreases-loop : tie.decreases-loop-k
 decreases-loop w pts keys e el₀ most₀ k₀ el most k = e - k
 
-loop-holds : tie.Need-loop-init invariant-loop decreases-loop
+loop-holds : tie.Need-loop-k-init invariant-loop decreases-loop
 loop-holds c = (omega arith, (turns-none _ _ _, c.requires.1))
 
-edge-cost-requires : tie.Need-edge-cost-requires invariant-loop decreases-loop
-edge-cost-requires c κs = (omega arith, c.before.before.requires.0.1)
+edge-cost-requires : tie.Need-edge_cost-d-requires invariant-loop decreases-loop
+edge-cost-requires c κs = (omega arith, c.requires.0.1)
 
-loop-again : tie.Need-loop-preserved invariant-loop decreases-loop
+loop-again : tie.Need-loop-k-preserved-then-most-d invariant-loop decreases-loop
 loop-again c =
-    let l = c.before.before.before in (
+    let l = c in (
       omega arith,
       (
-        turns_next _ _ _ _ _ _ l.loop.invariant.1.0 (omega arith) (measure-is _ _ _ _ _ _ c.before.edge-cost.ensures.0),
-        low-raised _ _ _ _ _ (omega (arith, c.if1.true)) (omega arith) l.loop.invariant.1.1,
+        turns_next _ _ _ _ _ _ l.loop-k.invariant.1.0 (omega arith) (measure-is _ _ _ _ _ _ c.edge_cost-d.ensures.0),
+        low-raised _ _ _ _ _ (omega (arith, c.if-most-d.true)) (omega arith) l.loop-k.invariant.1.1,
       ),
     )
 
-loop-again-2 : tie.Need-loop-preserved-2 invariant-loop decreases-loop
+loop-again-2 : tie.Need-loop-k-preserved invariant-loop decreases-loop
 loop-again-2 c =
-    let l = c.before.before.before in (
+    let l = c in (
       omega arith,
       (
-        turns_next _ _ _ _ _ _ l.loop.invariant.1.0 (omega arith) (measure-is _ _ _ _ _ _ c.before.edge-cost.ensures.0),
-        low-raised _ _ _ _ _ (omega arith) (omega (arith, c.if1.false)) l.loop.invariant.1.1,
+        turns_next _ _ _ _ _ _ l.loop-k.invariant.1.0 (omega arith) (measure-is _ _ _ _ _ _ c.edge_cost-d.ensures.0),
+        low-raised _ _ _ _ _ (omega arith) (omega (arith, c.if-most-d.false)) l.loop-k.invariant.1.1,
       ),
     )
 
 returns : tie.Need-returns invariant-loop decreases-loop
-returns c = (turns-end _ _ _ _ _ c.before.loop.invariant.1.0 (omega arith), c.before.loop.invariant.1.1)
+returns c = (turns-end _ _ _ _ _ c.loop-k.invariant.1.0 (omega arith), c.loop-k.invariant.1.1)
 
-pub costs-spec : {M : Type 1} → statement M
-costs-spec =
+pub costs_spec : {M : Type 1} → statement M
+costs_spec =
     tie.close
     (tie.spec
     invariant-loop decreases-loop loop-holds edge-cost-requires (λ c. omega arith) (λ c. omega arith) (λ c. omega arith)

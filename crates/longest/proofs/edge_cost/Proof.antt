@@ -7,17 +7,17 @@ use borrow.Author.Rules.{rules}
 use Rattle.longest.proofs.edge_cost.Statement.{statement}
 use Rattle.longest.proofs.edge_cost.Tie as tie
 
-point-at-requires : tie.Need-point-at-requires
-point-at-requires c κs = omega (arith, c.before.requires.1.small c.before.args.k)
+point-at-requires : tie.Need-point_at-requires
+point-at-requires c κs = omega (arith, c.requires.1.small c.args.k)
 
 returns : tie.Need-returns
 returns c = (
-  cost-is _ _ _ _ _ _ _ c.before.before.point_at.ensures c.before.point-at2.ensures c.cost.ensures.0,
+  cost-is _ _ _ _ _ _ _ c.point_at.ensures c.point_at-2.ensures c.cost.ensures.0,
   c.cost.ensures.1,
 )
 
-pub edge-cost-spec : {M : Type 1} → statement M
-edge-cost-spec =
+pub edge_cost_spec : {M : Type 1} → statement M
+edge_cost_spec =
     tie.close
     (tie.spec
     (λ c. search rules) (λ c. search rules) point-at-requires (λ c κs. search rules) (λ c κs. search rules)

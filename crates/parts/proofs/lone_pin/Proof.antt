@@ -5,21 +5,21 @@ use Rattle.parts.proofs.WorkLaws.{lone-one, lone-two, lone-three, lone-four, lon
 use Rattle.parts.proofs.lone_pin.Statement.{statement}
 use Rattle.parts.proofs.lone_pin.Tie as tie
 
-returns : tie.Need-returns
-returns c = (lone-one _ c.if1.true, omega arith)
+returns : tie.Need-returns-then-s-eq1
+returns c = (lone-one _ c.if-s-eq1.true, omega arith)
 
-returns-2 : tie.Need-returns-2
-returns-2 c = (lone-two _ c.if2.true, omega arith)
+returns-2 : tie.Need-returns-then-s-eq2
+returns-2 c = (lone-two _ c.if-s-eq2.true, omega arith)
 
-returns-3 : tie.Need-returns-3
-returns-3 c = (lone-three _ c.if3.true, omega arith)
+returns-3 : tie.Need-returns-then-s-eq4
+returns-3 c = (lone-three _ c.if-s-eq4.true, omega arith)
 
-returns-4 : tie.Need-returns-4
-returns-4 c = (lone-four _ c.if4.true, omega arith)
+returns-4 : tie.Need-returns-then-s-eq8
+returns-4 c = (lone-four _ c.if-s-eq8.true, omega arith)
 
-returns-5 : tie.Need-returns-5
+returns-5 : tie.Need-returns
 returns-5 c =
-    (lone-none _ c.before.before.before.if1.false c.before.before.if2.false c.before.if3.false c.if4.false, omega arith)
+    (lone-none _ c.if-s-eq1.false c.if-s-eq2.false c.if-s-eq4.false c.if-s-eq8.false, omega arith)
 
-pub lone-pin-spec : {M : Type 1} → statement M
-lone-pin-spec = tie.close (tie.spec returns returns-2 returns-3 returns-4 returns-5)
+pub lone_pin_spec : {M : Type 1} → statement M
+lone_pin_spec = tie.close (tie.spec returns returns-2 returns-3 returns-4 returns-5)

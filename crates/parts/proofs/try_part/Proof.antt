@@ -5,7 +5,6 @@ use mathlib.Core.Path.{◌≡◌, sym, ◌∙◌}
 use mathlib.Core.Bool.{true}
 use Prim.Native.Nat.{◌≤◌, ◌-◌}
 use native.Mathlib.Omega.{arith}
-use borrow.Author.Tests.{not-true, not-false}
 use Rattle.lines.specs.Bounds.{crossing_bound}
 use Rattle.parts.specs.Numbers.{part_of}
 use Rattle.parts.specs.Tables.{value_at}
@@ -14,45 +13,45 @@ use borrow.Author.Rules.{rules}
 use Rattle.parts.proofs.try_part.Statement.{statement}
 use Rattle.parts.proofs.try_part.Tie as tie
 
-abbrev invariant-loop : tie.invariant-loop
+abbrev invariant-loop : tie.invariant-loop-v
 invariant-loop work m s p row₀ v₀ row v = (v ≤ crossing_bound) × ((part_of m p s ≡ true) × Trying m (value_at work) s p row₀ v row)
 
-abbrev decreases-loop : tie.decreases-loop
+abbrev decreases-loop : tie.decreases-loop-v
 decreases-loop work m s p row₀ v₀ row v = crossing_bound - v
 
-returns : tie.Need-returns invariant-loop decreases-loop
+returns : tie.Need-returns-then-not-is_part invariant-loop decreases-loop
 returns c =
-    let s = c.before.before.before in
-    tried-none _ _ _ _ _ s.requires.1.1 (sym c.before.is-part.ensures ∙ not-true _ c.if1.true)
+    let s = c in
+    tried-none _ _ _ _ _ s.requires.1.1 (sym c.is_part.ensures ∙ c.if-not-is_part.true)
 
-loop-holds : tie.Need-loop-init invariant-loop decreases-loop
+loop-holds : tie.Need-loop-v-init invariant-loop decreases-loop
 loop-holds c =
-    let s = c.before.before.before in
-    (omega arith, (sym c.before.is-part.ensures ∙ not-false _ c.if1.false, trying-none _ _ _ _ _ s.requires.1.1))
+    let s = c in
+    (omega arith, (sym c.is_part.ensures ∙ c.if-not-is_part.false, trying-none _ _ _ _ _ s.requires.1.1))
 
-sum-at-requires : tie.Need-sum-at-requires invariant-loop decreases-loop
+sum-at-requires : tie.Need-sum_at-requires invariant-loop decreases-loop
 sum-at-requires c κs =
-    let s = c.before.before.before.before.before in
+    let s = c in
     let r = s.requires.0.0 in
     let k = s.requires.1.0 in
-    let h = c.loop-test.true in (
+    let h = c.loop-v-test.true in (
       (r.size, ((omega (arith, k, s.requires.0.1), omega (arith, k, s.requires.0.1)), h)),
       (r.low _ _ k.0 k.1 h, r.low _ _ (omega (arith, k)) (omega (arith, k)) h),
     )
 
-loop-again : tie.Need-loop-preserved invariant-loop decreases-loop
+loop-again : tie.Need-loop-v-preserved invariant-loop decreases-loop
 loop-again c =
-    let a = c.before.before in
-    let t = a.before in
-    let i = t.before.loop.invariant in
-    let more = trying-more _ _ _ _ _ _ _ _ _ t.loop-test.true i.1.0 a.sum-at.ensures c.lesser.ensures i.1.1 in
+    let a = c in
+    let t = a in
+    let i = t.loop-v.invariant in
+    let more = trying-more _ _ _ _ _ _ _ _ _ t.loop-v-test.true i.1.0 a.sum_at.ensures c.lesser.ensures i.1.1 in
     (omega arith, (i.1.0, more))
 
-returns-2 : tie.Need-returns-2 invariant-loop decreases-loop
-returns-2 c = trying-end _ _ _ _ _ _ _ c.loop-test.false c.before.loop.invariant.1.1
+returns-2 : tie.Need-returns invariant-loop decreases-loop
+returns-2 c = trying-end _ _ _ _ _ _ _ c.loop-v-test.false c.loop-v.invariant.1.1
 
-pub try-part-spec : {M : Type 1} → statement M
-try-part-spec =
+pub try_part_spec : {M : Type 1} → statement M
+try_part_spec =
     tie.close
     (tie.spec
     invariant-loop decreases-loop (λ c κs. search rules) returns loop-holds (λ c. omega arith) sum-at-requires (λ c. omega arith) (λ c. omega arith)

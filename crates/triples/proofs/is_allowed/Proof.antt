@@ -6,21 +6,21 @@ use borrow.Author.Rules.{rules}
 use Rattle.triples.proofs.is_allowed.Statement.{statement}
 use Rattle.triples.proofs.is_allowed.Tie as tie
 
-returns : tie.Need-returns
+returns : tie.Need-returns-then-sees
 returns c =
-    let s = c.before.before in
-    let p = s.before in
-    allowed-yes _ _ _ _ _ _ _ _ _ _ p.before.before.point_at.ensures p.before.point-at2.ensures p.point-at3.ensures
-    (sym s.sees.ensures ∙ c.before.if1.true) _ c.is-dropped.ensures
+    let s = c in
+    let p = s in
+    allowed-yes _ _ _ _ _ _ _ _ _ _ p.point_at.ensures p.point_at-2.ensures p.point_at-3.ensures
+    (sym s.sees.ensures ∙ c.if-sees.true) _ c.is_dropped.ensures
 
-returns-2 : tie.Need-returns-2
+returns-2 : tie.Need-returns
 returns-2 c =
-    let p = c.before.before in
-    allowed-no _ _ _ _ _ _ _ _ _ _ p.before.before.point_at.ensures p.before.point-at2.ensures p.point-at3.ensures
-    (sym c.before.sees.ensures ∙ c.if1.false)
+    let p = c in
+    allowed-no _ _ _ _ _ _ _ _ _ _ p.point_at.ensures p.point_at-2.ensures p.point_at-3.ensures
+    (sym c.sees.ensures ∙ c.if-sees.false)
 
-pub is-allowed-spec : {M : Type 1} → statement M
-is-allowed-spec =
+pub is_allowed_spec : {M : Type 1} → statement M
+is_allowed_spec =
     tie.close
     (tie.spec
     (λ c κs. search rules) (λ c κs. search rules) (λ c κs. search rules) (λ c κs. search rules) (λ c κs. search rules)

@@ -6,7 +6,7 @@ use Rattle.triples.proofs.is_dropped.Statement.{statement}
 use Rattle.triples.proofs.is_dropped.Tie as tie
 
 returns : tie.Need-returns
-returns c = dropped-is _ _ _ _ _ _ _ c.find-taken.ensures
+returns c = dropped-is _ _ _ _ _ _ _ c.find_taken.ensures
 
-pub is-dropped-spec : {M : Type 1} → statement M
-is-dropped-spec = tie.close (tie.spec (λ c κs. search rules) returns)
+pub is_dropped_spec : {M : Type 1} → statement M
+is_dropped_spec = tie.close (tie.spec (λ c κs. search rules) returns)

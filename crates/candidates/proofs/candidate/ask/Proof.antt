@@ -6,31 +6,31 @@ use Rattle.candidates.proofs.BoundLaws.{bound-stays, bound-comes, bound-keeps, o
 use Rattle.candidates.proofs.candidate.ask.Statement.{statement}
 use Rattle.candidates.proofs.candidate.ask.Tie as tie
 
-returns : tie.Need-returns
+returns : tie.Need-returns-then-bound-k
 returns c =
-    let s = c.before.before.before in
-    (bound-stays _ _ _ _ _ _ _ _ _ s.requires.1.1.1 _ s.requires.0.0.0 _ c.if1.true, s.requires.1.1.1)
+    let s = c in
+    (bound-stays _ _ _ _ _ _ _ _ _ s.requires.1.1.1 _ s.requires.0.0.0 _ c.if-bound-k.true, s.requires.1.1.1)
 
-returns-2 : tie.Need-returns-2
+returns-2 : tie.Need-returns-then-c-own
 returns-2 c =
-    let o = c.before.before.before in
-    let s = o.before.before.before.before in (
-      bound-comes _ _ _ _ _ s.args.e _ _ _ _ o.offers.ensures _ c.if2.true,
+    let o = c in
+    let s = o in (
+      bound-comes _ _ _ _ _ s.args.e _ _ _ _ o.offers-own.ensures _ c.if-c-own.true,
       bounded-set _ _ _ _ _ _ _ _ _ _ _ s.requires.1.1.1 s.requires.0.0.0 s.requires.0.0.1
-          (own_shut _ _ _ _ _ s.args.e _ _ _ _ o.offers.ensures),
+          (own_shut _ _ _ _ _ s.args.e _ _ _ _ o.offers-own.ensures),
     )
 
-returns-3 : tie.Need-returns-3
+returns-3 : tie.Need-returns
 returns-3 c =
-    let o = c.before.before.before in
-    let s = o.before.before.before.before in (
-      bound-keeps _ _ _ _ _ s.args.e _ _ _ _ o.offers.ensures _ c.if2.false,
+    let o = c in
+    let s = o in (
+      bound-keeps _ _ _ _ _ s.args.e _ _ _ _ o.offers-own.ensures _ c.if-c-own.false,
       bounded-set _ _ _ _ _ _ _ _ _ _ _ s.requires.1.1.1 s.requires.0.0.0 s.requires.0.0.1
-          (own_shut _ _ _ _ _ s.args.e _ _ _ _ o.offers.ensures),
+          (own_shut _ _ _ _ _ s.args.e _ _ _ _ o.offers-own.ensures),
     )
 
-pub ask-spec : {M : Type 1} → statement M
-ask-spec =
+pub ask_spec : {M : Type 1} → statement M
+ask_spec =
     tie.close
     (tie.spec
     (λ c. search rules) (λ c. search rules) returns (λ c κs. search rules) (λ c. search rules) (λ c. search rules)

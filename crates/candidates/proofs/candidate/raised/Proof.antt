@@ -11,41 +11,41 @@ use Rattle.candidates.proofs.BoundLaws.{cut-from}
 use Rattle.candidates.proofs.candidate.raised.Statement.{statement}
 use Rattle.candidates.proofs.candidate.raised.Tie as tie
 
-cut-at-requires : tie.Need-cut-at-requires
+cut-at-requires : tie.Need-cut_at-p-requires
 cut-at-requires c κs =
-    let s = c.before.before.before in
+    let s = c in
     (s.requires.1.0.0, (s.requires.1.0.1 _ (s.requires.0.1.1.ends s.args.k).0, s.requires.1.1))
 
-cut-at-requires-2 : tie.Need-cut-at-requires-2
+cut-at-requires-2 : tie.Need-cut_at-q-requires
 cut-at-requires-2 c κs =
-    let s = c.before.before.before.before.before in
-    (s.requires.1.0.0, (s.requires.1.0.1 _ (s.requires.0.1.1.ends s.args.k).1, c.before.cut-at.ensures.0.1))
+    let s = c in
+    (s.requires.1.0.0, (s.requires.1.0.1 _ (s.requires.0.1.1.ends s.args.k).1, c.cut_at-p.ensures.0.1))
 
-point-at-requires : tie.Need-point-at-requires
+point-at-requires : tie.Need-point_at-requires
 point-at-requires c κs =
-    let s = c.before.before.before.before.before.before.before in
+    let s = c in
     omega (arith, (s.requires.0.1.1.ends s.args.k).0, s.requires.0.1.0)
 
-offer-requires : tie.Need-offer-requires
+offer-requires : tie.Need-offer-c-requires
 offer-requires c κs =
-    let s = c.before.before.before.before.before.before.before.before.before.before in
+    let s = c in
     let n = s.requires.0.1.0 in
     let e = s.requires.0.1.1.ends s.args.k in
     let q = get_or s.args.keys.now s.args.k 0 in (
       (
         (omega (arith, e.0, n), omega (arith, e.1, n)),
-        (omega (arith, s.requires.0.0.1, n), (c.before.before.before.shorter.ensures.1, n)),
+        (omega (arith, s.requires.0.0.1, n), (c.shorter-l.ensures.1, n)),
       ),
-      box-is s.args.pts.now (first_end q) (second_end q) _ _ _ c.before.before.point_at.ensures c.before.point-at2.ensures
-          c.box_of.ensures,
+      box-is s.args.pts.now (first_end q) (second_end q) _ _ _ c.point_at.ensures c.point_at-2.ensures
+          c.box_of-m.ensures,
     )
 
 returns : tie.Need-returns
 returns c =
-    let h = c.before.before.before.before in
-    let two = h.before.cut-at2.ensures in
-    let one = h.before.before.before.cut-at.ensures in
-    let s = h.before.before.before.before.before.before.before in
+    let h = c in
+    let two = h.cut_at-q.ensures in
+    let one = h.cut_at-p.ensures in
+    let s = h in
     let e = s.requires.0.1.1.ends s.args.k in
     let all = s.requires.1.0.1 in (
       two.0.1,
@@ -53,14 +53,14 @@ returns c =
           let p = one.1 _ row in
           let q = two.1 _ p.1 in (
             q.1,
-            ap (λ (z : Best). z.gain) (c.offer.ensures t
+            ap (λ (z : Best). z.gain) (c.offer-c.ensures t
                 (cut-from _ _ t told _ _ _ _ _ _ (all _ e.0) (all _ e.1) (all _ s.requires.0.0.1) p.0 q.0
-                h.shorter.ensures.0)),
+                h.shorter-l.ensures.0)),
           ),
     )
 
-pub raised-spec : {M : Type 1} → statement M
-raised-spec =
+pub raised_spec : {M : Type 1} → statement M
+raised_spec =
     tie.close
     (tie.spec
     (λ c. search rules) (λ c. search rules) (λ c. search rules) (λ c. search rules) cut-at-requires cut-at-requires-2

@@ -13,34 +13,34 @@ use Rattle.lists.proofs.TurnLaws.{turns-none, turns_next, turns-end}
 use Rattle.candidates.proofs.candidate.search.Statement.{statement}
 use Rattle.candidates.proofs.candidate.search.Tie as tie
 
-abbrev invariant-loop : tie.invariant-loop
+abbrev invariant-loop : tie.invariant-loop-k
 invariant-loop w pts n macros keys e el most onto link turn bound₀ found₀ k₀ bound found k =
     ((k ≤ e) × Bounded w pts n (macros_of macros) keys e el (longest keys el e n) n bound) ×
     (turns (offers w pts n (macros_of macros) keys el (longest keys el e n)) k (e - k) found
     ≡ turns (offers w pts n (macros_of macros) keys el (longest keys el e n)) 0 e (best 0 0 0 0))
 
-abbrev decreases-loop : tie.decreases-loop
+abbrev decreases-loop : tie.decreases-loop-k
 decreases-loop w pts n macros keys e el most onto link turn bound₀ found₀ k₀ bound found k = e - k
 
-loop-holds : tie.Need-loop-init invariant-loop decreases-loop
+loop-holds : tie.Need-loop-k-init invariant-loop decreases-loop
 loop-holds c = ((omega arith, c.requires.1.1.1), turns-none _ _ _)
 
-ask-requires : tie.Need-ask-requires invariant-loop decreases-loop
+ask-requires : tie.Need-ask-found-requires invariant-loop decreases-loop
 ask-requires c κs =
-    let l = c.before.before in
-    let s = l.before in
-    (((omega arith, s.requires.0.0), s.requires.0.1), (s.requires.1.0, (s.requires.1.1.0, l.loop.invariant.0.1)))
+    let l = c in
+    let s = l in
+    (((omega arith, s.requires.0.0), s.requires.0.1), (s.requires.1.0, (s.requires.1.1.0, l.loop-k.invariant.0.1)))
 
-loop-again : tie.Need-loop-preserved invariant-loop decreases-loop
+loop-again : tie.Need-loop-k-preserved invariant-loop decreases-loop
 loop-again c =
-    let l = c.before.before.before in
-    ((omega arith, c.ask.ensures.1), turns_next _ _ _ _ _ _ l.loop.invariant.1 (omega arith) c.ask.ensures.0)
+    let l = c in
+    ((omega arith, c.ask-found.ensures.1), turns_next _ _ _ _ _ _ l.loop-k.invariant.1 (omega arith) c.ask-found.ensures.0)
 
 returns : tie.Need-returns invariant-loop decreases-loop
 unfolding search
-returns c = (turns-end _ _ _ _ _ c.before.loop.invariant.1 (omega arith), c.before.loop.invariant.0.1)
+returns c = (turns-end _ _ _ _ _ c.loop-k.invariant.1 (omega arith), c.loop-k.invariant.0.1)
 
-pub search-spec : {M : Type 1} → statement M
-search-spec =
+pub search_spec : {M : Type 1} → statement M
+search_spec =
     tie.close
     (tie.spec invariant-loop decreases-loop loop-holds ask-requires (λ c. omega arith) (λ c. omega arith) loop-again returns)

@@ -8,41 +8,41 @@ use Rattle.candidates.proofs.candidate.weigh.Statement.{statement}
 use Rattle.candidates.proofs.candidate.weigh.Tie as tie
 
 -- the places and the cost by their names
-spots : (c : tie.After-cost)
-    → Spots c.before.before.before.before.before.args.w c.before.before.before.before.before.args.pts.now
-    c.before.before.before.before.before.args.a c.before.before.before.before.before.args.b
-    c.before.before.before.before.before.args.u
-    c.before.before.before.point-at2.result c.before.before.point-at3.result
-    c.before.before.before.before.point_at.result c.before.middle-place.result c.cost.result
+spots : (c : tie.After-cost-d)
+    → Spots c.args.w c.args.pts.now
+    c.args.a c.args.b
+    c.args.u
+    c.point_at.result c.point_at-2.result
+    c.point_at-r.result c.middle_place-s.result c.cost-d.result
 spots c =
-    let m = c.before in
+    let m = c in
     record {
-      one = m.before.before.point-at2.ensures;
-      two = m.before.point-at3.ensures;
-      three = m.before.before.before.point_at.ensures;
-      mid = m.middle-place.ensures;
-      far = c.cost.ensures.0;
+      one = m.point_at.ensures;
+      two = m.point_at-2.ensures;
+      three = m.point_at-r.ensures;
+      mid = m.middle_place-s.ensures;
+      far = c.cost-d.ensures.0;
     }
 
-returns : tie.Need-returns
-returns c = weigh-low _ _ _ _ _ _ _ _ _ _ _ _ _ _ _ _ (spots c.before) (omega (arith, c.if1.true))
+returns : tie.Need-returns-then-long-d
+returns c = weigh-low _ _ _ _ _ _ _ _ _ _ _ _ _ _ _ _ (spots c.before) (omega (arith, c.if-long-d.true))
 
-returns-2 : tie.Need-returns-2
-returns-2 c = weigh-low _ _ _ _ _ _ _ _ _ _ _ _ _ _ _ _ (spots c.before.before.before) (omega (arith, c.if2.true))
+returns-2 : tie.Need-returns-then-g-c
+returns-2 c = weigh-low _ _ _ _ _ _ _ _ _ _ _ _ _ _ _ _ (spots c.before.before.before) (omega (arith, c.if-g-c.true))
 
-returns-3 : tie.Need-returns-3
+returns-3 : tie.Need-returns-then-is_allowed
 returns-3 c =
     weigh-yes _ _ _ _ _ _ _ _ _ _ _ _ _ _ _ _ (spots c.before.before.before.before.before) _ refl
-    (omega (arith, c.before.before.if2.false, c.before.before.before.before.if1.false))
-    (sym c.before.is-allowed.ensures ∙ c.if3.true)
+    (omega (arith, c.if-g-c.false, c.if-long-d.false))
+    (sym c.is_allowed.ensures ∙ c.if-is_allowed.true)
 
-returns-4 : tie.Need-returns-4
+returns-4 : tie.Need-returns
 returns-4 c =
     weigh-no _ _ _ _ _ _ _ _ _ _ _ _ _ _ _ _ (spots c.before.before.before.before.before)
-    (sym c.before.is-allowed.ensures ∙ c.if3.false)
+    (sym c.is_allowed.ensures ∙ c.if-is_allowed.false)
 
-pub weigh-spec : {M : Type 1} → statement M
-weigh-spec =
+pub weigh_spec : {M : Type 1} → statement M
+weigh_spec =
     tie.close
     (tie.spec
     (λ c κs. search rules) (λ c κs. search rules) (λ c κs. search rules) (λ c κs. search rules) (λ c κs. search rules)

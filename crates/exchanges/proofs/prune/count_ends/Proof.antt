@@ -11,39 +11,39 @@ use Rattle.tree.proofs.LowLaws.{low_step}
 use Rattle.exchanges.proofs.prune.count_ends.Statement.{statement}
 use Rattle.exchanges.proofs.prune.count_ends.Tie as tie
 
-mul-deg : tie.Need-overflow-mul-deg
+mul-deg : tie.Need-offset_bounds-deg-a
 mul-deg c =
-    let s = c.before.before in
+    let s = c in
     let q = s.requires.1.0.small s.args.i in
     omega arith
 
-element-copy-out-deg : tie.Need-element-copy-out-deg
+element-copy-out-deg : tie.Need-bounds-deg-a
 element-copy-out-deg c =
-    let s = c.before.before in
+    let s = c in
     let q = s.requires.1.0.small s.args.i in
     omega arith
 
-add-deg : tie.Need-overflow-add-deg
+add-deg : tie.Need-overflow_add-deg
 add-deg c =
-    let s = c.before.before.before in
+    let s = c in
     let q = s.requires.1.0.small s.args.i in
     omega (arith, s.requires.1.1.low (get_or s.args.keys.now s.args.i 0 / tree_bound))
 
-mul-deg-2 : tie.Need-overflow-mul-deg-2
+mul-deg-2 : tie.Need-offset_bounds-deg-a-2
 mul-deg-2 c =
-    let s = c.before.before.before in
+    let s = c in
     let q = s.requires.1.0.small s.args.i in
     omega arith
 
-element-write-deg : tie.Need-element-write-deg
+element-write-deg : tie.Need-bounds-deg-a-2
 element-write-deg c =
-    let s = c.before.before.before in
+    let s = c in
     let q = s.requires.1.0.small s.args.i in
     omega arith
 
-add-deg-2 : tie.Need-overflow-add-deg-2
+add-deg-2 : tie.Need-overflow_add-deg-2
 add-deg-2 c =
-    let s = c.before.before.before.before in
+    let s = c in
     let q = s.requires.1.0.small s.args.i in
     omega (
       arith,
@@ -54,8 +54,8 @@ add-deg-2 c =
 returns : tie.Need-returns
 returns c = count-is _ _ _
 
-pub count-ends-spec : {M : Type 1} → statement M
-count-ends-spec =
+pub count_ends_spec : {M : Type 1} → statement M
+count_ends_spec =
     tie.close
     (tie.spec
     (λ c. search rules) (λ c. search rules) (λ c. search rules) (λ c. search rules) mul-deg element-copy-out-deg add-deg

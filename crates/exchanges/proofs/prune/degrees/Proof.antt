@@ -13,35 +13,35 @@ use Rattle.lists.proofs.TurnLaws.{turns-none, turns_next, turns-end}
 use Rattle.exchanges.proofs.prune.degrees.Statement.{statement}
 use Rattle.exchanges.proofs.prune.degrees.Tie as tie
 
-abbrev invariant-loop : tie.invariant-loop
+abbrev invariant-loop : tie.invariant-loop-i
 invariant-loop keys e deg₀ i₀ deg i = (i ≤ e) × (Low (i * 2) deg × (turns (count_ends keys) i (e - i) deg ≡ turns (count_ends keys) 0 e deg₀))
 
-abbrev decreases-loop : tie.decreases-loop
+abbrev decreases-loop : tie.decreases-loop-i
 decreases-loop keys e deg₀ i₀ deg i = e - i
 
-loop-holds : tie.Need-loop-init invariant-loop decreases-loop
+loop-holds : tie.Need-loop-i-init invariant-loop decreases-loop
 loop-holds c = (omega arith, (c.requires.1.1, turns-none _ _ _))
 
-count-ends-requires : tie.Need-count-ends-requires invariant-loop decreases-loop
+count-ends-requires : tie.Need-count_ends-requires invariant-loop decreases-loop
 count-ends-requires c κs =
-    let l = c.before.before in
-    (omega arith, (l.before.requires.1.0, low-more _ _ _ (let h : l.loop.i * 2 ≤ tree_bound * 2 = omega arith in h) l.loop.invariant.1.0))
+    let l = c in
+    (omega arith, (l.requires.1.0, low-more _ _ _ (let h : l.loop-i.i * 2 ≤ tree_bound * 2 = omega arith in h) l.loop-i.invariant.1.0))
 
-loop-again : tie.Need-loop-preserved invariant-loop decreases-loop
+loop-again : tie.Need-loop-i-preserved invariant-loop decreases-loop
 loop-again c =
-    let l = c.before.before.before in (
+    let l = c in (
       omega arith,
       (
-        low_count _ _ _ _ _ _ c.count-ends.ensures l.loop.invariant.1.0 (omega arith),
-        turns_next _ _ _ _ _ _ l.loop.invariant.1.1
-            (omega arith) c.count-ends.ensures,
+        low_count _ _ _ _ _ _ c.count_ends.ensures l.loop-i.invariant.1.0 (omega arith),
+        turns_next _ _ _ _ _ _ l.loop-i.invariant.1.1
+            (omega arith) c.count_ends.ensures,
       ),
     )
 
 returns : tie.Need-returns invariant-loop decreases-loop
-returns c = turns-end _ _ _ _ _ c.before.loop.invariant.1.1 (omega arith)
+returns c = turns-end _ _ _ _ _ c.loop-i.invariant.1.1 (omega arith)
 
-pub degrees-spec : {M : Type 1} → statement M
-degrees-spec =
+pub degrees_spec : {M : Type 1} → statement M
+degrees_spec =
     tie.close
     (tie.spec invariant-loop decreases-loop loop-holds count-ends-requires (λ c. omega arith) (λ c. omega arith) loop-again returns)

@@ -9,10 +9,10 @@ use Rattle.exchanges.proofs.prune.first_loose.Statement.{statement}
 use Rattle.exchanges.proofs.prune.first_loose.Tie as tie
 
 degrees-requires : tie.Need-degrees-requires
-degrees-requires c κs = (c.before.requires.0, (c.before.requires.1, low_zeros tree_bound))
+degrees-requires c κs = (c.requires.0, (c.requires.1, low_zeros tree_bound))
 
 returns : tie.Need-returns
-returns c = (first-loose-is _ _ _ _ _ c.before.before.degrees.ensures c.seek-loose.ensures.0, c.seek-loose.ensures.1)
+returns c = (first-loose-is _ _ _ _ _ c.degrees.ensures c.seek_loose.ensures.0, c.seek_loose.ensures.1)
 
-pub first-loose-spec : {M : Type 1} → statement M
-first-loose-spec = tie.close (tie.spec degrees-requires (λ c κs. search rules) returns)
+pub first_loose_spec : {M : Type 1} → statement M
+first_loose_spec = tie.close (tie.spec degrees-requires (λ c κs. search rules) returns)

@@ -9,7 +9,7 @@ use Rattle.exchanges.proofs.prune.is_loose.Tie as tie
 returns : tie.Need-returns
 returns c = loose-is _ _ _
 
-pub is-loose-spec : {M : Type 1} → statement M
-is-loose-spec =
+pub is_loose_spec : {M : Type 1} → statement M
+is_loose_spec =
     tie.close
     (tie.spec (λ c. search rules) (λ c. search rules) (λ c. search rules) (λ c. search rules) returns)

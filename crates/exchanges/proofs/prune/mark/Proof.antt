@@ -6,11 +6,11 @@ use borrow.Author.Rules.{rules}
 use Rattle.exchanges.proofs.prune.mark.Statement.{statement}
 use Rattle.exchanges.proofs.prune.mark.Tie as tie
 
-returns : tie.Need-returns
-returns c = mark-pin _ _ _ _ _ c.before.before.point_at.ensures (sym c.before.is-pin.ensures ∙ c.if1.true)
+returns : tie.Need-returns-then-is_pin
+returns c = mark-pin _ _ _ _ _ c.point_at.ensures (sym c.is_pin.ensures ∙ c.if-is_pin.true)
 
-returns-2 : tie.Need-returns-2
-returns-2 c = mark-none _ _ _ _ _ c.before.before.point_at.ensures (sym c.before.is-pin.ensures ∙ c.if1.false)
+returns-2 : tie.Need-returns
+returns-2 c = mark-none _ _ _ _ _ c.point_at.ensures (sym c.is_pin.ensures ∙ c.if-is_pin.false)
 
 pub mark_spec : {M : Type 1} → statement M
 mark_spec =

@@ -10,22 +10,22 @@ use Rattle.lists.proofs.TurnLaws.{turns-none, turns_next, turns-end}
 use Rattle.exchanges.proofs.prune.mark_pins.Statement.{statement}
 use Rattle.exchanges.proofs.prune.mark_pins.Tie as tie
 
-abbrev invariant-loop : tie.invariant-loop
+abbrev invariant-loop : tie.invariant-loop-i
 invariant-loop pins pts n pin₀ i₀ pin i = (i ≤ n) × (turns (mark (pin_places pins) pts) i (n - i) pin ≡ turns (mark (pin_places pins) pts) 0 n pin₀)
 
-abbrev decreases-loop : tie.decreases-loop
+abbrev decreases-loop : tie.decreases-loop-i
 decreases-loop pins pts n pin₀ i₀ pin i = n - i
 
-loop-holds : tie.Need-loop-init invariant-loop decreases-loop
+loop-holds : tie.Need-loop-i-init invariant-loop decreases-loop
 loop-holds c = (omega arith, turns-none _ _ _)
 
-loop-again : tie.Need-loop-preserved invariant-loop decreases-loop
-loop-again c = (omega arith, turns_next _ _ _ _ _ _ c.before.before.before.loop.invariant.1 (omega arith) c.mark.ensures)
+loop-again : tie.Need-loop-i-preserved invariant-loop decreases-loop
+loop-again c = (omega arith, turns_next _ _ _ _ _ _ c.loop-i.invariant.1 (omega arith) c.mark.ensures)
 
 returns : tie.Need-returns invariant-loop decreases-loop
-returns c = turns-end _ _ _ _ _ c.before.loop.invariant.1 (omega arith)
+returns c = turns-end _ _ _ _ _ c.loop-i.invariant.1 (omega arith)
 
-pub mark-pins-spec : {M : Type 1} → statement M
-mark-pins-spec =
+pub mark_pins_spec : {M : Type 1} → statement M
+mark_pins_spec =
     tie.close
     (tie.spec invariant-loop decreases-loop loop-holds (λ c κs. omega arith) (λ c. omega arith) (λ c. omega arith) loop-again returns)

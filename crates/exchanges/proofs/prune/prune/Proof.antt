@@ -10,47 +10,47 @@ use Rattle.exchanges.proofs.LaidLaws.{small-closed}
 use Rattle.exchanges.proofs.prune.prune.Statement.{statement}
 use Rattle.exchanges.proofs.prune.prune.Tie as tie
 
-abbrev invariant-loop : tie.invariant-loop
+abbrev invariant-loop : tie.invariant-loop-f
 invariant-loop pin keys₀ e f₀ keys f = (f ≤ e) × (Small pair_bound keys × (prune pin keys f ≡ prune pin keys₀ e))
 
-abbrev decreases-loop : tie.decreases-loop
+abbrev decreases-loop : tie.decreases-loop-f
 decreases-loop pin keys₀ e f₀ keys f = f
 
-loop-holds : tie.Need-loop-init invariant-loop decreases-loop
+loop-holds : tie.Need-loop-f-init invariant-loop decreases-loop
 loop-holds c = (omega arith, (c.requires.1, refl))
 
-first-loose-requires : tie.Need-first-loose-requires invariant-loop decreases-loop
+first-loose-requires : tie.Need-first_loose-i-requires invariant-loop decreases-loop
 first-loose-requires c κs =
-    let l = c.before.before in
-    (omega arith, l.loop.invariant.1.0)
+    let l = c in
+    (omega arith, l.loop-f.invariant.1.0)
 
-returns : tie.Need-returns invariant-loop decreases-loop
+returns : tie.Need-returns-then-i-f invariant-loop decreases-loop
 returns c =
-    let l = c.before.before.before.before in
-    prune-stop _ _ _ _ _ l.loop.invariant.1.1 c.before.first-loose.ensures.0 (omega arith) c.if1.true
+    let l = c in
+    prune-stop _ _ _ _ _ l.loop-f.invariant.1.1 c.first_loose-i.ensures.0 (omega arith) c.if-i-f.true
 
 remove-requires : tie.Need-remove-requires invariant-loop decreases-loop
 remove-requires c κs =
-    let i = c.before.before.first-loose.ensures.1 in
-    let d = c.before.if1.false in
+    let i = c.first_loose-i.ensures.1 in
+    let d = c.if-i-f.false in
     (omega arith, omega arith)
 
-loop-again : tie.Need-loop-preserved invariant-loop decreases-loop
+loop-again : tie.Need-loop-f-preserved invariant-loop decreases-loop
 loop-again c =
-    let l = c.before.before.before.before.before.before in (
+    let l = c in (
       omega arith,
       (
-        rw c.remove.ensures (small-closed _ _ _ _ l.loop.invariant.1.0),
-        prune-more _ _ _ _ _ l.loop.invariant.1.1
-            c.before.before.before.first-loose.ensures.0 (omega arith) c.before.before.if1.false _ c.remove.ensures,
+        rw c.remove.ensures (small-closed _ _ _ _ l.loop-f.invariant.1.0),
+        prune-more _ _ _ _ _ l.loop-f.invariant.1.1
+            c.first_loose-i.ensures.0 (omega arith) c.if-i-f.false _ c.remove.ensures,
       ),
     )
 
-returns-2 : tie.Need-returns-2 invariant-loop decreases-loop
-returns-2 c = prune-end _ _ _ _ c.before.loop.invariant.1.1 (omega arith)
+returns-2 : tie.Need-returns invariant-loop decreases-loop
+returns-2 c = prune-end _ _ _ _ c.loop-f.invariant.1.1 (omega arith)
 
-pub prune-spec : {M : Type 1} → statement M
-prune-spec =
+pub prune_spec : {M : Type 1} → statement M
+prune_spec =
     tie.close
     (tie.spec
     invariant-loop decreases-loop loop-holds first-loose-requires returns (λ c. omega arith) remove-requires (λ c. omega arith)

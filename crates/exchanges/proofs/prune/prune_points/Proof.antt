@@ -6,7 +6,7 @@ use Rattle.exchanges.proofs.prune.prune_points.Statement.{statement}
 use Rattle.exchanges.proofs.prune.prune_points.Tie as tie
 
 returns : tie.Need-returns
-returns c = pruned-is _ _ _ _ _ _ _ c.before.before.before.mark-pins.ensures c.prune.ensures
+returns c = pruned-is _ _ _ _ _ _ _ c.mark_pins.ensures c.prune.ensures
 
-pub prune-points-spec : {M : Type 1} → statement M
-prune-points-spec = tie.close (tie.spec (λ c κs. search rules) (λ c κs. search rules) returns)
+pub prune_points_spec : {M : Type 1} → statement M
+prune_points_spec = tie.close (tie.spec (λ c κs. search rules) (λ c κs. search rules) returns)

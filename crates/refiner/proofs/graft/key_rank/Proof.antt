@@ -10,31 +10,31 @@ use Rattle.refiner.proofs.GraftLaws.{not-below-yes, not-below-no}
 use Rattle.refiner.proofs.graft.key_rank.Statement.{statement}
 use Rattle.refiner.proofs.graft.key_rank.Tie as tie
 
-abbrev invariant-loop : tie.invariant-loop
+abbrev invariant-loop : tie.invariant-loop-i
 invariant-loop keys e key i₀ i = (i ≤ e) × (seek (not_below keys key) i (e - i) ≡ seek (not_below keys key) 0 e)
 
-abbrev decreases-loop : tie.decreases-loop
+abbrev decreases-loop : tie.decreases-loop-i
 decreases-loop keys e key i₀ i = e - i
 
-loop-holds : tie.Need-loop-init invariant-loop decreases-loop
+loop-holds : tie.Need-loop-i-init invariant-loop decreases-loop
 loop-holds c = (omega arith, seek-none _ _)
 
-returns : tie.Need-returns invariant-loop decreases-loop
+returns : tie.Need-returns-then-key-keys invariant-loop decreases-loop
 unfolding key_rank
-returns c = seek_stop _ _ _ _ c.before.before.before.loop.invariant.1 (omega arith) (not-below-yes _ _ _ c.if1.true)
+returns c = seek_stop _ _ _ _ c.loop-i.invariant.1 (omega arith) (not-below-yes _ _ _ c.if-key-keys.true)
 
-loop-again : tie.Need-loop-preserved invariant-loop decreases-loop
+loop-again : tie.Need-loop-i-preserved invariant-loop decreases-loop
 loop-again c = (
   omega arith,
-  seek-next _ _ _ _ c.before.before.before.loop.invariant.1 (omega arith) (not-below-no _ _ _ c.if1.false),
+  seek-next _ _ _ _ c.loop-i.invariant.1 (omega arith) (not-below-no _ _ _ c.if-key-keys.false),
 )
 
-returns-2 : tie.Need-returns-2 invariant-loop decreases-loop
+returns-2 : tie.Need-returns invariant-loop decreases-loop
 unfolding key_rank
-returns-2 c = seek-end _ _ _ _ c.before.loop.invariant.1 (omega arith)
+returns-2 c = seek-end _ _ _ _ c.loop-i.invariant.1 (omega arith)
 
-pub key-rank-spec : {M : Type 1} → statement M
-key-rank-spec =
+pub key_rank_spec : {M : Type 1} → statement M
+key_rank_spec =
     tie.close
     (tie.spec
     invariant-loop decreases-loop loop-holds (λ c. omega arith) (λ c. omega arith) returns (λ c. omega arith) (λ c. omega arith)

@@ -5,12 +5,12 @@ use borrow.Author.Rules.{rules}
 use Rattle.refiner.proofs.graft.pair_key.Statement.{statement}
 use Rattle.refiner.proofs.graft.pair_key.Tie as tie
 
-returns : tie.Need-returns
-returns c = pair-less _ _ c.if1.true
+returns : tie.Need-returns-then-a-b
+returns c = pair-less _ _ c.if-a-b.true
 
-returns-2 : tie.Need-returns-2
-returns-2 c = pair-more _ _ c.if1.false
+returns-2 : tie.Need-returns
+returns-2 c = pair-more _ _ c.if-a-b.false
 
-pub pair-key-spec : {M : Type 1} → statement M
-pair-key-spec =
+pub pair_key_spec : {M : Type 1} → statement M
+pair_key_spec =
     tie.close (tie.spec (λ c. search rules) (λ c. search rules) returns (λ c. search rules) (λ c. search rules) returns-2)
