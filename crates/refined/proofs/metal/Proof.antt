@@ -11,5 +11,5 @@ total-requires c κs = c.requires
 returns : tie.Need-returns
 returns c = c.total.ensures ∙ total-plain _ _ _
 
-pub metal-spec : {M : Type 1} → statement M
-metal-spec = tie.close (tie.spec total-requires returns)
+pub metal_spec : {M : Type 1} → statement M
+metal_spec = tie.close (tie.spec total-requires returns)

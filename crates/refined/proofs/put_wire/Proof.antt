@@ -8,20 +8,20 @@ use Rattle.refined.proofs.WireLaws.{drawn-none, drawn-one}
 use Rattle.refined.proofs.put_wire.Statement.{statement}
 use Rattle.refined.proofs.put_wire.Tie as tie
 
-returns : tie.Need-returns
+returns : tie.Need-returns-then-distance-eq0
 unfolding flat
 returns c =
-    let s = c.before.before in
-    rw (drawn-none s.args.a s.args.b (sym c.before.distance.ensures ∙ c.if1.true)) (omega arith, refl)
+    let s = c in
+    rw (drawn-none s.args.a s.args.b (sym c.distance.ensures ∙ c.if-distance-eq0.true)) (omega arith, refl)
 
-returns-2 : tie.Need-returns-2
+returns-2 : tie.Need-returns
 unfolding flat
 returns-2 c =
-    let e = c.before.before.before in
-    let s = e.before.before in
-    rw (drawn-one s.args.a s.args.b (λ z. e.if1.false (e.before.distance.ensures ∙ z))) (refl, c.before.put-edge.ensures)
+    let e = c in
+    let s = e in
+    rw (drawn-one s.args.a s.args.b (λ z. e.if-distance-eq0.false (e.distance.ensures ∙ z))) (refl, c.put_edge.ensures)
 
-pub put-wire-spec : {M : Type 1} → statement M
-put-wire-spec =
+pub put_wire_spec : {M : Type 1} → statement M
+put_wire_spec =
     tie.close
     (tie.spec (λ c κs. search rules) returns (λ c κs. search rules) (λ c. search rules) (λ c. search rules) returns-2)
