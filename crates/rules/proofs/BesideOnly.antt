@@ -31,7 +31,7 @@ pub record PartedAt (net : Net) (G : List Edge) (x c v : Place) (qs : List Place
   pub lengths : long (cost_in net) x qs ≡ long (cost_in net) x first + long (cost_in net) c second
 
 module _ {net : Net} {G : List Edge} where
-  pub parted : {x c v : Place} {qs : List Place} → Way G x qs v → c ∈ (x ∷ qs) → PartedAt net G x c v qs
+  pub parted : {c x v : Place} {qs : List Place} → Way G x qs v → c ∈ (x ∷ qs) → PartedAt net G x c v qs
   unfolding long
   parted {c = c} {qs = qs} w (here e) = record {
     first = [];
@@ -95,7 +95,7 @@ module _ {net : Net} {G : List Edge} (law : Lawful net G) where
   -- A point beside the tree
 
   -- a point of a graph way from a vertex is a vertex
-  pub way-vertex : {x v c : Place} {qs : List Place} → Vertex net x → Way G x qs v → c ∈ (x ∷ qs) → Vertex net c
+  pub way-vertex : {c x v : Place} {qs : List Place} → Vertex net x → Way G x qs v → c ∈ (x ∷ qs) → Vertex net c
   way-vertex i w (here e) = subst (λ (z : Place). Vertex net z) (sym e) i
   way-vertex i (stop e) (there m) = elim m [ ]
   way-vertex i (go {x = x} {y = y} l w) (there m) = way-vertex (law.vertex x y l) w m
