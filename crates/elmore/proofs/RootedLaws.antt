@@ -64,6 +64,7 @@ module _ {A : Type 0} (g : A → Branches A) where
 
   pub in-sprout : (cs : List A) (c q : A) → c ∈ cs → q ∈ (c ∷ visited (g c)) → q ∈ visited (sprout g cs)
   unfolding sprout visited
+  in-sprout [] c q x'' i = elim x'' [ ]
   in-sprout (k ∷ cs) c q (here e) i = Memᴰ.append_left (visited (sprout g cs)) (rw e at i)
   in-sprout (k ∷ cs) c q (there m) i = there (Memᴰ.append_right (visited (g k)) (in-sprout cs c q m i))
 
@@ -108,6 +109,7 @@ module _ {A : Type 0} (T : List (A × A)) where
     once = (λ m. o.0 (alone h ps x m), (λ m. elim m [ ], tt));
     part = alone h ps;
   }
+  start _ _ y _ _ (go {z = z} {ps = []} l w) o (there m) = elim m [ ]
   start x h y z (k ∷ ps) (go l w) o (there m) = longer x h k y ps l o (start h k y z ps w o.1 m)
 
 -- The rooted tree

@@ -157,6 +157,7 @@ some f (x ∷ l) e =
 
 least-le : (l : List ℕ) (n : ℕ) → n ∈ l → least l ≤ n
 unfolding least
+least-le [] n i = elim i [ ]
 least-le (m ∷ []) n i = either (λ k. omega (arith, k)) (λ j. elim j [ ]) (Memᴰ.cases_cons i)
 least-le (m ∷ (k ∷ l)) n i =
     either (λ e. omega (arith, e)) (λ j. omega (arith, least-le (k ∷ l) n j)) (Memᴰ.cases_cons i)
@@ -306,7 +307,7 @@ module _ {s : Side} {net : Net} {X : List Place} {T : List Edge} {on : Place →
   unfolding allowed swept
   is-allowed = record {
     first_on = first_on c a at_a;
-    last-on = last-on c a at_a;
+    last_on = last-on c a at_a;
     covers = covered c a at_a;
     empty = and_left _ _ ok;
     meets = λ q m e h k i j. far-end s on T lines q

@@ -81,6 +81,7 @@ best-first m (n ∷ l) =
 
 best-all : (m : Move) (l : List Move) (k : Move) → k ∈ l → better k (best_of m l) ≡ false
 unfolding best_of
+best-all m [] k i = elim i [ ]
 best-all m (n ∷ l) k i =
     by (better n m)
     (λ e. rw (best_of, e) (either (λ q. rw q (best-first n l)) (best-all n l k) (Memᴰ.cases_cons i)))
@@ -103,6 +104,7 @@ module _ (net : Net) where
   -- every bar is among the moves
   pub in-moves : (T L : List Edge) (s : Side) (e : Edge) → e ∈ L → move_of net T s e ∈ moves_of net T L
   unfolding moves_of
+  in-moves T [] s e m = elim m [ ]
   in-moves T (d ∷ L) s e m = either (λ k. rw k (at s)) (λ i. there (there (there (there (in-moves T L s e i))))) (Memᴰ.cases_cons m)
     where
       at : (s : Side) → move_of net T s d ∈ moves_of net T (d ∷ L)

@@ -35,6 +35,7 @@ use Rattle.slide.proofs.EndLaws.{decide}
 
 pub in-ends : (T : List Edge) (a b : Place) → (a, b) ∈ T → (a ∈ ends T) × (b ∈ ends T)
 unfolding ends
+in-ends [] a b m = elim m [ ]
 in-ends (e ∷ T) a b m =
     either
     (λ k. (here (ap (λ (p : Edge). p.0) k), there (here (ap (λ (p : Edge). p.1) k))))
@@ -43,6 +44,7 @@ in-ends (e ∷ T) a b m =
 
 pub of-ends : (T : List Edge) (x : Place) → x ∈ ends T → (z : Place) × Link T x z
 unfolding ends
+of-ends [] x m = elim m [ ]
 of-ends (e ∷ T) x m =
     either
     (λ k. (e.1, inl (here (ap (λ (p : Place). (p, e.1)) k))))

@@ -67,6 +67,7 @@ le_next z w h = omega (arith, h, add-sides z (pos 1), up_pos 1, down_pos 1)
 module _ {A : Type 0} (g : A → ℕ) (n : ℕ) where
   least_at : (l : List A) (x : A) → x ∈ l → least_stop g n l ≤ g x
   unfolding least_stop
+  least_at [] x m = elim m [ ]
   least_at (y ∷ l) x m =
       either (λ k. let h = ap g k in omega (arith, h)) (λ i. omega (arith, least_at l x i)) (Memᴰ.cases_cons m)
 

@@ -5,17 +5,17 @@ use borrow.Author.Rules.{rules}
 use Rattle.bends.proofs.bend_slanted.Statement.{statement}
 use Rattle.bends.proofs.bend_slanted.Tie as tie
 
-returns : tie.Need-returns
+returns : tie.Need-returns-in-At
 returns c =
-    rw (sym c.before.before.before.before.before.before.before.before.find-corner.ensures
-    ∙ c.before.before.before.before.before.before.found.given.1)
-    c.before.before.put-bend.ensures
+    rw (sym c.find_corner-found.ensures
+    ∙ c.in-At.is)
+    c.put_bend.ensures
 
-returns-2 : tie.Need-returns-2
-returns-2 c = rw (sym c.before.before.find-corner.ensures ∙ c.enum_told.given.1) refl
+returns-2 : tie.Need-returns-in-Taken
+returns-2 c = rw (sym c.find_corner-found.ensures ∙ c.in-Taken.is) refl
 
-pub bend-slanted-spec : {M : Type 1} → statement M
-bend-slanted-spec =
+pub bend_slanted_spec : {M : Type 1} → statement M
+bend_slanted_spec =
     tie.close
     (tie.spec
     (λ c κs. search rules) (λ c. search rules) (λ c κs. search rules) (λ c. search rules) (λ c. search rules)

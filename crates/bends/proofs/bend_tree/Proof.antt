@@ -19,23 +19,23 @@ use Rattle.bends.proofs.bend_tree.Tie as tie
 
 bend-requires : tie.Need-bend-requires
 bend-requires c κs =
-    let d = c.before.before.before in
-    let s = d.before.before in
-    let long : length d.points.new.1.1.1.0 ≡ straight_bound * 2 = d.points.auto.1.1.1.0 in
-    let many = count-points (pin_places s.args.pins.now) (edges_of s.args.edges.now s.args.e) _ _ _ d.points.ensures in
+    let d = c in
+    let s = d in
+    let long : length d.points-n.new.pts ≡ straight_bound * 2 = d.points-n.auto.pts in
+    let many = count-points (pin_places s.args.pins.now) (edges_of s.args.edges.now s.args.e) _ _ _ d.points-n.ensures in
     (omega (arith, s.requires.0), (omega (arith, many, long, s.requires.1), omega (arith, s.requires.0)))
 
 returns : tie.Need-returns
 returns c =
-    let b = c.before.before in
-    let d = b.before.before.before.before in
-    let s = d.before.before in
+    let b = c in
+    let d = b in
+    let s = d in
     subst
-    (λ (X : List Place). BentBy (bends X (edges_of s.args.edges.now s.args.e)) b.bend.result b.bend.new.1.1.1.1.0)
-    (held-sorted d.points.ensures) b.bend.ensures
+    (λ (X : List Place). BentBy (bends X (edges_of s.args.edges.now s.args.e)) b.bend.result b.bend.new.out)
+    (held-sorted d.points-n.ensures) b.bend.ensures
 
-pub bend-tree-spec : {M : Type 1} → statement M
-bend-tree-spec =
+pub bend_tree_spec : {M : Type 1} → statement M
+bend_tree_spec =
     tie.close
     (tie.spec
     (λ c. search rules) (λ c κs. search rules) (λ c. search rules) bend-requires (λ c. search rules)

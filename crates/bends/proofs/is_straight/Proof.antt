@@ -26,18 +26,18 @@ module _ (s : tie.Start) where
   along : eqb (of_z w32 s.args.a.y) (of_z w32 s.args.b.y) ≡ z_eq s.args.a.y s.args.b.y
   along = flag-eq w32 _ _ of-a.y of-b.y
 
-returns : tie.Need-returns
+returns : tie.Need-returns-then-a-b
 unfolding straight
 returns c =
     let s = c.before.before.before.before.before in
-    rw (sym (across s) ∙ eq-eqb _ _ c.if1.true) (eq-eqb _ _ c.if1.true)
+    rw (sym (across s) ∙ eq-eqb _ _ c.if-a-b.true) (eq-eqb _ _ c.if-a-b.true)
 
-returns-2 : tie.Need-returns-2
+returns-2 : tie.Need-returns-else-a-b
 unfolding straight
 returns-2 c =
-    let d = c.before.before.before.before in
-    let s = d.before.before.before.before.before in
-    rw (sym (across s) ∙ ne_eqb _ _ d.if1.false) (along s)
+    let d = c in
+    let s = d.before.before.before.before.before.before.before.before.before in
+    rw (sym (across s) ∙ ne_eqb _ _ d.if-a-b.false) (along s)
 
-pub is-straight-spec : {M : Type 1} → statement M
-is-straight-spec = tie.close (tie.spec returns returns-2)
+pub is_straight_spec : {M : Type 1} → statement M
+is_straight_spec = tie.close (tie.spec returns returns-2)

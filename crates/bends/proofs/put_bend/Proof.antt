@@ -13,20 +13,20 @@ use Rattle.bends.proofs.put_bend.Tie as tie
 
 returns : tie.Need-returns
 returns c =
-    let second = c.before.before.before in
-    let s = c.before.before.before.before.before.before.before.before.before.before.before.before in
-    let first = second.before.before.before.before in
+    let second = c in
+    let s = c in
+    let first = second in
     record {
-      placed = c.before.before.before.before.before.before.before.before.before.before.put-place.ensures;
+      placed = c.put_place.ensures;
       edged =
-          second.put-smaller2.ensures
+          second.put_smaller-2.ensures
           ∙ ap (λ (t : List ℤ). sets t ((s.args.at.edges + 1) * 4) (edge_numbers (edge_of s.args.c s.args.b)))
-          first.put-smaller.ensures;
+          first.put_smaller.ensures;
       counted = refl;
     }
 
-pub put-bend-spec : {M : Type 1} → statement M
-put-bend-spec =
+pub put_bend_spec : {M : Type 1} → statement M
+put_bend_spec =
     tie.close
     (tie.spec
     (λ c κs. search rules) (λ c κs. search rules) (λ c. search rules) (λ c κs. search rules) (λ c. search rules)

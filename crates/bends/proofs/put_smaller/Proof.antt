@@ -6,20 +6,20 @@ use Rattle.graph.specs.Edges.{edge_of}
 use Rattle.bends.proofs.put_smaller.Statement.{statement}
 use Rattle.bends.proofs.put_smaller.Tie as tie
 
-returns : tie.Need-returns
+returns : tie.Need-returns-then-is_before
 unfolding edge_of
 returns c =
-    rw (edge_of, sym c.before.before.before.before.is-before.ensures ∙ c.before.before.before.if1.true)
-    c.before.put-edge.ensures
+    rw (edge_of, sym c.is_before.ensures ∙ c.if-is_before.true)
+    c.put_edge.ensures
 
-returns-2 : tie.Need-returns-2
+returns-2 : tie.Need-returns
 unfolding edge_of
 returns-2 c =
-    rw (edge_of, sym c.before.before.before.before.is-before.ensures ∙ c.before.before.before.if1.false)
-    c.before.put-edge2.ensures
+    rw (edge_of, sym c.is_before.ensures ∙ c.if-is_before.false)
+    c.put_edge-2.ensures
 
-pub put-smaller-spec : {M : Type 1} → statement M
-put-smaller-spec =
+pub put_smaller_spec : {M : Type 1} → statement M
+put_smaller_spec =
     tie.close
     (tie.spec
     (λ c κs. search rules) (λ c κs. search rules) (λ c. search rules) returns (λ c κs. search rules) (λ c. search rules)

@@ -9,5 +9,5 @@ returns : tie.Need-returns
 unfolding x_first
 returns c = search rules
 
-pub x-first-spec : {M : Type 1} → statement M
-x-first-spec = tie.close (tie.spec returns)
+pub x_first_spec : {M : Type 1} → statement M
+x_first_spec = tie.close (tie.spec returns)

@@ -9,5 +9,5 @@ returns : tie.Need-returns
 unfolding y_first
 returns c = search rules
 
-pub y-first-spec : {M : Type 1} → statement M
-y-first-spec = tie.close (tie.spec returns)
+pub y_first_spec : {M : Type 1} → statement M
+y_first_spec = tie.close (tie.spec returns)

@@ -7,7 +7,7 @@ use Rattle.elmore.proofs.add_child.Tie as tie
 
 returns : tie.Need-returns
 returns c =
-    child-added _ _ _ _ _ _ _ c.with-child.ensures c.before.edge-value.ensures c.before.before.length.ensures
+    child-added _ _ _ _ _ _ _ c.with_child.ensures c.edge_value.ensures c.length.ensures
 
-pub add-child-spec : {M : Type 1} → statement M
-add-child-spec = tie.close (tie.spec (λ c κs. search rules) (λ c κs. search rules) (λ c κs. search rules) returns)
+pub add_child_spec : {M : Type 1} → statement M
+add_child_spec = tie.close (tie.spec (λ c κs. search rules) (λ c κs. search rules) (λ c κs. search rules) returns)

@@ -11,5 +11,5 @@ returns : tie.Need-returns
 returns c =
     ap (λ (h : Float). plus c.args.parent (times c.args.resistance (plus (times c.args.edge h) c.args.child))) half-bits
 
-pub child-delay-spec : {M : Type 1} → statement M
-child-delay-spec = tie.close (tie.spec returns)
+pub child_delay_spec : {M : Type 1} → statement M
+child_delay_spec = tie.close (tie.spec returns)

@@ -7,9 +7,9 @@ use Rattle.elmore.proofs.delay_below.Tie as tie
 
 returns : tie.Need-returns
 returns c =
-    child-delayed _ _ _ _ _ _ _ _ _ c.child-delay.ensures c.before.before.edge-value.ensures c.before.edge-value2.ensures
-    c.before.before.before.length.ensures
+    child-delayed _ _ _ _ _ _ _ _ _ c.child_delay.ensures c.edge_value.ensures c.edge_value-2.ensures
+    c.length-n.ensures
 
-pub delay-below-spec : {M : Type 1} → statement M
-delay-below-spec =
+pub delay_below_spec : {M : Type 1} → statement M
+delay_below_spec =
     tie.close (tie.spec (λ c κs. search rules) (λ c κs. search rules) (λ c κs. search rules) (λ c κs. search rules) returns)

@@ -6,7 +6,7 @@ use Rattle.elmore.proofs.edge_value.Statement.{statement}
 use Rattle.elmore.proofs.edge_value.Tie as tie
 
 returns : tie.Need-returns
-returns c = ap (times c.before.args.unit) c.nearest-u64-to-f64.ensures
+returns c = ap (times c.args.unit) c.nearest_u64_to_f64.ensures
 
-pub edge-value-spec : {M : Type 1} → statement M
-edge-value-spec = tie.close (tie.spec (λ c κs. search rules) returns)
+pub edge_value_spec : {M : Type 1} → statement M
+edge_value_spec = tie.close (tie.spec (λ c κs. search rules) returns)

@@ -6,7 +6,7 @@ use Rattle.elmore.proofs.length.Statement.{statement}
 use Rattle.elmore.proofs.length.Tie as tie
 
 returns : tie.Need-returns
-returns c = c.distance.ensures ∙ ap₂ distance c.before.before.point_at.ensures c.before.point-at2.ensures
+returns c = c.distance.ensures ∙ ap₂ distance c.point_at.ensures c.point_at-2.ensures
 
 pub length_spec : {M : Type 1} → statement M
 length_spec = tie.close (tie.spec (λ c κs. search rules) (λ c κs. search rules) (λ c κs. search rules) returns)

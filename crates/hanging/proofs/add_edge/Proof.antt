@@ -15,42 +15,42 @@ labels lab e = ap (λ (k : ℕ). get_or lab k 0) e
 
 add-requires : tie.Need-add-requires
 add-requires c κs =
-    let p = c.before.before.before.before.before.requires in
-    let l = p.0.1.number c.before.before.before.before.first-end.result in
+    let p = c.requires in
+    let l = p.0.1.number c.first_end.result in
     ((p.0.0, l), p.1.each _ l)
 
-add-requires-2 : tie.Need-add-requires-2
+add-requires-2 : tie.Need-add-requires-then-p-q
 add-requires-2 c κs =
-    let p = c.before.before.before.before.before.before.before.before.requires in
-    let lab = c.before.before.before.before.before.before.before.before.args.lab.now in
-    let f = c.before.before.before.before.before.before.before.first-end in
-    let g = c.before.before.before.before.before.second-end in
+    let p = c.requires in
+    let lab = c.args.lab.now in
+    let f = c.first_end in
+    let g = c.second_end in
     let l = p.0.1.number g.result in (
       (p.0.0, l),
       still-coded _ _ _ _ _ _ p.1 _ _ (labels lab f.ensures.0) (labels lab g.ensures.0) (p.0.1.number f.result) _
-          c.before.before.add.ensures l c.before.if1.true,
+          c.add.ensures l c.if-p-q.true,
     )
 
-returns : tie.Need-returns
+returns : tie.Need-returns-then-p-q
 returns c =
-    let p = c.before.before.before.before.before.before.before.before.before.requires in
-    let lab = c.before.before.before.before.before.before.before.before.before.args.lab.now in
-    let f = c.before.before.before.before.before.before.before.before.first-end in
-    let g = c.before.before.before.before.before.before.second-end in
+    let p = c.requires in
+    let lab = c.args.lab.now in
+    let f = c.first_end in
+    let g = c.second_end in
     two-bars _ _ _ _ _ _ p.1 _ _ (labels lab f.ensures.0) (labels lab g.ensures.0) (p.0.1.number f.result) _
-    c.before.before.before.add.ensures (p.0.1.number g.result) _ c.add2.ensures
+    c.add.ensures (p.0.1.number g.result) _ c.add-then-p-q.ensures
 
-returns-2 : tie.Need-returns-2
+returns-2 : tie.Need-returns-else-p-q
 returns-2 c =
-    let p = c.before.before.before.before.before.before.before.requires in
-    let lab = c.before.before.before.before.before.before.before.args.lab.now in
-    let f = c.before.before.before.before.before.before.first-end in
-    let g = c.before.before.before.before.second-end in
+    let p = c.requires in
+    let lab = c.args.lab.now in
+    let f = c.first_end in
+    let g = c.second_end in
     one-bar _ _ _ _ _ _ p.1 _ _ (labels lab f.ensures.0) (labels lab g.ensures.0) (p.0.1.number f.result) _
-    c.before.add.ensures c.if1.false
+    c.add.ensures c.if-p-q.false
 
-pub add-edge-spec : {M : Type 1} → statement M
-add-edge-spec =
+pub add_edge_spec : {M : Type 1} → statement M
+add_edge_spec =
     tie.close
     (tie.spec
     (λ c κs. search rules) (λ c. search rules) (λ c. search rules) (λ c κs. search rules) (λ c. search rules)

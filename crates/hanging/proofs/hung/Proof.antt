@@ -5,17 +5,17 @@ use borrow.Author.Rules.{rules}
 use Rattle.hanging.proofs.hung.Statement.{statement}
 use Rattle.hanging.proofs.hung.Tie as tie
 
-returns : tie.Need-returns
-returns c = hung-ahead _ _ _ _ _ _ _ c.before.before.before.before.before.before.is-ahead.ensures
-    c.before.before.before.before.before.if1.true c.before.before.before.is-behind.ensures
-    c.before.before.counted.ensures c.before.long.ensures c.shortest.ensures
+returns : tie.Need-returns-then-is_ahead
+returns c = hung-ahead _ _ _ _ _ _ _ c.is_ahead.ensures
+    c.if-is_ahead.true c.is_behind.ensures
+    c.counted.ensures c.long.ensures c.shortest.ensures
 
-returns-2 : tie.Need-returns-2
-returns-2 c = hung-not _ _ _ _ _ c.before.before.before.is-ahead.ensures c.before.before.if1.false
-    c.before.is-behind2.ensures c.counted2.ensures
+returns-2 : tie.Need-returns
+returns-2 c = hung-not _ _ _ _ _ c.is_ahead.ensures c.if-is_ahead.false
+    c.is_behind-2.ensures c.counted-2.ensures
 
-pub hung-spec : {M : Type 1} → statement M
-hung-spec =
+pub hung_spec : {M : Type 1} → statement M
+hung_spec =
     tie.close
     (tie.spec
     (λ c κs. search rules) (λ c. search rules) (λ c κs. search rules) (λ c κs. search rules) (λ c κs. search rules)

@@ -7,11 +7,11 @@ use borrow.Author.Rules.{rules}
 use Rattle.hanging.proofs.shortest.Statement.{statement}
 use Rattle.hanging.proofs.shortest.Tie as tie
 
-returns : tie.Need-returns
-returns c = shorter-first _ _ c.if1.true
+returns : tie.Need-returns-then-h-eq0
+returns c = shorter-first _ _ c.if-h-eq0.true
 
-returns-2 : tie.Need-returns-2
-returns-2 c = c.smaller.ensures ∙ shorter-next _ _ c.before.if1.false
+returns-2 : tie.Need-returns
+returns-2 c = c.smaller.ensures ∙ shorter-next _ _ c.if-h-eq0.false
 
-pub shortest-spec : {M : Type 1} → statement M
-shortest-spec = tie.close (tie.spec returns (λ c κs. search rules) returns-2)
+pub shortest_spec : {M : Type 1} → statement M
+shortest_spec = tie.close (tie.spec returns (λ c κs. search rules) returns-2)

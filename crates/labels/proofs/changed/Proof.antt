@@ -6,11 +6,11 @@ use Rattle.joined.specs.Table.{changed}
 use Rattle.labels.proofs.changed.Statement.{statement}
 use Rattle.labels.proofs.changed.Tie as tie
 
-returns : tie.Need-returns
-returns c = changed-yes _ _ _ c.if1.true
+returns : tie.Need-returns-then-x-b
+returns c = changed-yes _ _ _ c.if-x-b.true
 
-returns-2 : tie.Need-returns-2
-returns-2 c = changed-no _ _ _ c.if1.false
+returns-2 : tie.Need-returns
+returns-2 c = changed-no _ _ _ c.if-x-b.false
 
-pub changed-spec : {M : Type 1} → statement M
-changed-spec = tie.close (tie.spec returns returns-2)
+pub changed_spec : {M : Type 1} → statement M
+changed_spec = tie.close (tie.spec returns returns-2)

@@ -13,10 +13,10 @@ use Rattle.labels.proofs.leads.Tie as tie
 returns : tie.Need-returns
 unfolding leads
 returns c =
-    let lab = c.before.before.before.args.lab.now in
-    ap₂ ◌&&◌ c.before.is-level.ensures (ap (λ (i : ℕ). eqb (get_or lab i 0) i) c.before.before.first-end.ensures.0)
+    let lab = c.args.lab.now in
+    ap₂ ◌&&◌ c.is_level.ensures (ap (λ (i : ℕ). eqb (get_or lab i 0) i) c.first_end-a.ensures.0)
 
-pub leads-spec : {M : Type 1} → statement M
-leads-spec =
+pub leads_spec : {M : Type 1} → statement M
+leads_spec =
     tie.close
     (tie.spec (λ c κs. search rules) (λ c κs. search rules) (λ c. search rules) (λ c. search rules) returns)

@@ -9,23 +9,23 @@ use Rattle.turned.specs.Steps.{up_to, set_by}
 use Rattle.labels.proofs.number.Statement.{statement}
 use Rattle.labels.proofs.number.Tie as tie
 
-abbrev invariant-loop : tie.invariant-loop
+abbrev invariant-loop : tie.invariant-loop-i
 invariant-loop lab₀ n i₀ lab i = (i ≤ n) × (lab ≡ up_to (set_by (λ j x. j)) i lab₀)
 
-abbrev decreases-loop : tie.decreases-loop
+abbrev decreases-loop : tie.decreases-loop-i
 decreases-loop lab₀ n i₀ lab i = n - i
 
-loop-holds : tie.Need-loop-init invariant-loop decreases-loop
+loop-holds : tie.Need-loop-i-init invariant-loop decreases-loop
 loop-holds c = (omega arith, up_start _ _)
 
-loop-again : tie.Need-loop-preserved invariant-loop decreases-loop
-loop-again c = (omega arith, up_next _ _ _ _ _ c.before.loop.invariant.1 refl)
+loop-again : tie.Need-loop-i-preserved invariant-loop decreases-loop
+loop-again c = (omega arith, up_next _ _ _ _ _ c.loop-i.invariant.1 refl)
 
 returns : tie.Need-returns invariant-loop decreases-loop
-returns c = up-end _ _ _ _ _ c.before.loop.invariant.1 (omega arith) (omega arith)
+returns c = up-end _ _ _ _ _ c.loop-i.invariant.1 (omega arith) (omega arith)
 
-pub number-spec : {M : Type 1} → statement M
-number-spec =
+pub number_spec : {M : Type 1} → statement M
+number_spec =
     tie.close
     (tie.spec
     invariant-loop decreases-loop loop-holds (λ c. omega arith) (λ c. omega arith) (λ c. omega arith) (λ c. omega arith) loop-again

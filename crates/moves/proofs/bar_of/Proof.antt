@@ -10,10 +10,10 @@ use Rattle.moves.proofs.bar_of.Tie as tie
 
 returns : tie.Need-returns
 unfolding last_on
-returns c = bar-is (view c.before.before.before.before.args.pts.now [] c.before.before.before.before.args.lab.now
-    c.before.before.before.before.args.s c.before.before.before.before.args.l) _ _ _ _ _
-    c.before.before.last_of.ensures.0 c.before.before.before.spot-at.ensures.0 c.before.spot-at2.ensures.0
+returns c = bar-is (view c.args.pts.now [] c.args.lab.now
+    c.args.s c.args.l) _ _ _ _ _
+    c.last_of.ensures.0 c.spot_at-first.ensures.0 c.spot_at-last.ensures.0
 
-pub bar-of-spec : {M : Type 1} → statement M
-bar-of-spec =
+pub bar_of_spec : {M : Type 1} → statement M
+bar_of_spec =
     tie.close (tie.spec (λ c κs. search rules) (λ c κs. search rules) (λ c κs. search rules) (λ c. search rules) returns)

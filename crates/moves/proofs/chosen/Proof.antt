@@ -4,11 +4,11 @@ use Rattle.moves.proofs.MovingLaws.{chosen-yes, chosen-no}
 use Rattle.moves.proofs.chosen.Statement.{statement}
 use Rattle.moves.proofs.chosen.Tie as tie
 
-returns : tie.Need-returns
-returns c = chosen-yes _ _ _ c.if1.true
+returns : tie.Need-returns-then-t
+returns c = chosen-yes _ _ _ c.if-t.true
 
-returns-2 : tie.Need-returns-2
-returns-2 c = chosen-no _ _ _ c.if1.false
+returns-2 : tie.Need-returns
+returns-2 c = chosen-no _ _ _ c.if-t.false
 
-pub chosen-spec : {M : Type 1} → statement M
-chosen-spec = tie.close (tie.spec returns returns-2)
+pub chosen_spec : {M : Type 1} → statement M
+chosen_spec = tie.close (tie.spec returns returns-2)

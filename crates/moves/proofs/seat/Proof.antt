@@ -13,34 +13,34 @@ use Rattle.turned.proofs.StepLaws.{up_start, up_next, up-end}
 use Rattle.moves.proofs.seat.Statement.{statement}
 use Rattle.moves.proofs.seat.Tie as tie
 
-abbrev invariant-loop : tie.invariant-loop
+abbrev invariant-loop : tie.invariant-loop-j
 invariant-loop pts n pins m seats₀ j₀ seats j = (j ≤ m) × (seats ≡ up_to (set_by (λ i x. seat_of pts n (pin_at pins i))) j seats₀)
 
-abbrev decreases-loop : tie.decreases-loop
+abbrev decreases-loop : tie.decreases-loop-j
 decreases-loop pts n pins m seats₀ j₀ seats j = m - j
 
-loop-again : tie.Need-loop-preserved invariant-loop decreases-loop
+loop-again : tie.Need-loop-j-preserved invariant-loop decreases-loop
 loop-again c =
-    let l = c.before.before.before in
-    let s = l.before.args in (
+    let l = c in
+    let s = l.args in (
       omega arith,
-      up_next _ _ _ _ _ l.loop.invariant.1
-          (ap (λ (x : ℕ). set l.loop.seats l.loop.j x)
-          (c.seat-of.ensures.0 ∙ ap (λ (p : Place). seat_of s.pts.now s.n p) c.before.pin_at.ensures)),
+      up_next _ _ _ _ _ l.loop-j.invariant.1
+          (ap (λ (x : ℕ). set l.loop-j.seats l.loop-j.j x)
+          (c.seat_of.ensures.0 ∙ ap (λ (p : Place). seat_of s.pts.now s.n p) c.pin_at.ensures)),
     )
 
 returns : tie.Need-returns invariant-loop decreases-loop
 unfolding seats_of
-returns c = up-end _ _ _ _ _ c.before.loop.invariant.1 (omega arith) (omega arith)
+returns c = up-end _ _ _ _ _ c.loop-j.invariant.1 (omega arith) (omega arith)
 
-pub seat-spec : {M : Type 1} → statement M
-seat-spec =
+pub seat_spec : {M : Type 1} → statement M
+seat_spec =
     tie.close
     (tie.spec
     invariant-loop
     decreases-loop
     (λ c. (omega arith, up_start _ _))
-    (λ c κs. omega (arith, c.before.before.requires)) (λ c κs. c.before.before.before.requires.0)
-    (λ c. omega (arith, c.before.before.before.before.requires))
-    (λ c. omega (arith, c.before.before.before.before.requires)) (λ c. omega arith) (λ c. omega arith) loop-again
+    (λ c κs. omega (arith, c.requires)) (λ c κs. c.requires.0)
+    (λ c. omega (arith, c.requires))
+    (λ c. omega (arith, c.requires)) (λ c. omega arith) (λ c. omega arith) loop-again
     returns)

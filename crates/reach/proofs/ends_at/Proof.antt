@@ -5,19 +5,19 @@ use borrow.Author.Rules.{rules}
 use Rattle.reach.proofs.ends_at.Statement.{statement}
 use Rattle.reach.proofs.ends_at.Tie as tie
 
-returns : tie.Need-returns
-returns c = ends-first _ _ _ _ _ c.before.before.before.before.is-ahead.ensures c.before.before.before.long.ensures
-    c.before.before.if1.true c.before.if2.true _ c.is_same.ensures
+returns : tie.Need-returns-then-e
+returns c = ends-first _ _ _ _ _ c.is_ahead.ensures c.long.ensures
+    c.if-is_ahead-long.true c.if-e.true _ c.is_same.ensures
 
-returns-2 : tie.Need-returns-2
-returns-2 c = ends-second _ _ _ _ _ c.before.before.before.before.is-ahead.ensures c.before.before.before.long.ensures
-    c.before.before.if1.true c.before.if2.false _ c.is-same2.ensures
+returns-2 : tie.Need-returns-then-is_ahead-long
+returns-2 c = ends-second _ _ _ _ _ c.is_ahead.ensures c.long.ensures
+    c.if-is_ahead-long.true c.if-e.false _ c.is_same-then-is_ahead-long.ensures
 
-returns-3 : tie.Need-returns-3
-returns-3 c = ends-not _ _ _ _ _ c.before.before.is-ahead.ensures c.before.long.ensures c.if1.false
+returns-3 : tie.Need-returns
+returns-3 c = ends-not _ _ _ _ _ c.is_ahead.ensures c.long.ensures c.if-is_ahead-long.false
 
-pub ends-at-spec : {M : Type 1} → statement M
-ends-at-spec =
+pub ends_at_spec : {M : Type 1} → statement M
+ends_at_spec =
     tie.close
     (tie.spec
     (λ c κs. search rules) (λ c κs. search rules) (λ c κs. search rules) returns (λ c κs. search rules) returns-2

@@ -11,12 +11,12 @@ use Rattle.reach.proofs.high_corner.Tie as tie
 
 returns : tie.Need-returns
 returns c =
-    let b = c.before.before.before.before.args.bar in
+    let b = c.args.bar in
     ap₂ (λ (x y : ℕ). let r : Spot = record { along = x; across = y } in r)
-    (c.before.before.smaller.ensures ∙ ap (λ (x : ℕ). min x b.last.along) c.before.before.before.greater.ensures)
-    (c.smaller2.ensures ∙ ap (λ (x : ℕ). min x b.top) c.before.greater2.ensures)
+    (c.smaller.ensures ∙ ap (λ (x : ℕ). min x b.last.along) c.greater.ensures)
+    (c.smaller-2.ensures ∙ ap (λ (x : ℕ). min x b.top) c.greater-2.ensures)
 
-pub high-corner-spec : {M : Type 1} → statement M
-high-corner-spec =
+pub high_corner_spec : {M : Type 1} → statement M
+high_corner_spec =
     tie.close
     (tie.spec (λ c κs. search rules) (λ c κs. search rules) (λ c κs. search rules) (λ c κs. search rules) returns)

@@ -9,20 +9,20 @@ use borrow.Author.Rules.{rules}
 use Rattle.reach.proofs.is_exempt.Statement.{statement}
 use Rattle.reach.proofs.is_exempt.Tie as tie
 
-returns : tie.Need-returns
+returns : tie.Need-returns-then-is_same
 returns c =
-    let s = c.before.before.before.before.before.args in
-    exempt-same _ _ _ _ _ _ (c.before.before.is_same.ensures ∙ ap₂ same_spot c.before.before.before.before.low-corner.ensures
-    c.before.before.before.high-corner.ensures) c.before.if1.true
-    (c.is-far-end.ensures ∙ ap (is_far (seen_by s.pts.now s.keys.now s.lab.now s.bar) s.e s.bar.most)
-    c.before.before.before.before.low-corner.ensures)
+    let s = c.args in
+    exempt-same _ _ _ _ _ _ (c.is_same.ensures ∙ ap₂ same_spot c.low_corner-c.ensures
+    c.high_corner.ensures) c.if-is_same.true
+    (c.is_far_end.ensures ∙ ap (is_far (seen_by s.pts.now s.keys.now s.lab.now s.bar) s.e s.bar.most)
+    c.low_corner-c.ensures)
 
-returns-2 : tie.Need-returns-2
-returns-2 c = exempt-not _ _ _ _ _ (c.before.is_same.ensures ∙ ap₂ same_spot c.before.before.before.low-corner.ensures
-    c.before.before.high-corner.ensures) c.if1.false
+returns-2 : tie.Need-returns
+returns-2 c = exempt-not _ _ _ _ _ (c.is_same.ensures ∙ ap₂ same_spot c.low_corner-c.ensures
+    c.high_corner.ensures) c.if-is_same.false
 
-pub is-exempt-spec : {M : Type 1} → statement M
-is-exempt-spec =
+pub is_exempt_spec : {M : Type 1} → statement M
+is_exempt_spec =
     tie.close
     (tie.spec
     (λ c κs. search rules) (λ c κs. search rules) (λ c κs. search rules) (λ c κs. search rules) returns

@@ -13,37 +13,37 @@ use Rattle.reach.specs.Passing.{ends_at, seen_by, is_far, exempt, past, past_poi
 use Rattle.reach.proofs.is_far_end.Statement.{statement}
 use Rattle.reach.proofs.is_far_end.Tie as tie
 
-abbrev invariant-loop : tie.invariant-loop
+abbrev invariant-loop : tie.invariant-loop-k
 invariant-loop pts keys e lab bar c side found₀ k₀ found k =
     (k ≤ e) × (found ≡ up_to (λ j t. t || ends_at (seen_edge (seen_by pts keys lab bar) j) bar.most c) k false)
 
-abbrev decreases-loop : tie.decreases-loop
+abbrev decreases-loop : tie.decreases-loop-k
 decreases-loop pts keys e lab bar c side found₀ k₀ found k = e - k
 
-loop-holds : tie.Need-loop-init invariant-loop decreases-loop
+loop-holds : tie.Need-loop-k-init invariant-loop decreases-loop
 loop-holds c = (omega arith, up_start _ _)
 
-seen-edge-requires : tie.Need-seen-edge-requires invariant-loop decreases-loop
-seen-edge-requires c κs = (omega arith, c.before.before.requires.1.small c.before.loop.k)
+seen-edge-requires : tie.Need-seen_edge-t-requires invariant-loop decreases-loop
+seen-edge-requires c κs = (omega arith, c.requires.1.small c.loop-k.k)
 
-ends-at-requires : tie.Need-ends-at-requires invariant-loop decreases-loop
+ends-at-requires : tie.Need-ends_at-found-requires invariant-loop decreases-loop
 ends-at-requires c κs = tt
 
-loop-again : tie.Need-loop-preserved invariant-loop decreases-loop
+loop-again : tie.Need-loop-k-preserved invariant-loop decreases-loop
 loop-again c =
-    let s = c.before.before.before.before.args in (
+    let s = c.args in (
       omega arith,
-      up_next _ _ _ _ _ c.before.before.before.loop.invariant.1
-          (ap (λ (t : Bool). c.before.before.before.loop.found || t)
-          (c.ends_at.ensures ∙ ap (λ (t : Seen). ends_at t s.bar.most s.c) c.before.seen-edge.ensures.0)),
+      up_next _ _ _ _ _ c.loop-k.invariant.1
+          (ap (λ (t : Bool). c.loop-k.found || t)
+          (c.ends_at-found.ensures ∙ ap (λ (t : Seen). ends_at t s.bar.most s.c) c.seen_edge-t.ensures.0)),
     )
 
 returns : tie.Need-returns invariant-loop decreases-loop
 unfolding is_far
-returns c = up-end _ _ _ _ _ c.before.loop.invariant.1 (omega arith) (omega arith)
+returns c = up-end _ _ _ _ _ c.loop-k.invariant.1 (omega arith) (omega arith)
 
-pub is-far-end-spec : {M : Type 1} → statement M
-is-far-end-spec =
+pub is_far_end_spec : {M : Type 1} → statement M
+is_far_end_spec =
     tie.close
     (tie.spec
     invariant-loop decreases-loop loop-holds seen-edge-requires ends-at-requires (λ c. omega arith) (λ c. omega arith) loop-again

@@ -9,5 +9,5 @@ returns : tie.Need-returns
 unfolding hopeless
 returns c = refl
 
-pub is-hopeless-spec : {M : Type 1} → statement M
-is-hopeless-spec = tie.close (tie.spec returns)
+pub is_hopeless_spec : {M : Type 1} → statement M
+is_hopeless_spec = tie.close (tie.spec returns)

@@ -6,9 +6,9 @@ use Rattle.reach.proofs.is_in_front.Statement.{statement}
 use Rattle.reach.proofs.is_in_front.Tie as tie
 
 returns : tie.Need-returns
-returns c = front-is _ _ _ _ _ c.before.before.before.before.before.smaller.ensures c.before.before.before.greater.ensures
-    c.before.greater2.ensures
+returns c = front-is _ _ _ _ _ c.smaller.ensures c.greater.ensures
+    c.greater-2.ensures
 
-pub is-in-front-spec : {M : Type 1} → statement M
-is-in-front-spec =
+pub is_in_front_spec : {M : Type 1} → statement M
+is_in_front_spec =
     tie.close (tie.spec (λ c κs. search rules) (λ c κs. search rules) (λ c κs. search rules) returns)

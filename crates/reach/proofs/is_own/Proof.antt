@@ -6,11 +6,11 @@ use Rattle.reach.specs.Passing.{own_of}
 use Rattle.reach.proofs.is_own.Statement.{statement}
 use Rattle.reach.proofs.is_own.Tie as tie
 
-returns : tie.Need-returns
-returns c = own-level _ c.before.if1.true
+returns : tie.Need-returns-then-e
+returns c = own-level _ c.if-e.true
 
-returns-2 : tie.Need-returns-2
-returns-2 c = own-not _ c.before.if1.false
+returns-2 : tie.Need-returns
+returns-2 c = own-not _ c.if-e.false
 
-pub is-own-spec : {M : Type 1} → statement M
-is-own-spec = tie.close (tie.spec returns returns-2)
+pub is_own_spec : {M : Type 1} → statement M
+is_own_spec = tie.close (tie.spec returns returns-2)

@@ -11,12 +11,12 @@ use Rattle.reach.proofs.low_corner.Tie as tie
 
 returns : tie.Need-returns
 returns c =
-    let b = c.before.before.before.before.args.bar in
+    let b = c.args.bar in
     ap₂ (λ (x y : ℕ). let r : Spot = record { along = x; across = y } in r)
-    (c.before.before.greater.ensures ∙ ap (λ (x : ℕ). max x b.first.along) c.before.before.before.smaller.ensures)
-    (c.greater2.ensures ∙ ap (λ (x : ℕ). max x b.first.across) c.before.smaller2.ensures)
+    (c.greater.ensures ∙ ap (λ (x : ℕ). max x b.first.along) c.smaller.ensures)
+    (c.greater-2.ensures ∙ ap (λ (x : ℕ). max x b.first.across) c.smaller-2.ensures)
 
-pub low-corner-spec : {M : Type 1} → statement M
-low-corner-spec =
+pub low_corner_spec : {M : Type 1} → statement M
+low_corner_spec =
     tie.close
     (tie.spec (λ c κs. search rules) (λ c κs. search rules) (λ c κs. search rules) (λ c κs. search rules) returns)

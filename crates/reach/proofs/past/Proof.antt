@@ -9,26 +9,26 @@ use borrow.Author.Rules.{rules}
 use Rattle.reach.proofs.past.Statement.{statement}
 use Rattle.reach.proofs.past.Tie as tie
 
-returns : tie.Need-returns
-returns c = past_by _ _ _ _ _ _ _ c.before.before.is-own.ensures c.before.is-in-front.ensures c.if1.true
+returns : tie.Need-returns-then-is_own-is_in_front
+returns c = past_by _ _ _ _ _ _ _ c.is_own.ensures c.is_in_front.ensures c.if-is_own-is_in_front.true
 
-returns-2 : tie.Need-returns-2
-returns-2 c = past_near _ _ _ _ _ _ _ c.before.before.before.before.before.before.before.before.before.is-own.ensures
-    c.before.before.before.before.before.before.before.before.is-in-front.ensures
-    c.before.before.before.before.before.before.before.if1.false _ _ (c.before.before.before.before.before.beyond.ensures
-    ∙ ap (λ (z : ℕ). z - c.before.before.before.before.before.before.before.before.before.before.args.bar.first.across)
-    c.before.before.before.before.before.before.smaller.ensures) c.before.before.before.before.smaller2.ensures
-    c.before.if2.true _ c.is-exempt.ensures
+returns-2 : tie.Need-returns-then-w-d
+returns-2 c = past_near _ _ _ _ _ _ _ c.is_own.ensures
+    c.is_in_front.ensures
+    c.if-is_own-is_in_front.false _ _ (c.beyond-d.ensures
+    ∙ ap (λ (z : ℕ). z - c.args.bar.first.across)
+    c.smaller.ensures) c.smaller-stop.ensures
+    c.if-w-d.true _ c.is_exempt.ensures
 
-returns-3 : tie.Need-returns-3
-returns-3 c = past-far _ _ _ _ _ _ _ c.before.before.before.before.before.before.before.before.is-own.ensures
-    c.before.before.before.before.before.before.before.is-in-front.ensures
-    c.before.before.before.before.before.before.if1.false _ _ (c.before.before.before.before.beyond.ensures
-    ∙ ap (λ (z : ℕ). z - c.before.before.before.before.before.before.before.before.before.args.bar.first.across)
-    c.before.before.before.before.before.smaller.ensures) c.before.before.before.smaller2.ensures c.if2.false
+returns-3 : tie.Need-returns
+returns-3 c = past-far _ _ _ _ _ _ _ c.is_own.ensures
+    c.is_in_front.ensures
+    c.if-is_own-is_in_front.false _ _ (c.beyond-d.ensures
+    ∙ ap (λ (z : ℕ). z - c.args.bar.first.across)
+    c.smaller.ensures) c.smaller-stop.ensures c.if-w-d.false
 
-pub past-spec : {M : Type 1} → statement M
-past-spec =
+pub past_spec : {M : Type 1} → statement M
+past_spec =
     tie.close
     (tie.spec
     (λ c κs. search rules) (λ c κs. search rules) returns (λ c κs. search rules) (λ c κs. search rules)

@@ -9,21 +9,21 @@ use borrow.Author.Rules.{rules}
 use Rattle.reach.proofs.past_macro.Statement.{statement}
 use Rattle.reach.proofs.past_macro.Tie as tie
 
-returns : tie.Need-returns
+returns : tie.Need-returns-then-f-bar
 returns c =
-    let s = c.before.before.before.before.before.before.before.before.before.before.before.before.before.args in
-    let f = c.before.before.before.before.before.before.before.before.before.before.before.before.face-of in
-    face-met s.bar f.result s.w c.before.before.before.before.before.if1.true _ _
-    c.before.before.before.beyond.ensures c.before.before.smaller.ensures ∙ ap (λ (g : Face). past_face s.bar g s.w)
+    let s = c.args in
+    let f = c.face_of-f in
+    face-met s.bar f.result s.w c.if-f-bar.true _ _
+    c.beyond-d.ensures c.smaller.ensures ∙ ap (λ (g : Face). past_face s.bar g s.w)
     f.ensures.0
 
-returns-2 : tie.Need-returns-2
+returns-2 : tie.Need-returns
 returns-2 c =
-    let s = c.before.before.before.before.before.before.before.before.args in
-    let f = c.before.before.before.before.before.before.before.face-of in
-    face-not s.bar f.result s.w c.if1.false ∙ ap (λ (g : Face). past_face s.bar g s.w) f.ensures.0
+    let s = c.args in
+    let f = c.face_of-f in
+    face-not s.bar f.result s.w c.if-f-bar.false ∙ ap (λ (g : Face). past_face s.bar g s.w) f.ensures.0
 
-pub past-macro-spec : {M : Type 1} → statement M
-past-macro-spec =
+pub past_macro_spec : {M : Type 1} → statement M
+past_macro_spec =
     tie.close
     (tie.spec (λ c κs. search rules) (λ c. search rules) (λ c κs. search rules) (λ c κs. search rules) returns returns-2)

@@ -13,42 +13,42 @@ use Rattle.reach.proofs.HopelessLaws.{points-end, points-stop}
 use Rattle.reach.proofs.past_points.Statement.{statement}
 use Rattle.reach.proofs.past_points.Tie as tie
 
-abbrev invariant-loop : tie.invariant-loop
+abbrev invariant-loop : tie.invariant-loop-i
 invariant-loop pts keys z lab bar need side way₀ i₀ way i =
     (i ≤ z.points) × (way ≡ up_to (λ j. past (seen_by pts keys lab bar) z.edges bar (seen_point (seen_by pts keys lab bar) j)) i way₀)
 
-abbrev decreases-loop : tie.decreases-loop
+abbrev decreases-loop : tie.decreases-loop-i
 decreases-loop pts keys z lab bar need side way₀ i₀ way i = z.points - i
 
-loop-holds : tie.Need-loop-init invariant-loop decreases-loop
+loop-holds : tie.Need-loop-i-init invariant-loop decreases-loop
 loop-holds c = (omega arith, up_start _ _)
 
-returns : tie.Need-returns invariant-loop decreases-loop
+returns : tie.Need-returns-then-is_hopeless invariant-loop decreases-loop
 returns c =
-    let l = c.before.before.before.before in
-    points-stop _ _ _ _ _ _ _ _ l.loop.invariant.1 l.loop.invariant.0 (sym c.before.is-hopeless.ensures ∙ c.if2.true)
+    let l = c in
+    points-stop _ _ _ _ _ _ _ _ l.loop-i.invariant.1 l.loop-i.invariant.0 (sym c.is_hopeless.ensures ∙ c.if-is_hopeless.true)
 
-past-requires : tie.Need-past-requires invariant-loop decreases-loop
-past-requires c κs = let s = c.before.before.before.before.before.before in (s.requires.0.1, s.requires.1)
+past-requires : tie.Need-past-way-requires invariant-loop decreases-loop
+past-requires c κs = let s = c in (s.requires.0.1, s.requires.1)
 
-loop-again : tie.Need-loop-preserved invariant-loop decreases-loop
+loop-again : tie.Need-loop-i-preserved invariant-loop decreases-loop
 loop-again c =
-    let l = c.before.before.before.before.before.before in
-    let s = l.before.args in (
+    let l = c in
+    let s = l.args in (
       omega arith,
-      up_next _ _ _ _ _ l.loop.invariant.1
-          (c.past.ensures ∙ ap (λ (t : Seen). past (seen_by s.pts.now s.keys.now s.lab.now s.bar) s.z.edges s.bar
-          t l.loop.way) c.before.seen-point.ensures),
+      up_next _ _ _ _ _ l.loop-i.invariant.1
+          (c.past-way.ensures ∙ ap (λ (t : Seen). past (seen_by s.pts.now s.keys.now s.lab.now s.bar) s.z.edges s.bar
+          t l.loop-i.way) c.seen_point-t.ensures),
     )
 
-returns-2 : tie.Need-returns-2 invariant-loop decreases-loop
-returns-2 c = let l = c.before.before in points-end _ _ _ _ _ _ _ _ l.loop.invariant.1 l.loop.invariant.0 (omega arith)
+returns-2 : tie.Need-returns invariant-loop decreases-loop
+returns-2 c = let l = c in points-end _ _ _ _ _ _ _ _ l.loop-i.invariant.1 l.loop-i.invariant.0 (omega arith)
 
-pub past-points-spec : {M : Type 1} → statement M
-past-points-spec =
+pub past_points_spec : {M : Type 1} → statement M
+past_points_spec =
     tie.close
     (tie.spec
-    invariant-loop decreases-loop loop-holds (λ c κs. tt) returns (λ c κs. omega (arith, c.before.before.before.before.before.requires, c.before.before.if1.true)) past-requires
-    (λ c. let t = c.before.before.before.before in omega (arith, t.before.before.before.requires, t.if1.true))
+    invariant-loop decreases-loop loop-holds (λ c κs. tt) returns (λ c κs. omega (arith, c.requires, c.loop-i-test.true)) past-requires
+    (λ c. let t = c in omega (arith, t.requires, t.loop-i-test.true))
     (λ c. omega arith) loop-again
     returns-2)

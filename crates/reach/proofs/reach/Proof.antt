@@ -11,30 +11,30 @@ use Rattle.reach.proofs.reach.Statement.{statement}
 use Rattle.reach.proofs.reach.Tie as tie
 
 -- the whole way
-whole : (c : tie.After-past-edges) → let s = c.before.before.before.args in
-    Alike s.need (way s.bar.most true) c.past-edges.result
+whole : (c : tie.After-past_edges-u) → let s = c.args in
+    Alike s.need (way s.bar.most true) c.past_edges-u.result
     (way_of (seen_by s.pts.now s.keys.now s.lab.now s.bar) s.z.points s.z.edges s.macros.now s.bar)
 whole c =
-    let s = c.before.before.before.args in
+    let s = c.args in
     way-alike s.need (seen_by s.pts.now s.keys.now s.lab.now s.bar) s.z.edges s.bar s.z.points
-    s.macros.now _ _ _ c.before.before.past-macros.ensures c.before.past-Points.ensures c.past-edges.ensures
+    s.macros.now _ _ _ c.past_macros-w.ensures c.past_points-v.ensures c.past_edges-u.ensures
 
-returns : tie.Need-returns
+returns : tie.Need-returns-then-u
 returns c =
-    let s = c.before.before.before.before.args in
+    let s = c.args in
     let w = whole c.before in
-    let q = reach-free _ _ c.if1.true in
+    let q = reach-free _ _ c.if-u.true in
     (near-reached s.need s.bar _ _ _ _ w q, reached-less s.need s.bar _ _ w.less q)
 
-returns-2 : tie.Need-returns-2
+returns-2 : tie.Need-returns
 returns-2 c =
-    let s = c.before.before.before.before.before.args in
+    let s = c.args in
     let w = whole c.before.before in
-    let q = c.beyond.ensures ∙ reach-stop _ _ c.before.if1.false in
+    let q = c.beyond.ensures ∙ reach-stop _ _ c.if-u.false in
     (near-reached s.need s.bar _ _ _ _ w q, reached-less s.need s.bar _ _ w.less q)
 
-pub reach-spec : {M : Type 1} → statement M
-reach-spec =
+pub reach_spec : {M : Type 1} → statement M
+reach_spec =
     tie.close
     (tie.spec
     (λ c κs. search rules) (λ c κs. search rules) (λ c κs. search rules) returns (λ c κs. search rules)

@@ -7,17 +7,17 @@ use Rattle.slide.specs.Slide.{proper}
 use Rattle.shifted.proofs.put_proper.Statement.{statement}
 use Rattle.shifted.proofs.put_proper.Tie as tie
 
-returns : tie.Need-returns
+returns : tie.Need-returns-then-is_same_place
 unfolding proper
-returns c = rw (proper, sym c.before.is-same-place.ensures ∙ c.if1.true) (refl, refl)
+returns c = rw (proper, sym c.is_same_place.ensures ∙ c.if-is_same_place.true) (refl, refl)
 
-returns-2 : tie.Need-returns-2
+returns-2 : tie.Need-returns
 unfolding proper
 returns-2 c =
-    let e = c.before.before.before in
-    rw (proper, sym e.before.is-same-place.ensures ∙ e.if1.false) (c.before.put-edge.ensures, refl)
+    let e = c in
+    rw (proper, sym e.is_same_place.ensures ∙ e.if-is_same_place.false) (c.put_edge.ensures, refl)
 
-pub put-proper-spec : {M : Type 1} → statement M
-put-proper-spec =
+pub put_proper_spec : {M : Type 1} → statement M
+put_proper_spec =
     tie.close
     (tie.spec (λ c κs. search rules) returns (λ c κs. search rules) (λ c. search rules) (λ c. search rules) returns-2)

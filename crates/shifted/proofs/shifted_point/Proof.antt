@@ -10,20 +10,20 @@ use Rattle.shifted.proofs.shifted_point.Tie as tie
 
 moved-requires : tie.Need-moved-requires
 moved-requires c κs =
-    rw c.before.before.before.point_at.ensures (c.before.before.before.before.requires.1.fits (eq-eqb _ _ c.if1.true))
+    rw c.point_at-p.ensures (c.requires.1.fits (eq-eqb _ _ c.if-lab-i.true))
 
-returns : tie.Need-returns
+returns : tie.Need-returns-then-lab-i
 unfolding placed
 returns c =
-    let s = c.before.before.before.before.before in
-    rw (placed, eq-eqb _ _ c.before.if1.true)
-    (c.moved.ensures ∙ ap (moved s.args.m.side s.args.m.distance) c.before.before.before.before.point_at.ensures)
+    let s = c in
+    rw (placed, eq-eqb _ _ c.if-lab-i.true)
+    (c.moved.ensures ∙ ap (moved s.args.m.side s.args.m.distance) c.point_at-p.ensures)
 
-returns-2 : tie.Need-returns-2
+returns-2 : tie.Need-returns
 unfolding placed
-returns-2 c = rw (placed, ne_eqb _ _ c.if1.false) c.before.before.before.point_at.ensures
+returns-2 c = rw (placed, ne_eqb _ _ c.if-lab-i.false) c.point_at-p.ensures
 
-pub shifted-point-spec : {M : Type 1} → statement M
-shifted-point-spec =
+pub shifted_point_spec : {M : Type 1} → statement M
+shifted_point_spec =
     tie.close
     (tie.spec (λ c κs. search rules) (λ c. search rules) (λ c. search rules) moved-requires returns returns-2)

@@ -7,7 +7,7 @@ use Rattle.straight.proofs.first_place.Statement.{statement}
 use Rattle.straight.proofs.first_place.Tie as tie
 
 returns : tie.Need-returns
-returns c = c.point_at.ensures ∙ ap (place_at c.before.before.args.pts.now) c.before.first-end.ensures.0
+returns c = c.point_at.ensures ∙ ap (place_at c.args.pts.now) c.first_end.ensures.0
 
-pub first-place-spec : {M : Type 1} → statement M
-first-place-spec = tie.close (tie.spec (λ c κs. search rules) (λ c κs. search rules) returns)
+pub first_place_spec : {M : Type 1} → statement M
+first_place_spec = tie.close (tie.spec (λ c κs. search rules) (λ c κs. search rules) returns)

@@ -13,12 +13,12 @@ use Rattle.straight.proofs.rank.Tie as tie
 
 returns : tie.Need-returns
 returns c =
-    let e = c.before.args in (
+    let e = c.args in (
       c.rank.ensures.0
           ∙ rank-position e.pts.now e.p e.n
           ∙ ap (λ (l : List Place). position before l e.p) (points-are e.pts.now e.n),
       c.rank.ensures.1,
     )
 
-pub rank-spec : {M : Type 1} → statement M
-rank-spec = tie.close (tie.spec (λ c κs. c.requires) returns)
+pub rank_spec : {M : Type 1} → statement M
+rank_spec = tie.close (tie.spec (λ c κs. c.requires) returns)

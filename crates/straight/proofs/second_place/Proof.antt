@@ -7,7 +7,7 @@ use Rattle.straight.proofs.second_place.Statement.{statement}
 use Rattle.straight.proofs.second_place.Tie as tie
 
 returns : tie.Need-returns
-returns c = c.point_at.ensures ∙ ap (place_at c.before.before.args.pts.now) c.before.second-end.ensures.0
+returns c = c.point_at.ensures ∙ ap (place_at c.args.pts.now) c.second_end.ensures.0
 
-pub second-place-spec : {M : Type 1} → statement M
-second-place-spec = tie.close (tie.spec (λ c κs. search rules) (λ c κs. search rules) returns)
+pub second_place_spec : {M : Type 1} → statement M
+second_place_spec = tie.close (tie.spec (λ c κs. search rules) (λ c κs. search rules) returns)

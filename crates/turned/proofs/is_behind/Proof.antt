@@ -9,5 +9,5 @@ returns : tie.Need-returns
 unfolding behind_of
 returns c = refl
 
-pub is-behind-spec : {M : Type 1} → statement M
-is-behind-spec = tie.close (tie.spec returns)
+pub is_behind_spec : {M : Type 1} → statement M
+is_behind_spec = tie.close (tie.spec returns)

@@ -15,13 +15,13 @@ use Rattle.turned.proofs.is_level.Tie as tie
 returns : tie.Need-returns
 unfolding level_at
 returns c =
-    let s = c.before.before.before.before.before.before in
+    let s = c in
     let at : ℕ → Spot = λ (i : ℕ). spot s.args.s (place_at s.args.pts.now i) in
-    ap₂ (λ (p q : Spot). eqb p.across q.across) (c.before.before.before.before.spot-at.ensures.0
-    ∙ ap at c.before.before.before.before.before.first-end.ensures.0) (c.before.before.spot-at2.ensures.0
-    ∙ ap at c.before.before.before.second-end.ensures.0)
+    ap₂ (λ (p q : Spot). eqb p.across q.across) (c.spot_at-p.ensures.0
+    ∙ ap at c.first_end.ensures.0) (c.spot_at-q.ensures.0
+    ∙ ap at c.second_end.ensures.0)
 
-pub is-level-spec : {M : Type 1} → statement M
-is-level-spec =
+pub is_level_spec : {M : Type 1} → statement M
+is_level_spec =
     tie.close
     (tie.spec (λ c κs. search rules) (λ c κs. search rules) (λ c κs. search rules) (λ c κs. search rules) returns)

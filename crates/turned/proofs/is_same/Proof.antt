@@ -9,5 +9,5 @@ returns : tie.Need-returns
 unfolding same_spot
 returns c = refl
 
-pub is-same-spec : {M : Type 1} → statement M
-is-same-spec = tie.close (tie.spec returns)
+pub is_same_spec : {M : Type 1} → statement M
+is_same_spec = tie.close (tie.spec returns)

@@ -12,10 +12,10 @@ use Prim.Native.Nat.{◌+◌, ◌-◌, ◌^◌, ◌≤◌, ◌<◌, min, max}
 use Rattle.turned.proofs.raised.Statement.{statement}
 use Rattle.turned.proofs.raised.Tie as tie
 
-cast-result : tie.Need-overflow-cast-result
+cast-result : tie.Need-overflow_cast-result
 cast-result c = cast-wide _ c.ranges.z
 
-add-result : tie.Need-overflow-add-result
+add-result : tie.Need-overflow_add-result
 add-result c = rw (wide_is _ c.ranges.z) (raise-fits _ c.ranges.z)
 
 -- what the machine reads back
@@ -23,11 +23,11 @@ back : (c : tie.Start) → to_z w64 (of_z w64 (to_z w64 (of_z w64 (to_z w32 (of_
     ≡ c.args.z +ℤ pos 2147483648
 back c = to_z-of_z w64 _ (add-result c) ∙ ap (λ (y : ℤ). y +ℤ pos 2147483648) (wide_is _ c.ranges.z)
 
-cast-result-2 : tie.Need-overflow-cast-result-2
+cast-result-2 : tie.Need-overflow_cast-result-2
 cast-result-2 c = (rw (back c) (raise-whole _ c.ranges.z), rw (back c) (omega (arith, raise-most _ c.ranges.z)))
 
 returns : tie.Need-returns
 returns c = (ap nat_abs (back c) ∙ raise-is _ c.ranges.z, rw (back c) (raise-most _ c.ranges.z))
 
-pub raised-spec : {M : Type 1} → statement M
-raised-spec = tie.close (tie.spec cast-result add-result cast-result-2 returns)
+pub raised_spec : {M : Type 1} → statement M
+raised_spec = tie.close (tie.spec cast-result add-result cast-result-2 returns)

@@ -9,17 +9,17 @@ use Rattle.turned.proofs.seen_edge.Tie as tie
 
 returns : tie.Need-returns
 returns c = (
-  seen-is (view c.before.before.before.before.before.before.args.pts.now
-      c.before.before.before.before.before.before.args.keys.now
-      c.before.before.before.before.before.before.args.lab.now c.before.before.before.before.before.before.args.s
-      c.before.before.before.before.before.before.args.l) _ _ _ _ _ _
-      c.before.before.before.before.before.first-end.ensures.0 c.before.before.before.before.second-end.ensures.0
-      c.before.spot-at.ensures.0 c.spot-at2.ensures.0,
-  (c.before.spot-at.ensures.1, c.spot-at2.ensures.1),
+  seen-is (view c.args.pts.now
+      c.args.keys.now
+      c.args.lab.now c.args.s
+      c.args.l) _ _ _ _ _ _
+      c.first_end-a.ensures.0 c.second_end-b.ensures.0
+      c.spot_at.ensures.0 c.spot_at-2.ensures.0,
+  (c.spot_at.ensures.1, c.spot_at-2.ensures.1),
 )
 
-pub seen-edge-spec : {M : Type 1} → statement M
-seen-edge-spec =
+pub seen_edge_spec : {M : Type 1} → statement M
+seen_edge_spec =
     tie.close
     (tie.spec
     (λ c κs. search rules) (λ c κs. search rules) (λ c. search rules) (λ c. search rules) (λ c. search rules)

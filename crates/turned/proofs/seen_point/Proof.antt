@@ -9,11 +9,11 @@ use Rattle.turned.proofs.seen_point.Statement.{statement}
 use Rattle.turned.proofs.seen_point.Tie as tie
 
 returns : tie.Need-returns
-returns c = seen-is (view c.before.before.before.args.pts.now [] c.before.before.before.args.lab.now
-    c.before.before.before.args.s c.before.before.before.args.l) _ _ _ _ _ _ refl refl
-    c.before.before.spot-at.ensures.0 c.before.before.spot-at.ensures.0
+returns c = seen-is (view c.args.pts.now [] c.args.lab.now
+    c.args.s c.args.l) _ _ _ _ _ _ refl refl
+    c.spot_at-p.ensures.0 c.spot_at-p.ensures.0
 
-pub seen-point-spec : {M : Type 1} → statement M
-seen-point-spec =
+pub seen_point_spec : {M : Type 1} → statement M
+seen_point_spec =
     tie.close
     (tie.spec (λ c κs. search rules) (λ c. search rules) (λ c. search rules) (λ c. search rules) (λ c. search rules) returns)

@@ -9,9 +9,9 @@ use Rattle.turned.proofs.spot_at.Tie as tie
 
 returns : tie.Need-returns
 returns c = (
-  c.spot_of.ensures.0 ∙ ap (λ (p : Place). spot c.before.before.args.s p) c.before.point_at.ensures,
+  c.spot_of.ensures.0 ∙ ap (λ (p : Place). spot c.args.s p) c.point_at.ensures,
   c.spot_of.ensures.1,
 )
 
-pub spot-at-spec : {M : Type 1} → statement M
-spot-at-spec = tie.close (tie.spec (λ c κs. search rules) (λ c κs. search rules) returns)
+pub spot_at_spec : {M : Type 1} → statement M
+spot_at_spec = tie.close (tie.spec (λ c κs. search rules) (λ c κs. search rules) returns)

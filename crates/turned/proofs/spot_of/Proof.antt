@@ -16,44 +16,44 @@ use Rattle.turned.proofs.spot_of.Tie as tie
 fits : (s : tie.Start) → PlaceFits s.args.p
 fits s = record { x = search rules; y = search rules }
 
-returns : tie.Need-returns
+returns : tie.Need-returns-in-Above
 unfolding along across
 returns c = (
-  spot_is _ Above _ _ _ c.before.before.before.before.enum_told.given.1
-      (rw (to_z-of_z w32 _ (fits c.before.before.before.before.before.before).x) at c.before.before.raised.ensures.0)
-      (rw (to_z-of_z w32 _ (fits c.before.before.before.before.before.before).y) at c.raised2.ensures.0),
-  c.raised2.ensures.1,
+  spot_is _ Above _ _ _ c.in-Above.is
+      (rw (to_z-of_z w32 _ (fits c.before.before.before.before.before).x) at c.raised.ensures.0)
+      (rw (to_z-of_z w32 _ (fits c.before.before.before.before.before).y) at c.raised-in-Above.ensures.0),
+  c.raised-in-Above.ensures.1,
 )
 
-returns-2 : tie.Need-returns-2
+returns-2 : tie.Need-returns-in-Below
 unfolding along across
 returns-2 c = (
-  spot_is _ Below _ _ _ c.before.before.before.before.enum-told2.given.1
-      (rw (to_z-of_z w32 _ (fits c.before.before.before.before.before.before).x) at c.before.before.raised3.ensures.0)
-      (rw (to_z-of_z w32 _ (fits c.before.before.before.before.before.before).y) at c.turned.ensures.0),
+  spot_is _ Below _ _ _ c.in-Below.is
+      (rw (to_z-of_z w32 _ (fits c.before.before.before.before.before).x) at c.raised-in-Below.ensures.0)
+      (rw (to_z-of_z w32 _ (fits c.before.before.before.before.before).y) at c.turned.ensures.0),
   c.turned.ensures.1,
 )
 
-returns-3 : tie.Need-returns-3
+returns-3 : tie.Need-returns-in-Right
 unfolding along across
 returns-3 c = (
-  spot_is _ Right _ _ _ c.before.before.before.before.enum-told3.given.1
-      (rw (to_z-of_z w32 _ (fits c.before.before.before.before.before.before).y) at c.before.before.raised4.ensures.0)
-      (rw (to_z-of_z w32 _ (fits c.before.before.before.before.before.before).x) at c.raised5.ensures.0),
-  c.raised5.ensures.1,
+  spot_is _ Right _ _ _ c.in-Right.is
+      (rw (to_z-of_z w32 _ (fits c.before.before.before.before.before).y) at c.raised-in-Right.ensures.0)
+      (rw (to_z-of_z w32 _ (fits c.before.before.before.before.before).x) at c.raised-in-Right-2.ensures.0),
+  c.raised-in-Right-2.ensures.1,
 )
 
-returns-4 : tie.Need-returns-4
+returns-4 : tie.Need-returns-in-Left
 unfolding along across
 returns-4 c = (
-  spot_is _ Left _ _ _ c.before.before.before.before.enum-told4.given.1
-      (rw (to_z-of_z w32 _ (fits c.before.before.before.before.before.before).y) at c.before.before.raised6.ensures.0)
-      (rw (to_z-of_z w32 _ (fits c.before.before.before.before.before.before).x) at c.turned2.ensures.0),
-  c.turned2.ensures.1,
+  spot_is _ Left _ _ _ c.in-Left.is
+      (rw (to_z-of_z w32 _ (fits c.before.before.before.before.before).y) at c.raised-in-Left.ensures.0)
+      (rw (to_z-of_z w32 _ (fits c.before.before.before.before.before).x) at c.turned-in-Left.ensures.0),
+  c.turned-in-Left.ensures.1,
 )
 
-pub spot-of-spec : {M : Type 1} → statement M
-spot-of-spec =
+pub spot_of_spec : {M : Type 1} → statement M
+spot_of_spec =
     tie.close
     (tie.spec
     (λ c. search rules) (λ c κs. search rules) (λ c κs. search rules) (λ c. search rules) (λ c κs. search rules)

@@ -13,56 +13,56 @@ use Rattle.bars.specs.Offers.{offered_both, no_move, searched}
 use Rattle.bars.proofs.search.search_by.Statement.{statement}
 use Rattle.bars.proofs.search.search_by.Tie as tie
 
-abbrev invariant-loop : tie.invariant-loop
+abbrev invariant-loop : tie.invariant-loop-k
 invariant-loop pts keys z macros seats rows columns above below right left c₀ k₀ c k =
     (k ≤ z.edges) × (c ≡ up_to
     (λ j d. offered_both pts keys columns z macros seats Right j (offered_both pts keys rows z macros seats Above j d)) k no_move)
 
-abbrev decreases-loop : tie.decreases-loop
+abbrev decreases-loop : tie.decreases-loop-k
 decreases-loop pts keys z macros seats rows columns above below right left c₀ k₀ c k = z.edges - k
 
-loop-holds : tie.Need-loop-init invariant-loop decreases-loop
+loop-holds : tie.Need-loop-k-init invariant-loop decreases-loop
 loop-holds c = (omega arith, up_start _ _)
 
-offer-both-requires : tie.Need-offer-both-requires invariant-loop decreases-loop
+offer-both-requires : tie.Need-offer_both-c-requires invariant-loop decreases-loop
 unfolding opposite
 offer-both-requires c κs = (
   (
-    c.before.before.before.requires.0,
-    (omega (arith, c.before.before.before.requires.0, c.if1.true), c.before.before.before.requires.1.1.0.0),
+    c.requires.0,
+    (omega (arith, c.requires.0, c.loop-k-test.true), c.requires.1.1.0.0),
   ),
-  (c.before.before.before.requires.1.0, c.before.before.before.requires.1.1.1.0),
+  (c.requires.1.0, c.requires.1.1.1.0),
 )
 
-offer-both-requires-2 : tie.Need-offer-both-requires-2 invariant-loop decreases-loop
+offer-both-requires-2 : tie.Need-offer_both-c-requires-in-loop-k invariant-loop decreases-loop
 unfolding opposite
 offer-both-requires-2 c κs = (
   (
-    c.before.before.before.before.requires.0,
-    (omega (arith, c.before.before.before.before.requires.0, c.before.if1.true), c.before.before.before.before.requires.1.1.0.1),
+    c.requires.0,
+    (omega (arith, c.requires.0, c.loop-k-test.true), c.requires.1.1.0.1),
   ),
-  (c.before.before.before.before.requires.1.0, c.before.before.before.before.requires.1.1.1.1),
+  (c.requires.1.0, c.requires.1.1.1.1),
 )
 
-loop-again : tie.Need-loop-preserved invariant-loop decreases-loop
+loop-again : tie.Need-loop-k-preserved invariant-loop decreases-loop
 loop-again c =
-    let s = c.before.before.before.before.before.args in (
-      omega (arith, c.before.before.if1.true),
-      up_next _ _ _ _ _ c.before.before.before.before.loop.invariant.1
-          (c.offer-both2.ensures
+    let s = c.args in (
+      omega (arith, c.loop-k-test.true),
+      up_next _ _ _ _ _ c.loop-k.invariant.1
+          (c.offer_both-c-in-loop-k.ensures
           ∙ ap (λ (d : Best). offered_both s.pts.now s.keys.now s.columns.now s.z s.macros.now s.seats.now Right
-          c.before.before.before.before.loop.k d) c.before.offer-both.ensures),
+          c.loop-k.k d) c.offer_both-c.ensures),
     )
 
 returns : tie.Need-returns invariant-loop decreases-loop
 unfolding searched
-returns c = up-end _ _ _ _ _ c.before.before.loop.invariant.1 (omega arith) (omega (arith, c.if1.false))
+returns c = up-end _ _ _ _ _ c.loop-k.invariant.1 (omega arith) (omega (arith, c.loop-k-test.false))
 
-pub search-by-spec : {M : Type 1} → statement M
-search-by-spec =
+pub search_by_spec : {M : Type 1} → statement M
+search_by_spec =
     tie.close
     (tie.spec
     invariant-loop decreases-loop loop-holds offer-both-requires offer-both-requires-2
-    (λ c. omega (arith, c.before.before.before.before.before.requires.0, c.before.before.if1.true))
-    (λ c. omega (arith, c.before.before.if1.true)) loop-again
+    (λ c. omega (arith, c.requires.0, c.loop-k-test.true))
+    (λ c. omega (arith, c.loop-k-test.true)) loop-again
     returns)

@@ -9,11 +9,11 @@ use Rattle.shifted.proofs.PlaceLaws.{word}
 use Rattle.shifted.proofs.place.raised.Statement.{statement}
 use Rattle.shifted.proofs.place.raised.Tie as tie
 
-add-result : tie.Need-overflow-add-result
+add-result : tie.Need-overflow_add-result
 add-result c = rw (to_z-of_z w32 _ c.ranges.z, word c.args.d c.requires.0) c.requires.1
 
 returns : tie.Need-returns
 returns c = to_z-of_z w32 _ (add-result c) ∙ ap₂ ◌+ℤ◌ (to_z-of_z w32 _ c.ranges.z) (word c.args.d c.requires.0)
 
-pub raised-spec : {M : Type 1} → statement M
-raised-spec = tie.close (tie.spec (λ c. search rules) add-result returns)
+pub raised_spec : {M : Type 1} → statement M
+raised_spec = tie.close (tie.spec (λ c. search rules) add-result returns)
