@@ -37,6 +37,7 @@ no-load (x ∷ l) q n =
 
 its-load : (l : List (Place × ℤ)) → Once (places_in l) → (x : Place × ℤ) → x ∈ l → load_of l x.0 ≡ up x.1
 unfolding load_of
+its-load [] o x x4 = elim x4 [ ]
 its-load (y ∷ l) o x (here e) =
     let z : x.0 ≡ y.0 = ap (λ (w : Place × ℤ). w.0) e in
     let s : same_place y.0 x.0 ≡ true = ap (same_place y.0) z ∙ same_refl y.0 in

@@ -45,6 +45,7 @@ absent q d (x ∷ l) n =
 present : (q : Place) (d f : Float) (l : List (Place × Float)) → Once (map (λ (x : Place × Float). x.0) l) → (q, f) ∈ l
     → delay_in same_place q d l ≡ f
 unfolding delay_in
+present q d f [] o x'' = elim x'' [ ]
 present q d f (x ∷ l) o (here e) =
     let z : q ≡ x.0 = ap (λ (y : Place × Float). y.0) e in
     let w : f ≡ x.1 = ap (λ (y : Place × Float). y.1) e in

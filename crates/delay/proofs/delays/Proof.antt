@@ -39,35 +39,35 @@ start l = l.before.before.before.before.before.before
 -- the driver's visit is inside the tables, and nothing is kept yet
 lay-requires : tie.Need-lay-requires
 lay-requires c κs =
-    let f = c.before.before.before in
-    let s = f.before.before in
-    let low : f.find.result < tree_bound = omega (arith, f.find.ensures.0, s.requires.1.1, s.requires.0.0) in
+    let f = c in
+    let s = f in
+    let low : f.find-d.result < tree_bound = omega (arith, f.find-d.ensures.0, s.requires.1.1, s.requires.0.0) in
     ((s.requires.0.1.0, record { point-low = low; parent-low = low; steps_low = s.requires.0.1.0 }), memo-none _ _ _ _ _ _)
 
 -- the table that the passes leave, and what the search for a mark then finds
-left : (l : tie.After-lay) → l.lay.new.1.1.1.1.1.1.1.1.1.0 ≡ table (start l)
-left l = table_is _ _ _ _ _ _ _ _ l.lay.ensures.0 l.before.before.before.before.find.ensures.0
+left : (l : tie.After-lay) → l.lay.new.table ≡ table (start l)
+left l = table_is _ _ _ _ _ _ _ _ l.lay.ensures.0 l.find-d.ensures.0
 
-found : (m : tie.After-has-mark) → m.has-mark.result ≡ any is_mark (marks (start m.before.before))
-found m = let l = m.before.before in m.has-mark.ensures ∙ ap (λ (x : List Float). any is_mark (marks_by (start l) x)) (left l)
+found : (m : tie.After-has_mark) → m.has_mark.result ≡ any is_mark (marks (start m.before.before))
+found m = let l = m.before.before in m.has_mark.ensures ∙ ap (λ (x : List Float). any is_mark (marks_by (start l) x)) (left l)
 
-returns : tie.Need-returns
+returns : tie.Need-returns-then-has_mark
 unfolding told_delays number after
-returns c = let m = c.before in (sym (told-mark _ (marks (start m.before.before)) (sym (found m) ∙ c.if1.true)), refl)
+returns c = let m = c.before in (sym (told-mark _ (marks (start m.before.before)) (sym (found m) ∙ c.if-has_mark.true)), refl)
 
-returns-2 : tie.Need-returns-2
+returns-2 : tie.Need-returns
 unfolding told_delays after
 returns-2 c =
-    let g = c.before.before in
-    let n = g.before.before.before in
-    let m = n.before in
+    let g = c in
+    let n = g in
+    let m = n.before.before.before.before.before.before in
     let s = start m.before.before in (
-      sym (told-given _ (marks s) (sym (found m) ∙ n.if1.false)),
+      sym (told-given _ (marks s) (sym (found m) ∙ n.if-has_mark.false)),
       g.give.ensures ∙ ap (λ (x : List Float). over (finites (marks_by s x)) s.args.lent.now) (left m.before.before),
     )
 
-pub delays-spec : {M : Type 1} → statement M
-delays-spec =
+pub delays_spec : {M : Type 1} → statement M
+delays_spec =
     tie.close
     (tie.spec
     (λ c κs. search rules) lay-requires (λ c κs. search rules) returns (λ c κs. search rules) (λ c. search rules)

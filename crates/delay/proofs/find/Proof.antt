@@ -10,29 +10,29 @@ use Rattle.delay.specs.Table.{is_driver}
 use Rattle.delay.proofs.find.Statement.{statement}
 use Rattle.delay.proofs.find.Tie as tie
 
-abbrev invariant-loop : tie.invariant-loop
+abbrev invariant-loop : tie.invariant-loop-i
 invariant-loop pts pin n q i₀ i = (i ≤ n) × (seek (is_driver pts pin q) i (n - i) ≡ seek (is_driver pts pin q) 0 n)
 
-abbrev decreases-loop : tie.decreases-loop
+abbrev decreases-loop : tie.decreases-loop-i
 decreases-loop pts pin n q i₀ i = n - i
 
-loop-holds : tie.Need-loop-init invariant-loop decreases-loop
+loop-holds : tie.Need-loop-i-init invariant-loop decreases-loop
 loop-holds c = (omega arith, seek-none _ _)
 
-returns : tie.Need-returns invariant-loop decreases-loop
+returns : tie.Need-returns-then-is_driver invariant-loop decreases-loop
 returns c =
-    let l = c.before.before in
-    (seek_stop _ _ _ _ l.before.loop.invariant.1 l.loop-test.true (sym c.before.is-driver.ensures ∙ c.if1.true), omega arith)
+    let l = c in
+    (seek_stop _ _ _ _ l.loop-i.invariant.1 l.loop-i-test.true (sym c.is_driver.ensures ∙ c.if-is_driver.true), omega arith)
 
-loop-again : tie.Need-loop-preserved invariant-loop decreases-loop
+loop-again : tie.Need-loop-i-preserved invariant-loop decreases-loop
 loop-again c =
-    let l = c.before.before in (
+    let l = c in (
       omega arith,
-      seek-next _ _ _ _ l.before.loop.invariant.1 l.loop-test.true (sym c.before.is-driver.ensures ∙ c.if1.false),
+      seek-next _ _ _ _ l.loop-i.invariant.1 l.loop-i-test.true (sym c.is_driver.ensures ∙ c.if-is_driver.false),
     )
 
-returns-2 : tie.Need-returns-2 invariant-loop decreases-loop
-returns-2 c = (seek-end _ _ _ _ c.before.loop.invariant.1 c.loop-test.false, omega arith)
+returns-2 : tie.Need-returns invariant-loop decreases-loop
+returns-2 c = (seek-end _ _ _ _ c.loop-i.invariant.1 c.loop-i-test.false, omega arith)
 
 pub find_spec : {M : Type 1} → statement M
 find_spec =

@@ -12,46 +12,46 @@ use Rattle.net.proofs.PinLaws.{pins-next, pins-end}
 use Rattle.delay.proofs.loads.is_pin.Statement.{statement}
 use Rattle.delay.proofs.loads.is_pin.Tie as tie
 
-abbrev invariant-loop : tie.invariant-loop
+abbrev invariant-loop : tie.invariant-loop-i
 invariant-loop pins q m i₀ i = any (same_place q) (pin_places pins) ≡ any (same_place q) (drop i (pin_places pins))
 
-abbrev decreases-loop : tie.decreases-loop
+abbrev decreases-loop : tie.decreases-loop-i
 decreases-loop pins q m i₀ i = m - i
 
-pin-count-requires : tie.Need-pin-count-requires invariant-loop decreases-loop
+pin-count-requires : tie.Need-pin_count-m-requires invariant-loop decreases-loop
 pin-count-requires c κs = tt
 
-is-same-place-requires : tie.Need-is-same-place-requires invariant-loop decreases-loop
+is-same-place-requires : tie.Need-is_same_place-requires invariant-loop decreases-loop
 is-same-place-requires c κs = tt
 
 -- what the call says, of the list
-told : (c : tie.After-is-same-place invariant-loop decreases-loop) → c.is-same-place.result
-    ≡ same_place c.before.before.before.before.before.args.q
-    (pin_at c.before.before.before.before.before.args.pins.now c.before.before.before.loop.i)
-told c = c.is-same-place.ensures ∙ ap (same_place c.before.before.before.before.before.args.q) c.before.pin_at.ensures
+told : (c : tie.After-is_same_place invariant-loop decreases-loop) → c.is_same_place.result
+    ≡ same_place c.args.q
+    (pin_at c.args.pins.now c.loop-i.i)
+told c = c.is_same_place.ensures ∙ ap (same_place c.args.q) c.pin_at.ensures
 
-returns : tie.Need-returns invariant-loop decreases-loop
+returns : tie.Need-returns-then-is_same_place invariant-loop decreases-loop
 returns c =
-    let l = c.before.before.before.before in
-    sym (l.loop.invariant ∙ any-hit (same_place l.before.before.args.q) _ _ _
-    (pins-next l.before.before.args.pins.now l.loop.i (omega arith))
-    (sym (told c.before) ∙ c.if1.true))
+    let l = c in
+    sym (l.loop-i.invariant ∙ any-hit (same_place l.args.q) _ _ _
+    (pins-next l.args.pins.now l.loop-i.i (omega arith))
+    (sym (told c.before) ∙ c.if-is_same_place.true))
 
-loop-again : tie.Need-loop-preserved invariant-loop decreases-loop
+loop-again : tie.Need-loop-i-preserved invariant-loop decreases-loop
 loop-again c =
-    let l = c.before.before.before.before in
-    l.loop.invariant ∙ any-miss (same_place l.before.before.args.q) _ _ _
-    (pins-next l.before.before.args.pins.now l.loop.i (omega arith))
-    (sym (told c.before) ∙ c.if1.false)
+    let l = c in
+    l.loop-i.invariant ∙ any-miss (same_place l.args.q) _ _ _
+    (pins-next l.args.pins.now l.loop-i.i (omega arith))
+    (sym (told c.before) ∙ c.if-is_same_place.false)
 
-returns-2 : tie.Need-returns-2 invariant-loop decreases-loop
+returns-2 : tie.Need-returns invariant-loop decreases-loop
 returns-2 c =
-    let l = c.before in
-    sym (l.loop.invariant ∙ any-end (same_place l.before.before.args.q) _
-    (pins-end l.before.before.args.pins.now l.loop.i (omega arith)))
+    let l = c in
+    sym (l.loop-i.invariant ∙ any-end (same_place l.args.q) _
+    (pins-end l.args.pins.now l.loop-i.i (omega arith)))
 
-pub is-pin-spec : {M : Type 1} → statement M
-is-pin-spec =
+pub is_pin_spec : {M : Type 1} → statement M
+is_pin_spec =
     tie.close
     (tie.spec
     invariant-loop decreases-loop pin-count-requires (λ c. refl) (λ c κs. omega arith) is-same-place-requires returns

@@ -18,61 +18,61 @@ use Rattle.delay.proofs.LoadedLaws.{loaded-none, loaded-next}
 use Rattle.delay.proofs.loads.load.Statement.{statement}
 use Rattle.delay.proofs.loads.load.Tie as tie
 
-abbrev invariant-loop : tie.invariant-loop
+abbrev invariant-loop : tie.invariant-loop-i
 invariant-loop pins pts n pin₀ loads₀ i₀ pin loads i =
     (i ≤ n) × (((length pin ≡ tree_bound) × (length loads ≡ tree_bound)) × Loaded pins pts i pin loads)
 
-abbrev decreases-loop : tie.decreases-loop
+abbrev decreases-loop : tie.decreases-loop-i
 decreases-loop pins pts n pin₀ loads₀ i₀ pin loads i = n - i
 
-loop-holds : tie.Need-loop-init invariant-loop decreases-loop
+loop-holds : tie.Need-loop-i-init invariant-loop decreases-loop
 loop-holds c = (omega arith, (c.requires.1, loaded-none _ _))
 
-element-write-pin : tie.Need-element-write-pin invariant-loop decreases-loop
+element-write-pin : tie.Need-bounds-pin-i invariant-loop decreases-loop
 element-write-pin c =
-    let t = c.before.before in
-    omega (arith, t.loop-test.true, t.before.before.requires.0.0)
+    let t = c in
+    omega (arith, t.loop-i-test.true, t.requires.0.0)
 
-load-of-requires : tie.Need-load-of-requires invariant-loop decreases-loop
-load-of-requires c κs = c.before.before.before.before.requires.0.1
+load-of-requires : tie.Need-load_of-requires invariant-loop decreases-loop
+load-of-requires c κs = c.requires.0.1
 
-element-write-loads : tie.Need-element-write-loads invariant-loop decreases-loop
+element-write-loads : tie.Need-bounds-loads-i invariant-loop decreases-loop
 element-write-loads c =
-    let t = c.before.before.before in
-    omega (arith, t.loop-test.true, t.before.before.requires.0.0)
+    let t = c in
+    omega (arith, t.loop-i-test.true, t.requires.0.0)
 
-loop-again : tie.Need-loop-preserved invariant-loop decreases-loop
+loop-again : tie.Need-loop-i-preserved invariant-loop decreases-loop
 loop-again c =
-    let m = c.before in
-    let q = m.before in
-    let t = q.before in
-    let l = t.before in
-    let s = l.before in
+    let m = c in
+    let q = m in
+    let t = q in
+    let l = t in
+    let s = l in
     let pins = s.args.pins.now in
     let few = s.requires.0.0 in
-    let long = l.loop.invariant.1.0 in (
-      omega (arith, t.loop-test.true),
+    let long = l.loop-i.invariant.1.0 in (
+      omega (arith, t.loop-i-test.true),
       (
-        (length-set l.loop.pin l.loop.i _ ∙ long.0, length-set l.loop.loads l.loop.i _ ∙ long.1),
-        loaded-next l.loop.pin l.loop.loads l.loop.i l.loop.invariant.1.1 (omega (arith, t.loop-test.true, few, long.0))
-            (omega (arith, t.loop-test.true, few, long.1)) _ _
-            (m.pin-mark.ensures ∙ ap (λ (p : Place). cond (any (same_place p) (pin_places pins)) 1 0) q.point_at.ensures)
-            (c.load_of.ensures ∙ ap (load_of (pin_entries pins)) q.point_at.ensures),
+        (length-set l.loop-i.pin l.loop-i.i _ ∙ long.0, length-set l.loop-i.loads l.loop-i.i _ ∙ long.1),
+        loaded-next l.loop-i.pin l.loop-i.loads l.loop-i.i l.loop-i.invariant.1.1 (omega (arith, t.loop-i-test.true, few, long.0))
+            (omega (arith, t.loop-i-test.true, few, long.1)) _ _
+            (m.pin_mark.ensures ∙ ap (λ (p : Place). cond (any (same_place p) (pin_places pins)) 1 0) q.point_at-q.ensures)
+            (c.load_of.ensures ∙ ap (load_of (pin_entries pins)) q.point_at-q.ensures),
       ),
     )
 
 returns : tie.Need-returns invariant-loop decreases-loop
 returns c =
-    let l = c.before in
-    let s = l.before in
-    subst (λ (k : ℕ). Loaded s.args.pins.now s.args.pts.now k l.loop.pin l.loop.loads)
-    (let e : l.loop.i ≡ s.args.n = omega (arith, c.loop-test.false, l.loop.invariant.0) in e) l.loop.invariant.1.1
+    let l = c in
+    let s = l in
+    subst (λ (k : ℕ). Loaded s.args.pins.now s.args.pts.now k l.loop-i.pin l.loop-i.loads)
+    (let e : l.loop-i.i ≡ s.args.n = omega (arith, c.loop-i-test.false, l.loop-i.invariant.0) in e) l.loop-i.invariant.1.1
 
 pub load_spec : {M : Type 1} → statement M
 load_spec =
     tie.close
     (tie.spec
-    invariant-loop decreases-loop loop-holds (λ c κs. omega (arith, c.before.before.requires.0.0))
+    invariant-loop decreases-loop loop-holds (λ c κs. omega (arith, c.requires.0.0))
     (λ c κs. tt)
     (λ c. omega arith) element-write-pin load-of-requires (λ c. omega arith) element-write-loads (λ c. omega arith)
     (λ c. omega arith) loop-again

@@ -21,59 +21,59 @@ use Rattle.delay.proofs.LoadedLaws.{load-hit, load-miss, load-end, none-next}
 use Rattle.delay.proofs.loads.load_of.Statement.{statement}
 use Rattle.delay.proofs.loads.load_of.Tie as tie
 
-abbrev invariant-loop : tie.invariant-loop
+abbrev invariant-loop : tie.invariant-loop-i
 invariant-loop pins q m i₀ i =
     (load_of (pin_entries pins) q ≡ load_of (drop i (pin_entries pins)) q) × (any no_load (drop i (pin_loads pins)) ≡ false)
 
-abbrev decreases-loop : tie.decreases-loop
+abbrev decreases-loop : tie.decreases-loop-i
 decreases-loop pins q m i₀ i = m - i
 
-loop-holds : tie.Need-loop-init invariant-loop decreases-loop
-loop-holds c = (refl, c.before.requires)
+loop-holds : tie.Need-loop-i-init invariant-loop decreases-loop
+loop-holds c = (refl, c.requires)
 
 -- what the call says, of the list
-told : (c : tie.After-is-same-place invariant-loop decreases-loop) → c.is-same-place.result
-    ≡ same_place (pin_at c.before.before.before.before.before.args.pins.now c.before.before.before.loop.i)
-    c.before.before.before.before.before.args.q
+told : (c : tie.After-is_same_place invariant-loop decreases-loop) → c.is_same_place.result
+    ≡ same_place (pin_at c.args.pins.now c.loop-i.i)
+    c.args.q
 told c =
-    c.is-same-place.ensures
-    ∙ ap (λ (p : Place). same_place p c.before.before.before.before.before.args.q) c.before.pin_at.ensures
+    c.is_same_place.ensures
+    ∙ ap (λ (p : Place). same_place p c.args.q) c.pin_at.ensures
 
 unsigned-requires : tie.Need-unsigned-requires invariant-loop decreases-loop
 unsigned-requires c κs =
-    let l = c.before.before.before.before.before in
-    let pins = l.before.before.args.pins.now in
+    let l = c in
+    let pins = l.args.pins.now in
     ap no_load (to_z-of_z w32 _ (search rules) ∙ c.load_at.ensures)
-    ∙ (none-next no_load _ _ _ (loads-next pins l.loop.i (omega arith)) l.loop.invariant.1).0
+    ∙ (none-next no_load _ _ _ (loads-next pins l.loop-i.i (omega arith)) l.loop-i.invariant.1).0
 
-returns : tie.Need-returns invariant-loop decreases-loop
+returns : tie.Need-returns-then-is_same_place invariant-loop decreases-loop
 returns c =
-    let a = c.before in
-    let s = a.before.before in
-    let l = s.before.before.before in
-    let pins = l.before.before.args.pins.now in
+    let a = c in
+    let s = a.before.before.before in
+    let l = s in
+    let pins = l.args.pins.now in
     c.unsigned.ensures
     ∙ ap up (to_z-of_z w32 _ (search rules) ∙ a.load_at.ensures)
-    ∙ sym (l.loop.invariant.0 ∙ load-hit l.before.before.args.q _ _ _ _ (entries_next pins l.loop.i (omega arith))
-    (sym (told s) ∙ a.before.if1.true))
+    ∙ sym (l.loop-i.invariant.0 ∙ load-hit l.args.q _ _ _ _ (entries_next pins l.loop-i.i (omega arith))
+    (sym (told s) ∙ a.if-is_same_place.true))
 
-loop-again : tie.Need-loop-preserved invariant-loop decreases-loop
+loop-again : tie.Need-loop-i-preserved invariant-loop decreases-loop
 loop-again c =
-    let l = c.before.before.before.before in
-    let pins = l.before.before.args.pins.now in (
-      l.loop.invariant.0 ∙ load-miss l.before.before.args.q _ _ _ _ (entries_next pins l.loop.i (omega arith))
-          (sym (told c.before) ∙ c.if1.false),
-      (none-next no_load _ _ _ (loads-next pins l.loop.i (omega arith)) l.loop.invariant.1).1,
+    let l = c in
+    let pins = l.args.pins.now in (
+      l.loop-i.invariant.0 ∙ load-miss l.args.q _ _ _ _ (entries_next pins l.loop-i.i (omega arith))
+          (sym (told c.before) ∙ c.if-is_same_place.false),
+      (none-next no_load _ _ _ (loads-next pins l.loop-i.i (omega arith)) l.loop-i.invariant.1).1,
     )
 
-returns-2 : tie.Need-returns-2 invariant-loop decreases-loop
+returns-2 : tie.Need-returns invariant-loop decreases-loop
 returns-2 c =
-    let l = c.before in
-    let s = l.before.before in
-    sym (l.loop.invariant.0 ∙ load-end s.args.q _ (entries-end s.args.pins.now l.loop.i (omega arith)))
+    let l = c in
+    let s = l in
+    sym (l.loop-i.invariant.0 ∙ load-end s.args.q _ (entries-end s.args.pins.now l.loop-i.i (omega arith)))
 
-pub load-of-spec : {M : Type 1} → statement M
-load-of-spec =
+pub load_of_spec : {M : Type 1} → statement M
+load_of_spec =
     tie.close
     (tie.spec
     invariant-loop

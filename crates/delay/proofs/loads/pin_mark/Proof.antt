@@ -10,11 +10,11 @@ use Rattle.delay.proofs.loads.pin_mark.Tie as tie
 abbrev mark : Bool → ℕ
 mark b = cond b 1 0
 
-returns : tie.Need-returns
-returns c = ap mark (sym c.if1.true ∙ c.before.is-pin.ensures)
+returns : tie.Need-returns-then-is_pin
+returns c = ap mark (sym c.if-is_pin.true ∙ c.is_pin.ensures)
 
-returns-2 : tie.Need-returns-2
-returns-2 c = ap mark (sym c.if1.false ∙ c.before.is-pin.ensures)
+returns-2 : tie.Need-returns
+returns-2 c = ap mark (sym c.if-is_pin.false ∙ c.is_pin.ensures)
 
-pub pin-mark-spec : {M : Type 1} → statement M
-pin-mark-spec = tie.close (tie.spec (λ c κs. search rules) returns returns-2)
+pub pin_mark_spec : {M : Type 1} → statement M
+pin_mark_spec = tie.close (tie.spec (λ c κs. search rules) returns returns-2)
