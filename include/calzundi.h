@@ -1,7 +1,7 @@
 /*
  * calzundi.h: the tree router as a static library, for C and C++ on x86-64.
  *
- * Link libcalzundi.a of a package, or in the repository target/staticlib/libexports.a, which `rt staticlib exports` makes once every
+ * Link libcalzundi.a of a package, or in the repository target/staticlib/libexports.a, which `tools/library` makes once every
  * function in it is proved. The library keeps no state, allocates nothing and prints nothing.
  *
  *

@@ -1,5 +1,5 @@
 //! Links the static library: CALZUNDI_LIBRARY names it; else it is the one of a package, ../lib/libcalzundi.a, or the one that
-//! `rt staticlib exports` makes of the proved crates, ../target/staticlib/libexports.a. The version is the header's.
+//! `tools/library` makes of the proved crates, ../target/staticlib/libexports.a. The version is the header's.
 
 use std::path::{Path, PathBuf};
 
@@ -13,7 +13,7 @@ fn main() {
     println!("cargo:rerun-if-changed={}", library.display());
     if !library.exists() {
         println!(
-            "cargo:warning=there is no {} yet: run `rt staticlib exports` first",
+            "cargo:warning=there is no {} yet: run `tools/library` first",
             library.display()
         );
     }

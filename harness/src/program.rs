@@ -4,14 +4,14 @@ use std::io::Write;
 use std::path::{Path, PathBuf};
 use std::process::{Command, Output, Stdio};
 
-/// Where the prover puts the program; CALZUNDI_ROUTE names another place.
+/// Where tools/library puts the program; CALZUNDI_ROUTE names another place.
 pub fn path() -> PathBuf {
     let made = Path::new(env!("CARGO_MANIFEST_DIR")).join("../target/bin/route");
     let path = std::env::var_os("CALZUNDI_ROUTE").map_or(made, PathBuf::from);
     let name = path.display();
     assert!(
         path.exists(),
-        "{name} is not there: `rt check route` makes it"
+        "{name} is not there: `tools/library` makes it"
     );
     path
 }

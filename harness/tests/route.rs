@@ -194,7 +194,7 @@ fn inputs_that_cannot_be_read() {
     assert_eq!(printed(folder, "a folder"), "refused 1\n");
 }
 
-/// Standard output that cannot be written: standard error says so. The status is 0 even then, since a program of Rattle cannot set it.
+/// Standard output that cannot be written: standard error says so. The status is 0 even then.
 #[test]
 fn outputs_that_cannot_be_written() {
     let said = "route: the answer could not be written to standard output\n";

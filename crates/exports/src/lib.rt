@@ -411,9 +411,9 @@ pub extern "C" fn calzundi_read_file(
     ensures { NetHanded
         (read_file bytes.now (length pins.old) (length macros.old))
         (pins_in bytes.now) (macros_in bytes.now) pins.old macros.old
-        (record { m = m.entry.now; k = k.old; x = x.old; y = y.old }) result
+        (record { m = m.old; k = k.old; x = x.old; y = y.old }) result
         pins.new macros.new
-        (record { m = m.exit.now; k = k.new; x = x.new; y = y.new }) }
+        (record { m = m.new; k = k.new; x = x.new; y = y.new }) }
 {
     let answer = router::read_file(bytes, &mut *pins, &mut *macros);
     match answer {

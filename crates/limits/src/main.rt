@@ -6,18 +6,14 @@ ghost use Rattle.net.specs.Bounds.{macro_bound, macro_width};
 
 use checks::Checked;
 use net::{Net, Weighing};
+use std::io;
+use std::io::Print;
 
 // The answer on a line: `allowed`, or `refused` and the number.
-fn say(answer: Checked) {
+fn say<P: Print>(rt: &P, what: &str, answer: Checked) -> io::Result<()> {
     match answer {
-        Checked::Allowed(_) => {
-            io::write_all(1, b"allowed\n");
-        }
-        Checked::Refused(refusal) => {
-            io::write_all(1, b"refused ");
-            io::print_decimal(1, refusal.number() as u64);
-            io::write_all(1, b"\n");
-        }
+        Checked::Allowed(_) => println!(rt; "{what}: allowed"),
+        Checked::Refused(refusal) => println!(rt; "{what}: refused {}", refusal.number()),
     }
 }
 
@@ -45,64 +41,77 @@ fn counted_up() -> [i32; NUMBERS]
     numbers
 }
 
-fn coordinates() {
-    io::write_all(1, b"coordinates 1000000 and -1000000: ");
-    say(router::check(
-        plain(),
-        &[1000000, -1000000, 0],
-        &[-1000000, -1000000, 1000000, 1000000],
-    ));
-    io::write_all(1, b"coordinate 1000001: ");
-    say(router::check(plain(), &[0, 1000001, 0], &[0i32; 0]));
-    io::write_all(1, b"coordinate -1000001: ");
-    say(router::check(plain(), &[0, 0, 0], &[-1000001, 0, 1, 1]));
+fn coordinates<P: Print>(rt: &P) -> io::Result<()> {
+    let pins = [1000000, -1000000, 0];
+    let macros = [-1000000, -1000000, 1000000, 1000000];
+    say(
+        rt,
+        "coordinates 1000000 and -1000000",
+        router::check(plain(), &pins, &macros),
+    )?;
+    say(
+        rt,
+        "coordinate 1000001",
+        router::check(plain(), &[0, 1000001, 0], &[0i32; 0]),
+    )?;
+    say(
+        rt,
+        "coordinate -1000001",
+        router::check(plain(), &[0, 0, 0], &[-1000001, 0, 1, 1]),
+    )
 }
 
 // One pin with this load.
-fn load(z: i32) {
-    say(router::check(plain(), &[0, 0, z], &[0i32; 0]));
+fn load(z: i32) -> Checked {
+    router::check(plain(), &[0, 0, z], &[0i32; 0])
 }
 
 // The first n numbers as pins.
-fn pins(numbers: &[i32], n: usize)
+fn pins(numbers: &[i32], n: usize) -> Checked
     requires { n ≤ length numbers.now }
 {
-    say(router::check(plain(), &numbers[..n], &[0i32; 0]));
+    router::check(plain(), &numbers[..n], &[0i32; 0])
 }
 
 // The first n numbers as macros.
-fn macros(numbers: &[i32], n: usize)
+fn macros(numbers: &[i32], n: usize) -> Checked
     requires { n ≤ length numbers.now }
 {
-    say(router::check(plain(), &[0, 0, 0], &numbers[..n]));
+    router::check(plain(), &[0, 0, 0], &numbers[..n])
 }
 
 // One pin with these weights.
-fn weights(first: i32, second: i32) {
-    say(router::check(Weighing { first, second }, &[0, 0, 0], &[0i32; 0]));
+fn weights(first: i32, second: i32) -> Checked {
+    router::check(Weighing { first, second }, &[0, 0, 0], &[0i32; 0])
 }
 
-fn main() {
-    coordinates();
-    io::write_all(1, b"load 1000000: ");
-    load(Net::LOAD);
-    io::write_all(1, b"load 1000001: ");
-    load(Net::LOAD + 1);
-    io::write_all(1, b"load -1: ");
-    load(-1);
+fn main(rt: HostRuntime) -> io::Result<()> {
+    coordinates(&rt)?;
+    say(&rt, "load 1000000", load(Net::LOAD))?;
+    say(&rt, "load 1000001", load(Net::LOAD + 1))?;
+    say(&rt, "load -1", load(-1))?;
     let numbers = counted_up();
-    io::write_all(1, b"128 pins: ");
-    pins(&numbers, Net::PINS * Net::PIN_NUMBERS);
-    io::write_all(1, b"129 pins: ");
-    pins(&numbers, (Net::PINS + 1) * Net::PIN_NUMBERS);
-    io::write_all(1, b"128 macros: ");
-    macros(&numbers, Net::MACROS * Net::MACRO_NUMBERS);
-    io::write_all(1, b"129 macros: ");
-    macros(&numbers, (Net::MACROS + 1) * Net::MACRO_NUMBERS);
-    io::write_all(1, b"weights 1 and 8: ");
-    weights(1, 8);
-    io::write_all(1, b"weight 0: ");
-    weights(0, 1);
-    io::write_all(1, b"weight 9: ");
-    weights(1, Net::WEIGHT + 1);
+    say(
+        &rt,
+        "128 pins",
+        pins(&numbers, Net::PINS * Net::PIN_NUMBERS),
+    )?;
+    say(
+        &rt,
+        "129 pins",
+        pins(&numbers, (Net::PINS + 1) * Net::PIN_NUMBERS),
+    )?;
+    say(
+        &rt,
+        "128 macros",
+        macros(&numbers, Net::MACROS * Net::MACRO_NUMBERS),
+    )?;
+    say(
+        &rt,
+        "129 macros",
+        macros(&numbers, (Net::MACROS + 1) * Net::MACRO_NUMBERS),
+    )?;
+    say(&rt, "weights 1 and 8", weights(1, 8))?;
+    say(&rt, "weight 0", weights(0, 1))?;
+    say(&rt, "weight 9", weights(1, Net::WEIGHT + 1))
 }

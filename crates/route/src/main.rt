@@ -2,23 +2,41 @@
 // line that says why the file is refused. What is printed is `route_text` of the bytes read (report/specs/Route.antt).
 #![tactic(auto)]
 
-use report::{FILE, TEXT};
+ghost use Rattle.std.specs.Prelude.{◌≤◌, length, take};
+ghost use Rattle.std.specs.Io.KnownBytes.{Consumes};
 
-// Writes a text. Where it cannot be written, standard error says so; a program has no exit status of its own to say it with.
-fn print(text: &[u8]) {
-    if io::write_all(1, text) {
-        return;
+use report::{FILE, TEXT};
+use std::io::{Read, Write};
+
+// Reads until the buffer is full, the input ends or a read fails, and returns how many bytes it put at the start of the buffer. Input
+// that cannot be read is as input that has ended.
+fn read_full<R: Read>(input: &mut R, buffer: &mut [u8]) -> usize
+    ensures bound { result ≤ length buffer.new }
+    ensures bytes { Consumes (R.remaining input.old) (R.remaining input.new) (take result buffer.new) }
+{
+    let mut done = 0;
+    while done < buffer.len() {
+        match input.read(&mut buffer[done..]) {
+            Ok(0) => break,
+            Ok(n) => done += n,
+            Err(_) => break,
+        }
     }
-    io::write_all(
-        2,
-        b"route: the answer could not be written to standard output\n",
-    );
+    done
 }
 
-fn main() {
+// Writes a text. Where it cannot be written, standard error says so, and the exit status is 0 even then.
+fn print<O: Write, E: Write>(output: &mut O, errors: &mut E, text: &[u8]) {
+    if output.write_all(text).is_ok() {
+        return;
+    }
+    let _ = errors.write_all(b"route: the answer could not be written to standard output\n");
+}
+
+fn main(rt: HostRuntime) {
     let mut file = [0u8; FILE];
-    let n = io::read_full(0, &mut file);
+    let n = read_full(&mut rt.stdin(), &mut file);
     let mut text = [0u8; TEXT];
     let count = report::route(&file[..n], &mut text);
-    print(&text[..count]);
+    print(&mut rt.stdout(), &mut rt.stderr(), &text[..count]);
 }
