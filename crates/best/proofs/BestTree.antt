@@ -85,6 +85,7 @@ unfolding crossings
 in-crossings xs ys a c = at xs c.across
   where
     at : (xs : List ℤ) → a.x ∈ xs → a ∈ crossings xs ys
+    at [] x' = elim x' [ ]
     at (x ∷ xs) (here e) =
         let i : a ∈ map (place x) ys = rw (← e) (in_map (place a.x) c.along) in
         Memᴰ.append_left (crossings xs ys) i

@@ -29,14 +29,17 @@ use Rattle.best.specs.Tree.{JoinsPins, IsBest}
 
 sides-in : (ms : List Macro) (p : Place) → p ∈ sides ms → (n : List Macro) → Among ms n → p ∈ sides n
 unfolding sides
+sides-in mathlib.Core.List.[] p x'' n h = elim x'' [ ]
 sides-in (m ∷ ms) p (here e) n h = at n (h m (here refl))
   where
     at : (n : List Macro) → m ∈ n → p ∈ sides n
+    at mathlib.Core.List.[] x5 = elim x5 [ ]
     at (k ∷ n) (here f) = here (e ∙ ap (λ (z : Macro). place z.left z.bottom) f)
     at (k ∷ n) (there i) = there (there (at n i))
 sides-in (m ∷ ms) p (there (here e)) n h = at n (h m (here refl))
   where
     at : (n : List Macro) → m ∈ n → p ∈ sides n
+    at mathlib.Core.List.[] x9 = elim x9 [ ]
     at (k ∷ n) (here f) = there (here (e ∙ ap (λ (z : Macro). place z.right z.top) f))
     at (k ∷ n) (there i) = there (there (at n i))
 sides-in (m ∷ ms) p (there (there i)) n h = sides-in ms p i n (λ k j. h k (there j))

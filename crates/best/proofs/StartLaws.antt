@@ -28,6 +28,7 @@ use Rattle.grid.proofs.Spread.{NearOf, spread, spread-on, spread-off, spread-bel
 
 least-le : (cap : ℕ) (l : List ℕ) (x : ℕ) → x ∈ l → least cap l ≤ x
 unfolding least
+least-le cap [] x m = elim m [ ]
 least-le cap (y ∷ l) x m = either (λ e. omega (arith, e)) (λ i. omega (arith, least-le cap l x i)) (Memᴰ.cases_cons m)
 
 pub least-in : (cap : ℕ) (l : List ℕ) → least cap l < cap → least cap l ∈ l

@@ -9,35 +9,35 @@ use Rattle.best.proofs.SizeLaws.{filled_none, filled_more, filled-end}
 use Rattle.best.proofs.clear.Statement.{statement}
 use Rattle.best.proofs.clear.Tie as tie
 
-abbrev invariant-loop : tie.invariant-loop
+abbrev invariant-loop : tie.invariant-loop-i
 invariant-loop work₀ n i₀ work i = (i ≤ n) × ((length work ≡ length work₀) × (work ≡ over (replicate i 0) work₀))
 
-abbrev decreases-loop : tie.decreases-loop
+abbrev decreases-loop : tie.decreases-loop-i
 decreases-loop work₀ n i₀ work i = n - i
 
-loop-holds : tie.Need-loop-init invariant-loop decreases-loop
+loop-holds : tie.Need-loop-i-init invariant-loop decreases-loop
 loop-holds c = (omega arith, (refl, filled_none 0 _))
 
-loop-again : tie.Need-loop-preserved invariant-loop decreases-loop
+loop-again : tie.Need-loop-i-preserved invariant-loop decreases-loop
 loop-again c =
-    let l = c.before in
-    let i = l.loop.invariant in (
+    let l = c in
+    let i = l.loop-i.invariant in (
       omega arith,
       (
-        length-set l.loop.work l.loop.i 0 ∙ i.1.0,
+        length-set l.loop-i.work l.loop-i.i 0 ∙ i.1.0,
         filled_more 0 _ _ _ (omega (
           arith,
-          c.loop-test.true,
-          l.before.requires,
+          c.loop-i-test.true,
+          l.requires,
         )) i.1.1,
       ),
     )
 
-same_length : tie.Need-same-length invariant-loop decreases-loop
-same_length c = c.before.loop.invariant.1.0
+same_length : tie.Need-shape_of-work invariant-loop decreases-loop
+same_length c = c.loop-i.invariant.1.0
 
 returns : tie.Need-returns invariant-loop decreases-loop
-returns c = filled-end 0 _ _ _ _ c.before.loop.invariant.0 c.loop-test.false c.before.loop.invariant.1.1
+returns c = filled-end 0 _ _ _ _ c.loop-i.invariant.0 c.loop-i-test.false c.loop-i.invariant.1.1
 
 pub clear_spec : {M : Type 1} → statement M
 clear_spec =

@@ -8,35 +8,35 @@ use borrow.Author.Rules.{rules}
 use Rattle.best.proofs.marked_length.Statement.{statement}
 use Rattle.best.proofs.marked_length.Tie as tie
 
-returns : tie.Need-returns
-returns c = (inl (c.if1.true, refl), omega arith)
+returns : tie.Need-returns-then-used-j-eq0
+returns c = (inl (c.if-used-j-eq0.true, refl), omega arith)
 
-crossing-requires-2 : tie.Need-crossing-requires-2
+crossing-requires-2 : tie.Need-crossing-q-requires
 crossing-requires-2 c κs =
-    let t = c.before in
-    let i = t.before in
-    let f = i.before in
-    let s = f.before.before in
-    marked-inside _ _ _ i.in_order.ensures.0 t.target.ensures (s.requires.1 (omega (arith, f.if1.false)))
+    let t = c in
+    let i = t in
+    let f = i in
+    let s = f in
+    marked-inside _ _ _ i.in_order-k.ensures.0 t.target-b.ensures (s.requires.1 (omega (arith, f.if-used-j-eq0.false)))
 
-returns-2 : tie.Need-returns-2
+returns-2 : tie.Need-returns
 returns-2 c =
-    let y = c.before in
-    let x = y.before in
-    let t = x.before in
-    let i = t.before in
-    let f = i.before in
-    let s = f.before.before in (
+    let y = c in
+    let x = y in
+    let t = x in
+    let i = t in
+    let f = i in
+    let s = f in (
       inr (
-        omega (arith, f.if1.false),
-        marked-length s.args.xs.now s.args.ys.now _ _ _ _ _ _ _ refl i.in_order.ensures.0 t.target.ensures
-            x.crossing.ensures y.crossing2.ensures c.cost.ensures.0,
+        omega (arith, f.if-used-j-eq0.false),
+        marked-length s.args.xs.now s.args.ys.now _ _ _ _ _ _ _ refl i.in_order-k.ensures.0 t.target-b.ensures
+            x.crossing-p.ensures y.crossing-q.ensures c.cost.ensures.0,
       ),
       c.cost.ensures.1,
     )
 
-pub marked-length-spec : {M : Type 1} → statement M
-marked-length-spec =
+pub marked_length_spec : {M : Type 1} → statement M
+marked_length_spec =
     tie.close
     (tie.spec
     (λ c. search rules) (λ c. search rules) returns (λ c κs. search rules) (λ c κs. search rules) (λ c κs. search rules)

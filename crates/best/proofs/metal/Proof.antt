@@ -11,42 +11,42 @@ use Rattle.best.proofs.GivenLaws.{metal-none, metal-more, metal-end}
 use Rattle.best.proofs.metal.Statement.{statement}
 use Rattle.best.proofs.metal.Tie as tie
 
-abbrev invariant-loop : tie.invariant-loop
+abbrev invariant-loop : tie.invariant-loop-j
 invariant-loop xs ys used e sum₀ j₀ sum j = (j ≤ e) × ((sum ≤ j * cost_limit) × (sum ≡ lengths distance (marked_edges xs ys used j)))
 
-abbrev decreases-loop : tie.decreases-loop
+abbrev decreases-loop : tie.decreases-loop-j
 decreases-loop xs ys used e sum₀ j₀ sum j = e - j
 
-loop-holds : tie.Need-loop-init invariant-loop decreases-loop
+loop-holds : tie.Need-loop-j-init invariant-loop decreases-loop
 loop-holds c = (omega arith, (omega arith, metal-none _ _ _))
 
-marked-length-requires : tie.Need-marked-length-requires invariant-loop decreases-loop
+marked-length-requires : tie.Need-marked_length-sum-requires invariant-loop decreases-loop
 marked-length-requires c κs =
-    let s = c.before.before in
-    let h = c.loop-test.true in
+    let s = c in
+    let h = c.loop-j-test.true in
     (omega (arith, h, s.requires.0), s.requires.1 _ h)
 
-loop-again : tie.Need-loop-preserved invariant-loop decreases-loop
+loop-again : tie.Need-loop-j-preserved invariant-loop decreases-loop
 loop-again c =
-    let l = c.before.before in (
+    let l = c in (
       omega arith,
       (
-        omega (arith, c.marked-length.ensures.1, l.loop.invariant.1.0),
-        metal-more _ _ _ _ _ _ l.loop.invariant.1.1
-            c.marked-length.ensures.0,
+        omega (arith, c.marked_length-sum.ensures.1, l.loop-j.invariant.1.0),
+        metal-more _ _ _ _ _ _ l.loop-j.invariant.1.1
+            c.marked_length-sum.ensures.0,
       ),
     )
 
 returns : tie.Need-returns invariant-loop decreases-loop
 returns c =
-    let i = c.before.loop.invariant in
-    metal-end _ _ _ _ _ _ i.0 c.loop-test.false i.1.1
+    let i = c.loop-j.invariant in
+    metal-end _ _ _ _ _ _ i.0 c.loop-j-test.false i.1.1
 
-pub metal-spec : {M : Type 1} → statement M
-metal-spec =
+pub metal_spec : {M : Type 1} → statement M
+metal_spec =
     tie.close
     (tie.spec
     invariant-loop decreases-loop loop-holds marked-length-requires
-    (λ c. omega (arith, c.marked-length.ensures.1, c.before.before.loop.invariant.1.0, c.before.before.before.requires.0))
+    (λ c. omega (arith, c.marked_length-sum.ensures.1, c.loop-j.invariant.1.0, c.requires.0))
     (λ c. omega arith) (λ c. omega arith) loop-again
     returns)

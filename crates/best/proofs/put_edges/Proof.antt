@@ -8,50 +8,50 @@ use Rattle.best.proofs.GivenLaws.{Given, given-none, given-more, given-end, give
 use Rattle.best.proofs.put_edges.Statement.{statement}
 use Rattle.best.proofs.put_edges.Tie as tie
 
-abbrev invariant-loop : tie.invariant-loop
+abbrev invariant-loop : tie.invariant-loop-j
 invariant-loop xs ys used e edges₀ count₀ j₀ edges count j = (j ≤ e) × ((length edges ≡ length edges₀) × Given xs ys used edges₀ j count edges)
 
-abbrev decreases-loop : tie.decreases-loop
+abbrev decreases-loop : tie.decreases-loop-j
 decreases-loop xs ys used e edges₀ count₀ j₀ edges count j = e - j
 
-loop-holds : tie.Need-loop-init invariant-loop decreases-loop
+loop-holds : tie.Need-loop-j-init invariant-loop decreases-loop
 loop-holds c = (omega arith, (refl, given-none _ _ _ _))
 
-put-marked-requires : tie.Need-put-marked-requires invariant-loop decreases-loop
+put-marked-requires : tie.Need-put_marked-count-requires invariant-loop decreases-loop
 put-marked-requires c κs =
-    let t = c.before in
-    let l = t.before in
-    let s = l.before in
-    let h = t.loop-test.true in (
+    let t = c in
+    let l = t in
+    let s = l in
+    let h = t.loop-j-test.true in (
       (omega (arith, h, s.requires.0.0), s.requires.0.1 _ h),
-      λ k. let r = given-room s.args.xs.now s.args.ys.now s.args.used.now l.loop.j s.args.e h k in omega
-          (arith, r, l.loop.invariant.1.1.counted, l.loop.invariant.1.0, s.requires.1),
+      λ k. let r = given-room s.args.xs.now s.args.ys.now s.args.used.now l.loop-j.j s.args.e h k in omega
+          (arith, r, l.loop-j.invariant.1.1.counted, l.loop-j.invariant.1.0, s.requires.1),
     )
 
-loop-again : tie.Need-loop-preserved invariant-loop decreases-loop
+loop-again : tie.Need-loop-j-preserved invariant-loop decreases-loop
 loop-again c =
-    let d = c.before in
-    let t = d.before.before in
-    let l = t.before in
-    let s = l.before in
-    let h = t.loop-test.true in (
+    let d = c in
+    let t = d in
+    let l = t in
+    let s = l in
+    let h = t.loop-j-test.true in (
       omega (arith, h),
       (
-        d.put-marked.auto.1.1.1.1.0 ∙ l.loop.invariant.1.0,
-        given-more _ _ _ _ _ _ _ _ _ _ h s.requires.1 l.loop.invariant.1.1
-            d.put-marked.ensures,
+        d.put_marked-count.auto.edges ∙ l.loop-j.invariant.1.0,
+        given-more _ _ _ _ _ _ _ _ _ _ h s.requires.1 l.loop-j.invariant.1.1
+            d.put_marked-count.ensures,
       ),
     )
 
-same_length : tie.Need-same-length invariant-loop decreases-loop
-same_length c = c.before.loop.invariant.1.0
+same_length : tie.Need-shape_of-edges invariant-loop decreases-loop
+same_length c = c.loop-j.invariant.1.0
 
 returns : tie.Need-returns invariant-loop decreases-loop
 returns c =
-    let i = c.before.loop.invariant in
-    given-end _ _ _ _ _ _ _ _ i.0 c.loop-test.false i.1.1
+    let i = c.loop-j.invariant in
+    given-end _ _ _ _ _ _ _ _ i.0 c.loop-j-test.false i.1.1
 
-pub put-edges-spec : {M : Type 1} → statement M
-put-edges-spec =
+pub put_edges_spec : {M : Type 1} → statement M
+put_edges_spec =
     tie.close
     (tie.spec invariant-loop decreases-loop loop-holds put-marked-requires (λ c. omega arith) (λ c. omega arith) loop-again same_length returns)

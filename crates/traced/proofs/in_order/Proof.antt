@@ -7,11 +7,11 @@ use borrow.Author.Rules.{rules}
 use Rattle.traced.proofs.in_order.Statement.{statement}
 use Rattle.traced.proofs.in_order.Tie as tie
 
-returns : tie.Need-returns
-returns c = (sym (order-even _ c.if1.true), omega (arith, c.if1.true))
+returns : tie.Need-returns-then-k-eq0
+returns c = (sym (order-even _ c.if-k-eq0.true), omega (arith, c.if-k-eq0.true))
 
-returns-2 : tie.Need-returns-2
-returns-2 c = (sym (order-odd _ c.if1.false), omega arith)
+returns-2 : tie.Need-returns
+returns-2 c = (sym (order-odd _ c.if-k-eq0.false), omega arith)
 
-pub in-order-spec : {M : Type 1} → statement M
-in-order-spec = tie.close (tie.spec (λ c. search rules) returns (λ c. search rules) returns-2)
+pub in_order_spec : {M : Type 1} → statement M
+in_order_spec = tie.close (tie.spec (λ c. search rules) returns (λ c. search rules) returns-2)

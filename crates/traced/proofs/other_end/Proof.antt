@@ -6,11 +6,11 @@ use borrow.Author.Rules.{rules}
 use Rattle.traced.proofs.other_end.Statement.{statement}
 use Rattle.traced.proofs.other_end.Tie as tie
 
-returns : tie.Need-returns
-returns c = c.target.ensures ∙ sym (other-hit _ _ c.before.if1.true)
+returns : tie.Need-returns-then-k-v
+returns c = c.target.ensures ∙ sym (other-hit _ _ c.if-k-v.true)
 
-returns-2 : tie.Need-returns-2
-returns-2 c = sym (other-miss _ _ c.if1.false)
+returns-2 : tie.Need-returns
+returns-2 c = sym (other-miss _ _ c.if-k-v.false)
 
-pub other-end-spec : {M : Type 1} → statement M
-other-end-spec = tie.close (tie.spec (λ c κs. search rules) returns returns-2)
+pub other_end_spec : {M : Type 1} → statement M
+other_end_spec = tie.close (tie.spec (λ c κs. search rules) returns returns-2)

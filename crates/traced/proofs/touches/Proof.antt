@@ -6,7 +6,7 @@ use Rattle.traced.proofs.touches.Statement.{statement}
 use Rattle.traced.proofs.touches.Tie as tie
 
 returns : tie.Need-returns
-returns c = touch_is _ _ _ c.target.ensures
+returns c = touch_is _ _ _ c.target-b.ensures
 
-pub touches-spec : {M : Type 1} → statement M
-touches-spec = tie.close (tie.spec (λ c κs. search rules) returns)
+pub touches_spec : {M : Type 1} → statement M
+touches_spec = tie.close (tie.spec (λ c κs. search rules) returns)

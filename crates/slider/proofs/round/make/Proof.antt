@@ -8,11 +8,11 @@ use Rattle.settled.proofs.SettledLaws.{edges-in-order}
 use Rattle.slider.proofs.round.make.Statement.{statement}
 use Rattle.slider.proofs.round.make.Tie as tie
 
-shift-bar-requires : tie.Need-shift-bar-requires
-shift-bar-requires c κs = let s = c.before in (s.requires.0, (s.requires.1.0, omega (arith, s.requires.0)))
+shift-bar-requires : tie.Need-shift_bar-count-requires
+shift-bar-requires c κs = let s = c in (s.requires.0, (s.requires.1.0, omega (arith, s.requires.0)))
 
 returns : tie.Need-returns
-returns c = edges-in-order c.before.sort-edges.ensures ∙ ap in_their_order c.before.before.before.before.before.shift-bar.ensures.0
+returns c = edges-in-order c.sort_edges.ensures ∙ ap in_their_order c.shift_bar-count.ensures.0
 
 pub make_spec : {M : Type 1} → statement M
 make_spec =

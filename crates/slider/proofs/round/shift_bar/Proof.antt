@@ -14,11 +14,11 @@ use Rattle.slider.proofs.round.shift_bar.Tie as tie
 abbrev made : tie.Start → List ℕ → List Edge
 made s lab = shifted s.args.m s.args.pts.now lab s.args.keys.now s.args.z.edges
 
-shift-edges-requires : tie.Need-shift-edges-requires
+shift-edges-requires : tie.Need-shift_edges-requires
 shift-edges-requires c κs =
-    let s = c.before.before.before in
+    let s = c in
     let rows = labels-rows s.args.m.side s.args.rows.now s.args.columns.now
-    (sym c.before.before.is-horizontal.ensures ∙ c.before.if1.true) in (
+    (sym c.is_horizontal.ensures ∙ c.if-is_horizontal.true) in (
       s.requires.0,
       (
         subst (λ (lab : List ℕ). Movable s.args.m s.args.pts.now s.args.z.points lab) rows s.requires.1.0,
@@ -26,20 +26,20 @@ shift-edges-requires c κs =
       ),
     )
 
-returns : tie.Need-returns
+returns : tie.Need-returns-then-is_horizontal
 returns c =
-    let b = c.before.before.before in
-    let s = b.before.before in
+    let b = c in
+    let s = b.before.before.before.before.before in
     let rows = labels-rows s.args.m.side s.args.rows.now s.args.columns.now
-    (sym b.before.is-horizontal.ensures ∙ b.if1.true) in
-    let r = c.before.shift-edges.ensures in
+    (sym b.is_horizontal.ensures ∙ b.if-is_horizontal.true) in
+    let r = c.shift_edges.ensures in
     (r.0 ∙ ap (made s) (sym rows), r.1)
 
-shift-edges-requires-2 : tie.Need-shift-edges-requires-2
+shift-edges-requires-2 : tie.Need-shift_edges-requires-2
 shift-edges-requires-2 c κs =
-    let s = c.before.before.before in
+    let s = c in
     let columns = labels-columns s.args.m.side s.args.rows.now s.args.columns.now
-    (sym c.before.before.is-horizontal.ensures ∙ c.before.if1.false) in (
+    (sym c.is_horizontal.ensures ∙ c.if-is_horizontal.false) in (
       s.requires.0,
       (
         subst (λ (lab : List ℕ). Movable s.args.m s.args.pts.now s.args.z.points lab) columns s.requires.1.0,
@@ -47,17 +47,17 @@ shift-edges-requires-2 c κs =
       ),
     )
 
-returns-2 : tie.Need-returns-2
+returns-2 : tie.Need-returns
 returns-2 c =
-    let b = c.before.before.before in
-    let s = b.before.before in
+    let b = c in
+    let s = b.before.before.before.before.before in
     let columns = labels-columns s.args.m.side s.args.rows.now s.args.columns.now
-    (sym b.before.is-horizontal.ensures ∙ b.if1.false) in
-    let r = c.before.shift-edges2.ensures in
+    (sym b.is_horizontal.ensures ∙ b.if-is_horizontal.false) in
+    let r = c.shift_edges-2.ensures in
     (r.0 ∙ ap (made s) (sym columns), r.1)
 
-pub shift-bar-spec : {M : Type 1} → statement M
-shift-bar-spec =
+pub shift_bar_spec : {M : Type 1} → statement M
+shift_bar_spec =
     tie.close
     (tie.spec
     (λ c κs. search rules) shift-edges-requires (λ c. search rules) returns shift-edges-requires-2 (λ c. search rules)
