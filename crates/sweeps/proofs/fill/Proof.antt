@@ -10,33 +10,33 @@ use Rattle.sweeps.specs.Tables.{wide_crossings}
 use Rattle.sweeps.proofs.fill.Statement.{statement}
 use Rattle.sweeps.proofs.fill.Tie as tie
 
-abbrev invariant-loop : tie.invariant-loop
+abbrev invariant-loop : tie.invariant-loop-v
 invariant-loop row₀ x v₀ row v = (v ≤ wide_crossings) × ((length row ≡ wide_crossings) × (row ≡ over (replicate v x) row₀))
 
-abbrev decreases-loop : tie.decreases-loop
+abbrev decreases-loop : tie.decreases-loop-v
 decreases-loop row₀ x v₀ row v = wide_crossings - v
 
-loop-holds : tie.Need-loop-init invariant-loop decreases-loop
+loop-holds : tie.Need-loop-v-init invariant-loop decreases-loop
 loop-holds c = (omega arith, (c.requires, filled_none c.args.x _))
 
-loop-again : tie.Need-loop-preserved invariant-loop decreases-loop
+loop-again : tie.Need-loop-v-preserved invariant-loop decreases-loop
 loop-again c =
-    let l = c.before in
-    let i = l.loop.invariant in (
+    let l = c in
+    let i = l.loop-v.invariant in (
       omega arith,
       (
-        length-set l.loop.row l.loop.v l.before.args.x ∙ i.1.0,
-        filled_more _ _ _ _ (omega (arith, c.loop-test.true, l.before.requires)) i.1.1,
+        length-set l.loop-v.row l.loop-v.v l.args.x ∙ i.1.0,
+        filled_more _ _ _ _ (omega (arith, c.loop-v-test.true, l.requires)) i.1.1,
       ),
     )
 
-same_length : tie.Need-same-length invariant-loop decreases-loop
-same_length c = c.before.loop.invariant.1.0 ∙ sym c.before.before.requires
+same_length : tie.Need-shape_of-row invariant-loop decreases-loop
+same_length c = c.loop-v.invariant.1.0 ∙ sym c.requires
 
 returns : tie.Need-returns invariant-loop decreases-loop
 returns c =
-    let i = c.before.loop.invariant in
-    filled-all _ _ _ _ i.1.0 (filled-end _ _ _ _ _ i.0 c.loop-test.false i.1.1)
+    let i = c.loop-v.invariant in
+    filled-all _ _ _ _ i.1.0 (filled-end _ _ _ _ _ i.0 c.loop-v-test.false i.1.1)
 
 pub fill_spec : {M : Type 1} → statement M
 fill_spec =

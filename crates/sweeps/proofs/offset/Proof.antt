@@ -6,17 +6,17 @@ use Rattle.sweeps.proofs.TableLaws.{offset-0, offset-1, offset-2, offset-3}
 use Rattle.sweeps.proofs.offset.Statement.{statement}
 use Rattle.sweeps.proofs.offset.Tie as tie
 
-returns : tie.Need-returns
-returns c = (sym (offset-0 _ c.if1.true), omega arith)
+returns : tie.Need-returns-then-i-eq0
+returns c = (sym (offset-0 _ c.if-i-eq0.true), omega arith)
 
-returns-2 : tie.Need-returns-2
-returns-2 c = (sym (offset-1 _ c.if2.true), omega arith)
+returns-2 : tie.Need-returns-then-i-eq1
+returns-2 c = (sym (offset-1 _ c.if-i-eq1.true), omega arith)
 
-returns-3 : tie.Need-returns-3
-returns-3 c = (sym (offset-2 _ c.if3.true), omega arith)
+returns-3 : tie.Need-returns-then-i-eq2
+returns-3 c = (sym (offset-2 _ c.if-i-eq2.true), omega arith)
 
-returns-4 : tie.Need-returns-4
-returns-4 c = (sym (offset-3 _ c.before.before.if1.false c.before.if2.false c.if3.false), omega arith)
+returns-4 : tie.Need-returns
+returns-4 c = (sym (offset-3 _ c.if-i-eq0.false c.if-i-eq1.false c.if-i-eq2.false), omega arith)
 
-pub offset-spec : {M : Type 1} → statement M
-offset-spec = tie.close (tie.spec returns returns-2 returns-3 returns-4)
+pub offset_spec : {M : Type 1} → statement M
+offset_spec = tie.close (tie.spec returns returns-2 returns-3 returns-4)

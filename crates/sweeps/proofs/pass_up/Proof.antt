@@ -8,35 +8,35 @@ use Rattle.sweeps.proofs.TableLaws.{pass-none, pass-up-step, pass-weaker}
 use Rattle.sweeps.proofs.pass_up.Statement.{statement}
 use Rattle.sweeps.proofs.pass_up.Tie as tie
 
-abbrev invariant-loop : tie.invariant-loop
+abbrev invariant-loop : tie.invariant-loop-a
 invariant-loop left row₀ cap e moved₀ a₀ row moved a = (a ≤ e) × Passed left cap (λ b. b < a) moved row₀ row
 
-abbrev decreases-loop : tie.decreases-loop
+abbrev decreases-loop : tie.decreases-loop-a
 decreases-loop left row₀ cap e moved₀ a₀ row moved a = e - a
 
-loop-holds : tie.Need-loop-init invariant-loop decreases-loop
-loop-holds c = (omega arith, pass-none _ _ _ _ (λ b i. omega (arith, i)) c.before.before.requires.1.0)
+loop-holds : tie.Need-loop-a-init invariant-loop decreases-loop
+loop-holds c = (omega arith, pass-none _ _ _ _ (λ b i. omega (arith, i)) c.requires.1.0)
 
-visit-requires : tie.Need-visit-requires invariant-loop decreases-loop
+visit-requires : tie.Need-visit-m-requires invariant-loop decreases-loop
 visit-requires c κs =
-    let l = c.before.before in
-    let f = l.before.before.before.requires in
-    (f.0, (l.loop.invariant.1.row, omega (arith, c.before.loop-test.true, f.1.1)))
+    let l = c in
+    let f = l.requires in
+    (f.0, (l.loop-a.invariant.1.row, omega (arith, c.loop-a-test.true, f.1.1)))
 
-loop-again : tie.Need-loop-preserved invariant-loop decreases-loop
+loop-again : tie.Need-loop-a-preserved invariant-loop decreases-loop
 loop-again c =
-    let l = c.before.before.before.before.before in
-    let f = l.before.before.before.requires in
-    let h = c.before.before.before.before.loop-test.true in
-    (omega arith, pass-up-step _ _ _ _ _ _ _ _ l.loop.invariant.1 c.before.before.visit.ensures)
+    let l = c in
+    let f = l.requires in
+    let h = c.loop-a-test.true in
+    (omega arith, pass-up-step _ _ _ _ _ _ _ _ l.loop-a.invariant.1 c.visit-m.ensures)
 
-same_length : tie.Need-same-length invariant-loop decreases-loop
-same_length c = c.before.loop.invariant.1.row.size ∙ sym c.before.before.before.before.requires.1.0.size
+same_length : tie.Need-shape_of-row invariant-loop decreases-loop
+same_length c = c.loop-a.invariant.1.row.size ∙ sym c.requires.1.0.size
 
 returns : tie.Need-returns invariant-loop decreases-loop
-returns c = pass-weaker _ _ _ _ _ _ _ c.before.loop.invariant.1 (λ b i. omega (arith, i, c.loop-test.false))
+returns c = pass-weaker _ _ _ _ _ _ _ c.loop-a.invariant.1 (λ b i. omega (arith, i, c.loop-a-test.false))
 
-pub pass-up-spec : {M : Type 1} → statement M
-pass-up-spec =
+pub pass_up_spec : {M : Type 1} → statement M
+pass_up_spec =
     tie.close
     (tie.spec invariant-loop decreases-loop loop-holds visit-requires (λ c. omega arith) (λ c. omega arith) loop-again same_length returns)

@@ -6,14 +6,14 @@ use Rattle.sweeps.proofs.TableLaws.{start-row}
 use Rattle.sweeps.proofs.start.Statement.{statement}
 use Rattle.sweeps.proofs.start.Tie as tie
 
-slice-write-row : tie.Need-slice-write-row
+slice-write-row : tie.Need-bounds-row-q
 slice-write-row c =
-    let f = c.before.before in
-    let s = f.before.before.before in
-    omega (arith, s.requires.0, s.requires.1, f.fill.auto.0)
+    let f = c in
+    let s = f in
+    omega (arith, s.requires.0, s.requires.1, f.fill.auto.row)
 
 returns : tie.Need-returns
-returns c = start-row _ _ c.before.before.fill.ensures c.before.before.before.before.before.requires.1
+returns c = start-row _ _ c.fill.ensures c.requires.1
 
 pub start_spec : {M : Type 1} → statement M
-start_spec = tie.close (tie.spec (λ c κs. search rules) (λ c. omega (arith, c.before.before.before.before.before.requires.1)) slice-write-row (λ c. search rules) returns)
+start_spec = tie.close (tie.spec (λ c κs. search rules) (λ c. omega (arith, c.requires.1)) slice-write-row (λ c. search rules) returns)

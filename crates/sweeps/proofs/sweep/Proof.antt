@@ -11,40 +11,40 @@ use Rattle.sweeps.proofs.TableLaws as laws
 use Rattle.sweeps.proofs.sweep.Statement.{statement}
 use Rattle.sweeps.proofs.sweep.Tie as tie
 
-abbrev invariant-loop : tie.invariant-loop
+abbrev invariant-loop : tie.invariant-loop-i
 invariant-loop left₀ row₀ numbers m e sum₀ i₀ left row sum i =
     (i ≤ m) × ((sum + i * far ≤ m * far) × ((ArcsFit left × (length row ≡ wide_crossings)) × laws.Sweeping numbers e m left₀ left i sum))
 
-abbrev decreases-loop : tie.decreases-loop
+abbrev decreases-loop : tie.decreases-loop-i
 decreases-loop left₀ row₀ numbers m e sum₀ i₀ left row sum i = i
 
-loop-holds : tie.Need-loop-init invariant-loop decreases-loop
+loop-holds : tie.Need-loop-i-init invariant-loop decreases-loop
 loop-holds c =
-    let f = c.before.before.requires.0 in
+    let f = c.requires.0 in
     (omega arith, (omega arith, ((f.0, f.1.0), laws.sweep-none _ _ _ _)))
 
-sub-i : tie.Need-overflow-sub-i invariant-loop decreases-loop
-sub-i c = omega (arith, c.loop-test.true)
+sub-i : tie.Need-overflow_sub-i invariant-loop decreases-loop
+sub-i c = omega (arith, c.loop-i-test.true)
 
-raise-requires : tie.Need-raise-requires invariant-loop decreases-loop
+raise-requires : tie.Need-raise-t-requires invariant-loop decreases-loop
 raise-requires c κs =
-    let l = c.before.before.before.loop.invariant in
-    let f = c.before.before.before.before.before.before.requires in
-    ((l.1.1.0.0, (l.1.1.0.1, f.0.1.1)), (omega (arith, l.0, f.1.0, c.before.before.loop-test.true), f.1.1))
+    let l = c.loop-i.invariant in
+    let f = c.requires in
+    ((l.1.1.0.0, (l.1.1.0.1, f.0.1.1)), (omega (arith, l.0, f.1.0, c.loop-i-test.true), f.1.1))
 
-add-sum : tie.Need-overflow-add-sum invariant-loop decreases-loop
+add-sum : tie.Need-overflow_add-sum invariant-loop decreases-loop
 add-sum c =
-    let l = c.before.before.before.before.before.before.before.before.loop.invariant in
-    omega (arith, l.0, l.1.0, c.before.before.before.before.before.before.before.loop-test.true, c.before.before.before.before.before.before.before.before.before.before.before.requires.1.0, c.before.before.before.before.raise.ensures.1.0.0.most)
+    let l = c.loop-i.invariant in
+    omega (arith, l.0, l.1.0, c.loop-i-test.true, c.requires.1.0, c.raise-t.ensures.1.0.0.most)
 
-loop-less : tie.Need-loop-smaller invariant-loop decreases-loop
-loop-less c = omega (arith, c.before.before.before.before.before.before.before.loop-test.true)
+loop-less : tie.Need-loop-i-smaller invariant-loop decreases-loop
+loop-less c = omega (arith, c.loop-i-test.true)
 
-loop-again : tie.Need-loop-preserved invariant-loop decreases-loop
+loop-again : tie.Need-loop-i-preserved invariant-loop decreases-loop
 loop-again c =
-    let l = c.before.before.before.before.before.before.before.before.loop.invariant in
-    let h = c.before.before.before.before.before.before.before.loop-test.true in
-    let r = c.before.before.before.before.raise.ensures in (
+    let l = c.loop-i.invariant in
+    let h = c.loop-i-test.true in
+    let r = c.raise-t.ensures in (
       omega (arith, l.0, h),
       (
         omega (arith, l.1.0, h, r.1.0.0.most),
@@ -55,19 +55,19 @@ loop-again c =
       ),
     )
 
-same_length : tie.Need-same-length invariant-loop decreases-loop
-same_length c = c.before.loop.invariant.1.1.0.0.size ∙ sym c.before.before.before.before.requires.0.0.size
+same_length : tie.Need-shape_of-left invariant-loop decreases-loop
+same_length c = c.loop-i.invariant.1.1.0.0.size ∙ sym c.requires.0.0.size
 
-same-length-2 : tie.Need-same-length-2 invariant-loop decreases-loop
-same-length-2 c = c.before.loop.invariant.1.1.0.1 ∙ sym c.before.before.before.before.requires.0.1.0
+same-length-2 : tie.Need-shape_of-row invariant-loop decreases-loop
+same-length-2 c = c.loop-i.invariant.1.1.0.1 ∙ sym c.requires.0.1.0
 
 returns : tie.Need-returns invariant-loop decreases-loop
 returns c =
-    let l = c.before.loop.invariant in
-    (laws.sweep-end _ _ _ _ _ _ _ (omega (arith, c.loop-test.false)) l.1.1.1, (l.1.1.0.1, l.1.1.0.0))
+    let l = c.loop-i.invariant in
+    (laws.sweep-end _ _ _ _ _ _ _ (omega (arith, c.loop-i-test.false)) l.1.1.1, (l.1.1.0.1, l.1.1.0.0))
 
-pub sweep-spec : {M : Type 1} → statement M
-sweep-spec =
+pub sweep_spec : {M : Type 1} → statement M
+sweep_spec =
     tie.close
     (tie.spec
     invariant-loop

@@ -14,79 +14,79 @@ use Rattle.sweeps.proofs.TableLaws as laws
 use Rattle.sweeps.proofs.visit.Statement.{statement}
 use Rattle.sweeps.proofs.visit.Tie as tie
 
-mul-d : tie.Need-overflow-mul-d
+mul-d : tie.Need-offset_bounds-row-a
 mul-d c = search rules
 
-slice-read-d : tie.Need-slice-read-d
+slice-read-d : tie.Need-bounds-row-a
 slice-read-d c = search rules
 
-returns : tie.Need-returns
-returns c = laws.visit-idle _ _ _ _ c.before.before.before.before.requires.1.0 (λ some low. absurd (let z : ⊥ = omega (arith, low, c.if1.true) in z))
+returns : tie.Need-returns-then-cap-d
+returns c = laws.visit-idle _ _ _ _ c.requires.1.0 (λ some low. absurd (let z : ⊥ = omega (arith, low, c.if-cap-d.true) in z))
 
-mul-s : tie.Need-overflow-mul-s
+mul-s : tie.Need-offset_bounds-left-a
 mul-s c = search rules
 
-shared-slice-read-s : tie.Need-shared-slice-read-s
+shared-slice-read-s : tie.Need-bounds-left-a
 shared-slice-read-s c = search rules
 
-returns-2 : tie.Need-returns-2
-returns-2 c = laws.visit-idle _ _ _ _ c.before.before.before.before.before.before.requires.1.0 (λ some low. absurd (let z : ⊥ = omega (arith, some, c.if2.true) in z))
+returns-2 : tie.Need-returns-then-s-eq0
+returns-2 c = laws.visit-idle _ _ _ _ c.requires.1.0 (λ some low. absurd (let z : ⊥ = omega (arith, some, c.if-s-eq0.true) in z))
 
-source-requires : tie.Need-source-requires
+source-requires : tie.Need-source-u-requires
 source-requires c κs =
-    let s = c.before.before.before.before.before.before in
-    (s.requires.1.1, (s.requires.0.ends _ s.requires.1.1 (omega (arith, c.if2.false))).0)
+    let s = c in
+    (s.requires.1.1, (s.requires.0.ends _ s.requires.1.1 (omega (arith, c.if-s-eq0.false))).0)
 
-sub-x : tie.Need-overflow-sub-x
+sub-x : tie.Need-overflow_sub-x
 sub-x c = search rules
 
-cast-x : tie.Need-overflow-cast-x
-cast-x c = let s = c.before.before.before.before.before.before.before in omega (arith, s.requires.0.low s.args.a)
+cast-x : tie.Need-overflow_cast-x
+cast-x c = let s = c in omega (arith, s.requires.0.low s.args.a)
 
-add-x : tie.Need-overflow-add-x
-add-x c = let s = c.before.before.before.before.before.before.before in omega (arith, s.requires.0.low s.args.a, s.requires.1.0.low (s.args.a / 4))
+add-x : tie.Need-overflow_add-x
+add-x c = let s = c in omega (arith, s.requires.0.low s.args.a, s.requires.1.0.low (s.args.a / 4))
 
-mul-if3 : tie.Need-overflow-mul-if3
+mul-if3 : tie.Need-offset_bounds-row-u
 mul-if3 c =
-    let s = c.before.before.before.before.before.before.before in
-    let i = (s.requires.0.ends s.args.a s.requires.1.1 (omega (arith, c.before.if2.false))).1 in
-    omega (arith, c.source.ensures, i)
+    let s = c in
+    let i = (s.requires.0.ends s.args.a s.requires.1.1 (omega (arith, c.if-s-eq0.false))).1 in
+    omega (arith, c.source-u.ensures, i)
 
-slice-read-if3 : tie.Need-slice-read-if3
+slice-read-if3 : tie.Need-bounds-row-u
 slice-read-if3 c =
-    let s = c.before.before.before.before.before.before.before.before in
-    let i = (s.requires.0.ends s.args.a s.requires.1.1 (omega (arith, c.before.before.if2.false))).1 in
-    omega (arith, c.before.source.ensures, i, s.requires.1.0.size)
+    let s = c in
+    let i = (s.requires.0.ends s.args.a s.requires.1.1 (omega (arith, c.if-s-eq0.false))).1 in
+    omega (arith, c.source-u.ensures, i, s.requires.1.0.size)
 
-mul-row : tie.Need-overflow-mul-row
+mul-row : tie.Need-offset_bounds-row-u-then-x-row
 mul-row c =
-    let s = c.before.before.before.before.before.before.before.before.before in
-    let i = (s.requires.0.ends s.args.a s.requires.1.1 (omega (arith, c.before.before.before.if2.false))).1 in
-    omega (arith, c.before.before.source.ensures, i)
+    let s = c in
+    let i = (s.requires.0.ends s.args.a s.requires.1.1 (omega (arith, c.if-s-eq0.false))).1 in
+    omega (arith, c.source-u.ensures, i)
 
-slice-write-row : tie.Need-slice-write-row
+slice-write-row : tie.Need-bounds-row-u-then-x-row
 slice-write-row c =
-    let s = c.before.before.before.before.before.before.before.before.before in
-    let i = (s.requires.0.ends s.args.a s.requires.1.1 (omega (arith, c.before.before.before.if2.false))).1 in
-    omega (arith, c.before.before.source.ensures, i, s.requires.1.0.size)
+    let s = c in
+    let i = (s.requires.0.ends s.args.a s.requires.1.1 (omega (arith, c.if-s-eq0.false))).1 in
+    omega (arith, c.source-u.ensures, i, s.requires.1.0.size)
 
-same_length : tie.Need-same-length
+same_length : tie.Need-shape_of-row-then-x-row
 same_length c = search rules
 
-returns-3 : tie.Need-returns-3
+returns-3 : tie.Need-returns-then-x-row
 returns-3 c =
-    let s = c.before.before.before.before.before.before.before.before.before in
-    let e = c.before.before.source.ensures in
+    let s = c in
+    let e = c.source-u.ensures in
     laws.visit-hit s.args.left.now s.requires.0 s.args.row.now s.requires.1.0 s.args.a s.requires.1.1
-    (omega (arith, c.before.before.before.if2.false)) (rw e at c.if3.true) _ _ e
+    (omega (arith, c.if-s-eq0.false)) (rw e at c.if-x-row.true) _ _ e
 
-returns-4 : tie.Need-returns-4
+returns-4 : tie.Need-returns
 returns-4 c =
-    let e = c.before.before.source.ensures in
-    laws.visit-idle _ _ _ _ c.before.before.before.before.before.before.before.before.before.requires.1.0 (λ some low. rw e at c.if3.false)
+    let e = c.source-u.ensures in
+    laws.visit-idle _ _ _ _ c.requires.1.0 (λ some low. rw e at c.if-x-row.false)
 
-pub visit-spec : {M : Type 1} → statement M
-visit-spec =
+pub visit_spec : {M : Type 1} → statement M
+visit_spec =
     tie.close
     (tie.spec
     mul-d
