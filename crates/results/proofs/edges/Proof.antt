@@ -17,46 +17,46 @@ use borrow.Author.Rules.{rules}
 use Rattle.results.proofs.edges.Statement.{statement}
 use Rattle.results.proofs.edges.Tie as tie
 
-refine-requires : tie.Need-refine-requires
-refine-requires c κs = (c.before.before.requires.0, (refl, refl))
+refine-requires : tie.Need-refine-tree-requires
+refine-requires c κs = (c.requires.0, (refl, refl))
 
-abbrev start : tie.After-refine → tie.Start
+abbrev start : tie.After-refine-tree → tie.Start
 start d = d.before.before.before
 
-abbrev allowed : (d : tie.After-refine) →
+abbrev allowed : (d : tie.After-refine-tree) →
     Allowed (net_of (handed (start d).args.net.weights) (start d).args.pins.now (start d).args.macros.now)
 allowed d = (start d).requires.0.allowed
 
-metal-requires : tie.Need-metal-requires
-metal-requires c κs = let d = c.before.before in metal-asks (allowed d) d.refine.ensures.0
+metal-requires : tie.Need-metal-metal-requires
+metal-requires c κs = let d = c.before.before in metal-asks (allowed d) d.refine-tree.ensures.0
 
-give-edges-requires : tie.Need-give-edges-requires
+give-edges-requires : tie.Need-give_edges-requires
 give-edges-requires c κs =
     let d = c.before.before.before.before.before.before in
     let s = start d in
-    let few = answer-few (allowed d) d.refine.ensures.0 in (
-      omega (arith, d.refine.ensures.0.few.1),
+    let few = answer-few (allowed d) d.refine-tree.ensures.0 in (
+      omega (arith, d.refine-tree.ensures.0.few.1),
       (
-        answer-small (allowed d) d.refine.ensures.0,
-        omega (arith, few, s.pre.1, length-pins s.args.pins.now, length-macros s.args.macros.now),
+        answer-small (allowed d) d.refine-tree.ensures.0,
+        omega (arith, few, s.requires.1, length-pins s.args.pins.now, length-macros s.args.macros.now),
       ),
     )
 
 returns : tie.Need-returns
 unfolding paths_total
 returns c =
-    let l = c.before.before.before.before.before in
-    let d = l.before.before.before in
-    let w = d.refine.ensures.0 in
+    let l = c in
+    let d = l.before.before.before.before.before.before.before.before in
+    let w = d.refine-tree.ensures.0 in
     let a = (start d).args in (
       answer-count (allowed d) w,
       (
         answer-total (allowed d) w,
         (
-          answer-metal (allowed d) w l.metal.ensures,
+          answer-metal (allowed d) w l.metal-metal.ensures,
           (
-            d.refine.ensures.1,
-            c.before.give-edges.ensures
+            d.refine-tree.ensures.1,
+            c.give_edges.ensures
                 ∙ ap (λ (es : List (Place × Place)). over (flat edge_numbers es) a.edges.now) (answer-edges (allowed d) w),
           ),
         ),

@@ -16,33 +16,33 @@ use borrow.Author.Rules.{rules}
 use Rattle.results.proofs.wires.Statement.{statement}
 use Rattle.results.proofs.wires.Tie as tie
 
-refine-requires : tie.Need-refine-requires
-refine-requires c κs = (c.before.before.requires.0, (refl, refl))
+refine-requires : tie.Need-refine-tree-requires
+refine-requires c κs = (c.requires.0, (refl, refl))
 
-abbrev start : tie.After-refine → tie.Start
+abbrev start : tie.After-refine-tree → tie.Start
 start d = d.before.before.before
 
-give-wires-requires : tie.Need-give-wires-requires
+give-wires-requires : tie.Need-give_wires-requires
 give-wires-requires c κs =
     let d = c.before.before.before in
     let s = start d in
-    let few = answer-few s.pre.0.allowed d.refine.ensures.0 in (
-      d.refine.ensures.0.few.1,
+    let few = answer-few s.requires.0.allowed d.refine-tree.ensures.0 in (
+      d.refine-tree.ensures.0.few.1,
       (
-        answer-small s.pre.0.allowed d.refine.ensures.0,
-        omega (arith, few, s.pre.1, length-pins s.args.pins.now, length-macros s.args.macros.now),
+        answer-small s.requires.0.allowed d.refine-tree.ensures.0,
+        omega (arith, few, s.requires.1, length-pins s.args.pins.now, length-macros s.args.macros.now),
       ),
     )
 
 returns : tie.Need-returns
 returns c =
-    let g = c.before in
-    let d = g.before.before.before.before in
+    let g = c in
+    let d = g.before.before.before.before.before in
     let s = start d in
-    let edges = answer-edges s.pre.0.allowed d.refine.ensures.0 in (
-      g.give-wires.ensures.0 ∙ ap (λ (es : List (Place × Place)). length (wires es)) edges,
-      g.give-wires.ensures.1 ∙ ap (λ (es : List (Place × Place)). over (flat edge_numbers (wires es)) s.args.wires.now) edges,
+    let edges = answer-edges s.requires.0.allowed d.refine-tree.ensures.0 in (
+      g.give_wires.ensures.0 ∙ ap (λ (es : List (Place × Place)). length (wires es)) edges,
+      g.give_wires.ensures.1 ∙ ap (λ (es : List (Place × Place)). over (flat edge_numbers (wires es)) s.args.wires.now) edges,
     )
 
-pub wires-spec : {M : Type 1} → statement M
-wires-spec = tie.close (tie.spec refine-requires give-wires-requires (λ c. search rules) returns)
+pub wires_spec : {M : Type 1} → statement M
+wires_spec = tie.close (tie.spec refine-requires give-wires-requires (λ c. search rules) returns)
