@@ -79,7 +79,7 @@ returns c =
         c.edges-e.ensures.0 ∙ ap length these,
         (
           d.vertices-v.ensures.1,
-          c.edges-e.ensures.1 ∙ ap (λ (es : List (Place × Place)). over (flat edge_numbers es) a.edges-e.now) these,
+          c.edges-e.ensures.1 ∙ ap (λ (es : List (Place × Place)). over (flat edge_numbers es) a.edges.now) these,
         ),
       ),
     )
