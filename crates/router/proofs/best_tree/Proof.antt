@@ -18,41 +18,41 @@ use Rattle.router.proofs.best_tree.Statement.{statement}
 use Rattle.router.proofs.best_tree.Tie as tie
 
 -- the answer of the check, where the net is allowed
-allowed : (c : tie.After-answer)
-    → checked c.before.before.before.before.args.w c.before.before.before.before.args.pins.now
-    c.before.before.before.before.args.macros.now
-    ≡ given c.answer.given.0.0
+allowed : (c : tie.In-Allowed)
+    → checked c.args.w c.args.pins.now
+    c.args.macros.now
+    ≡ given c.in-Allowed.net
 unfolding told
-allowed c = sym c.before.before.check.ensures ∙ ap told c.answer.given.1
+allowed c = sym c.check-answer.ensures ∙ ap told c.in-Allowed.is
 
-best-tree-requires : tie.Need-best-tree-requires
-best-tree-requires c κs = counted_of _ _ _ (allowed c.before.before.before)
+best-tree-requires : tie.Need-best_tree-requires
+best-tree-requires c κs = counted_of _ _ _ (allowed c.before.before)
 
-returns : tie.Need-returns
+returns : tie.Need-returns-in-Allowed
 unfolding best_tree
 returns c =
-    let r = c.before.before.before in
-    let d = r.before.before.before.before in
-    let a = d.before.before.before.before.args in
+    let r = c in
+    let d = r.before.before.before.before.before.before in
+    let a = d.args in
     let check = allowed d in
     best-as
     (λ T. sym (only-given (checked a.w a.pins.now a.macros.now)
     (best_given a.w a.pins.now a.macros.now (length a.work.now) (length a.edges.now) T) _ check))
-    (subst (λ (z : Weighing). BestCall best_given z a.pins.now a.macros.now a.work.now a.edges.now r.best-tree.result
-    r.best-tree.new.1.1.1.0 r.best-tree.new.1.1.1.1.0) (handed-back _ _ _ check) r.best-tree.ensures)
+    (subst (λ (z : Weighing). BestCall best_given z a.pins.now a.macros.now a.work.now a.edges.now r.best_tree.result
+    r.best_tree.new.work r.best_tree.new.edges) (handed-back _ _ _ check) r.best_tree.ensures)
 
-returns-2 : tie.Need-returns-2
+returns-2 : tie.Need-returns-in-Refused
 unfolding best_tree told_tree told
 returns-2 c =
-    let s = c.before.before.before in
-    let a = s.before.before.args in
-    let check = sym s.check.ensures ∙ ap told c.before.answer2.given.1 in
+    let s = c in
+    let a = s.args in
+    let check = sym s.check-answer.ensures ∙ ap told c.in-Refused.is in
     best-refused refl
     (only-refused (checked a.w a.pins.now a.macros.now)
     (best_given a.w a.pins.now a.macros.now (length a.work.now) (length a.edges.now) []) _ check)
 
-pub best-tree-spec : {M : Type 1} → statement M
-best-tree-spec =
+pub best_tree_spec : {M : Type 1} → statement M
+best_tree_spec =
     tie.close
     (tie.spec
     (λ c κs. search rules) (λ c. search rules) best-tree-requires (λ c. search rules) (λ c. search rules)

@@ -17,37 +17,37 @@ use Rattle.router.proofs.check_tree.Statement.{statement}
 use Rattle.router.proofs.check_tree.Tie as tie
 
 -- the answer of the check, where the net is allowed
-allowed : (c : tie.After-answer)
-    → let a = c.before.before.before.args in
-    checked a.w a.pins.now a.macros.now ≡ given c.answer.given.0.0
+allowed : (c : tie.In-Allowed)
+    → let a = c.args in
+    checked a.w a.pins.now a.macros.now ≡ given c.in-Allowed.net
 unfolding told
-allowed c = sym c.before.before.check.ensures ∙ ap told c.answer.given.1
+allowed c = sym c.check-answer.ensures ∙ ap told c.in-Allowed.is
 
-check-tree-requires : tie.Need-check-tree-requires
+check-tree-requires : tie.Need-check_tree-requires
 check-tree-requires c κs =
     let d = c.before in
-    let pins = d.before.before.before.args.pins.now in
+    let pins = d.args.pins.now in
     omega (arith, (counted_of _ _ _ (allowed d)).allowed.few-pins, length-pins pins)
 
-returns : tie.Need-returns
+returns : tie.Need-returns-in-Allowed
 unfolding checked_tree
 returns c =
     let d = c.before.before in
-    let a = d.before.before.before.args in
+    let a = d.args in
     let next = bought (net_of a.w a.pins.now a.macros.now) a.edges.now in
-    c.check-tree.ensures
+    c.check_tree.ensures
     ∙ ap (λ (net : Net). bought net a.edges.now) (as-net (counted_of _ _ _ (allowed d)))
     ∙ ap (λ (z : Weighing). bought (net_of z a.pins.now a.macros.now) a.edges.now) (handed-back _ _ _ (allowed d))
     ∙ sym (only-given (checked a.w a.pins.now a.macros.now) next _ (allowed d))
 
-returns-2 : tie.Need-returns-2
+returns-2 : tie.Need-returns-in-Refused
 unfolding checked_tree told_verdict told
 returns-2 c =
-    let s = c.before.before.before in
-    let a = s.before.args in
+    let s = c in
+    let a = s.args in
     let next = bought (net_of a.w a.pins.now a.macros.now) a.edges.now in
-    let check = sym s.check.ensures ∙ ap told c.before.answer2.given.1 in
+    let check = sym s.check-answer.ensures ∙ ap told c.in-Refused.is in
     sym (only-refused (checked a.w a.pins.now a.macros.now) next _ check)
 
-pub check-tree-spec : {M : Type 1} → statement M
-check-tree-spec = tie.close (tie.spec (λ c κs. search rules) (λ c. search rules) check-tree-requires (λ c. search rules) returns returns-2)
+pub check_tree_spec : {M : Type 1} → statement M
+check_tree_spec = tie.close (tie.spec (λ c κs. search rules) (λ c. search rules) check-tree-requires (λ c. search rules) returns returns-2)

@@ -17,39 +17,39 @@ use Rattle.router.proofs.delay.Statement.{statement}
 use Rattle.router.proofs.delay.Tie as tie
 
 -- the answer of the check, where the net is allowed
-allowed : (c : tie.After-answer)
-    → checked c.before.before.before.before.args.w c.before.before.before.before.args.pins.now
-    c.before.before.before.before.args.macros.now
-    ≡ given c.answer.given.0.0
+allowed : (c : tie.In-Allowed)
+    → checked c.args.w c.args.pins.now
+    c.args.macros.now
+    ≡ given c.in-Allowed.net
 unfolding told
-allowed c = sym c.before.before.check.ensures ∙ ap told c.answer.given.1
+allowed c = sym c.check-answer.ensures ∙ ap told c.in-Allowed.is
 
 delay-requires : tie.Need-delay-requires
-delay-requires c κs = counted_of _ _ _ (allowed c.before.before)
+delay-requires c κs = counted_of _ _ _ (allowed c.before)
 
-returns : tie.Need-returns
+returns : tie.Need-returns-in-Allowed
 unfolding pin_delays
 returns c =
-    let r = c.before.before in
-    let d = r.before.before.before in
-    let a = d.before.before.before.before.args in
+    let r = c in
+    let d = r.before.before.before.before in
+    let a = d.args in
     let next = delay_given a.w a.pins.now a.macros.now a.driver a.t (length a.delays.now) in
     gives_as (sym (only-given (checked a.w a.pins.now a.macros.now) next _ (allowed d)))
     (subst (λ (z : Weighing). DelayCall delay_given z a.pins.now a.macros.now a.driver a.t a.delays.now
-    r.delay.result r.delay.new.1.1.1.1.1.0)
+    r.delay.result r.delay.new.delays)
     (handed-back _ _ _ (allowed d)) r.delay.ensures)
 
-returns-2 : tie.Need-returns-2
+returns-2 : tie.Need-returns-in-Refused
 unfolding pin_delays told_delays told
 returns-2 c =
-    let s = c.before.before.before in
-    let a = s.before.before.args in
+    let s = c in
+    let a = s.args in
     let next = delay_given a.w a.pins.now a.macros.now a.driver a.t (length a.delays.now) in
-    let check = sym s.check.ensures ∙ ap told c.before.answer2.given.1 in
+    let check = sym s.check-answer.ensures ∙ ap told c.in-Refused.is in
     gives-refused refl (only-refused (checked a.w a.pins.now a.macros.now) next _ check)
 
-pub delay-spec : {M : Type 1} → statement M
-delay-spec =
+pub delay_spec : {M : Type 1} → statement M
+delay_spec =
     tie.close
     (tie.spec
     (λ c κs. search rules) (λ c. search rules) delay-requires (λ c. search rules) (λ c. search rules) returns

@@ -17,35 +17,35 @@ use Rattle.router.proofs.graph.Statement.{statement}
 use Rattle.router.proofs.graph.Tie as tie
 
 -- the answer of the check, where the net is allowed
-allowed : (c : tie.After-answer)
-    → checked c.before.before.before.args.w c.before.before.before.args.pins.now c.before.before.before.args.macros.now
-    ≡ given c.answer.given.0.0
+allowed : (c : tie.In-Allowed)
+    → checked c.args.w c.args.pins.now c.args.macros.now
+    ≡ given c.in-Allowed.net
 unfolding told
-allowed c = sym c.before.before.check.ensures ∙ ap told c.answer.given.1
+allowed c = sym c.check-answer.ensures ∙ ap told c.in-Allowed.is
 
 graph-requires : tie.Need-graph-requires
-graph-requires c κs = counted_of _ _ _ (allowed c.before.before.before)
+graph-requires c κs = counted_of _ _ _ (allowed c.before.before)
 
-returns : tie.Need-returns
+returns : tie.Need-returns-in-Allowed
 returns c =
-    let r = c.before.before in
-    let d = r.before.before.before.before in
-    let a = d.before.before.before.args in
+    let r = c in
+    let d = r.before.before.before.before.before in
+    let a = d.args in
     let check = allowed d in
     two-as (sym (graphed-allowed a.w a.pins.now a.macros.now (length a.vertices.now) (length a.edges.now) _ check))
     (subst (λ (z : Weighing). GraphCall graph_given z a.pins.now a.macros.now a.vertices.now a.edges.now r.graph.result
-    r.graph.new.1.1.1.0 r.graph.new.1.1.1.1.0) (handed-back _ _ _ check) r.graph.ensures)
+    r.graph.new.vertices r.graph.new.edges) (handed-back _ _ _ check) r.graph.ensures)
 
-returns-2 : tie.Need-returns-2
+returns-2 : tie.Need-returns-in-Refused
 unfolding told_graph told
 returns-2 c =
-    let s = c.before.before.before in
-    let a = s.before.args in
-    let check = sym s.check.ensures ∙ ap told c.before.answer2.given.1 in
+    let s = c in
+    let a = s.args in
+    let check = sym s.check-answer.ensures ∙ ap told c.in-Refused.is in
     two-refused refl (graphed-refused a.w a.pins.now a.macros.now (length a.vertices.now) (length a.edges.now) _ check)
 
-pub graph-spec : {M : Type 1} → statement M
-graph-spec =
+pub graph_spec : {M : Type 1} → statement M
+graph_spec =
     tie.close
     (tie.spec
     (λ c κs. search rules) (λ c. search rules) graph-requires (λ c. search rules) (λ c. search rules)

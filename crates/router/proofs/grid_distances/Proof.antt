@@ -17,39 +17,39 @@ use Rattle.router.proofs.grid_distances.Statement.{statement}
 use Rattle.router.proofs.grid_distances.Tie as tie
 
 -- the answer of the check, where the net is allowed
-allowed : (c : tie.After-answer)
-    → checked c.before.before.before.args.w c.before.before.before.args.pins.now
-    c.before.before.before.args.macros.now
-    ≡ given c.answer.given.0.0
+allowed : (c : tie.In-Allowed)
+    → checked c.args.w c.args.pins.now
+    c.args.macros.now
+    ≡ given c.in-Allowed.net
 unfolding told
-allowed c = sym c.before.before.check.ensures ∙ ap told c.answer.given.1
+allowed c = sym c.check-answer.ensures ∙ ap told c.in-Allowed.is
 
-grid-distances-requires : tie.Need-grid-distances-requires
-grid-distances-requires c κs = counted_of _ _ _ (allowed c.before.before)
+grid-distances-requires : tie.Need-grid_distances-requires
+grid-distances-requires c κs = counted_of _ _ _ (allowed c.before)
 
-returns : tie.Need-returns
+returns : tie.Need-returns-in-Allowed
 unfolding grid_distances
 returns c =
-    let r = c.before in
+    let r = c in
     let d = r.before.before.before in
-    let a = d.before.before.before.args in
+    let a = d.args in
     let next = distances_given a.w a.pins.now a.macros.now (length a.table.now) in
     square-as (sym (only-given (checked a.w a.pins.now a.macros.now) next _ (allowed d)))
-    (subst (λ (z : Weighing). DistancesCall distances_given z a.pins.now a.macros.now a.table.now r.grid-distances.result
-    r.grid-distances.new.1.1.1.0)
-    (handed-back _ _ _ (allowed d)) r.grid-distances.ensures)
+    (subst (λ (z : Weighing). DistancesCall distances_given z a.pins.now a.macros.now a.table.now r.grid_distances.result
+    r.grid_distances.new.table)
+    (handed-back _ _ _ (allowed d)) r.grid_distances.ensures)
 
-returns-2 : tie.Need-returns-2
+returns-2 : tie.Need-returns-in-Refused
 unfolding grid_distances told_distances told
 returns-2 c =
-    let s = c.before.before.before in
-    let a = s.before.args in
+    let s = c in
+    let a = s.args in
     let next = distances_given a.w a.pins.now a.macros.now (length a.table.now) in
-    let check = sym s.check.ensures ∙ ap told c.before.answer2.given.1 in
+    let check = sym s.check-answer.ensures ∙ ap told c.in-Refused.is in
     square-refused refl (only-refused (checked a.w a.pins.now a.macros.now) next _ check)
 
-pub grid-distances-spec : {M : Type 1} → statement M
-grid-distances-spec =
+pub grid_distances_spec : {M : Type 1} → statement M
+grid_distances_spec =
     tie.close
     (tie.spec
     (λ c κs. search rules) (λ c. search rules) grid-distances-requires (λ c. search rules) (λ c. search rules) returns

@@ -17,41 +17,41 @@ use Rattle.router.proofs.lower_bound.Statement.{statement}
 use Rattle.router.proofs.lower_bound.Tie as tie
 
 -- the answer of the check, where the net is allowed
-allowed : (c : tie.After-answer)
-    → checked c.before.before.before.before.before.args.w c.before.before.before.before.before.args.pins.now
-    c.before.before.before.before.before.args.macros.now
-    ≡ given c.answer.given.0.0
+allowed : (c : tie.In-Allowed)
+    → checked c.args.w c.args.pins.now
+    c.args.macros.now
+    ≡ given c.in-Allowed.net
 unfolding told
-allowed c = sym c.before.before.check.ensures ∙ ap told c.answer.given.1
+allowed c = sym c.check-answer.ensures ∙ ap told c.in-Allowed.is
 
-lower-bound-requires : tie.Need-lower-bound-requires
-lower-bound-requires c κs = counted_of _ _ _ (allowed c.before.before.before)
+lower-bound-requires : tie.Need-lower_bound-requires
+lower-bound-requires c κs = counted_of _ _ _ (allowed c.before.before)
 
-returns : tie.Need-returns
+returns : tie.Need-returns-in-Allowed
 unfolding lower_bound
 returns c =
-    let r = c.before.before.before.before in
-    let d = r.before.before.before.before in
-    let a = d.before.before.before.before.before.args in
+    let r = c in
+    let d = r.before.before.before.before.before.before.before in
+    let a = d.args in
     let check = allowed d in
     bound-as
     (λ n. sym (only-given (checked a.w a.pins.now a.macros.now)
     (bound_given a.w a.pins.now a.macros.now (length a.left.now) (length a.rows.now) n) _ check))
-    (subst (λ (z : Weighing). BoundCall bound_given z a.pins.now a.macros.now a.left.now a.rows.now r.lower-bound.result
-    r.lower-bound.new.1.1.1.0 r.lower-bound.new.1.1.1.1.0) (handed-back _ _ _ check) r.lower-bound.ensures)
+    (subst (λ (z : Weighing). BoundCall bound_given z a.pins.now a.macros.now a.left.now a.rows.now r.lower_bound.result
+    r.lower_bound.new.left r.lower_bound.new.rows) (handed-back _ _ _ check) r.lower_bound.ensures)
 
-returns-2 : tie.Need-returns-2
+returns-2 : tie.Need-returns-in-Refused
 unfolding lower_bound told_bound told
 returns-2 c =
-    let s = c.before.before.before in
-    let a = s.before.before.before.args in
-    let check = sym s.check.ensures ∙ ap told c.before.answer2.given.1 in
+    let s = c in
+    let a = s.args in
+    let check = sym s.check-answer.ensures ∙ ap told c.in-Refused.is in
     bound-refused refl
     (only-refused (checked a.w a.pins.now a.macros.now)
     (bound_given a.w a.pins.now a.macros.now (length a.left.now) (length a.rows.now) 0) _ check)
 
-pub lower-bound-spec : {M : Type 1} → statement M
-lower-bound-spec =
+pub lower_bound_spec : {M : Type 1} → statement M
+lower_bound_spec =
     tie.close
     (tie.spec
     (λ c κs. search rules) (λ c. search rules) lower-bound-requires (λ c. search rules) (λ c. search rules)

@@ -15,33 +15,33 @@ use Rattle.router.proofs.price.Statement.{statement}
 use Rattle.router.proofs.price.Tie as tie
 
 -- the answer of the check, where the net is allowed
-allowed : (c : tie.After-answer)
-    → checked c.before.before.before.before.args.w c.before.before.before.before.args.pins.now c.before.before.before.before.args.macros.now
-    ≡ given c.answer.given.0.0
+allowed : (c : tie.In-Allowed)
+    → checked c.args.w c.args.pins.now c.args.macros.now
+    ≡ given c.in-Allowed.net
 unfolding told
-allowed c = sym c.before.before.check.ensures ∙ ap told c.answer.given.1
+allowed c = sym c.check-answer.ensures ∙ ap told c.in-Allowed.is
 
 price-requires : tie.Need-price-requires
-price-requires c κs = counted_of _ _ _ (allowed c.before)
+price-requires c κs = counted_of _ _ _ (allowed c)
 
-returns : tie.Need-returns
+returns : tie.Need-returns-in-Allowed
 unfolding net_price
 returns c =
-    let d = c.before.before in
-    let a = d.before.before.before.before.args in
+    let d = c.before in
+    let a = d.args in
     let next = priced (metal_of a.w a.pins.now a.macros.now) a.bands.now in
     c.price.ensures
     ∙ ap (λ (z : Weighing). priced (metal_of z a.pins.now a.macros.now) a.bands.now) (handed-back _ _ _ (allowed d))
     ∙ sym (only-given (checked a.w a.pins.now a.macros.now) next _ (allowed d))
 
-returns-2 : tie.Need-returns-2
+returns-2 : tie.Need-returns-in-Refused
 unfolding net_price told_price told
 returns-2 c =
-    let s = c.before.before.before in
-    let a = s.before.before.args in
+    let s = c in
+    let a = s.args in
     let next = priced (metal_of a.w a.pins.now a.macros.now) a.bands.now in
-    let check = sym s.check.ensures ∙ ap told c.before.answer2.given.1 in
+    let check = sym s.check-answer.ensures ∙ ap told c.in-Refused.is in
     sym (only-refused (checked a.w a.pins.now a.macros.now) next _ check)
 
-pub price-spec : {M : Type 1} → statement M
-price-spec = tie.close (tie.spec (λ c κs. search rules) (λ c. search rules) price-requires (λ c. search rules) returns returns-2)
+pub price_spec : {M : Type 1} → statement M
+price_spec = tie.close (tie.spec (λ c κs. search rules) (λ c. search rules) price-requires (λ c. search rules) returns returns-2)

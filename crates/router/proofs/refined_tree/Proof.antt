@@ -12,31 +12,31 @@ use Rattle.router.proofs.CallLaws.{alone, refined-alone, alone-given, alone-refu
 use Rattle.router.proofs.refined_tree.Statement.{statement}
 use Rattle.router.proofs.refined_tree.Tie as tie
 
-total-fits : (c : tie.After-known-told) → SFits w64 c.before.answer.given.0.1.1.0
+total-fits : (c : tie.In-Given) → SFits w64 c.in-Given.total
 total-fits c = search rules
 
-metal-fits : (c : tie.After-known-told) → SFits w64 c.before.answer.given.0.1.1.1.0
+metal-fits : (c : tie.In-Given) → SFits w64 c.in-Given.metal
 metal-fits c = search rules
 
-returns : tie.Need-returns
+returns : tie.Need-returns-in-Given
 unfolding told_tree
 returns c =
-    let v = c.before.answer.given in
-    let a = c.before.before.before.before.before.before.args in
-    refined-alone a.w a.pins.now a.macros.now c.before.before.before.before.both-trees.ensures _
-    (ap₂ (λ (t m : ℤ). given (v.0.0, (t, m))) (to_z-of_z w64 _ (total-fits c)) (to_z-of_z w64 _ (metal-fits c))
-    ∙ alone-given v.0.0 v.0.1.0 v.0.1.1.0 v.0.1.1.1.0 v.1)
+    let v = c.in-Given in
+    let a = c.args in
+    refined-alone a.w a.pins.now a.macros.now c.both_trees-answer.ensures _
+    (ap₂ (λ (t m : ℤ). given (v.count, (t, m))) (to_z-of_z w64 _ (total-fits c)) (to_z-of_z w64 _ (metal-fits c))
+    ∙ alone-given v.count v.field-1 v.total v.metal v.is)
 
-returns-2 : tie.Need-returns-2
+returns-2 : tie.Need-returns-in-Refused
 unfolding told_tree
 returns-2 c =
-    let v = c.before.answer2.given in
-    let a = c.before.before.before.before.before.before.args in
-    refined-alone a.w a.pins.now a.macros.now c.before.before.before.before.both-trees.ensures _
-    (alone-refused v.0.0 v.1)
+    let v = c.in-Refused in
+    let a = c.args in
+    refined-alone a.w a.pins.now a.macros.now c.both_trees-answer.ensures _
+    (alone-refused v.refusal v.is)
 
-pub refined-tree-spec : {M : Type 1} → statement M
-refined-tree-spec =
+pub refined_tree_spec : {M : Type 1} → statement M
+refined_tree_spec =
     tie.close
     (tie.spec
     (λ c κs. search rules) (λ c. search rules) (λ c. search rules) (λ c. search rules) returns (λ c. search rules)

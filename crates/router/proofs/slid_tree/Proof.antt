@@ -17,39 +17,39 @@ use Rattle.router.proofs.slid_tree.Statement.{statement}
 use Rattle.router.proofs.slid_tree.Tie as tie
 
 -- the answer of the check, where the net is allowed
-allowed : (c : tie.After-answer)
-    → checked c.before.before.before.args.w c.before.before.before.args.pins.now
-    c.before.before.before.args.macros.now
-    ≡ given c.answer.given.0.0
+allowed : (c : tie.In-Allowed)
+    → checked c.args.w c.args.pins.now
+    c.args.macros.now
+    ≡ given c.in-Allowed.net
 unfolding told
-allowed c = sym c.before.before.check.ensures ∙ ap told c.answer.given.1
+allowed c = sym c.check-answer.ensures ∙ ap told c.in-Allowed.is
 
-slid-tree-requires : tie.Need-slid-tree-requires
-slid-tree-requires c κs = counted_of _ _ _ (allowed c.before.before)
+slid-tree-requires : tie.Need-slid_tree-requires
+slid-tree-requires c κs = counted_of _ _ _ (allowed c.before)
 
-returns : tie.Need-returns
+returns : tie.Need-returns-in-Allowed
 unfolding slid_tree
 returns c =
-    let r = c.before in
+    let r = c in
     let d = r.before.before.before in
-    let a = d.before.before.before.args in
+    let a = d.args in
     let next = slid_given a.w a.pins.now a.macros.now (length a.edges.now) in
     gives_as (sym (only-given (checked a.w a.pins.now a.macros.now) next _ (allowed d)))
-    (subst (λ (z : Weighing). SlidCall slid_given z a.pins.now a.macros.now a.edges.now r.slid-tree.result
-    r.slid-tree.new.1.1.1.0)
-    (handed-back _ _ _ (allowed d)) r.slid-tree.ensures)
+    (subst (λ (z : Weighing). SlidCall slid_given z a.pins.now a.macros.now a.edges.now r.slid_tree.result
+    r.slid_tree.new.edges)
+    (handed-back _ _ _ (allowed d)) r.slid_tree.ensures)
 
-returns-2 : tie.Need-returns-2
+returns-2 : tie.Need-returns-in-Refused
 unfolding slid_tree told_tree told
 returns-2 c =
-    let s = c.before.before.before in
-    let a = s.before.args in
+    let s = c in
+    let a = s.args in
     let next = slid_given a.w a.pins.now a.macros.now (length a.edges.now) in
-    let check = sym s.check.ensures ∙ ap told c.before.answer2.given.1 in
+    let check = sym s.check-answer.ensures ∙ ap told c.in-Refused.is in
     gives-refused refl (only-refused (checked a.w a.pins.now a.macros.now) next _ check)
 
-pub slid-tree-spec : {M : Type 1} → statement M
-slid-tree-spec =
+pub slid_tree_spec : {M : Type 1} → statement M
+slid_tree_spec =
     tie.close
     (tie.spec
     (λ c κs. search rules) (λ c. search rules) slid-tree-requires (λ c. search rules) (λ c. search rules) returns

@@ -19,45 +19,45 @@ use borrow.Author.Rules.{rules}
 use Rattle.router.proofs.allowed.graph.Statement.{statement}
 use Rattle.router.proofs.allowed.graph.Tie as tie
 
-graph-short-requires : tie.Need-graph-short-requires
+graph-short-requires : tie.Need-graph_short-requires
 graph-short-requires c κs = counts-few c.requires
 
 -- whether too little is lent, in the numbers of the lists
-short : (d : tie.After-graph-short) → let a = d.before.args in let n = point_count a.pins.now a.macros.now in
-    d.graph-short.result ≡ (ltb (length a.vertices.now) (vertex_need n) || ltb (length a.edges.now) (link_need n))
-short d = d.graph-short.ensures ∙ graph-asks d.before.requires _ _
+short : (d : tie.After-graph_short) → let a = d.args in let n = point_count a.pins.now a.macros.now in
+    d.graph_short.result ≡ (ltb (length a.vertices.now) (vertex_need n) || ltb (length a.edges.now) (link_need n))
+short d = d.graph_short.ensures ∙ graph-asks d.requires _ _
 
-returns : tie.Need-returns
+returns : tie.Need-returns-then-graph_short
 unfolding told_graph number
 returns c =
-    let a = c.before.before.args in
+    let a = c.args in
     two-refused refl
     (graph-short (handed a.net.weights) a.pins.now a.macros.now (length a.vertices.now) (length a.edges.now)
-    (sym (short c.before) ∙ c.if1.true))
+    (sym (short c.before) ∙ c.if-graph_short.true))
 
-graph-requires : tie.Need-graph-requires
+graph-requires : tie.Need-graph-given-requires
 graph-requires c κs =
-    let e = c.before.before in
-    let s = e.before.before in
+    let e = c in
+    let s = e in
     let a = s.args in (
       s.requires,
       graph-room (handed a.net.weights) a.pins.now a.macros.now (length a.vertices.now) (length a.edges.now)
-          (sym (short e.before) ∙ e.if1.false),
+          (sym (short e.before.before.before) ∙ e.if-graph_short.false),
     )
 
-returns-2 : tie.Need-returns-2
+returns-2 : tie.Need-returns
 unfolding told_graph
 returns-2 c =
-    let d = c.before.before in
-    let e = d.before.before.before in
-    let a = e.before.before.args in
+    let d = c in
+    let e = d in
+    let a = e.args in
     two-given
-    (ap₂ (λ (v w : ℕ). given (v, w)) d.graph.ensures.0 d.graph.ensures.1.0)
+    (ap₂ (λ (v w : ℕ). given (v, w)) d.graph-given.ensures.0 d.graph-given.ensures.1.0)
     (graph-fits (handed a.net.weights) a.pins.now a.macros.now (length a.vertices.now) (length a.edges.now)
-    (sym (short e.before) ∙ e.if1.false))
-    d.graph.ensures.1.1.0
-    d.graph.ensures.1.1.1
+    (sym (short e.before.before.before.before.before.before) ∙ e.if-graph_short.false))
+    d.graph-given.ensures.1.1.0
+    d.graph-given.ensures.1.1.1
 
-pub graph-spec : {M : Type 1} → statement M
-graph-spec =
+pub graph_spec : {M : Type 1} → statement M
+graph_spec =
     tie.close (tie.spec graph-short-requires returns graph-requires (λ c. search rules) (λ c. search rules) returns-2)

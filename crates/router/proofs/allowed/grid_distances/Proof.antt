@@ -31,7 +31,7 @@ module _ (s : tie.Start) where
   pins-are = as-pins s.requires
 
   macros-are : s.args.net.macros ≡ macro_count s.args.macros.now
-  macros-are = ap (λ (k : Counts). k.macros) s.pre.counts
+  macros-are = ap (λ (k : Counts). k.macros) s.requires.counts
 
   square-are : s.args.net.pins * s.args.net.pins ≡ pin_count s.args.pins.now * pin_count s.args.pins.now
   square-are = ap₂ ◌*◌ pins-are pins-are
@@ -48,51 +48,51 @@ module _ (s : tie.Start) where
         omega (arith, ltb-false grid_macros s.args.net.macros r.1, macros-are),
       )
 
-returns : tie.Need-returns
+returns : tie.Need-returns-then-net
 unfolding told_distances number
 returns c =
     let s = c.before.before.before in
     let a = s.args in
     square-refused refl (grid-above (handed a.net.weights) a.pins.now a.macros.now (length a.table.now)
-    (size s c.if1.true))
+    (size s c.if-net.true))
 
-mul-n : tie.Need-overflow-mul-n
+mul-n : tie.Need-overflow_mul-n
 mul-n c =
-    let few = (counts-few c.before.before.before.before.requires).0 in
+    let few = (counts-few c.requires).0 in
     let l = mul-le-mul few few in
     record { fits = omega (arith, l) }
 
-returns-2 : tie.Need-returns-2
+returns-2 : tie.Need-returns-then-table-n
 unfolding told_distances number
 returns-2 c =
-    let d = c.before.before in
-    let s = d.before.before.before in
+    let d = c in
+    let s = d.before.before.before.before.before in
     let a = s.args in
     square-refused refl
-    (grid-short (handed a.net.weights) a.pins.now a.macros.now (length a.table.now) (size s d.if1.false)
-    (subst (λ (n : ℕ). length a.table.now < n) (square-are s) c.if2.true))
+    (grid-short (handed a.net.weights) a.pins.now a.macros.now (length a.table.now) (size s d.if-net.false)
+    (subst (λ (n : ℕ). length a.table.now < n) (square-are s) c.if-table-n.true))
 
 distances-requires : tie.Need-distances-requires
 distances-requires c κs =
-    let e = c.before in
-    let d = e.before.before in
-    let s = d.before.before.before in
-    let few = size_few s d.if1.false in
-    (as-allowed s.requires, (few, subst (λ (n : ℕ). n ≤ length s.args.table.now) (square-are s) e.if2.false))
+    let e = c in
+    let d = e in
+    let s = d.before.before.before.before.before.before.before in
+    let few = size_few s d.if-net.false in
+    (as-allowed s.requires, (few, subst (λ (n : ℕ). n ≤ length s.args.table.now) (square-are s) e.if-table-n.false))
 
-returns-3 : tie.Need-returns-3
+returns-3 : tie.Need-returns
 unfolding told_distances
 returns-3 c =
-    let g = c.before in
-    let e = g.before.before in
-    let d = e.before.before in
-    let s = d.before.before.before in
+    let g = c in
+    let e = g in
+    let d = e in
+    let s = d.before.before.before.before.before.before.before.before.before in
     let a = s.args in
     square-given (ap given (square-are s))
-    (grid-enough (handed a.net.weights) a.pins.now a.macros.now (length a.table.now) (size s d.if1.false)
-    (subst (λ (n : ℕ). n ≤ length a.table.now) (square-are s) e.if2.false))
-    (subst (λ (z : Net). SquareOver z a.table.now g.distances.new.1.1.1.0) (as-net s.requires) g.distances.ensures)
+    (grid-enough (handed a.net.weights) a.pins.now a.macros.now (length a.table.now) (size s d.if-net.false)
+    (subst (λ (n : ℕ). n ≤ length a.table.now) (square-are s) e.if-table-n.false))
+    (subst (λ (z : Net). SquareOver z a.table.now g.distances.new.table) (as-net s.requires) g.distances.ensures)
 
-pub grid-distances-spec : {M : Type 1} → statement M
-grid-distances-spec =
+pub grid_distances_spec : {M : Type 1} → statement M
+grid_distances_spec =
     tie.close (tie.spec returns mul-n returns-2 distances-requires (λ c. search rules) returns-3)

@@ -14,33 +14,33 @@ use borrow.Author.Rules.{rules}
 use Rattle.router.proofs.allowed.lower_bound.Statement.{statement}
 use Rattle.router.proofs.allowed.lower_bound.Tie as tie
 
-returns : tie.Need-returns
+returns : tie.Need-returns-then-left-rows
 unfolding told_bound number
 returns c =
-    let a = c.before.before.before.args in
+    let a = c.args in
     bound-refused refl
     (bound-short (handed a.net.weights) a.pins.now a.macros.now (length a.left.now) (length a.rows.now) 0
-    c.if1.true)
+    c.if-left-rows.true)
 
-lower-bound-requires : tie.Need-lower-bound-requires
+lower-bound-requires : tie.Need-lower_bound-n-requires
 lower-bound-requires c κs =
-    let e = c.before.before in
-    let s = e.before.before.before in
-    (as-allowed s.requires, bound-room (length s.args.left.now) (length s.args.rows.now) e.if1.false)
+    let e = c in
+    let s = e in
+    (as-allowed s.requires, bound-room (length s.args.left.now) (length s.args.rows.now) e.if-left-rows.false)
 
-returns-2 : tie.Need-returns-2
+returns-2 : tie.Need-returns
 unfolding told_bound
 returns-2 c =
-    let d = c.before.before.before.before in
-    let e = d.before.before.before in
-    let s = e.before.before.before in
+    let d = c in
+    let e = d in
+    let s = e in
     let a = s.args in
-    let g = d.lower-bound.ensures in
-    bound-given (subst (λ (z : Net). Bound z d.lower-bound.result) (as-net s.requires) g.0) refl
+    let g = d.lower_bound-n.ensures in
+    bound-given (subst (λ (z : Net). Bound z d.lower_bound-n.result) (as-net s.requires) g.0) refl
     (bound-enough (handed a.net.weights) a.pins.now a.macros.now (length a.left.now) (length a.rows.now)
-    d.lower-bound.result e.if1.false)
+    d.lower_bound-n.result e.if-left-rows.false)
     g.1.0 g.1.1
 
-pub lower-bound-spec : {M : Type 1} → statement M
-lower-bound-spec =
+pub lower_bound_spec : {M : Type 1} → statement M
+lower_bound_spec =
     tie.close (tie.spec returns lower-bound-requires (λ c. search rules) (λ c. search rules) returns-2)

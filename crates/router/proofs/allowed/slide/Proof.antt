@@ -13,34 +13,34 @@ use borrow.Author.Rules.{rules}
 use Rattle.router.proofs.allowed.slide.Statement.{statement}
 use Rattle.router.proofs.allowed.slide.Tie as tie
 
-abbrev start : tie.After-refine → tie.Start
+abbrev start : tie.After-refine-tree → tie.Start
 start d = d.before.before.before
 
-give-edges-requires : tie.Need-give-edges-requires
+give-edges-requires : tie.Need-give_edges-requires
 give-edges-requires c κs =
     let d = c.before.before.before in
-    let w = d.refine.ensures.0 in
+    let w = d.refine-tree.ensures.0 in
     (omega (arith, w.few.1), (answer-small (start d).requires.0.allowed w, omega (arith, w.few.1, (start d).requires.1)))
 
-abbrev refined : tie.After-give-edges → tie.After-refine
+abbrev refined : tie.After-give_edges → tie.After-refine-tree
 refined g = g.before.before.before.before
 
 -- the table is as long as it was
-kept : (g : tie.After-give-edges) → length g.give-edges.new.1.1.1.0 ≡ laid_bound * 4
-kept g = g.give-edges.auto.1.1.1.0 ∙ (start (refined g)).requires.1
+kept : (g : tie.After-give_edges) → length g.give_edges.new.lent ≡ laid_bound * 4
+kept g = g.give_edges.auto.lent ∙ (start (refined g)).requires.1
 
 slide-requires : tie.Need-slide-requires
 slide-requires c κs =
-    let g = c.before.before in
+    let g = c.before.before.before in
     let d = refined g in
-    (table-slidable (start d).pre.0 d.refine.ensures.0 _ (start d).args.table.now g.give-edges.ensures, kept g)
+    (table-slidable (start d).requires.0 d.refine-tree.ensures.0 _ (start d).args.table.now g.give_edges.ensures, kept g)
 
 returns : tie.Need-returns
 returns c =
-    let g = c.before.before.before.before in
+    let g = c.before.before.before.before.before in
     let d = refined g in
-    table-slid (start d).pre.0 d.refine.ensures.0 _ (start d).args.table.now g.give-edges.ensures _ _
-    c.before.slide.ensures
+    table-slid (start d).requires.0 d.refine-tree.ensures.0 _ (start d).args.table.now g.give_edges.ensures _ _
+    c.slide.ensures
 
-pub slide-spec : {M : Type 1} → statement M
-slide-spec = tie.close (tie.spec (λ c κs. search rules) give-edges-requires slide-requires (λ c. search rules) returns)
+pub slide_spec : {M : Type 1} → statement M
+slide_spec = tie.close (tie.spec (λ c κs. search rules) give-edges-requires slide-requires (λ c. search rules) returns)

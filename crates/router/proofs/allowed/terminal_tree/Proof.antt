@@ -25,48 +25,48 @@ use borrow.Author.Rules.{rules}
 use Rattle.router.proofs.allowed.terminal_tree.Statement.{statement}
 use Rattle.router.proofs.allowed.terminal_tree.Tie as tie
 
-paths-short-requires : tie.Need-paths-short-requires
+paths-short-requires : tie.Need-paths_short-requires
 paths-short-requires c κs = (counts-few c.requires).0
 
 -- whether too little is lent, in the numbers of the lists
-short : (d : tie.After-paths-short) → let a = d.before.args in
-    d.paths-short.result ≡ ltb (length a.paths.now) (path_need (pin_count a.pins.now))
-short d = d.paths-short.ensures ∙ paths-ask d.before.requires _
+short : (d : tie.After-paths_short) → let a = d.args in
+    d.paths_short.result ≡ ltb (length a.paths.now) (path_need (pin_count a.pins.now))
+short d = d.paths_short.ensures ∙ paths-ask d.requires _
 
-returns : tie.Need-returns
+returns : tie.Need-returns-then-paths_short
 unfolding terminal_given told_terminal number
 returns c =
-    let a = c.before.before.args in
+    let a = c.args in
     gives-refused refl
-    (room-short (path_need (pin_count a.pins.now)) (length a.paths.now) _ (ltb-true _ _ (sym (short c.before) ∙ c.if1.true)))
+    (room-short (path_need (pin_count a.pins.now)) (length a.paths.now) _ (ltb-true _ _ (sym (short c.before) ∙ c.if-paths_short.true)))
 
 -- the room that there is
-room : (c : tie.After-terminal-tree-arg) → let a = c.before.before.before.args in path_need (pin_count a.pins.now) ≤ length a.paths.now
-room c = ltb-false _ _ (sym (short c.before.before) ∙ c.before.if1.false)
+room : (c : tie.After-terminal_tree-arg-1) → let a = c.args in path_need (pin_count a.pins.now) ≤ length a.paths.now
+room c = ltb-false _ _ (sym (short c.before.before) ∙ c.if-paths_short.false)
 
-terminal-tree-requires : tie.Need-terminal-tree-requires
-terminal-tree-requires c κs = (c.before.before.before.requires, room c)
+terminal-tree-requires : tie.Need-terminal_tree-tree-requires
+terminal-tree-requires c κs = (c.requires, room c)
 
 -- the total fits
-total-fits : (d : tie.After-terminal-tree) → d.terminal-tree.result.total < 2 ^ 63
-total-fits d = omega (arith, d.terminal-tree.ensures.1.0, total-small d.before.before.before.before.requires.allowed)
+total-fits : (d : tie.After-terminal_tree-tree) → d.terminal_tree-tree.result.total < 2 ^ 63
+total-fits d = omega (arith, d.terminal_tree-tree.ensures.1.0, total-small d.requires.allowed)
 
-cast-t11 : tie.Need-overflow-cast-t11
+cast-t11 : tie.Need-overflow_cast-result
 cast-t11 c = record { sfits = total-fits c.before.before }
 
-returns-2 : tie.Need-returns-2
+returns-2 : tie.Need-returns
 unfolding terminal_given told_terminal paths_total paths_of
 returns-2 c =
     let d = c.before.before in
-    let a = d.before.before.before.before.args in
+    let a = d.args in
     let w = handed a.net.weights in
     let given_is : ℕ × ℤ =
     (length (paths_of w a.pins.now a.macros.now), pos (paths_total w a.pins.now a.macros.now)) in
     gives-given
-    (ap₂ (λ (n : ℕ) (z : ℤ). given (n, z)) d.terminal-tree.ensures.0
-    (to_z_pos w64 d.terminal-tree.result.total (total-fits d) ∙ ap pos d.terminal-tree.ensures.1.0))
+    (ap₂ (λ (n : ℕ) (z : ℤ). given (n, z)) d.terminal_tree-tree.ensures.0
+    (to_z_pos w64 d.terminal_tree-tree.result.total (total-fits d) ∙ ap pos d.terminal_tree-tree.ensures.1.0))
     (room-enough {A = ℕ × ℤ} (path_need (pin_count a.pins.now)) (length a.paths.now) given_is (room d.before))
-    d.terminal-tree.ensures.1.1
+    d.terminal_tree-tree.ensures.1.1
 
-pub terminal-tree-spec : {M : Type 1} → statement M
-terminal-tree-spec = tie.close (tie.spec paths-short-requires returns terminal-tree-requires cast-t11 (λ c. search rules) returns-2)
+pub terminal_tree_spec : {M : Type 1} → statement M
+terminal_tree_spec = tie.close (tie.spec paths-short-requires returns terminal-tree-requires cast-t11 (λ c. search rules) returns-2)

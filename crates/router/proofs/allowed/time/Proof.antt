@@ -17,41 +17,41 @@ use borrow.Author.Rules.{rules}
 use Rattle.router.proofs.allowed.time.Statement.{statement}
 use Rattle.router.proofs.allowed.time.Tie as tie
 
-abbrev start : tie.After-refine → tie.Start
+abbrev start : tie.After-refine-tree → tie.Start
 start d = d.before.before.before.before
 
 load-requires : tie.Need-load-requires
 load-requires c κs =
     let d = c.before.before.before in
     let s = start d in
-    ((d.refine.ensures.0.few.0, none_any no_load (pin_loads s.args.pins.now) s.pre.0.whole.loads), (refl, refl))
+    ((d.refine-tree.ensures.0.few.0, none_any no_load (pin_loads s.args.pins.now) s.requires.0.whole.loads), (refl, refl))
 
-abbrev loaded : tie.After-delays-arg → tie.After-load
+abbrev loaded : tie.After-delays-arg-1 → tie.After-load
 loaded q = q.before.before.before.before.before
 
-abbrev refined : tie.After-delays-arg → tie.After-refine
+abbrev refined : tie.After-delays-arg-1 → tie.After-refine-tree
 refined q = (loaded q).before.before.before.before
 
 delays-requires : tie.Need-delays-requires
 delays-requires q κs =
     let d = refined q in
     let s = start d in
-    delays-asked (handed s.args.net.weights) s.args.pins.now s.args.macros.now s.pre.0.allowed d.refine.ensures.0
-    (loaded q).load.ensures s.args.driver s.pre.1.1 s.args.t s.args.net.pins _ (as-pins s.pre.0) s.pre.1.0
+    delays-asked (handed s.args.net.weights) s.args.pins.now s.args.macros.now s.requires.0.allowed d.refine-tree.ensures.0
+    (loaded q).load.ensures s.args.driver s.requires.1.1 s.args.t s.args.net.pins _ (as-pins s.requires.0) s.requires.1.0
 
 returns : tie.Need-returns
 returns c =
-    let g = c.before.before in
-    let q = g.before in
+    let g = c in
+    let q = g.before.before.before in
     let d = refined q in
     let s = start d in
-    let is = delays-marks (handed s.args.net.weights) s.args.pins.now s.args.macros.now s.pre.0.allowed
-    d.refine.ensures.0 (loaded q).load.ensures s.args.driver s.pre.1.1 s.args.t s.args.net.pins _
-    (as-pins s.pre.0) s.pre.1.0 in (
+    let is = delays-marks (handed s.args.net.weights) s.args.pins.now s.args.macros.now s.requires.0.allowed
+    d.refine-tree.ensures.0 (loaded q).load.ensures s.args.driver s.requires.1.1 s.args.t s.args.net.pins _
+    (as-pins s.requires.0) s.requires.1.0 in (
       g.delays.ensures.0 ∙ ap (unless_marked s.args.net.pins) is,
       g.delays.ensures.1
           ∙ ap (λ (marks : List Delay). after (told_delays g.delays.result) (finites marks) s.args.delays.now) is,
     )
 
-pub time-spec : {M : Type 1} → statement M
-time-spec = tie.close (tie.spec (λ c κs. search rules) load-requires delays-requires (λ c. search rules) returns)
+pub time_spec : {M : Type 1} → statement M
+time_spec = tie.close (tie.spec (λ c κs. search rules) load-requires delays-requires (λ c. search rules) returns)
