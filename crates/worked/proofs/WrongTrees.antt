@@ -82,7 +82,7 @@ sides = plain_net (at 0 1 ∷ at 1 1 ∷ []) (slab)
 
 sides-allowed : Allowed sides
 unfolding answer
-sides-allowed = (given-allowed plainly on_sides.pins on_sides.macros worked-checks.on_sides).1
+sides-allowed = (given-allowed plainly on_sides.pins on_sides.macros worked-checks.on-sides).1
 
 -- three pins and a macro, where two points tie as u
 abbrev pub tied : Net
