@@ -15,25 +15,25 @@ use borrow.Author.Rules.{rules}
 use Rattle.exports.proofs.calzundi_best_tree.Statement.{statement}
 use Rattle.exports.proofs.calzundi_best_tree.Tie as tie
 
-abbrev start : tie.After-best-tree → tie.Start
+abbrev start : tie.After-best_tree-answer → tie.Start
 start d = d.before.before.before.before.before
 
 -- the call, by the weights as they were handed over
-call : (d : tie.After-best-tree) → BestCall best_tree (weighing (start d).args.x (start d).args.y) (start d).args.pins.now
-    (start d).args.macros.now (start d).args.work.now (start d).args.edges.now d.best-tree.result
-    d.best-tree.new.1.1.1.0 d.best-tree.new.1.1.1.1.0
+call : (d : tie.After-best_tree-answer) → BestCall best_tree (weighing (start d).args.x (start d).args.y) (start d).args.pins.now
+    (start d).args.macros.now (start d).args.work.now (start d).args.edges.now d.best_tree-answer.result
+    d.best_tree-answer.new.work d.best_tree-answer.new.edges
 call d =
     let a = (start d).args in
-    subst (λ (w : Weighing). BestCall best_tree w a.pins.now a.macros.now a.work.now a.edges.now d.best-tree.result
-    d.best-tree.new.1.1.1.0 d.best-tree.new.1.1.1.1.0)
-    (read_back a.x a.y (start d).ranges.x (start d).ranges.y d.before.before.before.weighing.ensures)
-    d.best-tree.ensures
+    subst (λ (w : Weighing). BestCall best_tree w a.pins.now a.macros.now a.work.now a.edges.now d.best_tree-answer.result
+    d.best_tree-answer.new.work d.best_tree-answer.new.edges)
+    (read_back a.x a.y (start d).ranges.x (start d).ranges.y d.weighing-weights.ensures)
+    d.best_tree-answer.ensures
 
-returns : tie.Need-returns
+returns : tie.Need-returns-in-Given
 unfolding code value_after told_tree
 returns c =
-    let g = call c.before.before.before.before.before.before in
-    let i = c.before.answer.given.1 in
+    let g = call c.before.before.before.before in
+    let i = c.in-Given.is in
     record {
       tree = g.tree;
       handed = record {
@@ -47,12 +47,12 @@ returns c =
       best = g.best;
     }
 
-returns-2 : tie.Need-returns-2
+returns-2 : tie.Need-returns-in-Refused
 unfolding code value_after told_tree
 returns-2 c =
-    let a = c.before.before in
+    let a = c in
     let g = call a.before.before.before.before.before in
-    let i = a.answer2.given.1 in
+    let i = a.in-Refused.is in
     record {
       tree = g.tree;
       handed = record {
@@ -66,8 +66,8 @@ returns-2 c =
       best = g.best;
     }
 
-pub calzundi-best-tree-spec : {M : Type 1} → statement M
-calzundi-best-tree-spec =
+pub calzundi_best_tree_spec : {M : Type 1} → statement M
+calzundi_best_tree_spec =
     tie.close
     (tie.spec
     (λ c κs. search rules) (λ c κs. search rules) (λ c. search rules) (λ c. search rules) (λ c κs. search rules)

@@ -15,29 +15,29 @@ use Rattle.exports.proofs.calzundi_check.Statement.{statement}
 use Rattle.exports.proofs.calzundi_check.Tie as tie
 
 -- what the check says, of the weights as they were handed over
-said : (d : tie.After-check) → told d.check.result ≡ checked (weighing d.before.before.args.x d.before.before.args.y)
-    d.before.before.args.pins.now d.before.before.args.macros.now
+said : (d : tie.After-check-answer) → told d.check-answer.result ≡ checked (weighing d.args.x d.args.y)
+    d.args.pins.now d.args.macros.now
 said d =
-    let s = d.before.before in
-    d.check.ensures
+    let s = d in
+    d.check-answer.ensures
     ∙ ap (λ (w : Weighing). checked w s.args.pins.now s.args.macros.now)
-    (read_back s.args.x s.args.y s.ranges.x s.ranges.y d.before.weighing.ensures)
+    (read_back s.args.x s.args.y s.ranges.x s.ranges.y d.weighing-weights.ensures)
 
-returns : tie.Need-returns
+returns : tie.Need-returns-in-Allowed
 unfolding code told
 returns c =
-    ap (λ (r : Checked). pos (code (told r))) (sym c.enum_told.given.1)
-    ∙ ap (λ t. pos (code t)) (said c.before.before)
+    ap (λ (r : Checked). pos (code (told r))) (sym c.in-Allowed.is)
+    ∙ ap (λ t. pos (code t)) (said c.before)
 
-returns-2 : tie.Need-returns-2
+returns-2 : tie.Need-returns-in-Refused
 unfolding code told
 returns-2 c =
     to_z-of_z w32 _ (search rules)
     ∙ c.number.ensures
-    ∙ ap (λ (r : Checked). pos (code (told r))) (sym c.before.before.answer.given.1)
-    ∙ ap (λ t. pos (code t)) (said c.before.before.before.before)
+    ∙ ap (λ (r : Checked). pos (code (told r))) (sym c.in-Refused.is)
+    ∙ ap (λ t. pos (code t)) (said c.before.before)
 
-pub calzundi-check-spec : {M : Type 1} → statement M
-calzundi-check-spec =
+pub calzundi_check_spec : {M : Type 1} → statement M
+calzundi_check_spec =
     tie.close
     (tie.spec (λ c κs. search rules) (λ c κs. search rules) (λ c. search rules) (λ c. search rules) (λ c κs. search rules) returns returns-2)

@@ -14,44 +14,44 @@ use borrow.Author.Rules.{rules}
 use Rattle.exports.proofs.calzundi_check_tree.Statement.{statement}
 use Rattle.exports.proofs.calzundi_check_tree.Tie as tie
 
-abbrev start : tie.After-check-tree → tie.Start
+abbrev start : tie.After-check_tree-answer → tie.Start
 start d = d.before.before
 
 -- what the check says, of the weights as they were handed over
-said : (d : tie.After-check-tree)
+said : (d : tie.After-check_tree-answer)
     → let a = (start d).args in
-    told_verdict d.check-tree.result ≡ checked_tree (weighing a.x a.y) a.pins.now a.macros.now a.edges.now
+    told_verdict d.check_tree-answer.result ≡ checked_tree (weighing a.x a.y) a.pins.now a.macros.now a.edges.now
 said d =
     let a = (start d).args in
-    d.check-tree.ensures
+    d.check_tree-answer.ensures
     ∙ ap (λ (w : Weighing). checked_tree w a.pins.now a.macros.now a.edges.now)
-    (read_back a.x a.y (start d).ranges.x (start d).ranges.y d.before.weighing.ensures)
+    (read_back a.x a.y (start d).ranges.x (start d).ranges.y d.weighing-weights.ensures)
 
-returns : tie.Need-returns
+returns : tie.Need-returns-in-Passed
 unfolding code value_after told_verdict
 returns c =
-    let g = said c.before.before.before in
-    let i = c.before.answer.given.1 in
+    let g = said c.before in
+    let i = c.in-Passed.is in
     record {
       answer = code-handed told_verdict g i;
       cost = to_z-of_z w64 _ (search rules) ∙ value-handed told_verdict g i (λ sums. sums.0) _;
       metal = to_z-of_z w64 _ (search rules) ∙ value-handed told_verdict g i (λ sums. sums.1) _;
     }
 
-returns-2 : tie.Need-returns-2
+returns-2 : tie.Need-returns-in-Refused
 unfolding code value_after told_verdict
 returns-2 c =
-    let a = c.before.before in
+    let a = c in
     let g = said a.before.before in
-    let i = a.answer2.given.1 in
+    let i = a.in-Refused.is in
     record {
       answer = to_z-of_z w32 _ (search rules) ∙ c.number.ensures ∙ code-handed told_verdict g i;
       cost = value-handed told_verdict g i (λ sums. sums.0) _;
       metal = value-handed told_verdict g i (λ sums. sums.1) _;
     }
 
-pub calzundi-check-tree-spec : {M : Type 1} → statement M
-calzundi-check-tree-spec =
+pub calzundi_check_tree_spec : {M : Type 1} → statement M
+calzundi_check_tree_spec =
     tie.close
     (tie.spec
     (λ c κs. search rules) (λ c κs. search rules) (λ c. search rules) (λ c. search rules) (λ c κs. search rules) returns

@@ -19,55 +19,55 @@ use borrow.Author.Rules.{rules}
 use Rattle.exports.proofs.calzundi_delay.Statement.{statement}
 use Rattle.exports.proofs.calzundi_delay.Tie as tie
 
-abbrev start : tie.After-delay → tie.Start
+abbrev start : tie.After-delay-answer → tie.Start
 start d = d.before.before.before.before.before.before
 
 -- the call, by the numbers as they were handed over
-call : (d : tie.After-delay) → DelayCall pin_delays (weighing (start d).args.x (start d).args.y) (start d).args.pins.now
+call : (d : tie.After-delay-answer) → DelayCall pin_delays (weighing (start d).args.x (start d).args.y) (start d).args.pins.now
     (start d).args.macros.now (place (start d).args.u (start d).args.v)
-    (technology (start d).args.resistance (start d).args.capacitance) (start d).args.delays.now d.delay.result
-    d.delay.new.1.1.1.1.1.0
+    (technology (start d).args.resistance (start d).args.capacitance) (start d).args.delays.now d.delay-answer.result
+    d.delay-answer.new.delays
 call d =
     let a = (start d).args in
-    let t = d.before.before in
-    let p = t.before in
-    let w = p.before in
+    let t = d in
+    let p = t in
+    let w = p in
     subst (λ (z : Technology). DelayCall pin_delays (weighing a.x a.y) a.pins.now a.macros.now (place a.u a.v) z
-    a.delays.now d.delay.result d.delay.new.1.1.1.1.1.0)
-    t.technology.ensures
-    (subst (λ (z : Place). DelayCall pin_delays (weighing a.x a.y) a.pins.now a.macros.now z t.technology.result
-    a.delays.now d.delay.result d.delay.new.1.1.1.1.1.0)
-    (place-back a.u a.v (start d).ranges.u (start d).ranges.v p.place.ensures)
-    (subst (λ (z : Weighing). DelayCall pin_delays z a.pins.now a.macros.now p.place.result t.technology.result
-    a.delays.now d.delay.result d.delay.new.1.1.1.1.1.0)
-    (read_back a.x a.y (start d).ranges.x (start d).ranges.y w.weighing.ensures)
-    d.delay.ensures))
+    a.delays.now d.delay-answer.result d.delay-answer.new.delays)
+    t.technology-t.ensures
+    (subst (λ (z : Place). DelayCall pin_delays (weighing a.x a.y) a.pins.now a.macros.now z t.technology-t.result
+    a.delays.now d.delay-answer.result d.delay-answer.new.delays)
+    (place-back a.u a.v (start d).ranges.u (start d).ranges.v p.place-driver.ensures)
+    (subst (λ (z : Weighing). DelayCall pin_delays z a.pins.now a.macros.now p.place-driver.result t.technology-t.result
+    a.delays.now d.delay-answer.result d.delay-answer.new.delays)
+    (read_back a.x a.y (start d).ranges.x (start d).ranges.y w.weighing-weights.ensures)
+    d.delay-answer.ensures))
 
-returns : tie.Need-returns
+returns : tie.Need-returns-in-Given
 unfolding code value_after told_delays
 returns c =
-    let g = call c.before.before.before.before.before in
-    let i = c.before.answer.given.1 in
+    let g = call c.before.before.before in
+    let i = c.in-Given.is in
     record {
       answer = code-handed told_delays g.answer i;
       list = g.list;
       count = value-handed told_delays g.answer i (λ n. n) _;
     }
 
-returns-2 : tie.Need-returns-2
+returns-2 : tie.Need-returns-in-Refused
 unfolding code value_after told_delays
 returns-2 c =
-    let a = c.before.before in
+    let a = c in
     let g = call a.before.before.before.before in
-    let i = a.answer2.given.1 in
+    let i = a.in-Refused.is in
     record {
       answer = to_z-of_z w32 _ (search rules) ∙ c.number.ensures ∙ code-handed told_delays g.answer i;
       list = g.list;
       count = value-handed told_delays g.answer i (λ n. n) _;
     }
 
-pub calzundi-delay-spec : {M : Type 1} → statement M
-calzundi-delay-spec =
+pub calzundi_delay_spec : {M : Type 1} → statement M
+calzundi_delay_spec =
     tie.close
     (tie.spec
     (λ c κs. search rules) (λ c κs. search rules) (λ c κs. search rules) (λ c κs. search rules) (λ c. search rules)

@@ -15,25 +15,25 @@ use borrow.Author.Rules.{rules}
 use Rattle.exports.proofs.calzundi_graph.Statement.{statement}
 use Rattle.exports.proofs.calzundi_graph.Tie as tie
 
-abbrev start : tie.After-graph → tie.Start
+abbrev start : tie.After-graph-answer → tie.Start
 start d = d.before.before.before.before
 
 -- the call, by the weights as they were handed over
-call : (d : tie.After-graph) → GraphCall graphed (weighing (start d).args.x (start d).args.y) (start d).args.pins.now
-    (start d).args.macros.now (start d).args.vertices.now (start d).args.edges.now d.graph.result d.graph.new.1.1.1.0
-    d.graph.new.1.1.1.1.0
+call : (d : tie.After-graph-answer) → GraphCall graphed (weighing (start d).args.x (start d).args.y) (start d).args.pins.now
+    (start d).args.macros.now (start d).args.vertices.now (start d).args.edges.now d.graph-answer.result d.graph-answer.new.vertices
+    d.graph-answer.new.edges
 call d =
     let a = (start d).args in
-    subst (λ (w : Weighing). GraphCall graphed w a.pins.now a.macros.now a.vertices.now a.edges.now d.graph.result
-    d.graph.new.1.1.1.0 d.graph.new.1.1.1.1.0)
-    (read_back a.x a.y (start d).ranges.x (start d).ranges.y d.before.before.before.weighing.ensures)
-    d.graph.ensures
+    subst (λ (w : Weighing). GraphCall graphed w a.pins.now a.macros.now a.vertices.now a.edges.now d.graph-answer.result
+    d.graph-answer.new.vertices d.graph-answer.new.edges)
+    (read_back a.x a.y (start d).ranges.x (start d).ranges.y d.weighing-weights.ensures)
+    d.graph-answer.ensures
 
-returns : tie.Need-returns
+returns : tie.Need-returns-in-Given
 unfolding code value_after told_graph
 returns c =
-    let g = call c.before.before.before.before.before in
-    let i = c.before.answer.given.1 in
+    let g = call c.before.before.before in
+    let i = c.in-Given.is in
     record {
       answer = code-handed told_graph g.answer i;
       vertices = g.first;
@@ -42,12 +42,12 @@ returns c =
       edge_count = value-handed told_graph g.answer i (λ counts. counts.1) _;
     }
 
-returns-2 : tie.Need-returns-2
+returns-2 : tie.Need-returns-in-Refused
 unfolding code value_after told_graph
 returns-2 c =
-    let a = c.before.before in
+    let a = c in
     let g = call a.before.before.before.before in
-    let i = a.answer2.given.1 in
+    let i = a.in-Refused.is in
     record {
       answer = to_z-of_z w32 _ (search rules) ∙ c.number.ensures ∙ code-handed told_graph g.answer i;
       vertices = g.first;
@@ -56,8 +56,8 @@ returns-2 c =
       edge_count = value-handed told_graph g.answer i (λ counts. counts.1) _;
     }
 
-pub calzundi-graph-spec : {M : Type 1} → statement M
-calzundi-graph-spec =
+pub calzundi_graph_spec : {M : Type 1} → statement M
+calzundi_graph_spec =
     tie.close
     (tie.spec
     (λ c κs. search rules) (λ c κs. search rules) (λ c. search rules) (λ c. search rules) (λ c κs. search rules)

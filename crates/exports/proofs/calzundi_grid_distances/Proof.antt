@@ -15,25 +15,25 @@ use borrow.Author.Rules.{rules}
 use Rattle.exports.proofs.calzundi_grid_distances.Statement.{statement}
 use Rattle.exports.proofs.calzundi_grid_distances.Tie as tie
 
-abbrev start : tie.After-grid-distances → tie.Start
+abbrev start : tie.After-grid_distances-answer → tie.Start
 start d = d.before.before.before
 
 -- the call, by the weights as they were handed over
-call : (d : tie.After-grid-distances) → DistancesCall grid_distances (weighing (start d).args.x (start d).args.y)
+call : (d : tie.After-grid_distances-answer) → DistancesCall grid_distances (weighing (start d).args.x (start d).args.y)
     (start d).args.pins.now (start d).args.macros.now
-    (start d).args.table.now d.grid-distances.result d.grid-distances.new.1.1.1.0
+    (start d).args.table.now d.grid_distances-answer.result d.grid_distances-answer.new.table
 call d =
     let a = (start d).args in
-    subst (λ (w : Weighing). DistancesCall grid_distances w a.pins.now a.macros.now a.table.now d.grid-distances.result
-    d.grid-distances.new.1.1.1.0)
-    (read_back a.x a.y (start d).ranges.x (start d).ranges.y d.before.before.weighing.ensures)
-    d.grid-distances.ensures
+    subst (λ (w : Weighing). DistancesCall grid_distances w a.pins.now a.macros.now a.table.now d.grid_distances-answer.result
+    d.grid_distances-answer.new.table)
+    (read_back a.x a.y (start d).ranges.x (start d).ranges.y d.weighing-weights.ensures)
+    d.grid_distances-answer.ensures
 
-returns : tie.Need-returns
+returns : tie.Need-returns-in-Given
 unfolding code value_after told_distances
 returns c =
-    let g = call c.before.before.before.before in
-    let i = c.before.answer.given.1 in
+    let g = call c.before.before in
+    let i = c.in-Given.is in
     record {
       answer = code-handed told_distances g.answer i;
       numbers = g.numbers;
@@ -42,12 +42,12 @@ returns c =
       count = value-handed told_distances g.answer i (λ n. n) _;
     }
 
-returns-2 : tie.Need-returns-2
+returns-2 : tie.Need-returns-in-Refused
 unfolding code value_after told_distances
 returns-2 c =
-    let a = c.before.before in
+    let a = c in
     let g = call a.before.before.before in
-    let i = a.answer2.given.1 in
+    let i = a.in-Refused.is in
     record {
       answer = to_z-of_z w32 _ (search rules) ∙ c.number.ensures ∙ code-handed told_distances g.answer i;
       numbers = g.numbers;
@@ -56,8 +56,8 @@ returns-2 c =
       count = value-handed told_distances g.answer i (λ n. n) _;
     }
 
-pub calzundi-grid-distances-spec : {M : Type 1} → statement M
-calzundi-grid-distances-spec =
+pub calzundi_grid_distances_spec : {M : Type 1} → statement M
+calzundi_grid_distances_spec =
     tie.close
     (tie.spec
     (λ c κs. search rules) (λ c κs. search rules) (λ c. search rules) (λ c. search rules) (λ c κs. search rules)

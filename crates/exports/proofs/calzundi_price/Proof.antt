@@ -14,38 +14,38 @@ use borrow.Author.Rules.{rules}
 use Rattle.exports.proofs.calzundi_price.Statement.{statement}
 use Rattle.exports.proofs.calzundi_price.Tie as tie
 
-abbrev start : tie.After-price → tie.Start
+abbrev start : tie.After-price-answer → tie.Start
 start d = d.before.before.before
 
 -- what the price says, of the weights as they were handed over
-said : (d : tie.After-price) → told_price d.price.result
+said : (d : tie.After-price-answer) → told_price d.price-answer.result
     ≡ net_price (weighing (start d).args.x (start d).args.y) (start d).args.pins.now (start d).args.macros.now (start d).args.bands.now
 said d =
     let a = (start d).args in
-    d.price.ensures
+    d.price-answer.ensures
     ∙ ap (λ (w : Weighing). net_price w a.pins.now a.macros.now a.bands.now)
-    (read_back a.x a.y (start d).ranges.x (start d).ranges.y d.before.weighing.ensures)
+    (read_back a.x a.y (start d).ranges.x (start d).ranges.y d.weighing-weights.ensures)
 
-returns : tie.Need-returns
+returns : tie.Need-returns-in-Charged
 unfolding code value_after told_price
 returns c =
-    let g = said c.before.before.before in
-    let i = c.before.answer.given.1 in
+    let g = said c.before in
+    let i = c.in-Charged.is in
     record { answer = code-handed told_price g i; charge = value-handed told_price g i (λ h. h) _ }
 
-returns-2 : tie.Need-returns-2
+returns-2 : tie.Need-returns-in-Refused
 unfolding code value_after told_price
 returns-2 c =
-    let a = c.before.before in
+    let a = c in
     let g = said a.before.before in
-    let i = a.answer2.given.1 in
+    let i = a.in-Refused.is in
     record {
       answer = to_z-of_z w32 _ (search rules) ∙ c.number.ensures ∙ code-handed told_price g i;
       charge = value-handed told_price g i (λ h. h) _;
     }
 
-pub calzundi-price-spec : {M : Type 1} → statement M
-calzundi-price-spec =
+pub calzundi_price_spec : {M : Type 1} → statement M
+calzundi_price_spec =
     tie.close
     (tie.spec
     (λ c κs. search rules) (λ c κs. search rules) (λ c. search rules) (λ c. search rules) (λ c κs. search rules) returns

@@ -13,12 +13,12 @@ use borrow.Author.Rules.{rules}
 use Rattle.exports.proofs.calzundi_read_file.Statement.{statement}
 use Rattle.exports.proofs.calzundi_read_file.Tie as tie
 
-returns : tie.Need-returns
+returns : tie.Need-returns-in-Allowed
 unfolding code value_after told
 returns c =
-    let g = c.before.before.before.before.before.before.before.before.read-file.ensures in
-    let i = c.before.before.before.before.answer.given.1 in
-    let w = c.before.before.handed.ensures in
+    let g = c.read_file-answer.ensures in
+    let i = c.in-Allowed.is in
+    let w = c.handed-weights.ensures in
     record {
       answer = code-handed told g.answer i;
       pins = g.first;
@@ -33,12 +33,12 @@ returns c =
           ∙ value-handed told g.answer i (λ net. pos net.weights.along) _;
     }
 
-returns-2 : tie.Need-returns-2
+returns-2 : tie.Need-returns-in-Refused
 unfolding code value_after told
 returns-2 c =
-    let a = c.before.before in
-    let g = a.before.before.before.before.read-file.ensures in
-    let i = a.answer2.given.1 in
+    let a = c in
+    let g = a.read_file-answer.ensures in
+    let i = a.in-Refused.is in
     record {
       answer = to_z-of_z w32 _ (search rules) ∙ c.number.ensures ∙ code-handed told g.answer i;
       pins = g.first;
@@ -49,8 +49,8 @@ returns-2 c =
       second = value-handed told g.answer i (λ net. pos net.weights.along) _;
     }
 
-pub calzundi-read-file-spec : {M : Type 1} → statement M
-calzundi-read-file-spec =
+pub calzundi_read_file_spec : {M : Type 1} → statement M
+calzundi_read_file_spec =
     tie.close
     (tie.spec
     (λ c κs. search rules) (λ c. search rules) (λ c κs. search rules) (λ c. search rules) (λ c κs. search rules)

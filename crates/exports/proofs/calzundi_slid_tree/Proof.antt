@@ -15,25 +15,25 @@ use borrow.Author.Rules.{rules}
 use Rattle.exports.proofs.calzundi_slid_tree.Statement.{statement}
 use Rattle.exports.proofs.calzundi_slid_tree.Tie as tie
 
-abbrev start : tie.After-slid-tree → tie.Start
+abbrev start : tie.After-slid_tree-answer → tie.Start
 start d = d.before.before.before
 
 -- the call, by the weights as they were handed over
-call : (d : tie.After-slid-tree) → SlidCall slid_tree (weighing (start d).args.x (start d).args.y) (start d).args.pins.now
+call : (d : tie.After-slid_tree-answer) → SlidCall slid_tree (weighing (start d).args.x (start d).args.y) (start d).args.pins.now
     (start d).args.macros.now
-    (start d).args.edges.now d.slid-tree.result d.slid-tree.new.1.1.1.0
+    (start d).args.edges.now d.slid_tree-answer.result d.slid_tree-answer.new.edges
 call d =
     let a = (start d).args in
-    subst (λ (w : Weighing). SlidCall slid_tree w a.pins.now a.macros.now a.edges.now d.slid-tree.result
-    d.slid-tree.new.1.1.1.0)
-    (read_back a.x a.y (start d).ranges.x (start d).ranges.y d.before.before.weighing.ensures)
-    d.slid-tree.ensures
+    subst (λ (w : Weighing). SlidCall slid_tree w a.pins.now a.macros.now a.edges.now d.slid_tree-answer.result
+    d.slid_tree-answer.new.edges)
+    (read_back a.x a.y (start d).ranges.x (start d).ranges.y d.weighing-weights.ensures)
+    d.slid_tree-answer.ensures
 
-returns : tie.Need-returns
+returns : tie.Need-returns-in-Given
 unfolding code value_after told_tree
 returns c =
-    let g = call c.before.before.before.before in
-    let i = c.before.answer.given.1 in
+    let g = call c.before.before in
+    let i = c.in-Given.is in
     record {
       answer = code-handed told_tree g.answer i;
       list = g.list;
@@ -42,12 +42,12 @@ returns c =
       metal = to_z-of_z w64 _ (search rules) ∙ value-handed told_tree g.answer i (λ tree. tree.1.1) _;
     }
 
-returns-2 : tie.Need-returns-2
+returns-2 : tie.Need-returns-in-Refused
 unfolding code value_after told_tree
 returns-2 c =
-    let a = c.before.before in
+    let a = c in
     let g = call a.before.before.before in
-    let i = a.answer2.given.1 in
+    let i = a.in-Refused.is in
     record {
       answer = to_z-of_z w32 _ (search rules) ∙ c.number.ensures ∙ code-handed told_tree g.answer i;
       list = g.list;
@@ -56,8 +56,8 @@ returns-2 c =
       metal = value-handed told_tree g.answer i (λ tree. tree.1.1) _;
     }
 
-pub calzundi-slid-tree-spec : {M : Type 1} → statement M
-calzundi-slid-tree-spec =
+pub calzundi_slid_tree_spec : {M : Type 1} → statement M
+calzundi_slid_tree_spec =
     tie.close
     (tie.spec
     (λ c κs. search rules) (λ c κs. search rules) (λ c. search rules) (λ c. search rules) (λ c κs. search rules)

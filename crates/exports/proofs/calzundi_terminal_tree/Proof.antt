@@ -15,23 +15,23 @@ use borrow.Author.Rules.{rules}
 use Rattle.exports.proofs.calzundi_terminal_tree.Statement.{statement}
 use Rattle.exports.proofs.calzundi_terminal_tree.Tie as tie
 
-abbrev start : tie.After-terminal-tree → tie.Start
+abbrev start : tie.After-terminal_tree-answer → tie.Start
 start d = d.before.before.before
 
 -- the call, by the weights as they were handed over
-call : (d : tie.After-terminal-tree) → TerminalCall terminal_tree (weighing (start d).args.x (start d).args.y) (start d).args.pins.now (start d).args.macros.now
-    (start d).args.paths.now d.terminal-tree.result d.terminal-tree.new.1.1.1.0
+call : (d : tie.After-terminal_tree-answer) → TerminalCall terminal_tree (weighing (start d).args.x (start d).args.y) (start d).args.pins.now (start d).args.macros.now
+    (start d).args.paths.now d.terminal_tree-answer.result d.terminal_tree-answer.new.paths
 call d =
     let a = (start d).args in
-    subst (λ (w : Weighing). TerminalCall terminal_tree w a.pins.now a.macros.now a.paths.now d.terminal-tree.result d.terminal-tree.new.1.1.1.0)
-    (read_back a.x a.y (start d).ranges.x (start d).ranges.y d.before.before.weighing.ensures)
-    d.terminal-tree.ensures
+    subst (λ (w : Weighing). TerminalCall terminal_tree w a.pins.now a.macros.now a.paths.now d.terminal_tree-answer.result d.terminal_tree-answer.new.paths)
+    (read_back a.x a.y (start d).ranges.x (start d).ranges.y d.weighing-weights.ensures)
+    d.terminal_tree-answer.ensures
 
-returns : tie.Need-returns
+returns : tie.Need-returns-in-Given
 unfolding code value_after told_terminal
 returns c =
-    let g = call c.before.before.before.before in
-    let i = c.before.answer.given.1 in
+    let g = call c.before.before in
+    let i = c.in-Given.is in
     record {
       answer = code-handed told_terminal g.answer i;
       list = g.list;
@@ -39,12 +39,12 @@ returns c =
       total = to_z-of_z w64 _ (search rules) ∙ value-handed told_terminal g.answer i (λ tree. tree.1) _;
     }
 
-returns-2 : tie.Need-returns-2
+returns-2 : tie.Need-returns-in-Refused
 unfolding code value_after told_terminal
 returns-2 c =
-    let a = c.before.before in
+    let a = c in
     let g = call a.before.before.before in
-    let i = a.answer2.given.1 in
+    let i = a.in-Refused.is in
     record {
       answer = to_z-of_z w32 _ (search rules) ∙ c.number.ensures ∙ code-handed told_terminal g.answer i;
       list = g.list;
@@ -52,8 +52,8 @@ returns-2 c =
       total = value-handed told_terminal g.answer i (λ tree. tree.1) _;
     }
 
-pub calzundi-terminal-tree-spec : {M : Type 1} → statement M
-calzundi-terminal-tree-spec =
+pub calzundi_terminal_tree_spec : {M : Type 1} → statement M
+calzundi_terminal_tree_spec =
     tie.close
     (tie.spec
     (λ c κs. search rules) (λ c κs. search rules) (λ c. search rules) (λ c. search rules) (λ c κs. search rules)

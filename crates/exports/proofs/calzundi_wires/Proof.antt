@@ -15,43 +15,43 @@ use borrow.Author.Rules.{rules}
 use Rattle.exports.proofs.calzundi_wires.Statement.{statement}
 use Rattle.exports.proofs.calzundi_wires.Tie as tie
 
-abbrev start : tie.After-wires → tie.Start
+abbrev start : tie.After-wires-answer → tie.Start
 start d = d.before.before.before
 
 -- the call, by the weights as they were handed over
-call : (d : tie.After-wires) → WiresCall wired (weighing (start d).args.x (start d).args.y) (start d).args.pins.now (start d).args.macros.now
-    (start d).args.wires.now d.wires.result d.wires.new.1.1.1.0
+call : (d : tie.After-wires-answer) → WiresCall wired (weighing (start d).args.x (start d).args.y) (start d).args.pins.now (start d).args.macros.now
+    (start d).args.wires.now d.wires-answer.result d.wires-answer.new.wires
 call d =
     let a = (start d).args in
-    subst (λ (w : Weighing). WiresCall wired w a.pins.now a.macros.now a.wires.now d.wires.result d.wires.new.1.1.1.0)
-    (read_back a.x a.y (start d).ranges.x (start d).ranges.y d.before.before.weighing.ensures)
-    d.wires.ensures
+    subst (λ (w : Weighing). WiresCall wired w a.pins.now a.macros.now a.wires.now d.wires-answer.result d.wires-answer.new.wires)
+    (read_back a.x a.y (start d).ranges.x (start d).ranges.y d.weighing-weights.ensures)
+    d.wires-answer.ensures
 
-returns : tie.Need-returns
+returns : tie.Need-returns-in-Given
 unfolding code value_after told_wires
 returns c =
-    let g = call c.before.before.before.before in
-    let i = c.before.answer.given.1 in
+    let g = call c.before.before in
+    let i = c.in-Given.is in
     record {
       answer = code-handed told_wires g.answer i;
       list = g.list;
       count = value-handed told_wires g.answer i (λ n. n) _;
     }
 
-returns-2 : tie.Need-returns-2
+returns-2 : tie.Need-returns-in-Refused
 unfolding code value_after told_wires
 returns-2 c =
-    let a = c.before.before in
+    let a = c in
     let g = call a.before.before.before in
-    let i = a.answer2.given.1 in
+    let i = a.in-Refused.is in
     record {
       answer = to_z-of_z w32 _ (search rules) ∙ c.number.ensures ∙ code-handed told_wires g.answer i;
       list = g.list;
       count = value-handed told_wires g.answer i (λ n. n) _;
     }
 
-pub calzundi-wires-spec : {M : Type 1} → statement M
-calzundi-wires-spec =
+pub calzundi_wires_spec : {M : Type 1} → statement M
+calzundi_wires_spec =
     tie.close
     (tie.spec
     (λ c κs. search rules) (λ c κs. search rules) (λ c. search rules) (λ c. search rules) (λ c κs. search rules)

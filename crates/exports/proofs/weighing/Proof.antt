@@ -8,5 +8,5 @@ use Rattle.exports.proofs.weighing.Tie as tie
 returns : tie.Need-returns
 returns c = read_back _ _ c.ranges.x c.ranges.y refl
 
-pub weighing-spec : {M : Type 1} → statement M
-weighing-spec = tie.close (tie.spec returns)
+pub weighing_spec : {M : Type 1} → statement M
+weighing_spec = tie.close (tie.spec returns)
