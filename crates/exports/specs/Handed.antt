@@ -11,6 +11,8 @@ use Rattle.grid.specs.Distance.{Square}
 use Rattle.lines.specs.Edges.{Edge}
 use Rattle.parts.specs.Bounds.{work_bound}
 use Rattle.best.specs.Tree.{BestTree}
+use Rattle.sweeps.specs.Tables.{wide_crossings, arc_bound}
+use Rattle.bound.specs.Bound.{Bound}
 
 -- a graph: two lists and two counts
 pub record GraphHanded (t : Told (ℕ × ℕ)) (xs ys lent other : List ℤ) (v e : ℕ) (r : ℤ) (lent' other' : List ℤ) (v' e' : ℕ) : Type 0 where
@@ -43,6 +45,15 @@ pub record BestHanded (net : Net) (said : List Edge → Told (ℕ × (ℤ × ℤ
   pub handed : TreeHanded (said tree) (flat edge_numbers tree) lent n z l r lent' n' z' l'
   pub cleared : work' ≡ after (said tree) (replicate work_bound 0) work
   pub best : (a : ℕ × (ℤ × ℤ)) → said tree ≡ given a → BestTree net tree
+
+-- a lower bound: a number that is fixed by what it means, where `said n` is what is said if that is n; and both lists of work
+pub record BoundHanded (net : Net) (said : ℕ → Told ℕ) (left rows : List ℕ) (b : ℕ) (r : ℤ) (left' rows' : List ℕ) (b' : ℕ) : Type 0 where
+  pub bound : ℕ
+  pub answer : r ≡ pos (code (said bound))
+  pub first : left' ≡ after (said bound) (replicate arc_bound 0) left
+  pub second : rows' ≡ after (said bound) (replicate wide_crossings 0) rows
+  pub cost : b' ≡ value_after (λ n. n) (said bound) b
+  pub is : (a : ℕ) → said bound ≡ given a → Bound net bound
 
 -- wires, delays, and a net file that is written: a list and a count
 pub record ListHanded {X : Type 0} (t : Told ℕ) (xs lent : List X) (n : ℕ) (r : ℤ) (lent' : List X) (n' : ℕ) : Type 0 where

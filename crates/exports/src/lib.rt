@@ -21,6 +21,7 @@ ghost use Rattle.elmore.specs.Elmore.{technology};
 ghost use Rattle.floats.specs.Mark.{finites};
 ghost use Rattle.answers.specs.Delay.{delays_of, pin_delays};
 ghost use Rattle.answers.specs.Best.{best_tree};
+ghost use Rattle.answers.specs.Bound.{lower_bound};
 ghost use Rattle.answers.specs.Price.{net_price};
 ghost use Rattle.answers.specs.Bought.{checked_tree};
 ghost use Rattle.encoded.specs.Layout.{file_bytes};
@@ -28,7 +29,7 @@ ghost use Rattle.decoded.specs.Held.{pins_in, macros_in};
 ghost use Rattle.netfile.specs.Write.{written};
 ghost use Rattle.netfile.specs.Read.{read_file};
 ghost use Rattle.exports.specs.Handed.{GraphHanded, PathsHanded, TreeHanded, BestHanded, ListHanded, SquareHanded};
-ghost use Rattle.exports.specs.Handed.{ChargeHanded, SumsHanded, NetHanded};
+ghost use Rattle.exports.specs.Handed.{BoundHanded, ChargeHanded, SumsHanded, NetHanded};
 
 use bought::Verdict;
 use checks::Checked;
@@ -38,7 +39,7 @@ use net::Weighing;
 use netfile::Written;
 use plane::Place;
 use price::Priced;
-use router::{DistanceAnswer, Graphed, TerminalAnswer, TreeAnswer, Wired};
+use router::{BoundAnswer, DistanceAnswer, Graphed, TerminalAnswer, TreeAnswer, Wired};
 
 // The two weights as one.
 fn weighing(x: i32, y: i32) -> Weighing
@@ -231,6 +232,33 @@ pub extern "C" fn calzundi_best_tree(
             0
         }
         TreeAnswer::Refused(refusal) => refusal.number(),
+    }
+}
+
+// 0 and the lower bound, or the number of the refusal. Both lists of work are cleared.
+#[unsafe(no_mangle)]
+pub extern "C" fn calzundi_lower_bound(
+    pins: &[i32],
+    macros: &[i32],
+    x: i32,
+    y: i32,
+    left: &mut [u32],
+    rows: &mut [u64],
+    bound: &mut u64,
+) -> i32
+    ensures { BoundHanded (net_of (weighing x y) pins.now macros.now)
+        (lower_bound (weighing x y) pins.now macros.now (length left.old) (length rows.old))
+        left.old rows.old bound.old result
+        left.new rows.new bound.new }
+{
+    let weights = weighing(x, y);
+    let answer = router::lower_bound(weights, pins, macros, &mut *left, &mut *rows);
+    match answer {
+        BoundAnswer::Given(cost) => {
+            *bound = cost;
+            0
+        }
+        BoundAnswer::Refused(refusal) => refusal.number(),
     }
 }
 
@@ -429,4 +457,21 @@ pub extern "C" fn calzundi_read_file(
         }
         Checked::Refused(refusal) => refusal.number(),
     }
+}
+
+// The library's version, a thousand times the first number and the second. include/calzundi.h has it in words, and a test holds both.
+#[unsafe(no_mangle)]
+pub extern "C" fn calzundi_version() -> u32
+    ensures { result ≡ 2010 }
+{
+    2010
+}
+
+// A name that says since which version lists mean what they do: three numbers a pin, with two weights. The header refers to it, so that a
+// library whose lists mean something else is not linked. Where the meaning of a list changes, the name does.
+#[unsafe(no_mangle)]
+pub extern "C" fn calzundi_lists_since_1_12() -> u32
+    ensures { result ≡ 3 }
+{
+    3
 }
