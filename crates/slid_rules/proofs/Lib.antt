@@ -1,0 +1,10 @@
+pub mod ManyLaws
+pub mod BarIs
+pub mod FitsIs
+pub mod MovesIs
+pub mod RankLaws
+pub mod OneBest
+pub mod RoundsIs
+pub mod BendsIs
+pub mod SlidOurs
+pub mod SlidSaves
