@@ -317,11 +317,11 @@ int32_t calzundi_best_tree(const int32_t *pins, size_t pin_numbers, const int32_
                            size_t edge_numbers, size_t *count, calzundi_length *total, calzundi_length *metal);
 
 /*
- * Lower bound: a cost that no metal along the two axes undercuts, in steps of a unit or of a fraction, which keeps out of the macros'
- * interiors and joins all pins, on the die or off it; so the refined tree, the slid tree, every best tree and any list that
- * calzundi_check_tree passes cost as much or more, and one that costs just as much is a cheapest. It is one number, the same for every order
- * of the lists, whatever the loads and on every site; of two pins it is their true distance. With weights 1 and 1 it is a length. It is for
- * nets of every size, and takes longer than a tree.
+ * Lower bound: a cost that no metal along the two axes undercuts, in steps of a unit, which keeps out of the macros' interiors and joins
+ * all pins, on the die or off it; so the refined tree, the slid tree, every best tree and any list that calzundi_check_tree passes cost
+ * as much or more, and one that costs just as much is a cheapest. It is one number, the same for every order of the lists and whatever
+ * the loads. With weights 1 and 1 it is a length. It is for nets of every size, and takes much longer than a tree: some seconds on the
+ * largest.
  *
  * left   lent, at least CALZUNDI_BOUND_LEFT of 32 bits, whatever they hold
  * rows   lent, at least CALZUNDI_BOUND_ROWS of 64 bits, whatever they hold; of both, after a success the first so many are 0 and any
