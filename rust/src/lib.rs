@@ -458,7 +458,8 @@ impl Net {
 
     /// A cost that no metal in level and upright unit steps outside the macros undercuts if it joins all pins: so neither the refined, the slid
     /// nor a best tree nor any that [`Net::check_tree`] passes does, and one that costs just as much is a cheapest. One number, the same for
-    /// every order of the lists, and on every site as far as it was tested. It takes 3.4 MiB of work for the time of the call, and on the largest nets much longer than a tree.
+    /// every order of the lists, and on every site as far as it was tested. It takes 3.4 MiB of work for the time of the call, and on the
+    /// largest nets much longer than a tree.
     ///
     /// ```
     /// let net = calzundi::Net::new([(0, 0), (4, 0), (2, 3)], []);
